@@ -1,0 +1,254 @@
+//! The events of the bus, one for each line of a script.
+
+use crate::{BridgeAsk, Bytes, End, Name, OutOfMemory, TryCopy};
+
+/// The kinds of module that a script can plug by name.
+#[derive(Clone, Copy, Debug, PartialEq, Eq)]
+pub enum Kind {
+    /// Eight GPIO lines.
+    Gpio,
+    /// An I2C adapter with a memory of 256 bytes.
+    I2c,
+    /// An SPI master with an echo.
+    Spi,
+    /// A UART that echoes.
+    Uart,
+    /// All four.
+    Bridge,
+}
+
+/// One event of the bus. `intf` is 2 to 31 and `cport` 0 to 4,095.
+#[derive(Drop)]
+pub enum Event {
+    /// The supervisory controller starts.
+    Boot,
+    /// A module of a kind is plugged.
+    Insert {
+        /// The interface.
+        intf: u8,
+        /// The kind.
+        kind: Kind,
+    },
+    /// A module with this manifest is plugged.
+    InsertRaw {
+        /// The interface.
+        intf: u8,
+        /// The bytes of its manifest.
+        manifest: Bytes,
+    },
+    /// A module is pulled.
+    Pull {
+        /// The interface.
+        intf: u8,
+    },
+    /// The application processor begins to connect to a CPort.
+    Connect {
+        /// The interface.
+        intf: u8,
+        /// The CPort.
+        cport: u16,
+    },
+    /// The application processor begins to close a connection.
+    Disconnect {
+        /// The interface.
+        intf: u8,
+        /// The CPort.
+        cport: u16,
+    },
+    /// The application processor sends a request.
+    Send {
+        /// The name that the request gets.
+        name: Name,
+        /// To whom: the supervisory controller or a module's CPort.
+        to: End,
+        /// The type, 0x00 to 0x7f.
+        kind: u8,
+        /// The payload.
+        payload: Bytes,
+        /// The timeout in milliseconds, at least 1.
+        timeout: u32,
+    },
+    /// The application processor sends a request of a bridged protocol.
+    Bridge {
+        /// The name that the request gets.
+        name: Name,
+        /// The interface.
+        intf: u8,
+        /// The CPort.
+        cport: u16,
+        /// The request.
+        ask: BridgeAsk,
+    },
+    /// The outside level of a GPIO line changes.
+    Level {
+        /// The interface.
+        intf: u8,
+        /// The CPort.
+        cport: u16,
+        /// The line, 0 to 7.
+        line: u8,
+        /// The level, 0 or 1.
+        value: u8,
+    },
+    /// The serial state of a UART changes.
+    SerialState {
+        /// The interface.
+        intf: u8,
+        /// The CPort.
+        cport: u16,
+        /// The control bits.
+        control: u8,
+    },
+    /// The front message of a queue is delivered.
+    Deliver {
+        /// The end at which it arrives.
+        at: End,
+    },
+    /// Messages are delivered in a fixed order until none waits.
+    Settle {
+        /// At most so many, 1 to 65,535.
+        most: u16,
+    },
+    /// Requests that are delivered there are held from now on.
+    Hold {
+        /// The interface.
+        intf: u8,
+        /// The CPort.
+        cport: u16,
+    },
+    /// A held request is served.
+    Answer {
+        /// The interface.
+        intf: u8,
+        /// The CPort.
+        cport: u16,
+        /// Which one, the oldest being 1.
+        place: u32,
+    },
+    /// A request is given up.
+    Cancel {
+        /// Its name.
+        name: Name,
+    },
+    /// A second name for a request.
+    Copy {
+        /// The name that it has.
+        from: Name,
+        /// The name that it gets.
+        to: Name,
+    },
+    /// A name is free again.
+    Forget {
+        /// The name.
+        name: Name,
+    },
+    /// Time passes.
+    Tick {
+        /// Milliseconds, at least 1.
+        millis: u32,
+    },
+    /// A module puts raw bytes in the queue toward the application processor.
+    Inject {
+        /// The interface.
+        intf: u8,
+        /// The CPort.
+        cport: u16,
+        /// The bytes.
+        bytes: Bytes,
+    },
+    /// The state is shown.
+    Show,
+}
+
+impl TryCopy for Event {
+    fn copy(&self) -> Result<Event, OutOfMemory> {
+        match self {
+            Event::Boot => Ok(Event::Boot),
+            Event::Insert { intf, kind } => Ok(Event::Insert {
+                intf: *intf,
+                kind: *kind,
+            }),
+            Event::InsertRaw { intf, manifest } => Ok(Event::InsertRaw {
+                intf: *intf,
+                manifest: manifest.copy()?,
+            }),
+            Event::Pull { intf } => Ok(Event::Pull { intf: *intf }),
+            Event::Connect { intf, cport } => Ok(Event::Connect {
+                intf: *intf,
+                cport: *cport,
+            }),
+            Event::Disconnect { intf, cport } => Ok(Event::Disconnect {
+                intf: *intf,
+                cport: *cport,
+            }),
+            Event::Send {
+                name,
+                to,
+                kind,
+                payload,
+                timeout,
+            } => Ok(Event::Send {
+                name: name.copy()?,
+                to: *to,
+                kind: *kind,
+                payload: payload.copy()?,
+                timeout: *timeout,
+            }),
+            Event::Bridge {
+                name,
+                intf,
+                cport,
+                ask,
+            } => Ok(Event::Bridge {
+                name: name.copy()?,
+                intf: *intf,
+                cport: *cport,
+                ask: ask.copy()?,
+            }),
+            Event::Level {
+                intf,
+                cport,
+                line,
+                value,
+            } => Ok(Event::Level {
+                intf: *intf,
+                cport: *cport,
+                line: *line,
+                value: *value,
+            }),
+            Event::SerialState {
+                intf,
+                cport,
+                control,
+            } => Ok(Event::SerialState {
+                intf: *intf,
+                cport: *cport,
+                control: *control,
+            }),
+            Event::Deliver { at } => Ok(Event::Deliver { at: *at }),
+            Event::Settle { most } => Ok(Event::Settle { most: *most }),
+            Event::Hold { intf, cport } => Ok(Event::Hold {
+                intf: *intf,
+                cport: *cport,
+            }),
+            Event::Answer { intf, cport, place } => Ok(Event::Answer {
+                intf: *intf,
+                cport: *cport,
+                place: *place,
+            }),
+            Event::Cancel { name } => Ok(Event::Cancel { name: name.copy()? }),
+            Event::Copy { from, to } => Ok(Event::Copy {
+                from: from.copy()?,
+                to: to.copy()?,
+            }),
+            Event::Forget { name } => Ok(Event::Forget { name: name.copy()? }),
+            Event::Tick { millis } => Ok(Event::Tick { millis: *millis }),
+            Event::Inject { intf, cport, bytes } => Ok(Event::Inject {
+                intf: *intf,
+                cport: *cport,
+                bytes: bytes.copy()?,
+            }),
+            Event::Show => Ok(Event::Show),
+        }
+    }
+}

@@ -1,0 +1,36 @@
+//! The traits of the outside, and the types that all crates share.
+#![tactic(auto)]
+
+mod bridge;
+mod end;
+mod entry;
+mod errors;
+mod event;
+mod fault;
+mod gate;
+mod name;
+mod outcome;
+mod refusal;
+mod sequence;
+mod served;
+mod sink;
+mod source;
+mod status;
+mod text;
+
+pub use bridge::{BridgeAsk, Bridged, I2cOp, I2cOps, Reading, SpiOp, SpiOps};
+pub use end::{End, Side};
+pub use entry::{ConnState, Entries, Entry, IntfStage};
+pub use errors::{Failed, NoRoom, OutOfMemory};
+pub use event::{Event, Kind};
+pub use fault::{LineReason, RawFault, Reason, WireFault};
+pub use gate::{FreeGate, Gate};
+pub use name::{Name, Word};
+pub use outcome::Outcome;
+pub use refusal::Refusal;
+pub use sequence::{Bytes, Numbers, Sequence, TryCopy};
+pub use served::{OwnAsk, OwnAsks, Served};
+pub use sink::{Sink, WriteStop};
+pub use source::Source;
+pub use status::Status;
+pub use text::Text;

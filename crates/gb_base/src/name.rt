@@ -1,0 +1,99 @@
+//! Names of requests.
+
+ghost use Rattle.std.specs.Prelude.{◌≡◌, IfSome, if◌then◌else◌, Some, None, nat_eq};
+ghost use Rattle.std.specs.Cmp.{partial_equiv_from_equiv};
+ghost use Rattle.std.specs.Cmp.Lexicographic.{pointwise, nat_list_eq_equiv};
+ghost use Rattle.gb_base.specs.Name.{is_name, is_name_byte};
+
+use crate::{OutOfMemory, TryCopy};
+use arrayvec::ArrayString;
+use std::marker::Model;
+
+/// The word of a name: 1 to 16 of `a` to `z` and `0` to `9`. A contract sees the list of its bytes.
+#[derive(Drop)]
+pub struct Word {
+    text: ArrayString<16>,
+}
+
+impl Model for Word {
+    ghost use Rattle.std.specs.Prelude.{ℕ, List};
+
+    ghost Value = { List ℕ };
+
+    ghost view = { λ w. w.text.bytes };
+}
+
+impl Word {
+    /// The word with these bytes, None where they aren't 1 to 16 of `a` to `z` and `0` to `9`.
+    pub fn from_bytes(bytes: &[u8]) -> Option<Word>
+        ensures { result ≡ (if is_name bytes.now then Some bytes.now else None) }
+    {
+        if !is_name(bytes) {
+            return None;
+        }
+        let mut text = ArrayString::new();
+        for b in bytes {
+            text.push(char::from(*b));
+        }
+        Some(Word { text })
+    }
+
+    /// The bytes.
+    pub fn bytes(&self) -> &[u8]
+        ensures { result.now ≡ self.now }
+    {
+        self.text.as_str().as_bytes()
+    }
+}
+
+/// Whether the bytes are 1 to 16 of `a` to `z` and `0` to `9`.
+fn is_name(bytes: &[u8]) -> bool
+    ensures { result ≡ is_name bytes.now }
+{
+    !bytes.is_empty() && bytes.len() <= 16 && bytes.iter().all(|b| is_name_byte(*b))
+}
+
+/// Whether the byte is one of `a` to `z` or `0` to `9`.
+fn is_name_byte(b: u8) -> bool
+    ensures { result ≡ is_name_byte b }
+{
+    b.is_ascii_lowercase() || b.is_ascii_digit()
+}
+
+impl PartialEq for Word {
+    ghost eq = { pointwise nat_eq };
+
+    ghost laws = { partial_equiv_from_equiv nat_list_eq_equiv };
+
+    fn eq(&self, other: &Word) -> bool {
+        self.text == other.text
+    }
+}
+
+impl Eq for Word {
+    ghost laws = { nat_list_eq_equiv };
+}
+
+impl TryCopy for Word {
+    fn copy(&self) -> Result<Word, OutOfMemory> {
+        Ok(Word { text: self.text })
+    }
+}
+
+/// A name that a script gave to a request.
+#[derive(Drop, PartialEq, Eq)]
+pub struct Name {
+    /// The requester to whom the name belongs: 0 in a script of one requester.
+    pub who: u8,
+    /// The word.
+    pub word: Word,
+}
+
+impl TryCopy for Name {
+    fn copy(&self) -> Result<Name, OutOfMemory> {
+        Ok(Name {
+            who: self.who,
+            word: self.word.copy()?,
+        })
+    }
+}

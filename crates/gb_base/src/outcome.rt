@@ -1,0 +1,38 @@
+//! How a request ended.
+
+use crate::{Bytes, OutOfMemory, TryCopy};
+
+/// How a request ended.
+#[derive(Drop)]
+pub enum Outcome {
+    /// Its responder answered.
+    Answered {
+        /// The result byte of the response.
+        result: u8,
+        /// The payload of the response, empty where the result isn't 0.
+        payload: Bytes,
+    },
+    /// It was cancelled.
+    Cancelled,
+    /// Its deadline came.
+    Timeout,
+    /// Its connection was closed.
+    Disconnected,
+    /// It is unidirectional, and was sent.
+    Sent,
+}
+
+impl TryCopy for Outcome {
+    fn copy(&self) -> Result<Outcome, OutOfMemory> {
+        match self {
+            Outcome::Answered { result, payload } => Ok(Outcome::Answered {
+                result: *result,
+                payload: payload.copy()?,
+            }),
+            Outcome::Cancelled => Ok(Outcome::Cancelled),
+            Outcome::Timeout => Ok(Outcome::Timeout),
+            Outcome::Disconnected => Ok(Outcome::Disconnected),
+            Outcome::Sent => Ok(Outcome::Sent),
+        }
+    }
+}

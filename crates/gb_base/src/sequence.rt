@@ -1,0 +1,96 @@
+//! The growing list of the public surface. A contract sees it as the list of its members.
+
+ghost use Rattle.std.specs.Prelude.{◌≡◌, [], ◌∷◌, ◌++◌, OnOk, OnErr, IfOk};
+
+use crate::OutOfMemory;
+use std::alloc::Global;
+use std::marker::Model;
+
+/// Values that can be copied where memory is found.
+pub trait TryCopy: Drop {
+    /// A copy, which equals the value.
+    fn copy(&self) -> Result<Self, OutOfMemory>
+        ensures { IfOk result (λ o. o ≡ self.now) };
+}
+
+/// A list that grows at its end. It keeps the allocator that it was made with.
+#[derive(Drop)]
+pub struct Sequence<T> {
+    members: Vec<T>,
+}
+
+/// The bytes of a message, a payload or a manifest.
+pub type Bytes = Sequence<u8>;
+
+/// Numbers of requests.
+pub type Numbers = Sequence<u64>;
+
+impl<T> Model for Sequence<T> {
+    ghost use Rattle.std.specs.Prelude.{List};
+
+    ghost Value = { List T };
+
+    ghost view = { λ s. s.members.items };
+}
+
+impl<T> Sequence<T> {
+    /// The empty list. It takes no memory yet.
+    pub fn new(alloc: Global) -> Self
+        ensures { result ≡ [] }
+    {
+        Sequence {
+            members: Vec::new(alloc),
+        }
+    }
+
+    /// The members in order.
+    pub fn items(&self) -> &[T]
+        ensures { result.now ≡ self.now }
+    {
+        self.members.as_slice()
+    }
+}
+
+impl<T: Drop> Sequence<T> {
+    /// Adds a member at the end. After a refusal the list is as before.
+    pub fn push(&mut self, member: T) -> Result<(), OutOfMemory>
+        ensures ok { OnOk result (self.new ≡ self.old ++ member ∷ []) }
+        ensures err { OnErr result (self.new ≡ self.old) }
+    {
+        self.members.push(member)?;
+        Ok(())
+    }
+}
+
+impl Sequence<u8> {
+    /// The list with these bytes.
+    pub fn from_slice(alloc: Global, bytes: &[u8]) -> Result<Bytes, OutOfMemory>
+        ensures { IfOk result (λ b. b ≡ bytes.now) }
+    {
+        Ok(Sequence {
+            members: Vec::from_slice(alloc, bytes)?,
+        })
+    }
+}
+
+impl TryCopy for u8 {
+    fn copy(&self) -> Result<u8, OutOfMemory> {
+        Ok(*self)
+    }
+}
+
+impl TryCopy for u64 {
+    fn copy(&self) -> Result<u64, OutOfMemory> {
+        Ok(*self)
+    }
+}
+
+impl<T: TryCopy> TryCopy for Sequence<T> {
+    fn copy(&self) -> Result<Sequence<T>, OutOfMemory> {
+        let mut members = Vec::new(*self.members.allocator());
+        for member in &self.members {
+            members.push(member.copy()?)?;
+        }
+        Ok(Sequence { members })
+    }
+}
