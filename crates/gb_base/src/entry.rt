@@ -1,8 +1,6 @@
 //! What an event brings about, one entry for each line of the report.
 
-use crate::{
-    Bytes, End, OutOfMemory, Outcome, RawFault, Reading, Reason, Refusal, Sequence, Text, TryCopy,
-};
+use crate::{Bytes, End, Outcome, RawFault, Reading, Reason, Refusal, Sequence, Text};
 
 /// The state of a connection, as the report tells it.
 #[derive(Clone, Copy, Debug, PartialEq, Eq)]

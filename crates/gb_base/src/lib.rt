@@ -4,6 +4,7 @@
 mod bridge;
 mod end;
 mod entry;
+mod entry_copy;
 mod errors;
 mod event;
 mod fault;
