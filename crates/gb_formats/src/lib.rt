@@ -1,0 +1,2 @@
+//! Definitions alone: how bytes and texts spell things. They stand in specs/.
+#![tactic(auto)]
