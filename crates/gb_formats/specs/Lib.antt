@@ -2,6 +2,7 @@ pub mod Bytes
 pub mod Grammar
 pub mod Lines
 pub mod Message
+pub mod Module
 pub mod Reasons
 pub mod Script
 pub mod Texts

@@ -1,0 +1,14 @@
+pub mod Actions
+pub mod Arriving
+pub mod Asking
+pub mod Bus
+pub mod Delivery
+pub mod Events
+pub mod Labels
+pub mod Lists
+pub mod Names
+pub mod Refusals
+pub mod Report
+pub mod Sending
+pub mod Serving
+pub mod State

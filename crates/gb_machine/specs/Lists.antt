@@ -1,0 +1,32 @@
+-- Words on lists that stand for maps.
+use Rattle.std.specs.Prelude.{ℕ, ◌==◌, ◌-◌, Bool, if◌then◌else◌, Option, Some, None, List, [], ◌∷◌, slice_get}
+use Rattle.gb_base.specs.declared.refusal.Refusal.{Refusal}
+
+-- the n-th member, counted from 1
+abbrev pub nth : {A : Type 0} → ℕ → List A → Option A
+nth n xs = if n == 0 then None else slice_get xs (n - 1)
+
+-- the first member that passes the test is changed
+abbrev pub at_first : {A : Type 0} → (A → Bool) → (A → A) → List A → List A
+at_first test change [] = []
+at_first test change (x ∷ xs) =
+    if test x then change x ∷ xs else x ∷ at_first test change xs
+
+-- what the first pair with this number has
+abbrev pub lookup : {A : Type 0} → ℕ → List (ℕ × A) → Option A
+lookup n [] = None
+lookup n (p ∷ ps) = if p.0 == n then Some p.1 else lookup n ps
+
+-- the first member, and the members behind it
+abbrev pub first : {A : Type 0} → List A → Option A
+first [] = None
+first (x ∷ xs) = Some x
+
+abbrev pub behind_first : {A : Type 0} → List A → List A
+behind_first [] = []
+behind_first (x ∷ xs) = xs
+
+-- the refusal of the first condition that is met
+abbrev pub first_met : List (Bool × Refusal) → Option Refusal
+first_met [] = None
+first_met (p ∷ ps) = if p.0 then Some p.1 else first_met ps
