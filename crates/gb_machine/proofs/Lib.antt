@@ -1,3 +1,4 @@
+pub mod Lists
 pub mod Opened
 pub mod Rows
 pub mod Steps

@@ -14,19 +14,12 @@ use Rattle.gb_machine.specs.Asking.{asks}
 use Rattle.gb_machine.specs.Bus.{next_number}
 use Rattle.gb_machine.specs.Names.{bound}
 use Rattle.gb_machine.specs.Refusals.{refusal}
-use Rattle.gb_machine.specs.Sending.{Draft}
+use Rattle.gb_machine.specs.Sending.{Draft, draft}
 use Rattle.gb_machine.specs.State.{State, first_state}
 
 -- a request of the application processor to the supervisory controller
 abbrev pub svc_draft : ℕ → List ℕ → ℕ → Draft
-svc_draft kind payload deadline = record {
-  connection = 1;
-  side = side.Ap;
-  kind = kind;
-  payload = payload;
-  deadline = deadline;
-  oneway = false;
-}
+svc_draft kind payload deadline = draft 1 side.Ap kind payload deadline false
 
 -- a request is sent and gets its name
 unfoldable pub sends : Name → End → ℕ → List ℕ → ℕ → Action

@@ -1,10 +1,11 @@
 -- Words on lists that stand for maps.
-use Rattle.std.specs.Prelude.{ℕ, ◌==◌, ◌-◌, Bool, if◌then◌else◌, Option, Some, None, List, [], ◌∷◌, slice_get}
+use Rattle.std.specs.Prelude.{ℕ, zero, suc, ◌==◌, Bool, if◌then◌else◌, Option, Some, None, List, [], ◌∷◌, slice_get}
 use Rattle.gb_base.specs.declared.refusal.Refusal.{Refusal}
 
 -- the n-th member, counted from 1
 abbrev pub nth : {A : Type 0} → ℕ → List A → Option A
-nth n xs = if n == 0 then None else slice_get xs (n - 1)
+nth zero xs = None
+nth (suc n) xs = slice_get xs n
 
 -- the first member that passes the test is changed
 abbrev pub at_first : {A : Type 0} → (A → Bool) → (A → A) → List A → List A

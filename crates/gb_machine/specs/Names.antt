@@ -1,5 +1,5 @@
 -- The names of requests.
-use Rattle.std.specs.Prelude.{ℕ, ◌==◌, Bool, ◌&&◌, if◌then◌else◌, Option, Some, None, is_some, List, [], ◌∷◌}
+use Rattle.std.specs.Prelude.{ℕ, ◌==◌, Bool, ◌&&◌, if◌then◌else◌, Option, Some, None, is_some, List, [], ◌∷◌, ◌++◌}
 use Rattle.std.specs.Str.{bytes_eq}
 use Rattle.gb_base.specs.declared.name.Name.{Name}
 use Rattle.gb_machine.specs.State.{State}
@@ -17,4 +17,4 @@ is_bound name s = is_some (named name s.names)
 
 -- the name names request n
 abbrev pub bound : Name → ℕ → State → State
-bound name n s = record s { names = (name, n) ∷ s.names }
+bound name n s = record s { names = s.names ++ (name, n) ∷ [] }

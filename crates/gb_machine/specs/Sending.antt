@@ -16,6 +16,16 @@ pub record Draft : Type 0 where
   pub deadline : ℕ
   pub oneway : Bool
 
+abbrev pub draft : ℕ → Side → ℕ → List ℕ → ℕ → Bool → Draft
+draft k at kind payload deadline oneway = record {
+  connection = k;
+  side = at;
+  kind = kind;
+  payload = payload;
+  deadline = deadline;
+  oneway = oneway;
+}
+
 -- the identifier that the request gets: 0 where it is unidirectional, None where none is left
 abbrev pub label_for : Draft → Bus → Option ℕ
 label_for d b = if d.oneway then Some 0 else next_label d.connection d.side b

@@ -58,7 +58,7 @@ pub record State : Type 0 where
   pub ports : List Port
   pub modules : List Module
   pub host : Host
-  pub names : List (Name × ℕ)  -- the request that each name names, the newest first
+  pub names : List (Name × ℕ)  -- the request that each name names
   pub past : Past
 
 -- Nothing is plugged, and there is the connection of the supervisory controller alone.

@@ -1,0 +1,10 @@
+//! Connections, requests and queues: the bus part of the machine.
+#![tactic(auto)]
+
+mod answers;
+mod bus;
+mod queue;
+mod slots;
+
+pub use answers::{Arrival, Arrived, Asked, DeliverFault, SendFault, Sent};
+pub use bus::Bus;
