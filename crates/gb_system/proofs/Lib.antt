@@ -1,0 +1,3 @@
+pub mod Landings
+pub mod Pings
+pub mod Pongs
