@@ -1,5 +1,5 @@
 -- What a read of the front of some bytes leaves.
-use Rattle.std.proofs.Common.{◌≡◌, ℕ, ◌+◌, ◌-◌, ◌<◌, ◌≤◌, List, [], ◌∷◌, ◌++◌, length, min, take, drop, refl, sym, ap, ◌∙◌, arith, length-append, length-drop, take-append-drop, length-take-le}
+use Rattle.std.proofs.Common.{◌≡◌, ℕ, ◌+◌, ◌-◌, ◌<◌, ◌≤◌, List, [], ◌∷◌, ◌++◌, length, min, take, drop, refl, sym, ap, ◌∙◌, arith, take-append-drop, length-take-le}
 use Rattle.std.proofs.lemmas.List.{take-append-le, drop-drop, take_all, take_rest}
 
 -- the front of a buffer into whose front n bytes were copied
@@ -25,14 +25,19 @@ read_consumes items bytes buf new left at most n named is some count' copied' =
   where
     whole : take (length items - at) (drop at items) ≡ drop at bytes
     whole = take_rest items at ∙ ap (drop at) named
+
     count : n ≡ min most (min (length buf) (length (drop at bytes)))
     count = rw whole at count'
+
     copied : new ≡ take n (drop at bytes) ++ drop n buf
     copied = rw whole at copied'
+
     rest : drop (at + n) bytes ≡ drop n (drop at bytes)
     rest = sym (drop-drop n at bytes)
+
     same : left ≡ take n new ++ drop (at + n) bytes
     same = sym is ∙ rw (copied, take-copied n (drop at bytes) buf (omega (arith, count)), rest) (sym (take-append-drop n (drop at bytes)))
+
     none : n ≡ 0 → 0 < length new → drop (at + n) bytes ≡ []
     none z l =
         let same_length : length new ≡ length buf = rw (copied, z) refl in

@@ -22,6 +22,8 @@ mod sink;
 mod source;
 mod standard;
 mod status;
+#[cfg(test)]
+mod tests;
 mod text;
 
 pub use bridge::{BridgeAsk, Bridged, I2cOp, I2cOps, Reading, SpiOp, SpiOps};

@@ -1,4 +1,4 @@
-use Rattle.std.proofs.Common.{arith, ap}
+use Rattle.std.proofs.Common.{ap}
 use Rattle.gb_base.proofs.Fronts.{read_consumes}
 use Rattle.gb_base.specs.Memory.{MemInput}
 use Rattle.gb_base.proofs.memory.MemSourceSource.read.Goals as goal
