@@ -9,6 +9,9 @@ use crate::{OutOfMemory, TryCopy};
 use arrayvec::ArrayString;
 use std::marker::Model;
 
+/// The most bytes of a name.
+const LONGEST: usize = 16;
+
 /// The word of a name: 1 to 16 of `a` to `z` and `0` to `9`. A contract sees the list of its bytes.
 #[derive(Drop)]
 pub struct Word {
@@ -50,7 +53,7 @@ impl Word {
 fn is_name(bytes: &[u8]) -> bool
     ensures { result ≡ is_name bytes.now }
 {
-    !bytes.is_empty() && bytes.len() <= 16 && bytes.iter().all(|b| is_name_byte(*b))
+    !bytes.is_empty() && bytes.len() <= LONGEST && bytes.iter().all(|b| is_name_byte(*b))
 }
 
 /// Whether the byte is one of `a` to `z` or `0` to `9`.
