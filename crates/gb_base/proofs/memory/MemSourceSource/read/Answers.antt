@@ -1,4 +1,4 @@
-use Rattle.std.proofs.Common.{ap}
+use Rattle.std.proofs.Common.{arith, ap}
 use Rattle.gb_base.proofs.Fronts.{read_consumes}
 use Rattle.gb_base.specs.Memory.{MemInput}
 use Rattle.gb_base.proofs.memory.MemSourceSource.read.Goals as goal
@@ -6,4 +6,7 @@ use Rattle.gb_base.proofs.memory.MemSourceSource.read.Goals as goal
 pub returns-clause-bytes : goal.returns-clause-bytes
 returns-clause-bytes c =
     let s = c.self.inside in
-    read_consumes _ s.bytes c.args.buf.now _ _ s.at s.most _ c.items-2.ensures (ap (λ (i : MemInput). i.left) c.self.view_is) (λ _. c.self.invariant.1) c.copy_front-count.ensures.count c.copy_front-count.ensures.copied
+    let counted = c.copy_front-count.ensures in
+    let left = ap (λ (i : MemInput). i.left) c.self.view_is in
+    let some = c.self.invariant in
+    read_consumes _ s.bytes c.args.buf.now _ _ s.at _ _ c.items-2.ensures left (λ _. omega (arith, some.1)) counted.count counted.copied
