@@ -1,5 +1,6 @@
 -- Sources and sinks in memory: what each call answers, and what it leaves.
-use Rattle.std.specs.Prelude.{ℕ, ◌+◌, ◌==◌, Bool, List, ◌++◌, length, min, take, drop, Result, Ok, Err}
+use Rattle.std.specs.Prelude.{ℕ, ◌+◌, ◌==◌, Bool, List, ◌++◌, length, min, take, drop}
+use Rattle.std.specs.Prelude.{Result, Ok, Err}
 use Rattle.std.specs.List.{list_any}
 use Rattle.gb_base.specs.declared.errors.Failed.{Failed}
 use Rattle.gb_base.specs.declared.sink.WriteStop.{WriteStop}

@@ -11,9 +11,9 @@ use crate::{Bytes, Failed, Numbers, OutOfMemory, Sink, Source, WriteStop};
 use std::alloc::Global;
 use std::marker::Model;
 
-/// Bytes in memory as a source that gives them in small pieces, and fails at given reads. A contract
-/// sees the bytes that are left, the most that a read gives, the numbers of the reads that fail, and
-/// how many reads there were and have failed.
+/// Bytes in memory as a source that gives them in small pieces, and fails at given reads. A
+/// contract sees the bytes that are left, the most that a read gives, the numbers of the reads that
+/// fail, and how many reads there were and have failed.
 #[derive(Drop)]
 pub struct MemSource {
     bytes: Bytes,
@@ -140,8 +140,8 @@ impl Model for MemSink {
 }
 
 impl MemSink {
-    /// The sink that has taken nothing. The writes whose number from 1 is in `fail_at` fail. It takes
-    /// its memory from `alloc`, and none yet.
+    /// The sink that has taken nothing. The writes whose number from 1 is in `fail_at` fail. It
+    /// takes its memory from `alloc`, and none yet.
     pub fn new(alloc: Global, fail_at: Numbers) -> MemSink
         ensures taken { result.taken ≡ [] }
         ensures fail_at { result.fail_at ≡ fail_at }

@@ -45,8 +45,6 @@ impl Source for PlainSource {
     fn read(&mut self, buf: &mut [u8]) -> Result<usize, Failed>
         ensures bound { ReadsAtMost result buf.new }
         ensures bytes { ReadConsumes (Some self.old) (Some self.new) result buf.new }
-        ensures later { 0 ≤ 0 }
-        ensures cause { OnErr result (Rose 0 0) }
         ensures count { result ≡ Ok (min (length buf.old) (length self.old)) }
         ensures rest { IfOk result (λ n. buf.new ≡ take n self.old ++ drop n buf.old) }
     {
@@ -99,8 +97,7 @@ impl Sink for PlainSink {
         ensures bound { WritesAtMost result piece.now }
         ensures some { 0 < length piece.now → IfOk result (λ n. 0 < n) }
         ensures bytes { WriteAppends (Some self.old) (Some self.new) result piece.now }
-        ensures later { 0 ≤ 0 }
-        ensures cause { IsErrOf result WriteStop.Failed → Rose 0 0 }
+        ensures memory { IsErrOf result WriteStop.Failed → ⊥ }
         ensures whole { IfOk result (λ n. n ≡ length piece.now) }
     {
         match self.bytes.extend_from_slice(piece) {

@@ -31,5 +31,6 @@ pub trait Sink {
         ensures some { 0 < length piece.now → IfOk result (λ n. 0 < n) }
         ensures bytes { WriteAppends (taken self.old) (taken self.new) result piece.now }
         ensures later { faults self.old ≤ faults self.new }
-        ensures cause { IsErrOf result WriteStop.Failed → Rose (faults self.old) (faults self.new) };
+        ensures cause { IsErrOf result WriteStop.Failed
+            → Rose (faults self.old) (faults self.new) };
 }
