@@ -1,9 +1,8 @@
 //! A source and a sink in memory that never fail.
 
-ghost use Rattle.std.specs.Prelude.{◌≡◌, ℕ, ◌<◌, ◌≤◌, List, [], ◌++◌, Option, Some, Ok, IfOk, OnOk, OnErr, IsErrOf, length, min, take, drop};
+ghost use Rattle.std.specs.Prelude.{◌≡◌, ℕ, ◌<◌, ◌≤◌, List, [], ◌++◌, Some, Ok, IfOk, IsErrOf, length, min, take, drop};
 ghost use Rattle.std.specs.Io.{ReadsAtMost, WritesAtMost};
 ghost use Rattle.std.specs.Io.KnownBytes.{ReadConsumes, WriteAppends};
-ghost use Rattle.gb_base.specs.Faults.{Rose};
 
 use crate::front::copy_front;
 use crate::{Bytes, Failed, OutOfMemory, Sink, Source, WriteStop};
