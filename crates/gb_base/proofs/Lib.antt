@@ -1,1 +1,4 @@
+pub mod Bytes
+pub mod Calls
+pub mod Fronts
 pub mod Names

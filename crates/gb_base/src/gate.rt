@@ -4,8 +4,8 @@ use crate::Entries;
 
 /// What a requester calls in its own thread before each line that it runs there.
 pub trait Gate: Sync {
-    /// `turn` counts this requester's calls from 1. `last` has the entries that were answered to its
-    /// line before, and is empty at turn 1.
+    /// `turn` counts this requester's calls from 1. `last` has the entries that were answered to
+    /// its line before, and is empty at turn 1.
     fn before(&self, requester: u8, turn: u64, last: &Entries);
 }
 

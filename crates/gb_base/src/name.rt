@@ -1,6 +1,6 @@
 //! Names of requests.
 
-ghost use Rattle.std.specs.Prelude.{◌≡◌, IfSome, if◌then◌else◌, Some, None, nat_eq};
+ghost use Rattle.std.specs.Prelude.{◌≡◌, if◌then◌else◌, Some, None, nat_eq};
 ghost use Rattle.std.specs.Cmp.{partial_equiv_from_equiv};
 ghost use Rattle.std.specs.Cmp.Lexicographic.{pointwise, nat_list_eq_equiv};
 ghost use Rattle.gb_base.specs.Name.{is_name, is_name_byte};
@@ -8,6 +8,9 @@ ghost use Rattle.gb_base.specs.Name.{is_name, is_name_byte};
 use crate::{OutOfMemory, TryCopy};
 use arrayvec::ArrayString;
 use std::marker::Model;
+
+/// The most bytes of a name.
+const LONGEST: usize = 16;
 
 /// The word of a name: 1 to 16 of `a` to `z` and `0` to `9`. A contract sees the list of its bytes.
 #[derive(Drop)]
@@ -50,7 +53,7 @@ impl Word {
 fn is_name(bytes: &[u8]) -> bool
     ensures { result ≡ is_name bytes.now }
 {
-    !bytes.is_empty() && bytes.len() <= 16 && bytes.iter().all(|b| is_name_byte(*b))
+    !bytes.is_empty() && bytes.len() <= LONGEST && bytes.iter().all(|b| is_name_byte(*b))
 }
 
 /// Whether the byte is one of `a` to `z` or `0` to `9`.

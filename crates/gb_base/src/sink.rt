@@ -1,6 +1,6 @@
 //! Where output goes.
 
-ghost use Rattle.std.specs.Prelude.{◌≡◌, ℕ, ◌<◌, ◌≤◌, List, Option, IfOk, IsErrOf, length};
+ghost use Rattle.std.specs.Prelude.{ℕ, ◌<◌, ◌≤◌, List, Option, IfOk, IsErrOf, length};
 ghost use Rattle.std.specs.Io.{WritesAtMost};
 ghost use Rattle.std.specs.Io.KnownBytes.{WriteAppends};
 ghost use Rattle.gb_base.specs.Faults.{Rose};
@@ -31,5 +31,6 @@ pub trait Sink {
         ensures some { 0 < length piece.now → IfOk result (λ n. 0 < n) }
         ensures bytes { WriteAppends (taken self.old) (taken self.new) result piece.now }
         ensures later { faults self.old ≤ faults self.new }
-        ensures cause { IsErrOf result WriteStop.Failed → Rose (faults self.old) (faults self.new) };
+        ensures cause { IsErrOf result WriteStop.Failed
+            → Rose (faults self.old) (faults self.new) };
 }

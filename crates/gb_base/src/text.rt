@@ -1,6 +1,6 @@
 //! Text of the report: bytes below 0x80.
 
-ghost use Rattle.std.specs.Prelude.{◌≡◌, ◌<◌, [], ◌∷◌, ◌++◌, OnOk, OnErr, IfOk, IsAscii};
+ghost use Rattle.std.specs.Prelude.{◌≡◌, ◌<◌, [], ◌∷◌, ◌++◌, OnOk, OnErr, IsAscii};
 
 use crate::{OutOfMemory, TryCopy};
 use std::alloc::Global;

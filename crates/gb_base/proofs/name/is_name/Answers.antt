@@ -6,7 +6,7 @@ use Rattle.gb_base.specs.Name.{is_name_byte}
 use Rattle.gb_base.proofs.Names.{is_name-fits}
 use Rattle.gb_base.proofs.name.is_name.Goals as goal
 
-pub returns-then-bytes-le16 : goal.returns-then-bytes-le16
-returns-then-bytes-le16 c =
+pub returns-then-bytes-le-LONGEST : goal.returns-then-bytes-le-LONGEST
+returns-then-bytes-le-LONGEST c =
     let w = c.args.bytes.now in
     all_from_yields_List is_name_byte _ _ _ c.all.ensures.ran (YieldsList-from_slice w cc) (λ x b q k. search (rules, tests)) ∙ sym (is_name-fits w (grind (arith, nat_tests)) (omega arith))
