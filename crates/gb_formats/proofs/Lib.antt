@@ -1,0 +1,4 @@
+pub mod Forms
+pub mod VectorsBadLines
+pub mod VectorsForms
+pub mod VectorsParts

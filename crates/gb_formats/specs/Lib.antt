@@ -1,8 +1,13 @@
+pub mod BridgeForms
 pub mod Bytes
 pub mod Grammar
 pub mod Lines
+pub mod Made
 pub mod Message
+pub mod Parts
 pub mod Reasons
+pub mod Said
 pub mod Script
 pub mod Texts
+pub mod WordValues
 pub mod Words

@@ -1,5 +1,5 @@
 -- What a line of a script says.
-use Rattle.std.specs.Prelude.{ℕ, Bool, ◌&&◌, nat_le, if◌then◌else◌, Err, List, length}
+use Rattle.std.specs.Prelude.{ℕ, ◌+◌, Bool, ◌&&◌, nat_le, if◌then◌else◌, Option, Some, None, Err, List, [], ◌∷◌, length}
 use Rattle.std.specs.List.{list_all}
 use Rattle.gb_base.specs.declared.fault.LineReason.TheVariants as bad
 use Rattle.gb_formats.specs.Grammar.{Said, asked_for}
@@ -17,9 +17,23 @@ is_printable b = nat_le 32 b && nat_le b 126
 abbrev pub is_plain : List ℕ → Bool
 is_plain line = nat_le (length line) longest_line && list_all is_printable line
 
--- What a line says by the grammar.
+-- the place of the first bad byte, where the first of these bytes has this place
+abbrev pub bad_place : ℕ → List ℕ → Option ℕ
+bad_place place [] = None
+bad_place place (b ∷ bs) =
+    let later = bad_place (place + 1) bs in if is_printable b then later else Some place
+
+-- a bad byte is judged before the words
+abbrev pub unless_bad : Option ℕ → Said → Said
+unless_bad None said = said
+unless_bad (Some place) said = Err (bad.BadByte place)
+
+-- What a line says by the grammar: its length comes first, then its bytes, then its words.
 abbrev pub judged : ℕ → List ℕ → Said
-judged who line = if is_plain line then asked_for who (words line) else Err bad.NotBuilt
+judged who line =
+    if nat_le (length line) longest_line
+    then unless_bad (bad_place 1 line) (asked_for who (words line))
+    else Err bad.Long
 
 -- What a line says to requester `who`, where only the lines that are `built` are read.
 abbrev pub said : (List ℕ → Bool) → ℕ → List ℕ → Said
