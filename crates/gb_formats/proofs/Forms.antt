@@ -31,7 +31,8 @@ judged-plain who line h =
   where
     judged_by : (short plain : Bool) → short && plain ≡ true
         → (plain ≡ true → bad_place 1 line ≡ None)
-        → (if short then unless_bad (bad_place 1 line) (asked_for who (words line)) else Err bad.Long)
+        → (if short then unless_bad (bad_place 1 line) (asked_for who (words line))
+        else Err bad.Long)
         ≡ asked_for who (words line)
     judged_by true plain h none =
         ap (λ place. unless_bad place (asked_for who (words line))) (none h)

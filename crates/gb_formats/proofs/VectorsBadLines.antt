@@ -1,17 +1,8 @@
 -- Bad lines of a script, and why they are bad.
 use Rattle.std.proofs.Common.{◌≡◌, ℕ, List, [], ◌∷◌, refl}
-use Rattle.std.specs.Prelude.{Some, None, Ok, Err, ◌++◌, map, codes}
+use Rattle.std.specs.Prelude.{None, Ok, Err, ◌++◌, map, codes}
 use Rattle.hex.specs.Hex.{decode_pairs}
-use Rattle.gb_base.specs.declared.bridge.BridgeAsk.TheVariants as ask
-use Rattle.gb_base.specs.declared.bridge.I2cOp.TheVariants as i2c
-use Rattle.gb_base.specs.declared.bridge.SpiOp.TheVariants as spi
-use Rattle.gb_base.specs.declared.end.End.TheVariants as end
-use Rattle.gb_base.specs.declared.event.Event.{Event}
-use Rattle.gb_base.specs.declared.event.Event.TheVariants as event
-use Rattle.gb_base.specs.declared.event.Kind.TheVariants as kind
-use Rattle.gb_base.specs.declared.fault.LineReason.{LineReason}
 use Rattle.gb_base.specs.declared.fault.LineReason.TheVariants as bad
-use Rattle.gb_base.specs.declared.name.Name.{Name}
 use Rattle.gb_formats.specs.Grammar.{Said}
 use Rattle.gb_formats.specs.Script.{judged}
 
@@ -182,7 +173,8 @@ bad_bridge_lines =
     ∷ (codes "uart 2 1 state 0 x", Err (bad.ExtraWord 6))
     ∷ []
 
-pub bad_bridge_lines-said : map (λ row. judged 0 row.0) bad_bridge_lines ≡ map (λ row. row.1) bad_bridge_lines
+pub bad_bridge_lines-said : map (λ row. judged 0 row.0) bad_bridge_lines
+    ≡ map (λ row. row.1) bad_bridge_lines
 unfolding decode_pairs
 bad_bridge_lines-said = refl
 

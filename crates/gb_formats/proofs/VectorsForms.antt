@@ -1,16 +1,13 @@
 -- Lines of a script, and what they say: one for each form.
 use Rattle.std.proofs.Common.{◌≡◌, ℕ, List, [], ◌∷◌, refl}
-use Rattle.std.specs.Prelude.{Some, None, Ok, Err, ◌++◌, map, codes}
+use Rattle.std.specs.Prelude.{Some, Ok, map, codes}
 use Rattle.hex.specs.Hex.{decode_pairs}
 use Rattle.gb_base.specs.declared.bridge.BridgeAsk.TheVariants as ask
 use Rattle.gb_base.specs.declared.bridge.I2cOp.TheVariants as i2c
 use Rattle.gb_base.specs.declared.bridge.SpiOp.TheVariants as spi
 use Rattle.gb_base.specs.declared.end.End.TheVariants as end
-use Rattle.gb_base.specs.declared.event.Event.{Event}
 use Rattle.gb_base.specs.declared.event.Event.TheVariants as event
 use Rattle.gb_base.specs.declared.event.Kind.TheVariants as kind
-use Rattle.gb_base.specs.declared.fault.LineReason.{LineReason}
-use Rattle.gb_base.specs.declared.fault.LineReason.TheVariants as bad
 use Rattle.gb_base.specs.declared.name.Name.{Name}
 use Rattle.gb_formats.specs.Grammar.{Said}
 use Rattle.gb_formats.specs.Script.{judged}
@@ -137,7 +134,8 @@ bridge_lines = (
     )
     ∷ (
       codes "i2c @x 2 1 transfer w:50:fe r:7F:65535 w:00:-",
-      Ok (Some (event.Bridge (named (codes "x")) 2 1 (ask.I2cTransfer (i2c.Put 80 (254 ∷ []) ∷ i2c.Get 127 65535 ∷ i2c.Put 0 [] ∷ [])))),
+      Ok (Some (event.Bridge (named (codes "x")) 2 1
+          (ask.I2cTransfer (i2c.Put 80 (254 ∷ []) ∷ i2c.Get 127 65535 ∷ i2c.Put 0 [] ∷ [])))),
     )
     ∷ (
       codes "spi @x 2 1 config",
@@ -153,7 +151,8 @@ bridge_lines = (
     )
     ∷ (
       codes "spi @x 2 1 transfer 0 255 x:0102 r:2 w:-",
-      Ok (Some (event.Bridge (named (codes "x")) 2 1 (ask.SpiTransfer 0 255 (spi.Both (1 ∷ 2 ∷ []) ∷ spi.Get 2 ∷ spi.Put [] ∷ [])))),
+      Ok (Some (event.Bridge (named (codes "x")) 2 1
+          (ask.SpiTransfer 0 255 (spi.Both (1 ∷ 2 ∷ []) ∷ spi.Get 2 ∷ spi.Put [] ∷ [])))),
     )
     ∷ (
       codes "uart @x 2 1 send 00",

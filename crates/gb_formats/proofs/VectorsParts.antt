@@ -1,18 +1,18 @@
 -- Scripts with requesters and the made script, and what they are.
 use Rattle.std.proofs.Common.{◌≡◌, ℕ, Bool, true, List, [], ◌∷◌, refl}
 use Rattle.std.specs.Prelude.{Some, None, ◌++◌, map, codes}
+use Rattle.std.specs.Fmt.{digits}
 use Rattle.hex.specs.Hex.{decode_pairs}
 use Rattle.gb_base.specs.declared.bridge.BridgeAsk.TheVariants as ask
 use Rattle.gb_base.specs.declared.bridge.I2cOp.TheVariants as i2c
 use Rattle.gb_base.specs.declared.end.End.TheVariants as end
-use Rattle.gb_base.specs.declared.event.Event.{Event}
 use Rattle.gb_base.specs.declared.event.Event.TheVariants as event
 use Rattle.gb_base.specs.declared.event.Kind.TheVariants as kind
 use Rattle.gb_base.specs.declared.fault.LineReason.TheVariants as bad
 use Rattle.gb_base.specs.declared.name.Name.{Name}
 use Rattle.gb_formats.specs.Lines.{lines}
 use Rattle.gb_formats.specs.Made.{made, made_number, last_named}
-use Rattle.gb_formats.specs.Parts.{Parts, parts}
+use Rattle.gb_formats.specs.Parts.{parts}
 
 -- every line is built
 abbrev pub all_built : List ℕ → Bool
@@ -47,7 +47,8 @@ pub parts-alone : parts all_built (codes " requester")
 unfolding decode_pairs
 parts-alone = refl
 
-pub parts-extra : parts all_built (text_of (codes "boot" ∷ codes "requester 1 x" ∷ codes "boot" ∷ []))
+pub parts-extra : parts all_built
+    (text_of (codes "boot" ∷ codes "requester 1 x" ∷ codes "boot" ∷ []))
     ≡ record {
       asked = record { line = 1; who = 0; event = event.Boot } ∷ [];
       bad = Some (2, bad.ExtraWord 3);
@@ -81,7 +82,7 @@ pub made-drawn : map (made 1) (24 ∷ 26 ∷ 27 ∷ 30 ∷ 32 ∷ 34 ∷ 35 ∷ 
     ∷ event.Settle 5
     ∷ event.Cancel (named (codes "n8"))
     ∷ event.Deliver (end.Module 5 1) ∷ []
-unfolding made_number last_named
+unfolding made_number last_named digits
 made-drawn = refl
 
 -- the first lines of the made script of seed 1
