@@ -1,5 +1,7 @@
 pub mod Forms
 pub mod VectorsBadLines
+pub mod VectorsBridges
+pub mod VectorsDevices
 pub mod VectorsForms
 pub mod VectorsGpioI2cRecords
 pub mod VectorsManifest
