@@ -8,3 +8,5 @@ pub mod VectorsManifest
 pub mod VectorsParts
 pub mod VectorsRecords
 pub mod VectorsSpiUartRecords
+pub mod VectorsTexts
+pub mod VectorsWire

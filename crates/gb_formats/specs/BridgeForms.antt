@@ -52,6 +52,7 @@ gpio_named make w ws =
     else if bytes_eq w (codes "unmask") then gpio_line make 13 ws
     else Err (bad.BadWord 5)
 
+-- what a GPIO line asks, from word 5 on
 abbrev pub gpio_asking : (BridgeAsk → Event) → List (List ℕ) → Said
 gpio_asking make [] = Err (bad.MissingWord 5)
 gpio_asking make (w ∷ ws) = gpio_named make w ws
@@ -75,9 +76,11 @@ gpio_form who (w ∷ ws) =
 
 -- ---- i2c
 
+-- a read, where its length fits
 abbrev pub i2c_get : ℕ → Option ℕ → Option I2cOp
 i2c_get addr len = option_map (i2c.Get addr) len
 
+-- a write, where its bytes fit
 abbrev pub i2c_put : ℕ → Option (List ℕ) → Option I2cOp
 i2c_put addr bytes = option_map (i2c.Put addr) bytes
 
@@ -99,6 +102,7 @@ i2c_op_word w =
     else if slice_index w 0 == 119 then i2c_write w else None)
     else None
 
+-- `functionality`, or `transfer` and any number of ops
 abbrev pub i2c_asking : (BridgeAsk → Event) → List (List ℕ) → Said
 i2c_asking make [] = Err (bad.MissingWord 5)
 i2c_asking make (w ∷ ws) =
@@ -107,6 +111,7 @@ i2c_asking make (w ∷ ws) =
     then each_word i2c_op_word (λ ops. make (ask.I2cTransfer ops)) [] 6 ws
     else Err (bad.BadWord 5)
 
+-- `i2c @x I C` and what is asked
 abbrev pub i2c_form : ℕ → List (List ℕ) → Said
 i2c_form who ws = bridging who ws i2c_asking
 
@@ -127,6 +132,7 @@ spi_transfer make ws =
     next_word u8_word 6 ws (λ s ws. next_word u8_word 7 ws (λ m ws.
     each_word spi_op_word (λ ops. make (ask.SpiTransfer s m ops)) [] 8 ws))
 
+-- `config`, `device S`, or `transfer S M` and any number of entries
 abbrev pub spi_asking : (BridgeAsk → Event) → List (List ℕ) → Said
 spi_asking make [] = Err (bad.MissingWord 5)
 spi_asking make (w ∷ ws) =
@@ -136,6 +142,7 @@ spi_asking make (w ∷ ws) =
     else if bytes_eq w (codes "transfer") then spi_transfer make ws
     else Err (bad.BadWord 5)
 
+-- `spi @x I C` and what is asked
 abbrev pub spi_form : ℕ → List (List ℕ) → Said
 spi_form who ws = bridging who ws spi_asking
 
@@ -163,6 +170,7 @@ uart_named make w ws =
     else if bytes_eq w (codes "flush") then uart_byte make 9 ws
     else Err (bad.BadWord 5)
 
+-- what a UART line asks, from word 5 on
 abbrev pub uart_asking : (BridgeAsk → Event) → List (List ℕ) → Said
 uart_asking make [] = Err (bad.MissingWord 5)
 uart_asking make (w ∷ ws) = uart_named make w ws

@@ -174,11 +174,13 @@ gpio_reading (Ok (GpioReply.GetValue value)) = value_reading value
 gpio_reading (Ok _) = reading.Nothing
 gpio_reading (Err fault) = reading.Bad
 
+-- the functionality of an I2C adapter is a number
 abbrev pub i2c_reading : Result I2cReply PayloadFault → Reading
 i2c_reading (Ok (I2cReply.Functionality flags)) = reading.Number flags
 i2c_reading (Ok (I2cReply.Transfer bytes)) = reading.Nothing
 i2c_reading (Err fault) = reading.Bad
 
+-- the number of chip selects of an SPI master
 abbrev pub spi_reading : Result SpiReply PayloadFault → Reading
 spi_reading (Ok (SpiReply.MasterConfig mask least greatest mode flags selects)) =
     reading.Number selects
@@ -189,6 +191,7 @@ spi_reading (Err fault) = reading.Bad
 abbrev pub has_gpio_reading : ℕ → Bool
 has_gpio_reading kind = kind == 0x02 || kind == 0x05 || kind == 0x08
 
+-- FUNCTIONALITY and MASTER_CONFIG answer a number
 abbrev pub has_number_reading : ℕ → Bool
 has_number_reading kind = kind == 0x02
 

@@ -22,6 +22,7 @@ pub data ControlReply : Type 0 where
   Disconnected : ControlReply
   Disconnecting : ControlReply
 
+-- the rows of requests
 abbrev pub control_asks : List (Row ControlAsk)
 control_asks =
     row2 0x01 u8 u8 ControlAsk.Version

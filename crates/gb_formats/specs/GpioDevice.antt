@@ -38,6 +38,7 @@ first_gpio = replicate line_count (first_line 0)
 abbrev pub restarted_line : GpioLine → GpioLine
 restarted_line l = first_line l.level
 
+-- the first state of all lines, whose levels stay
 abbrev pub restarted_gpio : List GpioLine → List GpioLine
 restarted_gpio lines = map restarted_line lines
 
@@ -83,12 +84,15 @@ direction_of l = if l.input then 1 else 0
 abbrev pub value_of : GpioLine → ℕ
 value_of l = if l.input then l.level else l.value
 
+-- ACTIVATE makes a line active
 abbrev pub activate : GpioLine → AtLine
 activate l = Changes (record l { active = true })
 
+-- DEACTIVATE brings back the first state, but that the level stays
 abbrev pub deactivate : GpioLine → AtLine
 deactivate l = Changes (restarted_line l)
 
+-- DIRECTION_OUT makes a line out, with a value
 abbrev pub direction_out : ℕ → GpioLine → AtLine
 direction_out v l = if_active l (if_level v (Changes (record l { input = false; value = v })))
 
@@ -97,6 +101,7 @@ abbrev pub set_value : ℕ → GpioLine → AtLine
 set_value v l =
     if_active l (if l.input then Refuses invalid else if_level v (Changes (record l { value = v })))
 
+-- IRQ_TYPE sets a type that there is
 abbrev pub set_irq : ℕ → GpioLine → AtLine
 set_irq t l =
     if_active l (if is_irq_type t then Changes (record l { irq = t }) else Refuses invalid)
@@ -158,6 +163,7 @@ pub record Levelled : Type 0 where
   pub lines : List GpioLine
   pub irq : Option ℕ
 
+-- a level that is set at a line, if there is the line
 abbrev pub levelled : List GpioLine → ℕ → ℕ → Option GpioLine → Levelled
 levelled lines which new None = record { lines = lines; irq = None }
 levelled lines which new (Some l) = record {

@@ -36,6 +36,7 @@ pub data GpioReply : Type 0 where
   IrqUnmask : GpioReply
   IrqEvent : GpioReply
 
+-- the rows of requests
 abbrev pub gpio_asks : List (Row GpioAsk)
 gpio_asks =
     row0 0x02 GpioAsk.LineCount
@@ -53,6 +54,7 @@ gpio_asks =
     ∷ row1 0x0e u8 GpioAsk.IrqEvent
     ∷ []
 
+-- the rows of responses
 abbrev pub gpio_replies : List (Row GpioReply)
 gpio_replies =
     row1 0x02 u8 GpioReply.LineCount

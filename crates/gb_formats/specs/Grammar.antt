@@ -38,6 +38,7 @@ inserting_what i (w ∷ ws) =
     then next_word hex_word 4 ws (λ bytes ws. at_end 5 ws (event.InsertRaw i bytes))
     else next_word kind_word 3 (w ∷ ws) (λ kind ws. at_end 4 ws (event.Insert i kind))
 
+-- `insert I` and what is inserted
 abbrev pub inserting : List (List ℕ) → Said
 inserting ws = next_word intf_word 2 ws (λ i ws. inserting_what i ws)
 
@@ -80,6 +81,7 @@ sending_to x [] = Err (bad.MissingWord 3)
 sending_to x (to ∷ ws) =
     if bytes_eq to (codes "svc") then sending_svc x ws else sending_module x (to ∷ ws)
 
+-- `send @x` and to whom
 abbrev pub sending : ℕ → List (List ℕ) → Said
 sending who ws = next_word (name_word who) 2 ws (λ x ws. sending_to x ws)
 

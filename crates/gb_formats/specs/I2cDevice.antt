@@ -5,6 +5,7 @@ use Rattle.gb_formats.specs.I2cRecords.{I2cAsk, I2cReply, TransferOp, op_size, o
 use Rattle.gb_formats.specs.Records.{PayloadFault}
 use Rattle.gb_formats.specs.Results.{Step, tells, refuses, fault_result, invalid, nonexistent, overflow, most_payload}
 
+-- the memory and the pointer
 pub record I2cDevice : Type 0 where
   pub memory : List ℕ
   pub pointer : ℕ
@@ -47,14 +48,16 @@ read_from memory place (suc n) =
 abbrev pub after_read : I2cDevice → ℕ → I2cDevice
 after_read d n = record d { pointer = (d.pointer + n) % 256 }
 
--- the device after an op, the write data left, and the bytes read
+-- the device after an op
 abbrev pub after_op : I2cDevice → List ℕ → TransferOp → I2cDevice
 after_op d bytes op =
     if reads op then after_read d op.size else after_write d (take op.size bytes)
 
+-- the write data left behind an op
 abbrev pub left_after : List ℕ → TransferOp → List ℕ
 left_after bytes op = if reads op then bytes else drop op.size bytes
 
+-- the bytes that an op reads
 abbrev pub read_by : I2cDevice → TransferOp → List ℕ
 read_by d op = if reads op then read_from d.memory d.pointer op.size else []
 

@@ -43,10 +43,11 @@ ops_at (suc n) bytes = op_at bytes ∷ ops_at n (drop op_size bytes)
 abbrev pub reads : TransferOp → Bool
 reads op = op.flags % 2 == 1
 
--- how many bytes an op writes, and how many it reads
+-- how many bytes an op writes
 abbrev pub written_size : TransferOp → ℕ
 written_size op = if reads op then 0 else op.size
 
+-- how many bytes an op reads
 abbrev pub read_size : TransferOp → ℕ
 read_size op = if reads op then op.size else 0
 
@@ -61,9 +62,11 @@ read_transfer count payload =
     (I2cAsk.Transfer (take (op_size * count) (drop 2 payload))
     (drop (2 + op_size * count) payload))
 
+-- the rows of requests, but for TRANSFER
 abbrev pub i2c_asks : List (Row I2cAsk)
 i2c_asks = row0 0x02 I2cAsk.Functionality ∷ []
 
+-- the rows of responses, but for TRANSFER, whose response is the data read
 abbrev pub i2c_replies : List (Row I2cReply)
 i2c_replies = row1 0x02 u32 I2cReply.Functionality ∷ []
 

@@ -12,12 +12,15 @@ product_of kind.Spi = codes "SPI"
 product_of kind.Uart = codes "UART"
 product_of kind.Bridge = codes "Bridge"
 
+-- a string with this id
 abbrev pub string_of : ℕ → List ℕ → StringSpec
 string_of id bytes = record { id = id; bytes = bytes }
 
+-- a bundle with this id and class
 abbrev pub bundle_of : ℕ → ℕ → BundleSpec
 bundle_of id class = record { id = id; class = class }
 
+-- a CPort with this id, bundle and protocol
 abbrev pub cport_of : ℕ → ℕ → ℕ → CportSpec
 cport_of id bundle protocol = record { id = id; bundle = bundle; protocol = protocol }
 

@@ -23,11 +23,14 @@ pub mod Records
 pub mod Results
 pub mod Said
 pub mod Script
+pub mod ShowTexts
 pub mod SpiDevice
 pub mod SpiRecords
 pub mod SvcRecords
 pub mod Texts
 pub mod UartDevice
 pub mod UartRecords
+pub mod ValidEvents
+pub mod Wire
 pub mod WordValues
 pub mod Words

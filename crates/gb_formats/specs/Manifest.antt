@@ -36,6 +36,7 @@ pub record IsManifest (bytes : List ℕ) (m : Manifest) : Type 0 where
 
 -- ---- the refusal of other bytes
 
+-- a refusal at a place, for a reason
 abbrev pub refused : ℕ → Reason → Refused
 refused at reason = record { at = at; reason = reason }
 
@@ -112,6 +113,7 @@ abbrev pub refusal_in : Result Manifest Refused → Option Refused
 refusal_in (Ok m) = None
 refusal_in (Err why) = Some why
 
+-- Where and why the bytes aren't a manifest, if they aren't.
 abbrev pub refusal : List ℕ → Option Refused
 refusal bytes = refusal_in (checked bytes)
 

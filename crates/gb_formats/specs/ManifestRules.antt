@@ -30,19 +30,22 @@ first_breach breaks before (d ∷ ds) =
 abbrev pub has : (Descriptor → Bool) → List Placed → Bool
 has test ds = list_any (λ d. test d.descriptor) ds
 
--- what single descriptors are
+-- an interface descriptor
 abbrev pub is_interface : Descriptor → Bool
 is_interface (Descriptor.Interface vendor product features) = true
 is_interface _ = false
 
+-- a string descriptor with this id
 abbrev pub is_string : ℕ → Descriptor → Bool
 is_string id (Descriptor.Words other bytes) = other == id
 is_string id _ = false
 
+-- a bundle descriptor with this id
 abbrev pub is_bundle : ℕ → Descriptor → Bool
 is_bundle id (Descriptor.Bundle other class) = other == id
 is_bundle id _ = false
 
+-- a CPort descriptor with this id
 abbrev pub is_cport : ℕ → Descriptor → Bool
 is_cport id (Descriptor.Cport other bundle protocol) = other == id
 is_cport id _ = false

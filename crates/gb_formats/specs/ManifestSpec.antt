@@ -32,13 +32,15 @@ pub record ManifestSpec : Type 0 where
   pub bundles : List BundleSpec
   pub cports : List CportSpec
 
--- the descriptors of a spec's parts
+-- the descriptor of a string
 abbrev pub string_descriptor : StringSpec → Descriptor
 string_descriptor s = Descriptor.Words s.id s.bytes
 
+-- the descriptor of a bundle
 abbrev pub bundle_descriptor : BundleSpec → Descriptor
 bundle_descriptor b = Descriptor.Bundle b.id b.class
 
+-- the descriptor of a CPort
 abbrev pub cport_descriptor : CportSpec → Descriptor
 cport_descriptor c = Descriptor.Cport c.id c.bundle c.protocol
 
@@ -88,6 +90,7 @@ abbrev pub written_ruled : Option Refused → ManifestSpec → Result (List ℕ)
 written_ruled None spec = written_sized spec
 written_ruled (Some why) spec = Err (Rule why.reason)
 
+-- what is written, unless a string is too long
 abbrev pub written_unless : Option ℕ → ManifestSpec → Result (List ℕ) WriteFault
 written_unless None spec =
     written_ruled (first_of (written_rules (placed_from 4 (spec_descriptors spec)))) spec

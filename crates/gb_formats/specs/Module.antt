@@ -138,6 +138,7 @@ abbrev pub state_of : Option ModulePort → CportState
 state_of None = Off
 state_of (Some port) = port.state
 
+-- the state of the CPort with this number
 abbrev pub cport_state : Module → ℕ → CportState
 cport_state m c = state_of (port_at m c)
 
@@ -152,15 +153,17 @@ pub record ModuleStep : Type 0 where
 abbrev pub stays : Module → Served → ModuleStep
 stays m served = record { after = m; served = served }
 
--- the states of a CPort that CONNECTED, DISCONNECTING and DISCONNECTED want
+-- CONNECTED wants a CPort that is off
 abbrev pub is_off : CportState → Bool
 is_off Off = true
 is_off _ = false
 
+-- DISCONNECTING wants a CPort that is on
 abbrev pub is_on : CportState → Bool
 is_on On = true
 is_on _ = false
 
+-- DISCONNECTED wants a CPort that is quiet
 abbrev pub is_quiet : CportState → Bool
 is_quiet Quiet = true
 is_quiet _ = false

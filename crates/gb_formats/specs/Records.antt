@@ -9,13 +9,15 @@ pub data PayloadFault : Type 0 where
   UnknownKind : PayloadFault
   Mismatch : ℕ → PayloadFault
 
--- one byte, and numbers of two and four bytes, the lowest byte first
+-- a field of one byte
 abbrev pub u8 : ℕ
 u8 = 1
 
+-- a field of two bytes, the lowest first
 abbrev pub u16 : ℕ
 u16 = 2
 
+-- a field of four bytes, the lowest first
 abbrev pub u32 : ℕ
 u32 = 4
 
@@ -29,13 +31,15 @@ pub record Row (A : Type 0) : Type 0 where
   pub widths : List ℕ
   pub made : List ℕ → A
 
--- rows of no field up to six fields
+-- a row without fields
 abbrev pub row0 : {A : Type 0} → ℕ → A → Row A
 row0 kind made = record { kind = kind; widths = []; made = λ fields. made }
 
+-- a row of one field
 abbrev pub row1 : {A : Type 0} → ℕ → ℕ → (ℕ → A) → Row A
 row1 kind a made = record { kind = kind; widths = a ∷ []; made = λ f. made (slice_index f 0) }
 
+-- a row of two fields
 abbrev pub row2 : {A : Type 0} → ℕ → ℕ → ℕ → (ℕ → ℕ → A) → Row A
 row2 kind a b made = record {
   kind = kind;
@@ -43,6 +47,7 @@ row2 kind a b made = record {
   made = λ f. made (slice_index f 0) (slice_index f 1);
 }
 
+-- a row of three fields
 abbrev pub row3 : {A : Type 0} → ℕ → ℕ → ℕ → ℕ → (ℕ → ℕ → ℕ → A) → Row A
 row3 kind a b c made = record {
   kind = kind;
@@ -50,6 +55,7 @@ row3 kind a b c made = record {
   made = λ f. made (slice_index f 0) (slice_index f 1) (slice_index f 2);
 }
 
+-- a row of four fields
 abbrev pub row4 : {A : Type 0} → ℕ → ℕ → ℕ → ℕ → ℕ → (ℕ → ℕ → ℕ → ℕ → A) → Row A
 row4 kind a b c d made = record {
   kind = kind;
@@ -57,6 +63,7 @@ row4 kind a b c d made = record {
   made = λ f. made (slice_index f 0) (slice_index f 1) (slice_index f 2) (slice_index f 3);
 }
 
+-- a row of five fields
 abbrev pub row5 : {A : Type 0} → ℕ → ℕ → ℕ → ℕ → ℕ → ℕ → (ℕ → ℕ → ℕ → ℕ → ℕ → A) → Row A
 row5 kind a b c d e made = record {
   kind = kind;
@@ -65,6 +72,7 @@ row5 kind a b c d e made = record {
       (slice_index f 4);
 }
 
+-- a row of six fields
 abbrev pub row6 : {A : Type 0} → ℕ → ℕ → ℕ → ℕ → ℕ → ℕ → ℕ
     → (ℕ → ℕ → ℕ → ℕ → ℕ → ℕ → A) → Row A
 row6 kind a b c d e g made = record {

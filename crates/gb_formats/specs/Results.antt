@@ -9,15 +9,19 @@ use Rattle.gb_formats.specs.Records.{PayloadFault}
 abbrev pub success : ℕ
 success = 0x00
 
+-- the responder has no request of this type
 abbrev pub protocol_bad : ℕ
 protocol_bad = 0x04
 
+-- the answer would be too long
 abbrev pub overflow : ℕ
 overflow = 0x05
 
+-- the payload, a value or the state doesn't fit
 abbrev pub invalid : ℕ
 invalid = 0x06
 
+-- what is asked for isn't there
 abbrev pub nonexistent : ℕ
 nonexistent = 0x08
 

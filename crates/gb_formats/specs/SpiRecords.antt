@@ -52,17 +52,19 @@ abbrev pub entries_at : ℕ → List ℕ → List TransferEntry
 entries_at zero bytes = []
 entries_at (suc n) bytes = entry_at bytes ∷ entries_at n (drop entry_size bytes)
 
--- flag 1 is a read, flag 2 a write
+-- flag 1 is a read
 abbrev pub reads : TransferEntry → Bool
 reads entry = entry.flags % 2 == 1
 
+-- flag 2 is a write
 abbrev pub writes : TransferEntry → Bool
 writes entry = entry.flags / 2 % 2 == 1
 
--- how many bytes an entry writes, and how many it reads
+-- how many bytes an entry writes
 abbrev pub written_size : TransferEntry → ℕ
 written_size entry = if writes entry then entry.len else 0
 
+-- how many bytes an entry reads
 abbrev pub read_size : TransferEntry → ℕ
 read_size entry = if reads entry then entry.len else 0
 
@@ -84,9 +86,11 @@ read_device payload =
     (SpiReply.DeviceConfig (little_number 2 payload) (slice_index payload 2)
     (little_number 4 (drop 3 payload)) (slice_index payload 7) (drop 8 payload))
 
+-- the rows of requests, but for TRANSFER
 abbrev pub spi_asks : List (Row SpiAsk)
 spi_asks = row0 0x02 SpiAsk.MasterConfig ∷ row1 0x03 u8 SpiAsk.DeviceConfig ∷ []
 
+-- the rows of responses, but for DEVICE_CONFIG and TRANSFER
 abbrev pub spi_replies : List (Row SpiReply)
 spi_replies = row6 0x02 u32 u32 u32 u16 u16 u8 SpiReply.MasterConfig ∷ []
 

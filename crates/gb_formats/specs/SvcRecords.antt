@@ -39,6 +39,7 @@ pub data SvcReply : Type 0 where
   ModuleInserted : SvcReply
   ModuleRemoved : SvcReply
 
+-- the rows of requests
 abbrev pub svc_asks : List (Row SvcAsk)
 svc_asks =
     row2 0x03 u8 u8 SvcAsk.IntfDeviceId
@@ -57,6 +58,7 @@ svc_asks =
     ∷ row1 0x20 u8 SvcAsk.ModuleRemoved
     ∷ []
 
+-- the rows of responses
 abbrev pub svc_replies : List (Row SvcReply)
 svc_replies =
     row0 0x03 SvcReply.IntfDeviceId

@@ -38,6 +38,7 @@ uart_asks =
     ∷ row1 0x09 u8 UartAsk.FlushFifos
     ∷ []
 
+-- the rows of responses
 abbrev pub uart_replies : List (Row UartReply)
 uart_replies =
     row0 0x02 UartReply.SendData

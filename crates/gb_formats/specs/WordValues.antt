@@ -14,6 +14,7 @@ use Rattle.gb_base.specs.declared.name.Name.{Name}
 abbrev pub is_name_word : List ℕ → Bool
 is_name_word w = slice_index w 0 == 64 && is_name (drop 1 w)
 
+-- the name that `@x` is, of requester `who`
 abbrev pub name_of : ℕ → List ℕ → Name
 name_of who w = record { who = who; word = drop 1 w }
 
@@ -21,6 +22,7 @@ name_of who w = record { who = who; word = drop 1 w }
 abbrev pub name_word : ℕ → List ℕ → Option Name
 name_word who w = then_some (is_name_word w) (name_of who w)
 
+-- `0` to `9`
 abbrev pub is_digit : ℕ → Bool
 is_digit b = nat_le 48 b && nat_le b 57
 
@@ -34,6 +36,7 @@ abbrev pub number_after : ℕ → List ℕ → ℕ
 number_after front [] = front
 number_after front (b ∷ bs) = number_after (front * 10 + (b - 48)) bs
 
+-- the number that decimal digits spell
 abbrev pub number_of : List ℕ → ℕ
 number_of w = number_after 0 w
 
