@@ -6,7 +6,7 @@ use Rattle.gb_base.specs.declared.bridge.I2cOp.TheVariants as i2c
 use Rattle.gb_base.specs.declared.bridge.Reading.{Reading}
 use Rattle.gb_base.specs.declared.bridge.Reading.TheVariants as reading
 use Rattle.gb_base.specs.declared.bridge.SpiOp.TheVariants as spi
-use Rattle.gb_formats.specs.Bridges.{bridged, BridgeFault, is_too_large, reading_of}
+use Rattle.gb_formats.specs.Bridges.{bridge_answer, BridgeFault, is_too_large, reading_of}
 
 -- ---- bridge lines and readings
 
@@ -23,18 +23,18 @@ pub too_large-lines : map is_too_large
     ≡ false ∷ true ∷ false ∷ true ∷ false ∷ true ∷ false ∷ true ∷ false ∷ true ∷ []
 too_large-lines = refl
 
-pub bridged-lines : map (bridged 0x02)
+pub bridge_answer-lines : map (bridge_answer 0x02)
     (ask.Gpio 2 0 0 ∷ ask.Gpio 3 255 0 ∷ ask.Gpio 7 3 1 ∷ ask.Gpio 10 3 1000 ∷ ask.Gpio 11 3 8
     ∷ ask.SpiConfig ∷ [])
     ≡ Ok (2, []) ∷ Ok (3, 255 ∷ []) ∷ Ok (7, 3 ∷ 1 ∷ []) ∷ Ok (10, 3 ∷ 0xe8 ∷ 3 ∷ [])
     ∷ Ok (11, 3 ∷ 8 ∷ []) ∷ Err BridgeFault.Unsupported ∷ []
-bridged-lines = refl
+bridge_answer-lines = refl
 
-pub bridged-uart : map (bridged 0x04)
+pub bridge_answer-uart : map (bridge_answer 0x04)
     (ask.UartSend (0xab ∷ []) ∷ ask.UartCoding 115200 1 2 8 1 ∷ ask.UartByte 9 3 ∷ [])
     ≡ Ok (2, 1 ∷ 0 ∷ 0xab ∷ []) ∷ Ok (4, 0 ∷ 0xc2 ∷ 1 ∷ 0 ∷ 1 ∷ 2 ∷ 8 ∷ 1 ∷ [])
     ∷ Ok (9, 3 ∷ []) ∷ []
-bridged-uart = refl
+bridge_answer-uart = refl
 
 -- protocols, types and payloads of answers, and what they say
 abbrev pub answer_rows : List (ℕ × ℕ × List ℕ × Reading)

@@ -8,11 +8,11 @@ use Rattle.gb_base.specs.declared.event.Kind.{Kind}
 use Rattle.gb_base.specs.declared.event.Kind.TheVariants as kind
 use Rattle.gb_base.specs.declared.served.OwnAsk.{OwnAsk}
 use Rattle.gb_base.specs.declared.served.Served.{Served}
-use Rattle.gb_formats.specs.Bridges.{bridged}
+use Rattle.gb_formats.specs.Bridges.{bridge_answer}
 use Rattle.gb_formats.specs.I2cDevice.{counted_from}
 use Rattle.gb_formats.specs.Kinds.{kind_manifest}
 use Rattle.gb_formats.specs.Module.{Module, ModuleStep, Stir, Stirred, module_of_kind, module_raw, module_serve, module_stir}
-use Rattle.gb_formats.specs.Results.{answered, refused, oneway_ask, own_ask}
+use Rattle.gb_formats.specs.Results.{answer_of, refusal_of, oneway_ask, own_ask}
 use Rattle.gb_formats.specs.UartDevice.{credits_spent, credits_added}
 
 -- a request: CPort, type and payload
@@ -45,8 +45,8 @@ pub kinds-raw : map (λ k. module_raw (kind_manifest k))
 kinds-raw = refl
 
 -- bytes that are no manifest make no CPort
-pub raw-refused : module_raw (3 ∷ 0 ∷ []) ≡ record { manifest = 3 ∷ 0 ∷ []; ports = [] }
-raw-refused = refl
+pub raw-refusal_of : module_raw (3 ∷ 0 ∷ []) ≡ record { manifest = 3 ∷ 0 ∷ []; ports = [] }
+raw-refusal_of = refl
 
 -- ---- the Control responder
 
@@ -56,23 +56,24 @@ pub control-answers : answers_of (module_of_kind kind.Gpio)
     ∷ (0, 0x05, 1 ∷ 0 ∷ []) ∷ (0, 0x05, 1 ∷ 0 ∷ []) ∷ (0, 0x06, 1 ∷ 0 ∷ [])
     ∷ (0, 0x0c, 1 ∷ 0 ∷ []) ∷ (0, 0x0c, 1 ∷ 0 ∷ []) ∷ (0, 0x06, 1 ∷ 0 ∷ [])
     ∷ (0, 0x05, 0 ∷ 0 ∷ []) ∷ [])
-    ≡ answered (0 ∷ 1 ∷ []) ∷ answered (0 ∷ 1 ∷ []) ∷ answered (72 ∷ 0 ∷ []) ∷ refused 0x04
-    ∷ refused 0x06 ∷ refused 0x08 ∷ refused 0x06 ∷ refused 0x06
-    ∷ answered [] ∷ refused 0x06 ∷ refused 0x06
-    ∷ answered [] ∷ refused 0x06 ∷ answered []
-    ∷ refused 0x08 ∷ []
+    ≡ answer_of (0 ∷ 1 ∷ []) ∷ answer_of (0 ∷ 1 ∷ []) ∷ answer_of (72 ∷ 0 ∷ []) ∷ refusal_of 0x04
+    ∷ refusal_of 0x06 ∷ refusal_of 0x08 ∷ refusal_of 0x06 ∷ refusal_of 0x06
+    ∷ answer_of [] ∷ refusal_of 0x06 ∷ refusal_of 0x06
+    ∷ answer_of [] ∷ refusal_of 0x06 ∷ answer_of []
+    ∷ refusal_of 0x08 ∷ []
 control-answers = refl
 
 pub control-manifest : (served_by (module_of_kind kind.Bridge) (0, 0x04, [])).served
-    ≡ answered (kind_manifest kind.Bridge)
+    ≡ answer_of (kind_manifest kind.Bridge)
 control-manifest = refl
 
 -- ---- an I2C transfer
 
 -- `transfer w:50:fe r:50:4`
-pub i2c-bridged : bridged 0x03 (ask.I2cTransfer (i2c.Put 0x50 (0xfe ∷ []) ∷ i2c.Get 0x50 4 ∷ []))
+pub i2c-bridge_answer : bridge_answer 0x03
+    (ask.I2cTransfer (i2c.Put 0x50 (0xfe ∷ []) ∷ i2c.Get 0x50 4 ∷ []))
     ≡ Ok (0x05, 2 ∷ 0 ∷ 0x50 ∷ 0 ∷ 0 ∷ 0 ∷ 1 ∷ 0 ∷ 0x50 ∷ 0 ∷ 1 ∷ 0 ∷ 4 ∷ 0 ∷ 0xfe ∷ [])
-i2c-bridged = refl
+i2c-bridge_answer = refl
 
 -- the same at address 51; a write of several bytes and what is read after it; refusals
 pub i2c-answers : answers_of (connected kind.I2c)
@@ -92,16 +93,16 @@ pub i2c-answers : answers_of (connected kind.I2c)
     ∷ (1, 0x05, 0 ∷ [])
     ∷ (1, 0x03, [])
     ∷ [])
-    ≡ answered (1 ∷ 0 ∷ 0 ∷ 0 ∷ [])
-    ∷ answered (0xfe ∷ 0xff ∷ 0 ∷ 1 ∷ [])
-    ∷ refused 0x08
-    ∷ answered []
-    ∷ answered (0xaa ∷ 0xbb ∷ 1 ∷ [])
-    ∷ answered (2 ∷ [])
-    ∷ refused 0x06
-    ∷ refused 0x05
-    ∷ refused 0x06
-    ∷ refused 0x04
+    ≡ answer_of (1 ∷ 0 ∷ 0 ∷ 0 ∷ [])
+    ∷ answer_of (0xfe ∷ 0xff ∷ 0 ∷ 1 ∷ [])
+    ∷ refusal_of 0x08
+    ∷ answer_of []
+    ∷ answer_of (0xaa ∷ 0xbb ∷ 1 ∷ [])
+    ∷ answer_of (2 ∷ [])
+    ∷ refusal_of 0x06
+    ∷ refusal_of 0x05
+    ∷ refusal_of 0x06
+    ∷ refusal_of 0x04
     ∷ []
 unfolding counted_from
 i2c-answers = refl
@@ -140,7 +141,7 @@ after_stir None = module_raw []
 pub level-stays : answers_of
     (after_stir (module_stir (module_of_kind kind.Gpio) 1 (Stir.Level 3 1)))
     ((0, 0x05, 1 ∷ 0 ∷ []) ∷ (1, 0x03, 3 ∷ []) ∷ (1, 0x08, 3 ∷ []) ∷ (1, 0x08, 2 ∷ []) ∷ [])
-    ≡ answered [] ∷ answered [] ∷ answered (1 ∷ []) ∷ refused 0x06 ∷ []
+    ≡ answer_of [] ∷ answer_of [] ∷ answer_of (1 ∷ []) ∷ refusal_of 0x06 ∷ []
 level-stays = refl
 
 -- requests at lines, in order
@@ -152,13 +153,13 @@ pub gpio-answers : answers_of (connected kind.Gpio)
     ∷ (1, 0x0b, 3 ∷ 5 ∷ []) ∷ (1, 0x0b, 3 ∷ 8 ∷ []) ∷ (1, 0x0c, 3 ∷ []) ∷ (1, 0x0d, 3 ∷ [])
     ∷ (1, 0x04, 3 ∷ []) ∷ (1, 0x04, 3 ∷ []) ∷ (1, 0x0c, 3 ∷ []) ∷ (1, 0x03, 8 ∷ [])
     ∷ (1, 0x09, 8 ∷ 7 ∷ []) ∷ (1, 0x03, []) ∷ (1, 0x0e, 3 ∷ []) ∷ (1, 0x01, []) ∷ [])
-    ≡ answered (7 ∷ []) ∷ refused 0x06 ∷ answered [] ∷ answered (1 ∷ [])
-    ∷ refused 0x06 ∷ refused 0x06 ∷ answered [] ∷ answered (0 ∷ [])
-    ∷ answered (1 ∷ []) ∷ answered [] ∷ answered (0 ∷ []) ∷ refused 0x06
-    ∷ answered [] ∷ answered (0 ∷ []) ∷ answered []
-    ∷ refused 0x06 ∷ answered [] ∷ answered [] ∷ answered []
-    ∷ answered [] ∷ answered [] ∷ refused 0x06 ∷ refused 0x08
-    ∷ refused 0x08 ∷ refused 0x06 ∷ refused 0x04 ∷ refused 0x04 ∷ []
+    ≡ answer_of (7 ∷ []) ∷ refusal_of 0x06 ∷ answer_of [] ∷ answer_of (1 ∷ [])
+    ∷ refusal_of 0x06 ∷ refusal_of 0x06 ∷ answer_of [] ∷ answer_of (0 ∷ [])
+    ∷ answer_of (1 ∷ []) ∷ answer_of [] ∷ answer_of (0 ∷ []) ∷ refusal_of 0x06
+    ∷ answer_of [] ∷ answer_of (0 ∷ []) ∷ answer_of []
+    ∷ refusal_of 0x06 ∷ answer_of [] ∷ answer_of [] ∷ answer_of []
+    ∷ answer_of [] ∷ answer_of [] ∷ refusal_of 0x06 ∷ refusal_of 0x08
+    ∷ refusal_of 0x08 ∷ refusal_of 0x06 ∷ refusal_of 0x04 ∷ refusal_of 0x04 ∷ []
 gpio-answers = refl
 
 -- ---- an SPI transfer
@@ -171,9 +172,10 @@ spi_bytes =
     ∷ 0x40 ∷ 0x42 ∷ 0x0f ∷ 0 ∷ 2 ∷ 0 ∷ 0 ∷ 0 ∷ 0 ∷ 0 ∷ 0 ∷ 8 ∷ 1
     ∷ 1 ∷ 2 ∷ []
 
-pub spi-bridged : bridged 0x0b (ask.SpiTransfer 0 0 (spi.Both (1 ∷ 2 ∷ []) ∷ spi.Get 2 ∷ []))
+pub spi-bridge_answer : bridge_answer 0x0b
+    (ask.SpiTransfer 0 0 (spi.Both (1 ∷ 2 ∷ []) ∷ spi.Get 2 ∷ []))
     ≡ Ok (0x04, spi_bytes)
-spi-bridged = refl
+spi-bridge_answer = refl
 
 -- an entry that reads two bytes
 abbrev pub read_two : ℕ → ℕ → List ℕ
@@ -194,24 +196,25 @@ pub spi-answers : answers_of (connected kind.Spi)
     ∷ (1, 0x03, 1 ∷ [])
     ∷ (1, 0x05, [])
     ∷ [])
-    ≡ answered (0 ∷ 0 ∷ [])
-    ∷ answered (1 ∷ 2 ∷ 2 ∷ 2 ∷ [])
-    ∷ answered (2 ∷ 2 ∷ [])
-    ∷ answered []
-    ∷ refused 0x08
-    ∷ refused 0x06
-    ∷ refused 0x06
-    ∷ refused 0x06
-    ∷ refused 0x05
-    ∷ answered (0x80 ∷ 0 ∷ 0 ∷ 0 ∷ 0xe8 ∷ 3 ∷ 0 ∷ 0 ∷ 0x40 ∷ 0x42 ∷ 0x0f ∷ 0 ∷ 3 ∷ 0 ∷ 0 ∷ 0
+    ≡ answer_of (0 ∷ 0 ∷ [])
+    ∷ answer_of (1 ∷ 2 ∷ 2 ∷ 2 ∷ [])
+    ∷ answer_of (2 ∷ 2 ∷ [])
+    ∷ answer_of []
+    ∷ refusal_of 0x08
+    ∷ refusal_of 0x06
+    ∷ refusal_of 0x06
+    ∷ refusal_of 0x06
+    ∷ refusal_of 0x05
+    ∷ answer_of (0x80 ∷ 0 ∷ 0 ∷ 0 ∷ 0xe8 ∷ 3 ∷ 0 ∷ 0 ∷ 0x40 ∷ 0x42 ∷ 0x0f ∷ 0 ∷ 3 ∷ 0 ∷ 0 ∷ 0
     ∷ 1 ∷ [])
-    ∷ refused 0x08
-    ∷ refused 0x04
+    ∷ refusal_of 0x08
+    ∷ refusal_of 0x04
     ∷ []
 spi-answers = refl
 
 pub spi-device : (served_by (connected kind.Spi) (1, 0x03, 0 ∷ [])).served
-    ≡ answered (0 ∷ 0 ∷ 8 ∷ 0x40 ∷ 0x42 ∷ 0x0f ∷ 0 ∷ 0 ∷ 0x65 ∷ 0x63 ∷ 0x68 ∷ 0x6f ∷ replicate 28 0)
+    ≡ answer_of (0 ∷ 0 ∷ 8 ∷ 0x40 ∷ 0x42 ∷ 0x0f ∷ 0 ∷ 0 ∷ 0x65 ∷ 0x63 ∷ 0x68 ∷ 0x6f
+    ∷ replicate 28 0)
 spi-device = refl
 
 -- ---- a UART
@@ -231,16 +234,17 @@ pub uart-answers : answers_of (connected kind.Uart)
       payload = [];
       asks = own_ask 0x03 (2 ∷ 0 ∷ 0 ∷ 0xab ∷ 0xcd ∷ [])
           ∷ own_ask 0x08 (2 ∷ 0 ∷ []) ∷ [];
-    } ∷ answered []
-    ∷ answered [] ∷ refused 0x06 ∷ refused 0x06 ∷ refused 0x06 ∷ refused 0x06 ∷ refused 0x06
-    ∷ answered [] ∷ refused 0x06 ∷ answered [] ∷ refused 0x06
-    ∷ answered [] ∷ refused 0x06 ∷ refused 0x04 ∷ refused 0x04 ∷ refused 0x04
-    ∷ answered [] ∷ answered [] ∷ []
+    } ∷ answer_of []
+    ∷ answer_of [] ∷ refusal_of 0x06 ∷ refusal_of 0x06 ∷ refusal_of 0x06 ∷ refusal_of 0x06
+    ∷ refusal_of 0x06
+    ∷ answer_of [] ∷ refusal_of 0x06 ∷ answer_of [] ∷ refusal_of 0x06
+    ∷ answer_of [] ∷ refusal_of 0x06 ∷ refusal_of 0x04 ∷ refusal_of 0x04 ∷ refusal_of 0x04
+    ∷ answer_of [] ∷ answer_of [] ∷ []
 uart-answers = refl
 
 -- a SEND_DATA of 2,038 bytes
 pub uart-overflow : (served_by (connected kind.Uart) (1, 0x02, 0xf6 ∷ 7 ∷ replicate 2038 0)).served
-    ≡ refused 0x05
+    ≡ refusal_of 0x05
 uart-overflow = refl
 
 pub serial-told : asks_at (connected kind.Uart) 1 (Stir.Serial 5)

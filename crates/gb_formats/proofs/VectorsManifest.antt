@@ -1,16 +1,16 @@
 -- Manifests: the kinds' bytes, what other bytes are refused for, and the dump.
-use Rattle.std.proofs.Common.{◌≡◌, ℕ, ◌+◌, List, [], ◌∷◌, refl}
+use Rattle.std.proofs.Common.{◌≡◌, ℕ, ◌+◌, List, [], ◌∷◌, refl, arith}
 use Rattle.std.specs.Prelude.{◌/◌, ◌%◌, Option, Some, None, Result, Ok, Err, option_and_then, replicate, ◌++◌, map, option_map, length, slice_set, take, codes}
 use Rattle.std.specs.Fmt.{digits}
 use Rattle.hex.specs.Hex.{encode_with}
 use Rattle.gb_base.specs.declared.event.Kind.TheVariants as kind
 use Rattle.gb_base.specs.declared.fault.Reason.TheVariants as reason
-use Rattle.gb_formats.specs.Descriptors.{Descriptor}
+use Rattle.gb_formats.specs.Descriptors.{Descriptor, IsDescriptor}
 use Rattle.gb_formats.specs.Dump.{dump_text, string_text, check_text, refused_text}
 use Rattle.gb_formats.specs.Kinds.{kind_manifest, string_of, bundle_of, cport_of}
-use Rattle.gb_formats.specs.Manifest.{Manifest, checked, refusal, refused, cport}
+use Rattle.gb_formats.specs.Manifest.{Manifest, IsManifest, check_answer, refusal, refusal_at, cport}
 use Rattle.gb_formats.specs.ManifestRules.{Refused}
-use Rattle.gb_formats.specs.ManifestSpec.{ManifestSpec, written, WriteFault}
+use Rattle.gb_formats.specs.ManifestSpec.{ManifestSpec, write_answer, WriteFault}
 
 -- the manifest of the gpio kind, 72 bytes
 abbrev pub gpio_bytes : List ℕ
@@ -46,7 +46,7 @@ pub kinds-length : map (λ k. length (kind_manifest k)) (kind.I2c ∷ kind.Spi �
 kinds-length = refl
 
 -- the descriptors of the bridge manifest
-pub bridge-checked : checked bridge_bytes ≡ Ok (record {
+pub bridge-check_answer : check_answer bridge_bytes ≡ Ok (record {
   minor = 1;
   size = 96;
   descriptors =
@@ -62,40 +62,64 @@ pub bridge-checked : checked bridge_bytes ≡ Ok (record {
       ∷ Descriptor.Cport 4 1 4
       ∷ [];
 })
-bridge-checked = refl
+bridge-check_answer = refl
+
+-- a manifest of an interface alone
+pub interface-alone : IsManifest (12 ∷ 0 ∷ 0 ∷ 1 ∷ 8 ∷ 0 ∷ 1 ∷ 9 ∷ 0 ∷ 0 ∷ 7 ∷ 5 ∷ [])
+    (record { minor = 1; size = 12; descriptors = Descriptor.Interface 0 0 7 ∷ [] })
+interface-alone = record {
+  rest = 8 ∷ 0 ∷ 1 ∷ 9 ∷ 0 ∷ 0 ∷ 7 ∷ 5 ∷ [];
+  placed = record { at = 4; descriptor = Descriptor.Interface 0 0 7 } ∷ [];
+  spelt = refl;
+  size = refl;
+  fits = omega arith;
+  descriptors = (8 ∷ 0 ∷ 1 ∷ 9 ∷ 0 ∷ 0 ∷ 7 ∷ 5 ∷ [], [], refl, refl, alone, refl);
+  listed = refl;
+  ruled = refl;
+}
+  where
+    alone : IsDescriptor (8 ∷ 0 ∷ 1 ∷ 9 ∷ 0 ∷ 0 ∷ 7 ∷ 5 ∷ []) (Descriptor.Interface 0 0 7)
+    alone = record {
+      pad = 9;
+      rest = 5 ∷ [];
+      spelt = refl;
+      fits = omega arith;
+      fours = refl;
+      least = omega arith;
+    }
 
 -- ---- the gpio manifest, changed
 
 -- a table of bytes and what they are refused for
 abbrev pub changed : List (List ℕ × Refused)
 changed =
-    (take 71 gpio_bytes, refused 0 reason.Size)
-    ∷ (slice_set gpio_bytes 0 73, refused 0 reason.Size)
-    ∷ (slice_set gpio_bytes 4 6, refused 4 reason.DescriptorSize)
-    ∷ (slice_set gpio_bytes 6 5, refused 6 reason.DescriptorType)
-    ∷ (slice_set gpio_bytes 2 1, refused 2 reason.Version)
-    ∷ (slice_set gpio_bytes 16 11, refused 12 reason.DescriptorShort)
-    ∷ (slice_set gpio_bytes 42 1, refused 40 reason.SecondInterface)
-    ∷ ([], refused 0 reason.ShortHeader)
-    ∷ (3 ∷ 0 ∷ [], refused 2 reason.ShortHeader)
-    ∷ (slice_set (gpio_bytes ++ 0 ∷ []) 0 73, refused 72 reason.ShortDescriptor)
-    ∷ (slice_set gpio_bytes 64 12, refused 64 reason.DescriptorSize)
-    ∷ (slice_set gpio_bytes 64 4, refused 64 reason.DescriptorShort)
-    ∷ (slice_set gpio_bytes 6 3, refused 72 reason.NoInterface)
-    ∷ (slice_set gpio_bytes 17 0, refused 12 reason.StringId)
-    ∷ (slice_set gpio_bytes 33 1, refused 28 reason.StringTwice)
-    ∷ (slice_set gpio_bytes 52 0, refused 48 reason.BundleTwice)
-    ∷ (slice_set gpio_bytes 69 16, refused 64 reason.CportId)
-    ∷ (slice_set gpio_bytes 68 0, refused 64 reason.CportTwice)
-    ∷ (slice_set gpio_bytes 70 7, refused 64 reason.CportBundle)
-    ∷ (slice_set gpio_bytes 62 1, refused 56 reason.ControlCport)
-    ∷ (slice_set gpio_bytes 63 2, refused 56 reason.ControlCport)
-    ∷ (slice_set gpio_bytes 8 3, refused 4 reason.VendorString)
-    ∷ (slice_set gpio_bytes 9 3, refused 4 reason.ProductString)
+    (take 71 gpio_bytes, refusal_at 0 reason.Size)
+    ∷ (slice_set gpio_bytes 0 73, refusal_at 0 reason.Size)
+    ∷ (slice_set gpio_bytes 4 6, refusal_at 4 reason.DescriptorSize)
+    ∷ (slice_set gpio_bytes 6 5, refusal_at 6 reason.DescriptorType)
+    ∷ (slice_set gpio_bytes 2 1, refusal_at 2 reason.Version)
+    ∷ (slice_set gpio_bytes 16 11, refusal_at 12 reason.DescriptorShort)
+    ∷ (slice_set gpio_bytes 42 1, refusal_at 40 reason.SecondInterface)
+    ∷ ([], refusal_at 0 reason.ShortHeader)
+    ∷ (3 ∷ 0 ∷ [], refusal_at 2 reason.ShortHeader)
+    ∷ (slice_set (gpio_bytes ++ 0 ∷ []) 0 73, refusal_at 72 reason.ShortDescriptor)
+    ∷ (slice_set gpio_bytes 64 12, refusal_at 64 reason.DescriptorSize)
+    ∷ (slice_set gpio_bytes 64 4, refusal_at 64 reason.DescriptorShort)
+    ∷ (slice_set gpio_bytes 6 3, refusal_at 72 reason.NoInterface)
+    ∷ (slice_set gpio_bytes 17 0, refusal_at 12 reason.StringId)
+    ∷ (slice_set gpio_bytes 33 1, refusal_at 28 reason.StringTwice)
+    ∷ (slice_set gpio_bytes 52 0, refusal_at 48 reason.BundleTwice)
+    ∷ (slice_set gpio_bytes 69 16, refusal_at 64 reason.CportId)
+    ∷ (slice_set gpio_bytes 68 0, refusal_at 64 reason.CportTwice)
+    ∷ (slice_set gpio_bytes 70 7, refusal_at 64 reason.CportBundle)
+    ∷ (slice_set gpio_bytes 62 1, refusal_at 56 reason.ControlCport)
+    ∷ (slice_set gpio_bytes 63 2, refusal_at 56 reason.ControlCport)
+    ∷ (slice_set gpio_bytes 8 3, refusal_at 4 reason.VendorString)
+    ∷ (slice_set gpio_bytes 9 3, refusal_at 4 reason.ProductString)
     ∷ []
 
-pub changed-refused : map (λ row. refusal row.0) changed ≡ map (λ row. Some row.1) changed
-changed-refused = refl
+pub changed-refusal_at : map (λ row. refusal row.0) changed ≡ map (λ row. Some row.1) changed
+changed-refusal_at = refl
 
 -- changes that leave a manifest
 abbrev pub accepted : List (List ℕ)
@@ -126,8 +150,8 @@ pub strings-accepted : map refusal
     ∷ with_string (8 ∷ 0 ∷ 2 ∷ 0 ∷ 3 ∷ 5 ∷ 97 ∷ 98 ∷ [])
     ∷ with_string (4 ∷ 1 ∷ 2 ∷ 0 ∷ 255 ∷ 5 ∷ replicate 254 97)
     ∷ [])
-    ≡ None ∷ None ∷ None ∷ None ∷ Some (refused 12 reason.DescriptorShort)
-    ∷ Some (refused 12 reason.DescriptorShort) ∷ []
+    ≡ None ∷ None ∷ None ∷ None ∷ Some (refusal_at 12 reason.DescriptorShort)
+    ∷ Some (refusal_at 12 reason.DescriptorShort) ∷ []
 strings-accepted = refl
 
 -- ---- writing
@@ -144,24 +168,25 @@ gpio_spec bundle = record {
   cports = cport_of 0 0 0 ∷ cport_of 1 bundle 2 ∷ [];
 }
 
-pub gpio-written : written (gpio_spec 1) ≡ Ok gpio_bytes
-gpio-written = refl
+pub gpio-write_answer : write_answer (gpio_spec 1) ≡ Ok gpio_bytes
+gpio-write_answer = refl
 
-pub bundle-missing : written (gpio_spec 7) ≡ Err (WriteFault.Rule reason.CportBundle)
+pub bundle-missing : write_answer (gpio_spec 7) ≡ Err (WriteFault.Rule reason.CportBundle)
 bundle-missing = refl
 
 -- a string that is too long comes before a broken rule
-pub string-long : written (record (gpio_spec 7) { strings = string_of 9 (replicate 256 97) ∷ [] })
+pub string-long : write_answer
+    (record (gpio_spec 7) { strings = string_of 9 (replicate 256 97) ∷ [] })
     ≡ Err (WriteFault.StringLong 9)
 string-long = refl
 
 -- ---- CPorts and texts
 
-pub cport-found : option_and_then (λ m. cport m 1) (ok_of (checked gpio_bytes))
+pub cport-found : option_and_then (λ m. cport m 1) (ok_of (check_answer gpio_bytes))
     ≡ Some (record { bundle = 1; protocol = 2 })
 cport-found = refl
 
-pub cport-missing : option_and_then (λ m. cport m 2) (ok_of (checked gpio_bytes)) ≡ None
+pub cport-missing : option_and_then (λ m. cport m 2) (ok_of (check_answer gpio_bytes)) ≡ None
 cport-missing = refl
 
 -- lines of a text
@@ -170,7 +195,7 @@ text_of [] = []
 text_of (line ∷ more) = line ++ 10 ∷ text_of more
 
 -- the eleven lines of the bridge manifest's dump
-pub bridge-dump : option_map dump_text (ok_of (checked bridge_bytes)) ≡ Some (text_of (
+pub bridge-dump : option_map dump_text (ok_of (check_answer bridge_bytes)) ≡ Some (text_of (
     codes "manifest version 0.1 size 96"
     ∷ codes "interface vendor 1 product 2 features 00"
     ∷ codes "string 1 \"Greybus\""
@@ -191,12 +216,12 @@ pub string-dump : string_text (34 ∷ 92 ∷ 31 ∷ 32 ∷ 126 ∷ 127 ∷ 255 �
 unfolding encode_with
 string-dump = refl
 
-pub check-text : option_map check_text (ok_of (checked bridge_bytes))
+pub check-text : option_map check_text (ok_of (check_answer bridge_bytes))
     ≡ Some (codes "manifest ok 96" ++ 10 ∷ [])
 unfolding digits
 check-text = refl
 
-pub refused-text : refused_text (refused 12 reason.DescriptorShort)
+pub refused-text : refused_text (refusal_at 12 reason.DescriptorShort)
     ≡ codes "refused 12 descriptor short" ++ 10 ∷ []
 unfolding digits
 refused-text = refl

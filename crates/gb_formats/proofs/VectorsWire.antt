@@ -4,7 +4,7 @@ use Rattle.std.specs.Prelude.{Ok, Err, ◌++◌}
 use Rattle.gb_base.specs.declared.fault.RawFault.TheVariants as raw
 use Rattle.gb_base.specs.declared.fault.WireFault.TheVariants as wire
 use Rattle.gb_formats.specs.Message.{Message, request, response, spelling}
-use Rattle.gb_formats.specs.Wire.{Spells, IsStream, decoded, raw_message}
+use Rattle.gb_formats.specs.Wire.{Spells, IsStream, decode_answer, raw_message}
 
 -- the ping request with identifier 1
 abbrev pub ping_bytes : List ℕ
@@ -32,27 +32,30 @@ ping-spells = record {
 }
 
 -- the message and 8; too short; a size below eight; a size of nine; a result in a request
-pub decode-whole : decoded (ping_bytes ++ 0xff ∷ []) ≡ Ok (ping_message, 8)
+pub decode-whole : decode_answer (ping_bytes ++ 0xff ∷ []) ≡ Ok (ping_message, 8)
 decode-whole = refl
 
-pub decode-short : decoded (8 ∷ 0 ∷ 1 ∷ 0 ∷ 0x13 ∷ 0 ∷ 0 ∷ []) ≡ Err (wire.Short 8)
+pub decode-short : decode_answer (8 ∷ 0 ∷ 1 ∷ 0 ∷ 0x13 ∷ 0 ∷ 0 ∷ []) ≡ Err (wire.Short 8)
 decode-short = refl
 
-pub decode-below : decoded (7 ∷ 0 ∷ 1 ∷ 0 ∷ 0x13 ∷ 0 ∷ 0 ∷ 0 ∷ []) ≡ Err (wire.SizeBelowEight 7)
+pub decode-below : decode_answer (7 ∷ 0 ∷ 1 ∷ 0 ∷ 0x13 ∷ 0 ∷ 0 ∷ 0 ∷ [])
+    ≡ Err (wire.SizeBelowEight 7)
 decode-below = refl
 
-pub decode-nine : decoded (9 ∷ 0 ∷ 1 ∷ 0 ∷ 0x13 ∷ 0 ∷ 0 ∷ 0 ∷ []) ≡ Err (wire.Short 9)
+pub decode-nine : decode_answer (9 ∷ 0 ∷ 1 ∷ 0 ∷ 0x13 ∷ 0 ∷ 0 ∷ 0 ∷ []) ≡ Err (wire.Short 9)
 decode-nine = refl
 
-pub decode-result : decoded (8 ∷ 0 ∷ 1 ∷ 0 ∷ 0x13 ∷ 6 ∷ 0 ∷ 0 ∷ []) ≡ Err (wire.RequestResult 6)
+pub decode-result : decode_answer (8 ∷ 0 ∷ 1 ∷ 0 ∷ 0x13 ∷ 6 ∷ 0 ∷ 0 ∷ [])
+    ≡ Err (wire.RequestResult 6)
 decode-result = refl
 
 -- a response has any result
-pub decode-response : decoded (8 ∷ 0 ∷ 1 ∷ 0 ∷ 0x83 ∷ 6 ∷ 0 ∷ 0 ∷ []) ≡ Ok (response 1 3 6 [], 8)
+pub decode-response : decode_answer (8 ∷ 0 ∷ 1 ∷ 0 ∷ 0x83 ∷ 6 ∷ 0 ∷ 0 ∷ [])
+    ≡ Ok (response 1 3 6 [], 8)
 decode-response = refl
 
 -- the size field comes before the result
-pub decode-order : decoded (9 ∷ 0 ∷ 1 ∷ 0 ∷ 0x13 ∷ 6 ∷ 0 ∷ 0 ∷ []) ≡ Err (wire.Short 9)
+pub decode-order : decode_answer (9 ∷ 0 ∷ 1 ∷ 0 ∷ 0x13 ∷ 6 ∷ 0 ∷ 0 ∷ []) ≡ Err (wire.Short 9)
 decode-order = refl
 
 -- ---- raw bytes

@@ -144,8 +144,8 @@ pub data BridgeFault : Type 0 where
   TooLarge : BridgeFault
 
 -- The request that a bridge line becomes on a connection of this protocol: its type and payload.
-abbrev pub bridged : ℕ → BridgeAsk → Result (ℕ × List ℕ) BridgeFault
-bridged protocol what =
+abbrev pub bridge_answer : ℕ → BridgeAsk → Result (ℕ × List ℕ) BridgeFault
+bridge_answer protocol what =
     if ask_protocol what == protocol
     then (if is_too_large what then Err TooLarge else Ok (ask_kind what, ask_payload what))
     else Err Unsupported

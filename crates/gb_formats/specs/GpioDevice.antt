@@ -2,7 +2,7 @@
 use Rattle.std.specs.Prelude.{ℕ, ◌==◌, nat_le, Bool, true, false, not, ◌&&◌, ◌||◌, if◌then◌else◌, Option, Some, None, Result, Ok, Err, List, [], map, replicate, slice_get, slice_set}
 use Rattle.gb_formats.specs.GpioRecords.{GpioAsk, GpioReply, read_gpio_ask, gpio_reply_payload}
 use Rattle.gb_formats.specs.Records.{PayloadFault}
-use Rattle.gb_formats.specs.Results.{Step, tells, refuses, answered, fault_result, protocol_bad, invalid, nonexistent}
+use Rattle.gb_formats.specs.Results.{Step, tells, refuses, answer_of, fault_result, protocol_bad, invalid, nonexistent}
 
 -- A line. `input` and not out, `level` is what comes from outside.
 pub record GpioLine : Type 0 where
@@ -51,7 +51,7 @@ pub data AtLine : Type 0 where
 -- the device after a request at a line
 abbrev pub line_step : List GpioLine → ℕ → AtLine → Step (List GpioLine)
 line_step lines which (Changes l) =
-    record { device = slice_set lines which l; served = answered [] }
+    record { device = slice_set lines which l; served = answer_of [] }
 line_step lines which (Tells reply) = tells lines (gpio_reply_payload reply)
 line_step lines which (Refuses result) = refuses lines result
 
@@ -164,13 +164,13 @@ pub record Levelled : Type 0 where
   pub irq : Option ℕ
 
 -- a level that is set at a line, if there is the line
-abbrev pub levelled : List GpioLine → ℕ → ℕ → Option GpioLine → Levelled
-levelled lines which new None = record { lines = lines; irq = None }
-levelled lines which new (Some l) = record {
+abbrev pub level_step : List GpioLine → ℕ → ℕ → Option GpioLine → Levelled
+level_step lines which new None = record { lines = lines; irq = None }
+level_step lines which new (Some l) = record {
   lines = slice_set lines which (record l { level = new });
   irq = if is_irq l new then Some which else None;
 }
 
 -- A level that is set from outside.
 abbrev pub gpio_level_set : List GpioLine → ℕ → ℕ → Levelled
-gpio_level_set lines which new = levelled lines which new (slice_get lines which)
+gpio_level_set lines which new = level_step lines which new (slice_get lines which)

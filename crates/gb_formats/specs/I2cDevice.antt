@@ -27,16 +27,20 @@ i2c_address = 0x50
 abbrev pub next_place : ℕ → ℕ
 next_place place = (place + 1) % 256
 
+-- a byte is stored at the pointer, which then goes up
+abbrev pub after_byte : I2cDevice → ℕ → I2cDevice
+after_byte d b =
+    record { memory = slice_set d.memory d.pointer b; pointer = next_place d.pointer }
+
 -- each byte is stored at the pointer, which then goes up
-abbrev pub stored : I2cDevice → List ℕ → I2cDevice
-stored d [] = d
-stored d (b ∷ bs) =
-    stored (record { memory = slice_set d.memory d.pointer b; pointer = next_place d.pointer }) bs
+abbrev pub after_stored : I2cDevice → List ℕ → I2cDevice
+after_stored d [] = d
+after_stored d (b ∷ bs) = after_stored (after_byte d b) bs
 
 -- A write's first byte sets the pointer, the others are stored. An empty write does nothing.
 abbrev pub after_write : I2cDevice → List ℕ → I2cDevice
 after_write d [] = d
-after_write d (b ∷ bs) = stored (record d { pointer = b }) bs
+after_write d (b ∷ bs) = after_stored (record d { pointer = b }) bs
 
 -- so many bytes from the pointer on
 abbrev pub read_from : List ℕ → ℕ → ℕ → List ℕ
@@ -76,8 +80,8 @@ abbrev pub is_elsewhere : TransferOp → Bool
 is_elsewhere op = not (op.addr == i2c_address)
 
 -- a transfer of these ops with this data
-abbrev pub transferred : I2cDevice → List TransferOp → List ℕ → Step I2cDevice
-transferred d ops bytes =
+abbrev pub transfer_step : I2cDevice → List TransferOp → List ℕ → Step I2cDevice
+transfer_step d ops bytes =
     if list_any has_strange_flags ops then refuses d invalid
     else if list_any is_elsewhere ops then refuses d nonexistent
     else if nat_lt most_payload (sum_by read_size ops) then refuses d overflow
@@ -87,7 +91,7 @@ transferred d ops bytes =
 abbrev pub i2c_asked : I2cDevice → I2cAsk → Step I2cDevice
 i2c_asked d I2cAsk.Functionality = tells d (i2c_reply_payload (I2cReply.Functionality 1))
 i2c_asked d (I2cAsk.Transfer ops bytes) =
-    transferred d (ops_at (length ops / op_size) ops) bytes
+    transfer_step d (ops_at (length ops / op_size) ops) bytes
 
 -- a request by its payload
 abbrev pub i2c_read : I2cDevice → Result I2cAsk PayloadFault → Step I2cDevice

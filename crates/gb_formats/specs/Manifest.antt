@@ -15,12 +15,12 @@ pub record Manifest : Type 0 where
 
 -- ---- which bytes are a manifest
 
--- the bytes from a place on are descriptors in order, which fill them
-pub data AreDescriptors : ℕ → List ℕ → List Placed → Type 0 where
-  none : {at : ℕ} → AreDescriptors at [] []
-  more : {at : ℕ} {front back : List ℕ} {d : Descriptor} {ds : List Placed} → IsDescriptor front d
-      → AreDescriptors (at + length front) back ds
-      → AreDescriptors at (front ++ back) (record { at = at; descriptor = d } ∷ ds)
+-- The bytes from a place on are descriptors in order, which fill them.
+abbrev pub AreDescriptors : ℕ → List ℕ → List Placed → Type 0
+AreDescriptors at bytes [] = bytes ≡ []
+AreDescriptors at bytes (d ∷ ds) =
+    (front : List ℕ) × (back : List ℕ) × (bytes ≡ front ++ back) × (d.at ≡ at)
+    × IsDescriptor front d.descriptor × AreDescriptors (at + length front) back ds
 
 -- The bytes are their own length, major version 0, the minor version, and then descriptors in order
 -- that fill the rest and break no rule.
@@ -37,15 +37,15 @@ pub record IsManifest (bytes : List ℕ) (m : Manifest) : Type 0 where
 -- ---- the refusal of other bytes
 
 -- a refusal at a place, for a reason
-abbrev pub refused : ℕ → Reason → Refused
-refused at reason = record { at = at; reason = reason }
+abbrev pub refusal_at : ℕ → Reason → Refused
+refusal_at at reason = record { at = at; reason = reason }
 
 -- what the header breaks: fewer than four bytes, a size that isn't the length, a major above 0
 abbrev pub header_refusal : List ℕ → Option Refused
 header_refusal bytes =
-    if nat_lt (length bytes) 4 then Some (refused (length bytes) reason.ShortHeader)
-    else if not (size_at bytes == length bytes) then Some (refused 0 reason.Size)
-    else if nat_lt 0 (slice_index bytes 2) then Some (refused 2 reason.Version)
+    if nat_lt (length bytes) 4 then Some (refusal_at (length bytes) reason.ShortHeader)
+    else if not (size_at bytes == length bytes) then Some (refusal_at 0 reason.Size)
+    else if nat_lt 0 (slice_index bytes 2) then Some (refusal_at 2 reason.Version)
     else None
 
 -- a size below 4, no multiple of four, or more than is left
@@ -55,13 +55,13 @@ wrong_size size left = nat_lt size 4 || not (size % 4 == 0) || nat_lt left size
 -- what a descriptor breaks by itself, where these bytes are left from its place on
 abbrev pub descriptor_refusal : ℕ → List ℕ → Option Refused
 descriptor_refusal at bytes =
-    if nat_lt (length bytes) 4 then Some (refused at reason.ShortDescriptor)
+    if nat_lt (length bytes) 4 then Some (refusal_at at reason.ShortDescriptor)
     else if wrong_size (size_at bytes) (length bytes)
-    then Some (refused at reason.DescriptorSize)
+    then Some (refusal_at at reason.DescriptorSize)
     else if not (nat_le 1 (slice_index bytes 2) && nat_le (slice_index bytes 2) 4)
-    then Some (refused (at + 2) reason.DescriptorType)
+    then Some (refusal_at (at + 2) reason.DescriptorType)
     else if nat_lt (size_at bytes) (least_size_at bytes)
-    then Some (refused at reason.DescriptorShort)
+    then Some (refusal_at at reason.DescriptorShort)
     else None
 
 -- a descriptor in front of others
@@ -105,8 +105,8 @@ manifest_after (Some why) bytes = Err why
 manifest_after None bytes = manifest_of bytes (descriptors_from 0 4 (drop 4 bytes))
 
 -- The manifest that the bytes are, or the first step of the table that they meet, and where.
-abbrev pub checked : List ℕ → Result Manifest Refused
-checked bytes = manifest_after (header_refusal bytes) bytes
+abbrev pub check_answer : List ℕ → Result Manifest Refused
+check_answer bytes = manifest_after (header_refusal bytes) bytes
 
 -- the refusal of bytes that aren't a manifest
 abbrev pub refusal_in : Result Manifest Refused → Option Refused
@@ -115,7 +115,7 @@ refusal_in (Err why) = Some why
 
 -- Where and why the bytes aren't a manifest, if they aren't.
 abbrev pub refusal : List ℕ → Option Refused
-refusal bytes = refusal_in (checked bytes)
+refusal bytes = refusal_in (check_answer bytes)
 
 -- ---- CPorts
 

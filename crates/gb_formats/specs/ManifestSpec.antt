@@ -82,20 +82,20 @@ long_string (s ∷ ss) =
     let later = long_string ss in if nat_lt 255 (length s.bytes) then Some s.id else later
 
 -- what is written where no rule is broken
-abbrev pub written_sized : ManifestSpec → Result (List ℕ) WriteFault
-written_sized spec = if nat_lt 65535 (plain_size spec) then Err TooLong else Ok (plain spec)
+abbrev pub write_sized : ManifestSpec → Result (List ℕ) WriteFault
+write_sized spec = if nat_lt 65535 (plain_size spec) then Err TooLong else Ok (plain spec)
 
 -- what is written where no string is too long
-abbrev pub written_ruled : Option Refused → ManifestSpec → Result (List ℕ) WriteFault
-written_ruled None spec = written_sized spec
-written_ruled (Some why) spec = Err (Rule why.reason)
+abbrev pub write_unless_broken : Option Refused → ManifestSpec → Result (List ℕ) WriteFault
+write_unless_broken None spec = write_sized spec
+write_unless_broken (Some why) spec = Err (Rule why.reason)
 
 -- what is written, unless a string is too long
-abbrev pub written_unless : Option ℕ → ManifestSpec → Result (List ℕ) WriteFault
-written_unless None spec =
-    written_ruled (first_of (written_rules (placed_from 4 (spec_descriptors spec)))) spec
-written_unless (Some id) spec = Err (StringLong id)
+abbrev pub write_unless_long : Option ℕ → ManifestSpec → Result (List ℕ) WriteFault
+write_unless_long None spec =
+    write_unless_broken (first_of (written_rules (placed_from 4 (spec_descriptors spec)))) spec
+write_unless_long (Some id) spec = Err (StringLong id)
 
 -- What writing a spec answers.
-abbrev pub written : ManifestSpec → Result (List ℕ) WriteFault
-written spec = written_unless (long_string spec.strings) spec
+abbrev pub write_answer : ManifestSpec → Result (List ℕ) WriteFault
+write_answer spec = write_unless_long (long_string spec.strings) spec

@@ -8,11 +8,11 @@ use Rattle.gb_formats.specs.Descriptors.{Descriptor}
 use Rattle.gb_formats.specs.GpioDevice.{GpioLine, Levelled, first_gpio, restarted_gpio, gpio_step, gpio_level_set, irq_event}
 use Rattle.gb_formats.specs.I2cDevice.{I2cDevice, first_i2c, i2c_step}
 use Rattle.gb_formats.specs.Kinds.{kind_cports, kind_manifest}
-use Rattle.gb_formats.specs.Manifest.{Manifest, checked}
+use Rattle.gb_formats.specs.Manifest.{Manifest, check_answer}
 use Rattle.gb_formats.specs.ManifestRules.{Refused}
 use Rattle.gb_formats.specs.ManifestSpec.{CportSpec}
 use Rattle.gb_formats.specs.Records.{PayloadFault}
-use Rattle.gb_formats.specs.Results.{Step, answered, refused, oneway_ask, fault_result, protocol_bad, invalid, nonexistent}
+use Rattle.gb_formats.specs.Results.{Step, answer_of, refusal_of, oneway_ask, fault_result, protocol_bad, invalid, nonexistent}
 use Rattle.gb_formats.specs.SpiDevice.{first_spi, spi_step}
 use Rattle.gb_formats.specs.UartDevice.{uart_step, serial_told}
 
@@ -35,11 +35,11 @@ device_of protocol =
     else None
 
 -- the first state of a device, but that the levels of its lines stay
-abbrev pub restarted : Device → Device
-restarted (Gpio lines) = Gpio (restarted_gpio lines)
-restarted (I2c device) = I2c first_i2c
-restarted (Spi last) = Spi first_spi
-restarted Uart = Uart
+abbrev pub restarted_device : Device → Device
+restarted_device (Gpio lines) = Gpio (restarted_gpio lines)
+restarted_device (I2c device) = I2c first_i2c
+restarted_device (Spi last) = Spi first_spi
+restarted_device Uart = Uart
 
 -- a step of a device of one protocol as one of a device
 abbrev pub as_device : {D : Type 0} → (D → Device) → Step D → Step Device
@@ -110,7 +110,7 @@ raw_ports (Err why) = []
 
 -- A module with these bytes as its manifest.
 abbrev pub module_raw : List ℕ → Module
-module_raw bytes = record { manifest = bytes; ports = raw_ports (checked bytes) }
+module_raw bytes = record { manifest = bytes; ports = raw_ports (check_answer bytes) }
 
 -- ---- CPorts
 
@@ -130,8 +130,8 @@ with_port new (port ∷ ports) =
     if port.number == new.number then new ∷ ports else port ∷ later
 
 -- a module with one CPort changed
-abbrev pub changed : Module → ModulePort → Module
-changed m new = record m { ports = with_port new m.ports }
+abbrev pub with_changed : Module → ModulePort → Module
+with_changed m new = record m { ports = with_port new m.ports }
 
 -- the state of a CPort, off where there is no device
 abbrev pub state_of : Option ModulePort → CportState
@@ -170,7 +170,7 @@ is_quiet _ = false
 
 -- CONNECTED puts the device in its first state and the CPort on
 abbrev pub turned_on : ModulePort → ModulePort
-turned_on port = record port { state = On; device = restarted port.device }
+turned_on port = record port { state = On; device = restarted_device port.device }
 
 -- DISCONNECTING makes the CPort quiet
 abbrev pub made_quiet : ModulePort → ModulePort
@@ -181,17 +181,17 @@ abbrev pub turned_off : ModulePort → ModulePort
 turned_off port = record port { state = Off }
 
 -- a change of a CPort that is NONEXISTENT without a device, and INVALID in another state
-abbrev pub turned : Module → Option ModulePort → (CportState → Bool)
+abbrev pub turn_step : Module → Option ModulePort → (CportState → Bool)
     → (ModulePort → ModulePort) → ModuleStep
-turned m None wanted change = stays m (refused nonexistent)
-turned m (Some port) wanted change =
+turn_step m None wanted change = stays m (refusal_of nonexistent)
+turn_step m (Some port) wanted change =
     if wanted port.state
-    then record { after = changed m (change port); served = answered [] }
-    else stays m (refused invalid)
+    then record { after = with_changed m (change port); served = answer_of [] }
+    else stays m (refusal_of invalid)
 
 -- the answer of a response
 abbrev pub replies : ControlReply → Served
-replies reply = answered (control_reply_payload reply)
+replies reply = answer_of (control_reply_payload reply)
 
 -- The Control table: what each request does.
 abbrev pub control_asked : Module → ControlAsk → ModuleStep
@@ -199,14 +199,14 @@ control_asked m (ControlAsk.Version major minor) = stays m (replies (ControlRepl
 control_asked m ControlAsk.GetManifestSize =
     stays m (replies (ControlReply.GetManifestSize (length m.manifest)))
 control_asked m ControlAsk.GetManifest = stays m (replies (ControlReply.GetManifest m.manifest))
-control_asked m (ControlAsk.Connected c) = turned m (port_at m c) is_off turned_on
-control_asked m (ControlAsk.Disconnected c) = turned m (port_at m c) is_quiet turned_off
-control_asked m (ControlAsk.Disconnecting c) = turned m (port_at m c) is_on made_quiet
+control_asked m (ControlAsk.Connected c) = turn_step m (port_at m c) is_off turned_on
+control_asked m (ControlAsk.Disconnected c) = turn_step m (port_at m c) is_quiet turned_off
+control_asked m (ControlAsk.Disconnecting c) = turn_step m (port_at m c) is_on made_quiet
 
 -- a request by its payload
 abbrev pub control_read : Module → Result ControlAsk PayloadFault → ModuleStep
 control_read m (Ok ask) = control_asked m ask
-control_read m (Err fault) = stays m (refused (fault_result fault))
+control_read m (Err fault) = stays m (refusal_of (fault_result fault))
 
 -- The Control responder's step.
 abbrev pub control_step : Module → ℕ → List ℕ → ModuleStep
@@ -225,13 +225,13 @@ served_in state served = record served { asks = if_on state served.asks }
 -- the module after its device's step
 abbrev pub port_step : Module → ModulePort → Step Device → ModuleStep
 port_step m port step = record {
-  after = changed m (record port { device = step.device });
+  after = with_changed m (record port { device = step.device });
   served = served_in port.state step.served;
 }
 
 -- a request at a CPort with a device
 abbrev pub port_served : Module → Option ModulePort → ℕ → List ℕ → ModuleStep
-port_served m None kind payload = stays m (refused protocol_bad)
+port_served m None kind payload = stays m (refusal_of protocol_bad)
 port_served m (Some port) kind payload = port_step m port (device_step port.device kind payload)
 
 -- What a module does at a request to a CPort: CPort 0 is Control, the others have devices.
@@ -259,7 +259,7 @@ irq_told (Some which) = oneway_ask irq_event (which ∷ []) ∷ []
 -- a GPIO after a level was set
 abbrev pub level_stirred : Module → ModulePort → Levelled → Stirred
 level_stirred m port set = record {
-  after = changed m (record port { device = Gpio set.lines });
+  after = with_changed m (record port { device = Gpio set.lines });
   asks = if_on port.state (irq_told set.irq);
 }
 

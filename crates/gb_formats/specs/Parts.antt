@@ -1,12 +1,12 @@
 -- The parts of a script with requesters: its lines in order, each with the requester whose it is.
-use Rattle.std.specs.Prelude.{ℕ, ◌+◌, nat_le, Bool, false, if◌then◌else◌, Option, Some, None, Result, Ok, Err, List, [], ◌∷◌, length, codes}
+use Rattle.std.specs.Prelude.{ℕ, ◌+◌, nat_le, Bool, false, if◌then◌else◌, Option, Some, None, Result, Ok, Err, List, [], ◌∷◌, codes}
 use Rattle.std.specs.Str.{bytes_eq}
 use Rattle.gb_base.specs.declared.event.Event.{Event}
 use Rattle.gb_base.specs.declared.fault.LineReason.{LineReason}
 use Rattle.gb_base.specs.declared.fault.LineReason.TheVariants as bad
 use Rattle.gb_formats.specs.Grammar.{Said}
 use Rattle.gb_formats.specs.Lines.{lines}
-use Rattle.gb_formats.specs.Script.{longest_line, bad_place, said}
+use Rattle.gb_formats.specs.Script.{by_bytes, said}
 use Rattle.gb_formats.specs.WordValues.{number_word}
 use Rattle.gb_formats.specs.Words.{words}
 
@@ -59,22 +59,11 @@ said_part (Ok None) = Ok Nothing
 said_part (Ok (Some e)) = Ok (Asks e)
 said_part (Err why) = Err why
 
--- a bad byte is judged before the words
-abbrev pub unless_bad_byte : Option ℕ → Result Part LineReason → Result Part LineReason
-unless_bad_byte None part = part
-unless_bad_byte (Some place) part = Err (bad.BadByte place)
-
--- a heading, whose length comes first, then its bytes, then its words
-abbrev pub judged_heading : ℕ → List ℕ → Result Part LineReason
-judged_heading who line =
-    if nat_le (length line) longest_line
-    then unless_bad_byte (bad_place 1 line) (heading who (words line))
-    else Err bad.Long
-
 -- What a line is, behind lines of requester `who`; `built` tells which lines are read.
 abbrev pub part_of : (List ℕ → Bool) → ℕ → List ℕ → Result Part LineReason
 part_of built who line =
-    if is_heading (words line) then judged_heading who line else said_part (said built who line)
+    if is_heading (words line) then by_bytes line (heading who (words line))
+    else said_part (said built who line)
 
 -- the parts with one more line in front
 abbrev pub with_line : Asked → Parts → Parts

@@ -30,12 +30,12 @@ abbrev pub most_payload : ℕ
 most_payload = 2040
 
 -- an answer of success with this payload
-abbrev pub answered : List ℕ → Served
-answered payload = record { result = success; payload = payload; asks = [] }
+abbrev pub answer_of : List ℕ → Served
+answer_of payload = record { result = success; payload = payload; asks = [] }
 
 -- an answer of this result, with no payload
-abbrev pub refused : ℕ → Served
-refused result = record { result = result; payload = []; asks = [] }
+abbrev pub refusal_of : ℕ → Served
+refusal_of result = record { result = result; payload = []; asks = [] }
 
 -- A responder answers an unknown type with PROTOCOL_BAD, a payload that doesn't match with INVALID.
 abbrev pub fault_result : PayloadFault → ℕ
@@ -49,11 +49,11 @@ pub record Step (D : Type 0) : Type 0 where
 
 -- the device stays, and answers this payload
 abbrev pub tells : {D : Type 0} → D → List ℕ → Step D
-tells device payload = record { device = device; served = answered payload }
+tells device payload = record { device = device; served = answer_of payload }
 
 -- the device stays, and answers this result
 abbrev pub refuses : {D : Type 0} → D → ℕ → Step D
-refuses device result = record { device = device; served = refused result }
+refuses device result = record { device = device; served = refusal_of result }
 
 -- a request of the responder's own that gets no response
 abbrev pub oneway_ask : ℕ → List ℕ → OwnAsk

@@ -1,6 +1,7 @@
 -- What a line of a script says.
-use Rattle.std.specs.Prelude.{ℕ, ◌+◌, Bool, ◌&&◌, nat_le, if◌then◌else◌, Option, Some, None, Err, List, [], ◌∷◌, length}
+use Rattle.std.specs.Prelude.{ℕ, ◌+◌, Bool, ◌&&◌, nat_le, if◌then◌else◌, Option, Some, None, Result, Err, List, [], ◌∷◌, length}
 use Rattle.std.specs.List.{list_all}
+use Rattle.gb_base.specs.declared.fault.LineReason.{LineReason}
 use Rattle.gb_base.specs.declared.fault.LineReason.TheVariants as bad
 use Rattle.gb_formats.specs.Grammar.{Said, asked_for}
 use Rattle.gb_formats.specs.Words.{words}
@@ -23,17 +24,20 @@ bad_place place [] = None
 bad_place place (b ∷ bs) =
     let later = bad_place (place + 1) bs in if is_printable b then later else Some place
 
--- a bad byte is judged before the words
-abbrev pub unless_bad : Option ℕ → Said → Said
-unless_bad None said = said
-unless_bad (Some place) said = Err (bad.BadByte place)
+-- what a line is by its words, unless it has a bad byte
+abbrev pub unless_bad : {A : Type 0} → Option ℕ → Result A LineReason → Result A LineReason
+unless_bad None by_words = by_words
+unless_bad (Some place) by_words = Err (bad.BadByte place)
 
--- What a line says by the grammar: its length comes first, then its bytes, then its words.
-abbrev pub judged : ℕ → List ℕ → Said
-judged who line =
-    if nat_le (length line) longest_line
-    then unless_bad (bad_place 1 line) (asked_for who (words line))
+-- What a line is: its length comes first, then its bytes, then what it is by its words.
+abbrev pub by_bytes : {A : Type 0} → List ℕ → Result A LineReason → Result A LineReason
+by_bytes line by_words =
+    if nat_le (length line) longest_line then unless_bad (bad_place 1 line) by_words
     else Err bad.Long
+
+-- What a line says by the grammar.
+abbrev pub judged : ℕ → List ℕ → Said
+judged who line = by_bytes line (asked_for who (words line))
 
 -- What a line says to requester `who`, where only the lines that are `built` are read.
 abbrev pub said : (List ℕ → Bool) → ℕ → List ℕ → Said

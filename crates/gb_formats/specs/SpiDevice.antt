@@ -52,8 +52,8 @@ abbrev pub is_strange : TransferEntry → Bool
 is_strange entry = not (entry.bits == 8) || nat_lt 7 entry.flags
 
 -- a transfer of these entries with this data
-abbrev pub transferred : ℕ → ℕ → ℕ → List TransferEntry → List ℕ → Step ℕ
-transferred last select mode entries bytes =
+abbrev pub transfer_step : ℕ → ℕ → ℕ → List TransferEntry → List ℕ → Step ℕ
+transfer_step last select mode entries bytes =
     if nat_lt 3 mode || list_any is_strange entries then refuses last invalid
     else if nat_lt 0 select then refuses last nonexistent
     else if nat_lt most_payload (sum_by read_size entries) then refuses last overflow
@@ -65,7 +65,7 @@ spi_asked last SpiAsk.MasterConfig = tells last (spi_reply_payload master)
 spi_asked last (SpiAsk.DeviceConfig select) =
     if select == 0 then tells last (spi_reply_payload echo) else refuses last nonexistent
 spi_asked last (SpiAsk.Transfer select mode entries bytes) =
-    transferred last select mode (entries_at (length entries / entry_size) entries) bytes
+    transfer_step last select mode (entries_at (length entries / entry_size) entries) bytes
 
 -- a request by its payload
 abbrev pub spi_read : ℕ → Result SpiAsk PayloadFault → Step ℕ

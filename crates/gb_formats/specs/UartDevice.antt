@@ -3,7 +3,7 @@ use Rattle.std.specs.Prelude.{ℕ, ◌+◌, ◌-◌, ◌==◌, nat_lt, nat_le, B
 use Rattle.gb_base.specs.declared.served.OwnAsk.{OwnAsk}
 use Rattle.gb_base.specs.declared.served.Served.{Served}
 use Rattle.gb_formats.specs.Records.{PayloadFault}
-use Rattle.gb_formats.specs.Results.{answered, refused, own_ask, success, fault_result, protocol_bad, invalid, overflow}
+use Rattle.gb_formats.specs.Results.{answer_of, refusal_of, own_ask, success, fault_result, protocol_bad, invalid, overflow}
 use Rattle.gb_formats.specs.UartRecords.{UartAsk, read_uart_ask, uart_ask_kind, uart_ask_payload}
 
 -- the most bytes that one SEND_DATA may carry
@@ -15,21 +15,21 @@ abbrev pub uart_own : UartAsk → OwnAsk
 uart_own ask = own_ask (uart_ask_kind ask) (uart_ask_payload ask)
 
 -- the device sends back what it was sent, and then credits for as many bytes
-abbrev pub echoed : List ℕ → List OwnAsk
-echoed [] = []
-echoed (b ∷ bs) =
-    uart_own (UartAsk.ReceiveData 0 (b ∷ bs))
-    ∷ uart_own (UartAsk.ReceiveCredits (length (b ∷ bs))) ∷ []
+abbrev pub echo_asks : List ℕ → List OwnAsk
+echo_asks bytes =
+    if length bytes == 0 then []
+    else uart_own (UartAsk.ReceiveData 0 bytes)
+    ∷ uart_own (UartAsk.ReceiveCredits (length bytes)) ∷ []
 
 -- SEND_DATA with too many bytes is OVERFLOW
-abbrev pub sent : List ℕ → Served
-sent bytes =
-    if nat_lt most_sent (length bytes) then refused overflow
-    else record { result = success; payload = []; asks = echoed bytes }
+abbrev pub send_answer : List ℕ → Served
+send_answer bytes =
+    if nat_lt most_sent (length bytes) then refusal_of overflow
+    else record { result = success; payload = []; asks = echo_asks bytes }
 
 -- success where the values of a request are in range
 abbrev pub if_in_range : Bool → Served
-if_in_range ok = if ok then answered [] else refused invalid
+if_in_range ok = if ok then answer_of [] else refusal_of invalid
 
 -- a line coding that the device has
 abbrev pub is_coding : ℕ → ℕ → ℕ → ℕ → Bool
@@ -38,20 +38,20 @@ is_coding format parity bits flow =
 
 -- what each request does; those that only the module sends are unknown types
 abbrev pub uart_asked : UartAsk → Served
-uart_asked (UartAsk.SendData bytes) = sent bytes
-uart_asked (UartAsk.ReceiveData flags bytes) = refused protocol_bad
+uart_asked (UartAsk.SendData bytes) = send_answer bytes
+uart_asked (UartAsk.ReceiveData flags bytes) = refusal_of protocol_bad
 uart_asked (UartAsk.SetLineCoding rate format parity bits flow) =
     if_in_range (is_coding format parity bits flow)
 uart_asked (UartAsk.SetControlLineState control) = if_in_range (nat_le control 3)
 uart_asked (UartAsk.SendBreak state) = if_in_range (nat_le state 1)
-uart_asked (UartAsk.SerialState control) = refused protocol_bad
-uart_asked (UartAsk.ReceiveCredits count) = refused protocol_bad
+uart_asked (UartAsk.SerialState control) = refusal_of protocol_bad
+uart_asked (UartAsk.ReceiveCredits count) = refusal_of protocol_bad
 uart_asked (UartAsk.FlushFifos flags) = if_in_range (nat_le flags 3)
 
 -- a request by its payload
 abbrev pub uart_read : Result UartAsk PayloadFault → Served
 uart_read (Ok ask) = uart_asked ask
-uart_read (Err fault) = refused (fault_result fault)
+uart_read (Err fault) = refusal_of (fault_result fault)
 
 -- a type that only the module sends: RECEIVE_DATA, SERIAL_STATE and RECEIVE_CREDITS
 abbrev pub is_uart_own : ℕ → Bool
@@ -60,7 +60,7 @@ is_uart_own kind = kind == 0x03 || kind == 0x07 || kind == 0x08
 -- The UART device's step, which changes nothing in the device.
 abbrev pub uart_step : ℕ → List ℕ → Served
 uart_step kind payload =
-    if is_uart_own kind then refused protocol_bad else uart_read (read_uart_ask kind payload)
+    if is_uart_own kind then refusal_of protocol_bad else uart_read (read_uart_ask kind payload)
 
 -- a serial state that is told
 abbrev pub serial_told : ℕ → OwnAsk

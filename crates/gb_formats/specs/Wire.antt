@@ -62,8 +62,8 @@ abbrev pub is_wrong_request : List ℕ → Bool
 is_wrong_request bytes = nat_lt (kind_field bytes) 128 && not (result_field bytes == 0)
 
 -- What decoding answers: the message at the front of the bytes and its size, or what is wrong.
-abbrev pub decoded : List ℕ → Result (Message × ℕ) WireFault
-decoded bytes =
+abbrev pub decode_answer : List ℕ → Result (Message × ℕ) WireFault
+decode_answer bytes =
     if nat_lt (length bytes) header_size then Err (wire.Short header_size)
     else if nat_lt (size_field bytes) header_size
     then Err (wire.SizeBelowEight (size_field bytes))
@@ -78,7 +78,7 @@ alone count (Ok (m, size)) = if count == size then Ok m else Err (raw.Extra (cou
 
 -- What raw bytes are: one whole message, or why not.
 abbrev pub raw_message : List ℕ → Result Message RawFault
-raw_message bytes = alone (length bytes) (decoded bytes)
+raw_message bytes = alone (length bytes) (decode_answer bytes)
 
 -- ---- many messages
 

@@ -87,11 +87,13 @@ abbrev pub decoded_bytes : Result (List ℕ) FromHexError → Option (List ℕ)
 decoded_bytes (Ok bytes) = Some bytes
 decoded_bytes (Err fault) = None
 
+-- the bytes of an even number of hex digits, at least two, in either case
+abbrev pub hex_digits : List ℕ → Option (List ℕ)
+hex_digits w = if nat_lt 0 (length w) then decoded_bytes (decode_of w) else None
+
 -- HEX: an even number of hex digits, at least two, in either case; or `-` for no bytes
 abbrev pub hex_word : List ℕ → Option (List ℕ)
-hex_word [] = None
-hex_word (b ∷ bs) =
-    if bytes_eq (b ∷ bs) (codes "-") then Some [] else decoded_bytes (decode_of (b ∷ bs))
+hex_word w = if bytes_eq w (codes "-") then Some [] else hex_digits w
 
 -- one byte below 80
 abbrev pub low_byte : List ℕ → Option ℕ
