@@ -1,4 +1,7 @@
 pub mod Forms
+pub mod JudgedValid
+pub mod SaidValid
+pub mod SaidValidBridges
 pub mod VectorsBadLines
 pub mod VectorsBridges
 pub mod VectorsDevices

@@ -184,3 +184,9 @@ bridge_lines = (
 pub bridge_lines-said : map (λ row. judged 0 row.0) bridge_lines ≡ map (λ row. row.1) bridge_lines
 unfolding decode_pairs
 bridge_lines-said = refl
+
+-- names are of the requester whose line it is
+pub requester-said : judged 3 (codes "copy @x @y")
+    ≡ Ok (Some (event.Copy (record { who = 3; word = codes "x" })
+    (record { who = 3; word = codes "y" })))
+requester-said = refl
