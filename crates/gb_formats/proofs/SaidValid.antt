@@ -134,7 +134,8 @@ if-valid false x y h k = k
 
 -- ---- forms of the bus
 
-pub of_intf-valid : (make : ℕ → Event) (ws : List (List ℕ)) → ((i : ℕ) → IsIntf i → IsValid (make i))
+pub of_intf-valid : (make : ℕ → Event) (ws : List (List ℕ))
+    → ((i : ℕ) → IsIntf i → IsValid (make i))
     → SaysValid (of_intf make ws)
 of_intf-valid make ws h =
     next_number-valid 2 31 2 ws (λ i ws. at_end 3 ws (make i))
