@@ -1,5 +1,6 @@
 pub mod Forms
 pub mod JudgedValid
+pub mod MadeValid
 pub mod SaidValid
 pub mod SaidValidBridges
 pub mod VectorsBadLines
