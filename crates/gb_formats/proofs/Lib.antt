@@ -1,0 +1,16 @@
+pub mod Forms
+pub mod JudgedValid
+pub mod MadeValid
+pub mod SaidValid
+pub mod SaidValidBridges
+pub mod VectorsBadLines
+pub mod VectorsBridges
+pub mod VectorsDevices
+pub mod VectorsForms
+pub mod VectorsGpioI2cRecords
+pub mod VectorsManifest
+pub mod VectorsParts
+pub mod VectorsRecords
+pub mod VectorsSpiUartRecords
+pub mod VectorsTexts
+pub mod VectorsWire

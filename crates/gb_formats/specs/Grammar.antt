@@ -1,28 +1,20 @@
 -- The script grammar: what the words of a line ask for.
-use Rattle.std.specs.Prelude.{ℕ, ◌==◌, Bool, ◌&&◌, if◌then◌else◌, Option, Some, None, Result, Ok, Err, List, [], ◌∷◌, drop, slice_index, codes}
+use Rattle.std.specs.Prelude.{ℕ, ◌+◌, ◌==◌, Bool, if◌then◌else◌, Some, None, Ok, Err, List, [], ◌∷◌, slice_index, codes}
 use Rattle.std.specs.Str.{bytes_eq}
-use Rattle.gb_base.specs.Name.{is_name}
 use Rattle.gb_base.specs.declared.end.End.TheVariants as end
 use Rattle.gb_base.specs.declared.event.Event.{Event}
 use Rattle.gb_base.specs.declared.event.Event.TheVariants as event
-use Rattle.gb_base.specs.declared.fault.LineReason.{LineReason}
 use Rattle.gb_base.specs.declared.fault.LineReason.TheVariants as bad
 use Rattle.gb_base.specs.declared.name.Name.{Name}
-
--- What a line says: nothing, an event, or why it is bad.
-abbrev pub Said : Type 0
-Said = Result (Option Event) LineReason
+use Rattle.gb_formats.specs.BridgeForms.{gpio_form, i2c_form, spi_form, uart_form}
+use Rattle.gb_formats.specs.Said.{next_word, next_cport, at_end}
+use Rattle.gb_formats.specs.WordValues.{name_word, intf_word, cport_word, count_word, from_one_word, hex_word, type_word, kind_word}
+pub use Rattle.gb_formats.specs.Said.{Said}
+pub use Rattle.gb_formats.specs.WordValues.{is_name_word, name_of}
 
 -- a line whose first word begins with `#` is a comment
 abbrev pub is_comment : List ℕ → Bool
 is_comment w = slice_index w 0 == 35
-
--- a name is `@` and its word
-abbrev pub is_name_word : List ℕ → Bool
-is_name_word w = slice_index w 0 == 64 && is_name (drop 1 w)
-
-abbrev pub name_of : ℕ → List ℕ → Name
-name_of who w = record { who = who; word = drop 1 w }
 
 -- a request without a stated timeout has 1,000 ms
 abbrev pub default_timeout : ℕ
@@ -36,28 +28,131 @@ ping = 19
 abbrev pub ping_event : ℕ → List ℕ → Event
 ping_event who name = event.Send (name_of who name) end.Svc ping [] default_timeout
 
+-- ---- interfaces and connections
+
+-- `insert I KIND`, or `insert I raw HEX`
+abbrev pub inserting_what : ℕ → List (List ℕ) → Said
+inserting_what i [] = Err (bad.MissingWord 3)
+inserting_what i (w ∷ ws) =
+    if bytes_eq w (codes "raw")
+    then next_word hex_word 4 ws (λ bytes ws. at_end 5 ws (event.InsertRaw i bytes))
+    else next_word kind_word 3 (w ∷ ws) (λ kind ws. at_end 4 ws (event.Insert i kind))
+
+-- `insert I` and what is inserted
+abbrev pub inserting : List (List ℕ) → Said
+inserting ws = next_word intf_word 2 ws (λ i ws. inserting_what i ws)
+
+-- a word and `I`
+abbrev pub of_intf : (ℕ → Event) → List (List ℕ) → Said
+of_intf make ws = next_word intf_word 2 ws (λ i ws. at_end 3 ws (make i))
+
+-- a word and `I C`
+abbrev pub of_cport : (ℕ → ℕ → Event) → List (List ℕ) → Said
+of_cport make ws = next_cport 2 ws (λ i c ws. at_end 4 ws (make i c))
+
+-- ---- requests
+
+-- A `send` may end with `timeout MS`, which would begin at this place.
+abbrev pub timed : ℕ → List (List ℕ) → (ℕ → Event) → Said
+timed place [] make = Ok (Some (make default_timeout))
+timed place (w ∷ ws) make =
+    if bytes_eq w (codes "timeout")
+    then next_word from_one_word (place + 1) ws (λ ms ws. at_end (place + 2) ws (make ms))
+    else Err (bad.BadWord place)
+
+-- `send @x svc ping`, or `send @x svc TYPE HEX`
+abbrev pub sending_svc : Name → List (List ℕ) → Said
+sending_svc x [] = Err (bad.MissingWord 4)
+sending_svc x (w ∷ ws) =
+    if bytes_eq w (codes "ping") then timed 5 ws (λ ms. event.Send x end.Svc ping [] ms)
+    else next_word type_word 4 (w ∷ ws) (λ kind ws. next_word hex_word 5 ws (λ payload ws.
+    timed 6 ws (λ ms. event.Send x end.Svc kind payload ms)))
+
+-- `send @x I C TYPE HEX`
+abbrev pub sending_module : Name → List (List ℕ) → Said
+sending_module x ws =
+    next_cport 3 ws (λ i c ws. next_word type_word 5 ws (λ kind ws.
+    next_word hex_word 6 ws (λ payload ws.
+    timed 7 ws (λ ms. event.Send x (end.Module i c) kind payload ms))))
+
+-- the word behind the name decides to whom
+abbrev pub sending_to : Name → List (List ℕ) → Said
+sending_to x [] = Err (bad.MissingWord 3)
+sending_to x (to ∷ ws) =
+    if bytes_eq to (codes "svc") then sending_svc x ws else sending_module x (to ∷ ws)
+
+-- `send @x` and to whom
 abbrev pub sending : ℕ → List (List ℕ) → Said
-sending who (x ∷ to ∷ what ∷ []) =
-    if is_name_word x && bytes_eq to (codes "svc") && bytes_eq what (codes "ping")
-    then Ok (Some (ping_event who x)) else Err bad.NotBuilt
-sending who ws = Err bad.NotBuilt
+sending who ws = next_word (name_word who) 2 ws (λ x ws. sending_to x ws)
 
--- `deliver svc`, `deliver ap 0`
+-- `cancel @x` and `drop @x`
+abbrev pub of_name : ℕ → (Name → Event) → List (List ℕ) → Said
+of_name who make ws = next_word (name_word who) 2 ws (λ x ws. at_end 3 ws (make x))
+
+-- `copy @x @y`
+abbrev pub copying : ℕ → List (List ℕ) → Said
+copying who ws =
+    next_word (name_word who) 2 ws (λ x ws. next_word (name_word who) 3 ws (λ y ws.
+    at_end 4 ws (event.Copy x y)))
+
+-- ---- deliveries
+
+-- `deliver svc`, `deliver ap A`, or `deliver I C`
 abbrev pub delivering : List (List ℕ) → Said
-delivering (at ∷ []) =
-    if bytes_eq at (codes "svc") then Ok (Some (event.Deliver end.Svc)) else Err bad.NotBuilt
-delivering (at ∷ a ∷ []) =
-    if bytes_eq at (codes "ap") && bytes_eq a (codes "0")
-    then Ok (Some (event.Deliver (end.Ap 0))) else Err bad.NotBuilt
-delivering ws = Err bad.NotBuilt
+delivering [] = Err (bad.MissingWord 2)
+delivering (at ∷ ws) =
+    if bytes_eq at (codes "svc") then at_end 3 ws (event.Deliver end.Svc)
+    else if bytes_eq at (codes "ap")
+    then next_word cport_word 3 ws (λ a ws. at_end 4 ws (event.Deliver (end.Ap a)))
+    else of_cport (λ i c. event.Deliver (end.Module i c)) (at ∷ ws)
 
--- by the first word
+-- `settle N`
+abbrev pub settling : List (List ℕ) → Said
+settling ws = next_word count_word 2 ws (λ n ws. at_end 3 ws (event.Settle n))
+
+-- `answer I C K`
+abbrev pub answering : List (List ℕ) → Said
+answering ws =
+    next_cport 2 ws (λ i c ws. next_word from_one_word 4 ws (λ k ws.
+    at_end 5 ws (event.Answer i c k)))
+
+-- `tick MS`
+abbrev pub ticking : List (List ℕ) → Said
+ticking ws = next_word from_one_word 2 ws (λ ms ws. at_end 3 ws (event.Tick ms))
+
+-- `inject I C HEX`
+abbrev pub injecting : List (List ℕ) → Said
+injecting ws =
+    next_cport 2 ws (λ i c ws. next_word hex_word 4 ws (λ bytes ws.
+    at_end 5 ws (event.Inject i c bytes)))
+
+-- ---- all forms
+
+-- what a line asks for by its first word
 abbrev pub by_first : ℕ → List ℕ → List (List ℕ) → Said
 by_first who w ws =
     if is_comment w then Ok None
+    else if bytes_eq w (codes "boot") then at_end 2 ws event.Boot
+    else if bytes_eq w (codes "insert") then inserting ws
+    else if bytes_eq w (codes "pull") then of_intf event.Pull ws
+    else if bytes_eq w (codes "connect") then of_cport event.Connect ws
+    else if bytes_eq w (codes "disconnect") then of_cport event.Disconnect ws
     else if bytes_eq w (codes "send") then sending who ws
     else if bytes_eq w (codes "deliver") then delivering ws
-    else Err bad.NotBuilt
+    else if bytes_eq w (codes "settle") then settling ws
+    else if bytes_eq w (codes "hold") then of_cport event.Hold ws
+    else if bytes_eq w (codes "answer") then answering ws
+    else if bytes_eq w (codes "cancel") then of_name who event.Cancel ws
+    else if bytes_eq w (codes "copy") then copying who ws
+    else if bytes_eq w (codes "drop") then of_name who event.Forget ws
+    else if bytes_eq w (codes "tick") then ticking ws
+    else if bytes_eq w (codes "inject") then injecting ws
+    else if bytes_eq w (codes "show") then at_end 2 ws event.Show
+    else if bytes_eq w (codes "gpio") then gpio_form who ws
+    else if bytes_eq w (codes "i2c") then i2c_form who ws
+    else if bytes_eq w (codes "spi") then spi_form who ws
+    else if bytes_eq w (codes "uart") then uart_form who ws
+    else Err (bad.BadWord 1)
 
 -- what the words of a line ask for; `who` is the requester
 abbrev pub asked_for : ℕ → List (List ℕ) → Said

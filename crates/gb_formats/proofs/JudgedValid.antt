@@ -1,0 +1,56 @@
+-- Whatever a line of a script says is an event that the machine may be given.
+use Rattle.std.proofs.Common.{◌≡◌, ℕ, List, [], ◌∷◌, subst}
+use Rattle.std.specs.Prelude.{Option, Some, None, Ok, nat_le, length, codes}
+use Rattle.std.specs.Str.{bytes_eq}
+use Rattle.gb_base.specs.declared.event.Event.{Event}
+use Rattle.gb_base.specs.declared.event.Event.TheVariants as event
+use Rattle.gb_formats.specs.Grammar.{Said, is_comment, by_first, asked_for}
+use Rattle.gb_formats.specs.Script.{longest_line, bad_place, unless_bad, judged}
+use Rattle.gb_formats.specs.ValidEvents.{IsValid}
+use Rattle.gb_formats.specs.Words.{words}
+use Rattle.gb_formats.proofs.SaidValid.{SaysValid, at_end-valid, if-valid, of_intf-valid, of_cport-valid, of_name-valid, inserting-valid, sending-valid, copying-valid, delivering-valid, settling-valid, answering-valid, ticking-valid, injecting-valid}
+use Rattle.gb_formats.proofs.SaidValidBridges.{gpio_form-valid, i2c_form-valid, spi_form-valid, uart_form-valid}
+
+pub by_first-valid : (who : ℕ) (w : List ℕ) (ws : List (List ℕ)) → SaysValid (by_first who w ws)
+by_first-valid who w ws =
+    if-valid (is_comment w) _ _ tt
+    (if-valid (bytes_eq w (codes "boot")) _ _ (at_end-valid 2 ws event.Boot tt)
+    (if-valid (bytes_eq w (codes "insert")) _ _ (inserting-valid ws)
+    (if-valid (bytes_eq w (codes "pull")) _ _ (of_intf-valid event.Pull ws (λ i p. p))
+    (if-valid (bytes_eq w (codes "connect")) _ _
+    (of_cport-valid event.Connect ws (λ i c p q. (p, q)))
+    (if-valid (bytes_eq w (codes "disconnect")) _ _
+    (of_cport-valid event.Disconnect ws (λ i c p q. (p, q)))
+    (if-valid (bytes_eq w (codes "send")) _ _ (sending-valid who ws)
+    (if-valid (bytes_eq w (codes "deliver")) _ _ (delivering-valid ws)
+    (if-valid (bytes_eq w (codes "settle")) _ _ (settling-valid ws)
+    (if-valid (bytes_eq w (codes "hold")) _ _ (of_cport-valid event.Hold ws (λ i c p q. (p, q)))
+    (if-valid (bytes_eq w (codes "answer")) _ _ (answering-valid ws)
+    (if-valid (bytes_eq w (codes "cancel")) _ _ (of_name-valid who event.Cancel ws (λ x p. p))
+    (if-valid (bytes_eq w (codes "copy")) _ _ (copying-valid who ws)
+    (if-valid (bytes_eq w (codes "drop")) _ _ (of_name-valid who event.Forget ws (λ x p. p))
+    (if-valid (bytes_eq w (codes "tick")) _ _ (ticking-valid ws)
+    (if-valid (bytes_eq w (codes "inject")) _ _ (injecting-valid ws)
+    (if-valid (bytes_eq w (codes "show")) _ _ (at_end-valid 2 ws event.Show tt)
+    (if-valid (bytes_eq w (codes "gpio")) _ _ (gpio_form-valid who ws)
+    (if-valid (bytes_eq w (codes "i2c")) _ _ (i2c_form-valid who ws)
+    (if-valid (bytes_eq w (codes "spi")) _ _ (spi_form-valid who ws)
+    (if-valid (bytes_eq w (codes "uart")) _ _ (uart_form-valid who ws) tt))))))))))))))))))))
+
+pub asked_for-valid : (who : ℕ) (ws : List (List ℕ)) → SaysValid (asked_for who ws)
+asked_for-valid who [] = tt
+asked_for-valid who (w ∷ ws) = by_first-valid who w ws
+
+pub judged-says_valid : (who : ℕ) (line : List ℕ) → SaysValid (judged who line)
+judged-says_valid who line =
+    if-valid (nat_le (length line) longest_line) _ _
+    (unless (bad_place 1 line) (asked_for who (words line)) (asked_for-valid who (words line)))
+    tt
+  where
+    unless : (place : Option ℕ) (said : Said) → SaysValid said → SaysValid (unless_bad place said)
+    unless None said h = h
+    unless (Some place) said h = tt
+
+-- An event that a line says is valid.
+pub judged-valid : (who : ℕ) (line : List ℕ) (e : Event) → judged who line ≡ Ok (Some e) → IsValid e
+judged-valid who line e is = subst SaysValid is (judged-says_valid who line)

@@ -1,0 +1,88 @@
+-- The parts of a script with requesters: its lines in order, each with the requester whose it is.
+use Rattle.std.specs.Prelude.{ℕ, ◌+◌, nat_le, Bool, false, if◌then◌else◌, Option, Some, None, Result, Ok, Err, List, [], ◌∷◌, codes}
+use Rattle.std.specs.Str.{bytes_eq}
+use Rattle.gb_base.specs.declared.event.Event.{Event}
+use Rattle.gb_base.specs.declared.fault.LineReason.{LineReason}
+use Rattle.gb_base.specs.declared.fault.LineReason.TheVariants as bad
+use Rattle.gb_formats.specs.Grammar.{Said}
+use Rattle.gb_formats.specs.Lines.{lines}
+use Rattle.gb_formats.specs.Script.{by_bytes, said}
+use Rattle.gb_formats.specs.WordValues.{number_word}
+use Rattle.gb_formats.specs.Words.{words}
+
+-- how many requesters a script may have, besides requester 0
+abbrev pub most_requesters : ℕ
+most_requesters = 8
+
+-- What a line is to a script with requesters.
+pub data Part : Type 0 where
+  Nothing : Part
+  Heading : ℕ → Part
+  Asks : Event → Part
+
+-- a line of a script, with its number and the requester whose it is
+pub record Asked : Type 0 where
+  pub line : ℕ
+  pub who : ℕ
+  pub event : Event
+
+-- the lines that are events up to the first bad line, and that line's number and reason
+pub record Parts : Type 0 where
+  pub asked : List Asked
+  pub bad : Option (ℕ × LineReason)
+
+-- a line whose first word is `requester` is a heading
+abbrev pub is_heading : List (List ℕ) → Bool
+is_heading [] = false
+is_heading (w ∷ ws) = bytes_eq w (codes "requester")
+
+-- the word of a heading: requesters rise by one from 1, and are at most 8
+abbrev pub heading_word : ℕ → List ℕ → Option ℕ
+heading_word who w =
+    if nat_le (who + 1) most_requesters then number_word (who + 1) (who + 1) w else None
+
+-- a word of a heading that fits or doesn't
+abbrev pub heading_meant : Option ℕ → List (List ℕ) → Result Part LineReason
+heading_meant None ws = Err (bad.BadWord 2)
+heading_meant (Some who) [] = Ok (Heading who)
+heading_meant (Some who) (w ∷ ws) = Err (bad.ExtraWord 3)
+
+-- a heading behind the lines of requester `who`, by its words
+abbrev pub heading : ℕ → List (List ℕ) → Result Part LineReason
+heading who [] = Ok Nothing
+heading who (w ∷ []) = Err (bad.MissingWord 2)
+heading who (w ∷ n ∷ ws) = heading_meant (heading_word who n) ws
+
+-- the part that a line says
+abbrev pub said_part : Said → Result Part LineReason
+said_part (Ok None) = Ok Nothing
+said_part (Ok (Some e)) = Ok (Asks e)
+said_part (Err why) = Err why
+
+-- What a line is, behind lines of requester `who`; `built` tells which lines are read.
+abbrev pub part_of : (List ℕ → Bool) → ℕ → List ℕ → Result Part LineReason
+part_of built who line =
+    if is_heading (words line) then by_bytes line (heading who (words line))
+    else said_part (said built who line)
+
+-- the parts with one more line in front
+abbrev pub with_line : Asked → Parts → Parts
+with_line asked parts = record { asked = asked ∷ parts.asked; bad = parts.bad }
+
+-- the parts where a line is this part: it has number `at`, and what follows is by its requester
+abbrev pub parts_with : ℕ → ℕ → Result Part LineReason → (ℕ → Parts) → Parts
+parts_with at who (Ok Nothing) later = later who
+parts_with at who (Ok (Heading next)) later = later next
+parts_with at who (Ok (Asks e)) later =
+    with_line (record { line = at; who = who; event = e }) (later who)
+parts_with at who (Err why) later = record { asked = []; bad = Some (at, why) }
+
+-- the parts of lines whose first has number `at` and stands behind lines of requester `who`
+abbrev pub parts_from : (List ℕ → Bool) → ℕ → ℕ → List (List ℕ) → Parts
+parts_from built at who [] = record { asked = []; bad = None }
+parts_from built at who (line ∷ more) =
+    parts_with at who (part_of built who line) (λ next. parts_from built (at + 1) next more)
+
+-- The parts of a script: lines before the first heading are requester 0's.
+abbrev pub parts : (List ℕ → Bool) → List ℕ → Parts
+parts built text = parts_from built 1 0 (lines text)

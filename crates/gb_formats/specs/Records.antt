@@ -1,0 +1,107 @@
+-- Payload records: how the bytes of a payload are the fields of a row of a protocol's table.
+use Rattle.std.specs.Prelude.{◌≡◌, ℕ, ◌==◌, min, if◌then◌else◌, Option, Some, None, Result, Ok, Err, List, [], ◌∷◌, length, drop, slice_index, sum, find}
+use Rattle.byteorder.specs.Endian.{little_bytes, little_number}
+
+-- Why a payload isn't a record of a type: the protocol hasn't the type, or payload and record part
+-- at this place. That is the least length of a front of the payload after which no record of the
+-- type can go on, and the payload's length where it is short.
+pub data PayloadFault : Type 0 where
+  UnknownKind : PayloadFault
+  Mismatch : ℕ → PayloadFault
+
+-- a field of one byte
+abbrev pub u8 : ℕ
+u8 = 1
+
+-- a field of two bytes, the lowest first
+abbrev pub u16 : ℕ
+u16 = 2
+
+-- a field of four bytes, the lowest first
+abbrev pub u32 : ℕ
+u32 = 4
+
+-- the four bytes of a number, the lowest first
+abbrev pub le32 : ℕ → List ℕ
+le32 n = little_bytes 4 n
+
+-- A row of a table: a type, the widths of its fields, and the record that the fields make.
+pub record Row (A : Type 0) : Type 0 where
+  pub kind : ℕ
+  pub widths : List ℕ
+  pub made : List ℕ → A
+
+-- a row without fields
+abbrev pub row0 : {A : Type 0} → ℕ → A → Row A
+row0 kind made = record { kind = kind; widths = []; made = λ fields. made }
+
+-- a row of one field
+abbrev pub row1 : {A : Type 0} → ℕ → ℕ → (ℕ → A) → Row A
+row1 kind a made = record { kind = kind; widths = a ∷ []; made = λ f. made (slice_index f 0) }
+
+-- a row of two fields
+abbrev pub row2 : {A : Type 0} → ℕ → ℕ → ℕ → (ℕ → ℕ → A) → Row A
+row2 kind a b made = record {
+  kind = kind;
+  widths = a ∷ b ∷ [];
+  made = λ f. made (slice_index f 0) (slice_index f 1);
+}
+
+-- a row of three fields
+abbrev pub row3 : {A : Type 0} → ℕ → ℕ → ℕ → ℕ → (ℕ → ℕ → ℕ → A) → Row A
+row3 kind a b c made = record {
+  kind = kind;
+  widths = a ∷ b ∷ c ∷ [];
+  made = λ f. made (slice_index f 0) (slice_index f 1) (slice_index f 2);
+}
+
+-- a row of four fields
+abbrev pub row4 : {A : Type 0} → ℕ → ℕ → ℕ → ℕ → ℕ → (ℕ → ℕ → ℕ → ℕ → A) → Row A
+row4 kind a b c d made = record {
+  kind = kind;
+  widths = a ∷ b ∷ c ∷ d ∷ [];
+  made = λ f. made (slice_index f 0) (slice_index f 1) (slice_index f 2) (slice_index f 3);
+}
+
+-- a row of five fields
+abbrev pub row5 : {A : Type 0} → ℕ → ℕ → ℕ → ℕ → ℕ → ℕ → (ℕ → ℕ → ℕ → ℕ → ℕ → A) → Row A
+row5 kind a b c d e made = record {
+  kind = kind;
+  widths = a ∷ b ∷ c ∷ d ∷ e ∷ [];
+  made = λ f. made (slice_index f 0) (slice_index f 1) (slice_index f 2) (slice_index f 3)
+      (slice_index f 4);
+}
+
+-- a row of six fields
+abbrev pub row6 : {A : Type 0} → ℕ → ℕ → ℕ → ℕ → ℕ → ℕ → ℕ
+    → (ℕ → ℕ → ℕ → ℕ → ℕ → ℕ → A) → Row A
+row6 kind a b c d e g made = record {
+  kind = kind;
+  widths = a ∷ b ∷ c ∷ d ∷ e ∷ g ∷ [];
+  made = λ f. made (slice_index f 0) (slice_index f 1) (slice_index f 2) (slice_index f 3)
+      (slice_index f 4) (slice_index f 5);
+}
+
+-- the numbers of these widths in a row, each with its lowest byte first
+abbrev pub fields_of : List ℕ → List ℕ → List ℕ
+fields_of [] bytes = []
+fields_of (width ∷ widths) bytes = little_number width bytes ∷ fields_of widths (drop width bytes)
+
+-- A record of so many bytes is the whole payload. A payload that is short ends where they part.
+abbrev pub whole : {A : Type 0} → ℕ → List ℕ → A → Result A PayloadFault
+whole size payload made =
+    if length payload == size then Ok made else Err (Mismatch (min (length payload) size))
+
+-- the record of a row, if there is one of the type
+abbrev pub read_row : {A : Type 0} → Option (Row A) → List ℕ → Result A PayloadFault
+read_row None payload = Err UnknownKind
+read_row (Some row) payload =
+    whole (sum row.widths) payload (row.made (fields_of row.widths payload))
+
+-- the record of a type that a payload is, by a table
+abbrev pub read_table : {A : Type 0} → List (Row A) → ℕ → List ℕ → Result A PayloadFault
+read_table rows kind payload = read_row (find (λ row. row.kind == kind) rows) payload
+
+-- The payload is exactly this record of the type, as a protocol's function reads it.
+abbrev pub IsRecord : {A : Type 0} → (ℕ → List ℕ → Result A PayloadFault) → ℕ → List ℕ → A → Type 0
+IsRecord read kind payload made = read kind payload ≡ Ok made
