@@ -1,9 +1,8 @@
 -- What the grammar says of each form, one equation for each. Crates above cite these, so that a
 -- larger grammar is proved again here alone.
-use Rattle.std.proofs.Common.{◌≡◌, ℕ, true, Ok, Some, None, List, [], ◌∷◌, codes, refl, cond, ap, ◌∙◌}
+use Rattle.std.proofs.Common.{◌≡◌, ℕ, true, Ok, Some, None, List, [], ◌∷◌, codes, refl, ◌∙◌}
 use Rattle.gb_base.specs.declared.end.End.TheVariants as end
 use Rattle.gb_base.specs.declared.event.Event.TheVariants as event
-use Rattle.gb_base.specs.declared.fault.LineReason.TheVariants as bad
 use Rattle.gb_formats.specs.Grammar.{asked_for, is_comment, is_name_word, ping_event}
 use Rattle.gb_formats.specs.Script.{is_plain, judged}
 use Rattle.gb_formats.specs.Words.{words}

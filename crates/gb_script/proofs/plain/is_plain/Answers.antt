@@ -1,8 +1,7 @@
 use Rattle.std.proofs.Common.{◌∙◌, sym, arith, rules, tests}
-use Rattle.std.proofs.lemmas.Bool.Decides.{nat_tests}
 use Rattle.std.proofs.lemmas.Iterator.{YieldsList-from_slice}
 use Rattle.std.proofs.lemmas.Iterator.Search.{all_from_yields_List}
-use Rattle.gb_formats.specs.Script.{is_plain, is_printable}
+use Rattle.gb_formats.specs.Script.{is_printable}
 use Rattle.gb_formats.proofs.Plain.{is_plain-short}
 use Rattle.gb_script.proofs.plain.is_plain.Goals as goal
 

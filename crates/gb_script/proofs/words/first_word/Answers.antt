@@ -1,5 +1,5 @@
-use Rattle.std.proofs.Common.{◌≡◌, ◌≤◌, ◌+◌, arith}
-use Rattle.gb_formats.proofs.Words.{HasRead, HasRead-byte, HasRead-space}
+use Rattle.std.proofs.Common.{arith}
+use Rattle.gb_formats.proofs.Words.{HasRead-byte, HasRead-space}
 use Rattle.gb_script.proofs.words.first_word.Goals as goal
 use Rattle.gb_script.proofs.words.first_word.Goals.{then-b-eq32+else-start-i, else-b-eq32}
 
