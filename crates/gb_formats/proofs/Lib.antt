@@ -1,6 +1,9 @@
+pub mod Ascii
 pub mod Forms
+pub mod Hex
 pub mod JudgedValid
 pub mod MadeValid
+pub mod Plain
 pub mod SaidValid
 pub mod SaidValidBridges
 pub mod VectorsBadLines
@@ -14,3 +17,4 @@ pub mod VectorsRecords
 pub mod VectorsSpiUartRecords
 pub mod VectorsTexts
 pub mod VectorsWire
+pub mod Words

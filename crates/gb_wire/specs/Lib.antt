@@ -1,1 +1,1 @@
-pub mod Message
+pub mod MessageOf

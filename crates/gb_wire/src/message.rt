@@ -1,30 +1,30 @@
-//! Operation messages and their canonical spelling.
+//! Operation messages and their spelling.
 
-ghost use Rattle.std.specs.Prelude.{◌≡◌, ◌<◌, ◌≤◌, ◌++◌, ◌↔◌, drop, length, IfOk, IsErr, OnErr};
+ghost use Rattle.std.specs.Prelude.{◌≡◌, ◌<◌, ◌≤◌, ◌↔◌, ◌++◌, length, drop, IsErr, IfOk, OnErr};
 ghost use Rattle.gb_formats.specs.Message.{message_size, spelling};
-ghost use Rattle.gb_wire.specs.Message.{message_of};
+ghost use Rattle.gb_wire.specs.MessageOf.{message_of};
 
 use byteorder::{ByteOrder, LittleEndian};
 use gb_base::NoRoom;
 
+/// How many bytes a header has.
+const HEADER: usize = 8;
+
 /// An operation message (Greybus Specification, "Operation Messages").
-#[derive(Clone, Copy)]
+#[derive(Clone, Copy, Debug)]
 pub struct Message<'a> {
-    /// The identifier, 0 in a unidirectional request, which gets no response.
+    /// The identifier, 0 in a unidirectional request.
     pub id: u16,
-    /// The type; that of a response is its request's with bit 0x80 set.
+    /// The type. From 0x80 on it is that of a response.
     pub kind: u8,
     /// The result byte, 0 in a request.
     pub result: u8,
-    /// The payload, at most 65,527 bytes.
+    /// The payload.
     pub payload: &'a [u8],
 }
 
-/// The size of a message's header in bytes.
-const HEADER: usize = 8;
-
-/// Writes the canonical spelling of a message to the front of `out`, and answers its length. `NoRoom`
-/// comes exactly where `out` is shorter, and leaves it as it was.
+/// Writes the canonical spelling of a message to the front of `out`, and answers its length.
+/// NoRoom exactly where `out` is shorter, and `out` is then unchanged.
 pub fn encode_into(m: &Message<'_>, out: &mut [u8]) -> Result<usize, NoRoom>
     requires fits { length m.now.payload.now ≤ 65527 }
     requires request { m.now.kind < 128 → m.now.result ≡ 0 }
@@ -37,8 +37,8 @@ pub fn encode_into(m: &Message<'_>, out: &mut [u8]) -> Result<usize, NoRoom>
     if out.len() < size {
         return Err(NoRoom);
     }
-    LittleEndian::write_u16(out, size as u16);
-    LittleEndian::write_u16(&mut out[2..], m.id);
+    LittleEndian::write_u16(&mut out[..2], size as u16);
+    LittleEndian::write_u16(&mut out[2..4], m.id);
     out[4] = m.kind;
     out[5] = m.result;
     out[6] = 0;

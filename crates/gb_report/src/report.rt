@@ -1,0 +1,42 @@
+//! Appends lines to the report.
+
+ghost use Rattle.std.specs.Prelude.{◌≡◌, ◌++◌, OnOk, OnErr};
+ghost use Rattle.gb_formats.specs.Texts.{entry_text, refusal_line_text};
+
+use crate::entry::line_of;
+use crate::parts::Bad;
+use gb_base::{Entry, LineReason, OutOfMemory, Text};
+use std::alloc::Global;
+
+/// Appends the text of an entry. `line` is the number of the script line; with `hex` the bytes of
+/// messages are shown. After a refusal `out` is as before.
+pub fn put(
+    alloc: Global,
+    entry: &Entry,
+    line: u32,
+    hex: bool,
+    out: &mut Text,
+) -> Result<(), OutOfMemory>
+    ensures ok { OnOk result (out.new ≡ out.old ++ entry_text line hex entry.now) }
+    ensures err { OnErr result (out.new ≡ out.old) }
+{
+    let line = line_of(alloc, entry, line, hex)?;
+    let ended = format!(in alloc; "{line}\n")?;
+    out.append(&ended)
+}
+
+/// Appends the text that names a bad line. After a refusal `out` is as before.
+pub fn put_refusal(
+    alloc: Global,
+    line: u32,
+    why: &LineReason,
+    out: &mut Text,
+) -> Result<(), OutOfMemory>
+    ensures ok { OnOk result (out.new ≡ out.old ++ refusal_line_text line why.now) }
+    ensures err { OnErr result (out.new ≡ out.old) }
+{
+    let why = Bad(*why);
+    let line = format!(in alloc; "line {line}: {why}")?;
+    let ended = format!(in alloc; "{line}\n")?;
+    out.append(&ended)
+}
