@@ -2,7 +2,7 @@
 
 ghost use Rattle.std.specs.Prelude.{◌≡◌, ◌≤◌, ◌<◌, IfOk, length};
 ghost use Rattle.gb_formats.specs.Message.{spelling};
-ghost use Rattle.gb_wire.specs.Message.{message_of};
+ghost use Rattle.gb_wire.specs.MessageOf.{message_of};
 
 use gb_base::{Bytes, OutOfMemory};
 use gb_wire::{Message, encode_into};

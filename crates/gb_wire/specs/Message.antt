@@ -1,7 +1,0 @@
--- What a message of the code is.
-use Rattle.gb_formats.specs.Message as formats
-use Rattle.gb_wire.specs.declared.message.Message.{Message}
-
--- a message, without where its payload lies in memory
-abbrev pub message_of : Message → formats.Message
-message_of m = record { id = m.id; kind = m.kind; result = m.result; payload = m.payload.now }

@@ -1,0 +1,6 @@
+pub mod Jobs
+pub mod Program
+pub mod Reading
+pub mod Runs
+pub mod Stops
+pub mod Writing

@@ -1,0 +1,71 @@
+//! Reads a whole input.
+
+ghost use Rattle.std.specs.Prelude.{◌≤◌};
+ghost use Rattle.gbus.specs.Reading.{ReadsAll};
+
+use gb_base::{Failed, OutOfMemory, Source};
+use std::alloc::{AllocError, Global};
+
+/// How many bytes an input may have.
+const LONGEST_INPUT: usize = 1_048_576;
+
+/// How many bytes one read asks for.
+const PIECE: usize = 4_096;
+
+/// An input.
+#[derive(Drop)]
+pub enum Input {
+    /// All its bytes.
+    Whole(Vec<u8>),
+    /// It has more bytes than an input may have.
+    TooLong,
+}
+
+/// Why an input isn't read.
+#[derive(Clone, Copy, Debug, PartialEq, Eq)]
+pub enum ReadStop {
+    /// The source failed.
+    Failed,
+    /// No memory was found.
+    Memory(OutOfMemory),
+}
+
+impl From<Failed> for ReadStop {
+    ghost use Rattle.std.specs.Prelude.{◌≡◌};
+    ghost use Rattle.gbus.specs.declared.input.ReadStop.TheVariants as stop;
+
+    ghost from_gives = { λ _ e. e ≡ stop.Failed };
+
+    fn from(_failed: Failed) -> ReadStop {
+        ReadStop::Failed
+    }
+}
+
+impl From<AllocError> for ReadStop {
+    ghost use Rattle.std.specs.Prelude.{◌≡◌};
+    ghost use Rattle.gbus.specs.Stops.{IsMemoryStop};
+
+    ghost from_gives = { λ _ e. IsMemoryStop e };
+
+    fn from(_refused: AllocError) -> ReadStop {
+        ReadStop::Memory(OutOfMemory)
+    }
+}
+
+/// Reads to the end of the source, or until more bytes came than an input may have.
+pub fn read_all<S: Source>(alloc: Global, source: &mut S) -> Result<Input, ReadStop>
+    ensures bytes { ReadsAll (S.left source.old) (S.left source.new) (S.faults source.old)
+        (S.faults source.new) result }
+    ensures later { S.faults source.old ≤ S.faults source.new }
+{
+    let mut bytes = Vec::new(alloc);
+    let mut piece = [0u8; PIECE];
+    while bytes.len() <= LONGEST_INPUT {
+        let n = source.read(&mut piece)?;
+        if n == 0 {
+            return Ok(Input::Whole(bytes));
+        }
+        bytes.extend_from_slice(&piece[..n])?;
+    }
+    Ok(Input::TooLong)
+}

@@ -1,0 +1,26 @@
+//! The words of the command line.
+
+ghost use Rattle.std.specs.Prelude.{◌≡◌, map, option_map};
+ghost use Rattle.std.specs.String.{string_bytes};
+ghost use Rattle.gbus.specs.Program.{job_of};
+ghost use Rattle.gbus.specs.Jobs.{job_seen};
+
+/// What the words ask for.
+#[derive(Clone, Copy, Debug, PartialEq, Eq)]
+pub enum Job {
+    /// The report of a script.
+    Run {
+        /// The bytes of messages are shown.
+        hex: bool,
+    },
+}
+
+/// What the words ask for, None where they are none of the program's.
+pub fn job_of(words: &[String]) -> Option<Job>
+    ensures { option_map job_seen result ≡ job_of (map string_bytes words.now) }
+{
+    match words {
+        [word] if word.as_str() == "run" => Some(Job::Run { hex: false }),
+        _ => None,
+    }
+}
