@@ -2,5 +2,6 @@ pub mod Jobs
 pub mod Program
 pub mod Reading
 pub mod Runs
+pub mod Sessions
 pub mod Stops
 pub mod Writing

@@ -5,6 +5,7 @@ mod input;
 mod output;
 mod run;
 mod script;
+mod session;
 mod words;
 
 use gb_base::{FreeGate, Status, StdSink, StdSource};
@@ -17,7 +18,14 @@ fn main(rt: HostRuntime) -> ExitCode {
     let mut source = StdSource::new(rt.stdin());
     let mut sink = StdSink::new(rt.stdout());
     let status = match words_of(&rt) {
-        Ok(words) => run(&rt, rt.alloc(), words.as_slice(), &mut source, &mut sink, &FreeGate),
+        Ok(words) => run(
+            &rt,
+            rt.alloc(),
+            words.as_slice(),
+            &mut source,
+            &mut sink,
+            &FreeGate,
+        ),
         Err(fault) => fault,
     };
     if let Some(line) = complaint(status) {

@@ -14,7 +14,7 @@ pub fn write_all<K: Sink>(sink: &mut K, bytes: &[u8]) -> Result<(), WriteStop>
     let mut rest = bytes;
     while !rest.is_empty() {
         let n = sink.write(rest)?;
-        rest = &rest[n..];
+        (_, rest) = rest.split_at(n);
     }
     Ok(())
 }

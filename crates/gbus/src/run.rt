@@ -9,7 +9,7 @@ ghost use Rattle.gbus.specs.Runs.{IsAnswered, IsComplete, IsWithin};
 
 use crate::input::{Input, ReadStop, read_all};
 use crate::output::write_all;
-use crate::script::report;
+use crate::script::report_script;
 use crate::words::{Job, job_of};
 use gb_base::{Gate, Sink, Source, Status, WriteStop};
 use std::alloc::Global;
@@ -19,12 +19,12 @@ use std::thread::Threads;
 ///
 /// `gate` is what requesters call before each line that they run in a thread of their own.
 pub fn run<R: Threads + Sync, S: Source, K: Sink, G: Gate>(
-    rt: &R,
+    _rt: &R,
     alloc: Global,
     words: &[String],
     source: &mut S,
     sink: &mut K,
-    gate: &G,
+    _gate: &G,
 ) -> Status
     // Usage comes exactly where the words are none of the program's. Nothing is read or written then.
     ensures usage { (result ≡ Status.Usage) ↔ (job_of (map string_bytes words.now) ≡ None) }
@@ -48,7 +48,6 @@ pub fn run<R: Threads + Sync, S: Source, K: Sink, G: Gate>(
     ensures complete { IsComplete (job_of (map string_bytes words.now)) (S.left source.old)
         (S.faults source.old) (S.faults source.new) (K.faults sink.old) (K.faults sink.new) result }
 {
-    let _ = (rt, gate);
     match job_of(words) {
         Some(Job::Run { hex }) => run_script(alloc, hex, source, sink),
         None => Status::Usage,
@@ -56,12 +55,7 @@ pub fn run<R: Threads + Sync, S: Source, K: Sink, G: Gate>(
 }
 
 /// Writes the report of the script that the source has.
-fn run_script<S: Source, K: Sink>(
-    alloc: Global,
-    hex: bool,
-    source: &mut S,
-    sink: &mut K,
-) -> Status
+fn run_script<S: Source, K: Sink>(alloc: Global, hex: bool, source: &mut S, sink: &mut K) -> Status
     ensures usage { result ≢ Status.Usage }
     ensures answered { IsVerdict result → IsAnswered (Some (Run hex)) (S.left source.old)
         (K.taken sink.old) (K.taken sink.new) result }
@@ -80,7 +74,7 @@ fn run_script<S: Source, K: Sink>(
         Err(ReadStop::Failed) => return Status::ReadFault,
         Err(ReadStop::Memory(_)) => return Status::NoMemory,
     };
-    let Ok(report) = report(alloc, &script, hex) else {
+    let Ok(report) = report_script(alloc, &script, hex) else {
         return Status::NoMemory;
     };
     match write_all(sink, report.text.items()) {

@@ -1,0 +1,108 @@
+//! A script that is being run.
+
+ghost use Rattle.std.specs.Prelude.{◌≡◌, ◌+◌, ◌<◌, ◌≤◌, [], ◌++◌, IfOk, OnOk};
+ghost use Rattle.gb_formats.specs.Texts.{entries_text};
+ghost use Rattle.gb_machine.specs.State.{State, first_state};
+ghost use Rattle.gb_system.specs.Stands.{taken_of};
+
+use gb_base::{Entries, OutOfMemory, Text};
+use gb_report::{put, put_refusal};
+use gb_script::{LineFault, event};
+use gb_system::System;
+use std::alloc::Global;
+
+/// The system that a script has brought about, and the report of its lines so far.
+#[derive(Drop)]
+pub struct Session {
+    alloc: Global,
+    hex: bool,
+    system: System,
+    text: Text,
+    /// How many lines were run.
+    number: u32,
+    ghost counted: { taken_of system ≤ number },
+}
+
+/// What became of a line.
+#[derive(Clone, Copy, Debug, PartialEq, Eq)]
+pub enum Turn {
+    /// It was run, and the next line may be.
+    Next,
+    /// It is bad.
+    Refused,
+}
+
+impl Session {
+    ghost use Rattle.gb_system.specs.Stands as system;
+    ghost use Rattle.gbus.specs.Sessions.{TurnsAs};
+
+    /// Before the first line.
+    pub fn new(alloc: Global, hex: bool) -> Result<Session, OutOfMemory>
+        ensures stands { IfOk result (λ x. system.Stands x.system first_state) }
+        ensures empty { IfOk result (λ x. x.text ≡ []) }
+        ensures number { IfOk result (λ x. x.number ≡ 0) }
+        ensures hex { IfOk result (λ x. x.hex ≡ hex) }
+    {
+        Ok(Session {
+            alloc,
+            hex,
+            system: System::new(alloc)?,
+            text: Text::new(alloc),
+            number: 0,
+        })
+    }
+
+    /// Runs the next line.
+    pub fn take(&mut self, line: &[u8]) -> Result<Turn, OutOfMemory>
+        requires { self.old.number < 4294967295 }
+        ensures turn { (s : State) → system.Stands self.old.system s
+            → TurnsAs self.old self.new line.now s result }
+        ensures number { OnOk result (self.new.number ≡ self.old.number + 1) }
+        ensures hex { OnOk result (self.new.hex ≡ self.old.hex) }
+    {
+        self.number += 1;
+        match event(self.alloc, line, 0) {
+            Ok(None) => Ok(Turn::Next),
+            Ok(Some(e)) => {
+                let entries = self.system.step(&e)?;
+                put_all(self.alloc, &entries, self.number, self.hex, &mut self.text)?;
+                Ok(Turn::Next)
+            }
+            Err(LineFault::Bad(why)) => {
+                put_refusal(self.alloc, self.number, &why, &mut self.text)?;
+                Ok(Turn::Refused)
+            }
+            Err(LineFault::Memory(refused)) => Err(refused),
+        }
+    }
+
+    /// The report.
+    pub fn into_text(self) -> Text
+        ensures { result ≡ self.text }
+    {
+        let Session {
+            alloc: _,
+            hex: _,
+            system: _,
+            text,
+            number: _,
+        } = self;
+        text
+    }
+}
+
+/// Appends the texts of entries.
+fn put_all(
+    alloc: Global,
+    entries: &Entries,
+    line: u32,
+    hex: bool,
+    out: &mut Text,
+) -> Result<(), OutOfMemory>
+    ensures { OnOk result (out.new ≡ out.old ++ entries_text line hex entries.now) }
+{
+    for entry in entries.items() {
+        put(alloc, entry, line, hex, out)?;
+    }
+    Ok(())
+}
