@@ -2,12 +2,12 @@
 
 ghost use Rattle.std.specs.Prelude.{◌≡◌, ℕ, [], ◌∷◌, ◌++◌, OnOk, IfOk, IsErrOf, option_copied, is_some, true};
 ghost use Rattle.gb_machine.specs.Bus as machine;
-ghost use Rattle.gb_machine.specs.Bus.{first_bus, other_side, outcome_of, request_of};
+ghost use Rattle.gb_machine.specs.Bus.{first_bus, outcome_of, request_of};
 ghost use Rattle.gb_machine.specs.Lists.{nth};
 ghost use Rattle.gb_machine.specs.Sending.{draft};
-ghost use Rattle.gb_bus.specs.Ends.{first_outcome, side_of};
 ghost use Rattle.gb_bus.specs.Taking.{dropped, open_kind};
 
+use crate::ends::{first_outcome, other_side, side_at};
 use crate::queue::{Item, Queue};
 use crate::slots::{Slot, Slots};
 use crate::{Arrival, Arrived, Asked, DeliverFault, SendFault, Sent};
@@ -129,12 +129,12 @@ impl Bus {
             return Ok(());
         };
         let payload = Bytes::from_slice(self.alloc, payload)?;
-        let item = Item::Reply {
+        let answer = Item::Reply {
             number,
             result: code,
             payload,
         };
-        self.push(other_side(side), item)?;
+        self.push(other_side(side), answer)?;
         Ok(())
     }
 
@@ -143,10 +143,7 @@ impl Bus {
         ensures { (b : machine.Bus) → Stands self.now b → is_some (request_of n b) ≡ true
             → option_copied result ≡ outcome_of n b }
     {
-        match self.slots.get(n) {
-            Some(slot) => slot.outcome.as_ref(),
-            None => None,
-        }
+        self.slots.get(n)?.outcome.as_ref()
     }
 
     /// The identifier of the next request of a side.
@@ -268,34 +265,6 @@ impl Bus {
             Some(slot) if slot.outcome.is_none() => Some(slot.kind),
             _ => None,
         }
-    }
-}
-
-/// The outcome that a request has from the first.
-fn first_outcome(oneway: bool) -> Option<Outcome>
-    ensures { result ≡ first_outcome oneway }
-{
-    if oneway { Some(Outcome::Sent) } else { None }
-}
-
-/// The other side of a connection.
-fn other_side(side: Side) -> Side
-    ensures { result ≡ other_side side }
-{
-    match side {
-        Side::Ap => Side::Far,
-        Side::Far => Side::Ap,
-    }
-}
-
-/// The side at which an end stands.
-fn side_at(at: End) -> Option<Side>
-    ensures { result ≡ side_of at }
-{
-    match at {
-        End::Ap(0) => Some(Side::Ap),
-        End::Svc => Some(Side::Far),
-        End::Ap(_) | End::Module { .. } => None,
     }
 }
 
