@@ -1,18 +1,39 @@
 //! Rows of the bus of one connection. The expected values are worked by hand.
 
 use crate::{Arrival, Arrived, Asked, Bus, DeliverFault, SendFault, Sent};
-use gb_base::{Bytes, End, Outcome, Side};
+use gb_base::{End, Outcome, Side};
+use std::process::Abort;
 use std::test::Fail;
 
 /// The type PING of the SVC protocol.
 const PING: u8 = 19;
 
-/// A request that was made.
-fn made(number: u64, label: u16) -> Sent {
-    Sent {
-        number,
-        label,
-        lost: false,
+/// An arrival in plain values. Of a payload it has the first byte.
+#[derive(Clone, Copy, Debug, PartialEq, Eq)]
+enum Seen {
+    Ask(Asked, Option<u8>),
+    Ended(u64, u8, u8, Option<u8>),
+    Late(u64),
+    Dropped(Option<u64>, bool),
+}
+
+/// Delivers at an end: the connection, and what came.
+fn delivered(bus: &mut Bus, at: End, takes: bool) -> Result<(u64, Seen), DeliverFault> {
+    let Arrived { connection, item } = bus.deliver(at, takes)?;
+    Ok((connection, in_plain(&item)))
+}
+
+fn in_plain(item: &Arrival) -> Seen {
+    match item {
+        Arrival::Ask { asked, payload } => Seen::Ask(*asked, payload.items().first().copied()),
+        Arrival::Ended {
+            number,
+            kind,
+            result,
+            payload,
+        } => Seen::Ended(*number, *kind, *result, payload.items().first().copied()),
+        Arrival::Late { number } => Seen::Late(*number),
+        Arrival::Dropped { number, reply } => Seen::Dropped(*number, *reply),
     }
 }
 
@@ -25,61 +46,60 @@ fn ping(number: u64, label: u16) -> Asked {
     }
 }
 
-/// The request that an arrival brings.
-fn request(item: Arrival) -> Option<(Asked, Bytes)> {
-    match item {
-        Arrival::Ask { asked, payload } => Some((asked, payload)),
-        _ => None,
-    }
+/// A ping is made, with this number and identifier.
+fn sends(
+    rt: &impl Abort,
+    bus: &mut Bus,
+    side: Side,
+    oneway: bool,
+    number: u64,
+    label: u16,
+) -> Result<(), Fail> {
+    let want = Sent {
+        number,
+        label,
+        lost: false,
+    };
+    assert_eq!(rt; bus.send(1, side, PING, &[5], 500, oneway)?, want);
+    Ok(())
 }
 
-/// The number, type, result and payload of the answer that an arrival brings.
-fn ended(item: Arrival) -> Option<(u64, u8, u8, Bytes)> {
-    match item {
-        Arrival::Ended {
-            number,
-            kind,
-            result,
-            payload,
-        } => Some((number, kind, result, payload)),
-        _ => None,
-    }
+/// A delivery brings this.
+fn brings(rt: &impl Abort, bus: &mut Bus, at: End, takes: bool, want: Seen) {
+    assert_eq!(rt; delivered(bus, at, takes), Ok((1, want)), "at {at:?}");
 }
 
-/// The result and payload of an outcome that is an answer.
-fn answered(outcome: Option<&Outcome>) -> Option<(u8, &[u8])> {
-    match outcome {
-        Some(Outcome::Answered { result, payload }) => Some((*result, payload.items())),
+/// A request was answered so: the result, and the first byte of the payload.
+fn was_answered(rt: &impl Abort, bus: &Bus, n: u64, want: (u8, Option<u8>)) {
+    let told = match bus.outcome(n) {
+        Some(Outcome::Answered { result, payload }) => Some((
+            *result,
+            payload.items().first().copied(),
+        )),
         _ => None,
-    }
+    };
+    assert_eq!(rt; told, Some(want));
 }
 
 #[test]
 fn a_ping_is_answered(rt: HostRuntime) -> Result<(), Fail> {
     let mut bus = Bus::new(rt.alloc())?;
-    assert_eq!(rt;
-        bus.send(1, Side::Ap, PING, &[5, 1], 500, false)?,
-        made(1, 1)
-    );
-    assert_eq!(rt;
-        bus.send(1, Side::Ap, PING, &[5, 2], 500, false)?,
-        made(2, 2)
-    );
-    let Arrived { connection, item } = bus.deliver(End::Svc, true)?;
-    let (asked, payload) = request(item).ok_or("no request came")?;
-    assert_eq!(rt; (connection, asked), (1, ping(1, 1)));
-    assert_eq!(rt; payload.items(), [5, 1].as_slice());
-    bus.reply(connection, Side::Far, &asked, 0, &[9])?;
+    let asked = ping(1, 1);
+    sends(&rt, &mut bus, Side::Ap, false, 1, 1)?;
+    brings(&rt, &mut bus, End::Svc, true, Seen::Ask(asked, Some(5)));
+    bus.reply(1, Side::Far, &asked, 0, &[9])?;
     assert!(rt; bus.outcome(1).is_none(), "its answer still waits");
-    let Arrived { connection, item } = bus.deliver(End::Ap(0), true)?;
-    let (number, kind, result, payload) = ended(item).ok_or("no answer came")?;
-    assert_eq!(rt; (connection, number, kind, result), (1, 1, PING, 0));
-    assert_eq!(rt; payload.items(), [9].as_slice());
-    assert_eq!(rt; answered(bus.outcome(1)), Some((0, [9].as_slice())));
-    assert!(rt; bus.outcome(2).is_none(), "request 2 is open");
+    brings(
+        &rt,
+        &mut bus,
+        End::Ap(0),
+        true,
+        Seen::Ended(1, PING, 0, Some(9)),
+    );
+    was_answered(&rt, &bus, 1, (0, Some(9)));
     assert_eq!(rt;
-        bus.deliver(End::Ap(0), true).err(),
-        Some(DeliverFault::QueueEmpty)
+        delivered(&mut bus, End::Ap(0), true),
+        Err(DeliverFault::QueueEmpty)
     );
     Ok(())
 }
@@ -87,41 +107,52 @@ fn a_ping_is_answered(rt: HostRuntime) -> Result<(), Fail> {
 #[test]
 fn an_answer_counts_once(rt: HostRuntime) -> Result<(), Fail> {
     let mut bus = Bus::new(rt.alloc())?;
-    bus.send(1, Side::Far, PING, &[], 500, false)?;
-    let Arrived { connection, item } = bus.deliver(End::Ap(0), true)?;
-    let (asked, _payload) = request(item).ok_or("no request came")?;
-    bus.reply(connection, Side::Ap, &asked, 6, &[1, 2])?;
-    bus.reply(connection, Side::Ap, &asked, 0, &[3])?;
-    let (number, kind, result, payload) = ended(bus.deliver(End::Svc, true)?.item).ok_or(
-        "no answer came",
-    )?;
-    assert_eq!(rt;
-        (number, kind, result, payload.items().len()),
-        (1, PING, 6, 0)
-    );
-    let later = bus.deliver(End::Svc, true)?.item;
-    assert!(rt;
-        matches!(&later, Arrival::Late { number: 1 }),
-        "it ended again"
-    );
-    assert_eq!(rt; answered(bus.outcome(1)), Some((6, [].as_slice())));
+    sends(&rt, &mut bus, Side::Far, false, 1, 1)?;
+    sends(&rt, &mut bus, Side::Far, false, 2, 2)?;
+    bus.reply(1, Side::Ap, &ping(2, 2), 6, &[1])?;
+    bus.reply(1, Side::Ap, &ping(2, 2), 0, &[3])?;
+    brings(&rt, &mut bus, End::Svc, true, Seen::Ended(2, PING, 6, None));
+    brings(&rt, &mut bus, End::Svc, true, Seen::Late(2));
+    was_answered(&rt, &bus, 2, (6, None));
+    assert!(rt; bus.outcome(1).is_none(), "request 1 is open");
     Ok(())
 }
 
 #[test]
 fn an_end_may_drop(rt: HostRuntime) -> Result<(), Fail> {
     let mut bus = Bus::new(rt.alloc())?;
-    bus.send(1, Side::Ap, PING, &[], 500, false)?;
+    sends(&rt, &mut bus, Side::Ap, false, 1, 1)?;
     bus.reply(1, Side::Far, &ping(1, 1), 0, &[])?;
-    for (at, response) in [(End::Svc, false), (End::Ap(0), true)] {
-        let item = bus.deliver(at, false)?.item;
-        let told = match &item {
-            Arrival::Dropped { number, reply } => Some((*number, *reply)),
-            _ => None,
-        };
-        assert_eq!(rt; told, Some((Some(1), response)), "at {at:?}");
-    }
+    brings(
+        &rt,
+        &mut bus,
+        End::Svc,
+        false,
+        Seen::Dropped(Some(1), false),
+    );
+    brings(
+        &rt,
+        &mut bus,
+        End::Ap(0),
+        false,
+        Seen::Dropped(Some(1), true),
+    );
     assert!(rt; bus.outcome(1).is_none(), "a dropped answer ends nothing");
+    Ok(())
+}
+
+#[test]
+fn a_unidirectional_request_has_ended(rt: HostRuntime) -> Result<(), Fail> {
+    let mut bus = Bus::new(rt.alloc())?;
+    sends(&rt, &mut bus, Side::Ap, true, 1, 0)?;
+    assert!(rt; matches!(bus.outcome(1), Some(Outcome::Sent)), "it is open");
+    brings(
+        &rt,
+        &mut bus,
+        End::Svc,
+        true,
+        Seen::Ask(ping(1, 0), Some(5)),
+    );
     Ok(())
 }
 
@@ -137,18 +168,8 @@ fn two_ends_are_named(rt: HostRuntime) -> Result<(), Fail> {
             DeliverFault::NoConnection,
         ),
     ] {
-        assert_eq!(rt; bus.deliver(at, true).err(), Some(fault), "at {at:?}");
+        assert_eq!(rt; delivered(&mut bus, at, true), Err(fault), "at {at:?}");
     }
-    Ok(())
-}
-
-#[test]
-fn a_unidirectional_request_has_ended(rt: HostRuntime) -> Result<(), Fail> {
-    let mut bus = Bus::new(rt.alloc())?;
-    assert_eq!(rt; bus.send(1, Side::Ap, PING, &[], 500, true)?, made(1, 0));
-    assert!(rt; matches!(bus.outcome(1), Some(Outcome::Sent)), "it is open");
-    let (asked, _payload) = request(bus.deliver(End::Svc, true)?.item).ok_or("no request came")?;
-    assert_eq!(rt; asked, ping(1, 0));
     Ok(())
 }
 
@@ -156,13 +177,10 @@ fn a_unidirectional_request_has_ended(rt: HostRuntime) -> Result<(), Fail> {
 fn each_side_has_65535_identifiers(rt: HostRuntime) -> Result<(), Fail> {
     let mut bus = Bus::new(rt.alloc())?;
     for n in 1..=65_535u16 {
-        assert_eq!(rt; bus.send(1, Side::Ap, PING, &[], 500, false)?.label, n);
+        sends(&rt, &mut bus, Side::Ap, false, u64::from(n), n)?;
     }
     let none_left = bus.send(1, Side::Ap, PING, &[], 500, false);
     assert_eq!(rt; none_left, Err(SendFault::NoLabel));
-    assert_eq!(rt;
-        bus.send(1, Side::Far, PING, &[], 500, false)?,
-        made(65_536, 1)
-    );
+    sends(&rt, &mut bus, Side::Far, false, 65_536, 1)?;
     Ok(())
 }
