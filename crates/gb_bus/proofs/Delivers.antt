@@ -1,25 +1,20 @@
 -- A delivery stands for the machine's.
-use Rattle.std.proofs.Common.{◌≡◌, ℕ, ◌+◌, ◌<◌, ◌==◌, Bool, true, false, if◌then◌else◌, Option, Some, None, Result, Ok, Err, option_map, List, [], ◌∷◌, length, refl, sym, ap, ◌∙◌, inr, arith, subst}
+use Rattle.std.proofs.Common.{◌≡◌, ℕ, Bool, true, false, Some, None, Ok, option_map, List, ◌∷◌, refl, sym, ap, ◌∙◌, inr, arith, subst}
 use Rattle.gb_base.specs.declared.end.End.{End}
 use Rattle.gb_base.specs.declared.end.Side.{Side}
-use Rattle.gb_base.specs.declared.end.Side.TheVariants as side
 use Rattle.gb_base.specs.declared.outcome.Outcome.{Outcome}
-use Rattle.gb_base.specs.declared.outcome.Outcome.TheVariants as outcome
 use Rattle.gb_bus.proofs.Endings.{Said, length-ended_at, over, said, still, tell_ended}
-use Rattle.gb_bus.proofs.Fronts.{Front, empty_at, front_at, place_is, placed}
+use Rattle.gb_bus.proofs.Fronts.{empty_at, front_at, place_is, placed}
 use Rattle.gb_bus.proofs.Moves.{machine_queue, moved, queue_is, queue_stands, svc_of}
 use Rattle.gb_bus.proofs.SlotLaws.{lookup-other}
-use Rattle.gb_bus.specs.Delivering.{ArrivesAnswer, ArrivesAsk, ArrivesDropped, ArrivesLate, Brings, Delivers, DeliversAs, DeliversNothing, DeliversNowhere, IsDropped, taken_at}
+use Rattle.gb_bus.specs.Delivering.{Brings, Delivers, DeliversNothing, DeliversNowhere, IsDropped, taken_at}
 use Rattle.gb_bus.specs.Ends.{side_of}
-use Rattle.gb_bus.specs.Parts.{Answers, AnswersAs, HandlesAs, IsMemory, PopsAs, naming, queue_of, with_queue}
+use Rattle.gb_bus.specs.Parts.{Answers, HandlesAs, PopsAs, naming, queue_of, with_queue}
 use Rattle.gb_bus.specs.Slots.{ended_at}
-use Rattle.gb_bus.specs.Stands.{Stands, StandsForItem, StandsForQueue, svc_with}
-use Rattle.gb_bus.specs.Taking.{dropped, open_kind, shown}
+use Rattle.gb_bus.specs.Stands.{Stands, StandsForItem, StandsForQueue}
+use Rattle.gb_bus.specs.Taking.{open_kind, shown}
 use Rattle.gb_bus.specs.declared.answers.Arrival.{Arrival}
 use Rattle.gb_bus.specs.declared.answers.Arrival.TheVariants as arrival
-use Rattle.gb_bus.specs.declared.answers.Arrived.{Arrived}
-use Rattle.gb_bus.specs.declared.answers.DeliverFault.{DeliverFault}
-use Rattle.gb_bus.specs.declared.answers.DeliverFault.TheVariants as fault
 use Rattle.gb_bus.specs.declared.bus.Bus.{Bus}
 use Rattle.gb_bus.specs.declared.queue.Item.{Item}
 use Rattle.gb_bus.specs.declared.queue.Item.TheVariants as code

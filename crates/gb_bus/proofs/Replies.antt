@@ -1,19 +1,15 @@
 -- A reply stands for the machine's.
-use Rattle.std.proofs.Common.{◌≡◌, ℕ, Option, Some, List, [], ◌∷◌, ◌++◌, refl, sym, ap, ◌∙◌, subst}
+use Rattle.std.proofs.Common.{◌≡◌, ℕ, Some, List, [], ◌∷◌, ◌++◌, refl, sym, subst}
 use Rattle.gb_base.specs.declared.end.Side.{Side}
-use Rattle.gb_base.specs.declared.end.Side.TheVariants as side
 use Rattle.gb_bus.proofs.Moves.{pushed}
 use Rattle.gb_bus.specs.Delivering.{MayReply, RepliesAs}
 use Rattle.gb_bus.specs.Parts.{queue_of, with_queue}
-use Rattle.gb_bus.specs.Stands.{Stands, StandsForItem, svc_with}
+use Rattle.gb_bus.specs.Stands.{Stands}
 use Rattle.gb_bus.specs.declared.answers.Asked.{Asked}
 use Rattle.gb_bus.specs.declared.bus.Bus.{Bus}
 use Rattle.gb_bus.specs.declared.queue.Item.TheVariants as code
 use Rattle.gb_machine.specs.Bus as machine
 use Rattle.gb_machine.specs.Bus.{has_number, other_side}
-use Rattle.gb_machine.specs.Delivery.{replied}
-use Rattle.gb_machine.specs.Lists.{at_first}
-use Rattle.gb_machine.specs.Sending.{put}
 
 -- the bus once a reply waits toward a side
 abbrev pub replying : Side → ℕ → ℕ → List ℕ → Bus → Bus

@@ -1,5 +1,5 @@
 -- A send stands for the machine's.
-use Rattle.std.proofs.Common.{◌≡◌, ℕ, suc, ◌+◌, ◌<◌, Bool, true, false, not, cond, ltb, Option, Some, None, Result, Ok, Err, option_and_then, List, [], ◌∷◌, ◌++◌, length, refl, sym, ap, ◌∙◌, ◌⊎◌, inl, inr, arith, subst, length-append, add-one}
+use Rattle.std.proofs.Common.{◌≡◌, ℕ, ◌+◌, ◌<◌, Bool, true, false, not, cond, ltb, Some, None, Ok, option_and_then, List, [], ◌∷◌, ◌++◌, length, refl, sym, ap, ◌∙◌, ◌⊎◌, inl, inr, arith, subst, length-append, add-one}
 use Rattle.std.specs.List.{find}
 use Rattle.std.proofs.lemmas.Bool.Decides.{nat_tests}
 use Rattle.gb_base.specs.declared.end.Side.{Side}
@@ -8,24 +8,21 @@ use Rattle.gb_base.specs.declared.outcome.Outcome.{Outcome}
 use Rattle.gb_base.specs.declared.outcome.Outcome.TheVariants as outcome
 use Rattle.gb_bus.proofs.Moves.{pushed, svc_of}
 use Rattle.gb_bus.proofs.Queues.{queue_more}
-use Rattle.gb_bus.proofs.SlotLaws.{Tell, lookup-other, lookup-same, tell_more}
+use Rattle.gb_bus.proofs.SlotLaws.{lookup-other, lookup-same, tell_more}
 use Rattle.gb_bus.specs.Ends.{first_outcome}
-use Rattle.gb_bus.specs.Parts.{LabelsAs, last_of, queue_of, with_last, with_queue}
-use Rattle.gb_bus.specs.Stands.{Stands, StandsForItem, StandsForQueue, kept, svc_with}
-use Rattle.gb_bus.specs.Sending.{Sends, SendsAs, SendsNone}
-use Rattle.gb_bus.specs.declared.answers.SendFault.{SendFault}
-use Rattle.gb_bus.specs.declared.answers.SendFault.TheVariants as fault
+use Rattle.gb_bus.specs.Parts.{LabelsAs, queue_of, with_queue}
+use Rattle.gb_bus.specs.Stands.{Stands, StandsForItem, kept, svc_with}
+use Rattle.gb_bus.specs.Sending.{Sends}
 use Rattle.gb_bus.specs.declared.answers.Sent.{Sent}
 use Rattle.gb_bus.specs.declared.bus.Bus.{Bus}
 use Rattle.gb_bus.specs.declared.queue.Item.TheVariants as code
-use Rattle.gb_bus.specs.declared.slots.Slot.{Slot}
 use Rattle.gb_machine.proofs.Lists.{nth-push}
 use Rattle.gb_machine.specs.Bus as machine
 use Rattle.gb_machine.specs.Bus.{Connection, Request, connection_of, has_number, next_number, other_side}
 use Rattle.gb_machine.specs.Delivery.{replied}
-use Rattle.gb_machine.specs.Labels.{fresh_label, greatest_label, last_label, next_label}
+use Rattle.gb_machine.specs.Labels.{fresh_label, greatest_label, last_label}
 use Rattle.gb_machine.specs.Lists.{at_first, lookup, nth}
-use Rattle.gb_machine.specs.Sending.{Draft, draft, drawn, is_lost, is_wired, label_for, put, requested, sent, sent_at_once}
+use Rattle.gb_machine.specs.Sending.{Draft, draft, drawn, is_wired, label_for, put, requested, sent, sent_at_once}
 
 -- the bus once the request was kept
 abbrev pub keeping : Draft → ℕ → Bus → Bus

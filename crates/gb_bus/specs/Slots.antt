@@ -1,5 +1,5 @@
 -- The slots of requests.
-use Rattle.std.specs.Prelude.{ℕ, ◌==◌, ◌-◌, if◌then◌else◌, Option, Some, None, List, slice_get, slice_set, nat_lt, length, ◌||◌}
+use Rattle.std.specs.Prelude.{ℕ, ◌-◌, Option, Some, None, List, slice_set}
 use Rattle.gb_base.specs.declared.outcome.Outcome.{Outcome}
 use Rattle.gb_bus.specs.declared.slots.Slot.{Slot}
 use Rattle.gb_machine.specs.Lists.{nth}
