@@ -7,7 +7,7 @@ use Rattle.gb_bus.proofs.Endings.{Said, length-ended_at, over, said, still, tell
 use Rattle.gb_bus.proofs.Fronts.{empty_at, front_at, place_is, placed}
 use Rattle.gb_bus.proofs.Moves.{machine_queue, moved, queue_is, queue_stands, svc_of}
 use Rattle.gb_bus.proofs.SlotLaws.{lookup-other}
-use Rattle.gb_bus.specs.Delivering.{Brings, Delivers, DeliversNothing, DeliversNowhere, IsDropped, taken_at}
+use Rattle.gb_bus.specs.Delivering.{Brings, Delivers, DeliversNothing, IsDropped, taken_at}
 use Rattle.gb_bus.specs.Ends.{side_of}
 use Rattle.gb_bus.specs.Parts.{Answers, HandlesAs, PopsAs, naming, queue_of, with_queue}
 use Rattle.gb_bus.specs.Slots.{ended_at}
@@ -146,6 +146,13 @@ brings y z b p takes (code.Reply number code payload) (machine.Ask n) a s st h =
 brings y z b p takes (code.Reply number code payload) (machine.Raw bytes) a s st h = absurd st
 brings y z b p takes (code.Reply number code payload) (machine.RawReply l k r bytes) a s st h = absurd st
 
+-- where a named end stands
+place_at : (x : Bus) (b : machine.Bus) (s : Stands x b) (at : End) (place : Side)
+    → side_of at ≡ Some place → place_of at b.connections ≡ Some (placed (svc_of x b s) place)
+place_at x b s at place named =
+    ap (place_of at) s.alone ∙ place_is at x.ap_last x.far_last s.to_ap s.to_far
+    ∙ ap (option_map (placed (svc_of x b s))) named
+
 -- The answer of a delivery where the end is named and a message waits.
 pub delivers : (x y z : Bus) (b : machine.Bus) (at : End) (takes : Bool) (place : Side) (i : Item) (a : Arrival)
     → Stands x b → side_of at ≡ Some place → PopsAs x y place (Some i) → HandlesAs y z takes i (Ok a)
@@ -156,7 +163,7 @@ delivers x y z b at takes place i a s named pops h =
     record {
       place = p;
       item = f.item_of;
-      named = ap (place_of at) s.alone ∙ place_is at x.ap_last x.far_last s.to_ap s.to_far ∙ ap (option_map (placed (svc_of x b s))) named;
+      named = place_at x b s at place named;
       front = ap first (queue_is place x b s ∙ f.whole);
       connection = refl;
       brings = brings y z b p takes i f.item_of a (stands_popped place x y b s f.item_of f.behind pops.1 f.whole f.behind_stands) f.item_stands h;
@@ -167,14 +174,7 @@ pub delivers_nothing : (x y : Bus) (b : machine.Bus) (at : End) (place : Side)
     → Stands x b → side_of at ≡ Some place → PopsAs x y place None → DeliversNothing y at b
 delivers_nothing x y b at place s named pops = record {
   place = placed (svc_of x b s) place;
-  named = ap (place_of at) s.alone ∙ place_is at x.ap_last x.far_last s.to_ap s.to_far ∙ ap (option_map (placed (svc_of x b s))) named;
+  named = place_at x b s at place named;
   empty = queue_is place x b s ∙ empty_at b.requests (queue_of place x) (machine_queue place x b s) (queue_stands place x b s) pops.0;
   stands = subst (λ (w : Bus). Stands w b) (sym pops.1) s;
-}
-
--- The answer where no wired connection names the end.
-pub delivers_nowhere : (x : Bus) (b : machine.Bus) (at : End) → Stands x b → side_of at ≡ None → DeliversNowhere x at b
-delivers_nowhere x b at s named = record {
-  named = ap (place_of at) s.alone ∙ place_is at x.ap_last x.far_last s.to_ap s.to_far ∙ ap (option_map (placed (svc_of x b s))) named;
-  stands = s;
 }

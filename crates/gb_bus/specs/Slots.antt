@@ -8,11 +8,6 @@ use Rattle.gb_machine.specs.Lists.{nth}
 abbrev pub with_outcome : Outcome → Slot → Slot
 with_outcome how slot = record slot { outcome = Some how }
 
--- what a slot says of the outcome
-abbrev pub outcome_in : Option Slot → Option Outcome
-outcome_in None = None
-outcome_in (Some slot) = slot.outcome
-
 -- the slots where the slot of request n is replaced
 abbrev pub put_at : ℕ → Outcome → List Slot → Option Slot → List Slot
 put_at n how slots None = slots

@@ -51,8 +51,8 @@ impl Bus {
         })
     }
 
-    /// Makes a request on a live connection. `deadline` is in milliseconds. A unidirectional request
-    /// has identifier 0, and has ended as sent at once.
+    /// Makes a request on a live connection. `deadline` is in milliseconds. A unidirectional
+    /// request has identifier 0, and has ended as sent at once.
     pub fn send(
         &mut self,
         k: u64,
@@ -91,10 +91,11 @@ impl Bus {
         })
     }
 
-    /// Takes the front message toward an end from its queue. An end that doesn't take messages drops
-    /// it.
+    /// Takes the front message toward an end from its queue. An end that doesn't take messages
+    /// drops it.
     pub fn deliver(&mut self, at: End, takes: bool) -> Result<Arrived, DeliverFault>
-        ensures step { (b : machine.Bus) → Stands self.old b → DeliversAs self.new at takes b result }
+        ensures step { (b : machine.Bus) → Stands self.old b
+            → DeliversAs self.new at takes b result }
         ensures live { IfOk result (λ a. HasConnection self.new a.connection) }
     {
         let Some(side) = side_at(at) else {
@@ -110,8 +111,8 @@ impl Bus {
         })
     }
 
-    /// Answers a request that was delivered at `side` of a connection: the reply goes toward the side
-    /// that asked.
+    /// Answers a request that was delivered at `side` of a connection: the reply goes toward the
+    /// side that asked.
     pub fn reply(
         &mut self,
         k: u64,
@@ -177,7 +178,8 @@ impl Bus {
 
     /// Adds a message to the queue toward a side.
     fn push(&mut self, side: Side, item: Item) -> Result<(), OutOfMemory>
-        ensures { OnOk result (self.new ≡ with_queue side (queue_of side self.old ++ item ∷ []) self.old) }
+        ensures { OnOk result
+            (self.new ≡ with_queue side (queue_of side self.old ++ item ∷ []) self.old) }
     {
         match side {
             Side::Ap => self.to_ap.push(item),
