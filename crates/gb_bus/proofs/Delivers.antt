@@ -1,24 +1,20 @@
 -- A delivery stands for the machine's.
-use Rattle.std.proofs.Common.{◌≡◌, ℕ, ◌+◌, ◌<◌, ◌==◌, Bool, true, false, if◌then◌else◌, Option, Some, None, Result, Ok, Err, option_map, List, [], ◌∷◌, length, refl, sym, ap, ◌∙◌, inr, arith, subst}
+use Rattle.std.proofs.Common.{◌≡◌, ℕ, Bool, true, false, Some, None, Ok, option_map, List, ◌∷◌, refl, sym, ap, ◌∙◌, inr, arith, subst}
 use Rattle.gb_base.specs.declared.end.End.{End}
 use Rattle.gb_base.specs.declared.end.Side.{Side}
-use Rattle.gb_base.specs.declared.end.Side.TheVariants as side
 use Rattle.gb_base.specs.declared.outcome.Outcome.{Outcome}
-use Rattle.gb_base.specs.declared.outcome.Outcome.TheVariants as outcome
 use Rattle.gb_bus.proofs.Endings.{Said, length-ended_at, over, said, still, tell_ended}
-use Rattle.gb_bus.proofs.Fronts.{Front, empty_at, front_at, place_is, placed}
+use Rattle.gb_bus.proofs.Fronts.{empty_at, front_at, place_is, placed}
+use Rattle.gb_bus.proofs.Moves.{machine_queue, moved, queue_is, queue_stands, svc_of}
 use Rattle.gb_bus.proofs.SlotLaws.{lookup-other}
-use Rattle.gb_bus.specs.Delivering.{ArrivesAnswer, ArrivesAsk, ArrivesDropped, ArrivesLate, Brings, Delivers, DeliversAs, DeliversNothing, DeliversNowhere, IsDropped, taken_at}
+use Rattle.gb_bus.specs.Delivering.{Brings, Delivers, DeliversNothing, IsDropped, taken_at}
 use Rattle.gb_bus.specs.Ends.{side_of}
-use Rattle.gb_bus.specs.Parts.{Answers, AnswersAs, HandlesAs, IsMemory, PopsAs, naming, queue_of, with_queue}
+use Rattle.gb_bus.specs.Parts.{Answers, HandlesAs, PopsAs, naming, queue_of, with_queue}
 use Rattle.gb_bus.specs.Slots.{ended_at}
-use Rattle.gb_bus.specs.Stands.{Stands, StandsForItem, StandsForQueue, svc_with}
-use Rattle.gb_bus.specs.Taking.{dropped, open_kind, shown}
+use Rattle.gb_bus.specs.Stands.{Stands, StandsForItem, StandsForQueue}
+use Rattle.gb_bus.specs.Taking.{open_kind, shown}
 use Rattle.gb_bus.specs.declared.answers.Arrival.{Arrival}
 use Rattle.gb_bus.specs.declared.answers.Arrival.TheVariants as arrival
-use Rattle.gb_bus.specs.declared.answers.Arrived.{Arrived}
-use Rattle.gb_bus.specs.declared.answers.DeliverFault.{DeliverFault}
-use Rattle.gb_bus.specs.declared.answers.DeliverFault.TheVariants as fault
 use Rattle.gb_bus.specs.declared.bus.Bus.{Bus}
 use Rattle.gb_bus.specs.declared.queue.Item.{Item}
 use Rattle.gb_bus.specs.declared.queue.Item.TheVariants as code
@@ -26,59 +22,16 @@ use Rattle.gb_machine.proofs.Lists.{nth-within}
 use Rattle.gb_machine.specs.Bus as machine
 use Rattle.gb_machine.specs.Bus.{Connection, Place, Request, has_number, is_open, place_of, queue, request_of}
 use Rattle.gb_machine.specs.Delivery.{answered, ended, forgotten, popped, without_front}
-use Rattle.gb_machine.specs.Lists.{at_first, first, nth}
-
--- the connection of the supervisory controller, as it stands
-abbrev svc_of : (x : Bus) (b : machine.Bus) → Stands x b → Connection
-svc_of x b s = svc_with x.ap_last x.far_last s.to_ap s.to_far
-
--- the machine's queue toward a side
-abbrev machine_queue : Side → (x : Bus) (b : machine.Bus) → Stands x b → List machine.Item
-machine_queue side.Ap x b s = s.to_ap
-machine_queue side.Far x b s = s.to_far
-
-queue_stands : (at : Side) (x : Bus) (b : machine.Bus) (s : Stands x b) → StandsForQueue b.requests (queue_of at x) (machine_queue at x b s)
-queue_stands side.Ap x b s = s.ap_queue
-queue_stands side.Far x b s = s.far_queue
-
-queue_is : (at : Side) (x : Bus) (b : machine.Bus) (s : Stands x b) → queue at (svc_of x b s) ≡ machine_queue at x b s
-queue_is side.Ap x b s = refl
-queue_is side.Far x b s = refl
+use Rattle.gb_machine.specs.Lists.{behind_first, first, nth}
 
 -- once the front message is taken
 stands_popped : (at : Side) (x y : Bus) (b : machine.Bus) (s : Stands x b) (m : machine.Item) (ms : List machine.Item)
     → y ≡ with_queue at (queue_of at y) x → machine_queue at x b s ≡ m ∷ ms → StandsForQueue b.requests (queue_of at y) ms
     → Stands y (popped 1 at b)
-stands_popped side.Ap x y b s m ms after front rest =
-    let connections : (popped 1 side.Ap b).connections ≡ svc_with x.ap_last x.far_last ms s.to_far ∷ [] =
-    ap (at_first (has_number 1) (without_front side.Ap)) s.alone
-    ∙ ap (λ q. without_front side.Ap (svc_with x.ap_last x.far_last q s.to_far) ∷ []) front in
-    let stands : Stands (with_queue side.Ap y.to_ap x) (popped 1 side.Ap b) = record {
-      to_ap = ms;
-      to_far = s.to_far;
-      alone = connections;
-      ap_queue = rest;
-      far_queue = s.far_queue;
-      count = s.count;
-      slots = s.slots;
-      made = s.made;
-    } in
-    subst (λ (w : Bus). Stands w (popped 1 side.Ap b)) (sym after) stands
-stands_popped side.Far x y b s m ms after front rest =
-    let connections : (popped 1 side.Far b).connections ≡ svc_with x.ap_last x.far_last s.to_ap ms ∷ [] =
-    ap (at_first (has_number 1) (without_front side.Far)) s.alone
-    ∙ ap (λ q. without_front side.Far (svc_with x.ap_last x.far_last s.to_ap q) ∷ []) front in
-    let stands : Stands (with_queue side.Far y.to_far x) (popped 1 side.Far b) = record {
-      to_ap = s.to_ap;
-      to_far = ms;
-      alone = connections;
-      ap_queue = s.ap_queue;
-      far_queue = rest;
-      count = s.count;
-      slots = s.slots;
-      made = s.made;
-    } in
-    subst (λ (w : Bus). Stands w (popped 1 side.Far b)) (sym after) stands
+stands_popped at x y b s m ms after front rest =
+    subst (λ (w : Bus). Stands w (popped 1 at b)) (sym after)
+    (moved at x b s (without_front at) (queue_of at y) ms
+    (ap (λ q. machine.with_queue at (behind_first q) (svc_of x b s)) (queue_is at x b s ∙ front)) rest)
 
 -- once a request that was made ended
 stands_ended : (x : Bus) (b : machine.Bus) (n : ℕ) (how : Outcome) (r : Request) → Stands x b → request_of n b ≡ Some r
@@ -193,6 +146,13 @@ brings y z b p takes (code.Reply number code payload) (machine.Ask n) a s st h =
 brings y z b p takes (code.Reply number code payload) (machine.Raw bytes) a s st h = absurd st
 brings y z b p takes (code.Reply number code payload) (machine.RawReply l k r bytes) a s st h = absurd st
 
+-- where a named end stands
+place_at : (x : Bus) (b : machine.Bus) (s : Stands x b) (at : End) (place : Side)
+    → side_of at ≡ Some place → place_of at b.connections ≡ Some (placed (svc_of x b s) place)
+place_at x b s at place named =
+    ap (place_of at) s.alone ∙ place_is at x.ap_last x.far_last s.to_ap s.to_far
+    ∙ ap (option_map (placed (svc_of x b s))) named
+
 -- The answer of a delivery where the end is named and a message waits.
 pub delivers : (x y z : Bus) (b : machine.Bus) (at : End) (takes : Bool) (place : Side) (i : Item) (a : Arrival)
     → Stands x b → side_of at ≡ Some place → PopsAs x y place (Some i) → HandlesAs y z takes i (Ok a)
@@ -203,7 +163,7 @@ delivers x y z b at takes place i a s named pops h =
     record {
       place = p;
       item = f.item_of;
-      named = ap (place_of at) s.alone ∙ place_is at x.ap_last x.far_last s.to_ap s.to_far ∙ ap (option_map (placed (svc_of x b s))) named;
+      named = place_at x b s at place named;
       front = ap first (queue_is place x b s ∙ f.whole);
       connection = refl;
       brings = brings y z b p takes i f.item_of a (stands_popped place x y b s f.item_of f.behind pops.1 f.whole f.behind_stands) f.item_stands h;
@@ -214,14 +174,7 @@ pub delivers_nothing : (x y : Bus) (b : machine.Bus) (at : End) (place : Side)
     → Stands x b → side_of at ≡ Some place → PopsAs x y place None → DeliversNothing y at b
 delivers_nothing x y b at place s named pops = record {
   place = placed (svc_of x b s) place;
-  named = ap (place_of at) s.alone ∙ place_is at x.ap_last x.far_last s.to_ap s.to_far ∙ ap (option_map (placed (svc_of x b s))) named;
+  named = place_at x b s at place named;
   empty = queue_is place x b s ∙ empty_at b.requests (queue_of place x) (machine_queue place x b s) (queue_stands place x b s) pops.0;
   stands = subst (λ (w : Bus). Stands w b) (sym pops.1) s;
-}
-
--- The answer where no wired connection names the end.
-pub delivers_nowhere : (x : Bus) (b : machine.Bus) (at : End) → Stands x b → side_of at ≡ None → DeliversNowhere x at b
-delivers_nowhere x b at s named = record {
-  named = ap (place_of at) s.alone ∙ place_is at x.ap_last x.far_last s.to_ap s.to_far ∙ ap (option_map (placed (svc_of x b s))) named;
-  stands = s;
 }

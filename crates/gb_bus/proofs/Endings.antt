@@ -1,14 +1,13 @@
 -- What the slots say once a request ended.
-use Rattle.std.proofs.Common.{◌≡◌, ℕ, zero, suc, ◌+◌, ◌-◌, ◌<◌, ◌≤◌, Bool, true, false, ◌&&◌, Option, Some, None, option_map, is_some, is_none, List, [], ◌∷◌, ◌++◌, length, set, length-set, refl, sym, ap, ◌∙◌, ◌⊎◌, ⊎_elim, inl, inr, arith, subst}
+use Rattle.std.proofs.Common.{◌≡◌, ℕ, zero, suc, ◌-◌, ◌<◌, true, false, ◌&&◌, Option, Some, None, option_map, is_some, is_none, List, [], ◌∷◌, length, set, length-set, refl, sym, ap, ◌∙◌, ◌⊎◌, ⊎_elim, inl, inr, arith}
 use Rattle.std.proofs.lemmas.Bool.{cases_order}
 use Rattle.std.specs.List.{slice_get}
 use Rattle.gb_base.specs.declared.outcome.Outcome.{Outcome}
 use Rattle.gb_bus.proofs.SlotLaws.{Tell, lookup-other, lookup-same}
-use Rattle.gb_bus.specs.Slots.{ended_at, put_at, with_outcome}
+use Rattle.gb_bus.specs.Slots.{ended_at, put_at}
 use Rattle.gb_bus.specs.Stands.{kept, slot_of}
 use Rattle.gb_bus.specs.Taking.{open_kind}
 use Rattle.gb_bus.specs.declared.slots.Slot.{Slot}
-use Rattle.gb_machine.proofs.Lists.{nth-within}
 use Rattle.gb_machine.specs.Bus as machine
 use Rattle.gb_machine.specs.Bus.{Request, is_open, outcome_of, request_of}
 use Rattle.gb_machine.specs.Lists.{lookup, nth}

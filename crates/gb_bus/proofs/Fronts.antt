@@ -1,18 +1,14 @@
 -- The front of a queue, and the place of an end.
-use Rattle.std.proofs.Common.{◌≡◌, ℕ, Bool, true, false, cond, eqb, Option, Some, None, option_map, List, [], ◌∷◌, refl, sym, ap, ◌∙◌, subst}
+use Rattle.std.proofs.Common.{◌≡◌, ℕ, Bool, true, false, cond, eqb, Some, None, option_map, List, [], ◌∷◌, refl, ap, subst}
 use Rattle.gb_base.specs.declared.end.End.{End}
 use Rattle.gb_base.specs.declared.end.End.TheVariants as end
 use Rattle.gb_base.specs.declared.end.Side.{Side}
 use Rattle.gb_base.specs.declared.end.Side.TheVariants as side
 use Rattle.gb_bus.specs.Ends.{side_of}
-use Rattle.gb_bus.specs.Parts.{PopsAs, queue_of, with_queue}
-use Rattle.gb_bus.specs.Stands.{Stands, StandsForItem, StandsForQueue, svc_with}
-use Rattle.gb_bus.specs.declared.bus.Bus.{Bus}
+use Rattle.gb_bus.specs.Stands.{StandsForItem, StandsForQueue, svc_with}
 use Rattle.gb_bus.specs.declared.queue.Item.{Item}
 use Rattle.gb_machine.specs.Bus as machine
 use Rattle.gb_machine.specs.Bus.{Connection, Place, Request, has_number, place_of, queue}
-use Rattle.gb_machine.specs.Delivery.{popped, without_front}
-use Rattle.gb_machine.specs.Lists.{at_first, first}
 
 -- what the front message of a queue and the messages behind it stand for
 pub record Front (rs : List Request) (ms : List machine.Item) (item : Item) (rest : List Item) : Type 0 where

@@ -1,6 +1,6 @@
 -- What queues go on to stand for.
-use Rattle.std.proofs.Common.{◌≡◌, ℕ, Some, List, [], ◌∷◌, ◌++◌, refl}
-use Rattle.gb_bus.specs.Stands.{StandsForAsk, StandsForItem, StandsForQueue}
+use Rattle.std.proofs.Common.{List, [], ◌∷◌, ◌++◌}
+use Rattle.gb_bus.specs.Stands.{StandsForItem, StandsForQueue}
 use Rattle.gb_bus.specs.declared.queue.Item.{Item}
 use Rattle.gb_bus.specs.declared.queue.Item.TheVariants as code
 use Rattle.gb_machine.proofs.Lists.{nth-more}

@@ -1,52 +1,19 @@
 -- A reply stands for the machine's.
-use Rattle.std.proofs.Common.{◌≡◌, ℕ, Option, Some, List, [], ◌∷◌, ◌++◌, refl, sym, ap, ◌∙◌, subst}
+use Rattle.std.proofs.Common.{◌≡◌, ℕ, Some, List, [], ◌∷◌, ◌++◌, refl, sym, subst}
 use Rattle.gb_base.specs.declared.end.Side.{Side}
-use Rattle.gb_base.specs.declared.end.Side.TheVariants as side
-use Rattle.gb_bus.proofs.Queues.{queue_push}
+use Rattle.gb_bus.proofs.Moves.{pushed}
 use Rattle.gb_bus.specs.Delivering.{MayReply, RepliesAs}
 use Rattle.gb_bus.specs.Parts.{queue_of, with_queue}
-use Rattle.gb_bus.specs.Stands.{Stands, StandsForItem, svc_with}
+use Rattle.gb_bus.specs.Stands.{Stands}
 use Rattle.gb_bus.specs.declared.answers.Asked.{Asked}
 use Rattle.gb_bus.specs.declared.bus.Bus.{Bus}
 use Rattle.gb_bus.specs.declared.queue.Item.TheVariants as code
 use Rattle.gb_machine.specs.Bus as machine
 use Rattle.gb_machine.specs.Bus.{has_number, other_side}
-use Rattle.gb_machine.specs.Delivery.{replied}
-use Rattle.gb_machine.specs.Lists.{at_first}
-use Rattle.gb_machine.specs.Sending.{put}
 
 -- the bus once a reply waits toward a side
 abbrev pub replying : Side → ℕ → ℕ → List ℕ → Bus → Bus
 replying to number result payload x = with_queue to (queue_of to x ++ code.Reply number result payload ∷ []) x
-
-stands_replied : (x : Bus) (b : machine.Bus) (to : Side) (n result : ℕ) (payload : List ℕ)
-    → Stands x b → Stands (replying to n result payload x) (replied 1 to (machine.Reply n result payload) b)
-stands_replied x b side.Ap n result payload s =
-    let same : StandsForItem b.requests (code.Reply n result payload) (machine.Reply n result payload) =
-    record { number_is = refl; result_is = refl; payload_is = refl } in
-    record {
-      to_ap = s.to_ap ++ machine.Reply n result payload ∷ [];
-      to_far = s.to_far;
-      alone = ap (at_first (has_number 1) (put side.Ap (machine.Reply n result payload))) s.alone;
-      ap_queue = queue_push b.requests x.to_ap s.to_ap (code.Reply n result payload) (machine.Reply n result payload) s.ap_queue same;
-      far_queue = s.far_queue;
-      count = s.count;
-      slots = s.slots;
-      made = s.made;
-    }
-stands_replied x b side.Far n result payload s =
-    let same : StandsForItem b.requests (code.Reply n result payload) (machine.Reply n result payload) =
-    record { number_is = refl; result_is = refl; payload_is = refl } in
-    record {
-      to_ap = s.to_ap;
-      to_far = s.to_far ++ machine.Reply n result payload ∷ [];
-      alone = ap (at_first (has_number 1) (put side.Far (machine.Reply n result payload))) s.alone;
-      ap_queue = s.ap_queue;
-      far_queue = queue_push b.requests x.to_far s.to_far (code.Reply n result payload) (machine.Reply n result payload) s.far_queue same;
-      count = s.count;
-      slots = s.slots;
-      made = s.made;
-    }
 
 -- The bus after a reply on the connection of the supervisory controller.
 pub replies : (x y : Bus) (b : machine.Bus) (k : ℕ) (at : Side) (asked : Asked) (n number result : ℕ) (payload : List ℕ)
@@ -58,4 +25,5 @@ replies x y b k at asked n number result payload one s may named after =
     subst (λ j. RepliesAs y j at n result payload b) (sym one)
     (subst (λ m. RepliesAs y 1 at m result payload b) (sym same)
     (subst (λ (w : Bus). RepliesAs w 1 at number result payload b) (sym after)
-    (stands_replied x b (other_side at) number result payload s)))
+    (pushed (other_side at) x b s (code.Reply number result payload) (machine.Reply number result payload)
+    (record { number_is = refl; result_is = refl; payload_is = refl }))))

@@ -1,34 +1,28 @@
 -- A send stands for the machine's.
-use Rattle.std.proofs.Common.{◌≡◌, ℕ, suc, ◌+◌, ◌<◌, Bool, true, false, not, cond, ltb, Option, Some, None, Result, Ok, Err, option_and_then, List, [], ◌∷◌, ◌++◌, length, refl, sym, ap, ◌∙◌, ◌⊎◌, inl, inr, arith, subst, length-append, add-one}
+use Rattle.std.proofs.Common.{◌≡◌, ℕ, ◌+◌, ◌<◌, Bool, true, false, not, cond, ltb, Some, None, Ok, option_and_then, List, [], ◌∷◌, ◌++◌, length, refl, sym, ap, ◌∙◌, ◌⊎◌, inl, inr, arith, subst, length-append, add-one}
 use Rattle.std.specs.List.{find}
 use Rattle.std.proofs.lemmas.Bool.Decides.{nat_tests}
 use Rattle.gb_base.specs.declared.end.Side.{Side}
 use Rattle.gb_base.specs.declared.end.Side.TheVariants as side
 use Rattle.gb_base.specs.declared.outcome.Outcome.{Outcome}
 use Rattle.gb_base.specs.declared.outcome.Outcome.TheVariants as outcome
-use Rattle.gb_bus.proofs.Queues.{queue_more, queue_push}
-use Rattle.gb_bus.proofs.SlotLaws.{Tell, lookup-other, lookup-same, tell_more}
+use Rattle.gb_bus.proofs.Moves.{pushed, svc_of}
+use Rattle.gb_bus.proofs.Queues.{queue_more}
+use Rattle.gb_bus.proofs.SlotLaws.{lookup-other, lookup-same, tell_more}
 use Rattle.gb_bus.specs.Ends.{first_outcome}
-use Rattle.gb_bus.specs.Parts.{LabelsAs, last_of, queue_of, with_last, with_queue}
-use Rattle.gb_bus.specs.Stands.{Stands, StandsForItem, StandsForQueue, kept, svc_with}
-use Rattle.gb_bus.specs.Sending.{Sends, SendsAs, SendsNone}
-use Rattle.gb_bus.specs.declared.answers.SendFault.{SendFault}
-use Rattle.gb_bus.specs.declared.answers.SendFault.TheVariants as fault
+use Rattle.gb_bus.specs.Parts.{LabelsAs, queue_of, with_queue}
+use Rattle.gb_bus.specs.Stands.{Stands, StandsForItem, kept, svc_with}
+use Rattle.gb_bus.specs.Sending.{Sends}
 use Rattle.gb_bus.specs.declared.answers.Sent.{Sent}
 use Rattle.gb_bus.specs.declared.bus.Bus.{Bus}
 use Rattle.gb_bus.specs.declared.queue.Item.TheVariants as code
-use Rattle.gb_bus.specs.declared.slots.Slot.{Slot}
 use Rattle.gb_machine.proofs.Lists.{nth-push}
 use Rattle.gb_machine.specs.Bus as machine
 use Rattle.gb_machine.specs.Bus.{Connection, Request, connection_of, has_number, next_number, other_side}
-use Rattle.gb_machine.specs.Labels.{fresh_label, greatest_label, last_label, next_label}
+use Rattle.gb_machine.specs.Delivery.{replied}
+use Rattle.gb_machine.specs.Labels.{fresh_label, greatest_label, last_label}
 use Rattle.gb_machine.specs.Lists.{at_first, lookup, nth}
-use Rattle.gb_machine.specs.Sending.{Draft, draft, drawn, is_lost, is_wired, label_for, put, requested, sent, sent_at_once}
-
--- the bus once a side drew this identifier
-abbrev pub labelled : Bool → Side → ℕ → Bus → Bus
-labelled true at label x = x
-labelled false at label x = with_last at label x
+use Rattle.gb_machine.specs.Sending.{Draft, draft, drawn, is_wired, label_for, put, requested, sent, sent_at_once}
 
 -- the bus once the request was kept
 abbrev pub keeping : Draft → ℕ → Bus → Bus
@@ -67,29 +61,6 @@ new_item b d label number e = record {
   payload_is = refl;
 }
 
--- what a send leaves of the bus: the queues and identifiers are those of `y`
-after_send : (x y : Bus) (b : machine.Bus) (d : Draft) (label : ℕ) (to_ap to_far : List machine.Item) → Stands x b
-    → y.slots ≡ x.slots ++ kept (first_outcome d.oneway) (requested d label) ∷ []
-    → (sent d label b).connections ≡ svc_with y.ap_last y.far_last to_ap to_far ∷ []
-    → StandsForQueue (sent d label b).requests y.to_ap to_ap
-    → StandsForQueue (sent d label b).requests y.to_far to_far
-    → Stands y (sent d label b)
-after_send x y b d label to_ap to_far s slots alone ap_queue far_queue = record {
-  to_ap = to_ap;
-  to_far = to_far;
-  alone = alone;
-  ap_queue = ap_queue;
-  far_queue = far_queue;
-  count = length-append b.requests (requested d label ∷ []) ∙ ap (λ n. n + 1) s.count
-      ∙ sym (ap length slots ∙ length-append x.slots (kept (first_outcome d.oneway) (requested d label) ∷ []));
-  slots = λ n. ap (nth n) slots ∙ tell_more x.slots b.requests b.outcomes (sent_at_once d (next_number b) b.outcomes)
-      (requested d label) (first_outcome d.oneway) s.count s.slots
-      (λ m h. sent_others d b.outcomes (next_number b) m (inl (omega arith)))
-      (sent_own d b.outcomes (next_number b) (s.made (next_number b) (omega arith))) n;
-  made = λ n h. sent_others d b.outcomes (next_number b) n (inr (omega (arith, length-append b.requests (requested d label ∷ []))))
-      ∙ s.made n (omega (arith, length-append b.requests (requested d label ∷ [])));
-}
-
 -- what is told of a request that was made
 abbrev told : ℕ → ℕ → Sent
 told number label = record { number = number; label = label; lost = false }
@@ -104,77 +75,79 @@ drawn_next : (c : Connection) (at : Side) (label : ℕ) → last_label at c < gr
 drawn_next c at label left next = let e : ltb (last_label at c) greatest_label ≡ true = grind (arith, nat_tests) in
     ap (λ t. cond t (Some (last_label at c + 1)) None) e ∙ ap Some (sym next)
 
--- the connections after a send
-sent_connections : (x : Bus) (b : machine.Bus) (d : Draft) (label : ℕ) (s : Stands x b)
-    → (sent d label b).connections
-    ≡ at_first (has_number d.connection) (λ c. put (other_side d.side) (machine.Ask (next_number b)) (drawn d label c))
-    (svc_with x.ap_last x.far_last s.to_ap s.to_far ∷ [])
-sent_connections x b d label s = at_svc x b s
-    (at_first (has_number d.connection) (λ c. put (other_side d.side) (machine.Ask (next_number b)) (drawn d label c)))
+-- what a send that draws this identifier leaves of the bus and of the connection
+record Drawn (x y : Bus) (b : machine.Bus) (s : Stands x b) (d : Draft) (label : ℕ) : Type 0 where
+  ap_last : ℕ
+  far_last : ℕ
+  label_is : label_for d b ≡ Some label
+  after : y ≡ record x { ap_last = ap_last; far_last = far_last }
+  connection : drawn d label (svc_of x b s) ≡ svc_with ap_last far_last s.to_ap s.to_far
 
--- the bus after a send, by the side that sends
-stands_sent : (x : Bus) (b : machine.Bus) (at : Side) (kind : ℕ) (payload : List ℕ) (deadline : ℕ) (oneway : Bool) (label number : ℕ)
-    → Stands x b → number ≡ length x.slots + 1
-    → Stands (waiting (draft 1 at kind payload deadline oneway) label number (keeping (draft 1 at kind payload deadline oneway) label (labelled oneway at label x)))
-    (sent (draft 1 at kind payload deadline oneway) label b)
-stands_sent x b side.Ap kind payload deadline oneway label number s count = by oneway
-  where
-    Goal : Bool → Type 0
-    Goal one = let d = draft 1 side.Ap kind payload deadline one in
-        Stands (waiting d label number (keeping d label (labelled one side.Ap label x))) (sent d label b)
+draws : (x y : Bus) (b : machine.Bus) (at : Side) (kind : ℕ) (payload : List ℕ) (deadline : ℕ) (oneway : Bool) (label : ℕ) (s : Stands x b)
+    → LabelsAs x y at oneway (Ok label) → Drawn x y b s (draft 1 at kind payload deadline oneway) label
+draws x y b at kind payload deadline true label s h = record {
+  ap_last = x.ap_last;
+  far_last = x.far_last;
+  label_is = ap Some (sym h.0);
+  after = h.1;
+  connection = refl;
+}
+draws x y b side.Ap kind payload deadline false label s h = record {
+  ap_last = label;
+  far_last = x.far_last;
+  label_is = at_svc x b s (λ cs. option_and_then (fresh_label side.Ap) (find (has_number 1) cs))
+      ∙ drawn_next (svc_of x b s) side.Ap label h.left h.next;
+  after = h.after;
+  connection = refl;
+}
+draws x y b side.Far kind payload deadline false label s h = record {
+  ap_last = x.ap_last;
+  far_last = label;
+  label_is = at_svc x b s (λ cs. option_and_then (fresh_label side.Far) (find (has_number 1) cs))
+      ∙ drawn_next (svc_of x b s) side.Far label h.left h.next;
+  after = h.after;
+  connection = refl;
+}
 
-    by : (one : Bool) → Goal one
-    by true = let d = draft 1 side.Ap kind payload deadline true in
-        after_send x (waiting d label number (keeping d label x)) b d label s.to_ap (s.to_far ++ machine.Ask (next_number b) ∷ []) s refl
-        (sent_connections x b d label s) (queue_more b.requests (requested d label) x.to_ap s.to_ap s.ap_queue)
-        (queue_push (b.requests ++ requested d label ∷ []) x.to_far s.to_far (code.Ask number label kind payload) (machine.Ask (next_number b))
-        (queue_more b.requests (requested d label) x.to_far s.to_far s.far_queue) (new_item b d label number (count ∙ ap (λ n. n + 1) (sym s.count))))
-    by false = let d = draft 1 side.Ap kind payload deadline false in
-        after_send x (waiting d label number (keeping d label (with_last side.Ap label x))) b d label s.to_ap (s.to_far ++ machine.Ask (next_number b) ∷ []) s refl
-        (sent_connections x b d label s) (queue_more b.requests (requested d label) x.to_ap s.to_ap s.ap_queue)
-        (queue_push (b.requests ++ requested d label ∷ []) x.to_far s.to_far (code.Ask number label kind payload) (machine.Ask (next_number b))
-        (queue_more b.requests (requested d label) x.to_far s.to_far s.far_queue) (new_item b d label number (count ∙ ap (λ n. n + 1) (sym s.count))))
-stands_sent x b side.Far kind payload deadline oneway label number s count = by oneway
-  where
-    Goal : Bool → Type 0
-    Goal one = let d = draft 1 side.Far kind payload deadline one in
-        Stands (waiting d label number (keeping d label (labelled one side.Far label x))) (sent d label b)
+-- the machine's bus once the request was made, before it waits in a queue of this connection
+abbrev requesting : Draft → ℕ → Connection → machine.Bus → machine.Bus
+requesting d label c b = record b {
+  requests = b.requests ++ requested d label ∷ [];
+  outcomes = sent_at_once d (next_number b) b.outcomes;
+  connections = c ∷ [];
+}
 
-    by : (one : Bool) → Goal one
-    by true = let d = draft 1 side.Far kind payload deadline true in
-        after_send x (waiting d label number (keeping d label x)) b d label (s.to_ap ++ machine.Ask (next_number b) ∷ []) s.to_far s refl
-        (sent_connections x b d label s)
-        (queue_push (b.requests ++ requested d label ∷ []) x.to_ap s.to_ap (code.Ask number label kind payload) (machine.Ask (next_number b))
-        (queue_more b.requests (requested d label) x.to_ap s.to_ap s.ap_queue) (new_item b d label number (count ∙ ap (λ n. n + 1) (sym s.count))))
-        (queue_more b.requests (requested d label) x.to_far s.to_far s.far_queue)
-    by false = let d = draft 1 side.Far kind payload deadline false in
-        after_send x (waiting d label number (keeping d label (with_last side.Far label x))) b d label (s.to_ap ++ machine.Ask (next_number b) ∷ []) s.to_far s refl
-        (sent_connections x b d label s)
-        (queue_push (b.requests ++ requested d label ∷ []) x.to_ap s.to_ap (code.Ask number label kind payload) (machine.Ask (next_number b))
-        (queue_more b.requests (requested d label) x.to_ap s.to_ap s.ap_queue) (new_item b d label number (count ∙ ap (λ n. n + 1) (sym s.count))))
-        (queue_more b.requests (requested d label) x.to_far s.to_far s.far_queue)
+-- the bus stands for it
+stands_requesting : (x : Bus) (b : machine.Bus) (d : Draft) (label ap_last far_last : ℕ) (s : Stands x b)
+    → Stands (keeping d label (record x { ap_last = ap_last; far_last = far_last }))
+    (requesting d label (svc_with ap_last far_last s.to_ap s.to_far) b)
+stands_requesting x b d label ap_last far_last s = record {
+  to_ap = s.to_ap;
+  to_far = s.to_far;
+  alone = refl;
+  ap_queue = queue_more b.requests (requested d label) x.to_ap s.to_ap s.ap_queue;
+  far_queue = queue_more b.requests (requested d label) x.to_far s.to_far s.far_queue;
+  count = length-append b.requests (requested d label ∷ []) ∙ ap (λ n. n + 1) s.count
+      ∙ sym (length-append x.slots (kept (first_outcome d.oneway) (requested d label) ∷ []));
+  slots = tell_more x.slots b.requests b.outcomes (sent_at_once d (next_number b) b.outcomes)
+      (requested d label) (first_outcome d.oneway) s.count s.slots
+      (λ m h. sent_others d b.outcomes (next_number b) m (inl (omega arith)))
+      (sent_own d b.outcomes (next_number b) (s.made (next_number b) (omega arith)));
+  made = λ n h. sent_others d b.outcomes (next_number b) n (inr (omega (arith, length-append b.requests (requested d label ∷ []))))
+      ∙ s.made n (omega (arith, length-append b.requests (requested d label ∷ [])));
+}
 
--- the identifier that a send draws, and the bus that it leaves
-label_is : (x y : Bus) (b : machine.Bus) (at : Side) (kind : ℕ) (payload : List ℕ) (deadline : ℕ) (oneway : Bool) (label : ℕ)
-    → Stands x b → LabelsAs x y at oneway (Ok label)
-    → (label_for (draft 1 at kind payload deadline oneway) b ≡ Some label) × (y ≡ labelled oneway at label x)
-label_is x y b at kind payload deadline true label s h = (ap Some (sym h.0), h.1)
-label_is x y b side.Ap kind payload deadline false label s h = (
-  at_svc x b s (λ cs. option_and_then (fresh_label side.Ap) (find (has_number 1) cs))
-      ∙ drawn_next (svc_with x.ap_last x.far_last s.to_ap s.to_far) side.Ap label h.left h.next,
-  h.after,
-)
-label_is x y b side.Far kind payload deadline false label s h = (
-  at_svc x b s (λ cs. option_and_then (fresh_label side.Far) (find (has_number 1) cs))
-      ∙ drawn_next (svc_with x.ap_last x.far_last s.to_ap s.to_far) side.Far label h.left h.next,
-  h.after,
-)
-
--- the slots from before stay when an identifier is drawn
-slots_stay : (x : Bus) (at : Side) (oneway : Bool) (label : ℕ) → (labelled oneway at label x).slots ≡ x.slots
-slots_stay x at true label = refl
-slots_stay x side.Ap false label = refl
-slots_stay x side.Far false label = refl
+-- the machine's bus after a send: the request was made, and then it went to its queue
+sent_is : (x : Bus) (b : machine.Bus) (s : Stands x b) (d : Draft) (label ap_last far_last : ℕ)
+    → d.connection ≡ 1 → drawn d label (svc_of x b s) ≡ svc_with ap_last far_last s.to_ap s.to_far
+    → sent d label b ≡ replied 1 (other_side d.side) (machine.Ask (next_number b))
+    (requesting d label (svc_with ap_last far_last s.to_ap s.to_far) b)
+sent_is x b s d label ap_last far_last one connection =
+    let goes : Connection → Connection = put (other_side d.side) (machine.Ask (next_number b)) in
+    ap (λ cs. record (requesting d label (svc_of x b s) b) { connections = cs })
+    (ap (λ k. at_first (has_number k) (λ c. goes (drawn d label c)) b.connections) one
+    ∙ at_svc x b s (at_first (has_number 1) (λ c. goes (drawn d label c)))
+    ∙ ap (λ c. goes c ∷ []) connection)
 
 sends_one : (x y z : Bus) (b : machine.Bus) (at : Side) (kind : ℕ) (payload : List ℕ) (deadline : ℕ) (oneway : Bool) (label number : ℕ)
     → Stands x b → LabelsAs x y at oneway (Ok label) → number ≡ length y.slots + 1
@@ -182,15 +155,20 @@ sends_one : (x y z : Bus) (b : machine.Bus) (at : Side) (kind : ℕ) (payload : 
     → Sends z (draft 1 at kind payload deadline oneway) b (told number label)
 sends_one x y z b at kind payload deadline oneway label number s h count after =
     let d = draft 1 at kind payload deadline oneway in
-    let is = label_is x y b at kind payload deadline oneway label s h in
-    let slots : y.slots ≡ x.slots = ap (λ (w : Bus). w.slots) is.1 ∙ slots_stay x at oneway label in
-    let place : number ≡ length x.slots + 1 = count ∙ ap (λ (w : List Slot). length w + 1) slots in
+    let w = draws x y b at kind payload deadline oneway label s h in
+    let x2 = keeping d label (record x { ap_last = w.ap_last; far_last = w.far_last }) in
+    let b2 = requesting d label (svc_with w.ap_last w.far_last s.to_ap s.to_far) b in
+    let place : number ≡ next_number b =
+    count ∙ ap (λ (v : Bus). length v.slots + 1) w.after ∙ ap (λ n. n + 1) (sym s.count) in
+    let waits : Stands (waiting d label number x2) (replied 1 (other_side at) (machine.Ask (next_number b)) b2) =
+    pushed (other_side at) x2 b2 (stands_requesting x b d label w.ap_last w.far_last s)
+    (code.Ask number label kind payload) (machine.Ask (next_number b)) (new_item b d label number place) in
     record {
-      label = is.0;
-      number = place ∙ ap (λ n. n + 1) (sym s.count);
+      label = w.label_is;
+      number = place;
       lost = sym (at_svc x b s (λ cs. not (is_wired (find (has_number 1) cs))));
-      stands = subst (λ (w : Bus). Stands w (sent d label b)) (sym (after ∙ ap (λ (w : Bus). waiting d label number (keeping d label w)) is.1))
-          (stands_sent x b at kind payload deadline oneway label number s place);
+      stands = subst (λ (v : Bus). Stands v (sent d label b)) (sym (after ∙ ap (λ (v : Bus). waiting d label number (keeping d label v)) w.after))
+          (subst (λ (v : machine.Bus). Stands (waiting d label number x2) v) (sym (sent_is x b s d label w.ap_last w.far_last refl w.connection)) waits);
     }
 
 -- The answer of a send on the connection of the supervisory controller.

@@ -27,7 +27,8 @@ pub record Names (asked : Asked) (n : ℕ) (r : Request) : Type 0 where
   pub kind : asked.kind ≡ r.kind
 
 -- a request is delivered
-pub record ArrivesAsk (new : Bus) (p : Place) (b : machine.Bus) (item : machine.Item) (asked : Asked) (payload : List ℕ) : Type 0 where
+pub record ArrivesAsk (new : Bus) (p : Place) (b : machine.Bus) (item : machine.Item)
+    (asked : Asked) (payload : List ℕ) : Type 0 where
   pub number : ℕ
   pub request : Request
   pub item_is : item ≡ machine.Ask number
@@ -37,7 +38,8 @@ pub record ArrivesAsk (new : Bus) (p : Place) (b : machine.Bus) (item : machine.
   pub stands : Stands new (taken_at p b)
 
 -- an answer ended its request
-pub record ArrivesAnswer (new : Bus) (p : Place) (b : machine.Bus) (item : machine.Item) (number kind result : ℕ) (payload : List ℕ) : Type 0 where
+pub record ArrivesAnswer (new : Bus) (p : Place) (b : machine.Bus) (item : machine.Item)
+    (number kind result : ℕ) (payload : List ℕ) : Type 0 where
   pub bytes : List ℕ
   pub request : Request
   pub item_is : item ≡ machine.Reply number result bytes
@@ -48,7 +50,8 @@ pub record ArrivesAnswer (new : Bus) (p : Place) (b : machine.Bus) (item : machi
   pub stands : Stands new (ended number (answered result bytes) (taken_at p b))
 
 -- an answer came to a request that had ended
-pub record ArrivesLate (new : Bus) (p : Place) (b : machine.Bus) (item : machine.Item) (number : ℕ) : Type 0 where
+pub record ArrivesLate (new : Bus) (p : Place) (b : machine.Bus) (item : machine.Item)
+    (number : ℕ) : Type 0 where
   pub result : ℕ
   pub bytes : List ℕ
   pub item_is : item ≡ machine.Reply number result bytes
@@ -63,7 +66,8 @@ IsDropped (machine.Raw bytes) number reply = number ≡ None
 IsDropped (machine.RawReply label kind result bytes) number reply = number ≡ None
 
 -- an item is dropped
-pub record ArrivesDropped (new : Bus) (p : Place) (b : machine.Bus) (item : machine.Item) (number : Option ℕ) (reply : Bool) : Type 0 where
+pub record ArrivesDropped (new : Bus) (p : Place) (b : machine.Bus) (item : machine.Item)
+    (number : Option ℕ) (reply : Bool) : Type 0 where
   pub told : IsDropped item number reply
   pub stands : Stands new (taken_at p b)
 
@@ -78,7 +82,8 @@ Brings new takes p b item (arrival.Dropped number reply) =
     (takes ≡ false) × ArrivesDropped new p b item number reply
 
 -- the front item toward the end was taken from its queue
-pub record Delivers (new : Bus) (at : End) (takes : Bool) (b : machine.Bus) (a : Arrived) : Type 0 where
+pub record Delivers (new : Bus) (at : End) (takes : Bool) (b : machine.Bus)
+    (a : Arrived) : Type 0 where
   pub place : Place
   pub item : machine.Item
   pub named : place_of at b.connections ≡ Some place

@@ -1,5 +1,5 @@
 -- The slots of requests.
-use Rattle.std.specs.Prelude.{ℕ, ◌==◌, ◌-◌, if◌then◌else◌, Option, Some, None, List, slice_get, slice_set, nat_lt, length, ◌||◌}
+use Rattle.std.specs.Prelude.{ℕ, ◌-◌, Option, Some, None, List, slice_set}
 use Rattle.gb_base.specs.declared.outcome.Outcome.{Outcome}
 use Rattle.gb_bus.specs.declared.slots.Slot.{Slot}
 use Rattle.gb_machine.specs.Lists.{nth}
@@ -7,11 +7,6 @@ use Rattle.gb_machine.specs.Lists.{nth}
 -- a slot whose request ends so
 abbrev pub with_outcome : Outcome → Slot → Slot
 with_outcome how slot = record slot { outcome = Some how }
-
--- what a slot says of the outcome
-abbrev pub outcome_in : Option Slot → Option Outcome
-outcome_in None = None
-outcome_in (Some slot) = slot.outcome
 
 -- the slots where the slot of request n is replaced
 abbrev pub put_at : ℕ → Outcome → List Slot → Option Slot → List Slot

@@ -10,7 +10,8 @@ use Rattle.gb_machine.specs.Bus.{Connection, Request, outcome_of, request_of, sv
 use Rattle.gb_machine.specs.Lists.{nth}
 
 -- a queued request is the one that was made under its number
-pub record StandsForAsk (requests : List Request) (number label kind : ℕ) (payload : List ℕ) (n : ℕ) : Type 0 where
+pub record StandsForAsk (requests : List Request) (number label kind : ℕ)
+    (payload : List ℕ) (n : ℕ) : Type 0 where
   pub request : Request
   pub made : nth n requests ≡ Some request
   pub same : number ≡ n
@@ -18,7 +19,8 @@ pub record StandsForAsk (requests : List Request) (number label kind : ℕ) (pay
   pub kind_is : request.kind ≡ kind
   pub payload_is : request.payload ≡ payload
 
-pub record StandsForReply (number result : ℕ) (payload : List ℕ) (n r : ℕ) (bytes : List ℕ) : Type 0 where
+pub record StandsForReply (number result : ℕ) (payload : List ℕ)
+    (n r : ℕ) (bytes : List ℕ) : Type 0 where
   pub number_is : number ≡ n
   pub result_is : result ≡ r
   pub payload_is : payload ≡ bytes

@@ -2,12 +2,12 @@
 
 ghost use Rattle.std.specs.Prelude.{◌≡◌, ℕ, [], ◌∷◌, ◌++◌, OnOk, IfOk, IsErrOf, option_copied, is_some, true};
 ghost use Rattle.gb_machine.specs.Bus as machine;
-ghost use Rattle.gb_machine.specs.Bus.{first_bus, other_side, outcome_of, request_of};
+ghost use Rattle.gb_machine.specs.Bus.{first_bus, outcome_of, request_of};
 ghost use Rattle.gb_machine.specs.Lists.{nth};
 ghost use Rattle.gb_machine.specs.Sending.{draft};
-ghost use Rattle.gb_bus.specs.Ends.{first_outcome, side_of};
 ghost use Rattle.gb_bus.specs.Taking.{dropped, open_kind};
 
+use crate::ends::{first_outcome, other_side, side_at};
 use crate::queue::{Item, Queue};
 use crate::slots::{Slot, Slots};
 use crate::{Arrival, Arrived, Asked, DeliverFault, SendFault, Sent};
@@ -51,8 +51,8 @@ impl Bus {
         })
     }
 
-    /// Makes a request on a live connection. `deadline` is in milliseconds. A unidirectional request
-    /// has identifier 0, and has ended as sent at once.
+    /// Makes a request on a live connection. `deadline` is in milliseconds. A unidirectional
+    /// request has identifier 0, and has ended as sent at once.
     pub fn send(
         &mut self,
         k: u64,
@@ -91,10 +91,11 @@ impl Bus {
         })
     }
 
-    /// Takes the front message toward an end from its queue. An end that doesn't take messages drops
-    /// it.
+    /// Takes the front message toward an end from its queue. An end that doesn't take messages
+    /// drops it.
     pub fn deliver(&mut self, at: End, takes: bool) -> Result<Arrived, DeliverFault>
-        ensures step { (b : machine.Bus) → Stands self.old b → DeliversAs self.new at takes b result }
+        ensures step { (b : machine.Bus) → Stands self.old b
+            → DeliversAs self.new at takes b result }
         ensures live { IfOk result (λ a. HasConnection self.new a.connection) }
     {
         let Some(side) = side_at(at) else {
@@ -110,8 +111,8 @@ impl Bus {
         })
     }
 
-    /// Answers a request that was delivered at `side` of a connection: the reply goes toward the side
-    /// that asked.
+    /// Answers a request that was delivered at `side` of a connection: the reply goes toward the
+    /// side that asked.
     pub fn reply(
         &mut self,
         k: u64,
@@ -129,12 +130,12 @@ impl Bus {
             return Ok(());
         };
         let payload = Bytes::from_slice(self.alloc, payload)?;
-        let item = Item::Reply {
+        let answer = Item::Reply {
             number,
             result: code,
             payload,
         };
-        self.push(other_side(side), item)?;
+        self.push(other_side(side), answer)?;
         Ok(())
     }
 
@@ -143,10 +144,7 @@ impl Bus {
         ensures { (b : machine.Bus) → Stands self.now b → is_some (request_of n b) ≡ true
             → option_copied result ≡ outcome_of n b }
     {
-        match self.slots.get(n) {
-            Some(slot) => slot.outcome.as_ref(),
-            None => None,
-        }
+        self.slots.get(n)?.outcome.as_ref()
     }
 
     /// The identifier of the next request of a side.
@@ -180,7 +178,8 @@ impl Bus {
 
     /// Adds a message to the queue toward a side.
     fn push(&mut self, side: Side, item: Item) -> Result<(), OutOfMemory>
-        ensures { OnOk result (self.new ≡ with_queue side (queue_of side self.old ++ item ∷ []) self.old) }
+        ensures { OnOk result
+            (self.new ≡ with_queue side (queue_of side self.old ++ item ∷ []) self.old) }
     {
         match side {
             Side::Ap => self.to_ap.push(item),
@@ -268,34 +267,6 @@ impl Bus {
             Some(slot) if slot.outcome.is_none() => Some(slot.kind),
             _ => None,
         }
-    }
-}
-
-/// The outcome that a request has from the first.
-fn first_outcome(oneway: bool) -> Option<Outcome>
-    ensures { result ≡ first_outcome oneway }
-{
-    if oneway { Some(Outcome::Sent) } else { None }
-}
-
-/// The other side of a connection.
-fn other_side(side: Side) -> Side
-    ensures { result ≡ other_side side }
-{
-    match side {
-        Side::Ap => Side::Far,
-        Side::Far => Side::Ap,
-    }
-}
-
-/// The side at which an end stands.
-fn side_at(at: End) -> Option<Side>
-    ensures { result ≡ side_of at }
-{
-    match at {
-        End::Ap(0) => Some(Side::Ap),
-        End::Svc => Some(Side::Far),
-        End::Ap(_) | End::Module { .. } => None,
     }
 }
 

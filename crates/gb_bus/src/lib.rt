@@ -3,8 +3,11 @@
 
 mod answers;
 mod bus;
+mod ends;
 mod queue;
 mod slots;
+#[cfg(test)]
+mod tests;
 
 pub use answers::{Arrival, Arrived, Asked, DeliverFault, SendFault, Sent};
 pub use bus::Bus;
