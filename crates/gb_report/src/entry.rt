@@ -94,7 +94,8 @@ fn message_line(alloc: Global, entry: &Entry, hex: bool) -> Result<String, OutOf
 /// The line that tells what became of a request.
 fn request_line(alloc: Global, entry: &Entry) -> Result<String, OutOfMemory>
     requires { is_request entry.now ≡ true }
-    ensures { (line : ℕ) (hex : Bool) → IfOk result (λ s. string_bytes s ≡ entry_line line hex entry.now) }
+    ensures { (line : ℕ) (hex : Bool)
+        → IfOk result (λ s. string_bytes s ≡ entry_line line hex entry.now) }
 {
     match entry {
         Entry::Held { number } => {
@@ -122,7 +123,8 @@ fn request_line(alloc: Global, entry: &Entry) -> Result<String, OutOfMemory>
 /// The line of a message that no one awaited.
 fn stray_line(alloc: Global, entry: &Entry) -> Result<String, OutOfMemory>
     requires { is_stray entry.now ≡ true }
-    ensures { (line : ℕ) (hex : Bool) → IfOk result (λ s. string_bytes s ≡ entry_line line hex entry.now) }
+    ensures { (line : ℕ) (hex : Bool)
+        → IfOk result (λ s. string_bytes s ≡ entry_line line hex entry.now) }
 {
     match entry {
         Entry::LateLabel { label } => Ok(format!(in alloc; "late label {label}")?),
@@ -142,7 +144,8 @@ fn stray_line(alloc: Global, entry: &Entry) -> Result<String, OutOfMemory>
 /// The line of an interface or a connection.
 fn link_line(alloc: Global, entry: &Entry) -> Result<String, OutOfMemory>
     requires { is_link entry.now ≡ true }
-    ensures { (line : ℕ) (hex : Bool) → IfOk result (λ s. string_bytes s ≡ entry_line line hex entry.now) }
+    ensures { (line : ℕ) (hex : Bool)
+        → IfOk result (λ s. string_bytes s ≡ entry_line line hex entry.now) }
 {
     match entry {
         Entry::Interface { intf, stage } => {
@@ -170,7 +173,8 @@ fn link_line(alloc: Global, entry: &Entry) -> Result<String, OutOfMemory>
 /// The line of what a bridged device told.
 fn device_line(alloc: Global, entry: &Entry) -> Result<String, OutOfMemory>
     requires { is_device entry.now ≡ true }
-    ensures { (line : ℕ) (hex : Bool) → IfOk result (λ s. string_bytes s ≡ entry_line line hex entry.now) }
+    ensures { (line : ℕ) (hex : Bool)
+        → IfOk result (λ s. string_bytes s ≡ entry_line line hex entry.now) }
 {
     match entry {
         Entry::Irq { intf, cport, line } => Ok(format!(in alloc; "irq {intf} {cport} {line}")?),
