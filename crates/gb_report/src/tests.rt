@@ -12,18 +12,25 @@ use std::test::Fail;
 fn writes_each_entry(rt: HostRuntime) -> Result<(), Fail> {
     let alloc = rt.alloc();
     let mut out = Text::new(alloc);
-    for entry in &messages(alloc)? {
-        put(alloc, entry, 7, true, &mut out)?;
-    }
-    for entry in &ends(alloc)? {
-        put(alloc, entry, 7, false, &mut out)?;
-    }
-    for entry in &links(alloc)? {
-        put(alloc, entry, 7, false, &mut out)?;
-    }
+    put_all(alloc, &messages(alloc)?, &mut out)?;
+    put_all(alloc, &requests(alloc)?, &mut out)?;
+    put_all(alloc, &raws(alloc)?, &mut out)?;
+    put_all(alloc, &others(alloc)?, &mut out)?;
     put_refusal(alloc, 12, &LineReason::BadByte(3), &mut out)?;
     put_refusal(alloc, 13, &LineReason::NotBuilt, &mut out)?;
     assert_eq!(rt; out.items(), WANTED);
+    let mut plain = Text::new(alloc);
+    let [raw, ..] = &raws(alloc)?;
+    put(alloc, raw, 7, false, &mut plain)?;
+    assert_eq!(rt; plain.items(), b"raw 2 4095 > ap 1 size 1\n".as_slice());
+    Ok(())
+}
+
+/// The report of line 7, with the bytes of messages.
+fn put_all(alloc: Global, entries: &[Entry], out: &mut Text) -> Result<(), OutOfMemory> {
+    for entry in entries {
+        put(alloc, entry, 7, true, out)?;
+    }
     Ok(())
 }
 
@@ -31,20 +38,20 @@ const WANTED: &[u8] = b"line 7 ok
 line 7 refused NotEnumerated
 ask #1 ap 0 > svc type 13 size 8 0800010013000000 lost
 reply #18446744073709551615 svc > ap 0 result 09 size 8 0800010093090000
-raw 2 4095 > ap 1 size 1 ab
 held raw
 end #3 answered 00 0aff = 7
 end #4 answered 09 -
 end #5 timeout
 late #6
-late label 65535
-unknown label 2
 drop #8 reply
 drop raw
+ignored type 0e
+raw 2 4095 > ap 1 size 1 ab
 bad raw short 8
 bad raw result fe
 bad raw extra 1
-ignored type 0e
+late label 65535
+unknown label 2
 interface 2 enumerated
 manifest 3 refused 12 bundle twice
 connection 1 ap 0 2 0 opening
@@ -58,8 +65,8 @@ line 12: bad byte 3
 line 13: not built
 ";
 
-/// What becomes of messages.
-fn messages(alloc: Global) -> Result<[Entry; 5], OutOfMemory> {
+/// A line's answers, an ask and a reply.
+fn messages(alloc: Global) -> Result<[Entry; 4], OutOfMemory> {
     Ok([
         Entry::Done,
         Entry::Refused {
@@ -82,6 +89,49 @@ fn messages(alloc: Global) -> Result<[Entry; 5], OutOfMemory> {
             size: 8,
             bytes: Bytes::from_slice(alloc, b"\x08\0\x01\0\x93\x09\0\0")?,
         },
+    ])
+}
+
+/// A request that ended so.
+fn ended(number: u64, outcome: Outcome, reading: Reading) -> Entry {
+    Entry::Ended {
+        number,
+        outcome,
+        reading,
+    }
+}
+
+/// What becomes of requests.
+fn requests(alloc: Global) -> Result<[Entry; 8], OutOfMemory> {
+    let success = Outcome::Answered {
+        result: 0,
+        payload: Bytes::from_slice(alloc, b"\x0a\xff")?,
+    };
+    let failure = Outcome::Answered {
+        result: 9,
+        payload: Bytes::new(alloc),
+    };
+    Ok([
+        Entry::Held { number: None },
+        ended(3, success, Reading::Number(7)),
+        ended(4, failure, Reading::Nothing),
+        ended(5, Outcome::Timeout, Reading::Nothing),
+        Entry::Late { number: 6 },
+        Entry::Dropped {
+            number: Some(8),
+            reply: true,
+        },
+        Entry::Dropped {
+            number: None,
+            reply: false,
+        },
+        Entry::Ignored { kind: 0x0e },
+    ])
+}
+
+/// Injected bytes, and what comes of them.
+fn raws(alloc: Global) -> Result<[Entry; 6], OutOfMemory> {
+    Ok([
         Entry::Raw {
             from: End::Module {
                 intf: 2,
@@ -90,45 +140,6 @@ fn messages(alloc: Global) -> Result<[Entry; 5], OutOfMemory> {
             to: End::Ap(1),
             size: 1,
             bytes: Bytes::from_slice(alloc, b"\xab")?,
-        },
-    ])
-}
-
-/// What becomes of requests, and messages that no one awaited.
-fn ends(alloc: Global) -> Result<[Entry; 13], OutOfMemory> {
-    Ok([
-        Entry::Held { number: None },
-        Entry::Ended {
-            number: 3,
-            outcome: Outcome::Answered {
-                result: 0,
-                payload: Bytes::from_slice(alloc, b"\x0a\xff")?,
-            },
-            reading: Reading::Number(7),
-        },
-        Entry::Ended {
-            number: 4,
-            outcome: Outcome::Answered {
-                result: 9,
-                payload: Bytes::new(alloc),
-            },
-            reading: Reading::Nothing,
-        },
-        Entry::Ended {
-            number: 5,
-            outcome: Outcome::Timeout,
-            reading: Reading::Nothing,
-        },
-        Entry::Late { number: 6 },
-        Entry::LateLabel { label: 65535 },
-        Entry::UnknownLabel { label: 2 },
-        Entry::Dropped {
-            number: Some(8),
-            reply: true,
-        },
-        Entry::Dropped {
-            number: None,
-            reply: false,
         },
         Entry::BadRaw {
             fault: RawFault::Wire(WireFault::Short { need: 8 }),
@@ -139,12 +150,13 @@ fn ends(alloc: Global) -> Result<[Entry; 13], OutOfMemory> {
         Entry::BadRaw {
             fault: RawFault::Extra { count: 1 },
         },
-        Entry::Ignored { kind: 0x0e },
+        Entry::LateLabel { label: 65535 },
+        Entry::UnknownLabel { label: 2 },
     ])
 }
 
-/// What becomes of interfaces, connections and devices.
-fn links(alloc: Global) -> Result<[Entry; 9], OutOfMemory> {
+/// Interfaces, connections, devices and the ends of a settle and a show.
+fn others(alloc: Global) -> Result<[Entry; 9], OutOfMemory> {
     let mut text = Text::new(alloc);
     text.append("now 5")?;
     Ok([
