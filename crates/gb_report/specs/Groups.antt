@@ -3,11 +3,10 @@ use Rattle.std.specs.Prelude.{Bool, true, false}
 use Rattle.gb_base.specs.declared.entry.Entry.{Entry}
 use Rattle.gb_base.specs.declared.entry.Entry.TheVariants as entry
 
--- a message that is put in a queue, or raw bytes
+-- a message that is put in a queue
 abbrev pub is_message : Entry → Bool
 is_message (entry.Asked n from to kind size bytes lost) = true
 is_message (entry.Replied item from to result size bytes) = true
-is_message (entry.Raw from to size bytes) = true
 is_message e = false
 
 -- what becomes of a request
@@ -16,15 +15,16 @@ is_request (entry.Held item) = true
 is_request (entry.Ended n how read) = true
 is_request (entry.Late n) = true
 is_request (entry.Dropped item reply) = true
+is_request (entry.Ignored kind) = true
 is_request e = false
 
--- a message that no one awaited
-abbrev pub is_stray : Entry → Bool
-is_stray (entry.LateLabel label) = true
-is_stray (entry.UnknownLabel label) = true
-is_stray (entry.BadRaw fault) = true
-is_stray (entry.Ignored kind) = true
-is_stray e = false
+-- injected bytes, and what comes of them
+abbrev pub is_raw : Entry → Bool
+is_raw (entry.Raw from to size bytes) = true
+is_raw (entry.BadRaw fault) = true
+is_raw (entry.LateLabel label) = true
+is_raw (entry.UnknownLabel label) = true
+is_raw e = false
 
 -- an interface or a connection
 abbrev pub is_link : Entry → Bool

@@ -3,7 +3,7 @@
 ghost use Rattle.std.specs.Prelude.{◌≡◌, ℕ, Bool, true, List, IfOk, OnOk, IsAscii};
 ghost use Rattle.std.specs.String.{string_bytes};
 ghost use Rattle.gb_formats.specs.Texts.{entry_line};
-ghost use Rattle.gb_report.specs.Groups.{is_device, is_link, is_message, is_request, is_stray};
+ghost use Rattle.gb_report.specs.Groups.{is_device, is_link, is_message, is_raw, is_request};
 
 use crate::names::{lost_mark, reason_name, refusal_name, stage_name, state_name};
 use crate::parts::{Dropped, Hex, Item, Raw, Said, Way, hex_of, outcome_of, size_of};
@@ -22,21 +22,21 @@ pub fn line_of(alloc: Global, entry: &Entry, line: u32, hex: bool) -> Result<Str
             let why = refusal_name(*why);
             Ok(format!(in alloc; "line {line} refused {why}")?)
         }
-        Entry::Asked { .. } | Entry::Replied { .. } | Entry::Raw { .. } => {
-            message_line(alloc, entry, hex)
-        }
-        Entry::Held { .. } | Entry::Ended { .. } | Entry::Late { .. } | Entry::Dropped { .. } => {
-            request_line(alloc, entry)
-        }
-        Entry::LateLabel { .. }
-        | Entry::UnknownLabel { .. }
+        Entry::Asked { .. } | Entry::Replied { .. } => message_line(alloc, entry, hex),
+        Entry::Held { .. }
+        | Entry::Ended { .. }
+        | Entry::Late { .. }
+        | Entry::Dropped { .. }
+        | Entry::Ignored { .. } => request_line(alloc, entry),
+        Entry::Raw { .. }
         | Entry::BadRaw { .. }
-        | Entry::Ignored { .. } => stray_line(alloc, entry),
+        | Entry::LateLabel { .. }
+        | Entry::UnknownLabel { .. } => raw_line(alloc, entry, hex),
         Entry::Interface { .. } | Entry::Manifest { .. } | Entry::Connection { .. } => {
             link_line(alloc, entry)
         }
         Entry::Irq { .. } | Entry::Received { .. } | Entry::Serial { .. } | Entry::Credits { .. } =>
-            device_line(alloc, entry),
+            { device_line(alloc, entry) }
         Entry::Settled { count } => Ok(format!(in alloc; "settled {count}")?),
         Entry::Shown { text } => {
             let text = str::from_utf8(text.items()).unwrap();
@@ -45,7 +45,7 @@ pub fn line_of(alloc: Global, entry: &Entry, line: u32, hex: bool) -> Result<Str
     }
 }
 
-/// The line of a message that is put in a queue, or of raw bytes.
+/// The line of a message that is put in a queue.
 fn message_line(alloc: Global, entry: &Entry, hex: bool) -> Result<String, OutOfMemory>
     requires { is_message entry.now ≡ true }
     ensures { (line : ℕ) → IfOk result (λ s. string_bytes s ≡ entry_line line hex entry.now) }
@@ -77,16 +77,6 @@ fn message_line(alloc: Global, entry: &Entry, hex: bool) -> Result<String, OutOf
             let size = size_of(alloc, hex, *size, bytes)?;
             Ok(format!(in alloc; "reply {item} {way} result {code} size {size}")?)
         }
-        Entry::Raw {
-            from,
-            to,
-            size,
-            bytes,
-        } => {
-            let way = Way(*from, *to);
-            let size = size_of(alloc, hex, *size, bytes)?;
-            Ok(format!(in alloc; "raw {way} size {size}")?)
-        }
         _ => unreachable!(),
     }
 }
@@ -94,7 +84,8 @@ fn message_line(alloc: Global, entry: &Entry, hex: bool) -> Result<String, OutOf
 /// The line that tells what became of a request.
 fn request_line(alloc: Global, entry: &Entry) -> Result<String, OutOfMemory>
     requires { is_request entry.now ≡ true }
-    ensures { (line : ℕ) (hex : Bool) → IfOk result (λ s. string_bytes s ≡ entry_line line hex entry.now) }
+    ensures { (line : ℕ) (hex : Bool)
+        → IfOk result (λ s. string_bytes s ≡ entry_line line hex entry.now) }
 {
     match entry {
         Entry::Held { number } => {
@@ -115,22 +106,6 @@ fn request_line(alloc: Global, entry: &Entry) -> Result<String, OutOfMemory>
             let dropped = Dropped(*number, *reply);
             Ok(format!(in alloc; "drop {dropped}")?)
         }
-        _ => unreachable!(),
-    }
-}
-
-/// The line of a message that no one awaited.
-fn stray_line(alloc: Global, entry: &Entry) -> Result<String, OutOfMemory>
-    requires { is_stray entry.now ≡ true }
-    ensures { (line : ℕ) (hex : Bool) → IfOk result (λ s. string_bytes s ≡ entry_line line hex entry.now) }
-{
-    match entry {
-        Entry::LateLabel { label } => Ok(format!(in alloc; "late label {label}")?),
-        Entry::UnknownLabel { label } => Ok(format!(in alloc; "unknown label {label}")?),
-        Entry::BadRaw { fault } => {
-            let fault = Raw(*fault);
-            Ok(format!(in alloc; "bad raw {fault}")?)
-        }
         Entry::Ignored { kind } => {
             let kind = Hex(*kind);
             Ok(format!(in alloc; "ignored type {kind}")?)
@@ -139,10 +114,37 @@ fn stray_line(alloc: Global, entry: &Entry) -> Result<String, OutOfMemory>
     }
 }
 
+/// The line of injected bytes, or of what comes of them.
+fn raw_line(alloc: Global, entry: &Entry, hex: bool) -> Result<String, OutOfMemory>
+    requires { is_raw entry.now ≡ true }
+    ensures { (line : ℕ) → IfOk result (λ s. string_bytes s ≡ entry_line line hex entry.now) }
+{
+    match entry {
+        Entry::Raw {
+            from,
+            to,
+            size,
+            bytes,
+        } => {
+            let way = Way(*from, *to);
+            let size = size_of(alloc, hex, *size, bytes)?;
+            Ok(format!(in alloc; "raw {way} size {size}")?)
+        }
+        Entry::BadRaw { fault } => {
+            let fault = Raw(*fault);
+            Ok(format!(in alloc; "bad raw {fault}")?)
+        }
+        Entry::LateLabel { label } => Ok(format!(in alloc; "late label {label}")?),
+        Entry::UnknownLabel { label } => Ok(format!(in alloc; "unknown label {label}")?),
+        _ => unreachable!(),
+    }
+}
+
 /// The line of an interface or a connection.
 fn link_line(alloc: Global, entry: &Entry) -> Result<String, OutOfMemory>
     requires { is_link entry.now ≡ true }
-    ensures { (line : ℕ) (hex : Bool) → IfOk result (λ s. string_bytes s ≡ entry_line line hex entry.now) }
+    ensures { (line : ℕ) (hex : Bool)
+        → IfOk result (λ s. string_bytes s ≡ entry_line line hex entry.now) }
 {
     match entry {
         Entry::Interface { intf, stage } => {
@@ -170,7 +172,8 @@ fn link_line(alloc: Global, entry: &Entry) -> Result<String, OutOfMemory>
 /// The line of what a bridged device told.
 fn device_line(alloc: Global, entry: &Entry) -> Result<String, OutOfMemory>
     requires { is_device entry.now ≡ true }
-    ensures { (line : ℕ) (hex : Bool) → IfOk result (λ s. string_bytes s ≡ entry_line line hex entry.now) }
+    ensures { (line : ℕ) (hex : Bool)
+        → IfOk result (λ s. string_bytes s ≡ entry_line line hex entry.now) }
 {
     match entry {
         Entry::Irq { intf, cport, line } => Ok(format!(in alloc; "irq {intf} {cport} {line}")?),

@@ -5,5 +5,7 @@ mod entry;
 mod names;
 mod parts;
 mod report;
+#[cfg(test)]
+mod tests;
 
 pub use report::{put, put_refusal};

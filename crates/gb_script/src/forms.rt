@@ -1,6 +1,7 @@
 //! The forms of lines that give an event.
 
-ghost use Rattle.std.specs.Prelude.{◌≡◌, ℕ, List, true, false, ◌∷◌, codes, Some, None, if◌then◌else◌};
+ghost use Rattle.std.specs.Prelude.{◌≡◌, ℕ, List, true, false, ◌∷◌, codes, Some, None};
+ghost use Rattle.std.specs.Prelude.{if◌then◌else◌};
 ghost use Rattle.gb_formats.specs.Grammar.{is_comment, is_name_word, name_of};
 ghost use Rattle.gb_formats.specs.Script.{is_plain, said};
 ghost use Rattle.gb_formats.specs.Words.{words};

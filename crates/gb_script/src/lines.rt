@@ -7,7 +7,8 @@ ghost use Rattle.gb_formats.specs.Lines.{lines, without_cr};
 ///
 /// Lines end with LF, which the last may lack. One CR before the LF belongs to the end.
 pub fn first_line(text: &[u8]) -> Option<(&[u8], &[u8])>
-    ensures cut { MatchOption result (lines text.now ≡ []) (λ f. lines text.now ≡ f.0.now ∷ lines f.1.now) }
+    ensures cut { MatchOption result (lines text.now ≡ [])
+        (λ f. lines text.now ≡ f.0.now ∷ lines f.1.now) }
     ensures shorter { IfSome result (λ f. length f.1.now < length text.now) }
 {
     for (i, b) in text.iter().enumerate() {

@@ -5,7 +5,8 @@ ghost use Rattle.gb_formats.specs.Words.{words};
 
 /// The first word of a line, and the line behind it. None where there are no words.
 pub fn first_word(line: &[u8]) -> Option<(&[u8], &[u8])>
-    ensures { MatchOption result (words line.now ≡ []) (λ f. words line.now ≡ f.0.now ∷ words f.1.now) }
+    ensures { MatchOption result (words line.now ≡ [])
+        (λ f. words line.now ≡ f.0.now ∷ words f.1.now) }
 {
     let mut start = 0;
     for (i, b) in line.iter().enumerate() {
