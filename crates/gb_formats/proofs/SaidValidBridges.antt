@@ -9,7 +9,7 @@ use Rattle.gb_base.specs.declared.bridge.SpiOp.{SpiOp}
 use Rattle.gb_base.specs.declared.bridge.SpiOp.TheVariants as spi
 use Rattle.gb_base.specs.declared.event.Event.{Event}
 use Rattle.gb_base.specs.declared.event.Event.TheVariants as event
-use Rattle.gb_formats.specs.BridgeForms.{bridging, begins_with_at, gpio_line, gpio_value, gpio_named, gpio_asking, literal_word, gpio_level, gpio_form, i2c_get, i2c_put, i2c_read, i2c_write, i2c_op_word, i2c_asking, i2c_form, spi_op_word, spi_asking, spi_form, uart_coding, uart_byte, uart_named, uart_asking, uart_state, uart_form}
+use Rattle.gb_formats.specs.BridgeForms.{bridging, begins_with_at, gpio_line, gpio_value, gpio_named, gpio_asking, literal_word, gpio_level, gpio_form, i2c_get, i2c_put, i2c_read_word, i2c_write_word, i2c_op_word, i2c_asking, i2c_form, spi_op_word, spi_asking, spi_form, uart_coding, uart_byte, uart_named, uart_asking, uart_state, uart_form}
 use Rattle.gb_formats.specs.Said.{Said, each_word}
 use Rattle.gb_formats.specs.ValidEvents.{IsValid, HasForm, IsI2cOp, AreI2cOps, IsSpiOp, AreSpiOps}
 use Rattle.gb_formats.specs.WordValues.{number_word, u16_word, hex_word, type_word}
@@ -123,8 +123,8 @@ if-some P false x y h k = k
 
 -- ---- i2c
 
-i2c_read-in : (w : List ℕ) → OfSome IsI2cOp (i2c_read w)
-i2c_read-in w = at (type_word (take 2 (drop 2 w))) (type_word-in (take 2 (drop 2 w)))
+i2c_read_word-in : (w : List ℕ) → OfSome IsI2cOp (i2c_read_word w)
+i2c_read_word-in w = at (type_word (take 2 (drop 2 w))) (type_word-in (take 2 (drop 2 w)))
   where
     of : (addr : ℕ) (len : Option ℕ) → addr ≤ 127
         → OfSome (λ n. (0 ≤ n) × (n ≤ 65535)) len → OfSome IsI2cOp (i2c_get addr len)
@@ -136,8 +136,8 @@ i2c_read-in w = at (type_word (take 2 (drop 2 w))) (type_word-in (take 2 (drop 2
     at None h = tt
     at (Some addr) h = of addr (u16_word (drop 5 w)) h (number_word-in 0 65535 (drop 5 w))
 
-i2c_write-in : (w : List ℕ) → OfSome IsI2cOp (i2c_write w)
-i2c_write-in w = at (type_word (take 2 (drop 2 w))) (type_word-in (take 2 (drop 2 w)))
+i2c_write_word-in : (w : List ℕ) → OfSome IsI2cOp (i2c_write_word w)
+i2c_write_word-in w = at (type_word (take 2 (drop 2 w))) (type_word-in (take 2 (drop 2 w)))
   where
     of : (addr : ℕ) (bytes : Option (List ℕ)) → addr ≤ 127 → OfSome IsI2cOp (i2c_put addr bytes)
     of addr None a = tt
@@ -151,8 +151,8 @@ i2c_write-in w = at (type_word (take 2 (drop 2 w))) (type_word-in (take 2 (drop 
 i2c_op_word-in : (w : List ℕ) → OfSome IsI2cOp (i2c_op_word w)
 i2c_op_word-in w =
     if-some IsI2cOp (slice_index w 1 == 58 && slice_index w 4 == 58) _ _
-    (if-some IsI2cOp (slice_index w 0 == 114) _ _ (i2c_read-in w)
-    (if-some IsI2cOp (slice_index w 0 == 119) _ _ (i2c_write-in w) tt)) tt
+    (if-some IsI2cOp (slice_index w 0 == 114) _ _ (i2c_read_word-in w)
+    (if-some IsI2cOp (slice_index w 0 == 119) _ _ (i2c_write_word-in w) tt)) tt
 
 i2c_ops-grow : (front : List I2cOp) (v : I2cOp) → AreI2cOps front → IsI2cOp v
     → AreI2cOps (front ++ v ∷ [])

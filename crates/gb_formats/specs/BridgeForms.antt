@@ -85,21 +85,21 @@ abbrev pub i2c_put : ℕ → Option (List ℕ) → Option I2cOp
 i2c_put addr bytes = option_map (i2c.Put addr) bytes
 
 -- `r:AA:LEN`
-abbrev pub i2c_read : List ℕ → Option I2cOp
-i2c_read w =
+abbrev pub i2c_read_word : List ℕ → Option I2cOp
+i2c_read_word w =
     option_and_then (λ addr. i2c_get addr (u16_word (drop 5 w))) (type_word (take 2 (drop 2 w)))
 
 -- `w:AA:HEX`
-abbrev pub i2c_write : List ℕ → Option I2cOp
-i2c_write w =
+abbrev pub i2c_write_word : List ℕ → Option I2cOp
+i2c_write_word w =
     option_and_then (λ addr. i2c_put addr (hex_word (drop 5 w))) (type_word (take 2 (drop 2 w)))
 
 -- an op of an I2C transfer
 abbrev pub i2c_op_word : List ℕ → Option I2cOp
 i2c_op_word w =
     if slice_index w 1 == 58 && slice_index w 4 == 58
-    then (if slice_index w 0 == 114 then i2c_read w
-    else if slice_index w 0 == 119 then i2c_write w else None)
+    then (if slice_index w 0 == 114 then i2c_read_word w
+    else if slice_index w 0 == 119 then i2c_write_word w else None)
     else None
 
 -- `functionality`, or `transfer` and any number of ops

@@ -1,7 +1,7 @@
 -- The I2C device: a memory of 256 bytes at address 50, with a pointer.
 use Rattle.std.specs.Prelude.{ℕ, zero, suc, ◌+◌, ◌/◌, ◌%◌, ◌==◌, nat_lt, Bool, not, if◌then◌else◌, Result, Ok, Err, List, [], ◌∷◌, ◌++◌, length, take, drop, slice_index, slice_set, sum_by}
 use Rattle.std.specs.List.{list_any}
-use Rattle.gb_formats.specs.I2cRecords.{I2cAsk, I2cReply, TransferOp, op_size, ops_at, reads, read_size, read_i2c_ask, i2c_reply_payload}
+use Rattle.gb_formats.specs.I2cRecords.{I2cAsk, I2cReply, TransferOp, op_size, ops_at, op_reads, op_written_size, op_read_size, read_i2c_ask, i2c_reply_payload}
 use Rattle.gb_formats.specs.Records.{PayloadFault}
 use Rattle.gb_formats.specs.Results.{Step, tells, refuses, fault_result, invalid, nonexistent, overflow, most_payload}
 
@@ -55,21 +55,18 @@ after_read d n = record d { pointer = (d.pointer + n) % 256 }
 -- the device after an op
 abbrev pub after_op : I2cDevice → List ℕ → TransferOp → I2cDevice
 after_op d bytes op =
-    if reads op then after_read d op.size else after_write d (take op.size bytes)
-
--- the write data left behind an op
-abbrev pub left_after : List ℕ → TransferOp → List ℕ
-left_after bytes op = if reads op then bytes else drop op.size bytes
+    if op_reads op then after_read d op.size else after_write d (take op.size bytes)
 
 -- the bytes that an op reads
-abbrev pub read_by : I2cDevice → TransferOp → List ℕ
-read_by d op = if reads op then read_from d.memory d.pointer op.size else []
+abbrev pub op_read_bytes : I2cDevice → TransferOp → List ℕ
+op_read_bytes d op = read_from d.memory d.pointer (op_read_size op)
 
--- ops in order, behind the bytes that were read
+-- Ops in order, with the write data that is left and behind the bytes that were read.
 abbrev pub ops_run : I2cDevice → List ℕ → List ℕ → List TransferOp → Step I2cDevice
 ops_run d bytes front [] = tells d (i2c_reply_payload (I2cReply.Transfer front))
 ops_run d bytes front (op ∷ ops) =
-    ops_run (after_op d bytes op) (left_after bytes op) (front ++ read_by d op) ops
+    ops_run (after_op d bytes op) (drop (op_written_size op) bytes)
+    (front ++ op_read_bytes d op) ops
 
 -- a flag word other than 0 and 1
 abbrev pub has_strange_flags : TransferOp → Bool
@@ -80,18 +77,18 @@ abbrev pub is_elsewhere : TransferOp → Bool
 is_elsewhere op = not (op.addr == i2c_address)
 
 -- a transfer of these ops with this data
-abbrev pub transfer_step : I2cDevice → List TransferOp → List ℕ → Step I2cDevice
-transfer_step d ops bytes =
+abbrev pub i2c_transfer_step : I2cDevice → List TransferOp → List ℕ → Step I2cDevice
+i2c_transfer_step d ops bytes =
     if list_any has_strange_flags ops then refuses d invalid
     else if list_any is_elsewhere ops then refuses d nonexistent
-    else if nat_lt most_payload (sum_by read_size ops) then refuses d overflow
+    else if nat_lt most_payload (sum_by op_read_size ops) then refuses d overflow
     else ops_run d bytes [] ops
 
 -- what each request does
 abbrev pub i2c_asked : I2cDevice → I2cAsk → Step I2cDevice
 i2c_asked d I2cAsk.Functionality = tells d (i2c_reply_payload (I2cReply.Functionality 1))
 i2c_asked d (I2cAsk.Transfer ops bytes) =
-    transfer_step d (ops_at (length ops / op_size) ops) bytes
+    i2c_transfer_step d (ops_at (length ops / op_size) ops) bytes
 
 -- a request by its payload
 abbrev pub i2c_read : I2cDevice → Result I2cAsk PayloadFault → Step I2cDevice

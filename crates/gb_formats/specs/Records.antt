@@ -1,5 +1,5 @@
 -- Payload records: how the bytes of a payload are the fields of a row of a protocol's table.
-use Rattle.std.specs.Prelude.{◌≡◌, ℕ, ◌+◌, ◌==◌, min, if◌then◌else◌, Option, Some, None, Result, Ok, Err, List, [], ◌∷◌, length, drop, slice_index, sum, find}
+use Rattle.std.specs.Prelude.{◌≡◌, ℕ, ◌+◌, ◌%◌, ◌==◌, min, Bool, if◌then◌else◌, Option, Some, None, Result, Ok, Err, List, [], ◌∷◌, length, drop, slice_index, sum, find}
 use Rattle.byteorder.specs.Endian.{little_bytes, little_number}
 
 -- Why a payload isn't a record of a type: the protocol hasn't the type, or no record of the type
@@ -24,6 +24,10 @@ u32 = 4
 -- the four bytes of a number, the lowest first
 abbrev pub le32 : ℕ → List ℕ
 le32 n = little_bytes 4 n
+
+-- bit 0 of the flags of an I2C op or an SPI entry: it reads
+abbrev pub has_read_flag : ℕ → Bool
+has_read_flag flags = flags % 2 == 1
 
 -- A row of a table: a type, the widths of its fields, and the record that the fields make.
 pub record Row (A : Type 0) : Type 0 where
