@@ -75,10 +75,10 @@ named w = record { who = 0; word = w }
 -- one drawn line of each row of the table
 pub made-drawn : map (made 1) (24 ∷ 26 ∷ 27 ∷ 30 ∷ 32 ∷ 34 ∷ 35 ∷ [])
     ≡ event.Tick 200
-    ∷ event.Bridge (named (codes "n3")) 2 1 (ask.Gpio 3 4 0)
+    ∷ event.Bridge (named (codes "n3")) 2 1 (ask.Gpio 0x03 4 0)
     ∷ event.Bridge (named (codes "n4")) 3 4 (ask.UartSend (3 ∷ []))
     ∷ event.Bridge (named (codes "n7")) 2 2
-    (ask.I2cTransfer (i2c.Put 80 (7 ∷ []) ∷ i2c.Get 80 4 ∷ []))
+    (ask.I2cTransfer (i2c.Put 0x50 (7 ∷ []) ∷ i2c.Get 0x50 4 ∷ []))
     ∷ event.Settle 5
     ∷ event.Cancel (named (codes "n8"))
     ∷ event.Deliver (end.Module 5 1) ∷ []
