@@ -84,6 +84,7 @@ interface-alone = record {
       rest = 5 ∷ [];
       spelt = refl;
       fits = omega arith;
+      id_fits = tt;
       fours = refl;
       least = omega arith;
     }
