@@ -7,6 +7,7 @@ pub mod VectorsBadLines
 pub mod VectorsBridges
 pub mod VectorsDevices
 pub mod VectorsForms
+pub mod VectorsGpioDevice
 pub mod VectorsGpioI2cRecords
 pub mod VectorsManifest
 pub mod VectorsParts

@@ -67,7 +67,8 @@ IsGpioCount kind line value = (kind ≡ 0x02) × (line ≡ 0) × (value ≡ 0)
 -- requests with a line alone: activate, deactivate, direction, in, get, mask and unmask
 abbrev pub IsGpioLine : ℕ → ℕ → ℕ → Type 0
 IsGpioLine kind line value =
-    ((kind ≡ 0x03) ⊎ (kind ≡ 0x04) ⊎ (kind ≡ 0x05) ⊎ (kind ≡ 0x06) ⊎ (kind ≡ 0x08) ⊎ (kind ≡ 0x0c) ⊎ (kind ≡ 0x0d))
+    ((kind ≡ 0x03) ⊎ (kind ≡ 0x04) ⊎ (kind ≡ 0x05) ⊎ (kind ≡ 0x06) ⊎ (kind ≡ 0x08)
+    ⊎ (kind ≡ 0x0c) ⊎ (kind ≡ 0x0d))
     × IsU8 line × (value ≡ 0)
 
 -- requests with a line and a byte: out, set and irq
