@@ -3,6 +3,7 @@ pub mod JudgedValid
 pub mod MadeValid
 pub mod SaidValid
 pub mod SaidValidBridges
+pub mod Samples
 pub mod VectorsBadLines
 pub mod VectorsBridges
 pub mod VectorsDevices

@@ -8,13 +8,9 @@ use Rattle.gb_base.specs.declared.bridge.SpiOp.TheVariants as spi
 use Rattle.gb_base.specs.declared.end.End.TheVariants as end
 use Rattle.gb_base.specs.declared.event.Event.TheVariants as event
 use Rattle.gb_base.specs.declared.event.Kind.TheVariants as kind
-use Rattle.gb_base.specs.declared.name.Name.{Name}
 use Rattle.gb_formats.specs.Grammar.{Said}
 use Rattle.gb_formats.specs.Script.{judged}
-
--- a name of requester 0
-abbrev pub named : List ℕ → Name
-named w = record { who = 0; word = w }
+use Rattle.gb_formats.proofs.Samples.{named, named_of}
 
 -- the forms of the bus
 abbrev pub form_lines : List (List ℕ × Said)
@@ -187,6 +183,5 @@ bridge_lines-said = refl
 
 -- names are of the requester whose line it is
 pub requester-said : judged 3 (codes "copy @x @y")
-    ≡ Ok (Some (event.Copy (record { who = 3; word = codes "x" })
-    (record { who = 3; word = codes "y" })))
+    ≡ Ok (Some (event.Copy (named_of 3 (codes "x")) (named_of 3 (codes "y"))))
 requester-said = refl
