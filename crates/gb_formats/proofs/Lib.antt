@@ -7,6 +7,7 @@ pub mod Samples
 pub mod VectorsBadLines
 pub mod VectorsBridges
 pub mod VectorsDevices
+pub mod VectorsEntries
 pub mod VectorsForms
 pub mod VectorsGpioDevice
 pub mod VectorsGpioI2cRecords

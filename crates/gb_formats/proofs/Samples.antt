@@ -1,4 +1,4 @@
--- Names and texts that theorems on samples share.
+-- Names, texts and bytes that theorems on samples share.
 use Rattle.std.specs.Prelude.{ℕ, List, [], ◌∷◌, ◌++◌}
 use Rattle.gb_base.specs.declared.name.Name.{Name}
 
@@ -14,3 +14,7 @@ named word = named_of 0 word
 abbrev pub text_of : List (List ℕ) → List ℕ
 text_of [] = []
 text_of (line ∷ more) = line ++ 10 ∷ text_of more
+
+-- the SVC's ping with identifier 1
+abbrev pub ping_bytes : List ℕ
+ping_bytes = 0x08 ∷ 0x00 ∷ 0x01 ∷ 0x00 ∷ 0x13 ∷ 0x00 ∷ 0x00 ∷ 0x00 ∷ []

@@ -57,7 +57,7 @@ abbrev pub gpio_asking : (BridgeAsk → Event) → List (List ℕ) → Said
 gpio_asking make [] = Err (bad.MissingWord 5)
 gpio_asking make (w ∷ ws) = gpio_named make w ws
 
--- a word that must be this one
+-- The word that must stand there, and no other.
 abbrev pub literal_word : List ℕ → List ℕ → Option (List ℕ)
 literal_word this w = if bytes_eq w this then Some w else None
 

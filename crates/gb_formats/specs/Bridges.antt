@@ -32,7 +32,7 @@ ask_protocol (ask.UartSend bytes) = uart_protocol
 ask_protocol (ask.UartCoding rate format parity bits flow) = uart_protocol
 ask_protocol (ask.UartByte kind value) = uart_protocol
 
--- the type of its request
+-- the type of a bridge line's request
 abbrev pub ask_kind : BridgeAsk → ℕ
 ask_kind (ask.Gpio kind line value) = kind
 ask_kind ask.I2cFunctionality = 0x02
@@ -113,7 +113,7 @@ spi_payload select mode ops =
     select ∷ mode ∷ le16 (length ops)
     ++ (concat (map spi_op_bytes ops) ++ concat (map spi_written ops))
 
--- the payload of its request
+-- the payload of a bridge line's request
 abbrev pub ask_payload : BridgeAsk → List ℕ
 ask_payload (ask.Gpio kind line value) = gpio_payload kind line value
 ask_payload ask.I2cFunctionality = []

@@ -110,7 +110,7 @@ set_irq irq line =
     if_active line
     (if is_irq_type irq then Changes (record line { irq = irq }) else Refuses invalid)
 
--- what each request does
+-- what each request does; IRQ_EVENT, which only the module sends, is an unknown type
 abbrev pub gpio_asked : List GpioLine → GpioAsk → Step (List GpioLine)
 gpio_asked lines GpioAsk.LineCount =
     tells lines (gpio_reply_payload (GpioReply.LineCount (line_count - 1)))

@@ -51,7 +51,7 @@ op_written_size op = if op_reads op then 0 else op.size
 abbrev pub op_read_size : TransferOp → ℕ
 op_read_size op = if op_reads op then op.size else 0
 
--- The bytes after the ops are exactly as many as the write ops' sizes add up to.
+-- The size of a transfer: the count, the ops, and as many bytes as the write ops' sizes add up to.
 abbrev pub i2c_transfer_size : ℕ → List TransferOp → ℕ
 i2c_transfer_size count ops = 2 + op_size * count + sum_by op_written_size ops
 

@@ -68,7 +68,8 @@ entry_written_size entry = if entry_writes entry then entry.len else 0
 abbrev pub entry_read_size : TransferEntry → ℕ
 entry_read_size entry = if entry_reads entry then entry.len else 0
 
--- The write data has the lengths of the entries with flag 2.
+-- The size of a transfer: chip select, mode and count, the entries, and as many bytes as the
+-- lengths of the entries with flag 2 add up to.
 abbrev pub spi_transfer_size : ℕ → List TransferEntry → ℕ
 spi_transfer_size count entries = 4 + entry_size * count + sum_by entry_written_size entries
 
