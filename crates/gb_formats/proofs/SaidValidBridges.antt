@@ -50,36 +50,36 @@ gpio_named-valid make w ws m =
     (at_end-valid 6 ws (make (ask.Gpio 0x02 0 0))
     (m (ask.Gpio 0x02 0 0) (inl (refl, refl, refl))))
     (if-valid (bytes_eq w (codes "activate")) _ _
-    (gpio_line-valid make 3 ws (λ l h. m (ask.Gpio 0x03 l 0) (inr (inl (inl refl, h, refl)))))
+    (gpio_line-valid make 0x03 ws (λ l h. m (ask.Gpio 0x03 l 0) (inr (inl (inl refl, h, refl)))))
     (if-valid (bytes_eq w (codes "deactivate")) _ _
-    (gpio_line-valid make 4 ws (λ l h.
+    (gpio_line-valid make 0x04 ws (λ l h.
     m (ask.Gpio 0x04 l 0) (inr (inl (inr (inl refl), h, refl)))))
     (if-valid (bytes_eq w (codes "direction")) _ _
-    (gpio_line-valid make 5 ws (λ l h.
+    (gpio_line-valid make 0x05 ws (λ l h.
     m (ask.Gpio 0x05 l 0) (inr (inl (inr (inr (inl refl)), h, refl)))))
     (if-valid (bytes_eq w (codes "in")) _ _
-    (gpio_line-valid make 6 ws (λ l h.
+    (gpio_line-valid make 0x06 ws (λ l h.
     m (ask.Gpio 0x06 l 0) (inr (inl (inr (inr (inr (inl refl))), h, refl)))))
     (if-valid (bytes_eq w (codes "out")) _ _
-    (gpio_value-valid make 7 255 ws (λ l v h k.
+    (gpio_value-valid make 0x07 255 ws (λ l v h k.
     m (ask.Gpio 0x07 l v) (inr (inr (inl (inl refl, h, k))))))
     (if-valid (bytes_eq w (codes "get")) _ _
-    (gpio_line-valid make 8 ws (λ l h.
+    (gpio_line-valid make 0x08 ws (λ l h.
     m (ask.Gpio 0x08 l 0) (inr (inl (inr (inr (inr (inr (inl refl)))), h, refl)))))
     (if-valid (bytes_eq w (codes "set")) _ _
-    (gpio_value-valid make 9 255 ws (λ l v h k.
+    (gpio_value-valid make 0x09 255 ws (λ l v h k.
     m (ask.Gpio 0x09 l v) (inr (inr (inl (inr (inl refl), h, k))))))
     (if-valid (bytes_eq w (codes "debounce")) _ _
-    (gpio_value-valid make 10 65535 ws (λ l v h k.
+    (gpio_value-valid make 0x0a 65535 ws (λ l v h k.
     m (ask.Gpio 0x0a l v) (inr (inr (inr (refl, h, k))))))
     (if-valid (bytes_eq w (codes "irq")) _ _
-    (gpio_value-valid make 11 255 ws (λ l v h k.
+    (gpio_value-valid make 0x0b 255 ws (λ l v h k.
     m (ask.Gpio 0x0b l v) (inr (inr (inl (inr (inr refl), h, k))))))
     (if-valid (bytes_eq w (codes "mask")) _ _
-    (gpio_line-valid make 12 ws (λ l h.
+    (gpio_line-valid make 0x0c ws (λ l h.
     m (ask.Gpio 0x0c l 0) (inr (inl (inr (inr (inr (inr (inr (inl refl))))), h, refl)))))
     (if-valid (bytes_eq w (codes "unmask")) _ _
-    (gpio_line-valid make 13 ws (λ l h.
+    (gpio_line-valid make 0x0d ws (λ l h.
     m (ask.Gpio 0x0d l 0) (inr (inl (inr (inr (inr (inr (inr (inr refl))))), h, refl)))))
     tt)))))))))))
 
@@ -247,11 +247,11 @@ uart_named-valid make w ws m =
     at_end-valid 7 ws (make (ask.UartSend bytes)) (m (ask.UartSend bytes) tt)))
     (if-valid (bytes_eq w (codes "coding")) _ _ (uart_coding-valid make ws m)
     (if-valid (bytes_eq w (codes "control")) _ _
-    (uart_byte-valid make 5 ws (λ v h. m (ask.UartByte 0x05 v) (inl refl, h)))
+    (uart_byte-valid make 0x05 ws (λ v h. m (ask.UartByte 0x05 v) (inl refl, h)))
     (if-valid (bytes_eq w (codes "break")) _ _
-    (uart_byte-valid make 6 ws (λ v h. m (ask.UartByte 0x06 v) (inr (inl refl), h)))
+    (uart_byte-valid make 0x06 ws (λ v h. m (ask.UartByte 0x06 v) (inr (inl refl), h)))
     (if-valid (bytes_eq w (codes "flush")) _ _
-    (uart_byte-valid make 9 ws (λ v h. m (ask.UartByte 0x09 v) (inr (inr refl), h)))
+    (uart_byte-valid make 0x09 ws (λ v h. m (ask.UartByte 0x09 v) (inr (inr refl), h)))
     tt))))
 
 pub uart_asking-valid : (make : BridgeAsk → Event) (ws : List (List ℕ)) → MakesValid make
