@@ -6,10 +6,13 @@ pub mod MadeValid
 pub mod Plain
 pub mod SaidValid
 pub mod SaidValidBridges
+pub mod Samples
 pub mod VectorsBadLines
 pub mod VectorsBridges
 pub mod VectorsDevices
+pub mod VectorsEntries
 pub mod VectorsForms
+pub mod VectorsGpioDevice
 pub mod VectorsGpioI2cRecords
 pub mod VectorsManifest
 pub mod VectorsParts

@@ -9,7 +9,7 @@ use Rattle.gb_base.specs.declared.bridge.SpiOp.{SpiOp}
 use Rattle.gb_base.specs.declared.bridge.SpiOp.TheVariants as spi
 use Rattle.gb_base.specs.declared.event.Event.{Event}
 use Rattle.gb_base.specs.declared.event.Event.TheVariants as event
-use Rattle.gb_formats.specs.BridgeForms.{bridging, begins_with_at, gpio_line, gpio_value, gpio_named, gpio_asking, literal_word, gpio_level, gpio_form, i2c_get, i2c_put, i2c_read, i2c_write, i2c_op_word, i2c_asking, i2c_form, spi_op_word, spi_asking, spi_form, uart_coding, uart_byte, uart_named, uart_asking, uart_state, uart_form}
+use Rattle.gb_formats.specs.BridgeForms.{bridging, begins_with_at, gpio_line, gpio_value, gpio_named, gpio_asking, literal_word, gpio_level, gpio_form, i2c_get, i2c_put, i2c_read_word, i2c_write_word, i2c_op_word, i2c_asking, i2c_form, spi_op_word, spi_asking, spi_form, uart_coding, uart_byte, uart_named, uart_asking, uart_state, uart_form}
 use Rattle.gb_formats.specs.Said.{Said, each_word}
 use Rattle.gb_formats.specs.ValidEvents.{IsValid, HasForm, IsI2cOp, AreI2cOps, IsSpiOp, AreSpiOps}
 use Rattle.gb_formats.specs.WordValues.{number_word, u16_word, hex_word, type_word}
@@ -47,40 +47,40 @@ pub gpio_named-valid : (make : BridgeAsk → Event) (w : List ℕ) (ws : List (L
     → MakesValid make → SaysValid (gpio_named make w ws)
 gpio_named-valid make w ws m =
     if-valid (bytes_eq w (codes "count")) _ _
-    (at_end-valid 6 ws (make (ask.Gpio 2 0 0))
-    (m (ask.Gpio 2 0 0) (inl (refl, refl, refl))))
+    (at_end-valid 6 ws (make (ask.Gpio 0x02 0 0))
+    (m (ask.Gpio 0x02 0 0) (inl (refl, refl, refl))))
     (if-valid (bytes_eq w (codes "activate")) _ _
-    (gpio_line-valid make 3 ws (λ l h. m (ask.Gpio 3 l 0) (inr (inl (inl refl, h, refl)))))
+    (gpio_line-valid make 0x03 ws (λ l h. m (ask.Gpio 0x03 l 0) (inr (inl (inl refl, h, refl)))))
     (if-valid (bytes_eq w (codes "deactivate")) _ _
-    (gpio_line-valid make 4 ws (λ l h.
-    m (ask.Gpio 4 l 0) (inr (inl (inr (inl refl), h, refl)))))
+    (gpio_line-valid make 0x04 ws (λ l h.
+    m (ask.Gpio 0x04 l 0) (inr (inl (inr (inl refl), h, refl)))))
     (if-valid (bytes_eq w (codes "direction")) _ _
-    (gpio_line-valid make 5 ws (λ l h.
-    m (ask.Gpio 5 l 0) (inr (inl (inr (inr (inl refl)), h, refl)))))
+    (gpio_line-valid make 0x05 ws (λ l h.
+    m (ask.Gpio 0x05 l 0) (inr (inl (inr (inr (inl refl)), h, refl)))))
     (if-valid (bytes_eq w (codes "in")) _ _
-    (gpio_line-valid make 6 ws (λ l h.
-    m (ask.Gpio 6 l 0) (inr (inl (inr (inr (inr (inl refl))), h, refl)))))
+    (gpio_line-valid make 0x06 ws (λ l h.
+    m (ask.Gpio 0x06 l 0) (inr (inl (inr (inr (inr (inl refl))), h, refl)))))
     (if-valid (bytes_eq w (codes "out")) _ _
-    (gpio_value-valid make 7 255 ws (λ l v h k.
-    m (ask.Gpio 7 l v) (inr (inr (inl (inl refl, h, k))))))
+    (gpio_value-valid make 0x07 255 ws (λ l v h k.
+    m (ask.Gpio 0x07 l v) (inr (inr (inl (inl refl, h, k))))))
     (if-valid (bytes_eq w (codes "get")) _ _
-    (gpio_line-valid make 8 ws (λ l h.
-    m (ask.Gpio 8 l 0) (inr (inl (inr (inr (inr (inr (inl refl)))), h, refl)))))
+    (gpio_line-valid make 0x08 ws (λ l h.
+    m (ask.Gpio 0x08 l 0) (inr (inl (inr (inr (inr (inr (inl refl)))), h, refl)))))
     (if-valid (bytes_eq w (codes "set")) _ _
-    (gpio_value-valid make 9 255 ws (λ l v h k.
-    m (ask.Gpio 9 l v) (inr (inr (inl (inr (inl refl), h, k))))))
+    (gpio_value-valid make 0x09 255 ws (λ l v h k.
+    m (ask.Gpio 0x09 l v) (inr (inr (inl (inr (inl refl), h, k))))))
     (if-valid (bytes_eq w (codes "debounce")) _ _
-    (gpio_value-valid make 10 65535 ws (λ l v h k.
-    m (ask.Gpio 10 l v) (inr (inr (inr (refl, h, k))))))
+    (gpio_value-valid make 0x0a 65535 ws (λ l v h k.
+    m (ask.Gpio 0x0a l v) (inr (inr (inr (refl, h, k))))))
     (if-valid (bytes_eq w (codes "irq")) _ _
-    (gpio_value-valid make 11 255 ws (λ l v h k.
-    m (ask.Gpio 11 l v) (inr (inr (inl (inr (inr refl), h, k))))))
+    (gpio_value-valid make 0x0b 255 ws (λ l v h k.
+    m (ask.Gpio 0x0b l v) (inr (inr (inl (inr (inr refl), h, k))))))
     (if-valid (bytes_eq w (codes "mask")) _ _
-    (gpio_line-valid make 12 ws (λ l h.
-    m (ask.Gpio 12 l 0) (inr (inl (inr (inr (inr (inr (inr (inl refl))))), h, refl)))))
+    (gpio_line-valid make 0x0c ws (λ l h.
+    m (ask.Gpio 0x0c l 0) (inr (inl (inr (inr (inr (inr (inr (inl refl))))), h, refl)))))
     (if-valid (bytes_eq w (codes "unmask")) _ _
-    (gpio_line-valid make 13 ws (λ l h.
-    m (ask.Gpio 13 l 0) (inr (inl (inr (inr (inr (inr (inr (inr refl))))), h, refl)))))
+    (gpio_line-valid make 0x0d ws (λ l h.
+    m (ask.Gpio 0x0d l 0) (inr (inl (inr (inr (inr (inr (inr (inr refl))))), h, refl)))))
     tt)))))))))))
 
 pub gpio_asking-valid : (make : BridgeAsk → Event) (ws : List (List ℕ)) → MakesValid make
@@ -123,8 +123,8 @@ if-some P false x y h k = k
 
 -- ---- i2c
 
-i2c_read-in : (w : List ℕ) → OfSome IsI2cOp (i2c_read w)
-i2c_read-in w = at (type_word (take 2 (drop 2 w))) (type_word-in (take 2 (drop 2 w)))
+i2c_read_word-in : (w : List ℕ) → OfSome IsI2cOp (i2c_read_word w)
+i2c_read_word-in w = at (type_word (take 2 (drop 2 w))) (type_word-in (take 2 (drop 2 w)))
   where
     of : (addr : ℕ) (len : Option ℕ) → addr ≤ 127
         → OfSome (λ n. (0 ≤ n) × (n ≤ 65535)) len → OfSome IsI2cOp (i2c_get addr len)
@@ -136,8 +136,8 @@ i2c_read-in w = at (type_word (take 2 (drop 2 w))) (type_word-in (take 2 (drop 2
     at None h = tt
     at (Some addr) h = of addr (u16_word (drop 5 w)) h (number_word-in 0 65535 (drop 5 w))
 
-i2c_write-in : (w : List ℕ) → OfSome IsI2cOp (i2c_write w)
-i2c_write-in w = at (type_word (take 2 (drop 2 w))) (type_word-in (take 2 (drop 2 w)))
+i2c_write_word-in : (w : List ℕ) → OfSome IsI2cOp (i2c_write_word w)
+i2c_write_word-in w = at (type_word (take 2 (drop 2 w))) (type_word-in (take 2 (drop 2 w)))
   where
     of : (addr : ℕ) (bytes : Option (List ℕ)) → addr ≤ 127 → OfSome IsI2cOp (i2c_put addr bytes)
     of addr None a = tt
@@ -151,8 +151,8 @@ i2c_write-in w = at (type_word (take 2 (drop 2 w))) (type_word-in (take 2 (drop 
 i2c_op_word-in : (w : List ℕ) → OfSome IsI2cOp (i2c_op_word w)
 i2c_op_word-in w =
     if-some IsI2cOp (slice_index w 1 == 58 && slice_index w 4 == 58) _ _
-    (if-some IsI2cOp (slice_index w 0 == 114) _ _ (i2c_read-in w)
-    (if-some IsI2cOp (slice_index w 0 == 119) _ _ (i2c_write-in w) tt)) tt
+    (if-some IsI2cOp (slice_index w 0 == 114) _ _ (i2c_read_word-in w)
+    (if-some IsI2cOp (slice_index w 0 == 119) _ _ (i2c_write_word-in w) tt)) tt
 
 i2c_ops-grow : (front : List I2cOp) (v : I2cOp) → AreI2cOps front → IsI2cOp v
     → AreI2cOps (front ++ v ∷ [])
@@ -247,11 +247,11 @@ uart_named-valid make w ws m =
     at_end-valid 7 ws (make (ask.UartSend bytes)) (m (ask.UartSend bytes) tt)))
     (if-valid (bytes_eq w (codes "coding")) _ _ (uart_coding-valid make ws m)
     (if-valid (bytes_eq w (codes "control")) _ _
-    (uart_byte-valid make 5 ws (λ v h. m (ask.UartByte 5 v) (inl refl, h)))
+    (uart_byte-valid make 0x05 ws (λ v h. m (ask.UartByte 0x05 v) (inl refl, h)))
     (if-valid (bytes_eq w (codes "break")) _ _
-    (uart_byte-valid make 6 ws (λ v h. m (ask.UartByte 6 v) (inr (inl refl), h)))
+    (uart_byte-valid make 0x06 ws (λ v h. m (ask.UartByte 0x06 v) (inr (inl refl), h)))
     (if-valid (bytes_eq w (codes "flush")) _ _
-    (uart_byte-valid make 9 ws (λ v h. m (ask.UartByte 9 v) (inr (inr refl), h)))
+    (uart_byte-valid make 0x09 ws (λ v h. m (ask.UartByte 0x09 v) (inr (inr refl), h)))
     tt))))
 
 pub uart_asking-valid : (make : BridgeAsk → Event) (ws : List (List ℕ)) → MakesValid make

@@ -24,14 +24,15 @@ pub too_large-lines : map is_too_large
 too_large-lines = refl
 
 pub bridge_answer-lines : map (bridge_answer 0x02)
-    (ask.Gpio 2 0 0 ∷ ask.Gpio 3 255 0 ∷ ask.Gpio 7 3 1 ∷ ask.Gpio 10 3 1000 ∷ ask.Gpio 11 3 8
+    (ask.Gpio 0x02 0 0 ∷ ask.Gpio 0x03 255 0 ∷ ask.Gpio 0x07 3 1 ∷ ask.Gpio 0x0a 3 1000
+    ∷ ask.Gpio 0x0b 3 8
     ∷ ask.SpiConfig ∷ [])
     ≡ Ok (2, []) ∷ Ok (3, 255 ∷ []) ∷ Ok (7, 3 ∷ 1 ∷ []) ∷ Ok (10, 3 ∷ 0xe8 ∷ 3 ∷ [])
     ∷ Ok (11, 3 ∷ 8 ∷ []) ∷ Err BridgeFault.Unsupported ∷ []
 bridge_answer-lines = refl
 
 pub bridge_answer-uart : map (bridge_answer 0x04)
-    (ask.UartSend (0xab ∷ []) ∷ ask.UartCoding 115200 1 2 8 1 ∷ ask.UartByte 9 3 ∷ [])
+    (ask.UartSend (0xab ∷ []) ∷ ask.UartCoding 115200 1 2 8 1 ∷ ask.UartByte 0x09 3 ∷ [])
     ≡ Ok (2, 1 ∷ 0 ∷ 0xab ∷ []) ∷ Ok (4, 0 ∷ 0xc2 ∷ 1 ∷ 0 ∷ 1 ∷ 2 ∷ 8 ∷ 1 ∷ [])
     ∷ Ok (9, 3 ∷ []) ∷ []
 bridge_answer-uart = refl

@@ -1,4 +1,4 @@
--- Modules and their devices: sequences of requests, and what is answered.
+-- Modules and their I2C, SPI and UART devices: sequences of requests, and what is answered.
 use Rattle.std.proofs.Common.{◌≡◌, ℕ, List, [], ◌∷◌, refl}
 use Rattle.std.specs.Prelude.{Some, None, Ok, Option, option_map, map, replicate}
 use Rattle.gb_base.specs.declared.bridge.BridgeAsk.TheVariants as ask
@@ -11,8 +11,8 @@ use Rattle.gb_base.specs.declared.served.Served.{Served}
 use Rattle.gb_formats.specs.Bridges.{bridge_answer}
 use Rattle.gb_formats.specs.I2cDevice.{counted_from}
 use Rattle.gb_formats.specs.Kinds.{kind_manifest}
-use Rattle.gb_formats.specs.Module.{Module, ModuleStep, Stir, Stirred, module_of_kind, module_raw, module_serve, module_stir}
-use Rattle.gb_formats.specs.Results.{answer_of, refusal_of, oneway_ask, own_ask}
+use Rattle.gb_formats.specs.Module.{Module, ModuleStep, Stir, module_of_kind, module_raw, module_serve, module_stir}
+use Rattle.gb_formats.specs.Results.{answer_of, refusal_of, own_ask}
 use Rattle.gb_formats.specs.UartDevice.{credits_spent, credits_added}
 
 -- a request: CPort, type and payload
@@ -92,6 +92,14 @@ pub i2c-answers : answers_of (connected kind.I2c)
     ∷ (1, 0x05, 1 ∷ 0 ∷ 0x50 ∷ 0 ∷ 1 ∷ 0 ∷ 0xf9 ∷ 7 ∷ [])
     ∷ (1, 0x05, 0 ∷ [])
     ∷ (1, 0x03, [])
+    ∷ (1, 0x05, 1 ∷ 0 ∷ 0x50 ∷ 0 ∷ 3 ∷ 0 ∷ 1 ∷ 0 ∷ [])
+    ∷ (1, 0x05, 1 ∷ 0 ∷ 0x50 ∷ 0 ∷ 0 ∷ 0 ∷ 2 ∷ 0 ∷ 0xff ∷ 0xcc ∷ [])
+    ∷ (1, 0x05, 1 ∷ 0 ∷ 0x51 ∷ 0 ∷ 1 ∷ 0 ∷ 0xf9 ∷ 7 ∷ [])
+    ∷ (
+      1,
+      0x05,
+      2 ∷ 0 ∷ 0x50 ∷ 0 ∷ 0 ∷ 0 ∷ 1 ∷ 0 ∷ 0x50 ∷ 0 ∷ 1 ∷ 0 ∷ 2 ∷ 0 ∷ 0xff ∷ [],
+    )
     ∷ [])
     ≡ answer_of (1 ∷ 0 ∷ 0 ∷ 0 ∷ [])
     ∷ answer_of (0xfe ∷ 0xff ∷ 0 ∷ 1 ∷ [])
@@ -103,64 +111,17 @@ pub i2c-answers : answers_of (connected kind.I2c)
     ∷ refusal_of 0x05
     ∷ refusal_of 0x06
     ∷ refusal_of 0x04
+    ∷ refusal_of 0x06
+    ∷ answer_of []
+    ∷ refusal_of 0x08
+    ∷ answer_of (0xcc ∷ 0xbb ∷ [])
     ∷ []
 unfolding counted_from
 i2c-answers = refl
 
--- ---- a GPIO interrupt
-
--- `activate 3`, `irq 3 1`, `unmask 3`
-abbrev pub unmasked : Module
-unmasked = after_all (connected kind.Gpio)
-    ((1, 0x03, 3 ∷ []) ∷ (1, 0x0b, 3 ∷ 1 ∷ []) ∷ (1, 0x0d, 3 ∷ []) ∷ [])
-
 -- the requests of a stir
 abbrev pub asks_at : Module → ℕ → Stir → Option (List OwnAsk)
 asks_at m c stir = option_map (λ s. s.asks) (module_stir m c stir)
-
-pub irq-told : asks_at unmasked 1 (Stir.Level 3 1) ≡ Some (oneway_ask 0x0e (3 ∷ []) ∷ [])
-irq-told = refl
-
-pub irq-not_told : map (λ stir. asks_at unmasked 1 stir) (Stir.Level 3 0 ∷ Stir.Level 2 1 ∷ [])
-    ≡ Some [] ∷ Some [] ∷ []
-irq-not_told = refl
-
--- a stir where there is no such device
-pub stir-no_cport : asks_at unmasked 2 (Stir.Level 3 1) ≡ None
-stir-no_cport = refl
-
-pub stir-other_device : asks_at unmasked 1 (Stir.Serial 1) ≡ None
-stir-other_device = refl
-
--- the module after a stir
-abbrev pub after_stir : Option Stirred → Module
-after_stir (Some s) = s.after
-after_stir None = module_raw []
-
--- a level stays over CONNECTED, and is no interrupt while the CPort is off
-pub level-stays : answers_of
-    (after_stir (module_stir (module_of_kind kind.Gpio) 1 (Stir.Level 3 1)))
-    ((0, 0x05, 1 ∷ 0 ∷ []) ∷ (1, 0x03, 3 ∷ []) ∷ (1, 0x08, 3 ∷ []) ∷ (1, 0x08, 2 ∷ []) ∷ [])
-    ≡ answer_of [] ∷ answer_of [] ∷ answer_of (1 ∷ []) ∷ refusal_of 0x06 ∷ []
-level-stays = refl
-
--- requests at lines, in order
-pub gpio-answers : answers_of (connected kind.Gpio)
-    ((1, 0x02, []) ∷ (1, 0x05, 3 ∷ []) ∷ (1, 0x03, 3 ∷ []) ∷ (1, 0x05, 3 ∷ [])
-    ∷ (1, 0x09, 3 ∷ 1 ∷ []) ∷ (1, 0x07, 3 ∷ 2 ∷ []) ∷ (1, 0x07, 3 ∷ 1 ∷ []) ∷ (1, 0x05, 3 ∷ [])
-    ∷ (1, 0x08, 3 ∷ []) ∷ (1, 0x09, 3 ∷ 0 ∷ []) ∷ (1, 0x08, 3 ∷ []) ∷ (1, 0x09, 3 ∷ 2 ∷ [])
-    ∷ (1, 0x06, 3 ∷ []) ∷ (1, 0x08, 3 ∷ []) ∷ (1, 0x0a, 3 ∷ 0xe8 ∷ 3 ∷ [])
-    ∷ (1, 0x0b, 3 ∷ 5 ∷ []) ∷ (1, 0x0b, 3 ∷ 8 ∷ []) ∷ (1, 0x0c, 3 ∷ []) ∷ (1, 0x0d, 3 ∷ [])
-    ∷ (1, 0x04, 3 ∷ []) ∷ (1, 0x04, 3 ∷ []) ∷ (1, 0x0c, 3 ∷ []) ∷ (1, 0x03, 8 ∷ [])
-    ∷ (1, 0x09, 8 ∷ 7 ∷ []) ∷ (1, 0x03, []) ∷ (1, 0x0e, 3 ∷ []) ∷ (1, 0x01, []) ∷ [])
-    ≡ answer_of (7 ∷ []) ∷ refusal_of 0x06 ∷ answer_of [] ∷ answer_of (1 ∷ [])
-    ∷ refusal_of 0x06 ∷ refusal_of 0x06 ∷ answer_of [] ∷ answer_of (0 ∷ [])
-    ∷ answer_of (1 ∷ []) ∷ answer_of [] ∷ answer_of (0 ∷ []) ∷ refusal_of 0x06
-    ∷ answer_of [] ∷ answer_of (0 ∷ []) ∷ answer_of []
-    ∷ refusal_of 0x06 ∷ answer_of [] ∷ answer_of [] ∷ answer_of []
-    ∷ answer_of [] ∷ answer_of [] ∷ refusal_of 0x06 ∷ refusal_of 0x08
-    ∷ refusal_of 0x08 ∷ refusal_of 0x06 ∷ refusal_of 0x04 ∷ refusal_of 0x04 ∷ []
-gpio-answers = refl
 
 -- ---- an SPI transfer
 
@@ -195,6 +156,9 @@ pub spi-answers : answers_of (connected kind.Spi)
     ∷ (1, 0x02, [])
     ∷ (1, 0x03, 1 ∷ [])
     ∷ (1, 0x05, [])
+    ∷ (1, 0x04, 0 ∷ 0 ∷ 1 ∷ 0 ∷ (0 ∷ 0 ∷ 0 ∷ 0 ∷ 2 ∷ 0 ∷ 0 ∷ 0 ∷ 0 ∷ 0 ∷ 0 ∷ 8 ∷ 2 ∷ 10 ∷ 11 ∷ []))
+    ∷ (1, 0x04, 0 ∷ 0 ∷ 1 ∷ 0 ∷ (0 ∷ 0 ∷ 0 ∷ 0 ∷ 0 ∷ 0 ∷ 0 ∷ 0 ∷ 0 ∷ 0 ∷ 0 ∷ 8 ∷ 3 ∷ []))
+    ∷ (1, 0x04, 0 ∷ 0 ∷ 1 ∷ 0 ∷ read_two 8 1)
     ∷ [])
     ≡ answer_of (0 ∷ 0 ∷ [])
     ∷ answer_of (1 ∷ 2 ∷ 2 ∷ 2 ∷ [])
@@ -209,6 +173,9 @@ pub spi-answers : answers_of (connected kind.Spi)
     ∷ 1 ∷ [])
     ∷ refusal_of 0x08
     ∷ refusal_of 0x04
+    ∷ answer_of []
+    ∷ answer_of []
+    ∷ answer_of (11 ∷ 11 ∷ [])
     ∷ []
 spi-answers = refl
 

@@ -8,13 +8,9 @@ use Rattle.gb_base.specs.declared.bridge.SpiOp.TheVariants as spi
 use Rattle.gb_base.specs.declared.end.End.TheVariants as end
 use Rattle.gb_base.specs.declared.event.Event.TheVariants as event
 use Rattle.gb_base.specs.declared.event.Kind.TheVariants as kind
-use Rattle.gb_base.specs.declared.name.Name.{Name}
 use Rattle.gb_formats.specs.Grammar.{Said}
 use Rattle.gb_formats.specs.Script.{judged}
-
--- a name of requester 0
-abbrev pub named : List ℕ → Name
-named w = record { who = 0; word = w }
+use Rattle.gb_formats.proofs.Samples.{named, named_of}
 
 -- the forms of the bus
 abbrev pub form_lines : List (List ℕ × Said)
@@ -30,26 +26,26 @@ form_lines =
     ∷ (codes "pull 2", Ok (Some (event.Pull 2)))
     ∷ (codes "connect 2 0", Ok (Some (event.Connect 2 0)))
     ∷ (codes "disconnect 2 4095", Ok (Some (event.Disconnect 2 4095)))
-    ∷ (codes "send @x svc ping", Ok (Some (event.Send (named (codes "x")) end.Svc 19 [] 1000)))
+    ∷ (codes "send @x svc ping", Ok (Some (event.Send (named (codes "x")) end.Svc 0x13 [] 1000)))
     ∷ (
       codes "send @x svc ping timeout 10",
-      Ok (Some (event.Send (named (codes "x")) end.Svc 19 [] 10)),
+      Ok (Some (event.Send (named (codes "x")) end.Svc 0x13 [] 10)),
     )
     ∷ (
       codes "send @ab09 svc 7F 00aB",
-      Ok (Some (event.Send (named (codes "ab09")) end.Svc 127 (0 ∷ 171 ∷ []) 1000)),
+      Ok (Some (event.Send (named (codes "ab09")) end.Svc 0x7f (0 ∷ 171 ∷ []) 1000)),
     )
     ∷ (
       codes "send @x svc 13 - timeout 4294967295",
-      Ok (Some (event.Send (named (codes "x")) end.Svc 19 [] 4294967295)),
+      Ok (Some (event.Send (named (codes "x")) end.Svc 0x13 [] 4294967295)),
     )
     ∷ (
       codes "send @x 2 1 02 -",
-      Ok (Some (event.Send (named (codes "x")) (end.Module 2 1) 2 [] 1000)),
+      Ok (Some (event.Send (named (codes "x")) (end.Module 2 1) 0x02 [] 1000)),
     )
     ∷ (
       codes "send @x 2 1 02 ff timeout 1",
-      Ok (Some (event.Send (named (codes "x")) (end.Module 2 1) 2 (255 ∷ []) 1)),
+      Ok (Some (event.Send (named (codes "x")) (end.Module 2 1) 0x02 (255 ∷ []) 1)),
     )
     ∷ (codes "deliver ap 4095", Ok (Some (event.Deliver (end.Ap 4095))))
     ∷ (codes "deliver svc", Ok (Some (event.Deliver end.Svc)))
@@ -77,51 +73,51 @@ form_lines-said = refl
 abbrev pub bridge_lines : List (List ℕ × Said)
 bridge_lines = (
   codes "gpio @x 2 1 count",
-  Ok (Some (event.Bridge (named (codes "x")) 2 1 (ask.Gpio 2 0 0))),
+  Ok (Some (event.Bridge (named (codes "x")) 2 1 (ask.Gpio 0x02 0 0))),
 )
     ∷ (
       codes "gpio @x 2 1 activate 255",
-      Ok (Some (event.Bridge (named (codes "x")) 2 1 (ask.Gpio 3 255 0))),
+      Ok (Some (event.Bridge (named (codes "x")) 2 1 (ask.Gpio 0x03 255 0))),
     )
     ∷ (
       codes "gpio @x 2 1 deactivate 255",
-      Ok (Some (event.Bridge (named (codes "x")) 2 1 (ask.Gpio 4 255 0))),
+      Ok (Some (event.Bridge (named (codes "x")) 2 1 (ask.Gpio 0x04 255 0))),
     )
     ∷ (
       codes "gpio @x 2 1 direction 255",
-      Ok (Some (event.Bridge (named (codes "x")) 2 1 (ask.Gpio 5 255 0))),
+      Ok (Some (event.Bridge (named (codes "x")) 2 1 (ask.Gpio 0x05 255 0))),
     )
     ∷ (
       codes "gpio @x 2 1 in 255",
-      Ok (Some (event.Bridge (named (codes "x")) 2 1 (ask.Gpio 6 255 0))),
+      Ok (Some (event.Bridge (named (codes "x")) 2 1 (ask.Gpio 0x06 255 0))),
     )
     ∷ (
       codes "gpio @x 2 1 get 255",
-      Ok (Some (event.Bridge (named (codes "x")) 2 1 (ask.Gpio 8 255 0))),
+      Ok (Some (event.Bridge (named (codes "x")) 2 1 (ask.Gpio 0x08 255 0))),
     )
     ∷ (
       codes "gpio @x 2 1 mask 255",
-      Ok (Some (event.Bridge (named (codes "x")) 2 1 (ask.Gpio 12 255 0))),
+      Ok (Some (event.Bridge (named (codes "x")) 2 1 (ask.Gpio 0x0c 255 0))),
     )
     ∷ (
       codes "gpio @x 2 1 unmask 255",
-      Ok (Some (event.Bridge (named (codes "x")) 2 1 (ask.Gpio 13 255 0))),
+      Ok (Some (event.Bridge (named (codes "x")) 2 1 (ask.Gpio 0x0d 255 0))),
     )
     ∷ (
       codes "gpio @x 2 1 out 3 1",
-      Ok (Some (event.Bridge (named (codes "x")) 2 1 (ask.Gpio 7 3 1))),
+      Ok (Some (event.Bridge (named (codes "x")) 2 1 (ask.Gpio 0x07 3 1))),
     )
     ∷ (
       codes "gpio @x 2 1 set 3 255",
-      Ok (Some (event.Bridge (named (codes "x")) 2 1 (ask.Gpio 9 3 255))),
+      Ok (Some (event.Bridge (named (codes "x")) 2 1 (ask.Gpio 0x09 3 255))),
     )
     ∷ (
       codes "gpio @x 2 1 debounce 3 65535",
-      Ok (Some (event.Bridge (named (codes "x")) 2 1 (ask.Gpio 10 3 65535))),
+      Ok (Some (event.Bridge (named (codes "x")) 2 1 (ask.Gpio 0x0a 3 65535))),
     )
     ∷ (
       codes "gpio @x 2 1 irq 3 8",
-      Ok (Some (event.Bridge (named (codes "x")) 2 1 (ask.Gpio 11 3 8))),
+      Ok (Some (event.Bridge (named (codes "x")) 2 1 (ask.Gpio 0x0b 3 8))),
     )
     ∷ (codes "gpio 2 1 level 7 1", Ok (Some (event.Level 2 1 7 1)))
     ∷ (
@@ -135,7 +131,7 @@ bridge_lines = (
     ∷ (
       codes "i2c @x 2 1 transfer w:50:fe r:7F:65535 w:00:-",
       Ok (Some (event.Bridge (named (codes "x")) 2 1
-          (ask.I2cTransfer (i2c.Put 80 (254 ∷ []) ∷ i2c.Get 127 65535 ∷ i2c.Put 0 [] ∷ [])))),
+          (ask.I2cTransfer (i2c.Put 0x50 (254 ∷ []) ∷ i2c.Get 0x7f 65535 ∷ i2c.Put 0 [] ∷ [])))),
     )
     ∷ (
       codes "spi @x 2 1 config",
@@ -168,15 +164,15 @@ bridge_lines = (
     )
     ∷ (
       codes "uart @x 2 1 control 3",
-      Ok (Some (event.Bridge (named (codes "x")) 2 1 (ask.UartByte 5 3))),
+      Ok (Some (event.Bridge (named (codes "x")) 2 1 (ask.UartByte 0x05 3))),
     )
     ∷ (
       codes "uart @x 2 1 break 1",
-      Ok (Some (event.Bridge (named (codes "x")) 2 1 (ask.UartByte 6 1))),
+      Ok (Some (event.Bridge (named (codes "x")) 2 1 (ask.UartByte 0x06 1))),
     )
     ∷ (
       codes "uart @x 2 1 flush 255",
-      Ok (Some (event.Bridge (named (codes "x")) 2 1 (ask.UartByte 9 255))),
+      Ok (Some (event.Bridge (named (codes "x")) 2 1 (ask.UartByte 0x09 255))),
     )
     ∷ (codes "uart 2 1 state 255", Ok (Some (event.SerialState 2 1 255)))
     ∷ []
@@ -187,6 +183,5 @@ bridge_lines-said = refl
 
 -- names are of the requester whose line it is
 pub requester-said : judged 3 (codes "copy @x @y")
-    ≡ Ok (Some (event.Copy (record { who = 3; word = codes "x" })
-    (record { who = 3; word = codes "y" })))
+    ≡ Ok (Some (event.Copy (named_of 3 (codes "x")) (named_of 3 (codes "y"))))
 requester-said = refl

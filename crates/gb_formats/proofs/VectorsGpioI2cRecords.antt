@@ -41,7 +41,8 @@ gpio_ask_faults =
     (0x01, [], PayloadFault.UnknownKind)
     ∷ (0x07, 5 ∷ [], PayloadFault.Mismatch 1)
     ∷ (0x0a, 8 ∷ 232 ∷ [], PayloadFault.Mismatch 2)
-    ∷ (0x03, 1 ∷ 2 ∷ [], PayloadFault.Mismatch 1)
+    ∷ (0x03, 1 ∷ 2 ∷ [], PayloadFault.Mismatch 2)
+    ∷ (0x02, 1 ∷ 2 ∷ [], PayloadFault.Mismatch 1)
     ∷ []
 
 pub gpio_ask_faults-read : map (λ row. read_gpio_ask row.0 row.1) gpio_ask_faults
@@ -77,6 +78,19 @@ gpio_reply_rows-kind = refl
 pub gpio_reply_rows-payload : map (λ row. gpio_reply_payload row.2) gpio_reply_rows
     ≡ map (λ row. row.1) gpio_reply_rows
 gpio_reply_rows-payload = refl
+
+-- payloads that are no record of their type, and the place where they part
+abbrev pub gpio_reply_faults : List (ℕ × List ℕ × PayloadFault)
+gpio_reply_faults =
+    (0x01, [], PayloadFault.UnknownKind)
+    ∷ (0x05, [], PayloadFault.Mismatch 0)
+    ∷ (0x08, 1 ∷ 1 ∷ 1 ∷ [], PayloadFault.Mismatch 2)
+    ∷ (0x03, 1 ∷ [], PayloadFault.Mismatch 1)
+    ∷ []
+
+pub gpio_reply_faults-read : map (λ row. read_gpio_reply row.0 row.1) gpio_reply_faults
+    ≡ map (λ row. Err row.2) gpio_reply_faults
+gpio_reply_faults-read = refl
 
 -- types, payloads and records of the I2C protocol
 abbrev pub i2c_ask_rows : List (ℕ × List ℕ × I2cAsk)
@@ -115,8 +129,10 @@ i2c_ask_faults =
     ∷ (
       0x05,
       2 ∷ 0 ∷ 80 ∷ 0 ∷ 0 ∷ 0 ∷ 1 ∷ 0 ∷ 80 ∷ 0 ∷ 1 ∷ 0 ∷ 4 ∷ 0 ∷ 254 ∷ 255 ∷ [],
-      PayloadFault.Mismatch 15,
+      PayloadFault.Mismatch 16,
     )
+    ∷ (0x05, [], PayloadFault.Mismatch 0)
+    ∷ (0x05, 0 ∷ 0 ∷ 9 ∷ 9 ∷ [], PayloadFault.Mismatch 3)
     ∷ (0x05, 2 ∷ 0 ∷ 80 ∷ 0 ∷ 0 ∷ 0 ∷ 1 ∷ 0 ∷ 80 ∷ 0 ∷ 1 ∷ 0 ∷ 4 ∷ [], PayloadFault.Mismatch 13)
     ∷ []
 
@@ -147,6 +163,7 @@ i2c_reply_rows-payload = refl
 abbrev pub i2c_reply_faults : List (ℕ × List ℕ × PayloadFault)
 i2c_reply_faults =
     (0x02, 1 ∷ 0 ∷ 0 ∷ [], PayloadFault.Mismatch 3)
+    ∷ (0x02, 1 ∷ 0 ∷ 0 ∷ 0 ∷ 0 ∷ 0 ∷ [], PayloadFault.Mismatch 5)
     ∷ []
 
 pub i2c_reply_faults-read : map (λ row. read_i2c_reply row.0 row.1) i2c_reply_faults

@@ -9,19 +9,14 @@ use Rattle.gb_base.specs.declared.end.End.TheVariants as end
 use Rattle.gb_base.specs.declared.event.Event.TheVariants as event
 use Rattle.gb_base.specs.declared.event.Kind.TheVariants as kind
 use Rattle.gb_base.specs.declared.fault.LineReason.TheVariants as bad
-use Rattle.gb_base.specs.declared.name.Name.{Name}
 use Rattle.gb_formats.specs.Lines.{lines}
 use Rattle.gb_formats.specs.Made.{made, made_number, last_named}
 use Rattle.gb_formats.specs.Parts.{parts}
+use Rattle.gb_formats.proofs.Samples.{named, text_of}
 
 -- every line is built
 abbrev pub all_built : List ℕ → Bool
 all_built line = true
-
--- lines of a text
-abbrev pub text_of : List (List ℕ) → List ℕ
-text_of [] = []
-text_of (line ∷ more) = line ++ 10 ∷ text_of more
 
 -- two requesters, with lines before the first heading
 pub parts-two : parts all_built (text_of (codes "boot" ∷ codes "requester 1" ∷ codes ""
@@ -69,16 +64,13 @@ pub lines-ends : lines (codes "a" ++ 13 ∷ 10 ∷ 13 ∷ 13 ∷ 10 ∷ 10 ∷ c
     ≡ codes "a" ∷ (13 ∷ []) ∷ [] ∷ (98 ∷ 13 ∷ []) ∷ []
 lines-ends = refl
 
-abbrev pub named : List ℕ → Name
-named w = record { who = 0; word = w }
-
 -- one drawn line of each row of the table
 pub made-drawn : map (made 1) (24 ∷ 26 ∷ 27 ∷ 30 ∷ 32 ∷ 34 ∷ 35 ∷ [])
     ≡ event.Tick 200
-    ∷ event.Bridge (named (codes "n3")) 2 1 (ask.Gpio 3 4 0)
+    ∷ event.Bridge (named (codes "n3")) 2 1 (ask.Gpio 0x03 4 0)
     ∷ event.Bridge (named (codes "n4")) 3 4 (ask.UartSend (3 ∷ []))
     ∷ event.Bridge (named (codes "n7")) 2 2
-    (ask.I2cTransfer (i2c.Put 80 (7 ∷ []) ∷ i2c.Get 80 4 ∷ []))
+    (ask.I2cTransfer (i2c.Put 0x50 (7 ∷ []) ∷ i2c.Get 0x50 4 ∷ []))
     ∷ event.Settle 5
     ∷ event.Cancel (named (codes "n8"))
     ∷ event.Deliver (end.Module 5 1) ∷ []

@@ -42,8 +42,10 @@ abbrev pub svc_ask_faults : List (ℕ × List ℕ × PayloadFault)
 svc_ask_faults =
     (0x44, [], PayloadFault.UnknownKind)
     ∷ (0x07, 1 ∷ 1 ∷ 0 ∷ 2 ∷ 0 ∷ 0 ∷ 0 ∷ [], PayloadFault.Mismatch 7)
-    ∷ (0x07, 1 ∷ 1 ∷ 0 ∷ 2 ∷ 0 ∷ 0 ∷ 0 ∷ 0 ∷ 0 ∷ [], PayloadFault.Mismatch 8)
-    ∷ (0x13, 0 ∷ [], PayloadFault.Mismatch 0)
+    ∷ (0x07, 1 ∷ 1 ∷ 0 ∷ 2 ∷ 0 ∷ 0 ∷ 0 ∷ 0 ∷ 0 ∷ [], PayloadFault.Mismatch 9)
+    ∷ (0x07, 1 ∷ 1 ∷ 0 ∷ 2 ∷ 0 ∷ 0 ∷ 0 ∷ 0 ∷ 0 ∷ 0 ∷ 0 ∷ [], PayloadFault.Mismatch 9)
+    ∷ (0x13, 0 ∷ [], PayloadFault.Mismatch 1)
+    ∷ (0x13, 0 ∷ 0 ∷ [], PayloadFault.Mismatch 1)
     ∷ (0x21, [], PayloadFault.Mismatch 0)
     ∷ []
 
@@ -82,6 +84,19 @@ pub svc_reply_rows-payload : map (λ row. svc_reply_payload row.2) svc_reply_row
     ≡ map (λ row. row.1) svc_reply_rows
 svc_reply_rows-payload = refl
 
+-- payloads that are no record of their type, and the place where they part
+abbrev pub svc_reply_faults : List (ℕ × List ℕ × PayloadFault)
+svc_reply_faults =
+    (0x44, [], PayloadFault.UnknownKind)
+    ∷ (0x27, 0 ∷ [], PayloadFault.Mismatch 1)
+    ∷ (0x27, 0 ∷ 3 ∷ 0 ∷ 0 ∷ [], PayloadFault.Mismatch 3)
+    ∷ (0x13, 0 ∷ [], PayloadFault.Mismatch 1)
+    ∷ []
+
+pub svc_reply_faults-read : map (λ row. read_svc_reply row.0 row.1) svc_reply_faults
+    ≡ map (λ row. Err row.2) svc_reply_faults
+svc_reply_faults-read = refl
+
 -- types, payloads and records of the Control protocol
 abbrev pub control_ask_rows : List (ℕ × List ℕ × ControlAsk)
 control_ask_rows =
@@ -110,7 +125,7 @@ abbrev pub control_ask_faults : List (ℕ × List ℕ × PayloadFault)
 control_ask_faults =
     (0x02, [], PayloadFault.UnknownKind)
     ∷ (0x05, 1 ∷ [], PayloadFault.Mismatch 1)
-    ∷ (0x05, 1 ∷ 0 ∷ 0 ∷ [], PayloadFault.Mismatch 2)
+    ∷ (0x05, 1 ∷ 0 ∷ 0 ∷ [], PayloadFault.Mismatch 3)
     ∷ []
 
 pub control_ask_faults-read : map (λ row. read_control_ask row.0 row.1) control_ask_faults
@@ -145,6 +160,7 @@ abbrev pub control_reply_faults : List (ℕ × List ℕ × PayloadFault)
 control_reply_faults =
     (0x02, [], PayloadFault.UnknownKind)
     ∷ (0x03, 72 ∷ [], PayloadFault.Mismatch 1)
+    ∷ (0x05, 0 ∷ [], PayloadFault.Mismatch 1)
     ∷ []
 
 pub control_reply_faults-read : map (λ row. read_control_reply row.0 row.1) control_reply_faults

@@ -47,9 +47,11 @@ spi_ask_faults =
       0x04,
       0 ∷ 0 ∷ 2 ∷ 0 ∷ 64 ∷ 66 ∷ 15 ∷ 0 ∷ 2 ∷ 0 ∷ 0 ∷ 0 ∷ 0 ∷ 0 ∷ 0 ∷ 8 ∷ 3 ∷ 64 ∷ 66 ∷
           15 ∷ 0 ∷ 2 ∷ 0 ∷ 0 ∷ 0 ∷ 0 ∷ 0 ∷ 0 ∷ 8 ∷ 1 ∷ 1 ∷ 2 ∷ 3 ∷ [],
-      PayloadFault.Mismatch 32,
+      PayloadFault.Mismatch 33,
     )
     ∷ (0x03, [], PayloadFault.Mismatch 0)
+    ∷ (0x03, 0 ∷ 0 ∷ 0 ∷ [], PayloadFault.Mismatch 2)
+    ∷ (0x04, 0 ∷ 0 ∷ 0 ∷ 0 ∷ 9 ∷ 9 ∷ [], PayloadFault.Mismatch 5)
     ∷ []
 
 pub spi_ask_faults-read : map (λ row. read_spi_ask row.0 row.1) spi_ask_faults
@@ -132,7 +134,10 @@ abbrev pub uart_ask_faults : List (ℕ × List ℕ × PayloadFault)
 uart_ask_faults =
     (0x01, [], PayloadFault.UnknownKind)
     ∷ (0x02, 2 ∷ 0 ∷ 171 ∷ [], PayloadFault.Mismatch 3)
-    ∷ (0x02, 2 ∷ 0 ∷ 171 ∷ 205 ∷ 239 ∷ [], PayloadFault.Mismatch 4)
+    ∷ (0x02, 2 ∷ 0 ∷ 171 ∷ 205 ∷ 239 ∷ [], PayloadFault.Mismatch 5)
+    ∷ (0x02, 0 ∷ 0 ∷ 1 ∷ 2 ∷ 3 ∷ [], PayloadFault.Mismatch 3)
+    ∷ (0x02, 5 ∷ [], PayloadFault.Mismatch 1)
+    ∷ (0x03, 1 ∷ 0 ∷ 3 ∷ 171 ∷ 205 ∷ [], PayloadFault.Mismatch 5)
     ∷ (0x03, 0 ∷ 0 ∷ [], PayloadFault.Mismatch 2)
     ∷ (0x04, 0 ∷ 194 ∷ 1 ∷ 0 ∷ 0 ∷ 1 ∷ 8 ∷ [], PayloadFault.Mismatch 7)
     ∷ []
@@ -165,3 +170,14 @@ uart_reply_rows-kind = refl
 pub uart_reply_rows-payload : map (λ row. uart_reply_payload row.2) uart_reply_rows
     ≡ map (λ row. row.1) uart_reply_rows
 uart_reply_rows-payload = refl
+
+-- payloads that are no record of their type, and the place where they part
+abbrev pub uart_reply_faults : List (ℕ × List ℕ × PayloadFault)
+uart_reply_faults =
+    (0x01, [], PayloadFault.UnknownKind)
+    ∷ (0x02, 0 ∷ 0 ∷ [], PayloadFault.Mismatch 1)
+    ∷ []
+
+pub uart_reply_faults-read : map (λ row. read_uart_reply row.0 row.1) uart_reply_faults
+    ≡ map (λ row. Err row.2) uart_reply_faults
+uart_reply_faults-read = refl

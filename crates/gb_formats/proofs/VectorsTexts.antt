@@ -6,13 +6,9 @@ use Rattle.hex.specs.Hex.{encode_with}
 use Rattle.gb_base.specs.declared.end.End.TheVariants as end
 use Rattle.gb_base.specs.declared.entry.ConnState.TheVariants as state
 use Rattle.gb_base.specs.declared.entry.IntfStage.TheVariants as stage
-use Rattle.gb_base.specs.declared.name.Name.{Name}
 use Rattle.gb_base.specs.declared.outcome.Outcome.TheVariants as outcome
 use Rattle.gb_formats.specs.ShowTexts.{now_line, interface_line, connection_line, queue_line, name_line, order_text, ticket_line, summary_text}
-
--- a name of a requester
-abbrev pub named : ℕ → List ℕ → Name
-named who w = record { who = who; word = w }
+use Rattle.gb_formats.proofs.Samples.{named_of}
 
 pub now-text : now_line 0 ≡ codes "now 0"
 unfolding digits
@@ -41,12 +37,12 @@ pub queue-text : queue_line (end.Ap 2) 10 ≡ codes "queue ap 2 10"
 unfolding digits
 queue-text = refl
 
-pub name-text : name_line (named 0 (codes "x")) 1 (Some (outcome.Answered 0 (1 ∷ [])))
+pub name-text : name_line (named_of 0 (codes "x")) 1 (Some (outcome.Answered 0 (1 ∷ [])))
     ≡ codes "name @x #1 answered 00"
 unfolding digits encode_with
 name-text = refl
 
-pub name-requester : name_line (named 8 (codes "a")) 16 None ≡ codes "name 8 @a #16 open"
+pub name-requester : name_line (named_of 8 (codes "a")) 16 None ≡ codes "name 8 @a #16 open"
 unfolding digits
 name-requester = refl
 
@@ -58,7 +54,7 @@ order-text = refl
 pub order-empty : order_text [] ≡ codes "order" ++ 10 ∷ []
 order-empty = refl
 
-pub ticket-text : ticket_line (named 0 (codes "x")) 1 (Some outcome.Disconnected)
+pub ticket-text : ticket_line (named_of 0 (codes "x")) 1 (Some outcome.Disconnected)
     ≡ codes "ticket 0 @x #1 disconnected"
 unfolding digits
 ticket-text = refl

@@ -5,11 +5,9 @@ use Rattle.gb_base.specs.declared.fault.RawFault.TheVariants as raw
 use Rattle.gb_base.specs.declared.fault.WireFault.TheVariants as wire
 use Rattle.gb_formats.specs.Message.{Message, request, response, spelling}
 use Rattle.gb_formats.specs.Wire.{Spells, IsStream, decode_answer, raw_message}
+use Rattle.gb_formats.proofs.Samples.{ping_bytes}
 
 -- the ping request with identifier 1
-abbrev pub ping_bytes : List ℕ
-ping_bytes = 8 ∷ 0 ∷ 1 ∷ 0 ∷ 0x13 ∷ 0 ∷ 0 ∷ 0 ∷ []
-
 abbrev pub ping_message : Message
 ping_message = request 1 0x13 []
 

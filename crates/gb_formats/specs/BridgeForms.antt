@@ -13,7 +13,7 @@ use Rattle.gb_base.specs.declared.fault.LineReason.TheVariants as bad
 use Rattle.gb_formats.specs.Said.{Said, next_word, next_cport, at_end, each_word}
 use Rattle.gb_formats.specs.WordValues.{name_word, u8_word, u16_word, u32_word, pin_word, level_word, hex_word, type_word}
 
--- whether a word begins with `@`
+-- whether a word begins with `@`, which is 64
 abbrev pub begins_with_at : List ℕ → Bool
 begins_with_at w = slice_index w 0 == 64
 
@@ -35,21 +35,21 @@ gpio_value make kind value_word ws =
     next_word u8_word 6 ws (λ l ws. next_word value_word 7 ws (λ v ws.
     at_end 8 ws (make (ask.Gpio kind l v))))
 
--- a GPIO request by the word that names it
+-- a GPIO request by the word that names its type
 abbrev pub gpio_named : (BridgeAsk → Event) → List ℕ → List (List ℕ) → Said
 gpio_named make w ws =
-    if bytes_eq w (codes "count") then at_end 6 ws (make (ask.Gpio 2 0 0))
-    else if bytes_eq w (codes "activate") then gpio_line make 3 ws
-    else if bytes_eq w (codes "deactivate") then gpio_line make 4 ws
-    else if bytes_eq w (codes "direction") then gpio_line make 5 ws
-    else if bytes_eq w (codes "in") then gpio_line make 6 ws
-    else if bytes_eq w (codes "out") then gpio_value make 7 u8_word ws
-    else if bytes_eq w (codes "get") then gpio_line make 8 ws
-    else if bytes_eq w (codes "set") then gpio_value make 9 u8_word ws
-    else if bytes_eq w (codes "debounce") then gpio_value make 10 u16_word ws
-    else if bytes_eq w (codes "irq") then gpio_value make 11 u8_word ws
-    else if bytes_eq w (codes "mask") then gpio_line make 12 ws
-    else if bytes_eq w (codes "unmask") then gpio_line make 13 ws
+    if bytes_eq w (codes "count") then at_end 6 ws (make (ask.Gpio 0x02 0 0))
+    else if bytes_eq w (codes "activate") then gpio_line make 0x03 ws
+    else if bytes_eq w (codes "deactivate") then gpio_line make 0x04 ws
+    else if bytes_eq w (codes "direction") then gpio_line make 0x05 ws
+    else if bytes_eq w (codes "in") then gpio_line make 0x06 ws
+    else if bytes_eq w (codes "out") then gpio_value make 0x07 u8_word ws
+    else if bytes_eq w (codes "get") then gpio_line make 0x08 ws
+    else if bytes_eq w (codes "set") then gpio_value make 0x09 u8_word ws
+    else if bytes_eq w (codes "debounce") then gpio_value make 0x0a u16_word ws
+    else if bytes_eq w (codes "irq") then gpio_value make 0x0b u8_word ws
+    else if bytes_eq w (codes "mask") then gpio_line make 0x0c ws
+    else if bytes_eq w (codes "unmask") then gpio_line make 0x0d ws
     else Err (bad.BadWord 5)
 
 -- what a GPIO line asks, from word 5 on
@@ -57,7 +57,7 @@ abbrev pub gpio_asking : (BridgeAsk → Event) → List (List ℕ) → Said
 gpio_asking make [] = Err (bad.MissingWord 5)
 gpio_asking make (w ∷ ws) = gpio_named make w ws
 
--- a word that must be this one
+-- The word that must stand there, and no other.
 abbrev pub literal_word : List ℕ → List ℕ → Option (List ℕ)
 literal_word this w = if bytes_eq w this then Some w else None
 
@@ -85,21 +85,21 @@ abbrev pub i2c_put : ℕ → Option (List ℕ) → Option I2cOp
 i2c_put addr bytes = option_map (i2c.Put addr) bytes
 
 -- `r:AA:LEN`
-abbrev pub i2c_read : List ℕ → Option I2cOp
-i2c_read w =
+abbrev pub i2c_read_word : List ℕ → Option I2cOp
+i2c_read_word w =
     option_and_then (λ addr. i2c_get addr (u16_word (drop 5 w))) (type_word (take 2 (drop 2 w)))
 
 -- `w:AA:HEX`
-abbrev pub i2c_write : List ℕ → Option I2cOp
-i2c_write w =
+abbrev pub i2c_write_word : List ℕ → Option I2cOp
+i2c_write_word w =
     option_and_then (λ addr. i2c_put addr (hex_word (drop 5 w))) (type_word (take 2 (drop 2 w)))
 
--- an op of an I2C transfer
+-- an op of an I2C transfer: `:` is 58, `r` 114 and `w` 119
 abbrev pub i2c_op_word : List ℕ → Option I2cOp
 i2c_op_word w =
     if slice_index w 1 == 58 && slice_index w 4 == 58
-    then (if slice_index w 0 == 114 then i2c_read w
-    else if slice_index w 0 == 119 then i2c_write w else None)
+    then (if slice_index w 0 == 114 then i2c_read_word w
+    else if slice_index w 0 == 119 then i2c_write_word w else None)
     else None
 
 -- `functionality`, or `transfer` and any number of ops
@@ -117,7 +117,7 @@ i2c_form who ws = bridging who ws i2c_asking
 
 -- ---- spi
 
--- an entry of an SPI transfer: `r:LEN`, `w:HEX` or `x:HEX`
+-- an entry of an SPI transfer: `r:LEN`, `w:HEX` or `x:HEX`, where `x` is 120
 abbrev pub spi_op_word : List ℕ → Option SpiOp
 spi_op_word w =
     if slice_index w 1 == 58
@@ -159,15 +159,15 @@ uart_coding make ws =
 abbrev pub uart_byte : (BridgeAsk → Event) → ℕ → List (List ℕ) → Said
 uart_byte make kind ws = next_word u8_word 6 ws (λ v ws. at_end 7 ws (make (ask.UartByte kind v)))
 
--- a UART request by the word that names it
+-- a UART request by the word that names its type
 abbrev pub uart_named : (BridgeAsk → Event) → List ℕ → List (List ℕ) → Said
 uart_named make w ws =
     if bytes_eq w (codes "send")
     then next_word hex_word 6 ws (λ bytes ws. at_end 7 ws (make (ask.UartSend bytes)))
     else if bytes_eq w (codes "coding") then uart_coding make ws
-    else if bytes_eq w (codes "control") then uart_byte make 5 ws
-    else if bytes_eq w (codes "break") then uart_byte make 6 ws
-    else if bytes_eq w (codes "flush") then uart_byte make 9 ws
+    else if bytes_eq w (codes "control") then uart_byte make 0x05 ws
+    else if bytes_eq w (codes "break") then uart_byte make 0x06 ws
+    else if bytes_eq w (codes "flush") then uart_byte make 0x09 ws
     else Err (bad.BadWord 5)
 
 -- what a UART line asks, from word 5 on

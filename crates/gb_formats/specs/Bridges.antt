@@ -12,6 +12,7 @@ use Rattle.gb_base.specs.declared.bridge.SpiOp.TheVariants as spi
 use Rattle.gb_formats.specs.Bytes.{le16}
 use Rattle.gb_formats.specs.GpioRecords.{GpioReply, read_gpio_reply}
 use Rattle.gb_formats.specs.I2cRecords.{I2cReply, read_i2c_reply}
+use Rattle.gb_formats.specs.Protocols.{gpio_protocol, i2c_protocol, uart_protocol, spi_protocol}
 use Rattle.gb_formats.specs.Records.{PayloadFault, le32}
 use Rattle.gb_formats.specs.Results.{most_payload}
 use Rattle.gb_formats.specs.SpiRecords.{SpiReply, read_spi_reply}
@@ -21,17 +22,17 @@ use Rattle.gb_formats.specs.UartDevice.{most_sent}
 
 -- the protocol of a bridge line
 abbrev pub ask_protocol : BridgeAsk → ℕ
-ask_protocol (ask.Gpio kind line value) = 0x02
-ask_protocol ask.I2cFunctionality = 0x03
-ask_protocol (ask.I2cTransfer ops) = 0x03
-ask_protocol ask.SpiConfig = 0x0b
-ask_protocol (ask.SpiDevice select) = 0x0b
-ask_protocol (ask.SpiTransfer select mode ops) = 0x0b
-ask_protocol (ask.UartSend bytes) = 0x04
-ask_protocol (ask.UartCoding rate format parity bits flow) = 0x04
-ask_protocol (ask.UartByte kind value) = 0x04
+ask_protocol (ask.Gpio kind line value) = gpio_protocol
+ask_protocol ask.I2cFunctionality = i2c_protocol
+ask_protocol (ask.I2cTransfer ops) = i2c_protocol
+ask_protocol ask.SpiConfig = spi_protocol
+ask_protocol (ask.SpiDevice select) = spi_protocol
+ask_protocol (ask.SpiTransfer select mode ops) = spi_protocol
+ask_protocol (ask.UartSend bytes) = uart_protocol
+ask_protocol (ask.UartCoding rate format parity bits flow) = uart_protocol
+ask_protocol (ask.UartByte kind value) = uart_protocol
 
--- the type of its request
+-- the type of a bridge line's request
 abbrev pub ask_kind : BridgeAsk → ℕ
 ask_kind (ask.Gpio kind line value) = kind
 ask_kind ask.I2cFunctionality = 0x02
@@ -112,7 +113,7 @@ spi_payload select mode ops =
     select ∷ mode ∷ le16 (length ops)
     ++ (concat (map spi_op_bytes ops) ++ concat (map spi_written ops))
 
--- the payload of its request
+-- the payload of a bridge line's request
 abbrev pub ask_payload : BridgeAsk → List ℕ
 ask_payload (ask.Gpio kind line value) = gpio_payload kind line value
 ask_payload ask.I2cFunctionality = []
@@ -127,14 +128,14 @@ ask_payload (ask.UartByte kind value) = value ∷ []
 
 -- ---- refusals
 
--- whether the reads of a line add up to too much, or a `uart send` has too many bytes
+-- the reads of a transfer add up to more than a payload, or a `uart send` has too many bytes
 abbrev pub asks_too_much : BridgeAsk → Bool
 asks_too_much (ask.I2cTransfer ops) = nat_lt most_payload (sum_by i2c_read_size ops)
 asks_too_much (ask.SpiTransfer select mode ops) = nat_lt most_payload (sum_by spi_read_size ops)
 asks_too_much (ask.UartSend bytes) = nat_lt most_sent (length bytes)
 asks_too_much _ = false
 
--- TooLarge of a bridge line: so do its reads or its bytes, or its payload is too long.
+-- A bridge line is too large where its payload is, its reads are or its bytes are.
 abbrev pub is_too_large : BridgeAsk → Bool
 is_too_large what = nat_lt most_payload (length (ask_payload what)) || asks_too_much what
 
@@ -166,7 +167,7 @@ direction_reading direction =
 abbrev pub value_reading : ℕ → Reading
 value_reading value = if nat_lt 1 value then reading.Bad else reading.Number value
 
--- what an answer of each protocol says
+-- the count of lines, the direction or the value that a GPIO controller answers
 abbrev pub gpio_reading : Result GpioReply PayloadFault → Reading
 gpio_reading (Ok (GpioReply.LineCount last)) = reading.Number (last + 1)
 gpio_reading (Ok (GpioReply.GetDirection direction)) = direction_reading direction
@@ -187,24 +188,24 @@ spi_reading (Ok (SpiReply.MasterConfig mask least greatest mode flags selects)) 
 spi_reading (Ok _) = reading.Nothing
 spi_reading (Err fault) = reading.Bad
 
--- whether answers of a type have a reading
+-- LINE_COUNT, GET_DIRECTION and GET_VALUE have a reading
 abbrev pub has_gpio_reading : ℕ → Bool
 has_gpio_reading kind = kind == 0x02 || kind == 0x05 || kind == 0x08
 
--- FUNCTIONALITY and MASTER_CONFIG answer a number
+-- I2C's FUNCTIONALITY and SPI's MASTER_CONFIG, which have one type, answer a number
 abbrev pub has_number_reading : ℕ → Bool
 has_number_reading kind = kind == 0x02
 
 -- What an answer of success to a request of this protocol and type says.
 abbrev pub reading_of : ℕ → ℕ → List ℕ → Reading
 reading_of protocol kind payload =
-    if protocol == 0x02
+    if protocol == gpio_protocol
     then (if has_gpio_reading kind then gpio_reading (read_gpio_reply kind payload)
     else reading.Nothing)
-    else if protocol == 0x03
+    else if protocol == i2c_protocol
     then (if has_number_reading kind then i2c_reading (read_i2c_reply kind payload)
     else reading.Nothing)
-    else if protocol == 0x0b
+    else if protocol == spi_protocol
     then (if has_number_reading kind then spi_reading (read_spi_reply kind payload)
     else reading.Nothing)
     else reading.Nothing

@@ -33,7 +33,7 @@ control_asks =
     ∷ row1 0x0c u16 ControlAsk.Disconnecting
     ∷ []
 
--- but for GET_MANIFEST, whose response is the manifest's bytes
+-- the rows of responses, but for GET_MANIFEST, whose response is the manifest's bytes
 abbrev pub control_replies : List (Row ControlReply)
 control_replies =
     row2 0x01 u8 u8 ControlReply.Version

@@ -1,9 +1,9 @@
 -- Records of the I2C protocol (Greybus Specification, "I2C Protocol"; in Linux's
 -- greybus_protocols.h `GB_I2C_TYPE_..`).
-use Rattle.std.specs.Prelude.{ℕ, zero, suc, ◌+◌, ◌*◌, ◌/◌, ◌%◌, ◌==◌, Bool, if◌then◌else◌, Result, Ok, List, [], ◌∷◌, ◌++◌, length, take, drop, sum_by}
+use Rattle.std.specs.Prelude.{ℕ, zero, suc, ◌+◌, ◌*◌, ◌/◌, ◌==◌, Bool, if◌then◌else◌, Result, Ok, List, [], ◌∷◌, ◌++◌, length, take, drop, sum_by}
 use Rattle.byteorder.specs.Endian.{little_number}
 use Rattle.gb_formats.specs.Bytes.{le16}
-use Rattle.gb_formats.specs.Records.{le32, PayloadFault, Row, row0, row1, u32, whole, read_table}
+use Rattle.gb_formats.specs.Records.{le32, PayloadFault, has_read_flag, Row, row0, row1, u32, whole, read_table}
 
 -- The payloads of requests. The ops are the bytes of the ops as they stand in the payload, the data
 -- those behind them.
@@ -40,25 +40,25 @@ ops_at zero bytes = []
 ops_at (suc n) bytes = op_at bytes ∷ ops_at n (drop op_size bytes)
 
 -- flag 0001 is a read
-abbrev pub reads : TransferOp → Bool
-reads op = op.flags % 2 == 1
+abbrev pub op_reads : TransferOp → Bool
+op_reads op = has_read_flag op.flags
 
 -- how many bytes an op writes
-abbrev pub written_size : TransferOp → ℕ
-written_size op = if reads op then 0 else op.size
+abbrev pub op_written_size : TransferOp → ℕ
+op_written_size op = if op_reads op then 0 else op.size
 
 -- how many bytes an op reads
-abbrev pub read_size : TransferOp → ℕ
-read_size op = if reads op then op.size else 0
+abbrev pub op_read_size : TransferOp → ℕ
+op_read_size op = if op_reads op then op.size else 0
 
--- The bytes after the ops are exactly as many as the write ops' sizes add up to.
-abbrev pub transfer_size : ℕ → List TransferOp → ℕ
-transfer_size count ops = 2 + op_size * count + sum_by written_size ops
+-- The size of a transfer: the count, the ops, and as many bytes as the write ops' sizes add up to.
+abbrev pub i2c_transfer_size : ℕ → List TransferOp → ℕ
+i2c_transfer_size count ops = 2 + op_size * count + sum_by op_written_size ops
 
 -- a transfer of so many ops
-abbrev pub read_transfer : ℕ → List ℕ → Result I2cAsk PayloadFault
-read_transfer count payload =
-    whole (transfer_size count (ops_at count (drop 2 payload))) payload
+abbrev pub read_i2c_transfer : ℕ → List ℕ → Result I2cAsk PayloadFault
+read_i2c_transfer count payload =
+    whole (i2c_transfer_size count (ops_at count (drop 2 payload))) payload
     (I2cAsk.Transfer (take (op_size * count) (drop 2 payload))
     (drop (2 + op_size * count) payload))
 
@@ -73,7 +73,7 @@ i2c_replies = row1 0x02 u32 I2cReply.Functionality ∷ []
 -- the request that a payload is
 abbrev pub read_i2c_ask : ℕ → List ℕ → Result I2cAsk PayloadFault
 read_i2c_ask kind payload =
-    if kind == 0x05 then read_transfer (little_number 2 payload) payload
+    if kind == 0x05 then read_i2c_transfer (little_number 2 payload) payload
     else read_table i2c_asks kind payload
 
 -- the response that a payload is; the type is that of the request

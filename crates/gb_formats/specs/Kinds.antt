@@ -3,6 +3,7 @@ use Rattle.std.specs.Prelude.{ℕ, List, [], ◌∷◌, codes}
 use Rattle.gb_base.specs.declared.event.Kind.{Kind}
 use Rattle.gb_base.specs.declared.event.Kind.TheVariants as kind
 use Rattle.gb_formats.specs.ManifestSpec.{ManifestSpec, StringSpec, BundleSpec, CportSpec, plain}
+use Rattle.gb_formats.specs.Protocols.{control_protocol, gpio_protocol, i2c_protocol, uart_protocol, spi_protocol, control_class, bridged_class}
 
 -- the product string of a kind
 abbrev pub product_of : Kind → List ℕ
@@ -24,16 +25,18 @@ bundle_of id class = record { id = id; class = class }
 abbrev pub cport_of : ℕ → ℕ → ℕ → CportSpec
 cport_of id bundle protocol = record { id = id; bundle = bundle; protocol = protocol }
 
--- The CPorts of a kind in bundle 1: GPIO has protocol 02, I2C 03, SPI 0b and UART 04.
+-- the CPorts of a kind, all in bundle 1
 abbrev pub kind_cports : Kind → List CportSpec
-kind_cports kind.Gpio = cport_of 1 1 0x02 ∷ []
-kind_cports kind.I2c = cport_of 1 1 0x03 ∷ []
-kind_cports kind.Spi = cport_of 1 1 0x0b ∷ []
-kind_cports kind.Uart = cport_of 1 1 0x04 ∷ []
+kind_cports kind.Gpio = cport_of 1 1 gpio_protocol ∷ []
+kind_cports kind.I2c = cport_of 1 1 i2c_protocol ∷ []
+kind_cports kind.Spi = cport_of 1 1 spi_protocol ∷ []
+kind_cports kind.Uart = cport_of 1 1 uart_protocol ∷ []
 kind_cports kind.Bridge =
-    cport_of 1 1 0x02 ∷ cport_of 2 1 0x03 ∷ cport_of 3 1 0x0b ∷ cport_of 4 1 0x04 ∷ []
+    cport_of 1 1 gpio_protocol ∷ cport_of 2 1 i2c_protocol ∷ cport_of 3 1 spi_protocol
+    ∷ cport_of 4 1 uart_protocol ∷ []
 
--- the spec of a kind's manifest: bundle 0 has the control class, bundle 1 that of bridged protocols
+-- The spec of a kind's manifest: strings 1 and 2 for vendor and product, bundle 0 with CPort 0 for
+-- Control, and bundle 1 with the kind's CPorts.
 abbrev pub kind_spec : Kind → ManifestSpec
 kind_spec k = record {
   minor = 1;
@@ -41,8 +44,8 @@ kind_spec k = record {
   product = 2;
   features = 0;
   strings = string_of 1 (codes "Greybus") ∷ string_of 2 (product_of k) ∷ [];
-  bundles = bundle_of 0 0x00 ∷ bundle_of 1 0x0a ∷ [];
-  cports = cport_of 0 0 0x00 ∷ kind_cports k;
+  bundles = bundle_of 0 control_class ∷ bundle_of 1 bridged_class ∷ [];
+  cports = cport_of 0 0 control_protocol ∷ kind_cports k;
 }
 
 -- The manifest of a kind.

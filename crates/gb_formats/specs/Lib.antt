@@ -18,6 +18,7 @@ pub mod ManifestSpec
 pub mod Message
 pub mod Module
 pub mod Parts
+pub mod Protocols
 pub mod Reasons
 pub mod Records
 pub mod Results

@@ -8,6 +8,7 @@ use Rattle.gb_base.specs.declared.event.Event.{Event}
 use Rattle.gb_base.specs.declared.event.Event.TheVariants as event
 use Rattle.gb_base.specs.declared.event.Kind.TheVariants as kind
 use Rattle.gb_base.specs.declared.name.Name.{Name}
+use Rattle.gb_formats.specs.I2cDevice.{i2c_address}
 
 -- x(0) is the seed, and x(k) = (x(k-1) * 1103515245 + 12345) mod 2147483648
 unfoldable pub made_number : ℕ → ℕ → ℕ
@@ -40,13 +41,14 @@ last_named seed (suc k) =
 abbrev pub made_name : ℕ → Name
 made_name k = record { who = 0; word = codes "n" ++ decimal k }
 
--- line k of the table, by its row, interface and value
+-- Line k of the table by its row, interface and value: `activate`, a transfer, `send`, `settle`,
+-- `cancel` of the last name, `tick` or `deliver`.
 abbrev pub made_by : ℕ → ℕ → ℕ → ℕ → ℕ → Event
 made_by k named row i v =
-    if nat_le row 1 then event.Bridge (made_name k) i 1 (ask.Gpio 3 v 0)
+    if nat_le row 1 then event.Bridge (made_name k) i 1 (ask.Gpio 0x03 v 0)
     else if row == 2
     then event.Bridge (made_name k) i 2
-    (ask.I2cTransfer (i2c.Put 80 (v ∷ []) ∷ i2c.Get 80 4 ∷ []))
+    (ask.I2cTransfer (i2c.Put i2c_address (v ∷ []) ∷ i2c.Get i2c_address 4 ∷ []))
     else if row == 3 then event.Bridge (made_name k) i 4 (ask.UartSend (v ∷ []))
     else if row == 4 then event.Settle 5
     else if row == 5 then event.Cancel (made_name named)

@@ -4,7 +4,7 @@ use Rattle.std.specs.Prelude.{◌≡◌, ◌≤◌, ℕ, zero, suc, ◌+◌, ◌
 use Rattle.gb_base.specs.declared.fault.Reason.{Reason}
 use Rattle.gb_base.specs.declared.fault.Reason.TheVariants as reason
 use Rattle.gb_formats.specs.Bytes.{le16}
-use Rattle.gb_formats.specs.Descriptors.{Descriptor, IsDescriptor, size_at, least_size_at, descriptor_at}
+use Rattle.gb_formats.specs.Descriptors.{Descriptor, IsDescriptor, size_at, type_at, least_size_at, descriptor_at}
 use Rattle.gb_formats.specs.ManifestRules.{Placed, Refused, rules_refusal, is_cport}
 
 -- A manifest: its minor version, its size in bytes, and its descriptors in order.
@@ -40,12 +40,20 @@ pub record IsManifest (bytes : List ℕ) (m : Manifest) : Type 0 where
 abbrev pub refusal_at : ℕ → Reason → Refused
 refusal_at at reason = record { at = at; reason = reason }
 
+-- the major version in a manifest's header
+abbrev pub major_field : List ℕ → ℕ
+major_field bytes = slice_index bytes 2
+
+-- the minor version in a manifest's header
+abbrev pub minor_field : List ℕ → ℕ
+minor_field bytes = slice_index bytes 3
+
 -- what the header breaks: fewer than four bytes, a size that isn't the length, a major above 0
 abbrev pub header_refusal : List ℕ → Option Refused
 header_refusal bytes =
     if nat_lt (length bytes) 4 then Some (refusal_at (length bytes) reason.ShortHeader)
     else if not (size_at bytes == length bytes) then Some (refusal_at 0 reason.Size)
-    else if nat_lt 0 (slice_index bytes 2) then Some (refusal_at 2 reason.Version)
+    else if nat_lt 0 (major_field bytes) then Some (refusal_at 2 reason.Version)
     else None
 
 -- a size below 4, no multiple of four, or more than is left
@@ -58,7 +66,7 @@ descriptor_refusal at bytes =
     if nat_lt (length bytes) 4 then Some (refusal_at at reason.ShortDescriptor)
     else if wrong_size (size_at bytes) (length bytes)
     then Some (refusal_at at reason.DescriptorSize)
-    else if not (nat_le 1 (slice_index bytes 2) && nat_le (slice_index bytes 2) 4)
+    else if not (nat_le 0x01 (type_at bytes) && nat_le (type_at bytes) 0x04)
     then Some (refusal_at (at + 2) reason.DescriptorType)
     else if nat_lt (size_at bytes) (least_size_at bytes)
     then Some (refusal_at at reason.DescriptorShort)
@@ -88,7 +96,7 @@ descriptors_from zero at (b ∷ bs) =
 abbrev pub manifest_unless : Option Refused → List ℕ → List Placed → Result Manifest Refused
 manifest_unless (Some why) bytes placed = Err why
 manifest_unless None bytes placed = Ok (record {
-  minor = slice_index bytes 3;
+  minor = minor_field bytes;
   size = length bytes;
   descriptors = map (λ d. d.descriptor) placed;
 })

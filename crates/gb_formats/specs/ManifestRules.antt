@@ -4,6 +4,7 @@ use Rattle.std.specs.List.{list_any}
 use Rattle.gb_base.specs.declared.fault.Reason.{Reason}
 use Rattle.gb_base.specs.declared.fault.Reason.TheVariants as reason
 use Rattle.gb_formats.specs.Descriptors.{Descriptor}
+use Rattle.gb_formats.specs.Protocols.{control_protocol}
 
 -- a descriptor with its place in bytes
 pub record Placed : Type 0 where
@@ -83,10 +84,10 @@ abbrev pub without_bundle : List Placed → List Placed → Descriptor → Bool
 without_bundle all before (Descriptor.Cport id bundle protocol) = not (has (is_bundle bundle) all)
 without_bundle all before _ = false
 
--- CPort 0 not in bundle 0 or not with protocol 0
+-- CPort 0 not in bundle 0 or not with the Control protocol
 abbrev pub wrong_control : List Placed → Descriptor → Bool
 wrong_control before (Descriptor.Cport id bundle protocol) =
-    id == 0 && not (bundle == 0 && protocol == 0)
+    id == 0 && not (bundle == 0 && protocol == control_protocol)
 wrong_control before _ = false
 
 -- a string id that isn't 0 and isn't declared

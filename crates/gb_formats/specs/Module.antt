@@ -11,6 +11,7 @@ use Rattle.gb_formats.specs.Kinds.{kind_cports, kind_manifest}
 use Rattle.gb_formats.specs.Manifest.{Manifest, check_answer}
 use Rattle.gb_formats.specs.ManifestRules.{Refused}
 use Rattle.gb_formats.specs.ManifestSpec.{CportSpec}
+use Rattle.gb_formats.specs.Protocols.{gpio_protocol, i2c_protocol, uart_protocol, spi_protocol}
 use Rattle.gb_formats.specs.Records.{PayloadFault}
 use Rattle.gb_formats.specs.Results.{Step, answer_of, refusal_of, oneway_ask, fault_result, protocol_bad, invalid, nonexistent}
 use Rattle.gb_formats.specs.SpiDevice.{first_spi, spi_step}
@@ -28,10 +29,10 @@ pub data Device : Type 0 where
 -- the device of a protocol in its first state, if there is one
 abbrev pub device_of : ℕ → Option Device
 device_of protocol =
-    if protocol == 0x02 then Some (Gpio first_gpio)
-    else if protocol == 0x03 then Some (I2c first_i2c)
-    else if protocol == 0x0b then Some (Spi first_spi)
-    else if protocol == 0x04 then Some Uart
+    if protocol == gpio_protocol then Some (Gpio first_gpio)
+    else if protocol == i2c_protocol then Some (I2c first_i2c)
+    else if protocol == spi_protocol then Some (Spi first_spi)
+    else if protocol == uart_protocol then Some Uart
     else None
 
 -- the first state of a device, but that the levels of its lines stay

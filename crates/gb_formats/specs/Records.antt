@@ -1,10 +1,10 @@
 -- Payload records: how the bytes of a payload are the fields of a row of a protocol's table.
-use Rattle.std.specs.Prelude.{◌≡◌, ℕ, ◌==◌, min, if◌then◌else◌, Option, Some, None, Result, Ok, Err, List, [], ◌∷◌, length, drop, slice_index, sum, find}
+use Rattle.std.specs.Prelude.{◌≡◌, ℕ, ◌+◌, ◌%◌, ◌==◌, min, Bool, if◌then◌else◌, Option, Some, None, Result, Ok, Err, List, [], ◌∷◌, length, drop, slice_index, sum, find}
 use Rattle.byteorder.specs.Endian.{little_bytes, little_number}
 
--- Why a payload isn't a record of a type: the protocol hasn't the type, or payload and record part
--- at this place. That is the least length of a front of the payload after which no record of the
--- type can go on, and the payload's length where it is short.
+-- Why a payload isn't a record of a type: the protocol hasn't the type, or no record of the type
+-- begins with this many bytes of the payload, and one does with fewer. Where the payload is short
+-- the place is its length.
 pub data PayloadFault : Type 0 where
   UnknownKind : PayloadFault
   Mismatch : ℕ → PayloadFault
@@ -24,6 +24,10 @@ u32 = 4
 -- the four bytes of a number, the lowest first
 abbrev pub le32 : ℕ → List ℕ
 le32 n = little_bytes 4 n
+
+-- bit 0 of the flags of an I2C op or an SPI entry: it reads
+abbrev pub has_read_flag : ℕ → Bool
+has_read_flag flags = flags % 2 == 1
 
 -- A row of a table: a type, the widths of its fields, and the record that the fields make.
 pub record Row (A : Type 0) : Type 0 where
@@ -87,10 +91,11 @@ abbrev pub fields_of : List ℕ → List ℕ → List ℕ
 fields_of [] bytes = []
 fields_of (width ∷ widths) bytes = little_number width bytes ∷ fields_of widths (drop width bytes)
 
--- A record of so many bytes is the whole payload. A payload that is short ends where they part.
+-- A record of so many bytes is the whole payload. A longer payload parts from it at the first byte
+-- too many, a shorter one at its end.
 abbrev pub whole : {A : Type 0} → ℕ → List ℕ → A → Result A PayloadFault
 whole size payload made =
-    if length payload == size then Ok made else Err (Mismatch (min (length payload) size))
+    if length payload == size then Ok made else Err (Mismatch (min (length payload) (size + 1)))
 
 -- the record of a row, if there is one of the type
 abbrev pub read_row : {A : Type 0} → Option (Row A) → List ℕ → Result A PayloadFault

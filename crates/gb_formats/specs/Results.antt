@@ -1,11 +1,11 @@
--- Results of operations, and what a responder answers.
+-- Results of operations, and what a responder answers (Greybus Specification, "Operation Status
+-- Values"; in Linux `gb_operation_result`).
 use Rattle.std.specs.Prelude.{ℕ, true, false, List, []}
 use Rattle.gb_base.specs.declared.served.OwnAsk.{OwnAsk}
 use Rattle.gb_base.specs.declared.served.Served.{Served}
 use Rattle.gb_formats.specs.Records.{PayloadFault}
 
--- The results (Greybus Specification, "Operation Status Values"; in Linux `gb_operation_result`'s
--- `GB_OP_..`).
+-- the request was served
 abbrev pub success : ℕ
 success = 0x00
 

@@ -3,7 +3,7 @@ use Rattle.std.specs.Prelude.{ℕ, ◌-◌, ◌/◌, ◌==◌, nat_lt, Bool, not
 use Rattle.std.specs.List.{list_any}
 use Rattle.gb_formats.specs.Records.{PayloadFault}
 use Rattle.gb_formats.specs.Results.{Step, tells, refuses, fault_result, invalid, nonexistent, overflow, most_payload}
-use Rattle.gb_formats.specs.SpiRecords.{SpiAsk, SpiReply, TransferEntry, entry_size, name_size, entries_at, reads, writes, read_size, read_spi_ask, spi_reply_payload}
+use Rattle.gb_formats.specs.SpiRecords.{SpiAsk, SpiReply, TransferEntry, entry_size, name_size, entries_at, entry_writes, entry_written_size, entry_read_size, read_spi_ask, spi_reply_payload}
 
 -- the last byte written is first 0
 abbrev pub first_spi : ℕ
@@ -26,37 +26,33 @@ abbrev pub last_of : ℕ → List ℕ → ℕ
 last_of last bytes = slice_index_or bytes (length bytes - 1) last
 
 -- the bytes that an entry writes
-abbrev pub written_by : TransferEntry → List ℕ → List ℕ
-written_by entry bytes = if writes entry then take entry.len bytes else []
+abbrev pub entry_written_bytes : TransferEntry → List ℕ → List ℕ
+entry_written_bytes entry bytes = take (entry_written_size entry) bytes
 
 -- An entry with read and write reads back what it writes, one with read alone reads the last byte,
 -- repeated.
-abbrev pub read_by : ℕ → TransferEntry → List ℕ → List ℕ
-read_by last entry bytes =
-    if reads entry
-    then (if writes entry then take entry.len bytes else replicate entry.len last) else []
+abbrev pub entry_read_bytes : ℕ → TransferEntry → List ℕ → List ℕ
+entry_read_bytes last entry bytes =
+    if entry_writes entry then take (entry_read_size entry) bytes
+    else replicate (entry_read_size entry) last
 
--- the write data left behind an entry
-abbrev pub left_after : TransferEntry → List ℕ → List ℕ
-left_after entry bytes = if writes entry then drop entry.len bytes else bytes
-
--- entries in order, behind the bytes that were read
+-- Entries in order, with the write data that is left and behind the bytes that were read.
 abbrev pub entries_run : ℕ → List ℕ → List ℕ → List TransferEntry → Step ℕ
 entries_run last bytes front [] = tells last (spi_reply_payload (SpiReply.Transfer front))
 entries_run last bytes front (entry ∷ entries) =
-    entries_run (last_of last (written_by entry bytes)) (left_after entry bytes)
-    (front ++ read_by last entry bytes) entries
+    entries_run (last_of last (entry_written_bytes entry bytes))
+    (drop (entry_written_size entry) bytes) (front ++ entry_read_bytes last entry bytes) entries
 
 -- an entry whose bits aren't 8 or whose flags are above 7
 abbrev pub is_strange : TransferEntry → Bool
 is_strange entry = not (entry.bits == 8) || nat_lt 7 entry.flags
 
 -- a transfer of these entries with this data
-abbrev pub transfer_step : ℕ → ℕ → ℕ → List TransferEntry → List ℕ → Step ℕ
-transfer_step last select mode entries bytes =
+abbrev pub spi_transfer_step : ℕ → ℕ → ℕ → List TransferEntry → List ℕ → Step ℕ
+spi_transfer_step last select mode entries bytes =
     if nat_lt 3 mode || list_any is_strange entries then refuses last invalid
     else if nat_lt 0 select then refuses last nonexistent
-    else if nat_lt most_payload (sum_by read_size entries) then refuses last overflow
+    else if nat_lt most_payload (sum_by entry_read_size entries) then refuses last overflow
     else entries_run last bytes [] entries
 
 -- what each request does
@@ -65,7 +61,7 @@ spi_asked last SpiAsk.MasterConfig = tells last (spi_reply_payload master)
 spi_asked last (SpiAsk.DeviceConfig select) =
     if select == 0 then tells last (spi_reply_payload echo) else refuses last nonexistent
 spi_asked last (SpiAsk.Transfer select mode entries bytes) =
-    transfer_step last select mode (entries_at (length entries / entry_size) entries) bytes
+    spi_transfer_step last select mode (entries_at (length entries / entry_size) entries) bytes
 
 -- a request by its payload
 abbrev pub spi_read : ℕ → Result SpiAsk PayloadFault → Step ℕ

@@ -3,7 +3,7 @@
 use Rattle.std.specs.Prelude.{ℕ, zero, suc, ◌+◌, ◌*◌, ◌/◌, ◌%◌, ◌==◌, Bool, if◌then◌else◌, Result, Ok, List, [], ◌∷◌, ◌++◌, length, take, drop, slice_index, sum_by}
 use Rattle.byteorder.specs.Endian.{little_number}
 use Rattle.gb_formats.specs.Bytes.{le16}
-use Rattle.gb_formats.specs.Records.{le32, PayloadFault, Row, row0, row1, row6, u8, u16, u32, whole, read_table}
+use Rattle.gb_formats.specs.Records.{le32, PayloadFault, has_read_flag, Row, row0, row1, row6, u8, u16, u32, whole, read_table}
 
 -- The payloads of requests. The entries are the bytes of the entries as they stand in the payload,
 -- the data those behind them.
@@ -53,29 +53,30 @@ entries_at zero bytes = []
 entries_at (suc n) bytes = entry_at bytes ∷ entries_at n (drop entry_size bytes)
 
 -- flag 1 is a read
-abbrev pub reads : TransferEntry → Bool
-reads entry = entry.flags % 2 == 1
+abbrev pub entry_reads : TransferEntry → Bool
+entry_reads entry = has_read_flag entry.flags
 
 -- flag 2 is a write
-abbrev pub writes : TransferEntry → Bool
-writes entry = entry.flags / 2 % 2 == 1
+abbrev pub entry_writes : TransferEntry → Bool
+entry_writes entry = entry.flags / 2 % 2 == 1
 
 -- how many bytes an entry writes
-abbrev pub written_size : TransferEntry → ℕ
-written_size entry = if writes entry then entry.len else 0
+abbrev pub entry_written_size : TransferEntry → ℕ
+entry_written_size entry = if entry_writes entry then entry.len else 0
 
 -- how many bytes an entry reads
-abbrev pub read_size : TransferEntry → ℕ
-read_size entry = if reads entry then entry.len else 0
+abbrev pub entry_read_size : TransferEntry → ℕ
+entry_read_size entry = if entry_reads entry then entry.len else 0
 
--- The write data has the lengths of the entries with flag 2.
-abbrev pub transfer_size : ℕ → List TransferEntry → ℕ
-transfer_size count entries = 4 + entry_size * count + sum_by written_size entries
+-- The size of a transfer: chip select, mode and count, the entries, and as many bytes as the
+-- lengths of the entries with flag 2 add up to.
+abbrev pub spi_transfer_size : ℕ → List TransferEntry → ℕ
+spi_transfer_size count entries = 4 + entry_size * count + sum_by entry_written_size entries
 
 -- a transfer of so many entries
-abbrev pub read_transfer : ℕ → List ℕ → Result SpiAsk PayloadFault
-read_transfer count payload =
-    whole (transfer_size count (entries_at count (drop 4 payload))) payload
+abbrev pub read_spi_transfer : ℕ → List ℕ → Result SpiAsk PayloadFault
+read_spi_transfer count payload =
+    whole (spi_transfer_size count (entries_at count (drop 4 payload))) payload
     (SpiAsk.Transfer (slice_index payload 0) (slice_index payload 1)
     (take (entry_size * count) (drop 4 payload)) (drop (4 + entry_size * count) payload))
 
@@ -97,7 +98,7 @@ spi_replies = row6 0x02 u32 u32 u32 u16 u16 u8 SpiReply.MasterConfig ∷ []
 -- the request that a payload is
 abbrev pub read_spi_ask : ℕ → List ℕ → Result SpiAsk PayloadFault
 read_spi_ask kind payload =
-    if kind == 0x04 then read_transfer (little_number 2 (drop 2 payload)) payload
+    if kind == 0x04 then read_spi_transfer (little_number 2 (drop 2 payload)) payload
     else read_table spi_asks kind payload
 
 -- the response that a payload is; the type is that of the request

@@ -27,7 +27,7 @@ pub data UartReply : Type 0 where
   ReceiveCredits : UartReply
   FlushFifos : UartReply
 
--- but for SEND_DATA and RECEIVE_DATA, whose size is that of the bytes behind
+-- the rows of requests, but for SEND_DATA and RECEIVE_DATA, which have as many bytes as they say
 abbrev pub uart_asks : List (Row UartAsk)
 uart_asks =
     row5 0x04 u32 u8 u8 u8 u8 UartAsk.SetLineCoding
@@ -51,12 +51,12 @@ uart_replies =
     ∷ row0 0x09 UartReply.FlushFifos
     ∷ []
 
--- size, and that many bytes
+-- SEND_DATA: a size, and that many bytes
 abbrev pub read_send : List ℕ → Result UartAsk PayloadFault
 read_send payload =
     whole (2 + little_number 2 payload) payload (UartAsk.SendData (drop 2 payload))
 
--- size, flags, and that many bytes
+-- RECEIVE_DATA: a size, flags, and that many bytes
 abbrev pub read_receive : List ℕ → Result UartAsk PayloadFault
 read_receive payload =
     whole (3 + little_number 2 payload) payload

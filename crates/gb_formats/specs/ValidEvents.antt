@@ -62,22 +62,23 @@ IsEnd (end.Module i c) = IsIntf i × IsCport c
 
 -- COUNT has no line
 abbrev pub IsGpioCount : ℕ → ℕ → ℕ → Type 0
-IsGpioCount kind line value = (kind ≡ 2) × (line ≡ 0) × (value ≡ 0)
+IsGpioCount kind line value = (kind ≡ 0x02) × (line ≡ 0) × (value ≡ 0)
 
 -- requests with a line alone: activate, deactivate, direction, in, get, mask and unmask
 abbrev pub IsGpioLine : ℕ → ℕ → ℕ → Type 0
 IsGpioLine kind line value =
-    ((kind ≡ 3) ⊎ (kind ≡ 4) ⊎ (kind ≡ 5) ⊎ (kind ≡ 6) ⊎ (kind ≡ 8) ⊎ (kind ≡ 12) ⊎ (kind ≡ 13))
+    ((kind ≡ 0x03) ⊎ (kind ≡ 0x04) ⊎ (kind ≡ 0x05) ⊎ (kind ≡ 0x06) ⊎ (kind ≡ 0x08)
+    ⊎ (kind ≡ 0x0c) ⊎ (kind ≡ 0x0d))
     × IsU8 line × (value ≡ 0)
 
 -- requests with a line and a byte: out, set and irq
 abbrev pub IsGpioByte : ℕ → ℕ → ℕ → Type 0
 IsGpioByte kind line value =
-    ((kind ≡ 7) ⊎ (kind ≡ 9) ⊎ (kind ≡ 11)) × IsU8 line × IsU8 value
+    ((kind ≡ 0x07) ⊎ (kind ≡ 0x09) ⊎ (kind ≡ 0x0b)) × IsU8 line × IsU8 value
 
 -- debounce has a line and a time
 abbrev pub IsGpioTime : ℕ → ℕ → ℕ → Type 0
-IsGpioTime kind line value = (kind ≡ 10) × IsU8 line × IsU16 value
+IsGpioTime kind line value = (kind ≡ 0x0a) × IsU8 line × IsU16 value
 
 -- an op of an I2C transfer has an address of seven bits
 abbrev pub IsI2cOp : I2cOp → Type 0
@@ -113,7 +114,7 @@ HasForm (ask.SpiTransfer select mode ops) = IsU8 select × IsU8 mode × AreSpiOp
 HasForm (ask.UartSend bytes) = ⊤
 HasForm (ask.UartCoding rate format parity bits flow) =
     IsU32 rate × IsU8 format × IsU8 parity × IsU8 bits × IsU8 flow
-HasForm (ask.UartByte kind value) = ((kind ≡ 5) ⊎ (kind ≡ 6) ⊎ (kind ≡ 9)) × IsU8 value
+HasForm (ask.UartByte kind value) = ((kind ≡ 0x05) ⊎ (kind ≡ 0x06) ⊎ (kind ≡ 0x09)) × IsU8 value
 
 -- ---- events
 
