@@ -6,6 +6,8 @@ mod output;
 mod run;
 mod script;
 mod session;
+#[cfg(test)]
+mod tests;
 mod words;
 
 use gb_base::{FreeGate, Status, StdSink, StdSource};

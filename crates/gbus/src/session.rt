@@ -101,7 +101,8 @@ fn put_all(
 ) -> Result<(), OutOfMemory>
     ensures { OnOk result (out.new ≡ out.old ++ entries_text line hex entries.now) }
 {
-    for entry in entries.items() {
+    let items = entries.items();
+    for entry in items {
         put(alloc, entry, line, hex, out)?;
     }
     Ok(())
