@@ -1,6 +1,7 @@
 use crate::{
-    Bytes, End, Entry, Event, Failed, MemSink, MemSource, Name, NoRoom, Numbers, PlainSink,
-    PlainSource, Sink, Source, StdSink, StdSource, Text, TryCopy, Word, WriteStop,
+    BridgeAsk, Bytes, End, Entry, Event, Failed, I2cOp, I2cOps, MemSink, MemSource, Name, NoRoom,
+    Numbers, Outcome, OwnAsk, OwnAsks, PlainSink, PlainSource, Served, Sink, Source, SpiOp, SpiOps,
+    StdSink, StdSource, Text, TryCopy, Word, WriteStop,
 };
 use std::test::Fail;
 
@@ -70,6 +71,45 @@ fn values_are_copied(rt: HostRuntime) -> Result<(), Fail> {
     };
     assert_eq!(rt; (intf, cport), (2, 3));
     assert_eq!(rt; bytes.items(), b"ab".as_slice());
+    Ok(())
+}
+
+#[test]
+fn asks_are_copied(rt: HostRuntime) -> Result<(), Fail> {
+    let mut reads = I2cOps::new(rt.alloc());
+    reads.push(I2cOp::Get { addr: 80, len: 4 })?;
+    let mut writes = SpiOps::new(rt.alloc());
+    writes.push(SpiOp::Put {
+        bytes: Bytes::from_slice(rt.alloc(), b"ab")?,
+    })?;
+    let transfer = BridgeAsk::I2cTransfer { ops: reads.copy()? };
+    assert!(rt; matches!(transfer.copy()?, BridgeAsk::I2cTransfer { .. }));
+    assert_eq!(rt; writes.copy()?.items().len(), 1);
+    Ok(())
+}
+
+#[test]
+fn answers_are_copied(rt: HostRuntime) -> Result<(), Fail> {
+    let mut numbers = Numbers::new(rt.alloc());
+    numbers.push(7)?;
+    assert_eq!(rt; numbers.copy()?.items(), [7].as_slice());
+    let outcome = Outcome::Answered {
+        result: 6,
+        payload: Bytes::new(rt.alloc()),
+    };
+    assert!(rt; matches!(outcome.copy()?, Outcome::Answered { result: 6, .. }));
+    let mut asks = OwnAsks::new(rt.alloc());
+    asks.push(OwnAsk {
+        kind: 14,
+        payload: Bytes::from_slice(rt.alloc(), b"a")?,
+        oneway: true,
+    })?;
+    let served = Served {
+        result: 0,
+        payload: Bytes::new(rt.alloc()),
+        asks,
+    };
+    assert_eq!(rt; served.copy()?.asks.items().len(), 1);
     Ok(())
 }
 
