@@ -4,5 +4,7 @@
 mod message;
 mod names;
 mod system;
+#[cfg(test)]
+mod tests;
 
 pub use system::System;
