@@ -1,4 +1,9 @@
 pub mod Lists
 pub mod Opened
-pub mod Rows
+pub mod RowsConnections
+pub mod RowsDevices
+pub mod RowsEnumeration
+pub mod RowsPings
+pub mod RowsRefusals
+pub mod Scripts
 pub mod Steps

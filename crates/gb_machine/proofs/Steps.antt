@@ -1,8 +1,9 @@
 -- What the machine's step is for each event, one equation for each way that it goes.
-use Rattle.std.proofs.Common.{◌≡◌, ℕ, ◌+◌, true, false, not, if◌then◌else◌, Some, None, List, [], ◌∷◌, refl, ap, ◌∙◌}
+use Rattle.std.proofs.Common.{◌≡◌, ℕ, ◌+◌, true, false, if◌then◌else◌, Some, None, List, [], ◌∷◌, refl, ap, ◌∙◌}
 use Rattle.gb_base.specs.declared.bridge.Reading.TheVariants as reading
 use Rattle.gb_base.specs.declared.end.End.{End}
 use Rattle.gb_base.specs.declared.end.End.TheVariants as end
+use Rattle.gb_base.specs.declared.end.Side.{Side}
 use Rattle.gb_base.specs.declared.end.Side.TheVariants as side
 use Rattle.gb_base.specs.declared.entry.Entry.{Entry}
 use Rattle.gb_base.specs.declared.entry.Entry.TheVariants as entry
@@ -11,17 +12,23 @@ use Rattle.gb_base.specs.declared.event.Event.TheVariants as event
 use Rattle.gb_base.specs.declared.name.Name.{Name}
 use Rattle.gb_base.specs.declared.refusal.Refusal.{Refusal}
 use Rattle.gb_machine.proofs.Opened.{machine_opened}
-use Rattle.gb_machine.specs.Actions.{Told, given, on_bus, tell, when, ◌▸◌}
-use Rattle.gb_machine.specs.Arriving.{answer_at, arrives, ends, replies, reply_told}
+use Rattle.gb_machine.specs.Actions.{Action, Told, by_state, given, on_bus, tell, ◌▸◌}
+use Rattle.gb_machine.specs.Arriving.{arrives, asked_at, by_label, by_number, delivers_at, dropped, ends, ends_answered, forgets, handles, is_held, keeps, reading_for, takes}
 use Rattle.gb_machine.specs.Asking.{asked, asks, asks_with}
-use Rattle.gb_machine.specs.Bus.{Ask, Bus, Connection, Item, Place, Reply, Request, connection_of, is_open, next_number, other_side, place_of, queue, request_of}
+use Rattle.gb_machine.specs.Bus.{Ask, Bus, Connection, Item, Place, Reply, Request, connection_of, is_open, next_number, or_else, other_side, place_of, queue, request_of}
 use Rattle.gb_machine.specs.Delivery.{answered, ended, forgotten, popped, replied}
 use Rattle.gb_machine.specs.Events.{decided, step, svc_draft}
+use Rattle.gb_machine.specs.HostActs.{turns}
+use Rattle.gb_machine.specs.HostTurns.{ended_for}
+use Rattle.gb_machine.specs.Incoming.{incoming, reply_entry}
 use Rattle.gb_machine.specs.Labels.{next_label}
 use Rattle.gb_machine.specs.Lists.{first}
 use Rattle.gb_machine.specs.Names.{bound}
-use Rattle.gb_machine.specs.Refusals.{deliver_refusal, empty_refusal, refusal, svc_refusal}
+use Rattle.gb_machine.specs.Refusals.{deliver_refusal, empty_refusal, end_refusal, refusal, svc_refusal}
+use Rattle.gb_machine.specs.Responding.{replies, responds, responds_with, response_at, serves, serves_oneway}
 use Rattle.gb_machine.specs.Sending.{Draft, label_for, sent}
+use Rattle.gb_machine.specs.Sequences.{awaited}
+use Rattle.gb_machine.specs.Serving.{Answer}
 use Rattle.gb_machine.specs.State.{State}
 
 -- a state and entries
@@ -69,67 +76,142 @@ step-send_svc s name kind payload timeout c label free live drawn =
     ap (λ o. decided o (event.Send name end.Svc kind payload timeout) s) free
     ∙ ap behind_done (asks-made (svc_draft kind payload (s.now + timeout)) (bound name (next_number s.bus) s) c label live drawn)
 
+-- taking is no matter of the bus
+takes-bus : (at : Side) (c : Connection) (b : Bus) (s : State) → takes at c (with_bus b s) ≡ takes at c s
+takes-bus side.Ap c b s = refl
+takes-bus side.Far c b s = refl
+
+-- and neither is holding
+is_held-bus : (at : Side) (c : Connection) (b : Bus) (s : State) → is_held at c (with_bus b s) ≡ is_held at c s
+is_held-bus side.Ap c b s = refl
+is_held-bus side.Far c b s = refl
+
+-- a delivery isn't refused where the end is there, and an item waits
+step-done : (s : State) (at : End) (p : Place) (item : Item)
+    → end_refusal s at ≡ None
+    → place_of at s.bus.connections ≡ Some p
+    → first (queue p.side p.connection) ≡ Some item
+    → step s (event.Deliver at) ≡ behind_done (given (place_of at s.bus.connections) delivers_at s)
+unfolding machine_opened
+step-done s at p item there named front =
+    ap (λ o. decided (or_else o (deliver_refusal (place_of at s.bus.connections))) (event.Deliver at) s) there
+    ∙ ap (λ o. decided (deliver_refusal o) (event.Deliver at) s) named
+    ∙ ap (λ o. decided o (event.Deliver at) s) (not_empty (queue p.side p.connection) item front)
+
 -- what is delivered is taken from its queue and handled
-step-arrives : (s : State) (at : End) (p : Place) (item : Item)
+step-handles : (s : State) (at : End) (p : Place) (item : Item)
+    → end_refusal s at ≡ None
     → place_of at s.bus.connections ≡ Some p
     → first (queue p.side p.connection) ≡ Some item
     → step s (event.Deliver at)
+    ≡ behind_done (handles p.side p.connection item (with_bus (popped p.connection.number p.side s.bus) s))
+unfolding machine_opened
+step-handles s at p item there named front =
+    step-done s at p item there named front
+    ∙ ap (λ o. behind_done (given o delivers_at s)) named
+    ∙ ap (λ o. behind_done (given o (λ i. on_bus (popped p.connection.number p.side) ▸ handles p.side p.connection i) s)) front
+
+-- where the end takes it, it arrives
+step-arrives : (s : State) (at : End) (p : Place) (item : Item)
+    → end_refusal s at ≡ None
+    → place_of at s.bus.connections ≡ Some p
+    → first (queue p.side p.connection) ≡ Some item
+    → takes p.side p.connection s ≡ true
+    → step s (event.Deliver at)
     ≡ behind_done (arrives p.side p.connection item (with_bus (popped p.connection.number p.side s.bus) s))
 unfolding machine_opened
-step-arrives s at p item named front =
-    ap (λ o. decided (deliver_refusal o) (event.Deliver at) s) named
-    ∙ ap (λ o. decided o (event.Deliver at) s) (not_empty (queue p.side p.connection) item front)
-    ∙ ap (λ o. behind_done (given o (λ q. given (first (queue q.side q.connection))
-    (λ i. on_bus (popped q.connection.number q.side) ▸ arrives q.side q.connection i)) s)) named
-    ∙ ap (λ o. behind_done (given o (λ i. on_bus (popped p.connection.number p.side) ▸ arrives p.side p.connection i) s)) front
+step-arrives s at p item there named front taken =
+    let t = with_bus (popped p.connection.number p.side s.bus) s in
+    step-handles s at p item there named front
+    ∙ ap (λ b. behind_done ((if b then arrives p.side p.connection item else tell (dropped item)) t))
+    (takes-bus p.side p.connection (popped p.connection.number p.side s.bus) s ∙ taken)
 
--- a request is delivered and answered
-pub step-deliver_ask : (s : State) (at : End) (p : Place) (n : ℕ) (r : Request)
+-- a request is delivered and answered, and nothing more comes of it
+pub step-deliver_ask : (s : State) (at : End) (p : Place) (n : ℕ) (r : Request) (a : Answer) (behind : Action)
+    → end_refusal s at ≡ None
     → place_of at s.bus.connections ≡ Some p
     → first (queue p.side p.connection) ≡ Some (Ask n)
+    → takes p.side p.connection s ≡ true
+    → is_held p.side p.connection s ≡ false
     → request_of n s.bus ≡ Some r
     → r.oneway ≡ false
+    → response_at p.side p.connection (incoming n r) (with_bus (popped p.connection.number p.side s.bus) s) ≡ responds_with a behind
+    → behind (with_bus (replied p.connection.number (other_side p.side) (Reply n a.result a.payload)
+    (popped p.connection.number p.side s.bus)) s)
+    ≡ told (with_bus (replied p.connection.number (other_side p.side) (Reply n a.result a.payload)
+    (popped p.connection.number p.side s.bus)) s) []
     → step s (event.Deliver at)
     ≡ told (with_bus (replied p.connection.number (other_side p.side)
-    (Reply n (answer_at p.side p.connection r).result (answer_at p.side p.connection r).payload)
+    (Reply n a.result a.payload)
     (popped p.connection.number p.side s.bus)) s)
-    (entry.Done ∷ reply_told p.side p.connection n r (answer_at p.side p.connection r) ∷ [])
+    (entry.Done ∷ reply_entry p.side p.connection (incoming n r) a ∷ [])
 unfolding machine_opened
-step-deliver_ask s at p n r named front made twoway =
+step-deliver_ask s at p n r a behind there named front taken free made twoway answered quiet =
     let t = with_bus (popped p.connection.number p.side s.bus) s in
-    let answers = λ (q : Request). replies p.side p.connection n q (answer_at p.side p.connection q) in
-    step-arrives s at p (Ask n) named front
-    ∙ ap (λ o. behind_done (given o answers t)) made
-    ∙ ap (λ b. behind_done (when (not b) (on_bus (replied p.connection.number (other_side p.side)
-    (Reply n (answer_at p.side p.connection r).result (answer_at p.side p.connection r).payload))
-    ▸ tell (reply_told p.side p.connection n r (answer_at p.side p.connection r))) t)) twoway
+    let q = incoming n r in
+    step-arrives s at p (Ask n) there named front taken
+    ∙ ap (λ o. behind_done (given o (λ (m : Request). asked_at p.side p.connection (Ask n) (incoming n m)) t)) made
+    ∙ ap (λ b. behind_done ((if b then keeps p.connection (Ask n) q else serves p.side p.connection q) t))
+    (is_held-bus p.side p.connection (popped p.connection.number p.side s.bus) s ∙ free)
+    ∙ ap (λ o. behind_done (responds p.side p.connection q o t)) answered
+    ∙ ap (λ b. behind_done ((if b then serves_oneway q (responds_with a behind)
+    else (replies p.side p.connection q a ▸ behind)) t)) twoway
+    ∙ ap (λ (w : Told). told w.state (entry.Done ∷ reply_entry p.side p.connection q a ∷ w.entries)) quiet
 
--- an answer to an open request is delivered
-pub step-deliver_answer : (s : State) (at : End) (p : Place) (n result : ℕ) (payload : List ℕ)
+-- on a clean connection an answer is taken by its number
+step-by_number : (s : State) (at : End) (p : Place) (n result : ℕ) (payload : List ℕ)
+    → end_refusal s at ≡ None
     → place_of at s.bus.connections ≡ Some p
     → first (queue p.side p.connection) ≡ Some (Reply n result payload)
+    → takes p.side p.connection s ≡ true
+    → p.connection.clean ≡ true
+    → step s (event.Deliver at)
+    ≡ behind_done (by_number p.side p.connection n result payload (with_bus (popped p.connection.number p.side s.bus) s))
+unfolding machine_opened
+step-by_number s at p n result payload there named front taken clean =
+    let t = with_bus (popped p.connection.number p.side s.bus) s in
+    step-arrives s at p (Reply n result payload) there named front taken
+    ∙ ap (λ b. behind_done ((if b then by_number p.side p.connection n result payload
+    else by_state (λ u. given (request_of n u.bus) (λ (r : Request). by_label p.side p.connection r.label result payload))) t)) clean
+
+-- an answer to an open request is delivered, says nothing, and no sequence waits for it
+pub step-deliver_answer : (s : State) (at : End) (p : Place) (n result : ℕ) (payload : List ℕ)
+    → end_refusal s at ≡ None
+    → place_of at s.bus.connections ≡ Some p
+    → first (queue p.side p.connection) ≡ Some (Reply n result payload)
+    → takes p.side p.connection s ≡ true
+    → p.connection.clean ≡ true
     → is_open n s.bus ≡ true
+    → reading_for p.side p.connection result payload (request_of n s.bus) ≡ reading.Nothing
+    → awaited n s.host ≡ None
     → step s (event.Deliver at)
     ≡ told (with_bus (ended n (answered result payload) (popped p.connection.number p.side s.bus)) s)
     (entry.Done ∷ entry.Ended n (answered result payload) reading.Nothing ∷ [])
 unfolding machine_opened
-step-deliver_answer s at p n result payload named front unanswered =
+step-deliver_answer s at p n result payload there named front taken clean unanswered says unawaited =
     let t = with_bus (popped p.connection.number p.side s.bus) s in
-    step-arrives s at p (Reply n result payload) named front
-    ∙ ap (λ b. behind_done ((if b then ends n (answered result payload) reading.Nothing
-    else on_bus (forgotten n) ▸ tell (entry.Late n)) t)) unanswered
+    let u = with_bus (ended n (answered result payload) (popped p.connection.number p.side s.bus)) s in
+    step-by_number s at p n result payload there named front taken clean
+    ∙ ap (λ b. behind_done ((if b then ends_answered p.side p.connection n result payload
+    else forgets n (entry.Late n)) t)) unanswered
+    ∙ ap (λ o. behind_done (ends n (answered result payload) o t)) says
+    ∙ ap (λ o. let w : Told = turns (ended_for o (answered result payload) s.host) u in
+    told w.state (entry.Done ∷ entry.Ended n (answered result payload) reading.Nothing ∷ w.entries)) unawaited
 
 -- an answer to a request that isn't open is delivered
 pub step-deliver_late : (s : State) (at : End) (p : Place) (n result : ℕ) (payload : List ℕ)
+    → end_refusal s at ≡ None
     → place_of at s.bus.connections ≡ Some p
     → first (queue p.side p.connection) ≡ Some (Reply n result payload)
+    → takes p.side p.connection s ≡ true
+    → p.connection.clean ≡ true
     → is_open n s.bus ≡ false
     → step s (event.Deliver at)
     ≡ told (with_bus (forgotten n (popped p.connection.number p.side s.bus)) s)
     (entry.Done ∷ entry.Late n ∷ [])
 unfolding machine_opened
-step-deliver_late s at p n result payload named front closed =
+step-deliver_late s at p n result payload there named front taken clean closed =
     let t = with_bus (popped p.connection.number p.side s.bus) s in
-    step-arrives s at p (Reply n result payload) named front
-    ∙ ap (λ b. behind_done ((if b then ends n (answered result payload) reading.Nothing
-    else on_bus (forgotten n) ▸ tell (entry.Late n)) t)) closed
+    step-by_number s at p n result payload there named front taken clean
+    ∙ ap (λ b. behind_done ((if b then ends_answered p.side p.connection n result payload
+    else forgets n (entry.Late n)) t)) closed

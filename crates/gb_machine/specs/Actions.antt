@@ -2,6 +2,7 @@
 use Rattle.std.specs.Prelude.{Bool, if◌then◌else◌, Option, Some, None, List, [], ◌∷◌, ◌++◌}
 use Rattle.gb_base.specs.declared.entry.Entry.{Entry}
 use Rattle.gb_machine.specs.Bus.{Bus}
+use Rattle.gb_machine.specs.Host.{Host}
 use Rattle.gb_machine.specs.State.{State}
 
 -- A state and what was told.
@@ -49,3 +50,16 @@ when b f = if b then f else nothing
 -- the bus part changes
 unfoldable pub on_bus : (Bus → Bus) → Action
 on_bus f = change (λ s. record s { bus = f s.bus })
+
+-- the application processor changes
+unfoldable pub on_host : (Host → Host) → Action
+on_host f = change (λ s. record s { host = f s.host })
+
+-- entries are told
+unfoldable pub tell_all : List Entry → Action
+tell_all entries s = record { state = s; entries = entries }
+
+-- an action for each value, one after another
+unfoldable pub each : {A : Type 0} → List A → (A → Action) → Action
+each [] f = nothing
+each (x ∷ xs) f = f x ▸ each xs f

@@ -1,38 +1,54 @@
 -- What an event does.
-use Rattle.std.specs.Prelude.{ℕ, ◌+◌, false, Option, Some, None, List, [], ◌∷◌}
-use Rattle.gb_base.specs.declared.end.End.{End}
-use Rattle.gb_base.specs.declared.end.End.TheVariants as end
-use Rattle.gb_base.specs.declared.end.Side.TheVariants as side
+use Rattle.std.specs.Prelude.{ℕ, Option, Some, None, List, [], ◌∷◌}
 use Rattle.gb_base.specs.declared.entry.Entry.TheVariants as entry
 use Rattle.gb_base.specs.declared.event.Event.{Event}
 use Rattle.gb_base.specs.declared.event.Event.TheVariants as event
-use Rattle.gb_base.specs.declared.name.Name.{Name}
 use Rattle.gb_base.specs.declared.refusal.Refusal.{Refusal}
-use Rattle.gb_machine.specs.Actions.{Action, Told, by_state, change, nothing, tell, ◌▸◌}
+use Rattle.gb_formats.specs.Module.{Level, Serial, module_of_kind, module_raw}
+use Rattle.gb_machine.specs.Actions.{Action, Told, by_state, change, tell, tell_all, ◌▸◌}
 use Rattle.gb_machine.specs.Arriving.{delivers}
-use Rattle.gb_machine.specs.Asking.{asks}
-use Rattle.gb_machine.specs.Bus.{next_number}
-use Rattle.gb_machine.specs.Names.{bound}
+use Rattle.gb_machine.specs.GivingUp.{cancels, ticks}
+use Rattle.gb_machine.specs.HostActs.{notices}
+use Rattle.gb_machine.specs.LineActions.{answers, ap_draft, bridges, copies, holds, injects, sends, stirs}
+use Rattle.gb_machine.specs.Names.{freed}
+use Rattle.gb_machine.specs.Plugging.{boots, plugs, pulls}
 use Rattle.gb_machine.specs.Refusals.{refusal}
-use Rattle.gb_machine.specs.Sending.{Draft, draft}
+use Rattle.gb_machine.specs.Sending.{Draft}
+use Rattle.gb_machine.specs.Settling.{settles}
+use Rattle.gb_machine.specs.Show.{shown}
 use Rattle.gb_machine.specs.State.{State, first_state}
+use Rattle.gb_machine.specs.Turns.{HostEvent}
 
 -- a request of the application processor to the supervisory controller
 abbrev pub svc_draft : ℕ → List ℕ → ℕ → Draft
-svc_draft kind payload deadline = draft 1 side.Ap kind payload deadline false
+svc_draft kind payload deadline = ap_draft 1 kind payload deadline
 
--- a request is sent and gets its name
-unfoldable pub sends : Name → End → ℕ → List ℕ → ℕ → Action
-sends name end.Svc kind payload timeout = by_state (λ s.
-    change (bound name (next_number s.bus)) ▸ asks (svc_draft kind payload (s.now + timeout)))
-sends name (end.Ap a) kind payload timeout = nothing
-sends name (end.Module i c) kind payload timeout = nothing
+-- the state is shown
+unfoldable pub shows : Action
+shows = by_state (λ s. tell_all (shown s))
 
 -- What an event does that isn't refused.
 unfoldable pub does : Event → Action
+does event.Boot = boots
+does (event.Insert i kind) = plugs i (module_of_kind kind)
+does (event.InsertRaw i manifest) = plugs i (module_raw manifest)
+does (event.Pull i) = pulls i
+does (event.Connect i c) = notices (HostEvent.Connect i c)
+does (event.Disconnect i c) = notices (HostEvent.Disconnect i c)
 does (event.Send name to kind payload timeout) = sends name to kind payload timeout
+does (event.Bridge name i c what) = bridges name i c what
+does (event.Level i c line value) = stirs i c (Level line value)
+does (event.SerialState i c control) = stirs i c (Serial control)
 does (event.Deliver at) = delivers at
-does e = nothing
+does (event.Settle most) = settles most
+does (event.Hold i c) = holds i c
+does (event.Answer i c place) = answers i c place
+does (event.Cancel name) = cancels name
+does (event.Copy x y) = copies x y
+does (event.Forget name) = change (freed name)
+does (event.Tick millis) = ticks millis
+does (event.Inject i c bytes) = injects i c bytes
+does event.Show = shows
 
 -- A refused event changes nothing and tells its refusal alone.
 unfoldable pub decided : Option Refusal → Event → Action
@@ -43,10 +59,11 @@ decided None e = tell entry.Done ▸ does e
 unfoldable pub step : State → Event → Told
 step s e = decided (refusal s e) e s
 
--- The states and entries of a run of events.
+-- The states and entries of a run of events, from a state on.
 abbrev pub trace_from : State → List Event → List Told
 trace_from s [] = []
 trace_from s (e ∷ es) = step s e ∷ trace_from (step s e).state es
 
+-- The states and entries of a run of events.
 abbrev pub trace : List Event → List Told
 trace es = trace_from first_state es

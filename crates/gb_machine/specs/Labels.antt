@@ -1,10 +1,11 @@
 -- The identifier that the next request of a side gets.
-use Rattle.std.specs.Prelude.{ℕ, ◌+◌, nat_lt, if◌then◌else◌, Option, Some, None, option_and_then}
+use Rattle.std.specs.Prelude.{ℕ, zero, suc, ◌+◌, nat_lt, Bool, if◌then◌else◌, Option, Some, None, option_and_then}
 use Rattle.gb_base.specs.declared.end.Side.{Side}
 use Rattle.gb_base.specs.declared.end.Side.TheVariants as side
 use Rattle.gb_base.specs.declared.refusal.Refusal.{Refusal}
 use Rattle.gb_base.specs.declared.refusal.Refusal.TheVariants as why
 use Rattle.gb_machine.specs.Bus.{Bus, Connection, connection_of}
+use Rattle.gb_machine.specs.Requests.{is_used}
 
 -- the greatest identifier
 abbrev pub greatest_label : ℕ
@@ -31,3 +32,28 @@ next_label k side b = option_and_then (fresh_label side) (connection_of k b)
 -- why an event is refused where no identifier is left
 abbrev pub no_label : Refusal
 no_label = why.LabelsSpent
+
+-- ---- identifiers that come round
+
+-- the identifier that follows another, and 1 behind the greatest
+abbrev pub label_after : ℕ → ℕ
+label_after label = if nat_lt label greatest_label then label + 1 else 1
+
+-- the first of so many identifiers in their cycle that isn't used
+unfoldable pub free_label : (ℕ → Bool) → ℕ → ℕ → Option ℕ
+free_label used zero label = None
+free_label used (suc tries) label =
+    let later = free_label used tries (label_after label) in
+    if used label then later else Some label
+
+-- The first identifier behind the last one drawn on a side, in cyclic order, that is neither open
+-- nor given up there.
+abbrev pub cyclic_label : ℕ → Side → Bus → Option ℕ
+cyclic_label k at b =
+    option_and_then
+    (λ c. free_label (is_used k at b) greatest_label (label_after (last_label at c)))
+    (connection_of k b)
+
+-- why an event is refused where all identifiers are in use
+abbrev pub no_free_label : Refusal
+no_free_label = why.NoLabel

@@ -1,5 +1,6 @@
 -- Words on lists that stand for maps.
-use Rattle.std.specs.Prelude.{ℕ, zero, suc, ◌==◌, Bool, if◌then◌else◌, Option, Some, None, List, [], ◌∷◌, slice_get}
+use Rattle.std.specs.Prelude.{ℕ, zero, suc, ◌+◌, ◌==◌, Bool, not, if◌then◌else◌, Option, Some, None, List, [], ◌∷◌, slice_get}
+use Rattle.std.specs.List.{filter}
 use Rattle.gb_base.specs.declared.refusal.Refusal.{Refusal}
 
 -- the n-th member, counted from 1
@@ -31,3 +32,26 @@ behind_first (x ∷ xs) = xs
 abbrev pub first_met : List (Bool × Refusal) → Option Refusal
 first_met [] = None
 first_met (p ∷ ps) = if p.0 then Some p.1 else first_met ps
+
+-- the members that don't pass the test
+abbrev pub without : {A : Type 0} → (A → Bool) → List A → List A
+without test xs = filter (λ x. not (test x)) xs
+
+-- a member goes in front of the first one that it comes before
+abbrev pub in_order : {A : Type 0} → (A → A → Bool) → A → List A → List A
+in_order before x [] = x ∷ []
+in_order before x (y ∷ ys) =
+    let later = in_order before x ys in
+    if before x y then x ∷ y ∷ ys else y ∷ later
+
+-- the members in their order
+abbrev pub sorted : {A : Type 0} → (A → A → Bool) → List A → List A
+sorted before [] = []
+sorted before (x ∷ xs) = in_order before x (sorted before xs)
+
+-- the first of so many numbers, from n on, that isn't taken
+unfoldable pub first_free : (ℕ → Bool) → ℕ → ℕ → Option ℕ
+first_free taken zero n = None
+first_free taken (suc tries) n =
+    let later = first_free taken tries (n + 1) in
+    if taken n then later else Some n

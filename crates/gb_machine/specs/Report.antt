@@ -18,8 +18,8 @@ reported (Err why) n hex s later = refusal_line_text n why
 reported (Ok None) n hex s later = later s
 reported (Ok (Some e)) n hex s later = event_reported n hex (step s e) later
 
--- What is reported of lines, of which the first is line n, from a state on: the entries of each line
--- in order, up to the first bad line, which is named.
+-- What is reported of lines, of which the first is line n, from a state on: the entries of each
+-- line in order, up to the first bad line, which is named.
 unfoldable pub report_from : (List ℕ → Bool) → Bool → ℕ → State → List (List ℕ) → List ℕ
 report_from built hex n s [] = []
 report_from built hex n s (line ∷ ls) =

@@ -1,10 +1,9 @@
 -- The state of the machine.
 use Rattle.std.specs.Prelude.{ℕ, Bool, false, Option, List, []}
-use Rattle.gb_base.specs.declared.entry.ConnState.{ConnState}
-use Rattle.gb_base.specs.declared.entry.IntfStage.{IntfStage}
 use Rattle.gb_base.specs.declared.name.Name.{Name}
 use Rattle.gb_formats.specs.Module.{Module}
 use Rattle.gb_machine.specs.Bus.{Bus, Item, first_bus}
+use Rattle.gb_machine.specs.Host.{Host, first_host}
 
 -- A request that was delivered and waits to be answered.
 pub record Held : Type 0 where
@@ -17,34 +16,13 @@ pub record Port : Type 0 where
   pub level : ℕ
   pub device : Option ℕ
 
--- What the application processor knows of an interface, and the request that its enumeration
--- waits for, with the step.
-pub record Interface : Type 0 where
+-- A module that is plugged at an interface.
+pub record Plugged : Type 0 where
   pub intf : ℕ
-  pub stage : IntfStage
-  pub device : Option ℕ
-  pub manifest : List ℕ
-  pub awaits : Option (ℕ × ℕ)
+  pub body : Module
 
--- What the application processor knows of a connection to a module, and the request that its
--- connect or close waits for, with the step.
-pub record Link : Type 0 where
-  pub connection : ℕ
-  pub ap : ℕ
-  pub intf : ℕ
-  pub cport : ℕ
-  pub protocol : ℕ
-  pub state : ConnState
-  pub credits : ℕ
-  pub awaits : Option (ℕ × ℕ)
-
--- The application processor.
-pub record Host : Type 0 where
-  pub interfaces : List Interface
-  pub links : List Link
-
--- What only laws speak of, and no step reads: for which connection a CONN_CREATE or CONN_DESTROY
--- was made, and which connections were ever wired.
+-- What only laws speak of, and no step reads: for which connection each request to create or
+-- destroy one was made, and which connections were ever wired.
 pub record Past : Type 0 where
   pub made_for : List (ℕ × ℕ)
   pub wired : List ℕ
@@ -56,7 +34,7 @@ pub record State : Type 0 where
   pub holds : List ℕ  -- connections with the hold mark
   pub held : List Held  -- in the order in which they were taken
   pub ports : List Port
-  pub modules : List Module
+  pub modules : List Plugged  -- the interfaces rise
   pub host : Host
   pub names : List (Name × ℕ)  -- the request that each name names
   pub past : Past
@@ -71,7 +49,7 @@ first_state = record {
   held = [];
   ports = [];
   modules = [];
-  host = record { interfaces = []; links = [] };
+  host = first_host;
   names = [];
   past = record { made_for = []; wired = [] };
 }

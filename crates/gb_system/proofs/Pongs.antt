@@ -1,5 +1,5 @@
 -- A delivery is stepped as the machine does.
-use Rattle.std.proofs.Common.{◌≡◌, ℕ, Option, Some, None, Ok, option_map, List, [], ◌∷◌, sym, ap, ◌∙◌, subst}
+use Rattle.std.proofs.Common.{◌≡◌, ℕ, ◌==◌, Bool, true, false, if◌then◌else◌, Option, Some, None, Ok, option_map, List, [], ◌∷◌, refl, sym, ap, ◌∙◌, subst}
 use Rattle.gb_base.specs.declared.bridge.Reading.TheVariants as reading
 use Rattle.gb_base.specs.declared.end.End.{End}
 use Rattle.gb_base.specs.declared.end.End.TheVariants as end
@@ -16,37 +16,43 @@ use Rattle.gb_bus.specs.Stands as bus
 use Rattle.gb_bus.specs.Stands.{svc_with}
 use Rattle.gb_bus.specs.declared.answers.Asked.{Asked}
 use Rattle.gb_bus.specs.declared.bus.Bus as code
+use Rattle.gb_formats.specs.Bridges.{reading_of}
 use Rattle.gb_formats.specs.Grammar.{ping}
 use Rattle.gb_formats.specs.Message.{response, spelling}
 use Rattle.gb_machine.proofs.Steps.{step-deliver_answer, step-deliver_ask, step-deliver_late, told, with_bus}
-use Rattle.gb_machine.specs.Arriving.{answer_at, reply_told}
-use Rattle.gb_machine.specs.Bus.{Ask, Bus, Connection, Item, Place, Raw, RawReply, Reply, Request, has_number, other_side, place_of, queue}
+use Rattle.gb_machine.proofs.Opened.{machine_opened}
+use Rattle.gb_machine.specs.Arriving.{is_held, link_takes, reading_for, takes}
+use Rattle.gb_machine.specs.Bus.{Ask, Bus, Connection, Item, Place, Raw, RawReply, Reply, Request, has_number, or_else, other_side, place_of, queue, request_of}
 use Rattle.gb_machine.specs.Delivery.{answered, ended, forgotten, popped, replied, without_front}
 use Rattle.gb_machine.specs.Lists.{at_first, behind_first, first}
-use Rattle.gb_machine.specs.Refusals.{deliver_refusal, empty_refusal}
+use Rattle.gb_machine.specs.Host.{link_of}
+use Rattle.gb_machine.specs.Incoming.{incoming, reply_entry}
+use Rattle.gb_machine.specs.Refusals.{deliver_refusal, empty_refusal, end_refusal, plug_refusal, refusal}
+use Rattle.gb_machine.specs.Responding.{responds_with, response_at, svc_response, svc_stepped, with_ports}
+use Rattle.gb_machine.specs.Sequences.{awaited}
+use Rattle.gb_machine.specs.SvcTable.{svc_step}
 use Rattle.gb_machine.specs.Sending.{put}
-use Rattle.gb_machine.specs.Serving.{Answer, plainly, success, svc_answer}
+use Rattle.gb_machine.specs.Serving.{Answer, plainly, success}
 use Rattle.gb_machine.specs.State.{State}
 use Rattle.gb_system.proofs.Landings.{lands, lands_refused, replies_more}
-use Rattle.gb_system.specs.Pings.{delivery_at, pong_told}
+use Rattle.gb_system.specs.Pings.{delivery_at, nowhere_refusal, pong_told}
 use Rattle.gb_system.specs.Stands.{AreReplies, IsPing, OnlyReplies, Stands, StepsAs}
 use Rattle.gb_system.specs.declared.system.System.{System}
+
+-- why a delivery is refused where no wired connection names the end
+nowhere_is : (x : System) (s : State) (at : End) → Stands x s → place_of at s.bus.connections ≡ None
+    → refusal s (delivery_at at) ≡ Some (nowhere_refusal at)
+nowhere_is x s (end.Ap a) st named = ap deliver_refusal named
+nowhere_is x s end.Svc st named = ap deliver_refusal named
+nowhere_is x s (end.Module i c) st named =
+    ap (λ (t : State). or_else (plug_refusal t i) (deliver_refusal (place_of (end.Module i c) s.bus.connections))) st.rest
 
 -- no wired connection names the end
 pub nowhere : (x y : System) (s : State) (at : End) (es : List Entry)
     → Stands x s → DeliversNowhere y.bus at s.bus → y.names ≡ x.names
-    → es ≡ entry.Refused why.NoConnection ∷ [] → StepsAs y s (delivery_at at) (Ok es)
+    → es ≡ entry.Refused (nowhere_refusal at) ∷ [] → StepsAs y s (delivery_at at) (Ok es)
 nowhere x y s at es st h names is =
-    lands_refused y s (delivery_at at) why.NoConnection es (ap deliver_refusal h.named) is
-    (record { bus = h.stands; names = st.names ∙ sym names; rest = st.rest; pings = st.pings; replies = st.replies })
-
--- nothing waits
-pub nothing_waits : (x y : System) (s : State) (at : End) (es : List Entry)
-    → Stands x s → DeliversNothing y.bus at s.bus → y.names ≡ x.names
-    → es ≡ entry.Refused why.QueueEmpty ∷ [] → StepsAs y s (delivery_at at) (Ok es)
-nothing_waits x y s at es st h names is =
-    lands_refused y s (delivery_at at) why.QueueEmpty es
-    (ap deliver_refusal h.named ∙ ap empty_refusal h.empty) is
+    lands_refused y s (delivery_at at) (nowhere_refusal at) es (nowhere_is x s at st h.named) is
     (record { bus = h.stands; names = st.names ∙ sym names; rest = st.rest; pings = st.pings; replies = st.replies })
 
 -- the connection of the supervisory controller, as it stands
@@ -66,6 +72,69 @@ where_is x s st at p named = by (side_of at) (sym named ∙ ap (place_of at) st.
     by : (o : Option Side) → Some p ≡ option_map (placed (svc_of x s st)) o → At (svc_of x s st) p
     by None h = absurd cc
     by (Some sd) h = record { at = sd; is = cc }
+
+-- a delivery is at one of its ends
+there : (x : System) (s : State) (st : Stands x s) (at : End) (p : Place) → place_of at s.bus.connections ≡ Some p → end_refusal s at ≡ None
+there x s st (end.Ap a) p named = refl
+there x s st end.Svc p named = refl
+there x s st (end.Module i c) p named = absurd (cc (
+  ap (place_of (end.Module i c)) st.bus.alone
+      ∙ place_is (end.Module i c) x.bus.ap_last x.bus.far_last st.bus.to_ap st.bus.to_far,
+  named,
+))
+
+-- both of its sides take what is delivered
+taken : (x : System) (s : State) (st : Stands x s) (p : Place) → At (svc_of x s st) p → takes p.side p.connection s ≡ true
+taken x s st p w = ap (λ (q : Place). takes q.side q.connection s) w.is ∙ by w.at
+  where
+    by : (sd : Side) → takes sd (svc_of x s st) s ≡ true
+    by side.Ap = ap (λ (t : State). link_takes (link_of 1 t.host)) st.rest
+    by side.Far = refl
+
+-- nothing is held there
+free : (x : System) (s : State) (st : Stands x s) (p : Place) → At (svc_of x s st) p → is_held p.side p.connection s ≡ false
+free x s st p w = ap (λ (q : Place). is_held q.side q.connection s) w.is ∙ by w.at
+  where
+    by : (sd : Side) → is_held sd (svc_of x s st) s ≡ false
+    by side.Ap = refl
+    by side.Far = ap (λ (t : State). is_held side.Far (svc_of x s st) t) st.rest
+
+-- nothing was injected there
+clean : (x : System) (s : State) (st : Stands x s) (p : Place) → At (svc_of x s st) p → p.connection.clean ≡ true
+clean x s st p w = ap (λ (q : Place). q.connection.clean) w.is
+
+-- an answer of the supervisory controller says nothing more
+says_nothing : (sd : Side) (c : Connection) (result : ℕ) (payload : List ℕ) (o : Option Request)
+    → c.protocol ≡ 0x14 → reading_for sd c result payload o ≡ reading.Nothing
+says_nothing side.Far c result payload None h = refl
+says_nothing side.Far c result payload (Some r) h = refl
+says_nothing side.Ap c result payload None h = refl
+says_nothing side.Ap c result payload (Some r) h =
+    ap (λ n. if result == 0 then reading_of n r.kind payload else reading.Nothing) h ∙ by (result == 0)
+  where
+    by : (b : Bool) → (if b then reading.Nothing else reading.Nothing) ≡ reading.Nothing
+    by true = refl
+    by false = refl
+
+-- and neither does one that is delivered there
+says : (x : System) (s : State) (st : Stands x s) (p : Place) (result : ℕ) (payload : List ℕ) (o : Option Request)
+    → At (svc_of x s st) p → reading_for p.side p.connection result payload o ≡ reading.Nothing
+says x s st p result payload o w =
+    says_nothing p.side p.connection result payload o (ap (λ (q : Place). q.connection.protocol) w.is)
+
+-- no sequence waits for it
+unawaited : (x : System) (s : State) (st : Stands x s) (n : ℕ) → awaited n s.host ≡ None
+unawaited x s st n = ap (λ (t : State). awaited n t.host) st.rest
+
+-- nothing waits
+pub nothing_waits : (x y : System) (s : State) (at : End) (es : List Entry)
+    → Stands x s → DeliversNothing y.bus at s.bus → y.names ≡ x.names
+    → es ≡ entry.Refused why.QueueEmpty ∷ [] → StepsAs y s (delivery_at at) (Ok es)
+nothing_waits x y s at es st h names is =
+    lands_refused y s (delivery_at at) why.QueueEmpty es
+    (ap (λ o. or_else o (deliver_refusal (place_of at s.bus.connections))) (there x s st at h.place h.named)
+    ∙ ap deliver_refusal h.named ∙ ap empty_refusal h.empty) is
+    (record { bus = h.stands; names = st.names ∙ sym names; rest = st.rest; pings = st.pings; replies = st.replies })
 
 -- replies behind the first
 behind_replies : (is : List Item) → AreReplies is → AreReplies (behind_first is)
@@ -99,7 +168,10 @@ pub answer_taken : (x y : System) (s : State) (at : End) (p : Place) (item : Ite
 answer_taken x y s at p item number kind result payload es st named front a names is =
     lands y s (with_bus (ended number (answered result a.bytes) (after_taken s p)) s) (delivery_at at) es
     (entry.Done ∷ entry.Ended number (answered result a.bytes) reading.Nothing ∷ [])
-    (step-deliver_answer s at p number result a.bytes named (front ∙ ap Some a.item_is) a.still_open)
+    (let w = where_is x s st at p named in
+    step-deliver_answer s at p number result a.bytes (there x s st at p named) named (front ∙ ap Some a.item_is)
+    (taken x s st p w) (clean x s st p w) a.still_open (says x s st p result a.bytes (request_of number s.bus) w)
+    (unawaited x s st number))
     (is ∙ ap (λ o. entry.Done ∷ entry.Ended number o reading.Nothing ∷ []) (sym a.outcome_is))
     (record {
       bus = a.stands;
@@ -117,7 +189,9 @@ pub late_taken : (x y : System) (s : State) (at : End) (p : Place) (item : Item)
     → StepsAs y s (delivery_at at) (Ok es)
 late_taken x y s at p item number es st named front a names is =
     lands y s (with_bus (forgotten number (after_taken s p)) s) (delivery_at at) es (entry.Done ∷ entry.Late number ∷ [])
-    (step-deliver_late s at p number a.result a.bytes named (front ∙ ap Some a.item_is) a.closed) is
+    (let w = where_is x s st at p named in
+    step-deliver_late s at p number a.result a.bytes (there x s st at p named) named (front ∙ ap Some a.item_is)
+    (taken x s st p w) (clean x s st p w) a.closed) is
     (record {
       bus = a.stands;
       names = st.names ∙ sym names;
@@ -142,8 +216,15 @@ no_ask (Raw bytes ∷ is) n h e = h.0
 no_ask (RawReply label kind result payload ∷ is) n h e = h.0
 
 -- the answer to a ping
-pong_is : (r : Request) → IsPing r → svc_answer r.kind r.payload ≡ plainly success
-pong_is r h = ap (λ k. svc_answer k r.payload) h.kind ∙ ap (svc_answer ping) h.payload
+pong_is : (n : ℕ) (r : Request) (s : State) → IsPing r
+    → svc_response (incoming n r) s ≡ responds_with (plainly success) (with_ports s.ports)
+pong_is n r s h = ap (λ k. svc_stepped (svc_step s.ports k r.payload) s) h.kind
+    ∙ ap (λ b. svc_stepped (svc_step s.ports ping b) s) h.payload
+
+-- nothing comes of it
+pong_quiet : (b : Bus) (s : State) → with_ports s.ports (with_bus b s) ≡ told (with_bus b s) []
+unfolding machine_opened
+pong_quiet b s = refl
 
 -- what is told of the answer to a request of a type
 abbrev pong_of : ℕ → ℕ → ℕ → Entry
@@ -173,15 +254,19 @@ pong_at_far x z s st at p item asked payload y es place named front a stands nam
     let r = a.request in
     let pinged = st.pings a.number r a.made in
     let q = placed c side.Far in
-    let stepped = step-deliver_ask s at p a.number r named (front ∙ ap Some a.item_is) a.made pinged.twoway
-    ∙ ap (λ (v : Place). told (after_reply s v a.number (answer_at v.side v.connection r))
-    (entry.Done ∷ reply_told v.side v.connection a.number r (answer_at v.side v.connection r) ∷ [])) place
-    ∙ ap (λ (v : Answer). told (after_reply s q a.number v) (entry.Done ∷ reply_told side.Far c a.number r v ∷ [])) (pong_is r pinged) in
+    let w : At c p = record { at = side.Far; is = place } in
+    let answered = ap (λ (v : Place). response_at v.side v.connection (incoming a.number r) (with_bus (after_taken s v) s)) place
+    ∙ pong_is a.number r (with_bus (after_taken s q) s) pinged in
+    let stepped = step-deliver_ask s at p a.number r (plainly success) (with_ports s.ports) (there x s st at p named) named
+    (front ∙ ap Some a.item_is) (taken x s st p w) (free x s st p w) a.made pinged.twoway answered
+    (pong_quiet (replied p.connection.number (other_side p.side) (Reply a.number 0 []) (after_taken s p)) s)
+    ∙ ap (λ (v : Place). told (after_reply s v a.number (plainly success))
+    (entry.Done ∷ reply_entry v.side v.connection (incoming a.number r) (plainly success) ∷ [])) place in
     let same = is ∙ ap (λ o. entry.Done ∷ pong_told o asked.label ∷ []) a.names.number
     ∙ ap (λ l. entry.Done ∷ pong_told (Some a.number) l ∷ []) a.names.label
     ∙ ap (λ k. entry.Done ∷ pong_of a.number r.label k ∷ []) (sym pinged.kind) in
     lands z s (after_reply s q a.number (plainly success)) (delivery_at at) es
-    (entry.Done ∷ reply_told side.Far c a.number r (plainly success) ∷ []) stepped same
+    (entry.Done ∷ reply_entry side.Far c (incoming a.number r) (plainly success) ∷ []) stepped same
     (record {
       bus = subst (λ (v : Place). bus.Stands z.bus (replied 1 side.Ap (Reply a.number 0 []) (taken_at v s.bus))) place stands;
       names = st.names ∙ sym names;

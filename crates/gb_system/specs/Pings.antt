@@ -7,6 +7,8 @@ use Rattle.gb_base.specs.declared.entry.Entry.TheVariants as entry
 use Rattle.gb_base.specs.declared.event.Event.{Event}
 use Rattle.gb_base.specs.declared.event.Event.TheVariants as event
 use Rattle.gb_base.specs.declared.name.Name.{Name}
+use Rattle.gb_base.specs.declared.refusal.Refusal.{Refusal}
+use Rattle.gb_base.specs.declared.refusal.Refusal.TheVariants as why
 use Rattle.gb_formats.specs.Grammar.{ping}
 use Rattle.gb_formats.specs.Message.{request, response, spelling}
 
@@ -55,3 +57,9 @@ ping_told n label lost =
 -- what is told of its answer
 abbrev pub pong_told : Option ℕ → ℕ → Entry
 pong_told n label = entry.Replied n end.Svc (end.Ap 0) 0 8 (spelling (response label ping 0 []))
+
+-- why a delivery is refused where no wired connection names the end: nothing is plugged
+abbrev pub nowhere_refusal : End → Refusal
+nowhere_refusal (end.Module i c) = why.NoInterface
+nowhere_refusal end.Svc = why.NoConnection
+nowhere_refusal (end.Ap a) = why.NoConnection

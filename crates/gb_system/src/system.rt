@@ -3,7 +3,7 @@
 ghost use Rattle.std.specs.Prelude.{◌≡◌, ◌+◌, ◌<◌, [], ◌∷◌, if◌then◌else◌, true, false, IfOk, is_ok, is_err};
 ghost use Rattle.gb_machine.specs.State.{State, first_state};
 ghost use Rattle.gb_base.specs.declared.entry.Entry.TheVariants as told;
-ghost use Rattle.gb_system.specs.Pings.{IsStepped, delivery_at, ping_of, ping_told, pong_told};
+ghost use Rattle.gb_system.specs.Pings.{IsStepped, delivery_at, nowhere_refusal, ping_of, ping_told, pong_told};
 
 use crate::message::message_bytes;
 use crate::names::Names;
@@ -133,7 +133,7 @@ impl System {
         let arrived = match self.bus.deliver(at, true) {
             Ok(arrived) => arrived,
             Err(DeliverFault::NoConnection) => {
-                return Ok(refused(self.alloc, Refusal::NoConnection)?);
+                return Ok(refused(self.alloc, nowhere(at))?);
             }
             Err(DeliverFault::QueueEmpty) => {
                 return Ok(refused(self.alloc, Refusal::QueueEmpty)?);
@@ -191,6 +191,16 @@ fn refused(alloc: Global, why: Refusal) -> Result<Entries, OutOfMemory>
     let mut entries = Entries::new(alloc);
     entries.push(Entry::Refused { why })?;
     Ok(entries)
+}
+
+/// Why a delivery is refused where no wired connection names the end: nothing is plugged.
+fn nowhere(at: End) -> Refusal
+    ensures { result ≡ nowhere_refusal at }
+{
+    match at {
+        End::Module { .. } => Refusal::NoInterface,
+        End::Svc | End::Ap(_) => Refusal::NoConnection,
+    }
 }
 
 /// A ping was sent.

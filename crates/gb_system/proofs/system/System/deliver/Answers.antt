@@ -1,5 +1,6 @@
 -- A delivery is refused or done as the machine does.
-use Rattle.std.proofs.Common.{true, refl, subst}
+use Rattle.std.proofs.Common.{true, [], ◌∷◌, refl, ap, ◌∙◌, subst}
+use Rattle.gb_base.specs.declared.entry.Entry.TheVariants as entry
 use Rattle.gb_bus.specs.Delivering.{Brings, taken_at}
 use Rattle.gb_bus.specs.declared.answers.Arrival.{Arrival}
 use Rattle.gb_system.proofs.Pongs.{answer_taken, late_taken, may_reply, nothing_waits, nowhere, pong_taken}
@@ -10,7 +11,7 @@ returns-in-Err-NoConnection-clause-step c = λ s st.
     nowhere c.args.self.now (record c.args.self.now { bus = c.deliver.new.self }) s c.args.at
     c.in_ok-refused-in-Err-NoConnection.field-0 st
     (rw c.in-Err-NoConnection.field-0-is at (c.in-Err-NoConnection.ensures.step s.bus st.bus)) refl
-    c.in_ok-refused-in-Err-NoConnection.ensures
+    (c.in_ok-refused-in-Err-NoConnection.ensures ∙ ap (λ w. entry.Refused w ∷ []) c.nowhere.ensures)
 
 pub returns-in-Err-QueueEmpty-clause-step : goal.returns-in-Err-QueueEmpty-clause-step
 returns-in-Err-QueueEmpty-clause-step c = λ s st.

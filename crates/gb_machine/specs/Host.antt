@@ -1,0 +1,156 @@
+-- The application processor: what it knows of interfaces and of its connections to modules.
+use Rattle.std.specs.Prelude.{ℕ, ◌==◌, nat_lt, Bool, false, ◌&&◌, if◌then◌else◌, Option, Some, None, option_map, option_and_then, Result, Ok, Err, List, [], ◌∷◌, ◌++◌, find}
+use Rattle.std.specs.List.{list_any}
+use Rattle.gb_base.specs.declared.entry.ConnState.{ConnState}
+use Rattle.gb_base.specs.declared.entry.ConnState.TheVariants as state
+use Rattle.gb_base.specs.declared.entry.IntfStage.{IntfStage}
+use Rattle.gb_base.specs.declared.entry.IntfStage.TheVariants as stage
+use Rattle.gb_formats.specs.Manifest.{CportView, Manifest, check_answer, cport}
+use Rattle.gb_formats.specs.ManifestRules.{Refused}
+use Rattle.gb_formats.specs.UartDevice.{most_credits}
+use Rattle.gb_machine.specs.Lists.{at_first, first_free, in_order, without}
+use Rattle.gb_machine.specs.SequenceSteps.{SequenceStep}
+
+-- An interface that a module was inserted at.
+pub record Interface : Type 0 where
+  pub intf : ℕ
+  pub stage : IntfStage
+  pub device : Option ℕ  -- the device id that it is to have
+  pub has_device : Bool  -- the supervisory controller gave it the device id
+  pub size : ℕ  -- the size of its manifest, as it was told
+  pub manifest : List ℕ
+  pub awaits : Option (ℕ × SequenceStep)  -- the request and step of its enumeration
+
+-- A connection to a module.
+pub record Link : Type 0 where
+  pub connection : ℕ
+  pub ap : ℕ
+  pub intf : ℕ
+  pub cport : ℕ
+  pub protocol : ℕ
+  pub state : ConnState
+  pub credits : ℕ
+  pub awaits : Option (ℕ × SequenceStep)  -- the request and step of its connect or close
+
+-- The application processor. The interfaces rise, and so do the connections' numbers.
+pub record Host : Type 0 where
+  pub interfaces : List Interface
+  pub links : List Link
+
+-- nothing was inserted
+abbrev pub first_host : Host
+first_host = record { interfaces = []; links = [] }
+
+-- ---- interfaces
+
+abbrev pub is_intf : ℕ → Interface → Bool
+is_intf i x = x.intf == i
+
+-- What is known of an interface, None where it is absent.
+abbrev pub interface_of : ℕ → Host → Option Interface
+interface_of i h = find (is_intf i) h.interfaces
+
+-- the host with one interface changed
+abbrev pub with_interface : ℕ → (Interface → Interface) → Host → Host
+with_interface i change h =
+    record h { interfaces = at_first (is_intf i) change h.interfaces }
+
+-- an interface whose enumeration begins
+abbrev pub new_interface : ℕ → Interface
+new_interface i = record {
+  intf = i;
+  stage = stage.Enumerating;
+  device = None;
+  has_device = false;
+  size = 0;
+  manifest = [];
+  awaits = None;
+}
+
+abbrev pub intf_before : Interface → Interface → Bool
+intf_before x y = nat_lt x.intf y.intf
+
+-- the host with an interface more
+abbrev pub with_new_interface : ℕ → Host → Host
+with_new_interface i h =
+    record h { interfaces = in_order intf_before (new_interface i) h.interfaces }
+
+-- An interface has a stage from now on.
+abbrev pub staged : IntfStage → Interface → Interface
+staged to x = record x { stage = to }
+
+-- a device id is this one
+abbrev pub is_device : ℕ → Option ℕ → Bool
+is_device d None = false
+is_device d (Some e) = e == d
+
+-- an interface is to have a device id
+abbrev pub has_device_id : ℕ → Interface → Bool
+has_device_id d x = is_device d x.device
+
+-- The least device id from 2 to 31 that no interface has.
+abbrev pub free_device : Host → Option ℕ
+free_device h = first_free (λ d. list_any (has_device_id d) h.interfaces) 30 2
+
+-- ---- connections
+
+abbrev pub is_link : ℕ → ℕ → Link → Bool
+is_link i c l = l.intf == i && l.cport == c
+
+-- The live connection to a CPort of an interface.
+abbrev pub link_at : ℕ → ℕ → Host → Option Link
+link_at i c h = find (is_link i c) h.links
+
+-- The live connection to a module that has a number. That of the supervisory controller isn't one.
+abbrev pub link_of : ℕ → Host → Option Link
+link_of k h = find (λ l. l.connection == k) h.links
+
+-- the host with one connection changed
+abbrev pub with_link : ℕ → ℕ → (Link → Link) → Host → Host
+with_link i c change h = record h { links = at_first (is_link i c) change h.links }
+
+-- A connection has a state from now on.
+abbrev pub in_state : ConnState → Link → Link
+in_state to l = record l { state = to }
+
+-- the connection to the Control CPort of an interface
+abbrev pub control_of : ℕ → Host → Option ℕ
+control_of i h = option_map (λ l. l.connection) (link_at i 0 h)
+
+-- The least CPort of the application processor from 1 to 4,095 that no connection has.
+abbrev pub free_cport : Host → Option ℕ
+free_cport h = first_free (λ a. list_any (λ l. l.ap == a) h.links) 4095 1
+
+-- The host with a connection more, which is opening.
+abbrev pub with_new_link : ℕ → ℕ → ℕ → ℕ → ℕ → Host → Host
+with_new_link k ap i c protocol h = record h {
+  links = h.links ++ record {
+    connection = k;
+    ap = ap;
+    intf = i;
+    cport = c;
+    protocol = protocol;
+    state = state.Opening;
+    credits = most_credits;
+    awaits = None;
+  } ∷ [];
+}
+
+-- the host without the connection to a CPort of an interface
+abbrev pub without_link : ℕ → ℕ → Host → Host
+without_link i c h = record h { links = without (is_link i c) h.links }
+
+-- ---- manifests
+
+-- a CPort of a manifest that is accepted
+abbrev pub cport_in : ℕ → Result Manifest Refused → Option CportView
+cport_in c (Ok m) = cport m c
+cport_in c (Err why) = None
+
+-- a CPort outside bundle 0
+abbrev pub outside_control : CportView → Option CportView
+outside_control view = if view.bundle == 0 then None else Some view
+
+-- The CPort of an interface, outside bundle 0, that its manifest declares.
+abbrev pub cport_of : ℕ → Interface → Option CportView
+cport_of c x = option_and_then outside_control (cport_in c (check_answer x.manifest))

@@ -1,0 +1,96 @@
+-- The acts of the application processor, done.
+use Rattle.std.specs.Prelude.{ℕ, ◌+◌, false, if◌then◌else◌, Option, Some, None, [], ◌∷◌, ◌++◌}
+use Rattle.gb_base.specs.declared.entry.ConnState.TheVariants as state
+use Rattle.gb_base.specs.declared.end.Side.TheVariants as side
+use Rattle.gb_base.specs.declared.entry.Entry.TheVariants as entry
+use Rattle.gb_base.specs.declared.outcome.Outcome.{Outcome}
+use Rattle.gb_formats.specs.Grammar.{default_timeout}
+use Rattle.gb_machine.specs.Actions.{Action, by_state, change, each, on_bus, on_host, tell, tell_all, ◌▸◌}
+use Rattle.gb_machine.specs.Asking.{asks}
+use Rattle.gb_machine.specs.Bus.{next_number}
+use Rattle.gb_machine.specs.Host.{Host, Link, link_at, with_new_link}
+use Rattle.gb_machine.specs.HostTurns.{host_turn}
+use Rattle.gb_machine.specs.Labels.{next_label}
+use Rattle.gb_machine.specs.Sending.{Draft, draft}
+use Rattle.gb_machine.specs.SequenceSteps.{Purpose, is_for_connection}
+use Rattle.gb_machine.specs.Sequences.{awaits, unsent}
+use Rattle.gb_machine.specs.State.{State}
+use Rattle.gb_machine.specs.Turns.{Act, Asking, Failing, HostEvent, Making, Turn}
+use Rattle.gb_machine.specs.Wires.{shuts}
+use Rattle.gb_machine.specs.Wiring.{attached, detached, next_connection}
+
+-- what fails is changed and told
+unfoldable pub fails : (Host → Failing) → Action
+fails f = by_state (λ s.
+    let failed = f s.host in
+    on_host (λ h. failed.host) ▸ tell_all failed.told)
+
+-- the request of the application processor, as it is sent at this time
+abbrev pub host_draft : Asking → ℕ → Draft
+host_draft q now = draft q.on side.Ap q.kind q.payload (now + default_timeout) false
+
+-- request n was made for a connection
+abbrev pub made_for : ℕ → Option Link → State → State
+made_for n None s = s
+made_for n (Some l) s = record s {
+  past = record s.past { made_for = s.past.made_for ++ (n, l.connection) ∷ [] };
+}
+
+-- what is remembered of request n: for which connection it is, where it creates or destroys one
+abbrev pub remembered : Purpose → ℕ → State → State
+remembered p n s =
+    if is_for_connection p.step then made_for n (link_at p.intf p.cport s.host) s else s
+
+-- a sequence waits for request n
+abbrev pub with_awaited : Purpose → ℕ → State → State
+with_awaited p n s = remembered p n (record s { host = awaits p n s.host })
+
+-- A request is made, and its sequence waits for it; it fails where no identifier is left.
+unfoldable pub asked_with : Option ℕ → Asking → Action
+asked_with None q = fails (unsent q.purpose)
+asked_with (Some label) q = by_state (λ s.
+    asks (host_draft q s.now) ▸ change (with_awaited q.purpose (next_number s.bus)))
+
+-- The application processor makes a request.
+unfoldable pub host_asks : Asking → Action
+host_asks q = by_state (λ s. asked_with (next_label q.on side.Ap s.bus) q)
+
+-- a connection is made
+abbrev pub with_made : Making → State → State
+with_made m s = record s {
+  bus = attached m.ap m.intf m.cport m.protocol s.bus;
+  host =
+      with_new_link (next_connection s.bus) m.ap m.intf m.cport m.protocol s.host;
+}
+
+-- A connection is made, and then the request for it; neither is where no identifier is left.
+unfoldable pub opened_with : Option ℕ → Making → Asking → Action
+opened_with None m q = fails (unsent q.purpose)
+opened_with (Some label) m q = by_state (λ s.
+    change (with_made m)
+    ▸ tell (entry.Connection (next_connection s.bus) m.ap m.intf m.cport state.Opening)
+    ▸ host_asks q)
+
+-- The application processor makes a connection.
+unfoldable pub host_opens : Making → Asking → Action
+host_opens m q = by_state (λ s. opened_with (next_label q.on side.Ap s.bus) m q)
+
+-- An act is done.
+unfoldable pub acts : Act → Action
+acts (Act.Ask q) = host_asks q
+acts (Act.Open m q) = host_opens m q
+acts (Act.Shut k) = shuts k
+acts (Act.Leave k) = on_bus (detached k)
+acts (Act.Tell e) = tell e
+
+-- A turn is done.
+unfoldable pub turns : Turn → Action
+turns t = on_host (λ h. t.host) ▸ each t.acts acts
+
+-- The application processor takes notice of something.
+unfoldable pub notices : HostEvent → Action
+notices e = by_state (λ s. turns (host_turn e s.host))
+
+-- A request ended, and what waited for it goes on or fails.
+unfoldable pub follows : ℕ → Outcome → Action
+follows n how = notices (HostEvent.Ended n how)

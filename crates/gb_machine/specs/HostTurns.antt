@@ -1,0 +1,85 @@
+-- What the application processor does at what it takes notice of.
+use Rattle.std.specs.Prelude.{ℕ, ◌==◌, Option, Some, None, option_and_then, List, [], ◌∷◌, ◌++◌}
+use Rattle.std.specs.List.{filter}
+use Rattle.gb_base.specs.declared.entry.ConnState.TheVariants as state
+use Rattle.gb_base.specs.declared.entry.Entry.TheVariants as entry
+use Rattle.gb_base.specs.declared.entry.IntfStage.TheVariants as stage
+use Rattle.gb_base.specs.declared.outcome.Outcome.{Outcome}
+use Rattle.gb_formats.specs.Manifest.{CportView}
+use Rattle.gb_machine.specs.Host.{Host, Link, cport_of, free_cport, in_state, interface_of, is_intf, link_at, with_link, with_new_interface}
+use Rattle.gb_machine.specs.Lists.{without}
+use Rattle.gb_machine.specs.SequenceSteps.{Purpose, SequenceStep, purpose}
+use Rattle.gb_machine.specs.Sequences.{awaited, awaits_nothing, link_told, opens, payload_in, step_answered, step_asked}
+use Rattle.gb_machine.specs.Turns.{Act, HostEvent, Turn, telling, turn}
+
+-- The enumeration of an interface begins.
+abbrev pub host_inserted : ℕ → Host → Turn
+host_inserted i h =
+    telling (entry.Interface i stage.Enumerating)
+    (step_asked (purpose i 0 SequenceStep.EnableVsys) (with_new_interface i h))
+
+-- the connections of an interface, by number
+abbrev pub links_of : ℕ → Host → List Link
+links_of i h = filter (λ l. l.intf == i) h.links
+
+-- connections are closed and given up, one after another
+abbrev pub links_left : List Link → List Act
+links_left [] = []
+links_left (l ∷ ls) =
+    Act.Shut l.connection ∷ Act.Leave l.connection ∷ Act.Tell (link_told state.Closed l)
+    ∷ links_left ls
+
+-- the host without an interface and its connections, and what their sequences wait for
+abbrev pub without_interface : ℕ → Host → Host
+without_interface i h = record h {
+  interfaces = without (is_intf i) h.interfaces;
+  links = without (λ l. l.intf == i) h.links;
+}
+
+-- An interface is absent: its connections are closed in order of number.
+abbrev pub host_removed : ℕ → Host → Turn
+host_removed i h =
+    turn (without_interface i h)
+    (links_left (links_of i h) ++ Act.Tell (entry.Interface i stage.Removed) ∷ [])
+
+-- a connection to a CPort is made on a CPort of the application processor
+abbrev pub connects : Option ℕ → Option CportView → Purpose → Host → Turn
+connects (Some ap) (Some view) p h = opens ap view.protocol p h
+connects (Some ap) None p h = turn h []
+connects None view p h = turn h []
+
+-- The connect sequence of a CPort begins.
+abbrev pub host_connects : ℕ → ℕ → Host → Turn
+host_connects i c h =
+    connects (free_cport h) (option_and_then (cport_of c) (interface_of i h))
+    (purpose i c SequenceStep.CreateConnection) h
+
+-- a connection is closing: its side is closed, and then its sequence begins
+abbrev pub disconnects : Option Link → Purpose → Host → Turn
+disconnects None p h = turn h []
+disconnects (Some l) p h =
+    let asked = step_asked p (with_link p.intf p.cport (in_state state.Closing) h) in
+    turn asked.host
+    (Act.Shut l.connection ∷ Act.Tell (link_told state.Closing l) ∷ asked.acts)
+
+-- The close sequence of a connection begins.
+abbrev pub host_disconnects : ℕ → ℕ → Host → Turn
+host_disconnects i c h =
+    disconnects (link_at i c h) (purpose i c SequenceStep.TellDisconnecting) h
+
+-- a request for this purpose ended; nothing starts where no sequence waited for it
+abbrev pub ended_for : Option Purpose → Outcome → Host → Turn
+ended_for None how h = turn h []
+ended_for (Some p) how h = step_answered (payload_in how) p (awaits_nothing p h)
+
+-- A request ended.
+abbrev pub host_ended : ℕ → Outcome → Host → Turn
+host_ended n how h = ended_for (awaited n h) how h
+
+-- The turn of the application processor at what it takes notice of.
+abbrev pub host_turn : HostEvent → Host → Turn
+host_turn (HostEvent.Inserted i) h = host_inserted i h
+host_turn (HostEvent.Removed i) h = host_removed i h
+host_turn (HostEvent.Connect i c) h = host_connects i c h
+host_turn (HostEvent.Disconnect i c) h = host_disconnects i c h
+host_turn (HostEvent.Ended n how) h = host_ended n how h

@@ -1,0 +1,296 @@
+-- The sequences of the application processor: enumerating an interface, connecting a CPort and
+-- closing a connection. Each step is asked when the one before was answered with success.
+use Rattle.std.specs.Prelude.{ℕ, ◌==◌, true, if◌then◌else◌, Option, Some, None, unwrap_or, Result, Ok, Err, List, [], ◌∷◌, ◌++◌, length}
+use Rattle.gb_base.specs.declared.entry.ConnState.{ConnState}
+use Rattle.gb_base.specs.declared.entry.ConnState.TheVariants as state
+use Rattle.gb_base.specs.declared.entry.Entry.{Entry}
+use Rattle.gb_base.specs.declared.entry.Entry.TheVariants as entry
+use Rattle.gb_base.specs.declared.entry.IntfStage.TheVariants as stage
+use Rattle.gb_base.specs.declared.outcome.Outcome.{Outcome}
+use Rattle.gb_base.specs.declared.outcome.Outcome.TheVariants as outcome
+use Rattle.gb_formats.specs.ControlRecords.{ControlReply, read_control_reply}
+use Rattle.gb_formats.specs.Manifest.{Manifest, check_answer}
+use Rattle.gb_formats.specs.ManifestRules.{Refused}
+use Rattle.gb_formats.specs.Records.{PayloadFault}
+use Rattle.gb_machine.specs.Bus.{or_else}
+use Rattle.gb_machine.specs.Host.{Host, Interface, Link, control_of, free_cport, free_device, in_state, interface_of, link_at, staged, with_interface, with_link, without_link}
+use Rattle.gb_machine.specs.SequenceSteps.{Purpose, SequenceStep, Target, asks_control, at_step, is_enumeration, is_reply, kind_of, payload_of, purpose}
+use Rattle.gb_machine.specs.Turns.{Act, Asking, Failing, Making, Turn, failed_turn, failing, telling, turn}
+
+-- ---- what is told
+
+-- a connection has a state
+abbrev pub link_told : ConnState → Link → Entry
+link_told to l = entry.Connection l.connection l.ap l.intf l.cport to
+
+-- what is told of a connection, where there is one
+abbrev pub told_of : ConnState → Option Link → List Entry
+told_of to None = []
+told_of to (Some l) = link_told to l ∷ []
+
+-- ---- failures
+
+-- The connection of a step fails.
+abbrev pub link_fails : Purpose → Host → Failing
+link_fails p h =
+    failing (with_link p.intf p.cport (in_state state.Failed) h)
+    (told_of state.Failed (link_at p.intf p.cport h))
+
+-- The interface of a step fails.
+abbrev pub interface_fails : Purpose → Host → Failing
+interface_fails p h =
+    failing (with_interface p.intf (staged stage.Failed) h)
+    (entry.Interface p.intf stage.Failed ∷ [])
+
+-- The Control connection fails, and then its interface.
+abbrev pub control_fails : Purpose → Host → Failing
+control_fails p h =
+    let link = link_fails p h in
+    let interface = interface_fails p link.host in
+    failing interface.host (link.told ++ interface.told)
+
+-- What fails where a step isn't answered as it should be: its connection in a connect or close, the
+-- interface in an enumeration, and both where the Control connection was to be created.
+abbrev pub step_fails : SequenceStep → Purpose → Host → Failing
+step_fails SequenceStep.CreateControl p h = control_fails p h
+step_fails SequenceStep.CreateConnection p h = link_fails p h
+step_fails SequenceStep.TellConnected p h = link_fails p h
+step_fails SequenceStep.TellDisconnecting p h = link_fails p h
+step_fails SequenceStep.TellDisconnected p h = link_fails p h
+step_fails SequenceStep.DestroyConnection p h = link_fails p h
+step_fails _ p h = interface_fails p h
+
+-- an interface is to have no device id
+abbrev pub without_device : Interface → Interface
+without_device x = record x { device = None }
+
+-- What fails where a step's request can't be made, since no identifier is left. No connection was
+-- made then, and no device id is taken.
+abbrev pub unsent_fails : SequenceStep → Purpose → Host → Failing
+unsent_fails SequenceStep.CreateControl p h = interface_fails p h
+unsent_fails SequenceStep.CreateConnection p h = failing h []
+unsent_fails SequenceStep.GiveDevice p h =
+    interface_fails p (with_interface p.intf without_device h)
+unsent_fails step p h = step_fails step p h
+
+-- No identifier was left for the request of a purpose.
+abbrev pub unsent : Purpose → Host → Failing
+unsent p h = unsent_fails p.step p h
+
+-- ---- asking
+
+abbrev pub ap_in : Option Link → ℕ
+ap_in None = 0
+ap_in (Some l) = l.ap
+
+abbrev pub device_in : Option Interface → ℕ
+device_in None = 0
+device_in (Some x) = unwrap_or x.device 0
+
+-- what the request of a purpose speaks of, where the connection has this CPort of the application
+-- processor
+abbrev pub target : ℕ → Purpose → Host → Target
+target ap p h = record {
+  intf = p.intf;
+  cport = p.cport;
+  ap = ap;
+  device = device_in (interface_of p.intf h);
+}
+
+-- the request of a purpose, on a connection
+abbrev pub asking : ℕ → Purpose → Target → Asking
+asking k p t = record {
+  on = k;
+  kind = kind_of p.step;
+  payload = payload_of p.step t;
+  purpose = p;
+}
+
+-- the connection on which the request of a purpose goes
+abbrev pub way_of : Purpose → Host → Option ℕ
+way_of p h = if asks_control p.step then control_of p.intf h else Some 1
+
+-- the request of a purpose is made, where there is a connection for it
+abbrev pub asked_on : Option ℕ → Purpose → Host → Turn
+asked_on None p h = failed_turn (step_fails p.step p h)
+asked_on (Some k) p h =
+    turn h (Act.Ask (asking k p (target (ap_in (link_at p.intf p.cport h)) p h)) ∷ [])
+
+-- The request of a purpose is made.
+abbrev pub step_asked : Purpose → Host → Turn
+step_asked p h = asked_on (way_of p h) p h
+
+-- the same sequence goes on with another step
+abbrev pub goes_on : SequenceStep → Purpose → Host → Turn
+goes_on step p h = step_asked (at_step step p) h
+
+-- A connection is made on a CPort of the application processor, and then the request for it.
+abbrev pub opens : ℕ → ℕ → Purpose → Host → Turn
+opens ap protocol p h =
+    let making : Making = record {
+      ap = ap;
+      intf = p.intf;
+      cport = p.cport;
+      protocol = protocol;
+    } in
+    turn h (Act.Open making (asking 1 p (target ap p h)) ∷ [])
+
+-- ---- the steps of an enumeration
+
+-- An interface gets the least device id that is free.
+abbrev pub begins_device : Option ℕ → Purpose → Host → Turn
+begins_device None p h = failed_turn (interface_fails p h)
+begins_device (Some d) p h =
+    step_asked p (with_interface p.intf (λ x. record x { device = Some d }) h)
+
+-- The Control connection is made on the least CPort that is free.
+abbrev pub begins_control : Option ℕ → Purpose → Host → Turn
+begins_control None p h = failed_turn (interface_fails p h)
+begins_control (Some ap) p h = opens ap 0 p h
+
+-- The supervisory controller gave an interface its device id.
+abbrev pub device_given : Purpose → Host → Turn
+device_given p h =
+    goes_on SequenceStep.CreateRoute p
+    (with_interface p.intf (λ x. record x { has_device = true }) h)
+
+-- a connection of a purpose is open
+abbrev pub opened : Purpose → Host → Host
+opened p h = with_link p.intf p.cport (in_state state.Open) h
+
+-- what is told of it, in front of a turn
+abbrev pub opened_told : Option Link → Turn → Turn
+opened_told None t = t
+opened_told (Some l) t = telling (link_told state.Open l) t
+
+-- The Control connection is open, and the version is asked.
+abbrev pub control_opened : Purpose → Host → Turn
+control_opened p h =
+    opened_told (link_at p.intf p.cport h) (goes_on SequenceStep.AskVersion p (opened p h))
+
+-- the size of a manifest that was told
+abbrev pub size_in : Result ControlReply PayloadFault → ℕ
+size_in (Ok (ControlReply.GetManifestSize size)) = size
+size_in (Ok _) = 0
+size_in (Err fault) = 0
+
+-- The size of the manifest was told.
+abbrev pub size_told : Purpose → List ℕ → Host → Turn
+size_told p payload h =
+    let size = size_in (read_control_reply 0x03 payload) in
+    goes_on SequenceStep.AskManifest p
+    (with_interface p.intf (λ x. record x { size = size }) h)
+
+-- an interface is enumerated with this manifest
+abbrev pub enumerated : List ℕ → Interface → Interface
+enumerated bytes x = record x { stage = stage.Enumerated; manifest = bytes }
+
+-- The manifest is accepted, or refused and named.
+abbrev pub manifest_checked : Result Manifest Refused → Purpose → List ℕ → Host → Turn
+manifest_checked (Ok m) p bytes h =
+    turn (with_interface p.intf (enumerated bytes) h)
+    (Act.Tell (entry.Interface p.intf stage.Enumerated) ∷ [])
+manifest_checked (Err why) p bytes h =
+    telling (entry.Manifest p.intf why.at why.reason) (failed_turn (interface_fails p h))
+
+-- the size of its manifest that was told of an interface
+abbrev pub size_known : Option Interface → ℕ
+size_known None = 0
+size_known (Some x) = x.size
+
+-- The manifest came. It must have the length that was told.
+abbrev pub manifest_told : Purpose → List ℕ → Host → Turn
+manifest_told p bytes h =
+    if length bytes == size_known (interface_of p.intf h)
+    then manifest_checked (check_answer bytes) p bytes h
+    else failed_turn (interface_fails p h)
+
+-- ---- the steps of a connection
+
+-- a turn that tells of a connection
+abbrev pub link_turn : ConnState → Option Link → Host → Turn
+link_turn to None h = turn h []
+link_turn to (Some l) h = turn h (Act.Tell (link_told to l) ∷ [])
+
+-- The connection is open.
+abbrev pub link_opened : Purpose → Host → Turn
+link_opened p h = link_turn state.Open (link_at p.intf p.cport h) (opened p h)
+
+-- the connection is given up, and is told to be closed
+abbrev pub link_left : Option Link → Host → Turn
+link_left None h = turn h []
+link_left (Some l) h =
+    turn h (Act.Leave l.connection ∷ Act.Tell (link_told state.Closed l) ∷ [])
+
+-- The connection is closed and there no more.
+abbrev pub link_closed : Purpose → Host → Turn
+link_closed p h = link_left (link_at p.intf p.cport h) (without_link p.intf p.cport h)
+
+-- ---- all steps
+
+-- What follows a step that was answered as it should be.
+abbrev pub step_done : SequenceStep → Purpose → List ℕ → Host → Turn
+step_done SequenceStep.EnableVsys p payload h = goes_on SequenceStep.EnableRefclk p h
+step_done SequenceStep.EnableRefclk p payload h = goes_on SequenceStep.EnableUnipro p h
+step_done SequenceStep.EnableUnipro p payload h = goes_on SequenceStep.Activate p h
+step_done SequenceStep.Activate p payload h =
+    begins_device (free_device h) (at_step SequenceStep.GiveDevice p) h
+step_done SequenceStep.GiveDevice p payload h = device_given p h
+step_done SequenceStep.CreateRoute p payload h =
+    begins_control (free_cport h) (at_step SequenceStep.CreateControl p) h
+step_done SequenceStep.CreateControl p payload h = control_opened p h
+step_done SequenceStep.AskVersion p payload h = goes_on SequenceStep.AskSize p h
+step_done SequenceStep.AskSize p payload h = size_told p payload h
+step_done SequenceStep.AskManifest p payload h = manifest_told p payload h
+step_done SequenceStep.CreateConnection p payload h = goes_on SequenceStep.TellConnected p h
+step_done SequenceStep.TellConnected p payload h = link_opened p h
+step_done SequenceStep.TellDisconnecting p payload h = goes_on SequenceStep.TellDisconnected p h
+step_done SequenceStep.TellDisconnected p payload h = goes_on SequenceStep.DestroyConnection p h
+step_done SequenceStep.DestroyConnection p payload h = link_closed p h
+
+-- the payload of an answer of success
+abbrev pub payload_in : Outcome → Option (List ℕ)
+payload_in (outcome.Answered result payload) = if result == 0 then Some payload else None
+payload_in _ = None
+
+-- A step's request was answered with success and this payload, or ended otherwise.
+abbrev pub step_answered : Option (List ℕ) → Purpose → Host → Turn
+step_answered None p h = failed_turn (step_fails p.step p h)
+step_answered (Some payload) p h =
+    if is_reply p.step payload then step_done p.step p payload h
+    else failed_turn (step_fails p.step p h)
+
+-- ---- what the sequences wait for
+
+-- the purpose of request n, where an interface or a connection waits for it
+abbrev pub purpose_in : ℕ → ℕ → ℕ → Option (ℕ × SequenceStep) → Option Purpose
+purpose_in n i c None = None
+purpose_in n i c (Some w) = if w.0 == n then Some (purpose i c w.1) else None
+
+-- the purpose of request n among interfaces
+abbrev pub interface_waits : ℕ → List Interface → Option Purpose
+interface_waits n [] = None
+interface_waits n (x ∷ xs) = or_else (purpose_in n x.intf 0 x.awaits) (interface_waits n xs)
+
+-- the purpose of request n among connections
+abbrev pub link_waits : ℕ → List Link → Option Purpose
+link_waits n [] = None
+link_waits n (l ∷ ls) = or_else (purpose_in n l.intf l.cport l.awaits) (link_waits n ls)
+
+-- What request n is for, where a sequence waits for it.
+abbrev pub awaited : ℕ → Host → Option Purpose
+awaited n h = or_else (interface_waits n h.interfaces) (link_waits n h.links)
+
+-- a sequence waits for this
+abbrev pub waiting : Option (ℕ × SequenceStep) → Purpose → Host → Host
+waiting w p h =
+    if is_enumeration p.step then with_interface p.intf (λ x. record x { awaits = w }) h
+    else with_link p.intf p.cport (λ l. record l { awaits = w }) h
+
+-- The sequence of a purpose waits for request n.
+abbrev pub awaits : Purpose → ℕ → Host → Host
+awaits p n h = waiting (Some (n, p.step)) p h
+
+-- The sequence of a purpose waits for nothing.
+abbrev pub awaits_nothing : Purpose → Host → Host
+awaits_nothing p h = waiting None p h
