@@ -1,8 +1,13 @@
 pub mod Lists
 pub mod Opened
+pub mod RowsClosing
 pub mod RowsConnections
+pub mod RowsCredits
 pub mod RowsDevices
 pub mod RowsEnumeration
+pub mod RowsHotPlug
+pub mod RowsInjection
+pub mod RowsNames
 pub mod RowsPings
 pub mod RowsRefusals
 pub mod Scripts
