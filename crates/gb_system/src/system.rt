@@ -126,7 +126,8 @@ impl System {
 
     /// Delivers the front message toward an end.
     fn deliver(&mut self, at: End) -> Result<Entries, OutOfMemory>
-        ensures step { (s : State) → Stands self.old s → StepsAs self.new s (delivery_at at) result }
+        ensures step { (s : State) → Stands self.old s
+            → StepsAs self.new s (delivery_at at) result }
         ensures taken { taken_of self.new ≡ taken_of self.old }
         ensures failed { has_failed self.new ≡ has_failed self.old }
     {

@@ -20,7 +20,8 @@ pub record IsLong (left left_after : Option (List ℕ)) : Type 0 where
   pub bytes_are : Consumes left left_after bytes
   pub beyond : longest_input < length bytes
 
--- By cases on the answer; `faults` are those before and after. After want of memory nothing is said.
+-- By cases on the answer; `faults` are those before and after. After want of memory nothing is
+-- said.
 abbrev pub ReadsAll : Option (List ℕ) → Option (List ℕ) → ℕ → ℕ → Result Input ReadStop → Type 0
 ReadsAll left after before faults (Ok (input.Whole bytes)) = IsWhole left after bytes.items
 ReadsAll left after before faults (Ok input.TooLong) = IsLong left after

@@ -18,7 +18,8 @@ StopsBy before faults stop.Failed = Rose before faults
 StopsBy before faults (stop.Memory refused) = ⊤
 
 -- By cases on the answer: all was taken, or a front of it.
-abbrev pub WritesAll : {A : Type 0} → Option (List ℕ) → Option (List ℕ) → ℕ → ℕ → List ℕ → Result A WriteStop → Type 0
+abbrev pub WritesAll : {A : Type 0} → Option (List ℕ) → Option (List ℕ) → ℕ → ℕ → List ℕ
+    → Result A WriteStop → Type 0
 WritesAll taken after before faults bytes (Ok x) = Appends taken after bytes
 WritesAll taken after before faults bytes (Err e) =
     TakesFront taken after bytes × StopsBy before faults e
