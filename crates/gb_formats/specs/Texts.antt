@@ -42,6 +42,7 @@ abbrev pub size_text : Bool → ℕ → List ℕ → List ℕ
 size_text hex size bytes =
     if hex then joined (decimal size ∷ codes " " ∷ hex_text bytes ∷ []) else decimal size
 
+-- ` lost`, where a request is lost, since its connection isn't wired
 abbrev pub lost_text : Bool → List ℕ
 lost_text lost = if lost then codes " lost" else []
 
@@ -49,6 +50,7 @@ lost_text lost = if lost then codes " lost" else []
 abbrev pub answer_text : ℕ → List ℕ → List ℕ
 answer_text result payload = if result == 0 then hex_text payload else codes "-"
 
+-- how a request ended
 abbrev pub outcome_text : Outcome → List ℕ
 outcome_text (outcome.Answered result payload) =
     joined (codes "answered " ∷ byte_text result ∷ codes " " ∷ answer_text result payload ∷ [])
@@ -57,6 +59,7 @@ outcome_text outcome.Timeout = codes "timeout"
 outcome_text outcome.Disconnected = codes "disconnected"
 outcome_text outcome.Sent = codes "sent"
 
+-- what the answer of a bridge line says
 abbrev pub reading_text : Reading → List ℕ
 reading_text reading.Nothing = []
 reading_text (reading.Number n) = joined (codes " = " ∷ decimal n ∷ [])
@@ -70,21 +73,25 @@ dropped_text None reply = codes "raw"
 dropped_text (Some n) reply =
     joined (codes "#" ∷ decimal n ∷ (if reply then codes " reply" else codes " ask") ∷ [])
 
+-- why bytes are no message
 abbrev pub wire_fault_text : WireFault → List ℕ
 wire_fault_text (wire.Short need) = joined (codes "short " ∷ decimal need ∷ [])
 wire_fault_text (wire.SizeBelowEight size) = joined (codes "size " ∷ decimal size ∷ [])
 wire_fault_text (wire.RequestResult result) = joined (codes "result " ∷ byte_text result ∷ [])
 
+-- why injected bytes are no message
 abbrev pub raw_fault_text : RawFault → List ℕ
 raw_fault_text (raw.Wire fault) = wire_fault_text fault
 raw_fault_text (raw.Extra count) = joined (codes "extra " ∷ decimal count ∷ [])
 
+-- what became of an interface
 abbrev pub stage_text : IntfStage → List ℕ
 stage_text stage.Enumerating = codes "enumerating"
 stage_text stage.Enumerated = codes "enumerated"
 stage_text stage.Failed = codes "failed"
 stage_text stage.Removed = codes "removed"
 
+-- what became of a connection
 abbrev pub state_text : ConnState → List ℕ
 state_text state.Opening = codes "opening"
 state_text state.Open = codes "open"

@@ -1,5 +1,6 @@
 -- The events that the system steps, and what is told of pings.
 use Rattle.std.specs.Prelude.{◌≡◌, ℕ, Bool, Option, List, []}
+use Rattle.gb_base.specs.declared.bridge.Reading.TheVariants as reading
 use Rattle.gb_base.specs.declared.end.End.{End}
 use Rattle.gb_base.specs.declared.end.End.TheVariants as end
 use Rattle.gb_base.specs.declared.entry.Entry.{Entry}
@@ -7,6 +8,7 @@ use Rattle.gb_base.specs.declared.entry.Entry.TheVariants as entry
 use Rattle.gb_base.specs.declared.event.Event.{Event}
 use Rattle.gb_base.specs.declared.event.Event.TheVariants as event
 use Rattle.gb_base.specs.declared.name.Name.{Name}
+use Rattle.gb_base.specs.declared.outcome.Outcome.TheVariants as outcome
 use Rattle.gb_base.specs.declared.refusal.Refusal.{Refusal}
 use Rattle.gb_base.specs.declared.refusal.Refusal.TheVariants as why
 use Rattle.gb_formats.specs.Grammar.{ping}
@@ -63,3 +65,7 @@ abbrev pub nowhere_refusal : End → Refusal
 nowhere_refusal (end.Module i c) = why.NoInterface
 nowhere_refusal end.Svc = why.NoConnection
 nowhere_refusal (end.Ap a) = why.NoConnection
+
+-- what is told where a request ends as answered
+abbrev pub answer_told : ℕ → ℕ → List ℕ → Entry
+answer_told n result payload = entry.Ended n (outcome.Answered result payload) reading.Nothing

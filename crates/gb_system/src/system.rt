@@ -3,12 +3,12 @@
 ghost use Rattle.std.specs.Prelude.{◌≡◌, ◌+◌, ◌<◌, [], ◌∷◌, if◌then◌else◌, true, false, IfOk, is_ok, is_err};
 ghost use Rattle.gb_machine.specs.State.{State, first_state};
 ghost use Rattle.gb_base.specs.declared.entry.Entry.TheVariants as told;
-ghost use Rattle.gb_system.specs.Pings.{IsStepped, delivery_at, nowhere_refusal, ping_of, ping_told, pong_told};
+ghost use Rattle.gb_system.specs.Pings.{IsStepped, answer_told, delivery_at, nowhere_refusal, ping_of, ping_told, pong_told};
 
 use crate::message::message_bytes;
 use crate::names::Names;
 use gb_base::{
-    End, Entries, Entry, Event, Name, OutOfMemory, Outcome, Reading, Refusal, Side, TryCopy,
+    Bytes, End, Entries, Entry, Event, Name, OutOfMemory, Outcome, Reading, Refusal, Side, TryCopy,
 };
 use gb_bus::{Arrival, Arrived, Asked, Bus, DeliverFault, SendFault, Sent};
 use gb_wire::Message;
@@ -156,17 +156,7 @@ impl System {
                 kind: _,
                 result: code,
                 payload,
-            } => {
-                let entry = Entry::Ended {
-                    number,
-                    outcome: Outcome::Answered {
-                        result: code,
-                        payload,
-                    },
-                    reading: Reading::Nothing,
-                };
-                Ok(done(self.alloc, entry)?)
-            }
+            } => Ok(done(self.alloc, ended(number, code, payload))?),
             Arrival::Late { number } => Ok(done(self.alloc, Entry::Late { number })?),
             Arrival::Dropped { number, reply } => {
                 Ok(done(self.alloc, Entry::Dropped { number, reply })?)
@@ -201,6 +191,20 @@ fn nowhere(at: End) -> Refusal
     match at {
         End::Module { .. } => Refusal::NoInterface,
         End::Svc | End::Ap(_) => Refusal::NoConnection,
+    }
+}
+
+/// A request was answered with this result and payload.
+fn ended(number: u64, code: u8, payload: Bytes) -> Entry
+    ensures { result ≡ answer_told number code payload }
+{
+    Entry::Ended {
+        number,
+        outcome: Outcome::Answered {
+            result: code,
+            payload,
+        },
+        reading: Reading::Nothing,
     }
 }
 

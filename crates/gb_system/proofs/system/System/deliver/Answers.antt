@@ -36,7 +36,7 @@ returns-in-Ended-clause-step c = λ s st.
     let a = subst (λ (w : Arrival). Brings c.deliver.new.self true d.place s.bus d.item w) c.in-Ended.is d.brings in
     answer_taken c.args.self.now (record c.args.self.now { bus = c.deliver.new.self }) s c.args.at d.place d.item
     c.in-Ended.number c.in-Ended.kind c.in-Ended.code c.in-Ended.payload c.in_ok-done-in-Ended.field-0 st d.named d.front
-    a.1 refl c.in_ok-done-in-Ended.ensures
+    a.1 refl (cc (c.in_ok-done-in-Ended.ensures, c.ended.ensures))
 
 pub returns-in-Late-clause-step : goal.returns-in-Late-clause-step
 returns-in-Late-clause-step c = λ s st.
