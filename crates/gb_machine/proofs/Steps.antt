@@ -17,7 +17,7 @@ use Rattle.gb_machine.specs.Arriving.{arrives, asked_at, by_label, by_number, de
 use Rattle.gb_machine.specs.Asking.{asked, asks, asks_with}
 use Rattle.gb_machine.specs.Bus.{Ask, Bus, Connection, Item, Place, Reply, Request, connection_of, is_open, next_number, or_else, other_side, place_of, queue, request_of}
 use Rattle.gb_machine.specs.Delivery.{answered, ended, forgotten, popped, replied}
-use Rattle.gb_machine.specs.Events.{decided, step, svc_draft}
+use Rattle.gb_machine.specs.Events.{decided, does, step, svc_draft}
 use Rattle.gb_machine.specs.HostActs.{turns}
 use Rattle.gb_machine.specs.HostTurns.{ended_for}
 use Rattle.gb_machine.specs.Incoming.{incoming, reply_entry}
@@ -51,8 +51,13 @@ not_empty [] item front = cc
 not_empty (i ∷ items) item front = refl
 
 -- what is told behind the line's answer
-abbrev behind_done : Told → Told
+abbrev pub behind_done : Told → Told
 behind_done t = told t.state (entry.Done ∷ t.entries)
+
+-- an event that isn't refused is done
+pub step-does : (s : State) (e : Event) → refusal s e ≡ None → step s e ≡ behind_done (does e s)
+unfolding machine_opened
+step-does s e h = ap (λ o. decided o e s) h
 
 -- a request is made where its connection is live and an identifier is left
 asks-made : (d : Draft) (s : State) (c : Connection) (label : ℕ)

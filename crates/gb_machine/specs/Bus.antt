@@ -38,6 +38,7 @@ pub record Connection : Type 0 where
   pub to_ap : List Item
   pub to_far : List Item
 
+-- The bus: its live connections, and all requests with how they ended.
 pub record Bus : Type 0 where
   pub made : ℕ  -- connections made so far
   pub connections : List Connection  -- the live ones, by number
@@ -61,6 +62,7 @@ svc_connection = record {
   to_far = [];
 }
 
+-- the bus with the connection of the supervisory controller alone
 abbrev pub first_bus : Bus
 first_bus = record {
   made = 1;
@@ -70,6 +72,7 @@ first_bus = record {
   given_up = [];
 }
 
+-- the other side of a connection
 abbrev pub other_side : Side → Side
 other_side side.Ap = side.Far
 other_side side.Far = side.Ap
@@ -113,6 +116,7 @@ pub record Place : Type 0 where
   pub connection : Connection
   pub side : Side
 
+-- the first of two options, or else the second
 abbrev pub or_else : {A : Type 0} → Option A → Option A → Option A
 or_else None later = later
 or_else (Some x) later = Some x
@@ -123,6 +127,7 @@ place_of at [] = None
 place_of at (c ∷ cs) =
     or_else (option_map (λ s. record { connection = c; side = s }) (side_at at c)) (place_of at cs)
 
+-- a connection has this number
 abbrev pub has_number : ℕ → Connection → Bool
 has_number k c = c.number == k
 

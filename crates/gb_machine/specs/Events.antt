@@ -67,3 +67,8 @@ trace_from s (e ∷ es) = step s e ∷ trace_from (step s e).state es
 -- The states and entries of a run of events.
 abbrev pub trace : List Event → List Told
 trace es = trace_from first_state es
+
+-- The last state of a trace, which begins at this state.
+abbrev pub last_state : State → List Told → State
+last_state s [] = s
+last_state s (t ∷ ts) = last_state t.state ts

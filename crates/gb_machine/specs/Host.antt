@@ -43,6 +43,7 @@ first_host = record { interfaces = []; links = [] }
 
 -- ---- interfaces
 
+-- what is known is of this interface
 abbrev pub is_intf : ℕ → Interface → Bool
 is_intf i x = x.intf == i
 
@@ -67,6 +68,7 @@ new_interface i = record {
   awaits = None;
 }
 
+-- the order of interfaces
 abbrev pub intf_before : Interface → Interface → Bool
 intf_before x y = nat_lt x.intf y.intf
 
@@ -94,6 +96,7 @@ free_device h = first_free (λ d. list_any (has_device_id d) h.interfaces) 30 2
 
 -- ---- connections
 
+-- a connection is to this CPort of this interface
 abbrev pub is_link : ℕ → ℕ → Link → Bool
 is_link i c l = l.intf == i && l.cport == c
 

@@ -42,16 +42,20 @@ host_removed i h =
     turn (without_interface i h)
     (links_left (links_of i h) ++ Act.Tell (entry.Interface i stage.Removed) ∷ [])
 
--- a connection to a CPort is made on a CPort of the application processor
-abbrev pub connects : Option ℕ → Option CportView → Purpose → Host → Turn
-connects (Some ap) (Some view) p h = opens ap view.protocol p h
-connects (Some ap) None p h = turn h []
-connects None view p h = turn h []
+-- a connection with a protocol is made on a CPort of the application processor
+abbrev pub connects_on : Option ℕ → ℕ → Purpose → Host → Turn
+connects_on None protocol p h = turn h []
+connects_on (Some ap) protocol p h = opens ap protocol p h
+
+-- a connection to a CPort that a manifest declares is made on the least CPort that is free
+abbrev pub connects : Option CportView → Purpose → Host → Turn
+connects None p h = turn h []
+connects (Some view) p h = connects_on (free_cport h) view.protocol p h
 
 -- The connect sequence of a CPort begins.
 abbrev pub host_connects : ℕ → ℕ → Host → Turn
 host_connects i c h =
-    connects (free_cport h) (option_and_then (cport_of c) (interface_of i h))
+    connects (option_and_then (cport_of c) (interface_of i h))
     (purpose i c SequenceStep.CreateConnection) h
 
 -- a connection is closing: its side is closed, and then its sequence begins

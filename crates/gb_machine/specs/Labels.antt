@@ -16,6 +16,7 @@ abbrev pub last_label : Side → Connection → ℕ
 last_label side.Ap c = c.ap_last
 last_label side.Far c = c.far_last
 
+-- the connection with an identifier as the last that was drawn on a side
 abbrev pub with_last_label : Side → ℕ → Connection → Connection
 with_last_label side.Ap label c = record c { ap_last = label }
 with_last_label side.Far label c = record c { far_last = label }

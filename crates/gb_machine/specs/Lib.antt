@@ -13,8 +13,14 @@ pub mod HostServing
 pub mod HostTurns
 pub mod Incoming
 pub mod Labels
+pub mod Laws
+pub mod LawsBus
+pub mod LawsEnds
+pub mod LawsHotPlug
+pub mod LawsSvc
 pub mod LineActions
 pub mod Lists
+pub mod Members
 pub mod Modules
 pub mod Names
 pub mod OwnAsking
@@ -24,6 +30,7 @@ pub mod Refusals
 pub mod Report
 pub mod Requests
 pub mod Responding
+pub mod Runs
 pub mod Sending
 pub mod SequenceSteps
 pub mod Sequences
@@ -31,6 +38,8 @@ pub mod Serving
 pub mod Settling
 pub mod Show
 pub mod State
+pub mod Summary
+pub mod SvcQueues
 pub mod SvcTable
 pub mod Turns
 pub mod Waiting

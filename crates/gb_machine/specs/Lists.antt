@@ -24,6 +24,7 @@ abbrev pub first : {A : Type 0} → List A → Option A
 first [] = None
 first (x ∷ xs) = Some x
 
+-- the members behind the first
 abbrev pub behind_first : {A : Type 0} → List A → List A
 behind_first [] = []
 behind_first (x ∷ xs) = xs

@@ -6,6 +6,7 @@ use Rattle.gb_formats.specs.Module.{CportState, Module, Off, On, Quiet, cport_st
 use Rattle.gb_machine.specs.Lists.{at_first, in_order, without}
 use Rattle.gb_machine.specs.State.{Plugged}
 
+-- a module is plugged at this interface
 abbrev pub is_plugged_at : ℕ → Plugged → Bool
 is_plugged_at i p = p.intf == i
 
@@ -21,6 +22,7 @@ is_plugged i modules = is_some (module_at i modules)
 abbrev pub with_module : ℕ → Module → List Plugged → List Plugged
 with_module i m modules = at_first (is_plugged_at i) (λ p. record p { body = m }) modules
 
+-- the order of plugged modules
 abbrev pub plugged_before : Plugged → Plugged → Bool
 plugged_before p q = nat_lt p.intf q.intf
 

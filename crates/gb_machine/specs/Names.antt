@@ -5,6 +5,7 @@ use Rattle.gb_base.specs.declared.name.Name.{Name}
 use Rattle.gb_machine.specs.Lists.{sorted, without}
 use Rattle.gb_machine.specs.State.{State}
 
+-- two names are one
 abbrev pub same_name : Name → Name → Bool
 same_name a b = a.who == b.who && bytes_eq a.word b.word
 
@@ -13,6 +14,7 @@ abbrev pub named : Name → List (Name × ℕ) → Option ℕ
 named name [] = None
 named name (p ∷ ps) = if same_name p.0 name then Some p.1 else named name ps
 
+-- a name names a request
 abbrev pub is_bound : Name → State → Bool
 is_bound name s = is_some (named name s.names)
 

@@ -6,6 +6,7 @@ use Rattle.gb_machine.specs.Host.{is_device}
 use Rattle.gb_machine.specs.Lists.{at_first, without}
 use Rattle.gb_machine.specs.State.{Port}
 
+-- a power level is of this interface
 abbrev pub is_port : ℕ → Port → Bool
 is_port i p = p.intf == i
 
@@ -17,6 +18,7 @@ port_of i ports = find (is_port i) ports
 abbrev pub is_powered : ℕ → List Port → Bool
 is_powered i ports = is_some (port_of i ports)
 
+-- the power level, 0 where nothing is plugged
 abbrev pub level_in : Option Port → ℕ
 level_in None = 0
 level_in (Some p) = p.level

@@ -104,6 +104,7 @@ cancel_refusal s (Some n) = first_met ((is_some (outcome_of n s.bus), why.Alread
 
 -- ---- deliveries
 
+-- nothing waits
 abbrev pub empty_refusal : List Item → Option Refusal
 empty_refusal [] = Some why.QueueEmpty
 empty_refusal (item ∷ items) = None

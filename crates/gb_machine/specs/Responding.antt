@@ -27,6 +27,7 @@ pub record Response : Type 0 where
   pub answer : Answer
   pub behind : Action
 
+-- an answer, and this behind the reply
 abbrev pub responds_with : Answer → Action → Response
 responds_with a behind = record { answer = a; behind = behind }
 
@@ -97,6 +98,7 @@ module_response k i c q (Some m) = module_stepped k i (module_serve m c q.kind q
 unfoldable pub host_behind : HostServed → Action
 host_behind h = on_host (λ old. h.host) ▸ given h.told tell ▸ given h.notices notices
 
+-- what the application processor serves, as a response
 abbrev pub host_served : HostServed → Response
 host_served h = responds_with h.answer (host_behind h)
 

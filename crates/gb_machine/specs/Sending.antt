@@ -16,6 +16,7 @@ pub record Draft : Type 0 where
   pub deadline : ℕ
   pub oneway : Bool
 
+-- what a side of a connection asks for: type, payload, deadline, and whether it is unidirectional
 abbrev pub draft : ℕ → Side → ℕ → List ℕ → ℕ → Bool → Draft
 draft k at kind payload deadline oneway = record {
   connection = k;
@@ -30,6 +31,7 @@ draft k at kind payload deadline oneway = record {
 abbrev pub label_for : Draft → Bus → Option ℕ
 label_for d b = if d.oneway then Some 0 else next_label d.connection d.side b
 
+-- the request that is made of a draft
 abbrev pub requested : Draft → ℕ → Request
 requested d label = record {
   connection = d.connection;
@@ -68,6 +70,7 @@ sent d label b =
           (λ c. put (other_side d.side) (Ask n) (drawn d label c)) b.connections;
     }
 
+-- a connection is there and wired
 abbrev pub is_wired : Option Connection → Bool
 is_wired None = false
 is_wired (Some c) = c.wired

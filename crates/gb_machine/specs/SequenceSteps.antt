@@ -6,6 +6,7 @@ use Rattle.gb_formats.specs.ControlRecords.{ControlAsk, control_ask_payload, rea
 use Rattle.gb_formats.specs.Records.{PayloadFault}
 use Rattle.gb_formats.specs.SvcRecords.{SvcAsk, SvcReply, read_svc_reply, svc_ask_payload}
 
+-- A step of a sequence.
 pub data SequenceStep : Type 0 where
   EnableVsys : SequenceStep
   EnableRefclk : SequenceStep
@@ -29,6 +30,7 @@ pub record Purpose : Type 0 where
   pub cport : ℕ  -- 0 in an enumeration
   pub step : SequenceStep
 
+-- a step of a sequence of a CPort of an interface
 abbrev pub purpose : ℕ → ℕ → SequenceStep → Purpose
 purpose i c step = record { intf = i; cport = c; step = step }
 

@@ -79,10 +79,12 @@ unsent p h = unsent_fails p.step p h
 
 -- ---- asking
 
+-- the application processor's CPort of a connection, 0 where there is none
 abbrev pub ap_in : Option Link → ℕ
 ap_in None = 0
 ap_in (Some l) = l.ap
 
+-- the device id of an interface, 0 where it has none
 abbrev pub device_in : Option Interface → ℕ
 device_in None = 0
 device_in (Some x) = unwrap_or x.device 0

@@ -10,12 +10,15 @@ pub record Answer : Type 0 where
 abbrev pub success : ℕ
 success = 0
 
+-- the responder has no request of this type
 abbrev pub protocol_bad : ℕ
 protocol_bad = 4
 
+-- the payload, a value or the state doesn't fit
 abbrev pub invalid : ℕ
 invalid = 6
 
+-- what is asked for isn't there
 abbrev pub nonexistent : ℕ
 nonexistent = 8
 

@@ -16,6 +16,7 @@ use Rattle.gb_machine.specs.Waiting.{Queue, queues}
 abbrev pub device_shown : Interface → Option ℕ
 device_shown x = if x.has_device then x.device else None
 
+-- the line of an interface
 abbrev pub interface_shown : Interface → List ℕ
 interface_shown x = interface_line x.intf x.stage (device_shown x)
 
@@ -24,13 +25,16 @@ abbrev pub state_of : Option Link → ConnState
 state_of None = state.Open
 state_of (Some l) = l.state
 
+-- the line of a connection
 abbrev pub connection_shown : Host → Connection → List ℕ
 connection_shown h c =
     connection_line c.number c.ap c.peer c.protocol (state_of (link_of c.number h)) c.clean
 
+-- the line of a queue
 abbrev pub queue_shown : Queue → List ℕ
 queue_shown q = queue_line q.at q.count
 
+-- the line of a name
 abbrev pub name_shown : Bus → Name × ℕ → List ℕ
 name_shown b p = name_line p.0 p.1 (outcome_of p.1 b)
 

@@ -27,6 +27,8 @@ pub record Past : Type 0 where
   pub made_for : List (ℕ × ℕ)
   pub wired : List ℕ
 
+-- The state of the machine: the bus, the supervisory controller, the modules, the application
+-- processor and the names of its requests.
 pub record State : Type 0 where
   pub now : ℕ  -- in milliseconds
   pub booted : Bool

@@ -36,10 +36,12 @@ pub data Act : Type 0 where
   Leave : ℕ → Act
   Tell : Entry → Act
 
+-- How the application processor is after it took notice of something, and what it does.
 pub record Turn : Type 0 where
   pub host : Host
   pub acts : List Act
 
+-- it is so afterwards, and does this
 abbrev pub turn : Host → List Act → Turn
 turn h acts = record { host = h; acts = acts }
 
@@ -52,6 +54,7 @@ pub record Failing : Type 0 where
   pub host : Host
   pub told : List Entry
 
+-- it is so after a failure, and this is told
 abbrev pub failing : Host → List Entry → Failing
 failing h told = record { host = h; told = told }
 

@@ -23,6 +23,7 @@ end_before (end.Module i c) end.Svc = false
 end_before (end.Module i c) (end.Ap b) = false
 end_before (end.Module i c) (end.Module j d) = nat_lt i j || i == j && nat_lt c d
 
+-- the order of queues is that of their ends
 abbrev pub queue_before : Queue → Queue → Bool
 queue_before q r = end_before q.at r.at
 

@@ -1,0 +1,29 @@
+-- The laws of runs, together.
+use Rattle.gb_machine.specs.LawsBus.{EndpointsDiffer, LabelsDiffer, OneItemANumber, RepliesAreAwaited}
+use Rattle.gb_machine.specs.LawsEnds.{AnsweredByItsResponder, EndsAtMostOnce, EveryEndHasItsCause}
+use Rattle.gb_machine.specs.LawsHotPlug.{NoForeignMessage, NothingLeftAfterRemoval, WiredAtMostOnce}
+use Rattle.gb_machine.specs.LawsSvc.{AwaitedIsTheLast, OneEnumerationRequestThenRestarts, QuietBeforeRemoval, RemovalLeavesNothingWired, StaleRequestsMeetLowLevel, WiredMeansRouted}
+use Rattle.gb_machine.specs.Runs.{SettlesAreDeliveries}
+
+-- What holds of every run.
+pub record LawsOfRuns : Type 0 where
+  pub settles : SettlesAreDeliveries
+  pub once : EndsAtMostOnce
+  pub answered : AnsweredByItsResponder
+  pub caused : EveryEndHasItsCause
+  pub left : NothingLeftAfterRemoval
+  pub own : NoForeignMessage
+  pub wired : WiredAtMostOnce
+
+-- What holds of every state of a run, and is used to prove the laws and the system.
+pub record FactsOfRuns : Type 0 where
+  pub labels : LabelsDiffer
+  pub items : OneItemANumber
+  pub replies : RepliesAreAwaited
+  pub ends : EndpointsDiffer
+  pub routed : WiredMeansRouted
+  pub removal : RemovalLeavesNothingWired
+  pub restarts : OneEnumerationRequestThenRestarts
+  pub quiet : QuietBeforeRemoval
+  pub awaited : AwaitedIsTheLast
+  pub stale : StaleRequestsMeetLowLevel

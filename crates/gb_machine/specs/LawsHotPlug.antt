@@ -1,0 +1,136 @@
+-- Laws of runs: what stands once a module was removed, whose messages are handled, and when a
+-- connection is wired.
+use Rattle.std.specs.Prelude.{◌≡◌, ◌≤◌, ◌≢◌, ℕ, ◌==◌, true, false, is_some, Some, None, List, length}
+use Rattle.gb_base.specs.declared.end.End.{End}
+use Rattle.gb_base.specs.declared.end.End.TheVariants as end
+use Rattle.gb_base.specs.declared.end.Side.{Side}
+use Rattle.gb_base.specs.declared.end.Side.TheVariants as side
+use Rattle.gb_base.specs.declared.entry.ConnState.{ConnState}
+use Rattle.gb_base.specs.declared.entry.Entry.{Entry}
+use Rattle.gb_base.specs.declared.entry.Entry.TheVariants as entry
+use Rattle.gb_base.specs.declared.event.Event.TheVariants as event
+use Rattle.gb_formats.specs.Message.{message_size, response, spelling}
+use Rattle.gb_machine.specs.Bus.{Ask, Bus, Connection, Item, Place, Raw, RawReply, Reply, Request, connection_of, end_of, is_open, other_side, place_of, queue, request_of}
+use Rattle.gb_machine.specs.Holding.{held_on}
+use Rattle.gb_machine.specs.Host.{interface_of}
+use Rattle.gb_machine.specs.Lists.{first}
+use Rattle.gb_machine.specs.Members.{Each, IsIn, times}
+use Rattle.gb_machine.specs.Modules.{is_plugged}
+use Rattle.gb_machine.specs.Ports.{level_of}
+use Rattle.gb_machine.specs.Refusals.{refusal}
+use Rattle.gb_machine.specs.Runs.{HoldsAtEachMoment, HoldsThroughout, Moment, after}
+use Rattle.gb_machine.specs.Sending.{is_wired}
+use Rattle.gb_machine.specs.State.{Held, State}
+use Rattle.gb_machine.specs.SvcQueues.{HandlesInsertion, HandlesRemoval, is_creation, svc_items}
+use Rattle.gb_machine.specs.Wiring.{is_at}
+
+-- ---- nothing left after a removal
+
+-- no open request is on a connection that ever named an interface
+abbrev pub HasNoOpen : ℕ → List Entry → State → Type 0
+HasNoOpen i told s =
+    (k ap c n : ℕ) (state : ConnState) (r : Request)
+    → IsIn (entry.Connection k ap i c state) told
+    → request_of n s.bus ≡ Some r → r.connection ≡ k → is_open n s.bus ≡ false
+
+-- An interface that is absent is named by no connection, and nothing that was asked on one that
+-- named it is open.
+pub record AbsentHasNothing (told : List Entry) (s : State) : Type 0 where
+  pub connections : (i : ℕ) → interface_of i s.host ≡ None
+      → Each (λ c. is_at i c.peer ≡ false) s.bus.connections
+  pub requests : (i : ℕ) → interface_of i s.host ≡ None → HasNoOpen i told s
+
+-- An interface is absent once its removal is handled, until its insertion is handled.
+pub record AbsentBetween (m : Moment) : Type 0 where
+  pub removed : (i : ℕ) → HandlesRemoval i m → interface_of i (after m).host ≡ None
+  pub inserted : (i : ℕ) → interface_of i m.before.host ≡ None
+      → is_some (interface_of i (after m).host) ≡ true → HandlesInsertion i m
+
+-- Once the removal of an interface is handled, nothing on it is open, until it is inserted again.
+abbrev pub NothingLeftAfterRemoval : Type 0
+NothingLeftAfterRemoval = HoldsThroughout AbsentHasNothing × HoldsAtEachMoment AbsentBetween
+
+-- ---- no foreign message
+
+-- the request of an item was made on the item's connection, by this side
+abbrev pub IsMadeOn : ℕ → Side → ℕ → Bus → Type 0
+IsMadeOn k at n b =
+    (r : Request) × (request_of n b ≡ Some r) × (r.connection ≡ k) × (r.side ≡ at)
+
+-- the reply to request n was told on a connection, toward a side
+abbrev pub IsRepliedOn : Connection → Side → ℕ → ℕ → List ℕ → List Entry → Bus → Type 0
+IsRepliedOn c at n result payload told b =
+    (r : Request) × (request_of n b ≡ Some r) × (r.connection ≡ c.number) × (r.side ≡ at)
+    × IsIn (entry.Replied (Some n) (end_of (other_side at) c) (end_of at c) result
+    (message_size payload) (spelling (response r.label r.kind result payload))) told
+
+-- An item toward a side of a connection was put there by a request, a reply or an injection on that
+-- connection.
+abbrev pub IsOwnItem : List Entry → Bus → Connection → Side → Item → Type 0
+IsOwnItem told b c at (Ask n) = IsMadeOn c.number (other_side at) n b
+IsOwnItem told b c at (Reply n result payload) = IsRepliedOn c at n result payload told b
+IsOwnItem told b c at (Raw bytes) =
+    (at ≡ side.Ap) × IsIn (entry.Raw c.peer (end.Ap c.ap) (length bytes) bytes) told
+IsOwnItem told b c at (RawReply label kind result payload) =
+    (at ≡ side.Far) × IsIn (entry.Replied None (end.Ap c.ap) c.peer result
+    (message_size payload) (spelling (response label kind result payload))) told
+
+-- what waits and what is held on a connection
+pub record HasOwnItems (told : List Entry) (s : State) (c : Connection) : Type 0 where
+  pub to_ap : Each (IsOwnItem told s.bus c side.Ap) c.to_ap
+  pub to_far : Each (IsOwnItem told s.bus c side.Far) c.to_far
+  pub held : Each (λ (h : Held). IsOwnItem told s.bus c side.Far h.item) (held_on c.number s.held)
+
+-- what waits and what is held on each connection is its own
+abbrev pub HaveOwnItems : List Entry → State → Type 0
+HaveOwnItems told s = Each (HasOwnItems told s) s.bus.connections
+
+-- A delivery that isn't refused takes its item from a connection that is live, wired and names the
+-- end.
+abbrev pub TakesFromItsConnection : Moment → Type 0
+TakesFromItsConnection m =
+    (at : End) → m.event ≡ event.Deliver at → refusal m.before m.event ≡ None
+    → (p : Place) × (item : Item) × (place_of at m.before.bus.connections ≡ Some p)
+    × IsIn p.connection m.before.bus.connections × (p.connection.wired ≡ true)
+    × (end_of p.side p.connection ≡ at) × (first (queue p.side p.connection) ≡ Some item)
+
+-- No end handles a message of another connection.
+abbrev pub NoForeignMessage : Type 0
+NoForeignMessage = HoldsThroughout HaveOwnItems × HoldsAtEachMoment TakesFromItsConnection
+
+-- ---- wired at most once
+
+-- A connection is wired at most once, and each that is wired was remembered then. That of the
+-- supervisory controller is wired from the first.
+pub record WiredOnce (told : List Entry) (s : State) : Type 0 where
+  pub once : (k : ℕ) → times (λ j. j == k) s.past.wired ≤ 1
+  pub remembered : Each (λ c. c.wired ≡ true → c.number ≢ 1 → IsIn c.number s.past.wired)
+      s.bus.connections
+
+-- At a moment connection k is wired by its own request, while a module is plugged at its interface,
+-- which is routed.
+pub record IsOwnCreation (m : Moment) (k : ℕ) : Type 0 where
+  pub number : ℕ
+  pub request : Request
+  pub connection : Connection
+  pub intf : ℕ
+  pub cport : ℕ
+  pub is : m.event ≡ event.Deliver end.Svc
+  pub front : first (svc_items side.Far m.before.bus) ≡ Some (Ask number)
+  pub made : request_of number m.before.bus ≡ Some request
+  pub creates : is_creation intf request ≡ true
+  pub own : IsIn (number, k) m.before.past.made_for
+  pub live : connection_of k m.before.bus ≡ Some connection
+  pub peer : connection.peer ≡ end.Module intf cport
+  pub plugged : is_plugged intf m.before.modules ≡ true
+  pub routed : level_of intf m.before.ports ≡ 6
+
+-- What is wired at a moment is wired by its own request.
+abbrev pub WiredByItsRequest : Moment → Type 0
+WiredByItsRequest m =
+    (k : ℕ) → is_wired (connection_of k m.before.bus) ≡ false
+    → is_wired (connection_of k (after m).bus) ≡ true → IsOwnCreation m k
+
+-- A connection is wired at most once, by its own request, to a module that is plugged and routed.
+abbrev pub WiredAtMostOnce : Type 0
+WiredAtMostOnce = HoldsThroughout WiredOnce × HoldsAtEachMoment WiredByItsRequest
