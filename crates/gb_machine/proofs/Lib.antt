@@ -2,13 +2,15 @@ pub mod Lists
 pub mod Opened
 pub mod RowsClosing
 pub mod RowsConnections
+pub mod RowsCounts
 pub mod RowsCredits
 pub mod RowsDevices
 pub mod RowsEnumeration
 pub mod RowsHotPlug
 pub mod RowsInjection
-pub mod RowsNames
+pub mod RowsLabels
 pub mod RowsPings
 pub mod RowsRefusals
+pub mod RowsShown
 pub mod Scripts
 pub mod Steps

@@ -2,6 +2,24 @@
 use Rattle.std.proofs.Common.{◌≡◌, [], ◌∷◌, codes, refl}
 use Rattle.gb_machine.proofs.Scripts.{plain_behind, report_opened, setup, text}
 
+-- a connect begins
+pub connect_begins : plain_behind (codes "insert 2 gpio"
+    ∷ codes "boot"
+    ∷ codes "settle 40" ∷ [])
+    (codes "connect 2 1"
+    ∷ codes "deliver svc"
+    ∷ codes "deliver ap 0" ∷ [])
+    ≡ text (codes "line 4 ok"
+    ∷ codes "connection 3 ap 2 2 1 opening"
+    ∷ codes "ask #14 ap 0 > svc type 07 size 16"
+    ∷ codes "line 5 ok"
+    ∷ codes "reply #14 svc > ap 0 result 00 size 8"
+    ∷ codes "line 6 ok"
+    ∷ codes "end #14 answered 00 -"
+    ∷ codes "ask #15 ap 1 > 2 0 type 05 size 10" ∷ [])
+unfolding report_opened
+connect_begins = refl
+
 -- held requests are answered out of order
 pub held_requests : plain_behind (setup (codes "insert 2 gpio"))
     (codes "hold 2 1"

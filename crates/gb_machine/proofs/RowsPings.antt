@@ -55,6 +55,23 @@ pub cancelled_too_late : plain_report (codes "send @x svc ping"
 unfolding report_opened
 cancelled_too_late = refl
 
+-- a ping with a payload, and a type that no request has
+pub bad_requests : plain_report (codes "send @x svc 13 00"
+    ∷ codes "send @y svc 44 -"
+    ∷ codes "settle 5" ∷ [])
+    ≡ text (codes "line 1 ok"
+    ∷ codes "ask #1 ap 0 > svc type 13 size 9"
+    ∷ codes "line 2 ok"
+    ∷ codes "ask #2 ap 0 > svc type 44 size 8"
+    ∷ codes "line 3 ok"
+    ∷ codes "reply #1 svc > ap 0 result 06 size 8"
+    ∷ codes "reply #2 svc > ap 0 result 04 size 8"
+    ∷ codes "end #1 answered 06 -"
+    ∷ codes "end #2 answered 04 -"
+    ∷ codes "settled 4" ∷ [])
+unfolding report_opened
+bad_requests = refl
+
 -- a ping times out
 pub times_out : plain_report (codes "send @x svc ping timeout 10"
     ∷ codes "tick 9"
@@ -66,21 +83,3 @@ pub times_out : plain_report (codes "send @x svc ping timeout 10"
     ∷ codes "end #1 timeout" ∷ [])
 unfolding report_opened
 times_out = refl
-
--- the state is shown
-pub shown_state : plain_report (codes "send @x svc ping"
-    ∷ codes "deliver svc"
-    ∷ codes "deliver ap 0"
-    ∷ codes "show" ∷ [])
-    ≡ text (codes "line 1 ok"
-    ∷ codes "ask #1 ap 0 > svc type 13 size 8"
-    ∷ codes "line 2 ok"
-    ∷ codes "reply #1 svc > ap 0 result 00 size 8"
-    ∷ codes "line 3 ok"
-    ∷ codes "end #1 answered 00 -"
-    ∷ codes "line 4 ok"
-    ∷ codes "now 0"
-    ∷ codes "connection 1 ap 0 svc protocol 14 open"
-    ∷ codes "name @x #1 answered 00" ∷ [])
-unfolding report_opened
-shown_state = refl

@@ -17,7 +17,7 @@ use Rattle.gb_machine.specs.Arriving.{arrives, asked_at, by_label, by_number, de
 use Rattle.gb_machine.specs.Asking.{asked, asks, asks_with}
 use Rattle.gb_machine.specs.Bus.{Ask, Bus, Connection, Item, Place, Reply, Request, connection_of, is_open, next_number, or_else, other_side, place_of, queue, request_of}
 use Rattle.gb_machine.specs.Delivery.{answered, ended, forgotten, popped, replied}
-use Rattle.gb_machine.specs.Events.{decided, step, svc_draft}
+use Rattle.gb_machine.specs.Events.{decided, does, step, svc_draft}
 use Rattle.gb_machine.specs.HostActs.{turns}
 use Rattle.gb_machine.specs.HostTurns.{ended_for}
 use Rattle.gb_machine.specs.Incoming.{incoming, reply_entry}
@@ -27,7 +27,7 @@ use Rattle.gb_machine.specs.Names.{bound}
 use Rattle.gb_machine.specs.Refusals.{deliver_refusal, empty_refusal, end_refusal, refusal, svc_refusal}
 use Rattle.gb_machine.specs.Responding.{replies, responds, responds_with, response_at, serves, serves_oneway}
 use Rattle.gb_machine.specs.Sending.{Draft, label_for, sent}
-use Rattle.gb_machine.specs.Sequences.{awaited}
+use Rattle.gb_machine.specs.Waits.{awaited}
 use Rattle.gb_machine.specs.Serving.{Answer}
 use Rattle.gb_machine.specs.State.{State}
 
@@ -51,8 +51,13 @@ not_empty [] item front = cc
 not_empty (i ∷ items) item front = refl
 
 -- what is told behind the line's answer
-abbrev behind_done : Told → Told
+abbrev pub behind_done : Told → Told
 behind_done t = told t.state (entry.Done ∷ t.entries)
+
+-- an event that isn't refused is done
+pub step-does : (s : State) (e : Event) → refusal s e ≡ None → step s e ≡ behind_done (does e s)
+unfolding machine_opened
+step-does s e h = ap (λ o. decided o e s) h
 
 -- a request is made where its connection is live and an identifier is left
 asks-made : (d : Draft) (s : State) (c : Connection) (label : ℕ)
@@ -99,7 +104,7 @@ step-done s at p item there named front =
     ∙ ap (λ o. decided o (event.Deliver at) s) (not_empty (queue p.side p.connection) item front)
 
 -- what is delivered is taken from its queue and handled
-step-handles : (s : State) (at : End) (p : Place) (item : Item)
+pub step-handles : (s : State) (at : End) (p : Place) (item : Item)
     → end_refusal s at ≡ None
     → place_of at s.bus.connections ≡ Some p
     → first (queue p.side p.connection) ≡ Some item
@@ -112,7 +117,7 @@ step-handles s at p item there named front =
     ∙ ap (λ o. behind_done (given o (λ i. on_bus (popped p.connection.number p.side) ▸ handles p.side p.connection i) s)) front
 
 -- where the end takes it, it arrives
-step-arrives : (s : State) (at : End) (p : Place) (item : Item)
+pub step-arrives : (s : State) (at : End) (p : Place) (item : Item)
     → end_refusal s at ≡ None
     → place_of at s.bus.connections ≡ Some p
     → first (queue p.side p.connection) ≡ Some item
@@ -125,6 +130,45 @@ step-arrives s at p item there named front taken =
     step-handles s at p item there named front
     ∙ ap (λ b. behind_done ((if b then arrives p.side p.connection item else tell (dropped item)) t))
     (takes-bus p.side p.connection (popped p.connection.number p.side s.bus) s ∙ taken)
+
+-- where the end doesn't take it, it is dropped
+pub step-drops : (s : State) (at : End) (p : Place) (item : Item)
+    → end_refusal s at ≡ None
+    → place_of at s.bus.connections ≡ Some p
+    → first (queue p.side p.connection) ≡ Some item
+    → takes p.side p.connection s ≡ false
+    → step s (event.Deliver at)
+    ≡ told (with_bus (popped p.connection.number p.side s.bus) s) (entry.Done ∷ dropped item ∷ [])
+unfolding machine_opened
+step-drops s at p item there named front untaken =
+    let t = with_bus (popped p.connection.number p.side s.bus) s in
+    step-handles s at p item there named front
+    ∙ ap (λ b. behind_done ((if b then arrives p.side p.connection item else tell (dropped item)) t))
+    (takes-bus p.side p.connection (popped p.connection.number p.side s.bus) s ∙ untaken)
+
+-- a request is delivered and answered, and then what its answer brings about is done
+pub step-serves : (s : State) (at : End) (p : Place) (n : ℕ) (r : Request) (a : Answer) (behind : Action)
+    → end_refusal s at ≡ None
+    → place_of at s.bus.connections ≡ Some p
+    → first (queue p.side p.connection) ≡ Some (Ask n)
+    → takes p.side p.connection s ≡ true
+    → is_held p.side p.connection s ≡ false
+    → request_of n s.bus ≡ Some r
+    → r.oneway ≡ false
+    → response_at p.side p.connection (incoming n r) (with_bus (popped p.connection.number p.side s.bus) s) ≡ responds_with a behind
+    → step s (event.Deliver at)
+    ≡ behind_done ((replies p.side p.connection (incoming n r) a ▸ behind) (with_bus (popped p.connection.number p.side s.bus) s))
+unfolding machine_opened
+step-serves s at p n r a behind there named front taken free made twoway answered =
+    let t = with_bus (popped p.connection.number p.side s.bus) s in
+    let q = incoming n r in
+    step-arrives s at p (Ask n) there named front taken
+    ∙ ap (λ o. behind_done (given o (λ (m : Request). asked_at p.side p.connection (Ask n) (incoming n m)) t)) made
+    ∙ ap (λ b. behind_done ((if b then keeps p.connection (Ask n) q else serves p.side p.connection q) t))
+    (is_held-bus p.side p.connection (popped p.connection.number p.side s.bus) s ∙ free)
+    ∙ ap (λ o. behind_done (responds p.side p.connection q o t)) answered
+    ∙ ap (λ b. behind_done ((if b then serves_oneway q (responds_with a behind)
+    else (replies p.side p.connection q a ▸ behind)) t)) twoway
 
 -- a request is delivered and answered, and nothing more comes of it
 pub step-deliver_ask : (s : State) (at : End) (p : Place) (n : ℕ) (r : Request) (a : Answer) (behind : Action)
@@ -147,19 +191,11 @@ pub step-deliver_ask : (s : State) (at : End) (p : Place) (n : ℕ) (r : Request
     (entry.Done ∷ reply_entry p.side p.connection (incoming n r) a ∷ [])
 unfolding machine_opened
 step-deliver_ask s at p n r a behind there named front taken free made twoway answered quiet =
-    let t = with_bus (popped p.connection.number p.side s.bus) s in
-    let q = incoming n r in
-    step-arrives s at p (Ask n) there named front taken
-    ∙ ap (λ o. behind_done (given o (λ (m : Request). asked_at p.side p.connection (Ask n) (incoming n m)) t)) made
-    ∙ ap (λ b. behind_done ((if b then keeps p.connection (Ask n) q else serves p.side p.connection q) t))
-    (is_held-bus p.side p.connection (popped p.connection.number p.side s.bus) s ∙ free)
-    ∙ ap (λ o. behind_done (responds p.side p.connection q o t)) answered
-    ∙ ap (λ b. behind_done ((if b then serves_oneway q (responds_with a behind)
-    else (replies p.side p.connection q a ▸ behind)) t)) twoway
-    ∙ ap (λ (w : Told). told w.state (entry.Done ∷ reply_entry p.side p.connection q a ∷ w.entries)) quiet
+    step-serves s at p n r a behind there named front taken free made twoway answered
+    ∙ ap (λ (w : Told). told w.state (entry.Done ∷ reply_entry p.side p.connection (incoming n r) a ∷ w.entries)) quiet
 
 -- on a clean connection an answer is taken by its number
-step-by_number : (s : State) (at : End) (p : Place) (n result : ℕ) (payload : List ℕ)
+pub step-by_number : (s : State) (at : End) (p : Place) (n result : ℕ) (payload : List ℕ)
     → end_refusal s at ≡ None
     → place_of at s.bus.connections ≡ Some p
     → first (queue p.side p.connection) ≡ Some (Reply n result payload)

@@ -13,13 +13,14 @@ use Rattle.gb_machine.specs.HostTurns.{host_turn}
 use Rattle.gb_machine.specs.Labels.{next_label}
 use Rattle.gb_machine.specs.Sending.{Draft, draft}
 use Rattle.gb_machine.specs.SequenceSteps.{Purpose, is_for_connection}
-use Rattle.gb_machine.specs.Sequences.{awaits, unsent}
+use Rattle.gb_machine.specs.Failures.{unsent}
+use Rattle.gb_machine.specs.Waits.{awaits}
 use Rattle.gb_machine.specs.State.{State}
 use Rattle.gb_machine.specs.Turns.{Act, Asking, Failing, HostEvent, Making, Turn}
 use Rattle.gb_machine.specs.Wires.{shuts}
 use Rattle.gb_machine.specs.Wiring.{attached, detached, next_connection}
 
--- what fails is changed and told
+-- Something fails: the application processor changes, and it is told.
 unfoldable pub fails : (Host → Failing) → Action
 fails f = by_state (λ s.
     let failed = f s.host in
@@ -59,8 +60,7 @@ host_asks q = by_state (λ s. asked_with (next_label q.on side.Ap s.bus) q)
 abbrev pub with_made : Making → State → State
 with_made m s = record s {
   bus = attached m.ap m.intf m.cport m.protocol s.bus;
-  host =
-      with_new_link (next_connection s.bus) m.ap m.intf m.cport m.protocol s.host;
+  host = with_new_link (next_connection s.bus) m.ap m.intf m.cport m.protocol s.host;
 }
 
 -- A connection is made, and then the request for it; neither is where no identifier is left.

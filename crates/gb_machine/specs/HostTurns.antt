@@ -9,7 +9,9 @@ use Rattle.gb_formats.specs.Manifest.{CportView}
 use Rattle.gb_machine.specs.Host.{Host, Link, cport_of, free_cport, in_state, interface_of, is_intf, link_at, with_link, with_new_interface}
 use Rattle.gb_machine.specs.Lists.{without}
 use Rattle.gb_machine.specs.SequenceSteps.{Purpose, SequenceStep, purpose}
-use Rattle.gb_machine.specs.Sequences.{awaited, awaits_nothing, link_told, opens, payload_in, step_answered, step_asked}
+use Rattle.gb_machine.specs.Failures.{link_told}
+use Rattle.gb_machine.specs.Sequences.{opens, payload_in, step_answered, step_asked}
+use Rattle.gb_machine.specs.Waits.{awaited, awaits_nothing}
 use Rattle.gb_machine.specs.Turns.{Act, HostEvent, Turn, telling, turn}
 
 -- The enumeration of an interface begins.

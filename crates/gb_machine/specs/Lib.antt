@@ -4,6 +4,7 @@ pub mod Asking
 pub mod Bus
 pub mod Delivery
 pub mod Events
+pub mod Failures
 pub mod GivingUp
 pub mod Holding
 pub mod Host
@@ -43,5 +44,6 @@ pub mod SvcQueues
 pub mod SvcTable
 pub mod Turns
 pub mod Waiting
+pub mod Waits
 pub mod Wires
 pub mod Wiring

@@ -33,11 +33,11 @@ longest_message = 2048
 abbrev pub longest_manifest : ℕ
 longest_manifest = 2040
 
--- an identifier is left on the application processor's side of a connection, or not
+-- no identifier is left on the application processor's side of a connection
 abbrev pub has_no_label : ℕ → State → Bool
 has_no_label k s = is_none (next_label k side.Ap s.bus)
 
--- an identifier is left to the supervisory controller, or not
+-- no identifier is left to the supervisory controller
 abbrev pub svc_has_no_label : State → Bool
 svc_has_no_label s = is_none (next_label 1 side.Far s.bus)
 

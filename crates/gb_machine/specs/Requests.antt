@@ -7,7 +7,7 @@ use Rattle.gb_base.specs.declared.outcome.Outcome.{Outcome}
 use Rattle.gb_machine.specs.Bus.{Bus, Request, outcome_of, request_of}
 use Rattle.gb_machine.specs.Lists.{first}
 
--- whether two sides are one
+-- two sides are one
 abbrev pub same_side : Side → Side → Bool
 same_side side.Ap side.Ap = true
 same_side side.Far side.Far = true

@@ -1,9 +1,8 @@
 -- The sequences of the application processor: enumerating an interface, connecting a CPort and
 -- closing a connection. Each step is asked when the one before was answered with success.
-use Rattle.std.specs.Prelude.{ℕ, ◌==◌, true, if◌then◌else◌, Option, Some, None, unwrap_or, Result, Ok, Err, List, [], ◌∷◌, ◌++◌, length}
+use Rattle.std.specs.Prelude.{ℕ, ◌==◌, true, if◌then◌else◌, Option, Some, None, unwrap_or, Result, Ok, Err, List, [], ◌∷◌, length}
 use Rattle.gb_base.specs.declared.entry.ConnState.{ConnState}
 use Rattle.gb_base.specs.declared.entry.ConnState.TheVariants as state
-use Rattle.gb_base.specs.declared.entry.Entry.{Entry}
 use Rattle.gb_base.specs.declared.entry.Entry.TheVariants as entry
 use Rattle.gb_base.specs.declared.entry.IntfStage.TheVariants as stage
 use Rattle.gb_base.specs.declared.outcome.Outcome.{Outcome}
@@ -12,70 +11,10 @@ use Rattle.gb_formats.specs.ControlRecords.{ControlReply, read_control_reply}
 use Rattle.gb_formats.specs.Manifest.{Manifest, check_answer}
 use Rattle.gb_formats.specs.ManifestRules.{Refused}
 use Rattle.gb_formats.specs.Records.{PayloadFault}
-use Rattle.gb_machine.specs.Bus.{or_else}
-use Rattle.gb_machine.specs.Host.{Host, Interface, Link, control_of, free_cport, free_device, in_state, interface_of, link_at, staged, with_interface, with_link, without_link}
-use Rattle.gb_machine.specs.SequenceSteps.{Purpose, SequenceStep, Target, asks_control, at_step, is_enumeration, is_reply, kind_of, payload_of, purpose}
-use Rattle.gb_machine.specs.Turns.{Act, Asking, Failing, Making, Turn, failed_turn, failing, telling, turn}
-
--- ---- what is told
-
--- a connection has a state
-abbrev pub link_told : ConnState → Link → Entry
-link_told to l = entry.Connection l.connection l.ap l.intf l.cport to
-
--- what is told of a connection, where there is one
-abbrev pub told_of : ConnState → Option Link → List Entry
-told_of to None = []
-told_of to (Some l) = link_told to l ∷ []
-
--- ---- failures
-
--- The connection of a step fails.
-abbrev pub link_fails : Purpose → Host → Failing
-link_fails p h =
-    failing (with_link p.intf p.cport (in_state state.Failed) h)
-    (told_of state.Failed (link_at p.intf p.cport h))
-
--- The interface of a step fails.
-abbrev pub interface_fails : Purpose → Host → Failing
-interface_fails p h =
-    failing (with_interface p.intf (staged stage.Failed) h)
-    (entry.Interface p.intf stage.Failed ∷ [])
-
--- The Control connection fails, and then its interface.
-abbrev pub control_fails : Purpose → Host → Failing
-control_fails p h =
-    let link = link_fails p h in
-    let interface = interface_fails p link.host in
-    failing interface.host (link.told ++ interface.told)
-
--- What fails where a step isn't answered as it should be: its connection in a connect or close, the
--- interface in an enumeration, and both where the Control connection was to be created.
-abbrev pub step_fails : SequenceStep → Purpose → Host → Failing
-step_fails SequenceStep.CreateControl p h = control_fails p h
-step_fails SequenceStep.CreateConnection p h = link_fails p h
-step_fails SequenceStep.TellConnected p h = link_fails p h
-step_fails SequenceStep.TellDisconnecting p h = link_fails p h
-step_fails SequenceStep.TellDisconnected p h = link_fails p h
-step_fails SequenceStep.DestroyConnection p h = link_fails p h
-step_fails _ p h = interface_fails p h
-
--- an interface is to have no device id
-abbrev pub without_device : Interface → Interface
-without_device x = record x { device = None }
-
--- What fails where a step's request can't be made, since no identifier is left. No connection was
--- made then, and no device id is taken.
-abbrev pub unsent_fails : SequenceStep → Purpose → Host → Failing
-unsent_fails SequenceStep.CreateControl p h = interface_fails p h
-unsent_fails SequenceStep.CreateConnection p h = failing h []
-unsent_fails SequenceStep.GiveDevice p h =
-    interface_fails p (with_interface p.intf without_device h)
-unsent_fails step p h = step_fails step p h
-
--- No identifier was left for the request of a purpose.
-abbrev pub unsent : Purpose → Host → Failing
-unsent p h = unsent_fails p.step p h
+use Rattle.gb_machine.specs.Host.{Host, Interface, Link, control_of, free_cport, free_device, in_state, interface_of, link_at, with_interface, with_link, without_link}
+use Rattle.gb_machine.specs.SequenceSteps.{Purpose, SequenceStep, Target, asks_control, at_step, is_reply, kind_of, payload_of}
+use Rattle.gb_machine.specs.Turns.{Act, Asking, Making, Turn, failed_turn, telling, turn}
+use Rattle.gb_machine.specs.Failures.{interface_fails, link_told, step_fails}
 
 -- ---- asking
 
@@ -261,38 +200,3 @@ step_answered None p h = failed_turn (step_fails p.step p h)
 step_answered (Some payload) p h =
     if is_reply p.step payload then step_done p.step p payload h
     else failed_turn (step_fails p.step p h)
-
--- ---- what the sequences wait for
-
--- the purpose of request n, where an interface or a connection waits for it
-abbrev pub purpose_in : ℕ → ℕ → ℕ → Option (ℕ × SequenceStep) → Option Purpose
-purpose_in n i c None = None
-purpose_in n i c (Some w) = if w.0 == n then Some (purpose i c w.1) else None
-
--- the purpose of request n among interfaces
-abbrev pub interface_waits : ℕ → List Interface → Option Purpose
-interface_waits n [] = None
-interface_waits n (x ∷ xs) = or_else (purpose_in n x.intf 0 x.awaits) (interface_waits n xs)
-
--- the purpose of request n among connections
-abbrev pub link_waits : ℕ → List Link → Option Purpose
-link_waits n [] = None
-link_waits n (l ∷ ls) = or_else (purpose_in n l.intf l.cport l.awaits) (link_waits n ls)
-
--- What request n is for, where a sequence waits for it.
-abbrev pub awaited : ℕ → Host → Option Purpose
-awaited n h = or_else (interface_waits n h.interfaces) (link_waits n h.links)
-
--- a sequence waits for this
-abbrev pub waiting : Option (ℕ × SequenceStep) → Purpose → Host → Host
-waiting w p h =
-    if is_enumeration p.step then with_interface p.intf (λ x. record x { awaits = w }) h
-    else with_link p.intf p.cport (λ l. record l { awaits = w }) h
-
--- The sequence of a purpose waits for request n.
-abbrev pub awaits : Purpose → ℕ → Host → Host
-awaits p n h = waiting (Some (n, p.step)) p h
-
--- The sequence of a purpose waits for nothing.
-abbrev pub awaits_nothing : Purpose → Host → Host
-awaits_nothing p h = waiting None p h

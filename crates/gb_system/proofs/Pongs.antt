@@ -29,7 +29,7 @@ use Rattle.gb_machine.specs.Host.{link_of}
 use Rattle.gb_machine.specs.Incoming.{incoming, reply_entry}
 use Rattle.gb_machine.specs.Refusals.{deliver_refusal, empty_refusal, end_refusal, plug_refusal, refusal}
 use Rattle.gb_machine.specs.Responding.{responds_with, response_at, svc_response, svc_stepped, with_ports}
-use Rattle.gb_machine.specs.Sequences.{awaited}
+use Rattle.gb_machine.specs.Waits.{awaited}
 use Rattle.gb_machine.specs.SvcTable.{svc_step}
 use Rattle.gb_machine.specs.Sending.{put}
 use Rattle.gb_machine.specs.Serving.{Answer, plainly, success}

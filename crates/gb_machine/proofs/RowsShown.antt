@@ -2,6 +2,24 @@
 use Rattle.std.proofs.Common.{◌≡◌, [], ◌∷◌, ◌++◌, codes, refl}
 use Rattle.gb_machine.proofs.Scripts.{plain_behind, plain_report, report_opened, setup, text}
 
+-- the state after a ping is shown
+pub shown_state : plain_report (codes "send @x svc ping"
+    ∷ codes "deliver svc"
+    ∷ codes "deliver ap 0"
+    ∷ codes "show" ∷ [])
+    ≡ text (codes "line 1 ok"
+    ∷ codes "ask #1 ap 0 > svc type 13 size 8"
+    ∷ codes "line 2 ok"
+    ∷ codes "reply #1 svc > ap 0 result 00 size 8"
+    ∷ codes "line 3 ok"
+    ∷ codes "end #1 answered 00 -"
+    ∷ codes "line 4 ok"
+    ∷ codes "now 0"
+    ∷ codes "connection 1 ap 0 svc protocol 14 open"
+    ∷ codes "name @x #1 answered 00" ∷ [])
+unfolding report_opened
+shown_state = refl
+
 -- a second name for a request
 pub second_name : plain_report (codes "send @x svc ping"
     ∷ codes "copy @x @y"
@@ -17,41 +35,6 @@ pub second_name : plain_report (codes "send @x svc ping"
     ∷ codes "line 5 refused NoName" ∷ [])
 unfolding report_opened
 second_name = refl
-
--- a ping with a payload, and a type that no request has
-pub bad_requests : plain_report (codes "send @x svc 13 00"
-    ∷ codes "send @y svc 44 -"
-    ∷ codes "settle 5" ∷ [])
-    ≡ text (codes "line 1 ok"
-    ∷ codes "ask #1 ap 0 > svc type 13 size 9"
-    ∷ codes "line 2 ok"
-    ∷ codes "ask #2 ap 0 > svc type 44 size 8"
-    ∷ codes "line 3 ok"
-    ∷ codes "reply #1 svc > ap 0 result 06 size 8"
-    ∷ codes "reply #2 svc > ap 0 result 04 size 8"
-    ∷ codes "end #1 answered 06 -"
-    ∷ codes "end #2 answered 04 -"
-    ∷ codes "settled 4" ∷ [])
-unfolding report_opened
-bad_requests = refl
-
--- a connect begins
-pub connect_begins : plain_behind (codes "insert 2 gpio"
-    ∷ codes "boot"
-    ∷ codes "settle 40" ∷ [])
-    (codes "connect 2 1"
-    ∷ codes "deliver svc"
-    ∷ codes "deliver ap 0" ∷ [])
-    ≡ text (codes "line 4 ok"
-    ∷ codes "connection 3 ap 2 2 1 opening"
-    ∷ codes "ask #14 ap 0 > svc type 07 size 16"
-    ∷ codes "line 5 ok"
-    ∷ codes "reply #14 svc > ap 0 result 00 size 8"
-    ∷ codes "line 6 ok"
-    ∷ codes "end #14 answered 00 -"
-    ∷ codes "ask #15 ap 1 > 2 0 type 05 size 10" ∷ [])
-unfolding report_opened
-connect_begins = refl
 
 -- interfaces, connections, queues and names are shown
 pub shown_parts : plain_behind (setup (codes "insert 2 gpio")
