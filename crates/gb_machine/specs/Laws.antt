@@ -1,5 +1,6 @@
 -- The laws of runs, together.
 use Rattle.gb_machine.specs.LawsBus.{EndpointsDiffer, LabelsDiffer, OneItemANumber, RepliesAreAwaited}
+use Rattle.gb_machine.specs.LawsCredits.{CreditsAddUp}
 use Rattle.gb_machine.specs.LawsEnds.{AnsweredByItsResponder, EndsAtMostOnce, EveryEndHasItsCause}
 use Rattle.gb_machine.specs.LawsHotPlug.{NoForeignMessage, NothingLeftAfterRemoval, WiredAtMostOnce}
 use Rattle.gb_machine.specs.LawsSvc.{AwaitedIsTheLast, OneEnumerationRequestThenRestarts, QuietBeforeRemoval, RemovalLeavesNothingWired, StaleRequestsMeetLowLevel, WiredMeansRouted}
@@ -14,6 +15,7 @@ pub record LawsOfRuns : Type 0 where
   pub left : NothingLeftAfterRemoval
   pub own : NoForeignMessage
   pub wired : WiredAtMostOnce
+  pub credits : CreditsAddUp
 
 -- What holds of every state of a run, and is used to prove the laws and the system.
 pub record FactsOfRuns : Type 0 where

@@ -16,6 +16,7 @@ pub mod Incoming
 pub mod Labels
 pub mod Laws
 pub mod LawsBus
+pub mod LawsCredits
 pub mod LawsEnds
 pub mod LawsHotPlug
 pub mod LawsSvc

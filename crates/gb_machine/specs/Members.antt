@@ -20,3 +20,8 @@ EachTwo R (x ∷ xs) = Each (R x) xs × EachTwo R xs
 abbrev pub times : {A : Type 0} → (A → Bool) → List A → ℕ
 times test [] = 0
 times test (x ∷ xs) = if test x then times test xs + 1 else times test xs
+
+-- The sum of a number of each member.
+abbrev pub total : {A : Type 0} → (A → ℕ) → List A → ℕ
+total number [] = 0
+total number (x ∷ xs) = number x + total number xs

@@ -59,6 +59,17 @@ after m = (step m.before m.event).state
 abbrev pub told_at : Moment → List Entry
 told_at m = (step m.before m.event).entries
 
+-- the moments of a run, from a state on
+abbrev pub moments_from : List Entry → State → List Event → List Moment
+moments_from told s [] = []
+moments_from told s (e ∷ es) =
+    record { told = told; before = s; event = e }
+    ∷ moments_from (told ++ (step s e).entries) (step s e).state es
+
+-- The moments of a run.
+abbrev pub moments : List Event → List Moment
+moments es = moments_from [] first_state es
+
 -- A law of what was told and of the state holds after every run of moments.
 abbrev pub HoldsThroughout : (List Entry → State → Type 0) → Type 0
 HoldsThroughout Law = (es : List Event) → AreMoments es → Law (told_by es) (state_by es)
