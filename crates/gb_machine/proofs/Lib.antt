@@ -1,3 +1,5 @@
+pub mod Exploration
+pub mod HotPlugTests
 pub mod Lists
 pub mod Opened
 pub mod RowsClosing

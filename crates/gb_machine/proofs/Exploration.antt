@@ -1,0 +1,80 @@
+-- Exploration: the facts on hot-plug hold in all states that a few events lead to, from a few
+-- states.
+use Rattle.std.proofs.Common.{◌≡◌, ℕ, zero, suc, Bool, true, false, ◌&&◌, List, [], ◌∷◌, codes, refl}
+use Rattle.std.specs.List.{list_all}
+use Rattle.gb_base.specs.declared.end.End.TheVariants as end
+use Rattle.gb_base.specs.declared.event.Event.{Event}
+use Rattle.gb_base.specs.declared.event.Event.TheVariants as event
+use Rattle.gb_base.specs.declared.event.Kind.TheVariants as kind
+use Rattle.gb_machine.proofs.HotPlugTests.{facts_hold, removal_leaves}
+use Rattle.gb_machine.proofs.Scripts.{after, report_opened, setup}
+use Rattle.gb_machine.specs.Events.{step}
+use Rattle.gb_machine.specs.State.{State, first_state}
+
+-- a test holds of a state, and of all states that at most so many of these events lead to from it
+unfoldable pub holds_behind : ℕ → List Event → (State → Bool) → State → Bool
+holds_behind zero es test s = test s
+holds_behind (suc more) es test s =
+    test s && list_all (λ e. holds_behind more es test (step s e).state) es
+
+-- a module is pulled and plugged again, and the front messages are delivered
+abbrev pub hot_plug : List Event
+hot_plug =
+    event.Pull 2 ∷ event.Insert 2 kind.Gpio ∷ event.Deliver end.Svc ∷ event.Deliver (end.Ap 0)
+    ∷ event.Deliver (end.Module 2 0) ∷ []
+
+-- the same, and a CPort is connected and disconnected
+abbrev pub with_connects : List Event
+with_connects = event.Connect 2 1 ∷ event.Disconnect 2 1 ∷ hot_plug
+
+-- the state after these lines
+abbrev pub from : List (List ℕ) → State
+from = after first_state
+
+-- ---- the facts hold
+
+-- where a module was plugged
+pub plugged : holds_behind 5 hot_plug (facts_hold 2)
+    (from (codes "insert 2 gpio" ∷ codes "boot" ∷ [])) ≡ true
+unfolding report_opened holds_behind
+plugged = refl
+
+-- where its enumeration begins
+pub beginning : holds_behind 5 hot_plug (facts_hold 2)
+    (from (codes "insert 2 gpio" ∷ codes "boot" ∷ codes "settle 6" ∷ [])) ≡ true
+unfolding report_opened holds_behind
+beginning = refl
+
+-- where its enumeration is under way
+pub enumerating : holds_behind 4 hot_plug (facts_hold 2)
+    (from (codes "insert 2 gpio" ∷ codes "boot" ∷ codes "settle 12" ∷ [])) ≡ true
+unfolding report_opened holds_behind
+enumerating = refl
+
+-- where it waits for the manifest
+pub waiting_for_manifest : holds_behind 4 hot_plug (facts_hold 2)
+    (from (codes "insert 2 gpio" ∷ codes "boot" ∷ codes "settle 24" ∷ [])) ≡ true
+unfolding report_opened holds_behind
+waiting_for_manifest = refl
+
+-- where a connection is open
+pub connected : holds_behind 4 with_connects (facts_hold 2)
+    (from (setup (codes "insert 2 gpio"))) ≡ true
+unfolding report_opened holds_behind
+connected = refl
+
+-- where a connection is being made while its module is pulled
+pub pulled_while_connecting : holds_behind 4 with_connects (facts_hold 2)
+    (from (codes "insert 2 gpio" ∷ codes "boot" ∷ codes "settle 40" ∷ codes "connect 2 1"
+    ∷ codes "pull 2" ∷ [])) ≡ true
+unfolding report_opened holds_behind
+pulled_while_connecting = refl
+
+-- ---- a wrong fact is found
+
+-- The power level isn't 0 whenever a removal waits: it is 1 where the supervisory controller served
+-- an old start of an enumeration behind it.
+pub level_1_is_found : holds_behind 4 hot_plug (removal_leaves 2 0)
+    (from (codes "insert 2 gpio" ∷ codes "boot" ∷ codes "settle 6" ∷ [])) ≡ false
+unfolding report_opened holds_behind
+level_1_is_found = refl
