@@ -1,12 +1,12 @@
 -- Exploration: the facts on hot-plug hold in all states that a few events lead to, from a few
 -- states.
-use Rattle.std.proofs.Common.{◌≡◌, ℕ, zero, suc, Bool, true, false, ◌&&◌, List, [], ◌∷◌, codes, refl}
+use Rattle.std.proofs.Common.{◌≡◌, ℕ, zero, suc, Bool, true, false, ◌&&◌, List, [], ◌∷◌, ◌++◌, codes, refl}
 use Rattle.std.specs.List.{list_all}
 use Rattle.gb_base.specs.declared.end.End.TheVariants as end
 use Rattle.gb_base.specs.declared.event.Event.{Event}
 use Rattle.gb_base.specs.declared.event.Event.TheVariants as event
 use Rattle.gb_base.specs.declared.event.Kind.TheVariants as kind
-use Rattle.gb_machine.proofs.HotPlugTests.{facts_hold, removal_leaves}
+use Rattle.gb_machine.proofs.HotPlugTests.{facts_hold, removal_leaves, stale_is_below}
 use Rattle.gb_machine.proofs.Scripts.{after, report_opened, setup}
 use Rattle.gb_machine.specs.Events.{step}
 use Rattle.gb_machine.specs.State.{State, first_state}
@@ -23,7 +23,11 @@ hot_plug =
     event.Pull 2 ∷ event.Insert 2 kind.Gpio ∷ event.Deliver end.Svc ∷ event.Deliver (end.Ap 0)
     ∷ event.Deliver (end.Module 2 0) ∷ []
 
--- the same, and a CPort is connected and disconnected
+-- the same, and what comes from the module's Control, and time passes
+abbrev pub with_control : List Event
+with_control = event.Deliver (end.Ap 1) ∷ event.Tick 1000 ∷ hot_plug
+
+-- the same as the first, and a CPort is connected and disconnected
 abbrev pub with_connects : List Event
 with_connects = event.Connect 2 1 ∷ event.Disconnect 2 1 ∷ hot_plug
 
@@ -52,10 +56,19 @@ unfolding report_opened holds_behind
 enumerating = refl
 
 -- where it waits for the manifest
-pub waiting_for_manifest : holds_behind 4 hot_plug (facts_hold 2)
+pub waiting_for_manifest : holds_behind 4 with_control (facts_hold 2)
     (from (codes "insert 2 gpio" ∷ codes "boot" ∷ codes "settle 24" ∷ [])) ≡ true
 unfolding report_opened holds_behind
 waiting_for_manifest = refl
+
+-- the script of a connection that is being closed, whose last request waits
+abbrev pub closing : List (List ℕ)
+closing = setup (codes "insert 2 gpio") ++ codes "disconnect 2 1" ∷ codes "settle 4" ∷ []
+
+-- where the request that destroys a connection waits
+pub closing_holds : holds_behind 4 with_control (facts_hold 2) (from closing) ≡ true
+unfolding report_opened holds_behind
+closing_holds = refl
 
 -- where a connection is open
 pub connected : holds_behind 4 with_connects (facts_hold 2)
@@ -70,7 +83,7 @@ pub pulled_while_connecting : holds_behind 4 with_connects (facts_hold 2)
 unfolding report_opened holds_behind
 pulled_while_connecting = refl
 
--- ---- a wrong fact is found
+-- ---- wrong facts are found
 
 -- The power level isn't 0 whenever a removal waits: it is 1 where the supervisory controller served
 -- an old start of an enumeration behind it.
@@ -78,3 +91,8 @@ pub level_1_is_found : holds_behind 4 hot_plug (removal_leaves 2 0)
     (from (codes "insert 2 gpio" ∷ codes "boot" ∷ codes "settle 6" ∷ [])) ≡ false
 unfolding report_opened holds_behind
 level_1_is_found = refl
+
+-- Requests for connections that are gone do wait.
+pub stale_is_found : holds_behind 4 hot_plug (stale_is_below 2 0) (from closing) ≡ false
+unfolding report_opened holds_behind
+stale_is_found = refl

@@ -127,17 +127,16 @@ abbrev is_for : ℕ → Option Request → Bool
 is_for i None = false
 is_for i (Some r) = is_for_link i r
 
--- a request that waits is for a connection of this number, which is gone, of an interface that is
--- routed
+-- a request that waits is for a connection of an interface that is gone
 abbrev is_stale : ℕ → State → ℕ × ℕ → Bool
 is_stale i s made =
     list_any (is_ask made.0) (svc_items side.Far s.bus)
-    && not (is_some (connection_of made.1 s.bus))
-    && is_for i (request_of made.0 s.bus) && not (nat_lt (level_of i s.ports) 6)
+    && not (is_some (connection_of made.1 s.bus)) && is_for i (request_of made.0 s.bus)
 
--- none is
-abbrev pub none_is_stale : ℕ → State → Bool
-none_is_stale i s = list_all (λ made. not (is_stale i s made)) s.past.made_for
+-- the level is below this while such a request waits
+abbrev pub stale_is_below : ℕ → ℕ → State → Bool
+stale_is_below i level s =
+    nat_lt (level_of i s.ports) level || list_all (λ made. not (is_stale i s made)) s.past.made_for
 
 -- ---- all facts
 
@@ -145,4 +144,4 @@ none_is_stale i s = list_all (λ made. not (is_stale i s made)) s.past.made_for
 abbrev pub facts_hold : ℕ → State → Bool
 facts_hold i s =
     are_routed s && removal_leaves i 1 s && removal_unwires i s && is_quiet i s
-    && restarts_alone i s && awaited_is_last i s && none_is_stale i s
+    && restarts_alone i s && awaited_is_last i s && stale_is_below i 6 s

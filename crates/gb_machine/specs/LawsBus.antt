@@ -1,6 +1,8 @@
 -- Facts of every state of a run: identifiers, items, replies and ends.
 use Rattle.std.specs.Prelude.{◌≡◌, ◌≢◌, ◌≤◌, ℕ, ◌==◌, Bool, true, false, ◌||◌, Some, List, ◌++◌, map}
 use Rattle.gb_base.specs.declared.entry.Entry.{Entry}
+use Rattle.gb_base.specs.declared.end.Side.TheVariants as side
+use Rattle.gb_machine.specs.Arriving.{takes}
 use Rattle.gb_machine.specs.Bus.{Ask, Bus, Connection, Item, Reply, Request, is_open, request_of, same_end}
 use Rattle.gb_machine.specs.Holding.{held_on}
 use Rattle.gb_machine.specs.Labels.{greatest_label}
@@ -41,7 +43,8 @@ is_item_of n _ = false
 abbrev pub items_of : Connection → State → List Item
 items_of c s = c.to_ap ++ (c.to_far ++ map (λ (h : Held). h.item) (held_on c.number s.held))
 
--- Each number stands at most once in what waits and is held on a clean connection.
+-- Each number stands at most once in what waits and is held on a clean connection. That it is one
+-- of this connection, and toward the right side, is said of all items by `HaveOwnItems`.
 abbrev pub HaveOneItem : List Entry → State → Type 0
 HaveOneItem told s =
     Each (λ c. c.clean ≡ true → (n : ℕ) → times (is_item_of n) (items_of c s) ≤ 1)
@@ -59,14 +62,15 @@ IsAwaited b (Reply n result payload) = is_awaited n b ≡ true
 IsAwaited b _ = Unit {0}
 
 -- The replies that wait on a clean connection are awaited, but for those toward the application
--- processor where its side is closed.
-pub record AreAwaited (b : Bus) (c : Connection) : Type 0 where
-  pub to_ap : c.clean ≡ true → c.shut ≡ false → Each (IsAwaited b) c.to_ap
-  pub to_far : c.clean ≡ true → Each (IsAwaited b) c.to_far
+-- processor where its side is closed, and that side takes nothing.
+pub record AreAwaited (s : State) (c : Connection) : Type 0 where
+  pub to_ap : c.clean ≡ true → c.shut ≡ false → Each (IsAwaited s.bus) c.to_ap
+  pub to_far : c.clean ≡ true → Each (IsAwaited s.bus) c.to_far
+  pub shut : c.shut ≡ true → takes side.Ap c s ≡ false
 
 -- the replies that wait on each connection are awaited
 abbrev pub HaveAwaited : List Entry → State → Type 0
-HaveAwaited told s = Each (AreAwaited s.bus) s.bus.connections
+HaveAwaited told s = Each (AreAwaited s) s.bus.connections
 
 -- On a clean connection a reply that waits is awaited, in every state of a run.
 abbrev pub RepliesAreAwaited : Type 0

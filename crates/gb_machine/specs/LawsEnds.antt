@@ -1,6 +1,6 @@
 -- Laws of runs: each request ends at most once, by an answer of its own responder or by a cause
 -- that came.
-use Rattle.std.specs.Prelude.{◌≡◌, ◌≢◌, ◌≤◌, ◌⊎◌, ℕ, ◌==◌, Bool, true, false, Some, List}
+use Rattle.std.specs.Prelude.{◌≡◌, ◌≢◌, ◌≤◌, ◌⊎◌, ℕ, ◌==◌, Bool, true, false, is_some, Some, List}
 use Rattle.gb_base.specs.declared.bridge.Reading.{Reading}
 use Rattle.gb_base.specs.declared.end.Side.{Side}
 use Rattle.gb_base.specs.declared.end.Side.TheVariants as side
@@ -45,6 +45,22 @@ pub record EndOnce (told : List Entry) (s : State) : Type 0 where
 abbrev pub EndsAtMostOnce : Type 0
 EndsAtMostOnce = HoldsThroughout EndOnce
 
+-- ---- ends are told
+
+-- An outcome was told as the end of its request, but for that of a unidirectional one, which has it
+-- from the first. What was told is the outcome, of a request that was made.
+pub record EndsTold (told : List Entry) (s : State) : Type 0 where
+  pub said : (n : ℕ) (how : Outcome) → IsIn (n, how) s.bus.outcomes → how ≢ outcome.Sent
+      → (read : Reading) × IsIn (entry.Ended n how read) told
+  pub kept : (n : ℕ) (how : Outcome) (read : Reading)
+      → IsIn (entry.Ended n how read) told → IsIn (n, how) s.bus.outcomes
+  pub made : (n : ℕ) (how : Outcome)
+      → IsIn (n, how) s.bus.outcomes → is_some (request_of n s.bus) ≡ true
+
+-- What is told of ends is what the outcomes are, in every run.
+abbrev pub EndsAreTold : Type 0
+EndsAreTold = HoldsThroughout EndsTold
+
 -- ---- answered by its own responder
 
 -- The reply to request n was told: it came from that end of the request's own connection which
@@ -56,16 +72,15 @@ pub record WasReplied (told : List Entry) (c : Connection) (n : ℕ) (r : Reques
       (message_size sent) (spelling (response r.label r.kind result sent))) told
   pub same : result ≡ 0 → sent ≡ payload
 
--- A request that ends as answered at a moment, while its connection is clean, had its reply told
--- before.
+-- A request that ends as answered at a moment does so on its live connection, and where that is
+-- clean its reply was told before.
 abbrev pub HadItsReply : Moment → Type 0
 HadItsReply m =
-    (n result : ℕ) (payload : List ℕ) (read : Reading) (r : Request) (c : Connection)
+    (n result : ℕ) (payload : List ℕ) (read : Reading) (r : Request)
     → IsIn (entry.Ended n (outcome.Answered result payload) read) (told_at m)
     → request_of n (after m).bus ≡ Some r
-    → connection_of r.connection m.before.bus ≡ Some c
-    → c.clean ≡ true
-    → WasReplied m.told c n r result payload
+    → (c : Connection) × (connection_of r.connection m.before.bus ≡ Some c)
+    × (c.clean ≡ true → WasReplied m.told c n r result payload)
 
 -- On a clean connection a request is answered by what its own responder replied, at every moment.
 abbrev pub AnsweredByItsResponder : Type 0
@@ -104,7 +119,7 @@ abbrev pub IsDisconnection : Moment → Side → ℕ → Type 0
 IsDisconnection m side.Ap k = IsDisconnect m k ⊎ IsRemovalOf m k
 IsDisconnection m side.Far k = IsUnwiring m k
 
--- Each end that is told at a moment has its cause there.
+-- Each end by cancelling, timeout or disconnection that is told at a moment has its cause there.
 pub record HasItsCause (m : Moment) : Type 0 where
   pub cancelled : (n : ℕ) (read : Reading)
       → IsIn (entry.Ended n outcome.Cancelled read) (told_at m) → IsCancel m n

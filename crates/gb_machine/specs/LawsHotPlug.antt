@@ -1,15 +1,17 @@
 -- Laws of runs: what stands once a module was removed, whose messages are handled, and when a
 -- connection is wired.
-use Rattle.std.specs.Prelude.{◌≡◌, ◌≤◌, ◌≢◌, ℕ, ◌==◌, true, false, is_some, Some, None, List, length}
+use Rattle.std.specs.Prelude.{◌≡◌, ◌≤◌, ◌≢◌, ℕ, ◌==◌, true, false, if◌then◌else◌, is_some, Some, None, Ok, List, [], ◌∷◌, length}
 use Rattle.gb_base.specs.declared.end.End.{End}
 use Rattle.gb_base.specs.declared.end.End.TheVariants as end
 use Rattle.gb_base.specs.declared.end.Side.{Side}
 use Rattle.gb_base.specs.declared.end.Side.TheVariants as side
 use Rattle.gb_base.specs.declared.entry.ConnState.{ConnState}
+use Rattle.gb_base.specs.declared.entry.ConnState.TheVariants as state
 use Rattle.gb_base.specs.declared.entry.Entry.{Entry}
 use Rattle.gb_base.specs.declared.entry.Entry.TheVariants as entry
 use Rattle.gb_base.specs.declared.event.Event.TheVariants as event
 use Rattle.gb_formats.specs.Message.{message_size, response, spelling}
+use Rattle.gb_formats.specs.SvcRecords.{SvcAsk, read_svc_ask}
 use Rattle.gb_machine.specs.Bus.{Ask, Bus, Connection, Item, Place, Raw, RawReply, Reply, Request, connection_of, end_of, is_open, other_side, place_of, queue, request_of}
 use Rattle.gb_machine.specs.Holding.{held_on}
 use Rattle.gb_machine.specs.Host.{interface_of}
@@ -21,7 +23,7 @@ use Rattle.gb_machine.specs.Refusals.{refusal}
 use Rattle.gb_machine.specs.Runs.{HoldsAtEachMoment, HoldsThroughout, Moment, after}
 use Rattle.gb_machine.specs.Sending.{is_wired}
 use Rattle.gb_machine.specs.State.{Held, State}
-use Rattle.gb_machine.specs.SvcQueues.{HandlesInsertion, HandlesRemoval, is_creation, svc_items}
+use Rattle.gb_machine.specs.SvcQueues.{HandlesInsertion, HandlesRemoval, svc_items}
 use Rattle.gb_machine.specs.Wiring.{is_at}
 
 -- ---- nothing left after a removal
@@ -64,16 +66,26 @@ IsRepliedOn c at n result payload told b =
     × IsIn (entry.Replied (Some n) (end_of (other_side at) c) (end_of at c) result
     (message_size payload) (spelling (response r.label r.kind result payload))) told
 
+-- what was told since connection k was opened
+abbrev pub told_since : ℕ → List Entry → List Entry
+told_since k [] = []
+told_since k (entry.Connection j ap i c state.Opening ∷ es) =
+    if j == k then es else told_since k es
+told_since k (_ ∷ es) = told_since k es
+
 -- An item toward a side of a connection was put there by a request, a reply or an injection on that
--- connection.
+-- connection. Injected bytes and the reply to them have no number: they were told since the
+-- connection was opened, between its ends, which no other has meanwhile.
 abbrev pub IsOwnItem : List Entry → Bus → Connection → Side → Item → Type 0
 IsOwnItem told b c at (Ask n) = IsMadeOn c.number (other_side at) n b
 IsOwnItem told b c at (Reply n result payload) = IsRepliedOn c at n result payload told b
 IsOwnItem told b c at (Raw bytes) =
-    (at ≡ side.Ap) × IsIn (entry.Raw c.peer (end.Ap c.ap) (length bytes) bytes) told
+    (at ≡ side.Ap)
+    × IsIn (entry.Raw c.peer (end.Ap c.ap) (length bytes) bytes) (told_since c.number told)
 IsOwnItem told b c at (RawReply label kind result payload) =
     (at ≡ side.Far) × IsIn (entry.Replied None (end.Ap c.ap) c.peer result
-    (message_size payload) (spelling (response label kind result payload))) told
+    (message_size payload) (spelling (response label kind result payload)))
+    (told_since c.number told)
 
 -- what waits and what is held on a connection
 pub record HasOwnItems (told : List Entry) (s : State) (c : Connection) : Type 0 where
@@ -118,12 +130,15 @@ pub record IsOwnCreation (m : Moment) (k : ℕ) : Type 0 where
   pub is : m.event ≡ event.Deliver end.Svc
   pub front : first (svc_items side.Far m.before.bus) ≡ Some (Ask number)
   pub made : request_of number m.before.bus ≡ Some request
-  pub creates : is_creation intf request ≡ true
+  pub creates : (tc : ℕ) × (flags : ℕ) × (read_svc_ask request.kind request.payload
+      ≡ Ok (SvcAsk.ConnCreate 1 connection.ap intf cport tc flags))
   pub own : IsIn (number, k) m.before.past.made_for
   pub live : connection_of k m.before.bus ≡ Some connection
   pub peer : connection.peer ≡ end.Module intf cport
   pub plugged : is_plugged intf m.before.modules ≡ true
   pub routed : level_of intf m.before.ports ≡ 6
+  pub first : times (λ j. j == k) m.before.past.wired ≡ 0
+  pub remembered : IsIn k (after m).past.wired
 
 -- What is wired at a moment is wired by its own request.
 abbrev pub WiredByItsRequest : Moment → Type 0
@@ -131,6 +146,12 @@ WiredByItsRequest m =
     (k : ℕ) → is_wired (connection_of k m.before.bus) ≡ false
     → is_wired (connection_of k (after m).bus) ≡ true → IsOwnCreation m k
 
+-- Which connections were ever wired is never forgotten.
+abbrev pub NoneForgotten : Moment → Type 0
+NoneForgotten m = Each (λ k. IsIn k (after m).past.wired) m.before.past.wired
+
 -- A connection is wired at most once, by its own request, to a module that is plugged and routed.
 abbrev pub WiredAtMostOnce : Type 0
-WiredAtMostOnce = HoldsThroughout WiredOnce × HoldsAtEachMoment WiredByItsRequest
+WiredAtMostOnce =
+    HoldsThroughout WiredOnce × HoldsAtEachMoment WiredByItsRequest
+    × HoldsAtEachMoment NoneForgotten

@@ -1,6 +1,6 @@
 -- Facts of every state of a run: what is wired is routed, and what waits on the supervisory
 -- controller's connection.
-use Rattle.std.specs.Prelude.{◌≡◌, ◌<◌, ◌≤◌, ℕ, Bool, true, false, if◌then◌else◌, Option, Some, None, option_and_then, List, [], ◌∷◌, ⊤}
+use Rattle.std.specs.Prelude.{◌≡◌, ◌≢◌, ◌<◌, ◌≤◌, ℕ, Bool, true, false, if◌then◌else◌, Option, Some, None, option_and_then, List, [], ◌∷◌, ⊤}
 use Rattle.std.specs.List.{filter, list_any}
 use Rattle.gb_base.specs.declared.end.End.{End}
 use Rattle.gb_base.specs.declared.end.End.TheVariants as end
@@ -21,16 +21,17 @@ use Rattle.gb_machine.specs.Wiring.{is_wired_to}
 
 -- ---- wired means routed
 
--- a far end is the supervisory controller, or at a routed interface where a module is plugged
+-- a far end is at a routed interface where a module is plugged
 abbrev pub IsRouted : State → End → Type 0
-IsRouted s end.Svc = ⊤
+IsRouted s end.Svc = ⊥
 IsRouted s (end.Module i c) =
     (is_plugged i s.modules ≡ true) × (level_of i s.ports ≡ 6)
 IsRouted s (end.Ap a) = ⊥
 
--- A connection that is wired is routed.
+-- A connection that is wired is routed, but for that of the supervisory controller.
 abbrev pub AreRouted : List Entry → State → Type 0
-AreRouted told s = Each (λ c. c.wired ≡ true → IsRouted s c.peer) s.bus.connections
+AreRouted told s =
+    Each (λ c. c.wired ≡ true → c.number ≢ 1 → IsRouted s c.peer) s.bus.connections
 
 -- A connection that is wired is to a routed interface, in every state of a run.
 abbrev pub WiredMeansRouted : Type 0
@@ -108,7 +109,8 @@ pub record IsQuiet (told : List Entry) (s : State) : Type 0 where
       → awaited_by i s.host ≡ Some (n, step)
       → Each (λ item. is_reply_to n item ≡ false) (before_removal i s.bus)
 
--- While a removal waits, no enumeration of its interface goes on, in every state of a run.
+-- While a removal waits, only starts of the enumeration of its interface wait, and no answer that
+-- it waits for comes before the removal, in every state of a run.
 abbrev pub QuietBeforeRemoval : Type 0
 QuietBeforeRemoval = HoldsThroughout IsQuiet
 

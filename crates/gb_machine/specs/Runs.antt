@@ -32,7 +32,7 @@ state_by es = last_state first_state (trace es)
 
 -- ---- moments
 
--- A moment is an event that does one thing: a settle does many.
+-- A moment is an event other than a settle, so at most one delivery.
 abbrev pub IsMoment : Event → Type 0
 IsMoment (event.Settle most) = ⊥
 IsMoment e = IsValid e

@@ -1,5 +1,5 @@
 -- The summary of a made script.
-use Rattle.std.specs.Prelude.{ℕ, zero, suc, ◌+◌, Bool, true, false, if◌then◌else◌, Option, Some, None, List, [], ◌∷◌, length}
+use Rattle.std.specs.Prelude.{◌≡◌, ℕ, zero, suc, ◌+◌, Bool, true, false, if◌then◌else◌, Option, Some, None, List, [], ◌∷◌, length}
 use Rattle.gb_base.specs.declared.entry.Entry.{Entry}
 use Rattle.gb_base.specs.declared.entry.Entry.TheVariants as entry
 use Rattle.gb_base.specs.declared.event.Event.{Event}
@@ -93,3 +93,15 @@ counts ts = counts_at (refused_in ts) (last_state first_state ts).bus
 -- The summary of the script that is made from a seed.
 abbrev pub summary : ℕ → List ℕ
 summary seed = summary_text made_lines (counts (trace (made_events seed)))
+
+-- ---- the law of the counts
+
+-- the requests are those that were answered, were cancelled, timed out, were disconnected, were
+-- unidirectional, and those that are open
+abbrev pub IsSum : Counts → Type 0
+IsSum c =
+    c.requests ≡ c.answered + c.cancelled + c.timeout + c.disconnected + c.sent + c.left_open
+
+-- In every run each request is counted once.
+abbrev pub CountsAddUp : Type 0
+CountsAddUp = (es : List Event) → IsSum (counts (trace es))
