@@ -1,8 +1,12 @@
 //! Runs of the program over a source and a sink in memory.
 
 use crate::run::run;
-use gb_base::{Bytes, FreeGate, MemSink, MemSource, Numbers, PlainSink, PlainSource, Status};
+use gb_base::{
+    Bytes, FreeGate, MemSink, MemSource, Numbers, PlainSink, PlainSource, Sink, Source, Status,
+};
+use std::alloc::Global;
 use std::test::Fail;
+use std::thread::Threads;
 
 /// A ping, its delivery and the delivery of its answer.
 const PING: &[u8] = b"send @x svc ping\ndeliver svc\ndeliver ap 0\n";
@@ -15,6 +19,18 @@ reply #1 svc > ap 0 result 00 size 8\n\
 line 3 ok\n\
 end #1 answered 00 -\n";
 
+/// How the program ends with one word.
+fn ended<R: Threads + Sync, S: Source, K: Sink>(
+    rt: &R,
+    alloc: Global,
+    word: &str,
+    source: &mut S,
+    sink: &mut K,
+) -> Result<Status, Fail> {
+    let words = vec![in alloc; word.to_string(alloc)?]?;
+    Ok(run(rt, alloc, words.as_slice(), source, sink, &FreeGate))
+}
+
 #[test]
 fn scripts_are_reported(rt: HostRuntime) -> Result<(), Fail> {
     let rows: [(&[u8], Status, &[u8]); 3] = [
@@ -22,19 +38,11 @@ fn scripts_are_reported(rt: HostRuntime) -> Result<(), Fail> {
         (PING, Status::Success, PING_REPORT),
         (b"# none\n\nboot", Status::Refused, b"line 3: not built\n"),
     ];
-    for (input, status, output) in rows {
+    for (input, wanted, output) in rows {
         let mut source = PlainSource::new(Bytes::from_slice(rt.alloc(), input)?);
         let mut sink = PlainSink::new(rt.alloc());
-        let words = vec![in rt.alloc(); "run".to_string(rt.alloc())?]?;
-        let ended = run(
-            &rt,
-            rt.alloc(),
-            words.as_slice(),
-            &mut source,
-            &mut sink,
-            &FreeGate,
-        );
-        assert!(rt; ended == status);
+        let status = ended(&rt, rt.alloc(), "run", &mut source, &mut sink)?;
+        assert!(rt; status == wanted);
         assert!(rt; sink.taken() == output);
     }
     Ok(())
@@ -44,16 +52,8 @@ fn scripts_are_reported(rt: HostRuntime) -> Result<(), Fail> {
 fn another_word_is_none_of_the_programs(rt: HostRuntime) -> Result<(), Fail> {
     let mut source = PlainSource::new(Bytes::from_slice(rt.alloc(), PING)?);
     let mut sink = PlainSink::new(rt.alloc());
-    let words = vec![in rt.alloc(); "rum".to_string(rt.alloc())?]?;
-    let ended = run(
-        &rt,
-        rt.alloc(),
-        words.as_slice(),
-        &mut source,
-        &mut sink,
-        &FreeGate,
-    );
-    assert!(rt; ended == Status::Usage);
+    let status = ended(&rt, rt.alloc(), "rum", &mut source, &mut sink)?;
+    assert!(rt; status == Status::Usage);
     Ok(())
 }
 
@@ -66,24 +66,16 @@ fn faults_are_told(rt: HostRuntime) -> Result<(), Fail> {
         (17, 0, Status::ReadFault),
         (0, 1, Status::WriteFault),
     ];
-    for (read, write, status) in rows {
+    for (read, write, wanted) in rows {
         let mut reads = Numbers::new(rt.alloc());
         reads.push(read)?;
         let mut writes = Numbers::new(rt.alloc());
         writes.push(write)?;
         let mut source = MemSource::new(Bytes::from_slice(rt.alloc(), PING)?, 1, reads);
         let mut sink = MemSink::new(rt.alloc(), writes);
-        let words = vec![in rt.alloc(); "run".to_string(rt.alloc())?]?;
-        let ended = run(
-            &rt,
-            rt.alloc(),
-            words.as_slice(),
-            &mut source,
-            &mut sink,
-            &FreeGate,
-        );
-        assert!(rt; ended == status);
-        let output: &[u8] = if status == Status::Success {
+        let status = ended(&rt, rt.alloc(), "run", &mut source, &mut sink)?;
+        assert!(rt; status == wanted);
+        let output: &[u8] = if wanted == Status::Success {
             PING_REPORT
         } else {
             b""
