@@ -1,0 +1,20 @@
+//! Reads and writes the payloads of the Control and SVC protocols.
+#![tactic(auto)]
+
+mod control_ask;
+mod control_kinds;
+mod control_reply;
+mod fault;
+mod reading;
+mod svc_ask;
+mod svc_kinds;
+mod svc_reply;
+mod writing;
+
+pub use control_ask::ControlAsk;
+pub use control_reply::ControlReply;
+pub use fault::PayloadFault;
+pub use reading::Fields;
+pub use svc_ask::SvcAsk;
+pub use svc_reply::SvcReply;
+pub use writing::{Field, put};

@@ -1,0 +1,148 @@
+//! Responses of the SVC protocol.
+
+ghost use Rattle.std.specs.Prelude.{◌≡◌};
+ghost use Rattle.gb_formats.specs.SvcRecords.{read_svc_reply, svc_reply_kind, svc_reply_payload};
+ghost use Rattle.gb_payload.specs.Answers.{Answers};
+ghost use Rattle.gb_payload.specs.Fields.{Puts};
+ghost use Rattle.gb_payload.specs.Views.{svc_reply};
+
+use crate::Field::U8;
+use crate::svc_kinds::{
+    CONN_CREATE, CONN_DESTROY, HELLO, INTF_ACTIVATE, INTF_DEVICE_ID, MODULE_INSERTED,
+    MODULE_REMOVED, PING, PROTOCOL_VERSION, REFCLK_ENABLE, ROUTE_CREATE, ROUTE_DESTROY,
+    UNIPRO_ENABLE, VSYS_ENABLE,
+};
+use crate::{PayloadFault, put, read_record};
+use gb_base::NoRoom;
+
+/// A response of the SVC protocol (Greybus Specification, "SVC Protocol"), in the order of the
+/// requests.
+#[derive(Clone, Copy, Debug, PartialEq, Eq)]
+pub enum SvcReply {
+    /// The interface has its device id.
+    IntfDeviceId,
+    /// The connection is made.
+    ConnCreate,
+    /// The connection is down.
+    ConnDestroy,
+    /// The route is made.
+    RouteCreate,
+    /// The route is down.
+    RouteDestroy,
+    /// The supervisory controller answers.
+    Ping,
+    /// Whether the power is on.
+    VsysEnable {
+        /// The result, 0 where it is on.
+        result: u8,
+    },
+    /// Whether the reference clock is on.
+    RefclkEnable {
+        /// The result, 0 where it is on.
+        result: u8,
+    },
+    /// Whether the UniPro port is on.
+    UniproEnable {
+        /// The result, 0 where it is on.
+        result: u8,
+    },
+    /// How the activation went.
+    IntfActivate {
+        /// The status, 0 for success.
+        status: u8,
+        /// The type of the interface, 3 for one that speaks Greybus.
+        kind: u8,
+    },
+    /// The version that is taken.
+    ProtocolVersion {
+        /// The major version.
+        major: u8,
+        /// The minor version.
+        minor: u8,
+    },
+    /// The supervisory controller is known to be up.
+    Hello,
+    /// The module is known.
+    ModuleInserted,
+    /// The removal is known.
+    ModuleRemoved,
+}
+
+impl SvcReply {
+    /// Reads the payload of a type.
+    pub fn read(kind: u8, payload: &[u8]) -> Result<SvcReply, PayloadFault>
+        ensures { Answers svc_reply (read_svc_reply kind payload.now) result }
+    {
+        row(kind, payload)
+    }
+
+    /// Writes the payload to the front of `out`, and answers its length. NoRoom exactly where `out`
+    /// is shorter, and `out` is then unchanged.
+    pub fn write(&self, out: &mut [u8]) -> Result<usize, NoRoom>
+        ensures { Puts (svc_reply_payload (svc_reply self.now)) out.old out.new result }
+    {
+        match *self {
+            SvcReply::IntfDeviceId => put(&[], out),
+            SvcReply::ConnCreate => put(&[], out),
+            SvcReply::ConnDestroy => put(&[], out),
+            SvcReply::RouteCreate => put(&[], out),
+            SvcReply::RouteDestroy => put(&[], out),
+            SvcReply::Ping => put(&[], out),
+            SvcReply::VsysEnable { result } => put(&[U8(result)], out),
+            SvcReply::RefclkEnable { result } => put(&[U8(result)], out),
+            SvcReply::UniproEnable { result } => put(&[U8(result)], out),
+            SvcReply::IntfActivate { status, kind } => put(&[U8(status), U8(kind)], out),
+            SvcReply::ProtocolVersion { major, minor } => put(&[U8(major), U8(minor)], out),
+            SvcReply::Hello => put(&[], out),
+            SvcReply::ModuleInserted => put(&[], out),
+            SvcReply::ModuleRemoved => put(&[], out),
+        }
+    }
+
+    /// The type of the request.
+    pub fn kind(&self) -> u8
+        ensures { result ≡ svc_reply_kind (svc_reply self.now) }
+    {
+        match self {
+            SvcReply::IntfDeviceId => INTF_DEVICE_ID,
+            SvcReply::ConnCreate => CONN_CREATE,
+            SvcReply::ConnDestroy => CONN_DESTROY,
+            SvcReply::RouteCreate => ROUTE_CREATE,
+            SvcReply::RouteDestroy => ROUTE_DESTROY,
+            SvcReply::Ping => PING,
+            SvcReply::VsysEnable { .. } => VSYS_ENABLE,
+            SvcReply::RefclkEnable { .. } => REFCLK_ENABLE,
+            SvcReply::UniproEnable { .. } => UNIPRO_ENABLE,
+            SvcReply::IntfActivate { .. } => INTF_ACTIVATE,
+            SvcReply::ProtocolVersion { .. } => PROTOCOL_VERSION,
+            SvcReply::Hello => HELLO,
+            SvcReply::ModuleInserted => MODULE_INSERTED,
+            SvcReply::ModuleRemoved => MODULE_REMOVED,
+        }
+    }
+}
+
+/// The record of a type that a payload is.
+fn row(kind: u8, payload: &[u8]) -> Result<SvcReply, PayloadFault>
+    ensures { Answers svc_reply (read_svc_reply kind payload.now) result }
+{
+    match kind {
+        INTF_DEVICE_ID => read_record!(payload => SvcReply::IntfDeviceId),
+        CONN_CREATE => read_record!(payload => SvcReply::ConnCreate),
+        CONN_DESTROY => read_record!(payload => SvcReply::ConnDestroy),
+        ROUTE_CREATE => read_record!(payload => SvcReply::RouteCreate),
+        ROUTE_DESTROY => read_record!(payload => SvcReply::RouteDestroy),
+        PING => read_record!(payload => SvcReply::Ping),
+        VSYS_ENABLE => read_record!(payload => SvcReply::VsysEnable { result: u8 }),
+        REFCLK_ENABLE => read_record!(payload => SvcReply::RefclkEnable { result: u8 }),
+        UNIPRO_ENABLE => read_record!(payload => SvcReply::UniproEnable { result: u8 }),
+        INTF_ACTIVATE => read_record!(payload => SvcReply::IntfActivate { status: u8, kind: u8 }),
+        PROTOCOL_VERSION => read_record!(payload => SvcReply::ProtocolVersion {
+            major: u8, minor: u8
+        }),
+        HELLO => read_record!(payload => SvcReply::Hello),
+        MODULE_INSERTED => read_record!(payload => SvcReply::ModuleInserted),
+        MODULE_REMOVED => read_record!(payload => SvcReply::ModuleRemoved),
+        _ => Err(PayloadFault::UnknownKind),
+    }
+}
