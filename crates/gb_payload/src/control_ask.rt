@@ -1,9 +1,11 @@
 //! Requests of the Control protocol.
 
-ghost use Rattle.std.specs.Prelude.{◌≡◌};
+ghost use Rattle.std.specs.Prelude.{◌≡◌, IfOk, take};
 ghost use Rattle.gb_formats.specs.ControlRecords.{read_control_ask, control_ask_kind, control_ask_payload};
 ghost use Rattle.gb_payload.specs.Answers.{Answers};
 ghost use Rattle.gb_payload.specs.Fields.{Puts};
+ghost use Rattle.gb_payload.specs.Meaning.{IsRead, Means};
+ghost use Rattle.gb_payload.specs.Protocols.{control_asks};
 ghost use Rattle.gb_payload.specs.Views.{control_ask};
 
 use crate::Field::{U8, U16};
@@ -48,7 +50,8 @@ pub enum ControlAsk {
 impl ControlAsk {
     /// Reads the payload of a type.
     pub fn read(kind: u8, payload: &[u8]) -> Result<ControlAsk, PayloadFault>
-        ensures { Answers control_ask (read_control_ask kind payload.now) result }
+        ensures answer { Answers control_ask (read_control_ask kind payload.now) result }
+        ensures means { Means control_asks control_ask kind payload.now result }
     {
         row(kind, payload)
     }
@@ -56,15 +59,17 @@ impl ControlAsk {
     /// Writes the payload to the front of `out`, and answers its length. NoRoom exactly where `out`
     /// is shorter, and `out` is then unchanged.
     pub fn write(&self, out: &mut [u8]) -> Result<usize, NoRoom>
-        ensures { Puts (control_ask_payload (control_ask self.now)) out.old out.new result }
+        ensures bytes { Puts (control_ask_payload (control_ask self.now)) out.old out.new result }
+        ensures again { IfOk result
+            (λ n. IsRead control_asks (control_ask self.now) (take n out.new)) }
     {
-        match *self {
-            ControlAsk::Version { major, minor } => put(&[U8(major), U8(minor)], out),
+        match self {
+            ControlAsk::Version { major, minor } => put(&[U8(*major), U8(*minor)], out),
             ControlAsk::GetManifestSize => put(&[], out),
             ControlAsk::GetManifest => put(&[], out),
-            ControlAsk::Connected { cport } => put(&[U16(cport)], out),
-            ControlAsk::Disconnected { cport } => put(&[U16(cport)], out),
-            ControlAsk::Disconnecting { cport } => put(&[U16(cport)], out),
+            ControlAsk::Connected { cport } => put(&[U16(*cport)], out),
+            ControlAsk::Disconnected { cport } => put(&[U16(*cport)], out),
+            ControlAsk::Disconnecting { cport } => put(&[U16(*cport)], out),
         }
     }
 

@@ -1,9 +1,11 @@
 //! Responses of the Control protocol.
 
-ghost use Rattle.std.specs.Prelude.{◌≡◌};
+ghost use Rattle.std.specs.Prelude.{◌≡◌, IfOk, take};
 ghost use Rattle.gb_formats.specs.ControlRecords.{read_control_reply, control_reply_kind, control_reply_payload};
 ghost use Rattle.gb_payload.specs.Answers.{Answers};
 ghost use Rattle.gb_payload.specs.Fields.{Puts};
+ghost use Rattle.gb_payload.specs.Meaning.{IsRead, Means};
+ghost use Rattle.gb_payload.specs.Protocols.{control_replies};
 ghost use Rattle.gb_payload.specs.Views.{control_reply};
 
 use crate::Field::{Bytes, U8, U16};
@@ -44,7 +46,8 @@ pub enum ControlReply<'a> {
 impl<'a> ControlReply<'a> {
     /// Reads the payload of a type.
     pub fn read(kind: u8, payload: &'a [u8]) -> Result<ControlReply<'a>, PayloadFault>
-        ensures { Answers control_reply (read_control_reply kind payload.now) result }
+        ensures answer { Answers control_reply (read_control_reply kind payload.now) result }
+        ensures means { Means control_replies control_reply kind payload.now result }
     {
         row(kind, payload)
     }
@@ -52,11 +55,13 @@ impl<'a> ControlReply<'a> {
     /// Writes the payload to the front of `out`, and answers its length. NoRoom exactly where `out`
     /// is shorter, and `out` is then unchanged.
     pub fn write(&self, out: &mut [u8]) -> Result<usize, NoRoom>
-        ensures { Puts (control_reply_payload (control_reply self.now)) out.old out.new result }
+        ensures bytes { Puts (control_reply_payload (control_reply self.now)) out.old out.new result }
+        ensures again { IfOk result
+            (λ n. IsRead control_replies (control_reply self.now) (take n out.new)) }
     {
-        match *self {
-            ControlReply::Version { major, minor } => put(&[U8(major), U8(minor)], out),
-            ControlReply::GetManifestSize { size } => put(&[U16(size)], out),
+        match self {
+            ControlReply::Version { major, minor } => put(&[U8(*major), U8(*minor)], out),
+            ControlReply::GetManifestSize { size } => put(&[U16(*size)], out),
             ControlReply::GetManifest { bytes } => put(&[Bytes(bytes)], out),
             ControlReply::Connected => put(&[], out),
             ControlReply::Disconnected => put(&[], out),

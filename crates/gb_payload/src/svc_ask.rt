@@ -1,9 +1,12 @@
 //! Requests of the SVC protocol.
 
-ghost use Rattle.std.specs.Prelude.{◌≡◌};
+ghost use Rattle.std.specs.Prelude.{◌≡◌, true, IfOk, take};
 ghost use Rattle.gb_formats.specs.SvcRecords.{read_svc_ask, svc_ask_kind, svc_ask_payload};
 ghost use Rattle.gb_payload.specs.Answers.{Answers};
 ghost use Rattle.gb_payload.specs.Fields.{Puts};
+ghost use Rattle.gb_payload.specs.Groups.{is_link};
+ghost use Rattle.gb_payload.specs.Meaning.{IsRead, Means};
+ghost use Rattle.gb_payload.specs.Protocols.{svc_asks};
 ghost use Rattle.gb_payload.specs.Views.{svc_ask};
 
 use crate::Field::{U8, U16};
@@ -125,7 +128,8 @@ pub enum SvcAsk {
 impl SvcAsk {
     /// Reads the payload of a type.
     pub fn read(kind: u8, payload: &[u8]) -> Result<SvcAsk, PayloadFault>
-        ensures { Answers svc_ask (read_svc_ask kind payload.now) result }
+        ensures answer { Answers svc_ask (read_svc_ask kind payload.now) result }
+        ensures means { Means svc_asks svc_ask kind payload.now result }
     {
         row(kind, payload)
     }
@@ -133,57 +137,32 @@ impl SvcAsk {
     /// Writes the payload to the front of `out`, and answers its length. NoRoom exactly where `out`
     /// is shorter, and `out` is then unchanged.
     pub fn write(&self, out: &mut [u8]) -> Result<usize, NoRoom>
-        ensures { Puts (svc_ask_payload (svc_ask self.now)) out.old out.new result }
+        ensures bytes { Puts (svc_ask_payload (svc_ask self.now)) out.old out.new result }
+        ensures again { IfOk result
+            (λ n. IsRead svc_asks (svc_ask self.now) (take n out.new)) }
     {
-        match *self {
-            SvcAsk::IntfDeviceId { intf, device } => put(&[U8(intf), U8(device)], out),
-            SvcAsk::ConnCreate {
-                intf1,
-                cport1,
-                intf2,
-                cport2,
-                tc,
-                flags,
-            } => put(
-                &[
-                    U8(intf1),
-                    U16(cport1),
-                    U8(intf2),
-                    U16(cport2),
-                    U8(tc),
-                    U8(flags),
-                ],
-                out,
-            ),
-            SvcAsk::ConnDestroy {
-                intf1,
-                cport1,
-                intf2,
-                cport2,
-            } => put(&[U8(intf1), U16(cport1), U8(intf2), U16(cport2)], out),
-            SvcAsk::RouteCreate {
-                intf1,
-                dev1,
-                intf2,
-                dev2,
-            } => put(&[U8(intf1), U8(dev1), U8(intf2), U8(dev2)], out),
-            SvcAsk::RouteDestroy { intf1, intf2 } => put(&[U8(intf1), U8(intf2)], out),
+        match self {
+            SvcAsk::IntfDeviceId { intf, device } => put(&[U8(*intf), U8(*device)], out),
+            SvcAsk::ConnCreate { .. }
+            | SvcAsk::ConnDestroy { .. }
+            | SvcAsk::RouteCreate { .. }
+            | SvcAsk::RouteDestroy { .. } => write_link(self, out),
             SvcAsk::Ping => put(&[], out),
-            SvcAsk::VsysEnable { intf } => put(&[U8(intf)], out),
-            SvcAsk::RefclkEnable { intf } => put(&[U8(intf)], out),
-            SvcAsk::UniproEnable { intf } => put(&[U8(intf)], out),
-            SvcAsk::IntfActivate { intf } => put(&[U8(intf)], out),
-            SvcAsk::ProtocolVersion { major, minor } => put(&[U8(major), U8(minor)], out),
+            SvcAsk::VsysEnable { intf } => put(&[U8(*intf)], out),
+            SvcAsk::RefclkEnable { intf } => put(&[U8(*intf)], out),
+            SvcAsk::UniproEnable { intf } => put(&[U8(*intf)], out),
+            SvcAsk::IntfActivate { intf } => put(&[U8(*intf)], out),
+            SvcAsk::ProtocolVersion { major, minor } => put(&[U8(*major), U8(*minor)], out),
             SvcAsk::Hello {
                 endo_id,
                 interface_id,
-            } => put(&[U16(endo_id), U8(interface_id)], out),
+            } => put(&[U16(*endo_id), U8(*interface_id)], out),
             SvcAsk::ModuleInserted {
                 primary,
                 count,
                 flags,
-            } => put(&[U8(primary), U8(count), U16(flags)], out),
-            SvcAsk::ModuleRemoved { primary } => put(&[U8(primary)], out),
+            } => put(&[U8(*primary), U8(*count), U16(*flags)], out),
+            SvcAsk::ModuleRemoved { primary } => put(&[U8(*primary)], out),
         }
     }
 
@@ -207,6 +186,48 @@ impl SvcAsk {
             SvcAsk::ModuleInserted { .. } => MODULE_INSERTED,
             SvcAsk::ModuleRemoved { .. } => MODULE_REMOVED,
         }
+    }
+}
+
+/// Writes the payload of a request on a connection or a route.
+fn write_link(ask: &SvcAsk, out: &mut [u8]) -> Result<usize, NoRoom>
+    requires { is_link (svc_ask ask.now) ≡ true }
+    ensures bytes { Puts (svc_ask_payload (svc_ask ask.now)) out.old out.new result }
+    ensures again { IfOk result (λ n. IsRead svc_asks (svc_ask ask.now) (take n out.new)) }
+{
+    match ask {
+        SvcAsk::ConnCreate {
+            intf1,
+            cport1,
+            intf2,
+            cport2,
+            tc,
+            flags,
+        } => put(
+            &[
+                U8(*intf1),
+                U16(*cport1),
+                U8(*intf2),
+                U16(*cport2),
+                U8(*tc),
+                U8(*flags),
+            ],
+            out,
+        ),
+        SvcAsk::ConnDestroy {
+            intf1,
+            cport1,
+            intf2,
+            cport2,
+        } => put(&[U8(*intf1), U16(*cport1), U8(*intf2), U16(*cport2)], out),
+        SvcAsk::RouteCreate {
+            intf1,
+            dev1,
+            intf2,
+            dev2,
+        } => put(&[U8(*intf1), U8(*dev1), U8(*intf2), U8(*dev2)], out),
+        SvcAsk::RouteDestroy { intf1, intf2 } => put(&[U8(*intf1), U8(*intf2)], out),
+        _ => unreachable!(),
     }
 }
 

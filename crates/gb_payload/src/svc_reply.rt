@@ -1,9 +1,11 @@
 //! Responses of the SVC protocol.
 
-ghost use Rattle.std.specs.Prelude.{◌≡◌};
+ghost use Rattle.std.specs.Prelude.{◌≡◌, IfOk, take};
 ghost use Rattle.gb_formats.specs.SvcRecords.{read_svc_reply, svc_reply_kind, svc_reply_payload};
 ghost use Rattle.gb_payload.specs.Answers.{Answers};
 ghost use Rattle.gb_payload.specs.Fields.{Puts};
+ghost use Rattle.gb_payload.specs.Meaning.{IsRead, Means};
+ghost use Rattle.gb_payload.specs.Protocols.{svc_replies};
 ghost use Rattle.gb_payload.specs.Views.{svc_reply};
 
 use crate::Field::U8;
@@ -71,7 +73,8 @@ pub enum SvcReply {
 impl SvcReply {
     /// Reads the payload of a type.
     pub fn read(kind: u8, payload: &[u8]) -> Result<SvcReply, PayloadFault>
-        ensures { Answers svc_reply (read_svc_reply kind payload.now) result }
+        ensures answer { Answers svc_reply (read_svc_reply kind payload.now) result }
+        ensures means { Means svc_replies svc_reply kind payload.now result }
     {
         row(kind, payload)
     }
@@ -79,20 +82,22 @@ impl SvcReply {
     /// Writes the payload to the front of `out`, and answers its length. NoRoom exactly where `out`
     /// is shorter, and `out` is then unchanged.
     pub fn write(&self, out: &mut [u8]) -> Result<usize, NoRoom>
-        ensures { Puts (svc_reply_payload (svc_reply self.now)) out.old out.new result }
+        ensures bytes { Puts (svc_reply_payload (svc_reply self.now)) out.old out.new result }
+        ensures again { IfOk result
+            (λ n. IsRead svc_replies (svc_reply self.now) (take n out.new)) }
     {
-        match *self {
+        match self {
             SvcReply::IntfDeviceId => put(&[], out),
             SvcReply::ConnCreate => put(&[], out),
             SvcReply::ConnDestroy => put(&[], out),
             SvcReply::RouteCreate => put(&[], out),
             SvcReply::RouteDestroy => put(&[], out),
             SvcReply::Ping => put(&[], out),
-            SvcReply::VsysEnable { result } => put(&[U8(result)], out),
-            SvcReply::RefclkEnable { result } => put(&[U8(result)], out),
-            SvcReply::UniproEnable { result } => put(&[U8(result)], out),
-            SvcReply::IntfActivate { status, kind } => put(&[U8(status), U8(kind)], out),
-            SvcReply::ProtocolVersion { major, minor } => put(&[U8(major), U8(minor)], out),
+            SvcReply::VsysEnable { result } => put(&[U8(*result)], out),
+            SvcReply::RefclkEnable { result } => put(&[U8(*result)], out),
+            SvcReply::UniproEnable { result } => put(&[U8(*result)], out),
+            SvcReply::IntfActivate { status, kind } => put(&[U8(*status), U8(*kind)], out),
+            SvcReply::ProtocolVersion { major, minor } => put(&[U8(*major), U8(*minor)], out),
             SvcReply::Hello => put(&[], out),
             SvcReply::ModuleInserted => put(&[], out),
             SvcReply::ModuleRemoved => put(&[], out),
