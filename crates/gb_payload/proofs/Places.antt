@@ -1,7 +1,6 @@
 -- The place of a mismatch, where all records of a type have one size.
-use Rattle.std.proofs.Common.{◌≡◌, ◌≢◌, ◌<◌, ◌≤◌, ◌+◌, ◌-◌, ℕ, zero, suc, min, Bool, true, false, cond, eqb, Result, Ok, Err, List, [], ◌∷◌, ◌++◌, length, take, replicate, slice_index, rules, refl, arith, sym, ap, ◌∙◌, length-append, length-take, length-take-le}
+use Rattle.std.proofs.Common.{◌≡◌, ◌≢◌, ◌≤◌, ◌+◌, ◌-◌, ℕ, zero, suc, min, Bool, true, false, cond, eqb, Result, Ok, Err, List, ◌++◌, length, take, replicate, refl, arith, sym, ap, ◌∙◌, length-append, length-take}
 use Rattle.std.proofs.lemmas.List.{length-replicate}
-use Rattle.std.proofs.lemmas.Bool.{eq-eqb}
 use Rattle.std.proofs.lemmas.Bool.Decides.{nat_tests}
 use Rattle.gb_base.specs.Bytes.{AreBytes}
 use Rattle.gb_formats.specs.Records.{PayloadFault, whole}
@@ -82,12 +81,12 @@ stops format kind size made reads bytes g =
     omega (arith, long, sum)
 
 -- the place of a payload of another size
-pub is_place : {A : Type 0} (format : Format A) (kind size : ℕ) (made : List ℕ → A) → ((bytes : List ℕ) → format.read kind bytes ≡ whole size bytes (made bytes)) → (payload : List ℕ) (at : ℕ) → Parts size payload at → IsPlace format kind payload at
-is_place format kind size made reads payload at p =
+pub is_place : {A : Type 0} (format : Format A) (kind size : ℕ) (made : List ℕ → A) → ((bytes : List ℕ) → format.read kind bytes ≡ whole size bytes (made bytes)) → ((bytes : List ℕ) → format.kind (made bytes) ≡ kind) → (payload : List ℕ) (at : ℕ) → Parts size payload at → IsPlace format kind payload at
+is_place format kind size made reads kind_is payload at p =
     let place = p.place in
     let other = p.other in
     record {
-      some = goes_on format kind size made reads [] (omega arith);
+      known = (made payload, kind_is payload);
       wrong = λ found e. other (whole_size size payload (made payload) found (sym (reads payload) ∙ e));
       within = omega (arith, place);
       before = λ n h. goes_on format kind size made reads (take n payload) (let l = length-take n payload in omega (arith, place, l, h));

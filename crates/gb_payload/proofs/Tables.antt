@@ -1,5 +1,5 @@
 -- What reading by a table means.
-use Rattle.std.proofs.Common.{◌≡◌, ◌≢◌, ◌<◌, ◌≤◌, ◌+◌, ℕ, Bool, true, false, cond, eqb, Option, Some, None, Result, Ok, Err, List, [], ◌∷◌, ◌++◌, length, sum, find, refl, arith, sym, ap, ◌∙◌, subst, ◌==◌, ◌⊎◌, inl, inr, ⊎_elim}
+use Rattle.std.proofs.Common.{◌≡◌, ◌≢◌, ℕ, Bool, true, false, cond, eqb, Option, Some, None, Result, Ok, Err, List, [], ◌∷◌, length, sum, find, refl, arith, sym, ap, ◌∙◌, subst, ◌==◌, ◌⊎◌, inl, inr, ⊎_elim}
 use Rattle.std.proofs.lemmas.Bool.Decides.{nat_tests}
 use Rattle.gb_base.specs.Bytes.{AreBytes}
 use Rattle.gb_formats.specs.Records.{Row, fields_of, read_row, read_table, whole}
@@ -53,7 +53,7 @@ means_whole format view kind size made payload reads kind_is spelt (Ok value) e 
     let is = whole_made size payload (made payload) (view value) e in
     (ap format.kind (sym is) ∙ kind_is payload, ap format.payload (sym is) ∙ spelt (whole_size size payload (made payload) (view value) e))
 means_whole format view kind size made payload reads kind_is spelt (Err fault.UnknownKind) e = absurd (whole_known size payload (made payload) e)
-means_whole format view kind size made payload reads kind_is spelt (Err (fault.Mismatch at)) e = is_place format kind size made reads payload at (whole_parts size payload (made payload) at e)
+means_whole format view kind size made payload reads kind_is spelt (Err (fault.Mismatch at)) e = is_place format kind size made reads kind_is payload at (whole_parts size payload (made payload) at e)
 
 -- where a table has the records of a type
 pub means_by_table : {A B : Type 0} (format : Format A) (rows : List (Row A)) (view : B → A) (kind : ℕ) (payload : List ℕ) → ((bytes : List ℕ) → format.read kind bytes ≡ read_table rows kind bytes) → AreSpelt format.kind format.payload rows → ((made : A) → format.kind made ≡ kind → row_of rows (format.kind made) ≢ None) → AreBytes payload → (answer : Result B PayloadFault) → Answers view (format.read kind payload) answer → Means format view kind payload answer

@@ -1,5 +1,5 @@
 -- Writing fields one after the other.
-use Rattle.std.proofs.Common.{◌≡◌, ◌≤◌, ◌+◌, ◌-◌, ◌++◌, ◌<◌, ℕ, suc, List, [], ◌∷◌, length, get_or, drop-cons, add-one, take_all, length-drop, le_of_eq, take, drop, rules, arith, ap, sym, subst, ◌∙◌, length-append, append_assoc, append-nil, drop_of_length-le, drop-drop, length-take-le}
+use Rattle.std.proofs.Common.{◌≡◌, ◌≤◌, ◌+◌, ◌-◌, ◌++◌, ◌<◌, ℕ, List, [], ◌∷◌, length, get_or, drop-cons, add-one, take_all, length-drop, le_of_eq, take, drop, arith, ap, sym, subst, ◌∙◌, length-append, append_assoc, append-nil, drop_of_length-le, drop-drop, length-take-le}
 use Rattle.std.proofs.lemmas.List.{take_at, drop_at}
 use borrow.Rule.Slice.PartMut.{put_mid}
 use Rattle.gb_payload.specs.Fields.{field_bytes, spelled}

@@ -11,7 +11,8 @@ fault_of fault.UnknownKind = formats.PayloadFault.UnknownKind
 fault_of (fault.Mismatch at) = formats.PayloadFault.Mismatch at
 
 -- A call answers what a definition does, of whose records its own are views.
-abbrev pub Answers : {A B : Type 0} → (B → A) → Result A formats.PayloadFault → Result B PayloadFault → Type 0
+abbrev pub Answers : {A B : Type 0} → (B → A) → Result A formats.PayloadFault
+    → Result B PayloadFault → Type 0
 Answers view answer (Ok value) = answer ≡ Ok (view value)
 Answers view answer (Err why) = answer ≡ Err (fault_of why)
 

@@ -1,6 +1,6 @@
 -- What reading and writing mean, in words that don't go by the tables: the type and the payload of a
 -- record, and what can become of the beginning of a payload.
-use Rattle.std.specs.Prelude.{◌≡◌, ◌≢◌, ◌<◌, ◌≤◌, ℕ, Result, Ok, Err, List, [], ◌++◌, length, take}
+use Rattle.std.specs.Prelude.{◌≡◌, ◌≢◌, ◌<◌, ◌≤◌, ℕ, Result, Ok, Err, List, ◌++◌, length, take}
 use Rattle.gb_base.specs.Bytes.{AreBytes}
 use Rattle.gb_formats.specs.Records as formats
 use Rattle.gb_payload.specs.declared.fault.PayloadFault.{PayloadFault}
@@ -20,22 +20,27 @@ pub record GoesOn {A : Type 0} (format : Format A) (kind : ℕ) (bytes : List �
   pub are_bytes : AreBytes rest
   pub reads : format.read kind (bytes ++ rest) ≡ Ok made
 
--- The place at which a payload parts from all records of its type. They go on from each shorter
--- front of it. From the front of this length none goes on, unless it is all of the payload, which
--- is then too short.
-pub record IsPlace {A : Type 0} (format : Format A) (kind : ℕ) (payload : List ℕ) (at : ℕ) : Type 0 where
-  pub some : GoesOn format kind []
+-- The place at which a payload parts from all records of its type, of which there are some. They go
+-- on from each shorter front of it. From the front of this length none goes on, unless it is all of
+-- the payload, which is then too short.
+pub record IsPlace {A : Type 0} (format : Format A) (kind : ℕ) (payload : List ℕ)
+    (at : ℕ) : Type 0 where
+  pub known : (made : A) × (format.kind made ≡ kind)
   pub wrong : (made : A) → format.read kind payload ≢ Ok made
   pub within : at ≤ length payload
   pub before : (n : ℕ) → n < at → GoesOn format kind (take n payload)
   pub there : GoesOn format kind (take at payload) → at ≡ length payload
+
+-- no record has the type
+abbrev pub HasNone : {A : Type 0} → Format A → ℕ → Type 0
+HasNone {A} format kind = (made : A) → format.kind made ≢ kind
 
 -- What an answer to reading a payload of a type means. A record has the type and the payload.
 -- UnknownKind is the answer where no record has the type. A mismatch tells the place.
 abbrev pub Means : {A B : Type 0} → Format A → (B → A) → ℕ → List ℕ → Result B PayloadFault → Type 0
 Means format view kind payload (Ok value) =
     (format.kind (view value) ≡ kind) × (format.payload (view value) ≡ payload)
-Means format view kind payload (Err fault.UnknownKind) = (made : _) → format.kind made ≢ kind
+Means format view kind payload (Err fault.UnknownKind) = HasNone format kind
 Means format view kind payload (Err (fault.Mismatch at)) = IsPlace format kind payload at
 
 -- What is written is read again as the same record.

@@ -6,7 +6,7 @@ ghost use Rattle.gb_payload.specs.Answers.{Answers};
 ghost use Rattle.gb_payload.specs.Fields.{Puts};
 ghost use Rattle.gb_payload.specs.Meaning.{IsRead, Means};
 ghost use Rattle.gb_payload.specs.Protocols.{control_asks};
-ghost use Rattle.gb_payload.specs.Views.{control_ask};
+ghost use Rattle.gb_payload.specs.Views.{control_ask_of};
 
 use crate::Field::{U8, U16};
 use crate::control_kinds::{
@@ -50,8 +50,8 @@ pub enum ControlAsk {
 impl ControlAsk {
     /// Reads the payload of a type.
     pub fn read(kind: u8, payload: &[u8]) -> Result<ControlAsk, PayloadFault>
-        ensures answer { Answers control_ask (read_control_ask kind payload.now) result }
-        ensures means { Means control_asks control_ask kind payload.now result }
+        ensures answer { Answers control_ask_of (read_control_ask kind payload.now) result }
+        ensures means { Means control_asks control_ask_of kind payload.now result }
     {
         row(kind, payload)
     }
@@ -59,9 +59,9 @@ impl ControlAsk {
     /// Writes the payload to the front of `out`, and answers its length. NoRoom exactly where `out`
     /// is shorter, and `out` is then unchanged.
     pub fn write(&self, out: &mut [u8]) -> Result<usize, NoRoom>
-        ensures bytes { Puts (control_ask_payload (control_ask self.now)) out.old out.new result }
+        ensures bytes { Puts (control_ask_payload (control_ask_of self.now)) out.old out.new result }
         ensures again { IfOk result
-            (λ n. IsRead control_asks (control_ask self.now) (take n out.new)) }
+            (λ n. IsRead control_asks (control_ask_of self.now) (take n out.new)) }
     {
         match self {
             ControlAsk::Version { major, minor } => put(&[U8(*major), U8(*minor)], out),
@@ -75,7 +75,7 @@ impl ControlAsk {
 
     /// The type.
     pub fn kind(&self) -> u8
-        ensures { result ≡ control_ask_kind (control_ask self.now) }
+        ensures { result ≡ control_ask_kind (control_ask_of self.now) }
     {
         match self {
             ControlAsk::Version { .. } => VERSION,
@@ -90,7 +90,7 @@ impl ControlAsk {
 
 /// The record of a type that a payload is.
 fn row(kind: u8, payload: &[u8]) -> Result<ControlAsk, PayloadFault>
-    ensures { Answers control_ask (read_control_ask kind payload.now) result }
+    ensures { Answers control_ask_of (read_control_ask kind payload.now) result }
 {
     match kind {
         VERSION => read_record!(payload => ControlAsk::Version { major: u8, minor: u8 }),

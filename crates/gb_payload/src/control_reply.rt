@@ -6,7 +6,7 @@ ghost use Rattle.gb_payload.specs.Answers.{Answers};
 ghost use Rattle.gb_payload.specs.Fields.{Puts};
 ghost use Rattle.gb_payload.specs.Meaning.{IsRead, Means};
 ghost use Rattle.gb_payload.specs.Protocols.{control_replies};
-ghost use Rattle.gb_payload.specs.Views.{control_reply};
+ghost use Rattle.gb_payload.specs.Views.{control_reply_of};
 
 use crate::Field::{Bytes, U8, U16};
 use crate::control_kinds::{
@@ -46,8 +46,8 @@ pub enum ControlReply<'a> {
 impl<'a> ControlReply<'a> {
     /// Reads the payload of a type.
     pub fn read(kind: u8, payload: &'a [u8]) -> Result<ControlReply<'a>, PayloadFault>
-        ensures answer { Answers control_reply (read_control_reply kind payload.now) result }
-        ensures means { Means control_replies control_reply kind payload.now result }
+        ensures answer { Answers control_reply_of (read_control_reply kind payload.now) result }
+        ensures means { Means control_replies control_reply_of kind payload.now result }
     {
         row(kind, payload)
     }
@@ -55,9 +55,10 @@ impl<'a> ControlReply<'a> {
     /// Writes the payload to the front of `out`, and answers its length. NoRoom exactly where `out`
     /// is shorter, and `out` is then unchanged.
     pub fn write(&self, out: &mut [u8]) -> Result<usize, NoRoom>
-        ensures bytes { Puts (control_reply_payload (control_reply self.now)) out.old out.new result }
+        ensures bytes { Puts (control_reply_payload (control_reply_of self.now))
+            out.old out.new result }
         ensures again { IfOk result
-            (λ n. IsRead control_replies (control_reply self.now) (take n out.new)) }
+            (λ n. IsRead control_replies (control_reply_of self.now) (take n out.new)) }
     {
         match self {
             ControlReply::Version { major, minor } => put(&[U8(*major), U8(*minor)], out),
@@ -71,7 +72,7 @@ impl<'a> ControlReply<'a> {
 
     /// The type of the request.
     pub fn kind(&self) -> u8
-        ensures { result ≡ control_reply_kind (control_reply self.now) }
+        ensures { result ≡ control_reply_kind (control_reply_of self.now) }
     {
         match self {
             ControlReply::Version { .. } => VERSION,
@@ -86,7 +87,7 @@ impl<'a> ControlReply<'a> {
 
 /// The record of a type that a payload is.
 fn row(kind: u8, payload: &[u8]) -> Result<ControlReply<'_>, PayloadFault>
-    ensures { Answers control_reply (read_control_reply kind payload.now) result }
+    ensures { Answers control_reply_of (read_control_reply kind payload.now) result }
 {
     match kind {
         VERSION => read_record!(payload => ControlReply::Version { major: u8, minor: u8 }),

@@ -9,6 +9,8 @@ mod reading;
 mod svc_ask;
 mod svc_kinds;
 mod svc_reply;
+#[cfg(test)]
+mod tests;
 mod writing;
 
 pub use control_ask::ControlAsk;

@@ -7,7 +7,7 @@ ghost use Rattle.gb_payload.specs.Fields.{Puts};
 ghost use Rattle.gb_payload.specs.Groups.{is_link};
 ghost use Rattle.gb_payload.specs.Meaning.{IsRead, Means};
 ghost use Rattle.gb_payload.specs.Protocols.{svc_asks};
-ghost use Rattle.gb_payload.specs.Views.{svc_ask};
+ghost use Rattle.gb_payload.specs.Views.{svc_ask_of};
 
 use crate::Field::{U8, U16};
 use crate::svc_kinds::{
@@ -128,8 +128,8 @@ pub enum SvcAsk {
 impl SvcAsk {
     /// Reads the payload of a type.
     pub fn read(kind: u8, payload: &[u8]) -> Result<SvcAsk, PayloadFault>
-        ensures answer { Answers svc_ask (read_svc_ask kind payload.now) result }
-        ensures means { Means svc_asks svc_ask kind payload.now result }
+        ensures answer { Answers svc_ask_of (read_svc_ask kind payload.now) result }
+        ensures means { Means svc_asks svc_ask_of kind payload.now result }
     {
         row(kind, payload)
     }
@@ -137,9 +137,9 @@ impl SvcAsk {
     /// Writes the payload to the front of `out`, and answers its length. NoRoom exactly where `out`
     /// is shorter, and `out` is then unchanged.
     pub fn write(&self, out: &mut [u8]) -> Result<usize, NoRoom>
-        ensures bytes { Puts (svc_ask_payload (svc_ask self.now)) out.old out.new result }
+        ensures bytes { Puts (svc_ask_payload (svc_ask_of self.now)) out.old out.new result }
         ensures again { IfOk result
-            (λ n. IsRead svc_asks (svc_ask self.now) (take n out.new)) }
+            (λ n. IsRead svc_asks (svc_ask_of self.now) (take n out.new)) }
     {
         match self {
             SvcAsk::IntfDeviceId { intf, device } => put(&[U8(*intf), U8(*device)], out),
@@ -168,7 +168,7 @@ impl SvcAsk {
 
     /// The type.
     pub fn kind(&self) -> u8
-        ensures { result ≡ svc_ask_kind (svc_ask self.now) }
+        ensures { result ≡ svc_ask_kind (svc_ask_of self.now) }
     {
         match self {
             SvcAsk::IntfDeviceId { .. } => INTF_DEVICE_ID,
@@ -191,9 +191,9 @@ impl SvcAsk {
 
 /// Writes the payload of a request on a connection or a route.
 fn write_link(ask: &SvcAsk, out: &mut [u8]) -> Result<usize, NoRoom>
-    requires { is_link (svc_ask ask.now) ≡ true }
-    ensures bytes { Puts (svc_ask_payload (svc_ask ask.now)) out.old out.new result }
-    ensures again { IfOk result (λ n. IsRead svc_asks (svc_ask ask.now) (take n out.new)) }
+    requires { is_link (svc_ask_of ask.now) ≡ true }
+    ensures bytes { Puts (svc_ask_payload (svc_ask_of ask.now)) out.old out.new result }
+    ensures again { IfOk result (λ n. IsRead svc_asks (svc_ask_of ask.now) (take n out.new)) }
 {
     match ask {
         SvcAsk::ConnCreate {
@@ -233,7 +233,7 @@ fn write_link(ask: &SvcAsk, out: &mut [u8]) -> Result<usize, NoRoom>
 
 /// The record of a type that a payload is.
 fn row(kind: u8, payload: &[u8]) -> Result<SvcAsk, PayloadFault>
-    ensures { Answers svc_ask (read_svc_ask kind payload.now) result }
+    ensures { Answers svc_ask_of (read_svc_ask kind payload.now) result }
 {
     match kind {
         INTF_DEVICE_ID => read_record!(payload => SvcAsk::IntfDeviceId { intf: u8, device: u8 }),

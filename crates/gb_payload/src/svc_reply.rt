@@ -6,7 +6,7 @@ ghost use Rattle.gb_payload.specs.Answers.{Answers};
 ghost use Rattle.gb_payload.specs.Fields.{Puts};
 ghost use Rattle.gb_payload.specs.Meaning.{IsRead, Means};
 ghost use Rattle.gb_payload.specs.Protocols.{svc_replies};
-ghost use Rattle.gb_payload.specs.Views.{svc_reply};
+ghost use Rattle.gb_payload.specs.Views.{svc_reply_of};
 
 use crate::Field::U8;
 use crate::svc_kinds::{
@@ -73,8 +73,8 @@ pub enum SvcReply {
 impl SvcReply {
     /// Reads the payload of a type.
     pub fn read(kind: u8, payload: &[u8]) -> Result<SvcReply, PayloadFault>
-        ensures answer { Answers svc_reply (read_svc_reply kind payload.now) result }
-        ensures means { Means svc_replies svc_reply kind payload.now result }
+        ensures answer { Answers svc_reply_of (read_svc_reply kind payload.now) result }
+        ensures means { Means svc_replies svc_reply_of kind payload.now result }
     {
         row(kind, payload)
     }
@@ -82,9 +82,9 @@ impl SvcReply {
     /// Writes the payload to the front of `out`, and answers its length. NoRoom exactly where `out`
     /// is shorter, and `out` is then unchanged.
     pub fn write(&self, out: &mut [u8]) -> Result<usize, NoRoom>
-        ensures bytes { Puts (svc_reply_payload (svc_reply self.now)) out.old out.new result }
+        ensures bytes { Puts (svc_reply_payload (svc_reply_of self.now)) out.old out.new result }
         ensures again { IfOk result
-            (λ n. IsRead svc_replies (svc_reply self.now) (take n out.new)) }
+            (λ n. IsRead svc_replies (svc_reply_of self.now) (take n out.new)) }
     {
         match self {
             SvcReply::IntfDeviceId => put(&[], out),
@@ -106,7 +106,7 @@ impl SvcReply {
 
     /// The type of the request.
     pub fn kind(&self) -> u8
-        ensures { result ≡ svc_reply_kind (svc_reply self.now) }
+        ensures { result ≡ svc_reply_kind (svc_reply_of self.now) }
     {
         match self {
             SvcReply::IntfDeviceId => INTF_DEVICE_ID,
@@ -129,7 +129,7 @@ impl SvcReply {
 
 /// The record of a type that a payload is.
 fn row(kind: u8, payload: &[u8]) -> Result<SvcReply, PayloadFault>
-    ensures { Answers svc_reply (read_svc_reply kind payload.now) result }
+    ensures { Answers svc_reply_of (read_svc_reply kind payload.now) result }
 {
     match kind {
         INTF_DEVICE_ID => read_record!(payload => SvcReply::IntfDeviceId),

@@ -1,5 +1,5 @@
 -- Behind the fields so far `out` is as it was.
-use Rattle.std.proofs.Common.{◌≡◌, ◌≤◌, ◌+◌, ◌++◌, ℕ, List, length, take, drop}
+use Rattle.std.proofs.Common.{drop}
 use Rattle.gb_payload.specs.Fields.{spelled}
 use Rattle.gb_payload.proofs.writing.put.Given as goal
 use Rattle.gb_payload.proofs.Written.{Written}
