@@ -9,7 +9,7 @@ use byteorder::{ByteOrder, LittleEndian};
 use std::cmp::Ordering;
 
 /// The fields of a payload, read one after the other. Numbers have their lowest byte first.
-#[derive(Clone, Copy, Debug)]
+#[derive(Debug, Drop)]
 pub struct Fields<'a> {
     rest: &'a [u8],
 }
