@@ -1,0 +1,4 @@
+pub mod Decoded
+pub mod Feeding
+pub mod Spellings
+pub mod StreamDivisions

@@ -1,1 +1,4 @@
+pub mod Decoding
+pub mod Feeding
 pub mod MessageOf
+pub mod Streams

@@ -8,7 +8,7 @@ use byteorder::{ByteOrder, LittleEndian};
 use gb_base::NoRoom;
 
 /// How many bytes a header has.
-const HEADER: usize = 8;
+pub(crate) const HEADER: usize = 8;
 
 /// An operation message (Greybus Specification, "Operation Messages").
 #[derive(Clone, Copy, Debug)]
