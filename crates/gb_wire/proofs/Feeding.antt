@@ -1,5 +1,5 @@
 -- What a feeder has handed out, over one piece more.
-use Rattle.std.proofs.Common.{◌≡◌, ℕ, ◌+◌, List, [], ◌∷◌, ◌++◌, take, drop, Result, Err, Option, inr, refl, sym, ap, subst, ◌∙◌, append_assoc}
+use Rattle.std.proofs.Common.{◌≡◌, ℕ, ◌+◌, List, [], ◌∷◌, ◌++◌, take, drop, Result, Err, Option, Some, None, inr, refl, sym, ap, subst, ◌∙◌, append_assoc}
 use Rattle.std.proofs.lemmas.List.{append-nil, drop-drop, map-append}
 use Rattle.gb_base.specs.declared.fault.WireFault.{WireFault}
 use Rattle.gb_base.specs.declared.fault.WireFault.TheVariants as wire
@@ -47,6 +47,14 @@ stream-stops fault bytes used out lasts so_far e l =
     subst (λ (o : Option WireFault). HandedOut bytes (messages_of out) (held o left)) (sym l) (stops fault bytes left (messages_of out) e whole)
 
 -- ---- a call
+
+-- what is held where there is a fault, and where there is none
+pub held-some : (now : Held) (o : Option WireFault) (left : List ℕ) (fault : WireFault) → held o left ≡ now → o ≡ Some fault → now ≡ Stopped fault
+held-some now o left fault v e = sym v ∙ ap (λ (x : Option WireFault). held x left) e
+
+pub held-none : (now : Held) (o : Option WireFault) (left here : List ℕ) → held o left ≡ now → o ≡ None → here ≡ left → now ≡ Part here
+held-none now o left here v e same =
+    sym v ∙ (ap (λ (x : Option WireFault). held x left) e ∙ ap Part (sym same))
 
 -- behind what was handed out stands what is left with the piece
 goes_on : (came left piece : List ℕ) (out : List Message) → IsStream came out left → IsRest (left ++ piece) → IsStream (came ++ piece) out (left ++ piece)

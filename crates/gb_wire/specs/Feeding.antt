@@ -1,6 +1,5 @@
 -- What a call of a feeder answers.
 use Rattle.std.specs.Prelude.{◌≡◌, ℕ, List, ◌++◌, Result, Ok, Err, ⊤}
-use Rattle.gb_base.specs.declared.fault.WireFault.{WireFault}
 use Rattle.gb_formats.specs.Message.{Message}
 use Rattle.gb_wire.specs.MessageOf.{messages_of}
 use Rattle.gb_wire.specs.Streams.{HandedOut, Held, Stopped}
@@ -14,9 +13,3 @@ abbrev pub Feeds : List ℕ → List Message → Result (List OwnedMessage) Feed
 Feeds came out (Ok messages) new = HandedOut came (out ++ messages_of messages) new
 Feeds came out (Err (feed.Wire fault)) new = HandedOut came out new × (new ≡ Stopped fault)
 Feeds came out (Err (feed.Memory refused)) new = ⊤
-
--- this fault is answered, unless memory is wanting
-abbrev pub IsFault : WireFault → Result (List OwnedMessage) FeedFault → Type 0
-IsFault fault (Ok messages) = ⊥
-IsFault fault (Err (feed.Wire answered)) = answered ≡ fault
-IsFault fault (Err (feed.Memory refused)) = ⊤

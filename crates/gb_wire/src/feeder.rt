@@ -7,7 +7,7 @@ ghost use Rattle.gb_formats.specs.Wire.{IsStream};
 ghost use Rattle.gb_base.specs.declared.fault.WireFault.{WireFault};
 ghost use Rattle.gb_wire.specs.MessageOf.{messages_of};
 ghost use Rattle.gb_wire.specs.Streams.{BeginsWith, HandedOut, Stopped, held};
-ghost use Rattle.gb_wire.specs.Feeding.{Feeds, IsFault};
+ghost use Rattle.gb_wire.specs.Feeding.{Feeds};
 
 use crate::Messages;
 use crate::decoder::size_of;
@@ -73,10 +73,10 @@ impl Feeder {
         // Whatever came before, the messages are those of the division of all that came.
         ensures stream { (came : List ℕ) (out : List Message) → HandedOut came out self.old
             → Feeds (came ++ piece.now) out result self.new }
-        // A fault that is due is answered.
+        // Where the stream goes on with a fault behind what was handed out, that is answered.
         ensures due { (came rest : List ℕ) (out : List Message) (fault : WireFault)
             → HandedOut came out self.old → IsStream (came ++ piece.now) out rest
-            → BeginsWith fault rest → IsFault fault result }
+            → BeginsWith fault rest → result ≡ Err (FeedFault.Wire fault) }
         // A fault that was answered is answered for ever.
         ensures stopped { (fault : WireFault) → self.old ≡ Stopped fault
             → (result ≡ Err (FeedFault.Wire fault)) × (self.new ≡ self.old) }
