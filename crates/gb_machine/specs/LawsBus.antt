@@ -19,13 +19,17 @@ is_awaited n b = is_open n b || is_given_up n b
 
 -- Requests of one side of one connection that are awaited have different identifiers, from 1 to the
 -- greatest.
-pub record HaveOwnLabels (told : List Entry) (s : State) : Type 0 where
+pub record OwnLabels (b : Bus) : Type 0 where
   pub differ : (n m : ℕ) (r q : Request)
-      → request_of n s.bus ≡ Some r → request_of m s.bus ≡ Some q
-      → is_awaited n s.bus ≡ true → is_awaited m s.bus ≡ true
+      → request_of n b ≡ Some r → request_of m b ≡ Some q
+      → is_awaited n b ≡ true → is_awaited m b ≡ true
       → r.connection ≡ q.connection → r.side ≡ q.side → r.label ≡ q.label → n ≡ m
-  pub range : (n : ℕ) (r : Request) → request_of n s.bus ≡ Some r → is_awaited n s.bus ≡ true
+  pub range : (n : ℕ) (r : Request) → request_of n b ≡ Some r → is_awaited n b ≡ true
       → (1 ≤ r.label) × (r.label ≤ greatest_label)
+
+-- the identifiers that are awaited differ
+abbrev pub HaveOwnLabels : List Entry → State → Type 0
+HaveOwnLabels told s = OwnLabels s.bus
 
 -- Identifiers that are in use on a side of a connection differ, in every state of a run.
 abbrev pub LabelsDiffer : Type 0

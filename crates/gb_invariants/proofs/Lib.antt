@@ -1,0 +1,14 @@
+pub mod Apart
+pub mod Awaiting
+pub mod Changes
+pub mod Counts
+pub mod Drawing
+pub mod Ending
+pub mod ItemChanges
+pub mod Items
+pub mod Labels
+pub mod Lists
+pub mod Numbers
+pub mod OneItem
+pub mod Outcomes
+pub mod Selves

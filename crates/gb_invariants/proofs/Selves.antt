@@ -1,0 +1,81 @@
+-- What a connection keeps when only its queues and identifiers change.
+use Rattle.std.proofs.Common.{◌≡◌, ◌⊎◌, ℕ, Bool, true, false, cond, List, [], ◌∷◌, refl, ◌∙◌, inl, inr, ⊎_elim}
+use Rattle.gb_base.specs.declared.end.Side.{Side}
+use Rattle.gb_base.specs.declared.end.Side.TheVariants as side
+use Rattle.gb_invariants.proofs.Lists.{in-pushed}
+use Rattle.gb_machine.specs.Bus.{Connection, Item, queue}
+use Rattle.gb_machine.specs.Delivery.{without_front}
+use Rattle.gb_machine.specs.Labels.{with_last_label}
+use Rattle.gb_machine.specs.Lists.{behind_first}
+use Rattle.gb_machine.specs.Members.{IsIn}
+use Rattle.gb_machine.specs.Sending.{Draft, drawn, put, queued}
+
+-- number, and whether it is clean and closed
+pub record SameSelf (c d : Connection) : Type 0 where
+  pub number : d.number ≡ c.number
+  pub clean : d.clean ≡ c.clean
+  pub shut : d.shut ≡ c.shut
+
+queued-self : (at : Side) (item : Item) (c : Connection) → SameSelf c (queued at item c)
+queued-self side.Ap item c = record { number = refl; clean = refl; shut = refl }
+queued-self side.Far item c = record { number = refl; clean = refl; shut = refl }
+
+pub put-self : (at : Side) (item : Item) (c : Connection) → SameSelf c (put at item c)
+put-self at item c = by c.wired
+  where
+    by : (t : Bool) → SameSelf c (cond t (queued at item c) c)
+    by true = queued-self at item c
+    by false = record { number = refl; clean = refl; shut = refl }
+
+pub drawn-self : (d : Draft) (label : ℕ) (c : Connection) → SameSelf c (drawn d label c)
+drawn-self d label c = by d.side d.oneway
+  where
+    by : (s : Side) (t : Bool) → SameSelf c (cond t c (with_last_label s label c))
+    by side.Ap false = record { number = refl; clean = refl; shut = refl }
+    by side.Far false = record { number = refl; clean = refl; shut = refl }
+    by s true = record { number = refl; clean = refl; shut = refl }
+
+pub front-self : (at : Side) (c : Connection) → SameSelf c (without_front at c)
+front-self side.Ap c = record { number = refl; clean = refl; shut = refl }
+front-self side.Far c = record { number = refl; clean = refl; shut = refl }
+
+pub both-self : (c d e : Connection) → SameSelf c d → SameSelf d e → SameSelf c e
+both-self c d e h k = record { number = k.number ∙ h.number; clean = k.clean ∙ h.clean; shut = k.shut ∙ h.shut }
+
+pub queued-queue : (s at : Side) (new item : Item) (c : Connection) → IsIn item (queue s (queued at new c))
+    → IsIn item (queue s c) ⊎ ((s ≡ at) × (item ≡ new))
+queued-queue side.Ap side.Ap new item c i = ⊎_elim (λ a. inl a) (λ e. inr (refl, e)) (in-pushed item c.to_ap new i)
+queued-queue side.Far side.Far new item c i = ⊎_elim (λ a. inl a) (λ e. inr (refl, e)) (in-pushed item c.to_far new i)
+queued-queue side.Ap side.Far new item c i = inl i
+queued-queue side.Far side.Ap new item c i = inl i
+
+pub put-queue : (s at : Side) (new item : Item) (c : Connection) → IsIn item (queue s (put at new c))
+    → IsIn item (queue s c) ⊎ ((s ≡ at) × (item ≡ new))
+put-queue s at new item c i = by c.wired i
+  where
+    by : (t : Bool) → IsIn item (queue s (cond t (queued at new c) c)) → IsIn item (queue s c) ⊎ ((s ≡ at) × (item ≡ new))
+    by true i = queued-queue s at new item c i
+    by false i = inl i
+
+pub drawn-queue : (s : Side) (d : Draft) (label : ℕ) (c : Connection) → queue s (drawn d label c) ≡ queue s c
+drawn-queue s d label c = by s d.side d.oneway
+  where
+    by : (s at : Side) (t : Bool) → queue s (cond t c (with_last_label at label c)) ≡ queue s c
+    by side.Ap side.Ap false = refl
+    by side.Ap side.Far false = refl
+    by side.Far side.Ap false = refl
+    by side.Far side.Far false = refl
+    by s at true = refl
+
+pub front-queue : (s at : Side) (item : Item) (c : Connection) → IsIn item (queue s (without_front at c)) → IsIn item (queue s c)
+front-queue s at item c i = by s at i
+  where
+    later : (is : List Item) → IsIn item (behind_first is) → IsIn item is
+    later [] j = absurd j
+    later (x ∷ xs) j = inr j
+
+    by : (s at : Side) → IsIn item (queue s (without_front at c)) → IsIn item (queue s c)
+    by side.Ap side.Ap i = later c.to_ap i
+    by side.Far side.Far i = later c.to_far i
+    by side.Ap side.Far i = i
+    by side.Far side.Ap i = i
