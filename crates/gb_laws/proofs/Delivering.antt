@@ -1,0 +1,291 @@
+-- A law of points goes over deliveries, and over held requests that are answered.
+use Rattle.std.proofs.Common.{◌≡◌, ◌⊎◌, ◌≤◌, ◌<◌, ℕ, ◌+◌, Bool, true, false, not, cond, Option, Some, None, List, [], ◌∷◌, ◌++◌, map, refl, sym, ap, ◌∙◌, inl, inr, ⊎_elim, subst, append-nil, append_assoc}
+use Rattle.std.specs.Prelude.{Result, Ok, Err, ◌==◌, option_map}
+use Rattle.gb_base.specs.declared.bridge.Reading.{Reading}
+use Rattle.gb_base.specs.declared.end.End.{End}
+use Rattle.gb_base.specs.declared.end.End.TheVariants as end
+use Rattle.gb_base.specs.declared.end.Side.{Side}
+use Rattle.gb_base.specs.declared.end.Side.TheVariants as side
+use Rattle.gb_base.specs.declared.entry.Entry.{Entry}
+use Rattle.gb_base.specs.declared.entry.Entry.TheVariants as entry
+use Rattle.gb_base.specs.declared.event.Event.TheVariants as event
+use Rattle.gb_base.specs.declared.fault.RawFault.{RawFault}
+use Rattle.gb_formats.specs.Message.{Message}
+use Rattle.gb_formats.specs.Wire.{raw_message}
+use Rattle.gb_invariants.proofs.Awaiting.{not-both}
+use Rattle.gb_invariants.specs.Facts.{Loose, is_numbered}
+use Rattle.gb_laws.proofs.Acting.{goes-notices}
+use Rattle.gb_laws.proofs.Going.{At, Goes, goes-nothing, goes-tell, goes-▸}
+use Rattle.gb_laws.proofs.Places.{LivesOn, lives-replied, module-far, place-is}
+use Rattle.gb_laws.proofs.Points.{Answers, Forgets, Hand, IsNoticed, Law, Says, Untouched, Wires, acting, answers, by_label, by_number, drops, forgets, holds, is_quiet, numbered, replies, takes, takes_held, tells, unclean}
+use Rattle.gb_laws.proofs.Serving.{Ends, IsTaken, answered, delivered, ends-going, ends-response}
+use Rattle.gb_machine.proofs.Opened.{machine_opened}
+use Rattle.gb_machine.specs.Actions.{Action, by_state, change, given, nothing, on_bus, tell, ◌▸◌}
+use Rattle.gb_machine.specs.Arriving as arriving
+use Rattle.gb_machine.specs.Arriving.{arrives, asked_at, delivers, delivers_at, dropped, ends_answered, handles, is_held, keeps, late_by, raw_taken, reading_for, reply_taken, with_held}
+use Rattle.gb_machine.specs.Bus.{Ask, Bus, Connection, Item, Place, Raw, RawReply, Reply, Request, is_open, other_side, place_of, queue, request_of}
+use Rattle.gb_machine.specs.Delivery as delivery
+use Rattle.gb_machine.specs.Delivery.{ended, forgotten, popped, replied}
+use Rattle.gb_machine.specs.HostActs.{follows}
+use Rattle.gb_machine.specs.Incoming.{Incoming, incoming, incoming_raw, is_request, raw_request, reply_entry, reply_item, request_in}
+use Rattle.gb_machine.specs.Holding.{held_on}
+use Rattle.gb_machine.specs.LineActions.{answers as answering, answers_at, answers_held, serves_held, with_fewer}
+use Rattle.gb_machine.specs.Lists.{first, nth}
+use Rattle.gb_machine.specs.Refusals.{module_place}
+use Rattle.gb_machine.specs.Requests.{given_up_with, open_with}
+use Rattle.gb_machine.specs.Responding.{Response, replies as replying, responds, response_at, serves as serving, serves_oneway}
+use Rattle.gb_machine.specs.Runs.{Moment}
+use Rattle.gb_machine.specs.Serving.{success}
+use Rattle.gb_machine.specs.State.{Held, State}
+use Rattle.gb_machine.specs.Turns.{HostEvent}
+
+-- requests stay where an item is taken
+request-popped : (item : Item) (k : ℕ) (at : Side) (b : Bus) → request_in item (popped k at b) ≡ request_in item b
+request-popped (Ask n) k at b = refl
+request-popped (Raw bytes) k at b = refl
+request-popped (Reply n result payload) k at b = refl
+request-popped (RawReply label kind result payload) k at b = refl
+
+module _ (m : Moment) (law : Law m) where
+  -- one action after another ends a step
+  pub then-ends : (hand : Option Hand) (f g : Action) (s : State)
+      → Goes m (acting m law) hand [] Untouched None [] Untouched f s → Ends m law None g (f s).state → Ends m law hand (f ▸ g) s
+  unfolding machine_opened
+  then-ends hand f g s h k told at =
+      let r = k (told ++ (f s).entries) (h told at) in
+      (r.0, subst (λ es. At m (acting m law) None [] r.0 es (g (f s).state).state) (append_assoc told (f s).entries (g (f s).state).entries) r.1)
+
+  -- what is being handled is let go first
+  dropped-first : (h : Hand) (f : Action) (s : State) → Ends m law None f s → Ends m law (Some h) f s
+  dropped-first h f s k told at = k told (law.kept _ drops at)
+
+  ends-told : (h : Hand) (e : Entry) (s : State) → is_quiet e ≡ true → Ends m law (Some h) (tell e) s
+  unfolding machine_opened
+  ends-told h e s quiet = dropped-first h (tell e) s (ends-going m law None (tell e) s (goes-tell m (acting m law) None [] Untouched e s quiet))
+
+  ends-untold : (h : Hand) (s : State) → Ends m law (Some h) nothing s
+  ends-untold h s = dropped-first h nothing s (ends-going m law None nothing s (goes-nothing m (acting m law) None [] Untouched s))
+
+  -- ---- requests
+
+  -- what is being handled, as a hand
+  abbrev hand_of : Connection → Side → Item → Hand
+  hand_of c at item = record { connection = c; side = at; item = item }
+
+  ends-responds : (c : Connection) (at : Side) (item : Item) (q : Incoming) (s : State) → s.host ≡ m.before.host
+      → request_in item s.bus ≡ Some q → IsTaken m c at q → Ends m law (Some (hand_of c at item)) (serving at c q) s
+  unfolding machine_opened
+  ends-responds c at item q s same made taken = by q.oneway refl
+    where
+      r : Response
+      r = response_at at c q s
+
+      oneway : (t : Bool) → Ends m law (Some (hand_of c at item)) (cond t (response_at at c q s).behind (tell (entry.Ignored q.kind))) s
+      oneway true = dropped-first (hand_of c at item) (response_at at c q s).behind s
+          (ends-response m law c at q s s taken (λ k t l. l) same refl)
+      oneway false = ends-told (hand_of c at item) (entry.Ignored q.kind) s refl
+
+      by : (t : Bool) → q.oneway ≡ t
+          → Ends m law (Some (hand_of c at item)) (cond t (serves_oneway q (response_at at c q s)) (replying at c q (response_at at c q s).answer ▸ (response_at at c q s).behind)) s
+      by true e = oneway ((response_at at c q s).answer.result == success)
+      by false e =
+          then-ends (Some (hand_of c at item)) (replying at c q (response_at at c q s).answer) (response_at at c q s).behind s
+          (λ told now. law.kept _ (replies (hand_of c at item) q (response_at at c q s).answer refl made e) now)
+          (ends-response m law c at q s (record s { bus = replied c.number (other_side at) (reply_item q (response_at at c q s).answer) s.bus })
+          taken (lives-replied c.number (other_side at) (reply_item q (response_at at c q s).answer) s.bus) same refl)
+
+  ends-asked : (c : Connection) (at : Side) (item : Item) (q : Incoming) (s : State) → s.host ≡ m.before.host
+      → request_in item s.bus ≡ Some q → IsTaken m c at q → Ends m law (Some (hand_of c at item)) (asked_at at c item q) s
+  unfolding machine_opened
+  ends-asked c at item q s same made taken = by at (is_held at c s) refl (ends-responds c at item q s same made taken)
+    where
+      by : (t : Side) (b : Bool) → is_held t c s ≡ b → Ends m law (Some (hand_of c t item)) (serving t c q) s
+          → Ends m law (Some (hand_of c t item)) (cond b (keeps c item q) (serving t c q)) s
+      by t false e h = h
+      by side.Ap true e h = absurd (not-both false e refl)
+      by side.Far true e h = λ told now.
+          (Untouched, subst (λ es. At m (acting m law) None [] Untouched es (with_held c.number item s))
+          (ap (λ es. es ++ entry.Held q.number ∷ []) (append-nil told))
+          (law.kept _ (tells (entry.Held q.number) refl) (law.kept _ (holds (hand_of c side.Far item) refl refl) now)))
+
+  -- ---- responses
+
+  ends-answered : (h : Hand) (n result : ℕ) (payload : List ℕ) (s : State) → Says h n result payload → Answers h n s.bus
+      → Ends m law (Some h) (ends_answered h.side h.connection n result payload) s
+  unfolding machine_opened
+  ends-answered h n result payload s says which =
+      then-ends (Some h) (on_bus (ended n (delivery.answered result payload)) ▸ tell (entry.Ended n (delivery.answered result payload) (reading_for h.side h.connection result payload (request_of n s.bus))))
+      (follows n (delivery.answered result payload)) s
+      (λ told now. law.kept _ (answers h n result payload refl says which) now)
+      (ends-going m law None (follows n (delivery.answered result payload)) _
+      (goes-notices m (acting m law) (HostEvent.Ended n (delivery.answered result payload)) _ tt))
+
+  ends-forgotten : (h : Hand) (n : ℕ) (e : Entry) (s : State) → is_quiet e ≡ true → Forgets h n s.bus
+      → Ends m law (Some h) (arriving.forgets n e) s
+  unfolding machine_opened
+  ends-forgotten h n e s quiet which told now =
+      (Untouched, subst (λ es. At m (acting m law) None [] Untouched es (record s { bus = forgotten n s.bus })) (ap (λ es. es ++ e ∷ []) (append-nil told))
+      (law.kept _ (tells e quiet) (law.kept _ (forgets h n refl which) now)))
+
+  ends-by_number : (c : Connection) (at : Side) (n result : ℕ) (payload : List ℕ) (s : State) → c.clean ≡ true
+      → Ends m law (Some (hand_of c at (Reply n result payload))) (arriving.by_number at c n result payload) s
+  unfolding machine_opened
+  ends-by_number c at n result payload s clean = by (is_open n s.bus) refl
+    where
+      by : (t : Bool) → is_open n s.bus ≡ t → Ends m law (Some (hand_of c at (Reply n result payload)))
+          (cond t (ends_answered at c n result payload) (arriving.forgets n (entry.Late n))) s
+      by true e = ends-answered (hand_of c at (Reply n result payload)) n result payload s (numbered refl) (by_number result payload refl clean e)
+      by false e = ends-forgotten (hand_of c at (Reply n result payload)) n (entry.Late n) s refl (by_number result payload refl clean)
+
+  ends-by_label : (c : Connection) (at : Side) (item : Item) (label result : ℕ) (payload : List ℕ) (s : State) → c.clean ≡ false
+      → Ends m law (Some (hand_of c at item)) (arriving.by_label at c label result payload) s
+  unfolding machine_opened
+  ends-by_label c at item label result payload s dirty =
+      by (open_with c.number at label s.bus) refl (given_up_with c.number at label s.bus) refl
+    where
+      by : (o : Option ℕ) → open_with c.number at label s.bus ≡ o → (g : Option ℕ) → given_up_with c.number at label s.bus ≡ g
+          → Ends m law (Some (hand_of c at item)) (arriving.answers_by o g at c label result payload) s
+      by (Some n) e g f = ends-answered (hand_of c at item) n result payload s (unclean dirty) (by_label label dirty e)
+      by None e (Some n) f = ends-forgotten (hand_of c at item) n (entry.LateLabel label) s refl (by_label label dirty f)
+      by None e None f = ends-told (hand_of c at item) (entry.UnknownLabel label) s refl
+
+  ends-reply : (c : Connection) (at : Side) (n result : ℕ) (payload : List ℕ) (s : State)
+      → Ends m law (Some (hand_of c at (Reply n result payload))) (reply_taken at c n result payload) s
+  unfolding machine_opened
+  ends-reply c at n result payload s = by c.clean refl
+    where
+      unsaid : (o : Option Request) → c.clean ≡ false
+          → Ends m law (Some (hand_of c at (Reply n result payload))) (given o (λ r. arriving.by_label at c r.label result payload)) s
+      unsaid None dirty = ends-untold (hand_of c at (Reply n result payload)) s
+      unsaid (Some r) dirty = ends-by_label c at (Reply n result payload) r.label result payload s dirty
+
+      by : (t : Bool) → c.clean ≡ t → Ends m law (Some (hand_of c at (Reply n result payload)))
+          (cond t (arriving.by_number at c n result payload) (by_state (λ u. given (request_of n u.bus) (λ r. arriving.by_label at c r.label result payload)))) s
+      by true e = ends-by_number c at n result payload s e
+      by false e = unsaid (request_of n s.bus) e
+
+  -- ---- items
+
+  -- raw bytes and the replies to them are on unclean connections alone
+  unclean-hand : (h : Hand) (told : List Entry) (s : State) → At m (acting m law) (Some h) [] Untouched told s
+      → is_numbered h.item ≡ false → h.connection.clean ≡ false
+  unclean-hand h told s now raw = by h.connection.clean refl
+    where
+      by : (t : Bool) → h.connection.clean ≡ t → h.connection.clean ≡ false
+      by false e = e
+      by true e =
+          let basis = law.basis _ now in
+          let still = basis.hand h refl in
+          let a = basis.bus.items.answerable_loose still.now (record { connection = h.connection.number; side = h.side; item = h.item })
+          still.live (inl refl) still.self.number in
+          absurd (not-both (is_numbered h.item) (a.numbered (still.self.clean ∙ e)) raw)
+
+  ends-raw : (c : Connection) (at : Side) (bytes : List ℕ) (s : State) → s.host ≡ m.before.host
+      → ((q : Incoming) → request_in (Raw bytes) s.bus ≡ Some q → IsTaken m c at q) → c.clean ≡ false
+      → Ends m law (Some (hand_of c at (Raw bytes))) (raw_taken at c (Raw bytes) (raw_message bytes)) s
+  unfolding machine_opened
+  ends-raw c at bytes s same taken dirty = by (raw_message bytes) refl
+    where
+      message : (x : Message) → raw_message bytes ≡ Ok x → (t : Bool) → is_request x ≡ t
+          → Ends m law (Some (hand_of c at (Raw bytes))) (cond t (asked_at at c (Raw bytes) (incoming_raw x)) (arriving.by_label at c x.id x.result x.payload)) s
+      message x e false f = ends-by_label c at (Raw bytes) x.id x.result x.payload s dirty
+      message x e true f =
+          let made : request_in (Raw bytes) s.bus ≡ Some (incoming_raw x) =
+          ap raw_request e ∙ ap (λ t. cond t (Some (incoming_raw x)) None) f in
+          ends-asked c at (Raw bytes) (incoming_raw x) s same made (taken (incoming_raw x) made)
+
+      by : (r : Result Message RawFault) → raw_message bytes ≡ r → Ends m law (Some (hand_of c at (Raw bytes))) (raw_taken at c (Raw bytes) r) s
+      by (Err fault) e = ends-told (hand_of c at (Raw bytes)) (entry.BadRaw fault) s refl
+      by (Ok x) e = message x e (is_request x) refl
+
+  ends-arrives : (c : Connection) (at : Side) (item : Item) (s : State) → s.host ≡ m.before.host
+      → ((q : Incoming) → request_in item s.bus ≡ Some q → IsTaken m c at q)
+      → Ends m law (Some (hand_of c at item)) (arrives at c item) s
+  unfolding machine_opened
+  ends-arrives c at (Ask n) s same taken = λ told now. by (request_of n s.bus) refl told now
+    where
+      by : (o : Option Request) → request_of n s.bus ≡ o
+          → Ends m law (Some (hand_of c at (Ask n))) (given o (λ r. asked_at at c (Ask n) (incoming n r))) s
+      by None e = ends-untold (hand_of c at (Ask n)) s
+      by (Some r) e =
+          let made : request_in (Ask n) s.bus ≡ Some (incoming n r) = ap (option_map (incoming n)) e in
+          ends-asked c at (Ask n) (incoming n r) s same made (taken (incoming n r) made)
+  ends-arrives c at (Reply n result payload) s same taken = ends-reply c at n result payload s
+  ends-arrives c at (Raw bytes) s same taken = λ told now.
+      ends-raw c at bytes s same taken (unclean-hand (hand_of c at (Raw bytes)) told s now refl) told now
+  ends-arrives c at (RawReply label kind result payload) s same taken = λ told now.
+      ends-by_label c at (RawReply label kind result payload) label result payload s
+      (unclean-hand (hand_of c at (RawReply label kind result payload)) told s now refl) told now
+
+  quiet-dropped : (item : Item) → is_quiet (dropped item) ≡ true
+  quiet-dropped (Ask n) = refl
+  quiet-dropped (Reply n result payload) = refl
+  quiet-dropped (Raw bytes) = refl
+  quiet-dropped (RawReply label kind result payload) = refl
+
+  ends-handles : (c : Connection) (at : Side) (item : Item) (s : State) → s.host ≡ m.before.host
+      → ((q : Incoming) → request_in item s.bus ≡ Some q → IsTaken m c at q)
+      → Ends m law (Some (hand_of c at item)) (handles at c item) s
+  unfolding machine_opened
+  ends-handles c at item s same taken = by (arriving.takes at c s)
+    where
+      by : (t : Bool) → Ends m law (Some (hand_of c at item)) (cond t (arrives at c item) (tell (dropped item))) s
+      by true = ends-arrives c at item s same taken
+      by false = ends-told (hand_of c at item) (dropped item) s (quiet-dropped item)
+
+  -- ---- deliveries
+
+  -- nothing is done
+  pub ends-idle : (s : State) → Ends m law None nothing s
+  ends-idle s = ends-going m law None nothing s (goes-nothing m (acting m law) None [] Untouched s)
+
+  pub ends-delivers : (at : End) → m.event ≡ event.Deliver at → Ends m law None (delivers at) m.before
+  unfolding machine_opened
+  ends-delivers at is = by (place_of at m.before.bus.connections) refl
+    where
+      front : (p : Place) → place_of at m.before.bus.connections ≡ Some p → (o : Option Item) → first (queue p.side p.connection) ≡ o
+          → Ends m law None (given o (λ item. on_bus (popped p.connection.number p.side) ▸ handles p.side p.connection item)) m.before
+      front p e None f = ends-idle m.before
+      front p e (Some item) f = λ told now.
+          let after = record m.before { bus = popped p.connection.number p.side m.before.bus } in
+          let r = ends-handles p.connection p.side item after refl
+          (λ q made. delivered at p item q is e f refl (sym (request-popped item p.connection.number p.side m.before.bus) ∙ made)) (told ++ []) (law.kept _ (takes at p item refl refl is e f) now) in
+          (r.0, subst (λ es. At m (acting m law) None [] r.0 es (handles p.side p.connection item after).state)
+          (append_assoc told [] (handles p.side p.connection item after).entries) r.1)
+
+      by : (o : Option Place) → place_of at m.before.bus.connections ≡ o → Ends m law None (given o delivers_at) m.before
+      by None e = ends-idle m.before
+      by (Some p) e = front p e (first (queue p.side p.connection)) refl
+
+  -- ---- held requests
+
+  pub ends-answers : (i c place : ℕ) → m.event ≡ event.Answer i c place → Ends m law None (answering i c place) m.before
+  unfolding machine_opened
+  ends-answers i c place is = by (module_place i c m.before) refl
+    where
+      serves : (p : Place) (item : Item) (s : State) → p.side ≡ side.Far → s.host ≡ m.before.host → (o : Option Incoming) → request_in item s.bus ≡ o
+          → Ends m law (Some (hand_of p.connection p.side item)) (given o (serving p.side p.connection)) s
+      serves p item s far same None e = ends-untold (hand_of p.connection p.side item) s
+      serves p item s far same (Some q) e =
+          ends-responds p.connection p.side item q s same e (subst (λ t. IsTaken m p.connection t q) (sym far) (answered q))
+
+      held : (p : Place) (item : Item) (s : State) → p.side ≡ side.Far → s.host ≡ m.before.host → (t : Bool)
+          → Ends m law (Some (hand_of p.connection p.side item))
+          (cond t (given (request_in item s.bus) (serving p.side p.connection)) (tell (dropped item))) s
+      held p item s far same true = serves p item s far same (request_in item s.bus) refl
+      held p item s far same false = ends-told (hand_of p.connection p.side item) (dropped item) s (quiet-dropped item)
+
+      at_place : (p : Place) → module_place i c m.before ≡ Some p → (o : Option Held) → nth place (held_on p.connection.number m.before.held) ≡ o
+          → Ends m law None (given o (answers_held p place)) m.before
+      at_place p e None f = ends-idle m.before
+      at_place p e (Some h) f = λ told now.
+          let after = with_fewer p.connection.number place m.before in
+          let far = module-far i c p.side p.connection (place-is (end.Module i c) m.before.bus.connections p e).is in
+          let r = held p h.item after far refl (arriving.takes p.side p.connection after) (told ++ [])
+          (law.kept _ (takes_held i c place p h refl refl is e f) now) in
+          (r.0, subst (λ es. At m (acting m law) None [] r.0 es (serves_held p h.item after).state)
+          (append_assoc told [] (serves_held p h.item after).entries) r.1)
+
+      by : (o : Option Place) → module_place i c m.before ≡ o → Ends m law None (given o (answers_at place)) m.before
+      by None e = ends-idle m.before
+      by (Some p) e = at_place p e (nth place (held_on p.connection.number m.before.held)) refl

@@ -1,0 +1,11 @@
+pub mod Acting
+pub mod Awaited
+pub mod Delivering
+pub mod Going
+pub mod Places
+pub mod Points
+pub mod Served
+pub mod Serving
+pub mod Stepping
+pub mod Steps
+pub mod Ticking

@@ -1,0 +1,114 @@
+-- Places of ends, and connections that stay live.
+use Rattle.std.proofs.Common.{◌≡◌, ◌⊎◌, ℕ, Bool, true, false, cond, Option, Some, None, List, [], ◌∷◌, refl, sym, ap, ◌∙◌, inl, inr, ⊎_elim, subst}
+use Rattle.std.specs.Prelude.{◌==◌, ◌&&◌, option_map}
+use Rattle.gb_base.specs.declared.end.End.{End}
+use Rattle.gb_base.specs.declared.end.End.TheVariants as end
+use Rattle.gb_base.specs.declared.end.Side.{Side}
+use Rattle.gb_base.specs.declared.end.Side.TheVariants as side
+use Rattle.gb_invariants.proofs.Awaiting.{same-some}
+use Rattle.gb_invariants.proofs.Outcomes.{both-true, same-number}
+use Rattle.gb_laws.proofs.Points.{IsLive}
+use Rattle.gb_machine.specs.Bus.{Bus, Connection, Item, Place, end_of, has_number, or_else, place_of, same_end, side_at, with_queue}
+use Rattle.gb_machine.specs.Delivery.{replied}
+use Rattle.gb_machine.specs.Lists.{at_first}
+use Rattle.gb_machine.specs.Members.{IsIn}
+use Rattle.gb_machine.specs.Sending.{put, queued}
+
+-- ends that test as one are one
+pub same_end-is : (a b : End) → same_end a b ≡ true → a ≡ b
+same_end-is (end.Ap a) (end.Ap b) h = ap end.Ap (same-number a b h)
+same_end-is end.Svc end.Svc h = refl
+same_end-is (end.Module i c) (end.Module j d) h =
+    let p = both-true (i == j) (c == d) h in
+    ap (λ k. end.Module k c) (same-number i j p.0) ∙ ap (end.Module j) (same-number c d p.1)
+same_end-is (end.Ap a) end.Svc h = absurd cc
+same_end-is (end.Ap a) (end.Module j d) h = absurd cc
+same_end-is end.Svc (end.Ap b) h = absurd cc
+same_end-is end.Svc (end.Module j d) h = absurd cc
+same_end-is (end.Module i c) (end.Ap b) h = absurd cc
+same_end-is (end.Module i c) end.Svc h = absurd cc
+
+-- What is known of the place of an end: its connection is live and wired, and the end is there.
+pub record IsPlace (at : End) (cs : List Connection) (p : Place) : Type 0 where
+  pub live : IsIn p.connection cs
+  pub wired : p.connection.wired ≡ true
+  pub is : end_of p.side p.connection ≡ at
+
+side-is : (at : End) (c : Connection) (s : Side) → side_at at c ≡ Some s → (c.wired ≡ true) × (end_of s c ≡ at)
+side-is at c s h = by (c.wired && same_end at (end.Ap c.ap)) refl (c.wired && same_end at c.peer) refl h
+  where
+    by : (x : Bool) → (c.wired && same_end at (end.Ap c.ap)) ≡ x → (y : Bool) → (c.wired && same_end at c.peer) ≡ y
+        → cond x (Some side.Ap) (cond y (Some side.Far) None) ≡ Some s → (c.wired ≡ true) × (end_of s c ≡ at)
+    by true e y f h =
+        let p = both-true c.wired (same_end at (end.Ap c.ap)) e in
+        (p.0, ap (λ t. end_of t c) (sym (same-some side.Ap s h)) ∙ sym (same_end-is at (end.Ap c.ap) p.1))
+    by false e true f h =
+        let p = both-true c.wired (same_end at c.peer) f in
+        (p.0, ap (λ t. end_of t c) (sym (same-some side.Far s h)) ∙ sym (same_end-is at c.peer p.1))
+    by false e false f h = absurd cc
+
+pub place-is : (at : End) (cs : List Connection) (p : Place) → place_of at cs ≡ Some p → IsPlace at cs p
+place-is at [] p h = absurd cc
+place-is at (c ∷ cs) p h = by (side_at at c) refl h (place-is at cs p)
+  where
+    by : (o : Option Side) → side_at at c ≡ o
+        → or_else (option_map (λ s. record { connection = c; side = s }) o) (place_of at cs) ≡ Some p
+        → (place_of at cs ≡ Some p → IsPlace at cs p) → IsPlace at (c ∷ cs) p
+    by None e h rec = let r = rec h in record { live = inr r.live; wired = r.wired; is = r.is }
+    by (Some s) e h rec =
+        let k = side-is at c s e in
+        let q : Place = record { connection = c; side = s } in
+        subst (λ x. IsPlace at (c ∷ cs) x) (same-some q p h) (record { live = inl refl; wired = k.0; is = k.1 })
+
+-- the place of a module's CPort is at the far side
+pub module-far : (i c : ℕ) (s : Side) (x : Connection) → end_of s x ≡ end.Module i c → s ≡ side.Far
+module-far i c side.Far x h = refl
+module-far i c side.Ap x h = absurd cc
+
+-- ---- a connection that changes stays live
+
+pub at_first-back : {A : Type 0} (test : A → Bool) (change : A → A) (xs : List A) (x : A) → IsIn x xs
+    → IsIn x (at_first test change xs) ⊎ IsIn (change x) (at_first test change xs)
+at_first-back test change [] x i = absurd i
+at_first-back test change (y ∷ ys) x (inl e) = by (test y)
+  where
+    by : (b : Bool) → IsIn x (cond b (change y ∷ ys) (y ∷ at_first test change ys))
+        ⊎ IsIn (change x) (cond b (change y ∷ ys) (y ∷ at_first test change ys))
+    by true = inr (inl (ap change e))
+    by false = inl (inl e)
+at_first-back test change (y ∷ ys) x (inr j) = by (test y) (at_first-back test change ys x j)
+  where
+    by : (b : Bool) → IsIn x (at_first test change ys) ⊎ IsIn (change x) (at_first test change ys)
+        → IsIn x (cond b (change y ∷ ys) (y ∷ at_first test change ys))
+        ⊎ IsIn (change x) (cond b (change y ∷ ys) (y ∷ at_first test change ys))
+    by true h = inl (inr j)
+    by false h = ⊎_elim (λ a. inl (inr a)) (λ b. inr (inr b)) h
+
+-- connections stay live, and wired or not
+abbrev pub LivesOn : Bus → Bus → Type 0
+LivesOn b after = (k : ℕ) (t : Bool) → IsLive k t b → IsLive k t after
+
+pub lives-replied : (k : ℕ) (at : Side) (item : Item) (b : Bus) → LivesOn b (replied k at item b)
+lives-replied k at item b n t h =
+    ⊎_elim (λ i. still h.connection i refl refl refl)
+    (λ i. let s = same h.connection at h.connection.wired in still (put at item h.connection) i s.0 s.1 s.2)
+    (at_first-back (has_number k) (put at item) b.connections h.connection h.live)
+  where
+    same : (c : Connection) (s : Side) (w : Bool)
+        → ((cond w (queued s item c) c).number ≡ c.number) × ((cond w (queued s item c) c).wired ≡ c.wired)
+        × ((cond w (queued s item c) c).peer ≡ c.peer)
+    same c side.Ap true = (refl, refl, refl)
+    same c side.Far true = (refl, refl, refl)
+    same c s false = (refl, refl, refl)
+
+    still : (x : Connection) → IsIn x (replied k at item b).connections → x.number ≡ h.connection.number
+        → x.wired ≡ h.connection.wired → x.peer ≡ h.connection.peer → IsLive n t (replied k at item b)
+    still x i number wired peer = record {
+      connection = x;
+      live = i;
+      number = number ∙ h.number;
+      wired = wired ∙ h.wired;
+      intf = h.intf;
+      cport = h.cport;
+      peer = peer ∙ h.peer;
+    }

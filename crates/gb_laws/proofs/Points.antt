@@ -1,0 +1,353 @@
+-- Points within the step of an event, and the single changes that lead from one to the next.
+use Rattle.std.specs.Prelude.{◌≡◌, ◌⊎◌, ◌≤◌, ◌≢◌, ℕ, ◌+◌, Bool, true, false, Option, Some, None, List, [], ◌∷◌, ◌++◌, map, length, is_some}
+use Rattle.gb_base.specs.declared.bridge.BridgeAsk.{BridgeAsk}
+use Rattle.gb_base.specs.declared.bridge.Reading.TheVariants as reading
+use Rattle.gb_base.specs.declared.end.End.{End}
+use Rattle.gb_base.specs.declared.end.End.TheVariants as end
+use Rattle.gb_base.specs.declared.end.Side.{Side}
+use Rattle.gb_base.specs.declared.end.Side.TheVariants as side
+use Rattle.gb_base.specs.declared.entry.ConnState.TheVariants as state
+use Rattle.gb_base.specs.declared.entry.Entry.{Entry}
+use Rattle.gb_base.specs.declared.entry.Entry.TheVariants as entry
+use Rattle.gb_base.specs.declared.event.Event.TheVariants as event
+use Rattle.gb_base.specs.declared.name.Name.{Name}
+use Rattle.gb_base.specs.declared.outcome.Outcome.{Outcome}
+use Rattle.gb_base.specs.declared.outcome.Outcome.TheVariants as outcome
+use Rattle.gb_invariants.proofs.Selves.{SameSelf}
+use Rattle.gb_invariants.specs.Facts.{BusFits, Loose}
+use Rattle.gb_machine.specs.Arriving.{reading_for, with_held}
+use Rattle.gb_machine.specs.Asking.{asked}
+use Rattle.gb_machine.specs.Bus.{Ask, Bus, Connection, Item, Place, Raw, RawReply, Reply, Request, connection_of, is_open, next_number, other_side, place_of, queue, request_of}
+use Rattle.gb_machine.specs.Delivery.{answered, ended, forgotten, popped, replied}
+use Rattle.gb_machine.specs.Failures.{unsent}
+use Rattle.gb_machine.specs.Holding.{held_on}
+use Rattle.gb_machine.specs.Host.{Host, Link, link_at, with_link}
+use Rattle.gb_machine.specs.HostActs.{with_awaited, with_made}
+use Rattle.gb_machine.specs.HostServing.{host_serves}
+use Rattle.gb_machine.specs.HostTurns.{host_turn, links_of}
+use Rattle.gb_machine.specs.Incoming.{Incoming, reply_entry, reply_item, request_in}
+use Rattle.gb_machine.specs.LineActions.{spent, with_fewer}
+use Rattle.gb_machine.specs.Lists.{first, nth}
+use Rattle.gb_machine.specs.Members.{Each, IsIn}
+use Rattle.gb_machine.specs.Names.{bound, freed, named}
+use Rattle.gb_machine.specs.Refusals.{module_place}
+use Rattle.gb_machine.specs.Requests.{gave_up, given_up_with, open_on, open_with}
+use Rattle.gb_machine.specs.Runs.{Moment, after}
+use Rattle.gb_machine.specs.Sending.{Draft, label_for, sent}
+use Rattle.gb_machine.specs.Serving.{Answer}
+use Rattle.gb_machine.specs.State.{Held, Plugged, Port, State}
+use Rattle.gb_machine.specs.Turns.{Act, Asking, HostEvent, Making}
+use Rattle.gb_machine.specs.Wires.{disconnected_told, with_unwired, with_wired}
+use Rattle.gb_machine.specs.Wiring.{attached, detached, injected, next_connection, shut_down}
+
+-- ---- points
+
+-- An item that was taken at a side of a connection and is being handled.
+pub record Hand : Type 0 where
+  pub connection : Connection  -- as it was before
+  pub side : Side
+  pub item : Item
+
+-- What became of wires within a step: none changed, one was wired, or some were unwired.
+pub data Wires : Type 0 where
+  Untouched : Wires
+  Wired : Wires
+  Unwired : Wires
+
+-- A point within the step of an event: what was told so far, the state, the item that is being
+-- handled, the acts that the application processor has still to do, and what became of wires.
+pub record Point : Type 0 where
+  pub told : List Entry
+  pub state : State
+  pub hand : Option Hand
+  pub pending : List Act
+  pub wires : Wires
+
+-- the point before an event, or behind one
+abbrev pub resting : List Entry → State → Point
+resting told s = record { told = told; state = s; hand = None; pending = []; wires = Untouched }
+
+-- more is told, and the state is another
+abbrev pub on : State → List Entry → Point → Point
+on s es a = record a { told = a.told ++ es; state = s }
+
+-- and the bus is another
+abbrev pub on_bus : Bus → List Entry → Point → Point
+on_bus b es a = on (record a.state { bus = b }) es a
+
+-- ---- what is loose
+
+-- an item in hand, as a loose one
+abbrev pub loose_hand : Option Hand → List Loose → List Loose
+loose_hand None loose = loose
+loose_hand (Some h) loose = record { connection = h.connection.number; side = h.side; item = h.item } ∷ loose
+
+-- a held item, as a loose one
+abbrev pub loose_held : Held → Loose
+loose_held h = record { connection = h.connection; side = side.Far; item = h.item }
+
+-- What is loose at a point: the item in hand, and what is held.
+abbrev pub loose : Point → List Loose
+loose a = loose_hand a.hand (map loose_held a.state.held)
+
+-- ---- the basis
+
+-- what each name names was made
+abbrev pub NamesMade : State → Type 0
+NamesMade s = Each (λ (p : Name × ℕ). is_some (request_of p.1 s.bus) ≡ true) s.names
+
+-- The connection of what is being handled is live, as it was but for its queues.
+pub record IsStill (c : Connection) (b : Bus) : Type 0 where
+  pub now : Connection
+  pub live : IsIn now b.connections
+  pub self : SameSelf c now
+
+-- the facts that all laws stand on
+pub record Basis (a : Point) : Type 0 where
+  pub bus : BusFits (loose a) a.state.bus
+  pub names : NamesMade a.state
+  pub hand : (h : Hand) → a.hand ≡ Some h → IsStill h.connection a.state.bus
+
+-- ---- entries
+
+-- an entry tells no end, no reply, no injection and no opening
+abbrev pub is_quiet : Entry → Bool
+is_quiet (entry.Ended n how read) = false
+is_quiet (entry.Replied n from to result size bytes) = false
+is_quiet (entry.Raw from to size bytes) = false
+is_quiet (entry.Connection k ap i c state.Opening) = false
+is_quiet _ = true
+
+abbrev pub AreQuiet : List Entry → Type 0
+AreQuiet es = Each (λ e. is_quiet e ≡ true) es
+
+-- what is told behind the request of a draft: a unidirectional one ends at once
+abbrev pub sent_told : Bool → ℕ → List Entry
+sent_told true n = entry.Ended n outcome.Sent reading.Nothing ∷ []
+sent_told false n = []
+
+-- what is told where a request is made
+abbrev pub asked_told : Draft → Connection → ℕ → Bus → List Entry
+asked_told d c label b = asked d c label b ∷ sent_told d.oneway (next_number b)
+
+-- ---- causes
+
+-- At this moment an item is delivered at the application processor, which takes notice of something.
+pub record IsNoticed (m : Moment) (e : HostEvent) : Type 0 where
+  pub at : End
+  pub place : Place
+  pub item : Item
+  pub request : Incoming
+  pub event : m.event ≡ event.Deliver at
+  pub named : place_of at m.before.bus.connections ≡ Some place
+  pub side : place.side ≡ side.Ap
+  pub front : first (queue place.side place.connection) ≡ Some item
+  pub made : request_in item m.before.bus ≡ Some request
+  pub notices : (host_serves place.connection.number request.kind request.payload m.before.host).notices ≡ Some e
+
+-- Why the application processor takes notice of something at a moment, its host being as it was
+-- before, but where a request ended.
+abbrev pub IsCaused : Moment → HostEvent → Host → Type 0
+IsCaused m (HostEvent.Inserted i) h = (h ≡ m.before.host) × IsNoticed m (HostEvent.Inserted i)
+IsCaused m (HostEvent.Removed i) h = (h ≡ m.before.host) × IsNoticed m (HostEvent.Removed i)
+IsCaused m (HostEvent.Connect i c) h = (h ≡ m.before.host) × (m.event ≡ event.Connect i c)
+IsCaused m (HostEvent.Disconnect i c) h = (h ≡ m.before.host) × (m.event ≡ event.Disconnect i c)
+IsCaused m (HostEvent.Ended n how) h = Unit {0}
+
+-- a tick, and a request whose deadline came
+pub record IsLate (m : Moment) (s : State) (n : ℕ) : Type 0 where
+  pub millis : ℕ
+  pub request : Request
+  pub event : m.event ≡ event.Tick millis
+  pub made : request_of n s.bus ≡ Some request
+  pub due : request.deadline ≤ s.now
+
+-- a cancel, and the name of a request
+pub record IsCancelled (m : Moment) (n : ℕ) : Type 0 where
+  pub name : Name
+  pub event : m.event ≡ event.Cancel name
+  pub named : named name m.before.names ≡ Some n
+
+-- why a request is given up at a moment
+abbrev pub IsGivenUpFor : Moment → State → Outcome → ℕ → Type 0
+IsGivenUpFor m s outcome.Cancelled n = IsCancelled m n
+IsGivenUpFor m s outcome.Timeout n = IsLate m s n
+IsGivenUpFor m s _ n = ⊥
+
+-- why the application processor's side of a connection is closed at a moment: the connection is
+-- disconnected, or is one of an interface whose removal is handled
+pub data IsShutFor (m : Moment) (k : ℕ) : Type 0 where
+  disconnected : (i c : ℕ) (l : Link) → m.event ≡ event.Disconnect i c → link_at i c m.before.host ≡ Some l
+      → l.connection ≡ k → IsShutFor m k
+  removed : (i : ℕ) (l : Link) → IsNoticed m (HostEvent.Removed i) → IsIn l (links_of i m.before.host)
+      → l.connection ≡ k → IsShutFor m k
+
+-- ---- single changes
+
+-- an acting of which the request is still to be made, at the front of those that are pending
+pub data IsAsking (q : Asking) (pending rest : List Act) : Type 0 where
+  asking : pending ≡ Act.Ask q ∷ rest → IsAsking q pending rest
+  opening : (w : Making) → pending ≡ Act.Open w q ∷ rest → IsAsking q pending rest
+
+-- whether the wire of a live connection of a module is there
+pub record IsLive (k : ℕ) (wire : Bool) (b : Bus) : Type 0 where
+  pub connection : Connection
+  pub live : IsIn connection b.connections
+  pub number : connection.number ≡ k
+  pub wired : connection.wired ≡ wire
+  pub intf : ℕ
+  pub cport : ℕ
+  pub peer : connection.peer ≡ end.Module intf cport
+
+-- Which request a response ends: on a clean connection the open one of its number, on another the
+-- open one of its identifier.
+pub data Answers (h : Hand) (n : ℕ) (b : Bus) : Type 0 where
+  by_number : (result : ℕ) (payload : List ℕ) → h.item ≡ Reply n result payload → h.connection.clean ≡ true
+      → is_open n b ≡ true → Answers h n b
+  by_label : (label : ℕ) → h.connection.clean ≡ false → open_with h.connection.number h.side label b ≡ Some n → Answers h n b
+
+-- Which request is forgotten at a response: on a clean connection the one of its number, on another
+-- the one that was given up with its identifier.
+pub data Forgets (h : Hand) (n : ℕ) (b : Bus) : Type 0 where
+  by_number : (result : ℕ) (payload : List ℕ) → h.item ≡ Reply n result payload → h.connection.clean ≡ true → Forgets h n b
+  by_label : (label : ℕ) → h.connection.clean ≡ false → given_up_with h.connection.number h.side label b ≡ Some n → Forgets h n b
+
+-- what a response that is taken answers with
+pub data Says (h : Hand) (n result : ℕ) (payload : List ℕ) : Type 0 where
+  numbered : h.item ≡ Reply n result payload → Says h n result payload
+  unclean : h.connection.clean ≡ false → Says h n result payload
+
+-- A single change at a point.
+pub data Change (m : Moment) (a : Point) : Type 0 where
+  -- something is told that is no end, no reply, no injection and no opening
+  tells : (e : Entry) → is_quiet e ≡ true → Change m a
+  -- a request is made, and gets a name or none
+  asks : (d : Draft) (c : Connection) (label : ℕ) → a.hand ≡ None → connection_of d.connection a.state.bus ≡ Some c
+      → label_for d a.state.bus ≡ Some label → Change m a
+  names : (name : Name) (d : Draft) (c : Connection) (label : ℕ) → a.hand ≡ None → connection_of d.connection a.state.bus ≡ Some c
+      → label_for d a.state.bus ≡ Some label → Change m a
+  -- a name gets a request that another has, or is free
+  binds : (x y : Name) (n : ℕ) → named x a.state.names ≡ Some n → Change m a
+  frees : (name : Name) → Change m a
+  -- the front item toward an end is taken, or a held item
+  takes : (at : End) (p : Place) (item : Item) → a.hand ≡ None → a.state ≡ m.before → m.event ≡ event.Deliver at
+      → place_of at m.before.bus.connections ≡ Some p → first (queue p.side p.connection) ≡ Some item → Change m a
+  takes_held : (i c place : ℕ) (p : Place) (h : Held) → a.hand ≡ None → a.state ≡ m.before → m.event ≡ event.Answer i c place
+      → module_place i c m.before ≡ Some p → nth place (held_on p.connection.number m.before.held) ≡ Some h → Change m a
+  -- what is being handled is let go, or held, or replied to, or answers a request, or one is forgotten
+  drops : Change m a
+  holds : (h : Hand) → a.hand ≡ Some h → h.side ≡ side.Far → Change m a
+  replies : (h : Hand) (q : Incoming) (r : Answer) → a.hand ≡ Some h → request_in h.item a.state.bus ≡ Some q
+      → q.oneway ≡ false → Change m a
+  answers : (h : Hand) (n result : ℕ) (payload : List ℕ) → a.hand ≡ Some h → Says h n result payload
+      → Answers h n a.state.bus → Change m a
+  forgets : (h : Hand) (n : ℕ) → a.hand ≡ Some h → Forgets h n a.state.bus → Change m a
+  -- a request is given up
+  gives_up : (n : ℕ) (how : Outcome) → a.hand ≡ None → is_open n a.state.bus ≡ true → IsGivenUpFor m a.state how n → Change m a
+  -- a connection is wired, or unwired
+  wires : (k : ℕ) → a.hand ≡ None → a.wires ≡ Untouched → IsLive k false a.state.bus → Change m a
+  unwires : (k : ℕ) → a.hand ≡ None → a.wires ≢ Wired → IsLive k true a.state.bus → Change m a
+  -- bytes are injected
+  injects : (i c : ℕ) (p : Place) (bytes : List ℕ) → a.hand ≡ None → module_place i c a.state ≡ Some p → Change m a
+  -- the application processor takes notice of something
+  turns : (e : HostEvent) → a.hand ≡ None → a.wires ≡ Untouched → a.pending ≡ [] → IsCaused m e a.state.host → Change m a
+  -- it does an act
+  acts_told : (e : Entry) (rest : List Act) → a.pending ≡ Act.Tell e ∷ rest → is_quiet e ≡ true → Change m a
+  acts_shut : (k : ℕ) (rest : List Act) → a.hand ≡ None → a.pending ≡ Act.Shut k ∷ rest → IsShutFor m k → Change m a
+  acts_left : (k : ℕ) (rest : List Act) → a.hand ≡ None → a.wires ≡ Untouched → a.pending ≡ Act.Leave k ∷ rest → Change m a
+  acts_opened : (w : Making) (q : Asking) (rest : List Act) → a.hand ≡ None → a.pending ≡ Act.Open w q ∷ rest → Change m a
+  acts_asked : (q : Asking) (n : ℕ) (rest : List Act) → a.pending ≡ Act.Ask q ∷ rest → Change m a
+  acts_failed : (q : Asking) (rest : List Act) → IsAsking q a.pending rest → AreQuiet (unsent q.purpose a.state.host).told → Change m a
+  -- it serves a request, or spends credits
+  serves : (k kind : ℕ) (payload : List ℕ) → Change m a
+  spends : (i c : ℕ) (what : BridgeAsk) → Change m a
+  -- time passes
+  passes : (millis : ℕ) → Change m a
+  -- something else changes that is no matter of requests
+  others : (booted : Bool) (marks : List ℕ) (ports : List Port) (modules : List Plugged) → Change m a
+
+-- the point after a single change
+abbrev pub changed : (m : Moment) (a : Point) → Change m a → Point
+changed m a (tells e quiet) = on a.state (e ∷ []) a
+changed m a (asks d c label free live drawn) =
+    on_bus (sent d label a.state.bus) (asked_told d c label a.state.bus) a
+changed m a (names name d c label free live drawn) =
+    on (record (bound name (next_number a.state.bus) a.state) { bus = sent d label a.state.bus })
+    (asked_told d c label a.state.bus) a
+changed m a (binds x y n is) = on (bound y n a.state) [] a
+changed m a (frees name) = on (freed name a.state) [] a
+changed m a (takes at p item free start is named front) =
+    record (on_bus (popped p.connection.number p.side a.state.bus) [] a) {
+      hand = Some (record { connection = p.connection; side = p.side; item = item });
+    }
+changed m a (takes_held i c place p h free start is named held) =
+    record (on (with_fewer p.connection.number place a.state) [] a) {
+      hand = Some (record { connection = p.connection; side = p.side; item = h.item });
+    }
+changed m a drops = record a { hand = None }
+changed m a (holds h is far) = record (on (with_held h.connection.number h.item a.state) [] a) { hand = None }
+changed m a (replies h q r is made twoway) =
+    record (on_bus (replied h.connection.number (other_side h.side) (reply_item q r) a.state.bus)
+    (reply_entry h.side h.connection q r ∷ []) a) { hand = None }
+changed m a (answers h n result payload is says open_) =
+    record (on_bus (ended n (answered result payload) a.state.bus)
+    (entry.Ended n (answered result payload) (reading_for h.side h.connection result payload (request_of n a.state.bus)) ∷ []) a)
+    { hand = None }
+changed m a (forgets h n is late) = record (on_bus (forgotten n a.state.bus) [] a) { hand = None }
+changed m a (gives_up n how free open_ cause) =
+    on_bus (gave_up n how a.state.bus) (entry.Ended n how reading.Nothing ∷ []) a
+changed m a (wires k free untouched live) = record (on (with_wired k a.state) [] a) { wires = Wired }
+changed m a (unwires k free unwired live) =
+    record (on (with_unwired k a.state) (map disconnected_told (open_on k side.Far a.state.bus)) a) { wires = Unwired }
+changed m a (injects i c p bytes free named) =
+    on_bus (injected p.connection.number bytes a.state.bus)
+    (entry.Raw (end.Module i c) (end.Ap p.connection.ap) (length bytes) bytes ∷ []) a
+changed m a (turns e free untouched none cause) =
+    record (on (record a.state { host = (host_turn e a.state.host).host }) [] a) { pending = (host_turn e a.state.host).acts }
+changed m a (acts_told e rest is quiet) = record (on a.state (e ∷ []) a) { pending = rest }
+changed m a (acts_shut k rest free is cause) =
+    record (on_bus (shut_down k a.state.bus) (map disconnected_told (open_on k side.Ap a.state.bus)) a) { pending = rest }
+changed m a (acts_left k rest free untouched is) = record (on_bus (detached k a.state.bus) [] a) { pending = rest }
+changed m a (acts_opened w q rest free is) =
+    record (on (with_made w a.state)
+    (entry.Connection (next_connection a.state.bus) w.ap w.intf w.cport state.Opening ∷ []) a) { pending = Act.Ask q ∷ rest }
+changed m a (acts_asked q n rest is) = record (on (with_awaited q.purpose n a.state) [] a) { pending = rest }
+changed m a (acts_failed q rest is quiet) =
+    record (on (record a.state { host = (unsent q.purpose a.state.host).host }) (unsent q.purpose a.state.host).told a) { pending = rest }
+changed m a (serves k kind payload) = on (record a.state { host = (host_serves k kind payload a.state.host).host }) [] a
+changed m a (spends i c what) = on (record a.state { host = with_link i c (spent what) a.state.host }) [] a
+changed m a (passes millis) = on (record a.state { now = a.state.now + millis }) [] a
+changed m a (others booted marks ports modules) =
+    on (record a.state { booted = booted; holds = marks; ports = ports; modules = modules }) [] a
+
+-- ---- laws
+
+-- A law of points within a step is kept by each single change. It says at least what the basis does.
+pub record Law (m : Moment) : Type 1 where
+  pub holds : Point → Type 0
+  pub basis : (a : Point) → holds a → Basis a
+  pub kept : (a : Point) (x : Change m a) → holds a → holds (changed m a x)
+
+-- ---- what the application processor does
+
+-- a change is one of those that the acts of the application processor are made of
+abbrev pub IsActing : (m : Moment) (a : Point) → Change m a → Type 0
+IsActing m a (tells e quiet) = Unit {0}
+IsActing m a (asks d c label free live drawn) = Unit {0}
+IsActing m a (turns e free untouched none cause) = Unit {0}
+IsActing m a (acts_told e rest is quiet) = Unit {0}
+IsActing m a (acts_shut k rest free is cause) = Unit {0}
+IsActing m a (acts_left k rest free untouched is) = Unit {0}
+IsActing m a (acts_opened w q rest free is) = Unit {0}
+IsActing m a (acts_asked q n rest is) = Unit {0}
+IsActing m a (acts_failed q rest is quiet) = Unit {0}
+IsActing m a _ = ⊥
+
+-- A law of points is kept by what the application processor does.
+pub record ActLaw (m : Moment) : Type 1 where
+  pub holds : Point → Type 0
+  pub kept : (a : Point) (x : Change m a) → IsActing m a x → holds a → holds (changed m a x)
+
+-- a law that each change keeps
+abbrev pub acting : (m : Moment) → Law m → ActLaw m
+acting m law = record { holds = law.holds; kept = λ a x is. law.kept a x }

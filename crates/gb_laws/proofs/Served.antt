@@ -1,0 +1,73 @@
+-- What the application processor may serve: it takes notice of an insertion or a removal and stays
+-- as it is, or of nothing, and what it tells is quiet.
+use Rattle.std.proofs.Common.{◌≡◌, ◌⊎◌, ℕ, Bool, true, false, cond, Option, Some, None, List, refl, ap, ◌∙◌}
+use Rattle.std.specs.Prelude.{Result, Ok, Err, ◌==◌}
+use Rattle.gb_base.specs.declared.entry.Entry.{Entry}
+use Rattle.gb_formats.specs.GpioRecords.{GpioAsk, read_gpio_ask}
+use Rattle.gb_formats.specs.Records.{PayloadFault}
+use Rattle.gb_formats.specs.SvcRecords.{SvcAsk, read_svc_ask}
+use Rattle.gb_formats.specs.UartDevice.{credits_added, is_uart_own}
+use Rattle.gb_formats.specs.GpioDevice.{irq_event}
+use Rattle.gb_formats.specs.UartRecords.{UartAsk, read_uart_ask}
+use Rattle.gb_laws.proofs.Points.{is_quiet}
+use Rattle.gb_machine.specs.Host.{Host, Link, link_of}
+use Rattle.gb_machine.specs.HostServing.{HostServed, credited, host_refuses, host_serves, interrupted, notified, notified_by, served_on, serves_gpio, serves_svc, serves_uart, uart_notified, uart_notified_by}
+use Rattle.gb_machine.specs.SvcTable.{is_svc_own}
+use Rattle.gb_machine.specs.Turns.{HostEvent}
+
+-- what is told, if anything, is quiet
+abbrev pub IsQuietly : Option Entry → Type 0
+IsQuietly None = Unit {0}
+IsQuietly (Some e) = is_quiet e ≡ true
+
+-- How the application processor serves a request.
+pub data ServedAs (h : Host) (r : HostServed) : Type 0 where
+  plainly : IsQuietly r.told → r.notices ≡ None → ServedAs h r
+  inserting : (i : ℕ) → r.host ≡ h → r.told ≡ None → r.notices ≡ Some (HostEvent.Inserted i) → ServedAs h r
+  removing : (i : ℕ) → r.host ≡ h → r.told ≡ None → r.notices ≡ Some (HostEvent.Removed i) → ServedAs h r
+
+-- one of two
+served-if : (h : Host) (b : Bool) (x y : HostServed) → ServedAs h x → ServedAs h y → ServedAs h (cond b x y)
+served-if h true x y p q = p
+served-if h false x y p q = q
+
+refused : (h : Host) (result : ℕ) → ServedAs h (host_refuses result h)
+refused h result = plainly tt refl
+
+served-svc : (h : Host) (r : Result SvcAsk PayloadFault) → ServedAs h (notified_by r h)
+served-svc h (Err fault) = refused h _
+served-svc h (Ok (SvcAsk.ModuleInserted i count flags)) = inserting i refl refl refl
+served-svc h (Ok (SvcAsk.ModuleRemoved i)) = removing i refl refl refl
+served-svc h (Ok (SvcAsk.ProtocolVersion major minor)) = plainly tt refl
+served-svc h (Ok (SvcAsk.Hello endo intf)) = plainly tt refl
+served-svc h (Ok _) = plainly tt refl
+
+served-gpio : (h : Host) (l : Link) (r : Result GpioAsk PayloadFault) → ServedAs h (interrupted l r h)
+served-gpio h l (Err fault) = refused h _
+served-gpio h l (Ok (GpioAsk.IrqEvent which)) = plainly refl refl
+served-gpio h l (Ok _) = plainly tt refl
+
+served-credits : (h : Host) (l : Link) (o : Option ℕ) → ServedAs h (credited l o h)
+served-credits h l None = refused h _
+served-credits h l (Some total) = plainly refl refl
+
+served-uart : (h : Host) (l : Link) (r : Result UartAsk PayloadFault) → ServedAs h (uart_notified_by l r h)
+served-uart h l (Err fault) = refused h _
+served-uart h l (Ok (UartAsk.ReceiveData flags bytes)) = plainly refl refl
+served-uart h l (Ok (UartAsk.SerialState control)) = plainly refl refl
+served-uart h l (Ok (UartAsk.ReceiveCredits count)) = served-credits h l (credits_added l.credits count)
+served-uart h l (Ok _) = plainly tt refl
+
+pub served : (k kind : ℕ) (payload : List ℕ) (h : Host) → ServedAs h (host_serves k kind payload h)
+served k kind payload h = by (link_of k h)
+  where
+    by : (o : Option Link) → ServedAs h (served_on o kind payload h)
+    by None = served-if h (is_svc_own kind) (notified_by (read_svc_ask kind payload) h) (host_refuses _ h)
+        (served-svc h (read_svc_ask kind payload)) (refused h _)
+    by (Some l) =
+        served-if h (l.protocol == 0x02) (serves_gpio l kind payload h) _
+        (served-if h (kind == irq_event) (interrupted l (read_gpio_ask kind payload) h) (host_refuses _ h)
+        (served-gpio h l (read_gpio_ask kind payload)) (refused h _))
+        (served-if h (l.protocol == 0x04) (serves_uart l kind payload h) (host_refuses _ h)
+        (served-if h (is_uart_own kind) (uart_notified_by l (read_uart_ask kind payload) h) (host_refuses _ h)
+        (served-uart h l (read_uart_ask kind payload)) (refused h _)) (refused h _))

@@ -1,0 +1,239 @@
+-- A law of points goes over what a served request brings about.
+use Rattle.std.proofs.Common.{◌≡◌, ◌⊎◌, ◌≤◌, ◌<◌, ℕ, ◌+◌, Bool, true, false, not, cond, Option, Some, None, List, [], ◌∷◌, ◌++◌, map, refl, sym, ap, ◌∙◌, inl, inr, ⊎_elim, subst, arith}
+use Rattle.std.proofs.lemmas.Bool.Decides.{nat_tests}
+use Rattle.std.specs.Prelude.{◌==◌, ◌&&◌}
+use Rattle.std.specs.List.{find, list_any}
+use Rattle.gb_base.specs.declared.end.End.{End}
+use Rattle.gb_base.specs.declared.end.End.TheVariants as end
+use Rattle.gb_base.specs.declared.end.Side.{Side}
+use Rattle.gb_base.specs.declared.end.Side.TheVariants as side
+use Rattle.gb_base.specs.declared.entry.Entry.{Entry}
+use Rattle.gb_base.specs.declared.entry.Entry.TheVariants as entry
+use Rattle.gb_base.specs.declared.event.Event.TheVariants as event
+use Rattle.gb_formats.specs.Module.{Module, ModuleStep, module_serve}
+use Rattle.gb_invariants.proofs.Awaiting.{same-some}
+use Rattle.gb_invariants.proofs.Lists.{found-in}
+use Rattle.gb_invariants.proofs.Outcomes.{both-true, same-number}
+use Rattle.gb_laws.proofs.Acting.{goes-notices}
+use Rattle.gb_laws.proofs.Going.{At, Goes, goes-far_asks_all, goes-nothing, goes-tell, goes-▸}
+use Rattle.gb_laws.proofs.Places.{LivesOn, same_end-is}
+use Rattle.gb_laws.proofs.Points.{Hand, IsCaused, IsLive, IsNoticed, Law, Untouched, Unwired, Wired, Wires, acting, drops, others, replies, serves, unwires, wires}
+use Rattle.gb_laws.proofs.Served.{IsQuietly, ServedAs, inserting, plainly, removing, served}
+use Rattle.gb_machine.proofs.Opened.{machine_opened}
+use Rattle.gb_machine.specs.Actions.{Action, change, given, nothing, on_host, tell, ◌▸◌}
+use Rattle.gb_machine.specs.Bus.{Bus, Connection, Item, Place, other_side, place_of, queue, same_end}
+use Rattle.gb_machine.specs.Delivery.{popped, replied}
+use Rattle.gb_machine.specs.Host.{Host}
+use Rattle.gb_machine.specs.HostActs.{notices}
+use Rattle.gb_machine.specs.HostServing.{HostServed, host_serves}
+use Rattle.gb_machine.specs.Incoming.{Incoming, reply_entry, reply_item, request_in}
+use Rattle.gb_machine.specs.Lists.{first}
+use Rattle.gb_machine.specs.Members.{Each, IsIn}
+use Rattle.gb_machine.specs.Modules.{module_at, with_module}
+use Rattle.gb_machine.specs.OwnAsking.{far_asks_all}
+use Rattle.gb_machine.specs.Responding.{Response, creates, destroys, far_response, host_behind, host_served, module_response, module_stepped, replies as replying, responds, responds_plainly, responds_with, response_at, serves as serving, serves_oneway, svc_decided, svc_response, svc_stepped, unroutes, with_ports}
+use Rattle.gb_machine.specs.Ports.{unrouted}
+use Rattle.gb_machine.specs.Runs.{Moment}
+use Rattle.gb_machine.specs.Serving.{invalid, nonexistent, plainly as plainly_answers, success}
+use Rattle.gb_machine.specs.State.{Port, State}
+use Rattle.gb_machine.specs.SvcTable.{Answered, Create, Destroy, SvcServed, SvcStep, Unroute, svc_step}
+use Rattle.gb_machine.specs.Turns.{HostEvent}
+use Rattle.gb_machine.specs.Wires as wiring
+use Rattle.gb_machine.specs.Wiring.{is_wired_to, joining, joins}
+
+-- ---- the connection that a request to the supervisory controller speaks of
+
+-- it is live, and at a module
+pub joining-live : (a i c : ℕ) (b : Bus) (x : Connection) (t : Bool) → joining a i c b ≡ Some x → x.wired ≡ t → IsLive x.number t b
+joining-live a i c b x t h w =
+    let f = found-in (joins a i c) b.connections x h in
+    let p = both-true (x.ap == a) (same_end x.peer (end.Module i c)) f.1 in record {
+      connection = x;
+      live = f.0;
+      number = refl;
+      wired = w;
+      intf = i;
+      cport = c;
+      peer = same_end-is x.peer (end.Module i c) p.1;
+    }
+
+-- ---- what is known of a request that is served at a moment
+
+-- What is served is what was delivered at this moment, or was held at the far side.
+pub data IsTaken (m : Moment) (c : Connection) : Side → Incoming → Type 0 where
+  delivered : (at : End) (p : Place) (item : Item) (q : Incoming) → m.event ≡ event.Deliver at
+      → place_of at m.before.bus.connections ≡ Some p → first (queue p.side p.connection) ≡ Some item
+      → p.connection ≡ c → request_in item m.before.bus ≡ Some q → IsTaken m c p.side q
+  answered : (q : Incoming) → IsTaken m c side.Far q
+
+noticed : (m : Moment) (c : Connection) (at : Side) (q : Incoming) (e : HostEvent) → IsTaken m c at q → at ≡ side.Ap
+    → (host_serves c.number q.kind q.payload m.before.host).notices ≡ Some e → IsNoticed m e
+noticed m c at q e (delivered to p item r event_is named front is made) ap_side h = record {
+  at = to;
+  place = p;
+  item = item;
+  request = r;
+  event = event_is;
+  named = named;
+  side = ap_side;
+  front = front;
+  made = made;
+  notices = ap (λ (x : Connection). (host_serves x.number r.kind r.payload m.before.host).notices) is ∙ h;
+}
+noticed m c at q e (answered r) ap_side h = absurd cc
+
+module _ (m : Moment) (law : Law m) where
+  -- an action ends a step, whatever becomes of wires
+  abbrev pub Ends : Option Hand → Action → State → Type 0
+  Ends hand f s =
+      (told : List Entry) → At m (acting m law) hand [] Untouched told s
+      → (w : Wires) × At m (acting m law) None [] w (told ++ (f s).entries) (f s).state
+
+  -- one that stays with the wires
+  pub ends-going : (hand : Option Hand) (f : Action) (s : State)
+      → Goes m (acting m law) hand [] Untouched None [] Untouched f s → Ends hand f s
+  ends-going hand f s h told at = (Untouched, h told at)
+
+  -- ---- the supervisory controller
+
+  ends-ports : (ports : List Port) (s : State) → Ends None (with_ports ports) s
+  unfolding machine_opened
+  ends-ports ports s told at = (Untouched, law.kept _ (others s.booted s.holds ports s.modules) at)
+
+  ends-nothing : (s : State) → Ends None nothing s
+  ends-nothing s = ends-going None nothing s (goes-nothing m (acting m law) None [] Untouched s)
+
+  ends-wires : (k : ℕ) (s : State) → IsLive k false s.bus → Ends None (wiring.wires k) s
+  unfolding machine_opened
+  ends-wires k s live told at = (Wired, law.kept _ (wires k refl refl live) at)
+
+  ends-unwires : (k : ℕ) (s : State) → IsLive k true s.bus → Ends None (wiring.unwires k) s
+  unfolding machine_opened
+  ends-unwires k s live told at = (Unwired, law.kept _ (unwires k refl (λ e. absurd cc) live) at)
+
+  -- one of two responses
+  ends-either : (b : Bool) (x y : Response) (s : State) → (b ≡ true → Ends None x.behind s) → (b ≡ false → Ends None y.behind s)
+      → Ends None (cond b x y).behind s
+  ends-either true x y s h k = h refl
+  ends-either false x y s h k = k refl
+
+  -- the connection that was found is live still
+  abbrev IsLiveFound : Option Connection → State → Type 0
+  IsLiveFound o s = (x : Connection) (t : Bool) → o ≡ Some x → x.wired ≡ t → IsLive x.number t s.bus
+
+  ends-creates : (o : Option Connection) (s : State) → IsLiveFound o s → Ends None (creates o).behind s
+  ends-creates None s live = ends-nothing s
+  ends-creates (Some c) s live =
+      ends-either c.wired (responds_plainly invalid) (responds_with (plainly_answers success) (wiring.wires c.number)) s
+      (λ e. ends-nothing s) (λ e. ends-wires c.number s (live c false refl e))
+
+  ends-destroys : (o : Option Connection) (s : State) → IsLiveFound o s → Ends None (destroys o).behind s
+  ends-destroys None s live = ends-nothing s
+  ends-destroys (Some c) s live =
+      ends-either c.wired (responds_with (plainly_answers success) (wiring.unwires c.number)) (responds_plainly nonexistent) s
+      (λ e. ends-unwires c.number s (live c true refl e)) (λ e. ends-nothing s)
+
+  ends-decided : (d : SvcServed) (ports : List Port) (s u : State) → LivesOn s.bus u.bus → Ends None (svc_decided d ports s).behind u
+  ends-decided (Answered result payload) ports s u on = ends-ports ports u
+  ends-decided (Create a i c) ports s u on =
+      ends-creates (joining a i c s.bus) u (λ x t e w. on x.number t (joining-live a i c s.bus x t e w))
+  ends-decided (Destroy a i c) ports s u on =
+      ends-destroys (joining a i c s.bus) u (λ x t e w. on x.number t (joining-live a i c s.bus x t e w))
+  ends-decided (Unroute i) ports s u on =
+      ends-either (list_any (is_wired_to i) s.bus.connections) (responds_plainly invalid)
+      (responds_with (plainly_answers success) (with_ports (unrouted i ports))) u
+      (λ e. ends-nothing u) (λ e. ends-ports (unrouted i ports) u)
+
+  -- ---- modules
+
+  ends-module : (k i : ℕ) (step : ModuleStep) (s : State) → Ends None (module_stepped k i step).behind s
+  unfolding machine_opened
+  ends-module k i step s =
+      ends-going None (module_stepped k i step).behind s
+      (goes-▸ m (acting m law) None None None [] [] [] Untouched Untouched Untouched
+      (change (λ t. record t { modules = with_module i step.after t.modules })) (far_asks_all k step.served.asks) s
+      (λ told at. law.kept _ (others s.booted s.holds s.ports (with_module i step.after s.modules)) at)
+      (goes-far_asks_all m (acting m law) [] Untouched k step.served.asks (record s { modules = with_module i step.after s.modules })))
+
+  ends-at_module : (k i c : ℕ) (q : Incoming) (o : Option Module) (s : State) → Ends None (module_response k i c q o).behind s
+  ends-at_module k i c q None s = ends-nothing s
+  ends-at_module k i c q (Some x) s = ends-module k i (module_serve x c q.kind q.payload) s
+
+  -- ---- the far side
+
+  ends-far : (e : End) (k : ℕ) (q : Incoming) (s u : State) → LivesOn s.bus u.bus → Ends None (far_response e k q s).behind u
+  ends-far (end.Module i c) k q s u on = ends-at_module k i c q (module_at i s.modules) u
+  ends-far end.Svc k q s u on =
+      let step = svc_step s.ports q.kind q.payload in ends-decided step.served step.ports s u on
+  ends-far (end.Ap a) k q s u on = ends-nothing u
+
+  -- ---- the application processor
+
+  -- what it is then, what it tells and what it takes notice of
+  goes-behind : (host : Host) (o : Option Entry) (n : Option HostEvent) (u : State)
+      → Goes m (acting m law) None [] Untouched None [] Untouched (on_host (λ old. host)) u
+      → IsQuietly o → ((e : HostEvent) → n ≡ Some e → IsCaused m e host)
+      → Goes m (acting m law) None [] Untouched None [] Untouched (on_host (λ old. host) ▸ given o tell ▸ given n notices) u
+  unfolding machine_opened
+  goes-behind host o n u first quiet cause =
+      goes-▸ m (acting m law) None None None [] [] [] Untouched Untouched Untouched
+      (on_host (λ old. host) ▸ given o tell) (given n notices) u
+      (goes-▸ m (acting m law) None None None [] [] [] Untouched Untouched Untouched
+      (on_host (λ old. host)) (given o tell) u first (says o (record u { host = host }) quiet))
+      (takes_notice o n cause)
+    where
+      says : (o : Option Entry) (s : State) → IsQuietly o → Goes m (acting m law) None [] Untouched None [] Untouched (given o tell) s
+      says None s q = goes-nothing m (acting m law) None [] Untouched s
+      says (Some e) s q = goes-tell m (acting m law) None [] Untouched e s q
+
+      takes_notice : (o : Option Entry) (n : Option HostEvent) → ((e : HostEvent) → n ≡ Some e → IsCaused m e host)
+          → Goes m (acting m law) None [] Untouched None [] Untouched (given n notices) ((on_host (λ old. host) ▸ given o tell) u).state
+      takes_notice None None c = goes-nothing m (acting m law) None [] Untouched (record u { host = host })
+      takes_notice None (Some e) c = goes-notices m (acting m law) e (record u { host = host }) (c e refl)
+      takes_notice (Some x) None c = goes-nothing m (acting m law) None [] Untouched (record u { host = host })
+      takes_notice (Some x) (Some e) c = goes-notices m (acting m law) e (record u { host = host }) (c e refl)
+
+  ends-served : (k kind : ℕ) (payload : List ℕ) (u : State) → u.host ≡ m.before.host
+      → ((e : HostEvent) → (host_serves k kind payload m.before.host).notices ≡ Some e → IsNoticed m e)
+      → Ends None (host_behind (host_serves k kind payload m.before.host)) u
+  unfolding machine_opened
+  ends-served k kind payload u host notice =
+      ends-going None (host_behind r) u
+      (goes-behind r.host r.told r.notices u first (quiet (served k kind payload m.before.host))
+      (λ e n. cause (served k kind payload m.before.host) e n (notice e n)))
+    where
+      r : HostServed
+      r = host_serves k kind payload m.before.host
+
+      first : Goes m (acting m law) None [] Untouched None [] Untouched (on_host (λ old. (host_serves k kind payload m.before.host).host)) u
+      first told at =
+          subst (λ h. At m (acting m law) None [] Untouched (told ++ []) (record u { host = (host_serves k kind payload h).host })) host
+          (law.kept _ (serves k kind payload) at)
+
+      quiet : ServedAs m.before.host (host_serves k kind payload m.before.host) → IsQuietly (host_serves k kind payload m.before.host).told
+      quiet (plainly q n) = q
+      quiet (inserting i h q n) = subst IsQuietly (sym q) tt
+      quiet (removing i h q n) = subst IsQuietly (sym q) tt
+
+      cause : ServedAs m.before.host (host_serves k kind payload m.before.host) → (e : HostEvent)
+          → (host_serves k kind payload m.before.host).notices ≡ Some e → IsNoticed m e
+          → IsCaused m e (host_serves k kind payload m.before.host).host
+      cause (plainly q n) e is said = absurd (none-some e (sym n ∙ is))
+        where
+          none-some : (e : HostEvent) → None ≡ Some e → ⊥
+          none-some e h = absurd cc
+      cause (inserting i h q n) e is said =
+          let same = same-some (HostEvent.Inserted i) e (sym n ∙ is) in
+          subst (λ x. IsCaused m x (host_serves k kind payload m.before.host).host) same (h, subst (IsNoticed m) (sym same) said)
+      cause (removing i h q n) e is said =
+          let same = same-some (HostEvent.Removed i) e (sym n ∙ is) in
+          subst (λ x. IsCaused m x (host_serves k kind payload m.before.host).host) same (h, subst (IsNoticed m) (sym same) said)
+
+  -- what the party at a side answers has an end
+  pub ends-response : (c : Connection) (at : Side) (q : Incoming) (s u : State) → IsTaken m c at q → LivesOn s.bus u.bus
+      → s.host ≡ m.before.host → u.host ≡ s.host → Ends None (response_at at c q s).behind u
+  unfolding machine_opened
+  ends-response c side.Ap q s u taken on before same =
+      subst (λ h. Ends None (host_behind (host_serves c.number q.kind q.payload h)) u) (sym before)
+      (ends-served c.number q.kind q.payload u (same ∙ before) (λ e n. noticed m c side.Ap q e taken refl n))
+  ends-response c side.Far q s u taken on before same = ends-far c.peer c.number q s u on
