@@ -1,9 +1,14 @@
 pub mod Acting
 pub mod Awaited
+pub mod Basics
 pub mod Delivering
+pub mod Ended
 pub mod Going
+pub mod Loosening
+pub mod Naming
 pub mod Places
 pub mod Points
+pub mod Runs
 pub mod Served
 pub mod Serving
 pub mod Stepping

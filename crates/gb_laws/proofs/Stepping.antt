@@ -25,6 +25,7 @@ use Rattle.gb_invariants.proofs.Lists.{each-in, in-filter}
 use Rattle.gb_laws.proofs.Acting.{goes-notices}
 use Rattle.gb_laws.proofs.Delivering.{ends-answers, ends-delivers, ends-idle, then-ends}
 use Rattle.gb_laws.proofs.Going.{At, Goes, goes-far_asks, goes-far_asks_all, goes-nothing, goes-tell, goes-tell_all, goes-when, goes-▸}
+use Rattle.gb_laws.proofs.Naming.{made-named}
 use Rattle.gb_laws.proofs.Points.{ActLaw, AreQuiet, Change, Hand, IsActing, IsGivenUpFor, IsLate, IsLive, Law, NamesMade, Untouched, Unwired, Wired, Wires, acting, binds, changed, frees, gives_up as giving_up, injects as injecting, is_quiet, names, others, passes, spends, tells, unwires as unwiring}
 use Rattle.gb_laws.proofs.Serving.{Ends, ends-going}
 use Rattle.gb_machine.proofs.Opened.{machine_opened}
@@ -249,16 +250,6 @@ module _ (m : Moment) (law : Law m) where
       rests-▸ (on_bus (gave_up n how) ▸ tell (entry.Ended n how reading.Nothing)) (follows n how) s
       (λ told at. law.kept _ (giving_up n how refl unended cause) at)
       (goes-notices m (acting m law) (HostEvent.Ended n how) (record s { bus = gave_up n how s.bus }) tt)
-
-  made-named : (x : Name) (ps : List (Name × ℕ)) (n : ℕ) (b : Bus) → Each (λ (p : Name × ℕ). is_some (request_of p.1 b) ≡ true) ps
-      → named x ps ≡ Some n → is_some (request_of n b) ≡ true
-  made-named x [] n b h e = absurd cc
-  made-named x (p ∷ ps) n b h e = by (same_name p.0 x) e (made-named x ps n b h.1)
-    where
-      by : (t : Bool) → cond t (Some p.1) (named x ps) ≡ Some n → (named x ps ≡ Some n → is_some (request_of n b) ≡ true)
-          → is_some (request_of n b) ≡ true
-      by true e rec = ap (λ k. is_some (request_of k b)) (sym (same-some p.1 n e)) ∙ h.0
-      by false e rec = rec e
 
   pub rests-cancels : (name : Name) → m.event ≡ event.Cancel name → refusal m.before (event.Cancel name) ≡ None → Rests (cancels name) m.before
   unfolding machine_opened
