@@ -4,7 +4,7 @@ use Rattle.std.specs.List.{filter, find}
 use Rattle.gb_base.specs.declared.end.End.TheVariants as end
 use Rattle.gb_base.specs.declared.end.Side.{Side}
 use Rattle.gb_base.specs.declared.end.Side.TheVariants as side
-use Rattle.gb_invariants.proofs.Awaiting.{same-some}
+use Rattle.gb_invariants.proofs.Awaiting.{not-both, same-some}
 use Rattle.gb_invariants.proofs.Labels.{asked_on}
 use Rattle.gb_invariants.specs.Facts.{Loose, times_in, times_on}
 use Rattle.gb_machine.specs.Bus.{Ask, Bus, Connection, Item, Raw, connection_of, has_number, next_number, other_side, queue}
@@ -55,6 +55,23 @@ times-some test (y ∷ ys) x (inl e) h =
     let t : one test y ≡ 1 = ap (λ b. cond b (0 + 1) 0) (ap test (sym e) ∙ h) ∙ omega arith in
     omega (arith, times-cons test y ys, t)
 times-some test (y ∷ ys) x (inr i) h = omega (arith, times-cons test y ys, times-some test ys x i h)
+
+-- as many pass a test or more, where each that passes another does
+pub times-weaker : {A : Type 0} (test other : A → Bool) (xs : List A) → ((x : A) → test x ≡ true → other x ≡ true)
+    → times test xs ≤ times other xs
+times-weaker test other [] h = omega arith
+times-weaker test other (x ∷ xs) h = by (test x) refl (other x) refl (times-weaker test other xs h)
+  where
+    by : (s : Bool) → test x ≡ s → (t : Bool) → other x ≡ t → times test xs ≤ times other xs
+        → cond s (times test xs + 1) (times test xs) ≤ cond t (times other xs + 1) (times other xs)
+    by true e true f r = omega (arith, r)
+    by true e false f r = absurd (not-both (other x) (h x e) f)
+    by false e true f r = omega (arith, r)
+    by false e false f r = r
+
+pub total-weaker : {A : Type 0} (number other : A → ℕ) (xs : List A) → ((x : A) → number x ≤ other x) → total number xs ≤ total other xs
+total-weaker number other [] h = omega arith
+total-weaker number other (x ∷ xs) h = omega (arith, h x, total-weaker number other xs h)
 
 pub total-none : {A : Type 0} (number : A → ℕ) (xs : List A) → ((x : A) → IsIn x xs → number x ≡ 0) → total number xs ≡ 0
 total-none number [] h = refl
@@ -202,3 +219,11 @@ pub detached-counts : (test : Item → Bool) (loose : List Loose) (b : Bus) (k :
     → times_in test loose (detached k b) ≤ times_in test loose b
 detached-counts test loose b k =
     omega (arith, total-filter (times_on test) (λ c. not (has_number k c)) b.connections)
+
+-- as many items pass a test or more, where each that passes another does
+pub in-weaker : (test other : Item → Bool) (loose : List Loose) (b : Bus) → ((item : Item) → test item ≡ true → other item ≡ true)
+    → times_in test loose b ≤ times_in other loose b
+in-weaker test other loose b h =
+    omega (arith, total-weaker (times_on test) (times_on other) b.connections
+    (λ c. omega (arith, times-weaker test other c.to_ap h, times-weaker test other c.to_far h)),
+    times-weaker (λ (l : Loose). test l.item) (λ (l : Loose). other l.item) loose (λ l. h l.item))

@@ -3,7 +3,7 @@ use Rattle.std.proofs.Common.{◌≡◌, ◌⊎◌, ◌≤◌, ◌<◌, ℕ, zer
 use Rattle.std.proofs.lemmas.Bool.Decides.{nat_tests}
 use Rattle.std.specs.List.{list_any, slice_get}
 use Rattle.gb_base.specs.declared.outcome.Outcome.{Outcome}
-use Rattle.gb_machine.specs.Bus.{Bus, Request, outcome_of, request_of}
+use Rattle.gb_machine.specs.Bus.{Bus, Connection, Request, outcome_of, request_of}
 use Rattle.gb_machine.specs.LawsEnds.{is_outcome_of}
 use Rattle.gb_machine.specs.Lists.{lookup, nth}
 use Rattle.gb_machine.specs.Members.{Each, EachTwo, IsIn, times}
@@ -272,3 +272,14 @@ open_from-rise start test b (r ∷ rs) =
 -- the open requests rise by number
 pub open_requests-rise : (test : Request → Bool) (b : Bus) → Rise (open_requests test b)
 open_requests-rise test b = open_from-rise 1 test b b.requests
+
+open_from-same : (n : ℕ) (test : Request → Bool) (b : Bus) (cs : List Connection) (rs : List Request)
+    → open_from n test (record b { connections = cs }) rs ≡ open_from n test b rs
+open_from-same n test b cs [] = refl
+open_from-same n test b cs (r ∷ rs) =
+    ap (λ later. cond (test r && is_none (outcome_of n b)) (n ∷ later) later) (open_from-same (n + 1) test b cs rs)
+
+-- which requests are open is no matter of connections
+pub open_requests-same : (test : Request → Bool) (b : Bus) (cs : List Connection)
+    → open_requests test (record b { connections = cs }) ≡ open_requests test b
+open_requests-same test b cs = open_from-same 1 test b cs b.requests

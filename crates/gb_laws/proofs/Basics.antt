@@ -106,11 +106,11 @@ keeps-fewer loose later b fewer h =
     loose-keeps loose later b fewer.within (λ n. let less = fewer.counts (is_item_of n) in omega (arith, less)) h
 
 -- an item in hand, as a loose one
-abbrev loose_of : Hand → Loose
+abbrev pub loose_of : Hand → Loose
 loose_of x = record { connection = x.connection.number; side = x.side; item = x.item }
 
 -- toward the far side it is as a held one
-taken-is : (k j : ℕ) (at : Side) (item : Item) → j ≡ k → at ≡ side.Far
+pub taken-is : (k j : ℕ) (at : Side) (item : Item) → j ≡ k → at ≡ side.Far
     → record { connection = k; side = at; item = item } ≡ loose_held (record { connection = j; item = item })
 taken-is k j at item on far =
     ap (λ (s : Side). let l : Loose = record { connection = k; side = s; item = item } in l) far
@@ -285,7 +285,7 @@ basis-kept m a (gives_up n how free unended cause) h =
     free-basis _ free (gave_up-keeps (map loose_held a.state.held) n how a.state.bus unended (free-bus a free h)) h.names
 basis-kept m a (wires k free untouched live) h =
     free-basis _ free (wired-keeps (map loose_held a.state.held) k a.state.bus (free-bus a free h)) h.names
-basis-kept m a (unwires k free unwired live) h =
+basis-kept m a (unwires k free before live) h =
     let f = fewer-without k a.state.held in
     free-basis _ free (unwired-keeps (map loose_held a.state.held) (map loose_held (without (λ x. x.connection == k) a.state.held)) k
     a.state.bus f.within (without-none k a.state.held)
@@ -317,7 +317,7 @@ abbrev pub Based : List Entry → State → Type 0
 Based told s = Basis (resting told s)
 
 -- it doesn't matter what became of wires
-rested : (told : List Entry) (s : State) (w : Wires) → Basis (record (resting told s) { wires = w }) → Based told s
+pub rested : (told : List Entry) (s : State) (w : Wires) → Basis (record (resting told s) { wires = w }) → Based told s
 rested told s w h = record { bus = h.bus; names = h.names; hand = h.hand }
 
 -- nothing was made yet
@@ -363,7 +363,7 @@ bus-first = record {
 }
 
 -- The basis holds first.
-basis-first : Based [] first_state
+pub basis-first : Based [] first_state
 basis-first = record { bus = bus-first; names = tt; hand = λ h e. absurd cc }
 
 -- The basis holds throughout.

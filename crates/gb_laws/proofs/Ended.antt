@@ -1,5 +1,5 @@
 -- What is told of ends is what the outcomes are.
-use Rattle.std.proofs.Common.{◌≡◌, ◌⊎◌, ◌≤◌, ◌<◌, ◌≢◌, ℕ, ◌+◌, Bool, true, false, not, cond, Option, Some, None, List, [], ◌∷◌, ◌++◌, map, refl, sym, ap, ◌∙◌, inl, inr, ⊎_elim, subst, append-nil, append_assoc, arith}
+use Rattle.std.proofs.Common.{◌≡◌, ◌⊎◌, ◌≤◌, ◌<◌, ◌≢◌, ℕ, ◌+◌, Bool, true, false, not, cond, Option, Some, None, List, [], ◌∷◌, ◌++◌, map, refl, sym, ap, ap₂, ◌∙◌, inl, inr, ⊎_elim, subst, append-nil, append_assoc, arith}
 use Rattle.std.proofs.lemmas.Bool.Decides.{nat_tests}
 use Rattle.gb_base.specs.declared.bridge.Reading.{Reading}
 use Rattle.gb_base.specs.declared.bridge.Reading.TheVariants as reading
@@ -10,15 +10,24 @@ use Rattle.gb_base.specs.declared.entry.Entry.TheVariants as entry
 use Rattle.gb_base.specs.declared.outcome.Outcome.{Outcome}
 use Rattle.gb_base.specs.declared.outcome.Outcome.TheVariants as outcome
 use Rattle.gb_invariants.proofs.Counts.{times-append, times-cons}
+use Rattle.gb_invariants.proofs.Awaiting.{not-both}
+use Rattle.gb_invariants.proofs.Outcomes.{is-same, open_requests-same}
 use Rattle.gb_invariants.proofs.Lists.{in-append, in-behind, in-front}
 use Rattle.gb_laws.proofs.Awaited.{awaited-rest}
-use Rattle.gb_laws.proofs.Basics.{basis, basis-kept}
-use Rattle.gb_laws.proofs.Points.{AreQuiet, Basis, Change, Law, Point, acts_asked, acts_failed, acts_left, acts_opened, acts_shut, acts_told, answers, asks, binds, changed, drops, forgets, frees, gives_up, holds, injects, is_quiet, names, others, passes, replies, sent_told, serves, spends, takes, takes_held, tells, turns, unwires, wires}
-use Rattle.gb_machine.specs.Bus.{Bus, next_number}
-use Rattle.gb_machine.specs.LawsEnds.{is_end_of, is_outcome_of}
+use Rattle.gb_laws.proofs.Basics.{basis-first, basis-kept, rested}
+use Rattle.gb_laws.proofs.Points.{AreQuiet, Basis, Change, Law, Point, asked_told, acts_asked, acts_failed, acts_left, acts_opened, acts_shut, acts_told, answers, asks, binds, changed, drops, forgets, frees, gives_up, holds, injects, is_quiet, names, others, passes, replies, resting, sent_told, serves, spends, takes, takes_held, tells, turns, unwires, wires}
+use Rattle.gb_machine.specs.Asking.{asked}
+use Rattle.gb_machine.specs.Bus.{Bus, Connection, next_number}
+use Rattle.gb_machine.specs.Sending.{Draft, sent_at_once}
+use Rattle.std.specs.Prelude.{◌==◌, is_some}
+use Rattle.gb_laws.proofs.Runs.{throughout, weaker}
+use Rattle.gb_laws.proofs.Steps.{over-step}
+use Rattle.gb_machine.specs.Lists.{lookup}
+use Rattle.gb_machine.specs.State.{State}
+use Rattle.gb_machine.specs.LawsEnds.{EndsAreTold, EndsTold, is_end_of, is_outcome_of}
 use Rattle.gb_machine.specs.Members.{Each, IsIn, times}
-use Rattle.gb_machine.specs.Requests.{open_on}
-use Rattle.gb_machine.specs.Runs.{Moment}
+use Rattle.gb_machine.specs.Requests.{is_of, open_on}
+use Rattle.gb_machine.specs.Runs.{HoldsThroughout, Moment}
 use Rattle.gb_machine.specs.Wires.{disconnected_told}
 use Rattle.gb_machine.specs.Wiring.{all_ended}
 
@@ -32,12 +41,13 @@ pub record SaysEnds (told : List Entry) (outcomes : List (ℕ × Outcome)) : Typ
 abbrev IsNoEnd : Entry → Type 0
 IsNoEnd e = (n : ℕ) → is_end_of n e ≡ false
 
+is-end : (n : ℕ) (how : Outcome) (read : Reading) → is_end_of n (entry.Ended n how read) ≡ true
+is-end n how read = is-same n
+
 no-end-in : (es : List Entry) (n : ℕ) (how : Outcome) (read : Reading) → Each IsNoEnd es → IsIn (entry.Ended n how read) es → ⊥
 no-end-in [] n how read h i = i
-no-end-in (e ∷ es) n how read h (inl is) = absurd (clash (sym (ap (is_end_of n) is) ))
-  where
-    clash : is_end_of n e ≡ is_end_of n (entry.Ended n how read) → ⊥
-    clash f = let t = h.0 n in let u : (n Rattle.std.specs.Prelude.== n) ≡ true = grind (arith, nat_tests) in absurd cc
+no-end-in (e ∷ es) n how read h (inl is) =
+    not-both (is_end_of n e) (ap (is_end_of n) (sym is) ∙ is-end n how read) (h.0 n)
 no-end-in (e ∷ es) n how read h (inr j) = no-end-in es n how read h.1 j
 
 no-end-count : (es : List Entry) (n : ℕ) → Each IsNoEnd es → times (is_end_of n) es ≡ 0
@@ -53,6 +63,13 @@ says-more told es outcomes quiet h = record {
       (in-append (entry.Ended n how read) told es i);
 }
 
+-- two pairs are one
+abbrev Pair : ℕ → Outcome → ℕ → Outcome → Type 0
+Pair k w n how = let p : ℕ × Outcome = (k, w) in let q : ℕ × Outcome = (n, how) in p ≡ q
+
+pair : (k n : ℕ) (w how : Outcome) → k ≡ n → w ≡ how → Pair k w n how
+pair k n w how e f = ap₂ (λ (a : ℕ) (b : Outcome). let p : ℕ × Outcome = (a, b) in p) e f
+
 -- where an end is told
 pub says-end : (told : List Entry) (outcomes : List (ℕ × Outcome)) (n : ℕ) (how : Outcome) (read : Reading) → SaysEnds told outcomes
     → SaysEnds (told ++ entry.Ended n how read ∷ []) ((n, how) ∷ outcomes)
@@ -65,8 +82,131 @@ says-end told outcomes n how read h = record {
       (in-append (entry.Ended k w r) told (entry.Ended n how read ∷ []) i);
 }
   where
-    same : (k : ℕ) (w : Outcome) → (k, w) ≡ (n, how) → entry.Ended k w read ≡ entry.Ended n how read
+    same : (k : ℕ) (w : Outcome) → Pair k w n how → entry.Ended k w read ≡ entry.Ended n how read
     same k w e = ap (λ (p : ℕ × Outcome). entry.Ended p.0 p.1 read) e
 
-    back : (k : ℕ) (w : Outcome) (r : Reading) → entry.Ended k w r ≡ entry.Ended n how read → (k, w) ≡ (n, how)
-    back k w r e = let a : k ≡ n = cc in let b : w ≡ how = cc in ap (λ x. (x, w)) a ∙ ap (λ x. (n, x)) b
+    back : (k : ℕ) (w : Outcome) (r : Reading) → entry.Ended k w r ≡ entry.Ended n how read → Pair k w n how
+    back k w r e = pair k n w how (number-of e) (outcome-of e)
+      where
+        number-of : entry.Ended k w r ≡ entry.Ended n how read → k ≡ n
+        number-of e = cc
+
+        outcome-of : entry.Ended k w r ≡ entry.Ended n how read → w ≡ how
+        outcome-of e = cc
+
+-- where requests are disconnected, one after another
+pub says-ended : (told : List Entry) (ns : List ℕ) (outcomes : List (ℕ × Outcome)) → SaysEnds told outcomes
+    → SaysEnds (told ++ map disconnected_told ns) (all_ended ns outcome.Disconnected outcomes)
+says-ended told [] outcomes h = subst (λ es. SaysEnds es outcomes) (sym (append-nil told)) h
+says-ended told (n ∷ ns) outcomes h =
+    subst (λ es. SaysEnds es (all_ended (n ∷ ns) outcome.Disconnected outcomes))
+    (append_assoc told (disconnected_told n ∷ []) (map disconnected_told ns))
+    (says-ended (told ++ disconnected_told n ∷ []) ns ((n, outcome.Disconnected) ∷ outcomes)
+    (says-end told outcomes n outcome.Disconnected reading.Nothing h))
+
+-- quiet entries are no ends
+quiet-no-end : (e : Entry) → is_quiet e ≡ true → IsNoEnd e
+quiet-no-end (entry.Ended k how read) quiet n = absurd cc
+quiet-no-end entry.Done quiet n = refl
+quiet-no-end _ quiet n = refl
+
+quiet-no-ends : (es : List Entry) → AreQuiet es → Each IsNoEnd es
+quiet-no-ends [] h = tt
+quiet-no-ends (e ∷ es) h = (quiet-no-end e h.0, quiet-no-ends es h.1)
+
+-- what is told where a request is made
+says-asked : (told : List Entry) (outcomes : List (ℕ × Outcome)) (d : Draft) (c : Connection) (label : ℕ) (b : Bus)
+    → SaysEnds told outcomes → SaysEnds (told ++ asked_told d c label b) (sent_at_once d (next_number b) outcomes)
+says-asked told outcomes d c label b h = by d.oneway
+  where
+    asked_first : SaysEnds (told ++ asked d c label b ∷ []) outcomes
+    asked_first = says-more told (asked d c label b ∷ []) outcomes ((λ n. refl), tt) h
+
+    by : (t : Bool) → SaysEnds (told ++ asked d c label b ∷ sent_told t (next_number b)) (cond t ((next_number b, outcome.Sent) ∷ outcomes) outcomes)
+    by false = asked_first
+    by true =
+        subst (λ es. SaysEnds es ((next_number b, outcome.Sent) ∷ outcomes))
+        (append_assoc told (asked d c label b ∷ []) (entry.Ended (next_number b) outcome.Sent reading.Nothing ∷ []))
+        (says-end (told ++ asked d c label b ∷ []) outcomes (next_number b) outcome.Sent reading.Nothing asked_first)
+
+-- ---- the law of points
+
+-- what was told at a point is what the outcomes are
+abbrev Says : Point → Type 0
+Says a = SaysEnds a.told a.state.bus.outcomes
+
+untold : (a : Point) → Says a → SaysEnds (a.told ++ []) a.state.bus.outcomes
+untold a h = says-more a.told [] a.state.bus.outcomes tt h
+
+says-kept : (m : Moment) (a : Point) (x : Change m a) → Says a → Says (changed m a x)
+says-kept m a (tells e quiet) h = says-more a.told (e ∷ []) a.state.bus.outcomes (quiet-no-end e quiet, tt) h
+says-kept m a (asks d c label free live drawn) h = says-asked a.told a.state.bus.outcomes d c label a.state.bus h
+says-kept m a (names name d c label free live drawn) h = says-asked a.told a.state.bus.outcomes d c label a.state.bus h
+says-kept m a (binds x y n is) h = untold a h
+says-kept m a (frees name) h = untold a h
+says-kept m a (takes at p item free start is named front) h = untold a h
+says-kept m a (takes_held i c place p x free start is at held) h = untold a h
+says-kept m a drops h = h
+says-kept m a (holds x is far) h = untold a h
+says-kept m a (replies x q r is made twoway) h = says-more a.told _ a.state.bus.outcomes ((λ n. refl), tt) h
+says-kept m a (answers x n result payload is says which) h = says-end a.told a.state.bus.outcomes n _ _ h
+says-kept m a (forgets x n is which) h = untold a h
+says-kept m a (gives_up n how free unended cause) h = says-end a.told a.state.bus.outcomes n how reading.Nothing h
+says-kept m a (wires k free untouched live) h = untold a h
+says-kept m a (unwires k free before live) h =
+    subst (λ ns. SaysEnds (a.told ++ map disconnected_told (open_on k side.Far a.state.bus)) (all_ended ns outcome.Disconnected a.state.bus.outcomes))
+    (sym (open_requests-same (is_of k side.Far) a.state.bus _)) (says-ended a.told (open_on k side.Far a.state.bus) a.state.bus.outcomes h)
+says-kept m a (injects i c p bytes free named) h = says-more a.told _ a.state.bus.outcomes ((λ n. refl), tt) h
+says-kept m a (turns e free untouched none cause) h = untold a h
+says-kept m a (acts_told e rest is quiet) h = says-more a.told (e ∷ []) a.state.bus.outcomes (quiet-no-end e quiet, tt) h
+says-kept m a (acts_shut k rest free is cause) h =
+    subst (λ ns. SaysEnds (a.told ++ map disconnected_told (open_on k side.Ap a.state.bus)) (all_ended ns outcome.Disconnected a.state.bus.outcomes))
+    (sym (open_requests-same (is_of k side.Ap) a.state.bus _)) (says-ended a.told (open_on k side.Ap a.state.bus) a.state.bus.outcomes h)
+says-kept m a (acts_left k rest free untouched is) h = untold a h
+says-kept m a (acts_opened w q rest free is) h = says-more a.told _ a.state.bus.outcomes ((λ n. refl), tt) h
+says-kept m a (acts_asked q n rest is) h =
+    subst (λ (b : Bus). SaysEnds (a.told ++ []) b.outcomes) (sym (awaited-rest q.purpose n a.state).bus) (untold a h)
+says-kept m a (acts_failed q rest is quiet) h = says-more a.told _ a.state.bus.outcomes (quiet-no-ends _ quiet) h
+says-kept m a (serves k kind payload) h = untold a h
+says-kept m a (spends i c what) h = untold a h
+says-kept m a (passes millis) h = untold a h
+says-kept m a (others booted marks ports modules) h = untold a h
+
+-- ---- the laws
+
+-- the basis, and what is told of ends
+abbrev Told : Point → Type 0
+Told a = Basis a × Says a
+
+abbrev ends_law : (m : Moment) → Law m
+ends_law m = record {
+  holds = Told;
+  basis = λ a h. h.0;
+  kept = λ a x h. (basis-kept m a x h.0, says-kept m a x h.1);
+}
+
+abbrev pub ToldAt : List Entry → State → Type 0
+ToldAt told s = Told (resting told s)
+
+pub ends-throughout : HoldsThroughout ToldAt
+ends-throughout = throughout ToldAt (basis-first, record { count = λ n. refl; said = λ n how i. absurd i; kept = λ n how read i. absurd i })
+    (λ m one h. let r = over-step m (ends_law m) one h in (rested _ _ r.0 r.1.0, r.1.1))
+
+-- What is told of ends is what the outcomes are.
+pub ends-are-told : EndsAreTold
+ends-are-told = weaker ToldAt EndsTold (λ told s h. record {
+  said = λ n how i other. h.1.said n how i;
+  kept = h.1.kept;
+  made = λ n how i. h.0.bus.outcomes.made n (found n how s.bus.outcomes i);
+}) ends-throughout
+  where
+    found : (n : ℕ) (how : Outcome) (outs : List (ℕ × Outcome)) → IsIn (n, how) outs → is_some (lookup n outs) ≡ true
+    found n how [] i = absurd i
+    found n how (p ∷ ps) (inl e) =
+        ap (λ b. is_some (cond b (Some p.1) (lookup n ps)))
+        (ap (λ k. k == n) (sym (ap (λ (q : ℕ × Outcome). q.0) e)) ∙ is-same n)
+    found n how (p ∷ ps) (inr i) = later (p.0 == n) (found n how ps i)
+      where
+        later : (t : Bool) → is_some (lookup n ps) ≡ true → is_some (cond t (Some p.1) (lookup n ps)) ≡ true
+        later true h = refl
+        later false h = h

@@ -8,6 +8,7 @@ pub mod Loosening
 pub mod Naming
 pub mod Places
 pub mod Points
+pub mod Replying
 pub mod Runs
 pub mod Served
 pub mod Serving
