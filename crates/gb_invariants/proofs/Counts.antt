@@ -224,6 +224,9 @@ detached-counts test loose b k =
 pub in-weaker : (test other : Item → Bool) (loose : List Loose) (b : Bus) → ((item : Item) → test item ≡ true → other item ≡ true)
     → times_in test loose b ≤ times_in other loose b
 in-weaker test other loose b h =
-    omega (arith, total-weaker (times_on test) (times_on other) b.connections
-    (λ c. omega (arith, times-weaker test other c.to_ap h, times-weaker test other c.to_far h)),
-    times-weaker (λ (l : Loose). test l.item) (λ (l : Loose). other l.item) loose (λ l. h l.item))
+    omega (
+      arith,
+      total-weaker (times_on test) (times_on other) b.connections
+          (λ c. omega (arith, times-weaker test other c.to_ap h, times-weaker test other c.to_far h)),
+      times-weaker (λ (l : Loose). test l.item) (λ (l : Loose). other l.item) loose (λ l. h l.item),
+    )

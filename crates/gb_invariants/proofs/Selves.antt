@@ -1,4 +1,4 @@
--- What a connection keeps when only its queues and identifiers change.
+-- What a connection keeps when only its queues and identifiers change: what it is, and its ends.
 use Rattle.std.proofs.Common.{◌≡◌, ◌⊎◌, ℕ, Bool, true, false, cond, List, [], ◌∷◌, refl, ◌∙◌, inl, inr, ⊎_elim}
 use Rattle.gb_base.specs.declared.end.Side.{Side}
 use Rattle.gb_base.specs.declared.end.Side.TheVariants as side
@@ -10,37 +10,39 @@ use Rattle.gb_machine.specs.Lists.{behind_first}
 use Rattle.gb_machine.specs.Members.{IsIn}
 use Rattle.gb_machine.specs.Sending.{Draft, drawn, put, queued}
 
--- number, and whether it is clean and closed
+-- number, whether it is clean and closed, and its ends
 pub record SameSelf (c d : Connection) : Type 0 where
   pub number : d.number ≡ c.number
   pub clean : d.clean ≡ c.clean
   pub shut : d.shut ≡ c.shut
+  pub ap : d.ap ≡ c.ap
+  pub peer : d.peer ≡ c.peer
 
 queued-self : (at : Side) (item : Item) (c : Connection) → SameSelf c (queued at item c)
-queued-self side.Ap item c = record { number = refl; clean = refl; shut = refl }
-queued-self side.Far item c = record { number = refl; clean = refl; shut = refl }
+queued-self side.Ap item c = record { number = refl; clean = refl; shut = refl; ap = refl; peer = refl }
+queued-self side.Far item c = record { number = refl; clean = refl; shut = refl; ap = refl; peer = refl }
 
 pub put-self : (at : Side) (item : Item) (c : Connection) → SameSelf c (put at item c)
 put-self at item c = by c.wired
   where
     by : (t : Bool) → SameSelf c (cond t (queued at item c) c)
     by true = queued-self at item c
-    by false = record { number = refl; clean = refl; shut = refl }
+    by false = record { number = refl; clean = refl; shut = refl; ap = refl; peer = refl }
 
 pub drawn-self : (d : Draft) (label : ℕ) (c : Connection) → SameSelf c (drawn d label c)
 drawn-self d label c = by d.side d.oneway
   where
     by : (s : Side) (t : Bool) → SameSelf c (cond t c (with_last_label s label c))
-    by side.Ap false = record { number = refl; clean = refl; shut = refl }
-    by side.Far false = record { number = refl; clean = refl; shut = refl }
-    by s true = record { number = refl; clean = refl; shut = refl }
+    by side.Ap false = record { number = refl; clean = refl; shut = refl; ap = refl; peer = refl }
+    by side.Far false = record { number = refl; clean = refl; shut = refl; ap = refl; peer = refl }
+    by s true = record { number = refl; clean = refl; shut = refl; ap = refl; peer = refl }
 
 pub front-self : (at : Side) (c : Connection) → SameSelf c (without_front at c)
-front-self side.Ap c = record { number = refl; clean = refl; shut = refl }
-front-self side.Far c = record { number = refl; clean = refl; shut = refl }
+front-self side.Ap c = record { number = refl; clean = refl; shut = refl; ap = refl; peer = refl }
+front-self side.Far c = record { number = refl; clean = refl; shut = refl; ap = refl; peer = refl }
 
 pub both-self : (c d e : Connection) → SameSelf c d → SameSelf d e → SameSelf c e
-both-self c d e h k = record { number = k.number ∙ h.number; clean = k.clean ∙ h.clean; shut = k.shut ∙ h.shut }
+both-self c d e h k = record { number = k.number ∙ h.number; clean = k.clean ∙ h.clean; shut = k.shut ∙ h.shut; ap = k.ap ∙ h.ap; peer = k.peer ∙ h.peer }
 
 pub queued-queue : (s at : Side) (new item : Item) (c : Connection) → IsIn item (queue s (queued at new c))
     → IsIn item (queue s c) ⊎ ((s ≡ at) × (item ≡ new))

@@ -24,7 +24,7 @@ use Rattle.gb_laws.proofs.Awaited.{awaited-rest}
 use Rattle.gb_laws.proofs.Loosening.{Fewer, fewer-held, fewer-tail, fewer-taken, fewer-without, held-at, without-none}
 use Rattle.gb_laws.proofs.Naming.{made-named}
 use Rattle.gb_laws.proofs.Places.{IsPlace, at_first-back, module-far, place-is}
-use Rattle.gb_laws.proofs.Points.{Answers, Basis, Change, Forgets, Hand, IsStill, Law, NamesMade, Point, acts_asked, acts_failed, acts_left, acts_opened, acts_shut, acts_told, answers, asks, binds, by_label, by_number, changed, drops, forgets, frees, gives_up, holds, injects, loose, loose_hand, loose_held, names, others, passes, replies, serves, spends, takes, takes_held, tells, turns, unwires, wires, resting, Wires}
+use Rattle.gb_laws.proofs.Points.{Answers, Basis, Change, Forgets, Hand, IsStill, Law, Point, acts_asked, acts_failed, acts_left, acts_opened, acts_shut, acts_told, answers, asks, binds, by_label, by_number, changed, drops, forgets, frees, gives_up, holds, injects, loose, loose_hand, loose_held, names, others, passes, replies, serves, spends, takes, takes_held, tells, turns, unwires, wires, resting, Wires}
 use Rattle.gb_laws.proofs.Runs.{throughout}
 use Rattle.gb_laws.proofs.Steps.{over-step}
 use Rattle.gb_machine.specs.Bus.{Ask, Bus, Connection, Item, Place, Raw, RawReply, Reply, Request, connection_of, first_bus, svc_connection, has_number, is_open, next_number, other_side, queue, request_of}
@@ -34,7 +34,7 @@ use Rattle.gb_machine.specs.Holding.{held_on}
 use Rattle.gb_machine.specs.Incoming.{Incoming, incoming, incoming_raw, is_request, raw_request, reply_item, request_in}
 use Rattle.gb_machine.specs.Requests.{has_label, is_of}
 use Rattle.gb_machine.specs.Serving.{Answer}
-use Rattle.gb_machine.specs.LawsBus.{is_item_of}
+use Rattle.gb_machine.specs.LawsBus.{NameRequests, is_item_of}
 use Rattle.gb_machine.specs.Lists.{at_first, nth, without}
 use Rattle.gb_machine.specs.Members.{Each, IsIn, times}
 use Rattle.gb_machine.specs.Names.{bound, freed, named, same_name}
@@ -79,7 +79,7 @@ basis-same a after hand bus held named_same h = record {
 free-bus : (a : Point) → a.hand ≡ None → Basis a → BusFits (map loose_held a.state.held) a.state.bus
 free-bus a free h = subst (λ o. BusFits (loose_hand o (map loose_held a.state.held)) a.state.bus) free h.bus
 
-free-basis : (a : Point) → a.hand ≡ None → BusFits (map loose_held a.state.held) a.state.bus → NamesMade a.state → Basis a
+free-basis : (a : Point) → a.hand ≡ None → BusFits (map loose_held a.state.held) a.state.bus → NameRequests a.state → Basis a
 free-basis a free fits made = record {
   bus = subst (λ o. BusFits (loose_hand o (map loose_held a.state.held)) a.state.bus) (sym free) fits;
   names = made;
@@ -97,7 +97,7 @@ held-bus a x is h = subst (λ o. BusFits (loose_hand o (map loose_held a.state.h
 -- a connection of which an item is taken is what it was
 still-popped : (c : Connection) (at : Side) (b : Bus) → IsIn c b.connections → IsStill c (popped c.number at b)
 still-popped c at b live =
-    ⊎_elim (λ i. record { now = c; live = i; self = record { number = refl; clean = refl; shut = refl } })
+    ⊎_elim (λ i. record { now = c; live = i; self = record { number = refl; clean = refl; shut = refl; ap = refl; peer = refl } })
     (λ i. record { now = without_front at c; live = i; self = front-self at c })
     (at_first-back (has_number c.number) (without_front at) b.connections c live)
 
@@ -249,7 +249,7 @@ basis-kept m a (takes_held i c place_number p x free start is at held) h =
       names = h.names;
       hand = λ y e. subst (λ (z : Hand). IsStill z.connection a.state.bus)
           (same-some (record { connection = p.connection; side = p.side; item = x.item }) y e)
-          (record { now = p.connection; live = live; self = record { number = refl; clean = refl; shut = refl } });
+          (record { now = p.connection; live = live; self = record { number = refl; clean = refl; shut = refl; ap = refl; peer = refl } });
     }
   where
     same : x.connection ≡ p.connection.number → p.side ≡ side.Far

@@ -103,10 +103,12 @@ module _ (m : Moment) (law : Law m) where
           → Ends m law (Some (hand_of c t item)) (cond b (keeps c item q) (serving t c q)) s
       by t false e h = h
       by side.Ap true e h = absurd (not-both false e refl)
-      by side.Far true e h = λ told now.
-          (Untouched, subst (λ es. At m (acting m law) None [] Untouched es (with_held c.number item s))
-          (ap (λ es. es ++ entry.Held q.number ∷ []) (append-nil told))
-          (law.kept _ (tells (entry.Held q.number) refl) (law.kept _ (holds (hand_of c side.Far item) refl refl) now)))
+      by side.Far true e h = λ told now. (
+        Untouched,
+        subst (λ es. At m (acting m law) None [] Untouched es (with_held c.number item s))
+            (ap (λ es. es ++ entry.Held q.number ∷ []) (append-nil told))
+            (law.kept _ (tells (entry.Held q.number) refl) (law.kept _ (holds (hand_of c side.Far item) refl refl) now)),
+      )
 
   -- ---- responses
 
@@ -123,9 +125,11 @@ module _ (m : Moment) (law : Law m) where
   ends-forgotten : (h : Hand) (n : ℕ) (e : Entry) (s : State) → is_quiet e ≡ true → Forgets h n s.bus
       → Ends m law (Some h) (arriving.forgets n e) s
   unfolding machine_opened
-  ends-forgotten h n e s quiet which told now =
-      (Untouched, subst (λ es. At m (acting m law) None [] Untouched es (record s { bus = forgotten n s.bus })) (ap (λ es. es ++ e ∷ []) (append-nil told))
-      (law.kept _ (tells e quiet) (law.kept _ (forgets h n refl which) now)))
+  ends-forgotten h n e s quiet which told now = (
+    Untouched,
+    subst (λ es. At m (acting m law) None [] Untouched es (record s { bus = forgotten n s.bus })) (ap (λ es. es ++ e ∷ []) (append-nil told))
+        (law.kept _ (tells e quiet) (law.kept _ (forgets h n refl which) now)),
+  )
 
   ends-by_number : (c : Connection) (at : Side) (n result : ℕ) (payload : List ℕ) (s : State) → c.clean ≡ true
       → Ends m law (Some (hand_of c at (Reply n result payload))) (arriving.by_number at c n result payload) s
@@ -249,9 +253,11 @@ module _ (m : Moment) (law : Law m) where
       front p e (Some item) f = λ told now.
           let after = record m.before { bus = popped p.connection.number p.side m.before.bus } in
           let r = ends-handles p.connection p.side item after refl
-          (λ q made. delivered at p item q is e f refl (sym (request-popped item p.connection.number p.side m.before.bus) ∙ made)) (told ++ []) (law.kept _ (takes at p item refl refl is e f) now) in
-          (r.0, subst (λ es. At m (acting m law) None [] r.0 es (handles p.side p.connection item after).state)
-          (append_assoc told [] (handles p.side p.connection item after).entries) r.1)
+          (λ q made. delivered at p item q is e f refl (sym (request-popped item p.connection.number p.side m.before.bus) ∙ made)) (told ++ []) (law.kept _ (takes at p item refl refl is e f) now) in (
+            r.0,
+            subst (λ es. At m (acting m law) None [] r.0 es (handles p.side p.connection item after).state)
+                (append_assoc told [] (handles p.side p.connection item after).entries) r.1,
+          )
 
       by : (o : Option Place) → place_of at m.before.bus.connections ≡ o → Ends m law None (given o delivers_at) m.before
       by None e = ends-idle m.before
@@ -282,9 +288,11 @@ module _ (m : Moment) (law : Law m) where
           let after = with_fewer p.connection.number place m.before in
           let far = module-far i c p.side p.connection (place-is (end.Module i c) m.before.bus.connections p e).is in
           let r = held p h.item after far refl (arriving.takes p.side p.connection after) (told ++ [])
-          (law.kept _ (takes_held i c place p h refl refl is e f) now) in
-          (r.0, subst (λ es. At m (acting m law) None [] r.0 es (serves_held p h.item after).state)
-          (append_assoc told [] (serves_held p h.item after).entries) r.1)
+          (law.kept _ (takes_held i c place p h refl refl is e f) now) in (
+            r.0,
+            subst (λ es. At m (acting m law) None [] r.0 es (serves_held p h.item after).state)
+                (append_assoc told [] (serves_held p h.item after).entries) r.1,
+          )
 
       by : (o : Option Place) → module_place i c m.before ≡ o → Ends m law None (given o (answers_at place)) m.before
       by None e = ends-idle m.before

@@ -60,9 +60,14 @@ fewer-held l h hs e = record { within = within; counts = counts hs }
     counts : (ks : List Held) (test : Item → Bool) → times (on_item test) (map loose_held (ks ++ h ∷ [])) ≤ times (on_item test) (l ∷ map loose_held ks)
     counts [] test = omega (arith, ap (λ x. times (on_item test) (x ∷ [])) e)
     counts (k ∷ ks) test =
-        omega (arith, counts ks test, times-cons (on_item test) (loose_held k) (map loose_held (ks ++ h ∷ [])),
-        times-cons (on_item test) l (map loose_held ks), times-cons (on_item test) l (loose_held k ∷ map loose_held ks),
-        times-cons (on_item test) (loose_held k) (map loose_held ks))
+        omega (
+          arith,
+          counts ks test,
+          times-cons (on_item test) (loose_held k) (map loose_held (ks ++ h ∷ [])),
+          times-cons (on_item test) l (map loose_held ks),
+          times-cons (on_item test) l (loose_held k ∷ map loose_held ks),
+          times-cons (on_item test) (loose_held k) (map loose_held ks),
+        )
 
 -- what is held but for those of a connection
 pub fewer-without : (k : ℕ) (hs : List Held) → Fewer (map loose_held (without (λ h. h.connection == k) hs)) (map loose_held hs)
@@ -79,8 +84,12 @@ fewer-without k hs = record {
         by : (t : Bool) → times (on_item test) (map loose_held (without (λ h. h.connection == k) ks)) ≤ times (on_item test) (map loose_held ks)
             → times (on_item test) (map loose_held (cond t (h ∷ without (λ h. h.connection == k) ks) (without (λ h. h.connection == k) ks)))
             ≤ times (on_item test) (loose_held h ∷ map loose_held ks)
-        by true r = omega (arith, r, times-cons (on_item test) (loose_held h) (map loose_held (without (λ h. h.connection == k) ks)),
-            times-cons (on_item test) (loose_held h) (map loose_held ks))
+        by true r = omega (
+          arith,
+          r,
+          times-cons (on_item test) (loose_held h) (map loose_held (without (λ h. h.connection == k) ks)),
+          times-cons (on_item test) (loose_held h) (map loose_held ks),
+        )
         by false r = omega (arith, r, times-cons (on_item test) (loose_held h) (map loose_held ks))
 
 -- and none of them is of that connection
@@ -134,9 +143,14 @@ counts-taken test k (suc i) (x ∷ xs) h e =
 
     in-front : (later ks : List Held) → Most later ks → Most (x ∷ later) (x ∷ ks)
     in-front later ks r =
-        omega (arith, r, times-cons (on_item test) (loose_held h) (map loose_held later),
-        times-cons (on_item test) (loose_held h) (map loose_held (x ∷ later)),
-        times-cons (on_item test) (loose_held x) (map loose_held later), times-cons (on_item test) (loose_held x) (map loose_held ks))
+        omega (
+          arith,
+          r,
+          times-cons (on_item test) (loose_held h) (map loose_held later),
+          times-cons (on_item test) (loose_held h) (map loose_held (x ∷ later)),
+          times-cons (on_item test) (loose_held x) (map loose_held later),
+          times-cons (on_item test) (loose_held x) (map loose_held ks),
+        )
 
     by : (t : Bool) → is_held_on k x ≡ t → (i : ℕ) → nth (suc i) (cond t (x ∷ held_on k xs) (held_on k xs)) ≡ Some h
         → (nth i (held_on k xs) ≡ Some h → Most (held_without k i xs) xs)
@@ -156,6 +170,9 @@ fewer-taken k place hs h l e is = record {
   within = λ x i. ⊎_elim
       (λ same. subst (λ y. IsIn y (map loose_held hs)) (sym (same ∙ is)) (map-held-in h hs (held-at k place hs h e).0))
       (λ j. within-held (held_without k place hs) hs (in-held_without k place hs) x j) i;
-  counts = λ test. omega (arith, counts-taken test k place hs h e,
-      ap (λ x. times (on_item test) (x ∷ map loose_held (held_without k place hs))) is);
+  counts = λ test. omega (
+    arith,
+    counts-taken test k place hs h e,
+    ap (λ x. times (on_item test) (x ∷ map loose_held (held_without k place hs))) is,
+  );
 }

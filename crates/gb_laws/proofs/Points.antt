@@ -27,6 +27,7 @@ use Rattle.gb_machine.specs.HostServing.{host_serves}
 use Rattle.gb_machine.specs.HostTurns.{host_turn, links_of}
 use Rattle.gb_machine.specs.Incoming.{Incoming, reply_entry, reply_item, request_in}
 use Rattle.gb_machine.specs.LineActions.{spent, with_fewer}
+use Rattle.gb_machine.specs.LawsBus.{NameRequests}
 use Rattle.gb_machine.specs.Lists.{first, nth}
 use Rattle.gb_machine.specs.Members.{Each, IsIn}
 use Rattle.gb_machine.specs.Names.{bound, freed, named}
@@ -92,10 +93,6 @@ loose a = loose_hand a.hand (map loose_held a.state.held)
 
 -- ---- the basis
 
--- what each name names was made
-abbrev pub NamesMade : State → Type 0
-NamesMade s = Each (λ (p : Name × ℕ). is_some (request_of p.1 s.bus) ≡ true) s.names
-
 -- The connection of what is being handled is live, as it was but for its queues.
 pub record IsStill (c : Connection) (b : Bus) : Type 0 where
   pub now : Connection
@@ -105,7 +102,7 @@ pub record IsStill (c : Connection) (b : Bus) : Type 0 where
 -- the facts that all laws stand on
 pub record Basis (a : Point) : Type 0 where
   pub bus : BusFits (loose a) a.state.bus
-  pub names : NamesMade a.state
+  pub names : NameRequests a.state
   pub hand : (h : Hand) → a.hand ≡ Some h → IsStill h.connection a.state.bus
 
 -- ---- entries

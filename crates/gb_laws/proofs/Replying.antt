@@ -139,8 +139,11 @@ once-asked a after d c label basis hand held bus told h = record { once = once; 
     unasked : (n : ℕ) → next_number a.state.bus ≡ n → asked_times n a ≡ 0
     unasked n e =
         let unmade = ap (λ k. request_of k a.state.bus) (sym e) ∙ nth-past (next_number a.state.bus) a.state.bus.requests (omega arith) in
-        omega (arith, in-weaker (is_ask n) (is_item_of n) (loose a) a.state.bus (asks-item n),
-        none-unmade (loose a) a.state.bus n basis.bus.items unmade)
+        omega (
+          arith,
+          in-weaker (is_ask n) (is_item_of n) (loose a) a.state.bus (asks-item n),
+          none-unmade (loose a) a.state.bus n basis.bus.items unmade,
+        )
 
     once : (n : ℕ) → asked_times n after + times (is_reply_of n) after.told ≤ 1
     once n = by (next_number a.state.bus == n) refl

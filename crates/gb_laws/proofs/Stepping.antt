@@ -26,7 +26,7 @@ use Rattle.gb_laws.proofs.Acting.{goes-notices}
 use Rattle.gb_laws.proofs.Delivering.{ends-answers, ends-delivers, ends-idle, then-ends}
 use Rattle.gb_laws.proofs.Going.{At, Goes, goes-far_asks, goes-far_asks_all, goes-nothing, goes-tell, goes-tell_all, goes-when, goes-▸}
 use Rattle.gb_laws.proofs.Naming.{made-named}
-use Rattle.gb_laws.proofs.Points.{ActLaw, AreQuiet, Change, Hand, IsActing, IsGivenUpFor, IsLate, IsLive, Law, NamesMade, Untouched, Unwired, Wired, Wires, acting, binds, changed, frees, gives_up as giving_up, injects as injecting, is_quiet, names, others, passes, spends, tells, unwires as unwiring}
+use Rattle.gb_laws.proofs.Points.{ActLaw, AreQuiet, Change, Hand, IsActing, IsGivenUpFor, IsLate, IsLive, Law, Untouched, Unwired, Wired, Wires, acting, binds, changed, frees, gives_up as giving_up, injects as injecting, is_quiet, names, others, passes, spends, tells, unwires as unwiring}
 use Rattle.gb_laws.proofs.Serving.{Ends, ends-going}
 use Rattle.gb_machine.proofs.Opened.{machine_opened}
 use Rattle.gb_base.specs.declared.refusal.Refusal.TheVariants as why

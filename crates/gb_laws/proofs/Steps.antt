@@ -60,6 +60,8 @@ module _ (m : Moment) (law : Law m) where
           → (w : Wires) × At m (acting m law) None [] w (m.told ++ (decided o m.event m.before).entries) (decided o m.event m.before).state
       by (Some why) e = (Untouched, law.kept _ (tells (entry.Refused why) refl) start)
       by None e =
-          let r = ends-does m.event refl one e (m.told ++ entry.Done ∷ []) (law.kept _ (tells entry.Done refl) start) in
-          (r.0, subst (λ es. At m (acting m law) None [] r.0 es (does m.event m.before).state)
-          (append_assoc m.told (entry.Done ∷ []) (does m.event m.before).entries) r.1)
+          let r = ends-does m.event refl one e (m.told ++ entry.Done ∷ []) (law.kept _ (tells entry.Done refl) start) in (
+            r.0,
+            subst (λ es. At m (acting m law) None [] r.0 es (does m.event m.before).state)
+                (append_assoc m.told (entry.Done ∷ []) (does m.event m.before).entries) r.1,
+          )

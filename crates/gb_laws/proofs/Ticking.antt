@@ -174,16 +174,18 @@ wired-live i b (c ∷ cs) within = by (is_wired_to i c) refl (wired-live i b cs 
     by false e rest = rest
     by true e rest =
         let p = both-true c.wired (is_at i c.peer) e in
-        let at = is_at-module i c.peer p.1 in
-        (record {
-          connection = c;
-          live = within c (inl refl);
-          number = refl;
-          wired = p.0;
-          intf = i;
-          cport = at.0;
-          peer = at.1;
-        }, rest)
+        let at = is_at-module i c.peer p.1 in (
+          record {
+            connection = c;
+            live = within c (inl refl);
+            number = refl;
+            wired = p.0;
+            intf = i;
+            cport = at.0;
+            peer = at.1;
+          },
+          rest,
+        )
 
 wired-rise : (cs : List Connection) → EachTwo IsBefore cs → Rise (map (λ (c : Connection). c.number) cs)
 wired-rise [] h = tt

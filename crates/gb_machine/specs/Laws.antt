@@ -1,5 +1,5 @@
 -- The laws of runs, together.
-use Rattle.gb_machine.specs.LawsBus.{EndpointsDiffer, LabelsDiffer, OneItemANumber, RepliesAreAwaited}
+use Rattle.gb_machine.specs.LawsBus.{EndpointsDiffer, LabelsDiffer, NamesNameRequests, OneItemANumber, RepliesAreAwaited}
 use Rattle.gb_machine.specs.LawsCredits.{CreditsAddUp}
 use Rattle.gb_machine.specs.LawsEnds.{AnsweredByItsResponder, EndsAreTold, EndsAtMostOnce, EveryEndHasItsCause}
 use Rattle.gb_machine.specs.LawsHotPlug.{NoForeignMessage, NothingLeftAfterRemoval, WiredAtMostOnce}
@@ -22,6 +22,7 @@ pub record LawsOfRuns : Type 0 where
 
 -- What holds of every state of a run, and is used to prove the laws and the system.
 pub record FactsOfRuns : Type 0 where
+  pub names : NamesNameRequests
   pub labels : LabelsDiffer
   pub items : OneItemANumber
   pub replies : RepliesAreAwaited

@@ -1,7 +1,8 @@
--- Facts of every state of a run: identifiers, items, replies and ends.
-use Rattle.std.specs.Prelude.{◌≡◌, ◌≢◌, ◌≤◌, ℕ, ◌==◌, Bool, true, false, ◌||◌, Some, List, ◌++◌, map}
+-- Facts of every state of a run: identifiers, items, replies, ends and names.
+use Rattle.std.specs.Prelude.{◌≡◌, ◌≢◌, ◌≤◌, ℕ, ◌==◌, Bool, true, false, ◌||◌, Some, is_some, List, ◌++◌, map}
 use Rattle.gb_base.specs.declared.entry.Entry.{Entry}
 use Rattle.gb_base.specs.declared.end.Side.TheVariants as side
+use Rattle.gb_base.specs.declared.name.Name.{Name}
 use Rattle.gb_machine.specs.Arriving.{takes}
 use Rattle.gb_machine.specs.Bus.{Ask, Bus, Connection, Item, Reply, Request, is_open, request_of, same_end}
 use Rattle.gb_machine.specs.Holding.{held_on}
@@ -95,3 +96,17 @@ HaveOwnEnds told s = EachTwo AreApart s.bus.connections
 -- Live connections have ends of their own, in every state of a run.
 abbrev pub EndpointsDiffer : Type 0
 EndpointsDiffer = HoldsThroughout HaveOwnEnds
+
+-- ---- names name requests
+
+-- what each name names was made
+abbrev pub NameRequests : State → Type 0
+NameRequests s = Each (λ (p : Name × ℕ). is_some (request_of p.1 s.bus) ≡ true) s.names
+
+-- the same, whatever was told
+abbrev pub HaveNamed : List Entry → State → Type 0
+HaveNamed told s = NameRequests s
+
+-- A name names a request that was made, in every state of a run.
+abbrev pub NamesNameRequests : Type 0
+NamesNameRequests = HoldsThroughout HaveNamed
