@@ -1,1 +1,3 @@
-pub mod Said
+pub mod Numbers
+pub mod HexWords
+pub mod Operations

@@ -22,3 +22,13 @@ impl From<OutOfMemory> for LineFault {
         LineFault::Memory(refused)
     }
 }
+
+impl From<LineReason> for LineFault {
+    ghost use Rattle.gb_script.specs.declared.fault.LineFault.{LineFault};
+
+    ghost from_gives = { λ e f. f ≡ LineFault.Bad e };
+
+    fn from(reason: LineReason) -> LineFault {
+        LineFault::Bad(reason)
+    }
+}

@@ -1,88 +1,99 @@
-//! The forms of lines that give an event.
+//! The forms of lines, by the first word.
 
-ghost use Rattle.std.specs.Prelude.{◌≡◌, ℕ, List, true, false, ◌∷◌, codes, Some, None};
-ghost use Rattle.std.specs.Prelude.{if◌then◌else◌};
-ghost use Rattle.gb_formats.specs.Grammar.{is_comment, is_name_word, name_of};
-ghost use Rattle.gb_formats.specs.Script.{is_plain, said};
+ghost use Rattle.std.specs.Prelude.{◌≡◌, ◌≤◌, false, length};
+ghost use Rattle.gb_formats.specs.Grammar.{by_first, is_comment};
+ghost use Rattle.gb_base.specs.declared.event.Event.TheVariants as event;
+ghost use Rattle.gb_formats.specs.Said.{at_end};
 ghost use Rattle.gb_formats.specs.Words.{words};
-ghost use Rattle.gb_script.specs.Built.{is_built};
-ghost use Rattle.gb_script.specs.Tells.{Asks};
+ghost use Rattle.gb_script.specs.Parts.{by_protocol};
+ghost use Rattle.gb_script.specs.Tells.{Says};
 
-use crate::words::{one_word, three_words, two_words};
-use gb_base::{Bytes, End, Event, Name, Word};
+use crate::LineFault;
+use crate::deliveries::{answer, deliver, inject, settle, tick};
+use crate::gpio::gpio;
+use crate::i2c::i2c;
+use crate::interfaces::{connect, disconnect, hold, insert, pull};
+use crate::requests::{cancel, copy, forget, send};
+use crate::spi::spi;
+use crate::take::end;
+use crate::uart::uart;
+use crate::words::is;
+use gb_base::{Event, LineReason};
 use std::alloc::Global;
 
-const AP: &[u8] = b"ap";
-
-const DELIVER: &[u8] = b"deliver";
-
-const PING: &[u8] = b"ping";
-
-const SEND: &[u8] = b"send";
-
-const SVC: &[u8] = b"svc";
-
-const ZERO: &[u8] = b"0";
-
-/// Type PING of the SVC protocol.
-const TYPE_PING: u8 = 0x13;
-
-/// The timeout in milliseconds of a request that states none.
-const DEFAULT_TIMEOUT: u32 = 1000;
-
-/// The event of a line that begins with the word `first`, and has the words of `rest` behind it.
-pub fn form(alloc: Global, first: &[u8], rest: &[u8], who: u8) -> Option<Event>
-    ensures { (line : List ℕ) → is_plain line ≡ true → words line ≡ first.now ∷ words rest.now
-        → is_comment first.now ≡ false → Asks result (said is_built who line) }
+/// The event of a line with the first word `first` and the words of `rest` behind it.
+pub fn form(alloc: Global, first: &[u8], rest: &[u8], who: u8) -> Result<Event, LineFault>
+    requires short { length rest.now ≤ 8192 }
+    requires words { is_comment first.now ≡ false }
+    ensures { Says result (by_first who first.now (words rest.now)) }
 {
-    if first == SEND {
+    if is(first, "boot") {
+        boot(rest)
+    } else if is(first, "insert") {
+        insert(alloc, rest)
+    } else if is(first, "pull") {
+        pull(rest)
+    } else if is(first, "connect") {
+        connect(rest)
+    } else if is(first, "disconnect") {
+        disconnect(rest)
+    } else if is(first, "send") {
         send(alloc, rest, who)
-    } else if first == DELIVER {
+    } else if is(first, "deliver") {
         deliver(rest)
+    } else if is(first, "settle") {
+        settle(rest)
+    } else if is(first, "hold") {
+        hold(rest)
+    } else if is(first, "answer") {
+        answer(rest)
+    } else if is(first, "cancel") {
+        cancel(rest, who)
+    } else if is(first, "copy") {
+        copy(rest, who)
+    } else if is(first, "drop") {
+        forget(rest, who)
+    } else if is(first, "tick") {
+        tick(rest)
+    } else if is(first, "inject") {
+        inject(alloc, rest)
+    } else if is(first, "show") {
+        show(rest)
     } else {
-        None
+        bridged(alloc, first, rest, who)
     }
 }
 
-/// The event of a line that begins with `send`, and has the words of `rest` behind it.
-fn send(alloc: Global, rest: &[u8], who: u8) -> Option<Event>
-    ensures { (line : List ℕ) → is_plain line ≡ true → words line ≡ codes "send" ∷ words rest.now
-        → Asks result (said is_built who line) }
+/// The event of a line for a bridged protocol.
+fn bridged(alloc: Global, first: &[u8], rest: &[u8], who: u8) -> Result<Event, LineFault>
+    requires { length rest.now ≤ 8192 }
+    ensures { Says result (by_protocol who first.now (words rest.now)) }
 {
-    let (name, to, what) = three_words(rest)?;
-    if to != SVC || what != PING {
-        return None;
+    if is(first, "gpio") {
+        gpio(rest, who)
+    } else if is(first, "i2c") {
+        i2c(alloc, rest, who)
+    } else if is(first, "spi") {
+        spi(alloc, rest, who)
+    } else if is(first, "uart") {
+        uart(alloc, rest, who)
+    } else {
+        Err(LineFault::Bad(LineReason::BadWord(1)))
     }
-    Some(Event::Send {
-        name: name_of(name, who)?,
-        to: End::Svc,
-        kind: TYPE_PING,
-        payload: Bytes::new(alloc),
-        timeout: DEFAULT_TIMEOUT,
-    })
 }
 
-/// The event of a line that begins with `deliver`, and has the words of `rest` behind it.
-fn deliver(rest: &[u8]) -> Option<Event>
-    ensures { (who : ℕ) (line : List ℕ) → is_plain line ≡ true
-        → words line ≡ codes "deliver" ∷ words rest.now → Asks result (said is_built who line) }
+/// `boot`.
+fn boot(rest: &[u8]) -> Result<Event, LineFault>
+    ensures { Says result (at_end 2 (words rest.now) event.Boot) }
 {
-    if let Some((end, number)) = two_words(rest) {
-        return (end == AP && number == ZERO).then_some(Event::Deliver { at: End::Ap(0) });
-    }
-    let end = one_word(rest)?;
-    (end == SVC).then_some(Event::Deliver { at: End::Svc })
+    end(rest, 2)?;
+    Ok(Event::Boot)
 }
 
-/// The name that a word of a script gives, None where it gives none.
-fn name_of(word: &[u8], who: u8) -> Option<Name>
-    ensures { result ≡ (if is_name_word word.now then Some (name_of who word.now) else None) }
+/// `show`.
+fn show(rest: &[u8]) -> Result<Event, LineFault>
+    ensures { Says result (at_end 2 (words rest.now) event.Show) }
 {
-    match word.split_first() {
-        Some((b'@', rest)) => Some(Name {
-            who,
-            word: Word::from_bytes(rest)?,
-        }),
-        _ => None,
-    }
+    end(rest, 2)?;
+    Ok(Event::Show)
 }

@@ -1,13 +1,28 @@
 //! Reads script lines.
 #![tactic(auto)]
 
+#[cfg(test)]
+mod bad_lines;
+mod bridges;
+mod built;
+mod deliveries;
 mod fault;
 mod forms;
+mod gpio;
+mod hex_words;
+mod i2c;
+mod interfaces;
 mod lines;
+mod ops;
 mod plain;
 mod read;
+mod requests;
+mod spi;
+mod take;
 #[cfg(test)]
 mod tests;
+mod uart;
+mod values;
 mod words;
 
 pub use fault::LineFault;

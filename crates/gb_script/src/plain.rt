@@ -1,16 +1,32 @@
 //! The bytes that a line may have.
 
-ghost use Rattle.std.specs.Prelude.{◌≡◌};
-ghost use Rattle.gb_formats.specs.Script.{is_plain, is_printable};
+ghost use Rattle.std.specs.Prelude.{◌≡◌, ◌+◌, ◌≤◌, ◌<◌, true, false, Some, None, nat_le, length};
+ghost use Rattle.std.specs.Prelude.{MatchResult};
+ghost use Rattle.gb_formats.specs.Said.{Said};
+ghost use Rattle.gb_formats.specs.Script.{by_bytes, is_printable};
+
+use gb_base::LineReason;
 
 /// How many bytes a line may have.
 const LONGEST_LINE: usize = 8192;
 
-/// Whether a line isn't too long, and has printable ASCII alone.
-pub fn is_plain(line: &[u8]) -> bool
-    ensures { result ≡ is_plain line.now }
+/// Tells why a line is bad by its length, or else by its first byte that isn't printable ASCII.
+pub fn plain(line: &[u8]) -> Result<(), LineReason>
+    ensures { MatchResult result
+        (λ _. (length line.now ≤ 8192) × ((by_words : Said) → by_bytes line.now by_words ≡ by_words))
+        (λ why. (by_words : Said) → by_bytes line.now by_words ≡ Err why) }
 {
-    line.len() <= LONGEST_LINE && line.iter().all(|b| is_printable(*b))
+    if line.len() > LONGEST_LINE {
+        return Err(LineReason::Long);
+    }
+    let mut place = 1;
+    for b in line {
+        if !is_printable(*b) {
+            return Err(LineReason::BadByte(place));
+        }
+        place += 1;
+    }
+    Ok(())
 }
 
 /// Whether a byte is printable ASCII.

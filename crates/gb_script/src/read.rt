@@ -1,31 +1,44 @@
 //! Reads the event of a line.
 
-ghost use Rattle.gb_formats.specs.Script.{said};
+ghost use Rattle.std.specs.Prelude.{◌≡◌};
+ghost use Rattle.gb_formats.specs.Script.{judged, said};
 ghost use Rattle.gb_script.specs.Built.{is_built};
 ghost use Rattle.gb_script.specs.Tells.{Tells};
 
 use crate::LineFault;
+use crate::built::is_built_form;
 use crate::forms::form;
-use crate::plain::is_plain;
+use crate::plain::plain;
 use crate::words::first_word;
 use gb_base::{Event, LineReason};
 use std::alloc::Global;
 
 /// The event of a line, None for a blank or comment line. `who` is the requester.
 pub fn event(alloc: Global, line: &[u8], who: u8) -> Result<Option<Event>, LineFault>
-    ensures { Tells result (said is_built who line.now) }
+    ensures { Tells result (said (is_built who) who line.now) }
 {
-    if !is_plain(line) {
-        return Err(LineFault::Bad(LineReason::NotBuilt));
+    match judged(alloc, line, who)? {
+        Some(event) => {
+            if is_built_form(line) {
+                Ok(Some(event))
+            } else {
+                Err(LineFault::Bad(LineReason::NotBuilt))
+            }
+        }
+        None => Ok(None),
     }
+}
+
+/// The event of a line by the whole grammar.
+fn judged(alloc: Global, line: &[u8], who: u8) -> Result<Option<Event>, LineFault>
+    ensures { Tells result (judged who line.now) }
+{
+    plain(line)?;
     let Some((first, rest)) = first_word(line) else {
         return Ok(None);
     };
     if first.first() == Some(&b'#') {
         return Ok(None);
     }
-    match form(alloc, first, rest, who) {
-        Some(event) => Ok(Some(event)),
-        None => Err(LineFault::Bad(LineReason::NotBuilt)),
-    }
+    Ok(Some(form(alloc, first, rest, who)?))
 }

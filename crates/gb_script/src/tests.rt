@@ -27,8 +27,6 @@ fn reads_lines(rt: HostRuntime) {
     assert!(rt; matches!(ap, Ok(Some(Event::Deliver { at: End::Ap(0) }))));
     let ping = event(alloc, b"send @x1 svc ping", 3);
     assert!(rt; is_ping(&ping));
-    let later = event(alloc, b"boot", 0);
-    assert!(rt; matches!(later, Err(LineFault::Bad(LineReason::NotBuilt))));
 }
 
 /// Whether a line asked requester 3's ping `x1`.
@@ -46,5 +44,73 @@ fn is_ping(said: &Result<Option<Event>, LineFault>) -> bool {
             ),
         ) => name.who == 3 && name.word.bytes() == b"x1".as_slice() && payload.items().is_empty(),
         _ => false,
+    }
+}
+
+/// A line for each form that isn't built.
+const NOT_BUILT: &[&str] = &[
+    "boot",
+    "insert 2 gpio",
+    "insert 3 i2c",
+    "insert 4 spi",
+    "insert 5 uart",
+    "insert 31 bridge",
+    "insert 2 raw 0aFf",
+    "pull 31",
+    "connect 2 4095",
+    "disconnect 2 0",
+    "send @abcdefghij012345 svc 7f -",
+    "send @x svc 13 0Ab1",
+    "send @x svc ping timeout 1000",
+    "send @x svc 13 - timeout 4294967295",
+    "send @x 2 1 02 00",
+    "send @x 2 1 02 - timeout 1",
+    "deliver ap 4095",
+    "deliver 2 0",
+    "settle 65535",
+    "hold 2 1",
+    "answer 2 1 4294967295",
+    "cancel @x",
+    "copy @x @y",
+    "drop @x",
+    "tick 1",
+    "inject 2 1 -",
+    "show",
+    "gpio @x 2 1 count",
+    "gpio @x 2 1 activate 255",
+    "gpio @x 2 1 deactivate 0",
+    "gpio @x 2 1 direction 7",
+    "gpio @x 2 1 in 7",
+    "gpio @x 2 1 out 7 255",
+    "gpio @x 2 1 get 7",
+    "gpio @x 2 1 set 7 1",
+    "gpio @x 2 1 debounce 7 65535",
+    "gpio @x 2 1 irq 7 3",
+    "gpio @x 2 1 mask 7",
+    "gpio @x 2 1 unmask 7",
+    "gpio 2 1 level 7 1",
+    "i2c @x 2 1 functionality",
+    "i2c @x 2 1 transfer",
+    "i2c @x 2 1 transfer w:50:fe r:7f:65535",
+    "spi @x 2 1 config",
+    "spi @x 2 1 device 255",
+    "spi @x 2 1 transfer 0 255",
+    "spi @x 2 1 transfer 0 0 x:0102 r:2 w:FF",
+    "uart @x 2 1 send -",
+    "uart @x 2 1 coding 4294967295 0 1 8 255",
+    "uart @x 2 1 control 255",
+    "uart @x 2 1 break 0",
+    "uart @x 2 1 flush 3",
+    "uart 2 1 state 255",
+];
+
+#[test]
+fn names_forms_that_are_not_built(rt: HostRuntime) {
+    for line in NOT_BUILT {
+        let said = event(rt.alloc(), line.as_bytes(), 0);
+        assert!(rt;
+            matches!(said, Err(LineFault::Bad(LineReason::NotBuilt))),
+            "{line}"
+        );
     }
 }

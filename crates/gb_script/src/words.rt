@@ -1,12 +1,14 @@
 //! Cuts a line into words.
 
-ghost use Rattle.std.specs.Prelude.{◌≡◌, ◌≢◌, [], ◌∷◌, length, MatchOption};
+ghost use Rattle.std.specs.Prelude.{◌≡◌, ◌<◌, [], ◌∷◌, length, IfSome, MatchOption};
+ghost use Rattle.std.specs.Str.{bytes_eq};
 ghost use Rattle.gb_formats.specs.Words.{words};
 
 /// The first word of a line, and the line behind it. None where there are no words.
 pub fn first_word(line: &[u8]) -> Option<(&[u8], &[u8])>
-    ensures { MatchOption result (words line.now ≡ [])
+    ensures cut { MatchOption result (words line.now ≡ [])
         (λ f. words line.now ≡ f.0.now ∷ words f.1.now) }
+    ensures shorter { IfSome result (λ f. length f.1.now < length line.now) }
 {
     let mut start = 0;
     for (i, b) in line.iter().enumerate() {
@@ -24,33 +26,9 @@ pub fn first_word(line: &[u8]) -> Option<(&[u8], &[u8])>
     }
 }
 
-/// The only word of a line.
-pub fn one_word(line: &[u8]) -> Option<&[u8]>
-    ensures { MatchOption result (length (words line.now) ≢ 1) (λ w. words line.now ≡ w.now ∷ []) }
+/// Whether a word is this one.
+pub fn is(word: &[u8], this: &str) -> bool
+    ensures { result ≡ bytes_eq word.now this.now }
 {
-    let (word, rest) = first_word(line)?;
-    match first_word(rest) {
-        Some(_) => None,
-        None => Some(word),
-    }
-}
-
-/// The words of a line that has two.
-pub fn two_words(line: &[u8]) -> Option<(&[u8], &[u8])>
-    ensures { MatchOption result (length (words line.now) ≢ 2)
-        (λ ws. words line.now ≡ ws.0.now ∷ ws.1.now ∷ []) }
-{
-    let (first, rest) = first_word(line)?;
-    let second = one_word(rest)?;
-    Some((first, second))
-}
-
-/// The words of a line that has three.
-pub fn three_words(line: &[u8]) -> Option<(&[u8], &[u8], &[u8])>
-    ensures { MatchOption result (length (words line.now) ≢ 3)
-        (λ ws. words line.now ≡ ws.0.now ∷ ws.1.now ∷ ws.2.now ∷ []) }
-{
-    let (first, rest) = first_word(line)?;
-    let (second, third) = two_words(rest)?;
-    Some((first, second, third))
+    word == this.as_bytes()
 }

@@ -1,0 +1,72 @@
+-- Parts of the grammar's forms that have no name there.
+use Rattle.std.specs.Prelude.{ℕ, if◌then◌else◌, Option, option_map, Err, List, [], drop, codes}
+use Rattle.std.specs.Str.{bytes_eq}
+use Rattle.gb_base.specs.declared.bridge.BridgeAsk.{BridgeAsk}
+use Rattle.gb_base.specs.declared.bridge.BridgeAsk.TheVariants as ask
+use Rattle.gb_base.specs.declared.bridge.SpiOp.{SpiOp}
+use Rattle.gb_base.specs.declared.bridge.SpiOp.TheVariants as spi
+use Rattle.gb_base.specs.declared.event.Event.{Event}
+use Rattle.gb_base.specs.declared.end.End.TheVariants as end
+use Rattle.gb_base.specs.declared.event.Event.TheVariants as event
+use Rattle.gb_base.specs.declared.fault.LineReason.TheVariants as bad
+use Rattle.gb_base.specs.declared.name.Name.{Name}
+use Rattle.gb_formats.specs.BridgeForms.{gpio_form, i2c_form, i2c_op_word, spi_form, uart_form}
+use Rattle.gb_formats.specs.Grammar.{of_cport, timed}
+use Rattle.gb_formats.specs.Said.{Said, next_word, at_end, each_word}
+use Rattle.gb_formats.specs.WordValues.{hex_word, kind_word, cport_word, type_word, u8_word, u16_word}
+
+-- `HEX` behind `insert I raw`
+abbrev pub inserting_raw : ℕ → List (List ℕ) → Said
+inserting_raw i ws = next_word hex_word 4 ws (λ bytes ws. at_end 5 ws (event.InsertRaw i bytes))
+
+-- `KIND` behind `insert I`
+abbrev pub inserting_kind : ℕ → List (List ℕ) → Said
+inserting_kind i ws = next_word kind_word 3 ws (λ kind ws. at_end 4 ws (event.Insert i kind))
+
+-- `TYPE HEX` behind `send @x svc`
+abbrev pub sending_type : Name → List (List ℕ) → Said
+sending_type x ws =
+    next_word type_word 4 ws (λ kind ws. next_word hex_word 5 ws (λ payload ws.
+    timed 6 ws (λ ms. event.Send x end.Svc kind payload ms)))
+
+-- `A` behind `deliver ap`
+abbrev pub delivering_ap : List (List ℕ) → Said
+delivering_ap ws = next_word cport_word 3 ws (λ a ws. at_end 4 ws (event.Deliver (end.Ap a)))
+
+-- `I C` behind `deliver`
+abbrev pub delivering_module : List (List ℕ) → Said
+delivering_module ws = of_cport (λ i c. event.Deliver (end.Module i c)) ws
+
+-- the operations behind `transfer` of I2C
+abbrev pub i2c_transfer : (BridgeAsk → Event) → List (List ℕ) → Said
+i2c_transfer make ws = each_word i2c_op_word (λ ops. make (ask.I2cTransfer ops)) [] 6 ws
+
+-- `S` behind `device` of SPI
+abbrev pub spi_device : (BridgeAsk → Event) → List (List ℕ) → Said
+spi_device make ws = next_word u8_word 6 ws (λ s ws. at_end 7 ws (make (ask.SpiDevice s)))
+
+-- `r:LEN` of SPI
+abbrev pub spi_read_word : List ℕ → Option SpiOp
+spi_read_word w = option_map spi.Get (u16_word (drop 2 w))
+
+-- `w:HEX` of SPI
+abbrev pub spi_write_word : List ℕ → Option SpiOp
+spi_write_word w = option_map spi.Put (hex_word (drop 2 w))
+
+-- `x:HEX` of SPI
+abbrev pub spi_both_word : List ℕ → Option SpiOp
+spi_both_word w = option_map spi.Both (hex_word (drop 2 w))
+
+-- `HEX` behind `send` of UART
+abbrev pub uart_data : (BridgeAsk → Event) → List (List ℕ) → Said
+uart_data make ws =
+    next_word hex_word 6 ws (λ bytes ws. at_end 7 ws (make (ask.UartSend bytes)))
+
+-- what a line asks for by its first word, where that is no word of the bus
+abbrev pub by_protocol : ℕ → List ℕ → List (List ℕ) → Said
+by_protocol who w ws =
+    if bytes_eq w (codes "gpio") then gpio_form who ws
+    else if bytes_eq w (codes "i2c") then i2c_form who ws
+    else if bytes_eq w (codes "spi") then spi_form who ws
+    else if bytes_eq w (codes "uart") then uart_form who ws
+    else Err (bad.BadWord 1)

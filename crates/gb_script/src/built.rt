@@ -1,0 +1,48 @@
+//! The forms that are built today.
+
+ghost use Rattle.std.specs.Prelude.{◌≡◌};
+ghost use Rattle.gb_formats.specs.Words.{words};
+ghost use Rattle.gb_script.specs.Built.{is_built_form, is_delivery, is_ping};
+
+use crate::words::{first_word, is};
+
+/// Whether the form of a line is built, where the grammar reads the line.
+pub fn is_built_form(line: &[u8]) -> bool
+    ensures { result ≡ is_built_form (words line.now) }
+{
+    match first_word(line) {
+        Some((first, rest)) => {
+            is(first, "send") && is_ping(rest) || is(first, "deliver") && is_delivery(rest)
+        }
+        None => true,
+    }
+}
+
+/// Whether the words behind `send` are `@x svc ping`.
+fn is_ping(rest: &[u8]) -> bool
+    ensures { result ≡ is_ping (words rest.now) }
+{
+    let Some((_, rest)) = first_word(rest) else {
+        return false;
+    };
+    let Some((to, rest)) = first_word(rest) else {
+        return false;
+    };
+    let Some((what, rest)) = first_word(rest) else {
+        return false;
+    };
+    is(to, "svc") && is(what, "ping") && first_word(rest).is_none()
+}
+
+/// Whether the words behind `deliver` are `svc` or `ap 0`.
+fn is_delivery(rest: &[u8]) -> bool
+    ensures { result ≡ is_delivery (words rest.now) }
+{
+    let Some((at, rest)) = first_word(rest) else {
+        return false;
+    };
+    match first_word(rest) {
+        Some((ap, _)) => is(at, "ap") && is(ap, "0"),
+        None => is(at, "svc"),
+    }
+}

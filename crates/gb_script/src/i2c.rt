@@ -1,0 +1,109 @@
+//! The forms on I2C.
+
+ghost use Rattle.std.specs.Prelude.{◌≡◌, ◌≤◌, IfOk, length};
+ghost use Rattle.gb_base.specs.declared.bridge.BridgeAsk.TheVariants as ask;
+ghost use Rattle.gb_formats.specs.BridgeForms.{bridging, i2c_asking, i2c_form, i2c_op_word};
+ghost use Rattle.gb_formats.specs.BridgeForms.{i2c_read_word, i2c_write_word};
+ghost use Rattle.gb_formats.specs.Said.{at_end};
+ghost use Rattle.gb_formats.specs.Words.{words};
+ghost use Rattle.gb_script.specs.Parts.{i2c_transfer};
+ghost use Rattle.gb_script.specs.Tells.{AsksFor, Says};
+
+use crate::LineFault;
+use crate::bridges::addressed;
+use crate::hex_words::{hex_word, type_word};
+use crate::ops::{OpWord, operations};
+use crate::take::{end, next};
+use crate::values::number_word;
+use crate::words::is;
+use gb_base::{BridgeAsk, Event, I2cOp, LineReason, OutOfMemory};
+use std::alloc::Global;
+
+/// `i2c @x I C` and what is asked.
+pub fn i2c(alloc: Global, rest: &[u8], who: u8) -> Result<Event, LineFault>
+    requires { length rest.now ≤ 8192 }
+    ensures { Says result (i2c_form who (words rest.now)) }
+{
+    let (name, intf, cport, rest) = addressed(rest, who)?;
+    let ask = asked(alloc, rest)?;
+    Ok(Event::Bridge {
+        name,
+        intf,
+        cport,
+        ask,
+    })
+}
+
+/// What an I2C line asks.
+fn asked(alloc: Global, rest: &[u8]) -> Result<BridgeAsk, LineFault>
+    requires { length rest.now ≤ 8192 }
+    ensures { AsksFor i2c_asking (words rest.now) result }
+{
+    let (word, rest) = next(rest, 5)?;
+    if is(word, "functionality") {
+        functionality(rest)
+    } else if is(word, "transfer") {
+        transfer(alloc, rest)
+    } else {
+        Err(LineFault::Bad(LineReason::BadWord(5)))
+    }
+}
+
+/// What stands behind `functionality`.
+fn functionality(rest: &[u8]) -> Result<BridgeAsk, LineFault>
+    ensures { AsksFor (λ make ws. at_end 6 ws (make ask.I2cFunctionality)) (words rest.now) result }
+{
+    end(rest, 6)?;
+    Ok(BridgeAsk::I2cFunctionality)
+}
+
+/// Any number of operations behind `transfer`.
+fn transfer(alloc: Global, rest: &[u8]) -> Result<BridgeAsk, LineFault>
+    requires { length rest.now ≤ 8192 }
+    ensures { AsksFor i2c_transfer (words rest.now) result }
+{
+    let ops = operations(alloc, rest, 6)?;
+    Ok(BridgeAsk::I2cTransfer { ops })
+}
+
+impl OpWord for I2cOp {
+    ghost meaning = { i2c_op_word };
+
+    fn read(alloc: Global, word: &[u8]) -> Result<Option<I2cOp>, OutOfMemory> {
+        if word.get(1) != Some(&b':') || word.get(4) != Some(&b':') {
+            return Ok(None);
+        }
+        match word[0] {
+            b'r' => Ok(read_word(word)),
+            b'w' => write_word(alloc, word),
+            _ => Ok(None),
+        }
+    }
+}
+
+/// `r:AA:LEN`.
+fn read_word(word: &[u8]) -> Option<I2cOp>
+    requires { 5 ≤ length word.now }
+    ensures { result ≡ i2c_read_word word.now }
+{
+    let addr = type_word(&word[2..4])?;
+    let len = number_word(&word[5..], 0, 65535)?;
+    Some(I2cOp::Get {
+        addr,
+        len: len as u16,
+    })
+}
+
+/// `w:AA:HEX`.
+fn write_word(alloc: Global, word: &[u8]) -> Result<Option<I2cOp>, OutOfMemory>
+    requires { 5 ≤ length word.now }
+    ensures { IfOk result (λ o. o ≡ i2c_write_word word.now) }
+{
+    let Some(addr) = type_word(&word[2..4]) else {
+        return Ok(None);
+    };
+    match hex_word(alloc, &word[5..])? {
+        Some(bytes) => Ok(Some(I2cOp::Put { addr, bytes })),
+        None => Ok(None),
+    }
+}
