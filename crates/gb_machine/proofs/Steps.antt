@@ -1,5 +1,5 @@
 -- What the machine's step is for each event, one equation for each way that it goes.
-use Rattle.std.proofs.Common.{◌≡◌, ℕ, ◌+◌, true, false, if◌then◌else◌, Some, None, List, [], ◌∷◌, refl, ap, ◌∙◌}
+use Rattle.std.proofs.Common.{◌≡◌, ℕ, ◌+◌, true, false, if◌then◌else◌, Some, None, is_some, List, [], ◌∷◌, refl, ap, ◌∙◌}
 use Rattle.gb_base.specs.declared.bridge.Reading.TheVariants as reading
 use Rattle.gb_base.specs.declared.end.End.{End}
 use Rattle.gb_base.specs.declared.end.End.TheVariants as end
@@ -10,21 +10,25 @@ use Rattle.gb_base.specs.declared.entry.Entry.TheVariants as entry
 use Rattle.gb_base.specs.declared.event.Event.{Event}
 use Rattle.gb_base.specs.declared.event.Event.TheVariants as event
 use Rattle.gb_base.specs.declared.name.Name.{Name}
+use Rattle.gb_base.specs.declared.outcome.Outcome.TheVariants as outcome
 use Rattle.gb_base.specs.declared.refusal.Refusal.{Refusal}
+use Rattle.gb_base.specs.declared.refusal.Refusal.TheVariants as why
 use Rattle.gb_machine.proofs.Opened.{machine_opened}
 use Rattle.gb_machine.specs.Actions.{Action, Told, by_state, given, on_bus, tell, ◌▸◌}
 use Rattle.gb_machine.specs.Arriving.{arrives, asked_at, by_label, by_number, delivers_at, dropped, ends, ends_answered, forgets, handles, is_held, keeps, reading_for, takes}
 use Rattle.gb_machine.specs.Asking.{asked, asks, asks_with}
-use Rattle.gb_machine.specs.Bus.{Ask, Bus, Connection, Item, Place, Reply, Request, connection_of, is_open, next_number, or_else, other_side, place_of, queue, request_of}
+use Rattle.gb_machine.specs.Bus.{Ask, Bus, Connection, Item, Place, Reply, Request, connection_of, is_open, next_number, or_else, outcome_of, other_side, place_of, queue, request_of}
 use Rattle.gb_machine.specs.Delivery.{answered, ended, forgotten, popped, replied}
 use Rattle.gb_machine.specs.Events.{decided, does, step, svc_draft}
+use Rattle.gb_machine.specs.GivingUp.{gives_up}
 use Rattle.gb_machine.specs.HostActs.{turns}
 use Rattle.gb_machine.specs.HostTurns.{ended_for}
 use Rattle.gb_machine.specs.Incoming.{incoming, reply_entry}
 use Rattle.gb_machine.specs.Labels.{next_label}
-use Rattle.gb_machine.specs.Lists.{first}
-use Rattle.gb_machine.specs.Names.{bound}
-use Rattle.gb_machine.specs.Refusals.{deliver_refusal, empty_refusal, end_refusal, refusal, svc_refusal}
+use Rattle.gb_machine.specs.Lists.{first, first_met}
+use Rattle.gb_machine.specs.Names.{bound, named}
+use Rattle.gb_machine.specs.Refusals.{cancel_refusal, deliver_refusal, empty_refusal, end_refusal, refusal, svc_refusal}
+use Rattle.gb_machine.specs.Requests.{gave_up}
 use Rattle.gb_machine.specs.Responding.{replies, responds, responds_with, response_at, serves, serves_oneway}
 use Rattle.gb_machine.specs.Sending.{Draft, label_for, sent}
 use Rattle.gb_machine.specs.Waits.{awaited}
@@ -251,3 +255,20 @@ step-deliver_late s at p n result payload there named front taken clean closed =
     step-by_number s at p n result payload there named front taken clean
     ∙ ap (λ b. behind_done ((if b then ends_answered p.side p.connection n result payload
     else forgets n (entry.Late n)) t)) closed
+
+-- the request of a name is given up, and no sequence waits for it
+pub step-cancel : (s : State) (name : Name) (n : ℕ)
+    → named name s.names ≡ Some n
+    → outcome_of n s.bus ≡ None
+    → awaited n s.host ≡ None
+    → step s (event.Cancel name)
+    ≡ told (with_bus (gave_up n outcome.Cancelled s.bus) s)
+    (entry.Done ∷ entry.Ended n outcome.Cancelled reading.Nothing ∷ [])
+unfolding machine_opened
+step-cancel s name n bound still unawaited =
+    let u = with_bus (gave_up n outcome.Cancelled s.bus) s in
+    ap (λ o. decided (cancel_refusal s o) (event.Cancel name) s) bound
+    ∙ ap (λ o. decided (first_met ((is_some o, why.AlreadyEnded) ∷ [])) (event.Cancel name) s) still
+    ∙ ap (λ o. behind_done (given o (gives_up outcome.Cancelled) s)) bound
+    ∙ ap (λ o. let w : Told = turns (ended_for o outcome.Cancelled s.host) u in
+    told w.state (entry.Done ∷ entry.Ended n outcome.Cancelled reading.Nothing ∷ w.entries)) unawaited
