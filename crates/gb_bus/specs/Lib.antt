@@ -1,3 +1,4 @@
+pub mod Cancelling
 pub mod Delivering
 pub mod Ends
 pub mod Parts

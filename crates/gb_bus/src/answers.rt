@@ -107,3 +107,7 @@ impl From<OutOfMemory> for DeliverFault {
         DeliverFault::Memory(refused)
     }
 }
+
+/// A request had ended before. The bus is as before.
+#[derive(Clone, Copy, Debug, PartialEq, Eq)]
+pub struct AlreadyEnded;

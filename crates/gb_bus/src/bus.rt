@@ -1,6 +1,6 @@
 //! The bus of one connection, that of the supervisory controller.
 
-ghost use Rattle.std.specs.Prelude.{◌≡◌, ℕ, [], ◌∷◌, ◌++◌, OnOk, IfOk, IsErrOf, option_copied, is_some, true};
+ghost use Rattle.std.specs.Prelude.{◌≡◌, ℕ, [], ◌∷◌, ◌++◌, OnOk, OnErr, IfOk, IsErrOf, option_copied, is_some, true};
 ghost use Rattle.gb_machine.specs.Bus as machine;
 ghost use Rattle.gb_machine.specs.Bus.{first_bus, outcome_of, request_of};
 ghost use Rattle.gb_machine.specs.Lists.{nth};
@@ -10,7 +10,7 @@ ghost use Rattle.gb_bus.specs.Taking.{dropped, open_kind};
 use crate::ends::{first_outcome, other_side, side_at};
 use crate::queue::{Item, Queue};
 use crate::slots::{Slot, Slots};
-use crate::{Arrival, Arrived, Asked, DeliverFault, SendFault, Sent};
+use crate::{AlreadyEnded, Arrival, Arrived, Asked, DeliverFault, SendFault, Sent};
 use gb_base::{Bytes, End, OutOfMemory, Outcome, Side, TryCopy};
 use std::alloc::Global;
 
@@ -32,6 +32,7 @@ pub struct Bus {
 }
 
 impl Bus {
+    ghost use Rattle.gb_bus.specs.Cancelling.{CancelsAs};
     ghost use Rattle.gb_bus.specs.Delivering.{DeliversAs, MayReply, RepliesAs};
     ghost use Rattle.gb_bus.specs.Parts.{AnswersAs, DrawsAs, HandlesAs, HasConnection, LabelsAs, PopsAs, TakesAs, queue_of, with_queue};
     ghost use Rattle.gb_bus.specs.Sending.{SendsAs};
@@ -136,6 +137,20 @@ impl Bus {
             payload,
         };
         self.push(other_side(side), answer)?;
+        Ok(())
+    }
+
+    /// Gives up request n, which ends as cancelled. Its identifier stays in use until its answer
+    /// comes. Condition: it was made.
+    pub fn cancel(&mut self, n: u64) -> Result<(), AlreadyEnded>
+        ensures step { (b : machine.Bus) → Stands self.old b → is_some (request_of n b) ≡ true
+            → CancelsAs self.new n b result }
+        ensures unchanged { OnErr result (self.new ≡ self.old) }
+    {
+        if self.open_kind(n).is_none() {
+            return Err(AlreadyEnded);
+        }
+        self.slots.end(n, Outcome::Cancelled);
         Ok(())
     }
 

@@ -9,5 +9,5 @@ mod slots;
 #[cfg(test)]
 mod tests;
 
-pub use answers::{Arrival, Arrived, Asked, DeliverFault, SendFault, Sent};
+pub use answers::{AlreadyEnded, Arrival, Arrived, Asked, DeliverFault, SendFault, Sent};
 pub use bus::Bus;
