@@ -5,10 +5,18 @@ use Rattle.gb_formats.specs.Grammar.{Said}
 use Rattle.gb_formats.specs.Script.{judged}
 use Rattle.gb_formats.specs.Words.{words}
 
--- the words behind `send`: `@x svc ping`
-abbrev pub is_ping : List (List ℕ) → Bool
-is_ping (x ∷ to ∷ what ∷ []) = bytes_eq to (codes "svc") && bytes_eq what (codes "ping")
-is_ping ws = false
+-- one word or two
+abbrev pub is_one_or_two : List (List ℕ) → Bool
+is_one_or_two [] = false
+is_one_or_two (w ∷ []) = true
+is_one_or_two (w ∷ v ∷ []) = true
+is_one_or_two (w ∷ v ∷ u ∷ ws) = false
+
+-- the words behind `send`: `@x svc ping` or `@x svc TYPE HEX`, and no timeout
+abbrev pub is_svc_ask : List (List ℕ) → Bool
+is_svc_ask [] = false
+is_svc_ask (x ∷ []) = false
+is_svc_ask (x ∷ to ∷ ws) = bytes_eq to (codes "svc") && is_one_or_two ws
 
 -- the words behind `deliver`: `svc` or `ap 0`
 abbrev pub is_delivery : List (List ℕ) → Bool
@@ -20,7 +28,8 @@ is_delivery (at ∷ a ∷ ws) = bytes_eq at (codes "ap") && bytes_eq a (codes "0
 abbrev pub is_built_form : List (List ℕ) → Bool
 is_built_form [] = true
 is_built_form (w ∷ ws) =
-    bytes_eq w (codes "send") && is_ping ws || bytes_eq w (codes "deliver") && is_delivery ws
+    bytes_eq w (codes "send") && is_svc_ask ws
+    || (bytes_eq w (codes "deliver") && is_delivery ws || bytes_eq w (codes "cancel"))
 
 -- a line that asks for an event is built where its form is
 abbrev pub built_by : List (List ℕ) → Said → Bool

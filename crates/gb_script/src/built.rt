@@ -2,7 +2,7 @@
 
 ghost use Rattle.std.specs.Prelude.{◌≡◌};
 ghost use Rattle.gb_formats.specs.Words.{words};
-ghost use Rattle.gb_script.specs.Built.{is_built_form, is_delivery, is_ping};
+ghost use Rattle.gb_script.specs.Built.{is_built_form, is_delivery, is_one_or_two, is_svc_ask};
 
 use crate::words::{first_word, is};
 
@@ -12,15 +12,16 @@ pub fn is_built_form(line: &[u8]) -> bool
 {
     match first_word(line) {
         Some((first, rest)) => {
-            is(first, "send") && is_ping(rest) || is(first, "deliver") && is_delivery(rest)
+            is(first, "send") && is_svc_ask(rest)
+                || (is(first, "deliver") && is_delivery(rest) || is(first, "cancel"))
         }
         None => true,
     }
 }
 
-/// Whether the words behind `send` are `@x svc ping`.
-fn is_ping(rest: &[u8]) -> bool
-    ensures { result ≡ is_ping (words rest.now) }
+/// Whether the words behind `send` are `@x svc ping` or `@x svc TYPE HEX`, and no timeout.
+fn is_svc_ask(rest: &[u8]) -> bool
+    ensures { result ≡ is_svc_ask (words rest.now) }
 {
     let Some((_, rest)) = first_word(rest) else {
         return false;
@@ -28,10 +29,20 @@ fn is_ping(rest: &[u8]) -> bool
     let Some((to, rest)) = first_word(rest) else {
         return false;
     };
-    let Some((what, rest)) = first_word(rest) else {
+    is(to, "svc") && is_one_or_two(rest)
+}
+
+/// Whether there is one word or two.
+fn is_one_or_two(rest: &[u8]) -> bool
+    ensures { result ≡ is_one_or_two (words rest.now) }
+{
+    let Some((_, rest)) = first_word(rest) else {
         return false;
     };
-    is(to, "svc") && is(what, "ping") && first_word(rest).is_none()
+    match first_word(rest) {
+        Some((_, rest)) => first_word(rest).is_none(),
+        None => true,
+    }
 }
 
 /// Whether the words behind `deliver` are `svc` or `ap 0`.

@@ -29,6 +29,38 @@ fn reads_lines(rt: HostRuntime) {
     assert!(rt; is_ping(&ping));
 }
 
+#[test]
+fn reads_requests_and_cancels(rt: HostRuntime) {
+    let alloc = rt.alloc();
+    let last = event(alloc, b"send @abcdefghij012345 svc 7f 0Ab1", 0);
+    assert!(rt; is_ask(&last, 0x7f, &[0x0a, 0xb1]));
+    let empty = event(alloc, b"send @x svc 07 -", 0);
+    assert!(rt; is_ask(&empty, 0x07, &[]));
+    let cancel = event(alloc, b" cancel  @z9", 2);
+    assert!(rt;
+        matches!(cancel, Ok(Some(Event::Cancel { name }))
+        if name.who == 2 && name.word.bytes() == b"z9".as_slice())
+    );
+}
+
+/// Whether a line asked for a request of this type, with this payload.
+fn is_ask(said: &Result<Option<Event>, LineFault>, wanted: u8, bytes: &[u8]) -> bool {
+    match said {
+        Ok(
+            Some(
+                Event::Send {
+                    to: End::Svc,
+                    kind,
+                    payload,
+                    timeout: 1000,
+                    ..
+                },
+            ),
+        ) => *kind == wanted && payload.items() == bytes,
+        _ => false,
+    }
+}
+
 /// Whether a line asked requester 3's ping `x1`.
 fn is_ping(said: &Result<Option<Event>, LineFault>) -> bool {
     match said {
@@ -59,8 +91,6 @@ const NOT_BUILT: &[&str] = &[
     "pull 31",
     "connect 2 4095",
     "disconnect 2 0",
-    "send @abcdefghij012345 svc 7f -",
-    "send @x svc 13 0Ab1",
     "send @x svc ping timeout 1000",
     "send @x svc 13 - timeout 4294967295",
     "send @x 2 1 02 00",
@@ -70,7 +100,6 @@ const NOT_BUILT: &[&str] = &[
     "settle 65535",
     "hold 2 1",
     "answer 2 1 4294967295",
-    "cancel @x",
     "copy @x @y",
     "drop @x",
     "tick 1",

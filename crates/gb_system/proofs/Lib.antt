@@ -1,3 +1,5 @@
+pub mod Cancels
+pub mod Deliveries
 pub mod Landings
-pub mod Pings
-pub mod Pongs
+pub mod Sends
+pub mod SvcResults

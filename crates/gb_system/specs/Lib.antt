@@ -1,2 +1,2 @@
-pub mod Pings
 pub mod Stands
+pub mod Told

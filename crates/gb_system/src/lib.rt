@@ -3,6 +3,7 @@
 
 mod message;
 mod names;
+mod svc;
 mod system;
 #[cfg(test)]
 mod tests;

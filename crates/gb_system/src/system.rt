@@ -1,30 +1,27 @@
 //! The system: the machine's step on the bus.
 
-ghost use Rattle.std.specs.Prelude.{◌≡◌, ◌+◌, ◌<◌, [], ◌∷◌, if◌then◌else◌, true, false, IfOk, is_ok, is_err};
+ghost use Rattle.std.specs.Prelude.{◌≡◌, ◌+◌, ◌<◌, ◌≤◌, [], ◌∷◌, if◌then◌else◌, true, false, None};
+ghost use Rattle.std.specs.Prelude.{IfOk, is_ok, is_err, length};
 ghost use Rattle.gb_machine.specs.State.{State, first_state};
 ghost use Rattle.gb_base.specs.declared.entry.Entry.TheVariants as told;
-ghost use Rattle.gb_system.specs.Pings.{IsStepped, answer_told, delivery_at, nowhere_refusal, ping_of, ping_told, pong_told};
+ghost use Rattle.gb_system.specs.Told.{IsStepped, answer_told, ask_told, cancel_of, cancel_told};
+ghost use Rattle.gb_system.specs.Told.{delivery_at, early_refusal, nowhere_refusal, reply_told, send_of};
 
 use crate::message::message_bytes;
 use crate::names::Names;
+use crate::svc::{is_reserved, svc_result};
 use gb_base::{
     Bytes, End, Entries, Entry, Event, Name, OutOfMemory, Outcome, Reading, Refusal, Side, TryCopy,
 };
-use gb_bus::{Arrival, Arrived, Asked, Bus, DeliverFault, SendFault, Sent};
+use gb_bus::{AlreadyEnded, Arrival, Arrived, Asked, Bus, DeliverFault, SendFault, Sent};
 use gb_wire::Message;
 use std::alloc::Global;
 
 /// The number of the connection of the supervisory controller.
 const SVC: u64 = 1;
 
-/// Type PING of the SVC protocol (`GB_SVC_TYPE_PING` in Linux's greybus_protocols.h).
-const PING: u8 = 0x13;
-
-/// The bit that marks the type of a response.
-const RESPONSE: u8 = 0x80;
-
-/// The result of an operation that succeeded.
-const SUCCESS: u8 = 0;
+/// The most bytes that a payload has on a simulated link.
+const LONGEST_PAYLOAD: usize = 2040;
 
 /// The application processor, the supervisory controller and the bus between them.
 #[derive(Drop)]
@@ -95,33 +92,79 @@ impl System {
         ensures failed { has_failed self.new ≡ has_failed self.old }
     {
         match e {
-            Event::Send { name, timeout, .. } => self.send_ping(name, *timeout),
+            Event::Send {
+                name,
+                kind,
+                payload,
+                timeout,
+                ..
+            } => self.send(name, *kind, payload.items(), *timeout),
             Event::Deliver { at } => self.deliver(*at),
+            Event::Cancel { name } => self.cancel(name),
             _ => unreachable!(),
         }
     }
 
-    /// Sends a ping to the supervisory controller.
-    fn send_ping(&mut self, name: &Name, timeout: u32) -> Result<Entries, OutOfMemory>
+    /// Sends a request to the supervisory controller.
+    fn send(
+        &mut self,
+        name: &Name,
+        kind: u8,
+        payload: &[u8],
+        timeout: u32,
+    ) -> Result<Entries, OutOfMemory>
+        requires { kind < 128 }
         ensures step { (s : State) → Stands self.old s
-            → StepsAs self.new s (ping_of name.now timeout) result }
+            → StepsAs self.new s (send_of name.now kind payload.now timeout) result }
         ensures taken { taken_of self.new ≡ taken_of self.old }
         ensures failed { has_failed self.new ≡ has_failed self.old }
     {
-        if self.names.get(name).is_some() {
-            return Ok(refused(self.alloc, Refusal::Occupied)?);
+        if let Some(why) = self.early_refusal(name, kind, payload) {
+            return Ok(refused(self.alloc, why)?);
         }
         let sent = match self
             .bus
-            .send(SVC, Side::Ap, PING, &[], u64::from(timeout), false)
+            .send(SVC, Side::Ap, kind, payload, u64::from(timeout), false)
         {
             Ok(sent) => sent,
             Err(SendFault::NoLabel) => return Ok(refused(self.alloc, Refusal::LabelsSpent)?),
             Err(SendFault::Memory(refused)) => return Err(refused),
         };
         self.names.bind(name.copy()?, sent.number)?;
-        let entry = asked(self.alloc, sent)?;
+        let entry = asked(self.alloc, sent, kind, payload)?;
         Ok(done(self.alloc, entry)?)
+    }
+
+    /// Why a request isn't sent, before identifiers are looked at.
+    fn early_refusal(&self, name: &Name, kind: u8, payload: &[u8]) -> Option<Refusal>
+        ensures first { result ≡ early_refusal name.now self.now.names kind payload.now }
+        ensures short { result ≡ None → length payload.now ≤ 2040 }
+    {
+        if self.names.get(name).is_some() {
+            Some(Refusal::Occupied)
+        } else if is_reserved(kind) {
+            Some(Refusal::Unsupported)
+        } else if payload.len() > LONGEST_PAYLOAD {
+            Some(Refusal::TooLarge)
+        } else {
+            None
+        }
+    }
+
+    /// Gives up the request that a name names.
+    fn cancel(&mut self, name: &Name) -> Result<Entries, OutOfMemory>
+        ensures step { (s : State) → Stands self.old s
+            → StepsAs self.new s (cancel_of name.now) result }
+        ensures taken { taken_of self.new ≡ taken_of self.old }
+        ensures failed { has_failed self.new ≡ has_failed self.old }
+    {
+        let Some(number) = self.names.get(name) else {
+            return Ok(refused(self.alloc, Refusal::NoName)?);
+        };
+        match self.bus.cancel(number) {
+            Ok(()) => Ok(done(self.alloc, cancelled(number))?),
+            Err(AlreadyEnded) => Ok(refused(self.alloc, Refusal::AlreadyEnded)?),
+        }
     }
 
     /// Delivers the front message toward an end.
@@ -146,9 +189,10 @@ impl System {
             item,
         } = arrived;
         match item {
-            Arrival::Ask { asked, payload: _ } => {
-                self.bus.reply(SVC, Side::Far, &asked, SUCCESS, &[])?;
-                let entry = replied(self.alloc, &asked)?;
+            Arrival::Ask { asked, payload } => {
+                let code = svc_result(asked.kind, payload.items());
+                self.bus.reply(SVC, Side::Far, &asked, code, &[])?;
+                let entry = replied(self.alloc, &asked, code)?;
                 Ok(done(self.alloc, entry)?)
             }
             Arrival::Ended {
@@ -208,42 +252,56 @@ fn ended(number: u64, code: u8, payload: Bytes) -> Entry
     }
 }
 
-/// A ping was sent.
-fn asked(alloc: Global, sent: Sent) -> Result<Entry, OutOfMemory>
-    ensures { IfOk result (λ e. e ≡ ping_told sent.number sent.label sent.lost) }
+/// A request was cancelled.
+fn cancelled(number: u64) -> Entry
+    ensures { result ≡ cancel_told number }
+{
+    Entry::Ended {
+        number,
+        outcome: Outcome::Cancelled,
+        reading: Reading::Nothing,
+    }
+}
+
+/// A request to the supervisory controller was sent.
+fn asked(alloc: Global, sent: Sent, kind: u8, payload: &[u8]) -> Result<Entry, OutOfMemory>
+    requires { length payload.now ≤ 2040 }
+    ensures { IfOk result
+        (λ e. e ≡ ask_told sent.number sent.label kind payload.now sent.lost) }
 {
     let message = Message {
         id: sent.label,
-        kind: PING,
-        result: SUCCESS,
-        payload: &[],
+        kind,
+        result: 0,
+        payload,
     };
     Ok(Entry::Asked {
         number: sent.number,
         from: End::Ap(0),
         to: End::Svc,
-        kind: PING,
-        size: 8,
+        kind,
+        size: 8 + payload.len() as u16,
         bytes: message_bytes(alloc, &message)?,
         lost: sent.lost,
     })
 }
 
-/// A ping was answered.
-fn replied(alloc: Global, asked: &Asked) -> Result<Entry, OutOfMemory>
-    ensures { IfOk result (λ e. e ≡ pong_told asked.now.number asked.now.label) }
+/// The supervisory controller answered a request.
+fn replied(alloc: Global, asked: &Asked, code: u8) -> Result<Entry, OutOfMemory>
+    ensures { IfOk result (λ e. asked.now.kind < 128
+        → e ≡ reply_told asked.now.number asked.now.label asked.now.kind code) }
 {
     let message = Message {
         id: asked.label,
-        kind: PING | RESPONSE,
-        result: SUCCESS,
+        kind: asked.kind % 0x80 + 0x80,
+        result: code,
         payload: &[],
     };
     Ok(Entry::Replied {
         number: asked.number,
         from: End::Svc,
         to: End::Ap(0),
-        result: SUCCESS,
+        result: code,
         size: 8,
         bytes: message_bytes(alloc, &message)?,
     })

@@ -1,12 +1,10 @@
-//! Pings from their sending to their end. The expected values are worked by hand.
+//! Requests from their sending to their end. The expected values are worked by hand.
 
-ghost use Rattle.std.specs.Prelude.{IfOk};
-ghost use Rattle.gb_system.specs.Pings.{IsStepped};
+ghost use Rattle.std.specs.Prelude.{◌<◌};
+ghost use Rattle.gb_system.specs.Told.{IsStepped};
 
 use crate::System;
-use gb_base::{
-    Bytes, End, Entries, Entry, Event, Name, OutOfMemory, Outcome, Reading, Refusal, Word,
-};
+use gb_base::{Bytes, End, Entries, Entry, Event, Name, Outcome, Reading, Refusal, Word};
 use std::alloc::Global;
 use std::process::Abort;
 use std::test::Fail;
@@ -19,6 +17,8 @@ enum Seen<'a> {
     Asked(u64, End, End, u8, u16, &'a [u8], bool),
     Replied(Option<u64>, End, End, u8, u16, &'a [u8]),
     Answered(u64, u8, usize, Reading),
+    Cancelled(u64),
+    Late(u64),
     Other,
 }
 
@@ -48,6 +48,12 @@ fn in_plain(entry: &Entry) -> Seen<'_> {
             outcome: Outcome::Answered { result, payload },
             reading,
         } => Seen::Answered(*number, *result, payload.items().len(), *reading),
+        Entry::Ended {
+            number,
+            outcome: Outcome::Cancelled,
+            reading: Reading::Nothing,
+        } => Seen::Cancelled(*number),
+        Entry::Late { number } => Seen::Late(*number),
         _ => Seen::Other,
     }
 }
@@ -60,27 +66,40 @@ fn are(rt: &impl Abort, entries: &Entries, want: &[Seen<'_>]) {
     }
 }
 
-/// A ping with a name, as an event.
-fn ping(rt: &impl Abort, alloc: Global, name: &[u8]) -> Result<Event, OutOfMemory>
-    ensures { IfOk result (λ e. IsStepped e) }
-{
-    let Some(word) = Word::from_bytes(name) else {
+/// A name.
+fn named(rt: &impl Abort, word: &[u8]) -> Name {
+    let Some(word) = Word::from_bytes(word) else {
         panic!(rt; "no name");
     };
-    Ok(Event::Send {
-        name: Name { who: 0, word },
+    Name { who: 0, word }
+}
+
+/// A request to the supervisory controller, as an event.
+fn send(rt: &impl Abort, name: &[u8], kind: u8, payload: Bytes) -> Event
+    requires { kind < 128 }
+    ensures { IsStepped result }
+{
+    Event::Send {
+        name: named(rt, name),
         to: End::Svc,
-        kind: 0x13,
-        payload: Bytes::new(alloc),
+        kind,
+        payload,
         timeout: 500,
-    })
+    }
+}
+
+/// A ping with a name, as an event.
+fn ping(rt: &impl Abort, alloc: Global, name: &[u8]) -> Event
+    ensures { IsStepped result }
+{
+    send(rt, name, 0x13, Bytes::new(alloc))
 }
 
 #[test]
 fn a_ping_is_answered(rt: HostRuntime) -> Result<(), Fail> {
     let mut system = System::new(rt.alloc())?;
     let (ap, svc) = (End::Ap(0), End::Svc);
-    let sent = system.step(&ping(&rt, rt.alloc(), b"p")?)?;
+    let sent = system.step(&ping(&rt, rt.alloc(), b"p"))?;
     let ask = [8, 0, 1, 0, 0x13, 0, 0, 0];
     are(
         &rt,
@@ -107,13 +126,100 @@ fn a_ping_is_answered(rt: HostRuntime) -> Result<(), Fail> {
 #[test]
 fn events_are_refused(rt: HostRuntime) -> Result<(), Fail> {
     let mut system = System::new(rt.alloc())?;
-    drop(system.step(&ping(&rt, rt.alloc(), b"p")?)?);
-    let again = system.step(&ping(&rt, rt.alloc(), b"p")?)?;
+    drop(system.step(&ping(&rt, rt.alloc(), b"p"))?);
+    let again = system.step(&ping(&rt, rt.alloc(), b"p"))?;
     are(&rt, &again, &[Seen::Refused(Refusal::Occupied)]);
     let early = system.step(&Event::Deliver { at: End::Ap(0) })?;
     are(&rt, &early, &[Seen::Refused(Refusal::QueueEmpty)]);
     let nowhere = system.step(&Event::Deliver { at: End::Ap(5) })?;
     are(&rt, &nowhere, &[Seen::Refused(Refusal::NoConnection)]);
     assert_eq!(rt; system.taken(), 4);
+    Ok(())
+}
+
+#[test]
+fn a_late_answer_ends_nothing(rt: HostRuntime) -> Result<(), Fail> {
+    let mut system = System::new(rt.alloc())?;
+    let (ap, svc) = (End::Ap(0), End::Svc);
+    drop(system.step(&ping(&rt, rt.alloc(), b"x"))?);
+    let cancelled = system.step(&Event::Cancel {
+        name: named(&rt, b"x"),
+    })?;
+    are(&rt, &cancelled, &[Seen::Done, Seen::Cancelled(1)]);
+    let second = system.step(&ping(&rt, rt.alloc(), b"y"))?;
+    let ask = [8, 0, 2, 0, 0x13, 0, 0, 0];
+    are(
+        &rt,
+        &second,
+        &[Seen::Done, Seen::Asked(2, ap, svc, 0x13, 8, &ask, false)],
+    );
+    drop(system.step(&Event::Deliver { at: svc })?);
+    let late = system.step(&Event::Deliver { at: ap })?;
+    are(&rt, &late, &[Seen::Done, Seen::Late(1)]);
+    let still_open = system.step(&Event::Cancel {
+        name: named(&rt, b"y"),
+    })?;
+    are(&rt, &still_open, &[Seen::Done, Seen::Cancelled(2)]);
+    Ok(())
+}
+
+#[test]
+fn cancels_are_refused(rt: HostRuntime) -> Result<(), Fail> {
+    let mut system = System::new(rt.alloc())?;
+    let unnamed = system.step(&Event::Cancel {
+        name: named(&rt, b"x"),
+    })?;
+    are(&rt, &unnamed, &[Seen::Refused(Refusal::NoName)]);
+    drop(system.step(&ping(&rt, rt.alloc(), b"x"))?);
+    drop(system.step(&Event::Deliver { at: End::Svc })?);
+    drop(system.step(&Event::Deliver { at: End::Ap(0) })?);
+    let ended = system.step(&Event::Cancel {
+        name: named(&rt, b"x"),
+    })?;
+    are(&rt, &ended, &[Seen::Refused(Refusal::AlreadyEnded)]);
+    Ok(())
+}
+
+#[test]
+fn requests_are_answered_by_the_table(rt: HostRuntime) -> Result<(), Fail> {
+    let mut system = System::new(rt.alloc())?;
+    let (ap, svc) = (End::Ap(0), End::Svc);
+    let byte = Bytes::from_slice(rt.alloc(), &[0])?;
+    let odd = system.step(&send(&rt, b"a", 0x13, byte))?;
+    let ask = [9, 0, 1, 0, 0x13, 0, 0, 0, 0];
+    are(
+        &rt,
+        &odd,
+        &[Seen::Done, Seen::Asked(1, ap, svc, 0x13, 9, &ask, false)],
+    );
+    let invalid = system.step(&Event::Deliver { at: svc })?;
+    let answer = [8, 0, 1, 0, 0x93, 6, 0, 0];
+    are(
+        &rt,
+        &invalid,
+        &[Seen::Done, Seen::Replied(Some(1), svc, ap, 6, 8, &answer)],
+    );
+    drop(system.step(&send(&rt, b"b", 0x44, Bytes::new(rt.alloc())))?);
+    let unknown = system.step(&Event::Deliver { at: svc })?;
+    let answer = [8, 0, 2, 0, 0xc4, 4, 0, 0];
+    are(
+        &rt,
+        &unknown,
+        &[Seen::Done, Seen::Replied(Some(2), svc, ap, 4, 8, &answer)],
+    );
+    Ok(())
+}
+
+#[test]
+fn requests_are_refused(rt: HostRuntime) -> Result<(), Fail> {
+    let mut system = System::new(rt.alloc())?;
+    let large = Bytes::from_slice(rt.alloc(), &[0; 2041])?;
+    let too_large = system.step(&send(&rt, b"a", 0x13, large))?;
+    are(&rt, &too_large, &[Seen::Refused(Refusal::TooLarge)]);
+    for kind in [3u8, 7, 8, 11, 12, 33, 35, 37, 39] {
+        let large = Bytes::from_slice(rt.alloc(), &[0; 2041])?;
+        let kept = system.step(&send(&rt, b"a", kind, large))?;
+        are(&rt, &kept, &[Seen::Refused(Refusal::Unsupported)]);
+    }
     Ok(())
 }

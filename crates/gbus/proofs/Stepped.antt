@@ -1,15 +1,22 @@
 -- Every event of a line that is built is stepped.
-use Rattle.std.proofs.Common.{◌≡◌, ℕ, Bool, true, false, ◌&&◌, ◌||◌, cond, Option, Some, None, Result, Ok, Err, List, [], ◌∷◌, codes, refl, sym, ap, ◌∙◌, subst}
+use Rattle.std.proofs.Common.{◌≡◌, ◌≤◌, ℕ, ◌+◌, Bool, true, false, ◌&&◌, ◌||◌, cond, Option, Some, None, Ok, Err, List, [], ◌∷◌, codes, refl, sym, subst, ◌⊎◌, inl, inr, ⊎_elim, arith}
+use Rattle.std.specs.Prelude.{nat_le, length}
 use Rattle.std.proofs.lemmas.Slice.Eq.{bytes_eq-Decides}
 use Rattle.std.specs.Str.{bytes_eq}
+use Rattle.gb_base.specs.declared.end.End.TheVariants as end
 use Rattle.gb_base.specs.declared.event.Event.{Event}
+use Rattle.gb_base.specs.declared.event.Event.TheVariants as event
 use Rattle.gb_base.specs.declared.fault.LineReason.TheVariants as bad
-use Rattle.gb_formats.proofs.Forms.{judged-blank, judged-comment, judged-deliver_ap, judged-deliver_svc, judged-ping}
-use Rattle.gb_formats.specs.Grammar.{Said, is_comment, is_name_word}
-use Rattle.gb_formats.specs.Script.{is_plain, judged, said}
+use Rattle.gb_base.specs.declared.name.Name.{Name}
+use Rattle.gb_formats.proofs.SaidValid.{OfSome, type_word-in}
+use Rattle.gb_formats.specs.Grammar.{Said, asked_for, default_timeout, delivering, of_name, ping, sending, sending_svc, sending_to, timed}
+use Rattle.gb_formats.specs.Said.{at_end, by_meaning, next_word}
+use Rattle.gb_formats.specs.Script.{bad_place, judged, longest_line, said, unless_bad}
+use Rattle.gb_formats.specs.WordValues.{from_one_word, hex_word, name_word, type_word}
 use Rattle.gb_formats.specs.Words.{words}
-use Rattle.gb_script.specs.Built.{is_built, is_delivery, is_form, is_ping}
-use Rattle.gb_system.specs.Pings.{IsStepped}
+use Rattle.gb_script.specs.Built.{built_by, is_built, is_built_form, is_delivery, is_one_or_two, is_svc_ask}
+use Rattle.gb_script.specs.Parts.{sending_type}
+use Rattle.gb_system.specs.Told.{IsStepped}
 
 -- what a line says is nothing, or an event that is stepped
 abbrev SaysStepped : Said → Type 0
@@ -26,67 +33,134 @@ both : (a b : Bool) → a && b ≡ true → (a ≡ true) × (b ≡ true)
 both true b h = (refl, h)
 both false b h = absurd cc
 
+-- a word comes next, of whose meaning something is known
+next_stepped : {A : Type 0} (P : A → Type 0) (meaning : List ℕ → Option A) (place : ℕ) (ws : List (List ℕ)) (later : A → List (List ℕ) → Said)
+    → ((w : List ℕ) → OfSome P (meaning w)) → ((v : A) (ws : List (List ℕ)) → P v → SaysStepped (later v ws))
+    → SaysStepped (next_word meaning place ws later)
+next_stepped P meaning place [] later p h = tt
+next_stepped {A = A} P meaning place (w ∷ ws) later p h = by (meaning w) (p w)
+  where
+    by : (o : Option A) → OfSome P o → SaysStepped (by_meaning place o (λ v. later v ws))
+    by None q = tt
+    by (Some v) q = h v ws q
+
+-- a word comes next, of whose meaning nothing needs to be known
+any_stepped : {A : Type 0} (meaning : List ℕ → Option A) (place : ℕ) (ws : List (List ℕ)) (later : A → List (List ℕ) → Said)
+    → ((v : A) (ws : List (List ℕ)) → SaysStepped (later v ws)) → SaysStepped (next_word meaning place ws later)
+any_stepped {A = A} meaning place ws later h =
+    next_stepped (λ v. Unit {0}) meaning place ws later (λ w. any (meaning w)) (λ v ws p. h v ws)
+  where
+    any : (o : Option A) → OfSome (λ v. Unit {0}) o
+    any None = tt
+    any (Some v) = tt
+
+-- no word may come
+end_stepped : (place : ℕ) (ws : List (List ℕ)) (e : Event) → IsStepped e → SaysStepped (at_end place ws e)
+end_stepped place [] e h = h
+end_stepped place (w ∷ ws) e h = tt
+
+-- one of two
+if_stepped : (b : Bool) (x y : Said) → SaysStepped x → SaysStepped y → SaysStepped (cond b x y)
+if_stepped true x y h k = h
+if_stepped false x y h k = k
+
+-- a timeout may come
+timed_stepped : (place : ℕ) (ws : List (List ℕ)) (make : ℕ → Event) → ((ms : ℕ) → IsStepped (make ms)) → SaysStepped (timed place ws make)
+timed_stepped place [] make h = h default_timeout
+timed_stepped place (w ∷ ws) make h =
+    if_stepped (bytes_eq w (codes "timeout"))
+    (next_word from_one_word (place + 1) ws (λ ms ws. at_end (place + 2) ws (make ms))) (Err (bad.BadWord place))
+    (any_stepped from_one_word (place + 1) ws (λ ms ws. at_end (place + 2) ws (make ms)) (λ ms ws. end_stepped (place + 2) ws (make ms) (h ms))) tt
+
+-- `TYPE HEX` behind `send @x svc`
+type_stepped : (x : Name) (ws : List (List ℕ)) → SaysStepped (sending_type x ws)
+type_stepped x ws =
+    next_stepped (λ kind. kind ≤ 127) type_word 4 ws _ type_word-in
+    (λ kind ws low. any_stepped hex_word 5 ws _
+    (λ payload ws. timed_stepped 6 ws (λ ms. event.Send x end.Svc kind payload ms) (λ ms. omega arith)))
+
+-- what is sent to the supervisory controller
+svc_stepped : (x : Name) (ws : List (List ℕ)) → SaysStepped (sending_svc x ws)
+svc_stepped x [] = tt
+svc_stepped x (w ∷ ws) =
+    if_stepped (bytes_eq w (codes "ping")) (timed 5 ws (λ ms. event.Send x end.Svc ping [] ms)) (sending_type x (w ∷ ws))
+    (timed_stepped 5 ws (λ ms. event.Send x end.Svc ping [] ms) (λ ms. omega arith)) (type_stepped x (w ∷ ws))
+
 -- the words behind `send`
-pinged : (who : ℕ) (line : List ℕ) (ws : List (List ℕ)) → is_plain line ≡ true → words line ≡ codes "send" ∷ ws → is_ping ws ≡ true → SaysStepped (judged who line)
-pinged who line (x ∷ to ∷ what ∷ []) plain is h =
-    let svc = both (is_name_word x && bytes_eq to (codes "svc")) (bytes_eq what (codes "ping")) h in
-    let name = both (is_name_word x) (bytes_eq to (codes "svc")) svc.0 in
-    let to_is = same_word to (codes "svc") name.1 in
-    let what_is = same_word what (codes "ping") svc.1 in
-    let ws_are : words line ≡ codes "send" ∷ x ∷ codes "svc" ∷ codes "ping" ∷ [] =
-    is ∙ ap (λ t. codes "send" ∷ x ∷ t ∷ what ∷ []) to_is ∙ ap (λ t. codes "send" ∷ x ∷ codes "svc" ∷ t ∷ []) what_is in
-    subst SaysStepped (sym (judged-ping who line x plain ws_are name.0)) (refl, refl)
-pinged who line [] plain is h = absurd cc
-pinged who line (x ∷ []) plain is h = absurd cc
-pinged who line (x ∷ to ∷ []) plain is h = absurd cc
-pinged who line (x ∷ to ∷ what ∷ more ∷ ws) plain is h = absurd cc
+sent : (who : ℕ) (ws : List (List ℕ)) → is_svc_ask ws ≡ true → SaysStepped (sending who ws)
+sent who [] h = absurd cc
+sent who (x ∷ []) h = absurd cc
+sent who (x ∷ to ∷ ws) h =
+    let tests = both (bytes_eq to (codes "svc")) (is_one_or_two ws) h in
+    subst (λ t. SaysStepped (sending who (x ∷ t ∷ ws))) (sym (same_word to (codes "svc") tests.0)) (by_name (name_word who x))
+  where
+    by_name : (name : Option Name) → SaysStepped (by_meaning 2 name (λ n. sending_to n (codes "svc" ∷ ws)))
+    by_name None = tt
+    by_name (Some n) = svc_stepped n ws
+
+-- the words behind `cancel`
+cancelled : (who : ℕ) (ws : List (List ℕ)) → SaysStepped (of_name who event.Cancel ws)
+cancelled who ws = any_stepped (name_word who) 2 ws _ (λ x ws. end_stepped 3 ws (event.Cancel x) tt)
 
 -- the words behind `deliver`
-delivered : (who : ℕ) (line : List ℕ) (ws : List (List ℕ)) → is_plain line ≡ true → words line ≡ codes "deliver" ∷ ws → is_delivery ws ≡ true → SaysStepped (judged who line)
-delivered who line (at ∷ []) plain is h =
-    let ws_are : words line ≡ codes "deliver" ∷ codes "svc" ∷ [] = is ∙ ap (λ t. codes "deliver" ∷ t ∷ []) (same_word at (codes "svc") h) in
-    subst SaysStepped (sym (judged-deliver_svc who line plain ws_are)) tt
-delivered who line (at ∷ a ∷ []) plain is h =
-    let parts = both (bytes_eq at (codes "ap")) (bytes_eq a (codes "0")) h in
-    let ws_are : words line ≡ codes "deliver" ∷ codes "ap" ∷ codes "0" ∷ [] =
-    is ∙ ap (λ t. codes "deliver" ∷ t ∷ a ∷ []) (same_word at (codes "ap") parts.0)
-    ∙ ap (λ t. codes "deliver" ∷ codes "ap" ∷ t ∷ []) (same_word a (codes "0") parts.1) in
-    subst SaysStepped (sym (judged-deliver_ap who line (codes "0") 0 plain ws_are refl)) tt
-delivered who line [] plain is h = absurd cc
-delivered who line (x ∷ to ∷ more ∷ ws) plain is h = absurd cc
-
--- the two words differ
-apart : codes "send" ≡ codes "deliver" → ⊥
-apart e = cc (e)
-
-first_test : (a : Bool) → a || false ≡ true → a ≡ true
-first_test true h = refl
-first_test false h = h
+delivered : (ws : List (List ℕ)) → is_delivery ws ≡ true → SaysStepped (delivering ws)
+delivered [] h = absurd cc
+delivered (at ∷ []) h = subst (λ t. SaysStepped (delivering (t ∷ []))) (sym (same_word at (codes "svc") h)) tt
+delivered (at ∷ a ∷ ws) h =
+    let tests = both (bytes_eq at (codes "ap")) (bytes_eq a (codes "0")) h in
+    subst (λ t. SaysStepped (delivering (t ∷ a ∷ ws))) (sym (same_word at (codes "ap") tests.0))
+    (subst (λ t. SaysStepped (delivering (codes "ap" ∷ t ∷ ws))) (sym (same_word a (codes "0") tests.1)) (at_the_end ws))
+  where
+    at_the_end : (ws : List (List ℕ)) → SaysStepped (delivering (codes "ap" ∷ codes "0" ∷ ws))
+    at_the_end [] = tt
+    at_the_end (w ∷ ws) = tt
 
 -- by the first word
-first_read : (who : ℕ) (line w : List ℕ) (ws : List (List ℕ)) → is_plain line ≡ true → words line ≡ w ∷ ws
-    → (comment sends delivers : Bool) → is_comment w ≡ comment → bytes_eq w (codes "send") ≡ sends → bytes_eq w (codes "deliver") ≡ delivers
-    → comment || sends && is_ping ws || delivers && is_delivery ws ≡ true → SaysStepped (judged who line)
-first_read who line w ws plain is true s d c p q h = subst SaysStepped (sym (judged-comment who line w ws plain is c)) tt
-first_read who line w ws plain is false true true c p q h = absurd (apart (sym (same_word w (codes "send") p) ∙ same_word w (codes "deliver") q))
-first_read who line w ws plain is false true false c p q h =
-    pinged who line ws plain (is ∙ ap (λ t. t ∷ ws) (same_word w (codes "send") p)) (first_test (is_ping ws) h)
-first_read who line w ws plain is false false true c p q h =
-    delivered who line ws plain (is ∙ ap (λ t. t ∷ ws) (same_word w (codes "deliver") q)) h
-first_read who line w ws plain is false false false c p q h = absurd cc
+formed : (who : ℕ) (ws : List (List ℕ)) → is_built_form ws ≡ true → SaysStepped (asked_for who ws)
+formed who [] h = tt
+formed who (w ∷ ws) h =
+    ⊎_elim as_send (λ k. ⊎_elim as_delivery as_cancel (one_of (bytes_eq w (codes "deliver") && is_delivery ws) (bytes_eq w (codes "cancel")) k))
+    (one_of (bytes_eq w (codes "send") && is_svc_ask ws) (bytes_eq w (codes "deliver") && is_delivery ws || bytes_eq w (codes "cancel")) h)
+  where
+    one_of : (a b : Bool) → a || b ≡ true → a ≡ true ⊎ b ≡ true
+    one_of true b k = inl refl
+    one_of false b k = inr k
 
-form_read : (who : ℕ) (line : List ℕ) (ws : List (List ℕ)) → is_plain line ≡ true → words line ≡ ws → is_form ws ≡ true → SaysStepped (judged who line)
-form_read who line [] plain is h = subst SaysStepped (sym (judged-blank who line plain is)) tt
-form_read who line (w ∷ ws) plain is h =
-    first_read who line w ws plain is (is_comment w) (bytes_eq w (codes "send")) (bytes_eq w (codes "deliver")) refl refl refl h
+    as_send : bytes_eq w (codes "send") && is_svc_ask ws ≡ true → SaysStepped (asked_for who (w ∷ ws))
+    as_send k =
+        let tests = both (bytes_eq w (codes "send")) (is_svc_ask ws) k in
+        subst (λ t. SaysStepped (asked_for who (t ∷ ws))) (sym (same_word w (codes "send") tests.0)) (sent who ws tests.1)
+
+    as_delivery : bytes_eq w (codes "deliver") && is_delivery ws ≡ true → SaysStepped (asked_for who (w ∷ ws))
+    as_delivery k =
+        let tests = both (bytes_eq w (codes "deliver")) (is_delivery ws) k in
+        subst (λ t. SaysStepped (asked_for who (t ∷ ws))) (sym (same_word w (codes "deliver") tests.0)) (delivered ws tests.1)
+
+    as_cancel : bytes_eq w (codes "cancel") ≡ true → SaysStepped (asked_for who (w ∷ ws))
+    as_cancel k = subst (λ t. SaysStepped (asked_for who (t ∷ ws))) (sym (same_word w (codes "cancel") k)) (cancelled who ws)
+
+-- an event that a line says is one that its words ask for
+asked_is : (who : ℕ) (line : List ℕ) (e : Event) → judged who line ≡ Ok (Some e) → asked_for who (words line) ≡ Ok (Some e)
+asked_is who line e h = by_tests (nat_le (length line) longest_line) (bad_place 1 line) h
+  where
+    by_tests : (short : Bool) (place : Option ℕ) → cond short (unless_bad place (asked_for who (words line))) (Err bad.Long) ≡ Ok (Some e) → asked_for who (words line) ≡ Ok (Some e)
+    by_tests true None h = h
+    by_tests true (Some place) h = absurd (cc h)
+    by_tests false place h = absurd (cc h)
 
 -- what is said of a line
-said_stepped : (who : ℕ) (line : List ℕ) (b : Bool) → is_built line ≡ b → SaysStepped (said is_built who line)
-said_stepped who line true h =
-    let parts = both (is_plain line) (is_form (words line)) h in
-    subst SaysStepped (sym (ap (λ t. cond t (judged who line) (Err bad.NotBuilt)) h)) (form_read who line (words line) parts.0 refl parts.1)
-said_stepped who line false h = subst SaysStepped (sym (ap (λ t. cond t (judged who line) (Err bad.NotBuilt)) h)) tt
+said_stepped : (who : ℕ) (line : List ℕ) → SaysStepped (said (is_built who) who line)
+said_stepped who line = by_judged (judged who line) refl
+  where
+    by_judged : (j : Said) → judged who line ≡ j → SaysStepped (cond (built_by (words line) j) j (Err bad.NotBuilt))
+    by_judged (Err why) is = tt
+    by_judged (Ok None) is = tt
+    by_judged (Ok (Some e)) is = by_form (is_built_form (words line)) refl
+      where
+        by_form : (b : Bool) → is_built_form (words line) ≡ b → SaysStepped (cond b (Ok (Some e)) (Err bad.NotBuilt))
+        by_form true f = subst SaysStepped (asked_is who line e is) (formed who (words line) f)
+        by_form false f = tt
 
 -- The event that a line says is one that the system steps.
-pub stepped : (who : ℕ) (line : List ℕ) (e : Event) → said is_built who line ≡ Ok (Some e) → IsStepped e
-stepped who line e h = subst SaysStepped h (said_stepped who line (is_built line) refl)
+pub stepped : (who : ℕ) (line : List ℕ) (e : Event) → said (is_built who) who line ≡ Ok (Some e) → IsStepped e
+stepped who line e h = subst SaysStepped h (said_stepped who line)

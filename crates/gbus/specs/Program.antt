@@ -30,11 +30,11 @@ is_too_long text = nat_lt longest_input (length text)
 
 -- What is written for an input. Of one that is too long nothing is.
 abbrev pub output : Job → List ℕ → List ℕ
-output (Run hex) text = if is_too_long text then [] else report is_built hex text
+output (Run hex) text = if is_too_long text then [] else report (is_built 0) hex text
 
 -- whether a script is in its grammar
 abbrev pub script_verdict : List ℕ → Status
-script_verdict text = if has_bad_line is_built (lines text) then status.Refused else status.Success
+script_verdict text = if has_bad_line (is_built 0) (lines text) then status.Refused else status.Success
 
 -- How the program ends where nothing fails and memory is found.
 abbrev pub verdict : Job → List ℕ → Status

@@ -15,7 +15,7 @@ use Rattle.gbus.specs.declared.session.Turn.TheVariants as turn
 
 -- what a line says
 abbrev pub line_says : List ℕ → Said
-line_says line = said is_built 0 line
+line_says line = said (is_built 0) 0 line
 
 -- a line was run from this state: its text stands behind the report, and so will what comes later
 pub record GoesOn (old new : Session) (says : Said) (s : State) : Type 0 where

@@ -22,8 +22,8 @@ pub struct Report {
 /// Runs a script, and reports what each line brings about.
 pub fn report_script(alloc: Global, script: &[u8], hex: bool) -> Result<Report, OutOfMemory>
     requires { length script.now ≤ 1048576 }
-    ensures text { IfOk result (λ r. r.text ≡ report is_built hex script.now) }
-    ensures refused { IfOk result (λ r. r.refused ≡ has_bad_line is_built (lines script.now)) }
+    ensures text { IfOk result (λ r. r.text ≡ report (is_built 0) hex script.now) }
+    ensures refused { IfOk result (λ r. r.refused ≡ has_bad_line (is_built 0) (lines script.now)) }
 {
     let mut session = Session::new(alloc, hex)?;
     let mut rest = script;

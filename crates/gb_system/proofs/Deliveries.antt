@@ -1,5 +1,5 @@
 -- A delivery is stepped as the machine does.
-use Rattle.std.proofs.Common.{◌≡◌, ℕ, ◌==◌, Bool, true, false, if◌then◌else◌, Option, Some, None, Ok, option_map, List, [], ◌∷◌, refl, sym, ap, ◌∙◌, subst}
+use Rattle.std.proofs.Common.{◌≡◌, ℕ, ◌==◌, ◌<◌, Bool, true, false, if◌then◌else◌, Option, Some, None, Ok, option_map, List, [], ◌∷◌, refl, sym, ap, ◌∙◌, subst}
 use Rattle.gb_base.specs.declared.bridge.Reading.TheVariants as reading
 use Rattle.gb_base.specs.declared.end.End.{End}
 use Rattle.gb_base.specs.declared.end.End.TheVariants as end
@@ -10,15 +10,13 @@ use Rattle.gb_base.specs.declared.entry.Entry.TheVariants as entry
 use Rattle.gb_base.specs.declared.outcome.Outcome.TheVariants as outcome
 use Rattle.gb_base.specs.declared.refusal.Refusal.TheVariants as why
 use Rattle.gb_bus.proofs.Fronts.{place_is, placed}
-use Rattle.gb_bus.specs.Delivering.{ArrivesAnswer, ArrivesAsk, ArrivesLate, DeliversNothing, DeliversNowhere, MayReply, taken_at}
+use Rattle.gb_bus.specs.Delivering.{ArrivesAnswer, ArrivesAsk, ArrivesLate, DeliversNothing, DeliversNowhere, MayReply, Names, taken_at}
 use Rattle.gb_bus.specs.Ends.{side_of}
 use Rattle.gb_bus.specs.Stands as bus
 use Rattle.gb_bus.specs.Stands.{svc_with}
 use Rattle.gb_bus.specs.declared.answers.Asked.{Asked}
-use Rattle.gb_bus.specs.declared.bus.Bus as code
+use Rattle.gb_bus.specs.declared.bus.Bus as bus_code
 use Rattle.gb_formats.specs.Bridges.{reading_of}
-use Rattle.gb_formats.specs.Grammar.{ping}
-use Rattle.gb_formats.specs.Message.{response, spelling}
 use Rattle.gb_machine.proofs.Steps.{step-deliver_answer, step-deliver_ask, step-deliver_late, told, with_bus}
 use Rattle.gb_machine.proofs.Opened.{machine_opened}
 use Rattle.gb_machine.specs.Arriving.{is_held, link_takes, reading_for, takes}
@@ -28,15 +26,15 @@ use Rattle.gb_machine.specs.Lists.{at_first, behind_first, first}
 use Rattle.gb_machine.specs.Host.{link_of}
 use Rattle.gb_machine.specs.Incoming.{incoming, reply_entry}
 use Rattle.gb_machine.specs.Refusals.{deliver_refusal, empty_refusal, end_refusal, plug_refusal, refusal}
-use Rattle.gb_machine.specs.Responding.{responds_with, response_at, svc_response, svc_stepped, with_ports}
+use Rattle.gb_machine.specs.Responding.{response_at, with_ports}
 use Rattle.gb_machine.specs.Waits.{awaited}
-use Rattle.gb_machine.specs.SvcTable.{svc_step}
 use Rattle.gb_machine.specs.Sending.{put}
-use Rattle.gb_machine.specs.Serving.{Answer, plainly, success}
+use Rattle.gb_machine.specs.Serving.{Answer, plainly}
 use Rattle.gb_machine.specs.State.{State}
 use Rattle.gb_system.proofs.Landings.{lands, lands_refused, replies_more}
-use Rattle.gb_system.specs.Pings.{delivery_at, nowhere_refusal, pong_told}
-use Rattle.gb_system.specs.Stands.{AreReplies, IsPing, OnlyReplies, Stands, StepsAs}
+use Rattle.gb_system.proofs.SvcResults.{response_is}
+use Rattle.gb_system.specs.Told.{delivery_at, nowhere_refusal, reply_told, svc_result}
+use Rattle.gb_system.specs.Stands.{AreReplies, OnlyReplies, Stands, StepsAs}
 use Rattle.gb_system.specs.declared.system.System.{System}
 
 -- why a delivery is refused where no wired connection names the end
@@ -53,7 +51,7 @@ pub nowhere : (x y : System) (s : State) (at : End) (es : List Entry)
     → es ≡ entry.Refused (nowhere_refusal at) ∷ [] → StepsAs y s (delivery_at at) (Ok es)
 nowhere x y s at es st h names is =
     lands_refused y s (delivery_at at) (nowhere_refusal at) es (nowhere_is x s at st h.named) is
-    (record { bus = h.stands; names = st.names ∙ sym names; rest = st.rest; pings = st.pings; replies = st.replies })
+    (record { bus = h.stands; names = st.names ∙ sym names; rest = st.rest; asks = st.asks; made = st.made; replies = st.replies })
 
 -- the connection of the supervisory controller, as it stands
 abbrev svc_of : (x : System) (s : State) → Stands x s → Connection
@@ -134,7 +132,7 @@ nothing_waits x y s at es st h names is =
     lands_refused y s (delivery_at at) why.QueueEmpty es
     (ap (λ o. or_else o (deliver_refusal (place_of at s.bus.connections))) (there x s st at h.place h.named)
     ∙ ap deliver_refusal h.named ∙ ap empty_refusal h.empty) is
-    (record { bus = h.stands; names = st.names ∙ sym names; rest = st.rest; pings = st.pings; replies = st.replies })
+    (record { bus = h.stands; names = st.names ∙ sym names; rest = st.rest; asks = st.asks; made = st.made; replies = st.replies })
 
 -- replies behind the first
 behind_replies : (is : List Item) → AreReplies is → AreReplies (behind_first is)
@@ -177,7 +175,8 @@ answer_taken x y s at p item number kind result payload es st named front a name
       bus = a.stands;
       names = st.names ∙ sym names;
       rest = ap (with_bus (ended number (answered result a.bytes) (after_taken s p))) st.rest;
-      pings = st.pings;
+      asks = st.asks;
+      made = st.made;
       replies = replies_popped x s st p (where_is x s st at p named);
     })
 
@@ -196,16 +195,17 @@ late_taken x y s at p item number es st named front a names is =
       bus = a.stands;
       names = st.names ∙ sym names;
       rest = ap (with_bus (forgotten number (after_taken s p))) st.rest;
-      pings = st.pings;
+      asks = st.asks;
+      made = st.made;
       replies = replies_popped x s st p (where_is x s st at p named);
     })
 
 -- the request that is delivered may be answered by the supervisory controller
-pub may_reply : (x : System) (s : State) (p : Place) (asked : Asked) (item : Item) (payload : List ℕ) (y : code.Bus) → Stands x s
+pub may_reply : (x : System) (s : State) (p : Place) (asked : Asked) (item : Item) (payload : List ℕ) (y : bus_code.Bus) → Stands x s
     → (a : ArrivesAsk y p s.bus item asked payload) → MayReply 1 side.Far asked (taken_at p s.bus) a.number
 may_reply x s p asked item payload y st a =
-    let pinged = st.pings a.number a.request a.made in
-    record { request = a.request; made = a.made; names = a.names; connection = pinged.connection; asker = pinged.asker }
+    let asks = st.asks a.number a.request a.made in
+    record { request = a.request; made = a.made; names = a.names; connection = asks.connection; asker = asks.asker }
 
 -- among replies no request is first
 no_ask : (is : List Item) (n : ℕ) → AreReplies is → first is ≡ Some (Ask n) → ⊥
@@ -215,64 +215,77 @@ no_ask (Reply m result payload ∷ is) n h e = cc
 no_ask (Raw bytes ∷ is) n h e = h.0
 no_ask (RawReply label kind result payload ∷ is) n h e = h.0
 
--- the answer to a ping
-pong_is : (n : ℕ) (r : Request) (s : State) → IsPing r
-    → svc_response (incoming n r) s ≡ responds_with (plainly success) (with_ports s.ports)
-pong_is n r s h = ap (λ k. svc_stepped (svc_step s.ports k r.payload) s) h.kind
-    ∙ ap (λ b. svc_stepped (svc_step s.ports ping b) s) h.payload
-
 -- nothing comes of it
-pong_quiet : (b : Bus) (s : State) → with_ports s.ports (with_bus b s) ≡ told (with_bus b s) []
+quiet : (b : Bus) (s : State) → with_ports s.ports (with_bus b s) ≡ told (with_bus b s) []
 unfolding machine_opened
-pong_quiet b s = refl
-
--- what is told of the answer to a request of a type
-abbrev pong_of : ℕ → ℕ → ℕ → Entry
-pong_of n label kind = entry.Replied (Some n) end.Svc (end.Ap 0) 0 8 (spelling (response label kind 0 []))
+quiet b s = refl
 
 -- the state once a request is answered at a place
 abbrev after_reply : State → Place → ℕ → Answer → State
 after_reply s p n a = with_bus (replied p.connection.number (other_side p.side) (Reply n a.result a.payload) (after_taken s p)) s
 
 -- replies alone wait toward the application processor once one more does
-replies_answered : (x : System) (s : State) (st : Stands x s) (n : ℕ)
-    → OnlyReplies (replied 1 side.Ap (Reply n 0 []) (popped 1 side.Far s.bus)).connections
-replies_answered x s st n =
-    subst (λ cs. OnlyReplies cs → OnlyReplies (at_first (has_number 1) (put side.Ap (Reply n 0 [])) (at_first (has_number 1) (without_front side.Far) cs)))
-    (sym st.bus.alone) (λ h. (replies_more st.bus.to_ap (Reply n 0 []) h.0 tt, h.1)) st.replies
+replies_answered : (x : System) (s : State) (st : Stands x s) (n code : ℕ)
+    → OnlyReplies (replied 1 side.Ap (Reply n code []) (popped 1 side.Far s.bus)).connections
+replies_answered x s st n code =
+    subst (λ cs. OnlyReplies cs → OnlyReplies (at_first (has_number 1) (put side.Ap (Reply n code [])) (at_first (has_number 1) (without_front side.Far) cs)))
+    (sym st.bus.alone) (λ h. (replies_more st.bus.to_ap (Reply n code []) h.0 tt, h.1)) st.replies
 
--- a ping is delivered at the supervisory controller and answered
-pong_at_far : (x z : System) (s : State) (st : Stands x s) (at : End) (p : Place) (item : Item) (asked : Asked) (payload : List ℕ) (y : code.Bus) (es : List Entry)
+-- what is told of an answer, by what the request was
+answer_same : (asked : Asked) (payload : List ℕ) (n code : ℕ) (r : Request) (e : Entry) → Names asked n r → payload ≡ r.payload → r.kind < 128
+    → code ≡ svc_result asked.kind payload → (asked.kind < 128 → e ≡ reply_told asked.number asked.label asked.kind code)
+    → e ≡ reply_told (Some n) r.label r.kind (svc_result r.kind r.payload)
+answer_same asked payload n code r e names same low is told =
+    told (subst (λ k. k < 128) (sym names.kind) low)
+    ∙ ap (λ o. reply_told o asked.label asked.kind code) names.number
+    ∙ ap (λ l. reply_told (Some n) l asked.kind code) names.label
+    ∙ ap (reply_told (Some n) r.label asked.kind) is
+    ∙ ap (λ p. reply_told (Some n) r.label asked.kind (svc_result asked.kind p)) same
+    ∙ ap (λ k. reply_told (Some n) r.label k (svc_result k r.payload)) names.kind
+
+-- the result by what the request was
+code_same : (asked : Asked) (payload : List ℕ) (n code : ℕ) (r : Request) → Names asked n r → payload ≡ r.payload
+    → code ≡ svc_result asked.kind payload → code ≡ svc_result r.kind r.payload
+code_same asked payload n code r names same is =
+    is ∙ ap (svc_result asked.kind) same ∙ ap (λ k. svc_result k r.payload) names.kind
+
+-- a request is delivered at the supervisory controller and answered
+answer_at_far : (x z : System) (s : State) (st : Stands x s) (at : End) (p : Place) (item : Item) (asked : Asked) (payload : List ℕ) (code : ℕ) (y : bus_code.Bus) (e : Entry) (es : List Entry)
     → p ≡ placed (svc_of x s st) side.Far
     → place_of at s.bus.connections ≡ Some p → first (queue p.side p.connection) ≡ Some item
     → (a : ArrivesAsk y p s.bus item asked payload)
-    → bus.Stands z.bus (replied 1 side.Ap (Reply a.number 0 []) (taken_at p s.bus)) → z.names ≡ x.names
-    → es ≡ entry.Done ∷ pong_told asked.number asked.label ∷ []
+    → bus.Stands z.bus (replied 1 side.Ap (Reply a.number code []) (taken_at p s.bus)) → z.names ≡ x.names
+    → code ≡ svc_result asked.kind payload
+    → (asked.kind < 128 → e ≡ reply_told asked.number asked.label asked.kind code)
+    → es ≡ entry.Done ∷ e ∷ []
     → StepsAs z s (delivery_at at) (Ok es)
-pong_at_far x z s st at p item asked payload y es place named front a stands names is =
+answer_at_far x z s st at p item asked payload code y e es place named front a stands names code_is says_so is =
     let c = svc_of x s st in
     let r = a.request in
-    let pinged = st.pings a.number r a.made in
+    let asks = st.asks a.number r a.made in
+    let result = svc_result r.kind r.payload in
     let q = placed c side.Far in
     let w : At c p = record { at = side.Far; is = place } in
     let answered = ap (λ (v : Place). response_at v.side v.connection (incoming a.number r) (with_bus (after_taken s v) s)) place
-    ∙ pong_is a.number r (with_bus (after_taken s q) s) pinged in
-    let stepped = step-deliver_ask s at p a.number r (plainly success) (with_ports s.ports) (there x s st at p named) named
-    (front ∙ ap Some a.item_is) (taken x s st p w) (free x s st p w) a.made pinged.twoway answered
-    (pong_quiet (replied p.connection.number (other_side p.side) (Reply a.number 0 []) (after_taken s p)) s)
-    ∙ ap (λ (v : Place). told (after_reply s v a.number (plainly success))
-    (entry.Done ∷ reply_entry v.side v.connection (incoming a.number r) (plainly success) ∷ [])) place in
-    let same = is ∙ ap (λ o. entry.Done ∷ pong_told o asked.label ∷ []) a.names.number
-    ∙ ap (λ l. entry.Done ∷ pong_told (Some a.number) l ∷ []) a.names.label
-    ∙ ap (λ k. entry.Done ∷ pong_of a.number r.label k ∷ []) (sym pinged.kind) in
-    lands z s (after_reply s q a.number (plainly success)) (delivery_at at) es
-    (entry.Done ∷ reply_entry side.Far c (incoming a.number r) (plainly success) ∷ []) stepped same
+    ∙ response_is a.number r (with_bus (after_taken s q) s) asks.unreserved in
+    let stepped = step-deliver_ask s at p a.number r (plainly result) (with_ports s.ports) (there x s st at p named) named
+    (front ∙ ap Some a.item_is) (taken x s st p w) (free x s st p w) a.made asks.twoway answered
+    (quiet (replied p.connection.number (other_side p.side) (Reply a.number result []) (after_taken s p)) s)
+    ∙ ap (λ (v : Place). told (after_reply s v a.number (plainly result))
+    (entry.Done ∷ reply_entry v.side v.connection (incoming a.number r) (plainly result) ∷ [])) place in
+    let same = is ∙ ap (λ t. entry.Done ∷ t ∷ [])
+    (answer_same asked payload a.number code r e a.names a.payload_is asks.kind code_is says_so) in
+    let result_is = code_same asked payload a.number code r a.names a.payload_is code_is in
+    lands z s (after_reply s q a.number (plainly result)) (delivery_at at) es
+    (entry.Done ∷ reply_entry side.Far c (incoming a.number r) (plainly result) ∷ []) stepped same
     (record {
-      bus = subst (λ (v : Place). bus.Stands z.bus (replied 1 side.Ap (Reply a.number 0 []) (taken_at v s.bus))) place stands;
+      bus = subst (λ (v : Place). bus.Stands z.bus (replied 1 side.Ap (Reply a.number result []) (taken_at v s.bus))) place
+          (subst (λ n. bus.Stands z.bus (replied 1 side.Ap (Reply a.number n []) (taken_at p s.bus))) result_is stands);
       names = st.names ∙ sym names;
-      rest = ap (with_bus (replied 1 side.Ap (Reply a.number 0 []) (popped 1 side.Far s.bus))) st.rest;
-      pings = st.pings;
-      replies = replies_answered x s st a.number;
+      rest = ap (with_bus (replied 1 side.Ap (Reply a.number result []) (popped 1 side.Far s.bus))) st.rest;
+      asks = st.asks;
+      made = st.made;
+      replies = replies_answered x s st a.number result;
     })
 
 -- no request is delivered at the application processor
@@ -285,15 +298,17 @@ none_at_ap x s st p item n place front is =
     no_ask st.bus.to_ap n replies.0 here
 
 -- a request is delivered and answered
-pub pong_taken : (x z : System) (s : State) (at : End) (p : Place) (item : Item) (asked : Asked) (payload : List ℕ) (y : code.Bus) (es : List Entry)
+pub ask_taken : (x z : System) (s : State) (at : End) (p : Place) (item : Item) (asked : Asked) (payload : List ℕ) (code : ℕ) (y : bus_code.Bus) (e : Entry) (es : List Entry)
     → Stands x s → place_of at s.bus.connections ≡ Some p → first (queue p.side p.connection) ≡ Some item
     → (a : ArrivesAsk y p s.bus item asked payload)
-    → bus.Stands z.bus (replied 1 side.Ap (Reply a.number 0 []) (taken_at p s.bus)) → z.names ≡ x.names
-    → es ≡ entry.Done ∷ pong_told asked.number asked.label ∷ []
+    → bus.Stands z.bus (replied 1 side.Ap (Reply a.number code []) (taken_at p s.bus)) → z.names ≡ x.names
+    → code ≡ svc_result asked.kind payload
+    → (asked.kind < 128 → e ≡ reply_told asked.number asked.label asked.kind code)
+    → es ≡ entry.Done ∷ e ∷ []
     → StepsAs z s (delivery_at at) (Ok es)
-pong_taken x z s at p item asked payload y es st named front a stands names is =
+ask_taken x z s at p item asked payload code y e es st named front a stands names code_is says_so is =
     let w = where_is x s st at p named in by w.at w.is
   where
     by : (sd : Side) → p ≡ placed (svc_of x s st) sd → StepsAs z s (delivery_at at) (Ok es)
     by side.Ap place = absurd (none_at_ap x s st p item a.number place front a.item_is)
-    by side.Far place = pong_at_far x z s st at p item asked payload y es place named front a stands names is
+    by side.Far place = answer_at_far x z s st at p item asked payload code y e es place named front a stands names code_is says_so is

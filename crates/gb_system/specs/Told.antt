@@ -1,0 +1,100 @@
+-- The events that the system steps, and what is told of them.
+use Rattle.std.specs.Prelude.{ℕ, ◌<◌, ◌==◌, nat_lt, Bool, if◌then◌else◌, Option, is_some, List, [], ◌∷◌, length}
+use Rattle.gb_base.specs.declared.bridge.Reading.TheVariants as reading
+use Rattle.gb_base.specs.declared.end.End.{End}
+use Rattle.gb_base.specs.declared.end.End.TheVariants as end
+use Rattle.gb_base.specs.declared.entry.Entry.{Entry}
+use Rattle.gb_base.specs.declared.entry.Entry.TheVariants as entry
+use Rattle.gb_base.specs.declared.event.Event.{Event}
+use Rattle.gb_base.specs.declared.event.Event.TheVariants as event
+use Rattle.gb_base.specs.declared.name.Name.{Name}
+use Rattle.gb_base.specs.declared.outcome.Outcome.TheVariants as outcome
+use Rattle.gb_base.specs.declared.refusal.Refusal.{Refusal}
+use Rattle.gb_base.specs.declared.refusal.Refusal.TheVariants as why
+use Rattle.gb_formats.specs.Grammar.{ping}
+use Rattle.gb_formats.specs.Message.{message_size, request, response, spelling}
+use Rattle.gb_formats.specs.Results.{invalid, protocol_bad, success}
+use Rattle.gb_machine.specs.Lists.{first_met}
+use Rattle.gb_machine.specs.Names.{named}
+use Rattle.gb_machine.specs.Refusals.{is_reserved, longest_payload}
+
+-- a request to the supervisory controller, of a type that a request can have
+abbrev pub IsToSvc : End → ℕ → Type 0
+IsToSvc end.Svc kind = kind < 128
+IsToSvc (end.Ap a) kind = ⊥
+IsToSvc (end.Module i c) kind = ⊥
+
+-- The events that the system steps: requests to the supervisory controller, their cancels, and
+-- deliveries.
+abbrev pub IsStepped : Event → Type 0
+IsStepped (event.Send name to kind payload timeout) = IsToSvc to kind
+IsStepped (event.Deliver at) = Unit {0}
+IsStepped (event.Cancel name) = Unit {0}
+IsStepped event.Boot = ⊥
+IsStepped (event.Insert i kind) = ⊥
+IsStepped (event.InsertRaw i manifest) = ⊥
+IsStepped (event.Pull i) = ⊥
+IsStepped (event.Connect i c) = ⊥
+IsStepped (event.Disconnect i c) = ⊥
+IsStepped (event.Bridge name i c ask) = ⊥
+IsStepped (event.Level i c line value) = ⊥
+IsStepped (event.SerialState i c control) = ⊥
+IsStepped (event.Settle most) = ⊥
+IsStepped (event.Hold i c) = ⊥
+IsStepped (event.Answer i c place) = ⊥
+IsStepped (event.Copy from to) = ⊥
+IsStepped (event.Forget name) = ⊥
+IsStepped (event.Tick millis) = ⊥
+IsStepped (event.Inject i c bytes) = ⊥
+IsStepped event.Show = ⊥
+
+-- a request to the supervisory controller
+abbrev pub send_of : Name → ℕ → List ℕ → ℕ → Event
+send_of name kind payload timeout = event.Send name end.Svc kind payload timeout
+
+-- a delivery
+abbrev pub delivery_at : End → Event
+delivery_at at = event.Deliver at
+
+-- a cancel
+abbrev pub cancel_of : Name → Event
+cancel_of name = event.Cancel name
+
+-- Why a request isn't sent, before its identifier is drawn.
+abbrev pub early_refusal : Name → List (Name × ℕ) → ℕ → List ℕ → Option Refusal
+early_refusal name names kind payload = first_met (
+    (is_some (named name names), why.Occupied)
+    ∷ (is_reserved kind, why.Unsupported)
+    ∷ (nat_lt longest_payload (length payload), why.TooLarge)
+    ∷ [])
+
+-- The result with which the supervisory controller answers a request of a type that isn't kept: a
+-- ping has no payload, and it knows no other type.
+abbrev pub svc_result : ℕ → List ℕ → ℕ
+svc_result kind payload =
+    if kind == ping then (if length payload == 0 then success else invalid) else protocol_bad
+
+-- what is told of a request
+abbrev pub ask_told : ℕ → ℕ → ℕ → List ℕ → Bool → Entry
+ask_told n label kind payload lost =
+    entry.Asked n (end.Ap 0) end.Svc kind (message_size payload)
+    (spelling (request label kind payload)) lost
+
+-- what is told of its answer
+abbrev pub reply_told : Option ℕ → ℕ → ℕ → ℕ → Entry
+reply_told n label kind result =
+    entry.Replied n end.Svc (end.Ap 0) result 8 (spelling (response label kind result []))
+
+-- what is told where a request is cancelled
+abbrev pub cancel_told : ℕ → Entry
+cancel_told n = entry.Ended n outcome.Cancelled reading.Nothing
+
+-- why a delivery is refused where no wired connection names the end: nothing is plugged
+abbrev pub nowhere_refusal : End → Refusal
+nowhere_refusal (end.Module i c) = why.NoInterface
+nowhere_refusal end.Svc = why.NoConnection
+nowhere_refusal (end.Ap a) = why.NoConnection
+
+-- what is told where a request ends as answered
+abbrev pub answer_told : ℕ → ℕ → List ℕ → Entry
+answer_told n result payload = entry.Ended n (outcome.Answered result payload) reading.Nothing
