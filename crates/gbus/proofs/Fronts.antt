@@ -1,5 +1,5 @@
 -- What a write and what a read leave.
-use Rattle.std.proofs.Common.{◌≡◌, ℕ, ◌++◌, Option, Some, None, List, append_assoc, refl, sym, ap, ◌∙◌}
+use Rattle.std.proofs.Common.{ℕ, ◌++◌, Option, Some, None, List, append_assoc, ap, ◌∙◌}
 use Rattle.std.specs.Io.KnownBytes.{Appends}
 
 -- what was taken, and then more

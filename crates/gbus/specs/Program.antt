@@ -1,5 +1,6 @@
 -- What the program writes and how it ends, by its words and its input.
-use Rattle.std.specs.Prelude.{ℕ, nat_lt, Bool, false, if◌then◌else◌, Option, Some, None, List, [], ◌∷◌, length, codes}
+use Rattle.std.specs.Prelude.{ℕ, ◌==◌, nat_lt, Bool, true, false, ◌&&◌, if◌then◌else◌, Option, Some, None, List, [], ◌∷◌, length, take, codes}
+use Rattle.std.specs.List.{list_any}
 use Rattle.std.specs.Str.{bytes_eq}
 use Rattle.gb_base.specs.declared.status.Status.{Status}
 use Rattle.gb_base.specs.declared.status.Status.TheVariants as status
@@ -15,11 +16,17 @@ pub data Job : Type 0 where
 abbrev pub one_word : List ℕ → Option Job
 one_word w = if bytes_eq w (codes "run") then Some (Run false) else None
 
+-- the words `run --hex`
+abbrev pub two_words : List ℕ → List ℕ → Option Job
+two_words w x =
+    if bytes_eq w (codes "run") && bytes_eq x (codes "--hex") then Some (Run true) else None
+
 -- What the words ask for, None where they are none of the program's.
 abbrev pub job_of : List (List ℕ) → Option Job
 job_of [] = None
 job_of (w ∷ []) = one_word w
-job_of (w ∷ x ∷ ws) = None
+job_of (w ∷ x ∷ []) = two_words w x
+job_of (w ∷ x ∷ y ∷ ws) = None
 
 -- how many bytes an input may have
 abbrev pub longest_input : ℕ
@@ -28,17 +35,35 @@ longest_input = 1048576
 abbrev pub is_too_long : List ℕ → Bool
 is_too_long text = nat_lt longest_input (length text)
 
--- What is written for an input. Of one that is too long nothing is.
-abbrev pub output : Job → List ℕ → List ℕ
-output (Run hex) text = if is_too_long text then [] else report (is_built 0) hex text
+-- the line end LF
+abbrev pub is_lf : ℕ → Bool
+is_lf b = b == 10
 
--- whether a script is in its grammar
-abbrev pub script_verdict : List ℕ → Status
-script_verdict text = if has_bad_line (is_built 0) (lines text) then status.Refused else status.Success
+-- the lines of a text that end with LF: all up to the last LF
+abbrev pub ended_lines : List ℕ → List ℕ
+ended_lines [] = []
+ended_lines (b ∷ bs) =
+    let later = ended_lines bs in if list_any is_lf (b ∷ bs) then b ∷ later else []
+
+-- What is run of a script: all of it, or of one that is too long the lines that end within the
+-- limit.
+abbrev pub script_within : List ℕ → List ℕ
+script_within text =
+    if is_too_long text then ended_lines (take longest_input text) else text
+
+-- What is written for an input: the report of a script, as far as it is run.
+abbrev pub output : Job → List ℕ → List ℕ
+output (Run hex) text = report (is_built 0) hex (script_within text)
+
+-- How a script ends: a bad line comes before an input that is too long.
+abbrev pub script_status : Bool → Bool → Status
+script_status has_bad too_long =
+    if has_bad then status.Refused else if too_long then status.TooLong else status.Success
 
 -- How the program ends where nothing fails and memory is found.
 abbrev pub verdict : Job → List ℕ → Status
-verdict (Run hex) text = if is_too_long text then status.TooLong else script_verdict text
+verdict (Run hex) text =
+    script_status (has_bad_line (is_built 0) (lines (script_within text))) (is_too_long text)
 
 -- a status that speaks of the input
 abbrev pub IsVerdict : Status → Type 0

@@ -1,5 +1,5 @@
 -- What writing a text answers.
-use Rattle.std.specs.Prelude.{◌≡◌, ℕ, Option, Some, None, Result, Ok, Err, ⊤, List, ◌++◌}
+use Rattle.std.specs.Prelude.{◌≡◌, ℕ, Option, Result, Ok, Err, ⊤, List, ◌++◌}
 use Rattle.std.specs.Io.KnownBytes.{Appends}
 use Rattle.gb_base.specs.Faults.{Rose}
 use Rattle.gb_base.specs.declared.sink.WriteStop.{WriteStop}

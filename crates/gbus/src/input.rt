@@ -1,7 +1,7 @@
 //! Reads a whole input.
 
-ghost use Rattle.std.specs.Prelude.{◌≤◌};
-ghost use Rattle.gbus.specs.Reading.{ReadsAll};
+ghost use Rattle.std.specs.Prelude.{◌≤◌, length, IfOk};
+ghost use Rattle.gbus.specs.Reading.{GivesScript, ReadsAll, kept_of};
 
 use gb_base::{Failed, OutOfMemory, Source};
 use std::alloc::{AllocError, Global};
@@ -17,8 +17,8 @@ const PIECE: usize = 4_096;
 pub enum Input {
     /// All its bytes.
     Whole(Vec<u8>),
-    /// It has more bytes than an input may have.
-    TooLong,
+    /// It has more bytes than an input may have. These are the first that it may have.
+    TooLong(Vec<u8>),
 }
 
 /// Why an input isn't read.
@@ -57,6 +57,8 @@ pub fn read_all<S: Source>(alloc: Global, source: &mut S) -> Result<Input, ReadS
     ensures bytes { ReadsAll (S.left source.old) (S.left source.new) (S.faults source.old)
         (S.faults source.new) result }
     ensures later { S.faults source.old ≤ S.faults source.new }
+    ensures script { IfOk result (λ i. GivesScript (S.left source.old) i) }
+    ensures short { IfOk result (λ i. length (kept_of i) ≤ 1048576) }
 {
     let mut bytes = Vec::new(alloc);
     let mut piece = [0u8; PIECE];
@@ -67,5 +69,6 @@ pub fn read_all<S: Source>(alloc: Global, source: &mut S) -> Result<Input, ReadS
         }
         bytes.extend_from_slice(&piece[..n])?;
     }
-    Ok(Input::TooLong)
+    bytes.truncate(LONGEST_INPUT);
+    Ok(Input::TooLong(bytes))
 }

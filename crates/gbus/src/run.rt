@@ -4,12 +4,13 @@ ghost use Rattle.std.specs.Prelude.{◌≡◌, ◌≢◌, ◌↔◌, None, Some,
 ghost use Rattle.std.specs.String.{string_bytes};
 ghost use Rattle.std.specs.Io.KnownBytes.{IsAtEnd};
 ghost use Rattle.gb_base.specs.Faults.{Rose};
-ghost use Rattle.gbus.specs.Program.{IsVerdict, Run, job_of};
+ghost use Rattle.gbus.specs.Program.{IsVerdict, Run, job_of, script_status};
+ghost use Rattle.gbus.specs.Reading.{is_long};
 ghost use Rattle.gbus.specs.Runs.{IsAnswered, IsComplete, IsWithin};
 
 use crate::input::{Input, ReadStop, read_all};
 use crate::output::write_all;
-use crate::script::report_script;
+use crate::script::report_input;
 use crate::words::{Job, job_of};
 use gb_base::{Gate, Sink, Source, Status, WriteStop};
 use std::alloc::Global;
@@ -69,19 +70,38 @@ fn run_script<S: Source, K: Sink>(alloc: Global, hex: bool, source: &mut S, sink
     ensures complete { IsComplete (Some (Run hex)) (S.left source.old) (S.faults source.old)
         (S.faults source.new) (K.faults sink.old) (K.faults sink.new) result }
 {
-    let script = match read_all(alloc, source) {
-        Ok(Input::Whole(script)) => script,
-        Ok(Input::TooLong) => return Status::TooLong,
+    let input = match read_all(alloc, source) {
+        Ok(input) => input,
         Err(ReadStop::Failed) => return Status::ReadFault,
         Err(ReadStop::Memory(_)) => return Status::NoMemory,
     };
-    let Ok(report) = report_script(alloc, &script, hex) else {
+    let Ok(report) = report_input(alloc, &input, hex) else {
         return Status::NoMemory;
     };
     match write_all(sink, report.text.items()) {
-        Ok(()) if report.refused => Status::Refused,
-        Ok(()) => Status::Success,
+        Ok(()) => script_status(report.refused, is_long(&input)),
         Err(WriteStop::Failed) => Status::WriteFault,
         Err(WriteStop::Memory(_)) => Status::NoMemory,
+    }
+}
+
+/// Whether an input is too long.
+fn is_long(input: &Input) -> bool
+    ensures { result ≡ is_long input.now }
+{
+    matches!(input, Input::TooLong(_))
+}
+
+/// How a script ends, of which everything was written: a bad line comes before an input that is
+/// too long.
+fn script_status(refused: bool, too_long: bool) -> Status
+    ensures { result ≡ script_status refused too_long }
+{
+    if refused {
+        Status::Refused
+    } else if too_long {
+        Status::TooLong
+    } else {
+        Status::Success
     }
 }

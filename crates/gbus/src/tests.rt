@@ -19,29 +19,33 @@ reply #1 svc > ap 0 result 00 size 8\n\
 line 3 ok\n\
 end #1 answered 00 -\n";
 
-/// How the program ends with one word.
+/// How the program ends with these words.
 fn ended<R: Threads + Sync, S: Source, K: Sink>(
     rt: &R,
     alloc: Global,
-    word: &str,
+    words: &[&str],
     source: &mut S,
     sink: &mut K,
 ) -> Result<Status, Fail> {
-    let words = vec![in alloc; word.to_string(alloc)?]?;
-    Ok(run(rt, alloc, words.as_slice(), source, sink, &FreeGate))
+    let mut owned = Vec::new(alloc);
+    for word in words {
+        owned.push(word.to_string(alloc)?)?;
+    }
+    Ok(run(rt, alloc, owned.as_slice(), source, sink, &FreeGate))
 }
 
 #[test]
 fn scripts_are_reported(rt: HostRuntime) -> Result<(), Fail> {
-    let rows: [(&[u8], Status, &[u8]); 3] = [
+    let rows: [(&[u8], Status, &[u8]); 4] = [
         (b"", Status::Success, b""),
         (PING, Status::Success, PING_REPORT),
         (b"# none\n\nboot", Status::Refused, b"line 3: not built\n"),
+        (b"boot now", Status::Refused, b"line 1: extra word 2\n"),
     ];
     for (input, wanted, output) in rows {
         let mut source = PlainSource::new(Bytes::from_slice(rt.alloc(), input)?);
         let mut sink = PlainSink::new(rt.alloc());
-        let status = ended(&rt, rt.alloc(), "run", &mut source, &mut sink)?;
+        let status = ended(&rt, rt.alloc(), &["run"], &mut source, &mut sink)?;
         assert!(rt; status == wanted);
         assert!(rt; sink.taken() == output);
     }
@@ -49,11 +53,82 @@ fn scripts_are_reported(rt: HostRuntime) -> Result<(), Fail> {
 }
 
 #[test]
-fn another_word_is_none_of_the_programs(rt: HostRuntime) -> Result<(), Fail> {
-    let mut source = PlainSource::new(Bytes::from_slice(rt.alloc(), PING)?);
+fn other_words_are_none_of_the_programs(rt: HostRuntime) -> Result<(), Fail> {
+    let rows: [&[&str]; 4] = [&[], &["rum"], &["run", "--hey"], &["run", "--hex", "--hex"]];
+    for words in rows {
+        let mut source = PlainSource::new(Bytes::from_slice(rt.alloc(), PING)?);
+        let mut sink = PlainSink::new(rt.alloc());
+        let status = ended(&rt, rt.alloc(), words, &mut source, &mut sink)?;
+        assert!(rt; status == Status::Usage);
+    }
+    Ok(())
+}
+
+/// A cancel and a late answer, of which the second request knows nothing.
+const LATE: &[u8] = b"send @x svc ping\ncancel @x\nsend @y svc ping\ndeliver svc\n\
+deliver ap 0\nsend @z svc ping\ncancel @y\n";
+
+/// What is reported of them with bytes.
+const LATE_REPORT: &[u8] = b"line 1 ok\n\
+ask #1 ap 0 > svc type 13 size 8 0800010013000000\n\
+line 2 ok\n\
+end #1 cancelled\n\
+line 3 ok\n\
+ask #2 ap 0 > svc type 13 size 8 0800020013000000\n\
+line 4 ok\n\
+reply #1 svc > ap 0 result 00 size 8 0800010093000000\n\
+line 5 ok\n\
+late #1\n\
+line 6 ok\n\
+ask #3 ap 0 > svc type 13 size 8 0800030013000000\n\
+line 7 ok\n\
+end #2 cancelled\n";
+
+#[test]
+fn bytes_are_shown(rt: HostRuntime) -> Result<(), Fail> {
+    let mut source = PlainSource::new(Bytes::from_slice(rt.alloc(), LATE)?);
     let mut sink = PlainSink::new(rt.alloc());
-    let status = ended(&rt, rt.alloc(), "rum", &mut source, &mut sink)?;
-    assert!(rt; status == Status::Usage);
+    let status = ended(&rt, rt.alloc(), &["run", "--hex"], &mut source, &mut sink)?;
+    assert!(rt; status == Status::Success);
+    assert!(rt; sink.taken() == LATE_REPORT);
+    Ok(())
+}
+
+#[test]
+fn the_limit_is_kept(rt: HostRuntime) -> Result<(), Fail> {
+    // The lines at the front, how many bytes come in all, the status, and the report.
+    let rows: [(&[u8], usize, Status, &[u8]); 4] = [
+        (
+            b"deliver svc\n",
+            1_048_576,
+            Status::Refused,
+            b"line 1 refused QueueEmpty\nline 2: too long\n",
+        ),
+        (
+            b"deliver svc\n",
+            1_048_577,
+            Status::TooLong,
+            b"line 1 refused QueueEmpty\n",
+        ),
+        (
+            b"sned\n",
+            1_048_577,
+            Status::Refused,
+            b"line 1: bad word 1\n",
+        ),
+        (b"", 1_048_577, Status::TooLong, b""),
+    ];
+    for (lines, size, wanted, output) in rows {
+        let mut bytes = Bytes::from_slice(rt.alloc(), lines)?;
+        for _ in lines.len()..size {
+            bytes.push(b' ')?;
+        }
+        let mut source = PlainSource::new(bytes);
+        let mut sink = PlainSink::new(rt.alloc());
+        let status = ended(&rt, rt.alloc(), &["run"], &mut source, &mut sink)?;
+        assert!(rt; status == wanted);
+        assert!(rt; sink.taken() == output);
+    }
     Ok(())
 }
 
@@ -73,7 +148,7 @@ fn faults_are_told(rt: HostRuntime) -> Result<(), Fail> {
         writes.push(write)?;
         let mut source = MemSource::new(Bytes::from_slice(rt.alloc(), PING)?, 1, reads);
         let mut sink = MemSink::new(rt.alloc(), writes);
-        let status = ended(&rt, rt.alloc(), "run", &mut source, &mut sink)?;
+        let status = ended(&rt, rt.alloc(), &["run"], &mut source, &mut sink)?;
         assert!(rt; status == wanted);
         let output: &[u8] = if wanted == Status::Success {
             PING_REPORT

@@ -21,6 +21,9 @@ pub fn job_of(words: &[String]) -> Option<Job>
 {
     match words {
         [word] if word.as_str() == "run" => Some(Job::Run { hex: false }),
+        [word, hex] if word.as_str() == "run" && hex.as_str() == "--hex" => {
+            Some(Job::Run { hex: true })
+        }
         _ => None,
     }
 }

@@ -1,5 +1,5 @@
 -- What was taken grows by the piece that was written.
-use Rattle.std.proofs.Common.{◌≡◌, ◌++◌, take, drop, append_assoc, sym, ap, ◌∙◌, arith}
+use Rattle.std.proofs.Common.{◌++◌, take, append_assoc, sym, ap, ◌∙◌, arith}
 use Rattle.std.proofs.lemmas.List.{take-append-drop}
 use Rattle.gbus.proofs.Fronts.{appends_more}
 use Rattle.gbus.proofs.output.write_all.Goals as goal
