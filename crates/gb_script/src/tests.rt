@@ -37,10 +37,15 @@ fn reads_requests_and_cancels(rt: HostRuntime) {
     let empty = event(alloc, b"send @x svc 07 -", 0);
     assert!(rt; is_ask(&empty, 0x07, &[]));
     let cancel = event(alloc, b" cancel  @z9", 2);
-    assert!(rt;
-        matches!(cancel, Ok(Some(Event::Cancel { name }))
-        if name.who == 2 && name.word.bytes() == b"z9".as_slice())
-    );
+    assert!(rt; is_cancel(&cancel));
+}
+
+/// Whether a line cancelled requester 2's `z9`.
+fn is_cancel(said: &Result<Option<Event>, LineFault>) -> bool {
+    match said {
+        Ok(Some(Event::Cancel { name })) => name.who == 2 && name.word.bytes() == b"z9".as_slice(),
+        _ => false,
+    }
 }
 
 /// Whether a line asked for a request of this type, with this payload.
