@@ -1,0 +1,4 @@
+pub mod Breaches
+pub mod Declarations
+pub mod Spoken
+pub mod Walks

@@ -1,0 +1,4 @@
+pub mod Declarations
+pub mod Met
+pub mod Values
+pub mod Walks

@@ -1,0 +1,16 @@
+//! Checks, reads and writes manifests.
+#![tactic(auto)]
+
+mod breach;
+mod declared;
+mod descriptor;
+mod ids;
+mod refusal;
+mod rules;
+mod undeclared;
+mod walk;
+
+pub use declared::Declared;
+pub use descriptor::Descriptor;
+pub use refusal::Refused;
+pub use walk::Walk;
