@@ -1,12 +1,14 @@
 -- Walks over bytes that are to be descriptors.
-use Rattle.std.specs.Prelude.{◌≡◌, ◌≤◌, ℕ, Option, Some, None, Result, Ok, Err, List, [], length}
+use Rattle.std.specs.Prelude.{◌≡◌, ◌<◌, ◌≤◌, ℕ, Option, Some, None, Result, Ok, Err, List, [], length, map}
 use Rattle.gb_formats.specs.Descriptors.{size_at, least_size_at}
+use Rattle.gb_formats.specs.Descriptors as formats
 use Rattle.gb_formats.specs.Manifest.{descriptor_refusal, descriptors_from, in_front}
 use Rattle.gb_formats.specs.ManifestRules as rules
 use Rattle.gb_formats.specs.ManifestRules.{Placed}
 use Rattle.gb_manifest.specs.Values.{descriptor_of, refused_of}
 use Rattle.gb_manifest.specs.declared.descriptor.Descriptor.{Descriptor}
 use Rattle.gb_manifest.specs.declared.refusal.Refused.{Refused}
+use Rattle.gb_manifest.specs.declared.walk.Walk.{Walk}
 
 -- the descriptors that the bytes from a place on are, or the refusal of the first that isn't one
 unfoldable pub walk_from : ℕ → List ℕ → Result (List Placed) rules.Refused
@@ -29,9 +31,22 @@ IsSized at bytes (Err why) = descriptor_refusal at bytes ≡ Some (refused_of wh
 abbrev pub placed_of : ℕ × Descriptor → Placed
 placed_of d = record { at = d.0; descriptor = descriptor_of d.1 }
 
+-- what a walk has before it
+abbrev pub walk_of : Walk → Result (List Placed) rules.Refused
+walk_of w = walk_from w.at w.rest.now
+
+-- a descriptor was passed
+pub record Passes (old new : Walk) (d : ℕ × Descriptor) : Type 0 where
+  pub passed : walk_of old ≡ in_front (placed_of d) (walk_of new)
+  pub shorter : length new.rest.now < length old.rest.now
+
 -- By cases on the answer: the walk had this descriptor in front, or none, or a refusal.
-abbrev pub GoesOn : Result (List Placed) rules.Refused → Result (List Placed) rules.Refused
-    → Result (Option (ℕ × Descriptor)) Refused → Type 0
-GoesOn old new (Ok (Some d)) = old ≡ in_front (placed_of d) new
-GoesOn old new (Ok None) = old ≡ Ok []
-GoesOn old new (Err why) = old ≡ Err (refused_of why)
+abbrev pub GoesOn : Walk → Walk → Result (Option (ℕ × Descriptor)) Refused → Type 0
+GoesOn old new (Ok (Some d)) = Passes old new d
+GoesOn old new (Ok None) = (walk_of old ≡ Ok []) × (new ≡ old)
+GoesOn old new (Err why) = (walk_of old ≡ Err (refused_of why)) × (new ≡ old)
+
+-- the descriptors of a walk that meets no refusal
+abbrev pub descriptors_in : Result (List Placed) rules.Refused → List formats.Descriptor
+descriptors_in (Ok placed) = map (λ p. p.descriptor) placed
+descriptors_in (Err why) = []

@@ -4,7 +4,9 @@
 mod breach;
 mod declared;
 mod descriptor;
+mod descriptors;
 mod ids;
+mod manifest;
 mod refusal;
 mod rules;
 mod undeclared;
@@ -12,5 +14,7 @@ mod walk;
 
 pub use declared::Declared;
 pub use descriptor::Descriptor;
+pub use descriptors::Descriptors;
+pub use manifest::{CportView, Manifest};
 pub use refusal::Refused;
 pub use walk::Walk;
