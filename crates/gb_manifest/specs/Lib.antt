@@ -1,3 +1,4 @@
+pub mod Checks
 pub mod Declarations
 pub mod Met
 pub mod Values

@@ -2,6 +2,7 @@
 #![tactic(auto)]
 
 mod breach;
+mod checks;
 mod declared;
 mod descriptor;
 mod descriptors;
@@ -12,6 +13,7 @@ mod rules;
 mod undeclared;
 mod walk;
 
+pub use checks::check;
 pub use declared::Declared;
 pub use descriptor::Descriptor;
 pub use descriptors::Descriptors;

@@ -1,0 +1,82 @@
+//! Which bytes are a manifest.
+
+ghost use Rattle.std.specs.Prelude.{◌≡◌, ◌↔◌, None, Some, Ok, List, IfOk, IfErr};
+ghost use Rattle.gb_formats.specs.Manifest as formats;
+ghost use Rattle.gb_formats.specs.Manifest.{IsManifest, check_answer, refusal};
+ghost use Rattle.gb_formats.specs.ManifestRules.{Placed};
+ghost use Rattle.gb_manifest.specs.Checks.{Answers, Gathers, IsHeader};
+ghost use Rattle.gb_manifest.specs.Met.{AreDeclared, AreUndeclared};
+ghost use Rattle.gb_manifest.specs.Walks.{walk_of};
+
+use crate::declared::Declared;
+use crate::descriptors::Descriptors;
+use crate::manifest::Manifest;
+use crate::refusal::Refused;
+use crate::rules::rules_refusal;
+use crate::undeclared::Undeclared;
+use crate::walk::Walk;
+use byteorder::{ByteOrder, LittleEndian};
+use gb_base::Reason;
+
+/// How many bytes a manifest's header has.
+const HEADER: usize = 4;
+
+/// The manifest that the bytes are, or where and why they aren't one.
+///
+/// The bytes are walked over twice, whatever they are: once for the descriptors and what they
+/// declare, and once for what they speak of.
+pub fn check(bytes: &[u8]) -> Result<Manifest<'_>, Refused>
+    ensures answer { Answers result (check_answer bytes.now) }
+{
+    let size = header(bytes)?;
+    let (_, rest) = bytes.split_at(HEADER);
+    let walk = Walk::new(HEADER as u32, rest);
+    let declared = gather(walk)?;
+    let undeclared = undeclared(walk, &declared);
+    match rules_refusal(size as u32, &declared, &undeclared) {
+        Some(refused) => Err(refused),
+        None => Ok(Manifest::new(bytes[3], size, Descriptors::new(walk))),
+    }
+}
+
+/// The size in the header, or what the header breaks.
+fn header(bytes: &[u8]) -> Result<u16, Refused>
+    ensures { IsHeader bytes.now result }
+{
+    if bytes.len() < HEADER {
+        return Err(Refused::new(bytes.len() as u32, Reason::ShortHeader));
+    }
+    let size = LittleEndian::read_u16(bytes);
+    if size as usize != bytes.len() {
+        return Err(Refused::new(0, Reason::Size));
+    }
+    if bytes[2] > 0 {
+        return Err(Refused::new(2, Reason::Version));
+    }
+    Ok(size)
+}
+
+/// What the descriptors of a walk declare, or the refusal of the first that isn't one.
+fn gather(walk: Walk<'_>) -> Result<Declared, Refused>
+    ensures { Gathers (walk_of walk.entry) result }
+{
+    let mut walk = walk;
+    let mut declared = Declared::new();
+    while let Some((at, d)) = walk.next()? {
+        declared.take(at, &d);
+    }
+    Ok(declared)
+}
+
+/// What the descriptors of a walk speak of, where they declare this.
+fn undeclared(walk: Walk<'_>, declared: &Declared) -> Undeclared
+    ensures { (all : List Placed) → walk_of walk.entry ≡ Ok all → AreDeclared declared.now all
+        → AreUndeclared result all all }
+{
+    let mut walk = walk;
+    let mut undeclared = Undeclared::new();
+    while let Ok(Some((at, d))) = walk.next() {
+        undeclared.take(declared, at, &d);
+    }
+    undeclared
+}
