@@ -1,6 +1,9 @@
 pub mod Breaches
 pub mod Checked
 pub mod Declarations
+pub mod Fronts
 pub mod Gathered
+pub mod Law
+pub mod Spelt
 pub mod Spoken
 pub mod Walks
