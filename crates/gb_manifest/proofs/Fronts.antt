@@ -88,7 +88,7 @@ spelt_at bytes are h =
     let parts : n - 4 ≡ m + (n - 4 - m) = omega (arith, r.room, r.least, h.least) in
     let rest = take (n - 4 - m) (drop m (drop 4 bytes)) in
     let inner : take (n - 4) (drop 4 bytes) ≡ body_of (descriptor_at bytes) ++ rest =
-        ap (λ k. take k (drop 4 bytes)) parts ∙ take-add m (n - 4 - m) (drop 4 bytes) ∙ ap (λ (l : List ℕ). l ++ rest) r.body in
+    ap (λ k. take k (drop 4 bytes)) parts ∙ take-add m (n - 4 - m) (drop 4 bytes) ∙ ap (λ (l : List ℕ). l ++ rest) r.body in
     record {
       pad = slice_index bytes 3;
       rest = rest;

@@ -1,6 +1,6 @@
 -- Checking bytes answers Ok exactly where they are a manifest, and tells which.
 use Rattle.std.proofs.Common.{◌≡◌, ◌<◌, ◌≤◌, ℕ, zero, suc, ◌+◌, ◌-◌, ◌*◌, ◌/◌, ◌%◌, List, [], ◌∷◌, ◌++◌, length, take, drop, map, Option, Some, None, Result, Ok, Err, refl, sym, ap, subst, ◌∙◌, arith, length-drop}
-use Rattle.std.specs.Prelude.{◌==◌, not, nat_lt, Bool, true, false, if◌then◌else◌, slice_index}
+use Rattle.std.specs.Prelude.{◌==◌, not, nat_lt, ◌↔◌, IfOk, IsOkAnd, Bool, true, false, if◌then◌else◌, slice_index}
 use Rattle.std.proofs.Math.Seq.{drop-append_seam}
 use Rattle.std.proofs.lemmas.Bool.Decides.{nat_tests}
 use Rattle.std.proofs.lemmas.List.{length-take-le, take-append-drop}
@@ -8,8 +8,10 @@ use Rattle.gb_base.specs.Bytes.{AreBytes}
 use Rattle.gb_base.proofs.Bytes.{little_bytes-number2}
 use Rattle.gb_formats.specs.Bytes.{le16}
 use Rattle.gb_formats.specs.Descriptors.{IsDescriptor, descriptor_at, size_at}
-use Rattle.gb_formats.specs.Manifest.{Manifest, AreDescriptors, IsManifest, check_answer, descriptor_refusal, descriptors_from, header_refusal, in_front, major_field, manifest_after, manifest_of, manifest_unless, minor_field}
+use Rattle.gb_formats.specs.Manifest.{Manifest, AreDescriptors, IsManifest, check_answer, descriptor_refusal, descriptors_from, header_refusal, in_front, major_field, manifest_after, manifest_of, manifest_unless, minor_field, refusal, refusal_in}
 use Rattle.gb_formats.specs.ManifestRules.{Placed, Refused, rules_refusal}
+use Rattle.gb_manifest.specs.Checks.{Answers}
+use Rattle.gb_manifest.specs.declared.refusal.Refused as code
 use Rattle.gb_manifest.specs.Walks.{walk_from}
 use Rattle.gb_manifest.proofs.Checked.{answer_rules}
 use Rattle.gb_manifest.proofs.Fronts.{spelt_at, read_back}
@@ -49,7 +51,7 @@ spelt_by fuel at b bs placed None r short are e later =
     let len : length (take size bytes) ≡ size = length-take-le size bytes h.within in
     let shorter : length (drop size bytes) ≤ fuel = omega (arith, length-drop size bytes, h.eight) in
     let behind : AreDescriptors (at + length (take size bytes)) (drop size bytes) rest.0 =
-        subst (λ (n : ℕ). AreDescriptors (at + n) (drop size bytes) rest.0) (sym len) (later (at + size) (drop size bytes) rest.0 shorter (bytes_behind size bytes are) rest.1) in
+    subst (λ (n : ℕ). AreDescriptors (at + n) (drop size bytes) rest.0) (sym len) (later (at + size) (drop size bytes) rest.0 shorter (bytes_behind size bytes are) rest.1) in
     subst (λ (ps : List Placed). AreDescriptors at bytes ps) (sym rest.2)
     (take size bytes, drop size bytes, sym (take-append-drop size bytes), refl, spelt_at bytes are h, behind)
 
@@ -189,3 +191,29 @@ answered bytes m h =
     ∙ ap (λ x. Ok (record { minor = x; size = length bytes; descriptors = map (λ d. d.descriptor) h.placed })) minor
     ∙ ap (λ x. Ok (record { minor = m.minor; size = x; descriptors = map (λ d. d.descriptor) h.placed })) (sym h.size)
     ∙ ap (λ x. Ok (record { minor = m.minor; size = m.size; descriptors = x })) (sym h.listed)
+
+-- ---- what follows of an answer
+
+pub only : (bytes : List ℕ) (m n : Manifest) → IsManifest bytes m → IsManifest bytes n → m ≡ n
+only bytes m n p q =
+    let a = answered bytes m p in
+    let b = answered bytes n q in
+    cc
+
+ok_refusal : (r : Result Manifest Refused) → refusal_in r ≡ None → (m : Manifest) × (r ≡ Ok m)
+ok_refusal (Ok m) e = (m, refl)
+ok_refusal (Err why) e = absurd cc
+
+pub law : (bytes : List ℕ) → AreBytes bytes → (refusal bytes ≡ None) ↔ ((m : Manifest) × IsManifest bytes m)
+law bytes are = (
+  λ e. let ok = ok_refusal (check_answer bytes) e in (ok.0, accepted bytes ok.0 are ok.1),
+  λ (m, p). ap refusal_in (answered bytes m p),
+)
+
+pub manifest_told : (bytes : List ℕ) (r : Result Manifest code.Refused) → AreBytes bytes → Answers r (check_answer bytes) → IfOk r (λ m. IsManifest bytes m)
+manifest_told bytes (Ok m) are e = accepted bytes m are e
+manifest_told bytes (Err why) are e = tt
+
+pub whole_told : (bytes : List ℕ) (r : Result Manifest code.Refused) (m : Manifest) → Answers r (check_answer bytes) → IsManifest bytes m → IsOkAnd r (λ v. v ≡ m)
+whole_told bytes (Ok v) m e p = let a = answered bytes m p in cc
+whole_told bytes (Err why) m e p = let a = answered bytes m p in absurd cc

@@ -1,6 +1,6 @@
 //! Which bytes are a manifest.
 
-ghost use Rattle.std.specs.Prelude.{◌≡◌, ◌↔◌, None, Some, Ok, List, IfOk, IfErr};
+ghost use Rattle.std.specs.Prelude.{◌≡◌, ◌↔◌, None, Ok, List, IfOk, IsOkAnd};
 ghost use Rattle.gb_formats.specs.Manifest as formats;
 ghost use Rattle.gb_formats.specs.Manifest.{IsManifest, check_answer, refusal};
 ghost use Rattle.gb_formats.specs.ManifestRules.{Placed};
@@ -22,11 +22,26 @@ use gb_base::Reason;
 const HEADER: usize = 4;
 
 /// The manifest that the bytes are, or where and why they aren't one.
-///
-/// The bytes are walked over twice, whatever they are: once for the descriptors and what they
-/// declare, and once for what they speak of.
 pub fn check(bytes: &[u8]) -> Result<Manifest<'_>, Refused>
+    // The answer is that of the definition: the manifest, or the first step of the table.
     ensures answer { Answers result (check_answer bytes.now) }
+
+    // Ok comes exactly where the bytes are a manifest, and tells which.
+    ensures manifest { IfOk result (λ m. IsManifest bytes.now m) }
+    ensures whole { (m : formats.Manifest) → IsManifest bytes.now m → IsOkAnd result (λ v. v ≡ m) }
+
+    // No bytes are two manifests, and there is no refusal exactly where they are one.
+    ensures only { (m n : formats.Manifest) → IsManifest bytes.now m → IsManifest bytes.now n → m ≡ n }
+    ensures law { (refusal bytes.now ≡ None) ↔ ((m : formats.Manifest) × IsManifest bytes.now m) }
+{
+    let answer = checked(bytes);
+    answer
+}
+
+/// The same, by walking over the bytes twice: once for the descriptors and what they declare, and once
+/// for what they speak of.
+fn checked(bytes: &[u8]) -> Result<Manifest<'_>, Refused>
+    ensures { Answers result (check_answer bytes.now) }
 {
     let size = header(bytes)?;
     let (_, rest) = bytes.split_at(HEADER);

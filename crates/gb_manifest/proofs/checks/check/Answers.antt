@@ -1,40 +1,15 @@
-use Rattle.std.proofs.Common.{◌≡◌, Some, None, length, option_map, sym, ap, ◌∙◌}
-use Rattle.std.proofs.lemmas.Result.{err_from_is_err_and}
-use Rattle.gb_formats.specs.ManifestRules.{rules_refusal}
-use Rattle.gb_manifest.specs.Values.{refused_of}
-use Rattle.gb_manifest.specs.Walks.{descriptors_in, walk_from}
-use Rattle.gb_manifest.proofs.Checked.{answer_descriptor, answer_rules, manifest_is}
+use Rattle.std.proofs.Common.{arith}
+use Rattle.gb_base.specs.Bytes.{AreBytes}
+use Rattle.gb_manifest.proofs.Law.{law, manifest_told, only, whole_told}
 use Rattle.gb_manifest.proofs.checks.check.Goals as goal
 
-pub returns-in_err-declared : goal.returns-in_err-declared
-returns-in_err-declared c =
-    let walk_is = ap (λ xs. walk_from 4 xs) (sym c.split_at.ensures.back) ∙ sym c.new-walk.ensures in
-    let p = err_from_is_err_and c.from_residual-in_err-declared.result c.from_residual-in_err-declared.ensures.1 in
-    record { answer = rw (p.1, p.2) (answer_descriptor c.args.bytes.now _ c.in_ok-size.ensures.sound (walk_is ∙ c.in_err-declared.ensures)) }
-
-pub returns-in-Some : goal.returns-in-Some
-returns-in-Some c =
-    let walk_is = ap (λ xs. walk_from 4 xs) (sym c.split_at.ensures.back) ∙ sym c.new-walk.ensures in
-    let header = c.in_ok-size.ensures in
-    let declares = c.in_ok-declared.ensures in
-    let all = declares.all in
-    let undeclared = c.undeclared-undeclared.ensures all declares.whole declares.declared_are in
-    let ruled = c.rules_refusal.ensures all declares.declared_are undeclared in
-    let found : option_map refused_of c.rules_refusal.result ≡ Some (refused_of c.in-Some.refused) = ap (λ r. option_map refused_of r) c.in-Some.is in
-    let broken : rules_refusal (length c.args.bytes.now) all ≡ Some (refused_of c.in-Some.refused) = ap (λ n. rules_refusal n all) (sym header.size_is) ∙ sym ruled ∙ found in
-    record { answer = answer_rules c.args.bytes.now all _ header.sound (walk_is ∙ declares.whole) broken }
-
-pub returns-in-None : goal.returns-in-None
-returns-in-None c =
-    let walk_is = ap (λ xs. walk_from 4 xs) (sym c.split_at.ensures.back) ∙ sym c.new-walk.ensures in
-    let header = c.in_ok-size.ensures in
-    let declares = c.in_ok-declared.ensures in
-    let all = declares.all in
-    let undeclared = c.undeclared-undeclared.ensures all declares.whole declares.declared_are in
-    let ruled = c.rules_refusal.ensures all declares.declared_are undeclared in
-    let found : option_map refused_of c.rules_refusal.result ≡ None = ap (λ r. option_map refused_of r) c.in-None.is in
-    let broken : rules_refusal (length c.args.bytes.now) all ≡ None = ap (λ n. rules_refusal n all) (sym header.size_is) ∙ sym ruled ∙ found in
+pub returns : goal.returns
+returns c =
+    let are : AreBytes c.args.bytes.now = λ k. omega (arith, c.type_inv.bytes k) in
     record {
-      answer = answer_rules c.args.bytes.now all _ header.sound (walk_is ∙ declares.whole) broken
-          ∙ manifest_is _ _ _ _ _ header.size_is (c.new.ensures ∙ ap descriptors_in declares.whole) c.new-in-None.ensures;
+      answer = c.checked-answer.ensures;
+      manifest = manifest_told c.args.bytes.now _ are c.checked-answer.ensures;
+      whole = λ m p. whole_told c.args.bytes.now _ m c.checked-answer.ensures p;
+      only = only c.args.bytes.now;
+      law = law c.args.bytes.now are;
     }
