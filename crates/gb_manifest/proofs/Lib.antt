@@ -4,6 +4,9 @@ pub mod Declarations
 pub mod Fronts
 pub mod Gathered
 pub mod Law
+pub mod Listing
+pub mod Places
+pub mod PlainBytes
 pub mod Spelt
 pub mod Spoken
 pub mod Walks

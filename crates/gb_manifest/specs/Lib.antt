@@ -3,3 +3,4 @@ pub mod Declarations
 pub mod Met
 pub mod Values
 pub mod Walks
+pub mod Writes

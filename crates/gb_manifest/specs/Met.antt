@@ -2,28 +2,28 @@
 use Rattle.std.specs.Prelude.{◌≡◌, ◌<◌, ℕ, None, List, []}
 use Rattle.gb_formats.specs.ManifestRules.{Placed, first_breach, has, is_interface, is_string, is_bundle, is_cport, second_interface, string_zero, string_twice, bundle_twice, cport_above, cport_twice, wrong_control, without_bundle, without_vendor, without_product}
 use Rattle.gb_manifest.specs.Declarations.{is_met}
-use Rattle.gb_manifest.specs.declared.declared.Interfaces.{Interfaces}
-use Rattle.gb_manifest.specs.declared.declared.Strings.{Strings}
-use Rattle.gb_manifest.specs.declared.declared.Bundles.{Bundles}
-use Rattle.gb_manifest.specs.declared.declared.Cports.{Cports}
+use Rattle.gb_manifest.specs.declared.declared.MetInterfaces.{MetInterfaces}
+use Rattle.gb_manifest.specs.declared.declared.MetStrings.{MetStrings}
+use Rattle.gb_manifest.specs.declared.declared.MetBundles.{MetBundles}
+use Rattle.gb_manifest.specs.declared.declared.MetCports.{MetCports}
 use Rattle.gb_manifest.specs.declared.declared.Declared.{Declared}
 use Rattle.gb_manifest.specs.declared.undeclared.Undeclared.{Undeclared}
 
-pub record AreInterfaces (x : Interfaces) (all : List Placed) : Type 0 where
+pub record AreInterfaces (x : MetInterfaces) (all : List Placed) : Type 0 where
   pub any : x.any ≡ has is_interface all
   pub second : x.second ≡ first_breach second_interface [] all
 
-pub record AreStrings (x : Strings) (all : List Placed) : Type 0 where
+pub record AreStrings (x : MetStrings) (all : List Placed) : Type 0 where
   pub zero : x.zero ≡ first_breach string_zero [] all
   pub twice : x.twice ≡ first_breach string_twice [] all
   pub met : (id : ℕ) → id < 256 → is_met x.met.marks id ≡ has (is_string id) all
 
-pub record AreBundles (x : Bundles) (all : List Placed) : Type 0 where
+pub record AreBundles (x : MetBundles) (all : List Placed) : Type 0 where
   pub twice : x.twice ≡ first_breach bundle_twice [] all
   pub met : (id : ℕ) → id < 256 → is_met x.met.marks id ≡ has (is_bundle id) all
 
 -- An id above the greatest has no mark. Where there is none, the marks are those of all CPorts.
-pub record AreCports (x : Cports) (all : List Placed) : Type 0 where
+pub record AreCports (x : MetCports) (all : List Placed) : Type 0 where
   pub above : x.above ≡ first_breach cport_above [] all
   pub twice : x.above ≡ None → x.twice ≡ first_breach cport_twice [] all
   pub control : x.control ≡ first_breach wrong_control [] all

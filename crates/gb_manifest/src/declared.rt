@@ -26,7 +26,7 @@ const CONTROL: u8 = 0;
 
 /// The interfaces.
 #[derive(Drop)]
-pub struct Interfaces {
+pub struct MetInterfaces {
     /// There is one.
     pub any: bool,
     /// The place of the second.
@@ -35,7 +35,7 @@ pub struct Interfaces {
 
 /// The strings.
 #[derive(Drop)]
-pub struct Strings {
+pub struct MetStrings {
     met: Ids<BYTE_IDS>,
     /// The place of the first with id 0.
     pub zero: Option<u32>,
@@ -45,7 +45,7 @@ pub struct Strings {
 
 /// The bundles.
 #[derive(Drop)]
-pub struct Bundles {
+pub struct MetBundles {
     met: Ids<BYTE_IDS>,
     /// The place of the first whose id an earlier one has.
     pub twice: Option<u32>,
@@ -53,7 +53,7 @@ pub struct Bundles {
 
 /// The CPorts. Ids above the greatest are not kept.
 #[derive(Drop)]
-pub struct Cports {
+pub struct MetCports {
     met: Ids<CPORT_IDS>,
     /// The place of the first whose id is above the greatest.
     pub above: Option<u32>,
@@ -67,16 +67,16 @@ pub struct Cports {
 #[derive(Drop)]
 pub struct Declared {
     /// The interfaces.
-    pub interfaces: Interfaces,
+    pub interfaces: MetInterfaces,
     /// The strings.
-    pub strings: Strings,
+    pub strings: MetStrings,
     /// The bundles.
-    pub bundles: Bundles,
+    pub bundles: MetBundles,
     /// The CPorts.
-    pub cports: Cports,
+    pub cports: MetCports,
 }
 
-impl Interfaces {
+impl MetInterfaces {
     /// Takes an interface.
     fn take(&mut self, at: u32)
         ensures { (before : List Placed) (vendor product features : ℕ)
@@ -89,7 +89,7 @@ impl Interfaces {
     }
 }
 
-impl Strings {
+impl MetStrings {
     /// Takes a string.
     fn take(&mut self, at: u32, id: u8)
         ensures { (before : List Placed) (bytes : List ℕ) → AreStrings self.old before
@@ -108,7 +108,7 @@ impl Strings {
     }
 }
 
-impl Bundles {
+impl MetBundles {
     /// Takes a bundle.
     fn take(&mut self, at: u32, id: u8)
         ensures { (before : List Placed) (class : ℕ) → AreBundles self.old before
@@ -126,7 +126,7 @@ impl Bundles {
     }
 }
 
-impl Cports {
+impl MetCports {
     /// Takes a CPort.
     fn take(&mut self, at: u32, id: u16, bundle: u8, protocol: u8)
         ensures { (before : List Placed) → AreCports self.old before
@@ -157,20 +157,20 @@ impl Declared {
         ensures { AreDeclared result [] }
     {
         Declared {
-            interfaces: Interfaces {
+            interfaces: MetInterfaces {
                 any: false,
                 second: None,
             },
-            strings: Strings {
+            strings: MetStrings {
                 met: Ids::new(),
                 zero: None,
                 twice: None,
             },
-            bundles: Bundles {
+            bundles: MetBundles {
                 met: Ids::new(),
                 twice: None,
             },
-            cports: Cports {
+            cports: MetCports {
                 met: Ids::new(),
                 above: None,
                 twice: None,

@@ -66,10 +66,11 @@ pub enum Descriptor<'a> {
 }
 
 /// The least size of a string descriptor whose string has so many bytes.
-pub(crate) fn words_size(len: u8) -> usize
+pub(crate) fn words_size(len: usize) -> usize
+    requires { len < 9223372036854775808 }
     ensures { result ≡ words_size len }
 {
-    (len as usize + 6).next_multiple_of(4)
+    (len + 9) / 4 * 4
 }
 
 /// The size of the descriptor at the front of these bytes, which are left from this place on; or what
@@ -89,7 +90,7 @@ pub(crate) fn size_at_front(at: u32, bytes: &[u8]) -> Result<usize, Refused>
     if kind < INTERFACE || kind > CPORT {
         return Err(Refused::new(at + 2, Reason::DescriptorType));
     }
-    if size < LEAST || kind == WORDS && size < words_size(bytes[4]) {
+    if size < LEAST || kind == WORDS && size < words_size(bytes[4] as usize) {
         return Err(Refused::new(at, Reason::DescriptorShort));
     }
     Ok(size)

@@ -6,7 +6,7 @@ ghost use Rattle.gb_manifest.specs.Met.{AreDeclared, AreStrings, AreUndeclared};
 ghost use Rattle.gb_manifest.specs.Walks.{placed_of};
 
 use crate::breach::first_place;
-use crate::declared::{Declared, Strings};
+use crate::declared::{Declared, MetStrings};
 use crate::descriptor::Descriptor;
 
 /// The places of the first descriptors that speak of what isn't declared.
@@ -21,7 +21,7 @@ pub struct Undeclared {
 }
 
 /// A string of this id is spoken of, since the id isn't 0, and isn't declared.
-fn lacks(strings: &Strings, id: u8) -> bool
+fn lacks(strings: &MetStrings, id: u8) -> bool
     ensures { (all : List Placed) → AreStrings strings.now all → result ≡ lacks_string all id }
 {
     id != 0 && !strings.has(id)

@@ -1,7 +1,7 @@
 use Rattle.std.proofs.Common.{arith, ap, ◌∙◌}
 use Rattle.gb_manifest.specs.Declarations.{first_place}
 use Rattle.gb_manifest.proofs.Declarations.{words_taken}
-use Rattle.gb_manifest.proofs.declared.Strings.take.Goals as goal
+use Rattle.gb_manifest.proofs.declared.MetStrings.take.Goals as goal
 
 pub returns : goal.returns
 returns c before bytes h =

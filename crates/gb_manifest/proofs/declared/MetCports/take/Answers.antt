@@ -1,7 +1,7 @@
 use Rattle.std.proofs.Common.{refl, arith, ap, ◌∙◌}
 use Rattle.gb_manifest.specs.Declarations.{first_place}
 use Rattle.gb_manifest.proofs.Declarations.{cport_taken, cport_above_taken}
-use Rattle.gb_manifest.proofs.declared.Cports.take.Goals as goal
+use Rattle.gb_manifest.proofs.declared.MetCports.take.Goals as goal
 
 pub returns-then-id-le-GREATEST_CPORT : goal.returns-then-id-le-GREATEST_CPORT
 returns-then-id-le-GREATEST_CPORT c before h =
