@@ -1,7 +1,7 @@
 -- The answer of a check, from its header, its descriptors and the rules.
-use Rattle.std.proofs.Common.{◌≡◌, ℕ, List, drop, length, map, Option, Some, None, Ok, Err, refl, ap, ◌∙◌}
+use Rattle.std.proofs.Common.{◌≡◌, ℕ, List, drop, length, map, Option, Some, None, Ok, Err, ap, ◌∙◌}
 use Rattle.gb_formats.specs.Descriptors.{Descriptor}
-use Rattle.gb_formats.specs.Manifest.{Manifest, check_answer, header_refusal, manifest_after, manifest_of, manifest_unless, minor_field, descriptors_from}
+use Rattle.gb_formats.specs.Manifest.{Manifest, check_answer, header_refusal, manifest_after, manifest_of, manifest_unless, minor_field}
 use Rattle.gb_formats.specs.ManifestRules.{Placed, Refused, rules_refusal}
 use Rattle.gb_manifest.specs.Walks.{walk_from}
 

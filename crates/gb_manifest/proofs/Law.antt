@@ -1,5 +1,5 @@
 -- Checking bytes answers Ok exactly where they are a manifest, and tells which.
-use Rattle.std.proofs.Common.{◌≡◌, ◌<◌, ◌≤◌, ℕ, zero, suc, ◌+◌, ◌-◌, ◌*◌, ◌/◌, ◌%◌, List, [], ◌∷◌, ◌++◌, length, take, drop, map, Option, Some, None, Result, Ok, Err, refl, sym, ap, subst, ◌∙◌, arith, length-drop}
+use Rattle.std.proofs.Common.{◌≡◌, ◌<◌, ◌≤◌, ℕ, zero, suc, ◌+◌, ◌*◌, ◌/◌, ◌%◌, List, [], ◌∷◌, ◌++◌, length, take, drop, map, Option, Some, None, Result, Ok, Err, refl, sym, ap, subst, ◌∙◌, arith, length-drop}
 use Rattle.std.specs.Prelude.{◌==◌, not, nat_lt, ◌↔◌, IfOk, IsOkAnd, Bool, true, false, if◌then◌else◌, slice_index}
 use Rattle.std.proofs.Math.Seq.{drop-append_seam}
 use Rattle.std.proofs.lemmas.Bool.Decides.{nat_tests}
@@ -7,7 +7,7 @@ use Rattle.std.proofs.lemmas.List.{length-take-le, take-append-drop}
 use Rattle.gb_base.specs.Bytes.{AreBytes}
 use Rattle.gb_base.proofs.Bytes.{little_bytes-number2}
 use Rattle.gb_formats.specs.Bytes.{le16}
-use Rattle.gb_formats.specs.Descriptors.{IsDescriptor, descriptor_at, size_at}
+use Rattle.gb_formats.specs.Descriptors.{descriptor_at, size_at}
 use Rattle.gb_formats.specs.Manifest.{Manifest, AreDescriptors, IsManifest, check_answer, descriptor_refusal, descriptors_from, header_refusal, in_front, major_field, manifest_after, manifest_of, manifest_unless, minor_field, refusal, refusal_in}
 use Rattle.gb_formats.specs.ManifestRules.{Placed, Refused, rules_refusal}
 use Rattle.gb_manifest.specs.Checks.{Answers}

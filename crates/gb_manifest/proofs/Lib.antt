@@ -10,3 +10,4 @@ pub mod PlainBytes
 pub mod Spelt
 pub mod Spoken
 pub mod Walks
+pub mod Written

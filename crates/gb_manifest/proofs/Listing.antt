@@ -1,8 +1,7 @@
 -- The descriptors of a spec, some of which were taken.
-use Rattle.std.proofs.Common.{◌≡◌, ◌<◌, ℕ, ◌+◌, List, [], ◌∷◌, ◌++◌, length, map, Option, Some, None, refl, sym, ap, ◌∙◌, arith, append_assoc, length-append, option_map}
+use Rattle.std.proofs.Common.{◌≡◌, ◌<◌, ℕ, ◌+◌, List, [], ◌∷◌, ◌++◌, length, Option, Some, None, refl, sym, ap, ◌∙◌, arith, append_assoc, length-append, option_map}
 use Rattle.std.proofs.lemmas.List.{map-append}
 use Rattle.gb_formats.specs.Descriptors.{Descriptor, least_size, plain_descriptor}
-use Rattle.gb_formats.specs.ManifestRules.{Placed}
 use Rattle.gb_manifest.specs.Declarations.{place}
 use Rattle.gb_manifest.specs.Values.{refused_of}
 use Rattle.gb_manifest.specs.Writes.{unplaced}

@@ -1,5 +1,5 @@
 -- Descriptors with their least sizes and zero pads.
-use Rattle.std.proofs.Common.{◌≡◌, ◌≤◌, ◌<◌, ℕ, zero, suc, take, ◌+◌, ◌-◌, ◌*◌, ◌/◌, ◌%◌, List, [], ◌∷◌, ◌++◌, length, map, Option, Some, None, refl, sym, ap, subst, ◌∙◌, arith, append_assoc, append-nil, length-append, replicate}
+use Rattle.std.proofs.Common.{◌≡◌, ◌≤◌, ℕ, zero, suc, take, ◌+◌, ◌-◌, ◌%◌, List, [], ◌∷◌, ◌++◌, length, map, Option, Some, None, refl, sym, ap, subst, ◌∙◌, arith, append_assoc, append-nil, length-append, replicate}
 use Rattle.std.specs.Prelude.{⊤, cond, nat_lt, Bool, true, false}
 use Rattle.std.specs.List.{concat}
 use Rattle.std.proofs.lemmas.List.{length-replicate}
@@ -7,7 +7,6 @@ use Rattle.std.proofs.lemmas.Bool.Decides.{nat_tests}
 use Rattle.gb_formats.specs.Bytes.{le16}
 use Rattle.gb_formats.specs.Descriptors.{Descriptor, IdFits, IsDescriptor, body_of, least_size, plain_descriptor, type_of, words_size}
 use Rattle.gb_formats.specs.Manifest.{AreDescriptors}
-use Rattle.gb_formats.specs.ManifestRules.{Placed}
 use Rattle.gb_formats.specs.ManifestSpec.{BundleSpec, CportSpec, StringSpec, bundle_descriptor, cport_descriptor, long_string, placed_from, string_descriptor}
 use Rattle.gb_manifest.specs.Writes.{AllFit, IsShort}
 

@@ -1,14 +1,8 @@
 -- A descriptor at the front of bytes: its parts, and what is wrong with it.
-use Rattle.std.proofs.Common.{◌≡◌, ◌<◌, ◌≤◌, ℕ, zero, suc, ◌+◌, ◌-◌, ◌*◌, ◌/◌, ◌%◌, Bool, true, false, List, [], ◌∷◌, ◌++◌, length, take, drop, Option, Some, None, refl, sym, ap, subst, ◌∙◌, arith, append_assoc, length-append, length-drop, cond}
-use Rattle.std.specs.Prelude.{◌==◌, ◌&&◌, ◌||◌, not, nat_lt, nat_le, if◌then◌else◌, slice_index}
-use Rattle.std.proofs.Math.Seq.{take-add, take-append_seam, drop-append_seam}
+use Rattle.std.proofs.Common.{◌≡◌, ◌≤◌, ℕ, ◌%◌, Bool, true, false, List, length, Some, None, refl, arith}
+use Rattle.std.specs.Prelude.{◌==◌, ◌&&◌, not, nat_lt, nat_le, if◌then◌else◌}
 use Rattle.std.proofs.lemmas.Bool.Decides.{nat_tests}
-use Rattle.std.proofs.lemmas.List.{length-take-le, take-append-drop}
-use Rattle.byteorder.specs.Endian.{little_number}
-use Rattle.gb_base.specs.Bytes.{AreBytes}
-use Rattle.gb_base.proofs.Bytes.{little_bytes-number2, little_bytes-number2_front}
-use Rattle.gb_formats.specs.Bytes.{le16}
-use Rattle.gb_formats.specs.Descriptors.{Descriptor, IsDescriptor, body_of, descriptor_at, least_size, least_size_at, size_at, string_length_at, type_at, type_of, words_size}
+use Rattle.gb_formats.specs.Descriptors.{least_size_at, size_at, string_length_at, type_at, words_size}
 use Rattle.gb_formats.specs.Manifest.{descriptor_refusal, wrong_size}
 use Rattle.gb_formats.specs.ManifestRules.{Refused}
 

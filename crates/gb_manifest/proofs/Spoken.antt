@@ -1,9 +1,9 @@
 -- What isn't declared, with one descriptor more.
-use Rattle.std.proofs.Common.{◌≡◌, ℕ, Bool, false, List, [], ◌∷◌, ◌++◌, Option, refl, sym, ap, ◌∙◌}
+use Rattle.std.proofs.Common.{◌≡◌, ℕ, Bool, false, List, [], ◌∷◌, ◌++◌, refl, sym, ap, ◌∙◌}
 use Rattle.std.specs.Prelude.{not}
 use Rattle.gb_formats.specs.Descriptors.{Descriptor}
 use Rattle.gb_formats.specs.ManifestRules.{Placed, has, is_bundle, lacks_string, without_bundle, without_vendor, without_product}
-use Rattle.gb_manifest.specs.Declarations.{first_place, is_met, place}
+use Rattle.gb_manifest.specs.Declarations.{first_place, place}
 use Rattle.gb_manifest.specs.Met.{AreUndeclared}
 use Rattle.gb_manifest.specs.declared.undeclared.Undeclared.{Undeclared}
 use Rattle.gb_manifest.proofs.Breaches.{first_breach-kept}

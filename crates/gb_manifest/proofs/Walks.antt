@@ -1,9 +1,9 @@
 -- A walk, one descriptor at a time.
-use Rattle.std.proofs.Common.{◌≡◌, ◌≢◌, ℕ, zero, suc, ◌+◌, ◌-◌, ◌≤◌, List, [], ◌∷◌, length, drop, Option, Some, None, Result, Ok, Err, refl, sym, ap, subst, ◌∙◌, arith, add-one}
+use Rattle.std.proofs.Common.{◌≡◌, ◌≢◌, ℕ, zero, suc, ◌+◌, ◌-◌, ◌≤◌, List, [], ◌∷◌, length, drop, Some, None, Ok, Err, refl, ap, ◌∙◌, arith}
 use Rattle.gb_formats.specs.Descriptors.{descriptor_at, size_at}
 use Rattle.gb_formats.specs.Manifest.{descriptor_refusal, descriptors_from, descriptor_then, in_front}
-use Rattle.gb_formats.specs.ManifestRules.{Placed, Refused}
-use Rattle.gb_manifest.specs.Walks.{FrontIs, walk_from}
+use Rattle.gb_formats.specs.ManifestRules.{Refused}
+use Rattle.gb_manifest.specs.Walks.{walk_from}
 
 -- bytes are passed over one by one or all at once
 pub descriptors_from-skip : (skip at : ℕ) (bytes : List ℕ) → descriptors_from skip at bytes ≡ descriptors_from 0 (at + skip) (drop skip bytes)

@@ -1,5 +1,5 @@
 -- What checking bytes answers.
-use Rattle.std.specs.Prelude.{◌≡◌, ◌≤◌, ℕ, Option, Some, None, Result, Ok, Err, List, length}
+use Rattle.std.specs.Prelude.{◌≡◌, ◌≤◌, ℕ, Some, None, Result, Ok, Err, List, length}
 use Rattle.gb_formats.specs.Manifest as formats
 use Rattle.gb_formats.specs.Manifest.{header_refusal}
 use Rattle.gb_formats.specs.ManifestRules as rules

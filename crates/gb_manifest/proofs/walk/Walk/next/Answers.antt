@@ -1,8 +1,6 @@
-use Rattle.std.proofs.Common.{◌≡◌, ◌≢◌, ◌≤◌, length, refl, rules, arith, ap, ◌∙◌, tests}
+use Rattle.std.proofs.Common.{◌≡◌, ◌≢◌, ◌≤◌, length, refl, rules, arith, ◌∙◌, tests}
 use Rattle.std.proofs.lemmas.Result.{err_from_is_err_and}
-use Rattle.gb_formats.specs.Manifest.{in_front}
 use Rattle.gb_manifest.specs.Values.{refused_of}
-use Rattle.gb_manifest.specs.Walks.{walk_from, placed_of}
 use Rattle.gb_manifest.proofs.Walks.{walk_from-empty, walk_from-refused, walk_from-front, length-none, length-some}
 use Rattle.gb_manifest.proofs.walk.Walk.next.Goals as goal
 
