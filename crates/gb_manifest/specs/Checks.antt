@@ -10,7 +10,8 @@ use Rattle.gb_manifest.specs.declared.declared.Declared.{Declared}
 use Rattle.gb_manifest.specs.declared.refusal.Refused.{Refused}
 
 -- the answer is the same, as the code has it
-abbrev pub Answers : Result formats.Manifest Refused → Result formats.Manifest rules.Refused → Type 0
+abbrev pub Answers : Result formats.Manifest Refused → Result formats.Manifest rules.Refused
+    → Type 0
 Answers (Ok m) answer = answer ≡ Ok m
 Answers (Err why) answer = answer ≡ Err (refused_of why)
 

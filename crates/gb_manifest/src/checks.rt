@@ -31,15 +31,15 @@ pub fn check(bytes: &[u8]) -> Result<Manifest<'_>, Refused>
     ensures whole { (m : formats.Manifest) → IsManifest bytes.now m → IsOkAnd result (λ v. v ≡ m) }
 
     // No bytes are two manifests, and there is no refusal exactly where they are one.
-    ensures only { (m n : formats.Manifest) → IsManifest bytes.now m → IsManifest bytes.now n → m ≡ n }
+    ensures only { (m n : formats.Manifest)
+        → IsManifest bytes.now m → IsManifest bytes.now n → m ≡ n }
     ensures law { (refusal bytes.now ≡ None) ↔ ((m : formats.Manifest) × IsManifest bytes.now m) }
 {
-    let answer = checked(bytes);
-    answer
+    checked(bytes)
 }
 
-/// The same, by walking over the bytes twice: once for the descriptors and what they declare, and once
-/// for what they speak of.
+/// The answer, by walking over the bytes twice: once for the descriptors and what they declare, and
+/// once for what they speak of.
 fn checked(bytes: &[u8]) -> Result<Manifest<'_>, Refused>
     ensures { Answers result (check_answer bytes.now) }
 {

@@ -5,7 +5,8 @@ ghost use Rattle.std.specs.Prelude.{◌≡◌, ℕ, ◌<◌, [], ◌∷◌, ◌+
 ghost use Rattle.gb_formats.specs.Descriptors as formats;
 ghost use Rattle.gb_formats.specs.ManifestRules.{Placed, wrong_control};
 ghost use Rattle.gb_manifest.specs.Declarations.{is_met, place};
-ghost use Rattle.gb_manifest.specs.Met.{AreBundles, AreCports, AreDeclared, AreInterfaces, AreStrings};
+ghost use Rattle.gb_manifest.specs.Met.{AreBundles, AreCports, AreDeclared};
+ghost use Rattle.gb_manifest.specs.Met.{AreInterfaces, AreStrings};
 ghost use Rattle.gb_manifest.specs.Walks.{placed_of};
 
 use crate::breach::first_place;

@@ -73,8 +73,8 @@ pub(crate) fn words_size(len: usize) -> usize
     (len + 9) / 4 * 4
 }
 
-/// The size of the descriptor at the front of these bytes, which are left from this place on; or what
-/// it breaks by itself.
+/// The size of the descriptor at the front of these bytes, which are left from this place on; or
+/// what it breaks by itself.
 pub(crate) fn size_at_front(at: u32, bytes: &[u8]) -> Result<usize, Refused>
     requires { at + 2 < 4294967296 }
     ensures { IsSized at bytes.now result }

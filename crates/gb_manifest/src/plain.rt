@@ -60,7 +60,8 @@ pub fn put_descriptor(d: &Descriptor<'_>, out: &mut Bytes) -> Result<(), OutOfMe
 /// Appends the descriptor of a string.
 fn put_words(id: u8, string: &[u8], out: &mut Bytes) -> Result<(), OutOfMemory>
     requires { length string.now ≤ 255 }
-    ensures { OnOk result (out.new ≡ out.old ++ plain_descriptor (formats.Descriptor.Words id string.now)) }
+    ensures { OnOk result (out.new
+        ≡ out.old ++ plain_descriptor (formats.Descriptor.Words id string.now)) }
 {
     let size = words_size(string.len());
     let mut head = [0, 0, WORDS, 0, string.len() as u8, id];

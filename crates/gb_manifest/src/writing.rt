@@ -3,9 +3,11 @@
 ghost use Rattle.std.specs.Prelude.{◌≡◌, None, Ok, length, map, IfOk, option_map};
 ghost use Rattle.gb_formats.specs.Manifest.{check_answer};
 ghost use Rattle.gb_formats.specs.ManifestRules.{rules_refusal};
-ghost use Rattle.gb_formats.specs.ManifestSpec.{long_string, plain, plain_size, spec_descriptors, write_answer};
+ghost use Rattle.gb_formats.specs.ManifestSpec.{long_string, plain, plain_size};
+ghost use Rattle.gb_formats.specs.ManifestSpec.{spec_descriptors, write_answer};
 ghost use Rattle.gb_manifest.specs.Met.{AreDeclared, AreUndeclared};
-ghost use Rattle.gb_manifest.specs.Writes.{IsSizeOf, Writes, spec_of, string_spec, unplaced, written};
+ghost use Rattle.gb_manifest.specs.Writes.{IsSizeOf, Writes, spec_of, string_spec};
+ghost use Rattle.gb_manifest.specs.Writes.{unplaced, written};
 
 use crate::declared::Declared;
 use crate::listed::Listed;
@@ -44,8 +46,8 @@ impl From<OutOfMemory> for WriteFault {
     }
 }
 
-/// The manifest of a spec, with least sizes and zero pads. The faults are tried in the order in which
-/// they stand.
+/// The manifest of a spec, with least sizes and zero pads. The faults are tried in the order in
+/// which they stand.
 pub fn write(alloc: Global, spec: &ManifestSpec) -> Result<Bytes, WriteFault>
     // The answer is that of the definition, unless memory is wanting.
     ensures answer { Writes result (write_answer (spec_of spec.now)) }

@@ -7,9 +7,9 @@ pub returns : goal.returns
 returns c =
     let are : AreBytes c.args.bytes.now = λ k. omega (arith, c.type_inv.bytes k) in
     record {
-      answer = c.checked-answer.ensures;
-      manifest = manifest_told c.args.bytes.now _ are c.checked-answer.ensures;
-      whole = λ m p. whole_told c.args.bytes.now _ m c.checked-answer.ensures p;
+      answer = c.checked.ensures;
+      manifest = manifest_told c.args.bytes.now _ are c.checked.ensures;
+      whole = λ m p. whole_told c.args.bytes.now _ m c.checked.ensures p;
       only = only c.args.bytes.now;
       law = law c.args.bytes.now are;
     }

@@ -1,0 +1,2 @@
+pub mod DumpAscii
+pub mod DumpText
