@@ -1,17 +1,20 @@
 -- The texts of the dump are ASCII.
-use Rattle.std.proofs.Common.{◌≡◌, ℕ, zero, suc, ◌<◌, ◌/◌, ◌%◌, ◌==◌, Bool, true, false, if◌then◌else◌, List, [], ◌∷◌, ◌++◌, refl, codes, nat_lt, IsAscii, ◌∙◌, ◌&&◌, arith}
-use Rattle.std.specs.Prelude.{map}
-use Rattle.std.specs.Fmt.{decimal, digits, digits_onto, digit_glyph}
-use Rattle.std.specs.List.{list_all, concat}
+use Rattle.std.proofs.Common.{◌≡◌, ℕ, suc, ◌<◌, Bool, true, false, if◌then◌else◌, List, [], ◌∷◌, ◌++◌, refl, sym, codes, nat_lt, IsAscii, ◌∙◌, ◌&&◌, arith}
+use Rattle.std.specs.Fmt.{decimal}
+use Rattle.std.specs.List.{list_all}
 use Rattle.std.proofs.lemmas.Bool.Decides.{nat_tests}
 use Rattle.std.proofs.lemmas.Str.Ascii.{IsAscii-cons, IsAscii-nil}
-use Rattle.hex.proofs.HexLemmas.{IsAscii-encode_with}
-use Rattle.hex.specs.Hex.{encode_lower, lower_digits}
-use Rattle.gb_formats.specs.Bytes.{byte_text}
+use Rattle.gb_base.specs.declared.entry.Entry.{Entry}
+use Rattle.gb_base.specs.declared.entry.Entry.TheVariants as entry
+use Rattle.gb_base.specs.declared.fault.Reason.{Reason}
+use Rattle.gb_formats.specs.Bytes.{byte_text, joined}
 use Rattle.gb_formats.specs.Descriptors.{Descriptor}
-use Rattle.gb_formats.specs.Dump.{descriptor_line, manifest_line, stands_as_is, string_byte_text, string_text}
+use Rattle.gb_formats.specs.Dump.{check_text, descriptor_line, manifest_line, refused_text, stands_as_is, string_byte_text, string_text}
 use Rattle.gb_formats.specs.Manifest.{Manifest}
-use Rattle.gb_formats.specs.Texts.{ended}
+use Rattle.gb_formats.specs.ManifestRules.{Refused}
+use Rattle.gb_formats.specs.Reasons.{reason_text}
+use Rattle.gb_formats.specs.Texts.{ended, entry_line, entry_text}
+use Rattle.gb_formats.proofs.Ascii.{IsAscii-entry_text}
 
 abbrev is_ascii : List ℕ → Bool
 is_ascii bs = list_all (λ b. nat_lt b 128) bs
@@ -30,25 +33,34 @@ cat : (xs ys : List ℕ) → is_ascii (xs ++ ys) ≡ is_ascii xs && is_ascii ys
 cat [] ys = refl
 cat (b ∷ bs) ys = rw (cat bs ys) (grind (arith, nat_tests))
 
-glyph : (n : ℕ) (acc : List ℕ) → is_ascii acc ≡ true → is_ascii (digit_glyph false (n % 10) ∷ acc) ≡ true
-glyph n acc h = rw h (grind (arith, nat_tests))
+left : (a b : Bool) → (a && b) ≡ true → a ≡ true
+left true b h = refl
+left false b h = absurd cc
 
-either : (t : Bool) (xs ys : List ℕ) → is_ascii xs ≡ true → is_ascii ys ≡ true → is_ascii (if t then xs else ys) ≡ true
-either true xs ys x y = x
-either false xs ys x y = y
+front : (xs ys : List ℕ) → is_ascii (xs ++ ys) ≡ true → is_ascii xs ≡ true
+front xs ys h = left (is_ascii xs) (is_ascii ys) (sym (cat xs ys) ∙ h)
 
-onto : (k n : ℕ) (acc : List ℕ) → is_ascii acc ≡ true → is_ascii (digits_onto k 10 false n acc) ≡ true
-onto zero n acc h = h
-onto (suc k) n acc h =
-    let more = glyph n acc h in
-    either (n / 10 == 0) _ _ more (onto k (n / 10) _ more)
+-- what the report has for entries that show no text
+line_is : (e : Entry) → ((text : List ℕ) → e ≡ entry.Shown text → ⊥) → is_ascii (entry_text 0 false e) ≡ true
+line_is e h = tested (entry_text 0 false e) (IsAscii-entry_text 0 false e (λ text is. absurd (h text is)))
 
 dec : (n : ℕ) → is_ascii (decimal n) ≡ true
-unfolding digits
-dec n = onto 64 n [] refl
+dec n = front (decimal n) (10 ∷ []) (line_is (entry.Settled n) (λ text is. cc))
 
 byte : (b : ℕ) → is_ascii (byte_text b) ≡ true
-byte b = tested (byte_text b) (IsAscii-encode_with lower_digits (b ∷ []) (seen lower_digits refl))
+byte b = front (byte_text b) (10 ∷ []) (line_is (entry.Ignored b) (λ text is. cc))
+
+right : (a b : Bool) → (a && b) ≡ true → b ≡ true
+right true b h = h
+right false b h = absurd cc
+
+behind : (xs ys : List ℕ) → is_ascii (xs ++ ys) ≡ true → is_ascii ys ≡ true
+behind xs ys h = right (is_ascii xs) (is_ascii ys) (sym (cat xs ys) ∙ h)
+
+because : (why : Reason) → is_ascii (reason_text why) ≡ true
+because why =
+    let whole = front (entry_line 0 false (entry.Manifest 0 0 why)) (10 ∷ []) (line_is (entry.Manifest 0 0 why) (λ text is. cc)) in
+    behind (decimal 0) (codes " " ++ reason_text why) (behind (decimal 0) (codes " refused " ++ (decimal 0 ++ (codes " " ++ reason_text why))) whole)
 
 -- a byte of a string
 escaped : (b : ℕ) → is_ascii (codes "\\x" ++ byte_text b) ≡ true
@@ -76,6 +88,12 @@ end_of_line l h = seen (ended l) (cat l (10 ∷ []) ∙ rw h refl)
 
 pub IsAscii-descriptor_line : (d : Descriptor) → IsAscii (ended (descriptor_line d))
 IsAscii-descriptor_line d = end_of_line (descriptor_line d) (line d)
+
+pub IsAscii-check_text : (m : Manifest) → IsAscii (check_text m)
+IsAscii-check_text m = end_of_line (joined (codes "manifest ok " ∷ decimal m.size ∷ [])) (dec m.size)
+
+pub IsAscii-refused_text : (why : Refused) → IsAscii (refused_text why)
+IsAscii-refused_text why = end_of_line (joined (codes "refused " ∷ decimal why.at ∷ codes " " ∷ reason_text why.reason ∷ [])) (simp (cat, dec, because))
 
 pub IsAscii-manifest_line : (m : Manifest) → IsAscii (ended (manifest_line m))
 IsAscii-manifest_line m = end_of_line (manifest_line m) (simp (cat, dec))

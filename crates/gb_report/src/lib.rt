@@ -1,6 +1,7 @@
 //! Writes the lines of the report.
 #![tactic(auto)]
 
+mod checked;
 mod dump;
 mod entry;
 mod names;
@@ -9,5 +10,6 @@ mod report;
 #[cfg(test)]
 mod tests;
 
+pub use checked::{put_accepted, put_refused};
 pub use dump::put_dump;
 pub use report::{put, put_refusal};

@@ -1,0 +1,32 @@
+//! Appends what a check of a manifest says.
+
+ghost use Rattle.std.specs.Prelude.{◌≡◌, ◌++◌, OnOk, OnErr};
+ghost use Rattle.gb_formats.specs.Dump.{check_text, refused_text};
+ghost use Rattle.gb_manifest.specs.Values.{refused_of};
+
+use crate::names::reason_name;
+use gb_base::{OutOfMemory, Text};
+use gb_manifest::{Manifest, Refused};
+use std::alloc::Global;
+
+/// Appends `manifest ok` and the size. After a refusal `out` is as before.
+pub fn put_accepted(alloc: Global, m: &Manifest<'_>, out: &mut Text) -> Result<(), OutOfMemory>
+    ensures ok { OnOk result (out.new ≡ out.old ++ check_text m.now) }
+    ensures err { OnErr result (out.new ≡ out.old) }
+{
+    let size = m.size();
+    let line = format!(in alloc; "manifest ok {size}")?;
+    let ended = format!(in alloc; "{line}\n")?;
+    out.append(&ended)
+}
+
+/// Appends `refused`, the place and the reason. After a refusal `out` is as before.
+pub fn put_refused(alloc: Global, why: &Refused, out: &mut Text) -> Result<(), OutOfMemory>
+    ensures ok { OnOk result (out.new ≡ out.old ++ refused_text (refused_of why.now)) }
+    ensures err { OnErr result (out.new ≡ out.old) }
+{
+    let (at, reason) = (why.at, reason_name(why.reason));
+    let line = format!(in alloc; "refused {at} {reason}")?;
+    let ended = format!(in alloc; "{line}\n")?;
+    out.append(&ended)
+}
