@@ -5,3 +5,4 @@ use Rattle.gbus.specs.declared.words.Job.TheVariants as job
 
 abbrev pub job_seen : Job → program.Job
 job_seen (job.Run hex) = program.Run hex
+job_seen (job.Check dump) = program.Check dump

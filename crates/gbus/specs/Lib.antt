@@ -1,4 +1,5 @@
 pub mod Jobs
+pub mod Manifests
 pub mod Program
 pub mod Reading
 pub mod Runs

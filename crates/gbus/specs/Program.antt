@@ -5,16 +5,24 @@ use Rattle.std.specs.Str.{bytes_eq}
 use Rattle.gb_base.specs.declared.status.Status.{Status}
 use Rattle.gb_base.specs.declared.status.Status.TheVariants as status
 use Rattle.gb_formats.specs.Lines.{lines}
+use Rattle.gb_formats.specs.Manifest.{check_answer}
 use Rattle.gb_machine.specs.Report.{has_bad_line, report}
 use Rattle.gb_script.specs.Built.{is_built}
+use Rattle.gbus.specs.Manifests.{manifest_text, manifest_verdict}
 
--- What the words ask for: the report of a script, with message bytes where hex is wanted.
+-- What the words ask for: the report of a script, with message bytes where hex is wanted; or the
+-- check of a manifest, with its dump where that is wanted.
 pub data Job : Type 0 where
   Run : Bool → Job
+  Check : Bool → Job
 
--- the words `run`
+-- the words `run`, `check` and `dump`
 abbrev pub one_word : List ℕ → Option Job
-one_word w = if bytes_eq w (codes "run") then Some (Run false) else None
+one_word w =
+    if bytes_eq w (codes "run") then Some (Run false)
+    else if bytes_eq w (codes "check") then Some (Check false)
+    else if bytes_eq w (codes "dump") then Some (Check true)
+    else None
 
 -- the words `run --hex`
 abbrev pub two_words : List ℕ → List ℕ → Option Job
@@ -51,9 +59,11 @@ abbrev pub script_within : List ℕ → List ℕ
 script_within text =
     if is_too_long text then ended_lines (take longest_input text) else text
 
--- What is written for an input: the report of a script, as far as it is run.
+-- What is written for an input: the report of a script, as far as it is run, or what a check of a
+-- manifest says. Of a manifest that is too long nothing is.
 abbrev pub output : Job → List ℕ → List ℕ
 output (Run hex) text = report (is_built 0) hex (script_within text)
+output (Check dump) text = if is_too_long text then [] else manifest_text dump (check_answer text)
 
 -- How a script ends: a bad line comes before an input that is too long.
 abbrev pub script_status : Bool → Bool → Status
@@ -64,6 +74,8 @@ script_status has_bad too_long =
 abbrev pub verdict : Job → List ℕ → Status
 verdict (Run hex) text =
     script_status (has_bad_line (is_built 0) (lines (script_within text))) (is_too_long text)
+verdict (Check dump) text =
+    if is_too_long text then status.TooLong else manifest_verdict (check_answer text)
 
 -- a status that speaks of the input
 abbrev pub IsVerdict : Status → Type 0

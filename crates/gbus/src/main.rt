@@ -2,6 +2,7 @@
 #![tactic(auto)]
 
 mod input;
+mod manifests;
 mod output;
 mod run;
 mod script;

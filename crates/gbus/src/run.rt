@@ -9,6 +9,7 @@ ghost use Rattle.gbus.specs.Reading.{is_long};
 ghost use Rattle.gbus.specs.Runs.{IsAnswered, IsComplete, IsWithin};
 
 use crate::input::{Input, ReadStop, read_all};
+use crate::manifests::run_check;
 use crate::output::write_all;
 use crate::script::report_input;
 use crate::words::{Job, job_of};
@@ -52,6 +53,7 @@ pub fn run<R: Threads + Sync, S: Source, K: Sink, G: Gate>(
 {
     match job_of(words) {
         Some(Job::Run { hex }) => run_script(alloc, hex, source, sink),
+        Some(Job::Check { dump }) => run_check(alloc, dump, source, sink),
         None => Status::Usage,
     }
 }

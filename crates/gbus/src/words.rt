@@ -13,6 +13,11 @@ pub enum Job {
         /// The bytes of messages are shown.
         hex: bool,
     },
+    /// The check of a manifest.
+    Check {
+        /// The dump of a manifest that is one.
+        dump: bool,
+    },
 }
 
 /// What the words ask for, None where they are none of the program's.
@@ -24,6 +29,8 @@ pub fn job_of(words: &[String]) -> Option<Job>
         [word, hex] if word.as_str() == "run" && hex.as_str() == "--hex" => {
             Some(Job::Run { hex: true })
         }
+        [word] if word.as_str() == "check" => Some(Job::Check { dump: false }),
+        [word] if word.as_str() == "dump" => Some(Job::Check { dump: true }),
         _ => None,
     }
 }
