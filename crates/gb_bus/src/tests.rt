@@ -184,3 +184,19 @@ fn each_side_has_65535_identifiers(rt: HostRuntime) -> Result<(), Fail> {
     sends(&rt, &mut bus, Side::Far, false, 65_536, 1)?;
     Ok(())
 }
+
+#[test]
+fn a_cancelled_request_is_answered_late(rt: HostRuntime) -> Result<(), Fail> {
+    let mut bus = Bus::new(rt.alloc())?;
+    sends(&rt, &mut bus, Side::Ap, false, 1, 1)?;
+    assert!(rt; bus.cancel(1).is_ok());
+    assert!(rt; bus.cancel(1).is_err(), "it has ended");
+    assert!(rt; matches!(bus.outcome(1), Some(Outcome::Cancelled)));
+    sends(&rt, &mut bus, Side::Ap, false, 2, 2)?;
+    let asked = ping(1, 1);
+    brings(&rt, &mut bus, End::Svc, true, Seen::Ask(asked, Some(5)));
+    bus.reply(1, Side::Far, &asked, 0, &[])?;
+    brings(&rt, &mut bus, End::Ap(0), true, Seen::Late(1));
+    assert!(rt; bus.outcome(2).is_none(), "the late answer ended nothing");
+    Ok(())
+}
