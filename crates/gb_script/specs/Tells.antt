@@ -15,7 +15,8 @@ Tells (Err (fault.Bad reason)) said = said ≡ Err reason
 Tells (Err (fault.Memory refused)) said = ⊤
 
 -- The word at this place fits: the line goes on with its meaning and the words behind.
-abbrev pub GoesOn : {A : Type 0} → (List ℕ → Option A) → ℕ → List (List ℕ) → A → List (List ℕ) → Type 0
+abbrev pub GoesOn : {A : Type 0} → (List ℕ → Option A) → ℕ → List (List ℕ) → A
+    → List (List ℕ) → Type 0
 GoesOn {A} meaning place ws value rest =
     (later : A → List (List ℕ) → Said) → next_word meaning place ws later ≡ later value rest
 
@@ -39,7 +40,8 @@ StopsBy (fault.Memory refused) is_reason = ⊤
 abbrev pub AsksFor : ((BridgeAsk → Event) → List (List ℕ) → Said) → List (List ℕ)
     → Result BridgeAsk LineFault → Type 0
 AsksFor asking ws (Ok ask) = (make : BridgeAsk → Event) → asking make ws ≡ Ok (Some (make ask))
-AsksFor asking ws (Err (fault.Bad reason)) = (make : BridgeAsk → Event) → asking make ws ≡ Err reason
+AsksFor asking ws (Err (fault.Bad reason)) =
+    (make : BridgeAsk → Event) → asking make ws ≡ Err reason
 AsksFor asking ws (Err (fault.Memory refused)) = ⊤
 
 -- The answer is what all words from this place on mean, or why one is bad.

@@ -13,7 +13,8 @@ const LONGEST_LINE: usize = 8192;
 /// Tells why a line is bad by its length, or else by its first byte that isn't printable ASCII.
 pub fn plain(line: &[u8]) -> Result<(), LineReason>
     ensures { MatchResult result
-        (λ _. (length line.now ≤ 8192) × ((by_words : Said) → by_bytes line.now by_words ≡ by_words))
+        (λ _. (length line.now ≤ 8192)
+        × ((by_words : Said) → by_bytes line.now by_words ≡ by_words))
         (λ why. (by_words : Said) → by_bytes line.now by_words ≡ Err why) }
 {
     if line.len() > LONGEST_LINE {

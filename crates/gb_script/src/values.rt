@@ -2,7 +2,8 @@
 
 ghost use Rattle.std.specs.Prelude.{◌≡◌, ◌≤◌, IfSome};
 ghost use Rattle.std.specs.List.{list_all};
-ghost use Rattle.gb_formats.specs.WordValues.{is_digit, is_number, kind_word, name_word, number_word};
+ghost use Rattle.gb_formats.specs.WordValues.{is_digit, is_number};
+ghost use Rattle.gb_formats.specs.WordValues.{kind_word, name_word, number_word};
 
 use crate::words::is;
 use gb_base::{Kind, Name, Word};

@@ -5,7 +5,8 @@ ghost use Rattle.std.specs.Prelude.{IfOk, is_ok, is_err, length};
 ghost use Rattle.gb_machine.specs.State.{State, first_state};
 ghost use Rattle.gb_base.specs.declared.entry.Entry.TheVariants as told;
 ghost use Rattle.gb_system.specs.Told.{IsStepped, answer_told, ask_told, cancel_of, cancel_told};
-ghost use Rattle.gb_system.specs.Told.{delivery_at, early_refusal, nowhere_refusal, reply_told, send_of};
+ghost use Rattle.gb_system.specs.Told.{delivery_at, early_refusal};
+ghost use Rattle.gb_system.specs.Told.{nowhere_refusal, reply_told, send_of};
 
 use crate::message::message_bytes;
 use crate::names::Names;
