@@ -3,6 +3,8 @@
 
 mod checked;
 mod dump;
+#[cfg(test)]
+mod dump_tests;
 mod entry;
 mod names;
 mod parts;

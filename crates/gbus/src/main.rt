@@ -2,6 +2,8 @@
 #![tactic(auto)]
 
 mod input;
+#[cfg(test)]
+mod manifest_tests;
 mod manifests;
 mod output;
 mod run;
