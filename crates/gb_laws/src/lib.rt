@@ -1,2 +1,10 @@
-//! The laws of runs, each on a function with nothing in it, and their proofs.
+//! The laws of runs, each the contract of a function with nothing in it. Their statements stand in
+//! gb_machine, their proofs here.
 #![tactic(auto)]
+
+mod laws;
+
+pub use laws::{
+    counts_add_up, ends_are_told, ends_at_most_once, labels_differ, names_name_requests,
+    one_item_a_number,
+};

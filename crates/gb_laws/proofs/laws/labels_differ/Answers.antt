@@ -1,0 +1,5 @@
+use Rattle.gb_laws.proofs.Single.{labels-differ}
+use Rattle.gb_laws.proofs.laws.labels_differ.Goals as goal
+
+pub returns : goal.returns
+returns c = labels-differ

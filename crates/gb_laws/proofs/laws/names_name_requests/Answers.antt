@@ -1,0 +1,5 @@
+use Rattle.gb_laws.proofs.Single.{names-name}
+use Rattle.gb_laws.proofs.laws.names_name_requests.Goals as goal
+
+pub returns : goal.returns
+returns c = names-name

@@ -1,0 +1,35 @@
+//! The laws of runs.
+
+ghost use Rattle.gb_machine.specs.LawsBus.{LabelsDiffer, NamesNameRequests, OneItemANumber};
+ghost use Rattle.gb_machine.specs.LawsEnds.{EndsAreTold, EndsAtMostOnce};
+ghost use Rattle.gb_machine.specs.Summary.{CountsAddUp};
+
+/// Each request has one outcome at most, and one end and one reply at most are told of it.
+pub fn ends_at_most_once()
+    ensures { EndsAtMostOnce }
+{}
+
+/// What is told of ends is what the outcomes are, and each is of a request that was made.
+pub fn ends_are_told()
+    ensures { EndsAreTold }
+{}
+
+/// Identifiers that are in use on a side of a connection differ, and are from 1 to 65,535.
+pub fn labels_differ()
+    ensures { LabelsDiffer }
+{}
+
+/// On a clean connection each number is in one item at most, of those that wait and that are held.
+pub fn one_item_a_number()
+    ensures { OneItemANumber }
+{}
+
+/// A name names a request that was made.
+pub fn names_name_requests()
+    ensures { NamesNameRequests }
+{}
+
+/// The counts of a summary add up to the number of requests.
+pub fn counts_add_up()
+    ensures { CountsAddUp }
+{}
