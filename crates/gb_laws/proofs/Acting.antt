@@ -1,5 +1,5 @@
 -- A law of points goes over what the application processor does.
-use Rattle.std.proofs.Common.{◌≡◌, ◌⊎◌, ◌≤◌, ◌<◌, ℕ, ◌+◌, Bool, true, false, not, cond, Option, Some, None, List, [], ◌∷◌, ◌++◌, length, map, refl, sym, ap, ◌∙◌, inl, inr, ⊎_elim, subst, arith}
+use Rattle.std.proofs.Common.{◌≡◌, ℕ, Bool, true, false, cond, Option, Some, None, List, [], ◌∷◌, length, map, refl, sym, ap, ◌∙◌, inl, inr, subst}
 use Rattle.std.specs.Prelude.{Result, Ok, Err, ◌==◌, option_and_then}
 use Rattle.gb_base.specs.declared.end.Side.TheVariants as side
 use Rattle.gb_base.specs.declared.entry.ConnState.{ConnState}
@@ -7,29 +7,28 @@ use Rattle.gb_base.specs.declared.entry.ConnState.TheVariants as state
 use Rattle.gb_base.specs.declared.entry.Entry.{Entry}
 use Rattle.gb_base.specs.declared.entry.Entry.TheVariants as entry
 use Rattle.gb_base.specs.declared.entry.IntfStage.TheVariants as stage
-use Rattle.gb_base.specs.declared.event.Event.TheVariants as event
 use Rattle.gb_base.specs.declared.outcome.Outcome.{Outcome}
 use Rattle.gb_formats.specs.Manifest.{CportView, Manifest, check_answer}
 use Rattle.gb_formats.specs.ManifestRules.{Refused}
-use Rattle.gb_invariants.proofs.Lists.{each-append, each-from, in-filter}
+use Rattle.gb_invariants.proofs.Lists.{each-append}
 use Rattle.gb_laws.proofs.Going.{Goes, goes-asks, goes-nothing, goes-▸}
 use Rattle.gb_laws.proofs.Points.{ActLaw, AreQuiet, IsAsking, IsCaused, IsShutFor, Untouched, acts_asked, acts_failed, acts_left, acts_opened, acts_shut, acts_told, asking, disconnected, is_quiet, opening, removed, turns}
 use Rattle.gb_machine.proofs.Opened.{machine_opened}
 use Rattle.gb_machine.specs.Actions.{Action, change, each, on_host, tell, ◌▸◌}
 use Rattle.gb_machine.specs.Asking.{asks}
 use Rattle.gb_machine.specs.Bus.{next_number}
-use Rattle.gb_machine.specs.Failures.{control_fails, interface_fails, link_fails, link_told, step_fails, told_of, unsent, unsent_fails}
-use Rattle.gb_machine.specs.Host.{Host, Interface, Link, cport_of, free_cport, free_device, in_state, interface_of, link_at, with_interface, with_link, with_new_interface}
+use Rattle.gb_machine.specs.Failures.{interface_fails, link_fails, link_told, step_fails, told_of, unsent, unsent_fails}
+use Rattle.gb_machine.specs.Host.{Host, Link, cport_of, free_cport, free_device, in_state, interface_of, link_at, with_interface, with_link, with_new_interface}
 use Rattle.gb_machine.specs.HostActs.{acts, asked_with, fails, host_asks, host_draft, host_opens, notices, opened_with, with_awaited, with_made}
 use Rattle.gb_machine.specs.Labels.{next_label}
 use Rattle.gb_machine.specs.State.{State}
 use Rattle.gb_machine.specs.Wiring.{next_connection}
-use Rattle.gb_machine.specs.HostTurns.{connects, connects_on, disconnects, ended_for, host_connects, host_disconnects, host_ended, host_inserted, host_removed, host_turn, links_left, links_of}
+use Rattle.gb_machine.specs.HostTurns.{connects, connects_on, disconnects, ended_for, host_turn, links_left, links_of}
 use Rattle.gb_machine.specs.Members.{Each, IsIn}
 use Rattle.gb_machine.specs.Runs.{Moment}
 use Rattle.gb_machine.specs.SequenceSteps.{Purpose, SequenceStep, at_step, is_reply, purpose}
-use Rattle.gb_machine.specs.Sequences.{asked_on, begins_control, begins_device, control_opened, device_given, goes_on, link_closed, link_left, link_opened, link_turn, manifest_checked, manifest_told, opened, opened_told, payload_in, size_known, size_told, step_answered, step_asked, step_done, way_of}
-use Rattle.gb_machine.specs.Turns.{Act, Asking, Failing, HostEvent, Making, Turn, failed_turn, telling, turn}
+use Rattle.gb_machine.specs.Sequences.{asked_on, begins_control, begins_device, goes_on, link_left, link_turn, manifest_checked, manifest_told, opened, opened_told, payload_in, size_known, step_answered, step_asked, step_done, way_of}
+use Rattle.gb_machine.specs.Turns.{Act, Asking, HostEvent, Making, Turn, failed_turn}
 use Rattle.gb_machine.specs.Waits.{awaited, awaits_nothing}
 
 -- ---- the acts of a turn

@@ -1,11 +1,9 @@
 -- What stays where a sequence waits for a request.
-use Rattle.std.proofs.Common.{◌≡◌, ℕ, Bool, true, false, cond, Option, Some, None, List, refl}
-use Rattle.gb_base.specs.declared.name.Name.{Name}
-use Rattle.gb_machine.specs.Bus.{Bus}
+use Rattle.std.proofs.Common.{◌≡◌, ℕ, Bool, true, false, cond, Option, Some, None, refl}
 use Rattle.gb_machine.specs.Host.{Link, link_at}
 use Rattle.gb_machine.specs.HostActs.{made_for, with_awaited}
 use Rattle.gb_machine.specs.SequenceSteps.{Purpose, is_for_connection}
-use Rattle.gb_machine.specs.State.{Held, State}
+use Rattle.gb_machine.specs.State.{State}
 use Rattle.gb_machine.specs.Waits.{awaits}
 
 -- the parts of a state that no waiting changes

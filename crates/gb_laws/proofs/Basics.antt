@@ -1,6 +1,5 @@
 -- The basis of all laws is kept by each single change.
-use Rattle.std.proofs.Common.{◌≡◌, ◌⊎◌, ◌≤◌, ◌<◌, ◌≢◌, ℕ, zero, suc, ◌+◌, Bool, true, false, not, cond, Option, Some, None, List, [], ◌∷◌, ◌++◌, map, refl, sym, ap, ◌∙◌, inl, inr, ⊎_elim, subst, append-nil, append_assoc, arith}
-use Rattle.std.proofs.lemmas.Bool.Decides.{nat_tests}
+use Rattle.std.proofs.Common.{◌≡◌, ℕ, zero, suc, Bool, true, false, cond, Option, Some, None, List, [], ◌∷◌, map, refl, sym, ap, ◌∙◌, inl, inr, ⊎_elim, subst, arith}
 use Rattle.std.specs.Prelude.{Result, Ok, Err, ◌==◌, is_some, option_map}
 use Rattle.gb_base.specs.declared.fault.RawFault.{RawFault}
 use Rattle.gb_formats.specs.Message.{Message}
@@ -8,26 +7,25 @@ use Rattle.gb_formats.specs.Wire.{raw_message}
 use Rattle.gb_base.specs.declared.end.Side.{Side}
 use Rattle.gb_base.specs.declared.end.Side.TheVariants as side
 use Rattle.gb_base.specs.declared.name.Name.{Name}
-use Rattle.gb_invariants.proofs.Awaiting.{is-open, is_of-is, not-both, opened, same-some, sent-new, sent-request}
+use Rattle.gb_invariants.proofs.Awaiting.{is-open, is_of-is, same-some, sent-new, sent-request}
 use Rattle.gb_invariants.proofs.Changes.{attached-keeps, detached-keeps, ended-keeps, forgotten-keeps, gave_up-keeps, injected-keeps, loose-keeps, none-counted-answers, popped-keeps, raw-new, replied-keeps, reply-new, sent-keeps, shut-keeps, unclean-answers, unwired-keeps, wired-keeps}
-use Rattle.gb_invariants.proofs.Counts.{one, times-cons}
+use Rattle.gb_invariants.proofs.Counts.{times-cons}
 use Rattle.gb_invariants.proofs.Drawing.{given_up_with-is, open_with-in_use}
 use Rattle.gb_invariants.proofs.ItemChanges.{NoneAnswers}
 use Rattle.gb_invariants.proofs.Items.{Lies, answers as numbers, hangs, waits}
-use Rattle.gb_invariants.proofs.Lists.{each-append, each-filter, each-in, each-weaker, in-append, in-filter, in-front, in-pushed}
-use Rattle.gb_invariants.proofs.Numbers.{found-by_number, found-number}
+use Rattle.gb_invariants.proofs.Lists.{each-append, each-filter, each-weaker}
 use Rattle.gb_invariants.proofs.OneItem.{none-other}
 use Rattle.gb_invariants.proofs.Outcomes.{both-true}
-use Rattle.gb_invariants.proofs.Selves.{SameSelf, front-self}
+use Rattle.gb_invariants.proofs.Selves.{front-self}
 use Rattle.gb_invariants.specs.Facts.{BusFits, Loose}
 use Rattle.gb_laws.proofs.Awaited.{awaited-rest}
 use Rattle.gb_laws.proofs.Loosening.{Fewer, fewer-held, fewer-tail, fewer-taken, fewer-without, held-at, without-none}
 use Rattle.gb_laws.proofs.Naming.{made-named}
-use Rattle.gb_laws.proofs.Places.{IsPlace, at_first-back, module-far, place-is}
+use Rattle.gb_laws.proofs.Places.{at_first-back, module-far, place-is}
 use Rattle.gb_laws.proofs.Points.{Answers, Basis, Change, Forgets, Hand, IsStill, Law, Point, acts_asked, acts_failed, acts_left, acts_opened, acts_shut, acts_told, answers, asks, binds, by_label, by_number, changed, drops, forgets, frees, gives_up, holds, injects, loose, loose_hand, loose_held, names, others, passes, replies, serves, spends, takes, takes_held, tells, turns, unwires, wires, resting, Wires}
 use Rattle.gb_laws.proofs.Runs.{throughout}
 use Rattle.gb_laws.proofs.Steps.{over-step}
-use Rattle.gb_machine.specs.Bus.{Ask, Bus, Connection, Item, Place, Raw, RawReply, Reply, Request, connection_of, first_bus, svc_connection, has_number, is_open, next_number, other_side, queue, request_of}
+use Rattle.gb_machine.specs.Bus.{Ask, Bus, Connection, Item, Raw, RawReply, Reply, Request, first_bus, svc_connection, has_number, is_open, next_number, other_side, queue, request_of}
 use Rattle.gb_base.specs.declared.end.End.TheVariants as end
 use Rattle.gb_machine.specs.Delivery.{answered, popped, replied, without_front}
 use Rattle.gb_machine.specs.Holding.{held_on}
@@ -35,12 +33,12 @@ use Rattle.gb_machine.specs.Incoming.{Incoming, incoming, incoming_raw, is_reque
 use Rattle.gb_machine.specs.Requests.{has_label, is_of}
 use Rattle.gb_machine.specs.Serving.{Answer}
 use Rattle.gb_machine.specs.LawsBus.{NameRequests, is_item_of}
-use Rattle.gb_machine.specs.Lists.{at_first, nth, without}
-use Rattle.gb_machine.specs.Members.{Each, IsIn, times}
-use Rattle.gb_machine.specs.Names.{bound, freed, named, same_name}
+use Rattle.gb_machine.specs.Lists.{nth, without}
+use Rattle.gb_machine.specs.Members.{Each, IsIn}
+use Rattle.gb_machine.specs.Names.{named}
 use Rattle.gb_machine.specs.Runs.{HoldsThroughout, Moment}
 use Rattle.gb_machine.specs.Sending.{Draft, sent}
-use Rattle.gb_machine.specs.State.{Held, State, first_state}
+use Rattle.gb_machine.specs.State.{State, first_state}
 use Rattle.gb_base.specs.declared.entry.Entry.{Entry}
 
 -- ---- names

@@ -1,7 +1,6 @@
 -- A law of points goes over deliveries, and over held requests that are answered.
-use Rattle.std.proofs.Common.{◌≡◌, ◌⊎◌, ◌≤◌, ◌<◌, ℕ, ◌+◌, Bool, true, false, not, cond, Option, Some, None, List, [], ◌∷◌, ◌++◌, map, refl, sym, ap, ◌∙◌, inl, inr, ⊎_elim, subst, append-nil, append_assoc}
+use Rattle.std.proofs.Common.{◌≡◌, ℕ, Bool, true, false, cond, Option, Some, None, List, [], ◌∷◌, ◌++◌, refl, sym, ap, ◌∙◌, inl, subst, append-nil, append_assoc}
 use Rattle.std.specs.Prelude.{Result, Ok, Err, ◌==◌, option_map}
-use Rattle.gb_base.specs.declared.bridge.Reading.{Reading}
 use Rattle.gb_base.specs.declared.end.End.{End}
 use Rattle.gb_base.specs.declared.end.End.TheVariants as end
 use Rattle.gb_base.specs.declared.end.Side.{Side}
@@ -13,27 +12,27 @@ use Rattle.gb_base.specs.declared.fault.RawFault.{RawFault}
 use Rattle.gb_formats.specs.Message.{Message}
 use Rattle.gb_formats.specs.Wire.{raw_message}
 use Rattle.gb_invariants.proofs.Awaiting.{not-both}
-use Rattle.gb_invariants.specs.Facts.{Loose, is_numbered}
+use Rattle.gb_invariants.specs.Facts.{is_numbered}
 use Rattle.gb_laws.proofs.Acting.{goes-notices}
-use Rattle.gb_laws.proofs.Going.{At, Goes, goes-nothing, goes-tell, goes-▸}
-use Rattle.gb_laws.proofs.Places.{LivesOn, lives-replied, module-far, place-is}
-use Rattle.gb_laws.proofs.Points.{Answers, Forgets, Hand, IsNoticed, Law, Says, Untouched, Wires, acting, answers, by_label, by_number, drops, forgets, holds, is_quiet, numbered, replies, takes, takes_held, tells, unclean}
+use Rattle.gb_laws.proofs.Going.{At, Goes, goes-nothing, goes-tell}
+use Rattle.gb_laws.proofs.Places.{lives-replied, module-far, place-is}
+use Rattle.gb_laws.proofs.Points.{Answers, Forgets, Hand, Law, Says, Untouched, acting, answers, by_label, by_number, drops, forgets, holds, is_quiet, numbered, replies, takes, takes_held, tells, unclean}
 use Rattle.gb_laws.proofs.Serving.{Ends, IsTaken, answered, delivered, ends-going, ends-response}
 use Rattle.gb_machine.proofs.Opened.{machine_opened}
-use Rattle.gb_machine.specs.Actions.{Action, by_state, change, given, nothing, on_bus, tell, ◌▸◌}
+use Rattle.gb_machine.specs.Actions.{Action, by_state, given, nothing, on_bus, tell, ◌▸◌}
 use Rattle.gb_machine.specs.Arriving as arriving
 use Rattle.gb_machine.specs.Arriving.{arrives, asked_at, delivers, delivers_at, dropped, ends_answered, handles, is_held, keeps, late_by, raw_taken, reading_for, reply_taken, with_held}
 use Rattle.gb_machine.specs.Bus.{Ask, Bus, Connection, Item, Place, Raw, RawReply, Reply, Request, is_open, other_side, place_of, queue, request_of}
 use Rattle.gb_machine.specs.Delivery as delivery
 use Rattle.gb_machine.specs.Delivery.{ended, forgotten, popped, replied}
 use Rattle.gb_machine.specs.HostActs.{follows}
-use Rattle.gb_machine.specs.Incoming.{Incoming, incoming, incoming_raw, is_request, raw_request, reply_entry, reply_item, request_in}
+use Rattle.gb_machine.specs.Incoming.{Incoming, incoming, incoming_raw, is_request, raw_request, reply_item, request_in}
 use Rattle.gb_machine.specs.Holding.{held_on}
 use Rattle.gb_machine.specs.LineActions.{answers as answering, answers_at, answers_held, serves_held, with_fewer}
 use Rattle.gb_machine.specs.Lists.{first, nth}
 use Rattle.gb_machine.specs.Refusals.{module_place}
 use Rattle.gb_machine.specs.Requests.{given_up_with, open_with}
-use Rattle.gb_machine.specs.Responding.{Response, replies as replying, responds, response_at, serves as serving, serves_oneway}
+use Rattle.gb_machine.specs.Responding.{Response, replies as replying, response_at, serves as serving, serves_oneway}
 use Rattle.gb_machine.specs.Runs.{Moment}
 use Rattle.gb_machine.specs.Serving.{success}
 use Rattle.gb_machine.specs.State.{Held, State}

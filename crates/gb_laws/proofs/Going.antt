@@ -1,23 +1,21 @@
 -- A law of points goes over the actions of the machine: the combinators, and asking.
-use Rattle.std.proofs.Common.{◌≡◌, ◌⊎◌, ◌≤◌, ◌<◌, ℕ, ◌+◌, Bool, true, false, not, cond, Option, Some, None, List, [], ◌∷◌, ◌++◌, map, refl, sym, ap, ◌∙◌, inl, inr, ⊎_elim, subst, arith, append_assoc, append-nil}
+use Rattle.std.proofs.Common.{◌≡◌, ℕ, ◌+◌, Bool, true, false, Option, Some, None, List, [], ◌∷◌, ◌++◌, refl, sym, subst, append_assoc, append-nil}
 use Rattle.gb_base.specs.declared.bridge.Reading.TheVariants as reading
 use Rattle.gb_base.specs.declared.end.Side.TheVariants as side
 use Rattle.gb_base.specs.declared.served.OwnAsk.{OwnAsk}
 use Rattle.gb_formats.specs.Grammar.{default_timeout}
 use Rattle.gb_base.specs.declared.entry.Entry.{Entry}
 use Rattle.gb_base.specs.declared.entry.Entry.TheVariants as entry
-use Rattle.gb_base.specs.declared.outcome.Outcome.{Outcome}
 use Rattle.gb_base.specs.declared.outcome.Outcome.TheVariants as outcome
 use Rattle.gb_laws.proofs.Points.{ActLaw, AreQuiet, Hand, Wires, asks, is_quiet, sent_told, tells}
 use Rattle.gb_machine.proofs.Opened.{machine_opened}
-use Rattle.gb_machine.specs.Actions.{Action, Told, by_state, change, each, given, nothing, on_bus, on_host, tell, tell_all, when, ◌▸◌}
+use Rattle.gb_machine.specs.Actions.{Action, each, given, nothing, tell, tell_all, when, ◌▸◌}
 use Rattle.gb_machine.specs.Asking.{asked, asks as asking, asks_with}
-use Rattle.gb_machine.specs.Bus.{Bus, Connection, connection_of, next_number}
-use Rattle.gb_machine.specs.Members.{Each, IsIn}
+use Rattle.gb_machine.specs.Bus.{Connection, connection_of, next_number}
 use Rattle.gb_machine.specs.OwnAsking.{far_asks, far_asks_all}
 use Rattle.gb_machine.specs.Runs.{Moment}
 use Rattle.gb_machine.specs.Sending.{Draft, draft, is_wired, label_for, sent}
-use Rattle.gb_machine.specs.State.{Plugged, Port, State}
+use Rattle.gb_machine.specs.State.{State}
 use Rattle.gb_machine.specs.Turns.{Act}
 
 module _ (m : Moment) (law : ActLaw m) where

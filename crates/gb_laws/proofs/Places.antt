@@ -8,7 +8,7 @@ use Rattle.gb_base.specs.declared.end.Side.TheVariants as side
 use Rattle.gb_invariants.proofs.Awaiting.{same-some}
 use Rattle.gb_invariants.proofs.Outcomes.{both-true, same-number}
 use Rattle.gb_laws.proofs.Points.{IsLive}
-use Rattle.gb_machine.specs.Bus.{Bus, Connection, Item, Place, end_of, has_number, or_else, place_of, same_end, side_at, with_queue}
+use Rattle.gb_machine.specs.Bus.{Bus, Connection, Item, Place, end_of, has_number, or_else, place_of, same_end, side_at}
 use Rattle.gb_machine.specs.Delivery.{replied}
 use Rattle.gb_machine.specs.Lists.{at_first}
 use Rattle.gb_machine.specs.Members.{IsIn}

@@ -1,5 +1,5 @@
 -- Points within the step of an event, and the single changes that lead from one to the next.
-use Rattle.std.specs.Prelude.{◌≡◌, ◌⊎◌, ◌≤◌, ◌≢◌, ℕ, ◌+◌, Bool, true, false, Option, Some, None, List, [], ◌∷◌, ◌++◌, map, length, is_some}
+use Rattle.std.specs.Prelude.{◌≡◌, ◌≤◌, ◌≢◌, ℕ, ◌+◌, Bool, true, false, Option, Some, None, List, [], ◌∷◌, ◌++◌, map, length}
 use Rattle.gb_base.specs.declared.bridge.BridgeAsk.{BridgeAsk}
 use Rattle.gb_base.specs.declared.bridge.Reading.TheVariants as reading
 use Rattle.gb_base.specs.declared.end.End.{End}
@@ -17,7 +17,7 @@ use Rattle.gb_invariants.proofs.Selves.{SameSelf}
 use Rattle.gb_invariants.specs.Facts.{BusFits, Loose}
 use Rattle.gb_machine.specs.Arriving.{reading_for, with_held}
 use Rattle.gb_machine.specs.Asking.{asked}
-use Rattle.gb_machine.specs.Bus.{Ask, Bus, Connection, Item, Place, Raw, RawReply, Reply, Request, connection_of, is_open, next_number, other_side, place_of, queue, request_of}
+use Rattle.gb_machine.specs.Bus.{Bus, Connection, Item, Place, Reply, Request, connection_of, is_open, next_number, other_side, place_of, queue, request_of}
 use Rattle.gb_machine.specs.Delivery.{answered, ended, forgotten, popped, replied}
 use Rattle.gb_machine.specs.Failures.{unsent}
 use Rattle.gb_machine.specs.Holding.{held_on}
@@ -33,13 +33,13 @@ use Rattle.gb_machine.specs.Members.{Each, IsIn}
 use Rattle.gb_machine.specs.Names.{bound, freed, named}
 use Rattle.gb_machine.specs.Refusals.{module_place}
 use Rattle.gb_machine.specs.Requests.{gave_up, given_up_with, open_on, open_with}
-use Rattle.gb_machine.specs.Runs.{Moment, after}
+use Rattle.gb_machine.specs.Runs.{Moment}
 use Rattle.gb_machine.specs.Sending.{Draft, label_for, sent}
 use Rattle.gb_machine.specs.Serving.{Answer}
 use Rattle.gb_machine.specs.State.{Held, Plugged, Port, State}
 use Rattle.gb_machine.specs.Turns.{Act, Asking, HostEvent, Making}
 use Rattle.gb_machine.specs.Wires.{disconnected_told, with_unwired, with_wired}
-use Rattle.gb_machine.specs.Wiring.{attached, detached, injected, next_connection, shut_down}
+use Rattle.gb_machine.specs.Wiring.{detached, injected, next_connection, shut_down}
 
 -- ---- points
 

@@ -1,16 +1,14 @@
 -- Each request is replied to once at most: it is asked in one item, or its reply was told.
-use Rattle.std.proofs.Common.{◌≡◌, ◌⊎◌, ◌≤◌, ◌<◌, ◌≢◌, ℕ, ◌+◌, Bool, true, false, not, cond, Option, Some, None, List, [], ◌∷◌, ◌++◌, map, refl, sym, ap, ◌∙◌, inl, inr, ⊎_elim, subst, append-nil, arith}
-use Rattle.std.proofs.lemmas.Bool.Decides.{nat_tests}
-use Rattle.std.specs.Prelude.{Result, Ok, Err, ◌==◌, is_some, option_map}
+use Rattle.std.proofs.Common.{◌≡◌, ◌≤◌, ℕ, ◌+◌, Bool, true, false, cond, Option, Some, None, List, [], ◌∷◌, ◌++◌, map, refl, sym, ap, ◌∙◌, subst, append-nil, arith}
+use Rattle.std.specs.Prelude.{Result, Ok, Err, ◌==◌, option_map}
 use Rattle.gb_base.specs.declared.end.Side.{Side}
 use Rattle.gb_base.specs.declared.end.Side.TheVariants as side
-use Rattle.gb_base.specs.declared.entry.ConnState.TheVariants as state
 use Rattle.gb_base.specs.declared.entry.Entry.{Entry}
 use Rattle.gb_base.specs.declared.entry.Entry.TheVariants as entry
 use Rattle.gb_base.specs.declared.fault.RawFault.{RawFault}
 use Rattle.gb_formats.specs.Message.{Message}
 use Rattle.gb_formats.specs.Wire.{raw_message}
-use Rattle.gb_invariants.proofs.Awaiting.{same-some, sent-new, sent-request}
+use Rattle.gb_invariants.proofs.Awaiting.{same-some, sent-request}
 use Rattle.gb_invariants.proofs.Counts.{attached-counts, changed-counts, detached-counts, in-weaker, injected-counts, one, popped-counts, replied-counts, sent-counts, times-append, times-cons}
 use Rattle.gb_invariants.proofs.Numbers.{found-by_number}
 use Rattle.gb_invariants.proofs.OneItem.{none-unmade}
@@ -22,11 +20,10 @@ use Rattle.gb_laws.proofs.Ended.{ends-throughout}
 use Rattle.gb_laws.proofs.Loosening.{Fewer, fewer-held, fewer-tail, fewer-taken, fewer-without, held-at}
 use Rattle.gb_laws.proofs.Places.{module-far, place-is}
 use Rattle.gb_laws.proofs.Points.{AreQuiet, Basis, Change, Hand, Law, Point, asked_told, acts_asked, acts_failed, acts_left, acts_opened, acts_shut, acts_told, answers, asks, binds, changed, drops, forgets, frees, gives_up, holds, injects, is_quiet, loose, loose_hand, loose_held, names, others, passes, replies, resting, sent_told, serves, spends, takes, takes_held, tells, turns, unwires, wires}
-use Rattle.gb_laws.proofs.Runs.{throughout, weaker}
+use Rattle.gb_laws.proofs.Runs.{throughout}
 use Rattle.gb_laws.proofs.Steps.{over-step}
 use Rattle.gb_machine.proofs.Lists.{nth-past}
 use Rattle.gb_machine.specs.Bus.{Ask, Bus, Connection, Item, Raw, RawReply, Reply, Request, next_number, other_side, request_of}
-use Rattle.gb_machine.specs.Delivery.{replied}
 use Rattle.gb_machine.specs.Incoming.{Incoming, incoming, incoming_raw, is_request, raw_request, reply_entry, reply_item, request_in}
 use Rattle.gb_machine.specs.LawsBus.{is_item_of}
 use Rattle.gb_base.specs.declared.end.End.TheVariants as end
@@ -41,7 +38,7 @@ use Rattle.gb_machine.specs.Members.{Each, IsIn, times}
 use Rattle.gb_machine.specs.Runs.{HoldsThroughout, Moment}
 use Rattle.gb_machine.specs.Sending.{Draft, sent}
 use Rattle.gb_machine.specs.Serving.{Answer}
-use Rattle.gb_machine.specs.State.{Held, State}
+use Rattle.gb_machine.specs.State.{State}
 use Rattle.gb_machine.specs.SvcQueues.{is_ask}
 
 -- ---- what is asked, and what was replied

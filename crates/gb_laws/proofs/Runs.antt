@@ -1,9 +1,7 @@
 -- From one moment to all runs.
-use Rattle.std.proofs.Common.{◌≡◌, List, [], ◌∷◌, ◌++◌, sym, subst, append-nil, append_assoc}
+use Rattle.std.proofs.Common.{List, [], ◌∷◌, ◌++◌, sym, subst, append-nil, append_assoc}
 use Rattle.gb_base.specs.declared.entry.Entry.{Entry}
 use Rattle.gb_base.specs.declared.event.Event.{Event}
-use Rattle.gb_laws.proofs.Points.{Basis, Law, Wires, resting}
-use Rattle.gb_laws.proofs.Steps.{over-step}
 use Rattle.gb_machine.specs.Events.{last_state, step, trace_from}
 use Rattle.gb_machine.specs.Runs.{AreMoments, HoldsAtEachMoment, HoldsThroughout, IsMoment, Moment, after, moment, state_by, told_at, told_by, told_in}
 use Rattle.gb_machine.specs.State.{State, first_state}

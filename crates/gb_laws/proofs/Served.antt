@@ -1,6 +1,6 @@
 -- What the application processor may serve: it takes notice of an insertion or a removal and stays
 -- as it is, or of nothing, and what it tells is quiet.
-use Rattle.std.proofs.Common.{◌≡◌, ◌⊎◌, ℕ, Bool, true, false, cond, Option, Some, None, List, refl, ap, ◌∙◌}
+use Rattle.std.proofs.Common.{◌≡◌, ℕ, Bool, true, false, cond, Option, Some, None, List, refl}
 use Rattle.std.specs.Prelude.{Result, Ok, Err, ◌==◌}
 use Rattle.gb_base.specs.declared.entry.Entry.{Entry}
 use Rattle.gb_formats.specs.GpioRecords.{GpioAsk, read_gpio_ask}
@@ -11,7 +11,7 @@ use Rattle.gb_formats.specs.GpioDevice.{irq_event}
 use Rattle.gb_formats.specs.UartRecords.{UartAsk, read_uart_ask}
 use Rattle.gb_laws.proofs.Points.{is_quiet}
 use Rattle.gb_machine.specs.Host.{Host, Link, link_of}
-use Rattle.gb_machine.specs.HostServing.{HostServed, credited, host_refuses, host_serves, interrupted, notified, notified_by, served_on, serves_gpio, serves_svc, serves_uart, uart_notified, uart_notified_by}
+use Rattle.gb_machine.specs.HostServing.{HostServed, credited, host_refuses, host_serves, interrupted, notified_by, served_on, serves_gpio, serves_uart, uart_notified_by}
 use Rattle.gb_machine.specs.SvcTable.{is_svc_own}
 use Rattle.gb_machine.specs.Turns.{HostEvent}
 

@@ -1,42 +1,38 @@
 -- A law of points goes over what a served request brings about.
-use Rattle.std.proofs.Common.{◌≡◌, ◌⊎◌, ◌≤◌, ◌<◌, ℕ, ◌+◌, Bool, true, false, not, cond, Option, Some, None, List, [], ◌∷◌, ◌++◌, map, refl, sym, ap, ◌∙◌, inl, inr, ⊎_elim, subst, arith}
-use Rattle.std.proofs.lemmas.Bool.Decides.{nat_tests}
-use Rattle.std.specs.Prelude.{◌==◌, ◌&&◌}
-use Rattle.std.specs.List.{find, list_any}
+use Rattle.std.proofs.Common.{◌≡◌, ℕ, Bool, true, false, cond, Option, Some, None, List, [], ◌++◌, refl, sym, ap, ◌∙◌, subst}
+use Rattle.std.specs.Prelude.{◌==◌}
+use Rattle.std.specs.List.{list_any}
 use Rattle.gb_base.specs.declared.end.End.{End}
 use Rattle.gb_base.specs.declared.end.End.TheVariants as end
 use Rattle.gb_base.specs.declared.end.Side.{Side}
 use Rattle.gb_base.specs.declared.end.Side.TheVariants as side
 use Rattle.gb_base.specs.declared.entry.Entry.{Entry}
-use Rattle.gb_base.specs.declared.entry.Entry.TheVariants as entry
 use Rattle.gb_base.specs.declared.event.Event.TheVariants as event
 use Rattle.gb_formats.specs.Module.{Module, ModuleStep, module_serve}
 use Rattle.gb_invariants.proofs.Awaiting.{same-some}
 use Rattle.gb_invariants.proofs.Lists.{found-in}
-use Rattle.gb_invariants.proofs.Outcomes.{both-true, same-number}
+use Rattle.gb_invariants.proofs.Outcomes.{both-true}
 use Rattle.gb_laws.proofs.Acting.{goes-notices}
 use Rattle.gb_laws.proofs.Going.{At, Goes, goes-far_asks_all, goes-nothing, goes-tell, goes-▸}
 use Rattle.gb_laws.proofs.Places.{LivesOn, same_end-is}
-use Rattle.gb_laws.proofs.Points.{Hand, IsCaused, IsLive, IsNoticed, Law, Untouched, Unwired, Wired, Wires, acting, drops, others, replies, serves, unwires, wires}
+use Rattle.gb_laws.proofs.Points.{Hand, IsCaused, IsLive, IsNoticed, Law, Untouched, Unwired, Wired, Wires, acting, others, serves, unwires, wires}
 use Rattle.gb_laws.proofs.Served.{IsQuietly, ServedAs, inserting, plainly, removing, served}
 use Rattle.gb_machine.proofs.Opened.{machine_opened}
 use Rattle.gb_machine.specs.Actions.{Action, change, given, nothing, on_host, tell, ◌▸◌}
-use Rattle.gb_machine.specs.Bus.{Bus, Connection, Item, Place, other_side, place_of, queue, same_end}
-use Rattle.gb_machine.specs.Delivery.{popped, replied}
+use Rattle.gb_machine.specs.Bus.{Bus, Connection, Item, Place, place_of, queue, same_end}
 use Rattle.gb_machine.specs.Host.{Host}
 use Rattle.gb_machine.specs.HostActs.{notices}
 use Rattle.gb_machine.specs.HostServing.{HostServed, host_serves}
-use Rattle.gb_machine.specs.Incoming.{Incoming, reply_entry, reply_item, request_in}
+use Rattle.gb_machine.specs.Incoming.{Incoming, request_in}
 use Rattle.gb_machine.specs.Lists.{first}
-use Rattle.gb_machine.specs.Members.{Each, IsIn}
 use Rattle.gb_machine.specs.Modules.{module_at, with_module}
 use Rattle.gb_machine.specs.OwnAsking.{far_asks_all}
-use Rattle.gb_machine.specs.Responding.{Response, creates, destroys, far_response, host_behind, host_served, module_response, module_stepped, replies as replying, responds, responds_plainly, responds_with, response_at, serves as serving, serves_oneway, svc_decided, svc_response, svc_stepped, unroutes, with_ports}
+use Rattle.gb_machine.specs.Responding.{Response, creates, destroys, far_response, host_behind, module_response, module_stepped, responds_plainly, responds_with, response_at, svc_decided, with_ports}
 use Rattle.gb_machine.specs.Ports.{unrouted}
 use Rattle.gb_machine.specs.Runs.{Moment}
 use Rattle.gb_machine.specs.Serving.{invalid, nonexistent, plainly as plainly_answers, success}
 use Rattle.gb_machine.specs.State.{Port, State}
-use Rattle.gb_machine.specs.SvcTable.{Answered, Create, Destroy, SvcServed, SvcStep, Unroute, svc_step}
+use Rattle.gb_machine.specs.SvcTable.{Answered, Create, Destroy, SvcServed, Unroute, svc_step}
 use Rattle.gb_machine.specs.Turns.{HostEvent}
 use Rattle.gb_machine.specs.Wires as wiring
 use Rattle.gb_machine.specs.Wiring.{is_wired_to, joining, joins}

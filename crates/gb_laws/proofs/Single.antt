@@ -1,22 +1,19 @@
 -- Identifiers differ, each number is in one item, names name requests, and the counts add up.
-use Rattle.std.proofs.Common.{◌≡◌, ◌⊎◌, ◌≤◌, ℕ, ◌+◌, Bool, true, false, cond, Option, Some, None, List, [], ◌∷◌, ◌++◌, length, map, refl, ap, ◌∙◌, arith}
-use Rattle.std.specs.List.{filter}
-use Rattle.gb_base.specs.declared.entry.Entry.{Entry}
-use Rattle.gb_base.specs.declared.event.Event.{Event}
+use Rattle.std.proofs.Common.{◌≡◌, ◌≤◌, ℕ, ◌+◌, Bool, true, false, cond, Option, Some, None, List, [], ◌∷◌, ◌++◌, length, map, refl, arith}
 use Rattle.gb_base.specs.declared.outcome.Outcome.{Outcome}
 use Rattle.gb_base.specs.declared.outcome.Outcome.TheVariants as outcome
-use Rattle.gb_invariants.proofs.Counts.{one, times-append, times-cons, total-some}
+use Rattle.gb_invariants.proofs.Counts.{times-append, times-cons, total-some}
 use Rattle.gb_invariants.proofs.Lists.{each-from}
 use Rattle.gb_invariants.specs.Facts.{Loose, times_on}
 use Rattle.gb_laws.proofs.Basics.{Based, basis-throughout}
 use Rattle.gb_laws.proofs.Points.{loose_held}
 use Rattle.gb_laws.proofs.Runs.{weaker}
-use Rattle.gb_machine.specs.Bus.{Bus, Connection, Item, Request, outcome_of}
+use Rattle.gb_machine.specs.Bus.{Bus, Item, Request, outcome_of}
 use Rattle.gb_machine.specs.Events.{last_state, trace}
 use Rattle.gb_machine.specs.Holding.{held_on, is_held_on}
 use Rattle.gb_machine.specs.LawsBus.{HaveNamed, HaveOneItem, HaveOwnLabels, LabelsDiffer, NamesNameRequests, OneItemANumber, is_item_of}
-use Rattle.gb_machine.specs.Members.{Each, IsIn, times, total}
-use Rattle.gb_machine.specs.State.{Held, State, first_state}
+use Rattle.gb_machine.specs.Members.{times}
+use Rattle.gb_machine.specs.State.{Held, first_state}
 use Rattle.gb_machine.specs.Summary.{CountsAddUp, is_answered, is_cancelled, is_disconnected, is_sent, is_timed_out, is_unended, standing_from}
 
 -- Identifiers that are in use differ.

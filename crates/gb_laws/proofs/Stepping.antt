@@ -1,16 +1,12 @@
 -- A law of points goes over the step of each event.
-use Rattle.std.proofs.Common.{◌≡◌, ◌⊎◌, ◌≤◌, ◌<◌, ◌≢◌, ℕ, ◌+◌, Bool, true, false, not, cond, Option, Some, None, List, [], ◌∷◌, ◌++◌, length, map, refl, sym, ap, ◌∙◌, inl, inr, ⊎_elim, subst, append-nil, append_assoc, arith}
-use Rattle.std.proofs.lemmas.Bool.Decides.{nat_tests}
-use Rattle.std.specs.Prelude.{Result, Ok, Err, ◌==◌, is_none, is_some, nat_lt, option_and_then}
-use Rattle.std.specs.List.{filter}
+use Rattle.std.proofs.Common.{◌≡◌, ℕ, ◌+◌, Bool, true, false, cond, Option, Some, None, List, [], ◌∷◌, ◌++◌, length, map, refl, sym, ap, ◌∙◌}
+use Rattle.std.specs.Prelude.{Result, Ok, Err, is_none, is_some, nat_lt, option_and_then}
 use Rattle.gb_base.specs.declared.bridge.BridgeAsk.{BridgeAsk}
 use Rattle.gb_base.specs.declared.bridge.Reading.TheVariants as reading
 use Rattle.gb_base.specs.declared.end.End.{End}
 use Rattle.gb_base.specs.declared.end.End.TheVariants as end
 use Rattle.gb_base.specs.declared.end.Side.TheVariants as side
-use Rattle.gb_base.specs.declared.entry.Entry.{Entry}
 use Rattle.gb_base.specs.declared.entry.Entry.TheVariants as entry
-use Rattle.gb_base.specs.declared.event.Event.{Event}
 use Rattle.gb_base.specs.declared.event.Event.TheVariants as event
 use Rattle.gb_base.specs.declared.name.Name.{Name}
 use Rattle.gb_base.specs.declared.outcome.Outcome.{Outcome}
@@ -19,43 +15,37 @@ use Rattle.gb_base.specs.declared.refusal.Refusal.{Refusal}
 use Rattle.gb_formats.specs.Bridges.{BridgeFault, bridge_answer}
 use Rattle.gb_formats.specs.Module.{Module, Stir, Stirred, module_stir}
 use Rattle.gb_formats.specs.SvcRecords.{SvcAsk}
-use Rattle.gb_invariants.proofs.Awaiting.{is-open, not-both, opened, same-some}
-use Rattle.gb_invariants.proofs.Drawing.{next_label-on}
-use Rattle.gb_invariants.proofs.Lists.{each-in, in-filter}
+use Rattle.gb_invariants.proofs.Awaiting.{is-open, not-both}
 use Rattle.gb_laws.proofs.Acting.{goes-notices}
-use Rattle.gb_laws.proofs.Delivering.{ends-answers, ends-delivers, ends-idle, then-ends}
-use Rattle.gb_laws.proofs.Going.{At, Goes, goes-far_asks, goes-far_asks_all, goes-nothing, goes-tell, goes-tell_all, goes-when, goes-▸}
+use Rattle.gb_laws.proofs.Going.{At, Goes, goes-far_asks, goes-far_asks_all, goes-nothing, goes-tell_all, goes-when, goes-▸}
 use Rattle.gb_laws.proofs.Naming.{made-named}
-use Rattle.gb_laws.proofs.Points.{ActLaw, AreQuiet, Change, Hand, IsActing, IsGivenUpFor, IsLate, IsLive, Law, Untouched, Unwired, Wired, Wires, acting, binds, changed, frees, gives_up as giving_up, injects as injecting, is_quiet, names, others, passes, spends, tells, unwires as unwiring}
-use Rattle.gb_laws.proofs.Serving.{Ends, ends-going}
+use Rattle.gb_laws.proofs.Points.{AreQuiet, IsGivenUpFor, Law, Untouched, acting, binds, gives_up as giving_up, injects as injecting, names, others, spends}
 use Rattle.gb_machine.proofs.Opened.{machine_opened}
 use Rattle.gb_base.specs.declared.refusal.Refusal.TheVariants as why
 use Rattle.gb_formats.specs.Grammar.{default_timeout}
 use Rattle.gb_machine.specs.Asking.{asks_with}
-use Rattle.gb_machine.specs.Actions.{Action, by_state, change, each, given, nothing, on_bus, on_host, tell, tell_all, when, ◌▸◌}
-use Rattle.gb_machine.specs.Bus.{Bus, Connection, Place, Request, connection_of, is_open, next_number, or_else, outcome_of, place_of, request_of}
-use Rattle.gb_machine.specs.Events.{decided, does, shows, step}
-use Rattle.gb_machine.specs.GivingUp.{cancels, gives_up, later_by, ticks, times_out}
-use Rattle.gb_machine.specs.Holding.{held_on, marked}
+use Rattle.gb_machine.specs.Actions.{Action, by_state, change, each, given, nothing, on_bus, on_host, tell, when, ◌▸◌}
+use Rattle.gb_machine.specs.Bus.{Connection, Place, Request, connection_of, is_open, next_number, or_else, outcome_of, request_of}
+use Rattle.gb_machine.specs.Events.{shows}
+use Rattle.gb_machine.specs.GivingUp.{cancels, gives_up}
+use Rattle.gb_machine.specs.Holding.{marked}
 use Rattle.gb_machine.specs.Host.{Link, link_at, with_link}
-use Rattle.gb_machine.specs.HostActs.{follows, notices}
+use Rattle.gb_machine.specs.HostActs.{follows}
 use Rattle.gb_machine.specs.HostRefusals.{bridge_refusal, is_kept, send_refusal_at}
 use Rattle.gb_machine.specs.Labels.{fresh_label, next_label, no_label}
 use Rattle.gb_machine.specs.LineActions.{ap_draft, bridge_sent, bridges, copies, holds, injects, injects_at, with_hold, sends, sends_on, spent, stirred, stirs}
 use Rattle.gb_machine.specs.Lists.{first_met}
-use Rattle.gb_machine.specs.Members.{Each, EachTwo, IsIn}
 use Rattle.gb_machine.specs.Modules.{module_at, with_module}
-use Rattle.gb_machine.specs.Names.{bound, freed, is_bound, named, same_name}
-use Rattle.gb_machine.specs.OwnAsking.{far_asks, far_asks_all, svc_asks, svc_own}
-use Rattle.gb_machine.specs.Plugging.{boots, plugs, pulls, tells_inserted, wired_numbers, with_plugged, with_pulled}
-use Rattle.gb_machine.specs.Refusals.{cancel_refusal, has_no_label, is_reserved, longest_payload, link_bridge_refusal, link_send_refusal, module_place, name_refusal, refusal, svc_refusal}
-use Rattle.gb_machine.specs.Requests.{gave_up, is_due, open_requests}
-use Rattle.gb_machine.specs.Runs.{IsMoment, Moment, after, told_at}
-use Rattle.gb_machine.specs.Sending.{Draft, draft}
+use Rattle.gb_machine.specs.Names.{bound, is_bound, named}
+use Rattle.gb_machine.specs.OwnAsking.{far_asks_all, svc_asks, svc_own}
+use Rattle.gb_machine.specs.Plugging.{boots, plugs, tells_inserted, with_plugged}
+use Rattle.gb_machine.specs.Refusals.{cancel_refusal, has_no_label, is_reserved, longest_payload, link_bridge_refusal, link_send_refusal, module_place, name_refusal, refusal}
+use Rattle.gb_machine.specs.Requests.{gave_up}
+use Rattle.gb_machine.specs.Runs.{Moment}
+use Rattle.gb_machine.specs.Sending.{Draft}
 use Rattle.gb_machine.specs.Show.{lines_shown, shown}
 use Rattle.gb_machine.specs.State.{Plugged, State}
 use Rattle.gb_machine.specs.Turns.{HostEvent}
-use Rattle.gb_machine.specs.Wires as wiring
 
 -- ---- what a refusal that doesn't come says
 

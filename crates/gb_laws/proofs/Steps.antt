@@ -1,6 +1,5 @@
 -- A law of points goes over the step of each event.
-use Rattle.std.proofs.Common.{◌≡◌, ◌⊎◌, ℕ, Bool, true, false, Option, Some, None, List, [], ◌∷◌, ◌++◌, refl, sym, ap, ◌∙◌, subst, append_assoc}
-use Rattle.gb_base.specs.declared.entry.Entry.{Entry}
+use Rattle.std.proofs.Common.{◌≡◌, Option, Some, None, [], ◌∷◌, ◌++◌, refl, subst, append_assoc}
 use Rattle.gb_base.specs.declared.entry.Entry.TheVariants as entry
 use Rattle.gb_base.specs.declared.event.Event.{Event}
 use Rattle.gb_base.specs.declared.event.Event.TheVariants as event
@@ -8,17 +7,15 @@ use Rattle.gb_base.specs.declared.refusal.Refusal.{Refusal}
 use Rattle.gb_formats.specs.Module.{Level, Serial, module_of_kind, module_raw}
 use Rattle.gb_laws.proofs.Acting.{goes-notices}
 use Rattle.gb_laws.proofs.Delivering.{ends-answers, ends-delivers}
-use Rattle.gb_laws.proofs.Going.{At, goes-tell}
+use Rattle.gb_laws.proofs.Going.{At}
 use Rattle.gb_laws.proofs.Points.{Law, Untouched, Wires, acting, frees, resting, tells}
 use Rattle.gb_laws.proofs.Serving.{Ends, ends-going}
 use Rattle.gb_laws.proofs.Stepping.{rests-boots, rests-bridges, rests-cancels, rests-copies, rests-holds, rests-injects, rests-plugs, rests-sends, rests-shows, rests-stirs}
 use Rattle.gb_laws.proofs.Ticking.{ends-pulls, rests-ticks}
 use Rattle.gb_machine.proofs.Opened.{machine_opened}
-use Rattle.gb_machine.specs.Actions.{Action}
-use Rattle.gb_machine.specs.Events.{decided, does, step}
+use Rattle.gb_machine.specs.Events.{decided, does}
 use Rattle.gb_machine.specs.Refusals.{refusal}
 use Rattle.gb_machine.specs.Runs.{IsMoment, Moment, after, told_at}
-use Rattle.gb_machine.specs.State.{State}
 use Rattle.gb_machine.specs.Turns.{HostEvent}
 
 module _ (m : Moment) (law : Law m) where

@@ -1,35 +1,31 @@
 -- A law of points goes over ticks and pulls.
-use Rattle.std.proofs.Common.{◌≡◌, ◌⊎◌, ◌≤◌, ◌<◌, ◌≢◌, ℕ, ◌+◌, Bool, true, false, not, cond, Option, Some, None, List, [], ◌∷◌, ◌++◌, map, refl, sym, ap, ◌∙◌, inl, inr, ⊎_elim, subst, append-nil, append_assoc, arith}
+use Rattle.std.proofs.Common.{◌≡◌, ◌≤◌, ◌<◌, ◌≢◌, ℕ, ◌+◌, Bool, true, false, cond, Some, None, List, [], ◌∷◌, ◌++◌, map, refl, sym, ap, ◌∙◌, inl, inr, subst, append-nil, append_assoc, arith}
 use Rattle.std.proofs.lemmas.Bool.Decides.{nat_tests}
-use Rattle.std.specs.Prelude.{◌==◌, ◌&&◌, nat_le}
+use Rattle.std.specs.Prelude.{nat_le}
 use Rattle.std.specs.List.{filter}
-use Rattle.gb_base.specs.declared.bridge.Reading.TheVariants as reading
 use Rattle.gb_base.specs.declared.end.End.{End}
 use Rattle.gb_base.specs.declared.end.End.TheVariants as end
 use Rattle.gb_base.specs.declared.end.Side.TheVariants as side
 use Rattle.gb_base.specs.declared.entry.Entry.{Entry}
-use Rattle.gb_base.specs.declared.entry.Entry.TheVariants as entry
 use Rattle.gb_base.specs.declared.event.Event.TheVariants as event
-use Rattle.gb_base.specs.declared.outcome.Outcome.{Outcome}
 use Rattle.gb_base.specs.declared.outcome.Outcome.TheVariants as outcome
 use Rattle.gb_formats.specs.SvcRecords.{SvcAsk}
 use Rattle.gb_invariants.proofs.Awaiting.{is-open, not-both, opened, sent-request}
-use Rattle.gb_invariants.proofs.Lists.{each-filter, each-in, each-weaker, in-filter, two-filter}
+use Rattle.gb_invariants.proofs.Lists.{two-filter}
 use Rattle.gb_invariants.proofs.Outcomes.{Rise, both-true, in-open_requests, lookup-past, open_requests-rise, same-number}
 use Rattle.gb_invariants.specs.Facts.{IsBefore}
 use Rattle.gb_laws.proofs.Acting.{goes-notices}
-use Rattle.gb_laws.proofs.Delivering.{then-ends}
 use Rattle.gb_laws.proofs.Awaited.{awaited-rest}
-use Rattle.gb_laws.proofs.Going.{At, Goes, goes-far_asks, goes-when, goes-▸}
+use Rattle.gb_laws.proofs.Going.{At, goes-far_asks, goes-when}
 use Rattle.gb_laws.proofs.Points.{ActLaw, Change, IsActing, IsLate, IsLive, IsShutFor, Law, Point, Untouched, Unwired, Wired, Wires, acting, acts_asked, acts_failed, acts_left, acts_opened, acts_shut, acts_told, asks, changed, disconnected, others, passes, removed, tells, turns, unwires as unwiring}
-use Rattle.gb_laws.proofs.Serving.{Ends, ends-going}
+use Rattle.gb_laws.proofs.Serving.{Ends}
 use Rattle.gb_laws.proofs.Stepping.{Rests, rests-gives_up, rests-nothing, rests-▸}
 use Rattle.gb_machine.proofs.Lists.{nth-within}
 use Rattle.gb_machine.proofs.Opened.{machine_opened}
-use Rattle.gb_machine.specs.Actions.{Action, change, each, nothing, on_bus, tell, when, ◌▸◌}
+use Rattle.gb_machine.specs.Actions.{Action, change, each, when, ◌▸◌}
 use Rattle.gb_machine.specs.Bus.{Bus, Connection, Request, has_number, is_open, next_number, outcome_of, request_of}
 use Rattle.gb_machine.specs.GivingUp.{gives_up, later_by, ticks, times_out}
-use Rattle.gb_machine.specs.HostActs.{follows, with_awaited}
+use Rattle.gb_machine.specs.HostActs.{with_awaited}
 use Rattle.gb_machine.specs.Lists.{at_first, lookup, nth}
 use Rattle.gb_machine.specs.Members.{Each, EachTwo, IsIn}
 use Rattle.gb_machine.specs.OwnAsking.{svc_asks, svc_own}
