@@ -81,8 +81,8 @@ IsDue b (Ask n) =
 IsDue b (Reply n result payload) = is_awaited n b ≡ true
 IsDue b _ = Unit {0}
 
--- An item toward a side of a live connection that is clean has a number, and its request is awaited,
--- unless it is of the application processor's side and that is closed.
+-- An item toward a side of a live connection that is clean has a number, and its request is
+-- awaited, unless it is of the application processor's side and that is closed.
 pub record IsAnswerable (b : Bus) (c : Connection) (at : Side) (item : Item) : Type 0 where
   pub numbered : c.clean ≡ true → is_numbered item ≡ true
   pub due : c.clean ≡ true → (asker at item ≡ side.Ap → c.shut ≡ false) → IsDue b item

@@ -30,9 +30,10 @@ nothing_taken (Some x) = sym (append-nil x)
 pub long_answered : (left taken : Option (List ℕ)) (dump : Bool) (script : List ℕ) → IfSome left (IsScript script true)
     → IfSome left (λ text. (status.TooLong ≡ verdict (Check dump) text) × Appends taken taken (output (Check dump) text))
 long_answered None taken dump script h = tt
-long_answered (Some text) taken dump script h =
-    (ap (λ b. cond b status.TooLong (manifest_verdict (check_answer text))) h.long_is,
-    subst (λ b. Appends taken taken (cond b [] (manifest_text dump (check_answer text)))) h.long_is (nothing_taken taken))
+long_answered (Some text) taken dump script h = (
+  ap (λ b. cond b status.TooLong (manifest_verdict (check_answer text))) h.long_is,
+  subst (λ b. Appends taken taken (cond b [] (manifest_text dump (check_answer text)))) h.long_is (nothing_taken taken),
+)
 
 -- and that it is a front of the output
 pub long_within : (left taken : Option (List ℕ)) (dump : Bool) (script : List ℕ) → IfSome left (IsScript script true)
