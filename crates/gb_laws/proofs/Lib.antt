@@ -12,6 +12,7 @@ pub mod Replying
 pub mod Runs
 pub mod Served
 pub mod Serving
+pub mod Since
 pub mod Single
 pub mod Stepping
 pub mod Steps
