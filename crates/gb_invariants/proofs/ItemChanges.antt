@@ -56,7 +56,7 @@ changed-source b after k change numbers self items c live =
 
 -- ---- a request is made
 
-asked_on-self : (d : Draft) (label : ℕ) (b : Bus) (c : Connection) → SameSelf c (asked_on d label b c)
+pub asked_on-self : (d : Draft) (label : ℕ) (b : Bus) (c : Connection) → SameSelf c (asked_on d label b c)
 asked_on-self d label b c =
     both-self c (drawn d label c) (asked_on d label b c) (drawn-self d label c)
     (put-self (other_side d.side) (Ask (next_number b)) (drawn d label c))

@@ -6,6 +6,7 @@ pub mod Ended
 pub mod Going
 pub mod Loosening
 pub mod Naming
+pub mod Owning
 pub mod Places
 pub mod Points
 pub mod Replying

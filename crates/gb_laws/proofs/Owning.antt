@@ -1,0 +1,89 @@
+-- Each item was put on its own connection, by a request, a reply or an injection that was told.
+use Rattle.std.proofs.Common.{◌≡◌, ◌⊎◌, ◌≤◌, ◌<◌, ℕ, ◌+◌, Bool, true, false, not, cond, Option, Some, None, List, [], ◌∷◌, ◌++◌, length, map, refl, sym, ap, ◌∙◌, inl, inr, ⊎_elim, subst, append-nil}
+use Rattle.gb_base.specs.declared.end.End.{End}
+use Rattle.gb_base.specs.declared.end.End.TheVariants as end
+use Rattle.gb_base.specs.declared.end.Side.{Side}
+use Rattle.gb_base.specs.declared.end.Side.TheVariants as side
+use Rattle.gb_base.specs.declared.entry.ConnState.TheVariants as state
+use Rattle.gb_base.specs.declared.entry.Entry.{Entry}
+use Rattle.gb_base.specs.declared.entry.Entry.TheVariants as entry
+use Rattle.gb_formats.specs.Message.{message_size, response, spelling}
+use Rattle.gb_invariants.proofs.Lists.{in-front}
+use Rattle.gb_invariants.proofs.Selves.{SameSelf}
+use Rattle.gb_invariants.specs.Facts.{Loose}
+use Rattle.gb_laws.proofs.Points.{Point, loose}
+use Rattle.gb_laws.proofs.Since.{IsOpened, opened-more, since-more}
+use Rattle.gb_machine.specs.Bus.{Ask, Bus, Connection, Item, Raw, RawReply, Reply, Request, end_of, other_side, queue, request_of}
+use Rattle.gb_machine.specs.LawsHotPlug.{IsOwnItem, IsRepliedOn, told_since}
+use Rattle.gb_machine.specs.Members.{IsIn}
+
+-- items were told, and connections to modules were opened
+pub record OwnTold (a : Point) : Type 0 where
+  pub waiting : (c : Connection) (at : Side) (item : Item) → IsIn c a.state.bus.connections → IsIn item (queue at c)
+      → IsOwnItem a.told a.state.bus c at item
+  pub hanging : (c : Connection) (l : Loose) → IsIn c a.state.bus.connections → IsIn l (loose a) → c.number ≡ l.connection
+      → IsOwnItem a.told a.state.bus c l.side l.item
+  pub opened : (c : Connection) (i p : ℕ) → IsIn c a.state.bus.connections → c.peer ≡ end.Module i p → IsOpened c.number a.told
+
+-- requests that were made stay
+abbrev pub KeepsRequests : Bus → Bus → Type 0
+KeepsRequests b after = (n : ℕ) (r : Request) → request_of n b ≡ Some r → request_of n after ≡ Some r
+
+-- what is said of a connection's number and ends is said of one that has the same
+at-ends : (P : ℕ → ℕ → End → Type 0) (c d : Connection) → SameSelf c d → P c.number c.ap c.peer → P d.number d.ap d.peer
+at-ends P c d h x =
+    subst (λ k. P k d.ap d.peer) (sym h.number)
+    (subst (λ a. P c.number a d.peer) (sym h.ap) (subst (λ e. P c.number c.ap e) (sym h.peer) x))
+
+-- an item's own telling is so still once more is told, on a connection with the same ends
+pub own-more : (told es : List Entry) (b after : Bus) (c d : Connection) (at : Side) (item : Item) → SameSelf c d → KeepsRequests b after
+    → IsOwnItem told b c at item → IsOwnItem (told ++ es) after d at item
+own-more told es b after c d at (Ask n) self keeps h = (h.0, keeps n h.0 h.1, h.2 ∙ sym self.number, h.3)
+own-more told es b after c d side.Ap (Reply n result payload) self keeps h =
+    (h.0, keeps n h.0 h.1, h.2 ∙ sym self.number, h.3,
+    at-ends (λ k a p. IsIn (entry.Replied (Some n) p (end.Ap a) result (message_size payload) (spelling (response h.0.label h.0.kind result payload))) (told ++ es)) c d self
+    (in-front _ told es h.4))
+own-more told es b after c d side.Far (Reply n result payload) self keeps h =
+    (h.0, keeps n h.0 h.1, h.2 ∙ sym self.number, h.3,
+    at-ends (λ k a p. IsIn (entry.Replied (Some n) (end.Ap a) p result (message_size payload) (spelling (response h.0.label h.0.kind result payload))) (told ++ es)) c d self
+    (in-front _ told es h.4))
+own-more told es b after c d at (Raw bytes) self keeps h =
+    (h.0, at-ends (λ k a p. IsIn (entry.Raw p (end.Ap a) (length bytes) bytes) (told_since k (told ++ es))) c d self
+    (since-more c.number told es (entry.Raw c.peer (end.Ap c.ap) (length bytes) bytes) h.1))
+own-more told es b after c d at (RawReply label kind result payload) self keeps h =
+    (h.0, at-ends (λ k a p. IsIn (entry.Replied None (end.Ap a) p result (message_size payload) (spelling (response label kind result payload))) (told_since k (told ++ es))) c d self
+    (since-more c.number told es (entry.Replied None (end.Ap c.ap) c.peer result (message_size payload) (spelling (response label kind result payload))) h.1))
+
+-- Where a connection and its items come from.
+pub record OwnSource (a after : Point) (c : Connection) : Type 0 where
+  pub was : Connection
+  pub live : IsIn was a.state.bus.connections
+  pub self : SameSelf was c
+  pub items : (at : Side) (item : Item) → IsIn item (queue at c)
+      → IsIn item (queue at was) ⊎ IsOwnItem after.told after.state.bus c at item
+
+-- Items stay told where connections come from those before, with new items that are told.
+pub own-changed : (a after : Point) (es : List Entry) → after.told ≡ a.told ++ es → KeepsRequests a.state.bus after.state.bus
+    → ((c : Connection) → IsIn c after.state.bus.connections → OwnSource a after c)
+    → ((l : Loose) → IsIn l (loose after) → IsIn l (loose a) ⊎ ((c : Connection) → IsIn c after.state.bus.connections → c.number ≡ l.connection
+    → IsOwnItem after.told after.state.bus c l.side l.item))
+    → OwnTold a → OwnTold after
+own-changed a after es told keeps came hung h = record {
+  waiting = λ c at item live i.
+      let s = came c live in
+      ⊎_elim (λ old. still s.was c at item s.self (h.waiting s.was at item s.live old)) (λ new. new) (s.items at item i);
+  hanging = λ c l live i on.
+      let s = came c live in
+      ⊎_elim (λ old. still s.was c l.side l.item s.self (h.hanging s.was l s.live old (sym s.self.number ∙ on)))
+      (λ new. new c live on) (hung l i);
+  opened = λ c i p live at.
+      let s = came c live in
+      subst (λ k. IsOpened k after.told) (sym s.self.number)
+      (subst (IsOpened s.was.number) (sym told) (opened-more s.was.number a.told es (h.opened s.was i p s.live (sym s.self.peer ∙ at))));
+}
+  where
+    still : (c d : Connection) (at : Side) (item : Item) → SameSelf c d → IsOwnItem a.told a.state.bus c at item
+        → IsOwnItem after.told after.state.bus d at item
+    still c d at item self x =
+        subst (λ t. IsOwnItem t after.state.bus d at item) (sym told)
+        (own-more a.told es a.state.bus after.state.bus c d at item self keeps x)
