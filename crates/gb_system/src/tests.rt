@@ -217,6 +217,7 @@ fn requests_are_refused(rt: HostRuntime) -> Result<(), Fail> {
     let too_large = system.step(&send(&rt, b"a", 0x13, large))?;
     are(&rt, &too_large, &[Seen::Refused(Refusal::TooLarge)]);
     for kind in [3u8, 7, 8, 11, 12, 33, 35, 37, 39] {
+        let mut system = System::new(rt.alloc())?;
         let large = Bytes::from_slice(rt.alloc(), &[0; 2041])?;
         let kept = system.step(&send(&rt, b"a", kind, large))?;
         are(&rt, &kept, &[Seen::Refused(Refusal::Unsupported)]);
