@@ -6,6 +6,8 @@ pub mod Ended
 pub mod Going
 pub mod Loosening
 pub mod Naming
+pub mod OwnReplies
+pub mod Owned
 pub mod Owning
 pub mod Places
 pub mod Points

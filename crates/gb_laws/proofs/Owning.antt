@@ -8,13 +8,16 @@ use Rattle.gb_base.specs.declared.entry.ConnState.TheVariants as state
 use Rattle.gb_base.specs.declared.entry.Entry.{Entry}
 use Rattle.gb_base.specs.declared.entry.Entry.TheVariants as entry
 use Rattle.gb_formats.specs.Message.{message_size, response, spelling}
-use Rattle.gb_invariants.proofs.Lists.{in-front}
+use Rattle.gb_invariants.proofs.Lists.{in-front, in-pushed}
+use Rattle.gb_invariants.proofs.Apart.{SameEnds}
+use Rattle.gb_invariants.proofs.Numbers.{in-changed}
 use Rattle.gb_invariants.proofs.Selves.{SameSelf}
-use Rattle.gb_invariants.specs.Facts.{Loose}
+use Rattle.gb_invariants.specs.Facts.{Loose, NumbersRise}
 use Rattle.gb_laws.proofs.Points.{Point, loose}
 use Rattle.gb_laws.proofs.Since.{IsOpened, opened-more, since-more}
-use Rattle.gb_machine.specs.Bus.{Ask, Bus, Connection, Item, Raw, RawReply, Reply, Request, end_of, other_side, queue, request_of}
+use Rattle.gb_machine.specs.Bus.{Ask, Bus, Connection, Item, Raw, RawReply, Reply, Request, end_of, has_number, other_side, queue, request_of}
 use Rattle.gb_machine.specs.LawsHotPlug.{IsOwnItem, IsRepliedOn, told_since}
+use Rattle.gb_machine.specs.Lists.{at_first}
 use Rattle.gb_machine.specs.Members.{IsIn}
 
 -- items were told, and connections to modules were opened
@@ -30,13 +33,13 @@ abbrev pub KeepsRequests : Bus → Bus → Type 0
 KeepsRequests b after = (n : ℕ) (r : Request) → request_of n b ≡ Some r → request_of n after ≡ Some r
 
 -- what is said of a connection's number and ends is said of one that has the same
-at-ends : (P : ℕ → ℕ → End → Type 0) (c d : Connection) → SameSelf c d → P c.number c.ap c.peer → P d.number d.ap d.peer
+pub at-ends : (P : ℕ → ℕ → End → Type 0) (c d : Connection) → SameEnds c d → P c.number c.ap c.peer → P d.number d.ap d.peer
 at-ends P c d h x =
     subst (λ k. P k d.ap d.peer) (sym h.number)
     (subst (λ a. P c.number a d.peer) (sym h.ap) (subst (λ e. P c.number c.ap e) (sym h.peer) x))
 
 -- an item's own telling is so still once more is told, on a connection with the same ends
-pub own-more : (told es : List Entry) (b after : Bus) (c d : Connection) (at : Side) (item : Item) → SameSelf c d → KeepsRequests b after
+pub own-more : (told es : List Entry) (b after : Bus) (c d : Connection) (at : Side) (item : Item) → SameEnds c d → KeepsRequests b after
     → IsOwnItem told b c at item → IsOwnItem (told ++ es) after d at item
 own-more told es b after c d at (Ask n) self keeps h = (h.0, keeps n h.0 h.1, h.2 ∙ sym self.number, h.3)
 own-more told es b after c d side.Ap (Reply n result payload) self keeps h =
@@ -58,7 +61,7 @@ own-more told es b after c d at (RawReply label kind result payload) self keeps 
 pub record OwnSource (a after : Point) (c : Connection) : Type 0 where
   pub was : Connection
   pub live : IsIn was a.state.bus.connections
-  pub self : SameSelf was c
+  pub self : SameEnds was c
   pub items : (at : Side) (item : Item) → IsIn item (queue at c)
       → IsIn item (queue at was) ⊎ IsOwnItem after.told after.state.bus c at item
 
@@ -82,8 +85,52 @@ own-changed a after es told keeps came hung h = record {
       (subst (IsOpened s.was.number) (sym told) (opened-more s.was.number a.told es (h.opened s.was i p s.live (sym s.self.peer ∙ at))));
 }
   where
-    still : (c d : Connection) (at : Side) (item : Item) → SameSelf c d → IsOwnItem a.told a.state.bus c at item
+    still : (c d : Connection) (at : Side) (item : Item) → SameEnds c d → IsOwnItem a.told a.state.bus c at item
         → IsOwnItem after.told after.state.bus d at item
     still c d at item self x =
         subst (λ t. IsOwnItem t after.state.bus d at item) (sym told)
         (own-more a.told es a.state.bus after.state.bus c d at item self keeps x)
+
+-- ---- where connections stay, or one of them changes
+
+pub ends-same : (c : Connection) → SameEnds c c
+ends-same c = record { number = refl; ap = refl; peer = refl }
+
+pub ends-of : (c d : Connection) → SameSelf c d → SameEnds c d
+ends-of c d h = record { number = h.number; ap = h.ap; peer = h.peer }
+
+-- loose items that were loose
+abbrev pub IsLooseOf : Point → Point → Type 0
+IsLooseOf a after = (l : Loose) → IsIn l (loose after) → IsIn l (loose a)
+
+pub own-still : (a after : Point) (es : List Entry) → after.told ≡ a.told ++ es → KeepsRequests a.state.bus after.state.bus
+    → after.state.bus.connections ≡ a.state.bus.connections → IsLooseOf a after → OwnTold a → OwnTold after
+own-still a after es told keeps same fewer h = own-changed a after es told keeps
+    (λ c live. record {
+      was = c;
+      live = subst (λ cs. IsIn c cs) same live;
+      self = ends-same c;
+      items = λ at item i. inl i;
+    })
+    (λ l i. inl (fewer l i)) h
+
+pub own-with : (a after : Point) (es : List Entry) (k : ℕ) (change : Connection → Connection) → NumbersRise a.state.bus
+    → after.told ≡ a.told ++ es → KeepsRequests a.state.bus after.state.bus
+    → after.state.bus.connections ≡ at_first (has_number k) change a.state.bus.connections
+    → ((c : Connection) → SameEnds c (change c))
+    → ((c : Connection) (at : Side) (item : Item) → IsIn c a.state.bus.connections → c.number ≡ k → IsIn item (queue at (change c))
+    → IsIn item (queue at c) ⊎ IsOwnItem after.told after.state.bus (change c) at item)
+    → ((l : Loose) → IsIn l (loose after) → IsIn l (loose a) ⊎ ((c : Connection) → IsIn c after.state.bus.connections → c.number ≡ l.connection
+    → IsOwnItem after.told after.state.bus c l.side l.item))
+    → OwnTold a → OwnTold after
+own-with a after es k change numbers told keeps same ends items hung h = own-changed a after es told keeps
+    (λ c live. ⊎_elim
+    (λ o. record { was = c; live = o.0; self = ends-same c; items = λ at item i. inl i })
+    (λ w. subst (λ x. OwnSource a after x) (sym w.3) (record {
+      was = w.0;
+      live = w.1;
+      self = ends w.0;
+      items = λ at item i. items w.0 at item w.1 w.2 i;
+    }))
+    (in-changed a.state.bus.connections k change c numbers.rise (subst (λ cs. IsIn c cs) same live)))
+    hung h
