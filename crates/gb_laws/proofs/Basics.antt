@@ -324,7 +324,7 @@ none-made zero r h = absurd cc
 none-made (suc n) r h = absurd cc
 
 -- nothing waits at first
-none-waits : (c : Connection) (at : Side) (item : Item) → IsIn c first_bus.connections → IsIn item (queue at c) → ⊥
+pub none-waits : (c : Connection) (at : Side) (item : Item) → IsIn c first_bus.connections → IsIn item (queue at c) → ⊥
 none-waits c at item (inl e) i = empty at (subst (λ x. IsIn item (queue at x)) e i)
   where
     empty : (s : Side) → IsIn item (queue s svc_connection) → ⊥

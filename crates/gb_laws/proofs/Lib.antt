@@ -3,6 +3,7 @@ pub mod Awaited
 pub mod Basics
 pub mod Delivering
 pub mod Ended
+pub mod Foreign
 pub mod Going
 pub mod Loosening
 pub mod Naming

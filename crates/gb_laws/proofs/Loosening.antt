@@ -35,7 +35,7 @@ in-map-held l [] i = absurd i
 in-map-held l (h ∷ hs) (inl e) = (h, inl refl, e)
 in-map-held l (h ∷ hs) (inr i) = let r = in-map-held l hs i in (r.0, inr r.1, r.2)
 
-map-held-in : (h : Held) (hs : List Held) → IsIn h hs → IsIn (loose_held h) (map loose_held hs)
+pub map-held-in : (h : Held) (hs : List Held) → IsIn h hs → IsIn (loose_held h) (map loose_held hs)
 map-held-in h [] i = absurd i
 map-held-in h (k ∷ ks) (inl e) = inl (ap loose_held e)
 map-held-in h (k ∷ ks) (inr i) = inr (map-held-in h ks i)

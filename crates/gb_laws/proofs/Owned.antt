@@ -90,7 +90,7 @@ first-in : (is : List Item) (item : Item) → first is ≡ Some item → IsIn it
 first-in [] item h = absurd cc
 first-in (i ∷ is) item h = inl (sym (same-some i item h))
 
-own-kept : (m : Moment) (a : Point) (x : Change m a) → Basis a → OwnTold a → OwnTold (changed m a x)
+pub own-kept : (m : Moment) (a : Point) (x : Change m a) → Basis a → OwnTold a → OwnTold (changed m a x)
 own-kept m a (tells e quiet) basis h = own-still a _ (e ∷ []) refl (λ k r made. made) refl (λ l i. i) h
 own-kept m a (asks d c label free live drawn) basis h = own-asked a _ d c label basis refl refl (λ l i. i) h
 own-kept m a (names name d c label free live drawn) basis h = own-asked a _ d c label basis refl refl (λ l i. i) h

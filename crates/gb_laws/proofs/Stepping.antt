@@ -60,7 +60,7 @@ met-last (p ∷ ps) b reason h = by p.0 h (met-last ps b reason)
     by true h rec = absurd cc
     by false h rec = rec h
 
-else-later : (o p : Option Refusal) → or_else o p ≡ None → p ≡ None
+pub else-later : (o p : Option Refusal) → or_else o p ≡ None → p ≡ None
 else-later None p h = h
 else-later (Some why) p h = absurd cc
 

@@ -2,6 +2,7 @@
 
 ghost use Rattle.gb_machine.specs.LawsBus.{LabelsDiffer, NamesNameRequests, OneItemANumber};
 ghost use Rattle.gb_machine.specs.LawsEnds.{EndsAreTold, EndsAtMostOnce};
+ghost use Rattle.gb_machine.specs.LawsHotPlug.{NoForeignMessage};
 ghost use Rattle.gb_machine.specs.Summary.{CountsAddUp};
 
 /// Each request has one outcome at most, and one end and one reply at most are told of it.
@@ -22,6 +23,12 @@ pub fn labels_differ()
 /// On a clean connection each number is in one item at most, of those that wait and that are held.
 pub fn one_item_a_number()
     ensures { OneItemANumber }
+{}
+
+/// What waits and what is held on a connection was put there by a request, a reply or an injection on
+/// that connection, and a delivery takes it from a connection that is live, wired and names the end.
+pub fn no_foreign_message()
+    ensures { NoForeignMessage }
 {}
 
 /// A name names a request that was made.

@@ -1,0 +1,88 @@
+-- No end handles a message of another connection.
+use Rattle.std.proofs.Common.{◌≡◌, ℕ, Bool, true, false, Option, Some, None, List, [], ◌∷◌, map, refl, sym, ap, ◌∙◌, inl, inr, subst}
+use Rattle.gb_base.specs.declared.end.End.{End}
+use Rattle.gb_base.specs.declared.end.End.TheVariants as end
+use Rattle.gb_base.specs.declared.end.Side.{Side}
+use Rattle.gb_base.specs.declared.end.Side.TheVariants as side
+use Rattle.gb_base.specs.declared.entry.Entry.{Entry}
+use Rattle.gb_base.specs.declared.event.Event.TheVariants as event
+use Rattle.gb_invariants.proofs.Lists.{each-from, in-filter}
+use Rattle.gb_invariants.proofs.Outcomes.{same-number}
+use Rattle.gb_laws.proofs.Basics.{Based, basis-first, basis-kept, basis-throughout, none-waits, rested}
+use Rattle.gb_laws.proofs.Loosening.{map-held-in}
+use Rattle.gb_laws.proofs.Owned.{own-kept}
+use Rattle.gb_laws.proofs.Owning.{OwnTold}
+use Rattle.gb_laws.proofs.Places.{place-is}
+use Rattle.gb_laws.proofs.Points.{Basis, Law, Point, loose_held, resting}
+use Rattle.gb_laws.proofs.Runs.{at_each, throughout, weaker}
+use Rattle.gb_laws.proofs.Stepping.{else-later}
+use Rattle.gb_laws.proofs.Steps.{over-step}
+use Rattle.gb_machine.specs.Bus.{Connection, Item, Place, end_of, place_of, queue, svc_connection}
+use Rattle.gb_machine.specs.Holding.{held_on, is_held_on}
+use Rattle.gb_machine.specs.LawsHotPlug.{HasOwnItems, HaveOwnItems, NoForeignMessage, IsOwnItem, TakesFromItsConnection}
+use Rattle.gb_machine.specs.Lists.{first}
+use Rattle.gb_machine.specs.Members.{Each, IsIn}
+use Rattle.gb_machine.specs.Refusals.{deliver_refusal, empty_refusal, end_refusal, refusal}
+use Rattle.gb_machine.specs.Runs.{HoldsAtEachMoment, HoldsThroughout, Moment}
+use Rattle.gb_machine.specs.State.{Held, State, first_state}
+
+abbrev own_law : (m : Moment) → Law m
+own_law m = record {
+  holds = λ a. Basis a × OwnTold a;
+  basis = λ a h. h.0;
+  kept = λ a x h. (basis-kept m a x h.0, own-kept m a x h.0 h.1);
+}
+
+-- the basis, and that items are of their own connection
+abbrev pub OwnAt : List Entry → State → Type 0
+OwnAt told s = Basis (resting told s) × OwnTold (resting told s)
+
+own-first : OwnTold (resting [] first_state)
+own-first = record {
+  waiting = λ c at item live i. absurd (none-waits c at item live i);
+  hanging = λ c l live i on. absurd i;
+  opened = λ c i p live at. absurd (first-peer c live at);
+}
+  where
+    first-peer : (c : Connection) → IsIn c (svc_connection ∷ []) → {i p : ℕ} → c.peer ≡ end.Module i p → ⊥
+    first-peer c (inl e) at = let svc = sym (ap (λ (x : Connection). x.peer) e) ∙ at in absurd cc
+    first-peer c (inr j) at = j
+
+pub own-throughout : HoldsThroughout OwnAt
+own-throughout = throughout OwnAt (basis-first, own-first)
+    (λ m one h. let r = over-step m (own_law m) one h in
+    (rested _ _ r.0 r.1.0, record { waiting = r.1.1.waiting; hanging = r.1.1.hanging; opened = r.1.1.opened }))
+
+-- Each item is of its own connection.
+own-items : HoldsThroughout HaveOwnItems
+own-items = weaker OwnAt HaveOwnItems (λ told s h. each-from (HasOwnItems told s) s.bus.connections (λ c live. record {
+  to_ap = each-from (IsOwnItem told s.bus c side.Ap) c.to_ap (λ item i. h.1.waiting c side.Ap item live i);
+  to_far = each-from (IsOwnItem told s.bus c side.Far) c.to_far (λ item i. h.1.waiting c side.Far item live i);
+  held = each-from (λ (x : Held). IsOwnItem told s.bus c side.Far x.item) (held_on c.number s.held) (λ x i.
+      let f = in-filter (is_held_on c.number) s.held x i in
+      h.1.hanging c (loose_held x) live (map-held-in x s.held f.0) (sym (same-number x.connection c.number f.1)));
+})) own-throughout
+
+-- A delivery takes its item from a connection that is live, wired and names the end.
+takes-own : (m : Moment) → TakesFromItsConnection m
+takes-own m at is free =
+    by (place_of at m.before.bus.connections) refl
+    (else-later (end_refusal m.before at) (deliver_refusal (place_of at m.before.bus.connections)) (ap (refusal m.before) (sym is) ∙ free))
+  where
+    Taken : Type 0
+    Taken = (p : Place) × (item : Item) × (place_of at m.before.bus.connections ≡ Some p)
+        × IsIn p.connection m.before.bus.connections × (p.connection.wired ≡ true)
+        × (end_of p.side p.connection ≡ at) × (first (queue p.side p.connection) ≡ Some item)
+
+    front : (p : Place) → place_of at m.before.bus.connections ≡ Some p → (is : List Item) → queue p.side p.connection ≡ is → empty_refusal is ≡ None → Taken
+    front p e [] f g = absurd cc
+    front p e (i ∷ is) f g =
+        let q = place-is at m.before.bus.connections p e in (p, i, e, q.live, q.wired, q.is, ap first f)
+
+    by : (o : Option Place) → place_of at m.before.bus.connections ≡ o → deliver_refusal o ≡ None → Taken
+    by None e g = absurd cc
+    by (Some p) e g = front p e (queue p.side p.connection) refl g
+
+-- No end handles a message of another connection.
+pub no-foreign : NoForeignMessage
+no-foreign = (own-items, at_each Based TakesFromItsConnection basis-throughout (λ m one h. takes-own m))
