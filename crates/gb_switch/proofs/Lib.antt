@@ -1,0 +1,5 @@
+pub mod Climbs
+pub mod Ladders
+pub mod Others
+pub mod Ports
+pub mod Slots

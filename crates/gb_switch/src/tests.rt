@@ -1,0 +1,121 @@
+//! Rows of the power sequence. The expected values are those of its table.
+
+use crate::{Ladder, NotReady, NotRouted, Rung};
+use std::process::Abort;
+
+const DONE: Result<(), NotReady> = Ok(());
+
+const BELOW: Result<(), NotReady> = Err(NotReady::Below);
+
+const TAKEN: Result<(), NotReady> = Err(NotReady::Taken);
+
+/// The rungs from level 1 to level 6.
+const RUNGS: [Rung; 6] = [
+    Rung::Vsys,
+    Rung::Refclk,
+    Rung::Unipro,
+    Rung::Active,
+    Rung::Device(2),
+    Rung::Route(2),
+];
+
+/// Interface 2 has this level, and nothing else is plugged.
+fn at_level(rt: &impl Abort, level: usize) -> Ladder {
+    let mut ladder = Ladder::new();
+    ladder.plug(2);
+    for rung in RUNGS.iter().take(level) {
+        assert_eq!(rt; ladder.climb(2, *rung), DONE, "up to {rung:?}");
+    }
+    ladder
+}
+
+#[test]
+fn each_rung_at_each_level(rt: HostRuntime) {
+    let rows = [
+        (Rung::Vsys, [DONE; 7]),
+        (Rung::Refclk, [BELOW, DONE, DONE, DONE, DONE, DONE, DONE]),
+        (Rung::Unipro, [BELOW, BELOW, DONE, DONE, DONE, DONE, DONE]),
+        (Rung::Active, [BELOW, BELOW, BELOW, DONE, DONE, DONE, DONE]),
+        (
+            Rung::Device(3),
+            [BELOW, BELOW, BELOW, BELOW, DONE, DONE, TAKEN],
+        ),
+        (
+            Rung::Device(1),
+            [BELOW, BELOW, BELOW, BELOW, TAKEN, TAKEN, TAKEN],
+        ),
+        (
+            Rung::Device(32),
+            [BELOW, BELOW, BELOW, BELOW, TAKEN, TAKEN, TAKEN],
+        ),
+        (
+            Rung::Route(2),
+            [BELOW, BELOW, BELOW, BELOW, BELOW, DONE, DONE],
+        ),
+        (Rung::Route(3), [BELOW; 7]),
+    ];
+    for (rung, answers) in rows.iter() {
+        for (level, answer) in answers.iter().enumerate() {
+            let mut ladder = at_level(&rt, level);
+            assert_eq!(rt;
+                ladder.climb(2, *rung),
+                *answer,
+                "{rung:?} at level {level}"
+            );
+        }
+    }
+}
+
+#[test]
+fn a_lower_rung_leaves_the_level(rt: HostRuntime) {
+    let mut ladder = at_level(&rt, 6);
+    assert_eq!(rt; ladder.climb(2, Rung::Vsys), DONE);
+    assert!(rt; ladder.routed(2), "it has its route still");
+}
+
+#[test]
+fn a_device_id_is_of_one_interface(rt: HostRuntime) {
+    let mut ladder = at_level(&rt, 5);
+    ladder.plug(31);
+    for rung in RUNGS.iter().take(4) {
+        assert_eq!(rt; ladder.climb(31, *rung), DONE, "up to {rung:?}");
+    }
+    assert_eq!(rt; ladder.climb(31, Rung::Device(2)), TAKEN);
+    assert_eq!(rt; ladder.climb(2, Rung::Device(2)), DONE, "its own");
+    ladder.pull(2);
+    assert_eq!(rt; ladder.climb(31, Rung::Device(2)), DONE, "it is free");
+}
+
+#[test]
+fn a_route_is_lost(rt: HostRuntime) {
+    let mut ladder = at_level(&rt, 6);
+    assert_eq!(rt; ladder.unroute(2), Ok(()));
+    assert!(rt; !ladder.routed(2), "it has no route");
+    assert_eq!(rt; ladder.unroute(2), Err(NotRouted));
+    assert_eq!(rt;
+        ladder.climb(2, Rung::Route(2)),
+        DONE,
+        "device id 2 is kept"
+    );
+}
+
+#[test]
+fn a_plugged_module_is_off(rt: HostRuntime) {
+    let mut ladder = at_level(&rt, 6);
+    ladder.pull(2);
+    assert_eq!(rt; ladder.climb(2, Rung::Vsys), BELOW, "nothing is plugged");
+    ladder.plug(2);
+    assert_eq!(rt; ladder.climb(2, Rung::Refclk), BELOW, "its power is off");
+}
+
+#[test]
+fn nothing_is_plugged_elsewhere(rt: HostRuntime) {
+    let mut ladder = at_level(&rt, 6);
+    for intf in [0, 1, 3, 31, 32, 40, 255] {
+        for rung in RUNGS.iter() {
+            assert_eq!(rt; ladder.climb(intf, *rung), BELOW, "{rung:?} at {intf}");
+        }
+        assert_eq!(rt; ladder.unroute(intf), Err(NotRouted), "at {intf}");
+        assert!(rt; !ladder.routed(intf), "at {intf}");
+    }
+}
