@@ -36,8 +36,8 @@ told rung.Active = 0 ∷ 3 ∷ []
 told (rung.Device d) = []
 told (rung.Route d) = []
 
--- What a climb answers stands for an answer of the supervisory controller: Below for NONEXISTENT, and
--- Taken for INVALID.
+-- What a climb answers stands for an answer of the supervisory controller: Below for NONEXISTENT,
+-- and Taken for INVALID.
 abbrev pub served_by : Rung → Result (Unit {0}) NotReady → SvcServed
 served_by r (Ok u) = SvcServed.Answered success (told r)
 served_by r (Err not_ready.Below) = SvcServed.Answered nonexistent []
