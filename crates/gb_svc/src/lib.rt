@@ -1,0 +1,11 @@
+//! The responder of the supervisory controller.
+#![tactic(auto)]
+
+mod answers;
+mod served;
+mod table;
+#[cfg(test)]
+mod tests;
+
+pub use served::SvcServed;
+pub use table::serve;
