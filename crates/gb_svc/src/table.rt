@@ -21,9 +21,9 @@ const AP_INTERFACE: u8 = 1;
 /// The device id of the application processor.
 const AP_DEVICE: u8 = 1;
 
-/// Serves a request of the application processor (Greybus Specification, "SVC Protocol"). Create and
-/// Destroy come exactly where a request to make or to take down a connection passes all that power
-/// levels decide, and Unroute where a request to take down a route does.
+/// Serves a request of the application processor (Greybus Specification, "SVC Protocol"). Create
+/// and Destroy come exactly where a request to make or to take down a connection passes all that
+/// power levels decide, and Unroute where a request to take down a route does.
 pub fn serve(ladder: &mut Ladder, kind: u8, payload: &[u8]) -> SvcServed
     ensures step { (ports : List Port) → Stands ladder.old ports
         → Follows ladder.new (svc_step ports kind payload.now) (served_of result) }
