@@ -1,11 +1,8 @@
 -- No end handles a message of another connection.
-use Rattle.std.proofs.Common.{◌≡◌, ℕ, Bool, true, false, Option, Some, None, List, [], ◌∷◌, map, refl, sym, ap, ◌∙◌, inl, inr, subst}
-use Rattle.gb_base.specs.declared.end.End.{End}
+use Rattle.std.proofs.Common.{◌≡◌, ℕ, true, Option, Some, None, List, [], ◌∷◌, refl, sym, ap, ◌∙◌, inl, inr}
 use Rattle.gb_base.specs.declared.end.End.TheVariants as end
-use Rattle.gb_base.specs.declared.end.Side.{Side}
 use Rattle.gb_base.specs.declared.end.Side.TheVariants as side
 use Rattle.gb_base.specs.declared.entry.Entry.{Entry}
-use Rattle.gb_base.specs.declared.event.Event.TheVariants as event
 use Rattle.gb_invariants.proofs.Lists.{each-from, in-filter}
 use Rattle.gb_invariants.proofs.Outcomes.{same-number}
 use Rattle.gb_laws.proofs.Basics.{Based, basis-first, basis-kept, basis-throughout, none-waits, rested}
@@ -13,7 +10,7 @@ use Rattle.gb_laws.proofs.Loosening.{map-held-in}
 use Rattle.gb_laws.proofs.Owned.{own-kept}
 use Rattle.gb_laws.proofs.Owning.{OwnTold}
 use Rattle.gb_laws.proofs.Places.{place-is}
-use Rattle.gb_laws.proofs.Points.{Basis, Law, Point, loose_held, resting}
+use Rattle.gb_laws.proofs.Points.{Basis, Law, loose_held, resting}
 use Rattle.gb_laws.proofs.Runs.{at_each, throughout, weaker}
 use Rattle.gb_laws.proofs.Stepping.{else-later}
 use Rattle.gb_laws.proofs.Steps.{over-step}
@@ -21,9 +18,9 @@ use Rattle.gb_machine.specs.Bus.{Connection, Item, Place, end_of, place_of, queu
 use Rattle.gb_machine.specs.Holding.{held_on, is_held_on}
 use Rattle.gb_machine.specs.LawsHotPlug.{HasOwnItems, HaveOwnItems, NoForeignMessage, IsOwnItem, TakesFromItsConnection}
 use Rattle.gb_machine.specs.Lists.{first}
-use Rattle.gb_machine.specs.Members.{Each, IsIn}
+use Rattle.gb_machine.specs.Members.{IsIn}
 use Rattle.gb_machine.specs.Refusals.{deliver_refusal, empty_refusal, end_refusal, refusal}
-use Rattle.gb_machine.specs.Runs.{HoldsAtEachMoment, HoldsThroughout, Moment}
+use Rattle.gb_machine.specs.Runs.{HoldsThroughout, Moment}
 use Rattle.gb_machine.specs.State.{Held, State, first_state}
 
 abbrev own_law : (m : Moment) → Law m

@@ -1,4 +1,5 @@
 pub mod Acting
+pub mod Answering
 pub mod Awaited
 pub mod Basics
 pub mod Delivering

@@ -1,7 +1,6 @@
 -- A reply is of its own connection, where what it replies to was.
 use Rattle.std.proofs.Common.{◌≡◌, ℕ, Bool, true, false, cond, Option, Some, None, List, [], ◌∷◌, ◌++◌, refl, sym, ap, ◌∙◌, inl, subst}
 use Rattle.std.specs.Prelude.{Result, Ok, Err, option_map}
-use Rattle.gb_base.specs.declared.end.End.{End}
 use Rattle.gb_base.specs.declared.end.End.TheVariants as end
 use Rattle.gb_base.specs.declared.end.Side.{Side}
 use Rattle.gb_base.specs.declared.end.Side.TheVariants as side
@@ -31,24 +30,36 @@ asked-reply told b after x c d at n q r ends number keeps made own =
   where
     by : (at : Side) → q.connection ≡ d.number → q.side ≡ other_side at
         → IsRepliedOn d (other_side at) n r.result r.payload (told ++ reply_entry at x (incoming n q) r ∷ []) after
-    by side.Ap on from = (q, keeps n q made, on, from,
-        at-ends (λ k a p. IsIn (entry.Replied (Some n) (end.Ap a) p r.result (message_size r.payload) (spelling (response q.label q.kind r.result r.payload)))
-        (told ++ reply_entry side.Ap x (incoming n q) r ∷ [])) x d ends (in-behind _ told (reply_entry side.Ap x (incoming n q) r ∷ []) (inl refl)))
-    by side.Far on from = (q, keeps n q made, on, from,
-        at-ends (λ k a p. IsIn (entry.Replied (Some n) p (end.Ap a) r.result (message_size r.payload) (spelling (response q.label q.kind r.result r.payload)))
-        (told ++ reply_entry side.Far x (incoming n q) r ∷ [])) x d ends (in-behind _ told (reply_entry side.Far x (incoming n q) r ∷ []) (inl refl)))
+    by side.Ap on from = (
+      q,
+      keeps n q made,
+      on,
+      from,
+      at-ends (λ k a p. IsIn (entry.Replied (Some n) (end.Ap a) p r.result (message_size r.payload) (spelling (response q.label q.kind r.result r.payload)))
+          (told ++ reply_entry side.Ap x (incoming n q) r ∷ [])) x d ends (in-behind _ told (reply_entry side.Ap x (incoming n q) r ∷ []) (inl refl)),
+    )
+    by side.Far on from = (
+      q,
+      keeps n q made,
+      on,
+      from,
+      at-ends (λ k a p. IsIn (entry.Replied (Some n) p (end.Ap a) r.result (message_size r.payload) (spelling (response q.label q.kind r.result r.payload)))
+          (told ++ reply_entry side.Far x (incoming n q) r ∷ [])) x d ends (in-behind _ told (reply_entry side.Far x (incoming n q) r ∷ []) (inl refl)),
+    )
 
 -- the reply to raw bytes
 raw-reply : (told : List Entry) (after : Bus) (x c d : Connection) (at : Side) (y : Entry) (q : Message) (r : Answer) → SameEnds x d
     → c.number ≡ d.number → at ≡ side.Ap → IsIn y (told_since c.number told)
     → IsOwnItem (told ++ reply_entry at x (incoming_raw q) r ∷ []) after d (other_side at) (reply_item (incoming_raw q) r)
 raw-reply told after x c d at y q r ends number from i =
-    subst (λ s. IsOwnItem (told ++ reply_entry s x (incoming_raw q) r ∷ []) after d (other_side s) (reply_item (incoming_raw q) r)) (sym from)
-    (refl, subst (λ k. IsIn (entry.Replied None (end.Ap d.ap) d.peer r.result (message_size r.payload) (spelling (response q.id q.kind r.result r.payload)))
-    (told_since k (told ++ reply_entry side.Ap x (incoming_raw q) r ∷ []))) number
-    (at-ends (λ k a p. IsIn (entry.Replied None (end.Ap a) p r.result (message_size r.payload) (spelling (response q.id q.kind r.result r.payload)))
-    (told_since c.number (told ++ reply_entry side.Ap x (incoming_raw q) r ∷ []))) x d ends
-    (since-opened c.number told y i (reply_entry side.Ap x (incoming_raw q) r ∷ []) (reply_entry side.Ap x (incoming_raw q) r) (inl refl))))
+    subst (λ s. IsOwnItem (told ++ reply_entry s x (incoming_raw q) r ∷ []) after d (other_side s) (reply_item (incoming_raw q) r)) (sym from) (
+      refl,
+      subst (λ k. IsIn (entry.Replied None (end.Ap d.ap) d.peer r.result (message_size r.payload) (spelling (response q.id q.kind r.result r.payload)))
+          (told_since k (told ++ reply_entry side.Ap x (incoming_raw q) r ∷ []))) number
+          (at-ends (λ k a p. IsIn (entry.Replied None (end.Ap a) p r.result (message_size r.payload) (spelling (response q.id q.kind r.result r.payload)))
+          (told_since c.number (told ++ reply_entry side.Ap x (incoming_raw q) r ∷ []))) x d ends
+          (since-opened c.number told y i (reply_entry side.Ap x (incoming_raw q) r ∷ []) (reply_entry side.Ap x (incoming_raw q) r) (inl refl))),
+    )
 
 pub own-reply : (told : List Entry) (b after : Bus) (x c d : Connection) (at : Side) (item : Item) (q : Incoming) (r : Answer) → SameEnds x d
     → c.number ≡ d.number → KeepsRequests b after → request_in item b ≡ Some q → IsOwnItem told b c at item

@@ -1,42 +1,37 @@
 -- Each item is of its own connection, at every point.
-use Rattle.std.proofs.Common.{◌≡◌, ◌⊎◌, ◌≤◌, ◌<◌, ◌≢◌, ℕ, ◌+◌, Bool, true, false, not, cond, Option, Some, None, List, [], ◌∷◌, ◌++◌, length, map, refl, sym, ap, ◌∙◌, inl, inr, ⊎_elim, subst, append-nil, arith}
-use Rattle.std.specs.Prelude.{Result, Ok, Err, ◌==◌, option_map}
+use Rattle.std.proofs.Common.{◌≡◌, ◌⊎◌, ℕ, true, false, Option, Some, None, List, [], ◌∷◌, ◌++◌, length, map, refl, sym, ap, ◌∙◌, inl, inr, ⊎_elim, subst, append-nil, arith}
+use Rattle.std.specs.Prelude.{◌==◌}
 use Rattle.gb_base.specs.declared.end.End.TheVariants as end
 use Rattle.gb_base.specs.declared.end.Side.{Side}
 use Rattle.gb_base.specs.declared.end.Side.TheVariants as side
 use Rattle.gb_base.specs.declared.entry.ConnState.TheVariants as state
 use Rattle.gb_base.specs.declared.entry.Entry.{Entry}
 use Rattle.gb_base.specs.declared.entry.Entry.TheVariants as entry
-use Rattle.gb_base.specs.declared.fault.RawFault.{RawFault}
-use Rattle.gb_formats.specs.Message.{Message, message_size, response, spelling}
-use Rattle.gb_formats.specs.Wire.{raw_message}
 use Rattle.gb_invariants.proofs.Apart.{SameEnds}
 use Rattle.gb_invariants.proofs.Awaiting.{same-some, sent-new, sent-request}
 use Rattle.gb_invariants.proofs.ItemChanges.{asked_on-self, other-other}
 use Rattle.gb_invariants.proofs.Labels.{asked_on}
-use Rattle.gb_invariants.proofs.Lists.{in-behind, in-pushed, in-without}
+use Rattle.gb_invariants.proofs.Lists.{in-pushed, in-without}
 use Rattle.gb_invariants.proofs.Numbers.{in-changed, same-connection}
 use Rattle.gb_invariants.proofs.Selves.{SameSelf, both-self, drawn-queue, front-queue, front-self, put-queue, put-self}
 use Rattle.gb_invariants.specs.Facts.{Loose}
 use Rattle.gb_laws.proofs.Awaited.{awaited-rest}
-use Rattle.gb_laws.proofs.Basics.{basis-first, basis-kept, loose_of, rested, taken-is}
+use Rattle.gb_laws.proofs.Basics.{loose_of, taken-is}
 use Rattle.gb_laws.proofs.Loosening.{fewer-held, fewer-taken, fewer-without, held-at}
 use Rattle.gb_laws.proofs.OwnReplies.{own-reply}
-use Rattle.gb_laws.proofs.Owning.{IsLooseOf, KeepsRequests, OwnSource, OwnTold, ends-of, ends-same, own-changed, own-more, own-still, own-with}
+use Rattle.gb_laws.proofs.Owning.{IsLooseOf, OwnTold, ends-of, ends-same, own-changed, own-more, own-still, own-with}
 use Rattle.gb_laws.proofs.Places.{IsPlace, module-far, place-is}
-use Rattle.gb_laws.proofs.Points.{Basis, Change, Hand, IsStill, Law, Point, asked_told, acts_asked, acts_failed, acts_left, acts_opened, acts_shut, acts_told, answers, asks, binds, changed, drops, forgets, frees, gives_up, holds, injects, loose, loose_hand, loose_held, names, others, passes, replies, resting, serves, spends, takes, takes_held, tells, turns, unwires, wires}
-use Rattle.gb_laws.proofs.Since.{IsOpened, opened-more, opening-opened, since-more, since-opened}
-use Rattle.gb_machine.specs.Bus.{Ask, Bus, Connection, Item, Raw, RawReply, Reply, Request, end_of, has_number, next_number, other_side, queue, request_of}
+use Rattle.gb_laws.proofs.Points.{Basis, Change, Hand, Point, asked_told, acts_asked, acts_failed, acts_left, acts_opened, acts_shut, acts_told, answers, asks, binds, changed, drops, forgets, frees, gives_up, holds, injects, loose, loose_hand, loose_held, names, others, passes, replies, serves, spends, takes, takes_held, tells, turns, unwires, wires}
+use Rattle.gb_laws.proofs.Since.{IsOpened, opened-more, opening-opened}
+use Rattle.gb_machine.specs.Bus.{Ask, Bus, Connection, Item, Raw, end_of, has_number, next_number, other_side, queue, request_of}
 use Rattle.gb_machine.specs.Delivery.{popped, replied, without_front}
 use Rattle.gb_machine.specs.Holding.{held_on}
-use Rattle.gb_machine.specs.HostActs.{with_awaited}
 use Rattle.gb_machine.specs.Incoming.{reply_entry, reply_item}
 use Rattle.gb_machine.specs.LawsHotPlug.{IsOwnItem, told_since}
-use Rattle.gb_machine.specs.Lists.{at_first, first, nth, without}
+use Rattle.gb_machine.specs.Lists.{first, nth, without}
 use Rattle.gb_machine.specs.Members.{IsIn}
 use Rattle.gb_machine.specs.Runs.{Moment}
 use Rattle.gb_machine.specs.Sending.{Draft, put, queued, requested, sent}
-use Rattle.gb_machine.specs.State.{Held, State}
 use Rattle.gb_machine.specs.Wiring.{attached, injected, new_connection, next_connection}
 
 -- what isn't in hand
@@ -69,9 +64,12 @@ own-asked a after d c label basis told bus fewer h =
     items x at item live on i =
         ⊎_elim (λ old. inl (subst (λ is. IsIn item is) (drawn-queue at d label x) old))
         (λ new. inr (subst (λ s. IsOwnItem after.told after.state.bus (asked_on d label a.state.bus x) s item) (sym new.0)
-        (subst (λ y. IsOwnItem after.told after.state.bus (asked_on d label a.state.bus x) (other_side d.side) y) (sym new.1)
-        (requested d label, ap (request_of (next_number a.state.bus)) bus ∙ sent-new d label a.state.bus,
-        sym ((asked_on-self d label a.state.bus x).number ∙ on), sym (other-other d.side)))))
+        (subst (λ y. IsOwnItem after.told after.state.bus (asked_on d label a.state.bus x) (other_side d.side) y) (sym new.1) (
+          requested d label,
+          ap (request_of (next_number a.state.bus)) bus ∙ sent-new d label a.state.bus,
+          sym ((asked_on-self d label a.state.bus x).number ∙ on),
+          sym (other-other d.side),
+        ))))
         (put-queue at (other_side d.side) (Ask (next_number a.state.bus)) item (Rattle.gb_machine.specs.Sending.drawn d label x) i)
 
 wired-queue : (c : Connection) (s : Side) (x : Item) → IsIn x (queue s (record c { wired = true })) → IsIn x (queue s c)
@@ -86,7 +84,7 @@ cleared-queue : (c : Connection) (s : Side) (x : Item) → IsIn x (queue s (reco
 cleared-queue c side.Ap x i = absurd i
 cleared-queue c side.Far x i = absurd i
 
-first-in : (is : List Item) (item : Item) → first is ≡ Some item → IsIn item is
+pub first-in : (is : List Item) (item : Item) → first is ≡ Some item → IsIn item is
 first-in [] item h = absurd cc
 first-in (i ∷ is) item h = inl (sym (same-some i item h))
 

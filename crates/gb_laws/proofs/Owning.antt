@@ -1,22 +1,21 @@
 -- Each item was put on its own connection, by a request, a reply or an injection that was told.
-use Rattle.std.proofs.Common.{◌≡◌, ◌⊎◌, ◌≤◌, ◌<◌, ℕ, ◌+◌, Bool, true, false, not, cond, Option, Some, None, List, [], ◌∷◌, ◌++◌, length, map, refl, sym, ap, ◌∙◌, inl, inr, ⊎_elim, subst, append-nil}
+use Rattle.std.proofs.Common.{◌≡◌, ◌⊎◌, ℕ, Some, None, List, ◌++◌, length, refl, sym, ◌∙◌, inl, ⊎_elim, subst}
 use Rattle.gb_base.specs.declared.end.End.{End}
 use Rattle.gb_base.specs.declared.end.End.TheVariants as end
 use Rattle.gb_base.specs.declared.end.Side.{Side}
 use Rattle.gb_base.specs.declared.end.Side.TheVariants as side
-use Rattle.gb_base.specs.declared.entry.ConnState.TheVariants as state
 use Rattle.gb_base.specs.declared.entry.Entry.{Entry}
 use Rattle.gb_base.specs.declared.entry.Entry.TheVariants as entry
 use Rattle.gb_formats.specs.Message.{message_size, response, spelling}
-use Rattle.gb_invariants.proofs.Lists.{in-front, in-pushed}
+use Rattle.gb_invariants.proofs.Lists.{in-front}
 use Rattle.gb_invariants.proofs.Apart.{SameEnds}
 use Rattle.gb_invariants.proofs.Numbers.{in-changed}
 use Rattle.gb_invariants.proofs.Selves.{SameSelf}
 use Rattle.gb_invariants.specs.Facts.{Loose, NumbersRise}
 use Rattle.gb_laws.proofs.Points.{Point, loose}
 use Rattle.gb_laws.proofs.Since.{IsOpened, opened-more, since-more}
-use Rattle.gb_machine.specs.Bus.{Ask, Bus, Connection, Item, Raw, RawReply, Reply, Request, end_of, has_number, other_side, queue, request_of}
-use Rattle.gb_machine.specs.LawsHotPlug.{IsOwnItem, IsRepliedOn, told_since}
+use Rattle.gb_machine.specs.Bus.{Ask, Bus, Connection, Item, Raw, RawReply, Reply, Request, has_number, queue, request_of}
+use Rattle.gb_machine.specs.LawsHotPlug.{IsOwnItem, told_since}
 use Rattle.gb_machine.specs.Lists.{at_first}
 use Rattle.gb_machine.specs.Members.{IsIn}
 
@@ -42,20 +41,32 @@ at-ends P c d h x =
 pub own-more : (told es : List Entry) (b after : Bus) (c d : Connection) (at : Side) (item : Item) → SameEnds c d → KeepsRequests b after
     → IsOwnItem told b c at item → IsOwnItem (told ++ es) after d at item
 own-more told es b after c d at (Ask n) self keeps h = (h.0, keeps n h.0 h.1, h.2 ∙ sym self.number, h.3)
-own-more told es b after c d side.Ap (Reply n result payload) self keeps h =
-    (h.0, keeps n h.0 h.1, h.2 ∙ sym self.number, h.3,
-    at-ends (λ k a p. IsIn (entry.Replied (Some n) p (end.Ap a) result (message_size payload) (spelling (response h.0.label h.0.kind result payload))) (told ++ es)) c d self
-    (in-front _ told es h.4))
-own-more told es b after c d side.Far (Reply n result payload) self keeps h =
-    (h.0, keeps n h.0 h.1, h.2 ∙ sym self.number, h.3,
-    at-ends (λ k a p. IsIn (entry.Replied (Some n) (end.Ap a) p result (message_size payload) (spelling (response h.0.label h.0.kind result payload))) (told ++ es)) c d self
-    (in-front _ told es h.4))
-own-more told es b after c d at (Raw bytes) self keeps h =
-    (h.0, at-ends (λ k a p. IsIn (entry.Raw p (end.Ap a) (length bytes) bytes) (told_since k (told ++ es))) c d self
-    (since-more c.number told es (entry.Raw c.peer (end.Ap c.ap) (length bytes) bytes) h.1))
-own-more told es b after c d at (RawReply label kind result payload) self keeps h =
-    (h.0, at-ends (λ k a p. IsIn (entry.Replied None (end.Ap a) p result (message_size payload) (spelling (response label kind result payload))) (told_since k (told ++ es))) c d self
-    (since-more c.number told es (entry.Replied None (end.Ap c.ap) c.peer result (message_size payload) (spelling (response label kind result payload))) h.1))
+own-more told es b after c d side.Ap (Reply n result payload) self keeps h = (
+  h.0,
+  keeps n h.0 h.1,
+  h.2 ∙ sym self.number,
+  h.3,
+  at-ends (λ k a p. IsIn (entry.Replied (Some n) p (end.Ap a) result (message_size payload) (spelling (response h.0.label h.0.kind result payload))) (told ++ es)) c d self
+      (in-front _ told es h.4),
+)
+own-more told es b after c d side.Far (Reply n result payload) self keeps h = (
+  h.0,
+  keeps n h.0 h.1,
+  h.2 ∙ sym self.number,
+  h.3,
+  at-ends (λ k a p. IsIn (entry.Replied (Some n) (end.Ap a) p result (message_size payload) (spelling (response h.0.label h.0.kind result payload))) (told ++ es)) c d self
+      (in-front _ told es h.4),
+)
+own-more told es b after c d at (Raw bytes) self keeps h = (
+  h.0,
+  at-ends (λ k a p. IsIn (entry.Raw p (end.Ap a) (length bytes) bytes) (told_since k (told ++ es))) c d self
+      (since-more c.number told es (entry.Raw c.peer (end.Ap c.ap) (length bytes) bytes) h.1),
+)
+own-more told es b after c d at (RawReply label kind result payload) self keeps h = (
+  h.0,
+  at-ends (λ k a p. IsIn (entry.Replied None (end.Ap a) p result (message_size payload) (spelling (response label kind result payload))) (told_since k (told ++ es))) c d self
+      (since-more c.number told es (entry.Replied None (end.Ap c.ap) c.peer result (message_size payload) (spelling (response label kind result payload))) h.1),
+)
 
 -- Where a connection and its items come from.
 pub record OwnSource (a after : Point) (c : Connection) : Type 0 where

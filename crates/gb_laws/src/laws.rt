@@ -1,7 +1,7 @@
 //! The laws of runs.
 
 ghost use Rattle.gb_machine.specs.LawsBus.{LabelsDiffer, NamesNameRequests, OneItemANumber};
-ghost use Rattle.gb_machine.specs.LawsEnds.{EndsAreTold, EndsAtMostOnce};
+ghost use Rattle.gb_machine.specs.LawsEnds.{AnsweredByItsResponder, EndsAreTold, EndsAtMostOnce};
 ghost use Rattle.gb_machine.specs.LawsHotPlug.{NoForeignMessage};
 ghost use Rattle.gb_machine.specs.Summary.{CountsAddUp};
 
@@ -13,6 +13,12 @@ pub fn ends_at_most_once()
 /// What is told of ends is what the outcomes are, and each is of a request that was made.
 pub fn ends_are_told()
     ensures { EndsAreTold }
+{}
+
+/// A request is answered on its own live connection, and where that is clean by what its own
+/// responder replied.
+pub fn answered_by_its_responder()
+    ensures { AnsweredByItsResponder }
 {}
 
 /// Identifiers that are in use on a side of a connection differ, and are from 1 to 65,535.
