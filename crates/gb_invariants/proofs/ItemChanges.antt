@@ -136,7 +136,7 @@ items-replied loose later k at item b numbers fewer new h = fit-changed loose la
 
 -- ---- the front item is taken
 
-first-in : (is : List Item) (item : Item) → first is ≡ Some item → IsIn item is
+pub first-in : (is : List Item) (item : Item) → first is ≡ Some item → IsIn item is
 first-in [] item h = absurd cc
 first-in (i ∷ is) item h = inl (sym (same-some i item h))
 

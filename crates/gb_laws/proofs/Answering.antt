@@ -18,7 +18,7 @@ use Rattle.gb_laws.proofs.Awaited.{awaited-rest}
 use Rattle.gb_laws.proofs.Basics.{basis-kept}
 use Rattle.gb_laws.proofs.Foreign.{OwnAt, own-throughout}
 use Rattle.gb_laws.proofs.Loosening.{held-at, map-held-in}
-use Rattle.gb_laws.proofs.Owned.{first-in}
+use Rattle.gb_invariants.proofs.ItemChanges.{first-in}
 use Rattle.gb_laws.proofs.Owning.{KeepsRequests}
 use Rattle.gb_laws.proofs.Places.{module-far, place-is}
 use Rattle.gb_laws.proofs.Points.{Answers, IsGivenUpFor, AreQuiet, Basis, Change, Hand, Law, Point, Says, asked_told, acts_asked, acts_failed, acts_left, acts_opened, acts_shut, acts_told, answers, asks, binds, by_label, by_number, changed, drops, forgets, frees, gives_up, holds, injects, is_quiet, loose_held, names, numbered, others, passes, replies, sent_told, serves, spends, takes, takes_held, tells, turns, unclean, unwires, wires}

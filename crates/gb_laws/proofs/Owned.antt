@@ -1,5 +1,5 @@
 -- Each item is of its own connection, at every point.
-use Rattle.std.proofs.Common.{◌≡◌, ◌⊎◌, ℕ, true, false, Option, Some, None, List, [], ◌∷◌, ◌++◌, length, map, refl, sym, ap, ◌∙◌, inl, inr, ⊎_elim, subst, append-nil, arith}
+use Rattle.std.proofs.Common.{◌≡◌, ◌⊎◌, ℕ, true, false, Option, Some, None, [], ◌∷◌, ◌++◌, length, map, refl, sym, ap, ◌∙◌, inl, inr, ⊎_elim, subst, append-nil, arith}
 use Rattle.std.specs.Prelude.{◌==◌}
 use Rattle.gb_base.specs.declared.end.End.TheVariants as end
 use Rattle.gb_base.specs.declared.end.Side.{Side}
@@ -8,8 +8,8 @@ use Rattle.gb_base.specs.declared.entry.ConnState.TheVariants as state
 use Rattle.gb_base.specs.declared.entry.Entry.{Entry}
 use Rattle.gb_base.specs.declared.entry.Entry.TheVariants as entry
 use Rattle.gb_invariants.proofs.Apart.{SameEnds}
-use Rattle.gb_invariants.proofs.Awaiting.{same-some, sent-new, sent-request}
-use Rattle.gb_invariants.proofs.ItemChanges.{asked_on-self, other-other}
+use Rattle.gb_invariants.proofs.Awaiting.{sent-new, sent-request}
+use Rattle.gb_invariants.proofs.ItemChanges.{asked_on-self, first-in, other-other}
 use Rattle.gb_invariants.proofs.Labels.{asked_on}
 use Rattle.gb_invariants.proofs.Lists.{in-pushed, in-without}
 use Rattle.gb_invariants.proofs.Numbers.{in-changed, same-connection}
@@ -28,7 +28,7 @@ use Rattle.gb_machine.specs.Delivery.{popped, replied, without_front}
 use Rattle.gb_machine.specs.Holding.{held_on}
 use Rattle.gb_machine.specs.Incoming.{reply_entry, reply_item}
 use Rattle.gb_machine.specs.LawsHotPlug.{IsOwnItem, told_since}
-use Rattle.gb_machine.specs.Lists.{first, nth, without}
+use Rattle.gb_machine.specs.Lists.{nth, without}
 use Rattle.gb_machine.specs.Members.{IsIn}
 use Rattle.gb_machine.specs.Runs.{Moment}
 use Rattle.gb_machine.specs.Sending.{Draft, put, queued, requested, sent}
@@ -83,10 +83,6 @@ shut-queue c side.Far x i = i
 cleared-queue : (c : Connection) (s : Side) (x : Item) → IsIn x (queue s (record c { wired = false; to_ap = []; to_far = [] })) → IsIn x (queue s c)
 cleared-queue c side.Ap x i = absurd i
 cleared-queue c side.Far x i = absurd i
-
-pub first-in : (is : List Item) (item : Item) → first is ≡ Some item → IsIn item is
-first-in [] item h = absurd cc
-first-in (i ∷ is) item h = inl (sym (same-some i item h))
 
 pub own-kept : (m : Moment) (a : Point) (x : Change m a) → Basis a → OwnTold a → OwnTold (changed m a x)
 own-kept m a (tells e quiet) basis h = own-still a _ (e ∷ []) refl (λ k r made. made) refl (λ l i. i) h
