@@ -8,7 +8,7 @@ use Rattle.gb_payload.specs.Meaning.{Format, Means}
 use Rattle.gb_payload.specs.declared.fault.PayloadFault.{PayloadFault}
 use Rattle.gb_payload.specs.declared.fault.PayloadFault.TheVariants as fault
 use Rattle.gb_payload.proofs.Spelt.{are_widths, fields_spelt, spelt_fields}
-use Rattle.gb_payload.proofs.Places.{is_place, whole_known, whole_made, whole_parts, whole_size}
+use Rattle.gb_payload.proofs.Places.{IsSize, ReadsBy, is_place, one_size, whole_known, whole_made, whole_parts, whole_size}
 
 -- the record that a row makes of bytes
 abbrev pub made_by : {A : Type 0} → Row A → List ℕ → A
@@ -47,13 +47,13 @@ row_found kind_of payload_of (first ∷ rows) kind row s e = ⊎_elim
 
 -- ---- what is answered
 
--- where all records of a type have one size
-pub means_whole : {A B : Type 0} (format : Format A) (view : B → A) (kind size : ℕ) (made : List ℕ → A) (payload : List ℕ) → ((bytes : List ℕ) → format.read kind bytes ≡ whole size bytes (made bytes)) → ((bytes : List ℕ) → format.kind (made bytes) ≡ kind) → (length payload ≡ size → format.payload (made payload) ≡ payload) → (answer : Result B PayloadFault) → Answers view (whole size payload (made payload)) answer → Means format view kind payload answer
-means_whole format view kind size made payload reads kind_is spelt (Ok value) e =
-    let is = whole_made size payload (made payload) (view value) e in
-    (ap format.kind (sym is) ∙ kind_is payload, ap format.payload (sym is) ∙ spelt (whole_size size payload (made payload) (view value) e))
-means_whole format view kind size made payload reads kind_is spelt (Err fault.UnknownKind) e = absurd (whole_known size payload (made payload) e)
-means_whole format view kind size made payload reads kind_is spelt (Err (fault.Mismatch at)) e = is_place format kind size made reads kind_is payload at (whole_parts size payload (made payload) at e)
+-- where a record of a type has the size that its first bytes tell
+pub means_whole : {A B : Type 0} (format : Format A) (view : B → A) (kind : ℕ) (size : List ℕ → ℕ) (made : List ℕ → A) (payload : List ℕ) → IsSize size → ReadsBy format kind size made → ((bytes : List ℕ) → format.kind (made bytes) ≡ kind) → (length payload ≡ size payload → format.payload (made payload) ≡ payload) → (answer : Result B PayloadFault) → Answers view (whole (size payload) payload (made payload)) answer → Means format view kind payload answer
+means_whole format view kind size made payload s reads kind_is spelt (Ok value) e =
+    let is = whole_made (size payload) payload (made payload) (view value) e in
+    (ap format.kind (sym is) ∙ kind_is payload, ap format.payload (sym is) ∙ spelt (whole_size (size payload) payload (made payload) (view value) e))
+means_whole format view kind size made payload s reads kind_is spelt (Err fault.UnknownKind) e = absurd (whole_known (size payload) payload (made payload) e)
+means_whole format view kind size made payload s reads kind_is spelt (Err (fault.Mismatch at)) e = is_place format kind size made s reads kind_is payload at (whole_parts (size payload) payload (made payload) at e)
 
 -- where a table has the records of a type
 pub means_by_table : {A B : Type 0} (format : Format A) (rows : List (Row A)) (view : B → A) (kind : ℕ) (payload : List ℕ) → ((bytes : List ℕ) → format.read kind bytes ≡ read_table rows kind bytes) → AreSpelt format.kind format.payload rows → ((made : A) → format.kind made ≡ kind → row_of rows (format.kind made) ≢ None) → AreBytes payload → (answer : Result B PayloadFault) → Answers view (format.read kind payload) answer → Means format view kind payload answer
@@ -64,4 +64,4 @@ means_by_table {A} {B} format rows view kind payload reads spelt listed b answer
   by_row None n (Err (fault.Mismatch at)) e = cc
   by_row (Some row) n answer e =
       let f = row_found format.kind format.payload rows kind row spelt n in
-      means_whole format view kind (sum row.widths) (made_by row) payload (λ bytes. reads bytes ∙ ap (λ found. read_row found bytes) n) (λ bytes. f.spelt.kind bytes ∙ f.kind_is) (λ h. f.spelt.payload payload ∙ fields_spelt row.widths payload f.spelt.widths b h) answer e
+      means_whole format view kind (λ bytes. sum row.widths) (made_by row) payload (one_size (sum row.widths)) (λ bytes. reads bytes ∙ ap (λ found. read_row found bytes) n) (λ bytes. f.spelt.kind bytes ∙ f.kind_is) (λ h. f.spelt.payload payload ∙ fields_spelt row.widths payload f.spelt.widths b h) answer e
