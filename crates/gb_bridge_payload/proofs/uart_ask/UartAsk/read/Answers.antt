@@ -1,0 +1,8 @@
+use Rattle.std.proofs.Common.{arith, refl}
+use Rattle.gb_bridge_payload.specs.Views.{uart_ask_of}
+use Rattle.gb_bridge_payload.proofs.UartLaws.{uart_ask_means}
+use Rattle.gb_bridge_payload.proofs.uart_ask.UartAsk.read.Goals as goal
+
+pub returns-clause-means : goal.returns-clause-means
+returns-clause-means c =
+    uart_ask_means uart_ask_of c.args.kind c.args.payload.now (λ i. omega (arith, c.type_inv.payload i)) (λ bytes. refl) c.row.result c.row.ensures

@@ -1,0 +1,5 @@
+//! Types of the I2C protocol (in Linux's greybus_protocols.h `GB_I2C_TYPE_..`).
+
+pub const FUNCTIONALITY: u8 = 0x02;
+
+pub const TRANSFER: u8 = 0x05;

@@ -1,0 +1,34 @@
+//! Reads and writes the payloads of the bridged protocols: GPIO, I2C, SPI and UART.
+#![tactic(auto)]
+
+#[cfg(test)]
+mod fault_tests;
+mod gpio_ask;
+mod gpio_kinds;
+mod gpio_reply;
+mod i2c_ask;
+mod i2c_kinds;
+mod i2c_reply;
+mod reading;
+mod spi_ask;
+mod spi_kinds;
+mod spi_reply;
+#[cfg(test)]
+mod tests;
+mod transfer_entry;
+mod transfer_op;
+mod uart_ask;
+mod uart_kinds;
+mod uart_reply;
+
+pub use gb_payload::PayloadFault;
+pub use gpio_ask::GpioAsk;
+pub use gpio_reply::GpioReply;
+pub use i2c_ask::I2cAsk;
+pub use i2c_reply::I2cReply;
+pub use spi_ask::SpiAsk;
+pub use spi_reply::SpiReply;
+pub use transfer_entry::{ENTRY_SIZE, TransferEntry};
+pub use transfer_op::{OP_SIZE, TransferOp};
+pub use uart_ask::UartAsk;
+pub use uart_reply::UartReply;
