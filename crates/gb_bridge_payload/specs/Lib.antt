@@ -1,3 +1,4 @@
 pub mod Conditions
 pub mod Protocols
+pub mod Serving
 pub mod Views

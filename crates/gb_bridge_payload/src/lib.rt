@@ -1,6 +1,7 @@
 //! Reads and writes the payloads of the bridged protocols: GPIO, I2C, SPI and UART.
 #![tactic(auto)]
 
+mod bridge_fault;
 #[cfg(test)]
 mod fault_tests;
 mod gpio_ask;
@@ -21,6 +22,7 @@ mod uart_ask;
 mod uart_kinds;
 mod uart_reply;
 
+pub use bridge_fault::BridgeFault;
 pub use gb_payload::PayloadFault;
 pub use gpio_ask::GpioAsk;
 pub use gpio_reply::GpioReply;
