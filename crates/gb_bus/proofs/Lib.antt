@@ -1,5 +1,6 @@
 pub mod Delivers
 pub mod Endings
+pub mod Firsts
 pub mod Fronts
 pub mod Moves
 pub mod Queues

@@ -5,6 +5,7 @@ ghost use Rattle.gb_machine.specs.Bus as machine;
 ghost use Rattle.gb_machine.specs.Bus.{first_bus, outcome_of, request_of};
 ghost use Rattle.gb_machine.specs.Lists.{nth};
 ghost use Rattle.gb_machine.specs.Sending.{draft};
+ghost use Rattle.gb_machine.specs.Waiting.{first_waiting};
 ghost use Rattle.gb_bus.specs.Taking.{dropped, open_kind};
 
 use crate::ends::{first_outcome, other_side, side_at};
@@ -160,6 +161,19 @@ impl Bus {
             → option_copied result ≡ outcome_of n b }
     {
         self.slots.get(n)?.outcome.as_ref()
+    }
+
+    /// The first end at which something waits, in the order in which a settle goes.
+    pub fn first(&self) -> Option<End>
+        ensures { (b : machine.Bus) → Stands self.now b → result ≡ first_waiting b }
+    {
+        if !self.to_far.is_empty() {
+            Some(End::Svc)
+        } else if !self.to_ap.is_empty() {
+            Some(End::Ap(0))
+        } else {
+            None
+        }
     }
 
     /// The identifier of the next request of a side.

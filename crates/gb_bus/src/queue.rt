@@ -1,6 +1,6 @@
 //! The queue of messages toward one end.
 
-ghost use Rattle.std.specs.Prelude.{◌≡◌, [], ◌∷◌, ◌++◌, MatchOption, OnOk, OnErr};
+ghost use Rattle.std.specs.Prelude.{◌≡◌, [], ◌∷◌, ◌++◌, nat_le, length, MatchOption, OnOk, OnErr};
 
 use gb_base::{Bytes, OutOfMemory};
 use std::alloc::Global;
@@ -72,5 +72,12 @@ impl Queue {
             (λ item. self.old ≡ item ∷ self.new) }
     {
         self.items.pop_front()
+    }
+
+    /// Whether nothing waits.
+    pub fn is_empty(&self) -> bool
+        ensures { result ≡ nat_le (length self.now) 0 }
+    {
+        self.items.len() <= 0
     }
 }

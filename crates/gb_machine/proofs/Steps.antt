@@ -1,5 +1,5 @@
 -- What the machine's step is for each event, one equation for each way that it goes.
-use Rattle.std.proofs.Common.{◌≡◌, ℕ, ◌+◌, true, false, if◌then◌else◌, Some, None, is_some, List, [], ◌∷◌, refl, ap, ◌∙◌}
+use Rattle.std.proofs.Common.{◌≡◌, ℕ, suc, ◌+◌, true, false, not, if◌then◌else◌, Some, None, is_some, List, [], ◌∷◌, ◌++◌, refl, ap, ◌∙◌}
 use Rattle.gb_base.specs.declared.bridge.Reading.TheVariants as reading
 use Rattle.gb_base.specs.declared.end.End.{End}
 use Rattle.gb_base.specs.declared.end.End.TheVariants as end
@@ -14,8 +14,8 @@ use Rattle.gb_base.specs.declared.outcome.Outcome.TheVariants as outcome
 use Rattle.gb_base.specs.declared.refusal.Refusal.{Refusal}
 use Rattle.gb_base.specs.declared.refusal.Refusal.TheVariants as why
 use Rattle.gb_machine.proofs.Opened.{machine_opened}
-use Rattle.gb_machine.specs.Actions.{Action, Told, by_state, given, on_bus, tell, ◌▸◌}
-use Rattle.gb_machine.specs.Arriving.{arrives, asked_at, by_label, by_number, delivers_at, dropped, ends, ends_answered, forgets, handles, is_held, keeps, reading_for, takes}
+use Rattle.gb_machine.specs.Actions.{Action, Told, by_state, change, given, on_bus, tell, ◌▸◌}
+use Rattle.gb_machine.specs.Arriving.{arrives, asked_at, by_label, by_number, delivers, delivers_at, dropped, ends, ends_answered, forgets, handles, is_held, keeps, reading_for, takes}
 use Rattle.gb_machine.specs.Asking.{asked, asks, asks_with}
 use Rattle.gb_machine.specs.Bus.{Ask, Bus, Connection, Item, Place, Reply, Request, connection_of, is_open, next_number, or_else, outcome_of, other_side, place_of, queue, request_of}
 use Rattle.gb_machine.specs.Delivery.{answered, ended, forgotten, popped, replied}
@@ -26,14 +26,16 @@ use Rattle.gb_machine.specs.HostTurns.{ended_for}
 use Rattle.gb_machine.specs.Incoming.{incoming, reply_entry}
 use Rattle.gb_machine.specs.Labels.{next_label}
 use Rattle.gb_machine.specs.Lists.{first, first_met}
-use Rattle.gb_machine.specs.Names.{bound, named}
+use Rattle.gb_machine.specs.Names.{bound, freed, is_bound, named}
 use Rattle.gb_machine.specs.Refusals.{cancel_refusal, deliver_refusal, empty_refusal, end_refusal, refusal, svc_refusal}
 use Rattle.gb_machine.specs.Requests.{gave_up}
 use Rattle.gb_machine.specs.Responding.{replies, responds, responds_with, response_at, serves, serves_oneway}
 use Rattle.gb_machine.specs.Sending.{Draft, label_for, sent}
 use Rattle.gb_machine.specs.Waits.{awaited}
 use Rattle.gb_machine.specs.Serving.{Answer}
+use Rattle.gb_machine.specs.Settling.{settles_at, settles_from}
 use Rattle.gb_machine.specs.State.{State}
+use Rattle.gb_machine.specs.Waiting.{first_waiting}
 
 -- a state and entries
 abbrev pub told : State → List Entry → Told
@@ -96,63 +98,75 @@ is_held-bus side.Ap c b s = refl
 is_held-bus side.Far c b s = refl
 
 -- a delivery isn't refused where the end is there, and an item waits
-step-done : (s : State) (at : End) (p : Place) (item : Item)
+pub deliver-allowed : (s : State) (at : End) (p : Place) (item : Item)
     → end_refusal s at ≡ None
     → place_of at s.bus.connections ≡ Some p
     → first (queue p.side p.connection) ≡ Some item
-    → step s (event.Deliver at) ≡ behind_done (given (place_of at s.bus.connections) delivers_at s)
+    → refusal s (event.Deliver at) ≡ None
+deliver-allowed s at p item there named front =
+    ap (λ o. or_else o (deliver_refusal (place_of at s.bus.connections))) there
+    ∙ ap deliver_refusal named
+    ∙ not_empty (queue p.side p.connection) item front
+
+-- a delivery that isn't refused is done
+pub step-deliver : (s : State) (at : End) → refusal s (event.Deliver at) ≡ None
+    → step s (event.Deliver at) ≡ behind_done (delivers at s)
 unfolding machine_opened
-step-done s at p item there named front =
-    ap (λ o. decided (or_else o (deliver_refusal (place_of at s.bus.connections))) (event.Deliver at) s) there
-    ∙ ap (λ o. decided (deliver_refusal o) (event.Deliver at) s) named
-    ∙ ap (λ o. decided o (event.Deliver at) s) (not_empty (queue p.side p.connection) item front)
+step-deliver s at h = step-does s (event.Deliver at) h
+
+-- nothing is delivered where no wired connection names the end
+pub delivers-nowhere : (s : State) (at : End) → place_of at s.bus.connections ≡ None → delivers at s ≡ told s []
+unfolding machine_opened
+delivers-nowhere s at named = ap (λ o. given o delivers_at s) named
+
+-- and neither where nothing waits
+pub delivers-nothing : (s : State) (at : End) (p : Place)
+    → place_of at s.bus.connections ≡ Some p
+    → queue p.side p.connection ≡ []
+    → delivers at s ≡ told s []
+unfolding machine_opened
+delivers-nothing s at p named empty =
+    ap (λ o. given o delivers_at s) named
+    ∙ ap (λ is. given (first is) (λ i. on_bus (popped p.connection.number p.side) ▸ handles p.side p.connection i) s) empty
 
 -- what is delivered is taken from its queue and handled
-pub step-handles : (s : State) (at : End) (p : Place) (item : Item)
-    → end_refusal s at ≡ None
+pub delivers-handles : (s : State) (at : End) (p : Place) (item : Item)
     → place_of at s.bus.connections ≡ Some p
     → first (queue p.side p.connection) ≡ Some item
-    → step s (event.Deliver at)
-    ≡ behind_done (handles p.side p.connection item (with_bus (popped p.connection.number p.side s.bus) s))
+    → delivers at s ≡ handles p.side p.connection item (with_bus (popped p.connection.number p.side s.bus) s)
 unfolding machine_opened
-step-handles s at p item there named front =
-    step-done s at p item there named front
-    ∙ ap (λ o. behind_done (given o delivers_at s)) named
-    ∙ ap (λ o. behind_done (given o (λ i. on_bus (popped p.connection.number p.side) ▸ handles p.side p.connection i) s)) front
+delivers-handles s at p item named front =
+    ap (λ o. given o delivers_at s) named
+    ∙ ap (λ o. given o (λ i. on_bus (popped p.connection.number p.side) ▸ handles p.side p.connection i) s) front
 
 -- where the end takes it, it arrives
-pub step-arrives : (s : State) (at : End) (p : Place) (item : Item)
-    → end_refusal s at ≡ None
+pub delivers-arrives : (s : State) (at : End) (p : Place) (item : Item)
     → place_of at s.bus.connections ≡ Some p
     → first (queue p.side p.connection) ≡ Some item
     → takes p.side p.connection s ≡ true
-    → step s (event.Deliver at)
-    ≡ behind_done (arrives p.side p.connection item (with_bus (popped p.connection.number p.side s.bus) s))
+    → delivers at s ≡ arrives p.side p.connection item (with_bus (popped p.connection.number p.side s.bus) s)
 unfolding machine_opened
-step-arrives s at p item there named front taken =
+delivers-arrives s at p item named front taken =
     let t = with_bus (popped p.connection.number p.side s.bus) s in
-    step-handles s at p item there named front
-    ∙ ap (λ b. behind_done ((if b then arrives p.side p.connection item else tell (dropped item)) t))
+    delivers-handles s at p item named front
+    ∙ ap (λ b. (if b then arrives p.side p.connection item else tell (dropped item)) t)
     (takes-bus p.side p.connection (popped p.connection.number p.side s.bus) s ∙ taken)
 
 -- where the end doesn't take it, it is dropped
-pub step-drops : (s : State) (at : End) (p : Place) (item : Item)
-    → end_refusal s at ≡ None
+pub delivers-drops : (s : State) (at : End) (p : Place) (item : Item)
     → place_of at s.bus.connections ≡ Some p
     → first (queue p.side p.connection) ≡ Some item
     → takes p.side p.connection s ≡ false
-    → step s (event.Deliver at)
-    ≡ told (with_bus (popped p.connection.number p.side s.bus) s) (entry.Done ∷ dropped item ∷ [])
+    → delivers at s ≡ told (with_bus (popped p.connection.number p.side s.bus) s) (dropped item ∷ [])
 unfolding machine_opened
-step-drops s at p item there named front untaken =
+delivers-drops s at p item named front untaken =
     let t = with_bus (popped p.connection.number p.side s.bus) s in
-    step-handles s at p item there named front
-    ∙ ap (λ b. behind_done ((if b then arrives p.side p.connection item else tell (dropped item)) t))
+    delivers-handles s at p item named front
+    ∙ ap (λ b. (if b then arrives p.side p.connection item else tell (dropped item)) t)
     (takes-bus p.side p.connection (popped p.connection.number p.side s.bus) s ∙ untaken)
 
 -- a request is delivered and answered, and then what its answer brings about is done
-pub step-serves : (s : State) (at : End) (p : Place) (n : ℕ) (r : Request) (a : Answer) (behind : Action)
-    → end_refusal s at ≡ None
+pub delivers-serves : (s : State) (at : End) (p : Place) (n : ℕ) (r : Request) (a : Answer) (behind : Action)
     → place_of at s.bus.connections ≡ Some p
     → first (queue p.side p.connection) ≡ Some (Ask n)
     → takes p.side p.connection s ≡ true
@@ -160,23 +174,21 @@ pub step-serves : (s : State) (at : End) (p : Place) (n : ℕ) (r : Request) (a 
     → request_of n s.bus ≡ Some r
     → r.oneway ≡ false
     → response_at p.side p.connection (incoming n r) (with_bus (popped p.connection.number p.side s.bus) s) ≡ responds_with a behind
-    → step s (event.Deliver at)
-    ≡ behind_done ((replies p.side p.connection (incoming n r) a ▸ behind) (with_bus (popped p.connection.number p.side s.bus) s))
+    → delivers at s ≡ (replies p.side p.connection (incoming n r) a ▸ behind) (with_bus (popped p.connection.number p.side s.bus) s)
 unfolding machine_opened
-step-serves s at p n r a behind there named front taken free made twoway answered =
+delivers-serves s at p n r a behind named front taken free made twoway answered =
     let t = with_bus (popped p.connection.number p.side s.bus) s in
     let q = incoming n r in
-    step-arrives s at p (Ask n) there named front taken
-    ∙ ap (λ o. behind_done (given o (λ (m : Request). asked_at p.side p.connection (Ask n) (incoming n m)) t)) made
-    ∙ ap (λ b. behind_done ((if b then keeps p.connection (Ask n) q else serves p.side p.connection q) t))
+    delivers-arrives s at p (Ask n) named front taken
+    ∙ ap (λ o. given o (λ (m : Request). asked_at p.side p.connection (Ask n) (incoming n m)) t) made
+    ∙ ap (λ b. (if b then keeps p.connection (Ask n) q else serves p.side p.connection q) t)
     (is_held-bus p.side p.connection (popped p.connection.number p.side s.bus) s ∙ free)
-    ∙ ap (λ o. behind_done (responds p.side p.connection q o t)) answered
-    ∙ ap (λ b. behind_done ((if b then serves_oneway q (responds_with a behind)
-    else (replies p.side p.connection q a ▸ behind)) t)) twoway
+    ∙ ap (λ o. responds p.side p.connection q o t) answered
+    ∙ ap (λ b. (if b then serves_oneway q (responds_with a behind)
+    else (replies p.side p.connection q a ▸ behind)) t) twoway
 
--- a request is delivered and answered, and nothing more comes of it
-pub step-deliver_ask : (s : State) (at : End) (p : Place) (n : ℕ) (r : Request) (a : Answer) (behind : Action)
-    → end_refusal s at ≡ None
+-- a request is delivered and answered, and this is what more comes of it
+pub delivers-ask : (s : State) (at : End) (p : Place) (n : ℕ) (r : Request) (a : Answer) (behind : Action) (more : Told)
     → place_of at s.bus.connections ≡ Some p
     → first (queue p.side p.connection) ≡ Some (Ask n)
     → takes p.side p.connection s ≡ true
@@ -186,37 +198,29 @@ pub step-deliver_ask : (s : State) (at : End) (p : Place) (n : ℕ) (r : Request
     → response_at p.side p.connection (incoming n r) (with_bus (popped p.connection.number p.side s.bus) s) ≡ responds_with a behind
     → behind (with_bus (replied p.connection.number (other_side p.side) (Reply n a.result a.payload)
     (popped p.connection.number p.side s.bus)) s)
-    ≡ told (with_bus (replied p.connection.number (other_side p.side) (Reply n a.result a.payload)
-    (popped p.connection.number p.side s.bus)) s) []
-    → step s (event.Deliver at)
-    ≡ told (with_bus (replied p.connection.number (other_side p.side)
-    (Reply n a.result a.payload)
-    (popped p.connection.number p.side s.bus)) s)
-    (entry.Done ∷ reply_entry p.side p.connection (incoming n r) a ∷ [])
+    ≡ more
+    → delivers at s ≡ told more.state (reply_entry p.side p.connection (incoming n r) a ∷ more.entries)
 unfolding machine_opened
-step-deliver_ask s at p n r a behind there named front taken free made twoway answered quiet =
-    step-serves s at p n r a behind there named front taken free made twoway answered
-    ∙ ap (λ (w : Told). told w.state (entry.Done ∷ reply_entry p.side p.connection (incoming n r) a ∷ w.entries)) quiet
+delivers-ask s at p n r a behind more named front taken free made twoway answered is =
+    delivers-serves s at p n r a behind named front taken free made twoway answered
+    ∙ ap (λ (w : Told). told w.state (reply_entry p.side p.connection (incoming n r) a ∷ w.entries)) is
 
 -- on a clean connection an answer is taken by its number
-pub step-by_number : (s : State) (at : End) (p : Place) (n result : ℕ) (payload : List ℕ)
-    → end_refusal s at ≡ None
+pub delivers-by_number : (s : State) (at : End) (p : Place) (n result : ℕ) (payload : List ℕ)
     → place_of at s.bus.connections ≡ Some p
     → first (queue p.side p.connection) ≡ Some (Reply n result payload)
     → takes p.side p.connection s ≡ true
     → p.connection.clean ≡ true
-    → step s (event.Deliver at)
-    ≡ behind_done (by_number p.side p.connection n result payload (with_bus (popped p.connection.number p.side s.bus) s))
+    → delivers at s ≡ by_number p.side p.connection n result payload (with_bus (popped p.connection.number p.side s.bus) s)
 unfolding machine_opened
-step-by_number s at p n result payload there named front taken clean =
+delivers-by_number s at p n result payload named front taken clean =
     let t = with_bus (popped p.connection.number p.side s.bus) s in
-    step-arrives s at p (Reply n result payload) there named front taken
-    ∙ ap (λ b. behind_done ((if b then by_number p.side p.connection n result payload
-    else by_state (λ u. given (request_of n u.bus) (λ (r : Request). by_label p.side p.connection r.label result payload))) t)) clean
+    delivers-arrives s at p (Reply n result payload) named front taken
+    ∙ ap (λ b. (if b then by_number p.side p.connection n result payload
+    else by_state (λ u. given (request_of n u.bus) (λ (r : Request). by_label p.side p.connection r.label result payload))) t) clean
 
 -- an answer to an open request is delivered, says nothing, and no sequence waits for it
-pub step-deliver_answer : (s : State) (at : End) (p : Place) (n result : ℕ) (payload : List ℕ)
-    → end_refusal s at ≡ None
+pub delivers-answer : (s : State) (at : End) (p : Place) (n result : ℕ) (payload : List ℕ)
     → place_of at s.bus.connections ≡ Some p
     → first (queue p.side p.connection) ≡ Some (Reply n result payload)
     → takes p.side p.connection s ≡ true
@@ -224,37 +228,88 @@ pub step-deliver_answer : (s : State) (at : End) (p : Place) (n result : ℕ) (p
     → is_open n s.bus ≡ true
     → reading_for p.side p.connection result payload (request_of n s.bus) ≡ reading.Nothing
     → awaited n s.host ≡ None
-    → step s (event.Deliver at)
-    ≡ told (with_bus (ended n (answered result payload) (popped p.connection.number p.side s.bus)) s)
-    (entry.Done ∷ entry.Ended n (answered result payload) reading.Nothing ∷ [])
+    → delivers at s ≡ told (with_bus (ended n (answered result payload) (popped p.connection.number p.side s.bus)) s)
+    (entry.Ended n (answered result payload) reading.Nothing ∷ [])
 unfolding machine_opened
-step-deliver_answer s at p n result payload there named front taken clean unanswered says unawaited =
+delivers-answer s at p n result payload named front taken clean unanswered says unawaited =
     let t = with_bus (popped p.connection.number p.side s.bus) s in
     let u = with_bus (ended n (answered result payload) (popped p.connection.number p.side s.bus)) s in
-    step-by_number s at p n result payload there named front taken clean
-    ∙ ap (λ b. behind_done ((if b then ends_answered p.side p.connection n result payload
-    else forgets n (entry.Late n)) t)) unanswered
-    ∙ ap (λ o. behind_done (ends n (answered result payload) o t)) says
+    delivers-by_number s at p n result payload named front taken clean
+    ∙ ap (λ b. (if b then ends_answered p.side p.connection n result payload
+    else forgets n (entry.Late n)) t) unanswered
+    ∙ ap (λ o. ends n (answered result payload) o t) says
     ∙ ap (λ o. let w : Told = turns (ended_for o (answered result payload) s.host) u in
-    told w.state (entry.Done ∷ entry.Ended n (answered result payload) reading.Nothing ∷ w.entries)) unawaited
+    told w.state (entry.Ended n (answered result payload) reading.Nothing ∷ w.entries)) unawaited
 
 -- an answer to a request that isn't open is delivered
-pub step-deliver_late : (s : State) (at : End) (p : Place) (n result : ℕ) (payload : List ℕ)
-    → end_refusal s at ≡ None
+pub delivers-late : (s : State) (at : End) (p : Place) (n result : ℕ) (payload : List ℕ)
     → place_of at s.bus.connections ≡ Some p
     → first (queue p.side p.connection) ≡ Some (Reply n result payload)
     → takes p.side p.connection s ≡ true
     → p.connection.clean ≡ true
     → is_open n s.bus ≡ false
-    → step s (event.Deliver at)
-    ≡ told (with_bus (forgotten n (popped p.connection.number p.side s.bus)) s)
-    (entry.Done ∷ entry.Late n ∷ [])
+    → delivers at s ≡ told (with_bus (forgotten n (popped p.connection.number p.side s.bus)) s) (entry.Late n ∷ [])
 unfolding machine_opened
-step-deliver_late s at p n result payload there named front taken clean closed =
+delivers-late s at p n result payload named front taken clean closed =
     let t = with_bus (popped p.connection.number p.side s.bus) s in
-    step-by_number s at p n result payload there named front taken clean
-    ∙ ap (λ b. behind_done ((if b then ends_answered p.side p.connection n result payload
-    else forgets n (entry.Late n)) t)) closed
+    delivers-by_number s at p n result payload named front taken clean
+    ∙ ap (λ b. (if b then ends_answered p.side p.connection n result payload
+    else forgets n (entry.Late n)) t) closed
+
+-- ---- settles
+
+-- a settle
+pub step-settle : (s : State) (most : ℕ) → step s (event.Settle most) ≡ behind_done (settles_from most 0 s)
+unfolding machine_opened
+step-settle s most = refl
+
+-- what is told before the rest of a settle
+abbrev pub told_before : List Entry → Told → Told
+told_before es t = told t.state (es ++ t.entries)
+
+-- a delivery, and then the rest
+pub settles-on : (s after : State) (left done : ℕ) (at : End) (es : List Entry)
+    → first_waiting s.bus ≡ Some at
+    → delivers at s ≡ told after es
+    → settles_from (suc left) done s ≡ told_before es (settles_from left (done + 1) after)
+unfolding machine_opened
+settles-on s after left done at es waits is =
+    ap (λ o. settles_at o done (settles_from left (done + 1)) s) waits
+    ∙ ap (λ (w : Told). told_before w.entries (settles_from left (done + 1) w.state)) is
+
+-- nothing waits any more
+pub settles-none : (s : State) (left done : ℕ) → first_waiting s.bus ≡ None
+    → settles_from (suc left) done s ≡ told s (entry.Settled done ∷ [])
+unfolding machine_opened
+settles-none s left done waits = ap (λ o. settles_at o done (settles_from left (done + 1)) s) waits
+
+-- as many deliveries as there may be are made
+pub settles-end : (s : State) (done : ℕ) → settles_from 0 done s ≡ told s (entry.Settled done ∷ [])
+unfolding machine_opened
+settles-end s done = refl
+
+-- ---- names
+
+-- a request gets another name
+pub step-copy : (s : State) (x y : Name) (n : ℕ)
+    → named x s.names ≡ Some n
+    → named y s.names ≡ None
+    → step s (event.Copy x y) ≡ told (bound y n s) (entry.Done ∷ [])
+unfolding machine_opened
+step-copy s x y n from to =
+    ap (λ o. decided (first_met ((not (is_some o), why.NoName) ∷ (is_bound y s, why.Occupied) ∷ [])) (event.Copy x y) s) from
+    ∙ ap (λ o. decided (first_met ((is_some o, why.Occupied) ∷ [])) (event.Copy x y) s) to
+    ∙ ap (λ o. behind_done (given o (λ m. change (bound y m)) s)) from
+
+-- a name is free again
+pub step-forget : (s : State) (name : Name) (n : ℕ)
+    → named name s.names ≡ Some n
+    → step s (event.Forget name) ≡ told (freed name s) (entry.Done ∷ [])
+unfolding machine_opened
+step-forget s name n is =
+    ap (λ o. decided (first_met ((not (is_some o), why.NoName) ∷ [])) (event.Forget name) s) is
+
+-- ---- cancels
 
 -- the request of a name is given up, and no sequence waits for it
 pub step-cancel : (s : State) (name : Name) (n : ℕ)

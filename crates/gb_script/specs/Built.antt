@@ -18,18 +18,23 @@ is_svc_ask [] = false
 is_svc_ask (x ∷ []) = false
 is_svc_ask (x ∷ to ∷ ws) = bytes_eq to (codes "svc") && is_one_or_two ws
 
--- the words behind `deliver`: `svc` or `ap 0`
+-- the words behind `deliver`: `svc` or `ap A`
 abbrev pub is_delivery : List (List ℕ) → Bool
 is_delivery [] = false
-is_delivery (at ∷ []) = bytes_eq at (codes "svc")
-is_delivery (at ∷ a ∷ ws) = bytes_eq at (codes "ap") && bytes_eq a (codes "0")
+is_delivery (at ∷ ws) = bytes_eq at (codes "svc") || bytes_eq at (codes "ap")
+
+-- the words of which each line is built: `settle N`, `cancel @x`, `copy @x @y` and `drop @x`
+abbrev pub is_built_word : List ℕ → Bool
+is_built_word w =
+    bytes_eq w (codes "settle")
+    || (bytes_eq w (codes "cancel") || (bytes_eq w (codes "copy") || bytes_eq w (codes "drop")))
 
 -- The forms that are built, by the words of a line that the grammar reads.
 abbrev pub is_built_form : List (List ℕ) → Bool
 is_built_form [] = true
 is_built_form (w ∷ ws) =
     bytes_eq w (codes "send") && is_svc_ask ws
-    || (bytes_eq w (codes "deliver") && is_delivery ws || bytes_eq w (codes "cancel"))
+    || (bytes_eq w (codes "deliver") && is_delivery ws || is_built_word w)
 
 -- a line that asks for an event is built where its form is
 abbrev pub built_by : List (List ℕ) → Said → Bool

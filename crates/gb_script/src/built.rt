@@ -2,7 +2,7 @@
 
 ghost use Rattle.std.specs.Prelude.{◌≡◌};
 ghost use Rattle.gb_formats.specs.Words.{words};
-ghost use Rattle.gb_script.specs.Built.{is_built_form, is_delivery, is_one_or_two, is_svc_ask};
+ghost use Rattle.gb_script.specs.Built.{is_built_form, is_built_word, is_delivery, is_one_or_two, is_svc_ask};
 
 use crate::words::{first_word, is};
 
@@ -13,7 +13,7 @@ pub fn is_built_form(line: &[u8]) -> bool
     match first_word(line) {
         Some((first, rest)) => {
             is(first, "send") && is_svc_ask(rest)
-                || (is(first, "deliver") && is_delivery(rest) || is(first, "cancel"))
+                || (is(first, "deliver") && is_delivery(rest) || is_built_word(first))
         }
         None => true,
     }
@@ -45,15 +45,19 @@ fn is_one_or_two(rest: &[u8]) -> bool
     }
 }
 
-/// Whether the words behind `deliver` are `svc` or `ap 0`.
+/// Whether the words behind `deliver` are `svc` or `ap A`.
 fn is_delivery(rest: &[u8]) -> bool
     ensures { result ≡ is_delivery (words rest.now) }
 {
-    let Some((at, rest)) = first_word(rest) else {
-        return false;
-    };
     match first_word(rest) {
-        Some((ap, _)) => is(at, "ap") && is(ap, "0"),
-        None => is(at, "svc"),
+        Some((at, _)) => is(at, "svc") || is(at, "ap"),
+        None => false,
     }
+}
+
+/// Whether each line with this first word is built.
+fn is_built_word(first: &[u8]) -> bool
+    ensures { result ≡ is_built_word first.now }
+{
+    is(first, "settle") || is(first, "cancel") || is(first, "copy") || is(first, "drop")
 }

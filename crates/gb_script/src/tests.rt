@@ -40,6 +40,31 @@ fn reads_requests_and_cancels(rt: HostRuntime) {
     assert!(rt; is_cancel(&cancel));
 }
 
+#[test]
+fn reads_settles_and_names(rt: HostRuntime) {
+    let alloc = rt.alloc();
+    let settle = event(alloc, b"settle 65535", 0);
+    assert!(rt; matches!(settle, Ok(Some(Event::Settle { most: 65535 }))));
+    let ap = event(alloc, b"deliver ap 4095", 0);
+    assert!(rt; matches!(ap, Ok(Some(Event::Deliver { at: End::Ap(4095) }))));
+    let copy = event(alloc, b"copy @a @b", 0);
+    assert!(rt; is_copy(&copy));
+    let free = event(alloc, b"drop @a", 0);
+    assert!(rt; matches!(free, Ok(Some(Event::Forget { .. }))));
+    let module = event(alloc, b"deliver 2 1", 0);
+    assert!(rt; matches!(module, Err(LineFault::Bad(LineReason::NotBuilt))));
+}
+
+/// Whether a line copied `a` to `b`.
+fn is_copy(said: &Result<Option<Event>, LineFault>) -> bool {
+    match said {
+        Ok(Some(Event::Copy { from, to })) => {
+            from.word.bytes() == b"a".as_slice() && to.word.bytes() == b"b".as_slice()
+        }
+        _ => false,
+    }
+}
+
 /// Whether a line cancelled requester 2's `z9`.
 fn is_cancel(said: &Result<Option<Event>, LineFault>) -> bool {
     match said {
@@ -100,13 +125,9 @@ const NOT_BUILT: &[&str] = &[
     "send @x svc 13 - timeout 4294967295",
     "send @x 2 1 02 00",
     "send @x 2 1 02 - timeout 1",
-    "deliver ap 4095",
     "deliver 2 0",
-    "settle 65535",
     "hold 2 1",
     "answer 2 1 4294967295",
-    "copy @x @y",
-    "drop @x",
     "tick 1",
     "inject 2 1 -",
     "show",

@@ -1,5 +1,9 @@
 pub mod Cancels
+pub mod Copies
 pub mod Deliveries
 pub mod Landings
+pub mod Places
 pub mod Sends
+pub mod Served
+pub mod Settles
 pub mod SvcResults

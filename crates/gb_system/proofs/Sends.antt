@@ -8,7 +8,6 @@ use Rattle.gb_base.specs.declared.name.Name.{Name}
 use Rattle.gb_base.specs.declared.refusal.Refusal.{Refusal}
 use Rattle.gb_base.specs.declared.refusal.Refusal.TheVariants as why
 use Rattle.gb_bus.specs.Sending.{Sends}
-use Rattle.gb_bus.specs.Stands.{svc_with}
 use Rattle.gb_bus.specs.declared.answers.Sent.{Sent}
 use Rattle.gb_machine.proofs.Steps.{step-send_svc, told, with_bus}
 use Rattle.gb_machine.specs.Asking.{asked}
@@ -21,8 +20,8 @@ use Rattle.gb_machine.specs.Sending.{Draft, draft, drawn, label_for, put, reques
 use Rattle.gb_machine.specs.State.{State}
 use Rattle.gb_system.proofs.Landings.{each_more, lands, lands_refused, names_more}
 use Rattle.gb_system.specs.Told.{ask_told, early_refusal, send_of}
-use Rattle.gb_system.specs.Stands.{IsSvcAsk, OnlyReplies, Stands, StepsAs}
-use Rattle.gb_system.specs.declared.system.System.{System}
+use Rattle.gb_system.specs.Stands.{IsAlone, IsSvcAsk, PartiesStand, PartiesStep, svc_with}
+use Rattle.gb_system.specs.declared.parties.Parties.{Parties}
 
 -- the refusals of a request are the early ones, and then that no identifier is left
 refusals : (bound_already reserved large : Bool) (last : List (Bool × Refusal))
@@ -33,7 +32,7 @@ refusals false true large last = refl
 refusals false false true last = refl
 refusals false false false last = refl
 
-refusal_is : (x : System) (s : State) (name : Name) (kind : ℕ) (payload : List ℕ) → Stands x s
+refusal_is : (x : Parties) (s : State) (name : Name) (kind : ℕ) (payload : List ℕ) → PartiesStand x s
     → svc_refusal s name kind payload
     ≡ or_else (early_refusal name x.names kind payload) (first_met ((is_none (next_label 1 side.Ap s.bus), no_label) ∷ []))
 refusal_is x s name kind payload st =
@@ -49,9 +48,9 @@ unreserved_is false true large h = absurd (cc (h))
 unreserved_is false false large h = refl
 
 -- a request is refused early
-pub send_refused : (x : System) (s : State) (name : Name) (kind : ℕ) (payload : List ℕ) (timeout : ℕ) (why : Refusal) (es : List Entry)
-    → Stands x s → early_refusal name x.names kind payload ≡ Some why → es ≡ entry.Refused why ∷ []
-    → StepsAs x s (send_of name kind payload timeout) (Ok es)
+pub send_refused : (x : Parties) (s : State) (name : Name) (kind : ℕ) (payload : List ℕ) (timeout : ℕ) (why : Refusal) (es : List Entry)
+    → PartiesStand x s → early_refusal name x.names kind payload ≡ Some why → es ≡ entry.Refused why ∷ []
+    → PartiesStep x s (send_of name kind payload timeout) (Ok es)
 send_refused x s name kind payload timeout why es st h is =
     lands_refused x s (send_of name kind payload timeout) why es
     (refusal_is x s name kind payload st ∙ ap (λ o. or_else o (first_met ((is_none (next_label 1 side.Ap s.bus), no_label) ∷ []))) h) is st
@@ -61,53 +60,53 @@ abbrev svc_draft : ℕ → List ℕ → ℕ → Draft
 svc_draft kind payload timeout = draft 1 side.Ap kind payload timeout false
 
 -- what is left of the refusals of a request
-last_refusal : (x : System) (s : State) (name : Name) (kind : ℕ) (payload : List ℕ) → Stands x s
+last_refusal : (x : Parties) (s : State) (name : Name) (kind : ℕ) (payload : List ℕ) → PartiesStand x s
     → early_refusal name x.names kind payload ≡ None
     → svc_refusal s name kind payload ≡ first_met ((is_none (next_label 1 side.Ap s.bus), no_label) ∷ [])
 last_refusal x s name kind payload st h =
     refusal_is x s name kind payload st ∙ ap (λ o. or_else o (first_met ((is_none (next_label 1 side.Ap s.bus), no_label) ∷ []))) h
 
 -- no identifier is left
-pub send_spent : (x y : System) (s : State) (name : Name) (kind : ℕ) (payload : List ℕ) (timeout : ℕ) (es : List Entry)
-    → Stands x s → early_refusal name x.names kind payload ≡ None
+pub send_spent : (x y : Parties) (s : State) (name : Name) (kind : ℕ) (payload : List ℕ) (timeout : ℕ) (es : List Entry)
+    → PartiesStand x s → early_refusal name x.names kind payload ≡ None
     → label_for (svc_draft kind payload timeout) s.bus ≡ None
     → y ≡ x → es ≡ entry.Refused why.LabelsSpent ∷ []
-    → StepsAs y s (send_of name kind payload timeout) (Ok es)
+    → PartiesStep y s (send_of name kind payload timeout) (Ok es)
 send_spent x y s name kind payload timeout es st h none same is =
     lands_refused y s (send_of name kind payload timeout) why.LabelsSpent es
     (last_refusal x s name kind payload st h ∙ ap (λ o. first_met ((is_none o, no_label) ∷ [])) none) is
-    (subst (λ (w : System). Stands w s) (sym same) st)
+    (subst (λ (w : Parties). PartiesStand w s) (sym same) st)
 
 -- the state after a request
 abbrev after_send : State → Name → ℕ → List ℕ → ℕ → ℕ → State
 after_send s name kind payload timeout label =
     with_bus (sent (svc_draft kind payload timeout) label s.bus) (bound name (next_number s.bus) s)
 
--- the connections after a request
-abbrev after_connections : Bus → ℕ → List ℕ → ℕ → ℕ → List Connection → List Connection
-after_connections b kind payload timeout label =
-    at_first (has_number 1) (λ c. put side.Far (Ask (next_number b)) (drawn (svc_draft kind payload timeout) label c))
-
--- replies alone wait toward the application processor still
-replies_after : (b : Bus) (kind : ℕ) (payload : List ℕ) (ap_last far label timeout : ℕ) (to_ap to_far : List Item)
-    → b.connections ≡ svc_with ap_last far to_ap to_far ∷ [] → OnlyReplies b.connections
-    → OnlyReplies (after_connections b kind payload timeout label b.connections)
-replies_after b kind payload ap_last far label timeout to_ap to_far alone h =
-    subst (λ cs. OnlyReplies cs → OnlyReplies (after_connections b kind payload timeout label cs)) (sym alone) (λ k. k) h
+-- the connection of the supervisory controller is alone still
+alone_after : (b : Bus) (kind : ℕ) (payload : List ℕ) (timeout label : ℕ)
+    → IsAlone b → IsAlone (sent (svc_draft kind payload timeout) label b)
+alone_after b kind payload timeout label h = record {
+  ap_last = label;
+  far_last = h.far_last;
+  to_ap = h.to_ap;
+  to_far = h.to_far ++ Ask (next_number b) ∷ [];
+  is = ap (at_first (has_number 1) (λ c. put side.Far (Ask (next_number b)) (drawn (svc_draft kind payload timeout) label c))) h.is;
+  replies = h.replies;
+}
 
 -- a request is sent
-pub send_sent : (x y : System) (s : State) (name : Name) (kind : ℕ) (payload : List ℕ) (timeout : ℕ) (r : Sent) (es : List Entry)
-    → kind < 128 → Stands x s → early_refusal name x.names kind payload ≡ None
+pub send_sent : (x y : Parties) (s : State) (name : Name) (kind : ℕ) (payload : List ℕ) (timeout : ℕ) (r : Sent) (es : List Entry)
+    → kind < 128 → PartiesStand x s → early_refusal name x.names kind payload ≡ None
     → Sends y.bus (svc_draft kind payload timeout) s.bus r
     → y.names ≡ x.names ++ (name, r.number) ∷ []
     → es ≡ entry.Done ∷ ask_told r.number r.label kind payload r.lost ∷ []
-    → StepsAs y s (send_of name kind payload timeout) (Ok es)
+    → PartiesStep y s (send_of name kind payload timeout) (Ok es)
 send_sent x y s name kind payload timeout r es low st h sends names is =
     let d = svc_draft kind payload timeout in
-    let c = svc_with x.bus.ap_last x.bus.far_last st.bus.to_ap st.bus.to_far in
+    let c = svc_with st.alone.ap_last st.alone.far_last st.alone.to_ap st.alone.to_far in
     let free : svc_refusal s name kind payload ≡ None =
     last_refusal x s name kind payload st h ∙ ap (λ o. first_met ((is_none o, no_label) ∷ [])) sends.label in
-    let live : connection_of 1 s.bus ≡ Some c = ap (find (has_number 1)) st.bus.alone in
+    let live : connection_of 1 s.bus ≡ Some c = ap (find (has_number 1)) st.alone.is in
     let time : s.now + timeout ≡ timeout = ap (λ (t : State). t.now + timeout) st.rest ∙ zero-add timeout in
     let stepped = step-send_svc s name kind payload timeout c r.label free live sends.label
     ∙ ap (λ t. told (after_send s name kind payload t r.label) (entry.Done ∷ asked (svc_draft kind payload t) c r.label s.bus ∷ [])) time in
@@ -129,5 +128,5 @@ send_sent x y s name kind payload timeout r es low st h sends names is =
         twoway = refl;
       });
       made = names_more s.names s.bus.requests (requested d r.label) name st.made;
-      replies = replies_after s.bus kind payload x.bus.ap_last x.bus.far_last r.label timeout st.bus.to_ap st.bus.to_far st.bus.alone st.replies;
+      alone = alone_after s.bus kind payload timeout r.label st.alone;
     })

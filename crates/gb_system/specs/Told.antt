@@ -24,12 +24,15 @@ IsToSvc end.Svc kind = kind < 128
 IsToSvc (end.Ap a) kind = ⊥
 IsToSvc (end.Module i c) kind = ⊥
 
--- The events that the system steps: requests to the supervisory controller, their cancels, and
--- deliveries.
+-- The events that the system steps: requests to the supervisory controller, their cancels and names,
+-- deliveries and settles.
 abbrev pub IsStepped : Event → Type 0
 IsStepped (event.Send name to kind payload timeout) = IsToSvc to kind
 IsStepped (event.Deliver at) = Unit {0}
+IsStepped (event.Settle most) = Unit {0}
 IsStepped (event.Cancel name) = Unit {0}
+IsStepped (event.Copy from to) = Unit {0}
+IsStepped (event.Forget name) = Unit {0}
 IsStepped event.Boot = ⊥
 IsStepped (event.Insert i kind) = ⊥
 IsStepped (event.InsertRaw i manifest) = ⊥
@@ -39,11 +42,8 @@ IsStepped (event.Disconnect i c) = ⊥
 IsStepped (event.Bridge name i c ask) = ⊥
 IsStepped (event.Level i c line value) = ⊥
 IsStepped (event.SerialState i c control) = ⊥
-IsStepped (event.Settle most) = ⊥
 IsStepped (event.Hold i c) = ⊥
 IsStepped (event.Answer i c place) = ⊥
-IsStepped (event.Copy from to) = ⊥
-IsStepped (event.Forget name) = ⊥
 IsStepped (event.Tick millis) = ⊥
 IsStepped (event.Inject i c bytes) = ⊥
 IsStepped event.Show = ⊥
@@ -56,9 +56,21 @@ send_of name kind payload timeout = event.Send name end.Svc kind payload timeout
 abbrev pub delivery_at : End → Event
 delivery_at at = event.Deliver at
 
+-- at most so many deliveries
+abbrev pub settle_of : ℕ → Event
+settle_of most = event.Settle most
+
 -- a cancel
 abbrev pub cancel_of : Name → Event
 cancel_of name = event.Cancel name
+
+-- a name that gets the request of another
+abbrev pub copy_of : Name → Name → Event
+copy_of from to = event.Copy from to
+
+-- a name that is free again
+abbrev pub forget_of : Name → Event
+forget_of name = event.Forget name
 
 -- Why a request isn't sent, before its identifier is drawn.
 abbrev pub early_refusal : Name → List (Name × ℕ) → ℕ → List ℕ → Option Refusal

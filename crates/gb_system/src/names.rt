@@ -1,7 +1,8 @@
 //! The names of requests.
 
 ghost use Rattle.std.specs.Prelude.{◌≡◌, [], ◌∷◌, ◌++◌, OnOk, OnErr};
-ghost use Rattle.gb_machine.specs.Names.{named};
+ghost use Rattle.gb_machine.specs.Lists.{without};
+ghost use Rattle.gb_machine.specs.Names.{named, same_name};
 
 use gb_base::{Name, OutOfMemory};
 use std::alloc::Global;
@@ -51,5 +52,12 @@ impl Names {
     {
         self.bound.push((name, number))?;
         Ok(())
+    }
+
+    /// Frees a name.
+    pub fn free(&mut self, name: &Name)
+        ensures { self.new ≡ without (λ p. same_name p.0 name.now) self.old }
+    {
+        self.bound.retain(|(bound, _)| bound != name);
     }
 }

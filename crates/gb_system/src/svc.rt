@@ -4,6 +4,9 @@ ghost use Rattle.std.specs.Prelude.{◌≡◌};
 ghost use Rattle.gb_machine.specs.Refusals.{is_reserved};
 ghost use Rattle.gb_system.specs.Told.{svc_result};
 
+/// The number of the connection of the supervisory controller.
+pub const SVC: u64 = 1;
+
 /// Type PING of the SVC protocol (`GB_SVC_TYPE_PING` in Linux's greybus_protocols.h).
 const PING: u8 = 0x13;
 

@@ -19,6 +19,7 @@ enum Seen<'a> {
     Answered(u64, u8, usize, Reading),
     Cancelled(u64),
     Late(u64),
+    Settled(u16),
     Other,
 }
 
@@ -54,6 +55,7 @@ fn in_plain(entry: &Entry) -> Seen<'_> {
             reading: Reading::Nothing,
         } => Seen::Cancelled(*number),
         Entry::Late { number } => Seen::Late(*number),
+        Entry::Settled { count } => Seen::Settled(*count),
         _ => Seen::Other,
     }
 }
@@ -222,5 +224,70 @@ fn requests_are_refused(rt: HostRuntime) -> Result<(), Fail> {
         let kept = system.step(&send(&rt, b"a", kind, large))?;
         are(&rt, &kept, &[Seen::Refused(Refusal::Unsupported)]);
     }
+    Ok(())
+}
+
+#[test]
+fn a_settle_delivers_until_nothing_waits(rt: HostRuntime) -> Result<(), Fail> {
+    let mut system = System::new(rt.alloc())?;
+    let (ap, svc) = (End::Ap(0), End::Svc);
+    drop(system.step(&ping(&rt, rt.alloc(), b"x"))?);
+    drop(system.step(&ping(&rt, rt.alloc(), b"y"))?);
+    let first = [8, 0, 1, 0, 0x93, 0, 0, 0];
+    let second = [8, 0, 2, 0, 0x93, 0, 0, 0];
+    // Both requests are served before the first answer is taken.
+    let three = system.step(&Event::Settle { most: 3 })?;
+    are(
+        &rt,
+        &three,
+        &[
+            Seen::Done,
+            Seen::Replied(Some(1), svc, ap, 0, 8, &first),
+            Seen::Replied(Some(2), svc, ap, 0, 8, &second),
+            Seen::Answered(1, 0, 0, Reading::Nothing),
+            Seen::Settled(3),
+        ],
+    );
+    let rest = system.step(&Event::Settle { most: 65_535 })?;
+    are(
+        &rt,
+        &rest,
+        &[
+            Seen::Done,
+            Seen::Answered(2, 0, 0, Reading::Nothing),
+            Seen::Settled(1),
+        ],
+    );
+    let nothing = system.step(&Event::Settle { most: 1 })?;
+    are(&rt, &nothing, &[Seen::Done, Seen::Settled(0)]);
+    Ok(())
+}
+
+#[test]
+fn names_are_copied_and_freed(rt: HostRuntime) -> Result<(), Fail> {
+    let mut system = System::new(rt.alloc())?;
+    let (x, y) = (named(&rt, b"x"), named(&rt, b"y"));
+    drop(system.step(&ping(&rt, rt.alloc(), b"x"))?);
+    drop(system.step(&ping(&rt, rt.alloc(), b"z"))?);
+    let copied = system.step(&Event::Copy { from: x, to: y })?;
+    are(&rt, &copied, &[Seen::Done]);
+    let (y, z) = (named(&rt, b"y"), named(&rt, b"z"));
+    let occupied = system.step(&Event::Copy { from: y, to: z })?;
+    are(&rt, &occupied, &[Seen::Refused(Refusal::Occupied)]);
+    let (none, z) = (named(&rt, b"n"), named(&rt, b"z"));
+    let unnamed = system.step(&Event::Copy { from: none, to: z })?;
+    are(&rt, &unnamed, &[Seen::Refused(Refusal::NoName)]);
+    let freed = system.step(&Event::Forget {
+        name: named(&rt, b"x"),
+    })?;
+    are(&rt, &freed, &[Seen::Done]);
+    let again = system.step(&Event::Forget {
+        name: named(&rt, b"x"),
+    })?;
+    are(&rt, &again, &[Seen::Refused(Refusal::NoName)]);
+    let cancelled = system.step(&Event::Cancel {
+        name: named(&rt, b"y"),
+    })?;
+    are(&rt, &cancelled, &[Seen::Done, Seen::Cancelled(1)]);
     Ok(())
 }

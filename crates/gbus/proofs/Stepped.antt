@@ -9,12 +9,12 @@ use Rattle.gb_base.specs.declared.event.Event.TheVariants as event
 use Rattle.gb_base.specs.declared.fault.LineReason.TheVariants as bad
 use Rattle.gb_base.specs.declared.name.Name.{Name}
 use Rattle.gb_formats.proofs.SaidValid.{OfSome, type_word-in}
-use Rattle.gb_formats.specs.Grammar.{Said, asked_for, default_timeout, delivering, of_name, ping, sending, sending_svc, sending_to, timed}
+use Rattle.gb_formats.specs.Grammar.{Said, asked_for, copying, default_timeout, delivering, of_name, ping, sending, sending_svc, sending_to, settling, timed}
 use Rattle.gb_formats.specs.Said.{at_end, by_meaning, next_word}
 use Rattle.gb_formats.specs.Script.{bad_place, judged, longest_line, said, unless_bad}
-use Rattle.gb_formats.specs.WordValues.{from_one_word, hex_word, name_word, type_word}
+use Rattle.gb_formats.specs.WordValues.{count_word, cport_word, from_one_word, hex_word, name_word, type_word}
 use Rattle.gb_formats.specs.Words.{words}
-use Rattle.gb_script.specs.Built.{built_by, is_built, is_built_form, is_delivery, is_one_or_two, is_svc_ask}
+use Rattle.gb_script.specs.Built.{built_by, is_built, is_built_form, is_built_word, is_delivery, is_one_or_two, is_svc_ask}
 use Rattle.gb_script.specs.Parts.{sending_type}
 use Rattle.gb_system.specs.Told.{IsStepped}
 
@@ -59,6 +59,11 @@ end_stepped : (place : ℕ) (ws : List (List ℕ)) (e : Event) → IsStepped e �
 end_stepped place [] e h = h
 end_stepped place (w ∷ ws) e h = tt
 
+-- one of two tests passes
+one_of : (a b : Bool) → a || b ≡ true → a ≡ true ⊎ b ≡ true
+one_of true b k = inl refl
+one_of false b k = inr k
+
 -- one of two
 if_stepped : (b : Bool) (x y : Said) → SaysStepped x → SaysStepped y → SaysStepped (cond b x y)
 if_stepped true x y h k = h
@@ -98,46 +103,64 @@ sent who (x ∷ to ∷ ws) h =
     by_name None = tt
     by_name (Some n) = svc_stepped n ws
 
--- the words behind `cancel`
-cancelled : (who : ℕ) (ws : List (List ℕ)) → SaysStepped (of_name who event.Cancel ws)
-cancelled who ws = any_stepped (name_word who) 2 ws _ (λ x ws. end_stepped 3 ws (event.Cancel x) tt)
+-- the words behind `cancel` and `drop`
+of_name_stepped : (who : ℕ) (make : Name → Event) (ws : List (List ℕ)) → ((x : Name) → IsStepped (make x)) → SaysStepped (of_name who make ws)
+of_name_stepped who make ws h = any_stepped (name_word who) 2 ws _ (λ x ws. end_stepped 3 ws (make x) (h x))
+
+-- the words behind `copy`
+copied : (who : ℕ) (ws : List (List ℕ)) → SaysStepped (copying who ws)
+copied who ws =
+    any_stepped (name_word who) 2 ws _ (λ x ws. any_stepped (name_word who) 3 ws _ (λ y ws. end_stepped 4 ws (event.Copy x y) tt))
+
+-- the words behind `settle`
+settled : (ws : List (List ℕ)) → SaysStepped (settling ws)
+settled ws = any_stepped count_word 2 ws _ (λ n ws. end_stepped 3 ws (event.Settle n) tt)
 
 -- the words behind `deliver`
 delivered : (ws : List (List ℕ)) → is_delivery ws ≡ true → SaysStepped (delivering ws)
 delivered [] h = absurd cc
-delivered (at ∷ []) h = subst (λ t. SaysStepped (delivering (t ∷ []))) (sym (same_word at (codes "svc") h)) tt
-delivered (at ∷ a ∷ ws) h =
-    let tests = both (bytes_eq at (codes "ap")) (bytes_eq a (codes "0")) h in
-    subst (λ t. SaysStepped (delivering (t ∷ a ∷ ws))) (sym (same_word at (codes "ap") tests.0))
-    (subst (λ t. SaysStepped (delivering (codes "ap" ∷ t ∷ ws))) (sym (same_word a (codes "0") tests.1)) (at_the_end ws))
-  where
-    at_the_end : (ws : List (List ℕ)) → SaysStepped (delivering (codes "ap" ∷ codes "0" ∷ ws))
-    at_the_end [] = tt
-    at_the_end (w ∷ ws) = tt
+delivered (at ∷ ws) h =
+    ⊎_elim
+    (λ k. subst (λ t. SaysStepped (delivering (t ∷ ws))) (sym (same_word at (codes "svc") k)) (end_stepped 3 ws (event.Deliver end.Svc) tt))
+    (λ k. subst (λ t. SaysStepped (delivering (t ∷ ws))) (sym (same_word at (codes "ap") k))
+    (any_stepped cport_word 3 ws _ (λ a ws. end_stepped 4 ws (event.Deliver (end.Ap a)) tt)))
+    (one_of (bytes_eq at (codes "svc")) (bytes_eq at (codes "ap")) h)
 
 -- by the first word
 formed : (who : ℕ) (ws : List (List ℕ)) → is_built_form ws ≡ true → SaysStepped (asked_for who ws)
 formed who [] h = tt
 formed who (w ∷ ws) h =
-    ⊎_elim as_send (λ k. ⊎_elim as_delivery as_cancel (one_of (bytes_eq w (codes "deliver") && is_delivery ws) (bytes_eq w (codes "cancel")) k))
-    (one_of (bytes_eq w (codes "send") && is_svc_ask ws) (bytes_eq w (codes "deliver") && is_delivery ws || bytes_eq w (codes "cancel")) h)
+    ⊎_elim as_send (λ k. ⊎_elim as_delivery as_word (one_of (bytes_eq w (codes "deliver") && is_delivery ws) (is_built_word w) k))
+    (one_of (bytes_eq w (codes "send") && is_svc_ask ws) (bytes_eq w (codes "deliver") && is_delivery ws || is_built_word w) h)
   where
-    one_of : (a b : Bool) → a || b ≡ true → a ≡ true ⊎ b ≡ true
-    one_of true b k = inl refl
-    one_of false b k = inr k
+    -- the first word is this one
+    by_word : (v : List ℕ) → SaysStepped (asked_for who (v ∷ ws)) → bytes_eq w v ≡ true → SaysStepped (asked_for who (w ∷ ws))
+    by_word v says k = subst (λ t. SaysStepped (asked_for who (t ∷ ws))) (sym (same_word w v k)) says
 
     as_send : bytes_eq w (codes "send") && is_svc_ask ws ≡ true → SaysStepped (asked_for who (w ∷ ws))
     as_send k =
-        let tests = both (bytes_eq w (codes "send")) (is_svc_ask ws) k in
-        subst (λ t. SaysStepped (asked_for who (t ∷ ws))) (sym (same_word w (codes "send") tests.0)) (sent who ws tests.1)
+        let tests = both (bytes_eq w (codes "send")) (is_svc_ask ws) k in by_word (codes "send") (sent who ws tests.1) tests.0
 
     as_delivery : bytes_eq w (codes "deliver") && is_delivery ws ≡ true → SaysStepped (asked_for who (w ∷ ws))
     as_delivery k =
-        let tests = both (bytes_eq w (codes "deliver")) (is_delivery ws) k in
-        subst (λ t. SaysStepped (asked_for who (t ∷ ws))) (sym (same_word w (codes "deliver") tests.0)) (delivered ws tests.1)
+        let tests = both (bytes_eq w (codes "deliver")) (is_delivery ws) k in by_word (codes "deliver") (delivered ws tests.1) tests.0
 
-    as_cancel : bytes_eq w (codes "cancel") ≡ true → SaysStepped (asked_for who (w ∷ ws))
-    as_cancel k = subst (λ t. SaysStepped (asked_for who (t ∷ ws))) (sym (same_word w (codes "cancel") k)) (cancelled who ws)
+    as_named : bytes_eq w (codes "copy") || bytes_eq w (codes "drop") ≡ true → SaysStepped (asked_for who (w ∷ ws))
+    as_named k =
+        ⊎_elim (by_word (codes "copy") (copied who ws)) (by_word (codes "drop") (of_name_stepped who event.Forget ws (λ x. tt)))
+        (one_of (bytes_eq w (codes "copy")) (bytes_eq w (codes "drop")) k)
+
+    as_given_up : bytes_eq w (codes "cancel") || (bytes_eq w (codes "copy") || bytes_eq w (codes "drop")) ≡ true
+        → SaysStepped (asked_for who (w ∷ ws))
+    as_given_up k =
+        ⊎_elim (by_word (codes "cancel") (of_name_stepped who event.Cancel ws (λ x. tt))) as_named
+        (one_of (bytes_eq w (codes "cancel")) (bytes_eq w (codes "copy") || bytes_eq w (codes "drop")) k)
+
+    as_word : is_built_word w ≡ true → SaysStepped (asked_for who (w ∷ ws))
+    as_word k =
+        ⊎_elim (by_word (codes "settle") (settled ws)) as_given_up
+        (one_of (bytes_eq w (codes "settle"))
+        (bytes_eq w (codes "cancel") || (bytes_eq w (codes "copy") || bytes_eq w (codes "drop"))) k)
 
 -- an event that a line says is one that its words ask for
 asked_is : (who : ℕ) (line : List ℕ) (e : Event) → judged who line ≡ Ok (Some e) → asked_for who (words line) ≡ Ok (Some e)

@@ -1,0 +1,65 @@
+//! What is done to the request of a name, and to names.
+
+ghost use Rattle.std.specs.Prelude.{◌≡◌};
+ghost use Rattle.gb_machine.specs.State.{State};
+ghost use Rattle.gb_system.specs.Stands.{PartiesStand, PartiesStep};
+ghost use Rattle.gb_system.specs.Told.{cancel_of, cancel_told, copy_of, forget_of};
+
+use crate::entries::{begun, done, refused};
+use crate::parties::Parties;
+use gb_base::{Entries, Entry, Name, OutOfMemory, Outcome, Reading, Refusal, TryCopy};
+use gb_bus::AlreadyEnded;
+
+impl Parties {
+    /// Gives up the request that a name names.
+    pub fn cancel(&mut self, name: &Name) -> Result<Entries, OutOfMemory>
+        ensures step { (s : State) → PartiesStand self.old s
+            → PartiesStep self.new s (cancel_of name.now) result }
+    {
+        let Some(number) = self.names.get(name) else {
+            return Ok(refused(self.alloc, Refusal::NoName)?);
+        };
+        match self.bus.cancel(number) {
+            Ok(()) => Ok(done(self.alloc, cancelled(number))?),
+            Err(AlreadyEnded) => Ok(refused(self.alloc, Refusal::AlreadyEnded)?),
+        }
+    }
+
+    /// Gives the request of a name another name too.
+    pub fn copy_name(&mut self, from: &Name, to: &Name) -> Result<Entries, OutOfMemory>
+        ensures step { (s : State) → PartiesStand self.old s
+            → PartiesStep self.new s (copy_of from.now to.now) result }
+    {
+        let Some(number) = self.names.get(from) else {
+            return Ok(refused(self.alloc, Refusal::NoName)?);
+        };
+        if self.names.get(to).is_some() {
+            return Ok(refused(self.alloc, Refusal::Occupied)?);
+        }
+        self.names.bind(to.copy()?, number)?;
+        Ok(begun(self.alloc)?)
+    }
+
+    /// Frees a name.
+    pub fn forget_name(&mut self, name: &Name) -> Result<Entries, OutOfMemory>
+        ensures step { (s : State) → PartiesStand self.old s
+            → PartiesStep self.new s (forget_of name.now) result }
+    {
+        let Some(_) = self.names.get(name) else {
+            return Ok(refused(self.alloc, Refusal::NoName)?);
+        };
+        self.names.free(name);
+        Ok(begun(self.alloc)?)
+    }
+}
+
+/// A request was cancelled.
+fn cancelled(number: u64) -> Entry
+    ensures { result ≡ cancel_told number }
+{
+    Entry::Ended {
+        number,
+        outcome: Outcome::Cancelled,
+        reading: Reading::Nothing,
+    }
+}

@@ -1,0 +1,57 @@
+//! The parties and the bus between them.
+
+ghost use Rattle.std.specs.Prelude.{IfOk};
+ghost use Rattle.gb_machine.specs.State.{State, first_state};
+ghost use Rattle.gb_system.specs.Told.{IsStepped};
+
+use crate::names::Names;
+use gb_base::{Entries, Event, OutOfMemory};
+use gb_bus::Bus;
+use std::alloc::Global;
+
+/// The application processor, the supervisory controller and the bus between them, with the names
+/// that requests have.
+#[derive(Drop)]
+pub struct Parties {
+    pub alloc: Global,
+    pub bus: Bus,
+    pub names: Names,
+}
+
+impl Parties {
+    ghost use Rattle.gb_system.specs.Stands.{PartiesStand, PartiesStep};
+
+    /// The first state: nothing was sent.
+    pub fn new(alloc: Global) -> Result<Parties, OutOfMemory>
+        ensures { IfOk result (λ x. PartiesStand x first_state) }
+    {
+        Ok(Parties {
+            alloc,
+            bus: Bus::new(alloc)?,
+            names: Names::new(alloc),
+        })
+    }
+
+    /// Steps one event.
+    pub fn event(&mut self, e: &Event) -> Result<Entries, OutOfMemory>
+        requires { IsStepped e.now }
+        ensures step { (s : State) → PartiesStand self.old s
+            → PartiesStep self.new s e.now result }
+    {
+        match e {
+            Event::Send {
+                name,
+                kind,
+                payload,
+                timeout,
+                ..
+            } => self.send(name, *kind, payload.items(), *timeout),
+            Event::Deliver { at } => self.deliver(*at),
+            Event::Settle { most } => self.settle(*most),
+            Event::Cancel { name } => self.cancel(name),
+            Event::Copy { from, to } => self.copy_name(from, to),
+            Event::Forget { name } => self.forget_name(name),
+            _ => unreachable!(),
+        }
+    }
+}
