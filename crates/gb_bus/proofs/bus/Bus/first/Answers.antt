@@ -1,0 +1,7 @@
+-- The first end at which something waits.
+use Rattle.std.proofs.Common.{◌∙◌}
+use Rattle.gb_bus.proofs.Looks.{firsts}
+use Rattle.gb_bus.proofs.bus.Bus.first.Goals as goal
+
+pub returns : goal.returns
+returns c = λ b s. c.first.ensures ∙ firsts c.args.self.now b s
