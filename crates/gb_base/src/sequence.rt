@@ -62,6 +62,17 @@ impl<T: Drop> Sequence<T> {
     }
 }
 
+impl<T: Copy> Sequence<T> {
+    /// Adds these members at the end. After a refusal the list is as before.
+    pub fn extend(&mut self, members: &[T]) -> Result<(), OutOfMemory>
+        ensures ok { OnOk result (self.new ≡ self.old ++ members.now) }
+        ensures err { OnErr result (self.new ≡ self.old) }
+    {
+        self.members.extend_from_slice(members)?;
+        Ok(())
+    }
+}
+
 impl Sequence<u8> {
     /// The list with these bytes.
     pub fn from_slice(alloc: Global, bytes: &[u8]) -> Result<Bytes, OutOfMemory>

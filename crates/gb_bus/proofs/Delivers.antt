@@ -1,105 +1,139 @@
 -- A delivery stands for the machine's.
-use Rattle.std.proofs.Common.{◌≡◌, ℕ, Bool, true, false, Some, None, Ok, option_map, List, ◌∷◌, refl, sym, ap, ◌∙◌, inr, arith, subst}
+use Rattle.std.proofs.Common.{◌≡◌, ◌≤◌, ℕ, Bool, true, false, cond, Option, Some, None, Ok, option_and_then, option_map, List, [], ◌∷◌, refl, sym, ap, ◌∙◌, arith, subst}
+use Rattle.std.specs.List.{find}
 use Rattle.gb_base.specs.declared.end.End.{End}
 use Rattle.gb_base.specs.declared.end.Side.{Side}
-use Rattle.gb_base.specs.declared.outcome.Outcome.{Outcome}
-use Rattle.gb_bus.proofs.Endings.{Said, length-ended_at, over, said, still, tell_ended}
-use Rattle.gb_bus.proofs.Fronts.{empty_at, front_at, place_is, placed}
-use Rattle.gb_bus.proofs.Moves.{machine_queue, moved, queue_is, queue_stands, svc_of}
-use Rattle.gb_bus.proofs.SlotLaws.{lookup-other}
-use Rattle.gb_bus.specs.Delivering.{Brings, Delivers, DeliversNothing, IsDropped, taken_at}
-use Rattle.gb_bus.specs.Ends.{side_of}
-use Rattle.gb_bus.specs.Parts.{Answers, HandlesAs, PopsAs, naming, queue_of, with_queue}
-use Rattle.gb_bus.specs.Slots.{ended_at}
-use Rattle.gb_bus.specs.Stands.{Stands, StandsForItem, StandsForQueue}
+use Rattle.gb_bus.proofs.Endings.{Said, over, said, shows-ended, shows-forgotten, still}
+use Rattle.gb_bus.proofs.Finding.{place-is, placed, placed_on, told}
+use Rattle.gb_bus.proofs.Fronts.{empty_of, front_of}
+use Rattle.gb_bus.proofs.Moves.{front-stands, queue-stands, same-stands}
+use Rattle.gb_bus.proofs.Standing.{changed}
+use Rattle.gb_bus.proofs.Wires.{shows-connections}
+use Rattle.gb_bus.specs.Delivering.{Brings, Delivers, DeliversNothing, DeliversNowhere, IsDropped, taken_at}
+use Rattle.gb_bus.specs.Moving.{Answers, HandlesAs, naming}
+use Rattle.gb_bus.specs.Parts.{front_in, numbered, place_at, queue_of, without_front}
+use Rattle.gb_bus.specs.Slots.{at_number, with_mark, with_outcome}
+use Rattle.gb_bus.specs.Stands.{Shows, Stands, StandsForItem}
 use Rattle.gb_bus.specs.Taking.{open_kind, shown}
 use Rattle.gb_bus.specs.declared.answers.Arrival.{Arrival}
 use Rattle.gb_bus.specs.declared.answers.Arrival.TheVariants as arrival
 use Rattle.gb_bus.specs.declared.bus.Bus.{Bus}
+use Rattle.gb_bus.specs.declared.connection.Connection.{Connection}
 use Rattle.gb_bus.specs.declared.queue.Item.{Item}
 use Rattle.gb_bus.specs.declared.queue.Item.TheVariants as code
-use Rattle.gb_machine.proofs.Lists.{nth-within}
+use Rattle.gb_invariants.proofs.Apart.{apart-changed}
+use Rattle.gb_invariants.proofs.Changes.{ended-keeps, forgotten-keeps, loose-keeps, none-counted-answers, popped-keeps}
+use Rattle.gb_invariants.proofs.Counts.{one, times-cons}
+use Rattle.gb_invariants.proofs.ItemChanges.{NoneAnswers}
+use Rattle.gb_invariants.proofs.Outcomes.{is-same}
+use Rattle.gb_invariants.proofs.Selves.{front-self}
+use Rattle.gb_invariants.specs.Facts.{BusFits, Loose, times_in}
 use Rattle.gb_machine.specs.Bus as machine
-use Rattle.gb_machine.specs.Bus.{Connection, Place, Request, has_number, is_open, place_of, queue, request_of}
-use Rattle.gb_machine.specs.Delivery.{answered, ended, forgotten, popped, without_front}
-use Rattle.gb_machine.specs.Lists.{behind_first, first, nth}
+use Rattle.gb_machine.specs.Bus.{Place, Request, has_number, is_open, place_of, queue, request_of}
+use Rattle.gb_machine.specs.Delivery as delivery
+use Rattle.gb_machine.specs.Delivery.{answered, ended, forgotten, popped}
+use Rattle.gb_machine.specs.LawsBus.{AreApart, is_item_of}
+use Rattle.gb_machine.specs.Lists.{at_first, first, nth}
+use Rattle.gb_machine.specs.Members.{EachTwo, IsIn}
 
--- once the front message is taken
-stands_popped : (at : Side) (x y : Bus) (b : machine.Bus) (s : Stands x b) (m : machine.Item) (ms : List machine.Item)
-    → y ≡ with_queue at (queue_of at y) x → machine_queue at x b s ≡ m ∷ ms → StandsForQueue b.requests (queue_of at y) ms
-    → Stands y (popped 1 at b)
-stands_popped at x y b s m ms after front rest =
-    subst (λ (w : Bus). Stands w (popped 1 at b)) (sym after)
-    (moved at x b s (without_front at) (queue_of at y) ms
-    (ap (λ q. machine.with_queue at (behind_first q) (svc_of x b s)) (queue_is at x b s ∙ front)) rest)
+-- the item that was taken, out of the queues
+abbrev pub loose_at : Place → machine.Item → Loose
+loose_at p item = record { connection = p.connection.number; side = p.side; item = item }
 
--- once a request that was made ended
-stands_ended : (x : Bus) (b : machine.Bus) (n : ℕ) (how : Outcome) (r : Request) → Stands x b → request_of n b ≡ Some r
-    → Stands (record x { slots = ended_at n how x.slots }) (ended n how b)
-stands_ended x b n how r s made = record {
-  to_ap = s.to_ap;
-  to_far = s.to_far;
-  alone = s.alone;
-  ap_queue = s.ap_queue;
-  far_queue = s.far_queue;
-  count = s.count ∙ sym (length-ended_at n how x.slots);
-  slots = tell_ended x.slots b.requests b.outcomes n how r s.slots made;
-  made = λ m h. lookup-other n m how b.outcomes (inr (omega (arith, nth-within n b.requests r made))) ∙ s.made m h;
-}
+-- what holds once the front item of a place is taken
+record Taken (y : Bus) (p : Place) (b : machine.Bus) (item : machine.Item) : Type 0 where
+  shows : Shows y (taken_at p b)
+  fits : BusFits (loose_at p item ∷ []) (taken_at p b)
+  apart : EachTwo AreApart (taken_at p b).connections
 
--- nothing is kept of requests that were given up
-stands_forgotten : (x : Bus) (b : machine.Bus) (n : ℕ) → Stands x b → Stands x (forgotten n b)
-stands_forgotten x b n s = record {
-  to_ap = s.to_ap;
-  to_far = s.to_far;
-  alone = s.alone;
-  ap_queue = s.ap_queue;
-  far_queue = s.far_queue;
-  count = s.count;
-  slots = s.slots;
-  made = s.made;
-}
+-- nothing is loose any more
+let-go : (p : Place) (b : machine.Bus) (item : machine.Item) → BusFits (loose_at p item ∷ []) (taken_at p b) → BusFits [] (taken_at p b)
+let-go p b item h =
+    loose-keeps (loose_at p item ∷ []) [] (taken_at p b) (λ l i. absurd i)
+    (λ n. fewer n) h
+  where
+    fewer : (n : ℕ) → times_in (is_item_of n) [] (taken_at p b) ≤ times_in (is_item_of n) (loose_at p item ∷ []) (taken_at p b)
+    fewer n = omega (arith, times-cons (λ (l : Loose). is_item_of n l.item) (loose_at p item) [])
+
+-- the bus, the item being handled
+settled : (y : Bus) (p : Place) (b : machine.Bus) (item : machine.Item) → Taken y p b item → Stands y (taken_at p b)
+settled y p b item t = record { shows = t.shows; facts = record { fits = let-go p b item t.fits; apart = t.apart } }
+
+-- no other item has the number of the one that was taken
+alone : (p : Place) (b : machine.Bus) (n code : ℕ) (bytes : List ℕ) → BusFits (loose_at p (machine.Reply n code bytes) ∷ []) (taken_at p b)
+    → times_in (is_item_of n) [] (taken_at p b) ≡ 0
+alone p b n code bytes h =
+    let most = h.ones n in
+    let first_one = times-cons (λ (l : Loose). is_item_of n l.item) (loose_at p (machine.Reply n code bytes)) [] in
+    let it : one (λ (l : Loose). is_item_of n l.item) (loose_at p (machine.Reply n code bytes)) ≡ 1 =
+    ap (λ t. cond t 1 0) (is-same n) in
+    omega (arith, most, first_one, it)
 
 -- an answer ends its request where that is open
-answers : (y z : Bus) (b : machine.Bus) (p : Place) (number code : ℕ) (payload : List ℕ) (m : machine.Item) (a : Arrival)
-    → Stands y (taken_at p b) → m ≡ machine.Reply number code payload
-    → Answers y z number code payload (open_kind (nth number y.slots)) a → Said b number → Brings z true p b m a
-answers y z b p number code payload m a s is h (still r made unanswered kind_is) =
-    let told : Answers y z number code payload (Some r.kind) a =
-    subst (λ o. Answers y z number code payload o a) (ap open_kind (s.slots number) ∙ kind_is) h in
-    let stays : Stands z (ended number (answered code payload) (taken_at p b)) =
-    subst (λ (w : Bus). Stands w (ended number (answered code payload) (taken_at p b))) (sym told.1)
-    (stands_ended y (taken_at p b) number (answered code payload) r s made) in
-    let answer : Brings z true p b m (arrival.Ended number r.kind code (shown code payload)) = (
-      refl,
-      record {
-        bytes = payload;
-        request = r;
-        item_is = is;
-        still_open = unanswered;
-        made = made;
-        kind_is = refl;
-        outcome_is = refl;
-        stands = stays;
-      },
-    ) in
-    subst (λ (w : Arrival). Brings z true p b m w) (sym told.0) answer
-answers y z b p number code payload m a s is h (over closed none) =
-    let told : Answers y z number code payload None a =
-    subst (λ o. Answers y z number code payload o a) (ap open_kind (s.slots number) ∙ none) h in
-    let stays : Stands z (forgotten number (taken_at p b)) =
-    subst (λ (w : Bus). Stands w (forgotten number (taken_at p b))) (sym told.1) (stands_forgotten y (taken_at p b) number s) in
-    let answer : Brings z true p b m (arrival.Late number) = (
-      refl,
-      record {
-        result = code;
-        bytes = payload;
-        item_is = is;
-        closed = closed;
-        stands = stays;
-      },
-    ) in
-    subst (λ (w : Arrival). Brings z true p b m w) (sym told.0) answer
+answers : (y z : Bus) (b : machine.Bus) (p : Place) (number code : ℕ) (payload bytes : List ℕ) (n r : ℕ) (a : Arrival)
+    → Taken y p b (machine.Reply n r bytes) → number ≡ n → code ≡ r → payload ≡ bytes
+    → Answers y z number code payload (open_kind (nth number y.slots)) a → Brings z true p b (machine.Reply n r bytes) a
+answers y z b p number code payload bytes n r a t is_n is_r is_b h =
+    subst (λ m. Answers y z m code payload (open_kind (nth m y.slots)) a → Goal) (sym is_n)
+    (subst (λ v. Answers y z n v payload (open_kind (nth n y.slots)) a → Goal) (sym is_r)
+    (subst (λ (v : List ℕ). Answers y z n r v (open_kind (nth n y.slots)) a → Goal) (sym is_b)
+    (λ told. by (said b n) told))) h
+  where
+    Goal : Type 0
+    Goal = Brings z true p b (machine.Reply n r bytes) a
+
+    none : NoneAnswers [] (taken_at p b) n
+    none = none-counted-answers [] (taken_at p b) n (alone p b n r bytes t.fits)
+
+    by : Said b n → Answers y z n r bytes (open_kind (nth n y.slots)) a → Goal
+    by (still q made unanswered free kind_is) h =
+        let told : Answers y z n r bytes (Some q.kind) a =
+        subst (λ o. Answers y z n r bytes o a) (ap open_kind (t.shows.slots n) ∙ kind_is) h in
+        let after = record y { slots = at_number n (with_outcome (answered r bytes)) y.slots } in
+        let stays : Stands after (ended n (answered r bytes) (taken_at p b)) = record {
+          shows = shows-ended y (taken_at p b) n (answered r bytes) t.shows;
+          facts = record {
+            fits = ended-keeps [] [] n (answered r bytes) (taken_at p b) unanswered (λ l i. i) (λ m. omega arith) none
+                (let-go p b (machine.Reply n r bytes) t.fits);
+            apart = t.apart;
+          };
+        } in
+        let answer : Brings z true p b (machine.Reply n r bytes) (arrival.Ended n q.kind r (shown r bytes)) = (
+          refl,
+          record {
+            bytes = bytes;
+            request = q;
+            item_is = refl;
+            still_open = unanswered;
+            made = made;
+            kind_is = refl;
+            outcome_is = refl;
+            stands = subst (λ (w : Bus). Stands w (ended n (answered r bytes) (taken_at p b))) (sym told.1) stays;
+          },
+        ) in
+        subst (λ (w : Arrival). Brings z true p b (machine.Reply n r bytes) w) (sym told.0) answer
+    by (over closed unkind gone) h =
+        let told : Answers y z n r bytes None a =
+        subst (λ o. Answers y z n r bytes o a) (ap open_kind (t.shows.slots n) ∙ unkind) h in
+        let after = record y { slots = at_number n (with_mark false) y.slots } in
+        let stays : Stands after (forgotten n (taken_at p b)) = record {
+          shows = shows-forgotten y (taken_at p b) n t.shows;
+          facts = record {
+            fits = forgotten-keeps [] [] n (taken_at p b) (λ l i. i) (λ m. omega arith) none (let-go p b (machine.Reply n r bytes) t.fits);
+            apart = t.apart;
+          };
+        } in
+        let answer : Brings z true p b (machine.Reply n r bytes) (arrival.Late n) = (
+          refl,
+          record {
+            result = r;
+            bytes = bytes;
+            item_is = refl;
+            closed = closed;
+            stands = subst (λ (w : Bus). Stands w (forgotten n (taken_at p b))) (sym told.1) stays;
+          },
+        ) in
+        subst (λ (w : Arrival). Brings z true p b (machine.Reply n r bytes) w) (sym told.0) answer
 
 -- a message is dropped
 drops : (y z : Bus) (b : machine.Bus) (p : Place) (m : machine.Item) (a : Arrival) (number : ℕ) (reply : Bool)
@@ -117,10 +151,10 @@ drops y z b p m a number reply s same is told =
 
 -- what is told of a message stands for the machine's, by the message and the item that it stands for
 brings : (y z : Bus) (b : machine.Bus) (p : Place) (takes : Bool) (i : Item) (m : machine.Item) (a : Arrival)
-    → Stands y (taken_at p b) → StandsForItem b.requests i m → HandlesAs y z takes i (Ok a) → Brings z takes p b m a
-brings y z b p true (code.Ask number label kind payload) (machine.Ask n) a s st h =
+    → Taken y p b m → StandsForItem b.requests i m → HandlesAs y z takes i (Ok a) → Brings z takes p b m a
+brings y z b p true (code.Ask number label kind payload) (machine.Ask n) a t st h =
     let is : a ≡ arrival.Ask (naming number label kind) payload = cc (h.0) in
-    let stays : Stands z (taken_at p b) = subst (λ (w : Bus). Stands w (taken_at p b)) (sym h.1) s in
+    let stays : Stands z (taken_at p b) = subst (λ (w : Bus). Stands w (taken_at p b)) (sym h.1) (settled y p b (machine.Ask n) t) in
     let answer : Brings z true p b (machine.Ask n) (arrival.Ask (naming number label kind) payload) = (
       refl,
       record {
@@ -134,47 +168,81 @@ brings y z b p true (code.Ask number label kind payload) (machine.Ask n) a s st 
       },
     ) in
     subst (λ (w : Arrival). Brings z true p b (machine.Ask n) w) (sym is) answer
-brings y z b p true (code.Reply number code payload) (machine.Reply n r bytes) a s st h = answers y z b p number code payload (machine.Reply n r bytes) a s (cc (st.number_is, st.result_is, st.payload_is)) h (said b number)
-brings y z b p false (code.Ask number label kind payload) (machine.Ask n) a s st h =
-    drops y z b p (machine.Ask n) a number false s h.1 (cc (h.0)) (ap Some st.same, refl)
-brings y z b p false (code.Reply number code payload) (machine.Reply n r bytes) a s st h =
-    drops y z b p (machine.Reply n r bytes) a number true s h.1 (cc (h.0)) (ap Some st.number_is, refl)
-brings y z b p takes (code.Ask number label kind payload) (machine.Reply n r bytes) a s st h = absurd st
-brings y z b p takes (code.Ask number label kind payload) (machine.Raw bytes) a s st h = absurd st
-brings y z b p takes (code.Ask number label kind payload) (machine.RawReply l k r bytes) a s st h = absurd st
-brings y z b p takes (code.Reply number code payload) (machine.Ask n) a s st h = absurd st
-brings y z b p takes (code.Reply number code payload) (machine.Raw bytes) a s st h = absurd st
-brings y z b p takes (code.Reply number code payload) (machine.RawReply l k r bytes) a s st h = absurd st
+brings y z b p true (code.Reply number code payload) (machine.Reply n r bytes) a t st h =
+    answers y z b p number code payload bytes n r a t st.number_is st.result_is st.payload_is h
+brings y z b p false (code.Ask number label kind payload) (machine.Ask n) a t st h =
+    drops y z b p (machine.Ask n) a number false (settled y p b (machine.Ask n) t) h.1 (cc (h.0)) (ap Some st.same, refl)
+brings y z b p false (code.Reply number code payload) (machine.Reply n r bytes) a t st h =
+    drops y z b p (machine.Reply n r bytes) a number true (settled y p b (machine.Reply n r bytes) t) h.1 (cc (h.0)) (ap Some st.number_is, refl)
+brings y z b p takes (code.Ask number label kind payload) (machine.Reply n r bytes) a t st h = absurd st
+brings y z b p takes (code.Ask number label kind payload) (machine.Raw bytes) a t st h = absurd st
+brings y z b p takes (code.Ask number label kind payload) (machine.RawReply l k r bytes) a t st h = absurd st
+brings y z b p takes (code.Reply number code payload) (machine.Ask n) a t st h = absurd st
+brings y z b p takes (code.Reply number code payload) (machine.Raw bytes) a t st h = absurd st
+brings y z b p takes (code.Reply number code payload) (machine.RawReply l k r bytes) a t st h = absurd st
 
--- where a named end stands
-place_at : (x : Bus) (b : machine.Bus) (s : Stands x b) (at : End) (place : Side)
-    → side_of at ≡ Some place → place_of at b.connections ≡ Some (placed (svc_of x b s) place)
-place_at x b s at place named =
-    ap (place_of at) s.alone ∙ place_is at x.ap_last x.far_last s.to_ap s.to_far
-    ∙ ap (option_map (placed (svc_of x b s))) named
+-- once the front message is taken
+taken : (x y : Bus) (b : machine.Bus) (p : Place) (item : machine.Item) → Stands x b → IsIn p.connection b.connections
+    → first (queue p.side p.connection) ≡ Some item
+    → y ≡ record x { connections = at_first (numbered p.connection.number) (without_front p.side) x.connections } → Taken y p b item
+taken x y b p item s live front e =
+    subst (λ (w : Bus). Taken w p b item) (sym e) (record {
+      shows = shows-connections x b (at_first (numbered p.connection.number) (without_front p.side) x.connections) (taken_at p b).connections
+          (changed b.requests b.requests p.connection.number (without_front p.side) (delivery.without_front p.side) x.connections b.connections
+          (front-stands b.requests p.side) (same-stands b.requests) s.shows.connections) s.shows;
+      fits = popped-keeps [] p.side item p.connection b live front s.facts.fits;
+      apart = apart-changed b p.connection.number (delivery.without_front p.side)
+          (λ c. let f = front-self p.side c in record { number = f.number; ap = f.ap; peer = f.peer }) s.facts.apart;
+    })
+
+-- the front message of the queue that was found
+front-is : (x : Bus) (k : ℕ) (to : Side) (found : Connection) → find (numbered k) x.connections ≡ Some found
+    → front_in k to x.connections ≡ first (queue_of to found)
+front-is x k to found looks = ap (option_and_then (λ c. first (queue_of to c))) looks
 
 -- The answer of a delivery where the end is named and a message waits.
-pub delivers : (x y z : Bus) (b : machine.Bus) (at : End) (takes : Bool) (place : Side) (i : Item) (a : Arrival)
-    → Stands x b → side_of at ≡ Some place → PopsAs x y place (Some i) → HandlesAs y z takes i (Ok a)
-    → Delivers z at takes b (record { connection = 1; item = a })
-delivers x y z b at takes place i a s named pops h =
-    let f = front_at b.requests (queue_of place x) (machine_queue place x b s) i (queue_of place y) (queue_stands place x b s) pops.0 in
-    let p = placed (svc_of x b s) place in
+pub delivers : (x y z : Bus) (b : machine.Bus) (at : End) (takes : Bool) (k : ℕ) (to : Side) (i : Item) (a : Arrival)
+    → Stands x b → place_at at x.connections ≡ Some (k, to) → front_in k to x.connections ≡ Some i
+    → y ≡ record x { connections = at_first (numbered k) (without_front to) x.connections } → HandlesAs y z takes i (Ok a)
+    → Delivers z at takes b (record { connection = k; item = a })
+delivers x y z b at takes k to i a s named front e h =
+    let w = placed x b at k to s named in
+    let p = placed_on w.connection to in
+    let f = front_of b.requests (queue_of to w.found) (queue to w.connection) i
+    (queue-stands b.requests to w.found w.connection w.stands) (sym (front-is x k to w.found w.looks) ∙ front) in
     record {
       place = p;
       item = f.item_of;
-      named = place_at x b s at place named;
-      front = ap first (queue_is place x b s ∙ f.whole);
-      connection = refl;
-      brings = brings y z b p takes i f.item_of a (stands_popped place x y b s f.item_of f.behind pops.1 f.whole f.behind_stands) f.item_stands h;
+      named = w.named;
+      front = f.front;
+      connection = w.number;
+      brings = brings y z b p takes i f.item_of a
+          (taken x y b p f.item_of s w.live f.front
+          (e ∙ ap (λ j. record x { connections = at_first (numbered j) (without_front to) x.connections }) w.number))
+          f.item_stands h;
     }
 
 -- The answer where nothing waits.
-pub delivers_nothing : (x y : Bus) (b : machine.Bus) (at : End) (place : Side)
-    → Stands x b → side_of at ≡ Some place → PopsAs x y place None → DeliversNothing y at b
-delivers_nothing x y b at place s named pops = record {
-  place = placed (svc_of x b s) place;
-  named = place_at x b s at place named;
-  empty = queue_is place x b s ∙ empty_at b.requests (queue_of place x) (machine_queue place x b s) (queue_stands place x b s) pops.0;
-  stands = subst (λ (w : Bus). Stands w b) (sym pops.1) s;
+pub delivers_nothing : (x y : Bus) (b : machine.Bus) (at : End) (k : ℕ) (to : Side)
+    → Stands x b → place_at at x.connections ≡ Some (k, to) → front_in k to x.connections ≡ None → y ≡ x
+    → DeliversNothing y at b
+delivers_nothing x y b at k to s named none same =
+    let w = placed x b at k to s named in
+    record {
+      place = placed_on w.connection to;
+      named = w.named;
+      empty = empty_of b.requests (queue_of to w.found) (queue to w.connection)
+          (queue-stands b.requests to w.found w.connection w.stands) (sym (front-is x k to w.found w.looks) ∙ none);
+      stands = subst (λ (v : Bus). Stands v b) (sym same) s;
+    }
+
+-- The answer where no wired connection names the end.
+pub delivers_nowhere : (x : Bus) (b : machine.Bus) (at : End) → Stands x b → None ≡ place_at at x.connections → DeliversNowhere x at b
+delivers_nowhere x b at s none = record {
+  named = by (place_of at b.connections) (sym (none ∙ place-is b.requests at x.connections b.connections s.shows.connections));
+  stands = s;
 }
+  where
+    by : (o : Option Place) → option_map told o ≡ None → o ≡ None
+    by None e = refl
+    by (Some p) e = absurd cc

@@ -1,9 +1,16 @@
+pub mod Cancels
+pub mod Changing
+pub mod Closing
 pub mod Delivers
 pub mod Endings
-pub mod Firsts
+pub mod Finding
 pub mod Fronts
+pub mod Looks
 pub mod Moves
+pub mod Places
 pub mod Queues
 pub mod Replies
 pub mod Sends
 pub mod SlotLaws
+pub mod Standing
+pub mod Wires

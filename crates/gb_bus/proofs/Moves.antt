@@ -1,68 +1,183 @@
--- What a bus goes on to stand for once messages move on its connection.
-use Rattle.std.proofs.Common.{◌≡◌, List, [], ◌∷◌, ◌++◌, refl, ap, ◌∙◌}
+-- What a connection stands for once it changes.
+use Rattle.std.proofs.Common.{◌≡◌, ℕ, Bool, true, false, cond, List, [], ◌∷◌, ◌++◌, refl}
 use Rattle.gb_base.specs.declared.end.Side.{Side}
 use Rattle.gb_base.specs.declared.end.Side.TheVariants as side
-use Rattle.gb_bus.proofs.Queues.{queue_push}
-use Rattle.gb_bus.specs.Parts.{queue_of, with_queue}
-use Rattle.gb_bus.specs.Stands.{Stands, StandsForItem, StandsForQueue, svc_with}
-use Rattle.gb_bus.specs.declared.bus.Bus.{Bus}
+use Rattle.gb_bus.proofs.Queues.{queue_more, queue_push}
+use Rattle.gb_bus.proofs.Standing.{Together}
+use Rattle.gb_bus.specs.Parts.{cleared, closed, last_of, put, queue_of, with_last, with_queue, with_wire, without_front}
+use Rattle.gb_bus.specs.Stands.{StandsForConnection, StandsForItem, StandsForQueue}
+use Rattle.gb_bus.specs.declared.connection.Connection.{Connection}
 use Rattle.gb_bus.specs.declared.queue.Item.{Item}
 use Rattle.gb_machine.specs.Bus as machine
-use Rattle.gb_machine.specs.Bus.{Connection, has_number, queue}
-use Rattle.gb_machine.specs.Delivery.{replied}
-use Rattle.gb_machine.specs.Lists.{at_first}
-use Rattle.gb_machine.specs.Sending.{put}
+use Rattle.gb_machine.specs.Bus.{Request, queue}
+use Rattle.gb_machine.specs.Delivery as delivery
+use Rattle.gb_machine.specs.Labels.{last_label, with_last_label}
+use Rattle.gb_machine.specs.Lists.{behind_first}
+use Rattle.gb_machine.specs.Sending as sending
 
--- the connection of the supervisory controller, as it stands
-abbrev pub svc_of : (x : Bus) (b : machine.Bus) → Stands x b → Connection
-svc_of x b s = svc_with x.ap_last x.far_last s.to_ap s.to_far
+pub queue-stands : (rs : List Request) (at : Side) (x : Connection) (c : machine.Connection) → StandsForConnection rs x c
+    → StandsForQueue rs (queue_of at x) (queue at c)
+queue-stands rs side.Ap x c h = h.to_ap
+queue-stands rs side.Far x c h = h.to_far
 
--- the machine's queue toward a side
-abbrev pub machine_queue : Side → (x : Bus) (b : machine.Bus) → Stands x b → List machine.Item
-machine_queue side.Ap x b s = s.to_ap
-machine_queue side.Far x b s = s.to_far
+pub last-is : (rs : List Request) (at : Side) (x : Connection) (c : machine.Connection) → StandsForConnection rs x c
+    → last_of at x ≡ last_label at c
+last-is rs side.Ap x c h = h.ap_last
+last-is rs side.Far x c h = h.far_last
 
-pub queue_stands : (to : Side) (x : Bus) (b : machine.Bus) (s : Stands x b)
-    → StandsForQueue b.requests (queue_of to x) (machine_queue to x b s)
-queue_stands side.Ap x b s = s.ap_queue
-queue_stands side.Far x b s = s.far_queue
-
-pub queue_is : (to : Side) (x : Bus) (b : machine.Bus) (s : Stands x b)
-    → queue to (svc_of x b s) ≡ machine_queue to x b s
-queue_is side.Ap x b s = refl
-queue_is side.Far x b s = refl
-
--- the queue toward a side changes
-pub moved : (to : Side) (x : Bus) (b : machine.Bus) (s : Stands x b) (change : Connection → Connection)
-    (is : List Item) (ms : List machine.Item)
-    → change (svc_of x b s) ≡ machine.with_queue to ms (svc_of x b s) → StandsForQueue b.requests is ms
-    → Stands (with_queue to is x) (record b { connections = at_first (has_number 1) change b.connections })
-moved side.Ap x b s change is ms e h = record {
-  to_ap = ms;
-  to_far = s.to_far;
-  alone = ap (at_first (has_number 1) change) s.alone ∙ ap (λ c. c ∷ []) e;
-  ap_queue = h;
-  far_queue = s.far_queue;
-  count = s.count;
-  slots = s.slots;
-  made = s.made;
+-- a queue is another
+pub with_queue-stands : (rs : List Request) (at : Side) (is : List Item) (ms : List machine.Item) (x : Connection) (c : machine.Connection)
+    → StandsForQueue rs is ms → StandsForConnection rs x c → StandsForConnection rs (with_queue at is x) (machine.with_queue at ms c)
+with_queue-stands rs side.Ap is ms x c q h = record {
+  number = h.number;
+  ap = h.ap;
+  peer = h.peer;
+  protocol = h.protocol;
+  wired = h.wired;
+  clean = h.clean;
+  shut = h.shut;
+  ap_last = h.ap_last;
+  far_last = h.far_last;
+  to_ap = q;
+  to_far = h.to_far;
 }
-moved side.Far x b s change is ms e h = record {
-  to_ap = s.to_ap;
-  to_far = ms;
-  alone = ap (at_first (has_number 1) change) s.alone ∙ ap (λ c. c ∷ []) e;
-  ap_queue = s.ap_queue;
-  far_queue = h;
-  count = s.count;
-  slots = s.slots;
-  made = s.made;
+with_queue-stands rs side.Far is ms x c q h = record {
+  number = h.number;
+  ap = h.ap;
+  peer = h.peer;
+  protocol = h.protocol;
+  wired = h.wired;
+  clean = h.clean;
+  shut = h.shut;
+  ap_last = h.ap_last;
+  far_last = h.far_last;
+  to_ap = h.to_ap;
+  to_far = q;
 }
 
--- a message goes to the end of the queue toward a side
-pub pushed : (to : Side) (x : Bus) (b : machine.Bus) (s : Stands x b) (i : Item) (m : machine.Item)
-    → StandsForItem b.requests i m
-    → Stands (with_queue to (queue_of to x ++ i ∷ []) x) (replied 1 to m b)
-pushed to x b s i m h =
-    moved to x b s (put to m) (queue_of to x ++ i ∷ []) (machine_queue to x b s ++ m ∷ [])
-    (ap (λ q. machine.with_queue to (q ++ m ∷ []) (svc_of x b s)) (queue_is to x b s))
-    (queue_push b.requests (queue_of to x) (machine_queue to x b s) i m (queue_stands to x b s) h)
+-- an identifier was drawn
+pub drawn-stands : (rs : List Request) (at : Side) (label : ℕ) → Together rs rs (with_last at label) (with_last_label at label)
+drawn-stands rs side.Ap label x c h = record {
+  number = h.number;
+  ap = h.ap;
+  peer = h.peer;
+  protocol = h.protocol;
+  wired = h.wired;
+  clean = h.clean;
+  shut = h.shut;
+  ap_last = refl;
+  far_last = h.far_last;
+  to_ap = h.to_ap;
+  to_far = h.to_far;
+}
+drawn-stands rs side.Far label x c h = record {
+  number = h.number;
+  ap = h.ap;
+  peer = h.peer;
+  protocol = h.protocol;
+  wired = h.wired;
+  clean = h.clean;
+  shut = h.shut;
+  ap_last = h.ap_last;
+  far_last = refl;
+  to_ap = h.to_ap;
+  to_far = h.to_far;
+}
+
+-- a message goes to the end of a queue, unless the connection isn't wired
+pub put-stands : (rs : List Request) (at : Side) (i : Item) (m : machine.Item) → StandsForItem rs i m
+    → Together rs rs (put at i) (sending.put at m)
+put-stands rs at i m item x c h = by x.wired c.wired h.wired
+  where
+    queued : StandsForConnection rs (with_queue at (queue_of at x ++ i ∷ []) x) (machine.with_queue at (queue at c ++ m ∷ []) c)
+    queued =
+        with_queue-stands rs at (queue_of at x ++ i ∷ []) (queue at c ++ m ∷ []) x c
+        (queue_push rs (queue_of at x) (queue at c) i m (queue-stands rs at x c h) item) h
+
+    by : (a b : Bool) → a ≡ b
+        → StandsForConnection rs (cond a (with_queue at (queue_of at x ++ i ∷ []) x) x) (cond b (machine.with_queue at (queue at c ++ m ∷ []) c) c)
+    by true true e = queued
+    by false false e = h
+    by true false e = absurd cc
+    by false true e = absurd cc
+
+-- the front message of a queue is taken
+pub front-stands : (rs : List Request) (at : Side) → Together rs rs (without_front at) (delivery.without_front at)
+front-stands rs at x c h =
+    with_queue-stands rs at (behind_first (queue_of at x)) (behind_first (queue at c)) x c
+    (behind rs (queue_of at x) (queue at c) (queue-stands rs at x c h)) h
+  where
+    behind : (rs : List Request) (is : List Item) (ms : List machine.Item) → StandsForQueue rs is ms
+        → StandsForQueue rs (behind_first is) (behind_first ms)
+    behind rs [] [] q = q
+    behind rs (i ∷ is) (m ∷ ms) q = q.1
+    behind rs [] (m ∷ ms) q = absurd q
+    behind rs (i ∷ is) [] q = absurd q
+
+-- a connection is wired
+pub wired-stands : (rs : List Request) → Together rs rs with_wire (λ c. record c { wired = true })
+wired-stands rs x c h = record {
+  number = h.number;
+  ap = h.ap;
+  peer = h.peer;
+  protocol = h.protocol;
+  wired = refl;
+  clean = h.clean;
+  shut = h.shut;
+  ap_last = h.ap_last;
+  far_last = h.far_last;
+  to_ap = h.to_ap;
+  to_far = h.to_far;
+}
+
+-- or isn't any more
+pub cleared-stands : (rs : List Request) → Together rs rs cleared (λ c. record c { wired = false; to_ap = []; to_far = [] })
+cleared-stands rs x c h = record {
+  number = h.number;
+  ap = h.ap;
+  peer = h.peer;
+  protocol = h.protocol;
+  wired = refl;
+  clean = h.clean;
+  shut = h.shut;
+  ap_last = h.ap_last;
+  far_last = h.far_last;
+  to_ap = tt;
+  to_far = tt;
+}
+
+-- or is closed
+pub closed-stands : (rs : List Request) → Together rs rs closed (λ c. record c { shut = true })
+closed-stands rs x c h = record {
+  number = h.number;
+  ap = h.ap;
+  peer = h.peer;
+  protocol = h.protocol;
+  wired = h.wired;
+  clean = h.clean;
+  shut = refl;
+  ap_last = h.ap_last;
+  far_last = h.far_last;
+  to_ap = h.to_ap;
+  to_far = h.to_far;
+}
+
+-- it is the same
+pub same-stands : (rs : List Request) → Together rs rs (λ x. x) (λ c. c)
+same-stands rs x c h = h
+
+-- and is so where one more request was made
+pub more-stands : (rs : List Request) (r : Request) → Together rs (rs ++ r ∷ []) (λ x. x) (λ c. c)
+more-stands rs r x c h = record {
+  number = h.number;
+  ap = h.ap;
+  peer = h.peer;
+  protocol = h.protocol;
+  wired = h.wired;
+  clean = h.clean;
+  shut = h.shut;
+  ap_last = h.ap_last;
+  far_last = h.far_last;
+  to_ap = queue_more rs r x.to_ap c.to_ap h.to_ap;
+  to_far = queue_more rs r x.to_far c.to_far h.to_far;
+}

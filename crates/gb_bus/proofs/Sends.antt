@@ -1,37 +1,41 @@
 -- A send stands for the machine's.
-use Rattle.std.proofs.Common.{◌≡◌, ℕ, ◌+◌, ◌<◌, Bool, true, false, not, cond, ltb, Some, None, Ok, option_and_then, List, [], ◌∷◌, ◌++◌, length, refl, sym, ap, ◌∙◌, ◌⊎◌, inl, inr, arith, subst, length-append, add-one}
+use Rattle.std.proofs.Common.{◌≡◌, ◌<◌, ℕ, ◌+◌, Bool, true, false, not, cond, Option, Some, None, is_some, List, [], ◌∷◌, ◌++◌, length, length-append, refl, sym, ap, ◌∙◌, ◌⊎◌, inl, arith, subst, add-one}
 use Rattle.std.specs.List.{find}
-use Rattle.std.proofs.lemmas.Bool.Decides.{nat_tests}
 use Rattle.gb_base.specs.declared.end.Side.{Side}
 use Rattle.gb_base.specs.declared.end.Side.TheVariants as side
 use Rattle.gb_base.specs.declared.outcome.Outcome.{Outcome}
 use Rattle.gb_base.specs.declared.outcome.Outcome.TheVariants as outcome
-use Rattle.gb_bus.proofs.Moves.{pushed, svc_of}
-use Rattle.gb_bus.proofs.Queues.{queue_more}
-use Rattle.gb_bus.proofs.SlotLaws.{lookup-other, lookup-same, tell_more}
+use Rattle.gb_bus.proofs.Endings.{lookup-other, lookup-same}
+use Rattle.gb_bus.proofs.Looks.{next-is}
+use Rattle.gb_bus.proofs.Moves.{drawn-stands, more-stands, put-stands}
+use Rattle.gb_bus.proofs.SlotLaws.{tell_more}
+use Rattle.gb_bus.proofs.Standing.{changed, found-number, same-of}
 use Rattle.gb_bus.specs.Ends.{first_outcome}
-use Rattle.gb_bus.specs.Parts.{LabelsAs, queue_of, with_queue}
-use Rattle.gb_bus.specs.Stands.{Stands, StandsForItem, kept, svc_with}
-use Rattle.gb_bus.specs.Sending.{Sends}
-use Rattle.gb_bus.specs.declared.answers.Sent.{Sent}
+use Rattle.gb_bus.specs.Moving.{LabelsAs}
+use Rattle.gb_bus.specs.Parts as parts
+use Rattle.gb_bus.specs.Parts.{numbered, put, with_last}
+use Rattle.gb_bus.specs.Sending.{IsLive, Sends, SendsNone}
+use Rattle.gb_bus.specs.Stands.{Shows, StandForAll, Stands, StandsForItem, kept}
 use Rattle.gb_bus.specs.declared.bus.Bus.{Bus}
+use Rattle.gb_bus.specs.declared.connection.Connection.{Connection}
+use Rattle.gb_bus.specs.declared.queue.Item.{Item}
 use Rattle.gb_bus.specs.declared.queue.Item.TheVariants as code
+use Rattle.gb_bus.specs.declared.slots.Slot.{Slot}
+use Rattle.gb_invariants.proofs.Apart.{apart-changed}
+use Rattle.gb_invariants.proofs.Awaiting.{not-both, unended}
+use Rattle.gb_invariants.proofs.Changes.{sent-keeps}
+use Rattle.gb_invariants.proofs.Selves.{drawn-self, put-self}
+use Rattle.gb_invariants.specs.Facts.{OutcomesFit}
 use Rattle.gb_machine.proofs.Lists.{nth-push}
 use Rattle.gb_machine.specs.Bus as machine
-use Rattle.gb_machine.specs.Bus.{Connection, Request, connection_of, has_number, next_number, other_side}
-use Rattle.gb_machine.specs.Delivery.{replied}
-use Rattle.gb_machine.specs.Labels.{fresh_label, greatest_label, last_label}
+use Rattle.gb_machine.specs.Bus.{Request, connection_of, has_number, next_number, other_side, outcome_of}
+use Rattle.gb_machine.specs.Labels.{with_last_label}
 use Rattle.gb_machine.specs.Lists.{at_first, lookup, nth}
-use Rattle.gb_machine.specs.Sending.{Draft, draft, drawn, is_wired, label_for, put, requested, sent, sent_at_once}
+use Rattle.gb_machine.specs.Requests.{is_given_up}
+use Rattle.gb_machine.specs.Sending as sending
+use Rattle.gb_machine.specs.Sending.{Draft, draft, drawn, is_lost, is_wired, label_for, requested, sent, sent_at_once}
 
--- the bus once the request was kept
-abbrev pub keeping : Draft → ℕ → Bus → Bus
-keeping d label x = record x { slots = x.slots ++ kept (first_outcome d.oneway) (requested d label) ∷ [] }
-
--- the bus once the request waits toward the other side
-abbrev pub waiting : Draft → ℕ → ℕ → Bus → Bus
-waiting d label number x =
-    with_queue (other_side d.side) (queue_of (other_side d.side) x ++ code.Ask number label d.kind d.payload ∷ []) x
+-- ---- outcomes
 
 -- what the outcomes say of other requests than the one that is sent
 sent_others : (d : Draft) (outs : List (ℕ × Outcome)) (m n : ℕ) → n < m ⊎ m < n → lookup n (sent_at_once d m outs) ≡ lookup n outs
@@ -49,6 +53,65 @@ sent_own d outs m free = by d.oneway
     by true = lookup-same m outcome.Sent outs
     by false = free
 
+-- the next request isn't given up
+unmarked : (b : machine.Bus) → OutcomesFit b → is_given_up (next_number b) b ≡ false
+unmarked b fits = by (is_given_up (next_number b) b) refl
+  where
+    by : (t : Bool) → is_given_up (next_number b) b ≡ t → t ≡ false
+    by false e = refl
+    by true e = absurd (not-both (is_some (outcome_of (next_number b) b)) (fits.given (next_number b) e) (ap is_some (unended b fits)))
+
+-- ---- connections
+
+-- two changes of the first that passes are one
+twice : {A : Type 0} (test : A → Bool) (f g : A → A) (xs : List A) → ((x : A) → test (g x) ≡ test x)
+    → at_first test f (at_first test g xs) ≡ at_first test (λ x. f (g x)) xs
+twice test f g [] same = refl
+twice test f g (x ∷ xs) same = by (test x) refl (twice test f g xs same)
+  where
+    by : (b : Bool) → test x ≡ b → at_first test f (at_first test g xs) ≡ at_first test (λ y. f (g y)) xs
+        → at_first test f (cond b (g x ∷ xs) (x ∷ at_first test g xs)) ≡ cond b (f (g x) ∷ xs) (x ∷ at_first test (λ y. f (g y)) xs)
+    by true e later = ap (λ b. cond b (f (g x) ∷ xs) (g x ∷ at_first test f xs)) (same x ∙ e)
+    by false e later = ap (λ b. cond b (f x ∷ at_first test g xs) (x ∷ at_first test f (at_first test g xs))) e ∙ ap (λ ys. x ∷ ys) later
+
+same-number-drawn : (k : ℕ) (at : Side) (label : ℕ) (x : Connection) → numbered k (with_last at label x) ≡ numbered k x
+same-number-drawn k side.Ap label x = refl
+same-number-drawn k side.Far label x = refl
+
+-- what a send that draws this identifier leaves of the bus
+record Drawn (x y : Bus) (b : machine.Bus) (d : Draft) (label : ℕ) (qs : List Request) (i : Item) (m : machine.Item) : Type 0 where
+  connections : List Connection
+  label_is : label_for d b ≡ Some label
+  after : y ≡ record x { connections = connections }
+  stand : StandForAll qs (at_first (numbered d.connection) (put (other_side d.side) i) connections)
+      (at_first (has_number d.connection) (λ c. sending.put (other_side d.side) m (drawn d label c)) b.connections)
+
+draws : (x y : Bus) (b : machine.Bus) (k : ℕ) (at : Side) (kind : ℕ) (payload : List ℕ) (deadline : ℕ) (oneway : Bool) (label : ℕ)
+    (r : Request) (i : Item) (m : machine.Item)
+    → StandForAll b.requests x.connections b.connections → StandsForItem (b.requests ++ r ∷ []) i m
+    → LabelsAs x y k at oneway (Some label) → Drawn x y b (draft k at kind payload deadline oneway) label (b.requests ++ r ∷ []) i m
+draws x y b k at kind payload deadline true label r i m s item h = record {
+  connections = x.connections;
+  label_is = sym h.0;
+  after = h.1;
+  stand = changed b.requests (b.requests ++ r ∷ []) k (put (other_side at) i) (sending.put (other_side at) m) x.connections b.connections
+      (λ v c t. put-stands (b.requests ++ r ∷ []) (other_side at) i m item v c (more-stands b.requests r v c t))
+      (more-stands b.requests r) s;
+}
+draws x y b k at kind payload deadline false label r i m s item h = record {
+  connections = at_first (numbered k) (with_last at label) x.connections;
+  label_is = sym (next-is x b k at s) ∙ h.0.0;
+  after = h.1 ∙ ap (λ cs. record x { connections = cs }) h.0.1;
+  stand = subst (λ cs. StandForAll (b.requests ++ r ∷ []) cs
+      (at_first (has_number k) (λ c. sending.put (other_side at) m (with_last_label at label c)) b.connections))
+      (sym (twice (numbered k) (put (other_side at) i) (with_last at label) x.connections (same-number-drawn k at label)))
+      (changed b.requests (b.requests ++ r ∷ []) k (λ v. put (other_side at) i (with_last at label v))
+      (λ c. sending.put (other_side at) m (with_last_label at label c)) x.connections b.connections
+      (λ v c t. put-stands (b.requests ++ r ∷ []) (other_side at) i m item (with_last at label v) (with_last_label at label c)
+      (drawn-stands (b.requests ++ r ∷ []) at label v c (more-stands b.requests r v c t)))
+      (more-stands b.requests r) s);
+}
+
 -- the new message stands for the new request
 new_item : (b : machine.Bus) (d : Draft) (label number : ℕ) → number ≡ next_number b
     → StandsForItem (b.requests ++ requested d label ∷ []) (code.Ask number label d.kind d.payload) (machine.Ask (next_number b))
@@ -61,122 +124,116 @@ new_item b d label number e = record {
   payload_is = refl;
 }
 
--- what is told of a request that was made
-abbrev told : ℕ → ℕ → Sent
-told number label = record { number = number; label = label; lost = false }
+-- ---- the answer
 
--- what the only connection decides
-at_svc : {A : Type 0} → (x : Bus) (b : machine.Bus) (s : Stands x b) (f : List Connection → A)
-    → f b.connections ≡ f (svc_with x.ap_last x.far_last s.to_ap s.to_far ∷ [])
-at_svc x b s f = ap f s.alone
-
--- the next identifier of a side that has one left
-drawn_next : (c : Connection) (at : Side) (label : ℕ) → last_label at c < greatest_label → label ≡ last_label at c + 1 → fresh_label at c ≡ Some label
-drawn_next c at label left next = let e : ltb (last_label at c) greatest_label ≡ true = grind (arith, nat_tests) in
-    ap (λ t. cond t (Some (last_label at c + 1)) None) e ∙ ap Some (sym next)
-
--- what a send that draws this identifier leaves of the bus and of the connection
-record Drawn (x y : Bus) (b : machine.Bus) (s : Stands x b) (d : Draft) (label : ℕ) : Type 0 where
-  ap_last : ℕ
-  far_last : ℕ
-  label_is : label_for d b ≡ Some label
-  after : y ≡ record x { ap_last = ap_last; far_last = far_last }
-  connection : drawn d label (svc_of x b s) ≡ svc_with ap_last far_last s.to_ap s.to_far
-
-draws : (x y : Bus) (b : machine.Bus) (at : Side) (kind : ℕ) (payload : List ℕ) (deadline : ℕ) (oneway : Bool) (label : ℕ) (s : Stands x b)
-    → LabelsAs x y at oneway (Ok label) → Drawn x y b s (draft 1 at kind payload deadline oneway) label
-draws x y b at kind payload deadline true label s h = record {
-  ap_last = x.ap_last;
-  far_last = x.far_last;
-  label_is = ap Some (sym h.0);
-  after = h.1;
-  connection = refl;
-}
-draws x y b side.Ap kind payload deadline false label s h = record {
-  ap_last = label;
-  far_last = x.far_last;
-  label_is = at_svc x b s (λ cs. option_and_then (fresh_label side.Ap) (find (has_number 1) cs))
-      ∙ drawn_next (svc_of x b s) side.Ap label h.left h.next;
-  after = h.after;
-  connection = refl;
-}
-draws x y b side.Far kind payload deadline false label s h = record {
-  ap_last = x.ap_last;
-  far_last = label;
-  label_is = at_svc x b s (λ cs. option_and_then (fresh_label side.Far) (find (has_number 1) cs))
-      ∙ drawn_next (svc_of x b s) side.Far label h.left h.next;
-  after = h.after;
-  connection = refl;
+-- the bus once the request was kept and waits toward the other side
+abbrev pub sending_on : Draft → ℕ → ℕ → Bus → Bus
+sending_on d label number x = record x {
+  connections = at_first (numbered d.connection) (put (other_side d.side) (code.Ask number label d.kind d.payload)) x.connections;
+  slots = x.slots ++ kept (first_outcome d.oneway) false (requested d label) ∷ [];
 }
 
--- the machine's bus once the request was made, before it waits in a queue of this connection
-abbrev requesting : Draft → ℕ → Connection → machine.Bus → machine.Bus
-requesting d label c b = record b {
-  requests = b.requests ++ requested d label ∷ [];
-  outcomes = sent_at_once d (next_number b) b.outcomes;
-  connections = c ∷ [];
+live-is : (o : Option machine.Connection) → is_some o ≡ true → (c : machine.Connection) × (o ≡ Some c)
+live-is None h = absurd cc
+live-is (Some c) h = (c, refl)
+
+-- whether it is lost
+lost-is : (x : Bus) (b : machine.Bus) (k : ℕ) → StandForAll b.requests x.connections b.connections
+    → parts.is_wired (find (numbered k) x.connections) ≡ is_wired (connection_of k b)
+lost-is x b k h =
+    same-of b.requests parts.is_wired is_wired (find (numbered k) x.connections) (connection_of k b) refl (λ y c s. s.wired)
+    (found-number b.requests k x.connections b.connections h)
+
+shows-sent : (x : Bus) (b : machine.Bus) (d : Draft) (label number : ℕ) (cs : List Connection) → Stands x b
+    → StandForAll (b.requests ++ requested d label ∷ [])
+    (at_first (numbered d.connection) (put (other_side d.side) (code.Ask number label d.kind d.payload)) cs) (sent d label b).connections
+    → Shows (sending_on d label number (record x { connections = cs })) (sent d label b)
+shows-sent x b d label number cs s stand = record {
+  made = s.shows.made;
+  connections = stand;
+  count = length-append b.requests (requested d label ∷ []) ∙ ap (λ n. n + 1) s.shows.count
+      ∙ sym (length-append x.slots (kept (first_outcome d.oneway) false (requested d label) ∷ []));
+  slots = tell_more x.slots b.requests (λ n. outcome_of n b) (λ n. outcome_of n (sent d label b)) (λ n. is_given_up n b)
+      (requested d label) (first_outcome d.oneway) s.shows.count s.shows.slots
+      (λ n h. sent_others d b.outcomes (next_number b) n (inl (omega arith)))
+      (sent_own d b.outcomes (next_number b) (unended b s.facts.fits.outcomes))
+      (unmarked b s.facts.fits.outcomes);
 }
 
--- the bus stands for it
-stands_requesting : (x : Bus) (b : machine.Bus) (d : Draft) (label ap_last far_last : ℕ) (s : Stands x b)
-    → Stands (keeping d label (record x { ap_last = ap_last; far_last = far_last }))
-    (requesting d label (svc_with ap_last far_last s.to_ap s.to_far) b)
-stands_requesting x b d label ap_last far_last s = record {
-  to_ap = s.to_ap;
-  to_far = s.to_far;
-  alone = refl;
-  ap_queue = queue_more b.requests (requested d label) x.to_ap s.to_ap s.ap_queue;
-  far_queue = queue_more b.requests (requested d label) x.to_far s.to_far s.far_queue;
-  count = length-append b.requests (requested d label ∷ []) ∙ ap (λ n. n + 1) s.count
-      ∙ sym (length-append x.slots (kept (first_outcome d.oneway) (requested d label) ∷ []));
-  slots = tell_more x.slots b.requests b.outcomes (sent_at_once d (next_number b) b.outcomes)
-      (requested d label) (first_outcome d.oneway) s.count s.slots
-      (λ m h. sent_others d b.outcomes (next_number b) m (inl (omega arith)))
-      (sent_own d b.outcomes (next_number b) (s.made (next_number b) (omega arith)));
-  made = λ n h. sent_others d b.outcomes (next_number b) n (inr (omega (arith, length-append b.requests (requested d label ∷ []))))
-      ∙ s.made n (omega (arith, length-append b.requests (requested d label ∷ [])));
+-- the bus is the same where no identifier is left
+unchanged-by : (x y : Bus) (k : ℕ) (at : Side) → LabelsAs x y k at false None → y ≡ x
+unchanged-by x y k at h = h.1 ∙ ap (λ cs. record x { connections = cs }) h.0.1
+
+-- The answer where no identifier is left.
+pub sends_none : (x y : Bus) (b : machine.Bus) (k : ℕ) (at : Side) (kind : ℕ) (payload : List ℕ) (deadline : ℕ) (oneway : Bool)
+    → Stands x b → LabelsAs x y k at oneway None → SendsNone y (draft k at kind payload deadline oneway) b
+sends_none x y b k at kind payload deadline true s h = absurd (none-some h.0)
+  where
+    none-some : {A : Type 0} {v : A} → None ≡ Some v → ⊥
+    none-some e = absurd cc
+sends_none x y b k at kind payload deadline false s h = record {
+  label = sym (next-is x b k at s.shows.connections) ∙ h.0.0;
+  stands = subst (λ (v : Bus). Stands v b) (sym (unchanged-by x y k at h)) s;
 }
 
--- the machine's bus after a send: the request was made, and then it went to its queue
-sent_is : (x : Bus) (b : machine.Bus) (s : Stands x b) (d : Draft) (label ap_last far_last : ℕ)
-    → d.connection ≡ 1 → drawn d label (svc_of x b s) ≡ svc_with ap_last far_last s.to_ap s.to_far
-    → sent d label b ≡ replied 1 (other_side d.side) (machine.Ask (next_number b))
-    (requesting d label (svc_with ap_last far_last s.to_ap s.to_far) b)
-sent_is x b s d label ap_last far_last one connection =
-    let goes : Connection → Connection = put (other_side d.side) (machine.Ask (next_number b)) in
-    ap (λ cs. record (requesting d label (svc_of x b s) b) { connections = cs })
-    (ap (λ k. at_first (has_number k) (λ c. goes (drawn d label c)) b.connections) one
-    ∙ at_svc x b s (at_first (has_number 1) (λ c. goes (drawn d label c)))
-    ∙ ap (λ c. goes c ∷ []) connection)
-
-sends_one : (x y z : Bus) (b : machine.Bus) (at : Side) (kind : ℕ) (payload : List ℕ) (deadline : ℕ) (oneway : Bool) (label number : ℕ)
-    → Stands x b → LabelsAs x y at oneway (Ok label) → number ≡ length y.slots + 1
-    → z ≡ waiting (draft 1 at kind payload deadline oneway) label number (keeping (draft 1 at kind payload deadline oneway) label y)
-    → Sends z (draft 1 at kind payload deadline oneway) b (told number label)
-sends_one x y z b at kind payload deadline oneway label number s h count after =
-    let d = draft 1 at kind payload deadline oneway in
-    let w = draws x y b at kind payload deadline oneway label s h in
-    let x2 = keeping d label (record x { ap_last = w.ap_last; far_last = w.far_last }) in
-    let b2 = requesting d label (svc_with w.ap_last w.far_last s.to_ap s.to_far) b in
-    let place : number ≡ next_number b =
-    count ∙ ap (λ (v : Bus). length v.slots + 1) w.after ∙ ap (λ n. n + 1) (sym s.count) in
-    let waits : Stands (waiting d label number x2) (replied 1 (other_side at) (machine.Ask (next_number b)) b2) =
-    pushed (other_side at) x2 b2 (stands_requesting x b d label w.ap_last w.far_last s)
-    (code.Ask number label kind payload) (machine.Ask (next_number b)) (new_item b d label number place) in
+-- the answer where what waits and what is kept are given at once
+sends_on : (x y z : Bus) (b : machine.Bus) (k : ℕ) (at : Side) (kind : ℕ) (payload : List ℕ) (deadline : ℕ) (oneway : Bool)
+    (label number : ℕ) (lost : Bool)
+    → Stands x b → LabelsAs x y k at oneway (Some label) → number ≡ length y.slots + 1
+    → lost ≡ not (parts.is_wired (find (numbered k) x.connections))
+    → z ≡ sending_on (draft k at kind payload deadline oneway) label number y
+    → IsLive k b
+    → Sends z (draft k at kind payload deadline oneway) b (record { number = number; label = label; lost = lost })
+sends_on x y z b k at kind payload deadline oneway label number lost s h count is_lost after live =
+    let d = draft k at kind payload deadline oneway in
+    let c = live-is (connection_of k b) live in
+    let same = same_slots x y oneway h in
+    let place : number ≡ next_number b = count ∙ ap (λ l. l + 1) (same ∙ sym s.shows.count) in
+    let w = draws x y b k at kind payload deadline oneway label (requested d label) (code.Ask number label kind payload)
+    (machine.Ask (next_number b)) s.shows.connections (new_item b d label number place) h in
     record {
       label = w.label_is;
       number = place;
-      lost = sym (at_svc x b s (λ cs. not (is_wired (find (has_number 1) cs))));
-      stands = subst (λ (v : Bus). Stands v (sent d label b)) (sym (after ∙ ap (λ (v : Bus). waiting d label number (keeping d label v)) w.after))
-          (subst (λ (v : machine.Bus). Stands (waiting d label number x2) v) (sym (sent_is x b s d label w.ap_last w.far_last refl w.connection)) waits);
+      lost = is_lost ∙ ap not (lost-is x b k s.shows.connections);
+      stands = subst (λ (v : Bus). Stands v (sent d label b)) (sym (after ∙ ap (sending_on d label number) w.after)) (record {
+        shows = shows-sent x b d label number w.connections s w.stand;
+        facts = record {
+          fits = sent-keeps [] d label c.0 b c.1 w.label_is s.facts.fits;
+          apart = apart-changed b k (λ v. sending.put (other_side at) (machine.Ask (next_number b)) (drawn d label v))
+              (λ v.
+              let p = put-self (other_side at) (machine.Ask (next_number b)) (drawn d label v) in
+              let q = drawn-self d label v in
+              record { number = p.number ∙ q.number; ap = p.ap ∙ q.ap; peer = p.peer ∙ q.peer }) s.facts.apart;
+        };
+      });
     }
+  where
+    same_slots : (x y : Bus) (oneway : Bool) → LabelsAs x y k at oneway (Some label) → length y.slots ≡ length x.slots
+    same_slots x y true h = ap (λ (v : Bus). length v.slots) h.1
+    same_slots x y false h = ap (λ (v : Bus). length v.slots) h.1
 
--- The answer of a send on the connection of the supervisory controller.
-pub sends : (x y z : Bus) (b : machine.Bus) (k : ℕ) (at : Side) (kind : ℕ) (payload : List ℕ) (deadline : ℕ) (oneway : Bool) (label number : ℕ)
-    → k ≡ 1 → Stands x b → LabelsAs x y at oneway (Ok label) → number ≡ length y.slots + 1
-    → z ≡ waiting (draft k at kind payload deadline oneway) label number (keeping (draft k at kind payload deadline oneway) label y)
-    → Sends z (draft k at kind payload deadline oneway) b (told number label)
-sends x y z b k at kind payload deadline oneway label number e s h count after =
-    subst (λ j. z ≡ waiting (draft j at kind payload deadline oneway) label number (keeping (draft j at kind payload deadline oneway) label y)
-    → Sends z (draft j at kind payload deadline oneway) b (told number label)) (sym e)
-    (sends_one x y z b at kind payload deadline oneway label number s h count) after
+-- The answer of a send that draws an identifier, or needs none. What waits and what is kept are
+-- given by their parts.
+pub sends : (x y : Bus) (b : machine.Bus) (k : ℕ) (at to : Side) (kind : ℕ) (payload bytes : List ℕ) (deadline : ℕ) (oneway : Bool)
+    (label number : ℕ) (lost : Bool) (how : Option Outcome) (cs : List Connection) (slots : List Slot)
+    → Stands x b → LabelsAs x y k at oneway (Some label) → number ≡ length y.slots + 1
+    → lost ≡ not (parts.is_wired (find (numbered k) x.connections))
+    → to ≡ other_side at → bytes ≡ payload → how ≡ first_outcome oneway
+    → cs ≡ at_first (numbered k) (put to (code.Ask number label kind bytes)) y.connections
+    → slots ≡ y.slots ++ kept how false (requested (draft k at kind payload deadline oneway) label) ∷ []
+    → IsLive k b
+    → Sends (record y { connections = cs; slots = slots }) (draft k at kind payload deadline oneway) b
+    (record { number = number; label = label; lost = lost })
+sends x y b k at to kind payload bytes deadline oneway label number lost how cs slots s h count is_lost to_is bytes_is how_is goes keeps live =
+    sends_on x y (record y { connections = cs; slots = slots }) b k at kind payload deadline oneway label number lost s h count is_lost after live
+  where
+    after : record y { connections = cs; slots = slots } ≡ sending_on (draft k at kind payload deadline oneway) label number y
+    after =
+        ap (λ l. record y { connections = l; slots = slots })
+        (goes ∙ ap (λ t. at_first (numbered k) (put t (code.Ask number label kind bytes)) y.connections) to_is
+        ∙ ap (λ v. at_first (numbered k) (put (other_side at) (code.Ask number label kind v)) y.connections) bytes_is)
+        ∙ ap (λ l. record y {
+          connections = at_first (numbered k) (put (other_side at) (code.Ask number label kind payload)) y.connections;
+          slots = l;
+        })
+        (keeps ∙ ap (λ o. y.slots ++ kept o false (requested (draft k at kind payload deadline oneway) label) ∷ []) how_is)

@@ -2,6 +2,7 @@
 use Rattle.std.specs.Prelude.{◌≡◌, ℕ, Bool, true, false, Option, Some, None, Result, Ok, Err, List, [], ⊤}
 use Rattle.gb_base.specs.declared.end.End.{End}
 use Rattle.gb_base.specs.declared.end.Side.{Side}
+use Rattle.gb_base.specs.declared.end.Side.TheVariants as side
 use Rattle.gb_base.specs.declared.outcome.Outcome.TheVariants as outcome
 use Rattle.gb_bus.specs.Stands.{Stands}
 use Rattle.gb_bus.specs.declared.answers.Arrival.{Arrival}
@@ -11,9 +12,11 @@ use Rattle.gb_bus.specs.declared.answers.Asked.{Asked}
 use Rattle.gb_bus.specs.declared.answers.DeliverFault.{DeliverFault}
 use Rattle.gb_bus.specs.declared.answers.DeliverFault.TheVariants as fault
 use Rattle.gb_bus.specs.declared.bus.Bus.{Bus}
+use Rattle.gb_invariants.specs.Facts.{times_in}
 use Rattle.gb_machine.specs.Bus as machine
-use Rattle.gb_machine.specs.Bus.{Place, Request, is_open, other_side, place_of, queue, request_of}
+use Rattle.gb_machine.specs.Bus.{Connection, Place, Request, connection_of, is_open, other_side, place_of, queue, request_of}
 use Rattle.gb_machine.specs.Delivery.{answered, ended, forgotten, popped, replied}
+use Rattle.gb_machine.specs.LawsBus.{is_awaited, is_item_of}
 use Rattle.gb_machine.specs.Lists.{first}
 
 -- the bus without the front item toward a place
@@ -110,15 +113,21 @@ DeliversAs new at takes b (Err fault.NoConnection) = DeliversNowhere new at b
 DeliversAs new at takes b (Err fault.QueueEmpty) = DeliversNothing new at b
 DeliversAs new at takes b (Err (fault.Memory m)) = ⊤
 
--- The request that `asked` names was made by the other side of the connection.
-pub record MayReply (k : ℕ) (side : Side) (asked : Asked) (b : machine.Bus) (n : ℕ) : Type 0 where
+-- When a request may be answered at a side of connection k: the other side made it there with the
+-- identifier and type that `asked` has, it isn't unidirectional, no item has its number, and it is
+-- awaited, unless the application processor made it and its side is closed.
+pub record MayReply (k : ℕ) (at : Side) (asked : Asked) (b : machine.Bus) (n : ℕ) : Type 0 where
   pub request : Request
   pub made : request_of n b ≡ Some request
   pub names : Names asked n request
   pub connection : request.connection ≡ k
-  pub asker : request.side ≡ other_side side
+  pub asker : request.side ≡ other_side at
+  pub twoway : request.oneway ≡ false
+  pub unqueued : times_in (is_item_of n) [] b ≡ 0
+  pub awaited : (c : Connection) → connection_of k b ≡ Some c
+      → (request.side ≡ side.Ap → c.shut ≡ false) → is_awaited n b ≡ true
 
--- the reply waits toward the asker
+-- the reply waits toward the asker, or is lost where the connection isn't wired
 abbrev pub RepliesAs : Bus → ℕ → Side → ℕ → ℕ → List ℕ → machine.Bus → Type 0
-RepliesAs new k side n code payload b =
-    Stands new (replied k (other_side side) (machine.Reply n code payload) b)
+RepliesAs new k at n code payload b =
+    Stands new (replied k (other_side at) (machine.Reply n code payload) b)

@@ -1,8 +1,10 @@
 pub mod Cancelling
 pub mod Delivering
 pub mod Ends
+pub mod Moving
 pub mod Parts
 pub mod Sending
 pub mod Slots
 pub mod Stands
 pub mod Taking
+pub mod Wiring

@@ -1,104 +1,143 @@
--- The parts of a bus by side.
-use Rattle.std.specs.Prelude.{◌≡◌, ℕ, ◌+◌, ◌<◌, Option, Some, None, Bool, true, false, Result, Ok, Err, List, [], ◌∷◌}
+-- The connections of a bus, and what changes them.
+use Rattle.std.specs.Prelude.{◌≡◌, ℕ, ◌+◌, ◌==◌, nat_lt, Bool, true, false, not, ◌&&◌, if◌then◌else◌, Option, Some, None, option_and_then, option_map, List, [], ◌∷◌, ◌++◌, find}
+use Rattle.gb_base.specs.declared.end.End.{End}
+use Rattle.gb_base.specs.declared.end.End.TheVariants as end
 use Rattle.gb_base.specs.declared.end.Side.{Side}
 use Rattle.gb_base.specs.declared.end.Side.TheVariants as side
-use Rattle.gb_base.specs.declared.outcome.Outcome.TheVariants as outcome
-use Rattle.gb_bus.specs.Slots.{ended_at}
-use Rattle.gb_bus.specs.Taking.{dropped, open_kind, shown}
-use Rattle.gb_bus.specs.declared.answers.Arrival.{Arrival}
-use Rattle.gb_bus.specs.declared.answers.Arrival.TheVariants as arrival
-use Rattle.gb_bus.specs.declared.answers.Asked.{Asked}
-use Rattle.gb_bus.specs.declared.answers.DeliverFault.{DeliverFault}
-use Rattle.gb_bus.specs.declared.answers.DeliverFault.TheVariants as deliver
-use Rattle.gb_bus.specs.declared.answers.SendFault.{SendFault}
-use Rattle.gb_bus.specs.declared.answers.SendFault.TheVariants as fault
-use Rattle.gb_bus.specs.declared.bus.Bus.{Bus}
+use Rattle.gb_bus.specs.Ends.{earlier}
+use Rattle.gb_bus.specs.declared.connection.Connection.{Connection}
 use Rattle.gb_bus.specs.declared.queue.Item.{Item}
-use Rattle.gb_bus.specs.declared.queue.Item.TheVariants as item
+use Rattle.gb_machine.specs.Bus.{or_else, same_end}
 use Rattle.gb_machine.specs.Labels.{greatest_label}
-use Rattle.gb_machine.specs.Lists.{nth}
+use Rattle.gb_machine.specs.Lists.{at_first, behind_first, first}
 
--- the bus has this connection: that of the supervisory controller alone
-abbrev pub HasConnection : Bus → ℕ → Type 0
-HasConnection x k = k ≡ 1
+-- ---- one connection
+
+-- a connection as it is first
+abbrev pub new_connection : ℕ → ℕ → End → ℕ → Connection
+new_connection k a peer protocol = record {
+  number = k;
+  ap = a;
+  peer = peer;
+  protocol = protocol;
+  wired = false;
+  shut = false;
+  ap_last = 0;
+  far_last = 0;
+  to_ap = [];
+  to_far = [];
+}
+
+abbrev pub with_wire : Connection → Connection
+with_wire c = record c { wired = true }
+
+-- the connection of the supervisory controller
+abbrev pub svc : Connection
+svc = with_wire (new_connection 1 0 end.Svc 0x14)
+
+abbrev pub closed : Connection → Connection
+closed c = record c { shut = true }
+
+abbrev pub cleared : Connection → Connection
+cleared c = record c { wired = false; to_ap = []; to_far = [] }
 
 -- the last identifier that a side drew
-abbrev pub last_of : Side → Bus → ℕ
-last_of side.Ap x = x.ap_last
-last_of side.Far x = x.far_last
+abbrev pub last_of : Side → Connection → ℕ
+last_of side.Ap c = c.ap_last
+last_of side.Far c = c.far_last
 
-abbrev pub with_last : Side → ℕ → Bus → Bus
-with_last side.Ap label x = record x { ap_last = label }
-with_last side.Far label x = record x { far_last = label }
+abbrev pub with_last : Side → ℕ → Connection → Connection
+with_last side.Ap label c = record c { ap_last = label }
+with_last side.Far label c = record c { far_last = label }
+
+-- the identifier that a side draws next
+abbrev pub next_of : Side → Connection → Option ℕ
+next_of at c =
+    if nat_lt (last_of at c) greatest_label then Some (last_of at c + 1) else None
 
 -- the queue toward a side
-abbrev pub queue_of : Side → Bus → List Item
-queue_of side.Ap x = x.to_ap
-queue_of side.Far x = x.to_far
+abbrev pub queue_of : Side → Connection → List Item
+queue_of side.Ap c = c.to_ap
+queue_of side.Far c = c.to_far
 
-abbrev pub with_queue : Side → List Item → Bus → Bus
-with_queue side.Ap items x = record x { to_ap = items }
-with_queue side.Far items x = record x { to_far = items }
+abbrev pub with_queue : Side → List Item → Connection → Connection
+with_queue side.Ap items c = record c { to_ap = items }
+with_queue side.Far items c = record c { to_far = items }
 
--- the next identifier was drawn
-pub record Draws (old new : Bus) (at : Side) (label : ℕ) : Type 0 where
-  pub left : last_of at old < greatest_label
-  pub next : label ≡ last_of at old + 1
-  pub after : new ≡ with_last at label old
+-- a message goes to the end of the queue toward a side, unless the connection isn't wired
+abbrev pub put : Side → Item → Connection → Connection
+put at item c = if c.wired then with_queue at (queue_of at c ++ item ∷ []) c else c
 
--- none is left, which is the only fault
-pub record DrawsNone (old new : Bus) (at : Side) (e : SendFault) : Type 0 where
-  pub spent : greatest_label ≡ last_of at old
-  pub fault : e ≡ fault.NoLabel
-  pub after : new ≡ old
-
-abbrev pub DrawsAs : Bus → Bus → Side → Result ℕ SendFault → Type 0
-DrawsAs old new at (Ok label) = Draws old new at label
-DrawsAs old new at (Err e) = DrawsNone old new at e
+-- without the front message toward a side
+abbrev pub without_front : Side → Connection → Connection
+without_front at c = with_queue at (behind_first (queue_of at c)) c
 
 -- the front message toward a side was taken, where there is one
-abbrev pub PopsAs : Bus → Bus → Side → Option Item → Type 0
-PopsAs old new at None = (queue_of at old ≡ []) × (new ≡ old)
-PopsAs old new at (Some item) =
-    (queue_of at old ≡ item ∷ queue_of at new) × (new ≡ with_queue at (queue_of at new) old)
+abbrev pub PopsAs : Connection → Connection → Side → Option Item → Type 0
+PopsAs old new at None = (first (queue_of at old) ≡ None) × (new ≡ old)
+PopsAs old new at (Some item) = (first (queue_of at old) ≡ Some item) × (new ≡ without_front at old)
 
--- what an answer does to the bus: it ends its request where that is open
-abbrev pub Answers : Bus → Bus → ℕ → ℕ → List ℕ → Option ℕ → Arrival → Type 0
-Answers old new number code payload None a = (a ≡ arrival.Late number) × (new ≡ old)
-Answers old new number code payload (Some kind) a =
-    (a ≡ arrival.Ended number kind code (shown code payload))
-    × (new ≡ record old {
-      slots = ended_at number (outcome.Answered code (shown code payload)) old.slots;
-    })
+-- whether nothing is in a list
+abbrev pub is_none_left : List Item → Bool
+is_none_left [] = true
+is_none_left (i ∷ is) = false
 
--- the only fault is want of memory
-abbrev pub IsMemory : DeliverFault → Type 0
-IsMemory (deliver.Memory m) = Unit {0}
-IsMemory deliver.NoConnection = ⊥
-IsMemory deliver.QueueEmpty = ⊥
+-- the side at which an end stands
+abbrev pub side_at : End → Connection → Option Side
+side_at at c =
+    if not c.wired then None
+    else if same_end at (end.Ap c.ap) then Some side.Ap
+    else if same_end at c.peer then Some side.Far
+    else None
 
-abbrev pub AnswersAs : Bus → Bus → ℕ → ℕ → List ℕ → Result Arrival DeliverFault → Type 0
-AnswersAs old new number code payload (Ok a) =
-    Answers old new number code payload (open_kind (nth number old.slots)) a
-AnswersAs old new number code payload (Err e) = IsMemory e
+-- the earliest of the ends at which something waits, and one that was found before
+abbrev pub earliest_of : Connection → Option End → Option End
+earliest_of c found =
+    if c.wired
+    then earlier (is_none_left c.to_ap) (end.Ap c.ap) (earlier (is_none_left c.to_far) c.peer found)
+    else found
 
--- what names a request that was delivered
-abbrev pub naming : ℕ → ℕ → ℕ → Asked
-naming number label kind = record { number = Some number; label = label; kind = kind }
+-- ---- the connections
 
--- what a message brings to an end that takes it
-abbrev pub TakesAs : Bus → Bus → Item → Result Arrival DeliverFault → Type 0
-TakesAs old new (item.Ask number label kind payload) r =
-    (r ≡ Ok (arrival.Ask (naming number label kind) payload)) × (new ≡ old)
-TakesAs old new (item.Reply number code payload) r = AnswersAs old new number code payload r
+-- a connection has this number
+abbrev pub numbered : ℕ → Connection → Bool
+numbered k c = c.number == k
 
--- the identifier of the next request of a side: 0 where it is unidirectional
-abbrev pub LabelsAs : Bus → Bus → Side → Bool → Result ℕ SendFault → Type 0
-LabelsAs old new at true (Ok label) = (label ≡ 0) × (new ≡ old)
-LabelsAs old new at true (Err e) = ⊥
-LabelsAs old new at false r = DrawsAs old new at r
+-- a connection is that of a CPort of the application processor with a far end
+abbrev pub joins : ℕ → End → Connection → Bool
+joins a peer c = c.ap == a && same_end c.peer peer
 
--- what a message brings to an end that takes it, or doesn't
-abbrev pub HandlesAs : Bus → Bus → Bool → Item → Result Arrival DeliverFault → Type 0
-HandlesAs old new true item r = TakesAs old new item r
-HandlesAs old new false item r = (r ≡ Ok (dropped item)) × (new ≡ old)
+-- the wired connection that names an end, and the side at which the end stands
+abbrev pub place_at : End → List Connection → Option (ℕ × Side)
+place_at at [] = None
+place_at at (c ∷ cs) = or_else (option_map (λ s. (c.number, s)) (side_at at c)) (place_at at cs)
+
+-- the first end at which something waits
+abbrev pub earliest_in : List Connection → Option End
+earliest_in [] = None
+earliest_in (c ∷ cs) = earliest_of c (earliest_in cs)
+
+-- the identifier that a side of a connection draws next
+abbrev pub next_in : ℕ → Side → List Connection → Option ℕ
+next_in k at cs = option_and_then (next_of at) (find (numbered k) cs)
+
+-- an identifier was drawn, where one is left
+abbrev pub DrawsAs : List Connection → List Connection → ℕ → Side → Option ℕ → Type 0
+DrawsAs old new k at None = (next_in k at old ≡ None) × (new ≡ old)
+DrawsAs old new k at (Some label) =
+    (next_in k at old ≡ Some label) × (new ≡ at_first (numbered k) (with_last at label) old)
+
+-- the front message toward a side of a connection
+abbrev pub front_in : ℕ → Side → List Connection → Option Item
+front_in k at cs = option_and_then (λ c. first (queue_of at c)) (find (numbered k) cs)
+
+-- the front message toward a side of a connection was taken, where there is one
+abbrev pub TakesFrontAs : List Connection → List Connection → ℕ → Side → Option Item → Type 0
+TakesFrontAs old new k at None = (front_in k at old ≡ None) × (new ≡ old)
+TakesFrontAs old new k at (Some item) =
+    (front_in k at old ≡ Some item) × (new ≡ at_first (numbered k) (without_front at) old)
+
+-- whether a connection is there and wired
+abbrev pub is_wired : Option Connection → Bool
+is_wired None = false
+is_wired (Some c) = c.wired

@@ -1,60 +1,53 @@
-//! The bus of one connection, that of the supervisory controller.
+//! The bus: messages.
 
-ghost use Rattle.std.specs.Prelude.{◌≡◌, ℕ, [], ◌∷◌, ◌++◌, OnOk, OnErr, IfOk, IsErrOf, option_copied, is_some, true};
+ghost use Rattle.std.specs.Prelude.{◌≡◌, ℕ, [], ◌∷◌, ◌++◌, OnOk, OnErr, IfOk, IsErrOf, find, option_copied, is_some, not, true};
 ghost use Rattle.gb_machine.specs.Bus as machine;
 ghost use Rattle.gb_machine.specs.Bus.{first_bus, outcome_of, request_of};
 ghost use Rattle.gb_machine.specs.Lists.{nth};
 ghost use Rattle.gb_machine.specs.Sending.{draft};
-ghost use Rattle.gb_machine.specs.Waiting.{first_waiting};
+ghost use Rattle.gb_bus.specs.Parts.{is_wired, numbered};
 ghost use Rattle.gb_bus.specs.Taking.{dropped, open_kind};
 
-use crate::ends::{first_outcome, other_side, side_at};
-use crate::queue::{Item, Queue};
+use crate::connections::Connections;
+use crate::ends::{first_outcome, other_side};
+use crate::queue::Item;
 use crate::slots::{Slot, Slots};
 use crate::{AlreadyEnded, Arrival, Arrived, Asked, DeliverFault, SendFault, Sent};
 use gb_base::{Bytes, End, OutOfMemory, Outcome, Side, TryCopy};
 use std::alloc::Global;
 
-/// The number of the connection of the supervisory controller.
-const SVC: u64 = 1;
-
-/// The greatest identifier.
-const GREATEST_LABEL: u16 = 65_535;
-
-/// Connections, requests and queues. It has the connection of the supervisory controller.
+/// Connections, requests and queues. Connection 1 is that of the supervisory controller. A call
+/// that names a connection which isn't live changes none.
 #[derive(Drop)]
 pub struct Bus {
-    alloc: Global,
-    slots: Slots,
-    ap_last: u16,
-    far_last: u16,
-    to_ap: Queue,
-    to_far: Queue,
+    pub(crate) alloc: Global,
+    pub(crate) made: u64,
+    pub(crate) connections: Connections,
+    pub(crate) slots: Slots,
 }
 
 impl Bus {
     ghost use Rattle.gb_bus.specs.Cancelling.{CancelsAs};
     ghost use Rattle.gb_bus.specs.Delivering.{DeliversAs, MayReply, RepliesAs};
-    ghost use Rattle.gb_bus.specs.Parts.{AnswersAs, DrawsAs, HandlesAs, HasConnection, LabelsAs, PopsAs, TakesAs, queue_of, with_queue};
-    ghost use Rattle.gb_bus.specs.Sending.{SendsAs};
+    ghost use Rattle.gb_bus.specs.Moving.{AnswersAs, HandlesAs, LabelsAs, TakesAs};
+    ghost use Rattle.gb_bus.specs.Sending.{IsLive, SendsAs};
     ghost use Rattle.gb_bus.specs.Stands.{Stands};
 
-    /// The bus on which nothing was sent.
+    /// The bus on which nothing was sent. It has the connection of the supervisory controller.
     pub fn new(alloc: Global) -> Result<Bus, OutOfMemory>
         ensures { IfOk result (λ x. Stands x first_bus) }
     {
         Ok(Bus {
             alloc,
+            made: 1,
+            connections: Connections::new(alloc)?,
             slots: Slots::new(alloc),
-            ap_last: 0,
-            far_last: 0,
-            to_ap: Queue::new(alloc),
-            to_far: Queue::new(alloc),
         })
     }
 
-    /// Makes a request on a live connection. `deadline` is in milliseconds. A unidirectional
-    /// request has identifier 0, and has ended as sent at once.
+    /// Makes a request on connection k. `deadline` is in milliseconds. A unidirectional request has
+    /// identifier 0, and has ended as sent at once. NoLabel comes where the side has no identifier
+    /// left, or the connection isn't live. After want of memory nothing is said.
     pub fn send(
         &mut self,
         k: u64,
@@ -64,12 +57,14 @@ impl Bus {
         deadline: u64,
         oneway: bool,
     ) -> Result<Sent, SendFault>
-        requires { HasConnection self.old k }
         ensures step { (b : machine.Bus) → Stands self.old b → SendsAs self.new
             (draft k side kind payload.now deadline oneway) b result }
         ensures unchanged { IsErrOf result SendFault.NoLabel → self.new ≡ self.old }
     {
-        let label = self.label_for(side, oneway)?;
+        let lost = !self.is_wired(k);
+        let Some(label) = self.label_for(k, side, oneway) else {
+            return Err(SendFault::NoLabel);
+        };
         let number = self.slots.add(Slot {
             connection: k,
             side,
@@ -77,6 +72,7 @@ impl Bus {
             kind,
             deadline,
             outcome: first_outcome(oneway),
+            given_up: false,
         })?;
         let payload = Bytes::from_slice(self.alloc, payload)?;
         let item = Item::Ask {
@@ -85,36 +81,34 @@ impl Bus {
             kind,
             payload,
         };
-        self.push(other_side(side), item)?;
+        self.connections.push(k, other_side(side), item)?;
         Ok(Sent {
             number,
             label,
-            lost: false,
+            lost,
         })
     }
 
     /// Takes the front message toward an end from its queue. An end that doesn't take messages
-    /// drops it.
+    /// drops it. A late answer frees the identifier of its request.
     pub fn deliver(&mut self, at: End, takes: bool) -> Result<Arrived, DeliverFault>
         ensures step { (b : machine.Bus) → Stands self.old b
             → DeliversAs self.new at takes b result }
-        ensures live { IfOk result (λ a. HasConnection self.new a.connection) }
+        ensures unchanged { IsErrOf result DeliverFault.NoConnection → self.new ≡ self.old }
+        ensures still { IsErrOf result DeliverFault.QueueEmpty → self.new ≡ self.old }
     {
-        let Some(side) = side_at(at) else {
+        let Some((connection, side)) = self.connections.place(at) else {
             return Err(DeliverFault::NoConnection);
         };
-        let Some(item) = self.pop(side) else {
+        let Some(item) = self.connections.pop(connection, side) else {
             return Err(DeliverFault::QueueEmpty);
         };
         let item = self.handled(item, takes)?;
-        Ok(Arrived {
-            connection: SVC,
-            item,
-        })
+        Ok(Arrived { connection, item })
     }
 
     /// Answers a request that was delivered at `side` of a connection: the reply goes toward the
-    /// side that asked.
+    /// side that asked, and is lost where the connection isn't wired.
     pub fn reply(
         &mut self,
         k: u64,
@@ -123,11 +117,9 @@ impl Bus {
         code: u8,
         payload: &[u8],
     ) -> Result<(), OutOfMemory>
-        requires { HasConnection self.old k }
         ensures step { OnOk result ((b : machine.Bus) (n : ℕ) → Stands self.old b
             → MayReply k side asked.now b n → RepliesAs self.new k side n code payload.now b) }
     {
-        prove!(k == SVC);
         let Some(number) = asked.number else {
             return Ok(());
         };
@@ -137,7 +129,7 @@ impl Bus {
             result: code,
             payload,
         };
-        self.push(other_side(side), answer)?;
+        self.connections.push(k, other_side(side), answer)?;
         Ok(())
     }
 
@@ -152,6 +144,7 @@ impl Bus {
             return Err(AlreadyEnded);
         }
         self.slots.end(n, Outcome::Cancelled);
+        self.slots.mark(n, true);
         Ok(())
     }
 
@@ -163,66 +156,24 @@ impl Bus {
         self.slots.get(n)?.outcome.as_ref()
     }
 
-    /// The first end at which something waits, in the order in which a settle goes.
-    pub fn first(&self) -> Option<End>
-        ensures { (b : machine.Bus) → Stands self.now b → result ≡ first_waiting b }
-    {
-        if !self.to_far.is_empty() {
-            Some(End::Svc)
-        } else if !self.to_ap.is_empty() {
-            Some(End::Ap(0))
-        } else {
-            None
-        }
-    }
-
-    /// The identifier of the next request of a side.
-    fn label_for(&mut self, side: Side, oneway: bool) -> Result<u16, SendFault>
-        ensures { LabelsAs self.old self.new side oneway result }
+    /// The identifier of the next request of a side, None where none is left.
+    fn label_for(&mut self, k: u64, side: Side, oneway: bool) -> Option<u16>
+        ensures { LabelsAs self.old self.new k side oneway result }
     {
         if oneway {
-            return Ok(0);
-        }
-        self.draw(side)
-    }
-
-    /// Draws the next identifier of a side.
-    fn draw(&mut self, side: Side) -> Result<u16, SendFault>
-        ensures { DrawsAs self.old self.new side result }
-    {
-        let last = match side {
-            Side::Ap => self.ap_last,
-            Side::Far => self.far_last,
-        };
-        if last == GREATEST_LABEL {
-            return Err(SendFault::NoLabel);
-        }
-        let label = last + 1;
-        match side {
-            Side::Ap => self.ap_last = label,
-            Side::Far => self.far_last = label,
-        }
-        Ok(label)
-    }
-
-    /// Adds a message to the queue toward a side.
-    fn push(&mut self, side: Side, item: Item) -> Result<(), OutOfMemory>
-        ensures { OnOk result
-            (self.new ≡ with_queue side (queue_of side self.old ++ item ∷ []) self.old) }
-    {
-        match side {
-            Side::Ap => self.to_ap.push(item),
-            Side::Far => self.to_far.push(item),
+            Some(0)
+        } else {
+            self.connections.draw(k, side)
         }
     }
 
-    /// Takes the front message toward a side.
-    fn pop(&mut self, side: Side) -> Option<Item>
-        ensures { PopsAs self.old self.new side result }
+    /// A connection is live and wired.
+    fn is_wired(&self, k: u64) -> bool
+        ensures { result ≡ is_wired (find (numbered k) self.now.connections) }
     {
-        match side {
-            Side::Ap => self.to_ap.pop(),
-            Side::Far => self.to_far.pop(),
+        match self.connections.get(k) {
+            Some(connection) => connection.wired,
+            None => false,
         }
     }
 
@@ -263,11 +214,12 @@ impl Bus {
         }
     }
 
-    /// What an answer brings: it ends its request where that is open.
+    /// What an answer brings: it ends its request where that is open, or else frees its identifier.
     fn answer(&mut self, number: u64, code: u8, payload: Bytes) -> Result<Arrival, DeliverFault>
         ensures { AnswersAs self.old self.new number code payload result }
     {
         let Some(kind) = self.open_kind(number) else {
+            self.slots.mark(number, false);
             return Ok(Arrival::Late { number });
         };
         let payload = if code == 0 {

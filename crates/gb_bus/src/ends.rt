@@ -2,7 +2,8 @@
 
 ghost use Rattle.std.specs.Prelude.{◌≡◌};
 ghost use Rattle.gb_machine.specs.Bus.{other_side};
-ghost use Rattle.gb_bus.specs.Ends.{first_outcome, side_of};
+ghost use Rattle.gb_machine.specs.Waiting.{end_before};
+ghost use Rattle.gb_bus.specs.Ends.{earlier, first_outcome};
 
 use gb_base::{End, Outcome, Side};
 
@@ -23,13 +24,34 @@ pub fn other_side(side: Side) -> Side
     }
 }
 
-/// The side at which an end stands.
-pub fn side_at(at: End) -> Option<Side>
-    ensures { result ≡ side_of at }
+/// The earlier of an end, unless nothing waits there, and one that was found before.
+pub fn earlier(empty: bool, at: End, found: Option<End>) -> Option<End>
+    ensures { result ≡ earlier empty at found }
 {
-    match at {
-        End::Ap(0) => Some(Side::Ap),
-        End::Svc => Some(Side::Far),
-        End::Ap(_) | End::Module { .. } => None,
+    match found {
+        _ if empty => found,
+        Some(later) if !is_before(at, later) => Some(later),
+        _ => Some(at),
+    }
+}
+
+/// The order in which ends are settled: the supervisory controller, then the CPorts of the
+/// application processor, then those of modules.
+fn is_before(at: End, later: End) -> bool
+    ensures { result ≡ end_before at later }
+{
+    match (at, later) {
+        (_, End::Svc) => false,
+        (End::Svc, _) => true,
+        (End::Ap(a), End::Ap(b)) => a < b,
+        (End::Ap(_), End::Module { .. }) => true,
+        (End::Module { .. }, End::Ap(_)) => false,
+        (
+            End::Module { intf, cport },
+            End::Module {
+                intf: other_intf,
+                cport: other_cport,
+            },
+        ) => intf < other_intf || intf == other_intf && cport < other_cport,
     }
 }

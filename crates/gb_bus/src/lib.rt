@@ -3,11 +3,14 @@
 
 mod answers;
 mod bus;
+mod connection;
+mod connections;
 mod ends;
 mod queue;
 mod slots;
 #[cfg(test)]
 mod tests;
+mod wiring;
 
 pub use answers::{AlreadyEnded, Arrival, Arrived, Asked, DeliverFault, SendFault, Sent};
 pub use bus::Bus;

@@ -1,6 +1,8 @@
 //! The queue of messages toward one end.
 
-ghost use Rattle.std.specs.Prelude.{◌≡◌, [], ◌∷◌, ◌++◌, nat_le, length, MatchOption, OnOk, OnErr};
+ghost use Rattle.std.specs.Prelude.{◌≡◌, [], ◌∷◌, ◌++◌, OnOk, OnErr, length};
+ghost use Rattle.gb_machine.specs.Lists.{behind_first, first};
+ghost use Rattle.gb_bus.specs.Parts.{is_none_left};
 
 use gb_base::{Bytes, OutOfMemory};
 use std::alloc::Global;
@@ -68,16 +70,30 @@ impl Queue {
 
     /// Takes the front message.
     pub fn pop(&mut self) -> Option<Item>
-        ensures { MatchOption result ((self.old ≡ []) × (self.new ≡ []))
-            (λ item. self.old ≡ item ∷ self.new) }
+        ensures front { result ≡ first self.old }
+        ensures behind { self.new ≡ behind_first self.old }
     {
         self.items.pop_front()
     }
 
-    /// Whether nothing waits.
-    pub fn is_empty(&self) -> bool
-        ensures { result ≡ nat_le (length self.now) 0 }
+    /// Loses all messages.
+    pub fn clear(&mut self)
+        ensures { self.new ≡ [] }
     {
-        self.items.len() <= 0
+        self.items.clear();
+    }
+
+    /// How many messages wait.
+    pub fn len(&self) -> u64
+        ensures { result ≡ length self.now }
+    {
+        self.items.len() as u64
+    }
+
+    /// No message waits.
+    pub fn is_empty(&self) -> bool
+        ensures { result ≡ is_none_left self.now }
+    {
+        self.items.is_empty()
     }
 }

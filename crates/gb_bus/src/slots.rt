@@ -1,10 +1,10 @@
 //! What the bus keeps of each request that was made.
 
-ghost use Rattle.std.specs.Prelude.{◌≡◌, ◌+◌, [], ◌∷◌, ◌++◌, length, IfOk, option_copied};
+ghost use Rattle.std.specs.Prelude.{◌≡◌, ◌+◌, [], ◌∷◌, ◌++◌, length, map, IfOk, option_copied};
 ghost use Rattle.gb_machine.specs.Lists.{nth};
-ghost use Rattle.gb_bus.specs.Slots.{ended_at};
+ghost use Rattle.gb_bus.specs.Slots.{at_number, is_open_on, open_in, over, with_mark, with_outcome};
 
-use gb_base::{OutOfMemory, Outcome, Side};
+use gb_base::{Numbers, OutOfMemory, Outcome, Side};
 use std::alloc::Global;
 use std::marker::Model;
 
@@ -23,6 +23,30 @@ pub struct Slot {
     pub deadline: u64,
     /// How it ended, None while it is open.
     pub outcome: Option<Outcome>,
+    /// It was given up, and its answer hasn't come.
+    pub given_up: bool,
+}
+
+impl Slot {
+    /// It is open, and was made by a side of a connection.
+    fn is_open_on(&self, k: u64, side: Side) -> bool
+        ensures { result ≡ is_open_on k side self.now }
+    {
+        self.connection == k && self.side == side && self.outcome.is_none()
+    }
+
+    /// A side of a connection is closed: what it made ends, and is given up no more.
+    fn close(&mut self, k: u64, side: Side)
+        ensures { self.new ≡ over k side self.old }
+    {
+        if self.connection != k || self.side != side {
+            return;
+        }
+        if self.outcome.is_none() {
+            self.outcome = Some(Outcome::Disconnected);
+        }
+        self.given_up = false;
+    }
 }
 
 /// The slots of all requests. Request n stands at the n-th place, counted from 1.
@@ -71,11 +95,44 @@ impl Slots {
 
     /// Request n ends so, where it was made.
     pub fn end(&mut self, n: u64, outcome: Outcome)
-        ensures { self.new ≡ ended_at n outcome self.old }
+        ensures { self.new ≡ at_number n (with_outcome outcome) self.old }
     {
         if n == 0 || n > self.slots.len() as u64 {
             return;
         }
         self.slots[(n - 1) as usize].outcome = Some(outcome);
+    }
+
+    /// Request n, where it was made, is marked as given up or as no more so.
+    pub fn mark(&mut self, n: u64, given_up: bool)
+        ensures { self.new ≡ at_number n (with_mark given_up) self.old }
+    {
+        if n == 0 || n > self.slots.len() as u64 {
+            return;
+        }
+        self.slots[(n - 1) as usize].given_up = given_up;
+    }
+
+    /// The open requests of a side of a connection, in order of number.
+    pub fn open_on(&self, k: u64, side: Side) -> Result<Numbers, OutOfMemory>
+        ensures { IfOk result (λ ns. ns ≡ open_in 1 k side self.now) }
+    {
+        let mut open = Numbers::new(*self.slots.allocator());
+        for (i, slot) in self.slots.iter().enumerate() {
+            if slot.is_open_on(k, side) {
+                open.push(i as u64 + 1)?;
+            }
+        }
+        Ok(open)
+    }
+
+    /// The requests of a side of a connection are over: the open ones end as disconnected, and none
+    /// is given up any more.
+    pub fn close(&mut self, k: u64, side: Side)
+        ensures { self.new ≡ map (over k side) self.old }
+    {
+        for slot in self.slots.iter_mut() {
+            slot.close(k, side);
+        }
     }
 }

@@ -1,12 +1,16 @@
-//! Rows of the bus of one connection. The expected values are worked by hand.
+//! Rows of the bus. The expected values are worked by hand.
 
 use crate::{Arrival, Arrived, Asked, Bus, DeliverFault, SendFault, Sent};
-use gb_base::{End, Outcome, Side};
+use gb_base::{End, Numbers, Outcome, Side};
+use std::alloc::Global;
 use std::process::Abort;
 use std::test::Fail;
 
 /// The type PING of the SVC protocol.
 const PING: u8 = 19;
+
+/// CPort 1 of the module at interface 2.
+const LIGHT: End = End::Module { intf: 2, cport: 1 };
 
 /// An arrival in plain values. Of a payload it has the first byte.
 #[derive(Clone, Copy, Debug, PartialEq, Eq)]
@@ -46,12 +50,12 @@ fn ping(number: u64, label: u16) -> Asked {
     }
 }
 
-/// A ping is made, with this number and identifier.
-fn sends(
+/// A ping is made on a wired connection, with this number and identifier.
+fn sends_on(
     rt: &impl Abort,
     bus: &mut Bus,
+    k: u64,
     side: Side,
-    oneway: bool,
     number: u64,
     label: u16,
 ) -> Result<(), Fail> {
@@ -60,11 +64,21 @@ fn sends(
         label,
         lost: false,
     };
-    assert_eq!(rt; bus.send(1, side, PING, &[5], 500, oneway)?, want);
+    assert_eq!(rt; bus.send(k, side, PING, &[5], 500, false)?, want);
     Ok(())
 }
 
-/// A delivery brings this.
+/// A ping is made on the connection of the supervisory controller.
+fn sends(rt: &impl Abort, bus: &mut Bus, side: Side, number: u64, label: u16) -> Result<(), Fail> {
+    sends_on(rt, bus, 1, side, number, label)
+}
+
+/// A delivery brings this on connection k.
+fn brings_on(rt: &impl Abort, bus: &mut Bus, k: u64, at: End, want: Seen) {
+    assert_eq!(rt; delivered(bus, at, true), Ok((k, want)), "at {at:?}");
+}
+
+/// A delivery brings this on the connection of the supervisory controller.
 fn brings(rt: &impl Abort, bus: &mut Bus, at: End, takes: bool, want: Seen) {
     assert_eq!(rt; delivered(bus, at, takes), Ok((1, want)), "at {at:?}");
 }
@@ -85,34 +99,25 @@ fn was_answered(rt: &impl Abort, bus: &Bus, n: u64, want: (u8, Option<u8>)) {
 fn a_ping_is_answered(rt: HostRuntime) -> Result<(), Fail> {
     let mut bus = Bus::new(rt.alloc())?;
     let asked = ping(1, 1);
-    sends(&rt, &mut bus, Side::Ap, false, 1, 1)?;
+    sends(&rt, &mut bus, Side::Ap, 1, 1)?;
     brings(&rt, &mut bus, End::Svc, true, Seen::Ask(asked, Some(5)));
     bus.reply(1, Side::Far, &asked, 0, &[9])?;
     assert!(rt; bus.outcome(1).is_none(), "its answer still waits");
-    brings(
-        &rt,
-        &mut bus,
-        End::Ap(0),
-        true,
-        Seen::Ended(1, PING, 0, Some(9)),
-    );
+    let ended = Seen::Ended(1, PING, 0, Some(9));
+    brings(&rt, &mut bus, End::Ap(0), true, ended);
     was_answered(&rt, &bus, 1, (0, Some(9)));
-    assert_eq!(rt;
-        delivered(&mut bus, End::Ap(0), true),
-        Err(DeliverFault::QueueEmpty)
-    );
+    let none_waits = delivered(&mut bus, End::Ap(0), true);
+    assert_eq!(rt; none_waits, Err(DeliverFault::QueueEmpty));
     Ok(())
 }
 
 #[test]
-fn an_answer_counts_once(rt: HostRuntime) -> Result<(), Fail> {
+fn a_failed_answer_has_no_payload(rt: HostRuntime) -> Result<(), Fail> {
     let mut bus = Bus::new(rt.alloc())?;
-    sends(&rt, &mut bus, Side::Far, false, 1, 1)?;
-    sends(&rt, &mut bus, Side::Far, false, 2, 2)?;
+    sends(&rt, &mut bus, Side::Far, 1, 1)?;
+    sends(&rt, &mut bus, Side::Far, 2, 2)?;
     bus.reply(1, Side::Ap, &ping(2, 2), 6, &[1])?;
-    bus.reply(1, Side::Ap, &ping(2, 2), 0, &[3])?;
     brings(&rt, &mut bus, End::Svc, true, Seen::Ended(2, PING, 6, None));
-    brings(&rt, &mut bus, End::Svc, true, Seen::Late(2));
     was_answered(&rt, &bus, 2, (6, None));
     assert!(rt; bus.outcome(1).is_none(), "request 1 is open");
     Ok(())
@@ -121,22 +126,12 @@ fn an_answer_counts_once(rt: HostRuntime) -> Result<(), Fail> {
 #[test]
 fn an_end_may_drop(rt: HostRuntime) -> Result<(), Fail> {
     let mut bus = Bus::new(rt.alloc())?;
-    sends(&rt, &mut bus, Side::Ap, false, 1, 1)?;
+    sends(&rt, &mut bus, Side::Ap, 1, 1)?;
+    let request = Seen::Dropped(Some(1), false);
+    brings(&rt, &mut bus, End::Svc, false, request);
     bus.reply(1, Side::Far, &ping(1, 1), 0, &[])?;
-    brings(
-        &rt,
-        &mut bus,
-        End::Svc,
-        false,
-        Seen::Dropped(Some(1), false),
-    );
-    brings(
-        &rt,
-        &mut bus,
-        End::Ap(0),
-        false,
-        Seen::Dropped(Some(1), true),
-    );
+    let reply = Seen::Dropped(Some(1), true);
+    brings(&rt, &mut bus, End::Ap(0), false, reply);
     assert!(rt; bus.outcome(1).is_none(), "a dropped answer ends nothing");
     Ok(())
 }
@@ -144,32 +139,16 @@ fn an_end_may_drop(rt: HostRuntime) -> Result<(), Fail> {
 #[test]
 fn a_unidirectional_request_has_ended(rt: HostRuntime) -> Result<(), Fail> {
     let mut bus = Bus::new(rt.alloc())?;
-    sends(&rt, &mut bus, Side::Ap, true, 1, 0)?;
+    let sent = bus.send(1, Side::Ap, PING, &[5], 500, true)?;
+    let want = Sent {
+        number: 1,
+        label: 0,
+        lost: false,
+    };
+    assert_eq!(rt; sent, want);
     assert!(rt; matches!(bus.outcome(1), Some(Outcome::Sent)), "it is open");
-    brings(
-        &rt,
-        &mut bus,
-        End::Svc,
-        true,
-        Seen::Ask(ping(1, 0), Some(5)),
-    );
-    Ok(())
-}
-
-#[test]
-fn two_ends_are_named(rt: HostRuntime) -> Result<(), Fail> {
-    let mut bus = Bus::new(rt.alloc())?;
-    for (at, fault) in [
-        (End::Ap(0), DeliverFault::QueueEmpty),
-        (End::Svc, DeliverFault::QueueEmpty),
-        (End::Ap(1), DeliverFault::NoConnection),
-        (
-            End::Module { intf: 2, cport: 0 },
-            DeliverFault::NoConnection,
-        ),
-    ] {
-        assert_eq!(rt; delivered(&mut bus, at, true), Err(fault), "at {at:?}");
-    }
+    let came = Seen::Ask(ping(1, 0), Some(5));
+    brings(&rt, &mut bus, End::Svc, true, came);
     Ok(())
 }
 
@@ -177,26 +156,178 @@ fn two_ends_are_named(rt: HostRuntime) -> Result<(), Fail> {
 fn each_side_has_65535_identifiers(rt: HostRuntime) -> Result<(), Fail> {
     let mut bus = Bus::new(rt.alloc())?;
     for n in 1..=65_535u16 {
-        sends(&rt, &mut bus, Side::Ap, false, u64::from(n), n)?;
+        assert!(rt; !bus.spent(1, Side::Ap), "before {n}");
+        sends(&rt, &mut bus, Side::Ap, u64::from(n), n)?;
     }
+    assert!(rt; bus.spent(1, Side::Ap));
     let none_left = bus.send(1, Side::Ap, PING, &[], 500, false);
     assert_eq!(rt; none_left, Err(SendFault::NoLabel));
-    sends(&rt, &mut bus, Side::Far, false, 65_536, 1)?;
+    sends(&rt, &mut bus, Side::Far, 65_536, 1)?;
     Ok(())
 }
 
 #[test]
 fn a_cancelled_request_is_answered_late(rt: HostRuntime) -> Result<(), Fail> {
     let mut bus = Bus::new(rt.alloc())?;
-    sends(&rt, &mut bus, Side::Ap, false, 1, 1)?;
+    sends(&rt, &mut bus, Side::Ap, 1, 1)?;
     assert!(rt; bus.cancel(1).is_ok());
     assert!(rt; bus.cancel(1).is_err(), "it has ended");
     assert!(rt; matches!(bus.outcome(1), Some(Outcome::Cancelled)));
-    sends(&rt, &mut bus, Side::Ap, false, 2, 2)?;
+    sends(&rt, &mut bus, Side::Ap, 2, 2)?;
     let asked = ping(1, 1);
     brings(&rt, &mut bus, End::Svc, true, Seen::Ask(asked, Some(5)));
     bus.reply(1, Side::Far, &asked, 0, &[])?;
     brings(&rt, &mut bus, End::Ap(0), true, Seen::Late(1));
     assert!(rt; bus.outcome(2).is_none(), "the late answer ended nothing");
+    Ok(())
+}
+
+/// The bus with two modules of two CPorts each, wired: connections 2 to 5 join AP CPorts 4 to 1
+/// with interfaces 3 and 2.
+fn two_modules(rt: &impl Abort, alloc: Global) -> Result<Bus, Fail> {
+    let mut bus = Bus::new(alloc)?;
+    let ends = [(4u16, 3u8, 2u16), (3, 3, 1), (2, 2, 2), (1, 2, 1)];
+    for (ap, intf, cport) in ends {
+        let k = bus.attach(ap, intf, cport, 2)?;
+        assert_eq!(rt; k, 6 - u64::from(ap));
+        assert_eq!(rt; bus.waiting(End::Ap(ap)), None, "it isn't wired");
+        bus.wire(k)?;
+    }
+    Ok(bus)
+}
+
+#[test]
+fn each_connection_carries_both_ways(rt: HostRuntime) -> Result<(), Fail> {
+    let mut bus = two_modules(&rt, rt.alloc())?;
+    let ends = [
+        (2u64, 4u16, 3u8, 2u16),
+        (3, 3, 3, 1),
+        (4, 2, 2, 2),
+        (5, 1, 2, 1),
+    ];
+    let mut number = 0;
+    for (k, ap, intf, cport) in ends {
+        let far = End::Module { intf, cport };
+        sends_on(&rt, &mut bus, k, Side::Ap, number + 1, 1)?;
+        sends_on(&rt, &mut bus, k, Side::Far, number + 2, 1)?;
+        sends_on(&rt, &mut bus, k, Side::Far, number + 3, 2)?;
+        assert_eq!(rt; bus.waiting(far), Some(1));
+        assert_eq!(rt; bus.waiting(End::Ap(ap)), Some(2));
+        let asked = ping(number + 1, 1);
+        brings_on(&rt, &mut bus, k, far, Seen::Ask(asked, Some(5)));
+        let own = ping(number + 2, 1);
+        brings_on(&rt, &mut bus, k, End::Ap(ap), Seen::Ask(own, Some(5)));
+        bus.reply(k, Side::Far, &asked, 0, &[7])?;
+        bus.reply(k, Side::Ap, &own, 0, &[8])?;
+        let first = Seen::Ended(number + 2, PING, 0, Some(8));
+        brings_on(&rt, &mut bus, k, far, first);
+        number += 3;
+    }
+    Ok(())
+}
+
+#[test]
+fn ends_wait_in_order(rt: HostRuntime) -> Result<(), Fail> {
+    let mut bus = two_modules(&rt, rt.alloc())?;
+    for k in 1..=5u64 {
+        bus.send(k, Side::Ap, PING, &[], 500, true)?;
+        bus.send(k, Side::Far, PING, &[], 500, true)?;
+    }
+    let order = [
+        End::Svc,
+        End::Ap(0),
+        End::Ap(1),
+        End::Ap(2),
+        End::Ap(3),
+        End::Ap(4),
+        LIGHT,
+        End::Module { intf: 2, cport: 2 },
+        End::Module { intf: 3, cport: 1 },
+        End::Module { intf: 3, cport: 2 },
+    ];
+    for at in order {
+        assert_eq!(rt; bus.first(), Some(at));
+        assert!(rt; bus.deliver(at, true).is_ok());
+    }
+    assert_eq!(rt; bus.first(), None);
+    Ok(())
+}
+
+/// What was told of requests that ended.
+fn told(rt: &impl Abort, ended: &Numbers, want: &[u64]) {
+    assert_eq!(rt; ended.items(), want);
+}
+
+#[test]
+fn an_unwired_connection_loses_what_waits(rt: HostRuntime) -> Result<(), Fail> {
+    let mut bus = two_modules(&rt, rt.alloc())?;
+    sends_on(&rt, &mut bus, 5, Side::Far, 1, 1)?;
+    sends_on(&rt, &mut bus, 5, Side::Ap, 2, 1)?;
+    sends_on(&rt, &mut bus, 4, Side::Far, 3, 1)?;
+    sends_on(&rt, &mut bus, 5, Side::Far, 4, 2)?;
+    let mut ended = Numbers::new(rt.alloc());
+    ended.push(9)?;
+    bus.unwire(5, &mut ended)?;
+    told(&rt, &ended, &[9, 1, 4]);
+    for n in [1, 4] {
+        assert!(rt;
+            matches!(bus.outcome(n), Some(Outcome::Disconnected)),
+            "{n}"
+        );
+    }
+    for n in [2, 3] {
+        assert!(rt; bus.outcome(n).is_none(), "request {n} is open");
+    }
+    for at in [End::Ap(1), LIGHT] {
+        let fault = delivered(&mut bus, at, true);
+        assert_eq!(rt; fault, Err(DeliverFault::NoConnection), "at {at:?}");
+        assert_eq!(rt; bus.waiting(at), None);
+    }
+    assert!(rt; bus.send(5, Side::Ap, PING, &[], 500, false)?.lost);
+    bus.wire(5)?;
+    assert_eq!(rt; bus.waiting(LIGHT), Some(0));
+    assert_eq!(rt; bus.waiting(End::Ap(1)), Some(0));
+    Ok(())
+}
+
+#[test]
+fn a_closed_side_forgets_its_own(rt: HostRuntime) -> Result<(), Fail> {
+    let mut bus = two_modules(&rt, rt.alloc())?;
+    sends_on(&rt, &mut bus, 5, Side::Ap, 1, 1)?;
+    sends_on(&rt, &mut bus, 5, Side::Ap, 2, 2)?;
+    sends_on(&rt, &mut bus, 5, Side::Far, 3, 1)?;
+    assert!(rt; bus.cancel(1).is_ok());
+    assert!(rt; bus.cancel(3).is_ok());
+    let mut ended = Numbers::new(rt.alloc());
+    bus.shut(5, &mut ended)?;
+    told(&rt, &ended, &[2]);
+    assert!(rt; matches!(bus.outcome(1), Some(Outcome::Cancelled)));
+    assert!(rt; matches!(bus.outcome(2), Some(Outcome::Disconnected)));
+    let late = ping(3, 1);
+    brings_on(&rt, &mut bus, 5, End::Ap(1), Seen::Ask(late, Some(5)));
+    bus.reply(5, Side::Ap, &late, 0, &[])?;
+    assert_eq!(rt; bus.waiting(LIGHT), Some(3));
+    Ok(())
+}
+
+#[test]
+fn a_cport_is_used_again(rt: HostRuntime) -> Result<(), Fail> {
+    let mut bus = two_modules(&rt, rt.alloc())?;
+    assert_eq!(rt; bus.live(1, 2, 1), Some(5));
+    assert_eq!(rt; bus.live(1, 2, 2), None);
+    let mut ended = Numbers::new(rt.alloc());
+    bus.shut(5, &mut ended)?;
+    bus.unwire(5, &mut ended)?;
+    bus.detach(5);
+    assert_eq!(rt; bus.live(1, 2, 1), None);
+    assert_eq!(rt; bus.live(2, 2, 2), Some(4));
+    assert_eq!(rt; bus.attach(1, 2, 1, 2)?, 6);
+    assert_eq!(rt; bus.live(1, 2, 1), Some(6));
+    bus.wire(6)?;
+    sends_on(&rt, &mut bus, 6, Side::Ap, 1, 1)?;
+    brings_on(&rt, &mut bus, 6, LIGHT, Seen::Ask(ping(1, 1), Some(5)));
+    let gone = bus.send(5, Side::Ap, PING, &[], 500, false);
+    assert_eq!(rt; gone, Err(SendFault::NoLabel));
+    assert!(rt; bus.spent(5, Side::Far), "it isn't live");
     Ok(())
 }

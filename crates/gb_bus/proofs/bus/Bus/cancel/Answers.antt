@@ -1,0 +1,9 @@
+-- A cancel stands for the machine's.
+use Rattle.std.proofs.Common.{ap, is_some, sym, ◌∙◌}
+use Rattle.gb_bus.proofs.Cancels.{cancels}
+use Rattle.gb_bus.proofs.bus.Bus.cancel.Goals as goal
+
+pub returns-clause-step : goal.returns-clause-step
+returns-clause-step c = λ b s made.
+    cancels c.args.self.now _ b c.args.n s (ap is_some (sym c.open_kind.ensures) ∙ c.if-is_none.ensures)
+    (cc (c.mark.ensures, c.end.ensures))

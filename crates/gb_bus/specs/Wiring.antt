@@ -1,0 +1,42 @@
+-- What a bus answers where connections are made, unwired or closed.
+use Rattle.std.specs.Prelude.{◌≡◌, ◌≢◌, ℕ, false, Result, Ok, Err, List, ◌++◌, length, ⊤}
+use Rattle.gb_base.specs.declared.end.End.TheVariants as end
+use Rattle.gb_base.specs.declared.end.Side.{Side}
+use Rattle.gb_base.specs.declared.errors.OutOfMemory.{OutOfMemory}
+use Rattle.gb_bus.specs.Stands.{Stands}
+use Rattle.gb_bus.specs.declared.bus.Bus.{Bus}
+use Rattle.gb_machine.specs.Bus as machine
+use Rattle.gb_machine.specs.Bus.{Connection, Place, queue, same_end}
+use Rattle.gb_machine.specs.Members.{Each}
+use Rattle.gb_machine.specs.Requests.{open_on}
+use Rattle.gb_machine.specs.Wiring.{attached, next_connection}
+
+-- a connection has another CPort of the application processor, and another far end
+pub record IsOther (a i c : ℕ) (x : Connection) : Type 0 where
+  pub ap : x.ap ≢ a
+  pub peer : same_end x.peer (end.Module i c) ≡ false
+
+-- No live connection has the CPort of the application processor, and none that of the module.
+abbrev pub MayAttach : ℕ → ℕ → ℕ → machine.Bus → Type 0
+MayAttach a i c b = Each (IsOther a i c) b.connections
+
+-- a connection was made
+pub record Attaches (new : Bus) (a i c protocol : ℕ) (b : machine.Bus) (k : ℕ) : Type 0 where
+  pub number : k ≡ next_connection b
+  pub stands : Stands new (attached a i c protocol b)
+
+-- By cases on the answer. After want of memory nothing is said.
+abbrev pub AttachesAs : Bus → ℕ → ℕ → ℕ → ℕ → machine.Bus → Result ℕ OutOfMemory → Type 0
+AttachesAs new a i c protocol b (Ok k) = Attaches new a i c protocol b k
+AttachesAs new a i c protocol b (Err m) = ⊤
+
+-- The bus stands for this state, and the open requests that a side of a connection had stand behind
+-- the numbers that stood there.
+pub record EndsAs (new : Bus) (k : ℕ) (at : Side) (b after : machine.Bus)
+    (was now : List ℕ) : Type 0 where
+  pub stands : Stands new after
+  pub ended : now ≡ was ++ open_on k at b
+
+-- how many items wait at a place
+abbrev pub count_at : Place → ℕ
+count_at p = length (queue p.side p.connection)

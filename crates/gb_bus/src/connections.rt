@@ -1,0 +1,178 @@
+//! The live connections.
+
+ghost use Rattle.std.specs.Prelude.{◌≡◌, ◌==◌, [], ◌∷◌, ◌++◌, ◌<◌, OnOk, IfOk, IfSome, length, option_copied, option_map, find};
+ghost use Rattle.std.specs.List.{position_from};
+ghost use Rattle.gb_machine.specs.Lists.{at_first, without};
+ghost use Rattle.gb_bus.specs.Parts.{cleared, closed, joins, numbered, place_at, put, svc, with_wire};
+
+use crate::connection::Connection;
+use crate::queue::Item;
+use gb_base::{End, OutOfMemory, Side};
+use std::alloc::Global;
+use std::marker::Model;
+
+/// The protocol of the supervisory controller.
+const SVC_PROTOCOL: u8 = 0x14;
+
+/// The live connections in order of number.
+#[derive(Drop)]
+pub struct Connections {
+    live: Vec<Connection>,
+}
+
+impl Model for Connections {
+    ghost use Rattle.std.specs.Prelude.{List};
+    ghost use Rattle.gb_bus.specs.declared.connection.Connection.{Connection};
+
+    ghost Value = { List Connection };
+
+    ghost view = { λ c. c.live.items };
+}
+
+impl Connections {
+    ghost use Rattle.gb_bus.specs.Parts.{DrawsAs, TakesFrontAs, earliest_in};
+
+    /// The connection of the supervisory controller alone, open for ever.
+    pub fn new(alloc: Global) -> Result<Connections, OutOfMemory>
+        ensures { IfOk result (λ x. x ≡ svc ∷ []) }
+    {
+        let mut svc = Connection::new(alloc, 1, 0, End::Svc, SVC_PROTOCOL);
+        svc.wired = true;
+        let mut live = Vec::new(alloc);
+        live.push(svc)?;
+        Ok(Connections { live })
+    }
+
+    /// Adds a connection at the end.
+    pub fn add(&mut self, connection: Connection) -> Result<(), OutOfMemory>
+        ensures { OnOk result (self.new ≡ self.old ++ connection ∷ []) }
+    {
+        self.live.push(connection)?;
+        Ok(())
+    }
+
+    /// The live connection with a number.
+    pub fn get(&self, k: u64) -> Option<&Connection>
+        ensures { option_copied result ≡ find (numbered k) self.now }
+    {
+        for connection in &self.live {
+            if connection.number == k {
+                return Some(connection);
+            }
+        }
+        None
+    }
+
+    /// The number of the connection of a CPort of the application processor with a module's.
+    pub fn joining(&self, ap: u16, peer: End) -> Option<u64>
+        ensures { result ≡ option_map (λ c. c.number) (find (joins ap peer) self.now) }
+    {
+        for connection in &self.live {
+            if connection.ap == ap && connection.peer == peer {
+                return Some(connection.number);
+            }
+        }
+        None
+    }
+
+    /// The wired connection that names an end, and the side at which the end stands.
+    pub fn place(&self, at: End) -> Option<(u64, Side)>
+        ensures { result ≡ place_at at self.now }
+    {
+        for connection in &self.live {
+            if let Some(side) = connection.side_at(at) {
+                return Some((connection.number, side));
+            }
+        }
+        None
+    }
+
+    /// The first end at which something waits.
+    pub fn first(&self) -> Option<End>
+        ensures { result ≡ earliest_in self.now }
+    {
+        let mut found = None;
+        let mut left = self.live.len();
+        while left > 0 {
+            left -= 1;
+            found = self.live[left].earliest(found);
+        }
+        found
+    }
+
+    /// A connection is wired.
+    pub fn wire(&mut self, k: u64)
+        ensures { self.new ≡ at_first (numbered k) with_wire self.old }
+    {
+        if let Some(i) = self.index(k) {
+            self.live[i].wired = true;
+        }
+    }
+
+    /// A connection isn't wired any more, and what waited in its queues is lost.
+    pub fn unwire(&mut self, k: u64)
+        ensures { self.new ≡ at_first (numbered k) cleared self.old }
+    {
+        if let Some(i) = self.index(k) {
+            self.live[i].clear();
+        }
+    }
+
+    /// The application processor's side of a connection is closed.
+    pub fn shut(&mut self, k: u64)
+        ensures { self.new ≡ at_first (numbered k) closed self.old }
+    {
+        if let Some(i) = self.index(k) {
+            self.live[i].shut = true;
+        }
+    }
+
+    /// A connection is there no more.
+    pub fn remove(&mut self, k: u64)
+        ensures { self.new ≡ without (numbered k) self.old }
+    {
+        self.live.retain(|connection| connection.number != k);
+    }
+
+    /// Draws the next identifier of a side of a connection.
+    pub fn draw(&mut self, k: u64, side: Side) -> Option<u16>
+        ensures { DrawsAs self.old self.new k side result }
+    {
+        let i = self.index(k)?;
+        let label = self.live[i].next_label(side)?;
+        self.live[i].set_last(side, label);
+        Some(label)
+    }
+
+    /// Adds a message to the queue toward a side of a connection. It is lost where the connection
+    /// isn't wired.
+    pub fn push(&mut self, k: u64, side: Side, item: Item) -> Result<(), OutOfMemory>
+        ensures { OnOk result (self.new ≡ at_first (numbered k) (put side item) self.old) }
+    {
+        if let Some(i) = self.index(k) {
+            self.live[i].push(side, item)?;
+        }
+        Ok(())
+    }
+
+    /// Takes the front message toward a side of a connection.
+    pub fn pop(&mut self, k: u64, side: Side) -> Option<Item>
+        ensures { TakesFrontAs self.old self.new k side result }
+    {
+        let i = self.index(k)?;
+        self.live[i].pop(side)
+    }
+
+    /// Where the connection with a number stands.
+    fn index(&self, k: u64) -> Option<usize>
+        ensures first { result ≡ position_from (numbered k) 0 self.now }
+        ensures within { IfSome result (λ i. i < length self.now) }
+    {
+        for (i, connection) in self.live.iter().enumerate() {
+            if connection.number == k {
+                return Some(i);
+            }
+        }
+        None
+    }
+}

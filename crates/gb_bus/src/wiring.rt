@@ -1,0 +1,123 @@
+//! The bus: which connections there are, and what waits on them.
+
+ghost use Rattle.std.specs.Prelude.{◌≡◌, ◌++◌, OnOk, OnErr, length, option_map, is_none};
+ghost use Rattle.gb_base.specs.declared.end.Side.TheVariants as side;
+ghost use Rattle.gb_machine.specs.Bus as machine;
+ghost use Rattle.gb_machine.specs.Bus.{place_of};
+ghost use Rattle.gb_machine.specs.Labels.{next_label};
+ghost use Rattle.gb_machine.specs.Waiting.{first_waiting};
+ghost use Rattle.gb_machine.specs.Wiring.{detached, joining, shut_down, unwired, wired};
+
+use crate::Bus;
+use crate::connection::Connection;
+use gb_base::{End, Numbers, OutOfMemory, Side};
+
+impl Bus {
+    ghost use Rattle.gb_bus.specs.Stands.{Stands};
+    ghost use Rattle.gb_bus.specs.Wiring.{AttachesAs, EndsAs, MayAttach, count_at};
+
+    /// Makes a connection of a CPort of the application processor with a module's CPort, and answers
+    /// its number. It isn't wired. No live connection has the CPort of the application processor or
+    /// that of the module. After want of memory nothing is said. It also comes where no number is
+    /// left.
+    pub fn attach(
+        &mut self,
+        ap: u16,
+        intf: u8,
+        cport: u16,
+        protocol: u8,
+    ) -> Result<u64, OutOfMemory>
+        ensures step { (b : machine.Bus) → Stands self.old b → MayAttach ap intf cport b
+            → AttachesAs self.new ap intf cport protocol b result }
+    {
+        let Some(number) = self.made.checked_add(1) else {
+            return Err(OutOfMemory);
+        };
+        let peer = End::Module { intf, cport };
+        self.connections
+            .add(Connection::new(self.alloc, number, ap, peer, protocol))?;
+        self.made = number;
+        Ok(number)
+    }
+
+    /// A connection is wired. After want of memory nothing is said.
+    pub fn wire(&mut self, k: u64) -> Result<(), OutOfMemory>
+        ensures step { OnOk result ((b : machine.Bus) → Stands self.old b
+            → Stands self.new (wired k b)) }
+    {
+        self.connections.wire(k);
+        Ok(())
+    }
+
+    /// A connection isn't wired any more: what waited in its queues is lost, and the open requests
+    /// of its far side end as disconnected. Their numbers stand in `ended` behind those that stood
+    /// there, in order. After want of memory the bus and `ended` are as before.
+    pub fn unwire(&mut self, k: u64, ended: &mut Numbers) -> Result<(), OutOfMemory>
+        ensures step { OnOk result ((b : machine.Bus) → Stands self.old b
+            → EndsAs self.new k side.Far b (unwired k b) ended.old ended.new) }
+        ensures unchanged { OnErr result ((self.new ≡ self.old) × (ended.new ≡ ended.old)) }
+    {
+        let open = self.slots.open_on(k, Side::Far)?;
+        ended.extend(open.items())?;
+        self.connections.unwire(k);
+        self.slots.close(k, Side::Far);
+        Ok(())
+    }
+
+    /// The application processor's side of a connection is closed: its open requests end as
+    /// disconnected. Their numbers stand in `ended` behind those that stood there, in order. After
+    /// want of memory the bus and `ended` are as before.
+    pub fn shut(&mut self, k: u64, ended: &mut Numbers) -> Result<(), OutOfMemory>
+        ensures step { OnOk result ((b : machine.Bus) → Stands self.old b
+            → EndsAs self.new k side.Ap b (shut_down k b) ended.old ended.new) }
+        ensures unchanged { OnErr result ((self.new ≡ self.old) × (ended.new ≡ ended.old)) }
+    {
+        let open = self.slots.open_on(k, Side::Ap)?;
+        ended.extend(open.items())?;
+        self.connections.shut(k);
+        self.slots.close(k, Side::Ap);
+        Ok(())
+    }
+
+    /// A connection is there no more.
+    pub fn detach(&mut self, k: u64)
+        ensures step { (b : machine.Bus) → Stands self.old b → Stands self.new (detached k b) }
+    {
+        self.connections.remove(k);
+    }
+
+    /// The live connection of a CPort of the application processor with a module's CPort.
+    pub fn live(&self, ap: u16, intf: u8, cport: u16) -> Option<u64>
+        ensures { (b : machine.Bus) → Stands self.now b
+            → result ≡ option_map (λ c. c.number) (joining ap intf cport b) }
+    {
+        self.connections.joining(ap, End::Module { intf, cport })
+    }
+
+    /// The first end at which something waits, in the order in which queues are settled.
+    pub fn first(&self) -> Option<End>
+        ensures { (b : machine.Bus) → Stands self.now b → result ≡ first_waiting b }
+    {
+        self.connections.first()
+    }
+
+    /// How many messages wait at an end, None where no wired connection names it.
+    pub fn waiting(&self, at: End) -> Option<u64>
+        ensures { (b : machine.Bus) → Stands self.now b
+            → result ≡ option_map count_at (place_of at b.connections) }
+    {
+        let (connection, side) = self.connections.place(at)?;
+        Some(self.connections.get(connection)?.waiting(side))
+    }
+
+    /// No identifier is left on a side of a connection.
+    pub fn spent(&self, k: u64, side: Side) -> bool
+        ensures { (b : machine.Bus) → Stands self.now b
+            → result ≡ is_none (next_label k side b) }
+    {
+        match self.connections.get(k) {
+            Some(connection) => connection.next_label(side).is_none(),
+            None => true,
+        }
+    }
+}
