@@ -178,7 +178,7 @@ abbrev pub after_taken : State → Place → Bus
 after_taken s p = popped p.connection.number p.side s.bus
 
 -- the connection of the supervisory controller is alone still
-alone_popped : (b : Bus) (h : IsAlone b) (p : Place) → At (svc_of h) p → IsAlone (popped p.connection.number p.side b)
+pub alone_popped : (b : Bus) (h : IsAlone b) (p : Place) → At (svc_of h) p → IsAlone (popped p.connection.number p.side b)
 alone_popped b h p w = subst (λ (q : Place). IsAlone (popped q.connection.number q.side b)) (sym w.is) (by w.at)
   where
     by : (sd : Side) → IsAlone (popped 1 sd b)

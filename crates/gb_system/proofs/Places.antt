@@ -1,10 +1,11 @@
 -- The places of ends where the connection of the supervisory controller is alone.
-use Rattle.std.proofs.Common.{◌≡◌, ℕ, ◌==◌, Bool, true, false, cond, if◌then◌else◌, eqb, Option, Some, None, option_map, List, [], ◌∷◌, refl, sym, ap, ◌∙◌}
+use Rattle.std.proofs.Common.{◌≡◌, ℕ, ◌==◌, Bool, true, false, cond, if◌then◌else◌, eqb, Option, Some, None, option_map, List, [], ◌∷◌, inl, refl, sym, ap, ◌∙◌, subst}
 use Rattle.gb_base.specs.declared.end.End.{End}
 use Rattle.gb_base.specs.declared.end.End.TheVariants as end
 use Rattle.gb_base.specs.declared.end.Side.{Side}
 use Rattle.gb_base.specs.declared.end.Side.TheVariants as side
 use Rattle.gb_machine.specs.Bus.{Bus, Connection, Item, Place, or_else, place_of}
+use Rattle.gb_machine.specs.Members.{IsIn}
 use Rattle.gb_machine.specs.Refusals.{end_refusal}
 use Rattle.gb_machine.specs.State.{State}
 use Rattle.gb_system.specs.Stands.{IsAlone, svc_with}
@@ -55,3 +56,11 @@ there s h (end.Ap a) p named = refl
 there s h end.Svc p named = refl
 there s h (end.Module i c) p named =
     absurd (cc (ap (place_of (end.Module i c)) h.is ∙ place_is (end.Module i c) h.ap_last h.far_last h.to_ap h.to_far, named))
+
+-- its connection is the one that is there
+pub in_alone : (b : Bus) (h : IsAlone b) (p : Place) → At (svc_of h) p → IsIn p.connection b.connections
+in_alone b h p w = subst (λ cs. IsIn p.connection cs) (sym h.is) (inl (ap (λ (q : Place). q.connection) w.is))
+
+-- which has number 1
+pub number_of : (b : Bus) (h : IsAlone b) (p : Place) → At (svc_of h) p → p.connection.number ≡ 1
+number_of b h p w = ap (λ (q : Place). q.connection.number) w.is

@@ -94,6 +94,10 @@ alone_after b kind payload timeout label h = record {
   replies = h.replies;
 }
 
+-- the connection of the supervisory controller is live
+pub svc_live : (b : Bus) → IsAlone b → is_some (connection_of 1 b) ≡ true
+svc_live b h = ap (λ cs. is_some (find (has_number 1) cs)) h.is
+
 -- a request is sent
 pub send_sent : (x y : Parties) (s : State) (name : Name) (kind : ℕ) (payload : List ℕ) (timeout : ℕ) (r : Sent) (es : List Entry)
     → kind < 128 → PartiesStand x s → early_refusal name x.names kind payload ≡ None

@@ -1,5 +1,7 @@
 -- A request that is delivered is answered as the machine does.
-use Rattle.std.proofs.Common.{◌≡◌, ℕ, ◌<◌, Some, None, List, [], ◌∷◌, ◌++◌, refl, sym, ap, ◌∙◌, subst}
+use Rattle.std.proofs.Common.{◌≡◌, ℕ, ◌+◌, ◌==◌, ◌<◌, ◌≤◌, Bool, true, false, if◌then◌else◌, Some, None, List, [], ◌∷◌, ◌++◌, inl, refl, sym, ap, ◌∙◌, subst, arith}
+use Rattle.std.proofs.lemmas.Bool.Decides.{nat_tests}
+use Rattle.std.specs.List.{find}
 use Rattle.gb_base.specs.declared.end.End.{End}
 use Rattle.gb_base.specs.declared.end.Side.{Side}
 use Rattle.gb_base.specs.declared.end.Side.TheVariants as side
@@ -8,30 +10,73 @@ use Rattle.gb_bus.specs.Delivering.{ArrivesAsk, MayReply, Names, taken_at}
 use Rattle.gb_bus.specs.Stands as bus
 use Rattle.gb_bus.specs.declared.answers.Asked.{Asked}
 use Rattle.gb_bus.specs.declared.bus.Bus as bus_code
+use Rattle.gb_invariants.proofs.Changes.{popped-keeps}
+use Rattle.gb_invariants.proofs.Lists.{found-in}
+use Rattle.gb_invariants.specs.Facts.{BusFits, Loose, times_in, times_on}
 use Rattle.gb_machine.proofs.Opened.{machine_opened}
 use Rattle.gb_machine.proofs.Steps.{deliver-allowed, delivers-ask, told, with_bus}
-use Rattle.gb_machine.specs.Bus.{Ask, Bus, Item, Place, Raw, RawReply, Reply, Request, other_side, place_of, queue}
+use Rattle.gb_machine.specs.Bus.{Ask, Bus, Connection, Item, Place, Raw, RawReply, Reply, Request, connection_of, has_number, other_side, place_of, queue, request_of}
 use Rattle.gb_machine.specs.Delivery.{replied}
 use Rattle.gb_machine.specs.Incoming.{incoming, reply_entry}
+use Rattle.gb_machine.specs.LawsBus.{is_awaited, is_item_of}
 use Rattle.gb_machine.specs.Lists.{first}
+use Rattle.gb_machine.specs.Members.{total}
 use Rattle.gb_machine.specs.Refusals.{refusal}
 use Rattle.gb_machine.specs.Responding.{response_at, with_ports}
 use Rattle.gb_machine.specs.Serving.{Answer, plainly}
 use Rattle.gb_machine.specs.State.{State}
-use Rattle.gb_system.proofs.Deliveries.{after_taken, alone_answered, brings_one, carried, free, taken}
-use Rattle.gb_system.proofs.Places.{At, placed, svc_of, there, where_is}
+use Rattle.gb_system.proofs.Deliveries.{after_taken, alone_answered, alone_popped, brings_one, carried, free, taken}
+use Rattle.gb_system.proofs.Places.{At, in_alone, number_of, placed, svc_of, there, where_is}
 use Rattle.gb_system.proofs.SvcResults.{response_is}
 use Rattle.gb_system.specs.Arriving.{ArrivesAs, Brings}
-use Rattle.gb_system.specs.Stands.{AreReplies, PartiesStand}
+use Rattle.gb_system.specs.Stands.{AreReplies, IsAlone, PartiesStand}
 use Rattle.gb_system.specs.Told.{delivery_at, reply_told, svc_result}
 use Rattle.gb_system.specs.declared.parties.Parties.{Parties}
 
+-- what was taken at a place
+abbrev loose_at : Place → ℕ → Loose
+loose_at p n = record { connection = p.connection.number; side = p.side; item = Ask n }
+
+-- a request that was taken stands in no queue
+unqueued : (b : Bus) (p : Place) (n : ℕ) → BusFits (loose_at p n ∷ []) b → times_in (is_item_of n) [] b ≡ 0
+unqueued b p n fits =
+    by (total (times_on (is_item_of n)) b.connections) (n == n) (grind (arith, nat_tests)) (fits.ones n)
+  where
+    by : (t : ℕ) (same : Bool) → same ≡ true → t + (if same then 0 + 1 else 0) ≤ 1 → t + 0 ≡ 0
+    by t true e h = omega (arith, h)
+    by t false e h = absurd (cc (e))
+
+-- and it is awaited
+awaited_taken : (b : Bus) (p : Place) (c : Connection) (n : ℕ) (r : Request) → BusFits (loose_at p n ∷ []) b → IsAlone b
+    → p.connection.number ≡ 1 → connection_of 1 b ≡ Some c → request_of n b ≡ Some r → r.oneway ≡ false → c.shut ≡ false
+    → is_awaited n b ≡ true
+awaited_taken b p c n r fits alone number live made twoway unshut =
+    let found = found-in (has_number 1) b.connections c live in
+    let same : svc_of alone ≡ c = cc (ap (find (has_number 1)) alone.is, live) in
+    let answerable = fits.items.answerable_loose c (loose_at p n) found.0 (inl refl) (ap (λ (d : Connection). d.number) (sym same) ∙ sym number) in
+    answerable.due (ap (λ (d : Connection). d.clean) (sym same)) (λ e. unshut) r made twoway
+
 -- the request that is delivered may be answered by the supervisory controller
-pub may_reply : (x : Parties) (s : State) (p : Place) (asked : Asked) (item : Item) (payload : List ℕ) (y : bus_code.Bus) → PartiesStand x s
+pub may_reply : (x : Parties) (s : State) (at : End) (p : Place) (asked : Asked) (item : Item) (payload : List ℕ) (y : bus_code.Bus)
+    → PartiesStand x s → place_of at s.bus.connections ≡ Some p → first (queue p.side p.connection) ≡ Some item
     → (a : ArrivesAsk y p s.bus item asked payload) → MayReply 1 side.Far asked (taken_at p s.bus) a.number
-may_reply x s p asked item payload y st a =
+may_reply x s at p asked item payload y st named front a =
     let asks = st.asks a.number a.request a.made in
-    record { request = a.request; made = a.made; names = a.names; connection = asks.connection; asker = asks.asker }
+    let w = where_is s.bus st.alone at p named in
+    let fits = popped-keeps [] p.side (Ask a.number) p.connection s.bus (in_alone s.bus st.alone p w) (front ∙ ap Some a.item_is)
+    st.bus.facts.fits in
+    record {
+      request = a.request;
+      made = a.made;
+      names = a.names;
+      connection = asks.connection;
+      asker = asks.asker;
+      twoway = asks.twoway;
+      unqueued = unqueued (taken_at p s.bus) p a.number fits;
+      awaited = λ c live open_side.
+          awaited_taken (taken_at p s.bus) p c a.number a.request fits (alone_popped s.bus st.alone p w) (number_of s.bus st.alone p w) live
+          a.made asks.twoway (open_side asks.asker);
+    }
 
 -- among replies no request is first
 no_ask : (is : List Item) (n : ℕ) → AreReplies is → first is ≡ Some (Ask n) → ⊥

@@ -29,7 +29,7 @@ returns-in_ok-push-in-Ask c = record {
   step = λ s st.
       let d = c.in-Ok.ensures.step s.bus st.bus in
       let a = subst (λ (w : Arrival). Brings c.deliver.new.self true d.place s.bus d.item w) c.in-Ask.is d.brings in
-      let may = may_reply c.args.self.now s d.place c.in-Ask.asked d.item c.in-Ask.payload c.deliver.new.self st a.1 in
+      let may = may_reply c.args.self.now s c.args.at d.place c.in-Ask.asked d.item c.in-Ask.payload c.deliver.new.self st d.named d.front a.1 in
       ask_taken c.args.self.now (record c.args.self.now { bus = c.reply.new.self }) s c.args.at d.place d.item c.in-Ask.asked
       c.in-Ask.payload c.svc_result-code.result c.deliver.new.self c.in_ok-replied-in-Ask.field-0 c.args.told.now c.push.new.self
       st d.named d.front a.1

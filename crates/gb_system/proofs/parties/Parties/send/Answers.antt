@@ -1,7 +1,7 @@
 -- A request is refused or sent as the machine does.
 use Rattle.std.proofs.Common.{refl, sym, ap}
 use Rattle.gb_bus.specs.declared.bus.Bus.{Bus}
-use Rattle.gb_system.proofs.Sends.{send_refused, send_sent, send_spent}
+use Rattle.gb_system.proofs.Sends.{send_refused, send_sent, send_spent, svc_live}
 use Rattle.gb_system.proofs.parties.Parties.send.Goals as goal
 
 pub returns-in-Some : goal.returns-in-Some
@@ -26,6 +26,6 @@ returns c = record {
   step = λ s st.
       send_sent c.args.self.now (record c.args.self.now { bus = c.send.new.self; names = c.bind.new.self }) s c.args.name.now
       c.args.kind c.args.payload.now c.args.timeout c.in-Ok.sent c.in_ok-done.field-0 c.requires st
-      (sym c.in_default.ensures.first) (rw c.from.ensures at (c.in-Ok.ensures.step s.bus st.bus))
+      (sym c.in_default.ensures.first) (rw c.from.ensures at (c.in-Ok.ensures.step s.bus st.bus (svc_live s.bus st.alone)))
       (cc (c.in_ok-bind.ensures.ok, c.in_ok-copy.ensures)) (cc (c.in_ok-done.ensures, c.in_ok-entry.ensures));
 }
