@@ -1,6 +1,6 @@
 -- What is looked up is what the machine's bus has.
-use Rattle.std.proofs.Common.{◌≡◌, ℕ, ◌+◌, Bool, true, false, cond, ltb, eqb, ◌&&◌, Option, Some, None, is_none, is_some, not, option_and_then, option_map, List, [], ◌∷◌, ◌++◌, length, refl, sym, ap, ◌∙◌, suc, append_assoc}
-use Rattle.std.specs.List.{find}
+use Rattle.std.proofs.Common.{◌≡◌, ℕ, ◌+◌, Bool, true, false, cond, ltb, eqb, ◌&&◌, ◌||◌, Option, Some, None, is_none, is_some, not, option_and_then, option_map, List, [], ◌∷◌, ◌++◌, length, refl, sym, ap, ◌∙◌, suc, append_assoc}
+use Rattle.std.specs.List.{find, list_any}
 use Rattle.gb_base.specs.declared.end.End.{End}
 use Rattle.gb_base.specs.declared.end.End.TheVariants as end
 use Rattle.gb_base.specs.declared.end.Side.{Side}
@@ -8,6 +8,7 @@ use Rattle.gb_bus.proofs.Finding.{place-is, placed, told}
 use Rattle.gb_bus.proofs.Moves.{last-is, queue-stands}
 use Rattle.gb_bus.proofs.Standing.{Agree, found, found-number, same-of}
 use Rattle.gb_bus.specs.Ends.{earlier, earlier_of}
+use Rattle.gb_bus.specs.Parts as parts
 use Rattle.gb_bus.specs.Parts.{earliest_in, earliest_of, is_none_left, joins, next_in, next_of, numbered, place_at, queue_of}
 use Rattle.gb_bus.specs.Stands.{StandForAll, Stands, StandsForConnection, StandsForQueue}
 use Rattle.gb_bus.specs.Wiring.{count_at}
@@ -16,9 +17,10 @@ use Rattle.gb_bus.specs.declared.connection.Connection.{Connection}
 use Rattle.gb_bus.specs.declared.queue.Item.{Item}
 use Rattle.gb_invariants.proofs.Awaiting.{same-some}
 use Rattle.gb_machine.specs.Bus as machine
-use Rattle.gb_machine.specs.Bus.{Place, Request, has_number, place_of, queue, same_end}
+use Rattle.gb_machine.specs.Bus.{Place, Request, connection_of, has_number, place_of, queue, same_end}
 use Rattle.gb_machine.specs.Labels.{fresh_label, greatest_label, next_label}
 use Rattle.gb_machine.specs.Lists.{first, in_order, sorted}
+use Rattle.gb_machine.specs.Sending.{is_wired}
 use Rattle.gb_machine.specs.Waiting.{Queue, first_waiting, queue_before, queues_in, queues_of, unless_empty}
 use Rattle.gb_machine.specs.Wiring as wiring
 
@@ -163,3 +165,23 @@ first-is rs (x ∷ xs) [] h = absurd h
 
 pub firsts : (x : Bus) (b : machine.Bus) → Stands x b → earliest_in x.connections ≡ first_waiting b
 firsts x b s = first-is b.requests x.connections b.connections s.shows.connections
+
+-- ---- wires
+
+-- whether a connection is there and wired
+pub wired-is : (x : Bus) (b : machine.Bus) (k : ℕ) → StandForAll b.requests x.connections b.connections
+    → parts.is_wired (find (numbered k) x.connections) ≡ is_wired (connection_of k b)
+wired-is x b k h =
+    same-of b.requests parts.is_wired is_wired (find (numbered k) x.connections) (connection_of k b) refl (λ y c s. s.wired)
+    (found-number b.requests k x.connections b.connections h)
+
+-- whether some connection is wired to an interface
+pub wired-to-is : (rs : List Request) (i : ℕ) (xs : List Connection) (cs : List machine.Connection) → StandForAll rs xs cs
+    → list_any (parts.is_wired_to i) xs ≡ list_any (wiring.is_wired_to i) cs
+wired-to-is rs i [] [] h = refl
+wired-to-is rs i (x ∷ xs) (c ∷ cs) h =
+    ap (λ w. w && wiring.is_at i x.peer || list_any (parts.is_wired_to i) xs) h.0.wired
+    ∙ ap (λ p. c.wired && wiring.is_at i p || list_any (parts.is_wired_to i) xs) h.0.peer
+    ∙ ap (λ t. c.wired && wiring.is_at i c.peer || t) (wired-to-is rs i xs cs h.1)
+wired-to-is rs i [] (c ∷ cs) h = absurd h
+wired-to-is rs i (x ∷ xs) [] h = absurd h

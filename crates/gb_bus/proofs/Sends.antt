@@ -7,6 +7,7 @@ use Rattle.gb_base.specs.declared.outcome.Outcome.{Outcome}
 use Rattle.gb_base.specs.declared.outcome.Outcome.TheVariants as outcome
 use Rattle.gb_bus.proofs.Endings.{lookup-other, lookup-same}
 use Rattle.gb_bus.proofs.Looks.{next-is}
+use Rattle.gb_bus.proofs.Looks.{wired-is}
 use Rattle.gb_bus.proofs.Moves.{drawn-stands, more-stands, put-stands}
 use Rattle.gb_bus.proofs.SlotLaws.{tell_more}
 use Rattle.gb_bus.proofs.Standing.{changed, found-number, same-of}
@@ -137,13 +138,6 @@ live-is : (o : Option machine.Connection) → is_some o ≡ true → (c : machin
 live-is None h = absurd cc
 live-is (Some c) h = (c, refl)
 
--- whether it is lost
-lost-is : (x : Bus) (b : machine.Bus) (k : ℕ) → StandForAll b.requests x.connections b.connections
-    → parts.is_wired (find (numbered k) x.connections) ≡ is_wired (connection_of k b)
-lost-is x b k h =
-    same-of b.requests parts.is_wired is_wired (find (numbered k) x.connections) (connection_of k b) refl (λ y c s. s.wired)
-    (found-number b.requests k x.connections b.connections h)
-
 shows-sent : (x : Bus) (b : machine.Bus) (d : Draft) (label number : ℕ) (cs : List Connection) → Stands x b
     → StandForAll (b.requests ++ requested d label ∷ [])
     (at_first (numbered d.connection) (put (other_side d.side) (code.Ask number label d.kind d.payload)) cs) (sent d label b).connections
@@ -194,7 +188,7 @@ sends_on x y z b k at kind payload deadline oneway label number lost s h count i
     record {
       label = w.label_is;
       number = place;
-      lost = is_lost ∙ ap not (lost-is x b k s.shows.connections);
+      lost = is_lost ∙ ap not (wired-is x b k s.shows.connections);
       stands = subst (λ (v : Bus). Stands v (sent d label b)) (sym (after ∙ ap (sending_on d label number) w.after)) (record {
         shows = shows-sent x b d label number w.connections s w.stand;
         facts = record {

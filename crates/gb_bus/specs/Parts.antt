@@ -10,6 +10,7 @@ use Rattle.gb_bus.specs.declared.queue.Item.{Item}
 use Rattle.gb_machine.specs.Bus.{or_else, same_end}
 use Rattle.gb_machine.specs.Labels.{greatest_label}
 use Rattle.gb_machine.specs.Lists.{at_first, behind_first, first}
+use Rattle.gb_machine.specs.Wiring.{is_at}
 
 -- ---- one connection
 
@@ -141,3 +142,7 @@ TakesFrontAs old new k at (Some item) =
 abbrev pub is_wired : Option Connection → Bool
 is_wired None = false
 is_wired (Some c) = c.wired
+
+-- a connection is wired, to a module at an interface
+abbrev pub is_wired_to : ℕ → Connection → Bool
+is_wired_to i c = c.wired && is_at i c.peer

@@ -1,11 +1,10 @@
 //! The bus: messages.
 
-ghost use Rattle.std.specs.Prelude.{◌≡◌, ℕ, [], ◌∷◌, ◌++◌, OnOk, OnErr, IfOk, IsErrOf, find, option_copied, is_some, not, true};
+ghost use Rattle.std.specs.Prelude.{◌≡◌, ℕ, [], ◌∷◌, ◌++◌, OnOk, OnErr, IfOk, IsErrOf, option_copied, is_some, not, true};
 ghost use Rattle.gb_machine.specs.Bus as machine;
 ghost use Rattle.gb_machine.specs.Bus.{first_bus, outcome_of, request_of};
 ghost use Rattle.gb_machine.specs.Lists.{nth};
 ghost use Rattle.gb_machine.specs.Sending.{draft};
-ghost use Rattle.gb_bus.specs.Parts.{is_wired, numbered};
 ghost use Rattle.gb_bus.specs.Taking.{dropped, open_kind};
 
 use crate::connections::Connections;
@@ -164,16 +163,6 @@ impl Bus {
             Some(0)
         } else {
             self.connections.draw(k, side)
-        }
-    }
-
-    /// A connection is live and wired.
-    fn is_wired(&self, k: u64) -> bool
-        ensures { result ≡ is_wired (find (numbered k) self.now.connections) }
-    {
-        match self.connections.get(k) {
-            Some(connection) => connection.wired,
-            None => false,
         }
     }
 

@@ -1,7 +1,7 @@
 //! A live connection.
 
 ghost use Rattle.std.specs.Prelude.{◌≡◌, [], ◌∷◌, ◌++◌, OnOk, length};
-ghost use Rattle.gb_bus.specs.Parts.{PopsAs, cleared, earliest_of, last_of, next_of, put, queue_of, side_at, with_last};
+ghost use Rattle.gb_bus.specs.Parts.{PopsAs, cleared, earliest_of, is_wired_to, last_of, next_of, put, queue_of, side_at, with_last};
 
 use crate::ends::earlier;
 use crate::queue::{Item, Queue};
@@ -54,6 +54,16 @@ impl Connection {
             far_last: 0,
             to_ap: Queue::new(alloc),
             to_far: Queue::new(alloc),
+        }
+    }
+
+    /// It is wired, to a module at an interface.
+    pub fn is_wired_to(&self, intf: u8) -> bool
+        ensures { result ≡ is_wired_to intf self.now }
+    {
+        match self.peer {
+            End::Module { intf: at, .. } => self.wired && at == intf,
+            End::Ap(_) | End::Svc => false,
         }
     }
 

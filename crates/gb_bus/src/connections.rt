@@ -1,9 +1,9 @@
 //! The live connections.
 
 ghost use Rattle.std.specs.Prelude.{◌≡◌, ◌==◌, [], ◌∷◌, ◌++◌, ◌<◌, OnOk, IfOk, IfSome, length, option_copied, option_map, find};
-ghost use Rattle.std.specs.List.{position_from};
+ghost use Rattle.std.specs.List.{list_any, position_from};
 ghost use Rattle.gb_machine.specs.Lists.{at_first, without};
-ghost use Rattle.gb_bus.specs.Parts.{cleared, closed, joins, numbered, place_at, put, svc, with_wire};
+ghost use Rattle.gb_bus.specs.Parts.{cleared, closed, is_wired_to, joins, numbered, place_at, put, svc, with_wire};
 
 use crate::connection::Connection;
 use crate::queue::Item;
@@ -73,6 +73,18 @@ impl Connections {
             }
         }
         None
+    }
+
+    /// Some connection is wired to a module at an interface.
+    pub fn is_wired_to(&self, intf: u8) -> bool
+        ensures { result ≡ list_any (is_wired_to intf) self.now }
+    {
+        for connection in &self.live {
+            if connection.is_wired_to(intf) {
+                return true;
+            }
+        }
+        false
     }
 
     /// The wired connection that names an end, and the side at which the end stands.

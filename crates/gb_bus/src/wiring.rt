@@ -1,12 +1,16 @@
 //! The bus: which connections there are, and what waits on them.
 
-ghost use Rattle.std.specs.Prelude.{◌≡◌, ◌++◌, OnOk, OnErr, length, option_map, is_none};
+ghost use Rattle.std.specs.Prelude.{◌≡◌, ◌++◌, OnOk, OnErr, length, option_map, is_none, find};
+ghost use Rattle.std.specs.List.{list_any};
+ghost use Rattle.gb_bus.specs.Parts as parts;
+ghost use Rattle.gb_bus.specs.Parts.{numbered};
 ghost use Rattle.gb_base.specs.declared.end.Side.TheVariants as side;
 ghost use Rattle.gb_machine.specs.Bus as machine;
-ghost use Rattle.gb_machine.specs.Bus.{place_of};
+ghost use Rattle.gb_machine.specs.Bus.{connection_of, place_of};
 ghost use Rattle.gb_machine.specs.Labels.{next_label};
+ghost use Rattle.gb_machine.specs.Sending.{is_wired};
 ghost use Rattle.gb_machine.specs.Waiting.{first_waiting};
-ghost use Rattle.gb_machine.specs.Wiring.{detached, joining, shut_down, unwired, wired};
+ghost use Rattle.gb_machine.specs.Wiring.{detached, is_wired_to, joining, shut_down, unwired, wired};
 
 use crate::Bus;
 use crate::connection::Connection;
@@ -92,6 +96,26 @@ impl Bus {
             → result ≡ option_map (λ c. c.number) (joining ap intf cport b) }
     {
         self.connections.joining(ap, End::Module { intf, cport })
+    }
+
+    /// Connection k is live and wired.
+    pub fn is_wired(&self, k: u64) -> bool
+        ensures code { result ≡ parts.is_wired (find (numbered k) self.now.connections) }
+        ensures step { (b : machine.Bus) → Stands self.now b
+            → result ≡ is_wired (connection_of k b) }
+    {
+        match self.connections.get(k) {
+            Some(connection) => connection.wired,
+            None => false,
+        }
+    }
+
+    /// Some connection is wired to a module at an interface.
+    pub fn is_wired_to(&self, intf: u8) -> bool
+        ensures { (b : machine.Bus) → Stands self.now b
+            → result ≡ list_any (is_wired_to intf) b.connections }
+    {
+        self.connections.is_wired_to(intf)
     }
 
     /// The first end at which something waits, in the order in which queues are settled.

@@ -12,5 +12,5 @@ pub returns-clause-step : goal.returns-clause-step
 returns-clause-step c = λ b s live.
     sends c.args.self.now c.label_for.new.self b c.args.k c.args.side c.other_side.result c.args.kind c.args.payload.now
     c.in_ok-payload.payload c.args.deadline c.args.oneway c.in-Some.label c.in_ok-number.number (not c.is_wired-lost.result)
-    c.first_outcome.result _ _ s c.in-Some.ensures c.in_ok-number.ensures.number (ap not c.is_wired-lost.ensures)
+    c.first_outcome.result _ _ s c.in-Some.ensures c.in_ok-number.ensures.number (ap not c.is_wired-lost.ensures.code)
     c.other_side.ensures c.in_ok-payload.ensures c.first_outcome.ensures c.in_ok-push.ensures c.in_ok-number.ensures.ok live
