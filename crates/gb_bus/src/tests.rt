@@ -196,33 +196,36 @@ fn two_modules(rt: &impl Abort, alloc: Global) -> Result<Bus, Fail> {
     Ok(bus)
 }
 
+/// A request of each side of connection k, of which that of the far side is answered. The numbers
+/// of the requests are these.
+fn carries(
+    rt: &impl Abort,
+    bus: &mut Bus,
+    k: u64,
+    ap: u16,
+    far: End,
+    numbers: (u64, u64),
+) -> Result<(), Fail> {
+    let (asked, own) = (ping(numbers.0, 1), ping(numbers.1, 1));
+    sends_on(rt, bus, k, Side::Ap, numbers.0, 1)?;
+    sends_on(rt, bus, k, Side::Far, numbers.1, 1)?;
+    brings_on(rt, bus, k, far, Seen::Ask(asked, Some(5)));
+    brings_on(rt, bus, k, End::Ap(ap), Seen::Ask(own, Some(5)));
+    bus.reply(k, Side::Ap, &own, 0, &[8])?;
+    brings_on(rt, bus, k, far, Seen::Ended(numbers.1, PING, 0, Some(8)));
+    Ok(())
+}
+
 #[test]
 fn each_connection_carries_both_ways(rt: HostRuntime) -> Result<(), Fail> {
     let mut bus = two_modules(&rt, rt.alloc())?;
-    let ends = [
-        (2u64, 4u16, 3u8, 2u16),
-        (3, 3, 3, 1),
-        (4, 2, 2, 2),
-        (5, 1, 2, 1),
-    ];
-    let mut number = 0;
-    for (k, ap, intf, cport) in ends {
-        let far = End::Module { intf, cport };
-        sends_on(&rt, &mut bus, k, Side::Ap, number + 1, 1)?;
-        sends_on(&rt, &mut bus, k, Side::Far, number + 2, 1)?;
-        sends_on(&rt, &mut bus, k, Side::Far, number + 3, 2)?;
-        assert_eq!(rt; bus.waiting(far), Some(1));
-        assert_eq!(rt; bus.waiting(End::Ap(ap)), Some(2));
-        let asked = ping(number + 1, 1);
-        brings_on(&rt, &mut bus, k, far, Seen::Ask(asked, Some(5)));
-        let own = ping(number + 2, 1);
-        brings_on(&rt, &mut bus, k, End::Ap(ap), Seen::Ask(own, Some(5)));
-        bus.reply(k, Side::Far, &asked, 0, &[7])?;
-        bus.reply(k, Side::Ap, &own, 0, &[8])?;
-        let first = Seen::Ended(number + 2, PING, 0, Some(8));
-        brings_on(&rt, &mut bus, k, far, first);
-        number += 3;
-    }
+    let far = End::Module { intf: 3, cport: 2 };
+    carries(&rt, &mut bus, 2, 4, far, (1, 2))?;
+    let far = End::Module { intf: 3, cport: 1 };
+    carries(&rt, &mut bus, 3, 3, far, (3, 4))?;
+    let far = End::Module { intf: 2, cport: 2 };
+    carries(&rt, &mut bus, 4, 2, far, (5, 6))?;
+    carries(&rt, &mut bus, 5, 1, LIGHT, (7, 8))?;
     Ok(())
 }
 
@@ -258,8 +261,16 @@ fn told(rt: &impl Abort, ended: &Numbers, want: &[u64]) {
     assert_eq!(rt; ended.items(), want);
 }
 
+/// A request was disconnected.
+fn was_disconnected(rt: &impl Abort, bus: &Bus, n: u64) {
+    assert!(rt;
+        matches!(bus.outcome(n), Some(Outcome::Disconnected)),
+        "{n}"
+    );
+}
+
 #[test]
-fn an_unwired_connection_loses_what_waits(rt: HostRuntime) -> Result<(), Fail> {
+fn an_unwired_connection_ends_its_far_side(rt: HostRuntime) -> Result<(), Fail> {
     let mut bus = two_modules(&rt, rt.alloc())?;
     sends_on(&rt, &mut bus, 5, Side::Far, 1, 1)?;
     sends_on(&rt, &mut bus, 5, Side::Ap, 2, 1)?;
@@ -269,20 +280,28 @@ fn an_unwired_connection_loses_what_waits(rt: HostRuntime) -> Result<(), Fail> {
     ended.push(9)?;
     bus.unwire(5, &mut ended)?;
     told(&rt, &ended, &[9, 1, 4]);
-    for n in [1, 4] {
-        assert!(rt;
-            matches!(bus.outcome(n), Some(Outcome::Disconnected)),
-            "{n}"
-        );
-    }
-    for n in [2, 3] {
-        assert!(rt; bus.outcome(n).is_none(), "request {n} is open");
-    }
-    for at in [End::Ap(1), LIGHT] {
-        let fault = delivered(&mut bus, at, true);
-        assert_eq!(rt; fault, Err(DeliverFault::NoConnection), "at {at:?}");
-        assert_eq!(rt; bus.waiting(at), None);
-    }
+    was_disconnected(&rt, &bus, 1);
+    was_disconnected(&rt, &bus, 4);
+    assert!(rt; bus.outcome(2).is_none(), "the application processor's");
+    assert!(rt; bus.outcome(3).is_none(), "of another connection");
+    Ok(())
+}
+
+/// No wired connection names an end.
+fn is_nowhere(rt: &impl Abort, bus: &mut Bus, at: End) {
+    assert_eq!(rt; bus.waiting(at), None);
+    assert_eq!(rt; delivered(bus, at, true), Err(DeliverFault::NoConnection));
+}
+
+#[test]
+fn an_unwired_connection_loses_what_waits(rt: HostRuntime) -> Result<(), Fail> {
+    let mut bus = two_modules(&rt, rt.alloc())?;
+    sends_on(&rt, &mut bus, 5, Side::Far, 1, 1)?;
+    sends_on(&rt, &mut bus, 5, Side::Ap, 2, 1)?;
+    assert_eq!(rt; bus.waiting(LIGHT), Some(1));
+    bus.unwire(5, &mut Numbers::new(rt.alloc()))?;
+    is_nowhere(&rt, &mut bus, LIGHT);
+    is_nowhere(&rt, &mut bus, End::Ap(1));
     assert!(rt; bus.send(5, Side::Ap, PING, &[], 500, false)?.lost);
     bus.wire(5)?;
     assert_eq!(rt; bus.waiting(LIGHT), Some(0));
@@ -291,22 +310,18 @@ fn an_unwired_connection_loses_what_waits(rt: HostRuntime) -> Result<(), Fail> {
 }
 
 #[test]
-fn a_closed_side_forgets_its_own(rt: HostRuntime) -> Result<(), Fail> {
+fn a_closed_side_ends_its_own(rt: HostRuntime) -> Result<(), Fail> {
     let mut bus = two_modules(&rt, rt.alloc())?;
     sends_on(&rt, &mut bus, 5, Side::Ap, 1, 1)?;
     sends_on(&rt, &mut bus, 5, Side::Ap, 2, 2)?;
     sends_on(&rt, &mut bus, 5, Side::Far, 3, 1)?;
     assert!(rt; bus.cancel(1).is_ok());
-    assert!(rt; bus.cancel(3).is_ok());
     let mut ended = Numbers::new(rt.alloc());
     bus.shut(5, &mut ended)?;
     told(&rt, &ended, &[2]);
     assert!(rt; matches!(bus.outcome(1), Some(Outcome::Cancelled)));
-    assert!(rt; matches!(bus.outcome(2), Some(Outcome::Disconnected)));
-    let late = ping(3, 1);
-    brings_on(&rt, &mut bus, 5, End::Ap(1), Seen::Ask(late, Some(5)));
-    bus.reply(5, Side::Ap, &late, 0, &[])?;
-    assert_eq!(rt; bus.waiting(LIGHT), Some(3));
+    was_disconnected(&rt, &bus, 2);
+    assert!(rt; bus.outcome(3).is_none(), "the far side's");
     Ok(())
 }
 
@@ -315,19 +330,21 @@ fn a_cport_is_used_again(rt: HostRuntime) -> Result<(), Fail> {
     let mut bus = two_modules(&rt, rt.alloc())?;
     assert_eq!(rt; bus.live(1, 2, 1), Some(5));
     assert_eq!(rt; bus.live(1, 2, 2), None);
-    let mut ended = Numbers::new(rt.alloc());
-    bus.shut(5, &mut ended)?;
-    bus.unwire(5, &mut ended)?;
     bus.detach(5);
     assert_eq!(rt; bus.live(1, 2, 1), None);
     assert_eq!(rt; bus.live(2, 2, 2), Some(4));
     assert_eq!(rt; bus.attach(1, 2, 1, 2)?, 6);
     assert_eq!(rt; bus.live(1, 2, 1), Some(6));
-    bus.wire(6)?;
-    sends_on(&rt, &mut bus, 6, Side::Ap, 1, 1)?;
-    brings_on(&rt, &mut bus, 6, LIGHT, Seen::Ask(ping(1, 1), Some(5)));
+    Ok(())
+}
+
+#[test]
+fn a_connection_that_is_gone_takes_nothing(rt: HostRuntime) -> Result<(), Fail> {
+    let mut bus = two_modules(&rt, rt.alloc())?;
+    bus.detach(5);
     let gone = bus.send(5, Side::Ap, PING, &[], 500, false);
     assert_eq!(rt; gone, Err(SendFault::NoLabel));
     assert!(rt; bus.spent(5, Side::Far), "it isn't live");
+    is_nowhere(&rt, &mut bus, LIGHT);
     Ok(())
 }
