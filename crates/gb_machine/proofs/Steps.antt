@@ -18,21 +18,20 @@ use Rattle.gb_machine.specs.Actions.{Action, Told, by_state, change, given, on_b
 use Rattle.gb_machine.specs.Arriving.{arrives, asked_at, by_label, by_number, delivers, delivers_at, dropped, ends, ends_answered, forgets, handles, is_held, keeps, reading_for, takes}
 use Rattle.gb_machine.specs.Asking.{asked, asks, asks_with}
 use Rattle.gb_machine.specs.Bus.{Ask, Bus, Connection, Item, Place, Reply, Request, connection_of, is_open, next_number, or_else, outcome_of, other_side, place_of, queue, request_of}
-use Rattle.gb_machine.specs.Delivery.{answered, ended, forgotten, popped, replied}
+use Rattle.gb_machine.specs.Delivery.{answered, ended, forgotten, popped}
 use Rattle.gb_machine.specs.Events.{decided, does, step, svc_draft}
 use Rattle.gb_machine.specs.GivingUp.{gives_up}
 use Rattle.gb_machine.specs.HostActs.{turns}
 use Rattle.gb_machine.specs.HostTurns.{ended_for}
-use Rattle.gb_machine.specs.Incoming.{incoming, reply_entry}
+use Rattle.gb_machine.specs.Incoming.{incoming}
 use Rattle.gb_machine.specs.Labels.{next_label}
 use Rattle.gb_machine.specs.Lists.{first, first_met}
 use Rattle.gb_machine.specs.Names.{bound, freed, is_bound, named}
 use Rattle.gb_machine.specs.Refusals.{cancel_refusal, deliver_refusal, empty_refusal, end_refusal, refusal, svc_refusal}
 use Rattle.gb_machine.specs.Requests.{gave_up}
-use Rattle.gb_machine.specs.Responding.{replies, responds, responds_with, response_at, serves, serves_oneway}
+use Rattle.gb_machine.specs.Responding.{serves}
 use Rattle.gb_machine.specs.Sending.{Draft, label_for, sent}
 use Rattle.gb_machine.specs.Waits.{awaited}
-use Rattle.gb_machine.specs.Serving.{Answer}
 use Rattle.gb_machine.specs.Settling.{settles_at, settles_from}
 use Rattle.gb_machine.specs.State.{State}
 use Rattle.gb_machine.specs.Waiting.{first_waiting}
@@ -165,45 +164,21 @@ delivers-drops s at p item named front untaken =
     ∙ ap (λ b. (if b then arrives p.side p.connection item else tell (dropped item)) t)
     (takes-bus p.side p.connection (popped p.connection.number p.side s.bus) s ∙ untaken)
 
--- a request is delivered and answered, and then what its answer brings about is done
-pub delivers-serves : (s : State) (at : End) (p : Place) (n : ℕ) (r : Request) (a : Answer) (behind : Action)
+-- a request is delivered and served
+pub delivers-serves : (s : State) (at : End) (p : Place) (n : ℕ) (r : Request)
     → place_of at s.bus.connections ≡ Some p
     → first (queue p.side p.connection) ≡ Some (Ask n)
     → takes p.side p.connection s ≡ true
     → is_held p.side p.connection s ≡ false
     → request_of n s.bus ≡ Some r
-    → r.oneway ≡ false
-    → response_at p.side p.connection (incoming n r) (with_bus (popped p.connection.number p.side s.bus) s) ≡ responds_with a behind
-    → delivers at s ≡ (replies p.side p.connection (incoming n r) a ▸ behind) (with_bus (popped p.connection.number p.side s.bus) s)
+    → delivers at s ≡ serves p.side p.connection (incoming n r) (with_bus (popped p.connection.number p.side s.bus) s)
 unfolding machine_opened
-delivers-serves s at p n r a behind named front taken free made twoway answered =
+delivers-serves s at p n r named front taken free made =
     let t = with_bus (popped p.connection.number p.side s.bus) s in
-    let q = incoming n r in
     delivers-arrives s at p (Ask n) named front taken
     ∙ ap (λ o. given o (λ (m : Request). asked_at p.side p.connection (Ask n) (incoming n m)) t) made
-    ∙ ap (λ b. (if b then keeps p.connection (Ask n) q else serves p.side p.connection q) t)
+    ∙ ap (λ b. (if b then keeps p.connection (Ask n) (incoming n r) else serves p.side p.connection (incoming n r)) t)
     (is_held-bus p.side p.connection (popped p.connection.number p.side s.bus) s ∙ free)
-    ∙ ap (λ o. responds p.side p.connection q o t) answered
-    ∙ ap (λ b. (if b then serves_oneway q (responds_with a behind)
-    else (replies p.side p.connection q a ▸ behind)) t) twoway
-
--- a request is delivered and answered, and this is what more comes of it
-pub delivers-ask : (s : State) (at : End) (p : Place) (n : ℕ) (r : Request) (a : Answer) (behind : Action) (more : Told)
-    → place_of at s.bus.connections ≡ Some p
-    → first (queue p.side p.connection) ≡ Some (Ask n)
-    → takes p.side p.connection s ≡ true
-    → is_held p.side p.connection s ≡ false
-    → request_of n s.bus ≡ Some r
-    → r.oneway ≡ false
-    → response_at p.side p.connection (incoming n r) (with_bus (popped p.connection.number p.side s.bus) s) ≡ responds_with a behind
-    → behind (with_bus (replied p.connection.number (other_side p.side) (Reply n a.result a.payload)
-    (popped p.connection.number p.side s.bus)) s)
-    ≡ more
-    → delivers at s ≡ told more.state (reply_entry p.side p.connection (incoming n r) a ∷ more.entries)
-unfolding machine_opened
-delivers-ask s at p n r a behind more named front taken free made twoway answered is =
-    delivers-serves s at p n r a behind named front taken free made twoway answered
-    ∙ ap (λ (w : Told). told w.state (reply_entry p.side p.connection (incoming n r) a ∷ w.entries)) is
 
 -- on a clean connection an answer is taken by its number
 pub delivers-by_number : (s : State) (at : End) (p : Place) (n result : ℕ) (payload : List ℕ)

@@ -14,7 +14,7 @@ use Rattle.gb_machine.specs.Refusals.{cancel_refusal}
 use Rattle.gb_machine.specs.Requests.{gave_up}
 use Rattle.gb_machine.specs.State.{State}
 use Rattle.gb_machine.specs.Waits.{awaited}
-use Rattle.gb_system.proofs.Landings.{lands, lands_refused, named_made, still_alone}
+use Rattle.gb_system.proofs.Landings.{same_ports, lands, lands_refused, named_made, still_alone}
 use Rattle.gb_system.specs.Told.{cancel_of, cancel_told}
 use Rattle.gb_system.specs.Stands.{PartiesStand, PartiesStep}
 use Rattle.gb_system.specs.declared.parties.Parties.{Parties}
@@ -37,14 +37,15 @@ made_is x s name n st h = named_made s.names name n s.bus st.made (named_is x s 
 
 -- a request that had ended before
 pub cancel_ended : (x y : Parties) (s : State) (name : Name) (n : ℕ) (es : List Entry)
-    → PartiesStand x s → named name x.names ≡ Some n → CancelsNothing y.bus n s.bus → y.names ≡ x.names
+    → PartiesStand x s → named name x.names ≡ Some n → CancelsNothing y.bus n s.bus → y.ladder ≡ x.ladder → y.names ≡ x.names
     → es ≡ entry.Refused why.AlreadyEnded ∷ []
     → PartiesStep y s (cancel_of name) (Ok es)
-cancel_ended x y s name n es st h cancels names is =
+cancel_ended x y s name n es st h cancels ladder names is =
     lands_refused y s (cancel_of name) why.AlreadyEnded es
     (ap (cancel_refusal s) (named_is x s name st ∙ h) ∙ ap (λ b. first_met ((b, why.AlreadyEnded) ∷ [])) cancels.over) is
     (record {
       bus = cancels.stands;
+      ports = same_ports x y s st ladder;
       names = st.names ∙ sym names;
       rest = st.rest;
       asks = st.asks;
@@ -54,14 +55,15 @@ cancel_ended x y s name n es st h cancels names is =
 
 -- an open request is given up
 pub cancel_done : (x y : Parties) (s : State) (name : Name) (n : ℕ) (es : List Entry)
-    → PartiesStand x s → named name x.names ≡ Some n → Cancels y.bus n s.bus → y.names ≡ x.names
+    → PartiesStand x s → named name x.names ≡ Some n → Cancels y.bus n s.bus → y.ladder ≡ x.ladder → y.names ≡ x.names
     → es ≡ entry.Done ∷ cancel_told n ∷ []
     → PartiesStep y s (cancel_of name) (Ok es)
-cancel_done x y s name n es st h cancels names is =
+cancel_done x y s name n es st h cancels ladder names is =
     lands y s (with_bus (gave_up n outcome.Cancelled s.bus) s) (cancel_of name) es (entry.Done ∷ cancel_told n ∷ [])
     (step-cancel s name n (named_is x s name st ∙ h) cancels.still_open (ap (λ (t : State). awaited n t.host) st.rest)) is
     (record {
       bus = cancels.stands;
+      ports = same_ports x y s st ladder;
       names = st.names ∙ sym names;
       rest = ap (with_bus (gave_up n outcome.Cancelled s.bus)) st.rest;
       asks = st.asks;

@@ -56,6 +56,7 @@ copy_done x y s from to n es st h free same is =
     (step-copy s from to n (named_is x s from st ∙ h) (named_is x s to st ∙ is_none_of (named to x.names) free)) is
     (subst (λ (w : Parties). PartiesStand w (bound to n s)) (sym same) (record {
       bus = st.bus;
+      ports = st.ports;
       names = ap (λ ns. ns ++ (to, n) ∷ []) st.names;
       rest = ap (bound to n) st.rest;
       asks = st.asks;
@@ -84,6 +85,7 @@ forget_done x y s name n es st h same is =
     (step-forget s name n (named_is x s name st ∙ h)) is
     (subst (λ (w : Parties). PartiesStand w (freed name s)) (sym same) (record {
       bus = st.bus;
+      ports = st.ports;
       names = ap (without (λ (p : Name × ℕ). same_name p.0 name)) st.names;
       rest = ap (freed name) st.rest;
       asks = st.asks;

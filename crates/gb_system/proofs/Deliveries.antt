@@ -15,7 +15,7 @@ use Rattle.gb_bus.specs.Delivering.{ArrivesAnswer, ArrivesLate, DeliversNothing,
 use Rattle.gb_bus.specs.Stands as bus
 use Rattle.gb_formats.specs.Bridges.{reading_of}
 use Rattle.gb_machine.proofs.Opened.{machine_opened}
-use Rattle.gb_machine.proofs.Steps.{deliver-allowed, delivers-answer, delivers-ask, delivers-late, delivers-nothing, delivers-nowhere, step-deliver, told, with_bus}
+use Rattle.gb_machine.proofs.Steps.{deliver-allowed, delivers-answer, delivers-late, delivers-nothing, delivers-nowhere, step-deliver, told, with_bus}
 use Rattle.gb_machine.specs.Arriving.{delivers, is_held, link_takes, reading_for, takes}
 use Rattle.gb_machine.specs.Bus.{Ask, Bus, Connection, Item, Place, Raw, RawReply, Reply, Request, has_number, or_else, other_side, place_of, queue, request_of}
 use Rattle.gb_machine.specs.Delivery.{answered, ended, forgotten, popped, replied, without_front}
@@ -29,21 +29,23 @@ use Rattle.gb_machine.specs.Sending.{put}
 use Rattle.gb_machine.specs.Serving.{Answer, plainly}
 use Rattle.gb_machine.specs.State.{State}
 use Rattle.gb_machine.specs.Waits.{awaited}
-use Rattle.gb_system.proofs.Landings.{lands, lands_refused, replies_more, still_alone}
+use Rattle.gb_switch.specs.Stands as switch
+use Rattle.gb_system.proofs.Landings.{lands, lands_refused, replies_more, same_ports, still_alone}
 use Rattle.gb_system.proofs.Places.{At, placed, svc_of, there, where_is}
 use Rattle.gb_system.proofs.SvcResults.{response_is}
 use Rattle.gb_system.specs.Arriving.{ArrivesAs, Brings, told_before}
 use Rattle.gb_system.specs.Stands.{AreReplies, IsAlone, PartiesStand, PartiesStep}
-use Rattle.gb_system.specs.Told.{answer_told, delivery_at, nowhere_refusal, reply_told, svc_result}
+use Rattle.gb_system.specs.Told.{answer_told, delivery_at, nowhere_refusal}
 use Rattle.gb_system.specs.declared.parties.Parties.{Parties}
 
 -- ---- what stands after a delivery
 
 -- the parties stand for a state with another bus, on which the same requests were made
-pub carried : (x y : Parties) (s : State) (b : Bus) → PartiesStand x s → bus.Stands y.bus b → y.names ≡ x.names
-    → b.requests ≡ s.bus.requests → IsAlone b → PartiesStand y (with_bus b s)
-carried x y s b st stands names same alone = record {
+pub carried : (x y : Parties) (s : State) (b : Bus) → PartiesStand x s → bus.Stands y.bus b → switch.Stands y.ladder s.ports
+    → y.names ≡ x.names → b.requests ≡ s.bus.requests → IsAlone b → PartiesStand y (with_bus b s)
+carried x y s b st stands ports names same alone = record {
   bus = stands;
+  ports = ports;
   names = st.names ∙ sym names;
   rest = ap (with_bus b) st.rest;
   asks = λ n r h. st.asks n r (ap (nth n) (sym same) ∙ h);
@@ -100,25 +102,25 @@ nowhere_is x s (end.Module i c) st named =
 
 -- no wired connection names the end
 pub nowhere : (x y : Parties) (s : State) (at : End) (before more : List Entry)
-    → PartiesStand x s → DeliversNowhere y.bus at s.bus → y.names ≡ x.names → more ≡ before
+    → PartiesStand x s → DeliversNowhere y.bus at s.bus → y.ladder ≡ x.ladder → y.names ≡ x.names → more ≡ before
     → ArrivesAs y s at before more (Some (nowhere_refusal at))
-nowhere x y s at before more st h names same = record {
+nowhere x y s at before more st h ladder names same = record {
   refused = nowhere_is x s at st h.named;
   is = delivers-nowhere s at h.named;
   same = same;
-  stands = carried x y s s.bus st h.stands names refl st.alone;
+  stands = carried x y s s.bus st h.stands (same_ports x y s st ladder) names refl st.alone;
 }
 
 -- nothing waits
 pub nothing_waits : (x y : Parties) (s : State) (at : End) (before more : List Entry)
-    → PartiesStand x s → DeliversNothing y.bus at s.bus → y.names ≡ x.names → more ≡ before
+    → PartiesStand x s → DeliversNothing y.bus at s.bus → y.ladder ≡ x.ladder → y.names ≡ x.names → more ≡ before
     → ArrivesAs y s at before more (Some why.QueueEmpty)
-nothing_waits x y s at before more st h names same = record {
+nothing_waits x y s at before more st h ladder names same = record {
   refused = ap (λ o. or_else o (deliver_refusal (place_of at s.bus.connections))) (there s st.alone at h.place h.named)
       ∙ ap deliver_refusal h.named ∙ ap empty_refusal h.empty;
   is = delivers-nothing s at h.place h.named h.empty;
   same = same;
-  stands = carried x y s s.bus st h.stands names refl st.alone;
+  stands = carried x y s s.bus st h.stands (same_ports x y s st ladder) names refl st.alone;
 }
 
 -- ---- where it is delivered
@@ -217,10 +219,10 @@ alone_answered b h n code = record {
 pub answer_taken : (x y : Parties) (s : State) (at : End) (p : Place) (item : Item) (number kind result : ℕ) (payload : List ℕ)
     (before more : List Entry)
     → PartiesStand x s → place_of at s.bus.connections ≡ Some p → first (queue p.side p.connection) ≡ Some item
-    → ArrivesAnswer y.bus p s.bus item number kind result payload → y.names ≡ x.names
+    → ArrivesAnswer y.bus p s.bus item number kind result payload → y.ladder ≡ x.ladder → y.names ≡ x.names
     → more ≡ before ++ answer_told number result payload ∷ []
     → ArrivesAs y s at before more None
-answer_taken x y s at p item number kind result payload before more st named front a names appended =
+answer_taken x y s at p item number kind result payload before more st named front a ladder names appended =
     let w = where_is s.bus st.alone at p named in (
       deliver-allowed s at p item (there s st.alone at p named) named front,
       brings_one y s (with_bus (ended number (answered result a.bytes) (after_taken s p)) s) at before more
@@ -228,22 +230,22 @@ answer_taken x y s at p item number kind result payload before more st named fro
           (delivers-answer s at p number result a.bytes named (front ∙ ap Some a.item_is) (taken x s st p w) (clean x s st p w)
           a.still_open (says x s st p result a.bytes (request_of number s.bus) w) (unawaited x s st number))
           appended (ap (λ o. entry.Ended number o reading.Nothing) (sym a.outcome_is))
-          (carried x y s (ended number (answered result a.bytes) (after_taken s p)) st a.stands names refl
+          (carried x y s (ended number (answered result a.bytes) (after_taken s p)) st a.stands (same_ports x y s st ladder) names refl
           (still_alone (alone_popped s.bus st.alone p w) refl)),
     )
 
 -- an answer is late
 pub late_taken : (x y : Parties) (s : State) (at : End) (p : Place) (item : Item) (number : ℕ) (before more : List Entry)
     → PartiesStand x s → place_of at s.bus.connections ≡ Some p → first (queue p.side p.connection) ≡ Some item
-    → ArrivesLate y.bus p s.bus item number → y.names ≡ x.names
+    → ArrivesLate y.bus p s.bus item number → y.ladder ≡ x.ladder → y.names ≡ x.names
     → more ≡ before ++ entry.Late number ∷ []
     → ArrivesAs y s at before more None
-late_taken x y s at p item number before more st named front a names appended =
+late_taken x y s at p item number before more st named front a ladder names appended =
     let w = where_is s.bus st.alone at p named in (
       deliver-allowed s at p item (there s st.alone at p named) named front,
       brings_one y s (with_bus (forgotten number (after_taken s p)) s) at before more (entry.Late number) (entry.Late number)
           (delivers-late s at p number a.result a.bytes named (front ∙ ap Some a.item_is) (taken x s st p w) (clean x s st p w) a.closed)
           appended refl
-          (carried x y s (forgotten number (after_taken s p)) st a.stands names refl
+          (carried x y s (forgotten number (after_taken s p)) st a.stands (same_ports x y s st ladder) names refl
           (still_alone (alone_popped s.bus st.alone p w) refl)),
     )

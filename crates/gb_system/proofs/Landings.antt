@@ -17,6 +17,8 @@ use Rattle.gb_machine.specs.Members.{Each}
 use Rattle.gb_machine.specs.Names.{named, same_name}
 use Rattle.gb_machine.specs.Refusals.{refusal}
 use Rattle.gb_machine.specs.State.{State}
+use Rattle.gb_switch.specs.Stands as switch
+use Rattle.gb_switch.specs.declared.ladder.Ladder.{Ladder}
 use Rattle.gb_system.specs.Stands.{AreReplies, IsAlone, IsReply, PartiesStand, PartiesStep}
 use Rattle.gb_system.specs.declared.parties.Parties.{Parties}
 
@@ -98,3 +100,7 @@ still_alone h same = record {
   is = same ∙ h.is;
   replies = h.replies;
 }
+
+-- the ladder stands for the interfaces still
+pub same_ports : (x y : Parties) (s : State) → PartiesStand x s → y.ladder ≡ x.ladder → switch.Stands y.ladder s.ports
+same_ports x y s st same = subst (λ (l : Ladder). switch.Stands l s.ports) (sym same) st.ports

@@ -1,9 +1,12 @@
 pub mod Cancels
 pub mod Copies
+pub mod Decisions
 pub mod Deliveries
 pub mod Landings
 pub mod Places
 pub mod Sends
 pub mod Served
+pub mod Serves
 pub mod Settles
 pub mod SvcResults
+pub mod SvcSteps

@@ -18,7 +18,7 @@ use Rattle.gb_machine.specs.Names.{bound, named}
 use Rattle.gb_machine.specs.Refusals.{is_reserved, longest_payload, svc_refusal}
 use Rattle.gb_machine.specs.Sending.{Draft, draft, drawn, label_for, put, requested, sent}
 use Rattle.gb_machine.specs.State.{State}
-use Rattle.gb_system.proofs.Landings.{each_more, lands, lands_refused, names_more}
+use Rattle.gb_system.proofs.Landings.{same_ports, each_more, lands, lands_refused, names_more}
 use Rattle.gb_system.specs.Told.{ask_told, early_refusal, send_of}
 use Rattle.gb_system.specs.Stands.{IsAlone, IsSvcAsk, PartiesStand, PartiesStep, svc_with}
 use Rattle.gb_system.specs.declared.parties.Parties.{Parties}
@@ -102,10 +102,10 @@ svc_live b h = ap (λ cs. is_some (find (has_number 1) cs)) h.is
 pub send_sent : (x y : Parties) (s : State) (name : Name) (kind : ℕ) (payload : List ℕ) (timeout : ℕ) (r : Sent) (es : List Entry)
     → kind < 128 → PartiesStand x s → early_refusal name x.names kind payload ≡ None
     → Sends y.bus (svc_draft kind payload timeout) s.bus r
-    → y.names ≡ x.names ++ (name, r.number) ∷ []
+    → y.ladder ≡ x.ladder → y.names ≡ x.names ++ (name, r.number) ∷ []
     → es ≡ entry.Done ∷ ask_told r.number r.label kind payload r.lost ∷ []
     → PartiesStep y s (send_of name kind payload timeout) (Ok es)
-send_sent x y s name kind payload timeout r es low st h sends names is =
+send_sent x y s name kind payload timeout r es low st h sends ladder names is =
     let d = svc_draft kind payload timeout in
     let c = svc_with st.alone.ap_last st.alone.far_last st.alone.to_ap st.alone.to_far in
     let free : svc_refusal s name kind payload ≡ None =
@@ -120,6 +120,7 @@ send_sent x y s name kind payload timeout r es low st h sends names is =
     (entry.Done ∷ asked d c r.label s.bus ∷ []) stepped same
     (record {
       bus = sends.stands;
+      ports = same_ports x y s st ladder;
       names = ap (λ ns. ns ++ (name, next_number s.bus) ∷ []) st.names
           ∙ ap (λ n. x.names ++ (name, n) ∷ []) (sym sends.number) ∙ sym names;
       rest = ap (λ (t : State). with_bus (sent d r.label s.bus)

@@ -1,5 +1,5 @@
 -- What the supervisory controller answers to a request of a type that isn't kept.
-use Rattle.std.proofs.Common.{◌≡◌, ℕ, ◌==◌, Bool, true, false, ◌||◌, cond, Ok, Err, List, length, refl, ap, ◌∙◌, arith}
+use Rattle.std.proofs.Common.{◌≡◌, ℕ, ◌==◌, Bool, true, false, ◌||◌, if◌then◌else◌, cond, Ok, Err, List, length, refl, ap, ◌∙◌, arith}
 use Rattle.std.proofs.lemmas.Bool.Decides.{nat_tests}
 use Rattle.gb_formats.specs.Grammar.{ping}
 use Rattle.gb_formats.specs.Results.{invalid, protocol_bad, success}
@@ -13,7 +13,12 @@ use Rattle.gb_machine.specs.Responding.{responds_with, svc_response, svc_stepped
 use Rattle.gb_machine.specs.Serving.{plainly}
 use Rattle.gb_machine.specs.State.{Port, State}
 use Rattle.gb_machine.specs.SvcTable.{is_svc_own, svc_read, svc_refuses, svc_step}
-use Rattle.gb_system.specs.Told.{svc_result}
+
+-- The result with which the supervisory controller answers a request of a type that isn't kept: a
+-- ping has no payload, and it knows no other type.
+abbrev pub svc_result : ℕ → List ℕ → ℕ
+svc_result kind payload =
+    if kind == ping then (if length payload == 0 then success else invalid) else protocol_bad
 
 left : (a b : Bool) → a || b ≡ false → a ≡ false
 left true b h = h

@@ -1,3 +1,5 @@
 pub mod Arriving
+pub mod Deciding
+pub mod Serving
 pub mod Stands
 pub mod Told

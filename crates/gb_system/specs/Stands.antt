@@ -10,6 +10,7 @@ use Rattle.gb_machine.specs.Events.{step}
 use Rattle.gb_machine.specs.LawsBus.{NameRequests}
 use Rattle.gb_machine.specs.Refusals.{is_reserved}
 use Rattle.gb_machine.specs.State.{State, first_state}
+use Rattle.gb_switch.specs.Stands as switch
 use Rattle.gb_system.specs.declared.parties.Parties.{Parties}
 use Rattle.gb_system.specs.declared.system.System.{System}
 
@@ -49,10 +50,11 @@ pub record IsAlone (b : Bus) : Type 0 where
   pub is : b.connections ≡ svc_with ap_last far_last to_ap to_far ∷ []
   pub replies : AreReplies to_ap
 
--- The parties stand for this state. All but the bus and the names is as in the first state, and
--- requests to the supervisory controller alone were sent.
+-- The parties stand for this state. All but the bus and the names is as in the first state: nothing
+-- is plugged, and requests to the supervisory controller alone were sent.
 pub record PartiesStand (x : Parties) (s : State) : Type 0 where
   pub bus : bus.Stands x.bus s.bus
+  pub ports : switch.Stands x.ladder s.ports
   pub names : s.names ≡ x.names
   pub rest : s ≡ record first_state { bus = s.bus; names = s.names }
   pub asks : (n : ℕ) (r : Request) → request_of n s.bus ≡ Some r → IsSvcAsk r

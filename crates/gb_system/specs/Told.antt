@@ -11,9 +11,7 @@ use Rattle.gb_base.specs.declared.name.Name.{Name}
 use Rattle.gb_base.specs.declared.outcome.Outcome.TheVariants as outcome
 use Rattle.gb_base.specs.declared.refusal.Refusal.{Refusal}
 use Rattle.gb_base.specs.declared.refusal.Refusal.TheVariants as why
-use Rattle.gb_formats.specs.Grammar.{ping}
 use Rattle.gb_formats.specs.Message.{message_size, request, response, spelling}
-use Rattle.gb_formats.specs.Results.{invalid, protocol_bad, success}
 use Rattle.gb_machine.specs.Lists.{first_met}
 use Rattle.gb_machine.specs.Names.{named}
 use Rattle.gb_machine.specs.Refusals.{is_reserved, longest_payload}
@@ -80,12 +78,6 @@ early_refusal name names kind payload = first_met (
     ∷ (nat_lt longest_payload (length payload), why.TooLarge)
     ∷ [])
 
--- The result with which the supervisory controller answers a request of a type that isn't kept: a
--- ping has no payload, and it knows no other type.
-abbrev pub svc_result : ℕ → List ℕ → ℕ
-svc_result kind payload =
-    if kind == ping then (if length payload == 0 then success else invalid) else protocol_bad
-
 -- what is told of a request
 abbrev pub ask_told : ℕ → ℕ → ℕ → List ℕ → Bool → Entry
 ask_told n label kind payload lost =
@@ -93,9 +85,10 @@ ask_told n label kind payload lost =
     (spelling (request label kind payload)) lost
 
 -- what is told of its answer
-abbrev pub reply_told : Option ℕ → ℕ → ℕ → ℕ → Entry
-reply_told n label kind result =
-    entry.Replied n end.Svc (end.Ap 0) result 8 (spelling (response label kind result []))
+abbrev pub reply_told : Option ℕ → ℕ → ℕ → ℕ → List ℕ → Entry
+reply_told n label kind result payload =
+    entry.Replied n end.Svc (end.Ap 0) result (message_size payload)
+    (spelling (response label kind result payload))
 
 -- what is told where a request is cancelled
 abbrev pub cancel_told : ℕ → Entry

@@ -1,19 +1,15 @@
 //! Deliveries, and settles, which are deliveries in a fixed order.
 
-ghost use Rattle.std.specs.Prelude.{◌≡◌, ◌<◌, IfOk};
+ghost use Rattle.std.specs.Prelude.{◌≡◌, IfOk};
 ghost use Rattle.gb_machine.specs.State.{State};
 ghost use Rattle.gb_system.specs.Arriving.{ArrivesAs};
 ghost use Rattle.gb_system.specs.Stands.{PartiesStand, PartiesStep};
-ghost use Rattle.gb_system.specs.Told.{answer_told, delivery_at, nowhere_refusal, reply_told, settle_of};
+ghost use Rattle.gb_system.specs.Told.{answer_told, delivery_at, nowhere_refusal, settle_of};
 
 use crate::entries::{begun, refused};
-use crate::message::message_bytes;
 use crate::parties::Parties;
-use crate::svc::{SVC, svc_result};
-use gb_base::{Bytes, End, Entries, Entry, OutOfMemory, Outcome, Reading, Refusal, Side};
-use gb_bus::{Arrival, Arrived, Asked, DeliverFault};
-use gb_wire::Message;
-use std::alloc::Global;
+use gb_base::{Bytes, End, Entries, Entry, OutOfMemory, Outcome, Reading, Refusal};
+use gb_bus::{Arrival, Arrived, DeliverFault};
 
 impl Parties {
     /// Delivers the front message toward an end.
@@ -47,7 +43,7 @@ impl Parties {
 
     /// Takes the front message toward an end, handles it, and tells what comes of it. Answers why
     /// a delivery there is refused; nothing is done then.
-    fn arrive(&mut self, at: End, told: &mut Entries) -> Result<Option<Refusal>, OutOfMemory>
+    pub fn arrive(&mut self, at: End, told: &mut Entries) -> Result<Option<Refusal>, OutOfMemory>
         ensures step { IfOk result (λ why. (s : State) → PartiesStand self.old s
             → ArrivesAs self.new s at told.old told.new why) }
     {
@@ -61,11 +57,7 @@ impl Parties {
             Err(DeliverFault::Memory(refused)) => return Err(refused),
         };
         match item {
-            Arrival::Ask { asked, payload } => {
-                let code = svc_result(asked.kind, payload.items());
-                self.bus.reply(SVC, Side::Far, &asked, code, &[])?;
-                told.push(replied(self.alloc, &asked, code)?)?;
-            }
+            Arrival::Ask { asked, payload } => self.serve(&asked, payload.items(), told)?,
             Arrival::Ended {
                 number,
                 kind: _,
@@ -101,25 +93,4 @@ fn ended(number: u64, code: u8, payload: Bytes) -> Entry
         },
         reading: Reading::Nothing,
     }
-}
-
-/// The supervisory controller answered a request.
-fn replied(alloc: Global, asked: &Asked, code: u8) -> Result<Entry, OutOfMemory>
-    ensures { IfOk result (λ e. asked.now.kind < 128
-        → e ≡ reply_told asked.now.number asked.now.label asked.now.kind code) }
-{
-    let message = Message {
-        id: asked.label,
-        kind: asked.kind % 0x80 + 0x80,
-        result: code,
-        payload: &[],
-    };
-    Ok(Entry::Replied {
-        number: asked.number,
-        from: End::Svc,
-        to: End::Ap(0),
-        result: code,
-        size: 8,
-        bytes: message_bytes(alloc, &message)?,
-    })
 }

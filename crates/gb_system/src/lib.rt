@@ -1,6 +1,7 @@
 //! All parties of the bus, stepped by events.
 #![tactic(auto)]
 
+mod deciding;
 mod delivering;
 mod entries;
 mod message;
@@ -8,6 +9,7 @@ mod names;
 mod naming;
 mod parties;
 mod sending;
+mod serving;
 mod svc;
 mod system;
 #[cfg(test)]

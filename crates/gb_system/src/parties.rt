@@ -7,6 +7,7 @@ ghost use Rattle.gb_system.specs.Told.{IsStepped};
 use crate::names::Names;
 use gb_base::{Entries, Event, OutOfMemory};
 use gb_bus::Bus;
+use gb_switch::Ladder;
 use std::alloc::Global;
 
 /// The application processor, the supervisory controller and the bus between them, with the names
@@ -15,6 +16,7 @@ use std::alloc::Global;
 pub struct Parties {
     pub alloc: Global,
     pub bus: Bus,
+    pub ladder: Ladder,
     pub names: Names,
 }
 
@@ -28,6 +30,7 @@ impl Parties {
         Ok(Parties {
             alloc,
             bus: Bus::new(alloc)?,
+            ladder: Ladder::new(),
             names: Names::new(alloc),
         })
     }

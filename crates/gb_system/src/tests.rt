@@ -4,7 +4,14 @@ ghost use Rattle.std.specs.Prelude.{◌<◌};
 ghost use Rattle.gb_system.specs.Told.{IsStepped};
 
 use crate::System;
-use gb_base::{Bytes, End, Entries, Entry, Event, Name, Outcome, Reading, Refusal, Word};
+use crate::deciding::{Behind, decide};
+use crate::parties::Parties;
+use gb_base::{
+    Bytes, End, Entries, Entry, Event, Name, Numbers, OutOfMemory, Outcome, Reading, Refusal, Side,
+    Word,
+};
+use gb_bus::Sent;
+use gb_switch::Rung;
 use std::alloc::Global;
 use std::process::Abort;
 use std::test::Fail;
@@ -20,6 +27,7 @@ enum Seen<'a> {
     Cancelled(u64),
     Late(u64),
     Settled(u16),
+    Disconnected(u64),
     Other,
 }
 
@@ -54,6 +62,11 @@ fn in_plain(entry: &Entry) -> Seen<'_> {
             outcome: Outcome::Cancelled,
             reading: Reading::Nothing,
         } => Seen::Cancelled(*number),
+        Entry::Ended {
+            number,
+            outcome: Outcome::Disconnected,
+            reading: Reading::Nothing,
+        } => Seen::Disconnected(*number),
         Entry::Late { number } => Seen::Late(*number),
         Entry::Settled { count } => Seen::Settled(*count),
         _ => Seen::Other,
@@ -289,5 +302,81 @@ fn names_are_copied_and_freed(rt: HostRuntime) -> Result<(), Fail> {
         name: named(&rt, b"y"),
     })?;
     are(&rt, &cancelled, &[Seen::Done, Seen::Cancelled(1)]);
+    Ok(())
+}
+
+/// A module is plugged at interface 2 and routed, with connection 2 of CPort 1 to its CPort 3.
+fn routed(alloc: Global) -> Result<Parties, OutOfMemory> {
+    let mut parties = Parties::new(alloc)?;
+    parties.ladder.plug(2);
+    let rungs = [
+        Rung::Vsys,
+        Rung::Refclk,
+        Rung::Unipro,
+        Rung::Active,
+        Rung::Device(2),
+        Rung::Route(2),
+    ];
+    for rung in rungs {
+        if parties.ladder.climb(2, rung).is_err() {
+            return Err(OutOfMemory);
+        }
+    }
+    parties.bus.attach(1, 2, 3, 0)?;
+    Ok(parties)
+}
+
+/// The result with which the supervisory controller answers a request, and what it does behind it.
+fn decided(parties: &mut Parties, kind: u8, payload: &[u8]) -> (u8, Behind) {
+    let decision = decide(&parties.bus, &mut parties.ladder, kind, payload);
+    (decision.result, decision.behind)
+}
+
+#[test]
+fn connections_decide(rt: HostRuntime) -> Result<(), Fail> {
+    let mut parties = routed(rt.alloc())?;
+    // CONN_CREATE of CPort 1 with interface 2, CPort 3, and CONN_DESTROY and ROUTE_DESTROY of them.
+    let create: &[u8] = &[1, 1, 0, 2, 3, 0, 0, 0];
+    let other: &[u8] = &[1, 1, 0, 2, 4, 0, 0, 0];
+    let destroy: &[u8] = &[1, 1, 0, 2, 3, 0];
+    let unroute: &[u8] = &[1, 2];
+    let wire = Behind::Wire { connection: 2 };
+    let unwire = Behind::Unwire { connection: 2 };
+    assert_eq!(rt; decided(&mut parties, 8, destroy), (8, Behind::Nothing));
+    assert_eq!(rt; decided(&mut parties, 7, other), (8, Behind::Nothing));
+    assert_eq!(rt; decided(&mut parties, 7, create), (0, wire));
+    parties.bus.wire(2)?;
+    assert_eq!(rt; decided(&mut parties, 7, create), (6, Behind::Nothing));
+    assert_eq!(rt; decided(&mut parties, 12, unroute), (6, Behind::Nothing));
+    assert_eq!(rt; decided(&mut parties, 8, destroy), (0, unwire));
+    let mut ended = Numbers::new(rt.alloc());
+    parties.bus.unwire(2, &mut ended)?;
+    assert_eq!(rt; decided(&mut parties, 12, unroute), (0, Behind::Nothing));
+    assert_eq!(rt; decided(&mut parties, 12, unroute), (8, Behind::Nothing));
+    assert_eq!(rt; decided(&mut parties, 7, create), (8, Behind::Nothing));
+    Ok(())
+}
+
+#[test]
+fn an_unwired_connection_ends_what_its_far_side_asked(rt: HostRuntime) -> Result<(), Fail> {
+    let mut parties = routed(rt.alloc())?;
+    parties.bus.wire(2)?;
+    let sent = parties.bus.send(2, Side::Far, 0x0e, &[3], 1000, false);
+    assert!(rt; matches!(sent, Ok(Sent { number: 1, .. })));
+    let destroy: &[u8] = &[1, 1, 0, 2, 3, 0];
+    let asking = parties.bus.send(1, Side::Ap, 8, destroy, 1000, false);
+    assert!(rt; matches!(asking, Ok(Sent { number: 2, .. })));
+    let mut told = Entries::new(rt.alloc());
+    parties.arrive(End::Svc, &mut told)?;
+    let answer = [8, 0, 1, 0, 0x88, 0, 0, 0];
+    are(
+        &rt,
+        &told,
+        &[
+            Seen::Replied(Some(2), End::Svc, End::Ap(0), 0, 8, &answer),
+            Seen::Disconnected(1),
+        ],
+    );
+    assert!(rt; !parties.bus.is_wired(2));
     Ok(())
 }

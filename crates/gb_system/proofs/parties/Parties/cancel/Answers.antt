@@ -15,7 +15,7 @@ returns-in_ok-done-in-Ok c = record {
       let named = sym c.in-Some.ensures in
       cancel_done c.args.self.now (record c.args.self.now { bus = c.cancel.new.self }) s c.args.name.now c.in-Some.number
       c.in_ok-done-in-Ok.field-0 st named
-      (c.in-Ok.ensures.step s.bus st.bus (made_is c.args.self.now s c.args.name.now c.in-Some.number st named)) refl
+      (c.in-Ok.ensures.step s.bus st.bus (made_is c.args.self.now s c.args.name.now c.in-Some.number st named)) refl refl
       (cc (c.in_ok-done-in-Ok.ensures, c.cancelled.ensures));
 }
 
@@ -25,6 +25,6 @@ returns-in_ok-refused-in-Err c = record {
       let named = sym c.in-Some.ensures in
       cancel_ended c.args.self.now (record c.args.self.now { bus = c.cancel.new.self }) s c.args.name.now c.in-Some.number
       c.in_ok-refused-in-Err.field-0 st named
-      (c.in-Err.ensures.step s.bus st.bus (made_is c.args.self.now s c.args.name.now c.in-Some.number st named)) refl
+      (c.in-Err.ensures.step s.bus st.bus (made_is c.args.self.now s c.args.name.now c.in-Some.number st named)) refl refl
       c.in_ok-refused-in-Err.ensures;
 }

@@ -26,6 +26,6 @@ returns c = record {
   step = λ s st.
       send_sent c.args.self.now (record c.args.self.now { bus = c.send.new.self; names = c.bind.new.self }) s c.args.name.now
       c.args.kind c.args.payload.now c.args.timeout c.in-Ok.sent c.in_ok-done.field-0 c.requires st
-      (sym c.in_default.ensures.first) (rw c.from.ensures at (c.in-Ok.ensures.step s.bus st.bus (svc_live s.bus st.alone)))
+      (sym c.in_default.ensures.first) (rw c.from.ensures at (c.in-Ok.ensures.step s.bus st.bus (svc_live s.bus st.alone))) refl
       (cc (c.in_ok-bind.ensures.ok, c.in_ok-copy.ensures)) (cc (c.in_ok-done.ensures, c.in_ok-entry.ensures));
 }

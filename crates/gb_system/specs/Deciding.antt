@@ -1,0 +1,46 @@
+-- What the supervisory controller decides.
+use Rattle.std.specs.Prelude.{◌≡◌, List, []}
+use Rattle.gb_bus.specs.Stands as bus
+use Rattle.gb_bus.specs.declared.bus.Bus.{Bus}
+use Rattle.gb_machine.specs.Actions.{Action}
+use Rattle.gb_machine.specs.Responding.{Response}
+use Rattle.gb_machine.specs.Serving.{Answer, answer}
+use Rattle.gb_machine.specs.State.{Port, State}
+use Rattle.gb_machine.specs.Wires.{unwires, wires}
+use Rattle.gb_switch.specs.Stands as switch
+use Rattle.gb_switch.specs.declared.ladder.Ladder.{Ladder}
+use Rattle.gb_system.specs.declared.deciding.Behind.{Behind}
+use Rattle.gb_system.specs.declared.deciding.Behind.TheVariants as behind
+use Rattle.gb_system.specs.declared.deciding.Decision.{Decision}
+
+-- A bus and a ladder stand for their parts of a state.
+pub record PartsStand (x : Bus) (y : Ladder) (s : State) : Type 0 where
+  pub bus : bus.Stands x s.bus
+  pub ports : switch.Stands y s.ports
+
+-- the answer of a decision
+abbrev pub answer_of : Decision → Answer
+answer_of d = answer d.result d.payload.items
+
+-- Nothing but the interfaces changes, and the ladder stands for them.
+pub record ChangesPorts (new : Ladder) (s : State) (does : Action) : Type 0 where
+  pub ports : List Port
+  pub stands : switch.Stands new ports
+  pub is : (t : State) → t.ports ≡ s.ports
+      → does t ≡ record { state = record t { ports = ports }; entries = [] }
+
+-- The interfaces stay, and this is done.
+pub record DoesThis (new : Ladder) (s : State) (does this : Action) : Type 0 where
+  pub stands : switch.Stands new s.ports
+  pub is : does ≡ this
+
+-- What is done behind the reply at a state, by cases.
+abbrev pub DoesBehind : Ladder → State → Action → Behind → Type 0
+DoesBehind new s does behind.Nothing = ChangesPorts new s does
+DoesBehind new s does (behind.Wire k) = DoesThis new s does (wires k)
+DoesBehind new s does (behind.Unwire k) = DoesThis new s does (unwires k)
+
+-- A response has the answer of a decision, and this behind it.
+pub record Decides (new : Ladder) (s : State) (r : Response) (d : Decision) : Type 0 where
+  pub answer : r.answer ≡ answer_of d
+  pub behind : DoesBehind new s r.behind d.behind
