@@ -1,7 +1,6 @@
 -- A GPIO request is never too large.
-use Rattle.std.proofs.Common.{◌≡◌, ◌≤◌, ℕ, Bool, true, false, List, [], ◌∷◌, length, Ok, rules, arith, refl, nat_lt, if◌then◌else◌}
+use Rattle.std.proofs.Common.{◌≡◌, ◌≤◌, ℕ, Bool, true, false, List, [], ◌∷◌, length, Ok, arith, refl, nat_lt, if◌then◌else◌}
 use Rattle.gb_base.specs.declared.bridge.BridgeAsk.TheVariants as ask
-use Rattle.gb_base.specs.declared.bridge.Bridged.{Bridged}
 use Rattle.gb_bridge_payload.specs.Serving.{BridgesAs}
 use Rattle.gb_formats.specs.Bridges.{bridge_answer, gpio_payload, has_byte, has_no_line, has_time}
 use Rattle.gb_formats.specs.Bytes.{le16}

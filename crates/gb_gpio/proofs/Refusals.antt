@@ -1,5 +1,5 @@
 -- What is refused.
-use Rattle.std.proofs.Common.{◌≡◌, ℕ, List, Result, ◌∙◌, ap, sym}
+use Rattle.std.proofs.Common.{◌≡◌, ℕ, List, Result}
 use Rattle.std.specs.Result.{IsErrAnd}
 use Rattle.std.proofs.lemmas.Result.{err_from_is_err_and}
 use Rattle.gb_formats.specs.GpioDevice.{GpioLine}

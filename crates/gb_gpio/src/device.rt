@@ -28,15 +28,13 @@ pub struct Device {
 }
 
 impl Model for Device {
-    ghost use Rattle.std.specs.Prelude.{◌≡◌, List, length};
+    ghost use Rattle.std.specs.Prelude.{List};
     ghost use Rattle.gb_formats.specs.GpioDevice.{GpioLine};
     ghost use Rattle.gb_gpio.specs.Views.{lines_of};
 
     ghost Value = { List GpioLine };
 
     ghost view = { λ d. lines_of d.lines };
-
-    ghost invariant = { λ d. length d.lines ≡ 8 };
 }
 
 impl Device {
