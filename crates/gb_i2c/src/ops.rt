@@ -11,7 +11,8 @@ use crate::memory::Memory;
 use gb_base::{Bytes, OutOfMemory};
 use gb_bridge_payload::TransferOp;
 
-/// Does so many ops in order, and adds the bytes that they read to `answer`.
+/// Does so many ops in order, and adds the bytes that they read to `answer`. After want of memory
+/// some may have been done.
 pub fn run(
     count: u16,
     ops: &[u8],
