@@ -1,26 +1,31 @@
 //! Reads and writes the payloads of the bridged protocols: GPIO, I2C, SPI and UART.
 #![tactic(auto)]
 
+#[cfg(test)]
+mod answer_tests;
 mod bridge_fault;
 #[cfg(test)]
 mod fault_tests;
 mod gpio_ask;
-mod gpio_kinds;
+pub mod gpio_kinds;
 mod gpio_reply;
 mod i2c_ask;
-mod i2c_kinds;
+pub mod i2c_kinds;
 mod i2c_reply;
 mod reading;
+mod results;
+mod served;
 mod spi_ask;
-mod spi_kinds;
+pub mod spi_kinds;
 mod spi_reply;
 #[cfg(test)]
 mod tests;
 mod transfer_entry;
 mod transfer_op;
 mod uart_ask;
-mod uart_kinds;
+pub mod uart_kinds;
 mod uart_reply;
+mod writing;
 
 pub use bridge_fault::BridgeFault;
 pub use gb_payload::PayloadFault;
@@ -28,9 +33,12 @@ pub use gpio_ask::GpioAsk;
 pub use gpio_reply::GpioReply;
 pub use i2c_ask::I2cAsk;
 pub use i2c_reply::I2cReply;
+pub use results::{INVALID, NONEXISTENT, OVERFLOW, PROTOCOL_BAD, SUCCESS, fault_result};
+pub use served::{answered, done, refused};
 pub use spi_ask::SpiAsk;
 pub use spi_reply::SpiReply;
 pub use transfer_entry::{ENTRY_SIZE, TransferEntry};
 pub use transfer_op::{OP_SIZE, TransferOp};
 pub use uart_ask::UartAsk;
 pub use uart_reply::UartReply;
+pub use writing::put_behind;

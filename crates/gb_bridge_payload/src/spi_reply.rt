@@ -29,22 +29,22 @@ pub enum SpiReply<'a> {
         least: u32,
         /// The greatest speed in Hz.
         greatest: u32,
-        /// The modes.
+        /// The modes: clock phase 1, clock polarity 2, and those of Linux's spi.h above them.
         mode: u16,
-        /// The flags.
+        /// The flags: half duplex 1, nothing is read 2, nothing is written 4.
         flags: u16,
         /// How many chip selects there are.
         selects: u8,
     },
     /// What the device at a chip select can do.
     DeviceConfig {
-        /// The mode.
+        /// The mode: clock phase 1, clock polarity 2.
         mode: u16,
         /// How many bits a word has.
         bits: u8,
         /// The greatest speed in Hz.
         speed: u32,
-        /// The type of device.
+        /// The type of device: 0 plain, 1 a NOR flash, 2 the one that the name says.
         device: u8,
         /// The name, in 32 bytes.
         name: &'a [u8],

@@ -44,7 +44,7 @@ pub enum UartAsk<'a> {
         parity: u8,
         /// How many bits a character has.
         bits: u8,
-        /// The flow control.
+        /// The flow control: 1 is automatic RTS and CTS.
         flow: u8,
     },
     /// Sets the control lines.
@@ -59,7 +59,7 @@ pub enum UartAsk<'a> {
     },
     /// Tells of the state of the serial lines. The module makes this request.
     SerialState {
-        /// The lines.
+        /// The lines: DCD 1, DSR 2, RI 4.
         control: u8,
     },
     /// Gives credits. The module makes this request.

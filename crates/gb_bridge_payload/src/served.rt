@@ -1,0 +1,37 @@
+//! What a device answers.
+
+ghost use Rattle.std.specs.Prelude.{◌≡◌, [], IfOk};
+ghost use Rattle.gb_formats.specs.Results.{answer_of, refusal_of};
+
+use crate::results::SUCCESS;
+use gb_base::{Bytes, OutOfMemory, OwnAsks, Served};
+use std::alloc::Global;
+
+/// The answer of success with this payload, and no requests of the device's own.
+pub fn answered(alloc: Global, payload: &[u8]) -> Result<Served, OutOfMemory>
+    ensures { IfOk result (λ served. served ≡ answer_of payload.now) }
+{
+    Ok(Served {
+        result: SUCCESS,
+        payload: Bytes::from_slice(alloc, payload)?,
+        asks: OwnAsks::new(alloc),
+    })
+}
+
+/// The answer of success with no payload. It takes no memory.
+pub fn done(alloc: Global) -> Served
+    ensures { result ≡ answer_of [] }
+{
+    refused(alloc, SUCCESS)
+}
+
+/// The answer of a result alone. It takes no memory.
+pub fn refused(alloc: Global, code: u8) -> Served
+    ensures { result ≡ refusal_of code }
+{
+    Served {
+        result: code,
+        payload: Bytes::new(alloc),
+        asks: OwnAsks::new(alloc),
+    }
+}
