@@ -1,22 +1,23 @@
-//! What bridge lines ask of an SPI device, and what its answers say.
+//! What bridge lines ask of an SPI device.
 
 ghost use Rattle.std.specs.Prelude.{◌≡◌, length};
 ghost use Rattle.gb_base.specs.declared.bridge.BridgeAsk.TheVariants as ask_is;
 ghost use Rattle.gb_bridge_payload.specs.Serving.{BridgesAs};
-ghost use Rattle.gb_formats.specs.Bridges.{bridge_answer, reading_of};
+ghost use Rattle.gb_formats.specs.Bridges.{bridge_answer};
 ghost use Rattle.gb_formats.specs.Protocols.{spi_protocol};
 ghost use Rattle.gb_formats.specs.Results.{most_payload};
 
 use crate::ops::{fields, payload_fits, reads_fit, written};
-use gb_base::{BridgeAsk, Bridged, Reading, SpiOp};
+use gb_base::{BridgeAsk, Bridged, SpiOp};
 use gb_bridge_payload::spi_kinds::{DEVICE_CONFIG, MASTER_CONFIG, TRANSFER};
-use gb_bridge_payload::{BridgeFault, SpiReply, put_behind};
+use gb_bridge_payload::{BridgeFault, put_behind};
 use gb_payload::Field::{Bytes, U8, U16};
 use gb_payload::put;
 
-/// Writes the payload of a bridge line's request to the front of `out`, which has 2,040 bytes.
-/// TooLarge where it has more or the entries read more than 2,040 bytes, Unsupported where the line
-/// asks for another protocol, and `out` is then unchanged.
+/// The request that a bridge line becomes: its type, and its payload at the front of `out`, which
+/// has 2,040 bytes. Unsupported exactly where the line asks for another protocol, TooLarge exactly
+/// where the payload has more than 2,040 bytes or the reads add up to more. Where there is no
+/// request, `out` is unchanged.
 pub fn bridge(ask: &BridgeAsk, out: &mut [u8]) -> Result<Bridged, BridgeFault>
     requires { length out.old ≡ most_payload }
     ensures { BridgesAs (bridge_answer spi_protocol ask.now) out.old out.new result }
@@ -35,7 +36,7 @@ pub fn bridge(ask: &BridgeAsk, out: &mut [u8]) -> Result<Bridged, BridgeFault>
     }
 }
 
-/// Writes the payload of a transfer to the front of `out`.
+/// The request of a transfer.
 fn transfer(select: u8, mode: u8, ops: &[SpiOp], out: &mut [u8]) -> Result<Bridged, BridgeFault>
     requires { length out.old ≡ most_payload }
     ensures { BridgesAs (bridge_answer spi_protocol (ask_is.SpiTransfer select mode ops.now))
@@ -55,20 +56,4 @@ fn transfer(select: u8, mode: u8, ops: &[SpiOp], out: &mut [u8]) -> Result<Bridg
         kind: TRANSFER,
         len: at,
     })
-}
-
-/// What an answer of success to a request of this type says for the report: the number of chip
-/// selects of a configuration of the controller, and Bad where the payload is none. Nothing for
-/// other types.
-pub fn reading(kind: u8, payload: &[u8]) -> Reading
-    ensures { result ≡ reading_of spi_protocol kind payload.now }
-{
-    if kind != MASTER_CONFIG {
-        return Reading::Nothing;
-    }
-    match SpiReply::read(kind, payload) {
-        Ok(SpiReply::MasterConfig { selects, .. }) => Reading::Number(u32::from(selects)),
-        Ok(_) => Reading::Nothing,
-        Err(_) => Reading::Bad,
-    }
 }

@@ -42,8 +42,8 @@ const CONFIG_SIZE: usize = 40;
 /// The greatest mode.
 const MOST_MODE: u8 = 3;
 
-/// An SPI device at chip select 0. It keeps the last byte that was written, and a contract sees it as
-/// that number.
+/// The SPI device of a module (Greybus Specification, "SPI Protocol"): an echo at chip select 0. It
+/// keeps the last byte that was written, first 0, and a contract sees it as that number.
 #[derive(Drop)]
 pub struct Device {
     last: u8,
@@ -66,7 +66,7 @@ impl Device {
         Ok(Device { last: 0, alloc })
     }
 
-    /// Answers a request. After want of memory the device is as before.
+    /// Serves a request of the application processor. After want of memory the device is as before.
     pub fn serve(&mut self, kind: u8, payload: &[u8]) -> Result<Served, OutOfMemory>
         ensures { ServesAs (spi_step self.old kind payload.now) self.old self.new result }
     {
@@ -90,7 +90,8 @@ impl Device {
     fn config(&self, reply: SpiReply<'_>) -> Result<Served, OutOfMemory>
         requires record { IsSpiReply (spi_reply_of reply) }
         requires room { length (spi_reply_payload (spi_reply_of reply)) ≤ 40 }
-        ensures { IfOk result (λ served. served ≡ answer_of (spi_reply_payload (spi_reply_of reply.entry))) }
+        ensures { IfOk result
+            (λ served. served ≡ answer_of (spi_reply_payload (spi_reply_of reply.entry))) }
     {
         let mut out = [0; CONFIG_SIZE];
         let Ok(size) = reply.write(&mut out) else {
@@ -99,7 +100,7 @@ impl Device {
         answered(self.alloc, &out[..size])
     }
 
-    /// Answers a transfer.
+    /// Serves a transfer.
     fn transfer(
         &mut self,
         select: u8,
@@ -108,7 +109,8 @@ impl Device {
         bytes: &[u8],
     ) -> Result<Served, OutOfMemory>
         requires { length bytes.now ≡ sum_by entry_written_size (entries_in entries.now) }
-        ensures { ServesAs (spi_transfer_step self.old select mode (entries_in entries.now) bytes.now)
+        ensures { ServesAs
+            (spi_transfer_step self.old select mode (entries_in entries.now) bytes.now)
             self.old self.new result }
     {
         if mode > MOST_MODE || is_any_strange(entries) {
@@ -120,9 +122,9 @@ impl Device {
         if !reads_fit(entries) {
             return Ok(refused(self.alloc, OVERFLOW));
         }
-        let done = run(self.alloc, self.last, entries, bytes)?;
-        let served = answered(self.alloc, &done.read)?;
-        self.last = done.last;
+        let progress = run(self.alloc, self.last, entries, bytes)?;
+        let served = answered(self.alloc, &progress.read)?;
+        self.last = progress.last;
         Ok(served)
     }
 }

@@ -31,8 +31,8 @@ impl<'a> Entries<'a> {
         Entries { rest: bytes }
     }
 
-    /// The next entry, None where there is none left.
-    pub fn next(&mut self) -> Option<TransferEntry>
+    /// Takes the first entry away. None where there is none left.
+    pub fn take_first(&mut self) -> Option<TransferEntry>
         ensures { MatchOption result ((self.old ≡ []) × (self.new ≡ []))
             (λ entry. self.old ≡ entry_of entry ∷ self.new) }
     {

@@ -21,7 +21,7 @@ pub fn is_any_strange(entries: &[u8]) -> bool
     ensures { result ≡ list_any is_strange (entries_in entries.now) }
 {
     let mut left = Entries::of(entries);
-    while let Some(entry) = left.next() {
+    while let Some(entry) = left.take_first() {
         if entry.bits != 8 || entry.flags > 7 {
             return true;
         }
@@ -35,7 +35,7 @@ pub fn reads_fit(entries: &[u8]) -> bool
 {
     let mut room = MOST_PAYLOAD;
     let mut left = Entries::of(entries);
-    while let Some(entry) = left.next() {
+    while let Some(entry) = left.take_first() {
         let Some(rest) = room.checked_sub(entry.read_size() as usize) else {
             return false;
         };
@@ -44,38 +44,42 @@ pub fn reads_fit(entries: &[u8]) -> bool
     true
 }
 
-/// What is left of a transfer that was done.
+/// What the entries so far did.
 #[derive(Drop)]
-pub struct Done {
-    /// The last byte that was written, that transfer or an earlier one.
+pub struct Progress {
+    /// The last byte that was written, by them or before them.
     pub last: u8,
-    /// The bytes that were read.
+    /// The bytes that they read.
     pub read: Vec<u8>,
 }
 
 /// Does the entries in order, which read at most 2,040 bytes. `last` is the last byte that was
 /// written before them.
-pub fn run(alloc: Global, last: u8, entries: &[u8], bytes: &[u8]) -> Result<Done, OutOfMemory>
+pub fn run(alloc: Global, last: u8, entries: &[u8], bytes: &[u8]) -> Result<Progress, OutOfMemory>
     requires room { sum_by entry_read_size (entries_in entries.now) ≤ most_payload }
     requires written { length bytes.now ≡ sum_by entry_written_size (entries_in entries.now) }
-    ensures { IfOk result (λ done.
-        entries_run last bytes.now [] (entries_in entries.now) ≡ tells done.last done.read.items) }
+    ensures { IfOk result (λ progress.
+        entries_run last bytes.now [] (entries_in entries.now) ≡ tells progress.last progress.read.items) }
 {
-    let mut done = Done {
+    let mut progress = Progress {
         last,
         read: Vec::new(alloc),
     };
     let mut later = bytes;
     let mut left = Entries::of(entries);
-    while let Some(entry) = left.next() {
-        later = done.entry(entry, later)?;
+    while let Some(entry) = left.take_first() {
+        later = progress.advance(entry, later)?;
     }
-    Ok(done)
+    Ok(progress)
 }
 
-impl Done {
+impl Progress {
     /// Does one more entry, and answers what follows its bytes.
-    fn entry<'a>(&mut self, entry: TransferEntry, bytes: &'a [u8]) -> Result<&'a [u8], OutOfMemory>
+    fn advance<'a>(
+        &mut self,
+        entry: TransferEntry,
+        bytes: &'a [u8],
+    ) -> Result<&'a [u8], OutOfMemory>
         requires written { entry_written_size (entry_of entry) ≤ length bytes.now }
         requires room { length self.old.read.items + entry_read_size (entry_of entry) ≤ most_payload }
         ensures later { IfOk result

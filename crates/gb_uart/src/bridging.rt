@@ -1,24 +1,24 @@
-//! What bridge lines ask of a UART, and what its answers say.
+//! What bridge lines ask of a UART.
 
 ghost use Rattle.std.specs.Prelude.{◌≡◌, length};
 ghost use Rattle.gb_bridge_payload.specs.Conditions.{IsUartAsk};
 ghost use Rattle.gb_bridge_payload.specs.Serving.{BridgesAs};
 ghost use Rattle.gb_bridge_payload.specs.Views.{uart_ask_of};
-ghost use Rattle.gb_formats.specs.Bridges.{bridge_answer, reading_of};
+ghost use Rattle.gb_formats.specs.Bridges.{bridge_answer};
 ghost use Rattle.gb_formats.specs.Protocols.{uart_protocol};
 ghost use Rattle.gb_formats.specs.Results.{most_payload};
 ghost use Rattle.gb_formats.specs.UartRecords.{uart_ask_kind, uart_ask_payload};
 ghost use Rattle.gb_uart.specs.Fitting.{fitting};
 
 use crate::device::MOST_SENT;
-use gb_base::{BridgeAsk, Bridged, Reading};
+use gb_base::{BridgeAsk, Bridged};
 use gb_bridge_payload::{BridgeFault, UartAsk};
 use gb_payload::Field::U8;
 use gb_payload::put;
 
-/// Writes the payload of a bridge line's request to the front of `out`, which has 2,040 bytes.
-/// TooLarge where more than 2,037 bytes are to be sent, Unsupported where the line asks for another
-/// protocol, and `out` is then unchanged.
+/// The request that a bridge line becomes: its type, and its payload at the front of `out`, which
+/// has 2,040 bytes. Unsupported exactly where the line asks for another protocol, TooLarge exactly
+/// where more than 2,037 bytes are to be sent. Where there is no request, `out` is unchanged.
 pub fn bridge(ask: &BridgeAsk, out: &mut [u8]) -> Result<Bridged, BridgeFault>
     requires { length out.old ≡ most_payload }
     ensures { BridgesAs (bridge_answer uart_protocol ask.now) out.old out.new result }
@@ -58,14 +58,7 @@ pub fn bridge(ask: &BridgeAsk, out: &mut [u8]) -> Result<Bridged, BridgeFault>
     }
 }
 
-/// What an answer of success to a request of this type says for the report: nothing.
-pub fn reading(_kind: u8, _payload: &[u8]) -> Reading
-    ensures { result ≡ reading_of uart_protocol _kind _payload.now }
-{
-    Reading::Nothing
-}
-
-/// Writes a record to the front of `out`. TooLarge where it doesn't fit.
+/// The request that a record is.
 fn write(ask: UartAsk<'_>, out: &mut [u8]) -> Result<Bridged, BridgeFault>
     requires record { IsUartAsk (uart_ask_of ask) }
     requires room { length out.old ≡ most_payload }

@@ -21,7 +21,8 @@ const MOST_PAYLOAD: usize = 2040;
 /// The most bytes that one request may send.
 pub const MOST_SENT: usize = 2037;
 
-/// A UART that sends back what it is sent. It keeps nothing between requests.
+/// The UART device of a module (Greybus Specification, "UART Protocol"): an echo, which sends back
+/// what it is sent. It keeps nothing between requests.
 #[derive(Drop)]
 pub struct Device {
     alloc: Global,
@@ -43,7 +44,7 @@ impl Device {
         Ok(Device { alloc })
     }
 
-    /// Answers a request.
+    /// Serves a request of the application processor.
     pub fn serve(&mut self, kind: u8, payload: &[u8]) -> Result<Served, OutOfMemory>
         ensures { IfOk result (λ served. served ≡ formats.uart_step kind payload.now) }
     {
@@ -63,7 +64,7 @@ impl Device {
         self.own(UartAsk::SerialState { control })
     }
 
-    /// Answers a record.
+    /// Serves a request that was read.
     fn answer(&self, ask: UartAsk<'_>) -> Result<Served, OutOfMemory>
         ensures { IfOk result (λ served. served ≡ formats.uart_asked (uart_ask_of ask.entry)) }
     {
@@ -154,5 +155,5 @@ fn is_own(kind: u8) -> bool
 fn is_coding(format: u8, parity: u8, bits: u8, flow: u8) -> bool
     ensures { result ≡ formats.is_coding format parity bits flow }
 {
-    format <= 2 && parity <= 4 && 5 <= bits && bits <= 8 && flow <= 1
+    format <= 2 && parity <= 4 && (5..=8).contains(&bits) && flow <= 1
 }

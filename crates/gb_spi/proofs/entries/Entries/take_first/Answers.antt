@@ -1,5 +1,5 @@
 use Rattle.gb_spi.proofs.Stepping.{entries_more}
-use Rattle.gb_spi.proofs.entries.Entries.next.Goals as goal
+use Rattle.gb_spi.proofs.entries.Entries.take_first.Goals as goal
 
 pub returns : goal.returns
 returns c =
