@@ -191,49 +191,29 @@ fn bridge_lines(rt: HostRuntime) -> Result<(), Fail> {
 #[test]
 fn limits_of_bridge_lines(rt: HostRuntime) -> Result<(), Fail> {
     let alloc = rt.alloc();
-    let rows = [
-        (
-            2023,
-            0,
-            Ok(Bridged {
-                kind: 0x04,
-                len: 2040,
-            }),
-        ),
-        (2024, 0, Err(BridgeFault::TooLarge)),
-        (
-            0,
-            2040,
-            Ok(Bridged {
-                kind: 0x04,
-                len: 30,
-            }),
-        ),
-        (0, 2041, Err(BridgeFault::TooLarge)),
-        (
-            10,
-            2030,
-            Ok(Bridged {
-                kind: 0x04,
-                len: 40,
-            }),
-        ),
-        (10, 2031, Err(BridgeFault::TooLarge)),
+    let bytes = [9; 2011];
+    let rows: [(&[u8], u16, Result<usize, BridgeFault>); 6] = [
+        (&bytes[..2010], 0, Ok(2040)),
+        (&bytes, 0, Err(BridgeFault::TooLarge)),
+        (&[], 2040, Ok(30)),
+        (&[], 2041, Err(BridgeFault::TooLarge)),
+        (&bytes[..10], 2030, Ok(40)),
+        (&bytes[..10], 2031, Err(BridgeFault::TooLarge)),
     ];
-    for (size, len, answer) in rows {
+    for (bytes, len, answer) in rows {
         let mut ops = SpiOps::new(alloc);
         ops.push(SpiOp::Both {
-            bytes: Bytes::from_slice(alloc, &[9; 2024][..size])?,
+            bytes: Bytes::from_slice(alloc, bytes)?,
         })?;
-        if len > 0 {
-            ops.push(SpiOp::Get { len })?;
-        }
-        let (select, mode) = (0, 0);
+        ops.push(SpiOp::Get { len })?;
+        let ask = BridgeAsk::SpiTransfer {
+            select: 0,
+            mode: 0,
+            ops,
+        };
         let mut out = [0xff; 2040];
-        assert_eq!(rt;
-            bridge(&BridgeAsk::SpiTransfer { select, mode, ops }, &mut out),
-            answer
-        );
+        let bridged = answer.map(|len| Bridged { kind: 0x04, len });
+        assert_eq!(rt; bridge(&ask, &mut out), bridged);
     }
     Ok(())
 }

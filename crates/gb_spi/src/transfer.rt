@@ -58,8 +58,8 @@ pub struct Progress {
 pub fn run(alloc: Global, last: u8, entries: &[u8], bytes: &[u8]) -> Result<Progress, OutOfMemory>
     requires room { sum_by entry_read_size (entries_in entries.now) ≤ most_payload }
     requires written { length bytes.now ≡ sum_by entry_written_size (entries_in entries.now) }
-    ensures { IfOk result (λ progress.
-        entries_run last bytes.now [] (entries_in entries.now) ≡ tells progress.last progress.read.items) }
+    ensures { IfOk result (λ progress. entries_run last bytes.now [] (entries_in entries.now)
+        ≡ tells progress.last progress.read.items) }
 {
     let mut progress = Progress {
         last,
@@ -81,7 +81,8 @@ impl Progress {
         bytes: &'a [u8],
     ) -> Result<&'a [u8], OutOfMemory>
         requires written { entry_written_size (entry_of entry) ≤ length bytes.now }
-        requires room { length self.old.read.items + entry_read_size (entry_of entry) ≤ most_payload }
+        requires room { length self.old.read.items + entry_read_size (entry_of entry)
+            ≤ most_payload }
         ensures later { IfOk result
             (λ later. later.now ≡ drop (entry_written_size (entry_of entry)) bytes.now) }
         ensures last { OnOk result (self.new.last

@@ -24,32 +24,31 @@ pub fn bridge(ask: &BridgeAsk, out: &mut [u8]) -> Result<Bridged, BridgeFault>
     ensures { BridgesAs (bridge_answer uart_protocol ask.now) out.old out.new result }
 {
     match ask {
-        BridgeAsk::UartSend { bytes } => {
-            if bytes.items().len() > MOST_SENT {
-                return Err(BridgeFault::TooLarge);
-            }
-            let bytes = bytes.items();
-            write(UartAsk::SendData { bytes }, out)
+        BridgeAsk::UartSend { bytes } if bytes.items().len() > MOST_SENT => {
+            Err(BridgeFault::TooLarge)
         }
+        BridgeAsk::UartSend { bytes } => write(
+            UartAsk::SendData {
+                bytes: bytes.items(),
+            },
+            out,
+        ),
         BridgeAsk::UartCoding {
             rate,
             format,
             parity,
             bits,
             flow,
-        } => {
-            let (rate, format, parity, bits, flow) = (*rate, *format, *parity, *bits, *flow);
-            write(
-                UartAsk::SetLineCoding {
-                    rate,
-                    format,
-                    parity,
-                    bits,
-                    flow,
-                },
-                out,
-            )
-        }
+        } => write(
+            UartAsk::SetLineCoding {
+                rate: *rate,
+                format: *format,
+                parity: *parity,
+                bits: *bits,
+                flow: *flow,
+            },
+            out,
+        ),
         BridgeAsk::UartByte { kind, value } => Ok(Bridged {
             kind: *kind,
             len: put(&[U8(*value)], out)?,
