@@ -15,45 +15,57 @@ const MASTER: &[u8] = b"\x80\0\0\0\xe8\x03\0\0@B\x0f\0\x03\0\0\0\x01";
 const ECHO: &[u8] =
     b"\0\0\x08@B\x0f\0\0echo\0\0\0\0\0\0\0\0\0\0\0\0\0\0\0\0\0\0\0\0\0\0\0\0\0\0\0\0";
 
-/// Transfers of chip select 0 and mode 0: the number of entries, the entries and what they write.
-/// The letters tell what an entry does: `x` writes and reads, `w` writes, `r` reads.
-const R1: &[u8] = b"\0\0\x01\0@B\x0f\0\x01\0\0\0\0\0\0\x08\x01";
+/// Transfers of chip select 0: mode, the number of entries, the entries and what they write. The
+/// names tell how many bytes each entry reads, writes or both. `MORE` has flag 4 too.
+const READ_1: &[u8] = b"\0\0\x01\0@B\x0f\0\x01\0\0\0\0\0\0\x08\x01";
 
-const R3: &[u8] = b"\0\0\x01\0@B\x0f\0\x03\0\0\0\0\0\0\x08\x01";
+const READ_3: &[u8] = b"\0\0\x01\0@B\x0f\0\x03\0\0\0\0\0\0\x08\x01";
 
-const X2_R2: &[u8] = b"\0\0\x02\0\
+const BOTH_2_READ_2: &[u8] = b"\0\0\x02\0\
     @B\x0f\0\x02\0\0\0\0\0\0\x08\x03@B\x0f\0\x02\0\0\0\0\0\0\x08\x01\x01\x02";
 
-const W2: &[u8] = b"\0\0\x01\0@B\x0f\0\x02\0\0\0\0\0\0\x08\x02\x03\x04";
+const WRITE_2: &[u8] = b"\0\0\x01\0@B\x0f\0\x02\0\0\0\0\0\0\x08\x02\x03\x04";
 
-const X0: &[u8] = b"\0\0\x01\0@B\x0f\0\0\0\0\0\0\0\0\x08\x03";
+const BOTH_0: &[u8] = b"\0\0\x01\0@B\x0f\0\0\0\0\0\0\0\0\x08\x03";
 
-const NEITHER5: &[u8] = b"\0\0\x01\0@B\x0f\0\x05\0\0\0\0\0\0\x08\0";
+const NEITHER_5: &[u8] = b"\0\0\x01\0@B\x0f\0\x05\0\0\0\0\0\0\x08\0";
 
-const R2_FLAG_4: &[u8] = b"\0\0\x01\0@B\x0f\0\x02\0\0\0\0\0\0\x08\x05";
+const READ_2_MORE: &[u8] = b"\0\0\x01\0@B\x0f\0\x02\0\0\0\0\0\0\x08\x05";
 
-const W1_FLAG_4: &[u8] = b"\0\0\x01\0@B\x0f\0\x01\0\0\0\0\0\0\x08\x06\x09";
+const WRITE_1_MORE: &[u8] = b"\0\0\x01\0@B\x0f\0\x01\0\0\0\0\0\0\x08\x06\x09";
 
-const R1_X1_R1: &[u8] = b"\0\x03\x03\0@B\x0f\0\x01\0\0\0\0\0\0\x08\x01\
+const READ_BOTH_READ: &[u8] = b"\0\x03\x03\0@B\x0f\0\x01\0\0\0\0\0\0\x08\x01\
     \0\0\0\0\x01\0\0\0\x07\0\x01\x08\x07@B\x0f\0\x01\0\0\0\0\0\0\x08\x01\x0a";
 
 /// Requests in order, which are served.
 const SERVED: [Row<'_>; 15] = [
     (0x02, b"", 0x00, MASTER, Reading::Number(1)),
     (0x03, b"\0", 0x00, ECHO, Reading::Nothing),
-    (0x04, R3, 0x00, b"\0\0\0", Reading::Nothing),
-    (0x04, X2_R2, 0x00, b"\x01\x02\x02\x02", Reading::Nothing),
-    (0x04, R1, 0x00, b"\x02", Reading::Nothing),
-    (0x04, W2, 0x00, b"", Reading::Nothing),
-    (0x04, R3, 0x00, b"\x04\x04\x04", Reading::Nothing),
-    (0x04, X0, 0x00, b"", Reading::Nothing),
-    (0x04, NEITHER5, 0x00, b"", Reading::Nothing),
-    (0x04, R2_FLAG_4, 0x00, b"\x04\x04", Reading::Nothing),
-    (0x04, W1_FLAG_4, 0x00, b"", Reading::Nothing),
-    (0x04, R1_X1_R1, 0x00, b"\x09\x0a\x0a", Reading::Nothing),
+    (0x04, READ_3, 0x00, b"\0\0\0", Reading::Nothing),
+    (
+        0x04,
+        BOTH_2_READ_2,
+        0x00,
+        b"\x01\x02\x02\x02",
+        Reading::Nothing,
+    ),
+    (0x04, READ_1, 0x00, b"\x02", Reading::Nothing),
+    (0x04, WRITE_2, 0x00, b"", Reading::Nothing),
+    (0x04, READ_3, 0x00, b"\x04\x04\x04", Reading::Nothing),
+    (0x04, BOTH_0, 0x00, b"", Reading::Nothing),
+    (0x04, NEITHER_5, 0x00, b"", Reading::Nothing),
+    (0x04, READ_2_MORE, 0x00, b"\x04\x04", Reading::Nothing),
+    (0x04, WRITE_1_MORE, 0x00, b"", Reading::Nothing),
+    (
+        0x04,
+        READ_BOTH_READ,
+        0x00,
+        b"\x09\x0a\x0a",
+        Reading::Nothing,
+    ),
     (0x04, b"\0\0\0\0", 0x00, b"", Reading::Nothing),
     (0x04, b"\0\x03\0\0", 0x00, b"", Reading::Nothing),
-    (0x04, R1, 0x00, b"\x0a", Reading::Nothing),
+    (0x04, READ_1, 0x00, b"\x0a", Reading::Nothing),
 ];
 
 /// Requests that are refused: type, payload and result. INVALID comes before NONEXISTENT, and that
@@ -101,10 +113,13 @@ fn requests(rt: HostRuntime) -> Result<(), Fail> {
         assert_eq!(rt; served.result, result);
         assert!(rt; served.payload.items().is_empty());
     }
-    assert_eq!(rt; device.serve(0x04, R1)?.payload.items(), b"\x0a".as_slice());
-    let r2040 = b"\0\0\x01\0@B\x0f\0\xf8\x07\0\0\0\0\0\x08\x01";
     assert_eq!(rt;
-        device.serve(0x04, r2040)?.payload.items(),
+        device.serve(0x04, READ_1)?.payload.items(),
+        b"\x0a".as_slice()
+    );
+    let read_2040 = b"\0\0\x01\0@B\x0f\0\xf8\x07\0\0\0\0\0\x08\x01";
+    assert_eq!(rt;
+        device.serve(0x04, read_2040)?.payload.items(),
         [0x0a; 2040].as_slice()
     );
     Ok(())
@@ -163,13 +178,18 @@ fn bridge_lines(rt: HostRuntime) -> Result<(), Fail> {
         &rt,
         &BridgeAsk::SpiTransfer { select, mode, ops },
         0x04,
-        X2_R2,
+        BOTH_2_READ_2,
     );
     let mut ops = SpiOps::new(alloc);
     ops.push(SpiOp::Put {
         bytes: Bytes::from_slice(alloc, b"\x03\x04")?,
     })?;
-    becomes(&rt, &BridgeAsk::SpiTransfer { select, mode, ops }, 0x04, W2);
+    becomes(
+        &rt,
+        &BridgeAsk::SpiTransfer { select, mode, ops },
+        0x04,
+        WRITE_2,
+    );
     let ops = SpiOps::new(alloc);
     let (select, mode) = (9, 255);
     becomes(
