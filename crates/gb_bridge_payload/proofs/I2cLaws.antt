@@ -1,5 +1,5 @@
 -- What reading and writing records of the I2C protocol means.
-use Rattle.std.proofs.Common.{◌≡◌, ◌≢◌, ◌≤◌, ◌+◌, ◌-◌, ◌*◌, ◌/◌, min, ℕ, cond, Ok, Err, None, List, [], ◌∷◌, ◌++◌, length, take, drop, sum_by, rules, refl, arith, sym, ap, ap₂, ◌∙◌, length-append, length-take-le, take-append-drop, drop-drop}
+use Rattle.std.proofs.Common.{◌≡◌, ◌≢◌, ◌<◌, ◌≤◌, ◌+◌, ◌-◌, ◌*◌, ◌/◌, min, ℕ, cond, Ok, Err, None, List, [], ◌∷◌, ◌++◌, length, take, drop, sum_by, rules, refl, arith, sym, ap, ap₂, ◌∙◌, length-append, length-drop, length-take-le, take-append-drop, drop-drop}
 use Rattle.std.proofs.lemmas.List.{take_at, drop_at}
 use Rattle.std.proofs.lemmas.List.Sums.{sum_by-cons}
 use Rattle.byteorder.specs.Endian.{little_number}
@@ -12,7 +12,7 @@ use Rattle.gb_payload.specs.Answers.{HasSize, fault_of}
 use Rattle.gb_payload.specs.declared.fault.PayloadFault as code
 use Rattle.gb_payload.proofs.Places.{whole_is, whole_is_not}
 use Rattle.gb_payload.proofs.Tables.{AreSpelt, means_whole, row_of}
-use Rattle.gb_bridge_payload.specs.Conditions.{IsI2cAsk}
+use Rattle.gb_bridge_payload.specs.Conditions.{AreOps, IsI2cAsk}
 use Rattle.gb_bridge_payload.specs.Protocols as formats
 use Rattle.gb_bridge_payload.proofs.Numbers.{Agree, agree_front, agree_less, number_in_front, number_same_at, two_bytes}
 use Rattle.gb_bridge_payload.proofs.Transfers.{AreItems, behind, items_same, size_told, transfer_is_size, transfer_size, what_follows}
@@ -127,6 +127,20 @@ transfer_taken payload front count written t long =
     whole_is (transfer_length payload) payload (transfer_made payload) (long ∙ sym t.size)
     ∙ ap (λ (n : ℕ). Ok (I2cAsk.Transfer (take (op_size * n) (drop 2 payload)) (drop (2 + op_size * n) payload))) (sym t.counted)
     ∙ ap₂ (λ (xs ys : List ℕ). Ok (I2cAsk.Transfer xs ys)) (sym t.ops) (sym (what_follows (2 + op_size * count) payload))
+
+-- it has whole ops and as much data as they write
+pub transfer_has_form : (payload front : List ℕ) (count written : ℕ) → count < 65536 → 2 + op_size * count ≤ length payload → front ≡ take (2 + op_size * count) payload → written ≡ ops_weight count (take (length front - 2) (drop 2 front)) → length payload ≡ 2 + op_size * count + written → AreOps (take (length front - 2) (drop 2 front)) (take (length payload - (2 + op_size * count)) (drop (2 + op_size * count) payload))
+transfer_has_form payload front count written few room is_front weighed long =
+    let ops = take (length front - 2) (drop 2 front) in
+    let behind_count = length-drop 2 payload in
+    let ops_long : length ops ≡ op_size * count = ap (λ (xs : List ℕ). length xs) (behind 2 (op_size * count) payload front room is_front) ∙ length-take-le (op_size * count) (drop 2 payload) (omega (arith, behind_count, room)) in
+    let n : length ops / op_size ≡ count = divided count (length ops) ops_long in
+    let rest = length-drop (2 + op_size * count) payload in
+    record {
+      whole = ops_long ∙ ap (λ (k : ℕ). op_size * k) (sym n);
+      count = omega (arith, n, few);
+      written = ap (λ (xs : List ℕ). length xs) (what_follows (2 + op_size * count) payload) ∙ omega (arith, rest, long) ∙ weighed ∙ ap (λ (k : ℕ). ops_weight k ops) (sym n);
+    }
 
 -- ---- writing
 

@@ -37,6 +37,7 @@ impl<'a> I2cAsk<'a> {
     pub fn read(kind: u8, payload: &'a [u8]) -> Result<I2cAsk<'a>, PayloadFault>
         ensures answer { Answers i2c_ask_of (read_i2c_ask kind payload.now) result }
         ensures means { Means i2c_asks i2c_ask_of kind payload.now result }
+        ensures form { IfOk result (λ ask. IsI2cAsk (i2c_ask_of ask)) }
     {
         row(kind, payload)
     }
@@ -71,7 +72,8 @@ impl<'a> I2cAsk<'a> {
 
 /// The record of a type that a payload is.
 fn row(kind: u8, payload: &[u8]) -> Result<I2cAsk<'_>, PayloadFault>
-    ensures { Answers i2c_ask_of (read_i2c_ask kind payload.now) result }
+    ensures answer { Answers i2c_ask_of (read_i2c_ask kind payload.now) result }
+    ensures form { IfOk result (λ ask. IsI2cAsk (i2c_ask_of ask)) }
 {
     match kind {
         FUNCTIONALITY => read_record!(payload => I2cAsk::Functionality),
@@ -82,8 +84,9 @@ fn row(kind: u8, payload: &[u8]) -> Result<I2cAsk<'_>, PayloadFault>
 
 /// A transfer: the count of the ops, the ops, and the data.
 fn transfer(payload: &[u8]) -> Result<I2cAsk<'_>, PayloadFault>
-    ensures { Answers i2c_ask_of
+    ensures answer { Answers i2c_ask_of
         (read_i2c_transfer (little_number 2 payload.now) payload.now) result }
+    ensures form { IfOk result (λ ask. IsI2cAsk (i2c_ask_of ask)) }
 {
     let count = LittleEndian::read_u16(front(payload, 2)?);
     let end = 2 + OP_SIZE * count as usize;

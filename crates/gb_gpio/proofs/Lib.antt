@@ -1,0 +1,3 @@
+pub mod Bridged
+pub mod Levels
+pub mod Refusals

@@ -1,0 +1,6 @@
+use Rattle.gb_gpio.proofs.Bridged.{bridged}
+use Rattle.gb_gpio.proofs.bridging.bridge.Goals as goal
+
+pub returns-in_ok-len-in-Gpio : goal.returns-in_ok-len-in-Gpio
+returns-in_ok-len-in-Gpio c =
+    rw c.in-Gpio.is (bridged c.in-Gpio.kind c.in-Gpio.line c.in-Gpio.value c.in_ok-len-in-Gpio.len c.args.out.now c.write.new.out c.in_ok-len-in-Gpio.ensures)

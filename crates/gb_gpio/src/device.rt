@@ -1,0 +1,104 @@
+//! The device.
+
+ghost use Rattle.std.specs.Prelude.{◌≡◌, ◌≤◌, IfOk};
+ghost use Rattle.gb_bridge_payload.specs.Serving.{ServesAs};
+ghost use Rattle.gb_bridge_payload.specs.Views.{gpio_ask_of, gpio_reply_of};
+ghost use Rattle.gb_formats.specs.GpioDevice.{first_gpio, gpio_asked, gpio_level_set, gpio_step};
+ghost use Rattle.gb_formats.specs.GpioRecords.{gpio_reply_payload};
+ghost use Rattle.gb_formats.specs.Results.{answer_of};
+
+use crate::deciding::decide;
+use crate::effect::Effect;
+use crate::line::Line;
+use gb_base::{OutOfMemory, Served};
+use gb_bridge_payload::gpio_kinds::IRQ_EVENT;
+use gb_bridge_payload::{GpioAsk, GpioReply, PROTOCOL_BAD, answered, done, fault_result, refused};
+use std::alloc::Global;
+use std::marker::Model;
+
+/// How many lines there are.
+const LINES: usize = 8;
+
+/// The GPIO device of a module (Greybus Specification, "GPIO Protocol"): eight lines, numbered from
+/// 0. A contract sees the list of the lines.
+#[derive(Drop)]
+pub struct Device {
+    alloc: Global,
+    lines: [Line; LINES],
+}
+
+impl Model for Device {
+    ghost use Rattle.std.specs.Prelude.{List};
+    ghost use Rattle.gb_formats.specs.GpioDevice.{GpioLine};
+    ghost use Rattle.gb_gpio.specs.Views.{lines_of};
+
+    ghost Value = { List GpioLine };
+
+    ghost view = { λ d. lines_of d.lines };
+}
+
+impl Device {
+    /// A device in its first state: each line is inactive, in and masked, and all else is 0.
+    pub fn new(alloc: Global) -> Result<Device, OutOfMemory>
+        ensures { IfOk result (λ device. device ≡ first_gpio) }
+    {
+        Ok(Device {
+            alloc,
+            lines: [Line::first(0); LINES],
+        })
+    }
+
+    /// Serves a request of the application processor. After want of memory the device is as before.
+    pub fn serve(&mut self, kind: u8, payload: &[u8]) -> Result<Served, OutOfMemory>
+        ensures { ServesAs (gpio_step self.old kind payload.now) self.old self.new result }
+    {
+        if kind == IRQ_EVENT {
+            return Ok(refused(self.alloc, PROTOCOL_BAD));
+        }
+        match GpioAsk::read(kind, payload) {
+            Ok(ask) => self.serve_ask(ask),
+            Err(fault) => Ok(refused(self.alloc, fault_result(fault))),
+        }
+    }
+
+    /// Serves a request that was read.
+    fn serve_ask(&mut self, ask: GpioAsk) -> Result<Served, OutOfMemory>
+        ensures { ServesAs (gpio_asked self.old (gpio_ask_of ask)) self.old self.new result }
+    {
+        match decide(&self.lines, ask) {
+            Ok(Effect::Changes(which, line)) => {
+                self.lines[which as usize] = line;
+                Ok(done(self.alloc))
+            }
+            Ok(Effect::Tells(reply)) => tell(self.alloc, &reply),
+            Err(code) => Ok(refused(self.alloc, code)),
+        }
+    }
+
+    /// Sets the level of a line, from 0 to 7, from outside: 0 or 1. Answers the line where that is
+    /// an interrupt: it is active, in and not masked, and its interrupt type fits.
+    pub fn level(&mut self, line: u8, value: u8) -> Option<u8>
+        requires line { line ≤ 7 }
+        requires value { value ≤ 1 }
+        ensures lines { self.new ≡ (gpio_level_set self.old line value).lines }
+        ensures irq { result ≡ (gpio_level_set self.old line value).irq }
+    {
+        let was = self.lines[line as usize];
+        self.lines[line as usize] = Line {
+            level: value,
+            ..was
+        };
+        was.interrupts(value).then_some(line)
+    }
+}
+
+/// The answer of success with this response.
+fn tell(alloc: Global, reply: &GpioReply) -> Result<Served, OutOfMemory>
+    ensures { IfOk result (λ served. served ≡ answer_of (gpio_reply_payload (gpio_reply_of reply.now))) }
+{
+    let mut bytes = [0; 1];
+    let Ok(size) = reply.write(&mut bytes) else {
+        unreachable!()
+    };
+    answered(alloc, &bytes[..size])
+}

@@ -1,0 +1,17 @@
+//! The GPIO device of a module: eight lines, their requests, and what comes from outside.
+#![tactic(auto)]
+
+mod bridging;
+mod deciding;
+mod device;
+mod effect;
+mod irq;
+mod line;
+mod readings;
+#[cfg(test)]
+mod tests;
+
+pub use bridging::bridge;
+pub use device::Device;
+pub use gb_bridge_payload::BridgeFault;
+pub use readings::reading;

@@ -1,0 +1,5 @@
+pub mod Places
+pub mod Running
+pub mod Sizes
+pub mod Surveys
+pub mod Written

@@ -1,0 +1,125 @@
+//! The device.
+
+ghost use Rattle.std.specs.Prelude.{◌≡◌, ◌≤◌, ◌*◌, ◌/◌, ◌++◌, [], IfOk, OnOk, length};
+ghost use Rattle.gb_bridge_payload.specs.Conditions.{AreOps};
+ghost use Rattle.gb_bridge_payload.specs.Serving.{ServesAs};
+ghost use Rattle.gb_bridge_payload.specs.Views.{op_of};
+ghost use Rattle.gb_formats.specs.I2cDevice.{after_op, first_i2c, i2c_step, i2c_transfer_step, op_read_bytes, ops_run};
+ghost use Rattle.gb_formats.specs.I2cRecords.{op_size, op_written_size, ops_at};
+ghost use Rattle.gb_formats.specs.Results.{tells};
+ghost use Rattle.gb_i2c.specs.Counted.{AreCounted};
+
+use crate::memory::Memory;
+use crate::survey::check;
+use gb_base::{Bytes, OutOfMemory, OwnAsks, Served};
+use gb_bridge_payload::{I2cAsk, OP_SIZE, SUCCESS, TransferOp, answered, fault_result, refused};
+use std::alloc::Global;
+use std::marker::Model;
+
+/// What the adapter can do: plain I2C messages (in Linux's i2c.h `I2C_FUNC_I2C`).
+const FUNCTIONALITY: u32 = 1;
+
+/// The I2C device of a module (Greybus Specification, "I2C Protocol"): an adapter with a memory of
+/// 256 bytes at address 50 (hex). A contract sees the memory and its pointer.
+#[derive(Drop)]
+pub struct Device {
+    alloc: Global,
+    memory: Memory,
+}
+
+impl Model for Device {
+    ghost use Rattle.gb_formats.specs.I2cDevice.{I2cDevice};
+
+    ghost Value = { I2cDevice };
+
+    ghost view = { λ d. d.memory };
+}
+
+impl Device {
+    /// A device in its first state: byte i of its memory holds i, and the pointer is 0.
+    pub fn new(alloc: Global) -> Result<Device, OutOfMemory>
+        ensures { IfOk result (λ device. device ≡ first_i2c) }
+    {
+        Ok(Device {
+            alloc,
+            memory: Memory::first(),
+        })
+    }
+
+    /// Serves a request of the application processor. After want of memory the device is as before.
+    pub fn serve(&mut self, kind: u8, payload: &[u8]) -> Result<Served, OutOfMemory>
+        ensures { ServesAs (i2c_step self.old kind payload.now) self.old self.new result }
+    {
+        match I2cAsk::read(kind, payload) {
+            Ok(I2cAsk::Functionality) => answered(self.alloc, &FUNCTIONALITY.to_le_bytes()),
+            Ok(I2cAsk::Transfer { ops, data }) => self.transfer(ops, data),
+            Err(fault) => Ok(refused(self.alloc, fault_result(fault))),
+        }
+    }
+
+    /// Serves a transfer.
+    fn transfer(&mut self, ops: &[u8], bytes: &[u8]) -> Result<Served, OutOfMemory>
+        requires { AreOps ops.now bytes.now }
+        ensures { ServesAs
+            (i2c_transfer_step self.old (ops_at (length ops.now / op_size) ops.now) bytes.now)
+            self.old self.new result }
+    {
+        let count = (ops.len() / OP_SIZE) as u16;
+        if let Err(code) = check(count, ops) {
+            return Ok(refused(self.alloc, code));
+        }
+        let mut memory = self.memory;
+        let mut payload = Bytes::new(self.alloc);
+        run(count, ops, bytes, &mut memory, &mut payload)?;
+        self.memory = memory;
+        Ok(Served {
+            result: SUCCESS,
+            payload,
+            asks: OwnAsks::new(self.alloc),
+        })
+    }
+}
+
+/// Does so many ops in order, and adds the bytes that they read to `answer`.
+fn run(
+    count: u16,
+    ops: &[u8],
+    bytes: &[u8],
+    memory: &mut Memory,
+    answer: &mut Bytes,
+) -> Result<(), OutOfMemory>
+    requires { AreCounted count ops.now bytes.now }
+    ensures { OnOk result (ops_run memory.old bytes.now answer.old (ops_at count ops.now)
+        ≡ tells memory.new answer.new) }
+{
+    let mut ops = ops;
+    let mut bytes = bytes;
+    for _ in 0..count {
+        let (op, later) = TransferOp::first(ops);
+        let (written, left) = bytes.split_at(op.written_size() as usize);
+        apply(&op, written, memory, answer)?;
+        ops = later;
+        bytes = left;
+    }
+    Ok(())
+}
+
+/// Does an op, and adds the bytes that it reads to `answer`.
+fn apply(
+    op: &TransferOp,
+    bytes: &[u8],
+    memory: &mut Memory,
+    answer: &mut Bytes,
+) -> Result<(), OutOfMemory>
+    requires { length bytes.now ≡ op_written_size (op_of op.now) }
+    ensures memory { OnOk result
+        (memory.new ≡ after_op memory.old bytes.now (op_of op.now)) }
+    ensures answer { OnOk result
+        (answer.new ≡ answer.old ++ op_read_bytes memory.old (op_of op.now)) }
+{
+    if op.reads() {
+        return memory.read(op.size, answer);
+    }
+    memory.write(bytes);
+    Ok(())
+}
