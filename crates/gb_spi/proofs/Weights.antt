@@ -1,5 +1,5 @@
 -- A room from which the weights of a list are taken, one after the other.
-use Rattle.std.proofs.Common.{◌≡◌, ◌<◌, ◌≤◌, ◌+◌, ℕ, nat_le, nat_lt, true, false, List, [], ◌∷◌, sum_by, refl, arith, ap, ◌∙◌}
+use Rattle.std.proofs.Common.{◌≡◌, ◌<◌, ◌≤◌, ◌+◌, ℕ, nat_le, nat_lt, true, false, List, [], ◌∷◌, sum_by, arith, ap, ◌∙◌}
 use Rattle.std.proofs.lemmas.Bool.Decides.{nat_tests}
 use Rattle.std.proofs.lemmas.List.Sums.{sum_by-cons}
 
@@ -8,20 +8,8 @@ pub record Weighed {A : Type 0} (weight : A → ℕ) (room left : ℕ) (all rest
   pub kept : left + sum_by weight all ≡ room + sum_by weight rest
   pub bound : left ≤ room
 
--- nothing is weighed yet
-pub weighed_none : {A : Type 0} (weight : A → ℕ) (room : ℕ) (all : List A) → Weighed weight room room all all
-weighed_none weight room all = record { kept = refl; bound = omega arith }
-
 first_weight : {A : Type 0} (weight : A → ℕ) (rest later : List A) (x : A) → rest ≡ x ∷ later → sum_by weight rest ≡ weight x + sum_by weight later
 first_weight weight rest later x e = ap (sum_by weight) e ∙ sum_by-cons weight x later
-
--- one more member fits
-pub weighed_more : {A : Type 0} (weight : A → ℕ) (room left less : ℕ) (all rest later : List A) (x : A) → rest ≡ x ∷ later → less + weight x ≡ left → Weighed weight room left all rest → Weighed weight room less all later
-weighed_more weight room left less all rest later x e taken w =
-    let first = first_weight weight rest later x e in
-    let kept = w.kept in
-    let bound = w.bound in
-    record { kept = omega (arith, first, kept, taken); bound = omega (arith, bound, taken) }
 
 -- one more member doesn't fit
 pub weighed_out : {A : Type 0} (weight : A → ℕ) (room left : ℕ) (all rest later : List A) (x : A) → rest ≡ x ∷ later → left < weight x → Weighed weight room left all rest → room < sum_by weight all
