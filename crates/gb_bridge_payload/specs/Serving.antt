@@ -8,8 +8,8 @@ use Rattle.gb_bridge_payload.specs.declared.bridge_fault.BridgeFault.TheVariants
 use Rattle.gb_formats.specs.Bridges as formats
 use Rattle.gb_formats.specs.Results.{Step}
 
--- A device answers a request as its step says, and is then the device after it. After want of memory
--- it is as before.
+-- A device answers a request as its step says, and is then the device after it. After want of
+-- memory it is as before.
 abbrev pub ServesAs : {D : Type 0} → Step D → D → D → Result Served OutOfMemory → Type 0
 ServesAs step old new (Ok served) = (served ≡ step.served) × (new ≡ step.device)
 ServesAs step old new (Err refused) = new ≡ old
@@ -19,8 +19,8 @@ abbrev pub bridge_fault_of : BridgeFault → formats.BridgeFault
 bridge_fault_of fault.TooLarge = formats.TooLarge
 bridge_fault_of fault.Unsupported = formats.Unsupported
 
--- The request that a bridge line becomes is written: its payload stands at the front of `old`, which
--- keeps its rest.
+-- The request that a bridge line becomes is written: its payload stands at the front of `old`,
+-- which keeps its rest.
 pub record WritesBridged (request : ℕ × List ℕ) (old new : List ℕ) (b : Bridged) : Type 0 where
   pub kind : b.kind ≡ request.0
   pub len : b.len ≡ length request.1

@@ -94,7 +94,8 @@ impl Device {
 
 /// The answer of success with this response.
 fn tell(alloc: Global, reply: &GpioReply) -> Result<Served, OutOfMemory>
-    ensures { IfOk result (λ served. served ≡ answer_of (gpio_reply_payload (gpio_reply_of reply.now))) }
+    ensures { IfOk result
+        (λ served. served ≡ answer_of (gpio_reply_payload (gpio_reply_of reply.now))) }
 {
     let mut bytes = [0; 1];
     let Ok(size) = reply.write(&mut bytes) else {

@@ -36,7 +36,8 @@ pub fn bridge(ask: &BridgeAsk, out: &mut [u8]) -> Result<Bridged, BridgeFault>
 /// The request of a transfer.
 fn transfer(ops: &[I2cOp], out: &mut [u8]) -> Result<Bridged, BridgeFault>
     requires { length out.old ≡ most_payload }
-    ensures { BridgesAs (bridge_answer i2c_protocol (ask.I2cTransfer ops.now)) out.old out.new result }
+    ensures { BridgesAs (bridge_answer i2c_protocol (ask.I2cTransfer ops.now))
+        out.old out.new result }
 {
     if !fits(ops) {
         return Err(BridgeFault::TooLarge);

@@ -1,18 +1,16 @@
 //! The device.
 
-ghost use Rattle.std.specs.Prelude.{◌≡◌, ◌≤◌, ◌*◌, ◌/◌, ◌++◌, [], IfOk, OnOk, length};
+ghost use Rattle.std.specs.Prelude.{◌≡◌, ◌/◌, IfOk, length};
 ghost use Rattle.gb_bridge_payload.specs.Conditions.{AreOps};
 ghost use Rattle.gb_bridge_payload.specs.Serving.{ServesAs};
-ghost use Rattle.gb_bridge_payload.specs.Views.{op_of};
-ghost use Rattle.gb_formats.specs.I2cDevice.{after_op, first_i2c, i2c_step, i2c_transfer_step, op_read_bytes, ops_run};
-ghost use Rattle.gb_formats.specs.I2cRecords.{op_size, op_written_size, ops_at};
-ghost use Rattle.gb_formats.specs.Results.{tells};
-ghost use Rattle.gb_i2c.specs.Counted.{AreCounted};
+ghost use Rattle.gb_formats.specs.I2cDevice.{first_i2c, i2c_step, i2c_transfer_step};
+ghost use Rattle.gb_formats.specs.I2cRecords.{op_size, ops_at};
 
 use crate::memory::Memory;
+use crate::ops::run;
 use crate::survey::check;
 use gb_base::{Bytes, OutOfMemory, OwnAsks, Served};
-use gb_bridge_payload::{I2cAsk, OP_SIZE, SUCCESS, TransferOp, answered, fault_result, refused};
+use gb_bridge_payload::{I2cAsk, OP_SIZE, SUCCESS, answered, fault_result, refused};
 use std::alloc::Global;
 use std::marker::Model;
 
@@ -78,48 +76,4 @@ impl Device {
             asks: OwnAsks::new(self.alloc),
         })
     }
-}
-
-/// Does so many ops in order, and adds the bytes that they read to `answer`.
-fn run(
-    count: u16,
-    ops: &[u8],
-    bytes: &[u8],
-    memory: &mut Memory,
-    answer: &mut Bytes,
-) -> Result<(), OutOfMemory>
-    requires { AreCounted count ops.now bytes.now }
-    ensures { OnOk result (ops_run memory.old bytes.now answer.old (ops_at count ops.now)
-        ≡ tells memory.new answer.new) }
-{
-    let mut ops = ops;
-    let mut bytes = bytes;
-    for _ in 0..count {
-        let (op, later) = TransferOp::first(ops);
-        let (written, left) = bytes.split_at(op.written_size() as usize);
-        apply(&op, written, memory, answer)?;
-        ops = later;
-        bytes = left;
-    }
-    Ok(())
-}
-
-/// Does an op, and adds the bytes that it reads to `answer`.
-fn apply(
-    op: &TransferOp,
-    bytes: &[u8],
-    memory: &mut Memory,
-    answer: &mut Bytes,
-) -> Result<(), OutOfMemory>
-    requires { length bytes.now ≡ op_written_size (op_of op.now) }
-    ensures memory { OnOk result
-        (memory.new ≡ after_op memory.old bytes.now (op_of op.now)) }
-    ensures answer { OnOk result
-        (answer.new ≡ answer.old ++ op_read_bytes memory.old (op_of op.now)) }
-{
-    if op.reads() {
-        return memory.read(op.size, answer);
-    }
-    memory.write(bytes);
-    Ok(())
 }

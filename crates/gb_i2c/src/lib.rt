@@ -4,6 +4,7 @@
 mod bridging;
 mod device;
 mod memory;
+mod ops;
 mod readings;
 mod survey;
 #[cfg(test)]

@@ -63,6 +63,7 @@ impl Memory {
 
     /// A read: so many bytes from the pointer on, which are added to `answer`. The pointer goes up
     /// by one with each, from 255 to 0.
+    /// After want of memory some may have been added, and the pointer is where it was.
     pub fn read(&mut self, count: u16, answer: &mut Bytes) -> Result<(), OutOfMemory>
         ensures bytes { OnOk result (answer.new
             ≡ answer.old ++ read_from self.old.memory self.old.pointer count) }

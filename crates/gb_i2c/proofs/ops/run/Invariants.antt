@@ -1,6 +1,6 @@
 -- The ops that are left do the rest of what all do.
 use Rattle.gb_i2c.proofs.Running.{Runs}
-use Rattle.gb_i2c.proofs.device.run.Given as goal
+use Rattle.gb_i2c.proofs.ops.run.Given as goal
 
 abbrev pub invariant-loop : goal.invariant-loop
 invariant-loop l =

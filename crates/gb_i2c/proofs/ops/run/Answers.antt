@@ -1,7 +1,7 @@
 use Rattle.std.proofs.Common.{rules}
 use Rattle.gb_bridge_payload.specs.Views.{op_of}
 use Rattle.gb_i2c.proofs.Running.{runs_more}
-use Rattle.gb_i2c.proofs.device.run.Goals as goal
+use Rattle.gb_i2c.proofs.ops.run.Goals as goal
 
 pub loop-preserved : goal.loop-preserved
 loop-preserved c =
