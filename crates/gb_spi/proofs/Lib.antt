@@ -1,0 +1,6 @@
+pub mod Asks
+pub mod Bridged
+pub mod Putting
+pub mod Runs
+pub mod Stepping
+pub mod Weights

@@ -1,0 +1,15 @@
+//! The UART device of a module, which sends back what it is sent, and the credits of its peer.
+#![tactic(auto)]
+
+mod bridging;
+mod credits;
+mod device;
+mod readings;
+#[cfg(test)]
+mod tests;
+
+pub use bridging::bridge;
+pub use credits::{Credits, NoCredit, TooMany};
+pub use device::Device;
+pub use gb_bridge_payload::BridgeFault;
+pub use readings::reading;
