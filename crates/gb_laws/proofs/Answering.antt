@@ -217,8 +217,8 @@ so-far-kept m start a (acts_opened w q rest free is) h = so-far m a (acts_opened
 so-far-kept m start a (acts_asked q n rest is) h = so-far m a (acts_asked q n rest is) [] refl tt h.hand h
 so-far-kept m start a (acts_failed q rest is quiet) h =
     so-far m a (acts_failed q rest is quiet) _ refl (quiet-all-fine m _ _ quiet) h.hand h
-so-far-kept m start a (serves k kind payload) h = so-far m a (serves k kind payload) [] refl tt h.hand h
-so-far-kept m start a (spends i c what) h = so-far m a (spends i c what) [] refl tt h.hand h
+so-far-kept m start a (serves k kind payload none) h = so-far m a (serves k kind payload none) [] refl tt h.hand h
+so-far-kept m start a (spends i c what none) h = so-far m a (spends i c what none) [] refl tt h.hand h
 so-far-kept m start a (passes millis) h = so-far m a (passes millis) [] refl tt h.hand h
 so-far-kept m start a (others booted marks ports modules) h = so-far m a (others booted marks ports modules) [] refl tt h.hand h
 

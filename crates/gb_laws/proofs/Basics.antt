@@ -301,8 +301,8 @@ basis-kept m a (acts_opened w q rest free is) h =
 basis-kept m a (acts_asked q n rest is) h =
     let r = awaited-rest q.purpose n a.state in basis-same a _ refl r.bus r.held r.names h
 basis-kept m a (acts_failed q rest is quiet) h = basis-same a _ refl refl refl refl h
-basis-kept m a (serves k kind payload) h = basis-same a _ refl refl refl refl h
-basis-kept m a (spends i c what) h = basis-same a _ refl refl refl refl h
+basis-kept m a (serves k kind payload none) h = basis-same a _ refl refl refl refl h
+basis-kept m a (spends i c what none) h = basis-same a _ refl refl refl refl h
 basis-kept m a (passes millis) h = basis-same a _ refl refl refl refl h
 basis-kept m a (others booted marks ports modules) h = basis-same a _ refl refl refl refl h
 

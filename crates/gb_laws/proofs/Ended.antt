@@ -165,8 +165,8 @@ says-kept m a (acts_opened w q rest free is) h = says-more a.told _ a.state.bus.
 says-kept m a (acts_asked q n rest is) h =
     subst (λ (b : Bus). SaysEnds (a.told ++ []) b.outcomes) (sym (awaited-rest q.purpose n a.state).bus) (untold a h)
 says-kept m a (acts_failed q rest is quiet) h = says-more a.told _ a.state.bus.outcomes (quiet-no-ends _ quiet) h
-says-kept m a (serves k kind payload) h = untold a h
-says-kept m a (spends i c what) h = untold a h
+says-kept m a (serves k kind payload none) h = untold a h
+says-kept m a (spends i c what none) h = untold a h
 says-kept m a (passes millis) h = untold a h
 says-kept m a (others booted marks ports modules) h = untold a h
 

@@ -233,7 +233,7 @@ own-kept m a (acts_asked q n rest is) basis h =
     own-still a _ [] refl (λ k x made. ap (request_of k) r.bus ∙ made) (ap (λ (b : Bus). b.connections) r.bus)
     (λ l i. subst (λ hs. IsIn l (loose_hand a.hand (map loose_held hs))) r.held i) h
 own-kept m a (acts_failed q rest is quiet) basis h = own-still a _ _ refl (λ k r made. made) refl (λ l i. i) h
-own-kept m a (serves k kind payload) basis h = own-still a _ [] refl (λ k r made. made) refl (λ l i. i) h
-own-kept m a (spends i c what) basis h = own-still a _ [] refl (λ k r made. made) refl (λ l i. i) h
+own-kept m a (serves k kind payload none) basis h = own-still a _ [] refl (λ k r made. made) refl (λ l i. i) h
+own-kept m a (spends i c what none) basis h = own-still a _ [] refl (λ k r made. made) refl (λ l i. i) h
 own-kept m a (passes millis) basis h = own-still a _ [] refl (λ k r made. made) refl (λ l i. i) h
 own-kept m a (others booted marks ports modules) basis h = own-still a _ [] refl (λ k r made. made) refl (λ l i. i) h

@@ -31,7 +31,7 @@ use Rattle.gb_machine.specs.LawsBus.{NameRequests}
 use Rattle.gb_machine.specs.Lists.{first, nth}
 use Rattle.gb_machine.specs.Members.{Each, IsIn}
 use Rattle.gb_machine.specs.Names.{bound, freed, named}
-use Rattle.gb_machine.specs.Refusals.{module_place}
+use Rattle.gb_machine.specs.Refusals.{module_place, refusal}
 use Rattle.gb_machine.specs.Requests.{gave_up, given_up_with, open_on, open_with}
 use Rattle.gb_machine.specs.Runs.{Moment}
 use Rattle.gb_machine.specs.Sending.{Draft, label_for, sent}
@@ -147,8 +147,10 @@ pub record IsNoticed (m : Moment) (e : HostEvent) : Type 0 where
 abbrev pub IsCaused : Moment → HostEvent → Host → Type 0
 IsCaused m (HostEvent.Inserted i) h = (h ≡ m.before.host) × IsNoticed m (HostEvent.Inserted i)
 IsCaused m (HostEvent.Removed i) h = (h ≡ m.before.host) × IsNoticed m (HostEvent.Removed i)
-IsCaused m (HostEvent.Connect i c) h = (h ≡ m.before.host) × (m.event ≡ event.Connect i c)
-IsCaused m (HostEvent.Disconnect i c) h = (h ≡ m.before.host) × (m.event ≡ event.Disconnect i c)
+IsCaused m (HostEvent.Connect i c) h =
+    (h ≡ m.before.host) × (m.event ≡ event.Connect i c) × (refusal m.before (event.Connect i c) ≡ None)
+IsCaused m (HostEvent.Disconnect i c) h =
+    (h ≡ m.before.host) × (m.event ≡ event.Disconnect i c) × (refusal m.before (event.Disconnect i c) ≡ None)
 IsCaused m (HostEvent.Ended n how) h = Unit {0}
 
 -- a tick, and a request whose deadline came
@@ -256,8 +258,8 @@ pub data Change (m : Moment) (a : Point) : Type 0 where
   acts_asked : (q : Asking) (n : ℕ) (rest : List Act) → a.pending ≡ Act.Ask q ∷ rest → Change m a
   acts_failed : (q : Asking) (rest : List Act) → IsAsking q a.pending rest → AreQuiet (unsent q.purpose a.state.host).told → Change m a
   -- it serves a request, or spends credits
-  serves : (k kind : ℕ) (payload : List ℕ) → Change m a
-  spends : (i c : ℕ) (what : BridgeAsk) → Change m a
+  serves : (k kind : ℕ) (payload : List ℕ) → a.pending ≡ [] → Change m a
+  spends : (i c : ℕ) (what : BridgeAsk) → a.pending ≡ [] → Change m a
   -- time passes
   passes : (millis : ℕ) → Change m a
   -- something else changes that is no matter of requests
@@ -311,8 +313,8 @@ changed m a (acts_opened w q rest free is) =
 changed m a (acts_asked q n rest is) = record (on (with_awaited q.purpose n a.state) [] a) { pending = rest }
 changed m a (acts_failed q rest is quiet) =
     record (on (record a.state { host = (unsent q.purpose a.state.host).host }) (unsent q.purpose a.state.host).told a) { pending = rest }
-changed m a (serves k kind payload) = on (record a.state { host = (host_serves k kind payload a.state.host).host }) [] a
-changed m a (spends i c what) = on (record a.state { host = with_link i c (spent what) a.state.host }) [] a
+changed m a (serves k kind payload none) = on (record a.state { host = (host_serves k kind payload a.state.host).host }) [] a
+changed m a (spends i c what none) = on (record a.state { host = with_link i c (spent what) a.state.host }) [] a
 changed m a (passes millis) = on (record a.state { now = a.state.now + millis }) [] a
 changed m a (others booted marks ports modules) =
     on (record a.state { booted = booted; holds = marks; ports = ports; modules = modules }) [] a

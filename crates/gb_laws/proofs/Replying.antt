@@ -323,8 +323,8 @@ once-kept m a (acts_asked q k rest is) basis h =
     let held = ap (λ hs. times_in (is_ask n) (loose_hand a.hand (map loose_held hs)) a.state.bus) r.held in
     omega (arith, same, held)) h
 once-kept m a (acts_failed q rest is quiet) basis h = once-fewer a _ _ refl (quiet-no-replies _ quiet) (λ n r made. made) (λ n. omega arith) h
-once-kept m a (serves k kind payload) basis h = once-fewer a _ [] refl tt (λ n r made. made) (λ n. omega arith) h
-once-kept m a (spends i c what) basis h = once-fewer a _ [] refl tt (λ n r made. made) (λ n. omega arith) h
+once-kept m a (serves k kind payload none) basis h = once-fewer a _ [] refl tt (λ n r made. made) (λ n. omega arith) h
+once-kept m a (spends i c what none) basis h = once-fewer a _ [] refl tt (λ n r made. made) (λ n. omega arith) h
 once-kept m a (passes millis) basis h = once-fewer a _ [] refl tt (λ n r made. made) (λ n. omega arith) h
 once-kept m a (others booted marks ports modules) basis h = once-fewer a _ [] refl tt (λ n r made. made) (λ n. omega arith) h
 

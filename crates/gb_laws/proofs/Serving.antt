@@ -204,7 +204,7 @@ module _ (m : Moment) (law : Law m) where
       first : Goes m (acting m law) None [] Untouched None [] Untouched (on_host (λ old. (host_serves k kind payload m.before.host).host)) u
       first told at =
           subst (λ h. At m (acting m law) None [] Untouched (told ++ []) (record u { host = (host_serves k kind payload h).host })) host
-          (law.kept _ (serves k kind payload) at)
+          (law.kept _ (serves k kind payload refl) at)
 
       quiet : ServedAs m.before.host (host_serves k kind payload m.before.host) → IsQuietly (host_serves k kind payload m.before.host).told
       quiet (plainly q n) = q

@@ -172,7 +172,7 @@ module _ (m : Moment) (law : Law m) where
       sent_by l left (Err fault) = rests-nothing s
       sent_by l left (Ok request) =
           rests-▸ (on_host (with_link l.intf l.cport (spent what))) (sends_on name l.connection request.0 request.1 default_timeout) s
-          (λ told at. law.kept _ (spends l.intf l.cport what) at)
+          (λ told at. law.kept _ (spends l.intf l.cport what refl) at)
           (rests-sends_on name l.connection request.0 request.1 default_timeout (record s { host = with_link l.intf l.cport (spent what) s.host }) left)
 
       by : (o : Option Link) → link_at i c s.host ≡ o
