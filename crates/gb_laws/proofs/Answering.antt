@@ -231,7 +231,7 @@ answered_law m start = record {
   kept = λ a x h. (basis-kept m a x h.0, so-far-kept m start a x h.1);
 }
 
-same-rest : (front xs ys : List Entry) → front ++ xs ≡ front ++ ys → xs ≡ ys
+pub same-rest : (front xs ys : List Entry) → front ++ xs ≡ front ++ ys → xs ≡ ys
 same-rest [] xs ys e = e
 same-rest (f ∷ fs) xs ys e = same-rest fs xs ys (same-tail f (fs ++ xs) (fs ++ ys) e)
   where

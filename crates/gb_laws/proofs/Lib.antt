@@ -2,6 +2,7 @@ pub mod Acting
 pub mod Answering
 pub mod Awaited
 pub mod Basics
+pub mod Causes
 pub mod Controls
 pub mod Delivering
 pub mod Ended
@@ -11,12 +12,15 @@ pub mod LinkLists
 pub mod LinkActs
 pub mod LinkBuses
 pub mod LinkClosing
+pub mod LinkRuns
 pub mod LinkSteps
 pub mod LinkTurns
 pub mod Linking
 pub mod Links
 pub mod Loosening
 pub mod Naming
+pub mod Noticing
+pub mod Onward
 pub mod OwnReplies
 pub mod Owned
 pub mod Owning

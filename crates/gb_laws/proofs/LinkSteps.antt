@@ -246,15 +246,21 @@ fits-control : (b : Bus) (o : Option ℕ) (p : Purpose) (h : Host) → HostFits 
 fits-control b None p h fits zero_cport free = fits-interface_fails b (at_step SequenceStep.CreateControl p) h fits
 fits-control b (Some a) p h fits zero_cport free = let f = free_cport-is h a free in record {
   host = fits;
-  pending = ((record {
-    step = control zero_cport;
-    intf = refl;
-    cport = refl;
-    from_one = f.from_one;
-    within = f.within;
-    ap = f.other;
-    at = λ other. absurd (other zero_cport);
-  }, refl), tt);
+  pending = (
+    (
+      record {
+        step = control zero_cport;
+        intf = refl;
+        cport = refl;
+        from_one = f.from_one;
+        within = f.within;
+        ap = f.other;
+        at = λ other. absurd (other zero_cport);
+      },
+      refl,
+    ),
+    tt,
+  );
   followed = followed-same h.links _;
 }
 
@@ -324,9 +330,9 @@ fits-left b p h (Some k) found fits other = record {
     by l i true e =
         let at = link-is p.intf p.cport l e in
         let again : find (is_link p.intf p.cport) h.links ≡ Some l =
-            subst (λ x. find (is_link x p.cport) h.links ≡ Some l) at.0
-            (subst (λ x. find (is_link l.intf x) h.links ≡ Some l) at.1
-            (found-at h.links l fits.links.rise i (λ z. other (sym at.1 ∙ z)))) in
+        subst (λ x. find (is_link x p.cport) h.links ≡ Some l) at.0
+        (subst (λ x. find (is_link l.intf x) h.links ≡ Some l) at.1
+        (found-at h.links l fits.links.rise i (λ z. other (sym at.1 ∙ z)))) in
         leaves (inl (ap (λ (x : Link). Act.Leave x.connection) (same-some l k (sym again ∙ found))))
 
 -- ---- the steps

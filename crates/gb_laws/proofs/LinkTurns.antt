@@ -279,15 +279,21 @@ fits-connects b i c h fits free = by (option_and_then (cport_of c) (interface_of
     on view e None f = nothing
     on view e (Some a) f = let cport = free_cport-is h a f in record {
       host = fits;
-      pending = ((record {
-        step = connection (other view e);
-        intf = refl;
-        cport = refl;
-        from_one = cport.from_one;
-        within = cport.within;
-        ap = cport.other;
-        at = λ n l j. find-none (is_link i c) h.links l at j;
-      }, refl), tt);
+      pending = (
+        (
+          record {
+            step = connection (other view e);
+            intf = refl;
+            cport = refl;
+            from_one = cport.from_one;
+            within = cport.within;
+            ap = cport.other;
+            at = λ n l j. find-none (is_link i c) h.links l at j;
+          },
+          refl,
+        ),
+        tt,
+      );
       followed = followed-same h.links _;
     }
 

@@ -1,7 +1,12 @@
 //! The laws of runs.
 
 ghost use Rattle.gb_machine.specs.LawsBus.{LabelsDiffer, NamesNameRequests, OneItemANumber};
-ghost use Rattle.gb_machine.specs.LawsEnds.{AnsweredByItsResponder, EndsAreTold, EndsAtMostOnce};
+ghost use Rattle.gb_machine.specs.LawsEnds.{
+  AnsweredByItsResponder,
+  EndsAreTold,
+  EndsAtMostOnce,
+  EveryEndHasItsCause,
+};
 ghost use Rattle.gb_machine.specs.LawsHotPlug.{NoForeignMessage};
 ghost use Rattle.gb_machine.specs.Summary.{CountsAddUp};
 
@@ -19,6 +24,13 @@ pub fn ends_are_told()
 /// responder replied.
 pub fn answered_by_its_responder()
     ensures { AnsweredByItsResponder }
+{}
+
+/// A request is cancelled, times out or is disconnected only at a moment at which that came: a cancel
+/// of its name, a tick after which its deadline has come, and a disconnect, a removal that is handled
+/// or an unwiring of its own connection, which isn't the supervisory controller's.
+pub fn every_end_has_its_cause()
+    ensures { EveryEndHasItsCause }
 {}
 
 /// Identifiers that are in use on a side of a connection differ, and are from 1 to 65,535.
