@@ -26,6 +26,7 @@ pub mod Owned
 pub mod Owning
 pub mod Places
 pub mod Points
+pub mod Replies
 pub mod Replying
 pub mod Runs
 pub mod Served

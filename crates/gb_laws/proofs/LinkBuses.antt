@@ -84,7 +84,7 @@ linked-from b after h acts made from f = record {
   pending = f.pending;
   known = λ c live. let w = from c live in known-from w.0 c h.links acts w.2 (f.known w.0 w.1);
   svc = λ c live one. let w = from c live in let s = f.svc w.0 w.1 (sym w.2.number ∙ one) in
-      record { ap = w.2.ap ∙ s.ap; peer = w.2.peer ∙ s.peer; clean = w.2.clean one ∙ s.clean };
+      record { ap = w.2.ap ∙ s.ap; peer = w.2.peer ∙ s.peer; clean = w.2.clean one ∙ s.clean; shut = w.2.shut ∙ s.shut };
   made = subst (λ n. 1 ≤ n) (sym made) f.made;
 }
 
@@ -143,7 +143,7 @@ linked-shut b after h k rest made same f = record {
       numbered = λ l i. subst (λ n. IsNumbered n l) (sym made) (f.host.links.numbered l i);
       waiting = f.host.links.waiting;
       deaf = λ l c i live on shut. ⊎_elim (λ o. f.host.links.deaf l c i o on shut)
-          (λ w. f.pending.0 l i (sym on ∙ ap (λ (x : Connection). x.number) w.3 ∙ same-number w.0.number k w.2))
+          (λ w. f.pending.0.1 l i (sym on ∙ ap (λ (x : Connection). x.number) w.3 ∙ same-number w.0.number k w.2))
           (in-at_first (has_number k) (λ (x : Connection). record x { shut = true }) b.connections c (subst (λ cs. IsIn c cs) same live));
     };
     interfaces = f.host.interfaces;
@@ -153,8 +153,8 @@ linked-shut b after h k rest made same f = record {
       (λ w. subst (λ x. IsKnown x h.links rest) (sym w.3) (changed w.0 (known-rest w.0 h.links (Act.Shut k) rest (λ e. absurd cc) (f.known w.0 w.1))))
       (in-at_first (has_number k) (λ (x : Connection). record x { shut = true }) b.connections c (subst (λ cs. IsIn c cs) same live));
   svc = λ c live one. ⊎_elim (λ o. f.svc c o one)
-      (λ w. subst IsSvc (sym w.3) (let s = f.svc w.0 w.1 (sym (ap (λ (x : Connection). x.number) w.3) ∙ one) in
-      record { ap = s.ap; peer = s.peer; clean = s.clean }))
+      (λ w. absurd (let two = f.pending.0.0 in
+      omega (arith, two, same-number w.0.number k w.2, one, ap (λ (x : Connection). x.number) w.3)))
       (in-at_first (has_number k) (λ (x : Connection). record x { shut = true }) b.connections c (subst (λ cs. IsIn c cs) same live));
   made = subst (λ n. 1 ≤ n) (sym made) f.made;
 }

@@ -79,7 +79,7 @@ fits-closing : (b : Bus) (i c : ℕ) (h : Host) (l : Link) → HostFits b h → 
     → TurnFits b h (disconnects (Some l) (purpose i c SequenceStep.TellDisconnecting) h)
 fits-closing b i c h l fits other e idle = record {
   host = asked.host;
-  pending = (deaf (way_of p g) asked.host.links, (tt, asked.pending));
+  pending = (((fits.links.numbered l (found-in (is_link i c) h.links l e).0).from_two, deaf (way_of p g) asked.host.links), (tt, asked.pending));
   followed = λ k j. let s = stay-changed h.links i c (in_state state.Closing) (state-link state.Closing) k j in
       behind k s.0 s.2 (asked.followed s.0 s.1);
 }

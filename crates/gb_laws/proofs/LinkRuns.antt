@@ -46,6 +46,7 @@ linked-first = record {
     ap = ap (λ (x : Connection). x.ap) e;
     peer = ap (λ (x : Connection). x.peer) e;
     clean = ap (λ (x : Connection). x.clean) e;
+    shut = ap (λ (x : Connection). x.shut) e;
   };
   made = omega arith;
 }

@@ -1,5 +1,5 @@
 -- The facts of the application processor's connections go over each of its turns.
-use Rattle.std.proofs.Common.{◌≡◌, ◌⊎◌, ◌≢◌, ℕ, Bool, true, false, cond, Option, Some, None, List, [], ◌∷◌, ◌++◌, refl, sym, ap, ◌∙◌, inl, inr, ⊎_elim, subst}
+use Rattle.std.proofs.Common.{◌≡◌, ◌⊎◌, ◌≤◌, ◌≢◌, ℕ, Bool, true, false, cond, Option, Some, None, List, [], ◌∷◌, ◌++◌, refl, sym, ap, ◌∙◌, inl, inr, ⊎_elim, subst}
 use Rattle.std.specs.Prelude.{◌==◌, is_none, is_some, option_and_then, option_map}
 use Rattle.std.specs.List.{filter, find}
 use Rattle.gb_base.specs.declared.entry.ConnState.{ConnState}
@@ -212,11 +212,13 @@ fits-inserted b i h fits =
           (λ o. fits.interfaces x o) (in-ordered intf_before x (new_interface i) h.interfaces j);
     }) refl))
 
-pending-left : (left : List Link) (ls : List Link) (x : Act) → ((l k : Link) → IsIn l ls → IsIn k left → k.connection ≡ l.connection → ⊥)
+pending-left : (left : List Link) (ls : List Link) (x : Act) → ((l : Link) → IsIn l ls → 2 ≤ l.connection) → ((l k : Link) → IsIn l ls → IsIn k left → k.connection ≡ l.connection → ⊥)
     → ArePending left (x ∷ []) → ArePending left (links_left ls ++ x ∷ [])
-pending-left left [] x none h = h
-pending-left left (l ∷ ls) x none h =
-    (λ k j e. absurd (none l k (inl refl) j e), (tt, (tt, pending-left left ls x (λ m k i j e. none m k (inr i) j e) h)))
+pending-left left [] x two none h = h
+pending-left left (l ∷ ls) x two none h = (
+  (two l (inl refl), λ k j e. absurd (none l k (inl refl) j e)),
+  (tt, (tt, pending-left left ls x (λ m i. two m (inr i)) (λ m k i j e. none m k (inr i) j e) h)),
+)
 
 left-in : (ls : List Link) (l : Link) → IsIn l ls → IsIn (Act.Leave l.connection) (links_left ls)
 left-in [] l i = absurd i
@@ -229,7 +231,8 @@ fits-removed b i h fits = record {
     links = links-without b (λ l. l.intf == i) h.links fits.links;
     interfaces = λ x j. fits.interfaces x (in-without (is_intf i) h.interfaces x j).0;
   };
-  pending = pending-left (without (λ l. l.intf == i) h.links) (links_of i h) _ other (tt, tt);
+  pending = pending-left (without (λ l. l.intf == i) h.links) (links_of i h) _
+      (λ l j. (fits.links.numbered l (in-filter (λ (x : Link). x.intf == i) h.links l j).0).from_two) other (tt, tt);
   followed = λ l j. by l j (l.intf == i) refl;
 }
   where

@@ -106,7 +106,7 @@ pub record IsFree (w : Making) (q : Asking) (ls : List Link) : Type 0 where
 abbrev pub IsPending : List Link → Act → List Act → Type 0
 IsPending ls (Act.Ask q) rest = IsDue q.purpose.step q.purpose ls × (rest ≡ [])
 IsPending ls (Act.Open w q) rest = IsFree w q ls × (rest ≡ [])
-IsPending ls (Act.Shut k) rest = (l : Link) → IsIn l ls → l.connection ≡ k → IsDeaf l
+IsPending ls (Act.Shut k) rest = (2 ≤ k) × ((l : Link) → IsIn l ls → l.connection ≡ k → IsDeaf l)
 IsPending ls (Act.Leave k) rest = Unit {0}
 IsPending ls (Act.Tell e) rest = Unit {0}
 
@@ -155,3 +155,4 @@ pub record IsSvc (c : Connection) : Type 0 where
   pub ap : c.ap ≡ 0
   pub peer : c.peer ≡ end.Svc
   pub clean : c.clean ≡ true
+  pub shut : c.shut ≡ false

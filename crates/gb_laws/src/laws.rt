@@ -1,6 +1,11 @@
 //! The laws of runs.
 
-ghost use Rattle.gb_machine.specs.LawsBus.{LabelsDiffer, NamesNameRequests, OneItemANumber};
+ghost use Rattle.gb_machine.specs.LawsBus.{
+  LabelsDiffer,
+  NamesNameRequests,
+  OneItemANumber,
+  RepliesAreAwaited,
+};
 ghost use Rattle.gb_machine.specs.LawsEnds.{
   AnsweredByItsResponder,
   EndsAreTold,
@@ -41,6 +46,12 @@ pub fn labels_differ()
 /// On a clean connection each number is in one item at most, of those that wait and that are held.
 pub fn one_item_a_number()
     ensures { OneItemANumber }
+{}
+
+/// A reply that waits on a clean connection is to a request that is awaited, but for one toward the
+/// application processor where its side is closed, and that side then takes nothing.
+pub fn replies_are_awaited()
+    ensures { RepliesAreAwaited }
 {}
 
 /// What waits and what is held on a connection was put there by a request, a reply or an injection on
