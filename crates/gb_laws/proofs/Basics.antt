@@ -207,10 +207,10 @@ forgets-none rest b x n fits still (by_label label dirty is) =
 
 pub basis-kept : (m : Moment) (a : Point) (x : Change m a) → Basis a → Basis (changed m a x)
 basis-kept m a (tells e quiet) h = basis-same a _ refl refl refl refl h
-basis-kept m a (asks d c label free live drawn) h =
+basis-kept m a (asks d c label free live drawn who) h =
     free-basis _ free (sent-keeps (map loose_held a.state.held) d label c a.state.bus live drawn (free-bus a free h))
     (names-remain a.state.names a.state.bus (sent d label a.state.bus) (sent-remains d label a.state.bus) h.names)
-basis-kept m a (names name d c label free live drawn) h =
+basis-kept m a (names name d c label free live drawn host) h =
     free-basis _ free (sent-keeps (map loose_held a.state.held) d label c a.state.bus live drawn (free-bus a free h))
     (each-append (λ (p : Name × ℕ). is_some (request_of p.1 (sent d label a.state.bus)) ≡ true) a.state.names ((name, next_number a.state.bus) ∷ [])
     (names-remain a.state.names a.state.bus (sent d label a.state.bus) (sent-remains d label a.state.bus) h.names)
@@ -304,7 +304,7 @@ basis-kept m a (acts_failed q rest is quiet) h = basis-same a _ refl refl refl r
 basis-kept m a (serves k kind payload none) h = basis-same a _ refl refl refl refl h
 basis-kept m a (spends i c what none) h = basis-same a _ refl refl refl refl h
 basis-kept m a (passes millis) h = basis-same a _ refl refl refl refl h
-basis-kept m a (others booted marks ports modules) h = basis-same a _ refl refl refl refl h
+basis-kept m a (others booted marks ports modules same) h = basis-same a _ refl refl refl refl h
 
 -- The basis as a law of points.
 abbrev pub basis : (m : Moment) → Law m

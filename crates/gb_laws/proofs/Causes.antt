@@ -18,7 +18,8 @@ use Rattle.gb_invariants.proofs.Outcomes.{in-open_requests, same-number}
 use Rattle.gb_laws.proofs.Answering.{same-rest}
 use Rattle.gb_laws.proofs.LinkBuses.{Linked}
 use Rattle.gb_laws.proofs.LinkLists.{changed-in, found-link}
-use Rattle.gb_laws.proofs.LinkRuns.{LinkedTo, link_law, linked-throughout}
+use Rattle.gb_laws.proofs.LinkLaw.{link_law}
+use Rattle.gb_laws.proofs.LinkRuns.{LinkedTo, linked-throughout, start-absent}
 use Rattle.gb_laws.proofs.Noticing.{told-by_svc}
 use Rattle.gb_laws.proofs.Onward.{IsOnward, onward}
 use Rattle.gb_laws.proofs.Points.{AreQuiet, Basis, Change, IsGivenUpFor, IsLate, IsLive, IsShutFor, Law, Point, Unwired, Wired, acts_asked, acts_failed, acts_left, acts_opened, acts_shut, acts_told, answers, asked_told, asks, binds, changed, disconnected, drops, forgets, frees, gives_up, holds, injects, is_quiet, names, others, passes, removed, replies, resting, sent_told, serves, spends, takes, takes_held, tells, turns, unwires, wires}
@@ -235,10 +236,10 @@ so-far-kept : (m : Moment) (start : Start m) (a : Point) (x : Change m a) → Ba
     → IsSoFar m a → IsSoFar m (changed m a x)
 so-far-kept m start a (tells e quiet) basis links h =
     so-far m a (tells e quiet) (e ∷ []) refl (quiet-fine m (changed m a (tells e quiet)) e quiet, tt) h
-so-far-kept m start a (asks d c label free live drawn) basis links h =
-    so-far m a (asks d c label free live drawn) (asked_told d c label a.state.bus) refl (sent-fine m _ d c label a.state.bus) h
-so-far-kept m start a (names name d c label free live drawn) basis links h =
-    so-far m a (names name d c label free live drawn) (asked_told d c label a.state.bus) refl (sent-fine m _ d c label a.state.bus) h
+so-far-kept m start a (asks d c label free live drawn who) basis links h =
+    so-far m a (asks d c label free live drawn who) (asked_told d c label a.state.bus) refl (sent-fine m _ d c label a.state.bus) h
+so-far-kept m start a (names name d c label free live drawn host) basis links h =
+    so-far m a (names name d c label free live drawn host) (asked_told d c label a.state.bus) refl (sent-fine m _ d c label a.state.bus) h
 so-far-kept m start a (binds x y n is) basis links h = so-far m a (binds x y n is) [] refl tt h
 so-far-kept m start a (frees name) basis links h = so-far m a (frees name) [] refl tt h
 so-far-kept m start a (takes at p item free is event_is named front) basis links h =
@@ -283,7 +284,7 @@ so-far-kept m start a (acts_failed q rest is quiet) basis links h =
 so-far-kept m start a (serves k kind payload none) basis links h = so-far m a (serves k kind payload none) [] refl tt h
 so-far-kept m start a (spends i c what none) basis links h = so-far m a (spends i c what none) [] refl tt h
 so-far-kept m start a (passes millis) basis links h = so-far m a (passes millis) [] refl tt h
-so-far-kept m start a (others booted marks ports modules) basis links h = so-far m a (others booted marks ports modules) [] refl tt h
+so-far-kept m start a (others booted marks ports modules same) basis links h = so-far m a (others booted marks ports modules same) [] refl tt h
 
 -- ---- the law
 
@@ -291,7 +292,7 @@ abbrev cause_law : (m : Moment) → Start m → Law m
 cause_law m start = record {
   holds = λ a. (Basis a × Linked a.state.bus a.state.host a.pending) × IsSoFar m a;
   basis = λ a h. h.0.0;
-  kept = λ a x h. ((link_law m).kept a x h.0, so-far-kept m start a x h.0.0 h.0.1 h.1);
+  kept = λ a x h. ((link_law m (start-absent m start)).kept a x h.0, so-far-kept m start a x h.0.0 h.0.1 h.1);
 }
 
 has-cause : (m : Moment) → IsMoment m.event → Start m → HasItsCause m
@@ -307,7 +308,7 @@ has-cause m one start = record {
   where
     over : (w : _) × (cause_law m start).holds (record (resting (m.told ++ told_at m) (after m)) { wires = w })
     over = over-step m (cause_law m start) one (
-      start,
+      (start.0, start.1),
       record {
         new = [];
         told = sym (append-nil m.told);

@@ -138,8 +138,8 @@ untold a h = says-more a.told [] a.state.bus.outcomes tt h
 
 says-kept : (m : Moment) (a : Point) (x : Change m a) → Says a → Says (changed m a x)
 says-kept m a (tells e quiet) h = says-more a.told (e ∷ []) a.state.bus.outcomes (quiet-no-end e quiet, tt) h
-says-kept m a (asks d c label free live drawn) h = says-asked a.told a.state.bus.outcomes d c label a.state.bus h
-says-kept m a (names name d c label free live drawn) h = says-asked a.told a.state.bus.outcomes d c label a.state.bus h
+says-kept m a (asks d c label free live drawn who) h = says-asked a.told a.state.bus.outcomes d c label a.state.bus h
+says-kept m a (names name d c label free live drawn host) h = says-asked a.told a.state.bus.outcomes d c label a.state.bus h
 says-kept m a (binds x y n is) h = untold a h
 says-kept m a (frees name) h = untold a h
 says-kept m a (takes at p item free start is named front) h = untold a h
@@ -168,7 +168,7 @@ says-kept m a (acts_failed q rest is quiet) h = says-more a.told _ a.state.bus.o
 says-kept m a (serves k kind payload none) h = untold a h
 says-kept m a (spends i c what none) h = untold a h
 says-kept m a (passes millis) h = untold a h
-says-kept m a (others booted marks ports modules) h = untold a h
+says-kept m a (others booted marks ports modules same) h = untold a h
 
 -- ---- the laws
 

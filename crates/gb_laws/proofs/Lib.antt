@@ -6,8 +6,12 @@ pub mod Causes
 pub mod Controls
 pub mod Delivering
 pub mod Ended
+pub mod Endpoints
 pub mod Foreign
+pub mod Framing
 pub mod Going
+pub mod LinkHosts
+pub mod LinkLaw
 pub mod LinkLists
 pub mod LinkActs
 pub mod LinkBuses
@@ -18,6 +22,8 @@ pub mod LinkTurns
 pub mod Linking
 pub mod Links
 pub mod Loosening
+pub mod Marking
+pub mod Marks
 pub mod Naming
 pub mod Noticing
 pub mod Onward
@@ -25,7 +31,10 @@ pub mod OwnReplies
 pub mod Owned
 pub mod Owning
 pub mod Places
+pub mod Plugs
 pub mod Points
+pub mod Pulling
+pub mod Removing
 pub mod Replies
 pub mod Replying
 pub mod Runs
@@ -35,4 +44,7 @@ pub mod Since
 pub mod Single
 pub mod Stepping
 pub mod Steps
+pub mod Taking
+pub mod Telling
+pub mod There
 pub mod Ticking

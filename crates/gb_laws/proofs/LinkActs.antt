@@ -14,9 +14,11 @@ use Rattle.gb_invariants.proofs.Lists.{found-in}
 use Rattle.gb_laws.proofs.Awaited.{awaited-rest}
 use Rattle.gb_laws.proofs.LinkBuses.{Linked, linked-from, from-all}
 use Rattle.gb_laws.proofs.LinkLists.{link-is}
-use Rattle.gb_laws.proofs.LinkSteps.{Stay, fits-failed, fits-interface_fails, fits-through, interfaces-changed, links-changed, same-link, stay-changed}
-use Rattle.gb_laws.proofs.Links.{ArePending, HostFits, IsAtStep, IsDeaf, IsDue, IsDueBy, IsFollowed, IsFree, IsIdle, IsKnown, IsLinkOf, IsMaking, IsWaiting, LinksFit, SameLink, TurnFits, connection, control, leaves, leaving, linked, stays, supervisory}
-use Rattle.gb_laws.proofs.Points.{IsAsking, asking, opening}
+use Rattle.gb_laws.proofs.LinkHosts.{Onto, onto-interface, onto-link, onto-same, Stay, host-interface, host-link, same-link, stay-changed, stay-same}
+use Rattle.gb_laws.proofs.LinkSteps.{fits-failed, fits-interface_fails, fits-through}
+use Rattle.gb_invariants.proofs.Outcomes.{same-number}
+use Rattle.gb_laws.proofs.Links.{HasNoControl, is_early, ArePending, HostFits, IsAtStep, IsDeaf, IsDue, IsDueBy, IsFollowed, IsFree, IsIdle, IsKnown, IsLinkOf, IsMaking, IsWaiting, LinksFit, SameLink, TurnFits, connection, control, leaves, leaving, linked, stays, supervisory}
+use Rattle.gb_laws.proofs.Points.{IsAsking, SamePlugs, asking, opening}
 use Rattle.gb_machine.specs.Bus.{Bus, Connection}
 use Rattle.gb_machine.specs.Failures.{interface_fails, step_fails, unsent, unsent_fails}
 use Rattle.gb_machine.specs.Host.{Host, Link, is_link, link_at, link_of, with_interface, with_link}
@@ -70,41 +72,39 @@ linked-last b h x rest none other f = record {
 -- ---- a sequence waits
 
 -- a step's request was made
-awaits-fits : (b : Bus) (p : Purpose) (n : ℕ) (h : Host) → HostFits b h → IsDue p.step p h.links → HostFits b (awaits p n h) × Stay h.links (awaits p n h).links
+pub awaits-fits : (b : Bus) (p : Purpose) (n : ℕ) (h : Host) → HostFits b h → IsDue p.step p h → HostFits b (awaits p n h) × Onto h (awaits p n h)
 awaits-fits b p n h fits due = by (is_enumeration p.step) refl due
   where
     wait : ℕ × SequenceStep
     wait = (n, p.step)
 
-    by : (t : Bool) → is_enumeration p.step ≡ t → IsDueBy t p.step p h.links
+    by : (t : Bool) → is_enumeration p.step ≡ t → IsDueBy t p.step p h
         → HostFits b (cond t (with_interface p.intf (λ x. record x { awaits = Some (n, p.step) }) h)
         (with_link p.intf p.cport (λ l. record l { awaits = Some (n, p.step) }) h))
-        × Stay h.links (cond t (with_interface p.intf (λ x. record x { awaits = Some (n, p.step) }) h)
-        (with_link p.intf p.cport (λ l. record l { awaits = Some (n, p.step) }) h)).links
-    by true e zero_cport = (
-      record {
-        links = fits.links;
-        interfaces = interfaces-changed h.interfaces p.intf (λ x. record x { awaits = Some (n, p.step) })
-            (λ x old w f. ap (λ (y : ℕ × SequenceStep). is_enumeration y.1) (sym (same-some wait w f)) ∙ e) fits.interfaces;
-      },
-      λ l i. (l, i, same-link l),
+        × Onto h (cond t (with_interface p.intf (λ x. record x { awaits = Some (n, p.step) }) h)
+        (with_link p.intf p.cport (λ l. record l { awaits = Some (n, p.step) }) h))
+    by true e next = (
+      host-interface b p.intf (λ x. record x { awaits = Some (n, p.step) }) h (λ x. refl)
+          (λ x i at old w f. (
+            ap (λ (y : ℕ × SequenceStep). is_enumeration y.1) (sym (same-some wait w f)) ∙ e,
+            λ early. subst (λ k. HasNoControl k h.links) (sym (same-number x.intf p.intf at))
+                (next.none (ap (λ (y : ℕ × SequenceStep). is_early y.1) (same-some wait w f) ∙ early)),
+          )) fits,
+      onto-interface h p.intf (λ x. record x { awaits = Some (n, p.step) }) (λ x. refl),
     )
     by false e idle = (
-      record {
-        links = links-changed b h.links p.intf p.cport (λ l. record l { awaits = Some (n, p.step) })
-            (λ l. record { connection = refl; ap = refl; intf = refl; cport = refl })
-            (λ l i found old w f. (
-              λ z. idle.cport (sym (link-is p.intf p.cport l (found-in (is_link p.intf p.cport) h.links l found).1).1 ∙ z),
-              subst (λ (y : ℕ × SequenceStep). IsAtStep y.1 l.state) (same-some wait w f) (idle.state l found),
-            ))
-            (λ l i found d. record { cport = d.cport; takes = d.takes }) fits.links;
-        interfaces = fits.interfaces;
-      },
-      stay-changed h.links p.intf p.cport (λ l. record l { awaits = Some (n, p.step) })
+      host-link b h p.intf p.cport (λ l. record l { awaits = Some (n, p.step) })
+          (λ l. record { connection = refl; ap = refl; intf = refl; cport = refl })
+          (λ l i found old w f. (
+            λ z. idle.cport (sym (link-is p.intf p.cport l (found-in (is_link p.intf p.cport) h.links l found).1).1 ∙ z),
+            subst (λ (y : ℕ × SequenceStep). IsAtStep y.1 l.state) (same-some wait w f) (idle.state l found),
+          ))
+          (λ l i found d. record { cport = d.cport; takes = d.takes }) fits,
+      onto-link h p.intf p.cport (λ l. record l { awaits = Some (n, p.step) })
           (λ l. record { connection = refl; ap = refl; intf = refl; cport = refl }),
     )
 
-awaited-host : (p : Purpose) (n : ℕ) (s : State) → (with_awaited p n s).host ≡ awaits p n s.host
+pub awaited-host : (p : Purpose) (n : ℕ) (s : State) → (with_awaited p n s).host ≡ awaits p n s.host
 awaited-host p n s = by (is_for_connection p.step) (link_at p.intf p.cport (awaits p n s.host))
   where
     made : (o : Option Link) → (made_for n o (record s { host = awaits p n s.host })).host ≡ awaits p n s.host
@@ -120,7 +120,7 @@ pub linked-asked : (q : Asking) (n : ℕ) (rest : List Act) (s : State) → Link
     → Linked (with_awaited q.purpose n s).bus (with_awaited q.purpose n s).host rest
 linked-asked q n rest s f =
     let w = awaits-fits s.bus q.purpose n s.host f.host f.pending.0.0 in
-    let done = linked-stay s.bus s.host (awaits q.purpose n s.host) w.0 w.1 (linked-last s.bus s.host (Act.Ask q) rest f.pending.0.1 (λ k e. absurd cc) f) in
+    let done = linked-stay s.bus s.host (awaits q.purpose n s.host) w.0 w.1.stay (linked-last s.bus s.host (Act.Ask q) rest f.pending.0.1 (λ k e. absurd cc) f) in
     subst (λ r. Linked (with_awaited q.purpose n s).bus (with_awaited q.purpose n s).host r) (sym f.pending.0.1)
     (subst (λ b. Linked b (with_awaited q.purpose n s).host []) (sym (awaited-rest q.purpose n s).bus)
     (subst (λ h. Linked s.bus h []) (sym (awaited-host q.purpose n s)) done))
@@ -133,24 +133,24 @@ none-leaves k (e ∷ es) (inl f) = absurd cc
 none-leaves k (e ∷ es) (inr i) = none-leaves k es i
 
 -- what fails keeps the facts, and connections stay
-abbrev FailsWell : Bus → Host → Failing → Type 0
-FailsWell b h f = HostFits b f.host × Stay h.links f.host.links
+abbrev pub FailsWell : Bus → Host → Failing → Type 0
+FailsWell b h f = HostFits b f.host × Onto h f.host
 
 failed-well : (b : Bus) (h : Host) (f : Failing) → TurnFits b h (failed_turn f) → FailsWell b h f
-failed-well b h f r = (r.host, λ l i. by l (r.followed l i))
+failed-well b h f r = (r.host, record { stay = λ l i. by l (r.followed l i); kept = r.kept })
   where
     by : (l : Link) → IsFollowed l f.host.links (map Act.Tell f.told) → (k : Link) × IsIn k f.host.links × SameLink l k
     by l (stays k i s) = (k, i, s)
     by l (leaves i) = absurd (none-leaves l.connection f.told i)
 
-unsent-due : (b : Bus) (step : SequenceStep) (p : Purpose) (h : Host) → HostFits b h → IsDue step p h.links → FailsWell b h (unsent_fails step p h)
+pub unsent-due : (b : Bus) (step : SequenceStep) (p : Purpose) (h : Host) → HostFits b h → IsDue step p h → FailsWell b h (unsent_fails step p h)
 unsent-due b SequenceStep.CreateControl p h fits due = failed-well b h (interface_fails p h) (fits-interface_fails b p h fits)
-unsent-due b SequenceStep.CreateConnection p h fits due = (fits, λ l i. (l, i, same-link l))
+unsent-due b SequenceStep.CreateConnection p h fits due = (fits, onto-same h)
 unsent-due b SequenceStep.GiveDevice p h fits due =
     let without_device = with_interface p.intf (λ x. record x { device = None }) h in
-    failed-well b h (interface_fails p without_device) (fits-through b h without_device (failed_turn (interface_fails p without_device)) (λ l i. (l, i, same-link l))
+    failed-well b h (interface_fails p without_device) (fits-through b h without_device (failed_turn (interface_fails p without_device)) (onto-interface h p.intf (λ x. record x { device = None }) (λ x. refl))
     (fits-interface_fails b p without_device
-    (record { links = fits.links; interfaces = interfaces-changed h.interfaces p.intf (λ x. record x { device = None }) (λ x e. e) fits.interfaces })))
+    (host-interface b p.intf (λ x. record x { device = None }) h (λ x. refl) (λ x i at e w k. e w k) fits)))
 unsent-due b SequenceStep.EnableVsys p h fits due = failed-well b h (step_fails SequenceStep.EnableVsys p h) (fits-failed b SequenceStep.EnableVsys p h fits due)
 unsent-due b SequenceStep.EnableRefclk p h fits due = failed-well b h (step_fails SequenceStep.EnableRefclk p h) (fits-failed b SequenceStep.EnableRefclk p h fits due)
 unsent-due b SequenceStep.EnableUnipro p h fits due = failed-well b h (step_fails SequenceStep.EnableUnipro p h) (fits-failed b SequenceStep.EnableUnipro p h fits due)
@@ -164,21 +164,21 @@ unsent-due b SequenceStep.TellDisconnecting p h fits due = failed-well b h (step
 unsent-due b SequenceStep.TellDisconnected p h fits due = failed-well b h (step_fails SequenceStep.TellDisconnected p h) (fits-failed b SequenceStep.TellDisconnected p h fits due)
 unsent-due b SequenceStep.DestroyConnection p h fits due = failed-well b h (step_fails SequenceStep.DestroyConnection p h) (fits-failed b SequenceStep.DestroyConnection p h fits due)
 
-unsent-making : (b : Bus) (w : Making) (step : SequenceStep) (p : Purpose) (h : Host) → HostFits b h → IsMaking w step → FailsWell b h (unsent_fails step p h)
+pub unsent-making : (b : Bus) (w : Making) (step : SequenceStep) (p : Purpose) (h : Host) → HostFits b h → IsMaking w step → FailsWell b h (unsent_fails step p h)
 unsent-making b w step p h fits (control zero_cport) = failed-well b h (interface_fails p h) (fits-interface_fails b p h fits)
-unsent-making b w step p h fits (connection other) = (fits, λ l i. (l, i, same-link l))
+unsent-making b w step p h fits (connection other) = (fits, onto-same h)
 
 pub linked-unsent : (q : Asking) (rest acts : List Act) (b : Bus) (h : Host) → IsAsking q acts rest → Linked b h acts → Linked b (unsent q.purpose h).host rest
 linked-unsent q rest acts b h (asking is) all =
     let f = subst (Linked b h) is all in
     let w = unsent-due b q.purpose.step q.purpose h f.host f.pending.0.0 in
     subst (Linked b (unsent q.purpose h).host) (sym f.pending.0.1)
-    (linked-stay b h (unsent q.purpose h).host w.0 w.1 (linked-last b h (Act.Ask q) rest f.pending.0.1 (λ k e. absurd cc) f))
+    (linked-stay b h (unsent q.purpose h).host w.0 w.1.stay (linked-last b h (Act.Ask q) rest f.pending.0.1 (λ k e. absurd cc) f))
 linked-unsent q rest acts b h (opening v is) all =
     let f = subst (Linked b h) is all in
     let w = unsent-making b v q.purpose.step q.purpose h f.host f.pending.0.0.step in
     subst (Linked b (unsent q.purpose h).host) (sym f.pending.0.1)
-    (linked-stay b h (unsent q.purpose h).host w.0 w.1 (linked-last b h (Act.Open v q) rest f.pending.0.1 (λ k e. absurd cc) f))
+    (linked-stay b h (unsent q.purpose h).host w.0 w.1.stay (linked-last b h (Act.Open v q) rest f.pending.0.1 (λ k e. absurd cc) f))
 
 -- ---- credits
 
@@ -186,16 +186,13 @@ linked-unsent q rest acts b h (opening v is) all =
 pub linked-link : (i c : ℕ) (credits : Link → ℕ) (b : Bus) (h : Host) → Linked b h [] → Linked b (with_link i c (λ l. record l { credits = credits l }) h) []
 linked-link i c credits b h f =
     linked-stay b h (with_link i c (λ l. record l { credits = credits l }) h)
-    (record {
-      links = links-changed b h.links i c (λ l. record l { credits = credits l })
-          (λ l. record { connection = refl; ap = refl; intf = refl; cport = refl })
-          (λ l j found w v e. w v e) (λ l j found d. record { cport = d.cport; takes = d.takes }) f.host.links;
-      interfaces = f.host.interfaces;
-    })
+    (host-link b h i c (λ l. record l { credits = credits l })
+    (λ l. record { connection = refl; ap = refl; intf = refl; cport = refl })
+    (λ l j found w v e. w v e) (λ l j found d. record { cport = d.cport; takes = d.takes }) f.host)
     (stay-changed h.links i c (λ l. record l { credits = credits l }) (λ l. record { connection = refl; ap = refl; intf = refl; cport = refl })) f
 
 -- how the application processor is once it served a request: as it was, but for credits
-data ServedHost (h : Host) (r : HostServed) : Type 0 where
+pub data ServedHost (h : Host) (r : HostServed) : Type 0 where
   as_before : r.host ≡ h → ServedHost h r
   with_more : (i c total : ℕ) → r.host ≡ with_link i c (with_credits total) h → ServedHost h r
 
@@ -227,7 +224,7 @@ host-uart h l (Ok (UartAsk.SerialState lines)) = as_before refl
 host-uart h l (Ok (UartAsk.ReceiveCredits count)) = host-credits h l (credits_added l.credits count)
 host-uart h l (Ok _) = as_before refl
 
-host-served : (k kind : ℕ) (payload : List ℕ) (h : Host) → ServedHost h (host_serves k kind payload h)
+pub host-served : (k kind : ℕ) (payload : List ℕ) (h : Host) → ServedHost h (host_serves k kind payload h)
 host-served k kind payload h = by (link_of k h)
   where
     by : (o : Option Link) → ServedHost h (served_on o kind payload h)
@@ -248,3 +245,17 @@ linked-served k kind payload b h f = by (host-served k kind payload h)
     by : ServedHost h (host_serves k kind payload h) → Linked b (host_serves k kind payload h).host []
     by (as_before e) = subst (λ g. Linked b g []) (sym e) f
     by (with_more i c total e) = subst (λ g. Linked b g []) (sym e) (linked-link i c (λ l. total) b h f)
+
+-- what is plugged stays too
+pub awaited-plugs : (p : Purpose) (n : ℕ) (s : State) → SamePlugs s (with_awaited p n s).booted (with_awaited p n s).modules
+awaited-plugs p n s = by (is_for_connection p.step) (link_at p.intf p.cport (awaits p n s.host))
+  where
+    same : SamePlugs s s.booted s.modules
+    same = record { started = refl; plugged = λ i. refl; differ = λ h. h }
+
+    by : (t : Bool) (o : Option Link)
+        → SamePlugs s (cond t (made_for n o (record s { host = awaits p n s.host })) (record s { host = awaits p n s.host })).booted
+        (cond t (made_for n o (record s { host = awaits p n s.host })) (record s { host = awaits p n s.host })).modules
+    by true None = same
+    by true (Some l) = same
+    by false o = same

@@ -11,10 +11,10 @@ use Rattle.gb_invariants.proofs.Lists.{each-from, found-in, in-at_first, in-fron
 use Rattle.gb_invariants.proofs.Outcomes.{both-true, is-same, same-number}
 use Rattle.gb_invariants.proofs.Selves.{SameSelf}
 use Rattle.gb_laws.proofs.LinkLists.{is-link, link-is}
-use Rattle.gb_laws.proofs.LinkSteps.{same-link}
-use Rattle.gb_laws.proofs.Links.{ArePending, HostFits, IsAtStep, IsDeaf, IsDue, IsFollowed, IsFree, IsIdle, IsKnown, IsLinkBefore, IsLinkOf, IsMaking, IsNumbered, IsPending, IsSvc, IsWaiting, LinksFit, SameLink, connection, control, leaves, leaving, linked, stays, supervisory}
+use Rattle.gb_laws.proofs.LinkHosts.{same-link}
+use Rattle.gb_laws.proofs.Links.{ArePending, HostFits, IsAtStep, IsDeaf, IsDue, IsFollowed, IsFree, IsIdle, IsKnown, IsLinkBefore, IsLinkOf, IsMaking, IsNumbered, IsPending, IsPresent, IsSvc, IsWaiting, LinksFit, SameLink, connection, control, leaves, leaving, linked, stays, supervisory}
 use Rattle.gb_machine.specs.Bus.{Bus, Connection, has_number}
-use Rattle.gb_machine.specs.Host.{Host, Link, is_link, with_new_link}
+use Rattle.gb_machine.specs.Host.{Host, Interface, Link, is_link, with_new_link}
 use Rattle.gb_machine.specs.Lists.{at_first, without}
 use Rattle.gb_machine.specs.Members.{EachTwo, IsIn}
 use Rattle.gb_machine.specs.SequenceSteps.{Purpose, SequenceStep}
@@ -24,7 +24,7 @@ use Rattle.gb_machine.specs.Wiring.{attached, detached, new_connection, next_con
 -- The application processor and the bus, with the acts that are pending.
 pub record Linked (b : Bus) (h : Host) (acts : List Act) : Type 0 where
   pub host : HostFits b h
-  pub pending : ArePending h.links acts
+  pub pending : ArePending h acts
   pub known : (c : Connection) → IsIn c b.connections → IsKnown c h.links acts
   pub svc : (c : Connection) → IsIn c b.connections → c.number ≡ 1 → IsSvc c
   pub made : 1 ≤ b.made
@@ -80,6 +80,8 @@ linked-from b after h acts made from f = record {
           f.host.links.deaf l w.0 i w.1 (sym w.2.number ∙ on) (sym w.2.shut ∙ shut);
     };
     interfaces = f.host.interfaces;
+    differ = f.host.differ;
+    present = f.host.present;
   };
   pending = f.pending;
   known = λ c live. let w = from c live in known-from w.0 c h.links acts w.2 (f.known w.0 w.1);
@@ -119,6 +121,8 @@ linked-left b h k rest f = record {
       deaf = λ l c i live. f.host.links.deaf l c i (in-without (has_number k) b.connections c live).0;
     };
     interfaces = f.host.interfaces;
+    differ = f.host.differ;
+    present = f.host.present;
   };
   pending = f.pending.1;
   known = λ c live. let w = in-without (has_number k) b.connections c live in
@@ -147,6 +151,8 @@ linked-shut b after h k rest made same f = record {
           (in-at_first (has_number k) (λ (x : Connection). record x { shut = true }) b.connections c (subst (λ cs. IsIn c cs) same live));
     };
     interfaces = f.host.interfaces;
+    differ = f.host.differ;
+    present = f.host.present;
   };
   pending = f.pending.1;
   known = λ c live. ⊎_elim (λ o. known-rest c h.links (Act.Shut k) rest (λ e. absurd cc) (f.known c o))
@@ -190,14 +196,14 @@ known-more c ls l x other (linked k i of) acts = linked k (in-front k ls (l ∷ 
 known-more c ls l x other (leaving (inl e)) acts = absurd (other e)
 known-more c ls l x other (leaving (inr i)) acts = absurd i
 
-links-more : (b : Bus) (ls : List Link) (w : Making) (q : Asking) → LinksFit b ls → IsFree w q ls → 1 ≤ b.made
+links-more : (b : Bus) (h : Host) (w : Making) (q : Asking) → LinksFit b h.links → IsFree w q h → 1 ≤ b.made
     → ((c : Connection) → IsIn c b.connections → c.number ≤ b.made)
-    → LinksFit (attached w.ap w.intf w.cport w.protocol b) (ls ++ new_link (next_connection b) w ∷ [])
-links-more b ls w q f free made range = record {
-  rise = two-pushed IsLinkBefore ls new f.rise (each-from (λ l. IsLinkBefore l new) ls (λ l i. let n = f.numbered l i in record {
+    → LinksFit (attached w.ap w.intf w.cport w.protocol b) (h.links ++ new_link (next_connection b) w ∷ [])
+links-more b h w q f free made range = record {
+  rise = two-pushed IsLinkBefore h.links new f.rise (each-from (λ l. IsLinkBefore l new) h.links (λ l i. let n = f.numbered l i in record {
     number = let g = n.given in omega (arith, g);
     ap = free.ap l i;
-    apart = λ other. apart l i other (is_link l.intf l.cport new) refl;
+    apart = apart l i (is_link l.intf l.cport new) refl;
   }));
   numbered = λ l i. ⊎_elim
       (λ o. let n = f.numbered l o in record { from_two = n.from_two; given = let g = n.given in omega (arith, g); from_one = n.from_one; within = n.within })
@@ -206,11 +212,11 @@ links-more b ls w q f free made range = record {
         given = omega arith;
         from_one = free.from_one;
         within = free.within;
-      })) (in-pushed l ls new i);
-  waiting = λ l i. ⊎_elim (λ o. f.waiting l o) (λ e. subst IsWaiting (sym e) (λ v h. absurd (no-step v h))) (in-pushed l ls new i);
+      })) (in-pushed l h.links new i);
+  waiting = λ l i. ⊎_elim (λ o. f.waiting l o) (λ e. subst IsWaiting (sym e) (λ v k. absurd (no-step v k))) (in-pushed l h.links new i);
   deaf = λ l c i live on shut. ⊎_elim
       (λ o. ⊎_elim (λ a. f.deaf l c a o on shut)
-      (λ e. let high = range c o in absurd (omega (arith, high, on, ap (λ (x : Link). x.connection) e))) (in-pushed l ls new i))
+      (λ e. let high = range c o in absurd (omega (arith, high, on, ap (λ (x : Link). x.connection) e))) (in-pushed l h.links new i))
       (λ e. absurd (not-both c.shut shut (ap (λ (x : Connection). x.shut) e)))
       (in-pushed c b.connections (new_connection (next_connection b) w.ap (end.Module w.intf w.cport) w.protocol) live);
 }
@@ -218,20 +224,43 @@ links-more b ls w q f free made range = record {
     new : Link
     new = new_link (next_connection b) w
 
-    apart : (l : Link) → IsIn l ls → l.cport ≢ 0 → (t : Bool) → is_link l.intf l.cport (new_link (next_connection b) w) ≡ t → t ≡ false
-    apart l i other false e = refl
-    apart l i other true e =
+    apart : (l : Link) → IsIn l h.links → (t : Bool) → is_link l.intf l.cport (new_link (next_connection b) w) ≡ t → t ≡ false
+    apart l i false e = refl
+    apart l i true e =
         let at = link-is l.intf l.cport (new_link (next_connection b) w) e in
-        absurd (not-both (is_link w.intf w.cport l) (is-link w.intf w.cport l (sym at.0) (sym at.1))
-        (free.at (λ z. other (sym at.1 ∙ z)) l i))
+        absurd (not-both (is_link w.intf w.cport l) (is-link w.intf w.cport l (sym at.0) (sym at.1)) (free.at l i))
+
+host-more : (b : Bus) (h : Host) (w : Making) (q : Asking) → HostFits b h → IsFree w q h → 1 ≤ b.made
+    → ((c : Connection) → IsIn c b.connections → c.number ≤ b.made)
+    → HostFits (attached w.ap w.intf w.cport w.protocol b) (with_new_link (next_connection b) w.ap w.intf w.cport w.protocol h)
+host-more b h w q f free made range = record {
+  links = links-more b h w q f.links free made range;
+  interfaces = λ x i v e. let old = f.interfaces x i v e in (
+    old.0,
+    λ early l j.
+        ⊎_elim (λ o. old.1 early l o) (λ new. ap (is_link x.intf 0) new ∙ other x i v e (is_link x.intf 0 (new_link (next_connection b) w)) refl)
+        (in-pushed l h.links (new_link (next_connection b) w) j),
+  );
+  differ = f.differ;
+  present = λ l i. ⊎_elim (λ o. f.present l o)
+      (λ e. subst (λ n. IsPresent n h.interfaces) (sym (ap (λ (x : Link). x.intf) e)) free.present)
+      (in-pushed l h.links (new_link (next_connection b) w) i);
+}
+  where
+    other : (x : Interface) → IsIn x h.interfaces → (v : ℕ × SequenceStep) → x.awaits ≡ Some v → (t : Bool)
+        → is_link x.intf 0 (new_link (next_connection b) w) ≡ t → t ≡ false
+    other x i v e false is = refl
+    other x i v e true is =
+        let at = link-is x.intf 0 (new_link (next_connection b) w) is in
+        absurd (no-step v (sym (free.idle at.1 x i (sym at.0)) ∙ e))
 
 -- A connection is made, and its request is pending.
 pub linked-opened : (b : Bus) (h : Host) (w : Making) (q : Asking) (rest : List Act)
     → ((c : Connection) → IsIn c b.connections → c.number ≤ b.made) → Linked b h (Act.Open w q ∷ rest)
     → Linked (attached w.ap w.intf w.cport w.protocol b) (with_new_link (next_connection b) w.ap w.intf w.cport w.protocol h) (Act.Ask q ∷ rest)
 linked-opened b h w q rest range f = record {
-  host = record { links = links-more b h.links w q f.host.links free f.made range; interfaces = f.host.interfaces };
-  pending = ((due q.purpose.step free.step, f.pending.0.1), subst (ArePending (h.links ++ new_link (next_connection b) w ∷ [])) (sym f.pending.0.1) tt);
+  host = host-more b h w q f.host free f.made range;
+  pending = ((due q.purpose.step free.step, f.pending.0.1), subst (ArePending (with_new_link (next_connection b) w.ap w.intf w.cport w.protocol h)) (sym f.pending.0.1) tt);
   known = λ c live. ⊎_elim
       (λ o. known-more c h.links (new_link (next_connection b) w) (Act.Open w q) (λ e. absurd cc)
       (subst (λ r. IsKnown c h.links (Act.Open w q ∷ r)) f.pending.0.1 (f.known c o)) (Act.Ask q ∷ rest))
@@ -246,15 +275,21 @@ linked-opened b h w q rest range f = record {
     new : Connection
     new = new_connection (next_connection b) w.ap (end.Module w.intf w.cport) w.protocol
 
-    free : IsFree w q h.links
+    free : IsFree w q h
     free = f.pending.0.0
 
     last : (ls : List Link) → IsIn (new_link (next_connection b) w) (ls ++ new_link (next_connection b) w ∷ [])
     last [] = inl refl
     last (l ∷ ls) = inr (last ls)
 
-    due : (step : SequenceStep) → IsMaking w step → IsDue step q.purpose (h.links ++ new_link (next_connection b) w ∷ [])
-    due step (control zero_cport) = f.pending.0.0.cport ∙ zero_cport
+    due : (step : SequenceStep) → IsMaking w step
+        → IsDue step q.purpose (with_new_link (next_connection b) w.ap w.intf w.cport w.protocol h)
+    due step (control zero_cport) = record {
+      cport = f.pending.0.0.cport ∙ zero_cport;
+      none = λ e. absurd cc;
+      idle = λ x i e. f.pending.0.0.idle zero_cport x i (e ∙ f.pending.0.0.intf);
+      present = let p = f.pending.0.0.present in record { interface = p.interface; known = p.known; is = p.is ∙ sym f.pending.0.0.intf };
+    }
     due step (connection other) = record {
       cport = λ z. other (sym f.pending.0.0.cport ∙ z);
       idle = λ l e. ap (λ (x : Link). x.awaits) (is-new l e);
@@ -267,4 +302,4 @@ linked-opened b h w q rest range f = record {
             let i = found-in (is_link q.purpose.intf q.purpose.cport) (h.links ++ new_link (next_connection b) w ∷ []) l e in
             ⊎_elim (λ o. absurd (not-both (is_link w.intf w.cport l)
             (ap (λ n. is_link n w.cport l) (sym f.pending.0.0.intf) ∙ ap (λ n. is_link q.purpose.intf n l) (sym f.pending.0.0.cport) ∙ i.1)
-            (f.pending.0.0.at other l o))) (λ e. e) (in-pushed l h.links (new_link (next_connection b) w) i.0)
+            (f.pending.0.0.at l o))) (λ e. e) (in-pushed l h.links (new_link (next_connection b) w) i.0)

@@ -15,7 +15,8 @@ use Rattle.gb_invariants.proofs.Lists.{filter-in, found-in, in-behind, in-filter
 use Rattle.gb_invariants.proofs.Outcomes.{is-same, same-number}
 use Rattle.gb_laws.proofs.Controls.{control-none}
 use Rattle.gb_laws.proofs.LinkLists.{changed-in, find-changed, find-none, found-at, in-ordered, is-link, link-is, one-link}
-use Rattle.gb_laws.proofs.LinkSteps.{then-same, Stay, fits-answered, fits-asked, fits-telling, fits-through, followed-same, free_cport-is, interfaces-changed, links-changed, links-without, same-link, state-link, stay-changed, waits-not, without-in}
+use Rattle.gb_laws.proofs.LinkHosts.{kept-same, host-link, state-link, stay-changed, then-same}
+use Rattle.gb_laws.proofs.LinkSteps.{fits-asked, followed-same, waits-not}
 use Rattle.gb_laws.proofs.Links.{AreEnumerating, ArePending, HostFits, IsAtStep, IsDeaf, IsDue, IsDueBy, IsEnumerating, IsFollowed, IsIdle, IsWaiting, LinksFit, SameLink, TurnFits, connection, leaves, stays}
 use Rattle.gb_laws.proofs.Stepping.{else-later}
 use Rattle.gb_machine.specs.Arriving.{state_takes}
@@ -82,6 +83,7 @@ fits-closing b i c h l fits other e idle = record {
   pending = (((fits.links.numbered l (found-in (is_link i c) h.links l e).0).from_two, deaf (way_of p g) asked.host.links), (tt, asked.pending));
   followed = λ k j. let s = stay-changed h.links i c (in_state state.Closing) (state-link state.Closing) k j in
       behind k s.0 s.2 (asked.followed s.0 s.1);
+  kept = asked.kept;
 }
   where
     p : Purpose
@@ -94,12 +96,9 @@ fits-closing b i c h l fits other e idle = record {
     is-it y f = same-some l y (sym e ∙ f)
 
     now : HostFits b (with_link i c (in_state state.Closing) h)
-    now = record {
-      links = links-changed b h.links i c (in_state state.Closing) (state-link state.Closing)
-          (λ y j f w. waits-not (in_state state.Closing y) (ap (λ (x : Link). x.awaits) (sym (same-some l y (sym e ∙ f))) ∙ idle))
-          (λ y j f d. record { cport = d.cport; takes = refl }) fits.links;
-      interfaces = fits.interfaces;
-    }
+    now = host-link b h i c (in_state state.Closing) (state-link state.Closing)
+        (λ y j f w. waits-not (in_state state.Closing y) (ap (λ (x : Link). x.awaits) (sym (same-some l y (sym e ∙ f))) ∙ idle))
+        (λ y j f d. record { cport = d.cport; takes = refl }) fits
 
     found : find (is_link i c) (with_link i c (in_state state.Closing) h).links ≡ Some (in_state state.Closing l)
     found = find-changed (is_link i c) (in_state state.Closing) h.links (λ x. refl) ∙ ap (option_map (in_state state.Closing)) e
@@ -143,7 +142,7 @@ fits-disconnects b i c h fits free = by (link_at i c h) refl
     allowed false e f = (λ z. not-both (c == 0) (ap (λ x. x == 0) z) e, f)
 
     by : (o : Option Link) → link_at i c h ≡ o → TurnFits b h (disconnects o (purpose i c SequenceStep.TellDisconnecting) h)
-    by None e = record { host = fits; pending = tt; followed = followed-same h.links [] }
+    by None e = record { host = fits; pending = tt; followed = followed-same h.links []; kept = kept-same h.interfaces }
     by (Some l) e =
         let may = allowed (c == 0) refl (else-later (absent_refusal (interface_of i h)) _ free) in
         let waits = fits.links.waiting l (found-in (is_link i c) h.links l e).0 in

@@ -4,10 +4,10 @@ use Rattle.std.proofs.lemmas.Bool.Decides.{nat_tests}
 use Rattle.std.specs.Prelude.{◌==◌, ◌||◌, option_map}
 use Rattle.std.specs.List.{find, list_any}
 use Rattle.gb_invariants.proofs.Awaiting.{not-both, same-some}
-use Rattle.gb_invariants.proofs.Lists.{each-in}
+use Rattle.gb_invariants.proofs.Lists.{each-from, each-in}
 use Rattle.gb_invariants.proofs.Outcomes.{both-true, is-same, same-number}
-use Rattle.gb_laws.proofs.Links.{IsLinkBefore}
-use Rattle.gb_machine.specs.Host.{Link, is_link}
+use Rattle.gb_laws.proofs.Links.{AreOther, IsLinkBefore}
+use Rattle.gb_machine.specs.Host.{Interface, Link, is_intf, is_link}
 use Rattle.gb_machine.specs.Lists.{at_first, first_free, in_order}
 use Rattle.gb_machine.specs.Members.{EachTwo, IsIn}
 
@@ -129,19 +129,66 @@ found-link (x ∷ xs) l rise (inr i) =
     let other : (x.connection == l.connection) ≡ false = grind (arith, nat_tests) in
     ap (λ b. cond b (Some x) (find (λ k. k.connection == l.connection) xs)) other ∙ found-link xs l rise.1 i
 
--- a connection other than Control is found by its CPort
-pub found-at : (ls : List Link) (l : Link) → EachTwo IsLinkBefore ls → IsIn l ls → l.cport ≢ 0 → find (is_link l.intf l.cport) ls ≡ Some l
-found-at [] l rise i other = absurd i
-found-at (x ∷ xs) l rise (inl i) other =
+-- a connection is found by its CPort
+pub found-at : (ls : List Link) (l : Link) → EachTwo IsLinkBefore ls → IsIn l ls → find (is_link l.intf l.cport) ls ≡ Some l
+found-at [] l rise i = absurd i
+found-at (x ∷ xs) l rise (inl i) =
     ap (λ b. cond b (Some x) (find (is_link l.intf l.cport) xs))
     (is-link l.intf l.cport x (sym (ap (λ (y : Link). y.intf) i)) (sym (ap (λ (y : Link). y.cport) i))) ∙ ap Some (sym i)
-found-at (x ∷ xs) l rise (inr i) other =
-    ap (λ b. cond b (Some x) (find (is_link l.intf l.cport) xs)) (by (is_link l.intf l.cport x) refl) ∙ found-at xs l rise.1 i other
+found-at (x ∷ xs) l rise (inr i) =
+    ap (λ b. cond b (Some x) (find (is_link l.intf l.cport) xs)) (by (is_link l.intf l.cport x) refl) ∙ found-at xs l rise.1 i
   where
     by : (b : Bool) → is_link l.intf l.cport x ≡ b → b ≡ false
     by false e = refl
     by true e =
         let p = link-is l.intf l.cport x e in
         let is = is-link x.intf x.cport l (sym p.0) (sym p.1) in
-        let apart = (each-in (IsLinkBefore x) xs l rise.0 i).apart (λ z. other (sym p.1 ∙ z)) in
-        absurd (not-both (is_link x.intf x.cport l) is apart)
+        absurd (not-both (is_link x.intf x.cport l) is (each-in (IsLinkBefore x) xs l rise.0 i).apart)
+
+-- ---- interfaces
+
+-- what is changed of an interface is all that there is of it
+pub in-only : (i : ℕ) (f : Interface → Interface) (xs : List Interface) (x : Interface) → EachTwo AreOther xs
+    → IsIn x (at_first (is_intf i) f xs) → x.intf ≡ i → (y : Interface) × IsIn y xs × (x ≡ f y)
+in-only i f [] x differ j e = absurd j
+in-only i f (y ∷ ys) x differ j e = by (is_intf i y) refl j (in-only i f ys x differ.1)
+  where
+    by : (t : Bool) → is_intf i y ≡ t → IsIn x (cond t (f y ∷ ys) (y ∷ at_first (is_intf i) f ys))
+        → (IsIn x (at_first (is_intf i) f ys) → x.intf ≡ i → (z : Interface) × IsIn z ys × (x ≡ f z))
+        → (z : Interface) × IsIn z (y ∷ ys) × (x ≡ f z)
+    by true is (inl k) rec = (y, inl refl, k)
+    by true is (inr k) rec = absurd (each-in (AreOther y) ys x differ.0 k (same-number y.intf i is ∙ sym e))
+    by false is (inl k) rec =
+        absurd (not-both (y.intf == i) (ap (λ n. n == i) (sym (ap (λ (z : Interface). z.intf) k) ∙ e) ∙ is-same i) is)
+    by false is (inr k) rec = let r = rec k e in (r.0, inr r.1, r.2)
+
+-- an interface more, in its order
+pub ordered-in : (before : Interface → Interface → Bool) (y : Interface) (ys : List Interface) → IsIn y (in_order before y ys)
+ordered-in before y [] = inl refl
+ordered-in before y (z ∷ zs) = by (before y z) (ordered-in before y zs)
+  where
+    by : (t : Bool) → IsIn y (in_order before y zs) → IsIn y (cond t (y ∷ z ∷ zs) (z ∷ in_order before y zs))
+    by true j = inl refl
+    by false j = inr j
+
+pub ordered-stays : (before : Interface → Interface → Bool) (x y : Interface) (ys : List Interface) → IsIn x ys → IsIn x (in_order before y ys)
+ordered-stays before x y [] i = absurd i
+ordered-stays before x y (z ∷ zs) i = by (before y z) i (ordered-stays before x y zs)
+  where
+    by : (t : Bool) → IsIn x (z ∷ zs) → (IsIn x zs → IsIn x (in_order before y zs)) → IsIn x (cond t (y ∷ z ∷ zs) (z ∷ in_order before y zs))
+    by true j rec = inr j
+    by false (inl e) rec = inl e
+    by false (inr j) rec = inr (rec j)
+
+pub ordered-differ : (before : Interface → Interface → Bool) (y : Interface) (ys : List Interface) → ((x : Interface) → IsIn x ys → AreOther y x)
+    → EachTwo AreOther ys → EachTwo AreOther (in_order before y ys)
+ordered-differ before y [] other differ = (tt, tt)
+ordered-differ before y (z ∷ zs) other differ = by (before y z) (ordered-differ before y zs (λ x i. other x (inr i)) differ.1)
+  where
+    by : (t : Bool) → EachTwo AreOther (in_order before y zs) → EachTwo AreOther (cond t (y ∷ z ∷ zs) (z ∷ in_order before y zs))
+    by true rec = (each-from (AreOther y) (z ∷ zs) other, differ)
+    by false rec = (
+      each-from (AreOther z) (in_order before y zs) (λ x i. ⊎_elim (λ e k. other z (inl refl) (sym (k ∙ ap (λ (v : Interface). v.intf) e)))
+          (λ j. each-in (AreOther z) zs x differ.0 j) (in-ordered before x y zs i)),
+      rec,
+    )

@@ -1,6 +1,6 @@
 -- The facts of the application processor's connections go over each of its turns.
 use Rattle.std.proofs.Common.{◌≡◌, ◌⊎◌, ◌≤◌, ◌≢◌, ℕ, Bool, true, false, cond, Option, Some, None, List, [], ◌∷◌, ◌++◌, refl, sym, ap, ◌∙◌, inl, inr, ⊎_elim, subst}
-use Rattle.std.specs.Prelude.{◌==◌, is_none, is_some, option_and_then, option_map}
+use Rattle.std.specs.Prelude.{◌==◌, not, is_none, is_some, option_and_then, option_map}
 use Rattle.std.specs.List.{filter, find}
 use Rattle.gb_base.specs.declared.entry.ConnState.{ConnState}
 use Rattle.gb_base.specs.declared.entry.ConnState.TheVariants as state
@@ -11,12 +11,13 @@ use Rattle.gb_base.specs.declared.refusal.Refusal.{Refusal}
 use Rattle.gb_base.specs.declared.refusal.Refusal.TheVariants as why
 use Rattle.gb_formats.specs.Manifest.{CportView}
 use Rattle.gb_invariants.proofs.Awaiting.{not-both, same-some}
-use Rattle.gb_invariants.proofs.Lists.{filter-in, found-in, in-behind, in-filter, in-front, in-without}
+use Rattle.gb_invariants.proofs.Lists.{filter-in, found-in, in-filter, in-front, in-without, two-filter}
 use Rattle.gb_invariants.proofs.Outcomes.{is-same, same-number}
 use Rattle.gb_laws.proofs.Controls.{control-none}
-use Rattle.gb_laws.proofs.LinkLists.{changed-in, find-changed, find-none, found-at, in-ordered, is-link, link-is, one-link}
-use Rattle.gb_laws.proofs.LinkSteps.{Stay, fits-answered, fits-asked, fits-telling, fits-through, followed-same, free_cport-is, interfaces-changed, links-changed, links-without, same-link, state-link, stay-changed, waits-not, without-in}
-use Rattle.gb_laws.proofs.Links.{AreEnumerating, ArePending, HostFits, IsAtStep, IsDeaf, IsDue, IsDueBy, IsEnumerating, IsFollowed, IsIdle, IsWaiting, LinksFit, SameLink, TurnFits, connection, leaves, stays}
+use Rattle.gb_laws.proofs.LinkLists.{find-changed, find-none, found-at, in-only, in-ordered, is-link, link-is, one-link, ordered-differ, ordered-in, ordered-stays}
+use Rattle.gb_laws.proofs.LinkHosts.{Onto, kept-same, onto-interface, onto-link, present-changed, host-interface, host-link, links-without, none-without, same-link, stay-changed, stay-same, without-in}
+use Rattle.gb_laws.proofs.LinkSteps.{fits-answered, fits-asked, fits-telling, fits-through, followed-same, free_cport-is, waits-not}
+use Rattle.gb_laws.proofs.Links.{AreEnumerating, AreOther, ArePending, HasNoControl, HostFits, IsAtStep, IsDue, IsDueBy, IsEnumerating, IsFollowed, IsPresent, IsResting, SameLink, TurnFits, connection, is_early, leaves, stays}
 use Rattle.gb_laws.proofs.Stepping.{else-later}
 use Rattle.gb_machine.specs.Arriving.{state_takes}
 use Rattle.gb_machine.specs.Bus.{Bus, or_else}
@@ -35,7 +36,8 @@ use Rattle.gb_machine.specs.Waits.{awaited, awaits_nothing, interface_waits, lin
 
 -- a step that waits, from an interface or from a connection
 data WaitsFor (h : Host) (p : Purpose) : Type 0 where
-  enumerating : is_enumeration p.step ≡ true → p.cport ≡ 0 → WaitsFor h p
+  enumerating : (x : Interface) → IsIn x h.interfaces → p.intf ≡ x.intf → p.cport ≡ 0 → (w : ℕ × SequenceStep) → x.awaits ≡ Some w
+      → p.step ≡ w.1 → WaitsFor h p
   connecting : (l : Link) → IsIn l h.links → p.intf ≡ l.intf → p.cport ≡ l.cport → (w : ℕ × SequenceStep) → l.awaits ≡ Some w
       → p.step ≡ w.1 → WaitsFor h p
 
@@ -48,21 +50,39 @@ purpose-is n i c (Some w) p h = by (w.0 == n) h
     by true h = (w, refl, same-some (purpose i c w.1) p h)
     by false h = absurd cc
 
-waits-interface : (n : ℕ) (xs : List Interface) (p : Purpose) → AreEnumerating xs → interface_waits n xs ≡ Some p
-    → (is_enumeration p.step ≡ true) × (p.cport ≡ 0)
-waits-interface n [] p fits h = absurd cc
-waits-interface n (x ∷ xs) p fits h =
-    by (purpose_in n x.intf 0 x.awaits) refl h (waits-interface n xs p (λ y i. fits y (inr i)))
+record WaitsIn (xs : List Interface) (p : Purpose) : Type 0 where
+  interface : Interface
+  known : IsIn interface xs
+  intf : p.intf ≡ interface.intf
+  cport : p.cport ≡ 0
+  what : ℕ × SequenceStep
+  awaits : interface.awaits ≡ Some what
+  step : p.step ≡ what.1
+
+waits-interface : (n : ℕ) (xs : List Interface) (p : Purpose) → interface_waits n xs ≡ Some p → WaitsIn xs p
+waits-interface n [] p h = absurd cc
+waits-interface n (x ∷ xs) p h = by (purpose_in n x.intf 0 x.awaits) refl h (waits-interface n xs p)
   where
     by : (o : Option Purpose) → purpose_in n x.intf 0 x.awaits ≡ o → or_else o (interface_waits n xs) ≡ Some p
-        → (interface_waits n xs ≡ Some p → (is_enumeration p.step ≡ true) × (p.cport ≡ 0))
-        → (is_enumeration p.step ≡ true) × (p.cport ≡ 0)
-    by None e h rec = rec h
-    by (Some q) e h rec =
-        let s = purpose-is n x.intf 0 x.awaits p (e ∙ h) in (
-          ap (λ (y : Purpose). is_enumeration y.step) (sym s.2) ∙ fits x (inl refl) s.0 s.1,
-          ap (λ (y : Purpose). y.cport) (sym s.2),
-        )
+        → (interface_waits n xs ≡ Some p → WaitsIn xs p) → WaitsIn (x ∷ xs) p
+    by None e h rec = let r = rec h in record {
+      interface = r.interface;
+      known = inr r.known;
+      intf = r.intf;
+      cport = r.cport;
+      what = r.what;
+      awaits = r.awaits;
+      step = r.step;
+    }
+    by (Some q) e h rec = let s = purpose-is n x.intf 0 x.awaits p (e ∙ h) in record {
+      interface = x;
+      known = inl refl;
+      intf = ap (λ (y : Purpose). y.intf) (sym s.2);
+      cport = ap (λ (y : Purpose). y.cport) (sym s.2);
+      what = s.0;
+      awaits = s.1;
+      step = ap (λ (y : Purpose). y.step) (sym s.2);
+    }
 
 record WaitsAt (ls : List Link) (p : Purpose) : Type 0 where
   link : Link
@@ -119,8 +139,8 @@ step-connects SequenceStep.AskManifest s h = absurd h
 -- What is known once a sequence waits no more for a request that ended.
 record Resumed (b : Bus) (p : Purpose) (h g : Host) : Type 0 where
   host : HostFits b g
-  due : IsDue p.step p g.links
-  stay : Stay h.links g.links
+  due : IsDue p.step p g
+  onto : Onto h g
 
 no-wait : (w : ℕ × SequenceStep) → None ≡ Some w → ⊥
 no-wait w f = absurd cc
@@ -131,50 +151,49 @@ idle_link l = record l { awaits = None }
 same-idle : (l : Link) → SameLink l (record l { awaits = None })
 same-idle l = record { connection = refl; ap = refl; intf = refl; cport = refl }
 
-resumed-interface : (b : Bus) (p : Purpose) (h : Host) → HostFits b h → is_enumeration p.step ≡ true → p.cport ≡ 0
-    → Resumed b p h (with_interface p.intf (λ x. record x { awaits = None }) h)
-resumed-interface b p h fits is zero_cport = record {
-  host = record {
-    links = fits.links;
-    interfaces = interfaces-changed h.interfaces p.intf (λ x. record x { awaits = None }) (λ x e w f. absurd (no-wait w f)) fits.interfaces;
-  };
-  due = subst (λ t. IsDueBy t p.step p h.links) (sym is) zero_cport;
-  stay = λ l i. (l, i, same-link l);
+resumed-interface : (b : Bus) (p : Purpose) (h : Host) → HostFits b h → (x : Interface) → IsIn x h.interfaces → p.intf ≡ x.intf → p.cport ≡ 0
+    → is_enumeration p.step ≡ true → (is_early p.step ≡ true → HasNoControl x.intf h.links)
+    → Resumed b p h (with_interface p.intf (λ y. record y { awaits = None }) h)
+resumed-interface b p h fits x i at zero_cport is none = record {
+  host = host-interface b p.intf (λ y. record y { awaits = None }) h (λ y. refl) (λ y j e old w f. absurd (no-wait w f)) fits;
+  due = subst (λ t. IsDueBy t p.step p (with_interface p.intf (λ y. record y { awaits = None }) h)) (sym is) (record {
+    cport = zero_cport;
+    none = λ early. subst (λ n. HasNoControl n h.links) (sym at) (none early);
+    idle = λ y j e. ap (λ (z : Interface). z.awaits) (in-only p.intf (λ z. record z { awaits = None }) h.interfaces y fits.differ j e).2;
+    present = present-changed p.intf p.intf (λ y. record y { awaits = None }) h.interfaces (λ y. refl)
+        (record { interface = x; known = i; is = sym at });
+  });
+  onto = onto-interface h p.intf (λ y. record y { awaits = None }) (λ y. refl);
 }
 
 resumed-link : (b : Bus) (p : Purpose) (h : Host) → HostFits b h → (l : Link) → IsIn l h.links → p.intf ≡ l.intf → p.cport ≡ l.cport
     → (l.cport ≢ 0) → IsAtStep p.step l.state → Resumed b p h (with_link p.intf p.cport (λ k. record k { awaits = None }) h)
 resumed-link b p h fits l i intf cport other at = record {
-  host = record {
-    links = links-changed b h.links p.intf p.cport (λ k. record k { awaits = None }) same-idle
-        (λ k j f v. waits-not (record k { awaits = None }) refl) (λ k j f d. record { cport = d.cport; takes = d.takes }) fits.links;
-    interfaces = fits.interfaces;
-  };
-  due = subst (λ t. IsDueBy t p.step p (with_link p.intf p.cport (λ k. record k { awaits = None }) h).links)
+  host = host-link b h p.intf p.cport (λ k. record k { awaits = None }) same-idle
+      (λ k j f v. waits-not (record k { awaits = None }) refl) (λ k j f d. record { cport = d.cport; takes = d.takes }) fits;
+  due = subst (λ t. IsDueBy t p.step p (with_link p.intf p.cport (λ k. record k { awaits = None }) h))
       (sym (step-connects p.step l.state at)) (record {
         cport = λ z. other (sym cport ∙ z);
         idle = λ y f. ap (λ (x : Link). x.awaits) (sym (is-it y f));
         state = λ y f. subst (λ (x : Link). IsAtStep p.step x.state) (is-it y f) at;
       });
-  stay = stay-changed h.links p.intf p.cport (λ k. record k { awaits = None }) same-idle;
+  onto = onto-link h p.intf p.cport (λ k. record k { awaits = None }) same-idle;
 }
   where
-    found : find (is_link p.intf p.cport) h.links ≡ Some l
-    found = ap (λ x. find (is_link x p.cport) h.links) intf ∙ ap (λ x. find (is_link l.intf x) h.links) cport
-        ∙ found-at h.links l fits.links.rise i other
-
     is-it : (y : Link) → find (is_link p.intf p.cport) (at_first (is_link p.intf p.cport) (λ k. record k { awaits = None }) h.links) ≡ Some y
         → record l { awaits = None } ≡ y
     is-it y f = same-some (record l { awaits = None }) y
         (sym (find-changed (is_link p.intf p.cport) (λ k. record k { awaits = None }) h.links (λ x. refl)
         ∙ ap (option_map idle_link) (ap (λ x. find (is_link x p.cport) h.links) intf ∙ ap (λ x. find (is_link l.intf x) h.links) cport
-        ∙ found-at h.links l fits.links.rise i other)) ∙ f)
+        ∙ found-at h.links l fits.links.rise i)) ∙ f)
 
 resumed : (b : Bus) (p : Purpose) (h : Host) → HostFits b h → WaitsFor h p → Resumed b p h (awaits_nothing p h)
-resumed b p h fits (enumerating is zero_cport) =
+resumed b p h fits (enumerating x i at zero_cport w awaits step) =
+    let is = fits.interfaces x i w awaits in
+    let enumeration = ap is_enumeration step ∙ is.0 in
     subst (Resumed b p h)
-    (sym (ap (λ t. cond t (with_interface p.intf (λ x. record x { awaits = None }) h) (with_link p.intf p.cport (λ l. record l { awaits = None }) h)) is))
-    (resumed-interface b p h fits is zero_cport)
+    (sym (ap (λ t. cond t (with_interface p.intf (λ x. record x { awaits = None }) h) (with_link p.intf p.cport (λ l. record l { awaits = None }) h)) enumeration))
+    (resumed-interface b p h fits x i at zero_cport enumeration (λ e. is.1 (sym (ap is_early step) ∙ e)))
 resumed b p h fits (connecting l i intf cport w awaits step) =
     let waits = fits.links.waiting l i w awaits in
     let at = subst (λ s. IsAtStep s l.state) (sym step) waits.1 in
@@ -188,36 +207,59 @@ waits-for b n h p fits e = by (interface_waits n h.interfaces) refl e
   where
     by : (o : Option Purpose) → interface_waits n h.interfaces ≡ o → or_else o (link_waits n h.links) ≡ Some p → WaitsFor h p
     by None f e = let r = waits-link n h.links p e in connecting r.link r.live r.intf r.cport r.what r.awaits r.step
-    by (Some q) f e = let r = waits-interface n h.interfaces p fits.interfaces (f ∙ e) in enumerating r.0 r.1
+    by (Some q) f e = let r = waits-interface n h.interfaces p (f ∙ e) in enumerating r.interface r.known r.intf r.cport r.what r.awaits r.step
 
 pub fits-ended : (b : Bus) (n : ℕ) (how : Outcome) (h : Host) → HostFits b h → TurnFits b h (host_ended n how h)
 fits-ended b n how h fits = by (awaited n h) refl
   where
     by : (o : Option Purpose) → awaited n h ≡ o → TurnFits b h (ended_for o how h)
-    by None e = record { host = fits; pending = tt; followed = followed-same h.links [] }
+    by None e = record { host = fits; pending = tt; followed = followed-same h.links []; kept = kept-same h.interfaces }
     by (Some p) e =
         let r = resumed b p h fits (waits-for b n h p fits e) in
-        fits-through b h (awaits_nothing p h) _ r.stay (fits-answered b (payload_in how) p (awaits_nothing p h) r.host r.due)
+        fits-through b h (awaits_nothing p h) _ r.onto (fits-answered b (payload_in how) p (awaits_nothing p h) r.host r.due)
 
 -- ---- insertion and removal
 
-pub fits-inserted : (b : Bus) (i : ℕ) (h : Host) → HostFits b h → TurnFits b h (host_inserted i h)
-fits-inserted b i h fits =
-    fits-telling b h (entry.Interface i stage.Enumerating) (step_asked (purpose i 0 SequenceStep.EnableVsys) (with_new_interface i h))
-    (fits-through b h (with_new_interface i h) _ (λ l j. (l, j, same-link l))
+-- an interface that is absent has no connection
+absent-none : (b : Bus) (i : ℕ) (h : Host) → HostFits b h → interface_of i h ≡ None → HasNoControl i h.links
+absent-none b i h fits absent l j = by (is_link i 0 l) refl
+  where
+    by : (t : Bool) → is_link i 0 l ≡ t → t ≡ false
+    by false e = refl
+    by true e =
+        let at = link-is i 0 l e in
+        let p = fits.present l j in
+        absurd (not-both (is_intf i p.interface) (ap (λ n. n == i) (p.is ∙ at.0) ∙ is-same i) (find-none (is_intf i) h.interfaces p.interface absent p.known))
+
+pub fits-inserted : (b : Bus) (i : ℕ) (h : Host) → HostFits b h → interface_of i h ≡ None → TurnFits b (with_new_interface i h) (host_inserted i h)
+fits-inserted b i h fits absent =
+    fits-telling b (with_new_interface i h) (entry.Interface i stage.Enumerating) (step_asked (purpose i 0 SequenceStep.EnableVsys) (with_new_interface i h))
     (fits-asked b (purpose i 0 SequenceStep.EnableVsys) (with_new_interface i h)
     (record {
       links = fits.links;
-      interfaces = λ x j. ⊎_elim (λ e. subst IsEnumerating (sym e) (λ w f. absurd (no-wait w f)))
+      interfaces = λ x j. ⊎_elim (λ e. subst (IsEnumerating h.links) (sym e) (λ w f. absurd (no-wait w f)))
           (λ o. fits.interfaces x o) (in-ordered intf_before x (new_interface i) h.interfaces j);
-    }) refl))
+      differ = ordered-differ intf_before (new_interface i) h.interfaces (λ x j e. other x j (sym e)) fits.differ;
+      present = λ l j. let p = fits.present l j in
+          record { interface = p.interface; known = ordered-stays intf_before p.interface (new_interface i) h.interfaces p.known; is = p.is };
+    })
+    (record {
+      cport = refl;
+      none = λ e. absent-none b i h fits absent;
+      idle = λ x j e. ⊎_elim (λ f. ap (λ (y : Interface). y.awaits) f) (λ o. absurd (other x o e)) (in-ordered intf_before x (new_interface i) h.interfaces j);
+      present = record { interface = new_interface i; known = ordered-in intf_before (new_interface i) h.interfaces; is = refl };
+    }))
+  where
+    other : (x : Interface) → IsIn x h.interfaces → x.intf ≡ i → ⊥
+    other x j e = not-both (is_intf i x) (ap (λ n. n == i) e ∙ is-same i) (find-none (is_intf i) h.interfaces x absent j)
 
-pending-left : (left : List Link) (ls : List Link) (x : Act) → ((l : Link) → IsIn l ls → 2 ≤ l.connection) → ((l k : Link) → IsIn l ls → IsIn k left → k.connection ≡ l.connection → ⊥)
-    → ArePending left (x ∷ []) → ArePending left (links_left ls ++ x ∷ [])
-pending-left left [] x two none h = h
-pending-left left (l ∷ ls) x two none h = (
+pending-left : (g : Host) (ls : List Link) (x : Act) → ((l : Link) → IsIn l ls → 2 ≤ l.connection)
+    → ((l k : Link) → IsIn l ls → IsIn k g.links → k.connection ≡ l.connection → ⊥)
+    → ArePending g (x ∷ []) → ArePending g (links_left ls ++ x ∷ [])
+pending-left g [] x two none h = h
+pending-left g (l ∷ ls) x two none h = (
   (two l (inl refl), λ k j e. absurd (none l k (inl refl) j e)),
-  (tt, (tt, pending-left left ls x (λ m i. two m (inr i)) (λ m k i j e. none m k (inr i) j e) h)),
+  (two l (inl refl), (tt, pending-left g ls x (λ m i. two m (inr i)) (λ m k i j e. none m k (inr i) j e) h)),
 )
 
 left-in : (ls : List Link) (l : Link) → IsIn l ls → IsIn (Act.Leave l.connection) (links_left ls)
@@ -229,11 +271,23 @@ pub fits-removed : (b : Bus) (i : ℕ) (h : Host) → HostFits b h → TurnFits 
 fits-removed b i h fits = record {
   host = record {
     links = links-without b (λ l. l.intf == i) h.links fits.links;
-    interfaces = λ x j. fits.interfaces x (in-without (is_intf i) h.interfaces x j).0;
+    interfaces = λ x j w e. let old = fits.interfaces x (in-without (is_intf i) h.interfaces x j).0 w e in
+        (old.0, λ early. none-without x.intf (λ l. l.intf == i) h.links (old.1 early));
+    differ = two-filter AreOther (λ x. not (is_intf i x)) h.interfaces fits.differ;
+    present = λ l j.
+        let w = in-without (λ (x : Link). x.intf == i) h.links l j in
+        let p = fits.present l w.0 in
+        record {
+          interface = p.interface;
+          known = filter-in (λ x. not (is_intf i x)) h.interfaces p.interface p.known
+              (ap not (ap (λ n. n == i) p.is ∙ w.1));
+          is = p.is;
+        };
   };
-  pending = pending-left (without (λ l. l.intf == i) h.links) (links_of i h) _
+  pending = pending-left (without_interface i h) (links_of i h) _
       (λ l j. (fits.links.numbered l (in-filter (λ (x : Link). x.intf == i) h.links l j).0).from_two) other (tt, tt);
   followed = λ l j. by l j (l.intf == i) refl;
+  kept = λ x j. kept-same h.interfaces x (in-without (is_intf i) h.interfaces x j).0;
 }
   where
     other : (l k : Link) → IsIn l (links_of i h) → IsIn k (without (λ l. l.intf == i) h.links) → k.connection ≡ l.connection → ⊥
@@ -267,8 +321,12 @@ fits-connects b i c h fits free = by (option_and_then (cport_of c) (interface_of
     at = none-met (link_at i c h) why.Occupied (first_met ((is_none (free_cport h), why.CportsSpent) ∷ []))
         (else-later (cport_refusal (option_and_then (cport_of c) (interface_of i h))) _ (else-later (interface_refusal (interface_of i h)) _ free))
 
+    present : (o : Option Interface) → interface_of i h ≡ o → interface_refusal o ≡ None → IsPresent i h.interfaces
+    present None e f = absurd cc
+    present (Some x) e f = let k = found-in (is_intf i) h.interfaces x e in record { interface = x; known = k.0; is = same-number x.intf i k.1 }
+
     nothing : TurnFits b h (record { host = h; acts = [] })
-    nothing = record { host = fits; pending = tt; followed = followed-same h.links [] }
+    nothing = record { host = fits; pending = tt; followed = followed-same h.links []; kept = kept-same h.interfaces }
 
     undeclared : (o : Option Interface) → option_and_then (cport_of 0) o ≡ None
     undeclared None = refl
@@ -291,13 +349,16 @@ fits-connects b i c h fits free = by (option_and_then (cport_of c) (interface_of
             from_one = cport.from_one;
             within = cport.within;
             ap = cport.other;
-            at = λ n l j. find-none (is_link i c) h.links l at j;
+            at = λ l j. find-none (is_link i c) h.links l at j;
+            idle = λ z. absurd (other view e z);
+            present = present (interface_of i h) refl (else-first (interface_refusal (interface_of i h)) _ free);
           },
           refl,
         ),
         tt,
       );
       followed = followed-same h.links _;
+      kept = kept-same h.interfaces;
     }
 
     by : (o : Option CportView) → option_and_then (cport_of c) (interface_of i h) ≡ o

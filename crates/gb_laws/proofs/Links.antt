@@ -26,9 +26,34 @@ IsAtStep _ s = ⊥
 abbrev pub IsWaiting : Link → Type 0
 IsWaiting l = (w : ℕ × SequenceStep) → l.awaits ≡ Some w → (l.cport ≢ 0) × IsAtStep w.1 l.state
 
--- an interface waits for steps of its enumeration
-abbrev pub IsEnumerating : Interface → Type 0
-IsEnumerating x = (w : ℕ × SequenceStep) → x.awaits ≡ Some w → is_enumeration w.1 ≡ true
+-- a step of an enumeration before its Control connection is made
+abbrev pub is_early : SequenceStep → Bool
+is_early SequenceStep.EnableVsys = true
+is_early SequenceStep.EnableRefclk = true
+is_early SequenceStep.EnableUnipro = true
+is_early SequenceStep.Activate = true
+is_early SequenceStep.GiveDevice = true
+is_early SequenceStep.CreateRoute = true
+is_early _ = false
+
+-- an interface has no Control connection
+abbrev pub HasNoControl : ℕ → List Link → Type 0
+HasNoControl i ls = (l : Link) → IsIn l ls → is_link i 0 l ≡ false
+
+-- An interface waits for steps of its enumeration, with no Control connection before that is made.
+abbrev pub IsEnumerating : List Link → Interface → Type 0
+IsEnumerating ls x = (w : ℕ × SequenceStep) → x.awaits ≡ Some w
+    → (is_enumeration w.1 ≡ true) × (is_early w.1 ≡ true → HasNoControl x.intf ls)
+
+-- an interface is known
+pub record IsPresent (i : ℕ) (xs : List Interface) : Type 0 where
+  pub interface : Interface
+  pub known : IsIn interface xs
+  pub is : interface.intf ≡ i
+
+-- an interface waits for nothing
+abbrev pub IsResting : ℕ → List Interface → Type 0
+IsResting i xs = (x : Interface) → IsIn x xs → x.intf ≡ i → x.awaits ≡ None
 
 -- A connection isn't Control, and nothing is taken there.
 pub record IsDeaf (l : Link) : Type 0 where
@@ -42,12 +67,11 @@ pub record IsNumbered (made : ℕ) (l : Link) : Type 0 where
   pub from_one : 1 ≤ l.ap
   pub within : l.ap ≤ 4095
 
--- One comes before another: numbers rise, the application processor's CPorts differ, and so do the
--- modules', but for Control.
+-- One comes before another: numbers rise, and the ends differ.
 pub record IsLinkBefore (l k : Link) : Type 0 where
   pub number : l.connection < k.connection
   pub ap : l.ap ≢ k.ap
-  pub apart : l.cport ≢ 0 → is_link l.intf l.cport k ≡ false
+  pub apart : is_link l.intf l.cport k ≡ false
 
 -- ---- all of them
 
@@ -60,13 +84,19 @@ pub record LinksFit (b : Bus) (ls : List Link) : Type 0 where
       → c.shut ≡ true → IsDeaf l
 
 -- what is known of interfaces
-abbrev pub AreEnumerating : List Interface → Type 0
-AreEnumerating xs = (x : Interface) → IsIn x xs → IsEnumerating x
+abbrev pub AreEnumerating : List Link → List Interface → Type 0
+AreEnumerating ls xs = (x : Interface) → IsIn x xs → IsEnumerating ls x
+
+-- two interfaces differ
+abbrev pub AreOther : Interface → Interface → Type 0
+AreOther x y = x.intf ≢ y.intf
 
 -- The application processor, beside the bus.
 pub record HostFits (b : Bus) (h : Host) : Type 0 where
   pub links : LinksFit b h.links
-  pub interfaces : AreEnumerating h.interfaces
+  pub interfaces : AreEnumerating h.links h.interfaces
+  pub differ : EachTwo AreOther h.interfaces
+  pub present : (l : Link) → IsIn l h.links → IsPresent l.intf h.interfaces
 
 -- ---- steps that are due
 
@@ -76,13 +106,20 @@ pub record IsIdle (step : SequenceStep) (p : Purpose) (ls : List Link) : Type 0 
   pub idle : (l : Link) → find (is_link p.intf p.cport) ls ≡ Some l → l.awaits ≡ None
   pub state : (l : Link) → find (is_link p.intf p.cport) ls ≡ Some l → IsAtStep step l.state
 
-abbrev pub IsDueBy : Bool → SequenceStep → Purpose → List Link → Type 0
-IsDueBy true step p ls = p.cport ≡ 0
-IsDueBy false step p ls = IsIdle step p ls
+-- where a step of an enumeration is due, its interface is known and waits for nothing
+pub record IsNext (step : SequenceStep) (p : Purpose) (h : Host) : Type 0 where
+  pub cport : p.cport ≡ 0
+  pub none : is_early step ≡ true → HasNoControl p.intf h.links
+  pub idle : IsResting p.intf h.interfaces
+  pub present : IsPresent p.intf h.interfaces
 
--- A step is due: one of an enumeration is of CPort 0.
-abbrev pub IsDue : SequenceStep → Purpose → List Link → Type 0
-IsDue step p ls = IsDueBy (is_enumeration step) step p ls
+abbrev pub IsDueBy : Bool → SequenceStep → Purpose → Host → Type 0
+IsDueBy true step p h = IsNext step p h
+IsDueBy false step p h = IsIdle step p h.links
+
+-- A step is due.
+abbrev pub IsDue : SequenceStep → Purpose → Host → Type 0
+IsDue step p h = IsDueBy (is_enumeration step) step p h
 
 -- ---- acts that are pending
 
@@ -91,29 +128,30 @@ pub data IsMaking (w : Making) : SequenceStep → Type 0 where
   control : w.cport ≡ 0 → IsMaking w SequenceStep.CreateControl
   connection : w.cport ≢ 0 → IsMaking w SequenceStep.CreateConnection
 
--- A connection may be made: no other has its CPort of the application processor, nor its CPort of
--- the module, but for Control.
-pub record IsFree (w : Making) (q : Asking) (ls : List Link) : Type 0 where
+-- A connection may be made: its interface is known, and no other connection has its ends.
+pub record IsFree (w : Making) (q : Asking) (h : Host) : Type 0 where
   pub step : IsMaking w q.purpose.step
   pub intf : q.purpose.intf ≡ w.intf
   pub cport : q.purpose.cport ≡ w.cport
   pub from_one : 1 ≤ w.ap
   pub within : w.ap ≤ 4095
-  pub ap : (l : Link) → IsIn l ls → l.ap ≢ w.ap
-  pub at : w.cport ≢ 0 → (l : Link) → IsIn l ls → is_link w.intf w.cport l ≡ false
+  pub ap : (l : Link) → IsIn l h.links → l.ap ≢ w.ap
+  pub at : (l : Link) → IsIn l h.links → is_link w.intf w.cport l ≡ false
+  pub idle : w.cport ≡ 0 → IsResting w.intf h.interfaces
+  pub present : IsPresent w.intf h.interfaces
 
 -- an act that is pending, with those behind it
-abbrev pub IsPending : List Link → Act → List Act → Type 0
-IsPending ls (Act.Ask q) rest = IsDue q.purpose.step q.purpose ls × (rest ≡ [])
-IsPending ls (Act.Open w q) rest = IsFree w q ls × (rest ≡ [])
-IsPending ls (Act.Shut k) rest = (2 ≤ k) × ((l : Link) → IsIn l ls → l.connection ≡ k → IsDeaf l)
-IsPending ls (Act.Leave k) rest = Unit {0}
-IsPending ls (Act.Tell e) rest = Unit {0}
+abbrev pub IsPending : Host → Act → List Act → Type 0
+IsPending h (Act.Ask q) rest = IsDue q.purpose.step q.purpose h × (rest ≡ [])
+IsPending h (Act.Open w q) rest = IsFree w q h × (rest ≡ [])
+IsPending h (Act.Shut k) rest = (2 ≤ k) × ((l : Link) → IsIn l h.links → l.connection ≡ k → IsDeaf l)
+IsPending h (Act.Leave k) rest = 2 ≤ k
+IsPending h (Act.Tell e) rest = Unit {0}
 
 -- The acts that are pending.
-abbrev pub ArePending : List Link → List Act → Type 0
-ArePending ls [] = Unit {0}
-ArePending ls (x ∷ xs) = IsPending ls x xs × ArePending ls xs
+abbrev pub ArePending : Host → List Act → Type 0
+ArePending h [] = Unit {0}
+ArePending h (x ∷ xs) = IsPending h x xs × ArePending h xs
 
 -- ---- turns
 
@@ -132,8 +170,9 @@ pub data IsFollowed (l : Link) (ls : List Link) (acts : List Act) : Type 0 where
 -- What a turn keeps.
 pub record TurnFits (b : Bus) (h : Host) (t : Turn) : Type 0 where
   pub host : HostFits b t.host
-  pub pending : ArePending t.host.links t.acts
+  pub pending : ArePending t.host t.acts
   pub followed : (l : Link) → IsIn l h.links → IsFollowed l t.host.links t.acts
+  pub kept : (x : Interface) → IsIn x t.host.interfaces → IsPresent x.intf h.interfaces
 
 -- ---- the bus and the application processor
 

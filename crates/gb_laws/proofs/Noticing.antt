@@ -55,7 +55,7 @@ unnoticed-uart h l (Ok (UartAsk.SerialState lines)) = refl
 unnoticed-uart h l (Ok (UartAsk.ReceiveCredits count)) = unnoticed-credits h l (credits_added l.credits count)
 unnoticed-uart h l (Ok _) = refl
 
-unnoticed : (l : Link) (kind : ℕ) (payload : List ℕ) (h : Host) → (served_on (Some l) kind payload h).notices ≡ None
+pub unnoticed : (l : Link) (kind : ℕ) (payload : List ℕ) (h : Host) → (served_on (Some l) kind payload h).notices ≡ None
 unnoticed l kind payload h =
     unnoticed-if (l.protocol == 0x02) (serves_gpio l kind payload h) _
     (unnoticed-if (kind == irq_event) (interrupted l (read_gpio_ask kind payload) h) (host_refuses _ h)
@@ -101,7 +101,7 @@ pub record IsToldBySvc (m : Moment) (e : HostEvent) : Type 0 where
   pub tells : Tells e (read_svc_ask request.kind request.payload)
 
 -- the connection without a link is the supervisory controller's
-number-one : (b : Bus) (h : Host) (c : Connection) → IsKnown c h.links [] → link_of c.number h ≡ None → c.number ≡ 1
+pub number-one : (b : Bus) (h : Host) (c : Connection) → IsKnown c h.links [] → link_of c.number h ≡ None → c.number ≡ 1
 number-one b h c (supervisory e) none = e
 number-one b h c (leaving i) none = absurd i
 number-one b h c (linked l i of) none =
@@ -109,7 +109,7 @@ number-one b h c (linked l i of) none =
     (find-none (λ k. k.connection == c.number) h.links l none i))
 
 -- a request that waits and has a number was made
-numbered-ask : (item : Item) (b : Bus) (q : Incoming) → is_numbered item ≡ true → request_in item b ≡ Some q
+pub numbered-ask : (item : Item) (b : Bus) (q : Incoming) → is_numbered item ≡ true → request_in item b ≡ Some q
     → (n : ℕ) × (r : Request) × (item ≡ Ask n) × (request_of n b ≡ Some r) × (incoming n r ≡ q)
 numbered-ask (Ask n) b q numbered made = by (request_of n b) refl made
   where

@@ -55,14 +55,14 @@ queued-wired : (at : Side) (item : Item) (c : Connection) → (queued at item c)
 queued-wired side.Ap item c = refl
 queued-wired side.Far item c = refl
 
-put-wired : (at : Side) (item : Item) (c : Connection) → (put at item c).wired ≡ c.wired
+pub put-wired : (at : Side) (item : Item) (c : Connection) → (put at item c).wired ≡ c.wired
 put-wired at item c = by c.wired
   where
     by : (t : Bool) → (cond t (queued at item c) c).wired ≡ c.wired
     by true = queued-wired at item c
     by false = refl
 
-drawn-wired : (d : Draft) (label : ℕ) (c : Connection) → (drawn d label c).wired ≡ c.wired
+pub drawn-wired : (d : Draft) (label : ℕ) (c : Connection) → (drawn d label c).wired ≡ c.wired
 drawn-wired d label c = by d.side d.oneway
   where
     by : (s : Side) (t : Bool) → (cond t c (with_last_label s label c)).wired ≡ c.wired
@@ -73,7 +73,7 @@ drawn-wired d label c = by d.side d.oneway
 asked-wire : (d : Draft) (label : ℕ) (b : Bus) (c : Connection) → Unchanged c (asked_on d label b c)
 asked-wire d label b c = same-wire c (asked_on d label b c) (asked_on-number d label b c) (put-wired _ _ (drawn d label c) ∙ drawn-wired d label c)
 
-front-wired : (at : Side) (c : Connection) → (without_front at c).wired ≡ c.wired
+pub front-wired : (at : Side) (c : Connection) → (without_front at c).wired ≡ c.wired
 front-wired side.Ap c = refl
 front-wired side.Far c = refl
 
@@ -115,11 +115,11 @@ onward-same a after requests now same_wires same = record {
 -- Each single change goes onward.
 pub onward : (m : Moment) (a : Point) (x : Change m a) → IsOnward a (changed m a x)
 onward m a (tells e quiet) = onward-same a (changed m a (tells e quiet)) (λ n r h. h) (omega arith) refl refl
-onward m a (asks d c label free live is) =
-    onward-first a (changed m a (asks d c label free live is)) d.connection (asked_on d label a.state.bus)
+onward m a (asks d c label free live is who) =
+    onward-first a (changed m a (asks d c label free live is who)) d.connection (asked_on d label a.state.bus)
     (sent-request d label a.state.bus) (omega arith) refl refl (asked-wire d label a.state.bus)
-onward m a (names name d c label free live is) =
-    onward-first a (changed m a (names name d c label free live is)) d.connection (asked_on d label a.state.bus)
+onward m a (names name d c label free live is host) =
+    onward-first a (changed m a (names name d c label free live is host)) d.connection (asked_on d label a.state.bus)
     (sent-request d label a.state.bus) (omega arith) refl refl (asked-wire d label a.state.bus)
 onward m a (binds x y n is) = onward-same a (changed m a (binds x y n is)) (λ n r h. h) (omega arith) refl refl
 onward m a (frees name) = onward-same a (changed m a (frees name)) (λ n r h. h) (omega arith) refl refl
@@ -197,4 +197,4 @@ onward m a (acts_failed q rest is quiet) = onward-same a (changed m a (acts_fail
 onward m a (serves k kind payload none) = onward-same a (changed m a (serves k kind payload none)) (λ n r h. h) (omega arith) refl refl
 onward m a (spends i c what none) = onward-same a (changed m a (spends i c what none)) (λ n r h. h) (omega arith) refl refl
 onward m a (passes millis) = onward-same a (changed m a (passes millis)) (λ n r h. h) (omega arith) refl refl
-onward m a (others booted marks ports modules) = onward-same a (changed m a (others booted marks ports modules)) (λ n r h. h) (omega arith) refl refl
+onward m a (others booted marks ports modules same) = onward-same a (changed m a (others booted marks ports modules same)) (λ n r h. h) (omega arith) refl refl

@@ -86,8 +86,8 @@ cleared-queue c side.Far x i = absurd i
 
 pub own-kept : (m : Moment) (a : Point) (x : Change m a) → Basis a → OwnTold a → OwnTold (changed m a x)
 own-kept m a (tells e quiet) basis h = own-still a _ (e ∷ []) refl (λ k r made. made) refl (λ l i. i) h
-own-kept m a (asks d c label free live drawn) basis h = own-asked a _ d c label basis refl refl (λ l i. i) h
-own-kept m a (names name d c label free live drawn) basis h = own-asked a _ d c label basis refl refl (λ l i. i) h
+own-kept m a (asks d c label free live drawn who) basis h = own-asked a _ d c label basis refl refl (λ l i. i) h
+own-kept m a (names name d c label free live drawn host) basis h = own-asked a _ d c label basis refl refl (λ l i. i) h
 own-kept m a (binds x y n is) basis h = own-still a _ [] refl (λ k r made. made) refl (λ l i. i) h
 own-kept m a (frees name) basis h = own-still a _ [] refl (λ k r made. made) refl (λ l i. i) h
 own-kept m a (takes at p item free start is named front) basis h =
@@ -236,4 +236,4 @@ own-kept m a (acts_failed q rest is quiet) basis h = own-still a _ _ refl (λ k 
 own-kept m a (serves k kind payload none) basis h = own-still a _ [] refl (λ k r made. made) refl (λ l i. i) h
 own-kept m a (spends i c what none) basis h = own-still a _ [] refl (λ k r made. made) refl (λ l i. i) h
 own-kept m a (passes millis) basis h = own-still a _ [] refl (λ k r made. made) refl (λ l i. i) h
-own-kept m a (others booted marks ports modules) basis h = own-still a _ [] refl (λ k r made. made) refl (λ l i. i) h
+own-kept m a (others booted marks ports modules same) basis h = own-still a _ [] refl (λ k r made. made) refl (λ l i. i) h

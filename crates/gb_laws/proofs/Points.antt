@@ -1,5 +1,5 @@
 -- Points within the step of an event, and the single changes that lead from one to the next.
-use Rattle.std.specs.Prelude.{◌≡◌, ◌≤◌, ◌≢◌, ℕ, ◌+◌, Bool, true, false, Option, Some, None, List, [], ◌∷◌, ◌++◌, map, length}
+use Rattle.std.specs.Prelude.{◌≡◌, ◌⊎◌, ◌≤◌, ◌≢◌, ℕ, ◌+◌, Bool, true, false, Option, Some, None, List, [], ◌∷◌, ◌++◌, map, length}
 use Rattle.gb_base.specs.declared.bridge.BridgeAsk.{BridgeAsk}
 use Rattle.gb_base.specs.declared.bridge.Reading.TheVariants as reading
 use Rattle.gb_base.specs.declared.end.End.{End}
@@ -9,6 +9,7 @@ use Rattle.gb_base.specs.declared.end.Side.TheVariants as side
 use Rattle.gb_base.specs.declared.entry.ConnState.TheVariants as state
 use Rattle.gb_base.specs.declared.entry.Entry.{Entry}
 use Rattle.gb_base.specs.declared.entry.Entry.TheVariants as entry
+use Rattle.gb_base.specs.declared.event.Event.{Event}
 use Rattle.gb_base.specs.declared.event.Event.TheVariants as event
 use Rattle.gb_base.specs.declared.name.Name.{Name}
 use Rattle.gb_base.specs.declared.outcome.Outcome.{Outcome}
@@ -29,7 +30,8 @@ use Rattle.gb_machine.specs.Incoming.{Incoming, reply_entry, reply_item, request
 use Rattle.gb_machine.specs.LineActions.{spent, with_fewer}
 use Rattle.gb_machine.specs.LawsBus.{NameRequests}
 use Rattle.gb_machine.specs.Lists.{first, nth}
-use Rattle.gb_machine.specs.Members.{Each, IsIn}
+use Rattle.gb_machine.specs.Members.{Each, EachTwo, IsIn}
+use Rattle.gb_machine.specs.Modules.{is_plugged}
 use Rattle.gb_machine.specs.Names.{bound, freed, named}
 use Rattle.gb_machine.specs.Refusals.{module_place, refusal}
 use Rattle.gb_machine.specs.Requests.{gave_up, given_up_with, open_on, open_with}
@@ -216,15 +218,36 @@ pub data Says (h : Hand) (n result : ℕ) (payload : List ℕ) : Type 0 where
   numbered : h.item ≡ Reply n result payload → Says h n result payload
   unclean : h.connection.clean ≡ false → Says h n result payload
 
+-- an event at which the supervisory controller asks of its own
+abbrev pub IsOfSvc : Event → Type 0
+IsOfSvc event.Boot = Unit {0}
+IsOfSvc (event.Insert i kind) = Unit {0}
+IsOfSvc (event.InsertRaw i manifest) = Unit {0}
+IsOfSvc (event.Pull i) = Unit {0}
+IsOfSvc _ = ⊥
+
+-- who asks on a connection: the application processor, a module, or the supervisory controller at an
+-- event that concerns it
+pub data IsAskedBy (m : Moment) (c : Connection) (d : Draft) : Type 0 where
+  by_host : d.side ≡ side.Ap → IsAskedBy m c d
+  by_module : (i p : ℕ) → c.peer ≡ end.Module i p → IsAskedBy m c d
+  by_svc : IsOfSvc m.event → IsAskedBy m c d
+
+-- what is plugged stays, and so does whether the supervisory controller has started
+pub record SamePlugs (s : State) (booted : Bool) (modules : List Plugged) : Type 0 where
+  pub started : booted ≡ s.booted
+  pub plugged : (i : ℕ) → is_plugged i modules ≡ is_plugged i s.modules
+  pub differ : EachTwo (λ (p q : Plugged). p.intf ≢ q.intf) s.modules → EachTwo (λ (p q : Plugged). p.intf ≢ q.intf) modules
+
 -- A single change at a point.
 pub data Change (m : Moment) (a : Point) : Type 0 where
   -- something is told that is no end, no reply, no injection and no opening
   tells : (e : Entry) → is_quiet e ≡ true → Change m a
   -- a request is made, and gets a name or none
   asks : (d : Draft) (c : Connection) (label : ℕ) → a.hand ≡ None → connection_of d.connection a.state.bus ≡ Some c
-      → label_for d a.state.bus ≡ Some label → Change m a
+      → label_for d a.state.bus ≡ Some label → IsAskedBy m c d → Change m a
   names : (name : Name) (d : Draft) (c : Connection) (label : ℕ) → a.hand ≡ None → connection_of d.connection a.state.bus ≡ Some c
-      → label_for d a.state.bus ≡ Some label → Change m a
+      → label_for d a.state.bus ≡ Some label → d.side ≡ side.Ap → Change m a
   -- a name gets a request that another has, or is free
   binds : (x y : Name) (n : ℕ) → named x a.state.names ≡ Some n → Change m a
   frees : (name : Name) → Change m a
@@ -263,14 +286,15 @@ pub data Change (m : Moment) (a : Point) : Type 0 where
   -- time passes
   passes : (millis : ℕ) → Change m a
   -- something else changes that is no matter of requests
-  others : (booted : Bool) (marks : List ℕ) (ports : List Port) (modules : List Plugged) → Change m a
+  others : (booted : Bool) (marks : List ℕ) (ports : List Port) (modules : List Plugged)
+      → SamePlugs a.state booted modules ⊎ IsOfSvc m.event → Change m a
 
 -- the point after a single change
 abbrev pub changed : (m : Moment) (a : Point) → Change m a → Point
 changed m a (tells e quiet) = on a.state (e ∷ []) a
-changed m a (asks d c label free live drawn) =
+changed m a (asks d c label free live drawn who) =
     on_bus (sent d label a.state.bus) (asked_told d c label a.state.bus) a
-changed m a (names name d c label free live drawn) =
+changed m a (names name d c label free live drawn host) =
     on (record (bound name (next_number a.state.bus) a.state) { bus = sent d label a.state.bus })
     (asked_told d c label a.state.bus) a
 changed m a (binds x y n is) = on (bound y n a.state) [] a
@@ -316,7 +340,7 @@ changed m a (acts_failed q rest is quiet) =
 changed m a (serves k kind payload none) = on (record a.state { host = (host_serves k kind payload a.state.host).host }) [] a
 changed m a (spends i c what none) = on (record a.state { host = with_link i c (spent what) a.state.host }) [] a
 changed m a (passes millis) = on (record a.state { now = a.state.now + millis }) [] a
-changed m a (others booted marks ports modules) =
+changed m a (others booted marks ports modules same) =
     on (record a.state { booted = booted; holds = marks; ports = ports; modules = modules }) [] a
 
 -- ---- laws
@@ -332,7 +356,7 @@ pub record Law (m : Moment) : Type 1 where
 -- a change is one of those that the acts of the application processor are made of
 abbrev pub IsActing : (m : Moment) (a : Point) → Change m a → Type 0
 IsActing m a (tells e quiet) = Unit {0}
-IsActing m a (asks d c label free live drawn) = Unit {0}
+IsActing m a (asks d c label free live drawn who) = Unit {0}
 IsActing m a (turns e free untouched none cause) = Unit {0}
 IsActing m a (acts_told e rest is quiet) = Unit {0}
 IsActing m a (acts_shut k rest free is cause) = Unit {0}

@@ -257,8 +257,8 @@ ended-no-replies (n ∷ ns) = ((λ k. refl), ended-no-replies ns)
 
 once-kept : (m : Moment) (a : Point) (x : Change m a) → Basis a → RepliesOnce a → RepliesOnce (changed m a x)
 once-kept m a (tells e quiet) basis h = once-fewer a _ (e ∷ []) refl (quiet-no-reply e quiet, tt) (λ n r made. made) (λ n. omega arith) h
-once-kept m a (asks d c label free live drawn) basis h = once-asked a _ d c label basis refl refl refl refl h
-once-kept m a (names name d c label free live drawn) basis h = once-asked a _ d c label basis refl refl refl refl h
+once-kept m a (asks d c label free live drawn who) basis h = once-asked a _ d c label basis refl refl refl refl h
+once-kept m a (names name d c label free live drawn host) basis h = once-asked a _ d c label basis refl refl refl refl h
 once-kept m a (binds x y n is) basis h = once-fewer a _ [] refl tt (λ n r made. made) (λ n. omega arith) h
 once-kept m a (frees name) basis h = once-fewer a _ [] refl tt (λ n r made. made) (λ n. omega arith) h
 once-kept m a (takes at p item free start is named front) basis h =
@@ -326,7 +326,7 @@ once-kept m a (acts_failed q rest is quiet) basis h = once-fewer a _ _ refl (qui
 once-kept m a (serves k kind payload none) basis h = once-fewer a _ [] refl tt (λ n r made. made) (λ n. omega arith) h
 once-kept m a (spends i c what none) basis h = once-fewer a _ [] refl tt (λ n r made. made) (λ n. omega arith) h
 once-kept m a (passes millis) basis h = once-fewer a _ [] refl tt (λ n r made. made) (λ n. omega arith) h
-once-kept m a (others booted marks ports modules) basis h = once-fewer a _ [] refl tt (λ n r made. made) (λ n. omega arith) h
+once-kept m a (others booted marks ports modules same) basis h = once-fewer a _ [] refl tt (λ n r made. made) (λ n. omega arith) h
 
 -- ---- the law
 

@@ -1,5 +1,5 @@
 -- A law of points goes over what a served request brings about.
-use Rattle.std.proofs.Common.{◌≡◌, ℕ, Bool, true, false, cond, Option, Some, None, List, [], ◌++◌, refl, sym, ap, ◌∙◌, subst}
+use Rattle.std.proofs.Common.{◌≡◌, ℕ, Bool, true, false, cond, Option, Some, None, List, [], ◌++◌, refl, sym, ap, ◌∙◌, inl, subst}
 use Rattle.std.specs.Prelude.{◌==◌}
 use Rattle.std.specs.List.{list_any}
 use Rattle.gb_base.specs.declared.end.End.{End}
@@ -13,13 +13,14 @@ use Rattle.gb_invariants.proofs.Awaiting.{same-some}
 use Rattle.gb_invariants.proofs.Lists.{found-in}
 use Rattle.gb_invariants.proofs.Outcomes.{both-true}
 use Rattle.gb_laws.proofs.Acting.{goes-notices}
-use Rattle.gb_laws.proofs.Going.{At, Goes, goes-far_asks_all, goes-nothing, goes-tell, goes-▸}
+use Rattle.gb_laws.proofs.Going.{At, Goes, IsToModule, goes-far_asks_all, goes-nothing, goes-tell, goes-▸}
 use Rattle.gb_laws.proofs.Places.{LivesOn, same_end-is}
 use Rattle.gb_laws.proofs.Points.{Hand, IsCaused, IsLive, IsNoticed, Law, Untouched, Unwired, Wired, Wires, acting, others, serves, unwires, wires}
 use Rattle.gb_laws.proofs.Served.{IsQuietly, ServedAs, inserting, plainly, removing, served}
 use Rattle.gb_machine.proofs.Opened.{machine_opened}
 use Rattle.gb_machine.specs.Actions.{Action, change, given, nothing, on_host, tell, ◌▸◌}
-use Rattle.gb_machine.specs.Bus.{Bus, Connection, Item, Place, place_of, queue, same_end}
+use Rattle.gb_laws.proofs.Stepping.{module-plugs, same-plugs}
+use Rattle.gb_machine.specs.Bus.{Bus, Connection, Item, Place, connection_of, place_of, queue, same_end}
 use Rattle.gb_machine.specs.Host.{Host}
 use Rattle.gb_machine.specs.HostActs.{notices}
 use Rattle.gb_machine.specs.HostServing.{HostServed, host_serves}
@@ -52,6 +53,10 @@ joining-live a i c b x t h w =
       cport = c;
       peer = same_end-is x.peer (end.Module i c) p.1;
     }
+
+-- what has the number of a connection has its far end
+abbrev pub HasPeer : ℕ → End → Bus → Type 0
+HasPeer k e b = (c : Connection) → connection_of k b ≡ Some c → c.peer ≡ e
 
 -- ---- what is known of a request that is served at a moment
 
@@ -94,7 +99,7 @@ module _ (m : Moment) (law : Law m) where
 
   ends-ports : (ports : List Port) (s : State) → Ends None (with_ports ports) s
   unfolding machine_opened
-  ends-ports ports s told at = (Untouched, law.kept _ (others s.booted s.holds ports s.modules) at)
+  ends-ports ports s told at = (Untouched, law.kept _ (others s.booted s.holds ports s.modules (inl (same-plugs s))) at)
 
   ends-nothing : (s : State) → Ends None nothing s
   ends-nothing s = ends-going None nothing s (goes-nothing m (acting m law) None [] Untouched s)
@@ -142,26 +147,26 @@ module _ (m : Moment) (law : Law m) where
 
   -- ---- modules
 
-  ends-module : (k i : ℕ) (step : ModuleStep) (s : State) → Ends None (module_stepped k i step).behind s
+  ends-module : (k i : ℕ) (step : ModuleStep) (s : State) → IsToModule k s.bus → Ends None (module_stepped k i step).behind s
   unfolding machine_opened
-  ends-module k i step s =
+  ends-module k i step s to =
       ends-going None (module_stepped k i step).behind s
       (goes-▸ m (acting m law) None None None [] [] [] Untouched Untouched Untouched
       (change (λ t. record t { modules = with_module i step.after t.modules })) (far_asks_all k step.served.asks) s
-      (λ told at. law.kept _ (others s.booted s.holds s.ports (with_module i step.after s.modules)) at)
-      (goes-far_asks_all m (acting m law) [] Untouched k step.served.asks (record s { modules = with_module i step.after s.modules })))
+      (λ told at. law.kept _ (others s.booted s.holds s.ports (with_module i step.after s.modules) (inl (module-plugs s i step.after))) at)
+      (goes-far_asks_all m (acting m law) [] Untouched k step.served.asks (record s { modules = with_module i step.after s.modules }) to))
 
-  ends-at_module : (k i c : ℕ) (q : Incoming) (o : Option Module) (s : State) → Ends None (module_response k i c q o).behind s
-  ends-at_module k i c q None s = ends-nothing s
-  ends-at_module k i c q (Some x) s = ends-module k i (module_serve x c q.kind q.payload) s
+  ends-at_module : (k i c : ℕ) (q : Incoming) (o : Option Module) (s : State) → IsToModule k s.bus → Ends None (module_response k i c q o).behind s
+  ends-at_module k i c q None s to = ends-nothing s
+  ends-at_module k i c q (Some x) s to = ends-module k i (module_serve x c q.kind q.payload) s to
 
   -- ---- the far side
 
-  ends-far : (e : End) (k : ℕ) (q : Incoming) (s u : State) → LivesOn s.bus u.bus → Ends None (far_response e k q s).behind u
-  ends-far (end.Module i c) k q s u on = ends-at_module k i c q (module_at i s.modules) u
-  ends-far end.Svc k q s u on =
+  ends-far : (e : End) (k : ℕ) (q : Incoming) (s u : State) → LivesOn s.bus u.bus → HasPeer k e u.bus → Ends None (far_response e k q s).behind u
+  ends-far (end.Module i c) k q s u on peer = ends-at_module k i c q (module_at i s.modules) u (λ x e. (i, c, peer x e))
+  ends-far end.Svc k q s u on peer =
       let step = svc_step s.ports q.kind q.payload in ends-decided step.served step.ports s u on
-  ends-far (end.Ap a) k q s u on = ends-nothing u
+  ends-far (end.Ap a) k q s u on peer = ends-nothing u
 
   -- ---- the application processor
 
@@ -226,10 +231,10 @@ module _ (m : Moment) (law : Law m) where
           subst (λ x. IsCaused m x (host_serves k kind payload m.before.host).host) same (h, subst (IsNoticed m) (sym same) said)
 
   -- what the party at a side answers has an end
-  pub ends-response : (c : Connection) (at : Side) (q : Incoming) (s u : State) → IsTaken m c at q → LivesOn s.bus u.bus
+  pub ends-response : (c : Connection) (at : Side) (q : Incoming) (s u : State) → IsTaken m c at q → LivesOn s.bus u.bus → HasPeer c.number c.peer u.bus
       → s.host ≡ m.before.host → u.host ≡ s.host → Ends None (response_at at c q s).behind u
   unfolding machine_opened
-  ends-response c side.Ap q s u taken on before same =
+  ends-response c side.Ap q s u taken on peer before same =
       subst (λ h. Ends None (host_behind (host_serves c.number q.kind q.payload h)) u) (sym before)
       (ends-served c.number q.kind q.payload u (same ∙ before) (λ e n. noticed m c side.Ap q e taken refl n))
-  ends-response c side.Far q s u taken on before same = ends-far c.peer c.number q s u on
+  ends-response c side.Far q s u taken on peer before same = ends-far c.peer c.number q s u on peer

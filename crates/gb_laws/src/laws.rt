@@ -1,6 +1,7 @@
 //! The laws of runs.
 
 ghost use Rattle.gb_machine.specs.LawsBus.{
+  EndpointsDiffer,
   LabelsDiffer,
   NamesNameRequests,
   OneItemANumber,
@@ -52,6 +53,11 @@ pub fn one_item_a_number()
 /// application processor where its side is closed, and that side then takes nothing.
 pub fn replies_are_awaited()
     ensures { RepliesAreAwaited }
+{}
+
+/// Live connections have numbers, CPorts of the application processor and far ends of their own.
+pub fn endpoints_differ()
+    ensures { EndpointsDiffer }
 {}
 
 /// What waits and what is held on a connection was put there by a request, a reply or an injection on
