@@ -40,6 +40,7 @@ pub mod Replying
 pub mod Runs
 pub mod Served
 pub mod Serving
+pub mod SettleQueues
 pub mod Since
 pub mod Single
 pub mod Stepping
