@@ -41,6 +41,7 @@ pub mod Runs
 pub mod Served
 pub mod Serving
 pub mod SettleQueues
+pub mod Settles
 pub mod Since
 pub mod Single
 pub mod Stepping
