@@ -42,6 +42,7 @@ pub mod Served
 pub mod Serving
 pub mod SettleQueues
 pub mod Settles
+pub mod Settling
 pub mod Since
 pub mod Single
 pub mod Stepping
