@@ -203,7 +203,7 @@ so-far-kept m start a (answers x n result payload is says which) h =
 so-far-kept m start a (forgets x n is which) h = so-far m a (forgets x n is which) [] refl tt (λ y e. absurd (none-some y e)) h
 so-far-kept m start a (gives_up n how free open_ cause) h =
     so-far m a (gives_up n how free open_ cause) (_ ∷ []) refl (given_up-fine m a.state _ n how cause, tt) h.hand h
-so-far-kept m start a (wires k free untouched live) h = so-far m a (wires k free untouched live) [] refl tt h.hand h
+so-far-kept m start a (wires k free untouched live powered) h = so-far m a (wires k free untouched live powered) [] refl tt h.hand h
 so-far-kept m start a (unwires k free before live) h =
     so-far m a (unwires k free before live) _ refl (ended-fine m _ (open_on k side.Far a.state.bus)) h.hand h
 so-far-kept m start a (injects i c p bytes free named) h = so-far m a (injects i c p bytes free named) (_ ∷ []) refl (tt, tt) h.hand h

@@ -281,7 +281,7 @@ basis-kept m a (forgets x n is which) h =
     (forgets-none (map loose_held a.state.held) a.state.bus x n fits (h.hand x is) which) fits) h.names
 basis-kept m a (gives_up n how free unended cause) h =
     free-basis _ free (gave_up-keeps (map loose_held a.state.held) n how a.state.bus unended (free-bus a free h)) h.names
-basis-kept m a (wires k free untouched live) h =
+basis-kept m a (wires k free untouched live powered) h =
     free-basis _ free (wired-keeps (map loose_held a.state.held) k a.state.bus (free-bus a free h)) h.names
 basis-kept m a (unwires k free before live) h =
     let f = fewer-without k a.state.held in

@@ -264,7 +264,7 @@ so-far-kept m start a (gives_up n how free unended cause) basis links h =
     given_up-after outcome.Disconnected c = absurd c
     given_up-after outcome.Sent c = absurd c
     given_up-after (outcome.Answered result payload) c = absurd c
-so-far-kept m start a (wires k free untouched live) basis links h = so-far m a (wires k free untouched live) [] refl tt h
+so-far-kept m start a (wires k free untouched live powered) basis links h = so-far m a (wires k free untouched live powered) [] refl tt h
 so-far-kept m start a (unwires k free before live) basis links h =
     so-far m a (unwires k free before live) (map disconnected_told (open_on k side.Far a.state.bus)) refl
     (unwires-fine m a k free before live basis links h) h

@@ -150,7 +150,7 @@ says-kept m a (replies x q r is made twoway) h = says-more a.told _ a.state.bus.
 says-kept m a (answers x n result payload is says which) h = says-end a.told a.state.bus.outcomes n _ _ h
 says-kept m a (forgets x n is which) h = untold a h
 says-kept m a (gives_up n how free unended cause) h = says-end a.told a.state.bus.outcomes n how reading.Nothing h
-says-kept m a (wires k free untouched live) h = untold a h
+says-kept m a (wires k free untouched live powered) h = untold a h
 says-kept m a (unwires k free before live) h =
     subst (λ ns. SaysEnds (a.told ++ map disconnected_told (open_on k side.Far a.state.bus)) (all_ended ns outcome.Disconnected a.state.bus.outcomes))
     (sym (open_requests-same (is_of k side.Far) a.state.bus _)) (says-ended a.told (open_on k side.Far a.state.bus) a.state.bus.outcomes h)

@@ -69,7 +69,7 @@ apart-kept m a (takes at p item free start is named front) basis links h =
 apart-kept m a (replies x q r is made twoway) basis links h =
     apart-changed a.state.bus x.connection.number (put (other_side x.side) (reply_item q r))
     (λ c. ends-of c (put (other_side x.side) (reply_item q r) c) (put-self (other_side x.side) (reply_item q r) c)) h
-apart-kept m a (wires k free untouched live) basis links h =
+apart-kept m a (wires k free untouched live powered) basis links h =
     apart-changed a.state.bus k (λ c. record c { wired = true }) (λ c. record { number = refl; ap = refl; peer = refl }) h
 apart-kept m a (unwires k free before live) basis links h =
     apart-changed a.state.bus k (λ c. record c { wired = false; to_ap = []; to_far = [] }) (λ c. record { number = refl; ap = refl; peer = refl }) h

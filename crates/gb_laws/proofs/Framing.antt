@@ -188,8 +188,8 @@ frame-kept m absent other a (forgets x n is which) basis links h =
     frame-bus m a (changed m a (forgets x n is which)) (λ i. refl) refl refl refl h
 frame-kept m absent other a (gives_up n how free unended cause) basis links h =
     frame-bus m a (changed m a (gives_up n how free unended cause)) (λ i. refl) refl refl refl h
-frame-kept m absent other a (wires k free untouched live) basis links h =
-    frame-bus m a (changed m a (wires k free untouched live))
+frame-kept m absent other a (wires k free untouched live powered) basis links h =
+    frame-bus m a (changed m a (wires k free untouched live powered))
     (λ i. marks-first i a.state.bus k (λ c. record c { wired = true }) a.state.bus.connections (λ c. refl) (λ c j on one. refl)) refl refl refl h
 frame-kept m absent other a (unwires k free before live) basis links h =
     frame-bus m a (changed m a (unwires k free before live))
@@ -271,7 +271,7 @@ frame-kept m absent other a (spends i c what none) basis links h =
 frame-kept m absent other a (passes millis) basis links h = frame-bus m a (changed m a (passes millis)) (λ i. refl) refl refl refl h
 frame-kept m absent other a (others booted marks ports modules same) basis links h = by same
   where
-    by : SamePlugs a.state booted modules ⊎ IsOfSvc m.event → FrameAt m (changed m a (others booted marks ports modules same))
+    by : SamePlugs a.state booted ports modules ⊎ IsOfSvc m.event → FrameAt m (changed m a (others booted marks ports modules same))
     by (inl s) = record {
       same = h.same;
       known = h.known;

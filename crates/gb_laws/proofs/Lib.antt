@@ -33,6 +33,7 @@ pub mod Owning
 pub mod Places
 pub mod Plugs
 pub mod Points
+pub mod Powering
 pub mod Pulling
 pub mod Removing
 pub mod Replies
@@ -51,3 +52,5 @@ pub mod Taking
 pub mod Telling
 pub mod There
 pub mod Ticking
+pub mod WiredRuns
+pub mod WiredWell

@@ -247,14 +247,15 @@ linked-served k kind payload b h f = by (host-served k kind payload h)
     by (with_more i c total e) = subst (λ g. Linked b g []) (sym e) (linked-link i c (λ l. total) b h f)
 
 -- what is plugged stays too
-pub awaited-plugs : (p : Purpose) (n : ℕ) (s : State) → SamePlugs s (with_awaited p n s).booted (with_awaited p n s).modules
+pub awaited-plugs : (p : Purpose) (n : ℕ) (s : State) → SamePlugs s (with_awaited p n s).booted (with_awaited p n s).ports (with_awaited p n s).modules
 awaited-plugs p n s = by (is_for_connection p.step) (link_at p.intf p.cport (awaits p n s.host))
   where
-    same : SamePlugs s s.booted s.modules
-    same = record { started = refl; plugged = λ i. refl; differ = λ h. h }
+    same : SamePlugs s s.booted s.ports s.modules
+    same = record { started = refl; plugged = λ i. refl; powered = λ i e. e; differ = λ h. h }
 
     by : (t : Bool) (o : Option Link)
         → SamePlugs s (cond t (made_for n o (record s { host = awaits p n s.host })) (record s { host = awaits p n s.host })).booted
+        (cond t (made_for n o (record s { host = awaits p n s.host })) (record s { host = awaits p n s.host })).ports
         (cond t (made_for n o (record s { host = awaits p n s.host })) (record s { host = awaits p n s.host })).modules
     by true None = same
     by true (Some l) = same

@@ -206,12 +206,13 @@ links-more b h w q f free made range = record {
     apart = apart l i (is_link l.intf l.cport new) refl;
   }));
   numbered = λ l i. ⊎_elim
-      (λ o. let n = f.numbered l o in record { from_two = n.from_two; given = let g = n.given in omega (arith, g); from_one = n.from_one; within = n.within })
+      (λ o. let n = f.numbered l o in record { from_two = n.from_two; given = let g = n.given in omega (arith, g); from_one = n.from_one; within = n.within; cport = n.cport })
       (λ e. subst (IsNumbered (b.made + 1)) (sym e) (record {
         from_two = omega (arith, made);
         given = omega arith;
         from_one = free.from_one;
         within = free.within;
+        cport = free.cport_within;
       })) (in-pushed l h.links new i);
   waiting = λ l i. ⊎_elim (λ o. f.waiting l o) (λ e. subst IsWaiting (sym e) (λ v k. absurd (no-step v k))) (in-pushed l h.links new i);
   deaf = λ l c i live on shut. ⊎_elim

@@ -61,6 +61,7 @@ links-changed b ls i c f same waiting deaf h = record {
         given = omega (arith, n.given, s.connection);
         from_one = omega (arith, n.from_one, s.ap);
         within = omega (arith, n.within, s.ap);
+        cport = omega (arith, n.cport, s.cport);
       })) (in-first (is_link i c) f ls l j);
   waiting = λ l j. ⊎_elim (λ o. h.waiting l o)
       (λ w. subst IsWaiting (sym w.3) (waiting w.0 w.1 w.2 (h.waiting w.0 w.1)))

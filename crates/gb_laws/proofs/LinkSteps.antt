@@ -182,6 +182,7 @@ fits-control b (Some a) p h fits next free = let f = free_cport-is h a free in r
         cport = refl;
         from_one = f.from_one;
         within = f.within;
+        cport_within = let z = next.cport in omega (arith, z);
         ap = f.other;
         at = λ l i. ap (λ c. is_link p.intf c l) next.cport ∙ next.none refl l i;
         idle = λ e. next.idle;

@@ -314,8 +314,8 @@ none-met (Some x) reason more h = absurd cc
 no-view : (view : CportView) → None ≡ Some view → ⊥
 no-view view f = absurd cc
 
-pub fits-connects : (b : Bus) (i c : ℕ) (h : Host) → HostFits b h → connect_refusal i c h ≡ None → TurnFits b h (host_connects i c h)
-fits-connects b i c h fits free = by (option_and_then (cport_of c) (interface_of i h)) refl
+pub fits-connects : (b : Bus) (i c : ℕ) (h : Host) → HostFits b h → connect_refusal i c h ≡ None → c ≤ 4095 → TurnFits b h (host_connects i c h)
+fits-connects b i c h fits free low = by (option_and_then (cport_of c) (interface_of i h)) refl
   where
     at : link_at i c h ≡ None
     at = none-met (link_at i c h) why.Occupied (first_met ((is_none (free_cport h), why.CportsSpent) ∷ []))
@@ -348,6 +348,7 @@ fits-connects b i c h fits free = by (option_and_then (cport_of c) (interface_of
             cport = refl;
             from_one = cport.from_one;
             within = cport.within;
+            cport_within = low;
             ap = cport.other;
             at = λ l j. find-none (is_link i c) h.links l at j;
             idle = λ z. absurd (other view e z);

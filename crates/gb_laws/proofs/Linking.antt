@@ -58,7 +58,7 @@ pub turn-fits : (m : Moment) (b : Bus) (e : HostEvent) (h : Host) → InsertsAbs
 turn-fits m b (HostEvent.Inserted i) h absent cause fits = fits-inserted b i h fits (ap (interface_of i) cause.0 ∙ absent i cause.1)
 turn-fits m b (HostEvent.Removed i) h absent cause fits = fits-removed b i h fits
 turn-fits m b (HostEvent.Connect i c) h absent cause fits =
-    fits-connects b i c h fits (ap (connect_refusal i c) cause.0 ∙ else-first (connect_refusal i c m.before.host) _ cause.2)
+    fits-connects b i c h fits (ap (connect_refusal i c) cause.0 ∙ else-first (connect_refusal i c m.before.host) _ cause.2) cause.3
 turn-fits m b (HostEvent.Disconnect i c) h absent cause fits =
     fits-disconnects b i c h fits (ap (disconnect_refusal i c) cause.0 ∙ else-first (disconnect_refusal i c m.before.host) _ cause.2)
 turn-fits m b (HostEvent.Ended n how) h absent cause fits = fits-ended b n how h fits
@@ -117,7 +117,7 @@ linked-kept m absent a (forgets x n is which) basis h =
     linked-from a.state.bus (forgotten n a.state.bus) a.state.host a.pending refl (from-all a.state.bus (forgotten n a.state.bus) refl) h
 linked-kept m absent a (gives_up n how free unended cause) basis h =
     linked-from a.state.bus (gave_up n how a.state.bus) a.state.host a.pending refl (from-all a.state.bus (gave_up n how a.state.bus) refl) h
-linked-kept m absent a (wires k free untouched live) basis h =
+linked-kept m absent a (wires k free untouched live powered) basis h =
     linked-from a.state.bus (wired k a.state.bus) a.state.host a.pending refl
     (from-first a.state.bus (wired k a.state.bus) k (λ c. record c { wired = true }) refl
     (λ x i on. record { number = refl; shut = refl; ap = refl; peer = refl; clean = λ e. refl })) h

@@ -66,6 +66,7 @@ pub record IsNumbered (made : ℕ) (l : Link) : Type 0 where
   pub given : l.connection ≤ made
   pub from_one : 1 ≤ l.ap
   pub within : l.ap ≤ 4095
+  pub cport : l.cport ≤ 4095
 
 -- One comes before another: numbers rise, and the ends differ.
 pub record IsLinkBefore (l k : Link) : Type 0 where
@@ -135,6 +136,7 @@ pub record IsFree (w : Making) (q : Asking) (h : Host) : Type 0 where
   pub cport : q.purpose.cport ≡ w.cport
   pub from_one : 1 ≤ w.ap
   pub within : w.ap ≤ 4095
+  pub cport_within : w.cport ≤ 4095
   pub ap : (l : Link) → IsIn l h.links → l.ap ≢ w.ap
   pub at : (l : Link) → IsIn l h.links → is_link w.intf w.cport l ≡ false
   pub idle : w.cport ≡ 0 → IsResting w.intf h.interfaces

@@ -138,7 +138,7 @@ onward m a (answers x n result payload is says which) =
     onward-same a (changed m a (answers x n result payload is says which)) (λ n r h. h) (omega arith) refl refl
 onward m a (forgets x n is which) = onward-same a (changed m a (forgets x n is which)) (λ n r h. h) (omega arith) refl refl
 onward m a (gives_up n how free unended cause) = onward-same a (changed m a (gives_up n how free unended cause)) (λ n r h. h) (omega arith) refl refl
-onward m a (wires k free untouched live) = record {
+onward m a (wires k free untouched live powered) = record {
   requests = λ n r h. h;
   now = omega arith;
   forth = λ e. absurd (apart (sym untouched ∙ e));

@@ -153,7 +153,7 @@ own-kept m a (replies x q r is made twoway) basis h =
 own-kept m a (answers x n result payload is says which) basis h = own-still a _ (_ ∷ []) refl (λ k r made. made) refl (dropped-loose a) h
 own-kept m a (forgets x n is which) basis h = own-still a _ [] refl (λ k r made. made) refl (dropped-loose a) h
 own-kept m a (gives_up n how free unended cause) basis h = own-still a _ (_ ∷ []) refl (λ k r made. made) refl (λ l i. i) h
-own-kept m a (wires k free untouched live) basis h =
+own-kept m a (wires k free untouched live powered) basis h =
     own-with a _ [] k (λ c. record c { wired = true }) basis.bus.numbers refl (λ k r made. made) refl
     (λ c. record { number = refl; ap = refl; peer = refl }) (λ c s x there on i. inl (wired-queue c s x i)) (λ l i. inl i) h
 own-kept m a (unwires k free before live) basis h =

@@ -29,7 +29,7 @@ use Rattle.gb_machine.specs.Wires.{unwires}
 
 -- ---- what is plugged
 
-plugged-at : (j : ℕ) (p : Plugged) (ms : List Plugged) → (p.intf == j) ≡ true → is_plugged j (in_order plugged_before p ms) ≡ true
+pub plugged-at : (j : ℕ) (p : Plugged) (ms : List Plugged) → (p.intf == j) ≡ true → is_plugged j (in_order plugged_before p ms) ≡ true
 plugged-at j p [] e = ap (λ t. is_some (option_map (λ (x : Plugged). x.body) (cond t (Some p) None))) e
 plugged-at j p (q ∷ qs) e = by (plugged_before p q) (plugged-at j p qs e)
   where
@@ -43,7 +43,7 @@ plugged-at j p (q ∷ qs) e = by (plugged_before p q) (plugged-at j p qs e)
     by true h = ap (λ t. is_some (option_map (λ (x : Plugged). x.body) (cond t (Some p) (find (is_plugged_at j) (q ∷ qs))))) e
     by false h = here (q.intf == j) h
 
-plugged-other : (j : ℕ) (p : Plugged) (ms : List Plugged) → (p.intf == j) ≡ false → is_plugged j (in_order plugged_before p ms) ≡ is_plugged j ms
+pub plugged-other : (j : ℕ) (p : Plugged) (ms : List Plugged) → (p.intf == j) ≡ false → is_plugged j (in_order plugged_before p ms) ≡ is_plugged j ms
 plugged-other j p [] e = ap (λ t. is_some (option_map (λ (x : Plugged). x.body) (cond t (Some p) None))) e
 plugged-other j p (q ∷ qs) e = by (plugged_before p q) (plugged-other j p qs e)
   where

@@ -32,6 +32,7 @@ use Rattle.gb_machine.specs.LawsBus.{NameRequests}
 use Rattle.gb_machine.specs.Lists.{first, nth}
 use Rattle.gb_machine.specs.Members.{Each, EachTwo, IsIn}
 use Rattle.gb_machine.specs.Modules.{is_plugged}
+use Rattle.gb_machine.specs.Ports.{is_powered}
 use Rattle.gb_machine.specs.Names.{bound, freed, named}
 use Rattle.gb_machine.specs.Refusals.{module_place, refusal}
 use Rattle.gb_machine.specs.Requests.{gave_up, given_up_with, open_on, open_with}
@@ -150,7 +151,7 @@ abbrev pub IsCaused : Moment → HostEvent → Host → Type 0
 IsCaused m (HostEvent.Inserted i) h = (h ≡ m.before.host) × IsNoticed m (HostEvent.Inserted i)
 IsCaused m (HostEvent.Removed i) h = (h ≡ m.before.host) × IsNoticed m (HostEvent.Removed i)
 IsCaused m (HostEvent.Connect i c) h =
-    (h ≡ m.before.host) × (m.event ≡ event.Connect i c) × (refusal m.before (event.Connect i c) ≡ None)
+    (h ≡ m.before.host) × (m.event ≡ event.Connect i c) × (refusal m.before (event.Connect i c) ≡ None) × (c ≤ 4095)
 IsCaused m (HostEvent.Disconnect i c) h =
     (h ≡ m.before.host) × (m.event ≡ event.Disconnect i c) × (refusal m.before (event.Disconnect i c) ≡ None)
 IsCaused m (HostEvent.Ended n how) h = Unit {0}
@@ -234,9 +235,10 @@ pub data IsAskedBy (m : Moment) (c : Connection) (d : Draft) : Type 0 where
   by_svc : IsOfSvc m.event → IsAskedBy m c d
 
 -- what is plugged stays, and so does whether the supervisory controller has started
-pub record SamePlugs (s : State) (booted : Bool) (modules : List Plugged) : Type 0 where
+pub record SamePlugs (s : State) (booted : Bool) (ports : List Port) (modules : List Plugged) : Type 0 where
   pub started : booted ≡ s.booted
   pub plugged : (i : ℕ) → is_plugged i modules ≡ is_plugged i s.modules
+  pub powered : (i : ℕ) → is_powered i ports ≡ true → is_powered i s.ports ≡ true
   pub differ : EachTwo (λ (p q : Plugged). p.intf ≢ q.intf) s.modules → EachTwo (λ (p q : Plugged). p.intf ≢ q.intf) modules
 
 -- A single change at a point.
@@ -267,7 +269,8 @@ pub data Change (m : Moment) (a : Point) : Type 0 where
   -- a request is given up
   gives_up : (n : ℕ) (how : Outcome) → a.hand ≡ None → is_open n a.state.bus ≡ true → IsGivenUpFor m a.state how n → Change m a
   -- a connection is wired, or unwired
-  wires : (k : ℕ) → a.hand ≡ None → a.wires ≡ Untouched → IsLive k false a.state.bus → Change m a
+  wires : (k : ℕ) → a.hand ≡ None → a.wires ≡ Untouched → (live : IsLive k false a.state.bus)
+      → is_powered live.intf a.state.ports ≡ true → Change m a
   unwires : (k : ℕ) → a.hand ≡ None → a.wires ≢ Wired → IsLive k true a.state.bus → Change m a
   -- bytes are injected
   injects : (i c : ℕ) (p : Place) (bytes : List ℕ) → a.hand ≡ None → module_place i c a.state ≡ Some p → Change m a
@@ -287,7 +290,7 @@ pub data Change (m : Moment) (a : Point) : Type 0 where
   passes : (millis : ℕ) → Change m a
   -- something else changes that is no matter of requests
   others : (booted : Bool) (marks : List ℕ) (ports : List Port) (modules : List Plugged)
-      → SamePlugs a.state booted modules ⊎ IsOfSvc m.event → Change m a
+      → SamePlugs a.state booted ports modules ⊎ IsOfSvc m.event → Change m a
 
 -- the point after a single change
 abbrev pub changed : (m : Moment) (a : Point) → Change m a → Point
@@ -319,7 +322,7 @@ changed m a (answers h n result payload is says open_) =
 changed m a (forgets h n is late) = record (on_bus (forgotten n a.state.bus) [] a) { hand = None }
 changed m a (gives_up n how free open_ cause) =
     on_bus (gave_up n how a.state.bus) (entry.Ended n how reading.Nothing ∷ []) a
-changed m a (wires k free untouched live) = record (on (with_wired k a.state) [] a) { wires = Wired }
+changed m a (wires k free untouched live powered) = record (on (with_wired k a.state) [] a) { wires = Wired }
 changed m a (unwires k free unwired live) =
     record (on (with_unwired k a.state) (map disconnected_told (open_on k side.Far a.state.bus)) a) { wires = Unwired }
 changed m a (injects i c p bytes free named) =

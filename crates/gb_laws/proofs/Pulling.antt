@@ -33,12 +33,13 @@ use Rattle.gb_machine.specs.Turns.{HostEvent}
 use Rattle.gb_machine.specs.Wires.{unwires, with_unwired}
 
 -- what of the supervisory controller's connection stays where others are unwired
-record SameSvc (s t : State) : Type 0 where
-  connection : connection_of 1 t.bus ≡ connection_of 1 s.bus
-  requests : t.bus.requests ≡ s.bus.requests
-  host : t.host ≡ s.host
-  modules : t.modules ≡ s.modules
-  started : t.booted ≡ s.booted
+pub record SameSvc (s t : State) : Type 0 where
+  pub connection : connection_of 1 t.bus ≡ connection_of 1 s.bus
+  pub requests : t.bus.requests ≡ s.bus.requests
+  pub host : t.host ≡ s.host
+  pub modules : t.modules ≡ s.modules
+  pub ports : t.ports ≡ s.ports
+  pub started : t.booted ≡ s.booted
 
 -- what is found by number 1 stays where a connection with another number changes
 find-past : (k : ℕ) (f : Connection → Connection) (cs : List Connection) → ((c : Connection) → (f c).number ≡ c.number) → k ≢ 1
@@ -55,20 +56,21 @@ find-past k f (x ∷ xs) same other = by (x.number == k) refl (find-past k f xs 
     by true e h = ap (λ n. cond (n == 1) (Some (f x)) (find (has_number 1) xs)) (same x) ∙ here (same-number x.number k e) (x.number == 1) refl
     by false e h = ap (λ o. cond (x.number == 1) (Some x) o) h
 
-unwires-svc : (ns : List ℕ) (s : State) → Each (λ n. n ≢ 1) ns → SameSvc s (each ns unwires s).state
+pub unwires-svc : (ns : List ℕ) (s : State) → Each (λ n. n ≢ 1) ns → SameSvc s (each ns unwires s).state
 unfolding machine_opened
-unwires-svc [] s other = record { connection = refl; requests = refl; host = refl; modules = refl; started = refl }
+unwires-svc [] s other = record { connection = refl; requests = refl; host = refl; modules = refl; ports = refl; started = refl }
 unwires-svc (n ∷ ns) s other =
     let r = unwires-svc ns (with_unwired n s) other.1 in record {
       connection = r.connection ∙ find-past n (λ c. record c { wired = false; to_ap = []; to_far = [] }) s.bus.connections (λ c. refl) other.0;
       requests = r.requests;
       host = r.host;
       modules = r.modules;
+      ports = r.ports;
       started = r.started;
     }
 
 -- the numbers of connections to modules aren't 1
-wired-others : (i : ℕ) (s : State) → Linked s.bus s.host [] → Each (λ n. n ≢ 1) (wired_numbers i s.bus)
+pub wired-others : (i : ℕ) (s : State) → Linked s.bus s.host [] → Each (λ n. n ≢ 1) (wired_numbers i s.bus)
 wired-others i s links = all (wired_numbers i s.bus) (wired-live i s.bus s.bus.connections (λ c j. j))
   where
     apart : (i c : ℕ) → end.Module i c ≡ end.Svc → ⊥
@@ -96,12 +98,12 @@ svc-marks : (s t : State) → SameSvc s t → (j : ℕ) → marks j t.bus ≡ ma
 svc-marks s t h j =
     ap (λ o. marks_of j t.bus (items_in side.Ap o)) h.connection ∙ marks-same j s.bus t.bus (svc_items side.Ap s.bus) h.requests
 
-svc-asked : (s t : State) → SameSvc s t → QueueIsAsked s.bus → QueueIsAsked t.bus
+pub svc-asked : (s t : State) → SameSvc s t → QueueIsAsked s.bus → QueueIsAsked t.bus
 svc-asked s t h asked n i =
     let a = asked n (subst (λ o. IsIn (Ask n) (items_in side.Ap o)) h.connection i) in (a.0, ap (nth n) h.requests ∙ a.1)
 
 -- what is plugged once a module is pulled
-pulled-other : (i j : ℕ) (ms : List Plugged) → (i == j) ≡ false → is_plugged j (unplugged i ms) ≡ is_plugged j ms
+pub pulled-other : (i j : ℕ) (ms : List Plugged) → (i == j) ≡ false → is_plugged j (unplugged i ms) ≡ is_plugged j ms
 pulled-other i j ms e =
     ap (λ o. is_some (option_map (λ (p : Plugged). p.body) o))
     (find-left (is_plugged_at j) (is_plugged_at i) ms (λ p f. by p (p.intf == i) refl (same-number p.intf j f)))
@@ -124,10 +126,6 @@ pull-kept i s rise asked links there free start = by s.booted refl
 
     cut : SameSvc s (each (wired_numbers i s.bus) unwires s).state
     cut = unwires-svc (wired_numbers i s.bus) s (wired-others i s links)
-
-    pulled : SameSvc s (record (with_pulled i (each (wired_numbers i s.bus) unwires s).state) { modules = s.modules })
-    pulled = let c = unwires-svc (wired_numbers i s.bus) s (wired-others i s links) in
-        record { connection = c.connection; requests = c.requests; host = c.host; modules = refl; started = c.started }
 
     queue : QueueIsAsked (with_pulled i (each (wired_numbers i s.bus) unwires s).state).bus
     queue = svc-asked s (each (wired_numbers i s.bus) unwires s).state (unwires-svc (wired_numbers i s.bus) s (wired-others i s links)) asked

@@ -294,7 +294,7 @@ once-kept m a (forgets x n is which) basis h =
     once-fewer a _ [] refl tt (λ k r made. made) (λ k. let less = (fewer-hand a x is).counts (is_ask k) in omega (arith, less)) h
 once-kept m a (gives_up n how free unended cause) basis h =
     once-fewer a _ (_ ∷ []) refl ((λ k. refl), tt) (λ k r made. made) (λ k. omega arith) h
-once-kept m a (wires k free untouched live) basis h =
+once-kept m a (wires k free untouched live powered) basis h =
     once-fewer a _ [] refl tt (λ n r made. made) (λ n. changed-counts (is_ask n) (loose a) k _ a.state.bus (λ c. omega arith)) h
 once-kept m a (unwires k free before live) basis h =
     once-fewer a _ _ refl (ended-no-replies (open_on k side.Far a.state.bus)) (λ n r made. made) (λ n.

@@ -140,7 +140,7 @@ pub place-found : (cs : List Connection) (c : Connection) (s : Side) → EachTwo
 place-found [] c s apart far i wired = absurd i
 place-found (x ∷ xs) c s apart far (inl e) wired =
     let here : (y : Connection) → y ≡ x → y.wired ≡ true → IsFarEnd y.peer → place_of (end_of s y) (y ∷ xs) ≡ Some (record { connection = y; side = s }) =
-        λ y same w f. ap (λ o. or_else (option_map (λ t. let p : Place = record { connection = y; side = t } in p) o) (place_of (end_of s y) xs)) (own-side y s w f) in
+    λ y same w f. ap (λ o. or_else (option_map (λ t. let p : Place = record { connection = y; side = t } in p) o) (place_of (end_of s y) xs)) (own-side y s w f) in
     subst (λ y. place_of (end_of s c) (y ∷ xs) ≡ Some (record { connection = c; side = s })) e
     (here c e wired (subst (λ (y : Connection). IsFarEnd y.peer) (sym e) (far x (inl refl))))
 place-found (x ∷ xs) c s apart far (inr j) wired =
@@ -161,6 +161,7 @@ pub record IsFirstAt (s : State) (at : End) : Type 0 where
   pub connection : Connection
   pub side : Side
   pub live : IsIn connection s.bus.connections
+  pub wired : connection.wired ≡ true
   pub at_end : end_of side connection ≡ at
   pub free : refusal s (event.Deliver at) ≡ None
 
@@ -172,6 +173,7 @@ first-waits s at h e =
       connection = q.connection;
       side = q.side;
       live = q.live;
+      wired = q.wired;
       at_end = is;
       free = subst (λ x. refusal s (event.Deliver x) ≡ None) is (free q.connection q.side q.live q.wired q.item q.front);
     }

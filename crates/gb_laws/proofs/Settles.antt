@@ -26,7 +26,7 @@ use Rattle.gb_machine.specs.Waiting.{first_waiting}
 -- What a state has where each delivery of what waits is a valid event that isn't refused.
 pub record IsSettleable (s : State) : Type 0 where
   pub deliverable : IsDeliverable s
-  pub ends : (c : Connection) → IsIn c s.bus.connections → IsEnd (end.Ap c.ap) × IsEnd c.peer
+  pub ends : (c : Connection) → IsIn c s.bus.connections → c.wired ≡ true → IsEnd (end.Ap c.ap) × IsEnd c.peer
 
 -- ---- runs, one after another
 
@@ -107,7 +107,7 @@ module _ (all : HoldsThroughout (λ told s. IsSettleable s)) where
       by rec (Some at) e =
           let h = settleable s r in
           let f = first-waits s at h.deliverable e in
-          let valid : IsEnd at = subst IsEnd f.at_end (ended f.connection f.side (h.ends f.connection f.live)) in
+          let valid : IsEnd at = subst IsEnd f.at_end (ended f.connection f.side (h.ends f.connection f.live f.wired)) in
           let d = delivered s at f.free in
           let rest = rec (step s (event.Deliver at)).state (reach s (event.Deliver at) valid r) in record {
             moments = (valid, rest.moments);

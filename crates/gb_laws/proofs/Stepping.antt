@@ -72,14 +72,15 @@ else-later (Some why) p h = absurd cc
 
 -- ---- what stays plugged
 
-pub same-plugs : (s : State) → SamePlugs s s.booted s.modules
-same-plugs s = record { started = refl; plugged = λ i. refl; differ = λ h. h }
+pub same-plugs : (s : State) → SamePlugs s s.booted s.ports s.modules
+same-plugs s = record { started = refl; plugged = λ i. refl; powered = λ i e. e; differ = λ h. h }
 
 -- where a module changes
-pub module-plugs : (s : State) (i : ℕ) (x : Module) → SamePlugs s s.booted (with_module i x s.modules)
+pub module-plugs : (s : State) (i : ℕ) (x : Module) → SamePlugs s s.booted s.ports (with_module i x s.modules)
 module-plugs s i x = record {
   started = refl;
   plugged = plugged s.modules;
+  powered = λ j e. e;
   differ = λ h. two-at_first (λ (p q : Plugged). p.intf ≢ q.intf) (is_plugged_at i) (λ p. record p { body = x }) s.modules
       (λ p q r. r) (λ p q r. r) h;
 }

@@ -27,7 +27,7 @@ module _ (m : Moment) (law : Law m) where
   ends-does (event.InsertRaw i manifest) is one free = ends-going m law None (does (event.InsertRaw i manifest)) m.before (rests-plugs m law (subst IsOfSvc (sym is) tt) i (module_raw manifest) m.before)
   ends-does (event.Pull i) is one free = ends-pulls m law (subst IsOfSvc (sym is) tt) i
   ends-does (event.Connect i c) is one free =
-      ends-going m law None (does (event.Connect i c)) m.before (goes-notices m (acting m law) (HostEvent.Connect i c) m.before (refl, is, free))
+      ends-going m law None (does (event.Connect i c)) m.before (goes-notices m (acting m law) (HostEvent.Connect i c) m.before (refl, is, free, one.1))
   ends-does (event.Disconnect i c) is one free =
       ends-going m law None (does (event.Disconnect i c)) m.before (goes-notices m (acting m law) (HostEvent.Disconnect i c) m.before (refl, is, free))
   ends-does (event.Send name to kind payload timeout) is one free =

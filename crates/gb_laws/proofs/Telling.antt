@@ -10,6 +10,7 @@ use Rattle.gb_invariants.proofs.Labels.{asked_on, asked_on-number}
 use Rattle.gb_invariants.proofs.Lists.{in-pushed}
 use Rattle.gb_laws.proofs.LinkLists.{find-changed}
 use Rattle.gb_laws.proofs.Marks.{AreAsked, item_mark, mark_in, marks, marks-append, marks-more, marks_of, notice_of, request_mark}
+use Rattle.gb_laws.proofs.WiredWell.{WasWiredTo, was-asked, was-same}
 use Rattle.gb_machine.proofs.Opened.{machine_opened}
 use Rattle.gb_machine.specs.Actions.{given, when}
 use Rattle.gb_machine.specs.Asking.{asks, asks_with}
@@ -36,6 +37,8 @@ pub record AfterAsk (s t : State) (o : Option HostEvent) : Type 0 where
   pub host : t.host ≡ s.host
   pub modules : t.modules ≡ s.modules
   pub started : t.booted ≡ s.booted
+  pub ports : t.ports ≡ s.ports
+  pub wired : WasWiredTo s.bus t.bus
   pub asked : QueueIsAsked t.bus
   pub marks_after : MarksAfter s.bus t.bus o
 
@@ -51,8 +54,8 @@ now-asked d label b c one found =
     ∙ ap (option_map (asked_on d label b)) (ap (λ k. connection_of k b) one ∙ found))
 
 -- the queue toward the application processor, before the request
-was-asked : (b : Bus) (c : Connection) → connection_of 1 b ≡ Some c → QueueIsAsked b → AreAsked b c.to_ap
-was-asked b c found asked n i = asked n (subst (λ o. IsIn (Ask n) (items_in side.Ap o)) (sym found) i)
+items-asked : (b : Bus) (c : Connection) → connection_of 1 b ≡ Some c → QueueIsAsked b → AreAsked b c.to_ap
+items-asked b c found asked n i = asked n (subst (λ o. IsIn (Ask n) (items_in side.Ap o)) (sym found) i)
 
 -- a request of the supervisory controller
 asked-on : (ask : SvcAsk) (label : ℕ) (s : State) (c : Connection) → connection_of 1 s.bus ≡ Some c → QueueIsAsked s.bus → (t : Bool) → c.wired ≡ t
@@ -73,7 +76,7 @@ asked-on ask label s c found asked t wired = (made, λ j. whole j)
         ∙ ap (λ u. (cond u (record c { far_last = label; to_ap = c.to_ap ++ Ask (next_number s.bus) ∷ [] }) (record c { far_last = label })).to_ap) e
 
     old : (j : ℕ) → marks_of j (sent (svc_draft ask s) label s.bus) c.to_ap ≡ marks j s.bus
-    old j = marks-more j s.bus (sent (svc_draft ask s) label s.bus) c.to_ap (sent-request (svc_draft ask s) label s.bus) (was-asked s.bus c found asked)
+    old j = marks-more j s.bus (sent (svc_draft ask s) label s.bus) c.to_ap (sent-request (svc_draft ask s) label s.bus) (items-asked s.bus c found asked)
         ∙ ap (λ o. marks_of j s.bus (items_in side.Ap o)) (sym found)
 
     by : (j : ℕ) (t : Bool) → marks_of j (sent (svc_draft ask s) label s.bus) (cond t (c.to_ap ++ Ask (next_number s.bus) ∷ []) c.to_ap)
@@ -90,13 +93,13 @@ asked-on ask label s c found asked t wired = (made, λ j. whole j)
     member : (n : ℕ) (t : Bool) → IsIn (Ask n) (cond t (c.to_ap ++ Ask (next_number s.bus) ∷ []) c.to_ap)
         → (r : Request) × (request_of n (sent (svc_draft ask s) label s.bus) ≡ Some r)
     member n true i = ⊎_elim
-        (λ o. let w = was-asked s.bus c found asked n o in (w.0, sent-request (svc_draft ask s) label s.bus n w.0 w.1))
+        (λ o. let w = items-asked s.bus c found asked n o in (w.0, sent-request (svc_draft ask s) label s.bus n w.0 w.1))
         (λ e. (requested (svc_draft ask s) label, ap (λ k. request_of k (sent (svc_draft ask s) label s.bus)) (same n (next_number s.bus) e) ∙ sent-new (svc_draft ask s) label s.bus))
         (in-pushed (Ask n) c.to_ap (Ask (next_number s.bus)) i)
       where
         same : (x y : ℕ) → Ask x ≡ Ask y → x ≡ y
         same x y e = cc
-    member n false i = let w = was-asked s.bus c found asked n i in (w.0, sent-request (svc_draft ask s) label s.bus n w.0 w.1)
+    member n false i = let w = items-asked s.bus c found asked n i in (w.0, sent-request (svc_draft ask s) label s.bus n w.0 w.1)
 
     made : QueueIsAsked (sent (svc_draft ask s) label s.bus)
     made n i = member n t (subst (λ is. IsIn (Ask n) is) (items t wired) i)
@@ -108,14 +111,14 @@ unfolding machine_opened
 after-ask ask s asked = wired (is_wired (connection_of 1 s.bus))
   where
     same : AfterAsk s s (notice_of (svc_ask_kind ask) (svc_ask_payload ask))
-    same = record { host = refl; modules = refl; started = refl; asked = asked; marks_after = untold (λ j. refl) }
+    same = record { host = refl; modules = refl; started = refl; asked = asked; ports = refl; wired = was-same s.bus s.bus refl; marks_after = untold (λ j. refl) }
 
     sent-by : (c : Connection) (label : ℕ) → connection_of 1 s.bus ≡ Some c → (t : Bool) → c.wired ≡ t
         → AfterAsk s (record s { bus = sent (svc_draft ask s) label s.bus }) (notice_of (svc_ask_kind ask) (svc_ask_payload ask))
     sent-by c label found true e = let a = asked-on ask label s c found asked true e in
-        record { host = refl; modules = refl; started = refl; asked = a.0; marks_after = told a.1 }
+        record { host = refl; modules = refl; started = refl; asked = a.0; ports = refl; wired = was-asked s.bus (sent (svc_draft ask s) label s.bus) (svc_draft ask s) label refl; marks_after = told a.1 }
     sent-by c label found false e = let a = asked-on ask label s c found asked false e in
-        record { host = refl; modules = refl; started = refl; asked = a.0; marks_after = untold (λ j. a.1 j ∙ append-nil (marks j s.bus)) }
+        record { host = refl; modules = refl; started = refl; asked = a.0; ports = refl; wired = was-asked s.bus (sent (svc_draft ask s) label s.bus) (svc_draft ask s) label refl; marks_after = untold (λ j. a.1 j ∙ append-nil (marks j s.bus)) }
 
     by : (o : Option Connection) → connection_of 1 s.bus ≡ o → (l : Option ℕ)
         → AfterAsk s (given o (λ c. given l (λ label. asks_with (svc_draft ask s) c label)) s).state (notice_of (svc_ask_kind ask) (svc_ask_payload ask))

@@ -73,8 +73,8 @@ there-kept m a (takes at p item free start is named front) links h =
 there-kept m a (replies x q r is made twoway) links h =
     there-first a.state.bus (changed m a (replies x q r is made twoway)).state.bus x.connection.number (put (other_side x.side) (reply_item q r)) refl
     (λ c. (put-self (other_side x.side) (reply_item q r) c).number) (λ c on one w. put-wired (other_side x.side) (reply_item q r) c ∙ w) h
-there-kept m a (wires k free untouched live) links h =
-    there-first a.state.bus (changed m a (wires k free untouched live)).state.bus k (λ c. record c { wired = true }) refl (λ c. refl) (λ c on one w. refl) h
+there-kept m a (wires k free untouched live powered) links h =
+    there-first a.state.bus (changed m a (wires k free untouched live powered)).state.bus k (λ c. record c { wired = true }) refl (λ c. refl) (λ c on one w. refl) h
 there-kept m a (unwires k free before live) links h =
     there-first a.state.bus (changed m a (unwires k free before live)).state.bus k (λ c. record c { wired = false; to_ap = []; to_far = [] }) refl (λ c. refl)
     (λ c on one w. absurd (not-one a k true links live (sym on ∙ one))) h

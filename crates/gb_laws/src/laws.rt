@@ -14,6 +14,7 @@ ghost use Rattle.gb_machine.specs.LawsEnds.{
   EveryEndHasItsCause,
 };
 ghost use Rattle.gb_machine.specs.LawsHotPlug.{NoForeignMessage};
+ghost use Rattle.gb_machine.specs.Runs.{SettlesAreDeliveries};
 ghost use Rattle.gb_machine.specs.Summary.{CountsAddUp};
 
 /// Each request has one outcome at most, and one end and one reply at most are told of it.
@@ -74,4 +75,10 @@ pub fn names_name_requests()
 /// The counts of a summary add up to the number of requests.
 pub fn counts_add_up()
     ensures { CountsAddUp }
+{}
+
+/// Every run of valid events is a run without settles: each settle is its deliveries, the state behind
+/// it is the same, and the same happens in it, but for the lines that say so.
+pub fn settles_are_deliveries()
+    ensures { SettlesAreDeliveries }
 {}
