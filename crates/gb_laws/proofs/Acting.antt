@@ -12,7 +12,7 @@ use Rattle.gb_formats.specs.Manifest.{CportView, Manifest, check_answer}
 use Rattle.gb_formats.specs.ManifestRules.{Refused}
 use Rattle.gb_invariants.proofs.Lists.{each-append}
 use Rattle.gb_laws.proofs.Going.{Goes, goes-asks, goes-nothing, goes-▸}
-use Rattle.gb_laws.proofs.Points.{ActLaw, AreQuiet, IsAsking, IsCaused, IsShutFor, Untouched, acts_asked, acts_failed, acts_left, acts_opened, acts_shut, acts_told, asking, disconnected, is_quiet, opening, removed, turns}
+use Rattle.gb_laws.proofs.Points.{by_host, ActLaw, AreQuiet, IsAsking, IsCaused, IsShutFor, Untouched, acts_asked, acts_failed, acts_left, acts_opened, acts_shut, acts_told, asking, disconnected, is_quiet, opening, removed, turns}
 use Rattle.gb_machine.proofs.Opened.{machine_opened}
 use Rattle.gb_machine.specs.Actions.{Action, change, each, on_host, tell, ◌▸◌}
 use Rattle.gb_machine.specs.Asking.{asks}
@@ -218,7 +218,7 @@ module _ (m : Moment) (law : ActLaw m) where
       by (Some label) =
           goes-▸ m law None None None (Act.Ask q ∷ rest) (Act.Ask q ∷ rest) rest Untouched Untouched Untouched
           (asks (host_draft q s.now)) (change (with_awaited q.purpose (next_number s.bus))) s
-          (goes-asks m law (Act.Ask q ∷ rest) Untouched (host_draft q s.now) s)
+          (goes-asks m law (Act.Ask q ∷ rest) Untouched (host_draft q s.now) s (λ c e. by_host refl))
           (λ told at. law.kept _ (acts_asked q (next_number s.bus) rest refl) tt at)
 
   goes-host_opens : (w : Making) (q : Asking) (rest : List Act) (s : State) → Acts (Act.Open w q ∷ rest) rest (host_opens w q) s

@@ -36,8 +36,8 @@ use Rattle.gb_machine.specs.Wires.{disconnected_told}
 
 -- requests stay, whatever changes
 keeps-requests : (m : Moment) (a : Point) (x : Change m a) → KeepsRequests a.state.bus (changed m a x).state.bus
-keeps-requests m a (asks d c label free live drawn) n r made = sent-request d label a.state.bus n r made
-keeps-requests m a (names name d c label free live drawn) n r made = sent-request d label a.state.bus n r made
+keeps-requests m a (asks d c label free live drawn who) n r made = sent-request d label a.state.bus n r made
+keeps-requests m a (names name d c label free live drawn host) n r made = sent-request d label a.state.bus n r made
 keeps-requests m a (acts_asked q k rest is) n r made = ap (request_of n) (awaited-rest q.purpose k a.state).bus ∙ made
 keeps-requests m a (tells e quiet) n r made = made
 keeps-requests m a (binds x y k is) n r made = made
@@ -166,10 +166,10 @@ given_up-fine m s b n (outcome.Answered result payload) cause = absurd cause
 
 so-far-kept : (m : Moment) (start : OwnAt m.told m.before) (a : Point) (x : Change m a) → IsSoFar m a → IsSoFar m (changed m a x)
 so-far-kept m start a (tells e quiet) h = so-far m a (tells e quiet) (e ∷ []) refl (quiet-fine m a.state.bus e quiet, tt) h.hand h
-so-far-kept m start a (asks d c label free live drawn) h =
-    so-far m a (asks d c label free live drawn) (asked_told d c label a.state.bus) refl (sent-fine m _ d c label a.state.bus) h.hand h
-so-far-kept m start a (names name d c label free live drawn) h =
-    so-far m a (names name d c label free live drawn) (asked_told d c label a.state.bus) refl (sent-fine m _ d c label a.state.bus) h.hand h
+so-far-kept m start a (asks d c label free live drawn who) h =
+    so-far m a (asks d c label free live drawn who) (asked_told d c label a.state.bus) refl (sent-fine m _ d c label a.state.bus) h.hand h
+so-far-kept m start a (names name d c label free live drawn host) h =
+    so-far m a (names name d c label free live drawn host) (asked_told d c label a.state.bus) refl (sent-fine m _ d c label a.state.bus) h.hand h
 so-far-kept m start a (binds x y n is) h = so-far m a (binds x y n is) [] refl tt h.hand h
 so-far-kept m start a (frees name) h = so-far m a (frees name) [] refl tt h.hand h
 so-far-kept m start a (takes at p item free is event_is named front) h =
@@ -203,7 +203,7 @@ so-far-kept m start a (answers x n result payload is says which) h =
 so-far-kept m start a (forgets x n is which) h = so-far m a (forgets x n is which) [] refl tt (λ y e. absurd (none-some y e)) h
 so-far-kept m start a (gives_up n how free open_ cause) h =
     so-far m a (gives_up n how free open_ cause) (_ ∷ []) refl (given_up-fine m a.state _ n how cause, tt) h.hand h
-so-far-kept m start a (wires k free untouched live) h = so-far m a (wires k free untouched live) [] refl tt h.hand h
+so-far-kept m start a (wires k free untouched live powered) h = so-far m a (wires k free untouched live powered) [] refl tt h.hand h
 so-far-kept m start a (unwires k free before live) h =
     so-far m a (unwires k free before live) _ refl (ended-fine m _ (open_on k side.Far a.state.bus)) h.hand h
 so-far-kept m start a (injects i c p bytes free named) h = so-far m a (injects i c p bytes free named) (_ ∷ []) refl (tt, tt) h.hand h
@@ -217,10 +217,10 @@ so-far-kept m start a (acts_opened w q rest free is) h = so-far m a (acts_opened
 so-far-kept m start a (acts_asked q n rest is) h = so-far m a (acts_asked q n rest is) [] refl tt h.hand h
 so-far-kept m start a (acts_failed q rest is quiet) h =
     so-far m a (acts_failed q rest is quiet) _ refl (quiet-all-fine m _ _ quiet) h.hand h
-so-far-kept m start a (serves k kind payload) h = so-far m a (serves k kind payload) [] refl tt h.hand h
-so-far-kept m start a (spends i c what) h = so-far m a (spends i c what) [] refl tt h.hand h
+so-far-kept m start a (serves k kind payload none) h = so-far m a (serves k kind payload none) [] refl tt h.hand h
+so-far-kept m start a (spends i c what none) h = so-far m a (spends i c what none) [] refl tt h.hand h
 so-far-kept m start a (passes millis) h = so-far m a (passes millis) [] refl tt h.hand h
-so-far-kept m start a (others booted marks ports modules) h = so-far m a (others booted marks ports modules) [] refl tt h.hand h
+so-far-kept m start a (others booted marks ports modules same) h = so-far m a (others booted marks ports modules same) [] refl tt h.hand h
 
 -- ---- the law
 
@@ -231,7 +231,7 @@ answered_law m start = record {
   kept = λ a x h. (basis-kept m a x h.0, so-far-kept m start a x h.1);
 }
 
-same-rest : (front xs ys : List Entry) → front ++ xs ≡ front ++ ys → xs ≡ ys
+pub same-rest : (front xs ys : List Entry) → front ++ xs ≡ front ++ ys → xs ≡ ys
 same-rest [] xs ys e = e
 same-rest (f ∷ fs) xs ys e = same-rest fs xs ys (same-tail f (fs ++ xs) (fs ++ ys) e)
   where

@@ -207,10 +207,10 @@ forgets-none rest b x n fits still (by_label label dirty is) =
 
 pub basis-kept : (m : Moment) (a : Point) (x : Change m a) → Basis a → Basis (changed m a x)
 basis-kept m a (tells e quiet) h = basis-same a _ refl refl refl refl h
-basis-kept m a (asks d c label free live drawn) h =
+basis-kept m a (asks d c label free live drawn who) h =
     free-basis _ free (sent-keeps (map loose_held a.state.held) d label c a.state.bus live drawn (free-bus a free h))
     (names-remain a.state.names a.state.bus (sent d label a.state.bus) (sent-remains d label a.state.bus) h.names)
-basis-kept m a (names name d c label free live drawn) h =
+basis-kept m a (names name d c label free live drawn host) h =
     free-basis _ free (sent-keeps (map loose_held a.state.held) d label c a.state.bus live drawn (free-bus a free h))
     (each-append (λ (p : Name × ℕ). is_some (request_of p.1 (sent d label a.state.bus)) ≡ true) a.state.names ((name, next_number a.state.bus) ∷ [])
     (names-remain a.state.names a.state.bus (sent d label a.state.bus) (sent-remains d label a.state.bus) h.names)
@@ -281,7 +281,7 @@ basis-kept m a (forgets x n is which) h =
     (forgets-none (map loose_held a.state.held) a.state.bus x n fits (h.hand x is) which) fits) h.names
 basis-kept m a (gives_up n how free unended cause) h =
     free-basis _ free (gave_up-keeps (map loose_held a.state.held) n how a.state.bus unended (free-bus a free h)) h.names
-basis-kept m a (wires k free untouched live) h =
+basis-kept m a (wires k free untouched live powered) h =
     free-basis _ free (wired-keeps (map loose_held a.state.held) k a.state.bus (free-bus a free h)) h.names
 basis-kept m a (unwires k free before live) h =
     let f = fewer-without k a.state.held in
@@ -301,10 +301,10 @@ basis-kept m a (acts_opened w q rest free is) h =
 basis-kept m a (acts_asked q n rest is) h =
     let r = awaited-rest q.purpose n a.state in basis-same a _ refl r.bus r.held r.names h
 basis-kept m a (acts_failed q rest is quiet) h = basis-same a _ refl refl refl refl h
-basis-kept m a (serves k kind payload) h = basis-same a _ refl refl refl refl h
-basis-kept m a (spends i c what) h = basis-same a _ refl refl refl refl h
+basis-kept m a (serves k kind payload none) h = basis-same a _ refl refl refl refl h
+basis-kept m a (spends i c what none) h = basis-same a _ refl refl refl refl h
 basis-kept m a (passes millis) h = basis-same a _ refl refl refl refl h
-basis-kept m a (others booted marks ports modules) h = basis-same a _ refl refl refl refl h
+basis-kept m a (others booted marks ports modules same) h = basis-same a _ refl refl refl refl h
 
 -- The basis as a law of points.
 abbrev pub basis : (m : Moment) → Law m

@@ -16,13 +16,18 @@ use Rattle.gb_invariants.specs.Facts.{is_numbered}
 use Rattle.gb_laws.proofs.Acting.{goes-notices}
 use Rattle.gb_laws.proofs.Going.{At, Goes, goes-nothing, goes-tell}
 use Rattle.gb_laws.proofs.Places.{lives-replied, module-far, place-is}
-use Rattle.gb_laws.proofs.Points.{Answers, Forgets, Hand, Law, Says, Untouched, acting, answers, by_label, by_number, drops, forgets, holds, is_quiet, numbered, replies, takes, takes_held, tells, unclean}
-use Rattle.gb_laws.proofs.Serving.{Ends, IsTaken, answered, delivered, ends-going, ends-response}
+use Rattle.gb_laws.proofs.Points.{Answers, Basis, Forgets, Hand, Law, Says, Untouched, acting, answers, by_label, by_number, drops, forgets, holds, is_quiet, numbered, replies, takes, takes_held, tells, unclean}
+use Rattle.gb_invariants.proofs.Awaiting.{same-some}
+use Rattle.gb_invariants.proofs.Numbers.{found-number, same-connection}
+use Rattle.gb_invariants.proofs.Selves.{put-self}
+use Rattle.gb_laws.proofs.LinkLists.{find-changed}
+use Rattle.gb_machine.specs.Sending.{put}
+use Rattle.gb_laws.proofs.Serving.{Ends, HasPeer, IsTaken, answered, delivered, ends-going, ends-response}
 use Rattle.gb_machine.proofs.Opened.{machine_opened}
 use Rattle.gb_machine.specs.Actions.{Action, by_state, given, nothing, on_bus, tell, ◌▸◌}
 use Rattle.gb_machine.specs.Arriving as arriving
 use Rattle.gb_machine.specs.Arriving.{arrives, asked_at, delivers, delivers_at, dropped, ends_answered, handles, is_held, keeps, late_by, raw_taken, reading_for, reply_taken, with_held}
-use Rattle.gb_machine.specs.Bus.{Ask, Bus, Connection, Item, Place, Raw, RawReply, Reply, Request, is_open, other_side, place_of, queue, request_of}
+use Rattle.gb_machine.specs.Bus.{connection_of, has_number, Ask, Bus, Connection, Item, Place, Raw, RawReply, Reply, Request, is_open, other_side, place_of, queue, request_of}
 use Rattle.gb_machine.specs.Delivery as delivery
 use Rattle.gb_machine.specs.Delivery.{ended, forgotten, popped, replied}
 use Rattle.gb_machine.specs.HostActs.{follows}
@@ -44,6 +49,21 @@ request-popped (Ask n) k at b = refl
 request-popped (Raw bytes) k at b = refl
 request-popped (Reply n result payload) k at b = refl
 request-popped (RawReply label kind result payload) k at b = refl
+
+-- far ends stay where something is replied
+peer-replied : (k : ℕ) (at : Side) (item : Item) (e : End) (b : Bus) → HasPeer k e b → HasPeer k e (replied k at item b)
+peer-replied k at item e b peer c f = by (connection_of k b) refl
+  where
+    by : (o : Option Connection) → connection_of k b ≡ o → c.peer ≡ e
+    by None g = absurd (none-some (sym (find-changed (has_number k) (put at item) b.connections (λ x. ap (λ n. n == k) (put-self at item x).number)
+        ∙ ap (option_map (put at item)) g) ∙ f))
+      where
+        none-some : None ≡ Some c → ⊥
+        none-some h = absurd cc
+    by (Some x) g =
+        let is = same-some (put at item x) c (sym (find-changed (has_number k) (put at item) b.connections (λ x. ap (λ n. n == k) (put-self at item x).number)
+        ∙ ap (option_map (put at item)) g) ∙ f) in
+        sym (ap (λ (y : Connection). y.peer) is) ∙ (put-self at item x).peer ∙ peer x g
 
 module _ (m : Moment) (law : Law m) where
   -- one action after another ends a step
@@ -74,24 +94,32 @@ module _ (m : Moment) (law : Law m) where
   ends-responds : (c : Connection) (at : Side) (item : Item) (q : Incoming) (s : State) → s.host ≡ m.before.host
       → request_in item s.bus ≡ Some q → IsTaken m c at q → Ends m law (Some (hand_of c at item)) (serving at c q) s
   unfolding machine_opened
-  ends-responds c at item q s same made taken = by q.oneway refl
+  ends-responds c at item q s same made taken = λ told now. by (still told (law.basis _ now)) q.oneway refl told now
     where
       r : Response
       r = response_at at c q s
 
-      oneway : (t : Bool) → Ends m law (Some (hand_of c at item)) (cond t (response_at at c q s).behind (tell (entry.Ignored q.kind))) s
-      oneway true = dropped-first (hand_of c at item) (response_at at c q s).behind s
-          (ends-response m law c at q s s taken (λ k t l. l) same refl)
-      oneway false = ends-told (hand_of c at item) (entry.Ignored q.kind) s refl
+      -- what has the connection's number is that connection still
+      still : (told : List Entry) → Basis (record { told = told; state = s; hand = Some (hand_of c at item); pending = []; wires = Untouched }) → HasPeer c.number c.peer s.bus
+      still told basis x e =
+          let k = basis.hand (hand_of c at item) refl in
+          let n = found-number c.number s.bus x e in
+          ap (λ (y : Connection). y.peer) (same-connection s.bus.connections x k.now basis.bus.numbers.rise n.0 k.live (n.1 ∙ sym k.self.number)) ∙ k.self.peer
 
-      by : (t : Bool) → q.oneway ≡ t
+      oneway : HasPeer c.number c.peer s.bus → (t : Bool) → Ends m law (Some (hand_of c at item)) (cond t (response_at at c q s).behind (tell (entry.Ignored q.kind))) s
+      oneway peer true = dropped-first (hand_of c at item) (response_at at c q s).behind s
+          (ends-response m law c at q s s taken (λ k t l. (l, refl)) refl peer same refl)
+      oneway peer false = ends-told (hand_of c at item) (entry.Ignored q.kind) s refl
+
+      by : HasPeer c.number c.peer s.bus → (t : Bool) → q.oneway ≡ t
           → Ends m law (Some (hand_of c at item)) (cond t (serves_oneway q (response_at at c q s)) (replying at c q (response_at at c q s).answer ▸ (response_at at c q s).behind)) s
-      by true e = oneway ((response_at at c q s).answer.result == success)
-      by false e =
+      by peer true e = oneway peer ((response_at at c q s).answer.result == success)
+      by peer false e =
           then-ends (Some (hand_of c at item)) (replying at c q (response_at at c q s).answer) (response_at at c q s).behind s
           (λ told now. law.kept _ (replies (hand_of c at item) q (response_at at c q s).answer refl made e) now)
           (ends-response m law c at q s (record s { bus = replied c.number (other_side at) (reply_item q (response_at at c q s).answer) s.bus })
-          taken (lives-replied c.number (other_side at) (reply_item q (response_at at c q s).answer) s.bus) same refl)
+          taken (lives-replied c.number (other_side at) (reply_item q (response_at at c q s).answer) s.bus)
+          refl (peer-replied c.number (other_side at) (reply_item q (response_at at c q s).answer) c.peer s.bus peer) same refl)
 
   ends-asked : (c : Connection) (at : Side) (item : Item) (q : Incoming) (s : State) → s.host ≡ m.before.host
       → request_in item s.bus ≡ Some q → IsTaken m c at q → Ends m law (Some (hand_of c at item)) (asked_at at c item q) s
@@ -242,6 +270,15 @@ module _ (m : Moment) (law : Law m) where
   pub ends-idle : (s : State) → Ends m law None nothing s
   ends-idle s = ends-going m law None nothing s (goes-nothing m (acting m law) None [] Untouched s)
 
+  -- once the front item is taken
+  pub ends-taken : (at : End) (p : Place) (item : Item) → m.event ≡ event.Deliver at → place_of at m.before.bus.connections ≡ Some p
+      → first (queue p.side p.connection) ≡ Some item
+      → Ends m law (Some (hand_of p.connection p.side item)) (handles p.side p.connection item)
+      (record m.before { bus = popped p.connection.number p.side m.before.bus })
+  ends-taken at p item is e f =
+      ends-handles p.connection p.side item (record m.before { bus = popped p.connection.number p.side m.before.bus }) refl
+      (λ q made. delivered at p item q is e f refl (sym (request-popped item p.connection.number p.side m.before.bus) ∙ made))
+
   pub ends-delivers : (at : End) → m.event ≡ event.Deliver at → Ends m law None (delivers at) m.before
   unfolding machine_opened
   ends-delivers at is = by (place_of at m.before.bus.connections) refl
@@ -251,8 +288,7 @@ module _ (m : Moment) (law : Law m) where
       front p e None f = ends-idle m.before
       front p e (Some item) f = λ told now.
           let after = record m.before { bus = popped p.connection.number p.side m.before.bus } in
-          let r = ends-handles p.connection p.side item after refl
-          (λ q made. delivered at p item q is e f refl (sym (request-popped item p.connection.number p.side m.before.bus) ∙ made)) (told ++ []) (law.kept _ (takes at p item refl refl is e f) now) in (
+          let r = ends-taken at p item is e f (told ++ []) (law.kept _ (takes at p item refl refl is e f) now) in (
             r.0,
             subst (λ es. At m (acting m law) None [] r.0 es (handles p.side p.connection item after).state)
                 (append_assoc told [] (handles p.side p.connection item after).entries) r.1,

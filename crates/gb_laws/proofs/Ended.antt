@@ -138,8 +138,8 @@ untold a h = says-more a.told [] a.state.bus.outcomes tt h
 
 says-kept : (m : Moment) (a : Point) (x : Change m a) → Says a → Says (changed m a x)
 says-kept m a (tells e quiet) h = says-more a.told (e ∷ []) a.state.bus.outcomes (quiet-no-end e quiet, tt) h
-says-kept m a (asks d c label free live drawn) h = says-asked a.told a.state.bus.outcomes d c label a.state.bus h
-says-kept m a (names name d c label free live drawn) h = says-asked a.told a.state.bus.outcomes d c label a.state.bus h
+says-kept m a (asks d c label free live drawn who) h = says-asked a.told a.state.bus.outcomes d c label a.state.bus h
+says-kept m a (names name d c label free live drawn host) h = says-asked a.told a.state.bus.outcomes d c label a.state.bus h
 says-kept m a (binds x y n is) h = untold a h
 says-kept m a (frees name) h = untold a h
 says-kept m a (takes at p item free start is named front) h = untold a h
@@ -150,7 +150,7 @@ says-kept m a (replies x q r is made twoway) h = says-more a.told _ a.state.bus.
 says-kept m a (answers x n result payload is says which) h = says-end a.told a.state.bus.outcomes n _ _ h
 says-kept m a (forgets x n is which) h = untold a h
 says-kept m a (gives_up n how free unended cause) h = says-end a.told a.state.bus.outcomes n how reading.Nothing h
-says-kept m a (wires k free untouched live) h = untold a h
+says-kept m a (wires k free untouched live powered) h = untold a h
 says-kept m a (unwires k free before live) h =
     subst (λ ns. SaysEnds (a.told ++ map disconnected_told (open_on k side.Far a.state.bus)) (all_ended ns outcome.Disconnected a.state.bus.outcomes))
     (sym (open_requests-same (is_of k side.Far) a.state.bus _)) (says-ended a.told (open_on k side.Far a.state.bus) a.state.bus.outcomes h)
@@ -165,10 +165,10 @@ says-kept m a (acts_opened w q rest free is) h = says-more a.told _ a.state.bus.
 says-kept m a (acts_asked q n rest is) h =
     subst (λ (b : Bus). SaysEnds (a.told ++ []) b.outcomes) (sym (awaited-rest q.purpose n a.state).bus) (untold a h)
 says-kept m a (acts_failed q rest is quiet) h = says-more a.told _ a.state.bus.outcomes (quiet-no-ends _ quiet) h
-says-kept m a (serves k kind payload) h = untold a h
-says-kept m a (spends i c what) h = untold a h
+says-kept m a (serves k kind payload none) h = untold a h
+says-kept m a (spends i c what none) h = untold a h
 says-kept m a (passes millis) h = untold a h
-says-kept m a (others booted marks ports modules) h = untold a h
+says-kept m a (others booted marks ports modules same) h = untold a h
 
 -- ---- the laws
 

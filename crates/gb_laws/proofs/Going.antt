@@ -1,5 +1,5 @@
 -- A law of points goes over the actions of the machine: the combinators, and asking.
-use Rattle.std.proofs.Common.{◌≡◌, ℕ, ◌+◌, Bool, true, false, Option, Some, None, List, [], ◌∷◌, ◌++◌, refl, sym, subst, append_assoc, append-nil}
+use Rattle.std.proofs.Common.{◌≡◌, ℕ, ◌+◌, Bool, true, false, Option, Some, None, List, [], ◌∷◌, ◌++◌, refl, sym, ap, ◌∙◌, subst, append_assoc, append-nil}
 use Rattle.gb_base.specs.declared.bridge.Reading.TheVariants as reading
 use Rattle.gb_base.specs.declared.end.Side.TheVariants as side
 use Rattle.gb_base.specs.declared.served.OwnAsk.{OwnAsk}
@@ -7,16 +7,66 @@ use Rattle.gb_formats.specs.Grammar.{default_timeout}
 use Rattle.gb_base.specs.declared.entry.Entry.{Entry}
 use Rattle.gb_base.specs.declared.entry.Entry.TheVariants as entry
 use Rattle.gb_base.specs.declared.outcome.Outcome.TheVariants as outcome
-use Rattle.gb_laws.proofs.Points.{ActLaw, AreQuiet, Hand, Wires, asks, is_quiet, sent_told, tells}
+use Rattle.gb_base.specs.declared.end.End.TheVariants as end
+use Rattle.gb_invariants.proofs.Awaiting.{same-some}
+use Rattle.gb_invariants.proofs.ItemChanges.{asked_on-self}
+use Rattle.gb_invariants.proofs.Labels.{asked_on, asked_on-number}
+use Rattle.gb_laws.proofs.LinkLists.{find-changed}
+use Rattle.gb_laws.proofs.Points.{ActLaw, AreQuiet, Hand, IsAskedBy, by_module, Wires, asks, is_quiet, sent_told, tells}
 use Rattle.gb_machine.proofs.Opened.{machine_opened}
 use Rattle.gb_machine.specs.Actions.{Action, each, given, nothing, tell, tell_all, when, ◌▸◌}
 use Rattle.gb_machine.specs.Asking.{asked, asks as asking, asks_with}
-use Rattle.gb_machine.specs.Bus.{Connection, connection_of, next_number}
+use Rattle.gb_machine.specs.Bus.{Bus, Connection, connection_of, has_number, next_number}
+use Rattle.std.specs.Prelude.{◌==◌, option_map}
 use Rattle.gb_machine.specs.OwnAsking.{far_asks, far_asks_all}
 use Rattle.gb_machine.specs.Runs.{Moment}
 use Rattle.gb_machine.specs.Sending.{Draft, draft, is_wired, label_for, sent}
 use Rattle.gb_machine.specs.State.{State}
 use Rattle.gb_machine.specs.Turns.{Act}
+
+-- a live connection is to a module
+abbrev pub IsToModule : ℕ → Bus → Type 0
+IsToModule k b = (c : Connection) → connection_of k b ≡ Some c → (i : ℕ) × (p : ℕ) × (c.peer ≡ end.Module i p)
+
+-- it is so still once a request was made there
+to-sent : (d : Draft) (label : ℕ) (b : Bus) → IsToModule d.connection b → IsToModule d.connection (sent d label b)
+to-sent d label b to c e = by (connection_of d.connection b) refl
+  where
+    by : (o : Option Connection) → connection_of d.connection b ≡ o → (i : ℕ) × (p : ℕ) × (c.peer ≡ end.Module i p)
+    by None f = absurd (none-some (sym (changed None f) ∙ e))
+      where
+        changed : (o : Option Connection) → connection_of d.connection b ≡ o → connection_of d.connection (sent d label b) ≡ option_map (asked_on d label b) o
+        changed o f = find-changed (has_number d.connection) (asked_on d label b) b.connections (λ x. ap (λ n. n == d.connection) (asked_on-number d label b x))
+            ∙ ap (option_map (asked_on d label b)) f
+
+        none-some : None ≡ Some c → ⊥
+        none-some h = absurd cc
+    by (Some x) f =
+        let p = to x f in
+        let is = same-some (asked_on d label b x) c (sym (find-changed (has_number d.connection) (asked_on d label b) b.connections
+        (λ x. ap (λ n. n == d.connection) (asked_on-number d label b x)) ∙ ap (option_map (asked_on d label b)) f) ∙ e) in
+        (p.0, p.1, sym (ap (λ (y : Connection). y.peer) is) ∙ (asked_on-self d label b x).peer ∙ p.2)
+
+to-asked : (k : ℕ) (x : OwnAsk) (s : State) → IsToModule k s.bus → IsToModule k (far_asks k x s).state.bus
+unfolding machine_opened
+to-asked k x s to = wired (is_wired (connection_of k s.bus))
+  where
+    d : Draft
+    d = draft k side.Far x.kind x.payload (s.now + default_timeout) x.oneway
+
+    oneway : (t : Bool) (n : ℕ) (w : State) → IsToModule k w.bus → IsToModule k (when t (tell (entry.Ended n outcome.Sent reading.Nothing)) w).state.bus
+    oneway true n w h = h
+    oneway false n w h = h
+
+    by : (o : Option Connection) (l : Option ℕ)
+        → IsToModule k (given o (λ c. given l (λ label. asks_with (draft k side.Far x.kind x.payload (s.now + default_timeout) x.oneway) c label)) s).state.bus
+    by None l = to
+    by (Some c) None = to
+    by (Some c) (Some label) = oneway x.oneway (next_number s.bus) (record s { bus = sent d label s.bus }) (to-sent d label s.bus to)
+
+    wired : (t : Bool) → IsToModule k (when t (asking (draft k side.Far x.kind x.payload (s.now + default_timeout) x.oneway)) s).state.bus
+    wired true = by (connection_of k s.bus) (label_for d s.bus)
+    wired false = to
 
 module _ (m : Moment) (law : ActLaw m) where
   -- the law at a point
@@ -66,9 +116,10 @@ module _ (m : Moment) (law : ActLaw m) where
 
   -- ---- asking
 
-  pub goes-asks : (acts : List Act) (wires : Wires) (d : Draft) (s : State) → Stays None acts wires (asking d) s
+  pub goes-asks : (acts : List Act) (wires : Wires) (d : Draft) (s : State) → ((c : Connection) → connection_of d.connection s.bus ≡ Some c → IsAskedBy m c d)
+      → Stays None acts wires (asking d) s
   unfolding machine_opened
-  goes-asks acts wires d s told at = by (connection_of d.connection s.bus) refl (label_for d s.bus) refl
+  goes-asks acts wires d s who told at = by (connection_of d.connection s.bus) refl (label_for d s.bus) refl
     where
       oneway : (t : Bool) (w : State) (e : Entry) (n : ℕ) → At None acts wires (told ++ e ∷ sent_told t n) w
           → At None acts wires (told ++ e ∷ (when t (tell (entry.Ended n outcome.Sent reading.Nothing)) w).entries)
@@ -83,18 +134,23 @@ module _ (m : Moment) (law : ActLaw m) where
       by (Some c) e None f = goes-nothing None acts wires s told at
       by (Some c) e (Some label) f =
           oneway d.oneway (record s { bus = sent d label s.bus }) (asked d c label s.bus) (next_number s.bus)
-          (law.kept _ (asks d c label refl e f) tt at)
+          (law.kept _ (asks d c label refl e f (who c e)) tt at)
 
-  pub goes-far_asks : (acts : List Act) (wires : Wires) (k : ℕ) (own : OwnAsk) (s : State) → Stays None acts wires (far_asks k own) s
+  pub goes-far_asks : (acts : List Act) (wires : Wires) (k : ℕ) (own : OwnAsk) (s : State)
+      → ((c : Connection) (d : Draft) → connection_of k s.bus ≡ Some c → IsAskedBy m c d) → Stays None acts wires (far_asks k own) s
   unfolding machine_opened
-  goes-far_asks acts wires k own s =
+  goes-far_asks acts wires k own s who =
       goes-when None acts wires (is_wired (connection_of k s.bus))
       (asking (draft k side.Far own.kind own.payload (s.now + default_timeout) own.oneway)) s
-      (λ e. goes-asks acts wires (draft k side.Far own.kind own.payload (s.now + default_timeout) own.oneway) s)
+      (λ e. goes-asks acts wires (draft k side.Far own.kind own.payload (s.now + default_timeout) own.oneway) s
+      (λ c e. who c (draft k side.Far own.kind own.payload (s.now + default_timeout) own.oneway) e))
 
-  pub goes-far_asks_all : (acts : List Act) (wires : Wires) (k : ℕ) (own : List OwnAsk) (s : State) → Stays None acts wires (far_asks_all k own) s
+  -- a module's requests, one after another
+  pub goes-far_asks_all : (acts : List Act) (wires : Wires) (k : ℕ) (own : List OwnAsk) (s : State) → IsToModule k s.bus
+      → Stays None acts wires (far_asks_all k own) s
   unfolding machine_opened
-  goes-far_asks_all acts wires k [] s = goes-nothing None acts wires s
-  goes-far_asks_all acts wires k (x ∷ xs) s =
+  goes-far_asks_all acts wires k [] s to = goes-nothing None acts wires s
+  goes-far_asks_all acts wires k (x ∷ xs) s to =
       goes-▸ None None None acts acts acts wires wires wires (far_asks k x) (each xs (far_asks k)) s
-      (goes-far_asks acts wires k x s) (goes-far_asks_all acts wires k xs (far_asks k x s).state)
+      (goes-far_asks acts wires k x s (λ c d e. let p = to c e in by_module p.0 p.1 p.2))
+      (goes-far_asks_all acts wires k xs (far_asks k x s).state (to-asked k x s to))

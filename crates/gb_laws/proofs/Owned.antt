@@ -86,8 +86,8 @@ cleared-queue c side.Far x i = absurd i
 
 pub own-kept : (m : Moment) (a : Point) (x : Change m a) → Basis a → OwnTold a → OwnTold (changed m a x)
 own-kept m a (tells e quiet) basis h = own-still a _ (e ∷ []) refl (λ k r made. made) refl (λ l i. i) h
-own-kept m a (asks d c label free live drawn) basis h = own-asked a _ d c label basis refl refl (λ l i. i) h
-own-kept m a (names name d c label free live drawn) basis h = own-asked a _ d c label basis refl refl (λ l i. i) h
+own-kept m a (asks d c label free live drawn who) basis h = own-asked a _ d c label basis refl refl (λ l i. i) h
+own-kept m a (names name d c label free live drawn host) basis h = own-asked a _ d c label basis refl refl (λ l i. i) h
 own-kept m a (binds x y n is) basis h = own-still a _ [] refl (λ k r made. made) refl (λ l i. i) h
 own-kept m a (frees name) basis h = own-still a _ [] refl (λ k r made. made) refl (λ l i. i) h
 own-kept m a (takes at p item free start is named front) basis h =
@@ -153,7 +153,7 @@ own-kept m a (replies x q r is made twoway) basis h =
 own-kept m a (answers x n result payload is says which) basis h = own-still a _ (_ ∷ []) refl (λ k r made. made) refl (dropped-loose a) h
 own-kept m a (forgets x n is which) basis h = own-still a _ [] refl (λ k r made. made) refl (dropped-loose a) h
 own-kept m a (gives_up n how free unended cause) basis h = own-still a _ (_ ∷ []) refl (λ k r made. made) refl (λ l i. i) h
-own-kept m a (wires k free untouched live) basis h =
+own-kept m a (wires k free untouched live powered) basis h =
     own-with a _ [] k (λ c. record c { wired = true }) basis.bus.numbers refl (λ k r made. made) refl
     (λ c. record { number = refl; ap = refl; peer = refl }) (λ c s x there on i. inl (wired-queue c s x i)) (λ l i. inl i) h
 own-kept m a (unwires k free before live) basis h =
@@ -233,7 +233,7 @@ own-kept m a (acts_asked q n rest is) basis h =
     own-still a _ [] refl (λ k x made. ap (request_of k) r.bus ∙ made) (ap (λ (b : Bus). b.connections) r.bus)
     (λ l i. subst (λ hs. IsIn l (loose_hand a.hand (map loose_held hs))) r.held i) h
 own-kept m a (acts_failed q rest is quiet) basis h = own-still a _ _ refl (λ k r made. made) refl (λ l i. i) h
-own-kept m a (serves k kind payload) basis h = own-still a _ [] refl (λ k r made. made) refl (λ l i. i) h
-own-kept m a (spends i c what) basis h = own-still a _ [] refl (λ k r made. made) refl (λ l i. i) h
+own-kept m a (serves k kind payload none) basis h = own-still a _ [] refl (λ k r made. made) refl (λ l i. i) h
+own-kept m a (spends i c what none) basis h = own-still a _ [] refl (λ k r made. made) refl (λ l i. i) h
 own-kept m a (passes millis) basis h = own-still a _ [] refl (λ k r made. made) refl (λ l i. i) h
-own-kept m a (others booted marks ports modules) basis h = own-still a _ [] refl (λ k r made. made) refl (λ l i. i) h
+own-kept m a (others booted marks ports modules same) basis h = own-still a _ [] refl (λ k r made. made) refl (λ l i. i) h

@@ -86,7 +86,7 @@ at_first-back test change (y ∷ ys) x (inr j) = by (test y) (at_first-back test
 
 -- connections stay live, and wired or not
 abbrev pub LivesOn : Bus → Bus → Type 0
-LivesOn b after = (k : ℕ) (t : Bool) → IsLive k t b → IsLive k t after
+LivesOn b after = (k : ℕ) (t : Bool) (l : IsLive k t b) → (n : IsLive k t after) × (n.intf ≡ l.intf)
 
 pub lives-replied : (k : ℕ) (at : Side) (item : Item) (b : Bus) → LivesOn b (replied k at item b)
 lives-replied k at item b n t h =
@@ -102,13 +102,16 @@ lives-replied k at item b n t h =
     same c s false = (refl, refl, refl)
 
     still : (x : Connection) → IsIn x (replied k at item b).connections → x.number ≡ h.connection.number
-        → x.wired ≡ h.connection.wired → x.peer ≡ h.connection.peer → IsLive n t (replied k at item b)
-    still x i number wired peer = record {
-      connection = x;
-      live = i;
-      number = number ∙ h.number;
-      wired = wired ∙ h.wired;
-      intf = h.intf;
-      cport = h.cport;
-      peer = peer ∙ h.peer;
-    }
+        → x.wired ≡ h.connection.wired → x.peer ≡ h.connection.peer → (l : IsLive n t (replied k at item b)) × (l.intf ≡ h.intf)
+    still x i number wired peer = (
+      record {
+        connection = x;
+        live = i;
+        number = number ∙ h.number;
+        wired = wired ∙ h.wired;
+        intf = h.intf;
+        cport = h.cport;
+        peer = peer ∙ h.peer;
+      },
+      refl,
+    )

@@ -1,5 +1,5 @@
 -- Points within the step of an event, and the single changes that lead from one to the next.
-use Rattle.std.specs.Prelude.{◌≡◌, ◌≤◌, ◌≢◌, ℕ, ◌+◌, Bool, true, false, Option, Some, None, List, [], ◌∷◌, ◌++◌, map, length}
+use Rattle.std.specs.Prelude.{◌≡◌, ◌⊎◌, ◌≤◌, ◌≢◌, ℕ, ◌+◌, Bool, true, false, Option, Some, None, List, [], ◌∷◌, ◌++◌, map, length}
 use Rattle.gb_base.specs.declared.bridge.BridgeAsk.{BridgeAsk}
 use Rattle.gb_base.specs.declared.bridge.Reading.TheVariants as reading
 use Rattle.gb_base.specs.declared.end.End.{End}
@@ -9,6 +9,7 @@ use Rattle.gb_base.specs.declared.end.Side.TheVariants as side
 use Rattle.gb_base.specs.declared.entry.ConnState.TheVariants as state
 use Rattle.gb_base.specs.declared.entry.Entry.{Entry}
 use Rattle.gb_base.specs.declared.entry.Entry.TheVariants as entry
+use Rattle.gb_base.specs.declared.event.Event.{Event}
 use Rattle.gb_base.specs.declared.event.Event.TheVariants as event
 use Rattle.gb_base.specs.declared.name.Name.{Name}
 use Rattle.gb_base.specs.declared.outcome.Outcome.{Outcome}
@@ -29,9 +30,11 @@ use Rattle.gb_machine.specs.Incoming.{Incoming, reply_entry, reply_item, request
 use Rattle.gb_machine.specs.LineActions.{spent, with_fewer}
 use Rattle.gb_machine.specs.LawsBus.{NameRequests}
 use Rattle.gb_machine.specs.Lists.{first, nth}
-use Rattle.gb_machine.specs.Members.{Each, IsIn}
+use Rattle.gb_machine.specs.Members.{Each, EachTwo, IsIn}
+use Rattle.gb_machine.specs.Modules.{is_plugged}
+use Rattle.gb_machine.specs.Ports.{is_powered}
 use Rattle.gb_machine.specs.Names.{bound, freed, named}
-use Rattle.gb_machine.specs.Refusals.{module_place}
+use Rattle.gb_machine.specs.Refusals.{module_place, refusal}
 use Rattle.gb_machine.specs.Requests.{gave_up, given_up_with, open_on, open_with}
 use Rattle.gb_machine.specs.Runs.{Moment}
 use Rattle.gb_machine.specs.Sending.{Draft, label_for, sent}
@@ -147,8 +150,10 @@ pub record IsNoticed (m : Moment) (e : HostEvent) : Type 0 where
 abbrev pub IsCaused : Moment → HostEvent → Host → Type 0
 IsCaused m (HostEvent.Inserted i) h = (h ≡ m.before.host) × IsNoticed m (HostEvent.Inserted i)
 IsCaused m (HostEvent.Removed i) h = (h ≡ m.before.host) × IsNoticed m (HostEvent.Removed i)
-IsCaused m (HostEvent.Connect i c) h = (h ≡ m.before.host) × (m.event ≡ event.Connect i c)
-IsCaused m (HostEvent.Disconnect i c) h = (h ≡ m.before.host) × (m.event ≡ event.Disconnect i c)
+IsCaused m (HostEvent.Connect i c) h =
+    (h ≡ m.before.host) × (m.event ≡ event.Connect i c) × (refusal m.before (event.Connect i c) ≡ None) × (c ≤ 4095)
+IsCaused m (HostEvent.Disconnect i c) h =
+    (h ≡ m.before.host) × (m.event ≡ event.Disconnect i c) × (refusal m.before (event.Disconnect i c) ≡ None)
 IsCaused m (HostEvent.Ended n how) h = Unit {0}
 
 -- a tick, and a request whose deadline came
@@ -214,15 +219,37 @@ pub data Says (h : Hand) (n result : ℕ) (payload : List ℕ) : Type 0 where
   numbered : h.item ≡ Reply n result payload → Says h n result payload
   unclean : h.connection.clean ≡ false → Says h n result payload
 
+-- an event at which the supervisory controller asks of its own
+abbrev pub IsOfSvc : Event → Type 0
+IsOfSvc event.Boot = Unit {0}
+IsOfSvc (event.Insert i kind) = Unit {0}
+IsOfSvc (event.InsertRaw i manifest) = Unit {0}
+IsOfSvc (event.Pull i) = Unit {0}
+IsOfSvc _ = ⊥
+
+-- who asks on a connection: the application processor, a module, or the supervisory controller at an
+-- event that concerns it
+pub data IsAskedBy (m : Moment) (c : Connection) (d : Draft) : Type 0 where
+  by_host : d.side ≡ side.Ap → IsAskedBy m c d
+  by_module : (i p : ℕ) → c.peer ≡ end.Module i p → IsAskedBy m c d
+  by_svc : IsOfSvc m.event → IsAskedBy m c d
+
+-- what is plugged stays, and so does whether the supervisory controller has started
+pub record SamePlugs (s : State) (booted : Bool) (ports : List Port) (modules : List Plugged) : Type 0 where
+  pub started : booted ≡ s.booted
+  pub plugged : (i : ℕ) → is_plugged i modules ≡ is_plugged i s.modules
+  pub powered : (i : ℕ) → is_powered i ports ≡ true → is_powered i s.ports ≡ true
+  pub differ : EachTwo (λ (p q : Plugged). p.intf ≢ q.intf) s.modules → EachTwo (λ (p q : Plugged). p.intf ≢ q.intf) modules
+
 -- A single change at a point.
 pub data Change (m : Moment) (a : Point) : Type 0 where
   -- something is told that is no end, no reply, no injection and no opening
   tells : (e : Entry) → is_quiet e ≡ true → Change m a
   -- a request is made, and gets a name or none
   asks : (d : Draft) (c : Connection) (label : ℕ) → a.hand ≡ None → connection_of d.connection a.state.bus ≡ Some c
-      → label_for d a.state.bus ≡ Some label → Change m a
+      → label_for d a.state.bus ≡ Some label → IsAskedBy m c d → Change m a
   names : (name : Name) (d : Draft) (c : Connection) (label : ℕ) → a.hand ≡ None → connection_of d.connection a.state.bus ≡ Some c
-      → label_for d a.state.bus ≡ Some label → Change m a
+      → label_for d a.state.bus ≡ Some label → d.side ≡ side.Ap → Change m a
   -- a name gets a request that another has, or is free
   binds : (x y : Name) (n : ℕ) → named x a.state.names ≡ Some n → Change m a
   frees : (name : Name) → Change m a
@@ -242,7 +269,8 @@ pub data Change (m : Moment) (a : Point) : Type 0 where
   -- a request is given up
   gives_up : (n : ℕ) (how : Outcome) → a.hand ≡ None → is_open n a.state.bus ≡ true → IsGivenUpFor m a.state how n → Change m a
   -- a connection is wired, or unwired
-  wires : (k : ℕ) → a.hand ≡ None → a.wires ≡ Untouched → IsLive k false a.state.bus → Change m a
+  wires : (k : ℕ) → a.hand ≡ None → a.wires ≡ Untouched → (live : IsLive k false a.state.bus)
+      → is_powered live.intf a.state.ports ≡ true → Change m a
   unwires : (k : ℕ) → a.hand ≡ None → a.wires ≢ Wired → IsLive k true a.state.bus → Change m a
   -- bytes are injected
   injects : (i c : ℕ) (p : Place) (bytes : List ℕ) → a.hand ≡ None → module_place i c a.state ≡ Some p → Change m a
@@ -256,19 +284,20 @@ pub data Change (m : Moment) (a : Point) : Type 0 where
   acts_asked : (q : Asking) (n : ℕ) (rest : List Act) → a.pending ≡ Act.Ask q ∷ rest → Change m a
   acts_failed : (q : Asking) (rest : List Act) → IsAsking q a.pending rest → AreQuiet (unsent q.purpose a.state.host).told → Change m a
   -- it serves a request, or spends credits
-  serves : (k kind : ℕ) (payload : List ℕ) → Change m a
-  spends : (i c : ℕ) (what : BridgeAsk) → Change m a
+  serves : (k kind : ℕ) (payload : List ℕ) → a.pending ≡ [] → Change m a
+  spends : (i c : ℕ) (what : BridgeAsk) → a.pending ≡ [] → Change m a
   -- time passes
   passes : (millis : ℕ) → Change m a
   -- something else changes that is no matter of requests
-  others : (booted : Bool) (marks : List ℕ) (ports : List Port) (modules : List Plugged) → Change m a
+  others : (booted : Bool) (marks : List ℕ) (ports : List Port) (modules : List Plugged)
+      → SamePlugs a.state booted ports modules ⊎ IsOfSvc m.event → Change m a
 
 -- the point after a single change
 abbrev pub changed : (m : Moment) (a : Point) → Change m a → Point
 changed m a (tells e quiet) = on a.state (e ∷ []) a
-changed m a (asks d c label free live drawn) =
+changed m a (asks d c label free live drawn who) =
     on_bus (sent d label a.state.bus) (asked_told d c label a.state.bus) a
-changed m a (names name d c label free live drawn) =
+changed m a (names name d c label free live drawn host) =
     on (record (bound name (next_number a.state.bus) a.state) { bus = sent d label a.state.bus })
     (asked_told d c label a.state.bus) a
 changed m a (binds x y n is) = on (bound y n a.state) [] a
@@ -293,7 +322,7 @@ changed m a (answers h n result payload is says open_) =
 changed m a (forgets h n is late) = record (on_bus (forgotten n a.state.bus) [] a) { hand = None }
 changed m a (gives_up n how free open_ cause) =
     on_bus (gave_up n how a.state.bus) (entry.Ended n how reading.Nothing ∷ []) a
-changed m a (wires k free untouched live) = record (on (with_wired k a.state) [] a) { wires = Wired }
+changed m a (wires k free untouched live powered) = record (on (with_wired k a.state) [] a) { wires = Wired }
 changed m a (unwires k free unwired live) =
     record (on (with_unwired k a.state) (map disconnected_told (open_on k side.Far a.state.bus)) a) { wires = Unwired }
 changed m a (injects i c p bytes free named) =
@@ -311,10 +340,10 @@ changed m a (acts_opened w q rest free is) =
 changed m a (acts_asked q n rest is) = record (on (with_awaited q.purpose n a.state) [] a) { pending = rest }
 changed m a (acts_failed q rest is quiet) =
     record (on (record a.state { host = (unsent q.purpose a.state.host).host }) (unsent q.purpose a.state.host).told a) { pending = rest }
-changed m a (serves k kind payload) = on (record a.state { host = (host_serves k kind payload a.state.host).host }) [] a
-changed m a (spends i c what) = on (record a.state { host = with_link i c (spent what) a.state.host }) [] a
+changed m a (serves k kind payload none) = on (record a.state { host = (host_serves k kind payload a.state.host).host }) [] a
+changed m a (spends i c what none) = on (record a.state { host = with_link i c (spent what) a.state.host }) [] a
 changed m a (passes millis) = on (record a.state { now = a.state.now + millis }) [] a
-changed m a (others booted marks ports modules) =
+changed m a (others booted marks ports modules same) =
     on (record a.state { booted = booted; holds = marks; ports = ports; modules = modules }) [] a
 
 -- ---- laws
@@ -330,7 +359,7 @@ pub record Law (m : Moment) : Type 1 where
 -- a change is one of those that the acts of the application processor are made of
 abbrev pub IsActing : (m : Moment) (a : Point) → Change m a → Type 0
 IsActing m a (tells e quiet) = Unit {0}
-IsActing m a (asks d c label free live drawn) = Unit {0}
+IsActing m a (asks d c label free live drawn who) = Unit {0}
 IsActing m a (turns e free untouched none cause) = Unit {0}
 IsActing m a (acts_told e rest is quiet) = Unit {0}
 IsActing m a (acts_shut k rest free is cause) = Unit {0}

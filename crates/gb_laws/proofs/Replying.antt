@@ -257,8 +257,8 @@ ended-no-replies (n ∷ ns) = ((λ k. refl), ended-no-replies ns)
 
 once-kept : (m : Moment) (a : Point) (x : Change m a) → Basis a → RepliesOnce a → RepliesOnce (changed m a x)
 once-kept m a (tells e quiet) basis h = once-fewer a _ (e ∷ []) refl (quiet-no-reply e quiet, tt) (λ n r made. made) (λ n. omega arith) h
-once-kept m a (asks d c label free live drawn) basis h = once-asked a _ d c label basis refl refl refl refl h
-once-kept m a (names name d c label free live drawn) basis h = once-asked a _ d c label basis refl refl refl refl h
+once-kept m a (asks d c label free live drawn who) basis h = once-asked a _ d c label basis refl refl refl refl h
+once-kept m a (names name d c label free live drawn host) basis h = once-asked a _ d c label basis refl refl refl refl h
 once-kept m a (binds x y n is) basis h = once-fewer a _ [] refl tt (λ n r made. made) (λ n. omega arith) h
 once-kept m a (frees name) basis h = once-fewer a _ [] refl tt (λ n r made. made) (λ n. omega arith) h
 once-kept m a (takes at p item free start is named front) basis h =
@@ -294,7 +294,7 @@ once-kept m a (forgets x n is which) basis h =
     once-fewer a _ [] refl tt (λ k r made. made) (λ k. let less = (fewer-hand a x is).counts (is_ask k) in omega (arith, less)) h
 once-kept m a (gives_up n how free unended cause) basis h =
     once-fewer a _ (_ ∷ []) refl ((λ k. refl), tt) (λ k r made. made) (λ k. omega arith) h
-once-kept m a (wires k free untouched live) basis h =
+once-kept m a (wires k free untouched live powered) basis h =
     once-fewer a _ [] refl tt (λ n r made. made) (λ n. changed-counts (is_ask n) (loose a) k _ a.state.bus (λ c. omega arith)) h
 once-kept m a (unwires k free before live) basis h =
     once-fewer a _ _ refl (ended-no-replies (open_on k side.Far a.state.bus)) (λ n r made. made) (λ n.
@@ -323,10 +323,10 @@ once-kept m a (acts_asked q k rest is) basis h =
     let held = ap (λ hs. times_in (is_ask n) (loose_hand a.hand (map loose_held hs)) a.state.bus) r.held in
     omega (arith, same, held)) h
 once-kept m a (acts_failed q rest is quiet) basis h = once-fewer a _ _ refl (quiet-no-replies _ quiet) (λ n r made. made) (λ n. omega arith) h
-once-kept m a (serves k kind payload) basis h = once-fewer a _ [] refl tt (λ n r made. made) (λ n. omega arith) h
-once-kept m a (spends i c what) basis h = once-fewer a _ [] refl tt (λ n r made. made) (λ n. omega arith) h
+once-kept m a (serves k kind payload none) basis h = once-fewer a _ [] refl tt (λ n r made. made) (λ n. omega arith) h
+once-kept m a (spends i c what none) basis h = once-fewer a _ [] refl tt (λ n r made. made) (λ n. omega arith) h
 once-kept m a (passes millis) basis h = once-fewer a _ [] refl tt (λ n r made. made) (λ n. omega arith) h
-once-kept m a (others booted marks ports modules) basis h = once-fewer a _ [] refl tt (λ n r made. made) (λ n. omega arith) h
+once-kept m a (others booted marks ports modules same) basis h = once-fewer a _ [] refl tt (λ n r made. made) (λ n. omega arith) h
 
 -- ---- the law
 

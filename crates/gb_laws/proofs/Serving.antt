@@ -1,5 +1,5 @@
 -- A law of points goes over what a served request brings about.
-use Rattle.std.proofs.Common.{◌≡◌, ℕ, Bool, true, false, cond, Option, Some, None, List, [], ◌++◌, refl, sym, ap, ◌∙◌, subst}
+use Rattle.std.proofs.Common.{◌≡◌, ℕ, Bool, true, false, cond, Option, Some, None, List, [], ◌++◌, refl, sym, ap, ◌∙◌, inl, subst}
 use Rattle.std.specs.Prelude.{◌==◌}
 use Rattle.std.specs.List.{list_any}
 use Rattle.gb_base.specs.declared.end.End.{End}
@@ -13,13 +13,14 @@ use Rattle.gb_invariants.proofs.Awaiting.{same-some}
 use Rattle.gb_invariants.proofs.Lists.{found-in}
 use Rattle.gb_invariants.proofs.Outcomes.{both-true}
 use Rattle.gb_laws.proofs.Acting.{goes-notices}
-use Rattle.gb_laws.proofs.Going.{At, Goes, goes-far_asks_all, goes-nothing, goes-tell, goes-▸}
+use Rattle.gb_laws.proofs.Going.{At, Goes, IsToModule, goes-far_asks_all, goes-nothing, goes-tell, goes-▸}
 use Rattle.gb_laws.proofs.Places.{LivesOn, same_end-is}
 use Rattle.gb_laws.proofs.Points.{Hand, IsCaused, IsLive, IsNoticed, Law, Untouched, Unwired, Wired, Wires, acting, others, serves, unwires, wires}
 use Rattle.gb_laws.proofs.Served.{IsQuietly, ServedAs, inserting, plainly, removing, served}
 use Rattle.gb_machine.proofs.Opened.{machine_opened}
 use Rattle.gb_machine.specs.Actions.{Action, change, given, nothing, on_host, tell, ◌▸◌}
-use Rattle.gb_machine.specs.Bus.{Bus, Connection, Item, Place, place_of, queue, same_end}
+use Rattle.gb_laws.proofs.Stepping.{module-plugs, same-plugs}
+use Rattle.gb_machine.specs.Bus.{Bus, Connection, Item, Place, connection_of, place_of, queue, same_end}
 use Rattle.gb_machine.specs.Host.{Host}
 use Rattle.gb_machine.specs.HostActs.{notices}
 use Rattle.gb_machine.specs.HostServing.{HostServed, host_serves}
@@ -28,7 +29,8 @@ use Rattle.gb_machine.specs.Lists.{first}
 use Rattle.gb_machine.specs.Modules.{module_at, with_module}
 use Rattle.gb_machine.specs.OwnAsking.{far_asks_all}
 use Rattle.gb_machine.specs.Responding.{Response, creates, destroys, far_response, host_behind, module_response, module_stepped, responds_plainly, responds_with, response_at, svc_decided, with_ports}
-use Rattle.gb_machine.specs.Ports.{unrouted}
+use Rattle.gb_machine.specs.Ports.{is_powered, unrouted}
+use Rattle.gb_laws.proofs.Powering.{IsReady, port-powered, step-powered, step-ready}
 use Rattle.gb_machine.specs.Runs.{Moment}
 use Rattle.gb_machine.specs.Serving.{invalid, nonexistent, plainly as plainly_answers, success}
 use Rattle.gb_machine.specs.State.{Port, State}
@@ -40,18 +42,26 @@ use Rattle.gb_machine.specs.Wiring.{is_wired_to, joining, joins}
 -- ---- the connection that a request to the supervisory controller speaks of
 
 -- it is live, and at a module
-pub joining-live : (a i c : ℕ) (b : Bus) (x : Connection) (t : Bool) → joining a i c b ≡ Some x → x.wired ≡ t → IsLive x.number t b
+pub joining-live : (a i c : ℕ) (b : Bus) (x : Connection) (t : Bool) → joining a i c b ≡ Some x → x.wired ≡ t
+    → (l : IsLive x.number t b) × (l.intf ≡ i)
 joining-live a i c b x t h w =
     let f = found-in (joins a i c) b.connections x h in
-    let p = both-true (x.ap == a) (same_end x.peer (end.Module i c)) f.1 in record {
-      connection = x;
-      live = f.0;
-      number = refl;
-      wired = w;
-      intf = i;
-      cport = c;
-      peer = same_end-is x.peer (end.Module i c) p.1;
-    }
+    let p = both-true (x.ap == a) (same_end x.peer (end.Module i c)) f.1 in (
+      record {
+        connection = x;
+        live = f.0;
+        number = refl;
+        wired = w;
+        intf = i;
+        cport = c;
+        peer = same_end-is x.peer (end.Module i c) p.1;
+      },
+      refl,
+    )
+
+-- what has the number of a connection has its far end
+abbrev pub HasPeer : ℕ → End → Bus → Type 0
+HasPeer k e b = (c : Connection) → connection_of k b ≡ Some c → c.peer ≡ e
 
 -- ---- what is known of a request that is served at a moment
 
@@ -92,16 +102,17 @@ module _ (m : Moment) (law : Law m) where
 
   -- ---- the supervisory controller
 
-  ends-ports : (ports : List Port) (s : State) → Ends None (with_ports ports) s
+  ends-ports : (ports : List Port) (s : State) → ((i : ℕ) → is_powered i ports ≡ true → is_powered i s.ports ≡ true) → Ends None (with_ports ports) s
   unfolding machine_opened
-  ends-ports ports s told at = (Untouched, law.kept _ (others s.booted s.holds ports s.modules) at)
+  ends-ports ports s powered told at =
+      (Untouched, law.kept _ (others s.booted s.holds ports s.modules (inl (record { started = refl; plugged = λ i. refl; powered = powered; differ = λ h. h }))) at)
 
   ends-nothing : (s : State) → Ends None nothing s
   ends-nothing s = ends-going None nothing s (goes-nothing m (acting m law) None [] Untouched s)
 
-  ends-wires : (k : ℕ) (s : State) → IsLive k false s.bus → Ends None (wiring.wires k) s
+  ends-wires : (k : ℕ) (s : State) (live : IsLive k false s.bus) → is_powered live.intf s.ports ≡ true → Ends None (wiring.wires k) s
   unfolding machine_opened
-  ends-wires k s live told at = (Wired, law.kept _ (wires k refl refl live) at)
+  ends-wires k s live powered told at = (Wired, law.kept _ (wires k refl refl live powered) at)
 
   ends-unwires : (k : ℕ) (s : State) → IsLive k true s.bus → Ends None (wiring.unwires k) s
   unfolding machine_opened
@@ -117,11 +128,13 @@ module _ (m : Moment) (law : Law m) where
   abbrev IsLiveFound : Option Connection → State → Type 0
   IsLiveFound o s = (x : Connection) (t : Bool) → o ≡ Some x → x.wired ≡ t → IsLive x.number t s.bus
 
-  ends-creates : (o : Option Connection) (s : State) → IsLiveFound o s → Ends None (creates o).behind s
+  ends-creates : (o : Option Connection) (s : State)
+      → ((x : Connection) → o ≡ Some x → x.wired ≡ false → (l : IsLive x.number false s.bus) × (is_powered l.intf s.ports ≡ true))
+      → Ends None (creates o).behind s
   ends-creates None s live = ends-nothing s
   ends-creates (Some c) s live =
       ends-either c.wired (responds_plainly invalid) (responds_with (plainly_answers success) (wiring.wires c.number)) s
-      (λ e. ends-nothing s) (λ e. ends-wires c.number s (live c false refl e))
+      (λ e. ends-nothing s) (λ e. let l = live c refl e in ends-wires c.number s l.0 l.1)
 
   ends-destroys : (o : Option Connection) (s : State) → IsLiveFound o s → Ends None (destroys o).behind s
   ends-destroys None s live = ends-nothing s
@@ -129,39 +142,47 @@ module _ (m : Moment) (law : Law m) where
       ends-either c.wired (responds_with (plainly_answers success) (wiring.unwires c.number)) (responds_plainly nonexistent) s
       (λ e. ends-unwires c.number s (live c true refl e)) (λ e. ends-nothing s)
 
-  ends-decided : (d : SvcServed) (ports : List Port) (s u : State) → LivesOn s.bus u.bus → Ends None (svc_decided d ports s).behind u
-  ends-decided (Answered result payload) ports s u on = ends-ports ports u
-  ends-decided (Create a i c) ports s u on =
-      ends-creates (joining a i c s.bus) u (λ x t e w. on x.number t (joining-live a i c s.bus x t e w))
-  ends-decided (Destroy a i c) ports s u on =
-      ends-destroys (joining a i c s.bus) u (λ x t e w. on x.number t (joining-live a i c s.bus x t e w))
-  ends-decided (Unroute i) ports s u on =
+  ends-decided : (d : SvcServed) (ports : List Port) (s u : State) → LivesOn s.bus u.bus → ((i : ℕ) → is_powered i ports ≡ true → is_powered i u.ports ≡ true)
+      → IsReady d u.ports → Ends None (svc_decided d ports s).behind u
+  ends-decided (Answered result payload) ports s u on powered ready = ends-ports ports u powered
+  ends-decided (Create a i c) ports s u on powered ready =
+      ends-creates (joining a i c s.bus) u (λ x e w.
+      let j = joining-live a i c s.bus x false e w in
+      let l = on x.number false j.0 in
+      (l.0, ap (λ n. is_powered n u.ports) (l.1 ∙ j.1) ∙ ready))
+  ends-decided (Destroy a i c) ports s u on powered ready =
+      ends-destroys (joining a i c s.bus) u (λ x t e w. (on x.number t (joining-live a i c s.bus x t e w).0).0)
+  ends-decided (Unroute i) ports s u on powered ready =
       ends-either (list_any (is_wired_to i) s.bus.connections) (responds_plainly invalid)
       (responds_with (plainly_answers success) (with_ports (unrouted i ports))) u
-      (λ e. ends-nothing u) (λ e. ends-ports (unrouted i ports) u)
+      (λ e. ends-nothing u) (λ e. ends-ports (unrouted i ports) u (λ j f. powered j (port-powered j i (λ p. record p { level = 5 }) ports (λ p. refl) f)))
 
   -- ---- modules
 
-  ends-module : (k i : ℕ) (step : ModuleStep) (s : State) → Ends None (module_stepped k i step).behind s
+  ends-module : (k i : ℕ) (step : ModuleStep) (s : State) → IsToModule k s.bus → Ends None (module_stepped k i step).behind s
   unfolding machine_opened
-  ends-module k i step s =
+  ends-module k i step s to =
       ends-going None (module_stepped k i step).behind s
       (goes-▸ m (acting m law) None None None [] [] [] Untouched Untouched Untouched
       (change (λ t. record t { modules = with_module i step.after t.modules })) (far_asks_all k step.served.asks) s
-      (λ told at. law.kept _ (others s.booted s.holds s.ports (with_module i step.after s.modules)) at)
-      (goes-far_asks_all m (acting m law) [] Untouched k step.served.asks (record s { modules = with_module i step.after s.modules })))
+      (λ told at. law.kept _ (others s.booted s.holds s.ports (with_module i step.after s.modules) (inl (module-plugs s i step.after))) at)
+      (goes-far_asks_all m (acting m law) [] Untouched k step.served.asks (record s { modules = with_module i step.after s.modules }) to))
 
-  ends-at_module : (k i c : ℕ) (q : Incoming) (o : Option Module) (s : State) → Ends None (module_response k i c q o).behind s
-  ends-at_module k i c q None s = ends-nothing s
-  ends-at_module k i c q (Some x) s = ends-module k i (module_serve x c q.kind q.payload) s
+  ends-at_module : (k i c : ℕ) (q : Incoming) (o : Option Module) (s : State) → IsToModule k s.bus → Ends None (module_response k i c q o).behind s
+  ends-at_module k i c q None s to = ends-nothing s
+  ends-at_module k i c q (Some x) s to = ends-module k i (module_serve x c q.kind q.payload) s to
 
   -- ---- the far side
 
-  ends-far : (e : End) (k : ℕ) (q : Incoming) (s u : State) → LivesOn s.bus u.bus → Ends None (far_response e k q s).behind u
-  ends-far (end.Module i c) k q s u on = ends-at_module k i c q (module_at i s.modules) u
-  ends-far end.Svc k q s u on =
-      let step = svc_step s.ports q.kind q.payload in ends-decided step.served step.ports s u on
-  ends-far (end.Ap a) k q s u on = ends-nothing u
+  ends-far : (e : End) (k : ℕ) (q : Incoming) (s u : State) → LivesOn s.bus u.bus → u.ports ≡ s.ports → HasPeer k e u.bus
+      → Ends None (far_response e k q s).behind u
+  ends-far (end.Module i c) k q s u on ports peer = ends-at_module k i c q (module_at i s.modules) u (λ x e. (i, c, peer x e))
+  ends-far end.Svc k q s u on ports peer =
+      let step = svc_step s.ports q.kind q.payload in
+      ends-decided step.served step.ports s u on
+      (λ i e. ap (is_powered i) ports ∙ step-powered s.ports q.kind q.payload i e)
+      (subst (IsReady step.served) (sym ports) (step-ready s.ports q.kind q.payload))
+  ends-far (end.Ap a) k q s u on ports peer = ends-nothing u
 
   -- ---- the application processor
 
@@ -204,7 +225,7 @@ module _ (m : Moment) (law : Law m) where
       first : Goes m (acting m law) None [] Untouched None [] Untouched (on_host (λ old. (host_serves k kind payload m.before.host).host)) u
       first told at =
           subst (λ h. At m (acting m law) None [] Untouched (told ++ []) (record u { host = (host_serves k kind payload h).host })) host
-          (law.kept _ (serves k kind payload) at)
+          (law.kept _ (serves k kind payload refl) at)
 
       quiet : ServedAs m.before.host (host_serves k kind payload m.before.host) → IsQuietly (host_serves k kind payload m.before.host).told
       quiet (plainly q n) = q
@@ -226,10 +247,10 @@ module _ (m : Moment) (law : Law m) where
           subst (λ x. IsCaused m x (host_serves k kind payload m.before.host).host) same (h, subst (IsNoticed m) (sym same) said)
 
   -- what the party at a side answers has an end
-  pub ends-response : (c : Connection) (at : Side) (q : Incoming) (s u : State) → IsTaken m c at q → LivesOn s.bus u.bus
+  pub ends-response : (c : Connection) (at : Side) (q : Incoming) (s u : State) → IsTaken m c at q → LivesOn s.bus u.bus → u.ports ≡ s.ports → HasPeer c.number c.peer u.bus
       → s.host ≡ m.before.host → u.host ≡ s.host → Ends None (response_at at c q s).behind u
   unfolding machine_opened
-  ends-response c side.Ap q s u taken on before same =
+  ends-response c side.Ap q s u taken on ports peer before same =
       subst (λ h. Ends None (host_behind (host_serves c.number q.kind q.payload h)) u) (sym before)
       (ends-served c.number q.kind q.payload u (same ∙ before) (λ e n. noticed m c side.Ap q e taken refl n))
-  ends-response c side.Far q s u taken on before same = ends-far c.peer c.number q s u on
+  ends-response c side.Far q s u taken on ports peer before same = ends-far c.peer c.number q s u on ports peer

@@ -1,6 +1,6 @@
 -- A law of points goes over the step of each event.
-use Rattle.std.proofs.Common.{◌≡◌, ℕ, ◌+◌, Bool, true, false, cond, Option, Some, None, List, [], ◌∷◌, ◌++◌, length, map, refl, sym, ap, ◌∙◌}
-use Rattle.std.specs.Prelude.{Result, Ok, Err, is_none, is_some, nat_lt, option_and_then}
+use Rattle.std.proofs.Common.{◌≡◌, ℕ, ◌+◌, Bool, true, false, cond, Option, Some, None, List, [], ◌∷◌, ◌++◌, length, map, refl, sym, ap, ◌∙◌, inl, inr}
+use Rattle.std.specs.Prelude.{Result, Ok, Err, ◌==◌, ◌≢◌, is_none, is_some, nat_lt, option_and_then, option_map}
 use Rattle.gb_base.specs.declared.bridge.BridgeAsk.{BridgeAsk}
 use Rattle.gb_base.specs.declared.bridge.Reading.TheVariants as reading
 use Rattle.gb_base.specs.declared.end.End.{End}
@@ -17,15 +17,21 @@ use Rattle.gb_formats.specs.Module.{Module, Stir, Stirred, module_stir}
 use Rattle.gb_formats.specs.SvcRecords.{SvcAsk}
 use Rattle.gb_invariants.proofs.Awaiting.{is-open, not-both}
 use Rattle.gb_laws.proofs.Acting.{goes-notices}
-use Rattle.gb_laws.proofs.Going.{At, Goes, goes-far_asks, goes-far_asks_all, goes-nothing, goes-tell_all, goes-when, goes-▸}
+use Rattle.gb_laws.proofs.Going.{At, Goes, IsToModule, goes-far_asks, goes-far_asks_all, goes-nothing, goes-tell_all, goes-when, goes-▸}
 use Rattle.gb_laws.proofs.Naming.{made-named}
-use Rattle.gb_laws.proofs.Points.{AreQuiet, IsGivenUpFor, Law, Untouched, acting, binds, gives_up as giving_up, injects as injecting, names, others, spends}
+use Rattle.gb_invariants.proofs.Lists.{two-at_first}
+use Rattle.gb_invariants.proofs.Numbers.{found-number, same-connection}
+use Rattle.gb_invariants.specs.Facts.{IsBefore}
+use Rattle.gb_laws.proofs.Places.{module-far, place-is}
+use Rattle.gb_machine.specs.Members.{EachTwo}
+use Rattle.std.specs.List.{find}
+use Rattle.gb_laws.proofs.Points.{IsOfSvc, SamePlugs, by_svc, AreQuiet, IsGivenUpFor, Law, Untouched, acting, binds, gives_up as giving_up, injects as injecting, names, others, spends}
 use Rattle.gb_machine.proofs.Opened.{machine_opened}
 use Rattle.gb_base.specs.declared.refusal.Refusal.TheVariants as why
 use Rattle.gb_formats.specs.Grammar.{default_timeout}
 use Rattle.gb_machine.specs.Asking.{asks_with}
 use Rattle.gb_machine.specs.Actions.{Action, by_state, change, each, given, nothing, on_bus, on_host, tell, when, ◌▸◌}
-use Rattle.gb_machine.specs.Bus.{Connection, Place, Request, connection_of, is_open, next_number, or_else, outcome_of, request_of}
+use Rattle.gb_machine.specs.Bus.{Bus, end_of, place_of, Connection, Place, Request, connection_of, is_open, next_number, or_else, outcome_of, request_of}
 use Rattle.gb_machine.specs.Events.{shows}
 use Rattle.gb_machine.specs.GivingUp.{cancels, gives_up}
 use Rattle.gb_machine.specs.Holding.{marked}
@@ -35,7 +41,7 @@ use Rattle.gb_machine.specs.HostRefusals.{bridge_refusal, is_kept, send_refusal_
 use Rattle.gb_machine.specs.Labels.{fresh_label, next_label, no_label}
 use Rattle.gb_machine.specs.LineActions.{ap_draft, bridge_sent, bridges, copies, holds, injects, injects_at, with_hold, sends, sends_on, spent, stirred, stirs}
 use Rattle.gb_machine.specs.Lists.{first_met}
-use Rattle.gb_machine.specs.Modules.{module_at, with_module}
+use Rattle.gb_machine.specs.Modules.{is_plugged, is_plugged_at, module_at, with_module}
 use Rattle.gb_machine.specs.Names.{bound, is_bound, named}
 use Rattle.gb_machine.specs.OwnAsking.{far_asks_all, svc_asks, svc_own}
 use Rattle.gb_machine.specs.Plugging.{boots, plugs, tells_inserted, with_plugged}
@@ -50,7 +56,7 @@ use Rattle.gb_machine.specs.Turns.{HostEvent}
 -- ---- what a refusal that doesn't come says
 
 -- the last condition isn't met where none is
-met-last : (before : List (Bool × Refusal)) (b : Bool) (reason : Refusal) → first_met (before ++ (b, reason) ∷ []) ≡ None → b ≡ false
+pub met-last : (before : List (Bool × Refusal)) (b : Bool) (reason : Refusal) → first_met (before ++ (b, reason) ∷ []) ≡ None → b ≡ false
 met-last [] true reason h = absurd cc
 met-last [] false reason h = refl
 met-last (p ∷ ps) b reason h = by p.0 h (met-last ps b reason)
@@ -63,6 +69,51 @@ met-last (p ∷ ps) b reason h = by p.0 h (met-last ps b reason)
 pub else-later : (o p : Option Refusal) → or_else o p ≡ None → p ≡ None
 else-later None p h = h
 else-later (Some why) p h = absurd cc
+
+-- ---- what stays plugged
+
+pub same-plugs : (s : State) → SamePlugs s s.booted s.ports s.modules
+same-plugs s = record { started = refl; plugged = λ i. refl; powered = λ i e. e; differ = λ h. h }
+
+-- where a module changes
+pub module-plugs : (s : State) (i : ℕ) (x : Module) → SamePlugs s s.booted s.ports (with_module i x s.modules)
+module-plugs s i x = record {
+  started = refl;
+  plugged = plugged s.modules;
+  powered = λ j e. e;
+  differ = λ h. two-at_first (λ (p q : Plugged). p.intf ≢ q.intf) (is_plugged_at i) (λ p. record p { body = x }) s.modules
+      (λ p q r. r) (λ p q r. r) h;
+}
+  where
+    plugged : (ms : List Plugged) (j : ℕ) → is_plugged j (with_module i x ms) ≡ is_plugged j ms
+    plugged [] j = refl
+    plugged (p ∷ ps) j = by (p.intf == i) (plugged ps j)
+      where
+        behind : (t : Bool) → is_plugged j (with_module i x ps) ≡ is_plugged j ps
+            → is_some (option_map (λ (q : Plugged). q.body) (cond t (Some p) (find (is_plugged_at j) (with_module i x ps))))
+            ≡ is_some (option_map (λ (q : Plugged). q.body) (cond t (Some p) (find (is_plugged_at j) ps)))
+        behind true h = refl
+        behind false h = h
+
+        here : (t : Bool)
+            → is_some (option_map (λ (q : Plugged). q.body) (cond t (Some (record p { body = x })) (find (is_plugged_at j) ps)))
+            ≡ is_some (option_map (λ (q : Plugged). q.body) (cond t (Some p) (find (is_plugged_at j) ps)))
+        here true = refl
+        here false = refl
+
+        by : (t : Bool) → is_plugged j (with_module i x ps) ≡ is_plugged j ps
+            → is_plugged j (cond t (record p { body = x } ∷ ps) (p ∷ with_module i x ps)) ≡ is_plugged j (p ∷ ps)
+        by true h = here (p.intf == j)
+        by false h = behind (p.intf == j) h
+
+-- what is at a module's CPort is to a module
+pub place-module : (i c : ℕ) (b : Bus) (p : Place) → EachTwo IsBefore b.connections → place_of (end.Module i c) b.connections ≡ Some p
+    → IsToModule p.connection.number b
+place-module i c b p rise e x f =
+    let q = place-is (end.Module i c) b.connections p e in
+    let n = found-number p.connection.number b x f in
+    let is = same-connection b.connections x p.connection rise n.0 q.live n.1 in
+    (i, c, ap (λ (y : Connection). y.peer) is ∙ sym (ap (λ s. end_of s p.connection) (module-far i c p.side p.connection q.is)) ∙ q.is)
 
 -- ---- the shape of steps that leave wires alone
 
@@ -80,37 +131,37 @@ module _ (m : Moment) (law : Law m) where
   pub rests-when : (b : Bool) (f : Action) (s : State) → Rests f s → Rests (when b f) s
   rests-when b f s h = goes-when m (acting m law) None [] Untouched b f s (λ e. h)
 
-  pub rests-svc : (ask : SvcAsk) (s : State) → Rests (svc_asks ask) s
+  pub rests-svc : IsOfSvc m.event → (ask : SvcAsk) (s : State) → Rests (svc_asks ask) s
   unfolding machine_opened
-  rests-svc ask s = goes-far_asks m (acting m law) [] Untouched 1 (svc_own ask) s
+  rests-svc of ask s = goes-far_asks m (acting m law) [] Untouched 1 (svc_own ask) s (λ c d e. by_svc of)
 
   -- ---- booting, plugging and pulling
 
-  pub rests-inserted_all : (ps : List Plugged) (s : State) → Rests (each ps (λ p. tells_inserted p.intf)) s
+  pub rests-inserted_all : IsOfSvc m.event → (ps : List Plugged) (s : State) → Rests (each ps (λ p. tells_inserted p.intf)) s
   unfolding machine_opened
-  rests-inserted_all [] s = rests-nothing s
-  rests-inserted_all (p ∷ ps) s =
+  rests-inserted_all of [] s = rests-nothing s
+  rests-inserted_all of (p ∷ ps) s =
       rests-▸ (tells_inserted p.intf) (each ps (λ p. tells_inserted p.intf)) s
-      (rests-svc (SvcAsk.ModuleInserted p.intf 1 0) s) (rests-inserted_all ps (tells_inserted p.intf s).state)
+      (rests-svc of (SvcAsk.ModuleInserted p.intf 1 0) s) (rests-inserted_all of ps (tells_inserted p.intf s).state)
 
-  pub rests-boots : (s : State) → Rests boots s
+  pub rests-boots : IsOfSvc m.event → (s : State) → Rests boots s
   unfolding machine_opened
-  rests-boots s =
+  rests-boots of s =
       rests-▸ (change (λ t. record t { booted = true }) ▸ svc_asks (SvcAsk.ProtocolVersion 0 1) ▸ svc_asks (SvcAsk.Hello 1 1))
       (each s.modules (λ p. tells_inserted p.intf)) s
       (rests-▸ (change (λ t. record t { booted = true }) ▸ svc_asks (SvcAsk.ProtocolVersion 0 1)) (svc_asks (SvcAsk.Hello 1 1)) s
       (rests-▸ (change (λ t. record t { booted = true })) (svc_asks (SvcAsk.ProtocolVersion 0 1)) s
-      (λ told at. law.kept _ (others true s.holds s.ports s.modules) at)
-      (rests-svc (SvcAsk.ProtocolVersion 0 1) _))
-      (rests-svc (SvcAsk.Hello 1 1) _))
-      (rests-inserted_all s.modules _)
+      (λ told at. law.kept _ (others true s.holds s.ports s.modules (inr of)) at)
+      (rests-svc of (SvcAsk.ProtocolVersion 0 1) _))
+      (rests-svc of (SvcAsk.Hello 1 1) _))
+      (rests-inserted_all of s.modules _)
 
-  pub rests-plugs : (i : ℕ) (x : Module) (s : State) → Rests (plugs i x) s
+  pub rests-plugs : IsOfSvc m.event → (i : ℕ) (x : Module) (s : State) → Rests (plugs i x) s
   unfolding machine_opened
-  rests-plugs i x s =
+  rests-plugs of i x s =
       rests-▸ (change (with_plugged i x)) (when s.booted (tells_inserted i)) s
-      (λ told at. law.kept _ (others s.booted s.holds (with_plugged i x s).ports (with_plugged i x s).modules) at)
-      (rests-when s.booted (tells_inserted i) (with_plugged i x s) (rests-svc (SvcAsk.ModuleInserted i 1 0) (with_plugged i x s)))
+      (λ told at. law.kept _ (others s.booted s.holds (with_plugged i x s).ports (with_plugged i x s).modules (inr of)) at)
+      (rests-when s.booted (tells_inserted i) (with_plugged i x s) (rests-svc of (SvcAsk.ModuleInserted i 1 0) (with_plugged i x s)))
 
   -- ---- requests of lines
 
@@ -127,7 +178,7 @@ module _ (m : Moment) (law : Law m) where
           → At m (acting m law) None [] Untouched
           (told ++ (given o (λ c. given l (λ label. asks_with (ap_draft k kind payload (s.now + timeout)) c label)) (bound name (next_number s.bus) s)).entries)
           (given o (λ c. given l (λ label. asks_with (ap_draft k kind payload (s.now + timeout)) c label)) (bound name (next_number s.bus) s)).state
-      by (Some c) e (Some label) f = law.kept _ (names name (ap_draft k kind payload (s.now + timeout)) c label refl e f) at
+      by (Some c) e (Some label) f = law.kept _ (names name (ap_draft k kind payload (s.now + timeout)) c label refl e f refl) at
       by o e None f = absurd (not-both (is_none (next_label k side.Ap s.bus)) (ap is_none f) left)
       by None e (Some label) f =
           absurd (not-both (is_none (next_label k side.Ap s.bus)) (ap (λ o. is_none (option_and_then (fresh_label side.Ap) o)) e) left)
@@ -172,7 +223,7 @@ module _ (m : Moment) (law : Law m) where
       sent_by l left (Err fault) = rests-nothing s
       sent_by l left (Ok request) =
           rests-▸ (on_host (with_link l.intf l.cport (spent what))) (sends_on name l.connection request.0 request.1 default_timeout) s
-          (λ told at. law.kept _ (spends l.intf l.cport what) at)
+          (λ told at. law.kept _ (spends l.intf l.cport what refl) at)
           (rests-sends_on name l.connection request.0 request.1 default_timeout (record s { host = with_link l.intf l.cport (spent what) s.host }) left)
 
       by : (o : Option Link) → link_at i c s.host ≡ o
@@ -192,17 +243,19 @@ module _ (m : Moment) (law : Law m) where
   unfolding machine_opened
   rests-stirs i c stir s = at_module (module_at i s.modules)
     where
-      placed : (t : Stirred) (w : State) (o : Option Place) → Rests (given o (λ p. far_asks_all p.connection.number t.asks)) w
-      placed t w None = rests-nothing w
-      placed t w (Some p) = goes-far_asks_all m (acting m law) [] Untouched p.connection.number t.asks w
+      placed : (t : Stirred) (w : State) (o : Option Place) → module_place i c w ≡ o → Rests (given o (λ p. far_asks_all p.connection.number t.asks)) w
+      placed t w None e = rests-nothing w
+      placed t w (Some p) e = λ told at.
+          goes-far_asks_all m (acting m law) [] Untouched p.connection.number t.asks w
+          (place-module i c w.bus p (law.basis _ at).bus.numbers.rise e) told at
 
       stirred_by : (o : Option Stirred) → Rests (given o (stirred i c)) s
       stirred_by None = rests-nothing s
       stirred_by (Some t) =
           rests-▸ (change (λ w. record w { modules = with_module i t.after w.modules }))
           (by_state (λ w. given (module_place i c w) (λ p. far_asks_all p.connection.number t.asks))) s
-          (λ told at. law.kept _ (others s.booted s.holds s.ports (with_module i t.after s.modules)) at)
-          (placed t (record s { modules = with_module i t.after s.modules }) (module_place i c s))
+          (λ told at. law.kept _ (others s.booted s.holds s.ports (with_module i t.after s.modules) (inl (module-plugs s i t.after))) at)
+          (placed t (record s { modules = with_module i t.after s.modules }) (module_place i c s) refl)
 
       at_module : (o : Option Module) → Rests (given o (λ x. given (module_stir x c stir) (stirred i c))) s
       at_module None = rests-nothing s
@@ -214,7 +267,7 @@ module _ (m : Moment) (law : Law m) where
     where
       by : (o : Option Place) → Rests (given o (λ p. change (with_hold p.connection.number))) s
       by None = rests-nothing s
-      by (Some p) = λ told at. law.kept _ (others s.booted (marked p.connection.number s.holds) s.ports s.modules) at
+      by (Some p) = λ told at. law.kept _ (others s.booted (marked p.connection.number s.holds) s.ports s.modules (inl (same-plugs s))) at
 
   pub rests-injects : (i c : ℕ) (bytes : List ℕ) (s : State) → Rests (injects i c bytes) s
   unfolding machine_opened

@@ -1,5 +1,5 @@
 -- A law of points goes over the step of each event.
-use Rattle.std.proofs.Common.{◌≡◌, Option, Some, None, [], ◌∷◌, ◌++◌, refl, subst, append_assoc}
+use Rattle.std.proofs.Common.{◌≡◌, Option, Some, None, [], ◌∷◌, ◌++◌, refl, sym, subst, append_assoc}
 use Rattle.gb_base.specs.declared.entry.Entry.TheVariants as entry
 use Rattle.gb_base.specs.declared.event.Event.{Event}
 use Rattle.gb_base.specs.declared.event.Event.TheVariants as event
@@ -8,7 +8,7 @@ use Rattle.gb_formats.specs.Module.{Level, Serial, module_of_kind, module_raw}
 use Rattle.gb_laws.proofs.Acting.{goes-notices}
 use Rattle.gb_laws.proofs.Delivering.{ends-answers, ends-delivers}
 use Rattle.gb_laws.proofs.Going.{At}
-use Rattle.gb_laws.proofs.Points.{Law, Untouched, Wires, acting, frees, resting, tells}
+use Rattle.gb_laws.proofs.Points.{IsOfSvc, Law, Untouched, Wires, acting, frees, resting, tells}
 use Rattle.gb_laws.proofs.Serving.{Ends, ends-going}
 use Rattle.gb_laws.proofs.Stepping.{rests-boots, rests-bridges, rests-cancels, rests-copies, rests-holds, rests-injects, rests-plugs, rests-sends, rests-shows, rests-stirs}
 use Rattle.gb_laws.proofs.Ticking.{ends-pulls, rests-ticks}
@@ -22,14 +22,14 @@ module _ (m : Moment) (law : Law m) where
   -- what an event does that isn't refused
   ends-does : (e : Event) → m.event ≡ e → IsMoment e → refusal m.before e ≡ None → Ends m law None (does e) m.before
   unfolding machine_opened
-  ends-does event.Boot is one free = ends-going m law None (does event.Boot) m.before (rests-boots m law m.before)
-  ends-does (event.Insert i kind) is one free = ends-going m law None (does (event.Insert i kind)) m.before (rests-plugs m law i (module_of_kind kind) m.before)
-  ends-does (event.InsertRaw i manifest) is one free = ends-going m law None (does (event.InsertRaw i manifest)) m.before (rests-plugs m law i (module_raw manifest) m.before)
-  ends-does (event.Pull i) is one free = ends-pulls m law i
+  ends-does event.Boot is one free = ends-going m law None (does event.Boot) m.before (rests-boots m law (subst IsOfSvc (sym is) tt) m.before)
+  ends-does (event.Insert i kind) is one free = ends-going m law None (does (event.Insert i kind)) m.before (rests-plugs m law (subst IsOfSvc (sym is) tt) i (module_of_kind kind) m.before)
+  ends-does (event.InsertRaw i manifest) is one free = ends-going m law None (does (event.InsertRaw i manifest)) m.before (rests-plugs m law (subst IsOfSvc (sym is) tt) i (module_raw manifest) m.before)
+  ends-does (event.Pull i) is one free = ends-pulls m law (subst IsOfSvc (sym is) tt) i
   ends-does (event.Connect i c) is one free =
-      ends-going m law None (does (event.Connect i c)) m.before (goes-notices m (acting m law) (HostEvent.Connect i c) m.before (refl, is))
+      ends-going m law None (does (event.Connect i c)) m.before (goes-notices m (acting m law) (HostEvent.Connect i c) m.before (refl, is, free, one.1))
   ends-does (event.Disconnect i c) is one free =
-      ends-going m law None (does (event.Disconnect i c)) m.before (goes-notices m (acting m law) (HostEvent.Disconnect i c) m.before (refl, is))
+      ends-going m law None (does (event.Disconnect i c)) m.before (goes-notices m (acting m law) (HostEvent.Disconnect i c) m.before (refl, is, free))
   ends-does (event.Send name to kind payload timeout) is one free =
       ends-going m law None (does (event.Send name to kind payload timeout)) m.before (rests-sends m law name to kind payload timeout m.before free)
   ends-does (event.Bridge name i c what) is one free =

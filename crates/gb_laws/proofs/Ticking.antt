@@ -17,7 +17,7 @@ use Rattle.gb_invariants.specs.Facts.{IsBefore}
 use Rattle.gb_laws.proofs.Acting.{goes-notices}
 use Rattle.gb_laws.proofs.Awaited.{awaited-rest}
 use Rattle.gb_laws.proofs.Going.{At, goes-far_asks, goes-when}
-use Rattle.gb_laws.proofs.Points.{ActLaw, Change, IsActing, IsLate, IsLive, IsShutFor, Law, Point, Untouched, Unwired, Wired, Wires, acting, acts_asked, acts_failed, acts_left, acts_opened, acts_shut, acts_told, asks, changed, disconnected, others, passes, removed, tells, turns, unwires as unwiring}
+use Rattle.gb_laws.proofs.Points.{IsOfSvc, by_svc, ActLaw, Change, IsActing, IsLate, IsLive, IsShutFor, Law, Point, Untouched, Unwired, Wired, Wires, acting, acts_asked, acts_failed, acts_left, acts_opened, acts_shut, acts_told, asks, changed, disconnected, others, passes, removed, tells, turns, unwires as unwiring}
 use Rattle.gb_laws.proofs.Serving.{Ends}
 use Rattle.gb_laws.proofs.Stepping.{Rests, rests-gives_up, rests-nothing, rests-▸}
 use Rattle.gb_machine.proofs.Lists.{nth-within}
@@ -92,7 +92,7 @@ overdue-same m k s t requests outcomes now h = record {
 
 overdue-kept : (m : Moment) (k : ℕ) (a : Point) (x : Change m a) → IsActing m a x → IsOverdue m k a.state → IsOverdue m k (changed m a x).state
 overdue-kept m k a (tells e quiet) is h = h
-overdue-kept m k a (asks d c label free live drawn) is h = overdue-sent m d label k a.state h
+overdue-kept m k a (asks d c label free live drawn who) is h = overdue-sent m d label k a.state h
 overdue-kept m k a (turns e free untouched none cause) is h = overdue-same m k a.state _ refl refl refl h
 overdue-kept m k a (acts_told e rest at quiet) is h = h
 overdue-kept m k a (acts_shut j rest free at cause) is h = absurd (no-shut m j h.late.millis h.late.event cause)
@@ -129,7 +129,7 @@ overdue-after m n k s less h =
 
 -- ---- a connection that isn't unwired stays live
 
-at_first-stays : {A : Type 0} (test : A → Bool) (change : A → A) (xs : List A) (x : A) → IsIn x xs → test x ≡ false
+pub at_first-stays : {A : Type 0} (test : A → Bool) (change : A → A) (xs : List A) (x : A) → IsIn x xs → test x ≡ false
     → IsIn x (at_first test change xs)
 at_first-stays test change [] x i h = absurd i
 at_first-stays test change (y ∷ ys) x i h = by (test y) refl i (at_first-stays test change ys x)
@@ -159,7 +159,7 @@ is_at-module i (end.Module j c) h = (c, ap (λ k. end.Module k c) (same-number j
 is_at-module i (end.Ap a) h = absurd cc
 is_at-module i end.Svc h = absurd cc
 
-wired-live : (i : ℕ) (b : Bus) (cs : List Connection) → ((c : Connection) → IsIn c cs → IsIn c b.connections)
+pub wired-live : (i : ℕ) (b : Bus) (cs : List Connection) → ((c : Connection) → IsIn c cs → IsIn c b.connections)
     → Each (λ n. IsLive n true b) (map (λ (c : Connection). c.number) (filter (is_wired_to i) cs))
 wired-live i b [] within = tt
 wired-live i b (c ∷ cs) within = by (is_wired_to i c) refl (wired-live i b cs (λ d j. within d (inr j)))
@@ -269,9 +269,9 @@ module _ (m : Moment) (law : Law m) where
       later [] a b = tt
       later (k ∷ ks) a b = (live-unwired n k true s.bus a.0 b.0, later ks a.1 b.1)
 
-  cuts-pulls : (i : ℕ) (s : State) → Rise (wired_numbers i s.bus) → Cuts (pulls i) s
+  cuts-pulls : IsOfSvc m.event → (i : ℕ) (s : State) → Rise (wired_numbers i s.bus) → Cuts (pulls i) s
   unfolding machine_opened
-  cuts-pulls i s rise =
+  cuts-pulls of i s rise =
       cuts-▸ (each (wired_numbers i s.bus) wiring.unwires ▸ change (with_pulled i)) (when s.booted (svc_asks (SvcAsk.ModuleRemoved i))) s
       (cuts-▸ (each (wired_numbers i s.bus) wiring.unwires) (change (with_pulled i)) s
       (unwires-each (wired_numbers i s.bus) s rise (wired-live i s.bus s.bus.connections (λ c j. j)))
@@ -282,7 +282,7 @@ module _ (m : Moment) (law : Law m) where
       gone w told u = record {
         wires = u.wires;
         is = u.is;
-        holds = law.kept _ (others w.booted w.holds (with_pulled i w).ports (with_pulled i w).modules) u.holds;
+        holds = law.kept _ (others w.booted w.holds (with_pulled i w).ports (with_pulled i w).modules (inr of)) u.holds;
       }
 
       tells_removed : (w : State) → Cuts (when s.booted (svc_asks (SvcAsk.ModuleRemoved i))) w
@@ -290,13 +290,13 @@ module _ (m : Moment) (law : Law m) where
         wires = u.wires;
         is = u.is;
         holds = goes-when m (acting m law) None [] u.wires s.booted (svc_asks (SvcAsk.ModuleRemoved i)) w
-            (λ e. goes-far_asks m (acting m law) [] u.wires 1 (svc_own (SvcAsk.ModuleRemoved i)) w) told u.holds;
+            (λ e. goes-far_asks m (acting m law) [] u.wires 1 (svc_own (SvcAsk.ModuleRemoved i)) w (λ c d e. by_svc of)) told u.holds;
       }
 
-  pub ends-pulls : (i : ℕ) → Ends m law None (pulls i) m.before
-  ends-pulls i told at =
+  pub ends-pulls : IsOfSvc m.event → (i : ℕ) → Ends m law None (pulls i) m.before
+  ends-pulls of i told at =
       let numbers = (law.basis _ at).bus.numbers in
-      let r = cuts-pulls i m.before
+      let r = cuts-pulls of i m.before
       (wired-rise (filter (is_wired_to i) m.before.bus.connections) (two-filter IsBefore (is_wired_to i) m.before.bus.connections numbers.rise))
       told (record { wires = Untouched; is = λ e. absurd cc; holds = at }) in
       (r.wires, r.holds)

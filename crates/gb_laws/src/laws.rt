@@ -1,8 +1,20 @@
 //! The laws of runs.
 
-ghost use Rattle.gb_machine.specs.LawsBus.{LabelsDiffer, NamesNameRequests, OneItemANumber};
-ghost use Rattle.gb_machine.specs.LawsEnds.{AnsweredByItsResponder, EndsAreTold, EndsAtMostOnce};
+ghost use Rattle.gb_machine.specs.LawsBus.{
+  EndpointsDiffer,
+  LabelsDiffer,
+  NamesNameRequests,
+  OneItemANumber,
+  RepliesAreAwaited,
+};
+ghost use Rattle.gb_machine.specs.LawsEnds.{
+  AnsweredByItsResponder,
+  EndsAreTold,
+  EndsAtMostOnce,
+  EveryEndHasItsCause,
+};
 ghost use Rattle.gb_machine.specs.LawsHotPlug.{NoForeignMessage};
+ghost use Rattle.gb_machine.specs.Runs.{SettlesAreDeliveries};
 ghost use Rattle.gb_machine.specs.Summary.{CountsAddUp};
 
 /// Each request has one outcome at most, and one end and one reply at most are told of it.
@@ -21,6 +33,13 @@ pub fn answered_by_its_responder()
     ensures { AnsweredByItsResponder }
 {}
 
+/// A request is cancelled, times out or is disconnected only at a moment at which that came: a cancel
+/// of its name, a tick after which its deadline has come, and a disconnect, a removal that is handled
+/// or an unwiring of its own connection, which isn't the supervisory controller's.
+pub fn every_end_has_its_cause()
+    ensures { EveryEndHasItsCause }
+{}
+
 /// Identifiers that are in use on a side of a connection differ, and are from 1 to 65,535.
 pub fn labels_differ()
     ensures { LabelsDiffer }
@@ -29,6 +48,17 @@ pub fn labels_differ()
 /// On a clean connection each number is in one item at most, of those that wait and that are held.
 pub fn one_item_a_number()
     ensures { OneItemANumber }
+{}
+
+/// A reply that waits on a clean connection is to a request that is awaited, but for one toward the
+/// application processor where its side is closed, and that side then takes nothing.
+pub fn replies_are_awaited()
+    ensures { RepliesAreAwaited }
+{}
+
+/// Live connections have numbers, CPorts of the application processor and far ends of their own.
+pub fn endpoints_differ()
+    ensures { EndpointsDiffer }
 {}
 
 /// What waits and what is held on a connection was put there by a request, a reply or an injection on
@@ -45,4 +75,10 @@ pub fn names_name_requests()
 /// The counts of a summary add up to the number of requests.
 pub fn counts_add_up()
     ensures { CountsAddUp }
+{}
+
+/// Every run of valid events is a run without settles: each settle is its deliveries, the state behind
+/// it is the same, and the same happens in it, but for the lines that say so.
+pub fn settles_are_deliveries()
+    ensures { SettlesAreDeliveries }
 {}

@@ -1,0 +1,282 @@
+-- What stays within a step at which the supervisory controller doesn't ask: the marks that wait, but
+-- for the one that is taken, what is plugged, and which interfaces are known.
+use Rattle.std.proofs.Common.{◌≡◌, ◌⊎◌, ◌≤◌, ◌≢◌, ℕ, Bool, true, false, cond, Option, Some, None, List, [], ◌∷◌, ◌++◌, refl, sym, ap, ◌∙◌, inl, inr, ⊎_elim, subst, arith}
+use Rattle.std.proofs.lemmas.Bool.Decides.{nat_tests}
+use Rattle.std.specs.Prelude.{◌==◌, ◌+◌}
+use Rattle.std.specs.List.{find}
+use Rattle.gb_base.specs.declared.end.End.TheVariants as end
+use Rattle.gb_base.specs.declared.end.Side.{Side}
+use Rattle.gb_base.specs.declared.end.Side.TheVariants as side
+use Rattle.gb_base.specs.declared.event.Event.{Event}
+use Rattle.gb_base.specs.declared.event.Event.TheVariants as event
+use Rattle.gb_invariants.proofs.Awaiting.{sent-request}
+use Rattle.gb_invariants.proofs.ItemChanges.{asked_on-self}
+use Rattle.gb_invariants.proofs.Labels.{asked_on, asked_on-number}
+use Rattle.gb_invariants.proofs.Numbers.{found-number}
+use Rattle.gb_invariants.proofs.Outcomes.{same-number}
+use Rattle.gb_invariants.proofs.Selves.{drawn-queue, put-self}
+use Rattle.gb_laws.proofs.Awaited.{awaited-rest}
+use Rattle.gb_laws.proofs.LinkActs.{ServedHost, as_before, awaited-plugs, awaited-host, awaits-fits, host-served, unsent-due, unsent-making, with_more}
+use Rattle.gb_laws.proofs.LinkBuses.{Linked}
+use Rattle.gb_laws.proofs.LinkLists.{in-ordered}
+use Rattle.gb_laws.proofs.Linking.{InsertsAbsent, LinkedAt, noticed_host, turn-fits}
+use Rattle.gb_laws.proofs.Links.{ArePending, IsPresent, TurnFits}
+use Rattle.gb_laws.proofs.Marks.{AreAsked, AreElsewhere, find-left, find-pushed, item_mark, marks, marks-first, marks-more, marks-unmarked, marks_of}
+use Rattle.gb_laws.proofs.Owning.{KeepsRequests}
+use Rattle.gb_laws.proofs.Points.{Basis, Change, IsAskedBy, IsAsking, IsLive, IsNoticed, IsOfSvc, Point, SamePlugs, acts_asked, acts_failed, acts_left, acts_opened, acts_shut, acts_told, answers, asking, asks, binds, by_host, by_module, by_svc, changed, drops, forgets, frees, gives_up, holds, injects, names, opening, others, passes, replies, serves, spends, takes, takes_held, tells, turns, unwires, wires}
+use Rattle.gb_machine.specs.Bus.{Ask, Bus, Connection, Item, Place, Raw, RawReply, Reply, Request, connection_of, has_number, other_side, place_of, queue, request_of}
+use Rattle.gb_machine.specs.Delivery.{popped, replied}
+use Rattle.gb_machine.specs.Failures.{unsent}
+use Rattle.gb_machine.specs.Host.{Host, Interface, intf_before, new_interface}
+use Rattle.gb_machine.specs.HostActs.{with_awaited}
+use Rattle.gb_machine.specs.HostServing.{host_serves}
+use Rattle.gb_machine.specs.HostTurns.{host_turn}
+use Rattle.gb_machine.specs.Incoming.{Incoming, reply_item}
+use Rattle.gb_machine.specs.Lists.{at_first}
+use Rattle.gb_machine.specs.Members.{EachTwo, IsIn}
+use Rattle.gb_machine.specs.Modules.{is_plugged}
+use Rattle.gb_machine.specs.Runs.{Moment}
+use Rattle.gb_machine.specs.Sending.{Draft, drawn, put, queued, sent}
+use Rattle.gb_machine.specs.Serving.{Answer}
+use Rattle.gb_machine.specs.SvcQueues.{items_in, svc_items}
+use Rattle.gb_machine.specs.Turns.{Act, Asking, HostEvent}
+use Rattle.gb_machine.specs.Wiring.{attached, detached, new_connection, next_connection}
+
+-- the bus once the item of an event is taken
+abbrev pub popped_at : Option Place → Bus → Bus
+popped_at None b = b
+popped_at (Some p) b = popped p.connection.number p.side b
+
+abbrev pub taken_bus : Event → Bus → Bus
+taken_bus (event.Deliver at) b = popped_at (place_of at b.connections) b
+taken_bus _ b = b
+
+-- What stays within a step.
+pub record FrameAt (m : Moment) (a : Point) : Type 0 where
+  pub same : (i : ℕ) → marks i a.state.bus ≡ marks i (taken_bus m.event m.before.bus)
+  pub known : (x : Interface) → IsIn x a.state.host.interfaces
+      → IsPresent x.intf m.before.host.interfaces ⊎ IsNoticed m (HostEvent.Inserted x.intf)
+  pub started : a.state.booted ≡ m.before.booted
+  pub plugged : (i : ℕ) → is_plugged i a.state.modules ≡ is_plugged i m.before.modules
+  pub differ : EachTwo AreElsewhere a.state.modules
+
+-- only the bus changes
+frame-bus : (m : Moment) (a after : Point) → ((i : ℕ) → marks i after.state.bus ≡ marks i a.state.bus)
+    → after.state.host ≡ a.state.host → after.state.booted ≡ a.state.booted → after.state.modules ≡ a.state.modules → FrameAt m a → FrameAt m after
+frame-bus m a after bus host booted modules h = record {
+  same = λ i. bus i ∙ h.same i;
+  known = λ x i. h.known x (subst (λ (g : Host). IsIn x g.interfaces) host i);
+  started = booted ∙ h.started;
+  plugged = λ i. ap (is_plugged i) modules ∙ h.plugged i;
+  differ = subst (EachTwo AreElsewhere) (sym modules) h.differ;
+}
+
+-- only the host changes, and knows no more
+frame-host : (m : Moment) (a after : Point) → ((i : ℕ) → marks i after.state.bus ≡ marks i a.state.bus)
+    → ((x : Interface) → IsIn x after.state.host.interfaces → IsPresent x.intf a.state.host.interfaces)
+    → after.state.booted ≡ a.state.booted → after.state.modules ≡ a.state.modules → FrameAt m a → FrameAt m after
+frame-host m a after bus kept booted modules h = record {
+  same = λ i. bus i ∙ h.same i;
+  known = λ x i. let p = kept x i in
+      subst (λ n. IsPresent n m.before.host.interfaces ⊎ IsNoticed m (HostEvent.Inserted n)) p.is (h.known p.interface p.known);
+  started = booted ∙ h.started;
+  plugged = λ i. ap (is_plugged i) modules ∙ h.plugged i;
+  differ = subst (EachTwo AreElsewhere) (sym modules) h.differ;
+}
+
+kept-all : (h : Host) (x : Interface) → IsIn x h.interfaces → IsPresent x.intf h.interfaces
+kept-all h x i = record { interface = x; known = i; is = refl }
+
+-- ---- marks of the queue
+
+-- what waits toward the application processor was made
+pub asked-items : (a : Point) → Basis a → AreAsked a.state.bus (svc_items side.Ap a.state.bus)
+asked-items a basis n i = by (connection_of 1 a.state.bus) refl i
+  where
+    by : (o : Option Connection) → connection_of 1 a.state.bus ≡ o → IsIn (Ask n) (items_in side.Ap o) → (r : Request) × (request_of n a.state.bus ≡ Some r)
+    by None e j = absurd j
+    by (Some c) e j = let o = basis.bus.items.own c side.Ap (Ask n) (found-number 1 a.state.bus c e).0 j in (o.0, o.1)
+
+put-ap : (i : ℕ) (b : Bus) (at : Side) (y : Item) (c : Connection) → item_mark i b y ≡ [] → marks_of i b (queue side.Ap (put at y c)) ≡ marks_of i b (queue side.Ap c)
+put-ap i b at y c none = by at c.wired
+  where
+    by : (s : Side) (t : Bool) → marks_of i b (queue side.Ap (cond t (queued s y c) c)) ≡ marks_of i b (queue side.Ap c)
+    by side.Ap true = marks-unmarked i b c.to_ap y none
+    by side.Far true = refl
+    by s false = refl
+
+put-far : (y : Item) (c : Connection) → queue side.Ap (put side.Far y c) ≡ queue side.Ap c
+put-far y c = by c.wired
+  where
+    by : (t : Bool) → queue side.Ap (cond t (queued side.Far y c) c) ≡ queue side.Ap c
+    by true = refl
+    by false = refl
+
+-- a request is made by the application processor, or on the connection of a module
+marks-asked : (a : Point) (d : Draft) (c : Connection) (label i : ℕ) → Basis a → Linked a.state.bus a.state.host a.pending
+    → connection_of d.connection a.state.bus ≡ Some c → (d.side ≡ side.Ap) ⊎ ((j : ℕ) × (p : ℕ) × (c.peer ≡ end.Module j p))
+    → marks i (sent d label a.state.bus) ≡ marks i a.state.bus
+marks-asked a d c label i basis links live who =
+    marks-first i (sent d label a.state.bus) d.connection (asked_on d label a.state.bus) a.state.bus.connections (asked_on-number d label a.state.bus) keeps
+    ∙ marks-more i a.state.bus (sent d label a.state.bus) (svc_items side.Ap a.state.bus) (sent-request d label a.state.bus) (asked-items a basis)
+  where
+    not-svc : (j p : ℕ) → c.peer ≡ end.Module j p → c.peer ≡ end.Svc → ⊥
+    not-svc j p e f = other (sym e ∙ f)
+      where
+        other : end.Module j p ≡ end.Svc → ⊥
+        other g = absurd cc
+
+    far : (s : Side) → s ≡ side.Ap → (y : Item) (x : Connection) → queue side.Ap (put (other_side s) y x) ≡ queue side.Ap x
+    far side.Ap e y x = put-far y x
+    far side.Far e y x = absurd cc
+
+    keeps : (x : Connection) → IsIn x a.state.bus.connections → x.number ≡ d.connection → x.number ≡ 1
+        → marks_of i (sent d label a.state.bus) (queue side.Ap (asked_on d label a.state.bus x)) ≡ marks_of i (sent d label a.state.bus) (queue side.Ap x)
+    keeps x j on one = ⊎_elim
+        (λ e. ap (marks_of i (sent d label a.state.bus)) (far d.side e _ (drawn d label x) ∙ drawn-queue side.Ap d label x))
+        (λ m. let f = found-number d.connection a.state.bus c live in
+        absurd (not-svc m.0 m.1 m.2 (links.svc c f.0 (f.1 ∙ sym on ∙ one)).peer)) who
+
+-- a connection changes that isn't the supervisory controller's
+pub not-one : (a : Point) (k : ℕ) (t : Bool) → Linked a.state.bus a.state.host a.pending → IsLive k t a.state.bus → k ≢ 1
+not-one a k t links live e = other (sym live.peer ∙ (links.svc live.connection live.live (live.number ∙ e)).peer)
+  where
+    other : end.Module live.intf live.cport ≡ end.Svc → ⊥
+    other f = absurd cc
+
+unmarked-reply : (i : ℕ) (b : Bus) (q : Incoming) (r : Answer) → item_mark i b (reply_item q r) ≡ []
+unmarked-reply i b q r = by q.number
+  where
+    by : (o : Option ℕ) → item_mark i b (reply_item (record q { number = o }) r) ≡ []
+    by None = refl
+    by (Some n) = refl
+
+pub frame-kept : (m : Moment) → InsertsAbsent m → (IsOfSvc m.event → ⊥) → (a : Point) (x : Change m a) → Basis a → LinkedAt a → FrameAt m a
+    → FrameAt m (changed m a x)
+frame-kept m absent other a (tells e quiet) basis links h = frame-bus m a _ (λ i. refl) refl refl refl h
+frame-kept m absent other a (asks d c label free live drawn who) basis links h =
+    frame-bus m a (changed m a (asks d c label free live drawn who)) (λ i. marks-asked a d c label i basis links live (by who)) refl refl refl h
+  where
+    by : IsAskedBy m c d → (d.side ≡ side.Ap) ⊎ ((j : ℕ) × (p : ℕ) × (c.peer ≡ end.Module j p))
+    by (by_host e) = inl e
+    by (by_module j p e) = inr (j, p, e)
+    by (by_svc of) = absurd (other of)
+frame-kept m absent other a (names name d c label free live drawn host) basis links h =
+    frame-bus m a (changed m a (names name d c label free live drawn host)) (λ i. marks-asked a d c label i basis links live (inl host)) refl refl refl h
+frame-kept m absent other a (binds x y n is) basis links h = frame-bus m a _ (λ i. refl) refl refl refl h
+frame-kept m absent other a (frees name) basis links h = frame-bus m a _ (λ i. refl) refl refl refl h
+frame-kept m absent other a (takes at p item free start is named front) basis links h = record {
+  same = λ i. ap (λ s. marks i (popped p.connection.number p.side s.bus)) start
+      ∙ sym (ap (λ e. marks i (taken_bus e m.before.bus)) is ∙ ap (λ o. marks i (popped_at o m.before.bus)) named);
+  known = h.known;
+  started = h.started;
+  plugged = h.plugged;
+  differ = h.differ;
+}
+frame-kept m absent other a (takes_held i c place p x free start is at held) basis links h =
+    frame-bus m a (changed m a (takes_held i c place p x free start is at held)) (λ i. refl) refl refl refl h
+frame-kept m absent other a drops basis links h = frame-bus m a (record a { hand = None }) (λ i. refl) refl refl refl h
+frame-kept m absent other a (holds x is far) basis links h = frame-bus m a (changed m a (holds x is far)) (λ i. refl) refl refl refl h
+frame-kept m absent other a (replies x q r is made twoway) basis links h =
+    frame-bus m a (changed m a (replies x q r is made twoway))
+    (λ i. marks-first i a.state.bus x.connection.number (put (other_side x.side) (reply_item q r)) a.state.bus.connections
+    (λ c. (put-self (other_side x.side) (reply_item q r) c).number)
+    (λ c j on one. put-ap i a.state.bus (other_side x.side) (reply_item q r) c (unmarked-reply i a.state.bus q r))) refl refl refl h
+frame-kept m absent other a (answers x n result payload is says which) basis links h =
+    frame-bus m a (changed m a (answers x n result payload is says which)) (λ i. refl) refl refl refl h
+frame-kept m absent other a (forgets x n is which) basis links h =
+    frame-bus m a (changed m a (forgets x n is which)) (λ i. refl) refl refl refl h
+frame-kept m absent other a (gives_up n how free unended cause) basis links h =
+    frame-bus m a (changed m a (gives_up n how free unended cause)) (λ i. refl) refl refl refl h
+frame-kept m absent other a (wires k free untouched live powered) basis links h =
+    frame-bus m a (changed m a (wires k free untouched live powered))
+    (λ i. marks-first i a.state.bus k (λ c. record c { wired = true }) a.state.bus.connections (λ c. refl) (λ c j on one. refl)) refl refl refl h
+frame-kept m absent other a (unwires k free before live) basis links h =
+    frame-bus m a (changed m a (unwires k free before live))
+    (λ i. marks-first i a.state.bus k (λ c. record c { wired = false; to_ap = []; to_far = [] }) a.state.bus.connections (λ c. refl)
+    (λ c j on one. absurd (not-one a k true links live (sym on ∙ one)))) refl refl refl h
+frame-kept m absent other a (injects i c p bytes free named) basis links h =
+    frame-bus m a (changed m a (injects i c p bytes free named))
+    (λ j. marks-first j a.state.bus p.connection.number (λ x. queued side.Ap (Raw bytes) (record x { clean = false })) a.state.bus.connections (λ x. refl)
+    (λ x k on one. marks-unmarked j a.state.bus x.to_ap (Raw bytes) refl)) refl refl refl h
+frame-kept m absent other a (turns e free untouched none cause) basis links h = record {
+  same = h.same;
+  known = λ x i. let p = (turn-fits m a.state.bus e a.state.host absent cause links.host).kept x i in
+      subst (λ n. IsPresent n m.before.host.interfaces ⊎ IsNoticed m (HostEvent.Inserted n)) p.is (by e cause p.interface p.known);
+  started = h.started;
+  plugged = h.plugged;
+  differ = h.differ;
+}
+  where
+    by : (e : HostEvent) → Rattle.gb_laws.proofs.Points.IsCaused m e a.state.host → (x : Interface) → IsIn x (noticed_host e a.state.host).interfaces
+        → IsPresent x.intf m.before.host.interfaces ⊎ IsNoticed m (HostEvent.Inserted x.intf)
+    by (HostEvent.Inserted i) c x j = ⊎_elim
+        (λ f. inr (subst (λ n. IsNoticed m (HostEvent.Inserted n)) (sym (ap (λ (y : Interface). y.intf) f)) c.1))
+        (λ o. h.known x o) (in-ordered intf_before x (new_interface i) a.state.host.interfaces j)
+    by (HostEvent.Removed i) c x j = h.known x j
+    by (HostEvent.Connect i p) c x j = h.known x j
+    by (HostEvent.Disconnect i p) c x j = h.known x j
+    by (HostEvent.Ended n how) c x j = h.known x j
+frame-kept m absent other a (acts_told e rest is quiet) basis links h = frame-bus m a (changed m a (acts_told e rest is quiet)) (λ i. refl) refl refl refl h
+frame-kept m absent other a (acts_shut k rest free is cause) basis links h =
+    frame-bus m a (changed m a (acts_shut k rest free is cause))
+    (λ i. marks-first i a.state.bus k (λ c. record c { shut = true }) a.state.bus.connections (λ c. refl) (λ c j on one. refl)) refl refl refl h
+frame-kept m absent other a (acts_left k rest free untouched is) basis links h =
+    frame-bus m a (changed m a (acts_left k rest free untouched is))
+    (λ i. ap (λ o. marks_of i a.state.bus (items_in side.Ap o)) (find-left (has_number 1) (has_number k) a.state.bus.connections (λ c e. apart c.number e)))
+    refl refl refl h
+  where
+    two : 2 ≤ k
+    two = (subst (ArePending a.state.host) is links.pending).0
+
+    apart : (n : ℕ) → (n == 1) ≡ true → (n == k) ≡ false
+    apart n e = let low = (subst (ArePending a.state.host) is links.pending).0 in grind (arith, nat_tests)
+frame-kept m absent other a (acts_opened w q rest free is) basis links h =
+    frame-host m a (changed m a (acts_opened w q rest free is))
+    (λ i. ap (λ o. marks_of i a.state.bus (items_in side.Ap o))
+    (find-pushed (has_number 1) a.state.bus.connections (new_connection (next_connection a.state.bus) w.ap (end.Module w.intf w.cport) w.protocol)
+    (above a.state.bus.made links.made))) (kept-all a.state.host) refl refl h
+  where
+    above : (n : ℕ) → 1 ≤ n → (n + 1 == 1) ≡ false
+    above n low = grind (arith, nat_tests)
+frame-kept m absent other a (acts_asked q n rest is) basis links h = record {
+  same = λ i. ap (marks i) r.bus ∙ h.same i;
+  known = λ x i. let p = onto.kept x (subst (λ (g : Host). IsIn x g.interfaces) (awaited-host q.purpose n a.state) i) in
+      subst (λ k. IsPresent k m.before.host.interfaces ⊎ IsNoticed m (HostEvent.Inserted k)) p.is (h.known p.interface p.known);
+  started = (awaited-plugs q.purpose n a.state).started ∙ h.started;
+  plugged = λ i. (awaited-plugs q.purpose n a.state).plugged i ∙ h.plugged i;
+  differ = (awaited-plugs q.purpose n a.state).differ h.differ;
+}
+  where
+    r : Rattle.gb_laws.proofs.Awaited.SameRest a.state (with_awaited q.purpose n a.state)
+    r = awaited-rest q.purpose n a.state
+
+    onto : Rattle.gb_laws.proofs.LinkHosts.Onto a.state.host (Rattle.gb_machine.specs.Waits.awaits q.purpose n a.state.host)
+    onto = (awaits-fits a.state.bus q.purpose n a.state.host links.host (subst (ArePending a.state.host) is links.pending).0.0).1
+frame-kept m absent other a (acts_failed q rest is quiet) basis links h =
+    frame-host m a (changed m a (acts_failed q rest is quiet)) (λ i. refl) (by is) refl refl h
+  where
+    by : IsAsking q a.pending rest → (x : Interface) → IsIn x (unsent q.purpose a.state.host).host.interfaces → IsPresent x.intf a.state.host.interfaces
+    by (asking e) = (unsent-due a.state.bus q.purpose.step q.purpose a.state.host links.host (subst (ArePending a.state.host) e links.pending).0.0).1.kept
+    by (opening w e) = (unsent-making a.state.bus w q.purpose.step q.purpose a.state.host links.host (subst (ArePending a.state.host) e links.pending).0.0.step).1.kept
+frame-kept m absent other a (serves k kind payload none) basis links h =
+    frame-host m a (changed m a (serves k kind payload none)) (λ i. refl) (by (host-served k kind payload a.state.host)) refl refl h
+  where
+    by : ServedHost a.state.host (host_serves k kind payload a.state.host) → (x : Interface)
+        → IsIn x (host_serves k kind payload a.state.host).host.interfaces → IsPresent x.intf a.state.host.interfaces
+    by (as_before e) x i = kept-all a.state.host x (subst (λ (g : Host). IsIn x g.interfaces) e i)
+    by (with_more j c total e) x i = kept-all a.state.host x (subst (λ (g : Host). IsIn x g.interfaces) e i)
+frame-kept m absent other a (spends i c what none) basis links h =
+    frame-host m a (changed m a (spends i c what none)) (λ i. refl) (kept-all a.state.host) refl refl h
+frame-kept m absent other a (passes millis) basis links h = frame-bus m a (changed m a (passes millis)) (λ i. refl) refl refl refl h
+frame-kept m absent other a (others booted marks ports modules same) basis links h = by same
+  where
+    by : SamePlugs a.state booted ports modules ⊎ IsOfSvc m.event → FrameAt m (changed m a (others booted marks ports modules same))
+    by (inl s) = record {
+      same = h.same;
+      known = h.known;
+      started = s.started ∙ h.started;
+      plugged = λ i. s.plugged i ∙ h.plugged i;
+      differ = s.differ h.differ;
+    }
+    by (inr of) = absurd (other of)

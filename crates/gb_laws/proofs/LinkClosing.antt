@@ -1,0 +1,149 @@
+-- The facts of the application processor's connections go over a disconnect.
+use Rattle.std.proofs.Common.{◌≡◌, ◌⊎◌, ◌≢◌, ℕ, Bool, true, false, cond, Option, Some, None, List, [], ◌∷◌, ◌++◌, refl, sym, ap, ◌∙◌, inl, inr, ⊎_elim, subst}
+use Rattle.std.specs.Prelude.{◌==◌, is_none, is_some, option_and_then, option_map}
+use Rattle.std.specs.List.{filter, find}
+use Rattle.gb_base.specs.declared.entry.ConnState.{ConnState}
+use Rattle.gb_base.specs.declared.entry.ConnState.TheVariants as state
+use Rattle.gb_base.specs.declared.entry.Entry.TheVariants as entry
+use Rattle.gb_base.specs.declared.entry.IntfStage.TheVariants as stage
+use Rattle.gb_base.specs.declared.outcome.Outcome.{Outcome}
+use Rattle.gb_base.specs.declared.refusal.Refusal.{Refusal}
+use Rattle.gb_base.specs.declared.refusal.Refusal.TheVariants as why
+use Rattle.gb_formats.specs.Manifest.{CportView}
+use Rattle.gb_invariants.proofs.Awaiting.{not-both, same-some}
+use Rattle.gb_invariants.proofs.Lists.{filter-in, found-in, in-behind, in-filter, in-front, in-without}
+use Rattle.gb_invariants.proofs.Outcomes.{is-same, same-number}
+use Rattle.gb_laws.proofs.Controls.{control-none}
+use Rattle.gb_laws.proofs.LinkLists.{changed-in, find-changed, find-none, found-at, in-ordered, is-link, link-is, one-link}
+use Rattle.gb_laws.proofs.LinkHosts.{kept-same, host-link, state-link, stay-changed, then-same}
+use Rattle.gb_laws.proofs.LinkSteps.{fits-asked, followed-same, waits-not}
+use Rattle.gb_laws.proofs.Links.{AreEnumerating, ArePending, HostFits, IsAtStep, IsDeaf, IsDue, IsDueBy, IsEnumerating, IsFollowed, IsIdle, IsWaiting, LinksFit, SameLink, TurnFits, connection, leaves, stays}
+use Rattle.gb_laws.proofs.Stepping.{else-later}
+use Rattle.gb_machine.specs.Arriving.{state_takes}
+use Rattle.gb_machine.specs.Bus.{Bus, or_else}
+use Rattle.gb_machine.specs.Failures.{link_fails, link_told, step_fails}
+use Rattle.gb_machine.specs.Host.{Host, Interface, Link, cport_of, free_cport, in_state, interface_of, intf_before, is_intf, is_link, link_at, new_interface, with_link, with_new_interface}
+use Rattle.gb_machine.specs.HostRefusals.{absent_refusal, connect_refusal, cport_refusal, disconnect_refusal, interface_refusal, link_refusal, state_refusal}
+use Rattle.gb_machine.specs.HostTurns.{connects, connects_on, disconnects, ended_for, host_connects, host_disconnects, host_ended, host_inserted, host_removed, links_left, links_of, without_interface}
+use Rattle.gb_machine.specs.Lists.{at_first, first_met, in_order, without}
+use Rattle.gb_machine.specs.Members.{IsIn}
+use Rattle.gb_machine.specs.SequenceSteps.{Purpose, SequenceStep, is_enumeration, purpose}
+use Rattle.gb_machine.specs.Sequences.{asked_on, payload_in, step_asked, way_of}
+use Rattle.gb_machine.specs.Turns.{Act, Turn, telling}
+use Rattle.gb_machine.specs.Waits.{awaited, awaits_nothing, interface_waits, link_waits, purpose_in}
+
+-- ---- disconnect
+
+open-state : (s : ConnState) → state_refusal s ≡ None → s ≡ state.Open
+open-state state.Open h = refl
+open-state state.Opening h = absurd cc
+open-state state.Closing h = absurd cc
+open-state state.Closed h = absurd cc
+open-state state.Failed h = absurd cc
+
+none-open : (step : SequenceStep) → IsAtStep step state.Open → ⊥
+none-open SequenceStep.CreateConnection h = absurd cc
+none-open SequenceStep.TellConnected h = absurd cc
+none-open SequenceStep.TellDisconnecting h = absurd cc
+none-open SequenceStep.TellDisconnected h = absurd cc
+none-open SequenceStep.DestroyConnection h = absurd cc
+none-open SequenceStep.EnableVsys h = h
+none-open SequenceStep.EnableRefclk h = h
+none-open SequenceStep.EnableUnipro h = h
+none-open SequenceStep.Activate h = h
+none-open SequenceStep.GiveDevice h = h
+none-open SequenceStep.CreateRoute h = h
+none-open SequenceStep.CreateControl h = h
+none-open SequenceStep.AskVersion h = h
+none-open SequenceStep.AskSize h = h
+none-open SequenceStep.AskManifest h = h
+
+-- an open connection waits for nothing
+open-idle : (l : Link) → IsWaiting l → l.state ≡ state.Open → l.awaits ≡ None
+open-idle l waits is = by l.awaits refl
+  where
+    by : (o : Option (ℕ × SequenceStep)) → l.awaits ≡ o → o ≡ None
+    by None e = refl
+    by (Some w) e = absurd (none-open w.1 (subst (IsAtStep w.1) is (waits w e).1))
+
+-- what has the number of a connection where nothing is taken is that
+one-deaf : (b : Bus) (ls : List Link) (x : Link) (k : ℕ) → LinksFit b ls → IsIn x ls → x.connection ≡ k → IsDeaf x
+    → (l : Link) → IsIn l ls → l.connection ≡ k → IsDeaf l
+one-deaf b ls x k fits i on deaf l j e = subst IsDeaf (one-link ls x l fits.rise i j (on ∙ sym e)) deaf
+
+-- where a connection is closing
+closing : (i c : ℕ) → Host → Host
+closing i c h = with_link i c (in_state state.Closing) h
+
+-- what is done, once the connection is found
+fits-closing : (b : Bus) (i c : ℕ) (h : Host) (l : Link) → HostFits b h → c ≢ 0 → find (is_link i c) h.links ≡ Some l → l.awaits ≡ None
+    → TurnFits b h (disconnects (Some l) (purpose i c SequenceStep.TellDisconnecting) h)
+fits-closing b i c h l fits other e idle = record {
+  host = asked.host;
+  pending = (((fits.links.numbered l (found-in (is_link i c) h.links l e).0).from_two, deaf (way_of p g) asked.host.links), (tt, asked.pending));
+  followed = λ k j. let s = stay-changed h.links i c (in_state state.Closing) (state-link state.Closing) k j in
+      behind k s.0 s.2 (asked.followed s.0 s.1);
+  kept = asked.kept;
+}
+  where
+    p : Purpose
+    p = purpose i c SequenceStep.TellDisconnecting
+
+    g : Host
+    g = with_link i c (in_state state.Closing) h
+
+    is-it : (y : Link) → find (is_link i c) h.links ≡ Some y → l ≡ y
+    is-it y f = same-some l y (sym e ∙ f)
+
+    now : HostFits b (with_link i c (in_state state.Closing) h)
+    now = host-link b h i c (in_state state.Closing) (state-link state.Closing)
+        (λ y j f w. waits-not (in_state state.Closing y) (ap (λ (x : Link). x.awaits) (sym (same-some l y (sym e ∙ f))) ∙ idle))
+        (λ y j f d. record { cport = d.cport; takes = refl }) fits
+
+    found : find (is_link i c) (with_link i c (in_state state.Closing) h).links ≡ Some (in_state state.Closing l)
+    found = find-changed (is_link i c) (in_state state.Closing) h.links (λ x. refl) ∙ ap (option_map (in_state state.Closing)) e
+
+    due : IsIdle SequenceStep.TellDisconnecting (purpose i c SequenceStep.TellDisconnecting) (with_link i c (in_state state.Closing) h).links
+    due = record {
+      cport = other;
+      idle = λ y f. ap (λ (x : Link). x.awaits) (sym (same-some (in_state state.Closing l) y (sym found ∙ f))) ∙ idle;
+      state = λ y f. ap (λ (x : Link). x.state) (sym (same-some (in_state state.Closing l) y (sym found ∙ f)));
+    }
+
+    asked : TurnFits b (with_link i c (in_state state.Closing) h)
+        (step_asked (purpose i c SequenceStep.TellDisconnecting) (with_link i c (in_state state.Closing) h))
+    asked = fits-asked b p g now due
+
+    cport : l.cport ≢ 0
+    cport = λ z. other (sym (link-is i c l (found-in (is_link i c) h.links l e).1).1 ∙ z)
+
+    deaf : (o : Option ℕ) → LinksFit b (asked_on o p g).host.links
+        → (k : Link) → IsIn k (asked_on o p g).host.links → k.connection ≡ l.connection → IsDeaf k
+    deaf None at =
+        one-deaf b _ (in_state state.Failed (in_state state.Closing l)) l.connection at
+        (changed-in (is_link i c) (in_state state.Failed) g.links (in_state state.Closing l) found) refl (record { cport = cport; takes = refl })
+    deaf (Some k) at =
+        one-deaf b _ (in_state state.Closing l) l.connection at
+        (changed-in (is_link i c) (in_state state.Closing) h.links l e) refl (record { cport = cport; takes = refl })
+
+    behind : (k j : Link) → SameLink k j → IsFollowed j (step_asked p g).host.links (step_asked p g).acts
+        → IsFollowed k (step_asked p g).host.links (Act.Shut l.connection ∷ Act.Tell (link_told state.Closing l) ∷ (step_asked p g).acts)
+    behind k j same (stays x m s) = stays x m (then-same k j x same s)
+    behind k j same (leaves m) =
+        leaves (inr (inr (subst (λ n. IsIn (Act.Leave n) (step_asked p g).acts) same.connection m)))
+
+-- a disconnect that isn't refused is of an open connection other than Control
+pub fits-disconnects : (b : Bus) (i c : ℕ) (h : Host) → HostFits b h → disconnect_refusal i c h ≡ None → TurnFits b h (host_disconnects i c h)
+fits-disconnects b i c h fits free = by (link_at i c h) refl
+  where
+    allowed : (t : Bool) → (c == 0) ≡ t → cond t (Some why.Unsupported) (link_refusal (link_at i c h)) ≡ None
+        → (c ≢ 0) × (link_refusal (link_at i c h) ≡ None)
+    allowed true e f = absurd cc
+    allowed false e f = (λ z. not-both (c == 0) (ap (λ x. x == 0) z) e, f)
+
+    by : (o : Option Link) → link_at i c h ≡ o → TurnFits b h (disconnects o (purpose i c SequenceStep.TellDisconnecting) h)
+    by None e = record { host = fits; pending = tt; followed = followed-same h.links []; kept = kept-same h.interfaces }
+    by (Some l) e =
+        let may = allowed (c == 0) refl (else-later (absent_refusal (interface_of i h)) _ free) in
+        let waits = fits.links.waiting l (found-in (is_link i c) h.links l e).0 in
+        fits-closing b i c h l fits may.0 e (open-idle l waits (open-state l.state (sym (ap link_refusal e) ∙ may.1)))

@@ -1,0 +1,50 @@
+-- The facts of the application processor's connections as a law of points, and that they hold first.
+use Rattle.std.proofs.Common.{◌≡◌, ◌∷◌, List, [], refl, sym, ap, ◌∙◌, subst, arith}
+use Rattle.gb_base.specs.declared.entry.Entry.{Entry}
+use Rattle.gb_laws.proofs.Basics.{Based, basis-first, basis-kept, rested}
+use Rattle.gb_laws.proofs.LinkBuses.{Linked}
+use Rattle.gb_laws.proofs.Linking.{InsertsAbsent, LinkedAt, linked-kept}
+use Rattle.gb_laws.proofs.Links.{supervisory}
+use Rattle.gb_laws.proofs.Points.{Basis, Law}
+use Rattle.gb_laws.proofs.Runs.{throughout}
+use Rattle.gb_laws.proofs.Steps.{over-step}
+use Rattle.gb_machine.specs.Bus.{Connection, first_bus, svc_connection}
+use Rattle.gb_machine.specs.Host.{first_host}
+use Rattle.gb_machine.specs.Members.{IsIn}
+use Rattle.gb_machine.specs.Runs.{HoldsThroughout, Moment}
+use Rattle.gb_machine.specs.State.{State, first_state}
+
+-- the facts of connections as a law of points
+abbrev pub link_law : (m : Moment) → InsertsAbsent m → Law m
+link_law m absent = record {
+  holds = λ a. Basis a × LinkedAt a;
+  basis = λ a h. h.0;
+  kept = λ a x h. (basis-kept m a x h.0, linked-kept m absent a x h.0 h.1);
+}
+
+pub is-svc : (c : Connection) → IsIn c (svc_connection ∷ []) → c ≡ svc_connection
+is-svc c i = Rattle.std.proofs.Common.⊎_elim (λ e. e) (λ n. absurd n) i
+
+pub linked-first : Linked first_bus first_host []
+linked-first = record {
+  host = record {
+    links = record {
+      rise = tt;
+      numbered = λ l i. absurd i;
+      waiting = λ l i. absurd i;
+      deaf = λ l c i. absurd i;
+    };
+    interfaces = λ x i. absurd i;
+    differ = tt;
+    present = λ l i. absurd i;
+  };
+  pending = tt;
+  known = λ c i. supervisory (ap (λ (x : Connection). x.number) (is-svc c i));
+  svc = λ c i one. let e = is-svc c i in record {
+    ap = ap (λ (x : Connection). x.ap) e;
+    peer = ap (λ (x : Connection). x.peer) e;
+    clean = ap (λ (x : Connection). x.clean) e;
+    shut = ap (λ (x : Connection). x.shut) e;
+  };
+  made = omega arith;
+}

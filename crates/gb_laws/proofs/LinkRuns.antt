@@ -1,0 +1,122 @@
+-- The application processor's connections go with the bus, and insertions and removals come in turn,
+-- throughout.
+use Rattle.std.proofs.Common.{◌≡◌, Bool, true, false, cond, Option, Some, None, List, [], ◌∷◌, refl, sym, ap, ◌∙◌, inl, subst}
+use Rattle.std.specs.Prelude.{is_none}
+use Rattle.gb_base.specs.declared.end.End.{End}
+use Rattle.gb_base.specs.declared.entry.Entry.{Entry}
+use Rattle.gb_base.specs.declared.event.Event.{Event}
+use Rattle.gb_base.specs.declared.event.Event.TheVariants as event
+use Rattle.gb_base.specs.declared.refusal.Refusal.{Refusal}
+use Rattle.gb_base.specs.declared.refusal.Refusal.TheVariants as why
+use Rattle.gb_formats.specs.Module.{Module, module_of_kind, module_raw}
+use Rattle.gb_invariants.proofs.Awaiting.{not-both}
+use Rattle.gb_laws.proofs.Basics.{Based, basis-first, rested}
+use Rattle.gb_laws.proofs.Framing.{asked-items, taken_bus}
+use Rattle.gb_laws.proofs.LinkBuses.{Linked}
+use Rattle.gb_laws.proofs.LinkLaw.{link_law, linked-first}
+use Rattle.gb_laws.proofs.Linking.{InsertsAbsent, LinkedAt}
+use Rattle.gb_laws.proofs.Marking.{inserts-absent, marks-delivered, marks-still, refused-state}
+use Rattle.gb_laws.proofs.Marks.{MarksFit}
+use Rattle.gb_laws.proofs.Plugs.{boot-kept, plug-kept}
+use Rattle.gb_laws.proofs.Points.{Basis, IsOfSvc, Law, resting}
+use Rattle.gb_laws.proofs.Pulling.{pull-kept}
+use Rattle.gb_laws.proofs.Runs.{Keeps, throughout}
+use Rattle.gb_laws.proofs.Stepping.{else-later, met-last}
+use Rattle.gb_laws.proofs.Steps.{over-step}
+use Rattle.gb_laws.proofs.There.{There, there-kept}
+use Rattle.gb_machine.proofs.Opened.{machine_opened}
+use Rattle.gb_machine.specs.Bus.{first_bus, svc_connection}
+use Rattle.gb_machine.specs.Events.{decided, step}
+use Rattle.gb_machine.specs.Labels.{no_label}
+use Rattle.gb_machine.specs.Lists.{first_met}
+use Rattle.gb_machine.specs.Modules.{is_plugged}
+use Rattle.gb_machine.specs.Plugging.{boots, plugs, pulls}
+use Rattle.gb_machine.specs.Refusals.{insert_refusal, plug_refusal, refusal, svc_has_no_label}
+use Rattle.gb_machine.specs.Runs.{HoldsThroughout, IsMoment, Moment, after}
+use Rattle.gb_machine.specs.State.{State, first_state}
+
+-- What is known at rest of the application processor's connections, and of insertions and removals.
+abbrev pub LinkedTo : List Entry → State → Type 0
+LinkedTo told s = Based told s × Linked s.bus s.host [] × MarksFit s × There s.bus
+
+-- an interface whose insertion is handled is absent
+pub start-absent : (m : Moment) → LinkedTo m.told m.before → InsertsAbsent m
+start-absent m start = inserts-absent m start.0 start.1 start.2
+
+-- ---- the marks at each moment
+
+no-modules : (i : _) → is_plugged i [] ≡ false
+no-modules i = refl
+
+-- the first of conditions that isn't met
+met-first : (b : Bool) (reason : Refusal) (more : Option Refusal) → cond b (Some reason) more ≡ None → b ≡ false
+met-first true reason more h = absurd cc
+met-first false reason more h = refl
+
+module _ (m : Moment) (one : IsMoment m.event) (start : LinkedTo m.told m.before) where
+  still : (e : Event) → m.event ≡ e → (IsOfSvc e → ⊥) → taken_bus e m.before.bus ≡ m.before.bus → ((at : End) → e ≡ event.Deliver at → ⊥) → MarksFit (after m)
+  still e is other same undelivered =
+      marks-still m one start.0 start.1 start.2 (λ of. other (subst IsOfSvc is of)) (ap (λ x. taken_bus x m.before.bus) is ∙ same)
+      (λ at f. undelivered at (sym is ∙ f))
+
+  -- where the supervisory controller may ask, and the event isn't refused
+  asking : (e : Event) → m.event ≡ e → (refusal m.before e ≡ None → MarksFit (decided None e m.before).state) → MarksFit (after m)
+  unfolding machine_opened
+  asking e is done = by (refusal m.before e) refl
+    where
+      by : (o : Option Refusal) → refusal m.before e ≡ o → MarksFit (after m)
+      by (Some reason) f = subst MarksFit (sym (refused-state m reason (ap (refusal m.before) is ∙ f))) start.2
+      by None f = subst MarksFit (sym (ap (λ x. (step m.before x).state) is ∙ ap (λ o. (decided o e m.before).state) f)) (done f)
+
+  plugged : (i : _) (x : Module) (manifest : List _) → insert_refusal m.before i manifest ≡ None → MarksFit (plugs i x m.before).state
+  plugged i x manifest free =
+      plug-kept i x m.before (asked-items (resting m.told m.before) start.0) (met-first (is_plugged i m.before.modules) why.Occupied _ free) start.2
+
+  marks-kept : (e : Event) → m.event ≡ e → IsMoment e → MarksFit (after m)
+  unfolding machine_opened
+  marks-kept event.Boot is at = asking event.Boot is (λ free.
+      boot-kept m.before (asked-items (resting m.told m.before) start.0) (met-first m.before.booted why.Occupied (first_met []) free) start.2)
+  marks-kept (event.Insert i kind) is at = asking (event.Insert i kind) is (λ free. plugged i (module_of_kind kind) [] free)
+  marks-kept (event.InsertRaw i manifest) is at = asking (event.InsertRaw i manifest) is (λ free. plugged i (module_raw manifest) manifest free)
+  marks-kept (event.Pull i) is at = asking (event.Pull i) is (λ free.
+      pull-kept i m.before start.0.bus.numbers.rise (asked-items (resting m.told m.before) start.0) start.1 start.3
+      (met-last [] (svc_has_no_label m.before) no_label (else-later (plug_refusal m.before i) _ free)) start.2)
+  marks-kept (event.Deliver to) is at = marks-delivered m one start.0 start.1 start.2 (λ of. subst IsOfSvc is of) to is
+  marks-kept (event.Settle most) is at = absurd at
+  marks-kept (event.Connect i c) is at = still (event.Connect i c) is (λ x. x) refl (λ k e. absurd cc)
+  marks-kept (event.Disconnect i c) is at = still (event.Disconnect i c) is (λ x. x) refl (λ k e. absurd cc)
+  marks-kept (event.Send name to kind payload timeout) is at = still (event.Send name to kind payload timeout) is (λ x. x) refl (λ k e. absurd cc)
+  marks-kept (event.Bridge name i c what) is at = still (event.Bridge name i c what) is (λ x. x) refl (λ k e. absurd cc)
+  marks-kept (event.Level i c line value) is at = still (event.Level i c line value) is (λ x. x) refl (λ k e. absurd cc)
+  marks-kept (event.SerialState i c control) is at = still (event.SerialState i c control) is (λ x. x) refl (λ k e. absurd cc)
+  marks-kept (event.Hold i c) is at = still (event.Hold i c) is (λ x. x) refl (λ k e. absurd cc)
+  marks-kept (event.Answer i c place) is at = still (event.Answer i c place) is (λ x. x) refl (λ k e. absurd cc)
+  marks-kept (event.Cancel name) is at = still (event.Cancel name) is (λ x. x) refl (λ k e. absurd cc)
+  marks-kept (event.Copy x y) is at = still (event.Copy x y) is (λ z. z) refl (λ k e. absurd cc)
+  marks-kept (event.Forget name) is at = still (event.Forget name) is (λ x. x) refl (λ k e. absurd cc)
+  marks-kept (event.Tick millis) is at = still (event.Tick millis) is (λ x. x) refl (λ k e. absurd cc)
+  marks-kept (event.Inject i c bytes) is at = still (event.Inject i c bytes) is (λ x. x) refl (λ k e. absurd cc)
+  marks-kept event.Show is at = still event.Show is (λ x. x) refl (λ k e. absurd cc)
+
+-- ---- throughout
+
+abbrev pub there_law : (m : Moment) → InsertsAbsent m → Law m
+there_law m absent = record {
+  holds = λ a. (Basis a × LinkedAt a) × There a.state.bus;
+  basis = λ a h. h.0.0;
+  kept = λ a x h. ((link_law m absent).kept a x h.0, there-kept m a x h.0.1 h.1);
+}
+
+marks-first_state : MarksFit first_state
+marks-first_state = record { reads = λ i e. absurd (not-both false e refl); unstarted = λ e i. (refl, refl); differ = tt }
+
+there-first_state : There first_bus
+there-first_state = record { connection = svc_connection; live = inl refl; number = refl; wired = refl }
+
+-- over a moment
+pub linked-over : Keeps LinkedTo
+linked-over m one h = let r = over-step m (there_law m (start-absent m h)) one ((h.0, h.1), h.3) in
+    (rested _ _ r.0 r.1.0.0, r.1.0.1, marks-kept m one h m.event refl one, r.1.1)
+
+pub linked-throughout : HoldsThroughout LinkedTo
+linked-throughout = throughout LinkedTo (basis-first, linked-first, marks-first_state, there-first_state) linked-over

@@ -1,0 +1,346 @@
+-- The facts of the application processor's connections go over the steps of its sequences.
+use Rattle.std.proofs.Common.{◌≡◌, ◌≢◌, ℕ, Bool, true, false, cond, Option, Some, None, List, [], ◌∷◌, ◌++◌, length, map, refl, sym, ap, ◌∙◌, inl, inr, ⊎_elim, subst, arith}
+use Rattle.std.specs.Prelude.{Result, Ok, Err, ◌==◌, ◌&&◌, not, ◌≤◌}
+use Rattle.gb_invariants.proofs.Outcomes.{is-same}
+use Rattle.std.specs.List.{filter, find, list_any}
+use Rattle.gb_base.specs.declared.entry.ConnState.{ConnState}
+use Rattle.gb_base.specs.declared.entry.ConnState.TheVariants as state
+use Rattle.gb_base.specs.declared.entry.Entry.{Entry}
+use Rattle.gb_formats.specs.Manifest.{Manifest, check_answer}
+use Rattle.gb_formats.specs.ManifestRules.{Refused}
+use Rattle.gb_invariants.proofs.Awaiting.{not-both, same-some}
+use Rattle.gb_invariants.proofs.Lists.{each-append, filter-in, found-in, in-without, two-at_first, two-filter}
+use Rattle.gb_formats.specs.ControlRecords.{read_control_reply}
+use Rattle.gb_base.specs.declared.entry.IntfStage.TheVariants as stage
+use Rattle.gb_laws.proofs.LinkHosts.{Onto, kept-same, onto-interface, onto-link, onto-then, Stay, host-interface, host-link, links-without, next-interface, next-to, none-without, same-link, state-link, stay-changed, stay-same, then-same, without-in}
+use Rattle.gb_laws.proofs.LinkLists.{find-none, first_free-is, found-at, in-first, link-is, none-any}
+use Rattle.gb_laws.proofs.Links.{IsDueBy, IsNext, is_early, ArePending, HostFits, IsAtStep, IsDeaf, IsDue, IsFollowed, IsFree, IsIdle, IsLinkBefore, IsMaking, IsWaiting, LinksFit, SameLink, TurnFits, control, leaves, stays}
+use Rattle.gb_laws.proofs.Places.{at_first-back}
+use Rattle.gb_machine.specs.Arriving.{state_takes}
+use Rattle.gb_machine.specs.Bus.{Bus, Connection}
+use Rattle.gb_machine.specs.Failures.{interface_fails, link_fails, link_told, step_fails}
+use Rattle.gb_machine.specs.Host.{Host, Interface, Link, free_cport, free_device, in_state, interface_of, is_intf, is_link, link_at, staged, with_interface, with_link, without_link}
+use Rattle.gb_machine.specs.Lists.{at_first, without}
+use Rattle.gb_machine.specs.Members.{EachTwo, IsIn}
+use Rattle.gb_machine.specs.SequenceSteps.{Purpose, SequenceStep, at_step, is_enumeration, is_reply}
+use Rattle.gb_machine.specs.Sequences.{asked_on, begins_control, begins_device, enumerated, goes_on, size_in, link_left, link_turn, manifest_checked, manifest_told, opened, opened_told, size_known, step_answered, step_asked, step_done, way_of}
+use Rattle.gb_machine.specs.Turns.{Act, Turn, failed_turn, telling}
+
+-- ---- turns
+
+pub followed-same : (ls : List Link) (acts : List Act) (l : Link) → IsIn l ls → IsFollowed l ls acts
+followed-same ls acts l i = stays l i (same-link l)
+
+pub pending-told : (h : Host) (es : List Entry) → ArePending h (map Act.Tell es)
+pending-told h [] = tt
+pending-told h (e ∷ es) = (tt, pending-told h es)
+
+-- a turn behind a change of connections that stay
+pub fits-through : (b : Bus) (h g : Host) (t : Turn) → Onto h g → TurnFits b g t → TurnFits b h t
+fits-through b h g t onto r = record {
+  host = r.host;
+  pending = r.pending;
+  followed = λ l i. let s = onto.stay l i in by l s.0 s.2 (r.followed s.0 s.1);
+  kept = λ x i. let p = r.kept x i in let q = onto.kept p.interface p.known in
+      record { interface = q.interface; known = q.known; is = q.is ∙ p.is };
+}
+  where
+    by : (l k : Link) → SameLink l k → IsFollowed k t.host.links t.acts → IsFollowed l t.host.links t.acts
+    by l k same (stays j i s) = stays j i (then-same l k j same s)
+    by l k same (leaves i) = leaves (subst (λ n. IsIn (Act.Leave n) t.acts) same.connection i)
+
+pub fits-telling : (b : Bus) (h : Host) (e : Entry) (t : Turn) → TurnFits b h t → TurnFits b h (telling e t)
+fits-telling b h e t r = record {
+  host = r.host;
+  pending = (tt, r.pending);
+  followed = λ l i. by l (r.followed l i);
+  kept = r.kept;
+}
+  where
+    by : (l : Link) → IsFollowed l t.host.links t.acts → IsFollowed l t.host.links (Act.Tell e ∷ t.acts)
+    by l (stays k i s) = stays k i s
+    by l (leaves i) = leaves (inr i)
+
+-- the host changes, and nothing is done but telling
+fits-host : (b : Bus) (h g : Host) (es : List Entry) → HostFits b g → Onto h g
+    → TurnFits b h (record { host = g; acts = map Act.Tell es })
+fits-host b h g es fits onto = record {
+  host = fits;
+  pending = pending-told g es;
+  followed = λ l i. let s = onto.stay l i in stays s.0 s.1 s.2;
+  kept = onto.kept;
+}
+
+-- ---- failures
+
+pub fits-interface_fails : (b : Bus) (p : Purpose) (h : Host) → HostFits b h → TurnFits b h (failed_turn (interface_fails p h))
+fits-interface_fails b p h fits =
+    fits-host b h (interface_fails p h).host (interface_fails p h).told
+    (host-interface b p.intf (staged stage.Failed) h (λ x. refl) (λ x j is e w k. e w k) fits) (onto-interface h p.intf (staged stage.Failed) (λ x. refl))
+
+-- none waits where a step is due
+none-waits : (b : Bus) (step : SequenceStep) (p : Purpose) (h : Host) → HostFits b h → IsDue step p h
+    → (l : Link) → find (is_link p.intf p.cport) h.links ≡ Some l → l.awaits ≡ None
+none-waits b step p h fits due l found = by (is_enumeration step) refl due
+  where
+    by : (t : Bool) → is_enumeration step ≡ t → IsDueBy t step p h → l.awaits ≡ None
+    by false e idle = idle.idle l found
+    by true e next = waits l.awaits refl
+      where
+        waits : (o : Option (ℕ × SequenceStep)) → l.awaits ≡ o → o ≡ None
+        waits None f = refl
+        waits (Some w) f =
+            let i = found-in (is_link p.intf p.cport) h.links l found in
+            absurd ((fits.links.waiting l i.0 w f).0 ((link-is p.intf p.cport l i.1).1 ∙ next.cport))
+
+pub waits-not : (l : Link) → l.awaits ≡ None → IsWaiting l
+waits-not l none w e = absurd (by w (sym none ∙ e))
+  where
+    by : (w : ℕ × SequenceStep) → None ≡ Some w → ⊥
+    by w e = cc
+
+failed-host : (b : Bus) (p : Purpose) (h : Host) → HostFits b h
+    → ((l : Link) → find (is_link p.intf p.cport) h.links ≡ Some l → l.awaits ≡ None)
+    → HostFits b (with_link p.intf p.cport (in_state state.Failed) h)
+failed-host b p h fits none =
+    host-link b h p.intf p.cport (in_state state.Failed) (state-link state.Failed)
+    (λ l i f w. waits-not (in_state state.Failed l) (none l f)) (λ l i f d. record { cport = d.cport; takes = refl }) fits
+
+-- What fails where a step isn't answered as it should be.
+pub fits-failed : (b : Bus) (step : SequenceStep) (p : Purpose) (h : Host) → HostFits b h → IsDue step p h
+    → TurnFits b h (failed_turn (step_fails step p h))
+fits-failed b step p h fits due = by step (none-waits b step p h fits due)
+  where
+    link : ((l : Link) → find (is_link p.intf p.cport) h.links ≡ Some l → l.awaits ≡ None) → TurnFits b h (failed_turn (link_fails p h))
+    link none = fits-host b h (link_fails p h).host (link_fails p h).told (failed-host b p h fits none)
+        (onto-link h p.intf p.cport (in_state state.Failed) (state-link state.Failed))
+
+    by : (s : SequenceStep) → ((l : Link) → find (is_link p.intf p.cport) h.links ≡ Some l → l.awaits ≡ None)
+        → TurnFits b h (failed_turn (step_fails s p h))
+    by SequenceStep.CreateControl none =
+        fits-host b h (step_fails SequenceStep.CreateControl p h).host (step_fails SequenceStep.CreateControl p h).told
+        (host-interface b p.intf (staged stage.Failed) (link_fails p h).host (λ x. refl) (λ x j is e w k. e w k) (failed-host b p h fits none))
+        (onto-then h (link_fails p h).host _ (onto-link h p.intf p.cport (in_state state.Failed) (state-link state.Failed))
+        (onto-interface (link_fails p h).host p.intf (staged stage.Failed) (λ x. refl)))
+    by SequenceStep.CreateConnection none = link none
+    by SequenceStep.TellConnected none = link none
+    by SequenceStep.TellDisconnecting none = link none
+    by SequenceStep.TellDisconnected none = link none
+    by SequenceStep.DestroyConnection none = link none
+    by SequenceStep.EnableVsys none = fits-interface_fails b p h fits
+    by SequenceStep.EnableRefclk none = fits-interface_fails b p h fits
+    by SequenceStep.EnableUnipro none = fits-interface_fails b p h fits
+    by SequenceStep.Activate none = fits-interface_fails b p h fits
+    by SequenceStep.GiveDevice none = fits-interface_fails b p h fits
+    by SequenceStep.CreateRoute none = fits-interface_fails b p h fits
+    by SequenceStep.AskVersion none = fits-interface_fails b p h fits
+    by SequenceStep.AskSize none = fits-interface_fails b p h fits
+    by SequenceStep.AskManifest none = fits-interface_fails b p h fits
+
+-- ---- asking
+
+pub fits-asked : (b : Bus) (p : Purpose) (h : Host) → HostFits b h → IsDue p.step p h → TurnFits b h (step_asked p h)
+fits-asked b p h fits due = by (way_of p h)
+  where
+    by : (o : Option ℕ) → TurnFits b h (asked_on o p h)
+    by None = fits-failed b p.step p h fits due
+    by (Some k) = record { host = fits; pending = ((due, refl), tt); followed = followed-same h.links _; kept = kept-same h.interfaces }
+
+fits-device : (b : Bus) (o : Option ℕ) (p : Purpose) (h : Host) → HostFits b h → IsNext SequenceStep.GiveDevice (at_step SequenceStep.GiveDevice p) h
+    → TurnFits b h (begins_device o (at_step SequenceStep.GiveDevice p) h)
+fits-device b None p h fits next = fits-interface_fails b (at_step SequenceStep.GiveDevice p) h fits
+fits-device b (Some d) p h fits next =
+    fits-through b h (with_interface p.intf (λ x. record x { device = Some d }) h) _ (onto-interface h p.intf (λ x. record x { device = Some d }) (λ x. refl))
+    (fits-asked b (at_step SequenceStep.GiveDevice p) (with_interface p.intf (λ x. record x { device = Some d }) h)
+    (host-interface b p.intf (λ x. record x { device = Some d }) h (λ x. refl) (λ x j is e w k. e w k) fits)
+    (next-interface SequenceStep.GiveDevice (at_step SequenceStep.GiveDevice p) h p.intf (λ x. record x { device = Some d }) (λ x. refl) (λ x. refl) next))
+
+-- the least free CPort of the application processor is from 1 to 4,095, and no connection has it
+pub record IsFreeCport (a : ℕ) (ls : List Link) : Type 0 where
+  pub from_one : 1 ≤ a
+  pub within : a ≤ 4095
+  pub other : (l : Link) → IsIn l ls → l.ap ≢ a
+
+pub free_cport-is : (h : Host) (a : ℕ) → free_cport h ≡ Some a → IsFreeCport a h.links
+free_cport-is h a e =
+    let f = first_free-is (λ n. list_any (λ (l : Link). l.ap == n) h.links) 4095 1 a e in record {
+      from_one = f.1;
+      within = omega (arith, f.2);
+      other = λ l i same. not-both (l.ap == a) (ap (λ n. n == a) same ∙ is-same a) (none-any (λ (l : Link). l.ap == a) h.links l f.0 i);
+    }
+
+fits-control : (b : Bus) (o : Option ℕ) (p : Purpose) (h : Host) → HostFits b h → IsNext SequenceStep.CreateRoute p h → free_cport h ≡ o
+    → TurnFits b h (begins_control o (at_step SequenceStep.CreateControl p) h)
+fits-control b None p h fits next free = fits-interface_fails b (at_step SequenceStep.CreateControl p) h fits
+fits-control b (Some a) p h fits next free = let f = free_cport-is h a free in record {
+  host = fits;
+  pending = (
+    (
+      record {
+        step = control next.cport;
+        intf = refl;
+        cport = refl;
+        from_one = f.from_one;
+        within = f.within;
+        cport_within = let z = next.cport in omega (arith, z);
+        ap = f.other;
+        at = λ l i. ap (λ c. is_link p.intf c l) next.cport ∙ next.none refl l i;
+        idle = λ e. next.idle;
+        present = next.present;
+      },
+      refl,
+    ),
+    tt,
+  );
+  followed = followed-same h.links _;
+  kept = kept-same h.interfaces;
+}
+
+-- ---- a connection is open
+
+-- Control is open
+opened-control : (b : Bus) (p : Purpose) (h : Host) → HostFits b h → p.cport ≡ 0 → HostFits b (opened p h)
+opened-control b p h fits zero_cport =
+    host-link b h p.intf p.cport (in_state state.Open) (state-link state.Open)
+    (λ l i f waits w e. absurd ((waits w e).0 (at l f))) (λ l i f d. absurd (d.cport (at l f))) fits
+  where
+    at : (l : Link) → find (is_link p.intf p.cport) h.links ≡ Some l → l.cport ≡ 0
+    at l f = (link-is p.intf p.cport l (found-in (is_link p.intf p.cport) h.links l f).1).1 ∙ zero_cport
+
+-- another is open that was opening
+opened-link : (b : Bus) (p : Purpose) (h : Host) → HostFits b h → IsIdle SequenceStep.TellConnected p h.links → HostFits b (opened p h)
+opened-link b p h fits idle =
+    host-link b h p.intf p.cport (in_state state.Open) (state-link state.Open)
+    (λ l i f waits. waits-not (in_state state.Open l) (idle.idle l f))
+    (λ l i f d. absurd (hears l.state (idle.state l f) d.takes)) fits
+  where
+    hears : (s : ConnState) → s ≡ state.Opening → state_takes s ≡ false → ⊥
+    hears s e f = not-both (state_takes s) (ap state_takes e) f
+
+fits-opened_told : (b : Bus) (h : Host) (o : Option Link) (t : Turn) → TurnFits b h t → TurnFits b h (opened_told o t)
+fits-opened_told b h None t r = r
+fits-opened_told b h (Some l) t r = fits-telling b h (link_told state.Open l) t r
+
+fits-link_turn : (b : Bus) (to : ConnState) (o : Option Link) (h g : Host) → HostFits b g → Onto h g → TurnFits b h (link_turn to o g)
+fits-link_turn b to None h g fits stay = fits-host b h g [] fits stay
+fits-link_turn b to (Some l) h g fits stay = fits-host b h g (link_told to l ∷ []) fits stay
+
+-- ---- a connection is there no more
+
+left-host : (b : Bus) (p : Purpose) (h : Host) → HostFits b h → HostFits b (without_link p.intf p.cport h)
+left-host b p h fits = record {
+  links = links-without b (is_link p.intf p.cport) h.links fits.links;
+  interfaces = λ x i w e. let old = fits.interfaces x i w e in
+      (old.0, λ early. none-without x.intf (is_link p.intf p.cport) h.links (old.1 early));
+  differ = fits.differ;
+  present = λ l i. fits.present l (in-without (is_link p.intf p.cport) h.links l i).0;
+}
+
+fits-left : (b : Bus) (p : Purpose) (h : Host) (o : Option Link) → link_at p.intf p.cport h ≡ o → HostFits b h
+    → TurnFits b h (link_left o (without_link p.intf p.cport h))
+fits-left b p h None found fits = record {
+  host = left-host b p h fits;
+  pending = tt;
+  followed = λ l i. stays l (without-in (is_link p.intf p.cport) h.links l i (find-none (is_link p.intf p.cport) h.links l found i)) (same-link l);
+  kept = kept-same h.interfaces;
+}
+fits-left b p h (Some k) found fits = record {
+  host = left-host b p h fits;
+  pending = ((fits.links.numbered k (found-in (is_link p.intf p.cport) h.links k found).0).from_two, (tt, tt));
+  followed = λ l i. by l i (is_link p.intf p.cport l) refl;
+  kept = kept-same h.interfaces;
+}
+  where
+    by : (l : Link) → IsIn l h.links → (t : Bool) → is_link p.intf p.cport l ≡ t
+        → IsFollowed l (without (is_link p.intf p.cport) h.links) (Act.Leave k.connection ∷ Act.Tell (link_told state.Closed k) ∷ [])
+    by l i false e = stays l (without-in (is_link p.intf p.cport) h.links l i e) (same-link l)
+    by l i true e =
+        let at = link-is p.intf p.cport l e in
+        let again : find (is_link p.intf p.cport) h.links ≡ Some l =
+        subst (λ x. find (is_link x p.cport) h.links ≡ Some l) at.0
+        (subst (λ x. find (is_link l.intf x) h.links ≡ Some l) at.1
+        (found-at h.links l fits.links.rise i)) in
+        leaves (inl (ap (λ (x : Link). Act.Leave x.connection) (same-some l k (sym again ∙ found))))
+
+-- ---- the steps
+
+fits-checked : (b : Bus) (r : Result Manifest Refused) (p : Purpose) (bytes : List ℕ) (h : Host) → HostFits b h
+    → TurnFits b h (manifest_checked r p bytes h)
+fits-checked b (Ok v) p bytes h fits =
+    fits-host b h _ (_ ∷ []) (host-interface b p.intf (enumerated bytes) h (λ x. refl) (λ x j is e w k. e w k) fits) (onto-interface h p.intf (enumerated bytes) (λ x. refl))
+fits-checked b (Err why) p bytes h fits = fits-telling b h _ _ (fits-interface_fails b p h fits)
+
+fits-manifest : (b : Bus) (p : Purpose) (bytes : List ℕ) (h : Host) → HostFits b h → TurnFits b h (manifest_told p bytes h)
+fits-manifest b p bytes h fits = by (length bytes == size_known (interface_of p.intf h))
+  where
+    by : (t : Bool) → TurnFits b h (cond t (manifest_checked (check_answer bytes) p bytes h) (failed_turn (interface_fails p h)))
+    by true = fits-checked b (check_answer bytes) p bytes h fits
+    by false = fits-interface_fails b p h fits
+
+-- another step is due where connections and their states stay
+idle-on : (step to : SequenceStep) (p : Purpose) (ls : List Link) → ((s : ConnState) → IsAtStep step s → IsAtStep to s)
+    → IsIdle step p ls → IsIdle to p ls
+idle-on step to p ls on h = record { cport = h.cport; idle = h.idle; state = λ l f. on l.state (h.state l f) }
+
+at-step : (s : SequenceStep) (to : SequenceStep) (p : Purpose) (ls : List Link) → IsIdle s p ls → IsIdle s (at_step to p) ls
+at-step s to p ls h = record { cport = h.cport; idle = h.idle; state = h.state }
+
+-- What follows a step that was answered as it should be.
+fits-done : (b : Bus) (step : SequenceStep) (p : Purpose) (payload : List ℕ) (h : Host) → HostFits b h → IsDue step p h
+    → TurnFits b h (step_done step p payload h)
+fits-done b SequenceStep.EnableVsys p payload h fits due =
+    fits-asked b (at_step SequenceStep.EnableRefclk p) h fits (next-to SequenceStep.EnableVsys SequenceStep.EnableRefclk p h (λ e. refl) due)
+fits-done b SequenceStep.EnableRefclk p payload h fits due =
+    fits-asked b (at_step SequenceStep.EnableUnipro p) h fits (next-to SequenceStep.EnableRefclk SequenceStep.EnableUnipro p h (λ e. refl) due)
+fits-done b SequenceStep.EnableUnipro p payload h fits due =
+    fits-asked b (at_step SequenceStep.Activate p) h fits (next-to SequenceStep.EnableUnipro SequenceStep.Activate p h (λ e. refl) due)
+fits-done b SequenceStep.Activate p payload h fits due =
+    fits-device b (free_device h) p h fits (next-to SequenceStep.Activate SequenceStep.GiveDevice p h (λ e. refl) due)
+fits-done b SequenceStep.GiveDevice p payload h fits due =
+    fits-through b h (with_interface p.intf (λ x. record x { has_device = true }) h) _ (onto-interface h p.intf (λ x. record x { has_device = true }) (λ x. refl))
+    (fits-asked b (at_step SequenceStep.CreateRoute p) (with_interface p.intf (λ x. record x { has_device = true }) h)
+    (host-interface b p.intf (λ x. record x { has_device = true }) h (λ x. refl) (λ x j is e w k. e w k) fits)
+    (next-interface SequenceStep.CreateRoute (at_step SequenceStep.CreateRoute p) h p.intf (λ x. record x { has_device = true }) (λ x. refl) (λ x. refl)
+    (next-to SequenceStep.GiveDevice SequenceStep.CreateRoute p h (λ e. refl) due)))
+fits-done b SequenceStep.CreateRoute p payload h fits due = fits-control b (free_cport h) p h fits due refl
+fits-done b SequenceStep.CreateControl p payload h fits due =
+    fits-opened_told b h (link_at p.intf p.cport h) (goes_on SequenceStep.AskVersion p (opened p h))
+    (fits-through b h (opened p h) _ (onto-link h p.intf p.cport (in_state state.Open) (state-link state.Open))
+    (fits-asked b (at_step SequenceStep.AskVersion p) (opened p h) (opened-control b p h fits due.cport)
+    (record { cport = due.cport; none = λ e. absurd cc; idle = due.idle; present = due.present })))
+fits-done b SequenceStep.AskVersion p payload h fits due =
+    fits-asked b (at_step SequenceStep.AskSize p) h fits (next-to SequenceStep.AskVersion SequenceStep.AskSize p h (λ e. absurd cc) due)
+fits-done b SequenceStep.AskSize p payload h fits due =
+    let f = λ (x : Interface). record x { size = size_in (read_control_reply 0x03 payload) } in
+    fits-through b h (with_interface p.intf f h) _ (onto-interface h p.intf f (λ x. refl))
+    (fits-asked b (at_step SequenceStep.AskManifest p) (with_interface p.intf f h)
+    (host-interface b p.intf f h (λ x. refl) (λ x j is e w k. e w k) fits)
+    (next-interface SequenceStep.AskManifest (at_step SequenceStep.AskManifest p) h p.intf f (λ x. refl) (λ x. refl)
+    (next-to SequenceStep.AskSize SequenceStep.AskManifest p h (λ e. absurd cc) due)))
+fits-done b SequenceStep.AskManifest p payload h fits due = fits-manifest b p payload h fits
+fits-done b SequenceStep.CreateConnection p payload h fits due =
+    fits-asked b (at_step SequenceStep.TellConnected p) h fits
+    (idle-on SequenceStep.CreateConnection SequenceStep.TellConnected (at_step SequenceStep.TellConnected p) h.links (λ s e. e)
+    (at-step SequenceStep.CreateConnection SequenceStep.TellConnected p h.links due))
+fits-done b SequenceStep.TellConnected p payload h fits due =
+    fits-link_turn b state.Open (link_at p.intf p.cport h) h (opened p h) (opened-link b p h fits due)
+    (onto-link h p.intf p.cport (in_state state.Open) (state-link state.Open))
+fits-done b SequenceStep.TellDisconnecting p payload h fits due =
+    fits-asked b (at_step SequenceStep.TellDisconnected p) h fits
+    (idle-on SequenceStep.TellDisconnecting SequenceStep.TellDisconnected (at_step SequenceStep.TellDisconnected p) h.links (λ s e. e)
+    (at-step SequenceStep.TellDisconnecting SequenceStep.TellDisconnected p h.links due))
+fits-done b SequenceStep.TellDisconnected p payload h fits due =
+    fits-asked b (at_step SequenceStep.DestroyConnection p) h fits
+    (idle-on SequenceStep.TellDisconnected SequenceStep.DestroyConnection (at_step SequenceStep.DestroyConnection p) h.links (λ s e. e)
+    (at-step SequenceStep.TellDisconnected SequenceStep.DestroyConnection p h.links due))
+fits-done b SequenceStep.DestroyConnection p payload h fits due = fits-left b p h (link_at p.intf p.cport h) refl fits
+
+-- A step's request ended.
+pub fits-answered : (b : Bus) (o : Option (List ℕ)) (p : Purpose) (h : Host) → HostFits b h → IsDue p.step p h
+    → TurnFits b h (step_answered o p h)
+fits-answered b None p h fits due = fits-failed b p.step p h fits due
+fits-answered b (Some payload) p h fits due = by (is_reply p.step payload)
+  where
+    by : (t : Bool) → TurnFits b h (cond t (step_done p.step p payload h) (failed_turn (step_fails p.step p h)))
+    by true = fits-done b p.step p payload h fits due
+    by false = fits-failed b p.step p h fits due

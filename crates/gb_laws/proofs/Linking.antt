@@ -1,0 +1,163 @@
+-- The facts of the application processor's connections are kept by each single change.
+use Rattle.std.proofs.Common.{◌≡◌, ◌≤◌, ◌≢◌, ℕ, Bool, true, false, Option, Some, None, List, [], ◌∷◌, ◌++◌, refl, sym, ap, ◌∙◌, inl, ⊎_elim, subst, arith}
+use Rattle.std.specs.Prelude.{◌==◌, ◌-◌}
+use Rattle.gb_base.specs.declared.bridge.BridgeAsk.{BridgeAsk}
+use Rattle.gb_base.specs.declared.end.End.TheVariants as end
+use Rattle.gb_base.specs.declared.end.Side.TheVariants as side
+use Rattle.gb_invariants.proofs.Awaiting.{not-both}
+use Rattle.gb_invariants.proofs.ItemChanges.{asked_on-self}
+use Rattle.gb_invariants.proofs.Lists.{each-in}
+use Rattle.gb_invariants.proofs.Selves.{front-self, put-self}
+use Rattle.gb_invariants.specs.Facts.{IsMade}
+use Rattle.gb_laws.proofs.Basics.{basis-kept}
+use Rattle.gb_laws.proofs.LinkBuses.{Linked, from-all, from-first, from-self, linked-from, linked-left, linked-opened, linked-rest, linked-shut}
+use Rattle.gb_laws.proofs.LinkActs.{linked-asked, linked-link, linked-served, linked-unsent}
+use Rattle.gb_laws.proofs.LinkClosing.{fits-disconnects}
+use Rattle.gb_laws.proofs.LinkLists.{find-changed}
+use Rattle.gb_laws.proofs.LinkTurns.{else-first, fits-connects, fits-ended, fits-inserted, fits-removed}
+use Rattle.gb_laws.proofs.Links.{ArePending, HostFits, IsDue, IsFollowed, IsKnown, IsLinkOf, IsSvc, LinksFit, TurnFits, leaves, leaving, linked, stays, supervisory}
+use Rattle.gb_laws.proofs.Places.{module-far, place-is}
+use Rattle.gb_laws.proofs.Points.{Basis, Change, IsCaused, IsNoticed, Law, Point, acts_asked, acts_failed, acts_left, acts_opened, acts_shut, acts_told, answers, asks, asking, binds, changed, drops, forgets, frees, gives_up, holds, injects, names, opening, others, passes, replies, serves, spends, takes, takes_held, tells, turns, unwires, wires}
+use Rattle.gb_base.specs.declared.end.Side.{Side}
+use Rattle.gb_invariants.proofs.Labels.{asked_on}
+use Rattle.gb_machine.specs.Bus.{Bus, Connection, Raw, end_of, other_side}
+use Rattle.gb_machine.specs.Delivery.{answered, ended, forgotten, popped, replied, without_front}
+use Rattle.gb_machine.specs.Incoming.{reply_item}
+use Rattle.gb_machine.specs.Requests.{gave_up}
+use Rattle.gb_machine.specs.Sending.{put, queued, sent}
+use Rattle.gb_machine.specs.Wiring.{injected, shut_down, unwired, wired}
+use Rattle.gb_machine.specs.Host.{Host, Link, interface_of, with_link, with_new_interface}
+use Rattle.gb_machine.specs.HostServing.{host_serves}
+use Rattle.gb_formats.specs.Bridges.{credits_taken}
+use Rattle.gb_machine.specs.LineActions.{spent}
+use Rattle.gb_machine.specs.HostRefusals.{connect_refusal, disconnect_refusal}
+use Rattle.gb_machine.specs.HostTurns.{host_turn}
+use Rattle.gb_machine.specs.Members.{IsIn}
+use Rattle.gb_machine.specs.Runs.{Moment}
+use Rattle.gb_machine.specs.Turns.{Act, HostEvent}
+
+-- an interface whose insertion is handled at a moment is absent
+abbrev pub InsertsAbsent : Moment → Type 0
+InsertsAbsent m = (i : ℕ) → IsNoticed m (HostEvent.Inserted i) → interface_of i m.before.host ≡ None
+
+-- the application processor with the interface that is inserted
+abbrev pub noticed_host : HostEvent → Host → Host
+noticed_host (HostEvent.Inserted i) h = with_new_interface i h
+noticed_host e h = h
+
+same-links : (e : HostEvent) (h : Host) → (noticed_host e h).links ≡ h.links
+same-links (HostEvent.Inserted i) h = refl
+same-links (HostEvent.Removed i) h = refl
+same-links (HostEvent.Connect i c) h = refl
+same-links (HostEvent.Disconnect i c) h = refl
+same-links (HostEvent.Ended n how) h = refl
+
+-- what the application processor does at what it takes notice of
+pub turn-fits : (m : Moment) (b : Bus) (e : HostEvent) (h : Host) → InsertsAbsent m → IsCaused m e h → HostFits b h
+    → TurnFits b (noticed_host e h) (host_turn e h)
+turn-fits m b (HostEvent.Inserted i) h absent cause fits = fits-inserted b i h fits (ap (interface_of i) cause.0 ∙ absent i cause.1)
+turn-fits m b (HostEvent.Removed i) h absent cause fits = fits-removed b i h fits
+turn-fits m b (HostEvent.Connect i c) h absent cause fits =
+    fits-connects b i c h fits (ap (connect_refusal i c) cause.0 ∙ else-first (connect_refusal i c m.before.host) _ cause.2) cause.3
+turn-fits m b (HostEvent.Disconnect i c) h absent cause fits =
+    fits-disconnects b i c h fits (ap (disconnect_refusal i c) cause.0 ∙ else-first (disconnect_refusal i c m.before.host) _ cause.2)
+turn-fits m b (HostEvent.Ended n how) h absent cause fits = fits-ended b n how h fits
+
+-- what is known of live connections behind a turn
+followed-known : (c : Connection) (ls after : List Link) (acts : List Act) → ((l : Link) → IsIn l ls → IsFollowed l after acts)
+    → IsKnown c ls [] → IsKnown c after acts
+followed-known c ls after acts f (supervisory e) = supervisory e
+followed-known c ls after acts f (leaving i) = absurd i
+followed-known c ls after acts f (linked l i of) = by (f l i)
+  where
+    by : IsFollowed l after acts → IsKnown c after acts
+    by (stays k j same) = linked k j (record {
+      number = of.number ∙ sym same.connection;
+      ap = of.ap ∙ sym same.ap;
+      peer = of.peer ∙ ap (λ i. end.Module i l.cport) (sym same.intf) ∙ ap (end.Module k.intf) (sym same.cport);
+    })
+    by (leaves j) = leaving (subst (λ n. IsIn (Act.Leave n) acts) (sym of.number) j)
+
+linked-turn : (m : Moment) (b : Bus) (e : HostEvent) (h : Host) → InsertsAbsent m → IsCaused m e h → Linked b h [] → Linked b (host_turn e h).host (host_turn e h).acts
+linked-turn m b e h absent cause f = let t = turn-fits m b e h absent cause f.host in record {
+  host = t.host;
+  pending = t.pending;
+  known = λ c live. followed-known c h.links (host_turn e h).host.links (host_turn e h).acts
+      (λ l i. t.followed l (subst (λ ls. IsIn l ls) (sym (same-links e h)) i)) (f.known c live);
+  svc = f.svc;
+  made = f.made;
+}
+
+-- The application processor's connections at a point.
+abbrev pub LinkedAt : Point → Type 0
+LinkedAt a = Linked a.state.bus a.state.host a.pending
+
+pub linked-kept : (m : Moment) → InsertsAbsent m → (a : Point) (x : Change m a) → Basis a → LinkedAt a → LinkedAt (changed m a x)
+linked-kept m absent a (tells e quiet) basis h = h
+linked-kept m absent a (asks d c label free live drawn who) basis h =
+    linked-from a.state.bus (sent d label a.state.bus) a.state.host a.pending refl
+    (from-first a.state.bus (sent d label a.state.bus) d.connection (asked_on d label a.state.bus) refl (λ x i on. from-self x (asked_on d label a.state.bus x) (asked_on-self d label a.state.bus x))) h
+linked-kept m absent a (names name d c label free live drawn host) basis h =
+    linked-from a.state.bus (sent d label a.state.bus) a.state.host a.pending refl
+    (from-first a.state.bus (sent d label a.state.bus) d.connection (asked_on d label a.state.bus) refl (λ x i on. from-self x (asked_on d label a.state.bus x) (asked_on-self d label a.state.bus x))) h
+linked-kept m absent a (binds x y n is) basis h = h
+linked-kept m absent a (frees name) basis h = h
+linked-kept m absent a (takes at p item free start is named front) basis h =
+    linked-from a.state.bus (popped p.connection.number p.side a.state.bus) a.state.host a.pending refl
+    (from-first a.state.bus (popped p.connection.number p.side a.state.bus) p.connection.number (without_front p.side) refl (λ x i on. from-self x (without_front p.side x) (front-self p.side x))) h
+linked-kept m absent a (takes_held i c place p x free start is at held) basis h = h
+linked-kept m absent a drops basis h = h
+linked-kept m absent a (holds x is far) basis h = h
+linked-kept m absent a (replies x q r is made twoway) basis h =
+    linked-from a.state.bus (replied x.connection.number (other_side x.side) (reply_item q r) a.state.bus) a.state.host a.pending refl
+    (from-first a.state.bus (replied x.connection.number (other_side x.side) (reply_item q r) a.state.bus) x.connection.number (put (other_side x.side) (reply_item q r)) refl (λ c i on. from-self c (put (other_side x.side) (reply_item q r) c) (put-self (other_side x.side) (reply_item q r) c))) h
+linked-kept m absent a (answers x n result payload is says which) basis h =
+    linked-from a.state.bus (ended n (answered result payload) a.state.bus) a.state.host a.pending refl (from-all a.state.bus (ended n (answered result payload) a.state.bus) refl) h
+linked-kept m absent a (forgets x n is which) basis h =
+    linked-from a.state.bus (forgotten n a.state.bus) a.state.host a.pending refl (from-all a.state.bus (forgotten n a.state.bus) refl) h
+linked-kept m absent a (gives_up n how free unended cause) basis h =
+    linked-from a.state.bus (gave_up n how a.state.bus) a.state.host a.pending refl (from-all a.state.bus (gave_up n how a.state.bus) refl) h
+linked-kept m absent a (wires k free untouched live powered) basis h =
+    linked-from a.state.bus (wired k a.state.bus) a.state.host a.pending refl
+    (from-first a.state.bus (wired k a.state.bus) k (λ c. record c { wired = true }) refl
+    (λ x i on. record { number = refl; shut = refl; ap = refl; peer = refl; clean = λ e. refl })) h
+linked-kept m absent a (unwires k free before live) basis h =
+    linked-from a.state.bus (unwired k a.state.bus) a.state.host a.pending refl
+    (from-first a.state.bus (unwired k a.state.bus) k (λ c. record c { wired = false; to_ap = []; to_far = [] }) refl
+    (λ x i on. record { number = refl; shut = refl; ap = refl; peer = refl; clean = λ e. refl })) h
+linked-kept m absent a (injects i c p bytes free named) basis h =
+    linked-from a.state.bus (injected p.connection.number bytes a.state.bus) a.state.host a.pending refl
+    (from-first a.state.bus (injected p.connection.number bytes a.state.bus) p.connection.number (λ c. queued side.Ap (Raw bytes) (record c { clean = false })) refl
+    (λ x j on. record { number = refl; shut = refl; ap = refl; peer = refl; clean = λ e. absurd (other x on e) })) h
+  where
+    other : (x : Connection) → x.number ≡ p.connection.number → x.number ≡ 1 → ⊥
+    other x on one =
+        let place = place-is (end.Module i c) a.state.bus.connections p named in
+        let s = h.svc p.connection place.live (sym on ∙ one) in
+        svc-at p.side (module-far i c p.side p.connection place.is) place.is s.peer
+      where
+        svc-at : (s : Side) → s ≡ side.Far → end_of s p.connection ≡ end.Module i c → p.connection.peer ≡ end.Svc → ⊥
+        svc-at side.Far far is peer = absurd cc
+        svc-at side.Ap far is peer = absurd cc
+linked-kept m absent a (turns e free untouched none cause) basis h =
+    linked-turn m a.state.bus e a.state.host absent cause (subst (Linked a.state.bus a.state.host) none h)
+linked-kept m absent a (acts_told e rest is quiet) basis h =
+    linked-rest a.state.bus a.state.host (Act.Tell e) rest (λ k f. absurd cc) (subst (Linked a.state.bus a.state.host) is h)
+linked-kept m absent a (acts_shut k rest free is cause) basis h =
+    linked-shut a.state.bus (shut_down k a.state.bus) a.state.host k rest refl refl (subst (Linked a.state.bus a.state.host) is h)
+linked-kept m absent a (acts_left k rest free untouched is) basis h =
+    linked-left a.state.bus a.state.host k rest (subst (Linked a.state.bus a.state.host) is h)
+linked-kept m absent a (acts_opened w q rest free is) basis h =
+    linked-opened a.state.bus a.state.host w q rest
+    (λ c live. (each-in (IsMade a.state.bus) a.state.bus.connections c basis.bus.numbers.range live).1)
+    (subst (Linked a.state.bus a.state.host) is h)
+linked-kept m absent a (acts_asked q n rest is) basis h = linked-asked q n rest a.state (subst (Linked a.state.bus a.state.host) is h)
+linked-kept m absent a (acts_failed q rest is quiet) basis h = linked-unsent q rest a.pending a.state.bus a.state.host is h
+linked-kept m absent a (serves k kind payload none) basis h =
+    subst (Linked a.state.bus (host_serves k kind payload a.state.host).host) (sym none)
+    (linked-served k kind payload a.state.bus a.state.host (subst (Linked a.state.bus a.state.host) none h))
+linked-kept m absent a (spends i c what none) basis h =
+    subst (Linked a.state.bus (with_link i c (spent what) a.state.host)) (sym none)
+    (linked-link i c (λ l. l.credits - credits_taken what) a.state.bus a.state.host (subst (Linked a.state.bus a.state.host) none h))
+linked-kept m absent a (passes millis) basis h = h
+linked-kept m absent a (others booted marks ports modules same) basis h = h

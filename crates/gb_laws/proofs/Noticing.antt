@@ -1,0 +1,149 @@
+-- What the application processor takes notice of comes on the supervisory controller's connection.
+use Rattle.std.proofs.Common.{◌≡◌, ℕ, Bool, true, false, cond, Option, Some, None, List, [], ◌∷◌, refl, sym, ap, ◌∙◌, subst}
+use Rattle.std.specs.Prelude.{Result, Ok, Err, ◌==◌, option_map}
+use Rattle.std.specs.List.{list_any}
+use Rattle.gb_base.specs.declared.end.End.{End}
+use Rattle.gb_base.specs.declared.end.End.TheVariants as end
+use Rattle.gb_base.specs.declared.end.Side.{Side}
+use Rattle.gb_base.specs.declared.end.Side.TheVariants as side
+use Rattle.gb_base.specs.declared.event.Event.TheVariants as event
+use Rattle.gb_formats.specs.GpioDevice.{irq_event}
+use Rattle.gb_formats.specs.GpioRecords.{GpioAsk, read_gpio_ask}
+use Rattle.gb_formats.specs.Records.{PayloadFault}
+use Rattle.gb_formats.specs.SvcRecords.{SvcAsk, read_svc_ask}
+use Rattle.gb_formats.specs.UartDevice.{credits_added, is_uart_own}
+use Rattle.gb_formats.specs.UartRecords.{UartAsk, read_uart_ask}
+use Rattle.gb_invariants.proofs.Awaiting.{not-both, same-some}
+use Rattle.gb_invariants.proofs.ItemChanges.{first-in}
+use Rattle.gb_invariants.proofs.Numbers.{found-by_number}
+use Rattle.gb_invariants.proofs.Outcomes.{is-same}
+use Rattle.gb_invariants.specs.Facts.{is_numbered}
+use Rattle.gb_laws.proofs.LinkBuses.{Linked}
+use Rattle.gb_laws.proofs.LinkLists.{find-none}
+use Rattle.gb_laws.proofs.Links.{IsKnown, leaving, linked, supervisory}
+use Rattle.gb_laws.proofs.Places.{place-is}
+use Rattle.gb_laws.proofs.Points.{Basis, IsNoticed, resting}
+use Rattle.gb_machine.specs.Bus.{Ask, Bus, Connection, Item, Raw, RawReply, Reply, Request, connection_of, end_of, has_number, queue, request_of}
+use Rattle.gb_machine.specs.Host.{Host, Link, link_of}
+use Rattle.gb_machine.specs.HostServing.{HostServed, credited, host_refuses, host_serves, interrupted, notified_by, served_on, serves_gpio, serves_svc, serves_uart, uart_notified_by}
+use Rattle.gb_machine.specs.Incoming.{Incoming, incoming, request_in}
+use Rattle.gb_machine.specs.Lists.{first}
+use Rattle.gb_machine.specs.Runs.{Moment}
+use Rattle.gb_machine.specs.SvcQueues.{HandlesAtAp, inserts, is_insertion, is_removal, items_in, removes, svc_items}
+use Rattle.gb_machine.specs.SvcTable.{is_svc_own}
+use Rattle.gb_machine.specs.Turns.{HostEvent}
+
+-- ---- nothing is noticed on the connection of a module
+
+unnoticed-if : (t : Bool) (x y : HostServed) → x.notices ≡ None → y.notices ≡ None → (cond t x y).notices ≡ None
+unnoticed-if true x y p q = p
+unnoticed-if false x y p q = q
+
+unnoticed-gpio : (h : Host) (l : Link) (r : Result GpioAsk PayloadFault) → (interrupted l r h).notices ≡ None
+unnoticed-gpio h l (Err fault) = refl
+unnoticed-gpio h l (Ok (GpioAsk.IrqEvent which)) = refl
+unnoticed-gpio h l (Ok _) = refl
+
+unnoticed-credits : (h : Host) (l : Link) (o : Option ℕ) → (credited l o h).notices ≡ None
+unnoticed-credits h l None = refl
+unnoticed-credits h l (Some total) = refl
+
+unnoticed-uart : (h : Host) (l : Link) (r : Result UartAsk PayloadFault) → (uart_notified_by l r h).notices ≡ None
+unnoticed-uart h l (Err fault) = refl
+unnoticed-uart h l (Ok (UartAsk.ReceiveData flags bytes)) = refl
+unnoticed-uart h l (Ok (UartAsk.SerialState lines)) = refl
+unnoticed-uart h l (Ok (UartAsk.ReceiveCredits count)) = unnoticed-credits h l (credits_added l.credits count)
+unnoticed-uart h l (Ok _) = refl
+
+pub unnoticed : (l : Link) (kind : ℕ) (payload : List ℕ) (h : Host) → (served_on (Some l) kind payload h).notices ≡ None
+unnoticed l kind payload h =
+    unnoticed-if (l.protocol == 0x02) (serves_gpio l kind payload h) _
+    (unnoticed-if (kind == irq_event) (interrupted l (read_gpio_ask kind payload) h) (host_refuses _ h)
+    (unnoticed-gpio h l (read_gpio_ask kind payload)) refl)
+    (unnoticed-if (l.protocol == 0x04) (serves_uart l kind payload h) (host_refuses _ h)
+    (unnoticed-if (is_uart_own kind) (uart_notified_by l (read_uart_ask kind payload) h) (host_refuses _ h)
+    (unnoticed-uart h l (read_uart_ask kind payload)) refl) refl)
+
+-- ---- what is noticed is what the supervisory controller tells
+
+-- the record that says so
+abbrev pub Tells : HostEvent → Result SvcAsk PayloadFault → Type 0
+Tells (HostEvent.Inserted i) r = inserts i r ≡ true
+Tells (HostEvent.Removed i) r = removes i r ≡ true
+Tells _ r = ⊥
+
+told-by : (e : HostEvent) (r : Result SvcAsk PayloadFault) (h : Host) → (notified_by r h).notices ≡ Some e → Tells e r
+told-by e (Err fault) h f = absurd cc
+told-by e (Ok (SvcAsk.ModuleInserted j count flags)) h f =
+    subst (λ x. Tells x (Ok (SvcAsk.ModuleInserted j count flags))) (same-some (HostEvent.Inserted j) e f) (is-same j)
+told-by e (Ok (SvcAsk.ModuleRemoved j)) h f =
+    subst (λ x. Tells x (Ok (SvcAsk.ModuleRemoved j))) (same-some (HostEvent.Removed j) e f) (is-same j)
+told-by e (Ok (SvcAsk.ProtocolVersion major minor)) h f = absurd cc
+told-by e (Ok (SvcAsk.Hello endo intf)) h f = absurd cc
+told-by e (Ok _) h f = absurd cc
+
+told-svc : (e : HostEvent) (kind : ℕ) (payload : List ℕ) (h : Host) → (serves_svc kind payload h).notices ≡ Some e
+    → Tells e (read_svc_ask kind payload)
+told-svc e kind payload h f = by (is_svc_own kind) f
+  where
+    by : (t : Bool) → (cond t (notified_by (read_svc_ask kind payload) h) (host_refuses Rattle.gb_machine.specs.Serving.protocol_bad h)).notices ≡ Some e
+        → Tells e (read_svc_ask kind payload)
+    by true f = told-by e (read_svc_ask kind payload) h f
+    by false f = absurd cc
+
+-- What is noticed at a moment: the front request on the supervisory controller's connection tells it.
+pub record IsToldBySvc (m : Moment) (e : HostEvent) : Type 0 where
+  pub number : ℕ
+  pub request : Request
+  pub is : m.event ≡ event.Deliver (end.Ap 0)
+  pub front : first (svc_items side.Ap m.before.bus) ≡ Some (Ask number)
+  pub made : request_of number m.before.bus ≡ Some request
+  pub tells : Tells e (read_svc_ask request.kind request.payload)
+
+-- the connection without a link is the supervisory controller's
+pub number-one : (b : Bus) (h : Host) (c : Connection) → IsKnown c h.links [] → link_of c.number h ≡ None → c.number ≡ 1
+number-one b h c (supervisory e) none = e
+number-one b h c (leaving i) none = absurd i
+number-one b h c (linked l i of) none =
+    absurd (not-both (l.connection == c.number) (ap (λ n. l.connection == n) of.number ∙ is-same l.connection)
+    (find-none (λ k. k.connection == c.number) h.links l none i))
+
+-- a request that waits and has a number was made
+pub numbered-ask : (item : Item) (b : Bus) (q : Incoming) → is_numbered item ≡ true → request_in item b ≡ Some q
+    → (n : ℕ) × (r : Request) × (item ≡ Ask n) × (request_of n b ≡ Some r) × (incoming n r ≡ q)
+numbered-ask (Ask n) b q numbered made = by (request_of n b) refl made
+  where
+    by : (o : Option Request) → request_of n b ≡ o → option_map (incoming n) o ≡ Some q
+        → (k : ℕ) × (r : Request) × (Ask n ≡ Ask k) × (request_of k b ≡ Some r) × (incoming k r ≡ q)
+    by None e f = absurd cc
+    by (Some r) e f = (n, r, refl, e, same-some (incoming n r) q f)
+numbered-ask (Reply n result payload) b q numbered made = absurd cc
+numbered-ask (Raw bytes) b q numbered made = absurd cc
+numbered-ask (RawReply label kind result payload) b q numbered made = absurd cc
+
+pub told-by_svc : (m : Moment) (e : HostEvent) → Basis (resting m.told m.before) → Linked m.before.bus m.before.host [] → IsNoticed m e → IsToldBySvc m e
+told-by_svc m e basis links n = by (link_of n.place.connection.number m.before.host) refl n.notices
+  where
+    by : (o : Option Link) → link_of n.place.connection.number m.before.host ≡ o
+        → (served_on o n.request.kind n.request.payload m.before.host).notices ≡ Some e → IsToldBySvc m e
+    by (Some l) f g = absurd (none-some (sym (unnoticed l n.request.kind n.request.payload m.before.host) ∙ g))
+      where
+        none-some : None ≡ Some e → ⊥
+        none-some f = absurd cc
+    by None f g =
+        let place = place-is n.at m.before.bus.connections n.place n.named in
+        let c = n.place.connection in
+        let one = number-one m.before.bus m.before.host c (links.known c place.live) f in
+        let svc = links.svc c place.live one in
+        let waits = first-in (queue n.place.side c) n.item n.front in
+        let numbered = (basis.bus.items.answerable c n.place.side n.item place.live waits).numbered svc.clean in
+        let ask = numbered-ask n.item m.before.bus n.request numbered n.made in
+        let found : connection_of 1 m.before.bus ≡ Some c =
+        subst (λ k. connection_of k m.before.bus ≡ Some c) one (found-by_number m.before.bus.connections c basis.bus.numbers.rise place.live) in record {
+          number = ask.0;
+          request = ask.1;
+          is = n.event ∙ ap event.Deliver (sym place.is ∙ ap (λ s. end_of s c) n.side ∙ ap end.Ap svc.ap);
+          front = ap (λ o. first (items_in side.Ap o)) found ∙ ap (λ s. first (queue s c)) (sym n.side) ∙ n.front ∙ ap Some ask.2;
+          made = ask.3;
+          tells = subst (λ (q : Incoming). Tells e (read_svc_ask q.kind q.payload)) (sym ask.4) (told-svc e n.request.kind n.request.payload m.before.host g);
+        }

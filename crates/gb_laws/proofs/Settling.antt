@@ -1,0 +1,63 @@
+-- Every settle is its deliveries.
+use Rattle.std.proofs.Common.{◌≡◌, ◌≤◌, ℕ, true, cond, Some, None, List, [], refl, sym, ap, ◌∙◌, subst, arith}
+use Rattle.std.specs.Prelude.{not}
+use Rattle.gb_base.specs.declared.end.End.{End}
+use Rattle.gb_base.specs.declared.end.End.TheVariants as end
+use Rattle.gb_base.specs.declared.entry.Entry.{Entry}
+use Rattle.gb_base.specs.declared.refusal.Refusal.TheVariants as why
+use Rattle.gb_formats.specs.ValidEvents.{IsEnd}
+use Rattle.gb_laws.proofs.Endpoints.{ApartTo, apart-throughout}
+use Rattle.gb_laws.proofs.LinkBuses.{Linked}
+use Rattle.gb_laws.proofs.Links.{IsKnown, leaving, linked, supervisory}
+use Rattle.gb_laws.proofs.SettleQueues.{IsFarEnd}
+use Rattle.gb_laws.proofs.Settles.{IsSettleable, settles-if_settleable}
+use Rattle.gb_laws.proofs.WiredRuns.{WiredTo, wired-throughout}
+use Rattle.gb_laws.proofs.WiredWell.{WiredFit}
+use Rattle.gb_machine.specs.Bus.{Bus, Connection}
+use Rattle.gb_machine.specs.Host.{Host}
+use Rattle.gb_machine.specs.LawsBus.{AreApart}
+use Rattle.gb_machine.specs.Members.{EachTwo, IsIn}
+use Rattle.gb_machine.specs.Refusals.{end_refusal}
+use Rattle.gb_machine.specs.Runs.{HoldsThroughout, SettlesAreDeliveries}
+use Rattle.gb_machine.specs.State.{State}
+
+-- what is known of the ends of a connection
+record EndsKnown (s : State) (c : Connection) : Type 0 where
+  far : IsFarEnd c.peer
+  ap : c.ap ≤ 4095
+  plugged : c.wired ≡ true → end_refusal s c.peer ≡ None
+  peer : c.wired ≡ true → IsEnd c.peer
+
+ends-known : (s : State) (c : Connection) → Linked s.bus s.host [] → WiredFit s → IsIn c s.bus.connections → EndsKnown s c
+ends-known s c links well live = by (links.known c live)
+  where
+    by : IsKnown c s.host.links [] → EndsKnown s c
+    by (supervisory one) = let v = links.svc c live one in record {
+      far = subst IsFarEnd (sym v.peer) tt;
+      ap = let zero_ap = v.ap in omega (arith, zero_ap);
+      plugged = λ wired. ap (end_refusal s) v.peer;
+      peer = λ wired. subst IsEnd (sym v.peer) tt;
+    }
+    by (linked l i of) = let n = links.host.links.numbered l i in record {
+      far = subst IsFarEnd (sym of.peer) tt;
+      ap = let within = n.within in let same = of.ap in omega (arith, within, same);
+      plugged = λ wired. ap (end_refusal s) of.peer
+          ∙ ap (λ t. cond (not t) (Some why.NoInterface) None) (well.wired c live wired l.intf l.cport of.peer);
+      peer = λ wired. subst IsEnd (sym of.peer) (well.range l.intf (well.wired c live wired l.intf l.cport of.peer), n.cport);
+    }
+    by (leaving i) = absurd i
+
+settleable : (s : State) → EachTwo AreApart s.bus.connections → Linked s.bus s.host [] → WiredFit s → IsSettleable s
+settleable s apart links well = record {
+  deliverable = record {
+    apart = apart;
+    far = λ c live. (ends-known s c links well live).far;
+    plugged = λ c live wired. (ends-known s c links well live).plugged wired;
+  };
+  ends = λ c live wired. ((ends-known s c links well live).ap, (ends-known s c links well live).peer wired);
+}
+
+-- Every settle is its deliveries.
+pub settles-are_deliveries : SettlesAreDeliveries
+settles-are_deliveries = settles-if_settleable (λ es are.
+    settleable _ (apart-throughout es are).apart (wired-throughout es are).links.1 (wired-throughout es are).wired)

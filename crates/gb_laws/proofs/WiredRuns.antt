@@ -1,0 +1,257 @@
+-- Where a connection is wired its module is plugged, throughout.
+use Rattle.std.proofs.Common.{◌≡◌, ◌⊎◌, ◌≤◌, ◌≢◌, ℕ, Bool, true, false, cond, Option, Some, None, List, [], ◌∷◌, ◌++◌, map, refl, sym, ap, ◌∙◌, inl, inr, ⊎_elim, subst}
+use Rattle.std.specs.Prelude.{◌==◌, ◌&&◌, is_some, not, option_map}
+use Rattle.std.specs.List.{filter, find}
+use Rattle.gb_base.specs.declared.end.End.TheVariants as end
+use Rattle.gb_base.specs.declared.entry.Entry.{Entry}
+use Rattle.gb_base.specs.declared.event.Event.{Event}
+use Rattle.gb_base.specs.declared.event.Event.TheVariants as event
+use Rattle.gb_base.specs.declared.refusal.Refusal.{Refusal}
+use Rattle.gb_formats.specs.Module.{Module, module_of_kind, module_raw}
+use Rattle.gb_formats.specs.SvcRecords.{SvcAsk}
+use Rattle.gb_formats.specs.ValidEvents.{IsIntf}
+use Rattle.gb_invariants.proofs.Awaiting.{not-both}
+use Rattle.gb_invariants.proofs.Lists.{filter-in, two-at_first}
+use Rattle.gb_invariants.proofs.Numbers.{in-changed}
+use Rattle.gb_invariants.proofs.Outcomes.{is-same, same-number}
+use Rattle.gb_invariants.specs.Facts.{IsBefore}
+use Rattle.gb_laws.proofs.Basics.{basis-kept}
+use Rattle.gb_laws.proofs.Framing.{asked-items}
+use Rattle.gb_laws.proofs.LinkRuns.{LinkedTo, linked-over, linked-throughout}
+use Rattle.gb_laws.proofs.Marking.{refused-state}
+use Rattle.gb_laws.proofs.Marks.{find-left}
+use Rattle.gb_laws.proofs.Plugs.{plugged-at, plugged-other}
+use Rattle.gb_laws.proofs.Points.{Basis, IsOfSvc, Law, resting}
+use Rattle.gb_laws.proofs.Pulling.{pulled-other, svc-asked, unwires-svc, wired-others}
+use Rattle.gb_laws.proofs.Runs.{throughout}
+use Rattle.gb_laws.proofs.Steps.{over-step}
+use Rattle.gb_laws.proofs.Telling.{AfterAsk, QueueIsAsked, after-ask}
+use Rattle.gb_laws.proofs.WiredWell.{WiredFit, fit-bus, wired-kept}
+use Rattle.gb_machine.proofs.Opened.{machine_opened}
+use Rattle.gb_machine.specs.Actions.{each, when}
+use Rattle.gb_machine.specs.Bus.{Bus, Connection, has_number, svc_connection}
+use Rattle.gb_machine.specs.Events.{decided, step}
+use Rattle.gb_machine.specs.Lists.{at_first, without}
+use Rattle.gb_machine.specs.Members.{EachTwo, IsIn}
+use Rattle.gb_machine.specs.Modules.{is_plugged, is_plugged_at, plugged, unplugged}
+use Rattle.gb_machine.specs.OwnAsking.{svc_asks}
+use Rattle.gb_machine.specs.Plugging.{boots, plugs, pulls, tells_inserted, wired_numbers, with_plugged, with_pulled}
+use Rattle.gb_machine.specs.Ports.{is_port, is_powered, powered, unpowered}
+use Rattle.gb_machine.specs.Refusals.{refusal}
+use Rattle.gb_machine.specs.Runs.{HoldsThroughout, IsMoment, Moment, after}
+use Rattle.gb_machine.specs.State.{Plugged, Port, State, first_state}
+use Rattle.gb_machine.specs.Turns.{HostEvent}
+use Rattle.gb_machine.specs.Wires.{unwires, with_unwired}
+use Rattle.gb_machine.specs.Wiring.{is_at, is_wired_to}
+
+-- ---- the supervisory controller asks
+
+fit-ask : (s t : State) (o : Option HostEvent) → AfterAsk s t o → WiredFit s → WiredFit t
+fit-ask s t o a h = fit-bus s t a.wired a.modules a.ports h
+
+fit-tells : (ps : List Plugged) (s : State) → QueueIsAsked s.bus → WiredFit s → WiredFit (each ps (λ p. tells_inserted p.intf) s).state
+unfolding machine_opened
+fit-tells [] s asked h = h
+fit-tells (p ∷ ps) s asked h =
+    let a = after-ask (SvcAsk.ModuleInserted p.intf 1 0) s asked in
+    fit-tells ps (tells_inserted p.intf s).state a.asked (fit-ask s (tells_inserted p.intf s).state _ a h)
+
+fit-boots : (s : State) → QueueIsAsked s.bus → WiredFit s → WiredFit (boots s).state
+unfolding machine_opened
+fit-boots s asked h =
+    let s0 = record s { booted = true } in
+    let s1 = (svc_asks (SvcAsk.ProtocolVersion 0 1) s0).state in
+    let s2 = (svc_asks (SvcAsk.Hello 1 1) s1).state in
+    let a1 = after-ask (SvcAsk.ProtocolVersion 0 1) s0 asked in
+    let a2 = after-ask (SvcAsk.Hello 1 1) s1 a1.asked in
+    fit-tells s.modules s2 a2.asked
+    (fit-ask s1 s2 _ a2 (fit-ask s0 s1 _ a1 (record { wired = h.wired; powered = h.powered; range = h.range })))
+
+-- ---- plugging
+
+fit-plugged : (i : ℕ) (x : Module) (s : State) → IsIntf i → WiredFit s → WiredFit (with_plugged i x s)
+fit-plugged i x s valid h = record {
+  wired = λ c live wired j p at. stays j (h.wired c live wired j p at);
+  powered = λ j e. by_power j (i == j) refl e;
+  range = λ j e. by_range j (i == j) refl e;
+}
+  where
+    new : Plugged
+    new = record { intf = i; body = x }
+
+    stays : (j : ℕ) → is_plugged j s.modules ≡ true → is_plugged j (plugged i x s.modules) ≡ true
+    stays j e = by (i == j) refl
+      where
+        by : (t : Bool) → (i == j) ≡ t → is_plugged j (plugged i x s.modules) ≡ true
+        by true f = plugged-at j (record { intf = i; body = x }) s.modules f
+        by false f = plugged-other j (record { intf = i; body = x }) s.modules f ∙ e
+
+    by_power : (j : ℕ) (t : Bool) → (i == j) ≡ t → is_powered j (powered i s.ports) ≡ true → is_plugged j (plugged i x s.modules) ≡ true
+    by_power j true f e = plugged-at j (record { intf = i; body = x }) s.modules f
+    by_power j false f e = plugged-other j (record { intf = i; body = x }) s.modules f
+        ∙ h.powered j (sym (ap (λ t. is_some (cond t (Some (let p : Port = record { intf = i; level = 0; device = None } in p)) (find (is_port j) s.ports))) f) ∙ e)
+
+    by_range : (j : ℕ) (t : Bool) → (i == j) ≡ t → is_plugged j (plugged i x s.modules) ≡ true → IsIntf j
+    by_range j true f e = subst IsIntf (same-number i j f) valid
+    by_range j false f e = h.range j (sym (plugged-other j (record { intf = i; body = x }) s.modules f) ∙ e)
+
+fit-plugs : (i : ℕ) (x : Module) (s : State) → IsIntf i → QueueIsAsked s.bus → WiredFit s → WiredFit (plugs i x s).state
+unfolding machine_opened
+fit-plugs i x s valid asked h = by s.booted
+  where
+    by : (t : Bool) → WiredFit (when t (tells_inserted i) (with_plugged i x s)).state
+    by true = fit-ask (with_plugged i x s) _ _ (after-ask (SvcAsk.ModuleInserted i 1 0) (with_plugged i x s) asked) (fit-plugged i x s valid h)
+    by false = fit-plugged i x s valid h
+
+-- ---- pulling
+
+-- what is wired still was wired, and has none of the numbers
+cut-from : (ns : List ℕ) (s : State) (c : Connection) → EachTwo IsBefore s.bus.connections → IsIn c (each ns unwires s).state.bus.connections
+    → c.wired ≡ true → IsIn c s.bus.connections × ((n : ℕ) → IsIn n ns → c.number ≢ n)
+unfolding machine_opened
+cut-from [] s c rise live wired = (live, λ n i. absurd i)
+cut-from (n ∷ ns) s c rise live wired =
+    let f = λ (x : Connection). record x { wired = false; to_ap = []; to_far = [] } in
+    let rec = cut-from ns (with_unwired n s) c
+    (two-at_first IsBefore (has_number n) f s.bus.connections (λ x y r. r) (λ x y r. r) rise) live wired in
+    let here = ⊎_elim (λ o. o) (λ w. absurd (not-both c.wired wired (ap (λ (x : Connection). x.wired) w.3)))
+    (in-changed s.bus.connections n f c rise rec.0) in
+    (here.0, λ k i. ⊎_elim (λ e g. here.1 (g ∙ e)) (λ j. rec.1 k j) i)
+
+number-in : (cs : List Connection) (c : Connection) → IsIn c cs → IsIn c.number (map (λ (x : Connection). x.number) cs)
+number-in [] c i = i
+number-in (x ∷ xs) c (inl e) = inl (ap (λ (y : Connection). y.number) e)
+number-in (x ∷ xs) c (inr j) = inr (number-in xs c j)
+
+none-of : {A : Type 0} (test : A → Bool) (xs : List A) → find test (without test xs) ≡ None
+none-of test [] = refl
+none-of test (x ∷ xs) = by (test x) refl (none-of test xs)
+  where
+    by : (t : Bool) → test x ≡ t → find test (without test xs) ≡ None → find test (cond (not t) (x ∷ without test xs) (without test xs)) ≡ None
+    by true e h = h
+    by false e h = ap (λ b. cond b (Some x) (find test (without test xs))) e ∙ h
+
+fit-pulled : (i : ℕ) (s : State) → LinkedTo [] s ⊎ EachTwo IsBefore s.bus.connections → EachTwo IsBefore s.bus.connections → WiredFit s
+    → (s1 : State) → s1 ≡ (each (wired_numbers i s.bus) unwires s).state → s1.modules ≡ s.modules → s1.ports ≡ s.ports → WiredFit (with_pulled i s1)
+fit-pulled i s any rise h s1 is modules ports = record {
+  wired = λ c live wired j p at.
+      let w = cut-from (wired_numbers i s.bus) s c rise (subst (λ t. IsIn c t.bus.connections) is live) wired in
+      by_wired c j p w.0 wired at w.1 (i == j) refl;
+  powered = λ j e. by_power j (i == j) refl (sym (ap (λ ps. is_powered j (unpowered i ps)) ports) ∙ e);
+  range = λ j e. by_range j (i == j) refl (sym (ap (λ ms. is_plugged j (unplugged i ms)) modules) ∙ e);
+}
+  where
+    by_wired : (c : Connection) (j p : ℕ) → IsIn c s.bus.connections → c.wired ≡ true → c.peer ≡ end.Module j p
+        → ((n : ℕ) → IsIn n (wired_numbers i s.bus) → c.number ≢ n) → (t : Bool) → (i == j) ≡ t → is_plugged j (unplugged i s1.modules) ≡ true
+    by_wired c j p live wired at other true e =
+        let to : is_wired_to i c ≡ true =
+        ap (λ t. t && is_at i c.peer) wired ∙ ap (is_at i) at ∙ ap (λ n. n == i) (sym (same-number i j e)) ∙ is-same i in
+        absurd (other c.number (number-in (filter (is_wired_to i) s.bus.connections) c (filter-in (is_wired_to i) s.bus.connections c live to)) refl)
+    by_wired c j p live wired at other false e =
+        ap (λ ms. is_plugged j (unplugged i ms)) modules ∙ pulled-other i j s.modules e ∙ h.wired c live wired j p at
+
+    by_power : (j : ℕ) (t : Bool) → (i == j) ≡ t → is_powered j (unpowered i s.ports) ≡ true → is_plugged j (unplugged i s1.modules) ≡ true
+    by_power j true e f =
+        absurd (not-both (is_powered j (unpowered i s.ports)) f
+        (ap (λ k. is_powered k (unpowered i s.ports)) (sym (same-number i j e)) ∙ ap is_some (none-of (is_port i) s.ports)))
+    by_power j false e f =
+        ap (λ ms. is_plugged j (unplugged i ms)) modules ∙ pulled-other i j s.modules e
+        ∙ h.powered j (sym (ap is_some (find-left (is_port j) (is_port i) s.ports (λ p g. past p (p.intf == i) refl (same-number p.intf j g)))) ∙ f)
+      where
+        past : (p : Port) (t : Bool) → (p.intf == i) ≡ t → p.intf ≡ j → t ≡ false
+        past p false k same = refl
+        past p true k same = absurd (not-both (i == j) (ap (λ n. n == j) (sym (same-number p.intf i k) ∙ same) ∙ is-same j) e)
+
+    by_range : (j : ℕ) (t : Bool) → (i == j) ≡ t → is_plugged j (unplugged i s.modules) ≡ true → IsIntf j
+    by_range j true e f =
+        absurd (not-both (is_plugged j (unplugged i s.modules)) f
+        (ap (λ k. is_plugged k (unplugged i s.modules)) (sym (same-number i j e))
+        ∙ ap (λ o. is_some (option_map (λ (p : Plugged). p.body) o)) (none-of (is_plugged_at i) s.modules)))
+    by_range j false e f = h.range j (sym (pulled-other i j s.modules e) ∙ f)
+
+fit-pulls : (i : ℕ) (told : List Entry) (s : State) → LinkedTo told s → QueueIsAsked s.bus → WiredFit s → WiredFit (pulls i s).state
+unfolding machine_opened
+fit-pulls i told s start asked h = by s.booted
+  where
+    s1 : State
+    s1 = (each (wired_numbers i s.bus) unwires s).state
+
+    cut : WiredFit (with_pulled i (each (wired_numbers i s.bus) unwires s).state)
+    cut = let c = unwires-svc (wired_numbers i s.bus) s (wired-others i s start.1) in
+        fit-pulled i s (inr start.0.bus.numbers.rise) start.0.bus.numbers.rise h _ refl c.modules c.ports
+
+    queue : QueueIsAsked (with_pulled i (each (wired_numbers i s.bus) unwires s).state).bus
+    queue = svc-asked s (each (wired_numbers i s.bus) unwires s).state (unwires-svc (wired_numbers i s.bus) s (wired-others i s start.1)) asked
+
+    by : (t : Bool) → WiredFit (when t (svc_asks (SvcAsk.ModuleRemoved i)) (with_pulled i (each (wired_numbers i s.bus) unwires s).state)).state
+    by true = fit-ask _ _ _ (after-ask (SvcAsk.ModuleRemoved i) (with_pulled i (each (wired_numbers i s.bus) unwires s).state) queue) cut
+    by false = cut
+
+-- ---- each moment
+
+-- with what is known of connections
+pub record WiredTo (told : List Entry) (s : State) : Type 0 where
+  pub links : LinkedTo told s
+  pub wired : WiredFit s
+
+module _ (m : Moment) (one : IsMoment m.event) (start : WiredTo m.told m.before) where
+  abbrev wired_law : (IsOfSvc m.event → ⊥) → Law m
+  wired_law other = record {
+    holds = λ a. Basis a × WiredFit a.state;
+    basis = λ a h. h.0;
+    kept = λ a x h. (basis-kept m a x h.0, wired-kept m other a x h.0 h.1);
+  }
+
+  fit-still : (e : Event) → m.event ≡ e → (IsOfSvc e → ⊥) → WiredFit (after m)
+  fit-still e is other = (over-step m (wired_law (λ of. other (subst IsOfSvc is of))) one (start.links.0, start.wired)).1.1
+
+  fit-asking : (e : Event) → m.event ≡ e → WiredFit (decided None e m.before).state → WiredFit (after m)
+  unfolding machine_opened
+  fit-asking e is done = by (refusal m.before e) refl
+    where
+      by : (o : Option Refusal) → refusal m.before e ≡ o → WiredFit (after m)
+      by (Some reason) f = subst WiredFit (sym (refused-state m reason (ap (refusal m.before) is ∙ f))) start.wired
+      by None f = subst WiredFit (sym (ap (λ x. (step m.before x).state) is ∙ ap (λ o. (decided o e m.before).state) f)) done
+
+  asked-before : QueueIsAsked m.before.bus
+  asked-before = asked-items (resting m.told m.before) start.links.0
+
+  fit-kept : (e : Event) → m.event ≡ e → IsMoment e → WiredFit (after m)
+  unfolding machine_opened
+  fit-kept event.Boot is at = fit-asking event.Boot is (fit-boots m.before (asked-items (resting m.told m.before) start.links.0) start.wired)
+  fit-kept (event.Insert i kind) is at = fit-asking (event.Insert i kind) is
+      (fit-plugs i (module_of_kind kind) m.before at (asked-items (resting m.told m.before) start.links.0) start.wired)
+  fit-kept (event.InsertRaw i manifest) is at = fit-asking (event.InsertRaw i manifest) is
+      (fit-plugs i (module_raw manifest) m.before at (asked-items (resting m.told m.before) start.links.0) start.wired)
+  fit-kept (event.Pull i) is at = fit-asking (event.Pull i) is
+      (fit-pulls i m.told m.before start.links (asked-items (resting m.told m.before) start.links.0) start.wired)
+  fit-kept (event.Deliver to) is at = fit-still (event.Deliver to) is (λ x. x)
+  fit-kept (event.Settle most) is at = absurd at
+  fit-kept (event.Connect i c) is at = fit-still (event.Connect i c) is (λ x. x)
+  fit-kept (event.Disconnect i c) is at = fit-still (event.Disconnect i c) is (λ x. x)
+  fit-kept (event.Send name to kind payload timeout) is at = fit-still (event.Send name to kind payload timeout) is (λ x. x)
+  fit-kept (event.Bridge name i c what) is at = fit-still (event.Bridge name i c what) is (λ x. x)
+  fit-kept (event.Level i c line value) is at = fit-still (event.Level i c line value) is (λ x. x)
+  fit-kept (event.SerialState i c control) is at = fit-still (event.SerialState i c control) is (λ x. x)
+  fit-kept (event.Hold i c) is at = fit-still (event.Hold i c) is (λ x. x)
+  fit-kept (event.Answer i c place) is at = fit-still (event.Answer i c place) is (λ x. x)
+  fit-kept (event.Cancel name) is at = fit-still (event.Cancel name) is (λ x. x)
+  fit-kept (event.Copy x y) is at = fit-still (event.Copy x y) is (λ z. z)
+  fit-kept (event.Forget name) is at = fit-still (event.Forget name) is (λ x. x)
+  fit-kept (event.Tick millis) is at = fit-still (event.Tick millis) is (λ x. x)
+  fit-kept (event.Inject i c bytes) is at = fit-still (event.Inject i c bytes) is (λ x. x)
+  fit-kept event.Show is at = fit-still event.Show is (λ x. x)
+
+wired-first : WiredFit first_state
+wired-first = record {
+  wired = λ c i wired j p at. ⊎_elim (λ e. absurd (svc-peer j p (sym (ap (λ (x : Connection). x.peer) e) ∙ at))) (λ n. absurd n) i;
+  powered = λ i e. absurd (not-both false e refl);
+  range = λ i e. absurd (not-both false e refl);
+}
+  where
+    svc-peer : (j p : ℕ) → end.Svc ≡ end.Module j p → ⊥
+    svc-peer j p e = absurd cc
+
+pub wired-throughout : HoldsThroughout WiredTo
+wired-throughout = throughout WiredTo (record { links = linked-throughout [] tt; wired = wired-first })
+    (λ m one h. record { links = linked-over m one h.links; wired = fit-kept m one h m.event refl one })

@@ -1,0 +1,154 @@
+-- Where a connection is wired, its module is plugged.
+use Rattle.std.proofs.Common.{◌≡◌, ◌⊎◌, ◌≤◌, ◌≢◌, ℕ, Bool, true, false, Option, Some, None, List, [], ◌∷◌, ◌++◌, refl, sym, ap, ◌∙◌, inl, inr, ⊎_elim, subst}
+use Rattle.std.specs.Prelude.{◌==◌, is_some}
+use Rattle.gb_base.specs.declared.end.End.{End}
+use Rattle.gb_base.specs.declared.end.End.TheVariants as end
+use Rattle.gb_base.specs.declared.end.Side.TheVariants as side
+use Rattle.gb_formats.specs.ValidEvents.{IsIntf}
+use Rattle.gb_invariants.proofs.Awaiting.{not-both}
+use Rattle.gb_invariants.proofs.ItemChanges.{asked_on-self}
+use Rattle.gb_invariants.proofs.Labels.{asked_on}
+use Rattle.gb_invariants.proofs.Lists.{in-at_first, in-pushed, in-without}
+use Rattle.gb_invariants.proofs.Numbers.{same-connection}
+use Rattle.gb_invariants.proofs.Outcomes.{same-number}
+use Rattle.gb_invariants.proofs.Selves.{front-self, put-self}
+use Rattle.gb_laws.proofs.Awaited.{awaited-rest}
+use Rattle.gb_laws.proofs.LinkActs.{awaited-plugs}
+use Rattle.gb_laws.proofs.Onward.{drawn-wired, front-wired, put-wired}
+use Rattle.gb_laws.proofs.Points.{Basis, Change, IsLive, IsOfSvc, Law, Point, SamePlugs, acts_asked, acts_failed, acts_left, acts_opened, acts_shut, acts_told, answers, asks, binds, changed, drops, forgets, frees, gives_up, holds, injects, names, others, passes, replies, resting, serves, spends, takes, takes_held, tells, turns, unwires, wires}
+use Rattle.gb_machine.specs.Bus.{Ask, Bus, Connection, Raw, has_number, next_number, other_side}
+use Rattle.gb_machine.specs.Delivery.{without_front}
+use Rattle.gb_machine.specs.HostActs.{with_awaited}
+use Rattle.gb_machine.specs.Incoming.{reply_item}
+use Rattle.gb_machine.specs.Lists.{at_first}
+use Rattle.gb_machine.specs.Members.{IsIn}
+use Rattle.gb_machine.specs.Modules.{is_plugged}
+use Rattle.gb_machine.specs.Ports.{is_powered}
+use Rattle.gb_machine.specs.Runs.{Moment}
+use Rattle.gb_machine.specs.Sending.{Draft, drawn, put, queued}
+use Rattle.gb_machine.specs.State.{Plugged, Port, State}
+use Rattle.gb_machine.specs.Wiring.{new_connection, next_connection}
+
+-- What is wired to a module, and what is powered, is plugged, at interfaces in range.
+pub record WiredFit (s : State) : Type 0 where
+  pub wired : (c : Connection) → IsIn c s.bus.connections → c.wired ≡ true → (i p : ℕ) → c.peer ≡ end.Module i p → is_plugged i s.modules ≡ true
+  pub powered : (i : ℕ) → is_powered i s.ports ≡ true → is_plugged i s.modules ≡ true
+  pub range : (i : ℕ) → is_plugged i s.modules ≡ true → IsIntf i
+
+-- what is wired was wired, to the same end
+abbrev pub WasWiredTo : Bus → Bus → Type 0
+WasWiredTo b after = (d : Connection) → IsIn d after.connections → d.wired ≡ true
+    → (c : Connection) × IsIn c b.connections × (c.wired ≡ true) × (c.peer ≡ d.peer)
+
+pub was-same : (b after : Bus) → after.connections ≡ b.connections → WasWiredTo b after
+was-same b after same d live wired = (d, subst (λ cs. IsIn d cs) same live, wired, refl)
+
+pub was-first : (b after : Bus) (k : ℕ) (f : Connection → Connection) → after.connections ≡ at_first (has_number k) f b.connections
+    → ((c : Connection) → (f c).peer ≡ c.peer) → ((c : Connection) → (f c).wired ≡ true → c.wired ≡ true) → WasWiredTo b after
+was-first b after k f same peer was d live wired =
+    ⊎_elim (λ o. (d, o, wired, refl))
+    (λ w. (w.0, w.1, was w.0 (sym (ap (λ (x : Connection). x.wired) w.3) ∙ wired), sym (ap (λ (x : Connection). x.peer) w.3 ∙ peer w.0)))
+    (in-at_first (has_number k) f b.connections d (subst (λ cs. IsIn d cs) same live))
+
+pub was-asked : (b after : Bus) (d : Draft) (label : ℕ) → after.connections ≡ at_first (has_number d.connection) (asked_on d label b) b.connections
+    → WasWiredTo b after
+was-asked b after d label same =
+    was-first b after d.connection (asked_on d label b) same (λ c. (asked_on-self d label b c).peer)
+    (λ c e. sym (put-wired (other_side d.side) (Ask (next_number b)) (drawn d label c) ∙ drawn-wired d label c) ∙ e)
+
+-- the bus changes so, and nothing else that matters
+pub fit-bus : (s t : State) → WasWiredTo s.bus t.bus → t.modules ≡ s.modules → t.ports ≡ s.ports → WiredFit s → WiredFit t
+fit-bus s t was modules ports h = record {
+  wired = λ c live wired i p at. let w = was c live wired in ap (is_plugged i) modules ∙ h.wired w.0 w.1 w.2 i p (w.3 ∙ at);
+  powered = λ i e. ap (is_plugged i) modules ∙ h.powered i (sym (ap (is_powered i) ports) ∙ e);
+  range = λ i e. h.range i (sym (ap (is_plugged i) modules) ∙ e);
+}
+
+same-module : (i j c d : ℕ) → end.Module i c ≡ end.Module j d → i ≡ j
+same-module i j c d e = cc
+
+pub wired-kept : (m : Moment) → (IsOfSvc m.event → ⊥) → (a : Point) (x : Change m a) → Basis a → WiredFit a.state → WiredFit (changed m a x).state
+wired-kept m other a (asks d c label free live is who) basis h =
+    fit-bus a.state (changed m a (asks d c label free live is who)).state (was-asked a.state.bus (changed m a (asks d c label free live is who)).state.bus d label refl) refl refl h
+wired-kept m other a (names name d c label free live is host) basis h =
+    fit-bus a.state (changed m a (names name d c label free live is host)).state
+    (was-asked a.state.bus (changed m a (names name d c label free live is host)).state.bus d label refl) refl refl h
+wired-kept m other a (takes at p item free start is named front) basis h =
+    fit-bus a.state (changed m a (takes at p item free start is named front)).state
+    (was-first a.state.bus (changed m a (takes at p item free start is named front)).state.bus p.connection.number (without_front p.side) refl
+    (λ c. (front-self p.side c).peer) (λ c e. sym (front-wired p.side c) ∙ e)) refl refl h
+wired-kept m other a (replies x q r is made twoway) basis h =
+    fit-bus a.state (changed m a (replies x q r is made twoway)).state
+    (was-first a.state.bus (changed m a (replies x q r is made twoway)).state.bus x.connection.number (put (other_side x.side) (reply_item q r)) refl
+    (λ c. (put-self (other_side x.side) (reply_item q r) c).peer) (λ c e. sym (put-wired (other_side x.side) (reply_item q r) c) ∙ e)) refl refl h
+wired-kept m other a (unwires k free before live) basis h =
+    fit-bus a.state (changed m a (unwires k free before live)).state
+    (was-first a.state.bus (changed m a (unwires k free before live)).state.bus k (λ c. record c { wired = false; to_ap = []; to_far = [] }) refl
+    (λ c. refl) (λ c e. absurd (not-both false e refl))) refl refl h
+wired-kept m other a (injects i c p bytes free named) basis h =
+    fit-bus a.state (changed m a (injects i c p bytes free named)).state
+    (was-first a.state.bus (changed m a (injects i c p bytes free named)).state.bus p.connection.number
+    (λ x. queued side.Ap (Raw bytes) (record x { clean = false })) refl (λ c. refl) (λ c e. e)) refl refl h
+wired-kept m other a (acts_shut k rest free is cause) basis h =
+    fit-bus a.state (changed m a (acts_shut k rest free is cause)).state
+    (was-first a.state.bus (changed m a (acts_shut k rest free is cause)).state.bus k (λ c. record c { shut = true }) refl (λ c. refl) (λ c e. e)) refl refl h
+wired-kept m other a (acts_left k rest free untouched is) basis h =
+    fit-bus a.state (changed m a (acts_left k rest free untouched is)).state
+    (λ d live wired. (d, (in-without (has_number k) a.state.bus.connections d live).0, wired, refl)) refl refl h
+wired-kept m other a (acts_opened w q rest free is) basis h =
+    fit-bus a.state (changed m a (acts_opened w q rest free is)).state
+    (λ d live wired. ⊎_elim (λ o. (d, o, wired, refl)) (λ e. absurd (not-both d.wired wired (ap (λ (x : Connection). x.wired) e)))
+    (in-pushed d a.state.bus.connections (new_connection (next_connection a.state.bus) w.ap (end.Module w.intf w.cport) w.protocol) live)) refl refl h
+wired-kept m other a (wires k free untouched live powered) basis h = record {
+  wired = λ c alive wired i p at. ⊎_elim (λ o. h.wired c o wired i p at)
+      (λ w. let same = same-connection a.state.bus.connections w.0 live.connection basis.bus.numbers.rise w.1 live.live
+      (same-number w.0.number k w.2 ∙ sym live.number) in
+      let intf = same-module live.intf i live.cport p (sym live.peer ∙ ap (λ (x : Connection). x.peer) (sym same) ∙ sym (ap (λ (x : Connection). x.peer) w.3) ∙ at) in
+      ap (λ n. is_plugged n a.state.modules) (sym intf) ∙ h.powered live.intf powered)
+      (in-at_first (has_number k) (λ (x : Connection). record x { wired = true }) a.state.bus.connections c alive);
+  powered = h.powered;
+  range = h.range;
+}
+wired-kept m other a (acts_asked q n rest is) basis h =
+    let plugs = awaited-plugs q.purpose n a.state in
+    let bus = (awaited-rest q.purpose n a.state).bus in record {
+      wired = λ c live wired i p at. plugs.plugged i ∙ h.wired c (subst (λ (b : Bus). IsIn c b.connections) bus live) wired i p at;
+      powered = λ i e. plugs.plugged i ∙ h.powered i (plugs.powered i e);
+      range = λ i e. h.range i (sym (plugs.plugged i) ∙ e);
+    }
+wired-kept m other a (others booted marks ports modules same) basis h = by same
+  where
+    by : SamePlugs a.state booted ports modules ⊎ IsOfSvc m.event → WiredFit (changed m a (others booted marks ports modules same)).state
+    by (inl s) = record {
+      wired = λ c live wired i p at. s.plugged i ∙ h.wired c live wired i p at;
+      powered = λ i e. s.plugged i ∙ h.powered i (s.powered i e);
+      range = λ i e. h.range i (sym (s.plugged i) ∙ e);
+    }
+    by (inr of) = absurd (other of)
+wired-kept m other a (tells e quiet) basis h = fit-bus a.state (changed m a (tells e quiet)).state (was-same a.state.bus a.state.bus refl) refl refl h
+wired-kept m other a (binds x y n is) basis h = fit-bus a.state (changed m a (binds x y n is)).state (was-same a.state.bus a.state.bus refl) refl refl h
+wired-kept m other a (frees name) basis h = fit-bus a.state (changed m a (frees name)).state (was-same a.state.bus a.state.bus refl) refl refl h
+wired-kept m other a (takes_held i c place p x free start is at held) basis h =
+    fit-bus a.state (changed m a (takes_held i c place p x free start is at held)).state (was-same a.state.bus a.state.bus refl) refl refl h
+wired-kept m other a drops basis h = h
+wired-kept m other a (holds x is far) basis h = fit-bus a.state (changed m a (holds x is far)).state (was-same a.state.bus a.state.bus refl) refl refl h
+wired-kept m other a (answers x n result payload is says which) basis h =
+    fit-bus a.state (changed m a (answers x n result payload is says which)).state
+    (was-same a.state.bus (changed m a (answers x n result payload is says which)).state.bus refl) refl refl h
+wired-kept m other a (forgets x n is which) basis h =
+    fit-bus a.state (changed m a (forgets x n is which)).state (was-same a.state.bus (changed m a (forgets x n is which)).state.bus refl) refl refl h
+wired-kept m other a (gives_up n how free unended cause) basis h =
+    fit-bus a.state (changed m a (gives_up n how free unended cause)).state
+    (was-same a.state.bus (changed m a (gives_up n how free unended cause)).state.bus refl) refl refl h
+wired-kept m other a (turns e free untouched none cause) basis h =
+    fit-bus a.state (changed m a (turns e free untouched none cause)).state (was-same a.state.bus a.state.bus refl) refl refl h
+wired-kept m other a (acts_told e rest is quiet) basis h =
+    fit-bus a.state (changed m a (acts_told e rest is quiet)).state (was-same a.state.bus a.state.bus refl) refl refl h
+wired-kept m other a (acts_failed q rest is quiet) basis h =
+    fit-bus a.state (changed m a (acts_failed q rest is quiet)).state (was-same a.state.bus a.state.bus refl) refl refl h
+wired-kept m other a (serves k kind payload none) basis h =
+    fit-bus a.state (changed m a (serves k kind payload none)).state (was-same a.state.bus a.state.bus refl) refl refl h
+wired-kept m other a (spends i c what none) basis h =
+    fit-bus a.state (changed m a (spends i c what none)).state (was-same a.state.bus a.state.bus refl) refl refl h
+wired-kept m other a (passes millis) basis h =
+    fit-bus a.state (changed m a (passes millis)).state (was-same a.state.bus a.state.bus refl) refl refl h

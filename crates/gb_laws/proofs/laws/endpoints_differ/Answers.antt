@@ -1,0 +1,5 @@
+use Rattle.gb_laws.proofs.Endpoints.{endpoints-differ}
+use Rattle.gb_laws.proofs.laws.endpoints_differ.Goals as goal
+
+pub returns : goal.returns
+returns c = endpoints-differ

@@ -1,0 +1,5 @@
+use Rattle.gb_laws.proofs.Settling.{settles-are_deliveries}
+use Rattle.gb_laws.proofs.laws.settles_are_deliveries.Goals as goal
+
+pub returns : goal.returns
+returns c = settles-are_deliveries
