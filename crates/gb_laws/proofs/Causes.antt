@@ -2,7 +2,6 @@
 use Rattle.std.proofs.Common.{◌≡◌, ◌⊎◌, ◌≤◌, ◌≢◌, ℕ, Bool, true, false, Some, None, List, [], ◌∷◌, ◌++◌, map, refl, sym, ap, ◌∙◌, inl, inr, subst, append-nil, append_assoc, arith}
 use Rattle.std.specs.Prelude.{◌==◌}
 use Rattle.std.specs.List.{find}
-use Rattle.gb_base.specs.declared.bridge.Reading.{Reading}
 use Rattle.gb_base.specs.declared.bridge.Reading.TheVariants as reading
 use Rattle.gb_base.specs.declared.end.End.TheVariants as end
 use Rattle.gb_base.specs.declared.end.Side.{Side}
@@ -22,21 +21,17 @@ use Rattle.gb_laws.proofs.LinkLaw.{link_law}
 use Rattle.gb_laws.proofs.LinkRuns.{LinkedTo, linked-throughout, start-absent}
 use Rattle.gb_laws.proofs.Noticing.{told-by_svc}
 use Rattle.gb_laws.proofs.Onward.{IsOnward, onward}
-use Rattle.gb_laws.proofs.Points.{AreQuiet, Basis, Change, IsGivenUpFor, IsLate, IsLive, IsShutFor, Law, Point, Unwired, Wired, acts_asked, acts_failed, acts_left, acts_opened, acts_shut, acts_told, answers, asked_told, asks, binds, changed, disconnected, drops, forgets, frees, gives_up, holds, injects, is_quiet, names, others, passes, removed, replies, resting, sent_told, serves, spends, takes, takes_held, tells, turns, unwires, wires}
+use Rattle.gb_laws.proofs.Points.{AreQuiet, Basis, Change, IsGivenUpFor, IsLive, IsShutFor, Law, Point, Unwired, Wired, acts_asked, acts_failed, acts_left, acts_opened, acts_shut, acts_told, answers, asked_told, asks, binds, changed, disconnected, drops, forgets, frees, gives_up, holds, injects, is_quiet, names, others, passes, removed, replies, resting, sent_told, serves, spends, takes, takes_held, tells, turns, unwires, wires}
 use Rattle.gb_laws.proofs.Runs.{at_each}
 use Rattle.gb_laws.proofs.Steps.{over-step}
-use Rattle.gb_machine.specs.Bus.{Bus, Connection, Request, connection_of, has_number, is_open, next_number, request_of}
-use Rattle.gb_machine.specs.Delivery.{answered}
+use Rattle.gb_machine.specs.Bus.{Bus, Connection, Request, connection_of, has_number, next_number, request_of}
 use Rattle.gb_machine.specs.Host.{Link, link_of}
-use Rattle.gb_machine.specs.HostTurns.{links_of}
 use Rattle.gb_machine.specs.LawsEnds.{EveryEndHasItsCause, HasItsCause, IsDisconnect, IsDisconnection, IsRemovalOf}
 use Rattle.gb_machine.specs.Members.{Each, IsIn}
 use Rattle.gb_machine.specs.Requests.{is_of, open_on}
 use Rattle.gb_machine.specs.Runs.{IsMoment, Moment, after, told_at}
 use Rattle.gb_machine.specs.Sending.{Draft}
-use Rattle.gb_machine.specs.State.{State}
 use Rattle.gb_machine.specs.Wires.{disconnected_told}
-use Rattle.gb_machine.specs.Wiring.{unwired}
 
 -- ---- what causes an end
 

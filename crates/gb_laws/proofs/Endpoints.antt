@@ -1,12 +1,9 @@
 -- Live connections have ends of their own.
 use Rattle.std.proofs.Common.{◌≡◌, ◌≤◌, ◌≢◌, ℕ, Bool, true, false, List, [], ◌∷◌, refl, sym, ap, ◌∙◌, subst, arith}
-use Rattle.std.proofs.lemmas.Bool.Decides.{nat_tests}
-use Rattle.std.specs.Prelude.{◌==◌, ◌&&◌}
-use Rattle.gb_base.specs.declared.end.End.{End}
 use Rattle.gb_base.specs.declared.end.End.TheVariants as end
 use Rattle.gb_base.specs.declared.end.Side.TheVariants as side
 use Rattle.gb_base.specs.declared.entry.Entry.{Entry}
-use Rattle.gb_invariants.proofs.Apart.{SameEnds, apart-attached, apart-changed, apart-detached}
+use Rattle.gb_invariants.proofs.Apart.{apart-attached, apart-changed, apart-detached}
 use Rattle.gb_invariants.proofs.ItemChanges.{asked_on-self}
 use Rattle.gb_invariants.proofs.Labels.{asked_on}
 use Rattle.gb_invariants.proofs.Lists.{each-from, each-in}
@@ -19,18 +16,18 @@ use Rattle.gb_laws.proofs.Linking.{InsertsAbsent, LinkedAt}
 use Rattle.gb_laws.proofs.LinkRuns.{LinkedTo, linked-over, linked-throughout, start-absent}
 use Rattle.gb_laws.proofs.Links.{ArePending, IsFree, IsKnown, leaving, linked, supervisory}
 use Rattle.gb_laws.proofs.Owning.{ends-of}
-use Rattle.gb_laws.proofs.Points.{Basis, Change, Law, Point, acts_asked, acts_failed, acts_left, acts_opened, acts_shut, acts_told, answers, asks, binds, changed, drops, forgets, frees, gives_up, holds, injects, names, others, passes, replies, resting, serves, spends, takes, takes_held, tells, turns, unwires, wires}
+use Rattle.gb_laws.proofs.Points.{Basis, Change, Law, Point, acts_asked, acts_failed, acts_left, acts_opened, acts_shut, acts_told, answers, asks, binds, changed, drops, forgets, frees, gives_up, holds, injects, names, others, passes, replies, serves, spends, takes, takes_held, tells, turns, unwires, wires}
 use Rattle.gb_laws.proofs.Runs.{throughout, weaker}
 use Rattle.gb_laws.proofs.Steps.{over-step}
 use Rattle.gb_machine.specs.Bus.{Bus, Connection, Raw, other_side, same_end}
 use Rattle.gb_machine.specs.Delivery.{without_front}
-use Rattle.gb_machine.specs.Host.{Host, Link, is_link}
+use Rattle.gb_machine.specs.Host.{Host}
 use Rattle.gb_machine.specs.Incoming.{reply_item}
 use Rattle.gb_machine.specs.LawsBus.{AreApart, EndpointsDiffer, HaveOwnEnds}
 use Rattle.gb_machine.specs.Members.{EachTwo, IsIn}
 use Rattle.gb_machine.specs.Runs.{HoldsThroughout, Moment}
 use Rattle.gb_machine.specs.Sending.{put, queued}
-use Rattle.gb_machine.specs.State.{State, first_state}
+use Rattle.gb_machine.specs.State.{State}
 use Rattle.gb_machine.specs.Turns.{Act, Asking, Making}
 use Rattle.gb_machine.specs.Wiring.{new_connection, next_connection}
 

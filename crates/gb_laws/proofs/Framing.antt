@@ -1,46 +1,40 @@
 -- What stays within a step at which the supervisory controller doesn't ask: the marks that wait, but
 -- for the one that is taken, what is plugged, and which interfaces are known.
-use Rattle.std.proofs.Common.{◌≡◌, ◌⊎◌, ◌≤◌, ◌≢◌, ℕ, Bool, true, false, cond, Option, Some, None, List, [], ◌∷◌, ◌++◌, refl, sym, ap, ◌∙◌, inl, inr, ⊎_elim, subst, arith}
+use Rattle.std.proofs.Common.{◌≡◌, ◌⊎◌, ◌≤◌, ◌≢◌, ℕ, Bool, true, false, cond, Option, Some, None, [], refl, sym, ap, ◌∙◌, inl, inr, ⊎_elim, subst, arith}
 use Rattle.std.proofs.lemmas.Bool.Decides.{nat_tests}
 use Rattle.std.specs.Prelude.{◌==◌, ◌+◌}
-use Rattle.std.specs.List.{find}
 use Rattle.gb_base.specs.declared.end.End.TheVariants as end
 use Rattle.gb_base.specs.declared.end.Side.{Side}
 use Rattle.gb_base.specs.declared.end.Side.TheVariants as side
 use Rattle.gb_base.specs.declared.event.Event.{Event}
 use Rattle.gb_base.specs.declared.event.Event.TheVariants as event
 use Rattle.gb_invariants.proofs.Awaiting.{sent-request}
-use Rattle.gb_invariants.proofs.ItemChanges.{asked_on-self}
 use Rattle.gb_invariants.proofs.Labels.{asked_on, asked_on-number}
 use Rattle.gb_invariants.proofs.Numbers.{found-number}
-use Rattle.gb_invariants.proofs.Outcomes.{same-number}
 use Rattle.gb_invariants.proofs.Selves.{drawn-queue, put-self}
 use Rattle.gb_laws.proofs.Awaited.{awaited-rest}
 use Rattle.gb_laws.proofs.LinkActs.{ServedHost, as_before, awaited-plugs, awaited-host, awaits-fits, host-served, unsent-due, unsent-making, with_more}
 use Rattle.gb_laws.proofs.LinkBuses.{Linked}
 use Rattle.gb_laws.proofs.LinkLists.{in-ordered}
 use Rattle.gb_laws.proofs.Linking.{InsertsAbsent, LinkedAt, noticed_host, turn-fits}
-use Rattle.gb_laws.proofs.Links.{ArePending, IsPresent, TurnFits}
+use Rattle.gb_laws.proofs.Links.{ArePending, IsPresent}
 use Rattle.gb_laws.proofs.Marks.{AreAsked, AreElsewhere, find-left, find-pushed, item_mark, marks, marks-first, marks-more, marks-unmarked, marks_of}
-use Rattle.gb_laws.proofs.Owning.{KeepsRequests}
 use Rattle.gb_laws.proofs.Points.{Basis, Change, IsAskedBy, IsAsking, IsLive, IsNoticed, IsOfSvc, Point, SamePlugs, acts_asked, acts_failed, acts_left, acts_opened, acts_shut, acts_told, answers, asking, asks, binds, by_host, by_module, by_svc, changed, drops, forgets, frees, gives_up, holds, injects, names, opening, others, passes, replies, serves, spends, takes, takes_held, tells, turns, unwires, wires}
-use Rattle.gb_machine.specs.Bus.{Ask, Bus, Connection, Item, Place, Raw, RawReply, Reply, Request, connection_of, has_number, other_side, place_of, queue, request_of}
-use Rattle.gb_machine.specs.Delivery.{popped, replied}
+use Rattle.gb_machine.specs.Bus.{Ask, Bus, Connection, Item, Place, Raw, Request, connection_of, has_number, other_side, place_of, queue, request_of}
+use Rattle.gb_machine.specs.Delivery.{popped}
 use Rattle.gb_machine.specs.Failures.{unsent}
 use Rattle.gb_machine.specs.Host.{Host, Interface, intf_before, new_interface}
 use Rattle.gb_machine.specs.HostActs.{with_awaited}
 use Rattle.gb_machine.specs.HostServing.{host_serves}
-use Rattle.gb_machine.specs.HostTurns.{host_turn}
 use Rattle.gb_machine.specs.Incoming.{Incoming, reply_item}
-use Rattle.gb_machine.specs.Lists.{at_first}
 use Rattle.gb_machine.specs.Members.{EachTwo, IsIn}
 use Rattle.gb_machine.specs.Modules.{is_plugged}
 use Rattle.gb_machine.specs.Runs.{Moment}
 use Rattle.gb_machine.specs.Sending.{Draft, drawn, put, queued, sent}
 use Rattle.gb_machine.specs.Serving.{Answer}
 use Rattle.gb_machine.specs.SvcQueues.{items_in, svc_items}
-use Rattle.gb_machine.specs.Turns.{Act, Asking, HostEvent}
-use Rattle.gb_machine.specs.Wiring.{attached, detached, new_connection, next_connection}
+use Rattle.gb_machine.specs.Turns.{HostEvent}
+use Rattle.gb_machine.specs.Wiring.{new_connection, next_connection}
 
 -- the bus once the item of an event is taken
 abbrev pub popped_at : Option Place → Bus → Bus

@@ -1,7 +1,6 @@
 -- The facts of the application processor's connections go over its acts, and over what it serves.
-use Rattle.std.proofs.Common.{◌≡◌, ◌≢◌, ℕ, Bool, true, false, cond, Option, Some, None, List, [], ◌∷◌, map, refl, sym, ap, ◌∙◌, inl, inr, subst}
+use Rattle.std.proofs.Common.{◌≡◌, ℕ, Bool, true, false, cond, Option, Some, None, List, [], ◌∷◌, map, refl, sym, ap, ◌∙◌, inl, inr, subst}
 use Rattle.std.specs.Prelude.{Result, Ok, Err, ◌==◌}
-use Rattle.std.specs.List.{find}
 use Rattle.gb_base.specs.declared.entry.Entry.{Entry}
 use Rattle.gb_formats.specs.GpioDevice.{irq_event}
 use Rattle.gb_formats.specs.GpioRecords.{GpioAsk, read_gpio_ask}
@@ -12,12 +11,12 @@ use Rattle.gb_formats.specs.UartRecords.{UartAsk, read_uart_ask}
 use Rattle.gb_invariants.proofs.Awaiting.{same-some}
 use Rattle.gb_invariants.proofs.Lists.{found-in}
 use Rattle.gb_laws.proofs.Awaited.{awaited-rest}
-use Rattle.gb_laws.proofs.LinkBuses.{Linked, linked-from, from-all}
+use Rattle.gb_laws.proofs.LinkBuses.{Linked}
 use Rattle.gb_laws.proofs.LinkLists.{link-is}
-use Rattle.gb_laws.proofs.LinkHosts.{Onto, onto-interface, onto-link, onto-same, Stay, host-interface, host-link, same-link, stay-changed, stay-same}
+use Rattle.gb_laws.proofs.LinkHosts.{Onto, onto-interface, onto-link, onto-same, Stay, host-interface, host-link, stay-changed}
 use Rattle.gb_laws.proofs.LinkSteps.{fits-failed, fits-interface_fails, fits-through}
 use Rattle.gb_invariants.proofs.Outcomes.{same-number}
-use Rattle.gb_laws.proofs.Links.{HasNoControl, is_early, ArePending, HostFits, IsAtStep, IsDeaf, IsDue, IsDueBy, IsFollowed, IsFree, IsIdle, IsKnown, IsLinkOf, IsMaking, IsWaiting, LinksFit, SameLink, TurnFits, connection, control, leaves, leaving, linked, stays, supervisory}
+use Rattle.gb_laws.proofs.Links.{HasNoControl, is_early, HostFits, IsAtStep, IsDue, IsDueBy, IsFollowed, IsKnown, IsMaking, SameLink, TurnFits, connection, control, leaves, leaving, linked, stays, supervisory}
 use Rattle.gb_laws.proofs.Points.{IsAsking, SamePlugs, asking, opening}
 use Rattle.gb_machine.specs.Bus.{Bus, Connection}
 use Rattle.gb_machine.specs.Failures.{interface_fails, step_fails, unsent, unsent_fails}

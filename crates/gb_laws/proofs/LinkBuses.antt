@@ -1,23 +1,21 @@
 -- The facts of the application processor's connections go over what becomes of the bus.
-use Rattle.std.proofs.Common.{◌≡◌, ◌⊎◌, ◌≤◌, ◌≢◌, ℕ, ◌+◌, Bool, true, false, Option, Some, None, List, [], ◌∷◌, ◌++◌, refl, sym, ap, ◌∙◌, inl, inr, ⊎_elim, subst, arith}
-use Rattle.std.proofs.lemmas.Bool.Decides.{nat_tests}
-use Rattle.std.specs.Prelude.{◌==◌, not}
+use Rattle.std.proofs.Common.{◌≡◌, ◌≤◌, ℕ, ◌+◌, Bool, true, false, Some, None, List, [], ◌∷◌, ◌++◌, refl, sym, ap, ◌∙◌, inl, inr, ⊎_elim, subst, arith}
+use Rattle.std.specs.Prelude.{◌==◌}
 use Rattle.std.specs.List.{find}
 use Rattle.gb_base.specs.declared.end.End.TheVariants as end
 use Rattle.gb_base.specs.declared.entry.ConnState.TheVariants as state
 use Rattle.gb_formats.specs.UartDevice.{most_credits}
-use Rattle.gb_invariants.proofs.Awaiting.{not-both, same-some}
+use Rattle.gb_invariants.proofs.Awaiting.{not-both}
 use Rattle.gb_invariants.proofs.Lists.{each-from, found-in, in-at_first, in-front, in-pushed, in-without, two-pushed}
-use Rattle.gb_invariants.proofs.Outcomes.{both-true, is-same, same-number}
+use Rattle.gb_invariants.proofs.Outcomes.{is-same, same-number}
 use Rattle.gb_invariants.proofs.Selves.{SameSelf}
 use Rattle.gb_laws.proofs.LinkLists.{is-link, link-is}
-use Rattle.gb_laws.proofs.LinkHosts.{same-link}
-use Rattle.gb_laws.proofs.Links.{ArePending, HostFits, IsAtStep, IsDeaf, IsDue, IsFollowed, IsFree, IsIdle, IsKnown, IsLinkBefore, IsLinkOf, IsMaking, IsNumbered, IsPending, IsPresent, IsSvc, IsWaiting, LinksFit, SameLink, connection, control, leaves, leaving, linked, stays, supervisory}
+use Rattle.gb_laws.proofs.Links.{ArePending, HostFits, IsDue, IsFree, IsKnown, IsLinkBefore, IsMaking, IsNumbered, IsPresent, IsSvc, IsWaiting, LinksFit, connection, control, leaving, linked, supervisory}
 use Rattle.gb_machine.specs.Bus.{Bus, Connection, has_number}
 use Rattle.gb_machine.specs.Host.{Host, Interface, Link, is_link, with_new_link}
-use Rattle.gb_machine.specs.Lists.{at_first, without}
-use Rattle.gb_machine.specs.Members.{EachTwo, IsIn}
-use Rattle.gb_machine.specs.SequenceSteps.{Purpose, SequenceStep}
+use Rattle.gb_machine.specs.Lists.{at_first}
+use Rattle.gb_machine.specs.Members.{IsIn}
+use Rattle.gb_machine.specs.SequenceSteps.{SequenceStep}
 use Rattle.gb_machine.specs.Turns.{Act, Asking, Making}
 use Rattle.gb_machine.specs.Wiring.{attached, detached, new_connection, next_connection}
 

@@ -1,36 +1,26 @@
 -- The facts of the application processor's connections go over a disconnect.
-use Rattle.std.proofs.Common.{◌≡◌, ◌⊎◌, ◌≢◌, ℕ, Bool, true, false, cond, Option, Some, None, List, [], ◌∷◌, ◌++◌, refl, sym, ap, ◌∙◌, inl, inr, ⊎_elim, subst}
-use Rattle.std.specs.Prelude.{◌==◌, is_none, is_some, option_and_then, option_map}
-use Rattle.std.specs.List.{filter, find}
+use Rattle.std.proofs.Common.{◌≡◌, ◌≢◌, ℕ, Bool, true, false, cond, Option, Some, None, List, [], ◌∷◌, refl, sym, ap, ◌∙◌, inr, subst}
+use Rattle.std.specs.Prelude.{◌==◌, option_map}
+use Rattle.std.specs.List.{find}
 use Rattle.gb_base.specs.declared.entry.ConnState.{ConnState}
 use Rattle.gb_base.specs.declared.entry.ConnState.TheVariants as state
-use Rattle.gb_base.specs.declared.entry.Entry.TheVariants as entry
-use Rattle.gb_base.specs.declared.entry.IntfStage.TheVariants as stage
-use Rattle.gb_base.specs.declared.outcome.Outcome.{Outcome}
-use Rattle.gb_base.specs.declared.refusal.Refusal.{Refusal}
 use Rattle.gb_base.specs.declared.refusal.Refusal.TheVariants as why
-use Rattle.gb_formats.specs.Manifest.{CportView}
 use Rattle.gb_invariants.proofs.Awaiting.{not-both, same-some}
-use Rattle.gb_invariants.proofs.Lists.{filter-in, found-in, in-behind, in-filter, in-front, in-without}
-use Rattle.gb_invariants.proofs.Outcomes.{is-same, same-number}
-use Rattle.gb_laws.proofs.Controls.{control-none}
-use Rattle.gb_laws.proofs.LinkLists.{changed-in, find-changed, find-none, found-at, in-ordered, is-link, link-is, one-link}
+use Rattle.gb_invariants.proofs.Lists.{found-in}
+use Rattle.gb_laws.proofs.LinkLists.{changed-in, find-changed, link-is, one-link}
 use Rattle.gb_laws.proofs.LinkHosts.{kept-same, host-link, state-link, stay-changed, then-same}
 use Rattle.gb_laws.proofs.LinkSteps.{fits-asked, followed-same, waits-not}
-use Rattle.gb_laws.proofs.Links.{AreEnumerating, ArePending, HostFits, IsAtStep, IsDeaf, IsDue, IsDueBy, IsEnumerating, IsFollowed, IsIdle, IsWaiting, LinksFit, SameLink, TurnFits, connection, leaves, stays}
+use Rattle.gb_laws.proofs.Links.{HostFits, IsAtStep, IsDeaf, IsFollowed, IsIdle, IsWaiting, LinksFit, SameLink, TurnFits, leaves, stays}
 use Rattle.gb_laws.proofs.Stepping.{else-later}
-use Rattle.gb_machine.specs.Arriving.{state_takes}
-use Rattle.gb_machine.specs.Bus.{Bus, or_else}
-use Rattle.gb_machine.specs.Failures.{link_fails, link_told, step_fails}
-use Rattle.gb_machine.specs.Host.{Host, Interface, Link, cport_of, free_cport, in_state, interface_of, intf_before, is_intf, is_link, link_at, new_interface, with_link, with_new_interface}
-use Rattle.gb_machine.specs.HostRefusals.{absent_refusal, connect_refusal, cport_refusal, disconnect_refusal, interface_refusal, link_refusal, state_refusal}
-use Rattle.gb_machine.specs.HostTurns.{connects, connects_on, disconnects, ended_for, host_connects, host_disconnects, host_ended, host_inserted, host_removed, links_left, links_of, without_interface}
-use Rattle.gb_machine.specs.Lists.{at_first, first_met, in_order, without}
+use Rattle.gb_machine.specs.Bus.{Bus}
+use Rattle.gb_machine.specs.Failures.{link_told}
+use Rattle.gb_machine.specs.Host.{Host, Link, in_state, interface_of, is_link, link_at, with_link}
+use Rattle.gb_machine.specs.HostRefusals.{absent_refusal, disconnect_refusal, link_refusal, state_refusal}
+use Rattle.gb_machine.specs.HostTurns.{disconnects, host_disconnects}
 use Rattle.gb_machine.specs.Members.{IsIn}
-use Rattle.gb_machine.specs.SequenceSteps.{Purpose, SequenceStep, is_enumeration, purpose}
-use Rattle.gb_machine.specs.Sequences.{asked_on, payload_in, step_asked, way_of}
-use Rattle.gb_machine.specs.Turns.{Act, Turn, telling}
-use Rattle.gb_machine.specs.Waits.{awaited, awaits_nothing, interface_waits, link_waits, purpose_in}
+use Rattle.gb_machine.specs.SequenceSteps.{Purpose, SequenceStep, purpose}
+use Rattle.gb_machine.specs.Sequences.{asked_on, step_asked, way_of}
+use Rattle.gb_machine.specs.Turns.{Act}
 
 -- ---- disconnect
 

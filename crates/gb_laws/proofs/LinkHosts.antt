@@ -1,5 +1,5 @@
 -- The facts of the application processor's connections where one of them changes, or an interface.
-use Rattle.std.proofs.Common.{◌≡◌, ◌≢◌, ◌≤◌, ℕ, Bool, true, false, Option, Some, None, List, [], ◌∷◌, refl, sym, ap, ◌∙◌, inl, inr, ⊎_elim, subst, arith}
+use Rattle.std.proofs.Common.{◌≡◌, ℕ, Bool, true, false, Some, List, refl, sym, ap, ◌∙◌, ⊎_elim, subst, arith}
 use Rattle.std.specs.Prelude.{◌==◌, ◌&&◌, not}
 use Rattle.std.specs.List.{find}
 use Rattle.gb_base.specs.declared.entry.ConnState.{ConnState}
@@ -10,7 +10,7 @@ use Rattle.gb_laws.proofs.Places.{at_first-back}
 use Rattle.gb_machine.specs.Bus.{Bus}
 use Rattle.gb_machine.specs.Host.{Host, Interface, Link, in_state, is_intf, is_link, with_interface, with_link}
 use Rattle.gb_machine.specs.Lists.{at_first, without}
-use Rattle.gb_machine.specs.Members.{EachTwo, IsIn}
+use Rattle.gb_machine.specs.Members.{IsIn}
 use Rattle.gb_machine.specs.SequenceSteps.{Purpose, SequenceStep, at_step}
 
 pub same-link : (l : Link) → SameLink l l

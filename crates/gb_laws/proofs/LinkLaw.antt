@@ -1,18 +1,14 @@
 -- The facts of the application processor's connections as a law of points, and that they hold first.
 use Rattle.std.proofs.Common.{◌≡◌, ◌∷◌, List, [], refl, sym, ap, ◌∙◌, subst, arith}
-use Rattle.gb_base.specs.declared.entry.Entry.{Entry}
-use Rattle.gb_laws.proofs.Basics.{Based, basis-first, basis-kept, rested}
+use Rattle.gb_laws.proofs.Basics.{basis-kept}
 use Rattle.gb_laws.proofs.LinkBuses.{Linked}
 use Rattle.gb_laws.proofs.Linking.{InsertsAbsent, LinkedAt, linked-kept}
 use Rattle.gb_laws.proofs.Links.{supervisory}
 use Rattle.gb_laws.proofs.Points.{Basis, Law}
-use Rattle.gb_laws.proofs.Runs.{throughout}
-use Rattle.gb_laws.proofs.Steps.{over-step}
 use Rattle.gb_machine.specs.Bus.{Connection, first_bus, svc_connection}
 use Rattle.gb_machine.specs.Host.{first_host}
 use Rattle.gb_machine.specs.Members.{IsIn}
-use Rattle.gb_machine.specs.Runs.{HoldsThroughout, Moment}
-use Rattle.gb_machine.specs.State.{State, first_state}
+use Rattle.gb_machine.specs.Runs.{Moment}
 
 -- the facts of connections as a law of points
 abbrev pub link_law : (m : Moment) → InsertsAbsent m → Law m

@@ -1,7 +1,6 @@
 -- The application processor's connections go with the bus, and insertions and removals come in turn,
 -- throughout.
-use Rattle.std.proofs.Common.{◌≡◌, Bool, true, false, cond, Option, Some, None, List, [], ◌∷◌, refl, sym, ap, ◌∙◌, inl, subst}
-use Rattle.std.specs.Prelude.{is_none}
+use Rattle.std.proofs.Common.{◌≡◌, Bool, true, false, cond, Option, Some, None, List, [], refl, sym, ap, ◌∙◌, inl, subst}
 use Rattle.gb_base.specs.declared.end.End.{End}
 use Rattle.gb_base.specs.declared.entry.Entry.{Entry}
 use Rattle.gb_base.specs.declared.event.Event.{Event}
@@ -30,7 +29,7 @@ use Rattle.gb_machine.specs.Events.{decided, step}
 use Rattle.gb_machine.specs.Labels.{no_label}
 use Rattle.gb_machine.specs.Lists.{first_met}
 use Rattle.gb_machine.specs.Modules.{is_plugged}
-use Rattle.gb_machine.specs.Plugging.{boots, plugs, pulls}
+use Rattle.gb_machine.specs.Plugging.{plugs}
 use Rattle.gb_machine.specs.Refusals.{insert_refusal, plug_refusal, refusal, svc_has_no_label}
 use Rattle.gb_machine.specs.Runs.{HoldsThroughout, IsMoment, Moment, after}
 use Rattle.gb_machine.specs.State.{State, first_state}

@@ -1,27 +1,26 @@
 -- The facts of the application processor's connections go over the steps of its sequences.
-use Rattle.std.proofs.Common.{◌≡◌, ◌≢◌, ℕ, Bool, true, false, cond, Option, Some, None, List, [], ◌∷◌, ◌++◌, length, map, refl, sym, ap, ◌∙◌, inl, inr, ⊎_elim, subst, arith}
-use Rattle.std.specs.Prelude.{Result, Ok, Err, ◌==◌, ◌&&◌, not, ◌≤◌}
+use Rattle.std.proofs.Common.{◌≡◌, ◌≢◌, ℕ, Bool, true, false, cond, Option, Some, None, List, [], ◌∷◌, length, map, refl, sym, ap, ◌∙◌, inl, inr, subst, arith}
+use Rattle.std.specs.Prelude.{Result, Ok, Err, ◌==◌, ◌≤◌}
 use Rattle.gb_invariants.proofs.Outcomes.{is-same}
-use Rattle.std.specs.List.{filter, find, list_any}
+use Rattle.std.specs.List.{find, list_any}
 use Rattle.gb_base.specs.declared.entry.ConnState.{ConnState}
 use Rattle.gb_base.specs.declared.entry.ConnState.TheVariants as state
 use Rattle.gb_base.specs.declared.entry.Entry.{Entry}
 use Rattle.gb_formats.specs.Manifest.{Manifest, check_answer}
 use Rattle.gb_formats.specs.ManifestRules.{Refused}
 use Rattle.gb_invariants.proofs.Awaiting.{not-both, same-some}
-use Rattle.gb_invariants.proofs.Lists.{each-append, filter-in, found-in, in-without, two-at_first, two-filter}
+use Rattle.gb_invariants.proofs.Lists.{found-in, in-without}
 use Rattle.gb_formats.specs.ControlRecords.{read_control_reply}
 use Rattle.gb_base.specs.declared.entry.IntfStage.TheVariants as stage
-use Rattle.gb_laws.proofs.LinkHosts.{Onto, kept-same, onto-interface, onto-link, onto-then, Stay, host-interface, host-link, links-without, next-interface, next-to, none-without, same-link, state-link, stay-changed, stay-same, then-same, without-in}
-use Rattle.gb_laws.proofs.LinkLists.{find-none, first_free-is, found-at, in-first, link-is, none-any}
-use Rattle.gb_laws.proofs.Links.{IsDueBy, IsNext, is_early, ArePending, HostFits, IsAtStep, IsDeaf, IsDue, IsFollowed, IsFree, IsIdle, IsLinkBefore, IsMaking, IsWaiting, LinksFit, SameLink, TurnFits, control, leaves, stays}
-use Rattle.gb_laws.proofs.Places.{at_first-back}
+use Rattle.gb_laws.proofs.LinkHosts.{Onto, kept-same, onto-interface, onto-link, onto-then, host-interface, host-link, links-without, next-interface, next-to, none-without, same-link, state-link, then-same, without-in}
+use Rattle.gb_laws.proofs.LinkLists.{find-none, first_free-is, found-at, link-is, none-any}
+use Rattle.gb_laws.proofs.Links.{IsDueBy, IsNext, ArePending, HostFits, IsAtStep, IsDue, IsFollowed, IsIdle, IsWaiting, SameLink, TurnFits, control, leaves, stays}
 use Rattle.gb_machine.specs.Arriving.{state_takes}
-use Rattle.gb_machine.specs.Bus.{Bus, Connection}
+use Rattle.gb_machine.specs.Bus.{Bus}
 use Rattle.gb_machine.specs.Failures.{interface_fails, link_fails, link_told, step_fails}
-use Rattle.gb_machine.specs.Host.{Host, Interface, Link, free_cport, free_device, in_state, interface_of, is_intf, is_link, link_at, staged, with_interface, with_link, without_link}
-use Rattle.gb_machine.specs.Lists.{at_first, without}
-use Rattle.gb_machine.specs.Members.{EachTwo, IsIn}
+use Rattle.gb_machine.specs.Host.{Host, Interface, Link, free_cport, free_device, in_state, interface_of, is_link, link_at, staged, with_interface, with_link, without_link}
+use Rattle.gb_machine.specs.Lists.{without}
+use Rattle.gb_machine.specs.Members.{IsIn}
 use Rattle.gb_machine.specs.SequenceSteps.{Purpose, SequenceStep, at_step, is_enumeration, is_reply}
 use Rattle.gb_machine.specs.Sequences.{asked_on, begins_control, begins_device, enumerated, goes_on, size_in, link_left, link_turn, manifest_checked, manifest_told, opened, opened_told, size_known, step_answered, step_asked, step_done, way_of}
 use Rattle.gb_machine.specs.Turns.{Act, Turn, failed_turn, telling}

@@ -1,9 +1,8 @@
 -- The facts of the application processor's connections go over each of its turns.
-use Rattle.std.proofs.Common.{◌≡◌, ◌⊎◌, ◌≤◌, ◌≢◌, ℕ, Bool, true, false, cond, Option, Some, None, List, [], ◌∷◌, ◌++◌, refl, sym, ap, ◌∙◌, inl, inr, ⊎_elim, subst}
+use Rattle.std.proofs.Common.{◌≡◌, ◌≤◌, ◌≢◌, ℕ, Bool, true, false, cond, Option, Some, None, List, [], ◌∷◌, ◌++◌, refl, sym, ap, ◌∙◌, inl, inr, ⊎_elim, subst}
 use Rattle.std.specs.Prelude.{◌==◌, not, is_none, is_some, option_and_then, option_map}
-use Rattle.std.specs.List.{filter, find}
+use Rattle.std.specs.List.{find}
 use Rattle.gb_base.specs.declared.entry.ConnState.{ConnState}
-use Rattle.gb_base.specs.declared.entry.ConnState.TheVariants as state
 use Rattle.gb_base.specs.declared.entry.Entry.TheVariants as entry
 use Rattle.gb_base.specs.declared.entry.IntfStage.TheVariants as stage
 use Rattle.gb_base.specs.declared.outcome.Outcome.{Outcome}
@@ -14,22 +13,20 @@ use Rattle.gb_invariants.proofs.Awaiting.{not-both, same-some}
 use Rattle.gb_invariants.proofs.Lists.{filter-in, found-in, in-filter, in-front, in-without, two-filter}
 use Rattle.gb_invariants.proofs.Outcomes.{is-same, same-number}
 use Rattle.gb_laws.proofs.Controls.{control-none}
-use Rattle.gb_laws.proofs.LinkLists.{find-changed, find-none, found-at, in-only, in-ordered, is-link, link-is, one-link, ordered-differ, ordered-in, ordered-stays}
-use Rattle.gb_laws.proofs.LinkHosts.{Onto, kept-same, onto-interface, onto-link, present-changed, host-interface, host-link, links-without, none-without, same-link, stay-changed, stay-same, without-in}
+use Rattle.gb_laws.proofs.LinkLists.{find-changed, find-none, found-at, in-only, in-ordered, link-is, one-link, ordered-differ, ordered-in, ordered-stays}
+use Rattle.gb_laws.proofs.LinkHosts.{Onto, kept-same, onto-interface, onto-link, present-changed, host-interface, host-link, links-without, none-without, same-link, without-in}
 use Rattle.gb_laws.proofs.LinkSteps.{fits-answered, fits-asked, fits-telling, fits-through, followed-same, free_cport-is, waits-not}
-use Rattle.gb_laws.proofs.Links.{AreEnumerating, AreOther, ArePending, HasNoControl, HostFits, IsAtStep, IsDue, IsDueBy, IsEnumerating, IsFollowed, IsPresent, IsResting, SameLink, TurnFits, connection, is_early, leaves, stays}
+use Rattle.gb_laws.proofs.Links.{AreOther, ArePending, HasNoControl, HostFits, IsAtStep, IsDue, IsDueBy, IsEnumerating, IsFollowed, IsPresent, SameLink, TurnFits, connection, is_early, leaves, stays}
 use Rattle.gb_laws.proofs.Stepping.{else-later}
-use Rattle.gb_machine.specs.Arriving.{state_takes}
 use Rattle.gb_machine.specs.Bus.{Bus, or_else}
-use Rattle.gb_machine.specs.Failures.{link_fails, link_told, step_fails}
-use Rattle.gb_machine.specs.Host.{with_interface, Host, Interface, Link, cport_of, free_cport, in_state, interface_of, intf_before, is_intf, is_link, link_at, new_interface, with_link, with_new_interface}
-use Rattle.gb_machine.specs.HostRefusals.{absent_refusal, connect_refusal, cport_refusal, disconnect_refusal, interface_refusal, link_refusal, state_refusal}
-use Rattle.gb_machine.specs.HostTurns.{connects, connects_on, disconnects, ended_for, host_connects, host_disconnects, host_ended, host_inserted, host_removed, links_left, links_of, without_interface}
-use Rattle.gb_machine.specs.Lists.{at_first, first_met, in_order, without}
+use Rattle.gb_machine.specs.Host.{with_interface, Host, Interface, Link, cport_of, free_cport, interface_of, intf_before, is_intf, is_link, link_at, new_interface, with_link, with_new_interface}
+use Rattle.gb_machine.specs.HostRefusals.{connect_refusal, cport_refusal, interface_refusal}
+use Rattle.gb_machine.specs.HostTurns.{connects, connects_on, ended_for, host_connects, host_ended, host_inserted, host_removed, links_left, links_of, without_interface}
+use Rattle.gb_machine.specs.Lists.{at_first, first_met, without}
 use Rattle.gb_machine.specs.Members.{IsIn}
 use Rattle.gb_machine.specs.SequenceSteps.{Purpose, SequenceStep, is_enumeration, purpose}
-use Rattle.gb_machine.specs.Sequences.{asked_on, payload_in, step_asked, way_of}
-use Rattle.gb_machine.specs.Turns.{Act, Turn, telling}
+use Rattle.gb_machine.specs.Sequences.{payload_in, step_asked}
+use Rattle.gb_machine.specs.Turns.{Act}
 use Rattle.gb_machine.specs.Waits.{awaited, awaits_nothing, interface_waits, link_waits, purpose_in}
 
 -- ---- a request ended

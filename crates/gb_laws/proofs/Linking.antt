@@ -1,23 +1,19 @@
 -- The facts of the application processor's connections are kept by each single change.
-use Rattle.std.proofs.Common.{◌≡◌, ◌≤◌, ◌≢◌, ℕ, Bool, true, false, Option, Some, None, List, [], ◌∷◌, ◌++◌, refl, sym, ap, ◌∙◌, inl, ⊎_elim, subst, arith}
-use Rattle.std.specs.Prelude.{◌==◌, ◌-◌}
-use Rattle.gb_base.specs.declared.bridge.BridgeAsk.{BridgeAsk}
+use Rattle.std.proofs.Common.{◌≡◌, ℕ, true, false, None, List, [], refl, sym, ap, ◌∙◌, subst}
+use Rattle.std.specs.Prelude.{◌-◌}
 use Rattle.gb_base.specs.declared.end.End.TheVariants as end
 use Rattle.gb_base.specs.declared.end.Side.TheVariants as side
-use Rattle.gb_invariants.proofs.Awaiting.{not-both}
 use Rattle.gb_invariants.proofs.ItemChanges.{asked_on-self}
 use Rattle.gb_invariants.proofs.Lists.{each-in}
 use Rattle.gb_invariants.proofs.Selves.{front-self, put-self}
 use Rattle.gb_invariants.specs.Facts.{IsMade}
-use Rattle.gb_laws.proofs.Basics.{basis-kept}
 use Rattle.gb_laws.proofs.LinkBuses.{Linked, from-all, from-first, from-self, linked-from, linked-left, linked-opened, linked-rest, linked-shut}
 use Rattle.gb_laws.proofs.LinkActs.{linked-asked, linked-link, linked-served, linked-unsent}
 use Rattle.gb_laws.proofs.LinkClosing.{fits-disconnects}
-use Rattle.gb_laws.proofs.LinkLists.{find-changed}
 use Rattle.gb_laws.proofs.LinkTurns.{else-first, fits-connects, fits-ended, fits-inserted, fits-removed}
-use Rattle.gb_laws.proofs.Links.{ArePending, HostFits, IsDue, IsFollowed, IsKnown, IsLinkOf, IsSvc, LinksFit, TurnFits, leaves, leaving, linked, stays, supervisory}
+use Rattle.gb_laws.proofs.Links.{HostFits, IsFollowed, IsKnown, TurnFits, leaves, leaving, linked, stays, supervisory}
 use Rattle.gb_laws.proofs.Places.{module-far, place-is}
-use Rattle.gb_laws.proofs.Points.{Basis, Change, IsCaused, IsNoticed, Law, Point, acts_asked, acts_failed, acts_left, acts_opened, acts_shut, acts_told, answers, asks, asking, binds, changed, drops, forgets, frees, gives_up, holds, injects, names, opening, others, passes, replies, serves, spends, takes, takes_held, tells, turns, unwires, wires}
+use Rattle.gb_laws.proofs.Points.{Basis, Change, IsCaused, IsNoticed, Point, acts_asked, acts_failed, acts_left, acts_opened, acts_shut, acts_told, answers, asks, binds, changed, drops, forgets, frees, gives_up, holds, injects, names, others, passes, replies, serves, spends, takes, takes_held, tells, turns, unwires, wires}
 use Rattle.gb_base.specs.declared.end.Side.{Side}
 use Rattle.gb_invariants.proofs.Labels.{asked_on}
 use Rattle.gb_machine.specs.Bus.{Bus, Connection, Raw, end_of, other_side}

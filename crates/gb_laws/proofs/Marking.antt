@@ -1,13 +1,11 @@
 -- Insertions and removals come in turn: what a moment at which the supervisory controller doesn't
 -- ask makes of the marks.
-use Rattle.std.proofs.Common.{◌≡◌, ◌⊎◌, ℕ, Bool, true, false, cond, Option, Some, None, List, [], ◌∷◌, ◌++◌, refl, sym, ap, ◌∙◌, inl, inr, ⊎_elim, subst}
+use Rattle.std.proofs.Common.{◌≡◌, ℕ, Bool, true, false, Option, Some, None, List, [], ◌∷◌, ◌++◌, refl, sym, ap, ◌∙◌, inl, ⊎_elim, subst}
 use Rattle.std.specs.Prelude.{◌==◌, is_some}
-use Rattle.std.specs.List.{find}
 use Rattle.gb_base.specs.declared.end.End.{End}
-use Rattle.gb_base.specs.declared.event.Event.{Event}
 use Rattle.gb_base.specs.declared.event.Event.TheVariants as event
 use Rattle.gb_base.specs.declared.refusal.Refusal.{Refusal}
-use Rattle.gb_invariants.proofs.Awaiting.{not-both, same-some}
+use Rattle.gb_invariants.proofs.Awaiting.{not-both}
 use Rattle.gb_invariants.proofs.Lists.{found-in}
 use Rattle.gb_invariants.proofs.Outcomes.{is-same, same-number}
 use Rattle.gb_laws.proofs.Basics.{basis-kept}
@@ -19,17 +17,16 @@ use Rattle.gb_laws.proofs.LinkLists.{find-none}
 use Rattle.gb_laws.proofs.Linking.{InsertsAbsent, LinkedAt, linked-kept}
 use Rattle.gb_laws.proofs.Links.{IsPresent}
 use Rattle.gb_laws.proofs.Marks.{MarksFit, Reads, marks, reads-less}
-use Rattle.gb_laws.proofs.Points.{Basis, Change, IsNoticed, IsOfSvc, Law, Point, resting, takes}
+use Rattle.gb_laws.proofs.Points.{Basis, IsNoticed, IsOfSvc, Law, Point, resting, takes}
 use Rattle.gb_laws.proofs.Removing.{delivered-state}
 use Rattle.gb_laws.proofs.Steps.{over-step}
 use Rattle.gb_laws.proofs.Stepping.{else-later}
 use Rattle.gb_laws.proofs.Taking.{Taken, delivery-taken, insertion, none_taken, removal}
 use Rattle.gb_machine.specs.Bus.{Item, Place, place_of, queue}
 use Rattle.gb_machine.specs.Delivery.{popped}
-use Rattle.gb_machine.specs.Events.{decided, step}
+use Rattle.gb_machine.specs.Events.{decided}
 use Rattle.gb_machine.specs.Host.{Host, Interface, interface_of, is_intf}
 use Rattle.gb_machine.specs.Lists.{first}
-use Rattle.gb_machine.specs.Members.{IsIn}
 use Rattle.gb_machine.specs.Modules.{is_plugged}
 use Rattle.gb_machine.specs.Refusals.{deliver_refusal, empty_refusal, end_refusal, refusal}
 use Rattle.gb_machine.specs.Runs.{IsMoment, Moment, after}

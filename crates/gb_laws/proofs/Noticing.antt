@@ -1,10 +1,7 @@
 -- What the application processor takes notice of comes on the supervisory controller's connection.
-use Rattle.std.proofs.Common.{◌≡◌, ℕ, Bool, true, false, cond, Option, Some, None, List, [], ◌∷◌, refl, sym, ap, ◌∙◌, subst}
+use Rattle.std.proofs.Common.{◌≡◌, ℕ, Bool, true, false, cond, Option, Some, None, List, [], refl, sym, ap, ◌∙◌, subst}
 use Rattle.std.specs.Prelude.{Result, Ok, Err, ◌==◌, option_map}
-use Rattle.std.specs.List.{list_any}
-use Rattle.gb_base.specs.declared.end.End.{End}
 use Rattle.gb_base.specs.declared.end.End.TheVariants as end
-use Rattle.gb_base.specs.declared.end.Side.{Side}
 use Rattle.gb_base.specs.declared.end.Side.TheVariants as side
 use Rattle.gb_base.specs.declared.event.Event.TheVariants as event
 use Rattle.gb_formats.specs.GpioDevice.{irq_event}
@@ -23,13 +20,13 @@ use Rattle.gb_laws.proofs.LinkLists.{find-none}
 use Rattle.gb_laws.proofs.Links.{IsKnown, leaving, linked, supervisory}
 use Rattle.gb_laws.proofs.Places.{place-is}
 use Rattle.gb_laws.proofs.Points.{Basis, IsNoticed, resting}
-use Rattle.gb_machine.specs.Bus.{Ask, Bus, Connection, Item, Raw, RawReply, Reply, Request, connection_of, end_of, has_number, queue, request_of}
+use Rattle.gb_machine.specs.Bus.{Ask, Bus, Connection, Item, Raw, RawReply, Reply, Request, connection_of, end_of, queue, request_of}
 use Rattle.gb_machine.specs.Host.{Host, Link, link_of}
-use Rattle.gb_machine.specs.HostServing.{HostServed, credited, host_refuses, host_serves, interrupted, notified_by, served_on, serves_gpio, serves_svc, serves_uart, uart_notified_by}
+use Rattle.gb_machine.specs.HostServing.{HostServed, credited, host_refuses, interrupted, notified_by, served_on, serves_gpio, serves_svc, serves_uart, uart_notified_by}
 use Rattle.gb_machine.specs.Incoming.{Incoming, incoming, request_in}
 use Rattle.gb_machine.specs.Lists.{first}
 use Rattle.gb_machine.specs.Runs.{Moment}
-use Rattle.gb_machine.specs.SvcQueues.{HandlesAtAp, inserts, is_insertion, is_removal, items_in, removes, svc_items}
+use Rattle.gb_machine.specs.SvcQueues.{inserts, items_in, removes, svc_items}
 use Rattle.gb_machine.specs.SvcTable.{is_svc_own}
 use Rattle.gb_machine.specs.Turns.{HostEvent}
 

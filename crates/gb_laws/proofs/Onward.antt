@@ -1,28 +1,24 @@
 -- What stays from one point of a step to the next: requests, the time, and what was unwired.
-use Rattle.std.proofs.Common.{◌≡◌, ◌≤◌, ◌≢◌, ℕ, Bool, true, false, cond, Option, Some, None, List, [], ◌∷◌, ◌++◌, refl, sym, ap, ◌∙◌, inl, ⊎_elim, subst, arith}
-use Rattle.std.specs.Prelude.{not}
+use Rattle.std.proofs.Common.{◌≡◌, ◌≤◌, ◌≢◌, ℕ, Bool, true, false, cond, [], ◌∷◌, refl, sym, ap, ◌∙◌, ⊎_elim, subst, arith}
 use Rattle.gb_base.specs.declared.end.Side.{Side}
 use Rattle.gb_base.specs.declared.end.Side.TheVariants as side
 use Rattle.gb_invariants.proofs.Awaiting.{not-both, sent-request}
 use Rattle.gb_invariants.proofs.Labels.{asked_on, asked_on-number}
-use Rattle.gb_invariants.proofs.Lists.{filter-in, in-at_first, in-front, in-pushed, in-without}
+use Rattle.gb_invariants.proofs.Lists.{in-at_first, in-front, in-pushed, in-without}
 use Rattle.gb_invariants.proofs.Selves.{front-self, put-self}
 use Rattle.gb_laws.proofs.Awaited.{awaited-rest}
 use Rattle.gb_laws.proofs.Owning.{KeepsRequests}
 use Rattle.gb_laws.proofs.Places.{at_first-back}
-use Rattle.gb_laws.proofs.Points.{Change, Point, Untouched, Unwired, Wired, Wires, acts_asked, acts_failed, acts_left, acts_opened, acts_shut, acts_told, answers, asks, binds, changed, drops, forgets, frees, gives_up, holds, injects, names, others, passes, replies, serves, spends, takes, takes_held, tells, turns, unwires, wires}
+use Rattle.gb_laws.proofs.Points.{Change, Point, Untouched, Unwired, Wired, acts_asked, acts_failed, acts_left, acts_opened, acts_shut, acts_told, answers, asks, binds, changed, drops, forgets, frees, gives_up, holds, injects, names, others, passes, replies, serves, spends, takes, takes_held, tells, turns, unwires, wires}
 use Rattle.gb_machine.specs.Bus.{Bus, Connection, Item, Raw, has_number, other_side}
-use Rattle.gb_machine.specs.Delivery.{answered, ended, forgotten, popped, replied, without_front}
-use Rattle.gb_machine.specs.HostActs.{with_awaited}
+use Rattle.gb_machine.specs.Delivery.{without_front}
 use Rattle.gb_machine.specs.Incoming.{reply_item}
 use Rattle.gb_machine.specs.Labels.{with_last_label}
 use Rattle.gb_machine.specs.Lists.{at_first}
 use Rattle.gb_machine.specs.Members.{IsIn}
-use Rattle.gb_machine.specs.Requests.{gave_up}
 use Rattle.gb_machine.specs.Runs.{Moment}
-use Rattle.gb_machine.specs.Sending.{Draft, drawn, put, queued, sent}
-use Rattle.gb_machine.specs.Wires.{with_unwired}
-use Rattle.gb_machine.specs.Wiring.{attached, injected, new_connection, next_connection, shut_down, unwired}
+use Rattle.gb_machine.specs.Sending.{Draft, drawn, put, queued}
+use Rattle.gb_machine.specs.Wiring.{unwired}
 
 -- a connection that isn't wired stays so
 abbrev pub StaysUnwired : Bus → Bus → Type 0

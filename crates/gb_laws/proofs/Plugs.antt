@@ -1,31 +1,26 @@
 -- Insertions and removals come in turn where the supervisory controller starts, and where modules are
 -- plugged and pulled.
-use Rattle.std.proofs.Common.{◌≡◌, ◌⊎◌, ◌≢◌, ℕ, Bool, true, false, cond, Option, Some, None, List, [], ◌∷◌, ◌++◌, map, refl, sym, ap, ◌∙◌, inl, inr, ⊎_elim, subst, append-nil}
-use Rattle.std.specs.Prelude.{◌==◌, is_none, is_some, not, option_and_then, option_map}
+use Rattle.std.proofs.Common.{◌≡◌, ◌⊎◌, ◌≢◌, ℕ, Bool, true, false, cond, Option, Some, None, List, [], ◌∷◌, ◌++◌, refl, sym, ap, ◌∙◌, inl, inr, ⊎_elim, subst, append-nil}
+use Rattle.std.specs.Prelude.{◌==◌, is_some, option_map}
 use Rattle.std.specs.List.{find}
-use Rattle.gb_base.specs.declared.end.Side.TheVariants as side
 use Rattle.gb_formats.specs.Module.{Module}
 use Rattle.gb_formats.specs.SvcRecords.{SvcAsk, svc_ask_kind, svc_ask_payload}
 use Rattle.gb_invariants.proofs.Awaiting.{not-both}
-use Rattle.gb_invariants.proofs.Lists.{each-from, each-in, two-filter}
+use Rattle.gb_invariants.proofs.Lists.{each-from, each-in}
 use Rattle.gb_invariants.proofs.Outcomes.{is-same, same-number}
 use Rattle.gb_laws.proofs.LinkLists.{find-none, in-ordered}
-use Rattle.gb_laws.proofs.Marks.{AreElsewhere, MarksFit, Reads, find-left, mark_in, marks, marks_of, notice_of, reads-plugged, reads-removed, reads-told, item_mark, request_mark}
-use Rattle.gb_laws.proofs.Telling.{AfterAsk, MarksAfter, QueueIsAsked, after-ask, ask-told, tells-hello, tells-inserted, tells-removed, tells-version, told, untold}
+use Rattle.gb_laws.proofs.Marks.{AreElsewhere, MarksFit, Reads, mark_in, marks, notice_of, reads-plugged, reads-told}
+use Rattle.gb_laws.proofs.Telling.{AfterAsk, MarksAfter, QueueIsAsked, after-ask, tells-hello, tells-inserted, tells-version, told, untold}
 use Rattle.gb_machine.proofs.Opened.{machine_opened}
 use Rattle.gb_machine.specs.Actions.{each, when}
-use Rattle.gb_machine.specs.Bus.{Ask, Bus, Connection, Item, Raw, RawReply, Reply, connection_of, has_number, request_of}
 use Rattle.gb_machine.specs.Host.{interface_of}
-use Rattle.gb_machine.specs.Labels.{next_label, fresh_label}
-use Rattle.gb_machine.specs.Lists.{at_first, in_order, nth, without}
-use Rattle.gb_machine.specs.Members.{Each, EachTwo, IsIn}
-use Rattle.gb_machine.specs.Modules.{is_plugged, is_plugged_at, plugged, plugged_before, unplugged}
+use Rattle.gb_machine.specs.Lists.{in_order}
+use Rattle.gb_machine.specs.Members.{EachTwo, IsIn}
+use Rattle.gb_machine.specs.Modules.{is_plugged, is_plugged_at, plugged, plugged_before}
 use Rattle.gb_machine.specs.OwnAsking.{svc_asks}
-use Rattle.gb_machine.specs.Plugging.{boots, plugs, pulls, tells_inserted, wired_numbers, with_plugged, with_pulled}
+use Rattle.gb_machine.specs.Plugging.{boots, plugs, tells_inserted, with_plugged}
 use Rattle.gb_machine.specs.State.{Plugged, State}
-use Rattle.gb_machine.specs.SvcQueues.{items_in, svc_items}
 use Rattle.gb_machine.specs.Turns.{HostEvent}
-use Rattle.gb_machine.specs.Wires.{unwires}
 
 -- ---- what is plugged
 

@@ -1,16 +1,13 @@
 -- What the supervisory controller's table does leaves interfaces powered as they were, and a connection
 -- is wired only where its interface is powered.
 use Rattle.std.proofs.Common.{◌≡◌, ℕ, Bool, true, false, cond, Option, Some, None, List, [], ◌∷◌, refl, sym, ap, ◌∙◌}
-use Rattle.std.proofs.lemmas.Bool.Decides.{nat_tests}
-use Rattle.std.specs.Prelude.{Result, Ok, Err, ◌==◌, ◌||◌, nat_le, nat_lt, not, is_some, option_map}
-use Rattle.std.specs.List.{find}
+use Rattle.std.specs.Prelude.{Result, Ok, Err, ◌==◌, ◌||◌, nat_le, nat_lt, not, is_some}
 use Rattle.gb_formats.specs.Records.{PayloadFault}
 use Rattle.gb_formats.specs.SvcRecords.{SvcAsk, read_svc_ask}
 use Rattle.gb_invariants.proofs.Awaiting.{not-both}
-use Rattle.gb_laws.proofs.LinkLists.{find-changed}
-use Rattle.gb_machine.specs.Ports.{is_port, is_powered, level_in, level_of, port_of, raised, with_device, with_port}
+use Rattle.gb_machine.specs.Ports.{is_powered, level_in, level_of, port_of, raised, with_port}
 use Rattle.gb_machine.specs.State.{Port}
-use Rattle.gb_machine.specs.SvcTable.{Answered, Create, Destroy, SvcServed, SvcStep, Unroute, climbs, creation, destruction, device_given, is_no_device, is_route, is_svc_own, svc_asked, svc_read, svc_refuses, svc_step, unrouting}
+use Rattle.gb_machine.specs.SvcTable.{Answered, Create, Destroy, SvcServed, SvcStep, Unroute, climbs, device_given, is_no_device, is_route, is_svc_own, svc_asked, svc_read, svc_refuses, svc_step}
 
 -- an interface whose port changes is powered as it was
 pub port-powered : (j i : ℕ) (f : Port → Port) (ports : List Port) → ((p : Port) → (f p).intf ≡ p.intf)

@@ -1,5 +1,5 @@
 -- Insertions and removals come in turn where a module is pulled.
-use Rattle.std.proofs.Common.{◌≡◌, ◌≢◌, ℕ, Bool, true, false, cond, Option, Some, None, List, [], ◌∷◌, ◌++◌, refl, sym, ap, ◌∙◌, inl, inr, subst, append-nil}
+use Rattle.std.proofs.Common.{◌≡◌, ◌≢◌, ℕ, Bool, true, false, cond, Option, Some, None, List, [], ◌∷◌, ◌++◌, refl, sym, ap, ◌∙◌, subst, append-nil}
 use Rattle.std.specs.Prelude.{◌==◌, is_none, is_some, not, option_and_then, option_map}
 use Rattle.std.specs.List.{find}
 use Rattle.gb_base.specs.declared.end.End.TheVariants as end
@@ -13,15 +13,15 @@ use Rattle.gb_invariants.specs.Facts.{IsBefore}
 use Rattle.gb_laws.proofs.LinkBuses.{Linked}
 use Rattle.gb_laws.proofs.Marks.{AreElsewhere, MarksFit, Reads, find-left, item_mark, mark_in, marks, marks_of, notice_of, reads-removed, request_mark}
 use Rattle.gb_laws.proofs.Points.{IsLive}
-use Rattle.gb_laws.proofs.Telling.{AfterAsk, QueueIsAsked, after-ask, ask-told, tells-removed}
+use Rattle.gb_laws.proofs.Telling.{QueueIsAsked, after-ask, ask-told, tells-removed}
 use Rattle.gb_laws.proofs.There.{There}
 use Rattle.gb_laws.proofs.Ticking.{wired-live}
 use Rattle.gb_machine.proofs.Opened.{machine_opened}
 use Rattle.gb_machine.specs.Actions.{each, when}
-use Rattle.gb_machine.specs.Bus.{Ask, Bus, Connection, Item, Raw, RawReply, Reply, Request, connection_of, has_number}
+use Rattle.gb_machine.specs.Bus.{Ask, Bus, Connection, Item, Raw, RawReply, Reply, connection_of, has_number}
 use Rattle.gb_machine.specs.Host.{interface_of}
 use Rattle.gb_machine.specs.Labels.{fresh_label, next_label}
-use Rattle.gb_machine.specs.Lists.{at_first, nth, without}
+use Rattle.gb_machine.specs.Lists.{at_first, nth}
 use Rattle.gb_machine.specs.Members.{Each, EachTwo, IsIn}
 use Rattle.gb_machine.specs.Modules.{is_plugged, is_plugged_at, unplugged}
 use Rattle.gb_machine.specs.OwnAsking.{svc_asks}
@@ -29,7 +29,6 @@ use Rattle.gb_machine.specs.Plugging.{pulls, wired_numbers, with_pulled}
 use Rattle.gb_machine.specs.Refusals.{svc_has_no_label}
 use Rattle.gb_machine.specs.State.{Plugged, State}
 use Rattle.gb_machine.specs.SvcQueues.{items_in, svc_items}
-use Rattle.gb_machine.specs.Turns.{HostEvent}
 use Rattle.gb_machine.specs.Wires.{unwires, with_unwired}
 
 -- what of the supervisory controller's connection stays where others are unwired

@@ -1,28 +1,25 @@
 -- Once the removal of an interface is handled, it is absent.
 use Rattle.std.proofs.Common.{◌≡◌, ℕ, Bool, true, false, cond, Option, Some, None, List, [], ◌∷◌, ◌++◌, refl, sym, ap, ◌∙◌, subst}
-use Rattle.std.specs.Prelude.{Result, Ok, Err, ◌==◌, not}
+use Rattle.std.specs.Prelude.{Result, Ok, Err, not}
 use Rattle.std.specs.List.{find}
 use Rattle.gb_base.specs.declared.end.End.{End}
-use Rattle.gb_base.specs.declared.end.End.TheVariants as end
 use Rattle.gb_base.specs.declared.end.Side.{Side}
 use Rattle.gb_base.specs.declared.end.Side.TheVariants as side
 use Rattle.gb_base.specs.declared.entry.Entry.{Entry}
 use Rattle.gb_base.specs.declared.entry.Entry.TheVariants as entry
 use Rattle.gb_base.specs.declared.entry.IntfStage.TheVariants as stage
 use Rattle.gb_base.specs.declared.event.Event.TheVariants as event
-use Rattle.gb_base.specs.declared.refusal.Refusal.{Refusal}
 use Rattle.gb_formats.specs.Records.{PayloadFault}
 use Rattle.gb_formats.specs.SvcRecords.{SvcAsk, read_svc_ask}
 use Rattle.gb_invariants.proofs.Awaiting.{not-both, same-some}
 use Rattle.gb_laws.proofs.Noticing.{unnoticed}
 use Rattle.gb_laws.proofs.Places.{place-is}
-use Rattle.gb_laws.proofs.Points.{IsNoticed}
 use Rattle.gb_machine.proofs.Opened.{machine_opened}
-use Rattle.gb_machine.specs.Actions.{Action, each, given, nothing, on_bus, tell, ◌▸◌}
-use Rattle.gb_machine.specs.Arriving.{arrives, asked_at, delivers, delivers_at, dropped, handles, link_takes, takes}
-use Rattle.gb_machine.specs.Bus.{Ask, Bus, Connection, Item, Place, Request, end_of, place_of, queue, request_of}
+use Rattle.gb_machine.specs.Actions.{each, given, on_bus, tell, ◌▸◌}
+use Rattle.gb_machine.specs.Arriving.{arrives, asked_at, delivers_at, dropped, handles, link_takes, takes}
+use Rattle.gb_machine.specs.Bus.{Ask, Connection, Item, Place, Request, end_of, place_of, queue, request_of}
 use Rattle.gb_machine.specs.Delivery.{popped}
-use Rattle.gb_machine.specs.Events.{decided, does, step}
+use Rattle.gb_machine.specs.Events.{decided, step}
 use Rattle.gb_machine.specs.Host.{Host, Interface, Link, interface_of, is_intf, link_of}
 use Rattle.gb_machine.specs.HostActs.{acts}
 use Rattle.gb_machine.specs.HostServing.{HostServed, host_notices, host_refuses, host_serves, notified_by, served_on}

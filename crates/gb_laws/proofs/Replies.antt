@@ -1,7 +1,6 @@
 -- A reply that waits on a clean connection is awaited, and the application processor takes nothing
 -- where its side is closed.
-use Rattle.std.proofs.Common.{◌≡◌, Bool, true, false, Option, Some, None, List, [], refl, sym, ap, ◌∙◌, subst}
-use Rattle.gb_base.specs.declared.end.Side.{Side}
+use Rattle.std.proofs.Common.{◌≡◌, true, false, Some, List, [], sym, ap, ◌∙◌, subst}
 use Rattle.gb_base.specs.declared.end.Side.TheVariants as side
 use Rattle.gb_base.specs.declared.entry.Entry.{Entry}
 use Rattle.gb_invariants.proofs.Awaiting.{not-both}
@@ -13,7 +12,7 @@ use Rattle.gb_laws.proofs.LinkRuns.{LinkedTo, linked-throughout}
 use Rattle.gb_laws.proofs.Links.{IsKnown, leaving, linked, supervisory}
 use Rattle.gb_laws.proofs.Runs.{weaker}
 use Rattle.gb_machine.specs.Arriving.{link_takes, takes}
-use Rattle.gb_machine.specs.Bus.{Ask, Bus, Connection, Item, Raw, RawReply, Reply, queue}
+use Rattle.gb_machine.specs.Bus.{Ask, Bus, Connection, Item, Raw, RawReply, Reply}
 use Rattle.gb_machine.specs.Host.{link_of}
 use Rattle.gb_machine.specs.LawsBus.{AreAwaited, HaveAwaited, IsAwaited, RepliesAreAwaited}
 use Rattle.gb_machine.specs.Members.{IsIn}

@@ -19,7 +19,7 @@ use Rattle.gb_laws.proofs.Points.{Hand, IsCaused, IsLive, IsNoticed, Law, Untouc
 use Rattle.gb_laws.proofs.Served.{IsQuietly, ServedAs, inserting, plainly, removing, served}
 use Rattle.gb_machine.proofs.Opened.{machine_opened}
 use Rattle.gb_machine.specs.Actions.{Action, change, given, nothing, on_host, tell, ◌▸◌}
-use Rattle.gb_laws.proofs.Stepping.{module-plugs, same-plugs}
+use Rattle.gb_laws.proofs.Stepping.{module-plugs}
 use Rattle.gb_machine.specs.Bus.{Bus, Connection, Item, Place, connection_of, place_of, queue, same_end}
 use Rattle.gb_machine.specs.Host.{Host}
 use Rattle.gb_machine.specs.HostActs.{notices}

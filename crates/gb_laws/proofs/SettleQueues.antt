@@ -1,20 +1,19 @@
 -- The first end at which something waits is one at which a delivery isn't refused.
-use Rattle.std.proofs.Common.{◌≡◌, ◌⊎◌, ◌≢◌, ℕ, Bool, true, false, cond, Option, Some, None, List, [], ◌∷◌, ◌++◌, refl, sym, ap, ◌∙◌, inl, inr, ⊎_elim, subst}
+use Rattle.std.proofs.Common.{◌≡◌, ◌≢◌, ℕ, Bool, true, false, cond, Some, None, List, [], ◌∷◌, ◌++◌, refl, sym, ap, ◌∙◌, inl, inr, ⊎_elim, subst}
 use Rattle.std.specs.Prelude.{◌==◌, ◌&&◌, option_map}
 use Rattle.gb_base.specs.declared.end.End.{End}
 use Rattle.gb_base.specs.declared.end.End.TheVariants as end
 use Rattle.gb_base.specs.declared.end.Side.{Side}
 use Rattle.gb_base.specs.declared.end.Side.TheVariants as side
 use Rattle.gb_base.specs.declared.event.Event.TheVariants as event
-use Rattle.gb_base.specs.declared.refusal.Refusal.{Refusal}
 use Rattle.gb_invariants.proofs.Awaiting.{not-both, same-some}
 use Rattle.gb_invariants.proofs.Lists.{each-in, in-append}
-use Rattle.gb_invariants.proofs.Outcomes.{both-true, is-same, same-number}
+use Rattle.gb_invariants.proofs.Outcomes.{is-same, same-number}
 use Rattle.gb_laws.proofs.LinkLists.{in-ordered}
 use Rattle.gb_laws.proofs.Places.{same_end-is}
-use Rattle.gb_machine.specs.Bus.{Bus, Connection, Item, Place, end_of, or_else, place_of, queue, same_end, side_at}
+use Rattle.gb_machine.specs.Bus.{Connection, Item, Place, end_of, or_else, place_of, queue, same_end, side_at}
 use Rattle.gb_machine.specs.LawsBus.{AreApart}
-use Rattle.gb_machine.specs.Lists.{first, in_order, sorted}
+use Rattle.gb_machine.specs.Lists.{first, sorted}
 use Rattle.gb_machine.specs.Members.{EachTwo, IsIn}
 use Rattle.gb_machine.specs.Refusals.{deliver_refusal, empty_refusal, end_refusal, refusal}
 use Rattle.gb_machine.specs.State.{State}

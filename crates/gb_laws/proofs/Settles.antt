@@ -1,6 +1,5 @@
 -- A settle is its deliveries, where in each state of a run of moments nothing that waits is refused.
 use Rattle.std.proofs.Common.{◌≡◌, ℕ, zero, suc, ◌+◌, Bool, true, false, cond, Option, Some, None, List, [], ◌∷◌, ◌++◌, refl, sym, ap, ◌∙◌, subst, append_assoc, append-nil}
-use Rattle.std.specs.List.{filter}
 use Rattle.gb_base.specs.declared.end.End.{End}
 use Rattle.gb_base.specs.declared.end.End.TheVariants as end
 use Rattle.gb_base.specs.declared.end.Side.{Side}
@@ -15,10 +14,10 @@ use Rattle.gb_laws.proofs.SettleQueues.{IsDeliverable, first-waits}
 use Rattle.gb_machine.proofs.Opened.{machine_opened}
 use Rattle.gb_machine.specs.Arriving.{delivers}
 use Rattle.gb_machine.specs.Bus.{Connection, end_of}
-use Rattle.gb_machine.specs.Events.{decided, does, last_state, step, trace_from}
-use Rattle.gb_machine.specs.Members.{Each, IsIn}
+use Rattle.gb_machine.specs.Events.{decided, last_state, step, trace_from}
+use Rattle.gb_machine.specs.Members.{IsIn}
 use Rattle.gb_machine.specs.Refusals.{refusal}
-use Rattle.gb_machine.specs.Runs.{AreMoments, AreValid, HoldsThroughout, IsItsDeliveries, IsMoment, SettlesAreDeliveries, deliveries, delivery_then, happenings, is_happening, moments_of, state_by, told_by, told_in, unsettled}
+use Rattle.gb_machine.specs.Runs.{AreMoments, AreValid, HoldsThroughout, IsMoment, SettlesAreDeliveries, deliveries, delivery_then, happenings, is_happening, moments_of, state_by, told_in, unsettled}
 use Rattle.gb_machine.specs.Settling.{settles_at, settles_from}
 use Rattle.gb_machine.specs.State.{State, first_state}
 use Rattle.gb_machine.specs.Waiting.{first_waiting}

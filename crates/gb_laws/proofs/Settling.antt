@@ -1,24 +1,20 @@
 -- Every settle is its deliveries.
-use Rattle.std.proofs.Common.{◌≡◌, ◌≤◌, ℕ, true, cond, Some, None, List, [], refl, sym, ap, ◌∙◌, subst, arith}
+use Rattle.std.proofs.Common.{◌≡◌, ◌≤◌, true, cond, Some, None, [], sym, ap, ◌∙◌, subst, arith}
 use Rattle.std.specs.Prelude.{not}
-use Rattle.gb_base.specs.declared.end.End.{End}
-use Rattle.gb_base.specs.declared.end.End.TheVariants as end
-use Rattle.gb_base.specs.declared.entry.Entry.{Entry}
 use Rattle.gb_base.specs.declared.refusal.Refusal.TheVariants as why
 use Rattle.gb_formats.specs.ValidEvents.{IsEnd}
-use Rattle.gb_laws.proofs.Endpoints.{ApartTo, apart-throughout}
+use Rattle.gb_laws.proofs.Endpoints.{apart-throughout}
 use Rattle.gb_laws.proofs.LinkBuses.{Linked}
 use Rattle.gb_laws.proofs.Links.{IsKnown, leaving, linked, supervisory}
 use Rattle.gb_laws.proofs.SettleQueues.{IsFarEnd}
 use Rattle.gb_laws.proofs.Settles.{IsSettleable, settles-if_settleable}
-use Rattle.gb_laws.proofs.WiredRuns.{WiredTo, wired-throughout}
+use Rattle.gb_laws.proofs.WiredRuns.{wired-throughout}
 use Rattle.gb_laws.proofs.WiredWell.{WiredFit}
-use Rattle.gb_machine.specs.Bus.{Bus, Connection}
-use Rattle.gb_machine.specs.Host.{Host}
+use Rattle.gb_machine.specs.Bus.{Connection}
 use Rattle.gb_machine.specs.LawsBus.{AreApart}
 use Rattle.gb_machine.specs.Members.{EachTwo, IsIn}
 use Rattle.gb_machine.specs.Refusals.{end_refusal}
-use Rattle.gb_machine.specs.Runs.{HoldsThroughout, SettlesAreDeliveries}
+use Rattle.gb_machine.specs.Runs.{SettlesAreDeliveries}
 use Rattle.gb_machine.specs.State.{State}
 
 -- what is known of the ends of a connection

@@ -1,6 +1,6 @@
 -- What becomes of the marks of an interface at a moment at which the supervisory controller doesn't
 -- ask: the one at the front may be taken.
-use Rattle.std.proofs.Common.{◌≡◌, ◌⊎◌, ◌≤◌, ◌≢◌, ℕ, Bool, true, false, cond, Option, Some, None, List, [], ◌∷◌, ◌++◌, refl, sym, ap, ◌∙◌, inl, inr, ⊎_elim, subst, arith}
+use Rattle.std.proofs.Common.{◌≡◌, ◌≤◌, ◌≢◌, ℕ, Bool, true, false, cond, Option, Some, None, List, [], ◌∷◌, ◌++◌, refl, sym, ap, ◌∙◌, inl, inr, subst, arith}
 use Rattle.std.proofs.lemmas.Bool.Decides.{nat_tests}
 use Rattle.std.specs.Prelude.{Result, Ok, Err, ◌==◌, option_map}
 use Rattle.std.specs.List.{find}
@@ -14,10 +14,8 @@ use Rattle.gb_invariants.proofs.Awaiting.{not-both, same-some}
 use Rattle.gb_invariants.proofs.ItemChanges.{first-in}
 use Rattle.gb_invariants.proofs.Numbers.{found-by_number}
 use Rattle.gb_invariants.proofs.Outcomes.{is-same, same-number}
-use Rattle.gb_laws.proofs.Framing.{popped_at, taken_bus}
 use Rattle.gb_laws.proofs.LinkBuses.{Linked}
 use Rattle.gb_laws.proofs.LinkLists.{find-changed}
-use Rattle.gb_laws.proofs.Links.{LinksFit}
 use Rattle.gb_laws.proofs.Marks.{item_mark, mark_in, marks, marks-first, marks_of, notice_of, request_mark}
 use Rattle.gb_laws.proofs.Noticing.{number-one, numbered-ask, unnoticed}
 use Rattle.gb_laws.proofs.Places.{place-is}
@@ -26,9 +24,9 @@ use Rattle.gb_laws.proofs.Removing.{removed-absent}
 use Rattle.gb_machine.specs.Bus.{Ask, Bus, Connection, Item, Place, Raw, RawReply, Reply, Request, connection_of, has_number, place_of, queue, request_of}
 use Rattle.gb_machine.specs.Delivery.{popped, without_front}
 use Rattle.gb_machine.specs.Host.{Host, Link, first_host, interface_of, link_of}
-use Rattle.gb_machine.specs.HostServing.{host_refuses, host_serves, notified_by, served_on, serves_svc}
-use Rattle.gb_machine.specs.Incoming.{Incoming, incoming}
-use Rattle.gb_machine.specs.Lists.{at_first, behind_first, first}
+use Rattle.gb_machine.specs.HostServing.{host_refuses, notified_by, served_on, serves_svc}
+use Rattle.gb_machine.specs.Incoming.{Incoming}
+use Rattle.gb_machine.specs.Lists.{behind_first, first}
 use Rattle.gb_machine.specs.Members.{IsIn}
 use Rattle.gb_machine.specs.Runs.{Moment, after}
 use Rattle.gb_machine.specs.Serving.{protocol_bad}

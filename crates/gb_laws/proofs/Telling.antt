@@ -1,11 +1,10 @@
 -- What becomes of the marks of an interface where the supervisory controller asks.
-use Rattle.std.proofs.Common.{◌≡◌, ◌⊎◌, ℕ, ◌+◌, Bool, true, false, cond, Option, Some, None, List, [], ◌∷◌, ◌++◌, refl, sym, ap, ◌∙◌, inl, inr, ⊎_elim, subst, append-nil, arith}
-use Rattle.std.specs.Prelude.{◌==◌, is_some, option_map}
-use Rattle.gb_base.specs.declared.bridge.Reading.TheVariants as reading
+use Rattle.std.proofs.Common.{◌≡◌, ℕ, ◌+◌, Bool, true, false, cond, Option, Some, None, [], ◌∷◌, ◌++◌, refl, sym, ap, ◌∙◌, ⊎_elim, subst, append-nil, arith}
+use Rattle.std.specs.Prelude.{◌==◌, option_map}
 use Rattle.gb_base.specs.declared.end.Side.TheVariants as side
 use Rattle.gb_formats.specs.Grammar.{default_timeout}
 use Rattle.gb_formats.specs.SvcRecords.{SvcAsk, svc_ask_kind, svc_ask_payload}
-use Rattle.gb_invariants.proofs.Awaiting.{not-both, sent-new, sent-request}
+use Rattle.gb_invariants.proofs.Awaiting.{sent-new, sent-request}
 use Rattle.gb_invariants.proofs.Labels.{asked_on, asked_on-number}
 use Rattle.gb_invariants.proofs.Lists.{in-pushed}
 use Rattle.gb_laws.proofs.LinkLists.{find-changed}
@@ -14,7 +13,7 @@ use Rattle.gb_laws.proofs.WiredWell.{WasWiredTo, was-asked, was-same}
 use Rattle.gb_machine.proofs.Opened.{machine_opened}
 use Rattle.gb_machine.specs.Actions.{given, when}
 use Rattle.gb_machine.specs.Asking.{asks, asks_with}
-use Rattle.gb_machine.specs.Bus.{Ask, Bus, Connection, Item, Request, connection_of, has_number, next_number, request_of}
+use Rattle.gb_machine.specs.Bus.{Ask, Bus, Connection, Request, connection_of, has_number, next_number, request_of}
 use Rattle.gb_machine.specs.Labels.{next_label}
 use Rattle.gb_machine.specs.Members.{IsIn}
 use Rattle.gb_machine.specs.OwnAsking.{svc_asks}

@@ -1,5 +1,5 @@
 -- The supervisory controller's connection is there and wired.
-use Rattle.std.proofs.Common.{◌≡◌, ◌≤◌, ◌≢◌, ℕ, Bool, true, false, List, [], ◌∷◌, refl, sym, ap, ◌∙◌, inl, ⊎_elim, subst, arith}
+use Rattle.std.proofs.Common.{◌≡◌, ℕ, Bool, true, false, [], refl, sym, ap, ◌∙◌, ⊎_elim, subst, arith}
 use Rattle.std.proofs.lemmas.Bool.Decides.{nat_tests}
 use Rattle.std.specs.Prelude.{◌==◌, not}
 use Rattle.gb_base.specs.declared.end.Side.TheVariants as side
@@ -9,7 +9,6 @@ use Rattle.gb_invariants.proofs.Outcomes.{same-number}
 use Rattle.gb_invariants.proofs.Selves.{front-self, put-self}
 use Rattle.gb_laws.proofs.Awaited.{awaited-rest}
 use Rattle.gb_laws.proofs.Framing.{not-one}
-use Rattle.gb_laws.proofs.LinkBuses.{Linked}
 use Rattle.gb_laws.proofs.Linking.{LinkedAt}
 use Rattle.gb_laws.proofs.Links.{ArePending}
 use Rattle.gb_laws.proofs.Onward.{drawn-wired, front-wired, put-wired}

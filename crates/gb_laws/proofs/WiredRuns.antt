@@ -1,5 +1,5 @@
 -- Where a connection is wired its module is plugged, throughout.
-use Rattle.std.proofs.Common.{◌≡◌, ◌⊎◌, ◌≤◌, ◌≢◌, ℕ, Bool, true, false, cond, Option, Some, None, List, [], ◌∷◌, ◌++◌, map, refl, sym, ap, ◌∙◌, inl, inr, ⊎_elim, subst}
+use Rattle.std.proofs.Common.{◌≡◌, ◌⊎◌, ◌≢◌, ℕ, Bool, true, false, cond, Option, Some, None, List, [], ◌∷◌, map, refl, sym, ap, ◌∙◌, inl, inr, ⊎_elim, subst}
 use Rattle.std.specs.Prelude.{◌==◌, ◌&&◌, is_some, not, option_map}
 use Rattle.std.specs.List.{filter, find}
 use Rattle.gb_base.specs.declared.end.End.TheVariants as end
@@ -29,9 +29,9 @@ use Rattle.gb_laws.proofs.Telling.{AfterAsk, QueueIsAsked, after-ask}
 use Rattle.gb_laws.proofs.WiredWell.{WiredFit, fit-bus, wired-kept}
 use Rattle.gb_machine.proofs.Opened.{machine_opened}
 use Rattle.gb_machine.specs.Actions.{each, when}
-use Rattle.gb_machine.specs.Bus.{Bus, Connection, has_number, svc_connection}
+use Rattle.gb_machine.specs.Bus.{Connection, has_number}
 use Rattle.gb_machine.specs.Events.{decided, step}
-use Rattle.gb_machine.specs.Lists.{at_first, without}
+use Rattle.gb_machine.specs.Lists.{without}
 use Rattle.gb_machine.specs.Members.{EachTwo, IsIn}
 use Rattle.gb_machine.specs.Modules.{is_plugged, is_plugged_at, plugged, unplugged}
 use Rattle.gb_machine.specs.OwnAsking.{svc_asks}

@@ -1,7 +1,5 @@
 -- Where a connection is wired, its module is plugged.
-use Rattle.std.proofs.Common.{◌≡◌, ◌⊎◌, ◌≤◌, ◌≢◌, ℕ, Bool, true, false, Option, Some, None, List, [], ◌∷◌, ◌++◌, refl, sym, ap, ◌∙◌, inl, inr, ⊎_elim, subst}
-use Rattle.std.specs.Prelude.{◌==◌, is_some}
-use Rattle.gb_base.specs.declared.end.End.{End}
+use Rattle.std.proofs.Common.{◌≡◌, ◌⊎◌, ℕ, true, false, [], refl, sym, ap, ◌∙◌, inl, inr, ⊎_elim, subst}
 use Rattle.gb_base.specs.declared.end.End.TheVariants as end
 use Rattle.gb_base.specs.declared.end.Side.TheVariants as side
 use Rattle.gb_formats.specs.ValidEvents.{IsIntf}
@@ -15,10 +13,9 @@ use Rattle.gb_invariants.proofs.Selves.{front-self, put-self}
 use Rattle.gb_laws.proofs.Awaited.{awaited-rest}
 use Rattle.gb_laws.proofs.LinkActs.{awaited-plugs}
 use Rattle.gb_laws.proofs.Onward.{drawn-wired, front-wired, put-wired}
-use Rattle.gb_laws.proofs.Points.{Basis, Change, IsLive, IsOfSvc, Law, Point, SamePlugs, acts_asked, acts_failed, acts_left, acts_opened, acts_shut, acts_told, answers, asks, binds, changed, drops, forgets, frees, gives_up, holds, injects, names, others, passes, replies, resting, serves, spends, takes, takes_held, tells, turns, unwires, wires}
+use Rattle.gb_laws.proofs.Points.{Basis, Change, IsOfSvc, Point, SamePlugs, acts_asked, acts_failed, acts_left, acts_opened, acts_shut, acts_told, answers, asks, binds, changed, drops, forgets, frees, gives_up, holds, injects, names, others, passes, replies, serves, spends, takes, takes_held, tells, turns, unwires, wires}
 use Rattle.gb_machine.specs.Bus.{Ask, Bus, Connection, Raw, has_number, next_number, other_side}
 use Rattle.gb_machine.specs.Delivery.{without_front}
-use Rattle.gb_machine.specs.HostActs.{with_awaited}
 use Rattle.gb_machine.specs.Incoming.{reply_item}
 use Rattle.gb_machine.specs.Lists.{at_first}
 use Rattle.gb_machine.specs.Members.{IsIn}
@@ -26,7 +23,7 @@ use Rattle.gb_machine.specs.Modules.{is_plugged}
 use Rattle.gb_machine.specs.Ports.{is_powered}
 use Rattle.gb_machine.specs.Runs.{Moment}
 use Rattle.gb_machine.specs.Sending.{Draft, drawn, put, queued}
-use Rattle.gb_machine.specs.State.{Plugged, Port, State}
+use Rattle.gb_machine.specs.State.{State}
 use Rattle.gb_machine.specs.Wiring.{new_connection, next_connection}
 
 -- What is wired to a module, and what is powered, is plugged, at interfaces in range.
