@@ -1,4 +1,5 @@
 -- What the application processor takes notice of comes on the supervisory controller's connection.
+use Rattle.gb_machine.specs.Serving.{protocol_bad}
 use Rattle.std.proofs.Common.{◌≡◌, ℕ, Bool, true, false, cond, Option, Some, None, List, [], refl, sym, ap, ◌∙◌, subst}
 use Rattle.std.specs.Prelude.{Result, Ok, Err, ◌==◌, option_map}
 use Rattle.gb_base.specs.declared.end.End.TheVariants as end
@@ -83,7 +84,7 @@ told-svc : (e : HostEvent) (kind : ℕ) (payload : List ℕ) (h : Host) → (ser
     → Tells e (read_svc_ask kind payload)
 told-svc e kind payload h f = by (is_svc_own kind) f
   where
-    by : (t : Bool) → (cond t (notified_by (read_svc_ask kind payload) h) (host_refuses Rattle.gb_machine.specs.Serving.protocol_bad h)).notices ≡ Some e
+    by : (t : Bool) → (cond t (notified_by (read_svc_ask kind payload) h) (host_refuses protocol_bad h)).notices ≡ Some e
         → Tells e (read_svc_ask kind payload)
     by true f = told-by e (read_svc_ask kind payload) h f
     by false f = absurd cc

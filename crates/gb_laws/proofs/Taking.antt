@@ -1,5 +1,6 @@
 -- What becomes of the marks of an interface at a moment at which the supervisory controller doesn't
 -- ask: the one at the front may be taken.
+use Rattle.gb_invariants.proofs.Selves.{front-self}
 use Rattle.std.proofs.Common.{◌≡◌, ◌≤◌, ◌≢◌, ℕ, Bool, true, false, cond, Option, Some, None, List, [], ◌∷◌, ◌++◌, refl, sym, ap, ◌∙◌, inl, inr, subst, arith}
 use Rattle.std.proofs.lemmas.Bool.Decides.{nat_tests}
 use Rattle.std.specs.Prelude.{Result, Ok, Err, ◌==◌, option_map}
@@ -112,7 +113,7 @@ module _ (m : Moment) (basis : Basis (resting m.told m.before)) (links : Linked 
       → (p.side ≡ side.Ap → p.connection.number ≡ 1 → ⊥) → Taken m i (marks i m.before.bus) (marks i (popped p.connection.number p.side m.before.bus))
   elsewhere at p i named is keeps other =
       none_taken (sym (marks-first i m.before.bus p.connection.number (without_front p.side) m.before.bus.connections
-      (λ c. (Rattle.gb_invariants.proofs.Selves.front-self p.side c).number) keeps))
+      (λ c. (front-self p.side c).number) keeps))
       (λ n. let s = same-place n in other (ap (λ (q : Place). q.side) (sym s) ∙ n.side)
       (ap (λ (q : Place). q.connection.number) (sym s) ∙ (svc-front m (HostEvent.Inserted i) n basis links).one))
     where
