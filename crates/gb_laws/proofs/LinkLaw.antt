@@ -1,5 +1,5 @@
 -- The facts of the application processor's connections as a law of points, and that they hold first.
-use Rattle.std.proofs.Common.{◌≡◌, ◌∷◌, List, [], refl, sym, ap, ◌∙◌, subst, arith, ⊎_elim}
+use Rattle.std.proofs.Common.{◌≡◌, ◌∷◌, [], ap, arith, ⊎_elim}
 use Rattle.gb_laws.proofs.Basics.{basis-kept}
 use Rattle.gb_laws.proofs.LinkBuses.{Linked}
 use Rattle.gb_laws.proofs.Linking.{InsertsAbsent, LinkedAt, linked-kept}

@@ -1,8 +1,7 @@
 -- Once the removal of an interface is handled, it is absent.
 use Rattle.gb_laws.proofs.LinkLists.{none-of}
 use Rattle.std.proofs.Common.{◌≡◌, ℕ, Bool, true, false, cond, Option, Some, None, List, [], ◌∷◌, ◌++◌, refl, sym, ap, ◌∙◌, subst}
-use Rattle.std.specs.Prelude.{Result, Ok, Err, not}
-use Rattle.std.specs.List.{find}
+use Rattle.std.specs.Prelude.{Result, Ok, Err}
 use Rattle.gb_base.specs.declared.end.End.{End}
 use Rattle.gb_base.specs.declared.end.Side.{Side}
 use Rattle.gb_base.specs.declared.end.Side.TheVariants as side
@@ -21,12 +20,12 @@ use Rattle.gb_machine.specs.Arriving.{arrives, asked_at, delivers_at, dropped, h
 use Rattle.gb_machine.specs.Bus.{Ask, Connection, Item, Place, Request, end_of, place_of, queue, request_of}
 use Rattle.gb_machine.specs.Delivery.{popped}
 use Rattle.gb_machine.specs.Events.{decided, step}
-use Rattle.gb_machine.specs.Host.{Host, Interface, Link, interface_of, is_intf, link_of}
+use Rattle.gb_machine.specs.Host.{Host, Link, interface_of, is_intf, link_of}
 use Rattle.gb_machine.specs.HostActs.{acts}
 use Rattle.gb_machine.specs.HostServing.{HostServed, host_notices, host_refuses, host_serves, notified_by, served_on}
 use Rattle.gb_machine.specs.HostTurns.{links_left, links_of, without_interface}
 use Rattle.gb_machine.specs.Incoming.{Incoming, incoming}
-use Rattle.gb_machine.specs.Lists.{first, without}
+use Rattle.gb_machine.specs.Lists.{first}
 use Rattle.gb_machine.specs.Refusals.{deliver_refusal, empty_refusal, refusal}
 use Rattle.gb_machine.specs.Responding.{host_served, replies, responds, serves_oneway}
 use Rattle.gb_machine.specs.Runs.{Moment, after}
