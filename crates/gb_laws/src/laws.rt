@@ -34,8 +34,8 @@ pub fn answered_by_its_responder()
 {}
 
 /// A request is cancelled, times out or is disconnected only at a moment at which that came: a
-/// cancel of its name, a tick after which its deadline has come, and a disconnect, a removal that is
-/// handled or an unwiring of its own connection, which isn't the supervisory controller's.
+/// cancel of its name, a tick after which its deadline has come, and a disconnect, a removal that
+/// is handled or an unwiring of its own connection, which isn't the supervisory controller's.
 pub fn every_end_has_its_cause()
     ensures { EveryEndHasItsCause }
 {}
