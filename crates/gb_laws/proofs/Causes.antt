@@ -1,4 +1,5 @@
 -- Each end by cancelling, timeout or disconnection has its cause at its moment.
+use Rattle.gb_machine.specs.SvcQueues.{is_removal}
 use Rattle.std.proofs.Common.{◌≡◌, ◌⊎◌, ◌≤◌, ◌≢◌, ℕ, Bool, true, false, Some, None, List, [], ◌∷◌, ◌++◌, map, refl, sym, ap, ◌∙◌, inl, inr, subst, append-nil, append_assoc, arith}
 use Rattle.std.specs.Prelude.{◌==◌}
 use Rattle.std.specs.List.{find}
@@ -11,7 +12,7 @@ use Rattle.gb_base.specs.declared.entry.Entry.TheVariants as entry
 use Rattle.gb_base.specs.declared.outcome.Outcome.{Outcome}
 use Rattle.gb_base.specs.declared.outcome.Outcome.TheVariants as outcome
 use Rattle.gb_invariants.proofs.Awaiting.{is_of-is, same-some}
-use Rattle.gb_invariants.proofs.Lists.{each-append, each-in, each-weaker, in-filter}
+use Rattle.gb_invariants.proofs.Lists.{each-append, each-in, each-weaker, in-filter, found-in}
 use Rattle.gb_invariants.proofs.Numbers.{found-by_number}
 use Rattle.gb_invariants.proofs.Outcomes.{in-open_requests, same-number}
 use Rattle.gb_laws.proofs.Answering.{same-rest}
@@ -118,13 +119,6 @@ sent-fine m a d c label b = (tt, by d.oneway)
     by true = (tt, tt)
     by false = tt
 
-given_up-fine : (m : Moment) (a : Point) (n : ℕ) (how : Outcome) → IsGivenUpFor m a.state how n → IsFine m a (entry.Ended n how reading.Nothing)
-given_up-fine m a n outcome.Cancelled cause = cause
-given_up-fine m a n outcome.Timeout cause = cause
-given_up-fine m a n outcome.Disconnected cause = absurd cause
-given_up-fine m a n outcome.Sent cause = absurd cause
-given_up-fine m a n (outcome.Answered result payload) cause = absurd cause
-
 -- ---- a side is closed or unwired
 
 -- the requests that end so are of that side of the connection
@@ -153,7 +147,7 @@ Start m = LinkedTo m.told m.before
 -- the application processor's side of a connection to a module is closed by a disconnect or a removal
 shut-cause : (m : Moment) (k : ℕ) → Start m → IsShutFor m k → (k ≢ 1) × (IsDisconnect m k ⊎ IsRemovalOf m k)
 shut-cause m k start (disconnected i c l is at own) = (
-  λ e. let two = (start.1.host.links.numbered l (Rattle.gb_invariants.proofs.Lists.found-in _ m.before.host.links l at).0).from_two in
+  λ e. let two = (start.1.host.links.numbered l (found-in _ m.before.host.links l at).0).from_two in
       absurd (omega (arith, two, own, e)),
   inl (i, c, l, is, at, own),
 )
@@ -170,7 +164,7 @@ shut-cause m k start (removed i l noticed live own) =
           is = t.is;
           front = t.front;
           made = t.made;
-          passes = subst (λ j. Rattle.gb_machine.specs.SvcQueues.is_removal j t.request ≡ true) (sym (same-number l.intf i f.1)) t.tells;
+          passes = subst (λ j. is_removal j t.request ≡ true) (sym (same-number l.intf i f.1)) t.tells;
         },
       ),
     )
@@ -199,7 +193,7 @@ so-far m a x es told fine h = let on = onward m a x in record {
       (first.0, first.1, first.2 ∙ was.2, first.3);
 }
 
-unwires-fine : (m : Moment) (a : Point) (k : ℕ) (free : a.hand ≡ Rattle.std.specs.Prelude.None) (before : a.wires ≢ Wired) (live : IsLive k true a.state.bus)
+unwires-fine : (m : Moment) (a : Point) (k : ℕ) (free : a.hand ≡ None) (before : a.wires ≢ Wired) (live : IsLive k true a.state.bus)
     → Basis a → Linked a.state.bus a.state.host a.pending → IsSoFar m a
     → Each (IsFine m (changed m a (unwires k free before live))) (map disconnected_told (open_on k side.Far a.state.bus))
 unwires-fine m a k free before live basis links h =

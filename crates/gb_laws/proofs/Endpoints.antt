@@ -1,5 +1,5 @@
 -- Live connections have ends of their own.
-use Rattle.std.proofs.Common.{◌≡◌, ◌≤◌, ◌≢◌, ℕ, Bool, true, false, List, [], ◌∷◌, refl, sym, ap, ◌∙◌, subst, arith}
+use Rattle.std.proofs.Common.{◌≡◌, ◌≤◌, ℕ, true, false, List, [], ◌∷◌, refl, sym, ap, ◌∙◌, subst, arith, ⊎_elim}
 use Rattle.gb_base.specs.declared.end.End.TheVariants as end
 use Rattle.gb_base.specs.declared.end.Side.TheVariants as side
 use Rattle.gb_base.specs.declared.entry.Entry.{Entry}
@@ -54,7 +54,7 @@ new-apart b h w q c links live high free = by (links.known c live)
       aps = λ e. free.ap l i (sym of.ap ∙ e);
       peers = ap (λ p. same_end p (end.Module w.intf w.cport)) of.peer ∙ free.at l i;
     }
-    by (leaving i) = Rattle.std.proofs.Common.⊎_elim (λ e. absurd cc) (λ n. absurd n) i
+    by (leaving i) = ⊎_elim (λ e. absurd cc) (λ n. absurd n) i
 
 pub apart-kept : (m : Moment) (a : Point) (x : Change m a) → Basis a → LinkedAt a → ApartAt a → ApartAt (changed m a x)
 apart-kept m a (asks d c label free live is who) basis links h =

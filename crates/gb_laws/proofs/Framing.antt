@@ -1,5 +1,7 @@
 -- What stays within a step at which the supervisory controller doesn't ask: the marks that wait, but
 -- for the one that is taken, what is plugged, and which interfaces are known.
+use Rattle.gb_machine.specs.Waits.{awaits}
+use Rattle.gb_laws.proofs.LinkHosts.{Onto}
 use Rattle.std.proofs.Common.{◌≡◌, ◌⊎◌, ◌≤◌, ◌≢◌, ℕ, Bool, true, false, cond, Option, Some, None, [], refl, sym, ap, ◌∙◌, inl, inr, ⊎_elim, subst, arith}
 use Rattle.std.proofs.lemmas.Bool.Decides.{nat_tests}
 use Rattle.std.specs.Prelude.{◌==◌, ◌+◌}
@@ -12,14 +14,14 @@ use Rattle.gb_invariants.proofs.Awaiting.{sent-request}
 use Rattle.gb_invariants.proofs.Labels.{asked_on, asked_on-number}
 use Rattle.gb_invariants.proofs.Numbers.{found-number}
 use Rattle.gb_invariants.proofs.Selves.{drawn-queue, put-self}
-use Rattle.gb_laws.proofs.Awaited.{awaited-rest}
+use Rattle.gb_laws.proofs.Awaited.{awaited-rest, SameRest}
 use Rattle.gb_laws.proofs.LinkActs.{ServedHost, as_before, awaited-plugs, awaited-host, awaits-fits, host-served, unsent-due, unsent-making, with_more}
 use Rattle.gb_laws.proofs.LinkBuses.{Linked}
 use Rattle.gb_laws.proofs.LinkLists.{in-ordered}
 use Rattle.gb_laws.proofs.Linking.{InsertsAbsent, LinkedAt, noticed_host, turn-fits}
 use Rattle.gb_laws.proofs.Links.{ArePending, IsPresent}
 use Rattle.gb_laws.proofs.Marks.{AreAsked, AreElsewhere, find-left, find-pushed, item_mark, marks, marks-first, marks-more, marks-unmarked, marks_of}
-use Rattle.gb_laws.proofs.Points.{Basis, Change, IsAskedBy, IsAsking, IsLive, IsNoticed, IsOfSvc, Point, SamePlugs, acts_asked, acts_failed, acts_left, acts_opened, acts_shut, acts_told, answers, asking, asks, binds, by_host, by_module, by_svc, changed, drops, forgets, frees, gives_up, holds, injects, names, opening, others, passes, replies, serves, spends, takes, takes_held, tells, turns, unwires, wires}
+use Rattle.gb_laws.proofs.Points.{Basis, Change, IsAskedBy, IsAsking, IsLive, IsNoticed, IsOfSvc, Point, SamePlugs, acts_asked, acts_failed, acts_left, acts_opened, acts_shut, acts_told, answers, asking, asks, binds, by_host, by_module, by_svc, changed, drops, forgets, frees, gives_up, holds, injects, names, opening, others, passes, replies, serves, spends, takes, takes_held, tells, turns, unwires, wires, IsCaused}
 use Rattle.gb_machine.specs.Bus.{Ask, Bus, Connection, Item, Place, Raw, Request, connection_of, has_number, other_side, place_of, queue, request_of}
 use Rattle.gb_machine.specs.Delivery.{popped}
 use Rattle.gb_machine.specs.Failures.{unsent}
@@ -202,7 +204,7 @@ frame-kept m absent other a (turns e free untouched none cause) basis links h = 
   differ = h.differ;
 }
   where
-    by : (e : HostEvent) → Rattle.gb_laws.proofs.Points.IsCaused m e a.state.host → (x : Interface) → IsIn x (noticed_host e a.state.host).interfaces
+    by : (e : HostEvent) → IsCaused m e a.state.host → (x : Interface) → IsIn x (noticed_host e a.state.host).interfaces
         → IsPresent x.intf m.before.host.interfaces ⊎ IsNoticed m (HostEvent.Inserted x.intf)
     by (HostEvent.Inserted i) c x j = ⊎_elim
         (λ f. inr (subst (λ n. IsNoticed m (HostEvent.Inserted n)) (sym (ap (λ (y : Interface). y.intf) f)) c.1))
@@ -242,10 +244,10 @@ frame-kept m absent other a (acts_asked q n rest is) basis links h = record {
   differ = (awaited-plugs q.purpose n a.state).differ h.differ;
 }
   where
-    r : Rattle.gb_laws.proofs.Awaited.SameRest a.state (with_awaited q.purpose n a.state)
+    r : SameRest a.state (with_awaited q.purpose n a.state)
     r = awaited-rest q.purpose n a.state
 
-    onto : Rattle.gb_laws.proofs.LinkHosts.Onto a.state.host (Rattle.gb_machine.specs.Waits.awaits q.purpose n a.state.host)
+    onto : Onto a.state.host (awaits q.purpose n a.state.host)
     onto = (awaits-fits a.state.bus q.purpose n a.state.host links.host (subst (ArePending a.state.host) is links.pending).0.0).1
 frame-kept m absent other a (acts_failed q rest is quiet) basis links h =
     frame-host m a (changed m a (acts_failed q rest is quiet)) (λ i. refl) (by is) refl refl h

@@ -1,4 +1,5 @@
 -- The facts of the application processor's connections go over its acts, and over what it serves.
+use Rattle.gb_base.specs.declared.end.End.TheVariants as end
 use Rattle.std.proofs.Common.{◌≡◌, ℕ, Bool, true, false, cond, Option, Some, None, List, [], ◌∷◌, map, refl, sym, ap, ◌∙◌, inl, inr, subst}
 use Rattle.std.specs.Prelude.{Result, Ok, Err, ◌==◌}
 use Rattle.gb_base.specs.declared.entry.Entry.{Entry}
@@ -38,8 +39,8 @@ known-stay c ls after acts stay (leaving i) = leaving i
 known-stay c ls after acts stay (linked l i of) = let s = stay l i in linked s.0 s.1 (record {
   number = of.number ∙ sym s.2.connection;
   ap = of.ap ∙ sym s.2.ap;
-  peer = of.peer ∙ sym (ap (λ i. Rattle.gb_base.specs.declared.end.End.TheVariants.Module i s.0.cport) s.2.intf
-      ∙ ap (Rattle.gb_base.specs.declared.end.End.TheVariants.Module l.intf) s.2.cport);
+  peer = of.peer ∙ sym (ap (λ i. end.Module i s.0.cport) s.2.intf
+      ∙ ap (end.Module l.intf) s.2.cport);
 })
 
 -- at rest

@@ -3,7 +3,7 @@ use Rattle.std.proofs.Common.{◌≡◌, ℕ, Bool, true, false, Some, List, ref
 use Rattle.std.specs.Prelude.{◌==◌, ◌&&◌, not}
 use Rattle.std.specs.List.{find}
 use Rattle.gb_base.specs.declared.entry.ConnState.{ConnState}
-use Rattle.gb_invariants.proofs.Lists.{filter-in, in-without, two-at_first, two-filter}
+use Rattle.gb_invariants.proofs.Lists.{filter-in, in-without, two-at_first, two-filter, found-in}
 use Rattle.gb_laws.proofs.LinkLists.{in-first}
 use Rattle.gb_laws.proofs.Links.{AreOther, HasNoControl, HostFits, IsDeaf, IsEnumerating, IsLinkBefore, IsNext, IsNumbered, IsPresent, IsResting, IsWaiting, LinksFit, SameLink, is_early}
 use Rattle.gb_laws.proofs.Places.{at_first-back}
@@ -125,7 +125,7 @@ host-interface b i f h same enumerating fits = record {
   links = fits.links;
   interfaces = λ x j. ⊎_elim (λ o. fits.interfaces x o)
       (λ w. subst (IsEnumerating h.links) (sym w.3)
-      (enumerating w.0 w.1 (Rattle.gb_invariants.proofs.Lists.found-in (is_intf i) h.interfaces w.0 w.2).1 (fits.interfaces w.0 w.1)))
+      (enumerating w.0 w.1 (found-in (is_intf i) h.interfaces w.0 w.2).1 (fits.interfaces w.0 w.1)))
       (in-first (is_intf i) f h.interfaces x j);
   differ = two-at_first AreOther (is_intf i) f h.interfaces (λ x y r e. r (sym (same x) ∙ e)) (λ x y r e. r (e ∙ same y)) fits.differ;
   present = λ l j. present-changed l.intf i f h.interfaces same (fits.present l j);

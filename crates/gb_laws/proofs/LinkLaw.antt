@@ -1,5 +1,5 @@
 -- The facts of the application processor's connections as a law of points, and that they hold first.
-use Rattle.std.proofs.Common.{◌≡◌, ◌∷◌, List, [], refl, sym, ap, ◌∙◌, subst, arith}
+use Rattle.std.proofs.Common.{◌≡◌, ◌∷◌, [], ap, arith, ⊎_elim}
 use Rattle.gb_laws.proofs.Basics.{basis-kept}
 use Rattle.gb_laws.proofs.LinkBuses.{Linked}
 use Rattle.gb_laws.proofs.Linking.{InsertsAbsent, LinkedAt, linked-kept}
@@ -19,7 +19,7 @@ link_law m absent = record {
 }
 
 pub is-svc : (c : Connection) → IsIn c (svc_connection ∷ []) → c ≡ svc_connection
-is-svc c i = Rattle.std.proofs.Common.⊎_elim (λ e. e) (λ n. absurd n) i
+is-svc c i = ⊎_elim (λ e. e) (λ n. absurd n) i
 
 pub linked-first : Linked first_bus first_host []
 linked-first = record {

@@ -1,14 +1,14 @@
 -- Laws of lists of the application processor's connections.
 use Rattle.std.proofs.Common.{◌≡◌, ◌⊎◌, ◌≤◌, ◌<◌, ℕ, zero, suc, ◌+◌, Bool, true, false, cond, Some, None, List, [], ◌∷◌, refl, sym, ap, ◌∙◌, inl, inr, ⊎_elim, arith}
 use Rattle.std.proofs.lemmas.Bool.Decides.{nat_tests}
-use Rattle.std.specs.Prelude.{◌==◌, ◌||◌, option_map}
+use Rattle.std.specs.Prelude.{◌==◌, ◌||◌, option_map, not}
 use Rattle.std.specs.List.{find, list_any}
 use Rattle.gb_invariants.proofs.Awaiting.{not-both, same-some}
 use Rattle.gb_invariants.proofs.Lists.{each-from, each-in}
 use Rattle.gb_invariants.proofs.Outcomes.{both-true, is-same, same-number}
 use Rattle.gb_laws.proofs.Links.{AreOther, IsLinkBefore}
 use Rattle.gb_machine.specs.Host.{Interface, Link, is_intf, is_link}
-use Rattle.gb_machine.specs.Lists.{at_first, first_free, in_order}
+use Rattle.gb_machine.specs.Lists.{at_first, first_free, in_order, without}
 use Rattle.gb_machine.specs.Members.{EachTwo, IsIn}
 
 -- ---- what is found
@@ -34,6 +34,15 @@ find-changed test change (x ∷ xs) same = by (test x) refl (find-changed test c
         → find test (cond b (change x ∷ xs) (x ∷ at_first test change xs)) ≡ option_map change (cond b (Some x) (find test xs))
     by true e rec = ap (λ t. cond t (Some (change x)) (find test xs)) (same x ∙ e)
     by false e rec = ap (λ t. cond t (Some x) (find test (at_first test change xs))) e ∙ rec
+
+-- none is left that passes
+pub none-of : {A : Type 0} (test : A → Bool) (xs : List A) → find test (without test xs) ≡ None
+none-of test [] = refl
+none-of test (x ∷ xs) = by (test x) refl (none-of test xs)
+  where
+    by : (t : Bool) → test x ≡ t → find test (without test xs) ≡ None → find test (cond (not t) (x ∷ without test xs) (without test xs)) ≡ None
+    by true e h = h
+    by false e h = ap (λ b. cond b (Some x) (find test (without test xs))) e ∙ h
 
 -- A member where the first that passes is changed was there, or is that one, changed.
 pub in-first : {A : Type 0} (test : A → Bool) (change : A → A) (xs : List A) (x : A) → IsIn x (at_first test change xs)

@@ -1,4 +1,6 @@
 -- What the application processor takes notice of comes on the supervisory controller's connection.
+use Rattle.gb_laws.proofs.Marks.{notice_of}
+use Rattle.gb_machine.specs.Serving.{protocol_bad}
 use Rattle.std.proofs.Common.{◌≡◌, ℕ, Bool, true, false, cond, Option, Some, None, List, [], refl, sym, ap, ◌∙◌, subst}
 use Rattle.std.specs.Prelude.{Result, Ok, Err, ◌==◌, option_map}
 use Rattle.gb_base.specs.declared.end.End.TheVariants as end
@@ -21,7 +23,7 @@ use Rattle.gb_laws.proofs.Links.{IsKnown, leaving, linked, supervisory}
 use Rattle.gb_laws.proofs.Places.{place-is}
 use Rattle.gb_laws.proofs.Points.{Basis, IsNoticed, resting}
 use Rattle.gb_machine.specs.Bus.{Ask, Bus, Connection, Item, Raw, RawReply, Reply, Request, connection_of, end_of, queue, request_of}
-use Rattle.gb_machine.specs.Host.{Host, Link, link_of}
+use Rattle.gb_machine.specs.Host.{Host, Link, link_of, first_host}
 use Rattle.gb_machine.specs.HostServing.{HostServed, credited, host_refuses, interrupted, notified_by, served_on, serves_gpio, serves_svc, serves_uart, uart_notified_by}
 use Rattle.gb_machine.specs.Incoming.{Incoming, incoming, request_in}
 use Rattle.gb_machine.specs.Lists.{first}
@@ -83,7 +85,7 @@ told-svc : (e : HostEvent) (kind : ℕ) (payload : List ℕ) (h : Host) → (ser
     → Tells e (read_svc_ask kind payload)
 told-svc e kind payload h f = by (is_svc_own kind) f
   where
-    by : (t : Bool) → (cond t (notified_by (read_svc_ask kind payload) h) (host_refuses Rattle.gb_machine.specs.Serving.protocol_bad h)).notices ≡ Some e
+    by : (t : Bool) → (cond t (notified_by (read_svc_ask kind payload) h) (host_refuses protocol_bad h)).notices ≡ Some e
         → Tells e (read_svc_ask kind payload)
     by true f = told-by e (read_svc_ask kind payload) h f
     by false f = absurd cc
@@ -98,7 +100,7 @@ pub record IsToldBySvc (m : Moment) (e : HostEvent) : Type 0 where
   pub tells : Tells e (read_svc_ask request.kind request.payload)
 
 -- the connection without a link is the supervisory controller's
-pub number-one : (b : Bus) (h : Host) (c : Connection) → IsKnown c h.links [] → link_of c.number h ≡ None → c.number ≡ 1
+number-one : (b : Bus) (h : Host) (c : Connection) → IsKnown c h.links [] → link_of c.number h ≡ None → c.number ≡ 1
 number-one b h c (supervisory e) none = e
 number-one b h c (leaving i) none = absurd i
 number-one b h c (linked l i of) none =
@@ -106,7 +108,7 @@ number-one b h c (linked l i of) none =
     (find-none (λ k. k.connection == c.number) h.links l none i))
 
 -- a request that waits and has a number was made
-pub numbered-ask : (item : Item) (b : Bus) (q : Incoming) → is_numbered item ≡ true → request_in item b ≡ Some q
+numbered-ask : (item : Item) (b : Bus) (q : Incoming) → is_numbered item ≡ true → request_in item b ≡ Some q
     → (n : ℕ) × (r : Request) × (item ≡ Ask n) × (request_of n b ≡ Some r) × (incoming n r ≡ q)
 numbered-ask (Ask n) b q numbered made = by (request_of n b) refl made
   where
@@ -118,11 +120,37 @@ numbered-ask (Reply n result payload) b q numbered made = absurd cc
 numbered-ask (Raw bytes) b q numbered made = absurd cc
 numbered-ask (RawReply label kind result payload) b q numbered made = absurd cc
 
-pub told-by_svc : (m : Moment) (e : HostEvent) → Basis (resting m.told m.before) → Linked m.before.bus m.before.host [] → IsNoticed m e → IsToldBySvc m e
-told-by_svc m e basis links n = by (link_of n.place.connection.number m.before.host) refl n.notices
+-- what is noticed doesn't depend on the application processor
+pub notice-any : (kind : ℕ) (payload : List ℕ) (h g : Host) → (serves_svc kind payload h).notices ≡ (serves_svc kind payload g).notices
+notice-any kind payload h g = by (is_svc_own kind)
+  where
+    read : (r : Result SvcAsk PayloadFault) → (notified_by r h).notices ≡ (notified_by r g).notices
+    read (Err fault) = refl
+    read (Ok (SvcAsk.ModuleInserted j count flags)) = refl
+    read (Ok (SvcAsk.ModuleRemoved j)) = refl
+    read (Ok (SvcAsk.ProtocolVersion major minor)) = refl
+    read (Ok (SvcAsk.Hello endo intf)) = refl
+    read (Ok _) = refl
+
+    by : (t : Bool) → (cond t (notified_by (read_svc_ask kind payload) h) (host_refuses protocol_bad h)).notices
+        ≡ (cond t (notified_by (read_svc_ask kind payload) g) (host_refuses protocol_bad g)).notices
+    by true = read (read_svc_ask kind payload)
+    by false = refl
+
+-- What is noticed at a moment stands in front on the supervisory controller's connection.
+pub record SvcFront (m : Moment) (e : HostEvent) (n : IsNoticed m e) : Type 0 where
+  pub one : n.place.connection.number ≡ 1
+  pub number : ℕ
+  pub request : Request
+  pub item : n.item ≡ Ask number
+  pub made : request_of number m.before.bus ≡ Some request
+  pub notice : notice_of request.kind request.payload ≡ Some e
+
+pub svc-front : (m : Moment) (e : HostEvent) (n : IsNoticed m e) → Basis (resting m.told m.before) → Linked m.before.bus m.before.host [] → SvcFront m e n
+svc-front m e n basis links = by (link_of n.place.connection.number m.before.host) refl n.notices
   where
     by : (o : Option Link) → link_of n.place.connection.number m.before.host ≡ o
-        → (served_on o n.request.kind n.request.payload m.before.host).notices ≡ Some e → IsToldBySvc m e
+        → (served_on o n.request.kind n.request.payload m.before.host).notices ≡ Some e → SvcFront m e n
     by (Some l) f g = absurd (none-some (sym (unnoticed l n.request.kind n.request.payload m.before.host) ∙ g))
       where
         none-some : None ≡ Some e → ⊥
@@ -134,13 +162,29 @@ told-by_svc m e basis links n = by (link_of n.place.connection.number m.before.h
         let svc = links.svc c place.live one in
         let waits = first-in (queue n.place.side c) n.item n.front in
         let numbered = (basis.bus.items.answerable c n.place.side n.item place.live waits).numbered svc.clean in
-        let ask = numbered-ask n.item m.before.bus n.request numbered n.made in
-        let found : connection_of 1 m.before.bus ≡ Some c =
-        subst (λ k. connection_of k m.before.bus ≡ Some c) one (found-by_number m.before.bus.connections c basis.bus.numbers.rise place.live) in record {
+        let ask = numbered-ask n.item m.before.bus n.request numbered n.made in record {
+          one = one;
           number = ask.0;
           request = ask.1;
-          is = n.event ∙ ap event.Deliver (sym place.is ∙ ap (λ s. end_of s c) n.side ∙ ap end.Ap svc.ap);
-          front = ap (λ o. first (items_in side.Ap o)) found ∙ ap (λ s. first (queue s c)) (sym n.side) ∙ n.front ∙ ap Some ask.2;
+          item = ask.2;
           made = ask.3;
-          tells = subst (λ (q : Incoming). Tells e (read_svc_ask q.kind q.payload)) (sym ask.4) (told-svc e n.request.kind n.request.payload m.before.host g);
+          notice = subst (λ (q : Incoming). notice_of q.kind q.payload ≡ Some e) (sym ask.4)
+              (notice-any n.request.kind n.request.payload first_host m.before.host ∙ g);
         }
+
+-- the request that says so
+pub told-by_svc : (m : Moment) (e : HostEvent) → Basis (resting m.told m.before) → Linked m.before.bus m.before.host [] → IsNoticed m e → IsToldBySvc m e
+told-by_svc m e basis links n =
+    let f = svc-front m e n basis links in
+    let place = place-is n.at m.before.bus.connections n.place n.named in
+    let c = n.place.connection in
+    let svc = links.svc c place.live f.one in
+    let found : connection_of 1 m.before.bus ≡ Some c =
+    subst (λ k. connection_of k m.before.bus ≡ Some c) f.one (found-by_number m.before.bus.connections c basis.bus.numbers.rise place.live) in record {
+      number = f.number;
+      request = f.request;
+      is = n.event ∙ ap event.Deliver (sym place.is ∙ ap (λ s. end_of s c) n.side ∙ ap end.Ap svc.ap);
+      front = ap (λ o. first (items_in side.Ap o)) found ∙ ap (λ s. first (queue s c)) (sym n.side) ∙ n.front ∙ ap Some f.item;
+      made = f.made;
+      tells = told-svc e f.request.kind f.request.payload first_host f.notice;
+    }

@@ -10,7 +10,7 @@ use Rattle.gb_laws.proofs.Awaited.{awaited-rest}
 use Rattle.gb_laws.proofs.Owning.{KeepsRequests}
 use Rattle.gb_laws.proofs.Places.{at_first-back}
 use Rattle.gb_laws.proofs.Points.{Change, Point, Untouched, Unwired, Wired, acts_asked, acts_failed, acts_left, acts_opened, acts_shut, acts_told, answers, asks, binds, changed, drops, forgets, frees, gives_up, holds, injects, names, others, passes, replies, serves, spends, takes, takes_held, tells, turns, unwires, wires}
-use Rattle.gb_machine.specs.Bus.{Bus, Connection, Item, Raw, has_number, other_side}
+use Rattle.gb_machine.specs.Bus.{Bus, Connection, Item, Raw, has_number, other_side, request_of}
 use Rattle.gb_machine.specs.Delivery.{without_front}
 use Rattle.gb_machine.specs.Incoming.{reply_item}
 use Rattle.gb_machine.specs.Labels.{with_last_label}
@@ -187,7 +187,7 @@ onward m a (acts_opened w q rest free is) = record {
 }
 onward m a (acts_asked q n rest is) =
     let r = awaited-rest q.purpose n a.state in
-    onward-same a (changed m a (acts_asked q n rest is)) (λ k x made. ap (λ (b : Bus). Rattle.gb_machine.specs.Bus.request_of k b) r.bus ∙ made)
+    onward-same a (changed m a (acts_asked q n rest is)) (λ k x made. ap (λ (b : Bus). request_of k b) r.bus ∙ made)
     (let same = r.now in omega (arith, same)) refl (ap (λ (b : Bus). b.connections) r.bus)
 onward m a (acts_failed q rest is quiet) = onward-same a (changed m a (acts_failed q rest is quiet)) (λ n r h. h) (omega arith) refl refl
 onward m a (serves k kind payload none) = onward-same a (changed m a (serves k kind payload none)) (λ n r h. h) (omega arith) refl refl

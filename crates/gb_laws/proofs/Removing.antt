@@ -1,7 +1,7 @@
 -- Once the removal of an interface is handled, it is absent.
+use Rattle.gb_laws.proofs.LinkLists.{none-of}
 use Rattle.std.proofs.Common.{◌≡◌, ℕ, Bool, true, false, cond, Option, Some, None, List, [], ◌∷◌, ◌++◌, refl, sym, ap, ◌∙◌, subst}
-use Rattle.std.specs.Prelude.{Result, Ok, Err, not}
-use Rattle.std.specs.List.{find}
+use Rattle.std.specs.Prelude.{Result, Ok, Err}
 use Rattle.gb_base.specs.declared.end.End.{End}
 use Rattle.gb_base.specs.declared.end.Side.{Side}
 use Rattle.gb_base.specs.declared.end.Side.TheVariants as side
@@ -20,12 +20,12 @@ use Rattle.gb_machine.specs.Arriving.{arrives, asked_at, delivers_at, dropped, h
 use Rattle.gb_machine.specs.Bus.{Ask, Connection, Item, Place, Request, end_of, place_of, queue, request_of}
 use Rattle.gb_machine.specs.Delivery.{popped}
 use Rattle.gb_machine.specs.Events.{decided, step}
-use Rattle.gb_machine.specs.Host.{Host, Interface, Link, interface_of, is_intf, link_of}
+use Rattle.gb_machine.specs.Host.{Host, Link, interface_of, is_intf, link_of}
 use Rattle.gb_machine.specs.HostActs.{acts}
 use Rattle.gb_machine.specs.HostServing.{HostServed, host_notices, host_refuses, host_serves, notified_by, served_on}
 use Rattle.gb_machine.specs.HostTurns.{links_left, links_of, without_interface}
 use Rattle.gb_machine.specs.Incoming.{Incoming, incoming}
-use Rattle.gb_machine.specs.Lists.{first, without}
+use Rattle.gb_machine.specs.Lists.{first}
 use Rattle.gb_machine.specs.Refusals.{deliver_refusal, empty_refusal, refusal}
 use Rattle.gb_machine.specs.Responding.{host_served, replies, responds, serves_oneway}
 use Rattle.gb_machine.specs.Runs.{Moment, after}
@@ -130,15 +130,6 @@ ap-free m at p item named ap_side front =
     waiting [] e = absurd cc
     waiting (x ∷ xs) e = refl
 
-none-left : (i : ℕ) (xs : List Interface) → find (is_intf i) (without (is_intf i) xs) ≡ None
-none-left i [] = refl
-none-left i (x ∷ xs) = by (is_intf i x) refl (none-left i xs)
-  where
-    by : (t : Bool) → is_intf i x ≡ t → find (is_intf i) (without (is_intf i) xs) ≡ None
-        → find (is_intf i) (cond (not t) (x ∷ without (is_intf i) xs) (without (is_intf i) xs)) ≡ None
-    by true e h = h
-    by false e h = ap (λ b. cond b (Some x) (find (is_intf i) (without (is_intf i) xs))) e ∙ h
-
 -- An interface is absent once its removal is handled.
 pub removed-absent : (m : Moment) (at : End) (p : Place) (n i : ℕ) (r : Request) → m.event ≡ event.Deliver at → place_of at m.before.bus.connections ≡ Some p
     → p.side ≡ side.Ap → first (queue p.side p.connection) ≡ Some (Ask n) → request_of n m.before.bus ≡ Some r
@@ -147,7 +138,7 @@ pub removed-absent : (m : Moment) (at : End) (p : Place) (n i : ℕ) (r : Reques
     → interface_of i (after m).host ≡ None
 removed-absent m at p n i r is named ap_side front made none notices =
     ap (λ (s : State). interface_of i s.host) (delivered-state m at p (Ask n) is named front (ap-free m at p (Ask n) named ap_side front))
-    ∙ ap (interface_of i) (by p.side ap_side) ∙ none-left i m.before.host.interfaces
+    ∙ ap (interface_of i) (by p.side ap_side) ∙ none-of (is_intf i) m.before.host.interfaces
   where
     s1 : State
     s1 = record m.before { bus = popped p.connection.number p.side m.before.bus }

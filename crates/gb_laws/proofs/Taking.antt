@@ -1,15 +1,14 @@
 -- What becomes of the marks of an interface at a moment at which the supervisory controller doesn't
 -- ask: the one at the front may be taken.
+use Rattle.gb_invariants.proofs.Selves.{front-self}
 use Rattle.std.proofs.Common.{◌≡◌, ◌≤◌, ◌≢◌, ℕ, Bool, true, false, cond, Option, Some, None, List, [], ◌∷◌, ◌++◌, refl, sym, ap, ◌∙◌, inl, inr, subst, arith}
 use Rattle.std.proofs.lemmas.Bool.Decides.{nat_tests}
-use Rattle.std.specs.Prelude.{Result, Ok, Err, ◌==◌, option_map}
+use Rattle.std.specs.Prelude.{◌==◌, option_map}
 use Rattle.std.specs.List.{find}
 use Rattle.gb_base.specs.declared.end.End.{End}
 use Rattle.gb_base.specs.declared.end.Side.{Side}
 use Rattle.gb_base.specs.declared.end.Side.TheVariants as side
 use Rattle.gb_base.specs.declared.event.Event.TheVariants as event
-use Rattle.gb_formats.specs.Records.{PayloadFault}
-use Rattle.gb_formats.specs.SvcRecords.{SvcAsk, read_svc_ask}
 use Rattle.gb_invariants.proofs.Awaiting.{not-both, same-some}
 use Rattle.gb_invariants.proofs.ItemChanges.{first-in}
 use Rattle.gb_invariants.proofs.Numbers.{found-by_number}
@@ -17,74 +16,19 @@ use Rattle.gb_invariants.proofs.Outcomes.{is-same, same-number}
 use Rattle.gb_laws.proofs.LinkBuses.{Linked}
 use Rattle.gb_laws.proofs.LinkLists.{find-changed}
 use Rattle.gb_laws.proofs.Marks.{item_mark, mark_in, marks, marks-first, marks_of, notice_of, request_mark}
-use Rattle.gb_laws.proofs.Noticing.{number-one, numbered-ask, unnoticed}
+use Rattle.gb_laws.proofs.Noticing.{notice-any, svc-front}
 use Rattle.gb_laws.proofs.Places.{place-is}
 use Rattle.gb_laws.proofs.Points.{Basis, IsNoticed, resting}
 use Rattle.gb_laws.proofs.Removing.{removed-absent}
 use Rattle.gb_machine.specs.Bus.{Ask, Bus, Connection, Item, Place, Raw, RawReply, Reply, Request, connection_of, has_number, place_of, queue, request_of}
 use Rattle.gb_machine.specs.Delivery.{popped, without_front}
-use Rattle.gb_machine.specs.Host.{Host, Link, first_host, interface_of, link_of}
-use Rattle.gb_machine.specs.HostServing.{host_refuses, notified_by, served_on, serves_svc}
-use Rattle.gb_machine.specs.Incoming.{Incoming}
+use Rattle.gb_machine.specs.Host.{Link, first_host, interface_of, link_of}
+use Rattle.gb_machine.specs.HostServing.{served_on}
 use Rattle.gb_machine.specs.Lists.{behind_first, first}
 use Rattle.gb_machine.specs.Members.{IsIn}
 use Rattle.gb_machine.specs.Runs.{Moment, after}
-use Rattle.gb_machine.specs.Serving.{protocol_bad}
 use Rattle.gb_machine.specs.SvcQueues.{items_in}
-use Rattle.gb_machine.specs.SvcTable.{is_svc_own}
 use Rattle.gb_machine.specs.Turns.{HostEvent}
-
--- what is noticed doesn't depend on the application processor
-notice-any : (kind : ℕ) (payload : List ℕ) (h g : Host) → (serves_svc kind payload h).notices ≡ (serves_svc kind payload g).notices
-notice-any kind payload h g = by (is_svc_own kind)
-  where
-    read : (r : Result SvcAsk PayloadFault) → (notified_by r h).notices ≡ (notified_by r g).notices
-    read (Err fault) = refl
-    read (Ok (SvcAsk.ModuleInserted j count flags)) = refl
-    read (Ok (SvcAsk.ModuleRemoved j)) = refl
-    read (Ok (SvcAsk.ProtocolVersion major minor)) = refl
-    read (Ok (SvcAsk.Hello endo intf)) = refl
-    read (Ok _) = refl
-
-    by : (t : Bool) → (cond t (notified_by (read_svc_ask kind payload) h) (host_refuses protocol_bad h)).notices
-        ≡ (cond t (notified_by (read_svc_ask kind payload) g) (host_refuses protocol_bad g)).notices
-    by true = read (read_svc_ask kind payload)
-    by false = refl
-
--- What is noticed at a moment stands in front on the supervisory controller's connection.
-record SvcFront (m : Moment) (e : HostEvent) (n : IsNoticed m e) : Type 0 where
-  one : n.place.connection.number ≡ 1
-  number : ℕ
-  request : Request
-  item : n.item ≡ Ask number
-  made : request_of number m.before.bus ≡ Some request
-  notice : notice_of request.kind request.payload ≡ Some e
-
-svc-front : (m : Moment) (e : HostEvent) (n : IsNoticed m e) → Basis (resting m.told m.before) → Linked m.before.bus m.before.host [] → SvcFront m e n
-svc-front m e n basis links = by (link_of n.place.connection.number m.before.host) refl n.notices
-  where
-    by : (o : Option Link) → link_of n.place.connection.number m.before.host ≡ o
-        → (served_on o n.request.kind n.request.payload m.before.host).notices ≡ Some e → SvcFront m e n
-    by (Some l) f g = absurd (none-some (sym (unnoticed l n.request.kind n.request.payload m.before.host) ∙ g))
-      where
-        none-some : None ≡ Some e → ⊥
-        none-some f = absurd cc
-    by None f g =
-        let place = place-is n.at m.before.bus.connections n.place n.named in
-        let c = n.place.connection in
-        let one = number-one m.before.bus m.before.host c (links.known c place.live) f in
-        let svc = links.svc c place.live one in
-        let waits = first-in (queue n.place.side c) n.item n.front in
-        let numbered = (basis.bus.items.answerable c n.place.side n.item place.live waits).numbered svc.clean in
-        let ask = numbered-ask n.item m.before.bus n.request numbered n.made in record {
-          one = one;
-          number = ask.0;
-          request = ask.1;
-          item = ask.2;
-          made = ask.3;
-          notice = subst (λ (q : Incoming). notice_of q.kind q.payload ≡ Some e) (sym ask.4)
-              (notice-any n.request.kind n.request.payload first_host m.before.host ∙ g);
-        }
 
 -- What becomes of the marks of an interface at a moment.
 pub data Taken (m : Moment) (i : ℕ) (ms later : List Bool) : Type 0 where
@@ -112,7 +56,7 @@ module _ (m : Moment) (basis : Basis (resting m.told m.before)) (links : Linked 
       → (p.side ≡ side.Ap → p.connection.number ≡ 1 → ⊥) → Taken m i (marks i m.before.bus) (marks i (popped p.connection.number p.side m.before.bus))
   elsewhere at p i named is keeps other =
       none_taken (sym (marks-first i m.before.bus p.connection.number (without_front p.side) m.before.bus.connections
-      (λ c. (Rattle.gb_invariants.proofs.Selves.front-self p.side c).number) keeps))
+      (λ c. (front-self p.side c).number) keeps))
       (λ n. let s = same-place n in other (ap (λ (q : Place). q.side) (sym s) ∙ n.side)
       (ap (λ (q : Place). q.connection.number) (sym s) ∙ (svc-front m (HostEvent.Inserted i) n basis links).one))
     where

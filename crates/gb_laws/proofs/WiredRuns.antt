@@ -1,6 +1,7 @@
 -- Where a connection is wired its module is plugged, throughout.
-use Rattle.std.proofs.Common.{◌≡◌, ◌⊎◌, ◌≢◌, ℕ, Bool, true, false, cond, Option, Some, None, List, [], ◌∷◌, map, refl, sym, ap, ◌∙◌, inl, inr, ⊎_elim, subst}
-use Rattle.std.specs.Prelude.{◌==◌, ◌&&◌, is_some, not, option_map}
+use Rattle.gb_laws.proofs.LinkLists.{none-of}
+use Rattle.std.proofs.Common.{◌≡◌, ◌≢◌, ℕ, Bool, true, false, cond, Option, Some, None, List, [], ◌∷◌, map, refl, sym, ap, ◌∙◌, inl, inr, ⊎_elim, subst}
+use Rattle.std.specs.Prelude.{◌==◌, ◌&&◌, is_some, option_map}
 use Rattle.std.specs.List.{filter, find}
 use Rattle.gb_base.specs.declared.end.End.TheVariants as end
 use Rattle.gb_base.specs.declared.entry.Entry.{Entry}
@@ -31,7 +32,6 @@ use Rattle.gb_machine.proofs.Opened.{machine_opened}
 use Rattle.gb_machine.specs.Actions.{each, when}
 use Rattle.gb_machine.specs.Bus.{Connection, has_number}
 use Rattle.gb_machine.specs.Events.{decided, step}
-use Rattle.gb_machine.specs.Lists.{without}
 use Rattle.gb_machine.specs.Members.{EachTwo, IsIn}
 use Rattle.gb_machine.specs.Modules.{is_plugged, is_plugged_at, plugged, unplugged}
 use Rattle.gb_machine.specs.OwnAsking.{svc_asks}
@@ -123,17 +123,9 @@ number-in [] c i = i
 number-in (x ∷ xs) c (inl e) = inl (ap (λ (y : Connection). y.number) e)
 number-in (x ∷ xs) c (inr j) = inr (number-in xs c j)
 
-none-of : {A : Type 0} (test : A → Bool) (xs : List A) → find test (without test xs) ≡ None
-none-of test [] = refl
-none-of test (x ∷ xs) = by (test x) refl (none-of test xs)
-  where
-    by : (t : Bool) → test x ≡ t → find test (without test xs) ≡ None → find test (cond (not t) (x ∷ without test xs) (without test xs)) ≡ None
-    by true e h = h
-    by false e h = ap (λ b. cond b (Some x) (find test (without test xs))) e ∙ h
-
-fit-pulled : (i : ℕ) (s : State) → LinkedTo [] s ⊎ EachTwo IsBefore s.bus.connections → EachTwo IsBefore s.bus.connections → WiredFit s
+fit-pulled : (i : ℕ) (s : State) → EachTwo IsBefore s.bus.connections → WiredFit s
     → (s1 : State) → s1 ≡ (each (wired_numbers i s.bus) unwires s).state → s1.modules ≡ s.modules → s1.ports ≡ s.ports → WiredFit (with_pulled i s1)
-fit-pulled i s any rise h s1 is modules ports = record {
+fit-pulled i s rise h s1 is modules ports = record {
   wired = λ c live wired j p at.
       let w = cut-from (wired_numbers i s.bus) s c rise (subst (λ t. IsIn c t.bus.connections) is live) wired in
       by_wired c j p w.0 wired at w.1 (i == j) refl;
@@ -178,7 +170,7 @@ fit-pulls i told s start asked h = by s.booted
 
     cut : WiredFit (with_pulled i (each (wired_numbers i s.bus) unwires s).state)
     cut = let c = unwires-svc (wired_numbers i s.bus) s (wired-others i s start.1) in
-        fit-pulled i s (inr start.0.bus.numbers.rise) start.0.bus.numbers.rise h _ refl c.modules c.ports
+        fit-pulled i s start.0.bus.numbers.rise h _ refl c.modules c.ports
 
     queue : QueueIsAsked (with_pulled i (each (wired_numbers i s.bus) unwires s).state).bus
     queue = svc-asked s (each (wired_numbers i s.bus) unwires s).state (unwires-svc (wired_numbers i s.bus) s (wired-others i s start.1)) asked
@@ -212,9 +204,6 @@ module _ (m : Moment) (one : IsMoment m.event) (start : WiredTo m.told m.before)
       by : (o : Option Refusal) → refusal m.before e ≡ o → WiredFit (after m)
       by (Some reason) f = subst WiredFit (sym (refused-state m reason (ap (refusal m.before) is ∙ f))) start.wired
       by None f = subst WiredFit (sym (ap (λ x. (step m.before x).state) is ∙ ap (λ o. (decided o e m.before).state) f)) done
-
-  asked-before : QueueIsAsked m.before.bus
-  asked-before = asked-items (resting m.told m.before) start.links.0
 
   fit-kept : (e : Event) → m.event ≡ e → IsMoment e → WiredFit (after m)
   unfolding machine_opened

@@ -33,9 +33,9 @@ pub fn answered_by_its_responder()
     ensures { AnsweredByItsResponder }
 {}
 
-/// A request is cancelled, times out or is disconnected only at a moment at which that came: a cancel
-/// of its name, a tick after which its deadline has come, and a disconnect, a removal that is handled
-/// or an unwiring of its own connection, which isn't the supervisory controller's.
+/// A request is cancelled, times out or is disconnected only at a moment at which that came: a
+/// cancel of its name, a tick after which its deadline has come, and a disconnect, a removal that
+/// is handled or an unwiring of its own connection, which isn't the supervisory controller's.
 pub fn every_end_has_its_cause()
     ensures { EveryEndHasItsCause }
 {}
@@ -61,8 +61,9 @@ pub fn endpoints_differ()
     ensures { EndpointsDiffer }
 {}
 
-/// What waits and what is held on a connection was put there by a request, a reply or an injection on
-/// that connection, and a delivery takes it from a connection that is live, wired and names the end.
+/// What waits and what is held on a connection was put there by a request, a reply or an injection
+/// on that connection, and a delivery takes it from a connection that is live, wired and names the
+/// end.
 pub fn no_foreign_message()
     ensures { NoForeignMessage }
 {}
@@ -77,8 +78,8 @@ pub fn counts_add_up()
     ensures { CountsAddUp }
 {}
 
-/// Every run of valid events is a run without settles: each settle is its deliveries, the state behind
-/// it is the same, and the same happens in it, but for the lines that say so.
+/// Every run of valid events is a run without settles: each settle is its deliveries, the state
+/// behind it is the same, and the same happens in it, but for the lines that say so.
 pub fn settles_are_deliveries()
     ensures { SettlesAreDeliveries }
 {}
