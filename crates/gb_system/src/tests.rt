@@ -246,8 +246,7 @@ fn a_settle_delivers_until_nothing_waits(rt: HostRuntime) -> Result<(), Fail> {
     let (ap, svc) = (End::Ap(0), End::Svc);
     drop(system.step(&ping(&rt, rt.alloc(), b"x"))?);
     drop(system.step(&ping(&rt, rt.alloc(), b"y"))?);
-    let first = [8, 0, 1, 0, 0x93, 0, 0, 0];
-    let second = [8, 0, 2, 0, 0x93, 0, 0, 0];
+    let answers = [[8, 0, 1, 0, 0x93, 0, 0, 0], [8, 0, 2, 0, 0x93, 0, 0, 0]];
     // Both requests are served before the first answer is taken.
     let three = system.step(&Event::Settle { most: 3 })?;
     are(
@@ -255,8 +254,8 @@ fn a_settle_delivers_until_nothing_waits(rt: HostRuntime) -> Result<(), Fail> {
         &three,
         &[
             Seen::Done,
-            Seen::Replied(Some(1), svc, ap, 0, 8, &first),
-            Seen::Replied(Some(2), svc, ap, 0, 8, &second),
+            Seen::Replied(Some(1), svc, ap, 0, 8, &answers[0]),
+            Seen::Replied(Some(2), svc, ap, 0, 8, &answers[1]),
             Seen::Answered(1, 0, 0, Reading::Nothing),
             Seen::Settled(3),
         ],
