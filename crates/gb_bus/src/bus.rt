@@ -16,7 +16,7 @@ use gb_base::{Bytes, End, OutOfMemory, Outcome, Side, TryCopy};
 use std::alloc::Global;
 
 /// Connections, requests and queues. Connection 1 is that of the supervisory controller. A call
-/// that names a connection which isn't live changes none.
+/// that names a connection which isn't live changes no connection.
 #[derive(Drop)]
 pub struct Bus {
     pub(crate) alloc: Global,
@@ -45,8 +45,9 @@ impl Bus {
     }
 
     /// Makes a request on connection k. `deadline` is in milliseconds. A unidirectional request has
-    /// identifier 0, and has ended as sent at once. NoLabel comes where the side has no identifier
-    /// left, or the connection isn't live. After want of memory nothing is said.
+    /// identifier 0, and has ended as sent at once. NoLabel comes for no such request, and else where
+    /// the side has no identifier left or the connection isn't live. After want of memory nothing is
+    /// said.
     pub fn send(
         &mut self,
         k: u64,
@@ -107,7 +108,8 @@ impl Bus {
     }
 
     /// Answers a request that was delivered at `side` of a connection: the reply goes toward the
-    /// side that asked, and is lost where the connection isn't wired.
+    /// side that asked, and is lost where the connection isn't wired. A request without a number gets
+    /// none.
     pub fn reply(
         &mut self,
         k: u64,

@@ -44,7 +44,7 @@ impl Bus {
         Ok(number)
     }
 
-    /// A connection is wired. After want of memory nothing is said.
+    /// A connection is wired. It takes no memory today.
     pub fn wire(&mut self, k: u64) -> Result<(), OutOfMemory>
         ensures step { OnOk result ((b : machine.Bus) → Stands self.old b
             → Stands self.new (wired k b)) }
@@ -134,7 +134,7 @@ impl Bus {
         Some(self.connections.get(connection)?.waiting(side))
     }
 
-    /// No identifier is left on a side of a connection.
+    /// No identifier is left on a side of a connection, or it isn't live.
     pub fn spent(&self, k: u64, side: Side) -> bool
         ensures { (b : machine.Bus) → Stands self.now b
             → result ≡ is_none (next_label k side b) }

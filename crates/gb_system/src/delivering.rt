@@ -24,7 +24,7 @@ impl Parties {
         }
     }
 
-    /// Delivers at most so many messages, each from the first end at which one waits.
+    /// Delivers at most so many messages, each toward the first end at which one waits.
     pub fn settle(&mut self, most: u16) -> Result<Entries, OutOfMemory>
         ensures step { (s : State) → PartiesStand self.old s
             → PartiesStep self.new s (settle_of most) result }

@@ -10,8 +10,8 @@ use gb_bus::Bus;
 use gb_switch::Ladder;
 use std::alloc::Global;
 
-/// The application processor, the supervisory controller and the bus between them, with the names
-/// that requests have.
+/// The application processor, the supervisory controller with the power levels of interfaces, and
+/// the bus between them, with the names that requests have.
 #[derive(Drop)]
 pub struct Parties {
     pub alloc: Global,
