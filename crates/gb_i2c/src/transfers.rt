@@ -7,11 +7,8 @@ ghost use Rattle.gb_bridge_payload.specs.Fronts.{Fronted};
 ghost use Rattle.gb_formats.specs.Bridges.{i2c_op_bytes, i2c_read_size, i2c_written, is_too_large};
 
 use gb_base::I2cOp;
-use gb_bridge_payload::{OP_SIZE, put_behind};
+use gb_bridge_payload::{MOST_PAYLOAD, OP_SIZE, put_behind};
 use gb_payload::Field::{Bytes, U16};
-
-/// How many bytes a payload has at most.
-const MOST: usize = 2040;
 
 /// How many bytes the count of the ops has.
 const COUNT_SIZE: usize = 2;
@@ -28,7 +25,7 @@ pub fn fits(ops: &[I2cOp]) -> bool
     for op in ops {
         size += OP_SIZE + written(op).len();
         read += read_size(op) as usize;
-        if size > MOST || read > MOST {
+        if size > MOST_PAYLOAD || read > MOST_PAYLOAD {
             return false;
         }
     }
