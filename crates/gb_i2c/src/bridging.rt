@@ -6,7 +6,6 @@ ghost use Rattle.gb_bridge_payload.specs.Serving.{BridgesAs};
 ghost use Rattle.gb_formats.specs.Bridges.{bridge_answer};
 ghost use Rattle.gb_formats.specs.Protocols.{i2c_protocol};
 ghost use Rattle.gb_formats.specs.Results.{most_payload};
-ghost use Rattle.gb_formats.specs.ValidEvents.{HasForm};
 
 use crate::transfers::{fields, fits, written};
 use gb_base::{BridgeAsk, Bridged, I2cOp};
@@ -19,8 +18,7 @@ use gb_payload::Field::{Bytes, U16};
 /// where the payload has more than 2,040 bytes or the reads add up to more. Where there is no
 /// request, `out` is unchanged.
 pub fn bridge(ask: &BridgeAsk, out: &mut [u8]) -> Result<Bridged, BridgeFault>
-    requires room { length out.old ≡ most_payload }
-    requires form { HasForm ask.now }
+    requires { length out.old ≡ most_payload }
     ensures { BridgesAs (bridge_answer i2c_protocol ask.now) out.old out.new result }
 {
     match ask {
