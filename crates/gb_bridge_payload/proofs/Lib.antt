@@ -3,6 +3,7 @@ pub mod Fronts
 pub mod GpioLaws
 pub mod I2cLaws
 pub mod Numbers
+pub mod Putting
 pub mod SpiLaws
 pub mod Transfers
 pub mod Types

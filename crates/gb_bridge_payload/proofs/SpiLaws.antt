@@ -54,7 +54,8 @@ transfer_made payload = SpiAsk.Transfer (slice_index payload 0) (slice_index pay
 abbrev transfer_length : List ℕ → ℕ
 transfer_length payload = transfer_size 2 4 entry_size entries_weight payload
 
-divided : (n size : ℕ) → size ≡ 13 * n → size / 13 ≡ n
+-- how many entries so many bytes are
+pub divided : (n size : ℕ) → size ≡ 13 * n → size / 13 ≡ n
 divided n size h = omega arith
 
 transfer_spelt : (payload : List ℕ) → AreBytes payload → length payload ≡ transfer_length payload → spi_ask_payload (transfer_made payload) ≡ payload

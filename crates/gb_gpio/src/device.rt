@@ -1,6 +1,6 @@
 //! The device.
 
-ghost use Rattle.std.specs.Prelude.{◌≡◌, ◌≤◌, IfOk};
+ghost use Rattle.std.specs.Prelude.{◌≡◌, ◌≤◌, IfOk, IsOkAnd};
 ghost use Rattle.gb_bridge_payload.specs.Serving.{ServesAs};
 ghost use Rattle.gb_bridge_payload.specs.Views.{gpio_ask_of, gpio_reply_of};
 ghost use Rattle.gb_formats.specs.GpioDevice.{first_gpio, gpio_asked, gpio_level_set, gpio_step};
@@ -38,9 +38,10 @@ impl Model for Device {
 }
 
 impl Device {
-    /// A device in its first state: each line is inactive, in and masked, and all else is 0.
+    /// A device in its first state: each line is inactive, in and masked, and all else is 0. It takes
+    /// memory for its answers from `alloc`, and none yet.
     pub fn new(alloc: Global) -> Result<Device, OutOfMemory>
-        ensures { IfOk result (λ device. device ≡ first_gpio) }
+        ensures { IsOkAnd result (λ device. device ≡ first_gpio) }
     {
         Ok(Device {
             alloc,

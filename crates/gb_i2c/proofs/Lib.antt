@@ -2,4 +2,3 @@ pub mod Places
 pub mod Running
 pub mod Sizes
 pub mod Surveys
-pub mod Written

@@ -1,47 +1,31 @@
 -- The sizes of a transfer's payload and of its reads.
-use Rattle.std.proofs.Common.{◌≡◌, ◌<◌, ◌⊎◌, ⊎_elim, ◌≤◌, ◌+◌, ◌*◌, not, ℕ, Bool, true, false, List, [], ◌∷◌, length, take, drop, drop_of_length-le, get_or, map, sum_by, refl, arith, ap, sym, subst, ◌∙◌, length-append, drop-cons, add-one}
+use Rattle.std.proofs.Common.{◌≡◌, ◌<◌, ◌⊎◌, ⊎_elim, ◌≤◌, ◌+◌, not, ℕ, Bool, true, false, List, [], ◌∷◌, length, drop, drop_of_length-le, get_or, map, sum_by, refl, arith, ap, sym, ◌∙◌, length-append, drop-cons, add-one}
 use Rattle.std.proofs.lemmas.Bool.Decides.{nat_tests}
-use Rattle.std.proofs.lemmas.List.Concat.{concat_is}
-use Rattle.std.proofs.lemmas.List.Folds.{flat_map-map, length-flat_map-take}
 use Rattle.std.proofs.lemmas.List.Sums.{sum_by-cons}
-use Rattle.std.specs.List.{concat, flat_map}
+use Rattle.std.specs.List.{concat}
 use Rattle.gb_base.specs.declared.bridge.BridgeAsk.TheVariants as ask
 use Rattle.gb_base.specs.declared.bridge.I2cOp.{I2cOp}
 use Rattle.gb_base.specs.declared.bridge.I2cOp.TheVariants as i2c
+use Rattle.gb_bridge_payload.proofs.Putting.{piece_within, room_of, rooms, rooms_count}
 use Rattle.gb_formats.specs.Bridges.{i2c_op_bytes, i2c_payload, i2c_read_size, i2c_written, is_too_large}
+use Rattle.gb_formats.specs.I2cRecords.{op_size}
+use Rattle.gb_formats.specs.Results.{most_payload}
 
 -- how many bytes an op has in a payload, with what it writes
 abbrev pub op_room : I2cOp → ℕ
-op_room op = 6 + length (i2c_written op)
-
--- pieces, one after the other
-pub pieces : (f : I2cOp → List ℕ) (ops : List I2cOp) → concat (map f ops) ≡ flat_map f ops
-pieces f ops = concat_is (map f ops) ∙ flat_map-map (λ (xs : List ℕ). xs) f ops
+op_room op = room_of op_size i2c_written op
 
 -- an op has six bytes
 pub op_long : (op : I2cOp) → length (i2c_op_bytes op) ≡ 6
 op_long (i2c.Get addr len) = refl
 op_long (i2c.Put addr bytes) = refl
 
--- the ops and what they write
-pub rooms : (ops : List I2cOp) → length (flat_map i2c_op_bytes ops) + length (flat_map i2c_written ops) ≡ sum_by op_room ops
-rooms [] = refl
-rooms (op ∷ ops) =
-    let a = length-append (i2c_op_bytes op) (flat_map i2c_op_bytes ops) in
-    let b = length-append (i2c_written op) (flat_map i2c_written ops) in
-    let six = op_long op in
-    let rest = rooms ops in
-    let total = sum_by-cons op_room op ops in
-    omega (arith, a, b, six, rest, total)
-
 -- the size of a payload
 pub payload_long : (ops : List I2cOp) → length (i2c_payload ops) ≡ 2 + sum_by op_room ops
 payload_long ops =
-    let all = length-append (concat (map i2c_op_bytes ops)) (concat (map i2c_written ops)) in
-    let heads = ap (λ (xs : List ℕ). length xs) (pieces i2c_op_bytes ops) in
-    let data_bytes = ap (λ (xs : List ℕ). length xs) (pieces i2c_written ops) in
-    let room = rooms ops in
-    omega (arith, all, heads, data_bytes, room)
+    let behind = length-append (concat (map i2c_op_bytes ops)) (concat (map i2c_written ops)) in
+    let all = rooms op_size i2c_op_bytes i2c_written op_long ops in
+    omega (arith, behind, all)
 
 -- ---- what is too large
 
@@ -115,24 +99,10 @@ measured_small size read i ops h m =
 
 -- ---- what fits
 
--- so many bytes of pieces are those before one, and it
-pub piece_fits : (f : I2cOp → List ℕ) (ops : List I2cOp) (i : ℕ) (op : I2cOp) → i < length ops → op ≡ get_or ops i op → length (flat_map f (take i ops)) + length (f op) ≤ length (flat_map f ops)
-piece_fits f ops i op h is =
-    subst (λ (x : I2cOp). length (flat_map f (take i ops)) + length (f x) ≤ length (flat_map f ops)) (sym is) (length-flat_map-take f ops i op h)
-
--- six bytes an op
-heads_long : (ops : List I2cOp) → length (flat_map i2c_op_bytes ops) ≡ 6 * length ops
-heads_long [] = refl
-heads_long (op ∷ ops) =
-    let all = length-append (i2c_op_bytes op) (flat_map i2c_op_bytes ops) in
-    let six = op_long op in
-    let rest = heads_long ops in
-    omega (arith, all, six, rest)
-
 -- What is known of a transfer that isn't too large.
 pub record IsSmall (ops : List I2cOp) : Type 0 where
   pub large : is_too_large (ask.I2cTransfer ops) ≡ false
-  pub size : 2 + length (flat_map i2c_op_bytes ops) + length (flat_map i2c_written ops) ≤ 2040
+  pub size : length (i2c_payload ops) ≤ most_payload
   pub count : length ops < 65536
 
 pub is_small : (ops : List I2cOp) → true ≡ not (is_too_large (ask.I2cTransfer ops)) → IsSmall ops
@@ -141,11 +111,18 @@ is_small ops h = by (is_too_large (ask.I2cTransfer ops)) refl h where
   by true is h' = cc
   by false is h' =
       let long = payload_long ops in
-      let room = rooms ops in
-      let heads = heads_long ops in
-      let size : length (i2c_payload ops) ≤ 2040 = grind (arith, nat_tests, is) in
+      let heads = rooms_count op_size i2c_written ops in
+      let size : length (i2c_payload ops) ≤ most_payload = grind (arith, nat_tests, is) in
       record {
         large = is;
-        size = omega (arith, long, room, size);
-        count = omega (arith, long, room, heads, size);
+        size = size;
+        count = omega (arith, long, heads, size);
       }
+
+-- what an op of it writes can be counted
+pub written_fits : (ops : List I2cOp) (op : I2cOp) (i : ℕ) → i < length ops → op ≡ get_or ops i op → IsSmall ops → length (i2c_written op) ≤ most_payload
+written_fits ops op i h at small =
+    let part = piece_within i2c_written ops op i h at in
+    let behind = length-append (concat (map i2c_op_bytes ops)) (concat (map i2c_written ops)) in
+    let size = small.size in
+    omega (arith, part, behind, size)

@@ -6,21 +6,19 @@ ghost use Rattle.gb_bridge_payload.specs.Serving.{BridgesAs};
 ghost use Rattle.gb_formats.specs.Bridges.{bridge_answer};
 ghost use Rattle.gb_formats.specs.Protocols.{i2c_protocol};
 ghost use Rattle.gb_formats.specs.Results.{most_payload};
-ghost use Rattle.gb_formats.specs.ValidEvents.{HasForm};
 
-use crate::transfers::{fits, write_data, write_ops};
+use crate::transfers::{fields, fits, written};
 use gb_base::{BridgeAsk, Bridged, I2cOp};
 use gb_bridge_payload::i2c_kinds::{FUNCTIONALITY, TRANSFER};
 use gb_bridge_payload::{BridgeFault, put_behind};
-use gb_payload::Field::U16;
+use gb_payload::Field::{Bytes, U16};
 
 /// The request that a bridge line becomes: its type, and its payload at the front of `out`, which
 /// has 2,040 bytes. Unsupported exactly where the line asks for another protocol, TooLarge exactly
 /// where the payload has more than 2,040 bytes or the reads add up to more. Where there is no
 /// request, `out` is unchanged.
 pub fn bridge(ask: &BridgeAsk, out: &mut [u8]) -> Result<Bridged, BridgeFault>
-    requires room { length out.old ≡ most_payload }
-    requires form { HasForm ask.now }
+    requires { length out.old ≡ most_payload }
     ensures { BridgesAs (bridge_answer i2c_protocol ask.now) out.old out.new result }
 {
     match ask {
@@ -42,11 +40,15 @@ fn transfer(ops: &[I2cOp], out: &mut [u8]) -> Result<Bridged, BridgeFault>
     if !fits(ops) {
         return Err(BridgeFault::TooLarge);
     }
-    let at = put_behind(0, &[U16(ops.len() as u16)], out);
-    let at = write_ops(at, ops, out);
-    let len = write_data(at, ops, out);
+    let mut at = put_behind(0, &[U16(ops.len() as u16)], out);
+    for op in ops {
+        at = put_behind(at, &fields(op), out);
+    }
+    for op in ops {
+        at = put_behind(at, &[Bytes(written(op))], out);
+    }
     Ok(Bridged {
         kind: TRANSFER,
-        len,
+        len: at,
     })
 }

@@ -1,6 +1,6 @@
 //! The device.
 
-ghost use Rattle.std.specs.Prelude.{◌≡◌, ◌/◌, IfOk, length};
+ghost use Rattle.std.specs.Prelude.{◌≡◌, ◌/◌, IsOkAnd, length};
 ghost use Rattle.gb_bridge_payload.specs.Conditions.{AreOps};
 ghost use Rattle.gb_bridge_payload.specs.Serving.{ServesAs};
 ghost use Rattle.gb_formats.specs.I2cDevice.{first_i2c, i2c_step, i2c_transfer_step};
@@ -34,9 +34,10 @@ impl Model for Device {
 }
 
 impl Device {
-    /// A device in its first state: byte i of its memory holds i, and the pointer is 0.
+    /// A device in its first state: byte i of its memory holds i, and the pointer is 0. It takes
+    /// memory for its answers from `alloc`, and none yet.
     pub fn new(alloc: Global) -> Result<Device, OutOfMemory>
-        ensures { IfOk result (λ device. device ≡ first_i2c) }
+        ensures { IsOkAnd result (λ device. device ≡ first_i2c) }
     {
         Ok(Device {
             alloc,

@@ -6,13 +6,10 @@ ghost use Rattle.gb_formats.specs.I2cDevice.{has_strange_flags, is_elsewhere};
 ghost use Rattle.gb_formats.specs.I2cRecords.{op_read_size, op_size, ops_at};
 ghost use Rattle.gb_i2c.specs.Refusals.{IsRefusedBy};
 
-use gb_bridge_payload::{INVALID, NONEXISTENT, OVERFLOW, TransferOp};
+use gb_bridge_payload::{INVALID, MOST_PAYLOAD, NONEXISTENT, OVERFLOW, TransferOp};
 
 /// The address of the memory.
 const ADDRESS: u16 = 0x50;
-
-/// How many bytes a transfer reads at most: those of a payload.
-const MOST_READ: usize = 2040;
 
 /// What is asked of the ops of a transfer.
 #[derive(Clone, Copy, Debug, PartialEq, Eq)]
@@ -38,7 +35,7 @@ pub fn check(count: u16, ops: &[u8]) -> Result<(), u8>
     if survey.elsewhere {
         return Err(NONEXISTENT);
     }
-    if survey.read > MOST_READ {
+    if survey.read > MOST_PAYLOAD {
         return Err(OVERFLOW);
     }
     Ok(())

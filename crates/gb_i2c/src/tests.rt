@@ -1,8 +1,5 @@
 //! Requests in order, with what the I2C device is to answer, and bridge lines and readings.
 
-ghost use Rattle.std.specs.Prelude.{IfOk};
-ghost use Rattle.gb_formats.specs.ValidEvents.{HasForm};
-
 use crate::{BridgeFault, Device, bridge, reading};
 use gb_base::{BridgeAsk, Bytes, I2cOp, I2cOps, OutOfMemory, Reading};
 use std::alloc::Global;
@@ -100,9 +97,7 @@ fn longest_read_is_served(rt: HostRuntime) -> Result<(), Fail> {
 }
 
 /// A bridge line that writes these bytes to address 50, then reads so many from there.
-fn transfer(alloc: Global, bytes: &[u8], len: u16) -> Result<BridgeAsk, OutOfMemory>
-    ensures { IfOk result HasForm }
-{
+fn transfer(alloc: Global, bytes: &[u8], len: u16) -> Result<BridgeAsk, OutOfMemory> {
     let mut ops = I2cOps::new(alloc);
     ops.push(I2cOp::Put {
         addr: 0x50,
@@ -113,9 +108,7 @@ fn transfer(alloc: Global, bytes: &[u8], len: u16) -> Result<BridgeAsk, OutOfMem
 }
 
 /// A bridge line becomes a request whose payload has two parts.
-fn becomes(rt: &impl Abort, ask: &BridgeAsk, kind: u8, front: &[u8], back: &[u8])
-    requires { HasForm ask.now }
-{
+fn becomes(rt: &impl Abort, ask: &BridgeAsk, kind: u8, front: &[u8], back: &[u8]) {
     let mut out = [0xaa; 2040];
     let Ok(bridged) = bridge(ask, &mut out) else {
         assert!(rt; false, "type {kind} is refused");
@@ -130,9 +123,7 @@ fn becomes(rt: &impl Abort, ask: &BridgeAsk, kind: u8, front: &[u8], back: &[u8]
 }
 
 /// A bridge line becomes no request.
-fn is_refused(rt: &impl Abort, ask: &BridgeAsk, fault: BridgeFault)
-    requires { HasForm ask.now }
-{
+fn is_refused(rt: &impl Abort, ask: &BridgeAsk, fault: BridgeFault) {
     let mut out = [0xaa; 2040];
     assert_eq!(rt; bridge(ask, &mut out), Err(fault));
     assert!(rt; out.iter().all(|byte| *byte == 0xaa));

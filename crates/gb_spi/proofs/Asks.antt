@@ -3,12 +3,9 @@ use Rattle.std.proofs.Common.{◌≡◌, ◌+◌, ◌*◌, ◌/◌, ℕ, Ok, Lis
 use Rattle.gb_formats.specs.SpiRecords.{SpiAsk, entries_at, entry_size, entry_written_size, read_spi_ask, read_spi_transfer, spi_transfer_size}
 use Rattle.gb_payload.proofs.Places.{whole_made, whole_size}
 use Rattle.gb_bridge_payload.proofs.Numbers.{agree_take}
-use Rattle.gb_bridge_payload.proofs.SpiLaws.{are_entries, entry_weight, entries_weight}
+use Rattle.gb_bridge_payload.proofs.SpiLaws.{are_entries, divided, entry_weight, entries_weight}
 use Rattle.gb_bridge_payload.proofs.Transfers.{items_same}
 use Rattle.gb_spi.specs.Sizes.{entries_in}
-
-divided : (n size : ℕ) → size ≡ 13 * n → size / 13 ≡ n
-divided n size h = omega arith
 
 -- of a payload of the size of a transfer
 sized : (count : ℕ) (payload entries bytes : List ℕ) → length payload ≡ spi_transfer_size count (entries_at count (drop 4 payload)) → take (entry_size * count) (drop 4 payload) ≡ entries → drop (4 + entry_size * count) payload ≡ bytes → length bytes ≡ sum_by entry_written_size (entries_in entries)

@@ -1,6 +1,5 @@
 pub mod Asks
 pub mod Bridged
-pub mod Putting
 pub mod Runs
 pub mod Stepping
 pub mod Weights

@@ -6,9 +6,8 @@ ghost use Rattle.gb_formats.specs.Results.{most_payload};
 ghost use Rattle.gb_payload.specs.Fields.{spelled};
 ghost use Rattle.gb_spi.specs.Sizes.{bridged_size};
 
-use crate::transfer::MOST_PAYLOAD;
 use gb_base::SpiOp;
-use gb_bridge_payload::ENTRY_SIZE;
+use gb_bridge_payload::{ENTRY_SIZE, MOST_PAYLOAD};
 use gb_payload::Field;
 use gb_payload::Field::{U8, U16, U32};
 

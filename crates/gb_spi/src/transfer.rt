@@ -10,11 +10,8 @@ ghost use Rattle.gb_spi.specs.Sizes.{entries_in};
 
 use crate::entries::Entries;
 use gb_base::OutOfMemory;
-use gb_bridge_payload::TransferEntry;
+use gb_bridge_payload::{MOST_PAYLOAD, TransferEntry};
 use std::alloc::Global;
-
-/// The greatest payload of a message.
-pub const MOST_PAYLOAD: usize = 2040;
 
 /// An entry has other bits than 8, or flags above 7.
 pub fn is_any_strange(entries: &[u8]) -> bool

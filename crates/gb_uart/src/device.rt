@@ -10,13 +10,10 @@ ghost use Rattle.gb_formats.specs.UartRecords.{uart_ask_payload};
 use gb_base::{Bytes, OutOfMemory, OwnAsk, OwnAsks, Served};
 use gb_bridge_payload::uart_kinds::{RECEIVE_CREDITS, RECEIVE_DATA, SERIAL_STATE};
 use gb_bridge_payload::{
-    INVALID, OVERFLOW, PROTOCOL_BAD, SUCCESS, UartAsk, done, fault_result, refused,
+    INVALID, MOST_PAYLOAD, OVERFLOW, PROTOCOL_BAD, SUCCESS, UartAsk, done, fault_result, refused,
 };
 use std::alloc::Global;
 use std::marker::Model;
-
-/// The greatest payload of a message.
-const MOST_PAYLOAD: usize = 2040;
 
 /// The most bytes that one request may send.
 pub const MOST_SENT: usize = 2037;

@@ -1,8 +1,8 @@
 use Rattle.std.proofs.Common.{map, arith, refl, ap, append-nil, drop_of_length-le}
 use Rattle.std.specs.List.{concat}
+use Rattle.gb_bridge_payload.proofs.Putting.{next_before, next_piece, putting_all, putting_more, putting_none, putting_room}
 use Rattle.gb_formats.specs.Bridges.{spi_op_bytes, spi_payload, spi_written}
-use Rattle.gb_spi.proofs.Bridged.{bridged, counted, next_entry, next_piece, payload_fits_in, written_fits}
-use Rattle.gb_spi.proofs.Putting.{putting_all, putting_more, putting_none, putting_room}
+use Rattle.gb_spi.proofs.Bridged.{bridged, counted, payload_fits_in, written_fits}
 use Rattle.gb_spi.proofs.bridging.transfer.Goals as goal
 
 pub overflow_cast-ops : goal.overflow_cast-ops
@@ -21,7 +21,7 @@ pub put_behind-at-requires-in-loop-op : goal.put_behind-at-requires-in-loop-op
 put_behind-at-requires-in-loop-op c =
     let ops = c.args.ops.now in
     let room = payload_fits_in c.args.select c.args.mode ops c.args.out.now c.requires c.if-not-payload_fits.ensures in
-    let next = next_entry ops c.op-item.result c.loop-op.op-index (concat (map spi_written ops)) c.loop-op-test.true c.op-item.is in
+    let next = next_before spi_op_bytes ops c.op-item.result c.loop-op.op-index (concat (map spi_written ops)) c.loop-op-test.true c.op-item.is in
     rw c.fields.ensures (putting_room _ _ (spi_op_bytes c.op-item.result) _ _ _ c.loop-op.at next room c.loop-op.invariant)
 
 pub put_behind-at-requires-in-loop-op-2 : goal.put_behind-at-requires-in-loop-op-2

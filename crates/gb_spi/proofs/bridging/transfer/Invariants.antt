@@ -1,8 +1,8 @@
 -- The entries and then what they write are put behind one another.
 use Rattle.std.proofs.Common.{◌++◌, drop, map}
 use Rattle.std.specs.List.{concat}
+use Rattle.gb_bridge_payload.proofs.Putting.{Putting}
 use Rattle.gb_formats.specs.Bridges.{spi_op_bytes, spi_payload, spi_written}
-use Rattle.gb_spi.proofs.Putting.{Putting}
 use Rattle.gb_spi.proofs.bridging.transfer.Given as goal
 
 abbrev pub invariant-loop-op : goal.invariant-loop-op
