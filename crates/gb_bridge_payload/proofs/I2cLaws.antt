@@ -7,11 +7,11 @@ use Rattle.gb_base.specs.Bytes.{AreBytes}
 use Rattle.gb_base.proofs.Bytes.{little_bytes-number2}
 use Rattle.gb_formats.specs.Bytes.{le16}
 use Rattle.gb_formats.specs.I2cRecords.{I2cAsk, i2c_asks, i2c_ask_kind, i2c_ask_payload, read_i2c_ask, read_i2c_transfer, i2c_transfer_size, I2cReply, i2c_replies, i2c_reply_kind, i2c_reply_payload, read_i2c_reply, op_at, op_size, op_written_size, ops_at}
-use Rattle.gb_formats.specs.Records.{PayloadFault, has_read_flag, read_table}
+use Rattle.gb_formats.specs.Records.{PayloadFault, has_read_flag, read_table, row_of}
 use Rattle.gb_payload.specs.Answers.{HasSize, fault_of}
 use Rattle.gb_payload.specs.declared.fault.PayloadFault as code
 use Rattle.gb_payload.proofs.Places.{whole_is, whole_is_not}
-use Rattle.gb_payload.proofs.Tables.{AreSpelt, means_whole, row_of}
+use Rattle.gb_payload.proofs.Tables.{AreSpelt, means_whole}
 use Rattle.gb_bridge_payload.specs.Conditions.{AreOps, IsI2cAsk}
 use Rattle.gb_bridge_payload.specs.Protocols as formats
 use Rattle.gb_bridge_payload.proofs.Numbers.{Agree, agree_front, agree_less, number_in_front, number_same_at, two_bytes}

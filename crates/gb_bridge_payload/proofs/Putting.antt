@@ -80,6 +80,15 @@ piece_within piece (first ∷ items) item (suc i) h at =
 abbrev pub room_of : {A : Type 0} → ℕ → (A → List ℕ) → A → ℕ
 room_of size bytes item = size + length (bytes item)
 
+-- all heads
+pub heads_long : {A : Type 0} (size : ℕ) (head : A → List ℕ) → ((item : A) → length (head item) ≡ size) → (items : List A) → length (concat (map head items)) ≡ size * length items
+heads_long size head long [] = omega arith
+heads_long size head long (item ∷ items) =
+    let both = length-append (head item) (concat (map head items)) in
+    let one = long item in
+    let more = heads_long size head long items in
+    omega (arith, both, one, more)
+
 -- all of them
 pub rooms : {A : Type 0} (size : ℕ) (head bytes : A → List ℕ) → ((item : A) → length (head item) ≡ size) → (items : List A) → length (concat (map head items)) + length (concat (map bytes items)) ≡ sum_by (room_of size bytes) items
 rooms size head bytes long [] = refl

@@ -6,12 +6,12 @@ use Rattle.byteorder.specs.Endian.{little_number}
 use Rattle.gb_base.specs.Bytes.{AreBytes}
 use Rattle.gb_base.proofs.Bytes.{little_bytes-number2, little_bytes-number4}
 use Rattle.gb_formats.specs.Bytes.{le16}
-use Rattle.gb_formats.specs.Records.{PayloadFault, le32, read_table}
+use Rattle.gb_formats.specs.Records.{PayloadFault, le32, read_table, row_of}
 use Rattle.gb_formats.specs.SpiRecords.{SpiAsk, spi_asks, spi_ask_kind, spi_ask_payload, read_spi_ask, read_spi_transfer, spi_transfer_size, SpiReply, spi_replies, spi_reply_kind, spi_reply_payload, read_spi_reply, read_device, name_size, entry_at, entry_size, entry_written_size, entries_at}
 use Rattle.gb_payload.specs.Answers.{HasSize, fault_of}
 use Rattle.gb_payload.specs.declared.fault.PayloadFault as code
 use Rattle.gb_payload.proofs.Places.{one_size, whole_is, whole_is_not}
-use Rattle.gb_payload.proofs.Tables.{AreSpelt, means_whole, row_of}
+use Rattle.gb_payload.proofs.Tables.{AreSpelt, means_whole}
 use Rattle.gb_bridge_payload.specs.Conditions.{IsSpiAsk}
 use Rattle.gb_bridge_payload.specs.Protocols as formats
 use Rattle.gb_bridge_payload.proofs.Numbers.{Agree, agree_front, agree_less, four_bytes, number_in_front, number_same_at, one_byte, two_bytes}

@@ -2,12 +2,12 @@
 use Rattle.std.proofs.Common.{◌≡◌, ◌≢◌, ℕ, Bool, true, false, cond, eqb, None, Result, Ok, Err, List, refl, arith, sym, ap, subst, ◌∙◌}
 use Rattle.std.proofs.lemmas.Bool.Decides.{nat_tests}
 use Rattle.gb_base.specs.Bytes.{AreBytes}
-use Rattle.gb_formats.specs.Records.{PayloadFault, Row, read_table}
+use Rattle.gb_formats.specs.Records.{PayloadFault, Row, read_table, row_of}
 use Rattle.gb_payload.specs.Answers.{Answers}
 use Rattle.gb_payload.specs.Meaning.{Format, Means}
 use Rattle.gb_payload.specs.declared.fault.PayloadFault as code
 use Rattle.gb_payload.proofs.Places.{same_record}
-use Rattle.gb_payload.proofs.Tables.{AreSpelt, means_by_table, row_of}
+use Rattle.gb_payload.proofs.Tables.{AreSpelt, means_by_table}
 
 -- what reading a payload of a type means, where it is read so
 abbrev pub MeansBy : {A B : Type 0} → Format A → (B → A) → ℕ → List ℕ → (List ℕ → Result A PayloadFault) → Type 0

@@ -5,10 +5,10 @@ use Rattle.byteorder.specs.Endian.{little_number}
 use Rattle.gb_base.specs.Bytes.{AreBytes}
 use Rattle.gb_base.proofs.Bytes.{little_bytes-number2}
 use Rattle.gb_formats.specs.Bytes.{le16}
-use Rattle.gb_formats.specs.Records.{read_table}
+use Rattle.gb_formats.specs.Records.{read_table, row_of}
 use Rattle.gb_formats.specs.UartRecords.{UartAsk, uart_asks, uart_ask_kind, uart_ask_payload, read_uart_ask, read_send, read_receive, UartReply, uart_replies, uart_reply_kind, uart_reply_payload}
 use Rattle.gb_payload.proofs.Places.{IsSize}
-use Rattle.gb_payload.proofs.Tables.{AreSpelt, means_whole, row_of}
+use Rattle.gb_payload.proofs.Tables.{AreSpelt, means_whole}
 use Rattle.gb_bridge_payload.specs.Protocols as formats
 use Rattle.gb_bridge_payload.proofs.Numbers.{agree_front, agree_less, agree_zeros, number_same}
 use Rattle.gb_bridge_payload.proofs.Types.{MeansBy, by_table, by_type}

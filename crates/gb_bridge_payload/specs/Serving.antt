@@ -11,7 +11,7 @@ use Rattle.gb_formats.specs.Results.{Step}
 -- A device answers a request as its step says, and is then the device after it. After want of
 -- memory it is as before.
 abbrev pub ServesAs : {D : Type 0} → Step D → D → D → Result Served OutOfMemory → Type 0
-ServesAs step old new (Ok served) = (served ≡ step.served) × (new ≡ step.device)
+ServesAs step old new (Ok served) = (served ≡ step.served) × (new ≡ step.after)
 ServesAs step old new (Err refused) = new ≡ old
 
 -- the fault that a value of the code stands for

@@ -1,7 +1,7 @@
 //! Requests of the GPIO protocol.
 
 ghost use Rattle.std.specs.Prelude.{◌≡◌, IfOk, take};
-ghost use Rattle.gb_formats.specs.GpioRecords.{read_gpio_ask, gpio_ask_kind, gpio_ask_payload};
+ghost use Rattle.gb_formats.specs.GpioRecords.{gpio_ask_kind, gpio_ask_payload, read_gpio_ask, read_gpio_ask_of_ap, read_gpio_ask_of_module};
 ghost use Rattle.gb_bridge_payload.specs.Protocols.{gpio_asks};
 ghost use Rattle.gb_bridge_payload.specs.Views.{gpio_ask_of};
 ghost use Rattle.gb_payload.specs.Answers.{Answers};
@@ -98,6 +98,28 @@ impl GpioAsk {
         ensures means { Means gpio_asks gpio_ask_of kind payload.now result }
     {
         row(kind, payload)
+    }
+
+    /// Reads the payload of a type of which the application processor makes the requests. The other
+    /// types are unknown.
+    pub fn read_of_ap(kind: u8, payload: &[u8]) -> Result<GpioAsk, PayloadFault>
+        ensures { Answers gpio_ask_of (read_gpio_ask_of_ap kind payload.now) result }
+    {
+        match kind {
+            IRQ_EVENT => Err(PayloadFault::UnknownKind),
+            _ => row(kind, payload),
+        }
+    }
+
+    /// Reads the payload of a type of which the module makes the requests. The other types are
+    /// unknown.
+    pub fn read_of_module(kind: u8, payload: &[u8]) -> Result<GpioAsk, PayloadFault>
+        ensures { Answers gpio_ask_of (read_gpio_ask_of_module kind payload.now) result }
+    {
+        match kind {
+            IRQ_EVENT => row(kind, payload),
+            _ => Err(PayloadFault::UnknownKind),
+        }
     }
 
     /// Writes the payload to the front of `out`, and answers its length. NoRoom exactly where `out`

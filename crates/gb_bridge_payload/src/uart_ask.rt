@@ -1,7 +1,7 @@
 //! Requests of the UART protocol.
 
 ghost use Rattle.std.specs.Prelude.{◌≡◌, IfOk, take};
-ghost use Rattle.gb_formats.specs.UartRecords.{read_receive, read_send, read_uart_ask, uart_ask_kind, uart_ask_payload};
+ghost use Rattle.gb_formats.specs.UartRecords.{read_receive, read_send, read_uart_ask, read_uart_ask_of_ap, read_uart_ask_of_module, uart_ask_kind, uart_ask_payload};
 ghost use Rattle.gb_bridge_payload.specs.Conditions.{IsUartAsk};
 ghost use Rattle.gb_bridge_payload.specs.Protocols.{uart_asks};
 ghost use Rattle.gb_bridge_payload.specs.Views.{uart_ask_of};
@@ -81,6 +81,28 @@ impl<'a> UartAsk<'a> {
         ensures means { Means uart_asks uart_ask_of kind payload.now result }
     {
         row(kind, payload)
+    }
+
+    /// Reads the payload of a type of which the application processor makes the requests. The other
+    /// types are unknown.
+    pub fn read_of_ap(kind: u8, payload: &'a [u8]) -> Result<UartAsk<'a>, PayloadFault>
+        ensures { Answers uart_ask_of (read_uart_ask_of_ap kind payload.now) result }
+    {
+        match kind {
+            RECEIVE_DATA | SERIAL_STATE | RECEIVE_CREDITS => Err(PayloadFault::UnknownKind),
+            _ => row(kind, payload),
+        }
+    }
+
+    /// Reads the payload of a type of which the module makes the requests. The other types are
+    /// unknown.
+    pub fn read_of_module(kind: u8, payload: &'a [u8]) -> Result<UartAsk<'a>, PayloadFault>
+        ensures { Answers uart_ask_of (read_uart_ask_of_module kind payload.now) result }
+    {
+        match kind {
+            RECEIVE_DATA | SERIAL_STATE | RECEIVE_CREDITS => row(kind, payload),
+            _ => Err(PayloadFault::UnknownKind),
+        }
     }
 
     /// Writes the payload to the front of `out`, and answers its length. There are at most 65,535

@@ -20,21 +20,26 @@ use Rattle.gb_machine.specs.Wiring.{all_ended, side_ended}
 
 -- ---- the numbers of the open requests
 
-pub opens : (n : ℕ) (k : ℕ) (at : Side) (b : machine.Bus) (mark : ℕ → Bool) (slots : List Slot) (reqs : List Request)
-    → ((i j : ℕ) → j ≡ n + i → slice_get slots i ≡ option_map (kept (outcome_of j b) (mark j)) (slice_get reqs i))
+pub opens : (n : ℕ) (k : ℕ) (at : Side) (b : machine.Bus) (mark : ℕ → Bool) (slots : List Slot)
+    (reqs : List Request)
+    → ((i j : ℕ) → j ≡ n + i → slice_get slots i
+    ≡ option_map (kept (outcome_of j b) (mark j)) (slice_get reqs i))
     → open_in n k at slots ≡ open_from n (is_of k at) b reqs
 opens n k at b mark [] [] tell = refl
 opens n k at b mark [] (r ∷ rs) tell = let e = tell 0 n (omega arith) in absurd cc
 opens n k at b mark (s ∷ ss) [] tell = let e = tell 0 n (omega arith) in absurd cc
 opens n k at b mark (s ∷ ss) (r ∷ rs) tell =
-    let is : s ≡ kept (outcome_of n b) (mark n) r = same-some s (kept (outcome_of n b) (mark n) r) (tell 0 n (omega arith)) in
+    let is : s ≡ kept (outcome_of n b) (mark n) r =
+    same-some s (kept (outcome_of n b) (mark n) r) (tell 0 n (omega arith)) in
     let later = opens (n + 1) k at b mark ss rs (λ i j e. tell (suc i) j (omega (arith, e))) in
-    ap (λ (t : Slot). cond (is_open_on k at t) (n ∷ open_in (n + 1) k at ss) (open_in (n + 1) k at ss)) is
+    ap (λ (t : Slot). cond (is_open_on k at t) (n ∷ open_in (n + 1) k at ss)
+    (open_in (n + 1) k at ss)) is
     ∙ ap (λ ns. cond (is_of k at r && is_none (outcome_of n b)) (n ∷ ns) ns) later
 
 -- ---- how they end
 
-stays-ended : (ns : List ℕ) (n : ℕ) (how : Outcome) (outs : List (ℕ × Outcome)) → lookup n outs ≡ Some how
+stays-ended : (ns : List ℕ) (n : ℕ) (how : Outcome) (outs : List (ℕ × Outcome)) → lookup n outs
+    ≡ Some how
     → lookup n (all_ended ns how outs) ≡ Some how
 stays-ended [] n how outs h = h
 stays-ended (m ∷ ns) n how outs h = stays-ended ns n how ((m, how) ∷ outs) (by (eqb m n))
@@ -43,16 +48,20 @@ stays-ended (m ∷ ns) n how outs h = stays-ended ns n how ((m, how) ∷ outs) (
     by true = refl
     by false = h
 
-ended-all : (ns : List ℕ) (n : ℕ) (how : Outcome) (outs : List (ℕ × Outcome)) → IsIn n ns → lookup n (all_ended ns how outs) ≡ Some how
+ended-all : (ns : List ℕ) (n : ℕ) (how : Outcome) (outs : List (ℕ × Outcome)) → IsIn n ns
+    → lookup n (all_ended ns how outs) ≡ Some how
 ended-all [] n how outs i = absurd i
 ended-all (m ∷ ns) n how outs (inl e) =
-    stays-ended ns n how ((m, how) ∷ outs) (ap (λ j. lookup j ((m, how) ∷ outs)) e ∙ pair-there m how outs)
+    stays-ended ns n how ((m, how) ∷ outs)
+    (ap (λ j. lookup j ((m, how) ∷ outs)) e ∙ pair-there m how outs)
 ended-all (m ∷ ns) n how outs (inr i) = ended-all ns n how ((m, how) ∷ outs) i
 
 -- of another side nothing ends
-other-ends : (k : ℕ) (at : Side) (b : machine.Bus) (n : ℕ) (r : Request) → request_of n b ≡ Some r → is_of k at r ≡ false
+other-ends : (k : ℕ) (at : Side) (b : machine.Bus) (n : ℕ) (r : Request) → request_of n b ≡ Some r
+    → is_of k at r ≡ false
     → outcome_of n (side_ended k at b) ≡ outcome_of n b
-other-ends k at b n r made other = lookup-past-all (open_on k at b) n outcome.Disconnected b.outcomes out
+other-ends k at b n r made other =
+    lookup-past-all (open_on k at b) n outcome.Disconnected b.outcomes out
   where
     out : IsIn n (open_on k at b) → ⊥
     out i =
@@ -60,15 +69,18 @@ other-ends k at b n r made other = lookup-past-all (open_on k at b) n outcome.Di
         not-both (is_of k at r) (ap (is_of k at) (same-some r q.0 (sym made ∙ q.1)) ∙ q.2) other
 
 -- of the side the open ones end
-own-ends : (k : ℕ) (at : Side) (b : machine.Bus) (n : ℕ) (r : Request) → request_of n b ≡ Some r → is_of k at r ≡ true
+own-ends : (k : ℕ) (at : Side) (b : machine.Bus) (n : ℕ) (r : Request) → request_of n b ≡ Some r
+    → is_of k at r ≡ true
     → outcome_of n (side_ended k at b) ≡ Some (or_disconnected (outcome_of n b))
 own-ends k at b n r made own = by (outcome_of n b) refl
   where
     clash : (o : Outcome) → None ≡ Some o → ⊥
     clash o e = absurd cc
 
-    by : (o : Option Outcome) → outcome_of n b ≡ o → outcome_of n (side_ended k at b) ≡ Some (or_disconnected o)
-    by None free = ended-all (open_on k at b) n outcome.Disconnected b.outcomes (open_requests-in (is_of k at) b n r made own free)
+    by : (o : Option Outcome) → outcome_of n b ≡ o → outcome_of n (side_ended k at b)
+        ≡ Some (or_disconnected o)
+    by None free = ended-all (open_on k at b) n outcome.Disconnected b.outcomes
+        (open_requests-in (is_of k at) b n r made own free)
     by (Some o) e =
         lookup-past-all (open_on k at b) n outcome.Disconnected b.outcomes
         (λ i. clash o (sym (in-open_requests (is_of k at) b n i).3 ∙ e)) ∙ e
@@ -83,24 +95,29 @@ marks k at b n t e =
 -- the slots that are over say so
 pub tell_closed : (k : ℕ) (at : Side) (b : machine.Bus) (slots : List Slot)
     → Tell slots b.requests (λ n. outcome_of n b) (λ n. is_given_up n b)
-    → Tell (map (over k at) slots) b.requests (λ n. outcome_of n (side_ended k at b)) (λ n. is_given_up n (side_ended k at b))
+    → Tell (map (over k at) slots) b.requests (λ n. outcome_of n (side_ended k at b))
+    (λ n. is_given_up n (side_ended k at b))
 tell_closed k at b slots tell =
     tell_mapped slots b.requests (λ n. outcome_of n b) (λ n. outcome_of n (side_ended k at b))
     (λ n. is_given_up n b) (λ n. is_given_up n (side_ended k at b)) (over k at) each tell
   where
     each : (n : ℕ) (r : Request) → nth n b.requests ≡ Some r
-        → over k at (kept (outcome_of n b) (is_given_up n b) r) ≡ kept (outcome_of n (side_ended k at b)) (is_given_up n (side_ended k at b)) r
+        → over k at (kept (outcome_of n b) (is_given_up n b) r)
+        ≡ kept (outcome_of n (side_ended k at b)) (is_given_up n (side_ended k at b)) r
     each n r made = by (is_of k at r) refl
       where
         passing : passes (is_of k at) b n ≡ is_of k at r
         passing = ap (made_passes (is_of k at)) made
 
         by : (t : Bool) → is_of k at r ≡ t
-            → cond t (kept (Some (or_disconnected (outcome_of n b))) false r) (kept (outcome_of n b) (is_given_up n b) r)
+            → cond t (kept (Some (or_disconnected (outcome_of n b))) false r)
+            (kept (outcome_of n b) (is_given_up n b) r)
             ≡ kept (outcome_of n (side_ended k at b)) (is_given_up n (side_ended k at b)) r
         by true e =
             sym (ap (λ o. kept o (is_given_up n (side_ended k at b)) r) (own-ends k at b n r made e)
-            ∙ ap (λ m. kept (Some (or_disconnected (outcome_of n b))) m r) (marks k at b n true (passing ∙ e)))
+            ∙ ap (λ m. kept (Some (or_disconnected (outcome_of n b))) m r)
+            (marks k at b n true (passing ∙ e)))
         by false e =
-            sym (ap (λ o. kept o (is_given_up n (side_ended k at b)) r) (other-ends k at b n r made e)
+            sym (ap (λ o. kept o (is_given_up n (side_ended k at b)) r)
+            (other-ends k at b n r made e)
             ∙ ap (λ m. kept (outcome_of n b) m r) (marks k at b n false (passing ∙ e)))

@@ -9,7 +9,6 @@ use Rattle.gb_bus.specs.Slots.{at_number, with_mark, with_outcome}
 use Rattle.gb_bus.specs.Stands.{Shows, kept, slot_of}
 use Rattle.gb_bus.specs.Taking.{open_kind}
 use Rattle.gb_bus.specs.declared.bus.Bus.{Bus}
-use Rattle.gb_invariants.proofs.Awaiting.{not-both}
 use Rattle.gb_invariants.proofs.Outcomes.{is-same, same-number}
 use Rattle.gb_machine.specs.Bus as machine
 use Rattle.gb_machine.specs.Bus.{Request, is_open, outcome_of, request_of}
@@ -24,17 +23,21 @@ pub apart-tests : (m n : ℕ) → n < m ⊎ m < n → eqb m n ≡ false
 apart-tests m n h = grind (arith, nat_tests, h)
 
 -- behind a new pair a lookup of another number goes on
-pub lookup-other : (m n : ℕ) (v : Outcome) (outs : List (ℕ × Outcome)) → n < m ⊎ m < n → lookup n ((m, v) ∷ outs) ≡ lookup n outs
+pub lookup-other : (m n : ℕ) (v : Outcome) (outs : List (ℕ × Outcome)) → n < m ⊎ m < n
+    → lookup n ((m, v) ∷ outs) ≡ lookup n outs
 lookup-other m n v outs h = ap (λ b. cond b (Some v) (lookup n outs)) (apart-tests m n h)
 
-pub lookup-same : (n : ℕ) (v : Outcome) (outs : List (ℕ × Outcome)) → lookup n ((n, v) ∷ outs) ≡ Some v
+pub lookup-same : (n : ℕ) (v : Outcome) (outs : List (ℕ × Outcome)) → lookup n ((n, v) ∷ outs)
+    ≡ Some v
 lookup-same n v outs = ap (λ b. cond b (Some v) (lookup n outs)) (is-same n)
 
 -- a mark that is added is one more
-pub any-pushed : (n m : ℕ) (ns : List ℕ) (t : Bool) → eqb m n ≡ t → list_any (λ j. eqb j n) (ns ++ m ∷ []) ≡ (t || list_any (λ j. eqb j n) ns)
+pub any-pushed : (n m : ℕ) (ns : List ℕ) (t : Bool) → eqb m n ≡ t
+    → list_any (λ j. eqb j n) (ns ++ m ∷ []) ≡ (t || list_any (λ j. eqb j n) ns)
 any-pushed n m [] true e = ap (λ b. b || false) e
 any-pushed n m [] false e = ap (λ b. b || false) e
-any-pushed n m (k ∷ ns) t e = ap (λ b. eqb k n || b) (any-pushed n m ns t e) ∙ swap (eqb k n) t (list_any (λ j. eqb j n) ns)
+any-pushed n m (k ∷ ns) t e = ap (λ b. eqb k n || b) (any-pushed n m ns t e)
+    ∙ swap (eqb k n) t (list_any (λ j. eqb j n) ns)
   where
     swap : (a b c : Bool) → a || (b || c) ≡ (b || (a || c))
     swap true true c = refl
@@ -75,11 +78,15 @@ shows-forgotten x b n s = record {
     other : (m : ℕ) → m < n ⊎ n < m → is_given_up m (forgotten n b) ≡ is_given_up m b
     other m h =
         any-filter_same (λ j. eqb j m) (λ j. not (eqb j n)) true
-        (λ j e. ap not (ap (λ i. eqb i n) (same-number j m e) ∙ apart-tests m n (⊎_elim (λ l. inr l) (λ l. inl l) h))) b.given_up
+        (λ j e. ap not (ap (λ i. eqb i n) (same-number j m e)
+        ∙ apart-tests m n (⊎_elim (λ l. inr l) (λ l. inl l) h))) b.given_up
 
 -- a request was given up
 pub shows-gave_up : (x : Bus) (b : machine.Bus) (n : ℕ) (how : Outcome) → Shows x b
-    → Shows (record x { slots = at_number n (with_mark true) (at_number n (with_outcome how) x.slots) }) (gave_up n how b)
+    → Shows (record x {
+      slots = at_number n (with_mark true)
+          (at_number n (with_outcome how) x.slots);
+    }) (gave_up n how b)
 shows-gave_up x b n how s = record {
   made = s.made;
   connections = s.connections;
@@ -88,7 +95,8 @@ shows-gave_up x b n how s = record {
   slots = tell_changed (at_number n (with_outcome how) x.slots) b.requests
       (λ m. outcome_of m (gave_up n how b)) (λ m. outcome_of m (gave_up n how b))
       (λ m. is_given_up m b) (λ m. is_given_up m (gave_up n how b)) n (with_mark true)
-      (λ r. ap (λ g. kept (outcome_of n (gave_up n how b)) g r) (sym own)) (λ m h. (refl, other m h))
+      (λ r. ap (λ g. kept (outcome_of n (gave_up n how b)) g r) (sym own))
+      (λ m h. (refl, other m h))
       (shows-ended x b n how s).slots;
 }
   where
@@ -101,21 +109,23 @@ shows-gave_up x b n how s = record {
 -- ---- what is said of a request by its slot
 
 pub data Said (b : machine.Bus) (n : ℕ) : Type 0 where
-  still : (r : Request) → request_of n b ≡ Some r → is_open n b ≡ true → outcome_of n b ≡ None → open_kind (slot_of n b) ≡ Some r.kind → Said b n
-  over : is_open n b ≡ false → open_kind (slot_of n b) ≡ None → (is_some (request_of n b) ≡ true → is_some (outcome_of n b) ≡ true) → Said b n
+  still : (r : Request) → request_of n b ≡ Some r → is_open n b ≡ true → outcome_of n b ≡ None
+      → open_kind (slot_of n b) ≡ Some r.kind → Said b n
+  over : is_open n b ≡ false → open_kind (slot_of n b) ≡ None → Said b n
 
-said_by : (b : machine.Bus) (n : ℕ) (o : Option Request) → request_of n b ≡ o → (w : Option Outcome) → outcome_of n b ≡ w → Said b n
+said_by : (b : machine.Bus) (n : ℕ) (o : Option Request) → request_of n b ≡ o → (w : Option Outcome)
+    → outcome_of n b ≡ w → Said b n
 said_by b n None e w f =
     over (ap (λ o. is_some o && is_none (outcome_of n b)) e)
     (ap (λ o. open_kind (option_map (kept (outcome_of n b) (is_given_up n b)) o)) e)
-    (λ h. absurd (not-both (is_some (request_of n b)) h (ap is_some e)))
 said_by b n (Some r) e None f =
     still r e (ap (λ o. is_some o && is_none (outcome_of n b)) e ∙ ap is_none f) f
-    (ap (λ o. open_kind (option_map (kept (outcome_of n b) (is_given_up n b)) o)) e ∙ ap (λ w. open_kind (Some (kept w (is_given_up n b) r))) f)
+    (ap (λ o. open_kind (option_map (kept (outcome_of n b) (is_given_up n b)) o)) e
+    ∙ ap (λ w. open_kind (Some (kept w (is_given_up n b) r))) f)
 said_by b n (Some r) e (Some v) f =
     over (ap (λ o. is_some o && is_none (outcome_of n b)) e ∙ ap is_none f)
-    (ap (λ o. open_kind (option_map (kept (outcome_of n b) (is_given_up n b)) o)) e ∙ ap (λ w. open_kind (Some (kept w (is_given_up n b) r))) f)
-    (λ h. ap is_some f)
+    (ap (λ o. open_kind (option_map (kept (outcome_of n b) (is_given_up n b)) o)) e
+    ∙ ap (λ w. open_kind (Some (kept w (is_given_up n b) r))) f)
 
 pub said : (b : machine.Bus) (n : ℕ) → Said b n
 said b n = said_by b n (request_of n b) refl (outcome_of n b) refl

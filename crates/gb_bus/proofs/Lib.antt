@@ -6,8 +6,8 @@ pub mod Endings
 pub mod Finding
 pub mod Fronts
 pub mod Looks
+pub mod Loosening
 pub mod Moves
-pub mod Places
 pub mod Queues
 pub mod Replies
 pub mod Sends

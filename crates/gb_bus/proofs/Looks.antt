@@ -16,6 +16,7 @@ use Rattle.gb_bus.specs.declared.bus.Bus.{Bus}
 use Rattle.gb_bus.specs.declared.connection.Connection.{Connection}
 use Rattle.gb_bus.specs.declared.queue.Item.{Item}
 use Rattle.gb_invariants.proofs.Awaiting.{same-some}
+use Rattle.gb_invariants.specs.Facts.{Loose}
 use Rattle.gb_machine.specs.Bus as machine
 use Rattle.gb_machine.specs.Bus.{Place, Request, connection_of, has_number, place_of, queue, same_end}
 use Rattle.gb_machine.specs.Labels.{fresh_label, greatest_label, next_label}
@@ -26,28 +27,35 @@ use Rattle.gb_machine.specs.Wiring as wiring
 
 -- ---- which connection joins two ends
 
-joins-agree : (rs : List Request) (a i c : ℕ) → Agree rs (joins a (end.Module i c)) (wiring.joins a i c)
+joins-agree : (rs : List Request) (a i c : ℕ)
+    → Agree rs (joins a (end.Module i c)) (wiring.joins a i c)
 joins-agree rs a i c x m h =
-    ap (λ n. eqb n a && same_end x.peer (end.Module i c)) h.ap ∙ ap (λ p. eqb m.ap a && same_end p (end.Module i c)) h.peer
+    ap (λ n. eqb n a && same_end x.peer (end.Module i c)) h.ap
+    ∙ ap (λ p. eqb m.ap a && same_end p (end.Module i c)) h.peer
 
-pub lives : (x : Bus) (b : machine.Bus) (a i c : ℕ) → Stands x b
+pub lives : (loose : List Loose) (x : Bus) (b : machine.Bus) (a i c : ℕ) → Stands loose x b
     → option_map (λ (y : Connection). y.number) (find (joins a (end.Module i c)) x.connections)
     ≡ option_map (λ (m : machine.Connection). m.number) (wiring.joining a i c b)
-lives x b a i c s =
-    same-of b.requests (option_map (λ (y : Connection). y.number)) (option_map (λ (m : machine.Connection). m.number))
-    (find (joins a (end.Module i c)) x.connections) (wiring.joining a i c b) refl (λ y m h. ap Some h.number)
-    (found b.requests (joins a (end.Module i c)) (wiring.joins a i c) x.connections b.connections (joins-agree b.requests a i c)
+lives loose x b a i c s =
+    same-of b.requests (option_map (λ (y : Connection). y.number))
+    (option_map (λ (m : machine.Connection). m.number))
+    (find (joins a (end.Module i c)) x.connections) (wiring.joining a i c b) refl
+    (λ y m h. ap Some h.number)
+    (found b.requests (joins a (end.Module i c)) (wiring.joins a i c) x.connections b.connections
+    (joins-agree b.requests a i c)
     s.shows.connections)
 
 -- ---- identifiers
 
 -- the next identifier of a side of a connection
-pub next-is : (x : Bus) (b : machine.Bus) (k : ℕ) (at : Side) → StandForAll b.requests x.connections b.connections
+pub next-is : (x : Bus) (b : machine.Bus) (k : ℕ) (at : Side)
+    → StandForAll b.requests x.connections b.connections
     → next_in k at x.connections ≡ next_label k at b
 next-is x b k at h =
     same-of b.requests (option_and_then (next_of at)) (option_and_then (fresh_label at))
     (find (numbered k) x.connections) (find (has_number k) b.connections) refl
-    (λ y m s. ap (λ l. cond (ltb l greatest_label) (Some (l + 1)) None) (last-is b.requests at y m s))
+    (λ y m s. ap (λ l. cond (ltb l greatest_label) (Some (l + 1)) None)
+    (last-is b.requests at y m s))
     (found-number b.requests k x.connections b.connections h)
 
 -- a test of an option, by the other one
@@ -58,49 +66,61 @@ none-tests (Some v) true h = absurd cc
 none-tests (Some v) false h = refl
 
 -- where the connection is live
-pub spent-is : (x : Bus) (b : machine.Bus) (k : ℕ) (at : Side) (found : Connection) (o : Option ℕ) (t : Bool) → Stands x b
-    → find (numbered k) x.connections ≡ Some found → o ≡ next_of at found → is_some o ≡ not t → t ≡ is_none (next_label k at b)
-spent-is x b k at found o t s looks e h =
+pub spent-is : (loose : List Loose) (x : Bus) (b : machine.Bus) (k : ℕ) (at : Side)
+    (found : Connection) (o : Option ℕ) (t : Bool) → Stands loose x b
+    → find (numbered k) x.connections ≡ Some found → o ≡ next_of at found → is_some o ≡ not t → t
+    ≡ is_none (next_label k at b)
+spent-is loose x b k at found o t s looks e h =
     none-tests o t h
-    ∙ ap is_none (e ∙ sym (ap (option_and_then (next_of at)) looks) ∙ next-is x b k at s.shows.connections)
+    ∙ ap is_none (e ∙ sym (ap (option_and_then (next_of at)) looks)
+    ∙ next-is x b k at s.shows.connections)
 
 -- where it isn't
-pub spent-nowhere : (x : Bus) (b : machine.Bus) (k : ℕ) (at : Side) → Stands x b → find (numbered k) x.connections ≡ None
+pub spent-nowhere : (loose : List Loose) (x : Bus) (b : machine.Bus) (k : ℕ) (at : Side)
+    → Stands loose x b → find (numbered k) x.connections ≡ None
     → true ≡ is_none (next_label k at b)
-spent-nowhere x b k at s none =
+spent-nowhere loose x b k at s none =
     ap is_none (sym (ap (option_and_then (next_of at)) none) ∙ next-is x b k at s.shows.connections)
 
 -- ---- how many wait
 
-length-is : (rs : List Request) (is : List Item) (ms : List machine.Item) → StandsForQueue rs is ms → length is ≡ length ms
+length-is : (rs : List Request) (is : List Item) (ms : List machine.Item) → StandsForQueue rs is ms
+    → length is ≡ length ms
 length-is rs [] [] h = refl
 length-is rs (i ∷ is) (m ∷ ms) h = ap suc (length-is rs is ms h.1)
 length-is rs [] (m ∷ ms) h = absurd h
 length-is rs (i ∷ is) [] h = absurd h
 
 -- where the end is named
-pub waits : (x : Bus) (b : machine.Bus) (at : End) (k : ℕ) (to : Side) (found : Connection) → Stands x b
+pub waits : (loose : List Loose) (x : Bus) (b : machine.Bus) (at : End) (k : ℕ) (to : Side)
+    (found : Connection) → Stands loose x b
     → place_at at x.connections ≡ Some (k, to) → find (numbered k) x.connections ≡ Some found
     → Some (length (queue_of to found)) ≡ option_map count_at (place_of at b.connections)
-waits x b at k to found s named looks =
-    let w = placed x b at k to s named in
+waits loose x b at k to found s named looks =
+    let w = placed loose x b at k to s named in
     let same : w.found ≡ found = same-some w.found found (sym w.looks ∙ looks) in
     ap (λ c. Some (length (queue_of to c))) (sym same)
-    ∙ ap Some (length-is b.requests (queue_of to w.found) (queue to w.connection) (queue-stands b.requests to w.found w.connection w.stands))
+    ∙ ap Some (length-is b.requests (queue_of to w.found) (queue to w.connection)
+    (queue-stands b.requests to w.found w.connection w.stands))
     ∙ sym (ap (option_map count_at) w.named)
 
 -- where it is, its connection is found
-pub waits-there : (x : Bus) (b : machine.Bus) (at : End) (k : ℕ) (to : Side) → Stands x b
+pub waits-there : (loose : List Loose) (x : Bus) (b : machine.Bus) (at : End) (k : ℕ) (to : Side)
+    → Stands loose x b
     → place_at at x.connections ≡ Some (k, to) → find (numbered k) x.connections ≡ None → ⊥
-waits-there x b at k to s named none = let w = placed x b at k to s named in absurd (some-none (sym w.looks ∙ none))
+waits-there loose x b at k to s named none = let w = placed loose x b at k to s named in
+    absurd (some-none (sym w.looks ∙ none))
   where
     some-none : {A : Type 0} {y : A} → Some y ≡ None → ⊥
     some-none e = absurd cc
 
 -- where it isn't
-pub waits-nowhere : (x : Bus) (b : machine.Bus) (at : End) → Stands x b → place_at at x.connections ≡ None
+pub waits-nowhere : (loose : List Loose) (x : Bus) (b : machine.Bus) (at : End) → Stands loose x b
+    → place_at at x.connections ≡ None
     → None ≡ option_map count_at (place_of at b.connections)
-waits-nowhere x b at s none = by (place_of at b.connections) (sym (place-is b.requests at x.connections b.connections s.shows.connections) ∙ none)
+waits-nowhere loose x b at s none =
+    by (place_of at b.connections) (sym
+    (place-is b.requests at x.connections b.connections s.shows.connections) ∙ none)
   where
     by : (o : Option Place) → option_map told o ≡ None → None ≡ option_map count_at o
     by None e = refl
@@ -121,62 +141,79 @@ head-more q qs = by (sorted queue_before qs)
     by [] = refl
     by (r ∷ rs) = two (queue_before q r)
       where
-        two : (t : Bool) → option_map (λ (p : Queue). p.at) (first (cond t (q ∷ r ∷ rs) (r ∷ in_order queue_before q rs)))
+        two : (t : Bool) → option_map (λ (p : Queue). p.at)
+            (first (cond t (q ∷ r ∷ rs) (r ∷ in_order queue_before q rs)))
             ≡ cond t (Some q.at) (Some r.at)
         two true = refl
         two false = refl
 
 -- one more queue, unless it is empty
-head-unless : (rs : List Request) (at : End) (is : List Item) (ms : List machine.Item) (qs : List Queue) → StandsForQueue rs is ms
+head-unless : (rs : List Request) (at : End) (is : List Item) (ms : List machine.Item)
+    (qs : List Queue) → StandsForQueue rs is ms
     → head (unless_empty at ms ++ qs) ≡ earlier (is_none_left is) at (head qs)
 head-unless rs at [] [] qs h = refl
-head-unless rs at (i ∷ is) (m ∷ ms) qs h = head-more (record { at = at; count = length (m ∷ ms) }) qs
+head-unless rs at (i ∷ is) (m ∷ ms) qs h =
+    head-more (record { at = at; count = length (m ∷ ms) }) qs
 head-unless rs at [] (m ∷ ms) qs h = absurd h
 head-unless rs at (i ∷ is) [] qs h = absurd h
 
 -- the queues of one more connection
-head-of : (rs : List Request) (x : Connection) (c : machine.Connection) (qs : List Queue) → StandsForConnection rs x c
+head-of : (rs : List Request) (x : Connection) (c : machine.Connection) (qs : List Queue)
+    → StandsForConnection rs x c
     → head (queues_of c ++ qs) ≡ earliest_of x (head qs)
 head-of rs x c qs h = by x.wired c.wired h.wired
   where
     both : head ((unless_empty (end.Ap c.ap) c.to_ap ++ unless_empty c.peer c.to_far) ++ qs)
-        ≡ earlier (is_none_left x.to_ap) (end.Ap x.ap) (earlier (is_none_left x.to_far) x.peer (head qs))
+        ≡ earlier (is_none_left x.to_ap) (end.Ap x.ap)
+        (earlier (is_none_left x.to_far) x.peer (head qs))
     both =
-        ap head (append_assoc (unless_empty (end.Ap c.ap) c.to_ap) (unless_empty c.peer c.to_far) qs)
+        ap head (append_assoc (unless_empty (end.Ap c.ap) c.to_ap) (unless_empty c.peer c.to_far)
+        qs)
         ∙ head-unless rs (end.Ap c.ap) x.to_ap c.to_ap (unless_empty c.peer c.to_far ++ qs) h.to_ap
-        ∙ ap (earlier (is_none_left x.to_ap) (end.Ap c.ap)) (head-unless rs c.peer x.to_far c.to_far qs h.to_far)
-        ∙ ap (λ a. earlier (is_none_left x.to_ap) (end.Ap a) (earlier (is_none_left x.to_far) c.peer (head qs))) (sym h.ap)
-        ∙ ap (λ p. earlier (is_none_left x.to_ap) (end.Ap x.ap) (earlier (is_none_left x.to_far) p (head qs))) (sym h.peer)
+        ∙ ap (earlier (is_none_left x.to_ap) (end.Ap c.ap))
+        (head-unless rs c.peer x.to_far c.to_far qs h.to_far)
+        ∙ ap (λ a. earlier (is_none_left x.to_ap) (end.Ap a)
+        (earlier (is_none_left x.to_far) c.peer (head qs))) (sym h.ap)
+        ∙ ap (λ p. earlier (is_none_left x.to_ap) (end.Ap x.ap)
+        (earlier (is_none_left x.to_far) p (head qs))) (sym h.peer)
 
     by : (a b : Bool) → a ≡ b
-        → head (cond b (unless_empty (end.Ap c.ap) c.to_ap ++ unless_empty c.peer c.to_far) [] ++ qs)
-        ≡ cond a (earlier (is_none_left x.to_ap) (end.Ap x.ap) (earlier (is_none_left x.to_far) x.peer (head qs))) (head qs)
+        → head (cond b (unless_empty (end.Ap c.ap) c.to_ap ++ unless_empty c.peer c.to_far) [] ++
+        qs)
+        ≡ cond a (earlier (is_none_left x.to_ap) (end.Ap x.ap)
+        (earlier (is_none_left x.to_far) x.peer (head qs))) (head qs)
     by true true e = both
     by false false e = refl
     by true false e = absurd cc
     by false true e = absurd cc
 
-first-is : (rs : List Request) (xs : List Connection) (cs : List machine.Connection) → StandForAll rs xs cs
+first-is : (rs : List Request) (xs : List Connection) (cs : List machine.Connection)
+    → StandForAll rs xs cs
     → earliest_in xs ≡ head (queues_in cs)
 first-is rs [] [] h = refl
-first-is rs (x ∷ xs) (c ∷ cs) h = ap (earliest_of x) (first-is rs xs cs h.1) ∙ sym (head-of rs x c (queues_in cs) h.0)
+first-is rs (x ∷ xs) (c ∷ cs) h = ap (earliest_of x) (first-is rs xs cs h.1)
+    ∙ sym (head-of rs x c (queues_in cs) h.0)
 first-is rs [] (c ∷ cs) h = absurd h
 first-is rs (x ∷ xs) [] h = absurd h
 
-pub firsts : (x : Bus) (b : machine.Bus) → Stands x b → earliest_in x.connections ≡ first_waiting b
-firsts x b s = first-is b.requests x.connections b.connections s.shows.connections
+pub firsts : (loose : List Loose) (x : Bus) (b : machine.Bus) → Stands loose x b
+    → earliest_in x.connections ≡ first_waiting b
+firsts loose x b s = first-is b.requests x.connections b.connections s.shows.connections
 
 -- ---- wires
 
 -- whether a connection is there and wired
-pub wired-is : (x : Bus) (b : machine.Bus) (k : ℕ) → StandForAll b.requests x.connections b.connections
+pub wired-is : (x : Bus) (b : machine.Bus) (k : ℕ)
+    → StandForAll b.requests x.connections b.connections
     → parts.is_wired (find (numbered k) x.connections) ≡ is_wired (connection_of k b)
 wired-is x b k h =
-    same-of b.requests parts.is_wired is_wired (find (numbered k) x.connections) (connection_of k b) refl (λ y c s. s.wired)
+    same-of b.requests parts.is_wired is_wired (find (numbered k) x.connections) (connection_of k b)
+    refl (λ y c s. s.wired)
     (found-number b.requests k x.connections b.connections h)
 
 -- whether some connection is wired to an interface
-pub wired-to-is : (rs : List Request) (i : ℕ) (xs : List Connection) (cs : List machine.Connection) → StandForAll rs xs cs
+pub wired-to-is : (rs : List Request) (i : ℕ) (xs : List Connection) (cs : List machine.Connection)
+    → StandForAll rs xs cs
     → list_any (parts.is_wired_to i) xs ≡ list_any (wiring.is_wired_to i) cs
 wired-to-is rs i [] [] h = refl
 wired-to-is rs i (x ∷ xs) (c ∷ cs) h =

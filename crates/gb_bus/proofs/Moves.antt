@@ -15,94 +15,84 @@ use Rattle.gb_machine.specs.Labels.{last_label, with_last_label}
 use Rattle.gb_machine.specs.Lists.{behind_first}
 use Rattle.gb_machine.specs.Sending as sending
 
-pub queue-stands : (rs : List Request) (at : Side) (x : Connection) (c : machine.Connection) → StandsForConnection rs x c
+pub queue-stands : (rs : List Request) (at : Side) (x : Connection) (c : machine.Connection)
+    → StandsForConnection rs x c
     → StandsForQueue rs (queue_of at x) (queue at c)
 queue-stands rs side.Ap x c h = h.to_ap
 queue-stands rs side.Far x c h = h.to_far
 
-pub last-is : (rs : List Request) (at : Side) (x : Connection) (c : machine.Connection) → StandsForConnection rs x c
+pub last-is : (rs : List Request) (at : Side) (x : Connection) (c : machine.Connection)
+    → StandsForConnection rs x c
     → last_of at x ≡ last_label at c
 last-is rs side.Ap x c h = h.ap_last
 last-is rs side.Far x c h = h.far_last
 
+-- what a connection stands for, field by field in the order of the record
+stands-by : (rs : List Request) (x : Connection) (c : machine.Connection)
+    → x.number ≡ c.number → x.ap ≡ c.ap → x.peer ≡ c.peer → x.protocol ≡ c.protocol
+    → x.wired ≡ c.wired → c.clean ≡ true → x.shut ≡ c.shut
+    → x.ap_last ≡ c.ap_last → x.far_last ≡ c.far_last
+    → StandsForQueue rs x.to_ap c.to_ap → StandsForQueue rs x.to_far c.to_far
+    → StandsForConnection rs x c
+stands-by rs x c number ap peer protocol wired clean shut ap_last far_last to_ap to_far = record {
+  number = number;
+  ap = ap;
+  peer = peer;
+  protocol = protocol;
+  wired = wired;
+  clean = clean;
+  shut = shut;
+  ap_last = ap_last;
+  far_last = far_last;
+  to_ap = to_ap;
+  to_far = to_far;
+}
+
 -- a queue is another
-pub with_queue-stands : (rs : List Request) (at : Side) (is : List Item) (ms : List machine.Item) (x : Connection) (c : machine.Connection)
-    → StandsForQueue rs is ms → StandsForConnection rs x c → StandsForConnection rs (with_queue at is x) (machine.with_queue at ms c)
-with_queue-stands rs side.Ap is ms x c q h = record {
-  number = h.number;
-  ap = h.ap;
-  peer = h.peer;
-  protocol = h.protocol;
-  wired = h.wired;
-  clean = h.clean;
-  shut = h.shut;
-  ap_last = h.ap_last;
-  far_last = h.far_last;
-  to_ap = q;
-  to_far = h.to_far;
-}
-with_queue-stands rs side.Far is ms x c q h = record {
-  number = h.number;
-  ap = h.ap;
-  peer = h.peer;
-  protocol = h.protocol;
-  wired = h.wired;
-  clean = h.clean;
-  shut = h.shut;
-  ap_last = h.ap_last;
-  far_last = h.far_last;
-  to_ap = h.to_ap;
-  to_far = q;
-}
+pub with_queue-stands : (rs : List Request) (at : Side) (is : List Item) (ms : List machine.Item)
+    (x : Connection) (c : machine.Connection)
+    → StandsForQueue rs is ms → StandsForConnection rs x c
+    → StandsForConnection rs (with_queue at is x) (machine.with_queue at ms c)
+with_queue-stands rs side.Ap is ms x c q h =
+    stands-by rs _ _ h.number h.ap h.peer h.protocol h.wired h.clean h.shut h.ap_last h.far_last q
+    h.to_far
+with_queue-stands rs side.Far is ms x c q h =
+    stands-by rs _ _ h.number h.ap h.peer h.protocol h.wired h.clean h.shut h.ap_last h.far_last
+    h.to_ap q
 
 -- an identifier was drawn
-pub drawn-stands : (rs : List Request) (at : Side) (label : ℕ) → Together rs rs (with_last at label) (with_last_label at label)
-drawn-stands rs side.Ap label x c h = record {
-  number = h.number;
-  ap = h.ap;
-  peer = h.peer;
-  protocol = h.protocol;
-  wired = h.wired;
-  clean = h.clean;
-  shut = h.shut;
-  ap_last = refl;
-  far_last = h.far_last;
-  to_ap = h.to_ap;
-  to_far = h.to_far;
-}
-drawn-stands rs side.Far label x c h = record {
-  number = h.number;
-  ap = h.ap;
-  peer = h.peer;
-  protocol = h.protocol;
-  wired = h.wired;
-  clean = h.clean;
-  shut = h.shut;
-  ap_last = h.ap_last;
-  far_last = refl;
-  to_ap = h.to_ap;
-  to_far = h.to_far;
-}
+pub drawn-stands : (rs : List Request) (at : Side) (label : ℕ)
+    → Together rs rs (with_last at label) (with_last_label at label)
+drawn-stands rs side.Ap label x c h =
+    stands-by rs _ _ h.number h.ap h.peer h.protocol h.wired h.clean h.shut refl h.far_last h.to_ap
+    h.to_far
+drawn-stands rs side.Far label x c h =
+    stands-by rs _ _ h.number h.ap h.peer h.protocol h.wired h.clean h.shut h.ap_last refl h.to_ap
+    h.to_far
 
 -- a message goes to the end of a queue, unless the connection isn't wired
-pub put-stands : (rs : List Request) (at : Side) (i : Item) (m : machine.Item) → StandsForItem rs i m
+pub put-stands : (rs : List Request) (at : Side) (i : Item) (m : machine.Item)
+    → StandsForItem rs i m
     → Together rs rs (put at i) (sending.put at m)
 put-stands rs at i m item x c h = by x.wired c.wired h.wired
   where
-    queued : StandsForConnection rs (with_queue at (queue_of at x ++ i ∷ []) x) (machine.with_queue at (queue at c ++ m ∷ []) c)
+    queued : StandsForConnection rs (with_queue at (queue_of at x ++ i ∷ []) x)
+        (machine.with_queue at (queue at c ++ m ∷ []) c)
     queued =
         with_queue-stands rs at (queue_of at x ++ i ∷ []) (queue at c ++ m ∷ []) x c
         (queue_push rs (queue_of at x) (queue at c) i m (queue-stands rs at x c h) item) h
 
     by : (a b : Bool) → a ≡ b
-        → StandsForConnection rs (cond a (with_queue at (queue_of at x ++ i ∷ []) x) x) (cond b (machine.with_queue at (queue at c ++ m ∷ []) c) c)
+        → StandsForConnection rs (cond a (with_queue at (queue_of at x ++ i ∷ []) x) x)
+        (cond b (machine.with_queue at (queue at c ++ m ∷ []) c) c)
     by true true e = queued
     by false false e = h
     by true false e = absurd cc
     by false true e = absurd cc
 
 -- the front message of a queue is taken
-pub front-stands : (rs : List Request) (at : Side) → Together rs rs (without_front at) (delivery.without_front at)
+pub front-stands : (rs : List Request) (at : Side)
+    → Together rs rs (without_front at) (delivery.without_front at)
 front-stands rs at x c h =
     with_queue-stands rs at (behind_first (queue_of at x)) (behind_first (queue at c)) x c
     (behind rs (queue_of at x) (queue at c) (queue-stands rs at x c h)) h
@@ -116,51 +106,21 @@ front-stands rs at x c h =
 
 -- a connection is wired
 pub wired-stands : (rs : List Request) → Together rs rs with_wire (λ c. record c { wired = true })
-wired-stands rs x c h = record {
-  number = h.number;
-  ap = h.ap;
-  peer = h.peer;
-  protocol = h.protocol;
-  wired = refl;
-  clean = h.clean;
-  shut = h.shut;
-  ap_last = h.ap_last;
-  far_last = h.far_last;
-  to_ap = h.to_ap;
-  to_far = h.to_far;
-}
+wired-stands rs x c h =
+    stands-by rs _ _ h.number h.ap h.peer h.protocol refl h.clean h.shut h.ap_last h.far_last
+    h.to_ap h.to_far
 
 -- or isn't any more
-pub cleared-stands : (rs : List Request) → Together rs rs cleared (λ c. record c { wired = false; to_ap = []; to_far = [] })
-cleared-stands rs x c h = record {
-  number = h.number;
-  ap = h.ap;
-  peer = h.peer;
-  protocol = h.protocol;
-  wired = refl;
-  clean = h.clean;
-  shut = h.shut;
-  ap_last = h.ap_last;
-  far_last = h.far_last;
-  to_ap = tt;
-  to_far = tt;
-}
+pub cleared-stands : (rs : List Request)
+    → Together rs rs cleared (λ c. record c { wired = false; to_ap = []; to_far = [] })
+cleared-stands rs x c h =
+    stands-by rs _ _ h.number h.ap h.peer h.protocol refl h.clean h.shut h.ap_last h.far_last tt tt
 
 -- or is closed
 pub closed-stands : (rs : List Request) → Together rs rs closed (λ c. record c { shut = true })
-closed-stands rs x c h = record {
-  number = h.number;
-  ap = h.ap;
-  peer = h.peer;
-  protocol = h.protocol;
-  wired = h.wired;
-  clean = h.clean;
-  shut = refl;
-  ap_last = h.ap_last;
-  far_last = h.far_last;
-  to_ap = h.to_ap;
-  to_far = h.to_far;
-}
+closed-stands rs x c h =
+    stands-by rs _ _ h.number h.ap h.peer h.protocol h.wired h.clean refl h.ap_last h.far_last
+    h.to_ap h.to_far
 
 -- it is the same
 pub same-stands : (rs : List Request) → Together rs rs (λ x. x) (λ c. c)
@@ -168,16 +128,7 @@ same-stands rs x c h = h
 
 -- and is so where one more request was made
 pub more-stands : (rs : List Request) (r : Request) → Together rs (rs ++ r ∷ []) (λ x. x) (λ c. c)
-more-stands rs r x c h = record {
-  number = h.number;
-  ap = h.ap;
-  peer = h.peer;
-  protocol = h.protocol;
-  wired = h.wired;
-  clean = h.clean;
-  shut = h.shut;
-  ap_last = h.ap_last;
-  far_last = h.far_last;
-  to_ap = queue_more rs r x.to_ap c.to_ap h.to_ap;
-  to_far = queue_more rs r x.to_far c.to_far h.to_far;
-}
+more-stands rs r x c h =
+    stands-by (rs ++ r ∷ []) _ _ h.number h.ap h.peer h.protocol h.wired h.clean h.shut h.ap_last
+    h.far_last (queue_more rs r x.to_ap c.to_ap h.to_ap)
+    (queue_more rs r x.to_far c.to_far h.to_far)

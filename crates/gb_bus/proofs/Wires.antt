@@ -1,5 +1,5 @@
 -- Connections that are made, wired, unwired, closed and removed stand for the machine's.
-use Rattle.std.proofs.Common.{◌≡◌, ℕ, suc, ◌+◌, true, false, option_map, List, [], ◌∷◌, ◌++◌, map, refl, sym, ap, ◌∙◌, subst, arith}
+use Rattle.std.proofs.Common.{◌≡◌, ◌≤◌, ℕ, suc, ◌+◌, ◌==◌, not, true, false, option_map, List, [], ◌∷◌, ◌++◌, map, refl, sym, ap, ◌∙◌, subst, arith}
 use Rattle.std.proofs.lemmas.List.{length-map}
 use Rattle.std.specs.List.{slice_get}
 use Rattle.gb_base.specs.declared.end.End.TheVariants as end
@@ -11,55 +11,73 @@ use Rattle.gb_bus.proofs.Standing.{changed, one-more, removed}
 use Rattle.gb_bus.specs.Parts.{cleared, closed, new_connection, numbered, with_wire}
 use Rattle.gb_bus.specs.Slots.{open_in, over}
 use Rattle.gb_bus.specs.Stands.{Keeps, Shows, StandForAll, Stands, kept}
-use Rattle.gb_bus.specs.Wiring.{Attaches, EndsAs, IsOther, MayAttach}
+use Rattle.gb_bus.specs.Wiring.{Attaches, EndsAs, IsOther, MayAttach, elsewhere}
 use Rattle.gb_bus.specs.declared.bus.Bus.{Bus}
 use Rattle.gb_bus.specs.declared.connection.Connection.{Connection}
 use Rattle.gb_invariants.proofs.Apart.{apart-attached, apart-changed, apart-detached}
 use Rattle.gb_invariants.proofs.Changes.{attached-keeps, detached-keeps, shut-keeps, unwired-keeps, wired-keeps}
-use Rattle.gb_invariants.proofs.Lists.{each-from, each-in}
-use Rattle.gb_invariants.specs.Facts.{IsMade}
+use Rattle.gb_invariants.proofs.Awaiting.{not-both}
+use Rattle.gb_invariants.proofs.Counts.{times-filter}
+use Rattle.gb_invariants.proofs.Lists.{each-from, each-in, in-without}
+use Rattle.gb_invariants.proofs.Outcomes.{is-same}
+use Rattle.gb_invariants.specs.Facts.{IsMade, Loose, times_in}
 use Rattle.gb_machine.specs.Bus as machine
 use Rattle.gb_machine.specs.Bus.{Request, outcome_of}
-use Rattle.gb_machine.specs.LawsBus.{AreApart}
+use Rattle.gb_machine.specs.LawsBus.{AreApart, is_item_of}
 use Rattle.gb_machine.specs.Lists.{at_first, without}
-use Rattle.gb_machine.specs.Members.{Each}
+use Rattle.gb_machine.specs.Members.{Each, IsIn}
 use Rattle.gb_machine.specs.Requests.{is_given_up, open_on}
 use Rattle.gb_machine.specs.Wiring as wiring
 use Rattle.gb_machine.specs.Wiring.{attached, detached, next_connection, shut_down, side_ended, unwired, wired, with_connection}
 
 -- only connections change
-pub shows-connections : (x : Bus) (b : machine.Bus) (xs : List Connection) (cs : List machine.Connection)
-    → StandForAll b.requests xs cs → Shows x b → Shows (record x { connections = xs }) (record b { connections = cs })
-shows-connections x b xs cs h s = record { made = s.made; connections = h; count = s.count; slots = s.slots }
+pub shows-connections : (x : Bus) (b : machine.Bus) (xs : List Connection)
+    (cs : List machine.Connection)
+    → StandForAll b.requests xs cs → Shows x b
+    → Shows (record x { connections = xs }) (record b { connections = cs })
+shows-connections x b xs cs h s =
+    record { made = s.made; connections = h; count = s.count; slots = s.slots }
 
-pub wires : (x y : Bus) (b : machine.Bus) (k : ℕ) → Stands x b
-    → y ≡ record x { connections = at_first (numbered k) with_wire x.connections } → Stands y (wired k b)
-wires x y b k s e =
-    subst (λ (w : Bus). Stands w (wired k b)) (sym e) (record {
-      shows = shows-connections x b (at_first (numbered k) with_wire x.connections) (wired k b).connections
-          (changed b.requests b.requests k with_wire (λ c. record c { wired = true }) x.connections b.connections
+pub wires : (loose : List Loose) (x y : Bus) (b : machine.Bus) (k : ℕ) → Stands loose x b
+    → y ≡ record x { connections = at_first (numbered k) with_wire x.connections }
+    → Stands loose y (wired k b)
+wires loose x y b k s e =
+    subst (λ (w : Bus). Stands loose w (wired k b)) (sym e) (record {
+      shows = shows-connections x b (at_first (numbered k) with_wire x.connections)
+          (wired k b).connections
+          (changed b.requests b.requests k with_wire (λ c. record c { wired = true }) x.connections
+          b.connections
           (wired-stands b.requests) (same-stands b.requests) s.shows.connections) s.shows;
       facts = record {
-        fits = wired-keeps [] k b s.facts.fits;
-        apart = apart-changed b k (λ c. record c { wired = true }) (λ c. record { number = refl; ap = refl; peer = refl }) s.facts.apart;
+        fits = wired-keeps loose k b s.facts.fits;
+        apart = apart-changed b k (λ c. record c { wired = true })
+            (λ c. record { number = refl; ap = refl; peer = refl }) s.facts.apart;
       };
     })
 
-pub detaches : (x y : Bus) (b : machine.Bus) (k : ℕ) → Stands x b
-    → y ≡ record x { connections = without (numbered k) x.connections } → Stands y (detached k b)
-detaches x y b k s e =
-    subst (λ (w : Bus). Stands w (detached k b)) (sym e) (record {
+pub detaches : (loose : List Loose) (x y : Bus) (b : machine.Bus) (k : ℕ) → Stands loose x b
+    → y ≡ record x { connections = without (numbered k) x.connections }
+    → Stands loose y (detached k b)
+detaches loose x y b k s e =
+    subst (λ (w : Bus). Stands loose w (detached k b)) (sym e) (record {
       shows = shows-connections x b (without (numbered k) x.connections) (detached k b).connections
           (removed b.requests k x.connections b.connections s.shows.connections) s.shows;
-      facts = record { fits = detached-keeps [] k b s.facts.fits; apart = apart-detached b k s.facts.apart };
+      facts = record {
+        fits = detached-keeps loose k b s.facts.fits;
+        apart =
+            apart-detached b k s.facts.apart;
+      };
     })
 
 -- ---- a connection is made
 
-new_ends : (b : machine.Bus) (a i c protocol : ℕ) → Keeps b → MayAttach a i c b
-    → Each (λ x. AreApart x (wiring.new_connection (next_connection b) a (end.Module i c) protocol)) b.connections
-new_ends b a i c protocol f may =
-    each-from (λ x. AreApart x (wiring.new_connection (next_connection b) a (end.Module i c) protocol)) b.connections
+new_ends : (loose : List Loose) (b : machine.Bus) (a i c protocol : ℕ) → Keeps loose b
+    → MayAttach a i c b
+    → Each (λ x. AreApart x (wiring.new_connection (next_connection b) a (end.Module i c) protocol))
+    b.connections
+new_ends loose b a i c protocol f may =
+    each-from (λ x. AreApart x (wiring.new_connection (next_connection b) a (end.Module i c)
+    protocol)) b.connections
     (λ x live.
     let own = each-in (IsOther a i c) b.connections x may live in
     let range = each-in (IsMade b) b.connections x f.fits.numbers.range live in
@@ -69,18 +87,24 @@ new_ends b a i c protocol f may =
       peers = own.peer;
     })
 
-pub attaches : (x y : Bus) (b : machine.Bus) (a i c protocol k : ℕ) → Stands x b → MayAttach a i c b → k ≡ x.made + 1
-    → y ≡ record x { made = k; connections = x.connections ++ new_connection k a (end.Module i c) protocol ∷ [] }
-    → Attaches y a i c protocol b k
-attaches x y b a i c protocol k s may number e =
+pub attaches : (loose : List Loose) (x y : Bus) (b : machine.Bus) (a i c protocol k : ℕ)
+    → Stands loose x b → MayAttach a i c b → k ≡ x.made + 1
+    → y ≡ record x {
+      made = k;
+      connections =
+          x.connections ++ new_connection k a (end.Module i c) protocol ∷ [];
+    }
+    → Attaches loose y a i c protocol b k
+attaches loose x y b a i c protocol k s may number e =
     let next : k ≡ next_connection b = number ∙ ap (λ n. n + 1) s.shows.made in
     record {
       number = next;
-      stands = subst (λ (w : Bus). Stands w (attached a i c protocol b)) (sym e) (record {
+      stands = subst (λ (w : Bus). Stands loose w (attached a i c protocol b)) (sym e) (record {
         shows = record {
           made = next;
           connections = one-more b.requests (new_connection k a (end.Module i c) protocol)
-              (wiring.new_connection (next_connection b) a (end.Module i c) protocol) x.connections b.connections
+              (wiring.new_connection (next_connection b) a (end.Module i c) protocol) x.connections
+              b.connections
               (record {
                 number = next;
                 ap = refl;
@@ -98,8 +122,9 @@ attaches x y b a i c protocol k s may number e =
           slots = s.shows.slots;
         };
         facts = record {
-          fits = attached-keeps [] b a i c protocol s.facts.fits;
-          apart = apart-attached b a i c protocol (new_ends b a i c protocol s.facts may) s.facts.apart;
+          fits = attached-keeps loose b a i c protocol s.facts.fits;
+          apart = apart-attached b a i c protocol (new_ends loose b a i c protocol s.facts may)
+              s.facts.apart;
         };
       });
     }
@@ -107,10 +132,12 @@ attaches x y b a i c protocol k s may number e =
 -- ---- a side ends
 
 -- the open requests that slots tell of
-pub opened-on : (x : Bus) (b : machine.Bus) (k : ℕ) (at : Side) → Shows x b → open_in 1 k at x.slots ≡ open_on k at b
+pub opened-on : (x : Bus) (b : machine.Bus) (k : ℕ) (at : Side) → Shows x b → open_in 1 k at x.slots
+    ≡ open_on k at b
 opened-on x b k at s =
     opens 1 k at b (λ n. is_given_up n b) x.slots b.requests (λ i j e.
-    subst (λ m. slice_get x.slots i ≡ option_map (kept (outcome_of m b) (is_given_up m b)) (slice_get b.requests i))
+    subst (λ m. slice_get x.slots i
+    ≡ option_map (kept (outcome_of m b) (is_given_up m b)) (slice_get b.requests i))
     (let f : suc i ≡ j = omega (arith, e) in f) (s.slots (suc i)))
 
 -- connections change, and then a side of one ends
@@ -123,20 +150,44 @@ shows-closed x b k at s = record {
   slots = tell_closed k at b x.slots s.slots;
 }
 
-pub unwires : (x y : Bus) (b : machine.Bus) (k : ℕ) (was now more : List ℕ) → Stands x b
-    → y ≡ record x { connections = at_first (numbered k) cleared x.connections; slots = map (over k side.Far) x.slots }
+-- items that are of other connections are among those that there are
+of-elsewhere : (k : ℕ) (loose : List Loose) (l : Loose) → IsIn l (elsewhere k loose)
+    → IsIn l loose × (l.connection ≡ k → ⊥)
+of-elsewhere k loose l i =
+    let w = in-without (λ (m : Loose). m.connection == k) loose l i in
+    (w.0, λ e. other (l.connection) e w.1)
+  where
+    other : (n : ℕ) → n ≡ k → (n == k) ≡ false → ⊥
+    other n e h = not-both (n == k) (ap (λ m. m == k) e ∙ is-same k) h
+
+fewer-elsewhere : (k : ℕ) (loose : List Loose) (b : machine.Bus) (n : ℕ)
+    → times_in (is_item_of n) (elsewhere k loose) b ≤ times_in (is_item_of n) loose b
+fewer-elsewhere k loose b n =
+    let t = times-filter (λ (l : Loose). is_item_of n l.item)
+    (λ (m : Loose). not (m.connection == k)) loose in
+    omega (arith, t)
+
+pub unwires : (loose : List Loose) (x y : Bus) (b : machine.Bus) (k : ℕ) (was now more : List ℕ)
+    → Stands loose x b
+    → y ≡ record x {
+      connections = at_first (numbered k) cleared x.connections;
+      slots =
+          map (over k side.Far) x.slots;
+    }
     → more ≡ open_in 1 k side.Far x.slots → now ≡ was ++ more
-    → EndsAs y k side.Far b (unwired k b) was now
-unwires x y b k was now more s e opened after = record {
-  stands = subst (λ (w : Bus). Stands w (unwired k b)) (sym e) (record {
+    → EndsAs (elsewhere k loose) y k side.Far b (unwired k b) was now
+unwires loose x y b k was now more s e opened after = record {
+  stands = subst (λ (w : Bus). Stands (elsewhere k loose) w (unwired k b)) (sym e) (record {
     shows = shows-closed (record x { connections = at_first (numbered k) cleared x.connections })
         (with_connection k (λ c. record c { wired = false; to_ap = []; to_far = [] }) b) k side.Far
         (shows-connections x b (at_first (numbered k) cleared x.connections)
         (with_connection k (λ c. record c { wired = false; to_ap = []; to_far = [] }) b).connections
-        (changed b.requests b.requests k cleared (λ c. record c { wired = false; to_ap = []; to_far = [] }) x.connections b.connections
+        (changed b.requests b.requests k cleared
+        (λ c. record c { wired = false; to_ap = []; to_far = [] }) x.connections b.connections
         (cleared-stands b.requests) (same-stands b.requests) s.shows.connections) s.shows);
     facts = record {
-      fits = unwired-keeps [] [] k b (λ l i. i) (λ l i. absurd i) (λ n. omega arith) s.facts.fits;
+      fits = unwired-keeps loose (elsewhere k loose) k b (λ l i. (of-elsewhere k loose l i).0)
+          (λ l i. (of-elsewhere k loose l i).1) (fewer-elsewhere k loose b) s.facts.fits;
       apart = apart-changed b k (λ c. record c { wired = false; to_ap = []; to_far = [] })
           (λ c. record { number = refl; ap = refl; peer = refl }) s.facts.apart;
     };
@@ -144,21 +195,28 @@ unwires x y b k was now more s e opened after = record {
   ended = after ∙ ap (λ ns. was ++ ns) (opened ∙ opened-on x b k side.Far s.shows);
 }
 
-pub shuts : (x y : Bus) (b : machine.Bus) (k : ℕ) (was now more : List ℕ) → Stands x b
-    → y ≡ record x { connections = at_first (numbered k) closed x.connections; slots = map (over k side.Ap) x.slots }
+pub shuts : (loose : List Loose) (x y : Bus) (b : machine.Bus) (k : ℕ) (was now more : List ℕ)
+    → Stands loose x b
+    → y ≡ record x {
+      connections = at_first (numbered k) closed x.connections;
+      slots =
+          map (over k side.Ap) x.slots;
+    }
     → more ≡ open_in 1 k side.Ap x.slots → now ≡ was ++ more
-    → EndsAs y k side.Ap b (shut_down k b) was now
-shuts x y b k was now more s e opened after = record {
-  stands = subst (λ (w : Bus). Stands w (shut_down k b)) (sym e) (record {
+    → EndsAs loose y k side.Ap b (shut_down k b) was now
+shuts loose x y b k was now more s e opened after = record {
+  stands = subst (λ (w : Bus). Stands loose w (shut_down k b)) (sym e) (record {
     shows = shows-closed (record x { connections = at_first (numbered k) closed x.connections })
         (with_connection k (λ c. record c { shut = true }) b) k side.Ap
         (shows-connections x b (at_first (numbered k) closed x.connections)
         (with_connection k (λ c. record c { shut = true }) b).connections
-        (changed b.requests b.requests k closed (λ c. record c { shut = true }) x.connections b.connections
+        (changed b.requests b.requests k closed (λ c. record c { shut = true }) x.connections
+        b.connections
         (closed-stands b.requests) (same-stands b.requests) s.shows.connections) s.shows);
     facts = record {
-      fits = shut-keeps [] k b s.facts.fits;
-      apart = apart-changed b k (λ c. record c { shut = true }) (λ c. record { number = refl; ap = refl; peer = refl }) s.facts.apart;
+      fits = shut-keeps loose k b s.facts.fits;
+      apart = apart-changed b k (λ c. record c { shut = true })
+          (λ c. record { number = refl; ap = refl; peer = refl }) s.facts.apart;
     };
   });
   ended = after ∙ ap (λ ns. was ++ ns) (opened ∙ opened-on x b k side.Ap s.shows);

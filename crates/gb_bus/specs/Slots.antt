@@ -32,7 +32,8 @@ is_on k at slot = slot.connection == k && same_side at slot.side
 abbrev pub is_open_on : ℕ → Side → Slot → Bool
 is_open_on k at slot = is_on k at slot && is_none slot.outcome
 
--- the numbers of the open requests of a side of a connection, the first slot being that of request n
+-- the numbers of the open requests of a side of a connection, the first slot being that of request
+-- n
 abbrev pub open_in : ℕ → ℕ → Side → List Slot → List ℕ
 open_in n k at [] = []
 open_in n k at (slot ∷ slots) =

@@ -6,7 +6,7 @@ use Rattle.gb_bus.specs.declared.connection.Connection.{Connection}
 use Rattle.gb_bus.specs.declared.queue.Item.{Item}
 use Rattle.gb_bus.specs.declared.queue.Item.TheVariants as code
 use Rattle.gb_bus.specs.declared.slots.Slot.{Slot}
-use Rattle.gb_invariants.specs.Facts.{BusFits}
+use Rattle.gb_invariants.specs.Facts.{BusFits, Loose}
 use Rattle.gb_machine.specs.Bus as machine
 use Rattle.gb_machine.specs.Bus.{Request, outcome_of, request_of}
 use Rattle.gb_machine.specs.LawsBus.{AreApart}
@@ -105,15 +105,15 @@ pub record Shows (x : Bus) (b : machine.Bus) : Type 0 where
   pub count : length b.requests ≡ length x.slots
   pub slots : (n : ℕ) → nth n x.slots ≡ slot_of n b
 
--- What every call keeps of the machine's bus. Numbers of connections rise, outcomes are those of
--- requests that were made, identifiers that are awaited differ and were drawn, items are those of
--- their connections, and each number is in one item at most. Live connections have ends of their
--- own.
-pub record Keeps (b : machine.Bus) : Type 0 where
-  pub fits : BusFits [] b
+-- What every call keeps of the machine's bus, and of the items that are in none of its queues: they
+-- are held, or are being handled. Numbers of connections rise, outcomes are those of requests that
+-- were made, identifiers that are awaited differ and were drawn, items are those of their
+-- connections, and each number is in one item at most. Live connections have ends of their own.
+pub record Keeps (loose : List Loose) (b : machine.Bus) : Type 0 where
+  pub fits : BusFits loose b
   pub apart : EachTwo AreApart b.connections
 
--- The bus stands for this bus part of the machine's state.
-pub record Stands (x : Bus) (b : machine.Bus) : Type 0 where
+-- The bus stands for this bus part of the machine's state, these items being in no queue.
+pub record Stands (loose : List Loose) (x : Bus) (b : machine.Bus) : Type 0 where
   pub shows : Shows x b
-  pub facts : Keeps b
+  pub facts : Keeps loose b

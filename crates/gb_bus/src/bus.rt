@@ -1,8 +1,9 @@
 //! The bus: messages.
 
-ghost use Rattle.std.specs.Prelude.{◌≡◌, ℕ, [], ◌∷◌, ◌++◌, OnOk, OnErr, IfOk, IsErrOf, option_copied, is_some, not, true};
+ghost use Rattle.std.specs.Prelude.{◌≡◌, None, List, [], OnOk, OnErr, IfOk, IsErrOf, option_copied};
+ghost use Rattle.gb_invariants.specs.Facts.{Loose};
 ghost use Rattle.gb_machine.specs.Bus as machine;
-ghost use Rattle.gb_machine.specs.Bus.{first_bus, outcome_of, request_of};
+ghost use Rattle.gb_machine.specs.Bus.{first_bus, outcome_of};
 ghost use Rattle.gb_machine.specs.Lists.{nth};
 ghost use Rattle.gb_machine.specs.Sending.{draft};
 ghost use Rattle.gb_bus.specs.Taking.{dropped, open_kind};
@@ -27,14 +28,14 @@ pub struct Bus {
 
 impl Bus {
     ghost use Rattle.gb_bus.specs.Cancelling.{CancelsAs};
-    ghost use Rattle.gb_bus.specs.Delivering.{DeliversAs, MayReply, RepliesAs};
+    ghost use Rattle.gb_bus.specs.Delivering.{DeliversAs, RepliesAs};
     ghost use Rattle.gb_bus.specs.Moving.{AnswersAs, HandlesAs, LabelsAs, TakesAs};
-    ghost use Rattle.gb_bus.specs.Sending.{IsLive, SendsAs};
+    ghost use Rattle.gb_bus.specs.Sending.{SendsAs};
     ghost use Rattle.gb_bus.specs.Stands.{Stands};
 
     /// The bus on which nothing was sent. It has the connection of the supervisory controller.
     pub fn new(alloc: Global) -> Result<Bus, OutOfMemory>
-        ensures { IfOk result (λ x. Stands x first_bus) }
+        ensures { IfOk result (λ x. Stands [] x first_bus) }
     {
         Ok(Bus {
             alloc,
@@ -45,9 +46,9 @@ impl Bus {
     }
 
     /// Makes a request on connection k. `deadline` is in milliseconds. A unidirectional request has
-    /// identifier 0, and has ended as sent at once. NoLabel comes for no such request, and else where
-    /// the side has no identifier left or the connection isn't live. After want of memory nothing is
-    /// said.
+    /// identifier 0, and has ended as sent at once. NoLabel comes where the connection isn't live,
+    /// and for another request where the side has no identifier left. After want of memory nothing
+    /// is said.
     pub fn send(
         &mut self,
         k: u64,
@@ -57,11 +58,14 @@ impl Bus {
         deadline: u64,
         oneway: bool,
     ) -> Result<Sent, SendFault>
-        ensures step { (b : machine.Bus) → Stands self.old b → SendsAs self.new
-            (draft k side kind payload.now deadline oneway) b result }
+        ensures step { (loose : List Loose) (b : machine.Bus) → Stands loose self.old b
+            → SendsAs loose self.new (draft k side kind payload.now deadline oneway) b result }
         ensures unchanged { IsErrOf result SendFault.NoLabel → self.new ≡ self.old }
     {
-        let lost = !self.is_wired(k);
+        let Some(connection) = self.connections.get(k) else {
+            return Err(SendFault::NoLabel);
+        };
+        let lost = !connection.wired;
         let Some(label) = self.label_for(k, side, oneway) else {
             return Err(SendFault::NoLabel);
         };
@@ -90,10 +94,11 @@ impl Bus {
     }
 
     /// Takes the front message toward an end from its queue. An end that doesn't take messages
-    /// drops it. A late answer frees the identifier of its request.
+    /// drops it. A late answer frees the identifier of its request. A request is in no queue then:
+    /// it is among those that may be answered.
     pub fn deliver(&mut self, at: End, takes: bool) -> Result<Arrived, DeliverFault>
-        ensures step { (b : machine.Bus) → Stands self.old b
-            → DeliversAs self.new at takes b result }
+        ensures step { (loose : List Loose) (b : machine.Bus) → Stands loose self.old b
+            → DeliversAs loose self.new at takes b result }
         ensures unchanged { IsErrOf result DeliverFault.NoConnection → self.new ≡ self.old }
         ensures still { IsErrOf result DeliverFault.QueueEmpty → self.new ≡ self.old }
     {
@@ -108,8 +113,8 @@ impl Bus {
     }
 
     /// Answers a request that was delivered at `side` of a connection: the reply goes toward the
-    /// side that asked, and is lost where the connection isn't wired. A request without a number gets
-    /// none.
+    /// side that asked, and is lost where the connection isn't wired. A request without a number
+    /// gets none, and the bus is as before.
     pub fn reply(
         &mut self,
         k: u64,
@@ -118,8 +123,9 @@ impl Bus {
         code: u8,
         payload: &[u8],
     ) -> Result<(), OutOfMemory>
-        ensures step { OnOk result ((b : machine.Bus) (n : ℕ) → Stands self.old b
-            → MayReply k side asked.now b n → RepliesAs self.new k side n code payload.now b) }
+        ensures step { OnOk result
+            (RepliesAs self.old self.new k side asked.now code payload.now) }
+        ensures unnumbered { asked.now.number ≡ None → self.new ≡ self.old }
     {
         let Some(number) = asked.number else {
             return Ok(());
@@ -135,10 +141,10 @@ impl Bus {
     }
 
     /// Gives up request n, which ends as cancelled. Its identifier stays in use until its answer
-    /// comes. Condition: it was made.
+    /// comes. AlreadyEnded comes where n isn't open: it had ended, or it wasn't made.
     pub fn cancel(&mut self, n: u64) -> Result<(), AlreadyEnded>
-        ensures step { (b : machine.Bus) → Stands self.old b → is_some (request_of n b) ≡ true
-            → CancelsAs self.new n b result }
+        ensures step { (loose : List Loose) (b : machine.Bus) → Stands loose self.old b
+            → CancelsAs loose self.new n b result }
         ensures unchanged { OnErr result (self.new ≡ self.old) }
     {
         if self.open_kind(n).is_none() {
@@ -149,9 +155,9 @@ impl Bus {
         Ok(())
     }
 
-    /// How request n ended, None where it is open. Condition: it was made.
+    /// How request n ended, None where it is open or wasn't made.
     pub fn outcome(&self, n: u64) -> Option<&Outcome>
-        ensures { (b : machine.Bus) → Stands self.now b → is_some (request_of n b) ≡ true
+        ensures { (loose : List Loose) (b : machine.Bus) → Stands loose self.now b
             → option_copied result ≡ outcome_of n b }
     {
         self.slots.get(n)?.outcome.as_ref()

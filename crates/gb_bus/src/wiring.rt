@@ -1,16 +1,22 @@
 //! The bus: which connections there are, and what waits on them.
 
-ghost use Rattle.std.specs.Prelude.{◌≡◌, ◌++◌, OnOk, OnErr, length, option_map, is_none, find};
+ghost use Rattle.std.specs.Prelude.{◌≡◌, List, OnOk, OnErr, option_map, is_none};
 ghost use Rattle.std.specs.List.{list_any};
-ghost use Rattle.gb_bus.specs.Parts as parts;
-ghost use Rattle.gb_bus.specs.Parts.{numbered};
 ghost use Rattle.gb_base.specs.declared.end.Side.TheVariants as side;
+ghost use Rattle.gb_invariants.specs.Facts.{Loose};
 ghost use Rattle.gb_machine.specs.Bus as machine;
 ghost use Rattle.gb_machine.specs.Bus.{connection_of, place_of};
 ghost use Rattle.gb_machine.specs.Labels.{next_label};
 ghost use Rattle.gb_machine.specs.Sending.{is_wired};
 ghost use Rattle.gb_machine.specs.Waiting.{first_waiting};
-ghost use Rattle.gb_machine.specs.Wiring.{detached, is_wired_to, joining, shut_down, unwired, wired};
+ghost use Rattle.gb_machine.specs.Wiring.{
+  detached,
+  is_wired_to,
+  joining,
+  shut_down,
+  unwired,
+  wired,
+};
 
 use crate::Bus;
 use crate::connection::Connection;
@@ -18,12 +24,12 @@ use gb_base::{End, Numbers, OutOfMemory, Side};
 
 impl Bus {
     ghost use Rattle.gb_bus.specs.Stands.{Stands};
-    ghost use Rattle.gb_bus.specs.Wiring.{AttachesAs, EndsAs, MayAttach, count_at};
+    ghost use Rattle.gb_bus.specs.Wiring.{AttachesAs, EndsAs, MayAttach, count_at, elsewhere};
 
-    /// Makes a connection of a CPort of the application processor with a module's CPort, and answers
-    /// its number. It isn't wired. No live connection has the CPort of the application processor or
-    /// that of the module. After want of memory nothing is said. It also comes where no number is
-    /// left.
+    /// Makes a connection of a CPort of the application processor with a module's CPort, and
+    /// answers its number. It isn't wired. No live connection has the CPort of the application
+    /// processor or that of the module. After want of memory nothing is said. It also comes where
+    /// no number is left.
     pub fn attach(
         &mut self,
         ap: u16,
@@ -31,8 +37,9 @@ impl Bus {
         cport: u16,
         protocol: u8,
     ) -> Result<u64, OutOfMemory>
-        ensures step { (b : machine.Bus) → Stands self.old b → MayAttach ap intf cport b
-            → AttachesAs self.new ap intf cport protocol b result }
+        ensures step { (loose : List Loose) (b : machine.Bus) → Stands loose self.old b
+            → MayAttach ap intf cport b
+            → AttachesAs loose self.new ap intf cport protocol b result }
     {
         let Some(number) = self.made.checked_add(1) else {
             return Err(OutOfMemory);
@@ -46,19 +53,20 @@ impl Bus {
 
     /// A connection is wired. It takes no memory today.
     pub fn wire(&mut self, k: u64) -> Result<(), OutOfMemory>
-        ensures step { OnOk result ((b : machine.Bus) → Stands self.old b
-            → Stands self.new (wired k b)) }
+        ensures step { OnOk result ((loose : List Loose) (b : machine.Bus) → Stands loose self.old b
+            → Stands loose self.new (wired k b)) }
     {
         self.connections.wire(k);
         Ok(())
     }
 
-    /// A connection isn't wired any more: what waited in its queues is lost, and the open requests
-    /// of its far side end as disconnected. Their numbers stand in `ended` behind those that stood
-    /// there, in order. After want of memory the bus and `ended` are as before.
+    /// A connection isn't wired any more: what waited in its queues is lost, and what was taken
+    /// from them can't be answered any more. The open requests of its far side end as
+    /// disconnected. Their numbers stand in `ended` after those that stood there, in order. After
+    /// want of memory the bus and `ended` are as before.
     pub fn unwire(&mut self, k: u64, ended: &mut Numbers) -> Result<(), OutOfMemory>
-        ensures step { OnOk result ((b : machine.Bus) → Stands self.old b
-            → EndsAs self.new k side.Far b (unwired k b) ended.old ended.new) }
+        ensures step { OnOk result ((loose : List Loose) (b : machine.Bus) → Stands loose self.old b
+            → EndsAs (elsewhere k loose) self.new k side.Far b (unwired k b) ended.old ended.new) }
         ensures unchanged { OnErr result ((self.new ≡ self.old) × (ended.new ≡ ended.old)) }
     {
         let open = self.slots.open_on(k, Side::Far)?;
@@ -69,11 +77,11 @@ impl Bus {
     }
 
     /// The application processor's side of a connection is closed: its open requests end as
-    /// disconnected. Their numbers stand in `ended` behind those that stood there, in order. After
+    /// disconnected. Their numbers stand in `ended` after those that stood there, in order. After
     /// want of memory the bus and `ended` are as before.
     pub fn shut(&mut self, k: u64, ended: &mut Numbers) -> Result<(), OutOfMemory>
-        ensures step { OnOk result ((b : machine.Bus) → Stands self.old b
-            → EndsAs self.new k side.Ap b (shut_down k b) ended.old ended.new) }
+        ensures step { OnOk result ((loose : List Loose) (b : machine.Bus) → Stands loose self.old b
+            → EndsAs loose self.new k side.Ap b (shut_down k b) ended.old ended.new) }
         ensures unchanged { OnErr result ((self.new ≡ self.old) × (ended.new ≡ ended.old)) }
     {
         let open = self.slots.open_on(k, Side::Ap)?;
@@ -85,14 +93,15 @@ impl Bus {
 
     /// A connection is there no more.
     pub fn detach(&mut self, k: u64)
-        ensures step { (b : machine.Bus) → Stands self.old b → Stands self.new (detached k b) }
+        ensures step { (loose : List Loose) (b : machine.Bus) → Stands loose self.old b
+            → Stands loose self.new (detached k b) }
     {
         self.connections.remove(k);
     }
 
     /// The live connection of a CPort of the application processor with a module's CPort.
     pub fn live(&self, ap: u16, intf: u8, cport: u16) -> Option<u64>
-        ensures { (b : machine.Bus) → Stands self.now b
+        ensures { (loose : List Loose) (b : machine.Bus) → Stands loose self.now b
             → result ≡ option_map (λ c. c.number) (joining ap intf cport b) }
     {
         self.connections.joining(ap, End::Module { intf, cport })
@@ -100,8 +109,7 @@ impl Bus {
 
     /// Connection k is live and wired.
     pub fn is_wired(&self, k: u64) -> bool
-        ensures code { result ≡ parts.is_wired (find (numbered k) self.now.connections) }
-        ensures step { (b : machine.Bus) → Stands self.now b
+        ensures { (loose : List Loose) (b : machine.Bus) → Stands loose self.now b
             → result ≡ is_wired (connection_of k b) }
     {
         match self.connections.get(k) {
@@ -112,7 +120,7 @@ impl Bus {
 
     /// Some connection is wired to a module at an interface.
     pub fn is_wired_to(&self, intf: u8) -> bool
-        ensures { (b : machine.Bus) → Stands self.now b
+        ensures { (loose : List Loose) (b : machine.Bus) → Stands loose self.now b
             → result ≡ list_any (is_wired_to intf) b.connections }
     {
         self.connections.is_wired_to(intf)
@@ -120,14 +128,15 @@ impl Bus {
 
     /// The first end at which something waits, in the order in which queues are settled.
     pub fn first(&self) -> Option<End>
-        ensures { (b : machine.Bus) → Stands self.now b → result ≡ first_waiting b }
+        ensures { (loose : List Loose) (b : machine.Bus) → Stands loose self.now b
+            → result ≡ first_waiting b }
     {
         self.connections.first()
     }
 
     /// How many messages wait at an end, None where no wired connection names it.
     pub fn waiting(&self, at: End) -> Option<u64>
-        ensures { (b : machine.Bus) → Stands self.now b
+        ensures { (loose : List Loose) (b : machine.Bus) → Stands loose self.now b
             → result ≡ option_map count_at (place_of at b.connections) }
     {
         let (connection, side) = self.connections.place(at)?;
@@ -136,7 +145,7 @@ impl Bus {
 
     /// No identifier is left on a side of a connection, or it isn't live.
     pub fn spent(&self, k: u64, side: Side) -> bool
-        ensures { (b : machine.Bus) → Stands self.now b
+        ensures { (loose : List Loose) (b : machine.Bus) → Stands loose self.now b
             → result ≡ is_none (next_label k side b) }
     {
         match self.connections.get(k) {

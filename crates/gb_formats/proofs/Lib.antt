@@ -8,6 +8,7 @@ pub mod SaidValid
 pub mod SaidValidBridges
 pub mod Samples
 pub mod VectorsBadLines
+pub mod VectorsBorders
 pub mod VectorsBridges
 pub mod VectorsDevices
 pub mod VectorsEntries

@@ -9,17 +9,19 @@ use Rattle.gb_base.specs.declared.event.Kind.TheVariants as kind
 use Rattle.gb_base.specs.declared.served.OwnAsk.{OwnAsk}
 use Rattle.gb_base.specs.declared.served.Served.{Served}
 use Rattle.gb_formats.specs.Bridges.{bridge_answer}
+use Rattle.gb_formats.specs.Devices.{Stir}
 use Rattle.gb_formats.specs.I2cDevice.{counted_from}
 use Rattle.gb_formats.specs.Kinds.{kind_manifest}
-use Rattle.gb_formats.specs.Module.{Module, ModuleStep, Stir, module_of_kind, module_raw, module_serve, module_stir}
-use Rattle.gb_formats.specs.Results.{answer_of, refusal_of, own_ask}
+use Rattle.gb_formats.specs.Module.{Module, module_of_kind, module_raw}
+use Rattle.gb_formats.specs.ModuleSteps.{module_serve, module_stir}
+use Rattle.gb_formats.specs.Results.{Step, answer_of, refusal_of, own_ask}
 use Rattle.gb_formats.specs.UartDevice.{credits_spent, credits_added}
 
 -- a request: CPort, type and payload
 abbrev pub Request : Type 0
 Request = ℕ × ℕ × List ℕ
 
-abbrev pub served_by : Module → Request → ModuleStep
+abbrev pub served_by : Module → Request → Step Module
 served_by m r = module_serve m r.0 r.1 r.2
 
 -- what a module answers to requests one after the other

@@ -4,8 +4,10 @@ use Rattle.std.specs.Prelude.{Some, None, Option, map}
 use Rattle.gb_base.specs.declared.event.Kind.TheVariants as kind
 use Rattle.gb_base.specs.declared.served.OwnAsk.{OwnAsk}
 use Rattle.gb_formats.specs.GpioDevice.{irq_fits}
-use Rattle.gb_formats.specs.Module.{Module, Stir, Stirred, module_of_kind, module_raw, module_stir}
-use Rattle.gb_formats.specs.Results.{answer_of, refusal_of, oneway_ask}
+use Rattle.gb_formats.specs.Devices.{Stir}
+use Rattle.gb_formats.specs.Module.{Module, module_of_kind, module_raw}
+use Rattle.gb_formats.specs.ModuleSteps.{module_stir}
+use Rattle.gb_formats.specs.Results.{Stirred, answer_of, refusal_of, oneway_ask}
 use Rattle.gb_formats.proofs.VectorsDevices.{Request, answers_of, after_all, connected, asks_at}
 
 -- what fits each interrupt type: a level that stays 0, rises, falls and stays 1
@@ -45,7 +47,7 @@ pub stir-other_device : asks_at unmasked 1 (Stir.Serial 1) ≡ None
 stir-other_device = refl
 
 -- the module after a stir
-abbrev pub after_stir : Option Stirred → Module
+abbrev pub after_stir : Option (Stirred Module) → Module
 after_stir (Some s) = s.after
 after_stir None = module_raw []
 

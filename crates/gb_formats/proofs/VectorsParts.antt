@@ -1,11 +1,12 @@
 -- Scripts with requesters and the made script, and what they are.
-use Rattle.std.proofs.Common.{◌≡◌, ℕ, Bool, true, List, [], ◌∷◌, refl}
+use Rattle.std.proofs.Common.{◌≡◌, Bool, true, [], ◌∷◌, refl}
 use Rattle.std.specs.Prelude.{Some, None, ◌++◌, map, codes}
 use Rattle.std.specs.Fmt.{digits}
 use Rattle.hex.specs.Hex.{decode_pairs}
 use Rattle.gb_base.specs.declared.bridge.BridgeAsk.TheVariants as ask
 use Rattle.gb_base.specs.declared.bridge.I2cOp.TheVariants as i2c
 use Rattle.gb_base.specs.declared.end.End.TheVariants as end
+use Rattle.gb_base.specs.declared.event.Event.{Event}
 use Rattle.gb_base.specs.declared.event.Event.TheVariants as event
 use Rattle.gb_base.specs.declared.event.Kind.TheVariants as kind
 use Rattle.gb_base.specs.declared.fault.LineReason.TheVariants as bad
@@ -14,9 +15,9 @@ use Rattle.gb_formats.specs.Made.{made, made_number, last_named}
 use Rattle.gb_formats.specs.Parts.{parts}
 use Rattle.gb_formats.proofs.Samples.{named, text_of}
 
--- every line is built
-abbrev pub all_built : List ℕ → Bool
-all_built line = true
+-- every event is built
+abbrev pub all_built : Event → Bool
+all_built e = true
 
 -- two requesters, with lines before the first heading
 pub parts-two : parts all_built (text_of (codes "boot" ∷ codes "requester 1" ∷ codes ""

@@ -1,5 +1,5 @@
 -- Messages: what decoding answers, and how a stream is divided.
-use Rattle.std.proofs.Common.{◌≡◌, ℕ, List, [], ◌∷◌, refl, inl, inr, arith}
+use Rattle.std.proofs.Common.{◌≡◌, [], ◌∷◌, refl, inl, inr, arith}
 use Rattle.std.specs.Prelude.{Ok, Err, ◌++◌}
 use Rattle.gb_base.specs.declared.fault.RawFault.TheVariants as raw
 use Rattle.gb_base.specs.declared.fault.WireFault.TheVariants as wire

@@ -10,13 +10,14 @@ use Rattle.gb_base.specs.declared.bridge.Reading.TheVariants as reading
 use Rattle.gb_base.specs.declared.bridge.SpiOp.{SpiOp}
 use Rattle.gb_base.specs.declared.bridge.SpiOp.TheVariants as spi
 use Rattle.gb_formats.specs.Bytes.{le16}
-use Rattle.gb_formats.specs.GpioRecords.{GpioReply, read_gpio_reply}
-use Rattle.gb_formats.specs.I2cRecords.{I2cReply, read_i2c_reply}
+use Rattle.gb_formats.specs.GpioRecords.{GpioAsk, GpioReply, gpio_ask_kind, gpio_ask_payload, read_gpio_reply}
+use Rattle.gb_formats.specs.I2cRecords.{I2cAsk, I2cReply, i2c_ask_kind, i2c_ask_payload, read_i2c_reply}
 use Rattle.gb_formats.specs.Protocols.{gpio_protocol, i2c_protocol, uart_protocol, spi_protocol}
 use Rattle.gb_formats.specs.Records.{PayloadFault, le32}
 use Rattle.gb_formats.specs.Results.{most_payload}
-use Rattle.gb_formats.specs.SpiRecords.{SpiReply, read_spi_reply}
+use Rattle.gb_formats.specs.SpiRecords.{SpiAsk, SpiReply, read_spi_reply, spi_ask_kind, spi_ask_payload}
 use Rattle.gb_formats.specs.UartDevice.{most_sent}
+use Rattle.gb_formats.specs.UartRecords.{UartAsk, uart_ask_kind, uart_ask_payload}
 
 -- ---- the requests
 
@@ -32,37 +33,21 @@ ask_protocol (ask.UartSend bytes) = uart_protocol
 ask_protocol (ask.UartCoding rate format parity bits flow) = uart_protocol
 ask_protocol (ask.UartByte kind value) = uart_protocol
 
--- the type of a bridge line's request
-abbrev pub ask_kind : BridgeAsk → ℕ
-ask_kind (ask.Gpio kind line value) = kind
-ask_kind ask.I2cFunctionality = 0x02
-ask_kind (ask.I2cTransfer ops) = 0x05
-ask_kind ask.SpiConfig = 0x02
-ask_kind (ask.SpiDevice select) = 0x03
-ask_kind (ask.SpiTransfer select mode ops) = 0x04
-ask_kind (ask.UartSend bytes) = 0x02
-ask_kind (ask.UartCoding rate format parity bits flow) = 0x04
-ask_kind (ask.UartByte kind value) = kind
-
--- LINE_COUNT has no line
-abbrev pub has_no_line : ℕ → Bool
-has_no_line kind = kind == 0x02
-
--- SET_DEBOUNCE has a line and a number of two bytes
-abbrev pub has_time : ℕ → Bool
-has_time kind = kind == 0x0a
-
--- DIRECTION_OUT, SET_VALUE and IRQ_TYPE have a line and a byte
-abbrev pub has_byte : ℕ → Bool
-has_byte kind = kind == 0x07 || kind == 0x09 || kind == 0x0b
-
--- the payload of a GPIO request
-abbrev pub gpio_payload : ℕ → ℕ → ℕ → List ℕ
-gpio_payload kind line value =
-    if has_no_line kind then []
-    else if has_time kind then line ∷ le16 value
-    else if has_byte kind then line ∷ value ∷ []
-    else line ∷ []
+-- the GPIO request of a type, at a line and with a value where it has them
+abbrev pub gpio_request : ℕ → ℕ → ℕ → GpioAsk
+gpio_request kind line value =
+    if kind == 0x02 then GpioAsk.LineCount
+    else if kind == 0x03 then GpioAsk.Activate line
+    else if kind == 0x04 then GpioAsk.Deactivate line
+    else if kind == 0x05 then GpioAsk.GetDirection line
+    else if kind == 0x06 then GpioAsk.DirectionIn line
+    else if kind == 0x07 then GpioAsk.DirectionOut line value
+    else if kind == 0x08 then GpioAsk.GetValue line
+    else if kind == 0x09 then GpioAsk.SetValue line value
+    else if kind == 0x0a then GpioAsk.SetDebounce line value
+    else if kind == 0x0b then GpioAsk.IrqType line value
+    else if kind == 0x0c then GpioAsk.IrqMask line
+    else GpioAsk.IrqUnmask line
 
 -- an op of an I2C transfer: its address, flags and size
 abbrev pub i2c_op_bytes : I2cOp → List ℕ
@@ -79,10 +64,9 @@ abbrev pub i2c_read_size : I2cOp → ℕ
 i2c_read_size (i2c.Get addr len) = len
 i2c_read_size (i2c.Put addr bytes) = 0
 
--- the payload of an I2C transfer: the number of ops, the ops, then what they write
-abbrev pub i2c_payload : List I2cOp → List ℕ
-i2c_payload ops =
-    le16 (length ops) ++ (concat (map i2c_op_bytes ops) ++ concat (map i2c_written ops))
+-- an I2C transfer: the ops, then what they write
+abbrev pub i2c_transfer : List I2cOp → I2cAsk
+i2c_transfer ops = I2cAsk.Transfer (concat (map i2c_op_bytes ops)) (concat (map i2c_written ops))
 
 -- an entry of an SPI transfer: speed 1,000,000, its length, delay 0, cs_change 0, bits 8, its flags
 abbrev pub spi_entry : ℕ → ℕ → List ℕ
@@ -106,25 +90,50 @@ spi_read_size (spi.Get len) = len
 spi_read_size (spi.Put bytes) = 0
 spi_read_size (spi.Both bytes) = length bytes
 
--- the payload of an SPI transfer: chip select, mode, the number of entries, the entries, then what
--- they write
-abbrev pub spi_payload : ℕ → ℕ → List SpiOp → List ℕ
-spi_payload select mode ops =
-    select ∷ mode ∷ le16 (length ops)
-    ++ (concat (map spi_op_bytes ops) ++ concat (map spi_written ops))
+-- an SPI transfer: the entries, then what they write
+abbrev pub spi_transfer : ℕ → ℕ → List SpiOp → SpiAsk
+spi_transfer select mode ops =
+    SpiAsk.Transfer select mode (concat (map spi_op_bytes ops)) (concat (map spi_written ops))
 
--- the payload of a bridge line's request
-abbrev pub ask_payload : BridgeAsk → List ℕ
-ask_payload (ask.Gpio kind line value) = gpio_payload kind line value
-ask_payload ask.I2cFunctionality = []
-ask_payload (ask.I2cTransfer ops) = i2c_payload ops
-ask_payload ask.SpiConfig = []
-ask_payload (ask.SpiDevice select) = select ∷ []
-ask_payload (ask.SpiTransfer select mode ops) = spi_payload select mode ops
-ask_payload (ask.UartSend bytes) = le16 (length bytes) ++ bytes
-ask_payload (ask.UartCoding rate format parity bits flow) =
-    le32 rate ++ (format ∷ parity ∷ bits ∷ flow ∷ [])
-ask_payload (ask.UartByte kind value) = value ∷ []
+-- the UART request of a type that has one byte
+abbrev pub uart_request : ℕ → ℕ → UartAsk
+uart_request kind value =
+    if kind == 0x05 then UartAsk.SetControlLineState value
+    else if kind == 0x06 then UartAsk.SendBreak value
+    else UartAsk.FlushFifos value
+
+-- a request: its type and its payload
+abbrev pub Request : Type 0
+Request = ℕ × List ℕ
+
+-- a request of the GPIO protocol
+abbrev pub of_gpio : GpioAsk → Request
+of_gpio request = (gpio_ask_kind request, gpio_ask_payload request)
+
+-- a request of the I2C protocol
+abbrev pub of_i2c : I2cAsk → Request
+of_i2c request = (i2c_ask_kind request, i2c_ask_payload request)
+
+-- a request of the SPI protocol
+abbrev pub of_spi : SpiAsk → Request
+of_spi request = (spi_ask_kind request, spi_ask_payload request)
+
+-- a request of the UART protocol
+abbrev pub of_uart : UartAsk → Request
+of_uart request = (uart_ask_kind request, uart_ask_payload request)
+
+-- The request of a bridge line: the type and the payload of a record of its protocol.
+abbrev pub ask_request : BridgeAsk → Request
+ask_request (ask.Gpio kind line value) = of_gpio (gpio_request kind line value)
+ask_request ask.I2cFunctionality = of_i2c I2cAsk.Functionality
+ask_request (ask.I2cTransfer ops) = of_i2c (i2c_transfer ops)
+ask_request ask.SpiConfig = of_spi SpiAsk.MasterConfig
+ask_request (ask.SpiDevice select) = of_spi (SpiAsk.DeviceConfig select)
+ask_request (ask.SpiTransfer select mode ops) = of_spi (spi_transfer select mode ops)
+ask_request (ask.UartSend bytes) = of_uart (UartAsk.SendData bytes)
+ask_request (ask.UartCoding rate format parity bits flow) =
+    of_uart (UartAsk.SetLineCoding rate format parity bits flow)
+ask_request (ask.UartByte kind value) = of_uart (uart_request kind value)
 
 -- ---- refusals
 
@@ -137,18 +146,18 @@ asks_too_much _ = false
 
 -- A bridge line is too large where its payload is, its reads are or its bytes are.
 abbrev pub is_too_large : BridgeAsk → Bool
-is_too_large what = nat_lt most_payload (length (ask_payload what)) || asks_too_much what
+is_too_large what = nat_lt most_payload (length (ask_request what).1) || asks_too_much what
 
 -- Why a bridge line becomes no request.
 pub data BridgeFault : Type 0 where
   Unsupported : BridgeFault
   TooLarge : BridgeFault
 
--- The request that a bridge line becomes on a connection of this protocol: its type and payload.
-abbrev pub bridge_answer : ℕ → BridgeAsk → Result (ℕ × List ℕ) BridgeFault
+-- The request that a bridge line becomes on a connection of this protocol.
+abbrev pub bridge_answer : ℕ → BridgeAsk → Result Request BridgeFault
 bridge_answer protocol what =
     if ask_protocol what == protocol
-    then (if is_too_large what then Err TooLarge else Ok (ask_kind what, ask_payload what))
+    then (if is_too_large what then Err TooLarge else Ok (ask_request what))
     else Err Unsupported
 
 -- the credits that a bridge line takes: those of the bytes of a `uart send`

@@ -6,18 +6,18 @@ use Rattle.gb_formats.specs.Records.{PayloadFault, Row, row0, row1, row2, u8, u1
 
 -- the payloads of requests
 pub data ControlAsk : Type 0 where
-  Version : ℕ → ℕ → ControlAsk
+  Version : (major minor : ℕ) → ControlAsk
   GetManifestSize : ControlAsk
   GetManifest : ControlAsk
-  Connected : ℕ → ControlAsk
-  Disconnected : ℕ → ControlAsk
-  Disconnecting : ℕ → ControlAsk
+  Connected : (cport : ℕ) → ControlAsk
+  Disconnected : (cport : ℕ) → ControlAsk
+  Disconnecting : (cport : ℕ) → ControlAsk
 
 -- the payloads of responses
 pub data ControlReply : Type 0 where
-  Version : ℕ → ℕ → ControlReply
-  GetManifestSize : ℕ → ControlReply
-  GetManifest : List ℕ → ControlReply
+  Version : (major minor : ℕ) → ControlReply
+  GetManifestSize : (size : ℕ) → ControlReply
+  GetManifest : (bytes : List ℕ) → ControlReply
   Connected : ControlReply
   Disconnected : ControlReply
   Disconnecting : ControlReply

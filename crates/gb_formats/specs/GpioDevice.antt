@@ -1,8 +1,9 @@
 -- The GPIO device: eight lines.
 use Rattle.std.specs.Prelude.{ℕ, ◌-◌, ◌==◌, nat_le, Bool, true, false, not, ◌&&◌, ◌||◌, if◌then◌else◌, Option, Some, None, Result, Ok, Err, List, [], map, replicate, slice_get, slice_set}
-use Rattle.gb_formats.specs.GpioRecords.{GpioAsk, GpioReply, read_gpio_ask, gpio_reply_payload}
+use Rattle.gb_base.specs.declared.served.OwnAsk.{OwnAsk}
+use Rattle.gb_formats.specs.GpioRecords.{GpioAsk, GpioReply, gpio_ask_kind, gpio_ask_payload, gpio_reply_payload, read_gpio_ask_of_ap}
 use Rattle.gb_formats.specs.Records.{PayloadFault}
-use Rattle.gb_formats.specs.Results.{Step, tells, refuses, answer_of, fault_result, protocol_bad, invalid, nonexistent}
+use Rattle.gb_formats.specs.Results.{Step, tells, refuses, answer_of, fault_result, oneway_ask, protocol_bad, invalid, nonexistent}
 
 -- A line. `input` is true where its direction is in, `irq` is its interrupt type, and `level` is
 -- what comes from outside.
@@ -52,7 +53,7 @@ pub data AtLine : Type 0 where
 -- the device after a request at a line
 abbrev pub line_step : List GpioLine → ℕ → AtLine → Step (List GpioLine)
 line_step lines which (Changes line) =
-    record { device = slice_set lines which line; served = answer_of [] }
+    record { after = slice_set lines which line; served = answer_of [] }
 line_step lines which (Tells reply) = tells lines (gpio_reply_payload reply)
 line_step lines which (Refuses result) = refuses lines result
 
@@ -110,7 +111,7 @@ set_irq irq line =
     if_active line
     (if is_irq_type irq then Changes (record line { irq = irq }) else Refuses invalid)
 
--- what each request does; IRQ_EVENT, which only the module sends, is an unknown type
+-- what each request does; none of the module's is read
 abbrev pub gpio_asked : List GpioLine → GpioAsk → Step (List GpioLine)
 gpio_asked lines GpioAsk.LineCount =
     tells lines (gpio_reply_payload (GpioReply.LineCount (line_count - 1)))
@@ -133,22 +134,21 @@ gpio_asked lines (GpioAsk.IrqMask which) =
     at_line lines which (λ line. if_active line (Changes (record line { masked = true })))
 gpio_asked lines (GpioAsk.IrqUnmask which) =
     at_line lines which (λ line. if_active line (Changes (record line { masked = false })))
-gpio_asked lines (GpioAsk.IrqEvent which) = refuses lines protocol_bad
+gpio_asked lines _ = refuses lines protocol_bad
 
 -- a request by its payload
 abbrev pub gpio_read : List GpioLine → Result GpioAsk PayloadFault → Step (List GpioLine)
 gpio_read lines (Ok ask) = gpio_asked lines ask
 gpio_read lines (Err fault) = refuses lines (fault_result fault)
 
--- type IRQ_EVENT, which only the module sends
-abbrev pub irq_event : ℕ
-irq_event = 0x0e
-
 -- The GPIO device's step.
 abbrev pub gpio_step : List GpioLine → ℕ → List ℕ → Step (List GpioLine)
-gpio_step lines kind payload =
-    if kind == irq_event then refuses lines protocol_bad
-    else gpio_read lines (read_gpio_ask kind payload)
+gpio_step lines kind payload = gpio_read lines (read_gpio_ask_of_ap kind payload)
+
+-- an interrupt that is told
+abbrev pub irq_told : ℕ → OwnAsk
+irq_told which =
+    let ask = GpioAsk.IrqEvent which in oneway_ask (gpio_ask_kind ask) (gpio_ask_payload ask)
 
 -- ---- the outside level
 
@@ -167,14 +167,14 @@ is_irq line new = line.active && line.input && not line.masked && irq_fits line.
 
 -- The lines after a level was set, and the line that had an interrupt, if it had one.
 pub record Levelled : Type 0 where
-  pub lines : List GpioLine
+  pub after : List GpioLine
   pub irq : Option ℕ
 
 -- a level that is set at a line, if there is the line
 abbrev pub level_step : List GpioLine → ℕ → ℕ → Option GpioLine → Levelled
-level_step lines which new None = record { lines = lines; irq = None }
+level_step lines which new None = record { after = lines; irq = None }
 level_step lines which new (Some line) = record {
-  lines = slice_set lines which (record line { level = new });
+  after = slice_set lines which (record line { level = new });
   irq = if is_irq line new then Some which else None;
 }
 

@@ -2,33 +2,33 @@
 -- greybus_protocols.h `GB_GPIO_TYPE_..`). LineCount answers the count less 1.
 use Rattle.std.specs.Prelude.{ℕ, Result, List, [], ◌∷◌}
 use Rattle.gb_formats.specs.Bytes.{le16}
-use Rattle.gb_formats.specs.Records.{PayloadFault, Row, row0, row1, row2, u8, u16, read_table}
+use Rattle.gb_formats.specs.Records.{PayloadFault, Row, by_far, row0, row1, row2, u8, u16, read_ap_ask, read_far_ask, read_table}
 
 -- the payloads of requests
 pub data GpioAsk : Type 0 where
   LineCount : GpioAsk
-  Activate : ℕ → GpioAsk
-  Deactivate : ℕ → GpioAsk
-  GetDirection : ℕ → GpioAsk
-  DirectionIn : ℕ → GpioAsk
-  DirectionOut : ℕ → ℕ → GpioAsk
-  GetValue : ℕ → GpioAsk
-  SetValue : ℕ → ℕ → GpioAsk
-  SetDebounce : ℕ → ℕ → GpioAsk
-  IrqType : ℕ → ℕ → GpioAsk
-  IrqMask : ℕ → GpioAsk
-  IrqUnmask : ℕ → GpioAsk
-  IrqEvent : ℕ → GpioAsk
+  Activate : (which : ℕ) → GpioAsk
+  Deactivate : (which : ℕ) → GpioAsk
+  GetDirection : (which : ℕ) → GpioAsk
+  DirectionIn : (which : ℕ) → GpioAsk
+  DirectionOut : (which value : ℕ) → GpioAsk
+  GetValue : (which : ℕ) → GpioAsk
+  SetValue : (which value : ℕ) → GpioAsk
+  SetDebounce : (which microseconds : ℕ) → GpioAsk
+  IrqType : (which kind : ℕ) → GpioAsk
+  IrqMask : (which : ℕ) → GpioAsk
+  IrqUnmask : (which : ℕ) → GpioAsk
+  IrqEvent : (which : ℕ) → GpioAsk
 
 -- the payloads of responses
 pub data GpioReply : Type 0 where
-  LineCount : ℕ → GpioReply
+  LineCount : (last : ℕ) → GpioReply
   Activate : GpioReply
   Deactivate : GpioReply
-  GetDirection : ℕ → GpioReply
+  GetDirection : (direction : ℕ) → GpioReply
   DirectionIn : GpioReply
   DirectionOut : GpioReply
-  GetValue : ℕ → GpioReply
+  GetValue : (value : ℕ) → GpioReply
   SetValue : GpioReply
   SetDebounce : GpioReply
   IrqType : GpioReply
@@ -51,7 +51,7 @@ gpio_asks =
     ∷ row2 0x0b u8 u8 GpioAsk.IrqType
     ∷ row1 0x0c u8 GpioAsk.IrqMask
     ∷ row1 0x0d u8 GpioAsk.IrqUnmask
-    ∷ row1 0x0e u8 GpioAsk.IrqEvent
+    ∷ by_far (row1 0x0e u8 GpioAsk.IrqEvent)
     ∷ []
 
 -- the rows of responses
@@ -69,12 +69,20 @@ gpio_replies =
     ∷ row0 0x0b GpioReply.IrqType
     ∷ row0 0x0c GpioReply.IrqMask
     ∷ row0 0x0d GpioReply.IrqUnmask
-    ∷ row0 0x0e GpioReply.IrqEvent
+    ∷ by_far (row0 0x0e GpioReply.IrqEvent)
     ∷ []
 
--- the request that a payload is
+-- the request that a payload is, whoever makes it
 abbrev pub read_gpio_ask : ℕ → List ℕ → Result GpioAsk PayloadFault
 read_gpio_ask kind payload = read_table gpio_asks kind payload
+
+-- the request of the application processor that a payload is
+abbrev pub read_gpio_ask_of_ap : ℕ → List ℕ → Result GpioAsk PayloadFault
+read_gpio_ask_of_ap kind payload = read_ap_ask gpio_asks kind payload
+
+-- the request of the module that a payload is
+abbrev pub read_gpio_ask_of_module : ℕ → List ℕ → Result GpioAsk PayloadFault
+read_gpio_ask_of_module kind payload = read_far_ask gpio_asks kind payload
 
 -- the response that a payload is; the type is that of the request
 abbrev pub read_gpio_reply : ℕ → List ℕ → Result GpioReply PayloadFault

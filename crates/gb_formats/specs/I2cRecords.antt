@@ -9,12 +9,12 @@ use Rattle.gb_formats.specs.Records.{le32, PayloadFault, has_read_flag, Row, row
 -- those behind them.
 pub data I2cAsk : Type 0 where
   Functionality : I2cAsk
-  Transfer : List ℕ → List ℕ → I2cAsk
+  Transfer : (ops data_bytes : List ℕ) → I2cAsk
 
 -- the payloads of responses
 pub data I2cReply : Type 0 where
-  Functionality : ℕ → I2cReply
-  Transfer : List ℕ → I2cReply
+  Functionality : (flags : ℕ) → I2cReply
+  Transfer : (data_bytes : List ℕ) → I2cReply
 
 -- one op of a transfer (`gb_i2c_transfer_op`)
 pub record TransferOp : Type 0 where

@@ -1,8 +1,11 @@
 pub mod BridgeForms
 pub mod Bridges
+pub mod Built
 pub mod Bytes
 pub mod ControlRecords
+pub mod ControlResponder
 pub mod Descriptors
+pub mod Devices
 pub mod Dump
 pub mod GpioDevice
 pub mod GpioRecords
@@ -17,6 +20,7 @@ pub mod ManifestRules
 pub mod ManifestSpec
 pub mod Message
 pub mod Module
+pub mod ModuleSteps
 pub mod Parts
 pub mod Protocols
 pub mod Reasons

@@ -59,8 +59,8 @@ said_part (Ok None) = Ok Nothing
 said_part (Ok (Some e)) = Ok (Asks e)
 said_part (Err why) = Err why
 
--- What a line is, behind lines of requester `who`; `built` tells which lines are read.
-abbrev pub part_of : (List ℕ → Bool) → ℕ → List ℕ → Result Part LineReason
+-- What a line is, behind lines of requester `who`; `built` tells which events are done.
+abbrev pub part_of : (Event → Bool) → ℕ → List ℕ → Result Part LineReason
 part_of built who line =
     if is_heading (words line) then by_bytes line (heading who (words line))
     else said_part (said built who line)
@@ -78,11 +78,11 @@ parts_with at who (Ok (Asks e)) later =
 parts_with at who (Err why) later = record { asked = []; bad = Some (at, why) }
 
 -- the parts of lines whose first has number `at` and stands behind lines of requester `who`
-abbrev pub parts_from : (List ℕ → Bool) → ℕ → ℕ → List (List ℕ) → Parts
+abbrev pub parts_from : (Event → Bool) → ℕ → ℕ → List (List ℕ) → Parts
 parts_from built at who [] = record { asked = []; bad = None }
 parts_from built at who (line ∷ more) =
     parts_with at who (part_of built who line) (λ next. parts_from built (at + 1) next more)
 
 -- The parts of a script: lines before the first heading are requester 0's.
-abbrev pub parts : (List ℕ → Bool) → List ℕ → Parts
+abbrev pub parts : (Event → Bool) → List ℕ → Parts
 parts built text = parts_from built 1 0 (lines text)

@@ -22,6 +22,10 @@ uart_protocol = 0x04
 abbrev pub spi_protocol : ℕ
 spi_protocol = 0x0b
 
+-- the protocol of the supervisory controller's connection
+abbrev pub svc_protocol : ℕ
+svc_protocol = 0x14
+
 -- the class of the bundle that has the Control CPort
 abbrev pub control_class : ℕ
 control_class = 0x00

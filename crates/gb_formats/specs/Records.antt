@@ -1,5 +1,5 @@
 -- Payload records: how the bytes of a payload are the fields of a row of a protocol's table.
-use Rattle.std.specs.Prelude.{◌≡◌, ℕ, ◌+◌, ◌%◌, ◌==◌, min, Bool, if◌then◌else◌, Option, Some, None, Result, Ok, Err, List, [], ◌∷◌, length, drop, slice_index, sum, find}
+use Rattle.std.specs.Prelude.{ℕ, ◌+◌, ◌%◌, ◌==◌, min, Bool, true, false, if◌then◌else◌, Option, Some, None, Result, Ok, Err, List, [], ◌∷◌, length, drop, slice_index, sum, find}
 use Rattle.byteorder.specs.Endian.{little_bytes, little_number}
 
 -- Why a payload isn't a record of a type: the protocol hasn't the type, or no record of the type
@@ -29,24 +29,33 @@ le32 n = little_bytes 4 n
 abbrev pub has_read_flag : ℕ → Bool
 has_read_flag flags = flags % 2 == 1
 
--- A row of a table: a type, the widths of its fields, and the record that the fields make.
+-- A row of a table: a type, the widths of its fields, and the record that the fields make. Requests
+-- of the type are made by the application processor, or are the far side's own: the supervisory
+-- controller or the module makes them.
 pub record Row (A : Type 0) : Type 0 where
   pub kind : ℕ
+  pub own : Bool
   pub widths : List ℕ
   pub made : List ℕ → A
 
 -- a row without fields
 abbrev pub row0 : {A : Type 0} → ℕ → A → Row A
-row0 kind made = record { kind = kind; widths = []; made = λ fields. made }
+row0 kind made = record { kind = kind; own = false; widths = []; made = λ fields. made }
 
 -- a row of one field
 abbrev pub row1 : {A : Type 0} → ℕ → ℕ → (ℕ → A) → Row A
-row1 kind a made = record { kind = kind; widths = a ∷ []; made = λ f. made (slice_index f 0) }
+row1 kind a made = record {
+  kind = kind;
+  own = false;
+  widths = a ∷ [];
+  made = λ f. made (slice_index f 0);
+}
 
 -- a row of two fields
 abbrev pub row2 : {A : Type 0} → ℕ → ℕ → ℕ → (ℕ → ℕ → A) → Row A
 row2 kind a b made = record {
   kind = kind;
+  own = false;
   widths = a ∷ b ∷ [];
   made = λ f. made (slice_index f 0) (slice_index f 1);
 }
@@ -55,6 +64,7 @@ row2 kind a b made = record {
 abbrev pub row3 : {A : Type 0} → ℕ → ℕ → ℕ → ℕ → (ℕ → ℕ → ℕ → A) → Row A
 row3 kind a b c made = record {
   kind = kind;
+  own = false;
   widths = a ∷ b ∷ c ∷ [];
   made = λ f. made (slice_index f 0) (slice_index f 1) (slice_index f 2);
 }
@@ -63,6 +73,7 @@ row3 kind a b c made = record {
 abbrev pub row4 : {A : Type 0} → ℕ → ℕ → ℕ → ℕ → ℕ → (ℕ → ℕ → ℕ → ℕ → A) → Row A
 row4 kind a b c d made = record {
   kind = kind;
+  own = false;
   widths = a ∷ b ∷ c ∷ d ∷ [];
   made = λ f. made (slice_index f 0) (slice_index f 1) (slice_index f 2) (slice_index f 3);
 }
@@ -71,6 +82,7 @@ row4 kind a b c d made = record {
 abbrev pub row5 : {A : Type 0} → ℕ → ℕ → ℕ → ℕ → ℕ → ℕ → (ℕ → ℕ → ℕ → ℕ → ℕ → A) → Row A
 row5 kind a b c d e made = record {
   kind = kind;
+  own = false;
   widths = a ∷ b ∷ c ∷ d ∷ e ∷ [];
   made = λ f. made (slice_index f 0) (slice_index f 1) (slice_index f 2) (slice_index f 3)
       (slice_index f 4);
@@ -81,10 +93,15 @@ abbrev pub row6 : {A : Type 0} → ℕ → ℕ → ℕ → ℕ → ℕ → ℕ �
     → (ℕ → ℕ → ℕ → ℕ → ℕ → ℕ → A) → Row A
 row6 kind a b c d e g made = record {
   kind = kind;
+  own = false;
   widths = a ∷ b ∷ c ∷ d ∷ e ∷ g ∷ [];
   made = λ f. made (slice_index f 0) (slice_index f 1) (slice_index f 2) (slice_index f 3)
       (slice_index f 4) (slice_index f 5);
 }
+
+-- a row of requests that the far side makes
+abbrev pub by_far : {A : Type 0} → Row A → Row A
+by_far row = record row { own = true }
 
 -- the numbers of these widths in a row, each with its lowest byte first
 abbrev pub fields_of : List ℕ → List ℕ → List ℕ
@@ -103,10 +120,33 @@ read_row None payload = Err UnknownKind
 read_row (Some row) payload =
     whole (sum row.widths) payload (row.made (fields_of row.widths payload))
 
+-- the row of a type, if there is one
+abbrev pub row_of : {A : Type 0} → List (Row A) → ℕ → Option (Row A)
+row_of rows kind = find (λ row. row.kind == kind) rows
+
 -- the record of a type that a payload is, by a table
 abbrev pub read_table : {A : Type 0} → List (Row A) → ℕ → List ℕ → Result A PayloadFault
-read_table rows kind payload = read_row (find (λ row. row.kind == kind) rows) payload
+read_table rows kind payload = read_row (row_of rows kind) payload
 
--- The payload is exactly this record of the type, as a protocol's function reads it.
-abbrev pub IsRecord : {A : Type 0} → (ℕ → List ℕ → Result A PayloadFault) → ℕ → List ℕ → A → Type 0
-IsRecord read kind payload made = read kind payload ≡ Ok made
+-- a row of requests that the application processor makes
+abbrev pub unless_own : {A : Type 0} → Option (Row A) → Option (Row A)
+unless_own None = None
+unless_own (Some row) = if row.own then None else Some row
+
+-- a row of requests that the far side makes
+abbrev pub if_own : {A : Type 0} → Option (Row A) → Option (Row A)
+if_own None = None
+if_own (Some row) = if row.own then Some row else None
+
+-- the far side makes the requests of a row
+abbrev pub is_own : {A : Type 0} → Option (Row A) → Bool
+is_own None = false
+is_own (Some row) = row.own
+
+-- the request of the application processor that a payload is, by a table
+abbrev pub read_ap_ask : {A : Type 0} → List (Row A) → ℕ → List ℕ → Result A PayloadFault
+read_ap_ask rows kind payload = read_row (unless_own (row_of rows kind)) payload
+
+-- the request of the far side that a payload is, by a table
+abbrev pub read_far_ask : {A : Type 0} → List (Row A) → ℕ → List ℕ → Result A PayloadFault
+read_far_ask rows kind payload = read_row (if_own (row_of rows kind)) payload

@@ -42,18 +42,24 @@ abbrev pub fault_result : PayloadFault → ℕ
 fault_result PayloadFault.UnknownKind = protocol_bad
 fault_result (PayloadFault.Mismatch at) = invalid
 
--- What a device does at a request: the device after it, and the answer.
+-- What a device or a module does at a request: what it is after it, and the answer.
 pub record Step (D : Type 0) : Type 0 where
-  pub device : D
+  pub after : D
   pub served : Served
 
--- the device stays, and answers this payload
+-- it stays, and answers this payload
 abbrev pub tells : {D : Type 0} → D → List ℕ → Step D
-tells device payload = record { device = device; served = answer_of payload }
+tells stays payload = record { after = stays; served = answer_of payload }
 
--- the device stays, and answers this result
+-- it stays, and answers this result
 abbrev pub refuses : {D : Type 0} → D → ℕ → Step D
-refuses device result = record { device = device; served = refusal_of result }
+refuses stays result = record { after = stays; served = refusal_of result }
+
+-- What a stir from outside does to a device or a module: what it is after it, and the requests of
+-- its own that it makes.
+pub record Stirred (D : Type 0) : Type 0 where
+  pub after : D
+  pub asks : List OwnAsk
 
 -- a request of the responder's own that gets no response
 abbrev pub oneway_ask : ℕ → List ℕ → OwnAsk

@@ -9,15 +9,14 @@ use Rattle.gb_formats.specs.Records.{le32, PayloadFault, has_read_flag, Row, row
 -- the data those behind them.
 pub data SpiAsk : Type 0 where
   MasterConfig : SpiAsk
-  DeviceConfig : ℕ → SpiAsk
-  Transfer : ℕ → ℕ → List ℕ → List ℕ → SpiAsk
+  DeviceConfig : (select : ℕ) → SpiAsk
+  Transfer : (select mode : ℕ) → (entries data_bytes : List ℕ) → SpiAsk
 
--- The payloads of responses. MasterConfig has the mask of bits, the least and the greatest speed,
--- mode, flags and the chip selects; DeviceConfig has mode, bits, speed, type of device and name.
+-- The payloads of responses. MasterConfig has the mask of bits, and the least and the greatest speed.
 pub data SpiReply : Type 0 where
-  MasterConfig : ℕ → ℕ → ℕ → ℕ → ℕ → ℕ → SpiReply
-  DeviceConfig : ℕ → ℕ → ℕ → ℕ → List ℕ → SpiReply
-  Transfer : List ℕ → SpiReply
+  MasterConfig : (mask least greatest mode flags selects : ℕ) → SpiReply
+  DeviceConfig : (mode bits speed device : ℕ) → (name : List ℕ) → SpiReply
+  Transfer : (data_bytes : List ℕ) → SpiReply
 
 -- one entry of a transfer (`gb_spi_transfer`)
 pub record TransferEntry : Type 0 where

@@ -3,24 +3,24 @@
 -- asks.
 use Rattle.std.specs.Prelude.{ℕ, Result, List, [], ◌∷◌, ◌++◌}
 use Rattle.gb_formats.specs.Bytes.{le16}
-use Rattle.gb_formats.specs.Records.{PayloadFault, Row, row0, row1, row2, row3, row4, row6, u8, u16, read_table}
+use Rattle.gb_formats.specs.Records.{PayloadFault, Row, by_far, row0, row1, row2, row3, row4, row6, u8, u16, read_ap_ask, read_far_ask, read_table}
 
 -- the payloads of requests
 pub data SvcAsk : Type 0 where
-  IntfDeviceId : ℕ → ℕ → SvcAsk
-  ConnCreate : ℕ → ℕ → ℕ → ℕ → ℕ → ℕ → SvcAsk
-  ConnDestroy : ℕ → ℕ → ℕ → ℕ → SvcAsk
-  RouteCreate : ℕ → ℕ → ℕ → ℕ → SvcAsk
-  RouteDestroy : ℕ → ℕ → SvcAsk
+  IntfDeviceId : (intf device : ℕ) → SvcAsk
+  ConnCreate : (intf1 cport1 intf2 cport2 tc flags : ℕ) → SvcAsk
+  ConnDestroy : (intf1 cport1 intf2 cport2 : ℕ) → SvcAsk
+  RouteCreate : (intf1 dev1 intf2 dev2 : ℕ) → SvcAsk
+  RouteDestroy : (intf1 intf2 : ℕ) → SvcAsk
   Ping : SvcAsk
-  VsysEnable : ℕ → SvcAsk
-  RefclkEnable : ℕ → SvcAsk
-  UniproEnable : ℕ → SvcAsk
-  IntfActivate : ℕ → SvcAsk
-  ProtocolVersion : ℕ → ℕ → SvcAsk
-  Hello : ℕ → ℕ → SvcAsk
-  ModuleInserted : ℕ → ℕ → ℕ → SvcAsk
-  ModuleRemoved : ℕ → SvcAsk
+  VsysEnable : (intf : ℕ) → SvcAsk
+  RefclkEnable : (intf : ℕ) → SvcAsk
+  UniproEnable : (intf : ℕ) → SvcAsk
+  IntfActivate : (intf : ℕ) → SvcAsk
+  ProtocolVersion : (major minor : ℕ) → SvcAsk
+  Hello : (endo_id interface_id : ℕ) → SvcAsk
+  ModuleInserted : (primary count flags : ℕ) → SvcAsk
+  ModuleRemoved : (primary : ℕ) → SvcAsk
 
 -- the payloads of responses
 pub data SvcReply : Type 0 where
@@ -30,11 +30,11 @@ pub data SvcReply : Type 0 where
   RouteCreate : SvcReply
   RouteDestroy : SvcReply
   Ping : SvcReply
-  VsysEnable : ℕ → SvcReply
-  RefclkEnable : ℕ → SvcReply
-  UniproEnable : ℕ → SvcReply
-  IntfActivate : ℕ → ℕ → SvcReply
-  ProtocolVersion : ℕ → ℕ → SvcReply
+  VsysEnable : (result : ℕ) → SvcReply
+  RefclkEnable : (result : ℕ) → SvcReply
+  UniproEnable : (result : ℕ) → SvcReply
+  IntfActivate : (status kind : ℕ) → SvcReply
+  ProtocolVersion : (major minor : ℕ) → SvcReply
   Hello : SvcReply
   ModuleInserted : SvcReply
   ModuleRemoved : SvcReply
@@ -52,10 +52,10 @@ svc_asks =
     ∷ row1 0x23 u8 SvcAsk.RefclkEnable
     ∷ row1 0x25 u8 SvcAsk.UniproEnable
     ∷ row1 0x27 u8 SvcAsk.IntfActivate
-    ∷ row2 0x01 u8 u8 SvcAsk.ProtocolVersion
-    ∷ row2 0x02 u16 u8 SvcAsk.Hello
-    ∷ row3 0x1f u8 u8 u16 SvcAsk.ModuleInserted
-    ∷ row1 0x20 u8 SvcAsk.ModuleRemoved
+    ∷ by_far (row2 0x01 u8 u8 SvcAsk.ProtocolVersion)
+    ∷ by_far (row2 0x02 u16 u8 SvcAsk.Hello)
+    ∷ by_far (row3 0x1f u8 u8 u16 SvcAsk.ModuleInserted)
+    ∷ by_far (row1 0x20 u8 SvcAsk.ModuleRemoved)
     ∷ []
 
 -- the rows of responses
@@ -71,15 +71,23 @@ svc_replies =
     ∷ row1 0x23 u8 SvcReply.RefclkEnable
     ∷ row1 0x25 u8 SvcReply.UniproEnable
     ∷ row2 0x27 u8 u8 SvcReply.IntfActivate
-    ∷ row2 0x01 u8 u8 SvcReply.ProtocolVersion
-    ∷ row0 0x02 SvcReply.Hello
-    ∷ row0 0x1f SvcReply.ModuleInserted
-    ∷ row0 0x20 SvcReply.ModuleRemoved
+    ∷ by_far (row2 0x01 u8 u8 SvcReply.ProtocolVersion)
+    ∷ by_far (row0 0x02 SvcReply.Hello)
+    ∷ by_far (row0 0x1f SvcReply.ModuleInserted)
+    ∷ by_far (row0 0x20 SvcReply.ModuleRemoved)
     ∷ []
 
--- the request that a payload is
+-- the request that a payload is, whoever makes it
 abbrev pub read_svc_ask : ℕ → List ℕ → Result SvcAsk PayloadFault
 read_svc_ask kind payload = read_table svc_asks kind payload
+
+-- the request of the application processor that a payload is
+abbrev pub read_svc_ask_of_ap : ℕ → List ℕ → Result SvcAsk PayloadFault
+read_svc_ask_of_ap kind payload = read_ap_ask svc_asks kind payload
+
+-- the request of the supervisory controller that a payload is
+abbrev pub read_svc_ask_of_svc : ℕ → List ℕ → Result SvcAsk PayloadFault
+read_svc_ask_of_svc kind payload = read_far_ask svc_asks kind payload
 
 -- the response that a payload is; the type is that of the request
 abbrev pub read_svc_reply : ℕ → List ℕ → Result SvcReply PayloadFault

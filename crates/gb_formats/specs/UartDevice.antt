@@ -1,10 +1,10 @@
 -- The UART device, an echo that keeps nothing, and the credits of its peer.
-use Rattle.std.specs.Prelude.{ℕ, ◌+◌, ◌-◌, ◌==◌, nat_lt, nat_le, Bool, ◌||◌, ◌&&◌, if◌then◌else◌, Option, Some, None, Result, Ok, Err, List, [], ◌∷◌, length}
+use Rattle.std.specs.Prelude.{ℕ, ◌+◌, ◌-◌, ◌==◌, nat_lt, nat_le, Bool, ◌&&◌, if◌then◌else◌, Option, Some, None, Result, Ok, Err, List, [], ◌∷◌, length}
 use Rattle.gb_base.specs.declared.served.OwnAsk.{OwnAsk}
 use Rattle.gb_base.specs.declared.served.Served.{Served}
 use Rattle.gb_formats.specs.Records.{PayloadFault}
 use Rattle.gb_formats.specs.Results.{answer_of, refusal_of, own_ask, success, fault_result, protocol_bad, invalid, overflow}
-use Rattle.gb_formats.specs.UartRecords.{UartAsk, read_uart_ask, uart_ask_kind, uart_ask_payload}
+use Rattle.gb_formats.specs.UartRecords.{UartAsk, read_uart_ask_of_ap, uart_ask_kind, uart_ask_payload}
 
 -- the most bytes that one SEND_DATA may carry
 abbrev pub most_sent : ℕ
@@ -36,31 +36,24 @@ abbrev pub is_coding : ℕ → ℕ → ℕ → ℕ → Bool
 is_coding format parity bits flow =
     nat_le format 2 && nat_le parity 4 && nat_le 5 bits && nat_le bits 8 && nat_le flow 1
 
--- what each request does; those that only the module sends are unknown types
+-- what each request does; none of the module's is read
 abbrev pub uart_asked : UartAsk → Served
 uart_asked (UartAsk.SendData bytes) = send_answer bytes
-uart_asked (UartAsk.ReceiveData flags bytes) = refusal_of protocol_bad
 uart_asked (UartAsk.SetLineCoding rate format parity bits flow) =
     if_in_range (is_coding format parity bits flow)
 uart_asked (UartAsk.SetControlLineState control) = if_in_range (nat_le control 3)
 uart_asked (UartAsk.SendBreak state) = if_in_range (nat_le state 1)
-uart_asked (UartAsk.SerialState control) = refusal_of protocol_bad
-uart_asked (UartAsk.ReceiveCredits count) = refusal_of protocol_bad
 uart_asked (UartAsk.FlushFifos flags) = if_in_range (nat_le flags 3)
+uart_asked _ = refusal_of protocol_bad
 
 -- a request by its payload
 abbrev pub uart_read : Result UartAsk PayloadFault → Served
 uart_read (Ok ask) = uart_asked ask
 uart_read (Err fault) = refusal_of (fault_result fault)
 
--- a type that only the module sends: RECEIVE_DATA, SERIAL_STATE and RECEIVE_CREDITS
-abbrev pub is_uart_own : ℕ → Bool
-is_uart_own kind = kind == 0x03 || kind == 0x07 || kind == 0x08
-
 -- The UART device's step, which changes nothing in the device.
 abbrev pub uart_step : ℕ → List ℕ → Served
-uart_step kind payload =
-    if is_uart_own kind then refusal_of protocol_bad else uart_read (read_uart_ask kind payload)
+uart_step kind payload = uart_read (read_uart_ask_of_ap kind payload)
 
 -- a serial state that is told
 abbrev pub serial_told : ℕ → OwnAsk

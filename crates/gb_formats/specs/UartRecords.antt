@@ -3,18 +3,18 @@
 use Rattle.std.specs.Prelude.{ℕ, ◌+◌, ◌==◌, if◌then◌else◌, Result, List, [], ◌∷◌, ◌++◌, length, drop, slice_index}
 use Rattle.byteorder.specs.Endian.{little_number}
 use Rattle.gb_formats.specs.Bytes.{le16}
-use Rattle.gb_formats.specs.Records.{le32, PayloadFault, Row, row0, row1, row5, u8, u16, u32, whole, read_table}
+use Rattle.gb_formats.specs.Records.{le32, PayloadFault, Row, by_far, row0, row1, row5, u8, u16, u32, whole, read_ap_ask, read_far_ask, read_table}
 
--- the payloads of requests, those of the module among them
+-- the payloads of requests
 pub data UartAsk : Type 0 where
-  SendData : List ℕ → UartAsk
-  ReceiveData : ℕ → List ℕ → UartAsk
-  SetLineCoding : ℕ → ℕ → ℕ → ℕ → ℕ → UartAsk
-  SetControlLineState : ℕ → UartAsk
-  SendBreak : ℕ → UartAsk
-  SerialState : ℕ → UartAsk
-  ReceiveCredits : ℕ → UartAsk
-  FlushFifos : ℕ → UartAsk
+  SendData : (bytes : List ℕ) → UartAsk
+  ReceiveData : (flags : ℕ) → (bytes : List ℕ) → UartAsk
+  SetLineCoding : (rate format parity bits flow : ℕ) → UartAsk
+  SetControlLineState : (control : ℕ) → UartAsk
+  SendBreak : (state : ℕ) → UartAsk
+  SerialState : (control : ℕ) → UartAsk
+  ReceiveCredits : (count : ℕ) → UartAsk
+  FlushFifos : (flags : ℕ) → UartAsk
 
 -- the payloads of responses, which are all empty
 pub data UartReply : Type 0 where
@@ -33,8 +33,8 @@ uart_asks =
     row5 0x04 u32 u8 u8 u8 u8 UartAsk.SetLineCoding
     ∷ row1 0x05 u8 UartAsk.SetControlLineState
     ∷ row1 0x06 u8 UartAsk.SendBreak
-    ∷ row1 0x07 u8 UartAsk.SerialState
-    ∷ row1 0x08 u16 UartAsk.ReceiveCredits
+    ∷ by_far (row1 0x07 u8 UartAsk.SerialState)
+    ∷ by_far (row1 0x08 u16 UartAsk.ReceiveCredits)
     ∷ row1 0x09 u8 UartAsk.FlushFifos
     ∷ []
 
@@ -42,12 +42,12 @@ uart_asks =
 abbrev pub uart_replies : List (Row UartReply)
 uart_replies =
     row0 0x02 UartReply.SendData
-    ∷ row0 0x03 UartReply.ReceiveData
+    ∷ by_far (row0 0x03 UartReply.ReceiveData)
     ∷ row0 0x04 UartReply.SetLineCoding
     ∷ row0 0x05 UartReply.SetControlLineState
     ∷ row0 0x06 UartReply.SendBreak
-    ∷ row0 0x07 UartReply.SerialState
-    ∷ row0 0x08 UartReply.ReceiveCredits
+    ∷ by_far (row0 0x07 UartReply.SerialState)
+    ∷ by_far (row0 0x08 UartReply.ReceiveCredits)
     ∷ row0 0x09 UartReply.FlushFifos
     ∷ []
 
@@ -62,12 +62,22 @@ read_receive payload =
     whole (3 + little_number 2 payload) payload
     (UartAsk.ReceiveData (slice_index payload 2) (drop 3 payload))
 
--- the request that a payload is
+-- the request that a payload is, whoever makes it
 abbrev pub read_uart_ask : ℕ → List ℕ → Result UartAsk PayloadFault
 read_uart_ask kind payload =
     if kind == 0x02 then read_send payload
     else if kind == 0x03 then read_receive payload
     else read_table uart_asks kind payload
+
+-- the request of the application processor that a payload is
+abbrev pub read_uart_ask_of_ap : ℕ → List ℕ → Result UartAsk PayloadFault
+read_uart_ask_of_ap kind payload =
+    if kind == 0x02 then read_send payload else read_ap_ask uart_asks kind payload
+
+-- the request of the module that a payload is
+abbrev pub read_uart_ask_of_module : ℕ → List ℕ → Result UartAsk PayloadFault
+read_uart_ask_of_module kind payload =
+    if kind == 0x03 then read_receive payload else read_far_ask uart_asks kind payload
 
 -- the response that a payload is; the type is that of the request
 abbrev pub read_uart_reply : ℕ → List ℕ → Result UartReply PayloadFault

@@ -1,28 +1,39 @@
 -- A GPIO request is never too large.
-use Rattle.std.proofs.Common.{◌≡◌, ◌≤◌, ℕ, Bool, true, false, List, [], ◌∷◌, length, Ok, arith, refl, nat_lt, if◌then◌else◌}
+use Rattle.std.proofs.Common.{◌≡◌, ◌≤◌, ℕ, false, List, length, Ok, arith, refl, nat_lt}
 use Rattle.gb_base.specs.declared.bridge.BridgeAsk.TheVariants as ask
 use Rattle.gb_bridge_payload.specs.Serving.{BridgesAs}
-use Rattle.gb_formats.specs.Bridges.{bridge_answer, gpio_payload, has_byte, has_no_line, has_time}
-use Rattle.gb_formats.specs.Bytes.{le16}
+use Rattle.gb_formats.specs.Bridges.{bridge_answer, gpio_request, of_gpio}
+use Rattle.gb_formats.specs.GpioRecords.{GpioAsk, gpio_ask_kind, gpio_ask_payload}
 use Rattle.gb_formats.specs.Protocols.{gpio_protocol}
 use Rattle.gb_formats.specs.Results.{most_payload}
 use Rattle.gb_payload.specs.Fields.{Puts}
 
 -- its payload has at most three bytes
-short_by : (no_line time byte : Bool) (line value : ℕ) → length (if no_line then [] else if time then line ∷ le16 value else if byte then line ∷ value ∷ [] else line ∷ []) ≤ 3
-short_by true time byte line value = omega arith
-short_by false true byte line value = omega arith
-short_by false false true line value = omega arith
-short_by false false false line value = omega arith
+short : (request : GpioAsk) → length (gpio_ask_payload request) ≤ 3
+short GpioAsk.LineCount = omega arith
+short (GpioAsk.Activate which) = omega arith
+short (GpioAsk.Deactivate which) = omega arith
+short (GpioAsk.GetDirection which) = omega arith
+short (GpioAsk.DirectionIn which) = omega arith
+short (GpioAsk.DirectionOut which value) = omega arith
+short (GpioAsk.GetValue which) = omega arith
+short (GpioAsk.SetValue which value) = omega arith
+short (GpioAsk.SetDebounce which microseconds) = omega arith
+short (GpioAsk.IrqType which kind) = omega arith
+short (GpioAsk.IrqMask which) = omega arith
+short (GpioAsk.IrqUnmask which) = omega arith
+short (GpioAsk.IrqEvent which) = omega arith
 
-short : (kind line value : ℕ) → nat_lt most_payload (length (gpio_payload kind line value)) ≡ false
-short kind line value =
-    let few = short_by (has_no_line kind) (has_time kind) (has_byte kind) line value in grind (arith, few)
+fits : (request : GpioAsk) → nat_lt most_payload (length (gpio_ask_payload request)) ≡ false
+fits request = let few = short request in grind (arith, few)
 
 -- the request that is written
-pub bridged : (kind line value n : ℕ) (old new : List ℕ) → Puts (gpio_payload kind line value) old new (Ok n) → BridgesAs (bridge_answer gpio_protocol (ask.Gpio kind line value)) old new (Ok (record { kind = kind; len = n }))
-bridged kind line value n old new p = (
-  (kind, gpio_payload kind line value),
-  rw (short kind line value) refl,
+pub bridged : (kind line value n : ℕ) (request : GpioAsk) (old new : List ℕ)
+    → request ≡ gpio_request kind line value → Puts (gpio_ask_payload request) old new (Ok n)
+    → BridgesAs (bridge_answer gpio_protocol (ask.Gpio kind line value)) old new
+    (Ok (record { kind = gpio_ask_kind request; len = n }))
+bridged kind line value n request old new is p = (
+  of_gpio request,
+  rw is (rw (fits (gpio_request kind line value)) refl),
   record { kind = refl; len = p.0; bytes = p.2 },
 )

@@ -19,7 +19,7 @@ seen lines self i d v h =
     ∙ ap (option_map gpio_line_of) (slice_get-get_or lines i d h)
 
 -- the lines after a level was set
-pub levelled : (lines : List Line) (self : List GpioLine) (i value : ℕ) (d : Line) → lines_of lines ≡ self → i < length lines → lines_of (slice_set lines i (record (get_or lines i d) { level = value })) ≡ (gpio_level_set self i value).lines
+pub levelled : (lines : List Line) (self : List GpioLine) (i value : ℕ) (d : Line) → lines_of lines ≡ self → i < length lines → lines_of (slice_set lines i (record (get_or lines i d) { level = value })) ≡ (gpio_level_set self i value).after
 levelled lines self i value d v h =
     rw (seen lines self i d v h)
     (map-set gpio_line_of lines i (record (get_or lines i d) { level = value })
@@ -30,10 +30,10 @@ pub interrupted : (lines : List Line) (self : List GpioLine) (i value : ℕ) (d 
 interrupted lines self i value d v h = rw (seen lines self i d v h) (search rules)
 
 -- a request that changed a line
-pub changed : (lines : List Line) (self : List GpioLine) (step : List GpioLine → Step (List GpioLine)) (does : Effect) (which : ℕ) (line : Line) (served : Served) → lines_of lines ≡ self → step (lines_of lines) ≡ step_of (lines_of lines) (Ok does) → does ≡ effect.Changes which line → served ≡ answer_of [] → (served ≡ (step self).served) × (lines_of (slice_set lines which line) ≡ (step self).device)
+pub changed : (lines : List Line) (self : List GpioLine) (step : List GpioLine → Step (List GpioLine)) (does : Effect) (which : ℕ) (line : Line) (served : Served) → lines_of lines ≡ self → step (lines_of lines) ≡ step_of (lines_of lines) (Ok does) → does ≡ effect.Changes which line → served ≡ answer_of [] → (served ≡ (step self).served) × (lines_of (slice_set lines which line) ≡ (step self).after)
 changed lines self step does which line served v h e d =
     let after : step self ≡ step_of (lines_of lines) (Ok (effect.Changes which line)) =
     ap step (sym v) ∙ h ∙ ap (λ (x : Effect). step_of (lines_of lines) (Ok x)) e in (
       d ∙ sym (ap (λ (s : Step (List GpioLine)). s.served) after),
-      map-set gpio_line_of lines which line ∙ sym (ap (λ (s : Step (List GpioLine)). s.device) after),
+      map-set gpio_line_of lines which line ∙ sym (ap (λ (s : Step (List GpioLine)). s.after) after),
     )

@@ -43,7 +43,7 @@ at_line_of (Err code) = Refuses code
 -- what a request does, or the result of its refusal
 abbrev pub step_of : List GpioLine → Result Effect ℕ → Step (List GpioLine)
 step_of lines (Ok (effect.Changes which line)) =
-    record { device = slice_set lines which (gpio_line_of line); served = answer_of [] }
+    record { after = slice_set lines which (gpio_line_of line); served = answer_of [] }
 step_of lines (Ok (effect.Tells reply)) = tells lines (gpio_reply_payload (gpio_reply_of reply))
 step_of lines (Err code) = refuses lines code
 

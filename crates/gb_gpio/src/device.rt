@@ -3,16 +3,16 @@
 ghost use Rattle.std.specs.Prelude.{◌≡◌, ◌≤◌, IfOk, IsOkAnd};
 ghost use Rattle.gb_bridge_payload.specs.Serving.{ServesAs};
 ghost use Rattle.gb_bridge_payload.specs.Views.{gpio_ask_of, gpio_reply_of};
-ghost use Rattle.gb_formats.specs.GpioDevice.{first_gpio, gpio_asked, gpio_level_set, gpio_step};
+ghost use Rattle.gb_formats.specs.GpioDevice.{first_gpio, gpio_asked, gpio_level_set, gpio_step, restarted_gpio};
 ghost use Rattle.gb_formats.specs.GpioRecords.{gpio_reply_payload};
 ghost use Rattle.gb_formats.specs.Results.{answer_of};
+ghost use Rattle.gb_gpio.specs.Views.{lines_of};
 
 use crate::deciding::decide;
 use crate::effect::Effect;
 use crate::line::Line;
 use gb_base::{OutOfMemory, Served};
-use gb_bridge_payload::gpio_kinds::IRQ_EVENT;
-use gb_bridge_payload::{GpioAsk, GpioReply, PROTOCOL_BAD, answered, done, fault_result, refused};
+use gb_bridge_payload::{GpioAsk, GpioReply, answered, done, fault_result, refused};
 use std::alloc::Global;
 use std::marker::Model;
 
@@ -49,14 +49,18 @@ impl Device {
         })
     }
 
+    /// Brings the device back to its first state, but that the levels from outside stay.
+    pub fn restart(&mut self)
+        ensures { self.new ≡ restarted_gpio self.old }
+    {
+        restart(&mut self.lines);
+    }
+
     /// Serves a request of the application processor. After want of memory the device is as before.
     pub fn serve(&mut self, kind: u8, payload: &[u8]) -> Result<Served, OutOfMemory>
         ensures { ServesAs (gpio_step self.old kind payload.now) self.old self.new result }
     {
-        if kind == IRQ_EVENT {
-            return Ok(refused(self.alloc, PROTOCOL_BAD));
-        }
-        match GpioAsk::read(kind, payload) {
+        match GpioAsk::read_of_ap(kind, payload) {
             Ok(ask) => self.serve_ask(ask),
             Err(fault) => Ok(refused(self.alloc, fault_result(fault))),
         }
@@ -81,7 +85,7 @@ impl Device {
     pub fn level(&mut self, line: u8, value: u8) -> Option<u8>
         requires line { line ≤ 7 }
         requires value { value ≤ 1 }
-        ensures lines { self.new ≡ (gpio_level_set self.old line value).lines }
+        ensures lines { self.new ≡ (gpio_level_set self.old line value).after }
         ensures irq { result ≡ (gpio_level_set self.old line value).irq }
     {
         let was = self.lines[line as usize];
@@ -90,6 +94,15 @@ impl Device {
             ..was
         };
         was.interrupts(value).then_some(line)
+    }
+}
+
+/// Brings each line back to its first state, but that its level stays.
+fn restart(lines: &mut [Line])
+    ensures { lines_of lines.new ≡ restarted_gpio (lines_of lines.old) }
+{
+    for line in lines.iter_mut() {
+        line.restart();
     }
 }
 

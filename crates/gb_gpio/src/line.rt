@@ -52,6 +52,13 @@ impl Line {
         }
     }
 
+    /// Brings the line back to its first state, but that its level stays.
+    pub fn restart(&mut self)
+        ensures { gpio_line_of self.new ≡ restarted_line (gpio_line_of self.old) }
+    {
+        *self = self.restarted();
+    }
+
     /// The line in its first state, whose level stays.
     pub fn restarted(self) -> Line
         ensures { gpio_line_of result ≡ restarted_line (gpio_line_of self) }

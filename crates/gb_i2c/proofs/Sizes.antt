@@ -1,14 +1,14 @@
 -- The sizes of a transfer's payload and of its reads.
-use Rattle.std.proofs.Common.{◌≡◌, ◌<◌, ◌⊎◌, ⊎_elim, ◌≤◌, ◌+◌, not, ℕ, Bool, true, false, List, [], ◌∷◌, length, drop, drop_of_length-le, get_or, map, sum_by, refl, arith, ap, sym, ◌∙◌, length-append, drop-cons, add-one}
+use Rattle.std.proofs.Common.{◌≡◌, ◌<◌, ◌⊎◌, ⊎_elim, ◌≤◌, ◌+◌, ◌/◌, not, ℕ, Bool, true, false, List, [], ◌∷◌, length, drop, drop_of_length-le, get_or, map, sum_by, refl, arith, ap, sym, ◌∙◌, length-append, drop-cons, add-one}
 use Rattle.std.proofs.lemmas.Bool.Decides.{nat_tests}
 use Rattle.std.proofs.lemmas.List.Sums.{sum_by-cons}
 use Rattle.std.specs.List.{concat}
 use Rattle.gb_base.specs.declared.bridge.BridgeAsk.TheVariants as ask
 use Rattle.gb_base.specs.declared.bridge.I2cOp.{I2cOp}
 use Rattle.gb_base.specs.declared.bridge.I2cOp.TheVariants as i2c
-use Rattle.gb_bridge_payload.proofs.Putting.{piece_within, room_of, rooms, rooms_count}
-use Rattle.gb_formats.specs.Bridges.{i2c_op_bytes, i2c_payload, i2c_read_size, i2c_written, is_too_large}
-use Rattle.gb_formats.specs.I2cRecords.{op_size}
+use Rattle.gb_bridge_payload.proofs.Putting.{heads_long, piece_within, room_of, rooms, rooms_count}
+use Rattle.gb_formats.specs.Bridges.{i2c_op_bytes, i2c_read_size, i2c_transfer, i2c_written, is_too_large}
+use Rattle.gb_formats.specs.I2cRecords.{i2c_ask_payload, op_size}
 use Rattle.gb_formats.specs.Results.{most_payload}
 
 -- how many bytes an op has in a payload, with what it writes
@@ -20,8 +20,12 @@ pub op_long : (op : I2cOp) → length (i2c_op_bytes op) ≡ 6
 op_long (i2c.Get addr len) = refl
 op_long (i2c.Put addr bytes) = refl
 
+-- as many ops are counted in a payload
+pub ops_counted : (ops : List I2cOp) → length (concat (map i2c_op_bytes ops)) / op_size ≡ length ops
+ops_counted ops = let heads = heads_long op_size i2c_op_bytes op_long ops in omega (arith, heads)
+
 -- the size of a payload
-pub payload_long : (ops : List I2cOp) → length (i2c_payload ops) ≡ 2 + sum_by op_room ops
+pub payload_long : (ops : List I2cOp) → length (i2c_ask_payload (i2c_transfer ops)) ≡ 2 + sum_by op_room ops
 payload_long ops =
     let behind = length-append (concat (map i2c_op_bytes ops)) (concat (map i2c_written ops)) in
     let all = rooms op_size i2c_op_bytes i2c_written op_long ops in
@@ -102,7 +106,7 @@ measured_small size read i ops h m =
 -- What is known of a transfer that isn't too large.
 pub record IsSmall (ops : List I2cOp) : Type 0 where
   pub large : is_too_large (ask.I2cTransfer ops) ≡ false
-  pub size : length (i2c_payload ops) ≤ most_payload
+  pub size : length (i2c_ask_payload (i2c_transfer ops)) ≤ most_payload
   pub count : length ops < 65536
 
 pub is_small : (ops : List I2cOp) → true ≡ not (is_too_large (ask.I2cTransfer ops)) → IsSmall ops
@@ -112,7 +116,7 @@ is_small ops h = by (is_too_large (ask.I2cTransfer ops)) refl h where
   by false is h' =
       let long = payload_long ops in
       let heads = rooms_count op_size i2c_written ops in
-      let size : length (i2c_payload ops) ≤ most_payload = grind (arith, nat_tests, is) in
+      let size : length (i2c_ask_payload (i2c_transfer ops)) ≤ most_payload = grind (arith, nat_tests, is) in
       record {
         large = is;
         size = size;

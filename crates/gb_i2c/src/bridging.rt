@@ -7,7 +7,7 @@ ghost use Rattle.gb_formats.specs.Bridges.{bridge_answer};
 ghost use Rattle.gb_formats.specs.Protocols.{i2c_protocol};
 ghost use Rattle.gb_formats.specs.Results.{most_payload};
 
-use crate::transfers::{fields, fits, written};
+use crate::ops::{fields, fits, written};
 use gb_base::{BridgeAsk, Bridged, I2cOp};
 use gb_bridge_payload::i2c_kinds::{FUNCTIONALITY, TRANSFER};
 use gb_bridge_payload::{BridgeFault, put_behind};

@@ -7,8 +7,8 @@ ghost use Rattle.gb_formats.specs.I2cDevice.{first_i2c, i2c_step, i2c_transfer_s
 ghost use Rattle.gb_formats.specs.I2cRecords.{op_size, ops_at};
 
 use crate::memory::Memory;
-use crate::ops::run;
 use crate::survey::check;
+use crate::transfer::run;
 use gb_base::{Bytes, OutOfMemory, OwnAsks, Served};
 use gb_bridge_payload::{I2cAsk, OP_SIZE, SUCCESS, answered, fault_result, refused};
 use std::alloc::Global;
@@ -43,6 +43,13 @@ impl Device {
             alloc,
             memory: Memory::first(),
         })
+    }
+
+    /// Brings the device back to its first state.
+    pub fn restart(&mut self)
+        ensures { self.new ≡ first_i2c }
+    {
+        self.memory = Memory::first();
     }
 
     /// Serves a request of the application processor. After want of memory the device is as before.

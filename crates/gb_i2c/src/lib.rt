@@ -9,7 +9,7 @@ mod readings;
 mod survey;
 #[cfg(test)]
 mod tests;
-mod transfers;
+mod transfer;
 
 pub use bridging::bridge;
 pub use device::Device;

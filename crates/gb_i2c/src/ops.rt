@@ -1,56 +1,69 @@
-//! The ops of a transfer, done at the memory.
+//! The ops of a bridge line's transfer.
 
-ghost use Rattle.std.specs.Prelude.{◌≡◌, ◌++◌, OnOk, length};
-ghost use Rattle.gb_bridge_payload.specs.Views.{op_of};
-ghost use Rattle.gb_formats.specs.I2cDevice.{after_op, op_read_bytes, ops_run};
-ghost use Rattle.gb_formats.specs.I2cRecords.{op_written_size, ops_at};
-ghost use Rattle.gb_formats.specs.Results.{tells};
-ghost use Rattle.gb_i2c.specs.Counted.{AreCounted};
+ghost use Rattle.std.specs.Prelude.{◌≡◌, ◌≤◌, length, not};
+ghost use Rattle.gb_base.specs.declared.bridge.BridgeAsk.TheVariants as ask;
+ghost use Rattle.gb_formats.specs.Bridges.{i2c_op_bytes, i2c_read_size, i2c_written, is_too_large};
+ghost use Rattle.gb_formats.specs.Results.{most_payload};
+ghost use Rattle.gb_payload.specs.Fields.{spelled};
 
-use crate::memory::Memory;
-use gb_base::{Bytes, OutOfMemory};
-use gb_bridge_payload::TransferOp;
+use gb_base::I2cOp;
+use gb_bridge_payload::{MOST_PAYLOAD, OP_SIZE};
+use gb_payload::Field;
+use gb_payload::Field::U16;
 
-/// Does so many ops in order, and adds the bytes that they read to `answer`. After want of memory
-/// some may have been done.
-pub fn run(
-    count: u16,
-    ops: &[u8],
-    bytes: &[u8],
-    memory: &mut Memory,
-    answer: &mut Bytes,
-) -> Result<(), OutOfMemory>
-    requires { AreCounted count ops.now bytes.now }
-    ensures { OnOk result (ops_run memory.old bytes.now answer.old (ops_at count ops.now)
-        ≡ tells memory.new answer.new) }
+/// How many bytes the count of the ops has.
+const COUNT_SIZE: usize = 2;
+
+/// The flag of an op that reads (in Linux's i2c.h `I2C_M_RD`).
+const READS: u16 = 1;
+
+/// The flags of an op that writes.
+const WRITES: u16 = 0;
+
+/// Whether neither the payload nor the reads of a transfer have more than 2,040 bytes.
+pub fn fits(ops: &[I2cOp]) -> bool
+    ensures { result ≡ not (is_too_large (ask.I2cTransfer ops.now)) }
 {
-    let mut ops = ops;
-    let mut bytes = bytes;
-    for _ in 0..count {
-        let (op, later) = TransferOp::first(ops);
-        let (written, left) = bytes.split_at(op.written_size() as usize);
-        apply(&op, written, memory, answer)?;
-        ops = later;
-        bytes = left;
+    let mut size = COUNT_SIZE;
+    let mut read = 0;
+    for op in ops {
+        size += OP_SIZE + written(op).len();
+        read += read_size(op) as usize;
+        if size > MOST_PAYLOAD || read > MOST_PAYLOAD {
+            return false;
+        }
     }
-    Ok(())
+    true
 }
 
-/// Does an op, and adds the bytes that it reads to `answer`.
-fn apply(
-    op: &TransferOp,
-    bytes: &[u8],
-    memory: &mut Memory,
-    answer: &mut Bytes,
-) -> Result<(), OutOfMemory>
-    requires { length bytes.now ≡ op_written_size (op_of op.now) }
-    ensures memory { OnOk result (memory.new ≡ after_op memory.old bytes.now (op_of op.now)) }
-    ensures answer { OnOk result
-        (answer.new ≡ answer.old ++ op_read_bytes memory.old (op_of op.now)) }
+/// What an op writes.
+pub fn written(op: &I2cOp) -> &[u8]
+    ensures { result.now ≡ i2c_written op.now }
 {
-    if op.reads() {
-        return memory.read(op.size, answer);
+    match op {
+        I2cOp::Get { .. } => &[],
+        I2cOp::Put { bytes, .. } => bytes.items(),
     }
-    memory.write(bytes);
-    Ok(())
+}
+
+/// How many bytes an op reads.
+fn read_size(op: &I2cOp) -> u16
+    ensures { result ≡ i2c_read_size op.now }
+{
+    match op {
+        I2cOp::Get { len, .. } => *len,
+        I2cOp::Put { .. } => 0,
+    }
+}
+
+/// The fields of an op in a payload.
+pub fn fields(op: &I2cOp) -> [Field<'static>; 3]
+    requires { length (i2c_written op.now) ≤ most_payload }
+    ensures { spelled result ≡ i2c_op_bytes op.now }
+{
+    let (addr, flags, size) = match op {
+        I2cOp::Get { addr, len } => (*addr, READS, *len),
+        I2cOp::Put { addr, bytes } => (*addr, WRITES, bytes.items().len() as u16),
+    };
+    [U16(u16::from(addr)), U16(flags), U16(size)]
 }

@@ -51,13 +51,16 @@ queued-queue side.Far side.Far new item c i = ⊎_elim (λ a. inl a) (λ e. inr 
 queued-queue side.Ap side.Far new item c i = inl i
 queued-queue side.Far side.Ap new item c i = inl i
 
-pub put-queue : (s at : Side) (new item : Item) (c : Connection) → IsIn item (queue s (put at new c))
-    → IsIn item (queue s c) ⊎ ((s ≡ at) × (item ≡ new))
-put-queue s at new item c i = by c.wired i
+-- what waits once an item was put is old, or the item on a connection that is wired
+pub put-queue : (s at : Side) (new item : Item) (c : Connection)
+    → IsIn item (queue s (put at new c))
+    → IsIn item (queue s c) ⊎ ((s ≡ at) × (item ≡ new) × (c.wired ≡ true))
+put-queue s at new item c i = by c.wired refl i
   where
-    by : (t : Bool) → IsIn item (queue s (cond t (queued at new c) c)) → IsIn item (queue s c) ⊎ ((s ≡ at) × (item ≡ new))
-    by true i = queued-queue s at new item c i
-    by false i = inl i
+    by : (t : Bool) → c.wired ≡ t → IsIn item (queue s (cond t (queued at new c) c))
+        → IsIn item (queue s c) ⊎ ((s ≡ at) × (item ≡ new) × (c.wired ≡ true))
+    by true e i = ⊎_elim (λ old. inl old) (λ x. inr (x.0, x.1, e)) (queued-queue s at new item c i)
+    by false e i = inl i
 
 pub drawn-queue : (s : Side) (d : Draft) (label : ℕ) (c : Connection) → queue s (drawn d label c) ≡ queue s c
 drawn-queue s d label c = by s d.side d.oneway

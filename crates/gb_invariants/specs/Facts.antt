@@ -6,7 +6,6 @@ use Rattle.gb_machine.specs.Bus.{Ask, Bus, Connection, Item, Raw, RawReply, Repl
 use Rattle.gb_machine.specs.Labels.{last_label}
 use Rattle.gb_machine.specs.LawsBus.{OwnLabels, is_awaited, is_item_of}
 use Rattle.gb_machine.specs.LawsEnds.{is_outcome_of}
-use Rattle.gb_machine.specs.LawsHotPlug.{IsMadeOn}
 use Rattle.gb_machine.specs.Members.{Each, EachTwo, IsIn, times, total}
 use Rattle.gb_machine.specs.Requests.{is_given_up}
 
@@ -66,6 +65,11 @@ abbrev pub is_numbered : Item → Bool
 is_numbered (Ask n) = true
 is_numbered (Reply n result payload) = true
 is_numbered _ = false
+
+-- request n was made on a connection, by this side
+abbrev pub IsMadeOn : ℕ → Side → ℕ → Bus → Type 0
+IsMadeOn k at n b =
+    (r : Request) × (request_of n b ≡ Some r) × (r.connection ≡ k) × (r.side ≡ at)
 
 -- The request of an item toward a side of a connection was made on that connection: an asked one by
 -- the other side, the one that a reply answers by this side.

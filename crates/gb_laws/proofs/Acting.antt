@@ -1,5 +1,29 @@
 -- A law of points goes over what the application processor does.
-use Rattle.std.proofs.Common.{◌≡◌, ℕ, Bool, true, false, cond, Option, Some, None, List, [], ◌∷◌, length, map, refl, sym, ap, ◌∙◌, inl, inr, subst}
+use Rattle.std.proofs.Common.{
+  ◌≡◌,
+  ℕ,
+  Bool,
+  true,
+  false,
+  cond,
+  Option,
+  Some,
+  None,
+  List,
+  [],
+  ◌∷◌,
+  ◌++◌,
+  length,
+  map,
+  refl,
+  sym,
+  ap,
+  ◌∙◌,
+  inl,
+  inr,
+  subst,
+  append-nil,
+}
 use Rattle.std.specs.Prelude.{Result, Ok, Err, ◌==◌, option_and_then}
 use Rattle.gb_base.specs.declared.end.Side.TheVariants as side
 use Rattle.gb_base.specs.declared.entry.ConnState.{ConnState}
@@ -8,26 +32,110 @@ use Rattle.gb_base.specs.declared.entry.Entry.{Entry}
 use Rattle.gb_base.specs.declared.entry.Entry.TheVariants as entry
 use Rattle.gb_base.specs.declared.entry.IntfStage.TheVariants as stage
 use Rattle.gb_base.specs.declared.outcome.Outcome.{Outcome}
+use Rattle.gb_base.specs.declared.peers.Link.{Link}
+use Rattle.gb_base.specs.declared.steps.Purpose.{Purpose}
+use Rattle.gb_base.specs.declared.steps.SequenceStep.{SequenceStep}
+use Rattle.gb_base.specs.declared.steps.SequenceStep.TheVariants as steps
 use Rattle.gb_formats.specs.Manifest.{CportView, Manifest, check_answer}
 use Rattle.gb_formats.specs.ManifestRules.{Refused}
 use Rattle.gb_invariants.proofs.Lists.{each-append}
-use Rattle.gb_laws.proofs.Going.{Goes, goes-asks, goes-nothing, goes-▸}
-use Rattle.gb_laws.proofs.Points.{by_host, ActLaw, AreQuiet, IsAsking, IsCaused, IsShutFor, Untouched, acts_asked, acts_failed, acts_left, acts_opened, acts_shut, acts_told, asking, disconnected, is_quiet, opening, removed, turns}
+use Rattle.gb_laws.proofs.Going.{At, Goes, goes-nothing, goes-▸}
+use Rattle.gb_laws.proofs.Points.{
+  asks,
+  by_host,
+  ActLaw,
+  IsAsking,
+  IsOver,
+  acts_asked,
+  acts_failed,
+  acts_left,
+  acts_opened,
+  acts_shut,
+  acts_told,
+  asking,
+  opening,
+  turns,
+}
+use Rattle.gb_laws.proofs.PointParts.{
+  AreQuiet,
+  IsCaused,
+  IsShutFor,
+  Untouched,
+  disconnected,
+  is_quiet,
+  removed,
+}
 use Rattle.gb_machine.proofs.Opened.{machine_opened}
-use Rattle.gb_machine.specs.Actions.{Action, change, each, on_host, tell, ◌▸◌}
-use Rattle.gb_machine.specs.Asking.{asks}
-use Rattle.gb_machine.specs.Bus.{next_number}
-use Rattle.gb_machine.specs.Failures.{interface_fails, link_fails, link_told, step_fails, told_of, unsent, unsent_fails}
-use Rattle.gb_machine.specs.Host.{Host, Link, cport_of, free_cport, free_device, in_state, interface_of, link_at, with_interface, with_link, with_new_interface}
-use Rattle.gb_machine.specs.HostActs.{acts, asked_with, fails, host_asks, host_draft, host_opens, notices, opened_with, with_awaited, with_made}
-use Rattle.gb_machine.specs.Labels.{next_label}
+use Rattle.gb_machine.specs.Actions.{Action, change, each, given, on_host, tell, ◌▸◌}
+use Rattle.gb_machine.specs.Asking.{asked, asks_with}
+use Rattle.gb_machine.specs.Bus.{Connection, connection_of, next_number}
+use Rattle.gb_machine.specs.Failures.{
+  interface_fails,
+  link_fails,
+  link_told,
+  step_fails,
+  told_of,
+  unsent,
+  unsent_fails,
+}
+use Rattle.gb_machine.specs.Host.{
+  Host,
+  cport_of,
+  free_cport,
+  free_device,
+  in_state,
+  interface_of,
+  link_at,
+  with_interface,
+  with_link,
+  with_new_interface,
+}
+use Rattle.gb_machine.specs.HostActs.{
+  acts,
+  asked_with,
+  fails,
+  host_asks,
+  host_draft,
+  host_opens,
+  notices,
+  opened_with,
+  with_awaited,
+  with_made,
+}
+use Rattle.gb_machine.specs.Labels.{fresh_label, next_label}
+use Rattle.gb_machine.specs.Sending.{sent}
 use Rattle.gb_machine.specs.State.{State}
 use Rattle.gb_machine.specs.Wiring.{next_connection}
-use Rattle.gb_machine.specs.HostTurns.{connects, connects_on, disconnects, ended_for, host_turn, links_left, links_of}
+use Rattle.gb_machine.specs.HostTurns.{
+  connects,
+  connects_on,
+  disconnects,
+  ended_for,
+  host_turn,
+  links_left,
+  links_of,
+}
 use Rattle.gb_machine.specs.Members.{Each, IsIn}
 use Rattle.gb_machine.specs.Runs.{Moment}
-use Rattle.gb_machine.specs.SequenceSteps.{Purpose, SequenceStep, at_step, is_reply, purpose}
-use Rattle.gb_machine.specs.Sequences.{asked_on, begins_control, begins_device, goes_on, link_left, link_turn, manifest_checked, manifest_told, opened, opened_told, payload_in, size_known, step_answered, step_asked, step_done, way_of}
+use Rattle.gb_machine.specs.SequenceSteps.{at_step, is_reply, purpose}
+use Rattle.gb_machine.specs.Sequences.{
+  asked_on,
+  begins_control,
+  begins_device,
+  goes_on,
+  link_left,
+  link_turn,
+  manifest_checked,
+  manifest_told,
+  opened,
+  opened_told,
+  payload_in,
+  size_known,
+  step_answered,
+  step_asked,
+  step_done,
+  way_of,
+}
 use Rattle.gb_machine.specs.Turns.{Act, Asking, HostEvent, Making, Turn, failed_turn}
 use Rattle.gb_machine.specs.Waits.{awaited, awaits_nothing}
 
@@ -61,13 +169,13 @@ quiet-link p h = quiet-told state.Failed (link_at p.intf p.cport h) (λ l. refl)
 
 -- what is told of a step that fails
 pub quiet-step : (step : SequenceStep) (p : Purpose) (h : Host) → AreQuiet (step_fails step p h).told
-quiet-step SequenceStep.CreateControl p h =
+quiet-step steps.CreateControl p h =
     each-append (λ e. is_quiet e ≡ true) (link_fails p h).told (interface_fails p (link_fails p h).host).told (quiet-link p h) (refl, tt)
-quiet-step SequenceStep.CreateConnection p h = quiet-link p h
-quiet-step SequenceStep.TellConnected p h = quiet-link p h
-quiet-step SequenceStep.TellDisconnecting p h = quiet-link p h
-quiet-step SequenceStep.TellDisconnected p h = quiet-link p h
-quiet-step SequenceStep.DestroyConnection p h = quiet-link p h
+quiet-step steps.CreateConnection p h = quiet-link p h
+quiet-step steps.TellConnected p h = quiet-link p h
+quiet-step steps.TellDisconnecting p h = quiet-link p h
+quiet-step steps.TellDisconnected p h = quiet-link p h
+quiet-step steps.DestroyConnection p h = quiet-link p h
 quiet-step _ p h = (refl, tt)
 
 -- what is told where a request can't be made
@@ -75,21 +183,21 @@ pub quiet-unsent : (p : Purpose) (h : Host) → AreQuiet (unsent p h).told
 quiet-unsent p h = by p.step
   where
     by : (step : SequenceStep) → AreQuiet (unsent_fails step p h).told
-    by SequenceStep.CreateControl = (refl, tt)
-    by SequenceStep.CreateConnection = tt
-    by SequenceStep.GiveDevice = (refl, tt)
-    by SequenceStep.EnableVsys = (refl, tt)
-    by SequenceStep.EnableRefclk = (refl, tt)
-    by SequenceStep.EnableUnipro = (refl, tt)
-    by SequenceStep.Activate = (refl, tt)
-    by SequenceStep.CreateRoute = (refl, tt)
-    by SequenceStep.AskVersion = (refl, tt)
-    by SequenceStep.AskSize = (refl, tt)
-    by SequenceStep.AskManifest = (refl, tt)
-    by SequenceStep.TellConnected = quiet-link p h
-    by SequenceStep.TellDisconnecting = quiet-link p h
-    by SequenceStep.TellDisconnected = quiet-link p h
-    by SequenceStep.DestroyConnection = quiet-link p h
+    by steps.CreateControl = (refl, tt)
+    by steps.CreateConnection = tt
+    by steps.GiveDevice = (refl, tt)
+    by steps.EnableVsys = (refl, tt)
+    by steps.EnableRefclk = (refl, tt)
+    by steps.EnableUnipro = (refl, tt)
+    by steps.Activate = (refl, tt)
+    by steps.CreateRoute = (refl, tt)
+    by steps.AskVersion = (refl, tt)
+    by steps.AskSize = (refl, tt)
+    by steps.AskManifest = (refl, tt)
+    by steps.TellConnected = quiet-link p h
+    by steps.TellDisconnecting = quiet-link p h
+    by steps.TellDisconnected = quiet-link p h
+    by steps.DestroyConnection = quiet-link p h
 
 fit-failed : (m : Moment) (step : SequenceStep) (p : Purpose) (h : Host) → AreFit m (failed_turn (step_fails step p h))
 fit-failed m step p h = fit-tells m (step_fails step p h).told (quiet-step step p h)
@@ -133,24 +241,24 @@ fit-manifest m p bytes h = by (length bytes == size_known (interface_of p.intf h
     by false = (refl, tt)
 
 fit-done : (m : Moment) (step : SequenceStep) (p : Purpose) (payload : List ℕ) (h : Host) → AreFit m (step_done step p payload h)
-fit-done m SequenceStep.EnableVsys p payload h = fit-asked m (at_step SequenceStep.EnableRefclk p) h
-fit-done m SequenceStep.EnableRefclk p payload h = fit-asked m (at_step SequenceStep.EnableUnipro p) h
-fit-done m SequenceStep.EnableUnipro p payload h = fit-asked m (at_step SequenceStep.Activate p) h
-fit-done m SequenceStep.Activate p payload h = fit-device m (free_device h) (at_step SequenceStep.GiveDevice p) h
-fit-done m SequenceStep.GiveDevice p payload h =
-    fit-asked m (at_step SequenceStep.CreateRoute p) (with_interface p.intf (λ x. record x { has_device = true }) h)
-fit-done m SequenceStep.CreateRoute p payload h = fit-control m (free_cport h) (at_step SequenceStep.CreateControl p) h
-fit-done m SequenceStep.CreateControl p payload h =
-    fit-opened m (link_at p.intf p.cport h) (goes_on SequenceStep.AskVersion p (opened p h))
-    (fit-asked m (at_step SequenceStep.AskVersion p) (opened p h))
-fit-done m SequenceStep.AskVersion p payload h = fit-asked m (at_step SequenceStep.AskSize p) h
-fit-done m SequenceStep.AskSize p payload h = fit-asked m (at_step SequenceStep.AskManifest p) _
-fit-done m SequenceStep.AskManifest p payload h = fit-manifest m p payload h
-fit-done m SequenceStep.CreateConnection p payload h = fit-asked m (at_step SequenceStep.TellConnected p) h
-fit-done m SequenceStep.TellConnected p payload h = fit-link m state.Open (link_at p.intf p.cport h) (opened p h) (λ l. refl)
-fit-done m SequenceStep.TellDisconnecting p payload h = fit-asked m (at_step SequenceStep.TellDisconnected p) h
-fit-done m SequenceStep.TellDisconnected p payload h = fit-asked m (at_step SequenceStep.DestroyConnection p) h
-fit-done m SequenceStep.DestroyConnection p payload h = fit-left m (link_at p.intf p.cport h) _
+fit-done m steps.EnableVsys p payload h = fit-asked m (at_step steps.EnableRefclk p) h
+fit-done m steps.EnableRefclk p payload h = fit-asked m (at_step steps.EnableUnipro p) h
+fit-done m steps.EnableUnipro p payload h = fit-asked m (at_step steps.Activate p) h
+fit-done m steps.Activate p payload h = fit-device m (free_device h) (at_step steps.GiveDevice p) h
+fit-done m steps.GiveDevice p payload h =
+    fit-asked m (at_step steps.CreateRoute p) (with_interface p.intf (λ x. record x { has_device = true }) h)
+fit-done m steps.CreateRoute p payload h = fit-control m (free_cport h) (at_step steps.CreateControl p) h
+fit-done m steps.CreateControl p payload h =
+    fit-opened m (link_at p.intf p.cport h) (goes_on steps.AskVersion p (opened p h))
+    (fit-asked m (at_step steps.AskVersion p) (opened p h))
+fit-done m steps.AskVersion p payload h = fit-asked m (at_step steps.AskSize p) h
+fit-done m steps.AskSize p payload h = fit-asked m (at_step steps.AskManifest p) _
+fit-done m steps.AskManifest p payload h = fit-manifest m p payload h
+fit-done m steps.CreateConnection p payload h = fit-asked m (at_step steps.TellConnected p) h
+fit-done m steps.TellConnected p payload h = fit-link m state.Open (link_at p.intf p.cport h) (opened p h) (λ l. refl)
+fit-done m steps.TellDisconnecting p payload h = fit-asked m (at_step steps.TellDisconnected p) h
+fit-done m steps.TellDisconnected p payload h = fit-asked m (at_step steps.DestroyConnection p) h
+fit-done m steps.DestroyConnection p payload h = fit-left m (link_at p.intf p.cport h) _
 
 fit-answered : (m : Moment) (o : Option (List ℕ)) (p : Purpose) (h : Host) → AreFit m (step_answered o p h)
 fit-answered m None p h = fit-failed m p.step p h
@@ -185,15 +293,15 @@ fit-disconnects m (Some l) p h cause =
 
 -- What the application processor does at what it takes notice of is fit.
 pub fit-turn : (m : Moment) (e : HostEvent) (h : Host) → IsCaused m e h → AreFit m (host_turn e h)
-fit-turn m (HostEvent.Inserted i) h cause = (refl, fit-asked m (purpose i 0 SequenceStep.EnableVsys) (with_new_interface i h))
+fit-turn m (HostEvent.Inserted i) h cause = (refl, fit-asked m (purpose i 0 steps.EnableVsys) (with_new_interface i h))
 fit-turn m (HostEvent.Removed i) h cause =
     each-append (IsFit m) (links_left (links_of i h)) (Act.Tell (entry.Interface i stage.Removed) ∷ [])
     (fit-removed m i (links_of i h) (λ l j. removed i l cause.1 (subst (λ k. IsIn l (links_of i k)) cause.0 j) refl))
     (refl, tt)
 fit-turn m (HostEvent.Connect i c) h cause =
-    fit-connects m (option_and_then (cport_of c) (interface_of i h)) (purpose i c SequenceStep.CreateConnection) h
+    fit-connects m (option_and_then (cport_of c) (interface_of i h)) (purpose i c steps.CreateConnection) h
 fit-turn m (HostEvent.Disconnect i c) h cause =
-    fit-disconnects m (link_at i c h) (purpose i c SequenceStep.TellDisconnecting) h
+    fit-disconnects m (link_at i c h) (purpose i c steps.TellDisconnecting) h
     (λ l e. disconnected i c l cause.1 (ap (link_at i c) (sym cause.0) ∙ e) refl)
 fit-turn m (HostEvent.Ended n how) h cause = fit-ended m (awaited n h) how h
 
@@ -209,17 +317,39 @@ module _ (m : Moment) (law : ActLaw m) where
   goes-fails q pending rest s is told at =
       law.kept _ (acts_failed q rest is (quiet-unsent q.purpose s.host)) tt at
 
-  goes-host_asks : (q : Asking) (rest : List Act) (s : State) → Acts (Act.Ask q ∷ rest) rest (host_asks q) s
+  goes-host_asks : (q : Asking) (rest : List Act) (s : State)
+      → Acts (Act.Ask q ∷ rest) rest (host_asks q) s
   unfolding machine_opened
-  goes-host_asks q rest s = by (next_label q.on side.Ap s.bus)
+  goes-host_asks q rest s = by (next_label q.on side.Ap s.bus) refl
     where
-      by : (o : Option ℕ) → Acts (Act.Ask q ∷ rest) rest (asked_with o q) s
-      by None = goes-fails q (Act.Ask q ∷ rest) rest s (asking refl)
-      by (Some label) =
-          goes-▸ m law None None None (Act.Ask q ∷ rest) (Act.Ask q ∷ rest) rest Untouched Untouched Untouched
-          (asks (host_draft q s.now)) (change (with_awaited q.purpose (next_number s.bus))) s
-          (goes-asks m law (Act.Ask q ∷ rest) Untouched (host_draft q s.now) s (λ c e. by_host refl))
-          (λ told at. law.kept _ (acts_asked q (next_number s.bus) rest refl) tt at)
+      unlabelled : connection_of q.on s.bus ≡ None → next_label q.on side.Ap s.bus ≡ None
+      unlabelled e = ap (option_and_then (fresh_label side.Ap)) e
+
+      none-some : {n : ℕ} → None ≡ Some n → ⊥
+      none-some e = absurd cc
+
+      made : (o : Option Connection) → connection_of q.on s.bus ≡ o
+          → (l : Option ℕ) → next_label q.on side.Ap s.bus ≡ l
+          → (label : ℕ) → next_label q.on side.Ap s.bus ≡ Some label
+          → Acts (Act.Ask q ∷ rest) rest (λ t. (given o (λ c. given l
+          (λ n. asks_with (host_draft q s.now) c n))
+          ▸ change (with_awaited q.purpose (next_number s.bus))) s) s
+      made None e l f label g = absurd (none-some (sym (unlabelled e) ∙ g))
+      made (Some c) e None f label g = absurd (none-some (sym f ∙ g))
+      made (Some c) e (Some n) f label g = λ told at.
+          subst (λ es. At m law None rest Untouched es
+          (with_awaited q.purpose (next_number s.bus)
+          (record s { bus = sent (host_draft q s.now) n s.bus })))
+          (append-nil (told ++ asked (host_draft q s.now) c n s.bus ∷ []))
+          (law.kept _ (acts_asked q (next_number s.bus) rest (refl, refl)) tt
+          (law.kept _ (asks (host_draft q s.now) c n refl e f
+          (by_host q rest refl refl refl)) tt at))
+
+      by : (o : Option ℕ) → next_label q.on side.Ap s.bus ≡ o
+          → Acts (Act.Ask q ∷ rest) rest (asked_with o q) s
+      by None e = goes-fails q (Act.Ask q ∷ rest) rest s (asking refl)
+      by (Some label) e =
+          made (connection_of q.on s.bus) refl (next_label q.on side.Ap s.bus) refl label e
 
   goes-host_opens : (w : Making) (q : Asking) (rest : List Act) (s : State) → Acts (Act.Open w q ∷ rest) rest (host_opens w q) s
   unfolding machine_opened
@@ -250,10 +380,11 @@ module _ (m : Moment) (law : ActLaw m) where
       (goes-act x xs s fit.0) (goes-acts xs (acts x s).state fit.1)
 
   -- the application processor takes notice of something
-  pub goes-notices : (e : HostEvent) (s : State) → IsCaused m e s.host → Acts [] [] (notices e) s
+  pub goes-notices : (e : HostEvent) (s : State) → IsOver e s.bus → IsCaused m e s.host
+      → Acts [] [] (notices e) s
   unfolding machine_opened
-  goes-notices e s cause =
+  goes-notices e s over cause =
       goes-▸ m law None None None [] (host_turn e s.host).acts [] Untouched Untouched Untouched
       (on_host (λ h. (host_turn e s.host).host)) (each (host_turn e s.host).acts acts) s
-      (λ told at. law.kept _ (turns e refl refl refl cause) tt at)
+      (λ told at. law.kept _ (turns e refl (refl, over) refl cause) tt at)
       (goes-acts (host_turn e s.host).acts _ (fit-turn m e s.host cause))

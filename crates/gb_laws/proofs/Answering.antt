@@ -21,11 +21,12 @@ use Rattle.gb_laws.proofs.Loosening.{held-at, map-held-in}
 use Rattle.gb_invariants.proofs.ItemChanges.{first-in}
 use Rattle.gb_laws.proofs.Owning.{KeepsRequests}
 use Rattle.gb_laws.proofs.Places.{module-far, place-is}
-use Rattle.gb_laws.proofs.Points.{Answers, IsGivenUpFor, AreQuiet, Basis, Change, Hand, Law, Point, Says, asked_told, acts_asked, acts_failed, acts_left, acts_opened, acts_shut, acts_told, answers, asks, binds, by_label, by_number, changed, drops, forgets, frees, gives_up, holds, injects, is_quiet, loose_held, names, numbered, others, passes, replies, sent_told, serves, spends, takes, takes_held, tells, turns, unclean, unwires, wires}
-use Rattle.gb_laws.proofs.Runs.{at_each}
+use Rattle.gb_laws.proofs.Points.{Answers, Change, Law, Says, acts_asked, acts_failed, acts_left, acts_opened, acts_shut, acts_told, answers, asks, binds, by_label, by_number, changed, drops, forgets, frees, gives_up, holds, injects, names, numbered, others, passes, replies, serves, spends, takes, takes_held, tells, turns, unclean, unwires, wires}
+use Rattle.gb_laws.proofs.PointParts.{IsGivenUpFor, AreQuiet, Basis, Hand, Point, asked_told, is_quiet, loose_held, sent_told}
+use Rattle.gb_laws.proofs.Runs.{HoldsAtMoments, at_each}
 use Rattle.gb_laws.proofs.Steps.{over-step}
 use Rattle.gb_machine.specs.Bus.{Bus, Connection, Reply, Request, connection_of, end_of, next_number, other_side, queue, request_of}
-use Rattle.gb_machine.specs.LawsEnds.{AnsweredByItsResponder, HadItsReply, WasReplied}
+use Rattle.gb_machine.specs.LawsEnds.{HadItsReply, WasReplied}
 use Rattle.gb_machine.specs.LawsHotPlug.{IsOwnItem}
 use Rattle.gb_machine.specs.Members.{Each, IsIn}
 use Rattle.gb_machine.specs.Requests.{is_of, open_on}
@@ -266,5 +267,5 @@ had-reply m one start n result payload read r i made =
         )
 
 -- On a clean connection a request is answered by what its own responder replied.
-pub answered-by_its_responder : AnsweredByItsResponder
-answered-by_its_responder = at_each OwnAt HadItsReply own-throughout had-reply
+pub answered-at_moments : HoldsAtMoments HadItsReply
+answered-at_moments = at_each OwnAt HadItsReply own-throughout had-reply

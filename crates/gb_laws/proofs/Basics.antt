@@ -7,7 +7,7 @@ use Rattle.gb_formats.specs.Wire.{raw_message}
 use Rattle.gb_base.specs.declared.end.Side.{Side}
 use Rattle.gb_base.specs.declared.end.Side.TheVariants as side
 use Rattle.gb_base.specs.declared.name.Name.{Name}
-use Rattle.gb_invariants.proofs.Awaiting.{is-open, is_of-is, same-some, sent-new, sent-request}
+use Rattle.gb_invariants.proofs.Awaiting.{is_of-is, same-some, sent-new, sent-request}
 use Rattle.gb_invariants.proofs.Changes.{attached-keeps, detached-keeps, ended-keeps, forgotten-keeps, gave_up-keeps, injected-keeps, loose-keeps, none-counted-answers, popped-keeps, raw-new, replied-keeps, reply-new, sent-keeps, shut-keeps, unclean-answers, unwired-keeps, wired-keeps}
 use Rattle.gb_invariants.proofs.Counts.{times-cons}
 use Rattle.gb_invariants.proofs.Drawing.{given_up_with-is, open_with-in_use}
@@ -19,13 +19,15 @@ use Rattle.gb_invariants.proofs.Outcomes.{both-true}
 use Rattle.gb_invariants.proofs.Selves.{front-self}
 use Rattle.gb_invariants.specs.Facts.{BusFits, Loose}
 use Rattle.gb_laws.proofs.Awaited.{awaited-rest}
+use Rattle.gb_laws.proofs.Delivering.{answers-open}
 use Rattle.gb_laws.proofs.Loosening.{Fewer, fewer-held, fewer-tail, fewer-taken, fewer-without, held-at, without-none}
 use Rattle.gb_laws.proofs.Naming.{made-named}
 use Rattle.gb_laws.proofs.Places.{at_first-back, module-far, place-is}
-use Rattle.gb_laws.proofs.Points.{Answers, Basis, Change, Forgets, Hand, IsStill, Law, Point, acts_asked, acts_failed, acts_left, acts_opened, acts_shut, acts_told, answers, asks, binds, by_label, by_number, changed, drops, forgets, frees, gives_up, holds, injects, loose, loose_hand, loose_held, names, others, passes, replies, serves, spends, takes, takes_held, tells, turns, unwires, wires, resting, Wires}
-use Rattle.gb_laws.proofs.Runs.{throughout}
+use Rattle.gb_laws.proofs.Points.{Answers, Change, Forgets, Law, acts_asked, acts_failed, acts_left, acts_opened, acts_shut, acts_told, answers, asks, binds, by_label, by_number, changed, drops, forgets, frees, gives_up, holds, injects, names, others, passes, replies, serves, spends, takes, takes_held, tells, turns, unwires, wires}
+use Rattle.gb_laws.proofs.PointParts.{Basis, Hand, IsStill, Point, loose, loose_hand, loose_held, resting, Wires}
+use Rattle.gb_laws.proofs.Runs.{HoldsByMoments, throughout}
 use Rattle.gb_laws.proofs.Steps.{over-step}
-use Rattle.gb_machine.specs.Bus.{Ask, Bus, Connection, Item, Raw, RawReply, Reply, Request, first_bus, svc_connection, has_number, is_open, next_number, other_side, queue, request_of}
+use Rattle.gb_machine.specs.Bus.{Ask, Bus, Connection, Item, Raw, RawReply, Reply, Request, first_bus, svc_connection, has_number, next_number, other_side, queue, request_of}
 use Rattle.gb_base.specs.declared.end.End.TheVariants as end
 use Rattle.gb_machine.specs.Delivery.{answered, popped, replied, without_front}
 use Rattle.gb_machine.specs.Holding.{held_on}
@@ -36,7 +38,7 @@ use Rattle.gb_machine.specs.LawsBus.{NameRequests, is_item_of}
 use Rattle.gb_machine.specs.Lists.{nth, without}
 use Rattle.gb_machine.specs.Members.{Each, IsIn}
 use Rattle.gb_machine.specs.Names.{named}
-use Rattle.gb_machine.specs.Runs.{HoldsThroughout, Moment}
+use Rattle.gb_machine.specs.Runs.{Moment}
 use Rattle.gb_machine.specs.Sending.{Draft, sent}
 use Rattle.gb_machine.specs.State.{State, first_state}
 use Rattle.gb_base.specs.declared.entry.Entry.{Entry}
@@ -165,12 +167,6 @@ replied-fits rest b k at (Raw bytes) q r fits made twoway = by (raw_message byte
             (raw-fits rest b k bytes at x r fits)
 replied-fits rest b k at (Reply n result payload) q r fits made twoway = absurd cc
 replied-fits rest b k at (RawReply label kind result payload) q r fits made twoway = absurd cc
-
--- what is ended by a response is open
-answers-open : (x : Hand) (n : ℕ) (b : Bus) → Answers x n b → is_open n b ≡ true
-answers-open x n b (by_number result payload is clean unended) = unended
-answers-open x n b (by_label label dirty is) =
-    let o = open_with-in_use x.connection.number x.side label b n is in is-open n b o.0 o.1 o.3
 
 lies-more : (rest : List Loose) (l : Loose) (c : Connection) (at : Side) (item : Item) → Lies rest c at item → Lies (l ∷ rest) c at item
 lies-more rest l c at item (waits i) = waits i
@@ -365,5 +361,5 @@ pub basis-first : Based [] first_state
 basis-first = record { bus = bus-first; names = tt; hand = λ h e. absurd cc }
 
 -- The basis holds throughout.
-pub basis-throughout : HoldsThroughout Based
+pub basis-throughout : HoldsByMoments Based
 basis-throughout = throughout Based basis-first (λ m one h. let r = over-step m (basis m) one h in rested _ _ r.0 r.1)

@@ -11,6 +11,7 @@ use Rattle.gb_base.specs.declared.entry.Entry.{Entry}
 use Rattle.gb_base.specs.declared.entry.Entry.TheVariants as entry
 use Rattle.gb_base.specs.declared.outcome.Outcome.{Outcome}
 use Rattle.gb_base.specs.declared.outcome.Outcome.TheVariants as outcome
+use Rattle.gb_base.specs.declared.peers.Link.{Link}
 use Rattle.gb_invariants.proofs.Awaiting.{is_of-is, same-some}
 use Rattle.gb_invariants.proofs.Lists.{each-append, each-in, each-weaker, in-filter, found-in}
 use Rattle.gb_invariants.proofs.Numbers.{found-by_number}
@@ -22,12 +23,13 @@ use Rattle.gb_laws.proofs.LinkLaw.{link_law}
 use Rattle.gb_laws.proofs.LinkRuns.{LinkedTo, linked-throughout, start-absent}
 use Rattle.gb_laws.proofs.Noticing.{told-by_svc}
 use Rattle.gb_laws.proofs.Onward.{IsOnward, onward}
-use Rattle.gb_laws.proofs.Points.{AreQuiet, Basis, Change, IsGivenUpFor, IsLive, IsShutFor, Law, Point, Unwired, Wired, acts_asked, acts_failed, acts_left, acts_opened, acts_shut, acts_told, answers, asked_told, asks, binds, changed, disconnected, drops, forgets, frees, gives_up, holds, injects, is_quiet, names, others, passes, removed, replies, resting, sent_told, serves, spends, takes, takes_held, tells, turns, unwires, wires}
-use Rattle.gb_laws.proofs.Runs.{at_each}
+use Rattle.gb_laws.proofs.Points.{Change, IsLive, Law, acts_asked, acts_failed, acts_left, acts_opened, acts_shut, acts_told, answers, asks, binds, changed, drops, forgets, frees, gives_up, holds, injects, names, others, passes, replies, serves, spends, takes, takes_held, tells, turns, unwires, wires}
+use Rattle.gb_laws.proofs.PointParts.{AreQuiet, Basis, IsGivenUpFor, IsShutFor, Point, Unwired, Wired, asked_told, disconnected, is_quiet, removed, resting, sent_told}
+use Rattle.gb_laws.proofs.Runs.{HoldsAtMoments, at_each}
 use Rattle.gb_laws.proofs.Steps.{over-step}
 use Rattle.gb_machine.specs.Bus.{Bus, Connection, Request, connection_of, has_number, next_number, request_of}
-use Rattle.gb_machine.specs.Host.{Link, link_of}
-use Rattle.gb_machine.specs.LawsEnds.{EveryEndHasItsCause, HasItsCause, IsDisconnect, IsDisconnection, IsRemovalOf}
+use Rattle.gb_machine.specs.Host.{link_of}
+use Rattle.gb_machine.specs.LawsEnds.{HasItsCause, IsDisconnect, IsDisconnection, IsRemovalOf}
 use Rattle.gb_machine.specs.Members.{Each, IsIn}
 use Rattle.gb_machine.specs.Requests.{is_of, open_on}
 use Rattle.gb_machine.specs.Runs.{IsMoment, Moment, after, told_at}
@@ -329,5 +331,5 @@ has-cause m one start = record {
     )
 
 -- A request is cancelled, times out or is disconnected only where that came.
-pub every-end_has_its_cause : EveryEndHasItsCause
-every-end_has_its_cause = at_each LinkedTo HasItsCause linked-throughout has-cause
+pub causes-at_moments : HoldsAtMoments HasItsCause
+causes-at_moments = at_each LinkedTo HasItsCause linked-throughout has-cause

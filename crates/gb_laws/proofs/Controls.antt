@@ -4,13 +4,14 @@ use Rattle.std.specs.Prelude.{Result, Ok, Err, ◌==◌, ◌&&◌, option_and_th
 use Rattle.std.specs.List.{find}
 use Rattle.gb_base.specs.declared.fault.Reason.{Reason}
 use Rattle.gb_base.specs.declared.fault.Reason.TheVariants as reason
+use Rattle.gb_base.specs.declared.peers.Interface.{Interface}
 use Rattle.gb_formats.specs.Descriptors.{Descriptor}
 use Rattle.gb_formats.specs.Manifest.{Manifest, check_answer, cport_view, descriptors_from, header_refusal, manifest_after, manifest_of, manifest_unless}
 use Rattle.gb_formats.specs.ManifestRules.{Placed, Refused, breach, first_breach, first_of, is_cport, no_interface, rules_refusal, second_interface, written_rules, wrong_control}
 use Rattle.gb_invariants.proofs.Awaiting.{same-some}
 use Rattle.gb_invariants.proofs.Outcomes.{same-number}
 use Rattle.gb_machine.specs.Members.{IsIn}
-use Rattle.gb_machine.specs.Host.{Interface, cport_in, cport_of, outside_control}
+use Rattle.gb_machine.specs.Host.{cport_in, cport_of, outside_control}
 
 -- no rule is broken where there is no first that is
 none-broken : (xs : List (Option Refused)) (o : Option Refused) → first_of xs ≡ None → IsIn o xs → o ≡ None

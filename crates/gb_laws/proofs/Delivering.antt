@@ -1,6 +1,6 @@
 -- A law of points goes over deliveries, and over held requests that are answered.
 use Rattle.std.proofs.Common.{◌≡◌, ℕ, Bool, true, false, cond, Option, Some, None, List, [], ◌∷◌, ◌++◌, refl, sym, ap, ◌∙◌, inl, subst, append-nil, append_assoc}
-use Rattle.std.specs.Prelude.{Result, Ok, Err, ◌==◌, option_map}
+use Rattle.std.specs.Prelude.{Result, Ok, Err, ◌==◌, ◌&&◌, ◌||◌, is_none, is_some, option_map}
 use Rattle.gb_base.specs.declared.end.End.{End}
 use Rattle.gb_base.specs.declared.end.End.TheVariants as end
 use Rattle.gb_base.specs.declared.end.Side.{Side}
@@ -8,15 +8,19 @@ use Rattle.gb_base.specs.declared.end.Side.TheVariants as side
 use Rattle.gb_base.specs.declared.entry.Entry.{Entry}
 use Rattle.gb_base.specs.declared.entry.Entry.TheVariants as entry
 use Rattle.gb_base.specs.declared.event.Event.TheVariants as event
+use Rattle.gb_base.specs.declared.outcome.Outcome.{Outcome}
 use Rattle.gb_base.specs.declared.fault.RawFault.{RawFault}
 use Rattle.gb_formats.specs.Message.{Message}
 use Rattle.gb_formats.specs.Wire.{raw_message}
-use Rattle.gb_invariants.proofs.Awaiting.{not-both}
-use Rattle.gb_invariants.specs.Facts.{is_numbered}
+use Rattle.gb_invariants.proofs.Awaiting.{is-open, not-both, opened}
+use Rattle.gb_invariants.proofs.Drawing.{open_with-in_use}
+use Rattle.gb_invariants.proofs.Outcomes.{pair-there}
+use Rattle.gb_invariants.specs.Facts.{OutcomesFit, is_numbered}
 use Rattle.gb_laws.proofs.Acting.{goes-notices}
 use Rattle.gb_laws.proofs.Going.{At, Goes, goes-nothing, goes-tell}
-use Rattle.gb_laws.proofs.Places.{lives-replied, module-far, place-is}
-use Rattle.gb_laws.proofs.Points.{Answers, Basis, Forgets, Hand, Law, Says, Untouched, acting, answers, by_label, by_number, drops, forgets, holds, is_quiet, numbered, replies, takes, takes_held, tells, unclean}
+use Rattle.gb_laws.proofs.Places.{module-far, place-is}
+use Rattle.gb_laws.proofs.Points.{Answers, replied_to, unreplied, Forgets, Law, Says, acting, answers, by_label, by_number, drops, forgets, holds, numbered, replies, takes, takes_held, tells, unclean}
+use Rattle.gb_laws.proofs.PointParts.{Basis, Hand, Untouched, is_quiet}
 use Rattle.gb_invariants.proofs.Awaiting.{same-some}
 use Rattle.gb_invariants.proofs.Numbers.{found-number, same-connection}
 use Rattle.gb_invariants.proofs.Selves.{put-self}
@@ -27,16 +31,17 @@ use Rattle.gb_machine.proofs.Opened.{machine_opened}
 use Rattle.gb_machine.specs.Actions.{Action, by_state, given, nothing, on_bus, tell, ◌▸◌}
 use Rattle.gb_machine.specs.Arriving as arriving
 use Rattle.gb_machine.specs.Arriving.{arrives, asked_at, delivers, delivers_at, dropped, ends_answered, handles, is_held, keeps, late_by, raw_taken, reading_for, reply_taken, with_held}
-use Rattle.gb_machine.specs.Bus.{connection_of, has_number, Ask, Bus, Connection, Item, Place, Raw, RawReply, Reply, Request, is_open, other_side, place_of, queue, request_of}
+use Rattle.gb_machine.specs.Bus.{connection_of, has_number, Ask, Bus, Connection, Item, Place, Raw, RawReply, Reply, Request, end_of, is_open, other_side, outcome_of, place_of, queue, request_of}
 use Rattle.gb_machine.specs.Delivery as delivery
 use Rattle.gb_machine.specs.Delivery.{ended, forgotten, popped, replied}
 use Rattle.gb_machine.specs.HostActs.{follows}
 use Rattle.gb_machine.specs.Incoming.{Incoming, incoming, incoming_raw, is_request, raw_request, reply_item, request_in}
 use Rattle.gb_machine.specs.Holding.{held_on}
 use Rattle.gb_machine.specs.LineActions.{answers as answering, answers_at, answers_held, serves_held, with_fewer}
+use Rattle.gb_machine.specs.LawsBus.{is_awaited}
 use Rattle.gb_machine.specs.Lists.{first, nth}
 use Rattle.gb_machine.specs.Refusals.{module_place}
-use Rattle.gb_machine.specs.Requests.{given_up_with, open_with}
+use Rattle.gb_machine.specs.Requests.{given_up_with, is_given_up, open_with}
 use Rattle.gb_machine.specs.Responding.{Response, replies as replying, response_at, serves as serving, serves_oneway}
 use Rattle.gb_machine.specs.Runs.{Moment}
 use Rattle.gb_machine.specs.Serving.{success}
@@ -65,6 +70,25 @@ peer-replied k at item e b peer c f = by (connection_of k b) refl
         ∙ ap (option_map (put at item)) g) ∙ f) in
         sym (ap (λ (y : Connection). y.peer) is) ∙ (put-self at item x).peer ∙ peer x g
 
+-- what is ended by a response is open
+pub answers-open : (x : Hand) (n : ℕ) (b : Bus) → Answers x n b → is_open n b ≡ true
+answers-open x n b (by_number result payload is clean unended) = unended
+answers-open x n b (by_label label dirty is) =
+    let o = open_with-in_use x.connection.number x.side label b n is in is-open n b o.0 o.1 o.3
+
+-- and isn't awaited any more then
+over-ended : (n : ℕ) (how : Outcome) (b : Bus) → OutcomesFit b → is_open n b ≡ true
+    → is_awaited n (ended n how b) ≡ false
+over-ended n how b fits unended =
+    ap (λ o. is_some (request_of n b) && is_none o || is_given_up n b) (pair-there n how b.outcomes)
+    ∙ by (is_some (request_of n b)) (is_given_up n b) refl
+  where
+    by : (t u : Bool) → is_given_up n b ≡ u → (t && false || u) ≡ false
+    by true false e = refl
+    by false false e = refl
+    by t true e = absurd (not-both (is_some (outcome_of n b)) (fits.given n e)
+        (ap is_some (opened n b unended).2))
+
 module _ (m : Moment) (law : Law m) where
   -- one action after another ends a step
   pub then-ends : (hand : Option Hand) (f g : Action) (s : State)
@@ -92,7 +116,7 @@ module _ (m : Moment) (law : Law m) where
   hand_of c at item = record { connection = c; side = at; item = item }
 
   ends-responds : (c : Connection) (at : Side) (item : Item) (q : Incoming) (s : State) → s.host ≡ m.before.host
-      → request_in item s.bus ≡ Some q → IsTaken m c at q → Ends m law (Some (hand_of c at item)) (serving at c q) s
+      → request_in item s.bus ≡ Some q → IsTaken m s c at q → Ends m law (Some (hand_of c at item)) (serving at c q) s
   unfolding machine_opened
   ends-responds c at item q s same made taken = λ told now. by (still told (law.basis _ now)) q.oneway refl told now
     where
@@ -100,7 +124,7 @@ module _ (m : Moment) (law : Law m) where
       r = response_at at c q s
 
       -- what has the connection's number is that connection still
-      still : (told : List Entry) → Basis (record { told = told; state = s; hand = Some (hand_of c at item); pending = []; wires = Untouched }) → HasPeer c.number c.peer s.bus
+      still : (told : List Entry) → Basis (record { told = told; state = s; hand = Some (hand_of c at item); pending = []; wires = Untouched; asked = None }) → HasPeer c.number c.peer s.bus
       still told basis x e =
           let k = basis.hand (hand_of c at item) refl in
           let n = found-number c.number s.bus x e in
@@ -108,7 +132,7 @@ module _ (m : Moment) (law : Law m) where
 
       oneway : HasPeer c.number c.peer s.bus → (t : Bool) → Ends m law (Some (hand_of c at item)) (cond t (response_at at c q s).behind (tell (entry.Ignored q.kind))) s
       oneway peer true = dropped-first (hand_of c at item) (response_at at c q s).behind s
-          (ends-response m law c at q s s taken (λ k t l. (l, refl)) refl peer same refl)
+          (ends-response m law c at q s s taken (unreplied refl) refl peer same refl)
       oneway peer false = ends-told (hand_of c at item) (entry.Ignored q.kind) s refl
 
       by : HasPeer c.number c.peer s.bus → (t : Bool) → q.oneway ≡ t
@@ -118,11 +142,11 @@ module _ (m : Moment) (law : Law m) where
           then-ends (Some (hand_of c at item)) (replying at c q (response_at at c q s).answer) (response_at at c q s).behind s
           (λ told now. law.kept _ (replies (hand_of c at item) q (response_at at c q s).answer refl made e) now)
           (ends-response m law c at q s (record s { bus = replied c.number (other_side at) (reply_item q (response_at at c q s).answer) s.bus })
-          taken (lives-replied c.number (other_side at) (reply_item q (response_at at c q s).answer) s.bus)
+          taken (replied_to (response_at at c q s).answer refl)
           refl (peer-replied c.number (other_side at) (reply_item q (response_at at c q s).answer) c.peer s.bus peer) same refl)
 
   ends-asked : (c : Connection) (at : Side) (item : Item) (q : Incoming) (s : State) → s.host ≡ m.before.host
-      → request_in item s.bus ≡ Some q → IsTaken m c at q → Ends m law (Some (hand_of c at item)) (asked_at at c item q) s
+      → request_in item s.bus ≡ Some q → IsTaken m s c at q → Ends m law (Some (hand_of c at item)) (asked_at at c item q) s
   unfolding machine_opened
   ends-asked c at item q s same made taken = by at (is_held at c s) refl (ends-responds c at item q s same made taken)
     where
@@ -142,12 +166,14 @@ module _ (m : Moment) (law : Law m) where
   ends-answered : (h : Hand) (n result : ℕ) (payload : List ℕ) (s : State) → Says h n result payload → Answers h n s.bus
       → Ends m law (Some h) (ends_answered h.side h.connection n result payload) s
   unfolding machine_opened
-  ends-answered h n result payload s says which =
+  ends-answered h n result payload s says which = λ told now.
       then-ends (Some h) (on_bus (ended n (delivery.answered result payload)) ▸ tell (entry.Ended n (delivery.answered result payload) (reading_for h.side h.connection result payload (request_of n s.bus))))
       (follows n (delivery.answered result payload)) s
       (λ told now. law.kept _ (answers h n result payload refl says which) now)
       (ends-going m law None (follows n (delivery.answered result payload)) _
-      (goes-notices m (acting m law) (HostEvent.Ended n (delivery.answered result payload)) _ tt))
+      (goes-notices m (acting m law) (HostEvent.Ended n (delivery.answered result payload)) _
+      (λ r p e. over-ended n (delivery.answered result payload) s.bus
+      (law.basis _ now).bus.outcomes (answers-open h n s.bus which)) tt)) told now
 
   ends-forgotten : (h : Hand) (n : ℕ) (e : Entry) (s : State) → is_quiet e ≡ true → Forgets h n s.bus
       → Ends m law (Some h) (arriving.forgets n e) s
@@ -212,7 +238,7 @@ module _ (m : Moment) (law : Law m) where
           absurd (not-both (is_numbered h.item) (a.numbered (still.self.clean ∙ e)) raw)
 
   ends-raw : (c : Connection) (at : Side) (bytes : List ℕ) (s : State) → s.host ≡ m.before.host
-      → ((q : Incoming) → request_in (Raw bytes) s.bus ≡ Some q → IsTaken m c at q) → c.clean ≡ false
+      → ((q : Incoming) → request_in (Raw bytes) s.bus ≡ Some q → IsTaken m s c at q) → c.clean ≡ false
       → Ends m law (Some (hand_of c at (Raw bytes))) (raw_taken at c (Raw bytes) (raw_message bytes)) s
   unfolding machine_opened
   ends-raw c at bytes s same taken dirty = by (raw_message bytes) refl
@@ -230,7 +256,7 @@ module _ (m : Moment) (law : Law m) where
       by (Ok x) e = message x e (is_request x) refl
 
   ends-arrives : (c : Connection) (at : Side) (item : Item) (s : State) → s.host ≡ m.before.host
-      → ((q : Incoming) → request_in item s.bus ≡ Some q → IsTaken m c at q)
+      → ((q : Incoming) → request_in item s.bus ≡ Some q → IsTaken m s c at q)
       → Ends m law (Some (hand_of c at item)) (arrives at c item) s
   unfolding machine_opened
   ends-arrives c at (Ask n) s same taken = λ told now. by (request_of n s.bus) refl told now
@@ -255,7 +281,7 @@ module _ (m : Moment) (law : Law m) where
   quiet-dropped (RawReply label kind result payload) = refl
 
   ends-handles : (c : Connection) (at : Side) (item : Item) (s : State) → s.host ≡ m.before.host
-      → ((q : Incoming) → request_in item s.bus ≡ Some q → IsTaken m c at q)
+      → ((q : Incoming) → request_in item s.bus ≡ Some q → IsTaken m s c at q)
       → Ends m law (Some (hand_of c at item)) (handles at c item) s
   unfolding machine_opened
   ends-handles c at item s same taken = by (arriving.takes at c s)
@@ -277,7 +303,8 @@ module _ (m : Moment) (law : Law m) where
       (record m.before { bus = popped p.connection.number p.side m.before.bus })
   ends-taken at p item is e f =
       ends-handles p.connection p.side item (record m.before { bus = popped p.connection.number p.side m.before.bus }) refl
-      (λ q made. delivered at p item q is e f refl (sym (request-popped item p.connection.number p.side m.before.bus) ∙ made))
+      (λ q made. delivered at p item q is e f refl
+      (sym (request-popped item p.connection.number p.side m.before.bus) ∙ made) refl)
 
   pub ends-delivers : (at : End) → m.event ≡ event.Deliver at → Ends m law None (delivers at) m.before
   unfolding machine_opened
@@ -304,25 +331,30 @@ module _ (m : Moment) (law : Law m) where
   unfolding machine_opened
   ends-answers i c place is = by (module_place i c m.before) refl
     where
-      serves : (p : Place) (item : Item) (s : State) → p.side ≡ side.Far → s.host ≡ m.before.host → (o : Option Incoming) → request_in item s.bus ≡ o
+      serves : (p : Place) (item : Item) (s : State) → p.side ≡ side.Far
+          → p.connection.peer ≡ end.Module i c → s.host ≡ m.before.host
+          → (o : Option Incoming) → request_in item s.bus ≡ o
           → Ends m law (Some (hand_of p.connection p.side item)) (given o (serving p.side p.connection)) s
-      serves p item s far same None e = ends-untold (hand_of p.connection p.side item) s
-      serves p item s far same (Some q) e =
-          ends-responds p.connection p.side item q s same e (subst (λ t. IsTaken m p.connection t q) (sym far) (answered q))
+      serves p item s far peer same None e = ends-untold (hand_of p.connection p.side item) s
+      serves p item s far peer same (Some q) e =
+          ends-responds p.connection p.side item q s same e (subst (λ t. IsTaken m s p.connection t q) (sym far) (answered i c q peer))
 
-      held : (p : Place) (item : Item) (s : State) → p.side ≡ side.Far → s.host ≡ m.before.host → (t : Bool)
+      held : (p : Place) (item : Item) (s : State) → p.side ≡ side.Far
+          → p.connection.peer ≡ end.Module i c → s.host ≡ m.before.host → (t : Bool)
           → Ends m law (Some (hand_of p.connection p.side item))
           (cond t (given (request_in item s.bus) (serving p.side p.connection)) (tell (dropped item))) s
-      held p item s far same true = serves p item s far same (request_in item s.bus) refl
-      held p item s far same false = ends-told (hand_of p.connection p.side item) (dropped item) s (quiet-dropped item)
+      held p item s far peer same true = serves p item s far peer same (request_in item s.bus) refl
+      held p item s far peer same false = ends-told (hand_of p.connection p.side item) (dropped item) s (quiet-dropped item)
 
       at_place : (p : Place) → module_place i c m.before ≡ Some p → (o : Option Held) → nth place (held_on p.connection.number m.before.held) ≡ o
           → Ends m law None (given o (answers_held p place)) m.before
       at_place p e None f = ends-idle m.before
       at_place p e (Some h) f = λ told now.
           let after = with_fewer p.connection.number place m.before in
-          let far = module-far i c p.side p.connection (place-is (end.Module i c) m.before.bus.connections p e).is in
-          let r = held p h.item after far refl (arriving.takes p.side p.connection after) (told ++ [])
+          let named = place-is (end.Module i c) m.before.bus.connections p e in
+          let far = module-far i c p.side p.connection named.is in
+          let peer = sym (ap (λ t. end_of t p.connection) far) ∙ named.is in
+          let r = held p h.item after far peer refl (arriving.takes p.side p.connection after) (told ++ [])
           (law.kept _ (takes_held i c place p h refl refl is e f) now) in (
             r.0,
             subst (λ es. At m (acting m law) None [] r.0 es (serves_held p h.item after).state)

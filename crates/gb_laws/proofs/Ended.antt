@@ -13,19 +13,20 @@ use Rattle.gb_invariants.proofs.Outcomes.{is-same, open_requests-same}
 use Rattle.gb_invariants.proofs.Lists.{in-append, in-behind, in-front}
 use Rattle.gb_laws.proofs.Awaited.{awaited-rest}
 use Rattle.gb_laws.proofs.Basics.{basis-first, basis-kept, rested}
-use Rattle.gb_laws.proofs.Points.{AreQuiet, Basis, Change, Law, Point, asked_told, acts_asked, acts_failed, acts_left, acts_opened, acts_shut, acts_told, answers, asks, binds, changed, drops, forgets, frees, gives_up, holds, injects, is_quiet, names, others, passes, replies, resting, sent_told, serves, spends, takes, takes_held, tells, turns, unwires, wires}
+use Rattle.gb_laws.proofs.Points.{Change, Law, acts_asked, acts_failed, acts_left, acts_opened, acts_shut, acts_told, answers, asks, binds, changed, drops, forgets, frees, gives_up, holds, injects, names, others, passes, replies, serves, spends, takes, takes_held, tells, turns, unwires, wires}
+use Rattle.gb_laws.proofs.PointParts.{AreQuiet, Basis, Point, asked_told, is_quiet, resting, sent_told}
 use Rattle.gb_machine.specs.Asking.{asked}
 use Rattle.gb_machine.specs.Bus.{Bus, Connection, next_number}
 use Rattle.gb_machine.specs.Sending.{Draft, sent_at_once}
 use Rattle.std.specs.Prelude.{◌==◌, is_some}
-use Rattle.gb_laws.proofs.Runs.{throughout, weaker}
+use Rattle.gb_laws.proofs.Runs.{HoldsByMoments, throughout, weaker}
 use Rattle.gb_laws.proofs.Steps.{over-step}
 use Rattle.gb_machine.specs.Lists.{lookup}
 use Rattle.gb_machine.specs.State.{State}
-use Rattle.gb_machine.specs.LawsEnds.{EndsAreTold, EndsTold, is_end_of, is_outcome_of}
+use Rattle.gb_machine.specs.LawsEnds.{EndsTold, is_end_of, is_outcome_of}
 use Rattle.gb_machine.specs.Members.{Each, IsIn, times}
 use Rattle.gb_machine.specs.Requests.{is_of, open_on}
-use Rattle.gb_machine.specs.Runs.{HoldsThroughout, Moment}
+use Rattle.gb_machine.specs.Runs.{Moment}
 use Rattle.gb_machine.specs.Wires.{disconnected_told}
 use Rattle.gb_machine.specs.Wiring.{all_ended}
 
@@ -186,13 +187,13 @@ ends_law m = record {
 abbrev pub ToldAt : List Entry → State → Type 0
 ToldAt told s = Told (resting told s)
 
-pub ends-throughout : HoldsThroughout ToldAt
+pub ends-throughout : HoldsByMoments ToldAt
 ends-throughout = throughout ToldAt (basis-first, record { count = λ n. refl; said = λ n how i. absurd i; kept = λ n how read i. absurd i })
     (λ m one h. let r = over-step m (ends_law m) one h in (rested _ _ r.0 r.1.0, r.1.1))
 
 -- What is told of ends is what the outcomes are.
-pub ends-are-told : EndsAreTold
-ends-are-told = weaker ToldAt EndsTold (λ told s h. record {
+pub ends-told_by_moments : HoldsByMoments EndsTold
+ends-told_by_moments = weaker ToldAt EndsTold (λ told s h. record {
   said = λ n how i other. h.1.said n how i;
   kept = h.1.kept;
   made = λ n how i. h.0.bus.outcomes.made n (found n how s.bus.outcomes i);

@@ -16,16 +16,17 @@ use Rattle.gb_laws.proofs.Linking.{InsertsAbsent, LinkedAt}
 use Rattle.gb_laws.proofs.LinkRuns.{LinkedTo, linked-over, linked-throughout, start-absent}
 use Rattle.gb_laws.proofs.Links.{ArePending, IsFree, IsKnown, leaving, linked, supervisory}
 use Rattle.gb_laws.proofs.Owning.{ends-of}
-use Rattle.gb_laws.proofs.Points.{Basis, Change, Law, Point, acts_asked, acts_failed, acts_left, acts_opened, acts_shut, acts_told, answers, asks, binds, changed, drops, forgets, frees, gives_up, holds, injects, names, others, passes, replies, serves, spends, takes, takes_held, tells, turns, unwires, wires}
-use Rattle.gb_laws.proofs.Runs.{throughout, weaker}
+use Rattle.gb_laws.proofs.Points.{Change, Law, acts_asked, acts_failed, acts_left, acts_opened, acts_shut, acts_told, answers, asks, binds, changed, drops, forgets, frees, gives_up, holds, injects, names, others, passes, replies, serves, spends, takes, takes_held, tells, turns, unwires, wires}
+use Rattle.gb_laws.proofs.PointParts.{Basis, Point}
+use Rattle.gb_laws.proofs.Runs.{HoldsByMoments, throughout, weaker}
 use Rattle.gb_laws.proofs.Steps.{over-step}
 use Rattle.gb_machine.specs.Bus.{Bus, Connection, Raw, other_side, same_end}
 use Rattle.gb_machine.specs.Delivery.{without_front}
 use Rattle.gb_machine.specs.Host.{Host}
 use Rattle.gb_machine.specs.Incoming.{reply_item}
-use Rattle.gb_machine.specs.LawsBus.{AreApart, EndpointsDiffer, HaveOwnEnds}
+use Rattle.gb_machine.specs.LawsBus.{AreApart, HaveOwnEnds}
 use Rattle.gb_machine.specs.Members.{EachTwo, IsIn}
-use Rattle.gb_machine.specs.Runs.{HoldsThroughout, Moment}
+use Rattle.gb_machine.specs.Runs.{Moment}
 use Rattle.gb_machine.specs.Sending.{put, queued}
 use Rattle.gb_machine.specs.State.{State}
 use Rattle.gb_machine.specs.Turns.{Act, Asking, Making}
@@ -113,7 +114,7 @@ pub record ApartTo (told : List Entry) (s : State) : Type 0 where
   pub links : LinkedTo told s
   pub apart : EachTwo AreApart s.bus.connections
 
-pub apart-throughout : HoldsThroughout ApartTo
+pub apart-throughout : HoldsByMoments ApartTo
 apart-throughout = throughout ApartTo (record { links = linked-throughout [] tt; apart = (tt, tt) })
     (λ m one h. record {
       links = linked-over m one h.links;
@@ -121,5 +122,5 @@ apart-throughout = throughout ApartTo (record { links = linked-throughout [] tt;
     })
 
 -- Live connections have ends of their own.
-pub endpoints-differ : EndpointsDiffer
-endpoints-differ = weaker ApartTo HaveOwnEnds (λ told s h. h.apart) apart-throughout
+pub endpoints-by_moments : HoldsByMoments HaveOwnEnds
+endpoints-by_moments = weaker ApartTo HaveOwnEnds (λ told s h. h.apart) apart-throughout

@@ -1,5 +1,5 @@
 -- No end handles a message of another connection.
-use Rattle.std.proofs.Common.{◌≡◌, ℕ, true, Option, Some, None, List, [], ◌∷◌, refl, sym, ap, ◌∙◌, inl, inr}
+use Rattle.std.proofs.Common.{◌≡◌, ℕ, List, [], ◌∷◌, sym, ap, ◌∙◌, inl, inr}
 use Rattle.gb_base.specs.declared.end.End.TheVariants as end
 use Rattle.gb_base.specs.declared.end.Side.TheVariants as side
 use Rattle.gb_base.specs.declared.entry.Entry.{Entry}
@@ -10,17 +10,17 @@ use Rattle.gb_laws.proofs.Loosening.{map-held-in}
 use Rattle.gb_laws.proofs.Owned.{own-kept}
 use Rattle.gb_laws.proofs.Owning.{OwnTold}
 use Rattle.gb_laws.proofs.Places.{place-is}
-use Rattle.gb_laws.proofs.Points.{Basis, Law, loose_held, resting}
-use Rattle.gb_laws.proofs.Runs.{at_each, throughout, weaker}
-use Rattle.gb_laws.proofs.Stepping.{else-later}
+use Rattle.gb_laws.proofs.Points.{Law}
+use Rattle.gb_laws.proofs.PointParts.{Basis, loose_held, resting}
+use Rattle.gb_laws.proofs.Runs.{HoldsAtMoments, HoldsByMoments, at_each, throughout, weaker}
+use Rattle.gb_machine.proofs.Conditions.{waits}
 use Rattle.gb_laws.proofs.Steps.{over-step}
-use Rattle.gb_machine.specs.Bus.{Connection, Item, Place, end_of, place_of, queue, svc_connection}
+use Rattle.gb_machine.specs.Bus.{Connection, svc_connection}
 use Rattle.gb_machine.specs.Holding.{held_on, is_held_on}
-use Rattle.gb_machine.specs.LawsHotPlug.{HasOwnItems, HaveOwnItems, NoForeignMessage, IsOwnItem, TakesFromItsConnection}
-use Rattle.gb_machine.specs.Lists.{first}
+use Rattle.gb_machine.specs.LawsHotPlug.{HasOwnItems, HaveOwnItems, IsOwnItem, TakesFromItsConnection}
 use Rattle.gb_machine.specs.Members.{IsIn}
-use Rattle.gb_machine.specs.Refusals.{deliver_refusal, empty_refusal, end_refusal, refusal}
-use Rattle.gb_machine.specs.Runs.{HoldsThroughout, Moment}
+use Rattle.gb_machine.specs.Refusals.{refusal}
+use Rattle.gb_machine.specs.Runs.{Moment}
 use Rattle.gb_machine.specs.State.{Held, State, first_state}
 
 abbrev own_law : (m : Moment) → Law m
@@ -45,13 +45,13 @@ own-first = record {
     first-peer c (inl e) at = let svc = sym (ap (λ (x : Connection). x.peer) e) ∙ at in absurd cc
     first-peer c (inr j) at = j
 
-pub own-throughout : HoldsThroughout OwnAt
+pub own-throughout : HoldsByMoments OwnAt
 own-throughout = throughout OwnAt (basis-first, own-first)
     (λ m one h. let r = over-step m (own_law m) one h in
     (rested _ _ r.0 r.1.0, record { waiting = r.1.1.waiting; hanging = r.1.1.hanging; opened = r.1.1.opened }))
 
 -- Each item is of its own connection.
-own-items : HoldsThroughout HaveOwnItems
+pub own-items : HoldsByMoments HaveOwnItems
 own-items = weaker OwnAt HaveOwnItems (λ told s h. each-from (HasOwnItems told s) s.bus.connections (λ c live. record {
   to_ap = each-from (IsOwnItem told s.bus c side.Ap) c.to_ap (λ item i. h.1.waiting c side.Ap item live i);
   to_far = each-from (IsOwnItem told s.bus c side.Far) c.to_far (λ item i. h.1.waiting c side.Far item live i);
@@ -62,24 +62,12 @@ own-items = weaker OwnAt HaveOwnItems (λ told s h. each-from (HasOwnItems told 
 
 -- A delivery takes its item from a connection that is live, wired and names the end.
 takes-own : (m : Moment) → TakesFromItsConnection m
-takes-own m at is free =
-    by (place_of at m.before.bus.connections) refl
-    (else-later (end_refusal m.before at) (deliver_refusal (place_of at m.before.bus.connections)) (ap (refusal m.before) (sym is) ∙ free))
-  where
-    Taken : Type 0
-    Taken = (p : Place) × (item : Item) × (place_of at m.before.bus.connections ≡ Some p)
-        × IsIn p.connection m.before.bus.connections × (p.connection.wired ≡ true)
-        × (end_of p.side p.connection ≡ at) × (first (queue p.side p.connection) ≡ Some item)
+takes-own m at is allowed =
+    let w = waits m.before at (ap (refusal m.before) (sym is) ∙ allowed) in
+    let q = place-is at m.before.bus.connections w.place w.named in
+    (w.place, w.item, w.named, q.live, q.wired, q.is, w.front)
 
-    front : (p : Place) → place_of at m.before.bus.connections ≡ Some p → (is : List Item) → queue p.side p.connection ≡ is → empty_refusal is ≡ None → Taken
-    front p e [] f g = absurd cc
-    front p e (i ∷ is) f g =
-        let q = place-is at m.before.bus.connections p e in (p, i, e, q.live, q.wired, q.is, ap first f)
-
-    by : (o : Option Place) → place_of at m.before.bus.connections ≡ o → deliver_refusal o ≡ None → Taken
-    by None e g = absurd cc
-    by (Some p) e g = front p e (queue p.side p.connection) refl g
-
--- No end handles a message of another connection.
-pub no-foreign : NoForeignMessage
-no-foreign = (own-items, at_each Based TakesFromItsConnection basis-throughout (λ m one h. takes-own m))
+-- Each delivery takes its item so.
+pub takes-at_moments : HoldsAtMoments TakesFromItsConnection
+takes-at_moments =
+    at_each Based TakesFromItsConnection basis-throughout (λ m one h. takes-own m)

@@ -1,10 +1,9 @@
 -- What stays within a step at which the supervisory controller doesn't ask: the marks that wait, but
 -- for the one that is taken, what is plugged, and which interfaces are known.
-use Rattle.gb_machine.specs.Waits.{awaits}
-use Rattle.gb_laws.proofs.LinkHosts.{Onto}
 use Rattle.std.proofs.Common.{◌≡◌, ◌⊎◌, ◌≤◌, ◌≢◌, ℕ, Bool, true, false, cond, Option, Some, None, [], refl, sym, ap, ◌∙◌, inl, inr, ⊎_elim, subst, arith}
 use Rattle.std.proofs.lemmas.Bool.Decides.{nat_tests}
 use Rattle.std.specs.Prelude.{◌==◌, ◌+◌}
+use Rattle.gb_base.specs.declared.peers.Interface.{Interface}
 use Rattle.gb_base.specs.declared.end.End.TheVariants as end
 use Rattle.gb_base.specs.declared.end.Side.{Side}
 use Rattle.gb_base.specs.declared.end.Side.TheVariants as side
@@ -14,20 +13,18 @@ use Rattle.gb_invariants.proofs.Awaiting.{sent-request}
 use Rattle.gb_invariants.proofs.Labels.{asked_on, asked_on-number}
 use Rattle.gb_invariants.proofs.Numbers.{found-number}
 use Rattle.gb_invariants.proofs.Selves.{drawn-queue, put-self}
-use Rattle.gb_laws.proofs.Awaited.{awaited-rest, SameRest}
-use Rattle.gb_laws.proofs.LinkActs.{ServedHost, as_before, awaited-plugs, awaited-host, awaits-fits, host-served, unsent-due, unsent-making, with_more}
+use Rattle.gb_laws.proofs.Awaited.{awaited-rest}
+use Rattle.gb_laws.proofs.LinkActs.{awaited-plugs}
+use Rattle.gb_laws.proofs.Knowing.{KnownAt, known-kept}
 use Rattle.gb_laws.proofs.LinkBuses.{Linked}
-use Rattle.gb_laws.proofs.LinkLists.{in-ordered}
-use Rattle.gb_laws.proofs.Linking.{InsertsAbsent, LinkedAt, noticed_host, turn-fits}
+use Rattle.gb_laws.proofs.Linking.{InsertsAbsent, LinkedAt}
 use Rattle.gb_laws.proofs.Links.{ArePending, IsPresent}
 use Rattle.gb_laws.proofs.Marks.{AreAsked, AreElsewhere, find-left, find-pushed, item_mark, marks, marks-first, marks-more, marks-unmarked, marks_of}
-use Rattle.gb_laws.proofs.Points.{Basis, Change, IsAskedBy, IsAsking, IsLive, IsNoticed, IsOfSvc, Point, SamePlugs, acts_asked, acts_failed, acts_left, acts_opened, acts_shut, acts_told, answers, asking, asks, binds, by_host, by_module, by_svc, changed, drops, forgets, frees, gives_up, holds, injects, names, opening, others, passes, replies, serves, spends, takes, takes_held, tells, turns, unwires, wires, IsCaused}
+use Rattle.gb_laws.proofs.Points.{Change, IsAskedBy, IsLive, IsOfSvc, PortsFrom, IsIdle, PowersOff, SamePlugs, by_far, acts_asked, acts_failed, acts_left, acts_opened, acts_shut, acts_told, answers, asks, binds, by_host, by_module, by_svc, changed, drops, forgets, frees, gives_up, holds, injects, names, others, passes, replies, serves, spends, takes, takes_held, tells, turns, unwires, wires}
+use Rattle.gb_laws.proofs.PointParts.{Basis, IsNoticed, Point}
 use Rattle.gb_machine.specs.Bus.{Ask, Bus, Connection, Item, Place, Raw, Request, connection_of, has_number, other_side, place_of, queue, request_of}
 use Rattle.gb_machine.specs.Delivery.{popped}
-use Rattle.gb_machine.specs.Failures.{unsent}
-use Rattle.gb_machine.specs.Host.{Host, Interface, intf_before, new_interface}
-use Rattle.gb_machine.specs.HostActs.{with_awaited}
-use Rattle.gb_machine.specs.HostServing.{host_serves}
+use Rattle.gb_machine.specs.Host.{Host}
 use Rattle.gb_machine.specs.Incoming.{Incoming, reply_item}
 use Rattle.gb_machine.specs.Members.{EachTwo, IsIn}
 use Rattle.gb_machine.specs.Modules.{is_plugged}
@@ -50,8 +47,7 @@ taken_bus _ b = b
 -- What stays within a step.
 pub record FrameAt (m : Moment) (a : Point) : Type 0 where
   pub same : (i : ℕ) → marks i a.state.bus ≡ marks i (taken_bus m.event m.before.bus)
-  pub known : (x : Interface) → IsIn x a.state.host.interfaces
-      → IsPresent x.intf m.before.host.interfaces ⊎ IsNoticed m (HostEvent.Inserted x.intf)
+  pub known : KnownAt m a
   pub started : a.state.booted ≡ m.before.booted
   pub plugged : (i : ℕ) → is_plugged i a.state.modules ≡ is_plugged i m.before.modules
   pub differ : EachTwo AreElsewhere a.state.modules
@@ -85,13 +81,23 @@ kept-all h x i = record { interface = x; known = i; is = refl }
 
 -- ---- marks of the queue
 
--- what waits toward the application processor was made
-pub asked-items : (a : Point) → Basis a → AreAsked a.state.bus (svc_items side.Ap a.state.bus)
-asked-items a basis n i = by (connection_of 1 a.state.bus) refl i
+-- what waits on the supervisory controller's connection was made
+pub asked-toward : (at : Side) (a : Point) → Basis a
+    → AreAsked a.state.bus (svc_items at a.state.bus)
+asked-toward at a basis n i = by (connection_of 1 a.state.bus) refl i
   where
-    by : (o : Option Connection) → connection_of 1 a.state.bus ≡ o → IsIn (Ask n) (items_in side.Ap o) → (r : Request) × (request_of n a.state.bus ≡ Some r)
+    made : (s : Side) (c : Connection) → connection_of 1 a.state.bus ≡ Some c
+        → IsIn (Ask n) (queue s c) → (r : Request) × (request_of n a.state.bus ≡ Some r)
+    made s c e j =
+        let o = basis.bus.items.own c s (Ask n) (found-number 1 a.state.bus c e).0 j in (o.0, o.1)
+
+    by : (o : Option Connection) → connection_of 1 a.state.bus ≡ o → IsIn (Ask n) (items_in at o)
+        → (r : Request) × (request_of n a.state.bus ≡ Some r)
     by None e j = absurd j
-    by (Some c) e j = let o = basis.bus.items.own c side.Ap (Ask n) (found-number 1 a.state.bus c e).0 j in (o.0, o.1)
+    by (Some c) e j = made at c e j
+
+pub asked-items : (a : Point) → Basis a → AreAsked a.state.bus (svc_items side.Ap a.state.bus)
+asked-items = asked-toward side.Ap
 
 put-ap : (i : ℕ) (b : Bus) (at : Side) (y : Item) (c : Connection) → item_mark i b y ≡ [] → marks_of i b (queue side.Ap (put at y c)) ≡ marks_of i b (queue side.Ap c)
 put-ap i b at y c none = by at c.wired
@@ -153,12 +159,13 @@ frame-kept m absent other a (tells e quiet) basis links h = frame-bus m a _ (λ 
 frame-kept m absent other a (asks d c label free live drawn who) basis links h =
     frame-bus m a (changed m a (asks d c label free live drawn who)) (λ i. marks-asked a d c label i basis links live (by who)) refl refl refl h
   where
-    by : IsAskedBy m c d → (d.side ≡ side.Ap) ⊎ ((j : ℕ) × (p : ℕ) × (c.peer ≡ end.Module j p))
-    by (by_host e) = inl e
-    by (by_module j p e) = inr (j, p, e)
-    by (by_svc of) = absurd (other of)
+    by : IsAskedBy m a c d
+        → (d.side ≡ side.Ap) ⊎ ((j : ℕ) × (p : ℕ) × (c.peer ≡ end.Module j p))
+    by (by_host q rest is e none) = inl (ap (λ (x : Draft). x.side) e)
+    by (by_far (by_module j p e)) = inr (j, p, e)
+    by (by_far (by_svc of far off)) = absurd (other of)
 frame-kept m absent other a (names name d c label free live drawn host) basis links h =
-    frame-bus m a (changed m a (names name d c label free live drawn host)) (λ i. marks-asked a d c label i basis links live (inl host)) refl refl refl h
+    frame-bus m a (changed m a (names name d c label free live drawn host)) (λ i. marks-asked a d c label i basis links live (inl host.0)) refl refl refl h
 frame-kept m absent other a (binds x y n is) basis links h = frame-bus m a _ (λ i. refl) refl refl refl h
 frame-kept m absent other a (frees name) basis links h = frame-bus m a _ (λ i. refl) refl refl refl h
 frame-kept m absent other a (takes at p item free start is named front) basis links h = record {
@@ -197,22 +204,11 @@ frame-kept m absent other a (injects i c p bytes free named) basis links h =
     (λ x k on one. marks-unmarked j a.state.bus x.to_ap (Raw bytes) refl)) refl refl refl h
 frame-kept m absent other a (turns e free untouched none cause) basis links h = record {
   same = h.same;
-  known = λ x i. let p = (turn-fits m a.state.bus e a.state.host absent cause links.host).kept x i in
-      subst (λ n. IsPresent n m.before.host.interfaces ⊎ IsNoticed m (HostEvent.Inserted n)) p.is (by e cause p.interface p.known);
+  known = known-kept m absent a (turns e free untouched none cause) links h.known;
   started = h.started;
   plugged = h.plugged;
   differ = h.differ;
 }
-  where
-    by : (e : HostEvent) → IsCaused m e a.state.host → (x : Interface) → IsIn x (noticed_host e a.state.host).interfaces
-        → IsPresent x.intf m.before.host.interfaces ⊎ IsNoticed m (HostEvent.Inserted x.intf)
-    by (HostEvent.Inserted i) c x j = ⊎_elim
-        (λ f. inr (subst (λ n. IsNoticed m (HostEvent.Inserted n)) (sym (ap (λ (y : Interface). y.intf) f)) c.1))
-        (λ o. h.known x o) (in-ordered intf_before x (new_interface i) a.state.host.interfaces j)
-    by (HostEvent.Removed i) c x j = h.known x j
-    by (HostEvent.Connect i p) c x j = h.known x j
-    by (HostEvent.Disconnect i p) c x j = h.known x j
-    by (HostEvent.Ended n how) c x j = h.known x j
 frame-kept m absent other a (acts_told e rest is quiet) basis links h = frame-bus m a (changed m a (acts_told e rest is quiet)) (λ i. refl) refl refl refl h
 frame-kept m absent other a (acts_shut k rest free is cause) basis links h =
     frame-bus m a (changed m a (acts_shut k rest free is cause))
@@ -236,43 +232,38 @@ frame-kept m absent other a (acts_opened w q rest free is) basis links h =
     above : (n : ℕ) → 1 ≤ n → (n + 1 == 1) ≡ false
     above n low = grind (arith, nat_tests)
 frame-kept m absent other a (acts_asked q n rest is) basis links h = record {
-  same = λ i. ap (marks i) r.bus ∙ h.same i;
-  known = λ x i. let p = onto.kept x (subst (λ (g : Host). IsIn x g.interfaces) (awaited-host q.purpose n a.state) i) in
-      subst (λ k. IsPresent k m.before.host.interfaces ⊎ IsNoticed m (HostEvent.Inserted k)) p.is (h.known p.interface p.known);
+  same = λ i. ap (marks i) (awaited-rest q.purpose n a.state).bus ∙ h.same i;
+  known = known-kept m absent a (acts_asked q n rest is) links h.known;
   started = (awaited-plugs q.purpose n a.state).started ∙ h.started;
   plugged = λ i. (awaited-plugs q.purpose n a.state).plugged i ∙ h.plugged i;
   differ = (awaited-plugs q.purpose n a.state).differ h.differ;
 }
-  where
-    r : SameRest a.state (with_awaited q.purpose n a.state)
-    r = awaited-rest q.purpose n a.state
-
-    onto : Onto a.state.host (awaits q.purpose n a.state.host)
-    onto = (awaits-fits a.state.bus q.purpose n a.state.host links.host (subst (ArePending a.state.host) is links.pending).0.0).1
-frame-kept m absent other a (acts_failed q rest is quiet) basis links h =
-    frame-host m a (changed m a (acts_failed q rest is quiet)) (λ i. refl) (by is) refl refl h
-  where
-    by : IsAsking q a.pending rest → (x : Interface) → IsIn x (unsent q.purpose a.state.host).host.interfaces → IsPresent x.intf a.state.host.interfaces
-    by (asking e) = (unsent-due a.state.bus q.purpose.step q.purpose a.state.host links.host (subst (ArePending a.state.host) e links.pending).0.0).1.kept
-    by (opening w e) = (unsent-making a.state.bus w q.purpose.step q.purpose a.state.host links.host (subst (ArePending a.state.host) e links.pending).0.0.step).1.kept
-frame-kept m absent other a (serves k kind payload none) basis links h =
-    frame-host m a (changed m a (serves k kind payload none)) (λ i. refl) (by (host-served k kind payload a.state.host)) refl refl h
-  where
-    by : ServedHost a.state.host (host_serves k kind payload a.state.host) → (x : Interface)
-        → IsIn x (host_serves k kind payload a.state.host).host.interfaces → IsPresent x.intf a.state.host.interfaces
-    by (as_before e) x i = kept-all a.state.host x (subst (λ (g : Host). IsIn x g.interfaces) e i)
-    by (with_more j c total e) x i = kept-all a.state.host x (subst (λ (g : Host). IsIn x g.interfaces) e i)
+frame-kept m absent other a (acts_failed q rest is quiet) basis links h = record {
+  same = h.same;
+  known = known-kept m absent a (acts_failed q rest is quiet) links h.known;
+  started = h.started;
+  plugged = h.plugged;
+  differ = h.differ;
+}
+frame-kept m absent other a (serves k kind payload none) basis links h = record {
+  same = h.same;
+  known = known-kept m absent a (serves k kind payload none) links h.known;
+  started = h.started;
+  plugged = h.plugged;
+  differ = h.differ;
+}
 frame-kept m absent other a (spends i c what none) basis links h =
     frame-host m a (changed m a (spends i c what none)) (λ i. refl) (kept-all a.state.host) refl refl h
 frame-kept m absent other a (passes millis) basis links h = frame-bus m a (changed m a (passes millis)) (λ i. refl) refl refl refl h
 frame-kept m absent other a (others booted marks ports modules same) basis links h = by same
   where
-    by : SamePlugs a.state booted ports modules ⊎ IsOfSvc m.event → FrameAt m (changed m a (others booted marks ports modules same))
+    by : (SamePlugs a.state booted ports modules × PortsFrom m a.state ports × IsIdle a) ⊎ (IsOfSvc m.event × PowersOff a.state ports)
+        → FrameAt m (changed m a (others booted marks ports modules same))
     by (inl s) = record {
       same = h.same;
       known = h.known;
-      started = s.started ∙ h.started;
-      plugged = λ i. s.plugged i ∙ h.plugged i;
-      differ = s.differ h.differ;
+      started = s.0.started ∙ h.started;
+      plugged = λ i. s.0.plugged i ∙ h.plugged i;
+      differ = s.0.differ h.differ;
     }
-    by (inr of) = absurd (other of)
+    by (inr of) = absurd (other of.0)

@@ -12,7 +12,8 @@ use Rattle.gb_invariants.proofs.Awaiting.{same-some}
 use Rattle.gb_invariants.proofs.ItemChanges.{asked_on-self}
 use Rattle.gb_invariants.proofs.Labels.{asked_on, asked_on-number}
 use Rattle.gb_laws.proofs.LinkLists.{find-changed}
-use Rattle.gb_laws.proofs.Points.{ActLaw, AreQuiet, Hand, IsAskedBy, by_module, Wires, asks, is_quiet, sent_told, tells}
+use Rattle.gb_laws.proofs.Points.{ActLaw, IsFarAsking, by_far, by_module, asks, tells}
+use Rattle.gb_laws.proofs.PointParts.{AreQuiet, Hand, Wires, is_quiet, sent_told}
 use Rattle.gb_machine.proofs.Opened.{machine_opened}
 use Rattle.gb_machine.specs.Actions.{Action, each, given, nothing, tell, tell_all, when, ◌▸◌}
 use Rattle.gb_machine.specs.Asking.{asked, asks as asking, asks_with}
@@ -72,7 +73,14 @@ module _ (m : Moment) (law : ActLaw m) where
   -- the law at a point
   abbrev pub At : Option Hand → List Act → Wires → List Entry → State → Type 0
   At hand acts wires told s =
-      law.holds (record { told = told; state = s; hand = hand; pending = acts; wires = wires })
+      law.holds (record {
+        told = told;
+        state = s;
+        hand = hand;
+        pending = acts;
+        wires = wires;
+        asked = None;
+      })
 
   -- an action leads from the law at a state to the law behind it
   abbrev pub Goes : Option Hand → List Act → Wires → Option Hand → List Act → Wires → Action → State → Type 0
@@ -116,7 +124,9 @@ module _ (m : Moment) (law : ActLaw m) where
 
   -- ---- asking
 
-  pub goes-asks : (acts : List Act) (wires : Wires) (d : Draft) (s : State) → ((c : Connection) → connection_of d.connection s.bus ≡ Some c → IsAskedBy m c d)
+  pub goes-asks : (acts : List Act) (wires : Wires) (d : Draft) (s : State)
+      → ((c : Connection) → connection_of d.connection s.bus ≡ Some c
+      → IsFarAsking m s c d)
       → Stays None acts wires (asking d) s
   unfolding machine_opened
   goes-asks acts wires d s who told at = by (connection_of d.connection s.bus) refl (label_for d s.bus) refl
@@ -134,16 +144,17 @@ module _ (m : Moment) (law : ActLaw m) where
       by (Some c) e None f = goes-nothing None acts wires s told at
       by (Some c) e (Some label) f =
           oneway d.oneway (record s { bus = sent d label s.bus }) (asked d c label s.bus) (next_number s.bus)
-          (law.kept _ (asks d c label refl e f (who c e)) tt at)
+          (law.kept _ (asks d c label refl e f (by_far (who c e))) tt at)
 
   pub goes-far_asks : (acts : List Act) (wires : Wires) (k : ℕ) (own : OwnAsk) (s : State)
-      → ((c : Connection) (d : Draft) → connection_of k s.bus ≡ Some c → IsAskedBy m c d) → Stays None acts wires (far_asks k own) s
+      → ((c : Connection) → connection_of k s.bus ≡ Some c → IsFarAsking m s c
+      (draft k side.Far own.kind own.payload (s.now + default_timeout) own.oneway)) → Stays None acts wires (far_asks k own) s
   unfolding machine_opened
   goes-far_asks acts wires k own s who =
       goes-when None acts wires (is_wired (connection_of k s.bus))
       (asking (draft k side.Far own.kind own.payload (s.now + default_timeout) own.oneway)) s
       (λ e. goes-asks acts wires (draft k side.Far own.kind own.payload (s.now + default_timeout) own.oneway) s
-      (λ c e. who c (draft k side.Far own.kind own.payload (s.now + default_timeout) own.oneway) e))
+      who)
 
   -- a module's requests, one after another
   pub goes-far_asks_all : (acts : List Act) (wires : Wires) (k : ℕ) (own : List OwnAsk) (s : State) → IsToModule k s.bus
@@ -152,5 +163,5 @@ module _ (m : Moment) (law : ActLaw m) where
   goes-far_asks_all acts wires k [] s to = goes-nothing None acts wires s
   goes-far_asks_all acts wires k (x ∷ xs) s to =
       goes-▸ None None None acts acts acts wires wires wires (far_asks k x) (each xs (far_asks k)) s
-      (goes-far_asks acts wires k x s (λ c d e. let p = to c e in by_module p.0 p.1 p.2))
+      (goes-far_asks acts wires k x s (λ c e. let p = to c e in by_module p.0 p.1 p.2))
       (goes-far_asks_all acts wires k xs (far_asks k x s).state (to-asked k x s to))

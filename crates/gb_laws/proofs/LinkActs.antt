@@ -3,12 +3,15 @@ use Rattle.gb_base.specs.declared.end.End.TheVariants as end
 use Rattle.std.proofs.Common.{◌≡◌, ℕ, Bool, true, false, cond, Option, Some, None, List, [], ◌∷◌, map, refl, sym, ap, ◌∙◌, inl, inr, subst}
 use Rattle.std.specs.Prelude.{Result, Ok, Err, ◌==◌}
 use Rattle.gb_base.specs.declared.entry.Entry.{Entry}
-use Rattle.gb_formats.specs.GpioDevice.{irq_event}
-use Rattle.gb_formats.specs.GpioRecords.{GpioAsk, read_gpio_ask}
+use Rattle.gb_base.specs.declared.peers.Link.{Link}
+use Rattle.gb_base.specs.declared.steps.Purpose.{Purpose}
+use Rattle.gb_base.specs.declared.steps.SequenceStep.{SequenceStep}
+use Rattle.gb_base.specs.declared.steps.SequenceStep.TheVariants as steps
+use Rattle.gb_formats.specs.GpioRecords.{GpioAsk, read_gpio_ask_of_module}
 use Rattle.gb_formats.specs.Records.{PayloadFault}
-use Rattle.gb_formats.specs.SvcRecords.{SvcAsk, read_svc_ask}
-use Rattle.gb_formats.specs.UartDevice.{credits_added, is_uart_own}
-use Rattle.gb_formats.specs.UartRecords.{UartAsk, read_uart_ask}
+use Rattle.gb_formats.specs.SvcRecords.{SvcAsk, read_svc_ask_of_svc}
+use Rattle.gb_formats.specs.UartDevice.{credits_added}
+use Rattle.gb_formats.specs.UartRecords.{UartAsk, read_uart_ask_of_module}
 use Rattle.gb_invariants.proofs.Awaiting.{same-some}
 use Rattle.gb_invariants.proofs.Lists.{found-in}
 use Rattle.gb_laws.proofs.Awaited.{awaited-rest}
@@ -21,13 +24,12 @@ use Rattle.gb_laws.proofs.Links.{HasNoControl, is_early, HostFits, IsAtStep, IsD
 use Rattle.gb_laws.proofs.Points.{IsAsking, SamePlugs, asking, opening}
 use Rattle.gb_machine.specs.Bus.{Bus, Connection}
 use Rattle.gb_machine.specs.Failures.{interface_fails, step_fails, unsent, unsent_fails}
-use Rattle.gb_machine.specs.Host.{Host, Link, is_link, link_at, link_of, with_interface, with_link}
+use Rattle.gb_machine.specs.Host.{Host, is_link, link_at, link_of, with_interface, with_link}
 use Rattle.gb_machine.specs.HostActs.{made_for, with_awaited}
 use Rattle.gb_machine.specs.HostServing.{HostServed, credited, host_refuses, host_serves, interrupted, notified_by, served_on, serves_gpio, serves_uart, uart_notified_by, with_credits}
 use Rattle.gb_machine.specs.Members.{IsIn}
-use Rattle.gb_machine.specs.SequenceSteps.{Purpose, SequenceStep, is_enumeration, is_for_connection}
+use Rattle.gb_machine.specs.SequenceSteps.{is_enumeration, is_for_connection}
 use Rattle.gb_machine.specs.State.{State}
-use Rattle.gb_machine.specs.SvcTable.{is_svc_own}
 use Rattle.gb_machine.specs.Turns.{Act, Asking, Failing, Making, failed_turn}
 use Rattle.gb_machine.specs.Waits.{awaits}
 
@@ -144,25 +146,25 @@ failed-well b h f r = (r.host, record { stay = λ l i. by l (r.followed l i); ke
     by l (leaves i) = absurd (none-leaves l.connection f.told i)
 
 pub unsent-due : (b : Bus) (step : SequenceStep) (p : Purpose) (h : Host) → HostFits b h → IsDue step p h → FailsWell b h (unsent_fails step p h)
-unsent-due b SequenceStep.CreateControl p h fits due = failed-well b h (interface_fails p h) (fits-interface_fails b p h fits)
-unsent-due b SequenceStep.CreateConnection p h fits due = (fits, onto-same h)
-unsent-due b SequenceStep.GiveDevice p h fits due =
+unsent-due b steps.CreateControl p h fits due = failed-well b h (interface_fails p h) (fits-interface_fails b p h fits)
+unsent-due b steps.CreateConnection p h fits due = (fits, onto-same h)
+unsent-due b steps.GiveDevice p h fits due =
     let without_device = with_interface p.intf (λ x. record x { device = None }) h in
     failed-well b h (interface_fails p without_device) (fits-through b h without_device (failed_turn (interface_fails p without_device)) (onto-interface h p.intf (λ x. record x { device = None }) (λ x. refl))
     (fits-interface_fails b p without_device
     (host-interface b p.intf (λ x. record x { device = None }) h (λ x. refl) (λ x i at e w k. e w k) fits)))
-unsent-due b SequenceStep.EnableVsys p h fits due = failed-well b h (step_fails SequenceStep.EnableVsys p h) (fits-failed b SequenceStep.EnableVsys p h fits due)
-unsent-due b SequenceStep.EnableRefclk p h fits due = failed-well b h (step_fails SequenceStep.EnableRefclk p h) (fits-failed b SequenceStep.EnableRefclk p h fits due)
-unsent-due b SequenceStep.EnableUnipro p h fits due = failed-well b h (step_fails SequenceStep.EnableUnipro p h) (fits-failed b SequenceStep.EnableUnipro p h fits due)
-unsent-due b SequenceStep.Activate p h fits due = failed-well b h (step_fails SequenceStep.Activate p h) (fits-failed b SequenceStep.Activate p h fits due)
-unsent-due b SequenceStep.CreateRoute p h fits due = failed-well b h (step_fails SequenceStep.CreateRoute p h) (fits-failed b SequenceStep.CreateRoute p h fits due)
-unsent-due b SequenceStep.AskVersion p h fits due = failed-well b h (step_fails SequenceStep.AskVersion p h) (fits-failed b SequenceStep.AskVersion p h fits due)
-unsent-due b SequenceStep.AskSize p h fits due = failed-well b h (step_fails SequenceStep.AskSize p h) (fits-failed b SequenceStep.AskSize p h fits due)
-unsent-due b SequenceStep.AskManifest p h fits due = failed-well b h (step_fails SequenceStep.AskManifest p h) (fits-failed b SequenceStep.AskManifest p h fits due)
-unsent-due b SequenceStep.TellConnected p h fits due = failed-well b h (step_fails SequenceStep.TellConnected p h) (fits-failed b SequenceStep.TellConnected p h fits due)
-unsent-due b SequenceStep.TellDisconnecting p h fits due = failed-well b h (step_fails SequenceStep.TellDisconnecting p h) (fits-failed b SequenceStep.TellDisconnecting p h fits due)
-unsent-due b SequenceStep.TellDisconnected p h fits due = failed-well b h (step_fails SequenceStep.TellDisconnected p h) (fits-failed b SequenceStep.TellDisconnected p h fits due)
-unsent-due b SequenceStep.DestroyConnection p h fits due = failed-well b h (step_fails SequenceStep.DestroyConnection p h) (fits-failed b SequenceStep.DestroyConnection p h fits due)
+unsent-due b steps.EnableVsys p h fits due = failed-well b h (step_fails steps.EnableVsys p h) (fits-failed b steps.EnableVsys p h fits due)
+unsent-due b steps.EnableRefclk p h fits due = failed-well b h (step_fails steps.EnableRefclk p h) (fits-failed b steps.EnableRefclk p h fits due)
+unsent-due b steps.EnableUnipro p h fits due = failed-well b h (step_fails steps.EnableUnipro p h) (fits-failed b steps.EnableUnipro p h fits due)
+unsent-due b steps.Activate p h fits due = failed-well b h (step_fails steps.Activate p h) (fits-failed b steps.Activate p h fits due)
+unsent-due b steps.CreateRoute p h fits due = failed-well b h (step_fails steps.CreateRoute p h) (fits-failed b steps.CreateRoute p h fits due)
+unsent-due b steps.AskVersion p h fits due = failed-well b h (step_fails steps.AskVersion p h) (fits-failed b steps.AskVersion p h fits due)
+unsent-due b steps.AskSize p h fits due = failed-well b h (step_fails steps.AskSize p h) (fits-failed b steps.AskSize p h fits due)
+unsent-due b steps.AskManifest p h fits due = failed-well b h (step_fails steps.AskManifest p h) (fits-failed b steps.AskManifest p h fits due)
+unsent-due b steps.TellConnected p h fits due = failed-well b h (step_fails steps.TellConnected p h) (fits-failed b steps.TellConnected p h fits due)
+unsent-due b steps.TellDisconnecting p h fits due = failed-well b h (step_fails steps.TellDisconnecting p h) (fits-failed b steps.TellDisconnecting p h fits due)
+unsent-due b steps.TellDisconnected p h fits due = failed-well b h (step_fails steps.TellDisconnected p h) (fits-failed b steps.TellDisconnected p h fits due)
+unsent-due b steps.DestroyConnection p h fits due = failed-well b h (step_fails steps.DestroyConnection p h) (fits-failed b steps.DestroyConnection p h fits due)
 
 pub unsent-making : (b : Bus) (w : Making) (step : SequenceStep) (p : Purpose) (h : Host) → HostFits b h → IsMaking w step → FailsWell b h (unsent_fails step p h)
 unsent-making b w step p h fits (control zero_cport) = failed-well b h (interface_fails p h) (fits-interface_fails b p h fits)
@@ -228,15 +230,12 @@ pub host-served : (k kind : ℕ) (payload : List ℕ) (h : Host) → ServedHost 
 host-served k kind payload h = by (link_of k h)
   where
     by : (o : Option Link) → ServedHost h (served_on o kind payload h)
-    by None = host-if h (is_svc_own kind) (notified_by (read_svc_ask kind payload) h) (host_refuses _ h)
-        (host-svc h (read_svc_ask kind payload)) (as_before refl)
+    by None = host-svc h (read_svc_ask_of_svc kind payload)
     by (Some l) =
         host-if h (l.protocol == 0x02) (serves_gpio l kind payload h) _
-        (host-if h (kind == irq_event) (interrupted l (read_gpio_ask kind payload) h) (host_refuses _ h)
-        (host-gpio h l (read_gpio_ask kind payload)) (as_before refl))
+        (host-gpio h l (read_gpio_ask_of_module kind payload))
         (host-if h (l.protocol == 0x04) (serves_uart l kind payload h) (host_refuses _ h)
-        (host-if h (is_uart_own kind) (uart_notified_by l (read_uart_ask kind payload) h) (host_refuses _ h)
-        (host-uart h l (read_uart_ask kind payload)) (as_before refl)) (as_before refl))
+        (host-uart h l (read_uart_ask_of_module kind payload)) (as_before refl))
 
 -- a request is served
 pub linked-served : (k kind : ℕ) (payload : List ℕ) (b : Bus) (h : Host) → Linked b h [] → Linked b (host_serves k kind payload h).host []

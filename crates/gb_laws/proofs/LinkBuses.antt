@@ -4,6 +4,9 @@ use Rattle.std.specs.Prelude.{◌==◌}
 use Rattle.std.specs.List.{find}
 use Rattle.gb_base.specs.declared.end.End.TheVariants as end
 use Rattle.gb_base.specs.declared.entry.ConnState.TheVariants as state
+use Rattle.gb_base.specs.declared.peers.Interface.{Interface}
+use Rattle.gb_base.specs.declared.peers.Link.{Link}
+use Rattle.gb_base.specs.declared.steps.SequenceStep.{SequenceStep}
 use Rattle.gb_formats.specs.UartDevice.{most_credits}
 use Rattle.gb_invariants.proofs.Awaiting.{not-both}
 use Rattle.gb_invariants.proofs.Lists.{each-from, found-in, in-at_first, in-front, in-pushed, in-without, two-pushed}
@@ -12,10 +15,9 @@ use Rattle.gb_invariants.proofs.Selves.{SameSelf}
 use Rattle.gb_laws.proofs.LinkLists.{is-link, link-is}
 use Rattle.gb_laws.proofs.Links.{ArePending, HostFits, IsDue, IsFree, IsKnown, IsLinkBefore, IsMaking, IsNumbered, IsPresent, IsSvc, IsWaiting, LinksFit, connection, control, leaving, linked, supervisory}
 use Rattle.gb_machine.specs.Bus.{Bus, Connection, has_number}
-use Rattle.gb_machine.specs.Host.{Host, Interface, Link, is_link, with_new_link}
+use Rattle.gb_machine.specs.Host.{Host, is_link, with_new_link}
 use Rattle.gb_machine.specs.Lists.{at_first}
 use Rattle.gb_machine.specs.Members.{IsIn}
-use Rattle.gb_machine.specs.SequenceSteps.{SequenceStep}
 use Rattle.gb_machine.specs.Turns.{Act, Asking, Making}
 use Rattle.gb_machine.specs.Wiring.{attached, detached, new_connection, next_connection}
 
@@ -259,7 +261,7 @@ pub linked-opened : (b : Bus) (h : Host) (w : Making) (q : Asking) (rest : List 
     → Linked (attached w.ap w.intf w.cport w.protocol b) (with_new_link (next_connection b) w.ap w.intf w.cport w.protocol h) (Act.Ask q ∷ rest)
 linked-opened b h w q rest range f = record {
   host = host-more b h w q f.host free f.made range;
-  pending = ((due q.purpose.step free.step, f.pending.0.1), subst (ArePending (with_new_link (next_connection b) w.ap w.intf w.cport w.protocol h)) (sym f.pending.0.1) tt);
+  pending = ((due q.purpose.step free.step, f.pending.0.1, free.formed), subst (ArePending (with_new_link (next_connection b) w.ap w.intf w.cport w.protocol h)) (sym f.pending.0.1) tt);
   known = λ c live. ⊎_elim
       (λ o. known-more c h.links (new_link (next_connection b) w) (Act.Open w q) (λ e. absurd cc)
       (subst (λ r. IsKnown c h.links (Act.Open w q ∷ r)) f.pending.0.1 (f.known c o)) (Act.Ask q ∷ rest))

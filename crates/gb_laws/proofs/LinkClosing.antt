@@ -1,52 +1,55 @@
 -- The facts of the application processor's connections go over a disconnect.
-use Rattle.std.proofs.Common.{◌≡◌, ◌≢◌, ℕ, Bool, true, false, cond, Option, Some, None, List, [], ◌∷◌, refl, sym, ap, ◌∙◌, inr, subst}
+use Rattle.std.proofs.Common.{◌≡◌, ◌≢◌, ℕ, false, Option, Some, None, List, [], ◌∷◌, refl, sym, ap, ◌∙◌, inr, subst}
 use Rattle.std.specs.Prelude.{◌==◌, option_map}
 use Rattle.std.specs.List.{find}
+use Rattle.gb_base.specs.declared.steps.Purpose.{Purpose}
+use Rattle.gb_base.specs.declared.steps.SequenceStep.{SequenceStep}
+use Rattle.gb_base.specs.declared.peers.Link.{Link}
+use Rattle.gb_base.specs.declared.steps.SequenceStep.TheVariants as steps
 use Rattle.gb_base.specs.declared.entry.ConnState.{ConnState}
 use Rattle.gb_base.specs.declared.entry.ConnState.TheVariants as state
-use Rattle.gb_base.specs.declared.refusal.Refusal.TheVariants as why
 use Rattle.gb_invariants.proofs.Awaiting.{not-both, same-some}
 use Rattle.gb_invariants.proofs.Lists.{found-in}
 use Rattle.gb_laws.proofs.LinkLists.{changed-in, find-changed, link-is, one-link}
 use Rattle.gb_laws.proofs.LinkHosts.{kept-same, host-link, state-link, stay-changed, then-same}
 use Rattle.gb_laws.proofs.LinkSteps.{fits-asked, followed-same, waits-not}
 use Rattle.gb_laws.proofs.Links.{HostFits, IsAtStep, IsDeaf, IsFollowed, IsIdle, IsWaiting, LinksFit, SameLink, TurnFits, leaves, stays}
-use Rattle.gb_laws.proofs.Stepping.{else-later}
+use Rattle.gb_machine.proofs.Conditions.{AreUnmet}
 use Rattle.gb_machine.specs.Bus.{Bus}
 use Rattle.gb_machine.specs.Failures.{link_told}
-use Rattle.gb_machine.specs.Host.{Host, Link, in_state, interface_of, is_link, link_at, with_link}
-use Rattle.gb_machine.specs.HostRefusals.{absent_refusal, disconnect_refusal, link_refusal, state_refusal}
+use Rattle.gb_machine.specs.Host.{Host, in_state, is_link, link_at, with_link}
+use Rattle.gb_machine.specs.HostRefusals.{disconnect_conditions, is_closing, is_failed, is_unopened, link_conditions}
 use Rattle.gb_machine.specs.HostTurns.{disconnects, host_disconnects}
 use Rattle.gb_machine.specs.Members.{IsIn}
-use Rattle.gb_machine.specs.SequenceSteps.{Purpose, SequenceStep, purpose}
+use Rattle.gb_machine.specs.SequenceSteps.{purpose}
 use Rattle.gb_machine.specs.Sequences.{asked_on, step_asked, way_of}
 use Rattle.gb_machine.specs.Turns.{Act}
 
 -- ---- disconnect
 
-open-state : (s : ConnState) → state_refusal s ≡ None → s ≡ state.Open
-open-state state.Open h = refl
-open-state state.Opening h = absurd cc
-open-state state.Closing h = absurd cc
-open-state state.Closed h = absurd cc
-open-state state.Failed h = absurd cc
+open-state : (s : ConnState) → is_unopened s ≡ false → is_closing s ≡ false → is_failed s ≡ false → s ≡ state.Open
+open-state state.Open h k f = refl
+open-state state.Opening h k f = absurd cc
+open-state state.Closing h k f = absurd cc
+open-state state.Closed h k f = absurd cc
+open-state state.Failed h k f = absurd cc
 
 none-open : (step : SequenceStep) → IsAtStep step state.Open → ⊥
-none-open SequenceStep.CreateConnection h = absurd cc
-none-open SequenceStep.TellConnected h = absurd cc
-none-open SequenceStep.TellDisconnecting h = absurd cc
-none-open SequenceStep.TellDisconnected h = absurd cc
-none-open SequenceStep.DestroyConnection h = absurd cc
-none-open SequenceStep.EnableVsys h = h
-none-open SequenceStep.EnableRefclk h = h
-none-open SequenceStep.EnableUnipro h = h
-none-open SequenceStep.Activate h = h
-none-open SequenceStep.GiveDevice h = h
-none-open SequenceStep.CreateRoute h = h
-none-open SequenceStep.CreateControl h = h
-none-open SequenceStep.AskVersion h = h
-none-open SequenceStep.AskSize h = h
-none-open SequenceStep.AskManifest h = h
+none-open steps.CreateConnection h = absurd cc
+none-open steps.TellConnected h = absurd cc
+none-open steps.TellDisconnecting h = absurd cc
+none-open steps.TellDisconnected h = absurd cc
+none-open steps.DestroyConnection h = absurd cc
+none-open steps.EnableVsys h = h
+none-open steps.EnableRefclk h = h
+none-open steps.EnableUnipro h = h
+none-open steps.Activate h = h
+none-open steps.GiveDevice h = h
+none-open steps.CreateRoute h = h
+none-open steps.CreateControl h = h
+none-open steps.AskVersion h = h
+none-open steps.AskSize h = h
+none-open steps.AskManifest h = h
 
 -- an open connection waits for nothing
 open-idle : (l : Link) → IsWaiting l → l.state ≡ state.Open → l.awaits ≡ None
@@ -67,7 +70,7 @@ closing i c h = with_link i c (in_state state.Closing) h
 
 -- what is done, once the connection is found
 fits-closing : (b : Bus) (i c : ℕ) (h : Host) (l : Link) → HostFits b h → c ≢ 0 → find (is_link i c) h.links ≡ Some l → l.awaits ≡ None
-    → TurnFits b h (disconnects (Some l) (purpose i c SequenceStep.TellDisconnecting) h)
+    → TurnFits b h (disconnects (Some l) (purpose i c steps.TellDisconnecting) h)
 fits-closing b i c h l fits other e idle = record {
   host = asked.host;
   pending = (((fits.links.numbered l (found-in (is_link i c) h.links l e).0).from_two, deaf (way_of p g) asked.host.links), (tt, asked.pending));
@@ -77,7 +80,7 @@ fits-closing b i c h l fits other e idle = record {
 }
   where
     p : Purpose
-    p = purpose i c SequenceStep.TellDisconnecting
+    p = purpose i c steps.TellDisconnecting
 
     g : Host
     g = with_link i c (in_state state.Closing) h
@@ -93,7 +96,7 @@ fits-closing b i c h l fits other e idle = record {
     found : find (is_link i c) (with_link i c (in_state state.Closing) h).links ≡ Some (in_state state.Closing l)
     found = find-changed (is_link i c) (in_state state.Closing) h.links (λ x. refl) ∙ ap (option_map (in_state state.Closing)) e
 
-    due : IsIdle SequenceStep.TellDisconnecting (purpose i c SequenceStep.TellDisconnecting) (with_link i c (in_state state.Closing) h).links
+    due : IsIdle steps.TellDisconnecting (purpose i c steps.TellDisconnecting) (with_link i c (in_state state.Closing) h).links
     due = record {
       cport = other;
       idle = λ y f. ap (λ (x : Link). x.awaits) (sym (same-some (in_state state.Closing l) y (sym found ∙ f))) ∙ idle;
@@ -101,8 +104,8 @@ fits-closing b i c h l fits other e idle = record {
     }
 
     asked : TurnFits b (with_link i c (in_state state.Closing) h)
-        (step_asked (purpose i c SequenceStep.TellDisconnecting) (with_link i c (in_state state.Closing) h))
-    asked = fits-asked b p g now due
+        (step_asked (purpose i c steps.TellDisconnecting) (with_link i c (in_state state.Closing) h))
+    asked = fits-asked b p g now due (λ e. absurd cc)
 
     cport : l.cport ≢ 0
     cport = λ z. other (sym (link-is i c l (found-in (is_link i c) h.links l e).1).1 ∙ z)
@@ -123,17 +126,15 @@ fits-closing b i c h l fits other e idle = record {
         leaves (inr (inr (subst (λ n. IsIn (Act.Leave n) (step_asked p g).acts) same.connection m)))
 
 -- a disconnect that isn't refused is of an open connection other than Control
-pub fits-disconnects : (b : Bus) (i c : ℕ) (h : Host) → HostFits b h → disconnect_refusal i c h ≡ None → TurnFits b h (host_disconnects i c h)
-fits-disconnects b i c h fits free = by (link_at i c h) refl
+pub fits-disconnects : (b : Bus) (i c : ℕ) (h : Host) → HostFits b h → AreUnmet (disconnect_conditions i c h) → TurnFits b h (host_disconnects i c h)
+fits-disconnects b i c h fits met = by (link_at i c h) refl met.1.1
   where
-    allowed : (t : Bool) → (c == 0) ≡ t → cond t (Some why.Unsupported) (link_refusal (link_at i c h)) ≡ None
-        → (c ≢ 0) × (link_refusal (link_at i c h) ≡ None)
-    allowed true e f = absurd cc
-    allowed false e f = (λ z. not-both (c == 0) (ap (λ x. x == 0) z) e, f)
+    other : c ≢ 0
+    other z = not-both (c == 0) (ap (λ x. x == 0) z) met.1.0
 
-    by : (o : Option Link) → link_at i c h ≡ o → TurnFits b h (disconnects o (purpose i c SequenceStep.TellDisconnecting) h)
-    by None e = record { host = fits; pending = tt; followed = followed-same h.links []; kept = kept-same h.interfaces }
-    by (Some l) e =
-        let may = allowed (c == 0) refl (else-later (absent_refusal (interface_of i h)) _ free) in
+    by : (o : Option Link) → link_at i c h ≡ o → AreUnmet (link_conditions o)
+        → TurnFits b h (disconnects o (purpose i c steps.TellDisconnecting) h)
+    by None e may = record { host = fits; pending = tt; followed = followed-same h.links []; kept = kept-same h.interfaces }
+    by (Some l) e may =
         let waits = fits.links.waiting l (found-in (is_link i c) h.links l e).0 in
-        fits-closing b i c h l fits may.0 e (open-idle l waits (open-state l.state (sym (ap link_refusal e) ∙ may.1)))
+        fits-closing b i c h l fits other e (open-idle l waits (open-state l.state may.0 may.1.0 may.1.1.0))

@@ -3,15 +3,19 @@ use Rattle.std.proofs.Common.{◌≡◌, ℕ, Bool, true, false, Some, List, ref
 use Rattle.std.specs.Prelude.{◌==◌, ◌&&◌, not}
 use Rattle.std.specs.List.{find}
 use Rattle.gb_base.specs.declared.entry.ConnState.{ConnState}
+use Rattle.gb_base.specs.declared.peers.Interface.{Interface}
+use Rattle.gb_base.specs.declared.peers.Link.{Link}
+use Rattle.gb_base.specs.declared.steps.Purpose.{Purpose}
+use Rattle.gb_base.specs.declared.steps.SequenceStep.{SequenceStep}
 use Rattle.gb_invariants.proofs.Lists.{filter-in, in-without, two-at_first, two-filter, found-in}
 use Rattle.gb_laws.proofs.LinkLists.{in-first}
 use Rattle.gb_laws.proofs.Links.{AreOther, HasNoControl, HostFits, IsDeaf, IsEnumerating, IsLinkBefore, IsNext, IsNumbered, IsPresent, IsResting, IsWaiting, LinksFit, SameLink, is_early}
 use Rattle.gb_laws.proofs.Places.{at_first-back}
 use Rattle.gb_machine.specs.Bus.{Bus}
-use Rattle.gb_machine.specs.Host.{Host, Interface, Link, in_state, is_intf, is_link, with_interface, with_link}
+use Rattle.gb_machine.specs.Host.{Host, in_state, is_intf, is_link, with_interface, with_link}
 use Rattle.gb_machine.specs.Lists.{at_first, without}
 use Rattle.gb_machine.specs.Members.{IsIn}
-use Rattle.gb_machine.specs.SequenceSteps.{Purpose, SequenceStep, at_step}
+use Rattle.gb_machine.specs.SequenceSteps.{at_step}
 
 pub same-link : (l : Link) → SameLink l l
 same-link l = record { connection = refl; ap = refl; intf = refl; cport = refl }

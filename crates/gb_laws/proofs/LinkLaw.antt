@@ -4,7 +4,8 @@ use Rattle.gb_laws.proofs.Basics.{basis-kept}
 use Rattle.gb_laws.proofs.LinkBuses.{Linked}
 use Rattle.gb_laws.proofs.Linking.{InsertsAbsent, LinkedAt, linked-kept}
 use Rattle.gb_laws.proofs.Links.{supervisory}
-use Rattle.gb_laws.proofs.Points.{Basis, Law}
+use Rattle.gb_laws.proofs.Points.{Law}
+use Rattle.gb_laws.proofs.PointParts.{Basis}
 use Rattle.gb_machine.specs.Bus.{Connection, first_bus, svc_connection}
 use Rattle.gb_machine.specs.Host.{first_host}
 use Rattle.gb_machine.specs.Members.{IsIn}

@@ -3,11 +3,13 @@ use Rattle.std.proofs.Common.{◌≡◌, ◌⊎◌, ◌≤◌, ◌<◌, ℕ, zer
 use Rattle.std.proofs.lemmas.Bool.Decides.{nat_tests}
 use Rattle.std.specs.Prelude.{◌==◌, ◌||◌, option_map, not}
 use Rattle.std.specs.List.{find, list_any}
+use Rattle.gb_base.specs.declared.peers.Interface.{Interface}
+use Rattle.gb_base.specs.declared.peers.Link.{Link}
 use Rattle.gb_invariants.proofs.Awaiting.{not-both, same-some}
 use Rattle.gb_invariants.proofs.Lists.{each-from, each-in}
 use Rattle.gb_invariants.proofs.Outcomes.{both-true, is-same, same-number}
 use Rattle.gb_laws.proofs.Links.{AreOther, IsLinkBefore}
-use Rattle.gb_machine.specs.Host.{Interface, Link, is_intf, is_link}
+use Rattle.gb_machine.specs.Host.{is_intf, is_link}
 use Rattle.gb_machine.specs.Lists.{at_first, first_free, in_order, without}
 use Rattle.gb_machine.specs.Members.{EachTwo, IsIn}
 

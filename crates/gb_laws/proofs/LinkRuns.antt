@@ -1,12 +1,11 @@
 -- The application processor's connections go with the bus, and insertions and removals come in turn,
 -- throughout.
-use Rattle.std.proofs.Common.{◌≡◌, Bool, true, false, cond, Option, Some, None, List, [], refl, sym, ap, ◌∙◌, inl, subst}
+use Rattle.std.proofs.Common.{◌≡◌, false, Option, Some, None, List, [], refl, sym, ap, ◌∙◌, inl, subst}
 use Rattle.gb_base.specs.declared.end.End.{End}
 use Rattle.gb_base.specs.declared.entry.Entry.{Entry}
 use Rattle.gb_base.specs.declared.event.Event.{Event}
 use Rattle.gb_base.specs.declared.event.Event.TheVariants as event
 use Rattle.gb_base.specs.declared.refusal.Refusal.{Refusal}
-use Rattle.gb_base.specs.declared.refusal.Refusal.TheVariants as why
 use Rattle.gb_formats.specs.Module.{Module, module_of_kind, module_raw}
 use Rattle.gb_invariants.proofs.Awaiting.{not-both}
 use Rattle.gb_laws.proofs.Basics.{Based, basis-first, rested}
@@ -17,21 +16,20 @@ use Rattle.gb_laws.proofs.Linking.{InsertsAbsent, LinkedAt}
 use Rattle.gb_laws.proofs.Marking.{inserts-absent, marks-delivered, marks-still, refused-state}
 use Rattle.gb_laws.proofs.Marks.{MarksFit}
 use Rattle.gb_laws.proofs.Plugs.{boot-kept, plug-kept}
-use Rattle.gb_laws.proofs.Points.{Basis, IsOfSvc, Law, resting}
+use Rattle.gb_laws.proofs.Points.{IsOfSvc, Law}
+use Rattle.gb_laws.proofs.PointParts.{Basis, resting}
 use Rattle.gb_laws.proofs.Pulling.{pull-kept}
-use Rattle.gb_laws.proofs.Runs.{Keeps, throughout}
-use Rattle.gb_laws.proofs.Stepping.{else-later, met-last}
+use Rattle.gb_laws.proofs.Runs.{HoldsByMoments, Keeps, throughout}
+use Rattle.gb_machine.proofs.Conditions.{AreUnmet, free}
 use Rattle.gb_laws.proofs.Steps.{over-step}
 use Rattle.gb_laws.proofs.There.{There, there-kept}
 use Rattle.gb_machine.proofs.Opened.{machine_opened}
 use Rattle.gb_machine.specs.Bus.{first_bus, svc_connection}
 use Rattle.gb_machine.specs.Events.{decided, step}
-use Rattle.gb_machine.specs.Labels.{no_label}
-use Rattle.gb_machine.specs.Lists.{first_met}
 use Rattle.gb_machine.specs.Modules.{is_plugged}
 use Rattle.gb_machine.specs.Plugging.{plugs}
-use Rattle.gb_machine.specs.Refusals.{insert_refusal, plug_refusal, refusal, svc_has_no_label}
-use Rattle.gb_machine.specs.Runs.{HoldsThroughout, IsMoment, Moment, after}
+use Rattle.gb_machine.specs.Refusals.{insert_conditions, refusal}
+use Rattle.gb_machine.specs.Runs.{IsMoment, Moment, after}
 use Rattle.gb_machine.specs.State.{State, first_state}
 
 -- What is known at rest of the application processor's connections, and of insertions and removals.
@@ -46,11 +44,6 @@ start-absent m start = inserts-absent m start.0 start.1 start.2
 
 no-modules : (i : _) → is_plugged i [] ≡ false
 no-modules i = refl
-
--- the first of conditions that isn't met
-met-first : (b : Bool) (reason : Refusal) (more : Option Refusal) → cond b (Some reason) more ≡ None → b ≡ false
-met-first true reason more h = absurd cc
-met-first false reason more h = refl
 
 module _ (m : Moment) (one : IsMoment m.event) (start : LinkedTo m.told m.before) where
   still : (e : Event) → m.event ≡ e → (IsOfSvc e → ⊥) → taken_bus e m.before.bus ≡ m.before.bus → ((at : End) → e ≡ event.Deliver at → ⊥) → MarksFit (after m)
@@ -67,19 +60,19 @@ module _ (m : Moment) (one : IsMoment m.event) (start : LinkedTo m.told m.before
       by (Some reason) f = subst MarksFit (sym (refused-state m reason (ap (refusal m.before) is ∙ f))) start.2
       by None f = subst MarksFit (sym (ap (λ x. (step m.before x).state) is ∙ ap (λ o. (decided o e m.before).state) f)) (done f)
 
-  plugged : (i : _) (x : Module) (manifest : List _) → insert_refusal m.before i manifest ≡ None → MarksFit (plugs i x m.before).state
-  plugged i x manifest free =
-      plug-kept i x m.before (asked-items (resting m.told m.before) start.0) (met-first (is_plugged i m.before.modules) why.Occupied _ free) start.2
+  plugged : (i : _) (x : Module) (manifest : List _) → AreUnmet (insert_conditions m.before i manifest) → MarksFit (plugs i x m.before).state
+  plugged i x manifest met =
+      plug-kept i x m.before (asked-items (resting m.told m.before) start.0) met.0 start.2
 
   marks-kept : (e : Event) → m.event ≡ e → IsMoment e → MarksFit (after m)
   unfolding machine_opened
-  marks-kept event.Boot is at = asking event.Boot is (λ free.
-      boot-kept m.before (asked-items (resting m.told m.before) start.0) (met-first m.before.booted why.Occupied (first_met []) free) start.2)
-  marks-kept (event.Insert i kind) is at = asking (event.Insert i kind) is (λ free. plugged i (module_of_kind kind) [] free)
-  marks-kept (event.InsertRaw i manifest) is at = asking (event.InsertRaw i manifest) is (λ free. plugged i (module_raw manifest) manifest free)
-  marks-kept (event.Pull i) is at = asking (event.Pull i) is (λ free.
+  marks-kept event.Boot is at = asking event.Boot is (λ allowed.
+      boot-kept m.before (asked-items (resting m.told m.before) start.0) (free m.before event.Boot allowed).0 start.2)
+  marks-kept (event.Insert i kind) is at = asking (event.Insert i kind) is (λ allowed. plugged i (module_of_kind kind) [] (free m.before (event.Insert i kind) allowed))
+  marks-kept (event.InsertRaw i manifest) is at = asking (event.InsertRaw i manifest) is (λ allowed. plugged i (module_raw manifest) manifest (free m.before (event.InsertRaw i manifest) allowed))
+  marks-kept (event.Pull i) is at = asking (event.Pull i) is (λ allowed.
       pull-kept i m.before start.0.bus.numbers.rise (asked-items (resting m.told m.before) start.0) start.1 start.3
-      (met-last [] (svc_has_no_label m.before) no_label (else-later (plug_refusal m.before i) _ free)) start.2)
+      (free m.before (event.Pull i) allowed).1.0 start.2)
   marks-kept (event.Deliver to) is at = marks-delivered m one start.0 start.1 start.2 (λ of. subst IsOfSvc is of) to is
   marks-kept (event.Settle most) is at = absurd at
   marks-kept (event.Connect i c) is at = still (event.Connect i c) is (λ x. x) refl (λ k e. absurd cc)
@@ -117,5 +110,5 @@ pub linked-over : Keeps LinkedTo
 linked-over m one h = let r = over-step m (there_law m (start-absent m h)) one ((h.0, h.1), h.3) in
     (rested _ _ r.0 r.1.0.0, r.1.0.1, marks-kept m one h m.event refl one, r.1.1)
 
-pub linked-throughout : HoldsThroughout LinkedTo
+pub linked-throughout : HoldsByMoments LinkedTo
 linked-throughout = throughout LinkedTo (basis-first, linked-first, marks-first_state, there-first_state) linked-over

@@ -1,6 +1,11 @@
 -- The facts of the application processor's connections go over the steps of its sequences.
 use Rattle.std.proofs.Common.{◌≡◌, ◌≢◌, ℕ, Bool, true, false, cond, Option, Some, None, List, [], ◌∷◌, length, map, refl, sym, ap, ◌∙◌, inl, inr, subst, arith}
-use Rattle.std.specs.Prelude.{Result, Ok, Err, ◌==◌, ◌≤◌}
+use Rattle.std.specs.Prelude.{Result, Ok, Err, ◌==◌, ◌≤◌, option_map}
+use Rattle.gb_base.specs.declared.steps.Purpose.{Purpose}
+use Rattle.gb_base.specs.declared.steps.SequenceStep.{SequenceStep}
+use Rattle.gb_base.specs.declared.peers.Interface.{Interface}
+use Rattle.gb_base.specs.declared.peers.Link.{Link}
+use Rattle.gb_base.specs.declared.steps.SequenceStep.TheVariants as steps
 use Rattle.gb_invariants.proofs.Outcomes.{is-same}
 use Rattle.std.specs.List.{find, list_any}
 use Rattle.gb_base.specs.declared.entry.ConnState.{ConnState}
@@ -14,15 +19,15 @@ use Rattle.gb_formats.specs.ControlRecords.{read_control_reply}
 use Rattle.gb_base.specs.declared.entry.IntfStage.TheVariants as stage
 use Rattle.gb_laws.proofs.LinkHosts.{Onto, kept-same, onto-interface, onto-link, onto-then, host-interface, host-link, links-without, next-interface, next-to, none-without, same-link, state-link, then-same, without-in}
 use Rattle.gb_laws.proofs.LinkLists.{find-none, first_free-is, found-at, link-is, none-any}
-use Rattle.gb_laws.proofs.Links.{IsDueBy, IsNext, ArePending, HostFits, IsAtStep, IsDue, IsFollowed, IsIdle, IsWaiting, SameLink, TurnFits, control, leaves, stays}
+use Rattle.gb_laws.proofs.Links.{IsDueBy, IsFormed, IsNext, ArePending, HostFits, IsAtStep, IsDue, IsFollowed, IsIdle, IsWaiting, SameLink, TurnFits, control, leaves, stays}
 use Rattle.gb_machine.specs.Arriving.{state_takes}
 use Rattle.gb_machine.specs.Bus.{Bus}
 use Rattle.gb_machine.specs.Failures.{interface_fails, link_fails, link_told, step_fails}
-use Rattle.gb_machine.specs.Host.{Host, Interface, Link, free_cport, free_device, in_state, interface_of, is_link, link_at, staged, with_interface, with_link, without_link}
+use Rattle.gb_machine.specs.Host.{Host, control_of, free_cport, free_device, in_state, interface_of, is_link, link_at, staged, with_interface, with_link, without_link}
 use Rattle.gb_machine.specs.Lists.{without}
 use Rattle.gb_machine.specs.Members.{IsIn}
-use Rattle.gb_machine.specs.SequenceSteps.{Purpose, SequenceStep, at_step, is_enumeration, is_reply}
-use Rattle.gb_machine.specs.Sequences.{asked_on, begins_control, begins_device, enumerated, goes_on, size_in, link_left, link_turn, manifest_checked, manifest_told, opened, opened_told, size_known, step_answered, step_asked, step_done, way_of}
+use Rattle.gb_machine.specs.SequenceSteps.{Target, at_step, is_enumeration, is_reply}
+use Rattle.gb_machine.specs.Sequences.{ap_in, asked_on, asking, begins_control, begins_device, enumerated, goes_on, size_in, link_left, link_turn, manifest_checked, manifest_told, opened, opened_told, size_known, step_answered, step_asked, step_done, target, way_of}
 use Rattle.gb_machine.specs.Turns.{Act, Turn, failed_turn, telling}
 
 -- ---- turns
@@ -116,43 +121,71 @@ fits-failed b step p h fits due = by step (none-waits b step p h fits due)
 
     by : (s : SequenceStep) → ((l : Link) → find (is_link p.intf p.cport) h.links ≡ Some l → l.awaits ≡ None)
         → TurnFits b h (failed_turn (step_fails s p h))
-    by SequenceStep.CreateControl none =
-        fits-host b h (step_fails SequenceStep.CreateControl p h).host (step_fails SequenceStep.CreateControl p h).told
+    by steps.CreateControl none =
+        fits-host b h (step_fails steps.CreateControl p h).host (step_fails steps.CreateControl p h).told
         (host-interface b p.intf (staged stage.Failed) (link_fails p h).host (λ x. refl) (λ x j is e w k. e w k) (failed-host b p h fits none))
         (onto-then h (link_fails p h).host _ (onto-link h p.intf p.cport (in_state state.Failed) (state-link state.Failed))
         (onto-interface (link_fails p h).host p.intf (staged stage.Failed) (λ x. refl)))
-    by SequenceStep.CreateConnection none = link none
-    by SequenceStep.TellConnected none = link none
-    by SequenceStep.TellDisconnecting none = link none
-    by SequenceStep.TellDisconnected none = link none
-    by SequenceStep.DestroyConnection none = link none
-    by SequenceStep.EnableVsys none = fits-interface_fails b p h fits
-    by SequenceStep.EnableRefclk none = fits-interface_fails b p h fits
-    by SequenceStep.EnableUnipro none = fits-interface_fails b p h fits
-    by SequenceStep.Activate none = fits-interface_fails b p h fits
-    by SequenceStep.GiveDevice none = fits-interface_fails b p h fits
-    by SequenceStep.CreateRoute none = fits-interface_fails b p h fits
-    by SequenceStep.AskVersion none = fits-interface_fails b p h fits
-    by SequenceStep.AskSize none = fits-interface_fails b p h fits
-    by SequenceStep.AskManifest none = fits-interface_fails b p h fits
+    by steps.CreateConnection none = link none
+    by steps.TellConnected none = link none
+    by steps.TellDisconnecting none = link none
+    by steps.TellDisconnected none = link none
+    by steps.DestroyConnection none = link none
+    by steps.EnableVsys none = fits-interface_fails b p h fits
+    by steps.EnableRefclk none = fits-interface_fails b p h fits
+    by steps.EnableUnipro none = fits-interface_fails b p h fits
+    by steps.Activate none = fits-interface_fails b p h fits
+    by steps.GiveDevice none = fits-interface_fails b p h fits
+    by steps.CreateRoute none = fits-interface_fails b p h fits
+    by steps.AskVersion none = fits-interface_fails b p h fits
+    by steps.AskSize none = fits-interface_fails b p h fits
+    by steps.AskManifest none = fits-interface_fails b p h fits
 
 -- ---- asking
 
-pub fits-asked : (b : Bus) (p : Purpose) (h : Host) → HostFits b h → IsDue p.step p h → TurnFits b h (step_asked p h)
-fits-asked b p h fits due = by (way_of p h)
+-- the request of a step is formed
+formed-asking : (b : Bus) (p : Purpose) (h : Host) (k : ℕ) (t : Target) → HostFits b h
+    → way_of p h ≡ Some k → t.intf ≡ p.intf → p.step ≢ steps.CreateConnection
+    → IsFormed (asking k p t)
+formed-asking b p h k t fits way intf other = record {
+  target = t;
+  kind = refl;
+  payload = refl;
+  intf = intf;
+  created = λ e. absurd (other e);
+  on = λ e. same-some k 1 (sym way ∙ ap (λ c. cond c (control_of p.intf h) (Some 1)) e);
+  control = λ e. at (link_at p.intf 0 h) refl
+      (sym (ap (λ c. cond c (control_of p.intf h) (Some 1)) e) ∙ way);
+}
   where
-    by : (o : Option ℕ) → TurnFits b h (asked_on o p h)
-    by None = fits-failed b p.step p h fits due
-    by (Some k) = record { host = fits; pending = ((due, refl), tt); followed = followed-same h.links _; kept = kept-same h.interfaces }
+    at : (o : Option Link) → link_at p.intf 0 h ≡ o
+        → option_map (λ (l : Link). l.connection) o ≡ Some k → 2 ≤ k
+    at None e f = absurd cc
+    at (Some l) e f = subst (λ n. 2 ≤ n) (same-some l.connection k f)
+        (fits.links.numbered l (found-in (is_link p.intf 0) h.links l e).0).from_two
 
-fits-device : (b : Bus) (o : Option ℕ) (p : Purpose) (h : Host) → HostFits b h → IsNext SequenceStep.GiveDevice (at_step SequenceStep.GiveDevice p) h
-    → TurnFits b h (begins_device o (at_step SequenceStep.GiveDevice p) h)
-fits-device b None p h fits next = fits-interface_fails b (at_step SequenceStep.GiveDevice p) h fits
+pub fits-asked : (b : Bus) (p : Purpose) (h : Host) → HostFits b h → IsDue p.step p h
+    → p.step ≢ steps.CreateConnection → TurnFits b h (step_asked p h)
+fits-asked b p h fits due other = by (way_of p h) refl
+  where
+    by : (o : Option ℕ) → way_of p h ≡ o → TurnFits b h (asked_on o p h)
+    by None e = fits-failed b p.step p h fits due
+    by (Some k) e = record {
+      host = fits;
+      pending = ((due, refl, formed-asking b p h k (target (ap_in (link_at p.intf p.cport h)) p h) fits e refl other), tt);
+      followed = followed-same h.links _;
+      kept = kept-same h.interfaces;
+    }
+
+fits-device : (b : Bus) (o : Option ℕ) (p : Purpose) (h : Host) → HostFits b h → IsNext steps.GiveDevice (at_step steps.GiveDevice p) h
+    → TurnFits b h (begins_device o (at_step steps.GiveDevice p) h)
+fits-device b None p h fits next = fits-interface_fails b (at_step steps.GiveDevice p) h fits
 fits-device b (Some d) p h fits next =
     fits-through b h (with_interface p.intf (λ x. record x { device = Some d }) h) _ (onto-interface h p.intf (λ x. record x { device = Some d }) (λ x. refl))
-    (fits-asked b (at_step SequenceStep.GiveDevice p) (with_interface p.intf (λ x. record x { device = Some d }) h)
+    (fits-asked b (at_step steps.GiveDevice p) (with_interface p.intf (λ x. record x { device = Some d }) h)
     (host-interface b p.intf (λ x. record x { device = Some d }) h (λ x. refl) (λ x j is e w k. e w k) fits)
-    (next-interface SequenceStep.GiveDevice (at_step SequenceStep.GiveDevice p) h p.intf (λ x. record x { device = Some d }) (λ x. refl) (λ x. refl) next))
+    (next-interface steps.GiveDevice (at_step steps.GiveDevice p) h p.intf (λ x. record x { device = Some d }) (λ x. refl) (λ x. refl) next)
+    (λ e. absurd cc))
 
 -- the least free CPort of the application processor is from 1 to 4,095, and no connection has it
 pub record IsFreeCport (a : ℕ) (ls : List Link) : Type 0 where
@@ -168,9 +201,9 @@ free_cport-is h a e =
       other = λ l i same. not-both (l.ap == a) (ap (λ n. n == a) same ∙ is-same a) (none-any (λ (l : Link). l.ap == a) h.links l f.0 i);
     }
 
-fits-control : (b : Bus) (o : Option ℕ) (p : Purpose) (h : Host) → HostFits b h → IsNext SequenceStep.CreateRoute p h → free_cport h ≡ o
-    → TurnFits b h (begins_control o (at_step SequenceStep.CreateControl p) h)
-fits-control b None p h fits next free = fits-interface_fails b (at_step SequenceStep.CreateControl p) h fits
+fits-control : (b : Bus) (o : Option ℕ) (p : Purpose) (h : Host) → HostFits b h → IsNext steps.CreateRoute p h → free_cport h ≡ o
+    → TurnFits b h (begins_control o (at_step steps.CreateControl p) h)
+fits-control b None p h fits next free = fits-interface_fails b (at_step steps.CreateControl p) h fits
 fits-control b (Some a) p h fits next free = let f = free_cport-is h a free in record {
   host = fits;
   pending = (
@@ -186,6 +219,15 @@ fits-control b (Some a) p h fits next free = let f = free_cport-is h a free in r
         at = λ l i. ap (λ c. is_link p.intf c l) next.cport ∙ next.none refl l i;
         idle = λ e. next.idle;
         present = next.present;
+        formed = record {
+          target = target a (at_step steps.CreateControl p) h;
+          kind = refl;
+          payload = refl;
+          intf = refl;
+          created = λ e. absurd cc;
+          on = λ e. refl;
+          control = λ e. absurd cc;
+        };
       },
       refl,
     ),
@@ -207,7 +249,7 @@ opened-control b p h fits zero_cport =
     at l f = (link-is p.intf p.cport l (found-in (is_link p.intf p.cport) h.links l f).1).1 ∙ zero_cport
 
 -- another is open that was opening
-opened-link : (b : Bus) (p : Purpose) (h : Host) → HostFits b h → IsIdle SequenceStep.TellConnected p h.links → HostFits b (opened p h)
+opened-link : (b : Bus) (p : Purpose) (h : Host) → HostFits b h → IsIdle steps.TellConnected p h.links → HostFits b (opened p h)
 opened-link b p h fits idle =
     host-link b h p.intf p.cport (in_state state.Open) (state-link state.Open)
     (λ l i f waits. waits-not (in_state state.Open l) (idle.idle l f))
@@ -287,52 +329,53 @@ at-step s to p ls h = record { cport = h.cport; idle = h.idle; state = h.state }
 -- What follows a step that was answered as it should be.
 fits-done : (b : Bus) (step : SequenceStep) (p : Purpose) (payload : List ℕ) (h : Host) → HostFits b h → IsDue step p h
     → TurnFits b h (step_done step p payload h)
-fits-done b SequenceStep.EnableVsys p payload h fits due =
-    fits-asked b (at_step SequenceStep.EnableRefclk p) h fits (next-to SequenceStep.EnableVsys SequenceStep.EnableRefclk p h (λ e. refl) due)
-fits-done b SequenceStep.EnableRefclk p payload h fits due =
-    fits-asked b (at_step SequenceStep.EnableUnipro p) h fits (next-to SequenceStep.EnableRefclk SequenceStep.EnableUnipro p h (λ e. refl) due)
-fits-done b SequenceStep.EnableUnipro p payload h fits due =
-    fits-asked b (at_step SequenceStep.Activate p) h fits (next-to SequenceStep.EnableUnipro SequenceStep.Activate p h (λ e. refl) due)
-fits-done b SequenceStep.Activate p payload h fits due =
-    fits-device b (free_device h) p h fits (next-to SequenceStep.Activate SequenceStep.GiveDevice p h (λ e. refl) due)
-fits-done b SequenceStep.GiveDevice p payload h fits due =
+fits-done b steps.EnableVsys p payload h fits due =
+    fits-asked b (at_step steps.EnableRefclk p) h fits (next-to steps.EnableVsys steps.EnableRefclk p h (λ e. refl) due) (λ e. absurd cc)
+fits-done b steps.EnableRefclk p payload h fits due =
+    fits-asked b (at_step steps.EnableUnipro p) h fits (next-to steps.EnableRefclk steps.EnableUnipro p h (λ e. refl) due) (λ e. absurd cc)
+fits-done b steps.EnableUnipro p payload h fits due =
+    fits-asked b (at_step steps.Activate p) h fits (next-to steps.EnableUnipro steps.Activate p h (λ e. refl) due) (λ e. absurd cc)
+fits-done b steps.Activate p payload h fits due =
+    fits-device b (free_device h) p h fits (next-to steps.Activate steps.GiveDevice p h (λ e. refl) due)
+fits-done b steps.GiveDevice p payload h fits due =
     fits-through b h (with_interface p.intf (λ x. record x { has_device = true }) h) _ (onto-interface h p.intf (λ x. record x { has_device = true }) (λ x. refl))
-    (fits-asked b (at_step SequenceStep.CreateRoute p) (with_interface p.intf (λ x. record x { has_device = true }) h)
+    (fits-asked b (at_step steps.CreateRoute p) (with_interface p.intf (λ x. record x { has_device = true }) h)
     (host-interface b p.intf (λ x. record x { has_device = true }) h (λ x. refl) (λ x j is e w k. e w k) fits)
-    (next-interface SequenceStep.CreateRoute (at_step SequenceStep.CreateRoute p) h p.intf (λ x. record x { has_device = true }) (λ x. refl) (λ x. refl)
-    (next-to SequenceStep.GiveDevice SequenceStep.CreateRoute p h (λ e. refl) due)))
-fits-done b SequenceStep.CreateRoute p payload h fits due = fits-control b (free_cport h) p h fits due refl
-fits-done b SequenceStep.CreateControl p payload h fits due =
-    fits-opened_told b h (link_at p.intf p.cport h) (goes_on SequenceStep.AskVersion p (opened p h))
+    (next-interface steps.CreateRoute (at_step steps.CreateRoute p) h p.intf (λ x. record x { has_device = true }) (λ x. refl) (λ x. refl)
+    (next-to steps.GiveDevice steps.CreateRoute p h (λ e. refl) due)) (λ e. absurd cc))
+fits-done b steps.CreateRoute p payload h fits due = fits-control b (free_cport h) p h fits due refl
+fits-done b steps.CreateControl p payload h fits due =
+    fits-opened_told b h (link_at p.intf p.cport h) (goes_on steps.AskVersion p (opened p h))
     (fits-through b h (opened p h) _ (onto-link h p.intf p.cport (in_state state.Open) (state-link state.Open))
-    (fits-asked b (at_step SequenceStep.AskVersion p) (opened p h) (opened-control b p h fits due.cport)
-    (record { cport = due.cport; none = λ e. absurd cc; idle = due.idle; present = due.present })))
-fits-done b SequenceStep.AskVersion p payload h fits due =
-    fits-asked b (at_step SequenceStep.AskSize p) h fits (next-to SequenceStep.AskVersion SequenceStep.AskSize p h (λ e. absurd cc) due)
-fits-done b SequenceStep.AskSize p payload h fits due =
+    (fits-asked b (at_step steps.AskVersion p) (opened p h) (opened-control b p h fits due.cport)
+    (record { cport = due.cport; none = λ e. absurd cc; idle = due.idle; present = due.present })
+    (λ e. absurd cc)))
+fits-done b steps.AskVersion p payload h fits due =
+    fits-asked b (at_step steps.AskSize p) h fits (next-to steps.AskVersion steps.AskSize p h (λ e. absurd cc) due) (λ e. absurd cc)
+fits-done b steps.AskSize p payload h fits due =
     let f = λ (x : Interface). record x { size = size_in (read_control_reply 0x03 payload) } in
     fits-through b h (with_interface p.intf f h) _ (onto-interface h p.intf f (λ x. refl))
-    (fits-asked b (at_step SequenceStep.AskManifest p) (with_interface p.intf f h)
+    (fits-asked b (at_step steps.AskManifest p) (with_interface p.intf f h)
     (host-interface b p.intf f h (λ x. refl) (λ x j is e w k. e w k) fits)
-    (next-interface SequenceStep.AskManifest (at_step SequenceStep.AskManifest p) h p.intf f (λ x. refl) (λ x. refl)
-    (next-to SequenceStep.AskSize SequenceStep.AskManifest p h (λ e. absurd cc) due)))
-fits-done b SequenceStep.AskManifest p payload h fits due = fits-manifest b p payload h fits
-fits-done b SequenceStep.CreateConnection p payload h fits due =
-    fits-asked b (at_step SequenceStep.TellConnected p) h fits
-    (idle-on SequenceStep.CreateConnection SequenceStep.TellConnected (at_step SequenceStep.TellConnected p) h.links (λ s e. e)
-    (at-step SequenceStep.CreateConnection SequenceStep.TellConnected p h.links due))
-fits-done b SequenceStep.TellConnected p payload h fits due =
+    (next-interface steps.AskManifest (at_step steps.AskManifest p) h p.intf f (λ x. refl) (λ x. refl)
+    (next-to steps.AskSize steps.AskManifest p h (λ e. absurd cc) due)) (λ e. absurd cc))
+fits-done b steps.AskManifest p payload h fits due = fits-manifest b p payload h fits
+fits-done b steps.CreateConnection p payload h fits due =
+    fits-asked b (at_step steps.TellConnected p) h fits
+    (idle-on steps.CreateConnection steps.TellConnected (at_step steps.TellConnected p) h.links (λ s e. e)
+    (at-step steps.CreateConnection steps.TellConnected p h.links due)) (λ e. absurd cc)
+fits-done b steps.TellConnected p payload h fits due =
     fits-link_turn b state.Open (link_at p.intf p.cport h) h (opened p h) (opened-link b p h fits due)
     (onto-link h p.intf p.cport (in_state state.Open) (state-link state.Open))
-fits-done b SequenceStep.TellDisconnecting p payload h fits due =
-    fits-asked b (at_step SequenceStep.TellDisconnected p) h fits
-    (idle-on SequenceStep.TellDisconnecting SequenceStep.TellDisconnected (at_step SequenceStep.TellDisconnected p) h.links (λ s e. e)
-    (at-step SequenceStep.TellDisconnecting SequenceStep.TellDisconnected p h.links due))
-fits-done b SequenceStep.TellDisconnected p payload h fits due =
-    fits-asked b (at_step SequenceStep.DestroyConnection p) h fits
-    (idle-on SequenceStep.TellDisconnected SequenceStep.DestroyConnection (at_step SequenceStep.DestroyConnection p) h.links (λ s e. e)
-    (at-step SequenceStep.TellDisconnected SequenceStep.DestroyConnection p h.links due))
-fits-done b SequenceStep.DestroyConnection p payload h fits due = fits-left b p h (link_at p.intf p.cport h) refl fits
+fits-done b steps.TellDisconnecting p payload h fits due =
+    fits-asked b (at_step steps.TellDisconnected p) h fits
+    (idle-on steps.TellDisconnecting steps.TellDisconnected (at_step steps.TellDisconnected p) h.links (λ s e. e)
+    (at-step steps.TellDisconnecting steps.TellDisconnected p h.links due)) (λ e. absurd cc)
+fits-done b steps.TellDisconnected p payload h fits due =
+    fits-asked b (at_step steps.DestroyConnection p) h fits
+    (idle-on steps.TellDisconnected steps.DestroyConnection (at_step steps.DestroyConnection p) h.links (λ s e. e)
+    (at-step steps.TellDisconnected steps.DestroyConnection p h.links due)) (λ e. absurd cc)
+fits-done b steps.DestroyConnection p payload h fits due = fits-left b p h (link_at p.intf p.cport h) refl fits
 
 -- A step's request ended.
 pub fits-answered : (b : Bus) (o : Option (List ℕ)) (p : Purpose) (h : Host) → HostFits b h → IsDue p.step p h

@@ -1,13 +1,16 @@
 -- The facts of the application processor's connections go over each of its turns.
 use Rattle.std.proofs.Common.{◌≡◌, ◌≤◌, ◌≢◌, ℕ, Bool, true, false, cond, Option, Some, None, List, [], ◌∷◌, ◌++◌, refl, sym, ap, ◌∙◌, inl, inr, ⊎_elim, subst}
-use Rattle.std.specs.Prelude.{◌==◌, not, is_none, is_some, option_and_then, option_map}
+use Rattle.std.specs.Prelude.{◌==◌, not, option_and_then, option_map}
 use Rattle.std.specs.List.{find}
+use Rattle.gb_base.specs.declared.steps.Purpose.{Purpose}
+use Rattle.gb_base.specs.declared.steps.SequenceStep.{SequenceStep}
+use Rattle.gb_base.specs.declared.peers.Interface.{Interface}
+use Rattle.gb_base.specs.declared.peers.Link.{Link}
+use Rattle.gb_base.specs.declared.steps.SequenceStep.TheVariants as steps
 use Rattle.gb_base.specs.declared.entry.ConnState.{ConnState}
 use Rattle.gb_base.specs.declared.entry.Entry.TheVariants as entry
 use Rattle.gb_base.specs.declared.entry.IntfStage.TheVariants as stage
 use Rattle.gb_base.specs.declared.outcome.Outcome.{Outcome}
-use Rattle.gb_base.specs.declared.refusal.Refusal.{Refusal}
-use Rattle.gb_base.specs.declared.refusal.Refusal.TheVariants as why
 use Rattle.gb_formats.specs.Manifest.{CportView}
 use Rattle.gb_invariants.proofs.Awaiting.{not-both, same-some}
 use Rattle.gb_invariants.proofs.Lists.{filter-in, found-in, in-filter, in-front, in-without, two-filter}
@@ -17,15 +20,16 @@ use Rattle.gb_laws.proofs.LinkLists.{find-changed, find-none, found-at, in-only,
 use Rattle.gb_laws.proofs.LinkHosts.{Onto, kept-same, onto-interface, onto-link, present-changed, host-interface, host-link, links-without, none-without, same-link, without-in}
 use Rattle.gb_laws.proofs.LinkSteps.{fits-answered, fits-asked, fits-telling, fits-through, followed-same, free_cport-is, waits-not}
 use Rattle.gb_laws.proofs.Links.{AreOther, ArePending, HasNoControl, HostFits, IsAtStep, IsDue, IsDueBy, IsEnumerating, IsFollowed, IsPresent, SameLink, TurnFits, connection, is_early, leaves, stays}
-use Rattle.gb_laws.proofs.Stepping.{else-later}
+use Rattle.gb_machine.proofs.Conditions.{AreUnmet}
+use Rattle.gb_machine.proofs.Options.{none-of, some-of}
 use Rattle.gb_machine.specs.Bus.{Bus, or_else}
-use Rattle.gb_machine.specs.Host.{with_interface, Host, Interface, Link, cport_of, free_cport, interface_of, intf_before, is_intf, is_link, link_at, new_interface, with_link, with_new_interface}
-use Rattle.gb_machine.specs.HostRefusals.{connect_refusal, cport_refusal, interface_refusal}
+use Rattle.gb_machine.specs.Host.{with_interface, Host, cport_of, free_cport, interface_of, intf_before, is_intf, is_link, link_at, new_interface, with_link, with_new_interface}
+use Rattle.gb_machine.specs.HostRefusals.{connect_conditions}
 use Rattle.gb_machine.specs.HostTurns.{connects, connects_on, ended_for, host_connects, host_ended, host_inserted, host_removed, links_left, links_of, without_interface}
-use Rattle.gb_machine.specs.Lists.{at_first, first_met, without}
+use Rattle.gb_machine.specs.Lists.{at_first, without}
 use Rattle.gb_machine.specs.Members.{IsIn}
-use Rattle.gb_machine.specs.SequenceSteps.{Purpose, SequenceStep, is_enumeration, purpose}
-use Rattle.gb_machine.specs.Sequences.{payload_in, step_asked}
+use Rattle.gb_machine.specs.SequenceSteps.{is_enumeration, purpose}
+use Rattle.gb_machine.specs.Sequences.{payload_in, step_asked, target}
 use Rattle.gb_machine.specs.Turns.{Act}
 use Rattle.gb_machine.specs.Waits.{awaited, awaits_nothing, interface_waits, link_waits, purpose_in}
 
@@ -117,21 +121,21 @@ waits-link n (l ∷ ls) p h = by (purpose_in n l.intf l.cport l.awaits) refl h (
 
 -- the step of a connect or close isn't one of an enumeration
 step-connects : (step : SequenceStep) (s : ConnState) → IsAtStep step s → is_enumeration step ≡ false
-step-connects SequenceStep.CreateConnection s h = refl
-step-connects SequenceStep.TellConnected s h = refl
-step-connects SequenceStep.TellDisconnecting s h = refl
-step-connects SequenceStep.TellDisconnected s h = refl
-step-connects SequenceStep.DestroyConnection s h = refl
-step-connects SequenceStep.EnableVsys s h = absurd h
-step-connects SequenceStep.EnableRefclk s h = absurd h
-step-connects SequenceStep.EnableUnipro s h = absurd h
-step-connects SequenceStep.Activate s h = absurd h
-step-connects SequenceStep.GiveDevice s h = absurd h
-step-connects SequenceStep.CreateRoute s h = absurd h
-step-connects SequenceStep.CreateControl s h = absurd h
-step-connects SequenceStep.AskVersion s h = absurd h
-step-connects SequenceStep.AskSize s h = absurd h
-step-connects SequenceStep.AskManifest s h = absurd h
+step-connects steps.CreateConnection s h = refl
+step-connects steps.TellConnected s h = refl
+step-connects steps.TellDisconnecting s h = refl
+step-connects steps.TellDisconnected s h = refl
+step-connects steps.DestroyConnection s h = refl
+step-connects steps.EnableVsys s h = absurd h
+step-connects steps.EnableRefclk s h = absurd h
+step-connects steps.EnableUnipro s h = absurd h
+step-connects steps.Activate s h = absurd h
+step-connects steps.GiveDevice s h = absurd h
+step-connects steps.CreateRoute s h = absurd h
+step-connects steps.CreateControl s h = absurd h
+step-connects steps.AskVersion s h = absurd h
+step-connects steps.AskSize s h = absurd h
+step-connects steps.AskManifest s h = absurd h
 
 -- What is known once a sequence waits no more for a request that ended.
 record Resumed (b : Bus) (p : Purpose) (h g : Host) : Type 0 where
@@ -230,8 +234,8 @@ absent-none b i h fits absent l j = by (is_link i 0 l) refl
 
 pub fits-inserted : (b : Bus) (i : ℕ) (h : Host) → HostFits b h → interface_of i h ≡ None → TurnFits b (with_new_interface i h) (host_inserted i h)
 fits-inserted b i h fits absent =
-    fits-telling b (with_new_interface i h) (entry.Interface i stage.Enumerating) (step_asked (purpose i 0 SequenceStep.EnableVsys) (with_new_interface i h))
-    (fits-asked b (purpose i 0 SequenceStep.EnableVsys) (with_new_interface i h)
+    fits-telling b (with_new_interface i h) (entry.Interface i stage.Enumerating) (step_asked (purpose i 0 steps.EnableVsys) (with_new_interface i h))
+    (fits-asked b (purpose i 0 steps.EnableVsys) (with_new_interface i h)
     (record {
       links = fits.links;
       interfaces = λ x j. ⊎_elim (λ e. subst (IsEnumerating h.links) (sym e) (λ w f. absurd (no-wait w f)))
@@ -245,7 +249,7 @@ fits-inserted b i h fits absent =
       none = λ e. absent-none b i h fits absent;
       idle = λ x j e. ⊎_elim (λ f. ap (λ (y : Interface). y.awaits) f) (λ o. absurd (other x o e)) (in-ordered intf_before x (new_interface i) h.interfaces j);
       present = record { interface = new_interface i; known = ordered-in intf_before (new_interface i) h.interfaces; is = refl };
-    }))
+    }) (λ e. absurd cc))
   where
     other : (x : Interface) → IsIn x h.interfaces → x.intf ≡ i → ⊥
     other x j e = not-both (is_intf i x) (ap (λ n. n == i) e ∙ is-same i) (find-none (is_intf i) h.interfaces x absent j)
@@ -300,27 +304,20 @@ fits-removed b i h fits = record {
 
 -- ---- connect
 
-pub else-first : (o p : Option Refusal) → or_else o p ≡ None → o ≡ None
-else-first None p h = refl
-else-first (Some why) p h = absurd cc
-
-none-met : (o : Option Link) (reason : Refusal) (more : Option Refusal) → cond (is_some o) (Some reason) more ≡ None → o ≡ None
-none-met None reason more h = refl
-none-met (Some x) reason more h = absurd cc
-
 no-view : (view : CportView) → None ≡ Some view → ⊥
 no-view view f = absurd cc
 
-pub fits-connects : (b : Bus) (i c : ℕ) (h : Host) → HostFits b h → connect_refusal i c h ≡ None → c ≤ 4095 → TurnFits b h (host_connects i c h)
-fits-connects b i c h fits free low = by (option_and_then (cport_of c) (interface_of i h)) refl
+pub fits-connects : (b : Bus) (i c : ℕ) (h : Host) → HostFits b h → AreUnmet (connect_conditions i c h) → c ≤ 4095 → TurnFits b h (host_connects i c h)
+fits-connects b i c h fits met low = by (option_and_then (cport_of c) (interface_of i h)) refl
   where
     at : link_at i c h ≡ None
-    at = none-met (link_at i c h) why.Occupied (first_met ((is_none (free_cport h), why.CportsSpent) ∷ []))
-        (else-later (cport_refusal (option_and_then (cport_of c) (interface_of i h))) _ (else-later (interface_refusal (interface_of i h)) _ free))
+    at = none-of (link_at i c h) met.1.1.1.1.1.0
 
-    present : (o : Option Interface) → interface_of i h ≡ o → interface_refusal o ≡ None → IsPresent i h.interfaces
-    present None e f = absurd cc
-    present (Some x) e f = let k = found-in (is_intf i) h.interfaces x e in record { interface = x; known = k.0; is = same-number x.intf i k.1 }
+    present : IsPresent i h.interfaces
+    present =
+        let there = some-of (interface_of i h) met.0 in
+        let k = found-in (is_intf i) h.interfaces there.0 there.1 in
+        record { interface = there.0; known = k.0; is = same-number there.0.intf i k.1 }
 
     nothing : TurnFits b h (record { host = h; acts = [] })
     nothing = record { host = fits; pending = tt; followed = followed-same h.links []; kept = kept-same h.interfaces }
@@ -333,14 +330,14 @@ fits-connects b i c h fits free low = by (option_and_then (cport_of c) (interfac
     other view e z = no-view view (sym (undeclared (interface_of i h)) ∙ ap (λ k. option_and_then (cport_of k) (interface_of i h)) (sym z) ∙ e)
 
     on : (view : CportView) → option_and_then (cport_of c) (interface_of i h) ≡ Some view → (o : Option ℕ) → free_cport h ≡ o
-        → TurnFits b h (connects_on o view.protocol (purpose i c SequenceStep.CreateConnection) h)
-    on view e None f = nothing
-    on view e (Some a) f = let cport = free_cport-is h a f in record {
+        → TurnFits b h (connects_on o view.protocol (purpose i c steps.CreateConnection) h)
+    on view e' None f = nothing
+    on view e' (Some a) f = let cport = free_cport-is h a f in record {
       host = fits;
       pending = (
         (
           record {
-            step = connection (other view e);
+            step = connection (other view e');
             intf = refl;
             cport = refl;
             from_one = cport.from_one;
@@ -348,8 +345,17 @@ fits-connects b i c h fits free low = by (option_and_then (cport_of c) (interfac
             cport_within = low;
             ap = cport.other;
             at = λ l j. find-none (is_link i c) h.links l at j;
-            idle = λ z. absurd (other view e z);
-            present = present (interface_of i h) refl (else-first (interface_refusal (interface_of i h)) _ free);
+            idle = λ z. absurd (other view e' z);
+            present = present;
+            formed = record {
+              target = target a (purpose i c steps.CreateConnection) h;
+              kind = refl;
+              payload = refl;
+              intf = refl;
+              created = λ e. (other view e', low);
+              on = λ e. refl;
+              control = λ e. absurd cc;
+            };
           },
           refl,
         ),
@@ -360,6 +366,6 @@ fits-connects b i c h fits free low = by (option_and_then (cport_of c) (interfac
     }
 
     by : (o : Option CportView) → option_and_then (cport_of c) (interface_of i h) ≡ o
-        → TurnFits b h (connects o (purpose i c SequenceStep.CreateConnection) h)
+        → TurnFits b h (connects o (purpose i c steps.CreateConnection) h)
     by None e = nothing
     by (Some view) e = on view e (free_cport h) refl

@@ -1,32 +1,39 @@
 -- The facts of the application processor's connections are kept by each single change.
-use Rattle.std.proofs.Common.{◌≡◌, ℕ, true, false, None, List, [], refl, sym, ap, ◌∙◌, subst}
+use Rattle.std.proofs.Common.{◌≡◌, ℕ, true, false, None, List, [], ◌∷◌, refl, sym, ap, ◌∙◌, subst}
 use Rattle.std.specs.Prelude.{◌-◌}
 use Rattle.gb_base.specs.declared.end.End.TheVariants as end
 use Rattle.gb_base.specs.declared.end.Side.TheVariants as side
 use Rattle.gb_invariants.proofs.ItemChanges.{asked_on-self}
+use Rattle.gb_base.specs.declared.event.Event.TheVariants as event
 use Rattle.gb_invariants.proofs.Lists.{each-in}
 use Rattle.gb_invariants.proofs.Selves.{front-self, put-self}
 use Rattle.gb_invariants.specs.Facts.{IsMade}
 use Rattle.gb_laws.proofs.LinkBuses.{Linked, from-all, from-first, from-self, linked-from, linked-left, linked-opened, linked-rest, linked-shut}
 use Rattle.gb_laws.proofs.LinkActs.{linked-asked, linked-link, linked-served, linked-unsent}
 use Rattle.gb_laws.proofs.LinkClosing.{fits-disconnects}
-use Rattle.gb_laws.proofs.LinkTurns.{else-first, fits-connects, fits-ended, fits-inserted, fits-removed}
+use Rattle.gb_laws.proofs.LinkTurns.{fits-connects, fits-ended, fits-inserted, fits-removed}
 use Rattle.gb_laws.proofs.Links.{HostFits, IsFollowed, IsKnown, TurnFits, leaves, leaving, linked, stays, supervisory}
 use Rattle.gb_laws.proofs.Places.{module-far, place-is}
-use Rattle.gb_laws.proofs.Points.{Basis, Change, IsCaused, IsNoticed, Point, acts_asked, acts_failed, acts_left, acts_opened, acts_shut, acts_told, answers, asks, binds, changed, drops, forgets, frees, gives_up, holds, injects, names, others, passes, replies, serves, spends, takes, takes_held, tells, turns, unwires, wires}
+use Rattle.gb_laws.proofs.Points.{Change, acts_asked, acts_failed, acts_left, acts_opened, acts_shut, acts_told, answers, asks, binds, changed, drops, forgets, frees, gives_up, holds, injects, names, others, passes, replies, serves, spends, takes, takes_held, tells, turns, unwires, wires}
+use Rattle.gb_laws.proofs.PointParts.{Basis, IsCaused, IsNoticed, Point}
 use Rattle.gb_base.specs.declared.end.Side.{Side}
+use Rattle.gb_base.specs.declared.peers.Link.{Link}
 use Rattle.gb_invariants.proofs.Labels.{asked_on}
+use Rattle.gb_machine.proofs.Conditions.{AreUnmet, free, front-unmet}
+use Rattle.gb_machine.specs.Labels.{no_label}
+use Rattle.gb_machine.specs.Lists.{holds_of}
+use Rattle.gb_machine.specs.Refusals.{has_no_label}
 use Rattle.gb_machine.specs.Bus.{Bus, Connection, Raw, end_of, other_side}
 use Rattle.gb_machine.specs.Delivery.{answered, ended, forgotten, popped, replied, without_front}
 use Rattle.gb_machine.specs.Incoming.{reply_item}
 use Rattle.gb_machine.specs.Requests.{gave_up}
 use Rattle.gb_machine.specs.Sending.{put, queued, sent}
 use Rattle.gb_machine.specs.Wiring.{injected, shut_down, unwired, wired}
-use Rattle.gb_machine.specs.Host.{Host, Link, interface_of, with_link, with_new_interface}
+use Rattle.gb_machine.specs.Host.{control_of, Host, interface_of, with_link, with_new_interface}
 use Rattle.gb_machine.specs.HostServing.{host_serves}
 use Rattle.gb_formats.specs.Bridges.{credits_taken}
 use Rattle.gb_machine.specs.LineActions.{spent}
-use Rattle.gb_machine.specs.HostRefusals.{connect_refusal, disconnect_refusal}
+use Rattle.gb_machine.specs.HostRefusals.{connect_conditions, disconnect_conditions}
 use Rattle.gb_machine.specs.HostTurns.{host_turn}
 use Rattle.gb_machine.specs.Members.{IsIn}
 use Rattle.gb_machine.specs.Runs.{Moment}
@@ -54,9 +61,16 @@ pub turn-fits : (m : Moment) (b : Bus) (e : HostEvent) (h : Host) → InsertsAbs
 turn-fits m b (HostEvent.Inserted i) h absent cause fits = fits-inserted b i h fits (ap (interface_of i) cause.0 ∙ absent i cause.1)
 turn-fits m b (HostEvent.Removed i) h absent cause fits = fits-removed b i h fits
 turn-fits m b (HostEvent.Connect i c) h absent cause fits =
-    fits-connects b i c h fits (ap (connect_refusal i c) cause.0 ∙ else-first (connect_refusal i c m.before.host) _ cause.2) cause.3
+    fits-connects b i c h fits
+    (subst (λ g. AreUnmet (connect_conditions i c g)) (sym cause.0)
+    (front-unmet (connect_conditions i c m.before.host) ((has_no_label 1 m.before, no_label) ∷ [])
+    (free m.before (event.Connect i c) cause.2))) cause.3
 turn-fits m b (HostEvent.Disconnect i c) h absent cause fits =
-    fits-disconnects b i c h fits (ap (disconnect_refusal i c) cause.0 ∙ else-first (disconnect_refusal i c m.before.host) _ cause.2)
+    fits-disconnects b i c h fits
+    (subst (λ g. AreUnmet (disconnect_conditions i c g)) (sym cause.0)
+    (front-unmet (disconnect_conditions i c m.before.host)
+    ((holds_of (λ k. has_no_label k m.before) (control_of i m.before.host), no_label) ∷ [])
+    (free m.before (event.Disconnect i c) cause.2)))
 turn-fits m b (HostEvent.Ended n how) h absent cause fits = fits-ended b n how h fits
 
 -- what is known of live connections behind a turn
@@ -147,7 +161,7 @@ linked-kept m absent a (acts_opened w q rest free is) basis h =
     linked-opened a.state.bus a.state.host w q rest
     (λ c live. (each-in (IsMade a.state.bus) a.state.bus.connections c basis.bus.numbers.range live).1)
     (subst (Linked a.state.bus a.state.host) is h)
-linked-kept m absent a (acts_asked q n rest is) basis h = linked-asked q n rest a.state (subst (Linked a.state.bus a.state.host) is h)
+linked-kept m absent a (acts_asked q n rest is) basis h = linked-asked q n rest a.state (subst (Linked a.state.bus a.state.host) is.0 h)
 linked-kept m absent a (acts_failed q rest is quiet) basis h = linked-unsent q rest a.pending a.state.bus a.state.host is h
 linked-kept m absent a (serves k kind payload none) basis h =
     subst (Linked a.state.bus (host_serves k kind payload a.state.host).host) (sym none)

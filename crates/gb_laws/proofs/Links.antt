@@ -1,25 +1,30 @@
 -- Facts of the application processor's connections, as they go with the bus.
 use Rattle.std.proofs.Common.{◌≡◌, ◌≤◌, ◌<◌, ◌≢◌, ℕ, Bool, true, false, Some, None, List, [], ◌∷◌}
+use Rattle.gb_base.specs.declared.steps.Purpose.{Purpose}
+use Rattle.gb_base.specs.declared.steps.SequenceStep.{SequenceStep}
+use Rattle.gb_base.specs.declared.peers.Interface.{Interface}
+use Rattle.gb_base.specs.declared.peers.Link.{Link}
+use Rattle.gb_base.specs.declared.steps.SequenceStep.TheVariants as steps
 use Rattle.gb_base.specs.declared.end.End.TheVariants as end
 use Rattle.gb_base.specs.declared.entry.ConnState.{ConnState}
 use Rattle.gb_base.specs.declared.entry.ConnState.TheVariants as state
 use Rattle.gb_machine.specs.Arriving.{state_takes}
 use Rattle.gb_machine.specs.Bus.{Bus, Connection}
-use Rattle.gb_machine.specs.Host.{Host, Interface, Link, is_link}
+use Rattle.gb_machine.specs.Host.{Host, is_link}
 use Rattle.std.specs.List.{find}
 use Rattle.gb_machine.specs.Members.{EachTwo, IsIn}
-use Rattle.gb_machine.specs.SequenceSteps.{Purpose, SequenceStep, is_enumeration}
+use Rattle.gb_machine.specs.SequenceSteps.{Target, asks_control, is_enumeration, kind_of, payload_of}
 use Rattle.gb_machine.specs.Turns.{Act, Asking, Making, Turn}
 
 -- ---- one connection
 
 -- the state of a connection while a step of its connect or close goes on
 abbrev pub IsAtStep : SequenceStep → ConnState → Type 0
-IsAtStep SequenceStep.CreateConnection s = s ≡ state.Opening
-IsAtStep SequenceStep.TellConnected s = s ≡ state.Opening
-IsAtStep SequenceStep.TellDisconnecting s = s ≡ state.Closing
-IsAtStep SequenceStep.TellDisconnected s = s ≡ state.Closing
-IsAtStep SequenceStep.DestroyConnection s = s ≡ state.Closing
+IsAtStep steps.CreateConnection s = s ≡ state.Opening
+IsAtStep steps.TellConnected s = s ≡ state.Opening
+IsAtStep steps.TellDisconnecting s = s ≡ state.Closing
+IsAtStep steps.TellDisconnected s = s ≡ state.Closing
+IsAtStep steps.DestroyConnection s = s ≡ state.Closing
 IsAtStep _ s = ⊥
 
 -- A connection that a sequence waits on isn't Control, and is opening or closing as that is.
@@ -28,12 +33,12 @@ IsWaiting l = (w : ℕ × SequenceStep) → l.awaits ≡ Some w → (l.cport ≢
 
 -- a step of an enumeration before its Control connection is made
 abbrev pub is_early : SequenceStep → Bool
-is_early SequenceStep.EnableVsys = true
-is_early SequenceStep.EnableRefclk = true
-is_early SequenceStep.EnableUnipro = true
-is_early SequenceStep.Activate = true
-is_early SequenceStep.GiveDevice = true
-is_early SequenceStep.CreateRoute = true
+is_early steps.EnableVsys = true
+is_early steps.EnableRefclk = true
+is_early steps.EnableUnipro = true
+is_early steps.Activate = true
+is_early steps.GiveDevice = true
+is_early steps.CreateRoute = true
 is_early _ = false
 
 -- an interface has no Control connection
@@ -124,10 +129,22 @@ IsDue step p h = IsDueBy (is_enumeration step) step p h
 
 -- ---- acts that are pending
 
+-- A request of a step: it has the type and payload of that, speaks of its interface and CPort, and
+-- goes on the supervisory controller's connection, unless it goes to a module's Control.
+pub record IsFormed (q : Asking) : Type 0 where
+  pub target : Target
+  pub kind : q.kind ≡ kind_of q.purpose.step
+  pub payload : q.payload ≡ payload_of q.purpose.step target
+  pub intf : target.intf ≡ q.purpose.intf
+  pub created : q.purpose.step ≡ steps.CreateConnection
+      → (target.cport ≢ 0) × (target.cport ≤ 4095)
+  pub on : asks_control q.purpose.step ≡ false → q.on ≡ 1
+  pub control : asks_control q.purpose.step ≡ true → 2 ≤ q.on
+
 -- The step with which a connection is made.
 pub data IsMaking (w : Making) : SequenceStep → Type 0 where
-  control : w.cport ≡ 0 → IsMaking w SequenceStep.CreateControl
-  connection : w.cport ≢ 0 → IsMaking w SequenceStep.CreateConnection
+  control : w.cport ≡ 0 → IsMaking w steps.CreateControl
+  connection : w.cport ≢ 0 → IsMaking w steps.CreateConnection
 
 -- A connection may be made: its interface is known, and no other connection has its ends.
 pub record IsFree (w : Making) (q : Asking) (h : Host) : Type 0 where
@@ -141,10 +158,11 @@ pub record IsFree (w : Making) (q : Asking) (h : Host) : Type 0 where
   pub at : (l : Link) → IsIn l h.links → is_link w.intf w.cport l ≡ false
   pub idle : w.cport ≡ 0 → IsResting w.intf h.interfaces
   pub present : IsPresent w.intf h.interfaces
+  pub formed : IsFormed q
 
 -- an act that is pending, with those behind it
 abbrev pub IsPending : Host → Act → List Act → Type 0
-IsPending h (Act.Ask q) rest = IsDue q.purpose.step q.purpose h × (rest ≡ [])
+IsPending h (Act.Ask q) rest = IsDue q.purpose.step q.purpose h × (rest ≡ []) × IsFormed q
 IsPending h (Act.Open w q) rest = IsFree w q h × (rest ≡ [])
 IsPending h (Act.Shut k) rest = (2 ≤ k) × ((l : Link) → IsIn l h.links → l.connection ≡ k → IsDeaf l)
 IsPending h (Act.Leave k) rest = 2 ≤ k

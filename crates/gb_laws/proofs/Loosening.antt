@@ -8,7 +8,7 @@ use Rattle.gb_invariants.proofs.Counts.{one, times-cons}
 use Rattle.gb_invariants.proofs.Lists.{in-filter, in-pushed, in-without}
 use Rattle.gb_invariants.proofs.Outcomes.{same-number}
 use Rattle.gb_invariants.specs.Facts.{Loose}
-use Rattle.gb_laws.proofs.Points.{loose_held}
+use Rattle.gb_laws.proofs.PointParts.{loose_held}
 use Rattle.gb_machine.specs.Bus.{Item}
 use Rattle.gb_machine.specs.Holding.{held_on, held_without, is_held_on}
 use Rattle.gb_machine.specs.Lists.{nth, without}

@@ -5,6 +5,7 @@ use Rattle.std.specs.Prelude.{◌==◌, is_some}
 use Rattle.gb_base.specs.declared.end.End.{End}
 use Rattle.gb_base.specs.declared.event.Event.TheVariants as event
 use Rattle.gb_base.specs.declared.refusal.Refusal.{Refusal}
+use Rattle.gb_base.specs.declared.peers.Interface.{Interface}
 use Rattle.gb_invariants.proofs.Awaiting.{not-both}
 use Rattle.gb_invariants.proofs.Lists.{found-in}
 use Rattle.gb_invariants.proofs.Outcomes.{is-same, same-number}
@@ -17,18 +18,19 @@ use Rattle.gb_laws.proofs.LinkLists.{find-none}
 use Rattle.gb_laws.proofs.Linking.{InsertsAbsent, LinkedAt, linked-kept}
 use Rattle.gb_laws.proofs.Links.{IsPresent}
 use Rattle.gb_laws.proofs.Marks.{MarksFit, Reads, marks, reads-less}
-use Rattle.gb_laws.proofs.Points.{Basis, IsNoticed, IsOfSvc, Law, Point, resting, takes}
+use Rattle.gb_laws.proofs.Points.{IsOfSvc, Law, takes}
+use Rattle.gb_laws.proofs.PointParts.{Basis, IsNoticed, Point, resting}
 use Rattle.gb_laws.proofs.Removing.{delivered-state}
 use Rattle.gb_laws.proofs.Steps.{over-step}
-use Rattle.gb_laws.proofs.Stepping.{else-later}
+use Rattle.gb_machine.proofs.Conditions.{waits}
 use Rattle.gb_laws.proofs.Taking.{Taken, delivery-taken, insertion, none_taken, removal}
 use Rattle.gb_machine.specs.Bus.{Item, Place, place_of, queue}
 use Rattle.gb_machine.specs.Delivery.{popped}
 use Rattle.gb_machine.specs.Events.{decided}
-use Rattle.gb_machine.specs.Host.{Host, Interface, interface_of, is_intf}
+use Rattle.gb_machine.specs.Host.{Host, interface_of, is_intf}
 use Rattle.gb_machine.specs.Lists.{first}
 use Rattle.gb_machine.specs.Modules.{is_plugged}
-use Rattle.gb_machine.specs.Refusals.{deliver_refusal, empty_refusal, end_refusal, refusal}
+use Rattle.gb_machine.specs.Refusals.{refusal}
 use Rattle.gb_machine.specs.Runs.{IsMoment, Moment, after}
 use Rattle.gb_machine.specs.State.{State}
 use Rattle.gb_machine.specs.Turns.{HostEvent}
@@ -36,21 +38,21 @@ use Rattle.gb_machine.proofs.Opened.{machine_opened}
 
 -- ---- known interfaces
 
-present-some : (i : ℕ) (h : Host) → IsPresent i h.interfaces → is_some (interface_of i h) ≡ true
+pub present-some : (i : ℕ) (h : Host) → IsPresent i h.interfaces → is_some (interface_of i h) ≡ true
 present-some i h p = by (interface_of i h) refl
   where
     by : (o : Option Interface) → interface_of i h ≡ o → is_some o ≡ true
     by (Some x) e = refl
     by None e = absurd (not-both (is_intf i p.interface) (ap (λ n. n == i) p.is ∙ is-same i) (find-none (is_intf i) h.interfaces p.interface e p.known))
 
-some-present : (i : ℕ) (h : Host) → is_some (interface_of i h) ≡ true → IsPresent i h.interfaces
+pub some-present : (i : ℕ) (h : Host) → is_some (interface_of i h) ≡ true → IsPresent i h.interfaces
 some-present i h e = by (interface_of i h) refl e
   where
     by : (o : Option Interface) → interface_of i h ≡ o → is_some o ≡ true → IsPresent i h.interfaces
     by (Some x) f g = let k = found-in (is_intf i) h.interfaces x f in record { interface = x; known = k.0; is = same-number x.intf i k.1 }
     by None f g = absurd (not-both false g refl)
 
-some-none : (i : ℕ) (h : Host) → is_some (interface_of i h) ≡ false → interface_of i h ≡ None
+pub some-none : (i : ℕ) (h : Host) → is_some (interface_of i h) ≡ false → interface_of i h ≡ None
 some-none i h e = by (interface_of i h) e
   where
     by : (o : Option Interface) → is_some o ≡ false → o ≡ None
@@ -177,18 +179,9 @@ module _ (m : Moment) (one : IsMoment m.event) (basis : Basis (resting m.told m.
           marks-from m start (reframe _ (after m) (sym (delivered-state m at p item is named front free)) r.1.1)
           (λ i. subst (λ b. Taken m i (marks i m.before.bus) (marks i b)) (sym taken) (delivery-taken m basis links at p item i named is front))
 
-      waiting : (p : Place) → place_of at m.before.bus.connections ≡ Some p → (is : _) → queue p.side p.connection ≡ is → empty_refusal is ≡ None
-          → refusal m.before (event.Deliver at) ≡ None → MarksFit (after m)
-      waiting p named [] e f free = absurd cc
-      waiting p named (x ∷ xs) e f free = item_at p named x (ap first e) free
-
-      placed : (o : Option Place) → place_of at m.before.bus.connections ≡ o → deliver_refusal o ≡ None
-          → refusal m.before (event.Deliver at) ≡ None → MarksFit (after m)
-      placed None e f free = absurd cc
-      placed (Some p) e f free = waiting p e (queue p.side p.connection) refl f free
-
       by : (o : Option Refusal) → refusal m.before m.event ≡ o → MarksFit (after m)
       by (Some why) e = subst MarksFit (sym (refused-state m why e)) start
       by None e =
-          let free = ap (refusal m.before) (sym is) ∙ e in
-          placed (place_of at m.before.bus.connections) refl (else-later (end_refusal m.before at) _ free) free
+          let allowed = ap (refusal m.before) (sym is) ∙ e in
+          let w = waits m.before at allowed in
+          item_at w.place w.named w.item w.front allowed

@@ -1,17 +1,16 @@
 -- What the application processor takes notice of comes on the supervisory controller's connection.
 use Rattle.gb_laws.proofs.Marks.{notice_of}
-use Rattle.gb_machine.specs.Serving.{protocol_bad}
-use Rattle.std.proofs.Common.{◌≡◌, ℕ, Bool, true, false, cond, Option, Some, None, List, [], refl, sym, ap, ◌∙◌, subst}
+use Rattle.std.proofs.Common.{◌≡◌, ℕ, Bool, true, false, cond, Option, Some, None, List, [], refl, sym, ap, ◌∙◌, subst, ◌⊎◌, inl, inr}
 use Rattle.std.specs.Prelude.{Result, Ok, Err, ◌==◌, option_map}
 use Rattle.gb_base.specs.declared.end.End.TheVariants as end
 use Rattle.gb_base.specs.declared.end.Side.TheVariants as side
 use Rattle.gb_base.specs.declared.event.Event.TheVariants as event
-use Rattle.gb_formats.specs.GpioDevice.{irq_event}
-use Rattle.gb_formats.specs.GpioRecords.{GpioAsk, read_gpio_ask}
-use Rattle.gb_formats.specs.Records.{PayloadFault}
-use Rattle.gb_formats.specs.SvcRecords.{SvcAsk, read_svc_ask}
-use Rattle.gb_formats.specs.UartDevice.{credits_added, is_uart_own}
-use Rattle.gb_formats.specs.UartRecords.{UartAsk, read_uart_ask}
+use Rattle.gb_base.specs.declared.peers.Link.{Link}
+use Rattle.gb_formats.specs.GpioRecords.{GpioAsk, read_gpio_ask_of_module}
+use Rattle.gb_formats.specs.Records.{PayloadFault, Row, if_own, read_row, row_of}
+use Rattle.gb_formats.specs.SvcRecords.{SvcAsk, read_svc_ask, read_svc_ask_of_svc, svc_asks}
+use Rattle.gb_formats.specs.UartDevice.{credits_added}
+use Rattle.gb_formats.specs.UartRecords.{UartAsk, read_uart_ask_of_module}
 use Rattle.gb_invariants.proofs.Awaiting.{not-both, same-some}
 use Rattle.gb_invariants.proofs.ItemChanges.{first-in}
 use Rattle.gb_invariants.proofs.Numbers.{found-by_number}
@@ -21,15 +20,14 @@ use Rattle.gb_laws.proofs.LinkBuses.{Linked}
 use Rattle.gb_laws.proofs.LinkLists.{find-none}
 use Rattle.gb_laws.proofs.Links.{IsKnown, leaving, linked, supervisory}
 use Rattle.gb_laws.proofs.Places.{place-is}
-use Rattle.gb_laws.proofs.Points.{Basis, IsNoticed, resting}
+use Rattle.gb_laws.proofs.PointParts.{Basis, IsNoticed, resting}
 use Rattle.gb_machine.specs.Bus.{Ask, Bus, Connection, Item, Raw, RawReply, Reply, Request, connection_of, end_of, queue, request_of}
-use Rattle.gb_machine.specs.Host.{Host, Link, link_of, first_host}
+use Rattle.gb_machine.specs.Host.{Host, link_of, first_host}
 use Rattle.gb_machine.specs.HostServing.{HostServed, credited, host_refuses, interrupted, notified_by, served_on, serves_gpio, serves_svc, serves_uart, uart_notified_by}
 use Rattle.gb_machine.specs.Incoming.{Incoming, incoming, request_in}
 use Rattle.gb_machine.specs.Lists.{first}
 use Rattle.gb_machine.specs.Runs.{Moment}
 use Rattle.gb_machine.specs.SvcQueues.{inserts, items_in, removes, svc_items}
-use Rattle.gb_machine.specs.SvcTable.{is_svc_own}
 use Rattle.gb_machine.specs.Turns.{HostEvent}
 
 -- ---- nothing is noticed on the connection of a module
@@ -57,11 +55,9 @@ unnoticed-uart h l (Ok _) = refl
 pub unnoticed : (l : Link) (kind : ℕ) (payload : List ℕ) (h : Host) → (served_on (Some l) kind payload h).notices ≡ None
 unnoticed l kind payload h =
     unnoticed-if (l.protocol == 0x02) (serves_gpio l kind payload h) _
-    (unnoticed-if (kind == irq_event) (interrupted l (read_gpio_ask kind payload) h) (host_refuses _ h)
-    (unnoticed-gpio h l (read_gpio_ask kind payload)) refl)
+    (unnoticed-gpio h l (read_gpio_ask_of_module kind payload))
     (unnoticed-if (l.protocol == 0x04) (serves_uart l kind payload h) (host_refuses _ h)
-    (unnoticed-if (is_uart_own kind) (uart_notified_by l (read_uart_ask kind payload) h) (host_refuses _ h)
-    (unnoticed-uart h l (read_uart_ask kind payload)) refl) refl)
+    (unnoticed-uart h l (read_uart_ask_of_module kind payload)) refl)
 
 -- ---- what is noticed is what the supervisory controller tells
 
@@ -81,14 +77,32 @@ told-by e (Ok (SvcAsk.ProtocolVersion major minor)) h f = absurd cc
 told-by e (Ok (SvcAsk.Hello endo intf)) h f = absurd cc
 told-by e (Ok _) h f = absurd cc
 
+-- a request of the far side is read as any other is, or is none of its
+far-reads : {A : Type 0} (row : Option (Row A)) (payload : List ℕ)
+    → (read_row (if_own row) payload ≡ read_row row payload) ⊎ (read_row (if_own row) payload ≡ Err PayloadFault.UnknownKind)
+far-reads None payload = inl refl
+far-reads (Some row) payload = by row.own
+  where
+    by : (own : Bool) → (read_row (cond own (Some row) None) payload ≡ read_row (Some row) payload)
+        ⊎ (read_row (cond own (Some row) None) payload ≡ Err PayloadFault.UnknownKind)
+    by true = inl refl
+    by false = inr refl
+
 told-svc : (e : HostEvent) (kind : ℕ) (payload : List ℕ) (h : Host) → (serves_svc kind payload h).notices ≡ Some e
     → Tells e (read_svc_ask kind payload)
-told-svc e kind payload h f = by (is_svc_own kind) f
+told-svc e kind payload h f = by (far-reads (row_of svc_asks kind) payload) (told-by e (read_svc_ask_of_svc kind payload) h f)
   where
-    by : (t : Bool) → (cond t (notified_by (read_svc_ask kind payload) h) (host_refuses protocol_bad h)).notices ≡ Some e
-        → Tells e (read_svc_ask kind payload)
-    by true f = told-by e (read_svc_ask kind payload) h f
-    by false f = absurd cc
+    none : (e : HostEvent) → Tells e (Err PayloadFault.UnknownKind) → Tells e (read_svc_ask kind payload)
+    none (HostEvent.Inserted i) t = absurd cc
+    none (HostEvent.Removed i) t = absurd cc
+    none (HostEvent.Connect i c) t = absurd t
+    none (HostEvent.Disconnect i c) t = absurd t
+    none (HostEvent.Ended n how) t = absurd t
+
+    by : (read_svc_ask_of_svc kind payload ≡ read_svc_ask kind payload) ⊎ (read_svc_ask_of_svc kind payload ≡ Err PayloadFault.UnknownKind)
+        → Tells e (read_svc_ask_of_svc kind payload) → Tells e (read_svc_ask kind payload)
+    by (inl same) t = subst (Tells e) same t
+    by (inr other) t = none e (subst (Tells e) other t)
 
 -- What is noticed at a moment: the front request on the supervisory controller's connection tells it.
 pub record IsToldBySvc (m : Moment) (e : HostEvent) : Type 0 where
@@ -108,7 +122,7 @@ number-one b h c (linked l i of) none =
     (find-none (λ k. k.connection == c.number) h.links l none i))
 
 -- a request that waits and has a number was made
-numbered-ask : (item : Item) (b : Bus) (q : Incoming) → is_numbered item ≡ true → request_in item b ≡ Some q
+pub numbered-ask : (item : Item) (b : Bus) (q : Incoming) → is_numbered item ≡ true → request_in item b ≡ Some q
     → (n : ℕ) × (r : Request) × (item ≡ Ask n) × (request_of n b ≡ Some r) × (incoming n r ≡ q)
 numbered-ask (Ask n) b q numbered made = by (request_of n b) refl made
   where
@@ -122,7 +136,7 @@ numbered-ask (RawReply label kind result payload) b q numbered made = absurd cc
 
 -- what is noticed doesn't depend on the application processor
 pub notice-any : (kind : ℕ) (payload : List ℕ) (h g : Host) → (serves_svc kind payload h).notices ≡ (serves_svc kind payload g).notices
-notice-any kind payload h g = by (is_svc_own kind)
+notice-any kind payload h g = read (read_svc_ask_of_svc kind payload)
   where
     read : (r : Result SvcAsk PayloadFault) → (notified_by r h).notices ≡ (notified_by r g).notices
     read (Err fault) = refl
@@ -131,11 +145,6 @@ notice-any kind payload h g = by (is_svc_own kind)
     read (Ok (SvcAsk.ProtocolVersion major minor)) = refl
     read (Ok (SvcAsk.Hello endo intf)) = refl
     read (Ok _) = refl
-
-    by : (t : Bool) → (cond t (notified_by (read_svc_ask kind payload) h) (host_refuses protocol_bad h)).notices
-        ≡ (cond t (notified_by (read_svc_ask kind payload) g) (host_refuses protocol_bad g)).notices
-    by true = read (read_svc_ask kind payload)
-    by false = refl
 
 -- What is noticed at a moment stands in front on the supervisory controller's connection.
 pub record SvcFront (m : Moment) (e : HostEvent) (n : IsNoticed m e) : Type 0 where

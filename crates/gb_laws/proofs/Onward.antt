@@ -1,5 +1,23 @@
 -- What stays from one point of a step to the next: requests, the time, and what was unwired.
-use Rattle.std.proofs.Common.{◌≡◌, ◌≤◌, ◌≢◌, ℕ, Bool, true, false, cond, [], ◌∷◌, refl, sym, ap, ◌∙◌, ⊎_elim, subst, arith}
+use Rattle.std.proofs.Common.{
+  ◌≡◌,
+  ◌≤◌,
+  ◌≢◌,
+  ℕ,
+  Bool,
+  true,
+  false,
+  cond,
+  [],
+  ◌∷◌,
+  refl,
+  sym,
+  ap,
+  ◌∙◌,
+  ⊎_elim,
+  subst,
+  arith,
+}
 use Rattle.gb_base.specs.declared.end.Side.{Side}
 use Rattle.gb_base.specs.declared.end.Side.TheVariants as side
 use Rattle.gb_invariants.proofs.Awaiting.{not-both, sent-request}
@@ -9,7 +27,38 @@ use Rattle.gb_invariants.proofs.Selves.{front-self, put-self}
 use Rattle.gb_laws.proofs.Awaited.{awaited-rest}
 use Rattle.gb_laws.proofs.Owning.{KeepsRequests}
 use Rattle.gb_laws.proofs.Places.{at_first-back}
-use Rattle.gb_laws.proofs.Points.{Change, Point, Untouched, Unwired, Wired, acts_asked, acts_failed, acts_left, acts_opened, acts_shut, acts_told, answers, asks, binds, changed, drops, forgets, frees, gives_up, holds, injects, names, others, passes, replies, serves, spends, takes, takes_held, tells, turns, unwires, wires}
+use Rattle.gb_laws.proofs.Points.{
+  Change,
+  acts_asked,
+  acts_failed,
+  acts_left,
+  acts_opened,
+  acts_shut,
+  acts_told,
+  answers,
+  asks,
+  binds,
+  changed,
+  drops,
+  forgets,
+  frees,
+  gives_up,
+  holds,
+  injects,
+  names,
+  others,
+  passes,
+  replies,
+  serves,
+  spends,
+  takes,
+  takes_held,
+  tells,
+  turns,
+  unwires,
+  wires,
+}
+use Rattle.gb_laws.proofs.PointParts.{Point, Untouched, Unwired, Wired}
 use Rattle.gb_machine.specs.Bus.{Bus, Connection, Item, Raw, has_number, other_side, request_of}
 use Rattle.gb_machine.specs.Delivery.{without_front}
 use Rattle.gb_machine.specs.Incoming.{reply_item}

@@ -16,13 +16,13 @@ use Rattle.gb_laws.proofs.Owning.{KeepsRequests, at-ends}
 use Rattle.gb_laws.proofs.Since.{since-opened}
 use Rattle.gb_machine.specs.Bus.{Ask, Bus, Connection, Item, Raw, RawReply, Reply, Request, other_side, request_of}
 use Rattle.gb_machine.specs.Incoming.{Incoming, incoming, incoming_raw, is_request, raw_request, reply_entry, reply_item, request_in}
-use Rattle.gb_machine.specs.LawsHotPlug.{IsMadeOn, IsOwnItem, IsRepliedOn, told_since}
+use Rattle.gb_machine.specs.LawsHotPlug.{IsAskedOn, IsOwnItem, IsRepliedOn, told_since}
 use Rattle.gb_machine.specs.Members.{IsIn}
 use Rattle.gb_machine.specs.Serving.{Answer}
 
 -- the reply to a request that was made on the connection
 asked-reply : (told : List Entry) (b after : Bus) (x c d : Connection) (at : Side) (n : ℕ) (q : Request) (r : Answer) → SameEnds x d
-    → c.number ≡ d.number → KeepsRequests b after → request_of n b ≡ Some q → IsMadeOn c.number (other_side at) n b
+    → c.number ≡ d.number → KeepsRequests b after → request_of n b ≡ Some q → IsAskedOn c (other_side at) n told b
     → IsRepliedOn d (other_side at) n r.result r.payload (told ++ reply_entry at x (incoming n q) r ∷ []) after
 asked-reply told b after x c d at n q r ends number keeps made own =
     let same = same-some own.0 q (sym own.1 ∙ made) in

@@ -1,6 +1,6 @@
 -- Each item is of its own connection, at every point.
 use Rattle.std.proofs.Common.{◌≡◌, ◌⊎◌, ℕ, true, false, Option, Some, None, [], ◌∷◌, ◌++◌, length, map, refl, sym, ap, ◌∙◌, inl, inr, ⊎_elim, subst, append-nil, arith}
-use Rattle.std.specs.Prelude.{◌==◌}
+use Rattle.std.specs.Prelude.{◌==◌, not}
 use Rattle.gb_base.specs.declared.end.End.TheVariants as end
 use Rattle.gb_base.specs.declared.end.Side.{Side}
 use Rattle.gb_base.specs.declared.end.Side.TheVariants as side
@@ -9,21 +9,23 @@ use Rattle.gb_base.specs.declared.entry.Entry.{Entry}
 use Rattle.gb_base.specs.declared.entry.Entry.TheVariants as entry
 use Rattle.gb_invariants.proofs.Apart.{SameEnds}
 use Rattle.gb_invariants.proofs.Awaiting.{sent-new, sent-request}
-use Rattle.gb_invariants.proofs.ItemChanges.{asked_on-self, first-in, other-other}
+use Rattle.gb_invariants.proofs.ItemChanges.{asked_on-self, first-in}
 use Rattle.gb_invariants.proofs.Labels.{asked_on}
 use Rattle.gb_invariants.proofs.Lists.{in-pushed, in-without}
-use Rattle.gb_invariants.proofs.Numbers.{in-changed, same-connection}
+use Rattle.gb_invariants.proofs.Numbers.{found-number, in-changed, same-connection}
 use Rattle.gb_invariants.proofs.Selves.{SameSelf, both-self, drawn-queue, front-queue, front-self, put-queue, put-self}
 use Rattle.gb_invariants.specs.Facts.{Loose}
 use Rattle.gb_laws.proofs.Awaited.{awaited-rest}
 use Rattle.gb_laws.proofs.Basics.{loose_of, taken-is}
 use Rattle.gb_laws.proofs.Loosening.{fewer-held, fewer-taken, fewer-without, held-at}
+use Rattle.gb_laws.proofs.Onward.{drawn-wired}
 use Rattle.gb_laws.proofs.OwnReplies.{own-reply}
-use Rattle.gb_laws.proofs.Owning.{IsLooseOf, OwnTold, ends-of, ends-same, own-changed, own-more, own-still, own-with}
+use Rattle.gb_laws.proofs.Owning.{IsLooseOf, OwnTold, ends-of, ends-same, own-changed, own-more, own-new, own-still, own-with}
 use Rattle.gb_laws.proofs.Places.{IsPlace, module-far, place-is}
-use Rattle.gb_laws.proofs.Points.{Basis, Change, Hand, Point, asked_told, acts_asked, acts_failed, acts_left, acts_opened, acts_shut, acts_told, answers, asks, binds, changed, drops, forgets, frees, gives_up, holds, injects, loose, loose_hand, loose_held, names, others, passes, replies, serves, spends, takes, takes_held, tells, turns, unwires, wires}
+use Rattle.gb_laws.proofs.Points.{Change, acts_asked, acts_failed, acts_left, acts_opened, acts_shut, acts_told, answers, asks, binds, changed, drops, forgets, frees, gives_up, holds, injects, names, others, passes, replies, serves, spends, takes, takes_held, tells, turns, unwires, wires}
+use Rattle.gb_laws.proofs.PointParts.{Basis, Hand, Point, asked_told, loose, loose_hand, loose_held}
 use Rattle.gb_laws.proofs.Since.{IsOpened, opened-more, opening-opened}
-use Rattle.gb_machine.specs.Bus.{Ask, Bus, Connection, Item, Raw, end_of, has_number, next_number, other_side, queue, request_of}
+use Rattle.gb_machine.specs.Bus.{Ask, Bus, Connection, Item, Raw, connection_of, end_of, has_number, next_number, other_side, queue, request_of}
 use Rattle.gb_machine.specs.Delivery.{popped, replied, without_front}
 use Rattle.gb_machine.specs.Holding.{held_on}
 use Rattle.gb_machine.specs.Incoming.{reply_entry, reply_item}
@@ -31,7 +33,7 @@ use Rattle.gb_machine.specs.LawsHotPlug.{IsOwnItem, told_since}
 use Rattle.gb_machine.specs.Lists.{nth, without}
 use Rattle.gb_machine.specs.Members.{IsIn}
 use Rattle.gb_machine.specs.Runs.{Moment}
-use Rattle.gb_machine.specs.Sending.{Draft, put, queued, requested, sent}
+use Rattle.gb_machine.specs.Sending.{Draft, drawn, is_wired, put, queued, sent}
 use Rattle.gb_machine.specs.Wiring.{attached, injected, new_connection, next_connection}
 
 -- what isn't in hand
@@ -50,27 +52,42 @@ dropped-loose a l i = by a.hand refl
     by (Some x) e = held-loose a x l e (inr i)
 
 -- where a request is made
-own-asked : (a after : Point) (d : Draft) (c : Connection) (label : ℕ) → Basis a → after.told ≡ a.told ++ asked_told d c label a.state.bus
+own-asked : (a after : Point) (d : Draft) (c : Connection) (label : ℕ) → Basis a
+    → connection_of d.connection a.state.bus ≡ Some c
+    → after.told ≡ a.told ++ asked_told d c label a.state.bus
     → after.state.bus ≡ sent d label a.state.bus → IsLooseOf a after → OwnTold a → OwnTold after
-own-asked a after d c label basis told bus fewer h =
-    own-with a after (asked_told d c label a.state.bus) d.connection (asked_on d label a.state.bus) basis.bus.numbers told
+own-asked a after d c label basis found told bus fewer h =
+    own-with a after (asked_told d c label a.state.bus) d.connection (asked_on d label a.state.bus)
+    basis.bus.numbers told
     (λ n r made. ap (request_of n) bus ∙ sent-request d label a.state.bus n r made)
     (ap (λ (b : Bus). b.connections) bus)
-    (λ x. ends-of x (asked_on d label a.state.bus x) (asked_on-self d label a.state.bus x)) items (λ l i. inl (fewer l i)) h
+    (λ x. ends-of x (asked_on d label a.state.bus x) (asked_on-self d label a.state.bus x)) items
+    (λ l i. inl (fewer l i)) h
   where
-    items : (x : Connection) (at : Side) (item : Item) → IsIn x a.state.bus.connections → x.number ≡ d.connection
-        → IsIn item (queue at (asked_on d label a.state.bus x))
-        → IsIn item (queue at x) ⊎ IsOwnItem after.told after.state.bus (asked_on d label a.state.bus x) at item
+    there : (IsIn c a.state.bus.connections) × (c.number ≡ d.connection)
+    there = found-number d.connection a.state.bus c found
+
+    items : (x : Connection) (at : Side) (item : Item) → IsIn x a.state.bus.connections
+        → x.number ≡ d.connection → IsIn item (queue at (asked_on d label a.state.bus x))
+        → IsIn item (queue at x)
+        ⊎ IsOwnItem after.told after.state.bus (asked_on d label a.state.bus x) at item
     items x at item live on i =
+        let y = asked_on d label a.state.bus x in
+        let self = asked_on-self d label a.state.bus x in
+        let same = same-connection a.state.bus.connections c x basis.bus.numbers.rise there.0 live
+        (there.1 ∙ sym on) in
         ⊎_elim (λ old. inl (subst (λ is. IsIn item is) (drawn-queue at d label x) old))
-        (λ new. inr (subst (λ s. IsOwnItem after.told after.state.bus (asked_on d label a.state.bus x) s item) (sym new.0)
-        (subst (λ y. IsOwnItem after.told after.state.bus (asked_on d label a.state.bus x) (other_side d.side) y) (sym new.1) (
-          requested d label,
-          ap (request_of (next_number a.state.bus)) bus ∙ sent-new d label a.state.bus,
-          sym ((asked_on-self d label a.state.bus x).number ∙ on),
-          sym (other-other d.side),
-        ))))
-        (put-queue at (other_side d.side) (Ask (next_number a.state.bus)) item (Rattle.gb_machine.specs.Sending.drawn d label x) i)
+        (λ new. inr (subst (λ t. IsOwnItem t after.state.bus y at item) (sym told)
+        (subst (λ s. IsOwnItem (a.told ++ asked_told d c label a.state.bus) after.state.bus y s item)
+        (sym new.0)
+        (subst (λ z. IsOwnItem (a.told ++ asked_told d c label a.state.bus) after.state.bus y
+        (other_side d.side) z) (sym new.1)
+        (own-new a.told a.state.bus after.state.bus d c y label
+        (subst (λ z. SameEnds z y) (sym same) (ends-of x y self)) (self.number ∙ on)
+        (ap (λ o. not (is_wired o)) found ∙ ap (λ (z : Connection). not z.wired) same
+        ∙ ap not (sym (drawn-wired d label x) ∙ new.2))
+        (ap (request_of (next_number a.state.bus)) bus ∙ sent-new d label a.state.bus))))))
+        (put-queue at (other_side d.side) (Ask (next_number a.state.bus)) item (drawn d label x) i)
 
 wired-queue : (c : Connection) (s : Side) (x : Item) → IsIn x (queue s (record c { wired = true })) → IsIn x (queue s c)
 wired-queue c side.Ap x i = i
@@ -86,8 +103,8 @@ cleared-queue c side.Far x i = absurd i
 
 pub own-kept : (m : Moment) (a : Point) (x : Change m a) → Basis a → OwnTold a → OwnTold (changed m a x)
 own-kept m a (tells e quiet) basis h = own-still a _ (e ∷ []) refl (λ k r made. made) refl (λ l i. i) h
-own-kept m a (asks d c label free live drawn who) basis h = own-asked a _ d c label basis refl refl (λ l i. i) h
-own-kept m a (names name d c label free live drawn host) basis h = own-asked a _ d c label basis refl refl (λ l i. i) h
+own-kept m a (asks d c label free live is who) basis h = own-asked a _ d c label basis live refl refl (λ l i. i) h
+own-kept m a (names name d c label free live is host) basis h = own-asked a _ d c label basis live refl refl (λ l i. i) h
 own-kept m a (binds x y n is) basis h = own-still a _ [] refl (λ k r made. made) refl (λ l i. i) h
 own-kept m a (frees name) basis h = own-still a _ [] refl (λ k r made. made) refl (λ l i. i) h
 own-kept m a (takes at p item free start is named front) basis h =

@@ -1,23 +1,24 @@
 -- Each item was put on its own connection, by a request, a reply or an injection that was told.
-use Rattle.std.proofs.Common.{◌≡◌, ◌⊎◌, ℕ, Some, None, List, ◌++◌, length, refl, sym, ◌∙◌, inl, ⊎_elim, subst}
+use Rattle.std.proofs.Common.{◌≡◌, ◌⊎◌, ℕ, Bool, false, Some, None, List, ◌++◌, length, refl, sym, ap, ◌∙◌, inl, ⊎_elim, subst}
 use Rattle.gb_base.specs.declared.end.End.{End}
 use Rattle.gb_base.specs.declared.end.End.TheVariants as end
 use Rattle.gb_base.specs.declared.end.Side.{Side}
 use Rattle.gb_base.specs.declared.end.Side.TheVariants as side
 use Rattle.gb_base.specs.declared.entry.Entry.{Entry}
 use Rattle.gb_base.specs.declared.entry.Entry.TheVariants as entry
-use Rattle.gb_formats.specs.Message.{message_size, response, spelling}
-use Rattle.gb_invariants.proofs.Lists.{in-front}
+use Rattle.gb_formats.specs.Message.{message_size, request, response, spelling}
+use Rattle.gb_invariants.proofs.Lists.{in-behind, in-front}
 use Rattle.gb_invariants.proofs.Apart.{SameEnds}
 use Rattle.gb_invariants.proofs.Numbers.{in-changed}
 use Rattle.gb_invariants.proofs.Selves.{SameSelf}
 use Rattle.gb_invariants.specs.Facts.{Loose, NumbersRise}
-use Rattle.gb_laws.proofs.Points.{Point, loose}
+use Rattle.gb_laws.proofs.PointParts.{Point, asked_told, loose}
 use Rattle.gb_laws.proofs.Since.{IsOpened, opened-more, since-more}
-use Rattle.gb_machine.specs.Bus.{Ask, Bus, Connection, Item, Raw, RawReply, Reply, Request, has_number, queue, request_of}
+use Rattle.gb_machine.specs.Bus.{Ask, Bus, Connection, Item, Raw, RawReply, Reply, Request, end_of, has_number, next_number, other_side, queue, request_of}
 use Rattle.gb_machine.specs.LawsHotPlug.{IsOwnItem, told_since}
 use Rattle.gb_machine.specs.Lists.{at_first}
 use Rattle.gb_machine.specs.Members.{IsIn}
+use Rattle.gb_machine.specs.Sending.{Draft, is_lost, requested}
 
 -- items were told, and connections to modules were opened
 pub record OwnTold (a : Point) : Type 0 where
@@ -40,7 +41,24 @@ at-ends P c d h x =
 -- an item's own telling is so still once more is told, on a connection with the same ends
 pub own-more : (told es : List Entry) (b after : Bus) (c d : Connection) (at : Side) (item : Item) → SameEnds c d → KeepsRequests b after
     → IsOwnItem told b c at item → IsOwnItem (told ++ es) after d at item
-own-more told es b after c d at (Ask n) self keeps h = (h.0, keeps n h.0 h.1, h.2 ∙ sym self.number, h.3)
+own-more told es b after c d side.Ap (Ask n) self keeps h = (
+  h.0,
+  keeps n h.0 h.1,
+  h.2 ∙ sym self.number,
+  h.3,
+  at-ends (λ k a p. IsIn (entry.Asked n p (end.Ap a) h.0.kind (message_size h.0.payload)
+      (spelling (request h.0.label h.0.kind h.0.payload)) false) (told ++ es)) c d self
+      (in-front _ told es h.4),
+)
+own-more told es b after c d side.Far (Ask n) self keeps h = (
+  h.0,
+  keeps n h.0 h.1,
+  h.2 ∙ sym self.number,
+  h.3,
+  at-ends (λ k a p. IsIn (entry.Asked n (end.Ap a) p h.0.kind (message_size h.0.payload)
+      (spelling (request h.0.label h.0.kind h.0.payload)) false) (told ++ es)) c d self
+      (in-front _ told es h.4),
+)
 own-more told es b after c d side.Ap (Reply n result payload) self keeps h = (
   h.0,
   keeps n h.0 h.1,
@@ -145,3 +163,43 @@ own-with a after es k change numbers told keeps same ends items hung h = own-cha
     }))
     (in-changed a.state.bus.connections k change c numbers.rise (subst (λ cs. IsIn c cs) same live)))
     hung h
+
+-- ---- where a request is made
+
+-- the request that is made on a wired connection is its own
+pub own-new : (told : List Entry) (b after : Bus) (d : Draft) (c y : Connection) (label : ℕ)
+    → SameEnds c y → y.number ≡ d.connection → is_lost d b ≡ false
+    → request_of (next_number b) after ≡ Some (requested d label)
+    → IsOwnItem (told ++ asked_told d c label b) after y (other_side d.side) (Ask (next_number b))
+own-new told b after d c y label ends on wired made = by d.side refl
+  where
+    entry_as : Side → Bool → Entry
+    entry_as s lost =
+        entry.Asked (next_number b) (end_of s c) (end_of (other_side s) c) d.kind
+        (message_size d.payload) (spelling (request label d.kind d.payload)) lost
+
+    told_as : (s : Side) → d.side ≡ s
+        → IsIn (entry_as s false) (told ++ asked_told d c label b)
+    told_as s e = in-behind (entry_as s false) told (asked_told d c label b)
+        (inl (ap (entry_as s) (sym wired) ∙ ap (λ t. entry_as t (is_lost d b)) (sym e)))
+
+    by : (s : Side) → d.side ≡ s
+        → IsOwnItem (told ++ asked_told d c label b) after y (other_side s) (Ask (next_number b))
+    by side.Ap e = (
+      requested d label,
+      made,
+      sym on,
+      e,
+      at-ends (λ k a p. IsIn (entry.Asked (next_number b) (end.Ap a) p d.kind
+          (message_size d.payload) (spelling (request label d.kind d.payload)) false)
+          (told ++ asked_told d c label b)) c y ends (told_as side.Ap e),
+    )
+    by side.Far e = (
+      requested d label,
+      made,
+      sym on,
+      e,
+      at-ends (λ k a p. IsIn (entry.Asked (next_number b) p (end.Ap a) d.kind
+          (message_size d.payload) (spelling (request label d.kind d.payload)) false)
+          (told ++ asked_told d c label b)) c y ends (told_as side.Far e),
+    )

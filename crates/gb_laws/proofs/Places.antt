@@ -7,8 +7,10 @@ use Rattle.gb_base.specs.declared.end.Side.{Side}
 use Rattle.gb_base.specs.declared.end.Side.TheVariants as side
 use Rattle.gb_invariants.proofs.Awaiting.{same-some}
 use Rattle.gb_invariants.proofs.Outcomes.{both-true, same-number}
-use Rattle.gb_laws.proofs.Points.{IsLive}
-use Rattle.gb_machine.specs.Bus.{Bus, Connection, Item, Place, end_of, has_number, or_else, place_of, same_end, side_at}
+use Rattle.gb_invariants.proofs.Lists.{in-at_first}
+use Rattle.gb_laws.proofs.Points.{IsAfterReply, IsLive, replied_to, unreplied}
+use Rattle.gb_machine.specs.Bus.{Bus, Connection, Item, Place, end_of, has_number, or_else, other_side, place_of, same_end, side_at}
+use Rattle.gb_machine.specs.Incoming.{Incoming, reply_item}
 use Rattle.gb_machine.specs.Delivery.{replied}
 use Rattle.gb_machine.specs.Lists.{at_first}
 use Rattle.gb_machine.specs.Members.{IsIn}
@@ -115,3 +117,41 @@ lives-replied k at item b n t h =
       },
       refl,
     )
+
+-- each connection was there, wired or not as it is, with its far end
+abbrev pub ComesFrom : Bus → Bus → Type 0
+ComesFrom b after = (c : Connection) → IsIn c after.connections
+    → (x : Connection) × IsIn x b.connections × (x.wired ≡ c.wired) × (x.peer ≡ c.peer)
+
+comes-replied : (k : ℕ) (at : Side) (item : Item) (b : Bus) → ComesFrom b (replied k at item b)
+comes-replied k at item b c live =
+    ⊎_elim (λ o. (c, o, refl, refl))
+    (λ w. let s = same w.0 at w.0.wired in (
+      w.0,
+      w.1,
+      sym (ap (λ (x : Connection). x.wired) w.3 ∙ s.0),
+      sym (ap (λ (x : Connection). x.peer) w.3 ∙ s.1),
+    ))
+    (in-at_first (has_number k) (put at item) b.connections c live)
+  where
+    same : (x : Connection) (s : Side) (w : Bool)
+        → ((cond w (queued s item x) x).wired ≡ x.wired)
+        × ((cond w (queued s item x) x).peer ≡ x.peer)
+    same x side.Ap true = (refl, refl)
+    same x side.Far true = (refl, refl)
+    same x s false = (refl, refl)
+
+-- once what was taken was replied to, or not
+pub lives-after : {k : ℕ} {at : Side} {q : Incoming} {b after : Bus} → IsAfterReply k at q b after
+    → LivesOn b after
+lives-after {k} {at} {q} {b} (unreplied e) =
+    subst (LivesOn b) (sym e) (λ n t l. (l, refl))
+lives-after {k} {at} {q} {b} (replied_to r e) =
+    subst (LivesOn b) (sym e) (lives-replied k (other_side at) (reply_item q r) b)
+
+pub comes-after : {k : ℕ} {at : Side} {q : Incoming} {b after : Bus} → IsAfterReply k at q b after
+    → ComesFrom b after
+comes-after {k} {at} {q} {b} (unreplied e) =
+    subst (ComesFrom b) (sym e) (λ c live. (c, live, refl, refl))
+comes-after {k} {at} {q} {b} (replied_to r e) =
+    subst (ComesFrom b) (sym e) (comes-replied k (other_side at) (reply_item q r) b)

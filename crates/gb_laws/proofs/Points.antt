@@ -1,5 +1,24 @@
--- Points within the step of an event, and the single changes that lead from one to the next.
-use Rattle.std.specs.Prelude.{◌≡◌, ◌⊎◌, ◌≤◌, ◌≢◌, ℕ, ◌+◌, Bool, true, false, Option, Some, None, List, [], ◌∷◌, ◌++◌, map, length}
+-- The single changes that lead from one point within the step of an event to the next.
+use Rattle.std.specs.Prelude.{
+  ◌≡◌,
+  ◌⊎◌,
+  ◌≢◌,
+  ℕ,
+  ◌+◌,
+  nat_lt,
+  Bool,
+  true,
+  false,
+  Option,
+  Some,
+  None,
+  List,
+  [],
+  ◌∷◌,
+  map,
+  length,
+}
+use Rattle.gb_base.specs.declared.peers.Link.{Link}
 use Rattle.gb_base.specs.declared.bridge.BridgeAsk.{BridgeAsk}
 use Rattle.gb_base.specs.declared.bridge.Reading.TheVariants as reading
 use Rattle.gb_base.specs.declared.end.End.{End}
@@ -14,175 +33,74 @@ use Rattle.gb_base.specs.declared.event.Event.TheVariants as event
 use Rattle.gb_base.specs.declared.name.Name.{Name}
 use Rattle.gb_base.specs.declared.outcome.Outcome.{Outcome}
 use Rattle.gb_base.specs.declared.outcome.Outcome.TheVariants as outcome
-use Rattle.gb_invariants.proofs.Selves.{SameSelf}
-use Rattle.gb_invariants.specs.Facts.{BusFits, Loose}
 use Rattle.gb_machine.specs.Arriving.{reading_for, with_held}
-use Rattle.gb_machine.specs.Asking.{asked}
-use Rattle.gb_machine.specs.Bus.{Bus, Connection, Item, Place, Reply, Request, connection_of, is_open, next_number, other_side, place_of, queue, request_of}
+use Rattle.gb_machine.specs.Bus.{
+  Bus,
+  Connection,
+  Item,
+  Place,
+  Reply,
+  connection_of,
+  is_open,
+  next_number,
+  other_side,
+  place_of,
+  queue,
+  request_of,
+}
 use Rattle.gb_machine.specs.Delivery.{answered, ended, forgotten, popped, replied}
 use Rattle.gb_machine.specs.Failures.{unsent}
 use Rattle.gb_machine.specs.Holding.{held_on}
-use Rattle.gb_machine.specs.Host.{Host, Link, link_at, with_link}
-use Rattle.gb_machine.specs.HostActs.{with_awaited, with_made}
+use Rattle.gb_machine.specs.Host.{with_link}
+use Rattle.gb_machine.specs.HostActs.{host_draft, with_awaited, with_made}
 use Rattle.gb_machine.specs.HostServing.{host_serves}
-use Rattle.gb_machine.specs.HostTurns.{host_turn, links_of}
+use Rattle.gb_machine.specs.HostTurns.{host_turn}
 use Rattle.gb_machine.specs.Incoming.{Incoming, reply_entry, reply_item, request_in}
 use Rattle.gb_machine.specs.LineActions.{spent, with_fewer}
-use Rattle.gb_machine.specs.LawsBus.{NameRequests}
+use Rattle.gb_machine.specs.LawsBus.{is_awaited}
 use Rattle.gb_machine.specs.Lists.{first, nth}
-use Rattle.gb_machine.specs.Members.{Each, EachTwo, IsIn}
+use Rattle.gb_machine.specs.Members.{EachTwo, IsIn}
 use Rattle.gb_machine.specs.Modules.{is_plugged}
-use Rattle.gb_machine.specs.Ports.{is_powered}
+use Rattle.gb_machine.specs.Ports.{is_powered, level_of, unrouted}
 use Rattle.gb_machine.specs.Names.{bound, freed, named}
-use Rattle.gb_machine.specs.Refusals.{module_place, refusal}
+use Rattle.gb_machine.specs.Refusals.{is_reserved, module_place}
 use Rattle.gb_machine.specs.Requests.{gave_up, given_up_with, open_on, open_with}
 use Rattle.gb_machine.specs.Runs.{Moment}
 use Rattle.gb_machine.specs.Sending.{Draft, label_for, sent}
 use Rattle.gb_machine.specs.Serving.{Answer}
 use Rattle.gb_machine.specs.State.{Held, Plugged, Port, State}
+use Rattle.gb_formats.specs.SvcRecords.{read_svc_ask}
+use Rattle.gb_machine.specs.SvcQueues.{removes}
+use Rattle.gb_machine.specs.SvcTable.{Unroute, svc_step}
 use Rattle.gb_machine.specs.Turns.{Act, Asking, HostEvent, Making}
 use Rattle.gb_machine.specs.Wires.{disconnected_told, with_unwired, with_wired}
-use Rattle.gb_machine.specs.Wiring.{detached, injected, next_connection, shut_down}
-
--- ---- points
-
--- An item that was taken at a side of a connection and is being handled.
-pub record Hand : Type 0 where
-  pub connection : Connection  -- as it was before
-  pub side : Side
-  pub item : Item
-
--- What became of wires within a step: none changed, one was wired, or some were unwired.
-pub data Wires : Type 0 where
-  Untouched : Wires
-  Wired : Wires
-  Unwired : Wires
-
--- A point within the step of an event: what was told so far, the state, the item that is being
--- handled, the acts that the application processor has still to do, and what became of wires.
-pub record Point : Type 0 where
-  pub told : List Entry
-  pub state : State
-  pub hand : Option Hand
-  pub pending : List Act
-  pub wires : Wires
-
--- the point before an event, or behind one
-abbrev pub resting : List Entry → State → Point
-resting told s = record { told = told; state = s; hand = None; pending = []; wires = Untouched }
-
--- more is told, and the state is another
-abbrev pub on : State → List Entry → Point → Point
-on s es a = record a { told = a.told ++ es; state = s }
-
--- and the bus is another
-abbrev pub on_bus : Bus → List Entry → Point → Point
-on_bus b es a = on (record a.state { bus = b }) es a
-
--- ---- what is loose
-
--- an item in hand, as a loose one
-abbrev pub loose_hand : Option Hand → List Loose → List Loose
-loose_hand None loose = loose
-loose_hand (Some h) loose = record { connection = h.connection.number; side = h.side; item = h.item } ∷ loose
-
--- a held item, as a loose one
-abbrev pub loose_held : Held → Loose
-loose_held h = record { connection = h.connection; side = side.Far; item = h.item }
-
--- What is loose at a point: the item in hand, and what is held.
-abbrev pub loose : Point → List Loose
-loose a = loose_hand a.hand (map loose_held a.state.held)
-
--- ---- the basis
-
--- The connection of what is being handled is live, as it was but for its queues.
-pub record IsStill (c : Connection) (b : Bus) : Type 0 where
-  pub now : Connection
-  pub live : IsIn now b.connections
-  pub self : SameSelf c now
-
--- the facts that all laws stand on
-pub record Basis (a : Point) : Type 0 where
-  pub bus : BusFits (loose a) a.state.bus
-  pub names : NameRequests a.state
-  pub hand : (h : Hand) → a.hand ≡ Some h → IsStill h.connection a.state.bus
-
--- ---- entries
-
--- an entry tells no end, no reply, no injection and no opening
-abbrev pub is_quiet : Entry → Bool
-is_quiet (entry.Ended n how read) = false
-is_quiet (entry.Replied n from to result size bytes) = false
-is_quiet (entry.Raw from to size bytes) = false
-is_quiet (entry.Connection k ap i c state.Opening) = false
-is_quiet _ = true
-
-abbrev pub AreQuiet : List Entry → Type 0
-AreQuiet es = Each (λ e. is_quiet e ≡ true) es
-
--- what is told behind the request of a draft: a unidirectional one ends at once
-abbrev pub sent_told : Bool → ℕ → List Entry
-sent_told true n = entry.Ended n outcome.Sent reading.Nothing ∷ []
-sent_told false n = []
-
--- what is told where a request is made
-abbrev pub asked_told : Draft → Connection → ℕ → Bus → List Entry
-asked_told d c label b = asked d c label b ∷ sent_told d.oneway (next_number b)
-
--- ---- causes
-
--- At this moment an item is delivered at the application processor, which takes notice of something.
-pub record IsNoticed (m : Moment) (e : HostEvent) : Type 0 where
-  pub at : End
-  pub place : Place
-  pub item : Item
-  pub request : Incoming
-  pub event : m.event ≡ event.Deliver at
-  pub named : place_of at m.before.bus.connections ≡ Some place
-  pub side : place.side ≡ side.Ap
-  pub front : first (queue place.side place.connection) ≡ Some item
-  pub made : request_in item m.before.bus ≡ Some request
-  pub notices : (host_serves place.connection.number request.kind request.payload m.before.host).notices ≡ Some e
-
--- Why the application processor takes notice of something at a moment, its host being as it was
--- before, but where a request ended.
-abbrev pub IsCaused : Moment → HostEvent → Host → Type 0
-IsCaused m (HostEvent.Inserted i) h = (h ≡ m.before.host) × IsNoticed m (HostEvent.Inserted i)
-IsCaused m (HostEvent.Removed i) h = (h ≡ m.before.host) × IsNoticed m (HostEvent.Removed i)
-IsCaused m (HostEvent.Connect i c) h =
-    (h ≡ m.before.host) × (m.event ≡ event.Connect i c) × (refusal m.before (event.Connect i c) ≡ None) × (c ≤ 4095)
-IsCaused m (HostEvent.Disconnect i c) h =
-    (h ≡ m.before.host) × (m.event ≡ event.Disconnect i c) × (refusal m.before (event.Disconnect i c) ≡ None)
-IsCaused m (HostEvent.Ended n how) h = Unit {0}
-
--- a tick, and a request whose deadline came
-pub record IsLate (m : Moment) (s : State) (n : ℕ) : Type 0 where
-  pub millis : ℕ
-  pub request : Request
-  pub event : m.event ≡ event.Tick millis
-  pub made : request_of n s.bus ≡ Some request
-  pub due : request.deadline ≤ s.now
-
--- a cancel, and the name of a request
-pub record IsCancelled (m : Moment) (n : ℕ) : Type 0 where
-  pub name : Name
-  pub event : m.event ≡ event.Cancel name
-  pub named : named name m.before.names ≡ Some n
-
--- why a request is given up at a moment
-abbrev pub IsGivenUpFor : Moment → State → Outcome → ℕ → Type 0
-IsGivenUpFor m s outcome.Cancelled n = IsCancelled m n
-IsGivenUpFor m s outcome.Timeout n = IsLate m s n
-IsGivenUpFor m s _ n = ⊥
-
--- why the application processor's side of a connection is closed at a moment: the connection is
--- disconnected, or is one of an interface whose removal is handled
-pub data IsShutFor (m : Moment) (k : ℕ) : Type 0 where
-  disconnected : (i c : ℕ) (l : Link) → m.event ≡ event.Disconnect i c → link_at i c m.before.host ≡ Some l
-      → l.connection ≡ k → IsShutFor m k
-  removed : (i : ℕ) (l : Link) → IsNoticed m (HostEvent.Removed i) → IsIn l (links_of i m.before.host)
-      → l.connection ≡ k → IsShutFor m k
+use Rattle.gb_machine.specs.Wiring.{detached, injected, is_wired_to, next_connection, shut_down}
+pub use Rattle.gb_laws.proofs.PointParts.{
+  AreQuiet,
+  Basis,
+  Hand,
+  IsCancelled,
+  IsCaused,
+  IsGivenUpFor,
+  IsLate,
+  IsNoticed,
+  IsShutFor,
+  IsStill,
+  Point,
+  Untouched,
+  Unwired,
+  Wired,
+  Wires,
+  asked_told,
+  is_quiet,
+  loose,
+  loose_hand,
+  loose_held,
+  on,
+  on_bus,
+  resting,
+  sent_told,
+}
 
 -- ---- single changes
 
@@ -227,12 +145,37 @@ IsOfSvc (event.InsertRaw i manifest) = Unit {0}
 IsOfSvc (event.Pull i) = Unit {0}
 IsOfSvc _ = ⊥
 
--- who asks on a connection: the application processor, a module, or the supervisory controller at an
--- event that concerns it
-pub data IsAskedBy (m : Moment) (c : Connection) (d : Draft) : Type 0 where
-  by_host : d.side ≡ side.Ap → IsAskedBy m c d
-  by_module : (i p : ℕ) → c.peer ≡ end.Module i p → IsAskedBy m c d
-  by_svc : IsOfSvc m.event → IsAskedBy m c d
+-- A far side asks on a connection: a module, or the supervisory controller at an event that concerns
+-- it, which tells the removal of an interface once that has no power.
+pub data IsFarAsking (m : Moment) (s : State) (c : Connection) (d : Draft) : Type 0 where
+  by_module : (i p : ℕ) → c.peer ≡ end.Module i p → IsFarAsking m s c d
+  by_svc : IsOfSvc m.event → d.side ≡ side.Far → ((i : ℕ) → removes i (read_svc_ask d.kind d.payload) ≡ true
+      → level_of i s.ports ≡ 0) → IsFarAsking m s c d
+
+-- Who asks on a connection at a point: the application processor does an act, and its sequence is to
+-- wait for the request, or a far side asks.
+pub data IsAskedBy (m : Moment) (a : Point) (c : Connection) (d : Draft) : Type 0 where
+  by_host : (q : Asking) (rest : List Act) → a.pending ≡ Act.Ask q ∷ rest
+      → d ≡ host_draft q a.state.now → a.asked ≡ None → IsAskedBy m a c d
+  by_far : IsFarAsking m a.state c d → IsAskedBy m a c d
+
+-- the request for which a sequence is to wait then
+abbrev pub awaited_by : (m : Moment) (a : Point) (c : Connection) (d : Draft)
+    → IsAskedBy m a c d → Option (Asking × ℕ)
+awaited_by m a c d (by_host q rest is draft none) = Some (q, next_number a.state.bus)
+awaited_by m a c d (by_far who) = a.asked
+
+-- a sequence goes on with an answer only where its request isn't awaited any more
+abbrev pub IsOver : HostEvent → Bus → Type 0
+IsOver (HostEvent.Ended n how) b =
+    (result : ℕ) (payload : List ℕ) → how ≡ outcome.Answered result payload
+    → is_awaited n b ≡ false
+IsOver _ b = Unit {0}
+
+-- what a line asks is no request of a sequence, or is on the connection of a module
+abbrev pub IsPlain : State → Draft → Type 0
+IsPlain s d = (is_reserved d.kind ≡ false)
+    ⊎ ((l : Link) × IsIn l s.host.links × (d.connection ≡ l.connection))
 
 -- what is plugged stays, and so does whether the supervisory controller has started
 pub record SamePlugs (s : State) (booted : Bool) (ports : List Port) (modules : List Plugged) : Type 0 where
@@ -241,15 +184,63 @@ pub record SamePlugs (s : State) (booted : Bool) (ports : List Port) (modules : 
   pub powered : (i : ℕ) → is_powered i ports ≡ true → is_powered i s.ports ≡ true
   pub differ : EachTwo (λ (p q : Plugged). p.intf ≢ q.intf) s.modules → EachTwo (λ (p q : Plugged). p.intf ≢ q.intf) modules
 
+-- What the supervisory controller serves was taken, and may have been replied to.
+pub data IsAfterReply (k : ℕ) (at : Side) (q : Incoming) (b after : Bus) : Type 0 where
+  unreplied : after ≡ b → IsAfterReply k at q b after
+  replied_to : (r : Answer) → after ≡ replied k (other_side at) (reply_item q r) b
+      → IsAfterReply k at q b after
+
+-- At a moment the supervisory controller serves the request that stands in front toward it, and a
+-- state is as before but for that and the reply to it.
+pub record IsServing (m : Moment) (s : State) (q : Incoming) : Type 0 where
+  pub at : End
+  pub place : Place
+  pub item : Item
+  pub event : m.event ≡ event.Deliver at
+  pub named : place_of at m.before.bus.connections ≡ Some place
+  pub far : place.side ≡ side.Far
+  pub svc : place.connection.peer ≡ end.Svc
+  pub front : first (queue place.side place.connection) ≡ Some item
+  pub made : request_in item m.before.bus ≡ Some q
+  pub host : s.host ≡ m.before.host
+  pub ports : s.ports ≡ m.before.ports
+  pub bus : IsAfterReply place.connection.number side.Far q
+      (popped place.connection.number side.Far m.before.bus) s.bus
+
+-- Where power levels come from: they stay, or are those of a step of the supervisory controller's
+-- table, or an interface without a wired connection loses its route.
+pub data PortsFrom (m : Moment) (s : State) (ports : List Port) : Type 0 where
+  as_before : ports ≡ s.ports → PortsFrom m s ports
+  served : (q : Incoming) → IsServing m s q
+      → ports ≡ (svc_step m.before.ports q.kind q.payload).ports → PortsFrom m s ports
+  loses_route : (q : Incoming) (i : ℕ) → IsServing m s q
+      → (svc_step m.before.ports q.kind q.payload).served ≡ Unroute i
+      → ports ≡ unrouted i (svc_step m.before.ports q.kind q.payload).ports
+      → ((c : Connection) → IsIn c s.bus.connections → is_wired_to i c ≡ false)
+      → PortsFrom m s ports
+
+-- At an event of the supervisory controller a power level stays, or is off.
+abbrev pub PowersOff : State → List Port → Type 0
+PowersOff s ports = (i : ℕ) → (level_of i ports ≡ level_of i s.ports) ⊎ (level_of i ports ≡ 0)
+
+-- nothing is being handled, and the application processor has nothing to do
+pub record IsIdle (a : Point) : Type 0 where
+  pub hand : a.hand ≡ None
+  pub pending : a.pending ≡ []
+  pub asked : a.asked ≡ None
+
 -- A single change at a point.
 pub data Change (m : Moment) (a : Point) : Type 0 where
   -- something is told that is no end, no reply, no injection and no opening
   tells : (e : Entry) → is_quiet e ≡ true → Change m a
   -- a request is made, and gets a name or none
-  asks : (d : Draft) (c : Connection) (label : ℕ) → a.hand ≡ None → connection_of d.connection a.state.bus ≡ Some c
-      → label_for d a.state.bus ≡ Some label → IsAskedBy m c d → Change m a
-  names : (name : Name) (d : Draft) (c : Connection) (label : ℕ) → a.hand ≡ None → connection_of d.connection a.state.bus ≡ Some c
-      → label_for d a.state.bus ≡ Some label → d.side ≡ side.Ap → Change m a
+  asks : (d : Draft) (c : Connection) (label : ℕ) → a.hand ≡ None
+      → connection_of d.connection a.state.bus ≡ Some c
+      → label_for d a.state.bus ≡ Some label → IsAskedBy m a c d → Change m a
+  names : (name : Name) (d : Draft) (c : Connection) (label : ℕ) → a.hand ≡ None
+      → connection_of d.connection a.state.bus ≡ Some c
+      → label_for d a.state.bus ≡ Some label → (d.side ≡ side.Ap) × IsPlain a.state d
+      → Change m a
   -- a name gets a request that another has, or is free
   binds : (x y : Name) (n : ℕ) → named x a.state.names ≡ Some n → Change m a
   frees : (name : Name) → Change m a
@@ -270,18 +261,21 @@ pub data Change (m : Moment) (a : Point) : Type 0 where
   gives_up : (n : ℕ) (how : Outcome) → a.hand ≡ None → is_open n a.state.bus ≡ true → IsGivenUpFor m a.state how n → Change m a
   -- a connection is wired, or unwired
   wires : (k : ℕ) → a.hand ≡ None → a.wires ≡ Untouched → (live : IsLive k false a.state.bus)
-      → is_powered live.intf a.state.ports ≡ true → Change m a
+      → (is_powered live.intf a.state.ports ≡ true)
+      × (nat_lt (level_of live.intf a.state.ports) 6 ≡ false)
+      → Change m a
   unwires : (k : ℕ) → a.hand ≡ None → a.wires ≢ Wired → IsLive k true a.state.bus → Change m a
   -- bytes are injected
   injects : (i c : ℕ) (p : Place) (bytes : List ℕ) → a.hand ≡ None → module_place i c a.state ≡ Some p → Change m a
   -- the application processor takes notice of something
-  turns : (e : HostEvent) → a.hand ≡ None → a.wires ≡ Untouched → a.pending ≡ [] → IsCaused m e a.state.host → Change m a
+  turns : (e : HostEvent) → a.hand ≡ None → (a.wires ≡ Untouched) × IsOver e a.state.bus → a.pending ≡ [] → IsCaused m e a.state.host → Change m a
   -- it does an act
   acts_told : (e : Entry) (rest : List Act) → a.pending ≡ Act.Tell e ∷ rest → is_quiet e ≡ true → Change m a
   acts_shut : (k : ℕ) (rest : List Act) → a.hand ≡ None → a.pending ≡ Act.Shut k ∷ rest → IsShutFor m k → Change m a
   acts_left : (k : ℕ) (rest : List Act) → a.hand ≡ None → a.wires ≡ Untouched → a.pending ≡ Act.Leave k ∷ rest → Change m a
   acts_opened : (w : Making) (q : Asking) (rest : List Act) → a.hand ≡ None → a.pending ≡ Act.Open w q ∷ rest → Change m a
-  acts_asked : (q : Asking) (n : ℕ) (rest : List Act) → a.pending ≡ Act.Ask q ∷ rest → Change m a
+  acts_asked : (q : Asking) (n : ℕ) (rest : List Act)
+      → (a.pending ≡ Act.Ask q ∷ rest) × (a.asked ≡ Some (q, n)) → Change m a
   acts_failed : (q : Asking) (rest : List Act) → IsAsking q a.pending rest → AreQuiet (unsent q.purpose a.state.host).told → Change m a
   -- it serves a request, or spends credits
   serves : (k kind : ℕ) (payload : List ℕ) → a.pending ≡ [] → Change m a
@@ -290,13 +284,16 @@ pub data Change (m : Moment) (a : Point) : Type 0 where
   passes : (millis : ℕ) → Change m a
   -- something else changes that is no matter of requests
   others : (booted : Bool) (marks : List ℕ) (ports : List Port) (modules : List Plugged)
-      → SamePlugs a.state booted ports modules ⊎ IsOfSvc m.event → Change m a
+      → (SamePlugs a.state booted ports modules × PortsFrom m a.state ports × IsIdle a)
+      ⊎ (IsOfSvc m.event × PowersOff a.state ports) → Change m a
 
 -- the point after a single change
 abbrev pub changed : (m : Moment) (a : Point) → Change m a → Point
 changed m a (tells e quiet) = on a.state (e ∷ []) a
 changed m a (asks d c label free live drawn who) =
-    on_bus (sent d label a.state.bus) (asked_told d c label a.state.bus) a
+    record (on_bus (sent d label a.state.bus) (asked_told d c label a.state.bus) a) {
+      asked = awaited_by m a c d who;
+    }
 changed m a (names name d c label free live drawn host) =
     on (record (bound name (next_number a.state.bus) a.state) { bus = sent d label a.state.bus })
     (asked_told d c label a.state.bus) a
@@ -337,7 +334,8 @@ changed m a (acts_left k rest free untouched is) = record (on_bus (detached k a.
 changed m a (acts_opened w q rest free is) =
     record (on (with_made w a.state)
     (entry.Connection (next_connection a.state.bus) w.ap w.intf w.cport state.Opening ∷ []) a) { pending = Act.Ask q ∷ rest }
-changed m a (acts_asked q n rest is) = record (on (with_awaited q.purpose n a.state) [] a) { pending = rest }
+changed m a (acts_asked q n rest is) =
+    record (on (with_awaited q.purpose n a.state) [] a) { pending = rest; asked = None }
 changed m a (acts_failed q rest is quiet) =
     record (on (record a.state { host = (unsent q.purpose a.state.host).host }) (unsent q.purpose a.state.host).told a) { pending = rest }
 changed m a (serves k kind payload none) = on (record a.state { host = (host_serves k kind payload a.state.host).host }) [] a

@@ -3,11 +3,11 @@
 use Rattle.std.proofs.Common.{◌≡◌, ℕ, Bool, true, false, cond, Option, Some, None, List, [], ◌∷◌, refl, sym, ap, ◌∙◌}
 use Rattle.std.specs.Prelude.{Result, Ok, Err, ◌==◌, ◌||◌, nat_le, nat_lt, not, is_some}
 use Rattle.gb_formats.specs.Records.{PayloadFault}
-use Rattle.gb_formats.specs.SvcRecords.{SvcAsk, read_svc_ask}
+use Rattle.gb_formats.specs.SvcRecords.{SvcAsk, read_svc_ask_of_ap}
 use Rattle.gb_invariants.proofs.Awaiting.{not-both}
 use Rattle.gb_machine.specs.Ports.{is_powered, level_in, level_of, port_of, raised, with_port}
 use Rattle.gb_machine.specs.State.{Port}
-use Rattle.gb_machine.specs.SvcTable.{Answered, Create, Destroy, SvcServed, SvcStep, Unroute, climbs, device_given, is_no_device, is_route, is_svc_own, svc_asked, svc_read, svc_refuses, svc_step}
+use Rattle.gb_machine.specs.SvcTable.{Answered, Create, Destroy, SvcServed, SvcStep, Unroute, climbs, device_given, is_no_device, is_route, svc_asked, svc_read, svc_refuses, svc_step}
 
 -- an interface whose port changes is powered as it was
 pub port-powered : (j i : ℕ) (f : Port → Port) (ports : List Port) → ((p : Port) → (f p).intf ≡ p.intf)
@@ -29,10 +29,13 @@ port-powered j i f (p ∷ ps) same e = by (p.intf == i) e (port-powered j i f ps
     by true h rec = changed (p.intf == j) (ap (λ n. is_some (cond (n == j) (Some (f p)) (port_of j ps))) (sym (same p)) ∙ h)
     by false h rec = behind (p.intf == j) h rec
 
--- a connection that is to be wired is of an interface that is powered
+-- a connection that is to be wired is of an interface that is powered and has its route
+abbrev pub IsRouted : ℕ → List Port → Type 0
+IsRouted i ports = (is_powered i ports ≡ true) × (nat_lt (level_of i ports) 6 ≡ false)
+
 abbrev pub IsReady : SvcServed → List Port → Type 0
 IsReady (Answered result payload) ports = Unit {0}
-IsReady (Create a i c) ports = is_powered i ports ≡ true
+IsReady (Create a i c) ports = IsRouted i ports
 IsReady (Destroy a i c) ports = Unit {0}
 IsReady (Unroute i) ports = Unit {0}
 
@@ -66,9 +69,10 @@ keeps-device ports i d =
     (λ f. record { powered = λ j g. port-powered j i (λ p. record p { level = 5; device = Some d }) ports (λ p. refl) g; ready = tt }))
 
 -- an interface of level 6 is powered
-routed-powered : (ports : List Port) (t : Bool) (i : ℕ) → (t || nat_lt (level_of i ports) 6) ≡ false → is_powered i ports ≡ true
+routed-powered : (ports : List Port) (t : Bool) (i : ℕ)
+    → (t || nat_lt (level_of i ports) 6) ≡ false → IsRouted i ports
 routed-powered ports true i e = absurd cc
-routed-powered ports false i e = by (port_of i ports) e
+routed-powered ports false i e = (by (port_of i ports) e, e)
   where
     by : (o : Option Port) → nat_lt (level_in o) 6 ≡ false → is_some o ≡ true
     by None f = absurd (not-both (nat_lt 0 6) refl f)
@@ -97,9 +101,7 @@ keeps-read ports (Ok ask) = keeps-asked ports ask
 keeps-read ports (Err fault) = refused ports _
 
 keeps-step : (ports : List Port) (kind : ℕ) (payload : List ℕ) → Keeps ports (svc_step ports kind payload)
-keeps-step ports kind payload =
-    keeps-if ports (is_svc_own kind) (svc_refuses ports _) (svc_read ports (read_svc_ask kind payload)) (λ e. refused ports _)
-    (λ e. keeps-read ports (read_svc_ask kind payload))
+keeps-step ports kind payload = keeps-read ports (read_svc_ask_of_ap kind payload)
 
 pub step-powered : (ports : List Port) (kind : ℕ) (payload : List ℕ) (j : ℕ) → is_powered j (svc_step ports kind payload).ports ≡ true → is_powered j ports ≡ true
 step-powered ports kind payload = (keeps-step ports kind payload).powered

@@ -9,8 +9,9 @@ use Rattle.gb_base.specs.declared.entry.Entry.{Entry}
 use Rattle.gb_base.specs.declared.entry.Entry.TheVariants as entry
 use Rattle.gb_base.specs.declared.entry.IntfStage.TheVariants as stage
 use Rattle.gb_base.specs.declared.event.Event.TheVariants as event
+use Rattle.gb_base.specs.declared.peers.Link.{Link}
 use Rattle.gb_formats.specs.Records.{PayloadFault}
-use Rattle.gb_formats.specs.SvcRecords.{SvcAsk, read_svc_ask}
+use Rattle.gb_formats.specs.SvcRecords.{SvcAsk, read_svc_ask_of_svc}
 use Rattle.gb_invariants.proofs.Awaiting.{not-both, same-some}
 use Rattle.gb_laws.proofs.Noticing.{unnoticed}
 use Rattle.gb_laws.proofs.Places.{place-is}
@@ -20,18 +21,17 @@ use Rattle.gb_machine.specs.Arriving.{arrives, asked_at, delivers_at, dropped, h
 use Rattle.gb_machine.specs.Bus.{Ask, Connection, Item, Place, Request, end_of, place_of, queue, request_of}
 use Rattle.gb_machine.specs.Delivery.{popped}
 use Rattle.gb_machine.specs.Events.{decided, step}
-use Rattle.gb_machine.specs.Host.{Host, Link, interface_of, is_intf, link_of}
+use Rattle.gb_machine.specs.Host.{Host, interface_of, is_intf, link_of}
 use Rattle.gb_machine.specs.HostActs.{acts}
-use Rattle.gb_machine.specs.HostServing.{HostServed, host_notices, host_refuses, host_serves, notified_by, served_on}
+use Rattle.gb_machine.specs.HostServing.{HostServed, host_notices, host_serves, notified_by, served_on}
 use Rattle.gb_machine.specs.HostTurns.{links_left, links_of, without_interface}
 use Rattle.gb_machine.specs.Incoming.{Incoming, incoming}
+use Rattle.gb_machine.proofs.Steps.{deliver-allowed}
 use Rattle.gb_machine.specs.Lists.{first}
-use Rattle.gb_machine.specs.Refusals.{deliver_refusal, empty_refusal, refusal}
+use Rattle.gb_machine.specs.Refusals.{is_end_unplugged, refusal}
 use Rattle.gb_machine.specs.Responding.{host_served, replies, responds, serves_oneway}
 use Rattle.gb_machine.specs.Runs.{Moment, after}
-use Rattle.gb_machine.specs.Serving.{protocol_bad}
 use Rattle.gb_machine.specs.State.{State}
-use Rattle.gb_machine.specs.SvcTable.{is_svc_own}
 use Rattle.gb_machine.specs.Turns.{Act, HostEvent}
 
 -- ---- what is noticed is answered with success
@@ -51,13 +51,8 @@ serves-notice k kind payload h e n = by (link_of k h) n
     read (Ok (SvcAsk.Hello endo intf)) f = absurd (none-some f)
     read (Ok _) f = absurd (none-some f)
 
-    own : (t : Bool) → (cond t (notified_by (read_svc_ask kind payload) h) (host_refuses protocol_bad h)).notices ≡ Some e
-        → cond t (notified_by (read_svc_ask kind payload) h) (host_refuses protocol_bad h) ≡ host_notices e h
-    own true f = read (read_svc_ask kind payload) f
-    own false f = absurd (none-some f)
-
     by : (o : Option Link) → (served_on o kind payload h).notices ≡ Some e → served_on o kind payload h ≡ host_notices e h
-    by None f = own (is_svc_own kind) f
+    by None f = read (read_svc_ask_of_svc kind payload) f
     by (Some l) f = absurd (none-some (sym (unnoticed l kind payload h) ∙ f))
 
 -- ---- the acts of a removal leave the application processor as it is
@@ -120,15 +115,9 @@ delivered-state m at p item is named front free =
 pub ap-free : (m : Moment) (at : End) (p : Place) (item : Item) → place_of at m.before.bus.connections ≡ Some p → p.side ≡ side.Ap
     → first (queue p.side p.connection) ≡ Some item → refusal m.before (event.Deliver at) ≡ None
 ap-free m at p item named ap_side front =
-    subst (λ e. refusal m.before (event.Deliver e) ≡ None)
-    (sym (ap (λ s. end_of s p.connection) ap_side) ∙ (place-is at m.before.bus.connections p named).is)
-    (subst (λ o. deliver_refusal o ≡ None)
-    (sym (ap (λ e. place_of e m.before.bus.connections) (sym (ap (λ s. end_of s p.connection) ap_side) ∙ (place-is at m.before.bus.connections p named).is) ∙ named))
-    (waiting (queue p.side p.connection) front))
-  where
-    waiting : (is : List Item) → first is ≡ Some item → empty_refusal is ≡ None
-    waiting [] e = absurd cc
-    waiting (x ∷ xs) e = refl
+    deliver-allowed m.before at p item
+    (subst (λ e. is_end_unplugged e m.before ≡ false)
+    (sym (ap (λ s. end_of s p.connection) ap_side) ∙ (place-is at m.before.bus.connections p named).is) refl) named front
 
 -- An interface is absent once its removal is handled.
 pub removed-absent : (m : Moment) (at : End) (p : Place) (n i : ℕ) (r : Request) → m.event ≡ event.Deliver at → place_of at m.before.bus.connections ≡ Some p

@@ -10,11 +10,11 @@ use Rattle.gb_laws.proofs.LinkBuses.{Linked}
 use Rattle.gb_laws.proofs.LinkLists.{found-link}
 use Rattle.gb_laws.proofs.LinkRuns.{LinkedTo, linked-throughout}
 use Rattle.gb_laws.proofs.Links.{IsKnown, leaving, linked, supervisory}
-use Rattle.gb_laws.proofs.Runs.{weaker}
+use Rattle.gb_laws.proofs.Runs.{HoldsByMoments, weaker}
 use Rattle.gb_machine.specs.Arriving.{link_takes, takes}
 use Rattle.gb_machine.specs.Bus.{Ask, Bus, Connection, Item, Raw, RawReply, Reply}
 use Rattle.gb_machine.specs.Host.{link_of}
-use Rattle.gb_machine.specs.LawsBus.{AreAwaited, HaveAwaited, IsAwaited, RepliesAreAwaited}
+use Rattle.gb_machine.specs.LawsBus.{AreAwaited, HaveAwaited, IsAwaited}
 use Rattle.gb_machine.specs.Members.{IsIn}
 use Rattle.gb_machine.specs.State.{State}
 
@@ -54,5 +54,5 @@ awaited-at told s h = each-from (AreAwaited s) s.bus.connections (λ c live. rec
 })
 
 -- On a clean connection a reply that waits is awaited.
-pub replies-are_awaited : RepliesAreAwaited
-replies-are_awaited = weaker LinkedTo HaveAwaited awaited-at linked-throughout
+pub replies-by_moments : HoldsByMoments HaveAwaited
+replies-by_moments = weaker LinkedTo HaveAwaited awaited-at linked-throughout

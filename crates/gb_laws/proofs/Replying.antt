@@ -19,8 +19,9 @@ use Rattle.gb_laws.proofs.Basics.{basis-first, basis-kept, loose_of, rested, tak
 use Rattle.gb_laws.proofs.Ended.{ends-throughout}
 use Rattle.gb_laws.proofs.Loosening.{Fewer, fewer-held, fewer-tail, fewer-taken, fewer-without, held-at}
 use Rattle.gb_laws.proofs.Places.{module-far, place-is}
-use Rattle.gb_laws.proofs.Points.{AreQuiet, Basis, Change, Hand, Law, Point, asked_told, acts_asked, acts_failed, acts_left, acts_opened, acts_shut, acts_told, answers, asks, binds, changed, drops, forgets, frees, gives_up, holds, injects, is_quiet, loose, loose_hand, loose_held, names, others, passes, replies, resting, sent_told, serves, spends, takes, takes_held, tells, turns, unwires, wires}
-use Rattle.gb_laws.proofs.Runs.{throughout}
+use Rattle.gb_laws.proofs.Points.{Change, Law, acts_asked, acts_failed, acts_left, acts_opened, acts_shut, acts_told, answers, asks, binds, changed, drops, forgets, frees, gives_up, holds, injects, names, others, passes, replies, serves, spends, takes, takes_held, tells, turns, unwires, wires}
+use Rattle.gb_laws.proofs.PointParts.{AreQuiet, Basis, Hand, Point, asked_told, is_quiet, loose, loose_hand, loose_held, resting, sent_told}
+use Rattle.gb_laws.proofs.Runs.{HoldsByMoments, throughout}
 use Rattle.gb_laws.proofs.Steps.{over-step}
 use Rattle.gb_machine.proofs.Lists.{nth-past}
 use Rattle.gb_machine.specs.Bus.{Ask, Bus, Connection, Item, Raw, RawReply, Reply, Request, next_number, other_side, request_of}
@@ -29,13 +30,13 @@ use Rattle.gb_machine.specs.LawsBus.{is_item_of}
 use Rattle.gb_base.specs.declared.end.End.TheVariants as end
 use Rattle.gb_machine.specs.Holding.{held_on}
 use Rattle.gb_machine.specs.HostActs.{with_awaited}
-use Rattle.gb_machine.specs.LawsEnds.{EndsAtMostOnce, is_reply_of}
+use Rattle.gb_machine.specs.LawsEnds.{EndOnce, is_reply_of}
 use Rattle.gb_machine.specs.Lists.{nth, without}
 use Rattle.gb_machine.specs.Requests.{open_on}
 use Rattle.gb_machine.specs.Wires.{disconnected_told}
 use Rattle.gb_machine.specs.Wiring.{unwired}
 use Rattle.gb_machine.specs.Members.{Each, IsIn, times}
-use Rattle.gb_machine.specs.Runs.{HoldsThroughout, Moment}
+use Rattle.gb_machine.specs.Runs.{Moment}
 use Rattle.gb_machine.specs.Sending.{Draft, sent}
 use Rattle.gb_machine.specs.Serving.{Answer}
 use Rattle.gb_machine.specs.State.{State}
@@ -341,13 +342,13 @@ once_law m = record {
 abbrev pub OnceAt : List Entry → State → Type 0
 OnceAt told s = Basis (resting told s) × RepliesOnce (resting told s)
 
-pub replies-throughout : HoldsThroughout OnceAt
+pub replies-throughout : HoldsByMoments OnceAt
 replies-throughout = throughout OnceAt (basis-first, record { once = λ n. omega arith; made = λ n none. refl })
     (λ m one h. let r = over-step m (once_law m) one h in (rested _ _ r.0 r.1.0, record { once = r.1.1.once; made = r.1.1.made }))
 
 -- Each request ends once at most and is replied to once at most.
-pub ends-at-most-once : EndsAtMostOnce
-ends-at-most-once es are =
+pub ends-once_by_moments : HoldsByMoments EndOnce
+ends-once_by_moments es are =
     let ends = ends-throughout es are in
     let replies = replies-throughout es are in record {
       outcomes = ends.0.bus.outcomes.once;

@@ -3,16 +3,15 @@
 use Rattle.std.proofs.Common.{◌≡◌, ℕ, Bool, true, false, cond, Option, Some, None, List, refl}
 use Rattle.std.specs.Prelude.{Result, Ok, Err, ◌==◌}
 use Rattle.gb_base.specs.declared.entry.Entry.{Entry}
-use Rattle.gb_formats.specs.GpioRecords.{GpioAsk, read_gpio_ask}
+use Rattle.gb_base.specs.declared.peers.Link.{Link}
+use Rattle.gb_formats.specs.GpioRecords.{GpioAsk, read_gpio_ask_of_module}
 use Rattle.gb_formats.specs.Records.{PayloadFault}
-use Rattle.gb_formats.specs.SvcRecords.{SvcAsk, read_svc_ask}
-use Rattle.gb_formats.specs.UartDevice.{credits_added, is_uart_own}
-use Rattle.gb_formats.specs.GpioDevice.{irq_event}
-use Rattle.gb_formats.specs.UartRecords.{UartAsk, read_uart_ask}
-use Rattle.gb_laws.proofs.Points.{is_quiet}
-use Rattle.gb_machine.specs.Host.{Host, Link, link_of}
+use Rattle.gb_formats.specs.SvcRecords.{SvcAsk, read_svc_ask_of_svc}
+use Rattle.gb_formats.specs.UartDevice.{credits_added}
+use Rattle.gb_formats.specs.UartRecords.{UartAsk, read_uart_ask_of_module}
+use Rattle.gb_laws.proofs.PointParts.{is_quiet}
+use Rattle.gb_machine.specs.Host.{Host, link_of}
 use Rattle.gb_machine.specs.HostServing.{HostServed, credited, host_refuses, host_serves, interrupted, notified_by, served_on, serves_gpio, serves_uart, uart_notified_by}
-use Rattle.gb_machine.specs.SvcTable.{is_svc_own}
 use Rattle.gb_machine.specs.Turns.{HostEvent}
 
 -- what is told, if anything, is quiet
@@ -62,12 +61,9 @@ pub served : (k kind : ℕ) (payload : List ℕ) (h : Host) → ServedAs h (host
 served k kind payload h = by (link_of k h)
   where
     by : (o : Option Link) → ServedAs h (served_on o kind payload h)
-    by None = served-if h (is_svc_own kind) (notified_by (read_svc_ask kind payload) h) (host_refuses _ h)
-        (served-svc h (read_svc_ask kind payload)) (refused h _)
+    by None = served-svc h (read_svc_ask_of_svc kind payload)
     by (Some l) =
         served-if h (l.protocol == 0x02) (serves_gpio l kind payload h) _
-        (served-if h (kind == irq_event) (interrupted l (read_gpio_ask kind payload) h) (host_refuses _ h)
-        (served-gpio h l (read_gpio_ask kind payload)) (refused h _))
+        (served-gpio h l (read_gpio_ask_of_module kind payload))
         (served-if h (l.protocol == 0x04) (serves_uart l kind payload h) (host_refuses _ h)
-        (served-if h (is_uart_own kind) (uart_notified_by l (read_uart_ask kind payload) h) (host_refuses _ h)
-        (served-uart h l (read_uart_ask kind payload)) (refused h _)) (refused h _))
+        (served-uart h l (read_uart_ask_of_module kind payload)) (refused h _))

@@ -1,6 +1,6 @@
 -- A law of points goes over what a served request brings about.
 use Rattle.std.proofs.Common.{◌≡◌, ℕ, Bool, true, false, cond, Option, Some, None, List, [], ◌++◌, refl, sym, ap, ◌∙◌, inl, subst}
-use Rattle.std.specs.Prelude.{◌==◌}
+use Rattle.std.specs.Prelude.{◌==◌, ◌&&◌}
 use Rattle.std.specs.List.{list_any}
 use Rattle.gb_base.specs.declared.end.End.{End}
 use Rattle.gb_base.specs.declared.end.End.TheVariants as end
@@ -8,36 +8,42 @@ use Rattle.gb_base.specs.declared.end.Side.{Side}
 use Rattle.gb_base.specs.declared.end.Side.TheVariants as side
 use Rattle.gb_base.specs.declared.entry.Entry.{Entry}
 use Rattle.gb_base.specs.declared.event.Event.TheVariants as event
-use Rattle.gb_formats.specs.Module.{Module, ModuleStep, module_serve}
+use Rattle.gb_formats.specs.Module.{Module}
+use Rattle.gb_formats.specs.ModuleSteps.{module_serve}
+use Rattle.gb_formats.specs.Results.{Step}
 use Rattle.gb_invariants.proofs.Awaiting.{same-some}
 use Rattle.gb_invariants.proofs.Lists.{found-in}
+use Rattle.gb_laws.proofs.LinkLists.{none-any}
 use Rattle.gb_invariants.proofs.Outcomes.{both-true}
 use Rattle.gb_laws.proofs.Acting.{goes-notices}
 use Rattle.gb_laws.proofs.Going.{At, Goes, IsToModule, goes-far_asks_all, goes-nothing, goes-tell, goes-▸}
-use Rattle.gb_laws.proofs.Places.{LivesOn, same_end-is}
-use Rattle.gb_laws.proofs.Points.{Hand, IsCaused, IsLive, IsNoticed, Law, Untouched, Unwired, Wired, Wires, acting, others, serves, unwires, wires}
-use Rattle.gb_laws.proofs.Served.{IsQuietly, ServedAs, inserting, plainly, removing, served}
+use Rattle.gb_laws.proofs.Places.{ComesFrom, LivesOn, comes-after, lives-after, same_end-is}
+use Rattle.gb_laws.proofs.Points.{IsAfterReply, IsLive, IsOver, IsServing, Law, PortsFrom, acting, as_before, loses_route, others, served, serves, unwires, wires}
+use Rattle.gb_laws.proofs.PointParts.{Hand, IsCaused, IsNoticed, Untouched, Unwired, Wired, Wires}
+use Rattle.gb_laws.proofs.Served.{IsQuietly, ServedAs, inserting, plainly, removing, served as served_as}
 use Rattle.gb_machine.proofs.Opened.{machine_opened}
 use Rattle.gb_machine.specs.Actions.{Action, change, given, nothing, on_host, tell, ◌▸◌}
 use Rattle.gb_laws.proofs.Stepping.{module-plugs}
 use Rattle.gb_machine.specs.Bus.{Bus, Connection, Item, Place, connection_of, place_of, queue, same_end}
+use Rattle.gb_machine.specs.Delivery.{popped}
 use Rattle.gb_machine.specs.Host.{Host}
 use Rattle.gb_machine.specs.HostActs.{notices}
 use Rattle.gb_machine.specs.HostServing.{HostServed, host_serves}
 use Rattle.gb_machine.specs.Incoming.{Incoming, request_in}
 use Rattle.gb_machine.specs.Lists.{first}
+use Rattle.gb_machine.specs.Members.{IsIn}
 use Rattle.gb_machine.specs.Modules.{module_at, with_module}
 use Rattle.gb_machine.specs.OwnAsking.{far_asks_all}
 use Rattle.gb_machine.specs.Responding.{Response, creates, destroys, far_response, host_behind, module_response, module_stepped, responds_plainly, responds_with, response_at, svc_decided, with_ports}
 use Rattle.gb_machine.specs.Ports.{is_powered, unrouted}
-use Rattle.gb_laws.proofs.Powering.{IsReady, port-powered, step-powered, step-ready}
+use Rattle.gb_laws.proofs.Powering.{IsReady, IsRouted, port-powered, step-powered, step-ready}
 use Rattle.gb_machine.specs.Runs.{Moment}
 use Rattle.gb_machine.specs.Serving.{invalid, nonexistent, plainly as plainly_answers, success}
 use Rattle.gb_machine.specs.State.{Port, State}
 use Rattle.gb_machine.specs.SvcTable.{Answered, Create, Destroy, SvcServed, Unroute, svc_step}
 use Rattle.gb_machine.specs.Turns.{HostEvent}
 use Rattle.gb_machine.specs.Wires as wiring
-use Rattle.gb_machine.specs.Wiring.{is_wired_to, joining, joins}
+use Rattle.gb_machine.specs.Wiring.{is_at, is_wired_to, joining, joins}
 
 -- ---- the connection that a request to the supervisory controller speaks of
 
@@ -65,16 +71,21 @@ HasPeer k e b = (c : Connection) → connection_of k b ≡ Some c → c.peer ≡
 
 -- ---- what is known of a request that is served at a moment
 
--- What is served is what was delivered at this moment, or was held at the far side.
-pub data IsTaken (m : Moment) (c : Connection) : Side → Incoming → Type 0 where
+-- What is served is what was delivered at this moment, which was taken alone, or was held by a
+-- module.
+pub data IsTaken (m : Moment) (s : State) (c : Connection) : Side → Incoming → Type 0 where
   delivered : (at : End) (p : Place) (item : Item) (q : Incoming) → m.event ≡ event.Deliver at
-      → place_of at m.before.bus.connections ≡ Some p → first (queue p.side p.connection) ≡ Some item
-      → p.connection ≡ c → request_in item m.before.bus ≡ Some q → IsTaken m c p.side q
-  answered : (q : Incoming) → IsTaken m c side.Far q
+      → place_of at m.before.bus.connections ≡ Some p
+      → first (queue p.side p.connection) ≡ Some item
+      → p.connection ≡ c → request_in item m.before.bus ≡ Some q
+      → s ≡ record m.before { bus = popped p.connection.number p.side m.before.bus }
+      → IsTaken m s c p.side q
+  answered : (i p : ℕ) (q : Incoming) → c.peer ≡ end.Module i p → IsTaken m s c side.Far q
 
-noticed : (m : Moment) (c : Connection) (at : Side) (q : Incoming) (e : HostEvent) → IsTaken m c at q → at ≡ side.Ap
+noticed : (m : Moment) (s : State) (c : Connection) (at : Side) (q : Incoming) (e : HostEvent)
+    → IsTaken m s c at q → at ≡ side.Ap
     → (host_serves c.number q.kind q.payload m.before.host).notices ≡ Some e → IsNoticed m e
-noticed m c at q e (delivered to p item r event_is named front is made) ap_side h = record {
+noticed m s c at q e (delivered to p item r event_is named front is made from) ap_side h = record {
   at = to;
   place = p;
   item = item;
@@ -84,9 +95,51 @@ noticed m c at q e (delivered to p item r event_is named front is made) ap_side 
   side = ap_side;
   front = front;
   made = made;
-  notices = ap (λ (x : Connection). (host_serves x.number r.kind r.payload m.before.host).notices) is ∙ h;
+  notices = ap (λ (x : Connection). (host_serves x.number r.kind r.payload m.before.host).notices)
+      is ∙ h;
 }
-noticed m c at q e (answered r) ap_side h = absurd cc
+noticed m s c at q e (answered i p r peer) ap_side h = absurd cc
+
+-- what the supervisory controller serves stands in front toward it
+serving-of : (m : Moment) (s u : State) (c : Connection) (at : Side) (q : Incoming)
+    → IsTaken m s c at q → at ≡ side.Far → c.peer ≡ end.Svc
+    → IsAfterReply c.number at q s.bus u.bus → u.host ≡ s.host → u.ports ≡ s.ports
+    → IsServing m u q
+serving-of m s u c at q (delivered to p item r event_is named front is made from) far peer way host
+    ports = record {
+      at = to;
+      place = p;
+      item = item;
+      event = event_is;
+      named = named;
+      far = far;
+      svc = ap (λ (x : Connection). x.peer) is ∙ peer;
+      front = front;
+      made = made;
+      host = host ∙ ap (λ (t : State). t.host) from;
+      ports = ports ∙ ap (λ (t : State). t.ports) from;
+      bus = subst (λ t. IsAfterReply p.connection.number side.Far r
+          (popped p.connection.number t m.before.bus) u.bus) far
+          (subst (λ t. IsAfterReply p.connection.number t r
+          (popped p.connection.number p.side m.before.bus) u.bus) far
+          (subst (λ (b : Bus). IsAfterReply p.connection.number p.side r b u.bus)
+          (ap (λ (t : State). t.bus) from)
+          (subst (λ (x : Connection). IsAfterReply x.number p.side r s.bus u.bus) (sym is) way)));
+    }
+serving-of m s u c at q (answered i p r module_peer) far peer way host ports =
+    absurd (other (sym module_peer ∙ peer))
+  where
+    other : end.Module i p ≡ end.Svc → ⊥
+    other e = absurd cc
+
+-- where the levels of what is served come from
+abbrev pub Comes : (m : Moment) (u : State) → SvcServed → List Port → Type 0
+Comes m u (Answered result payload) ports = PortsFrom m u ports
+Comes m u (Create a i c) ports = Unit {0}
+Comes m u (Destroy a i c) ports = Unit {0}
+Comes m u (Unroute i) ports =
+    ((c : Connection) → IsIn c u.bus.connections → is_wired_to i c ≡ false)
+    → PortsFrom m u (unrouted i ports)
 
 module _ (m : Moment) (law : Law m) where
   -- an action ends a step, whatever becomes of wires
@@ -102,17 +155,32 @@ module _ (m : Moment) (law : Law m) where
 
   -- ---- the supervisory controller
 
-  ends-ports : (ports : List Port) (s : State) → ((i : ℕ) → is_powered i ports ≡ true → is_powered i s.ports ≡ true) → Ends None (with_ports ports) s
+  ends-ports : (ports : List Port) (s : State) → PortsFrom m s ports
+      → ((i : ℕ) → is_powered i ports ≡ true → is_powered i s.ports ≡ true)
+      → Ends None (with_ports ports) s
   unfolding machine_opened
-  ends-ports ports s powered told at =
-      (Untouched, law.kept _ (others s.booted s.holds ports s.modules (inl (record { started = refl; plugged = λ i. refl; powered = powered; differ = λ h. h }))) at)
+  ends-ports ports s from powered told at = (
+    Untouched,
+    law.kept _ (others s.booted s.holds ports s.modules (inl (
+      record {
+        started = refl;
+        plugged = λ i. refl;
+        powered = powered;
+        differ = λ h. h;
+      },
+      from,
+      record { hand = refl; pending = refl; asked = refl },
+    ))) at,
+  )
 
   ends-nothing : (s : State) → Ends None nothing s
   ends-nothing s = ends-going None nothing s (goes-nothing m (acting m law) None [] Untouched s)
 
-  ends-wires : (k : ℕ) (s : State) (live : IsLive k false s.bus) → is_powered live.intf s.ports ≡ true → Ends None (wiring.wires k) s
+  ends-wires : (k : ℕ) (s : State) (live : IsLive k false s.bus)
+      → IsRouted live.intf s.ports → Ends None (wiring.wires k) s
   unfolding machine_opened
-  ends-wires k s live powered told at = (Wired, law.kept _ (wires k refl refl live powered) at)
+  ends-wires k s live ready told at =
+      (Wired, law.kept _ (wires k refl refl live ready) at)
 
   ends-unwires : (k : ℕ) (s : State) → IsLive k true s.bus → Ends None (wiring.unwires k) s
   unfolding machine_opened
@@ -129,7 +197,8 @@ module _ (m : Moment) (law : Law m) where
   IsLiveFound o s = (x : Connection) (t : Bool) → o ≡ Some x → x.wired ≡ t → IsLive x.number t s.bus
 
   ends-creates : (o : Option Connection) (s : State)
-      → ((x : Connection) → o ≡ Some x → x.wired ≡ false → (l : IsLive x.number false s.bus) × (is_powered l.intf s.ports ≡ true))
+      → ((x : Connection) → o ≡ Some x → x.wired ≡ false
+      → (l : IsLive x.number false s.bus) × IsRouted l.intf s.ports)
       → Ends None (creates o).behind s
   ends-creates None s live = ends-nothing s
   ends-creates (Some c) s live =
@@ -142,30 +211,44 @@ module _ (m : Moment) (law : Law m) where
       ends-either c.wired (responds_with (plainly_answers success) (wiring.unwires c.number)) (responds_plainly nonexistent) s
       (λ e. ends-unwires c.number s (live c true refl e)) (λ e. ends-nothing s)
 
-  ends-decided : (d : SvcServed) (ports : List Port) (s u : State) → LivesOn s.bus u.bus → ((i : ℕ) → is_powered i ports ≡ true → is_powered i u.ports ≡ true)
+  ends-decided : (d : SvcServed) (ports : List Port) (s u : State) → LivesOn s.bus u.bus
+      → ComesFrom s.bus u.bus → Comes m u d ports
+      → ((i : ℕ) → is_powered i ports ≡ true → is_powered i u.ports ≡ true)
       → IsReady d u.ports → Ends None (svc_decided d ports s).behind u
-  ends-decided (Answered result payload) ports s u on powered ready = ends-ports ports u powered
-  ends-decided (Create a i c) ports s u on powered ready =
+  ends-decided (Answered result payload) ports s u on came from powered ready =
+      ends-ports ports u from powered
+  ends-decided (Create a i c) ports s u on came from powered ready =
       ends-creates (joining a i c s.bus) u (λ x e w.
       let j = joining-live a i c s.bus x false e w in
       let l = on x.number false j.0 in
-      (l.0, ap (λ n. is_powered n u.ports) (l.1 ∙ j.1) ∙ ready))
-  ends-decided (Destroy a i c) ports s u on powered ready =
-      ends-destroys (joining a i c s.bus) u (λ x t e w. (on x.number t (joining-live a i c s.bus x t e w).0).0)
-  ends-decided (Unroute i) ports s u on powered ready =
+      (l.0, subst (λ n. IsRouted n u.ports) (sym (l.1 ∙ j.1)) ready))
+  ends-decided (Destroy a i c) ports s u on came from powered ready =
+      ends-destroys (joining a i c s.bus) u
+      (λ x t e w. (on x.number t (joining-live a i c s.bus x t e w).0).0)
+  ends-decided (Unroute i) ports s u on came from powered ready =
       ends-either (list_any (is_wired_to i) s.bus.connections) (responds_plainly invalid)
       (responds_with (plainly_answers success) (with_ports (unrouted i ports))) u
-      (λ e. ends-nothing u) (λ e. ends-ports (unrouted i ports) u (λ j f. powered j (port-powered j i (λ p. record p { level = 5 }) ports (λ p. refl) f)))
+      (λ e. ends-nothing u)
+      (λ e. ends-ports (unrouted i ports) u
+      (from (λ c live. let w = came c live in
+      ap (λ t. t && is_at i c.peer) (sym w.2) ∙ ap (λ p. w.0.wired && is_at i p) (sym w.3)
+      ∙ none-any (is_wired_to i) s.bus.connections w.0 e w.1))
+      (λ j f. powered j (port-powered j i (λ p. record p { level = 5 }) ports (λ p. refl) f)))
 
   -- ---- modules
 
-  ends-module : (k i : ℕ) (step : ModuleStep) (s : State) → IsToModule k s.bus → Ends None (module_stepped k i step).behind s
+  ends-module : (k i : ℕ) (step : Step Module) (s : State) → IsToModule k s.bus → Ends None (module_stepped k i step).behind s
   unfolding machine_opened
   ends-module k i step s to =
       ends-going None (module_stepped k i step).behind s
       (goes-▸ m (acting m law) None None None [] [] [] Untouched Untouched Untouched
       (change (λ t. record t { modules = with_module i step.after t.modules })) (far_asks_all k step.served.asks) s
-      (λ told at. law.kept _ (others s.booted s.holds s.ports (with_module i step.after s.modules) (inl (module-plugs s i step.after))) at)
+      (λ told at. law.kept _ (others s.booted s.holds s.ports (with_module i step.after s.modules)
+      (inl (
+        module-plugs s i step.after,
+        as_before refl,
+        record { hand = refl; pending = refl; asked = refl },
+      ))) at)
       (goes-far_asks_all m (acting m law) [] Untouched k step.served.asks (record s { modules = with_module i step.after s.modules }) to))
 
   ends-at_module : (k i c : ℕ) (q : Incoming) (o : Option Module) (s : State) → IsToModule k s.bus → Ends None (module_response k i c q o).behind s
@@ -174,22 +257,38 @@ module _ (m : Moment) (law : Law m) where
 
   -- ---- the far side
 
-  ends-far : (e : End) (k : ℕ) (q : Incoming) (s u : State) → LivesOn s.bus u.bus → u.ports ≡ s.ports → HasPeer k e u.bus
-      → Ends None (far_response e k q s).behind u
-  ends-far (end.Module i c) k q s u on ports peer = ends-at_module k i c q (module_at i s.modules) u (λ x e. (i, c, peer x e))
-  ends-far end.Svc k q s u on ports peer =
+  ends-far : (e : End) (k : ℕ) (q : Incoming) (s u : State) → LivesOn s.bus u.bus
+      → ComesFrom s.bus u.bus → u.ports ≡ s.ports → HasPeer k e u.bus
+      → (e ≡ end.Svc → IsServing m u q) → Ends None (far_response e k q s).behind u
+  ends-far (end.Module i c) k q s u on came ports peer serving =
+      ends-at_module k i c q (module_at i s.modules) u (λ x e. (i, c, peer x e))
+  ends-far end.Svc k q s u on came ports peer serving =
       let step = svc_step s.ports q.kind q.payload in
-      ends-decided step.served step.ports s u on
+      ends-decided step.served step.ports s u on came
+      (comes step.served refl)
       (λ i e. ap (is_powered i) ports ∙ step-powered s.ports q.kind q.payload i e)
       (subst (IsReady step.served) (sym ports) (step-ready s.ports q.kind q.payload))
-  ends-far (end.Ap a) k q s u on ports peer = ends-nothing u
+    where
+      same : s.ports ≡ m.before.ports
+      same = sym ports ∙ (serving refl).ports
+
+      comes : (d : SvcServed) → (svc_step s.ports q.kind q.payload).served ≡ d
+          → Comes m u d (svc_step s.ports q.kind q.payload).ports
+      comes (Answered result payload) e = served q (serving refl)
+          (ap (λ ps. (svc_step ps q.kind q.payload).ports) (sym ports ∙ (serving refl).ports))
+      comes (Create a i c) e = tt
+      comes (Destroy a i c) e = tt
+      comes (Unroute i) e = loses_route q i (serving refl)
+          (ap (λ ps. (svc_step ps q.kind q.payload).served) (sym same) ∙ e)
+          (ap (λ ps. unrouted i (svc_step ps q.kind q.payload).ports) same)
+  ends-far (end.Ap a) k q s u on came ports peer serving = ends-nothing u
 
   -- ---- the application processor
 
   -- what it is then, what it tells and what it takes notice of
   goes-behind : (host : Host) (o : Option Entry) (n : Option HostEvent) (u : State)
       → Goes m (acting m law) None [] Untouched None [] Untouched (on_host (λ old. host)) u
-      → IsQuietly o → ((e : HostEvent) → n ≡ Some e → IsCaused m e host)
+      → IsQuietly o → ((e : HostEvent) → n ≡ Some e → IsCaused m e host × IsOver e u.bus)
       → Goes m (acting m law) None [] Untouched None [] Untouched (on_host (λ old. host) ▸ given o tell ▸ given n notices) u
   unfolding machine_opened
   goes-behind host o n u first quiet cause =
@@ -203,12 +302,12 @@ module _ (m : Moment) (law : Law m) where
       says None s q = goes-nothing m (acting m law) None [] Untouched s
       says (Some e) s q = goes-tell m (acting m law) None [] Untouched e s q
 
-      takes_notice : (o : Option Entry) (n : Option HostEvent) → ((e : HostEvent) → n ≡ Some e → IsCaused m e host)
+      takes_notice : (o : Option Entry) (n : Option HostEvent) → ((e : HostEvent) → n ≡ Some e → IsCaused m e host × IsOver e u.bus)
           → Goes m (acting m law) None [] Untouched None [] Untouched (given n notices) ((on_host (λ old. host) ▸ given o tell) u).state
       takes_notice None None c = goes-nothing m (acting m law) None [] Untouched (record u { host = host })
-      takes_notice None (Some e) c = goes-notices m (acting m law) e (record u { host = host }) (c e refl)
+      takes_notice None (Some e) c = goes-notices m (acting m law) e (record u { host = host }) (c e refl).1 (c e refl).0
       takes_notice (Some x) None c = goes-nothing m (acting m law) None [] Untouched (record u { host = host })
-      takes_notice (Some x) (Some e) c = goes-notices m (acting m law) e (record u { host = host }) (c e refl)
+      takes_notice (Some x) (Some e) c = goes-notices m (acting m law) e (record u { host = host }) (c e refl).1 (c e refl).0
 
   ends-served : (k kind : ℕ) (payload : List ℕ) (u : State) → u.host ≡ m.before.host
       → ((e : HostEvent) → (host_serves k kind payload m.before.host).notices ≡ Some e → IsNoticed m e)
@@ -216,8 +315,11 @@ module _ (m : Moment) (law : Law m) where
   unfolding machine_opened
   ends-served k kind payload u host notice =
       ends-going None (host_behind r) u
-      (goes-behind r.host r.told r.notices u first (quiet (served k kind payload m.before.host))
-      (λ e n. cause (served k kind payload m.before.host) e n (notice e n)))
+      (goes-behind r.host r.told r.notices u first (quiet (served_as k kind payload m.before.host))
+      (λ e n. (
+        cause (served_as k kind payload m.before.host) e n (notice e n),
+        over (served_as k kind payload m.before.host) e n,
+      )))
     where
       r : HostServed
       r = host_serves k kind payload m.before.host
@@ -246,11 +348,27 @@ module _ (m : Moment) (law : Law m) where
           let same = same-some (HostEvent.Removed i) e (sym n ∙ is) in
           subst (λ x. IsCaused m x (host_serves k kind payload m.before.host).host) same (h, subst (IsNoticed m) (sym same) said)
 
+      over : ServedAs m.before.host (host_serves k kind payload m.before.host) → (e : HostEvent)
+          → (host_serves k kind payload m.before.host).notices ≡ Some e → IsOver e u.bus
+      over (plainly q n) e is = absurd (none-some e (sym n ∙ is))
+        where
+          none-some : (e : HostEvent) → None ≡ Some e → ⊥
+          none-some e h = absurd cc
+      over (inserting i h q n) e is =
+          subst (λ x. IsOver x u.bus) (same-some (HostEvent.Inserted i) e (sym n ∙ is)) tt
+      over (removing i h q n) e is =
+          subst (λ x. IsOver x u.bus) (same-some (HostEvent.Removed i) e (sym n ∙ is)) tt
+
   -- what the party at a side answers has an end
-  pub ends-response : (c : Connection) (at : Side) (q : Incoming) (s u : State) → IsTaken m c at q → LivesOn s.bus u.bus → u.ports ≡ s.ports → HasPeer c.number c.peer u.bus
+  pub ends-response : (c : Connection) (at : Side) (q : Incoming) (s u : State)
+      → IsTaken m s c at q → IsAfterReply c.number at q s.bus u.bus → u.ports ≡ s.ports
+      → HasPeer c.number c.peer u.bus
       → s.host ≡ m.before.host → u.host ≡ s.host → Ends None (response_at at c q s).behind u
   unfolding machine_opened
-  ends-response c side.Ap q s u taken on ports peer before same =
+  ends-response c side.Ap q s u taken way ports peer before same =
       subst (λ h. Ends None (host_behind (host_serves c.number q.kind q.payload h)) u) (sym before)
-      (ends-served c.number q.kind q.payload u (same ∙ before) (λ e n. noticed m c side.Ap q e taken refl n))
-  ends-response c side.Far q s u taken on ports peer before same = ends-far c.peer c.number q s u on ports peer
+      (ends-served c.number q.kind q.payload u (same ∙ before)
+      (λ e n. noticed m s c side.Ap q e taken refl n))
+  ends-response c side.Far q s u taken way ports peer before same =
+      ends-far c.peer c.number q s u (lives-after way) (comes-after way) ports peer
+      (λ is. serving-of m s u c side.Far q taken refl is way same ports)

@@ -11,11 +11,12 @@ use Rattle.gb_invariants.proofs.Lists.{each-in, in-append}
 use Rattle.gb_invariants.proofs.Outcomes.{is-same, same-number}
 use Rattle.gb_laws.proofs.LinkLists.{in-ordered}
 use Rattle.gb_laws.proofs.Places.{same_end-is}
+use Rattle.gb_machine.proofs.Steps.{deliver-allowed}
 use Rattle.gb_machine.specs.Bus.{Connection, Item, Place, end_of, or_else, place_of, queue, same_end, side_at}
 use Rattle.gb_machine.specs.LawsBus.{AreApart}
 use Rattle.gb_machine.specs.Lists.{first, sorted}
 use Rattle.gb_machine.specs.Members.{EachTwo, IsIn}
-use Rattle.gb_machine.specs.Refusals.{deliver_refusal, empty_refusal, end_refusal, refusal}
+use Rattle.gb_machine.specs.Refusals.{is_end_unplugged, refusal}
 use Rattle.gb_machine.specs.State.{State}
 use Rattle.gb_machine.specs.Waiting.{Queue, first_waiting, queue_before, queues, queues_in, queues_of, unless_empty}
 
@@ -153,7 +154,7 @@ place-found (x ∷ xs) c s apart far (inr j) wired =
 pub record IsDeliverable (s : State) : Type 0 where
   pub apart : EachTwo AreApart s.bus.connections
   pub far : (c : Connection) → IsIn c s.bus.connections → IsFarEnd c.peer
-  pub plugged : (c : Connection) → IsIn c s.bus.connections → c.wired ≡ true → end_refusal s c.peer ≡ None
+  pub plugged : (c : Connection) → IsIn c s.bus.connections → c.wired ≡ true → is_end_unplugged c.peer s ≡ false
 
 -- the side of a wired connection at which something waits first
 pub record IsFirstAt (s : State) (at : End) : Type 0 where
@@ -177,16 +178,12 @@ first-waits s at h e =
       free = subst (λ x. refusal s (event.Deliver x) ≡ None) is (free q.connection q.side q.live q.wired q.item q.front);
     }
   where
-    waiting : (is : List Item) (x : Item) → first is ≡ Some x → empty_refusal is ≡ None
-    waiting [] x f = absurd cc
-    waiting (y ∷ ys) x f = refl
-
-    ended : (c : Connection) (d : Side) → IsIn c s.bus.connections → c.wired ≡ true → end_refusal s (end_of d c) ≡ None
+    ended : (c : Connection) (d : Side) → IsIn c s.bus.connections → c.wired ≡ true → is_end_unplugged (end_of d c) s ≡ false
     ended c side.Ap live wired = refl
     ended c side.Far live wired = h.plugged c live wired
 
     free : (c : Connection) (d : Side) → IsIn c s.bus.connections → c.wired ≡ true → (x : Item) → first (queue d c) ≡ Some x
-        → or_else (end_refusal s (end_of d c)) (deliver_refusal (place_of (end_of d c) s.bus.connections)) ≡ None
+        → refusal s (event.Deliver (end_of d c)) ≡ None
     free c d live wired x front =
-        ap (λ o. or_else o (deliver_refusal (place_of (end_of d c) s.bus.connections))) (ended c d live wired)
-        ∙ ap deliver_refusal (place-found s.bus.connections c d h.apart h.far live wired) ∙ waiting (queue d c) x front
+        deliver-allowed s (end_of d c) (record { connection = c; side = d }) x (ended c d live wired)
+        (place-found s.bus.connections c d h.apart h.far live wired) front

@@ -17,10 +17,11 @@ use Rattle.gb_machine.specs.Bus.{Connection, end_of}
 use Rattle.gb_machine.specs.Events.{decided, last_state, step, trace_from}
 use Rattle.gb_machine.specs.Members.{IsIn}
 use Rattle.gb_machine.specs.Refusals.{refusal}
-use Rattle.gb_machine.specs.Runs.{AreMoments, AreValid, HoldsThroughout, IsMoment, SettlesAreDeliveries, deliveries, delivery_then, happenings, is_happening, moments_of, state_by, told_in, unsettled}
+use Rattle.gb_machine.specs.Runs.{AreMoments, AreValid, IsMoment, SettlesAreDeliveries, deliveries, delivery_then, happenings, is_happening, moments_of, state_by, told_in, unsettled}
 use Rattle.gb_machine.specs.Settling.{settles_at, settles_from}
 use Rattle.gb_machine.specs.State.{State, first_state}
 use Rattle.gb_machine.specs.Waiting.{first_waiting}
+use Rattle.gb_laws.proofs.Runs.{HoldsByMoments}
 
 -- What a state has where each delivery of what waits is a valid event that isn't refused.
 pub record IsSettleable (s : State) : Type 0 where
@@ -29,11 +30,11 @@ pub record IsSettleable (s : State) : Type 0 where
 
 -- ---- runs, one after another
 
-last-append : (xs ys : List Event) (s : State) → last_state s (trace_from s (xs ++ ys)) ≡ last_state (last_state s (trace_from s xs)) (trace_from (last_state s (trace_from s xs)) ys)
+pub last-append : (xs ys : List Event) (s : State) → last_state s (trace_from s (xs ++ ys)) ≡ last_state (last_state s (trace_from s xs)) (trace_from (last_state s (trace_from s xs)) ys)
 last-append [] ys s = refl
 last-append (x ∷ xs) ys s = last-append xs ys (step s x).state
 
-told-append : (xs ys : List Event) (s : State) → told_in (trace_from s (xs ++ ys)) ≡ told_in (trace_from s xs) ++ told_in (trace_from (last_state s (trace_from s xs)) ys)
+pub told-append : (xs ys : List Event) (s : State) → told_in (trace_from s (xs ++ ys)) ≡ told_in (trace_from s xs) ++ told_in (trace_from (last_state s (trace_from s xs)) ys)
 told-append [] ys s = refl
 told-append (x ∷ xs) ys s =
     ap (λ es. (step s x).entries ++ es) (told-append xs ys (step s x).state)
@@ -88,7 +89,7 @@ reach-all : (es : List Event) (s : State) → AreMoments es → Reached s → Re
 reach-all [] s all r = r
 reach-all (e ∷ es) s all r = reach-all es (step s e).state all.1 (reach s e all.0 r)
 
-module _ (all : HoldsThroughout (λ told s. IsSettleable s)) where
+module _ (all : HoldsByMoments (λ told s. IsSettleable s)) where
   settleable : (s : State) → Reached s → IsSettleable s
   settleable s r = subst IsSettleable r.is (all r.run r.moments)
 

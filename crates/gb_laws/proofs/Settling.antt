@@ -1,11 +1,11 @@
 -- Every settle is its deliveries.
-use Rattle.std.proofs.Common.{◌≡◌, ◌≤◌, true, cond, Some, None, [], sym, ap, ◌∙◌, subst, arith}
+use Rattle.std.proofs.Common.{◌≡◌, ◌≤◌, true, false, not, [], sym, ap, ◌∙◌, subst, arith}
 use Rattle.std.specs.Prelude.{not}
-use Rattle.gb_base.specs.declared.refusal.Refusal.TheVariants as why
 use Rattle.gb_formats.specs.ValidEvents.{IsEnd}
 use Rattle.gb_laws.proofs.Endpoints.{apart-throughout}
 use Rattle.gb_laws.proofs.LinkBuses.{Linked}
 use Rattle.gb_laws.proofs.Links.{IsKnown, leaving, linked, supervisory}
+use Rattle.gb_laws.proofs.Runs.{HoldsByMoments}
 use Rattle.gb_laws.proofs.SettleQueues.{IsFarEnd}
 use Rattle.gb_laws.proofs.Settles.{IsSettleable, settles-if_settleable}
 use Rattle.gb_laws.proofs.WiredRuns.{wired-throughout}
@@ -13,32 +13,32 @@ use Rattle.gb_laws.proofs.WiredWell.{WiredFit}
 use Rattle.gb_machine.specs.Bus.{Connection}
 use Rattle.gb_machine.specs.LawsBus.{AreApart}
 use Rattle.gb_machine.specs.Members.{EachTwo, IsIn}
-use Rattle.gb_machine.specs.Refusals.{end_refusal}
+use Rattle.gb_machine.specs.Refusals.{is_end_unplugged}
 use Rattle.gb_machine.specs.Runs.{SettlesAreDeliveries}
 use Rattle.gb_machine.specs.State.{State}
 
 -- what is known of the ends of a connection
-record EndsKnown (s : State) (c : Connection) : Type 0 where
-  far : IsFarEnd c.peer
+pub record EndsKnown (s : State) (c : Connection) : Type 0 where
+  pub far : IsFarEnd c.peer
   ap : c.ap ≤ 4095
-  plugged : c.wired ≡ true → end_refusal s c.peer ≡ None
+  plugged : c.wired ≡ true → is_end_unplugged c.peer s ≡ false
   peer : c.wired ≡ true → IsEnd c.peer
 
-ends-known : (s : State) (c : Connection) → Linked s.bus s.host [] → WiredFit s → IsIn c s.bus.connections → EndsKnown s c
+pub ends-known : (s : State) (c : Connection) → Linked s.bus s.host [] → WiredFit s → IsIn c s.bus.connections → EndsKnown s c
 ends-known s c links well live = by (links.known c live)
   where
     by : IsKnown c s.host.links [] → EndsKnown s c
     by (supervisory one) = let v = links.svc c live one in record {
       far = subst IsFarEnd (sym v.peer) tt;
       ap = let zero_ap = v.ap in omega (arith, zero_ap);
-      plugged = λ wired. ap (end_refusal s) v.peer;
+      plugged = λ wired. ap (λ e. is_end_unplugged e s) v.peer;
       peer = λ wired. subst IsEnd (sym v.peer) tt;
     }
     by (linked l i of) = let n = links.host.links.numbered l i in record {
       far = subst IsFarEnd (sym of.peer) tt;
       ap = let within = n.within in let same = of.ap in omega (arith, within, same);
-      plugged = λ wired. ap (end_refusal s) of.peer
-          ∙ ap (λ t. cond (not t) (Some why.NoInterface) None) (well.wired c live wired l.intf l.cport of.peer);
+      plugged = λ wired. ap (λ e. is_end_unplugged e s) of.peer
+          ∙ ap not (well.wired c live wired l.intf l.cport of.peer);
       peer = λ wired. subst IsEnd (sym of.peer) (well.range l.intf (well.wired c live wired l.intf l.cport of.peer), n.cport);
     }
     by (leaving i) = absurd i
@@ -53,7 +53,12 @@ settleable s apart links well = record {
   ends = λ c live wired. ((ends-known s c links well live).ap, (ends-known s c links well live).peer wired);
 }
 
+-- In every state nothing that waits is refused.
+pub settleable-by_moments : HoldsByMoments (λ told s. IsSettleable s)
+settleable-by_moments es are =
+    settleable _ (apart-throughout es are).apart (wired-throughout es are).links.1
+    (wired-throughout es are).wired
+
 -- Every settle is its deliveries.
 pub settles-are_deliveries : SettlesAreDeliveries
-settles-are_deliveries = settles-if_settleable (λ es are.
-    settleable _ (apart-throughout es are).apart (wired-throughout es are).links.1 (wired-throughout es are).wired)
+settles-are_deliveries = settles-if_settleable settleable-by_moments

@@ -6,23 +6,23 @@ use Rattle.gb_invariants.proofs.Counts.{times-append, times-cons, total-some}
 use Rattle.gb_invariants.proofs.Lists.{each-from}
 use Rattle.gb_invariants.specs.Facts.{Loose, times_on}
 use Rattle.gb_laws.proofs.Basics.{Based, basis-throughout}
-use Rattle.gb_laws.proofs.Points.{loose_held}
-use Rattle.gb_laws.proofs.Runs.{weaker}
+use Rattle.gb_laws.proofs.PointParts.{loose_held}
+use Rattle.gb_laws.proofs.Runs.{HoldsByMoments, weaker}
 use Rattle.gb_machine.specs.Bus.{Bus, Item, Request, outcome_of}
 use Rattle.gb_machine.specs.Events.{last_state, trace}
 use Rattle.gb_machine.specs.Holding.{held_on, is_held_on}
-use Rattle.gb_machine.specs.LawsBus.{HaveNamed, HaveOneItem, HaveOwnLabels, LabelsDiffer, NamesNameRequests, OneItemANumber, is_item_of}
+use Rattle.gb_machine.specs.LawsBus.{HaveNamed, HaveOneItem, HaveOwnLabels, is_item_of}
 use Rattle.gb_machine.specs.Members.{times}
 use Rattle.gb_machine.specs.State.{Held, first_state}
 use Rattle.gb_machine.specs.Summary.{CountsAddUp, is_answered, is_cancelled, is_disconnected, is_sent, is_timed_out, is_unended, standing_from}
 
 -- Identifiers that are in use differ.
-pub labels-differ : LabelsDiffer
-labels-differ = weaker Based HaveOwnLabels (λ told s h. h.bus.labels) basis-throughout
+pub labels-by_moments : HoldsByMoments HaveOwnLabels
+labels-by_moments = weaker Based HaveOwnLabels (λ told s h. h.bus.labels) basis-throughout
 
 -- A name names a request that was made.
-pub names-name : NamesNameRequests
-names-name = weaker Based HaveNamed (λ told s h. h.names) basis-throughout
+pub names-by_moments : HoldsByMoments HaveNamed
+names-by_moments = weaker Based HaveNamed (λ told s h. h.names) basis-throughout
 
 -- what is held on a connection is among what is loose
 held-counted : (test : Item → Bool) (k : ℕ) (hs : List Held)
@@ -41,8 +41,8 @@ held-counted test k (h ∷ hs) = by (is_held_on k h) (held-counted test k hs)
     by false r = omega (arith, r, times-cons (λ (l : Loose). test l.item) (loose_held h) (map loose_held hs))
 
 -- On a clean connection each number is in one item at most; so it is on others.
-pub one-item : OneItemANumber
-one-item = weaker Based HaveOneItem (λ told s h. each-from _ s.bus.connections (λ c live clean n.
+pub one-item_by_moments : HoldsByMoments HaveOneItem
+one-item_by_moments = weaker Based HaveOneItem (λ told s h. each-from _ s.bus.connections (λ c live clean n.
     let most = h.bus.ones n in
     let here = total-some (times_on (is_item_of n)) s.bus.connections c live in
     let held = held-counted (is_item_of n) c.number s.held in

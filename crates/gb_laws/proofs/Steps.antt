@@ -1,16 +1,41 @@
 -- A law of points goes over the step of each event.
-use Rattle.std.proofs.Common.{◌≡◌, Option, Some, None, [], ◌∷◌, ◌++◌, refl, sym, subst, append_assoc}
+use Rattle.std.proofs.Common.{
+  ◌≡◌,
+  Option,
+  Some,
+  None,
+  [],
+  ◌∷◌,
+  ◌++◌,
+  refl,
+  sym,
+  subst,
+  append_assoc,
+}
 use Rattle.gb_base.specs.declared.entry.Entry.TheVariants as entry
 use Rattle.gb_base.specs.declared.event.Event.{Event}
 use Rattle.gb_base.specs.declared.event.Event.TheVariants as event
 use Rattle.gb_base.specs.declared.refusal.Refusal.{Refusal}
-use Rattle.gb_formats.specs.Module.{Level, Serial, module_of_kind, module_raw}
+use Rattle.gb_formats.specs.Devices.{Level, Serial}
+use Rattle.gb_formats.specs.Module.{module_of_kind, module_raw}
 use Rattle.gb_laws.proofs.Acting.{goes-notices}
 use Rattle.gb_laws.proofs.Delivering.{ends-answers, ends-delivers}
 use Rattle.gb_laws.proofs.Going.{At}
-use Rattle.gb_laws.proofs.Points.{IsOfSvc, Law, Untouched, Wires, acting, frees, resting, tells}
+use Rattle.gb_laws.proofs.Points.{IsOfSvc, Law, acting, frees, tells}
+use Rattle.gb_laws.proofs.PointParts.{Untouched, Wires, resting}
 use Rattle.gb_laws.proofs.Serving.{Ends, ends-going}
-use Rattle.gb_laws.proofs.Stepping.{rests-boots, rests-bridges, rests-cancels, rests-copies, rests-holds, rests-injects, rests-plugs, rests-sends, rests-shows, rests-stirs}
+use Rattle.gb_laws.proofs.Stepping.{
+  rests-boots,
+  rests-bridges,
+  rests-cancels,
+  rests-copies,
+  rests-holds,
+  rests-injects,
+  rests-plugs,
+  rests-sends,
+  rests-shows,
+  rests-stirs,
+}
 use Rattle.gb_laws.proofs.Ticking.{ends-pulls, rests-ticks}
 use Rattle.gb_machine.proofs.Opened.{machine_opened}
 use Rattle.gb_machine.specs.Events.{decided, does}
@@ -27,9 +52,9 @@ module _ (m : Moment) (law : Law m) where
   ends-does (event.InsertRaw i manifest) is one free = ends-going m law None (does (event.InsertRaw i manifest)) m.before (rests-plugs m law (subst IsOfSvc (sym is) tt) i (module_raw manifest) m.before)
   ends-does (event.Pull i) is one free = ends-pulls m law (subst IsOfSvc (sym is) tt) i
   ends-does (event.Connect i c) is one free =
-      ends-going m law None (does (event.Connect i c)) m.before (goes-notices m (acting m law) (HostEvent.Connect i c) m.before (refl, is, free, one.1))
+      ends-going m law None (does (event.Connect i c)) m.before (goes-notices m (acting m law) (HostEvent.Connect i c) m.before tt (refl, is, free, one.1))
   ends-does (event.Disconnect i c) is one free =
-      ends-going m law None (does (event.Disconnect i c)) m.before (goes-notices m (acting m law) (HostEvent.Disconnect i c) m.before (refl, is, free))
+      ends-going m law None (does (event.Disconnect i c)) m.before (goes-notices m (acting m law) (HostEvent.Disconnect i c) m.before tt (refl, is, free))
   ends-does (event.Send name to kind payload timeout) is one free =
       ends-going m law None (does (event.Send name to kind payload timeout)) m.before (rests-sends m law name to kind payload timeout m.before free)
   ends-does (event.Bridge name i c what) is one free =

@@ -9,6 +9,7 @@ use Rattle.gb_base.specs.declared.end.End.{End}
 use Rattle.gb_base.specs.declared.end.Side.{Side}
 use Rattle.gb_base.specs.declared.end.Side.TheVariants as side
 use Rattle.gb_base.specs.declared.event.Event.TheVariants as event
+use Rattle.gb_base.specs.declared.peers.Link.{Link}
 use Rattle.gb_invariants.proofs.Awaiting.{not-both, same-some}
 use Rattle.gb_invariants.proofs.ItemChanges.{first-in}
 use Rattle.gb_invariants.proofs.Numbers.{found-by_number}
@@ -18,11 +19,11 @@ use Rattle.gb_laws.proofs.LinkLists.{find-changed}
 use Rattle.gb_laws.proofs.Marks.{item_mark, mark_in, marks, marks-first, marks_of, notice_of, request_mark}
 use Rattle.gb_laws.proofs.Noticing.{notice-any, svc-front}
 use Rattle.gb_laws.proofs.Places.{place-is}
-use Rattle.gb_laws.proofs.Points.{Basis, IsNoticed, resting}
+use Rattle.gb_laws.proofs.PointParts.{Basis, IsNoticed, resting}
 use Rattle.gb_laws.proofs.Removing.{removed-absent}
 use Rattle.gb_machine.specs.Bus.{Ask, Bus, Connection, Item, Place, Raw, RawReply, Reply, Request, connection_of, has_number, place_of, queue, request_of}
 use Rattle.gb_machine.specs.Delivery.{popped, without_front}
-use Rattle.gb_machine.specs.Host.{Link, first_host, interface_of, link_of}
+use Rattle.gb_machine.specs.Host.{first_host, interface_of, link_of}
 use Rattle.gb_machine.specs.HostServing.{served_on}
 use Rattle.gb_machine.specs.Lists.{behind_first, first}
 use Rattle.gb_machine.specs.Members.{IsIn}
@@ -41,7 +42,7 @@ first-behind [] x e = absurd cc
 first-behind (y ∷ ys) x e = ap (λ z. z ∷ ys) (same-some y x e)
 
 -- no connection to a module has number 1
-no-link-one : (b : Bus) (ls : List Link) → ((l : Link) → IsIn l ls → 2 ≤ l.connection) → find (λ l. l.connection == 1) ls ≡ None
+pub no-link-one : (b : Bus) (ls : List Link) → ((l : Link) → IsIn l ls → 2 ≤ l.connection) → find (λ l. l.connection == 1) ls ≡ None
 no-link-one b [] two = refl
 no-link-one b (l ∷ ls) two =
     let low = two l (inl refl) in

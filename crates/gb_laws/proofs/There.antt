@@ -13,7 +13,8 @@ use Rattle.gb_laws.proofs.Linking.{LinkedAt}
 use Rattle.gb_laws.proofs.Links.{ArePending}
 use Rattle.gb_laws.proofs.Onward.{drawn-wired, front-wired, put-wired}
 use Rattle.gb_laws.proofs.Places.{at_first-back}
-use Rattle.gb_laws.proofs.Points.{Change, Point, acts_asked, acts_failed, acts_left, acts_opened, acts_shut, acts_told, answers, asks, binds, changed, drops, forgets, frees, gives_up, holds, injects, names, others, passes, replies, serves, spends, takes, takes_held, tells, turns, unwires, wires}
+use Rattle.gb_laws.proofs.Points.{Change, acts_asked, acts_failed, acts_left, acts_opened, acts_shut, acts_told, answers, asks, binds, changed, drops, forgets, frees, gives_up, holds, injects, names, others, passes, replies, serves, spends, takes, takes_held, tells, turns, unwires, wires}
+use Rattle.gb_laws.proofs.PointParts.{Point}
 use Rattle.gb_laws.proofs.Ticking.{at_first-stays}
 use Rattle.gb_machine.specs.Bus.{Ask, Bus, Connection, Raw, has_number, next_number, other_side}
 use Rattle.gb_machine.specs.Delivery.{without_front}

@@ -1,7 +1,7 @@
 -- A law of points goes over ticks and pulls.
-use Rattle.std.proofs.Common.{◌≡◌, ◌≤◌, ◌<◌, ◌≢◌, ℕ, ◌+◌, Bool, true, false, cond, Some, None, List, [], ◌∷◌, ◌++◌, map, refl, sym, ap, ◌∙◌, inl, inr, subst, append-nil, append_assoc, arith}
+use Rattle.std.proofs.Common.{◌≡◌, ◌⊎◌, ◌≤◌, ◌<◌, ◌≢◌, ℕ, ◌+◌, Bool, true, false, cond, Some, None, List, [], ◌∷◌, ◌++◌, map, refl, sym, ap, ◌∙◌, inl, inr, subst, append-nil, append_assoc, arith}
 use Rattle.std.proofs.lemmas.Bool.Decides.{nat_tests}
-use Rattle.std.specs.Prelude.{nat_le}
+use Rattle.std.specs.Prelude.{◌==◌, nat_le}
 use Rattle.std.specs.List.{filter}
 use Rattle.gb_base.specs.declared.end.End.{End}
 use Rattle.gb_base.specs.declared.end.End.TheVariants as end
@@ -17,7 +17,8 @@ use Rattle.gb_invariants.specs.Facts.{IsBefore}
 use Rattle.gb_laws.proofs.Acting.{goes-notices}
 use Rattle.gb_laws.proofs.Awaited.{awaited-rest}
 use Rattle.gb_laws.proofs.Going.{At, goes-far_asks, goes-when}
-use Rattle.gb_laws.proofs.Points.{IsOfSvc, by_svc, ActLaw, Change, IsActing, IsLate, IsLive, IsShutFor, Law, Point, Untouched, Unwired, Wired, Wires, acting, acts_asked, acts_failed, acts_left, acts_opened, acts_shut, acts_told, asks, changed, disconnected, others, passes, removed, tells, turns, unwires as unwiring}
+use Rattle.gb_laws.proofs.Points.{IsOfSvc, by_svc, ActLaw, Change, IsActing, IsLive, Law, acting, acts_asked, acts_failed, acts_left, acts_opened, acts_shut, acts_told, asks, changed, others, passes, tells, turns, unwires as unwiring}
+use Rattle.gb_laws.proofs.PointParts.{IsLate, IsShutFor, Point, Untouched, Unwired, Wired, Wires, disconnected, removed}
 use Rattle.gb_laws.proofs.Serving.{Ends}
 use Rattle.gb_laws.proofs.Stepping.{Rests, rests-gives_up, rests-nothing, rests-▸}
 use Rattle.gb_machine.proofs.Lists.{nth-within}
@@ -37,6 +38,12 @@ use Rattle.gb_machine.specs.State.{State}
 use Rattle.gb_machine.specs.Turns.{HostEvent}
 use Rattle.gb_machine.specs.Wires as wiring
 use Rattle.gb_machine.specs.Wiring.{is_at, is_wired_to, unwired}
+use Rattle.gb_laws.proofs.LinkLists.{none-of}
+use Rattle.gb_laws.proofs.Marks.{find-left}
+use Rattle.gb_formats.specs.SvcRecords.{read_svc_ask, svc_ask_kind, svc_ask_payload}
+use Rattle.gb_machine.specs.Ports.{is_port, level_in, level_of, unpowered}
+use Rattle.gb_machine.specs.State.{Port}
+use Rattle.gb_machine.specs.SvcQueues.{removes}
 
 -- ---- requests that are late stay open until they are given up
 
@@ -112,7 +119,7 @@ overdue m k = record { holds = λ a. IsOverdue m k a.state; kept = overdue-kept 
 overdue-after : (m : Moment) (n k : ℕ) (s : State) → n < k → IsOverdue m k s → IsOverdue m k (gives_up outcome.Timeout n s).state
 unfolding machine_opened
 overdue-after m n k s less h =
-    goes-notices m (overdue m k) (HostEvent.Ended n outcome.Timeout) (record s { bus = gave_up n outcome.Timeout s.bus }) tt []
+    goes-notices m (overdue m k) (HostEvent.Ended n outcome.Timeout) (record s { bus = gave_up n outcome.Timeout s.bus }) (λ r p e. absurd cc) tt []
     (record {
       unended =
           let o = opened k s.bus h.unended in
@@ -152,6 +159,24 @@ live-unwired n k t b less h = record {
   cport = h.cport;
   peer = h.peer;
 }
+
+-- where a module is pulled, its interface has no power, and others stay
+pulled-off : (i : ℕ) (ports : List Port) → level_of i (unpowered i ports) ≡ 0
+pulled-off i ports = ap level_in (none-of (is_port i) ports)
+
+unpowered-off : (i j : ℕ) (ports : List Port) (t : Bool) → (j == i) ≡ t
+    → (level_of j (unpowered i ports) ≡ level_of j ports) ⊎ (level_of j (unpowered i ports) ≡ 0)
+unpowered-off i j ports true e =
+    inr (ap (λ n. level_of n (unpowered i ports)) (same-number j i e) ∙ pulled-off i ports)
+unpowered-off i j ports false e =
+    inl (ap level_in (find-left (is_port j) (is_port i) ports (λ p h. other p.intf h)))
+  where
+    other : (n : ℕ) → (n == j) ≡ true → (n == i) ≡ false
+    other n h = grind (arith, nat_tests, e, h)
+
+removed-at : (i j : ℕ) → removes j (read_svc_ask (svc_ask_kind (SvcAsk.ModuleRemoved i))
+    (svc_ask_payload (SvcAsk.ModuleRemoved i))) ≡ true → i ≡ j
+removed-at i j h = omega (arith, same-number (i + 0) j h)
 
 -- what is wired to an interface is wired to a module
 is_at-module : (i : ℕ) (e : End) → is_at i e ≡ true → (c : ℕ) × (e ≡ end.Module i c)
@@ -276,21 +301,25 @@ module _ (m : Moment) (law : Law m) where
       (cuts-▸ (each (wired_numbers i s.bus) wiring.unwires) (change (with_pulled i)) s
       (unwires-each (wired_numbers i s.bus) s rise (wired-live i s.bus s.bus.connections (λ c j. j)))
       (gone (each (wired_numbers i s.bus) wiring.unwires s).state))
-      (tells_removed (with_pulled i (each (wired_numbers i s.bus) wiring.unwires s).state))
+      (tells_removed (with_pulled i (each (wired_numbers i s.bus) wiring.unwires s).state)
+      (pulled-off i (each (wired_numbers i s.bus) wiring.unwires s).state.ports))
     where
       gone : (w : State) → Cuts (change (with_pulled i)) w
       gone w told u = record {
         wires = u.wires;
         is = u.is;
-        holds = law.kept _ (others w.booted w.holds (with_pulled i w).ports (with_pulled i w).modules (inr of)) u.holds;
+        holds = law.kept _ (others w.booted w.holds (with_pulled i w).ports (with_pulled i w).modules
+            (inr (of, λ j. unpowered-off i j w.ports (j == i) refl))) u.holds;
       }
 
-      tells_removed : (w : State) → Cuts (when s.booted (svc_asks (SvcAsk.ModuleRemoved i))) w
-      tells_removed w told u = record {
+      tells_removed : (w : State) → level_of i w.ports ≡ 0
+          → Cuts (when s.booted (svc_asks (SvcAsk.ModuleRemoved i))) w
+      tells_removed w off told u = record {
         wires = u.wires;
         is = u.is;
         holds = goes-when m (acting m law) None [] u.wires s.booted (svc_asks (SvcAsk.ModuleRemoved i)) w
-            (λ e. goes-far_asks m (acting m law) [] u.wires 1 (svc_own (SvcAsk.ModuleRemoved i)) w (λ c d e. by_svc of)) told u.holds;
+            (λ e. goes-far_asks m (acting m law) [] u.wires 1 (svc_own (SvcAsk.ModuleRemoved i)) w
+            (λ c e. by_svc of refl (λ j h. ap (λ n. level_of n w.ports) (sym (removed-at i j h)) ∙ off))) told u.holds;
       }
 
   pub ends-pulls : IsOfSvc m.event → (i : ℕ) → Ends m law None (pulls i) m.before

@@ -1,6 +1,6 @@
--- Where a connection is wired its module is plugged, throughout.
+-- Where a connection is wired its module is plugged and its interface routed, throughout.
 use Rattle.gb_laws.proofs.LinkLists.{none-of}
-use Rattle.std.proofs.Common.{◌≡◌, ◌≢◌, ℕ, Bool, true, false, cond, Option, Some, None, List, [], ◌∷◌, map, refl, sym, ap, ◌∙◌, inl, inr, ⊎_elim, subst}
+use Rattle.std.proofs.Common.{◌≡◌, ◌≢◌, ◌≤◌, arith, ℕ, Bool, true, false, cond, Option, Some, None, List, [], ◌∷◌, map, refl, sym, ap, ◌∙◌, inl, inr, ⊎_elim, subst}
 use Rattle.std.specs.Prelude.{◌==◌, ◌&&◌, is_some, option_map}
 use Rattle.std.specs.List.{filter, find}
 use Rattle.gb_base.specs.declared.end.End.TheVariants as end
@@ -22,12 +22,14 @@ use Rattle.gb_laws.proofs.LinkRuns.{LinkedTo, linked-over, linked-throughout}
 use Rattle.gb_laws.proofs.Marking.{refused-state}
 use Rattle.gb_laws.proofs.Marks.{find-left}
 use Rattle.gb_laws.proofs.Plugs.{plugged-at, plugged-other}
-use Rattle.gb_laws.proofs.Points.{Basis, IsOfSvc, Law, resting}
+use Rattle.gb_laws.proofs.Points.{IsOfSvc, Law}
+use Rattle.gb_laws.proofs.PointParts.{Basis, resting}
 use Rattle.gb_laws.proofs.Pulling.{pulled-other, svc-asked, unwires-svc, wired-others}
-use Rattle.gb_laws.proofs.Runs.{throughout}
+use Rattle.gb_laws.proofs.Runs.{HoldsByMoments, Keeps, throughout}
 use Rattle.gb_laws.proofs.Steps.{over-step}
 use Rattle.gb_laws.proofs.Telling.{AfterAsk, QueueIsAsked, after-ask}
 use Rattle.gb_laws.proofs.WiredWell.{WiredFit, fit-bus, wired-kept}
+use Rattle.gb_machine.proofs.Conditions.{free as unmet}
 use Rattle.gb_machine.proofs.Opened.{machine_opened}
 use Rattle.gb_machine.specs.Actions.{each, when}
 use Rattle.gb_machine.specs.Bus.{Connection, has_number}
@@ -36,9 +38,9 @@ use Rattle.gb_machine.specs.Members.{EachTwo, IsIn}
 use Rattle.gb_machine.specs.Modules.{is_plugged, is_plugged_at, plugged, unplugged}
 use Rattle.gb_machine.specs.OwnAsking.{svc_asks}
 use Rattle.gb_machine.specs.Plugging.{boots, plugs, pulls, tells_inserted, wired_numbers, with_plugged, with_pulled}
-use Rattle.gb_machine.specs.Ports.{is_port, is_powered, powered, unpowered}
+use Rattle.gb_machine.specs.Ports.{is_port, is_powered, level_in, level_of, port_of, powered, unpowered}
 use Rattle.gb_machine.specs.Refusals.{refusal}
-use Rattle.gb_machine.specs.Runs.{HoldsThroughout, IsMoment, Moment, after}
+use Rattle.gb_machine.specs.Runs.{IsMoment, Moment, after}
 use Rattle.gb_machine.specs.State.{Plugged, Port, State, first_state}
 use Rattle.gb_machine.specs.Turns.{HostEvent}
 use Rattle.gb_machine.specs.Wires.{unwires, with_unwired}
@@ -65,17 +67,39 @@ fit-boots s asked h =
     let a1 = after-ask (SvcAsk.ProtocolVersion 0 1) s0 asked in
     let a2 = after-ask (SvcAsk.Hello 1 1) s1 a1.asked in
     fit-tells s.modules s2 a2.asked
-    (fit-ask s1 s2 _ a2 (fit-ask s0 s1 _ a1 (record { wired = h.wired; powered = h.powered; range = h.range })))
+    (fit-ask s1 s2 _ a2 (fit-ask s0 s1 _ a1 (record {
+      wired = h.wired;
+      powered = h.powered;
+      range = h.range;
+      bound = h.bound;
+      routed = h.routed;
+    })))
 
 -- ---- plugging
 
-fit-plugged : (i : ℕ) (x : Module) (s : State) → IsIntf i → WiredFit s → WiredFit (with_plugged i x s)
-fit-plugged i x s valid h = record {
+fit-plugged : (i : ℕ) (x : Module) (s : State) → IsIntf i → is_plugged i s.modules ≡ false
+    → WiredFit s → WiredFit (with_plugged i x s)
+fit-plugged i x s valid free h = record {
   wired = λ c live wired j p at. stays j (h.wired c live wired j p at);
   powered = λ j e. by_power j (i == j) refl e;
   range = λ j e. by_range j (i == j) refl e;
+  bound = λ j. by_bound j (i == j);
+  routed = λ c live wired j p at. by_route c live wired j p at (i == j) refl;
 }
   where
+    by_bound : (j : ℕ) (t : Bool)
+        → level_in (cond t (Some (record { intf = i; level = 0; device = None })) (port_of j s.ports)) ≤ 6
+    by_bound j true = omega arith
+    by_bound j false = h.bound j
+
+    by_route : (c : Connection) → IsIn c s.bus.connections → c.wired ≡ true → (j p : ℕ)
+        → c.peer ≡ end.Module j p → (t : Bool) → (i == j) ≡ t
+        → level_in (cond t (Some (record { intf = i; level = 0; device = None })) (port_of j s.ports)) ≡ 6
+    by_route c live wired j p at true e =
+        absurd (not-both (is_plugged i s.modules)
+        (ap (λ n. is_plugged n s.modules) (same-number i j e) ∙ h.wired c live wired j p at) free)
+    by_route c live wired j p at false e = h.routed c live wired j p at
+
     new : Plugged
     new = record { intf = i; body = x }
 
@@ -95,13 +119,14 @@ fit-plugged i x s valid h = record {
     by_range j true f e = subst IsIntf (same-number i j f) valid
     by_range j false f e = h.range j (sym (plugged-other j (record { intf = i; body = x }) s.modules f) ∙ e)
 
-fit-plugs : (i : ℕ) (x : Module) (s : State) → IsIntf i → QueueIsAsked s.bus → WiredFit s → WiredFit (plugs i x s).state
+fit-plugs : (i : ℕ) (x : Module) (s : State) → IsIntf i → is_plugged i s.modules ≡ false
+    → QueueIsAsked s.bus → WiredFit s → WiredFit (plugs i x s).state
 unfolding machine_opened
-fit-plugs i x s valid asked h = by s.booted
+fit-plugs i x s valid free asked h = by s.booted
   where
     by : (t : Bool) → WiredFit (when t (tells_inserted i) (with_plugged i x s)).state
-    by true = fit-ask (with_plugged i x s) _ _ (after-ask (SvcAsk.ModuleInserted i 1 0) (with_plugged i x s) asked) (fit-plugged i x s valid h)
-    by false = fit-plugged i x s valid h
+    by true = fit-ask (with_plugged i x s) _ _ (after-ask (SvcAsk.ModuleInserted i 1 0) (with_plugged i x s) asked) (fit-plugged i x s valid free h)
+    by false = fit-plugged i x s valid free h
 
 -- ---- pulling
 
@@ -131,8 +156,41 @@ fit-pulled i s rise h s1 is modules ports = record {
       by_wired c j p w.0 wired at w.1 (i == j) refl;
   powered = λ j e. by_power j (i == j) refl (sym (ap (λ ps. is_powered j (unpowered i ps)) ports) ∙ e);
   range = λ j e. by_range j (i == j) refl (sym (ap (λ ms. is_plugged j (unplugged i ms)) modules) ∙ e);
+  bound = λ j. subst (λ ps. level_of j (unpowered i ps) ≤ 6) (sym ports) (by_bound j (i == j) refl);
+  routed = λ c live wired j p at.
+      let w = cut-from (wired_numbers i s.bus) s c rise (subst (λ t. IsIn c t.bus.connections) is live) wired in
+      ap (λ ps. level_of j (unpowered i ps)) ports
+      ∙ by_route c j p w.0 wired at w.1 (i == j) refl;
 }
   where
+    past : (j : ℕ) → (i == j) ≡ false → (p : Port) (t : Bool) → (p.intf == i) ≡ t → p.intf ≡ j
+        → t ≡ false
+    past j e p false k same = refl
+    past j e p true k same = absurd (not-both (i == j)
+        (ap (λ n. n == j) (sym (same-number p.intf i k) ∙ same) ∙ is-same j) e)
+
+    left : (j : ℕ) → (i == j) ≡ false → port_of j (unpowered i s.ports) ≡ port_of j s.ports
+    left j e = find-left (is_port j) (is_port i) s.ports
+        (λ p g. past j e p (p.intf == i) refl (same-number p.intf j g))
+
+    by_bound : (j : ℕ) (t : Bool) → (i == j) ≡ t → level_of j (unpowered i s.ports) ≤ 6
+    by_bound j true e = subst (λ k. level_of k (unpowered i s.ports) ≤ 6) (same-number i j e)
+        (subst (λ o. level_in o ≤ 6) (sym (none-of (is_port i) s.ports)) (omega arith))
+    by_bound j false e = subst (λ o. level_in o ≤ 6) (sym (left j e)) (h.bound j)
+
+    by_route : (c : Connection) (j p : ℕ) → IsIn c s.bus.connections → c.wired ≡ true
+        → c.peer ≡ end.Module j p
+        → ((n : ℕ) → IsIn n (wired_numbers i s.bus) → c.number ≢ n) → (t : Bool) → (i == j) ≡ t
+        → level_of j (unpowered i s.ports) ≡ 6
+    by_route c j p live wired at other true e =
+        let to : is_wired_to i c ≡ true =
+        ap (λ t. t && is_at i c.peer) wired ∙ ap (is_at i) at
+        ∙ ap (λ n. n == i) (sym (same-number i j e)) ∙ is-same i in
+        absurd (other c.number (number-in (filter (is_wired_to i) s.bus.connections) c
+        (filter-in (is_wired_to i) s.bus.connections c live to)) refl)
+    by_route c j p live wired at other false e =
+        ap level_in (left j e) ∙ h.routed c live wired j p at
+
     by_wired : (c : Connection) (j p : ℕ) → IsIn c s.bus.connections → c.wired ≡ true → c.peer ≡ end.Module j p
         → ((n : ℕ) → IsIn n (wired_numbers i s.bus) → c.number ≢ n) → (t : Bool) → (i == j) ≡ t → is_plugged j (unplugged i s1.modules) ≡ true
     by_wired c j p live wired at other true e =
@@ -148,11 +206,7 @@ fit-pulled i s rise h s1 is modules ports = record {
         (ap (λ k. is_powered k (unpowered i s.ports)) (sym (same-number i j e)) ∙ ap is_some (none-of (is_port i) s.ports)))
     by_power j false e f =
         ap (λ ms. is_plugged j (unplugged i ms)) modules ∙ pulled-other i j s.modules e
-        ∙ h.powered j (sym (ap is_some (find-left (is_port j) (is_port i) s.ports (λ p g. past p (p.intf == i) refl (same-number p.intf j g)))) ∙ f)
-      where
-        past : (p : Port) (t : Bool) → (p.intf == i) ≡ t → p.intf ≡ j → t ≡ false
-        past p false k same = refl
-        past p true k same = absurd (not-both (i == j) (ap (λ n. n == j) (sym (same-number p.intf i k) ∙ same) ∙ is-same j) e)
+        ∙ h.powered j (sym (ap is_some (left j e)) ∙ f)
 
     by_range : (j : ℕ) (t : Bool) → (i == j) ≡ t → is_plugged j (unplugged i s.modules) ≡ true → IsIntf j
     by_range j true e f =
@@ -197,23 +251,25 @@ module _ (m : Moment) (one : IsMoment m.event) (start : WiredTo m.told m.before)
   fit-still : (e : Event) → m.event ≡ e → (IsOfSvc e → ⊥) → WiredFit (after m)
   fit-still e is other = (over-step m (wired_law (λ of. other (subst IsOfSvc is of))) one (start.links.0, start.wired)).1.1
 
-  fit-asking : (e : Event) → m.event ≡ e → WiredFit (decided None e m.before).state → WiredFit (after m)
+  fit-asking : (e : Event) → m.event ≡ e
+      → (refusal m.before e ≡ None → WiredFit (decided None e m.before).state)
+      → WiredFit (after m)
   unfolding machine_opened
   fit-asking e is done = by (refusal m.before e) refl
     where
       by : (o : Option Refusal) → refusal m.before e ≡ o → WiredFit (after m)
       by (Some reason) f = subst WiredFit (sym (refused-state m reason (ap (refusal m.before) is ∙ f))) start.wired
-      by None f = subst WiredFit (sym (ap (λ x. (step m.before x).state) is ∙ ap (λ o. (decided o e m.before).state) f)) done
+      by None f = subst WiredFit (sym (ap (λ x. (step m.before x).state) is ∙ ap (λ o. (decided o e m.before).state) f)) (done f)
 
   fit-kept : (e : Event) → m.event ≡ e → IsMoment e → WiredFit (after m)
   unfolding machine_opened
-  fit-kept event.Boot is at = fit-asking event.Boot is (fit-boots m.before (asked-items (resting m.told m.before) start.links.0) start.wired)
+  fit-kept event.Boot is at = fit-asking event.Boot is (λ free. fit-boots m.before (asked-items (resting m.told m.before) start.links.0) start.wired)
   fit-kept (event.Insert i kind) is at = fit-asking (event.Insert i kind) is
-      (fit-plugs i (module_of_kind kind) m.before at (asked-items (resting m.told m.before) start.links.0) start.wired)
+      (λ free. fit-plugs i (module_of_kind kind) m.before at (unmet m.before (event.Insert i kind) free).0 (asked-items (resting m.told m.before) start.links.0) start.wired)
   fit-kept (event.InsertRaw i manifest) is at = fit-asking (event.InsertRaw i manifest) is
-      (fit-plugs i (module_raw manifest) m.before at (asked-items (resting m.told m.before) start.links.0) start.wired)
+      (λ free. fit-plugs i (module_raw manifest) m.before at (unmet m.before (event.InsertRaw i manifest) free).0 (asked-items (resting m.told m.before) start.links.0) start.wired)
   fit-kept (event.Pull i) is at = fit-asking (event.Pull i) is
-      (fit-pulls i m.told m.before start.links (asked-items (resting m.told m.before) start.links.0) start.wired)
+      (λ free. fit-pulls i m.told m.before start.links (asked-items (resting m.told m.before) start.links.0) start.wired)
   fit-kept (event.Deliver to) is at = fit-still (event.Deliver to) is (λ x. x)
   fit-kept (event.Settle most) is at = absurd at
   fit-kept (event.Connect i c) is at = fit-still (event.Connect i c) is (λ x. x)
@@ -236,11 +292,20 @@ wired-first = record {
   wired = λ c i wired j p at. ⊎_elim (λ e. absurd (svc-peer j p (sym (ap (λ (x : Connection). x.peer) e) ∙ at))) (λ n. absurd n) i;
   powered = λ i e. absurd (not-both false e refl);
   range = λ i e. absurd (not-both false e refl);
+  bound = λ i. omega arith;
+  routed = λ c i wired j p at. ⊎_elim
+      (λ e. absurd (svc-peer j p (sym (ap (λ (x : Connection). x.peer) e) ∙ at))) (λ n. absurd n) i;
 }
   where
     svc-peer : (j p : ℕ) → end.Svc ≡ end.Module j p → ⊥
     svc-peer j p e = absurd cc
 
-pub wired-throughout : HoldsThroughout WiredTo
-wired-throughout = throughout WiredTo (record { links = linked-throughout [] tt; wired = wired-first })
-    (λ m one h. record { links = linked-over m one h.links; wired = fit-kept m one h m.event refl one })
+pub wired-over : Keeps WiredTo
+wired-over m one h = record {
+  links = linked-over m one h.links;
+  wired = fit-kept m one h m.event refl one;
+}
+
+pub wired-throughout : HoldsByMoments WiredTo
+wired-throughout =
+    throughout WiredTo (record { links = linked-throughout [] tt; wired = wired-first }) wired-over

@@ -1,4 +1,5 @@
-//! The laws of runs.
+//! The laws of runs. Each speaks of every run of valid events; where it speaks of moments, those
+//! are the events of the run with each settle taken apart into its deliveries.
 
 ghost use Rattle.gb_machine.specs.LawsBus.{
   EndpointsDiffer,
@@ -13,7 +14,8 @@ ghost use Rattle.gb_machine.specs.LawsEnds.{
   EndsAtMostOnce,
   EveryEndHasItsCause,
 };
-ghost use Rattle.gb_machine.specs.LawsHotPlug.{NoForeignMessage};
+ghost use Rattle.gb_machine.specs.LawsHotPlug.{AbsentAfterRemoval, NoForeignMessage};
+ghost use Rattle.gb_machine.specs.LawsSvc.{RemovalLeavesNothingWired, WiredMeansRouted};
 ghost use Rattle.gb_machine.specs.Runs.{SettlesAreDeliveries};
 ghost use Rattle.gb_machine.specs.Summary.{CountsAddUp};
 
@@ -61,11 +63,28 @@ pub fn endpoints_differ()
     ensures { EndpointsDiffer }
 {}
 
-/// What waits and what is held on a connection was put there by a request, a reply or an injection
-/// on that connection, and a delivery takes it from a connection that is live, wired and names the
-/// end.
+/// What waits and what is held on a connection was told as asked, replied or injected on that
+/// connection, and a delivery takes it from a connection that is live, wired and names the end.
 pub fn no_foreign_message()
     ensures { NoForeignMessage }
+{}
+
+/// An interface is absent from the moment at which its removal is handled to that at which its next
+/// insertion is, and no live connection names an interface that is absent.
+pub fn absent_after_removal()
+    ensures { AbsentAfterRemoval }
+{}
+
+/// While MODULE_REMOVED of an interface waits toward the application processor, the power level of
+/// the interface is at most 1 and none of its connections is wired; so none is where it is handled.
+pub fn removal_leaves_nothing_wired()
+    ensures { RemovalLeavesNothingWired }
+{}
+
+/// A connection that is wired, but for that of the supervisory controller, is at a routed interface
+/// where a module is plugged.
+pub fn wired_means_routed()
+    ensures { WiredMeansRouted }
 {}
 
 /// A name names a request that was made.
@@ -79,7 +98,8 @@ pub fn counts_add_up()
 {}
 
 /// Every run of valid events is a run without settles: each settle is its deliveries, the state
-/// behind it is the same, and the same happens in it, but for the lines that say so.
+/// after it is the same, and the same happens in it, but for the lines that say that something is
+/// done or settled.
 pub fn settles_are_deliveries()
     ensures { SettlesAreDeliveries }
 {}

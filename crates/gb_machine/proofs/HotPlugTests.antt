@@ -7,14 +7,16 @@ use Rattle.gb_base.specs.declared.end.End.TheVariants as end
 use Rattle.gb_base.specs.declared.end.Side.TheVariants as side
 use Rattle.gb_base.specs.declared.entry.IntfStage.{IntfStage}
 use Rattle.gb_base.specs.declared.entry.IntfStage.TheVariants as stage
+use Rattle.gb_base.specs.declared.peers.Interface.{Interface}
+use Rattle.gb_base.specs.declared.steps.SequenceStep.{SequenceStep}
 use Rattle.gb_machine.specs.Bus.{Request, connection_of, request_of}
-use Rattle.gb_machine.specs.Host.{Interface, interface_of}
+use Rattle.gb_machine.specs.Host.{interface_of}
 use Rattle.gb_machine.specs.LawsSvc.{awaited_by, awaits_removal, before_removal, enumeration_requests}
 use Rattle.gb_machine.specs.Lists.{behind_first}
 use Rattle.gb_machine.specs.Modules.{is_plugged}
 use Rattle.gb_machine.specs.Ports.{level_of}
 use Rattle.gb_machine.specs.Requests.{same_side}
-use Rattle.gb_machine.specs.SequenceSteps.{SequenceStep, asks_control}
+use Rattle.gb_machine.specs.SequenceSteps.{asks_control}
 use Rattle.gb_machine.specs.State.{State}
 use Rattle.gb_machine.specs.SvcQueues.{is_ask, is_connection_request, is_enumeration_request, is_for_link, is_reply_to, svc_items, svc_requests}
 use Rattle.gb_machine.specs.Wiring.{is_wired_to}

@@ -1,7 +1,10 @@
+pub mod Conditions
 pub mod Exploration
 pub mod HotPlugTests
 pub mod Lists
 pub mod Opened
+pub mod Options
+pub mod Positions
 pub mod RowsClosing
 pub mod RowsConnections
 pub mod RowsCounts
@@ -14,5 +17,6 @@ pub mod RowsLabels
 pub mod RowsPings
 pub mod RowsRefusals
 pub mod RowsShown
+pub mod ScriptRuns
 pub mod Scripts
 pub mod Steps

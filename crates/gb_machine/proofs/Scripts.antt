@@ -3,6 +3,7 @@ use Rattle.std.proofs.Common.{ℕ, ◌+◌, Bool, true, false, Some, None, Ok, E
 use Rattle.std.specs.Fmt.{digits}
 use Rattle.std.specs.Prelude.{⊤}
 use Rattle.hex.specs.Hex.{decode_pairs, encode_with}
+use Rattle.gb_base.specs.declared.event.Event.{Event}
 use Rattle.gb_formats.specs.Grammar.{Said}
 use Rattle.gb_formats.specs.I2cDevice.{counted_from}
 use Rattle.gb_formats.specs.Script.{said}
@@ -12,9 +13,9 @@ use Rattle.gb_machine.specs.Events.{step}
 use Rattle.gb_machine.specs.Report.{report, report_from}
 use Rattle.gb_machine.specs.State.{State, first_state}
 
--- every line is read
-abbrev pub any_line : List ℕ → Bool
-any_line words = true
+-- every event is done
+abbrev pub any_event : Event → Bool
+any_event e = true
 
 -- the text of these lines
 abbrev pub text : List (List ℕ) → List ℕ
@@ -23,11 +24,11 @@ text (line ∷ ls) = ended line ++ text ls
 
 -- the report of a script of these lines, with the bytes of messages
 abbrev pub hex_report : List (List ℕ) → List ℕ
-hex_report script = report any_line true (text script)
+hex_report script = report any_event true (text script)
 
 -- the same without the bytes
 abbrev pub plain_report : List (List ℕ) → List ℕ
-plain_report script = report any_line false (text script)
+plain_report script = report any_event false (text script)
 
 -- the state after what a line says
 abbrev pub after_said : Said → State → State
@@ -38,12 +39,12 @@ after_said (Err why) s = s
 -- the state after these lines
 abbrev pub after : State → List (List ℕ) → State
 after s [] = s
-after s (line ∷ ls) = after (after_said (said any_line 0 line) s) ls
+after s (line ∷ ls) = after (after_said (said any_event 0 line) s) ls
 
 -- what is reported of the lines of a script that follow a first part
 abbrev pub report_behind : Bool → List (List ℕ) → List (List ℕ) → List ℕ
 report_behind hex setup script =
-    report_from any_line hex (length setup + 1) (after first_state setup) script
+    report_from any_event hex (length setup + 1) (after first_state setup) script
 
 -- with the bytes of messages
 abbrev pub hex_behind : List (List ℕ) → List (List ℕ) → List ℕ

@@ -1,5 +1,5 @@
 -- What the machine's step is for each event, one equation for each way that it goes.
-use Rattle.std.proofs.Common.{◌≡◌, ℕ, suc, ◌+◌, true, false, not, if◌then◌else◌, Some, None, is_some, List, [], ◌∷◌, ◌++◌, refl, ap, ◌∙◌}
+use Rattle.std.proofs.Common.{◌≡◌, ℕ, suc, ◌+◌, true, false, not, if◌then◌else◌, Some, None, is_none, is_some, List, [], ◌∷◌, ◌++◌, refl, ap, ◌∙◌}
 use Rattle.gb_base.specs.declared.bridge.Reading.TheVariants as reading
 use Rattle.gb_base.specs.declared.end.End.{End}
 use Rattle.gb_base.specs.declared.end.End.TheVariants as end
@@ -14,10 +14,11 @@ use Rattle.gb_base.specs.declared.outcome.Outcome.TheVariants as outcome
 use Rattle.gb_base.specs.declared.refusal.Refusal.{Refusal}
 use Rattle.gb_base.specs.declared.refusal.Refusal.TheVariants as why
 use Rattle.gb_machine.proofs.Opened.{machine_opened}
-use Rattle.gb_machine.specs.Actions.{Action, Told, by_state, change, given, on_bus, tell, ◌▸◌}
+use Rattle.gb_machine.proofs.Conditions.{unrefused}
+use Rattle.gb_machine.specs.Actions.{Told, by_state, change, given, on_bus, tell, ◌▸◌}
 use Rattle.gb_machine.specs.Arriving.{arrives, asked_at, by_label, by_number, delivers, delivers_at, dropped, ends, ends_answered, forgets, handles, is_held, keeps, reading_for, takes}
 use Rattle.gb_machine.specs.Asking.{asked, asks, asks_with}
-use Rattle.gb_machine.specs.Bus.{Ask, Bus, Connection, Item, Place, Reply, Request, connection_of, is_open, next_number, or_else, outcome_of, other_side, place_of, queue, request_of}
+use Rattle.gb_machine.specs.Bus.{Ask, Bus, Connection, Item, Place, Reply, Request, connection_of, is_open, next_number, outcome_of, place_of, queue, request_of}
 use Rattle.gb_machine.specs.Delivery.{answered, ended, forgotten, popped}
 use Rattle.gb_machine.specs.Events.{decided, does, step, svc_draft}
 use Rattle.gb_machine.specs.GivingUp.{gives_up}
@@ -25,9 +26,9 @@ use Rattle.gb_machine.specs.HostActs.{turns}
 use Rattle.gb_machine.specs.HostTurns.{ended_for}
 use Rattle.gb_machine.specs.Incoming.{incoming}
 use Rattle.gb_machine.specs.Labels.{next_label}
-use Rattle.gb_machine.specs.Lists.{first, first_met}
+use Rattle.gb_machine.specs.Lists.{first, first_met, holds_of}
 use Rattle.gb_machine.specs.Names.{bound, freed, is_bound, named}
-use Rattle.gb_machine.specs.Refusals.{cancel_refusal, deliver_refusal, empty_refusal, end_refusal, refusal, svc_refusal}
+use Rattle.gb_machine.specs.Refusals.{deliver_conditions, has_nothing, is_end_unplugged, refusal, svc_conditions}
 use Rattle.gb_machine.specs.Requests.{gave_up}
 use Rattle.gb_machine.specs.Responding.{serves}
 use Rattle.gb_machine.specs.Sending.{Draft, label_for, sent}
@@ -50,11 +51,6 @@ pub step-refused : (s : State) (e : Event) (why : Refusal) → refusal s e ≡ S
 unfolding machine_opened
 step-refused s e why h = ap (λ o. decided o e s) h
 
--- where an item waits, a delivery isn't refused
-not_empty : (items : List Item) (item : Item) → first items ≡ Some item → empty_refusal items ≡ None
-not_empty [] item front = cc
-not_empty (i ∷ items) item front = refl
-
 -- what is told behind the line's answer
 abbrev pub behind_done : Told → Told
 behind_done t = told t.state (entry.Done ∷ t.entries)
@@ -75,7 +71,7 @@ asks-made d s c label live drawn =
 
 -- a request to the supervisory controller
 pub step-send_svc : (s : State) (name : Name) (kind : ℕ) (payload : List ℕ) (timeout : ℕ) (c : Connection) (label : ℕ)
-    → svc_refusal s name kind payload ≡ None
+    → first_met (svc_conditions s name kind payload) ≡ None
     → connection_of 1 s.bus ≡ Some c
     → next_label 1 side.Ap s.bus ≡ Some label
     → step s (event.Send name end.Svc kind payload timeout)
@@ -98,14 +94,13 @@ is_held-bus side.Far c b s = refl
 
 -- a delivery isn't refused where the end is there, and an item waits
 pub deliver-allowed : (s : State) (at : End) (p : Place) (item : Item)
-    → end_refusal s at ≡ None
+    → is_end_unplugged at s ≡ false
     → place_of at s.bus.connections ≡ Some p
     → first (queue p.side p.connection) ≡ Some item
     → refusal s (event.Deliver at) ≡ None
 deliver-allowed s at p item there named front =
-    ap (λ o. or_else o (deliver_refusal (place_of at s.bus.connections))) there
-    ∙ ap deliver_refusal named
-    ∙ not_empty (queue p.side p.connection) item front
+    unrefused (deliver_conditions s at)
+    (there, (ap is_none named, (ap (holds_of has_nothing) named ∙ ap is_none front, tt)))
 
 -- a delivery that isn't refused is done
 pub step-deliver : (s : State) (at : End) → refusal s (event.Deliver at) ≡ None
@@ -297,7 +292,8 @@ pub step-cancel : (s : State) (name : Name) (n : ℕ)
 unfolding machine_opened
 step-cancel s name n bound still unawaited =
     let u = with_bus (gave_up n outcome.Cancelled s.bus) s in
-    ap (λ o. decided (cancel_refusal s o) (event.Cancel name) s) bound
+    ap (λ o. decided (first_met ((is_none o, why.NoName)
+    ∷ (holds_of (λ m. is_some (outcome_of m s.bus)) o, why.AlreadyEnded) ∷ [])) (event.Cancel name) s) bound
     ∙ ap (λ o. decided (first_met ((is_some o, why.AlreadyEnded) ∷ [])) (event.Cancel name) s) still
     ∙ ap (λ o. behind_done (given o (gives_up outcome.Cancelled) s)) bound
     ∙ ap (λ o. let w : Told = turns (ended_for o outcome.Cancelled s.host) u in

@@ -12,13 +12,14 @@ use Rattle.gb_base.specs.declared.entry.Entry.{Entry}
 use Rattle.gb_base.specs.declared.entry.Entry.TheVariants as entry
 use Rattle.gb_base.specs.declared.fault.RawFault.{RawFault}
 use Rattle.gb_base.specs.declared.outcome.Outcome.{Outcome}
+use Rattle.gb_base.specs.declared.peers.Link.{Link}
 use Rattle.gb_formats.specs.Bridges.{reading_of}
 use Rattle.gb_formats.specs.Message.{Message}
 use Rattle.gb_formats.specs.Wire.{raw_message}
 use Rattle.gb_machine.specs.Actions.{Action, by_state, change, given, on_bus, tell, ◌▸◌}
 use Rattle.gb_machine.specs.Bus.{Ask, Connection, Item, Place, Raw, RawReply, Reply, Request, is_open, place_of, queue, request_of}
 use Rattle.gb_machine.specs.Delivery.{answered, ended, forgotten, popped}
-use Rattle.gb_machine.specs.Host.{Link, link_of}
+use Rattle.gb_machine.specs.Host.{link_of}
 use Rattle.gb_machine.specs.HostActs.{follows}
 use Rattle.gb_machine.specs.Incoming.{Incoming, incoming, incoming_raw, is_request}
 use Rattle.gb_machine.specs.Lists.{first}

@@ -5,6 +5,7 @@ use Rattle.gb_base.specs.declared.end.End.TheVariants as end
 use Rattle.gb_base.specs.declared.end.Side.{Side}
 use Rattle.gb_base.specs.declared.end.Side.TheVariants as side
 use Rattle.gb_base.specs.declared.outcome.Outcome.{Outcome}
+use Rattle.gb_formats.specs.Protocols.{svc_protocol}
 use Rattle.gb_machine.specs.Lists.{lookup, nth}
 
 -- A request. Requests are numbered from 1 in the order in which they were made.
@@ -52,7 +53,7 @@ svc_connection = record {
   number = 1;
   ap = 0;
   peer = end.Svc;
-  protocol = 0x14;
+  protocol = svc_protocol;
   wired = true;
   clean = true;
   shut = false;

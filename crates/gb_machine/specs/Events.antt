@@ -4,7 +4,8 @@ use Rattle.gb_base.specs.declared.entry.Entry.TheVariants as entry
 use Rattle.gb_base.specs.declared.event.Event.{Event}
 use Rattle.gb_base.specs.declared.event.Event.TheVariants as event
 use Rattle.gb_base.specs.declared.refusal.Refusal.{Refusal}
-use Rattle.gb_formats.specs.Module.{Level, Serial, module_of_kind, module_raw}
+use Rattle.gb_formats.specs.Devices.{Level, Serial}
+use Rattle.gb_formats.specs.Module.{module_of_kind, module_raw}
 use Rattle.gb_machine.specs.Actions.{Action, Told, by_state, change, tell, tell_all, ◌▸◌}
 use Rattle.gb_machine.specs.Arriving.{delivers}
 use Rattle.gb_machine.specs.GivingUp.{cancels, ticks}

@@ -5,8 +5,12 @@ use Rattle.gb_base.specs.declared.entry.ConnState.TheVariants as state
 use Rattle.gb_base.specs.declared.entry.Entry.{Entry}
 use Rattle.gb_base.specs.declared.entry.Entry.TheVariants as entry
 use Rattle.gb_base.specs.declared.entry.IntfStage.TheVariants as stage
-use Rattle.gb_machine.specs.Host.{Host, Interface, Link, in_state, link_at, staged, with_interface, with_link}
-use Rattle.gb_machine.specs.SequenceSteps.{Purpose, SequenceStep}
+use Rattle.gb_base.specs.declared.peers.Interface.{Interface}
+use Rattle.gb_base.specs.declared.peers.Link.{Link}
+use Rattle.gb_base.specs.declared.steps.Purpose.{Purpose}
+use Rattle.gb_base.specs.declared.steps.SequenceStep.{SequenceStep}
+use Rattle.gb_base.specs.declared.steps.SequenceStep.TheVariants as steps
+use Rattle.gb_machine.specs.Host.{Host, in_state, link_at, staged, with_interface, with_link}
 use Rattle.gb_machine.specs.Turns.{Failing, failing}
 
 -- ---- what is told
@@ -44,12 +48,12 @@ control_fails p h =
 -- What fails where a step isn't answered as it should be: its connection in a connect or close, the
 -- interface in an enumeration, and both where the Control connection was to be created.
 abbrev pub step_fails : SequenceStep → Purpose → Host → Failing
-step_fails SequenceStep.CreateControl p h = control_fails p h
-step_fails SequenceStep.CreateConnection p h = link_fails p h
-step_fails SequenceStep.TellConnected p h = link_fails p h
-step_fails SequenceStep.TellDisconnecting p h = link_fails p h
-step_fails SequenceStep.TellDisconnected p h = link_fails p h
-step_fails SequenceStep.DestroyConnection p h = link_fails p h
+step_fails steps.CreateControl p h = control_fails p h
+step_fails steps.CreateConnection p h = link_fails p h
+step_fails steps.TellConnected p h = link_fails p h
+step_fails steps.TellDisconnecting p h = link_fails p h
+step_fails steps.TellDisconnected p h = link_fails p h
+step_fails steps.DestroyConnection p h = link_fails p h
 step_fails _ p h = interface_fails p h
 
 -- an interface is to have no device id
@@ -59,9 +63,9 @@ without_device x = record x { device = None }
 -- What fails where a step's request can't be made, since no identifier is left. No connection was
 -- made then, and no device id is taken.
 abbrev pub unsent_fails : SequenceStep → Purpose → Host → Failing
-unsent_fails SequenceStep.CreateControl p h = interface_fails p h
-unsent_fails SequenceStep.CreateConnection p h = failing h []
-unsent_fails SequenceStep.GiveDevice p h =
+unsent_fails steps.CreateControl p h = interface_fails p h
+unsent_fails steps.CreateConnection p h = failing h []
+unsent_fails steps.GiveDevice p h =
     interface_fails p (with_interface p.intf without_device h)
 unsent_fails step p h = step_fails step p h
 

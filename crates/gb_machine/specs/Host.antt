@@ -1,6 +1,8 @@
 -- The application processor: what it knows of interfaces and of its connections to modules.
 use Rattle.std.specs.Prelude.{ℕ, ◌==◌, nat_lt, Bool, false, ◌&&◌, if◌then◌else◌, Option, Some, None, option_map, option_and_then, Result, Ok, Err, List, [], ◌∷◌, ◌++◌, find}
 use Rattle.std.specs.List.{list_any}
+use Rattle.gb_base.specs.declared.peers.Interface.{Interface}
+use Rattle.gb_base.specs.declared.peers.Link.{Link}
 use Rattle.gb_base.specs.declared.entry.ConnState.{ConnState}
 use Rattle.gb_base.specs.declared.entry.ConnState.TheVariants as state
 use Rattle.gb_base.specs.declared.entry.IntfStage.{IntfStage}
@@ -9,28 +11,6 @@ use Rattle.gb_formats.specs.Manifest.{CportView, Manifest, check_answer, cport}
 use Rattle.gb_formats.specs.ManifestRules.{Refused}
 use Rattle.gb_formats.specs.UartDevice.{most_credits}
 use Rattle.gb_machine.specs.Lists.{at_first, first_free, in_order, without}
-use Rattle.gb_machine.specs.SequenceSteps.{SequenceStep}
-
--- An interface that a module was inserted at.
-pub record Interface : Type 0 where
-  pub intf : ℕ
-  pub stage : IntfStage
-  pub device : Option ℕ  -- the device id that it is to have
-  pub has_device : Bool  -- the supervisory controller gave it the device id
-  pub size : ℕ  -- the size of its manifest, as it was told
-  pub manifest : List ℕ
-  pub awaits : Option (ℕ × SequenceStep)  -- the request and step of its enumeration
-
--- A connection to a module.
-pub record Link : Type 0 where
-  pub connection : ℕ
-  pub ap : ℕ
-  pub intf : ℕ
-  pub cport : ℕ
-  pub protocol : ℕ
-  pub state : ConnState
-  pub credits : ℕ
-  pub awaits : Option (ℕ × SequenceStep)  -- the request and step of its connect or close
 
 -- The application processor. The interfaces rise, and so do the connections' numbers.
 pub record Host : Type 0 where

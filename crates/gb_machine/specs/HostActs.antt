@@ -4,15 +4,17 @@ use Rattle.gb_base.specs.declared.entry.ConnState.TheVariants as state
 use Rattle.gb_base.specs.declared.end.Side.TheVariants as side
 use Rattle.gb_base.specs.declared.entry.Entry.TheVariants as entry
 use Rattle.gb_base.specs.declared.outcome.Outcome.{Outcome}
+use Rattle.gb_base.specs.declared.peers.Link.{Link}
+use Rattle.gb_base.specs.declared.steps.Purpose.{Purpose}
 use Rattle.gb_formats.specs.Grammar.{default_timeout}
 use Rattle.gb_machine.specs.Actions.{Action, by_state, change, each, on_bus, on_host, tell, tell_all, ◌▸◌}
 use Rattle.gb_machine.specs.Asking.{asks}
 use Rattle.gb_machine.specs.Bus.{next_number}
-use Rattle.gb_machine.specs.Host.{Host, Link, link_at, with_new_link}
+use Rattle.gb_machine.specs.Host.{Host, link_at, with_new_link}
 use Rattle.gb_machine.specs.HostTurns.{host_turn}
 use Rattle.gb_machine.specs.Labels.{next_label}
 use Rattle.gb_machine.specs.Sending.{Draft, draft}
-use Rattle.gb_machine.specs.SequenceSteps.{Purpose, is_for_connection}
+use Rattle.gb_machine.specs.SequenceSteps.{is_for_connection}
 use Rattle.gb_machine.specs.Failures.{unsent}
 use Rattle.gb_machine.specs.Waits.{awaits}
 use Rattle.gb_machine.specs.State.{State}

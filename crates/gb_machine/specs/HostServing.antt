@@ -2,16 +2,15 @@
 use Rattle.std.specs.Prelude.{ℕ, ◌==◌, if◌then◌else◌, Option, Some, None, Result, Ok, Err, List}
 use Rattle.gb_base.specs.declared.entry.Entry.{Entry}
 use Rattle.gb_base.specs.declared.entry.Entry.TheVariants as entry
-use Rattle.gb_formats.specs.GpioRecords.{GpioAsk, read_gpio_ask}
+use Rattle.gb_base.specs.declared.peers.Link.{Link}
+use Rattle.gb_formats.specs.GpioRecords.{GpioAsk, read_gpio_ask_of_module}
 use Rattle.gb_formats.specs.Records.{PayloadFault}
 use Rattle.gb_formats.specs.Results.{fault_result}
-use Rattle.gb_formats.specs.SvcRecords.{SvcAsk, SvcReply, read_svc_ask, svc_reply_payload}
-use Rattle.gb_formats.specs.UartDevice.{credits_added, is_uart_own}
-use Rattle.gb_formats.specs.UartRecords.{UartAsk, read_uart_ask}
-use Rattle.gb_formats.specs.GpioDevice.{irq_event}
-use Rattle.gb_machine.specs.Host.{Host, Link, link_of, with_link}
+use Rattle.gb_formats.specs.SvcRecords.{SvcAsk, SvcReply, read_svc_ask_of_svc, svc_reply_payload}
+use Rattle.gb_formats.specs.UartDevice.{credits_added}
+use Rattle.gb_formats.specs.UartRecords.{UartAsk, read_uart_ask_of_module}
+use Rattle.gb_machine.specs.Host.{Host, link_of, with_link}
 use Rattle.gb_machine.specs.Serving.{Answer, answer, invalid, plainly, protocol_bad, success}
-use Rattle.gb_machine.specs.SvcTable.{is_svc_own}
 use Rattle.gb_machine.specs.Turns.{HostEvent}
 
 -- What it answers, how it is then, what is told behind the reply, and what it takes notice of then.
@@ -58,9 +57,7 @@ notified_by (Err fault) h = host_refuses (fault_result fault) h
 
 -- A request of the supervisory controller.
 abbrev pub serves_svc : ℕ → List ℕ → Host → HostServed
-serves_svc kind payload h =
-    if is_svc_own kind then notified_by (read_svc_ask kind payload) h
-    else host_refuses protocol_bad h
+serves_svc kind payload h = notified_by (read_svc_ask_of_svc kind payload) h
 
 -- ---- requests of bridged CPorts
 
@@ -72,9 +69,7 @@ interrupted l (Err fault) h = host_refuses (fault_result fault) h
 
 -- A request of a GPIO.
 abbrev pub serves_gpio : Link → ℕ → List ℕ → Host → HostServed
-serves_gpio l kind payload h =
-    if kind == irq_event then interrupted l (read_gpio_ask kind payload) h
-    else host_refuses protocol_bad h
+serves_gpio l kind payload h = interrupted l (read_gpio_ask_of_module kind payload) h
 
 -- a connection has so many credits
 abbrev pub with_credits : ℕ → Link → Link
@@ -103,9 +98,7 @@ uart_notified_by l (Err fault) h = host_refuses (fault_result fault) h
 
 -- A request of a UART.
 abbrev pub serves_uart : Link → ℕ → List ℕ → Host → HostServed
-serves_uart l kind payload h =
-    if is_uart_own kind then uart_notified_by l (read_uart_ask kind payload) h
-    else host_refuses protocol_bad h
+serves_uart l kind payload h = uart_notified_by l (read_uart_ask_of_module kind payload) h
 
 -- ---- all requests
 

@@ -5,10 +5,13 @@ use Rattle.gb_base.specs.declared.entry.ConnState.TheVariants as state
 use Rattle.gb_base.specs.declared.entry.Entry.TheVariants as entry
 use Rattle.gb_base.specs.declared.entry.IntfStage.TheVariants as stage
 use Rattle.gb_base.specs.declared.outcome.Outcome.{Outcome}
+use Rattle.gb_base.specs.declared.peers.Link.{Link}
+use Rattle.gb_base.specs.declared.steps.Purpose.{Purpose}
+use Rattle.gb_base.specs.declared.steps.SequenceStep.TheVariants as steps
 use Rattle.gb_formats.specs.Manifest.{CportView}
-use Rattle.gb_machine.specs.Host.{Host, Link, cport_of, free_cport, in_state, interface_of, is_intf, link_at, with_link, with_new_interface}
+use Rattle.gb_machine.specs.Host.{Host, cport_of, free_cport, in_state, interface_of, is_intf, link_at, with_link, with_new_interface}
 use Rattle.gb_machine.specs.Lists.{without}
-use Rattle.gb_machine.specs.SequenceSteps.{Purpose, SequenceStep, purpose}
+use Rattle.gb_machine.specs.SequenceSteps.{purpose}
 use Rattle.gb_machine.specs.Failures.{link_told}
 use Rattle.gb_machine.specs.Sequences.{opens, payload_in, step_answered, step_asked}
 use Rattle.gb_machine.specs.Waits.{awaited, awaits_nothing}
@@ -18,7 +21,7 @@ use Rattle.gb_machine.specs.Turns.{Act, HostEvent, Turn, telling, turn}
 abbrev pub host_inserted : ℕ → Host → Turn
 host_inserted i h =
     telling (entry.Interface i stage.Enumerating)
-    (step_asked (purpose i 0 SequenceStep.EnableVsys) (with_new_interface i h))
+    (step_asked (purpose i 0 steps.EnableVsys) (with_new_interface i h))
 
 -- the connections of an interface, by number
 abbrev pub links_of : ℕ → Host → List Link
@@ -58,7 +61,7 @@ connects (Some view) p h = connects_on (free_cport h) view.protocol p h
 abbrev pub host_connects : ℕ → ℕ → Host → Turn
 host_connects i c h =
     connects (option_and_then (cport_of c) (interface_of i h))
-    (purpose i c SequenceStep.CreateConnection) h
+    (purpose i c steps.CreateConnection) h
 
 -- a connection is closing: its side is closed, and then its sequence begins
 abbrev pub disconnects : Option Link → Purpose → Host → Turn
@@ -71,7 +74,7 @@ disconnects (Some l) p h =
 -- The close sequence of a connection begins.
 abbrev pub host_disconnects : ℕ → ℕ → Host → Turn
 host_disconnects i c h =
-    disconnects (link_at i c h) (purpose i c SequenceStep.TellDisconnecting) h
+    disconnects (link_at i c h) (purpose i c steps.TellDisconnecting) h
 
 -- a request for this purpose ended; nothing starts where no sequence waited for it
 abbrev pub ended_for : Option Purpose → Outcome → Host → Turn

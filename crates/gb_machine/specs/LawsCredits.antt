@@ -7,17 +7,18 @@ use Rattle.gb_base.specs.declared.entry.Entry.{Entry}
 use Rattle.gb_base.specs.declared.entry.Entry.TheVariants as entry
 use Rattle.gb_base.specs.declared.event.Event.{Event}
 use Rattle.gb_base.specs.declared.event.Event.TheVariants as event
+use Rattle.gb_base.specs.declared.peers.Link.{Link}
 use Rattle.gb_formats.specs.Bridges.{credits_taken}
 use Rattle.gb_formats.specs.Records.{PayloadFault}
 use Rattle.gb_formats.specs.UartDevice.{most_credits}
 use Rattle.gb_formats.specs.UartRecords.{UartAsk, read_uart_ask}
 use Rattle.gb_machine.specs.Bus.{Bus, Item, Place, place_of, queue}
-use Rattle.gb_machine.specs.Host.{Link, link_at}
+use Rattle.gb_machine.specs.Host.{link_at}
 use Rattle.gb_machine.specs.Incoming.{Incoming, request_in}
 use Rattle.gb_machine.specs.Lists.{first}
 use Rattle.gb_machine.specs.Members.{Each, total}
 use Rattle.gb_machine.specs.Refusals.{refusal}
-use Rattle.gb_machine.specs.Runs.{AreMoments, Moment, moments, state_by, told_at}
+use Rattle.gb_machine.specs.Runs.{AreValid, Moment, moments_in, state_by, told_at}
 
 -- ---- what was sent
 
@@ -84,8 +85,8 @@ pub record AddUp (ms : List Moment) (l : Link) : Type 0 where
   pub sum : l.credits + sent_on l.connection ms ≡ most_credits + back_on l.connection ms
   pub bound : l.credits ≤ most_credits
 
--- The credits of every connection to a UART add up, in every state of a run.
+-- The credits of every connection to a UART add up over the moments of every run.
 abbrev pub CreditsAddUp : Type 0
 CreditsAddUp =
-    (es : List Event) → AreMoments es
-    → Each (λ l. l.protocol ≡ 0x04 → AddUp (moments es) l) (state_by es).host.links
+    (es : List Event) → AreValid es
+    → Each (λ l. l.protocol ≡ 0x04 → AddUp (moments_in es) l) (state_by es).host.links

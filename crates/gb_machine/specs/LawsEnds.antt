@@ -10,9 +10,10 @@ use Rattle.gb_base.specs.declared.event.Event.TheVariants as event
 use Rattle.gb_base.specs.declared.name.Name.{Name}
 use Rattle.gb_base.specs.declared.outcome.Outcome.{Outcome}
 use Rattle.gb_base.specs.declared.outcome.Outcome.TheVariants as outcome
+use Rattle.gb_base.specs.declared.peers.Link.{Link}
 use Rattle.gb_formats.specs.Message.{message_size, response, spelling}
 use Rattle.gb_machine.specs.Bus.{Connection, Request, connection_of, end_of, other_side, request_of}
-use Rattle.gb_machine.specs.Host.{Link, link_at, link_of}
+use Rattle.gb_machine.specs.Host.{link_at, link_of}
 use Rattle.gb_machine.specs.Members.{IsIn, times}
 use Rattle.gb_machine.specs.Names.{named}
 use Rattle.gb_machine.specs.Runs.{HoldsAtEachMoment, HoldsThroughout, Moment, after, told_at}

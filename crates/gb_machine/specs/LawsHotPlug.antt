@@ -1,6 +1,6 @@
 -- Laws of runs: what stands once a module was removed, whose messages are handled, and when a
 -- connection is wired.
-use Rattle.std.specs.Prelude.{◌≡◌, ◌≤◌, ◌≢◌, ℕ, ◌==◌, true, false, if◌then◌else◌, is_some, Some, None, Ok, List, [], ◌∷◌, length}
+use Rattle.std.specs.Prelude.{◌≡◌, ◌≤◌, ◌≢◌, ◌⊎◌, ℕ, ◌==◌, true, false, if◌then◌else◌, is_some, Some, None, Ok, List, [], ◌∷◌, length}
 use Rattle.gb_base.specs.declared.end.End.{End}
 use Rattle.gb_base.specs.declared.end.End.TheVariants as end
 use Rattle.gb_base.specs.declared.end.Side.{Side}
@@ -10,7 +10,7 @@ use Rattle.gb_base.specs.declared.entry.ConnState.TheVariants as state
 use Rattle.gb_base.specs.declared.entry.Entry.{Entry}
 use Rattle.gb_base.specs.declared.entry.Entry.TheVariants as entry
 use Rattle.gb_base.specs.declared.event.Event.TheVariants as event
-use Rattle.gb_formats.specs.Message.{message_size, response, spelling}
+use Rattle.gb_formats.specs.Message.{message_size, request, response, spelling}
 use Rattle.gb_formats.specs.SvcRecords.{SvcAsk, read_svc_ask}
 use Rattle.gb_machine.specs.Bus.{Ask, Bus, Connection, Item, Place, Raw, RawReply, Reply, Request, connection_of, end_of, is_open, other_side, place_of, queue, request_of}
 use Rattle.gb_machine.specs.Holding.{held_on}
@@ -28,19 +28,18 @@ use Rattle.gb_machine.specs.Wiring.{is_at}
 
 -- ---- nothing left after a removal
 
--- no open request is on a connection that ever named an interface
-abbrev pub HasNoOpen : ℕ → List Entry → State → Type 0
-HasNoOpen i told s =
-    (k ap c n : ℕ) (state : ConnState) (r : Request)
-    → IsIn (entry.Connection k ap i c state) told
-    → request_of n s.bus ≡ Some r → r.connection ≡ k → is_open n s.bus ≡ false
+-- No live connection names an interface that is absent.
+abbrev pub AbsentIsUnconnected : List Entry → State → Type 0
+AbsentIsUnconnected told s =
+    (i : ℕ) → interface_of i s.host ≡ None → Each (λ c. is_at i c.peer ≡ false) s.bus.connections
 
--- An interface that is absent is named by no connection, and nothing that was asked on one that
--- named it is open.
-pub record AbsentHasNothing (told : List Entry) (s : State) : Type 0 where
-  pub connections : (i : ℕ) → interface_of i s.host ≡ None
-      → Each (λ c. is_at i c.peer ≡ false) s.bus.connections
-  pub requests : (i : ℕ) → interface_of i s.host ≡ None → HasNoOpen i told s
+-- Each open request of the application processor is on a live connection, and its side of that isn't
+-- closed.
+abbrev pub OpenIsLive : List Entry → State → Type 0
+OpenIsLive told s =
+    (n : ℕ) (r : Request) → request_of n s.bus ≡ Some r → is_open n s.bus ≡ true
+    → r.side ≡ side.Ap
+    → (c : Connection) × (connection_of r.connection s.bus ≡ Some c) × (c.shut ≡ false)
 
 -- An interface is absent once its removal is handled, until its insertion is handled.
 pub record AbsentBetween (m : Moment) : Type 0 where
@@ -48,16 +47,36 @@ pub record AbsentBetween (m : Moment) : Type 0 where
   pub inserted : (i : ℕ) → interface_of i m.before.host ≡ None
       → is_some (interface_of i (after m).host) ≡ true → HandlesInsertion i m
 
+-- Once the removal of an interface is handled it is absent until its insertion is handled. No live
+-- connection names it meanwhile.
+abbrev pub AbsentAfterRemoval : Type 0
+AbsentAfterRemoval = HoldsThroughout AbsentIsUnconnected × HoldsAtEachMoment AbsentBetween
+
+-- no open request is on a connection that ever named an interface
+abbrev pub HasNoOpen : ℕ → List Entry → State → Type 0
+HasNoOpen i told s =
+    (k ap c n : ℕ) (state : ConnState) (r : Request)
+    → IsIn (entry.Connection k ap i c state) told
+    → request_of n s.bus ≡ Some r → r.connection ≡ k → is_open n s.bus ≡ false
+
+-- nothing that was asked on a connection that named an absent interface is open
+abbrev pub AbsentHasNoOpen : List Entry → State → Type 0
+AbsentHasNoOpen told s = (i : ℕ) → interface_of i s.host ≡ None → HasNoOpen i told s
+
 -- Once the removal of an interface is handled, nothing on it is open, until it is inserted again.
-abbrev pub NothingLeftAfterRemoval : Type 0
-NothingLeftAfterRemoval = HoldsThroughout AbsentHasNothing × HoldsAtEachMoment AbsentBetween
+pub record NothingLeftAfterRemoval : Type 0 where
+  pub absent : AbsentAfterRemoval
+  pub closed : HoldsThroughout AbsentHasNoOpen
+  pub live : HoldsThroughout OpenIsLive
 
 -- ---- no foreign message
 
--- the request of an item was made on the item's connection, by this side
-abbrev pub IsMadeOn : ℕ → Side → ℕ → Bus → Type 0
-IsMadeOn k at n b =
-    (r : Request) × (request_of n b ≡ Some r) × (r.connection ≡ k) × (r.side ≡ at)
+-- request n was told as asked on a connection, by this side, and wasn't lost
+abbrev pub IsAskedOn : Connection → Side → ℕ → List Entry → Bus → Type 0
+IsAskedOn c at n told b =
+    (r : Request) × (request_of n b ≡ Some r) × (r.connection ≡ c.number) × (r.side ≡ at)
+    × IsIn (entry.Asked n (end_of at c) (end_of (other_side at) c) r.kind
+    (message_size r.payload) (spelling (request r.label r.kind r.payload)) false) told
 
 -- the reply to request n was told on a connection, toward a side
 abbrev pub IsRepliedOn : Connection → Side → ℕ → ℕ → List ℕ → List Entry → Bus → Type 0
@@ -77,7 +96,7 @@ told_since k (_ ∷ es) = told_since k es
 -- connection. Injected bytes and the reply to them have no number: they were told since the
 -- connection was opened, between its ends, which no other has meanwhile.
 abbrev pub IsOwnItem : List Entry → Bus → Connection → Side → Item → Type 0
-IsOwnItem told b c at (Ask n) = IsMadeOn c.number (other_side at) n b
+IsOwnItem told b c at (Ask n) = IsAskedOn c (other_side at) n told b
 IsOwnItem told b c at (Reply n result payload) = IsRepliedOn c at n result payload told b
 IsOwnItem told b c at (Raw bytes) =
     (at ≡ side.Ap)
@@ -150,8 +169,22 @@ WiredByItsRequest m =
 abbrev pub NoneForgotten : Moment → Type 0
 NoneForgotten m = Each (λ k. IsIn k (after m).past.wired) m.before.past.wired
 
+-- A request is remembered for one connection.
+abbrev pub RememberedForOne : List Entry → State → Type 0
+RememberedForOne told s =
+    (n k j : ℕ) → IsIn (n, k) s.past.made_for → IsIn (n, j) s.past.made_for → k ≡ j
+
+-- What is remembered at a moment is remembered for a connection that is live then.
+abbrev pub RememberedWhileLive : Moment → Type 0
+RememberedWhileLive m =
+    Each (λ (p : ℕ × ℕ). IsIn p m.before.past.made_for
+    ⊎ is_some (connection_of p.1 (after m).bus) ≡ true) (after m).past.made_for
+
 -- A connection is wired at most once, by its own request, to a module that is plugged and routed.
-abbrev pub WiredAtMostOnce : Type 0
-WiredAtMostOnce =
-    HoldsThroughout WiredOnce × HoldsAtEachMoment WiredByItsRequest
-    × HoldsAtEachMoment NoneForgotten
+-- Its own request was made while it was live, and is no other's.
+pub record WiredAtMostOnce : Type 0 where
+  pub once : HoldsThroughout WiredOnce
+  pub own : HoldsAtEachMoment WiredByItsRequest
+  pub kept : HoldsAtEachMoment NoneForgotten
+  pub one : HoldsThroughout RememberedForOne
+  pub live : HoldsAtEachMoment RememberedWhileLive

@@ -7,16 +7,18 @@ use Rattle.gb_base.specs.declared.end.End.TheVariants as end
 use Rattle.gb_base.specs.declared.end.Side.TheVariants as side
 use Rattle.gb_base.specs.declared.entry.Entry.{Entry}
 use Rattle.gb_base.specs.declared.entry.IntfStage.TheVariants as stage
+use Rattle.gb_base.specs.declared.peers.Interface.{Interface}
+use Rattle.gb_base.specs.declared.steps.SequenceStep.{SequenceStep}
 use Rattle.gb_machine.specs.Bus.{Ask, Bus, Item, Request, connection_of, request_of}
-use Rattle.gb_machine.specs.Host.{Host, Interface, interface_of}
+use Rattle.gb_machine.specs.Host.{Host, interface_of}
 use Rattle.gb_machine.specs.Lists.{behind_first}
 use Rattle.gb_machine.specs.Members.{Each, IsIn}
 use Rattle.gb_machine.specs.Modules.{is_plugged}
 use Rattle.gb_machine.specs.Ports.{level_of}
-use Rattle.gb_machine.specs.Runs.{HoldsThroughout}
-use Rattle.gb_machine.specs.SequenceSteps.{SequenceStep, asks_control}
+use Rattle.gb_machine.specs.Runs.{HoldsAtEachMoment, HoldsThroughout, Moment}
+use Rattle.gb_machine.specs.SequenceSteps.{asks_control}
 use Rattle.gb_machine.specs.State.{State}
-use Rattle.gb_machine.specs.SvcQueues.{is_ask, is_ask_that, is_connection_request, is_enumeration_request, is_for_link, is_removal, is_reply_to, svc_items, svc_requests}
+use Rattle.gb_machine.specs.SvcQueues.{HandlesRemoval, is_ask, is_ask_that, is_connection_request, is_enumeration_request, is_for_link, is_removal, is_reply_to, svc_items, svc_requests}
 use Rattle.gb_machine.specs.Wiring.{is_wired_to}
 
 -- ---- wired means routed
@@ -50,9 +52,15 @@ pub record LeavesNothing (told : List Entry) (s : State) : Type 0 where
   pub unwired : (i : ℕ) → awaits_removal i s.bus ≡ true
       → Each (λ c. is_wired_to i c ≡ false) s.bus.connections
 
--- While a removal waits, nothing of its interface is wired, in every state of a run.
+-- A removal that the application processor handles finds none of its interface's connections wired.
+abbrev pub FindsUnwired : Moment → Type 0
+FindsUnwired m = (i : ℕ) → HandlesRemoval i m
+    → Each (λ c. is_wired_to i c ≡ false) m.before.bus.connections
+
+-- While a removal waits nothing of its interface is wired, in every state of a run, so nothing is
+-- where it is handled.
 abbrev pub RemovalLeavesNothingWired : Type 0
-RemovalLeavesNothingWired = HoldsThroughout LeavesNothing
+RemovalLeavesNothingWired = HoldsThroughout LeavesNothing × HoldsAtEachMoment FindsUnwired
 
 -- ---- one enumeration request and then restarts
 

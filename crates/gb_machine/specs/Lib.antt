@@ -28,11 +28,13 @@ pub mod Names
 pub mod OwnAsking
 pub mod Plugging
 pub mod Ports
+pub mod Reached
 pub mod Refusals
 pub mod Report
 pub mod Requests
 pub mod Responding
 pub mod Runs
+pub mod ScriptRuns
 pub mod Sending
 pub mod SequenceSteps
 pub mod Sequences

@@ -6,15 +6,19 @@ use Rattle.gb_base.specs.declared.end.End.TheVariants as end
 use Rattle.gb_base.specs.declared.end.Side.TheVariants as side
 use Rattle.gb_base.specs.declared.entry.Entry.TheVariants as entry
 use Rattle.gb_base.specs.declared.name.Name.{Name}
+use Rattle.gb_base.specs.declared.peers.Link.{Link}
 use Rattle.gb_formats.specs.Bridges.{BridgeFault, bridge_answer, credits_taken}
 use Rattle.gb_formats.specs.Grammar.{default_timeout}
-use Rattle.gb_formats.specs.Module.{Stir, Stirred, module_stir}
+use Rattle.gb_formats.specs.Devices.{Stir}
+use Rattle.gb_formats.specs.Module.{Module}
+use Rattle.gb_formats.specs.ModuleSteps.{module_stir}
+use Rattle.gb_formats.specs.Results.{Stirred}
 use Rattle.gb_machine.specs.Actions.{Action, by_state, change, given, nothing, on_bus, on_host, tell, ◌▸◌}
 use Rattle.gb_machine.specs.Arriving.{dropped, takes}
 use Rattle.gb_machine.specs.Asking.{asks}
 use Rattle.gb_machine.specs.Bus.{Item, Place, next_number}
 use Rattle.gb_machine.specs.Holding.{held_on, held_without, marked}
-use Rattle.gb_machine.specs.Host.{Link, link_at, with_link}
+use Rattle.gb_machine.specs.Host.{link_at, with_link}
 use Rattle.gb_machine.specs.Incoming.{request_in}
 use Rattle.gb_machine.specs.Lists.{nth}
 use Rattle.gb_machine.specs.Modules.{module_at, with_module}
@@ -114,7 +118,7 @@ unfoldable pub injects : ℕ → ℕ → List ℕ → Action
 injects i c bytes = by_state (λ s. given (module_place i c s) (injects_at i c bytes))
 
 -- a module after a stir, and the requests that it makes, where its CPort is wired
-unfoldable pub stirred : ℕ → ℕ → Stirred → Action
+unfoldable pub stirred : ℕ → ℕ → Stirred Module → Action
 stirred i c t =
     change (λ s. record s { modules = with_module i t.after s.modules })
     ▸ by_state (λ s. given (module_place i c s)

@@ -1,5 +1,5 @@
 -- Words on lists that stand for maps.
-use Rattle.std.specs.Prelude.{ℕ, zero, suc, ◌+◌, ◌==◌, Bool, not, if◌then◌else◌, Option, Some, None, List, [], ◌∷◌, slice_get}
+use Rattle.std.specs.Prelude.{ℕ, zero, suc, ◌+◌, ◌==◌, Bool, false, not, if◌then◌else◌, Option, Some, None, List, [], ◌∷◌, slice_get}
 use Rattle.std.specs.List.{filter}
 use Rattle.gb_base.specs.declared.refusal.Refusal.{Refusal}
 
@@ -29,10 +29,24 @@ abbrev pub behind_first : {A : Type 0} → List A → List A
 behind_first [] = []
 behind_first (x ∷ xs) = xs
 
+-- a condition, and the refusal where it is met
+abbrev pub Condition : Type 0
+Condition = Bool × Refusal
+
 -- the refusal of the first condition that is met
-abbrev pub first_met : List (Bool × Refusal) → Option Refusal
+abbrev pub first_met : List Condition → Option Refusal
 first_met [] = None
-first_met (p ∷ ps) = if p.0 then Some p.1 else first_met ps
+first_met (c ∷ cs) = if c.0 then Some c.1 else first_met cs
+
+-- there is something, and a test holds of it
+abbrev pub holds_of : {A : Type 0} → (A → Bool) → Option A → Bool
+holds_of test None = false
+holds_of test (Some x) = test x
+
+-- the conditions of what there is, none where there is nothing
+abbrev pub conditions_of : {A : Type 0} → (A → List Condition) → Option A → List Condition
+conditions_of of None = []
+conditions_of of (Some x) = of x
 
 -- the members that don't pass the test
 abbrev pub without : {A : Type 0} → (A → Bool) → List A → List A

@@ -6,7 +6,9 @@ use Rattle.gb_base.specs.declared.end.End.TheVariants as end
 use Rattle.gb_base.specs.declared.end.Side.{Side}
 use Rattle.gb_base.specs.declared.end.Side.TheVariants as side
 use Rattle.gb_base.specs.declared.entry.Entry.TheVariants as entry
-use Rattle.gb_formats.specs.Module.{Module, ModuleStep, module_serve}
+use Rattle.gb_formats.specs.Module.{Module}
+use Rattle.gb_formats.specs.ModuleSteps.{module_serve}
+use Rattle.gb_formats.specs.Results.{Step}
 use Rattle.gb_machine.specs.Actions.{Action, by_state, change, given, nothing, on_bus, on_host, tell, ◌▸◌}
 use Rattle.gb_machine.specs.Bus.{Connection, other_side}
 use Rattle.gb_machine.specs.Delivery.{replied}
@@ -81,7 +83,7 @@ svc_response q s = svc_stepped (svc_step s.ports q.kind q.payload) s
 -- ---- modules
 
 -- a module's step: it changes, and asks of its own
-abbrev pub module_stepped : ℕ → ℕ → ModuleStep → Response
+abbrev pub module_stepped : ℕ → ℕ → Step Module → Response
 module_stepped k i step =
     responds_with (answer step.served.result step.served.payload)
     (change (λ s. record s { modules = with_module i step.after s.modules })

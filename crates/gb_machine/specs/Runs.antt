@@ -47,10 +47,6 @@ pub record Moment : Type 0 where
   pub before : State
   pub event : Event
 
--- the moment of an event behind a run
-abbrev pub moment : List Event → Event → Moment
-moment es e = record { told = told_by es; before = state_by es; event = e }
-
 -- The state after a moment.
 abbrev pub after : Moment → State
 after m = (step m.before m.event).state
@@ -69,15 +65,6 @@ moments_from told s (e ∷ es) =
 -- The moments of a run.
 abbrev pub moments : List Event → List Moment
 moments es = moments_from [] first_state es
-
--- A law of what was told and of the state holds after every run of moments.
-abbrev pub HoldsThroughout : (List Entry → State → Type 0) → Type 0
-HoldsThroughout Law = (es : List Event) → AreMoments es → Law (told_by es) (state_by es)
-
--- A law of moments holds at every moment of every run.
-abbrev pub HoldsAtEachMoment : (Moment → Type 0) → Type 0
-HoldsAtEachMoment Law =
-    (es : List Event) (e : Event) → AreMoments es → IsMoment e → Law (moment es e)
 
 -- ---- settles
 
@@ -121,3 +108,17 @@ pub record IsItsDeliveries (es : List Event) : Type 0 where
 -- Every settle is its deliveries.
 abbrev pub SettlesAreDeliveries : Type 0
 SettlesAreDeliveries = (es : List Event) → AreValid es → IsItsDeliveries es
+
+-- ---- laws
+
+-- A law of what was told and of the state holds after every run.
+abbrev pub HoldsThroughout : (List Entry → State → Type 0) → Type 0
+HoldsThroughout Law = (es : List Event) → AreValid es → Law (told_by es) (state_by es)
+
+-- The moments of a run with each settle taken apart.
+abbrev pub moments_in : List Event → List Moment
+moments_in es = moments (unsettled first_state es)
+
+-- A law of moments holds at every moment of every run.
+abbrev pub HoldsAtEachMoment : (Moment → Type 0) → Type 0
+HoldsAtEachMoment Law = (es : List Event) → AreValid es → Each Law (moments_in es)

@@ -7,12 +7,17 @@ use Rattle.gb_base.specs.declared.entry.Entry.TheVariants as entry
 use Rattle.gb_base.specs.declared.entry.IntfStage.TheVariants as stage
 use Rattle.gb_base.specs.declared.outcome.Outcome.{Outcome}
 use Rattle.gb_base.specs.declared.outcome.Outcome.TheVariants as outcome
+use Rattle.gb_base.specs.declared.peers.Interface.{Interface}
+use Rattle.gb_base.specs.declared.peers.Link.{Link}
+use Rattle.gb_base.specs.declared.steps.Purpose.{Purpose}
+use Rattle.gb_base.specs.declared.steps.SequenceStep.{SequenceStep}
+use Rattle.gb_base.specs.declared.steps.SequenceStep.TheVariants as steps
 use Rattle.gb_formats.specs.ControlRecords.{ControlReply, read_control_reply}
 use Rattle.gb_formats.specs.Manifest.{Manifest, check_answer}
 use Rattle.gb_formats.specs.ManifestRules.{Refused}
 use Rattle.gb_formats.specs.Records.{PayloadFault}
-use Rattle.gb_machine.specs.Host.{Host, Interface, Link, control_of, free_cport, free_device, in_state, interface_of, link_at, with_interface, with_link, without_link}
-use Rattle.gb_machine.specs.SequenceSteps.{Purpose, SequenceStep, Target, asks_control, at_step, is_reply, kind_of, payload_of}
+use Rattle.gb_machine.specs.Host.{Host, control_of, free_cport, free_device, in_state, interface_of, link_at, with_interface, with_link, without_link}
+use Rattle.gb_machine.specs.SequenceSteps.{Target, asks_control, at_step, is_reply, kind_of, payload_of}
 use Rattle.gb_machine.specs.Turns.{Act, Asking, Making, Turn, failed_turn, telling, turn}
 use Rattle.gb_machine.specs.Failures.{interface_fails, link_told, step_fails}
 
@@ -92,7 +97,7 @@ begins_control (Some ap) p h = opens ap 0 p h
 -- The supervisory controller gave an interface its device id.
 abbrev pub device_given : Purpose → Host → Turn
 device_given p h =
-    goes_on SequenceStep.CreateRoute p
+    goes_on steps.CreateRoute p
     (with_interface p.intf (λ x. record x { has_device = true }) h)
 
 -- a connection of a purpose is open
@@ -107,7 +112,7 @@ opened_told (Some l) t = telling (link_told state.Open l) t
 -- The Control connection is open, and the version is asked.
 abbrev pub control_opened : Purpose → Host → Turn
 control_opened p h =
-    opened_told (link_at p.intf p.cport h) (goes_on SequenceStep.AskVersion p (opened p h))
+    opened_told (link_at p.intf p.cport h) (goes_on steps.AskVersion p (opened p h))
 
 -- the size of a manifest that was told
 abbrev pub size_in : Result ControlReply PayloadFault → ℕ
@@ -119,7 +124,7 @@ size_in (Err fault) = 0
 abbrev pub size_told : Purpose → List ℕ → Host → Turn
 size_told p payload h =
     let size = size_in (read_control_reply 0x03 payload) in
-    goes_on SequenceStep.AskManifest p
+    goes_on steps.AskManifest p
     (with_interface p.intf (λ x. record x { size = size }) h)
 
 -- an interface is enumerated with this manifest
@@ -171,23 +176,23 @@ link_closed p h = link_left (link_at p.intf p.cport h) (without_link p.intf p.cp
 
 -- What follows a step that was answered as it should be.
 abbrev pub step_done : SequenceStep → Purpose → List ℕ → Host → Turn
-step_done SequenceStep.EnableVsys p payload h = goes_on SequenceStep.EnableRefclk p h
-step_done SequenceStep.EnableRefclk p payload h = goes_on SequenceStep.EnableUnipro p h
-step_done SequenceStep.EnableUnipro p payload h = goes_on SequenceStep.Activate p h
-step_done SequenceStep.Activate p payload h =
-    begins_device (free_device h) (at_step SequenceStep.GiveDevice p) h
-step_done SequenceStep.GiveDevice p payload h = device_given p h
-step_done SequenceStep.CreateRoute p payload h =
-    begins_control (free_cport h) (at_step SequenceStep.CreateControl p) h
-step_done SequenceStep.CreateControl p payload h = control_opened p h
-step_done SequenceStep.AskVersion p payload h = goes_on SequenceStep.AskSize p h
-step_done SequenceStep.AskSize p payload h = size_told p payload h
-step_done SequenceStep.AskManifest p payload h = manifest_told p payload h
-step_done SequenceStep.CreateConnection p payload h = goes_on SequenceStep.TellConnected p h
-step_done SequenceStep.TellConnected p payload h = link_opened p h
-step_done SequenceStep.TellDisconnecting p payload h = goes_on SequenceStep.TellDisconnected p h
-step_done SequenceStep.TellDisconnected p payload h = goes_on SequenceStep.DestroyConnection p h
-step_done SequenceStep.DestroyConnection p payload h = link_closed p h
+step_done steps.EnableVsys p payload h = goes_on steps.EnableRefclk p h
+step_done steps.EnableRefclk p payload h = goes_on steps.EnableUnipro p h
+step_done steps.EnableUnipro p payload h = goes_on steps.Activate p h
+step_done steps.Activate p payload h =
+    begins_device (free_device h) (at_step steps.GiveDevice p) h
+step_done steps.GiveDevice p payload h = device_given p h
+step_done steps.CreateRoute p payload h =
+    begins_control (free_cport h) (at_step steps.CreateControl p) h
+step_done steps.CreateControl p payload h = control_opened p h
+step_done steps.AskVersion p payload h = goes_on steps.AskSize p h
+step_done steps.AskSize p payload h = size_told p payload h
+step_done steps.AskManifest p payload h = manifest_told p payload h
+step_done steps.CreateConnection p payload h = goes_on steps.TellConnected p h
+step_done steps.TellConnected p payload h = link_opened p h
+step_done steps.TellDisconnecting p payload h = goes_on steps.TellDisconnected p h
+step_done steps.TellDisconnected p payload h = goes_on steps.DestroyConnection p h
+step_done steps.DestroyConnection p payload h = link_closed p h
 
 -- the payload of an answer of success
 abbrev pub payload_in : Outcome → Option (List ℕ)

@@ -5,9 +5,11 @@ use Rattle.gb_base.specs.declared.entry.ConnState.TheVariants as state
 use Rattle.gb_base.specs.declared.entry.Entry.{Entry}
 use Rattle.gb_base.specs.declared.entry.Entry.TheVariants as entry
 use Rattle.gb_base.specs.declared.name.Name.{Name}
+use Rattle.gb_base.specs.declared.peers.Interface.{Interface}
+use Rattle.gb_base.specs.declared.peers.Link.{Link}
 use Rattle.gb_formats.specs.ShowTexts.{connection_line, interface_line, name_line, now_line, queue_line}
 use Rattle.gb_machine.specs.Bus.{Bus, Connection, outcome_of}
-use Rattle.gb_machine.specs.Host.{Host, Interface, Link, link_of}
+use Rattle.gb_machine.specs.Host.{Host, link_of}
 use Rattle.gb_machine.specs.Names.{names_in_order}
 use Rattle.gb_machine.specs.State.{State}
 use Rattle.gb_machine.specs.Waiting.{Queue, queues}

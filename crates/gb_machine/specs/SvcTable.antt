@@ -1,10 +1,9 @@
 -- What the supervisory controller answers to the application processor, as far as power levels and
 -- device ids decide it.
 use Rattle.std.specs.Prelude.{ℕ, ◌==◌, nat_lt, nat_le, Bool, not, ◌||◌, if◌then◌else◌, Result, Ok, Err, List, [], ◌∷◌}
-use Rattle.std.specs.List.{list_any}
 use Rattle.gb_formats.specs.Records.{PayloadFault}
 use Rattle.gb_formats.specs.Results.{fault_result}
-use Rattle.gb_formats.specs.SvcRecords.{SvcAsk, read_svc_ask}
+use Rattle.gb_formats.specs.SvcRecords.{SvcAsk, read_svc_ask_of_ap}
 use Rattle.gb_machine.specs.Host.{is_device}
 use Rattle.gb_machine.specs.Ports.{device_of, is_elsewhere, is_powered, level_of, raised, with_device}
 use Rattle.gb_machine.specs.Serving.{invalid, nonexistent, protocol_bad, success}
@@ -74,7 +73,7 @@ unrouting i1 i2 ports =
     if not (i1 == 1) || not (level_of i2 ports == 6) then svc_refuses ports nonexistent
     else svc_stays ports (Unroute i2)
 
--- what each request does
+-- what each request does; none of the supervisory controller's own is read
 abbrev pub svc_asked : List Port → SvcAsk → SvcStep
 svc_asked ports (SvcAsk.VsysEnable i) = climbs (is_powered i ports) i 1 (0 ∷ []) ports
 svc_asked ports (SvcAsk.RefclkEnable i) = climbs (nat_le 1 (level_of i ports)) i 2 (0 ∷ []) ports
@@ -95,13 +94,6 @@ abbrev pub svc_read : List Port → Result SvcAsk PayloadFault → SvcStep
 svc_read ports (Ok ask) = svc_asked ports ask
 svc_read ports (Err fault) = svc_refuses ports (fault_result fault)
 
--- the types that only the supervisory controller asks: PROTOCOL_VERSION, HELLO, MODULE_INSERTED and
--- MODULE_REMOVED
-abbrev pub is_svc_own : ℕ → Bool
-is_svc_own kind = list_any (λ k. k == kind) (0x01 ∷ 0x02 ∷ 0x1f ∷ 0x20 ∷ [])
-
 -- The SVC table, as far as power levels and device ids decide it.
 abbrev pub svc_step : List Port → ℕ → List ℕ → SvcStep
-svc_step ports kind payload =
-    if is_svc_own kind then svc_refuses ports protocol_bad
-    else svc_read ports (read_svc_ask kind payload)
+svc_step ports kind payload = svc_read ports (read_svc_ask_of_ap kind payload)

@@ -2,8 +2,8 @@
 use Rattle.std.specs.Prelude.{ℕ, List, ◌∷◌, map}
 use Rattle.gb_base.specs.declared.entry.Entry.{Entry}
 use Rattle.gb_base.specs.declared.outcome.Outcome.{Outcome}
+use Rattle.gb_base.specs.declared.steps.Purpose.{Purpose}
 use Rattle.gb_machine.specs.Host.{Host}
-use Rattle.gb_machine.specs.SequenceSteps.{Purpose}
 
 -- What it takes notice of.
 pub data HostEvent : Type 0 where

@@ -1,8 +1,12 @@
 -- What the sequences of the application processor wait for.
 use Rattle.std.specs.Prelude.{ℕ, ◌==◌, if◌then◌else◌, Option, Some, None, List, [], ◌∷◌}
+use Rattle.gb_base.specs.declared.peers.Interface.{Interface}
+use Rattle.gb_base.specs.declared.peers.Link.{Link}
+use Rattle.gb_base.specs.declared.steps.Purpose.{Purpose}
+use Rattle.gb_base.specs.declared.steps.SequenceStep.{SequenceStep}
 use Rattle.gb_machine.specs.Bus.{or_else}
-use Rattle.gb_machine.specs.Host.{Host, Interface, Link, with_interface, with_link}
-use Rattle.gb_machine.specs.SequenceSteps.{Purpose, SequenceStep, is_enumeration, purpose}
+use Rattle.gb_machine.specs.Host.{Host, with_interface, with_link}
+use Rattle.gb_machine.specs.SequenceSteps.{is_enumeration, purpose}
 
 -- the purpose of request n, where an interface or a connection waits for it
 abbrev pub purpose_in : ℕ → ℕ → ℕ → Option (ℕ × SequenceStep) → Option Purpose

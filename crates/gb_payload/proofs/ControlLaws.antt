@@ -3,13 +3,13 @@ use Rattle.std.proofs.Common.{◌≡◌, ◌≢◌, ℕ, Bool, true, false, cond
 use Rattle.std.proofs.lemmas.Bool.Decides.{nat_tests}
 use Rattle.gb_base.specs.Bytes.{AreBytes}
 use Rattle.gb_formats.specs.ControlRecords.{ControlAsk, control_asks, control_ask_kind, control_ask_payload, ControlReply, control_replies, control_reply_kind, control_reply_payload, read_control_reply}
-use Rattle.gb_formats.specs.Records.{read_table}
+use Rattle.gb_formats.specs.Records.{read_table, row_of}
 use Rattle.gb_payload.specs.Answers.{Answers}
 use Rattle.gb_payload.specs.Meaning.{Means}
 use Rattle.gb_payload.specs.Protocols as formats
 use Rattle.gb_payload.specs.declared.fault.PayloadFault.{PayloadFault}
 use Rattle.gb_payload.proofs.Places.{same_record}
-use Rattle.gb_payload.proofs.Tables.{AreSpelt, means_by_table, row_of}
+use Rattle.gb_payload.proofs.Tables.{AreSpelt, means_by_table}
 
 -- the rows of requests
 pub control_asks_spelt : AreSpelt control_ask_kind control_ask_payload control_asks

@@ -1,8 +1,8 @@
 -- What reading by a table means.
-use Rattle.std.proofs.Common.{◌≡◌, ◌≢◌, ℕ, Bool, true, false, cond, eqb, Option, Some, None, Result, Ok, Err, List, [], ◌∷◌, length, sum, find, refl, arith, sym, ap, ◌∙◌, subst, ◌==◌, ◌⊎◌, inl, inr, ⊎_elim}
+use Rattle.std.proofs.Common.{◌≡◌, ◌≢◌, ℕ, Bool, true, false, cond, eqb, Option, Some, None, Result, Ok, Err, List, [], ◌∷◌, length, sum, refl, arith, sym, ap, ◌∙◌, subst, ◌⊎◌, inl, inr, ⊎_elim}
 use Rattle.std.proofs.lemmas.Bool.Decides.{nat_tests}
 use Rattle.gb_base.specs.Bytes.{AreBytes}
-use Rattle.gb_formats.specs.Records.{Row, fields_of, read_row, read_table, whole}
+use Rattle.gb_formats.specs.Records.{Row, fields_of, read_row, read_table, row_of, whole}
 use Rattle.gb_payload.specs.Answers.{Answers}
 use Rattle.gb_payload.specs.Meaning.{Format, Means}
 use Rattle.gb_payload.specs.declared.fault.PayloadFault.{PayloadFault}
@@ -24,10 +24,6 @@ pub record IsSpelt {A : Type 0} (kind_of : A → ℕ) (payload_of : A → List �
 abbrev pub AreSpelt : {A : Type 0} → (A → ℕ) → (A → List ℕ) → List (Row A) → Type 0
 AreSpelt kind_of payload_of [] = Unit {0}
 AreSpelt kind_of payload_of (row ∷ rows) = IsSpelt kind_of payload_of row × AreSpelt kind_of payload_of rows
-
--- the row of a type
-abbrev pub row_of : {A : Type 0} → List (Row A) → ℕ → Option (Row A)
-row_of rows kind = find (λ row. row.kind == kind) rows
 
 -- a row that is found is one of the table, and has the type
 pub record Found {A : Type 0} (kind_of : A → ℕ) (payload_of : A → List ℕ) (kind : ℕ) (row : Row A) : Type 0 where

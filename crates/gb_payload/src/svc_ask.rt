@@ -1,7 +1,9 @@
 //! Requests of the SVC protocol.
 
 ghost use Rattle.std.specs.Prelude.{◌≡◌, true, IfOk, take};
-ghost use Rattle.gb_formats.specs.SvcRecords.{read_svc_ask, svc_ask_kind, svc_ask_payload};
+ghost use Rattle.gb_formats.specs.Records.{is_own, row_of};
+ghost use Rattle.gb_formats.specs.SvcRecords as records;
+ghost use Rattle.gb_formats.specs.SvcRecords.{read_svc_ask, read_svc_ask_of_ap, read_svc_ask_of_svc, svc_ask_kind, svc_ask_payload};
 ghost use Rattle.gb_payload.specs.Answers.{Answers};
 ghost use Rattle.gb_payload.specs.Fields.{Puts};
 ghost use Rattle.gb_payload.specs.Groups.{is_link};
@@ -134,6 +136,28 @@ impl SvcAsk {
         row(kind, payload)
     }
 
+    /// Reads the payload of a type of which the application processor makes the requests. The other
+    /// types are unknown.
+    pub fn read_of_ap(kind: u8, payload: &[u8]) -> Result<SvcAsk, PayloadFault>
+        ensures { Answers svc_ask_of (read_svc_ask_of_ap kind payload.now) result }
+    {
+        if is_of_svc(kind) {
+            return Err(PayloadFault::UnknownKind);
+        }
+        row(kind, payload)
+    }
+
+    /// Reads the payload of a type of which the supervisory controller makes the requests. The other
+    /// types are unknown.
+    pub fn read_of_svc(kind: u8, payload: &[u8]) -> Result<SvcAsk, PayloadFault>
+        ensures { Answers svc_ask_of (read_svc_ask_of_svc kind payload.now) result }
+    {
+        if !is_of_svc(kind) {
+            return Err(PayloadFault::UnknownKind);
+        }
+        row(kind, payload)
+    }
+
     /// Writes the payload to the front of `out`, and answers its length. NoRoom exactly where `out`
     /// is shorter, and `out` is then unchanged.
     pub fn write(&self, out: &mut [u8]) -> Result<usize, NoRoom>
@@ -187,6 +211,16 @@ impl SvcAsk {
             SvcAsk::ModuleRemoved { .. } => MODULE_REMOVED,
         }
     }
+}
+
+/// The supervisory controller makes the requests of this type.
+fn is_of_svc(kind: u8) -> bool
+    ensures { result ≡ is_own (row_of records.svc_asks kind) }
+{
+    matches!(
+        kind,
+        PROTOCOL_VERSION | HELLO | MODULE_INSERTED | MODULE_REMOVED
+    )
 }
 
 /// Writes the payload of a request on a connection or a route.

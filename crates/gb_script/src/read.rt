@@ -1,12 +1,12 @@
 //! Reads the event of a line.
 
 ghost use Rattle.std.specs.Prelude.{◌≡◌};
+ghost use Rattle.gb_formats.specs.Built as built;
 ghost use Rattle.gb_formats.specs.Script.{judged, said};
-ghost use Rattle.gb_script.specs.Built.{is_built};
 ghost use Rattle.gb_script.specs.Tells.{Tells};
 
 use crate::LineFault;
-use crate::built::is_built_form;
+use crate::built::is_built;
 use crate::forms::form;
 use crate::plain::plain;
 use crate::words::first_word;
@@ -15,17 +15,11 @@ use std::alloc::Global;
 
 /// The event of a line, None for a blank or comment line. `who` is the requester.
 pub fn event(alloc: Global, line: &[u8], who: u8) -> Result<Option<Event>, LineFault>
-    ensures { Tells result (said (is_built who) who line.now) }
+    ensures { Tells result (said built.is_built who line.now) }
 {
     match judged(alloc, line, who)? {
-        Some(event) => {
-            if is_built_form(line) {
-                Ok(Some(event))
-            } else {
-                Err(LineFault::Bad(LineReason::NotBuilt))
-            }
-        }
-        None => Ok(None),
+        Some(event) if !is_built(&event) => Err(LineFault::Bad(LineReason::NotBuilt)),
+        said => Ok(said),
     }
 }
 

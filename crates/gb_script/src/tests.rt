@@ -33,9 +33,9 @@ fn reads_lines(rt: HostRuntime) {
 fn reads_requests_and_cancels(rt: HostRuntime) {
     let alloc = rt.alloc();
     let last = event(alloc, b"send @abcdefghij012345 svc 7f 0Ab1", 0);
-    assert!(rt; is_ask(&last, 0x7f, &[0x0a, 0xb1]));
-    let empty = event(alloc, b"send @x svc 07 -", 0);
-    assert!(rt; is_ask(&empty, 0x07, &[]));
+    assert!(rt; is_ask(&last, 0x7f, &[0x0a, 0xb1], 1000));
+    let empty = event(alloc, b"send @x svc 07 - timeout 4294967295", 0);
+    assert!(rt; is_ask(&empty, 0x07, &[], u32::MAX));
     let cancel = event(alloc, b" cancel  @z9", 2);
     assert!(rt; is_cancel(&cancel));
 }
@@ -73,8 +73,8 @@ fn is_cancel(said: &Result<Option<Event>, LineFault>) -> bool {
     }
 }
 
-/// Whether a line asked for a request of this type, with this payload.
-fn is_ask(said: &Result<Option<Event>, LineFault>, wanted: u8, bytes: &[u8]) -> bool {
+/// Whether a line asked for a request of this type, with this payload and timeout.
+fn is_ask(said: &Result<Option<Event>, LineFault>, wanted: u8, bytes: &[u8], most: u32) -> bool {
     match said {
         Ok(
             Some(
@@ -82,11 +82,11 @@ fn is_ask(said: &Result<Option<Event>, LineFault>, wanted: u8, bytes: &[u8]) -> 
                     to: End::Svc,
                     kind,
                     payload,
-                    timeout: 1000,
+                    timeout,
                     ..
                 },
             ),
-        ) => *kind == wanted && payload.items() == bytes,
+        ) => *kind == wanted && *timeout == most && payload.items() == bytes,
         _ => false,
     }
 }
@@ -121,8 +121,6 @@ const NOT_BUILT: &[&str] = &[
     "pull 31",
     "connect 2 4095",
     "disconnect 2 0",
-    "send @x svc ping timeout 1000",
-    "send @x svc 13 - timeout 4294967295",
     "send @x 2 1 02 00",
     "send @x 2 1 02 - timeout 1",
     "deliver 2 0",

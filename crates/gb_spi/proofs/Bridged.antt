@@ -1,14 +1,14 @@
 -- The payload of a bridge line's transfer.
-use Rattle.std.proofs.Common.{◌≡◌, ◌<◌, ◌≤◌, ◌+◌, ℕ, suc, Bool, nat_le, nat_lt, true, false, if◌then◌else◌, ◌||◌, Ok, Err, List, [], ◌∷◌, ◌++◌, length, drop, get_or, map, sum_by, refl, arith, sym, ap, ap₂, ◌∙◌, length-append, drop-cons}
+use Rattle.std.proofs.Common.{◌≡◌, ◌<◌, ◌≤◌, ◌+◌, ◌/◌, ℕ, suc, Bool, nat_le, nat_lt, true, false, if◌then◌else◌, ◌||◌, Ok, Err, List, [], ◌∷◌, ◌++◌, length, drop, get_or, map, sum_by, refl, arith, sym, ap, ap₂, ◌∙◌, length-append, drop-cons}
 use Rattle.std.specs.List.{concat}
 use Rattle.gb_base.specs.declared.bridge.BridgeAsk.TheVariants as ask
 use Rattle.gb_base.specs.declared.bridge.SpiOp.{SpiOp}
 use Rattle.gb_base.specs.declared.bridge.SpiOp.TheVariants as spi
-use Rattle.gb_bridge_payload.proofs.Putting.{piece_within, room_of, rooms, rooms_count}
+use Rattle.gb_bridge_payload.proofs.Putting.{heads_long, piece_within, room_of, rooms, rooms_count}
 use Rattle.gb_bridge_payload.specs.Serving.{WritesBridged}
-use Rattle.gb_formats.specs.Bridges.{TooLarge, bridge_answer, spi_op_bytes, spi_payload, spi_read_size, spi_written}
+use Rattle.gb_formats.specs.Bridges.{TooLarge, bridge_answer, spi_op_bytes, spi_read_size, spi_transfer, spi_written}
 use Rattle.gb_formats.specs.Protocols.{spi_protocol}
-use Rattle.gb_formats.specs.SpiRecords.{entry_size}
+use Rattle.gb_formats.specs.SpiRecords.{entry_size, spi_ask_payload}
 use Rattle.gb_formats.specs.Results.{most_payload}
 use Rattle.gb_spi.specs.Sizes.{bridged_size}
 use Rattle.gb_spi.proofs.Weights.{Weighed, is_beyond, is_not_beyond, is_within, weighed_all, within, weighed_out}
@@ -22,6 +22,10 @@ op_bytes_size : (op : SpiOp) → length (spi_op_bytes op) ≡ 13
 op_bytes_size (spi.Get len) = refl
 op_bytes_size (spi.Put bytes) = refl
 op_bytes_size (spi.Both bytes) = refl
+
+-- as many entries are counted in the payload
+pub entries_counted : (ops : List SpiOp) → length (concat (map spi_op_bytes ops)) / entry_size ≡ length ops
+entries_counted ops = let heads = heads_long entry_size spi_op_bytes op_bytes_size ops in omega (arith, heads)
 
 -- the size of the payload
 pub size_is : (ops : List SpiOp) → bridged_size ops ≡ 4 + sum_by op_size ops
@@ -55,7 +59,7 @@ counted ops fits =
 -- ---- its sizes
 
 -- the payload is as long as it was found to be
-pub payload_size : (select mode : ℕ) (ops : List SpiOp) → length (spi_payload select mode ops) ≡ bridged_size ops
+pub payload_size : (select mode : ℕ) (ops : List SpiOp) → length (spi_ask_payload (spi_transfer select mode ops)) ≡ bridged_size ops
 payload_size select mode ops =
     let behind = length-append (concat (map spi_op_bytes ops)) (concat (map spi_written ops)) in
     omega (arith, behind)
@@ -70,16 +74,16 @@ written_fits ops op i h at fits =
 -- ---- the request
 
 -- one that fits is the request, where all of it is written
-pub bridged : (select mode at : ℕ) (ops : List SpiOp) (old new : List ℕ) → true ≡ nat_le (bridged_size ops) most_payload → true ≡ nat_le (sum_by spi_read_size ops) most_payload → (at ≡ length (spi_payload select mode ops)) × (new ≡ spi_payload select mode ops ++ drop (length (spi_payload select mode ops)) old) → (request : ℕ × List ℕ) × (bridge_answer spi_protocol (ask.SpiTransfer select mode ops) ≡ Ok request) × WritesBridged request old new (record { kind = 4; len = at })
+pub bridged : (select mode at : ℕ) (ops : List SpiOp) (old new : List ℕ) → true ≡ nat_le (bridged_size ops) most_payload → true ≡ nat_le (sum_by spi_read_size ops) most_payload → (at ≡ length (spi_ask_payload (spi_transfer select mode ops))) × (new ≡ spi_ask_payload (spi_transfer select mode ops) ++ drop (length (spi_ask_payload (spi_transfer select mode ops))) old) → (request : ℕ × List ℕ) × (bridge_answer spi_protocol (ask.SpiTransfer select mode ops) ≡ Ok request) × WritesBridged request old new (record { kind = 4; len = at })
 bridged select mode at ops old new fits reads written =
     let size = ap (λ (n : ℕ). nat_lt most_payload n) (payload_size select mode ops) ∙ is_not_beyond (bridged_size ops) most_payload fits in (
-      (4, spi_payload select mode ops),
-      ap₂ (λ (x y : Bool). if x || y then Err TooLarge else Ok (4, spi_payload select mode ops)) size (is_not_beyond (sum_by spi_read_size ops) most_payload reads),
+      (4, spi_ask_payload (spi_transfer select mode ops)),
+      ap₂ (λ (x y : Bool). if x || y then Err TooLarge else Ok (4, spi_ask_payload (spi_transfer select mode ops))) size (is_not_beyond (sum_by spi_read_size ops) most_payload reads),
       record { kind = refl; len = written.0; bytes = written.1 },
     )
 
 -- the payload has room in a buffer of the greatest size
-pub payload_fits_in : (select mode : ℕ) (ops : List SpiOp) (out : List ℕ) → length out ≡ most_payload → true ≡ nat_le (bridged_size ops) most_payload → length (spi_payload select mode ops) ≤ length out
+pub payload_fits_in : (select mode : ℕ) (ops : List SpiOp) (out : List ℕ) → length out ≡ most_payload → true ≡ nat_le (bridged_size ops) most_payload → length (spi_ask_payload (spi_transfer select mode ops)) ≤ length out
 payload_fits_in select mode ops out long fits =
     let size = payload_size select mode ops in
     let bound = within (bridged_size ops) most_payload fits in

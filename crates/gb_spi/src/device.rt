@@ -39,6 +39,9 @@ const ECHO: SpiReply<'_> = SpiReply::DeviceConfig {
 /// How many bytes the longest record of a configuration has.
 const CONFIG_SIZE: usize = 40;
 
+/// What stands for the last byte before one was written.
+const FIRST: u8 = 0;
+
 /// The greatest mode.
 const MOST_MODE: u8 = 3;
 
@@ -63,7 +66,14 @@ impl Device {
     pub fn new(alloc: Global) -> Result<Device, OutOfMemory>
         ensures { IsOkAnd result (λ device. device ≡ first_spi) }
     {
-        Ok(Device { last: 0, alloc })
+        Ok(Device { last: FIRST, alloc })
+    }
+
+    /// Brings the device back to its first state.
+    pub fn restart(&mut self)
+        ensures { self.new ≡ first_spi }
+    {
+        self.last = FIRST;
     }
 
     /// Serves a request of the application processor. After want of memory the device is as before.

@@ -3,7 +3,7 @@
 ghost use Rattle.std.specs.Prelude.{◌≡◌, ℕ, List};
 ghost use Rattle.gb_formats.specs.SvcRecords as records;
 ghost use Rattle.gb_machine.specs.State.{Port};
-ghost use Rattle.gb_machine.specs.SvcTable.{is_svc_own, svc_asked, svc_step};
+ghost use Rattle.gb_machine.specs.SvcTable.{svc_asked, svc_step};
 ghost use Rattle.gb_payload.specs.Views.{svc_ask_of};
 ghost use Rattle.gb_svc.specs.Served.{served_of};
 ghost use Rattle.gb_switch.specs.Climbing.{Follows, asked_for};
@@ -28,21 +28,10 @@ pub fn serve(ladder: &mut Ladder, kind: u8, payload: &[u8]) -> SvcServed
     ensures step { (ports : List Port) → Stands ladder.old ports
         → Follows ladder.new (svc_step ports kind payload.now) (served_of result) }
 {
-    if is_own(kind) {
-        return refusal(PROTOCOL_BAD);
-    }
-    match SvcAsk::read(kind, payload) {
+    match SvcAsk::read_of_ap(kind, payload) {
         Ok(ask) => serve_ask(ladder, ask),
         Err(fault) => refusal(result_of(fault)),
     }
-}
-
-/// A type that only the supervisory controller asks: PROTOCOL_VERSION, HELLO, MODULE_INSERTED and
-/// MODULE_REMOVED.
-fn is_own(kind: u8) -> bool
-    ensures { result ≡ is_svc_own kind }
-{
-    matches!(kind, 0x01 | 0x02 | 0x1f | 0x20)
 }
 
 /// Serves a request that was read.

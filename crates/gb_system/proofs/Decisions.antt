@@ -1,13 +1,14 @@
 -- What the supervisory controller decides is what the machine's does.
-use Rattle.std.proofs.Common.{◌≡◌, ◌≢◌, ℕ, Bool, true, false, if◌then◌else◌, Option, Some, None, option_map, List, [], refl, sym, ap, ◌∙◌, subst}
+use Rattle.std.proofs.Common.{◌≡◌, ℕ, true, false, if◌then◌else◌, Option, Some, None, option_map, List, [], refl, sym, ap, ◌∙◌, subst}
 use Rattle.std.specs.List.{list_any}
 use Rattle.gb_invariants.proofs.Lists.{found-in}
 use Rattle.gb_invariants.proofs.Numbers.{found-by_number}
+use Rattle.gb_invariants.specs.Facts.{Loose}
 use Rattle.gb_machine.proofs.Opened.{machine_opened}
-use Rattle.gb_machine.specs.Actions.{Action, nothing}
+use Rattle.gb_machine.specs.Actions.{nothing}
 use Rattle.gb_machine.specs.Bus.{Connection, connection_of}
 use Rattle.gb_machine.specs.Ports.{unrouted}
-use Rattle.gb_machine.specs.Responding.{Response, creates, destroys, responds_plainly, responds_with, svc_decided, svc_stepped, unroutes, with_ports}
+use Rattle.gb_machine.specs.Responding.{creates, destroys, responds_plainly, responds_with, svc_decided, svc_stepped, unroutes, with_ports}
 use Rattle.gb_machine.specs.Sending.{is_wired}
 use Rattle.gb_machine.specs.Serving.{answer, invalid, nonexistent, plainly, success}
 use Rattle.gb_machine.specs.State.{Port, State}
@@ -18,15 +19,15 @@ use Rattle.gb_switch.specs.Climbing.{Follows}
 use Rattle.gb_switch.specs.Stands as switch
 use Rattle.gb_switch.specs.declared.ladder.Ladder.{Ladder}
 use Rattle.gb_bus.specs.declared.bus.Bus.{Bus}
-use Rattle.gb_system.specs.Deciding.{Decides, DoesBehind, PartsStand, answer_of}
-use Rattle.gb_system.specs.declared.deciding.Behind.{Behind}
+use Rattle.gb_system.specs.Deciding.{BusAndPorts, Decides, DoesBehind, answer_of}
 use Rattle.gb_system.specs.declared.deciding.Behind.TheVariants as behind
 use Rattle.gb_system.specs.declared.deciding.Decision.{Decision}
 
 -- ---- one decision
 
--- the interfaces are these behind a reply
-ports_set : (ports : List Port) (t : State) → with_ports ports t ≡ record { state = record t { ports = ports }; entries = [] }
+-- the interfaces are these after a reply
+ports_set : (ports : List Port) (t : State) → with_ports ports t
+    ≡ record { state = record t { ports = ports }; entries = [] }
 unfolding machine_opened
 ports_set ports t = refl
 
@@ -42,33 +43,41 @@ refuses_with y s code d st says none = record {
   behind = subst (DoesBehind y s nothing) (sym none) (record {
     ports = s.ports;
     stands = st;
-    is = λ t e. nothing_is t ∙ ap (λ ps. record { state = record t { ports = ps }; entries = [] }) e;
+    is = λ t e. nothing_is t ∙ ap (λ ps. record { state = record t { ports = ps }; entries = [] })
+        e;
   });
 }
 
 -- an answer that changes the interfaces
-pub answers_with : (y : Ladder) (s : State) (ports : List Port) (result : ℕ) (payload : List ℕ) (d : Decision) → switch.Stands y ports
+pub answers_with : (y : Ladder) (s : State) (ports : List Port) (result : ℕ) (payload : List ℕ)
+    (d : Decision) → switch.Stands y ports
     → answer_of d ≡ answer result payload → d.behind ≡ behind.Nothing
     → Decides y s (responds_with (answer result payload) (with_ports ports)) d
 answers_with y s ports result payload d st says none = record {
   answer = sym says;
-  behind = subst (DoesBehind y s (with_ports ports)) (sym none) (record { ports = ports; stands = st; is = λ t e. ports_set ports t });
+  behind = subst (DoesBehind y s (with_ports ports)) (sym none)
+      (record { ports = ports; stands = st; is = λ t e. ports_set ports t });
 }
 
--- a connection is wired behind the reply
-pub wires_behind : (y : Ladder) (s : State) (k n : ℕ) (d : Decision) → switch.Stands y s.ports → n ≡ k
-    → answer_of d ≡ plainly success → d.behind ≡ behind.Wire k → Decides y s (responds_with (plainly success) (wires n)) d
+-- a connection is wired after the reply
+pub wires_behind : (y : Ladder) (s : State) (k n : ℕ) (d : Decision) → switch.Stands y s.ports → n
+    ≡ k
+    → answer_of d ≡ plainly success → d.behind ≡ behind.Wire k
+    → Decides y s (responds_with (plainly success) (wires n)) d
 wires_behind y s k n d st same says does = record {
   answer = sym says;
   behind = subst (DoesBehind y s (wires n)) (sym does) (record { stands = st; is = ap wires same });
 }
 
 -- or unwired
-pub unwires_behind : (y : Ladder) (s : State) (k n : ℕ) (d : Decision) → switch.Stands y s.ports → n ≡ k
-    → answer_of d ≡ plainly success → d.behind ≡ behind.Unwire k → Decides y s (responds_with (plainly success) (unwires n)) d
+pub unwires_behind : (y : Ladder) (s : State) (k n : ℕ) (d : Decision) → switch.Stands y s.ports → n
+    ≡ k
+    → answer_of d ≡ plainly success → d.behind ≡ behind.Unwire k
+    → Decides y s (responds_with (plainly success) (unwires n)) d
 unwires_behind y s k n d st same says does = record {
   answer = sym says;
-  behind = subst (DoesBehind y s (unwires n)) (sym does) (record { stands = st; is = ap unwires same });
+  behind = subst (DoesBehind y s (unwires n)) (sym does)
+      (record { stands = st; is = ap unwires same });
 }
 
 -- ---- what connections decide
@@ -80,11 +89,13 @@ record Joined (s : State) (a i c k : ℕ) : Type 0 where
   pub number : connection.number ≡ k
   pub live : connection_of k s.bus ≡ Some connection
 
-joined : (x : Bus) (y : Ladder) (s : State) (a i c k : ℕ) → PartsStand x y s
+joined : (loose : List Loose) (x : Bus) (y : Ladder) (s : State) (a i c k : ℕ)
+    → BusAndPorts loose x y s
     → Some k ≡ option_map (λ (z : Connection). z.number) (joining a i c s.bus) → Joined s a i c k
-joined x y s a i c k st h = by (joining a i c s.bus) refl h
+joined loose x y s a i c k st h = by (joining a i c s.bus) refl h
   where
-    by : (o : Option Connection) → joining a i c s.bus ≡ o → Some k ≡ option_map (λ (z : Connection). z.number) o → Joined s a i c k
+    by : (o : Option Connection) → joining a i c s.bus ≡ o → Some k
+        ≡ option_map (λ (z : Connection). z.number) o → Joined s a i c k
     by None e n = absurd cc
     by (Some z) e n =
         let same : z.number ≡ k = cc (n) in
@@ -93,7 +104,8 @@ joined x y s a i c k st h = by (joining a i c s.bus) refl h
           joins = e;
           number = same;
           live = ap (λ j. connection_of j s.bus) (sym same)
-              ∙ found-by_number s.bus.connections z st.bus.facts.fits.numbers.rise (found-in (joins a i c) s.bus.connections z e).0;
+              ∙ found-by_number s.bus.connections z st.bus.facts.fits.numbers.rise
+              (found-in (joins a i c) s.bus.connections z e).0;
         }
 
 none_of : (o : Option Connection) → None ≡ option_map (λ (z : Connection). z.number) o → o ≡ None
@@ -101,104 +113,137 @@ none_of None h = refl
 none_of (Some z) h = absurd cc
 
 -- no connection joins the two ends
-pub creates_nowhere : (x : Bus) (y : Ladder) (s : State) (a i c : ℕ) (d : Decision) → PartsStand x y s
+pub creates_nowhere : (loose : List Loose) (x : Bus) (y : Ladder) (s : State) (a i c : ℕ)
+    (d : Decision) → BusAndPorts loose x y s
     → None ≡ option_map (λ (z : Connection). z.number) (joining a i c s.bus)
-    → answer_of d ≡ plainly nonexistent → d.behind ≡ behind.Nothing → Decides y s (creates (joining a i c s.bus)) d
-creates_nowhere x y s a i c d st h says none =
-    subst (λ o. Decides y s (creates o) d) (sym (none_of (joining a i c s.bus) h)) (refuses_with y s nonexistent d st.ports says none)
+    → answer_of d ≡ plainly nonexistent → d.behind ≡ behind.Nothing
+    → Decides y s (creates (joining a i c s.bus)) d
+creates_nowhere loose x y s a i c d st h says none =
+    subst (λ o. Decides y s (creates o) d) (sym (none_of (joining a i c s.bus) h))
+    (refuses_with y s nonexistent d st.ports says none)
 
 -- it is wired already
-pub creates_wired : (x : Bus) (y : Ladder) (s : State) (a i c k : ℕ) (d : Decision) → PartsStand x y s
-    → Some k ≡ option_map (λ (z : Connection). z.number) (joining a i c s.bus) → is_wired (connection_of k s.bus) ≡ true
-    → answer_of d ≡ plainly invalid → d.behind ≡ behind.Nothing → Decides y s (creates (joining a i c s.bus)) d
-creates_wired x y s a i c k d st h wired says none =
-    let j = joined x y s a i c k st h in
+pub creates_wired : (loose : List Loose) (x : Bus) (y : Ladder) (s : State) (a i c k : ℕ)
+    (d : Decision) → BusAndPorts loose x y s
+    → Some k ≡ option_map (λ (z : Connection). z.number) (joining a i c s.bus)
+    → is_wired (connection_of k s.bus) ≡ true
+    → answer_of d ≡ plainly invalid → d.behind ≡ behind.Nothing
+    → Decides y s (creates (joining a i c s.bus)) d
+creates_wired loose x y s a i c k d st h wired says none =
+    let j = joined loose x y s a i c k st h in
     let is : j.connection.wired ≡ true = ap is_wired (sym j.live) ∙ wired in
     subst (λ o. Decides y s (creates o) d) (sym j.joins)
-    (subst (λ b. Decides y s (if b then responds_plainly invalid else responds_with (plainly success) (wires j.connection.number)) d) (sym is)
+    (subst (λ b. Decides y s (if b then responds_plainly invalid else responds_with
+    (plainly success) (wires j.connection.number)) d) (sym is)
     (refuses_with y s invalid d st.ports says none))
 
 -- it is wired
-pub creates_one : (x : Bus) (y : Ladder) (s : State) (a i c k : ℕ) (d : Decision) → PartsStand x y s
-    → Some k ≡ option_map (λ (z : Connection). z.number) (joining a i c s.bus) → is_wired (connection_of k s.bus) ≡ false
-    → answer_of d ≡ plainly success → d.behind ≡ behind.Wire k → Decides y s (creates (joining a i c s.bus)) d
-creates_one x y s a i c k d st h unwired says does =
-    let j = joined x y s a i c k st h in
+pub creates_one : (loose : List Loose) (x : Bus) (y : Ladder) (s : State) (a i c k : ℕ)
+    (d : Decision) → BusAndPorts loose x y s
+    → Some k ≡ option_map (λ (z : Connection). z.number) (joining a i c s.bus)
+    → is_wired (connection_of k s.bus) ≡ false
+    → answer_of d ≡ plainly success → d.behind ≡ behind.Wire k
+    → Decides y s (creates (joining a i c s.bus)) d
+creates_one loose x y s a i c k d st h unwired says does =
+    let j = joined loose x y s a i c k st h in
     let is : j.connection.wired ≡ false = ap is_wired (sym j.live) ∙ unwired in
     subst (λ o. Decides y s (creates o) d) (sym j.joins)
-    (subst (λ b. Decides y s (if b then responds_plainly invalid else responds_with (plainly success) (wires j.connection.number)) d) (sym is)
+    (subst (λ b. Decides y s (if b then responds_plainly invalid else responds_with
+    (plainly success) (wires j.connection.number)) d) (sym is)
     (wires_behind y s k j.connection.number d st.ports j.number says does))
 
 -- no connection is there to be unwired
-pub destroys_nowhere : (x : Bus) (y : Ladder) (s : State) (a i c : ℕ) (d : Decision) → PartsStand x y s
+pub destroys_nowhere : (loose : List Loose) (x : Bus) (y : Ladder) (s : State) (a i c : ℕ)
+    (d : Decision) → BusAndPorts loose x y s
     → None ≡ option_map (λ (z : Connection). z.number) (joining a i c s.bus)
-    → answer_of d ≡ plainly nonexistent → d.behind ≡ behind.Nothing → Decides y s (destroys (joining a i c s.bus)) d
-destroys_nowhere x y s a i c d st h says none =
-    subst (λ o. Decides y s (destroys o) d) (sym (none_of (joining a i c s.bus) h)) (refuses_with y s nonexistent d st.ports says none)
+    → answer_of d ≡ plainly nonexistent → d.behind ≡ behind.Nothing
+    → Decides y s (destroys (joining a i c s.bus)) d
+destroys_nowhere loose x y s a i c d st h says none =
+    subst (λ o. Decides y s (destroys o) d) (sym (none_of (joining a i c s.bus) h))
+    (refuses_with y s nonexistent d st.ports says none)
 
 -- it isn't wired
-pub destroys_unwired : (x : Bus) (y : Ladder) (s : State) (a i c k : ℕ) (d : Decision) → PartsStand x y s
-    → Some k ≡ option_map (λ (z : Connection). z.number) (joining a i c s.bus) → is_wired (connection_of k s.bus) ≡ false
-    → answer_of d ≡ plainly nonexistent → d.behind ≡ behind.Nothing → Decides y s (destroys (joining a i c s.bus)) d
-destroys_unwired x y s a i c k d st h unwired says none =
-    let j = joined x y s a i c k st h in
+pub destroys_unwired : (loose : List Loose) (x : Bus) (y : Ladder) (s : State) (a i c k : ℕ)
+    (d : Decision) → BusAndPorts loose x y s
+    → Some k ≡ option_map (λ (z : Connection). z.number) (joining a i c s.bus)
+    → is_wired (connection_of k s.bus) ≡ false
+    → answer_of d ≡ plainly nonexistent → d.behind ≡ behind.Nothing
+    → Decides y s (destroys (joining a i c s.bus)) d
+destroys_unwired loose x y s a i c k d st h unwired says none =
+    let j = joined loose x y s a i c k st h in
     let is : j.connection.wired ≡ false = ap is_wired (sym j.live) ∙ unwired in
     subst (λ o. Decides y s (destroys o) d) (sym j.joins)
-    (subst (λ b. Decides y s (if b then responds_with (plainly success) (unwires j.connection.number) else responds_plainly nonexistent) d) (sym is)
+    (subst (λ b. Decides y s (if b then responds_with (plainly success)
+    (unwires j.connection.number) else responds_plainly nonexistent) d) (sym is)
     (refuses_with y s nonexistent d st.ports says none))
 
 -- it is unwired
-pub destroys_one : (x : Bus) (y : Ladder) (s : State) (a i c k : ℕ) (d : Decision) → PartsStand x y s
-    → Some k ≡ option_map (λ (z : Connection). z.number) (joining a i c s.bus) → is_wired (connection_of k s.bus) ≡ true
-    → answer_of d ≡ plainly success → d.behind ≡ behind.Unwire k → Decides y s (destroys (joining a i c s.bus)) d
-destroys_one x y s a i c k d st h wired says does =
-    let j = joined x y s a i c k st h in
+pub destroys_one : (loose : List Loose) (x : Bus) (y : Ladder) (s : State) (a i c k : ℕ)
+    (d : Decision) → BusAndPorts loose x y s
+    → Some k ≡ option_map (λ (z : Connection). z.number) (joining a i c s.bus)
+    → is_wired (connection_of k s.bus) ≡ true
+    → answer_of d ≡ plainly success → d.behind ≡ behind.Unwire k
+    → Decides y s (destroys (joining a i c s.bus)) d
+destroys_one loose x y s a i c k d st h wired says does =
+    let j = joined loose x y s a i c k st h in
     let is : j.connection.wired ≡ true = ap is_wired (sym j.live) ∙ wired in
     subst (λ o. Decides y s (destroys o) d) (sym j.joins)
-    (subst (λ b. Decides y s (if b then responds_with (plainly success) (unwires j.connection.number) else responds_plainly nonexistent) d) (sym is)
+    (subst (λ b. Decides y s (if b then responds_with (plainly success)
+    (unwires j.connection.number) else responds_plainly nonexistent) d) (sym is)
     (unwires_behind y s k j.connection.number d st.ports j.number says does))
 
 -- a connection is wired to an interface that is to lose its route
-pub unroutes_wired : (x : Bus) (y : Ladder) (s : State) (i : ℕ) (d : Decision) → PartsStand x y s
+pub unroutes_wired : (loose : List Loose) (x : Bus) (y : Ladder) (s : State) (i : ℕ) (d : Decision)
+    → BusAndPorts loose x y s
     → list_any (is_wired_to i) s.bus.connections ≡ true
     → answer_of d ≡ plainly invalid → d.behind ≡ behind.Nothing
     → Decides y s (unroutes (list_any (is_wired_to i) s.bus.connections) i s.ports) d
-unroutes_wired x y s i d st wired says none =
-    subst (λ b. Decides y s (unroutes b i s.ports) d) (sym wired) (refuses_with y s invalid d st.ports says none)
+unroutes_wired loose x y s i d st wired says none =
+    subst (λ b. Decides y s (unroutes b i s.ports) d) (sym wired)
+    (refuses_with y s invalid d st.ports says none)
 
 -- none is
-pub unroutes_one : (y : Ladder) (s : State) (i : ℕ) (d : Decision) → switch.Stands y (unrouted i s.ports)
+pub unroutes_one : (y : Ladder) (s : State) (i : ℕ) (d : Decision)
+    → switch.Stands y (unrouted i s.ports)
     → list_any (is_wired_to i) s.bus.connections ≡ false
     → answer_of d ≡ plainly success → d.behind ≡ behind.Nothing
     → Decides y s (unroutes (list_any (is_wired_to i) s.bus.connections) i s.ports) d
 unroutes_one y s i d st unwired says none =
-    subst (λ b. Decides y s (unroutes b i s.ports) d) (sym unwired) (answers_with y s (unrouted i s.ports) success [] d st says none)
+    subst (λ b. Decides y s (unroutes b i s.ports) d) (sym unwired)
+    (answers_with y s (unrouted i s.ports) success [] d st says none)
 
 -- ---- what the table decides
 
 -- the table answers
-pub decided_answer : (y : Ladder) (s : State) (step : SvcStep) (result : ℕ) (payload : List ℕ) (d : Decision)
+pub decided_answer : (y : Ladder) (s : State) (step : SvcStep) (result : ℕ) (payload : List ℕ)
+    (d : Decision)
     → Follows y step (SvcServed.Answered result payload)
-    → answer_of d ≡ answer result payload → d.behind ≡ behind.Nothing → Decides y s (svc_stepped step s) d
+    → answer_of d ≡ answer result payload → d.behind ≡ behind.Nothing
+    → Decides y s (svc_stepped step s) d
 decided_answer y s step result payload d f says none =
     subst (λ v. Decides y s (svc_decided v step.ports s) d) (sym f.answer)
     (answers_with y s step.ports result payload d f.stands says none)
 
 -- the parts stand still where the table leaves it to connections
-pub stand_still : (x : Bus) (y z : Ladder) (s : State) (step : SvcStep) (v : SvcServed) → PartsStand x z s → Follows y step v
-    → step.ports ≡ s.ports → PartsStand x y s
-stand_still x y z s step v st f same = record { bus = st.bus; ports = subst (switch.Stands y) same f.stands }
+pub stand_still : (loose : List Loose) (x : Bus) (y z : Ladder) (s : State) (step : SvcStep)
+    (v : SvcServed) → BusAndPorts loose x z s → Follows y step v
+    → step.ports ≡ s.ports → BusAndPorts loose x y s
+stand_still loose x y z s step v st f same =
+    record { bus = st.bus; ports = subst (switch.Stands y) same f.stands }
 
 -- connections decide on a creation or a destruction
-pub decided_by : (y : Ladder) (s : State) (step : SvcStep) (v : SvcServed) (d : Decision) → Follows y step v → step.ports ≡ s.ports
+pub decided_by : (y : Ladder) (s : State) (step : SvcStep) (v : SvcServed) (d : Decision)
+    → Follows y step v → step.ports ≡ s.ports
     → Decides y s (svc_decided v s.ports s) d → Decides y s (svc_stepped step s) d
 decided_by y s step v d f same decides =
     subst (λ w. Decides y s (svc_decided w step.ports s) d) (sym f.answer)
     (subst (λ ps. Decides y s (svc_decided v ps s) d) (sym same) decides)
 
 -- they decide on an interface's route, with another ladder afterwards
-pub decided_unroute : (y z : Ladder) (s : State) (step : SvcStep) (i : ℕ) (d : Decision) → Follows y step (SvcServed.Unroute i)
-    → step.ports ≡ s.ports → Decides z s (unroutes (list_any (is_wired_to i) s.bus.connections) i s.ports) d
+pub decided_unroute : (y z : Ladder) (s : State) (step : SvcStep) (i : ℕ) (d : Decision)
+    → Follows y step (SvcServed.Unroute i)
+    → step.ports ≡ s.ports → Decides z s
+    (unroutes (list_any (is_wired_to i) s.bus.connections) i s.ports) d
     → Decides z s (svc_stepped step s) d
 decided_unroute y z s step i d f same decides =
     subst (λ w. Decides z s (svc_decided w step.ports s) d) (sym f.answer)

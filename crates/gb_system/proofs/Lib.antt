@@ -2,11 +2,10 @@ pub mod Cancels
 pub mod Copies
 pub mod Decisions
 pub mod Deliveries
+pub mod Known
 pub mod Landings
-pub mod Places
 pub mod Sends
 pub mod Served
 pub mod Serves
 pub mod Settles
-pub mod SvcResults
 pub mod SvcSteps

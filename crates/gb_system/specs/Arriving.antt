@@ -10,17 +10,17 @@ use Rattle.gb_machine.specs.Arriving.{delivers}
 use Rattle.gb_machine.specs.Refusals.{refusal}
 use Rattle.gb_machine.specs.Settling.{settles_from}
 use Rattle.gb_machine.specs.State.{State}
-use Rattle.gb_system.specs.Stands.{PartiesStand}
+use Rattle.gb_system.specs.Stands.{PartiesStand, PartsStand}
 use Rattle.gb_system.specs.declared.parties.Parties.{Parties}
 
--- A delivery is done: what it brings about is told behind what was told, and the parties stand for
--- the state after it.
+-- A delivery is done: what it brings about is told after what was told, and the parties stand for
+-- the parts of the state after it.
 pub record Brings (new : Parties) (s : State) (at : End) (before told : List Entry) : Type 0 where
   pub after : State
   pub entries : List Entry
   pub is : delivers at s ≡ record { state = after; entries = entries }
   pub appended : told ≡ before ++ entries
-  pub stands : PartiesStand new after
+  pub stands : PartsStand new after
 
 -- A delivery is refused: it brings about nothing.
 pub record BringsNothing (new : Parties) (s : State) (at : End) (before told : List Entry)
@@ -28,7 +28,7 @@ pub record BringsNothing (new : Parties) (s : State) (at : End) (before told : L
   pub refused : refusal s (event.Deliver at) ≡ Some why
   pub is : delivers at s ≡ record { state = s; entries = [] }
   pub same : told ≡ before
-  pub stands : PartiesStand new s
+  pub stands : PartsStand new s
 
 -- By cases on why it is refused.
 abbrev pub ArrivesAs : Parties → State → End → List Entry → List Entry → Option Refusal → Type 0

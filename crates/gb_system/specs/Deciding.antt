@@ -2,6 +2,7 @@
 use Rattle.std.specs.Prelude.{◌≡◌, List, []}
 use Rattle.gb_bus.specs.Stands as bus
 use Rattle.gb_bus.specs.declared.bus.Bus.{Bus}
+use Rattle.gb_invariants.specs.Facts.{Loose}
 use Rattle.gb_machine.specs.Actions.{Action}
 use Rattle.gb_machine.specs.Responding.{Response}
 use Rattle.gb_machine.specs.Serving.{Answer, answer}
@@ -13,9 +14,9 @@ use Rattle.gb_system.specs.declared.deciding.Behind.{Behind}
 use Rattle.gb_system.specs.declared.deciding.Behind.TheVariants as behind
 use Rattle.gb_system.specs.declared.deciding.Decision.{Decision}
 
--- A bus and a ladder stand for their parts of a state.
-pub record PartsStand (x : Bus) (y : Ladder) (s : State) : Type 0 where
-  pub bus : bus.Stands x s.bus
+-- A bus, with these items in no queue, and a ladder stand for their parts of a state.
+pub record BusAndPorts (loose : List Loose) (x : Bus) (y : Ladder) (s : State) : Type 0 where
+  pub bus : bus.Stands loose x s.bus
   pub ports : switch.Stands y s.ports
 
 -- the answer of a decision
@@ -34,13 +35,13 @@ pub record DoesThis (new : Ladder) (s : State) (does this : Action) : Type 0 whe
   pub stands : switch.Stands new s.ports
   pub is : does ≡ this
 
--- What is done behind the reply at a state, by cases.
+-- What is done after the reply at a state, by cases.
 abbrev pub DoesBehind : Ladder → State → Action → Behind → Type 0
 DoesBehind new s does behind.Nothing = ChangesPorts new s does
 DoesBehind new s does (behind.Wire k) = DoesThis new s does (wires k)
 DoesBehind new s does (behind.Unwire k) = DoesThis new s does (unwires k)
 
--- A response has the answer of a decision, and this behind it.
+-- A response has the answer of a decision, and this comes after it.
 pub record Decides (new : Ladder) (s : State) (r : Response) (d : Decision) : Type 0 where
   pub answer : r.answer ≡ answer_of d
   pub behind : DoesBehind new s r.behind d.behind

@@ -1,5 +1,5 @@
--- The events that the system steps, and what is told of them.
-use Rattle.std.specs.Prelude.{ℕ, ◌<◌, ◌==◌, nat_lt, Bool, if◌then◌else◌, Option, is_some, List, [], ◌∷◌, length}
+-- The events that the system steps, by their parts, and what is told of them.
+use Rattle.std.specs.Prelude.{ℕ, Bool, Option, is_some, List, [], ◌∷◌}
 use Rattle.gb_base.specs.declared.bridge.Reading.TheVariants as reading
 use Rattle.gb_base.specs.declared.end.End.{End}
 use Rattle.gb_base.specs.declared.end.End.TheVariants as end
@@ -12,39 +12,9 @@ use Rattle.gb_base.specs.declared.outcome.Outcome.TheVariants as outcome
 use Rattle.gb_base.specs.declared.refusal.Refusal.{Refusal}
 use Rattle.gb_base.specs.declared.refusal.Refusal.TheVariants as why
 use Rattle.gb_formats.specs.Message.{message_size, request, response, spelling}
-use Rattle.gb_machine.specs.Lists.{first_met}
+use Rattle.gb_machine.specs.Lists.{Condition, first_met}
 use Rattle.gb_machine.specs.Names.{named}
-use Rattle.gb_machine.specs.Refusals.{is_reserved, longest_payload}
-
--- a request to the supervisory controller, of a type that a request can have
-abbrev pub IsToSvc : End → ℕ → Type 0
-IsToSvc end.Svc kind = kind < 128
-IsToSvc (end.Ap a) kind = ⊥
-IsToSvc (end.Module i c) kind = ⊥
-
--- The events that the system steps: requests to the supervisory controller, their cancels and names,
--- deliveries and settles.
-abbrev pub IsStepped : Event → Type 0
-IsStepped (event.Send name to kind payload timeout) = IsToSvc to kind
-IsStepped (event.Deliver at) = Unit {0}
-IsStepped (event.Settle most) = Unit {0}
-IsStepped (event.Cancel name) = Unit {0}
-IsStepped (event.Copy from to) = Unit {0}
-IsStepped (event.Forget name) = Unit {0}
-IsStepped event.Boot = ⊥
-IsStepped (event.Insert i kind) = ⊥
-IsStepped (event.InsertRaw i manifest) = ⊥
-IsStepped (event.Pull i) = ⊥
-IsStepped (event.Connect i c) = ⊥
-IsStepped (event.Disconnect i c) = ⊥
-IsStepped (event.Bridge name i c ask) = ⊥
-IsStepped (event.Level i c line value) = ⊥
-IsStepped (event.SerialState i c control) = ⊥
-IsStepped (event.Hold i c) = ⊥
-IsStepped (event.Answer i c place) = ⊥
-IsStepped (event.Tick millis) = ⊥
-IsStepped (event.Inject i c bytes) = ⊥
-IsStepped event.Show = ⊥
+use Rattle.gb_machine.specs.Refusals.{is_long_payload, is_reserved}
 
 -- a request to the supervisory controller
 abbrev pub send_of : Name → ℕ → List ℕ → ℕ → Event
@@ -70,13 +40,17 @@ copy_of from to = event.Copy from to
 abbrev pub forget_of : Name → Event
 forget_of name = event.Forget name
 
--- Why a request isn't sent, before its identifier is drawn.
-abbrev pub early_refusal : Name → List (Name × ℕ) → ℕ → List ℕ → Option Refusal
-early_refusal name names kind payload = first_met (
+-- When a request isn't sent, before its identifier is drawn.
+abbrev pub early_conditions : Name → List (Name × ℕ) → ℕ → List ℕ → List Condition
+early_conditions name names kind payload =
     (is_some (named name names), why.Occupied)
     ∷ (is_reserved kind, why.Unsupported)
-    ∷ (nat_lt longest_payload (length payload), why.TooLarge)
-    ∷ [])
+    ∷ (is_long_payload payload, why.TooLarge)
+    ∷ []
+
+-- Why it isn't, then.
+abbrev pub early_refusal : Name → List (Name × ℕ) → ℕ → List ℕ → Option Refusal
+early_refusal name names kind payload = first_met (early_conditions name names kind payload)
 
 -- what is told of a request
 abbrev pub ask_told : ℕ → ℕ → ℕ → List ℕ → Bool → Entry

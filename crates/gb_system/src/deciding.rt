@@ -1,6 +1,7 @@
 //! What the supervisory controller decides on a request: its table, and what connections decide.
 
-ghost use Rattle.std.specs.Prelude.{◌≡◌, []};
+ghost use Rattle.std.specs.Prelude.{◌≡◌, List, []};
+ghost use Rattle.gb_invariants.specs.Facts.{Loose};
 ghost use Rattle.gb_machine.specs.Responding.{creates, destroys, svc_stepped, unroutes};
 ghost use Rattle.gb_machine.specs.Serving.{plainly, success};
 ghost use Rattle.gb_machine.specs.State.{State};
@@ -10,7 +11,7 @@ ghost use Rattle.gb_machine.specs.Ports.{level_of};
 ghost use Rattle.std.specs.List.{list_any};
 ghost use Rattle.gb_switch.specs.declared.ladder.Ladder as switch;
 ghost use Rattle.gb_system.specs.declared.deciding.Behind.TheVariants as behind;
-ghost use Rattle.gb_system.specs.Deciding.{Decides, PartsStand, answer_of};
+ghost use Rattle.gb_system.specs.Deciding.{BusAndPorts, Decides, answer_of};
 
 use arrayvec::ArrayVec;
 use gb_bus::Bus;
@@ -26,18 +27,18 @@ const INVALID: u8 = 6;
 /// The result where what is asked for isn't there.
 const NONEXISTENT: u8 = 8;
 
-/// What the supervisory controller answers, and what it does behind its reply.
+/// What the supervisory controller answers, and what it does after its reply.
 #[derive(Drop)]
 pub struct Decision {
     /// The result byte.
     pub result: u8,
     /// The payload.
     pub payload: ArrayVec<u8, 2>,
-    /// What is done behind the reply.
+    /// What is done after the reply.
     pub behind: Behind,
 }
 
-/// What is done behind a reply of the supervisory controller.
+/// What is done after a reply of the supervisory controller.
 #[derive(Clone, Copy, Debug, PartialEq, Eq)]
 pub enum Behind {
     /// Nothing more.
@@ -57,7 +58,7 @@ pub enum Behind {
 /// Decides on a request by the table of the supervisory controller. Connections decide whether one
 /// is wired or unwired, and whether an interface loses its route.
 pub fn decide(bus: &Bus, ladder: &mut Ladder, kind: u8, payload: &[u8]) -> Decision
-    ensures step { (s : State) → PartsStand bus.now ladder.old s
+    ensures step { (loose : List Loose) (s : State) → BusAndPorts loose bus.now ladder.old s
         → Decides ladder.new s (svc_stepped (svc_step s.ports kind payload.now) s) result }
 {
     match gb_svc::serve(ladder, kind, payload) {
@@ -74,7 +75,8 @@ pub fn decide(bus: &Bus, ladder: &mut Ladder, kind: u8, payload: &[u8]) -> Decis
 
 /// A connection is wired where it is there and isn't wired.
 fn create(bus: &Bus, ap: u16, intf: u8, cport: u16) -> Decision
-    ensures step { (s : State) (x : switch.Ladder) → PartsStand bus.now x s
+    ensures step { (loose : List Loose) (s : State) (x : switch.Ladder)
+        → BusAndPorts loose bus.now x s
         → Decides x s (creates (joining ap intf cport s.bus)) result }
 {
     let Some(connection) = bus.live(ap, intf, cport) else {
@@ -88,7 +90,8 @@ fn create(bus: &Bus, ap: u16, intf: u8, cport: u16) -> Decision
 
 /// A connection is unwired where it is wired.
 fn destroy(bus: &Bus, ap: u16, intf: u8, cport: u16) -> Decision
-    ensures step { (s : State) (x : switch.Ladder) → PartsStand bus.now x s
+    ensures step { (loose : List Loose) (s : State) (x : switch.Ladder)
+        → BusAndPorts loose bus.now x s
         → Decides x s (destroys (joining ap intf cport s.bus)) result }
 {
     let Some(connection) = bus.live(ap, intf, cport) else {
@@ -102,7 +105,7 @@ fn destroy(bus: &Bus, ap: u16, intf: u8, cport: u16) -> Decision
 
 /// An interface that is routed loses its route where no connection is wired to it.
 fn unroute(bus: &Bus, ladder: &mut Ladder, intf: u8) -> Decision
-    ensures step { (s : State) → PartsStand bus.now ladder.old s
+    ensures step { (loose : List Loose) (s : State) → BusAndPorts loose bus.now ladder.old s
         → level_of intf s.ports ≡ 6 → Decides ladder.new s
         (unroutes (list_any (is_wired_to intf) s.bus.connections) intf s.ports) result }
 {
@@ -115,7 +118,7 @@ fn unroute(bus: &Bus, ladder: &mut Ladder, intf: u8) -> Decision
     }
 }
 
-/// A result alone, and nothing behind it.
+/// A result alone, and nothing after it.
 fn refusal(code: u8) -> Decision
     ensures answer { answer_of result ≡ plainly code }
     ensures behind { result.behind ≡ behind.Nothing }
@@ -127,7 +130,7 @@ fn refusal(code: u8) -> Decision
     }
 }
 
-/// Success, and this behind it.
+/// Success, and this after it.
 fn done(behind: Behind) -> Decision
     ensures answer { answer_of result ≡ plainly success }
     ensures behind { result.behind ≡ behind }

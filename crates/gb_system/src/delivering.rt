@@ -3,7 +3,7 @@
 ghost use Rattle.std.specs.Prelude.{◌≡◌, IfOk};
 ghost use Rattle.gb_machine.specs.State.{State};
 ghost use Rattle.gb_system.specs.Arriving.{ArrivesAs};
-ghost use Rattle.gb_system.specs.Stands.{PartiesStand, PartiesStep};
+ghost use Rattle.gb_system.specs.Stands.{PartiesStand, PartsStep};
 ghost use Rattle.gb_system.specs.Told.{answer_told, delivery_at, nowhere_refusal, settle_of};
 
 use crate::entries::{begun, refused};
@@ -15,7 +15,7 @@ impl Parties {
     /// Delivers the front message toward an end.
     pub fn deliver(&mut self, at: End) -> Result<Entries, OutOfMemory>
         ensures step { (s : State) → PartiesStand self.old s
-            → PartiesStep self.new s (delivery_at at) result }
+            → PartsStep self.new s (delivery_at at) result }
     {
         let mut told = begun(self.alloc)?;
         match self.arrive(at, &mut told)? {
@@ -27,7 +27,7 @@ impl Parties {
     /// Delivers at most so many messages, each toward the first end at which one waits.
     pub fn settle(&mut self, most: u16) -> Result<Entries, OutOfMemory>
         ensures step { (s : State) → PartiesStand self.old s
-            → PartiesStep self.new s (settle_of most) result }
+            → PartsStep self.new s (settle_of most) result }
     {
         let mut told = begun(self.alloc)?;
         for count in 0..most {

@@ -2,7 +2,7 @@
 
 ghost use Rattle.std.specs.Prelude.{◌≡◌};
 ghost use Rattle.gb_machine.specs.State.{State};
-ghost use Rattle.gb_system.specs.Stands.{PartiesStand, PartiesStep};
+ghost use Rattle.gb_system.specs.Stands.{PartiesStand, PartsStep};
 ghost use Rattle.gb_system.specs.Told.{cancel_of, cancel_told, copy_of, forget_of};
 
 use crate::entries::{begun, done, refused};
@@ -14,7 +14,7 @@ impl Parties {
     /// Gives up the request that a name names.
     pub fn cancel(&mut self, name: &Name) -> Result<Entries, OutOfMemory>
         ensures step { (s : State) → PartiesStand self.old s
-            → PartiesStep self.new s (cancel_of name.now) result }
+            → PartsStep self.new s (cancel_of name.now) result }
     {
         let Some(number) = self.names.get(name) else {
             return Ok(refused(self.alloc, Refusal::NoName)?);
@@ -28,7 +28,7 @@ impl Parties {
     /// Gives the request of a name another name too.
     pub fn copy_name(&mut self, from: &Name, to: &Name) -> Result<Entries, OutOfMemory>
         ensures step { (s : State) → PartiesStand self.old s
-            → PartiesStep self.new s (copy_of from.now to.now) result }
+            → PartsStep self.new s (copy_of from.now to.now) result }
     {
         let Some(number) = self.names.get(from) else {
             return Ok(refused(self.alloc, Refusal::NoName)?);
@@ -43,7 +43,7 @@ impl Parties {
     /// Frees a name.
     pub fn forget_name(&mut self, name: &Name) -> Result<Entries, OutOfMemory>
         ensures step { (s : State) → PartiesStand self.old s
-            → PartiesStep self.new s (forget_of name.now) result }
+            → PartsStep self.new s (forget_of name.now) result }
     {
         let Some(_) = self.names.get(name) else {
             return Ok(refused(self.alloc, Refusal::NoName)?);

@@ -1,8 +1,9 @@
 //! The parties and the bus between them.
 
-ghost use Rattle.std.specs.Prelude.{IfOk};
+ghost use Rattle.std.specs.Prelude.{◌≡◌, IfOk, true};
+ghost use Rattle.gb_formats.specs.Built.{is_built};
+ghost use Rattle.gb_formats.specs.ValidEvents.{IsValid};
 ghost use Rattle.gb_machine.specs.State.{State, first_state};
-ghost use Rattle.gb_system.specs.Told.{IsStepped};
 
 use crate::names::Names;
 use gb_base::{Entries, Event, OutOfMemory};
@@ -21,11 +22,11 @@ pub struct Parties {
 }
 
 impl Parties {
-    ghost use Rattle.gb_system.specs.Stands.{PartiesStand, PartiesStep};
+    ghost use Rattle.gb_system.specs.Stands.{PartiesStand, PartsStand, PartsStep};
 
     /// The first state: nothing was sent.
     pub fn new(alloc: Global) -> Result<Parties, OutOfMemory>
-        ensures { IfOk result (λ x. PartiesStand x first_state) }
+        ensures { IfOk result (λ x. PartsStand x first_state) }
     {
         Ok(Parties {
             alloc,
@@ -37,9 +38,10 @@ impl Parties {
 
     /// Steps one event.
     pub fn event(&mut self, e: &Event) -> Result<Entries, OutOfMemory>
-        requires { IsStepped e.now }
+        requires built { is_built e.now ≡ true }
+        requires valid { IsValid e.now }
         ensures step { (s : State) → PartiesStand self.old s
-            → PartiesStep self.new s e.now result }
+            → PartsStep self.new s e.now result }
     {
         match e {
             Event::Send {

@@ -2,7 +2,7 @@
 
 ghost use Rattle.std.specs.Prelude.{◌≡◌, ◌<◌, ◌≤◌, None, IfOk, length};
 ghost use Rattle.gb_machine.specs.State.{State};
-ghost use Rattle.gb_system.specs.Stands.{PartiesStand, PartiesStep};
+ghost use Rattle.gb_system.specs.Stands.{PartiesStand, PartsStep};
 ghost use Rattle.gb_system.specs.Told.{ask_told, early_refusal, send_of};
 
 use crate::entries::{done, refused};
@@ -28,7 +28,7 @@ impl Parties {
     ) -> Result<Entries, OutOfMemory>
         requires { kind < 128 }
         ensures step { (s : State) → PartiesStand self.old s
-            → PartiesStep self.new s (send_of name.now kind payload.now timeout) result }
+            → PartsStep self.new s (send_of name.now kind payload.now timeout) result }
     {
         if let Some(why) = self.early_refusal(name, kind, payload) {
             return Ok(refused(self.alloc, why)?);

@@ -1,13 +1,13 @@
 //! Requests that are served at the supervisory controller.
 
-ghost use Rattle.std.specs.Prelude.{◌≡◌, ◌<◌, ◌≤◌, ◌++◌, ℕ, IfOk, OnOk, length, map};
+ghost use Rattle.std.specs.Prelude.{◌≡◌, ◌<◌, ◌≤◌, ◌++◌, ℕ, List, IfOk, OnOk, length, map};
 ghost use Rattle.gb_bus.specs.Stands as of_bus;
+ghost use Rattle.gb_invariants.specs.Facts.{Loose};
 ghost use Rattle.gb_machine.specs.Bus as machine;
 ghost use Rattle.gb_machine.specs.Incoming.{incoming};
 ghost use Rattle.gb_machine.specs.State.{State};
 ghost use Rattle.gb_machine.specs.Wires.{disconnected_told};
-ghost use Rattle.gb_system.specs.Deciding.{PartsStand};
-ghost use Rattle.gb_system.specs.Serving.{FollowsAs, IsServed, ServesAs};
+ghost use Rattle.gb_system.specs.Serving.{FollowsAs, IsServed, ServesAs, StandServing};
 ghost use Rattle.gb_system.specs.Told.{reply_told};
 
 use crate::deciding::{Behind, decide};
@@ -29,8 +29,7 @@ impl Parties {
         told: &mut Entries,
     ) -> Result<(), OutOfMemory>
         ensures step { OnOk result ((s : State) (c : machine.Connection) (n : ℕ)
-            → (h : IsServed asked.now payload.now s c n)
-            → PartsStand self.old.bus self.old.ladder s
+            → (h : IsServed asked.now payload.now s c n) → StandServing self.old s n
             → ServesAs self.new s c (incoming n h.may.request) told.old told.new) }
         ensures names { self.new.names ≡ self.old.names }
     {
@@ -43,10 +42,11 @@ impl Parties {
         Ok(())
     }
 
-    /// Does what comes behind a reply, and tells it.
+    /// Does what comes after a reply, and tells it.
     fn follow(&mut self, behind: Behind, told: &mut Entries) -> Result<(), OutOfMemory>
-        ensures step { OnOk result ((b : machine.Bus) → of_bus.Stands self.old.bus b
-            → FollowsAs self.new.bus b behind told.old told.new) }
+        ensures step { OnOk result ((loose : List Loose) (b : machine.Bus)
+            → of_bus.Stands loose self.old.bus b
+            → FollowsAs loose self.new.bus b behind told.old told.new) }
         ensures ladder { self.new.ladder ≡ self.old.ladder }
         ensures names { self.new.names ≡ self.old.names }
     {

@@ -4,7 +4,7 @@ ghost use Rattle.std.specs.Prelude.{◌≡◌, length};
 ghost use Rattle.gb_bridge_payload.specs.Conditions.{IsUartAsk};
 ghost use Rattle.gb_bridge_payload.specs.Serving.{BridgesAs};
 ghost use Rattle.gb_bridge_payload.specs.Views.{uart_ask_of};
-ghost use Rattle.gb_formats.specs.Bridges.{bridge_answer};
+ghost use Rattle.gb_formats.specs.Bridges.{bridge_answer, uart_request};
 ghost use Rattle.gb_formats.specs.Protocols.{uart_protocol};
 ghost use Rattle.gb_formats.specs.Results.{most_payload};
 ghost use Rattle.gb_formats.specs.UartRecords.{uart_ask_kind, uart_ask_payload};
@@ -12,9 +12,8 @@ ghost use Rattle.gb_uart.specs.Fitting.{fitting};
 
 use crate::device::MOST_SENT;
 use gb_base::{BridgeAsk, Bridged};
+use gb_bridge_payload::uart_kinds::{SEND_BREAK, SET_CONTROL_LINE_STATE};
 use gb_bridge_payload::{BridgeFault, UartAsk};
-use gb_payload::Field::U8;
-use gb_payload::put;
 
 /// The request that a bridge line becomes: its type, and its payload at the front of `out`, which
 /// has 2,040 bytes. Unsupported exactly where the line asks for another protocol, TooLarge exactly
@@ -49,11 +48,19 @@ pub fn bridge(ask: &BridgeAsk, out: &mut [u8]) -> Result<Bridged, BridgeFault>
             },
             out,
         ),
-        BridgeAsk::UartByte { kind, value } => Ok(Bridged {
-            kind: *kind,
-            len: put(&[U8(*value)], out)?,
-        }),
+        BridgeAsk::UartByte { kind, value } => write(byte_request(*kind, *value), out),
         _ => Err(BridgeFault::Unsupported),
+    }
+}
+
+/// The request of a type that has one byte.
+fn byte_request(kind: u8, value: u8) -> UartAsk<'static>
+    ensures { uart_ask_of result ≡ uart_request kind value }
+{
+    match kind {
+        SET_CONTROL_LINE_STATE => UartAsk::SetControlLineState { control: value },
+        SEND_BREAK => UartAsk::SendBreak { state: value },
+        _ => UartAsk::FlushFifos { flags: value },
     }
 }
 

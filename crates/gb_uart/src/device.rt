@@ -8,7 +8,6 @@ ghost use Rattle.gb_formats.specs.UartDevice as formats;
 ghost use Rattle.gb_formats.specs.UartRecords.{uart_ask_payload};
 
 use gb_base::{Bytes, OutOfMemory, OwnAsk, OwnAsks, Served};
-use gb_bridge_payload::uart_kinds::{RECEIVE_CREDITS, RECEIVE_DATA, SERIAL_STATE};
 use gb_bridge_payload::{
     INVALID, MOST_PAYLOAD, OVERFLOW, PROTOCOL_BAD, SUCCESS, UartAsk, done, fault_result, refused,
 };
@@ -41,14 +40,16 @@ impl Device {
         Ok(Device { alloc })
     }
 
+    /// Brings the device back to its first state, in which it always is.
+    pub fn restart(&mut self)
+        ensures { self.new ≡ self.old }
+    {}
+
     /// Serves a request of the application processor.
     pub fn serve(&mut self, kind: u8, payload: &[u8]) -> Result<Served, OutOfMemory>
         ensures { IfOk result (λ served. served ≡ formats.uart_step kind payload.now) }
     {
-        if is_own(kind) {
-            return Ok(refused(self.alloc, PROTOCOL_BAD));
-        }
-        match UartAsk::read(kind, payload) {
+        match UartAsk::read_of_ap(kind, payload) {
             Ok(ask) => self.answer(ask),
             Err(fault) => Ok(refused(self.alloc, fault_result(fault))),
         }
@@ -77,9 +78,7 @@ impl Device {
             UartAsk::SetControlLineState { control } => Ok(self.if_in_range(control <= 3)),
             UartAsk::SendBreak { state } => Ok(self.if_in_range(state <= 1)),
             UartAsk::FlushFifos { flags } => Ok(self.if_in_range(flags <= 3)),
-            UartAsk::ReceiveData { .. }
-            | UartAsk::SerialState { .. }
-            | UartAsk::ReceiveCredits { .. } => Ok(refused(self.alloc, PROTOCOL_BAD)),
+            _ => Ok(refused(self.alloc, PROTOCOL_BAD)),
         }
     }
 
@@ -139,13 +138,6 @@ impl Device {
             oneway: false,
         })
     }
-}
-
-/// Only the module sends requests of this type.
-fn is_own(kind: u8) -> bool
-    ensures { result ≡ formats.is_uart_own kind }
-{
-    matches!(kind, RECEIVE_DATA | SERIAL_STATE | RECEIVE_CREDITS)
 }
 
 /// The device has this line coding.

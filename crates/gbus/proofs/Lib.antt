@@ -1,5 +1,5 @@
-pub mod Fronts
-pub mod Stepped
-pub mod Turns
 pub mod EndedLines
+pub mod Fronts
 pub mod Limits
+pub mod Runs
+pub mod Turns

@@ -7,7 +7,7 @@ use Rattle.gb_base.specs.declared.status.Status.TheVariants as status
 use Rattle.gb_formats.specs.Lines.{lines}
 use Rattle.gb_formats.specs.Manifest.{check_answer}
 use Rattle.gb_machine.specs.Report.{has_bad_line, report}
-use Rattle.gb_script.specs.Built.{is_built}
+use Rattle.gb_formats.specs.Built.{is_built}
 use Rattle.gbus.specs.Manifests.{manifest_text, manifest_verdict}
 
 -- What the words ask for: the report of a script, with message bytes where hex is wanted; or the
@@ -62,7 +62,7 @@ script_within text =
 -- What is written for an input: the report of a script, as far as it is run, or what a check of a
 -- manifest says. Of a manifest that is too long nothing is.
 abbrev pub output : Job → List ℕ → List ℕ
-output (Run hex) text = report (is_built 0) hex (script_within text)
+output (Run hex) text = report is_built hex (script_within text)
 output (Check dump) text = if is_too_long text then [] else manifest_text dump (check_answer text)
 
 -- How a script ends: a bad line comes before an input that is too long.
@@ -73,7 +73,7 @@ script_status has_bad too_long =
 -- How the program ends where nothing fails and memory is found.
 abbrev pub verdict : Job → List ℕ → Status
 verdict (Run hex) text =
-    script_status (has_bad_line (is_built 0) (lines (script_within text))) (is_too_long text)
+    script_status (has_bad_line is_built (lines (script_within text))) (is_too_long text)
 verdict (Check dump) text =
     if is_too_long text then status.TooLong else manifest_verdict (check_answer text)
 

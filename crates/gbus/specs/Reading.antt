@@ -1,8 +1,8 @@
 -- What reading all of an input answers.
-use Rattle.std.specs.Prelude.{◌≡◌, ◌<◌, ◌≤◌, ℕ, Bool, true, false, Option, Result, Ok, Err, ⊤, List, ◌++◌, length, IfSome}
+use Rattle.std.specs.Prelude.{◌≡◌, ◌<◌, ◌≤◌, ℕ, Option, Result, Ok, Err, ⊤, List, ◌++◌, length, take}
 use Rattle.std.specs.Io.KnownBytes.{Consumes, IsAtEnd}
 use Rattle.gb_base.specs.Faults.{Rose}
-use Rattle.gbus.specs.Program.{ended_lines, is_too_long, longest_input, script_within}
+use Rattle.gbus.specs.Program.{longest_input}
 use Rattle.gbus.specs.declared.input.Input.{Input}
 use Rattle.gbus.specs.declared.input.Input.TheVariants as input
 use Rattle.gbus.specs.declared.input.ReadStop.{ReadStop}
@@ -29,25 +29,13 @@ ReadsAll left after before faults (Ok (input.TooLong front)) = IsLong left after
 ReadsAll left after before faults (Err stop.Failed) = Rose before faults
 ReadsAll left after before faults (Err (stop.Memory refused)) = ⊤
 
--- the script that is run of an input
-abbrev pub script_in : Input → List ℕ
-script_in (input.Whole bytes) = bytes.items
-script_in (input.TooLong front) = ended_lines front.items
-
--- whether an input is too long
-abbrev pub is_long : Input → Bool
-is_long (input.Whole bytes) = false
-is_long (input.TooLong front) = true
-
 -- the bytes that were read and kept
 abbrev pub kept_of : Input → List ℕ
 kept_of (input.Whole bytes) = bytes.items
 kept_of (input.TooLong front) = front.items
 
--- an input gives the script that is run of the bytes that were left
-pub record IsScript (script : List ℕ) (long : Bool) (text : List ℕ) : Type 0 where
-  pub script_is : script ≡ script_within text
-  pub long_is : long ≡ is_too_long text
-
-abbrev pub GivesScript : Option (List ℕ) → Input → Type 0
-GivesScript left i = IfSome left (IsScript (script_in i) (is_long i))
+-- An input is what was read of these bytes: all of them, or the front of a text that is too long.
+abbrev pub IsRead : Input → List ℕ → Type 0
+IsRead (input.Whole bytes) text = (text ≡ bytes.items) × (length text ≤ longest_input)
+IsRead (input.TooLong front) text =
+    (front.items ≡ take longest_input text) × (longest_input < length text)

@@ -1,10 +1,12 @@
 -- What a run of the program promises.
-use Rattle.std.specs.Prelude.{◌≡◌, ℕ, ◌⊎◌, Option, List, IfSome}
+use Rattle.std.specs.Prelude.{◌≡◌, ℕ, ◌⊎◌, Option, ⊤, List, IfSome}
 use Rattle.std.specs.Io.KnownBytes.{Appends}
 use Rattle.gb_base.specs.Faults.{Rose}
 use Rattle.gb_base.specs.declared.status.Status.{Status}
 use Rattle.gb_base.specs.declared.status.Status.TheVariants as status
-use Rattle.gbus.specs.Program.{Job, output, verdict}
+use Rattle.gb_formats.specs.Built.{is_built}
+use Rattle.gb_machine.specs.ScriptRuns.{IsTraced}
+use Rattle.gbus.specs.Program.{Check, Job, Run, output, script_within, verdict}
 use Rattle.gbus.specs.Writing.{TakesFront}
 
 -- The status is the verdict on the bytes that the source had left, and the sink took the output.
@@ -20,10 +22,18 @@ abbrev pub IsWithin : Option Job → Option (List ℕ) → Option (List ℕ) →
 IsWithin job left taken after =
     IfSome job (λ j. IfSome left (λ text. TakesFront taken after (output j text)))
 
--- Where the verdict is Success and no count of faults rose, the status is Success, or memory was
--- wanting. The counts are those of the source and the sink before and after.
+-- Where no count of faults rose, the status is the verdict, or memory was wanting. The counts are
+-- those of the source and the sink before and after.
 abbrev pub IsComplete : Option Job → Option (List ℕ) → (reads reads_after writes writes_after : ℕ)
     → Status → Type 0
 IsComplete job left reads reads_after writes writes_after s = IfSome job (λ j. IfSome left (λ text.
-    verdict j text ≡ status.Success → ¬ Rose reads reads_after → ¬ Rose writes writes_after
-    → s ≡ status.Success ⊎ s ≡ status.NoMemory))
+    ¬ Rose reads reads_after → ¬ Rose writes writes_after
+    → s ≡ verdict j text ⊎ s ≡ status.NoMemory))
+
+-- What is written of a script is the text of the trace of its events, which are valid.
+abbrev pub TracesBy : Job → List ℕ → Type 0
+TracesBy (Run hex) text = IsTraced is_built hex (script_within text)
+TracesBy (Check dump) text = ⊤
+
+abbrev pub IsOfRun : Option Job → Option (List ℕ) → Type 0
+IsOfRun job left = IfSome job (λ j. IfSome left (TracesBy j))

@@ -7,7 +7,7 @@ use Rattle.gb_formats.specs.Script.{said}
 use Rattle.gb_formats.specs.Texts.{refusal_line_text}
 use Rattle.gb_machine.specs.Report.{reported}
 use Rattle.gb_machine.specs.State.{State}
-use Rattle.gb_script.specs.Built.{is_built}
+use Rattle.gb_formats.specs.Built.{is_built}
 use Rattle.gb_system.specs.Stands as system
 use Rattle.gbus.specs.declared.session.Session.{Session}
 use Rattle.gbus.specs.declared.session.Turn.{Turn}
@@ -15,7 +15,7 @@ use Rattle.gbus.specs.declared.session.Turn.TheVariants as turn
 
 -- what a line says
 abbrev pub line_says : List ℕ → Said
-line_says line = said (is_built 0) 0 line
+line_says line = said is_built 0 line
 
 -- a line was run from this state: its text stands behind the report, and so will what comes later
 pub record GoesOn (old new : Session) (says : Said) (s : State) : Type 0 where

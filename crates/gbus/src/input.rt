@@ -1,7 +1,7 @@
 //! Reads a whole input.
 
-ghost use Rattle.std.specs.Prelude.{◌≤◌, length, IfOk};
-ghost use Rattle.gbus.specs.Reading.{GivesScript, ReadsAll, kept_of};
+ghost use Rattle.std.specs.Prelude.{◌≤◌, length, IfOk, IfSome};
+ghost use Rattle.gbus.specs.Reading.{IsRead, ReadsAll, kept_of};
 
 use gb_base::{Failed, OutOfMemory, Source};
 use std::alloc::{AllocError, Global};
@@ -57,7 +57,7 @@ pub fn read_all<S: Source>(alloc: Global, source: &mut S) -> Result<Input, ReadS
     ensures bytes { ReadsAll (S.left source.old) (S.left source.new) (S.faults source.old)
         (S.faults source.new) result }
     ensures later { S.faults source.old ≤ S.faults source.new }
-    ensures script { IfOk result (λ i. GivesScript (S.left source.old) i) }
+    ensures input { IfOk result (λ i. IfSome (S.left source.old) (IsRead i)) }
     ensures short { IfOk result (λ i. length (kept_of i) ≤ 1048576) }
 {
     let mut bytes = Vec::new(alloc);

@@ -1,6 +1,7 @@
 //! `gbus` runs scripts over the simulated module bus of Project Ara.
 #![tactic(auto)]
 
+mod answer;
 mod input;
 #[cfg(test)]
 mod manifest_tests;

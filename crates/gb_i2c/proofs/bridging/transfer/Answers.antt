@@ -1,18 +1,27 @@
-use Rattle.std.proofs.Common.{map, arith, refl, ap, append-nil, drop_of_length-le}
+use Rattle.std.proofs.Common.{◌≡◌, List, ◌++◌, length, map, arith, refl, ap, append-nil, drop_of_length-le}
 use Rattle.std.specs.List.{concat}
 use Rattle.gb_bridge_payload.proofs.Putting.{next_before, next_piece, putting_all, putting_more, putting_none, putting_room}
-use Rattle.gb_formats.specs.Bridges.{i2c_op_bytes, i2c_payload, i2c_written}
-use Rattle.gb_i2c.proofs.Sizes.{is_small, written_fits}
+use Rattle.gb_formats.specs.Bridges.{i2c_op_bytes, i2c_transfer, i2c_written}
+use Rattle.gb_formats.specs.I2cRecords.{i2c_ask_payload}
+use Rattle.gb_base.specs.declared.bridge.I2cOp.{I2cOp}
+use Rattle.gb_formats.specs.Bytes.{le16}
+use Rattle.gb_i2c.proofs.Sizes.{is_small, ops_counted, written_fits}
 use Rattle.gb_i2c.proofs.bridging.transfer.Goals as goal
 
 pub overflow_cast-ops : goal.overflow_cast-ops
 overflow_cast-ops c =
     let small = is_small c.args.ops.now c.if-not-fits.ensures in omega (arith, small.count)
 
+-- the payload begins with the number of ops
+counted : (ops : List I2cOp) → i2c_ask_payload (i2c_transfer ops)
+    ≡ le16 (length ops) ++ (concat (map i2c_op_bytes ops) ++ concat (map i2c_written ops))
+counted ops =
+    ap (λ n. le16 n ++ (concat (map i2c_op_bytes ops) ++ concat (map i2c_written ops))) (ops_counted ops)
+
 pub loop-op-init : goal.loop-op-init
 loop-op-init c =
-    let whole = i2c_payload c.args.ops.now in
-    putting_more whole whole _ _ c.args.out.now c.args.out.now c.put_behind-at.new.out 0 c.put_behind-at.result refl c.put_behind-at.ensures.place c.put_behind-at.ensures.bytes (putting_none whole c.args.out.now)
+    let whole = i2c_ask_payload (i2c_transfer c.args.ops.now) in
+    putting_more whole whole _ _ c.args.out.now c.args.out.now c.put_behind-at.new.out 0 c.put_behind-at.result (counted c.args.ops.now) c.put_behind-at.ensures.place c.put_behind-at.ensures.bytes (putting_none whole c.args.out.now)
 
 pub fields-requires : goal.fields-requires
 fields-requires c =
@@ -37,5 +46,5 @@ returns c =
     let ops = c.args.ops.now in
     let small = is_small ops c.if-not-fits.ensures in
     let none = ap (λ left. concat (map i2c_written left)) (drop_of_length-le ops c.loop-op-2-test.false) in
-    let written = putting_all (i2c_payload ops) _ _ _ _ none c.loop-op-2.invariant in
-    ((5, i2c_payload ops), rw small.large refl, record { kind = refl; len = written.0; bytes = written.1 })
+    let written = putting_all (i2c_ask_payload (i2c_transfer ops)) _ _ _ _ none c.loop-op-2.invariant in
+    ((5, i2c_ask_payload (i2c_transfer ops)), rw small.large refl, record { kind = refl; len = written.0; bytes = written.1 })

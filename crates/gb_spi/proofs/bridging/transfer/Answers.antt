@@ -1,17 +1,27 @@
-use Rattle.std.proofs.Common.{map, arith, refl, ap, append-nil, drop_of_length-le}
+use Rattle.std.proofs.Common.{◌≡◌, ℕ, List, ◌∷◌, ◌++◌, length, map, arith, refl, ap, append-nil, drop_of_length-le}
 use Rattle.std.specs.List.{concat}
 use Rattle.gb_bridge_payload.proofs.Putting.{next_before, next_piece, putting_all, putting_more, putting_none, putting_room}
-use Rattle.gb_formats.specs.Bridges.{spi_op_bytes, spi_payload, spi_written}
-use Rattle.gb_spi.proofs.Bridged.{bridged, counted, payload_fits_in, written_fits}
+use Rattle.gb_formats.specs.Bridges.{spi_op_bytes, spi_transfer, spi_written}
+use Rattle.gb_formats.specs.SpiRecords.{spi_ask_payload}
+use Rattle.gb_base.specs.declared.bridge.SpiOp.{SpiOp}
+use Rattle.gb_formats.specs.Bytes.{le16}
+use Rattle.gb_spi.proofs.Bridged.{bridged, counted, entries_counted, payload_fits_in, written_fits}
 use Rattle.gb_spi.proofs.bridging.transfer.Goals as goal
 
 pub overflow_cast-ops : goal.overflow_cast-ops
 overflow_cast-ops c = let count = counted c.args.ops.now c.if-not-payload_fits.ensures in omega (arith, count)
 
+-- the payload begins with chip select, mode and the number of entries
+counts : (select mode : ℕ) (ops : List SpiOp) → spi_ask_payload (spi_transfer select mode ops)
+    ≡ select ∷ mode ∷ le16 (length ops) ++ (concat (map spi_op_bytes ops) ++ concat (map spi_written ops))
+counts select mode ops =
+    ap (λ n. select ∷ mode ∷ le16 n ++ (concat (map spi_op_bytes ops) ++ concat (map spi_written ops)))
+    (entries_counted ops)
+
 pub loop-op-init : goal.loop-op-init
 loop-op-init c =
-    let whole = spi_payload c.args.select c.args.mode c.args.ops.now in
-    putting_more whole whole _ _ c.args.out.now c.args.out.now c.put_behind-at.new.out 0 c.put_behind-at.result refl c.put_behind-at.ensures.place c.put_behind-at.ensures.bytes (putting_none whole c.args.out.now)
+    let whole = spi_ask_payload (spi_transfer c.args.select c.args.mode c.args.ops.now) in
+    putting_more whole whole _ _ c.args.out.now c.args.out.now c.put_behind-at.new.out 0 c.put_behind-at.result (counts c.args.select c.args.mode c.args.ops.now) c.put_behind-at.ensures.place c.put_behind-at.ensures.bytes (putting_none whole c.args.out.now)
 
 pub fields-requires : goal.fields-requires
 fields-requires c =

@@ -4,4 +4,5 @@ use Rattle.gb_machine.specs.Wires.{disconnected_told}
 use Rattle.gb_system.proofs.serving.tell_disconnected.Given as goal
 
 abbrev pub invariant-loop-number : goal.invariant-loop-number
-invariant-loop-number l = l.told ≡ l.fn.told ++ map disconnected_told (take l.number-index l.numbers)
+invariant-loop-number l = l.told
+    ≡ l.fn.told ++ map disconnected_told (take l.number-index l.numbers)

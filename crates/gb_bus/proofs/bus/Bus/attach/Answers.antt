@@ -5,6 +5,7 @@ use Rattle.gb_bus.proofs.bus.Bus.attach.Goals as goal
 
 pub returns : goal.returns
 returns c = record {
-  step = λ b s may. attaches c.args.self.now _ b c.args.ap c.args.intf c.args.cport c.args.protocol c.in-Some.number s may
+  step = λ loose b s may. attaches loose c.args.self.now _ b c.args.ap c.args.intf c.args.cport
+      c.args.protocol c.in-Some.number s may
       (search rules) (cc (c.in_ok-add.ensures, c.new.ensures));
 }

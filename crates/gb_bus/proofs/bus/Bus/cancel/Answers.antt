@@ -4,6 +4,7 @@ use Rattle.gb_bus.proofs.Cancels.{cancels}
 use Rattle.gb_bus.proofs.bus.Bus.cancel.Goals as goal
 
 pub returns-clause-step : goal.returns-clause-step
-returns-clause-step c = λ b s made.
-    cancels c.args.self.now _ b c.args.n s (ap is_some (sym c.open_kind.ensures) ∙ c.if-is_none.ensures)
+returns-clause-step c = λ loose b s.
+    cancels loose c.args.self.now _ b c.args.n s
+    (ap is_some (sym c.open_kind.ensures) ∙ c.if-is_none.ensures)
     (cc (c.mark.ensures, c.end.ensures))

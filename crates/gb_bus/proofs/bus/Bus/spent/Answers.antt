@@ -4,9 +4,11 @@ use Rattle.gb_bus.proofs.Looks.{spent-is, spent-nowhere}
 use Rattle.gb_bus.proofs.bus.Bus.spent.Goals as goal
 
 pub returns-in-Some : goal.returns-in-Some
-returns-in-Some c = λ b s.
-    spent-is c.args.self.now b c.args.k c.args.side c.in-Some.connection.now c.next_label.result c.is_none.result s
+returns-in-Some c = λ loose b s.
+    spent-is loose c.args.self.now b c.args.k c.args.side c.in-Some.connection.now
+    c.next_label.result c.is_none.result s
     (sym c.in-Some.ensures) c.next_label.ensures c.is_none.ensures
 
 pub returns-in-None : goal.returns-in-None
-returns-in-None c = λ b s. spent-nowhere c.args.self.now b c.args.k c.args.side s (sym c.in-None.ensures)
+returns-in-None c = λ loose b s.
+    spent-nowhere loose c.args.self.now b c.args.k c.args.side s (sym c.in-None.ensures)

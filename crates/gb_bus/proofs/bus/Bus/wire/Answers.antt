@@ -5,5 +5,6 @@ use Rattle.gb_bus.proofs.bus.Bus.wire.Goals as goal
 
 pub returns : goal.returns
 returns c = record {
-  step = λ b s. wires c.args.self.now _ b c.args.k s (ap (λ cs. record c.args.self.now { connections = cs }) c.wire.ensures);
+  step = λ loose b s. wires loose c.args.self.now _ b c.args.k s
+      (ap (λ cs. record c.args.self.now { connections = cs }) c.wire.ensures);
 }

@@ -5,4 +5,5 @@ use Rattle.gb_bus.proofs.connections.Connections.get.Given as goal
 
 abbrev pub invariant-loop-connection : goal.invariant-loop-connection
 invariant-loop-connection l =
-    find (numbered l.k) (drop l.connection-index l.connection-items) ≡ find (numbered l.k) l.connection-items
+    find (numbered l.k) (drop l.connection-index l.connection-items)
+    ≡ find (numbered l.k) l.connection-items

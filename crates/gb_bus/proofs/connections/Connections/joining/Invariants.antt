@@ -5,4 +5,5 @@ use Rattle.gb_bus.proofs.connections.Connections.joining.Given as goal
 
 abbrev pub invariant-loop-connection : goal.invariant-loop-connection
 invariant-loop-connection l =
-    find (joins l.ap l.peer) (drop l.connection-index l.connection-items) ≡ find (joins l.ap l.peer) l.connection-items
+    find (joins l.ap l.peer) (drop l.connection-index l.connection-items)
+    ≡ find (joins l.ap l.peer) l.connection-items

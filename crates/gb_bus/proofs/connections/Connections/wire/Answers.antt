@@ -6,8 +6,10 @@ use Rattle.gb_bus.proofs.connections.Connections.wire.Goals as goal
 
 pub returns-in-Some : goal.returns-in-Some
 returns-in-Some c =
-    one-changes c.args.k c.args.self.now c.index.result c.in-Some.i c.index_mut.result.now _ with_wire c.self.inside.live.items
+    one-changes c.args.k c.args.self.now c.index.result c.in-Some.i c.index_mut.result.now _
+    with_wire c.self.inside.live.items
     c.index.ensures.first c.in-Some.is c.self.view_is c.index_mut.ensures.value refl
 
 pub returns-in_default : goal.returns-in_default
-returns-in_default c = none-changes c.args.k c.args.self.now c.index.result with_wire c.index.ensures.first c.in_default.is
+returns-in_default c = none-changes c.args.k c.args.self.now c.index.result with_wire
+    c.index.ensures.first c.in_default.is

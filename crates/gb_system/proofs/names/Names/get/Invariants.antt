@@ -4,4 +4,5 @@ use Rattle.gb_machine.specs.Names.{named}
 use Rattle.gb_system.proofs.names.Names.get.Given as goal
 
 abbrev pub invariant-loop-bound : goal.invariant-loop-bound
-invariant-loop-bound l = named l.name (drop l.bound-index l.bound-items) ≡ named l.name l.bound-items
+invariant-loop-bound l = named l.name (drop l.bound-index l.bound-items)
+    ≡ named l.name l.bound-items

@@ -5,4 +5,5 @@ use Rattle.gb_system.specs.Stands.{PartiesStand}
 use Rattle.gb_system.proofs.parties.Parties.settle.Given as goal
 
 abbrev pub invariant-loop-count : goal.invariant-loop-count
-invariant-loop-count l = (s : State) → PartiesStand l.fn.self s → IsMidway l.self s l.most l.count l.told
+invariant-loop-count l = (s : State) → PartiesStand l.fn.self s
+    → IsMidway l.self s l.most l.count l.told

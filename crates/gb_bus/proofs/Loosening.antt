@@ -1,0 +1,46 @@
+-- Items that are in no queue: one is let go, or comes first.
+use Rattle.std.proofs.Common.{List, ◌∷◌, ◌++◌, inl, inr, ⊎_elim, arith}
+use Rattle.gb_bus.specs.Stands.{Stands}
+use Rattle.gb_bus.specs.declared.bus.Bus.{Bus}
+use Rattle.gb_invariants.proofs.Changes.{loose-keeps}
+use Rattle.gb_invariants.proofs.Counts.{times-append, times-cons}
+use Rattle.gb_invariants.proofs.Lists.{in-append, in-behind, in-front}
+use Rattle.gb_invariants.specs.Facts.{BusFits, Loose}
+use Rattle.gb_machine.specs.Bus as machine
+use Rattle.gb_machine.specs.LawsBus.{is_item_of}
+use Rattle.gb_machine.specs.Members.{IsIn}
+
+-- without the first item the facts hold still
+pub fits-without : (l : Loose) (loose : List Loose) (b : machine.Bus)
+    → BusFits (l ∷ loose) b → BusFits loose b
+fits-without l loose b h =
+    loose-keeps (l ∷ loose) loose b (λ m i. inr i) (λ n.
+    let t = times-cons (λ (m : Loose). is_item_of n m.item) l loose in omega (arith, t)) h
+
+-- A bus stands still where an item that is in no queue is let go, as a request that gets no reply.
+pub let-go : (l : Loose) (loose : List Loose) (x : Bus) (b : machine.Bus)
+    → Stands (l ∷ loose) x b → Stands loose x b
+let-go l loose x b s = record {
+  shows = s.shows;
+  facts = record { fits = fits-without l loose b s.facts.fits; apart = s.facts.apart };
+}
+
+-- an item between others is among those that there are with it in front
+in-between : (before : List Loose) (l : Loose) (after : List Loose) (m : Loose)
+    → IsIn m (l ∷ before ++ after) → IsIn m (before ++ l ∷ after)
+in-between before l after m (inl e) = in-behind m before (l ∷ after) (inl e)
+in-between before l after m (inr i) =
+    ⊎_elim (λ j. in-front m before (l ∷ after) j) (λ j. in-behind m before (l ∷ after) (inr j))
+    (in-append m before after i)
+
+-- so the facts hold with it in front
+pub fits-first : (before : List Loose) (l : Loose) (after : List Loose) (b : machine.Bus)
+    → BusFits (before ++ l ∷ after) b → BusFits (l ∷ before ++ after) b
+fits-first before l after b h =
+    loose-keeps (before ++ l ∷ after) (l ∷ before ++ after) b (in-between before l after) (λ n.
+    let has = λ (m : Loose). is_item_of n m.item in
+    let whole = times-append has before (l ∷ after) in
+    let rest = times-append has before after in
+    let here = times-cons has l after in
+    let first = times-cons has l (before ++ after) in
+    omega (arith, whole, rest, here, first)) h

@@ -1,0 +1,4 @@
+pub mod Bridges
+pub mod Changing
+pub mod Free
+pub mod Looks

@@ -1,0 +1,31 @@
+-- What changes of interfaces and connections.
+use Rattle.std.specs.Prelude.{◌≡◌, ◌<◌, ℕ, ◌-◌, Option, []}
+use Rattle.std.specs.Vec.{vec_capacity, vec_len}
+use Rattle.gb_base.specs.declared.peers.Interface.{Interface}
+use Rattle.gb_base.specs.declared.peers.Link.{Link}
+use Rattle.gb_base.specs.declared.steps.SequenceStep.{SequenceStep}
+use Rattle.gb_host.specs.declared.links.Links.{Links}
+
+-- an interface is to have a device id, or none
+abbrev pub with_device : Option ℕ → Interface → Interface
+with_device d x = record x { device = d }
+
+-- an enumeration waits for this
+abbrev pub interface_awaits : Option (ℕ × SequenceStep) → Interface → Interface
+interface_awaits w x = record x { awaits = w }
+
+-- a connect or close waits for this
+abbrev pub link_awaits : Option (ℕ × SequenceStep) → Link → Link
+link_awaits w l = record l { awaits = w }
+
+-- a connection has so many credits fewer, or none
+abbrev pub with_fewer : ℕ → Link → Link
+with_fewer taken l = record l { credits = l.credits - taken }
+
+-- there are no connections
+abbrev pub is_empty : Links → Type 0
+is_empty x = x.live.items ≡ []
+
+-- a connection more takes no memory
+abbrev pub HasRoom : Links → Type 0
+HasRoom x = vec_len x.live < vec_capacity x.live

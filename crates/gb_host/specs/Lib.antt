@@ -1,0 +1,6 @@
+pub mod Bridging
+pub mod Changes
+pub mod Refusing
+pub mod Serving
+pub mod Stands
+pub mod Turning

@@ -1,0 +1,45 @@
+-- What a turn of the application processor brings about.
+use Rattle.std.specs.Prelude.{◌≡◌, Result, Ok, Err, List, [], ◌∷◌, ◌++◌}
+use Rattle.gb_base.specs.declared.errors.OutOfMemory.{OutOfMemory}
+use Rattle.gb_host.specs.Stands.{Stands, host_of}
+use Rattle.gb_host.specs.declared.acts.Act.{Act}
+use Rattle.gb_host.specs.declared.acts.Act.TheVariants as act
+use Rattle.gb_host.specs.declared.host.Host.{Host}
+use Rattle.gb_machine.specs.Host as machine
+use Rattle.gb_machine.specs.Turns as turns
+use Rattle.gb_machine.specs.Turns.{Asking, Making, Turn}
+
+-- a request that is made
+abbrev pub asks : Asking → Act
+asks q = act.Ask q.on q.kind q.payload q.purpose
+
+-- An act of the machine as the acts that are to be done: a connection that is opened is made, and
+-- then its request.
+abbrev pub spelled_act : turns.Act → List Act
+spelled_act (turns.Act.Ask q) = asks q ∷ []
+spelled_act (turns.Act.Open m q) =
+    act.Make m.ap m.intf m.cport m.protocol q.purpose ∷ asks q ∷ []
+spelled_act (turns.Act.Shut k) = act.Shut k ∷ []
+spelled_act (turns.Act.Leave k) = act.Leave k ∷ []
+spelled_act (turns.Act.Tell e) = act.Tell e ∷ []
+
+-- The acts of the machine as those that are to be done.
+abbrev pub spelled : List turns.Act → List Act
+spelled [] = []
+spelled (x ∷ xs) = spelled_act x ++ spelled xs
+
+-- A turn is done: the value stands for the application processor after it, and these acts are to
+-- be done after those that there were.
+pub record Turns (t : Turn) (front : List Act) (new : Host) (all : List Act) : Type 0 where
+  pub host : t.host ≡ host_of new
+  pub acts : all ≡ front ++ spelled t.acts
+
+-- A turn is done, or nothing has changed for want of memory.
+abbrev pub TurnsAfter : Turn → List Act → Host → Host → Result (List Act) OutOfMemory → Type 0
+TurnsAfter t front old new (Ok all) = Turns t front new all
+TurnsAfter t front old new (Err refused) = host_of new ≡ host_of old
+
+-- A turn is done, and the acts are its own, or nothing has changed for want of memory.
+abbrev pub TurnsAs : Turn → Host → Host → Result (List Act) OutOfMemory → Type 0
+TurnsAs t old new (Ok all) = Turns t [] new all
+TurnsAs t old new (Err refused) = (h : machine.Host) → Stands old h → Stands new h

@@ -1,0 +1,129 @@
+//! What fails where a sequence of the application processor fails.
+
+ghost use Rattle.std.specs.Prelude.{◌≡◌, ◌∷◌, ◌++◌, [], IfOk, map};
+ghost use Rattle.gb_base.specs.declared.entry.Entry.TheVariants as entry;
+ghost use Rattle.gb_machine.specs.Failures.{control_fails, interface_fails, link_fails, step_fails, told_of, unsent, without_device};
+ghost use Rattle.gb_machine.specs.Host as machine;
+ghost use Rattle.gb_machine.specs.Host.{link_at, with_interface};
+ghost use Rattle.gb_machine.specs.Turns as turns;
+ghost use Rattle.gb_machine.specs.Turns.{failed_turn};
+ghost use Rattle.gb_host.specs.Turning.{spelled};
+
+use crate::{Act, Acts, Host};
+use gb_base::{ConnState, Entry, IntfStage, OutOfMemory, Purpose, SequenceStep};
+
+impl Host {
+    ghost use Rattle.gb_host.specs.Stands.{Stands, host_of};
+    ghost use Rattle.gb_host.specs.Turning.{TurnsAfter, TurnsAs};
+
+    /// No identifier was left for the request of a purpose: its sequence fails. No connection was
+    /// made then, and no device id is taken. After want of memory nothing has changed.
+    pub fn unsent(&mut self, purpose: Purpose) -> Result<Acts, OutOfMemory>
+        ensures step { (h : machine.Host) → Stands self.old h
+            → TurnsAs (failed_turn (unsent purpose h)) self.old self.new result }
+    {
+        let acts = Acts::new(self.alloc);
+        match purpose.step {
+            SequenceStep::CreateControl => self.interface_fails(acts, purpose),
+            SequenceStep::CreateConnection => Ok(acts),
+            SequenceStep::GiveDevice => self.device_fails(acts, purpose),
+            _ => self.step_fails(acts, purpose),
+        }
+    }
+
+    /// A step of a sequence isn't answered as it should be: its connection fails in a connect or
+    /// close, the interface in an enumeration, and both where the Control connection was to be
+    /// made.
+    fn step_fails(&mut self, acts: Acts, purpose: Purpose) -> Result<Acts, OutOfMemory>
+        ensures { TurnsAfter (failed_turn (step_fails purpose.step purpose (host_of self.old)))
+            acts self.old self.new result }
+    {
+        match purpose.step {
+            SequenceStep::CreateControl => self.control_fails(acts, purpose),
+            SequenceStep::CreateConnection
+            | SequenceStep::TellConnected
+            | SequenceStep::TellDisconnecting
+            | SequenceStep::TellDisconnected
+            | SequenceStep::DestroyConnection => self.link_fails(acts, purpose),
+            _ => self.interface_fails(acts, purpose),
+        }
+    }
+
+    /// The connection of a purpose fails.
+    fn link_fails(&mut self, acts: Acts, purpose: Purpose) -> Result<Acts, OutOfMemory>
+        ensures { TurnsAfter (failed_turn (link_fails purpose (host_of self.old)))
+            acts self.old self.new result }
+    {
+        let acts = self.tell_link(acts, purpose, ConnState::Failed)?;
+        self.links
+            .set_state(purpose.intf, purpose.cport, ConnState::Failed);
+        Ok(acts)
+    }
+
+    /// The interface of a purpose fails.
+    fn interface_fails(&mut self, acts: Acts, purpose: Purpose) -> Result<Acts, OutOfMemory>
+        ensures { TurnsAfter (failed_turn (interface_fails purpose (host_of self.old)))
+            acts self.old self.new result }
+    {
+        let acts = tell_interface(acts, purpose.intf, IntfStage::Failed)?;
+        self.interfaces.set_stage(purpose.intf, IntfStage::Failed);
+        Ok(acts)
+    }
+
+    /// The interface of a purpose fails, and is to have no device id.
+    fn device_fails(&mut self, acts: Acts, purpose: Purpose) -> Result<Acts, OutOfMemory>
+        ensures { TurnsAfter (failed_turn (interface_fails purpose
+            (with_interface purpose.intf without_device (host_of self.old))))
+            acts self.old self.new result }
+    {
+        let acts = tell_interface(acts, purpose.intf, IntfStage::Failed)?;
+        self.interfaces.set_device(purpose.intf, None);
+        self.interfaces.set_stage(purpose.intf, IntfStage::Failed);
+        Ok(acts)
+    }
+
+    /// The Control connection fails, and then its interface.
+    fn control_fails(&mut self, acts: Acts, purpose: Purpose) -> Result<Acts, OutOfMemory>
+        ensures { TurnsAfter (failed_turn (control_fails purpose (host_of self.old)))
+            acts self.old self.new result }
+    {
+        let acts = self.tell_link(acts, purpose, ConnState::Failed)?;
+        let acts = tell_interface(acts, purpose.intf, IntfStage::Failed)?;
+        self.links
+            .set_state(purpose.intf, purpose.cport, ConnState::Failed);
+        self.interfaces.set_stage(purpose.intf, IntfStage::Failed);
+        Ok(acts)
+    }
+
+    /// It is told that the connection of a purpose has a state, where there is one.
+    fn tell_link(&self, acts: Acts, purpose: Purpose, to: ConnState) -> Result<Acts, OutOfMemory>
+        ensures { IfOk result (λ all. all ≡ acts ++ spelled (map turns.Act.Tell
+            (told_of to (link_at purpose.intf purpose.cport (host_of self.now))))) }
+    {
+        let mut acts = acts;
+        if let Some(link) = self.links.at(purpose.intf, purpose.cport) {
+            acts.push(Act::Tell {
+                entry: Entry::Connection {
+                    number: link.connection,
+                    ap: link.ap,
+                    intf: link.intf,
+                    cport: link.cport,
+                    state: to,
+                },
+            })?;
+        }
+        Ok(acts)
+    }
+}
+
+/// It is told that an interface has a stage.
+fn tell_interface(acts: Acts, intf: u8, stage: IntfStage) -> Result<Acts, OutOfMemory>
+    ensures { IfOk result (λ all. all ≡ acts
+        ++ spelled (turns.Act.Tell (entry.Interface intf stage) ∷ [])) }
+{
+    let mut acts = acts;
+    acts.push(Act::Tell {
+        entry: Entry::Interface { intf, stage },
+    })?;
+    Ok(acts)
+}

@@ -1,0 +1,140 @@
+//! The connections to modules.
+
+ghost use Rattle.std.specs.Prelude.{◌≡◌, ◌==◌, ◌<◌, ◌∷◌, [], ◌++◌, IfSome, find, length};
+ghost use Rattle.std.specs.List.{list_any, position_from};
+ghost use Rattle.gb_machine.specs.Host.{in_state, is_link};
+ghost use Rattle.gb_machine.specs.HostServing.{with_credits};
+ghost use Rattle.gb_machine.specs.Lists.{at_first, first_free};
+
+use gb_base::{ConnState, Link, SequenceStep};
+use std::alloc::Global;
+
+/// The least CPort of the application processor that a connection to a module has.
+const LEAST_CPORT: u16 = 1;
+
+/// The greatest CPort of the application processor, and one more.
+const CPORTS_END: u16 = 4096;
+
+/// The connections to modules in order of number.
+#[derive(Drop)]
+pub struct Links {
+    live: Vec<Link>,
+}
+
+impl Links {
+    ghost use Rattle.gb_host.specs.Changes.{HasRoom, is_empty, link_awaits, with_fewer};
+
+    /// No connections. It takes no memory yet.
+    pub fn new(alloc: Global) -> Links
+        ensures { is_empty result }
+    {
+        Links {
+            live: Vec::new(alloc),
+        }
+    }
+
+    /// The connection to a CPort of an interface.
+    pub fn at(&self, intf: u8, cport: u16) -> Option<Link>
+        ensures { result ≡ find (is_link intf cport) self.now.live.items }
+    {
+        self.live
+            .iter()
+            .copied()
+            .find(|link| link.intf == intf && link.cport == cport)
+    }
+
+    /// The connection with a number.
+    pub fn of(&self, connection: u64) -> Option<Link>
+        ensures { result ≡ find (λ l. l.connection == connection) self.now.live.items }
+    {
+        self.live
+            .iter()
+            .copied()
+            .find(|link| link.connection == connection)
+    }
+
+    /// The least CPort of the application processor from 1 to 4,095 that no connection has.
+    pub fn free_cport(&self) -> Option<u16>
+        ensures { result ≡ first_free (λ a. list_any (λ l. l.ap == a) self.now.live.items) 4095 1 }
+    {
+        for ap in LEAST_CPORT..CPORTS_END {
+            if !self.has_cport(ap) {
+                return Some(ap);
+            }
+        }
+        None
+    }
+
+    /// A connection goes to the end.
+    pub fn add(&mut self, link: Link)
+        ensures { HasRoom self.old → self.new.live.items ≡ self.old.live.items ++ link ∷ [] }
+    {
+        let _pushed = self.live.push(link).is_ok();
+    }
+
+    /// A connection has a state from now on.
+    pub fn set_state(&mut self, intf: u8, cport: u16, to: ConnState)
+        ensures { self.new.live.items
+            ≡ at_first (is_link intf cport) (in_state to) self.old.live.items }
+    {
+        if let Some(i) = self.index(intf, cport) {
+            self.live[i].state = to;
+        }
+    }
+
+    /// A connection has so many credits.
+    pub fn set_credits(&mut self, intf: u8, cport: u16, total: u16)
+        ensures { self.new.live.items
+            ≡ at_first (is_link intf cport) (with_credits total) self.old.live.items }
+    {
+        if let Some(i) = self.index(intf, cport) {
+            self.live[i].credits = total;
+        }
+    }
+
+    /// A connection has so many credits fewer, or none.
+    pub fn spend(&mut self, intf: u8, cport: u16, taken: usize)
+        ensures { self.new.live.items
+            ≡ at_first (is_link intf cport) (with_fewer taken) self.old.live.items }
+    {
+        if let Some(i) = self.index(intf, cport) {
+            let link = &mut self.live[i];
+            link.credits = usize::from(link.credits).saturating_sub(taken) as u16;
+        }
+    }
+
+    /// The connect or close of a connection waits for this.
+    pub fn set_awaits(&mut self, intf: u8, cport: u16, awaits: Option<(u64, SequenceStep)>)
+        ensures { self.new.live.items
+            ≡ at_first (is_link intf cport) (link_awaits awaits) self.old.live.items }
+    {
+        if let Some(i) = self.index(intf, cport) {
+            self.live[i].awaits = awaits;
+        }
+    }
+
+    /// Some connection has a CPort of the application processor.
+    fn has_cport(&self, ap: u16) -> bool
+        ensures { result ≡ list_any (λ l. l.ap == ap) self.now.live.items }
+    {
+        for link in &self.live {
+            if link.ap == ap {
+                return true;
+            }
+        }
+        false
+    }
+
+    /// Where the connection to a CPort of an interface stands.
+    fn index(&self, intf: u8, cport: u16) -> Option<usize>
+        ensures first { result ≡ position_from (is_link intf cport) 0 self.now.live.items }
+        ensures within { IfSome result (λ i. i < length self.now.live.items) }
+    {
+        for (i, link) in self.live.iter().enumerate() {
+            if link.intf == intf && link.cport == cport {
+                return Some(i);
+            }
+        }
+        None
+    }
+}

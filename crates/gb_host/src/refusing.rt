@@ -1,0 +1,85 @@
+//! When the application processor refuses what is asked of it.
+
+ghost use Rattle.std.specs.Prelude.{◌≡◌, option_map};
+ghost use Rattle.gb_machine.specs.Host as machine;
+ghost use Rattle.gb_machine.specs.Host.{cport_of, link_at};
+ghost use Rattle.gb_machine.specs.HostRefusals.{connect_conditions, is_bridged, send_conditions};
+ghost use Rattle.gb_machine.specs.Lists.{first_met};
+ghost use Rattle.gb_manifest.specs.Values.{view_of};
+
+use crate::Host;
+use crate::protocols::{GPIO, I2C, SPI, UART};
+use gb_base::{ConnState, Interface, IntfStage, Refusal};
+use gb_manifest::{CportView, check};
+
+impl Host {
+    ghost use Rattle.gb_host.specs.Refusing.{RefusesAs, SendsAs};
+    ghost use Rattle.gb_host.specs.Stands.{Stands};
+
+    /// Whether a connection to a CPort of an interface may be made: Ok, or why not. It takes no
+    /// memory.
+    pub fn may_connect(&self, intf: u8, cport: u16) -> Result<(), Refusal>
+        ensures step { (h : machine.Host) → Stands self.now h
+            → RefusesAs (first_met (connect_conditions intf cport h)) result }
+    {
+        let Some(interface) = self.interfaces.at(intf) else {
+            return Err(Refusal::NoInterface);
+        };
+        match interface.stage {
+            IntfStage::Enumerating => return Err(Refusal::NotEnumerated),
+            IntfStage::Failed => return Err(Refusal::Failed),
+            _ => {}
+        }
+        let Some(view) = declared(interface, cport) else {
+            return Err(Refusal::NoCport);
+        };
+        if !is_bridged(view) {
+            return Err(Refusal::Unsupported);
+        }
+        if self.links.at(intf, cport).is_some() {
+            return Err(Refusal::Occupied);
+        }
+        if self.links.free_cport().is_none() {
+            return Err(Refusal::CportsSpent);
+        }
+        Ok(())
+    }
+
+    /// The connection on which a request to a CPort of an interface is sent, or why none is. It
+    /// takes no memory.
+    pub fn may_send(&self, intf: u8, cport: u16) -> Result<u64, Refusal>
+        ensures step { (h : machine.Host) → Stands self.now h
+            → SendsAs (first_met (send_conditions intf cport h)) (link_at intf cport h) result }
+    {
+        if self.interfaces.at(intf).is_none() {
+            return Err(Refusal::NoInterface);
+        }
+        let Some(link) = self.links.at(intf, cport) else {
+            return Err(Refusal::NoConnection);
+        };
+        match link.state {
+            ConnState::Open => Ok(link.connection),
+            ConnState::Closing => Err(Refusal::Closing),
+            ConnState::Failed => Err(Refusal::Failed),
+            _ => Err(Refusal::NoConnection),
+        }
+    }
+}
+
+/// The CPort of an interface, outside bundle 0, that its manifest declares.
+pub(crate) fn declared(interface: &Interface, cport: u16) -> Option<CportView>
+    ensures { option_map view_of result ≡ cport_of cport interface.now }
+{
+    let Ok(manifest) = check(interface.manifest.items()) else {
+        return None;
+    };
+    let view = manifest.cport(cport)?;
+    if view.bundle == 0 { None } else { Some(view) }
+}
+
+/// The protocol of a CPort is connected: GPIO, I2C, UART or SPI.
+fn is_bridged(view: CportView) -> bool
+    ensures { result ≡ is_bridged (view_of view) }
+{
+    matches!(view.protocol, GPIO | I2C | UART | SPI)
+}

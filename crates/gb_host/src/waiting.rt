@@ -1,0 +1,72 @@
+//! What the sequences of the application processor wait for, and the connections that they make.
+
+ghost use Rattle.std.specs.Prelude.{◌≡◌, ℕ, None};
+ghost use Rattle.gb_machine.specs.Host as machine;
+ghost use Rattle.gb_machine.specs.Host.{with_new_link};
+ghost use Rattle.gb_machine.specs.SequenceSteps.{is_enumeration};
+ghost use Rattle.gb_machine.specs.Waits.{awaits, awaits_nothing, waiting};
+
+use crate::Host;
+use crate::protocols::MOST_CREDITS;
+use gb_base::{ConnState, Link, Purpose, SequenceStep};
+
+impl Host {
+    ghost use Rattle.gb_host.specs.Stands.{IsPending, Stands, host_of};
+
+    /// The request of a purpose was made under this number, and its sequence waits for it. It takes
+    /// no memory.
+    pub fn awaits(&mut self, purpose: Purpose, number: u64)
+        ensures step { (h : machine.Host) → Stands self.old h
+            → Stands self.new (awaits purpose number h) }
+    {
+        self.wait(purpose, Some((number, purpose.step)));
+    }
+
+    /// The connection of a purpose, which is pending, was made under this number. Nothing changes
+    /// where none is pending. It takes no memory.
+    pub fn made(&mut self, purpose: Purpose, connection: u64)
+        ensures step { (h : machine.Host) (ap protocol : ℕ) → Stands self.old h
+            → IsPending ap protocol self.old
+            → Stands self.new
+            (with_new_link connection ap purpose.intf purpose.cport protocol h) }
+        ensures unchanged { self.old.pending ≡ None → self.new ≡ self.old }
+    {
+        if let Some(pending) = self.pending.take() {
+            self.links.add(Link {
+                connection,
+                ap: pending.ap,
+                intf: purpose.intf,
+                cport: purpose.cport,
+                protocol: pending.protocol,
+                state: ConnState::Opening,
+                credits: MOST_CREDITS,
+                awaits: None,
+            });
+        }
+    }
+
+    /// The sequence of a purpose waits for this.
+    pub(crate) fn wait(&mut self, purpose: Purpose, awaits: Option<(u64, SequenceStep)>)
+        ensures { host_of self.new ≡ waiting awaits purpose (host_of self.old) }
+    {
+        if is_enumeration(purpose.step) {
+            self.interfaces.set_awaits(purpose.intf, awaits);
+        } else {
+            self.links.set_awaits(purpose.intf, purpose.cport, awaits);
+        }
+    }
+}
+
+/// A step belongs to an enumeration. The others belong to a connection.
+fn is_enumeration(step: SequenceStep) -> bool
+    ensures { result ≡ is_enumeration step }
+{
+    !matches!(
+        step,
+        SequenceStep::CreateConnection
+            | SequenceStep::TellConnected
+            | SequenceStep::TellDisconnecting
+            | SequenceStep::TellDisconnected
+            | SequenceStep::DestroyConnection
+    )
+}

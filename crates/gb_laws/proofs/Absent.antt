@@ -1,0 +1,168 @@
+-- An interface is absent from the handling of its removal to that of its next insertion, and no
+-- live connection names it then.
+use Rattle.std.proofs.Common.{◌≡◌, ℕ, Bool, true, false, Some, None, [], refl, sym, ap, ◌∙◌, subst, inl, inr}
+use Rattle.std.specs.Prelude.{◌==◌, is_some}
+use Rattle.gb_base.specs.declared.peers.Link.{Link}
+use Rattle.gb_base.specs.declared.end.End.TheVariants as end
+use Rattle.gb_base.specs.declared.end.Side.TheVariants as side
+use Rattle.gb_base.specs.declared.peers.Link.{Link}
+use Rattle.gb_invariants.proofs.Awaiting.{not-both}
+use Rattle.gb_invariants.proofs.Lists.{each-from}
+use Rattle.gb_invariants.proofs.Numbers.{found-by_number}
+use Rattle.gb_invariants.proofs.Outcomes.{same-number}
+use Rattle.gb_laws.proofs.Endpoints.{ApartTo, apart-throughout}
+use Rattle.gb_laws.proofs.Knowing.{KnownAt, WasKnown, known-kept}
+use Rattle.gb_laws.proofs.LinkBuses.{Linked}
+use Rattle.gb_laws.proofs.LinkLaw.{link_law}
+use Rattle.gb_laws.proofs.LinkRuns.{start-absent}
+use Rattle.gb_laws.proofs.Linking.{InsertsAbsent, LinkedAt}
+use Rattle.gb_laws.proofs.Links.{IsKnown, IsPresent, leaving, linked, supervisory}
+use Rattle.gb_laws.proofs.Marking.{present-some, some-present}
+use Rattle.gb_laws.proofs.Noticing.{notice-any, told-by_svc}
+use Rattle.gb_laws.proofs.Points.{Law}
+use Rattle.gb_laws.proofs.PointParts.{Basis, IsNoticed, resting}
+use Rattle.gb_laws.proofs.Removing.{removed-absent}
+use Rattle.gb_laws.proofs.Runs.{HoldsAtMoments, HoldsByMoments, at_each, weaker}
+use Rattle.gb_laws.proofs.SettleQueues.{IsFarEnd, place-found}
+use Rattle.gb_laws.proofs.Steps.{over-step}
+use Rattle.gb_laws.proofs.SvcKinds.{removal-notice}
+use Rattle.gb_laws.proofs.Taking.{no-link-one}
+use Rattle.gb_machine.specs.Bus.{Ask, Connection, Place, connection_of, place_of}
+use Rattle.gb_machine.specs.Host.{first_host, interface_of, link_of}
+use Rattle.gb_machine.specs.HostServing.{served_on}
+use Rattle.gb_machine.specs.LawsHotPlug.{AbsentBetween, AbsentIsUnconnected}
+use Rattle.gb_machine.specs.Lists.{first}
+use Rattle.gb_machine.specs.Members.{IsIn}
+use Rattle.gb_machine.specs.Runs.{IsMoment, Moment, after}
+use Rattle.gb_machine.specs.State.{State}
+use Rattle.gb_machine.specs.SvcQueues.{HandlesInsertion, HandlesRemoval, items_in}
+use Rattle.gb_machine.specs.Turns.{HostEvent}
+use Rattle.gb_machine.specs.Wiring.{is_at}
+
+-- ---- no live connection names an absent interface
+
+-- each end of a live connection that is at an interface is at one that is known
+unconnected : (i : ℕ) (s : State) → Linked s.bus s.host [] → interface_of i s.host ≡ None
+    → (c : Connection) → IsIn c s.bus.connections → is_at i c.peer ≡ false
+unconnected i s links absent c live = by (links.known c live)
+  where
+    other : (l : Link) → IsIn l s.host.links → (t : Bool) → (l.intf == i) ≡ t → t ≡ false
+    other l j false e = refl
+    other l j true e = absurd (not-both (is_some (interface_of i s.host))
+        (subst (λ n. is_some (interface_of n s.host) ≡ true) (same-number l.intf i e)
+        (present-some l.intf s.host (links.host.present l j)))
+        (ap is_some absent))
+
+    by : IsKnown c s.host.links [] → is_at i c.peer ≡ false
+    by (supervisory one) = ap (is_at i) (links.svc c live one).peer
+    by (linked l j of) = ap (is_at i) of.peer ∙ other l j (l.intf == i) refl
+    by (leaving j) = absurd j
+
+-- ---- a removal is handled
+
+far-end : (s : State) → Linked s.bus s.host [] → (c : Connection) → IsIn c s.bus.connections
+    → IsFarEnd c.peer
+far-end s links c live = by (links.known c live)
+  where
+    by : IsKnown c s.host.links [] → IsFarEnd c.peer
+    by (supervisory one) = subst IsFarEnd (sym (links.svc c live one).peer) tt
+    by (linked l j of) = subst IsFarEnd (sym of.peer) tt
+    by (leaving j) = absurd j
+
+removed-at : (m : Moment) → ApartTo m.told m.before → (i : ℕ) → HandlesRemoval i m
+    → interface_of i (after m).host ≡ None
+removed-at m start i h =
+    removed-absent m (end.Ap 0) p h.number i h.request h.is named refl front h.made none notices
+  where
+    basis : Basis (resting m.told m.before)
+    basis = start.links.0
+
+    links : Linked m.before.bus m.before.host []
+    links = start.links.1
+
+    c : Connection
+    c = start.links.3.connection
+
+    p : Place
+    p = record { connection = c; side = side.Ap }
+
+    svc : c.ap ≡ 0
+    svc = (links.svc c start.links.3.live start.links.3.number).ap
+
+    found : connection_of 1 m.before.bus ≡ Some c
+    found = subst (λ k. connection_of k m.before.bus ≡ Some c) start.links.3.number
+        (found-by_number m.before.bus.connections c basis.bus.numbers.rise start.links.3.live)
+
+    named : place_of (end.Ap 0) m.before.bus.connections ≡ Some p
+    named = subst (λ a. place_of (end.Ap a) m.before.bus.connections ≡ Some p) svc
+        (place-found m.before.bus.connections c side.Ap start.apart
+        (far-end m.before links) start.links.3.live
+        start.links.3.wired)
+
+    front : first c.to_ap ≡ Some (Ask h.number)
+    front = ap (λ o. first (items_in side.Ap o)) (sym found) ∙ h.front
+
+    none : link_of c.number m.before.host ≡ None
+    none = ap (λ k. link_of k m.before.host) start.links.3.number
+        ∙ no-link-one m.before.bus m.before.host.links
+        (λ l k. (links.host.links.numbered l k).from_two)
+
+    notices : (served_on (link_of c.number m.before.host) h.request.kind h.request.payload
+        m.before.host).notices ≡ Some (HostEvent.Removed i)
+    notices = ap (λ o. (served_on o h.request.kind h.request.payload m.before.host).notices) none
+        ∙ notice-any h.request.kind h.request.payload m.before.host first_host
+        ∙ removal-notice i h.request h.passes
+
+-- ---- an insertion is handled
+
+-- what is known of interfaces, with what it stands on
+abbrev known_law : (m : Moment) → InsertsAbsent m → Law m
+known_law m absent = record {
+  holds = λ a. (Basis a × LinkedAt a) × KnownAt m a;
+  basis = λ a h. h.0.0;
+  kept = λ a x h. ((link_law m absent).kept a x h.0, known-kept m absent a x h.0.1 h.1);
+}
+
+inserted-at : (m : Moment) → IsMoment m.event → ApartTo m.told m.before → (i : ℕ)
+    → interface_of i m.before.host ≡ None → is_some (interface_of i (after m).host) ≡ true
+    → HandlesInsertion i m
+inserted-at m one start i absent there = by (stays p.interface p.known)
+  where
+    p : IsPresent i (after m).host.interfaces
+    p = some-present i (after m).host there
+
+    stays : KnownAt m (resting [] (after m))
+    stays = (over-step m (known_law m (start-absent m start.links)) one (
+      (start.links.0, start.links.1),
+      λ x j. inl (record { interface = x; known = j; is = refl }),
+    )).1.1
+
+    by : WasKnown m p.interface.intf → HandlesInsertion i m
+    by (inl k) = absurd (not-both (is_some (interface_of i m.before.host))
+        (present-some i m.before.host (subst (λ n. IsPresent n m.before.host.interfaces) p.is k))
+        (ap is_some absent))
+    by (inr n) =
+        let t = told-by_svc m (HostEvent.Inserted i) start.links.0 start.links.1
+        (subst (λ k. IsNoticed m (HostEvent.Inserted k)) p.is n) in record {
+          number = t.number;
+          request = t.request;
+          is = t.is;
+          front = t.front;
+          made = t.made;
+          passes = t.tells;
+        }
+
+-- ---- throughout
+
+-- No live connection names an absent interface.
+pub unconnected-by_moments : HoldsByMoments AbsentIsUnconnected
+unconnected-by_moments = weaker ApartTo AbsentIsUnconnected
+    (λ told s h i absent. each-from (λ c. is_at i c.peer ≡ false) s.bus.connections
+    (unconnected i s h.links.1 absent)) apart-throughout
+
+-- An interface is absent from a removal to the next insertion.
+pub between-at_moments : HoldsAtMoments AbsentBetween
+between-at_moments = at_each ApartTo AbsentBetween apart-throughout (λ m one h. record {
+  removed = removed-at m h;
+  inserted = inserted-at m one h;
+})

@@ -1,0 +1,94 @@
+-- Which requests are those of an enumeration, by the step that asks them.
+use Rattle.std.proofs.Common.{◌≡◌, ◌≢◌, ◌≤◌, ℕ, ◌+◌, true, false, List, [], ◌∷◌, ◌++◌, refl, sym, ap, ◌∙◌, subst, arith}
+use Rattle.std.proofs.lemmas.Bool.Decides.{nat_tests}
+use Rattle.std.specs.Prelude.{Result, Ok, Err, ◌==◌}
+use Rattle.byteorder.specs.Endian.{little_number}
+use Rattle.byteorder.specs.Numbers.{little_number-reads_back}
+use Rattle.gb_base.specs.declared.steps.SequenceStep.{SequenceStep}
+use Rattle.gb_base.specs.declared.steps.SequenceStep.TheVariants as steps
+use Rattle.gb_formats.specs.Bytes.{le16}
+use Rattle.gb_formats.specs.Records.{PayloadFault}
+use Rattle.gb_formats.specs.SvcRecords.{SvcAsk, read_svc_ask}
+use Rattle.gb_invariants.proofs.Outcomes.{both-true, same-number}
+use Rattle.gb_laws.proofs.AskedWaits.{is_power_step}
+use Rattle.gb_laws.proofs.Links.{IsFormed}
+use Rattle.gb_laws.proofs.SvcKinds.{svc-kind}
+use Rattle.gb_machine.specs.Refusals.{is_reserved}
+use Rattle.gb_machine.specs.SequenceSteps.{Target, asks_control, kind_of, payload_of}
+use Rattle.gb_machine.specs.SvcQueues.{enumerates}
+use Rattle.gb_machine.specs.Turns.{Asking}
+
+-- the CPort of a CONN_CREATE reads back
+cport-back : (c : ℕ) → c ≤ 4095 → little_number 2 (le16 c ++ 0 ∷ 0 ∷ []) ≡ c
+cport-back c low = little_number-reads_back 2 c (0 ∷ 0 ∷ []) (omega (arith, low))
+
+-- what a step asks is a request of the enumeration of its interface alone
+of-step : (i : ℕ) (step : SequenceStep) (t : Target)
+    → (step ≡ steps.CreateConnection → (t.cport ≢ 0) × (t.cport ≤ 4095))
+    → asks_control step ≡ false
+    → enumerates i (read_svc_ask (kind_of step) (payload_of step t)) ≡ true
+    → (is_power_step step ≡ true) × (t.intf ≡ i)
+of-step i steps.EnableVsys t c on h = (refl, omega (arith, same-number (t.intf + 0) i h))
+of-step i steps.EnableRefclk t c on h = (refl, omega (arith, same-number (t.intf + 0) i h))
+of-step i steps.EnableUnipro t c on h = (refl, omega (arith, same-number (t.intf + 0) i h))
+of-step i steps.Activate t c on h = (refl, omega (arith, same-number (t.intf + 0) i h))
+of-step i steps.GiveDevice t c on h = (refl, omega (arith, same-number (t.intf + 0) i h))
+of-step i steps.CreateRoute t c on h = (refl, omega (arith, same-number (t.intf + 0) i h))
+of-step i steps.CreateControl t c on h =
+    (refl, omega (arith, same-number (t.intf + 0) i (both-true _ _ h).0))
+of-step i steps.CreateConnection t c on h =
+    absurd ((c refl).0 (sym (cport-back t.cport (c refl).1) ∙ same-number _ 0 (both-true _ _ h).1))
+of-step i steps.DestroyConnection t c on h = absurd cc
+of-step i steps.AskVersion t c on h = absurd cc
+of-step i steps.AskSize t c on h = absurd cc
+of-step i steps.AskManifest t c on h = absurd cc
+of-step i steps.TellConnected t c on h = absurd cc
+of-step i steps.TellDisconnecting t c on h = absurd cc
+of-step i steps.TellDisconnected t c on h = absurd cc
+
+-- A formed request to the supervisory controller is one of the enumeration of its own interface
+-- alone, and of a step that asks for power.
+pub formed-enumerates : (i : ℕ) (q : Asking) → IsFormed q → asks_control q.purpose.step ≡ false
+    → enumerates i (read_svc_ask q.kind q.payload) ≡ true
+    → (is_power_step q.purpose.step ≡ true) × (q.purpose.intf ≡ i)
+formed-enumerates i q f on h =
+    let r = of-step i q.purpose.step f.target f.created on
+    (subst (λ k. enumerates i (read_svc_ask k (payload_of q.purpose.step f.target)) ≡ true)
+    f.kind (subst (λ p. enumerates i (read_svc_ask q.kind p) ≡ true) f.payload h)) in
+    (r.0, sym f.intf ∙ r.1)
+
+-- The start of an enumeration is a request of it.
+pub start-enumerates : (i : ℕ) (q : Asking) → IsFormed q
+    → q.purpose.step ≡ steps.EnableVsys → q.purpose.intf ≡ i
+    → enumerates i (read_svc_ask q.kind q.payload) ≡ true
+start-enumerates i q f start at =
+    subst (λ k. enumerates i (read_svc_ask k q.payload) ≡ true) (sym (f.kind ∙ ap kind_of start))
+    (subst (λ p. enumerates i (read_svc_ask 0x21 p) ≡ true)
+    (sym (f.payload ∙ ap (λ s. payload_of s f.target) start))
+    (same (f.target.intf) i (f.intf ∙ at)))
+  where
+    same : (n k : ℕ) → n ≡ k → (n + 0 == k) ≡ true
+    same n k e = grind (arith, nat_tests, e)
+
+-- A request of an enumeration has a type that lines can't send.
+pub enumeration-reserved : (i kind : ℕ) (payload : List ℕ)
+    → enumerates i (read_svc_ask kind payload) ≡ true → is_reserved kind ≡ true
+enumeration-reserved i kind payload h = by (read_svc_ask kind payload) refl h
+  where
+    by : (r : Result SvcAsk PayloadFault) → read_svc_ask kind payload ≡ r
+        → enumerates i r ≡ true → is_reserved kind ≡ true
+    by (Ok (SvcAsk.VsysEnable j)) e f = ap is_reserved (sym (svc-kind kind payload _ e))
+    by (Ok (SvcAsk.RefclkEnable j)) e f = ap is_reserved (sym (svc-kind kind payload _ e))
+    by (Ok (SvcAsk.UniproEnable j)) e f = ap is_reserved (sym (svc-kind kind payload _ e))
+    by (Ok (SvcAsk.IntfActivate j)) e f = ap is_reserved (sym (svc-kind kind payload _ e))
+    by (Ok (SvcAsk.IntfDeviceId j d)) e f = ap is_reserved (sym (svc-kind kind payload _ e))
+    by (Ok (SvcAsk.RouteCreate a b c d)) e f = ap is_reserved (sym (svc-kind kind payload _ e))
+    by (Ok (SvcAsk.ConnCreate a b c d g k)) e f = ap is_reserved (sym (svc-kind kind payload _ e))
+    by (Ok (SvcAsk.ConnDestroy a b c d)) e f = absurd cc
+    by (Ok (SvcAsk.RouteDestroy a b)) e f = absurd cc
+    by (Ok SvcAsk.Ping) e f = absurd cc
+    by (Ok (SvcAsk.ProtocolVersion a b)) e f = absurd cc
+    by (Ok (SvcAsk.Hello a b)) e f = absurd cc
+    by (Ok (SvcAsk.ModuleInserted a b c)) e f = absurd cc
+    by (Ok (SvcAsk.ModuleRemoved a)) e f = absurd cc
+    by (Err fault) e f = absurd cc

@@ -1,0 +1,197 @@
+-- The requests of an enumeration that wait toward the supervisory controller, and the removals that
+-- wait toward the application processor.
+use Rattle.std.proofs.Common.{◌≡◌, ◌⊎◌, ℕ, Bool, true, false, cond, Option, Some, None, List, [], ◌∷◌, ◌++◌, refl, sym, ap, ◌∙◌, inl, inr, append_assoc, append-nil}
+use Rattle.std.specs.Prelude.{◌||◌}
+use Rattle.gb_base.specs.declared.end.Side.TheVariants as side
+use Rattle.gb_laws.proofs.Marks.{AreAsked}
+use Rattle.gb_laws.proofs.Owning.{KeepsRequests}
+use Rattle.gb_machine.specs.Bus.{Ask, Bus, Item, Raw, RawReply, Reply, Request, request_of}
+use Rattle.gb_machine.specs.Lists.{behind_first}
+use Rattle.gb_machine.specs.Members.{Each, IsIn}
+use Rattle.gb_machine.specs.SvcQueues.{is_enumeration_request, is_removal, is_reply_to, svc_items}
+
+-- ---- requests of an enumeration
+
+abbrev pub enum_of : ℕ → ℕ → Option Request → List (ℕ × Request)
+enum_of i n None = []
+enum_of i n (Some r) = cond (is_enumeration_request i r) ((n, r) ∷ []) []
+
+abbrev pub item_enum : ℕ → Bus → Item → List (ℕ × Request)
+item_enum i b (Ask n) = enum_of i n (request_of n b)
+item_enum i b (Reply n result payload) = []
+item_enum i b (Raw bytes) = []
+item_enum i b (RawReply label kind result payload) = []
+
+abbrev pub enums_of : ℕ → Bus → List Item → List (ℕ × Request)
+enums_of i b [] = []
+enums_of i b (x ∷ xs) = item_enum i b x ++ enums_of i b xs
+
+-- What an enumeration asked and wasn't served, with its numbers, in order.
+abbrev pub enums : ℕ → Bus → List (ℕ × Request)
+enums i b = enums_of i b (svc_items side.Far b)
+
+-- they are starts of an enumeration
+abbrev pub AreStarts : List (ℕ × Request) → Type 0
+AreStarts es = Each (λ (e : ℕ × Request). e.1.kind ≡ 0x21) es
+
+pub enums-append : (i : ℕ) (b : Bus) (xs ys : List Item)
+    → enums_of i b (xs ++ ys) ≡ enums_of i b xs ++ enums_of i b ys
+enums-append i b [] ys = refl
+enums-append i b (x ∷ xs) ys = ap (λ es. item_enum i b x ++ es) (enums-append i b xs ys)
+    ∙ sym (append_assoc (item_enum i b x) (enums_of i b xs) (enums_of i b ys))
+
+-- one more that is none
+pub enums-unasked : (i : ℕ) (b : Bus) (xs : List Item) (y : Item) → item_enum i b y ≡ []
+    → enums_of i b (xs ++ y ∷ []) ≡ enums_of i b xs
+enums-unasked i b xs y e = enums-append i b xs (y ∷ [])
+    ∙ ap (λ es. enums_of i b xs ++ (es ++ [])) e ∙ append-nil (enums_of i b xs)
+
+-- where more requests were made
+pub enums-more : (i : ℕ) (b after : Bus) (xs : List Item) → KeepsRequests b after → AreAsked b xs
+    → enums_of i after xs ≡ enums_of i b xs
+enums-more i b after [] keeps asked = refl
+enums-more i b after (x ∷ xs) keeps asked =
+    ap (λ es. es ++ enums_of i after xs) (one x (λ n e. asked n (inl (sym e))))
+    ∙ ap (λ es. item_enum i b x ++ es)
+    (enums-more i b after xs keeps (λ n j. asked n (inr j)))
+  where
+    one : (y : Item) → ((n : ℕ) → y ≡ Ask n → (r : Request) × (request_of n b ≡ Some r))
+        → item_enum i after y ≡ item_enum i b y
+    one (Ask n) made = let m = made n refl in ap (enum_of i n) (keeps n m.0 m.1 ∙ sym m.1)
+    one (Reply n result payload) made = refl
+    one (Raw bytes) made = refl
+    one (RawReply label kind result payload) made = refl
+
+-- the front item is taken: it was the first of them, or none
+pub enums-taken : (i : ℕ) (b : Bus) (xs : List Item)
+    → (enums_of i b (behind_first xs) ≡ enums_of i b xs)
+    ⊎ (enums_of i b (behind_first xs) ≡ behind_first (enums_of i b xs))
+enums-taken i b [] = inl refl
+enums-taken i b (x ∷ xs) = by x
+  where
+    asked : (n : ℕ) (o : Option Request) → (enums_of i b xs ≡ enum_of i n o ++ enums_of i b xs)
+        ⊎ (enums_of i b xs ≡ behind_first (enum_of i n o ++ enums_of i b xs))
+    asked n None = inl refl
+    asked n (Some r) = either (is_enumeration_request i r)
+      where
+        either : (t : Bool)
+            → (enums_of i b xs ≡ cond t ((n, r) ∷ []) [] ++ enums_of i b xs)
+            ⊎ (enums_of i b xs ≡ behind_first (cond t ((n, r) ∷ []) [] ++ enums_of i b xs))
+        either true = inr refl
+        either false = inl refl
+
+    by : (y : Item) → (enums_of i b xs ≡ item_enum i b y ++ enums_of i b xs)
+        ⊎ (enums_of i b xs ≡ behind_first (item_enum i b y ++ enums_of i b xs))
+    by (Ask n) = asked n (request_of n b)
+    by (Reply n result payload) = inl refl
+    by (Raw bytes) = inl refl
+    by (RawReply label kind result payload) = inl refl
+
+-- an asked one waits
+pub enum-waits : (i : ℕ) (b : Bus) (xs : List Item) (e : ℕ × Request) → IsIn e (enums_of i b xs)
+    → IsIn (Ask e.0) xs × (request_of e.0 b ≡ Some e.1)
+    × (is_enumeration_request i e.1 ≡ true)
+enum-waits i b [] e j = absurd j
+enum-waits i b (x ∷ xs) e j = by x refl j (enum-waits i b xs e)
+  where
+    Waits : Type 0
+    Waits = IsIn (Ask e.0) (x ∷ xs) × (request_of e.0 b ≡ Some e.1)
+        × (is_enumeration_request i e.1 ≡ true)
+
+    Later : Type 0
+    Later = IsIn e (enums_of i b xs) → IsIn (Ask e.0) xs × (request_of e.0 b ≡ Some e.1)
+        × (is_enumeration_request i e.1 ≡ true)
+
+    later : Later → IsIn e (enums_of i b xs) → Waits
+    later rec k = let w = rec k in (inr w.0, w.1, w.2)
+
+    asked : (n : ℕ) → x ≡ Ask n → (o : Option Request) → request_of n b ≡ o
+        → IsIn e (enum_of i n o ++ enums_of i b xs) → Later → Waits
+    asked n is None f k rec = later rec k
+    asked n is (Some r) f k rec = either (is_enumeration_request i r) refl k
+      where
+        either : (t : Bool) → is_enumeration_request i r ≡ t
+            → IsIn e (cond t ((n, r) ∷ []) [] ++ enums_of i b xs) → Waits
+        either true g (inl same) = (
+          inl (ap (λ (p : ℕ × Request). Ask p.0) same ∙ sym is),
+          ap (λ (p : ℕ × Request). request_of p.0 b) same ∙ f
+              ∙ ap (λ (p : ℕ × Request). Some p.1) (sym same),
+          ap (λ (p : ℕ × Request). is_enumeration_request i p.1) same ∙ g,
+        )
+        either true g (inr k) = later rec k
+        either false g k = later rec k
+
+    by : (y : Item) → x ≡ y → IsIn e (item_enum i b y ++ enums_of i b xs) → Later → Waits
+    by (Ask n) is k rec = asked n is (request_of n b) refl k rec
+    by (Reply n result payload) is k rec = later rec k
+    by (Raw bytes) is k rec = later rec k
+    by (RawReply label kind result payload) is k rec = later rec k
+
+-- ---- removals
+
+abbrev pub request_removes : ℕ → Option Request → Bool
+request_removes i None = false
+request_removes i (Some r) = is_removal i r
+
+abbrev pub item_removes : ℕ → Bus → Item → Bool
+item_removes i b (Ask n) = request_removes i (request_of n b)
+item_removes i b (Reply n result payload) = false
+item_removes i b (Raw bytes) = false
+item_removes i b (RawReply label kind result payload) = false
+
+-- the removal of an interface is among items
+abbrev pub removed_in : ℕ → Bus → List Item → Bool
+removed_in i b [] = false
+removed_in i b (x ∷ xs) = item_removes i b x || removed_in i b xs
+
+-- No reply to request n stands in front of a removal of an interface.
+abbrev pub IsClean : ℕ → ℕ → Bus → List Item → Type 0
+IsClean n i b [] = Unit {0}
+IsClean n i b (x ∷ xs) =
+    (removed_in i b xs ≡ true → is_reply_to n x ≡ false) × IsClean n i b xs
+
+pub removed-unasked : (i : ℕ) (b : Bus) (xs : List Item) (y : Item) → item_removes i b y ≡ false
+    → removed_in i b (xs ++ y ∷ []) ≡ removed_in i b xs
+removed-unasked i b [] y e = ap (λ t. t || false) e
+removed-unasked i b (x ∷ xs) y e =
+    ap (λ t. item_removes i b x || t) (removed-unasked i b xs y e)
+
+pub clean-unasked : (n i : ℕ) (b : Bus) (xs : List Item) (y : Item) → item_removes i b y ≡ false
+    → IsClean n i b xs → IsClean n i b (xs ++ y ∷ [])
+clean-unasked n i b [] y e h = (λ t. absurd cc, tt)
+clean-unasked n i b (x ∷ xs) y e h =
+    (λ t. h.0 (sym (removed-unasked i b xs y e) ∙ t), clean-unasked n i b xs y e h.1)
+
+-- where more requests were made
+removes-more : (i : ℕ) (b after : Bus) (x : Item) → KeepsRequests b after
+    → ((n : ℕ) → x ≡ Ask n → (r : Request) × (request_of n b ≡ Some r))
+    → item_removes i after x ≡ item_removes i b x
+removes-more i b after (Ask n) keeps made =
+    let m = made n refl in ap (request_removes i) (keeps n m.0 m.1 ∙ sym m.1)
+removes-more i b after (Reply n result payload) keeps made = refl
+removes-more i b after (Raw bytes) keeps made = refl
+removes-more i b after (RawReply label kind result payload) keeps made = refl
+
+pub removed-more : (i : ℕ) (b after : Bus) (xs : List Item) → KeepsRequests b after
+    → AreAsked b xs → removed_in i after xs ≡ removed_in i b xs
+removed-more i b after [] keeps asked = refl
+removed-more i b after (x ∷ xs) keeps asked =
+    ap (λ t. t || removed_in i after xs)
+    (removes-more i b after x keeps (λ n e. asked n (inl (sym e))))
+    ∙ ap (λ t. item_removes i b x || t)
+    (removed-more i b after xs keeps (λ n j. asked n (inr j)))
+
+pub clean-more : (n i : ℕ) (b after : Bus) (xs : List Item) → KeepsRequests b after
+    → AreAsked b xs → IsClean n i b xs → IsClean n i after xs
+clean-more n i b after [] keeps asked h = tt
+clean-more n i b after (x ∷ xs) keeps asked h = (
+  λ t. h.0 (sym (removed-more i b after xs keeps (λ n j. asked n (inr j))) ∙ t),
+  clean-more n i b after xs keeps (λ n j. asked n (inr j)) h.1,
+)
+
+-- nothing is in front where no reply to it is there
+pub clean-none : (n i : ℕ) (b : Bus) (xs : List Item)
+    → ((x : Item) → IsIn x xs → is_reply_to n x ≡ false) → IsClean n i b xs
+clean-none n i b [] none = tt
+clean-none n i b (x ∷ xs) none =
+    (λ t. none x (inl refl), clean-none n i b xs (λ y j. none y (inr j)))

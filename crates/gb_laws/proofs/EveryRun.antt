@@ -1,0 +1,113 @@
+-- The laws, of every run.
+use Rattle.gb_laws.proofs.Absent.{between-at_moments, unconnected-by_moments}
+use Rattle.gb_laws.proofs.AllRuns.{at-all, of-all, of-state}
+use Rattle.gb_laws.proofs.Answering.{answered-at_moments}
+use Rattle.gb_laws.proofs.Causes.{causes-at_moments}
+use Rattle.gb_laws.proofs.Ended.{ends-told_by_moments}
+use Rattle.gb_laws.proofs.Endpoints.{endpoints-by_moments}
+use Rattle.gb_laws.proofs.Foreign.{own-items, takes-at_moments}
+use Rattle.gb_laws.proofs.Happened.{ends-seen, items-seen, told-seen}
+use Rattle.gb_laws.proofs.QuietRuns.{finds-at_moments, leaves-by_moments}
+use Rattle.gb_laws.proofs.Replies.{replies-by_moments}
+use Rattle.gb_laws.proofs.Replying.{ends-once_by_moments}
+use Rattle.gb_laws.proofs.Routed.{routed-by_moments}
+use Rattle.gb_laws.proofs.Single.{labels-by_moments, names-by_moments, one-item_by_moments}
+use Rattle.gb_machine.specs.LawsBus.{
+  EndpointsDiffer,
+  HaveAwaited,
+  HaveNamed,
+  HaveOneItem,
+  HaveOwnEnds,
+  HaveOwnLabels,
+  LabelsDiffer,
+  NamesNameRequests,
+  OneItemANumber,
+  RepliesAreAwaited,
+}
+use Rattle.gb_machine.specs.LawsEnds.{
+  AnsweredByItsResponder,
+  EndOnce,
+  EndsAreTold,
+  EndsAtMostOnce,
+  EndsTold,
+  EveryEndHasItsCause,
+  HadItsReply,
+  HasItsCause,
+}
+use Rattle.gb_machine.specs.LawsHotPlug.{
+  AbsentBetween,
+  AbsentIsUnconnected,
+  HaveOwnItems,
+  NoForeignMessage,
+  AbsentAfterRemoval,
+  TakesFromItsConnection,
+}
+use Rattle.gb_machine.specs.LawsSvc.{
+  AreRouted,
+  FindsUnwired,
+  LeavesNothing,
+  RemovalLeavesNothingWired,
+  WiredMeansRouted,
+}
+
+-- Each request ends at most once and is replied to at most once.
+pub ends-at-most-once : EndsAtMostOnce
+ends-at-most-once = of-all EndOnce ends-seen ends-once_by_moments
+
+-- What is told of ends is what the outcomes are.
+pub ends-are-told : EndsAreTold
+ends-are-told = of-all EndsTold told-seen ends-told_by_moments
+
+-- On a clean connection a request is answered by what its own responder replied.
+pub answered-by_its_responder : AnsweredByItsResponder
+answered-by_its_responder = at-all HadItsReply answered-at_moments
+
+-- A request is cancelled, times out or is disconnected only where that came.
+pub every-end_has_its_cause : EveryEndHasItsCause
+every-end_has_its_cause = at-all HasItsCause causes-at_moments
+
+-- Identifiers that are in use on a side of a connection differ.
+pub labels-differ : LabelsDiffer
+labels-differ = of-all HaveOwnLabels (of-state _) labels-by_moments
+
+-- A name names a request that was made.
+pub names-name : NamesNameRequests
+names-name = of-all HaveNamed (of-state _) names-by_moments
+
+-- On a clean connection each number is in one item at most.
+pub one-item : OneItemANumber
+one-item = of-all HaveOneItem (of-state _) one-item_by_moments
+
+-- On a clean connection a reply that waits is awaited.
+pub replies-are_awaited : RepliesAreAwaited
+replies-are_awaited = of-all HaveAwaited (of-state _) replies-by_moments
+
+-- Live connections have ends of their own.
+pub endpoints-differ : EndpointsDiffer
+endpoints-differ = of-all HaveOwnEnds (of-state _) endpoints-by_moments
+
+-- No end handles a message of another connection.
+pub no-foreign : NoForeignMessage
+no-foreign =
+    (of-all HaveOwnItems items-seen own-items, at-all TakesFromItsConnection takes-at_moments)
+
+-- Once a removal is handled its interface is absent, and no live connection names it.
+pub absent-after : AbsentAfterRemoval
+absent-after = (
+  of-all AbsentIsUnconnected (of-state _) unconnected-by_moments,
+  at-all AbsentBetween between-at_moments,
+)
+
+-- What is wired is routed.
+pub wired-routed : WiredMeansRouted
+wired-routed = of-all AreRouted (of-state _) routed-by_moments
+
+-- While a removal waits nothing of its interface is wired, nor is it where that is handled.
+pub nothing-wired : RemovalLeavesNothingWired
+nothing-wired = (
+  of-all LeavesNothing (record {
+    there = λ told s h. record { low = h.low; unwired = h.unwired };
+    back = λ told s h. record { low = h.low; unwired = h.unwired };
+  }) leaves-by_moments,
+  at-all FindsUnwired finds-at_moments,
+)

@@ -1,0 +1,52 @@
+-- Midway through an event: what holds of every state of a run holds at each point that single
+-- changes lead to from there.
+use Rattle.std.proofs.Common.{List, []}
+use Rattle.gb_base.specs.declared.entry.Entry.{Entry}
+use Rattle.gb_laws.proofs.LinkRuns.{LinkedTo, linked-throughout, start-absent, there_law}
+use Rattle.gb_laws.proofs.Linking.{LinkedAt}
+use Rattle.gb_laws.proofs.Points.{Basis, Change, Law, Point, changed, resting}
+use Rattle.gb_laws.proofs.Reached.{reached-has}
+use Rattle.gb_laws.proofs.Runs.{weaker}
+use Rattle.gb_laws.proofs.There.{There}
+use Rattle.gb_machine.specs.Reached.{OfARun}
+use Rattle.gb_machine.specs.Runs.{Moment}
+use Rattle.gb_machine.specs.State.{State}
+
+-- A point comes after another within a step: each law that holds there holds here.
+abbrev pub ComesAfter : (m : Moment) → Point → Point → Type 1
+ComesAfter m a b = (law : Law m) → law.holds a → law.holds b
+
+-- So does the point after one more single change.
+pub one-change : (m : Moment) (a b : Point) (x : Change m b) → ComesAfter m a b
+    → ComesAfter m a (changed m b x)
+one-change m a b x after law h = law.kept b x (after law h)
+
+-- what is known at rest, whatever was told
+rests : (told : List Entry) (s : State) → LinkedTo [] s → LinkedTo told s
+rests told s h = (record { bus = h.0.bus; names = h.0.names; hand = h.0.hand }, h.1, h.2, h.3)
+
+-- What is known at a point: the bus keeps its facts with what is in no queue, names name requests,
+-- the application processor's connections go with the bus, and the supervisory controller's is
+-- there.
+pub record KnownAt (a : Point) : Type 0 where
+  pub basis : Basis a
+  pub links : LinkedAt a
+  pub there : There a.state.bus
+
+-- It is known at each point that comes after a state of a run.
+pub known-midway : (m : Moment) (b : Point) → OfARun m.before
+    → ComesAfter m (resting m.told m.before) b → KnownAt b
+known-midway m b run after =
+    let start = rests m.told m.before (reached-has (LinkedTo [])
+    (weaker LinkedTo (λ told s. LinkedTo [] s) (λ told s h. (
+      record {
+        bus = h.0.bus;
+        names = h.0.names;
+        hand = h.0.hand;
+      },
+      h.1,
+      h.2,
+      h.3,
+    )) linked-throughout) m.before run) in
+    let now = after (there_law m (start-absent m start)) ((start.0, start.1), start.3) in
+    record { basis = now.0.0; links = now.0.1; there = now.1 }

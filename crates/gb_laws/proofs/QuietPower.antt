@@ -1,0 +1,364 @@
+-- What is said of an enumeration while a removal waits is kept where power levels change.
+use Rattle.std.proofs.Common.{◌≡◌, ◌⊎◌, ◌≤◌, ℕ, Bool, true, false, cond, Some, None, List, [], ◌∷◌, ◌++◌, refl, sym, ap, ◌∙◌, inl, inr, ⊎_elim, subst, arith}
+use Rattle.std.proofs.lemmas.Bool.Decides.{nat_tests}
+use Rattle.std.specs.Prelude.{Result, Ok, Err, ◌==◌, ◌||◌, nat_lt, not}
+use Rattle.gb_base.specs.declared.end.Side.TheVariants as side
+use Rattle.gb_formats.specs.Records.{PayloadFault}
+use Rattle.gb_formats.specs.SvcRecords.{SvcAsk, read_svc_ask, read_svc_ask_of_ap, svc_ask_kind}
+use Rattle.gb_invariants.proofs.Awaiting.{not-both, same-some}
+use Rattle.gb_invariants.proofs.Counts.{times-some, total-some}
+use Rattle.gb_invariants.proofs.Outcomes.{is-same, same-number}
+use Rattle.gb_invariants.specs.Facts.{times_on}
+use Rattle.gb_laws.proofs.AskedWaits.{AsksIn, no-asks}
+use Rattle.gb_laws.proofs.Enums.{AreStarts, IsClean, clean-none, enum_of, enum-waits, enums, enums_of}
+use Rattle.gb_laws.proofs.LinkBuses.{Linked}
+use Rattle.gb_laws.proofs.Levels.{StepOn, by_record, nothing_changes, other-port, starts, step-levels}
+use Rattle.gb_laws.proofs.Points.{IsIdle, IsServing, PortsFrom, as_before, loses_route, served}
+use Rattle.gb_laws.proofs.PointParts.{Basis, Point, resting}
+use Rattle.gb_laws.proofs.Quiet.{IsLast, IsQuiet, IsUnanswered, SameView, is_removed, last-behind, last-in, none, off, quiet-still, starts-behind}
+use Rattle.gb_laws.proofs.QuietBuses.{svc-found}
+use Rattle.gb_laws.proofs.QuietKept.{none-hand, view-rest}
+use Rattle.gb_laws.proofs.SvcKinds.{svc-kind}
+use Rattle.gb_laws.proofs.There.{There}
+use Rattle.gb_machine.specs.Bus.{Ask, Connection, Item, Raw, RawReply, Reply, Request, request_of}
+use Rattle.gb_machine.specs.Host.{Host}
+use Rattle.gb_machine.specs.Incoming.{Incoming}
+use Rattle.gb_machine.specs.LawsBus.{is_awaited, is_item_of}
+use Rattle.gb_machine.specs.Lists.{behind_first}
+use Rattle.gb_machine.specs.Members.{IsIn}
+use Rattle.gb_machine.specs.Ports.{level_in, level_of, unrouted, with_device}
+use Rattle.gb_machine.specs.Runs.{Moment}
+use Rattle.gb_machine.specs.Serving.{invalid, nonexistent, success}
+use Rattle.gb_machine.specs.State.{Port}
+use Rattle.gb_machine.specs.SvcQueues.{enumerates, is_enumeration_request, is_reply_to, items_in, svc_items}
+use Rattle.gb_machine.specs.SvcTable.{Answered, Create, Destroy, Unroute, climbs, is_no_device, svc_asked, svc_read, svc_refuses, svc_stays, svc_step}
+use Rattle.gb_machine.specs.Turns.{Asking}
+use Rattle.gb_laws.proofs.QuietServed.{IsServed, serving}
+
+-- ---- an enumeration's request is served
+
+-- a request of an enumeration that isn't a start has another type
+differ : (a b : ℕ) → (a == b) ≡ false → a ≡ b → ⊥
+differ a b other e = not-both (a == b) (ap (λ n. n == b) e ∙ is-same b) other
+
+start-of : (i : ℕ) (x : SvcAsk) → enumerates i (Ok x) ≡ true → svc_ask_kind x ≡ 0x21
+    → starts i x ≡ true
+start-of i (SvcAsk.VsysEnable j) is k = is
+start-of i (SvcAsk.RefclkEnable j) is k = absurd (differ 0x23 0x21 refl k)
+start-of i (SvcAsk.UniproEnable j) is k = absurd (differ 0x25 0x21 refl k)
+start-of i (SvcAsk.IntfActivate j) is k = absurd (differ 0x27 0x21 refl k)
+start-of i (SvcAsk.IntfDeviceId j d) is k = absurd (differ 0x03 0x21 refl k)
+start-of i (SvcAsk.RouteCreate a b c d) is k = absurd (differ 0x0b 0x21 refl k)
+start-of i (SvcAsk.ConnCreate a b c d f g) is k = absurd (differ 0x07 0x21 refl k)
+start-of i (SvcAsk.ConnDestroy a b c d) is k = absurd (differ 0x08 0x21 refl k)
+start-of i (SvcAsk.RouteDestroy a b) is k = absurd (differ 0x0c 0x21 refl k)
+start-of i SvcAsk.Ping is k = absurd (differ 0x13 0x21 refl k)
+start-of i (SvcAsk.ProtocolVersion a b) is k = absurd (differ 0x01 0x21 refl k)
+start-of i (SvcAsk.Hello a b) is k = absurd (differ 0x02 0x21 refl k)
+start-of i (SvcAsk.ModuleInserted a b c) is k = absurd (differ 0x1f 0x21 refl k)
+start-of i (SvcAsk.ModuleRemoved a) is k = absurd (differ 0x20 0x21 refl k)
+
+start-kind : (i kind : ℕ) (payload : List ℕ) (ask : SvcAsk) → read_svc_ask kind payload ≡ Ok ask
+    → enumerates i (Ok ask) ≡ true → kind ≡ 0x21 → starts i ask ≡ true
+start-kind i kind payload ask e is start =
+    start-of i ask is (svc-kind kind payload ask e ∙ start)
+
+climbs-answers : (ports : List Port) (ready : Bool) (i level : ℕ) (payload : List ℕ) (j : ℕ)
+    → (climbs ready i level payload ports).served ≡ Unroute j → ⊥
+climbs-answers ports true i level payload j h = absurd cc
+climbs-answers ports false i level payload j h = absurd cc
+
+-- an interface that is to lose its route has the highest level, and the levels stay until then
+asked-six : (ports : List Port) (ask : SvcAsk) (j : ℕ) → (svc_asked ports ask).served ≡ Unroute j
+    → (level_of j ports ≡ 6) × ((svc_asked ports ask).ports ≡ ports)
+asked-six ports (SvcAsk.VsysEnable i) j h = absurd (climbs-answers ports _ i 1 _ j h)
+asked-six ports (SvcAsk.RefclkEnable i) j h = absurd (climbs-answers ports _ i 2 _ j h)
+asked-six ports (SvcAsk.UniproEnable i) j h = absurd (climbs-answers ports _ i 3 _ j h)
+asked-six ports (SvcAsk.IntfActivate i) j h = absurd (climbs-answers ports _ i 4 _ j h)
+asked-six ports (SvcAsk.RouteCreate a b i d) j h = absurd (climbs-answers ports _ i 6 _ j h)
+asked-six ports (SvcAsk.IntfDeviceId i d) j h =
+    absurd (by (nat_lt (level_of i ports) 4) (is_no_device i d ports) h)
+  where
+    by : (t u : Bool) → (cond t (svc_refuses ports nonexistent) (cond u (svc_refuses ports invalid)
+        (record { ports = with_device i d ports; served = Answered success [] }))).served
+        ≡ Unroute j → ⊥
+    by true u f = absurd cc
+    by false true f = absurd cc
+    by false false f = absurd cc
+asked-six ports (SvcAsk.ConnCreate a b c d e f) j h =
+    absurd (by (not (a == 1) || nat_lt (level_of c ports) 6) h)
+  where
+    by : (t : Bool)
+        → (cond t (svc_refuses ports nonexistent) (svc_stays ports (Create b c d))).served
+        ≡ Unroute j → ⊥
+    by true g = absurd cc
+    by false g = absurd cc
+asked-six ports (SvcAsk.ConnDestroy a b c d) j h = absurd (by (a == 1) h)
+  where
+    by : (t : Bool)
+        → (cond t (svc_stays ports (Destroy b c d)) (svc_refuses ports nonexistent)).served
+        ≡ Unroute j → ⊥
+    by true g = absurd cc
+    by false g = absurd cc
+asked-six ports (SvcAsk.RouteDestroy a i) j h = by (a == 1) (level_of i ports == 6) refl h
+  where
+    same : (x y : ℕ) → Unroute x ≡ Unroute y → x ≡ y
+    same x y e = cc
+
+    by : (t u : Bool) → (level_of i ports == 6) ≡ u
+        → (cond (not t || not u) (svc_refuses ports nonexistent)
+        (svc_stays ports (Unroute i))).served
+        ≡ Unroute j
+        → (level_of j ports ≡ 6) × ((cond (not t || not u) (svc_refuses ports nonexistent)
+        (svc_stays ports (Unroute i))).ports ≡ ports)
+    by true true e f = (
+      ap (λ n. level_of n ports) (sym (same i j f)) ∙ same-number (level_of i ports) 6 e,
+      refl,
+    )
+    by true false e f = absurd cc
+    by false u e f = absurd cc
+asked-six ports SvcAsk.Ping j h = absurd cc
+asked-six ports (SvcAsk.ProtocolVersion a b) j h = absurd cc
+asked-six ports (SvcAsk.Hello a b) j h = absurd cc
+asked-six ports (SvcAsk.ModuleInserted a b c) j h = absurd cc
+asked-six ports (SvcAsk.ModuleRemoved a) j h = absurd cc
+
+unrouted-six : (ports : List Port) (kind : ℕ) (payload : List ℕ) (j : ℕ)
+    → (svc_step ports kind payload).served ≡ Unroute j
+    → (level_of j ports ≡ 6) × ((svc_step ports kind payload).ports ≡ ports)
+unrouted-six ports kind payload j = by (read_svc_ask_of_ap kind payload)
+  where
+    by : (r : Result SvcAsk PayloadFault) → (svc_read ports r).served ≡ Unroute j
+        → (level_of j ports ≡ 6) × ((svc_read ports r).ports ≡ ports)
+    by (Ok ask) h = asked-six ports ask j h
+    by (Err fault) h = absurd cc
+
+at-most_one : (n : ℕ) → n ≤ 1 → (n ≡ 0) ⊎ (n ≡ 1)
+at-most_one n h = by (n == 0) refl
+  where
+    by : (t : Bool) → (n == 0) ≡ t → (n ≡ 0) ⊎ (n ≡ 1)
+    by true e = inl (same-number n 0 e)
+    by false e = inr (grind (arith, nat_tests, e, h))
+
+module _ (m : Moment) (i : ℕ) (basis : Basis (resting m.told m.before))
+    (links : Linked m.before.bus m.before.host []) (there : There m.before.bus)
+    (start : IsQuiet i (resting m.told m.before)) where
+  -- a request that waits to be served isn't answered
+  unreplied-yet : (n : ℕ) (r : Request) → IsIn (n, r) (enums i m.before.bus) → (x : Item)
+      → IsIn x (svc_items side.Ap m.before.bus) → is_reply_to n x ≡ false
+  unreplied-yet n r j x k =
+      let c = svc-found (resting m.told m.before) basis there in
+      let w = enum-waits i m.before.bus (svc_items side.Far m.before.bus) (n, r) j in
+      by x c.0 c.3
+      (subst (λ o. IsIn (Ask n) (items_in side.Far o)) c.1 w.0)
+      (subst (λ o. IsIn x (items_in side.Ap o)) c.1 k)
+    where
+      by : (y : Item) (c : Connection) → IsIn c m.before.bus.connections
+          → IsIn (Ask n) c.to_far → IsIn y c.to_ap → is_reply_to n y ≡ false
+      by (Ask q) c live far near = refl
+      by (Raw bytes) c live far near = refl
+      by (RawReply label kind result payload) c live far near = refl
+      by (Reply q result payload) c live far near = test (q == n) refl
+        where
+          test : (t : Bool) → (q == n) ≡ t → t ≡ false
+          test false e = refl
+          test true e =
+              let most = basis.bus.ones n in
+              let here = total-some (times_on (is_item_of n)) m.before.bus.connections c live in
+              let one = times-some (is_item_of n) c.to_far (Ask n) far (is-same n) in
+              let two = times-some (is_item_of n) c.to_ap (Reply q result payload) near e in
+              absurd (omega (arith, most, here, one, two))
+
+  -- where it is one of an enumeration: what waits for another is still the last, and isn't answered
+  started : (a b : Point) (q : Incoming) (w : IsServed m a q) → b.state.bus ≡ a.state.bus
+      → b.state.host ≡ m.before.host → b.hand ≡ None → b.pending ≡ [] → b.asked ≡ None
+      → is_enumeration_request i w.request ≡ true
+      → (is_removed i m.before.bus ≡ true → level_of i b.state.ports ≤ 1) → IsQuiet i b
+  started a b q w bus host hand pending asked is low = record {
+    low = record {
+      restarts = subst (λ es. AreStarts (behind_first es)) (sym rest) (starts-behind later tail);
+      low = λ r. low (sym (w.removed i) ∙ ap (is_removed i) (sym bus) ∙ r);
+      starts = λ hot. subst AreStarts (sym rest) tail;
+    };
+    waits = λ x j at v e s.
+        let was = start.waits x (subst (λ (g : Host). IsIn x g.interfaces) host j) at v e s in
+        let last = subst (IsLast v.0) whole was.last in record {
+          last = subst (IsLast v.0) (sym rest) (last-behind v.0
+              ((w.number, w.request)
+              ∷ enums_of i m.before.bus (behind_first (svc_items side.Far m.before.bus))) last);
+          quiet = λ hot. unanswered v.0 last;
+        };
+    due = λ e r j at s. absurd (no-asks r (subst (AsksIn r) pending j));
+    made = λ r n e at s. absurd (none-some (sym asked ∙ e));
+  }
+    where
+      later : List (ℕ × Request)
+      later = enums_of i m.before.bus (behind_first (svc_items side.Far m.before.bus))
+
+      none-some : {x : Asking × ℕ} → None ≡ Some x → ⊥
+      none-some e = absurd cc
+
+      rest : enums i b.state.bus
+          ≡ enums_of i m.before.bus (behind_first (svc_items side.Far m.before.bus))
+      rest = ap (enums i) bus ∙ w.rest i
+
+      whole : enums i m.before.bus ≡ (w.number, w.request)
+          ∷ enums_of i m.before.bus (behind_first (svc_items side.Far m.before.bus))
+      whole = ap (enums_of i m.before.bus) w.front
+          ∙ ap (λ o. enum_of i w.number o
+          ++ enums_of i m.before.bus (behind_first (svc_items side.Far m.before.bus))) w.made
+          ∙ ap (λ t. cond t ((w.number, w.request) ∷ []) []
+          ++ enums_of i m.before.bus (behind_first (svc_items side.Far m.before.bus))) is
+
+      tail : AreStarts (enums_of i m.before.bus (behind_first (svc_items side.Far m.before.bus)))
+      tail = subst (λ es. AreStarts (behind_first es)) whole start.low.restarts
+
+      unanswered : (n : ℕ) → IsLast n ((w.number, w.request)
+          ∷ enums_of i m.before.bus (behind_first (svc_items side.Far m.before.bus)))
+          → IsUnanswered i n b
+      unanswered n last =
+          let r = last-in n (w.number, w.request)
+          (enums_of i m.before.bus (behind_first (svc_items side.Far m.before.bus))) last in
+          let member = subst (λ es. IsIn (n, r.0) es) (sym whole) r.1 in
+          let waits = enum-waits i m.before.bus (svc_items side.Far m.before.bus) (n, r.0) member in
+          let c = svc-found (resting m.told m.before) basis there in
+          let queued = subst (λ o. IsIn (Ask n) (items_in side.Far o)) c.1 waits.0 in
+          let own = basis.bus.items.own c.0 side.Far (Ask n) c.3 queued in
+          let same = same-some own.0 r.0 (sym own.1 ∙ waits.1) in
+          let svc = links.svc c.0 c.3 c.4 in record {
+            clean = subst (λ x. IsClean n i x (svc_items side.Ap x)) (sym bus)
+                (w.clean n i (clean-none n i m.before.bus (svc_items side.Ap m.before.bus)
+                (unreplied-yet n r.0 member)));
+            hand = λ h e. none-hand b hand (λ x. is_reply_to n x.item ≡ false) h e;
+            request = r.0;
+            made = ap (request_of n) bus ∙ w.requests n ∙ waits.1;
+            on = ap (λ (x : Request). x.connection) (sym same) ∙ own.2 ∙ c.4;
+            by_ap = ap (λ (x : Request). x.side) (sym same) ∙ own.3;
+            awaited = ap (is_awaited n) bus ∙ w.awaited n
+                ∙ (basis.bus.items.answerable c.0 side.Far (Ask n) c.3 queued).due svc.clean
+                (λ f. svc.shut) r.0 waits.1 r.2;
+          }
+
+  -- ---- all changes of levels
+
+  pub quiet-ports : (a b : Point) (ports : List Port) → Basis a → PortsFrom m a.state ports
+      → IsIdle a → b.state.bus ≡ a.state.bus → b.state.host ≡ a.state.host
+      → b.state.ports ≡ ports → b.hand ≡ a.hand → b.pending ≡ a.pending → b.asked ≡ a.asked
+      → IsQuiet i a → IsQuiet i b
+  quiet-ports a b ports here from idle bus host now hand pending asked h = by from
+    where
+      still : SameView i a b → IsQuiet i b
+      still v = quiet-still i a b v
+          (λ x j w e. record {
+            was = x;
+            known = subst (λ (g : Host). IsIn x g.interfaces) host j;
+            intf = refl;
+            awaits = refl;
+          }) asked (λ q j. subst (AsksIn q) pending j) h
+
+      level-same : level_of i ports ≡ level_of i a.state.ports → IsQuiet i b
+      level-same e = still (view-rest i a b here bus (ap (level_of i) now ∙ e)
+          (λ x f. sym hand ∙ f))
+
+      no-power : level_of i ports ≡ 0 → IsQuiet i b
+      no-power e = still (record {
+        enums = inl (ap (enums i) bus);
+        power = off (ap (level_of i) now ∙ e);
+      })
+
+      no-removal : (is_removed i a.state.bus ≡ true → ⊥) → IsQuiet i b
+      no-removal f = still (record {
+        enums = inl (ap (enums i) bus);
+        power = none (λ r. f (ap (is_removed i) (sym bus) ∙ r));
+      })
+
+      step : (q : Incoming) → IsServing m a.state q
+          → (p : List Port) → ports ≡ p → p ≡ (svc_step m.before.ports q.kind q.payload).ports
+          → StepOn i q.kind q.payload (level_of i m.before.ports)
+          (level_of i (svc_step m.before.ports q.kind q.payload).ports) → IsQuiet i b
+      step q w p e f (nothing_changes g) =
+          level-same (ap (level_of i) e ∙ ap (level_of i) f ∙ g ∙ sym (ap (level_of i) w.ports))
+      step q w p e f (by_record ask read l) = enumerating (enumerates i (Ok ask)) refl
+        where
+          s : IsServed m a q
+          s = serving m basis links there a q w
+
+          becomes : level_of i ports
+              ≡ level_of i (svc_step m.before.ports q.kind q.payload).ports
+          becomes = ap (level_of i) e ∙ ap (level_of i) f
+
+          is-enumeration : enumerates i (Ok ask) ≡ true
+              → is_enumeration_request i (serving m basis links there a q w).request ≡ true
+          is-enumeration g =
+              ap (λ k. enumerates i (read_svc_ask k
+              (serving m basis links there a q w).request.payload))
+              (serving m basis links there a q w).kind
+              ∙ ap (λ x. enumerates i (read_svc_ask q.kind x))
+              (serving m basis links there a q w).payload
+              ∙ ap (enumerates i) read ∙ g
+
+          first-kind : enumerates i (Ok ask) ≡ true → AreStarts (enums i m.before.bus)
+              → q.kind ≡ 0x21
+          first-kind g all =
+              sym (serving m basis links there a q w).kind
+              ∙ (subst AreStarts (ap (enums_of i m.before.bus)
+              (serving m basis links there a q w).front
+              ∙ ap (λ o. enum_of i (serving m basis links there a q w).number o
+              ++ enums_of i m.before.bus (behind_first (svc_items side.Far m.before.bus)))
+              (serving m basis links there a q w).made
+              ∙ ap (λ t. cond t ((
+                (serving m basis links there a q w).number,
+                (serving m basis links there a q w).request,
+              ) ∷ []) []
+              ++ enums_of i m.before.bus (behind_first (svc_items side.Far m.before.bus)))
+              (is-enumeration g)) all).0
+
+          removed : is_removed i a.state.bus ≡ true → is_removed i m.before.bus ≡ true
+          removed r = sym ((serving m basis links there a q w).removed i) ∙ r
+
+          later : enumerates i (Ok ask) ≡ true → starts i ask ≡ false
+              → (t : Bool) → is_removed i m.before.bus ≡ t → IsQuiet i b
+          later g u false r = no-removal (λ k. not-both (is_removed i m.before.bus) (removed k) r)
+          later g u true r = ⊎_elim
+              (λ zero. no-power (becomes ∙ l.zero zero u))
+              (λ one. absurd (not-both (starts i ask)
+              (start-kind i q.kind q.payload ask read g
+              (first-kind g (start.low.starts (r, one)))) u))
+              (at-most_one (level_of i m.before.ports) (start.low.low r))
+
+          begins : enumerates i (Ok ask) ≡ true → (t : Bool) → starts i ask ≡ t → IsQuiet i b
+          begins g true u = started a b q (serving m basis links there a q w) bus (host ∙ w.host)
+              (hand ∙ idle.hand) (pending ∙ idle.pending) (asked ∙ idle.asked) (is-enumeration g)
+              (λ r. subst (λ n. n ≤ 1) (sym (ap (level_of i) now ∙ becomes))
+              (l.low u (start.low.low r)))
+          begins g false u = later g u (is_removed i m.before.bus) refl
+
+          enumerating : (t : Bool) → enumerates i (Ok ask) ≡ t → IsQuiet i b
+          enumerating false g =
+              level-same (becomes ∙ l.same g ∙ sym (ap (level_of i) w.ports))
+          enumerating true g = begins g (starts i ask) refl
+
+      lost : (q : Incoming) (j : ℕ) → IsServing m a.state q
+          → (svc_step m.before.ports q.kind q.payload).served ≡ Unroute j
+          → ports ≡ unrouted j (svc_step m.before.ports q.kind q.payload).ports
+          → (t : Bool) → (i == j) ≡ t → IsQuiet i b
+      lost q j w is e false f =
+          let u = unrouted-six m.before.ports q.kind q.payload j is in
+          level-same (ap (level_of i) e
+          ∙ ap level_in (other-port i j (λ (p : Port). record p { level = 5 })
+          (svc_step m.before.ports q.kind q.payload).ports (λ p. refl) f)
+          ∙ ap (level_of i) u.1 ∙ sym (ap (level_of i) w.ports))
+      lost q j w is e true f =
+          let u = unrouted-six m.before.ports q.kind q.payload j is in
+          no-removal (λ r. six (level_of i m.before.ports)
+          (start.low.low (sym ((serving m basis links there a q w).removed i) ∙ r))
+          (ap (λ n. level_of n m.before.ports) (same-number i j f) ∙ u.0))
+        where
+          six : (n : ℕ) → n ≤ 1 → n ≡ 6 → ⊥
+          six n low e = omega (arith, low, e)
+
+      by : PortsFrom m a.state ports → IsQuiet i b
+      by (as_before e) = level-same (ap (level_of i) e)
+      by (served q w e) = step q w (svc_step m.before.ports q.kind q.payload).ports e refl
+          (step-levels i m.before.ports q.kind q.payload)
+      by (loses_route q j w is e unwired) = lost q j w is e (i == j) refl

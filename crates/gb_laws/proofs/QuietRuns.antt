@@ -1,0 +1,187 @@
+-- While a removal of an interface waits, its power level is at most 1 and nothing of it is wired.
+use Rattle.std.proofs.Common.{
+  ◌≡◌,
+  ◌≤◌,
+  ℕ,
+  Bool,
+  true,
+  false,
+  Option,
+  Some,
+  None,
+  List,
+  [],
+  ◌∷◌,
+  ◌++◌,
+  refl,
+  sym,
+  ap,
+  ◌∙◌,
+  subst,
+  arith,
+}
+use Rattle.std.specs.Prelude.{◌&&◌, ◌||◌}
+use Rattle.std.specs.List.{list_any}
+use Rattle.gb_base.specs.declared.end.End.{End}
+use Rattle.gb_base.specs.declared.end.End.TheVariants as end
+use Rattle.gb_base.specs.declared.end.Side.TheVariants as side
+use Rattle.gb_base.specs.declared.entry.Entry.{Entry}
+use Rattle.gb_invariants.proofs.Awaiting.{not-both, same-some}
+use Rattle.gb_invariants.proofs.Lists.{each-from}
+use Rattle.gb_invariants.proofs.Outcomes.{same-number}
+use Rattle.gb_laws.proofs.AskedWaits.{no-asks, same-waits}
+use Rattle.gb_laws.proofs.Enums.{item_removes, removed_in, request_removes}
+use Rattle.gb_laws.proofs.LinkRuns.{start-absent, there_law}
+use Rattle.gb_laws.proofs.Linking.{LinkedAt}
+use Rattle.gb_laws.proofs.Points.{Law}
+use Rattle.gb_laws.proofs.PointParts.{Basis, resting}
+use Rattle.gb_laws.proofs.Quiet.{IsQuiet, quiet-still}
+use Rattle.gb_laws.proofs.QuietKept.{view-rest}
+use Rattle.gb_laws.proofs.QuietLaw.{quiet-kept}
+use Rattle.gb_laws.proofs.Runs.{HoldsAtMoments, HoldsByMoments, at_each, throughout, weaker}
+use Rattle.gb_laws.proofs.Steps.{over-step}
+use Rattle.gb_laws.proofs.There.{There}
+use Rattle.gb_laws.proofs.WiredRuns.{WiredTo, wired-over, wired-throughout}
+use Rattle.gb_machine.specs.Bus.{
+  Ask,
+  Bus,
+  Connection,
+  Item,
+  Raw,
+  RawReply,
+  Reply,
+  Request,
+  request_of,
+}
+use Rattle.gb_machine.specs.LawsSvc.{FindsUnwired, LeavesNothing, awaits_removal}
+use Rattle.gb_machine.specs.Lists.{first}
+use Rattle.gb_machine.specs.Members.{IsIn}
+use Rattle.gb_machine.specs.Ports.{level_of}
+use Rattle.gb_machine.specs.Runs.{IsMoment, Moment, after, told_at}
+use Rattle.gb_machine.specs.State.{State, first_state}
+use Rattle.gb_machine.specs.SvcQueues.{
+  HandlesRemoval,
+  is_removal,
+  request_onto,
+  requests_among,
+  svc_items,
+}
+use Rattle.gb_machine.specs.Wiring.{is_at, is_wired_to}
+
+-- ---- throughout
+
+-- with what it stands on
+pub record QuietTo (told : List Entry) (s : State) : Type 0 where
+  pub wired : WiredTo told s
+  pub quiet : (i : ℕ) → IsQuiet i (resting told s)
+
+module _ (m : Moment) (start : QuietTo m.told m.before) where
+  abbrev quiet_law : ℕ → Law m
+  quiet_law i = record {
+    holds = λ a. ((Basis a × LinkedAt a) × There a.state.bus) × IsQuiet i a;
+    basis = λ a h. h.0.0.0;
+    kept = λ a x h. (
+      (there_law m (start-absent m start.wired.links)).kept a x h.0,
+      quiet-kept m i start.wired.links.0 start.wired.links.1 start.wired.links.3 (start.quiet i)
+          a x h.0.0.0 h.0.0.1 h.0.1 h.1,
+    );
+  }
+
+  quiet-over : IsMoment m.event → (i : ℕ) → IsQuiet i (resting (m.told ++ told_at m) (after m))
+  quiet-over one i =
+      let l = start.wired.links in
+      let r = over-step m (quiet_law i) one (((l.0, l.1), l.3), start.quiet i) in
+      quiet-still i (record (resting (m.told ++ told_at m) (after m)) { wires = r.0 })
+      (resting (m.told ++ told_at m) (after m))
+      (view-rest i (record (resting (m.told ++ told_at m) (after m)) { wires = r.0 })
+      (resting (m.told ++ told_at m) (after m)) r.1.0.0.0 refl refl (λ h e. e))
+      (same-waits (after m).host) refl (λ q j. j) r.1.1
+
+quiet-first : (i : ℕ) → IsQuiet i (resting [] first_state)
+quiet-first i = record {
+  low = record {
+    restarts = tt;
+    low = λ r. absurd (not-both false r refl);
+    starts = λ hot. tt;
+  };
+  waits = λ x j. absurd j;
+  due = λ e q j. absurd (no-asks q j);
+  made = λ q n e. absurd cc;
+}
+
+pub quiet-throughout : HoldsByMoments QuietTo
+quiet-throughout =
+    throughout QuietTo (record { wired = wired-throughout [] tt; quiet = quiet-first })
+    (λ m one h. record { wired = wired-over m one h.wired; quiet = quiet-over m h one })
+
+-- ---- the law
+
+-- a removal that waits is among the items
+removal-waits : (i : ℕ) (b : Bus) (xs : List Item)
+    → list_any (is_removal i) (requests_among b xs) ≡ removed_in i b xs
+removal-waits i b [] = refl
+removal-waits i b (x ∷ xs) = by x (removal-waits i b xs)
+  where
+    asked : (o : Option Request) → list_any (is_removal i) (requests_among b xs) ≡ removed_in i b xs
+        → list_any (is_removal i) (request_onto o (requests_among b xs))
+        ≡ request_removes i o || removed_in i b xs
+    asked None h = h
+    asked (Some r) h = ap (λ t. is_removal i r || t) h
+
+    by : (y : Item) → list_any (is_removal i) (requests_among b xs) ≡ removed_in i b xs
+        → list_any (is_removal i) (requests_among b (y ∷ xs))
+        ≡ item_removes i b y || removed_in i b xs
+    by (Ask n) h = asked (request_of n b) h
+    by (Reply n result payload) h = h
+    by (Raw bytes) h = h
+    by (RawReply label kind result payload) h = h
+
+leaves : (told : List Entry) (s : State) → QuietTo told s → LeavesNothing told s
+leaves told s h = record {
+  low = low;
+  unwired = λ i r. each-from (λ c. is_wired_to i c ≡ false) s.bus.connections
+      (λ c live. none i r c live (is_wired_to i c) refl);
+}
+  where
+    low : (i : ℕ) → awaits_removal i s.bus ≡ true → level_of i s.ports ≤ 1
+    low i r = (h.quiet i).low.low (sym (removal-waits i s.bus (svc_items side.Ap s.bus)) ∙ r)
+
+    at-intf : (i : ℕ) (e : End) → is_at i e ≡ true → (p : ℕ) × (e ≡ end.Module i p)
+    at-intf i (end.Module j p) e = (p, ap (λ n. end.Module n p) (same-number j i e))
+    at-intf i (end.Ap a) e = absurd cc
+    at-intf i end.Svc e = absurd cc
+
+    both : (t u : Bool) → t && u ≡ true → (t ≡ true) × (u ≡ true)
+    both true true e = (refl, refl)
+    both true false e = absurd cc
+    both false u e = absurd cc
+
+    none : (i : ℕ) → awaits_removal i s.bus ≡ true → (c : Connection) → IsIn c s.bus.connections
+        → (t : Bool) → is_wired_to i c ≡ t → t ≡ false
+    none i r c live false e = refl
+    none i r c live true e =
+        let w = both c.wired (is_at i c.peer) e in
+        let at = at-intf i c.peer w.1 in
+        let six = h.wired.wired.routed c live w.0 i at.0 at.1 in
+        let one = low i r in
+        absurd (omega (arith, six, one))
+
+pub leaves-by_moments : HoldsByMoments LeavesNothing
+leaves-by_moments = weaker QuietTo LeavesNothing leaves quiet-throughout
+
+-- a removal that is handled waits before
+waits-before : (i : ℕ) (m : Moment) → HandlesRemoval i m → awaits_removal i m.before.bus ≡ true
+waits-before i m h = by (svc_items side.Ap m.before.bus) h.front
+  where
+    by : (xs : List Item) → first xs ≡ Some (Ask h.number)
+        → list_any (is_removal i) (requests_among m.before.bus xs) ≡ true
+    by [] e = absurd cc
+    by (x ∷ xs) e = subst (λ y. list_any (is_removal i)
+        (requests_among m.before.bus (y ∷ xs)) ≡ true) (sym (same-some x (Ask h.number) e))
+        (subst (λ o. list_any (is_removal i) (request_onto o (requests_among m.before.bus xs))
+        ≡ true) (sym h.made)
+        (ap (λ t. t || list_any (is_removal i) (requests_among m.before.bus xs)) h.passes))
+
+pub finds-at_moments : HoldsAtMoments FindsUnwired
+finds-at_moments = at_each QuietTo FindsUnwired quiet-throughout
+    (λ m one h i r. (leaves m.told m.before h).unwired i (waits-before i m r))

@@ -1,0 +1,94 @@
+-- What holds of every state that a run of valid events leads to.
+use Rattle.std.proofs.Common.{◌≡◌, Some, None, [], ◌∷◌, ◌++◌, refl, ap, ◌∙◌, subst}
+use Rattle.gb_base.specs.declared.end.End.{End}
+use Rattle.gb_base.specs.declared.end.End.TheVariants as end
+use Rattle.gb_base.specs.declared.end.Side.{Side}
+use Rattle.gb_base.specs.declared.end.Side.TheVariants as side
+use Rattle.gb_base.specs.declared.event.Event.{Event}
+use Rattle.gb_base.specs.declared.event.Event.TheVariants as event
+use Rattle.gb_formats.specs.ValidEvents.{IsEnd, IsValid}
+use Rattle.gb_invariants.proofs.Lists.{each-append}
+use Rattle.gb_laws.proofs.AllRuns.{of-all, of-state}
+use Rattle.gb_laws.proofs.LinkBuses.{Linked}
+use Rattle.gb_laws.proofs.LinkRuns.{LinkedTo, linked-throughout}
+use Rattle.gb_laws.proofs.Runs.{HoldsByMoments, weaker}
+use Rattle.gb_laws.proofs.SettleQueues.{first-waits}
+use Rattle.gb_laws.proofs.Settles.{IsSettleable, last-append}
+use Rattle.gb_laws.proofs.Settling.{settleable-by_moments}
+use Rattle.gb_laws.proofs.Single.{names-by_moments}
+use Rattle.gb_laws.proofs.Speaking.{SpeaksSvc, speaks-throughout}
+use Rattle.gb_laws.proofs.There.{There}
+use Rattle.gb_machine.proofs.Steps.{step-deliver}
+use Rattle.gb_machine.specs.Actions.{Told}
+use Rattle.gb_machine.specs.Arriving.{delivers}
+use Rattle.gb_machine.specs.Bus.{Connection, end_of}
+use Rattle.gb_machine.specs.Events.{step}
+use Rattle.gb_machine.specs.LawsBus.{NameRequests}
+use Rattle.gb_machine.specs.Reached.{OfARun}
+use Rattle.gb_machine.specs.Refusals.{refusal}
+use Rattle.gb_machine.specs.State.{State, first_state}
+use Rattle.gb_machine.specs.Waiting.{first_waiting}
+
+-- ---- which states are reached
+
+pub reached-first : OfARun first_state
+reached-first = record { events = []; valid = tt; is = refl }
+
+-- by one more event
+pub reached-step : (s : State) (e : Event) → IsValid e → OfARun s → OfARun (step s e).state
+reached-step s e valid r = record {
+  events = r.events ++ e ∷ [];
+  valid = each-append IsValid r.events (e ∷ []) r.valid (valid, tt);
+  is = last-append r.events (e ∷ []) first_state ∙ ap (λ t. (step t e).state) r.is;
+}
+
+-- by a delivery that isn't refused, alone or within a settle
+pub reached-delivery : (s : State) (at : End) → IsEnd at → refusal s (event.Deliver at) ≡ None
+    → OfARun s → OfARun (delivers at s).state
+reached-delivery s at valid free r =
+    subst OfARun (ap (λ (t : Told). t.state) (step-deliver s at free))
+    (reached-step s (event.Deliver at) valid r)
+
+-- ---- what holds there
+
+-- A fact that every run of moments leads to.
+pub reached-has : (Fact : State → Type 0) → HoldsByMoments (λ told s. Fact s)
+    → (s : State) → OfARun s → Fact s
+reached-has Fact holds s r =
+    subst Fact r.is (of-all (λ told t. Fact t) (of-state Fact) holds r.events r.valid)
+
+-- Names name requests that were made.
+pub reached-names : (s : State) → OfARun s → NameRequests s
+reached-names = reached-has NameRequests names-by_moments
+
+-- The application processor's connections go with the bus.
+pub reached-linked : (s : State) → OfARun s → Linked s.bus s.host []
+reached-linked = reached-has (λ s. Linked s.bus s.host [])
+    (weaker LinkedTo (λ told s. Linked s.bus s.host []) (λ told s h. h.1) linked-throughout)
+
+-- The supervisory controller's connection is there and wired, and speaks its protocol.
+pub reached-there : (s : State) → OfARun s → There s.bus
+reached-there = reached-has (λ s. There s.bus)
+    (weaker LinkedTo (λ told s. There s.bus) (λ told s h. h.3) linked-throughout)
+
+pub reached-speaks : (s : State) → OfARun s → SpeaksSvc s.bus
+reached-speaks = reached-has (λ s. SpeaksSvc s.bus) speaks-throughout
+
+-- Where something waits first is an end, and a delivery there isn't refused.
+pub record IsDue (s : State) (at : End) : Type 0 where
+  pub is_end : IsEnd at
+  pub free : refusal s (event.Deliver at) ≡ None
+
+pub reached-waiting : (s : State) (at : End) → OfARun s → first_waiting s.bus ≡ Some at → IsDue s at
+reached-waiting s at r waits =
+    let h = reached-has IsSettleable settleable-by_moments s r in
+    let f = first-waits s at h.deliverable waits in
+    record {
+      is_end = subst IsEnd f.at_end
+          (ended f.connection f.side (h.ends f.connection f.live f.wired));
+      free = f.free;
+    }
+  where
+    ended : (c : Connection) (t : Side) → IsEnd (end.Ap c.ap) × IsEnd c.peer → IsEnd (end_of t c)
+    ended c side.Ap h = h.0
+    ended c side.Far h = h.1

@@ -1,0 +1,5 @@
+use Rattle.gb_laws.proofs.EveryRun.{wired-routed}
+use Rattle.gb_laws.proofs.laws.wired_means_routed.Goals as goal
+
+pub returns : goal.returns
+returns c = wired-routed

@@ -1,0 +1,3 @@
+pub mod KindManifests
+pub mod Standing
+pub mod Stepping

@@ -1,0 +1,11 @@
+-- The places of the CPorts that were looked at, from the last one on, are known.
+use Rattle.std.proofs.Common.{◌≤◌, drop, length}
+use Rattle.gb_module.specs.Places.{AreFirst}
+use Rattle.gb_module.proofs.ports.Ports.new.Given as goal
+
+abbrev pub invariant-loop-left : goal.invariant-loop-left
+invariant-loop-left l =
+    (l.left ≤ length l.ports.items) × AreFirst l.places l.left (drop l.left l.ports.items)
+
+abbrev pub decreases-loop-left : goal.decreases-loop-left
+decreases-loop-left l = l.left

@@ -1,0 +1,30 @@
+-- The CPort with the number serves it, and no other changes.
+use Rattle.std.proofs.Common.{refl}
+use Rattle.gb_module.proofs.Standing.{found-at, none-stands}
+use Rattle.gb_module.proofs.Stepping.{serves-at, serves-number}
+use Rattle.gb_module.proofs.ports.Ports.serve.Goals as goal
+
+pub returns-in_default : goal.returns-in_default
+returns-in_default c manifest =
+    rw (none-stands c.args.number c.args.self.now c.place.result c.place.ensures.first
+    c.in_default.is) (c.refused.ensures, refl)
+
+pub invariant_of-self : goal.invariant_of-self
+invariant_of-self c =
+    let port = c.index_mut-port.result.now in
+    (found-at c.args.number c.args.self.now c.self.inside.ports.items c.place.result
+    c.in-Some.place port c.place.ensures.first c.in-Some.is c.self.view_is
+    c.index_mut-port.ensures.value).stay
+    c.self.inside.places c.self.invariant c.serve.new.self
+    (serves-number port c.serve.new.self c.args.kind c.args.payload.now c.serve.result
+    c.serve.ensures)
+
+pub returns : goal.returns
+returns c manifest =
+    let port = c.index_mut-port.result.now in
+    serves-at c.args.number c.args.self.now c.self.inside.ports.items c.in-Some.place port
+    c.serve.new.self c.args.kind c.args.payload.now manifest c.serve.result
+    (found-at c.args.number c.args.self.now c.self.inside.ports.items c.place.result
+    c.in-Some.place port c.place.ensures.first c.in-Some.is c.self.view_is
+    c.index_mut-port.ensures.value)
+    c.serve.ensures

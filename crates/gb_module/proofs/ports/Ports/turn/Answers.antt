@@ -1,0 +1,29 @@
+-- The CPort with the number has its state changed, and no other changes.
+use Rattle.std.proofs.Common.{refl}
+use Rattle.gb_module.proofs.Standing.{found-at, none-stands}
+use Rattle.gb_module.proofs.Stepping.{turns-at, turns-number}
+use Rattle.gb_module.proofs.ports.Ports.turn.Goals as goal
+
+pub returns-in_default : goal.returns-in_default
+returns-in_default c manifest =
+    rw (none-stands c.args.number c.args.self.now c.place.result c.place.ensures.first
+    c.in_default.is) refl
+
+pub invariant_of-self : goal.invariant_of-self
+invariant_of-self c =
+    let port = c.index_mut-port.result.now in
+    (found-at c.args.number c.args.self.now c.self.inside.ports.items c.place.result
+    c.in-Some.place port c.place.ensures.first c.in-Some.is c.self.view_is
+    c.index_mut-port.ensures.value).stay
+    c.self.inside.places c.self.invariant c.turn.new.self
+    (turns-number c.args.turn port c.turn.new.self c.turn.ensures.port)
+
+pub returns : goal.returns
+returns c manifest =
+    let port = c.index_mut-port.result.now in
+    turns-at c.args.number c.args.self.now c.self.inside.ports.items c.in-Some.place port
+    c.turn.new.self c.args.turn manifest c.turn.result
+    (found-at c.args.number c.args.self.now c.self.inside.ports.items c.place.result
+    c.in-Some.place port c.place.ensures.first c.in-Some.is c.self.view_is
+    c.index_mut-port.ensures.value)
+    c.turn.ensures.code c.turn.ensures.port

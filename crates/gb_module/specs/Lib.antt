@@ -1,0 +1,6 @@
+pub mod Places
+pub mod Raw
+pub mod Steps
+pub mod Stirring
+pub mod Turning
+pub mod Views

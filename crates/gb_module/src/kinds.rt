@@ -1,0 +1,109 @@
+//! The manifests of the kinds.
+
+ghost use Rattle.std.specs.Prelude.{◌≡◌, ◌++◌, IfOk, OnOk, map};
+ghost use Rattle.gb_formats.specs.Kinds as formats;
+ghost use Rattle.gb_manifest.specs.Writes.{cport_spec, spec_of};
+
+use crate::protocols::{BRIDGED_CLASS, CONTROL, CONTROL_CLASS, GPIO, I2C, SPI, UART};
+use gb_base::{Bytes, Kind, OutOfMemory};
+use gb_manifest::{
+    BundleSpec, Bundles, CportSpec, Cports, ManifestSpec, StringSpec, Strings, WriteFault, write,
+};
+use std::alloc::Global;
+
+/// The manifest of a kind.
+pub fn manifest(alloc: Global, kind: Kind) -> Result<Bytes, OutOfMemory>
+    ensures { IfOk result (λ bytes. bytes ≡ formats.kind_manifest kind) }
+{
+    let spec = spec(alloc, kind)?;
+    match write(alloc, &spec) {
+        Ok(bytes) => Ok(bytes),
+        Err(WriteFault::Memory(refused)) => Err(refused),
+        Err(_) => unreachable!(),
+    }
+}
+
+/// What the manifest of a kind has: strings 1 and 2 for vendor and product, bundle 0 with CPort 0
+/// for Control, and bundle 1 with the kind's CPorts.
+fn spec(alloc: Global, kind: Kind) -> Result<ManifestSpec, OutOfMemory>
+    ensures { IfOk result (λ spec. spec_of spec ≡ formats.kind_spec kind) }
+{
+    let mut strings = Strings::new(alloc);
+    strings.push(StringSpec {
+        id: 1,
+        bytes: Bytes::from_slice(alloc, b"Greybus")?,
+    })?;
+    strings.push(StringSpec {
+        id: 2,
+        bytes: Bytes::from_slice(alloc, product(kind))?,
+    })?;
+    let mut bundles = Bundles::new(alloc);
+    bundles.extend(&[
+        BundleSpec {
+            id: 0,
+            class: CONTROL_CLASS,
+        },
+        BundleSpec {
+            id: 1,
+            class: BRIDGED_CLASS,
+        },
+    ])?;
+    Ok(ManifestSpec {
+        minor: 1,
+        vendor: 1,
+        product: 2,
+        features: 0,
+        strings,
+        bundles,
+        cports: cports(alloc, kind)?,
+    })
+}
+
+/// The product string of a kind.
+fn product(kind: Kind) -> &'static [u8]
+    ensures { result.now ≡ formats.product_of kind }
+{
+    match kind {
+        Kind::Gpio => b"GPIO",
+        Kind::I2c => b"I2C",
+        Kind::Spi => b"SPI",
+        Kind::Uart => b"UART",
+        Kind::Bridge => b"Bridge",
+    }
+}
+
+/// All CPorts of a kind.
+fn cports(alloc: Global, kind: Kind) -> Result<Cports, OutOfMemory>
+    ensures { IfOk result (λ cports. map cport_spec cports ≡ (formats.kind_spec kind).cports) }
+{
+    let mut cports = Cports::new(alloc);
+    cports.push(CportSpec {
+        id: 0,
+        bundle: 0,
+        protocol: CONTROL,
+    })?;
+    match kind {
+        Kind::Gpio => cports.extend(&[bridged(1, GPIO)])?,
+        Kind::I2c => cports.extend(&[bridged(1, I2C)])?,
+        Kind::Spi => cports.extend(&[bridged(1, SPI)])?,
+        Kind::Uart => cports.extend(&[bridged(1, UART)])?,
+        Kind::Bridge => cports.extend(&[
+            bridged(1, GPIO),
+            bridged(2, I2C),
+            bridged(3, SPI),
+            bridged(4, UART),
+        ])?,
+    }
+    Ok(cports)
+}
+
+/// A CPort in bundle 1.
+fn bridged(id: u16, protocol: u8) -> CportSpec
+    ensures { cport_spec result ≡ formats.cport_of id 1 protocol }
+{
+    CportSpec {
+        id,
+        bundle: 1,
+        protocol,
+    }
+}

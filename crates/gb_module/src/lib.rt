@@ -1,0 +1,21 @@
+//! A module by itself: the bytes of its manifest, its CPorts with a device each, and its Control
+//! responder.
+#![tactic(auto)]
+
+mod control;
+mod cport_state;
+mod device;
+mod kinds;
+mod modules;
+mod port;
+mod ports;
+mod protocols;
+mod raw;
+mod stir;
+#[cfg(test)]
+mod tests;
+mod turn;
+
+pub use cport_state::CportState;
+pub use modules::Module;
+pub use stir::{Stir, StirFault};

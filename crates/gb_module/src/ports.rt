@@ -1,0 +1,117 @@
+//! The CPorts of a module.
+
+ghost use Rattle.std.specs.Prelude.{◌≡◌, ◌<◌, IfOk, IfSome, List, ℕ, length, find, option_copied};
+ghost use Rattle.std.specs.List.{position_from};
+ghost use Rattle.gb_bridge_payload.specs.Serving.{ServesAs};
+ghost use Rattle.gb_formats.specs.ControlResponder.{turn_step};
+ghost use Rattle.gb_formats.specs.Module.{is_port};
+ghost use Rattle.gb_formats.specs.ModuleSteps.{port_served, port_stirred};
+ghost use Rattle.gb_formats.specs.Results.{refusal_of};
+ghost use Rattle.gb_module.specs.Steps.{with_ports};
+ghost use Rattle.gb_module.specs.Stirring.{IsStir, StirsAs};
+ghost use Rattle.gb_module.specs.Turning.{changes, wants};
+ghost use Rattle.gb_module.specs.Views.{stir_of};
+
+use crate::port::Port;
+use crate::stir::{Stir, StirFault};
+use crate::turn::Turn;
+use gb_base::{OutOfMemory, OwnAsks, Served};
+use gb_bridge_payload::{NONEXISTENT, PROTOCOL_BAD, refused};
+use std::collections::BTreeMap;
+use std::marker::Model;
+
+/// The CPorts of a module that have a device, in the order of its manifest. A contract sees them as
+/// a list. The place of each number is kept, so that no look-up goes over all of them.
+#[derive(Drop)]
+pub struct Ports {
+    ports: Vec<Port>,
+    places: BTreeMap<u16, usize>,
+}
+
+impl Model for Ports {
+    ghost use Rattle.std.specs.Prelude.{List};
+    ghost use Rattle.gb_formats.specs.Module.{ModulePort};
+
+    ghost Value = { List ModulePort };
+
+    ghost use Rattle.gb_module.specs.Places.{AreFirst};
+
+    ghost view = { λ p. p.ports.items };
+
+    ghost invariant = { λ p. AreFirst p.places 0 p.ports.items };
+}
+
+impl Ports {
+    /// These CPorts.
+    pub fn new(ports: Vec<Port>) -> Result<Ports, OutOfMemory>
+        ensures { IfOk result (λ p. p ≡ ports.items) }
+    {
+        let mut places = BTreeMap::new(*ports.allocator());
+        let mut left = ports.len();
+        while left > 0 {
+            left -= 1;
+            places.insert(ports[left].number(), left)?;
+        }
+        Ok(Ports { ports, places })
+    }
+
+    /// The CPort with a number, None exactly where there is none.
+    pub fn get(&self, number: u16) -> Option<&Port>
+        ensures { option_copied result ≡ find (is_port number) self.now }
+    {
+        let place = self.place(number)?;
+        Some(&self.ports[place])
+    }
+
+    /// Changes the state of the CPort with a number. Answers the result of that: NONEXISTENT where
+    /// there is no such CPort, INVALID where it isn't in the state from which it changes so.
+    pub fn turn(&mut self, number: u16, turn: Turn) -> u8
+        ensures { (manifest : List ℕ) → turn_step (with_ports manifest self.old)
+            (find (is_port number) self.old) (wants turn) (changes turn)
+            ≡ record { after = with_ports manifest self.new; served = refusal_of result } }
+    {
+        let Some(place) = self.place(number) else {
+            return NONEXISTENT;
+        };
+        let port = &mut self.ports[place];
+        port.turn(turn)
+    }
+
+    /// Serves a request at the CPort with a number, which is PROTOCOL_BAD where there is no such
+    /// CPort. After want of memory all are as before.
+    pub fn serve(&mut self, number: u16, kind: u8, payload: &[u8]) -> Result<Served, OutOfMemory>
+        ensures { (manifest : List ℕ) → ServesAs (port_served (with_ports manifest self.old)
+            (find (is_port number) self.old) kind payload.now)
+            (with_ports manifest self.old) (with_ports manifest self.new) result }
+    {
+        let Some(place) = self.place(number) else {
+            return Ok(refused(*self.ports.allocator(), PROTOCOL_BAD));
+        };
+        let port = &mut self.ports[place];
+        port.serve(kind, payload)
+    }
+
+    /// What comes from outside to the device of the CPort with a number: answers the requests that
+    /// the device makes then. NoCport exactly where there is no such device. After each refusal all
+    /// are as before.
+    pub fn stir(&mut self, number: u16, what: Stir) -> Result<OwnAsks, StirFault>
+        requires { IsStir what }
+        ensures { (manifest : List ℕ) → StirsAs (port_stirred (with_ports manifest self.old)
+            (find (is_port number) self.old) (stir_of what))
+            (with_ports manifest self.old) (with_ports manifest self.new) result }
+    {
+        let Some(place) = self.place(number) else {
+            return Err(StirFault::NoCport);
+        };
+        let port = &mut self.ports[place];
+        port.stir(what)
+    }
+
+    /// Where the CPort with a number stands.
+    fn place(&self, number: u16) -> Option<usize>
+        ensures first { result ≡ position_from (is_port number) 0 self.now }
+        ensures within { IfSome result (λ place. place < length self.now) }
+    {
+        self.places.get(&number).copied()
+    }
+}
