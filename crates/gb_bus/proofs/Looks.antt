@@ -11,7 +11,7 @@ use Rattle.gb_bus.specs.Ends.{earlier, earlier_of}
 use Rattle.gb_bus.specs.Parts as parts
 use Rattle.gb_bus.specs.Parts.{earliest_in, earliest_of, is_none_left, joins, next_in, next_of, numbered, place_at, queue_of}
 use Rattle.gb_bus.specs.Stands.{StandForAll, Stands, StandsForConnection, StandsForQueue}
-use Rattle.gb_bus.specs.Wiring.{count_at}
+use Rattle.gb_bus.specs.Wiring.{count_at, ends_of, number_of}
 use Rattle.gb_bus.specs.declared.bus.Bus.{Bus}
 use Rattle.gb_bus.specs.declared.connection.Connection.{Connection}
 use Rattle.gb_bus.specs.declared.queue.Item.{Item}
@@ -222,3 +222,31 @@ wired-to-is rs i (x ∷ xs) (c ∷ cs) h =
     ∙ ap (λ t. c.wired && wiring.is_at i c.peer || t) (wired-to-is rs i xs cs h.1)
 wired-to-is rs i [] (c ∷ cs) h = absurd h
 wired-to-is rs i (x ∷ xs) [] h = absurd h
+
+-- ---- which ends a connection has, and which connection an end names
+
+-- the ends of a connection in code
+abbrev pub ends_in : Connection → ℕ × End
+ends_in x = (x.ap, x.peer)
+
+pub ends-is : (x : Bus) (b : machine.Bus) (k : ℕ)
+    → StandForAll b.requests x.connections b.connections
+    → option_map ends_in (find (numbered k) x.connections)
+    ≡ option_map ends_of (connection_of k b)
+ends-is x b k h =
+    same-of b.requests (option_map ends_in) (option_map ends_of) (find (numbered k) x.connections)
+    (connection_of k b)
+    refl (λ y c s. ap (λ a. Some (a, y.peer)) s.ap ∙ ap (λ e. Some (c.ap, e)) s.peer)
+    (found-number b.requests k x.connections b.connections h)
+
+pub named-is : (x : Bus) (b : machine.Bus) (at : End)
+    → StandForAll b.requests x.connections b.connections
+    → option_map (λ p. p.0) (place_at at x.connections)
+    ≡ option_map number_of (place_of at b.connections)
+named-is x b at h =
+    ap (option_map (λ p. p.0)) (place-is b.requests at x.connections b.connections h)
+    ∙ by (place_of at b.connections)
+  where
+    by : (o : Option Place) → option_map (λ p. p.0) (option_map told o) ≡ option_map number_of o
+    by None = refl
+    by (Some p) = refl

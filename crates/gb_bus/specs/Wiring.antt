@@ -1,5 +1,6 @@
 -- What a bus answers where connections are made, unwired or closed.
 use Rattle.std.specs.Prelude.{◌≡◌, ◌≢◌, ℕ, ◌==◌, false, Result, Ok, Err, List, ◌++◌, length, ⊤}
+use Rattle.gb_base.specs.declared.end.End.{End}
 use Rattle.gb_base.specs.declared.end.End.TheVariants as end
 use Rattle.gb_base.specs.declared.end.Side.{Side}
 use Rattle.gb_base.specs.declared.errors.OutOfMemory.{OutOfMemory}
@@ -48,3 +49,11 @@ pub record EndsAs (loose : List Loose) (new : Bus) (k : ℕ) (at : Side) (b afte
 -- how many items wait at a place
 abbrev pub count_at : Place → ℕ
 count_at p = length (queue p.side p.connection)
+
+-- the ends of a connection: the application processor's CPort and the far end
+abbrev pub ends_of : Connection → ℕ × End
+ends_of c = (c.ap, c.peer)
+
+-- the number of the connection of a place
+abbrev pub number_of : Place → ℕ
+number_of p = p.connection.number

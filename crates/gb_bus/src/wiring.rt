@@ -24,7 +24,15 @@ use gb_base::{End, Numbers, OutOfMemory, Side};
 
 impl Bus {
     ghost use Rattle.gb_bus.specs.Stands.{Stands};
-    ghost use Rattle.gb_bus.specs.Wiring.{AttachesAs, EndsAs, MayAttach, count_at, elsewhere};
+    ghost use Rattle.gb_bus.specs.Wiring.{
+      AttachesAs,
+      EndsAs,
+      MayAttach,
+      count_at,
+      elsewhere,
+      ends_of,
+      number_of,
+    };
 
     /// Makes a connection of a CPort of the application processor with a module's CPort, and
     /// answers its number. It isn't wired. No live connection has the CPort of the application
@@ -124,6 +132,25 @@ impl Bus {
             → result ≡ list_any (is_wired_to intf) b.connections }
     {
         self.connections.is_wired_to(intf)
+    }
+
+    /// The CPort of the application processor and the far end of a connection, None where it isn't
+    /// live.
+    pub fn ends(&self, k: u64) -> Option<(u16, End)>
+        ensures { (loose : List Loose) (b : machine.Bus) → Stands loose self.now b
+            → result ≡ option_map ends_of (connection_of k b) }
+    {
+        let connection = self.connections.get(k)?;
+        Some((connection.ap, connection.peer))
+    }
+
+    /// The wired connection that an end names, None where there is none.
+    pub fn named(&self, at: End) -> Option<u64>
+        ensures { (loose : List Loose) (b : machine.Bus) → Stands loose self.now b
+            → result ≡ option_map number_of (place_of at b.connections) }
+    {
+        let (connection, _) = self.connections.place(at)?;
+        Some(connection)
     }
 
     /// The first end at which something waits, in the order in which queues are settled.

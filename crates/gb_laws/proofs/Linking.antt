@@ -63,13 +63,13 @@ turn-fits m b (HostEvent.Removed i) h absent cause fits = fits-removed b i h fit
 turn-fits m b (HostEvent.Connect i c) h absent cause fits =
     fits-connects b i c h fits
     (subst (λ g. AreUnmet (connect_conditions i c g)) (sym cause.0)
-    (front-unmet (connect_conditions i c m.before.host) ((has_no_label 1 m.before, no_label) ∷ [])
+    (front-unmet (connect_conditions i c m.before.host) ((has_no_label 1 side.Ap m.before, no_label) ∷ [])
     (free m.before (event.Connect i c) cause.2))) cause.3
 turn-fits m b (HostEvent.Disconnect i c) h absent cause fits =
     fits-disconnects b i c h fits
     (subst (λ g. AreUnmet (disconnect_conditions i c g)) (sym cause.0)
     (front-unmet (disconnect_conditions i c m.before.host)
-    ((holds_of (λ k. has_no_label k m.before) (control_of i m.before.host), no_label) ∷ [])
+    ((holds_of (λ k. has_no_label k side.Ap m.before) (control_of i m.before.host), no_label) ∷ [])
     (free m.before (event.Disconnect i c) cause.2)))
 turn-fits m b (HostEvent.Ended n how) h absent cause fits = fits-ended b n how h fits
 

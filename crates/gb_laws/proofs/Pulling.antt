@@ -26,7 +26,7 @@ use Rattle.gb_machine.specs.Members.{Each, EachTwo, IsIn}
 use Rattle.gb_machine.specs.Modules.{is_plugged, is_plugged_at, unplugged}
 use Rattle.gb_machine.specs.OwnAsking.{svc_asks}
 use Rattle.gb_machine.specs.Plugging.{pulls, wired_numbers, with_pulled}
-use Rattle.gb_machine.specs.Refusals.{svc_has_no_label}
+use Rattle.gb_machine.specs.Refusals.{has_no_label}
 use Rattle.gb_machine.specs.State.{Plugged, State}
 use Rattle.gb_machine.specs.SvcQueues.{items_in, svc_items}
 use Rattle.gb_machine.specs.Wires.{unwires, with_unwired}
@@ -113,7 +113,7 @@ pulled-other i j ms e =
 
 -- A module is pulled.
 pub pull-kept : (i : ℕ) (s : State) → EachTwo IsBefore s.bus.connections → QueueIsAsked s.bus → Linked s.bus s.host [] → There s.bus
-    → svc_has_no_label s ≡ false → MarksFit s → MarksFit (pulls i s).state
+    → has_no_label 1 side.Far s ≡ false → MarksFit s → MarksFit (pulls i s).state
 unfolding machine_opened
 pull-kept i s rise asked links there free start = by s.booted refl
   where

@@ -217,7 +217,7 @@ module _ (m : Moment) (law : Law m) where
           let met = free s (event.Send name (end.Module i c) kind payload timeout) allowed in
           let linked = subst (λ o. AreUnmet (conditions_of (λ k.
           (is_kept k kind, why.Unsupported) ∷ (is_long_payload payload, why.TooLarge)
-          ∷ (has_no_label k.connection s, no_label) ∷ []) o)) e met.1.1.1.1.1 in
+          ∷ (has_no_label k.connection side.Ap s, no_label) ∷ []) o)) e met.1.1.1.1.1 in
           rests-sends_on name l.connection kind payload timeout s
           (inr (l, (found-in (is_link i c) s.host.links l e).0, refl)) linked.1.1.0
 
@@ -248,7 +248,7 @@ module _ (m : Moment) (law : Law m) where
       by (Some l) e =
           let met = free s (event.Bridge name i c what) allowed in
           let linked = subst (λ o. AreUnmet (conditions_of
-          (λ k. bridge_conditions k what ++ (has_no_label k.connection s, no_label) ∷ []) o)) e met.1.1.1.1.1 in
+          (λ k. bridge_conditions k what ++ (has_no_label k.connection side.Ap s, no_label) ∷ []) o)) e met.1.1.1.1.1 in
           sent_by l (found-in (is_link i c) s.host.links l e).0 linked.1.1.1.0
           (bridge_answer l.protocol what)
 

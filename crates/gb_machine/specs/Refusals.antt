@@ -4,6 +4,7 @@ use Rattle.std.specs.List.{list_any}
 use Rattle.gb_base.specs.declared.bridge.BridgeAsk.{BridgeAsk}
 use Rattle.gb_base.specs.declared.end.End.{End}
 use Rattle.gb_base.specs.declared.end.End.TheVariants as end
+use Rattle.gb_base.specs.declared.end.Side.{Side}
 use Rattle.gb_base.specs.declared.end.Side.TheVariants as side
 use Rattle.gb_base.specs.declared.event.Event.{Event}
 use Rattle.gb_base.specs.declared.event.Event.TheVariants as event
@@ -32,12 +33,8 @@ abbrev pub longest_manifest : ℕ
 longest_manifest = most_payload
 
 -- no identifier is left on a side of a connection
-abbrev pub has_no_label : ℕ → State → Bool
-has_no_label k s = is_none (next_label k side.Ap s.bus)
-
--- no identifier is left to the supervisory controller
-abbrev pub svc_has_no_label : State → Bool
-svc_has_no_label s = is_none (next_label 1 side.Far s.bus)
+abbrev pub has_no_label : ℕ → Side → State → Bool
+has_no_label k at s = is_none (next_label k at s.bus)
 
 -- ---- requests
 
@@ -56,7 +53,7 @@ svc_conditions s name kind payload =
     (is_bound name s, why.Occupied)
     ∷ (is_reserved kind, why.Unsupported)
     ∷ (is_long_payload payload, why.TooLarge)
-    ∷ (has_no_label 1 s, no_label)
+    ∷ (has_no_label 1 side.Ap s, no_label)
     ∷ []
 
 -- when a request to a CPort of a module is refused
@@ -67,7 +64,7 @@ module_conditions s name i c kind payload =
     ++ conditions_of (λ l.
     (is_kept l kind, why.Unsupported)
     ∷ (is_long_payload payload, why.TooLarge)
-    ∷ (has_no_label l.connection s, no_label)
+    ∷ (has_no_label l.connection side.Ap s, no_label)
     ∷ []) (link_at i c s.host)
 
 -- when a request that a script sends is refused, by its far end
@@ -82,7 +79,7 @@ line_conditions s name i c what =
     (is_bound name s, why.Occupied)
     ∷ send_conditions i c s.host
     ++ conditions_of (λ l.
-    bridge_conditions l what ++ (has_no_label l.connection s, no_label) ∷ [])
+    bridge_conditions l what ++ (has_no_label l.connection side.Ap s, no_label) ∷ [])
     (link_at i c s.host)
 
 -- ---- deliveries
@@ -129,7 +126,7 @@ abbrev pub insert_conditions : State → ℕ → List ℕ → List Condition
 insert_conditions s i manifest =
     (is_plugged i s.modules, why.Occupied)
     ∷ (nat_lt longest_manifest (length manifest), why.TooLarge)
-    ∷ (svc_has_no_label s, no_label)
+    ∷ (has_no_label 1 side.Far s, no_label)
     ∷ []
 
 -- when a device isn't there to be stirred from outside
@@ -148,12 +145,12 @@ conditions s event.Boot = (s.booted, why.Occupied) ∷ []
 conditions s (event.Insert i kind) = insert_conditions s i []
 conditions s (event.InsertRaw i manifest) = insert_conditions s i manifest
 conditions s (event.Pull i) =
-    (is_unplugged i s, why.NoInterface) ∷ (svc_has_no_label s, no_label) ∷ []
+    (is_unplugged i s, why.NoInterface) ∷ (has_no_label 1 side.Far s, no_label) ∷ []
 conditions s (event.Connect i c) =
-    connect_conditions i c s.host ++ (has_no_label 1 s, no_label) ∷ []
+    connect_conditions i c s.host ++ (has_no_label 1 side.Ap s, no_label) ∷ []
 conditions s (event.Disconnect i c) =
     disconnect_conditions i c s.host
-    ++ (holds_of (λ k. has_no_label k s) (control_of i s.host), no_label) ∷ []
+    ++ (holds_of (λ k. has_no_label k side.Ap s) (control_of i s.host), no_label) ∷ []
 conditions s (event.Send name to kind payload timeout) = send_to_conditions s name to kind payload
 conditions s (event.Bridge name i c what) = line_conditions s name i c what
 conditions s (event.Level i c line value) = stir_conditions s i c (Level line value)

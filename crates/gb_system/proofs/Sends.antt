@@ -32,9 +32,9 @@ use Rattle.gb_system.specs.declared.parties.Parties.{Parties}
 refusal_is : (x : Parties) (s : State) (name : Name) (kind : ℕ) (payload : List ℕ)
     → PartiesStand x s
     → first_met (svc_conditions s name kind payload)
-    ≡ first_met (early_conditions name x.names kind payload ++ (has_no_label 1 s, no_label) ∷ [])
+    ≡ first_met (early_conditions name x.names kind payload ++ (has_no_label 1 side.Ap s, no_label) ∷ [])
 refusal_is x s name kind payload st =
-    ap (λ ns. first_met (early_conditions name ns kind payload ++ (has_no_label 1 s, no_label) ∷
+    ap (λ ns. first_met (early_conditions name ns kind payload ++ (has_no_label 1 side.Ap s, no_label) ∷
     []))
     st.parts.names
 
@@ -70,7 +70,7 @@ pub send_refused : (x : Parties) (s : State) (name : Name) (kind : ℕ) (payload
 send_refused x s name kind payload timeout why es st h is =
     lands_refused x s (send_of name kind payload timeout) why es
     (refusal_is x s name kind payload st
-    ∙ met-early (early_conditions name x.names kind payload) ((has_no_label 1 s, no_label) ∷ []) why
+    ∙ met-early (early_conditions name x.names kind payload) ((has_no_label 1 side.Ap s, no_label) ∷ []) why
     h)
     is st.parts
 
@@ -83,10 +83,10 @@ last_refusal : (x : Parties) (s : State) (name : Name) (kind : ℕ) (payload : L
     → PartiesStand x s
     → early_refusal name x.names kind payload ≡ None
     → first_met (svc_conditions s name kind payload)
-    ≡ first_met ((has_no_label 1 s, no_label) ∷ [])
+    ≡ first_met ((has_no_label 1 side.Ap s, no_label) ∷ [])
 last_refusal x s name kind payload st h =
     refusal_is x s name kind payload st
-    ∙ met-late (early_conditions name x.names kind payload) ((has_no_label 1 s, no_label) ∷ []) h
+    ∙ met-late (early_conditions name x.names kind payload) ((has_no_label 1 side.Ap s, no_label) ∷ []) h
 
 -- the identifier of a request, since the supervisory controller's connection is live
 label_on_svc : (x : Parties) (s : State) (d : Draft) (o : Option ℕ) → PartiesStand x s
