@@ -1,3 +1,4 @@
+pub mod Acting
 pub mod Arriving
 pub mod Deciding
 pub mod Serving
