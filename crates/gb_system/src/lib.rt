@@ -1,11 +1,14 @@
 //! All parties of the bus, stepped by events.
 #![tactic(auto)]
 
+mod answering;
+mod asking;
 mod deciding;
 mod delivering;
 mod entries;
 mod message;
 mod names;
+mod modules;
 mod naming;
 mod parties;
 mod sending;
