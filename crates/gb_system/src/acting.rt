@@ -18,10 +18,10 @@ use gb_host::{Act, HostEvent};
 
 impl Parties {
     /// The application processor takes notice of something, and does what it does then.
-    pub fn notice(&mut self, event: &HostEvent, told: &mut Entries) -> Result<(), OutOfMemory>
+    pub fn notice(&mut self, event: HostEvent, told: &mut Entries) -> Result<(), OutOfMemory>
         ensures step { OnOk result ((s : State) → PartsStand [] self.old s
-            → MayTurn (event_of event.now) s
-            → Does self.new (notices (event_of event.now)) s told.old told.new) }
+            → MayTurn (event_of event) s
+            → Does self.new (notices (event_of event)) s told.old told.new) }
     {
         let acts = self.host.on(event)?;
         let mut skips = false;

@@ -26,7 +26,7 @@ impl Parties {
             return Ok(refused(self.alloc, Refusal::LabelsSpent)?);
         }
         let mut told = begun(self.alloc)?;
-        self.notice(&HostEvent::Connect { intf, cport }, &mut told)?;
+        self.notice(HostEvent::Connect { intf, cport }, &mut told)?;
         Ok(told)
     }
 
@@ -45,7 +45,7 @@ impl Parties {
             return Ok(refused(self.alloc, Refusal::LabelsSpent)?);
         }
         let mut told = begun(self.alloc)?;
-        self.notice(&HostEvent::Disconnect { intf, cport }, &mut told)?;
+        self.notice(HostEvent::Disconnect { intf, cport }, &mut told)?;
         Ok(told)
     }
 }

@@ -52,18 +52,24 @@ impl Parties {
             → PartsStep self.new s e.now result }
     {
         match e {
+            Event::Boot => self.boot(),
+            Event::Insert { intf, kind } => self.insert(*intf, *kind),
+            Event::Pull { intf } => self.pull(*intf),
+            Event::Connect { intf, cport } => self.connect(*intf, *cport),
+            Event::Disconnect { intf, cport } => self.disconnect(*intf, *cport),
             Event::Send {
                 name,
+                to,
                 kind,
                 payload,
                 timeout,
-                ..
-            } => self.send(name, *kind, payload.items(), *timeout),
+            } => self.send(name, *to, *kind, payload.items(), *timeout),
             Event::Deliver { at } => self.deliver(*at),
             Event::Settle { most } => self.settle(*most),
             Event::Cancel { name } => self.cancel(name),
             Event::Copy { from, to } => self.copy_name(from, to),
             Event::Forget { name } => self.forget_name(name),
+            Event::Show => self.show(),
             _ => unreachable!(),
         }
     }

@@ -31,8 +31,9 @@ impl Parties {
         self.svc_ask(0x01, &[0, 1], &mut told)?;
         self.svc_ask(0x02, &[1, 0, 1], &mut told)?;
         for i in 0..self.modules.count() {
-            let intf = self.modules.intf_at(i);
-            self.tell_inserted(intf, &mut told)?;
+            if let Some(intf) = self.modules.intf_at(i) {
+                self.tell_inserted(intf, &mut told)?;
+            }
         }
         Ok(told)
     }

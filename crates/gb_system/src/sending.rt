@@ -4,7 +4,7 @@ ghost use Rattle.std.specs.Prelude.{◌≡◌};
 ghost use Rattle.gb_base.specs.declared.event.Event.TheVariants as event;
 ghost use Rattle.gb_formats.specs.ValidEvents.{IsValid};
 ghost use Rattle.gb_machine.specs.State.{State};
-ghost use Rattle.gb_system.specs.Sending.{GoesAs};
+ghost use Rattle.gb_system.specs.Sending.{GoesAs, LeadsAs};
 ghost use Rattle.gb_system.specs.Stands.{PartiesStand, PartsStep};
 
 use crate::asking::Draft;
@@ -68,7 +68,7 @@ impl Parties {
 
     /// The connection to an end to which a request of this type is sent, or why none is.
     fn way_to(&self, to: End, kind: u8) -> Result<u64, Refusal>
-        ensures step { (s : State) → PartiesStand self.now s → LeadsAs s to kind result }
+        ensures step { (s : State) → PartiesStand self.now s → LeadsAs s.host to kind result }
     {
         match to {
             End::Svc if is_reserved(kind) => Err(Refusal::Unsupported),

@@ -105,7 +105,7 @@ impl Parties {
             told.push(entry)?;
         }
         if let Some(event) = served.then {
-            self.notice(&event, told)?;
+            self.notice(event, told)?;
         }
         Ok(())
     }
