@@ -4,6 +4,7 @@ pub mod Decisions
 pub mod Deliveries
 pub mod Known
 pub mod Landings
+pub mod Plugged
 pub mod Sends
 pub mod Served
 pub mod Serves

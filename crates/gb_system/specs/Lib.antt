@@ -3,6 +3,7 @@ pub mod Arriving
 pub mod Deciding
 pub mod Doing
 pub mod Drafts
+pub mod Plugging
 pub mod Serving
 pub mod Stands
 pub mod Told

@@ -5,6 +5,7 @@ mod deciding;
 mod delivering;
 mod entries;
 mod message;
+mod modules;
 mod names;
 mod naming;
 mod parties;
