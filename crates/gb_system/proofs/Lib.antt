@@ -1,11 +1,4 @@
-pub mod Cancels
-pub mod Copies
 pub mod Decisions
-pub mod Deliveries
-pub mod Known
-pub mod Landings
-pub mod Sends
-pub mod Served
-pub mod Serves
-pub mod Settles
+pub mod Doings
+pub mod Plugged
 pub mod SvcSteps

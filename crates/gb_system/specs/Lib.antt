@@ -3,6 +3,7 @@ pub mod Arriving
 pub mod Deciding
 pub mod Doing
 pub mod Drafts
+pub mod Plugging
 pub mod Sending
 pub mod Serving
 pub mod Stands
