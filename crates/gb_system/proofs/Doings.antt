@@ -40,65 +40,65 @@ unfolding machine_opened
 does-nothing {x} {s} {a} st = record { told_is = sym (append-nil a); stand = st }
 
 -- an entry is told
-pub does-tell : {x : Parties} {s : State} {a b : List Entry} {e : Entry} → PartsStand [] x s
+pub does-tell : {x : Parties} {s : State} {a b : List Entry} (e : Entry) → PartsStand [] x s
     → b ≡ a ++ e ∷ [] → Does x (tell e) s a b
 unfolding machine_opened
-does-tell st is = record { told_is = is; stand = st }
+does-tell e st is = record { told_is = is; stand = st }
 
 -- entries are told
-pub does-tell_all : {x : Parties} {s : State} {a b es : List Entry} → PartsStand [] x s
-    → b ≡ a ++ es → Does x (tell_all es) s a b
+pub does-tell_all : {x : Parties} {s : State} {a b : List Entry} (es : List Entry)
+    → PartsStand [] x s → b ≡ a ++ es → Does x (tell_all es) s a b
 unfolding machine_opened
-does-tell_all st is = record { told_is = is; stand = st }
+does-tell_all es st is = record { told_is = is; stand = st }
 
 -- the state changes
-pub does-change : {x : Parties} {f : State → State} {s : State} {a : List Entry}
+pub does-change : {x : Parties} {s : State} {a : List Entry} (f : State → State)
     → PartsStand [] x (f s) → Does x (change f) s a a
 unfolding machine_opened
-does-change {x} {f} {s} {a} st = record { told_is = sym (append-nil a); stand = st }
+does-change {x} {s} {a} f st = record { told_is = sym (append-nil a); stand = st }
 
 -- the bus part changes
-pub does-on_bus : {x : Parties} {f : Bus → Bus} {s : State} {a : List Entry}
+pub does-on_bus : {x : Parties} {s : State} {a : List Entry} (f : Bus → Bus)
     → PartsStand [] x (record s { bus = f s.bus }) → Does x (on_bus f) s a a
 unfolding machine_opened
-does-on_bus {x} {f} {s} {a} st = record { told_is = sym (append-nil a); stand = st }
+does-on_bus {x} {s} {a} f st = record { told_is = sym (append-nil a); stand = st }
 
 -- the application processor changes
-pub does-on_host : {x : Parties} {f : Host → Host} {s : State} {a : List Entry}
+pub does-on_host : {x : Parties} {s : State} {a : List Entry} (f : Host → Host)
     → PartsStand [] x (record s { host = f s.host }) → Does x (on_host f) s a a
 unfolding machine_opened
-does-on_host {x} {f} {s} {a} st = record { told_is = sym (append-nil a); stand = st }
+does-on_host {x} {s} {a} f st = record { told_is = sym (append-nil a); stand = st }
 
 -- what is done depends on the state
-pub does-by_state : {x : Parties} {f : State → Action} {s : State} {a b : List Entry}
+pub does-by_state : {x : Parties} {s : State} {a b : List Entry} (f : State → Action)
     → Does x (f s) s a b → Does x (by_state f) s a b
 unfolding machine_opened
-does-by_state d = d
+does-by_state f d = record { told_is = d.told_is; stand = d.stand }
 
 -- what is done with a value, which is there or not
-pub does-given : {A : Type 0} {x : Parties} {o : Option A} {f : A → Action} {s : State}
-    {a b : List Entry} (v : A) → o ≡ Some v → Does x (f v) s a b → Does x (given o f) s a b
+pub does-given : {A : Type 0} {x : Parties} {o : Option A} {s : State} {a b : List Entry}
+    (f : A → Action) (v : A) → o ≡ Some v → Does x (f v) s a b → Does x (given o f) s a b
 unfolding machine_opened
-does-given {A} {x} {o} {f} {s} {a} {b} v is d =
+does-given {A} {x} {o} {s} {a} {b} f v is d =
     subst (λ (p : Option A). Does x (given p f) s a b) (sym is) d
 
-pub does-given_none : {A : Type 0} {x : Parties} {o : Option A} {f : A → Action} {s : State}
-    {a : List Entry} → o ≡ None → PartsStand [] x s → Does x (given o f) s a a
+pub does-given_none : {A : Type 0} {x : Parties} {o : Option A} {s : State} {a : List Entry}
+    (f : A → Action) → o ≡ None → PartsStand [] x s → Does x (given o f) s a a
 unfolding machine_opened
-does-given_none {A} {x} {o} {f} {s} {a} is st =
+does-given_none {A} {x} {o} {s} {a} f is st =
     subst (λ (p : Option A). Does x (given p f) s a a) (sym is)
     (record { told_is = sym (append-nil a); stand = st })
 
 -- what is done on a condition
-pub does-when : {x : Parties} {t : Bool} {f : Action} {s : State} {a b : List Entry}
+pub does-when : {x : Parties} {t : Bool} {s : State} {a b : List Entry} (f : Action)
     → t ≡ true → Does x f s a b → Does x (when t f) s a b
 unfolding machine_opened
-does-when {x} {t} {f} {s} {a} {b} is d =
+does-when {x} {t} {s} {a} {b} f is d =
     subst (λ (u : Bool). Does x (when u f) s a b) (sym is) d
 
-pub does-unless : {x : Parties} {t : Bool} {f : Action} {s : State} {a : List Entry}
+pub does-unless : {x : Parties} {t : Bool} {s : State} {a : List Entry} (f : Action)
     → t ≡ false → PartsStand [] x s → Does x (when t f) s a a
 unfolding machine_opened
-does-unless {x} {t} {f} {s} {a} is st =
+does-unless {x} {t} {s} {a} f is st =
     subst (λ (u : Bool). Does x (when u f) s a a) (sym is)
     (record { told_is = sym (append-nil a); stand = st })

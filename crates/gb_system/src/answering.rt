@@ -1,6 +1,6 @@
 //! Requests that are delivered, and their answers.
 
-ghost use Rattle.std.specs.Prelude.{◌≡◌, ◌≤◌, ◌∷◌, [], ℕ, Some, IfOk, OnOk, length};
+ghost use Rattle.std.specs.Prelude.{◌≡◌, ◌≤◌, ◌<◌, ◌∷◌, [], ℕ, Some, IfOk, OnOk, length};
 ghost use Rattle.gb_bus.specs.Delivering.{MayReply, taken_from};
 ghost use Rattle.gb_formats.specs.Results.{most_payload};
 ghost use Rattle.gb_machine.specs.Bus as machine;

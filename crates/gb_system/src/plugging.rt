@@ -1,8 +1,8 @@
 //! The start of the supervisory controller, and modules that come and go.
 
-ghost use Rattle.std.specs.Prelude.{◌≡◌, [], ℕ, List, OnOk};
+ghost use Rattle.std.specs.Prelude.{◌≡◌, [], false, OnOk};
 ghost use Rattle.gb_base.specs.declared.event.Event.TheVariants as event;
-ghost use Rattle.gb_formats.specs.ValidEvents.{IsInterface};
+ghost use Rattle.gb_formats.specs.ValidEvents.{IsIntf};
 ghost use Rattle.gb_machine.specs.OwnAsking.{far_asks};
 ghost use Rattle.gb_machine.specs.Plugging.{tells_inserted};
 ghost use Rattle.gb_machine.specs.State.{State};
@@ -40,7 +40,7 @@ impl Parties {
 
     /// A module of a kind is plugged at an interface, 2 to 31.
     pub fn insert(&mut self, intf: u8, kind: Kind) -> Result<Entries, OutOfMemory>
-        requires { IsInterface intf }
+        requires { IsIntf intf }
         ensures step { (s : State) → PartiesStand self.old s
             → PartsStep self.new s (event.Insert intf kind) result }
     {
@@ -62,7 +62,7 @@ impl Parties {
     /// The module at an interface, 2 to 31, is pulled: its connections are unwired in order of
     /// number.
     pub fn pull(&mut self, intf: u8) -> Result<Entries, OutOfMemory>
-        requires { IsInterface intf }
+        requires { IsIntf intf }
         ensures step { (s : State) → PartiesStand self.old s
             → PartsStep self.new s (event.Pull intf) result }
     {

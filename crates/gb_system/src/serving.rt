@@ -17,6 +17,7 @@ use crate::parties::Parties;
 use crate::svc::SVC;
 use gb_base::{End, Entries, Entry, OutOfMemory, Side};
 use gb_bus::Asked;
+use gb_host::HostServed;
 
 /// The result of an operation that succeeded (Greybus Specification, "Operation Status Values").
 const SUCCESS: u8 = 0;
@@ -94,17 +95,21 @@ impl Parties {
             → MayServe side.Ap c (incoming n d.request) s
             → Does self.new (serves side.Ap c (incoming n d.request)) s told.old told.new) }
     {
-        let served = self.host.serve(connection, asked.kind, payload)?;
+        let HostServed {
+            result: code,
+            payload: answer,
+            tell,
+            then,
+        } = self.host.serve(connection, asked.kind, payload)?;
         if asked.label != 0 {
-            let answer = served.payload.items();
-            self.answer(connection, Side::Ap, asked, served.result, answer, told)?;
-        } else if served.result != SUCCESS {
+            self.answer(connection, Side::Ap, asked, code, answer.items(), told)?;
+        } else if code != SUCCESS {
             told.push(Entry::Ignored { kind: asked.kind })?;
         }
-        if let Some(entry) = served.tell {
+        if let Some(entry) = tell {
             told.push(entry)?;
         }
-        if let Some(event) = served.then {
+        if let Some(event) = then {
             self.notice(event, told)?;
         }
         Ok(())
