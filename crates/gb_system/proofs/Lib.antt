@@ -1,4 +1,6 @@
+pub mod Asks
 pub mod Decisions
 pub mod Doings
 pub mod Plugged
+pub mod Standing
 pub mod SvcSteps
