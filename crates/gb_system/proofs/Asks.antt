@@ -8,25 +8,28 @@ use Rattle.gb_base.specs.declared.end.Side.TheVariants as side
 use Rattle.gb_base.specs.declared.entry.Entry.{Entry}
 use Rattle.gb_base.specs.declared.entry.Entry.TheVariants as entry
 use Rattle.gb_base.specs.declared.outcome.Outcome.TheVariants as outcome
+use Rattle.gb_base.specs.declared.served.OwnAsk.{OwnAsk}
 use Rattle.gb_bus.specs.Sending.{Sends, SendsNone, label_on}
 use Rattle.gb_bus.specs.Wiring.{ends_of}
 use Rattle.gb_bus.specs.declared.answers.Sent.{Sent}
 use Rattle.gb_bus.specs.declared.bus.Bus.{Bus}
+use Rattle.gb_formats.specs.Grammar.{default_timeout}
 use Rattle.gb_formats.specs.Message.{message_size, request, spelling}
 use Rattle.gb_machine.proofs.Opened.{machine_opened}
 use Rattle.gb_machine.proofs.Steps.{told, with_bus}
-use Rattle.gb_machine.specs.Actions.{Action, given, on_bus, tell, when, ◌▸◌}
+use Rattle.gb_machine.specs.Actions.{Action, given, nothing, on_bus, tell, when, ◌▸◌}
 use Rattle.gb_machine.specs.Asking.{asked, asks, asks_with}
 use Rattle.gb_machine.specs.Bus as machine
 use Rattle.gb_machine.specs.Bus.{Connection, connection_of, end_of, next_number, other_side}
 use Rattle.gb_machine.specs.Labels.{fresh_label, greatest_label, last_label, next_label}
-use Rattle.gb_machine.specs.Sending.{Draft, is_lost, label_for, requested, sent}
+use Rattle.gb_machine.specs.OwnAsking.{far_asks, far_asks_all}
+use Rattle.gb_machine.specs.Sending.{Draft, draft, is_lost, is_wired, label_for, requested, sent}
 use Rattle.gb_machine.specs.State.{State}
-use Rattle.gb_system.proofs.Doings.{does-given, does-given_none, does-is}
+use Rattle.gb_system.proofs.Doings.{does-given, does-given_none, does-is, does-unless, does-when}
 use Rattle.gb_system.proofs.Standing.{each_more, rebussed}
 use Rattle.gb_system.specs.Acting.{IsAskable}
 use Rattle.gb_system.specs.Doing.{Does}
-use Rattle.gb_system.specs.Drafts.{ask_told, end_at}
+use Rattle.gb_system.specs.Drafts.{ask_told, end_at, own_ask}
 use Rattle.gb_system.specs.Stands.{AreSound, IsSound, PartsStand, held_items}
 use Rattle.gb_system.specs.declared.parties.Parties.{Parties}
 
@@ -232,3 +235,41 @@ ask-made {x} {s} {a} {b} y d ends r st askable twoway has sends appended =
         ∙ ap (λ u. a ++ ask_told d.side ends r.number r.label d.kind d.payload r.lost
         ∷ cond u (entry.Ended r.number outcome.Sent reading.Nothing ∷ []) []) o
         ∙ ap (λ f. a ++ f ∷ []) (same_told c e)) stands
+
+-- ---- requests of a far side
+
+-- a request of a far side, where its connection is wired
+pub far-asked : {x : Parties} {s : State} {a b : List Entry} (k kind : ℕ) (payload : List ℕ)
+    (oneway : Bool) → s.now ≡ 0 → true ≡ is_wired (connection_of k s.bus)
+    → Does x (asks (draft k side.Far kind payload 1000 oneway)) s a b
+    → Does x (far_asks k (own_ask kind payload oneway)) s a b
+unfolding machine_opened
+far-asked {x} {s} {a} {b} k kind payload oneway time wires d =
+    let e : Does x (when (is_wired (connection_of k s.bus))
+    (asks (draft k side.Far kind payload (s.now + default_timeout) oneway))) s a b =
+    does-when (asks (draft k side.Far kind payload (s.now + default_timeout) oneway)) (sym wires)
+    (subst (λ n. Does x (asks (draft k side.Far kind payload (n + default_timeout) oneway)) s a b)
+    (sym time) d) in
+    record { told_is = e.told_is; stand = e.stand }
+
+-- and where it isn't
+pub far-unasked : {x : Parties} {s : State} {a : List Entry} (k kind : ℕ) (payload : List ℕ)
+    (oneway : Bool) → false ≡ is_wired (connection_of k s.bus) → PartsStand [] x s
+    → Does x (far_asks k (own_ask kind payload oneway)) s a a
+unfolding machine_opened
+far-unasked {x} {s} {a} k kind payload oneway wires st =
+    let e : Does x (when (is_wired (connection_of k s.bus))
+    (asks (draft k side.Far kind payload (s.now + default_timeout) oneway))) s a a =
+    does-unless (asks (draft k side.Far kind payload (s.now + default_timeout) oneway))
+    (sym wires) st in
+    record { told_is = e.told_is; stand = e.stand }
+
+-- requests of a far side: the first, and the rest
+pub far-cons : (k : ℕ) (own : OwnAsk) (rest : List OwnAsk)
+    → far_asks_all k (own ∷ rest) ≡ far_asks k own ▸ far_asks_all k rest
+unfolding machine_opened
+far-cons k own rest = refl
+
+pub far-nil : (k : ℕ) → far_asks_all k [] ≡ nothing
+unfolding machine_opened
+far-nil k = refl
