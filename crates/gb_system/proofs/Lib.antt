@@ -2,6 +2,7 @@ pub mod Cancels
 pub mod Copies
 pub mod Decisions
 pub mod Deliveries
+pub mod Fits
 pub mod Known
 pub mod Landings
 pub mod Plugged
