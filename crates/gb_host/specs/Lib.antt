@@ -1,3 +1,4 @@
+pub mod Asking
 pub mod Bridging
 pub mod Changes
 pub mod Refusing

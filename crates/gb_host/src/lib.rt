@@ -3,17 +3,25 @@
 #![tactic(auto)]
 
 mod acts;
+mod asking;
 mod bridging;
+mod connecting;
+mod enumerating;
 mod events;
 mod failing;
 mod host;
 mod interfaces;
+mod kinds;
 mod links;
+mod payloads;
 mod protocols;
 mod refusing;
+mod removing;
+mod replies;
 mod serving;
 #[cfg(test)]
 mod tests;
+mod turning;
 mod waiting;
 
 pub use acts::{Act, Acts};

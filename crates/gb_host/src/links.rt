@@ -1,12 +1,14 @@
 //! The connections to modules.
 
-ghost use Rattle.std.specs.Prelude.{◌≡◌, ◌==◌, ◌<◌, ◌∷◌, [], ◌++◌, IfSome, find, length};
+ghost use Rattle.std.specs.Prelude.{◌≡◌, ◌==◌, ◌<◌, ◌∷◌, [], ◌++◌, None, IfSome, OnOk, find, length};
 ghost use Rattle.std.specs.List.{list_any, position_from};
 ghost use Rattle.gb_machine.specs.Host.{in_state, is_link};
 ghost use Rattle.gb_machine.specs.HostServing.{with_credits};
-ghost use Rattle.gb_machine.specs.Lists.{at_first, first_free};
+ghost use Rattle.gb_machine.specs.Lists.{at_first, first_free, without};
+ghost use Rattle.gb_machine.specs.Waits.{link_waits};
 
-use gb_base::{ConnState, Link, SequenceStep};
+use crate::waiting::purpose_in;
+use gb_base::{ConnState, Link, OutOfMemory, Purpose, SequenceStep};
 use std::alloc::Global;
 
 /// The least CPort of the application processor that a connection to a module has.
@@ -31,6 +33,13 @@ impl Links {
         Links {
             live: Vec::new(alloc),
         }
+    }
+
+    /// The connections in order of number.
+    pub fn items(&self) -> &[Link]
+        ensures { result.now ≡ self.now.live.items }
+    {
+        self.live.as_slice()
     }
 
     /// The connection to a CPort of an interface.
@@ -63,6 +72,66 @@ impl Links {
             }
         }
         None
+    }
+
+    /// The purpose of a request that a connect or close waits for.
+    pub fn waiting(&self, number: u64) -> Option<Purpose>
+        ensures { result ≡ link_waits number self.now.live.items }
+    {
+        for link in &self.live {
+            if let Some(purpose) = purpose_in(number, link.intf, link.cport, link.awaits) {
+                return Some(purpose);
+            }
+        }
+        None
+    }
+
+    /// What the connect or close of a connection waits for.
+    pub fn awaits(&self, intf: u8, cport: u16) -> Option<(u64, SequenceStep)>
+        ensures { at_first (is_link intf cport) (link_awaits result)
+            (at_first (is_link intf cport) (link_awaits None) self.now.live.items)
+            ≡ self.now.live.items }
+    {
+        match self.at(intf, cport) {
+            Some(link) => link.awaits,
+            None => None,
+        }
+    }
+
+    /// The state of a connection that another state is about to replace.
+    pub fn state(&self, intf: u8, cport: u16, to: ConnState) -> ConnState
+        ensures { at_first (is_link intf cport) (in_state result)
+            (at_first (is_link intf cport) (in_state to) self.now.live.items)
+            ≡ self.now.live.items }
+    {
+        match self.at(intf, cport) {
+            Some(link) => link.state,
+            None => to,
+        }
+    }
+
+    /// A connection more will take no memory.
+    pub fn reserve(&mut self) -> Result<(), OutOfMemory>
+        ensures room { OnOk result (HasRoom self.new) }
+        ensures same { self.new.live.items ≡ self.old.live.items }
+    {
+        self.live.reserve(1)?;
+        Ok(())
+    }
+
+    /// The connection to a CPort of an interface is there no more.
+    pub fn remove(&mut self, intf: u8, cport: u16)
+        ensures { self.new.live.items ≡ without (is_link intf cport) self.old.live.items }
+    {
+        self.live
+            .retain(|link| link.intf != intf || link.cport != cport);
+    }
+
+    /// The connections of an interface are there no more.
+    pub fn remove_all(&mut self, intf: u8)
+        ensures { self.new.live.items ≡ without (λ l. l.intf == intf) self.old.live.items }
+    {
+        self.live.retain(|link| link.intf != intf);
     }
 
     /// A connection goes to the end.

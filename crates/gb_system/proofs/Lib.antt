@@ -1,13 +1,5 @@
-pub mod Cancels
-pub mod Copies
 pub mod Decisions
-pub mod Deliveries
+pub mod Doings
 pub mod Fits
-pub mod Known
-pub mod Landings
 pub mod Plugged
-pub mod Sends
-pub mod Served
-pub mod Serves
-pub mod Settles
 pub mod SvcSteps

@@ -6,6 +6,7 @@ use Rattle.gb_base.specs.declared.end.Side.{Side}
 use Rattle.gb_base.specs.declared.end.Side.TheVariants as side
 use Rattle.gb_base.specs.declared.entry.Entry.{Entry}
 use Rattle.gb_base.specs.declared.entry.Entry.TheVariants as entry
+use Rattle.gb_base.specs.declared.served.OwnAsk.{OwnAsk}
 use Rattle.gb_formats.specs.Message.{message_size, request, response, spelling}
 use Rattle.gb_machine.specs.Bus.{other_side}
 use Rattle.gb_machine.specs.Sending as machine
@@ -21,6 +22,10 @@ draft_of q = record {
   deadline = q.deadline;
   oneway = q.oneway;
 }
+
+-- a request that a far side makes of its own
+abbrev pub own_ask : ℕ → List ℕ → Bool → OwnAsk
+own_ask kind payload oneway = record { kind = kind; payload = payload; oneway = oneway }
 
 -- the end of a side of a connection between these ends
 abbrev pub end_at : Side → ℕ × End → End

@@ -4,6 +4,7 @@ pub mod Deciding
 pub mod Doing
 pub mod Drafts
 pub mod Plugging
+pub mod Sending
 pub mod Serving
 pub mod Stands
 pub mod Told

@@ -1,6 +1,6 @@
 //! Requests that are made, and told.
 
-ghost use Rattle.std.specs.Prelude.{◌≡◌, IfOk, OnOk, option_map};
+ghost use Rattle.std.specs.Prelude.{◌≡◌, [], IfOk, OnOk, option_map};
 ghost use Rattle.gb_bus.specs.Sending.{label_on};
 ghost use Rattle.gb_machine.specs.Asking.{asks};
 ghost use Rattle.gb_machine.specs.Bus.{next_number, other_side};
@@ -8,7 +8,7 @@ ghost use Rattle.gb_machine.specs.OwnAsking.{far_asks, far_asks_all};
 ghost use Rattle.gb_machine.specs.State.{State};
 ghost use Rattle.gb_system.specs.Acting.{AreAskable, IsAskable};
 ghost use Rattle.gb_system.specs.Doing.{Does};
-ghost use Rattle.gb_system.specs.Drafts.{ask_told, draft_of, end_at};
+ghost use Rattle.gb_system.specs.Drafts.{ask_told, draft_of, end_at, own_ask};
 ghost use Rattle.gb_system.specs.Stands.{PartsStand};
 
 use crate::message::{request_bytes, size_of};
@@ -78,21 +78,24 @@ impl Parties {
     pub fn far_ask(
         &mut self,
         connection: u64,
-        own: &OwnAsk,
+        kind: u8,
+        payload: &[u8],
+        oneway: bool,
         told: &mut Entries,
     ) -> Result<(), OutOfMemory>
         ensures step { OnOk result ((s : State) → PartsStand [] self.old s
-            → IsAskable own.now.kind own.now.payload
-            → Does self.new (far_asks connection own.now) s told.old told.new) }
+            → IsAskable kind payload.now
+            → Does self.new (far_asks connection (own_ask kind payload.now oneway)) s told.old
+            told.new) }
     {
         if self.bus.is_wired(connection) {
             let q = Draft {
                 connection,
                 side: Side::Far,
-                kind: own.kind,
-                payload: own.payload.items(),
+                kind,
+                payload,
                 deadline: DEFAULT_TIMEOUT,
-                oneway: own.oneway,
+                oneway,
             };
             self.ask(&q, told)?;
         }
@@ -111,7 +114,7 @@ impl Parties {
             → Does self.new (far_asks_all connection own.now) s told.old told.new) }
     {
         for ask in own {
-            self.far_ask(connection, ask, told)?;
+            self.far_ask(connection, ask.kind, ask.payload.items(), ask.oneway, told)?;
         }
         Ok(())
     }
