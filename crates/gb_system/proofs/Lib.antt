@@ -1,7 +1,9 @@
 pub mod Asks
 pub mod Decisions
 pub mod Doings
+pub mod Fits
 pub mod Midways
+pub mod ModuleServes
 pub mod Plugged
 pub mod Standing
 pub mod SvcSteps
