@@ -81,5 +81,6 @@ pub mod Taking
 pub mod Telling
 pub mod There
 pub mod Ticking
+pub mod Turned
 pub mod WiredRuns
 pub mod WiredWell

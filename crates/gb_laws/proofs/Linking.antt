@@ -37,7 +37,7 @@ use Rattle.gb_machine.specs.HostRefusals.{connect_conditions, disconnect_conditi
 use Rattle.gb_machine.specs.HostTurns.{host_turn}
 use Rattle.gb_machine.specs.Members.{IsIn}
 use Rattle.gb_machine.specs.Runs.{Moment}
-use Rattle.gb_machine.specs.Turns.{Act, HostEvent}
+use Rattle.gb_machine.specs.Turns.{Act, HostEvent, Turn}
 
 -- an interface whose insertion is handled at a moment is absent
 abbrev pub InsertsAbsent : Moment → Type 0
@@ -88,15 +88,21 @@ followed-known c ls after acts f (linked l i of) = by (f l i)
     })
     by (leaves j) = leaving (subst (λ n. IsIn (Act.Leave n) acts) (sym of.number) j)
 
-linked-turn : (m : Moment) (b : Bus) (e : HostEvent) (h : Host) → InsertsAbsent m → IsCaused m e h → Linked b h [] → Linked b (host_turn e h).host (host_turn e h).acts
-linked-turn m b e h absent cause f = let t = turn-fits m b e h absent cause f.host in record {
-  host = t.host;
-  pending = t.pending;
-  known = λ c live. followed-known c h.links (host_turn e h).host.links (host_turn e h).acts
-      (λ l i. t.followed l (subst (λ ls. IsIn l ls) (sym (same-links e h)) i)) (f.known c live);
+-- The facts of connections behind a turn, before its acts are done.
+pub linked-fits : {b : Bus} {h g : Host} {t : Turn} → g.links ≡ h.links → TurnFits b g t
+    → Linked b h [] → Linked b t.host t.acts
+linked-fits {b} {h} {g} {t} same fits f = record {
+  host = fits.host;
+  pending = fits.pending;
+  known = λ c live. followed-known c h.links t.host.links t.acts
+      (λ l i. fits.followed l (subst (λ ls. IsIn l ls) (sym same) i)) (f.known c live);
   svc = f.svc;
   made = f.made;
 }
+
+linked-turn : (m : Moment) (b : Bus) (e : HostEvent) (h : Host) → InsertsAbsent m → IsCaused m e h → Linked b h [] → Linked b (host_turn e h).host (host_turn e h).acts
+linked-turn m b e h absent cause f =
+    linked-fits (same-links e h) (turn-fits m b e h absent cause f.host) f
 
 -- The application processor's connections at a point.
 abbrev pub LinkedAt : Point → Type 0

@@ -9,3 +9,4 @@ pub mod Served
 pub mod Serves
 pub mod Settles
 pub mod SvcSteps
+pub mod Turning
