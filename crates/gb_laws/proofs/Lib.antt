@@ -22,6 +22,7 @@ pub mod Knowing
 pub mod Levels
 pub mod LinkActs
 pub mod LinkBuses
+pub mod LinkChanges
 pub mod LinkClosing
 pub mod LinkHosts
 pub mod LinkLaw

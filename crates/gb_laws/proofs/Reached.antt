@@ -61,15 +61,28 @@ reached-has Fact holds s r =
 pub reached-names : (s : State) → OfARun s → NameRequests s
 reached-names = reached-has NameRequests names-by_moments
 
+-- The bus keeps its facts, the application processor's connections go with it, and insertions and
+-- removals come in turn.
+pub reached-told : (s : State) → OfARun s → LinkedTo [] s
+reached-told = reached-has (LinkedTo [])
+    (weaker LinkedTo (λ told s. LinkedTo [] s) (λ told s h. (
+      record {
+        bus = h.0.bus;
+        names = h.0.names;
+        hand = h.0.hand;
+      },
+      h.1,
+      h.2,
+      h.3,
+    )) linked-throughout)
+
 -- The application processor's connections go with the bus.
 pub reached-linked : (s : State) → OfARun s → Linked s.bus s.host []
-reached-linked = reached-has (λ s. Linked s.bus s.host [])
-    (weaker LinkedTo (λ told s. Linked s.bus s.host []) (λ told s h. h.1) linked-throughout)
+reached-linked s r = (reached-told s r).1
 
 -- The supervisory controller's connection is there and wired, and speaks its protocol.
 pub reached-there : (s : State) → OfARun s → There s.bus
-reached-there = reached-has (λ s. There s.bus)
-    (weaker LinkedTo (λ told s. There s.bus) (λ told s h. h.3) linked-throughout)
+reached-there s r = (reached-told s r).3
 
 pub reached-speaks : (s : State) → OfARun s → SpeaksSvc s.bus
 reached-speaks = reached-has (λ s. SpeaksSvc s.bus) speaks-throughout

@@ -1,11 +1,11 @@
 -- What the application processor does of its own is possible, since its connections go with the
 -- bus.
-use Rattle.std.proofs.Common.{◌≡◌, ◌≤◌, ◌<◌, ℕ, Bool, false, None, List, [], ◌∷◌, length, refl, sym, ap, ◌∙◌, inl, inr, subst, arith}
+use Rattle.std.proofs.Common.{◌≡◌, ◌≤◌, ◌<◌, ℕ, Some, None, List, [], ◌∷◌, length, refl, sym, ap, ◌∙◌, inl, inr, subst, arith}
 use Rattle.gb_base.specs.declared.end.End.{End}
 use Rattle.gb_base.specs.declared.end.End.TheVariants as end
+use Rattle.gb_base.specs.declared.end.Side.TheVariants as side
 use Rattle.gb_base.specs.declared.event.Event.TheVariants as event
 use Rattle.gb_base.specs.declared.outcome.Outcome.{Outcome}
-use Rattle.gb_base.specs.declared.peers.Link.{Link}
 use Rattle.gb_base.specs.declared.steps.SequenceStep.{SequenceStep}
 use Rattle.gb_base.specs.declared.steps.SequenceStep.TheVariants as steps
 use Rattle.gb_bus.specs.Wiring.{IsOther}
@@ -13,18 +13,22 @@ use Rattle.gb_formats.specs.Results.{most_payload}
 use Rattle.gb_formats.specs.ValidEvents.{IsValid}
 use Rattle.gb_invariants.proofs.Lists.{each-from}
 use Rattle.gb_laws.proofs.LinkBuses.{Linked, linked-left, linked-rest, linked-shut}
+use Rattle.gb_laws.proofs.LinkChanges.{linked-popped, linked-replied}
 use Rattle.gb_laws.proofs.Links.{IsFormed, IsFree, IsKnown, leaving, linked, supervisory}
 use Rattle.gb_laws.proofs.Reached.{reached-linked}
-use Rattle.gb_laws.proofs.Turned.{turned-connects, turned-disconnects, turned-ended}
-use Rattle.gb_machine.specs.Bus.{Bus, Connection, same_end}
-use Rattle.gb_machine.specs.Host.{Host, is_link}
+use Rattle.gb_laws.proofs.Turned.{Notes, turned-connects, turned-disconnects, turned-ended, turned-noticed}
+use Rattle.gb_machine.specs.Bus.{Ask, Bus, Connection, Item, Place, Request, place_of, queue, request_of, same_end}
+use Rattle.gb_machine.specs.Delivery.{popped, replied}
+use Rattle.gb_machine.specs.Host.{Host}
+use Rattle.gb_machine.specs.HostServing.{host_serves}
+use Rattle.gb_machine.specs.Lists.{first}
 use Rattle.gb_machine.specs.Members.{IsIn}
 use Rattle.gb_machine.specs.Reached.{OfARun}
 use Rattle.gb_machine.specs.Refusals.{refusal}
 use Rattle.gb_machine.specs.SequenceSteps.{Target, kind_of, payload_of}
 use Rattle.gb_machine.specs.State.{State}
 use Rattle.gb_machine.specs.Turns.{Act, Asking, HostEvent, Making}
-use Rattle.gb_machine.specs.Wiring.{detached, shut_down}
+use Rattle.gb_machine.specs.Wiring.{shut_down}
 use Rattle.gb_system.specs.Acting.{ArePossible, IsAskable, MayTurn}
 
 -- ---- requests of steps
@@ -112,3 +116,43 @@ pub may-disconnect : (s : State) (i c : ℕ) → OfARun s → refusal s (event.D
     → MayTurn (HostEvent.Disconnect i c) s
 may-disconnect s i c run allowed =
     possible _ (turned-disconnects s i c allowed (reached-linked s run))
+
+-- ---- requests of the supervisory controller
+
+-- What a request makes the application processor take notice of, where the bus keeps the facts of
+-- connections.
+pub may-note : (s : State) (at : End) (p : Place) (n : ℕ) (r : Request) (e : HostEvent) {b : Bus}
+    → OfARun s → Notes s at p n r e → Linked b s.host [] → MayTurn e (record s {
+      bus = b;
+      host = (host_serves p.connection.number r.kind r.payload s.host).host;
+    })
+may-note s at p n r e run notes f = possible _ (turned-noticed s at p n r e run notes f)
+
+-- behind the reply
+pub may-notice : (s : State) (at : End) (p : Place) (n : ℕ) (r : Request) (item : Item)
+    (e : HostEvent) → OfARun s → place_of at s.bus.connections ≡ Some p → p.side ≡ side.Ap
+    → first (queue p.side p.connection) ≡ Some (Ask n) → request_of n s.bus ≡ Some r
+    → (host_serves p.connection.number r.kind r.payload s.host).notices ≡ Some e
+    → MayTurn e (record s {
+      bus = replied p.connection.number side.Far item (popped p.connection.number p.side s.bus);
+      host = (host_serves p.connection.number r.kind r.payload s.host).host;
+    })
+may-notice s at p n r item e run named ap_side front made notices =
+    may-note s at p n r e run
+    (record { named = named; side = ap_side; front = front; made = made; notices = notices })
+    (linked-replied p.connection.number side.Far item
+    (linked-popped p.connection.number p.side (reached-linked s run)))
+
+-- where no reply is awaited
+pub may-notice-oneway : (s : State) (at : End) (p : Place) (n : ℕ) (r : Request) (e : HostEvent)
+    → OfARun s → place_of at s.bus.connections ≡ Some p → p.side ≡ side.Ap
+    → first (queue p.side p.connection) ≡ Some (Ask n) → request_of n s.bus ≡ Some r
+    → (host_serves p.connection.number r.kind r.payload s.host).notices ≡ Some e
+    → MayTurn e (record s {
+      bus = popped p.connection.number p.side s.bus;
+      host = (host_serves p.connection.number r.kind r.payload s.host).host;
+    })
+may-notice-oneway s at p n r e run named ap_side front made notices =
+    may-note s at p n r e run
+    (record { named = named; side = ap_side; front = front; made = made; notices = notices })
+    (linked-popped p.connection.number p.side (reached-linked s run))
