@@ -61,6 +61,7 @@ pub mod QuietServed
 pub mod QuietTaken
 pub mod QuietTurns
 pub mod Reached
+pub mod Reading
 pub mod Removing
 pub mod Replies
 pub mod Replying

@@ -7,6 +7,7 @@ use Rattle.gb_invariants.proofs.ItemChanges.{asked_on-self}
 use Rattle.gb_invariants.proofs.Labels.{asked_on}
 use Rattle.gb_invariants.proofs.Selves.{front-self, put-self}
 use Rattle.gb_laws.proofs.LinkBuses.{Linked, from-all, from-first, from-self, linked-from}
+use Rattle.gb_laws.proofs.Speaking.{asked-speaks, front-speaks, put-speaks}
 use Rattle.gb_machine.specs.Bus.{Bus, Item}
 use Rattle.gb_machine.specs.Delivery.{ended, forgotten, popped, replied, without_front}
 use Rattle.gb_machine.specs.Host.{Host}
@@ -19,21 +20,21 @@ pub linked-sent : {b : Bus} {h : Host} {acts : List Act} (d : Draft) (label : �
     → Linked (sent d label b) h acts
 linked-sent {b} {h} {acts} d label f = linked-from b (sent d label b) h acts refl
     (from-first b (sent d label b) d.connection (asked_on d label b) refl
-    (λ c i on. from-self c (asked_on d label b c) (asked_on-self d label b c))) f
+    (λ c i on. from-self c (asked_on d label b c) (asked-speaks d label b c) (asked_on-self d label b c))) f
 
 -- an item is taken
 pub linked-popped : {b : Bus} {h : Host} {acts : List Act} (k : ℕ) (at : Side) → Linked b h acts
     → Linked (popped k at b) h acts
 linked-popped {b} {h} {acts} k at f = linked-from b (popped k at b) h acts refl
     (from-first b (popped k at b) k (without_front at) refl
-    (λ c i on. from-self c (without_front at c) (front-self at c))) f
+    (λ c i on. from-self c (without_front at c) (front-speaks at c) (front-self at c))) f
 
 -- a reply goes
 pub linked-replied : {b : Bus} {h : Host} {acts : List Act} (k : ℕ) (at : Side) (item : Item)
     → Linked b h acts → Linked (replied k at item b) h acts
 linked-replied {b} {h} {acts} k at item f = linked-from b (replied k at item b) h acts refl
     (from-first b (replied k at item b) k (put at item) refl
-    (λ c i on. from-self c (put at item c) (put-self at item c))) f
+    (λ c i on. from-self c (put at item c) (put-speaks at item c) (put-self at item c))) f
 
 -- a request ends
 pub linked-ended : {b : Bus} {h : Host} {acts : List Act} (n : ℕ) (how : Outcome) → Linked b h acts

@@ -82,6 +82,7 @@ followed-known c ls after acts f (linked l i of) = by (f l i)
       number = of.number ∙ sym same.connection;
       ap = of.ap ∙ sym same.ap;
       peer = of.peer ∙ ap (λ i. end.Module i l.cport) (sym same.intf) ∙ ap (end.Module k.intf) (sym same.cport);
+      protocol = of.protocol ∙ sym same.protocol;
     })
     by (leaves j) = leaving (subst (λ n. IsIn (Act.Leave n) acts) (sym of.number) j)
 
@@ -125,15 +126,15 @@ linked-kept m absent a (gives_up n how free unended cause) basis h = linked-gave
 linked-kept m absent a (wires k free untouched live powered) basis h =
     linked-from a.state.bus (wired k a.state.bus) a.state.host a.pending refl
     (from-first a.state.bus (wired k a.state.bus) k (λ c. record c { wired = true }) refl
-    (λ x i on. record { number = refl; shut = refl; ap = refl; peer = refl; clean = λ e. refl })) h
+    (λ x i on. record { number = refl; shut = refl; ap = refl; peer = refl; protocol = refl; clean = λ e. refl })) h
 linked-kept m absent a (unwires k free before live) basis h =
     linked-from a.state.bus (unwired k a.state.bus) a.state.host a.pending refl
     (from-first a.state.bus (unwired k a.state.bus) k (λ c. record c { wired = false; to_ap = []; to_far = [] }) refl
-    (λ x i on. record { number = refl; shut = refl; ap = refl; peer = refl; clean = λ e. refl })) h
+    (λ x i on. record { number = refl; shut = refl; ap = refl; peer = refl; protocol = refl; clean = λ e. refl })) h
 linked-kept m absent a (injects i c p bytes free named) basis h =
     linked-from a.state.bus (injected p.connection.number bytes a.state.bus) a.state.host a.pending refl
     (from-first a.state.bus (injected p.connection.number bytes a.state.bus) p.connection.number (λ c. queued side.Ap (Raw bytes) (record c { clean = false })) refl
-    (λ x j on. record { number = refl; shut = refl; ap = refl; peer = refl; clean = λ e. absurd (other x on e) })) h
+    (λ x j on. record { number = refl; shut = refl; ap = refl; peer = refl; protocol = refl; clean = λ e. absurd (other x on e) })) h
   where
     other : (x : Connection) → x.number ≡ p.connection.number → x.number ≡ 1 → ⊥
     other x on one =

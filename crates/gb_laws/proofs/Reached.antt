@@ -16,7 +16,6 @@ use Rattle.gb_laws.proofs.SettleQueues.{first-waits}
 use Rattle.gb_laws.proofs.Settles.{IsSettleable, last-append}
 use Rattle.gb_laws.proofs.Settling.{settleable-by_moments}
 use Rattle.gb_laws.proofs.Single.{names-by_moments}
-use Rattle.gb_laws.proofs.Speaking.{SpeaksSvc, speaks-throughout}
 use Rattle.gb_laws.proofs.There.{There}
 use Rattle.gb_machine.proofs.Steps.{step-deliver}
 use Rattle.gb_machine.specs.Actions.{Told}
@@ -24,6 +23,7 @@ use Rattle.gb_machine.specs.Arriving.{delivers}
 use Rattle.gb_machine.specs.Bus.{Connection, end_of}
 use Rattle.gb_machine.specs.Events.{step}
 use Rattle.gb_machine.specs.LawsBus.{NameRequests}
+use Rattle.gb_machine.specs.Members.{IsIn}
 use Rattle.gb_machine.specs.Reached.{OfARun}
 use Rattle.gb_machine.specs.Refusals.{refusal}
 use Rattle.gb_machine.specs.State.{State, first_state}
@@ -84,8 +84,9 @@ reached-linked s r = (reached-told s r).1
 pub reached-there : (s : State) → OfARun s → There s.bus
 reached-there s r = (reached-told s r).3
 
-pub reached-speaks : (s : State) → OfARun s → SpeaksSvc s.bus
-reached-speaks = reached-has (λ s. SpeaksSvc s.bus) speaks-throughout
+pub reached-speaks : (s : State) → OfARun s → (c : Connection) → IsIn c s.bus.connections
+    → c.number ≡ 1 → c.protocol ≡ 0x14
+reached-speaks s r c live one = ((reached-linked s r).svc c live one).protocol
 
 -- Where something waits first is an end, and a delivery there isn't refused.
 pub record IsDue (s : State) (at : End) : Type 0 where
