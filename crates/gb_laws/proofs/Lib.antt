@@ -33,6 +33,8 @@ pub mod LinkTurns
 pub mod Linking
 pub mod Links
 pub mod Loosening
+pub mod ManifestRuns
+pub mod Manifests
 pub mod Marking
 pub mod Marks
 pub mod Midway

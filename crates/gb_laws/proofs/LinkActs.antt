@@ -251,7 +251,7 @@ pub awaited-plugs : (p : Purpose) (n : ℕ) (s : State) → SamePlugs s (with_aw
 awaited-plugs p n s = by (is_for_connection p.step) (link_at p.intf p.cport (awaits p n s.host))
   where
     same : SamePlugs s s.booted s.ports s.modules
-    same = record { started = refl; plugged = λ i. refl; powered = λ i e. e; differ = λ h. h }
+    same = record { started = refl; plugged = λ i. refl; powered = λ i e. e; differ = λ h. h; short = λ h. h }
 
     by : (t : Bool) (o : Option Link)
         → SamePlugs s (cond t (made_for n o (record s { host = awaits p n s.host })) (record s { host = awaits p n s.host })).booted

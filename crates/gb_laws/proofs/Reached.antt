@@ -11,6 +11,8 @@ use Rattle.gb_invariants.proofs.Lists.{each-append}
 use Rattle.gb_laws.proofs.AllRuns.{of-all, of-state}
 use Rattle.gb_laws.proofs.LinkBuses.{Linked}
 use Rattle.gb_laws.proofs.LinkRuns.{LinkedTo, linked-throughout}
+use Rattle.gb_laws.proofs.ManifestRuns.{short-throughout}
+use Rattle.gb_laws.proofs.Points.{AreShort}
 use Rattle.gb_laws.proofs.Runs.{HoldsByMoments, weaker}
 use Rattle.gb_laws.proofs.SettleQueues.{first-waits}
 use Rattle.gb_laws.proofs.Settles.{IsSettleable, last-append}
@@ -87,6 +89,10 @@ reached-there s r = (reached-told s r).3
 pub reached-speaks : (s : State) → OfARun s → (c : Connection) → IsIn c s.bus.connections
     → c.number ≡ 1 → c.protocol ≡ 0x14
 reached-speaks s r c live one = ((reached-linked s r).svc c live one).protocol
+
+-- The manifest of each module that is plugged fits into a message.
+pub reached-short : (s : State) → OfARun s → AreShort s.modules
+reached-short = reached-has (λ s. AreShort s.modules) short-throughout
 
 -- Where something waits first is an end, and a delivery there isn't refused.
 pub record IsDue (s : State) (at : End) : Type 0 where
