@@ -2,3 +2,4 @@ pub mod Decisions
 pub mod Doings
 pub mod Plugged
 pub mod SvcSteps
+pub mod Turning
