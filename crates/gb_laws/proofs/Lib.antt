@@ -22,6 +22,7 @@ pub mod Knowing
 pub mod Levels
 pub mod LinkActs
 pub mod LinkBuses
+pub mod LinkChanges
 pub mod LinkClosing
 pub mod LinkHosts
 pub mod LinkLaw
@@ -32,6 +33,8 @@ pub mod LinkTurns
 pub mod Linking
 pub mod Links
 pub mod Loosening
+pub mod ManifestRuns
+pub mod Manifests
 pub mod Marking
 pub mod Marks
 pub mod Midway
@@ -60,6 +63,7 @@ pub mod QuietServed
 pub mod QuietTaken
 pub mod QuietTurns
 pub mod Reached
+pub mod Reading
 pub mod Removing
 pub mod Replies
 pub mod Replying
@@ -81,5 +85,6 @@ pub mod Taking
 pub mod Telling
 pub mod There
 pub mod Ticking
+pub mod Turned
 pub mod WiredRuns
 pub mod WiredWell

@@ -43,6 +43,7 @@ known-stay c ls after acts stay (linked l i of) = let s = stay l i in linked s.0
   ap = of.ap ∙ sym s.2.ap;
   peer = of.peer ∙ sym (ap (λ i. end.Module i s.0.cport) s.2.intf
       ∙ ap (end.Module l.intf) s.2.cport);
+  protocol = of.protocol ∙ sym s.2.protocol;
 })
 
 -- at rest
@@ -96,14 +97,14 @@ awaits-fits b p n h fits due = by (is_enumeration p.step) refl due
     )
     by false e idle = (
       host-link b h p.intf p.cport (λ l. record l { awaits = Some (n, p.step) })
-          (λ l. record { connection = refl; ap = refl; intf = refl; cport = refl })
+          (λ l. record { connection = refl; ap = refl; intf = refl; cport = refl; protocol = refl })
           (λ l i found old w f. (
             λ z. idle.cport (sym (link-is p.intf p.cport l (found-in (is_link p.intf p.cport) h.links l found).1).1 ∙ z),
             subst (λ (y : ℕ × SequenceStep). IsAtStep y.1 l.state) (same-some wait w f) (idle.state l found),
           ))
           (λ l i found d. record { cport = d.cport; takes = d.takes }) fits,
       onto-link h p.intf p.cport (λ l. record l { awaits = Some (n, p.step) })
-          (λ l. record { connection = refl; ap = refl; intf = refl; cport = refl }),
+          (λ l. record { connection = refl; ap = refl; intf = refl; cport = refl; protocol = refl }),
     )
 
 pub awaited-host : (p : Purpose) (n : ℕ) (s : State) → (with_awaited p n s).host ≡ awaits p n s.host
@@ -189,9 +190,9 @@ pub linked-link : (i c : ℕ) (credits : Link → ℕ) (b : Bus) (h : Host) → 
 linked-link i c credits b h f =
     linked-stay b h (with_link i c (λ l. record l { credits = credits l }) h)
     (host-link b h i c (λ l. record l { credits = credits l })
-    (λ l. record { connection = refl; ap = refl; intf = refl; cport = refl })
+    (λ l. record { connection = refl; ap = refl; intf = refl; cport = refl; protocol = refl })
     (λ l j found w v e. w v e) (λ l j found d. record { cport = d.cport; takes = d.takes }) f.host)
-    (stay-changed h.links i c (λ l. record l { credits = credits l }) (λ l. record { connection = refl; ap = refl; intf = refl; cport = refl })) f
+    (stay-changed h.links i c (λ l. record l { credits = credits l }) (λ l. record { connection = refl; ap = refl; intf = refl; cport = refl; protocol = refl })) f
 
 -- how the application processor is once it served a request: as it was, but for credits
 pub data ServedHost (h : Host) (r : HostServed) : Type 0 where
@@ -250,7 +251,7 @@ pub awaited-plugs : (p : Purpose) (n : ℕ) (s : State) → SamePlugs s (with_aw
 awaited-plugs p n s = by (is_for_connection p.step) (link_at p.intf p.cport (awaits p n s.host))
   where
     same : SamePlugs s s.booted s.ports s.modules
-    same = record { started = refl; plugged = λ i. refl; powered = λ i e. e; differ = λ h. h }
+    same = record { started = refl; plugged = λ i. refl; powered = λ i e. e; differ = λ h. h; short = λ h. h }
 
     by : (t : Bool) (o : Option Link)
         → SamePlugs s (cond t (made_for n o (record s { host = awaits p n s.host })) (record s { host = awaits p n s.host })).booted

@@ -37,13 +37,21 @@ pub record IsFrom (was c : Connection) : Type 0 where
   pub shut : c.shut ≡ was.shut
   pub ap : c.ap ≡ was.ap
   pub peer : c.peer ≡ was.peer
+  pub protocol : c.protocol ≡ was.protocol
   pub clean : c.number ≡ 1 → c.clean ≡ was.clean
 
-pub from-self : (was c : Connection) → SameSelf was c → IsFrom was c
-from-self was c h = record { number = h.number; shut = h.shut; ap = h.ap; peer = h.peer; clean = λ e. h.clean }
+pub from-self : (was c : Connection) → c.protocol ≡ was.protocol → SameSelf was c → IsFrom was c
+from-self was c speaks h = record {
+  number = h.number;
+  shut = h.shut;
+  ap = h.ap;
+  peer = h.peer;
+  protocol = speaks;
+  clean = λ e. h.clean;
+}
 
 pub from-same : (c : Connection) → IsFrom c c
-from-same c = record { number = refl; shut = refl; ap = refl; peer = refl; clean = λ e. refl }
+from-same c = record { number = refl; shut = refl; ap = refl; peer = refl; protocol = refl; clean = λ e. refl }
 
 -- each connection of a bus comes from one of another
 abbrev pub AreFrom : Bus → Bus → Type 0
@@ -65,7 +73,12 @@ from-all b after same c live = (c, subst (λ cs. IsIn c cs) same live, from-same
 known-from : (was c : Connection) (ls : List Link) (acts : List Act) → IsFrom was c → IsKnown was ls acts → IsKnown c ls acts
 known-from was c ls acts same (supervisory e) = supervisory (same.number ∙ e)
 known-from was c ls acts same (linked l i of) =
-    linked l i (record { number = same.number ∙ of.number; ap = same.ap ∙ of.ap; peer = same.peer ∙ of.peer })
+    linked l i (record {
+      number = same.number ∙ of.number;
+      ap = same.ap ∙ of.ap;
+      peer = same.peer ∙ of.peer;
+      protocol = same.protocol ∙ of.protocol;
+    })
 known-from was c ls acts same (leaving i) = leaving (subst (λ n. IsIn (Act.Leave n) acts) (sym same.number) i)
 
 -- Where connections come from those before, and none more was made.
@@ -86,7 +99,13 @@ linked-from b after h acts made from f = record {
   pending = f.pending;
   known = λ c live. let w = from c live in known-from w.0 c h.links acts w.2 (f.known w.0 w.1);
   svc = λ c live one. let w = from c live in let s = f.svc w.0 w.1 (sym w.2.number ∙ one) in
-      record { ap = w.2.ap ∙ s.ap; peer = w.2.peer ∙ s.peer; clean = w.2.clean one ∙ s.clean; shut = w.2.shut ∙ s.shut };
+      record {
+        ap = w.2.ap ∙ s.ap;
+        peer = w.2.peer ∙ s.peer;
+        clean = w.2.clean one ∙ s.clean;
+        shut = w.2.shut ∙ s.shut;
+        protocol = w.2.protocol ∙ s.protocol;
+      };
   made = subst (λ n. 1 ≤ n) (sym made) f.made;
 }
 
@@ -167,7 +186,7 @@ linked-shut b after h k rest made same f = record {
   where
     changed : (c : Connection) → IsKnown c h.links rest → IsKnown (record c { shut = true }) h.links rest
     changed c (supervisory e) = supervisory e
-    changed c (linked l i of) = linked l i (record { number = of.number; ap = of.ap; peer = of.peer })
+    changed c (linked l i of) = linked l i (record { number = of.number; ap = of.ap; peer = of.peer; protocol = of.protocol })
     changed c (leaving i) = leaving i
 
 -- ---- a connection is made
@@ -266,7 +285,7 @@ linked-opened b h w q rest range f = record {
       (λ o. known-more c h.links (new_link (next_connection b) w) (Act.Open w q) (λ e. absurd cc)
       (subst (λ r. IsKnown c h.links (Act.Open w q ∷ r)) f.pending.0.1 (f.known c o)) (Act.Ask q ∷ rest))
       (λ e. subst (λ x. IsKnown x (h.links ++ new_link (next_connection b) w ∷ []) (Act.Ask q ∷ rest)) (sym e)
-      (linked (new_link (next_connection b) w) (last h.links) (record { number = refl; ap = refl; peer = refl })))
+      (linked (new_link (next_connection b) w) (last h.links) (record { number = refl; ap = refl; peer = refl; protocol = refl })))
       (in-pushed c b.connections new live);
   svc = λ c live one. ⊎_elim (λ o. f.svc c o one)
       (λ e. let high = f.made in absurd (omega (arith, high, one, ap (λ (x : Connection). x.number) e))) (in-pushed c b.connections new live);

@@ -18,10 +18,10 @@ use Rattle.gb_machine.specs.Members.{IsIn}
 use Rattle.gb_machine.specs.SequenceSteps.{at_step}
 
 pub same-link : (l : Link) → SameLink l l
-same-link l = record { connection = refl; ap = refl; intf = refl; cport = refl }
+same-link l = record { connection = refl; ap = refl; intf = refl; cport = refl; protocol = refl }
 
 pub state-link : (to : ConnState) (l : Link) → SameLink l (in_state to l)
-state-link to l = record { connection = refl; ap = refl; intf = refl; cport = refl }
+state-link to l = record { connection = refl; ap = refl; intf = refl; cport = refl; protocol = refl }
 
 pub then-same : (l k j : Link) → SameLink l k → SameLink k j → SameLink l j
 then-same l k j a b = record {
@@ -29,6 +29,7 @@ then-same l k j a b = record {
   ap = b.ap ∙ a.ap;
   intf = b.intf ∙ a.intf;
   cport = b.cport ∙ a.cport;
+  protocol = b.protocol ∙ a.protocol;
 }
 
 -- ---- one connection changes

@@ -42,6 +42,7 @@ linked-first = record {
     peer = ap (λ (x : Connection). x.peer) e;
     clean = ap (λ (x : Connection). x.clean) e;
     shut = ap (λ (x : Connection). x.shut) e;
+    protocol = ap (λ (x : Connection). x.protocol) e;
   };
   made = omega arith;
 }

@@ -150,7 +150,7 @@ abbrev idle_link : Link → Link
 idle_link l = record l { awaits = None }
 
 same-idle : (l : Link) → SameLink l (record l { awaits = None })
-same-idle l = record { connection = refl; ap = refl; intf = refl; cport = refl }
+same-idle l = record { connection = refl; ap = refl; intf = refl; cport = refl; protocol = refl }
 
 resumed-interface : (b : Bus) (p : Purpose) (h : Host) → HostFits b h → (x : Interface) → IsIn x h.interfaces → p.intf ≡ x.intf → p.cport ≡ 0
     → is_enumeration p.step ≡ true → (is_early p.step ≡ true → HasNoControl x.intf h.links)

@@ -3,13 +3,12 @@ use Rattle.std.proofs.Common.{◌≡◌, ℕ, true, false, None, List, [], ◌�
 use Rattle.std.specs.Prelude.{◌-◌}
 use Rattle.gb_base.specs.declared.end.End.TheVariants as end
 use Rattle.gb_base.specs.declared.end.Side.TheVariants as side
-use Rattle.gb_invariants.proofs.ItemChanges.{asked_on-self}
 use Rattle.gb_base.specs.declared.event.Event.TheVariants as event
 use Rattle.gb_invariants.proofs.Lists.{each-in}
-use Rattle.gb_invariants.proofs.Selves.{front-self, put-self}
 use Rattle.gb_invariants.specs.Facts.{IsMade}
-use Rattle.gb_laws.proofs.LinkBuses.{Linked, from-all, from-first, from-self, linked-from, linked-left, linked-opened, linked-rest, linked-shut}
+use Rattle.gb_laws.proofs.LinkBuses.{Linked, from-first, linked-from, linked-left, linked-opened, linked-rest, linked-shut}
 use Rattle.gb_laws.proofs.LinkActs.{linked-asked, linked-link, linked-served, linked-unsent}
+use Rattle.gb_laws.proofs.LinkChanges.{linked-ended, linked-forgotten, linked-gave_up, linked-popped, linked-replied, linked-sent}
 use Rattle.gb_laws.proofs.LinkClosing.{fits-disconnects}
 use Rattle.gb_laws.proofs.LinkTurns.{fits-connects, fits-ended, fits-inserted, fits-removed}
 use Rattle.gb_laws.proofs.Links.{HostFits, IsFollowed, IsKnown, TurnFits, leaves, leaving, linked, stays, supervisory}
@@ -18,16 +17,14 @@ use Rattle.gb_laws.proofs.Points.{Change, acts_asked, acts_failed, acts_left, ac
 use Rattle.gb_laws.proofs.PointParts.{Basis, IsCaused, IsNoticed, Point}
 use Rattle.gb_base.specs.declared.end.Side.{Side}
 use Rattle.gb_base.specs.declared.peers.Link.{Link}
-use Rattle.gb_invariants.proofs.Labels.{asked_on}
 use Rattle.gb_machine.proofs.Conditions.{AreUnmet, free, front-unmet}
 use Rattle.gb_machine.specs.Labels.{no_label}
 use Rattle.gb_machine.specs.Lists.{holds_of}
 use Rattle.gb_machine.specs.Refusals.{has_no_label}
 use Rattle.gb_machine.specs.Bus.{Bus, Connection, Raw, end_of, other_side}
-use Rattle.gb_machine.specs.Delivery.{answered, ended, forgotten, popped, replied, without_front}
+use Rattle.gb_machine.specs.Delivery.{answered}
 use Rattle.gb_machine.specs.Incoming.{reply_item}
-use Rattle.gb_machine.specs.Requests.{gave_up}
-use Rattle.gb_machine.specs.Sending.{put, queued, sent}
+use Rattle.gb_machine.specs.Sending.{queued}
 use Rattle.gb_machine.specs.Wiring.{injected, shut_down, unwired, wired}
 use Rattle.gb_machine.specs.Host.{control_of, Host, interface_of, with_link, with_new_interface}
 use Rattle.gb_machine.specs.HostServing.{host_serves}
@@ -37,7 +34,7 @@ use Rattle.gb_machine.specs.HostRefusals.{connect_conditions, disconnect_conditi
 use Rattle.gb_machine.specs.HostTurns.{host_turn}
 use Rattle.gb_machine.specs.Members.{IsIn}
 use Rattle.gb_machine.specs.Runs.{Moment}
-use Rattle.gb_machine.specs.Turns.{Act, HostEvent}
+use Rattle.gb_machine.specs.Turns.{Act, HostEvent, Turn}
 
 -- an interface whose insertion is handled at a moment is absent
 abbrev pub InsertsAbsent : Moment → Type 0
@@ -85,18 +82,25 @@ followed-known c ls after acts f (linked l i of) = by (f l i)
       number = of.number ∙ sym same.connection;
       ap = of.ap ∙ sym same.ap;
       peer = of.peer ∙ ap (λ i. end.Module i l.cport) (sym same.intf) ∙ ap (end.Module k.intf) (sym same.cport);
+      protocol = of.protocol ∙ sym same.protocol;
     })
     by (leaves j) = leaving (subst (λ n. IsIn (Act.Leave n) acts) (sym of.number) j)
 
-linked-turn : (m : Moment) (b : Bus) (e : HostEvent) (h : Host) → InsertsAbsent m → IsCaused m e h → Linked b h [] → Linked b (host_turn e h).host (host_turn e h).acts
-linked-turn m b e h absent cause f = let t = turn-fits m b e h absent cause f.host in record {
-  host = t.host;
-  pending = t.pending;
-  known = λ c live. followed-known c h.links (host_turn e h).host.links (host_turn e h).acts
-      (λ l i. t.followed l (subst (λ ls. IsIn l ls) (sym (same-links e h)) i)) (f.known c live);
+-- The facts of connections behind a turn, before its acts are done.
+pub linked-fits : {b : Bus} {h g : Host} {t : Turn} → g.links ≡ h.links → TurnFits b g t
+    → Linked b h [] → Linked b t.host t.acts
+linked-fits {b} {h} {g} {t} same fits f = record {
+  host = fits.host;
+  pending = fits.pending;
+  known = λ c live. followed-known c h.links t.host.links t.acts
+      (λ l i. fits.followed l (subst (λ ls. IsIn l ls) (sym same) i)) (f.known c live);
   svc = f.svc;
   made = f.made;
 }
+
+linked-turn : (m : Moment) (b : Bus) (e : HostEvent) (h : Host) → InsertsAbsent m → IsCaused m e h → Linked b h [] → Linked b (host_turn e h).host (host_turn e h).acts
+linked-turn m b e h absent cause f =
+    linked-fits (same-links e h) (turn-fits m b e h absent cause f.host) f
 
 -- The application processor's connections at a point.
 abbrev pub LinkedAt : Point → Type 0
@@ -104,41 +108,33 @@ LinkedAt a = Linked a.state.bus a.state.host a.pending
 
 pub linked-kept : (m : Moment) → InsertsAbsent m → (a : Point) (x : Change m a) → Basis a → LinkedAt a → LinkedAt (changed m a x)
 linked-kept m absent a (tells e quiet) basis h = h
-linked-kept m absent a (asks d c label free live drawn who) basis h =
-    linked-from a.state.bus (sent d label a.state.bus) a.state.host a.pending refl
-    (from-first a.state.bus (sent d label a.state.bus) d.connection (asked_on d label a.state.bus) refl (λ x i on. from-self x (asked_on d label a.state.bus x) (asked_on-self d label a.state.bus x))) h
-linked-kept m absent a (names name d c label free live drawn host) basis h =
-    linked-from a.state.bus (sent d label a.state.bus) a.state.host a.pending refl
-    (from-first a.state.bus (sent d label a.state.bus) d.connection (asked_on d label a.state.bus) refl (λ x i on. from-self x (asked_on d label a.state.bus x) (asked_on-self d label a.state.bus x))) h
+linked-kept m absent a (asks d c label free live drawn who) basis h = linked-sent d label h
+linked-kept m absent a (names name d c label free live drawn host) basis h = linked-sent d label h
 linked-kept m absent a (binds x y n is) basis h = h
 linked-kept m absent a (frees name) basis h = h
 linked-kept m absent a (takes at p item free start is named front) basis h =
-    linked-from a.state.bus (popped p.connection.number p.side a.state.bus) a.state.host a.pending refl
-    (from-first a.state.bus (popped p.connection.number p.side a.state.bus) p.connection.number (without_front p.side) refl (λ x i on. from-self x (without_front p.side x) (front-self p.side x))) h
+    linked-popped p.connection.number p.side h
 linked-kept m absent a (takes_held i c place p x free start is at held) basis h = h
 linked-kept m absent a drops basis h = h
 linked-kept m absent a (holds x is far) basis h = h
 linked-kept m absent a (replies x q r is made twoway) basis h =
-    linked-from a.state.bus (replied x.connection.number (other_side x.side) (reply_item q r) a.state.bus) a.state.host a.pending refl
-    (from-first a.state.bus (replied x.connection.number (other_side x.side) (reply_item q r) a.state.bus) x.connection.number (put (other_side x.side) (reply_item q r)) refl (λ c i on. from-self c (put (other_side x.side) (reply_item q r) c) (put-self (other_side x.side) (reply_item q r) c))) h
+    linked-replied x.connection.number (other_side x.side) (reply_item q r) h
 linked-kept m absent a (answers x n result payload is says which) basis h =
-    linked-from a.state.bus (ended n (answered result payload) a.state.bus) a.state.host a.pending refl (from-all a.state.bus (ended n (answered result payload) a.state.bus) refl) h
-linked-kept m absent a (forgets x n is which) basis h =
-    linked-from a.state.bus (forgotten n a.state.bus) a.state.host a.pending refl (from-all a.state.bus (forgotten n a.state.bus) refl) h
-linked-kept m absent a (gives_up n how free unended cause) basis h =
-    linked-from a.state.bus (gave_up n how a.state.bus) a.state.host a.pending refl (from-all a.state.bus (gave_up n how a.state.bus) refl) h
+    linked-ended n (answered result payload) h
+linked-kept m absent a (forgets x n is which) basis h = linked-forgotten n h
+linked-kept m absent a (gives_up n how free unended cause) basis h = linked-gave_up n how h
 linked-kept m absent a (wires k free untouched live powered) basis h =
     linked-from a.state.bus (wired k a.state.bus) a.state.host a.pending refl
     (from-first a.state.bus (wired k a.state.bus) k (λ c. record c { wired = true }) refl
-    (λ x i on. record { number = refl; shut = refl; ap = refl; peer = refl; clean = λ e. refl })) h
+    (λ x i on. record { number = refl; shut = refl; ap = refl; peer = refl; protocol = refl; clean = λ e. refl })) h
 linked-kept m absent a (unwires k free before live) basis h =
     linked-from a.state.bus (unwired k a.state.bus) a.state.host a.pending refl
     (from-first a.state.bus (unwired k a.state.bus) k (λ c. record c { wired = false; to_ap = []; to_far = [] }) refl
-    (λ x i on. record { number = refl; shut = refl; ap = refl; peer = refl; clean = λ e. refl })) h
+    (λ x i on. record { number = refl; shut = refl; ap = refl; peer = refl; protocol = refl; clean = λ e. refl })) h
 linked-kept m absent a (injects i c p bytes free named) basis h =
     linked-from a.state.bus (injected p.connection.number bytes a.state.bus) a.state.host a.pending refl
     (from-first a.state.bus (injected p.connection.number bytes a.state.bus) p.connection.number (λ c. queued side.Ap (Raw bytes) (record c { clean = false })) refl
-    (λ x j on. record { number = refl; shut = refl; ap = refl; peer = refl; clean = λ e. absurd (other x on e) })) h
+    (λ x j on. record { number = refl; shut = refl; ap = refl; peer = refl; protocol = refl; clean = λ e. absurd (other x on e) })) h
   where
     other : (x : Connection) → x.number ≡ p.connection.number → x.number ≡ 1 → ⊥
     other x on one =

@@ -181,6 +181,7 @@ pub record SameLink (l k : Link) : Type 0 where
   pub ap : k.ap ≡ l.ap
   pub intf : k.intf ≡ l.intf
   pub cport : k.cport ≡ l.cport
+  pub protocol : k.protocol ≡ l.protocol
 
 -- A connection is known still, or is given up.
 pub data IsFollowed (l : Link) (ls : List Link) (acts : List Act) : Type 0 where
@@ -201,6 +202,7 @@ pub record IsLinkOf (l : Link) (c : Connection) : Type 0 where
   pub number : c.number ≡ l.connection
   pub ap : c.ap ≡ l.ap
   pub peer : c.peer ≡ end.Module l.intf l.cport
+  pub protocol : c.protocol ≡ l.protocol
 
 -- A live connection is that of the supervisory controller, or the application processor knows it or
 -- is giving it up.
@@ -215,3 +217,4 @@ pub record IsSvc (c : Connection) : Type 0 where
   pub peer : c.peer ≡ end.Svc
   pub clean : c.clean ≡ true
   pub shut : c.shut ≡ false
+  pub protocol : c.protocol ≡ 0x14

@@ -2,11 +2,10 @@
 -- changes lead to from there.
 use Rattle.std.proofs.Common.{List, []}
 use Rattle.gb_base.specs.declared.entry.Entry.{Entry}
-use Rattle.gb_laws.proofs.LinkRuns.{LinkedTo, linked-throughout, start-absent, there_law}
+use Rattle.gb_laws.proofs.LinkRuns.{LinkedTo, start-absent, there_law}
 use Rattle.gb_laws.proofs.Linking.{LinkedAt}
 use Rattle.gb_laws.proofs.Points.{Basis, Change, Law, Point, changed, resting}
-use Rattle.gb_laws.proofs.Reached.{reached-has}
-use Rattle.gb_laws.proofs.Runs.{weaker}
+use Rattle.gb_laws.proofs.Reached.{reached-told}
 use Rattle.gb_laws.proofs.There.{There}
 use Rattle.gb_machine.specs.Reached.{OfARun}
 use Rattle.gb_machine.specs.Runs.{Moment}
@@ -37,16 +36,6 @@ pub record KnownAt (a : Point) : Type 0 where
 pub known-midway : (m : Moment) (b : Point) → OfARun m.before
     → ComesAfter m (resting m.told m.before) b → KnownAt b
 known-midway m b run after =
-    let start = rests m.told m.before (reached-has (LinkedTo [])
-    (weaker LinkedTo (λ told s. LinkedTo [] s) (λ told s h. (
-      record {
-        bus = h.0.bus;
-        names = h.0.names;
-        hand = h.0.hand;
-      },
-      h.1,
-      h.2,
-      h.3,
-    )) linked-throughout) m.before run) in
+    let start = rests m.told m.before (reached-told m.before run) in
     let now = after (there_law m (start-absent m start)) ((start.0, start.1), start.3) in
     record { basis = now.0.0; links = now.0.1; there = now.1 }

@@ -88,7 +88,7 @@ far-reads (Some row) payload = by row.own
     by true = inl refl
     by false = inr refl
 
-told-svc : (e : HostEvent) (kind : ℕ) (payload : List ℕ) (h : Host) → (serves_svc kind payload h).notices ≡ Some e
+pub told-svc : (e : HostEvent) (kind : ℕ) (payload : List ℕ) (h : Host) → (serves_svc kind payload h).notices ≡ Some e
     → Tells e (read_svc_ask kind payload)
 told-svc e kind payload h f = by (far-reads (row_of svc_asks kind) payload) (told-by e (read_svc_ask_of_svc kind payload) h f)
   where

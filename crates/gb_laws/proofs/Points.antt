@@ -3,6 +3,7 @@ use Rattle.std.specs.Prelude.{
   ◌≡◌,
   ◌⊎◌,
   ◌≢◌,
+  ◌≤◌,
   ℕ,
   ◌+◌,
   nat_lt,
@@ -63,7 +64,7 @@ use Rattle.gb_machine.specs.Members.{EachTwo, IsIn}
 use Rattle.gb_machine.specs.Modules.{is_plugged}
 use Rattle.gb_machine.specs.Ports.{is_powered, level_of, unrouted}
 use Rattle.gb_machine.specs.Names.{bound, freed, named}
-use Rattle.gb_machine.specs.Refusals.{is_reserved, module_place}
+use Rattle.gb_machine.specs.Refusals.{is_reserved, longest_manifest, module_place}
 use Rattle.gb_machine.specs.Requests.{gave_up, given_up_with, open_on, open_with}
 use Rattle.gb_machine.specs.Runs.{Moment}
 use Rattle.gb_machine.specs.Sending.{Draft, label_for, sent}
@@ -177,12 +178,17 @@ abbrev pub IsPlain : State → Draft → Type 0
 IsPlain s d = (is_reserved d.kind ≡ false)
     ⊎ ((l : Link) × IsIn l s.host.links × (d.connection ≡ l.connection))
 
+-- the manifests of modules fit into a message
+abbrev pub AreShort : List Plugged → Type 0
+AreShort ms = (p : Plugged) → IsIn p ms → length p.body.manifest ≤ longest_manifest
+
 -- what is plugged stays, and so does whether the supervisory controller has started
 pub record SamePlugs (s : State) (booted : Bool) (ports : List Port) (modules : List Plugged) : Type 0 where
   pub started : booted ≡ s.booted
   pub plugged : (i : ℕ) → is_plugged i modules ≡ is_plugged i s.modules
   pub powered : (i : ℕ) → is_powered i ports ≡ true → is_powered i s.ports ≡ true
   pub differ : EachTwo (λ (p q : Plugged). p.intf ≢ q.intf) s.modules → EachTwo (λ (p q : Plugged). p.intf ≢ q.intf) modules
+  pub short : AreShort s.modules → AreShort modules
 
 -- What the supervisory controller serves was taken, and may have been replied to.
 pub data IsAfterReply (k : ℕ) (at : Side) (q : Incoming) (b after : Bus) : Type 0 where
@@ -285,7 +291,8 @@ pub data Change (m : Moment) (a : Point) : Type 0 where
   -- something else changes that is no matter of requests
   others : (booted : Bool) (marks : List ℕ) (ports : List Port) (modules : List Plugged)
       → (SamePlugs a.state booted ports modules × PortsFrom m a.state ports × IsIdle a)
-      ⊎ (IsOfSvc m.event × PowersOff a.state ports) → Change m a
+      ⊎ (IsOfSvc m.event × PowersOff a.state ports × (AreShort a.state.modules → AreShort modules))
+      → Change m a
 
 -- the point after a single change
 abbrev pub changed : (m : Moment) (a : Point) → Change m a → Point

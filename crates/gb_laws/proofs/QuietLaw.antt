@@ -28,6 +28,7 @@ use Rattle.gb_laws.proofs.Points.{
   PortsFrom,
   PowersOff,
   SamePlugs,
+  AreShort,
   acts_asked,
   acts_failed,
   acts_left,
@@ -314,7 +315,8 @@ module _ (m : Moment) (i : ℕ) (before : Basis (resting m.told m.before))
       b = changed m a (others booted marks ports modules same)
 
       by : (SamePlugs a.state booted ports modules × PortsFrom m a.state ports × IsIdle a)
-          ⊎ (IsOfSvc m.event × PowersOff a.state ports)
+          ⊎ (IsOfSvc m.event × PowersOff a.state ports
+          × (AreShort a.state.modules → AreShort modules))
           → IsQuiet i (changed m a (others booted marks ports modules same))
       by (inl s) = quiet-ports m i before before_links before_there start a
           (changed m a (others booted marks ports modules same)) ports basis s.1 s.2 refl refl refl

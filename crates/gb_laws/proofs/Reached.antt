@@ -11,12 +11,13 @@ use Rattle.gb_invariants.proofs.Lists.{each-append}
 use Rattle.gb_laws.proofs.AllRuns.{of-all, of-state}
 use Rattle.gb_laws.proofs.LinkBuses.{Linked}
 use Rattle.gb_laws.proofs.LinkRuns.{LinkedTo, linked-throughout}
+use Rattle.gb_laws.proofs.ManifestRuns.{short-throughout}
+use Rattle.gb_laws.proofs.Points.{AreShort}
 use Rattle.gb_laws.proofs.Runs.{HoldsByMoments, weaker}
 use Rattle.gb_laws.proofs.SettleQueues.{first-waits}
 use Rattle.gb_laws.proofs.Settles.{IsSettleable, last-append}
 use Rattle.gb_laws.proofs.Settling.{settleable-by_moments}
 use Rattle.gb_laws.proofs.Single.{names-by_moments}
-use Rattle.gb_laws.proofs.Speaking.{SpeaksSvc, speaks-throughout}
 use Rattle.gb_laws.proofs.There.{There}
 use Rattle.gb_machine.proofs.Steps.{step-deliver}
 use Rattle.gb_machine.specs.Actions.{Told}
@@ -24,6 +25,7 @@ use Rattle.gb_machine.specs.Arriving.{delivers}
 use Rattle.gb_machine.specs.Bus.{Connection, end_of}
 use Rattle.gb_machine.specs.Events.{step}
 use Rattle.gb_machine.specs.LawsBus.{NameRequests}
+use Rattle.gb_machine.specs.Members.{IsIn}
 use Rattle.gb_machine.specs.Reached.{OfARun}
 use Rattle.gb_machine.specs.Refusals.{refusal}
 use Rattle.gb_machine.specs.State.{State, first_state}
@@ -61,18 +63,36 @@ reached-has Fact holds s r =
 pub reached-names : (s : State) → OfARun s → NameRequests s
 reached-names = reached-has NameRequests names-by_moments
 
+-- The bus keeps its facts, the application processor's connections go with it, and insertions and
+-- removals come in turn.
+pub reached-told : (s : State) → OfARun s → LinkedTo [] s
+reached-told = reached-has (LinkedTo [])
+    (weaker LinkedTo (λ told s. LinkedTo [] s) (λ told s h. (
+      record {
+        bus = h.0.bus;
+        names = h.0.names;
+        hand = h.0.hand;
+      },
+      h.1,
+      h.2,
+      h.3,
+    )) linked-throughout)
+
 -- The application processor's connections go with the bus.
 pub reached-linked : (s : State) → OfARun s → Linked s.bus s.host []
-reached-linked = reached-has (λ s. Linked s.bus s.host [])
-    (weaker LinkedTo (λ told s. Linked s.bus s.host []) (λ told s h. h.1) linked-throughout)
+reached-linked s r = (reached-told s r).1
 
 -- The supervisory controller's connection is there and wired, and speaks its protocol.
 pub reached-there : (s : State) → OfARun s → There s.bus
-reached-there = reached-has (λ s. There s.bus)
-    (weaker LinkedTo (λ told s. There s.bus) (λ told s h. h.3) linked-throughout)
+reached-there s r = (reached-told s r).3
 
-pub reached-speaks : (s : State) → OfARun s → SpeaksSvc s.bus
-reached-speaks = reached-has (λ s. SpeaksSvc s.bus) speaks-throughout
+pub reached-speaks : (s : State) → OfARun s → (c : Connection) → IsIn c s.bus.connections
+    → c.number ≡ 1 → c.protocol ≡ 0x14
+reached-speaks s r c live one = ((reached-linked s r).svc c live one).protocol
+
+-- The manifest of each module that is plugged fits into a message.
+pub reached-short : (s : State) → OfARun s → AreShort s.modules
+reached-short = reached-has (λ s. AreShort s.modules) short-throughout
 
 -- Where something waits first is an end, and a delivery there isn't refused.
 pub record IsDue (s : State) (at : End) : Type 0 where

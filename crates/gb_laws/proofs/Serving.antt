@@ -1,5 +1,5 @@
 -- A law of points goes over what a served request brings about.
-use Rattle.std.proofs.Common.{◌≡◌, ℕ, Bool, true, false, cond, Option, Some, None, List, [], ◌++◌, refl, sym, ap, ◌∙◌, inl, subst}
+use Rattle.std.proofs.Common.{◌≡◌, ℕ, Bool, true, false, cond, Option, Some, None, List, [], ◌++◌, refl, sym, ap, ◌∙◌, inl, subst, length, ◌≤◌}
 use Rattle.std.specs.Prelude.{◌==◌, ◌&&◌}
 use Rattle.std.specs.List.{list_any}
 use Rattle.gb_base.specs.declared.end.End.{End}
@@ -23,7 +23,10 @@ use Rattle.gb_laws.proofs.PointParts.{Hand, IsCaused, IsNoticed, Untouched, Unwi
 use Rattle.gb_laws.proofs.Served.{IsQuietly, ServedAs, inserting, plainly, removing, served as served_as}
 use Rattle.gb_machine.proofs.Opened.{machine_opened}
 use Rattle.gb_machine.specs.Actions.{Action, change, given, nothing, on_host, tell, ◌▸◌}
+use Rattle.gb_laws.proofs.Manifests.{serve-manifest, short-at}
+use Rattle.gb_laws.proofs.Points.{AreShort}
 use Rattle.gb_laws.proofs.Stepping.{module-plugs}
+use Rattle.gb_machine.specs.Refusals.{longest_manifest}
 use Rattle.gb_machine.specs.Bus.{Bus, Connection, Item, Place, connection_of, place_of, queue, same_end}
 use Rattle.gb_machine.specs.Delivery.{popped}
 use Rattle.gb_machine.specs.Host.{Host}
@@ -167,6 +170,7 @@ module _ (m : Moment) (law : Law m) where
         plugged = λ i. refl;
         powered = powered;
         differ = λ h. h;
+        short = λ h. h;
       },
       from,
       record { hand = refl; pending = refl; asked = refl },
@@ -237,32 +241,39 @@ module _ (m : Moment) (law : Law m) where
 
   -- ---- modules
 
-  ends-module : (k i : ℕ) (step : Step Module) (s : State) → IsToModule k s.bus → Ends None (module_stepped k i step).behind s
+  ends-module : (k i : ℕ) (step : Step Module) (s : State)
+      → (AreShort s.modules → length step.after.manifest ≤ longest_manifest)
+      → IsToModule k s.bus → Ends None (module_stepped k i step).behind s
   unfolding machine_opened
-  ends-module k i step s to =
+  ends-module k i step s short to =
       ends-going None (module_stepped k i step).behind s
       (goes-▸ m (acting m law) None None None [] [] [] Untouched Untouched Untouched
       (change (λ t. record t { modules = with_module i step.after t.modules })) (far_asks_all k step.served.asks) s
       (λ told at. law.kept _ (others s.booted s.holds s.ports (with_module i step.after s.modules)
       (inl (
-        module-plugs s i step.after,
+        module-plugs s i step.after short,
         as_before refl,
         record { hand = refl; pending = refl; asked = refl },
       ))) at)
       (goes-far_asks_all m (acting m law) [] Untouched k step.served.asks (record s { modules = with_module i step.after s.modules }) to))
 
-  ends-at_module : (k i c : ℕ) (q : Incoming) (o : Option Module) (s : State) → IsToModule k s.bus → Ends None (module_response k i c q o).behind s
-  ends-at_module k i c q None s to = ends-nothing s
-  ends-at_module k i c q (Some x) s to = ends-module k i (module_serve x c q.kind q.payload) s to
+  ends-at_module : (k i c : ℕ) (q : Incoming) (o : Option Module) (s : State)
+      → module_at i s.modules ≡ o → IsToModule k s.bus
+      → Ends None (module_response k i c q o).behind s
+  ends-at_module k i c q None s e to = ends-nothing s
+  ends-at_module k i c q (Some x) s e to = ends-module k i (module_serve x c q.kind q.payload) s
+      (λ h. subst (λ bytes. length bytes ≤ longest_manifest)
+      (sym (serve-manifest x c q.kind q.payload)) (short-at i s.modules x e h)) to
 
   -- ---- the far side
 
   ends-far : (e : End) (k : ℕ) (q : Incoming) (s u : State) → LivesOn s.bus u.bus
-      → ComesFrom s.bus u.bus → u.ports ≡ s.ports → HasPeer k e u.bus
+      → ComesFrom s.bus u.bus → u.ports ≡ s.ports → u.modules ≡ s.modules → HasPeer k e u.bus
       → (e ≡ end.Svc → IsServing m u q) → Ends None (far_response e k q s).behind u
-  ends-far (end.Module i c) k q s u on came ports peer serving =
-      ends-at_module k i c q (module_at i s.modules) u (λ x e. (i, c, peer x e))
-  ends-far end.Svc k q s u on came ports peer serving =
+  ends-far (end.Module i c) k q s u on came ports modules peer serving =
+      ends-at_module k i c q (module_at i s.modules) u (ap (module_at i) modules)
+      (λ x e. (i, c, peer x e))
+  ends-far end.Svc k q s u on came ports modules peer serving =
       let step = svc_step s.ports q.kind q.payload in
       ends-decided step.served step.ports s u on came
       (comes step.served refl)
@@ -281,7 +292,7 @@ module _ (m : Moment) (law : Law m) where
       comes (Unroute i) e = loses_route q i (serving refl)
           (ap (λ ps. (svc_step ps q.kind q.payload).served) (sym same) ∙ e)
           (ap (λ ps. unrouted i (svc_step ps q.kind q.payload).ports) same)
-  ends-far (end.Ap a) k q s u on came ports peer serving = ends-nothing u
+  ends-far (end.Ap a) k q s u on came ports modules peer serving = ends-nothing u
 
   -- ---- the application processor
 
@@ -362,13 +373,13 @@ module _ (m : Moment) (law : Law m) where
   -- what the party at a side answers has an end
   pub ends-response : (c : Connection) (at : Side) (q : Incoming) (s u : State)
       → IsTaken m s c at q → IsAfterReply c.number at q s.bus u.bus → u.ports ≡ s.ports
-      → HasPeer c.number c.peer u.bus
+      → u.modules ≡ s.modules → HasPeer c.number c.peer u.bus
       → s.host ≡ m.before.host → u.host ≡ s.host → Ends None (response_at at c q s).behind u
   unfolding machine_opened
-  ends-response c side.Ap q s u taken way ports peer before same =
+  ends-response c side.Ap q s u taken way ports modules peer before same =
       subst (λ h. Ends None (host_behind (host_serves c.number q.kind q.payload h)) u) (sym before)
       (ends-served c.number q.kind q.payload u (same ∙ before)
       (λ e n. noticed m s c side.Ap q e taken refl n))
-  ends-response c side.Far q s u taken way ports peer before same =
-      ends-far c.peer c.number q s u (lives-after way) (comes-after way) ports peer
+  ends-response c side.Far q s u taken way ports modules peer before same =
+      ends-far c.peer c.number q s u (lives-after way) (comes-after way) ports modules peer
       (λ is. serving-of m s u c side.Far q taken refl is way same ports)

@@ -1,5 +1,5 @@
 -- A law of points goes over the step of each event.
-use Rattle.std.proofs.Common.{◌≡◌, ◌⊎◌, ℕ, ◌+◌, subst, Bool, true, false, cond, Option, Some, None, List, [], ◌∷◌, ◌++◌, map, refl, sym, ap, ◌∙◌, inl, inr, ⊎_elim}
+use Rattle.std.proofs.Common.{◌≡◌, ◌⊎◌, ℕ, ◌+◌, subst, Bool, true, false, cond, Option, Some, None, List, [], ◌∷◌, ◌++◌, map, refl, sym, ap, ◌∙◌, inl, inr, ⊎_elim, length, ◌≤◌}
 use Rattle.std.specs.Prelude.{Result, Ok, Err, ◌==◌, ◌≢◌, is_none, is_some, option_and_then, option_map}
 use Rattle.gb_base.specs.declared.peers.Link.{Link}
 use Rattle.gb_base.specs.declared.bridge.BridgeAsk.{BridgeAsk}
@@ -52,7 +52,10 @@ use Rattle.gb_machine.specs.Names.{bound, named}
 use Rattle.gb_machine.specs.OwnAsking.{far_asks_all, svc_asks, svc_own}
 use Rattle.gb_machine.specs.Plugging.{boots, plugs, tells_inserted, with_plugged}
 use Rattle.gb_machine.specs.Refusals.{has_no_label, is_long_payload, module_place, refusal}
+use Rattle.gb_laws.proofs.Manifests.{short-at, short-changed, short-plugged, stir-manifest}
+use Rattle.gb_laws.proofs.Points.{AreShort}
 use Rattle.gb_machine.specs.Requests.{gave_up}
+use Rattle.gb_machine.specs.Refusals.{longest_manifest}
 use Rattle.gb_machine.specs.Runs.{Moment}
 use Rattle.gb_machine.specs.Sending.{Draft}
 use Rattle.gb_machine.specs.Show.{lines_shown, shown}
@@ -64,16 +67,19 @@ use Rattle.gb_machine.specs.Turns.{HostEvent}
 -- ---- what stays plugged
 
 pub same-plugs : (s : State) → SamePlugs s s.booted s.ports s.modules
-same-plugs s = record { started = refl; plugged = λ i. refl; powered = λ i e. e; differ = λ h. h }
+same-plugs s = record { started = refl; plugged = λ i. refl; powered = λ i e. e; differ = λ h. h; short = λ h. h }
 
 -- where a module changes
-pub module-plugs : (s : State) (i : ℕ) (x : Module) → SamePlugs s s.booted s.ports (with_module i x s.modules)
-module-plugs s i x = record {
+pub module-plugs : (s : State) (i : ℕ) (x : Module)
+    → (AreShort s.modules → length x.manifest ≤ longest_manifest)
+    → SamePlugs s s.booted s.ports (with_module i x s.modules)
+module-plugs s i x fits = record {
   started = refl;
   plugged = plugged s.modules;
   powered = λ j e. e;
   differ = λ h. two-at_first (λ (p q : Plugged). p.intf ≢ q.intf) (is_plugged_at i) (λ p. record p { body = x }) s.modules
       (λ p q r. r) (λ p q r. r) h;
+  short = λ h. short-changed i x s.modules h (fits h);
 }
   where
     plugged : (ms : List Plugged) (j : ℕ) → is_plugged j (with_module i x ms) ≡ is_plugged j ms
@@ -157,17 +163,18 @@ module _ (m : Moment) (law : Law m) where
       (each s.modules (λ p. tells_inserted p.intf)) s
       (rests-▸ (change (λ t. record t { booted = true }) ▸ svc_asks (SvcAsk.ProtocolVersion 0 1)) (svc_asks (SvcAsk.Hello 1 1)) s
       (rests-▸ (change (λ t. record t { booted = true })) (svc_asks (SvcAsk.ProtocolVersion 0 1)) s
-      (λ told at. law.kept _ (others true s.holds s.ports s.modules (inr (of, λ i. inl refl))) at)
+      (λ told at. law.kept _ (others true s.holds s.ports s.modules (inr (of, λ i. inl refl, λ h. h))) at)
       (rests-svc of (SvcAsk.ProtocolVersion 0 1) _ (λ j h. absurd cc)))
       (rests-svc of (SvcAsk.Hello 1 1) _ (λ j h. absurd cc)))
       (rests-inserted_all of s.modules _)
 
-  pub rests-plugs : IsOfSvc m.event → (i : ℕ) (x : Module) (s : State) → Rests (plugs i x) s
+  pub rests-plugs : IsOfSvc m.event → (i : ℕ) (x : Module) (s : State)
+      → length x.manifest ≤ longest_manifest → Rests (plugs i x) s
   unfolding machine_opened
-  rests-plugs of i x s =
+  rests-plugs of i x s fits =
       rests-▸ (change (with_plugged i x)) (when s.booted (tells_inserted i)) s
       (λ told at. law.kept _ (others s.booted s.holds (with_plugged i x s).ports (with_plugged i x s).modules
-      (inr (of, λ j. powered-off i j s.ports (i == j)))) at)
+      (inr (of, λ j. powered-off i j s.ports (i == j), λ h. short-plugged i x s.modules h fits))) at)
       (rests-when s.booted (tells_inserted i) (with_plugged i x s) (rests-svc of (SvcAsk.ModuleInserted i 1 0) (with_plugged i x s) (λ j h. absurd cc)))
 
   -- ---- requests of lines
@@ -256,7 +263,7 @@ module _ (m : Moment) (law : Law m) where
 
   pub rests-stirs : (i c : ℕ) (stir : Stir) (s : State) → Rests (stirs i c stir) s
   unfolding machine_opened
-  rests-stirs i c stir s = at_module (module_at i s.modules)
+  rests-stirs i c stir s = at_module (module_at i s.modules) refl
     where
       placed : (t : Stirred Module) (w : State) (o : Option Place) → module_place i c w ≡ o → Rests (given o (λ p. far_asks_all p.connection.number t.asks)) w
       placed t w None e = rests-nothing w
@@ -264,21 +271,26 @@ module _ (m : Moment) (law : Law m) where
           goes-far_asks_all m (acting m law) [] Untouched p.connection.number t.asks w
           (place-module i c w.bus p (law.basis _ at).bus.numbers.rise e) told at
 
-      stirred_by : (o : Option (Stirred Module)) → Rests (given o (stirred i c)) s
-      stirred_by None = rests-nothing s
-      stirred_by (Some t) =
+      stirred_by : (o : Option (Stirred Module)) → ((t : Stirred Module) → o ≡ Some t
+          → AreShort s.modules → length t.after.manifest ≤ longest_manifest)
+          → Rests (given o (stirred i c)) s
+      stirred_by None short = rests-nothing s
+      stirred_by (Some t) short =
           rests-▸ (change (λ w. record w { modules = with_module i t.after w.modules }))
           (by_state (λ w. given (module_place i c w) (λ p. far_asks_all p.connection.number t.asks))) s
           (λ told at. law.kept _ (others s.booted s.holds s.ports (with_module i t.after s.modules) (inl (
-            module-plugs s i t.after,
+            module-plugs s i t.after (short t refl),
             as_before refl,
             record { hand = refl; pending = refl; asked = refl },
           ))) at)
           (placed t (record s { modules = with_module i t.after s.modules }) (module_place i c s) refl)
 
-      at_module : (o : Option Module) → Rests (given o (λ x. given (module_stir x c stir) (stirred i c))) s
-      at_module None = rests-nothing s
-      at_module (Some x) = stirred_by (module_stir x c stir)
+      at_module : (o : Option Module) → module_at i s.modules ≡ o
+          → Rests (given o (λ x. given (module_stir x c stir) (stirred i c))) s
+      at_module None e = rests-nothing s
+      at_module (Some x) e = stirred_by (module_stir x c stir)
+          (λ t is h. subst (λ bytes. length bytes ≤ longest_manifest)
+          (sym (stir-manifest x c stir t is)) (short-at i s.modules x e h))
 
   pub rests-holds : (i c : ℕ) (s : State) → Rests (holds i c) s
   unfolding machine_opened

@@ -37,6 +37,7 @@ use Rattle.gb_laws.proofs.Stepping.{
   rests-stirs,
 }
 use Rattle.gb_laws.proofs.Ticking.{ends-pulls, rests-ticks}
+use Rattle.gb_laws.proofs.Manifests.{kind-short, raw-short}
 use Rattle.gb_machine.proofs.Opened.{machine_opened}
 use Rattle.gb_machine.specs.Events.{decided, does}
 use Rattle.gb_machine.specs.Refusals.{refusal}
@@ -48,8 +49,8 @@ module _ (m : Moment) (law : Law m) where
   ends-does : (e : Event) → m.event ≡ e → IsMoment e → refusal m.before e ≡ None → Ends m law None (does e) m.before
   unfolding machine_opened
   ends-does event.Boot is one free = ends-going m law None (does event.Boot) m.before (rests-boots m law (subst IsOfSvc (sym is) tt) m.before)
-  ends-does (event.Insert i kind) is one free = ends-going m law None (does (event.Insert i kind)) m.before (rests-plugs m law (subst IsOfSvc (sym is) tt) i (module_of_kind kind) m.before)
-  ends-does (event.InsertRaw i manifest) is one free = ends-going m law None (does (event.InsertRaw i manifest)) m.before (rests-plugs m law (subst IsOfSvc (sym is) tt) i (module_raw manifest) m.before)
+  ends-does (event.Insert i kind) is one free = ends-going m law None (does (event.Insert i kind)) m.before (rests-plugs m law (subst IsOfSvc (sym is) tt) i (module_of_kind kind) m.before (kind-short kind))
+  ends-does (event.InsertRaw i manifest) is one free = ends-going m law None (does (event.InsertRaw i manifest)) m.before (rests-plugs m law (subst IsOfSvc (sym is) tt) i (module_raw manifest) m.before (raw-short m.before i manifest free))
   ends-does (event.Pull i) is one free = ends-pulls m law (subst IsOfSvc (sym is) tt) i
   ends-does (event.Connect i c) is one free =
       ends-going m law None (does (event.Connect i c)) m.before (goes-notices m (acting m law) (HostEvent.Connect i c) m.before tt (refl, is, free, one.1))

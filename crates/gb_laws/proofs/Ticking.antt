@@ -11,7 +11,7 @@ use Rattle.gb_base.specs.declared.event.Event.TheVariants as event
 use Rattle.gb_base.specs.declared.outcome.Outcome.TheVariants as outcome
 use Rattle.gb_formats.specs.SvcRecords.{SvcAsk}
 use Rattle.gb_invariants.proofs.Awaiting.{is-open, not-both, opened, sent-request}
-use Rattle.gb_invariants.proofs.Lists.{two-filter}
+use Rattle.gb_invariants.proofs.Lists.{two-filter, in-without}
 use Rattle.gb_invariants.proofs.Outcomes.{Rise, both-true, in-open_requests, lookup-past, open_requests-rise, same-number}
 use Rattle.gb_invariants.specs.Facts.{IsBefore}
 use Rattle.gb_laws.proofs.Acting.{goes-notices}
@@ -21,6 +21,7 @@ use Rattle.gb_laws.proofs.Points.{IsOfSvc, by_svc, ActLaw, Change, IsActing, IsL
 use Rattle.gb_laws.proofs.PointParts.{IsLate, IsShutFor, Point, Untouched, Unwired, Wired, Wires, disconnected, removed}
 use Rattle.gb_laws.proofs.Serving.{Ends}
 use Rattle.gb_laws.proofs.Stepping.{Rests, rests-gives_up, rests-nothing, rests-▸}
+use Rattle.gb_machine.specs.Modules.{is_plugged_at}
 use Rattle.gb_machine.proofs.Lists.{nth-within}
 use Rattle.gb_machine.proofs.Opened.{machine_opened}
 use Rattle.gb_machine.specs.Actions.{Action, change, each, when, ◌▸◌}
@@ -309,7 +310,8 @@ module _ (m : Moment) (law : Law m) where
         wires = u.wires;
         is = u.is;
         holds = law.kept _ (others w.booted w.holds (with_pulled i w).ports (with_pulled i w).modules
-            (inr (of, λ j. unpowered-off i j w.ports (j == i) refl))) u.holds;
+            (inr (of, λ j. unpowered-off i j w.ports (j == i) refl,
+            λ h p k. h p (in-without (is_plugged_at i) w.modules p k).0))) u.holds;
       }
 
       tells_removed : (w : State) → level_of i w.ports ≡ 0

@@ -1,0 +1,158 @@
+-- What the application processor does of its own is possible, since its connections go with the
+-- bus.
+use Rattle.std.proofs.Common.{◌≡◌, ◌≤◌, ◌<◌, ℕ, Some, None, List, [], ◌∷◌, length, refl, sym, ap, ◌∙◌, inl, inr, subst, arith}
+use Rattle.gb_base.specs.declared.end.End.{End}
+use Rattle.gb_base.specs.declared.end.End.TheVariants as end
+use Rattle.gb_base.specs.declared.end.Side.TheVariants as side
+use Rattle.gb_base.specs.declared.event.Event.TheVariants as event
+use Rattle.gb_base.specs.declared.outcome.Outcome.{Outcome}
+use Rattle.gb_base.specs.declared.steps.SequenceStep.{SequenceStep}
+use Rattle.gb_base.specs.declared.steps.SequenceStep.TheVariants as steps
+use Rattle.gb_bus.specs.Wiring.{IsOther}
+use Rattle.gb_formats.specs.Results.{most_payload}
+use Rattle.gb_formats.specs.ValidEvents.{IsValid}
+use Rattle.gb_invariants.proofs.Lists.{each-from}
+use Rattle.gb_laws.proofs.LinkBuses.{Linked, linked-left, linked-rest, linked-shut}
+use Rattle.gb_laws.proofs.LinkChanges.{linked-popped, linked-replied}
+use Rattle.gb_laws.proofs.Links.{IsFormed, IsFree, IsKnown, leaving, linked, supervisory}
+use Rattle.gb_laws.proofs.Reached.{reached-linked}
+use Rattle.gb_laws.proofs.Turned.{Notes, turned-connects, turned-disconnects, turned-ended, turned-noticed}
+use Rattle.gb_machine.specs.Bus.{Ask, Bus, Connection, Item, Place, Request, place_of, queue, request_of, same_end}
+use Rattle.gb_machine.specs.Delivery.{popped, replied}
+use Rattle.gb_machine.specs.Host.{Host}
+use Rattle.gb_machine.specs.HostServing.{host_serves}
+use Rattle.gb_machine.specs.Lists.{first}
+use Rattle.gb_machine.specs.Members.{IsIn}
+use Rattle.gb_machine.specs.Reached.{OfARun}
+use Rattle.gb_machine.specs.Refusals.{refusal}
+use Rattle.gb_machine.specs.SequenceSteps.{Target, kind_of, payload_of}
+use Rattle.gb_machine.specs.State.{State}
+use Rattle.gb_machine.specs.Turns.{Act, Asking, HostEvent, Making}
+use Rattle.gb_machine.specs.Wiring.{shut_down}
+use Rattle.gb_system.specs.Acting.{ArePossible, IsAskable, MayTurn}
+
+-- ---- requests of steps
+
+-- the request of a step can be made
+steps-askable : (step : SequenceStep) (t : Target) → IsAskable (kind_of step) (payload_of step t)
+steps-askable steps.EnableVsys t = (omega arith, omega arith)
+steps-askable steps.EnableRefclk t = (omega arith, omega arith)
+steps-askable steps.EnableUnipro t = (omega arith, omega arith)
+steps-askable steps.Activate t = (omega arith, omega arith)
+steps-askable steps.GiveDevice t = (omega arith, omega arith)
+steps-askable steps.CreateRoute t = (omega arith, omega arith)
+steps-askable steps.CreateControl t = (omega arith, omega arith)
+steps-askable steps.AskVersion t = (omega arith, omega arith)
+steps-askable steps.AskSize t = (omega arith, omega arith)
+steps-askable steps.AskManifest t = (omega arith, omega arith)
+steps-askable steps.CreateConnection t = (omega arith, omega arith)
+steps-askable steps.TellConnected t = (omega arith, omega arith)
+steps-askable steps.TellDisconnecting t = (omega arith, omega arith)
+steps-askable steps.TellDisconnected t = (omega arith, omega arith)
+steps-askable steps.DestroyConnection t = (omega arith, omega arith)
+
+askable : (q : Asking) → IsFormed q → IsAskable q.kind q.payload
+askable q f =
+    let own = steps-askable q.purpose.step f.target in (
+      subst (λ k. k < 128) (sym f.kind) own.0,
+      subst (λ p. length p ≤ most_payload) (sym f.payload) own.1,
+    )
+
+-- ---- acts
+
+-- a connection that is live has other ends than one that is to be made
+apart : {b : Bus} {h : Host} (w : Making) (q : Asking) (rest : List Act)
+    → Linked b h (Act.Open w q ∷ rest) → (c : Connection) → IsIn c b.connections
+    → IsOther w.ap w.intf w.cport c
+apart {b} {h} w q rest f c live =
+    by (subst (λ r. IsKnown c h.links (Act.Open w q ∷ r)) f.pending.0.1 (f.known c live))
+  where
+    to : IsFree w q h
+    to = f.pending.0.0
+
+    by : IsKnown c h.links (Act.Open w q ∷ []) → IsOther w.ap w.intf w.cport c
+    by (supervisory one) =
+        let svc = f.svc c live one in record {
+          ap = λ e. let low = to.from_one in absurd (omega (arith, low, svc.ap, e));
+          peer = ap (λ e. same_end e (end.Module w.intf w.cport)) svc.peer;
+        }
+    by (linked l i of) = record {
+      ap = λ e. to.ap l i (sym of.ap ∙ e);
+      peer = ap (λ e. same_end e (end.Module w.intf w.cport)) of.peer ∙ to.at l i;
+    }
+    by (leaving (inl e)) = absurd cc
+    by (leaving (inr i)) = absurd i
+
+-- Acts that are pending are possible.
+pub possible : (acts : List Act) {b : Bus} {h : Host} → Linked b h acts → ArePossible acts b
+possible [] f = tt
+possible (Act.Ask q ∷ rest) f = (askable q f.pending.0.2, f.pending.0.1)
+possible (Act.Open w q ∷ rest) {b} f = (
+  each-from (IsOther w.ap w.intf w.cport) b.connections (apart w q rest f),
+  askable q f.pending.0.0.formed,
+  f.pending.0.1,
+)
+possible (Act.Shut k ∷ rest) {b} {h} f =
+    possible rest (linked-shut b (shut_down k b) h k rest refl refl f)
+possible (Act.Leave k ∷ rest) {b} {h} f = possible rest (linked-left b h k rest f)
+possible (Act.Tell e ∷ rest) {b} {h} f =
+    possible rest (linked-rest b h (Act.Tell e) rest (λ k g. absurd cc) f)
+
+-- ---- turns
+
+-- a request ended
+pub may-end : (s : State) (n : ℕ) (how : Outcome) → Linked s.bus s.host []
+    → MayTurn (HostEvent.Ended n how) s
+may-end s n how f = possible _ (turned-ended n how f)
+
+-- a connect that isn't refused
+pub may-connect : (s : State) (i c : ℕ) → OfARun s → refusal s (event.Connect i c) ≡ None
+    → IsValid (event.Connect i c) → MayTurn (HostEvent.Connect i c) s
+may-connect s i c run allowed valid =
+    possible _ (turned-connects s i c allowed valid.1 (reached-linked s run))
+
+-- a disconnect that isn't refused
+pub may-disconnect : (s : State) (i c : ℕ) → OfARun s → refusal s (event.Disconnect i c) ≡ None
+    → MayTurn (HostEvent.Disconnect i c) s
+may-disconnect s i c run allowed =
+    possible _ (turned-disconnects s i c allowed (reached-linked s run))
+
+-- ---- requests of the supervisory controller
+
+-- What a request makes the application processor take notice of, where the bus keeps the facts of
+-- connections.
+pub may-note : (s : State) (at : End) (p : Place) (n : ℕ) (r : Request) (e : HostEvent) {b : Bus}
+    → OfARun s → Notes s at p n r e → Linked b s.host [] → MayTurn e (record s {
+      bus = b;
+      host = (host_serves p.connection.number r.kind r.payload s.host).host;
+    })
+may-note s at p n r e run notes f = possible _ (turned-noticed s at p n r e run notes f)
+
+-- behind the reply
+pub may-notice : (s : State) (at : End) (p : Place) (n : ℕ) (r : Request) (item : Item)
+    (e : HostEvent) → OfARun s → place_of at s.bus.connections ≡ Some p → p.side ≡ side.Ap
+    → first (queue p.side p.connection) ≡ Some (Ask n) → request_of n s.bus ≡ Some r
+    → (host_serves p.connection.number r.kind r.payload s.host).notices ≡ Some e
+    → MayTurn e (record s {
+      bus = replied p.connection.number side.Far item (popped p.connection.number p.side s.bus);
+      host = (host_serves p.connection.number r.kind r.payload s.host).host;
+    })
+may-notice s at p n r item e run named ap_side front made notices =
+    may-note s at p n r e run
+    (record { named = named; side = ap_side; front = front; made = made; notices = notices })
+    (linked-replied p.connection.number side.Far item
+    (linked-popped p.connection.number p.side (reached-linked s run)))
+
+-- where no reply is awaited
+pub may-notice-oneway : (s : State) (at : End) (p : Place) (n : ℕ) (r : Request) (e : HostEvent)
+    → OfARun s → place_of at s.bus.connections ≡ Some p → p.side ≡ side.Ap
+    → first (queue p.side p.connection) ≡ Some (Ask n) → request_of n s.bus ≡ Some r
+    → (host_serves p.connection.number r.kind r.payload s.host).notices ≡ Some e
+    → MayTurn e (record s {
+      bus = popped p.connection.number p.side s.bus;
+      host = (host_serves p.connection.number r.kind r.payload s.host).host;
+    })
+may-notice-oneway s at p n r e run named ap_side front made notices =
+    may-note s at p n r e run
+    (record { named = named; side = ap_side; front = front; made = made; notices = notices })
+    (linked-popped p.connection.number p.side (reached-linked s run))
