@@ -1,3 +1,4 @@
+pub mod Acts
 pub mod Asks
 pub mod Decisions
 pub mod Doings
@@ -5,6 +6,7 @@ pub mod Fits
 pub mod Landing
 pub mod Midways
 pub mod ModuleServes
+pub mod Notices
 pub mod Plugged
 pub mod Standing
 pub mod SvcSteps
