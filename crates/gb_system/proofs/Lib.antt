@@ -8,4 +8,5 @@ pub mod ModuleServes
 pub mod Plugged
 pub mod Standing
 pub mod SvcSteps
+pub mod Takings
 pub mod Turning
