@@ -75,7 +75,8 @@ place-other at (c ∷ cs) p h far = by (side_at at c) refl h (place-other at cs 
     Other q = q.side ≡ side.Far → same_end at (end.Ap q.connection.ap) ≡ false
 
     by : (o : Option Side) → side_at at c ≡ o
-        → or_else (option_map (λ t. record { connection = c; side = t }) o) (place_of at cs) ≡ Some p
+        → or_else (option_map (λ t. record { connection = c; side = t }) o) (place_of at cs)
+        ≡ Some p
         → (place_of at cs ≡ Some p → p.side ≡ side.Far
         → same_end at (end.Ap p.connection.ap) ≡ false)
         → same_end at (end.Ap p.connection.ap) ≡ false
