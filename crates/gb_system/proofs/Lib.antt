@@ -10,4 +10,5 @@ pub mod Notices
 pub mod Plugged
 pub mod Standing
 pub mod SvcSteps
+pub mod Takings
 pub mod Turning
