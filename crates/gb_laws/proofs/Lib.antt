@@ -7,6 +7,8 @@ pub mod AskedWaits
 pub mod Awaited
 pub mod Basics
 pub mod Causes
+pub mod ClosingTurns
+pub mod Closings
 pub mod Controls
 pub mod Delivering
 pub mod Ended
