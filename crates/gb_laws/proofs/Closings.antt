@@ -15,7 +15,7 @@ use Rattle.gb_formats.specs.Manifest.{Manifest, check_answer}
 use Rattle.gb_formats.specs.ManifestRules.{Refused}
 use Rattle.gb_invariants.proofs.Lists.{in-without}
 use Rattle.gb_laws.proofs.LinkLists.{in-first}
-use Rattle.gb_machine.specs.Failures.{interface_fails, link_fails, link_told, step_fails}
+use Rattle.gb_machine.specs.Failures.{interface_fails, link_fails, link_told, step_fails, unsent_fails}
 use Rattle.gb_machine.specs.Host.{Host, free_cport, free_device, in_state, interface_of, is_link, link_at, with_interface, with_link, without_link}
 use Rattle.gb_machine.specs.Members.{IsIn}
 use Rattle.gb_machine.specs.SequenceSteps.{at_step, is_enumeration, is_reply}
@@ -92,6 +92,48 @@ fewer-opened p h = fewer-state state.Open (λ e. absurd cc) p.intf p.cport h
 fewer-failed : (p : Purpose) (h : Host) → ClosesFewer h (link_fails p h).host
 fewer-failed p h = fewer-state state.Failed (λ e. absurd cc) p.intf p.cport h
 
+fewer-interface : (p : Purpose) (h : Host) → ClosesFewer h (interface_fails p h).host
+fewer-interface p h = fewer-links h (interface_fails p h).host refl
+
+-- what fails where a step isn't answered as it should be
+fewer-fails : (step : SequenceStep) (p : Purpose) (h : Host) → ClosesFewer h (step_fails step p h).host
+fewer-fails steps.CreateControl p h = λ n x. fewer-failed p h n
+    (fewer-links (link_fails p h).host (step_fails steps.CreateControl p h).host refl n x)
+fewer-fails steps.CreateConnection p h = fewer-failed p h
+fewer-fails steps.TellConnected p h = fewer-failed p h
+fewer-fails steps.TellDisconnecting p h = fewer-failed p h
+fewer-fails steps.TellDisconnected p h = fewer-failed p h
+fewer-fails steps.DestroyConnection p h = fewer-failed p h
+fewer-fails steps.EnableVsys p h = fewer-interface p h
+fewer-fails steps.EnableRefclk p h = fewer-interface p h
+fewer-fails steps.EnableUnipro p h = fewer-interface p h
+fewer-fails steps.Activate p h = fewer-interface p h
+fewer-fails steps.GiveDevice p h = fewer-interface p h
+fewer-fails steps.CreateRoute p h = fewer-interface p h
+fewer-fails steps.AskVersion p h = fewer-interface p h
+fewer-fails steps.AskSize p h = fewer-interface p h
+fewer-fails steps.AskManifest p h = fewer-interface p h
+
+-- and where its request can't be made
+pub fewer-unsent : (step : SequenceStep) (p : Purpose) (h : Host)
+    → ClosesFewer h (unsent_fails step p h).host
+fewer-unsent steps.CreateControl p h = fewer-interface p h
+fewer-unsent steps.CreateConnection p h = λ n x. x
+fewer-unsent steps.GiveDevice p h =
+    fewer-links h (unsent_fails steps.GiveDevice p h).host refl
+fewer-unsent steps.TellConnected p h = fewer-failed p h
+fewer-unsent steps.TellDisconnecting p h = fewer-failed p h
+fewer-unsent steps.TellDisconnected p h = fewer-failed p h
+fewer-unsent steps.DestroyConnection p h = fewer-failed p h
+fewer-unsent steps.EnableVsys p h = fewer-interface p h
+fewer-unsent steps.EnableRefclk p h = fewer-interface p h
+fewer-unsent steps.EnableUnipro p h = fewer-interface p h
+fewer-unsent steps.Activate p h = fewer-interface p h
+fewer-unsent steps.CreateRoute p h = fewer-interface p h
+fewer-unsent steps.AskVersion p h = fewer-interface p h
+fewer-unsent steps.AskSize p h = fewer-interface p h
+fewer-unsent steps.AskManifest p h = fewer-interface p h
+
 -- a sequence waits for something, or for nothing
 pub fewer-waiting : (w : Option (ℕ × SequenceStep)) (p : Purpose) (h : Host)
     → ClosesFewer h (waiting w p h)
@@ -132,29 +174,10 @@ closes-interface : (p : Purpose) (h : Host) → TurnCloses h (failed_turn (inter
 closes-interface p h = closes-host h (interface_fails p h).host (interface_fails p h).told
     (fewer-links h (interface_fails p h).host refl)
 
-closes-link : (p : Purpose) (h : Host) → TurnCloses h (failed_turn (link_fails p h))
-closes-link p h = closes-host h (link_fails p h).host (link_fails p h).told (fewer-failed p h)
-
 closes-fails : (step : SequenceStep) (p : Purpose) (h : Host)
     → TurnCloses h (failed_turn (step_fails step p h))
-closes-fails steps.CreateControl p h =
-    closes-host h (step_fails steps.CreateControl p h).host (step_fails steps.CreateControl p h).told
-    (λ n x. fewer-failed p h n
-    (fewer-links (link_fails p h).host (step_fails steps.CreateControl p h).host refl n x))
-closes-fails steps.CreateConnection p h = closes-link p h
-closes-fails steps.TellConnected p h = closes-link p h
-closes-fails steps.TellDisconnecting p h = closes-link p h
-closes-fails steps.TellDisconnected p h = closes-link p h
-closes-fails steps.DestroyConnection p h = closes-link p h
-closes-fails steps.EnableVsys p h = closes-interface p h
-closes-fails steps.EnableRefclk p h = closes-interface p h
-closes-fails steps.EnableUnipro p h = closes-interface p h
-closes-fails steps.Activate p h = closes-interface p h
-closes-fails steps.GiveDevice p h = closes-interface p h
-closes-fails steps.CreateRoute p h = closes-interface p h
-closes-fails steps.AskVersion p h = closes-interface p h
-closes-fails steps.AskSize p h = closes-interface p h
-closes-fails steps.AskManifest p h = closes-interface p h
+closes-fails step p h =
+    closes-host h (step_fails step p h).host (step_fails step p h).told (fewer-fails step p h)
 
 pub closes-asked : (p : Purpose) (h : Host) → TurnCloses h (step_asked p h)
 closes-asked p h = by (way_of p h)

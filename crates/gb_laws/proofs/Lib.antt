@@ -43,6 +43,8 @@ pub mod Midway
 pub mod Naming
 pub mod Noticing
 pub mod Onward
+pub mod OpenKept
+pub mod Opens
 pub mod OwnReplies
 pub mod Owned
 pub mod Owning
@@ -76,6 +78,7 @@ pub mod Serving
 pub mod SettleQueues
 pub mod Settles
 pub mod Settling
+pub mod Shutting
 pub mod Since
 pub mod Single
 pub mod Speaking
