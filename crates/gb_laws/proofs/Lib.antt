@@ -44,6 +44,7 @@ pub mod Naming
 pub mod Noticing
 pub mod Onward
 pub mod OpenKept
+pub mod OpenRuns
 pub mod Opens
 pub mod OwnReplies
 pub mod Owned

@@ -281,12 +281,16 @@ pub linked-opened : (b : Bus) (h : Host) (w : Making) (q : Asking) (rest : List 
     → Linked (attached w.ap w.intf w.cport w.protocol b) (with_new_link (next_connection b) w.ap w.intf w.cport w.protocol h) (Act.Ask q ∷ rest)
 linked-opened b h w q rest range f = record {
   host = host-more b h w q f.host free f.made range;
-  pending = ((
-    due q.purpose.step free.step,
-    f.pending.0.1,
-    free.formed,
-    λ e. absurd (own q.purpose.step free.step e),
-  ), subst (ArePending (with_new_link (next_connection b) w.ap w.intf w.cport w.protocol h)) (sym f.pending.0.1) tt);
+  pending = (
+    (
+      due q.purpose.step free.step,
+      f.pending.0.1,
+      free.formed,
+      λ e. absurd (own q.purpose.step free.step e),
+    ),
+    subst (ArePending (with_new_link (next_connection b) w.ap w.intf w.cport w.protocol h))
+        (sym f.pending.0.1) tt,
+  );
   known = λ c live. ⊎_elim
       (λ o. known-more c h.links (new_link (next_connection b) w) (Act.Open w q) (λ e. absurd cc)
       (subst (λ r. IsKnown c h.links (Act.Open w q ∷ r)) f.pending.0.1 (f.known c o)) (Act.Ask q ∷ rest))

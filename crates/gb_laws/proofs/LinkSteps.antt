@@ -186,12 +186,15 @@ fits-asked b p h fits due other = by (way_of p h) refl
     by None e = fits-failed b p.step p h fits due
     by (Some k) e = record {
       host = fits;
-      pending = ((
-        due,
-        refl,
-        formed-asking b p h k (target (ap_in (link_at p.intf p.cport h)) p h) fits e refl other,
-        on-control p h k e,
-      ), tt);
+      pending = (
+        (
+          due,
+          refl,
+          formed-asking b p h k (target (ap_in (link_at p.intf p.cport h)) p h) fits e refl other,
+          on-control p h k e,
+        ),
+        tt,
+      );
       followed = followed-same h.links _;
       kept = kept-same h.interfaces;
     }

@@ -40,7 +40,6 @@ use Rattle.gb_machine.specs.Runs.{Moment}
 use Rattle.gb_machine.specs.Sending.{Draft, put, queued}
 use Rattle.gb_machine.specs.Turns.{Act, Asking, Making}
 use Rattle.gb_machine.specs.Wiring.{attached, detached, new_connection, next_connection, shut_down, with_connection}
-
 use Rattle.gb_laws.proofs.Opens.{IsUpon, Opens, open-found, open-link, open-svc, opens-act, opens-fewer, opens-first, opens-host, opens-sent}
 
 -- ---- who asks

@@ -242,9 +242,14 @@ module _ (m : Moment) (law : Law m) where
           (is_kept k kind, why.Unsupported) ∷ (is_long_payload payload, why.TooLarge)
           ∷ (has_no_label k.connection side.Ap s, no_label) ∷ []) o)) e met.1.1.1.1.1 in
           rests-sends_on name l.connection kind payload timeout s
-          (inr (l, (found-in (is_link i c) s.host.links l e).0, refl, open-takes l
-          (subst (λ o. AreUnmet (link_conditions o)) e
-          (met.1.1.0, (met.1.1.1.0, (met.1.1.1.1.0, tt)))))) linked.1.1.0
+          (inr (
+            l,
+            (found-in (is_link i c) s.host.links l e).0,
+            refl,
+            open-takes l
+                (subst (λ o. AreUnmet (link_conditions o)) e
+                (met.1.1.0, (met.1.1.1.0, (met.1.1.1.1.0, tt)))),
+          )) linked.1.1.0
 
   pub rests-bridges : (name : Name) (i c : ℕ) (what : BridgeAsk) (s : State)
       → refusal s (event.Bridge name i c what) ≡ None → Rests (bridges name i c what) s
