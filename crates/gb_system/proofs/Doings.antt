@@ -18,6 +18,15 @@ does-as {x} {f} {g} {s} {a} {b} same d = record {
   stand = subst (λ (t : Told). PartsStand [] x t.state) same d.stand;
 }
 
+-- what an action does is known: the state after it, and what it tells
+pub does-is : {x : Parties} {f : Action} {s : State} {a b : List Entry} (t : State)
+    (es : List Entry) → f s ≡ record { state = t; entries = es } → b ≡ a ++ es
+    → PartsStand [] x t → Does x f s a b
+does-is {x} {f} {s} {a} {b} t es is appended st = record {
+  told_is = appended ∙ ap (λ (w : Told). a ++ w.entries) (sym is);
+  stand = subst (λ (w : Told). PartsStand [] x w.state) (sym is) st;
+}
+
 -- from another state that is the same
 pub does-from : {x : Parties} {f : Action} {s t : State} {a b : List Entry}
     → s ≡ t → Does x f s a b → Does x f t a b

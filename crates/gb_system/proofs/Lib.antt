@@ -1,6 +1,11 @@
+pub mod Asks
 pub mod Decisions
 pub mod Doings
+pub mod Fits
 pub mod Landing
+pub mod Midways
+pub mod ModuleServes
 pub mod Plugged
+pub mod Standing
 pub mod SvcSteps
 pub mod Turning

@@ -26,6 +26,7 @@ inserted i m (p ∷ ps) = by (nat_lt i p.intf) (inserted i m ps)
     by true later = refl
     by false later = ap (λ qs. p ∷ qs) later
 
+-- as code finds the place
 pub plugs : (i : ℕ) (m : Module) (ps items after : List Plugged) (n : ℕ)
     → items ≡ ps → n ≡ place_behind i ps → after ≡ insert items n (record { intf = i; body = m })
     → after ≡ plugged i m ps

@@ -1,6 +1,7 @@
 //! Requests that are made, and told.
 
-ghost use Rattle.std.specs.Prelude.{◌≡◌, [], IfOk, OnOk, option_map};
+ghost use Rattle.std.specs.Prelude.{◌≡◌, [], false, IfOk, OnOk, option_map};
+ghost use Rattle.gb_base.specs.declared.end.Side.TheVariants as side;
 ghost use Rattle.gb_bus.specs.Sending.{label_on};
 ghost use Rattle.gb_machine.specs.Asking.{asks};
 ghost use Rattle.gb_machine.specs.Bus.{next_number, other_side};
@@ -39,7 +40,7 @@ pub struct Draft<'a> {
 
 impl Parties {
     /// Makes a request and tells it, where its connection is live and an identifier is left.
-    /// Answers its number.
+    /// Answers its number. Requests of the application processor get a response.
     pub fn ask(
         &mut self,
         q: &Draft<'_>,
@@ -49,6 +50,7 @@ impl Parties {
             → n ≡ option_map (λ l. next_number s.bus) (label_on (draft_of q.now) s.bus)) }
         ensures step { OnOk result ((s : State) → PartsStand [] self.old s
             → IsAskable q.now.kind q.now.payload.now
+            → (q.now.side ≡ side.Ap → q.now.oneway ≡ false)
             → Does self.new (asks (draft_of q.now)) s told.old told.new) }
     {
         let Some(ends) = self.bus.ends(q.connection) else {

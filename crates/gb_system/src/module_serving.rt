@@ -14,8 +14,11 @@ ghost use Rattle.gb_system.specs.Serving.{only};
 ghost use Rattle.gb_system.specs.Stands.{PartsStand};
 
 use crate::parties::Parties;
-use gb_base::{Entries, OutOfMemory};
+use gb_base::{Entries, OutOfMemory, Side};
 use gb_bus::Asked;
+
+/// The result of a request at an interface where nothing is plugged.
+const NONEXISTENT: u8 = 0x08;
 
 impl Parties {
     /// A module serves a request at a CPort: its reply goes back, and then the requests of its own
@@ -36,6 +39,13 @@ impl Parties {
             → length payload.now ≤ most_payload
             → Does self.new (serves side.Far c (incoming n may.request)) s told.old told.new) }
     {
-        self.far_ask(connection, asked.kind, payload, cport == u16::from(intf), told)
+        let Some(served) = self.modules.serve(intf, cport, asked.kind, payload)? else {
+            self.answer(connection, Side::Far, asked, NONEXISTENT, &[], told)?;
+            return Ok(());
+        };
+        let answer = served.payload.items();
+        self.answer(connection, Side::Far, asked, served.result, answer, told)?;
+        self.far_ask_all(connection, served.asks.items(), told)?;
+        Ok(())
     }
 }
