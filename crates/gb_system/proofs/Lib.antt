@@ -1,11 +1,14 @@
 pub mod Asks
+pub mod Connects
 pub mod Decisions
 pub mod Doings
 pub mod Fits
 pub mod Landing
 pub mod Midways
 pub mod ModuleServes
+pub mod NamedRequests
 pub mod Plugged
+pub mod Sends
 pub mod Standing
 pub mod SvcSteps
 pub mod Turning
