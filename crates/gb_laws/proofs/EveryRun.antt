@@ -12,6 +12,8 @@ use Rattle.gb_laws.proofs.Replies.{replies-by_moments}
 use Rattle.gb_laws.proofs.Replying.{ends-once_by_moments}
 use Rattle.gb_laws.proofs.Routed.{routed-by_moments}
 use Rattle.gb_laws.proofs.Single.{labels-by_moments, names-by_moments, one-item_by_moments}
+use Rattle.gb_laws.proofs.OpenRuns.{open-live_by_moments}
+use Rattle.gb_machine.specs.Runs.{HoldsThroughout}
 use Rattle.gb_machine.specs.LawsBus.{
   EndpointsDiffer,
   HaveAwaited,
@@ -40,6 +42,7 @@ use Rattle.gb_machine.specs.LawsHotPlug.{
   HaveOwnItems,
   NoForeignMessage,
   AbsentAfterRemoval,
+  OpenIsLive,
   TakesFromItsConnection,
 }
 use Rattle.gb_machine.specs.LawsSvc.{
@@ -97,6 +100,10 @@ absent-after = (
   of-all AbsentIsUnconnected (of-state _) unconnected-by_moments,
   at-all AbsentBetween between-at_moments,
 )
+
+-- Each open request of the application processor is on a live connection.
+pub open-live : HoldsThroughout OpenIsLive
+open-live = of-all OpenIsLive (of-state _) open-live_by_moments
 
 -- What is wired is routed.
 pub wired-routed : WiredMeansRouted

@@ -163,5 +163,5 @@ module _ (m : Moment) (law : ActLaw m) where
   goes-far_asks_all acts wires k [] s to = goes-nothing None acts wires s
   goes-far_asks_all acts wires k (x ∷ xs) s to =
       goes-▸ None None None acts acts acts wires wires wires (far_asks k x) (each xs (far_asks k)) s
-      (goes-far_asks acts wires k x s (λ c e. let p = to c e in by_module p.0 p.1 p.2))
+      (goes-far_asks acts wires k x s (λ c e. let p = to c e in by_module p.0 p.1 p.2 refl))
       (goes-far_asks_all acts wires k xs (far_asks k x s).state (to-asked k x s to))

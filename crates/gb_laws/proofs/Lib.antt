@@ -7,6 +7,8 @@ pub mod AskedWaits
 pub mod Awaited
 pub mod Basics
 pub mod Causes
+pub mod ClosingTurns
+pub mod Closings
 pub mod Controls
 pub mod Delivering
 pub mod Ended
@@ -41,6 +43,9 @@ pub mod Midway
 pub mod Naming
 pub mod Noticing
 pub mod Onward
+pub mod OpenKept
+pub mod OpenRuns
+pub mod Opens
 pub mod OwnReplies
 pub mod Owned
 pub mod Owning
@@ -74,6 +79,7 @@ pub mod Serving
 pub mod SettleQueues
 pub mod Settles
 pub mod Settling
+pub mod Shutting
 pub mod Since
 pub mod Single
 pub mod Speaking

@@ -26,7 +26,7 @@ use Rattle.gb_machine.specs.Failures.{interface_fails, link_fails, link_told, st
 use Rattle.gb_machine.specs.Host.{Host, control_of, free_cport, free_device, in_state, interface_of, is_link, link_at, staged, with_interface, with_link, without_link}
 use Rattle.gb_machine.specs.Lists.{without}
 use Rattle.gb_machine.specs.Members.{IsIn}
-use Rattle.gb_machine.specs.SequenceSteps.{Target, at_step, is_enumeration, is_reply}
+use Rattle.gb_machine.specs.SequenceSteps.{Target, asks_control, at_step, is_enumeration, is_reply}
 use Rattle.gb_machine.specs.Sequences.{ap_in, asked_on, asking, begins_control, begins_device, enumerated, goes_on, size_in, link_left, link_turn, manifest_checked, manifest_told, opened, opened_told, size_known, step_answered, step_asked, step_done, target, way_of}
 use Rattle.gb_machine.specs.Turns.{Act, Turn, failed_turn, telling}
 
@@ -164,6 +164,20 @@ formed-asking b p h k t fits way intf other = record {
     at (Some l) e f = subst (λ n. 2 ≤ n) (same-some l.connection k f)
         (fits.links.numbered l (found-in (is_link p.intf 0) h.links l e).0).from_two
 
+-- and goes on the Control connection where it is one to that
+on-control : (p : Purpose) (h : Host) (k : ℕ) → way_of p h ≡ Some k → asks_control p.step ≡ true
+    → (l : Link) × IsIn l h.links × (l.connection ≡ k) × (l.cport ≡ 0)
+on-control p h k way own = at (link_at p.intf 0 h) refl
+    (sym (ap (λ c. cond c (control_of p.intf h) (Some 1)) own) ∙ way)
+  where
+    at : (o : Option Link) → link_at p.intf 0 h ≡ o
+        → option_map (λ (l : Link). l.connection) o ≡ Some k
+        → (l : Link) × IsIn l h.links × (l.connection ≡ k) × (l.cport ≡ 0)
+    at None e f = absurd cc
+    at (Some l) e f =
+        let i = found-in (is_link p.intf 0) h.links l e in
+        (l, i.0, same-some l.connection k f, (link-is p.intf 0 l i.1).1)
+
 pub fits-asked : (b : Bus) (p : Purpose) (h : Host) → HostFits b h → IsDue p.step p h
     → p.step ≢ steps.CreateConnection → TurnFits b h (step_asked p h)
 fits-asked b p h fits due other = by (way_of p h) refl
@@ -172,7 +186,15 @@ fits-asked b p h fits due other = by (way_of p h) refl
     by None e = fits-failed b p.step p h fits due
     by (Some k) e = record {
       host = fits;
-      pending = ((due, refl, formed-asking b p h k (target (ap_in (link_at p.intf p.cport h)) p h) fits e refl other), tt);
+      pending = (
+        (
+          due,
+          refl,
+          formed-asking b p h k (target (ap_in (link_at p.intf p.cport h)) p h) fits e refl other,
+          on-control p h k e,
+        ),
+        tt,
+      );
       followed = followed-same h.links _;
       kept = kept-same h.interfaces;
     }

@@ -34,7 +34,7 @@ use Rattle.gb_base.specs.declared.event.Event.TheVariants as event
 use Rattle.gb_base.specs.declared.name.Name.{Name}
 use Rattle.gb_base.specs.declared.outcome.Outcome.{Outcome}
 use Rattle.gb_base.specs.declared.outcome.Outcome.TheVariants as outcome
-use Rattle.gb_machine.specs.Arriving.{reading_for, with_held}
+use Rattle.gb_machine.specs.Arriving.{reading_for, state_takes, with_held}
 use Rattle.gb_machine.specs.Bus.{
   Bus,
   Connection,
@@ -149,7 +149,7 @@ IsOfSvc _ = ⊥
 -- A far side asks on a connection: a module, or the supervisory controller at an event that concerns
 -- it, which tells the removal of an interface once that has no power.
 pub data IsFarAsking (m : Moment) (s : State) (c : Connection) (d : Draft) : Type 0 where
-  by_module : (i p : ℕ) → c.peer ≡ end.Module i p → IsFarAsking m s c d
+  by_module : (i p : ℕ) → c.peer ≡ end.Module i p → d.side ≡ side.Far → IsFarAsking m s c d
   by_svc : IsOfSvc m.event → d.side ≡ side.Far → ((i : ℕ) → removes i (read_svc_ask d.kind d.payload) ≡ true
       → level_of i s.ports ≡ 0) → IsFarAsking m s c d
 
@@ -173,10 +173,12 @@ IsOver (HostEvent.Ended n how) b =
     → is_awaited n b ≡ false
 IsOver _ b = Unit {0}
 
--- what a line asks is no request of a sequence, or is on the connection of a module
+-- What a line asks is no request of a sequence and goes to the supervisory controller, or it is on
+-- the connection of a module, where something is taken.
 abbrev pub IsPlain : State → Draft → Type 0
-IsPlain s d = (is_reserved d.kind ≡ false)
-    ⊎ ((l : Link) × IsIn l s.host.links × (d.connection ≡ l.connection))
+IsPlain s d = ((is_reserved d.kind ≡ false) × (d.connection ≡ 1))
+    ⊎ ((l : Link) × IsIn l s.host.links × (d.connection ≡ l.connection)
+    × (state_takes l.state ≡ true))
 
 -- the manifests of modules fit into a message
 abbrev pub AreShort : List Plugged → Type 0
@@ -245,7 +247,7 @@ pub data Change (m : Moment) (a : Point) : Type 0 where
       → label_for d a.state.bus ≡ Some label → IsAskedBy m a c d → Change m a
   names : (name : Name) (d : Draft) (c : Connection) (label : ℕ) → a.hand ≡ None
       → connection_of d.connection a.state.bus ≡ Some c
-      → label_for d a.state.bus ≡ Some label → (d.side ≡ side.Ap) × IsPlain a.state d
+      → label_for d a.state.bus ≡ Some label → (d.side ≡ side.Ap) × IsPlain a.state d × (a.pending ≡ [])
       → Change m a
   -- a name gets a request that another has, or is free
   binds : (x y : Name) (n : ℕ) → named x a.state.names ≡ Some n → Change m a

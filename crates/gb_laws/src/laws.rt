@@ -14,9 +14,9 @@ ghost use Rattle.gb_machine.specs.LawsEnds.{
   EndsAtMostOnce,
   EveryEndHasItsCause,
 };
-ghost use Rattle.gb_machine.specs.LawsHotPlug.{AbsentAfterRemoval, NoForeignMessage};
+ghost use Rattle.gb_machine.specs.LawsHotPlug.{AbsentAfterRemoval, NoForeignMessage, OpenIsLive};
 ghost use Rattle.gb_machine.specs.LawsSvc.{RemovalLeavesNothingWired, WiredMeansRouted};
-ghost use Rattle.gb_machine.specs.Runs.{SettlesAreDeliveries};
+ghost use Rattle.gb_machine.specs.Runs.{HoldsThroughout, SettlesAreDeliveries};
 ghost use Rattle.gb_machine.specs.Summary.{CountsAddUp};
 
 /// Each request has one outcome at most, and one end and one reply at most are told of it.
@@ -73,6 +73,12 @@ pub fn no_foreign_message()
 /// insertion is, and no live connection names an interface that is absent.
 pub fn absent_after_removal()
     ensures { AbsentAfterRemoval }
+{}
+
+/// An open request of the application processor is on a live connection, and its side of that isn't
+/// closed.
+pub fn open_is_live()
+    ensures { HoldsThroughout OpenIsLive }
 {}
 
 /// While MODULE_REMOVED of an interface waits toward the application processor, the power level of

@@ -1,13 +1,16 @@
 pub mod Acts
 pub mod Asks
+pub mod Connects
 pub mod Decisions
 pub mod Doings
 pub mod Fits
 pub mod Landing
 pub mod Midways
 pub mod ModuleServes
+pub mod NamedRequests
 pub mod Notices
 pub mod Plugged
+pub mod Sends
 pub mod Standing
 pub mod SvcSteps
 pub mod Takings

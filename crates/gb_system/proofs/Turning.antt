@@ -83,11 +83,10 @@ apart {b} {h} w q rest f c live =
     by (leaving (inl e)) = absurd cc
     by (leaving (inr i)) = absurd i
 
--- a step with which a connection is made is the supervisory controller's
-to-svc : (w : Making) (step : SequenceStep) → IsMaking w step → asks_control step ≡ false
-to-svc w step (control zero_cport) = refl
-to-svc w step (connection other) = refl
-
+-- a connection is made by a request to the supervisory controller
+making-asks : {w : Making} {step : SequenceStep} → IsMaking w step → asks_control step ≡ false
+making-asks (control e) = refl
+making-asks (connection e) = refl
 
 -- Acts that are pending are possible.
 pub possible : (acts : List Act) {b : Bus} {h : Host} → Linked b h acts → ArePossible acts b
@@ -97,7 +96,7 @@ possible (Act.Open w q ∷ rest) {b} f = (
   record {
     attach = each-from (IsOther w.ap w.intf w.cport) b.connections (apart w q rest f);
     ask = askable q f.pending.0.0.formed;
-    on = f.pending.0.0.formed.on (to-svc w q.purpose.step f.pending.0.0.step);
+    on = f.pending.0.0.formed.on (making-asks f.pending.0.0.step);
     intf = f.pending.0.0.intf;
     cport = f.pending.0.0.cport;
   },
