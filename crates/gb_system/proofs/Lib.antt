@@ -10,6 +10,7 @@ pub mod ModuleServes
 pub mod NamedRequests
 pub mod Notices
 pub mod Plugged
+pub mod Replies
 pub mod Sends
 pub mod Standing
 pub mod SvcSteps

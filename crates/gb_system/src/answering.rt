@@ -38,10 +38,11 @@ impl Parties {
             → Does self.new (replies side c (incoming n may.request) (answer code payload.now))
             s told.old told.new) }
     {
+        let Some(ends) = self.bus.ends(connection) else {
+            return Ok(());
+        };
         self.bus.reply(connection, side, asked, code, payload)?;
-        if let Some(ends) = self.bus.ends(connection) {
-            told.push(replied(self.alloc, side, ends, asked, code, payload)?)?;
-        }
+        told.push(replied(self.alloc, side, ends, asked, code, payload)?)?;
         Ok(())
     }
 }
