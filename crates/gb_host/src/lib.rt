@@ -22,6 +22,8 @@ mod serving;
 #[cfg(test)]
 mod tests;
 mod turning;
+#[cfg(test)]
+mod turning_tests;
 mod waiting;
 
 pub use acts::{Act, Acts};
