@@ -4,5 +4,6 @@ pub mod Free
 pub mod Fronts
 pub mod Looks
 pub mod Manifests
+pub mod Marks
 pub mod Ordering
 pub mod Restoring

@@ -6,6 +6,8 @@ mod acts;
 mod asking;
 mod bridging;
 mod connecting;
+mod connections;
+mod cports;
 mod enumerating;
 mod events;
 mod failing;

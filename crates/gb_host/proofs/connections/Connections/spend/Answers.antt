@@ -1,0 +1,11 @@
+-- The connections have the CPorts that they had.
+use Rattle.std.proofs.Common.{refl}
+use Rattle.gb_host.proofs.Marks.{marks-kept}
+use Rattle.gb_host.specs.Changes.{with_fewer}
+use Rattle.gb_machine.specs.Host.{is_link}
+use Rattle.gb_host.proofs.connections.Connections.spend.Goals as goal
+
+pub invariant_of-self : goal.invariant_of-self
+invariant_of-self c =
+    marks-kept c.self.inside.cports (is_link c.args.intf c.args.cport) (with_fewer c.args.taken) c.self.inside.links.live.items c.spend.new.self.live.items
+    (λ l. refl) c.self.invariant c.spend.ensures
