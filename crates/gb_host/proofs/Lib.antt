@@ -7,3 +7,4 @@ pub mod Manifests
 pub mod Marks
 pub mod Ordering
 pub mod Restoring
+pub mod Rising

@@ -14,11 +14,13 @@ use std::alloc::Global;
 use std::marker::Model;
 
 /// The connections to modules in order of number. A contract sees them alone. The CPorts of the
-/// application processor that they have are kept, so that a free one is found without them.
+/// application processor that they have are marked, so that a free one is found without them, and
+/// a connection is found by its number in few steps as long as new numbers are the greatest.
 #[derive(Drop)]
 pub struct Connections {
     links: Links,
     cports: Cports,
+    rising: bool,
 }
 
 impl Model for Connections {
@@ -26,11 +28,11 @@ impl Model for Connections {
 
     ghost Value = { Links };
 
-    ghost use Rattle.gb_host.specs.Marks.{Marks};
+    ghost use Rattle.gb_host.specs.Indexes.{AreIndexed};
 
     ghost view = { λ x. x.links };
 
-    ghost invariant = { λ x. Marks x.cports x.links.live.items };
+    ghost invariant = { λ x. AreIndexed x.cports x.rising x.links.live.items };
 }
 
 impl Connections {
@@ -43,6 +45,7 @@ impl Connections {
         Ok(Connections {
             links: Links::new(alloc),
             cports: Cports::new(alloc)?,
+            rising: true,
         })
     }
 
@@ -64,7 +67,11 @@ impl Connections {
     pub fn of(&self, connection: u64) -> Option<Link>
         ensures { result ≡ find (λ l. l.connection == connection) self.now.live.items }
     {
-        self.links.of(connection)
+        if self.rising {
+            self.links.of_rising(connection)
+        } else {
+            self.links.of(connection)
+        }
     }
 
     /// The least CPort of the application processor from 1 to 4,095 that no connection has.
@@ -127,8 +134,10 @@ impl Connections {
     pub fn add(&mut self, link: Link)
         ensures { HasRoom self.old → self.new.live.items ≡ self.old.live.items ++ link ∷ [] }
     {
+        let rises = self.links.rises_to(link);
         if self.links.add(link) {
             self.cports.take(link);
+            self.rising &= rises;
         }
     }
 

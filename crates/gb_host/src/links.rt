@@ -18,6 +18,7 @@ pub struct Links {
 }
 
 impl Links {
+    ghost use Rattle.gb_host.specs.Indexes.{Rises};
     ghost use Rattle.gb_host.specs.Changes.{HasRoom, is_empty, link_awaits, with_fewer};
 
     /// No connections. It takes no memory yet.
@@ -54,6 +55,38 @@ impl Links {
             .iter()
             .copied()
             .find(|link| link.connection == connection)
+    }
+
+    /// The connection with a number, where the numbers rise. Few connections are looked at.
+    pub fn of_rising(&self, connection: u64) -> Option<Link>
+        ensures { Rises self.now.live.items
+            → result ≡ find (λ l. l.connection == connection) self.now.live.items }
+    {
+        let place = self
+            .live
+            .partition_point(|link| link.connection < connection);
+        if place == self.live.len() {
+            return None;
+        }
+        let link = self.live[place];
+        if link.connection == connection {
+            Some(link)
+        } else {
+            None
+        }
+    }
+
+    /// No number is greater than that of a connection that is about to go to the end, where the
+    /// numbers rise.
+    pub fn rises_to(&self, link: Link) -> bool
+        ensures { result ≡ true → Rises self.now.live.items
+            → Rises (self.now.live.items ++ link ∷ []) }
+    {
+        let live = self.live.as_slice();
+        if live.is_empty() {
+            return true;
+        }
+        live[live.len() - 1].connection <= link.connection
     }
 
     /// The purpose of a request that a connect or close waits for.

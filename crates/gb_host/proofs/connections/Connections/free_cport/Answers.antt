@@ -8,5 +8,6 @@ use Rattle.gb_host.proofs.connections.Connections.free_cport.Goals as goal
 
 pub returns : goal.returns
 returns c =
-    c.free.ensures c.self.inside.links.live.items c.self.invariant
-    ∙ ap (λ (x : Links). first_free (λ a. list_any (λ (l : Link). l.ap == a) x.live.items) 4095 1) c.self.view_is
+    c.free.ensures c.self.inside.links.live.items c.self.invariant.marks
+    ∙ ap (λ (x : Links). first_free (λ a. list_any (λ (l : Link). l.ap == a) x.live.items) 4095 1)
+    c.self.view_is
