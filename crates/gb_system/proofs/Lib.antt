@@ -1,4 +1,5 @@
 pub mod Acts
+pub mod ApServes
 pub mod Asks
 pub mod Connects
 pub mod Decisions
@@ -13,6 +14,7 @@ pub mod Plugged
 pub mod Replies
 pub mod Sends
 pub mod Standing
+pub mod SvcServes
 pub mod SvcSteps
 pub mod Takings
 pub mod Turning

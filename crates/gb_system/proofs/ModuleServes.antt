@@ -113,14 +113,6 @@ serves-none s c i cport n r peer twoway there =
 
 -- ---- as the parties do it
 
--- what was done at one state was done at another, where the machine does the same
-does-across : {x : Parties} {f g : Action} {s t : State} {a b : List Entry}
-    → f t ≡ g s → Does x f t a b → Does x g s a b
-does-across {x} {f} {g} {s} {t} {a} {b} same d = record {
-  told_is = d.told_is ∙ ap (λ (o : Told). a ++ o.entries) same;
-  stand = subst (λ (o : Told). PartsStand [] x o.state) same d.stand;
-}
-
 -- the clause of an answer, at this result and payload
 abbrev pub AnswersThere : ℕ → Asked → ℕ → List ℕ → Parties → Parties → List Entry → List Entry
     → Type 0
@@ -196,7 +188,7 @@ serves-some k i cport asked payload x y z mods served a b d steps answers asks s
         fits.served.asks in
         let first = answers t1 c n stand1 live may fit in
         let second = asks _ first.stand askable in
-        does-across
+        does-as
         (ap (λ (v : Served). (replies side.Far c (incoming n r) (answer v.result v.payload)
         ▸ far_asks_all k v.asks) t1) served_is
         ∙ ap (λ j. (replies side.Far c (incoming n r)
@@ -225,5 +217,5 @@ serves-nowhere k i cport asked payload x z mods a d steps answers s c n stand li
     by None there t =
         let found : module_at i s.modules ≡ None = ap (module_at i) stand.modules ∙ there in
         let stand1 = stands-with s.modules mods (stand.modules ∙ sym t.1) stand.short stand in
-        does-across (serves-none s c i cport n r peer may.twoway found)
+        does-as (serves-none s c i cport n r peer may.twoway found)
         (answers s c n stand1 live may (omega arith))

@@ -12,7 +12,9 @@ use Rattle.gb_machine.specs.Bus as machine
 use Rattle.gb_machine.specs.Bus.{Request}
 use Rattle.gb_machine.specs.Host as machine_host
 use Rattle.gb_machine.specs.Lists.{nth}
-use Rattle.gb_machine.specs.State.{Past, State}
+use Rattle.gb_machine.specs.State.{Past, Port, State}
+use Rattle.gb_switch.specs.Stands as switch
+use Rattle.gb_switch.specs.declared.ladder.Ladder.{Ladder}
 use Rattle.gb_system.specs.Stands.{AreSound, PartsStand, held_items}
 use Rattle.gb_system.specs.declared.parties.Parties.{Parties}
 
@@ -83,6 +85,24 @@ pub repast : {x : Parties} {s : State} {loose : List Loose} (past : Past) → Pa
 repast past st = record {
   bus = st.bus;
   ports = st.ports;
+  modules = st.modules;
+  host = st.host;
+  names = st.names;
+  booted = st.booted;
+  sound = st.sound;
+  short = st.short;
+  now = st.now;
+  holds = st.holds;
+  held = st.held;
+}
+
+-- The parties stand for a state with other power levels.
+pub relevelled : {x : Parties} {s : State} {loose : List Loose} (y : Ladder) (ports : List Port)
+    → PartsStand loose x s → switch.Stands y ports
+    → PartsStand loose (record x { ladder = y }) (record s { ports = ports })
+relevelled y ports st stands = record {
+  bus = st.bus;
+  ports = stands;
   modules = st.modules;
   host = st.host;
   names = st.names;
