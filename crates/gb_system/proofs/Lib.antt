@@ -1,13 +1,16 @@
 pub mod Asks
+pub mod Boots
 pub mod Connects
 pub mod Decisions
 pub mod Doings
 pub mod Fits
+pub mod Inserts
 pub mod Landing
 pub mod Midways
 pub mod ModuleServes
 pub mod NamedRequests
 pub mod Plugged
+pub mod Pulls
 pub mod Sends
 pub mod Standing
 pub mod SvcSteps
