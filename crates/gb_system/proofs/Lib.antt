@@ -1,3 +1,4 @@
+pub mod Acts
 pub mod Asks
 pub mod Boots
 pub mod Connects
@@ -9,9 +10,11 @@ pub mod Landing
 pub mod Midways
 pub mod ModuleServes
 pub mod NamedRequests
+pub mod Notices
 pub mod Plugged
 pub mod Pulls
 pub mod Sends
 pub mod Standing
 pub mod SvcSteps
+pub mod Takings
 pub mod Turning

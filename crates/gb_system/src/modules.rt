@@ -2,11 +2,11 @@
 
 ghost use Rattle.std.specs.Prelude.{◌≡◌, ◌<◌, ◌≤◌, [], OnOk, OnErr, IfSome, length, option_copied, slice_get};
 ghost use Rattle.std.specs.List.{position_from};
-ghost use Rattle.gb_machine.specs.Modules.{is_plugged_at, module_at, plugged, unplugged};
+ghost use Rattle.gb_machine.specs.Modules.{is_plugged_at, module_at, module_takes, plugged, unplugged};
 ghost use Rattle.gb_system.specs.Plugging.{ServesThere, intfs_of, place_behind};
 
 use gb_base::{OutOfMemory, Served};
-use gb_module::Module;
+use gb_module::{CportState, Module};
 use std::alloc::Global;
 use std::marker::Model;
 
@@ -60,6 +60,19 @@ impl Modules {
             }
         }
         None
+    }
+
+    /// Whether a CPort takes what is delivered there: Control, and one that isn't off.
+    pub fn takes(&self, intf: u8, cport: u16) -> bool
+        ensures { result ≡ module_takes cport (module_at intf self.now) }
+    {
+        if cport == 0 {
+            return true;
+        }
+        match self.at(intf) {
+            Some(module) => module.state(cport) != CportState::Off,
+            None => false,
+        }
     }
 
     /// Plugs a module at an interface.
