@@ -10,6 +10,7 @@ pub mod Causes
 pub mod ClosingTurns
 pub mod Closings
 pub mod Controls
+pub mod Delivered
 pub mod Delivering
 pub mod Ended
 pub mod Endpoints
