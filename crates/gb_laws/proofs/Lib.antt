@@ -10,6 +10,7 @@ pub mod Causes
 pub mod ClosingTurns
 pub mod Closings
 pub mod Controls
+pub mod CreditsKept
 pub mod Delivered
 pub mod Delivering
 pub mod Ended
@@ -31,6 +32,7 @@ pub mod LinkHosts
 pub mod LinkLaw
 pub mod LinkLists
 pub mod LinkRuns
+pub mod LinkSources
 pub mod LinkSteps
 pub mod LinkTurns
 pub mod Linking
