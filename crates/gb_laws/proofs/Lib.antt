@@ -11,6 +11,7 @@ pub mod ClosingTurns
 pub mod Closings
 pub mod Controls
 pub mod CreditsKept
+pub mod CreditsLines
 pub mod Delivered
 pub mod Delivering
 pub mod Ended
