@@ -12,6 +12,7 @@ pub mod Closings
 pub mod Controls
 pub mod CreditsKept
 pub mod CreditsLines
+pub mod CreditsServed
 pub mod Delivered
 pub mod Delivering
 pub mod Ended
