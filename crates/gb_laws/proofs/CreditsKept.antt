@@ -117,7 +117,7 @@ credits-kept m less a (acts_left k rest free untouched is) h = h
 credits-kept m less a (passes millis) h = h
 credits-kept m less a (others booted marks ports modules same) h = h
 
-pub credits_law : (m : Moment) → IsCreditless m → Law m
+abbrev pub credits_law : (m : Moment) → IsCreditless m → Law m
 credits_law m less = record {
   holds = λ a. Basis a × CreditsAt m a.state.bus.made a.state.host;
   basis = λ a h. h.0;
@@ -126,7 +126,7 @@ credits_law m less = record {
 
 -- ---- connections are made, and none is unmade
 
-made-kept : (m : Moment) (a : Point) (x : Change m a) → m.before.bus.made ≤ a.state.bus.made
+pub made-kept : (m : Moment) (a : Point) (x : Change m a) → m.before.bus.made ≤ a.state.bus.made
     → m.before.bus.made ≤ (changed m a x).state.bus.made
 made-kept m a (acts_opened w q rest free is) h = omega (arith, h)
 made-kept m a (acts_asked q n rest is) h =
@@ -136,7 +136,7 @@ made-kept m a (answers x n result payload is says which) h = h
 made-kept m a (unwires k free before live) h = h
 made-kept m a _ h = h
 
-pub made_law : (m : Moment) → Law m
+abbrev pub made_law : (m : Moment) → Law m
 made_law m = record {
   holds = λ a. Basis a × (m.before.bus.made ≤ a.state.bus.made);
   basis = λ a h. h.0;

@@ -10,8 +10,11 @@ pub mod Causes
 pub mod ClosingTurns
 pub mod Closings
 pub mod Controls
+pub mod CreditsDelivered
 pub mod CreditsKept
 pub mod CreditsLines
+pub mod CreditsMoved
+pub mod CreditsRuns
 pub mod CreditsServed
 pub mod Delivered
 pub mod Delivering
