@@ -342,7 +342,9 @@ does-sends_on x y s name n k kind payload timeout {a} {b} st number d =
     z = record y { names = y.names ++ (name, n) ∷ [] }
 
     binds : State → Action
-    binds t = change (bound name (next_number t.bus)) ▸ asks (ap_draft k kind payload (t.now + timeout))
+    binds t =
+        change (bound name (next_number t.bus))
+        ▸ asks (ap_draft k kind payload (t.now + timeout))
 
     time : timeout ≡ s.now + timeout
     time = sym (ap (λ t. t + timeout) st.now ∙ zero-add timeout)
@@ -392,7 +394,8 @@ is-labelled k kind payload deadline b h = by (connection_of k b) refl
   where
     by : (o : Option Connection) → connection_of k b ≡ o
         → IsSome (option_and_then (λ (c : Connection). next_label k side.Ap b) o)
-    by None e = subst (λ (p : Option Connection). IsSome (option_and_then (fresh_label side.Ap) p)) e h
+    by None e = subst (λ (p : Option Connection).
+        IsSome (option_and_then (fresh_label side.Ap) p)) e h
     by (Some c) e = h
 
 -- the number of a request is there, and is the next one

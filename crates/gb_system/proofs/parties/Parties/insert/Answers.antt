@@ -35,13 +35,15 @@ returns c = record {
       c.in_ok-of_kind.field-0 c.plug-2.new.self st.parts c.in_ok-plug.ensures.ok
       c.in_ok-of_kind.ensures (c.plug-2.ensures.step s.ports st.parts.ports
       (unpowered-there s c.args.intf st.run there)) in
-      let plugged = record c.args.self.now { modules = c.plug.new.self; ladder = c.plug-2.new.self } in
+      let plugged = record c.args.self.now
+      { modules = c.plug.new.self; ladder = c.plug-2.new.self } in
+      let e = event.Insert c.args.intf c.args.kind in
       elim c.if-self.branch [
-        | then-self+in_ok-tell_inserted w ↦ step-as s (event.Insert c.args.intf c.args.kind) w.self-is w.told-is
+        | then-self+in_ok-tell_inserted w ↦ step-as s e w.self-is w.told-is
             (insert-told plugged w.tell_inserted.new.self s c.args.intf c.args.kind
             c.in_ok-told.told w.tell_inserted.new.told there spent stands w.if-self.true
             c.in_ok-told.ensures w.in_ok-tell_inserted.ensures.step)
-        | else-self w ↦ step-as s (event.Insert c.args.intf c.args.kind) w.self-is w.told-is
+        | else-self w ↦ step-as s e w.self-is w.told-is
             (insert-untold plugged s c.args.intf c.args.kind c.in_ok-told.told there spent
             stands w.if-self.false c.in_ok-told.ensures)
       ];
