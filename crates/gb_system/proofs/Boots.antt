@@ -1,5 +1,5 @@
 -- The supervisory controller starts as the machine's does.
-use Rattle.std.proofs.Common.{◌≡◌, ◌≤◌, ◌<◌, ◌+◌, ℕ, zero, suc, Bool, true, false, Option, Some, None, Ok, List, [], ◌∷◌, ◌++◌, length, slice_get, drop, add-one, refl, sym, ap, ◌∙◌, subst, arith}
+use Rattle.std.proofs.Common.{◌≡◌, ◌≤◌, ◌<◌, ◌+◌, ℕ, zero, suc, Bool, true, false, Option, Some, None, Ok, List, [], ◌∷◌, length, slice_get, drop, add-one, refl, sym, ap, ◌∙◌, subst, arith}
 use Rattle.gb_base.specs.declared.end.Side.TheVariants as side
 use Rattle.gb_base.specs.declared.entry.Entry.{Entry}
 use Rattle.gb_base.specs.declared.entry.Entry.TheVariants as entry
@@ -12,11 +12,9 @@ use Rattle.gb_machine.proofs.Opened.{machine_opened}
 use Rattle.gb_machine.specs.Actions.{Action, change, each, given, tell, when, ◌▸◌}
 use Rattle.gb_machine.specs.Asking.{asks, asks_with}
 use Rattle.gb_machine.specs.Bus.{Connection, connection_of}
-use Rattle.gb_machine.specs.Events.{does}
 use Rattle.gb_machine.specs.Lists.{first_met}
 use Rattle.gb_machine.specs.OwnAsking.{far_asks, svc_asks, svc_own}
 use Rattle.gb_machine.specs.Plugging.{tells_inserted}
-use Rattle.gb_machine.specs.Refusals.{refusal}
 use Rattle.gb_machine.specs.Sending.{Draft, draft, is_wired, label_for}
 use Rattle.gb_machine.specs.State.{Plugged, State}
 use Rattle.gb_system.proofs.Doings.{does-by_state, does-change, does-then}

@@ -1,5 +1,5 @@
 -- Modules are plugged as the machine does.
-use Rattle.std.proofs.Common.{◌≡◌, ◌≤◌, ℕ, Bool, true, false, Option, Some, None, is_some, option_copied, Bor, Ok, List, [], ◌∷◌, ◌++◌, length, refl, sym, ap, ◌∙◌, subst, arith}
+use Rattle.std.proofs.Common.{◌≡◌, ℕ, Bool, true, false, Option, Some, None, is_some, option_copied, Bor, Ok, List, [], ◌∷◌, refl, sym, ap, ◌∙◌, arith}
 use Rattle.gb_base.specs.declared.end.Side.TheVariants as side
 use Rattle.gb_base.specs.declared.entry.Entry.{Entry}
 use Rattle.gb_base.specs.declared.entry.Entry.TheVariants as entry
@@ -18,15 +18,14 @@ use Rattle.gb_laws.proofs.WiredWell.{WiredFit}
 use Rattle.gb_machine.proofs.Opened.{machine_opened}
 use Rattle.gb_machine.specs.Actions.{change, when, ◌▸◌}
 use Rattle.gb_machine.specs.Events.{does}
-use Rattle.gb_machine.specs.Labels.{next_label, no_label}
-use Rattle.gb_machine.specs.Lists.{Condition, first_met}
-use Rattle.gb_machine.specs.Members.{Each}
+use Rattle.gb_machine.specs.Labels.{no_label}
+use Rattle.gb_machine.specs.Lists.{first_met}
 use Rattle.gb_machine.specs.Modules.{is_plugged, module_at, plugged}
 use Rattle.gb_machine.specs.OwnAsking.{far_asks}
 use Rattle.gb_machine.specs.Plugging.{tells_inserted, with_plugged}
 use Rattle.gb_machine.specs.Ports.{is_powered, powered}
 use Rattle.gb_machine.specs.Reached.{OfARun}
-use Rattle.gb_machine.specs.Refusals.{has_no_label, is_unplugged, refusal}
+use Rattle.gb_machine.specs.Refusals.{has_no_label, refusal}
 use Rattle.gb_machine.specs.State.{Plugged, State}
 use Rattle.gb_switch.specs.Stands as switch
 use Rattle.gb_switch.specs.declared.ladder.Ladder.{Ladder}

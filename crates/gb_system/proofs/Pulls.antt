@@ -1,5 +1,5 @@
 -- Modules are pulled as the machine does.
-use Rattle.std.proofs.Common.{◌≡◌, ◌≤◌, ◌<◌, ◌+◌, ℕ, Bool, true, false, not, Option, Some, None, Ok, List, [], ◌∷◌, ◌++◌, length, drop, drop_of_length-le, get_or, refl, sym, ap, ◌∙◌, subst, arith}
+use Rattle.std.proofs.Common.{◌≡◌, ◌≤◌, ◌+◌, ℕ, Bool, true, false, not, Option, None, Ok, List, [], ◌∷◌, length, drop, drop_of_length-le, refl, sym, ap, ◌∙◌, subst, arith}
 use Rattle.gb_base.specs.declared.end.Side.TheVariants as side
 use Rattle.gb_base.specs.declared.entry.Entry.{Entry}
 use Rattle.gb_base.specs.declared.entry.Entry.TheVariants as entry
@@ -24,7 +24,7 @@ use Rattle.gb_switch.specs.Stands as switch
 use Rattle.gb_switch.specs.declared.ladder.Ladder.{Ladder}
 use Rattle.gb_system.proofs.Doings.{does-by_state, does-change, does-then, does-unless, does-when}
 use Rattle.gb_system.proofs.Landing.{lands, lands-refused}
-use Rattle.gb_system.proofs.Midways.{Midway, drop-next, each-cons, each-nil, midway-as, midway-end, midway-more}
+use Rattle.gb_system.proofs.Midways.{Midway, each-cons, each-nil, midway-as, midway-end, midway-more}
 use Rattle.gb_system.specs.Acting.{IsAskable}
 use Rattle.gb_system.specs.Doing.{Does}
 use Rattle.gb_system.specs.Drafts.{own_ask}

@@ -1,9 +1,8 @@
 -- A pull is refused or done as the machine does.
-use Rattle.std.proofs.Common.{not, slice_index_or, refl, sym, ap, ◌∙◌, subst, arith}
+use Rattle.std.proofs.Common.{not, slice_index_or, refl, sym, ap, ◌∙◌, subst}
 use Rattle.std.proofs.lemmas.Grind.{get_or_default_zero}
 use Rattle.gb_base.specs.declared.event.Event.TheVariants as event
 use Rattle.gb_machine.specs.Actions.{each}
-use Rattle.gb_machine.specs.Plugging.{wired_numbers}
 use Rattle.gb_machine.specs.Wires.{unwires}
 use Rattle.gb_system.proofs.Inserts.{plugged-is}
 use Rattle.gb_system.proofs.Landing.{step-as}
