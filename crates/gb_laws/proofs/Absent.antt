@@ -60,7 +60,7 @@ unconnected i s links absent c live = by (links.known c live)
 
 -- ---- a removal is handled
 
-far-end : (s : State) → Linked s.bus s.host [] → (c : Connection) → IsIn c s.bus.connections
+pub far-end : (s : State) → Linked s.bus s.host [] → (c : Connection) → IsIn c s.bus.connections
     → IsFarEnd c.peer
 far-end s links c live = by (links.known c live)
   where

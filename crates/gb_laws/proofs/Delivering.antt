@@ -26,7 +26,8 @@ use Rattle.gb_invariants.proofs.Numbers.{found-number, same-connection}
 use Rattle.gb_invariants.proofs.Selves.{put-self}
 use Rattle.gb_laws.proofs.LinkLists.{find-changed}
 use Rattle.gb_machine.specs.Sending.{put}
-use Rattle.gb_laws.proofs.Serving.{Ends, HasPeer, IsTaken, answered, delivered, ends-going, ends-response}
+use Rattle.gb_laws.proofs.Serving.{Ends, HasPeer, ends-going, ends-response}
+use Rattle.gb_laws.proofs.Delivered.{IsTaken, answered, delivered}
 use Rattle.gb_machine.proofs.Opened.{machine_opened}
 use Rattle.gb_machine.specs.Actions.{Action, by_state, given, nothing, on_bus, tell, ◌▸◌}
 use Rattle.gb_machine.specs.Arriving as arriving

@@ -10,6 +10,13 @@ pub mod Causes
 pub mod ClosingTurns
 pub mod Closings
 pub mod Controls
+pub mod CreditsDelivered
+pub mod CreditsKept
+pub mod CreditsLines
+pub mod CreditsMoved
+pub mod CreditsRuns
+pub mod CreditsServed
+pub mod Delivered
 pub mod Delivering
 pub mod Ended
 pub mod Endpoints
@@ -30,6 +37,7 @@ pub mod LinkHosts
 pub mod LinkLaw
 pub mod LinkLists
 pub mod LinkRuns
+pub mod LinkSources
 pub mod LinkSteps
 pub mod LinkTurns
 pub mod Linking

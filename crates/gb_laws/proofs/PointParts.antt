@@ -165,6 +165,22 @@ pub record IsNoticed (m : Moment) (e : HostEvent) : Type 0 where
   pub made : request_in item m.before.bus ≡ Some request
   pub notices : (host_serves place.connection.number request.kind request.payload m.before.host).notices ≡ Some e
 
+-- At this moment a request is delivered at the application processor, on connection k, of a type and
+-- with a payload.
+pub record IsServed (m : Moment) (k type : ℕ) (bytes : List ℕ) : Type 0 where
+  pub at : End
+  pub place : Place
+  pub item : Item
+  pub request : Incoming
+  pub event : m.event ≡ event.Deliver at
+  pub named : place_of at m.before.bus.connections ≡ Some place
+  pub side : place.side ≡ side.Ap
+  pub front : first (queue place.side place.connection) ≡ Some item
+  pub made : request_in item m.before.bus ≡ Some request
+  pub on : place.connection.number ≡ k
+  pub kind : request.kind ≡ type
+  pub payload : request.payload ≡ bytes
+
 -- Why the application processor takes notice of something at a moment, its host being as it was
 -- before, but where a request ended.
 abbrev pub IsCaused : Moment → HostEvent → Host → Type 0

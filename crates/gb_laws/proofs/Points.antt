@@ -85,6 +85,7 @@ pub use Rattle.gb_laws.proofs.PointParts.{
   IsGivenUpFor,
   IsLate,
   IsNoticed,
+  IsServed,
   IsShutFor,
   IsStill,
   Point,
@@ -145,6 +146,11 @@ IsOfSvc (event.Insert i kind) = Unit {0}
 IsOfSvc (event.InsertRaw i manifest) = Unit {0}
 IsOfSvc (event.Pull i) = Unit {0}
 IsOfSvc _ = ⊥
+
+-- an event that is a bridge line
+abbrev pub IsBridge : Event → Type 0
+IsBridge (event.Bridge name i c what) = Unit {0}
+IsBridge _ = ⊥
 
 -- A far side asks on a connection: a module, or the supervisory controller at an event that concerns
 -- it, which tells the removal of an interface once that has no power.
@@ -286,8 +292,9 @@ pub data Change (m : Moment) (a : Point) : Type 0 where
       → (a.pending ≡ Act.Ask q ∷ rest) × (a.asked ≡ Some (q, n)) → Change m a
   acts_failed : (q : Asking) (rest : List Act) → IsAsking q a.pending rest → AreQuiet (unsent q.purpose a.state.host).told → Change m a
   -- it serves a request, or spends credits
-  serves : (k kind : ℕ) (payload : List ℕ) → a.pending ≡ [] → Change m a
-  spends : (i c : ℕ) (what : BridgeAsk) → a.pending ≡ [] → Change m a
+  serves : (k kind : ℕ) (payload : List ℕ) → (a.pending ≡ []) × IsServed m k kind payload
+      × (a.state.host ≡ m.before.host) → Change m a
+  spends : (i c : ℕ) (what : BridgeAsk) → (a.pending ≡ []) × IsBridge m.event → Change m a
   -- time passes
   passes : (millis : ℕ) → Change m a
   -- something else changes that is no matter of requests

@@ -28,7 +28,7 @@ use Rattle.gb_invariants.specs.Facts.{IsBefore}
 use Rattle.gb_laws.proofs.Places.{at_first-back, module-far, place-is}
 use Rattle.gb_machine.specs.Members.{EachTwo, IsIn}
 use Rattle.std.specs.List.{find}
-use Rattle.gb_laws.proofs.Points.{IsOfSvc, IsPlain, as_before, SamePlugs, by_svc, Law, acting, binds, gives_up as giving_up, injects as injecting, names, others, spends}
+use Rattle.gb_laws.proofs.Points.{IsBridge, IsOfSvc, IsPlain, as_before, SamePlugs, by_svc, Law, acting, binds, gives_up as giving_up, injects as injecting, names, others, spends}
 use Rattle.gb_laws.proofs.PointParts.{AreQuiet, IsGivenUpFor, Untouched}
 use Rattle.gb_machine.proofs.Conditions.{AreUnmet, free}
 use Rattle.gb_machine.proofs.Opened.{machine_opened}
@@ -251,10 +251,10 @@ module _ (m : Moment) (law : Law m) where
                 (met.1.1.0, (met.1.1.1.0, (met.1.1.1.1.0, tt)))),
           )) linked.1.1.0
 
-  pub rests-bridges : (name : Name) (i c : ℕ) (what : BridgeAsk) (s : State)
+  pub rests-bridges : IsBridge m.event → (name : Name) (i c : ℕ) (what : BridgeAsk) (s : State)
       → refusal s (event.Bridge name i c what) ≡ None → Rests (bridges name i c what) s
   unfolding machine_opened
-  rests-bridges name i c what s allowed = by (link_at i c s.host) refl
+  rests-bridges of name i c what s allowed = by (link_at i c s.host) refl
     where
       still : (l : Link) → IsIn l s.host.links → (d : ℕ) → d ≡ l.connection
           → state_takes l.state ≡ true
@@ -269,7 +269,7 @@ module _ (m : Moment) (law : Law m) where
       sent_by l live took left (Err fault) = rests-nothing s
       sent_by l live took left (Ok request) =
           rests-▸ (on_host (with_link l.intf l.cport (spent what))) (sends_on name l.connection request.0 request.1 default_timeout) s
-          (λ told at. law.kept _ (spends l.intf l.cport what refl) at)
+          (λ told at. law.kept _ (spends l.intf l.cport what (refl, of)) at)
           (rests-sends_on name l.connection request.0 request.1 default_timeout (record s { host = with_link l.intf l.cport (spent what) s.host })
           (inr (still l live l.connection refl took)) left)
 

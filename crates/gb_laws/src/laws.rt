@@ -8,6 +8,7 @@ ghost use Rattle.gb_machine.specs.LawsBus.{
   OneItemANumber,
   RepliesAreAwaited,
 };
+ghost use Rattle.gb_machine.specs.LawsCredits.{CreditsAddUp};
 ghost use Rattle.gb_machine.specs.LawsEnds.{
   AnsweredByItsResponder,
   EndsAreTold,
@@ -96,6 +97,12 @@ pub fn wired_means_routed()
 /// A name names a request that was made.
 pub fn names_name_requests()
     ensures { NamesNameRequests }
+{}
+
+/// The credits of a connection to a UART are 4,096, less the bytes that were sent on it, plus what
+/// came back on it, and never above 4,096.
+pub fn credits_add_up()
+    ensures { CreditsAddUp }
 {}
 
 /// The counts of a summary add up to the number of requests.

@@ -9,25 +9,25 @@ use Rattle.gb_base.specs.declared.outcome.Outcome.TheVariants as outcome
 use Rattle.gb_base.specs.declared.refusal.Refusal.{Refusal}
 use Rattle.gb_base.specs.declared.refusal.Refusal.TheVariants as why
 use Rattle.gb_bus.specs.Cancelling.{Cancels, CancelsNothing}
-use Rattle.gb_bus.specs.Stands as bus
 use Rattle.gb_bus.specs.declared.bus.Bus as code
 use Rattle.gb_laws.proofs.LinkChanges.{linked-gave_up}
 use Rattle.gb_laws.proofs.Reached.{reached-linked, reached-names}
+use Rattle.gb_machine.proofs.Options.{none-of}
 use Rattle.gb_machine.proofs.Opened.{machine_opened}
 use Rattle.gb_machine.specs.Actions.{change, given, tell, ◌▸◌}
 use Rattle.gb_machine.specs.Bus.{Bus, Request, outcome_of, request_of}
 use Rattle.gb_machine.specs.Events.{does}
 use Rattle.gb_machine.specs.GivingUp.{gives_up}
 use Rattle.gb_machine.specs.HostActs.{follows}
-use Rattle.gb_machine.specs.Lists.{Condition, first_met, holds_of, nth, without}
+use Rattle.gb_machine.specs.Lists.{Condition, first_met, holds_of, without}
 use Rattle.gb_machine.specs.Members.{Each}
 use Rattle.gb_machine.specs.Names.{bound, freed, named, same_name}
-use Rattle.gb_machine.specs.Refusals.{refusal}
 use Rattle.gb_machine.specs.Requests.{gave_up}
 use Rattle.gb_machine.specs.State.{State}
 use Rattle.gb_machine.specs.Turns.{HostEvent}
 use Rattle.gb_system.proofs.Doings.{does-by_state, does-change, does-given}
 use Rattle.gb_system.proofs.Landing.{lands, lands-refused}
+use Rattle.gb_system.proofs.Standing.{rebussed}
 use Rattle.gb_system.proofs.Turning.{may-end}
 use Rattle.gb_system.specs.Acting.{MayTurn}
 use Rattle.gb_system.specs.Doing.{Does}
@@ -39,29 +39,6 @@ use Rattle.gb_system.specs.declared.parties.Parties.{Parties}
 pub named-is : (x : Parties) (s : State) (name : Name) → PartiesStand x s
     → named name s.names ≡ named name x.names
 named-is x s name st = ap (named name) st.parts.names
-
--- what isn't there
-pub none-of : {A : Type 0} (o : Option A) → is_some o ≡ false → o ≡ None
-none-of None h = refl
-none-of (Some n) h = absurd (cc (h))
-
--- The parties stand for a state with another bus, on which the same requests were made.
-pub rebussed : (x : Parties) (z : code.Bus) (s : State) (b : Bus) → PartsStand [] x s
-    → bus.Stands (held_items s) z b → b.requests ≡ s.bus.requests
-    → PartsStand [] (record x { bus = z }) (record s { bus = b })
-rebussed x z s b st stands same = record {
-  bus = stands;
-  ports = st.ports;
-  modules = st.modules;
-  host = st.host;
-  names = st.names;
-  booted = st.booted;
-  sound = λ n r h. st.sound n r (ap (nth n) (sym same) ∙ h);
-  short = st.short;
-  now = st.now;
-  holds = st.holds;
-  held = st.held;
-}
 
 -- The parties stand for a state with other names.
 pub renamed : (x : Parties) (s : State) {names : List (Name × ℕ)} (others : List (Name × ℕ))
@@ -135,7 +112,7 @@ cancel-ended x z s name n es st h cancels is =
     lands-refused (record x { bus = z }) s (cancel_of name) why.AlreadyEnded es
     (ap (λ o. first_met (cancel_conditions s o)) names_it
     ∙ ap (λ b. first_met ((b, why.AlreadyEnded) ∷ [])) ended) is
-    (rebussed x z s s.bus st.parts cancels.stands refl)
+    (rebussed [] z s.bus st.parts cancels.stands st.parts.sound)
 
 -- the state once a request is given up
 abbrev pub given_up : ℕ → State → State
@@ -174,7 +151,7 @@ cancel-done x y z s name n before es st h cancels begun ends =
     (ap (λ o. first_met (cancel_conditions s o)) names_it
     ∙ ap (λ o. first_met ((is_some o, why.AlreadyEnded) ∷ [])) still) begun
     (does-cancels s name n names_it (does-gives_up s n (ends
-    (rebussed x z s (gave_up n outcome.Cancelled s.bus) st.parts cancels.stands refl)
+    (rebussed [] z (gave_up n outcome.Cancelled s.bus) st.parts cancels.stands st.parts.sound)
     (may-end (given_up n s) n outcome.Cancelled
     (linked-gave_up n outcome.Cancelled (reached-linked s st.run))))))
 

@@ -1,5 +1,5 @@
 -- A request of a script goes on a connection, or is refused, as the machine does.
-use Rattle.std.proofs.Common.{◌≡◌, ◌≤◌, ◌<◌, ℕ, ◌+◌, Bool, true, false, cond, not, Option, Some, None, is_some, is_none, IsSome, option_map, option_and_then, Result, Ok, Err, List, [], ◌∷◌, ◌++◌, append_assoc, zero-add, length, refl, sym, ap, ◌∙◌, subst, arith}
+use Rattle.std.proofs.Common.{◌≡◌, ◌≤◌, ◌<◌, ℕ, ◌+◌, Bool, true, false, cond, Option, Some, None, is_some, is_none, IsSome, option_map, option_and_then, Ok, Err, List, [], ◌∷◌, ◌++◌, append_assoc, zero-add, length, refl, sym, ap, ◌∙◌, subst, arith}
 use Rattle.std.specs.Bool.{⊤}
 use Rattle.std.proofs.lemmas.Bool.Decides.{nat_tests}
 use Rattle.gb_base.specs.declared.end.End.{End}
@@ -20,19 +20,18 @@ use Rattle.gb_machine.proofs.Steps.{told}
 use Rattle.gb_machine.specs.Actions.{Action, Told, change, given, ◌▸◌}
 use Rattle.gb_machine.specs.Asking.{asks, asks_with}
 use Rattle.gb_machine.specs.Bus.{Bus, Connection, connection_of, next_number}
-use Rattle.gb_machine.specs.Events.{does}
 use Rattle.gb_machine.specs.Host.{Host, link_at}
 use Rattle.gb_machine.specs.HostRefusals.{is_kept, send_conditions}
 use Rattle.gb_machine.specs.Labels.{fresh_label, next_label, no_label}
 use Rattle.gb_machine.specs.LineActions.{ap_draft, sends, sends_on}
 use Rattle.gb_machine.specs.Lists.{Condition, conditions_of, first_met, holds_of}
 use Rattle.gb_machine.specs.Names.{bound, is_bound, named}
-use Rattle.gb_machine.specs.Refusals.{has_no_label, is_long_payload, is_reserved, refusal, send_to_conditions}
+use Rattle.gb_machine.specs.Refusals.{has_no_label, is_long_payload, send_to_conditions}
 use Rattle.gb_machine.specs.Sending.{label_for}
 use Rattle.gb_machine.specs.State.{State}
 use Rattle.gb_system.proofs.Doings.{does-by_state, does-change, does-given, does-is, does-then}
 use Rattle.gb_system.proofs.Landing.{lands, lands-refused}
-use Rattle.gb_system.proofs.NamedRequests.{named-is, none-of, renamed}
+use Rattle.gb_system.proofs.NamedRequests.{named-is, renamed}
 use Rattle.gb_system.specs.Acting.{IsAskable}
 use Rattle.gb_system.specs.Doing.{Does}
 use Rattle.gb_system.specs.Sending.{GoesAs, IsWay, LeadsAs, way_conditions}
@@ -342,7 +341,9 @@ does-sends_on x y s name n k kind payload timeout {a} {b} st number d =
     z = record y { names = y.names ++ (name, n) ∷ [] }
 
     binds : State → Action
-    binds t = change (bound name (next_number t.bus)) ▸ asks (ap_draft k kind payload (t.now + timeout))
+    binds t =
+        change (bound name (next_number t.bus))
+        ▸ asks (ap_draft k kind payload (t.now + timeout))
 
     time : timeout ≡ s.now + timeout
     time = sym (ap (λ t. t + timeout) st.now ∙ zero-add timeout)
@@ -392,7 +393,8 @@ is-labelled k kind payload deadline b h = by (connection_of k b) refl
   where
     by : (o : Option Connection) → connection_of k b ≡ o
         → IsSome (option_and_then (λ (c : Connection). next_label k side.Ap b) o)
-    by None e = subst (λ (p : Option Connection). IsSome (option_and_then (fresh_label side.Ap) p)) e h
+    by None e = subst (λ (p : Option Connection).
+        IsSome (option_and_then (fresh_label side.Ap) p)) e h
     by (Some c) e = h
 
 -- the number of a request is there, and is the next one

@@ -19,7 +19,7 @@ returns-in-Err c = record {
 pub returns : goal.returns
 returns c = record {
   step = λ s st. elim c.match-branch-4.branch [
-    in-Some+in_ok-copy+in_ok-bind w ↦
+    | in-Some+in_ok-copy+in_ok-bind w ↦
         subst (λ (z : Parties). PartsStep z s
         (event.Send c.args.name.now c.args.to c.args.kind c.args.payload.now c.args.timeout)
         (Ok c.ask.new.told))
