@@ -1,10 +1,10 @@
 -- What becomes of a request that is delivered.
-use Rattle.std.specs.Prelude.{◌≡◌, ℕ, Some, if◌then◌else◌, ⊤}
-use Rattle.std.specs.Prelude.{List, [], ◌∷◌}
+use Rattle.std.specs.Prelude.{◌≡◌, ℕ, Option, Some, None, if◌then◌else◌, ⊤, List, [], ◌∷◌}
 use Rattle.gb_base.specs.declared.end.End.{End}
 use Rattle.gb_base.specs.declared.end.End.TheVariants as end
 use Rattle.gb_base.specs.declared.end.Side.{Side}
 use Rattle.gb_base.specs.declared.end.Side.TheVariants as side
+use Rattle.gb_base.specs.declared.entry.Entry.{Entry}
 use Rattle.gb_bus.specs.Delivering.{Names, taken_from}
 use Rattle.gb_bus.specs.declared.answers.Asked.{Asked}
 use Rattle.gb_invariants.specs.Facts.{Loose}
@@ -44,9 +44,19 @@ after_serving c q served s = record s {
   host = served.host;
 }
 
+-- what is noticed, if anything, is possible
+abbrev pub MayNotice : Option HostEvent → State → Type 0
+MayNotice None s = ⊤
+MayNotice (Some e) s = MayTurn e s
+
 -- What the application processor takes notice of at a request is possible for it.
 abbrev pub MayServe : Side → Connection → Incoming → State → Type 0
 MayServe side.Far c q s = ⊤
 MayServe side.Ap c q s =
     let served = host_serves c.number q.kind q.payload s.host in
-    (e : HostEvent) → served.notices ≡ Some e → MayTurn e (after_serving c q served s)
+    MayNotice served.notices (after_serving c q served s)
+
+-- an entry, where there is one
+abbrev pub told_of : Option Entry → List Entry
+told_of None = []
+told_of (Some e) = e ∷ []
