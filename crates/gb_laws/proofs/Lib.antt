@@ -77,6 +77,7 @@ pub mod QuietTaken
 pub mod QuietTurns
 pub mod Reached
 pub mod Reading
+pub mod Remembering
 pub mod Removing
 pub mod Replies
 pub mod Replying
