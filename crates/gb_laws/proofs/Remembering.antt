@@ -33,7 +33,8 @@ waiting-wired : (p : Purpose) (n : ℕ) (s : State)
     → (with_awaited p n s).past.wired ≡ s.past.wired
 waiting-wired p n s = by (is_for_connection p.step) (link_at p.intf p.cport (awaits p n s.host))
   where
-    by : (t : Bool) (o : Option Link) → (cond t (made_for n o (record s { host = awaits p n s.host }))
+    by : (t : Bool) (o : Option Link) → (cond t (made_for n o
+        (record s { host = awaits p n s.host }))
         (record s { host = awaits p n s.host })).past.wired ≡ s.past.wired
     by true None = refl
     by true (Some l) = refl
@@ -160,8 +161,9 @@ remembers-kept m a (acts_asked q n rest is) h =
         (made_for n o (record a.state { host = awaits q.purpose n a.state.host }))
         (record a.state { host = awaits q.purpose n a.state.host }))
     by true None = remembers-rest (length a.state.bus.requests) a.state.past.made_for a.asked h
-    by true (Some l) = remembers-pair (length a.state.bus.requests) a.state.past.made_for a.asked q n
-        l.connection is.1 h
+    by true (Some l) =
+        remembers-pair (length a.state.bus.requests) a.state.past.made_for a.asked q n l.connection
+        is.1 h
     by false o = remembers-rest (length a.state.bus.requests) a.state.past.made_for a.asked h
 remembers-kept m a _ h = h
 
