@@ -33,6 +33,7 @@ pub mod LinkActs
 pub mod LinkBuses
 pub mod LinkChanges
 pub mod LinkClosing
+pub mod LinkDone
 pub mod LinkHosts
 pub mod LinkLaw
 pub mod LinkLists
