@@ -95,12 +95,15 @@ closes-disconnects i c h = by (link_at i c h) refl
     g = with_link i c (in_state state.Closing) h
 
     asked : TurnCloses (with_link i c (in_state state.Closing) h)
-        (step_asked (purpose i c steps.TellDisconnecting) (with_link i c (in_state state.Closing) h))
-    asked = closes-asked (purpose i c steps.TellDisconnecting) (with_link i c (in_state state.Closing) h)
+        (step_asked (purpose i c steps.TellDisconnecting) (with_link i c
+        (in_state state.Closing) h))
+    asked = closes-asked (purpose i c steps.TellDisconnecting) (with_link i c
+        (in_state state.Closing) h)
 
     -- what is closing then was so before, or is the connection that is closed
     was : (l : Link) → link_at i c h ≡ Some l → (n : ℕ)
-        → IsClosing n (with_link i c (in_state state.Closing) h) → IsClosing n h ⊎ (l.connection ≡ n)
+        → IsClosing n (with_link i c (in_state state.Closing) h)
+        → IsClosing n h ⊎ (l.connection ≡ n)
     was l e n x = ⊎_elim
         (λ o. inl (record { link = x.link; live = o; on = x.on; closing = x.closing }))
         (λ w. inr (ap (λ (k : Link). k.connection) (same-some l w.0 (sym e ∙ w.2))

@@ -96,7 +96,8 @@ fewer-interface : (p : Purpose) (h : Host) → ClosesFewer h (interface_fails p 
 fewer-interface p h = fewer-links h (interface_fails p h).host refl
 
 -- what fails where a step isn't answered as it should be
-fewer-fails : (step : SequenceStep) (p : Purpose) (h : Host) → ClosesFewer h (step_fails step p h).host
+fewer-fails : (step : SequenceStep) (p : Purpose) (h : Host)
+    → ClosesFewer h (step_fails step p h).host
 fewer-fails steps.CreateControl p h = λ n x. fewer-failed p h n
     (fewer-links (link_fails p h).host (step_fails steps.CreateControl p h).host refl n x)
 fewer-fails steps.CreateConnection p h = fewer-failed p h

@@ -46,6 +46,14 @@ use Rattle.gb_machine.specs.Refusals.{refusal}
 use Rattle.gb_machine.specs.Runs.{IsMoment, Moment, after, told_at}
 use Rattle.gb_machine.specs.State.{State}
 
+-- the front item at a place was taken
+abbrev with_taken : Place → State → State
+with_taken p s = record s { bus = popped p.connection.number p.side s.bus }
+
+-- a connection has the number of a place
+abbrev has_place : Place → Link → Bool
+has_place p l = l.connection == p.connection.number
+
 module _ (m : Moment) (one : IsMoment m.event) (start : LinkedTo m.told m.before) (at : End)
     (is : m.event ≡ event.Deliver at) (allowed : refusal m.before m.event ≡ None) (p : Place)
     (item : Item) (named : place_of at m.before.bus.connections ≡ Some p)
@@ -201,34 +209,37 @@ module _ (m : Moment) (one : IsMoment m.event) (start : LinkedTo m.told m.before
       free_at = ap (refusal m.before) (sym is) ∙ allowed
 
       host-is : (after m).host ≡ (handles side.Ap p.connection item
-          (record m.before { bus = popped p.connection.number p.side m.before.bus })).state.host
+          (with_taken p m.before)).state.host
       host-is = ap (λ (s : State). s.host) (delivered-state m at p item is named front free_at)
           ∙ ap (λ s. (handles s p.connection item
-          (record m.before { bus = popped p.connection.number p.side m.before.bus })).state.host) ap_side
+          (with_taken p m.before)).state.host) ap_side
 
-      told-is : list_any is_credits (told_at m) ≡ list_any is_credits (handles side.Ap p.connection item
-          (record m.before { bus = popped p.connection.number p.side m.before.bus })).entries
+      told-is : list_any is_credits (told_at m)
+          ≡ list_any is_credits (handles side.Ap p.connection item
+          (with_taken p m.before)).entries
       unfolding machine_opened
       told-is = ap (λ e. list_any is_credits (step m.before e).entries) is
           ∙ ap (λ o. list_any is_credits (decided o (event.Deliver at) m.before).entries) free_at
-          ∙ ap (λ o. list_any is_credits (entry.Done ∷ (given o delivers_at m.before).entries)) named
+          ∙ ap (λ o. list_any is_credits (entry.Done ∷
+          (given o delivers_at m.before).entries)) named
           ∙ ap (λ o. list_any is_credits (entry.Done ∷ (given o
           (λ x. on_bus (popped p.connection.number p.side) ▸ handles p.side p.connection x)
           m.before).entries)) front
           ∙ ap (λ s. list_any is_credits (handles s p.connection item
-          (record m.before { bus = popped p.connection.number p.side m.before.bus })).entries) ap_side
+          (with_taken p m.before)).entries) ap_side
 
       live : IsIn k m.before.host.links
-      live = (found-in (λ (l : Link). l.connection == p.connection.number) m.before.host.links k at_k).0
+      live = (found-in (has_place p) m.before.host.links k at_k).0
 
       on : p.connection.number ≡ k.connection
       on = sym (same-number k.connection p.connection.number
-          (found-in (λ (l : Link). l.connection == p.connection.number) m.before.host.links k at_k).1)
+          (found-in (has_place p) m.before.host.links k at_k).1)
 
       -- credits come back
       back : (count : ℕ) → count_in (read_uart_ask q.kind q.payload) ≡ count
           → k.credits + count ≤ most_credits
-          → (after m).host ≡ with_link k.intf k.cport (with_credits (k.credits + count)) m.before.host
+          → (after m).host ≡ with_link k.intf k.cport
+          (with_credits (k.credits + count)) m.before.host
           → list_any is_credits (told_at m) ≡ true
           → (l : Link) → IsIn l (after m).host.links → Moved m l
       back count read fits host told l i =
@@ -268,7 +279,7 @@ module _ (m : Moment) (one : IsMoment m.event) (start : LinkedTo m.told m.before
 
       moved-uart : (l : Link) → IsIn l (after m).host.links → Moved m l
       moved-uart = by (handles-does p.connection item q
-          (record m.before { bus = popped p.connection.number p.side m.before.bus })
+          (with_taken p m.before)
           (popped-request item p.connection.number p.side m.before.bus ∙ made) serve.1)
         where
           serve : UartServed k m.before.host (read_uart_ask_of_module q.kind q.payload)
@@ -281,7 +292,7 @@ module _ (m : Moment) (one : IsMoment m.event) (start : LinkedTo m.told m.before
               (host_serves p.connection.number q.kind q.payload m.before.host)
               → DoesAs (host_serves p.connection.number q.kind q.payload m.before.host)
               (handles side.Ap p.connection item
-              (record m.before { bus = popped p.connection.number p.side m.before.bus }))
+              (with_taken p m.before))
               → (l : Link) → IsIn l (after m).host.links → Moved m l
           took (nothing_back same untold) d =
               unchanged (host-is ∙ d.host ∙ same) (told-is ∙ d.told ∙ untold)
@@ -289,9 +300,10 @@ module _ (m : Moment) (one : IsMoment m.event) (start : LinkedTo m.told m.before
               back count (count-read q.kind q.payload count read) fits (host-is ∙ d.host ∙ host)
               (told-is ∙ d.told ∙ told)
 
-          by : HandlesAs m.before.host (host_serves p.connection.number q.kind q.payload m.before.host)
+          by : HandlesAs m.before.host
+              (host_serves p.connection.number q.kind q.payload m.before.host)
               (handles side.Ap p.connection item
-              (record m.before { bus = popped p.connection.number p.side m.before.bus }))
+              (with_taken p m.before))
               → (l : Link) → IsIn l (after m).host.links → Moved m l
           by (takes_it d) = took serve.0 d
           by (drops_it same untold) = unchanged (host-is ∙ same) (told-is ∙ untold)
@@ -299,7 +311,8 @@ module _ (m : Moment) (one : IsMoment m.event) (start : LinkedTo m.told m.before
     moved-ap : (l : Link) → IsIn l (after m).host.links → Moved m l
     moved-ap = by (link_of p.connection.number m.before.host) refl
       where
-        by_item : (k : Link) → link_of p.connection.number m.before.host ≡ Some k → k.protocol ≡ 0x04
+        by_item : (k : Link) → link_of p.connection.number m.before.host ≡ Some k
+            → k.protocol ≡ 0x04
             → (o : Option Incoming) → request_in item m.before.bus ≡ o
             → (l : Link) → IsIn l (after m).host.links → Moved m l
         by_item k e uart None f = moved-answer f

@@ -1,5 +1,5 @@
--- Credits stay at a moment at which no bridge line is done and no credits are taken: each connection
--- behind it was there before with the same credits, or is new and has the most.
+-- Credits stay at a moment at which no bridge line is done and no credits are taken: each
+-- connection behind it was there before with the same credits, or is new and has the most.
 use Rattle.std.proofs.Common.{◌≡◌, ◌≤◌, ◌<◌, ℕ, ◌+◌, Some, List, refl, sym, ap, ◌∙◌, ⊎_elim, subst, arith}
 use Rattle.gb_base.specs.declared.peers.Link.{Link}
 use Rattle.gb_formats.specs.UartDevice.{most_credits}

@@ -69,7 +69,11 @@ in-linked i c f (x ∷ xs) l rise j = by (is_link i c x) refl j (in-linked i c f
     by true e (inr k) rec =
         let at = link-is i c x e in
         let apart = (each-in (IsLinkBefore x) xs l rise.0 k).apart in
-        inl (inr k, ap (λ n. is_link n c l) (sym at.0) ∙ ap (λ n. is_link x.intf n l) (sym at.1) ∙ apart)
+        inl (
+          inr k,
+          ap (λ n. is_link n c l) (sym at.0) ∙ ap (λ n. is_link x.intf n l) (sym at.1)
+              ∙ apart,
+        )
     by false e (inl same) rec = inl (inl same, ap (is_link i c) same ∙ e)
     by false e (inr k) rec =
         ⊎_elim (λ o. inl (inr o.0, o.1)) (λ w. inr (w.0, inr w.1, w.2, w.3)) (rec k)
@@ -117,7 +121,8 @@ not-false false e = absurd cc
 answered-by : (protocol : ℕ) (what : BridgeAsk) → not (ask_protocol what == protocol) ≡ false
     → is_too_large what ≡ false → bridge_answer protocol what ≡ Ok (ask_request what)
 answered-by protocol what supported small =
-    ap (λ t. cond t (cond (is_too_large what) (Err TooLarge) (Ok (ask_request what))) (Err Unsupported))
+    ap (λ t. cond t (cond (is_too_large what) (Err TooLarge) (Ok (ask_request what)))
+    (Err Unsupported))
     (not-false (ask_protocol what == protocol) supported)
     ∙ ap (λ t. cond t (Err TooLarge) (Ok (ask_request what))) small
 
@@ -174,9 +179,11 @@ moved-line m name i c what is allowed links l j =
         ∙ ap (λ o. (decided o (event.Bridge name i c what) m.before).state.host)
         (ap (refusal m.before) (sym is) ∙ allowed) ∙ x.host
 
-    sent_is : (k : ℕ) → bytes_sent k m m.event ≡ cond (x.link.connection == k) (credits_taken what) 0
+    sent_is : (k : ℕ) → bytes_sent k m m.event
+        ≡ cond (x.link.connection == k) (credits_taken what) 0
     sent_is k = ap (bytes_sent k m) is
-        ∙ ap (λ o. cond (is_none o && is_numbered k (link_at i c m.before.host)) (credits_taken what) 0)
+        ∙ ap (λ o. cond (is_none o && is_numbered k (link_at i c m.before.host))
+        (credits_taken what) 0)
         allowed
         ∙ ap (λ o. cond (is_numbered k o) (credits_taken what) 0) x.at
 
@@ -205,7 +212,8 @@ moved-line m name i c what is allowed links l j =
         (ap (λ n. n == l.connection) on ∙ is-same l.connection) in
         let enough : credits_taken what ≤ w.0.credits =
         subst (λ (k : Link). credits_taken what ≤ k.credits) same x.enough in
-        let left : l.credits ≡ w.0.credits - credits_taken what = ap (λ (k : Link). k.credits) w.3 in
+        let left : l.credits ≡ w.0.credits - credits_taken what =
+        ap (λ (k : Link). k.credits) w.3 in
         old w.0 w.1 (subst (SameLink w.0) (sym w.3)
         (record { connection = refl; ap = refl; intf = refl; cport = refl; protocol = refl }))
         (λ p. record {

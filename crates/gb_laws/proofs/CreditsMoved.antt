@@ -65,7 +65,8 @@ back-untold k m (event.Deliver (end.Ap a)) h =
 back-untold k m _ h = refl
 
 -- nor at a far end
-pub back-far : (k : ℕ) (m : Moment) (at : End) → IsFarEnd at → credits_back k m (event.Deliver at) ≡ 0
+pub back-far : (k : ℕ) (m : Moment) (at : End) → IsFarEnd at
+    → credits_back k m (event.Deliver at) ≡ 0
 back-far k m (end.Ap a) far = absurd far
 back-far k m end.Svc far = refl
 back-far k m (end.Module i c) far = refl
@@ -76,7 +77,8 @@ if-zero true n e = e
 if-zero false n e = refl
 
 -- nothing is sent where a line is refused
-sent-refused : (k : ℕ) (m : Moment) (e : Event) (why : Refusal) → refusal m.before m.event ≡ Some why
+sent-refused : (k : ℕ) (m : Moment) (e : Event) (why : Refusal)
+    → refusal m.before m.event ≡ Some why
     → bytes_sent k m e ≡ 0
 sent-refused k m (event.Bridge name i c what) why refused =
     ap (λ o. cond (is_none o && is_numbered k (link_at i c m.before.host)) (credits_taken what) 0)
@@ -168,7 +170,8 @@ module _ (m : Moment) (one : IsMoment m.event) (start : LinkedTo m.told m.before
       let sent = sent-refused l.connection m m.event why refused in
       let back = back-untold l.connection m m.event
       (ap (λ o. list_any is_credits (decided o m.event m.before).entries) refused) in
-      old l (subst (λ (s : State). IsIn l s.host.links) (refused-state m why refused) i) (same-link l)
+      old l (subst (λ (s : State). IsIn l s.host.links) (refused-state m why refused) i)
+      (same-link l)
       (λ p. record { sum = omega (arith, sent, back); bound = λ h. h })
 
   -- an event that is no matter of credits

@@ -107,15 +107,19 @@ sums-same : (sent back more later : ℕ → ℕ) (s : State) → ((k : ℕ) → 
     → ((k : ℕ) → later k ≡ back k) → SumsFit sent back s → SumsFit more later s
 sums-same sent back more later s e f h = record {
   uart = λ l i p.
-      let u = h.uart l i p in
-      (ap (λ n. l.credits + n) (e l.connection) ∙ u.0 ∙ ap (λ n. most_credits + n) (sym (f l.connection)), u.1);
+      let u = h.uart l i p in (
+        ap (λ n. l.credits + n) (e l.connection) ∙ u.0
+            ∙ ap (λ n. most_credits + n) (sym (f l.connection)),
+        u.1,
+      );
   above = λ k high. let a = h.above k high in (e k ∙ a.0, f k ∙ a.1);
 }
 
 -- over a moment
 sums-step : (m : Moment) → IsMoment m.event → LinkedTo m.told m.before → (sent back : ℕ → ℕ)
     → SumsFit sent back m.before
-    → SumsFit (λ k. sent k + bytes_sent k m m.event) (λ k. back k + credits_back k m m.event) (after m)
+    → SumsFit (λ k. sent k + bytes_sent k m m.event) (λ k. back k + credits_back k m m.event)
+    (after m)
 sums-step m one start sent back h = record {
   uart = λ l i p. by l p (moved-at m one start l i);
   above = λ k high.
@@ -153,7 +157,8 @@ sums-from : (es : List Event) (told : List Entry) (s : State) (sent back : ℕ �
     → SumsFit (λ k. sent k + sent_on k (moments_from told s es))
     (λ k. back k + back_on k (moments_from told s es)) (last_state s (trace_from s es))
 sums-from [] told s sent back are start h =
-    sums-same sent back (λ k. sent k + 0) (λ k. back k + 0) s (λ k. omega arith) (λ k. omega arith) h
+    sums-same sent back (λ k. sent k + 0) (λ k. back k + 0) s (λ k. omega arith)
+    (λ k. omega arith) h
 sums-from (e ∷ es) told s sent back are start h = sums-same
     (λ k. sent k + bytes_sent k m e
     + sent_on k (moments_from (told ++ (step s e).entries) (step s e).state es))

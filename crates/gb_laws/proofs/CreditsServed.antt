@@ -1,5 +1,5 @@
--- What the application processor does where a request of a UART is delivered: its credits come back,
--- and that is told, or nothing of its own changes.
+-- What the application processor does where a request of a UART is delivered: its credits come
+-- back, and that is told, or nothing of its own changes.
 use Rattle.std.proofs.Common.{◌≡◌, ◌≤◌, ℕ, ◌+◌, Bool, true, false, cond, Option, Some, None, List, refl, sym, ap, ◌∙◌, subst, arith}
 use Rattle.std.proofs.lemmas.Bool.Decides.{nat_tests}
 use Rattle.std.specs.Prelude.{Result, Ok, Err, ◌==◌, ◌||◌, nat_le, option_map}
@@ -52,7 +52,8 @@ pub record IsPlainly (h : Host) (r : HostServed) : Type 0 where
   pub refuses : (r.answer.result == success) ≡ false → (r.host ≡ h) × (r.told ≡ None)
 
 uart-credited : (l : Link) (h : Host) (count : ℕ)
-    → UartServed l h (Ok (UartAsk.ReceiveCredits count)) (credited l (credits_added l.credits count) h)
+    → UartServed l h (Ok (UartAsk.ReceiveCredits count)) (credited l
+    (credits_added l.credits count) h)
     × IsPlainly h (credited l (credits_added l.credits count) h)
 uart-credited l h count = by (nat_le (l.credits + count) most_credits) refl
   where

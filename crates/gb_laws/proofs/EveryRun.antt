@@ -12,8 +12,9 @@ use Rattle.gb_laws.proofs.Replies.{replies-by_moments}
 use Rattle.gb_laws.proofs.Replying.{ends-once_by_moments}
 use Rattle.gb_laws.proofs.Routed.{routed-by_moments}
 use Rattle.gb_laws.proofs.Single.{labels-by_moments, names-by_moments, one-item_by_moments}
+use Rattle.gb_laws.proofs.Remembering.{none-forgotten_at, remembered-for_one}
 use Rattle.gb_laws.proofs.OpenRuns.{open-live_by_moments}
-use Rattle.gb_machine.specs.Runs.{HoldsThroughout}
+use Rattle.gb_machine.specs.Runs.{HoldsAtEachMoment, HoldsThroughout}
 use Rattle.gb_machine.specs.LawsBus.{
   EndpointsDiffer,
   HaveAwaited,
@@ -42,7 +43,9 @@ use Rattle.gb_machine.specs.LawsHotPlug.{
   HaveOwnItems,
   NoForeignMessage,
   AbsentAfterRemoval,
+  NoneForgotten,
   OpenIsLive,
+  RememberedForOne,
   TakesFromItsConnection,
 }
 use Rattle.gb_machine.specs.LawsSvc.{
@@ -104,6 +107,14 @@ absent-after = (
 -- Each open request of the application processor is on a live connection.
 pub open-live : HoldsThroughout OpenIsLive
 open-live = of-all OpenIsLive (of-state _) open-live_by_moments
+
+-- Which connections were ever wired is never forgotten.
+pub none-forgotten : HoldsAtEachMoment NoneForgotten
+none-forgotten = at-all NoneForgotten none-forgotten_at
+
+-- A request is remembered for one connection.
+pub remembered-for : HoldsThroughout RememberedForOne
+remembered-for = of-all RememberedForOne (of-state _) remembered-for_one
 
 -- What is wired is routed.
 pub wired-routed : WiredMeansRouted

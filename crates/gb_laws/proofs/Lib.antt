@@ -33,6 +33,7 @@ pub mod LinkActs
 pub mod LinkBuses
 pub mod LinkChanges
 pub mod LinkClosing
+pub mod LinkDone
 pub mod LinkHosts
 pub mod LinkLaw
 pub mod LinkLists
@@ -77,6 +78,7 @@ pub mod QuietTaken
 pub mod QuietTurns
 pub mod Reached
 pub mod Reading
+pub mod Remembering
 pub mod Removing
 pub mod Replies
 pub mod Replying

@@ -155,7 +155,8 @@ from-checked : (r : Result Manifest Refused) (p : Purpose) (bytes : List ℕ) (h
 from-checked (Ok v) p bytes h = from-links h (manifest_checked (Ok v) p bytes h).host refl
 from-checked (Err why) p bytes h = from-interface p h
 
-from-manifest : (p : Purpose) (bytes : List ℕ) (h : Host) → LinksFrom h (manifest_told p bytes h).host
+from-manifest : (p : Purpose) (bytes : List ℕ) (h : Host)
+    → LinksFrom h (manifest_told p bytes h).host
 from-manifest p bytes h = by (length bytes == size_known (interface_of p.intf h))
   where
     by : (t : Bool) → LinksFrom h (cond t (manifest_checked (check_answer bytes) p bytes h)
@@ -249,7 +250,8 @@ from-connects i c h = by (option_and_then (cport_of c) (interface_of i h))
     on None view = from-links h h refl
     on (Some a) view = from-links h h refl
 
-    by : (o : Option CportView) → LinksFrom h (connects o (purpose i c steps.CreateConnection) h).host
+    by : (o : Option CportView) → LinksFrom h (connects o
+        (purpose i c steps.CreateConnection) h).host
     by None = from-links h h refl
     by (Some view) = on (free_cport h) view
 
@@ -263,7 +265,8 @@ from-disconnects i c h = by (link_at i c h)
         (step_asked (purpose i c steps.TellDisconnecting)
         (with_link i c (in_state state.Closing) h)).host
         (from-state state.Closing i c h)
-        (from-asked (purpose i c steps.TellDisconnecting) (with_link i c (in_state state.Closing) h))
+        (from-asked (purpose i c steps.TellDisconnecting) (with_link i c
+        (in_state state.Closing) h))
 
 -- Each turn keeps credits.
 pub from-turn : (e : HostEvent) (h : Host) → LinksFrom h (host_turn e h).host

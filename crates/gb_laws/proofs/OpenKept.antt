@@ -50,7 +50,8 @@ upon-host : (m : Moment) (a : Point) (d : Draft) (c : Connection) (q : Asking) (
     → d.connection ≡ q.on → IsUpon d.connection a.state.bus a.pending
 upon-host m a d c q rest live links is on = record {
   open_ = open-found d.connection a.state.bus c live (by (asks_control q.purpose.step) refl);
-  stays = λ y. subst (λ acts. LeavesOpen d.connection acts) (is ∙ ap (λ r. Act.Ask q ∷ r) pending.0.1) y;
+  stays = λ y. subst (λ acts. LeavesOpen d.connection acts) (is
+      ∙ ap (λ r. Act.Ask q ∷ r) pending.0.1) y;
 }
   where
     pending : ArePending a.state.host (Act.Ask q ∷ rest)
@@ -69,17 +70,20 @@ upon-asked : (m : Moment) (a : Point) (d : Draft) (c : Connection)
     → d.side ≡ side.Ap → IsUpon d.connection a.state.bus a.pending
 upon-asked m a d c live links (by_host q rest is draft none) ap_side =
     upon-host m a d c q rest live links is (ap (λ (x : Draft). x.connection) draft)
-upon-asked m a d c live links (by_far (by_module i p at far)) ap_side = absurd (apart (sym ap_side ∙ far))
+upon-asked m a d c live links (by_far (by_module i p at far)) ap_side = absurd (apart
+    (sym ap_side ∙ far))
   where
     apart : side.Ap ≡ side.Far → ⊥
     apart e = absurd cc
-upon-asked m a d c live links (by_far (by_svc of far off)) ap_side = absurd (apart (sym ap_side ∙ far))
+upon-asked m a d c live links (by_far (by_svc of far off)) ap_side = absurd (apart (sym ap_side
+    ∙ far))
   where
     apart : side.Ap ≡ side.Far → ⊥
     apart e = absurd cc
 
 -- a line that asks
-upon-line : (a : Point) (d : Draft) (c : Connection) → connection_of d.connection a.state.bus ≡ Some c
+upon-line : (a : Point) (d : Draft) (c : Connection)
+    → connection_of d.connection a.state.bus ≡ Some c
     → LinkedAt a → IsPlain a.state d → a.pending ≡ [] → IsUpon d.connection a.state.bus a.pending
 upon-line a d c live links plain none = record {
   open_ = open-found d.connection a.state.bus c live (by plain);
@@ -101,7 +105,8 @@ opens-shut b h k rest f = record {
       let other = apart n r made w ap_side in
       let u = f.upon n r made (before.before n w) ap_side in
       record {
-        open_ = ap (option_map is_shut) (shut-other k closed b.connections (λ c. refl) r.connection other)
+        open_ = ap (option_map is_shut) (shut-other k closed b.connections
+            (λ c. refl) r.connection other)
             ∙ u.open_;
         stays = λ y. u.stays (λ e. other (sym e), y);
       };
@@ -118,7 +123,8 @@ opens-shut b h k rest f = record {
     same-shut n j e = cc
 
     before : AwaitsFewer b (shut_down k b)
-    before = let s = side_ended-before k side.Ap (with_connection k (λ c. record c { shut = true }) b) in
+    before = let s = side_ended-before k side.Ap (with_connection k
+        (λ c. record c { shut = true }) b) in
         record { same = s.same; before = s.before }
 
     apart : (n : ℕ) (r : Request) → request_of n b ≡ Some r → is_awaited n (shut_down k b) ≡ true
@@ -168,12 +174,14 @@ opens-opened b h w q rest range links f = record {
   upon = λ n r made w' ap_side.
       let u = f.upon n r made w' ap_side in
       record {
-        open_ = shut-more b.connections new r.connection (made-before r.connection u.open_) ∙ u.open_;
+        open_ = shut-more b.connections new r.connection (made-before r.connection u.open_)
+            ∙ u.open_;
         stays = u.stays;
       };
   closing = λ n x. ⊎_elim
       (λ old. ⊎_elim
-      (λ shut. inl (λ e. shut (sym (shut-more b.connections new n (linked-before n x.link old x.on)) ∙ e)))
+      (λ shut. inl (λ e. shut (sym (shut-more b.connections new n
+      (linked-before n x.link old x.on)) ∙ e)))
       (λ i. inr (⊎_elim (λ e. absurd cc) (λ j. inr j) i))
       (f.closing n (record { link = x.link; live = old; on = x.on; closing = x.closing })))
       (λ e. absurd (opening-closing (sym (ap (λ (l : Link). l.state) e) ∙ x.closing)))
@@ -265,7 +273,8 @@ opens-kept m a (acts_left k rest free untouched is) basis links h =
     opens-left a.state.bus a.state.host k rest (subst (Opens a.state.bus a.state.host) is h)
 opens-kept m a (acts_opened w q rest free is) basis links h =
     opens-opened a.state.bus a.state.host w q rest
-    (λ c live. (each-in (IsMade a.state.bus) a.state.bus.connections c basis.bus.numbers.range live).1)
+    (λ c live.
+    (each-in (IsMade a.state.bus) a.state.bus.connections c basis.bus.numbers.range live).1)
     (subst (Linked a.state.bus a.state.host) is links) (subst (Opens a.state.bus a.state.host) is h)
 opens-kept m a (acts_asked q n rest is) basis links h =
     subst (λ b. Opens b (with_awaited q.purpose n a.state).host rest)
@@ -280,7 +289,8 @@ opens-kept m a (acts_failed q rest is quiet) basis links h =
     (fewer-unsent q.purpose.step q.purpose a.state.host) (by is)
   where
     by : IsAsking q a.pending rest → Opens a.state.bus a.state.host rest
-    by (asking e) = opens-act a.state.bus a.state.host (Act.Ask q) rest (λ k y. y) (λ k f. absurd cc)
+    by (asking e) = opens-act a.state.bus a.state.host (Act.Ask q) rest (λ k y. y)
+        (λ k f. absurd cc)
         (subst (Opens a.state.bus a.state.host) e h)
     by (opening w e) = opens-act a.state.bus a.state.host (Act.Open w q) rest (λ k y. y)
         (λ k f. absurd cc) (subst (Opens a.state.bus a.state.host) e h)

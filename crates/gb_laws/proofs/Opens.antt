@@ -1,5 +1,5 @@
--- Each request of the application processor that is awaited is on a live connection, and its side of
--- that isn't closed.
+-- Each request of the application processor that is awaited is on a live connection, and its side
+-- of that isn't closed.
 use Rattle.std.proofs.Common.{◌≡◌, ◌≢◌, ◌⊎◌, ℕ, Bool, true, false, Some, None, List, ◌∷◌, refl, sym, ap, ◌∙◌, inl, inr, ⊎_elim, subst, arith}
 use Rattle.std.specs.Prelude.{option_map}
 use Rattle.gb_base.specs.declared.end.Side.TheVariants as side
@@ -42,7 +42,8 @@ pub opens-fewer : (b after : Bus) (h : Host) (acts : List Act) → AwaitsFewer b
     → ((n : ℕ) → shut_of n after ≡ shut_of n b) → Opens b h acts → Opens after h acts
 opens-fewer b after h acts fewer same f = record {
   upon = λ n r made w ap_side.
-      let u = f.upon n r (ap (λ rs. request_of n (record b { requests = rs })) (sym fewer.same) ∙ made)
+      let u = f.upon n r (ap (λ rs. request_of n (record b { requests = rs })) (sym fewer.same)
+      ∙ made)
       (fewer.before n w) ap_side in
       record { open_ = same r.connection ∙ u.open_; stays = u.stays };
   closing = λ n x. ⊎_elim (λ shut. inl (λ e. shut (sym (same n) ∙ e))) (λ i. inr i) (f.closing n x);
@@ -58,7 +59,8 @@ opens-first b after h acts k f fewer is number shut =
     (λ n. ap (shut_in n) is ∙ shut-first k f b.connections number shut n)
 
 -- where the application processor changes
-pub opens-host : (b : Bus) (h g : Host) (acts : List Act) → ClosesFewer h g → Opens b h acts → Opens b g acts
+pub opens-host : (b : Bus) (h g : Host) (acts : List Act) → ClosesFewer h g → Opens b h acts
+    → Opens b g acts
 opens-host b h g acts fewer f =
     record { upon = f.upon; closing = λ n x. f.closing n (fewer n x) }
 
@@ -97,16 +99,19 @@ opens-sent d label b h acts fits own f = record {
     moved {k} u = record { open_ = same k ∙ u.open_; stays = u.stays }
 
     was : (n : ℕ) (r : Request) → request_of n b ≡ Some r
-        → (is_awaited n b ≡ true) ⊎ ((n ≡ next_number b) × (d.oneway ≡ false)) → is_awaited n b ≡ true
+        → (is_awaited n b ≡ true) ⊎ ((n ≡ next_number b) × (d.oneway ≡ false))
+        → is_awaited n b ≡ true
     was n r made (inl w) = w
-    was n r made (inr new) = absurd (none-some r (sym (nth-past (next_number b) b.requests (omega arith))
+    was n r made (inr new) = absurd (none-some r (sym (nth-past (next_number b) b.requests
+        (omega arith))
         ∙ ap (λ k. request_of k b) (sym new.0) ∙ made))
       where
         none-some : (r : Request) → None ≡ Some r → ⊥
         none-some r e = absurd cc
 
 -- a connection that isn't closed
-pub open-found : (k : ℕ) (b : Bus) (c : Connection) → connection_of k b ≡ Some c → (c.shut ≡ true → ⊥)
+pub open-found : (k : ℕ) (b : Bus) (c : Connection) → connection_of k b ≡ Some c → (c.shut ≡ true
+    → ⊥)
     → shut_of k b ≡ Some false
 open-found k b c found other = ap (option_map is_shut) found ∙ ap Some (by c.shut refl)
   where

@@ -51,7 +51,8 @@ shut-first k f (x ∷ xs) number shut n = by (x.number == k) (shut-first k f xs 
     by : (t : Bool) → shut_in n (at_first (has_number k) f xs) ≡ shut_in n xs
         → shut_in n (cond t (f x ∷ xs) (x ∷ at_first (has_number k) f xs)) ≡ shut_in n (x ∷ xs)
     by true rec =
-        ap (λ j. option_map is_shut (cond (j == n) (Some (f x)) (find (has_number n) xs))) (number x)
+        ap (λ j. option_map is_shut (cond (j == n) (Some (f x)) (find (has_number n) xs)))
+        (number x)
         ∙ here (x.number == n)
     by false rec = behind (x.number == n) rec
 
@@ -89,7 +90,8 @@ shut-self k cs e = by (find (has_number k) cs)
     closed c = record c { shut = true }
 
     by : (o : Option Connection)
-        → option_map is_shut (option_map (λ (c : Connection). record c { shut = true }) o) ≡ Some false
+        → option_map is_shut (option_map (λ (c : Connection). record c { shut = true }) o)
+        ≡ Some false
         → ⊥
     by None f = absurd cc
     by (Some c) f = absurd cc

@@ -15,9 +15,15 @@ ghost use Rattle.gb_machine.specs.LawsEnds.{
   EndsAtMostOnce,
   EveryEndHasItsCause,
 };
-ghost use Rattle.gb_machine.specs.LawsHotPlug.{AbsentAfterRemoval, NoForeignMessage, OpenIsLive};
+ghost use Rattle.gb_machine.specs.LawsHotPlug.{
+  AbsentAfterRemoval,
+  NoForeignMessage,
+  NoneForgotten,
+  OpenIsLive,
+  RememberedForOne,
+};
 ghost use Rattle.gb_machine.specs.LawsSvc.{RemovalLeavesNothingWired, WiredMeansRouted};
-ghost use Rattle.gb_machine.specs.Runs.{HoldsThroughout, SettlesAreDeliveries};
+ghost use Rattle.gb_machine.specs.Runs.{HoldsAtEachMoment, HoldsThroughout, SettlesAreDeliveries};
 ghost use Rattle.gb_machine.specs.Summary.{CountsAddUp};
 
 /// Each request has one outcome at most, and one end and one reply at most are told of it.
@@ -92,6 +98,16 @@ pub fn removal_leaves_nothing_wired()
 /// where a module is plugged.
 pub fn wired_means_routed()
     ensures { WiredMeansRouted }
+{}
+
+/// Which connections were ever wired is never forgotten.
+pub fn none_forgotten()
+    ensures { HoldsAtEachMoment NoneForgotten }
+{}
+
+/// A request that creates or destroys a connection is remembered for one connection.
+pub fn remembered_for_one()
+    ensures { HoldsThroughout RememberedForOne }
 {}
 
 /// A name names a request that was made.

@@ -23,7 +23,7 @@ use Rattle.gb_machine.specs.OwnAsking.{far_asks_all}
 use Rattle.gb_machine.specs.Responding.{far_response, module_response, module_stepped, replies, responds, responds_plainly, serves}
 use Rattle.gb_machine.specs.Serving.{answer, plainly}
 use Rattle.gb_machine.specs.State.{Plugged, State}
-use Rattle.gb_system.proofs.Doings.{does-then}
+use Rattle.gb_system.proofs.Doings.{does-as, does-then}
 use Rattle.gb_system.proofs.Fits.{module_fits}
 use Rattle.gb_system.specs.Acting.{AreAskable}
 use Rattle.gb_system.specs.Doing.{Does}
