@@ -12,9 +12,13 @@ use Rattle.gb_machine.specs.Bus.{Ask, Connection, Request, connection_of, end_of
 use Rattle.gb_machine.specs.Delivery.{replied}
 use Rattle.gb_machine.specs.HostServing.{HostServed, host_serves}
 use Rattle.gb_machine.specs.Incoming.{Incoming, incoming, reply_item}
+use Rattle.gb_machine.specs.Responding.{serves}
 use Rattle.gb_machine.specs.State.{State}
 use Rattle.gb_machine.specs.Turns.{HostEvent}
 use Rattle.gb_system.specs.Acting.{MayTurn}
+use Rattle.gb_system.specs.Doing.{Does}
+use Rattle.gb_system.specs.Stands.{PartsStand}
+use Rattle.gb_system.specs.declared.parties.Parties.{Parties}
 
 -- the side of a connection that is at an end
 abbrev pub side_of : End → Side
@@ -55,6 +59,14 @@ MayServe side.Far c q s = ⊤
 MayServe side.Ap c q s =
     let served = host_serves c.number q.kind q.payload s.host in
     MayNotice served.notices (after_serving c q served s)
+
+-- A request that was delivered at an end is served as the machine does.
+abbrev pub ServesAt : End → Parties → Parties → ℕ → Asked → List ℕ → List Entry → List Entry → Type 0
+ServesAt at old new k asked payload before told =
+    (s : State) (c : Connection) (n : ℕ) → (d : IsDelivered at k asked payload s c n)
+    → PartsStand (only k (side_of at) n) old s
+    → MayServe (side_of at) c (incoming n d.request) s
+    → Does new (serves (side_of at) c (incoming n d.request)) s before told
 
 -- an entry, where there is one
 abbrev pub told_of : Option Entry → List Entry

@@ -12,7 +12,14 @@ ghost use Rattle.gb_machine.specs.Responding.{serves};
 ghost use Rattle.gb_machine.specs.State.{State};
 ghost use Rattle.gb_system.specs.Deciding.{action_of};
 ghost use Rattle.gb_system.specs.Doing.{Does};
-ghost use Rattle.gb_system.specs.Serving.{IsDelivered, MayNotice, MayServe, only, side_of, told_of};
+ghost use Rattle.gb_system.specs.Serving.{
+  IsDelivered,
+  MayNotice,
+  MayServe,
+  ServesAt,
+  only,
+  told_of,
+};
 ghost use Rattle.gb_system.specs.Stands.{PartsStand};
 
 use crate::deciding::{Behind, decide};
@@ -36,11 +43,8 @@ impl Parties {
         payload: &[u8],
         told: &mut Entries,
     ) -> Result<(), OutOfMemory>
-        ensures step { OnOk result ((s : State) (c : Connection) (n : ℕ)
-            → (d : IsDelivered at connection asked.now payload.now s c n)
-            → PartsStand (only connection (side_of at) n) self.old s
-            → MayServe (side_of at) c (incoming n d.request) s
-            → Does self.new (serves (side_of at) c (incoming n d.request)) s told.old told.new) }
+        ensures step { OnOk result
+            (ServesAt at self.old self.new connection asked.now payload.now told.old told.new) }
     {
         match at {
             End::Svc => self.serve_at_svc(connection, asked, payload, told)?,
