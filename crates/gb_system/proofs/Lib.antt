@@ -5,6 +5,7 @@ pub mod Boots
 pub mod Connects
 pub mod Decisions
 pub mod Doings
+pub mod Endings
 pub mod Fits
 pub mod Inserts
 pub mod Landing
