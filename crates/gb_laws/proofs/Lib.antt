@@ -90,6 +90,7 @@ pub mod SettleQueues
 pub mod Settles
 pub mod Settling
 pub mod Shutting
+pub mod Silent
 pub mod Since
 pub mod Single
 pub mod Speaking
