@@ -40,6 +40,7 @@ pub mod LinkLists
 pub mod LinkRuns
 pub mod LinkSources
 pub mod LinkSteps
+pub mod LinkTells
 pub mod LinkTurns
 pub mod Linking
 pub mod Links
