@@ -103,6 +103,8 @@ pub mod Taking
 pub mod Telling
 pub mod There
 pub mod Ticking
+pub mod ToldLinks
+pub mod ToldRuns
 pub mod Turned
 pub mod WiredRuns
 pub mod WiredWell
