@@ -139,7 +139,8 @@ checked-tell : (r : Result Manifest Refused) (p : Purpose) (bytes : List ℕ) (h
 checked-tell (Ok v) p bytes h = (tt, tt)
 checked-tell (Err why) p bytes h = (tt, (tt, tt))
 
-manifest-tell : (p : Purpose) (bytes : List ℕ) (h : Host) → ActsTell h (manifest_told p bytes h).acts
+manifest-tell : (p : Purpose) (bytes : List ℕ) (h : Host)
+    → ActsTell h (manifest_told p bytes h).acts
 manifest-tell p bytes h = by (length bytes == size_known (interface_of p.intf h))
   where
     by : (t : Bool) → ActsTell h (cond t (manifest_checked (check_answer bytes) p bytes h)

@@ -135,7 +135,8 @@ link-matches b h acts f none (entry.Connection k own i c state) t = (
   where
     by : (x : Connection) → x.number ≡ k → IsKnown x h.links acts → x.peer ≡ end.Module i c
     by x on (supervisory one) =
-        let two = (f.host.links.numbered t.0 t.1).from_two in absurd (omega (arith, two, one, on, t.2))
+        let two = (f.host.links.numbered t.0 t.1).from_two in
+        absurd (omega (arith, two, one, on, t.2))
     by x on (leaving j) = absurd (none x.number j)
     by x on (linked l j of) =
         let same = one-link h.links l t.0 f.host.links.rise j t.1
@@ -219,7 +220,8 @@ told-links_kept m a (unwires k free before live) basis links h =
 told-links_kept m a (injects i c p bytes free named) basis links h =
     told-by a _ _ (peers-first a.state.bus
     (changed m a (injects i c p bytes free named)).state.bus p.connection.number
-    (λ x. queued side.Ap (Raw bytes) (record x { clean = false })) refl refl (λ x. refl) (λ x. refl))
+    (λ x. queued side.Ap (Raw bytes) (record x { clean = false })) refl refl (λ x. refl)
+    (λ x. refl))
     (tt, tt) h
 told-links_kept m a (turns e free untouched none cause) basis links h =
     let now = told-by a a.state.bus [] (still a) tt h in record {
@@ -237,7 +239,8 @@ told-links_kept m a (acts_told e rest is quiet) basis links h =
 told-links_kept m a (acts_shut k rest free is cause) basis links h =
     let now = told-by a _ _ (peers-first a.state.bus
     (changed m a (acts_shut k rest free is cause)).state.bus k (λ c. record c { shut = true })
-    refl refl (λ c. refl) (λ c. refl)) (ends-match (shut_down k a.state.bus) (open_on k side.Ap a.state.bus)) h in record {
+    refl refl (λ c. refl) (λ c. refl))
+    (ends-match (shut_down k a.state.bus) (open_on k side.Ap a.state.bus)) h in record {
       told = now.told;
       acts = subst (ActsMatch (changed m a (acts_shut k rest free is cause)).state.bus) is now.acts;
     }
@@ -248,7 +251,8 @@ told-links_kept m a (acts_left k rest free untouched is) basis links h =
           (x, (in-without (has_number k) a.state.bus.connections x live).0, refl, refl);
     }) tt h in record {
       told = now.told;
-      acts = subst (ActsMatch (changed m a (acts_left k rest free untouched is)).state.bus) is now.acts;
+      acts = subst (ActsMatch (changed m a (acts_left k rest free untouched is)).state.bus) is
+          now.acts;
     }
 told-links_kept m a (acts_opened w q rest free is) basis links h =
     let after = (changed m a (acts_opened w q rest free is)).state.bus in
