@@ -1,6 +1,6 @@
 -- What is looked up is what the machine's bus has.
-use Rattle.std.proofs.Common.{◌≡◌, ℕ, ◌+◌, Bool, true, false, cond, ltb, eqb, ◌&&◌, ◌||◌, Option, Some, None, is_none, is_some, not, option_and_then, option_map, List, [], ◌∷◌, ◌++◌, length, refl, sym, ap, ◌∙◌, suc, append_assoc}
-use Rattle.std.specs.List.{find, list_any}
+use Rattle.std.proofs.Common.{◌≡◌, ℕ, ◌+◌, Bool, true, false, cond, map, ltb, eqb, ◌&&◌, ◌||◌, Option, Some, None, is_none, is_some, not, option_and_then, option_map, List, [], ◌∷◌, ◌++◌, length, refl, sym, ap, ◌∙◌, suc, append_assoc}
+use Rattle.std.specs.List.{filter, find, list_any}
 use Rattle.gb_base.specs.declared.end.End.{End}
 use Rattle.gb_base.specs.declared.end.End.TheVariants as end
 use Rattle.gb_base.specs.declared.end.Side.{Side}
@@ -250,3 +250,31 @@ named-is x b at h =
     by : (o : Option Place) → option_map (λ p. p.0) (option_map told o) ≡ option_map number_of o
     by None = refl
     by (Some p) = refl
+
+-- the numbers of those that are wired to an interface
+pub wired_numbers-is : (rs : List Request) (i : ℕ) (xs : List Connection)
+    (cs : List machine.Connection) → StandForAll rs xs cs
+    → map (λ x. x.number) (filter (parts.is_wired_to i) xs)
+    ≡ map (λ c. c.number) (filter (wiring.is_wired_to i) cs)
+wired_numbers-is rs i [] [] h = refl
+wired_numbers-is rs i (x ∷ xs) (c ∷ cs) h =
+    by (parts.is_wired_to i x) (wiring.is_wired_to i c)
+    (ap (λ w. w && wiring.is_at i x.peer) h.0.wired ∙ ap (λ p. c.wired && wiring.is_at i p) h.0.peer)
+    (wired_numbers-is rs i xs cs h.1)
+  where
+    code : List Connection
+    code = filter (parts.is_wired_to i) xs
+
+    live : List machine.Connection
+    live = filter (wiring.is_wired_to i) cs
+
+    by : (t u : Bool) → t ≡ u → map (λ x. x.number) code ≡ map (λ c. c.number) live
+        → map (λ x. x.number) (cond t (x ∷ code) code)
+        ≡ map (λ c. c.number) (cond u (c ∷ live) live)
+    by true true e rest = ap (λ n. n ∷ map (λ x. x.number) code) h.0.number
+        ∙ ap (λ ns. c.number ∷ ns) rest
+    by false false e rest = rest
+    by true false e rest = absurd cc
+    by false true e rest = absurd cc
+wired_numbers-is rs i [] (c ∷ cs) h = absurd h
+wired_numbers-is rs i (x ∷ xs) [] h = absurd h

@@ -1,13 +1,13 @@
 //! The live connections.
 
-ghost use Rattle.std.specs.Prelude.{◌≡◌, ◌==◌, [], ◌∷◌, ◌++◌, ◌<◌, OnOk, IfOk, IfSome, length, option_copied, option_map, find};
-ghost use Rattle.std.specs.List.{list_any, position_from};
+ghost use Rattle.std.specs.Prelude.{◌≡◌, ◌==◌, [], ◌∷◌, ◌++◌, ◌<◌, OnOk, IfOk, IfSome, length, map, option_copied, option_map, find};
+ghost use Rattle.std.specs.List.{filter, list_any, position_from};
 ghost use Rattle.gb_machine.specs.Lists.{at_first, without};
 ghost use Rattle.gb_bus.specs.Parts.{cleared, closed, is_wired_to, joins, numbered, place_at, put, svc, with_wire};
 
 use crate::connection::Connection;
 use crate::queue::Item;
-use gb_base::{End, OutOfMemory, Side};
+use gb_base::{End, Numbers, OutOfMemory, Side};
 use std::alloc::Global;
 use std::marker::Model;
 
@@ -85,6 +85,20 @@ impl Connections {
             }
         }
         false
+    }
+
+    /// The numbers of those that are wired to a module at an interface, in order.
+    pub fn wired_to(&self, alloc: Global, intf: u8) -> Result<Numbers, OutOfMemory>
+        ensures { IfOk result
+            (λ ns. ns ≡ map (λ c. c.number) (filter (is_wired_to intf) self.now)) }
+    {
+        let mut numbers = Numbers::new(alloc);
+        for connection in &self.live {
+            if connection.is_wired_to(intf) {
+                numbers.push(connection.number)?;
+            }
+        }
+        Ok(numbers)
     }
 
     /// The wired connection that names an end, and the side at which the end stands.

@@ -1,12 +1,13 @@
 //! The bus: which connections there are, and what waits on them.
 
-ghost use Rattle.std.specs.Prelude.{◌≡◌, List, OnOk, OnErr, option_map, is_none};
+ghost use Rattle.std.specs.Prelude.{◌≡◌, List, IfOk, OnOk, OnErr, option_map, is_none};
 ghost use Rattle.std.specs.List.{list_any};
 ghost use Rattle.gb_base.specs.declared.end.Side.TheVariants as side;
 ghost use Rattle.gb_invariants.specs.Facts.{Loose};
 ghost use Rattle.gb_machine.specs.Bus as machine;
 ghost use Rattle.gb_machine.specs.Bus.{connection_of, place_of};
 ghost use Rattle.gb_machine.specs.Labels.{next_label};
+ghost use Rattle.gb_machine.specs.Plugging.{wired_numbers};
 ghost use Rattle.gb_machine.specs.Sending.{is_wired};
 ghost use Rattle.gb_machine.specs.Waiting.{first_waiting};
 ghost use Rattle.gb_machine.specs.Wiring.{
@@ -151,6 +152,15 @@ impl Bus {
     {
         let (connection, _) = self.connections.place(at)?;
         Some(connection)
+    }
+
+    /// The numbers of the connections that are wired to a module at an interface, in order.
+    pub fn wired_to(&self, intf: u8) -> Result<Numbers, OutOfMemory>
+        ensures { IfOk result (λ ns. (loose : List Loose) (b : machine.Bus)
+            → Stands loose self.now b → ns ≡ wired_numbers intf b) }
+    {
+        let numbers = self.connections.wired_to(self.alloc, intf)?;
+        Ok(numbers)
     }
 
     /// The first end at which something waits, in the order in which queues are settled.

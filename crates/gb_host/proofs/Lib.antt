@@ -1,4 +1,10 @@
 pub mod Bridges
 pub mod Changing
 pub mod Free
+pub mod Fronts
 pub mod Looks
+pub mod Manifests
+pub mod Marks
+pub mod Ordering
+pub mod Restoring
+pub mod Rising

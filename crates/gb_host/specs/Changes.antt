@@ -4,11 +4,19 @@ use Rattle.std.specs.Vec.{vec_capacity, vec_len}
 use Rattle.gb_base.specs.declared.peers.Interface.{Interface}
 use Rattle.gb_base.specs.declared.peers.Link.{Link}
 use Rattle.gb_base.specs.declared.steps.SequenceStep.{SequenceStep}
+use Rattle.gb_host.specs.declared.interfaces.Change.{Change}
+use Rattle.gb_host.specs.declared.interfaces.Change.TheVariants as change
 use Rattle.gb_host.specs.declared.links.Links.{Links}
 
 -- an interface is to have a device id, or none
 abbrev pub with_device : Option ℕ → Interface → Interface
 with_device d x = record x { device = d }
+
+-- an interface with a change
+abbrev pub changed : Change → Interface → Interface
+changed (change.Device d) x = record x { device = d }
+changed (change.HasDevice b) x = record x { has_device = b }
+changed (change.Size n) x = record x { size = n }
 
 -- an enumeration waits for this
 abbrev pub interface_awaits : Option (ℕ × SequenceStep) → Interface → Interface

@@ -1,10 +1,13 @@
 -- What a turn of the application processor brings about.
-use Rattle.std.specs.Prelude.{◌≡◌, Result, Ok, Err, List, [], ◌∷◌, ◌++◌}
+use Rattle.std.specs.Prelude.{◌≡◌, ⊤, Option, Some, None, Result, Ok, Err, List, [], ◌∷◌, ◌++◌}
+use Rattle.gb_base.specs.declared.entry.ConnState.TheVariants as state
 use Rattle.gb_base.specs.declared.errors.OutOfMemory.{OutOfMemory}
-use Rattle.gb_host.specs.Stands.{Stands, host_of}
+use Rattle.gb_base.specs.declared.peers.Link.{Link}
+use Rattle.gb_host.specs.Stands.{IsPending, Stands, host_of}
 use Rattle.gb_host.specs.declared.acts.Act.{Act}
 use Rattle.gb_host.specs.declared.acts.Act.TheVariants as act
 use Rattle.gb_host.specs.declared.host.Host.{Host}
+use Rattle.gb_machine.specs.Failures.{link_told}
 use Rattle.gb_machine.specs.Host as machine
 use Rattle.gb_machine.specs.Turns as turns
 use Rattle.gb_machine.specs.Turns.{Asking, Making, Turn}
@@ -28,11 +31,31 @@ abbrev pub spelled : List turns.Act → List Act
 spelled [] = []
 spelled (x ∷ xs) = spelled_act x ++ spelled xs
 
--- A turn is done: the value stands for the application processor after it, and these acts are to
--- be done after those that there were.
+-- a connection is given up and told to be closed, where there is one
+abbrev pub left_acts : Option Link → List turns.Act
+left_acts None = []
+left_acts (Some l) =
+    turns.Act.Leave l.connection ∷ turns.Act.Tell (link_told state.Closed l) ∷ []
+
+-- what an act makes is pending, and the rest holds
+abbrev pub PendsWith : turns.Act → Host → Type 0 → Type 0
+PendsWith (turns.Act.Ask q) x Others = Others
+PendsWith (turns.Act.Open m q) x Others = IsPending m.ap m.protocol x × Others
+PendsWith (turns.Act.Shut k) x Others = Others
+PendsWith (turns.Act.Leave k) x Others = Others
+PendsWith (turns.Act.Tell e) x Others = Others
+
+-- Each connection that the acts make is pending.
+abbrev pub Pends : List turns.Act → Host → Type 0
+Pends [] x = ⊤
+Pends (a ∷ acts) x = PendsWith a x (Pends acts x)
+
+-- A turn is done: the value stands for the application processor after it, these acts are to be
+-- done after those that there were, and what they make is pending.
 pub record Turns (t : Turn) (front : List Act) (new : Host) (all : List Act) : Type 0 where
   pub host : t.host ≡ host_of new
   pub acts : all ≡ front ++ spelled t.acts
+  pub pending : Pends t.acts new
 
 -- A turn is done, or nothing has changed for want of memory.
 abbrev pub TurnsAfter : Turn → List Act → Host → Host → Result (List Act) OutOfMemory → Type 0

@@ -2,15 +2,18 @@
 
 ghost use Rattle.std.specs.Prelude.{◌≡◌, ◌∷◌, ◌++◌, [], IfOk, map};
 ghost use Rattle.gb_base.specs.declared.entry.Entry.TheVariants as entry;
+ghost use Rattle.gb_host.specs.Turning.{spelled};
+ghost use Rattle.gb_host.specs.declared.acts.Act.TheVariants as act;
+ghost use Rattle.gb_machine.specs.Failures as told;
 ghost use Rattle.gb_machine.specs.Failures.{control_fails, interface_fails, link_fails, step_fails, told_of, unsent, without_device};
 ghost use Rattle.gb_machine.specs.Host as machine;
 ghost use Rattle.gb_machine.specs.Host.{link_at, with_interface};
+ghost use Rattle.gb_machine.specs.SequenceSteps.{at_step};
 ghost use Rattle.gb_machine.specs.Turns as turns;
 ghost use Rattle.gb_machine.specs.Turns.{failed_turn};
-ghost use Rattle.gb_host.specs.Turning.{spelled};
 
 use crate::{Act, Acts, Host};
-use gb_base::{ConnState, Entry, IntfStage, OutOfMemory, Purpose, SequenceStep};
+use gb_base::{ConnState, Entry, IntfStage, Link, OutOfMemory, Purpose, SequenceStep};
 
 impl Host {
     ghost use Rattle.gb_host.specs.Stands.{Stands, host_of};
@@ -34,7 +37,7 @@ impl Host {
     /// A step of a sequence isn't answered as it should be: its connection fails in a connect or
     /// close, the interface in an enumeration, and both where the Control connection was to be
     /// made.
-    fn step_fails(&mut self, acts: Acts, purpose: Purpose) -> Result<Acts, OutOfMemory>
+    pub(crate) fn step_fails(&mut self, acts: Acts, purpose: Purpose) -> Result<Acts, OutOfMemory>
         ensures { TurnsAfter (failed_turn (step_fails purpose.step purpose (host_of self.old)))
             acts self.old self.new result }
     {
@@ -61,7 +64,11 @@ impl Host {
     }
 
     /// The interface of a purpose fails.
-    fn interface_fails(&mut self, acts: Acts, purpose: Purpose) -> Result<Acts, OutOfMemory>
+    pub(crate) fn interface_fails(
+        &mut self,
+        acts: Acts,
+        purpose: Purpose,
+    ) -> Result<Acts, OutOfMemory>
         ensures { TurnsAfter (failed_turn (interface_fails purpose (host_of self.old)))
             acts self.old self.new result }
     {
@@ -96,28 +103,25 @@ impl Host {
     }
 
     /// It is told that the connection of a purpose has a state, where there is one.
-    fn tell_link(&self, acts: Acts, purpose: Purpose, to: ConnState) -> Result<Acts, OutOfMemory>
+    pub(crate) fn tell_link(
+        &self,
+        acts: Acts,
+        purpose: Purpose,
+        to: ConnState,
+    ) -> Result<Acts, OutOfMemory>
         ensures { IfOk result (λ all. all ≡ acts ++ spelled (map turns.Act.Tell
             (told_of to (link_at purpose.intf purpose.cport (host_of self.now))))) }
     {
         let mut acts = acts;
         if let Some(link) = self.links.at(purpose.intf, purpose.cport) {
-            acts.push(Act::Tell {
-                entry: Entry::Connection {
-                    number: link.connection,
-                    ap: link.ap,
-                    intf: link.intf,
-                    cport: link.cport,
-                    state: to,
-                },
-            })?;
+            acts.push(link_told(link, to))?;
         }
         Ok(acts)
     }
 }
 
 /// It is told that an interface has a stage.
-fn tell_interface(acts: Acts, intf: u8, stage: IntfStage) -> Result<Acts, OutOfMemory>
+pub(crate) fn tell_interface(acts: Acts, intf: u8, stage: IntfStage) -> Result<Acts, OutOfMemory>
     ensures { IfOk result (λ all. all ≡ acts
         ++ spelled (turns.Act.Tell (entry.Interface intf stage) ∷ [])) }
 {
@@ -126,4 +130,30 @@ fn tell_interface(acts: Acts, intf: u8, stage: IntfStage) -> Result<Acts, OutOfM
         entry: Entry::Interface { intf, stage },
     })?;
     Ok(acts)
+}
+
+/// It is told that a connection has a state.
+pub(crate) fn link_told(link: Link, to: ConnState) -> Act
+    ensures { result ≡ act.Tell (told.link_told to link) }
+{
+    Act::Tell {
+        entry: Entry::Connection {
+            number: link.connection,
+            ap: link.ap,
+            intf: link.intf,
+            cport: link.cport,
+            state: to,
+        },
+    }
+}
+
+/// The same purpose at another step.
+pub(crate) fn to_step(purpose: Purpose, step: SequenceStep) -> Purpose
+    ensures { result ≡ at_step step purpose }
+{
+    Purpose {
+        intf: purpose.intf,
+        cport: purpose.cport,
+        step,
+    }
 }

@@ -1,13 +1,34 @@
 //! The interfaces that modules were inserted at.
 
-ghost use Rattle.std.specs.Prelude.{◌≡◌, ◌<◌, [], IfSome, find, length, option_copied};
-ghost use Rattle.std.specs.List.{position_from};
-ghost use Rattle.gb_machine.specs.Host.{is_intf, staged};
-ghost use Rattle.gb_machine.specs.Lists.{at_first};
+ghost use Rattle.std.specs.Prelude.{◌≡◌, ◌<◌, ◌≤◌, nat_lt, [], None, IfSome, OnErr, OnOk, find, insert, length, option_copied};
+ghost use Rattle.std.specs.List.{list_any, position_from};
+ghost use Rattle.gb_host.specs.declared.interfaces.Change.TheVariants as change;
+ghost use Rattle.gb_machine.specs.Host.{has_device_id, intf_before, is_device, is_intf, new_interface, staged};
+ghost use Rattle.gb_machine.specs.Lists.{at_first, first_free, in_order, without};
+ghost use Rattle.gb_machine.specs.Sequences.{enumerated};
+ghost use Rattle.gb_machine.specs.Waits.{interface_waits};
 
-use gb_base::{Interface, IntfStage, SequenceStep};
+use crate::waiting::purpose_in;
+use gb_base::{Bytes, Interface, IntfStage, OutOfMemory, Purpose, SequenceStep};
 use std::alloc::Global;
 use std::marker::Model;
+
+/// The least device id that an interface gets.
+const LEAST_DEVICE: u8 = 2;
+
+/// The greatest device id, and one more.
+const DEVICES_END: u8 = 32;
+
+/// A change of what is known of an interface.
+#[derive(Clone, Copy, Debug, PartialEq, Eq)]
+pub enum Change {
+    /// It is to have a device id, or none.
+    Device(Option<u8>),
+    /// The supervisory controller gave it its device id, or didn't.
+    HasDevice(bool),
+    /// The size of its manifest in bytes, as it was told.
+    Size(u16),
+}
 
 /// The interfaces that modules were inserted at, in order of number: thirty at most.
 #[derive(Drop)]
@@ -25,7 +46,8 @@ impl Model for Interfaces {
 }
 
 impl Interfaces {
-    ghost use Rattle.gb_host.specs.Changes.{interface_awaits, with_device};
+    ghost use Rattle.gb_host.specs.Changes.{changed, interface_awaits, with_device};
+    ghost use Rattle.gb_base.specs.declared.peers.Interface.{Interface};
 
     /// No interfaces. It takes no memory yet.
     pub fn new(alloc: Global) -> Interfaces
@@ -48,6 +70,93 @@ impl Interfaces {
         None
     }
 
+    /// The purpose of a request that an enumeration waits for.
+    pub fn waiting(&self, number: u64) -> Option<Purpose>
+        ensures { result ≡ interface_waits number self.now }
+    {
+        for interface in &self.known {
+            if let Some(purpose) = purpose_in(number, interface.intf, 0, interface.awaits) {
+                return Some(purpose);
+            }
+        }
+        None
+    }
+
+    /// The least device id from 2 to 31 that no interface has.
+    pub fn free_device(&self) -> Option<u8>
+        ensures { result ≡ first_free (λ d. list_any (has_device_id d) self.now) 30 2 }
+    {
+        for device in LEAST_DEVICE..DEVICES_END {
+            if !self.has_device(device) {
+                return Some(device);
+            }
+        }
+        None
+    }
+
+    /// An interface that is absent is known from now on, and its enumeration begins.
+    pub fn add(&mut self, alloc: Global, intf: u8) -> Result<(), OutOfMemory>
+        ensures ok { OnOk result (self.new ≡ in_order intf_before (new_interface intf) self.old) }
+        ensures err { OnErr result (self.new ≡ self.old) }
+    {
+        let place = self.place(intf);
+        let interface = Interface {
+            intf,
+            stage: IntfStage::Enumerating,
+            device: None,
+            has_device: false,
+            size: 0,
+            manifest: Bytes::new(alloc),
+            awaits: None,
+        };
+        self.known.insert(place, interface)?;
+        Ok(())
+    }
+
+    /// An interface is absent from now on.
+    pub fn remove(&mut self, intf: u8)
+        ensures { self.new ≡ without (is_intf intf) self.old }
+    {
+        self.known.retain(|interface| interface.intf != intf);
+    }
+
+    /// An interface is changed.
+    pub fn change(&mut self, intf: u8, change: Change)
+        ensures { self.new ≡ at_first (is_intf intf) (changed change) self.old }
+    {
+        match change {
+            Change::Device(device) => self.set_device(intf, device),
+            Change::HasDevice(has_device) => self.set_has_device(intf, has_device),
+            Change::Size(size) => self.set_size(intf, size),
+        }
+    }
+
+    /// The change that puts back what a change is about to replace.
+    pub fn back(&self, intf: u8, change: Change) -> Change
+        ensures { at_first (is_intf intf) (changed result)
+            (at_first (is_intf intf) (changed change) self.now) ≡ self.now }
+    {
+        let Some(interface) = self.at(intf) else {
+            return change;
+        };
+        match change {
+            Change::Device(_) => Change::Device(interface.device),
+            Change::HasDevice(_) => Change::HasDevice(interface.has_device),
+            Change::Size(_) => Change::Size(interface.size),
+        }
+    }
+
+    /// What the enumeration of an interface waits for.
+    pub fn awaits(&self, intf: u8) -> Option<(u64, SequenceStep)>
+        ensures { at_first (is_intf intf) (interface_awaits result)
+            (at_first (is_intf intf) (interface_awaits None) self.now) ≡ self.now }
+    {
+        match self.at(intf) {
+            Some(interface) => interface.awaits,
+            None => None,
+        }
+    }
+
     /// An interface has a stage from now on.
     pub fn set_stage(&mut self, intf: u8, to: IntfStage)
         ensures { self.new ≡ at_first (is_intf intf) (staged to) self.old }
@@ -63,6 +172,36 @@ impl Interfaces {
     {
         if let Some(i) = self.index(intf) {
             self.known[i].device = device;
+        }
+    }
+
+    /// The supervisory controller gave an interface its device id, or didn't.
+    fn set_has_device(&mut self, intf: u8, has_device: bool)
+        ensures { self.new ≡ at_first (is_intf intf) (changed (change.HasDevice has_device))
+            self.old }
+    {
+        if let Some(i) = self.index(intf) {
+            self.known[i].has_device = has_device;
+        }
+    }
+
+    /// The size of the manifest of an interface was told.
+    fn set_size(&mut self, intf: u8, size: u16)
+        ensures { self.new ≡ at_first (is_intf intf) (changed (change.Size size)) self.old }
+    {
+        if let Some(i) = self.index(intf) {
+            self.known[i].size = size;
+        }
+    }
+
+    /// An interface is enumerated with this manifest.
+    pub fn enumerate(&mut self, intf: u8, manifest: Bytes)
+        ensures { self.new ≡ at_first (is_intf intf) (enumerated manifest) self.old }
+    {
+        if let Some(i) = self.index(intf) {
+            let interface = &mut self.known[i];
+            interface.stage = IntfStage::Enumerated;
+            interface.manifest = manifest;
         }
     }
 
@@ -86,5 +225,52 @@ impl Interfaces {
             }
         }
         None
+    }
+
+    /// Some interface is to have a device id.
+    fn has_device(&self, device: u8) -> bool
+        ensures { result ≡ list_any (has_device_id device) self.now }
+    {
+        for interface in &self.known {
+            if is_device(device, interface.device) {
+                return true;
+            }
+        }
+        false
+    }
+
+    /// Where an interface belongs in the order of numbers: behind those up to its own.
+    fn place(&self, intf: u8) -> usize
+        ensures order { (x : Interface) → x.intf ≡ intf
+            → insert self.now result x ≡ in_order intf_before x self.now }
+        ensures within { result ≤ length self.now }
+    {
+        match self.index_above(intf) {
+            Some(i) => i,
+            None => self.known.len(),
+        }
+    }
+
+    /// Where the first interface of a greater number stands.
+    fn index_above(&self, intf: u8) -> Option<usize>
+        ensures first { result ≡ position_from (λ x. nat_lt intf x.intf) 0 self.now }
+        ensures within { IfSome result (λ i. i < length self.now) }
+    {
+        for (i, interface) in self.known.iter().enumerate() {
+            if intf < interface.intf {
+                return Some(i);
+            }
+        }
+        None
+    }
+}
+
+/// A device id is this one.
+fn is_device(device: u8, id: Option<u8>) -> bool
+    ensures { result ≡ is_device device id }
+{
+    match id {
+        Some(id) => id == device,
+        None => false,
     }
 }

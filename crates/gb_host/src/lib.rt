@@ -3,17 +3,29 @@
 #![tactic(auto)]
 
 mod acts;
+mod asking;
 mod bridging;
+mod connecting;
+mod connections;
+mod cports;
+mod enumerating;
 mod events;
 mod failing;
 mod host;
 mod interfaces;
+mod kinds;
 mod links;
+mod payloads;
 mod protocols;
 mod refusing;
+mod removing;
+mod replies;
 mod serving;
 #[cfg(test)]
 mod tests;
+mod turning;
+#[cfg(test)]
+mod turning_tests;
 mod waiting;
 
 pub use acts::{Act, Acts};

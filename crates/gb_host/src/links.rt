@@ -1,19 +1,15 @@
 //! The connections to modules.
 
-ghost use Rattle.std.specs.Prelude.{◌≡◌, ◌==◌, ◌<◌, ◌∷◌, [], ◌++◌, IfSome, find, length};
-ghost use Rattle.std.specs.List.{list_any, position_from};
+ghost use Rattle.std.specs.Prelude.{◌≡◌, ◌==◌, ◌<◌, ◌∷◌, [], ◌++◌, true, false, None, IfSome, OnOk, find, length};
+ghost use Rattle.std.specs.List.{position_from};
 ghost use Rattle.gb_machine.specs.Host.{in_state, is_link};
 ghost use Rattle.gb_machine.specs.HostServing.{with_credits};
-ghost use Rattle.gb_machine.specs.Lists.{at_first, first_free};
+ghost use Rattle.gb_machine.specs.Lists.{at_first, without};
+ghost use Rattle.gb_machine.specs.Waits.{link_waits};
 
-use gb_base::{ConnState, Link, SequenceStep};
+use crate::waiting::purpose_in;
+use gb_base::{ConnState, Link, OutOfMemory, Purpose, SequenceStep};
 use std::alloc::Global;
-
-/// The least CPort of the application processor that a connection to a module has.
-const LEAST_CPORT: u16 = 1;
-
-/// The greatest CPort of the application processor, and one more.
-const CPORTS_END: u16 = 4096;
 
 /// The connections to modules in order of number.
 #[derive(Drop)]
@@ -22,6 +18,7 @@ pub struct Links {
 }
 
 impl Links {
+    ghost use Rattle.gb_host.specs.Indexes.{Rises};
     ghost use Rattle.gb_host.specs.Changes.{HasRoom, is_empty, link_awaits, with_fewer};
 
     /// No connections. It takes no memory yet.
@@ -31,6 +28,13 @@ impl Links {
         Links {
             live: Vec::new(alloc),
         }
+    }
+
+    /// The connections in order of number.
+    pub fn items(&self) -> &[Link]
+        ensures { result.now ≡ self.now.live.items }
+    {
+        self.live.as_slice()
     }
 
     /// The connection to a CPort of an interface.
@@ -53,23 +57,105 @@ impl Links {
             .find(|link| link.connection == connection)
     }
 
-    /// The least CPort of the application processor from 1 to 4,095 that no connection has.
-    pub fn free_cport(&self) -> Option<u16>
-        ensures { result ≡ first_free (λ a. list_any (λ l. l.ap == a) self.now.live.items) 4095 1 }
+    /// The connection with a number, where the numbers rise. Few connections are looked at.
+    pub fn of_rising(&self, connection: u64) -> Option<Link>
+        ensures { Rises self.now.live.items
+            → result ≡ find (λ l. l.connection == connection) self.now.live.items }
     {
-        for ap in LEAST_CPORT..CPORTS_END {
-            if !self.has_cport(ap) {
-                return Some(ap);
+        let place = self
+            .live
+            .partition_point(|link| link.connection < connection);
+        if place == self.live.len() {
+            return None;
+        }
+        let link = self.live[place];
+        if link.connection == connection {
+            Some(link)
+        } else {
+            None
+        }
+    }
+
+    /// No number is greater than that of a connection that is about to go to the end, where the
+    /// numbers rise.
+    pub fn rises_to(&self, link: Link) -> bool
+        ensures { result ≡ true → Rises self.now.live.items
+            → Rises (self.now.live.items ++ link ∷ []) }
+    {
+        let live = self.live.as_slice();
+        if live.is_empty() {
+            return true;
+        }
+        live[live.len() - 1].connection <= link.connection
+    }
+
+    /// The purpose of a request that a connect or close waits for.
+    pub fn waiting(&self, number: u64) -> Option<Purpose>
+        ensures { result ≡ link_waits number self.now.live.items }
+    {
+        for link in &self.live {
+            if let Some(purpose) = purpose_in(number, link.intf, link.cport, link.awaits) {
+                return Some(purpose);
             }
         }
         None
     }
 
-    /// A connection goes to the end.
-    pub fn add(&mut self, link: Link)
-        ensures { HasRoom self.old → self.new.live.items ≡ self.old.live.items ++ link ∷ [] }
+    /// What the connect or close of a connection waits for.
+    pub fn awaits(&self, intf: u8, cport: u16) -> Option<(u64, SequenceStep)>
+        ensures { at_first (is_link intf cport) (link_awaits result)
+            (at_first (is_link intf cport) (link_awaits None) self.now.live.items)
+            ≡ self.now.live.items }
     {
-        let _pushed = self.live.push(link).is_ok();
+        match self.at(intf, cport) {
+            Some(link) => link.awaits,
+            None => None,
+        }
+    }
+
+    /// The state of a connection that another state is about to replace.
+    pub fn state(&self, intf: u8, cport: u16, to: ConnState) -> ConnState
+        ensures { at_first (is_link intf cport) (in_state result)
+            (at_first (is_link intf cport) (in_state to) self.now.live.items)
+            ≡ self.now.live.items }
+    {
+        match self.at(intf, cport) {
+            Some(link) => link.state,
+            None => to,
+        }
+    }
+
+    /// A connection more will take no memory.
+    pub fn reserve(&mut self) -> Result<(), OutOfMemory>
+        ensures room { OnOk result (HasRoom self.new) }
+        ensures same { self.new.live.items ≡ self.old.live.items }
+    {
+        self.live.reserve(1)?;
+        Ok(())
+    }
+
+    /// The connection to a CPort of an interface is there no more.
+    pub fn remove(&mut self, intf: u8, cport: u16)
+        ensures { self.new.live.items ≡ without (is_link intf cport) self.old.live.items }
+    {
+        self.live
+            .retain(|link| link.intf != intf || link.cport != cport);
+    }
+
+    /// The connections of an interface are there no more.
+    pub fn remove_all(&mut self, intf: u8)
+        ensures { self.new.live.items ≡ without (λ l. l.intf == intf) self.old.live.items }
+    {
+        self.live.retain(|link| link.intf != intf);
+    }
+
+    /// A connection goes to the end, or nothing changes.
+    pub fn add(&mut self, link: Link) -> bool
+        ensures added { result ≡ true → self.new.live.items ≡ self.old.live.items ++ link ∷ [] }
+        ensures same { result ≡ false → self.new.live.items ≡ self.old.live.items }
+        ensures room { HasRoom self.old → result ≡ true }
+    {
+        self.live.push(link).is_ok()
     }
 
     /// A connection has a state from now on.
@@ -111,18 +197,6 @@ impl Links {
         if let Some(i) = self.index(intf, cport) {
             self.live[i].awaits = awaits;
         }
-    }
-
-    /// Some connection has a CPort of the application processor.
-    fn has_cport(&self, ap: u16) -> bool
-        ensures { result ≡ list_any (λ l. l.ap == ap) self.now.live.items }
-    {
-        for link in &self.live {
-            if link.ap == ap {
-                return true;
-            }
-        }
-        false
     }
 
     /// Where the connection to a CPort of an interface stands.

@@ -15,3 +15,9 @@ pub const SPI: u8 = 0x0b;
 
 /// The credits with which a connection begins, and which they never pass.
 pub const MOST_CREDITS: u16 = 4096;
+
+/// The protocol of the Control CPort.
+pub const CONTROL: u8 = 0x00;
+
+/// The connection of the supervisory controller.
+pub const SVC: u64 = 1;

@@ -2,9 +2,16 @@
 
 ghost use Rattle.std.specs.Prelude.{◌≡◌, option_map};
 ghost use Rattle.gb_machine.specs.Host as machine;
-ghost use Rattle.gb_machine.specs.Host.{cport_of, link_at};
-ghost use Rattle.gb_machine.specs.HostRefusals.{connect_conditions, is_bridged, send_conditions};
-ghost use Rattle.gb_machine.specs.Lists.{first_met};
+ghost use Rattle.gb_machine.specs.Host.{control_of, cport_of, link_at};
+ghost use Rattle.gb_machine.specs.HostRefusals.{
+  connect_conditions,
+  disconnect_conditions,
+  is_bridged,
+  is_kept,
+  link_conditions,
+  send_conditions,
+};
+ghost use Rattle.gb_machine.specs.Lists.{first_met, holds_of};
 ghost use Rattle.gb_manifest.specs.Values.{view_of};
 
 use crate::Host;
@@ -54,6 +61,54 @@ impl Host {
         if self.interfaces.at(intf).is_none() {
             return Err(Refusal::NoInterface);
         }
+        self.open_at(intf, cport)
+    }
+
+    /// Whether the connection to a CPort of an interface may be closed: Ok, or why not. The Control
+    /// connection stays. It takes no memory.
+    pub fn may_disconnect(&self, intf: u8, cport: u16) -> Result<(), Refusal>
+        ensures step { (h : machine.Host) → Stands self.now h
+            → RefusesAs (first_met (disconnect_conditions intf cport h)) result }
+    {
+        if self.interfaces.at(intf).is_none() {
+            return Err(Refusal::NoInterface);
+        }
+        if cport == 0 {
+            return Err(Refusal::Unsupported);
+        }
+        self.open_at(intf, cport)?;
+        Ok(())
+    }
+
+    /// The connection to the Control CPort of an interface, None where there is none. It takes no
+    /// memory.
+    pub fn control(&self, intf: u8) -> Option<u64>
+        ensures step { (h : machine.Host) → Stands self.now h → result ≡ control_of intf h }
+    {
+        Some(self.links.at(intf, 0)?.connection)
+    }
+
+    /// Whether requests of a type are the application processor's own on the connection to a CPort
+    /// of an interface: CONNECTED, DISCONNECTED and DISCONNECTING on Control, and SEND_DATA, which
+    /// takes credits, on a UART. It takes no memory.
+    pub fn keeps(&self, intf: u8, cport: u16, kind: u8) -> bool
+        ensures step { (h : machine.Host) → Stands self.now h
+            → result ≡ holds_of (λ l. is_kept l kind) (link_at intf cport h) }
+    {
+        match self.links.at(intf, cport) {
+            Some(link) =>
+                link.cport == 0 && matches!(kind, 0x05 | 0x06 | 0x0c)
+                    || link.protocol == UART && kind == 0x02,
+            None => false,
+        }
+    }
+
+    /// The connection to a CPort of an interface, or why nothing is sent on it.
+    fn open_at(&self, intf: u8, cport: u16) -> Result<u64, Refusal>
+        ensures step { (h : machine.Host) → Stands self.now h
+            → SendsAs (first_met (link_conditions (link_at intf cport h))) (link_at intf cport h)
+            result }
+    {
         let Some(link) = self.links.at(intf, cport) else {
             return Err(Refusal::NoConnection);
         };

@@ -4,7 +4,7 @@ ghost use Rattle.std.specs.Prelude.{◌≡◌, ℕ, None};
 ghost use Rattle.gb_machine.specs.Host as machine;
 ghost use Rattle.gb_machine.specs.Host.{with_new_link};
 ghost use Rattle.gb_machine.specs.SequenceSteps.{is_enumeration};
-ghost use Rattle.gb_machine.specs.Waits.{awaits, awaits_nothing, waiting};
+ghost use Rattle.gb_machine.specs.Waits.{awaited, awaits, awaits_nothing, purpose_in, waiting};
 
 use crate::Host;
 use crate::protocols::MOST_CREDITS;
@@ -45,6 +45,28 @@ impl Host {
         }
     }
 
+    /// What a request is for, where a sequence waits for it.
+    pub(crate) fn awaited(&self, number: u64) -> Option<Purpose>
+        ensures { result ≡ awaited number (host_of self.now) }
+    {
+        match self.interfaces.waiting(number) {
+            Some(purpose) => Some(purpose),
+            None => self.links.waiting(number),
+        }
+    }
+
+    /// What the sequence of a purpose waits for.
+    pub(crate) fn waits(&self, purpose: Purpose) -> Option<(u64, SequenceStep)>
+        ensures { waiting result purpose (waiting None purpose (host_of self.now))
+            ≡ host_of self.now }
+    {
+        if is_enumeration(purpose.step) {
+            self.interfaces.awaits(purpose.intf)
+        } else {
+            self.links.awaits(purpose.intf, purpose.cport)
+        }
+    }
+
     /// The sequence of a purpose waits for this.
     pub(crate) fn wait(&mut self, purpose: Purpose, awaits: Option<(u64, SequenceStep)>)
         ensures { host_of self.new ≡ waiting awaits purpose (host_of self.old) }
@@ -69,4 +91,21 @@ fn is_enumeration(step: SequenceStep) -> bool
             | SequenceStep::TellDisconnected
             | SequenceStep::DestroyConnection
     )
+}
+
+/// The purpose of a request, where what a sequence waits for is this request.
+pub(crate) fn purpose_in(
+    number: u64,
+    intf: u8,
+    cport: u16,
+    awaits: Option<(u64, SequenceStep)>,
+) -> Option<Purpose>
+    ensures { result ≡ purpose_in number intf cport awaits }
+{
+    let (awaited, step) = awaits?;
+    if awaited == number {
+        Some(Purpose { intf, cport, step })
+    } else {
+        None
+    }
 }

@@ -3,7 +3,7 @@ use Rattle.std.specs.Prelude.{◌≡◌, List, []}
 use Rattle.gb_bus.specs.Stands as bus
 use Rattle.gb_bus.specs.declared.bus.Bus.{Bus}
 use Rattle.gb_invariants.specs.Facts.{Loose}
-use Rattle.gb_machine.specs.Actions.{Action}
+use Rattle.gb_machine.specs.Actions.{Action, nothing}
 use Rattle.gb_machine.specs.Responding.{Response}
 use Rattle.gb_machine.specs.Serving.{Answer, answer}
 use Rattle.gb_machine.specs.State.{Port, State}
@@ -34,6 +34,12 @@ pub record ChangesPorts (new : Ladder) (s : State) (does : Action) : Type 0 wher
 pub record DoesThis (new : Ladder) (s : State) (does this : Action) : Type 0 where
   pub stands : switch.Stands new s.ports
   pub is : does ≡ this
+
+-- what is done after a reply, but for what changes of the interfaces
+abbrev pub action_of : Behind → Action
+action_of behind.Nothing = nothing
+action_of (behind.Wire k) = wires k
+action_of (behind.Unwire k) = unwires k
 
 -- What is done after the reply at a state, by cases.
 abbrev pub DoesBehind : Ladder → State → Action → Behind → Type 0

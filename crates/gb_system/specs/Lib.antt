@@ -1,6 +1,10 @@
 pub mod Acting
 pub mod Arriving
 pub mod Deciding
+pub mod Doing
+pub mod Drafts
+pub mod Plugging
+pub mod Sending
 pub mod Serving
 pub mod Stands
 pub mod Told

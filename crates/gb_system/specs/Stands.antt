@@ -1,5 +1,5 @@
 -- What the value of a system stands for.
-use Rattle.std.specs.Prelude.{◌≡◌, ℕ, ◌<◌, Bool, false, Some, Result, Ok, Err, ⊤, List, [], map}
+use Rattle.std.specs.Prelude.{◌≡◌, ℕ, ◌==◌, ◌≤◌, ◌<◌, Bool, false, Some, Result, Ok, Err, ⊤, List, [], ◌++◌, length, map}
 use Rattle.gb_base.specs.declared.end.Side.TheVariants as side
 use Rattle.gb_base.specs.declared.entry.Entry.{Entry}
 use Rattle.gb_base.specs.declared.errors.OutOfMemory.{OutOfMemory}
@@ -7,11 +7,14 @@ use Rattle.gb_base.specs.declared.event.Event.{Event}
 use Rattle.gb_bus.specs.Delivering.{taken_from}
 use Rattle.gb_bus.specs.Stands as bus
 use Rattle.gb_invariants.specs.Facts.{Loose}
+use Rattle.gb_formats.specs.Results.{most_payload}
+use Rattle.gb_host.specs.Stands as host
+use Rattle.gb_machine.specs.Bus as machine
 use Rattle.gb_machine.specs.Bus.{Request, request_of}
 use Rattle.gb_machine.specs.Events.{step}
-use Rattle.gb_machine.specs.Host.{first_host}
+use Rattle.gb_machine.specs.Members.{Each}
 use Rattle.gb_machine.specs.Reached.{OfARun}
-use Rattle.gb_machine.specs.State.{Held, State}
+use Rattle.gb_machine.specs.State.{Held, Plugged, State}
 use Rattle.gb_switch.specs.Stands as switch
 use Rattle.gb_system.specs.declared.parties.Parties.{Parties}
 use Rattle.gb_system.specs.declared.system.System.{System}
@@ -26,38 +29,48 @@ held_item h = taken_from h.connection side.Far h.item
 abbrev pub held_items : State → List Loose
 held_items s = map held_item s.held
 
--- a request is one of the application processor that gets a reply, of a type that a request can
--- have
-pub record IsScripted (r : Request) : Type 0 where
-  pub asker : r.side ≡ side.Ap
+-- A request has a type that a request can have, fits into a message, has an identifier exactly
+-- where it gets a reply, and gets one where the application processor made it.
+pub record IsSound (r : Request) : Type 0 where
   pub kind : r.kind < 128
-  pub twoway : r.oneway ≡ false
+  pub payload : length r.payload ≤ most_payload
+  pub label : (r.label == 0) ≡ r.oneway
+  pub twoway : r.side ≡ side.Ap → r.oneway ≡ false
 
--- The parties stand for this state, part by part. What the past was is no matter of theirs.
-pub record PartsStand (x : Parties) (s : State) : Type 0 where
-  pub bus : bus.Stands (held_items s) x.bus s.bus
+-- each request that was made is such
+abbrev pub AreSound : machine.Bus → Type 0
+AreSound b = (n : ℕ) (r : Request) → request_of n b ≡ Some r → IsSound r
+
+-- the manifest of a module fits into a message
+abbrev pub IsShort : Plugged → Type 0
+IsShort p = length p.body.manifest ≤ most_payload
+
+-- The parties stand for this state, part by part, with these items in no queue besides those that
+-- are held. What the past was is no matter of theirs.
+pub record PartsStand (loose : List Loose) (x : Parties) (s : State) : Type 0 where
+  pub bus : bus.Stands (loose ++ held_items s) x.bus s.bus
   pub ports : switch.Stands x.ladder s.ports
+  pub modules : s.modules ≡ x.modules
+  pub host : host.Stands x.host s.host
   pub names : s.names ≡ x.names
+  pub booted : s.booted ≡ x.booted
+  pub sound : AreSound s.bus
+  pub short : Each IsShort s.modules
   -- These are as in the first state, since no event that changes them is built.
   pub now : s.now ≡ 0
-  pub booted : s.booted ≡ false
   pub holds : s.holds ≡ []
   pub held : s.held ≡ []
-  pub modules : s.modules ≡ []
-  pub host : s.host ≡ first_host
-  -- This is true of the events of today alone: requests are those that scripts send.
-  pub scripted : (n : ℕ) (r : Request) → request_of n s.bus ≡ Some r → IsScripted r
 
 -- The parties stand for a state that some run of valid events leads to.
 pub record PartiesStand (x : Parties) (s : State) : Type 0 where
-  pub parts : PartsStand x s
+  pub parts : PartsStand [] x s
   pub run : OfARun s
 
 -- The entries are the machine's, and the parties stand for the parts of the state after its step.
 -- After want of memory nothing is said.
 abbrev pub PartsStep : Parties → State → Event → Result (List Entry) OutOfMemory → Type 0
 PartsStep new s e (Ok entries) =
-    (entries ≡ (step s e).entries) × PartsStand new (step s e).state
+    (entries ≡ (step s e).entries) × PartsStand [] new (step s e).state
 PartsStep new s e (Err refused) = ⊤
 
 -- ---- the system

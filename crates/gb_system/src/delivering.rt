@@ -1,21 +1,26 @@
 //! Deliveries, and settles, which are deliveries in a fixed order.
 
-ghost use Rattle.std.specs.Prelude.{◌≡◌, IfOk};
+ghost use Rattle.std.specs.Prelude.{◌≡◌, ℕ, true, Some, IfOk, List};
+ghost use Rattle.gb_base.specs.declared.event.Event.TheVariants as event;
+ghost use Rattle.gb_invariants.specs.Facts.{Loose};
+ghost use Rattle.gb_machine.specs.Bus.{Connection};
+ghost use Rattle.gb_machine.specs.Arriving.{reading_at};
+ghost use Rattle.gb_machine.specs.Refusals.{is_end_unplugged};
 ghost use Rattle.gb_machine.specs.State.{State};
-ghost use Rattle.gb_system.specs.Arriving.{ArrivesAs};
-ghost use Rattle.gb_system.specs.Stands.{PartiesStand, PartsStep};
-ghost use Rattle.gb_system.specs.Told.{answer_told, delivery_at, nowhere_refusal, settle_of};
+ghost use Rattle.gb_system.specs.Arriving.{ArrivesAs, ReadsOn};
+ghost use Rattle.gb_system.specs.Serving.{side_of};
+ghost use Rattle.gb_system.specs.Stands.{PartiesStand, PartsStand, PartsStep};
 
 use crate::entries::{begun, refused};
 use crate::parties::Parties;
-use gb_base::{Bytes, End, Entries, Entry, OutOfMemory, Outcome, Reading, Refusal};
+use gb_base::{End, Entries, Entry, OutOfMemory, Outcome, Reading, Refusal};
 use gb_bus::{Arrival, Arrived, DeliverFault};
 
 impl Parties {
     /// Delivers the front message toward an end.
     pub fn deliver(&mut self, at: End) -> Result<Entries, OutOfMemory>
         ensures step { (s : State) → PartiesStand self.old s
-            → PartsStep self.new s (delivery_at at) result }
+            → PartsStep self.new s (event.Deliver at) result }
     {
         let mut told = begun(self.alloc)?;
         match self.arrive(at, &mut told)? {
@@ -27,7 +32,7 @@ impl Parties {
     /// Delivers at most so many messages, each toward the first end at which one waits.
     pub fn settle(&mut self, most: u16) -> Result<Entries, OutOfMemory>
         ensures step { (s : State) → PartiesStand self.old s
-            → PartsStep self.new s (settle_of most) result }
+            → PartsStep self.new s (event.Settle most) result }
     {
         let mut told = begun(self.alloc)?;
         for count in 0..most {
@@ -43,54 +48,62 @@ impl Parties {
 
     /// Takes the front message toward an end, handles it, and tells what comes of it. Answers why
     /// a delivery there is refused; nothing is done then.
-    pub fn arrive(&mut self, at: End, told: &mut Entries) -> Result<Option<Refusal>, OutOfMemory>
+    fn arrive(&mut self, at: End, told: &mut Entries) -> Result<Option<Refusal>, OutOfMemory>
         ensures step { IfOk result (λ why. (s : State) → PartiesStand self.old s
             → ArrivesAs self.new s at told.old told.new why) }
     {
-        let Arrived {
-            connection: _,
-            item,
-        } = match self.bus.deliver(at, true) {
+        if self.is_unplugged(at) {
+            return Ok(Some(Refusal::NoInterface));
+        }
+        let takes = self.takes(at);
+        let Arrived { connection, item } = match self.bus.deliver(at, takes) {
             Ok(arrived) => arrived,
-            Err(DeliverFault::NoConnection) => return Ok(Some(nowhere(at))),
+            Err(DeliverFault::NoConnection) => return Ok(Some(Refusal::NoConnection)),
             Err(DeliverFault::QueueEmpty) => return Ok(Some(Refusal::QueueEmpty)),
             Err(DeliverFault::Memory(refused)) => return Err(refused),
         };
         match item {
-            Arrival::Ask { asked, payload } => self.serve(&asked, payload.items(), told)?,
+            Arrival::Ask { asked, payload } =>
+                self.serve(connection, at, &asked, payload.items(), told)?,
             Arrival::Ended {
                 number,
-                kind: _,
+                kind,
                 result: code,
                 payload,
-            } => told.push(ended(number, code, payload))?,
+            } => {
+                let reading = self.reading(connection, at, kind, code, payload.items());
+                let outcome = Outcome::Answered {
+                    result: code,
+                    payload,
+                };
+                self.end(number, outcome, reading, told)?;
+            }
             Arrival::Late { number } => told.push(Entry::Late { number })?,
             Arrival::Dropped { number, reply } => told.push(Entry::Dropped { number, reply })?,
         }
         Ok(None)
     }
-}
 
-/// Why a delivery is refused where no wired connection names the end: nothing is plugged.
-fn nowhere(at: End) -> Refusal
-    ensures { result ≡ nowhere_refusal at }
-{
-    match at {
-        End::Module { .. } => Refusal::NoInterface,
-        End::Svc | End::Ap(_) => Refusal::NoConnection,
+    /// An end is that of a module that isn't plugged.
+    fn is_unplugged(&self, at: End) -> bool
+        ensures { (loose : List Loose) (s : State) → PartsStand loose self.now s
+            → result ≡ is_end_unplugged at s }
+    {
+        match at {
+            End::Module { intf, .. } => self.modules.at(intf).is_none(),
+            End::Svc | End::Ap(_) => false,
+        }
     }
-}
 
-/// A request was answered with this result and payload.
-fn ended(number: u64, code: u8, payload: Bytes) -> Entry
-    ensures { result ≡ answer_told number code payload }
-{
-    Entry::Ended {
-        number,
-        outcome: Outcome::Answered {
-            result: code,
-            payload,
-        },
-        reading: Reading::Nothing,
+    /// What an answer that came to an end says.
+    fn reading(&self, connection: u64, at: End, kind: u8, code: u8, payload: &[u8]) -> Reading
+        ensures { (loose : List Loose) (s : State) (c : Connection) → PartsStand loose self.now s
+            → ReadsOn connection s c
+            → result ≡ reading_at (side_of at) c kind code payload.now }
+    {
+        match at {
+            End::Ap(_) if code == 0 => self.host.reading(connection, kind, payload),
+            _ => Reading::Nothing,
+        }
     }
 }

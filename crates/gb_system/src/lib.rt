@@ -1,17 +1,27 @@
 //! All parties of the bus, stepped by events.
 #![tactic(auto)]
 
+mod acting;
+mod answering;
+mod asking;
+mod connecting;
 mod deciding;
 mod delivering;
+mod ending;
 mod entries;
 mod message;
+mod module_serving;
+mod modules;
 mod names;
 mod naming;
 mod parties;
+mod plugging;
 mod sending;
 mod serving;
+mod showing;
 mod svc;
 mod system;
+mod taking;
 #[cfg(test)]
 mod tests;
 

@@ -1,15 +1,69 @@
-//! The bytes of messages, for the report.
+//! Messages, as the report tells them.
 
 ghost use Rattle.std.specs.Prelude.{◌≡◌, ◌≤◌, ◌<◌, IfOk, length};
-ghost use Rattle.gb_formats.specs.Message.{spelling};
+ghost use Rattle.gb_formats.specs.Message.{message_size, request, response, spelling};
 ghost use Rattle.gb_wire.specs.MessageOf.{message_of};
 
 use gb_base::{Bytes, OutOfMemory};
 use gb_wire::{Message, encode_into};
 use std::alloc::Global;
 
+/// The most bytes that a payload has on a simulated link.
+pub const LONGEST_PAYLOAD: usize = 2040;
+
+/// The size of a message with a payload of at most 2,040 bytes.
+pub fn size_of(payload: &[u8]) -> u16
+    ensures { length payload.now ≤ 2040 → result ≡ message_size payload.now }
+{
+    8 + within(payload).len() as u16
+}
+
+/// The bytes of a request with a payload of at most 2,040 bytes.
+pub fn request_bytes(
+    alloc: Global,
+    label: u16,
+    kind: u8,
+    payload: &[u8],
+) -> Result<Bytes, OutOfMemory>
+    ensures { IfOk result (λ b. length payload.now ≤ 2040
+        → b ≡ spelling (request label kind payload.now)) }
+{
+    message_bytes(
+        alloc,
+        &Message {
+            id: label,
+            kind,
+            result: 0,
+            payload: within(payload),
+        },
+    )
+}
+
+/// The bytes of the response to a request of a type below 0x80, with a payload of at most 2,040
+/// bytes.
+pub fn response_bytes(
+    alloc: Global,
+    label: u16,
+    kind: u8,
+    code: u8,
+    payload: &[u8],
+) -> Result<Bytes, OutOfMemory>
+    ensures { IfOk result (λ b. kind < 128 → length payload.now ≤ 2040
+        → b ≡ spelling (response label kind code payload.now)) }
+{
+    message_bytes(
+        alloc,
+        &Message {
+            id: label,
+            kind: kind % 0x80 + 0x80,
+            result: code,
+            payload: within(payload),
+        },
+    )
+}
+
 /// The canonical spelling of a message.
-pub fn message_bytes(alloc: Global, m: &Message<'_>) -> Result<Bytes, OutOfMemory>
+fn message_bytes(alloc: Global, m: &Message<'_>) -> Result<Bytes, OutOfMemory>
     requires fits { length m.now.payload.now ≤ 65527 }
     requires request { m.now.kind < 128 → m.now.result ≡ 0 }
     ensures { IfOk result (λ b. b ≡ spelling (message_of m.now)) }
@@ -17,4 +71,16 @@ pub fn message_bytes(alloc: Global, m: &Message<'_>) -> Result<Bytes, OutOfMemor
     let mut bytes = vec![in alloc; 0u8; 8 + m.payload.len()]?;
     encode_into(m, &mut bytes).unwrap();
     Ok(Bytes::from_slice(alloc, bytes.as_slice())?)
+}
+
+/// A payload up to the length that a message has room for.
+fn within(payload: &[u8]) -> &[u8]
+    ensures most { length result.now ≤ 2040 }
+    ensures all { length payload.now ≤ 2040 → result.now ≡ payload.now }
+{
+    if payload.len() > LONGEST_PAYLOAD {
+        &payload[..LONGEST_PAYLOAD]
+    } else {
+        payload
+    }
 }

@@ -3,11 +3,11 @@
 ghost use Rattle.std.specs.Prelude.{◌≡◌};
 ghost use Rattle.gb_machine.specs.State.{State};
 ghost use Rattle.gb_system.specs.Stands.{PartiesStand, PartsStep};
-ghost use Rattle.gb_system.specs.Told.{cancel_of, cancel_told, copy_of, forget_of};
+ghost use Rattle.gb_system.specs.Told.{cancel_of, copy_of, forget_of};
 
-use crate::entries::{begun, done, refused};
+use crate::entries::{begun, refused};
 use crate::parties::Parties;
-use gb_base::{Entries, Entry, Name, OutOfMemory, Outcome, Reading, Refusal, TryCopy};
+use gb_base::{Entries, Name, OutOfMemory, Outcome, Reading, Refusal, TryCopy};
 use gb_bus::AlreadyEnded;
 
 impl Parties {
@@ -20,7 +20,11 @@ impl Parties {
             return Ok(refused(self.alloc, Refusal::NoName)?);
         };
         match self.bus.cancel(number) {
-            Ok(()) => Ok(done(self.alloc, cancelled(number))?),
+            Ok(()) => {
+                let mut told = begun(self.alloc)?;
+                self.end(number, Outcome::Cancelled, Reading::Nothing, &mut told)?;
+                Ok(told)
+            }
             Err(AlreadyEnded) => Ok(refused(self.alloc, Refusal::AlreadyEnded)?),
         }
     }
@@ -50,16 +54,5 @@ impl Parties {
         };
         self.names.free(name);
         Ok(begun(self.alloc)?)
-    }
-}
-
-/// A request was cancelled.
-fn cancelled(number: u64) -> Entry
-    ensures { result ≡ cancel_told number }
-{
-    Entry::Ended {
-        number,
-        outcome: Outcome::Cancelled,
-        reading: Reading::Nothing,
     }
 }

@@ -1,38 +1,46 @@
 //! The parties and the bus between them.
 
-ghost use Rattle.std.specs.Prelude.{◌≡◌, IfOk, true};
+ghost use Rattle.std.specs.Prelude.{◌≡◌, [], IfOk, true};
 ghost use Rattle.gb_formats.specs.Built.{is_built};
 ghost use Rattle.gb_formats.specs.ValidEvents.{IsValid};
 ghost use Rattle.gb_machine.specs.State.{State, first_state};
 
+use crate::modules::Modules;
 use crate::names::Names;
 use gb_base::{Entries, Event, OutOfMemory};
 use gb_bus::Bus;
+use gb_host::Host;
 use gb_switch::Ladder;
 use std::alloc::Global;
 
-/// The application processor, the supervisory controller with the power levels of interfaces, and
-/// the bus between them, with the names that requests have.
+/// The application processor, the supervisory controller with the power levels of interfaces, the
+/// modules, and the bus between them, with the names that requests have.
 #[derive(Drop)]
 pub struct Parties {
     pub alloc: Global,
     pub bus: Bus,
     pub ladder: Ladder,
+    pub modules: Modules,
+    pub host: Host,
     pub names: Names,
+    pub booted: bool,
 }
 
 impl Parties {
     ghost use Rattle.gb_system.specs.Stands.{PartiesStand, PartsStand, PartsStep};
 
-    /// The first state: nothing was sent.
+    /// The first state: nothing is plugged, and nothing was sent.
     pub fn new(alloc: Global) -> Result<Parties, OutOfMemory>
-        ensures { IfOk result (λ x. PartsStand x first_state) }
+        ensures { IfOk result (λ x. PartsStand [] x first_state) }
     {
         Ok(Parties {
             alloc,
             bus: Bus::new(alloc)?,
             ladder: Ladder::new(),
+            modules: Modules::new(alloc),
+            host: Host::new(alloc)?,
             names: Names::new(alloc),
+            booted: false,
         })
     }
 
@@ -44,18 +52,24 @@ impl Parties {
             → PartsStep self.new s e.now result }
     {
         match e {
+            Event::Boot => self.boot(),
+            Event::Insert { intf, kind } => self.insert(*intf, *kind),
+            Event::Pull { intf } => self.pull(*intf),
+            Event::Connect { intf, cport } => self.connect(*intf, *cport),
+            Event::Disconnect { intf, cport } => self.disconnect(*intf, *cport),
             Event::Send {
                 name,
+                to,
                 kind,
                 payload,
                 timeout,
-                ..
-            } => self.send(name, *kind, payload.items(), *timeout),
+            } => self.send(name, *to, *kind, payload.items(), *timeout),
             Event::Deliver { at } => self.deliver(*at),
             Event::Settle { most } => self.settle(*most),
             Event::Cancel { name } => self.cancel(name),
             Event::Copy { from, to } => self.copy_name(from, to),
             Event::Forget { name } => self.forget_name(name),
+            Event::Show => self.show(),
             _ => unreachable!(),
         }
     }

@@ -1,100 +1,117 @@
-//! Requests that are served at the supervisory controller.
+//! Requests that are served, each by the party at its end.
 
-ghost use Rattle.std.specs.Prelude.{◌≡◌, ◌<◌, ◌≤◌, ◌++◌, ℕ, List, IfOk, OnOk, length, map};
-ghost use Rattle.gb_bus.specs.Stands as of_bus;
-ghost use Rattle.gb_invariants.specs.Facts.{Loose};
-ghost use Rattle.gb_machine.specs.Bus as machine;
+ghost use Rattle.std.specs.Prelude.{◌≡◌, [], ℕ, OnOk};
+ghost use Rattle.gb_base.specs.declared.end.End.TheVariants as end;
+ghost use Rattle.gb_base.specs.declared.end.Side.TheVariants as side;
+ghost use Rattle.gb_machine.specs.Bus.{Connection};
 ghost use Rattle.gb_machine.specs.Incoming.{incoming};
+ghost use Rattle.gb_machine.specs.Responding.{serves};
 ghost use Rattle.gb_machine.specs.State.{State};
-ghost use Rattle.gb_machine.specs.Wires.{disconnected_told};
-ghost use Rattle.gb_system.specs.Serving.{FollowsAs, IsServed, ServesAs, StandServing};
-ghost use Rattle.gb_system.specs.Told.{reply_told};
+ghost use Rattle.gb_system.specs.Deciding.{action_of};
+ghost use Rattle.gb_system.specs.Doing.{Does};
+ghost use Rattle.gb_system.specs.Serving.{IsDelivered, MayServe, only, side_of};
+ghost use Rattle.gb_system.specs.Stands.{PartsStand};
 
 use crate::deciding::{Behind, decide};
-use crate::message::message_bytes;
 use crate::parties::Parties;
 use crate::svc::SVC;
-use gb_base::{End, Entries, Entry, Numbers, OutOfMemory, Outcome, Reading, Side};
+use gb_base::{End, Entries, Entry, OutOfMemory, Side};
 use gb_bus::Asked;
-use gb_wire::Message;
-use std::alloc::Global;
+use gb_host::HostServed;
+
+/// The result of an operation that succeeded (Greybus Specification, "Operation Status Values").
+const SUCCESS: u8 = 0;
 
 impl Parties {
-    /// Serves a request at the supervisory controller: its reply goes back, and then what it brings
+    /// Serves a request that was delivered at an end: its reply goes back, and then what it brings
     /// about is done and told.
     pub fn serve(
         &mut self,
+        connection: u64,
+        at: End,
         asked: &Asked,
         payload: &[u8],
         told: &mut Entries,
     ) -> Result<(), OutOfMemory>
-        ensures step { OnOk result ((s : State) (c : machine.Connection) (n : ℕ)
-            → (h : IsServed asked.now payload.now s c n) → StandServing self.old s n
-            → ServesAs self.new s c (incoming n h.may.request) told.old told.new) }
-        ensures names { self.new.names ≡ self.old.names }
+        ensures step { OnOk result ((s : State) (c : Connection) (n : ℕ)
+            → (d : IsDelivered at connection asked.now payload.now s c n)
+            → PartsStand (only connection (side_of at) n) self.old s
+            → MayServe (side_of at) c (incoming n d.request) s
+            → Does self.new (serves (side_of at) c (incoming n d.request)) s told.old told.new) }
+    {
+        match at {
+            End::Svc => self.serve_at_svc(connection, asked, payload, told),
+            End::Ap(_) => self.serve_at_ap(connection, asked, payload, told),
+            End::Module { intf, cport } =>
+                self.serve_at_module(connection, intf, cport, asked, payload, told),
+        }
+    }
+
+    /// The supervisory controller serves a request.
+    fn serve_at_svc(
+        &mut self,
+        connection: u64,
+        asked: &Asked,
+        payload: &[u8],
+        told: &mut Entries,
+    ) -> Result<(), OutOfMemory>
+        ensures step { OnOk result ((s : State) (c : Connection) (n : ℕ)
+            → (d : IsDelivered end.Svc connection asked.now payload.now s c n)
+            → PartsStand (only connection side.Far n) self.old s
+            → Does self.new (serves side.Far c (incoming n d.request)) s told.old told.new) }
     {
         let decision = decide(&self.bus, &mut self.ladder, asked.kind, payload);
         let answer = decision.payload.as_slice();
-        self.bus
-            .reply(SVC, Side::Far, asked, decision.result, answer)?;
-        told.push(replied(self.alloc, asked, decision.result, answer)?)?;
+        self.answer(connection, Side::Far, asked, decision.result, answer, told)?;
         self.follow(decision.behind, told)?;
         Ok(())
     }
 
-    /// Does what comes after a reply, and tells it.
+    /// Does what comes after a reply of the supervisory controller.
     fn follow(&mut self, behind: Behind, told: &mut Entries) -> Result<(), OutOfMemory>
-        ensures step { OnOk result ((loose : List Loose) (b : machine.Bus)
-            → of_bus.Stands loose self.old.bus b
-            → FollowsAs loose self.new.bus b behind told.old told.new) }
-        ensures ladder { self.new.ladder ≡ self.old.ladder }
-        ensures names { self.new.names ≡ self.old.names }
+        ensures step { OnOk result ((s : State) → PartsStand [] self.old s
+            → Does self.new (action_of behind) s told.old told.new) }
     {
         match behind {
             Behind::Nothing => {}
             Behind::Wire { connection } => self.bus.wire(connection)?,
-            Behind::Unwire { connection } => {
-                let mut ended = Numbers::new(self.alloc);
-                self.bus.unwire(connection, &mut ended)?;
-                tell_disconnected(told, ended.items())?;
-            }
+            Behind::Unwire { connection } => self.unwire(connection, told)?,
         }
         Ok(())
     }
-}
 
-/// Requests ended as disconnected, in this order.
-fn tell_disconnected(told: &mut Entries, numbers: &[u64]) -> Result<(), OutOfMemory>
-    ensures { OnOk result (told.new ≡ told.old ++ map disconnected_told numbers.now) }
-{
-    for number in numbers {
-        told.push(Entry::Ended {
-            number: *number,
-            outcome: Outcome::Disconnected,
-            reading: Reading::Nothing,
-        })?;
+    /// The application processor serves a request. One that gets no reply is ignored where it is
+    /// refused.
+    fn serve_at_ap(
+        &mut self,
+        connection: u64,
+        asked: &Asked,
+        payload: &[u8],
+        told: &mut Entries,
+    ) -> Result<(), OutOfMemory>
+        ensures step { OnOk result ((s : State) (c : Connection) (n a : ℕ)
+            → (d : IsDelivered (end.Ap a) connection asked.now payload.now s c n)
+            → PartsStand (only connection side.Ap n) self.old s
+            → MayServe side.Ap c (incoming n d.request) s
+            → Does self.new (serves side.Ap c (incoming n d.request)) s told.old told.new) }
+    {
+        let HostServed {
+            result: code,
+            payload: answer,
+            tell,
+            then,
+        } = self.host.serve(connection, asked.kind, payload)?;
+        if asked.label != 0 {
+            self.answer(connection, Side::Ap, asked, code, answer.items(), told)?;
+        } else if code != SUCCESS {
+            told.push(Entry::Ignored { kind: asked.kind })?;
+        }
+        if let Some(entry) = tell {
+            told.push(entry)?;
+        }
+        if let Some(event) = then {
+            self.notice(event, told)?;
+        }
+        Ok(())
     }
-    Ok(())
-}
-
-/// The supervisory controller answered a request.
-fn replied(alloc: Global, asked: &Asked, code: u8, payload: &[u8]) -> Result<Entry, OutOfMemory>
-    requires { length payload.now ≤ 2040 }
-    ensures { IfOk result (λ e. asked.now.kind < 128
-        → e ≡ reply_told asked.now.number asked.now.label asked.now.kind code payload.now) }
-{
-    let message = Message {
-        id: asked.label,
-        kind: asked.kind % 0x80 + 0x80,
-        result: code,
-        payload,
-    };
-    Ok(Entry::Replied {
-        number: asked.number,
-        from: End::Svc,
-        to: End::Ap(0),
-        result: code,
-        size: 8 + payload.len() as u16,
-        bytes: message_bytes(alloc, &message)?,
-    })
 }

@@ -1,12 +1,12 @@
 -- A name is copied, or not, as the machine does.
 use Rattle.std.proofs.Common.{sym}
-use Rattle.gb_system.proofs.Copies.{copy_done, copy_occupied, copy_unnamed}
+use Rattle.gb_system.proofs.NamedRequests.{copy-done, copy-occupied, copy-unnamed}
 use Rattle.gb_system.proofs.parties.Parties.copy_name.Goals as goal
 
 pub returns-in_default : goal.returns-in_default
 returns-in_default c = record {
   step = λ s st.
-      copy_unnamed c.args.self.now s c.args.from.now c.args.to.now c.in_ok-refused.field-0 st
+      copy-unnamed c.args.self.now s c.args.from.now c.args.to.now c.in_ok-refused.field-0 st
       (sym c.in_default.ensures)
       c.in_ok-refused.ensures;
 }
@@ -14,7 +14,7 @@ returns-in_default c = record {
 pub returns-then-is_some : goal.returns-then-is_some
 returns-then-is_some c = record {
   step = λ s st.
-      copy_occupied c.args.self.now s c.args.from.now c.args.to.now c.in-Some.number
+      copy-occupied c.args.self.now s c.args.from.now c.args.to.now c.in-Some.number
       c.in_ok-refused-2.field-0 st
       (sym c.in-Some.ensures) (cc (c.is_some.ensures, c.get-2.ensures, c.if-is_some.true))
       c.in_ok-refused-2.ensures;
@@ -23,7 +23,7 @@ returns-then-is_some c = record {
 pub returns : goal.returns
 returns c = record {
   step = λ s st.
-      copy_done c.args.self.now (record c.args.self.now { names = c.bind.new.self }) s
+      copy-done c.args.self.now (record c.args.self.now { names = c.bind.new.self }) s
       c.args.from.now c.args.to.now
       c.in-Some.number c.in_ok-begun.field-0 st (sym c.in-Some.ensures)
       (cc (c.is_some.ensures, c.get-2.ensures, c.if-is_some.false))

@@ -1,0 +1,12 @@
+-- The interfaces that stay are the others.
+use Rattle.std.proofs.Common.{not, rules, ap, ◌∙◌}
+use Rattle.std.proofs.lemmas.Fn.{filter_same}
+use Rattle.gb_host.proofs.interfaces.Interfaces.remove.Goals as goal
+use Rattle.gb_machine.specs.Host.{is_intf}
+use Rattle.gb_machine.specs.Lists.{without}
+
+pub returns : goal.returns
+returns c =
+    filter_same _ (λ y. not (is_intf c.args.intf y)) _ (λ x b f' k. search rules) _ _
+    c.retain.ensures.filtered
+    ∙ ap (without (is_intf c.args.intf)) c.self.view_is

@@ -1,0 +1,112 @@
+//! Connecting a CPort, and closing a connection.
+
+ghost use Rattle.std.specs.Prelude.{◌≡◌, ◌++◌, IfOk, option_and_then, option_map};
+ghost use Rattle.gb_machine.specs.Host.{cport_of, interface_of, link_at};
+ghost use Rattle.gb_machine.specs.HostTurns.{host_connects, host_disconnects};
+ghost use Rattle.gb_machine.specs.Sequences.{link_closed, link_left, link_opened};
+ghost use Rattle.gb_manifest.specs.Values.{view_of};
+
+use crate::failing::link_told;
+use crate::refusing::declared;
+use crate::{Act, Acts, Host};
+use gb_base::{ConnState, Link, OutOfMemory, Purpose, SequenceStep};
+use gb_manifest::CportView;
+
+impl Host {
+    ghost use Rattle.gb_host.specs.Stands.{host_of};
+    ghost use Rattle.gb_host.specs.Turning.{TurnsAfter, left_acts, spelled};
+
+    /// The connect sequence of a CPort begins.
+    pub(crate) fn connect(&mut self, acts: Acts, intf: u8, cport: u16) -> Result<Acts, OutOfMemory>
+        ensures { TurnsAfter (host_connects intf cport (host_of self.old)) acts
+            self.old self.new result }
+    {
+        let Some(view) = self.view(intf, cport) else {
+            return Ok(acts);
+        };
+        let Some(ap) = self.links.free_cport() else {
+            return Ok(acts);
+        };
+        let purpose = Purpose {
+            intf,
+            cport,
+            step: SequenceStep::CreateConnection,
+        };
+        self.open(acts, purpose, ap, view.protocol)
+    }
+
+    /// The CPort of an interface that its manifest declares.
+    fn view(&self, intf: u8, cport: u16) -> Option<CportView>
+        ensures { option_map view_of result
+            ≡ option_and_then (cport_of cport) (interface_of intf (host_of self.now)) }
+    {
+        match self.interfaces.at(intf) {
+            Some(interface) => declared(interface, cport),
+            None => None,
+        }
+    }
+
+    /// The close sequence of a connection begins.
+    pub(crate) fn disconnect(
+        &mut self,
+        acts: Acts,
+        intf: u8,
+        cport: u16,
+    ) -> Result<Acts, OutOfMemory>
+        ensures { TurnsAfter (host_disconnects intf cport (host_of self.old)) acts
+            self.old self.new result }
+    {
+        let Some(link) = self.links.at(intf, cport) else {
+            return Ok(acts);
+        };
+        let mut acts = acts;
+        acts.push(Act::Shut {
+            connection: link.connection,
+        })?;
+        acts.push(link_told(link, ConnState::Closing))?;
+        let purpose = Purpose {
+            intf,
+            cport,
+            step: SequenceStep::TellDisconnecting,
+        };
+        let acts = self.ask_in_state(acts, purpose, ConnState::Closing)?;
+        Ok(acts)
+    }
+
+    /// The connection of a purpose is open.
+    pub(crate) fn link_opened(&mut self, acts: Acts, purpose: Purpose) -> Result<Acts, OutOfMemory>
+        ensures { TurnsAfter (link_opened purpose (host_of self.old)) acts
+            self.old self.new result }
+    {
+        let acts = self.tell_link(acts, purpose, ConnState::Open)?;
+        self.links
+            .set_state(purpose.intf, purpose.cport, ConnState::Open);
+        Ok(acts)
+    }
+
+    /// The connection of a purpose is closed, and there no more.
+    pub(crate) fn link_closed(&mut self, acts: Acts, purpose: Purpose) -> Result<Acts, OutOfMemory>
+        ensures { TurnsAfter (link_closed purpose (host_of self.old)) acts
+            self.old self.new result }
+    {
+        let acts = self.tell_left(acts, purpose)?;
+        self.links.remove(purpose.intf, purpose.cport);
+        Ok(acts)
+    }
+
+    /// The connection of a purpose is given up and told to be closed, where there is one.
+    fn tell_left(&self, acts: Acts, purpose: Purpose) -> Result<Acts, OutOfMemory>
+        ensures { IfOk result (λ all. all ≡ acts ++ spelled (left_acts
+            (link_at purpose.intf purpose.cport (host_of self.now)))) }
+    {
+        let Some(link) = self.links.at(purpose.intf, purpose.cport) else {
+            return Ok(acts);
+        };
+        let mut acts = acts;
+        acts.push(Act::Leave {
+            connection: link.connection,
+        })?;
+        acts.push(link_told(link, ConnState::Closed))?;
+        Ok(acts)
+    }
+}

@@ -1,0 +1,194 @@
+//! The enumeration of an interface.
+
+ghost use Rattle.std.specs.Prelude.{◌≡◌, ◌∷◌, []};
+ghost use Rattle.gb_base.specs.declared.entry.Entry.TheVariants as entry;
+ghost use Rattle.gb_base.specs.declared.entry.IntfStage.TheVariants as stage;
+ghost use Rattle.gb_base.specs.declared.steps.SequenceStep.TheVariants as steps;
+ghost use Rattle.gb_formats.specs.Manifest.{check_answer};
+ghost use Rattle.gb_machine.specs.Failures.{interface_fails};
+ghost use Rattle.gb_machine.specs.Host.{free_cport, free_device, interface_of, with_interface};
+ghost use Rattle.gb_machine.specs.HostTurns.{host_inserted};
+ghost use Rattle.gb_machine.specs.SequenceSteps.{at_step};
+ghost use Rattle.gb_machine.specs.Sequences.{begins_control, begins_device, control_opened, device_given, enumerated, manifest_checked, manifest_told, size_known, size_told};
+ghost use Rattle.gb_machine.specs.Turns as turns;
+ghost use Rattle.gb_machine.specs.Turns.{failed_turn, telling, turn};
+
+use crate::failing::{tell_interface, to_step};
+use crate::interfaces::Change;
+use crate::protocols::{CONTROL, SVC};
+use crate::replies::{refused_in, size_in};
+use crate::{Act, Acts, Host};
+use gb_base::{Bytes, ConnState, Entry, IntfStage, OutOfMemory, Purpose, SequenceStep};
+use gb_manifest::Refused;
+
+impl Host {
+    ghost use Rattle.gb_host.specs.Stands.{host_of};
+    ghost use Rattle.gb_host.specs.Turning.{TurnsAfter};
+
+    /// The enumeration of an interface begins.
+    pub(crate) fn inserted(&mut self, acts: Acts, intf: u8) -> Result<Acts, OutOfMemory>
+        ensures { TurnsAfter (host_inserted intf (host_of self.old)) acts
+            self.old self.new result }
+    {
+        let purpose = Purpose {
+            intf,
+            cport: 0,
+            step: SequenceStep::EnableVsys,
+        };
+        let acts = tell_interface(acts, intf, IntfStage::Enumerating)?;
+        let acts = self.request(acts, SVC, 0, purpose)?;
+        self.interfaces.add(self.alloc, intf)?;
+        Ok(acts)
+    }
+
+    /// An interface gets the least device id that is free, or fails where none is.
+    pub(crate) fn begin_device(&mut self, acts: Acts, purpose: Purpose) -> Result<Acts, OutOfMemory>
+        ensures { TurnsAfter (begins_device (free_device (host_of self.old))
+            (at_step steps.GiveDevice purpose) (host_of self.old)) acts
+            self.old self.new result }
+    {
+        let purpose = to_step(purpose, SequenceStep::GiveDevice);
+        let Some(device) = self.interfaces.free_device() else {
+            return self.interface_fails(acts, purpose);
+        };
+        self.ask_changed(acts, purpose, Change::Device(Some(device)))
+    }
+
+    /// The supervisory controller gave an interface its device id.
+    pub(crate) fn device_given(&mut self, acts: Acts, purpose: Purpose) -> Result<Acts, OutOfMemory>
+        ensures { TurnsAfter (device_given purpose (host_of self.old)) acts
+            self.old self.new result }
+    {
+        let purpose = to_step(purpose, SequenceStep::CreateRoute);
+        self.ask_changed(acts, purpose, Change::HasDevice(true))
+    }
+
+    /// The Control connection is made on the least CPort that is free. Its interface fails where
+    /// none is.
+    pub(crate) fn begin_control(
+        &mut self,
+        acts: Acts,
+        purpose: Purpose,
+    ) -> Result<Acts, OutOfMemory>
+        ensures { TurnsAfter (begins_control (free_cport (host_of self.old))
+            (at_step steps.CreateControl purpose) (host_of self.old)) acts
+            self.old self.new result }
+    {
+        let purpose = to_step(purpose, SequenceStep::CreateControl);
+        let Some(ap) = self.links.free_cport() else {
+            return self.interface_fails(acts, purpose);
+        };
+        self.open(acts, purpose, ap, CONTROL)
+    }
+
+    /// The Control connection is open, and the version is asked.
+    pub(crate) fn control_opened(
+        &mut self,
+        acts: Acts,
+        purpose: Purpose,
+    ) -> Result<Acts, OutOfMemory>
+        ensures { TurnsAfter (control_opened purpose (host_of self.old)) acts
+            self.old self.new result }
+    {
+        let acts = self.tell_link(acts, purpose, ConnState::Open)?;
+        let purpose = to_step(purpose, SequenceStep::AskVersion);
+        let acts = self.ask_in_state(acts, purpose, ConnState::Open)?;
+        Ok(acts)
+    }
+
+    /// The size of the manifest was told.
+    pub(crate) fn size_told(
+        &mut self,
+        acts: Acts,
+        purpose: Purpose,
+        payload: &[u8],
+    ) -> Result<Acts, OutOfMemory>
+        ensures { TurnsAfter (size_told purpose payload.now (host_of self.old)) acts
+            self.old self.new result }
+    {
+        let purpose = to_step(purpose, SequenceStep::AskManifest);
+        self.ask_changed(acts, purpose, Change::Size(size_in(payload)))
+    }
+
+    /// The manifest came. The interface fails where it hasn't the length that was told.
+    pub(crate) fn manifest_told(
+        &mut self,
+        acts: Acts,
+        purpose: Purpose,
+        bytes: Bytes,
+    ) -> Result<Acts, OutOfMemory>
+        ensures { TurnsAfter (manifest_told purpose bytes (host_of self.old)) acts
+            self.old self.new result }
+    {
+        if bytes.items().len() != usize::from(self.size_known(purpose.intf)) {
+            return self.interface_fails(acts, purpose);
+        }
+        self.manifest_checked(acts, purpose, bytes)
+    }
+
+    /// The manifest is accepted, or refused and named.
+    fn manifest_checked(
+        &mut self,
+        acts: Acts,
+        purpose: Purpose,
+        bytes: Bytes,
+    ) -> Result<Acts, OutOfMemory>
+        ensures { TurnsAfter (manifest_checked (check_answer bytes) purpose bytes
+            (host_of self.old)) acts self.old self.new result }
+    {
+        match refused_in(bytes.items()) {
+            None => self.enumerated(acts, purpose, bytes),
+            Some(refused) => self.manifest_refused(acts, purpose, refused),
+        }
+    }
+
+    /// The interface is enumerated with this manifest.
+    fn enumerated(
+        &mut self,
+        acts: Acts,
+        purpose: Purpose,
+        bytes: Bytes,
+    ) -> Result<Acts, OutOfMemory>
+        ensures { TurnsAfter (turn
+            (with_interface purpose.intf (enumerated bytes) (host_of self.old))
+            (turns.Act.Tell (entry.Interface purpose.intf stage.Enumerated) ∷ [])) acts
+            self.old self.new result }
+    {
+        let acts = tell_interface(acts, purpose.intf, IntfStage::Enumerated)?;
+        self.interfaces.enumerate(purpose.intf, bytes);
+        Ok(acts)
+    }
+
+    /// The manifest is refused, and the interface fails.
+    fn manifest_refused(
+        &mut self,
+        acts: Acts,
+        purpose: Purpose,
+        refused: Refused,
+    ) -> Result<Acts, OutOfMemory>
+        ensures { TurnsAfter (telling (entry.Manifest purpose.intf refused.at refused.reason)
+            (failed_turn (interface_fails purpose (host_of self.old)))) acts
+            self.old self.new result }
+    {
+        let mut acts = acts;
+        acts.push(Act::Tell {
+            entry: Entry::Manifest {
+                intf: purpose.intf,
+                at: refused.at,
+                reason: refused.reason,
+            },
+        })?;
+        let acts = self.interface_fails(acts, purpose)?;
+        Ok(acts)
+    }
+
+    /// The size of its manifest that was told of an interface, 0 where it is absent.
+    fn size_known(&self, intf: u8) -> u16
+        ensures { result ≡ size_known (interface_of intf (host_of self.now)) }
+    {
+        match self.interfaces.at(intf) {
+            Some(interface) => interface.size,
+            None => 0,
+        }
+    }
+}

@@ -1,0 +1,170 @@
+//! The types and payloads of the requests of the sequences.
+
+ghost use Rattle.std.specs.Prelude.{◌≡◌, ◌≤◌, IfOk, length};
+ghost use Rattle.gb_formats.specs.ControlRecords.{control_ask_payload};
+ghost use Rattle.gb_formats.specs.SvcRecords.{svc_ask_payload};
+ghost use Rattle.gb_host.specs.Asking.{target_of};
+ghost use Rattle.gb_machine.specs.SequenceSteps.{asks_control, kind_of, payload_of};
+ghost use Rattle.gb_payload.specs.Views.{control_ask_of, svc_ask_of};
+ghost use Rattle.gb_payload.specs.declared.svc_ask.SvcAsk.TheVariants as svc_ask;
+
+use crate::kinds::{
+    CONTROL_CONNECTED, CONTROL_DISCONNECTED, CONTROL_DISCONNECTING, CONTROL_GET_MANIFEST,
+    CONTROL_GET_MANIFEST_SIZE, CONTROL_VERSION, SVC_CONN_CREATE, SVC_CONN_DESTROY,
+    SVC_INTF_ACTIVATE, SVC_INTF_DEVICE_ID, SVC_REFCLK_ENABLE, SVC_ROUTE_CREATE, SVC_UNIPRO_ENABLE,
+    SVC_VSYS_ENABLE,
+};
+use gb_base::{Bytes, OutOfMemory, SequenceStep};
+use gb_payload::{ControlAsk, SvcAsk};
+use std::alloc::Global;
+
+/// The interface of the application processor, which is its device id too.
+const AP: u8 = 1;
+
+/// What the requests of a sequence speak of.
+#[derive(Clone, Copy, Debug, PartialEq, Eq)]
+pub struct Target {
+    /// The interface, 2 to 31.
+    pub intf: u8,
+    /// The CPort of the module.
+    pub cport: u16,
+    /// The CPort of the application processor, 0 where there is none.
+    pub ap: u16,
+    /// The device id of the interface, 0 where it has none.
+    pub device: u8,
+}
+
+/// A step's request goes to the module's Control CPort. The others go to the supervisory
+/// controller.
+pub fn asks_control(step: SequenceStep) -> bool
+    ensures { result ≡ asks_control step }
+{
+    matches!(
+        step,
+        SequenceStep::AskVersion
+            | SequenceStep::AskSize
+            | SequenceStep::AskManifest
+            | SequenceStep::TellConnected
+            | SequenceStep::TellDisconnecting
+            | SequenceStep::TellDisconnected
+    )
+}
+
+/// The type of a step's request.
+pub fn kind(step: SequenceStep) -> u8
+    ensures { result ≡ kind_of step }
+{
+    match step {
+        SequenceStep::EnableVsys => SVC_VSYS_ENABLE,
+        SequenceStep::EnableRefclk => SVC_REFCLK_ENABLE,
+        SequenceStep::EnableUnipro => SVC_UNIPRO_ENABLE,
+        SequenceStep::Activate => SVC_INTF_ACTIVATE,
+        SequenceStep::GiveDevice => SVC_INTF_DEVICE_ID,
+        SequenceStep::CreateRoute => SVC_ROUTE_CREATE,
+        SequenceStep::CreateControl => SVC_CONN_CREATE,
+        SequenceStep::AskVersion => CONTROL_VERSION,
+        SequenceStep::AskSize => CONTROL_GET_MANIFEST_SIZE,
+        SequenceStep::AskManifest => CONTROL_GET_MANIFEST,
+        SequenceStep::CreateConnection => SVC_CONN_CREATE,
+        SequenceStep::TellConnected => CONTROL_CONNECTED,
+        SequenceStep::TellDisconnecting => CONTROL_DISCONNECTING,
+        SequenceStep::TellDisconnected => CONTROL_DISCONNECTED,
+        SequenceStep::DestroyConnection => SVC_CONN_DESTROY,
+    }
+}
+
+/// The payload of a step's request.
+pub fn payload(alloc: Global, step: SequenceStep, target: Target) -> Result<Bytes, OutOfMemory>
+    ensures { IfOk result (λ bytes. bytes ≡ payload_of step (target_of target)) }
+{
+    let Target { intf, cport, .. } = target;
+    match step {
+        SequenceStep::EnableVsys => svc(alloc, SvcAsk::VsysEnable { intf }),
+        SequenceStep::EnableRefclk => svc(alloc, SvcAsk::RefclkEnable { intf }),
+        SequenceStep::EnableUnipro => svc(alloc, SvcAsk::UniproEnable { intf }),
+        SequenceStep::Activate => svc(alloc, SvcAsk::IntfActivate { intf }),
+        SequenceStep::GiveDevice => svc(alloc, device_id(target)),
+        SequenceStep::CreateRoute => svc(alloc, route_create(target)),
+        SequenceStep::CreateControl => svc(alloc, conn_create(target)),
+        SequenceStep::AskVersion => control(alloc, ControlAsk::Version { major: 0, minor: 1 }),
+        SequenceStep::AskSize => control(alloc, ControlAsk::GetManifestSize),
+        SequenceStep::AskManifest => control(alloc, ControlAsk::GetManifest),
+        SequenceStep::CreateConnection => svc(alloc, conn_create(target)),
+        SequenceStep::TellConnected => control(alloc, ControlAsk::Connected { cport }),
+        SequenceStep::TellDisconnecting => control(alloc, ControlAsk::Disconnecting { cport }),
+        SequenceStep::TellDisconnected => control(alloc, ControlAsk::Disconnected { cport }),
+        SequenceStep::DestroyConnection => svc(alloc, conn_destroy(target)),
+    }
+}
+
+/// INTF_DEVICE_ID of an interface.
+fn device_id(target: Target) -> SvcAsk
+    ensures { result ≡ svc_ask.IntfDeviceId target.intf target.device }
+{
+    SvcAsk::IntfDeviceId {
+        intf: target.intf,
+        device: target.device,
+    }
+}
+
+/// ROUTE_CREATE from the application processor to an interface.
+fn route_create(target: Target) -> SvcAsk
+    ensures { result ≡ svc_ask.RouteCreate 1 1 target.intf target.device }
+{
+    SvcAsk::RouteCreate {
+        intf1: AP,
+        dev1: AP,
+        intf2: target.intf,
+        dev2: target.device,
+    }
+}
+
+/// CONN_CREATE between two CPorts, of traffic class 0 and with no flags.
+fn conn_create(target: Target) -> SvcAsk
+    ensures { result ≡ svc_ask.ConnCreate 1 target.ap target.intf target.cport 0 0 }
+{
+    SvcAsk::ConnCreate {
+        intf1: AP,
+        cport1: target.ap,
+        intf2: target.intf,
+        cport2: target.cport,
+        tc: 0,
+        flags: 0,
+    }
+}
+
+/// CONN_DESTROY between two CPorts.
+fn conn_destroy(target: Target) -> SvcAsk
+    ensures { result ≡ svc_ask.ConnDestroy 1 target.ap target.intf target.cport }
+{
+    SvcAsk::ConnDestroy {
+        intf1: AP,
+        cport1: target.ap,
+        intf2: target.intf,
+        cport2: target.cport,
+    }
+}
+
+/// The payload of a request of the SVC protocol of at most eight bytes.
+fn svc(alloc: Global, ask: SvcAsk) -> Result<Bytes, OutOfMemory>
+    requires { length (svc_ask_payload (svc_ask_of ask)) ≤ 8 }
+    ensures { IfOk result (λ bytes. bytes ≡ svc_ask_payload (svc_ask_of ask)) }
+{
+    let mut bytes = [0; 8];
+    let Ok(size) = ask.write(&mut bytes) else {
+        unreachable!()
+    };
+    Bytes::from_slice(alloc, &bytes[..size])
+}
+
+/// The payload of a request of the Control protocol of at most two bytes.
+fn control(alloc: Global, ask: ControlAsk) -> Result<Bytes, OutOfMemory>
+    requires { length (control_ask_payload (control_ask_of ask)) ≤ 2 }
+    ensures { IfOk result (λ bytes. bytes ≡ control_ask_payload (control_ask_of ask)) }
+{
+    let mut bytes = [0; 2];
+    let Ok(size) = ask.write(&mut bytes) else {
+        unreachable!()
+    };
+    Bytes::from_slice(alloc, &bytes[..size])
+}

@@ -1,0 +1,110 @@
+//! What the application processor does at what it takes notice of.
+
+ghost use Rattle.std.specs.Prelude.{◌≡◌, None};
+ghost use Rattle.gb_machine.specs.Host as machine;
+ghost use Rattle.gb_machine.specs.HostTurns.{host_ended, host_turn};
+ghost use Rattle.gb_machine.specs.Sequences.{payload_in, step_answered, step_done};
+ghost use Rattle.gb_machine.specs.Waits.{awaited, waiting};
+
+use crate::replies::{is_reply, payload_in};
+use crate::{Acts, Host, HostEvent};
+use gb_base::{Bytes, OutOfMemory, Outcome, Purpose, SequenceStep};
+
+impl Host {
+    ghost use Rattle.gb_host.specs.Serving.{event_of};
+    ghost use Rattle.gb_host.specs.Stands.{Stands, host_of};
+    ghost use Rattle.gb_host.specs.Turning.{TurnsAfter, TurnsAs};
+
+    /// Takes notice of something, and answers what is to be done, in order. An `Act::Make` stands
+    /// directly before the `Act::Ask` for the same purpose, and its connection is pending until
+    /// `made` is called. `Act::Ask` and `Act::Make` are followed by `awaits`, `unsent` and `made`,
+    /// which take no memory but for the acts of `unsent`.
+    ///
+    /// Interfaces are 2 to 31, CPorts of modules 0 to 4,095, those of the application processor 1
+    /// to 4,095, device ids 2 to 31, and sizes are bytes. The requests are those of the Greybus
+    /// Specification, "SVC Protocol" and "Control Protocol".
+    ///
+    /// It is answered with OutOfMemory where no memory was found. Nothing has changed then.
+    pub fn on(&mut self, event: HostEvent) -> Result<Acts, OutOfMemory>
+        ensures step { (h : machine.Host) → Stands self.old h
+            → TurnsAs (host_turn (event_of event) h) self.old self.new result }
+    {
+        let acts = Acts::new(self.alloc);
+        match event {
+            HostEvent::Inserted { intf } => self.inserted(acts, intf),
+            HostEvent::Removed { intf } => self.removed(acts, intf),
+            HostEvent::Connect { intf, cport } => self.connect(acts, intf, cport),
+            HostEvent::Disconnect { intf, cport } => self.disconnect(acts, intf, cport),
+            HostEvent::Ended { number, outcome } => self.ended(acts, number, outcome),
+        }
+    }
+
+    /// A request ended. Nothing starts where no sequence waited for it.
+    fn ended(&mut self, acts: Acts, number: u64, outcome: Outcome) -> Result<Acts, OutOfMemory>
+        ensures { TurnsAfter (host_ended number outcome (host_of self.old)) acts
+            self.old self.new result }
+    {
+        let Some(purpose) = self.awaited(number) else {
+            return Ok(acts);
+        };
+        let back = self.waits(purpose);
+        self.wait(purpose, None);
+        match self.answered(acts, purpose, outcome) {
+            Ok(acts) => Ok(acts),
+            Err(refused) => {
+                self.wait(purpose, back);
+                Err(refused)
+            }
+        }
+    }
+
+    /// The request of a step ended: the step is done where it was answered as it should be, and
+    /// else fails.
+    fn answered(
+        &mut self,
+        acts: Acts,
+        purpose: Purpose,
+        outcome: Outcome,
+    ) -> Result<Acts, OutOfMemory>
+        ensures { TurnsAfter (step_answered (payload_in outcome) purpose (host_of self.old)) acts
+            self.old self.new result }
+    {
+        let Some(payload) = payload_in(outcome) else {
+            return self.step_fails(acts, purpose);
+        };
+        if !is_reply(purpose.step, payload.items()) {
+            return self.step_fails(acts, purpose);
+        }
+        self.done(acts, purpose, payload)
+    }
+
+    /// What follows a step that was answered as it should be.
+    fn done(&mut self, acts: Acts, purpose: Purpose, payload: Bytes) -> Result<Acts, OutOfMemory>
+        ensures { TurnsAfter (step_done purpose.step purpose payload (host_of self.old)) acts
+            self.old self.new result }
+    {
+        match purpose.step {
+            SequenceStep::EnableVsys => self.go_on(acts, purpose, SequenceStep::EnableRefclk),
+            SequenceStep::EnableRefclk => self.go_on(acts, purpose, SequenceStep::EnableUnipro),
+            SequenceStep::EnableUnipro => self.go_on(acts, purpose, SequenceStep::Activate),
+            SequenceStep::Activate => self.begin_device(acts, purpose),
+            SequenceStep::GiveDevice => self.device_given(acts, purpose),
+            SequenceStep::CreateRoute => self.begin_control(acts, purpose),
+            SequenceStep::CreateControl => self.control_opened(acts, purpose),
+            SequenceStep::AskVersion => self.go_on(acts, purpose, SequenceStep::AskSize),
+            SequenceStep::AskSize => self.size_told(acts, purpose, payload.items()),
+            SequenceStep::AskManifest => self.manifest_told(acts, purpose, payload),
+            SequenceStep::CreateConnection => {
+                self.go_on(acts, purpose, SequenceStep::TellConnected)
+            }
+            SequenceStep::TellConnected => self.link_opened(acts, purpose),
+            SequenceStep::TellDisconnecting => {
+                self.go_on(acts, purpose, SequenceStep::TellDisconnected)
+            }
+            SequenceStep::TellDisconnected => {
+                self.go_on(acts, purpose, SequenceStep::DestroyConnection)
+            }
+            SequenceStep::DestroyConnection => self.link_closed(acts, purpose),
+        }
+    }
+}

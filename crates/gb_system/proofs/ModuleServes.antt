@@ -1,0 +1,221 @@
+-- A request is served at a module as the machine does.
+use Rattle.std.proofs.Common.{◌≡◌, ◌≤◌, ℕ, Bool, true, false, cond, Option, Some, None, List, [], ◌∷◌, ◌++◌, length, option_map, refl, sym, ap, ◌∙◌, subst, arith}
+use Rattle.std.specs.Prelude.{find, Ok}
+use Rattle.gb_base.specs.declared.end.End.TheVariants as end
+use Rattle.gb_base.specs.declared.end.Side.TheVariants as side
+use Rattle.gb_base.specs.declared.entry.Entry.{Entry}
+use Rattle.gb_base.specs.declared.served.OwnAsk.{OwnAsk}
+use Rattle.gb_base.specs.declared.served.Served.{Served}
+use Rattle.gb_bus.specs.Delivering.{MayReply}
+use Rattle.gb_bus.specs.declared.answers.Asked.{Asked}
+use Rattle.gb_formats.specs.Module.{Module}
+use Rattle.gb_formats.specs.ModuleSteps.{module_serve}
+use Rattle.gb_formats.specs.Results.{Step, most_payload, nonexistent}
+use Rattle.gb_invariants.specs.Facts.{Loose}
+use Rattle.gb_invariants.proofs.Numbers.{found-number}
+use Rattle.gb_machine.proofs.Opened.{machine_opened}
+use Rattle.gb_machine.specs.Actions.{Action, Told, ◌▸◌}
+use Rattle.gb_machine.specs.Bus.{Connection, Request, connection_of}
+use Rattle.gb_machine.specs.Incoming.{incoming}
+use Rattle.gb_machine.specs.Members.{Each}
+use Rattle.gb_machine.specs.Modules.{is_plugged_at, module_at, with_module}
+use Rattle.gb_machine.specs.OwnAsking.{far_asks_all}
+use Rattle.gb_machine.specs.Responding.{far_response, module_response, module_stepped, replies, responds, responds_plainly, serves}
+use Rattle.gb_machine.specs.Serving.{answer, plainly}
+use Rattle.gb_machine.specs.State.{Plugged, State}
+use Rattle.gb_system.proofs.Doings.{does-then}
+use Rattle.gb_system.proofs.Fits.{module_fits}
+use Rattle.gb_system.specs.Acting.{AreAskable}
+use Rattle.gb_system.specs.Doing.{Does}
+use Rattle.gb_system.specs.Plugging.{ServesThere}
+use Rattle.gb_system.specs.Serving.{only}
+use Rattle.gb_system.specs.Stands.{IsShort, PartsStand}
+use Rattle.gb_system.specs.declared.parties.Parties.{Parties}
+
+-- ---- manifests that fit
+
+short-at : (i : ℕ) (ps : List Plugged) (m : Module) → Each IsShort ps → module_at i ps ≡ Some m
+    → length m.manifest ≤ most_payload
+short-at i [] m h is = absurd cc
+short-at i (p ∷ ps) m h is = by (is_plugged_at i p) is (short-at i ps m h.1)
+  where
+    by : (b : Bool)
+        → option_map (λ (q : Plugged). q.body) (cond b (Some p) (find (is_plugged_at i) ps))
+        ≡ Some m
+        → (module_at i ps ≡ Some m → length m.manifest ≤ most_payload)
+        → length m.manifest ≤ most_payload
+    by true same later =
+        let e : p.body ≡ m = cc in
+        subst (λ (n : Module). length n.manifest ≤ most_payload) e h.0
+    by false same later = later same
+
+short-with : (i : ℕ) (m : Module) (ps : List Plugged) → length m.manifest ≤ most_payload
+    → Each IsShort ps → Each IsShort (with_module i m ps)
+short-with i m [] short h = h
+short-with i m (p ∷ ps) short h = by (is_plugged_at i p) (short-with i m ps short h.1)
+  where
+    by : (b : Bool) → Each IsShort (with_module i m ps)
+        → Each IsShort (cond b (record p { body = m } ∷ ps) (p ∷ with_module i m ps))
+    by true later = (short, h.1)
+    by false later = (h.0, later)
+
+-- ---- the machine
+
+-- the state with other modules
+abbrev with_modules : List Plugged → State → State
+with_modules ms s = record s { modules = ms }
+
+-- the parties stand for it, with these modules
+stands-with : {l : List Loose} {x : Parties} {s : State} (ms mods : List Plugged)
+    → ms ≡ mods → Each IsShort ms → PartsStand l x s
+    → PartsStand l (record x { modules = mods }) (with_modules ms s)
+stands-with ms mods same short h = record {
+  bus = h.bus;
+  ports = h.ports;
+  modules = same;
+  host = h.host;
+  names = h.names;
+  booted = h.booted;
+  sound = h.sound;
+  short = short;
+  now = h.now;
+  holds = h.holds;
+  held = h.held;
+}
+
+serves-one : (s : State) (c : Connection) (i cport n : ℕ) (r : Request) (m : Module)
+    → c.peer ≡ end.Module i cport → r.oneway ≡ false → module_at i s.modules ≡ Some m
+    → (replies side.Far c (incoming n r)
+    (answer (module_serve m cport r.kind r.payload).served.result
+    (module_serve m cport r.kind r.payload).served.payload)
+    ▸ far_asks_all c.number (module_serve m cport r.kind r.payload).served.asks)
+    (with_modules (with_module i (module_serve m cport r.kind r.payload).after s.modules) s)
+    ≡ serves side.Far c (incoming n r) s
+unfolding machine_opened
+serves-one s c i cport n r m peer twoway there =
+    let q = incoming n r in
+    let stepped = module_stepped c.number i (module_serve m cport r.kind r.payload) in
+    sym (ap (λ p. responds side.Far c q (far_response p c.number q s) s) peer
+    ∙ ap (λ o. responds side.Far c q (module_response c.number i cport q o) s) there
+    ∙ ap (λ b. responds side.Far c (record q { oneway = b }) stepped s) twoway)
+
+serves-none : (s : State) (c : Connection) (i cport n : ℕ) (r : Request)
+    → c.peer ≡ end.Module i cport → r.oneway ≡ false → module_at i s.modules ≡ None
+    → replies side.Far c (incoming n r) (plainly nonexistent) s
+    ≡ serves side.Far c (incoming n r) s
+unfolding machine_opened
+serves-none s c i cport n r peer twoway there =
+    let q = incoming n r in
+    sym (ap (λ p. responds side.Far c q (far_response p c.number q s) s) peer
+    ∙ ap (λ o. responds side.Far c q (module_response c.number i cport q o) s) there
+    ∙ ap (λ b. responds side.Far c (record q { oneway = b }) (responds_plainly nonexistent) s)
+    twoway)
+
+-- ---- as the parties do it
+
+-- the clause of an answer, at this result and payload
+abbrev pub AnswersThere : ℕ → Asked → ℕ → List ℕ → Parties → Parties → List Entry → List Entry
+    → Type 0
+AnswersThere k asked code payload x y before told =
+    (s : State) (c : Connection) (n : ℕ)
+    → PartsStand (only k side.Far n) x s → connection_of k s.bus ≡ Some c
+    → (may : MayReply asked s.bus n) → length payload ≤ most_payload
+    → Does y (replies side.Far c (incoming n may.request) (answer code payload)) s before told
+
+-- the clause of requests of its own
+abbrev pub AsksThere : ℕ → List OwnAsk → Parties → Parties → List Entry → List Entry → Type 0
+AsksThere k asks x y before told =
+    (s : State) → PartsStand [] x s → AreAskable asks
+    → Does y (far_asks_all k asks) s before told
+
+-- the clause of serving at a module
+abbrev pub ServesAtModule : ℕ → ℕ → ℕ → Asked → List ℕ → Parties → Parties → List Entry
+    → List Entry → Type 0
+ServesAtModule k i cport asked payload x y before told =
+    (s : State) (c : Connection) (n : ℕ)
+    → PartsStand (only k side.Far n) x s → connection_of k s.bus ≡ Some c
+    → c.peer ≡ end.Module i cport → (may : MayReply asked s.bus n)
+    → payload ≡ may.request.payload → length payload ≤ most_payload
+    → Does y (serves side.Far c (incoming n may.request)) s before told
+
+-- where a module is plugged
+pub serves-some : (k i cport : ℕ) (asked : Asked) (payload : List ℕ) (x y z : Parties)
+    (mods : List Plugged) (served : Served) (a b d : List Entry)
+    → ServesThere i cport asked.kind payload (module_at i x.modules) x.modules mods
+    (Ok (Some served))
+    → AnswersThere k asked served.result served.payload (record x { modules = mods }) y a b
+    → AsksThere k served.asks y z b d
+    → ServesAtModule k i cport asked payload x z a d
+serves-some k i cport asked payload x y z mods served a b d steps answers asks s c n stand live
+    peer may is short = by (module_at i x.modules) refl steps
+  where
+    r : Request
+    r = may.request
+
+    number : c.number ≡ k
+    number = (found-number k s.bus c live).1
+
+    by : (o : Option Module) → module_at i x.modules ≡ o
+        → ServesThere i cport asked.kind payload o x.modules mods (Ok (Some served))
+        → Does z (serves side.Far c (incoming n r)) s a d
+    by None there t = absurd (let e : Some served ≡ None = t.0 in cc)
+    by (Some m) there t =
+        let step : Step Module = module_serve m cport r.kind r.payload in
+        let same : module_serve m cport asked.kind payload ≡ step =
+        ap (λ kind. module_serve m cport kind payload) may.names.kind
+        ∙ ap (module_serve m cport r.kind) is in
+        let found : module_at i s.modules ≡ Some m =
+        ap (module_at i) stand.modules ∙ there in
+        let fits = module_fits m cport r.kind r.payload
+        (short-at i s.modules m stand.short found) in
+        let served_is : served ≡ step.served =
+        (let e : Some served ≡ Some (module_serve m cport asked.kind payload).served = t.0 in
+        let f : served ≡ (module_serve m cport asked.kind payload).served = cc in f)
+        ∙ ap (λ (p : Step Module). p.served) same in
+        let ms = with_module i step.after s.modules in
+        let ms_is : ms ≡ mods =
+        ap (with_module i step.after) stand.modules
+        ∙ sym (ap (λ (p : Step Module). with_module i p.after x.modules) same) ∙ sym t.1 in
+        let long : length step.after.manifest ≤ most_payload =
+        subst (λ (bytes : List ℕ). length bytes ≤ most_payload) (sym fits.manifest)
+        (short-at i s.modules m stand.short found) in
+        let t1 = with_modules ms s in
+        let stand1 = stands-with ms mods ms_is
+        (short-with i step.after s.modules long stand.short) stand in
+        let fit = subst (λ (v : Served). length v.payload ≤ most_payload) (sym served_is)
+        fits.served.payload in
+        let askable = subst (λ (v : Served). AreAskable v.asks) (sym served_is)
+        fits.served.asks in
+        let first = answers t1 c n stand1 live may fit in
+        let second = asks _ first.stand askable in
+        does-as
+        (ap (λ (v : Served). (replies side.Far c (incoming n r) (answer v.result v.payload)
+        ▸ far_asks_all k v.asks) t1) served_is
+        ∙ ap (λ j. (replies side.Far c (incoming n r)
+        (answer step.served.result step.served.payload)
+        ▸ far_asks_all j step.served.asks) t1) (sym number)
+        ∙ serves-one s c i cport n r m peer may.twoway found)
+        (does-then first second)
+
+-- where none is plugged
+pub serves-nowhere : (k i cport : ℕ) (asked : Asked) (payload : List ℕ) (x z : Parties)
+    (mods : List Plugged) (a d : List Entry)
+    → ServesThere i cport asked.kind payload (module_at i x.modules) x.modules mods (Ok None)
+    → AnswersThere k asked nonexistent [] (record x { modules = mods }) z a d
+    → ServesAtModule k i cport asked payload x z a d
+serves-nowhere k i cport asked payload x z mods a d steps answers s c n stand live peer may is
+    short = by (module_at i x.modules) refl steps
+  where
+    r : Request
+    r = may.request
+
+    by : (o : Option Module) → module_at i x.modules ≡ o
+        → ServesThere i cport asked.kind payload o x.modules mods (Ok None)
+        → Does z (serves side.Far c (incoming n r)) s a d
+    by (Some m) there t =
+        absurd (let e : None ≡ Some (module_serve m cport asked.kind payload).served = t.0 in cc)
+    by None there t =
+        let found : module_at i s.modules ≡ None = ap (module_at i) stand.modules ∙ there in
+        let stand1 = stands-with s.modules mods (stand.modules ∙ sym t.1) stand.short stand in
+        does-as (serves-none s c i cport n r peer may.twoway found)
+        (answers s c n stand1 live may (omega arith))

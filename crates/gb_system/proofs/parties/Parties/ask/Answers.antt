@@ -1,0 +1,38 @@
+-- A request is made and told, or not.
+use Rattle.std.proofs.Common.{[]}
+use Rattle.gb_system.proofs.Asks.{ask-made, ask-nowhere, ask-unlabelled, told-oneway, told-twoway}
+use Rattle.gb_system.proofs.Standing.{rebussed}
+use Rattle.gb_system.specs.Drafts.{draft_of}
+use Rattle.gb_system.specs.Stands.{held_items}
+use Rattle.gb_system.proofs.parties.Parties.ask.Goals as goal
+
+pub returns-in_default-clause-step : goal.returns-in_default-clause-step
+returns-in_default-clause-step c = λ s st askable twoway.
+    ask-nowhere (draft_of c.args.q.now) st (c.in_default.ensures (held_items s) s.bus st.bus)
+
+pub returns-in-Err-NoLabel-clause-step : goal.returns-in-Err-NoLabel-clause-step
+returns-in-Err-NoLabel-clause-step c = λ s st askable twoway.
+    let none = rw c.in-Err-NoLabel.field-0-is at
+    (c.in-Err-NoLabel.ensures.step (held_items s) s.bus st.bus) in
+    ask-unlabelled (draft_of c.args.q.now)
+    (rebussed [] c.send.new.self s.bus st none.stands st.sound) none.label
+
+pub returns-in_ok-push-2-clause-step : goal.returns-in_ok-push-2-clause-step
+returns-in_ok-push-2-clause-step c = λ s st askable twoway.
+    let d = draft_of c.args.q.now in
+    ask-made c.send.new.self d c.in-Some.ends c.in-Ok.sent st askable twoway
+    (c.in-Some.ensures (held_items s) s.bus st.bus)
+    (c.in-Ok.ensures.step (held_items s) s.bus st.bus)
+    (told-oneway c.args.told.now c.push.new.self c.push-then-q.new.self c.in_ok-asked.field-0 d
+    c.in-Some.ends c.in-Ok.sent c.if-q.true (c.in_ok-asked.ensures askable)
+    c.in_ok-push.ensures.ok c.in_ok-push-2.ensures.ok)
+
+pub returns-else-q-clause-step : goal.returns-else-q-clause-step
+returns-else-q-clause-step c = λ s st askable twoway.
+    let d = draft_of c.args.q.now in
+    ask-made c.send.new.self d c.in-Some.ends c.in-Ok.sent st askable twoway
+    (c.in-Some.ensures (held_items s) s.bus st.bus)
+    (c.in-Ok.ensures.step (held_items s) s.bus st.bus)
+    (told-twoway c.args.told.now c.push.new.self c.in_ok-asked.field-0 d
+    c.in-Some.ends c.in-Ok.sent c.if-q.false (c.in_ok-asked.ensures askable)
+    c.in_ok-push.ensures.ok)

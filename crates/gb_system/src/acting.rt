@@ -1,0 +1,184 @@
+//! What the application processor does of its own.
+
+ghost use Rattle.std.specs.Prelude.{◌≡◌, [], ◌++◌, IfOk, OnOk, map};
+ghost use Rattle.gb_host.specs.Serving.{event_of};
+ghost use Rattle.gb_machine.specs.HostActs.{fails, host_asks, notices};
+ghost use Rattle.gb_machine.specs.Failures.{unsent};
+ghost use Rattle.gb_machine.specs.State.{State};
+ghost use Rattle.gb_machine.specs.Wires.{disconnected_told, shuts, unwires};
+ghost use Rattle.gb_system.specs.Acting.{ActsAs, IsAskable, MakesAs, MayTurn, asking_of, making_of, tells_of};
+ghost use Rattle.gb_system.specs.Doing.{Does};
+ghost use Rattle.gb_system.specs.Stands.{PartsStand};
+
+use crate::asking::{DEFAULT_TIMEOUT, Draft};
+use crate::parties::Parties;
+use crate::svc::SVC;
+use gb_base::{ConnState, Entries, Entry, Numbers, OutOfMemory, Outcome, Purpose, Reading, Side, TryCopy};
+use gb_host::{Act, HostEvent};
+
+impl Parties {
+    /// The application processor takes notice of something, and does what it does then.
+    pub fn notice(&mut self, event: HostEvent, told: &mut Entries) -> Result<(), OutOfMemory>
+        ensures step { OnOk result ((s : State) → PartsStand [] self.old s
+            → MayTurn (event_of event) s
+            → Does self.new (notices (event_of event)) s told.old told.new) }
+    {
+        let acts = self.host.on(event)?;
+        let mut skips = false;
+        for act in acts.items() {
+            if skips {
+                skips = false;
+                continue;
+            }
+            skips = self.act(act, told)?;
+        }
+        Ok(())
+    }
+
+    /// Does an act. Answers whether the next one is left out: the request of a connection that
+    /// wasn't made.
+    fn act(&mut self, act: &Act, told: &mut Entries) -> Result<bool, OutOfMemory>
+        ensures step { IfOk result (λ skips. (s : State) → PartsStand [] self.old s
+            → ActsAs self.old.host self.new act.now s skips told.old told.new) }
+    {
+        match act {
+            Act::Ask {
+                on,
+                kind,
+                payload,
+                purpose,
+            } => self.host_ask(*on, *kind, payload.items(), *purpose, told)?,
+            Act::Make {
+                ap,
+                intf,
+                cport,
+                protocol,
+                purpose,
+            } => return self.make(*ap, *intf, *cport, *protocol, *purpose, told),
+            Act::Shut { connection } => self.shut(*connection, told)?,
+            Act::Leave { connection } => self.bus.detach(*connection),
+            Act::Tell { entry } => told.push(entry.copy()?)?,
+        }
+        Ok(false)
+    }
+
+    /// The application processor makes a request, and its sequence waits for it. It fails where no
+    /// identifier is left.
+    fn host_ask(
+        &mut self,
+        on: u64,
+        kind: u8,
+        payload: &[u8],
+        purpose: Purpose,
+        told: &mut Entries,
+    ) -> Result<(), OutOfMemory>
+        ensures step { OnOk result ((s : State) → PartsStand [] self.old s
+            → IsAskable kind payload.now
+            → Does self.new (host_asks (asking_of on kind payload.now purpose)) s told.old
+            told.new) }
+    {
+        let q = Draft {
+            connection: on,
+            side: Side::Ap,
+            kind,
+            payload,
+            deadline: DEFAULT_TIMEOUT,
+            oneway: false,
+        };
+        match self.ask(&q, told)? {
+            Some(number) => self.host.awaits(purpose, number),
+            None => self.fail(purpose, told)?,
+        }
+        Ok(())
+    }
+
+    /// Makes a connection and tells it. Answers true where no identifier is left for its request:
+    /// then it fails.
+    fn make(
+        &mut self,
+        ap: u16,
+        intf: u8,
+        cport: u16,
+        protocol: u8,
+        purpose: Purpose,
+        told: &mut Entries,
+    ) -> Result<bool, OutOfMemory>
+        ensures step { IfOk result (λ skips. (s : State) → PartsStand [] self.old s
+            → MakesAs self.old.host self.new (making_of ap intf cport protocol) purpose s skips
+            told.old told.new) }
+    {
+        if self.bus.spent(SVC, Side::Ap) {
+            self.fail(purpose, told)?;
+            return Ok(true);
+        }
+        let connection = self.bus.attach(ap, intf, cport, protocol)?;
+        self.host.made(purpose, connection);
+        told.push(Entry::Connection {
+            number: connection,
+            ap,
+            intf,
+            cport,
+            state: ConnState::Opening,
+        })?;
+        Ok(false)
+    }
+
+    /// A sequence fails, since no identifier is left for its request, and this is told.
+    fn fail(&mut self, purpose: Purpose, told: &mut Entries) -> Result<(), OutOfMemory>
+        ensures step { OnOk result ((s : State) → PartsStand [] self.old s
+            → Does self.new (fails (unsent purpose)) s told.old told.new) }
+    {
+        let acts = self.host.unsent(purpose)?;
+        tell_all(told, acts.items())?;
+        Ok(())
+    }
+
+    /// The application processor's side of a connection is closed.
+    fn shut(&mut self, connection: u64, told: &mut Entries) -> Result<(), OutOfMemory>
+        ensures step { OnOk result ((s : State) → PartsStand [] self.old s
+            → Does self.new (shuts connection) s told.old told.new) }
+        ensures host { self.new.host ≡ self.old.host }
+    {
+        let mut ended = Numbers::new(self.alloc);
+        self.bus.shut(connection, &mut ended)?;
+        tell_disconnected(told, ended.items())?;
+        Ok(())
+    }
+
+    /// A connection is unwired.
+    pub fn unwire(&mut self, connection: u64, told: &mut Entries) -> Result<(), OutOfMemory>
+        ensures step { OnOk result ((s : State) → PartsStand [] self.old s
+            → Does self.new (unwires connection) s told.old told.new) }
+    {
+        let mut ended = Numbers::new(self.alloc);
+        self.bus.unwire(connection, &mut ended)?;
+        tell_disconnected(told, ended.items())?;
+        Ok(())
+    }
+}
+
+/// Tells what acts tell.
+fn tell_all(told: &mut Entries, acts: &[Act]) -> Result<(), OutOfMemory>
+    ensures { OnOk result (told.new ≡ told.old ++ tells_of acts.now) }
+{
+    for act in acts {
+        if let Act::Tell { entry } = act {
+            told.push(entry.copy()?)?;
+        }
+    }
+    Ok(())
+}
+
+/// Requests ended as disconnected, in this order.
+fn tell_disconnected(told: &mut Entries, numbers: &[u64]) -> Result<(), OutOfMemory>
+    ensures { OnOk result (told.new ≡ told.old ++ map disconnected_told numbers.now) }
+{
+    for number in numbers {
+        told.push(Entry::Ended {
+            number: *number,
+            outcome: Outcome::Disconnected,
+            reading: Reading::Nothing,
+        })?;
+    }
+    Ok(())
+}

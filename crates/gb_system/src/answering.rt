@@ -1,0 +1,71 @@
+//! Requests that are delivered, and their answers.
+
+ghost use Rattle.std.specs.Prelude.{◌≡◌, ◌≤◌, ◌<◌, ◌∷◌, [], ℕ, Some, IfOk, OnOk, length};
+ghost use Rattle.gb_bus.specs.Delivering.{MayReply, taken_from};
+ghost use Rattle.gb_formats.specs.Results.{most_payload};
+ghost use Rattle.gb_machine.specs.Bus as machine;
+ghost use Rattle.gb_machine.specs.Bus.{connection_of};
+ghost use Rattle.gb_machine.specs.Incoming.{incoming};
+ghost use Rattle.gb_machine.specs.Responding.{replies};
+ghost use Rattle.gb_machine.specs.Serving.{answer};
+ghost use Rattle.gb_machine.specs.State.{State};
+ghost use Rattle.gb_system.specs.Doing.{Does};
+ghost use Rattle.gb_system.specs.Drafts.{reply_told};
+ghost use Rattle.gb_system.specs.Stands.{PartsStand};
+
+use crate::asking::{end_at, other_side};
+use crate::message::{response_bytes, size_of};
+use crate::parties::Parties;
+use gb_base::{End, Entries, Entry, OutOfMemory, Side};
+use gb_bus::Asked;
+use std::alloc::Global;
+
+impl Parties {
+    /// Answers a request that was delivered at a side of a connection, and tells the reply.
+    pub fn answer(
+        &mut self,
+        connection: u64,
+        side: Side,
+        asked: &Asked,
+        code: u8,
+        payload: &[u8],
+        told: &mut Entries,
+    ) -> Result<(), OutOfMemory>
+        ensures step { OnOk result ((s : State) (c : machine.Connection) (n : ℕ)
+            → PartsStand (taken_from connection side (machine.Ask n) ∷ []) self.old s
+            → connection_of connection s.bus ≡ Some c
+            → (may : MayReply asked.now s.bus n) → length payload.now ≤ most_payload
+            → Does self.new (replies side c (incoming n may.request) (answer code payload.now))
+            s told.old told.new) }
+    {
+        let Some(ends) = self.bus.ends(connection) else {
+            return Ok(());
+        };
+        self.bus.reply(connection, side, asked, code, payload)?;
+        told.push(replied(self.alloc, side, ends, asked, code, payload)?)?;
+        Ok(())
+    }
+}
+
+/// A side of a connection between these ends answered a request.
+fn replied(
+    alloc: Global,
+    side: Side,
+    ends: (u16, End),
+    asked: &Asked,
+    code: u8,
+    payload: &[u8],
+) -> Result<Entry, OutOfMemory>
+    ensures { IfOk result (λ e. asked.now.kind < 128 → length payload.now ≤ 2040
+        → e ≡ reply_told side ends asked.now.number asked.now.label asked.now.kind code
+        payload.now) }
+{
+    Ok(Entry::Replied {
+        number: asked.number,
+        from: end_at(side, ends),
+        to: end_at(other_side(side), ends),
+        result: code,
+        size: size_of(payload),
+        bytes: response_bytes(alloc, asked.label, asked.kind, code, payload)?,
+    })
+}

@@ -1,0 +1,51 @@
+//! Requests that modules serve.
+
+ghost use Rattle.std.specs.Prelude.{◌≡◌, ◌≤◌, ℕ, Some, OnOk, length};
+ghost use Rattle.gb_base.specs.declared.end.End.TheVariants as end;
+ghost use Rattle.gb_base.specs.declared.end.Side.TheVariants as side;
+ghost use Rattle.gb_bus.specs.Delivering.{MayReply};
+ghost use Rattle.gb_formats.specs.Results.{most_payload};
+ghost use Rattle.gb_machine.specs.Bus.{Connection, connection_of};
+ghost use Rattle.gb_machine.specs.Incoming.{incoming};
+ghost use Rattle.gb_machine.specs.Responding.{serves};
+ghost use Rattle.gb_machine.specs.State.{State};
+ghost use Rattle.gb_system.specs.Doing.{Does};
+ghost use Rattle.gb_system.specs.Serving.{only};
+ghost use Rattle.gb_system.specs.Stands.{PartsStand};
+
+use crate::parties::Parties;
+use gb_base::{Entries, OutOfMemory, Side};
+use gb_bus::Asked;
+
+/// The result of a request at an interface where nothing is plugged.
+const NONEXISTENT: u8 = 0x08;
+
+impl Parties {
+    /// A module serves a request at a CPort: its reply goes back, and then the requests of its own
+    /// are made.
+    pub fn serve_at_module(
+        &mut self,
+        connection: u64,
+        intf: u8,
+        cport: u16,
+        asked: &Asked,
+        payload: &[u8],
+        told: &mut Entries,
+    ) -> Result<(), OutOfMemory>
+        ensures step { OnOk result ((s : State) (c : Connection) (n : ℕ)
+            → PartsStand (only connection side.Far n) self.old s
+            → connection_of connection s.bus ≡ Some c → c.peer ≡ end.Module intf cport
+            → (may : MayReply asked.now s.bus n) → payload.now ≡ may.request.payload
+            → length payload.now ≤ most_payload
+            → Does self.new (serves side.Far c (incoming n may.request)) s told.old told.new) }
+    {
+        let Some(served) = self.modules.serve(intf, cport, asked.kind, payload)? else {
+            self.answer(connection, Side::Far, asked, NONEXISTENT, &[], told)?;
+            return Ok(());
+        };
+        let answer = served.payload.items();
+        self.answer(connection, Side::Far, asked, served.result, answer, told)?;
+        self.far_ask_all(connection, served.asks.items(), told)?;
+        Ok(())
+    }
+}
