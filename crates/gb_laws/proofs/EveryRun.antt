@@ -13,6 +13,8 @@ use Rattle.gb_laws.proofs.Replying.{ends-once_by_moments}
 use Rattle.gb_laws.proofs.Routed.{routed-by_moments}
 use Rattle.gb_laws.proofs.Single.{labels-by_moments, names-by_moments, one-item_by_moments}
 use Rattle.gb_laws.proofs.Remembering.{none-forgotten_at, remembered-for_one}
+use Rattle.gb_laws.proofs.ToldRuns.{absent-open_by_moments, absent-seen}
+use Rattle.gb_laws.specs.OwnSide.{AbsentHasNoOpenOfAp}
 use Rattle.gb_laws.proofs.OpenRuns.{open-live_by_moments}
 use Rattle.gb_machine.specs.Runs.{HoldsAtEachMoment, HoldsThroughout}
 use Rattle.gb_machine.specs.LawsBus.{
@@ -107,6 +109,11 @@ absent-after = (
 -- Each open request of the application processor is on a live connection.
 pub open-live : HoldsThroughout OpenIsLive
 open-live = of-all OpenIsLive (of-state _) open-live_by_moments
+
+-- Nothing that the application processor asked on a connection that named an absent interface is
+-- open.
+pub absent-open : HoldsThroughout AbsentHasNoOpenOfAp
+absent-open = of-all AbsentHasNoOpenOfAp absent-seen absent-open_by_moments
 
 -- Which connections were ever wired is never forgotten.
 pub none-forgotten : HoldsAtEachMoment NoneForgotten

@@ -40,6 +40,7 @@ pub mod LinkLists
 pub mod LinkRuns
 pub mod LinkSources
 pub mod LinkSteps
+pub mod LinkTells
 pub mod LinkTurns
 pub mod Linking
 pub mod Links
@@ -90,6 +91,7 @@ pub mod SettleQueues
 pub mod Settles
 pub mod Settling
 pub mod Shutting
+pub mod Silent
 pub mod Since
 pub mod Single
 pub mod Speaking
@@ -101,6 +103,8 @@ pub mod Taking
 pub mod Telling
 pub mod There
 pub mod Ticking
+pub mod ToldLinks
+pub mod ToldRuns
 pub mod Turned
 pub mod WiredRuns
 pub mod WiredWell

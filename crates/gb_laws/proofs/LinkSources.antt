@@ -68,14 +68,14 @@ from-kept i c f h same kept l j = ⊎_elim
       credits = ap (λ (k : Link). k.credits) w.3 ∙ kept w.0;
     }) (in-first (is_link i c) f h.links l j)
 
-from-state : (to : ConnState) (i c : ℕ) (h : Host) → LinksFrom h (with_link i c (in_state to) h)
+pub from-state : (to : ConnState) (i c : ℕ) (h : Host) → LinksFrom h (with_link i c (in_state to) h)
 from-state to i c h = from-kept i c (in_state to) h (state-link to) (λ l. refl)
 
 from-without : (h g : Host) → ((l : Link) → IsIn l g.links → IsIn l h.links) → LinksFrom h g
 from-without h g in_h l i =
     record { link = l; live = in_h l i; same = same-link l; credits = refl }
 
-from-opened : (p : Purpose) (h : Host) → LinksFrom h (opened p h)
+pub from-opened : (p : Purpose) (h : Host) → LinksFrom h (opened p h)
 from-opened p h = from-state state.Open p.intf p.cport h
 
 from-failed : (p : Purpose) (h : Host) → LinksFrom h (link_fails p h).host

@@ -18,7 +18,7 @@ use Rattle.gb_invariants.proofs.Lists.{found-in, in-without}
 use Rattle.gb_formats.specs.ControlRecords.{read_control_reply}
 use Rattle.gb_base.specs.declared.entry.IntfStage.TheVariants as stage
 use Rattle.gb_laws.proofs.LinkHosts.{Onto, kept-same, onto-interface, onto-link, onto-then, host-interface, host-link, links-without, next-interface, next-to, none-without, same-link, state-link, then-same, without-in}
-use Rattle.gb_laws.proofs.LinkLists.{find-none, first_free-is, found-at, link-is, none-any}
+use Rattle.gb_laws.proofs.LinkLists.{on-control, find-none, first_free-is, found-at, link-is, none-any}
 use Rattle.gb_laws.proofs.Links.{IsDueBy, IsFormed, IsNext, ArePending, HostFits, IsAtStep, IsDue, IsFollowed, IsIdle, IsWaiting, SameLink, TurnFits, control, leaves, stays}
 use Rattle.gb_machine.specs.Arriving.{state_takes}
 use Rattle.gb_machine.specs.Bus.{Bus}
@@ -26,7 +26,7 @@ use Rattle.gb_machine.specs.Failures.{interface_fails, link_fails, link_told, st
 use Rattle.gb_machine.specs.Host.{Host, control_of, free_cport, free_device, in_state, interface_of, is_link, link_at, staged, with_interface, with_link, without_link}
 use Rattle.gb_machine.specs.Lists.{without}
 use Rattle.gb_machine.specs.Members.{IsIn}
-use Rattle.gb_machine.specs.SequenceSteps.{Target, asks_control, at_step, is_enumeration, is_reply}
+use Rattle.gb_machine.specs.SequenceSteps.{Target, at_step, is_enumeration, is_reply}
 use Rattle.gb_machine.specs.Sequences.{ap_in, asked_on, asking, begins_control, begins_device, enumerated, goes_on, size_in, link_left, link_turn, manifest_checked, manifest_told, opened, opened_told, size_known, step_answered, step_asked, step_done, target, way_of}
 use Rattle.gb_machine.specs.Turns.{Act, Turn, failed_turn, telling}
 
@@ -163,20 +163,6 @@ formed-asking b p h k t fits way intf other = record {
     at None e f = absurd cc
     at (Some l) e f = subst (λ n. 2 ≤ n) (same-some l.connection k f)
         (fits.links.numbered l (found-in (is_link p.intf 0) h.links l e).0).from_two
-
--- and goes on the Control connection where it is one to that
-on-control : (p : Purpose) (h : Host) (k : ℕ) → way_of p h ≡ Some k → asks_control p.step ≡ true
-    → (l : Link) × IsIn l h.links × (l.connection ≡ k) × (l.cport ≡ 0)
-on-control p h k way own = at (link_at p.intf 0 h) refl
-    (sym (ap (λ c. cond c (control_of p.intf h) (Some 1)) own) ∙ way)
-  where
-    at : (o : Option Link) → link_at p.intf 0 h ≡ o
-        → option_map (λ (l : Link). l.connection) o ≡ Some k
-        → (l : Link) × IsIn l h.links × (l.connection ≡ k) × (l.cport ≡ 0)
-    at None e f = absurd cc
-    at (Some l) e f =
-        let i = found-in (is_link p.intf 0) h.links l e in
-        (l, i.0, same-some l.connection k f, (link-is p.intf 0 l i.1).1)
 
 pub fits-asked : (b : Bus) (p : Purpose) (h : Host) → HostFits b h → IsDue p.step p h
     → p.step ≢ steps.CreateConnection → TurnFits b h (step_asked p h)

@@ -58,7 +58,10 @@ open-there k b open_ = by (connection_of k b) refl open_
 
 -- Each open request of the application processor is on a live connection, and its side of that
 -- isn't closed.
-pub open-live_by_moments : HoldsByMoments OpenIsLive
-open-live_by_moments = weaker OpensTo OpenIsLive (λ told s h n r made unended ap_side.
+pub open-live_in : (told : List Entry) (s : State) → OpensTo told s → OpenIsLive told s
+open-live_in told s h n r made unended ap_side =
     open-there r.connection s.bus (h.opens.upon n r made
-    (ap (λ t. t || is_given_up n s.bus) unended) ap_side).open_) opens-throughout
+    (ap (λ t. t || is_given_up n s.bus) unended) ap_side).open_
+
+pub open-live_by_moments : HoldsByMoments OpenIsLive
+open-live_by_moments = weaker OpensTo OpenIsLive open-live_in opens-throughout

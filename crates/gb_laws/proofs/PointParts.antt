@@ -141,6 +141,14 @@ is_quiet _ = true
 abbrev pub AreQuiet : List Entry → Type 0
 AreQuiet es = Each (λ e. is_quiet e ≡ true) es
 
+-- an entry is quiet, and tells of no connection
+abbrev pub is_silent : Entry → Bool
+is_silent (entry.Connection k ap i c state) = false
+is_silent e = is_quiet e
+
+abbrev pub AreSilent : List Entry → Type 0
+AreSilent es = Each (λ e. is_silent e ≡ true) es
+
 -- what is told behind the request of a draft: a unidirectional one ends at once
 abbrev pub sent_told : Bool → ℕ → List Entry
 sent_told true n = entry.Ended n outcome.Sent reading.Nothing ∷ []

@@ -95,6 +95,7 @@ pub use Rattle.gb_laws.proofs.PointParts.{
   Wires,
   asked_told,
   is_quiet,
+  is_silent,
   loose,
   loose_hand,
   loose_held,
@@ -245,8 +246,8 @@ pub record IsIdle (a : Point) : Type 0 where
 
 -- A single change at a point.
 pub data Change (m : Moment) (a : Point) : Type 0 where
-  -- something is told that is no end, no reply, no injection and no opening
-  tells : (e : Entry) → is_quiet e ≡ true → Change m a
+  -- something is told that is no end, no reply, no injection and of no connection
+  tells : (e : Entry) → is_silent e ≡ true → Change m a
   -- a request is made, and gets a name or none
   asks : (d : Draft) (c : Connection) (label : ℕ) → a.hand ≡ None
       → connection_of d.connection a.state.bus ≡ Some c

@@ -26,10 +26,11 @@ use Rattle.gb_invariants.proofs.Lists.{found-in, two-at_first}
 use Rattle.gb_invariants.proofs.Numbers.{found-number, same-connection}
 use Rattle.gb_invariants.specs.Facts.{IsBefore}
 use Rattle.gb_laws.proofs.Places.{at_first-back, module-far, place-is}
+use Rattle.gb_laws.proofs.PointParts.{AreSilent}
 use Rattle.gb_machine.specs.Members.{EachTwo, IsIn}
 use Rattle.std.specs.List.{find}
 use Rattle.gb_laws.proofs.Points.{IsBridge, IsOfSvc, IsPlain, as_before, SamePlugs, by_svc, Law, acting, binds, gives_up as giving_up, injects as injecting, names, others, spends}
-use Rattle.gb_laws.proofs.PointParts.{AreQuiet, IsGivenUpFor, Untouched}
+use Rattle.gb_laws.proofs.PointParts.{IsGivenUpFor, Untouched}
 use Rattle.gb_machine.proofs.Conditions.{AreUnmet, free}
 use Rattle.gb_machine.proofs.Opened.{machine_opened}
 use Rattle.gb_machine.proofs.Options.{none-of}
@@ -338,7 +339,7 @@ module _ (m : Moment) (law : Law m) where
       by None e = rests-nothing s
       by (Some p) e = λ told at. law.kept _ (injecting i c p bytes refl e) at
 
-  quiet-shown : (lines : List (List ℕ)) → AreQuiet (map entry.Shown lines)
+  quiet-shown : (lines : List (List ℕ)) → AreSilent (map entry.Shown lines)
   quiet-shown [] = tt
   quiet-shown (l ∷ ls) = (refl, quiet-shown ls)
 

@@ -1,6 +1,7 @@
 //! The laws of runs. Each speaks of every run of valid events; where it speaks of moments, those
 //! are the events of the run with each settle taken apart into its deliveries.
 
+ghost use Rattle.gb_laws.specs.OwnSide.{AbsentHasNoOpenOfAp};
 ghost use Rattle.gb_machine.specs.LawsBus.{
   EndpointsDiffer,
   LabelsDiffer,
@@ -86,6 +87,12 @@ pub fn absent_after_removal()
 /// closed.
 pub fn open_is_live()
     ensures { HoldsThroughout OpenIsLive }
+{}
+
+/// Nothing that the application processor asked on a connection that named an absent interface is
+/// open.
+pub fn absent_has_no_open_of_ap()
+    ensures { HoldsThroughout AbsentHasNoOpenOfAp }
 {}
 
 /// While MODULE_REMOVED of an interface waits toward the application processor, the power level of

@@ -1,4 +1,5 @@
 pub mod Acts
+pub mod AnswerReadings
 pub mod ApServes
 pub mod Asks
 pub mod Boots
