@@ -267,8 +267,8 @@ pub IsAscii-interface_line : (i : ℕ) (stage : IntfStage) (id : Option ℕ)
 IsAscii-interface_line i stage id =
     seen (interface_line i stage id) (simp (cat, dec, staged, device))
 
-pub IsAscii-connection_line : (k ap : ℕ) (peer : End) (protocol : ℕ) (state : ConnState) (clean : Bool)
-    → IsAscii (connection_line k ap peer protocol state clean)
+pub IsAscii-connection_line : (k ap : ℕ) (peer : End) (protocol : ℕ) (state : ConnState)
+    (clean : Bool) → IsAscii (connection_line k ap peer protocol state clean)
 IsAscii-connection_line k ap peer protocol state clean =
     seen (connection_line k ap peer protocol state clean)
     (simp (cat, dec, place, byte, stated, unclean))

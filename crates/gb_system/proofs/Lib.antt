@@ -6,7 +6,9 @@ pub mod Landing
 pub mod Midways
 pub mod ModuleServes
 pub mod Plugged
+pub mod Showings
 pub mod Standing
 pub mod SvcSteps
 pub mod Takings
 pub mod Turning
+pub mod WordOrder

@@ -10,4 +10,5 @@ text_of-requires c =
     ≡ connection_line c.args.number c.args.ap c.args.peer c.args.protocol c.args.state c.args.clean
     = search rules in
     subst IsAscii (sym text)
-    (IsAscii-connection_line c.args.number c.args.ap c.args.peer c.args.protocol c.args.state c.args.clean)
+    (IsAscii-connection_line c.args.number c.args.ap c.args.peer c.args.protocol c.args.state
+    c.args.clean)

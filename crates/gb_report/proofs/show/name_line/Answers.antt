@@ -10,4 +10,5 @@ text_of-requires c =
     ≡ name_line c.args.name.now c.args.number (option_copied c.args.how)
     = search rules in
     subst IsAscii (sym text)
-    (IsAscii-name_line c.args.name.now c.args.number (option_copied c.args.how) c.text.ensures.ascii)
+    (IsAscii-name_line c.args.name.now c.args.number (option_copied c.args.how)
+    c.text.ensures.ascii)
