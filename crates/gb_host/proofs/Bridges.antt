@@ -16,21 +16,27 @@ use Rattle.gb_machine.specs.Host.{is_link, link_of, with_link}
 use Rattle.gb_machine.specs.LineActions.{spent}
 use Rattle.gb_machine.specs.Lists.{at_first, first_met}
 
-pub unsupported-is : (a b c : Bool) (request : Request) → cond a (cond b (Err TooLarge) (Ok request)) (Err Unsupported) ≡ Err Unsupported
-    → first_met ((not a, why.Unsupported) ∷ (b, why.TooLarge) ∷ (c, why.NoCredit) ∷ []) ≡ Some why.Unsupported
+pub unsupported-is : (a b c : Bool) (request : Request) → cond a (cond b (Err TooLarge) (Ok
+    request)) (Err Unsupported) ≡ Err Unsupported
+    → first_met ((not a, why.Unsupported) ∷ (b, why.TooLarge) ∷ (c, why.NoCredit) ∷ [])
+    ≡ Some why.Unsupported
 unsupported-is true true c request h = absurd cc
 unsupported-is true false c request h = absurd cc
 unsupported-is false b c request h = refl
 
-pub too_large-is : (a b c : Bool) (request : Request) → cond a (cond b (Err TooLarge) (Ok request)) (Err Unsupported) ≡ Err TooLarge
-    → first_met ((not a, why.Unsupported) ∷ (b, why.TooLarge) ∷ (c, why.NoCredit) ∷ []) ≡ Some why.TooLarge
+pub too_large-is : (a b c : Bool) (request : Request) → cond a (cond b (Err TooLarge) (Ok request))
+    (Err Unsupported) ≡ Err TooLarge
+    → first_met ((not a, why.Unsupported) ∷ (b, why.TooLarge) ∷ (c, why.NoCredit) ∷ [])
+    ≡ Some why.TooLarge
 too_large-is true true c request h = refl
 too_large-is true false c request h = absurd cc
 too_large-is false b c request h = absurd cc
 
 -- a request that is written
-pub written-is : (a b c : Bool) (request r : Request) → cond a (cond b (Err TooLarge) (Ok request)) (Err Unsupported) ≡ Ok r
-    → (request ≡ r) × (first_met ((not a, why.Unsupported) ∷ (b, why.TooLarge) ∷ (c, why.NoCredit) ∷ []) ≡ cond c (Some why.NoCredit) None)
+pub written-is : (a b c : Bool) (request r : Request) → cond a (cond b (Err TooLarge) (Ok request))
+    (Err Unsupported) ≡ Ok r
+    → (request ≡ r) × (first_met ((not a, why.Unsupported) ∷ (b, why.TooLarge) ∷ (c, why.NoCredit)
+    ∷ []) ≡ cond c (Some why.NoCredit) None)
 written-is true true c request r h = absurd cc
 written-is true false c request r h = (cc, refl)
 written-is false b c request r h = absurd cc
@@ -46,14 +52,24 @@ enough credits n h =
     ap (λ b. is_none (cond b (Some (credits - n)) None)) test
 
 -- the credits of a bridge line are taken
-pub takes-credits : (x : Host) (h : machine.Host) (what : BridgeAsk) (k : ℕ) (o : Option Link) (link l : Link) (n : ℕ) (items : List Link)
-    → Stands x h → o ≡ find (λ l. l.connection == k) x.links.live.items → o ≡ Some link → link_of k h ≡ Some l → n ≡ credits_taken what
+pub takes-credits : (x : Host) (h : machine.Host) (what : BridgeAsk) (k : ℕ) (o : Option Link)
+    (link l : Link) (n : ℕ) (items : List Link)
+    → Stands x h → o ≡ find (λ l. l.connection == k) x.links.live.items → o ≡ Some link
+    → link_of k h ≡ Some l → n ≡ credits_taken what
     → items ≡ at_first (is_link link.intf link.cport) (with_fewer n) x.links.live.items
     → with_link l.intf l.cport (spent what) h ≡ record { interfaces = x.interfaces; links = items }
 takes-credits x h what k o link l n items s e is there taken new =
     let links = x.links.live.items in
     let same = same-link x h k o link l s e is there in
     ap (λ g. with_link l.intf l.cport (spent what) g) s
-    ∙ ap (λ (m : Link). record { interfaces = x.interfaces; links = at_first (is_link m.intf m.cport) (with_fewer (credits_taken what)) links }) same
-    ∙ ap (λ m. record { interfaces = x.interfaces; links = at_first (is_link link.intf link.cport) (with_fewer m) links }) (sym taken)
+    ∙ ap (λ (m : Link). record {
+      interfaces = x.interfaces;
+      links = at_first (is_link m.intf
+          m.cport) (with_fewer (credits_taken what)) links;
+    }) same
+    ∙ ap (λ m. record {
+      interfaces = x.interfaces;
+      links = at_first (is_link link.intf link.cport)
+          (with_fewer m) links;
+    }) (sym taken)
     ∙ ap (λ ls. record { interfaces = x.interfaces; links = ls }) (sym new)

@@ -13,14 +13,17 @@ use Rattle.gb_machine.specs.Turns.{Turn, telling, turn}
 -- the acts of two lists
 pub spelled-both : (xs ys : List turns.Act) → spelled (xs ++ ys) ≡ spelled xs ++ spelled ys
 spelled-both [] ys = refl
-spelled-both (x ∷ xs) ys = ap (λ zs. spelled_act x ++ zs) (spelled-both xs ys) ∙ sym (append_assoc (spelled_act x) (spelled xs) (spelled ys))
+spelled-both (x ∷ xs) ys = ap (λ zs. spelled_act x ++ zs) (spelled-both xs ys)
+    ∙ sym (append_assoc (spelled_act x) (spelled xs) (spelled ys))
 
 -- connections that are left make nothing
-pub left-pends : (ls : List Link) (e : Entry) (x : Host) → Pends (links_left ls ++ turns.Act.Tell e ∷ []) x
+pub left-pends : (ls : List Link) (e : Entry) (x : Host)
+    → Pends (links_left ls ++ turns.Act.Tell e ∷ []) x
 left-pends [] e x = tt
 left-pends (l ∷ ls) e x = left-pends ls e x
 
 -- where there were no acts before it, the acts are those of the turn
-pub turned : (t : Turn) (front : List Act) (old new : Host) (r : Result (List Act) OutOfMemory) → front ≡ [] → TurnsAfter t front old new r → TurnsAs t old new r
+pub turned : (t : Turn) (front : List Act) (old new : Host) (r : Result (List Act) OutOfMemory)
+    → front ≡ [] → TurnsAfter t front old new r → TurnsAs t old new r
 turned t front old new (Ok all) e d = subst (λ f. Turns t f new all) e d
 turned t front old new (Err refused) e d = λ h s. s ∙ sym d

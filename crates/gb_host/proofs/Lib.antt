@@ -4,5 +4,7 @@ pub mod Free
 pub mod Fronts
 pub mod Looks
 pub mod Manifests
+pub mod Marks
 pub mod Ordering
 pub mod Restoring
+pub mod Rising

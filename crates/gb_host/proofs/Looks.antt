@@ -8,13 +8,15 @@ use Rattle.gb_machine.specs.Host as machine
 use Rattle.gb_machine.specs.Host.{link_of}
 
 -- a connection that is looked up by its number
-pub looked : (x : Host) (h : machine.Host) (k : ℕ) (o p : Option Link) → Stands x h → o ≡ find (λ l. l.connection == k) x.links.live.items
+pub looked : (x : Host) (h : machine.Host) (k : ℕ) (o p : Option Link) → Stands x h
+    → o ≡ find (λ l. l.connection == k) x.links.live.items
     → o ≡ p → link_of k h ≡ p
 looked x h k o p s e is = ap (link_of k) s ∙ sym e ∙ is
 
 -- it is the one that there is
 pub same-link : (x : Host) (h : machine.Host) (k : ℕ) (o : Option Link) (link l : Link) → Stands x h
-    → o ≡ find (λ l. l.connection == k) x.links.live.items → o ≡ Some link → link_of k h ≡ Some l → l ≡ link
+    → o ≡ find (λ l. l.connection == k) x.links.live.items → o ≡ Some link
+    → link_of k h ≡ Some l → l ≡ link
 same-link x h k o link l s e is there =
     let both : Some l ≡ Some link = sym there ∙ looked x h k o (Some link) s e is in cc
 

@@ -12,12 +12,16 @@ use Rattle.gb_machine.specs.Turns.{failed_turn, telling}
 use Rattle.gb_manifest.specs.Values.{refused_of}
 use Rattle.gb_manifest.specs.declared.refusal.Refused.{Refused}
 
-pub refused-checked : (answer : Result Manifest rules.Refused) (o : Option Refused) (why : Refused) (p : Purpose) (bytes : List ℕ) (h : Host)
+pub refused-checked : (answer : Result Manifest rules.Refused) (o : Option Refused) (why : Refused)
+    (p : Purpose) (bytes : List ℕ) (h : Host)
     → option_map refused_of o ≡ refused_in answer → o ≡ Some why
-    → telling (entry.Manifest p.intf why.at why.reason) (failed_turn (interface_fails p h)) ≡ manifest_checked answer p bytes h
+    → telling (entry.Manifest p.intf why.at why.reason) (failed_turn (interface_fails p h))
+    ≡ manifest_checked answer p bytes h
 refused-checked (Ok m) o why p bytes h e is =
-    let both : Some (refused_of why) ≡ None = sym (ap (λ w. option_map refused_of w) is) ∙ e in absurd cc
+    let both : Some (refused_of why) ≡ None = sym (ap (λ w. option_map refused_of w) is)
+    ∙ e in absurd cc
 refused-checked (Err w) o why p bytes h e is =
     let both : Some (refused_of why) ≡ Some w = sym (ap (λ v. option_map refused_of v) is) ∙ e in
     let same : refused_of why ≡ w = cc in
-    ap (λ (v : rules.Refused). telling (entry.Manifest p.intf v.at v.reason) (failed_turn (interface_fails p h))) same
+    ap (λ (v : rules.Refused). telling (entry.Manifest p.intf v.at v.reason) (failed_turn
+    (interface_fails p h))) same

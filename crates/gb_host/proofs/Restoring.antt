@@ -9,12 +9,14 @@ use Rattle.gb_machine.specs.Host.{is_intf}
 use Rattle.gb_machine.specs.Lists.{at_first}
 
 -- the first that passes a test is changed, and then changed to what it was
-pub restored : {A : Type 0} (test : A → Bool) (f g : A → A) (xs : List A) → ((x : A) → test (f x) ≡ test x)
+pub restored : {A : Type 0} (test : A → Bool) (f g : A → A) (xs : List A) → ((x : A)
+    → test (f x) ≡ test x)
     → ((x : A) → find test xs ≡ Some x → g (f x) ≡ x) → at_first test g (at_first test f xs) ≡ xs
 restored test f g [] same back = refl
 restored {A} test f g (x ∷ xs) same back = by (test x) refl (restored test f g xs same)
   where
-    by : (b : Bool) → test x ≡ b → (((y : A) → find test xs ≡ Some y → g (f y) ≡ y) → at_first test g (at_first test f xs) ≡ xs)
+    by : (b : Bool) → test x ≡ b → (((y : A) → find test xs ≡ Some y → g (f y) ≡ y)
+        → at_first test g (at_first test f xs) ≡ xs)
         → at_first test g (at_first test f (x ∷ xs)) ≡ x ∷ xs
     by true e later =
         ap (λ b. at_first test g (cond b (f x ∷ xs) (x ∷ at_first test f xs))) e
@@ -26,13 +28,15 @@ restored {A} test f g (x ∷ xs) same back = by (test x) refl (restored test f g
         ∙ ap (λ ys. x ∷ ys) (later (λ y h. back y (ap (λ b. cond b (Some x) (find test xs)) e ∙ h)))
 
 -- where none passes
-pub none-back : {A : Type 0} (test : A → Bool) (f g : A → A) (xs : List A) (o : Option A) → ((x : A) → test (f x) ≡ test x)
+pub none-back : {A : Type 0} (test : A → Bool) (f g : A → A) (xs : List A) (o : Option A)
+    → ((x : A) → test (f x) ≡ test x)
     → o ≡ find test xs → o ≡ None → at_first test g (at_first test f xs) ≡ xs
 none-back test f g xs o same e is =
     restored test f g xs same (λ x h. let both : Some x ≡ None = sym h ∙ sym e ∙ is in absurd cc)
 
 -- where one passes
-pub one-back : {A : Type 0} (test : A → Bool) (f g : A → A) (xs : List A) (o : Option A) (d : A) → ((x : A) → test (f x) ≡ test x)
+pub one-back : {A : Type 0} (test : A → Bool) (f g : A → A) (xs : List A) (o : Option A) (d : A) →
+    ((x : A) → test (f x) ≡ test x)
     → o ≡ find test xs → o ≡ Some d → g (f d) ≡ d → at_first test g (at_first test f xs) ≡ xs
 one-back test f g xs o d same e is back =
     restored test f g xs same (λ x h.
@@ -46,6 +50,9 @@ changed-keeps i (change.HasDevice b) x = refl
 changed-keeps i (change.Size n) x = refl
 
 -- an interface is put back, where there is one
-pub changed-back : (i : ℕ) (c b : Change) (xs : List Interface) (o : Option Interface) (d : Interface) → o ≡ find (is_intf i) xs → o ≡ Some d
-    → changed b (changed c d) ≡ d → at_first (is_intf i) (changed b) (at_first (is_intf i) (changed c) xs) ≡ xs
-changed-back i c b xs o d e is back = one-back (is_intf i) (changed c) (changed b) xs o d (changed-keeps i c) e is back
+pub changed-back : (i : ℕ) (c b : Change) (xs : List Interface) (o : Option Interface) (d :
+    Interface) → o ≡ find (is_intf i) xs → o ≡ Some d
+    → changed b (changed c d) ≡ d → at_first (is_intf i) (changed b) (at_first (is_intf i) (changed
+    c) xs) ≡ xs
+changed-back i c b xs o d e is back = one-back (is_intf i) (changed c) (changed b) xs o d
+    (changed-keeps i c) e is back

@@ -1,6 +1,8 @@
 pub mod Asking
 pub mod Bridging
 pub mod Changes
+pub mod Indexes
+pub mod Marks
 pub mod Refusing
 pub mod Serving
 pub mod Stands

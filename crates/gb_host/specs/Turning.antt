@@ -50,8 +50,8 @@ abbrev pub Pends : List turns.Act → Host → Type 0
 Pends [] x = ⊤
 Pends (a ∷ acts) x = PendsWith a x (Pends acts x)
 
--- A turn is done: the value stands for the application processor after it, these acts are to be done
--- after those that there were, and what they make is pending.
+-- A turn is done: the value stands for the application processor after it, these acts are to be
+-- done after those that there were, and what they make is pending.
 pub record Turns (t : Turn) (front : List Act) (new : Host) (all : List Act) : Type 0 where
   pub host : t.host ≡ host_of new
   pub acts : all ≡ front ++ spelled t.acts

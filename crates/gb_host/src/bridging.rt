@@ -2,10 +2,10 @@
 
 ghost use Rattle.std.specs.Prelude.{◌≡◌, Some, length};
 ghost use Rattle.gb_base.specs.declared.peers.Link.{Link};
+ghost use Rattle.gb_bridge_payload.specs.Serving.{BridgesAs};
 ghost use Rattle.gb_formats.specs.Bridges.{bridge_answer, credits_taken, reading_of};
 ghost use Rattle.gb_formats.specs.Results.{most_payload};
 ghost use Rattle.gb_formats.specs.ValidEvents.{HasForm};
-ghost use Rattle.gb_bridge_payload.specs.Serving.{BridgesAs};
 ghost use Rattle.gb_machine.specs.Host as machine;
 ghost use Rattle.gb_machine.specs.Host.{link_of, with_link};
 ghost use Rattle.gb_machine.specs.LineActions.{spent};

@@ -3,6 +3,7 @@
 ghost use Rattle.std.specs.Prelude.{◌≡◌, ◌∷◌, []};
 ghost use Rattle.gb_base.specs.declared.entry.Entry.TheVariants as entry;
 ghost use Rattle.gb_base.specs.declared.entry.IntfStage.TheVariants as stage;
+ghost use Rattle.gb_base.specs.declared.steps.SequenceStep.TheVariants as steps;
 ghost use Rattle.gb_formats.specs.Manifest.{check_answer};
 ghost use Rattle.gb_machine.specs.Failures.{interface_fails};
 ghost use Rattle.gb_machine.specs.Host.{free_cport, free_device, interface_of, with_interface};
@@ -11,7 +12,6 @@ ghost use Rattle.gb_machine.specs.SequenceSteps.{at_step};
 ghost use Rattle.gb_machine.specs.Sequences.{begins_control, begins_device, control_opened, device_given, enumerated, manifest_checked, manifest_told, size_known, size_told};
 ghost use Rattle.gb_machine.specs.Turns as turns;
 ghost use Rattle.gb_machine.specs.Turns.{failed_turn, telling, turn};
-ghost use Rattle.gb_base.specs.declared.steps.SequenceStep.TheVariants as steps;
 
 use crate::failing::{tell_interface, to_step};
 use crate::interfaces::Change;
@@ -149,9 +149,10 @@ impl Host {
         purpose: Purpose,
         bytes: Bytes,
     ) -> Result<Acts, OutOfMemory>
-        ensures { TurnsAfter (turn (with_interface purpose.intf (enumerated bytes)
-            (host_of self.old)) (turns.Act.Tell (entry.Interface purpose.intf stage.Enumerated) ∷ []))
-            acts self.old self.new result }
+        ensures { TurnsAfter (turn
+            (with_interface purpose.intf (enumerated bytes) (host_of self.old))
+            (turns.Act.Tell (entry.Interface purpose.intf stage.Enumerated) ∷ [])) acts
+            self.old self.new result }
     {
         let acts = tell_interface(acts, purpose.intf, IntfStage::Enumerated)?;
         self.interfaces.enumerate(purpose.intf, bytes);

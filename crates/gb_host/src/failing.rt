@@ -2,15 +2,15 @@
 
 ghost use Rattle.std.specs.Prelude.{◌≡◌, ◌∷◌, ◌++◌, [], IfOk, map};
 ghost use Rattle.gb_base.specs.declared.entry.Entry.TheVariants as entry;
-ghost use Rattle.gb_machine.specs.Failures.{control_fails, interface_fails, link_fails, step_fails, told_of, unsent, without_device};
-ghost use Rattle.gb_machine.specs.Failures as told;
-ghost use Rattle.gb_machine.specs.Host as machine;
-ghost use Rattle.gb_machine.specs.Host.{link_at, with_interface};
-ghost use Rattle.gb_machine.specs.Turns as turns;
-ghost use Rattle.gb_machine.specs.Turns.{failed_turn};
-ghost use Rattle.gb_machine.specs.SequenceSteps.{at_step};
 ghost use Rattle.gb_host.specs.Turning.{spelled};
 ghost use Rattle.gb_host.specs.declared.acts.Act.TheVariants as act;
+ghost use Rattle.gb_machine.specs.Failures as told;
+ghost use Rattle.gb_machine.specs.Failures.{control_fails, interface_fails, link_fails, step_fails, told_of, unsent, without_device};
+ghost use Rattle.gb_machine.specs.Host as machine;
+ghost use Rattle.gb_machine.specs.Host.{link_at, with_interface};
+ghost use Rattle.gb_machine.specs.SequenceSteps.{at_step};
+ghost use Rattle.gb_machine.specs.Turns as turns;
+ghost use Rattle.gb_machine.specs.Turns.{failed_turn};
 
 use crate::{Act, Acts, Host};
 use gb_base::{ConnState, Entry, IntfStage, Link, OutOfMemory, Purpose, SequenceStep};

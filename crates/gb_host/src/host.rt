@@ -4,8 +4,8 @@ ghost use Rattle.std.specs.Prelude.{◌≡◌, option_map, IfOk};
 ghost use Rattle.gb_machine.specs.Host as machine;
 ghost use Rattle.gb_machine.specs.Host.{first_host, interface_of, link_of};
 
+use crate::connections::Connections;
 use crate::interfaces::Interfaces;
-use crate::links::Links;
 use gb_base::{ConnState, Interface, IntfStage, OutOfMemory};
 use std::alloc::Global;
 
@@ -33,7 +33,7 @@ pub struct Pending {
 pub struct Host {
     pub(crate) alloc: Global,
     pub(crate) interfaces: Interfaces,
-    pub(crate) links: Links,
+    pub(crate) links: Connections,
     pub(crate) pending: Option<Pending>,
 }
 
@@ -47,7 +47,7 @@ impl Host {
         Ok(Host {
             alloc,
             interfaces: Interfaces::new(alloc),
-            links: Links::new(alloc),
+            links: Connections::new(alloc)?,
             pending: None,
         })
     }

@@ -6,6 +6,8 @@ mod acts;
 mod asking;
 mod bridging;
 mod connecting;
+mod connections;
+mod cports;
 mod enumerating;
 mod events;
 mod failing;
@@ -22,6 +24,8 @@ mod serving;
 #[cfg(test)]
 mod tests;
 mod turning;
+#[cfg(test)]
+mod turning_tests;
 mod waiting;
 
 pub use acts::{Act, Acts};

@@ -1,21 +1,15 @@
 //! The connections to modules.
 
-ghost use Rattle.std.specs.Prelude.{◌≡◌, ◌==◌, ◌<◌, ◌∷◌, [], ◌++◌, None, IfSome, OnOk, find, length};
-ghost use Rattle.std.specs.List.{list_any, position_from};
+ghost use Rattle.std.specs.Prelude.{◌≡◌, ◌==◌, ◌<◌, ◌∷◌, [], ◌++◌, true, false, None, IfSome, OnOk, find, length};
+ghost use Rattle.std.specs.List.{position_from};
 ghost use Rattle.gb_machine.specs.Host.{in_state, is_link};
 ghost use Rattle.gb_machine.specs.HostServing.{with_credits};
-ghost use Rattle.gb_machine.specs.Lists.{at_first, first_free, without};
+ghost use Rattle.gb_machine.specs.Lists.{at_first, without};
 ghost use Rattle.gb_machine.specs.Waits.{link_waits};
 
 use crate::waiting::purpose_in;
 use gb_base::{ConnState, Link, OutOfMemory, Purpose, SequenceStep};
 use std::alloc::Global;
-
-/// The least CPort of the application processor that a connection to a module has.
-const LEAST_CPORT: u16 = 1;
-
-/// The greatest CPort of the application processor, and one more.
-const CPORTS_END: u16 = 4096;
 
 /// The connections to modules in order of number.
 #[derive(Drop)]
@@ -24,6 +18,7 @@ pub struct Links {
 }
 
 impl Links {
+    ghost use Rattle.gb_host.specs.Indexes.{Rises};
     ghost use Rattle.gb_host.specs.Changes.{HasRoom, is_empty, link_awaits, with_fewer};
 
     /// No connections. It takes no memory yet.
@@ -62,16 +57,36 @@ impl Links {
             .find(|link| link.connection == connection)
     }
 
-    /// The least CPort of the application processor from 1 to 4,095 that no connection has.
-    pub fn free_cport(&self) -> Option<u16>
-        ensures { result ≡ first_free (λ a. list_any (λ l. l.ap == a) self.now.live.items) 4095 1 }
+    /// The connection with a number, where the numbers rise. Few connections are looked at.
+    pub fn of_rising(&self, connection: u64) -> Option<Link>
+        ensures { Rises self.now.live.items
+            → result ≡ find (λ l. l.connection == connection) self.now.live.items }
     {
-        for ap in LEAST_CPORT..CPORTS_END {
-            if !self.has_cport(ap) {
-                return Some(ap);
-            }
+        let place = self
+            .live
+            .partition_point(|link| link.connection < connection);
+        if place == self.live.len() {
+            return None;
         }
-        None
+        let link = self.live[place];
+        if link.connection == connection {
+            Some(link)
+        } else {
+            None
+        }
+    }
+
+    /// No number is greater than that of a connection that is about to go to the end, where the
+    /// numbers rise.
+    pub fn rises_to(&self, link: Link) -> bool
+        ensures { result ≡ true → Rises self.now.live.items
+            → Rises (self.now.live.items ++ link ∷ []) }
+    {
+        let live = self.live.as_slice();
+        if live.is_empty() {
+            return true;
+        }
+        live[live.len() - 1].connection <= link.connection
     }
 
     /// The purpose of a request that a connect or close waits for.
@@ -134,11 +149,13 @@ impl Links {
         self.live.retain(|link| link.intf != intf);
     }
 
-    /// A connection goes to the end.
-    pub fn add(&mut self, link: Link)
-        ensures { HasRoom self.old → self.new.live.items ≡ self.old.live.items ++ link ∷ [] }
+    /// A connection goes to the end, or nothing changes.
+    pub fn add(&mut self, link: Link) -> bool
+        ensures added { result ≡ true → self.new.live.items ≡ self.old.live.items ++ link ∷ [] }
+        ensures same { result ≡ false → self.new.live.items ≡ self.old.live.items }
+        ensures room { HasRoom self.old → result ≡ true }
     {
-        let _pushed = self.live.push(link).is_ok();
+        self.live.push(link).is_ok()
     }
 
     /// A connection has a state from now on.
@@ -180,18 +197,6 @@ impl Links {
         if let Some(i) = self.index(intf, cport) {
             self.live[i].awaits = awaits;
         }
-    }
-
-    /// Some connection has a CPort of the application processor.
-    fn has_cport(&self, ap: u16) -> bool
-        ensures { result ≡ list_any (λ l. l.ap == ap) self.now.live.items }
-    {
-        for link in &self.live {
-            if link.ap == ap {
-                return true;
-            }
-        }
-        false
     }
 
     /// Where the connection to a CPort of an interface stands.

@@ -2,8 +2,8 @@
 
 ghost use Rattle.std.specs.Prelude.{◌≡◌, ◌==◌, ◌++◌, ◌∷◌, [], OnOk, IfOk};
 ghost use Rattle.std.specs.List.{filter};
-ghost use Rattle.gb_machine.specs.HostTurns.{host_removed, links_left, links_of};
 ghost use Rattle.gb_host.specs.Turning.{spelled};
+ghost use Rattle.gb_machine.specs.HostTurns.{host_removed, links_left, links_of};
 
 use crate::failing::{link_told, tell_interface};
 use crate::{Act, Acts, Host};

@@ -1,11 +1,10 @@
 //! What the application processor does at what it takes notice of.
 
-ghost use Rattle.std.specs.Prelude.{◌≡◌};
+ghost use Rattle.std.specs.Prelude.{◌≡◌, None};
 ghost use Rattle.gb_machine.specs.Host as machine;
 ghost use Rattle.gb_machine.specs.HostTurns.{host_ended, host_turn};
 ghost use Rattle.gb_machine.specs.Sequences.{payload_in, step_answered, step_done};
 ghost use Rattle.gb_machine.specs.Waits.{awaited, waiting};
-ghost use Rattle.std.specs.Prelude.{None};
 
 use crate::replies::{is_reply, payload_in};
 use crate::{Acts, Host, HostEvent};

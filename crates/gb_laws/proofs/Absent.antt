@@ -42,7 +42,7 @@ use Rattle.gb_machine.specs.Wiring.{is_at}
 -- ---- no live connection names an absent interface
 
 -- each end of a live connection that is at an interface is at one that is known
-unconnected : (i : ℕ) (s : State) → Linked s.bus s.host [] → interface_of i s.host ≡ None
+pub unconnected : (i : ℕ) (s : State) → Linked s.bus s.host [] → interface_of i s.host ≡ None
     → (c : Connection) → IsIn c s.bus.connections → is_at i c.peer ≡ false
 unconnected i s links absent c live = by (links.known c live)
   where
@@ -60,7 +60,7 @@ unconnected i s links absent c live = by (links.known c live)
 
 -- ---- a removal is handled
 
-far-end : (s : State) → Linked s.bus s.host [] → (c : Connection) → IsIn c s.bus.connections
+pub far-end : (s : State) → Linked s.bus s.host [] → (c : Connection) → IsIn c s.bus.connections
     → IsFarEnd c.peer
 far-end s links c live = by (links.known c live)
   where

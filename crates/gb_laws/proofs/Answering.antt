@@ -25,6 +25,7 @@ use Rattle.gb_laws.proofs.Points.{Answers, Change, Law, Says, acts_asked, acts_f
 use Rattle.gb_laws.proofs.PointParts.{IsGivenUpFor, AreQuiet, Basis, Hand, Point, asked_told, is_quiet, loose_held, sent_told}
 use Rattle.gb_laws.proofs.Runs.{HoldsAtMoments, at_each}
 use Rattle.gb_laws.proofs.Steps.{over-step}
+use Rattle.gb_laws.proofs.Silent.{silent-quiet}
 use Rattle.gb_machine.specs.Bus.{Bus, Connection, Reply, Request, connection_of, end_of, next_number, other_side, queue, request_of}
 use Rattle.gb_machine.specs.LawsEnds.{HadItsReply, WasReplied}
 use Rattle.gb_machine.specs.LawsHotPlug.{IsOwnItem}
@@ -166,7 +167,7 @@ given_up-fine m s b n outcome.Sent cause = tt
 given_up-fine m s b n (outcome.Answered result payload) cause = absurd cause
 
 so-far-kept : (m : Moment) (start : OwnAt m.told m.before) (a : Point) (x : Change m a) → IsSoFar m a → IsSoFar m (changed m a x)
-so-far-kept m start a (tells e quiet) h = so-far m a (tells e quiet) (e ∷ []) refl (quiet-fine m a.state.bus e quiet, tt) h.hand h
+so-far-kept m start a (tells e quiet) h = so-far m a (tells e quiet) (e ∷ []) refl (quiet-fine m a.state.bus e (silent-quiet e quiet), tt) h.hand h
 so-far-kept m start a (asks d c label free live drawn who) h =
     so-far m a (asks d c label free live drawn who) (asked_told d c label a.state.bus) refl (sent-fine m _ d c label a.state.bus) h.hand h
 so-far-kept m start a (names name d c label free live drawn host) h =

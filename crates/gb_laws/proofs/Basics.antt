@@ -315,7 +315,7 @@ pub rested : (told : List Entry) (s : State) (w : Wires) → Basis (record (rest
 rested told s w h = record { bus = h.bus; names = h.names; hand = h.hand }
 
 -- nothing was made yet
-none-made : (n : ℕ) (r : Request) → nth n [] ≡ Some r → ⊥
+pub none-made : (n : ℕ) (r : Request) → nth n [] ≡ Some r → ⊥
 none-made zero r h = absurd cc
 none-made (suc n) r h = absurd cc
 

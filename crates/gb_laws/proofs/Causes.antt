@@ -1,4 +1,5 @@
 -- Each end by cancelling, timeout or disconnection has its cause at its moment.
+use Rattle.gb_laws.proofs.Silent.{silent-quiet}
 use Rattle.gb_machine.specs.SvcQueues.{is_removal}
 use Rattle.std.proofs.Common.{◌≡◌, ◌⊎◌, ◌≤◌, ◌≢◌, ℕ, Bool, true, false, Some, None, List, [], ◌∷◌, ◌++◌, map, refl, sym, ap, ◌∙◌, inl, inr, subst, append-nil, append_assoc, arith}
 use Rattle.std.specs.Prelude.{◌==◌}
@@ -226,7 +227,7 @@ unwires-fine m a k free before live basis links h =
 so-far-kept : (m : Moment) (start : Start m) (a : Point) (x : Change m a) → Basis a → Linked a.state.bus a.state.host a.pending
     → IsSoFar m a → IsSoFar m (changed m a x)
 so-far-kept m start a (tells e quiet) basis links h =
-    so-far m a (tells e quiet) (e ∷ []) refl (quiet-fine m (changed m a (tells e quiet)) e quiet, tt) h
+    so-far m a (tells e quiet) (e ∷ []) refl (quiet-fine m (changed m a (tells e quiet)) e (silent-quiet e quiet), tt) h
 so-far-kept m start a (asks d c label free live drawn who) basis links h =
     so-far m a (asks d c label free live drawn who) (asked_told d c label a.state.bus) refl (sent-fine m _ d c label a.state.bus) h
 so-far-kept m start a (names name d c label free live drawn host) basis links h =

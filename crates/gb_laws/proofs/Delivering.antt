@@ -20,13 +20,15 @@ use Rattle.gb_laws.proofs.Acting.{goes-notices}
 use Rattle.gb_laws.proofs.Going.{At, Goes, goes-nothing, goes-tell}
 use Rattle.gb_laws.proofs.Places.{module-far, place-is}
 use Rattle.gb_laws.proofs.Points.{Answers, replied_to, unreplied, Forgets, Law, Says, acting, answers, by_label, by_number, drops, forgets, holds, numbered, replies, takes, takes_held, tells, unclean}
-use Rattle.gb_laws.proofs.PointParts.{Basis, Hand, Untouched, is_quiet}
+use Rattle.gb_laws.proofs.PointParts.{Basis, Hand, Untouched}
 use Rattle.gb_invariants.proofs.Awaiting.{same-some}
 use Rattle.gb_invariants.proofs.Numbers.{found-number, same-connection}
 use Rattle.gb_invariants.proofs.Selves.{put-self}
 use Rattle.gb_laws.proofs.LinkLists.{find-changed}
+use Rattle.gb_laws.proofs.PointParts.{is_silent}
 use Rattle.gb_machine.specs.Sending.{put}
-use Rattle.gb_laws.proofs.Serving.{Ends, HasPeer, IsTaken, answered, delivered, ends-going, ends-response}
+use Rattle.gb_laws.proofs.Serving.{Ends, HasPeer, ends-going, ends-response}
+use Rattle.gb_laws.proofs.Delivered.{IsTaken, answered, delivered}
 use Rattle.gb_machine.proofs.Opened.{machine_opened}
 use Rattle.gb_machine.specs.Actions.{Action, by_state, given, nothing, on_bus, tell, ◌▸◌}
 use Rattle.gb_machine.specs.Arriving as arriving
@@ -102,7 +104,7 @@ module _ (m : Moment) (law : Law m) where
   dropped-first : (h : Hand) (f : Action) (s : State) → Ends m law None f s → Ends m law (Some h) f s
   dropped-first h f s k told at = k told (law.kept _ drops at)
 
-  ends-told : (h : Hand) (e : Entry) (s : State) → is_quiet e ≡ true → Ends m law (Some h) (tell e) s
+  ends-told : (h : Hand) (e : Entry) (s : State) → is_silent e ≡ true → Ends m law (Some h) (tell e) s
   unfolding machine_opened
   ends-told h e s quiet = dropped-first h (tell e) s (ends-going m law None (tell e) s (goes-tell m (acting m law) None [] Untouched e s quiet))
 
@@ -175,7 +177,7 @@ module _ (m : Moment) (law : Law m) where
       (λ r p e. over-ended n (delivery.answered result payload) s.bus
       (law.basis _ now).bus.outcomes (answers-open h n s.bus which)) tt)) told now
 
-  ends-forgotten : (h : Hand) (n : ℕ) (e : Entry) (s : State) → is_quiet e ≡ true → Forgets h n s.bus
+  ends-forgotten : (h : Hand) (n : ℕ) (e : Entry) (s : State) → is_silent e ≡ true → Forgets h n s.bus
       → Ends m law (Some h) (arriving.forgets n e) s
   unfolding machine_opened
   ends-forgotten h n e s quiet which told now = (
@@ -274,7 +276,7 @@ module _ (m : Moment) (law : Law m) where
       ends-by_label c at (RawReply label kind result payload) label result payload s
       (unclean-hand (hand_of c at (RawReply label kind result payload)) told s now refl) told now
 
-  quiet-dropped : (item : Item) → is_quiet (dropped item) ≡ true
+  quiet-dropped : (item : Item) → is_silent (dropped item) ≡ true
   quiet-dropped (Ask n) = refl
   quiet-dropped (Reply n result payload) = refl
   quiet-dropped (Raw bytes) = refl

@@ -15,6 +15,7 @@ use Rattle.gb_laws.proofs.Awaited.{awaited-rest}
 use Rattle.gb_laws.proofs.Basics.{basis-first, basis-kept, rested}
 use Rattle.gb_laws.proofs.Points.{Change, Law, acts_asked, acts_failed, acts_left, acts_opened, acts_shut, acts_told, answers, asks, binds, changed, drops, forgets, frees, gives_up, holds, injects, names, others, passes, replies, serves, spends, takes, takes_held, tells, turns, unwires, wires}
 use Rattle.gb_laws.proofs.PointParts.{AreQuiet, Basis, Point, asked_told, is_quiet, resting, sent_told}
+use Rattle.gb_laws.proofs.Silent.{silent-quiet}
 use Rattle.gb_machine.specs.Asking.{asked}
 use Rattle.gb_machine.specs.Bus.{Bus, Connection, next_number}
 use Rattle.gb_machine.specs.Sending.{Draft, sent_at_once}
@@ -138,7 +139,7 @@ untold : (a : Point) → Says a → SaysEnds (a.told ++ []) a.state.bus.outcomes
 untold a h = says-more a.told [] a.state.bus.outcomes tt h
 
 says-kept : (m : Moment) (a : Point) (x : Change m a) → Says a → Says (changed m a x)
-says-kept m a (tells e quiet) h = says-more a.told (e ∷ []) a.state.bus.outcomes (quiet-no-end e quiet, tt) h
+says-kept m a (tells e quiet) h = says-more a.told (e ∷ []) a.state.bus.outcomes (quiet-no-end e (silent-quiet e quiet), tt) h
 says-kept m a (asks d c label free live drawn who) h = says-asked a.told a.state.bus.outcomes d c label a.state.bus h
 says-kept m a (names name d c label free live drawn host) h = says-asked a.told a.state.bus.outcomes d c label a.state.bus h
 says-kept m a (binds x y n is) h = untold a h

@@ -12,6 +12,11 @@ use Rattle.gb_laws.proofs.Replies.{replies-by_moments}
 use Rattle.gb_laws.proofs.Replying.{ends-once_by_moments}
 use Rattle.gb_laws.proofs.Routed.{routed-by_moments}
 use Rattle.gb_laws.proofs.Single.{labels-by_moments, names-by_moments, one-item_by_moments}
+use Rattle.gb_laws.proofs.Remembering.{none-forgotten_at, remembered-for_one}
+use Rattle.gb_laws.proofs.ToldRuns.{absent-open_by_moments, absent-seen}
+use Rattle.gb_laws.specs.OwnSide.{AbsentHasNoOpenOfAp}
+use Rattle.gb_laws.proofs.OpenRuns.{open-live_by_moments}
+use Rattle.gb_machine.specs.Runs.{HoldsAtEachMoment, HoldsThroughout}
 use Rattle.gb_machine.specs.LawsBus.{
   EndpointsDiffer,
   HaveAwaited,
@@ -40,6 +45,9 @@ use Rattle.gb_machine.specs.LawsHotPlug.{
   HaveOwnItems,
   NoForeignMessage,
   AbsentAfterRemoval,
+  NoneForgotten,
+  OpenIsLive,
+  RememberedForOne,
   TakesFromItsConnection,
 }
 use Rattle.gb_machine.specs.LawsSvc.{
@@ -97,6 +105,23 @@ absent-after = (
   of-all AbsentIsUnconnected (of-state _) unconnected-by_moments,
   at-all AbsentBetween between-at_moments,
 )
+
+-- Each open request of the application processor is on a live connection.
+pub open-live : HoldsThroughout OpenIsLive
+open-live = of-all OpenIsLive (of-state _) open-live_by_moments
+
+-- Nothing that the application processor asked on a connection that named an absent interface is
+-- open.
+pub absent-open : HoldsThroughout AbsentHasNoOpenOfAp
+absent-open = of-all AbsentHasNoOpenOfAp absent-seen absent-open_by_moments
+
+-- Which connections were ever wired is never forgotten.
+pub none-forgotten : HoldsAtEachMoment NoneForgotten
+none-forgotten = at-all NoneForgotten none-forgotten_at
+
+-- A request is remembered for one connection.
+pub remembered-for : HoldsThroughout RememberedForOne
+remembered-for = of-all RememberedForOne (of-state _) remembered-for_one
 
 -- What is wired is routed.
 pub wired-routed : WiredMeansRouted

@@ -13,7 +13,8 @@ use Rattle.gb_invariants.proofs.ItemChanges.{asked_on-self}
 use Rattle.gb_invariants.proofs.Labels.{asked_on, asked_on-number}
 use Rattle.gb_laws.proofs.LinkLists.{find-changed}
 use Rattle.gb_laws.proofs.Points.{ActLaw, IsFarAsking, by_far, by_module, asks, tells}
-use Rattle.gb_laws.proofs.PointParts.{AreQuiet, Hand, Wires, is_quiet, sent_told}
+use Rattle.gb_laws.proofs.PointParts.{Hand, Wires, sent_told}
+use Rattle.gb_laws.proofs.PointParts.{is_silent, AreSilent}
 use Rattle.gb_machine.proofs.Opened.{machine_opened}
 use Rattle.gb_machine.specs.Actions.{Action, each, given, nothing, tell, tell_all, when, ◌▸◌}
 use Rattle.gb_machine.specs.Asking.{asked, asks as asking, asks_with}
@@ -105,11 +106,11 @@ module _ (m : Moment) (law : ActLaw m) where
   unfolding machine_opened
   goes-nothing hand acts wires s told at = subst (λ es. At hand acts wires es s) (sym (append-nil told)) at
 
-  pub goes-tell : (hand : Option Hand) (acts : List Act) (wires : Wires) (e : Entry) (s : State) → is_quiet e ≡ true → Stays hand acts wires (tell e) s
+  pub goes-tell : (hand : Option Hand) (acts : List Act) (wires : Wires) (e : Entry) (s : State) → is_silent e ≡ true → Stays hand acts wires (tell e) s
   unfolding machine_opened
   goes-tell hand acts wires e s quiet told at = law.kept _ (tells e quiet) tt at
 
-  pub goes-tell_all : (hand : Option Hand) (acts : List Act) (wires : Wires) (es : List Entry) (s : State) → AreQuiet es → Stays hand acts wires (tell_all es) s
+  pub goes-tell_all : (hand : Option Hand) (acts : List Act) (wires : Wires) (es : List Entry) (s : State) → AreSilent es → Stays hand acts wires (tell_all es) s
   unfolding machine_opened
   goes-tell_all hand acts wires [] s quiet told at = subst (λ es. At hand acts wires es s) (sym (append-nil told)) at
   goes-tell_all hand acts wires (e ∷ es) s quiet told at =
@@ -163,5 +164,5 @@ module _ (m : Moment) (law : ActLaw m) where
   goes-far_asks_all acts wires k [] s to = goes-nothing None acts wires s
   goes-far_asks_all acts wires k (x ∷ xs) s to =
       goes-▸ None None None acts acts acts wires wires wires (far_asks k x) (each xs (far_asks k)) s
-      (goes-far_asks acts wires k x s (λ c e. let p = to c e in by_module p.0 p.1 p.2))
+      (goes-far_asks acts wires k x s (λ c e. let p = to c e in by_module p.0 p.1 p.2 refl))
       (goes-far_asks_all acts wires k xs (far_asks k x s).state (to-asked k x s to))

@@ -7,7 +7,16 @@ pub mod AskedWaits
 pub mod Awaited
 pub mod Basics
 pub mod Causes
+pub mod ClosingTurns
+pub mod Closings
 pub mod Controls
+pub mod CreditsDelivered
+pub mod CreditsKept
+pub mod CreditsLines
+pub mod CreditsMoved
+pub mod CreditsRuns
+pub mod CreditsServed
+pub mod Delivered
 pub mod Delivering
 pub mod Ended
 pub mod Endpoints
@@ -24,11 +33,14 @@ pub mod LinkActs
 pub mod LinkBuses
 pub mod LinkChanges
 pub mod LinkClosing
+pub mod LinkDone
 pub mod LinkHosts
 pub mod LinkLaw
 pub mod LinkLists
 pub mod LinkRuns
+pub mod LinkSources
 pub mod LinkSteps
+pub mod LinkTells
 pub mod LinkTurns
 pub mod Linking
 pub mod Links
@@ -41,6 +53,9 @@ pub mod Midway
 pub mod Naming
 pub mod Noticing
 pub mod Onward
+pub mod OpenKept
+pub mod OpenRuns
+pub mod Opens
 pub mod OwnReplies
 pub mod Owned
 pub mod Owning
@@ -64,6 +79,7 @@ pub mod QuietTaken
 pub mod QuietTurns
 pub mod Reached
 pub mod Reading
+pub mod Remembering
 pub mod Removing
 pub mod Replies
 pub mod Replying
@@ -74,6 +90,8 @@ pub mod Serving
 pub mod SettleQueues
 pub mod Settles
 pub mod Settling
+pub mod Shutting
+pub mod Silent
 pub mod Since
 pub mod Single
 pub mod Speaking
@@ -85,6 +103,8 @@ pub mod Taking
 pub mod Telling
 pub mod There
 pub mod Ticking
+pub mod ToldLinks
+pub mod ToldRuns
 pub mod Turned
 pub mod WiredRuns
 pub mod WiredWell

@@ -18,6 +18,7 @@ use Rattle.gb_machine.specs.Bus.{Bus, Connection, has_number}
 use Rattle.gb_machine.specs.Host.{Host, is_link, with_new_link}
 use Rattle.gb_machine.specs.Lists.{at_first}
 use Rattle.gb_machine.specs.Members.{IsIn}
+use Rattle.gb_machine.specs.SequenceSteps.{asks_control}
 use Rattle.gb_machine.specs.Turns.{Act, Asking, Making}
 use Rattle.gb_machine.specs.Wiring.{attached, detached, new_connection, next_connection}
 
@@ -280,7 +281,16 @@ pub linked-opened : (b : Bus) (h : Host) (w : Making) (q : Asking) (rest : List 
     → Linked (attached w.ap w.intf w.cport w.protocol b) (with_new_link (next_connection b) w.ap w.intf w.cport w.protocol h) (Act.Ask q ∷ rest)
 linked-opened b h w q rest range f = record {
   host = host-more b h w q f.host free f.made range;
-  pending = ((due q.purpose.step free.step, f.pending.0.1, free.formed), subst (ArePending (with_new_link (next_connection b) w.ap w.intf w.cport w.protocol h)) (sym f.pending.0.1) tt);
+  pending = (
+    (
+      due q.purpose.step free.step,
+      f.pending.0.1,
+      free.formed,
+      λ e. absurd (own q.purpose.step free.step e),
+    ),
+    subst (ArePending (with_new_link (next_connection b) w.ap w.intf w.cport w.protocol h))
+        (sym f.pending.0.1) tt,
+  );
   known = λ c live. ⊎_elim
       (λ o. known-more c h.links (new_link (next_connection b) w) (Act.Open w q) (λ e. absurd cc)
       (subst (λ r. IsKnown c h.links (Act.Open w q ∷ r)) f.pending.0.1 (f.known c o)) (Act.Ask q ∷ rest))
@@ -297,6 +307,10 @@ linked-opened b h w q rest range f = record {
 
     free : IsFree w q h
     free = f.pending.0.0
+
+    own : (step : SequenceStep) → IsMaking w step → asks_control step ≡ true → ⊥
+    own step (control zero_cport) e = absurd cc
+    own step (connection other) e = absurd cc
 
     last : (ls : List Link) → IsIn (new_link (next_connection b) w) (ls ++ new_link (next_connection b) w ∷ [])
     last [] = inl refl

@@ -20,7 +20,8 @@ pub linked-sent : {b : Bus} {h : Host} {acts : List Act} (d : Draft) (label : �
     → Linked (sent d label b) h acts
 linked-sent {b} {h} {acts} d label f = linked-from b (sent d label b) h acts refl
     (from-first b (sent d label b) d.connection (asked_on d label b) refl
-    (λ c i on. from-self c (asked_on d label b c) (asked-speaks d label b c) (asked_on-self d label b c))) f
+    (λ c i on. from-self c (asked_on d label b c) (asked-speaks d label b c)
+    (asked_on-self d label b c))) f
 
 -- an item is taken
 pub linked-popped : {b : Bus} {h : Host} {acts : List Act} (k : ℕ) (at : Side) → Linked b h acts

@@ -1,17 +1,20 @@
 -- Laws of lists of the application processor's connections.
-use Rattle.std.proofs.Common.{◌≡◌, ◌⊎◌, ◌≤◌, ◌<◌, ℕ, zero, suc, ◌+◌, Bool, true, false, cond, Some, None, List, [], ◌∷◌, refl, sym, ap, ◌∙◌, inl, inr, ⊎_elim, arith}
+use Rattle.std.proofs.Common.{◌≡◌, ◌⊎◌, ◌≤◌, ◌<◌, ℕ, zero, suc, ◌+◌, Bool, true, false, cond, Option, Some, None, List, [], ◌∷◌, refl, sym, ap, ◌∙◌, inl, inr, ⊎_elim, arith}
 use Rattle.std.proofs.lemmas.Bool.Decides.{nat_tests}
 use Rattle.std.specs.Prelude.{◌==◌, ◌||◌, option_map, not}
 use Rattle.std.specs.List.{find, list_any}
 use Rattle.gb_base.specs.declared.peers.Interface.{Interface}
 use Rattle.gb_base.specs.declared.peers.Link.{Link}
 use Rattle.gb_invariants.proofs.Awaiting.{not-both, same-some}
-use Rattle.gb_invariants.proofs.Lists.{each-from, each-in}
+use Rattle.gb_invariants.proofs.Lists.{each-from, each-in, found-in}
 use Rattle.gb_invariants.proofs.Outcomes.{both-true, is-same, same-number}
 use Rattle.gb_laws.proofs.Links.{AreOther, IsLinkBefore}
-use Rattle.gb_machine.specs.Host.{is_intf, is_link}
+use Rattle.gb_base.specs.declared.steps.Purpose.{Purpose}
+use Rattle.gb_machine.specs.Host.{Host, control_of, is_intf, is_link, link_at}
 use Rattle.gb_machine.specs.Lists.{at_first, first_free, in_order, without}
 use Rattle.gb_machine.specs.Members.{EachTwo, IsIn}
+use Rattle.gb_machine.specs.SequenceSteps.{asks_control}
+use Rattle.gb_machine.specs.Sequences.{way_of}
 
 -- ---- what is found
 
@@ -155,6 +158,20 @@ found-at (x ∷ xs) l rise (inr i) =
         let p = link-is l.intf l.cport x e in
         let is = is-link x.intf x.cport l (sym p.0) (sym p.1) in
         absurd (not-both (is_link x.intf x.cport l) is (each-in (IsLinkBefore x) xs l rise.0 i).apart)
+
+-- The request of a step to a module's Control goes on its Control connection.
+pub on-control : (p : Purpose) (h : Host) (k : ℕ) → way_of p h ≡ Some k → asks_control p.step ≡ true
+    → (l : Link) × IsIn l h.links × (l.connection ≡ k) × (l.cport ≡ 0)
+on-control p h k way own = at (link_at p.intf 0 h) refl
+    (sym (ap (λ c. cond c (control_of p.intf h) (Some 1)) own) ∙ way)
+  where
+    at : (o : Option Link) → link_at p.intf 0 h ≡ o
+        → option_map (λ (l : Link). l.connection) o ≡ Some k
+        → (l : Link) × IsIn l h.links × (l.connection ≡ k) × (l.cport ≡ 0)
+    at None e f = absurd cc
+    at (Some l) e f =
+        let i = found-in (is_link p.intf 0) h.links l e in
+        (l, i.0, same-some l.connection k f, (link-is p.intf 0 l i.1).1)
 
 -- ---- interfaces
 

@@ -18,7 +18,7 @@ use Rattle.gb_invariants.proofs.Lists.{found-in, in-without}
 use Rattle.gb_formats.specs.ControlRecords.{read_control_reply}
 use Rattle.gb_base.specs.declared.entry.IntfStage.TheVariants as stage
 use Rattle.gb_laws.proofs.LinkHosts.{Onto, kept-same, onto-interface, onto-link, onto-then, host-interface, host-link, links-without, next-interface, next-to, none-without, same-link, state-link, then-same, without-in}
-use Rattle.gb_laws.proofs.LinkLists.{find-none, first_free-is, found-at, link-is, none-any}
+use Rattle.gb_laws.proofs.LinkLists.{on-control, find-none, first_free-is, found-at, link-is, none-any}
 use Rattle.gb_laws.proofs.Links.{IsDueBy, IsFormed, IsNext, ArePending, HostFits, IsAtStep, IsDue, IsFollowed, IsIdle, IsWaiting, SameLink, TurnFits, control, leaves, stays}
 use Rattle.gb_machine.specs.Arriving.{state_takes}
 use Rattle.gb_machine.specs.Bus.{Bus}
@@ -172,7 +172,15 @@ fits-asked b p h fits due other = by (way_of p h) refl
     by None e = fits-failed b p.step p h fits due
     by (Some k) e = record {
       host = fits;
-      pending = ((due, refl, formed-asking b p h k (target (ap_in (link_at p.intf p.cport h)) p h) fits e refl other), tt);
+      pending = (
+        (
+          due,
+          refl,
+          formed-asking b p h k (target (ap_in (link_at p.intf p.cport h)) p h) fits e refl other,
+          on-control p h k e,
+        ),
+        tt,
+      );
       followed = followed-same h.links _;
       kept = kept-same h.interfaces;
     }

@@ -36,7 +36,7 @@ use Rattle.gb_machine.specs.Waits.{awaited, awaits_nothing, interface_waits, lin
 -- ---- a request ended
 
 -- a step that waits, from an interface or from a connection
-data WaitsFor (h : Host) (p : Purpose) : Type 0 where
+pub data WaitsFor (h : Host) (p : Purpose) : Type 0 where
   enumerating : (x : Interface) → IsIn x h.interfaces → p.intf ≡ x.intf → p.cport ≡ 0 → (w : ℕ × SequenceStep) → x.awaits ≡ Some w
       → p.step ≡ w.1 → WaitsFor h p
   connecting : (l : Link) → IsIn l h.links → p.intf ≡ l.intf → p.cport ≡ l.cport → (w : ℕ × SequenceStep) → l.awaits ≡ Some w
@@ -138,10 +138,10 @@ step-connects steps.AskSize s h = absurd h
 step-connects steps.AskManifest s h = absurd h
 
 -- What is known once a sequence waits no more for a request that ended.
-record Resumed (b : Bus) (p : Purpose) (h g : Host) : Type 0 where
-  host : HostFits b g
-  due : IsDue p.step p g
-  onto : Onto h g
+pub record Resumed (b : Bus) (p : Purpose) (h g : Host) : Type 0 where
+  pub host : HostFits b g
+  pub due : IsDue p.step p g
+  pub onto : Onto h g
 
 no-wait : (w : ℕ × SequenceStep) → None ≡ Some w → ⊥
 no-wait w f = absurd cc
@@ -188,7 +188,7 @@ resumed-link b p h fits l i intf cport other at = record {
         ∙ ap (option_map idle_link) (ap (λ x. find (is_link x p.cport) h.links) intf ∙ ap (λ x. find (is_link l.intf x) h.links) cport
         ∙ found-at h.links l fits.links.rise i)) ∙ f)
 
-resumed : (b : Bus) (p : Purpose) (h : Host) → HostFits b h → WaitsFor h p → Resumed b p h (awaits_nothing p h)
+pub resumed : (b : Bus) (p : Purpose) (h : Host) → HostFits b h → WaitsFor h p → Resumed b p h (awaits_nothing p h)
 resumed b p h fits (enumerating x i at zero_cport w awaits step) =
     let is = fits.interfaces x i w awaits in
     let enumeration = ap is_enumeration step ∙ is.0 in
@@ -203,7 +203,7 @@ resumed b p h fits (connecting l i intf cport w awaits step) =
     (step-connects p.step l.state at)))
     (resumed-link b p h fits l i intf cport waits.0 at)
 
-waits-for : (b : Bus) (n : ℕ) (h : Host) (p : Purpose) → HostFits b h → awaited n h ≡ Some p → WaitsFor h p
+pub waits-for : (b : Bus) (n : ℕ) (h : Host) (p : Purpose) → HostFits b h → awaited n h ≡ Some p → WaitsFor h p
 waits-for b n h p fits e = by (interface_waits n h.interfaces) refl e
   where
     by : (o : Option Purpose) → interface_waits n h.interfaces ≡ o → or_else o (link_waits n h.links) ≡ Some p → WaitsFor h p

@@ -160,10 +160,10 @@ linked-kept m absent a (acts_opened w q rest free is) basis h =
 linked-kept m absent a (acts_asked q n rest is) basis h = linked-asked q n rest a.state (subst (Linked a.state.bus a.state.host) is.0 h)
 linked-kept m absent a (acts_failed q rest is quiet) basis h = linked-unsent q rest a.pending a.state.bus a.state.host is h
 linked-kept m absent a (serves k kind payload none) basis h =
-    subst (Linked a.state.bus (host_serves k kind payload a.state.host).host) (sym none)
-    (linked-served k kind payload a.state.bus a.state.host (subst (Linked a.state.bus a.state.host) none h))
+    subst (Linked a.state.bus (host_serves k kind payload a.state.host).host) (sym none.0)
+    (linked-served k kind payload a.state.bus a.state.host (subst (Linked a.state.bus a.state.host) none.0 h))
 linked-kept m absent a (spends i c what none) basis h =
-    subst (Linked a.state.bus (with_link i c (spent what) a.state.host)) (sym none)
-    (linked-link i c (λ l. l.credits - credits_taken what) a.state.bus a.state.host (subst (Linked a.state.bus a.state.host) none h))
+    subst (Linked a.state.bus (with_link i c (spent what) a.state.host)) (sym none.0)
+    (linked-link i c (λ l. l.credits - credits_taken what) a.state.bus a.state.host (subst (Linked a.state.bus a.state.host) none.0 h))
 linked-kept m absent a (passes millis) basis h = h
 linked-kept m absent a (others booted marks ports modules same) basis h = h

@@ -160,9 +160,15 @@ pub record IsFree (w : Making) (q : Asking) (h : Host) : Type 0 where
   pub present : IsPresent w.intf h.interfaces
   pub formed : IsFormed q
 
+-- a request to a module's Control goes on its Control connection
+abbrev pub IsOnControl : Host → Asking → Type 0
+IsOnControl h q = asks_control q.purpose.step ≡ true
+    → (l : Link) × IsIn l h.links × (l.connection ≡ q.on) × (l.cport ≡ 0)
+
 -- an act that is pending, with those behind it
 abbrev pub IsPending : Host → Act → List Act → Type 0
-IsPending h (Act.Ask q) rest = IsDue q.purpose.step q.purpose h × (rest ≡ []) × IsFormed q
+IsPending h (Act.Ask q) rest =
+    IsDue q.purpose.step q.purpose h × (rest ≡ []) × IsFormed q × IsOnControl h q
 IsPending h (Act.Open w q) rest = IsFree w q h × (rest ≡ [])
 IsPending h (Act.Shut k) rest = (2 ≤ k) × ((l : Link) → IsIn l h.links → l.connection ≡ k → IsDeaf l)
 IsPending h (Act.Leave k) rest = 2 ≤ k

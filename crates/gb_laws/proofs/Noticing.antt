@@ -78,7 +78,7 @@ told-by e (Ok (SvcAsk.Hello endo intf)) h f = absurd cc
 told-by e (Ok _) h f = absurd cc
 
 -- a request of the far side is read as any other is, or is none of its
-far-reads : {A : Type 0} (row : Option (Row A)) (payload : List ℕ)
+pub far-reads : {A : Type 0} (row : Option (Row A)) (payload : List ℕ)
     → (read_row (if_own row) payload ≡ read_row row payload) ⊎ (read_row (if_own row) payload ≡ Err PayloadFault.UnknownKind)
 far-reads None payload = inl refl
 far-reads (Some row) payload = by row.own

@@ -141,6 +141,14 @@ is_quiet _ = true
 abbrev pub AreQuiet : List Entry → Type 0
 AreQuiet es = Each (λ e. is_quiet e ≡ true) es
 
+-- an entry is quiet, and tells of no connection
+abbrev pub is_silent : Entry → Bool
+is_silent (entry.Connection k ap i c state) = false
+is_silent e = is_quiet e
+
+abbrev pub AreSilent : List Entry → Type 0
+AreSilent es = Each (λ e. is_silent e ≡ true) es
+
 -- what is told behind the request of a draft: a unidirectional one ends at once
 abbrev pub sent_told : Bool → ℕ → List Entry
 sent_told true n = entry.Ended n outcome.Sent reading.Nothing ∷ []
@@ -164,6 +172,22 @@ pub record IsNoticed (m : Moment) (e : HostEvent) : Type 0 where
   pub front : first (queue place.side place.connection) ≡ Some item
   pub made : request_in item m.before.bus ≡ Some request
   pub notices : (host_serves place.connection.number request.kind request.payload m.before.host).notices ≡ Some e
+
+-- At this moment a request is delivered at the application processor, on connection k, of a type and
+-- with a payload.
+pub record IsServed (m : Moment) (k type : ℕ) (bytes : List ℕ) : Type 0 where
+  pub at : End
+  pub place : Place
+  pub item : Item
+  pub request : Incoming
+  pub event : m.event ≡ event.Deliver at
+  pub named : place_of at m.before.bus.connections ≡ Some place
+  pub side : place.side ≡ side.Ap
+  pub front : first (queue place.side place.connection) ≡ Some item
+  pub made : request_in item m.before.bus ≡ Some request
+  pub on : place.connection.number ≡ k
+  pub kind : request.kind ≡ type
+  pub payload : request.payload ≡ bytes
 
 -- Why the application processor takes notice of something at a moment, its host being as it was
 -- before, but where a request ended.

@@ -34,7 +34,7 @@ use Rattle.gb_base.specs.declared.event.Event.TheVariants as event
 use Rattle.gb_base.specs.declared.name.Name.{Name}
 use Rattle.gb_base.specs.declared.outcome.Outcome.{Outcome}
 use Rattle.gb_base.specs.declared.outcome.Outcome.TheVariants as outcome
-use Rattle.gb_machine.specs.Arriving.{reading_for, with_held}
+use Rattle.gb_machine.specs.Arriving.{reading_for, state_takes, with_held}
 use Rattle.gb_machine.specs.Bus.{
   Bus,
   Connection,
@@ -85,6 +85,7 @@ pub use Rattle.gb_laws.proofs.PointParts.{
   IsGivenUpFor,
   IsLate,
   IsNoticed,
+  IsServed,
   IsShutFor,
   IsStill,
   Point,
@@ -94,6 +95,7 @@ pub use Rattle.gb_laws.proofs.PointParts.{
   Wires,
   asked_told,
   is_quiet,
+  is_silent,
   loose,
   loose_hand,
   loose_held,
@@ -146,10 +148,15 @@ IsOfSvc (event.InsertRaw i manifest) = Unit {0}
 IsOfSvc (event.Pull i) = Unit {0}
 IsOfSvc _ = ⊥
 
+-- an event that is a bridge line
+abbrev pub IsBridge : Event → Type 0
+IsBridge (event.Bridge name i c what) = Unit {0}
+IsBridge _ = ⊥
+
 -- A far side asks on a connection: a module, or the supervisory controller at an event that concerns
 -- it, which tells the removal of an interface once that has no power.
 pub data IsFarAsking (m : Moment) (s : State) (c : Connection) (d : Draft) : Type 0 where
-  by_module : (i p : ℕ) → c.peer ≡ end.Module i p → IsFarAsking m s c d
+  by_module : (i p : ℕ) → c.peer ≡ end.Module i p → d.side ≡ side.Far → IsFarAsking m s c d
   by_svc : IsOfSvc m.event → d.side ≡ side.Far → ((i : ℕ) → removes i (read_svc_ask d.kind d.payload) ≡ true
       → level_of i s.ports ≡ 0) → IsFarAsking m s c d
 
@@ -173,10 +180,12 @@ IsOver (HostEvent.Ended n how) b =
     → is_awaited n b ≡ false
 IsOver _ b = Unit {0}
 
--- what a line asks is no request of a sequence, or is on the connection of a module
+-- What a line asks is no request of a sequence and goes to the supervisory controller, or it is on
+-- the connection of a module, where something is taken.
 abbrev pub IsPlain : State → Draft → Type 0
-IsPlain s d = (is_reserved d.kind ≡ false)
-    ⊎ ((l : Link) × IsIn l s.host.links × (d.connection ≡ l.connection))
+IsPlain s d = ((is_reserved d.kind ≡ false) × (d.connection ≡ 1))
+    ⊎ ((l : Link) × IsIn l s.host.links × (d.connection ≡ l.connection)
+    × (state_takes l.state ≡ true))
 
 -- the manifests of modules fit into a message
 abbrev pub AreShort : List Plugged → Type 0
@@ -237,15 +246,15 @@ pub record IsIdle (a : Point) : Type 0 where
 
 -- A single change at a point.
 pub data Change (m : Moment) (a : Point) : Type 0 where
-  -- something is told that is no end, no reply, no injection and no opening
-  tells : (e : Entry) → is_quiet e ≡ true → Change m a
+  -- something is told that is no end, no reply, no injection and of no connection
+  tells : (e : Entry) → is_silent e ≡ true → Change m a
   -- a request is made, and gets a name or none
   asks : (d : Draft) (c : Connection) (label : ℕ) → a.hand ≡ None
       → connection_of d.connection a.state.bus ≡ Some c
       → label_for d a.state.bus ≡ Some label → IsAskedBy m a c d → Change m a
   names : (name : Name) (d : Draft) (c : Connection) (label : ℕ) → a.hand ≡ None
       → connection_of d.connection a.state.bus ≡ Some c
-      → label_for d a.state.bus ≡ Some label → (d.side ≡ side.Ap) × IsPlain a.state d
+      → label_for d a.state.bus ≡ Some label → (d.side ≡ side.Ap) × IsPlain a.state d × (a.pending ≡ [])
       → Change m a
   -- a name gets a request that another has, or is free
   binds : (x y : Name) (n : ℕ) → named x a.state.names ≡ Some n → Change m a
@@ -284,8 +293,9 @@ pub data Change (m : Moment) (a : Point) : Type 0 where
       → (a.pending ≡ Act.Ask q ∷ rest) × (a.asked ≡ Some (q, n)) → Change m a
   acts_failed : (q : Asking) (rest : List Act) → IsAsking q a.pending rest → AreQuiet (unsent q.purpose a.state.host).told → Change m a
   -- it serves a request, or spends credits
-  serves : (k kind : ℕ) (payload : List ℕ) → a.pending ≡ [] → Change m a
-  spends : (i c : ℕ) (what : BridgeAsk) → a.pending ≡ [] → Change m a
+  serves : (k kind : ℕ) (payload : List ℕ) → (a.pending ≡ []) × IsServed m k kind payload
+      × (a.state.host ≡ m.before.host) → Change m a
+  spends : (i c : ℕ) (what : BridgeAsk) → (a.pending ≡ []) × IsBridge m.event → Change m a
   -- time passes
   passes : (millis : ℕ) → Change m a
   -- something else changes that is no matter of requests

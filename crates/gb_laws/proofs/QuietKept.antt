@@ -196,7 +196,7 @@ pub view-far : (m : Moment) (i : ℕ) (a b : Point) (d : Draft) (c : Connection)
     → connection_of d.connection a.state.bus ≡ Some c
     → b.state.bus ≡ sent d label a.state.bus → b.state.ports ≡ a.state.ports → b.hand ≡ a.hand
     → IsFarAsking m a.state c d → SameView i a b
-view-far m i a b d c label basis links there found bus ports hand (by_module j p peer) =
+view-far m i a b d c label basis links there found bus ports hand (by_module j p peer far) =
     view-asked i a b d label basis bus (ap (level_of i) ports) hand
     (not-svc a d c j p links found peer)
 view-far m i a b d c label basis links there found bus ports hand (by_svc of far zero) =

@@ -146,7 +146,7 @@ module _ (m : Moment) (i : ℕ) (before : Basis (resting m.told m.before))
           (λ f. not-both (d.connection == 1) (ap (λ n. n == 1) f) e)
 
       by : IsPlain a.state d → SameView i a (changed m a (names name d c label free live is host))
-      by (inl r) = on (d.connection == 1) refl r
+      by (inl r) = on (d.connection == 1) refl r.0
       by (inr l) = view-asked i a (changed m a (names name d c label free live is host)) d label
           basis refl refl refl (λ e. two-one l.0.connection
           (links.host.links.numbered l.0 l.1).from_two (sym l.2 ∙ e))

@@ -23,6 +23,7 @@ use Rattle.gb_laws.proofs.Points.{Change, Law, acts_asked, acts_failed, acts_lef
 use Rattle.gb_laws.proofs.PointParts.{AreQuiet, Basis, Hand, Point, asked_told, is_quiet, loose, loose_hand, loose_held, resting, sent_told}
 use Rattle.gb_laws.proofs.Runs.{HoldsByMoments, throughout}
 use Rattle.gb_laws.proofs.Steps.{over-step}
+use Rattle.gb_laws.proofs.Silent.{silent-quiet}
 use Rattle.gb_machine.proofs.Lists.{nth-past}
 use Rattle.gb_machine.specs.Bus.{Ask, Bus, Connection, Item, Raw, RawReply, Reply, Request, next_number, other_side, request_of}
 use Rattle.gb_machine.specs.Incoming.{Incoming, incoming, incoming_raw, is_request, raw_request, reply_entry, reply_item, request_in}
@@ -257,7 +258,7 @@ ended-no-replies [] = tt
 ended-no-replies (n ∷ ns) = ((λ k. refl), ended-no-replies ns)
 
 once-kept : (m : Moment) (a : Point) (x : Change m a) → Basis a → RepliesOnce a → RepliesOnce (changed m a x)
-once-kept m a (tells e quiet) basis h = once-fewer a _ (e ∷ []) refl (quiet-no-reply e quiet, tt) (λ n r made. made) (λ n. omega arith) h
+once-kept m a (tells e quiet) basis h = once-fewer a _ (e ∷ []) refl (quiet-no-reply e (silent-quiet e quiet), tt) (λ n r made. made) (λ n. omega arith) h
 once-kept m a (asks d c label free live drawn who) basis h = once-asked a _ d c label basis refl refl refl refl h
 once-kept m a (names name d c label free live drawn host) basis h = once-asked a _ d c label basis refl refl refl refl h
 once-kept m a (binds x y n is) basis h = once-fewer a _ [] refl tt (λ n r made. made) (λ n. omega arith) h

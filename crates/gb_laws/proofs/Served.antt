@@ -9,7 +9,7 @@ use Rattle.gb_formats.specs.Records.{PayloadFault}
 use Rattle.gb_formats.specs.SvcRecords.{SvcAsk, read_svc_ask_of_svc}
 use Rattle.gb_formats.specs.UartDevice.{credits_added}
 use Rattle.gb_formats.specs.UartRecords.{UartAsk, read_uart_ask_of_module}
-use Rattle.gb_laws.proofs.PointParts.{is_quiet}
+use Rattle.gb_laws.proofs.PointParts.{is_silent}
 use Rattle.gb_machine.specs.Host.{Host, link_of}
 use Rattle.gb_machine.specs.HostServing.{HostServed, credited, host_refuses, host_serves, interrupted, notified_by, served_on, serves_gpio, serves_uart, uart_notified_by}
 use Rattle.gb_machine.specs.Turns.{HostEvent}
@@ -17,7 +17,7 @@ use Rattle.gb_machine.specs.Turns.{HostEvent}
 -- what is told, if anything, is quiet
 abbrev pub IsQuietly : Option Entry → Type 0
 IsQuietly None = Unit {0}
-IsQuietly (Some e) = is_quiet e ≡ true
+IsQuietly (Some e) = is_silent e ≡ true
 
 -- How the application processor serves a request.
 pub data ServedAs (h : Host) (r : HostServed) : Type 0 where

@@ -7,19 +7,19 @@ use Rattle.gb_base.specs.declared.end.End.TheVariants as end
 use Rattle.gb_base.specs.declared.end.Side.{Side}
 use Rattle.gb_base.specs.declared.end.Side.TheVariants as side
 use Rattle.gb_base.specs.declared.entry.Entry.{Entry}
-use Rattle.gb_base.specs.declared.event.Event.TheVariants as event
 use Rattle.gb_formats.specs.Module.{Module}
 use Rattle.gb_formats.specs.ModuleSteps.{module_serve}
 use Rattle.gb_formats.specs.Results.{Step}
 use Rattle.gb_invariants.proofs.Awaiting.{same-some}
 use Rattle.gb_invariants.proofs.Lists.{found-in}
+use Rattle.gb_laws.proofs.Delivered.{IsTaken, noticed, served-at, serving-of}
 use Rattle.gb_laws.proofs.LinkLists.{none-any}
 use Rattle.gb_invariants.proofs.Outcomes.{both-true}
 use Rattle.gb_laws.proofs.Acting.{goes-notices}
 use Rattle.gb_laws.proofs.Going.{At, Goes, IsToModule, goes-far_asks_all, goes-nothing, goes-tell, goes-▸}
 use Rattle.gb_laws.proofs.Places.{ComesFrom, LivesOn, comes-after, lives-after, same_end-is}
 use Rattle.gb_laws.proofs.Points.{IsAfterReply, IsLive, IsOver, IsServing, Law, PortsFrom, acting, as_before, loses_route, others, served, serves, unwires, wires}
-use Rattle.gb_laws.proofs.PointParts.{Hand, IsCaused, IsNoticed, Untouched, Unwired, Wired, Wires}
+use Rattle.gb_laws.proofs.PointParts.{IsServed, Hand, IsCaused, IsNoticed, Untouched, Unwired, Wired, Wires}
 use Rattle.gb_laws.proofs.Served.{IsQuietly, ServedAs, inserting, plainly, removing, served as served_as}
 use Rattle.gb_machine.proofs.Opened.{machine_opened}
 use Rattle.gb_machine.specs.Actions.{Action, change, given, nothing, on_host, tell, ◌▸◌}
@@ -27,12 +27,11 @@ use Rattle.gb_laws.proofs.Manifests.{serve-manifest, short-at}
 use Rattle.gb_laws.proofs.Points.{AreShort}
 use Rattle.gb_laws.proofs.Stepping.{module-plugs}
 use Rattle.gb_machine.specs.Refusals.{longest_manifest}
-use Rattle.gb_machine.specs.Bus.{Bus, Connection, Item, Place, connection_of, place_of, queue, same_end}
-use Rattle.gb_machine.specs.Delivery.{popped}
+use Rattle.gb_machine.specs.Bus.{Bus, Connection, connection_of, same_end}
 use Rattle.gb_machine.specs.Host.{Host}
 use Rattle.gb_machine.specs.HostActs.{notices}
 use Rattle.gb_machine.specs.HostServing.{HostServed, host_serves}
-use Rattle.gb_machine.specs.Incoming.{Incoming, request_in}
+use Rattle.gb_machine.specs.Incoming.{Incoming}
 use Rattle.gb_machine.specs.Lists.{first}
 use Rattle.gb_machine.specs.Members.{IsIn}
 use Rattle.gb_machine.specs.Modules.{module_at, with_module}
@@ -71,69 +70,6 @@ joining-live a i c b x t h w =
 -- what has the number of a connection has its far end
 abbrev pub HasPeer : ℕ → End → Bus → Type 0
 HasPeer k e b = (c : Connection) → connection_of k b ≡ Some c → c.peer ≡ e
-
--- ---- what is known of a request that is served at a moment
-
--- What is served is what was delivered at this moment, which was taken alone, or was held by a
--- module.
-pub data IsTaken (m : Moment) (s : State) (c : Connection) : Side → Incoming → Type 0 where
-  delivered : (at : End) (p : Place) (item : Item) (q : Incoming) → m.event ≡ event.Deliver at
-      → place_of at m.before.bus.connections ≡ Some p
-      → first (queue p.side p.connection) ≡ Some item
-      → p.connection ≡ c → request_in item m.before.bus ≡ Some q
-      → s ≡ record m.before { bus = popped p.connection.number p.side m.before.bus }
-      → IsTaken m s c p.side q
-  answered : (i p : ℕ) (q : Incoming) → c.peer ≡ end.Module i p → IsTaken m s c side.Far q
-
-noticed : (m : Moment) (s : State) (c : Connection) (at : Side) (q : Incoming) (e : HostEvent)
-    → IsTaken m s c at q → at ≡ side.Ap
-    → (host_serves c.number q.kind q.payload m.before.host).notices ≡ Some e → IsNoticed m e
-noticed m s c at q e (delivered to p item r event_is named front is made from) ap_side h = record {
-  at = to;
-  place = p;
-  item = item;
-  request = r;
-  event = event_is;
-  named = named;
-  side = ap_side;
-  front = front;
-  made = made;
-  notices = ap (λ (x : Connection). (host_serves x.number r.kind r.payload m.before.host).notices)
-      is ∙ h;
-}
-noticed m s c at q e (answered i p r peer) ap_side h = absurd cc
-
--- what the supervisory controller serves stands in front toward it
-serving-of : (m : Moment) (s u : State) (c : Connection) (at : Side) (q : Incoming)
-    → IsTaken m s c at q → at ≡ side.Far → c.peer ≡ end.Svc
-    → IsAfterReply c.number at q s.bus u.bus → u.host ≡ s.host → u.ports ≡ s.ports
-    → IsServing m u q
-serving-of m s u c at q (delivered to p item r event_is named front is made from) far peer way host
-    ports = record {
-      at = to;
-      place = p;
-      item = item;
-      event = event_is;
-      named = named;
-      far = far;
-      svc = ap (λ (x : Connection). x.peer) is ∙ peer;
-      front = front;
-      made = made;
-      host = host ∙ ap (λ (t : State). t.host) from;
-      ports = ports ∙ ap (λ (t : State). t.ports) from;
-      bus = subst (λ t. IsAfterReply p.connection.number side.Far r
-          (popped p.connection.number t m.before.bus) u.bus) far
-          (subst (λ t. IsAfterReply p.connection.number t r
-          (popped p.connection.number p.side m.before.bus) u.bus) far
-          (subst (λ (b : Bus). IsAfterReply p.connection.number p.side r b u.bus)
-          (ap (λ (t : State). t.bus) from)
-          (subst (λ (x : Connection). IsAfterReply x.number p.side r s.bus u.bus) (sym is) way)));
-    }
-serving-of m s u c at q (answered i p r module_peer) far peer way host ports =
-    absurd (other (sym module_peer ∙ peer))
-  where
-    other : end.Module i p ≡ end.Svc → ⊥
-    other e = absurd cc
 
 -- where the levels of what is served come from
 abbrev pub Comes : (m : Moment) (u : State) → SvcServed → List Port → Type 0
@@ -320,11 +256,12 @@ module _ (m : Moment) (law : Law m) where
       takes_notice (Some x) None c = goes-nothing m (acting m law) None [] Untouched (record u { host = host })
       takes_notice (Some x) (Some e) c = goes-notices m (acting m law) e (record u { host = host }) (c e refl).1 (c e refl).0
 
-  ends-served : (k kind : ℕ) (payload : List ℕ) (u : State) → u.host ≡ m.before.host
+  ends-served : (k kind : ℕ) (payload : List ℕ) (u : State) → IsServed m k kind payload
+      → u.host ≡ m.before.host
       → ((e : HostEvent) → (host_serves k kind payload m.before.host).notices ≡ Some e → IsNoticed m e)
       → Ends None (host_behind (host_serves k kind payload m.before.host)) u
   unfolding machine_opened
-  ends-served k kind payload u host notice =
+  ends-served k kind payload u at_ap host notice =
       ends-going None (host_behind r) u
       (goes-behind r.host r.told r.notices u first (quiet (served_as k kind payload m.before.host))
       (λ e n. (
@@ -338,7 +275,7 @@ module _ (m : Moment) (law : Law m) where
       first : Goes m (acting m law) None [] Untouched None [] Untouched (on_host (λ old. (host_serves k kind payload m.before.host).host)) u
       first told at =
           subst (λ h. At m (acting m law) None [] Untouched (told ++ []) (record u { host = (host_serves k kind payload h).host })) host
-          (law.kept _ (serves k kind payload refl) at)
+          (law.kept _ (serves k kind payload (refl, at_ap, host)) at)
 
       quiet : ServedAs m.before.host (host_serves k kind payload m.before.host) → IsQuietly (host_serves k kind payload m.before.host).told
       quiet (plainly q n) = q
@@ -378,7 +315,7 @@ module _ (m : Moment) (law : Law m) where
   unfolding machine_opened
   ends-response c side.Ap q s u taken way ports modules peer before same =
       subst (λ h. Ends None (host_behind (host_serves c.number q.kind q.payload h)) u) (sym before)
-      (ends-served c.number q.kind q.payload u (same ∙ before)
+      (ends-served c.number q.kind q.payload u (served-at m s c side.Ap q taken refl) (same ∙ before)
       (λ e n. noticed m s c side.Ap q e taken refl n))
   ends-response c side.Far q s u taken way ports modules peer before same =
       ends-far c.peer c.number q s u (lives-after way) (comes-after way) ports modules peer

@@ -26,10 +26,11 @@ use Rattle.gb_invariants.proofs.Lists.{found-in, two-at_first}
 use Rattle.gb_invariants.proofs.Numbers.{found-number, same-connection}
 use Rattle.gb_invariants.specs.Facts.{IsBefore}
 use Rattle.gb_laws.proofs.Places.{at_first-back, module-far, place-is}
+use Rattle.gb_laws.proofs.PointParts.{AreSilent}
 use Rattle.gb_machine.specs.Members.{EachTwo, IsIn}
 use Rattle.std.specs.List.{find}
-use Rattle.gb_laws.proofs.Points.{IsOfSvc, IsPlain, as_before, SamePlugs, by_svc, Law, acting, binds, gives_up as giving_up, injects as injecting, names, others, spends}
-use Rattle.gb_laws.proofs.PointParts.{AreQuiet, IsGivenUpFor, Untouched}
+use Rattle.gb_laws.proofs.Points.{IsBridge, IsOfSvc, IsPlain, as_before, SamePlugs, by_svc, Law, acting, binds, gives_up as giving_up, injects as injecting, names, others, spends}
+use Rattle.gb_laws.proofs.PointParts.{IsGivenUpFor, Untouched}
 use Rattle.gb_machine.proofs.Conditions.{AreUnmet, free}
 use Rattle.gb_machine.proofs.Opened.{machine_opened}
 use Rattle.gb_machine.proofs.Options.{none-of}
@@ -54,6 +55,10 @@ use Rattle.gb_machine.specs.Plugging.{boots, plugs, tells_inserted, with_plugged
 use Rattle.gb_machine.specs.Refusals.{has_no_label, is_long_payload, module_place, refusal}
 use Rattle.gb_laws.proofs.Manifests.{short-at, short-changed, short-plugged, stir-manifest}
 use Rattle.gb_laws.proofs.Points.{AreShort}
+use Rattle.gb_base.specs.declared.entry.ConnState.{ConnState}
+use Rattle.gb_base.specs.declared.entry.ConnState.TheVariants as state
+use Rattle.gb_machine.specs.Arriving.{state_takes}
+use Rattle.gb_machine.specs.HostRefusals.{is_closing, is_failed, is_unopened, link_conditions}
 use Rattle.gb_machine.specs.Requests.{gave_up}
 use Rattle.gb_machine.specs.Refusals.{longest_manifest}
 use Rattle.gb_machine.specs.Runs.{Moment}
@@ -110,6 +115,18 @@ powered-off : (i j : ℕ) (ports : List Port) (t : Bool)
     (port_of j ports)) ≡ 0)
 powered-off i j ports true = inr refl
 powered-off i j ports false = inl refl
+
+-- a connection on which lines are sent takes what is delivered there
+open-takes : (l : Link) → AreUnmet (link_conditions (Some l)) → state_takes l.state ≡ true
+open-takes l met = by l.state met.0 met.1.0 met.1.1.0
+  where
+    by : (s : ConnState) → is_unopened s ≡ false → is_closing s ≡ false → is_failed s ≡ false
+        → state_takes s ≡ true
+    by state.Open h k f = refl
+    by state.Opening h k f = absurd cc
+    by state.Closing h k f = absurd cc
+    by state.Closed h k f = absurd cc
+    by state.Failed h k f = absurd cc
 
 -- what is at a module's CPort is to a module
 pub place-module : (i c : ℕ) (b : Bus) (p : Place) → EachTwo IsBefore b.connections → place_of (end.Module i c) b.connections ≡ Some p
@@ -193,7 +210,7 @@ module _ (m : Moment) (law : Law m) where
           → At m (acting m law) None [] Untouched
           (told ++ (given o (λ c. given l (λ label. asks_with (ap_draft k kind payload (s.now + timeout)) c label)) (bound name (next_number s.bus) s)).entries)
           (given o (λ c. given l (λ label. asks_with (ap_draft k kind payload (s.now + timeout)) c label)) (bound name (next_number s.bus) s)).state
-      by (Some c) e (Some label) f = law.kept _ (names name (ap_draft k kind payload (s.now + timeout)) c label refl e f (refl, plain))
+      by (Some c) e (Some label) f = law.kept _ (names name (ap_draft k kind payload (s.now + timeout)) c label refl e f (refl, plain, refl))
           at
       by o e None f = absurd (not-both (is_none (next_label k side.Ap s.bus)) (ap is_none f) left)
       by None e (Some label) f =
@@ -212,7 +229,7 @@ module _ (m : Moment) (law : Law m) where
   unfolding machine_opened
   rests-sends name end.Svc kind payload timeout s allowed = λ told at.
       rests-sends_on name 1 kind payload timeout s
-      (inl (free s (event.Send name end.Svc kind payload timeout) allowed).1.0)
+      (inl ((free s (event.Send name end.Svc kind payload timeout) allowed).1.0, refl))
       (free s (event.Send name end.Svc kind payload timeout) allowed).1.1.1.0 told at
   rests-sends name (end.Ap a) kind payload timeout s allowed = λ told at. rests-nothing s told at
   rests-sends name (end.Module i c) kind payload timeout s allowed = λ told at. by (link_at i c s.host) refl told at
@@ -226,28 +243,36 @@ module _ (m : Moment) (law : Law m) where
           (is_kept k kind, why.Unsupported) ∷ (is_long_payload payload, why.TooLarge)
           ∷ (has_no_label k.connection side.Ap s, no_label) ∷ []) o)) e met.1.1.1.1.1 in
           rests-sends_on name l.connection kind payload timeout s
-          (inr (l, (found-in (is_link i c) s.host.links l e).0, refl)) linked.1.1.0
+          (inr (
+            l,
+            (found-in (is_link i c) s.host.links l e).0,
+            refl,
+            open-takes l
+                (subst (λ o. AreUnmet (link_conditions o)) e
+                (met.1.1.0, (met.1.1.1.0, (met.1.1.1.1.0, tt)))),
+          )) linked.1.1.0
 
-  pub rests-bridges : (name : Name) (i c : ℕ) (what : BridgeAsk) (s : State)
+  pub rests-bridges : IsBridge m.event → (name : Name) (i c : ℕ) (what : BridgeAsk) (s : State)
       → refusal s (event.Bridge name i c what) ≡ None → Rests (bridges name i c what) s
   unfolding machine_opened
-  rests-bridges name i c what s allowed = by (link_at i c s.host) refl
+  rests-bridges of name i c what s allowed = by (link_at i c s.host) refl
     where
       still : (l : Link) → IsIn l s.host.links → (d : ℕ) → d ≡ l.connection
+          → state_takes l.state ≡ true
           → (k : Link) × IsIn k (with_link l.intf l.cport (spent what) s.host).links
-          × (d ≡ k.connection)
-      still l live d on = ⊎_elim (λ o. (l, o, on)) (λ w. (spent what l, w, on))
+          × (d ≡ k.connection) × (state_takes k.state ≡ true)
+      still l live d on took = ⊎_elim (λ o. (l, o, on, took)) (λ w. (spent what l, w, on, took))
           (at_first-back (is_link l.intf l.cport) (spent what) s.host.links l live)
 
-      sent_by : (l : Link) → IsIn l s.host.links
+      sent_by : (l : Link) → IsIn l s.host.links → state_takes l.state ≡ true
           → is_none (next_label l.connection side.Ap s.bus) ≡ false → (r : Result (ℕ × List ℕ) BridgeFault)
           → Rests (bridge_sent name l what r) s
-      sent_by l live left (Err fault) = rests-nothing s
-      sent_by l live left (Ok request) =
+      sent_by l live took left (Err fault) = rests-nothing s
+      sent_by l live took left (Ok request) =
           rests-▸ (on_host (with_link l.intf l.cport (spent what))) (sends_on name l.connection request.0 request.1 default_timeout) s
-          (λ told at. law.kept _ (spends l.intf l.cport what refl) at)
+          (λ told at. law.kept _ (spends l.intf l.cport what (refl, of)) at)
           (rests-sends_on name l.connection request.0 request.1 default_timeout (record s { host = with_link l.intf l.cport (spent what) s.host })
-          (inr (still l live l.connection refl)) left)
+          (inr (still l live l.connection refl took)) left)
 
       by : (o : Option Link) → link_at i c s.host ≡ o
           → Rests (given o (λ l. bridge_sent name l what (bridge_answer l.protocol what))) s
@@ -256,7 +281,9 @@ module _ (m : Moment) (law : Law m) where
           let met = free s (event.Bridge name i c what) allowed in
           let linked = subst (λ o. AreUnmet (conditions_of
           (λ k. bridge_conditions k what ++ (has_no_label k.connection side.Ap s, no_label) ∷ []) o)) e met.1.1.1.1.1 in
-          sent_by l (found-in (is_link i c) s.host.links l e).0 linked.1.1.1.0
+          sent_by l (found-in (is_link i c) s.host.links l e).0 (open-takes l
+          (subst (λ o. AreUnmet (link_conditions o)) e
+          (met.1.1.0, (met.1.1.1.0, (met.1.1.1.1.0, tt))))) linked.1.1.1.0
           (bridge_answer l.protocol what)
 
   -- ---- what comes from outside
@@ -312,7 +339,7 @@ module _ (m : Moment) (law : Law m) where
       by None e = rests-nothing s
       by (Some p) e = λ told at. law.kept _ (injecting i c p bytes refl e) at
 
-  quiet-shown : (lines : List (List ℕ)) → AreQuiet (map entry.Shown lines)
+  quiet-shown : (lines : List (List ℕ)) → AreSilent (map entry.Shown lines)
   quiet-shown [] = tt
   quiet-shown (l ∷ ls) = (refl, quiet-shown ls)
 

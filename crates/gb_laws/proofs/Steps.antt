@@ -21,7 +21,7 @@ use Rattle.gb_formats.specs.Module.{module_of_kind, module_raw}
 use Rattle.gb_laws.proofs.Acting.{goes-notices}
 use Rattle.gb_laws.proofs.Delivering.{ends-answers, ends-delivers}
 use Rattle.gb_laws.proofs.Going.{At}
-use Rattle.gb_laws.proofs.Points.{IsOfSvc, Law, acting, frees, tells}
+use Rattle.gb_laws.proofs.Points.{IsBridge, IsOfSvc, Law, acting, frees, tells}
 use Rattle.gb_laws.proofs.PointParts.{Untouched, Wires, resting}
 use Rattle.gb_laws.proofs.Serving.{Ends, ends-going}
 use Rattle.gb_laws.proofs.Stepping.{
@@ -59,7 +59,7 @@ module _ (m : Moment) (law : Law m) where
   ends-does (event.Send name to kind payload timeout) is one free =
       ends-going m law None (does (event.Send name to kind payload timeout)) m.before (rests-sends m law name to kind payload timeout m.before free)
   ends-does (event.Bridge name i c what) is one free =
-      ends-going m law None (does (event.Bridge name i c what)) m.before (rests-bridges m law name i c what m.before free)
+      ends-going m law None (does (event.Bridge name i c what)) m.before (rests-bridges m law (subst IsBridge (sym is) tt) name i c what m.before free)
   ends-does (event.Level i c line value) is one free = ends-going m law None (does (event.Level i c line value)) m.before (rests-stirs m law i c (Level line value) m.before)
   ends-does (event.SerialState i c control) is one free = ends-going m law None (does (event.SerialState i c control)) m.before (rests-stirs m law i c (Serial control) m.before)
   ends-does (event.Deliver at) is one free = ends-delivers m law at is

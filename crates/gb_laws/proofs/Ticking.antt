@@ -310,8 +310,11 @@ module _ (m : Moment) (law : Law m) where
         wires = u.wires;
         is = u.is;
         holds = law.kept _ (others w.booted w.holds (with_pulled i w).ports (with_pulled i w).modules
-            (inr (of, λ j. unpowered-off i j w.ports (j == i) refl,
-            λ h p k. h p (in-without (is_plugged_at i) w.modules p k).0))) u.holds;
+            (inr (
+              of,
+              λ j. unpowered-off i j w.ports (j == i) refl,
+              λ h p k. h p (in-without (is_plugged_at i) w.modules p k).0,
+            ))) u.holds;
       }
 
       tells_removed : (w : State) → level_of i w.ports ≡ 0

@@ -93,20 +93,21 @@ notice-plain k kind payload h e told =
     by None is f = refl
     by (Some l) is f = absurd (none-some (sym (unnoticed l kind payload h) ∙ f))
 
--- the application processor stays as it is there
+-- the application processor stays as it is where the supervisory controller asks
+pub svc-host : (h : Host) (r : Result SvcAsk PayloadFault) → (notified_by r h).host ≡ h
+svc-host h (Err fault) = refl
+svc-host h (Ok (SvcAsk.ModuleInserted j count flags)) = refl
+svc-host h (Ok (SvcAsk.ModuleRemoved j)) = refl
+svc-host h (Ok (SvcAsk.ProtocolVersion major minor)) = refl
+svc-host h (Ok (SvcAsk.Hello endo intf)) = refl
+svc-host h (Ok _) = refl
+
+-- so does it where something is noticed
 pub noticed-host : (k kind : ℕ) (payload : List ℕ) (h : Host) (e : HostEvent)
     → (host_serves k kind payload h).notices ≡ Some e → (host_serves k kind payload h).host ≡ h
 noticed-host k kind payload h e told =
     ap (λ (t : HostServed). t.host) (notice-plain k kind payload h e told)
-    ∙ read (read_svc_ask_of_svc kind payload)
-  where
-    read : (r : Result SvcAsk PayloadFault) → (notified_by r h).host ≡ h
-    read (Err fault) = refl
-    read (Ok (SvcAsk.ModuleInserted j count flags)) = refl
-    read (Ok (SvcAsk.ModuleRemoved j)) = refl
-    read (Ok (SvcAsk.ProtocolVersion major minor)) = refl
-    read (Ok (SvcAsk.Hello endo intf)) = refl
-    read (Ok _) = refl
+    ∙ svc-host h (read_svc_ask_of_svc kind payload)
 
 -- An interface whose insertion is noticed is absent.
 pub reached-absent : (s : State) (at : End) (p : Place) (n : ℕ) (r : Request) (i : ℕ) → OfARun s

@@ -1,6 +1,7 @@
 //! The laws of runs. Each speaks of every run of valid events; where it speaks of moments, those
 //! are the events of the run with each settle taken apart into its deliveries.
 
+ghost use Rattle.gb_laws.specs.OwnSide.{AbsentHasNoOpenOfAp};
 ghost use Rattle.gb_machine.specs.LawsBus.{
   EndpointsDiffer,
   LabelsDiffer,
@@ -8,15 +9,22 @@ ghost use Rattle.gb_machine.specs.LawsBus.{
   OneItemANumber,
   RepliesAreAwaited,
 };
+ghost use Rattle.gb_machine.specs.LawsCredits.{CreditsAddUp};
 ghost use Rattle.gb_machine.specs.LawsEnds.{
   AnsweredByItsResponder,
   EndsAreTold,
   EndsAtMostOnce,
   EveryEndHasItsCause,
 };
-ghost use Rattle.gb_machine.specs.LawsHotPlug.{AbsentAfterRemoval, NoForeignMessage};
+ghost use Rattle.gb_machine.specs.LawsHotPlug.{
+  AbsentAfterRemoval,
+  NoForeignMessage,
+  NoneForgotten,
+  OpenIsLive,
+  RememberedForOne,
+};
 ghost use Rattle.gb_machine.specs.LawsSvc.{RemovalLeavesNothingWired, WiredMeansRouted};
-ghost use Rattle.gb_machine.specs.Runs.{SettlesAreDeliveries};
+ghost use Rattle.gb_machine.specs.Runs.{HoldsAtEachMoment, HoldsThroughout, SettlesAreDeliveries};
 ghost use Rattle.gb_machine.specs.Summary.{CountsAddUp};
 
 /// Each request has one outcome at most, and one end and one reply at most are told of it.
@@ -75,6 +83,18 @@ pub fn absent_after_removal()
     ensures { AbsentAfterRemoval }
 {}
 
+/// An open request of the application processor is on a live connection, and its side of that isn't
+/// closed.
+pub fn open_is_live()
+    ensures { HoldsThroughout OpenIsLive }
+{}
+
+/// Nothing that the application processor asked on a connection that named an absent interface is
+/// open.
+pub fn absent_has_no_open_of_ap()
+    ensures { HoldsThroughout AbsentHasNoOpenOfAp }
+{}
+
 /// While MODULE_REMOVED of an interface waits toward the application processor, the power level of
 /// the interface is at most 1 and none of its connections is wired; so none is where it is handled.
 pub fn removal_leaves_nothing_wired()
@@ -87,9 +107,25 @@ pub fn wired_means_routed()
     ensures { WiredMeansRouted }
 {}
 
+/// Which connections were ever wired is never forgotten.
+pub fn none_forgotten()
+    ensures { HoldsAtEachMoment NoneForgotten }
+{}
+
+/// A request that creates or destroys a connection is remembered for one connection.
+pub fn remembered_for_one()
+    ensures { HoldsThroughout RememberedForOne }
+{}
+
 /// A name names a request that was made.
 pub fn names_name_requests()
     ensures { NamesNameRequests }
+{}
+
+/// The credits of a connection to a UART are 4,096, less the bytes that were sent on it, plus what
+/// came back on it, and never above 4,096.
+pub fn credits_add_up()
+    ensures { CreditsAddUp }
 {}
 
 /// The counts of a summary add up to the number of requests.

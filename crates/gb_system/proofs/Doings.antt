@@ -10,12 +10,12 @@ use Rattle.gb_system.specs.Doing.{Does}
 use Rattle.gb_system.specs.Stands.{PartsStand}
 use Rattle.gb_system.specs.declared.parties.Parties.{Parties}
 
--- what was done is the same where the actions do the same at the state
-pub does-as : {x : Parties} {f g : Action} {s : State} {a b : List Entry}
-    → f s ≡ g s → Does x f s a b → Does x g s a b
-does-as {x} {f} {g} {s} {a} {b} same d = record {
-  told_is = d.told_is ∙ ap (λ (t : Told). a ++ t.entries) same;
-  stand = subst (λ (t : Told). PartsStand [] x t.state) same d.stand;
+-- what was done at one state was done at another, where another action does the same there
+pub does-as : {x : Parties} {f g : Action} {s t : State} {a b : List Entry}
+    → f t ≡ g s → Does x f t a b → Does x g s a b
+does-as {x} {f} {g} {s} {t} {a} {b} same d = record {
+  told_is = d.told_is ∙ ap (λ (o : Told). a ++ o.entries) same;
+  stand = subst (λ (o : Told). PartsStand [] x o.state) same d.stand;
 }
 
 -- what an action does is known: the state after it, and what it tells
@@ -26,11 +26,6 @@ does-is {x} {f} {s} {a} {b} t es is appended st = record {
   told_is = appended ∙ ap (λ (w : Told). a ++ w.entries) (sym is);
   stand = subst (λ (w : Told). PartsStand [] x w.state) (sym is) st;
 }
-
--- from another state that is the same
-pub does-from : {x : Parties} {f : Action} {s t : State} {a b : List Entry}
-    → s ≡ t → Does x f s a b → Does x f t a b
-does-from {x} {f} {s} {t} {a} {b} same d = subst (λ (r : State). Does x f r a b) same d
 
 -- one after another
 pub does-then : {x y : Parties} {f g : Action} {s : State} {a b c : List Entry}

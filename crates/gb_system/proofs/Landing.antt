@@ -35,3 +35,10 @@ pub lands-refused : (y : Parties) (s : State) (e : Event) (why : Refusal) (es : 
     → PartsStep y s e (Ok es)
 lands-refused y s e why es h is st =
     landed y s e (told s (entry.Refused why ∷ [])) es (step-refused s e why h) is st
+
+-- what is told, and who stands for the state, by other names
+pub step-as : {x y : Parties} (s : State) (e : Event) {a b : List Entry} → x ≡ y → a ≡ b
+    → PartsStep y s e (Ok b) → PartsStep x s e (Ok a)
+step-as {x} {y} s e {a} {b} same told_is h =
+    subst (λ (w : Parties). PartsStep w s e (Ok a)) (sym same)
+    (subst (λ (es : List Entry). PartsStep y s e (Ok es)) (sym told_is) h)

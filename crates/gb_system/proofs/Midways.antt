@@ -31,20 +31,37 @@ midway-first {x} {s} {a} f st = record {
   stand = st;
 }
 
--- the next part is done
-pub midway-more : {x y : Parties} {whole : Action} {s : State} {a b c : List Entry} (f g : Action)
-    → (m : Midway x whole (f ▸ g) s a b) → Does y f m.state b c → Midway y whole g s a c
+-- the entries of a part come before those of the rest
+pub then-told : (es : List Entry) (f g : Action) (t : State) → told_before es ((f ▸ g) t)
+    ≡ told_before (es ++ (f t).entries) (g (f t).state)
 unfolding machine_opened
-midway-more {x} {y} {whole} {s} {a} {b} {c} f g m d =
-    let es = (f m.state).entries in
-    let t = g (f m.state).state in record {
-      state = (f m.state).state;
-      entries = m.entries ++ es;
-      is = m.is ∙ ap (λ ts. record { state = t.state; entries = ts })
-          (sym (append_assoc m.entries es t.entries));
-      told_is = d.told_is ∙ ap (λ ts. ts ++ es) m.told_is ∙ append_assoc a m.entries es;
-      stand = d.stand;
-    }
+then-told es f g t =
+    ap (λ ts. record { state = (g (f t).state).state; entries = ts })
+    (sym (append_assoc es (f t).entries (g (f t).state).entries))
+
+-- the next part is done
+abbrev pub midway-more : {x y : Parties} {whole : Action} {s : State} {a b c : List Entry}
+    (f g : Action) → (m : Midway x whole (f ▸ g) s a b) → Does y f m.state b c
+    → Midway y whole g s a c
+midway-more {a = a} f g m d = record {
+  state = (f m.state).state;
+  entries = m.entries ++ (f m.state).entries;
+  is = m.is ∙ then-told m.entries f g m.state;
+  told_is = d.told_is ∙ ap (λ ts. ts ++ (f m.state).entries) m.told_is
+      ∙ append_assoc a m.entries (f m.state).entries;
+  stand = d.stand;
+}
+
+-- the rest does the same at the state that was reached
+abbrev pub midway-here : {x : Parties} {whole f : Action} {s : State} {a b : List Entry}
+    (g : Action) (m : Midway x whole f s a b) → f m.state ≡ g m.state → Midway x whole g s a b
+midway-here g m same = record {
+  state = m.state;
+  entries = m.entries;
+  is = m.is ∙ ap (told_before m.entries) same;
+  told_is = m.told_is;
+  stand = m.stand;
+}
 
 -- the rest is the same
 abbrev pub midway-as : {x : Parties} {whole f : Action} {s : State} {a b : List Entry} (g : Action)

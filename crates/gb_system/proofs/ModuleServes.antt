@@ -12,10 +12,9 @@ use Rattle.gb_formats.specs.Module.{Module}
 use Rattle.gb_formats.specs.ModuleSteps.{module_serve}
 use Rattle.gb_formats.specs.Results.{Step, most_payload, nonexistent}
 use Rattle.gb_invariants.specs.Facts.{Loose}
-use Rattle.gb_invariants.proofs.Numbers.{found-number}
 use Rattle.gb_machine.proofs.Opened.{machine_opened}
 use Rattle.gb_machine.specs.Actions.{Action, Told, ◌▸◌}
-use Rattle.gb_machine.specs.Bus.{Connection, Request, connection_of}
+use Rattle.gb_machine.specs.Bus.{Connection, Request}
 use Rattle.gb_machine.specs.Incoming.{incoming}
 use Rattle.gb_machine.specs.Members.{Each}
 use Rattle.gb_machine.specs.Modules.{is_plugged_at, module_at, with_module}
@@ -23,10 +22,11 @@ use Rattle.gb_machine.specs.OwnAsking.{far_asks_all}
 use Rattle.gb_machine.specs.Responding.{far_response, module_response, module_stepped, replies, responds, responds_plainly, serves}
 use Rattle.gb_machine.specs.Serving.{answer, plainly}
 use Rattle.gb_machine.specs.State.{Plugged, State}
-use Rattle.gb_system.proofs.Doings.{does-then}
+use Rattle.gb_system.proofs.Doings.{does-as, does-then}
 use Rattle.gb_system.proofs.Fits.{module_fits}
 use Rattle.gb_system.specs.Acting.{AreAskable}
 use Rattle.gb_system.specs.Doing.{Does}
+use Rattle.gb_system.specs.Drafts.{IsUpon}
 use Rattle.gb_system.specs.Plugging.{ServesThere}
 use Rattle.gb_system.specs.Serving.{only}
 use Rattle.gb_system.specs.Stands.{IsShort, PartsStand}
@@ -113,20 +113,12 @@ serves-none s c i cport n r peer twoway there =
 
 -- ---- as the parties do it
 
--- what was done at one state was done at another, where the machine does the same
-does-across : {x : Parties} {f g : Action} {s t : State} {a b : List Entry}
-    → f t ≡ g s → Does x f t a b → Does x g s a b
-does-across {x} {f} {g} {s} {t} {a} {b} same d = record {
-  told_is = d.told_is ∙ ap (λ (o : Told). a ++ o.entries) same;
-  stand = subst (λ (o : Told). PartsStand [] x o.state) same d.stand;
-}
-
 -- the clause of an answer, at this result and payload
 abbrev pub AnswersThere : ℕ → Asked → ℕ → List ℕ → Parties → Parties → List Entry → List Entry
     → Type 0
 AnswersThere k asked code payload x y before told =
     (s : State) (c : Connection) (n : ℕ)
-    → PartsStand (only k side.Far n) x s → connection_of k s.bus ≡ Some c
+    → PartsStand (only k side.Far n) x s → IsUpon k s.bus c
     → (may : MayReply asked s.bus n) → length payload ≤ most_payload
     → Does y (replies side.Far c (incoming n may.request) (answer code payload)) s before told
 
@@ -141,7 +133,7 @@ abbrev pub ServesAtModule : ℕ → ℕ → ℕ → Asked → List ℕ → Parti
     → List Entry → Type 0
 ServesAtModule k i cport asked payload x y before told =
     (s : State) (c : Connection) (n : ℕ)
-    → PartsStand (only k side.Far n) x s → connection_of k s.bus ≡ Some c
+    → PartsStand (only k side.Far n) x s → IsUpon k s.bus c
     → c.peer ≡ end.Module i cport → (may : MayReply asked s.bus n)
     → payload ≡ may.request.payload → length payload ≤ most_payload
     → Does y (serves side.Far c (incoming n may.request)) s before told
@@ -161,7 +153,7 @@ serves-some k i cport asked payload x y z mods served a b d steps answers asks s
     r = may.request
 
     number : c.number ≡ k
-    number = (found-number k s.bus c live).1
+    number = live.number
 
     by : (o : Option Module) → module_at i x.modules ≡ o
         → ServesThere i cport asked.kind payload o x.modules mods (Ok (Some served))
@@ -196,7 +188,7 @@ serves-some k i cport asked payload x y z mods served a b d steps answers asks s
         fits.served.asks in
         let first = answers t1 c n stand1 live may fit in
         let second = asks _ first.stand askable in
-        does-across
+        does-as
         (ap (λ (v : Served). (replies side.Far c (incoming n r) (answer v.result v.payload)
         ▸ far_asks_all k v.asks) t1) served_is
         ∙ ap (λ j. (replies side.Far c (incoming n r)
@@ -225,5 +217,5 @@ serves-nowhere k i cport asked payload x z mods a d steps answers s c n stand li
     by None there t =
         let found : module_at i s.modules ≡ None = ap (module_at i) stand.modules ∙ there in
         let stand1 = stands-with s.modules mods (stand.modules ∙ sym t.1) stand.short stand in
-        does-across (serves-none s c i cport n r peer may.twoway found)
+        does-as (serves-none s c i cport n r peer may.twoway found)
         (answers s c n stand1 live may (omega arith))

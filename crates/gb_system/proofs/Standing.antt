@@ -3,13 +3,18 @@ use Rattle.std.proofs.Common.{◌≡◌, ℕ, suc, ◌<◌, ◌≤◌, Some, Lis
 use Rattle.std.proofs.lemmas.Bool.{cases_lt}
 use Rattle.gb_bus.specs.Stands as bus
 use Rattle.gb_bus.specs.declared.bus.Bus.{Bus}
+use Rattle.gb_host.specs.Stands as host
+use Rattle.gb_host.specs.declared.host.Host.{Host}
 use Rattle.gb_invariants.specs.Facts.{Loose}
 use Rattle.gb_machine.proofs.Lists.{nth-past, nth-push, nth-push-below}
 use Rattle.gb_machine.proofs.Steps.{with_bus}
 use Rattle.gb_machine.specs.Bus as machine
 use Rattle.gb_machine.specs.Bus.{Request}
+use Rattle.gb_machine.specs.Host as machine_host
 use Rattle.gb_machine.specs.Lists.{nth}
-use Rattle.gb_machine.specs.State.{State}
+use Rattle.gb_machine.specs.State.{Past, Port, State}
+use Rattle.gb_switch.specs.Stands as switch
+use Rattle.gb_switch.specs.declared.ladder.Ladder.{Ladder}
 use Rattle.gb_system.specs.Stands.{AreSound, PartsStand, held_items}
 use Rattle.gb_system.specs.declared.parties.Parties.{Parties}
 
@@ -55,3 +60,56 @@ each_more P rs q old new n r h =
             let place : n ≡ suc (length rs) = omega arith in
             let same : q ≡ r = cc (ap (λ m. nth m (rs ++ q ∷ [])) place, nth-push rs q, h) in
             subst P same new
+
+-- The parties stand for a state with another application processor.
+pub rehosted : {x : Parties} {s : State} {loose : List Loose} (y : Host) (h : machine_host.Host)
+    → PartsStand loose x s → host.Stands y h
+    → PartsStand loose (record x { host = y }) (record s { host = h })
+rehosted y h st stands = record {
+  bus = st.bus;
+  ports = st.ports;
+  modules = st.modules;
+  host = stands;
+  names = st.names;
+  booted = st.booted;
+  sound = st.sound;
+  short = st.short;
+  now = st.now;
+  holds = st.holds;
+  held = st.held;
+}
+
+-- The past is no matter of theirs.
+pub repast : {x : Parties} {s : State} {loose : List Loose} (past : Past) → PartsStand loose x s
+    → PartsStand loose x (record s { past = past })
+repast past st = record {
+  bus = st.bus;
+  ports = st.ports;
+  modules = st.modules;
+  host = st.host;
+  names = st.names;
+  booted = st.booted;
+  sound = st.sound;
+  short = st.short;
+  now = st.now;
+  holds = st.holds;
+  held = st.held;
+}
+
+-- The parties stand for a state with other power levels.
+pub relevelled : {x : Parties} {s : State} {loose : List Loose} (y : Ladder) (ports : List Port)
+    → PartsStand loose x s → switch.Stands y ports
+    → PartsStand loose (record x { ladder = y }) (record s { ports = ports })
+relevelled y ports st stands = record {
+  bus = st.bus;
+  ports = stands;
+  modules = st.modules;
+  host = st.host;
+  names = st.names;
+  booted = st.booted;
+  sound = st.sound;
+  short = st.short;
+  now = st.now;
+  holds = st.holds;
+  held = st.held;
+}

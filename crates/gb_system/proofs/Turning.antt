@@ -1,6 +1,6 @@
 -- What the application processor does of its own is possible, since its connections go with the
 -- bus.
-use Rattle.std.proofs.Common.{◌≡◌, ◌≤◌, ◌<◌, ℕ, Some, None, List, [], ◌∷◌, length, refl, sym, ap, ◌∙◌, inl, inr, subst, arith}
+use Rattle.std.proofs.Common.{◌≡◌, ◌≤◌, ◌<◌, ℕ, false, Some, None, List, [], ◌∷◌, length, refl, sym, ap, ◌∙◌, inl, inr, subst, arith}
 use Rattle.gb_base.specs.declared.end.End.{End}
 use Rattle.gb_base.specs.declared.end.End.TheVariants as end
 use Rattle.gb_base.specs.declared.end.Side.TheVariants as side
@@ -14,7 +14,7 @@ use Rattle.gb_formats.specs.ValidEvents.{IsValid}
 use Rattle.gb_invariants.proofs.Lists.{each-from}
 use Rattle.gb_laws.proofs.LinkBuses.{Linked, linked-left, linked-rest, linked-shut}
 use Rattle.gb_laws.proofs.LinkChanges.{linked-popped, linked-replied}
-use Rattle.gb_laws.proofs.Links.{IsFormed, IsFree, IsKnown, leaving, linked, supervisory}
+use Rattle.gb_laws.proofs.Links.{IsFormed, IsFree, IsKnown, IsMaking, connection, control, leaving, linked, supervisory}
 use Rattle.gb_laws.proofs.Reached.{reached-linked}
 use Rattle.gb_laws.proofs.Turned.{Notes, turned-connects, turned-disconnects, turned-ended, turned-noticed}
 use Rattle.gb_machine.specs.Bus.{Ask, Bus, Connection, Item, Place, Request, place_of, queue, request_of, same_end}
@@ -25,7 +25,7 @@ use Rattle.gb_machine.specs.Lists.{first}
 use Rattle.gb_machine.specs.Members.{IsIn}
 use Rattle.gb_machine.specs.Reached.{OfARun}
 use Rattle.gb_machine.specs.Refusals.{refusal}
-use Rattle.gb_machine.specs.SequenceSteps.{Target, kind_of, payload_of}
+use Rattle.gb_machine.specs.SequenceSteps.{Target, asks_control, kind_of, payload_of}
 use Rattle.gb_machine.specs.State.{State}
 use Rattle.gb_machine.specs.Turns.{Act, Asking, HostEvent, Making}
 use Rattle.gb_machine.specs.Wiring.{shut_down}
@@ -83,13 +83,23 @@ apart {b} {h} w q rest f c live =
     by (leaving (inl e)) = absurd cc
     by (leaving (inr i)) = absurd i
 
+-- a connection is made by a request to the supervisory controller
+making-asks : {w : Making} {step : SequenceStep} → IsMaking w step → asks_control step ≡ false
+making-asks (control e) = refl
+making-asks (connection e) = refl
+
 -- Acts that are pending are possible.
 pub possible : (acts : List Act) {b : Bus} {h : Host} → Linked b h acts → ArePossible acts b
 possible [] f = tt
 possible (Act.Ask q ∷ rest) f = (askable q f.pending.0.2, f.pending.0.1)
 possible (Act.Open w q ∷ rest) {b} f = (
-  each-from (IsOther w.ap w.intf w.cport) b.connections (apart w q rest f),
-  askable q f.pending.0.0.formed,
+  record {
+    attach = each-from (IsOther w.ap w.intf w.cport) b.connections (apart w q rest f);
+    ask = askable q f.pending.0.0.formed;
+    on = f.pending.0.0.formed.on (making-asks f.pending.0.0.step);
+    intf = f.pending.0.0.intf;
+    cport = f.pending.0.0.cport;
+  },
   f.pending.0.1,
 )
 possible (Act.Shut k ∷ rest) {b} {h} f =

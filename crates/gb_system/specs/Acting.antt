@@ -68,6 +68,12 @@ abbrev pub making_of : ℕ → ℕ → ℕ → ℕ → Making
 making_of ap intf cport protocol =
     record { ap = ap; intf = intf; cport = cport; protocol = protocol }
 
+-- what acts tell
+abbrev pub tells_of : List code.Act → List Entry
+tells_of [] = []
+tells_of (act.Tell e ∷ acts) = e ∷ tells_of acts
+tells_of (_ ∷ acts) = tells_of acts
+
 -- a connection is made and told
 unfoldable pub makes : Making → Action
 makes m = by_state (λ s.

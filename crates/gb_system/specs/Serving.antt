@@ -1,20 +1,25 @@
 -- What becomes of a request that is delivered.
-use Rattle.std.specs.Prelude.{◌≡◌, ℕ, Some, if◌then◌else◌, ⊤}
-use Rattle.std.specs.Prelude.{List, [], ◌∷◌}
+use Rattle.std.specs.Prelude.{◌≡◌, ℕ, Option, Some, None, if◌then◌else◌, ⊤, List, [], ◌∷◌}
 use Rattle.gb_base.specs.declared.end.End.{End}
 use Rattle.gb_base.specs.declared.end.End.TheVariants as end
 use Rattle.gb_base.specs.declared.end.Side.{Side}
 use Rattle.gb_base.specs.declared.end.Side.TheVariants as side
+use Rattle.gb_base.specs.declared.entry.Entry.{Entry}
 use Rattle.gb_bus.specs.Delivering.{Names, taken_from}
 use Rattle.gb_bus.specs.declared.answers.Asked.{Asked}
 use Rattle.gb_invariants.specs.Facts.{Loose}
-use Rattle.gb_machine.specs.Bus.{Ask, Connection, Request, connection_of, end_of, request_of}
+use Rattle.gb_machine.specs.Bus.{Ask, Connection, Request, end_of, request_of}
 use Rattle.gb_machine.specs.Delivery.{replied}
 use Rattle.gb_machine.specs.HostServing.{HostServed, host_serves}
 use Rattle.gb_machine.specs.Incoming.{Incoming, incoming, reply_item}
+use Rattle.gb_machine.specs.Responding.{serves}
 use Rattle.gb_machine.specs.State.{State}
 use Rattle.gb_machine.specs.Turns.{HostEvent}
 use Rattle.gb_system.specs.Acting.{MayTurn}
+use Rattle.gb_system.specs.Doing.{Does}
+use Rattle.gb_system.specs.Drafts.{IsUpon}
+use Rattle.gb_system.specs.Stands.{PartsStand}
+use Rattle.gb_system.specs.declared.parties.Parties.{Parties}
 
 -- the side of a connection that is at an end
 abbrev pub side_of : End → Side
@@ -33,7 +38,7 @@ pub record IsDelivered (at : End) (k : ℕ) (asked : Asked) (payload : List ℕ)
   pub made : request_of n s.bus ≡ Some request
   pub names : Names asked n request
   pub payload_is : payload ≡ request.payload
-  pub live : connection_of k s.bus ≡ Some c
+  pub upon : IsUpon k s.bus c
   pub there : end_of (side_of at) c ≡ at
 
 -- the state once the application processor served a request, before it takes notice of anything
@@ -44,9 +49,27 @@ after_serving c q served s = record s {
   host = served.host;
 }
 
+-- what is noticed, if anything, is possible
+abbrev pub MayNotice : Option HostEvent → State → Type 0
+MayNotice None s = ⊤
+MayNotice (Some e) s = MayTurn e s
+
 -- What the application processor takes notice of at a request is possible for it.
 abbrev pub MayServe : Side → Connection → Incoming → State → Type 0
 MayServe side.Far c q s = ⊤
 MayServe side.Ap c q s =
     let served = host_serves c.number q.kind q.payload s.host in
-    (e : HostEvent) → served.notices ≡ Some e → MayTurn e (after_serving c q served s)
+    MayNotice served.notices (after_serving c q served s)
+
+-- A request that was delivered at an end is served as the machine does.
+abbrev pub ServesAt : End → Parties → Parties → ℕ → Asked → List ℕ → List Entry → List Entry → Type 0
+ServesAt at old new k asked payload before told =
+    (s : State) (c : Connection) (n : ℕ) → (d : IsDelivered at k asked payload s c n)
+    → PartsStand (only k (side_of at) n) old s
+    → MayServe (side_of at) c (incoming n d.request) s
+    → Does new (serves (side_of at) c (incoming n d.request)) s before told
+
+-- an entry, where there is one
+abbrev pub told_of : Option Entry → List Entry
+told_of None = []
+told_of (Some e) = e ∷ []

@@ -6,7 +6,7 @@ ghost use Rattle.gb_machine.specs.HostActs.{fails, host_asks, notices};
 ghost use Rattle.gb_machine.specs.Failures.{unsent};
 ghost use Rattle.gb_machine.specs.State.{State};
 ghost use Rattle.gb_machine.specs.Wires.{disconnected_told, shuts, unwires};
-ghost use Rattle.gb_system.specs.Acting.{ActsAs, IsAskable, MakesAs, MayTurn, asking_of, making_of};
+ghost use Rattle.gb_system.specs.Acting.{ActsAs, IsAskable, MakesAs, MayTurn, asking_of, making_of, tells_of};
 ghost use Rattle.gb_system.specs.Doing.{Does};
 ghost use Rattle.gb_system.specs.Stands.{PartsStand};
 
@@ -26,7 +26,11 @@ impl Parties {
         let acts = self.host.on(event)?;
         let mut skips = false;
         for act in acts.items() {
-            skips = !skips && self.act(act, told)?;
+            if skips {
+                skips = false;
+                continue;
+            }
+            skips = self.act(act, told)?;
         }
         Ok(())
     }
@@ -125,11 +129,7 @@ impl Parties {
             → Does self.new (fails (unsent purpose)) s told.old told.new) }
     {
         let acts = self.host.unsent(purpose)?;
-        for act in acts.items() {
-            if let Act::Tell { entry } = act {
-                told.push(entry.copy()?)?;
-            }
-        }
+        tell_all(told, acts.items())?;
         Ok(())
     }
 
@@ -137,6 +137,7 @@ impl Parties {
     fn shut(&mut self, connection: u64, told: &mut Entries) -> Result<(), OutOfMemory>
         ensures step { OnOk result ((s : State) → PartsStand [] self.old s
             → Does self.new (shuts connection) s told.old told.new) }
+        ensures host { self.new.host ≡ self.old.host }
     {
         let mut ended = Numbers::new(self.alloc);
         self.bus.shut(connection, &mut ended)?;
@@ -154,6 +155,18 @@ impl Parties {
         tell_disconnected(told, ended.items())?;
         Ok(())
     }
+}
+
+/// Tells what acts tell.
+fn tell_all(told: &mut Entries, acts: &[Act]) -> Result<(), OutOfMemory>
+    ensures { OnOk result (told.new ≡ told.old ++ tells_of acts.now) }
+{
+    for act in acts {
+        if let Act::Tell { entry } = act {
+            told.push(entry.copy()?)?;
+        }
+    }
+    Ok(())
 }
 
 /// Requests ended as disconnected, in this order.

@@ -1,10 +1,15 @@
 //! Connections that are opened and closed.
 
-ghost use Rattle.std.specs.Prelude.{◌≡◌, ◌≤◌};
+ghost use Rattle.std.specs.Prelude.{◌≡◌, List};
+ghost use Rattle.gb_base.specs.declared.end.Side.TheVariants as side;
 ghost use Rattle.gb_base.specs.declared.event.Event.TheVariants as event;
 ghost use Rattle.gb_formats.specs.ValidEvents.{IsValid};
+ghost use Rattle.gb_invariants.specs.Facts.{Loose};
+ghost use Rattle.gb_machine.specs.Host.{control_of};
+ghost use Rattle.gb_machine.specs.Lists.{holds_of};
+ghost use Rattle.gb_machine.specs.Refusals.{has_no_label};
 ghost use Rattle.gb_machine.specs.State.{State};
-ghost use Rattle.gb_system.specs.Stands.{PartiesStand, PartsStep};
+ghost use Rattle.gb_system.specs.Stands.{PartiesStand, PartsStand, PartsStep};
 
 use crate::entries::{begun, refused};
 use crate::parties::Parties;
@@ -39,13 +44,22 @@ impl Parties {
         if let Err(why) = self.host.may_disconnect(intf, cport) {
             return Ok(refused(self.alloc, why)?);
         }
-        if let Some(control) = self.host.control(intf)
-            && self.bus.spent(control, Side::Ap)
-        {
+        if self.is_control_spent(intf) {
             return Ok(refused(self.alloc, Refusal::LabelsSpent)?);
         }
         let mut told = begun(self.alloc)?;
         self.notice(HostEvent::Disconnect { intf, cport }, &mut told)?;
         Ok(told)
+    }
+
+    /// The Control CPort of an interface is connected, and no identifier is left on its connection.
+    fn is_control_spent(&self, intf: u8) -> bool
+        ensures { (loose : List Loose) (s : State) → PartsStand loose self.now s
+            → result ≡ holds_of (λ k. has_no_label k side.Ap s) (control_of intf s.host) }
+    {
+        match self.host.control(intf) {
+            Some(control) => self.bus.spent(control, Side::Ap),
+            None => false,
+        }
     }
 }

@@ -33,6 +33,7 @@ impl Parties {
             outcome: outcome.copy()?,
             reading,
         })?;
-        self.notice(HostEvent::Ended { number, outcome }, told)
+        self.notice(HostEvent::Ended { number, outcome }, told)?;
+        Ok(())
     }
 }

@@ -89,16 +89,12 @@ impl Parties {
         ensures step { OnOk result ((s : State) → PartsStand [] self.old s
             → Does self.new (tells_inserted intf) s told.old told.new) }
     {
-        self.svc_ask(0x1f, &[intf, 1, 0, 0], told)
+        self.svc_ask(0x1f, &[intf, 1, 0, 0], told)?;
+        Ok(())
     }
 
     /// The supervisory controller makes a request, where an identifier is left.
-    fn svc_ask(
-        &mut self,
-        kind: u8,
-        payload: &[u8],
-        told: &mut Entries,
-    ) -> Result<(), OutOfMemory>
+    fn svc_ask(&mut self, kind: u8, payload: &[u8], told: &mut Entries) -> Result<(), OutOfMemory>
         ensures step { OnOk result ((s : State) → PartsStand [] self.old s
             → IsAskable kind payload.now
             → Does self.new (far_asks 1 (own_ask kind payload.now false)) s told.old told.new) }

@@ -1,15 +1,25 @@
 //! Requests that are served, each by the party at its end.
 
-ghost use Rattle.std.specs.Prelude.{◌≡◌, [], ℕ, OnOk};
+ghost use Rattle.std.specs.Prelude.{◌≡◌, [], ◌++◌, ℕ, OnOk, option_map};
 ghost use Rattle.gb_base.specs.declared.end.End.TheVariants as end;
 ghost use Rattle.gb_base.specs.declared.end.Side.TheVariants as side;
+ghost use Rattle.gb_host.specs.Serving.{event_of};
+ghost use Rattle.gb_machine.specs.Actions.{given, tell, ◌▸◌};
 ghost use Rattle.gb_machine.specs.Bus.{Connection};
+ghost use Rattle.gb_machine.specs.HostActs.{notices};
 ghost use Rattle.gb_machine.specs.Incoming.{incoming};
 ghost use Rattle.gb_machine.specs.Responding.{serves};
 ghost use Rattle.gb_machine.specs.State.{State};
 ghost use Rattle.gb_system.specs.Deciding.{action_of};
 ghost use Rattle.gb_system.specs.Doing.{Does};
-ghost use Rattle.gb_system.specs.Serving.{IsDelivered, MayServe, only, side_of};
+ghost use Rattle.gb_system.specs.Serving.{
+  IsDelivered,
+  MayNotice,
+  MayServe,
+  ServesAt,
+  only,
+  told_of,
+};
 ghost use Rattle.gb_system.specs.Stands.{PartsStand};
 
 use crate::deciding::{Behind, decide};
@@ -17,7 +27,7 @@ use crate::parties::Parties;
 use crate::svc::SVC;
 use gb_base::{End, Entries, Entry, OutOfMemory, Side};
 use gb_bus::Asked;
-use gb_host::HostServed;
+use gb_host::{HostEvent, HostServed};
 
 /// The result of an operation that succeeded (Greybus Specification, "Operation Status Values").
 const SUCCESS: u8 = 0;
@@ -33,18 +43,16 @@ impl Parties {
         payload: &[u8],
         told: &mut Entries,
     ) -> Result<(), OutOfMemory>
-        ensures step { OnOk result ((s : State) (c : Connection) (n : ℕ)
-            → (d : IsDelivered at connection asked.now payload.now s c n)
-            → PartsStand (only connection (side_of at) n) self.old s
-            → MayServe (side_of at) c (incoming n d.request) s
-            → Does self.new (serves (side_of at) c (incoming n d.request)) s told.old told.new) }
+        ensures step { OnOk result
+            (ServesAt at self.old self.new connection asked.now payload.now told.old told.new) }
     {
         match at {
-            End::Svc => self.serve_at_svc(connection, asked, payload, told),
-            End::Ap(_) => self.serve_at_ap(connection, asked, payload, told),
+            End::Svc => self.serve_at_svc(connection, asked, payload, told)?,
+            End::Ap(_) => self.serve_at_ap(connection, asked, payload, told)?,
             End::Module { intf, cport } =>
-                self.serve_at_module(connection, intf, cport, asked, payload, told),
+                self.serve_at_module(connection, intf, cport, asked, payload, told)?,
         }
+        Ok(())
     }
 
     /// The supervisory controller serves a request.
@@ -98,20 +106,48 @@ impl Parties {
         let HostServed {
             result: code,
             payload: answer,
-            tell,
-            then,
+            tell: entry,
+            then: event,
         } = self.host.serve(connection, asked.kind, payload)?;
-        if asked.label != 0 {
-            self.answer(connection, Side::Ap, asked, code, answer.items(), told)?;
-        } else if code != SUCCESS {
-            told.push(Entry::Ignored { kind: asked.kind })?;
+        if asked.label == 0 {
+            if code != SUCCESS {
+                told.push(Entry::Ignored { kind: asked.kind })?;
+                return Ok(());
+            }
+            self.go_on(entry, event, told)?;
+            return Ok(());
         }
-        if let Some(entry) = tell {
-            told.push(entry)?;
-        }
-        if let Some(event) = then {
+        self.answer(connection, Side::Ap, asked, code, answer.items(), told)?;
+        self.go_on(entry, event, told)?;
+        Ok(())
+    }
+
+    /// Tells what came with a request, and takes notice of it.
+    fn go_on(
+        &mut self,
+        entry: Option<Entry>,
+        event: Option<HostEvent>,
+        told: &mut Entries,
+    ) -> Result<(), OutOfMemory>
+        ensures step { OnOk result ((s : State) → PartsStand [] self.old s
+            → MayNotice (option_map event_of event) s
+            → Does self.new (given entry tell ▸ given (option_map event_of event) notices) s
+            told.old told.new) }
+    {
+        tell_any(told, entry)?;
+        if let Some(event) = event {
             self.notice(event, told)?;
         }
         Ok(())
     }
+}
+
+/// Tells an entry, where there is one.
+fn tell_any(told: &mut Entries, entry: Option<Entry>) -> Result<(), OutOfMemory>
+    ensures { OnOk result (told.new ≡ told.old ++ told_of entry) }
+{
+    if let Some(entry) = entry {
+        told.push(entry)?;
+    }
+    Ok(())
 }

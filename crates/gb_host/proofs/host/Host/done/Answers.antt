@@ -7,7 +7,9 @@ use Rattle.gb_machine.specs.Sequences.{size_told, step_done}
 
 pub returns-in-AskSize : goal.returns-in-AskSize
 returns-in-AskSize c =
-    subst (λ s. TurnsAfter (step_done s c.args.purpose c.args.payload (host_of c.args.self.now)) c.args.acts c.args.self.now c.size_told.new.self c.size_told.result)
+    subst (λ s. TurnsAfter (step_done s c.args.purpose c.args.payload (host_of c.args.self.now))
+    c.args.acts c.args.self.now c.size_told.new.self c.size_told.result)
     (sym c.in-AskSize.is)
-    (subst (λ b. TurnsAfter (size_told c.args.purpose b (host_of c.args.self.now)) c.args.acts c.args.self.now c.size_told.new.self c.size_told.result)
+    (subst (λ b. TurnsAfter (size_told c.args.purpose b (host_of c.args.self.now)) c.args.acts
+    c.args.self.now c.size_told.new.self c.size_told.result)
     c.items.ensures c.size_told.ensures)

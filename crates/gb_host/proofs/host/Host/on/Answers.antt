@@ -10,8 +10,11 @@ use Rattle.gb_machine.specs.HostTurns.{host_removed, host_turn}
 pub returns-in-Removed : goal.returns-in-Removed
 returns-in-Removed c = record {
   step = λ h s.
-      subst (λ g. TurnsAs (host_turn (event_of c.args.event) g) c.args.self.now c.removed.new.self c.removed.result) (sym s)
-      (subst (λ e. TurnsAs (host_turn (event_of e) (host_of c.args.self.now)) c.args.self.now c.removed.new.self c.removed.result) (sym c.in-Removed.is)
-      (turned (host_removed c.in-Removed.intf (host_of c.args.self.now)) c.new-acts.result c.args.self.now c.removed.new.self c.removed.result
+      subst (λ g. TurnsAs (host_turn (event_of c.args.event) g) c.args.self.now c.removed.new.self
+      c.removed.result) (sym s)
+      (subst (λ e. TurnsAs (host_turn (event_of e) (host_of c.args.self.now)) c.args.self.now
+      c.removed.new.self c.removed.result) (sym c.in-Removed.is)
+      (turned (host_removed c.in-Removed.intf (host_of c.args.self.now)) c.new-acts.result
+      c.args.self.now c.removed.new.self c.removed.result
       c.new-acts.ensures c.removed.ensures));
 }

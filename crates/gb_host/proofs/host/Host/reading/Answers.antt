@@ -8,5 +8,6 @@ pub returns-in-Some : goal.returns-in-Some
 returns-in-Some c = record {
   step = λ h s.
       c.read.ensures
-      ∙ sym (ap (λ o. reading_on o c.args.kind c.args.payload.now) (looked c.args.self.now h c.args.connection c.of.result (Some c.in-Some.link) s c.of.ensures c.in-Some.is));
+      ∙ sym (ap (λ o. reading_on o c.args.kind c.args.payload.now) (looked c.args.self.now h
+      c.args.connection c.of.result (Some c.in-Some.link) s c.of.ensures c.in-Some.is));
 }

@@ -6,11 +6,13 @@ use Rattle.gb_host.proofs.host.Host.sent.Goals as goal
 pub returns-in-Some : goal.returns-in-Some
 returns-in-Some c = record {
   step = λ h l s there.
-      takes-credits c.args.self.now h c.args.ask.now c.args.connection c.of.result c.in-Some.link l c.credits.result c.spend.new.self.live.items
+      takes-credits c.args.self.now h c.args.ask.now c.args.connection c.of.result c.in-Some.link l
+      c.credits.result c.spend.new.self.live.items
       s c.of.ensures c.in-Some.is there c.credits.ensures c.spend.ensures;
 }
 
 pub returns-in_default : goal.returns-in_default
 returns-in_default c = record {
-  step = λ h l s there. absurd (no-link c.args.self.now h c.args.connection c.of.result l s c.of.ensures c.in_default.is there);
+  step = λ h l s there. absurd (no-link c.args.self.now h c.args.connection c.of.result l s
+      c.of.ensures c.in_default.is there);
 }

@@ -5,4 +5,5 @@ use Rattle.gb_host.proofs.interfaces.Interfaces.at.Given as goal
 
 abbrev pub invariant-loop-interface : goal.invariant-loop-interface
 invariant-loop-interface l =
-    find (is_intf l.intf) (drop l.interface-index l.interface-items) ≡ find (is_intf l.intf) l.interface-items
+    find (is_intf l.intf) (drop l.interface-index l.interface-items)
+    ≡ find (is_intf l.intf) l.interface-items

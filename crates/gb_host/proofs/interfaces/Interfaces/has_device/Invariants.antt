@@ -6,4 +6,5 @@ use Rattle.gb_host.proofs.interfaces.Interfaces.has_device.Given as goal
 
 abbrev pub invariant-loop-interface : goal.invariant-loop-interface
 invariant-loop-interface l =
-    list_any (has_device_id l.device) (drop l.interface-index l.interface-items) ≡ list_any (has_device_id l.device) l.interface-items
+    list_any (has_device_id l.device) (drop l.interface-index l.interface-items)
+    ≡ list_any (has_device_id l.device) l.interface-items

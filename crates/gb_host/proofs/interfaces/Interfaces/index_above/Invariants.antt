@@ -5,4 +5,5 @@ use Rattle.gb_host.proofs.interfaces.Interfaces.index_above.Given as goal
 
 abbrev pub invariant-loop-i : goal.invariant-loop-i
 invariant-loop-i l =
-    position_from (λ x. nat_lt l.intf x.intf) l.i (drop l.i l.interface-items) ≡ position_from (λ x. nat_lt l.intf x.intf) 0 l.interface-items
+    position_from (λ x. nat_lt l.intf x.intf) l.i (drop l.i l.interface-items)
+    ≡ position_from (λ x. nat_lt l.intf x.intf) 0 l.interface-items

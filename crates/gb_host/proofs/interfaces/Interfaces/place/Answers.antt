@@ -5,10 +5,12 @@ use Rattle.gb_host.proofs.interfaces.Interfaces.place.Goals as goal
 
 pub returns-in-Some-clause-order : goal.returns-in-Some-clause-order
 returns-in-Some-clause-order c =
-    placed c.args.intf c.args.self.now c.index_above.result c.in-Some.i c.index_above.ensures.first c.in-Some.is
+    placed c.args.intf c.args.self.now c.index_above.result c.in-Some.i c.index_above.ensures.first
+    c.in-Some.is
 
 pub returns-in-None-clause-order : goal.returns-in-None-clause-order
 returns-in-None-clause-order c = λ x same.
     let all : c.len.result ≡ length c.args.self.now = search in
     ap (λ n. insert c.args.self.now n x) all
-    ∙ placed-last c.args.intf c.args.self.now c.index_above.result c.index_above.ensures.first c.in-None.is x same
+    ∙ placed-last c.args.intf c.args.self.now c.index_above.result c.index_above.ensures.first
+    c.in-None.is x same

@@ -7,5 +7,6 @@ use Rattle.gb_machine.specs.Lists.{without}
 
 pub returns : goal.returns
 returns c =
-    filter_same _ (λ y. not (is_intf c.args.intf y)) _ (λ x b f' k. search rules) _ _ c.retain.ensures.filtered
+    filter_same _ (λ y. not (is_intf c.args.intf y)) _ (λ x b f' k. search rules) _ _
+    c.retain.ensures.filtered
     ∙ ap (without (is_intf c.args.intf)) c.self.view_is

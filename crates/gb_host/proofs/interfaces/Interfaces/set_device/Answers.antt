@@ -7,8 +7,10 @@ use Rattle.gb_host.proofs.interfaces.Interfaces.set_device.Goals as goal
 
 pub returns-in-Some : goal.returns-in-Some
 returns-in-Some c =
-    one-changes (is_intf c.args.intf) c.args.self.now c.index.result c.in-Some.i c.index_mut.result.now _ (with_device c.args.device) c.self.inside.known.items
+    one-changes (is_intf c.args.intf) c.args.self.now c.index.result c.in-Some.i
+    c.index_mut.result.now _ (with_device c.args.device) c.self.inside.known.items
     c.index.ensures.first c.in-Some.is c.self.view_is c.index_mut.ensures.value refl
 
 pub returns-in_default : goal.returns-in_default
-returns-in_default c = none-changes (is_intf c.args.intf) c.args.self.now c.index.result (with_device c.args.device) c.index.ensures.first c.in_default.is
+returns-in_default c = none-changes (is_intf c.args.intf) c.args.self.now c.index.result
+    (with_device c.args.device) c.index.ensures.first c.in_default.is

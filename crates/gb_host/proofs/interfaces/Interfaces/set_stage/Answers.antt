@@ -6,8 +6,10 @@ use Rattle.gb_host.proofs.interfaces.Interfaces.set_stage.Goals as goal
 
 pub returns-in-Some : goal.returns-in-Some
 returns-in-Some c =
-    one-changes (is_intf c.args.intf) c.args.self.now c.index.result c.in-Some.i c.index_mut.result.now _ (staged c.args.to) c.self.inside.known.items
+    one-changes (is_intf c.args.intf) c.args.self.now c.index.result c.in-Some.i
+    c.index_mut.result.now _ (staged c.args.to) c.self.inside.known.items
     c.index.ensures.first c.in-Some.is c.self.view_is c.index_mut.ensures.value refl
 
 pub returns-in_default : goal.returns-in_default
-returns-in_default c = none-changes (is_intf c.args.intf) c.args.self.now c.index.result (staged c.args.to) c.index.ensures.first c.in_default.is
+returns-in_default c = none-changes (is_intf c.args.intf) c.args.self.now c.index.result (staged
+    c.args.to) c.index.ensures.first c.in_default.is

@@ -5,4 +5,5 @@ use Rattle.gb_host.proofs.interfaces.Interfaces.waiting.Given as goal
 
 abbrev pub invariant-loop-interface : goal.invariant-loop-interface
 invariant-loop-interface l =
-    interface_waits l.number (drop l.interface-index l.interface-items) ≡ interface_waits l.number l.interface-items
+    interface_waits l.number (drop l.interface-index l.interface-items)
+    ≡ interface_waits l.number l.interface-items

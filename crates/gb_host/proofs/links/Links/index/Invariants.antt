@@ -6,4 +6,5 @@ use Rattle.gb_host.proofs.links.Links.index.Given as goal
 
 abbrev pub invariant-loop-i : goal.invariant-loop-i
 invariant-loop-i l =
-    position_from (is_link l.intf l.cport) l.i (drop l.i l.link-items) ≡ position_from (is_link l.intf l.cport) 0 l.link-items
+    position_from (is_link l.intf l.cport) l.i (drop l.i l.link-items)
+    ≡ position_from (is_link l.intf l.cport) 0 l.link-items

@@ -5,4 +5,5 @@ use Rattle.gb_host.proofs.links.Links.remove.Goals as goal
 use Rattle.gb_machine.specs.Host.{is_link}
 
 pub returns : goal.returns
-returns c = filter_same _ (λ y. not (is_link c.args.intf c.args.cport y)) _ (λ x b f' k. search rules) _ _ c.retain.ensures.filtered
+returns c = filter_same _ (λ y. not (is_link c.args.intf c.args.cport y)) _ (λ x b f' k. search
+    rules) _ _ c.retain.ensures.filtered

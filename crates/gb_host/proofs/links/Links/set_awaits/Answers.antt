@@ -7,8 +7,10 @@ use Rattle.gb_host.proofs.links.Links.set_awaits.Goals as goal
 
 pub returns-in-Some : goal.returns-in-Some
 returns-in-Some c =
-    one-changes (is_link c.args.intf c.args.cport) c.args.self.now.live.items c.index.result c.in-Some.i c.index_mut.result.now _ (link_awaits c.args.awaits) c.args.self.now.live.items
+    one-changes (is_link c.args.intf c.args.cport) c.args.self.now.live.items c.index.result
+    c.in-Some.i c.index_mut.result.now _ (link_awaits c.args.awaits) c.args.self.now.live.items
     c.index.ensures.first c.in-Some.is refl c.index_mut.ensures.value refl
 
 pub returns-in_default : goal.returns-in_default
-returns-in_default c = none-changes (is_link c.args.intf c.args.cport) c.args.self.now.live.items c.index.result (link_awaits c.args.awaits) c.index.ensures.first c.in_default.is
+returns-in_default c = none-changes (is_link c.args.intf c.args.cport) c.args.self.now.live.items
+    c.index.result (link_awaits c.args.awaits) c.index.ensures.first c.in_default.is

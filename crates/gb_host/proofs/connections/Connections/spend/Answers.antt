@@ -1,0 +1,19 @@
+-- The connections have the CPorts and the numbers that they had.
+use Rattle.std.proofs.Common.{refl}
+use Rattle.gb_host.proofs.Marks.{marks-kept}
+use Rattle.gb_host.proofs.Rising.{rises-kept}
+use Rattle.gb_host.specs.Changes.{with_fewer}
+use Rattle.gb_machine.specs.Host.{is_link}
+use Rattle.gb_host.proofs.connections.Connections.spend.Goals as goal
+
+pub invariant_of-self : goal.invariant_of-self
+invariant_of-self c = record {
+  marks =
+      marks-kept c.self.inside.cports (is_link c.args.intf c.args.cport) (with_fewer c.args.taken)
+      c.self.inside.links.live.items c.spend.new.self.live.items (λ l. refl) c.self.invariant.marks
+      c.spend.ensures;
+  rises = λ says.
+      rises-kept (is_link c.args.intf c.args.cport) (with_fewer c.args.taken)
+      c.self.inside.links.live.items c.spend.new.self.live.items (λ l. refl) c.spend.ensures
+      (c.self.invariant.rises says);
+}

@@ -1,0 +1,144 @@
+-- Credits stay at a moment at which no bridge line is done and no credits are taken: each
+-- connection behind it was there before with the same credits, or is new and has the most.
+use Rattle.std.proofs.Common.{◌≡◌, ◌≤◌, ◌<◌, ℕ, ◌+◌, Some, List, refl, sym, ap, ◌∙◌, ⊎_elim, subst, arith}
+use Rattle.gb_base.specs.declared.peers.Link.{Link}
+use Rattle.gb_formats.specs.UartDevice.{most_credits}
+use Rattle.gb_invariants.proofs.Lists.{in-pushed}
+use Rattle.gb_laws.proofs.Awaited.{awaited-rest}
+use Rattle.gb_laws.proofs.Basics.{basis-kept}
+use Rattle.gb_laws.proofs.LinkActs.{awaited-host}
+use Rattle.gb_laws.proofs.LinkBuses.{new_link}
+use Rattle.gb_laws.proofs.LinkHosts.{then-same}
+use Rattle.gb_laws.proofs.LinkSources.{CameFrom, LinksFrom, from-links, from-turn, from-unsent, from-waiting}
+use Rattle.gb_laws.proofs.PointParts.{Basis, IsServed, Point}
+use Rattle.gb_laws.proofs.Points.{Change, IsBridge, Law, acts_asked, acts_failed, acts_left, acts_opened, acts_shut, acts_told, answers, asks, binds, changed, drops, forgets, frees, gives_up, holds, injects, names, others, passes, replies, serves, spends, takes, takes_held, tells, turns, unwires, wires}
+use Rattle.gb_machine.specs.Bus.{Bus}
+use Rattle.gb_machine.specs.Failures.{unsent}
+use Rattle.gb_machine.specs.Host.{Host, with_new_link}
+use Rattle.gb_machine.specs.HostActs.{with_awaited}
+use Rattle.gb_machine.specs.HostServing.{host_serves}
+use Rattle.gb_machine.specs.HostTurns.{host_turn}
+use Rattle.gb_machine.specs.Members.{IsIn}
+use Rattle.gb_machine.specs.Runs.{Moment}
+use Rattle.gb_machine.specs.Turns.{Making}
+use Rattle.gb_machine.specs.Waits.{awaits}
+use Rattle.gb_machine.specs.Wiring.{next_connection}
+
+-- A connection was there before with the same credits, or is new and has the most.
+pub data IsKept (m : Moment) (l : Link) : Type 0 where
+  was : CameFrom l m.before.host → IsKept m l
+  new : m.before.bus.made < l.connection → l.credits ≡ most_credits → IsKept m l
+
+-- all are
+pub record CreditsAt (m : Moment) (count : ℕ) (h : Host) : Type 0 where
+  pub links : (l : Link) → IsIn l h.links → IsKept m l
+  pub made : m.before.bus.made ≤ count
+
+kept-from : (m : Moment) (l : Link) (h : Host) (x : CameFrom l h) → IsKept m x.link → IsKept m l
+kept-from m l h x (was y) = was (record {
+  link = y.link;
+  live = y.live;
+  same = then-same y.link x.link l y.same x.same;
+  credits = x.credits ∙ y.credits;
+})
+kept-from m l h x (new later most) =
+    new (subst (λ n. m.before.bus.made < n) (sym x.same.connection) later) (x.credits ∙ most)
+
+credits-from : (m : Moment) (made : ℕ) (h g : Host) → LinksFrom h g → CreditsAt m made h
+    → CreditsAt m made g
+credits-from m made h g from f = record {
+  links = λ l i. let x = from l i in kept-from m l h x (f.links x.link x.live);
+  made = f.made;
+}
+
+pub credits-start : (m : Moment) → CreditsAt m m.before.bus.made m.before.host
+credits-start m = record {
+  links = λ l i. was (from-links m.before.host m.before.host refl l i);
+  made = omega arith;
+}
+
+-- a connection more
+credits-opened : (m : Moment) (b : Bus) (w : Making) (h : Host) → CreditsAt m b.made h
+    → CreditsAt m (b.made + 1) (with_new_link (next_connection b) w.ap w.intf w.cport w.protocol h)
+credits-opened m b w h f = record {
+  links = λ l i. ⊎_elim (λ o. f.links l o)
+      (λ e. subst (IsKept m) (sym e) (new (let low = f.made in omega (arith, low)) refl))
+      (in-pushed l h.links (new_link (next_connection b) w) i);
+  made = let low = f.made in omega (arith, low);
+}
+
+-- What a moment must be for credits to stay.
+pub record IsCreditless (m : Moment) : Type 0 where
+  pub line : IsBridge m.event → ⊥
+  pub served : (k kind : ℕ) (payload : List ℕ) → IsServed m k kind payload
+      → (host_serves k kind payload m.before.host).host ≡ m.before.host
+
+pub credits-kept : (m : Moment) → IsCreditless m → (a : Point) (x : Change m a)
+    → CreditsAt m a.state.bus.made a.state.host
+    → CreditsAt m (changed m a x).state.bus.made (changed m a x).state.host
+credits-kept m less a (turns e free untouched none cause) h =
+    credits-from m a.state.bus.made a.state.host (host_turn e a.state.host).host
+    (from-turn e a.state.host) h
+credits-kept m less a (acts_opened w q rest free is) h =
+    credits-opened m a.state.bus w a.state.host h
+credits-kept m less a (acts_asked q n rest is) h =
+    subst (λ (b : Bus). CreditsAt m b.made (with_awaited q.purpose n a.state).host)
+    (sym (awaited-rest q.purpose n a.state).bus)
+    (subst (λ g. CreditsAt m a.state.bus.made g) (sym (awaited-host q.purpose n a.state))
+    (credits-from m a.state.bus.made a.state.host (awaits q.purpose n a.state.host)
+    (from-waiting (Some (n, q.purpose.step)) q.purpose a.state.host) h))
+credits-kept m less a (acts_failed q rest is quiet) h =
+    credits-from m a.state.bus.made a.state.host (unsent q.purpose a.state.host).host
+    (from-unsent q.purpose.step q.purpose a.state.host) h
+credits-kept m less a (serves k kind payload none) h =
+    subst (λ g. CreditsAt m a.state.bus.made g)
+    (sym (ap (λ g. (host_serves k kind payload g).host) none.2 ∙ less.served k kind payload none.1))
+    (record { links = (credits-start m).links; made = h.made })
+credits-kept m less a (spends i c what none) h = absurd (less.line none.1)
+credits-kept m less a (tells e quiet) h = h
+credits-kept m less a (asks d c label free live drawn who) h = h
+credits-kept m less a (names name d c label free live drawn host) h = h
+credits-kept m less a (binds x y n is) h = h
+credits-kept m less a (frees name) h = h
+credits-kept m less a (takes at p item free start is named front) h = h
+credits-kept m less a (takes_held i c place p x free start is at held) h = h
+credits-kept m less a drops h = h
+credits-kept m less a (holds x is far) h = h
+credits-kept m less a (replies x q r is made twoway) h = h
+credits-kept m less a (answers x n result payload is says which) h = h
+credits-kept m less a (forgets x n is which) h = h
+credits-kept m less a (gives_up n how free unended cause) h = h
+credits-kept m less a (wires k free untouched live powered) h = h
+credits-kept m less a (unwires k free before live) h = h
+credits-kept m less a (injects i c p bytes free named) h = h
+credits-kept m less a (acts_told e rest is quiet) h = h
+credits-kept m less a (acts_shut k rest free is cause) h = h
+credits-kept m less a (acts_left k rest free untouched is) h = h
+credits-kept m less a (passes millis) h = h
+credits-kept m less a (others booted marks ports modules same) h = h
+
+abbrev pub credits_law : (m : Moment) → IsCreditless m → Law m
+credits_law m less = record {
+  holds = λ a. Basis a × CreditsAt m a.state.bus.made a.state.host;
+  basis = λ a h. h.0;
+  kept = λ a x h. (basis-kept m a x h.0, credits-kept m less a x h.1);
+}
+
+-- ---- connections are made, and none is unmade
+
+pub made-kept : (m : Moment) (a : Point) (x : Change m a) → m.before.bus.made ≤ a.state.bus.made
+    → m.before.bus.made ≤ (changed m a x).state.bus.made
+made-kept m a (acts_opened w q rest free is) h = omega (arith, h)
+made-kept m a (acts_asked q n rest is) h =
+    subst (λ (b : Bus). m.before.bus.made ≤ b.made) (sym (awaited-rest q.purpose n a.state).bus) h
+made-kept m a (takes at p item free start is named front) h = h
+made-kept m a (answers x n result payload is says which) h = h
+made-kept m a (unwires k free before live) h = h
+made-kept m a _ h = h
+
+abbrev pub made_law : (m : Moment) → Law m
+made_law m = record {
+  holds = λ a. Basis a × (m.before.bus.made ≤ a.state.bus.made);
+  basis = λ a h. h.0;
+  kept = λ a x h. (basis-kept m a x h.0, made-kept m a x h.1);
+}

@@ -1,0 +1,67 @@
+-- Each open request of the application processor is on a live connection, and its side of that
+-- isn't closed, in each state of a run.
+use Rattle.std.proofs.Common.{◌≡◌, ℕ, false, Option, Some, None, List, [], refl, ap}
+use Rattle.std.specs.Prelude.{◌||◌, option_map}
+use Rattle.gb_base.specs.declared.entry.Entry.{Entry}
+use Rattle.gb_invariants.proofs.Awaiting.{same-some}
+use Rattle.gb_laws.proofs.Basics.{none-made}
+use Rattle.gb_laws.proofs.LinkLaw.{link_law}
+use Rattle.gb_laws.proofs.LinkRuns.{LinkedTo, linked-over, linked-throughout, start-absent}
+use Rattle.gb_laws.proofs.Linking.{InsertsAbsent, LinkedAt}
+use Rattle.gb_laws.proofs.OpenKept.{opens-kept}
+use Rattle.gb_laws.proofs.Opens.{Opens}
+use Rattle.gb_laws.proofs.PointParts.{Basis}
+use Rattle.gb_laws.proofs.Points.{Law}
+use Rattle.gb_laws.proofs.Runs.{HoldsByMoments, throughout, weaker}
+use Rattle.gb_laws.proofs.Shutting.{is_shut, shut_of}
+use Rattle.gb_laws.proofs.Steps.{over-step}
+use Rattle.gb_machine.specs.Bus.{Bus, Connection, connection_of}
+use Rattle.gb_machine.specs.LawsHotPlug.{OpenIsLive}
+use Rattle.gb_machine.specs.Requests.{is_given_up}
+use Rattle.gb_machine.specs.Runs.{Moment}
+use Rattle.gb_machine.specs.State.{State}
+
+-- what is known of connections, with the requests that are upon them
+abbrev pub opens_law : (m : Moment) → InsertsAbsent m → Law m
+opens_law m absent = record {
+  holds = λ a. (Basis a × LinkedAt a) × Opens a.state.bus a.state.host a.pending;
+  basis = λ a h. h.0.0;
+  kept = λ a x h. ((link_law m absent).kept a x h.0, opens-kept m a x h.0.0 h.0.1 h.1);
+}
+
+pub record OpensTo (told : List Entry) (s : State) : Type 0 where
+  pub links : LinkedTo told s
+  pub opens : Opens s.bus s.host []
+
+pub opens-throughout : HoldsByMoments OpensTo
+opens-throughout = throughout OpensTo (record {
+  links = linked-throughout [] tt;
+  opens = record {
+    upon = λ n r made w ap_side. absurd (none-made n r made);
+    closing = λ n x. absurd x.live;
+  };
+}) (λ m one h. record {
+  links = linked-over m one h.links;
+  opens = (over-step m (opens_law m (start-absent m h.links)) one
+      ((h.links.0, h.links.1), h.opens)).1.1;
+})
+
+-- a connection whose side isn't closed is there
+open-there : (k : ℕ) (b : Bus) → shut_of k b ≡ Some false
+    → (c : Connection) × (connection_of k b ≡ Some c) × (c.shut ≡ false)
+open-there k b open_ = by (connection_of k b) refl open_
+  where
+    by : (o : Option Connection) → connection_of k b ≡ o → option_map is_shut o ≡ Some false
+        → (c : Connection) × (connection_of k b ≡ Some c) × (c.shut ≡ false)
+    by None e f = absurd cc
+    by (Some c) e f = (c, e, same-some c.shut false f)
+
+-- Each open request of the application processor is on a live connection, and its side of that
+-- isn't closed.
+pub open-live_in : (told : List Entry) (s : State) → OpensTo told s → OpenIsLive told s
+open-live_in told s h n r made unended ap_side =
+    open-there r.connection s.bus (h.opens.upon n r made
+    (ap (λ t. t || is_given_up n s.bus) unended) ap_side).open_
+
+pub open-live_by_moments : HoldsByMoments OpenIsLive
+open-live_by_moments = weaker OpensTo OpenIsLive open-live_in opens-throughout

@@ -1,0 +1,5 @@
+use Rattle.gb_laws.proofs.EveryRun.{none-forgotten}
+use Rattle.gb_laws.proofs.laws.none_forgotten.Goals as goal
+
+pub returns : goal.returns
+returns c = none-forgotten

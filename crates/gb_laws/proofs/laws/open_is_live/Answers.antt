@@ -1,0 +1,5 @@
+use Rattle.gb_laws.proofs.EveryRun.{open-live}
+use Rattle.gb_laws.proofs.laws.open_is_live.Goals as goal
+
+pub returns : goal.returns
+returns c = open-live

@@ -1,0 +1,235 @@
+-- The request of a name is cancelled, and names are copied and freed, as the machine does.
+use Rattle.std.proofs.Common.{◌≡◌, ℕ, Bool, true, false, cond, not, Option, Some, None, is_some, is_none, ◌&&◌, Ok, List, [], ◌∷◌, ◌++◌, refl, sym, ap, ◌∙◌, subst}
+use Rattle.gb_base.specs.declared.bridge.Reading.TheVariants as reading
+use Rattle.gb_base.specs.declared.entry.Entry.{Entry}
+use Rattle.gb_base.specs.declared.entry.Entry.TheVariants as entry
+use Rattle.gb_base.specs.declared.name.Name.{Name}
+use Rattle.gb_base.specs.declared.outcome.Outcome.{Outcome}
+use Rattle.gb_base.specs.declared.outcome.Outcome.TheVariants as outcome
+use Rattle.gb_base.specs.declared.refusal.Refusal.{Refusal}
+use Rattle.gb_base.specs.declared.refusal.Refusal.TheVariants as why
+use Rattle.gb_bus.specs.Cancelling.{Cancels, CancelsNothing}
+use Rattle.gb_bus.specs.declared.bus.Bus as code
+use Rattle.gb_laws.proofs.LinkChanges.{linked-gave_up}
+use Rattle.gb_laws.proofs.Reached.{reached-linked, reached-names}
+use Rattle.gb_machine.proofs.Options.{none-of}
+use Rattle.gb_machine.proofs.Opened.{machine_opened}
+use Rattle.gb_machine.specs.Actions.{change, given, tell, ◌▸◌}
+use Rattle.gb_machine.specs.Bus.{Bus, Request, outcome_of, request_of}
+use Rattle.gb_machine.specs.Events.{does}
+use Rattle.gb_machine.specs.GivingUp.{gives_up}
+use Rattle.gb_machine.specs.HostActs.{follows}
+use Rattle.gb_machine.specs.Lists.{Condition, first_met, holds_of, without}
+use Rattle.gb_machine.specs.Members.{Each}
+use Rattle.gb_machine.specs.Names.{bound, freed, named, same_name}
+use Rattle.gb_machine.specs.Requests.{gave_up}
+use Rattle.gb_machine.specs.State.{State}
+use Rattle.gb_machine.specs.Turns.{HostEvent}
+use Rattle.gb_system.proofs.Doings.{does-by_state, does-change, does-given}
+use Rattle.gb_system.proofs.Landing.{lands, lands-refused}
+use Rattle.gb_system.proofs.Standing.{rebussed}
+use Rattle.gb_system.proofs.Turning.{may-end}
+use Rattle.gb_system.specs.Acting.{MayTurn}
+use Rattle.gb_system.specs.Doing.{Does}
+use Rattle.gb_system.specs.Stands.{PartiesStand, PartsStand, PartsStep, held_items}
+use Rattle.gb_system.specs.Told.{cancel_of, copy_of, forget_of}
+use Rattle.gb_system.specs.declared.parties.Parties.{Parties}
+
+-- what a name names in the state that the parties stand for
+pub named-is : (x : Parties) (s : State) (name : Name) → PartiesStand x s
+    → named name s.names ≡ named name x.names
+named-is x s name st = ap (named name) st.parts.names
+
+-- The parties stand for a state with other names.
+pub renamed : (x : Parties) (s : State) {names : List (Name × ℕ)} (others : List (Name × ℕ))
+    → PartsStand [] x s → others ≡ names
+    → PartsStand [] (record x { names = names }) (record s { names = others })
+renamed x s others st same = record {
+  bus = st.bus;
+  ports = st.ports;
+  modules = st.modules;
+  host = st.host;
+  names = same;
+  booted = st.booted;
+  sound = st.sound;
+  short = st.short;
+  now = st.now;
+  holds = st.holds;
+  held = st.held;
+}
+
+-- ---- cancels
+
+-- the conditions of a cancel's refusals, by what the name names
+abbrev cancel_conditions : State → Option ℕ → List Condition
+cancel_conditions s o =
+    (is_none o, why.NoName)
+    ∷ (holds_of (λ n. is_some (outcome_of n s.bus)) o, why.AlreadyEnded)
+    ∷ []
+
+-- a name that names nothing
+pub cancel-unnamed : (x : Parties) (s : State) (name : Name) (es : List Entry)
+    → PartiesStand x s → named name x.names ≡ None → es ≡ entry.Refused why.NoName ∷ []
+    → PartsStep x s (cancel_of name) (Ok es)
+cancel-unnamed x s name es st h is =
+    lands-refused x s (cancel_of name) why.NoName es
+    (ap (λ o. first_met (cancel_conditions s o)) (named-is x s name st ∙ h)) is st.parts
+
+-- an open request has no outcome
+unended : (r : Option Request) (o : Option Outcome) → is_some r && is_none o ≡ true → o ≡ None
+unended (Some r) None h = refl
+unended (Some r) (Some how) h = absurd cc
+unended None o h = absurd cc
+
+-- one that was made and isn't open has one
+over : (r : Option Request) (o : Option Outcome) → is_some r ≡ true
+    → is_some r && is_none o ≡ false → is_some o ≡ true
+over (Some r) (Some how) made h = refl
+over (Some r) None made h = absurd cc
+over None o made h = absurd cc
+
+-- the request that a name names was made
+named-made : (names : List (Name × ℕ)) (name : Name) (n : ℕ) (b : Bus)
+    → Each (λ (p : Name × ℕ). is_some (request_of p.1 b) ≡ true) names → named name names ≡ Some n
+    → is_some (request_of n b) ≡ true
+named-made [] name n b made h = absurd cc
+named-made (p ∷ ps) name n b made h = by (named-made ps name n b made.1) (same_name p.0 name) h
+  where
+    by : (named name ps ≡ Some n → is_some (request_of n b) ≡ true) → (c : Bool)
+        → cond c (Some p.1) (named name ps) ≡ Some n → is_some (request_of n b) ≡ true
+    by later true e = subst (λ m. is_some (request_of m b) ≡ true) (cc (e)) made.0
+    by later false e = later e
+
+-- a request that had ended before
+pub cancel-ended : (x : Parties) (z : code.Bus) (s : State) (name : Name) (n : ℕ)
+    (es : List Entry) → PartiesStand x s → named name x.names ≡ Some n
+    → CancelsNothing (held_items s) z n s.bus → es ≡ entry.Refused why.AlreadyEnded ∷ []
+    → PartsStep (record x { bus = z }) s (cancel_of name) (Ok es)
+cancel-ended x z s name n es st h cancels is =
+    let names_it = named-is x s name st ∙ h in
+    let made = named-made s.names name n s.bus (reached-names s st.run) names_it in
+    let ended = over (request_of n s.bus) (outcome_of n s.bus) made cancels.over in
+    lands-refused (record x { bus = z }) s (cancel_of name) why.AlreadyEnded es
+    (ap (λ o. first_met (cancel_conditions s o)) names_it
+    ∙ ap (λ b. first_met ((b, why.AlreadyEnded) ∷ [])) ended) is
+    (rebussed [] z s.bus st.parts cancels.stands st.parts.sound)
+
+-- the state once a request is given up
+abbrev pub given_up : ℕ → State → State
+given_up n s = record s { bus = gave_up n outcome.Cancelled s.bus }
+
+-- what is done where a request is given up
+does-gives_up : {y : Parties} (s : State) (n : ℕ) {before es : List Entry}
+    → Does y (tell (entry.Ended n outcome.Cancelled reading.Nothing) ▸ follows n outcome.Cancelled)
+    (given_up n s) before es
+    → Does y (gives_up outcome.Cancelled n) s before es
+unfolding machine_opened
+does-gives_up s n d = record { told_is = d.told_is; stand = d.stand }
+
+-- what a cancel does
+does-cancels : {y : Parties} (s : State) (name : Name) (n : ℕ) {before es : List Entry}
+    → named name s.names ≡ Some n → Does y (gives_up outcome.Cancelled n) s before es
+    → Does y (does (cancel_of name)) s before es
+unfolding machine_opened
+does-cancels s name n is d =
+    does-by_state (λ t. given (named name t.names) (gives_up outcome.Cancelled))
+    (does-given (gives_up outcome.Cancelled) n is d)
+
+-- an open request is given up
+pub cancel-done : (x y : Parties) (z : code.Bus) (s : State) (name : Name) (n : ℕ)
+    (before es : List Entry) → PartiesStand x s → named name x.names ≡ Some n
+    → Cancels (held_items s) z n s.bus → before ≡ entry.Done ∷ []
+    → (PartsStand [] (record x { bus = z }) (given_up n s)
+    → MayTurn (HostEvent.Ended n outcome.Cancelled) (given_up n s)
+    → Does y (tell (entry.Ended n outcome.Cancelled reading.Nothing) ▸ follows n outcome.Cancelled)
+    (given_up n s) before es)
+    → PartsStep y s (cancel_of name) (Ok es)
+cancel-done x y z s name n before es st h cancels begun ends =
+    let names_it = named-is x s name st ∙ h in
+    let still = unended (request_of n s.bus) (outcome_of n s.bus) cancels.unended in
+    lands y s (cancel_of name) before es
+    (ap (λ o. first_met (cancel_conditions s o)) names_it
+    ∙ ap (λ o. first_met ((is_some o, why.AlreadyEnded) ∷ [])) still) begun
+    (does-cancels s name n names_it (does-gives_up s n (ends
+    (rebussed [] z (gave_up n outcome.Cancelled s.bus) st.parts cancels.stands st.parts.sound)
+    (may-end (given_up n s) n outcome.Cancelled
+    (linked-gave_up n outcome.Cancelled (reached-linked s st.run))))))
+
+-- ---- copies
+
+-- why a copy is refused, by what the two names name
+abbrev copy_refusal : Option ℕ → Option ℕ → Option Refusal
+copy_refusal from to = first_met
+    ((not (is_some from), why.NoName) ∷ (is_some to, why.Occupied) ∷ [])
+
+-- the name to be copied names nothing
+pub copy-unnamed : (x : Parties) (s : State) (from to : Name) (es : List Entry)
+    → PartiesStand x s → named from x.names ≡ None → es ≡ entry.Refused why.NoName ∷ []
+    → PartsStep x s (copy_of from to) (Ok es)
+copy-unnamed x s from to es st h is =
+    lands-refused x s (copy_of from to) why.NoName es
+    (ap (λ o. copy_refusal o (named to s.names)) (named-is x s from st ∙ h)) is st.parts
+
+-- the new name names something
+pub copy-occupied : (x : Parties) (s : State) (from to : Name) (n : ℕ) (es : List Entry)
+    → PartiesStand x s → named from x.names ≡ Some n → is_some (named to x.names) ≡ true
+    → es ≡ entry.Refused why.Occupied ∷ []
+    → PartsStep x s (copy_of from to) (Ok es)
+copy-occupied x s from to n es st h taken is =
+    lands-refused x s (copy_of from to) why.Occupied es
+    (ap (λ o. copy_refusal o (named to s.names)) (named-is x s from st ∙ h)
+    ∙ ap (λ b. first_met ((b, why.Occupied) ∷ [])) (ap is_some (named-is x s to st) ∙ taken)) is
+    st.parts
+
+-- what a copy does
+does-copies : {y : Parties} (s : State) (from to : Name) (n : ℕ) {before : List Entry}
+    → named from s.names ≡ Some n → PartsStand [] y (bound to n s)
+    → Does y (does (copy_of from to)) s before before
+unfolding machine_opened
+does-copies s from to n is st =
+    does-by_state (λ t. given (named from t.names) (λ m. change (bound to m)))
+    (does-given (λ m. change (bound to m)) n is (does-change (bound to n) st))
+
+-- a request gets another name
+pub copy-done : (x y : Parties) (s : State) (from to : Name) (n : ℕ) (es : List Entry)
+    → PartiesStand x s → named from x.names ≡ Some n → is_some (named to x.names) ≡ false
+    → y ≡ record x { names = x.names ++ (to, n) ∷ [] } → es ≡ entry.Done ∷ []
+    → PartsStep y s (copy_of from to) (Ok es)
+copy-done x y s from to n es st h free same is =
+    let names_it = named-is x s from st ∙ h in
+    lands y s (copy_of from to) es es
+    (ap (λ o. copy_refusal o (named to s.names)) names_it
+    ∙ ap (copy_refusal (Some n)) (named-is x s to st ∙ none-of (named to x.names) free)) is
+    (does-copies s from to n names_it
+    (subst (λ (w : Parties). PartsStand [] w (bound to n s)) (sym same)
+    (renamed x s (bound to n s).names st.parts (ap (λ ns. ns ++ (to, n) ∷ []) st.parts.names))))
+
+-- ---- frees
+
+-- the name names nothing
+pub forget-unnamed : (x : Parties) (s : State) (name : Name) (es : List Entry)
+    → PartiesStand x s → named name x.names ≡ None → es ≡ entry.Refused why.NoName ∷ []
+    → PartsStep x s (forget_of name) (Ok es)
+forget-unnamed x s name es st h is =
+    lands-refused x s (forget_of name) why.NoName es
+    (ap (λ o. first_met ((not (is_some o), why.NoName) ∷ [])) (named-is x s name st ∙ h)) is
+    st.parts
+
+-- what a free does
+does-frees : {y : Parties} (s : State) (name : Name) {before : List Entry}
+    → PartsStand [] y (freed name s) → Does y (does (forget_of name)) s before before
+unfolding machine_opened
+does-frees s name st = does-change (freed name) st
+
+-- the name is free again
+pub forget-done : (x y : Parties) (s : State) (name : Name) (n : ℕ) (es : List Entry)
+    → PartiesStand x s → named name x.names ≡ Some n
+    → y ≡ record x { names = without (λ p. same_name p.0 name) x.names } → es ≡ entry.Done ∷ []
+    → PartsStep y s (forget_of name) (Ok es)
+forget-done x y s name n es st h same is =
+    lands y s (forget_of name) es es
+    (ap (λ o. first_met ((not (is_some o), why.NoName) ∷ [])) (named-is x s name st ∙ h)) is
+    (does-frees s name
+    (subst (λ (w : Parties). PartsStand [] w (freed name s)) (sym same)
+    (renamed x s (freed name s).names st.parts
+    (ap (without (λ (p : Name × ℕ). same_name p.0 name)) st.parts.names))))

@@ -1,0 +1,200 @@
+-- Modules are pulled as the machine does.
+use Rattle.std.proofs.Common.{◌≡◌, ◌≤◌, ◌+◌, ℕ, Bool, true, false, not, Option, None, Ok, List, [], ◌∷◌, length, drop, drop_of_length-le, refl, sym, ap, ◌∙◌, subst, arith}
+use Rattle.gb_base.specs.declared.end.Side.TheVariants as side
+use Rattle.gb_base.specs.declared.entry.Entry.{Entry}
+use Rattle.gb_base.specs.declared.entry.Entry.TheVariants as entry
+use Rattle.gb_base.specs.declared.event.Event.TheVariants as event
+use Rattle.gb_base.specs.declared.refusal.Refusal.{Refusal}
+use Rattle.gb_base.specs.declared.refusal.Refusal.TheVariants as why
+use Rattle.gb_formats.specs.SvcRecords.{SvcAsk}
+use Rattle.gb_invariants.proofs.Lists.{each-filter}
+use Rattle.gb_machine.proofs.Opened.{machine_opened}
+use Rattle.gb_machine.specs.Actions.{Action, change, each, nothing, when, ◌▸◌}
+use Rattle.gb_machine.specs.Events.{does}
+use Rattle.gb_machine.specs.Labels.{no_label}
+use Rattle.gb_machine.specs.Lists.{first_met}
+use Rattle.gb_machine.specs.Modules.{is_plugged, is_plugged_at, unplugged}
+use Rattle.gb_machine.specs.OwnAsking.{far_asks, svc_asks}
+use Rattle.gb_machine.specs.Plugging.{wired_numbers, with_pulled}
+use Rattle.gb_machine.specs.Ports.{unpowered}
+use Rattle.gb_machine.specs.Refusals.{has_no_label, refusal}
+use Rattle.gb_machine.specs.State.{Plugged, State}
+use Rattle.gb_machine.specs.Wires.{unwires, with_unwired}
+use Rattle.gb_switch.specs.Stands as switch
+use Rattle.gb_switch.specs.declared.ladder.Ladder.{Ladder}
+use Rattle.gb_system.proofs.Doings.{does-by_state, does-change, does-then, does-unless, does-when}
+use Rattle.gb_system.proofs.Landing.{lands, lands-refused}
+use Rattle.gb_system.proofs.Midways.{Midway, each-cons, each-nil, midway-as, midway-end, midway-more}
+use Rattle.gb_system.specs.Acting.{IsAskable}
+use Rattle.gb_system.specs.Doing.{Does}
+use Rattle.gb_system.specs.Drafts.{own_ask}
+use Rattle.gb_system.specs.Stands.{IsShort, PartiesStand, PartsStand, PartsStep}
+use Rattle.gb_system.specs.declared.parties.Parties.{Parties}
+
+-- ---- actions for each of a list, midway
+
+-- one more of them
+pub midway-next : {A : Type 0} {x y : Parties} {whole : Action} {s : State} {a b c : List Entry}
+    (f : A → Action) (xs : List A) (i : ℕ) (v : A) → drop i xs ≡ v ∷ drop (i + 1) xs
+    → (m : Midway x whole (each (drop i xs) f) s a b) → Does y (f v) m.state b c
+    → Midway y whole (each (drop (i + 1) xs) f) s a c
+midway-next f xs i v next m d =
+    midway-more (f v) (each (drop (i + 1) xs) f)
+    (midway-as (f v ▸ each (drop (i + 1) xs) f)
+    (ap (λ l. each l f) next ∙ each-cons v (drop (i + 1) xs) f) m) d
+
+-- all of them
+pub midway-all : {A : Type 0} {x : Parties} {whole : Action} {s : State} {a b : List Entry}
+    (f : A → Action) (xs : List A) (i : ℕ) → length xs ≤ i
+    → Midway x whole (each (drop i xs) f) s a b → Does x whole s a b
+midway-all f xs i past m =
+    midway-end (midway-as nothing
+    (ap (λ l. each l f) (drop_of_length-le xs past) ∙ each-nil f) m)
+
+-- ---- refusals
+
+-- why a pull is refused
+abbrev pull_refusal : Bool → Bool → Option Refusal
+pull_refusal there spent =
+    first_met ((not there, why.NoInterface) ∷ (spent, no_label) ∷ [])
+
+refusal-is : (s : State) (i : ℕ) → refusal s (event.Pull i)
+    ≡ pull_refusal (is_plugged i s.modules) (has_no_label 1 side.Far s)
+refusal-is s i = refl
+
+-- no module is there
+pub pull-nothing : (x : Parties) (s : State) (i : ℕ) (es : List Entry)
+    → PartiesStand x s → is_plugged i s.modules ≡ false → es ≡ entry.Refused why.NoInterface ∷ []
+    → PartsStep x s (event.Pull i) (Ok es)
+pull-nothing x s i es st there is =
+    lands-refused x s (event.Pull i) why.NoInterface es
+    (refusal-is s i ∙ ap (λ b. pull_refusal b (has_no_label 1 side.Far s)) there) is st.parts
+
+-- no identifier is left
+pub pull-spent : (x : Parties) (s : State) (i : ℕ) (es : List Entry)
+    → PartiesStand x s → is_plugged i s.modules ≡ true → has_no_label 1 side.Far s ≡ true
+    → es ≡ entry.Refused why.LabelsSpent ∷ [] → PartsStep x s (event.Pull i) (Ok es)
+pull-spent x s i es st there spent is =
+    lands-refused x s (event.Pull i) why.LabelsSpent es
+    (refusal-is s i ∙ ap (λ b. pull_refusal b (has_no_label 1 side.Far s)) there
+    ∙ ap (pull_refusal true) spent) is st.parts
+
+pull-allowed : (s : State) (i : ℕ) → is_plugged i s.modules ≡ true
+    → has_no_label 1 side.Far s ≡ false → refusal s (event.Pull i) ≡ None
+pull-allowed s i there spent =
+    refusal-is s i ∙ ap (λ b. pull_refusal b (has_no_label 1 side.Far s)) there
+    ∙ ap (pull_refusal true) spent
+
+-- ---- pulls
+
+-- the state once these connections are unwired
+abbrev after_unwiring : List ℕ → State → State
+after_unwiring numbers s = (each numbers unwires s).state
+
+-- whether the supervisory controller has started is no matter of connections
+unwiring-booted : (numbers : List ℕ) (s : State)
+    → (after_unwiring numbers s).booted ≡ s.booted
+unfolding machine_opened
+unwiring-booted [] s = refl
+unwiring-booted (n ∷ ns) s = unwiring-booted ns (with_unwired n s)
+
+-- the parties stand for the state without the module
+pulled-stand : (x : Parties) (t : State) (i : ℕ) (modules : List Plugged) (l : Ladder)
+    → PartsStand [] x t → modules ≡ unplugged i x.modules → switch.Stands l (unpowered i t.ports)
+    → PartsStand [] (record x { modules = modules; ladder = l }) (with_pulled i t)
+pulled-stand x t i modules l st is ports = record {
+  bus = st.bus;
+  ports = ports;
+  modules = ap (unplugged i) st.modules ∙ sym is;
+  host = st.host;
+  names = st.names;
+  booted = st.booted;
+  sound = st.sound;
+  short = each-filter IsShort (λ p. not (is_plugged_at i p)) t.modules st.short;
+  now = st.now;
+  holds = st.holds;
+  held = st.held;
+}
+
+-- what a pull does at a state
+abbrev pulls_at : ℕ → State → Action
+pulls_at i s =
+    each (wired_numbers i s.bus) unwires ▸ change (with_pulled i)
+    ▸ when s.booted (svc_asks (SvcAsk.ModuleRemoved i))
+
+-- where the supervisory controller has started
+does-told : (x y z : Parties) (s : State) (i : ℕ) {a b c : List Entry}
+    → Does x (each (wired_numbers i s.bus) unwires) s a b
+    → PartsStand [] y (with_pulled i (after_unwiring (wired_numbers i s.bus) s))
+    → s.booted ≡ true
+    → Does z (svc_asks (SvcAsk.ModuleRemoved i))
+    (with_pulled i (after_unwiring (wired_numbers i s.bus) s)) b c
+    → Does z (does (event.Pull i)) s a c
+unfolding machine_opened
+does-told x y z s i d st booted e =
+    does-by_state (pulls_at i) (does-then (does-then d (does-change (with_pulled i) st))
+    (does-when (svc_asks (SvcAsk.ModuleRemoved i)) booted e))
+
+-- and where it hasn't
+does-untold : (x y : Parties) (s : State) (i : ℕ) {a b : List Entry}
+    → Does x (each (wired_numbers i s.bus) unwires) s a b
+    → PartsStand [] y (with_pulled i (after_unwiring (wired_numbers i s.bus) s))
+    → s.booted ≡ false → Does y (does (event.Pull i)) s a b
+unfolding machine_opened
+does-untold x y s i d st booted =
+    does-by_state (pulls_at i) (does-then (does-then d (does-change (with_pulled i) st))
+    (does-unless (svc_asks (SvcAsk.ModuleRemoved i)) booted st))
+
+-- MODULE_REMOVED is what the supervisory controller asks
+does-removed : {x : Parties} {s : State} {a b : List Entry} (i : ℕ)
+    → Does x (far_asks 1 (own_ask 0x20 (i ∷ []) false)) s a b
+    → Does x (svc_asks (SvcAsk.ModuleRemoved i)) s a b
+unfolding machine_opened
+does-removed i d = record { told_is = d.told_is; stand = d.stand }
+
+removed-askable : (i : ℕ) → IsAskable 0x20 (i ∷ [])
+removed-askable i = (omega arith, omega arith)
+
+-- A module is pulled: what is unwired are all connections of its interface.
+pub record Pulling (x y : Parties) (s : State) (i : ℕ) (before told : List Entry) : Type 0 where
+  pub there : is_plugged i s.modules ≡ true
+  pub spent : has_no_label 1 side.Far s ≡ false
+  pub begun : before ≡ entry.Done ∷ []
+  pub unwired : Does x (each (wired_numbers i s.bus) unwires) s before told
+  pub modules : y.modules ≡ unplugged i x.modules
+  pub ports : switch.Stands y.ladder
+      (unpowered i (after_unwiring (wired_numbers i s.bus) s).ports)
+  pub rest : y ≡ record x { modules = y.modules; ladder = y.ladder }
+
+-- the parties stand for it
+pulling-stand : {x y : Parties} {s : State} {i : ℕ} {before told : List Entry}
+    → Pulling x y s i before told
+    → PartsStand [] y (with_pulled i (after_unwiring (wired_numbers i s.bus) s))
+pulling-stand {x} {y} {s} {i} p =
+    subst (λ (w : Parties). PartsStand [] w
+    (with_pulled i (after_unwiring (wired_numbers i s.bus) s))) (sym p.rest)
+    (pulled-stand x (after_unwiring (wired_numbers i s.bus) s) i y.modules y.ladder
+    p.unwired.stand p.modules p.ports)
+
+-- whether the supervisory controller has started
+pulling-booted : {x y : Parties} {s : State} {i : ℕ} {before told : List Entry}
+    → Pulling x y s i before told → s.booted ≡ y.booted
+pulling-booted {x} {y} {s} {i} p =
+    sym (unwiring-booted (wired_numbers i s.bus) s) ∙ (pulling-stand p).booted
+
+pub pull-told : (x y z : Parties) (s : State) (i : ℕ) (before told es : List Entry)
+    → Pulling x y s i before told → y.booted ≡ true
+    → ((t : State) → PartsStand [] y t → IsAskable 0x20 (i ∷ [])
+    → Does z (far_asks 1 (own_ask 0x20 (i ∷ []) false)) t told es)
+    → PartsStep z s (event.Pull i) (Ok es)
+pull-told x y z s i before told es p booted asked =
+    let t = with_pulled i (after_unwiring (wired_numbers i s.bus) s) in
+    lands z s (event.Pull i) before es (pull-allowed s i p.there p.spent) p.begun
+    (does-told x y z s i p.unwired (pulling-stand p) (pulling-booted p ∙ booted)
+    (does-removed i (asked t (pulling-stand p) (removed-askable i))))
+
+pub pull-untold : (x y : Parties) (s : State) (i : ℕ) (before told : List Entry)
+    → Pulling x y s i before told → y.booted ≡ false → PartsStep y s (event.Pull i) (Ok told)
+pull-untold x y s i before told p booted =
+    lands y s (event.Pull i) before told (pull-allowed s i p.there p.spent) p.begun
+    (does-untold x y s i p.unwired (pulling-stand p) (pulling-booted p ∙ booted))

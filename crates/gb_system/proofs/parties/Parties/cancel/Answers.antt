@@ -1,0 +1,29 @@
+-- A cancel is refused or done as the machine does.
+use Rattle.std.proofs.Common.{sym}
+use Rattle.gb_system.proofs.NamedRequests.{cancel-done, cancel-ended, cancel-unnamed, given_up}
+use Rattle.gb_system.specs.Stands.{held_items}
+use Rattle.gb_system.proofs.parties.Parties.cancel.Goals as goal
+
+pub returns-in_default : goal.returns-in_default
+returns-in_default c = record {
+  step = λ s st.
+      cancel-unnamed c.args.self.now s c.args.name.now c.in_ok-refused.field-0 st
+      (sym c.in_default.ensures) c.in_ok-refused.ensures;
+}
+
+pub returns-in_ok-end-in-Ok : goal.returns-in_ok-end-in-Ok
+returns-in_ok-end-in-Ok c = record {
+  step = λ s st.
+      cancel-done c.args.self.now c.end.new.self c.cancel.new.self s c.args.name.now
+      c.in-Some.number c.in_ok-told-in-Ok.told c.end.new.told st (sym c.in-Some.ensures)
+      (c.in-Ok.ensures.step (held_items s) s.bus st.parts.bus) c.in_ok-told-in-Ok.ensures
+      (c.in_ok-end-in-Ok.ensures.step (given_up c.in-Some.number s));
+}
+
+pub returns-in_ok-refused-in-Err : goal.returns-in_ok-refused-in-Err
+returns-in_ok-refused-in-Err c = record {
+  step = λ s st.
+      cancel-ended c.args.self.now c.cancel.new.self s c.args.name.now c.in-Some.number
+      c.in_ok-refused-in-Err.field-0 st (sym c.in-Some.ensures)
+      (c.in-Err.ensures.step (held_items s) s.bus st.parts.bus) c.in_ok-refused-in-Err.ensures;
+}

@@ -1,0 +1,23 @@
+-- A request is made and awaited, or its sequence fails.
+use Rattle.std.proofs.Common.{Option, Some, None, ℕ, option_map, refl, sym, ap, ◌∙◌, subst}
+use Rattle.gb_system.proofs.Acts.{act_draft, host-asked, host-unasked}
+use Rattle.gb_system.specs.Acting.{asking_of}
+use Rattle.gb_system.proofs.parties.Parties.host_ask.Goals as goal
+
+pub returns-in-Some : goal.returns-in-Some
+returns-in-Some c = record {
+  step = λ s st askable.
+      host-asked c.awaits.new.self
+      (asking_of c.args.on c.args.kind c.args.payload.now c.args.purpose) c.in-Some.number st.now
+      (sym c.in-Some.is ∙ c.in_ok-number.ensures.number s st)
+      (c.in_ok-number.ensures.step s st askable (λ e. refl)) c.awaits.ensures.step;
+}
+
+pub returns-in_ok-fail-in-None : goal.returns-in_ok-fail-in-None
+returns-in_ok-fail-in-None c = record {
+  step = λ s st askable.
+      host-unasked (asking_of c.args.on c.args.kind c.args.payload.now c.args.purpose)
+      (sym c.in-None.is ∙ c.in_ok-number.ensures.number s st)
+      (c.in_ok-number.ensures.step s st askable (λ e. refl))
+      (c.in_ok-fail-in-None.ensures.step s);
+}
