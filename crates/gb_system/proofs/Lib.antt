@@ -20,8 +20,10 @@ pub mod Pulls
 pub mod Replies
 pub mod Sends
 pub mod Settles
+pub mod Showings
 pub mod Standing
 pub mod SvcServes
 pub mod SvcSteps
 pub mod Takings
 pub mod Turning
+pub mod WordOrder
