@@ -1,5 +1,5 @@
 -- The acts of the application processor are done as the machine does them.
-use Rattle.std.proofs.Common.{◌≡◌, ℕ, ◌+◌, ◌==◌, Bool, true, false, not, cond, Option, Some, None, is_none, IsSome, option_map, option_and_then, List, [], ◌∷◌, ◌++◌, map, append-nil, append_assoc, refl, sym, ap, ◌∙◌, subst}
+use Rattle.std.proofs.Common.{◌≡◌, ℕ, ◌+◌, ◌==◌, Bool, true, false, not, cond, Option, Some, None, is_none, IsSome, option_map, option_and_then, List, [], ◌∷◌, ◌++◌, map, append-nil, refl, sym, ap, ◌∙◌, subst}
 use Rattle.gb_base.specs.declared.end.Side.TheVariants as side
 use Rattle.gb_base.specs.declared.entry.ConnState.TheVariants as state
 use Rattle.gb_base.specs.declared.entry.Entry.{Entry}
@@ -24,7 +24,7 @@ use Rattle.gb_machine.specs.Bus.{Connection, connection_of, next_number}
 use Rattle.gb_machine.specs.Failures.{unsent}
 use Rattle.gb_machine.specs.Host as machine_host
 use Rattle.gb_machine.specs.Host.{link_at, with_new_link}
-use Rattle.gb_machine.specs.HostActs.{asked_with, fails, host_asks, host_draft, made_for, remembered, with_awaited, with_made}
+use Rattle.gb_machine.specs.HostActs.{asked_with, fails, host_asks, host_draft, made_for, with_awaited, with_made}
 use Rattle.gb_machine.specs.Labels.{fresh_label, next_label}
 use Rattle.gb_machine.specs.Lists.{without}
 use Rattle.gb_machine.specs.Requests.{open_on}
@@ -37,7 +37,7 @@ use Rattle.gb_machine.specs.Wires.{disconnected_told, shuts, unwires, with_unwir
 use Rattle.gb_machine.specs.Wiring.{attached, detached, next_connection, shut_down, unwired}
 use Rattle.gb_system.proofs.Doings.{does-as, does-change, does-is, does-on_bus, does-then}
 use Rattle.gb_system.proofs.Standing.{rebussed, rehosted, repast, same-sound}
-use Rattle.gb_system.specs.Acting.{IsAskable, makes, tells_of}
+use Rattle.gb_system.specs.Acting.{makes, tells_of}
 use Rattle.gb_system.specs.Doing.{Does}
 use Rattle.gb_system.specs.Stands.{PartsStand, held_item, held_items}
 use Rattle.gb_system.specs.declared.parties.Parties.{Parties}

@@ -27,7 +27,7 @@ use Rattle.gb_machine.specs.Host.{Host, link_of}
 use Rattle.gb_machine.specs.HostActs.{notices}
 use Rattle.gb_machine.specs.HostServing.{HostServed, credited, host_refuses, host_serves, interrupted, notified_by, served_on, serves_gpio, serves_uart, uart_notified_by}
 use Rattle.gb_machine.specs.Incoming.{Incoming, incoming, reply_item}
-use Rattle.gb_machine.specs.Responding.{host_behind, host_served, replies, responds, serves, serves_oneway}
+use Rattle.gb_machine.specs.Responding.{host_behind, host_served, replies, responds, serves}
 use Rattle.gb_machine.specs.Serving.{Answer, answer, success}
 use Rattle.gb_machine.specs.State.{State}
 use Rattle.gb_machine.specs.Turns.{HostEvent}

@@ -17,7 +17,7 @@ use Rattle.gb_machine.specs.Refusals.{has_no_label, refusal}
 use Rattle.gb_machine.specs.State.{State}
 use Rattle.gb_machine.specs.Turns.{HostEvent}
 use Rattle.gb_system.proofs.Landing.{lands, lands-refused}
-use Rattle.gb_system.proofs.Sends.{met-early, met-late}
+use Rattle.gb_system.proofs.Ways.{met-early, met-late}
 use Rattle.gb_system.proofs.Turning.{may-connect, may-disconnect}
 use Rattle.gb_system.specs.Acting.{MayTurn}
 use Rattle.gb_system.specs.Doing.{Does}

@@ -2,6 +2,7 @@ pub mod Acts
 pub mod AnswerReadings
 pub mod ApServes
 pub mod Arrivals
+pub mod AskArrivals
 pub mod Asks
 pub mod Boots
 pub mod Connects
@@ -26,4 +27,5 @@ pub mod SvcServes
 pub mod SvcSteps
 pub mod Takings
 pub mod Turning
+pub mod Ways
 pub mod WordOrder

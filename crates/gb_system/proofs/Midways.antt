@@ -1,8 +1,8 @@
 -- Midway through an action that is put together from many.
-use Rattle.std.proofs.Common.{◌≡◌, ◌<◌, ◌≤◌, ◌+◌, ℕ, List, [], ◌∷◌, ◌++◌, length, drop, get_or, drop-cons, drop_of_length-le, add-one, append-nil, append_assoc, refl, sym, ap, ap₂, ◌∙◌, subst}
+use Rattle.std.proofs.Common.{◌≡◌, ◌<◌, ◌+◌, ℕ, List, [], ◌∷◌, ◌++◌, length, drop, get_or, drop-cons, add-one, append-nil, append_assoc, refl, sym, ap, ap₂, ◌∙◌}
 use Rattle.gb_base.specs.declared.entry.Entry.{Entry}
 use Rattle.gb_machine.proofs.Opened.{machine_opened}
-use Rattle.gb_machine.specs.Actions.{Action, Told, each, nothing, ◌▸◌}
+use Rattle.gb_machine.specs.Actions.{Action, each, nothing, ◌▸◌}
 use Rattle.gb_machine.specs.State.{State}
 use Rattle.gb_system.proofs.Doings.{does-is}
 use Rattle.gb_system.specs.Arriving.{told_before}

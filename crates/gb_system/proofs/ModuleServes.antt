@@ -1,5 +1,5 @@
 -- A request is served at a module as the machine does.
-use Rattle.std.proofs.Common.{◌≡◌, ◌≤◌, ℕ, Bool, true, false, cond, Option, Some, None, List, [], ◌∷◌, ◌++◌, length, option_map, refl, sym, ap, ◌∙◌, subst, arith}
+use Rattle.std.proofs.Common.{◌≡◌, ◌≤◌, ℕ, Bool, true, false, cond, Option, Some, None, List, [], ◌∷◌, length, option_map, refl, sym, ap, ◌∙◌, subst, arith}
 use Rattle.std.specs.Prelude.{find, Ok}
 use Rattle.gb_base.specs.declared.end.End.TheVariants as end
 use Rattle.gb_base.specs.declared.end.Side.TheVariants as side
@@ -13,7 +13,7 @@ use Rattle.gb_formats.specs.ModuleSteps.{module_serve}
 use Rattle.gb_formats.specs.Results.{Step, most_payload, nonexistent}
 use Rattle.gb_invariants.specs.Facts.{Loose}
 use Rattle.gb_machine.proofs.Opened.{machine_opened}
-use Rattle.gb_machine.specs.Actions.{Action, Told, ◌▸◌}
+use Rattle.gb_machine.specs.Actions.{◌▸◌}
 use Rattle.gb_machine.specs.Bus.{Connection, Request}
 use Rattle.gb_machine.specs.Incoming.{incoming}
 use Rattle.gb_machine.specs.Members.{Each}

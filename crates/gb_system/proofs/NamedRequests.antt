@@ -3,6 +3,7 @@ use Rattle.std.proofs.Common.{◌≡◌, ℕ, Bool, true, false, cond, not, Opti
 use Rattle.gb_base.specs.declared.bridge.Reading.TheVariants as reading
 use Rattle.gb_base.specs.declared.entry.Entry.{Entry}
 use Rattle.gb_base.specs.declared.entry.Entry.TheVariants as entry
+use Rattle.gb_base.specs.declared.event.Event.TheVariants as event
 use Rattle.gb_base.specs.declared.name.Name.{Name}
 use Rattle.gb_base.specs.declared.outcome.Outcome.{Outcome}
 use Rattle.gb_base.specs.declared.outcome.Outcome.TheVariants as outcome
@@ -32,7 +33,6 @@ use Rattle.gb_system.proofs.Turning.{may-end}
 use Rattle.gb_system.specs.Acting.{MayTurn}
 use Rattle.gb_system.specs.Doing.{Does}
 use Rattle.gb_system.specs.Stands.{PartiesStand, PartsStand, PartsStep, held_items}
-use Rattle.gb_system.specs.Told.{cancel_of, copy_of, forget_of}
 use Rattle.gb_system.specs.declared.parties.Parties.{Parties}
 
 -- what a name names in the state that the parties stand for
@@ -70,9 +70,9 @@ cancel_conditions s o =
 -- a name that names nothing
 pub cancel-unnamed : (x : Parties) (s : State) (name : Name) (es : List Entry)
     → PartiesStand x s → named name x.names ≡ None → es ≡ entry.Refused why.NoName ∷ []
-    → PartsStep x s (cancel_of name) (Ok es)
+    → PartsStep x s (event.Cancel name) (Ok es)
 cancel-unnamed x s name es st h is =
-    lands-refused x s (cancel_of name) why.NoName es
+    lands-refused x s (event.Cancel name) why.NoName es
     (ap (λ o. first_met (cancel_conditions s o)) (named-is x s name st ∙ h)) is st.parts
 
 -- an open request has no outcome
@@ -104,12 +104,12 @@ named-made (p ∷ ps) name n b made h = by (named-made ps name n b made.1) (same
 pub cancel-ended : (x : Parties) (z : code.Bus) (s : State) (name : Name) (n : ℕ)
     (es : List Entry) → PartiesStand x s → named name x.names ≡ Some n
     → CancelsNothing (held_items s) z n s.bus → es ≡ entry.Refused why.AlreadyEnded ∷ []
-    → PartsStep (record x { bus = z }) s (cancel_of name) (Ok es)
+    → PartsStep (record x { bus = z }) s (event.Cancel name) (Ok es)
 cancel-ended x z s name n es st h cancels is =
     let names_it = named-is x s name st ∙ h in
     let made = named-made s.names name n s.bus (reached-names s st.run) names_it in
     let ended = over (request_of n s.bus) (outcome_of n s.bus) made cancels.over in
-    lands-refused (record x { bus = z }) s (cancel_of name) why.AlreadyEnded es
+    lands-refused (record x { bus = z }) s (event.Cancel name) why.AlreadyEnded es
     (ap (λ o. first_met (cancel_conditions s o)) names_it
     ∙ ap (λ b. first_met ((b, why.AlreadyEnded) ∷ [])) ended) is
     (rebussed [] z s.bus st.parts cancels.stands st.parts.sound)
@@ -129,7 +129,7 @@ does-gives_up s n d = record { told_is = d.told_is; stand = d.stand }
 -- what a cancel does
 does-cancels : {y : Parties} (s : State) (name : Name) (n : ℕ) {before es : List Entry}
     → named name s.names ≡ Some n → Does y (gives_up outcome.Cancelled n) s before es
-    → Does y (does (cancel_of name)) s before es
+    → Does y (does (event.Cancel name)) s before es
 unfolding machine_opened
 does-cancels s name n is d =
     does-by_state (λ t. given (named name t.names) (gives_up outcome.Cancelled))
@@ -143,11 +143,11 @@ pub cancel-done : (x y : Parties) (z : code.Bus) (s : State) (name : Name) (n : 
     → MayTurn (HostEvent.Ended n outcome.Cancelled) (given_up n s)
     → Does y (tell (entry.Ended n outcome.Cancelled reading.Nothing) ▸ follows n outcome.Cancelled)
     (given_up n s) before es)
-    → PartsStep y s (cancel_of name) (Ok es)
+    → PartsStep y s (event.Cancel name) (Ok es)
 cancel-done x y z s name n before es st h cancels begun ends =
     let names_it = named-is x s name st ∙ h in
     let still = unended (request_of n s.bus) (outcome_of n s.bus) cancels.unended in
-    lands y s (cancel_of name) before es
+    lands y s (event.Cancel name) before es
     (ap (λ o. first_met (cancel_conditions s o)) names_it
     ∙ ap (λ o. first_met ((is_some o, why.AlreadyEnded) ∷ [])) still) begun
     (does-cancels s name n names_it (does-gives_up s n (ends
@@ -165,18 +165,18 @@ copy_refusal from to = first_met
 -- the name to be copied names nothing
 pub copy-unnamed : (x : Parties) (s : State) (from to : Name) (es : List Entry)
     → PartiesStand x s → named from x.names ≡ None → es ≡ entry.Refused why.NoName ∷ []
-    → PartsStep x s (copy_of from to) (Ok es)
+    → PartsStep x s (event.Copy from to) (Ok es)
 copy-unnamed x s from to es st h is =
-    lands-refused x s (copy_of from to) why.NoName es
+    lands-refused x s (event.Copy from to) why.NoName es
     (ap (λ o. copy_refusal o (named to s.names)) (named-is x s from st ∙ h)) is st.parts
 
 -- the new name names something
 pub copy-occupied : (x : Parties) (s : State) (from to : Name) (n : ℕ) (es : List Entry)
     → PartiesStand x s → named from x.names ≡ Some n → is_some (named to x.names) ≡ true
     → es ≡ entry.Refused why.Occupied ∷ []
-    → PartsStep x s (copy_of from to) (Ok es)
+    → PartsStep x s (event.Copy from to) (Ok es)
 copy-occupied x s from to n es st h taken is =
-    lands-refused x s (copy_of from to) why.Occupied es
+    lands-refused x s (event.Copy from to) why.Occupied es
     (ap (λ o. copy_refusal o (named to s.names)) (named-is x s from st ∙ h)
     ∙ ap (λ b. first_met ((b, why.Occupied) ∷ [])) (ap is_some (named-is x s to st) ∙ taken)) is
     st.parts
@@ -184,7 +184,7 @@ copy-occupied x s from to n es st h taken is =
 -- what a copy does
 does-copies : {y : Parties} (s : State) (from to : Name) (n : ℕ) {before : List Entry}
     → named from s.names ≡ Some n → PartsStand [] y (bound to n s)
-    → Does y (does (copy_of from to)) s before before
+    → Does y (does (event.Copy from to)) s before before
 unfolding machine_opened
 does-copies s from to n is st =
     does-by_state (λ t. given (named from t.names) (λ m. change (bound to m)))
@@ -194,10 +194,10 @@ does-copies s from to n is st =
 pub copy-done : (x y : Parties) (s : State) (from to : Name) (n : ℕ) (es : List Entry)
     → PartiesStand x s → named from x.names ≡ Some n → is_some (named to x.names) ≡ false
     → y ≡ record x { names = x.names ++ (to, n) ∷ [] } → es ≡ entry.Done ∷ []
-    → PartsStep y s (copy_of from to) (Ok es)
+    → PartsStep y s (event.Copy from to) (Ok es)
 copy-done x y s from to n es st h free same is =
     let names_it = named-is x s from st ∙ h in
-    lands y s (copy_of from to) es es
+    lands y s (event.Copy from to) es es
     (ap (λ o. copy_refusal o (named to s.names)) names_it
     ∙ ap (copy_refusal (Some n)) (named-is x s to st ∙ none-of (named to x.names) free)) is
     (does-copies s from to n names_it
@@ -209,15 +209,15 @@ copy-done x y s from to n es st h free same is =
 -- the name names nothing
 pub forget-unnamed : (x : Parties) (s : State) (name : Name) (es : List Entry)
     → PartiesStand x s → named name x.names ≡ None → es ≡ entry.Refused why.NoName ∷ []
-    → PartsStep x s (forget_of name) (Ok es)
+    → PartsStep x s (event.Forget name) (Ok es)
 forget-unnamed x s name es st h is =
-    lands-refused x s (forget_of name) why.NoName es
+    lands-refused x s (event.Forget name) why.NoName es
     (ap (λ o. first_met ((not (is_some o), why.NoName) ∷ [])) (named-is x s name st ∙ h)) is
     st.parts
 
 -- what a free does
 does-frees : {y : Parties} (s : State) (name : Name) {before : List Entry}
-    → PartsStand [] y (freed name s) → Does y (does (forget_of name)) s before before
+    → PartsStand [] y (freed name s) → Does y (does (event.Forget name)) s before before
 unfolding machine_opened
 does-frees s name st = does-change (freed name) st
 
@@ -225,9 +225,9 @@ does-frees s name st = does-change (freed name) st
 pub forget-done : (x y : Parties) (s : State) (name : Name) (n : ℕ) (es : List Entry)
     → PartiesStand x s → named name x.names ≡ Some n
     → y ≡ record x { names = without (λ p. same_name p.0 name) x.names } → es ≡ entry.Done ∷ []
-    → PartsStep y s (forget_of name) (Ok es)
+    → PartsStep y s (event.Forget name) (Ok es)
 forget-done x y s name n es st h same is =
-    lands y s (forget_of name) es es
+    lands y s (event.Forget name) es es
     (ap (λ o. first_met ((not (is_some o), why.NoName) ∷ [])) (named-is x s name st ∙ h)) is
     (does-frees s name
     (subst (λ (w : Parties). PartsStand [] w (freed name s)) (sym same)

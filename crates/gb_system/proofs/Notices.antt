@@ -1,18 +1,15 @@
 -- The acts of a turn are done one after another, as the machine does them.
-use Rattle.std.proofs.Common.{◌≡◌, ℕ, Bool, true, false, Option, Some, None, IsSome, List, [], ◌∷◌, ◌++◌, append-nil, append_assoc, refl, sym, ap, ◌∙◌, subst}
+use Rattle.std.proofs.Common.{◌≡◌, ℕ, Bool, true, false, Option, Some, None, IsSome, List, [], ◌∷◌, append-nil, append_assoc, refl, sym, ap, ◌∙◌, subst}
 use Rattle.gb_base.specs.declared.end.Side.TheVariants as side
-use Rattle.gb_base.specs.declared.entry.ConnState.TheVariants as state
 use Rattle.gb_base.specs.declared.entry.Entry.{Entry}
-use Rattle.gb_base.specs.declared.entry.Entry.TheVariants as entry
 use Rattle.gb_host.specs.Turning.{Pends, Turns, asks, spelled}
 use Rattle.gb_host.specs.declared.acts.Act as code
 use Rattle.gb_host.specs.declared.acts.Act.TheVariants as act
 use Rattle.gb_host.specs.declared.host.Host.{Host}
 use Rattle.gb_machine.proofs.Opened.{machine_opened}
 use Rattle.gb_machine.specs.Actions.{Action, Told, each, nothing, on_bus, tell, ◌▸◌}
-use Rattle.gb_machine.specs.Bus.{Bus}
 use Rattle.gb_machine.specs.Failures.{unsent}
-use Rattle.gb_machine.specs.HostActs.{acts, fails, host_asks, host_opens, notices, opened_with}
+use Rattle.gb_machine.specs.HostActs.{acts, fails, host_asks, notices, opened_with}
 use Rattle.gb_machine.specs.HostTurns.{host_turn}
 use Rattle.gb_machine.specs.Labels.{next_label}
 use Rattle.gb_machine.specs.State.{State}

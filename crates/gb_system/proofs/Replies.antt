@@ -1,6 +1,5 @@
 -- A request that was delivered is answered as the machine does.
-use Rattle.std.proofs.Common.{◌≡◌, ◌<◌, ◌≤◌, ℕ, Option, Some, None, option_map, List, [], ◌∷◌, ◌++◌, length, refl, sym, ap, ◌∙◌, subst}
-use Rattle.std.specs.List.{find}
+use Rattle.std.proofs.Common.{◌≡◌, ◌<◌, ℕ, Option, Some, None, option_map, List, [], ◌∷◌, ◌++◌, refl, sym, ap, ◌∙◌, subst}
 use Rattle.gb_base.specs.declared.end.End.{End}
 use Rattle.gb_base.specs.declared.end.Side.{Side}
 use Rattle.gb_base.specs.declared.end.Side.TheVariants as side
@@ -12,13 +11,10 @@ use Rattle.gb_bus.specs.Wiring.{ends_of}
 use Rattle.gb_bus.specs.declared.answers.Asked.{Asked}
 use Rattle.gb_bus.specs.declared.bus.Bus.{Bus}
 use Rattle.gb_formats.specs.Message.{message_size, response, spelling}
-use Rattle.gb_formats.specs.Results.{most_payload}
-use Rattle.gb_invariants.proofs.Lists.{found-in}
-use Rattle.gb_invariants.proofs.Outcomes.{same-number}
 use Rattle.gb_invariants.specs.Facts.{Loose}
 use Rattle.gb_machine.proofs.Opened.{machine_opened}
 use Rattle.gb_machine.proofs.Steps.{told, with_bus}
-use Rattle.gb_machine.specs.Bus.{Connection, Reply, Request, connection_of, end_of, has_number, other_side, request_of}
+use Rattle.gb_machine.specs.Bus.{Connection, Reply, Request, connection_of, end_of, other_side}
 use Rattle.gb_machine.specs.Delivery.{replied}
 use Rattle.gb_machine.specs.Incoming.{Incoming, incoming, reply_entry, reply_item}
 use Rattle.gb_machine.specs.Responding.{replies}

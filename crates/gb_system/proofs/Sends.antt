@@ -1,6 +1,5 @@
 -- A request of a script goes on a connection, or is refused, as the machine does.
-use Rattle.std.proofs.Common.{◌≡◌, ◌≤◌, ◌<◌, ℕ, ◌+◌, Bool, true, false, cond, Option, Some, None, is_some, is_none, IsSome, option_map, option_and_then, Ok, Err, List, [], ◌∷◌, ◌++◌, append_assoc, zero-add, length, refl, sym, ap, ◌∙◌, subst, arith}
-use Rattle.std.specs.Bool.{⊤}
+use Rattle.std.proofs.Common.{◌≡◌, ◌≤◌, ◌<◌, ℕ, ◌+◌, false, Option, Some, None, IsSome, option_map, option_and_then, Ok, Err, List, [], ◌∷◌, ◌++◌, zero-add, length, refl, sym, ap, ◌∙◌, subst, arith}
 use Rattle.std.proofs.lemmas.Bool.Decides.{nat_tests}
 use Rattle.gb_base.specs.declared.end.End.{End}
 use Rattle.gb_base.specs.declared.end.End.TheVariants as end
@@ -20,269 +19,24 @@ use Rattle.gb_machine.proofs.Steps.{told}
 use Rattle.gb_machine.specs.Actions.{Action, Told, change, given, ◌▸◌}
 use Rattle.gb_machine.specs.Asking.{asks, asks_with}
 use Rattle.gb_machine.specs.Bus.{Bus, Connection, connection_of, next_number}
-use Rattle.gb_machine.specs.Host.{Host, link_at}
+use Rattle.gb_machine.specs.Host.{link_at}
 use Rattle.gb_machine.specs.HostRefusals.{is_kept, send_conditions}
 use Rattle.gb_machine.specs.Labels.{fresh_label, next_label, no_label}
 use Rattle.gb_machine.specs.LineActions.{ap_draft, sends, sends_on}
-use Rattle.gb_machine.specs.Lists.{Condition, conditions_of, first_met, holds_of}
-use Rattle.gb_machine.specs.Names.{bound, is_bound, named}
+use Rattle.gb_machine.specs.Lists.{Condition, conditions_of, first_met}
+use Rattle.gb_machine.specs.Names.{bound, is_bound}
 use Rattle.gb_machine.specs.Refusals.{has_no_label, is_long_payload, send_to_conditions}
 use Rattle.gb_machine.specs.Sending.{label_for}
 use Rattle.gb_machine.specs.State.{State}
 use Rattle.gb_system.proofs.Doings.{does-by_state, does-change, does-given, does-is, does-then}
 use Rattle.gb_system.proofs.Landing.{lands, lands-refused}
-use Rattle.gb_system.proofs.NamedRequests.{named-is, renamed}
+use Rattle.gb_system.proofs.NamedRequests.{renamed}
 use Rattle.gb_system.specs.Acting.{IsAskable}
 use Rattle.gb_system.specs.Doing.{Does}
-use Rattle.gb_system.specs.Sending.{GoesAs, IsWay, LeadsAs, way_conditions}
+use Rattle.gb_system.specs.Sending.{GoesAs, IsWay}
 use Rattle.gb_system.specs.Stands.{PartiesStand, PartsStand, PartsStep}
 use Rattle.gb_system.specs.declared.parties.Parties.{Parties}
-
--- ---- conditions in their order
-
--- the first of the conditions is the one of the early ones, where one is met
-pub met-early : (cs ds : List Condition) (why : Refusal) → first_met cs ≡ Some why
-    → first_met (cs ++ ds) ≡ Some why
-met-early [] ds why h = absurd cc
-met-early (c ∷ cs) ds why h = by c.0 (met-early cs ds why) h
-  where
-    by : (met : Bool) → (first_met cs ≡ Some why → first_met (cs ++ ds) ≡ Some why)
-        → cond met (Some c.1) (first_met cs) ≡ Some why
-        → cond met (Some c.1) (first_met (cs ++ ds)) ≡ Some why
-    by true rec f = f
-    by false rec f = rec f
-
--- and else one of the later ones
-pub met-late : (cs ds : List Condition) → first_met cs ≡ None → first_met (cs ++ ds) ≡ first_met ds
-met-late [] ds h = refl
-met-late (c ∷ cs) ds h = by c.0 (met-late cs ds) h
-  where
-    by : (met : Bool) → (first_met cs ≡ None → first_met (cs ++ ds) ≡ first_met ds)
-        → cond met (Some c.1) (first_met cs) ≡ None
-        → cond met (Some c.1) (first_met (cs ++ ds)) ≡ first_met ds
-    by true rec f = absurd cc
-    by false rec f = rec f
-
--- ---- the way to an end
-
--- that a type is kept on a connection
-abbrev kept_conditions : ℕ → Option Link → List Condition
-kept_conditions kind link = conditions_of (λ l. (is_kept l kind, why.Unsupported) ∷ []) link
-
-kept-met : (kind : ℕ) (link : Option Link) → holds_of (λ l. is_kept l kind) link ≡ true
-    → first_met (kept_conditions kind link) ≡ Some why.Unsupported
-kept-met kind None h = absurd cc
-kept-met kind (Some l) h = ap (λ b. first_met ((b, why.Unsupported) ∷ [])) h
-
-kept-unmet : (kind : ℕ) (link : Option Link) → holds_of (λ l. is_kept l kind) link ≡ false
-    → first_met (kept_conditions kind link) ≡ None
-kept-unmet kind None h = refl
-kept-unmet kind (Some l) h = ap (λ b. first_met ((b, why.Unsupported) ∷ [])) h
-
--- the interface or the connection refuses
-pub leads-refused : (i c kind : ℕ) (h : Host) (why : Refusal)
-    → first_met (send_conditions i c h) ≡ Some why
-    → LeadsAs h (end.Module i c) kind (Err why)
-leads-refused i c kind h why is =
-    met-early (send_conditions i c h) (kept_conditions kind (link_at i c h)) why is
-
--- the type is kept
-pub leads-kept : (i c kind : ℕ) (h : Host) → first_met (send_conditions i c h) ≡ None
-    → holds_of (λ l. is_kept l kind) (link_at i c h) ≡ true
-    → LeadsAs h (end.Module i c) kind (Err why.Unsupported)
-leads-kept i c kind h free is =
-    met-late (send_conditions i c h) (kept_conditions kind (link_at i c h)) free
-    ∙ kept-met kind (link_at i c h) is
-
--- a connection leads there
-pub leads : (i c kind k : ℕ) (h : Host) → first_met (send_conditions i c h) ≡ None
-    → option_map (λ (l : Link). l.connection) (link_at i c h) ≡ Some k
-    → holds_of (λ l. is_kept l kind) (link_at i c h) ≡ false
-    → LeadsAs h (end.Module i c) kind (Ok k)
-leads i c kind k h free way is = (
-  met-late (send_conditions i c h) (kept_conditions kind (link_at i c h)) free
-      ∙ kept-unmet kind (link_at i c h) is,
-  way,
-)
-
--- ---- the way of a request
-
--- what is left of the conditions, behind those of the way: by the connection
-abbrev rest_on : List ℕ → Bus → ℕ → List Condition
-rest_on payload b k =
-    (is_long_payload payload, why.TooLarge) ∷ (is_none (next_label k side.Ap b), no_label) ∷ []
-
--- by the end
-abbrev rest_to : State → End → List ℕ → List Condition
-rest_to s end.Svc payload = rest_on payload s.bus 1
-rest_to s (end.Module i c) payload =
-    conditions_of (λ l. rest_on payload s.bus l.connection) (link_at i c s.host)
-rest_to s (end.Ap a) payload = []
-
--- all conditions
-abbrev all_conditions : State → Name → End → ℕ → List ℕ → List Condition
-all_conditions s name to kind payload =
-    (is_bound name s, why.Occupied) ∷ way_conditions to kind s.host ++ rest_to s to payload
-
--- the conditions of a connection, in two parts
-two-parts : (kind : ℕ) (payload : List ℕ) (b : Bus) (link : Option Link)
-    → kept_conditions kind link ++ conditions_of (λ l. rest_on payload b l.connection) link
-    ≡ conditions_of (λ l. (is_kept l kind, why.Unsupported) ∷ rest_on payload b l.connection) link
-two-parts kind payload b None = refl
-two-parts kind payload b (Some l) = refl
-
--- an end isn't the application processor's
-abbrev pub IsOut : End → Type 0
-IsOut end.Svc = ⊤
-IsOut (end.Ap a) = ⊥
-IsOut (end.Module i c) = ⊤
-
--- a request of a script goes to such an end
-is-out : (to : End) → IsFar to → IsOut to
-is-out end.Svc far = tt
-is-out (end.Ap a) far = far
-is-out (end.Module i c) far = tt
-
--- these are the machine's, to an end that isn't the application processor's
-all-is : (s : State) (name : Name) (to : End) (kind : ℕ) (payload : List ℕ) → IsOut to
-    → first_met (send_to_conditions s name to kind payload)
-    ≡ first_met (all_conditions s name to kind payload)
-all-is s name end.Svc kind payload far = refl
-all-is s name (end.Ap a) kind payload far = absurd far
-all-is s name (end.Module i c) kind payload far =
-    sym (ap (λ cs. first_met ((is_bound name s, why.Occupied) ∷ cs))
-    (append_assoc (send_conditions i c s.host) (kept_conditions kind (link_at i c s.host))
-    (conditions_of (λ l. rest_on payload s.bus l.connection) (link_at i c s.host))
-    ∙ ap (λ cs. send_conditions i c s.host ++ cs)
-    (two-parts kind payload s.bus (link_at i c s.host))))
-
--- what is left of the conditions on the connection that is the way
-rest-is : (s : State) (to : End) (payload : List ℕ) (k : ℕ) → IsOut to → IsWay to s.host k
-    → first_met (rest_to s to payload) ≡ first_met (rest_on payload s.bus k)
-rest-is s end.Svc payload k far way = ap (λ j. first_met (rest_on payload s.bus j)) (sym way)
-rest-is s (end.Ap a) payload k far way = absurd far
-rest-is s (end.Module i c) payload k far way = by (link_at i c s.host) way
-  where
-    by : (link : Option Link) → option_map (λ (l : Link). l.connection) link ≡ Some k
-        → first_met (conditions_of (λ l. rest_on payload s.bus l.connection) link)
-        ≡ first_met (rest_on payload s.bus k)
-    by None e = absurd cc
-    by (Some l) e = ap (λ j. first_met (rest_on payload s.bus j)) (cc (e))
-
--- of an end of the application processor nothing is said
-goes-by : (s : State) (name : Name) (to : End) (kind : ℕ) (payload : List ℕ) (why : Refusal)
-    → (IsOut to → first_met (all_conditions s name to kind payload) ≡ Some why)
-    → GoesAs s name to kind payload (Err why)
-goes-by s name end.Svc kind payload why is = is tt
-goes-by s name (end.Ap a) kind payload why is = tt
-goes-by s name (end.Module i c) kind payload why is =
-    all-is s name (end.Module i c) kind payload tt ∙ is tt
-
--- the name names something
-pub goes-occupied : (x : Parties) (s : State) (name : Name) (to : End) (kind : ℕ)
-    (payload : List ℕ) → PartiesStand x s → is_some (named name x.names) ≡ true
-    → GoesAs s name to kind payload (Err why.Occupied)
-goes-occupied x s name to kind payload st taken =
-    goes-by s name to kind payload why.Occupied (λ out.
-    ap (λ b. cond b (Some why.Occupied)
-    (first_met (way_conditions to kind s.host ++ rest_to s to payload)))
-    (ap is_some (named-is x s name st) ∙ taken))
-
--- a free name decides nothing
-late-name : (x : Parties) (s : State) (name : Name) (to : End) (kind : ℕ) (payload : List ℕ)
-    → PartiesStand x s → is_some (named name x.names) ≡ false
-    → first_met (all_conditions s name to kind payload)
-    ≡ first_met (way_conditions to kind s.host ++ rest_to s to payload)
-late-name x s name to kind payload st free =
-    ap (λ b. cond b (Some why.Occupied)
-    (first_met (way_conditions to kind s.host ++ rest_to s to payload)))
-    (ap is_some (named-is x s name st) ∙ free)
-
--- there is no way
-pub goes-nowhere : (x : Parties) (s : State) (name : Name) (to : End) (kind : ℕ)
-    (payload : List ℕ) (why : Refusal) → PartiesStand x s
-    → is_some (named name x.names) ≡ false → LeadsAs s.host to kind (Err why)
-    → GoesAs s name to kind payload (Err why)
-goes-nowhere x s name to kind payload why st free is =
-    goes-by s name to kind payload why (λ out.
-    late-name x s name to kind payload st free
-    ∙ met-early (way_conditions to kind s.host) (rest_to s to payload) why is)
-
--- with a way, its connection decides
-late-way : (x : Parties) (s : State) (name : Name) (to : End) (kind : ℕ) (payload : List ℕ)
-    (k : ℕ) → PartiesStand x s → is_some (named name x.names) ≡ false
-    → LeadsAs s.host to kind (Ok k) → IsOut to
-    → first_met (all_conditions s name to kind payload) ≡ first_met (rest_on payload s.bus k)
-late-way x s name to kind payload k st free is out =
-    late-name x s name to kind payload st free
-    ∙ met-late (way_conditions to kind s.host) (rest_to s to payload) is.0
-    ∙ rest-is s to payload k out is.1
-
--- a payload that is too large
-long-is : (payload : List ℕ) → 2040 < length payload → is_long_payload payload ≡ true
-long-is payload h = grind (arith, nat_tests, h)
-
-short-is : (payload : List ℕ) → length payload ≤ 2040 → is_long_payload payload ≡ false
-short-is payload h = grind (arith, nat_tests, h)
-
--- the payload is too large
-pub goes-large : (x : Parties) (s : State) (name : Name) (to : End) (kind : ℕ)
-    (payload : List ℕ) (k : ℕ) → PartiesStand x s → is_some (named name x.names) ≡ false
-    → LeadsAs s.host to kind (Ok k) → 2040 < length payload
-    → GoesAs s name to kind payload (Err why.TooLarge)
-goes-large x s name to kind payload k st free is large =
-    goes-by s name to kind payload why.TooLarge (λ out.
-    late-way x s name to kind payload k st free is out
-    ∙ ap (λ b. first_met ((b, why.TooLarge)
-    ∷ (is_none (next_label k side.Ap s.bus), no_label) ∷ [])) (long-is payload large))
-
--- a payload that isn't leaves the identifier
-late-label : (payload : List ℕ) (b : Bus) (k : ℕ) → length payload ≤ 2040
-    → first_met (rest_on payload b k)
-    ≡ first_met ((is_none (next_label k side.Ap b), no_label) ∷ [])
-late-label payload b k short =
-    ap (λ t. first_met ((t, why.TooLarge)
-    ∷ (is_none (next_label k side.Ap b), no_label) ∷ [])) (short-is payload short)
-
--- no identifier is left
-pub goes-spent : (x : Parties) (s : State) (name : Name) (to : End) (kind : ℕ)
-    (payload : List ℕ) (k : ℕ) (spent : Bool) → PartiesStand x s
-    → is_some (named name x.names) ≡ false → LeadsAs s.host to kind (Ok k)
-    → length payload ≤ 2040 → spent ≡ is_none (next_label k side.Ap s.bus) → spent ≡ true
-    → GoesAs s name to kind payload (Err why.LabelsSpent)
-goes-spent x s name to kind payload k spent st free is short by it =
-    goes-by s name to kind payload why.LabelsSpent (λ out.
-    late-way x s name to kind payload k st free is out ∙ late-label payload s.bus k short
-    ∙ ap (λ t. first_met ((t, no_label) ∷ [])) (sym by ∙ it))
-
--- what is there
-is-there : {A : Type 0} (o : Option A) → is_none o ≡ false → IsSome o
-is-there None h = absurd (cc (h))
-is-there (Some n) h = refl
-
--- of an end of the application processor nothing is said
-goes-out : (s : State) (name : Name) (to : End) (kind : ℕ) (payload : List ℕ) (k : ℕ)
-    → (IsOut to → (first_met (all_conditions s name to kind payload) ≡ None)
-    × IsWay to s.host k × IsSome (next_label k side.Ap s.bus))
-    → GoesAs s name to kind payload (Ok k)
-goes-out s name end.Svc kind payload k is = is tt
-goes-out s name (end.Ap a) kind payload k is = tt
-goes-out s name (end.Module i c) kind payload k is =
-    let it = is tt in (all-is s name (end.Module i c) kind payload tt ∙ it.0, it.1, it.2)
-
--- the request goes
-pub goes : (x : Parties) (s : State) (name : Name) (to : End) (kind : ℕ) (payload : List ℕ)
-    (k : ℕ) (spent : Bool) → PartiesStand x s → is_some (named name x.names) ≡ false
-    → LeadsAs s.host to kind (Ok k) → length payload ≤ 2040
-    → spent ≡ is_none (next_label k side.Ap s.bus) → spent ≡ false
-    → GoesAs s name to kind payload (Ok k)
-goes x s name to kind payload k spent st free is short by it =
-    goes-out s name to kind payload k (λ out. (
-      late-way x s name to kind payload k st free is out ∙ late-label payload s.bus k short
-          ∙ ap (λ t. first_met ((t, no_label) ∷ [])) (sym by ∙ it),
-      is.1,
-      is-there (next_label k side.Ap s.bus) (sym by ∙ it),
-    ))
+use Rattle.gb_system.proofs.Ways.{goes, met-late}
 
 -- ---- the request
 

@@ -7,7 +7,7 @@ use Rattle.gb_base.specs.declared.event.Event.TheVariants as event
 use Rattle.gb_base.specs.declared.refusal.Refusal.{Refusal}
 use Rattle.gb_laws.proofs.Reached.{reached-delivery, reached-waiting}
 use Rattle.gb_machine.proofs.Opened.{machine_opened}
-use Rattle.gb_machine.proofs.Steps.{behind_done, settles-end, settles-none, settles-on, step-settle, told}
+use Rattle.gb_machine.proofs.Steps.{settles-end, settles-none, settles-on, step-settle, told}
 use Rattle.gb_machine.specs.Actions.{Told}
 use Rattle.gb_machine.specs.Arriving.{delivers}
 use Rattle.gb_machine.specs.Events.{does, step}

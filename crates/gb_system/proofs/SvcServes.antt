@@ -1,5 +1,5 @@
 -- The supervisory controller serves a request as the machine does.
-use Rattle.std.proofs.Common.{◌≡◌, ℕ, true, false, Some, List, [], ◌∷◌, ◌++◌, append-nil, inl, refl, sym, ap, ◌∙◌, subst}
+use Rattle.std.proofs.Common.{◌≡◌, ℕ, false, List, [], ◌∷◌, append-nil, inl, refl, sym, ap, ◌∙◌}
 use Rattle.gb_base.specs.declared.end.End.{End}
 use Rattle.gb_base.specs.declared.end.End.TheVariants as end
 use Rattle.gb_base.specs.declared.end.Side.TheVariants as side
@@ -16,13 +16,13 @@ use Rattle.gb_machine.specs.Bus.{Ask, Connection, Request}
 use Rattle.gb_machine.specs.Delivery.{replied}
 use Rattle.gb_machine.specs.Incoming.{Incoming, incoming, reply_entry, reply_item}
 use Rattle.gb_machine.specs.Responding.{Response, far_response, replies, responds, serves, svc_stepped}
-use Rattle.gb_machine.specs.Serving.{Answer, answer}
+use Rattle.gb_machine.specs.Serving.{Answer}
 use Rattle.gb_machine.specs.State.{Port, State}
 use Rattle.gb_machine.specs.SvcTable.{svc_step}
 use Rattle.gb_machine.specs.Wires.{unwires, wires, with_wired}
 use Rattle.gb_machine.specs.Wiring.{wired}
 use Rattle.gb_switch.specs.declared.ladder.Ladder.{Ladder}
-use Rattle.gb_system.proofs.Doings.{does-as, does-is, does-nothing, does-then}
+use Rattle.gb_system.proofs.Doings.{does-as, does-is, does-then}
 use Rattle.gb_system.proofs.Standing.{rebussed, relevelled, repast, same-sound}
 use Rattle.gb_system.specs.Deciding.{Decides, DoesBehind, DoesThis, action_of, answer_of}
 use Rattle.gb_system.specs.Doing.{Does}

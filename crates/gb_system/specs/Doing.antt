@@ -1,7 +1,6 @@
 -- What the parties do, as actions of the machine.
 use Rattle.std.specs.Prelude.{◌≡◌, List, [], ◌++◌}
 use Rattle.gb_base.specs.declared.entry.Entry.{Entry}
-use Rattle.gb_invariants.specs.Facts.{Loose}
 use Rattle.gb_machine.specs.Actions.{Action}
 use Rattle.gb_machine.specs.State.{State}
 use Rattle.gb_system.specs.Stands.{PartsStand}

@@ -8,4 +8,3 @@ pub mod Sending
 pub mod Serving
 pub mod Showing
 pub mod Stands
-pub mod Told

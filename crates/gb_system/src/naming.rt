@@ -1,9 +1,9 @@
 //! What is done to the request of a name, and to names.
 
 ghost use Rattle.std.specs.Prelude.{◌≡◌};
+ghost use Rattle.gb_base.specs.declared.event.Event.TheVariants as event;
 ghost use Rattle.gb_machine.specs.State.{State};
 ghost use Rattle.gb_system.specs.Stands.{PartiesStand, PartsStep};
-ghost use Rattle.gb_system.specs.Told.{cancel_of, copy_of, forget_of};
 
 use crate::entries::{begun, refused};
 use crate::parties::Parties;
@@ -14,7 +14,7 @@ impl Parties {
     /// Gives up the request that a name names.
     pub fn cancel(&mut self, name: &Name) -> Result<Entries, OutOfMemory>
         ensures step { (s : State) → PartiesStand self.old s
-            → PartsStep self.new s (cancel_of name.now) result }
+            → PartsStep self.new s (event.Cancel name.now) result }
     {
         let Some(number) = self.names.get(name) else {
             return Ok(refused(self.alloc, Refusal::NoName)?);
@@ -32,7 +32,7 @@ impl Parties {
     /// Gives the request of a name another name too.
     pub fn copy_name(&mut self, from: &Name, to: &Name) -> Result<Entries, OutOfMemory>
         ensures step { (s : State) → PartiesStand self.old s
-            → PartsStep self.new s (copy_of from.now to.now) result }
+            → PartsStep self.new s (event.Copy from.now to.now) result }
     {
         let Some(number) = self.names.get(from) else {
             return Ok(refused(self.alloc, Refusal::NoName)?);
@@ -47,7 +47,7 @@ impl Parties {
     /// Frees a name.
     pub fn forget_name(&mut self, name: &Name) -> Result<Entries, OutOfMemory>
         ensures step { (s : State) → PartiesStand self.old s
-            → PartsStep self.new s (forget_of name.now) result }
+            → PartsStep self.new s (event.Forget name.now) result }
     {
         let Some(_) = self.names.get(name) else {
             return Ok(refused(self.alloc, Refusal::NoName)?);

@@ -1,5 +1,5 @@
 -- Each act is done by its function.
-use Rattle.std.proofs.Common.{false, ◌++◌, ◌∷◌, [], List, refl, sym, ap, ◌∙◌, subst}
+use Rattle.std.proofs.Common.{false, ◌++◌, ◌∷◌, [], refl, sym, ap, ◌∙◌, subst}
 use Rattle.gb_base.specs.declared.entry.Entry.{Entry}
 use Rattle.gb_host.specs.declared.acts.Act.{Act}
 use Rattle.gb_system.proofs.Acts.{leave-done}

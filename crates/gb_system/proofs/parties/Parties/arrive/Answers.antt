@@ -2,8 +2,9 @@
 use Rattle.std.proofs.Common.{[], ℕ, List, sym, ap, ◌∙◌, subst}
 use Rattle.gb_bus.specs.Delivering.{Brings}
 use Rattle.gb_bus.specs.declared.answers.Arrival.{Arrival}
-use Rattle.gb_system.proofs.Arrivals.{answer-here, ask-here, dropped-here, late-here, nothing-here, nowhere-here, reads-on, unplugged-here}
+use Rattle.gb_system.proofs.Arrivals.{answer-here, dropped-here, late-here, nothing-here, nowhere-here, reads-on, unplugged-here}
 use Rattle.gb_machine.specs.Arriving.{reading_at}
+use Rattle.gb_system.proofs.AskArrivals.{ask-here}
 use Rattle.gb_system.specs.Serving.{side_of}
 use Rattle.gb_system.specs.Stands.{held_items}
 use Rattle.gb_system.proofs.parties.Parties.arrive.Goals as goal

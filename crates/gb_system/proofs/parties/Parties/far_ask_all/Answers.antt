@@ -1,6 +1,5 @@
 -- A far side makes all its requests.
-use Rattle.std.proofs.Common.{◌∷◌, ◌+◌, List, ℕ, drop, drop_of_length-le, ap, ◌∙◌, subst}
-use Rattle.gb_base.specs.declared.served.OwnAsk.{OwnAsk}
+use Rattle.std.proofs.Common.{◌+◌, List, ℕ, drop, drop_of_length-le, ap, ◌∙◌, subst}
 use Rattle.gb_machine.specs.OwnAsking.{far_asks, far_asks_all}
 use Rattle.gb_system.proofs.Asks.{far-cons, far-nil}
 use Rattle.gb_system.proofs.Midways.{drop-next, midway-as, midway-end, midway-first, midway-more}

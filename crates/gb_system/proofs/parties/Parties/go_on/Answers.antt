@@ -1,11 +1,9 @@
 -- What came with a request is told and noticed.
-use Rattle.std.proofs.Common.{Option, Some, None, option_map, sym, ap, ◌∙◌, subst}
+use Rattle.std.proofs.Common.{option_map, ap}
 use Rattle.gb_host.specs.Serving.{event_of}
 use Rattle.gb_machine.specs.HostActs.{notices}
-use Rattle.gb_machine.specs.Turns.{HostEvent}
 use Rattle.gb_system.proofs.ApServes.{does-tell_any, may-then}
 use Rattle.gb_system.proofs.Doings.{does-given, does-given_none, does-then}
-use Rattle.gb_system.specs.Serving.{MayNotice}
 use Rattle.gb_system.proofs.parties.Parties.go_on.Goals as goal
 
 pub returns-in_ok-notice : goal.returns-in_ok-notice

@@ -1,6 +1,6 @@
 -- A request is made and awaited, or its sequence fails.
-use Rattle.std.proofs.Common.{Option, Some, None, ℕ, option_map, refl, sym, ap, ◌∙◌, subst}
-use Rattle.gb_system.proofs.Acts.{act_draft, host-asked, host-unasked}
+use Rattle.std.proofs.Common.{refl, sym, ◌∙◌}
+use Rattle.gb_system.proofs.Acts.{host-asked, host-unasked}
 use Rattle.gb_system.specs.Acting.{asking_of}
 use Rattle.gb_system.proofs.parties.Parties.host_ask.Goals as goal
 

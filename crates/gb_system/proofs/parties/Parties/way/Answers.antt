@@ -1,7 +1,7 @@
 -- Where there is no way to an end, why not is why the request isn't sent.
 use Rattle.std.proofs.Common.{sym, ap, ◌∙◌, Err, subst}
 use Rattle.std.proofs.lemmas.Result.{err_from_is_err_and}
-use Rattle.gb_system.proofs.Sends.{goes-nowhere}
+use Rattle.gb_system.proofs.Ways.{goes-nowhere}
 use Rattle.gb_system.specs.Sending.{GoesAs}
 use Rattle.gb_system.proofs.parties.Parties.way.Goals as goal
 
