@@ -1,6 +1,6 @@
 //! Names of requests.
 
-ghost use Rattle.std.specs.Prelude.{◌≡◌, if◌then◌else◌, Some, None, nat_eq};
+ghost use Rattle.std.specs.Prelude.{◌≡◌, if◌then◌else◌, Some, None, nat_eq, IsAscii};
 ghost use Rattle.std.specs.Cmp.{partial_equiv_from_equiv};
 ghost use Rattle.std.specs.Cmp.Lexicographic.{pointwise, nat_list_eq_equiv};
 ghost use Rattle.gb_base.specs.Name.{is_name, is_name_byte};
@@ -19,11 +19,13 @@ pub struct Word {
 }
 
 impl Model for Word {
-    ghost use Rattle.std.specs.Prelude.{ℕ, List};
+    ghost use Rattle.std.specs.Prelude.{ℕ, List, IsAscii};
 
     ghost Value = { List ℕ };
 
     ghost view = { λ w. w.text.bytes };
+
+    ghost invariant = { λ w. IsAscii w.text.bytes };
 }
 
 impl Word {
@@ -46,6 +48,14 @@ impl Word {
         ensures { result.now ≡ self.now }
     {
         self.text.as_str().as_bytes()
+    }
+
+    /// The text.
+    pub fn text(&self) -> &str
+        ensures bytes { result.now ≡ self.now }
+        ensures ascii { IsAscii self.now }
+    {
+        self.text.as_str()
     }
 }
 

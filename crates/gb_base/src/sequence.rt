@@ -1,6 +1,6 @@
 //! The growing list of the public surface. A contract sees it as the list of its members.
 
-ghost use Rattle.std.specs.Prelude.{◌≡◌, [], ◌∷◌, ◌++◌, OnOk, OnErr, IfOk};
+ghost use Rattle.std.specs.Prelude.{◌≡◌, ◌≤◌, [], ◌∷◌, ◌++◌, OnOk, OnErr, IfOk, insert, length};
 
 use crate::OutOfMemory;
 use std::alloc::Global;
@@ -58,6 +58,17 @@ impl<T: Drop> Sequence<T> {
         ensures err { OnErr result (self.new ≡ self.old) }
     {
         self.members.push(member)?;
+        Ok(())
+    }
+
+    /// Adds a member in front of that at `place`, or at the end where `place` is the length. After
+    /// a refusal the list is as before.
+    pub fn insert(&mut self, place: usize, member: T) -> Result<(), OutOfMemory>
+        requires { place ≤ length self.old }
+        ensures ok { OnOk result (self.new ≡ insert self.old place member) }
+        ensures err { OnErr result (self.new ≡ self.old) }
+    {
+        self.members.insert(place, member)?;
         Ok(())
     }
 }

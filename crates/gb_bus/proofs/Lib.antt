@@ -13,4 +13,5 @@ pub mod Replies
 pub mod Sends
 pub mod SlotLaws
 pub mod Standing
+pub mod Tellings
 pub mod Wires

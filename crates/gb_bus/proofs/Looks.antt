@@ -84,7 +84,7 @@ spent-nowhere loose x b k at s none =
 
 -- ---- how many wait
 
-length-is : (rs : List Request) (is : List Item) (ms : List machine.Item) → StandsForQueue rs is ms
+pub length-is : (rs : List Request) (is : List Item) (ms : List machine.Item) → StandsForQueue rs is ms
     → length is ≡ length ms
 length-is rs [] [] h = refl
 length-is rs (i ∷ is) (m ∷ ms) h = ap suc (length-is rs is ms h.1)

@@ -7,4 +7,5 @@ pub mod Sending
 pub mod Slots
 pub mod Stands
 pub mod Taking
+pub mod Telling
 pub mod Wiring

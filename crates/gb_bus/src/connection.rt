@@ -2,10 +2,13 @@
 
 ghost use Rattle.std.specs.Prelude.{◌≡◌, [], ◌∷◌, ◌++◌, OnOk, length};
 ghost use Rattle.gb_bus.specs.Parts.{PopsAs, cleared, earliest_of, is_wired_to, last_of, next_of, put, queue_of, side_at, with_last};
+ghost use Rattle.gb_bus.specs.Telling.{known_as, with_ends};
 
 use crate::ends::earlier;
 use crate::queue::{Item, Queue};
-use gb_base::{End, OutOfMemory, Side};
+use crate::telling::add_end;
+use crate::{Known, Waiting};
+use gb_base::{End, OutOfMemory, Sequence, Side};
 use std::alloc::Global;
 
 /// The greatest identifier.
@@ -159,5 +162,30 @@ impl Connection {
         }
         let found = earlier(self.to_far.is_empty(), self.peer, found);
         earlier(self.to_ap.is_empty(), End::Ap(self.ap), found)
+    }
+
+    /// What is told of it.
+    pub fn known(&self) -> Known
+        ensures { result ≡ known_as self.now }
+    {
+        Known {
+            number: self.number,
+            ap: self.ap,
+            peer: self.peer,
+            protocol: self.protocol,
+            clean: true,
+        }
+    }
+
+    /// Adds those of its ends at which something waits, where they belong in the order in which
+    /// queues are settled.
+    pub fn add_ends(&self, ordered: &mut Sequence<Waiting>) -> Result<(), OutOfMemory>
+        ensures { OnOk result (ordered.new ≡ with_ends self.now ordered.old) }
+    {
+        if !self.wired {
+            return Ok(());
+        }
+        add_end(self.peer, self.to_far.len(), ordered)?;
+        add_end(End::Ap(self.ap), self.to_ap.len(), ordered)
     }
 }

@@ -3,11 +3,13 @@
 ghost use Rattle.std.specs.Prelude.{◌≡◌, ◌==◌, [], ◌∷◌, ◌++◌, ◌<◌, OnOk, IfOk, IfSome, length, map, option_copied, option_map, find};
 ghost use Rattle.std.specs.List.{filter, list_any, position_from};
 ghost use Rattle.gb_machine.specs.Lists.{at_first, without};
+ghost use Rattle.gb_bus.specs.Telling.{known_as, waiting_in};
 ghost use Rattle.gb_bus.specs.Parts.{cleared, closed, is_wired_to, joins, numbered, place_at, put, svc, with_wire};
 
 use crate::connection::Connection;
 use crate::queue::Item;
-use gb_base::{End, Numbers, OutOfMemory, Side};
+use crate::{Known, Waiting};
+use gb_base::{End, Numbers, OutOfMemory, Sequence, Side};
 use std::alloc::Global;
 use std::marker::Model;
 
@@ -124,6 +126,30 @@ impl Connections {
             found = self.live[left].earliest(found);
         }
         found
+    }
+
+    /// What is told of each, in order.
+    pub fn known(&self, alloc: Global) -> Result<Sequence<Known>, OutOfMemory>
+        ensures { IfOk result (λ ks. ks ≡ map known_as self.now) }
+    {
+        let mut known = Sequence::new(alloc);
+        for connection in &self.live {
+            known.push(connection.known())?;
+        }
+        Ok(known)
+    }
+
+    /// The ends at which something waits, in the order in which queues are settled.
+    pub fn waiting(&self, alloc: Global) -> Result<Sequence<Waiting>, OutOfMemory>
+        ensures { IfOk result (λ ws. ws ≡ waiting_in self.now) }
+    {
+        let mut ordered = Sequence::new(alloc);
+        let mut left = self.live.len();
+        while left > 0 {
+            left -= 1;
+            self.live[left].add_ends(&mut ordered)?;
+        }
+        Ok(ordered)
     }
 
     /// A connection is wired.

@@ -37,7 +37,7 @@ pub fn earlier(empty: bool, at: End, found: Option<End>) -> Option<End>
 
 /// The order in which ends are settled: the supervisory controller, then the CPorts of the
 /// application processor, then those of modules.
-fn is_before(at: End, later: End) -> bool
+pub fn is_before(at: End, later: End) -> bool
     ensures { result ≡ end_before at later }
 {
     match (at, later) {

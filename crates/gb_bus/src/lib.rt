@@ -8,9 +8,11 @@ mod connections;
 mod ends;
 mod queue;
 mod slots;
+mod telling;
 #[cfg(test)]
 mod tests;
 mod wiring;
 
 pub use answers::{AlreadyEnded, Arrival, Arrived, Asked, DeliverFault, SendFault, Sent};
 pub use bus::Bus;
+pub use telling::{Known, Waiting};

@@ -24,12 +24,14 @@ use Rattle.gb_base.specs.declared.fault.Reason.{Reason}
 use Rattle.gb_base.specs.declared.fault.Reason.TheVariants as reason
 use Rattle.gb_base.specs.declared.fault.WireFault.{WireFault}
 use Rattle.gb_base.specs.declared.fault.WireFault.TheVariants as wire
+use Rattle.gb_base.specs.declared.name.Name.{Name}
 use Rattle.gb_base.specs.declared.outcome.Outcome.{Outcome}
 use Rattle.gb_base.specs.declared.outcome.Outcome.TheVariants as outcome
 use Rattle.gb_base.specs.declared.refusal.Refusal.{Refusal}
 use Rattle.gb_base.specs.declared.refusal.Refusal.TheVariants as refusal
 use Rattle.gb_formats.specs.Bytes.{byte_text, hex_text, joined}
 use Rattle.gb_formats.specs.Reasons.{reason_text, refusal_text}
+use Rattle.gb_formats.specs.ShowTexts.{connection_line, device_text, interface_line, name_line, now_line, queue_line, requester_text, standing_text, unclean_text}
 use Rattle.gb_formats.specs.Texts.{answer_text, bad_line, bad_text, dropped_text, end_text, ended, entry_line, entry_text, item_text, lost_text, outcome_text, raw_fault_text, reading_text, refusal_line_text, size_text, stage_text, state_text, wire_fault_text}
 
 -- A text is seen to be ASCII by a test of each byte. What is written in a text computes away, so
@@ -236,3 +238,47 @@ IsAscii-entry_text line hex e h = end_of_line (entry_line line hex e) (line_is l
 -- what the report has for a bad line
 pub IsAscii-refusal_line_text : (line : ℕ) (why : LineReason) → IsAscii (refusal_line_text line why)
 IsAscii-refusal_line_text line why = end_of_line (bad_line line why) (simp (cat, dec, bad_is))
+
+-- the lines of `show`
+
+device : (id : Option ℕ) → is_ascii (device_text id) ≡ true
+device None = refl
+device (Some d) = dec d
+
+unclean : (clean : Bool) → is_ascii (unclean_text clean) ≡ true
+unclean clean = either clean [] (codes " unclean") refl refl
+
+standing : (how : Option Outcome) → is_ascii (standing_text how) ≡ true
+standing None = refl
+standing (Some (outcome.Answered result payload)) = byte result
+standing (Some outcome.Cancelled) = refl
+standing (Some outcome.Timeout) = refl
+standing (Some outcome.Disconnected) = refl
+standing (Some outcome.Sent) = refl
+
+requester : (who : ℕ) → is_ascii (requester_text who) ≡ true
+requester who = either (who == 0) [] (joined (decimal who ∷ codes " " ∷ [])) refl (simp (cat, dec))
+
+pub IsAscii-now_line : (now : ℕ) → IsAscii (now_line now)
+IsAscii-now_line now = seen (now_line now) (dec now)
+
+pub IsAscii-interface_line : (i : ℕ) (stage : IntfStage) (id : Option ℕ)
+    → IsAscii (interface_line i stage id)
+IsAscii-interface_line i stage id =
+    seen (interface_line i stage id) (simp (cat, dec, staged, device))
+
+pub IsAscii-connection_line : (k ap : ℕ) (peer : End) (protocol : ℕ) (state : ConnState)
+    (clean : Bool) → IsAscii (connection_line k ap peer protocol state clean)
+IsAscii-connection_line k ap peer protocol state clean =
+    seen (connection_line k ap peer protocol state clean)
+    (simp (cat, dec, place, byte, stated, unclean))
+
+pub IsAscii-queue_line : (at : End) (count : ℕ) → IsAscii (queue_line at count)
+IsAscii-queue_line at count = seen (queue_line at count) (simp (cat, dec, place))
+
+-- what names a request is ASCII
+pub IsAscii-name_line : (name : Name) (n : ℕ) (how : Option Outcome) → IsAscii name.word
+    → IsAscii (name_line name n how)
+IsAscii-name_line name n how h =
+    let word = tested name.word h in
+    seen (name_line name n how) (simp (cat, requester, word, dec, standing))

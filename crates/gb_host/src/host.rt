@@ -6,7 +6,7 @@ ghost use Rattle.gb_machine.specs.Host.{first_host, interface_of, link_of};
 
 use crate::connections::Connections;
 use crate::interfaces::Interfaces;
-use gb_base::{ConnState, IntfStage, OutOfMemory};
+use gb_base::{ConnState, Interface, IntfStage, OutOfMemory};
 use std::alloc::Global;
 
 /// What the application processor tells of an interface.
@@ -76,5 +76,12 @@ impl Host {
             stage: interface.stage,
             device,
         })
+    }
+
+    /// What is known of the interfaces, in order of number. It takes no memory.
+    pub fn interfaces(&self) -> &[Interface]
+        ensures step { (h : machine.Host) → Stands self.now h → result.now ≡ h.interfaces }
+    {
+        self.interfaces.items()
     }
 }

@@ -58,6 +58,13 @@ impl Interfaces {
         }
     }
 
+    /// The interfaces in order of number.
+    pub fn items(&self) -> &[Interface]
+        ensures { result.now ≡ self.now }
+    {
+        self.known.as_slice()
+    }
+
     /// What is known of an interface.
     pub fn at(&self, intf: u8) -> Option<&Interface>
         ensures { option_copied result ≡ find (is_intf intf) self.now }

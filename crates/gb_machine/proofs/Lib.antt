@@ -4,6 +4,7 @@ pub mod HotPlugTests
 pub mod Lists
 pub mod Opened
 pub mod Options
+pub mod Ordering
 pub mod Positions
 pub mod RowsClosing
 pub mod RowsConnections

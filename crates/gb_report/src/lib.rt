@@ -9,9 +9,11 @@ mod entry;
 mod names;
 mod parts;
 mod report;
+mod show;
 #[cfg(test)]
 mod tests;
 
 pub use checked::{put_accepted, put_refused};
 pub use dump::put_dump;
 pub use report::{put, put_refusal};
+pub use show::{connection_line, interface_line, name_line, now_line, queue_line};

@@ -21,7 +21,7 @@ use Rattle.gb_invariants.specs.Facts.{Loose}
 use Rattle.gb_machine.proofs.Opened.{machine_opened}
 use Rattle.gb_machine.proofs.Steps.{told}
 use Rattle.gb_machine.specs.Actions.{Action, given, tell, ◌▸◌}
-use Rattle.gb_machine.specs.Bus.{Ask, Connection, Request, connection_of}
+use Rattle.gb_machine.specs.Bus.{Ask, Connection, Request}
 use Rattle.gb_machine.specs.Delivery.{replied}
 use Rattle.gb_machine.specs.Host.{Host, link_of}
 use Rattle.gb_machine.specs.HostActs.{notices}
@@ -32,11 +32,11 @@ use Rattle.gb_machine.specs.Serving.{Answer, answer, success}
 use Rattle.gb_machine.specs.State.{State}
 use Rattle.gb_machine.specs.Turns.{HostEvent}
 use Rattle.gb_system.proofs.Doings.{does-as, does-given, does-given_none, does-is, does-tell, does-then}
-use Rattle.gb_system.proofs.Replies.{found-number}
 use Rattle.gb_system.proofs.Standing.{rehosted}
 use Rattle.gb_system.proofs.SvcServes.{may-reply}
 use Rattle.gb_system.specs.Acting.{MayTurn}
 use Rattle.gb_system.specs.Doing.{Does}
+use Rattle.gb_system.specs.Drafts.{IsUpon}
 use Rattle.gb_system.specs.Serving.{IsDelivered, MayNotice, MayServe, only, told_of}
 use Rattle.gb_system.specs.Stands.{PartsStand, held_items}
 use Rattle.gb_system.specs.declared.parties.Parties.{Parties}
@@ -211,7 +211,7 @@ is-served : {s : State} {at : End} {k : ℕ} {asked : Asked} {payload : List ℕ
     → serving c (incoming n d.request) s ≡ served_of served y
 is-served {s} {at} {k} {asked} {payload} {c} {n} served y d h =
     ap (λ j. host_serves j d.request.kind d.request.payload s.host)
-    (found-number k s.bus.connections c d.live)
+    d.upon.number
     ∙ ap (λ m. host_serves k m d.request.payload s.host) (sym d.names.kind)
     ∙ ap (λ p. host_serves k asked.kind p s.host) (sym d.payload_is) ∙ h
 
@@ -308,7 +308,7 @@ pub ap-twoway : {x y z : Parties} {s : State} {a b e : List Entry} {at : End} {k
     → host_serves k asked.kind payload s.host ≡ served_of served w
     → (asked.label == 0) ≡ false → MayServe side.Ap c (incoming n d.request) s
     → ((t : State) → PartsStand (only k side.Ap n) (record x { host = w }) t
-    → connection_of k t.bus ≡ Some c → (may : MayReply asked t.bus n)
+    → IsUpon k t.bus c → (may : MayReply asked t.bus n)
     → Does y (replies side.Ap c (incoming n may.request) (answer served.result served.payload)) t a b)
     → ((t : State) → PartsStand [] y t → MayNotice (option_map event_of served.«then») t
     → Does z (given served.tell tell ▸ given (option_map event_of served.«then») notices) t b e)
@@ -322,7 +322,7 @@ ap-twoway {x} {y} {z} {s} {a} {b} {e} {at} {k} {asked} {payload} {c} {n} served 
     let stands = served-stands c q served w is st in
     let answered_so : Does y (replies side.Ap c q (serving c q s).answer) t a b =
     subst (λ (v : HostServed). Does y (replies side.Ap c q v.answer) t a b) (sym is)
-    (answers t stands d.live (may-reply d twoway)) in
+    (answers t stands d.upon (may-reply d twoway)) in
     let mid = (replies side.Ap c q (serving c q s).answer t).state in
     let may_now : MayNotice (serving c q s).notices mid =
     subst (MayNotice (serving c q s).notices) (sym (replied-state c q (serving c q s) s))

@@ -1,6 +1,7 @@
 pub mod Acts
 pub mod AnswerReadings
 pub mod ApServes
+pub mod Arrivals
 pub mod Asks
 pub mod Boots
 pub mod Connects
@@ -18,8 +19,11 @@ pub mod Plugged
 pub mod Pulls
 pub mod Replies
 pub mod Sends
+pub mod Settles
+pub mod Showings
 pub mod Standing
 pub mod SvcServes
 pub mod SvcSteps
 pub mod Takings
 pub mod Turning
+pub mod WordOrder

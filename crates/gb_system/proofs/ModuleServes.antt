@@ -12,10 +12,9 @@ use Rattle.gb_formats.specs.Module.{Module}
 use Rattle.gb_formats.specs.ModuleSteps.{module_serve}
 use Rattle.gb_formats.specs.Results.{Step, most_payload, nonexistent}
 use Rattle.gb_invariants.specs.Facts.{Loose}
-use Rattle.gb_invariants.proofs.Numbers.{found-number}
 use Rattle.gb_machine.proofs.Opened.{machine_opened}
 use Rattle.gb_machine.specs.Actions.{Action, Told, ◌▸◌}
-use Rattle.gb_machine.specs.Bus.{Connection, Request, connection_of}
+use Rattle.gb_machine.specs.Bus.{Connection, Request}
 use Rattle.gb_machine.specs.Incoming.{incoming}
 use Rattle.gb_machine.specs.Members.{Each}
 use Rattle.gb_machine.specs.Modules.{is_plugged_at, module_at, with_module}
@@ -27,6 +26,7 @@ use Rattle.gb_system.proofs.Doings.{does-as, does-then}
 use Rattle.gb_system.proofs.Fits.{module_fits}
 use Rattle.gb_system.specs.Acting.{AreAskable}
 use Rattle.gb_system.specs.Doing.{Does}
+use Rattle.gb_system.specs.Drafts.{IsUpon}
 use Rattle.gb_system.specs.Plugging.{ServesThere}
 use Rattle.gb_system.specs.Serving.{only}
 use Rattle.gb_system.specs.Stands.{IsShort, PartsStand}
@@ -118,7 +118,7 @@ abbrev pub AnswersThere : ℕ → Asked → ℕ → List ℕ → Parties → Par
     → Type 0
 AnswersThere k asked code payload x y before told =
     (s : State) (c : Connection) (n : ℕ)
-    → PartsStand (only k side.Far n) x s → connection_of k s.bus ≡ Some c
+    → PartsStand (only k side.Far n) x s → IsUpon k s.bus c
     → (may : MayReply asked s.bus n) → length payload ≤ most_payload
     → Does y (replies side.Far c (incoming n may.request) (answer code payload)) s before told
 
@@ -133,7 +133,7 @@ abbrev pub ServesAtModule : ℕ → ℕ → ℕ → Asked → List ℕ → Parti
     → List Entry → Type 0
 ServesAtModule k i cport asked payload x y before told =
     (s : State) (c : Connection) (n : ℕ)
-    → PartsStand (only k side.Far n) x s → connection_of k s.bus ≡ Some c
+    → PartsStand (only k side.Far n) x s → IsUpon k s.bus c
     → c.peer ≡ end.Module i cport → (may : MayReply asked s.bus n)
     → payload ≡ may.request.payload → length payload ≤ most_payload
     → Does y (serves side.Far c (incoming n may.request)) s before told
@@ -153,7 +153,7 @@ serves-some k i cport asked payload x y z mods served a b d steps answers asks s
     r = may.request
 
     number : c.number ≡ k
-    number = (found-number k s.bus c live).1
+    number = live.number
 
     by : (o : Option Module) → module_at i x.modules ≡ o
         → ServesThere i cport asked.kind payload o x.modules mods (Ok (Some served))

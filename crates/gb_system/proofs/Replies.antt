@@ -27,14 +27,9 @@ use Rattle.gb_machine.specs.State.{State}
 use Rattle.gb_system.proofs.Doings.{does-is}
 use Rattle.gb_system.proofs.Standing.{rebussed, same-sound}
 use Rattle.gb_system.specs.Doing.{Does}
-use Rattle.gb_system.specs.Drafts.{end_at, reply_told}
+use Rattle.gb_system.specs.Drafts.{IsUpon, end_at, reply_told}
 use Rattle.gb_system.specs.Stands.{PartsStand, held_items}
 use Rattle.gb_system.specs.declared.parties.Parties.{Parties}
-
--- a connection that is found has the number
-pub found-number : (k : ℕ) (cs : List Connection) (c : Connection) → find (has_number k) cs ≡ Some c
-    → c.number ≡ k
-found-number k cs c found = same-number c.number k (found-in (has_number k) cs c found).1
 
 replies-is : (at : Side) (c : Connection) (q : Incoming) (a : Answer) (s : State)
     → replies at c q a s
@@ -67,17 +62,15 @@ told-is at c n code payload r asked ends e number label kind low same is =
     by side.Ap = refl
     by side.Far = refl
 
-some-is : {A : Type 0} (x : A) (f : Connection → A) (o : Option Connection) (c : Connection)
-    → Some x ≡ option_map f o → o ≡ Some c → x ≡ f c
-some-is x f o c h e = let both : Some x ≡ Some (f c) = h ∙ ap (option_map f) e in cc
+some-is : {A : Type 0} (x y : A) (o : Option A) → Some x ≡ o → o ≡ Some y → x ≡ y
+some-is x y o h e = let both : Some x ≡ Some y = h ∙ e in cc
 
-pub none-not : {A : Type 0} (f : Connection → A) (o : Option Connection) (c : Connection)
-    → None ≡ option_map f o → o ≡ Some c → ⊥
-none-not f o c h e = let both : None ≡ Some (f c) = h ∙ ap (option_map f) e in absurd cc
+pub none-not : {A : Type 0} (y : A) (o : Option A) → None ≡ o → o ≡ Some y → ⊥
+none-not y o h e = let both : None ≡ Some y = h ∙ e in absurd cc
 
 pub answered-done : {x : Parties} {s : State} {a b : List Entry} {loose : List Loose} (y : Bus)
     (k : ℕ) (at : Side) (asked : Asked) (code : ℕ) (payload : List ℕ) (ends : ℕ × End) (e : Entry)
-    (c : Connection) (n : ℕ) → PartsStand loose x s → connection_of k s.bus ≡ Some c
+    (c : Connection) (n : ℕ) → PartsStand loose x s → IsUpon k s.bus c
     → (may : MayReply asked s.bus n) → Some ends ≡ option_map ends_of (connection_of k s.bus)
     → bus.Stands (held_items s) y (replied k (other_side at) (Reply n code payload) s.bus)
     → (asked.kind < 128
@@ -88,12 +81,12 @@ answered-done {x} {s} {a} {b} y k at asked code payload ends e c n st live may h
     =
     let r = may.request in
     let after = replied c.number (other_side at) (Reply n code payload) s.bus in
-    let same = found-number k s.bus.connections c live in
+    let same = live.number in
     does-is (with_bus after s) (reply_entry at c (incoming n r) (answer code payload) ∷ [])
     (replies-is at c (incoming n r) (answer code payload) s)
     (pushed ∙ ap (λ f. a ++ f ∷ [])
     (told-is at c n code payload r asked ends e may.names.number may.names.label may.names.kind
-    (st.sound n r may.made).kind (some-is ends ends_of (connection_of k s.bus) c has live) says))
+    (st.sound n r may.made).kind (some-is ends (ends_of c) (option_map ends_of (connection_of k s.bus)) has live.ends) says))
     (rebussed [] y after st
     (subst (λ j. bus.Stands (held_items s) y
     (replied j (other_side at) (Reply n code payload) s.bus)) (sym same) stands)

@@ -12,7 +12,7 @@ use Rattle.gb_invariants.proofs.Awaiting.{same-some}
 use Rattle.gb_machine.proofs.Opened.{machine_opened}
 use Rattle.gb_machine.proofs.Steps.{told, with_bus}
 use Rattle.gb_machine.specs.Actions.{Action, Told, nothing, ◌▸◌}
-use Rattle.gb_machine.specs.Bus.{Ask, Connection, Request, connection_of}
+use Rattle.gb_machine.specs.Bus.{Ask, Connection, Request}
 use Rattle.gb_machine.specs.Delivery.{replied}
 use Rattle.gb_machine.specs.Incoming.{Incoming, incoming, reply_entry, reply_item}
 use Rattle.gb_machine.specs.Responding.{Response, far_response, replies, responds, serves, svc_stepped}
@@ -26,6 +26,7 @@ use Rattle.gb_system.proofs.Doings.{does-as, does-is, does-nothing, does-then}
 use Rattle.gb_system.proofs.Standing.{rebussed, relevelled, repast, same-sound}
 use Rattle.gb_system.specs.Deciding.{Decides, DoesBehind, DoesThis, action_of, answer_of}
 use Rattle.gb_system.specs.Doing.{Does}
+use Rattle.gb_system.specs.Drafts.{IsUpon}
 use Rattle.gb_system.specs.Serving.{IsDelivered, only}
 use Rattle.gb_system.specs.Stands.{PartsStand, held_items}
 use Rattle.gb_system.specs.declared.deciding.Behind.{Behind}
@@ -106,7 +107,7 @@ pub svc-served : {x y z : Parties} {s : State} {a b e : List Entry} (l : Ladder)
     → (d : IsDelivered end.Svc k asked payload s c n) → PartsStand (only k side.Far n) x s
     → Decides l s (svc_stepped (svc_step s.ports asked.kind payload) s) dec
     → ((t : State) → PartsStand (only k side.Far n) (record x { ladder = l }) t
-    → connection_of k t.bus ≡ Some c → (may : MayReply asked t.bus n)
+    → IsUpon k t.bus c → (may : MayReply asked t.bus n)
     → Does y (replies side.Far c (incoming n may.request) (answer_of dec)) t a b)
     → ((t : State) → PartsStand [] y t → Does z (action_of dec.behind) t b e)
     → Does z (serves side.Far c (incoming n d.request)) s a e
@@ -130,7 +131,7 @@ svc-served {x} {y} {z} {s} {a} {b} {e} l k asked payload c n dec d st decides an
         ▸ (svc_stepped (svc_step s.ports asked.kind payload) s).behind) s a e
     by_this this w then =
         let q = incoming n d.request in
-        let answered_so = answers s (relevelled l s.ports st w.stands) d.live
+        let answered_so = answers s (relevelled l s.ports st w.stands) d.upon
         (may-reply d (far-reply d st)) in
         does-as (ap (λ (g : Action). (replies side.Far c q (answer_of dec) ▸ g) s) (sym w.is))
         (does-then answered_so
@@ -144,7 +145,7 @@ svc-served {x} {y} {z} {s} {a} {b} {e} l k asked payload c n dec d st decides an
         let q = incoming n d.request in
         let t = record s { ports = w.ports } in
         let does = (svc_stepped (svc_step s.ports asked.kind payload) s).behind in
-        let answered_so = answers t (relevelled l w.ports st w.stands) d.live
+        let answered_so = answers t (relevelled l w.ports st w.stands) d.upon
         (may-reply d (far-reply d st)) in
         does-as (levels-is c q (answer_of dec) w.ports s
         ∙ sym (levels-after c q (answer_of dec) does w.ports s w.is))

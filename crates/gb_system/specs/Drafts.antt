@@ -1,5 +1,5 @@
 -- The requests and replies of the parties, by the values of the code.
-use Rattle.std.specs.Prelude.{ℕ, Bool, Option, List}
+use Rattle.std.specs.Prelude.{◌≡◌, ℕ, Bool, Option, Some, option_map, List}
 use Rattle.gb_base.specs.declared.end.End.{End}
 use Rattle.gb_base.specs.declared.end.End.TheVariants as end
 use Rattle.gb_base.specs.declared.end.Side.{Side}
@@ -7,8 +7,9 @@ use Rattle.gb_base.specs.declared.end.Side.TheVariants as side
 use Rattle.gb_base.specs.declared.entry.Entry.{Entry}
 use Rattle.gb_base.specs.declared.entry.Entry.TheVariants as entry
 use Rattle.gb_base.specs.declared.served.OwnAsk.{OwnAsk}
+use Rattle.gb_bus.specs.Wiring.{ends_of}
 use Rattle.gb_formats.specs.Message.{message_size, request, response, spelling}
-use Rattle.gb_machine.specs.Bus.{other_side}
+use Rattle.gb_machine.specs.Bus.{Bus, Connection, connection_of, other_side}
 use Rattle.gb_machine.specs.Sending as machine
 use Rattle.gb_system.specs.declared.asking.Draft.{Draft}
 
@@ -31,6 +32,11 @@ own_ask kind payload oneway = record { kind = kind; payload = payload; oneway = 
 abbrev pub end_at : Side → ℕ × End → End
 end_at side.Ap ends = end.Ap ends.0
 end_at side.Far ends = ends.1
+
+-- A connection that was live before is connection k, between the same ends.
+pub record IsUpon (k : ℕ) (b : Bus) (c : Connection) : Type 0 where
+  pub number : c.number ≡ k
+  pub ends : option_map ends_of (connection_of k b) ≡ Some (ends_of c)
 
 -- what is told of a request that a side makes
 abbrev pub ask_told : Side → ℕ × End → ℕ → ℕ → ℕ → List ℕ → Bool → Entry

@@ -6,5 +6,6 @@ pub mod Drafts
 pub mod Plugging
 pub mod Sending
 pub mod Serving
+pub mod Showing
 pub mod Stands
 pub mod Told

@@ -8,7 +8,7 @@ use Rattle.gb_base.specs.declared.entry.Entry.{Entry}
 use Rattle.gb_bus.specs.Delivering.{Names, taken_from}
 use Rattle.gb_bus.specs.declared.answers.Asked.{Asked}
 use Rattle.gb_invariants.specs.Facts.{Loose}
-use Rattle.gb_machine.specs.Bus.{Ask, Connection, Request, connection_of, end_of, request_of}
+use Rattle.gb_machine.specs.Bus.{Ask, Connection, Request, end_of, request_of}
 use Rattle.gb_machine.specs.Delivery.{replied}
 use Rattle.gb_machine.specs.HostServing.{HostServed, host_serves}
 use Rattle.gb_machine.specs.Incoming.{Incoming, incoming, reply_item}
@@ -17,6 +17,7 @@ use Rattle.gb_machine.specs.State.{State}
 use Rattle.gb_machine.specs.Turns.{HostEvent}
 use Rattle.gb_system.specs.Acting.{MayTurn}
 use Rattle.gb_system.specs.Doing.{Does}
+use Rattle.gb_system.specs.Drafts.{IsUpon}
 use Rattle.gb_system.specs.Stands.{PartsStand}
 use Rattle.gb_system.specs.declared.parties.Parties.{Parties}
 
@@ -37,7 +38,7 @@ pub record IsDelivered (at : End) (k : ℕ) (asked : Asked) (payload : List ℕ)
   pub made : request_of n s.bus ≡ Some request
   pub names : Names asked n request
   pub payload_is : payload ≡ request.payload
-  pub live : connection_of k s.bus ≡ Some c
+  pub upon : IsUpon k s.bus c
   pub there : end_of (side_of at) c ≡ at
 
 -- the state once the application processor served a request, before it takes notice of anything

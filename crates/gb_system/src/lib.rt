@@ -14,6 +14,7 @@ mod module_serving;
 mod modules;
 mod names;
 mod naming;
+mod ordering;
 mod parties;
 mod plugging;
 mod sending;

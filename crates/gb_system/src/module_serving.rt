@@ -1,15 +1,16 @@
 //! Requests that modules serve.
 
-ghost use Rattle.std.specs.Prelude.{◌≡◌, ◌≤◌, ℕ, Some, OnOk, length};
+ghost use Rattle.std.specs.Prelude.{◌≡◌, ◌≤◌, ℕ, OnOk, length};
 ghost use Rattle.gb_base.specs.declared.end.End.TheVariants as end;
 ghost use Rattle.gb_base.specs.declared.end.Side.TheVariants as side;
 ghost use Rattle.gb_bus.specs.Delivering.{MayReply};
 ghost use Rattle.gb_formats.specs.Results.{most_payload};
-ghost use Rattle.gb_machine.specs.Bus.{Connection, connection_of};
+ghost use Rattle.gb_machine.specs.Bus.{Connection};
 ghost use Rattle.gb_machine.specs.Incoming.{incoming};
 ghost use Rattle.gb_machine.specs.Responding.{serves};
 ghost use Rattle.gb_machine.specs.State.{State};
 ghost use Rattle.gb_system.specs.Doing.{Does};
+ghost use Rattle.gb_system.specs.Drafts.{IsUpon};
 ghost use Rattle.gb_system.specs.Serving.{only};
 ghost use Rattle.gb_system.specs.Stands.{PartsStand};
 
@@ -34,7 +35,7 @@ impl Parties {
     ) -> Result<(), OutOfMemory>
         ensures step { OnOk result ((s : State) (c : Connection) (n : ℕ)
             → PartsStand (only connection side.Far n) self.old s
-            → connection_of connection s.bus ≡ Some c → c.peer ≡ end.Module intf cport
+            → IsUpon connection s.bus c → c.peer ≡ end.Module intf cport
             → (may : MayReply asked.now s.bus n) → payload.now ≡ may.request.payload
             → length payload.now ≤ most_payload
             → Does self.new (serves side.Far c (incoming n may.request)) s told.old told.new) }

@@ -33,6 +33,13 @@ impl Names {
         }
     }
 
+    /// The names in the order in which they were bound, each with its request.
+    pub fn items(&self) -> &[(Name, u64)]
+        ensures { result.now ≡ self.now }
+    {
+        self.bound.as_slice()
+    }
+
     /// The request that a name names, None where the name is free.
     pub fn get(&self, name: &Name) -> Option<u64>
         ensures { result ≡ named name.now self.now }

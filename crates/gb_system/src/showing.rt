@@ -1,19 +1,146 @@
 //! What `show` tells.
 
+ghost use Rattle.std.specs.Prelude.{◌≡◌, ◌++◌, List, IfOk, OnOk, map};
 ghost use Rattle.gb_base.specs.declared.event.Event.TheVariants as event;
+ghost use Rattle.gb_bus.specs.Stands as of_bus;
+ghost use Rattle.gb_host.specs.Stands.{host_of};
+ghost use Rattle.gb_invariants.specs.Facts.{Loose};
+ghost use Rattle.gb_machine.specs.Bus as machine;
+ghost use Rattle.gb_machine.specs.Host.{link_of};
+ghost use Rattle.gb_machine.specs.Show.{interface_shown, name_shown, state_of};
 ghost use Rattle.gb_machine.specs.State.{State};
+ghost use Rattle.gb_system.specs.Showing.{known_shown, lines, waiting_shown};
 ghost use Rattle.gb_system.specs.Stands.{PartiesStand, PartsStep};
 
 use crate::entries::begun;
+use crate::ordering::in_order;
 use crate::parties::Parties;
-use gb_base::{Entries, OutOfMemory};
+use gb_base::{ConnState, Entries, Entry, Interface, Name, OutOfMemory, Text};
+use gb_bus::{Bus, Known, Waiting};
+use gb_host::Host;
+use gb_report::{connection_line, interface_line, name_line, now_line, queue_line};
+use std::alloc::Global;
+
+/// The time in milliseconds: no event that changes it is built.
+const NOW: u64 = 0;
 
 impl Parties {
-    /// Tells what there is.
-    pub fn show(&mut self) -> Result<Entries, OutOfMemory>
-        ensures step { (s : State) → PartiesStand self.old s
-            → PartsStep self.new s event.Show result }
+    /// Tells what there is, and changes nothing: the time, each interface that the application
+    /// processor knows, each live connection, each queue that isn't empty, and each name.
+    pub fn show(&self) -> Result<Entries, OutOfMemory>
+        ensures step { (s : State) → PartiesStand self.now s
+            → PartsStep self.now s event.Show result }
     {
-        Ok(begun(self.alloc)?)
+        let mut told = begun(self.alloc)?;
+        let text = now_line(self.alloc, NOW)?;
+        told.push(Entry::Shown { text })?;
+        show_interfaces(self.alloc, self.host.interfaces(), &mut told)?;
+        let known = self.bus.connections()?;
+        show_connections(self.alloc, &self.host, known.items(), &mut told)?;
+        let waiting = self.bus.queues()?;
+        show_queues(self.alloc, waiting.items(), &mut told)?;
+        let names = in_order(self.alloc, self.names.items())?;
+        show_names(self.alloc, &self.bus, names.items(), &mut told)?;
+        Ok(told)
     }
+}
+
+/// Tells each interface.
+fn show_interfaces(
+    alloc: Global,
+    known: &[Interface],
+    told: &mut Entries,
+) -> Result<(), OutOfMemory>
+    ensures { OnOk result (told.new ≡ told.old ++ lines (map interface_shown known.now)) }
+{
+    for interface in known {
+        let text = interface_text(alloc, interface)?;
+        told.push(Entry::Shown { text })?;
+    }
+    Ok(())
+}
+
+/// The line of an interface.
+fn interface_text(alloc: Global, interface: &Interface) -> Result<Text, OutOfMemory>
+    ensures { IfOk result (λ t. t ≡ interface_shown interface.now) }
+{
+    let device = if interface.has_device {
+        interface.device
+    } else {
+        None
+    };
+    let text = interface_line(alloc, interface.intf, interface.stage, device)?;
+    Ok(text)
+}
+
+/// Tells each connection, in the state that the application processor knows.
+fn show_connections(
+    alloc: Global,
+    host: &Host,
+    known: &[Known],
+    told: &mut Entries,
+) -> Result<(), OutOfMemory>
+    ensures { OnOk result
+        (told.new ≡ told.old ++ lines (map (known_shown (host_of host.now)) known.now)) }
+{
+    for connection in known {
+        let text = connection_text(alloc, host, *connection)?;
+        told.push(Entry::Shown { text })?;
+    }
+    Ok(())
+}
+
+/// The line of a connection.
+fn connection_text(alloc: Global, host: &Host, known: Known) -> Result<Text, OutOfMemory>
+    ensures { IfOk result (λ t. t ≡ known_shown (host_of host.now) known) }
+{
+    let state = state_in(host, known.number);
+    let text = connection_line(
+        alloc,
+        known.number,
+        known.ap,
+        known.peer,
+        known.protocol,
+        state,
+        known.clean,
+    )?;
+    Ok(text)
+}
+
+/// The state of a connection. That of the supervisory controller is open for ever.
+fn state_in(host: &Host, connection: u64) -> ConnState
+    ensures { result ≡ state_of (link_of connection (host_of host.now)) }
+{
+    match host.stage(connection) {
+        Some(state) => state,
+        None => ConnState::Open,
+    }
+}
+
+/// Tells each queue.
+fn show_queues(alloc: Global, waiting: &[Waiting], told: &mut Entries) -> Result<(), OutOfMemory>
+    ensures { OnOk result (told.new ≡ told.old ++ lines (map waiting_shown waiting.now)) }
+{
+    for queue in waiting {
+        let text = queue_line(alloc, queue.at, queue.count)?;
+        told.push(Entry::Shown { text })?;
+    }
+    Ok(())
+}
+
+/// Tells each name, and how its request stands.
+fn show_names(
+    alloc: Global,
+    bus: &Bus,
+    names: &[(Name, u64)],
+    told: &mut Entries,
+) -> Result<(), OutOfMemory>
+    ensures { OnOk result ((loose : List Loose) (b : machine.Bus) → of_bus.Stands loose bus.now b
+        → told.new ≡ told.old ++ lines (map (name_shown b) names.now)) }
+{
+    for (name, number) in names {
+        let text = name_line(alloc, name, *number, bus.outcome(*number))?;
+        told.push(Entry::Shown { text })?;
+    }
+    Ok(())
 }

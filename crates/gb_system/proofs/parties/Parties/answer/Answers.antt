@@ -1,5 +1,5 @@
 -- The reply goes back and is told.
-use Rattle.std.proofs.Common.{[], ◌∷◌}
+use Rattle.std.proofs.Common.{[], ◌∷◌, option_map}
 use Rattle.gb_bus.specs.Delivering.{taken_from}
 use Rattle.gb_bus.specs.Wiring.{ends_of}
 use Rattle.gb_machine.specs.Bus.{Ask, connection_of}
@@ -10,9 +10,9 @@ use Rattle.gb_system.proofs.parties.Parties.answer.Goals as goal
 pub returns-in_default : goal.returns-in_default
 returns-in_default c = record {
   step = λ s x n st live may short.
-      absurd (none-not ends_of (connection_of c.args.connection s.bus) x
+      absurd (none-not (ends_of x) (option_map ends_of (connection_of c.args.connection s.bus))
       (c.in_default.ensures (taken_from c.args.connection c.args.side (Ask n) ∷ held_items s) s.bus
-      st.bus) live);
+      st.bus) live.ends);
 }
 
 pub returns : goal.returns

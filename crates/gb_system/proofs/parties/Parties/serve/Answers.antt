@@ -27,7 +27,7 @@ returns-in_ok-serve_at_module-in-Module c = record {
   step = subst (λ (at : End). ServesAt at c.args.self.now c.serve_at_module.new.self
       c.args.connection c.args.asked.now c.args.payload.now c.args.told.now
       c.serve_at_module.new.told) (sym c.in-Module.is)
-      (λ s x n d st may. c.in_ok-serve_at_module-in-Module.ensures.step s x n st d.live d.there
+      (λ s x n d st may. c.in_ok-serve_at_module-in-Module.ensures.step s x n st d.upon d.there
       (may-reply d (far-reply d st)) d.payload_is
       (subst (λ (p : List ℕ). length p ≤ most_payload) (sym d.payload_is)
       (st.sound n d.request d.made).payload));

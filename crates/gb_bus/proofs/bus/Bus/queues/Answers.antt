@@ -1,0 +1,7 @@
+-- The ends at which something waits.
+use Rattle.std.proofs.Common.{◌∙◌}
+use Rattle.gb_bus.proofs.Tellings.{waiting-is}
+use Rattle.gb_bus.proofs.bus.Bus.queues.Goals as goal
+
+pub returns : goal.returns
+returns c = λ loose b s. c.in_ok-waiting.ensures ∙ waiting-is loose c.args.self.now b s

@@ -1,0 +1,89 @@
+-- What is delivered is handled as the machine does.
+use Rattle.std.proofs.Common.{[], ℕ, List, sym, ap, ◌∙◌, subst}
+use Rattle.gb_bus.specs.Delivering.{Brings}
+use Rattle.gb_bus.specs.declared.answers.Arrival.{Arrival}
+use Rattle.gb_system.proofs.Arrivals.{answer-here, ask-here, dropped-here, late-here, nothing-here, nowhere-here, reads-on, unplugged-here}
+use Rattle.gb_machine.specs.Arriving.{reading_at}
+use Rattle.gb_system.specs.Serving.{side_of}
+use Rattle.gb_system.specs.Stands.{held_items}
+use Rattle.gb_system.proofs.parties.Parties.arrive.Goals as goal
+
+pub returns-then-is_unplugged : goal.returns-then-is_unplugged
+returns-then-is_unplugged c = record {
+  step = λ s st.
+      unplugged-here s c.args.at st.parts
+      (sym c.if-is_unplugged.true ∙ c.is_unplugged.ensures [] s st.parts);
+}
+
+pub returns-in-Err-NoConnection : goal.returns-in-Err-NoConnection
+returns-in-Err-NoConnection c = record {
+  step = λ s st.
+      nowhere-here s c.args.at c.deliver.new.self st.parts
+      (sym c.if-is_unplugged.false ∙ c.is_unplugged.ensures [] s st.parts)
+      (rw c.in-Err-NoConnection.field-0-is at
+      (c.in-Err-NoConnection.ensures.step (held_items s) s.bus st.parts.bus));
+}
+
+pub returns-in-Err-QueueEmpty : goal.returns-in-Err-QueueEmpty
+returns-in-Err-QueueEmpty c = record {
+  step = λ s st.
+      nothing-here s c.args.at c.deliver.new.self st.parts
+      (sym c.if-is_unplugged.false ∙ c.is_unplugged.ensures [] s st.parts)
+      (rw c.in-Err-QueueEmpty.field-0-is at
+      (c.in-Err-QueueEmpty.ensures.step (held_items s) s.bus st.parts.bus));
+}
+
+pub returns-in_ok-serve-in-Ask : goal.returns-in_ok-serve-in-Ask
+returns-in_ok-serve-in-Ask c = record {
+  step = λ s st.
+      let d = c.in-Ok.ensures.step (held_items s) s.bus st.parts.bus in
+      let a = subst (λ (w : Arrival). Brings (held_items s) c.deliver.new.self c.takes-takes.result
+      d.place s.bus d.item w) c.in-Ask.is d.brings in
+      ask-here s c.args.at c.deliver.new.self d.place c.in-Ok.arrived.connection d.item c.in-Ask.asked
+      c.in-Ask.payload c.items.result.now st
+      (sym c.if-is_unplugged.false ∙ c.is_unplugged.ensures [] s st.parts) d.named d.front
+      (sym (c.takes-takes.ensures [] s d.place st.parts d.named) ∙ a.0) d.connection c.items.ensures a.1
+      c.in_ok-serve-in-Ask.ensures.step;
+}
+
+pub returns-in_ok-end-in-Ended : goal.returns-in_ok-end-in-Ended
+returns-in_ok-end-in-Ended c = record {
+  step = λ s st.
+      let d = c.in-Ok.ensures.step (held_items s) s.bus st.parts.bus in
+      let a = subst (λ (w : Arrival). Brings (held_items s) c.deliver.new.self c.takes-takes.result
+      d.place s.bus d.item w) c.in-Ended.is d.brings in
+      answer-here s c.args.at c.deliver.new.self d.place d.item c.in-Ended.number c.in-Ended.kind
+      c.in-Ended.code c.in-Ended.payload c.reading-reading.result st
+      (sym c.if-is_unplugged.false ∙ c.is_unplugged.ensures [] s st.parts) d.named d.front
+      (sym (c.takes-takes.ensures [] s d.place st.parts d.named) ∙ a.0) a.1
+      (λ t stand same. c.reading-reading.ensures [] t d.place.connection stand
+      (reads-on s t c.args.at d.place c.in-Ok.arrived.connection st d.named d.connection same)
+      ∙ ap (λ (p : List ℕ). reading_at (side_of c.args.at) d.place.connection c.in-Ended.kind
+      c.in-Ended.code p) c.items-in-Ended.ensures)
+      c.in_ok-end-in-Ended.ensures.step;
+}
+
+pub returns-in_ok-push-in-Late : goal.returns-in_ok-push-in-Late
+returns-in_ok-push-in-Late c = record {
+  step = λ s st.
+      let d = c.in-Ok.ensures.step (held_items s) s.bus st.parts.bus in
+      let a = subst (λ (w : Arrival). Brings (held_items s) c.deliver.new.self c.takes-takes.result
+      d.place s.bus d.item w) c.in-Late.is d.brings in
+      late-here s c.args.at c.deliver.new.self d.place d.item c.in-Late.number st
+      (sym c.if-is_unplugged.false ∙ c.is_unplugged.ensures [] s st.parts) d.named d.front
+      (sym (c.takes-takes.ensures [] s d.place st.parts d.named) ∙ a.0) a.1
+      c.in_ok-push-in-Late.ensures.ok;
+}
+
+pub returns-in_ok-push-in-Dropped : goal.returns-in_ok-push-in-Dropped
+returns-in_ok-push-in-Dropped c = record {
+  step = λ s st.
+      let d = c.in-Ok.ensures.step (held_items s) s.bus st.parts.bus in
+      let a = subst (λ (w : Arrival). Brings (held_items s) c.deliver.new.self c.takes-takes.result
+      d.place s.bus d.item w) c.in-Dropped.is d.brings in
+      dropped-here s c.args.at c.deliver.new.self d.place d.item c.in-Dropped.number
+      c.in-Dropped.reply st
+      (sym c.if-is_unplugged.false ∙ c.is_unplugged.ensures [] s st.parts) d.named d.front
+      (sym (c.takes-takes.ensures [] s d.place st.parts d.named) ∙ a.0) a.1
+      c.in_ok-push-in-Dropped.ensures.ok;
+}
