@@ -96,9 +96,8 @@ impl Host {
             → result ≡ holds_of (λ l. is_kept l kind) (link_at intf cport h) }
     {
         match self.links.at(intf, cport) {
-            Some(link) =>
-                link.cport == 0 && matches!(kind, 0x05 | 0x06 | 0x0c)
-                    || link.protocol == UART && kind == 0x02,
+            Some(link) => link.cport == 0 && matches!(kind, 0x05 | 0x06 | 0x0c)
+                || link.protocol == UART && kind == 0x02,
             None => false,
         }
     }

@@ -239,8 +239,10 @@ host-unasked {x} {y} {s} {a} {b} {c} q has done fail =
     let f = fail u.stand in
     does-as {f = fails (unsent q.purpose)} (sym (host_asks-is q s
     ∙ ap (λ o. asked_with o q s) (sym (label-next (act_draft q) s.bus refl) ∙ none)))
-    (record { told_is = f.told_is ∙ ap (λ es. es ++ (fails (unsent q.purpose) s).entries) u.same;
-    stand = f.stand })
+    (record {
+      told_is = f.told_is ∙ ap (λ es. es ++ (fails (unsent q.purpose) s).entries) u.same;
+      stand = f.stand;
+    })
 
 -- ---- a connection is made
 

@@ -13,7 +13,9 @@ ghost use Rattle.gb_system.specs.Stands.{PartsStand};
 use crate::asking::{DEFAULT_TIMEOUT, Draft};
 use crate::parties::Parties;
 use crate::svc::SVC;
-use gb_base::{ConnState, Entries, Entry, Numbers, OutOfMemory, Outcome, Purpose, Reading, Side, TryCopy};
+use gb_base::{
+    ConnState, Entries, Entry, Numbers, OutOfMemory, Outcome, Purpose, Reading, Side, TryCopy,
+};
 use gb_host::{Act, HostEvent};
 
 impl Parties {

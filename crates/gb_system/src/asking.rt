@@ -41,11 +41,7 @@ pub struct Draft<'a> {
 impl Parties {
     /// Makes a request and tells it, where its connection is live and an identifier is left.
     /// Answers its number. Requests of the application processor get a response.
-    pub fn ask(
-        &mut self,
-        q: &Draft<'_>,
-        told: &mut Entries,
-    ) -> Result<Option<u64>, OutOfMemory>
+    pub fn ask(&mut self, q: &Draft<'_>, told: &mut Entries) -> Result<Option<u64>, OutOfMemory>
         ensures number { IfOk result (λ n. (s : State) → PartsStand [] self.old s
             → n ≡ option_map (λ l. next_number s.bus) (label_on (draft_of q.now) s.bus)) }
         ensures step { OnOk result ((s : State) → PartsStand [] self.old s
@@ -56,10 +52,14 @@ impl Parties {
         let Some(ends) = self.bus.ends(q.connection) else {
             return Ok(None);
         };
-        let sent = match self
-            .bus
-            .send(q.connection, q.side, q.kind, q.payload, q.deadline, q.oneway)
-        {
+        let sent = match self.bus.send(
+            q.connection,
+            q.side,
+            q.kind,
+            q.payload,
+            q.deadline,
+            q.oneway,
+        ) {
             Ok(sent) => sent,
             Err(SendFault::NoLabel) => return Ok(None),
             Err(SendFault::Memory(refused)) => return Err(refused),
@@ -123,12 +123,7 @@ impl Parties {
 }
 
 /// A request was made on a connection between these ends.
-fn asked(
-    alloc: Global,
-    q: &Draft<'_>,
-    ends: (u16, End),
-    sent: Sent,
-) -> Result<Entry, OutOfMemory>
+fn asked(alloc: Global, q: &Draft<'_>, ends: (u16, End), sent: Sent) -> Result<Entry, OutOfMemory>
     ensures { IfOk result (λ e. IsAskable q.now.kind q.now.payload.now → e ≡ ask_told q.now.side
         ends sent.number sent.label q.now.kind q.now.payload.now sent.lost) }
 {

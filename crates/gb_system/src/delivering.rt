@@ -63,8 +63,13 @@ impl Parties {
             Err(DeliverFault::Memory(refused)) => return Err(refused),
         };
         match item {
-            Arrival::Ask { asked, payload } =>
-                self.serve(connection, at, &asked, payload.items(), told)?,
+            Arrival::Ask { asked, payload } => self.serve(
+                connection,
+                at,
+                &asked,
+                payload.items(),
+                told,
+            )?,
             Arrival::Ended {
                 number,
                 kind,

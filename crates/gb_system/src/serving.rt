@@ -49,8 +49,9 @@ impl Parties {
         match at {
             End::Svc => self.serve_at_svc(connection, asked, payload, told)?,
             End::Ap(_) => self.serve_at_ap(connection, asked, payload, told)?,
-            End::Module { intf, cport } =>
-                self.serve_at_module(connection, intf, cport, asked, payload, told)?,
+            End::Module { intf, cport } => self.serve_at_module(
+                connection, intf, cport, asked, payload, told,
+            )?,
         }
         Ok(())
     }

@@ -1,5 +1,5 @@
-//! What no script can show yet: connections of modules, which nothing makes today. The expected
-//! values are worked by hand.
+//! What no script shows: what connections decide by themselves, and requests of a module's own. The
+//! expected values are worked by hand.
 
 use crate::System;
 use crate::deciding::{Behind, decide};
@@ -100,11 +100,8 @@ fn sends(rt: &impl Abort, parties: &mut Parties, k: u64, side: Side, kind: u8, p
 }
 
 /// What a delivery at the supervisory controller tells.
-fn served(rt: &impl Abort, alloc: Global, parties: &mut Parties) -> Entries {
-    let mut told = Entries::new(alloc);
-    let refused = parties.arrive(End::Svc, &mut told).expect(rt, "memory");
-    assert_eq!(rt; refused, None);
-    told
+fn served(rt: &impl Abort, parties: &mut Parties) -> Entries {
+    parties.deliver(End::Svc).expect(rt, "memory")
 }
 
 /// Whether an entry tells that a request was disconnected.
@@ -127,8 +124,8 @@ fn an_unwired_connection_ends_what_its_far_side_asked(rt: HostRuntime) {
     wires(&rt, &mut parties);
     sends(&rt, &mut parties, 2, Side::Far, 0x0e, &[3]);
     sends(&rt, &mut parties, 1, Side::Ap, 8, DESTROY);
-    let told = served(&rt, rt.alloc(), &mut parties);
-    assert!(rt; matches!(told.items().first(), Some(Entry::Replied { result: 0, .. })));
+    let told = served(&rt, &mut parties);
+    assert!(rt; matches!(told.items().get(1), Some(Entry::Replied { result: 0, .. })));
     assert!(rt; is_disconnected(told.items().last(), 1));
     assert!(rt; !parties.bus.is_wired(2));
 }

@@ -36,10 +36,15 @@ fn ended<R: Threads + Sync, S: Source, K: Sink>(
 
 #[test]
 fn scripts_are_reported(rt: HostRuntime) -> Result<(), Fail> {
-    let rows: [(&[u8], Status, &[u8]); 4] = [
+    let rows: [(&[u8], Status, &[u8]); 5] = [
         (b"", Status::Success, b""),
         (PING, Status::Success, PING_REPORT),
-        (b"# none\n\nboot", Status::Refused, b"line 3: not built\n"),
+        (
+            b"insert 2 gpio\npull 3",
+            Status::Success,
+            b"line 1 ok\nline 2 refused NoInterface\n",
+        ),
+        (b"# none\n\ntick 1", Status::Refused, b"line 3: not built\n"),
         (b"boot now", Status::Refused, b"line 1: extra word 2\n"),
     ];
     for (input, wanted, output) in rows {
