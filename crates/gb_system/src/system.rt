@@ -10,7 +10,7 @@ use crate::parties::Parties;
 use gb_base::{Entries, Event, OutOfMemory};
 use std::alloc::Global;
 
-/// The application processor, the supervisory controller and the bus between them.
+/// The application processor, the supervisory controller, the modules and the bus between them.
 #[derive(Drop)]
 pub struct System {
     parties: Parties,
@@ -21,7 +21,7 @@ pub struct System {
 impl System {
     ghost use Rattle.gb_system.specs.Stands.{Stands, StepsAs, has_failed, taken_of};
 
-    /// The first state: nothing was sent.
+    /// The first state: nothing is plugged, and nothing was sent.
     pub fn new(alloc: Global) -> Result<System, OutOfMemory>
         ensures first { IfOk result (λ x. Stands x first_state) }
         ensures taken { IfOk result (λ x. taken_of x ≡ 0) }
