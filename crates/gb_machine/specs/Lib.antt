@@ -13,6 +13,7 @@ pub mod HostRefusals
 pub mod HostServing
 pub mod HostTurns
 pub mod Incoming
+pub mod Journal
 pub mod Labels
 pub mod Laws
 pub mod LawsBus
