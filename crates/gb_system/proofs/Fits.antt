@@ -5,8 +5,6 @@ use Rattle.std.proofs.lemmas.List.{length-replicate, length-take}
 use Rattle.std.proofs.lemmas.List.Sums.{sum_by-cons}
 use Rattle.std.specs.List.{list_any}
 use Rattle.std.specs.Prelude.{slice_get}
-use Rattle.gb_base.specs.declared.event.Kind.{Kind}
-use Rattle.gb_base.specs.declared.event.Kind.TheVariants as kind
 use Rattle.gb_base.specs.declared.served.OwnAsk.{OwnAsk}
 use Rattle.gb_base.specs.declared.served.Served.{Served}
 use Rattle.gb_formats.specs.Bytes.{le16}
@@ -19,8 +17,7 @@ use Rattle.gb_formats.specs.GpioDevice as gpio
 use Rattle.gb_formats.specs.GpioRecords.{GpioAsk, GpioReply, gpio_reply_payload, read_gpio_ask_of_ap}
 use Rattle.gb_formats.specs.I2cDevice.{I2cDevice, after_op, has_strange_flags, i2c_asked, i2c_read, i2c_transfer_step, is_elsewhere, next_place, op_read_bytes, ops_run, read_from}
 use Rattle.gb_formats.specs.I2cRecords.{I2cAsk, TransferOp, op_read_size, op_size, op_written_size, ops_at, read_i2c_ask}
-use Rattle.gb_formats.specs.Kinds.{kind_manifest}
-use Rattle.gb_formats.specs.Module.{CportState, Module, ModulePort, Off, On, Quiet, is_on, module_of_kind, port_at}
+use Rattle.gb_formats.specs.Module.{CportState, Module, ModulePort, Off, On, Quiet, is_on, port_at}
 use Rattle.gb_formats.specs.ModuleSteps.{module_serve, port_served, served_in}
 use Rattle.gb_formats.specs.Records.{PayloadFault}
 use Rattle.gb_formats.specs.Results.{Step, invalid, most_payload, nonexistent, overflow, protocol_bad, refuses}
@@ -335,11 +332,3 @@ module_fits m c kind payload h = by (c == 0)
         (port_served m (port_at m c) kind payload))
     by true = control_read_fits m (read_control_ask kind payload) h
     by false = port_fits m (port_at m c) kind payload
-
--- The manifest of each kind fits into a message.
-pub kind_fits : (k : Kind) → length (module_of_kind k).manifest ≤ most_payload
-kind_fits kind.Gpio = at_most (length (kind_manifest kind.Gpio)) most_payload refl
-kind_fits kind.I2c = at_most (length (kind_manifest kind.I2c)) most_payload refl
-kind_fits kind.Spi = at_most (length (kind_manifest kind.Spi)) most_payload refl
-kind_fits kind.Uart = at_most (length (kind_manifest kind.Uart)) most_payload refl
-kind_fits kind.Bridge = at_most (length (kind_manifest kind.Bridge)) most_payload refl

@@ -135,7 +135,7 @@ ServesAtModule k i cport asked payload x y before told =
     (s : State) (c : Connection) (n : ℕ)
     → PartsStand (only k side.Far n) x s → IsUpon k s.bus c
     → c.peer ≡ end.Module i cport → (may : MayReply asked s.bus n)
-    → payload ≡ may.request.payload → length payload ≤ most_payload
+    → payload ≡ may.request.payload
     → Does y (serves side.Far c (incoming n may.request)) s before told
 
 -- where a module is plugged
@@ -147,7 +147,7 @@ pub serves-some : (k i cport : ℕ) (asked : Asked) (payload : List ℕ) (x y z 
     → AsksThere k served.asks y z b d
     → ServesAtModule k i cport asked payload x z a d
 serves-some k i cport asked payload x y z mods served a b d steps answers asks s c n stand live
-    peer may is short = by (module_at i x.modules) refl steps
+    peer may is = by (module_at i x.modules) refl steps
   where
     r : Request
     r = may.request
@@ -203,8 +203,8 @@ pub serves-nowhere : (k i cport : ℕ) (asked : Asked) (payload : List ℕ) (x z
     → ServesThere i cport asked.kind payload (module_at i x.modules) x.modules mods (Ok None)
     → AnswersThere k asked nonexistent [] (record x { modules = mods }) z a d
     → ServesAtModule k i cport asked payload x z a d
-serves-nowhere k i cport asked payload x z mods a d steps answers s c n stand live peer may is
-    short = by (module_at i x.modules) refl steps
+serves-nowhere k i cport asked payload x z mods a d steps answers s c n stand live peer may is =
+    by (module_at i x.modules) refl steps
   where
     r : Request
     r = may.request
