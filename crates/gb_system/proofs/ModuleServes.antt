@@ -34,7 +34,7 @@ use Rattle.gb_system.specs.declared.parties.Parties.{Parties}
 
 -- ---- manifests that fit
 
-short-at : (i : ℕ) (ps : List Plugged) (m : Module) → Each IsShort ps → module_at i ps ≡ Some m
+pub short-at : (i : ℕ) (ps : List Plugged) (m : Module) → Each IsShort ps → module_at i ps ≡ Some m
     → length m.manifest ≤ most_payload
 short-at i [] m h is = absurd cc
 short-at i (p ∷ ps) m h is = by (is_plugged_at i p) is (short-at i ps m h.1)
@@ -49,7 +49,7 @@ short-at i (p ∷ ps) m h is = by (is_plugged_at i p) is (short-at i ps m h.1)
         subst (λ (n : Module). length n.manifest ≤ most_payload) e h.0
     by false same later = later same
 
-short-with : (i : ℕ) (m : Module) (ps : List Plugged) → length m.manifest ≤ most_payload
+pub short-with : (i : ℕ) (m : Module) (ps : List Plugged) → length m.manifest ≤ most_payload
     → Each IsShort ps → Each IsShort (with_module i m ps)
 short-with i m [] short h = h
 short-with i m (p ∷ ps) short h = by (is_plugged_at i p) (short-with i m ps short h.1)
@@ -62,11 +62,11 @@ short-with i m (p ∷ ps) short h = by (is_plugged_at i p) (short-with i m ps sh
 -- ---- the machine
 
 -- the state with other modules
-abbrev with_modules : List Plugged → State → State
+abbrev pub with_modules : List Plugged → State → State
 with_modules ms s = record s { modules = ms }
 
 -- the parties stand for it, with these modules
-stands-with : {l : List Loose} {x : Parties} {s : State} (ms mods : List Plugged)
+pub stands-with : {l : List Loose} {x : Parties} {s : State} (ms mods : List Plugged)
     → ms ≡ mods → Each IsShort ms → PartsStand l x s
     → PartsStand l (record x { modules = mods }) (with_modules ms s)
 stands-with ms mods same short h = record {

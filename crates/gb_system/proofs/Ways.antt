@@ -179,7 +179,7 @@ late-label payload b k short =
     ∷ (is_none (next_label k side.Ap b), no_label) ∷ [])) (short-is payload short)
 
 -- what is there
-is-there : {A : Type 0} (o : Option A) → is_none o ≡ false → IsSome o
+pub is-there : {A : Type 0} (o : Option A) → is_none o ≡ false → IsSome o
 is-there None h = absurd (cc (h))
 is-there (Some n) h = refl
 
