@@ -118,7 +118,7 @@ not-false : (t : Bool) → not t ≡ false → t ≡ true
 not-false true e = refl
 not-false false e = absurd cc
 
-answered-by : (protocol : ℕ) (what : BridgeAsk) → not (ask_protocol what == protocol) ≡ false
+pub answered-by : (protocol : ℕ) (what : BridgeAsk) → not (ask_protocol what == protocol) ≡ false
     → is_too_large what ≡ false → bridge_answer protocol what ≡ Ok (ask_request what)
 answered-by protocol what supported small =
     ap (λ t. cond t (cond (is_too_large what) (Err TooLarge) (Ok (ask_request what)))

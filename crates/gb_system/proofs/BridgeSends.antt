@@ -1,6 +1,6 @@
 -- A bridge line is told as refused, or its request is sent, as the machine does.
-use Rattle.std.proofs.Common.{◌≡◌, ◌≤◌, ◌<◌, ℕ, ◌==◌, Bool, true, false, cond, Option, Some, None, IsSome}
-use Rattle.std.proofs.Common.{Ok, Err, List, [], ◌∷◌, ◌++◌, length, take, drop, refl, sym, ap, ◌∙◌}
+use Rattle.std.proofs.Common.{◌≡◌, ◌≤◌, ◌<◌, ℕ, false, Some, None, IsSome}
+use Rattle.std.proofs.Common.{Ok, Err, List, [], ◌∷◌, ◌++◌, length, take, drop, sym, ap, ◌∙◌}
 use Rattle.std.proofs.Common.{option_map, nat_lt, subst, arith}
 use Rattle.std.specs.Prelude.{◌||◌}
 use Rattle.std.proofs.Math.Seq.{take-append_seam}
@@ -23,7 +23,7 @@ use Rattle.gb_host.specs.declared.host.Host as code
 use Rattle.gb_laws.proofs.CreditsLines.{answered-by}
 use Rattle.gb_machine.proofs.Conditions.{unmet}
 use Rattle.gb_machine.proofs.Opened.{machine_opened}
-use Rattle.gb_machine.specs.Actions.{Action, given, on_host, ◌▸◌}
+use Rattle.gb_machine.specs.Actions.{Action, given}
 use Rattle.gb_machine.specs.Host.{Host, link_at, link_of, with_link}
 use Rattle.gb_machine.specs.HostRefusals.{bridge_conditions}
 use Rattle.gb_machine.specs.Labels.{next_label}
@@ -31,21 +31,17 @@ use Rattle.gb_machine.specs.LineActions.{bridge_sent, bridges, sends_on, spent}
 use Rattle.gb_machine.specs.Lists.{first_met}
 use Rattle.gb_machine.specs.State.{State}
 use Rattle.gb_system.proofs.Bridgings.{IsLink, is-link, line-met}
-use Rattle.gb_system.proofs.Doings.{does-as, does-by_state, does-given, does-on_host, does-then}
+use Rattle.gb_system.proofs.Doings.{does-by_state, does-given, does-on_host, does-then}
 use Rattle.gb_system.proofs.Landing.{lands, lands-refused}
 use Rattle.gb_system.proofs.Standing.{rehosted}
 use Rattle.gb_system.specs.Acting.{IsAskable}
-use Rattle.gb_system.specs.Bridging.{BridgesTo, IsBridged}
+use Rattle.gb_system.specs.Bridging.{BridgesTo}
 use Rattle.gb_system.specs.Doing.{Does}
 use Rattle.gb_system.specs.Stands.{PartiesStand, PartsStand, PartsStep}
 use Rattle.gb_system.specs.declared.bridging.Bridging.{Bridging}
 use Rattle.gb_system.specs.declared.parties.Parties.{Parties}
 
 -- ---- the type of a request
-
-by-if : (t : Bool) {m n : ℕ} → m < 128 → n < 128 → cond t m n < 128
-by-if true h k = h
-by-if false h k = k
 
 -- a request has a type that a request can have
 is-low : (what : BridgeAsk) → (ask_request what).0 < 128
@@ -66,6 +62,13 @@ written-is request old new b w =
     ap (λ n. take n new) w.len ∙ ap (take (length request.1)) w.bytes
     ∙ take-append_seam request.1 (drop (length request.1) old)
 
+-- what is written over the front of a buffer of its length is all of it
+pub whole : (xs ys zs : List ℕ) (n : ℕ) → zs ≡ take n (xs ++ drop (length xs) ys)
+    → length xs ≡ n → zs ≡ xs
+whole xs ys zs n is long =
+    is ∙ ap (λ m. take m (xs ++ drop (length xs) ys)) (sym long)
+    ∙ take-append_seam xs (drop (length xs) ys)
+
 is-short : (what : BridgeAsk) (l : Link) → first_met (bridge_conditions l what) ≡ None
     → length (ask_request what).1 ≤ most_payload
 is-short what l met = small (length (ask_request what).1) (unmet (bridge_conditions l what) met).1.0
@@ -84,7 +87,7 @@ bridge-refused x s name i c what old new why es st is told =
     lands-refused x s (event.Bridge name i c what) why es is told st.parts
 
 -- the machine's action, on the connection of the line
-does-bridges : {x y z : Parties} {s : State} {a b : List Entry} (name : Name) (i c : ℕ)
+does-bridges : {y z : Parties} {s : State} {a b : List Entry} (name : Name) (i c : ℕ)
     (what : BridgeAsk) (l : Link) → link_at i c s.host ≡ Some l
     → first_met (bridge_conditions l what) ≡ None
     → PartsStand [] y (record s { host = with_link l.intf l.cport (spent what) s.host })
@@ -92,7 +95,7 @@ does-bridges : {x y z : Parties} {s : State} {a b : List Entry} (name : Name) (i
     (record s { host = with_link l.intf l.cport (spent what) s.host }) a b
     → Does z (bridges name i c what) s a b
 unfolding machine_opened
-does-bridges {x} {y} {z} {s} {a} {b} name i c what l there met st sent =
+does-bridges {y} {z} {s} {a} {b} name i c what l there met st sent =
     does-by_state (λ t. given (link_at i c t.host) on)
     (does-given on l there
     (subst (λ answer. Does z (bridge_sent name l what answer) s a b) (sym answer)
@@ -119,6 +122,7 @@ pub bridge-done : (x z : Parties) (h : code.Host) (s : State) (name : Name) (i c
     → payload ≡ take b.request.len new
     → SendsOn name b.connection b.request.kind payload (record x { host = h }) z before es
     → PartsStep z s (event.Bridge name i c what) (Ok es)
+unfolding machine_opened
 bridge-done x z h s name i c what old new payload b before es st is begun spends front sends =
     lands z s (event.Bridge name i c what) before es is.allowed begun
     (does-bridges name i c what is.link is.there met stand

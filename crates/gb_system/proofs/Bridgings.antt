@@ -1,20 +1,14 @@
 -- A bridge line is refused, or becomes a request, as the machine does.
-use Rattle.std.proofs.Common.{◌≡◌, ◌≤◌, ◌<◌, ◌+◌, ℕ, ◌==◌, nat_le, nat_lt, Bool, true, false, cond, not}
-use Rattle.std.proofs.Common.{Option, Some, None, is_some, is_none, IsSome, option_map, Result, Ok, Err}
-use Rattle.std.proofs.Common.{List, [], ◌∷◌, ◌++◌, append_assoc, length, take, drop, refl, sym, ap, ◌∙◌}
-use Rattle.std.proofs.Common.{subst, arith}
-use Rattle.std.specs.Prelude.{◌||◌}
-use Rattle.std.proofs.lemmas.Bool.Decides.{nat_tests}
+use Rattle.std.proofs.Common.{◌≡◌, ℕ, Bool, true, false, cond}
+use Rattle.std.proofs.Common.{Option, Some, None, is_some, is_none, option_map, Result, Ok, Err}
+use Rattle.std.proofs.Common.{List, [], ◌∷◌, ◌++◌, refl, sym, ap, ◌∙◌}
 use Rattle.gb_base.specs.declared.bridge.BridgeAsk.{BridgeAsk}
-use Rattle.gb_base.specs.declared.bridge.BridgeAsk.TheVariants as ask
 use Rattle.gb_base.specs.declared.bridge.Bridged.{Bridged}
 use Rattle.gb_base.specs.declared.end.Side.TheVariants as side
 use Rattle.gb_base.specs.declared.name.Name.{Name}
 use Rattle.gb_base.specs.declared.peers.Link.{Link}
 use Rattle.gb_base.specs.declared.refusal.Refusal.{Refusal}
 use Rattle.gb_base.specs.declared.refusal.Refusal.TheVariants as why
-use Rattle.gb_bridge_payload.specs.Serving.{WritesBridged}
-use Rattle.gb_formats.specs.Bridges.{ask_request}
 use Rattle.gb_host.specs.Bridging.{BridgesOn}
 use Rattle.gb_host.specs.Refusing.{SendsAs}
 use Rattle.gb_invariants.proofs.Lists.{found-in}
@@ -30,9 +24,8 @@ use Rattle.gb_machine.specs.Refusals.{has_no_label, line_conditions}
 use Rattle.gb_machine.specs.State.{State}
 use Rattle.gb_system.proofs.NamedRequests.{named-is}
 use Rattle.gb_system.proofs.Ways.{is-there, met-early, met-late}
-use Rattle.gb_system.specs.Bridging.{BridgesTo, IsBridged}
+use Rattle.gb_system.specs.Bridging.{BridgesTo}
 use Rattle.gb_system.specs.Stands.{PartiesStand}
-use Rattle.gb_system.specs.declared.bridging.Bridging.{Bridging}
 use Rattle.gb_system.specs.declared.parties.Parties.{Parties}
 
 -- ---- conditions in their order
@@ -83,22 +76,6 @@ is-link s x i c k st way = by (link_at i c s.host) refl way
         }
 
 -- ---- refusals
-
--- the name names something
-pub bridge-occupied : (x : Parties) (s : State) (name : Name) (i c : ℕ) (what : BridgeAsk)
-    (old new : List ℕ) → PartiesStand x s → is_some (named name x.names) ≡ true
-    → BridgesTo s name i c what old new (Err why.Occupied)
-bridge-occupied x s name i c what old new st taken = by-name x s name i c what true st taken
-
--- no connection leads there
-pub bridge-nowhere : (x : Parties) (s : State) (name : Name) (i c : ℕ) (what : BridgeAsk)
-    (old new : List ℕ) (why : Refusal) → PartiesStand x s
-    → is_some (named name x.names) ≡ false
-    → SendsAs (first_met (send_conditions i c s.host)) (link_at i c s.host) (Err why)
-    → BridgesTo s name i c what old new (Err why)
-bridge-nowhere x s name i c what old new why st free is =
-    by-name x s name i c what false st free
-    ∙ met-early (send_conditions i c s.host) (on_link s what (link_at i c s.host)) why is
 
 -- with a connection, that decides
 on-link : (x : Parties) (s : State) (name : Name) (i c : ℕ) (what : BridgeAsk) (l : Link)

@@ -1,14 +1,12 @@
 -- What comes to modules from outside.
 use Rattle.std.proofs.Common.{◌≡◌, ◌≤◌, ℕ, Option, Some, None, is_none, option_map, Result, Ok, Err}
-use Rattle.std.proofs.Common.{List, [], ◌∷◌, length, get_or, set, refl, sym, ap, ◌∙◌, subst, arith}
+use Rattle.std.proofs.Common.{List, [], ◌∷◌, length, get_or, set, refl, sym, ap, ◌∙◌, subst}
 use Rattle.std.proofs.lemmas.List.{set-get_or}
 use Rattle.std.specs.Prelude.{option_and_then}
 use Rattle.std.specs.List.{position_from}
 use Rattle.gb_base.specs.declared.entry.Entry.{Entry}
 use Rattle.gb_base.specs.declared.entry.Entry.TheVariants as entry
 use Rattle.gb_base.specs.declared.event.Event.{Event}
-use Rattle.gb_base.specs.declared.event.Event.TheVariants as event
-use Rattle.gb_base.specs.declared.refusal.Refusal.{Refusal}
 use Rattle.gb_base.specs.declared.refusal.Refusal.TheVariants as why
 use Rattle.gb_base.specs.declared.served.OwnAsk.{OwnAsk}
 use Rattle.gb_bus.specs.Wiring.{number_of}
@@ -16,10 +14,11 @@ use Rattle.gb_formats.specs.Devices.{Stir}
 use Rattle.gb_formats.specs.Module.{Module}
 use Rattle.gb_formats.specs.ModuleSteps.{module_stir}
 use Rattle.gb_formats.specs.Results.{Stirred, most_payload}
+use Rattle.gb_invariants.proofs.Awaiting.{same-some}
 use Rattle.gb_laws.proofs.Manifests.{stir-manifest}
 use Rattle.gb_machine.proofs.Opened.{machine_opened}
 use Rattle.gb_machine.proofs.Positions.{none-stands, standing}
-use Rattle.gb_machine.specs.Actions.{Action, by_state, change, given, ◌▸◌}
+use Rattle.gb_machine.specs.Actions.{Action, by_state, given}
 use Rattle.gb_machine.specs.Bus.{Place}
 use Rattle.gb_machine.specs.Events.{does}
 use Rattle.gb_machine.specs.LineActions.{stirred, stirs}
@@ -178,13 +177,18 @@ stir-unfit x s i c what mods es st h told = by (module_at i x.modules) refl h
 
 -- ---- the requests of its own
 
--- what a module asks where its device was stirred is asked on the wired connection at its CPort
+-- requests of a module's own on the wired connection at its CPort
+unfoldable asks_there : ℕ → ℕ → List OwnAsk → Action
+asks_there i c own =
+    by_state (λ t. given (module_place i c t) (λ p. far_asks_all p.connection.number own))
+
+-- what a module asks where its device was stirred
 asked-there : {x y : Parties} {s : State} {a b : List Entry} (i c : ℕ) (own : List OwnAsk)
     (o : Option ℕ) → o ≡ option_map number_of (module_place i c s) → PartsStand [] x s
     → ((k : ℕ) → o ≡ Some k → Does y (far_asks_all k own) s a b)
     → (o ≡ None → (y ≡ x) × (b ≡ a))
-    → Does y (by_state (λ t. given (module_place i c t)
-    (λ p. far_asks_all p.connection.number own))) s a b
+    → Does y (asks_there i c own) s a b
+unfolding asks_there
 asked-there {x} {y} {s} {a} {b} i c own o is st asks still =
     does-by_state (λ t. given (module_place i c t) at) (by (module_place i c s) refl is)
   where
@@ -200,8 +204,22 @@ asked-there {x} {y} {s} {a} {b} i c own o is st asks still =
         (does-given_none at there st))
     by (Some p) there e = does-given at p there (asks p.connection.number e)
 
+-- the machine's action, by what is plugged
+does-stirs : {x y : Parties} {s : State} {a b : List Entry} (i c : ℕ) (what : Stir) (m : Module)
+    (v : Stirred Module) → module_at i s.modules ≡ Some m → module_stir m c what ≡ Some v
+    → PartsStand [] x (with_modules (with_module i v.after s.modules) s)
+    → Does y (asks_there i c v.asks) (with_modules (with_module i v.after s.modules) s) a b
+    → Does y (stirs i c what) s a b
+unfolding machine_opened asks_there
+does-stirs {x} {y} {s} i c what m v found some stand asks =
+    does-by_state (λ w. given (module_at i w.modules)
+    (λ n. given (module_stir n c what) (stirred i c)))
+    (does-given (λ n. given (module_stir n c what) (stirred i c)) m found
+    (does-given (stirred i c) v some
+    (does-then (does-change (λ w. with_modules (with_module i v.after w.modules) w) stand) asks)))
+
 -- A device is stirred, and the module asks.
-pub stir-done : (x y : Parties) (s : State) (i c : ℕ) (what : code.Stir) (mods : List Plugged)
+stir-done : (x y : Parties) (s : State) (i c : ℕ) (what : code.Stir) (mods : List Plugged)
     (own : List OwnAsk) (o : Option ℕ) (before es : List Entry) → PartiesStand x s
     → StirsThere i c (stir_of what) (module_at i x.modules) x.modules mods (Ok (Some own))
     → before ≡ entry.Done ∷ []
@@ -261,14 +279,39 @@ stir-done x y s i c what mods own o before es st h begun names asks still =
             askable = subst AreAskable (sym own_is) (stir-asks m c (stir_of what) v some)
 
             stirs-as : Does y (stirs i c (stir_of what)) s before es
-            unfolding machine_opened
             stirs-as =
-                does-by_state (λ w. given (module_at i w.modules)
-                (λ n. given (module_stir n c (stir_of what)) (stirred i c)))
-                (does-given (λ n. given (module_stir n c (stir_of what)) (stirred i c)) m found
-                (does-given (stirred i c) v some
-                (does-then (does-change (λ w. with_modules (with_module i v.after w.modules) w) stand)
-                (subst (λ (qs : List OwnAsk). Does y (by_state (λ w. given (module_place i c w)
-                (λ p. far_asks_all p.connection.number qs))) t1 before es) own_is
+                does-stirs i c (stir_of what) m v found some stand
+                (subst (λ (qs : List OwnAsk). Does y (asks_there i c qs) t1 before es) own_is
                 (asked-there i c own o (names t1 stand) stand
-                (λ k is. asks k t1 is stand askable) still)))))
+                (λ k is. asks k t1 is stand askable) still))
+
+-- its CPort is wired
+pub stir-wired : (x y : Parties) (s : State) (i c : ℕ) (what : code.Stir) (mods : List Plugged)
+    (own : List OwnAsk) (o : Option ℕ) (k : ℕ) (before es : List Entry) → PartiesStand x s
+    → StirsThere i c (stir_of what) (module_at i x.modules) x.modules mods (Ok (Some own))
+    → before ≡ entry.Done ∷ []
+    → ((t : State) → PartsStand [] (record x { modules = mods }) t
+    → o ≡ option_map number_of (module_place i c t))
+    → o ≡ Some k
+    → ((t : State) → PartsStand [] (record x { modules = mods }) t → AreAskable own
+    → Does y (far_asks_all k own) t before es)
+    → PartsStep y s (event_of_stir i c what) (Ok es)
+stir-wired x y s i c what mods own o k before es st h begun names at asks =
+    stir-done x y s i c what mods own o before es st h begun names
+    (λ j t is stand askable.
+    subst (λ n. Does y (far_asks_all n own) t before es)
+    (same-some k j (sym at ∙ is)) (asks t stand askable))
+    (λ none. absurd (let both : Some k ≡ None = sym at ∙ none in cc))
+
+-- it isn't
+pub stir-unwired : (x : Parties) (s : State) (i c : ℕ) (what : code.Stir) (mods : List Plugged)
+    (own : List OwnAsk) (o : Option ℕ) (es : List Entry) → PartiesStand x s
+    → StirsThere i c (stir_of what) (module_at i x.modules) x.modules mods (Ok (Some own))
+    → es ≡ entry.Done ∷ []
+    → ((t : State) → PartsStand [] (record x { modules = mods }) t
+    → o ≡ option_map number_of (module_place i c t))
+    → ((k : ℕ) → o ≡ Some k → ⊥)
+    → PartsStep (record x { modules = mods }) s (event_of_stir i c what) (Ok es)
+stir-unwired x s i c what mods own o es st h begun names none =
+    stir-done x (record x { modules = mods }) s i c what mods own o es es st h begun names
+    (λ j t is. absurd (none j is)) (λ same. (refl, refl))

@@ -1,6 +1,5 @@
 -- An end takes what is delivered there as the machine says.
-use Rattle.std.proofs.Common.{◌≡◌, ℕ, Bool, true, false, cond, Option, Some, None, List, [], ◌∷◌, option_map, refl, sym, ap, ◌∙◌, subst}
-use Rattle.std.specs.Prelude.{◌&&◌}
+use Rattle.std.proofs.Common.{◌≡◌, ℕ, Bool, true, Option, Some, None, List, option_map, sym, ap, ◌∙◌, subst}
 use Rattle.gb_base.specs.declared.end.End.{End}
 use Rattle.gb_base.specs.declared.end.End.TheVariants as end
 use Rattle.gb_base.specs.declared.end.Side.{Side}
@@ -8,13 +7,11 @@ use Rattle.gb_base.specs.declared.end.Side.TheVariants as side
 use Rattle.gb_base.specs.declared.entry.ConnState.{ConnState}
 use Rattle.gb_base.specs.declared.peers.Link.{Link}
 use Rattle.gb_bus.specs.Stands as bus
-use Rattle.gb_bus.specs.Wiring.{ends_of, number_of}
+use Rattle.gb_bus.specs.Wiring.{number_of}
 use Rattle.gb_bus.specs.declared.bus.Bus.{Bus}
 use Rattle.gb_host.specs.Stands as host
 use Rattle.gb_host.specs.declared.host.Host.{Host}
 use Rattle.gb_invariants.proofs.Awaiting.{same-some}
-use Rattle.gb_invariants.proofs.Numbers.{found-by_number}
-use Rattle.gb_invariants.proofs.Outcomes.{is-same}
 use Rattle.gb_invariants.specs.Facts.{Loose}
 use Rattle.gb_laws.proofs.Places.{place-is}
 use Rattle.gb_machine.specs.Arriving.{link_takes, takes}

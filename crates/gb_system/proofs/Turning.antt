@@ -1,9 +1,8 @@
 -- What the application processor does of its own is possible, since its connections go with the
 -- bus.
-use Rattle.std.proofs.Common.{◌≡◌, ◌≤◌, ◌<◌, ℕ, false, Some, None, List, [], ◌∷◌, length, refl, sym, ap, ◌∙◌, inl, inr, subst, arith}
+use Rattle.std.proofs.Common.{◌≡◌, ◌≤◌, ◌<◌, ℕ, false, None, List, [], ◌∷◌, length, refl, sym, ap, ◌∙◌, inl, inr, subst, arith}
 use Rattle.gb_base.specs.declared.end.End.{End}
 use Rattle.gb_base.specs.declared.end.End.TheVariants as end
-use Rattle.gb_base.specs.declared.end.Side.TheVariants as side
 use Rattle.gb_base.specs.declared.event.Event.TheVariants as event
 use Rattle.gb_base.specs.declared.outcome.Outcome.{Outcome}
 use Rattle.gb_base.specs.declared.steps.SequenceStep.{SequenceStep}
@@ -13,15 +12,12 @@ use Rattle.gb_formats.specs.Results.{most_payload}
 use Rattle.gb_formats.specs.ValidEvents.{IsValid}
 use Rattle.gb_invariants.proofs.Lists.{each-from}
 use Rattle.gb_laws.proofs.LinkBuses.{Linked, linked-left, linked-rest, linked-shut}
-use Rattle.gb_laws.proofs.LinkChanges.{linked-popped, linked-replied}
 use Rattle.gb_laws.proofs.Links.{IsFormed, IsFree, IsKnown, IsMaking, connection, control, leaving, linked, supervisory}
 use Rattle.gb_laws.proofs.Reached.{reached-linked}
 use Rattle.gb_laws.proofs.Turned.{Notes, turned-connects, turned-disconnects, turned-ended, turned-noticed}
-use Rattle.gb_machine.specs.Bus.{Ask, Bus, Connection, Item, Place, Request, place_of, queue, request_of, same_end}
-use Rattle.gb_machine.specs.Delivery.{popped, replied}
+use Rattle.gb_machine.specs.Bus.{Bus, Connection, Place, Request, same_end}
 use Rattle.gb_machine.specs.Host.{Host}
 use Rattle.gb_machine.specs.HostServing.{host_serves}
-use Rattle.gb_machine.specs.Lists.{first}
 use Rattle.gb_machine.specs.Members.{IsIn}
 use Rattle.gb_machine.specs.Reached.{OfARun}
 use Rattle.gb_machine.specs.Refusals.{refusal}

@@ -1,5 +1,5 @@
 -- On which connection a request of a script goes, and when it is refused.
-use Rattle.std.proofs.Common.{◌≡◌, ◌≤◌, ◌<◌, ℕ, Bool, true, false, cond, Option, Some, None, is_some, is_none, IsSome, option_map, Ok, Err, List, [], ◌∷◌, ◌++◌, append_assoc, length, refl, sym, ap, ◌∙◌, arith}
+use Rattle.std.proofs.Common.{◌≡◌, ◌≤◌, ℕ, Bool, true, false, cond, Option, Some, None, is_some, is_none, IsSome, option_map, Ok, Err, List, [], ◌∷◌, ◌++◌, append_assoc, length, refl, sym, ap, ◌∙◌, arith}
 use Rattle.std.specs.Bool.{⊤}
 use Rattle.std.proofs.lemmas.Bool.Decides.{nat_tests}
 use Rattle.gb_base.specs.declared.end.End.{End}
@@ -9,7 +9,6 @@ use Rattle.gb_base.specs.declared.name.Name.{Name}
 use Rattle.gb_base.specs.declared.peers.Link.{Link}
 use Rattle.gb_base.specs.declared.refusal.Refusal.{Refusal}
 use Rattle.gb_base.specs.declared.refusal.Refusal.TheVariants as why
-use Rattle.gb_formats.specs.ValidEvents.{IsFar}
 use Rattle.gb_machine.specs.Bus.{Bus}
 use Rattle.gb_machine.specs.Host.{Host, link_at}
 use Rattle.gb_machine.specs.HostRefusals.{is_kept, send_conditions}

@@ -10,7 +10,7 @@ returns-in-Some c = λ loose s p stand there ap_side.
     c.takes_in.result c.args.self.now.host c.args.self.now.bus s p stand.bus stand.host
     c.named.ensures c.in-Some.is c.stage.ensures.step c.takes_in.ensures there ap_side
 
-pub returns-in_default : goal.returns-in_default
-returns-in_default c = λ loose s p stand there ap_side.
+pub returns-in-None : goal.returns-in-None
+returns-in-None c = λ loose s p stand there ap_side.
     ap-named (loose ++ held_items s) c.args.at c.named.result _ c.args.self.now.bus s p stand.bus
-    c.named.ensures c.in_default.is there
+    c.named.ensures c.in-None.is there

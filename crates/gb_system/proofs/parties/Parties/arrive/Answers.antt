@@ -2,7 +2,7 @@
 use Rattle.std.proofs.Common.{[], ℕ, List, sym, ap, ◌∙◌, subst}
 use Rattle.gb_bus.specs.Delivering.{Brings}
 use Rattle.gb_bus.specs.declared.answers.Arrival.{Arrival}
-use Rattle.gb_system.proofs.Arrivals.{answer-here, dropped-here, late-here, nothing-here, nowhere-here, reads-on, unplugged-here}
+use Rattle.gb_system.proofs.Arrivals.{answer-here, dropped-here, is-there, late-here, nothing-here, nowhere-here, reads-on, unplugged-here}
 use Rattle.gb_machine.specs.Arriving.{reading_at}
 use Rattle.gb_system.proofs.AskArrivals.{ask-here}
 use Rattle.gb_system.specs.Serving.{side_of}
@@ -43,7 +43,8 @@ returns-in_ok-serve-in-Ask c = record {
       ask-here s c.args.at c.deliver.new.self d.place c.in-Ok.arrived.connection d.item c.in-Ask.asked
       c.in-Ask.payload c.items.result.now st
       (sym c.if-is_unplugged.false ∙ c.is_unplugged.ensures [] s st.parts) d.named d.front
-      (sym (c.takes-takes.ensures [] s d.place st.parts d.named) ∙ a.0) d.connection c.items.ensures a.1
+      (sym (c.takes-takes.ensures [] s d.place st.parts d.named
+      (is-there c.args.self.now s c.args.at d.place st d.named).side) ∙ a.0) d.connection c.items.ensures a.1
       c.in_ok-serve-in-Ask.ensures.step;
 }
 
@@ -56,7 +57,8 @@ returns-in_ok-end-in-Ended c = record {
       answer-here s c.args.at c.deliver.new.self d.place d.item c.in-Ended.number c.in-Ended.kind
       c.in-Ended.code c.in-Ended.payload c.reading-reading.result st
       (sym c.if-is_unplugged.false ∙ c.is_unplugged.ensures [] s st.parts) d.named d.front
-      (sym (c.takes-takes.ensures [] s d.place st.parts d.named) ∙ a.0) a.1
+      (sym (c.takes-takes.ensures [] s d.place st.parts d.named
+      (is-there c.args.self.now s c.args.at d.place st d.named).side) ∙ a.0) a.1
       (λ t stand same. c.reading-reading.ensures [] t d.place.connection stand
       (reads-on s t c.args.at d.place c.in-Ok.arrived.connection st d.named d.connection same)
       ∙ ap (λ (p : List ℕ). reading_at (side_of c.args.at) d.place.connection c.in-Ended.kind
@@ -72,7 +74,8 @@ returns-in_ok-push-in-Late c = record {
       d.place s.bus d.item w) c.in-Late.is d.brings in
       late-here s c.args.at c.deliver.new.self d.place d.item c.in-Late.number st
       (sym c.if-is_unplugged.false ∙ c.is_unplugged.ensures [] s st.parts) d.named d.front
-      (sym (c.takes-takes.ensures [] s d.place st.parts d.named) ∙ a.0) a.1
+      (sym (c.takes-takes.ensures [] s d.place st.parts d.named
+      (is-there c.args.self.now s c.args.at d.place st d.named).side) ∙ a.0) a.1
       c.in_ok-push-in-Late.ensures.ok;
 }
 
@@ -85,6 +88,7 @@ returns-in_ok-push-in-Dropped c = record {
       dropped-here s c.args.at c.deliver.new.self d.place d.item c.in-Dropped.number
       c.in-Dropped.reply st
       (sym c.if-is_unplugged.false ∙ c.is_unplugged.ensures [] s st.parts) d.named d.front
-      (sym (c.takes-takes.ensures [] s d.place st.parts d.named) ∙ a.0) a.1
+      (sym (c.takes-takes.ensures [] s d.place st.parts d.named
+      (is-there c.args.self.now s c.args.at d.place st d.named).side) ∙ a.0) a.1
       c.in_ok-push-in-Dropped.ensures.ok;
 }

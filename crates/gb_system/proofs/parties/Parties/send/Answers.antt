@@ -14,7 +14,7 @@ pub returns : goal.returns
 returns c = record {
   step = λ s st.
       send-done c.args.self.now c.send_on.new.self s c.args.name.now c.args.to c.args.kind
-      c.args.payload.now c.args.timeout c.from.result c.in-Ok.connection c.in_ok-told.told
-      c.send_on.new.told c.requires c.from.ensures st (c.in-Ok.ensures.step s st)
+      c.args.payload.now c.args.timeout c.from-wait.result c.in-Ok.connection c.in_ok-told.told
+      c.send_on.new.told c.requires c.from-wait.ensures st (c.in-Ok.ensures.step s st)
       c.in_ok-told.ensures c.in_ok-send_on.ensures.step;
 }

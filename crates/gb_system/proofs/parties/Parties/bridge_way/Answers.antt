@@ -1,0 +1,46 @@
+-- A bridge line is refused on its connection, or becomes a request there.
+use Rattle.std.proofs.Common.{Err, sym, ap, ◌∙◌, subst}
+use Rattle.std.proofs.lemmas.Result.{err_from_is_err_and}
+use Rattle.gb_system.proofs.Bridgings.{bridge-goes, bridge-spent, bridge-unfit}
+use Rattle.gb_system.specs.Bridging.{BridgesTo}
+use Rattle.gb_system.specs.Stands.{held_items}
+use Rattle.gb_system.proofs.parties.Parties.bridge_way.Goals as goal
+
+pub returns-in_err-request : goal.returns-in_err-request
+returns-in_err-request c = record {
+  step = λ s st.
+      let p = err_from_is_err_and c.from_residual-in_err-request.result
+      c.from_residual-in_err-request.ensures.1 in
+      subst (λ r. BridgesTo s c.args.name.now c.args.intf c.args.cport c.args.ask.now
+      c.args.room.now c.bridge.new.out r)
+      (sym (p.1 ∙ ap Err p.2))
+      (bridge-unfit c.args.self.now s c.args.name.now c.args.intf c.args.cport
+      c.in_ok-connection.connection c.args.ask.now c.args.room.now c.bridge.new.out
+      c.in_err-request.field-0.0 st (cc (c.is_some.ensures, c.get.ensures, c.if-is_some.false))
+      (c.in_ok-connection.ensures.step s.host st.parts.host)
+      (λ l of. c.in_err-request.ensures.step s.host l st.parts.host of));
+}
+
+pub returns-then-spent : goal.returns-then-spent
+returns-then-spent c = record {
+  step = λ s st.
+      bridge-spent c.args.self.now s c.args.name.now c.args.intf c.args.cport
+      c.in_ok-connection.connection c.args.ask.now c.args.room.now c.bridge.new.out
+      c.in_ok-request.request c.spent.result st
+      (cc (c.is_some.ensures, c.get.ensures, c.if-is_some.false))
+      (c.in_ok-connection.ensures.step s.host st.parts.host)
+      (λ l of. c.in_ok-request.ensures.step s.host l st.parts.host of)
+      (c.spent.ensures (held_items s) s.bus st.parts.bus) c.if-spent.true;
+}
+
+pub returns : goal.returns
+returns c = record {
+  step = λ s st.
+      bridge-goes c.args.self.now s c.args.name.now c.args.intf c.args.cport
+      c.in_ok-connection.connection c.args.ask.now c.args.room.now c.bridge.new.out
+      c.in_ok-request.request c.spent.result st
+      (cc (c.is_some.ensures, c.get.ensures, c.if-is_some.false))
+      (c.in_ok-connection.ensures.step s.host st.parts.host)
+      (λ l of. c.in_ok-request.ensures.step s.host l st.parts.host of)
+      (c.spent.ensures (held_items s) s.bus st.parts.bus) c.if-spent.false;
+}
