@@ -12,6 +12,7 @@ use Rattle.gb_laws.proofs.Replies.{replies-by_moments}
 use Rattle.gb_laws.proofs.Replying.{ends-once_by_moments}
 use Rattle.gb_laws.proofs.Routed.{routed-by_moments}
 use Rattle.gb_laws.proofs.Single.{labels-by_moments, names-by_moments, one-item_by_moments}
+use Rattle.gb_laws.proofs.RememberedLive.{remembered-while_live}
 use Rattle.gb_laws.proofs.Remembering.{none-forgotten_at, remembered-for_one}
 use Rattle.gb_laws.proofs.ToldRuns.{absent-open_by_moments, absent-seen}
 use Rattle.gb_laws.specs.OwnSide.{AbsentHasNoOpenOfAp}
@@ -48,6 +49,7 @@ use Rattle.gb_machine.specs.LawsHotPlug.{
   NoneForgotten,
   OpenIsLive,
   RememberedForOne,
+  RememberedWhileLive,
   TakesFromItsConnection,
 }
 use Rattle.gb_machine.specs.LawsSvc.{
@@ -122,6 +124,10 @@ none-forgotten = at-all NoneForgotten none-forgotten_at
 -- A request is remembered for one connection.
 pub remembered-for : HoldsThroughout RememberedForOne
 remembered-for = of-all RememberedForOne (of-state _) remembered-for_one
+
+-- It is for a connection that is live then.
+pub remembered-live : HoldsAtEachMoment RememberedWhileLive
+remembered-live = at-all RememberedWhileLive remembered-while_live
 
 -- What is wired is routed.
 pub wired-routed : WiredMeansRouted

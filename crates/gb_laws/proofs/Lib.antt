@@ -36,7 +36,9 @@ pub mod LinkClosing
 pub mod LinkDone
 pub mod LinkHosts
 pub mod LinkLaw
+pub mod LinkLeft
 pub mod LinkLists
+pub mod LinkLives
 pub mod LinkRuns
 pub mod LinkSources
 pub mod LinkSteps
@@ -79,6 +81,7 @@ pub mod QuietTaken
 pub mod QuietTurns
 pub mod Reached
 pub mod Reading
+pub mod RememberedLive
 pub mod Remembering
 pub mod Removing
 pub mod Replies

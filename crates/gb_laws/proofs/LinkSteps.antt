@@ -18,7 +18,8 @@ use Rattle.gb_invariants.proofs.Lists.{found-in, in-without}
 use Rattle.gb_formats.specs.ControlRecords.{read_control_reply}
 use Rattle.gb_base.specs.declared.entry.IntfStage.TheVariants as stage
 use Rattle.gb_laws.proofs.LinkHosts.{Onto, kept-same, onto-interface, onto-link, onto-then, host-interface, host-link, links-without, next-interface, next-to, none-without, same-link, state-link, then-same, without-in}
-use Rattle.gb_laws.proofs.LinkLists.{on-control, find-none, first_free-is, found-at, link-is, none-any}
+use Rattle.gb_laws.proofs.LinkLeft.{fits-left}
+use Rattle.gb_laws.proofs.LinkLists.{on-control, first_free-is, link-is, none-any}
 use Rattle.gb_laws.proofs.Links.{IsDueBy, IsFormed, IsNext, ArePending, HostFits, IsAtStep, IsDue, IsFollowed, IsIdle, IsWaiting, SameLink, TurnFits, control, leaves, stays}
 use Rattle.gb_machine.specs.Arriving.{state_takes}
 use Rattle.gb_machine.specs.Bus.{Bus}
@@ -273,43 +274,6 @@ fits-opened_told b h (Some l) t r = fits-telling b h (link_told state.Open l) t 
 fits-link_turn : (b : Bus) (to : ConnState) (o : Option Link) (h g : Host) → HostFits b g → Onto h g → TurnFits b h (link_turn to o g)
 fits-link_turn b to None h g fits stay = fits-host b h g [] fits stay
 fits-link_turn b to (Some l) h g fits stay = fits-host b h g (link_told to l ∷ []) fits stay
-
--- ---- a connection is there no more
-
-left-host : (b : Bus) (p : Purpose) (h : Host) → HostFits b h → HostFits b (without_link p.intf p.cport h)
-left-host b p h fits = record {
-  links = links-without b (is_link p.intf p.cport) h.links fits.links;
-  interfaces = λ x i w e. let old = fits.interfaces x i w e in
-      (old.0, λ early. none-without x.intf (is_link p.intf p.cport) h.links (old.1 early));
-  differ = fits.differ;
-  present = λ l i. fits.present l (in-without (is_link p.intf p.cport) h.links l i).0;
-}
-
-fits-left : (b : Bus) (p : Purpose) (h : Host) (o : Option Link) → link_at p.intf p.cport h ≡ o → HostFits b h
-    → TurnFits b h (link_left o (without_link p.intf p.cport h))
-fits-left b p h None found fits = record {
-  host = left-host b p h fits;
-  pending = tt;
-  followed = λ l i. stays l (without-in (is_link p.intf p.cport) h.links l i (find-none (is_link p.intf p.cport) h.links l found i)) (same-link l);
-  kept = kept-same h.interfaces;
-}
-fits-left b p h (Some k) found fits = record {
-  host = left-host b p h fits;
-  pending = ((fits.links.numbered k (found-in (is_link p.intf p.cport) h.links k found).0).from_two, (tt, tt));
-  followed = λ l i. by l i (is_link p.intf p.cport l) refl;
-  kept = kept-same h.interfaces;
-}
-  where
-    by : (l : Link) → IsIn l h.links → (t : Bool) → is_link p.intf p.cport l ≡ t
-        → IsFollowed l (without (is_link p.intf p.cport) h.links) (Act.Leave k.connection ∷ Act.Tell (link_told state.Closed k) ∷ [])
-    by l i false e = stays l (without-in (is_link p.intf p.cport) h.links l i e) (same-link l)
-    by l i true e =
-        let at = link-is p.intf p.cport l e in
-        let again : find (is_link p.intf p.cport) h.links ≡ Some l =
-        subst (λ x. find (is_link x p.cport) h.links ≡ Some l) at.0
-        (subst (λ x. find (is_link l.intf x) h.links ≡ Some l) at.1
-        (found-at h.links l fits.links.rise i)) in
-        leaves (inl (ap (λ (x : Link). Act.Leave x.connection) (same-some l k (sym again ∙ found))))
 
 -- ---- the steps
 

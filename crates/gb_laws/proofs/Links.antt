@@ -171,7 +171,7 @@ IsPending h (Act.Ask q) rest =
     IsDue q.purpose.step q.purpose h × (rest ≡ []) × IsFormed q × IsOnControl h q
 IsPending h (Act.Open w q) rest = IsFree w q h × (rest ≡ [])
 IsPending h (Act.Shut k) rest = (2 ≤ k) × ((l : Link) → IsIn l h.links → l.connection ≡ k → IsDeaf l)
-IsPending h (Act.Leave k) rest = 2 ≤ k
+IsPending h (Act.Leave k) rest = (2 ≤ k) × ((l : Link) → IsIn l h.links → l.connection ≢ k)
 IsPending h (Act.Tell e) rest = Unit {0}
 
 -- The acts that are pending.

@@ -239,7 +239,7 @@ module _ (m : Moment) (i : ℕ) (before : Basis (resting m.told m.before))
               apart g = absurd cc
   quiet-kept a (turns e free untouched none cause) basis links there h =
       quiet-turned i a (changed m a (turns e free untouched none cause)) (host_turn e a.state.host)
-      basis (turn-asks i e a basis links there untouched.1 h) refl refl refl refl refl refl h
+      basis (turn-asks m i e a basis links there untouched.1 h) refl refl refl refl refl refl h
   quiet-kept a (acts_told e rest is quiet) basis links there h =
       rests i a (changed m a (acts_told e rest is quiet)) basis refl refl (λ x f. f)
       (same-waits a.state.host) refl (fewer-asks a (Act.Tell e) rest is) h
@@ -262,7 +262,7 @@ module _ (m : Moment) (i : ℕ) (before : Basis (resting m.told m.before))
       (fewer-asks a (Act.Leave k) rest is) h
     where
       apart : (n : ℕ) → (n == 1) ≡ true → (n == k) ≡ false
-      apart n e = let low = (subst (ArePending a.state.host) is links.pending).0 in
+      apart n e = let low = (subst (ArePending a.state.host) is links.pending).0.0 in
           grind (arith, nat_tests)
 
       stay : (at : Side) → svc_items at (changed m a (acts_left k rest free untouched is)).state.bus

@@ -22,6 +22,7 @@ ghost use Rattle.gb_machine.specs.LawsHotPlug.{
   NoneForgotten,
   OpenIsLive,
   RememberedForOne,
+  RememberedWhileLive,
 };
 ghost use Rattle.gb_machine.specs.LawsSvc.{RemovalLeavesNothingWired, WiredMeansRouted};
 ghost use Rattle.gb_machine.specs.Runs.{HoldsAtEachMoment, HoldsThroughout, SettlesAreDeliveries};
@@ -115,6 +116,12 @@ pub fn none_forgotten()
 /// A request that creates or destroys a connection is remembered for one connection.
 pub fn remembered_for_one()
     ensures { HoldsThroughout RememberedForOne }
+{}
+
+/// A request that creates or destroys a connection is remembered for one that is live when it is
+/// made.
+pub fn remembered_while_live()
+    ensures { HoldsAtEachMoment RememberedWhileLive }
 {}
 
 /// A name names a request that was made.
