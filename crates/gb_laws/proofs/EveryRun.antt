@@ -2,11 +2,13 @@
 use Rattle.gb_laws.proofs.Absent.{between-at_moments, unconnected-by_moments}
 use Rattle.gb_laws.proofs.AllRuns.{at-all, of-all, of-state}
 use Rattle.gb_laws.proofs.Answering.{answered-at_moments}
+use Rattle.gb_laws.proofs.AwaitsOwn.{awaits-own_by_moments}
 use Rattle.gb_laws.proofs.Causes.{causes-at_moments}
 use Rattle.gb_laws.proofs.Ended.{ends-told_by_moments}
 use Rattle.gb_laws.proofs.Endpoints.{endpoints-by_moments}
 use Rattle.gb_laws.proofs.Foreign.{own-items, takes-at_moments}
 use Rattle.gb_laws.proofs.Happened.{ends-seen, items-seen, told-seen}
+use Rattle.gb_laws.proofs.QuietBefore.{quiet-before_moments}
 use Rattle.gb_laws.proofs.QuietRuns.{finds-at_moments, leaves-by_moments}
 use Rattle.gb_laws.proofs.Replies.{replies-by_moments}
 use Rattle.gb_laws.proofs.Replying.{ends-once_by_moments}
@@ -16,6 +18,7 @@ use Rattle.gb_laws.proofs.RememberedLive.{remembered-while_live}
 use Rattle.gb_laws.proofs.Remembering.{none-forgotten_at, remembered-for_one}
 use Rattle.gb_laws.proofs.ToldRuns.{absent-open_by_moments, absent-seen}
 use Rattle.gb_laws.specs.OwnSide.{AbsentHasNoOpenOfAp}
+use Rattle.gb_laws.specs.OwnWaits.{AwaitsOwnRequest}
 use Rattle.gb_laws.proofs.OpenRuns.{open-live_by_moments}
 use Rattle.gb_machine.specs.Runs.{HoldsAtEachMoment, HoldsThroughout}
 use Rattle.gb_machine.specs.LawsBus.{
@@ -55,7 +58,9 @@ use Rattle.gb_machine.specs.LawsHotPlug.{
 use Rattle.gb_machine.specs.LawsSvc.{
   AreRouted,
   FindsUnwired,
+  IsQuiet,
   LeavesNothing,
+  QuietBeforeRemoval,
   RemovalLeavesNothingWired,
   WiredMeansRouted,
 }
@@ -142,3 +147,14 @@ nothing-wired = (
   }) leaves-by_moments,
   at-all FindsUnwired finds-at_moments,
 )
+
+-- While a removal waits, only starts wait, and no answer that is waited for comes before it.
+pub quiet-removal : QuietBeforeRemoval
+quiet-removal = of-all IsQuiet (record {
+  there = λ told s h. record { low = h.low; starts = h.starts; unanswered = h.unanswered };
+  back = λ told s h. record { low = h.low; starts = h.starts; unanswered = h.unanswered };
+}) quiet-before_moments
+
+-- An enumeration waits for a request of its own.
+pub own-request : HoldsThroughout AwaitsOwnRequest
+own-request = of-all AwaitsOwnRequest (of-state _) awaits-own_by_moments

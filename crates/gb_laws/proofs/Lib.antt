@@ -5,6 +5,7 @@ pub mod Answering
 pub mod Asked
 pub mod AskedWaits
 pub mod Awaited
+pub mod AwaitsOwn
 pub mod Basics
 pub mod Causes
 pub mod ClosingTurns
@@ -70,6 +71,7 @@ pub mod Pulling
 pub mod Quiet
 pub mod QuietAsking
 pub mod QuietAwaited
+pub mod QuietBefore
 pub mod QuietBuses
 pub mod QuietKept
 pub mod QuietLaw

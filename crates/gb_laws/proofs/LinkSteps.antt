@@ -146,13 +146,15 @@ fits-failed b step p h fits due = by step (none-waits b step p h fits due)
 
 -- the request of a step is formed
 formed-asking : (b : Bus) (p : Purpose) (h : Host) (k : ℕ) (t : Target) → HostFits b h
-    → way_of p h ≡ Some k → t.intf ≡ p.intf → p.step ≢ steps.CreateConnection
+    → way_of p h ≡ Some k → t.intf ≡ p.intf → t.cport ≡ p.cport
+    → p.step ≢ steps.CreateConnection
     → IsFormed (asking k p t)
-formed-asking b p h k t fits way intf other = record {
+formed-asking b p h k t fits way intf cport other = record {
   target = t;
   kind = refl;
   payload = refl;
   intf = intf;
+  cport = cport;
   created = λ e. absurd (other e);
   on = λ e. same-some k 1 (sym way ∙ ap (λ c. cond c (control_of p.intf h) (Some 1)) e);
   control = λ e. at (link_at p.intf 0 h) refl
@@ -177,7 +179,8 @@ fits-asked b p h fits due other = by (way_of p h) refl
         (
           due,
           refl,
-          formed-asking b p h k (target (ap_in (link_at p.intf p.cport h)) p h) fits e refl other,
+          formed-asking b p h k (target (ap_in (link_at p.intf p.cport h)) p h) fits e refl refl
+              other,
           on-control p h k e,
         ),
         tt,
@@ -233,6 +236,7 @@ fits-control b (Some a) p h fits next free = let f = free_cport-is h a free in r
           kind = refl;
           payload = refl;
           intf = refl;
+          cport = refl;
           created = λ e. absurd cc;
           on = λ e. refl;
           control = λ e. absurd cc;

@@ -355,6 +355,7 @@ fits-connects b i c h fits met low = by (option_and_then (cport_of c) (interface
               kind = refl;
               payload = refl;
               intf = refl;
+              cport = refl;
               created = λ e. (other view e', low);
               on = λ e. refl;
               control = λ e. absurd cc;

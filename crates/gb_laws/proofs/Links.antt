@@ -136,6 +136,7 @@ pub record IsFormed (q : Asking) : Type 0 where
   pub kind : q.kind ≡ kind_of q.purpose.step
   pub payload : q.payload ≡ payload_of q.purpose.step target
   pub intf : target.intf ≡ q.purpose.intf
+  pub cport : target.cport ≡ q.purpose.cport
   pub created : q.purpose.step ≡ steps.CreateConnection
       → (target.cport ≢ 0) × (target.cport ≤ 4095)
   pub on : asks_control q.purpose.step ≡ false → q.on ≡ 1

@@ -117,7 +117,7 @@ quiet-throughout =
 -- ---- the law
 
 -- a removal that waits is among the items
-removal-waits : (i : ℕ) (b : Bus) (xs : List Item)
+pub removal-waits : (i : ℕ) (b : Bus) (xs : List Item)
     → list_any (is_removal i) (requests_among b xs) ≡ removed_in i b xs
 removal-waits i b [] = refl
 removal-waits i b (x ∷ xs) = by x (removal-waits i b xs)

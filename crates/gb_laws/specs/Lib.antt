@@ -1,1 +1,2 @@
 pub mod OwnSide
+pub mod OwnWaits

@@ -2,6 +2,7 @@
 //! are the events of the run with each settle taken apart into its deliveries.
 
 ghost use Rattle.gb_laws.specs.OwnSide.{AbsentHasNoOpenOfAp};
+ghost use Rattle.gb_laws.specs.OwnWaits.{AwaitsOwnRequest};
 ghost use Rattle.gb_machine.specs.LawsBus.{
   EndpointsDiffer,
   LabelsDiffer,
@@ -24,7 +25,11 @@ ghost use Rattle.gb_machine.specs.LawsHotPlug.{
   RememberedForOne,
   RememberedWhileLive,
 };
-ghost use Rattle.gb_machine.specs.LawsSvc.{RemovalLeavesNothingWired, WiredMeansRouted};
+ghost use Rattle.gb_machine.specs.LawsSvc.{
+  QuietBeforeRemoval,
+  RemovalLeavesNothingWired,
+  WiredMeansRouted,
+};
 ghost use Rattle.gb_machine.specs.Runs.{HoldsAtEachMoment, HoldsThroughout, SettlesAreDeliveries};
 ghost use Rattle.gb_machine.specs.Summary.{CountsAddUp};
 
@@ -100,6 +105,19 @@ pub fn absent_has_no_open_of_ap()
 /// the interface is at most 1 and none of its connections is wired; so none is where it is handled.
 pub fn removal_leaves_nothing_wired()
     ensures { RemovalLeavesNothingWired }
+{}
+
+/// While MODULE_REMOVED of an interface waits and its power level is 1, only starts of its
+/// enumeration wait toward the supervisory controller, and no answer that its enumeration waits for
+/// stands in front of the last such removal.
+pub fn quiet_before_removal()
+    ensures { QuietBeforeRemoval }
+{}
+
+/// Where the enumeration of an interface waits for the supervisory controller, it waits for a
+/// request of its own to that.
+pub fn awaits_own_request()
+    ensures { HoldsThroughout AwaitsOwnRequest }
 {}
 
 /// A connection that is wired, but for that of the supervisory controller, is at a routed interface
