@@ -23,7 +23,6 @@ use Rattle.std.proofs.Common.{
   arith,
 }
 use Rattle.std.specs.Prelude.{◌&&◌, not, option_and_then}
-use Rattle.gb_base.specs.declared.end.Side.TheVariants as side
 use Rattle.gb_base.specs.declared.entry.Entry.{Entry}
 use Rattle.gb_base.specs.declared.peers.Interface.{Interface}
 use Rattle.gb_base.specs.declared.steps.SequenceStep.{SequenceStep}
@@ -91,6 +90,7 @@ use Rattle.gb_machine.specs.Waits.{awaited}
 pub record IsOwnWait (i n : ℕ) (step : SequenceStep) (b : Bus) : Type 0 where
   pub request : Request
   pub made : request_of n b ≡ Some request
+  pub twoway : request.oneway ≡ false
   pub svc : asks_control step ≡ false → IsEnumeration i request
   pub control : asks_control step ≡ true → request.connection ≢ 1
 
@@ -109,6 +109,7 @@ wait-more : {i n : ℕ} {step : SequenceStep} {b after : Bus} → KeepsRequests 
 wait-more {i} {n} keeps w = record {
   request = w.request;
   made = keeps n w.request w.made;
+  twoway = w.twoway;
   svc = w.svc;
   control = w.control;
 }
@@ -126,7 +127,7 @@ own-still a b keeps fewer asked h = record {
 }
 
 -- no turn lets an interface wait for more
-turn-waits : (e : HostEvent) (h : Host) → WaitsFewer h (host_turn e h).host
+pub turn-waits : (e : HostEvent) (h : Host) → WaitsFewer h (host_turn e h).host
 turn-waits (HostEvent.Inserted j) h = (asks-inserted 0 (Unit {0}) j h).waits
 turn-waits (HostEvent.Removed j) h = (asks-removed 0 (Unit {0}) j h).waits
 turn-waits (HostEvent.Connect j c) h = (asks-connects 0 (Unit {0}) j c h).waits
@@ -144,6 +145,7 @@ host-own : (a : Point) (q : Asking) (rest : List Act) (label : ℕ) → LinkedAt
 host-own a q rest label links pending enumeration = record {
   request = requested (host_draft q a.state.now) label;
   made = sent-new (host_draft q a.state.now) label a.state.bus;
+  twoway = refl;
   svc = λ e. record {
     connection = formed.on e;
     side = refl;

@@ -16,6 +16,7 @@ use Rattle.gb_laws.proofs.Routed.{routed-by_moments}
 use Rattle.gb_laws.proofs.Single.{labels-by_moments, names-by_moments, one-item_by_moments}
 use Rattle.gb_laws.proofs.RememberedLive.{remembered-while_live}
 use Rattle.gb_laws.proofs.Remembering.{none-forgotten_at, remembered-for_one}
+use Rattle.gb_laws.proofs.StaleRuns.{stale-low_by_moments}
 use Rattle.gb_laws.proofs.ToldRuns.{absent-open_by_moments, absent-seen}
 use Rattle.gb_laws.specs.OwnSide.{AbsentHasNoOpenOfAp}
 use Rattle.gb_laws.specs.OwnWaits.{AwaitsOwnRequest}
@@ -62,6 +63,8 @@ use Rattle.gb_machine.specs.LawsSvc.{
   LeavesNothing,
   QuietBeforeRemoval,
   RemovalLeavesNothingWired,
+  StaleIsLow,
+  StaleRequestsMeetLowLevel,
   WiredMeansRouted,
 }
 
@@ -158,3 +161,7 @@ quiet-removal = of-all IsQuiet (record {
 -- An enumeration waits for a request of its own.
 pub own-request : HoldsThroughout AwaitsOwnRequest
 own-request = of-all AwaitsOwnRequest (of-state _) awaits-own_by_moments
+
+-- Requests for connections that are gone find their interface without a route.
+pub stale-unrouted : StaleRequestsMeetLowLevel
+stale-unrouted = of-all StaleIsLow (of-state _) stale-low_by_moments

@@ -30,6 +30,7 @@ pub mod Going
 pub mod Happened
 pub mod Knowing
 pub mod Levels
+pub mod Leaving
 pub mod LinkActs
 pub mod LinkBuses
 pub mod LinkChanges
@@ -64,6 +65,9 @@ pub mod Owned
 pub mod Owning
 pub mod Places
 pub mod Plugs
+pub mod Pairs
+pub mod PairsAsked
+pub mod PairsKept
 pub mod PointParts
 pub mod Points
 pub mod Powering
@@ -100,10 +104,19 @@ pub mod Silent
 pub mod Since
 pub mod Single
 pub mod Speaking
+pub mod Stale
+pub mod StaleBase
+pub mod StaleKept
+pub mod StaleLaw
+pub mod StalePower
+pub mod StaleRuns
+pub mod StaleTurns
 pub mod Stepping
 pub mod Steps
 pub mod SvcItems
 pub mod SvcKinds
+pub mod SvcMoves
+pub mod SvcOrder
 pub mod Taking
 pub mod Telling
 pub mod There

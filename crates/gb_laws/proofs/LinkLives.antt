@@ -6,6 +6,7 @@ use Rattle.std.proofs.Common.{
   Bool,
   true,
   false,
+  Option,
   Some,
   List,
   [],
@@ -24,6 +25,7 @@ use Rattle.std.specs.Prelude.{◌==◌, not}
 use Rattle.gb_base.specs.declared.end.End.TheVariants as end
 use Rattle.gb_base.specs.declared.end.Side.TheVariants as side
 use Rattle.gb_base.specs.declared.peers.Link.{Link}
+use Rattle.gb_base.specs.declared.steps.SequenceStep.{SequenceStep}
 use Rattle.gb_invariants.proofs.Labels.{asked_on, asked_on-number}
 use Rattle.gb_invariants.proofs.Lists.{filter-in, in-front, in-pushed}
 use Rattle.gb_invariants.proofs.Outcomes.{same-number}
@@ -102,9 +104,10 @@ alive-first j k f cs number h = ⊎_elim
     }) (at_first-back (has_number k) f cs h.connection h.live)
 
 -- where the application processor knows no more
-alive-from : (cs : List Connection) (h g : Host) → LinksFrom h g → AreAlive cs h → AreAlive cs g
+alive-from : {w : Option (ℕ × SequenceStep)} (cs : List Connection) (h g : Host)
+    → LinksFrom w h g → AreAlive cs h → AreAlive cs g
 alive-from cs h g from all l i =
-    let x = from l i in
+    let x = (from l i).from in
     subst (λ k. IsAlive k cs) (sym x.same.connection) (all x.link x.live)
 
 -- where a connection changes that keeps its number

@@ -343,12 +343,12 @@ since_law m absent = record {
 }
 
 -- what it stands on
-record SinceTo (told : List Entry) (s : State) : Type 0 where
-  links : LinkedTo told s
-  there : AreAlive s.bus.connections s.host
-  remembers : RemembersTo told s
+pub record SinceTo (told : List Entry) (s : State) : Type 0 where
+  pub links : LinkedTo told s
+  pub there : AreAlive s.bus.connections s.host
+  pub remembers : RemembersTo told s
 
-since-over : (m : Moment) → IsMoment m.event → SinceTo m.told m.before
+pub since-over : (m : Moment) → IsMoment m.event → SinceTo m.told m.before
     → SinceTo (m.told ++ told_at m) (after m) × RememberedWhileLive m
 since-over m one h =
     let r = (over-step m (since_law m (start-absent m h.links)) one (
@@ -378,7 +378,7 @@ since-over m one h =
         (c.number ∙ x.number)
         (found-by_number (after m).bus.connections c.connection numbers.rise c.live))
 
-since-throughout : HoldsByMoments SinceTo
+pub since-throughout : HoldsByMoments SinceTo
 since-throughout = throughout SinceTo (record {
   links = linked-throughout [] tt;
   there = λ l i. absurd i;

@@ -28,6 +28,7 @@ ghost use Rattle.gb_machine.specs.LawsHotPlug.{
 ghost use Rattle.gb_machine.specs.LawsSvc.{
   QuietBeforeRemoval,
   RemovalLeavesNothingWired,
+  StaleRequestsMeetLowLevel,
   WiredMeansRouted,
 };
 ghost use Rattle.gb_machine.specs.Runs.{HoldsAtEachMoment, HoldsThroughout, SettlesAreDeliveries};
@@ -112,6 +113,12 @@ pub fn removal_leaves_nothing_wired()
 /// stands in front of the last such removal.
 pub fn quiet_before_removal()
     ensures { QuietBeforeRemoval }
+{}
+
+/// While a request to create or destroy a connection that isn't live any more waits toward the
+/// supervisory controller, its interface isn't routed.
+pub fn stale_requests_meet_low_level()
+    ensures { StaleRequestsMeetLowLevel }
 {}
 
 /// Where the enumeration of an interface waits for the supervisory controller, it waits for a
