@@ -6,6 +6,7 @@ use Rattle.gb_laws.proofs.AwaitsOwn.{awaits-own_by_moments}
 use Rattle.gb_laws.proofs.Causes.{causes-at_moments}
 use Rattle.gb_laws.proofs.Ended.{ends-told_by_moments}
 use Rattle.gb_laws.proofs.Endpoints.{endpoints-by_moments}
+use Rattle.gb_laws.proofs.EnumRuns.{restarts-by_moments, served-by_moments}
 use Rattle.gb_laws.proofs.Foreign.{own-items, takes-at_moments}
 use Rattle.gb_laws.proofs.Happened.{ends-seen, items-seen, told-seen}
 use Rattle.gb_laws.proofs.QuietBefore.{quiet-before_moments}
@@ -19,7 +20,7 @@ use Rattle.gb_laws.proofs.Remembering.{none-forgotten_at, remembered-for_one}
 use Rattle.gb_laws.proofs.StaleRuns.{stale-low_by_moments}
 use Rattle.gb_laws.proofs.ToldRuns.{absent-open_by_moments, absent-seen}
 use Rattle.gb_laws.specs.OwnSide.{AbsentHasNoOpenOfAp}
-use Rattle.gb_laws.specs.OwnWaits.{AwaitsOwnRequest}
+use Rattle.gb_laws.specs.OwnWaits.{AwaitsOwnRequest, OnlyRestarts, ServedLeavesNone}
 use Rattle.gb_laws.proofs.OpenRuns.{open-live_by_moments}
 use Rattle.gb_machine.specs.Runs.{HoldsAtEachMoment, HoldsThroughout}
 use Rattle.gb_machine.specs.LawsBus.{
@@ -165,3 +166,11 @@ own-request = of-all AwaitsOwnRequest (of-state _) awaits-own_by_moments
 -- Requests for connections that are gone find their interface without a route.
 pub stale-unrouted : StaleRequestsMeetLowLevel
 stale-unrouted = of-all StaleIsLow (of-state _) stale-low_by_moments
+
+-- None of its requests waits once the one that it waits for was served.
+pub served-leaves : HoldsThroughout ServedLeavesNone
+served-leaves = of-all ServedLeavesNone (of-state _) served-by_moments
+
+-- Each of its requests that waits, but the first, is a start.
+pub only-restarts : HoldsThroughout OnlyRestarts
+only-restarts = of-all OnlyRestarts (of-state _) restarts-by_moments

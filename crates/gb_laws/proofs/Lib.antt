@@ -22,6 +22,7 @@ pub mod Delivering
 pub mod Ended
 pub mod Endpoints
 pub mod EnumRequests
+pub mod EnumRuns
 pub mod Enums
 pub mod EveryRun
 pub mod Foreign

@@ -14,7 +14,6 @@ use Rattle.std.proofs.Common.{
   List,
   [],
   ◌∷◌,
-  ◌++◌,
   refl,
   sym,
   ap,
@@ -22,7 +21,7 @@ use Rattle.std.proofs.Common.{
   subst,
 }
 use Rattle.std.specs.Prelude.{◌&&◌, ◌||◌, not}
-use Rattle.std.specs.List.{filter, list_any}
+use Rattle.std.specs.List.{list_any}
 use Rattle.gb_base.specs.declared.end.Side.TheVariants as side
 use Rattle.gb_base.specs.declared.entry.Entry.{Entry}
 use Rattle.gb_base.specs.declared.peers.Interface.{Interface}
@@ -31,15 +30,14 @@ use Rattle.gb_invariants.proofs.Awaiting.{same-some}
 use Rattle.gb_invariants.proofs.Outcomes.{same-number}
 use Rattle.gb_laws.proofs.AwaitsOwn.{OwnTo, own-throughout, waiting-interface}
 use Rattle.gb_laws.proofs.Enums.{
-  AreStarts,
   IsClean,
   clean-none,
-  enum_of,
-  enums_of,
-  item_enum,
+  enums,
+  enums-requests,
   item_removes,
   removed_in,
   request_removes,
+  starts-requests,
 }
 use Rattle.gb_laws.proofs.PointParts.{resting}
 use Rattle.gb_laws.proofs.QuietBuses.{svc-found}
@@ -68,45 +66,12 @@ use Rattle.gb_machine.specs.SequenceSteps.{asks_control}
 use Rattle.gb_machine.specs.State.{State}
 use Rattle.gb_machine.specs.SvcQueues.{
   is_ask_that,
-  is_enumeration_request,
   is_removal,
   is_reply_to,
   items_in,
   request_onto,
-  requests_among,
   svc_items,
 }
-
--- ---- starts
-
--- what is asked of an enumeration, without its numbers
-starts-among : (i : ℕ) (b : Bus) (xs : List Item) → AreStarts (enums_of i b xs)
-    → Each IsStart (filter (is_enumeration_request i) (requests_among b xs))
-starts-among i b [] h = tt
-starts-among i b (x ∷ xs) h = by x h (starts-among i b xs)
-  where
-    Later : Type 0
-    Later = AreStarts (enums_of i b xs)
-        → Each IsStart (filter (is_enumeration_request i) (requests_among b xs))
-
-    asked : (n : ℕ) (o : Option Request) → AreStarts (enum_of i n o ++ enums_of i b xs) → Later
-        → Each IsStart (filter (is_enumeration_request i)
-        (request_onto o (requests_among b xs)))
-    asked n None g rec = rec g
-    asked n (Some r) g rec = either (is_enumeration_request i r) g rec
-      where
-        either : (t : Bool) → AreStarts (cond t ((n, r) ∷ []) [] ++ enums_of i b xs) → Later
-            → Each IsStart (cond t (r ∷ filter (is_enumeration_request i) (requests_among b xs))
-            (filter (is_enumeration_request i) (requests_among b xs)))
-        either true g rec = (g.0, rec g.1)
-        either false g rec = rec g
-
-    by : (y : Item) → AreStarts (item_enum i b y ++ enums_of i b xs) → Later
-        → Each IsStart (filter (is_enumeration_request i) (requests_among b (y ∷ xs)))
-    by (Ask n) g rec = asked n (request_of n b) g rec
-    by (Reply n result payload) g rec = rec g
-    by (Raw bytes) g rec = rec g
-    by (RawReply label kind result payload) g rec = rec g
 
 -- ---- answers in front of a removal
 
@@ -153,8 +118,9 @@ clean-before n i b (x ∷ xs) h =
 quiet-before : (told : List Entry) (s : State) → QuietTo told s → OwnTo told s → IsQuiet told s
 quiet-before told s h own = record {
   low = λ i r. (h.quiet i).low.low (removed i r);
-  starts = λ i r one. starts-among i s.bus (svc_items side.Far s.bus)
-      ((h.quiet i).low.starts (removed i r, one));
+  starts = λ i r one. subst (Each IsStart)
+      (sym (enums-requests i s.bus (svc_items side.Far s.bus)))
+      (starts-requests (enums i s.bus) ((h.quiet i).low.starts (removed i r, one)));
   unanswered = λ i n step r one e. clean-before n i s.bus (svc_items side.Ap s.bus)
       (clean i n step r one (waiting-interface i s.host (n, step) e) (asks_control step) refl);
 }

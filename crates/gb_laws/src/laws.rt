@@ -2,7 +2,7 @@
 //! are the events of the run with each settle taken apart into its deliveries.
 
 ghost use Rattle.gb_laws.specs.OwnSide.{AbsentHasNoOpenOfAp};
-ghost use Rattle.gb_laws.specs.OwnWaits.{AwaitsOwnRequest};
+ghost use Rattle.gb_laws.specs.OwnWaits.{AwaitsOwnRequest, OnlyRestarts, ServedLeavesNone};
 ghost use Rattle.gb_machine.specs.LawsBus.{
   EndpointsDiffer,
   LabelsDiffer,
@@ -125,6 +125,18 @@ pub fn stale_requests_meet_low_level()
 /// request of its own to that.
 pub fn awaits_own_request()
     ensures { HoldsThroughout AwaitsOwnRequest }
+{}
+
+/// Where that request waits no more toward the supervisory controller, no request of the
+/// enumeration does.
+pub fn served_leaves_none()
+    ensures { HoldsThroughout ServedLeavesNone }
+{}
+
+/// Of the requests of an enumeration that wait toward the supervisory controller each but the first
+/// is a start.
+pub fn only_restarts_wait()
+    ensures { HoldsThroughout OnlyRestarts }
 {}
 
 /// A connection that is wired, but for that of the supervisory controller, is at a routed interface
