@@ -19,8 +19,10 @@ use Rattle.gb_laws.proofs.RememberedLive.{remembered-while_live}
 use Rattle.gb_laws.proofs.Remembering.{none-forgotten_at, remembered-for_one}
 use Rattle.gb_laws.proofs.StaleRuns.{stale-low_by_moments}
 use Rattle.gb_laws.proofs.ToldRuns.{absent-open_by_moments, absent-seen}
+use Rattle.gb_laws.proofs.WiredRemembered.{wired-remembered}
 use Rattle.gb_laws.specs.OwnSide.{AbsentHasNoOpenOfAp}
 use Rattle.gb_laws.specs.OwnWaits.{AwaitsOwnRequest, OnlyRestarts, ServedLeavesNone}
+use Rattle.gb_laws.specs.OwnWires.{WiredIsRemembered}
 use Rattle.gb_laws.proofs.OpenRuns.{open-live_by_moments}
 use Rattle.gb_machine.specs.Runs.{HoldsAtEachMoment, HoldsThroughout}
 use Rattle.gb_machine.specs.LawsBus.{
@@ -137,6 +139,10 @@ remembered-for = of-all RememberedForOne (of-state _) remembered-for_one
 -- It is for a connection that is live then.
 pub remembered-live : HoldsAtEachMoment RememberedWhileLive
 remembered-live = at-all RememberedWhileLive remembered-while_live
+
+-- What is wired is remembered to have been.
+pub remembered-wired : HoldsThroughout WiredIsRemembered
+remembered-wired = of-all WiredIsRemembered (of-state _) wired-remembered
 
 -- What is wired is routed.
 pub wired-routed : WiredMeansRouted

@@ -125,5 +125,6 @@ pub mod Ticking
 pub mod ToldLinks
 pub mod ToldRuns
 pub mod Turned
+pub mod WiredRemembered
 pub mod WiredRuns
 pub mod WiredWell

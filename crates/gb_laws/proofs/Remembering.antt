@@ -29,7 +29,7 @@ abbrev pub StaysWired : Moment → State → Type 0
 StaysWired m s = (k : ℕ) → IsIn k m.before.past.wired → IsIn k s.past.wired
 
 -- a sequence that waits for a request leaves what was wired
-waiting-wired : (p : Purpose) (n : ℕ) (s : State)
+pub waiting-wired : (p : Purpose) (n : ℕ) (s : State)
     → (with_awaited p n s).past.wired ≡ s.past.wired
 waiting-wired p n s = by (is_for_connection p.step) (link_at p.intf p.cport (awaits p n s.host))
   where

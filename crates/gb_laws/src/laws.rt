@@ -3,6 +3,7 @@
 
 ghost use Rattle.gb_laws.specs.OwnSide.{AbsentHasNoOpenOfAp};
 ghost use Rattle.gb_laws.specs.OwnWaits.{AwaitsOwnRequest, OnlyRestarts, ServedLeavesNone};
+ghost use Rattle.gb_laws.specs.OwnWires.{WiredIsRemembered};
 ghost use Rattle.gb_machine.specs.LawsBus.{
   EndpointsDiffer,
   LabelsDiffer,
@@ -143,6 +144,12 @@ pub fn only_restarts_wait()
 /// where a module is plugged.
 pub fn wired_means_routed()
     ensures { WiredMeansRouted }
+{}
+
+/// A connection that is wired, but for that of the supervisory controller, is remembered to have
+/// been.
+pub fn wired_is_remembered()
+    ensures { HoldsThroughout WiredIsRemembered }
 {}
 
 /// Which connections were ever wired is never forgotten.
