@@ -118,7 +118,8 @@ module _ (m : Moment) (law : Law m) where
   hand_of c at item = record { connection = c; side = at; item = item }
 
   ends-responds : (c : Connection) (at : Side) (item : Item) (q : Incoming) (s : State)
-      → IsAsBefore m s → request_in item s.bus ≡ Some q → IsTaken m s c at q → Ends m law (Some (hand_of c at item)) (serving at c q) s
+      → IsAsBefore m s → request_in item s.bus ≡ Some q → IsTaken m s c at q
+      → Ends m law (Some (hand_of c at item)) (serving at c q) s
   unfolding machine_opened
   ends-responds c at item q s same made taken = λ told now. by (still told (law.basis _ now)) q.oneway refl told now
     where
@@ -148,7 +149,8 @@ module _ (m : Moment) (law : Law m) where
           refl refl (peer-replied c.number (other_side at) (reply_item q (response_at at c q s).answer) c.peer s.bus peer) same refl)
 
   ends-asked : (c : Connection) (at : Side) (item : Item) (q : Incoming) (s : State)
-      → IsAsBefore m s → request_in item s.bus ≡ Some q → IsTaken m s c at q → Ends m law (Some (hand_of c at item)) (asked_at at c item q) s
+      → IsAsBefore m s → request_in item s.bus ≡ Some q → IsTaken m s c at q
+      → Ends m law (Some (hand_of c at item)) (asked_at at c item q) s
   unfolding machine_opened
   ends-asked c at item q s same made taken = by at (is_held at c s) refl (ends-responds c at item q s same made taken)
     where

@@ -1,28 +1,6 @@
 -- Which connections a turn of the application processor gives up, and why.
-use Rattle.std.proofs.Common.{
-  ◌≡◌,
-  ◌⊎◌,
-  ℕ,
-  Bool,
-  true,
-  false,
-  cond,
-  Option,
-  Some,
-  None,
-  List,
-  [],
-  ◌∷◌,
-  length,
-  refl,
-  sym,
-  ap,
-  ◌∙◌,
-  inl,
-  inr,
-  ⊎_elim,
-  subst,
-}
+use Rattle.std.proofs.Common.{◌≡◌, ◌⊎◌, ℕ, Bool, true, false, cond, Option, Some, None, List, []}
+use Rattle.std.proofs.Common.{◌∷◌, length, refl, sym, ap, ◌∙◌, inl, inr, ⊎_elim, subst}
 use Rattle.std.specs.Prelude.{Result, Ok, Err, ◌==◌, option_and_then, option_map}
 use Rattle.std.specs.List.{find}
 use Rattle.gb_base.specs.declared.entry.ConnState.TheVariants as state
@@ -30,7 +8,6 @@ use Rattle.gb_base.specs.declared.entry.Entry.TheVariants as entry
 use Rattle.gb_base.specs.declared.entry.IntfStage.TheVariants as stage
 use Rattle.gb_base.specs.declared.outcome.Outcome.{Outcome}
 use Rattle.gb_base.specs.declared.outcome.Outcome.TheVariants as outcome
-use Rattle.gb_base.specs.declared.peers.Interface.{Interface}
 use Rattle.gb_base.specs.declared.peers.Link.{Link}
 use Rattle.gb_base.specs.declared.steps.Purpose.{Purpose}
 use Rattle.gb_base.specs.declared.steps.SequenceStep.{SequenceStep}
@@ -307,30 +284,33 @@ why-ended b n how h k fits i = by how i
     failed how (Some p) none j = none-leaves k (step_fails p.step p (awaits_nothing p h)).told
         (subst (λ o. IsIn (Act.Leave k) (step_answered o p (awaits_nothing p h)).acts) none j)
 
-    undone : {A : Type 0} (p : Purpose) (payload : List ℕ) (step : SequenceStep)
+    other : {A : Type 0} (p : Purpose) (payload : List ℕ) (step : SequenceStep)
         → (step ≡ steps.DestroyConnection → ⊥)
         → IsIn (Act.Leave k) (step_done step p payload (awaits_nothing p h)).acts → A
-    undone p bytes step other j = absurd (none-done step p bytes (awaits_nothing p h) other k j)
+    other p bytes step apart j = absurd (none-done step p bytes (awaits_nothing p h) apart k j)
 
     done : (n result : ℕ) (payload : List ℕ) (p : Purpose) (step : SequenceStep) → p.step ≡ step
         → awaited n h ≡ Some p
         → IsIn (Act.Leave k) (step_done step p payload (awaits_nothing p h)).acts
         → WhyLeft h (HostEvent.Ended n (outcome.Answered result payload)) k
     done n r bytes p steps.DestroyConnection e f j = why-closed b n r bytes p h k fits f e j
-    done n r bytes p steps.EnableVsys e f j = undone p bytes steps.EnableVsys (λ g. absurd cc) j
-    done n r bytes p steps.EnableRefclk e f j = undone p bytes steps.EnableRefclk (λ g. absurd cc) j
-    done n r bytes p steps.EnableUnipro e f j = undone p bytes steps.EnableUnipro (λ g. absurd cc) j
-    done n r bytes p steps.Activate e f j = undone p bytes steps.Activate (λ g. absurd cc) j
-    done n r bytes p steps.GiveDevice e f j = undone p bytes steps.GiveDevice (λ g. absurd cc) j
-    done n r bytes p steps.CreateRoute e f j = undone p bytes steps.CreateRoute (λ g. absurd cc) j
-    done n r bytes p steps.CreateControl e f j = undone p bytes steps.CreateControl (λ g. absurd cc) j
-    done n r bytes p steps.AskVersion e f j = undone p bytes steps.AskVersion (λ g. absurd cc) j
-    done n r bytes p steps.AskSize e f j = undone p bytes steps.AskSize (λ g. absurd cc) j
-    done n r bytes p steps.AskManifest e f j = undone p bytes steps.AskManifest (λ g. absurd cc) j
-    done n r bytes p steps.CreateConnection e f j = undone p bytes steps.CreateConnection (λ g. absurd cc) j
-    done n r bytes p steps.TellConnected e f j = undone p bytes steps.TellConnected (λ g. absurd cc) j
-    done n r bytes p steps.TellDisconnecting e f j = undone p bytes steps.TellDisconnecting (λ g. absurd cc) j
-    done n r bytes p steps.TellDisconnected e f j = undone p bytes steps.TellDisconnected (λ g. absurd cc) j
+    done n r bs p steps.EnableVsys e f j = other p bs steps.EnableVsys (λ g. absurd cc) j
+    done n r bs p steps.EnableRefclk e f j = other p bs steps.EnableRefclk (λ g. absurd cc) j
+    done n r bs p steps.EnableUnipro e f j = other p bs steps.EnableUnipro (λ g. absurd cc) j
+    done n r bs p steps.Activate e f j = other p bs steps.Activate (λ g. absurd cc) j
+    done n r bs p steps.GiveDevice e f j = other p bs steps.GiveDevice (λ g. absurd cc) j
+    done n r bs p steps.CreateRoute e f j = other p bs steps.CreateRoute (λ g. absurd cc) j
+    done n r bs p steps.CreateControl e f j = other p bs steps.CreateControl (λ g. absurd cc) j
+    done n r bs p steps.AskVersion e f j = other p bs steps.AskVersion (λ g. absurd cc) j
+    done n r bs p steps.AskSize e f j = other p bs steps.AskSize (λ g. absurd cc) j
+    done n r bs p steps.AskManifest e f j = other p bs steps.AskManifest (λ g. absurd cc) j
+    done n r bs p steps.CreateConnection e f j =
+        other p bs steps.CreateConnection (λ g. absurd cc) j
+    done n r bs p steps.TellConnected e f j = other p bs steps.TellConnected (λ g. absurd cc) j
+    done n r bs p steps.TellDisconnecting e f j =
+        other p bs steps.TellDisconnecting (λ g. absurd cc) j
+    done n r bs p steps.TellDisconnected e f j =
+        other p bs steps.TellDisconnected (λ g. absurd cc) j
 
     replied : (result : ℕ) (payload : List ℕ) (p : Purpose) → awaited n h ≡ Some p
         → (t : Bool) → IsIn (Act.Leave k) (cond t (step_done p.step p payload (awaits_nothing p h))

@@ -1,5 +1,6 @@
 -- The facts of the application processor's connections go over the steps of its sequences.
-use Rattle.std.proofs.Common.{◌≡◌, ◌≢◌, ℕ, Bool, true, false, cond, Option, Some, None, List, [], ◌∷◌, length, map, refl, sym, ap, ◌∙◌, inl, inr, subst, arith}
+use Rattle.std.proofs.Common.{◌≡◌, ◌≢◌, ℕ, Bool, true, false, cond, Option, Some, None, List, []}
+use Rattle.std.proofs.Common.{◌∷◌, length, map, refl, sym, ap, ◌∙◌, inr, subst, arith}
 use Rattle.std.specs.Prelude.{Result, Ok, Err, ◌==◌, ◌≤◌, option_map}
 use Rattle.gb_base.specs.declared.steps.Purpose.{Purpose}
 use Rattle.gb_base.specs.declared.steps.SequenceStep.{SequenceStep}
@@ -14,21 +15,26 @@ use Rattle.gb_base.specs.declared.entry.Entry.{Entry}
 use Rattle.gb_formats.specs.Manifest.{Manifest, check_answer}
 use Rattle.gb_formats.specs.ManifestRules.{Refused}
 use Rattle.gb_invariants.proofs.Awaiting.{not-both, same-some}
-use Rattle.gb_invariants.proofs.Lists.{found-in, in-without}
+use Rattle.gb_invariants.proofs.Lists.{found-in}
 use Rattle.gb_formats.specs.ControlRecords.{read_control_reply}
 use Rattle.gb_base.specs.declared.entry.IntfStage.TheVariants as stage
-use Rattle.gb_laws.proofs.LinkHosts.{Onto, kept-same, onto-interface, onto-link, onto-then, host-interface, host-link, links-without, next-interface, next-to, none-without, same-link, state-link, then-same, without-in}
+use Rattle.gb_laws.proofs.LinkHosts.{Onto, kept-same, onto-interface, onto-link, onto-then}
+use Rattle.gb_laws.proofs.LinkHosts.{host-interface, host-link, next-interface, next-to, same-link}
+use Rattle.gb_laws.proofs.LinkHosts.{state-link, then-same}
 use Rattle.gb_laws.proofs.LinkLeft.{fits-left}
 use Rattle.gb_laws.proofs.LinkLists.{on-control, first_free-is, link-is, none-any}
 use Rattle.gb_laws.proofs.Links.{IsDueBy, IsFormed, IsNext, ArePending, HostFits, IsAtStep, IsDue, IsFollowed, IsIdle, IsWaiting, SameLink, TurnFits, control, leaves, stays}
 use Rattle.gb_machine.specs.Arriving.{state_takes}
 use Rattle.gb_machine.specs.Bus.{Bus}
 use Rattle.gb_machine.specs.Failures.{interface_fails, link_fails, link_told, step_fails}
-use Rattle.gb_machine.specs.Host.{Host, control_of, free_cport, free_device, in_state, interface_of, is_link, link_at, staged, with_interface, with_link, without_link}
-use Rattle.gb_machine.specs.Lists.{without}
+use Rattle.gb_machine.specs.Host.{Host, control_of, free_cport, free_device, in_state, interface_of}
+use Rattle.gb_machine.specs.Host.{is_link, link_at, staged, with_interface, with_link}
 use Rattle.gb_machine.specs.Members.{IsIn}
 use Rattle.gb_machine.specs.SequenceSteps.{Target, at_step, is_enumeration, is_reply}
-use Rattle.gb_machine.specs.Sequences.{ap_in, asked_on, asking, begins_control, begins_device, enumerated, goes_on, size_in, link_left, link_turn, manifest_checked, manifest_told, opened, opened_told, size_known, step_answered, step_asked, step_done, target, way_of}
+use Rattle.gb_machine.specs.Sequences.{ap_in, asked_on, asking, begins_control, begins_device}
+use Rattle.gb_machine.specs.Sequences.{enumerated, goes_on, size_in, link_turn, manifest_checked}
+use Rattle.gb_machine.specs.Sequences.{manifest_told, opened, opened_told, size_known}
+use Rattle.gb_machine.specs.Sequences.{step_answered, step_asked, step_done, target, way_of}
 use Rattle.gb_machine.specs.Turns.{Act, Turn, failed_turn, telling}
 
 -- ---- turns

@@ -31,7 +31,6 @@ use Rattle.gb_invariants.proofs.Outcomes.{same-number}
 use Rattle.gb_laws.proofs.LinkLists.{in-first}
 use Rattle.gb_laws.proofs.LinkSources.{LinksFrom}
 use Rattle.gb_laws.proofs.Owning.{KeepsRequests}
-use Rattle.gb_laws.proofs.Points.{asks}
 use Rattle.gb_machine.specs.Bus.{Bus, Request, request_of}
 use Rattle.gb_machine.specs.Host.{Host, is_link, with_link}
 use Rattle.gb_machine.specs.Members.{IsIn}

@@ -3,7 +3,6 @@ use Rattle.std.proofs.Common.{
   ◌≡◌,
   ◌⊎◌,
   ℕ,
-  ◌+◌,
   Bool,
   true,
   false,
@@ -35,7 +34,6 @@ use Rattle.gb_invariants.proofs.Lists.{found-in, in-behind, in-front, in-pushed}
 use Rattle.gb_laws.proofs.LinkActs.{awaits-fits}
 use Rattle.gb_laws.proofs.LinkLists.{find-changed, found-at, in-first, link-is, one-link}
 use Rattle.gb_laws.proofs.Links.{HostFits, IsDue, IsDueBy, IsFormed}
-use Rattle.gb_laws.proofs.Points.{asks}
 use Rattle.gb_laws.proofs.Remembering.{nothing-asked}
 use Rattle.gb_machine.specs.Bus.{Bus, Request, request_of}
 use Rattle.gb_machine.specs.Host.{Host, is_link, link_at, with_interface, with_link}

@@ -1,7 +1,6 @@
 -- What is known of remembered requests is kept by each single change.
 use Rattle.std.proofs.Common.{
   ◌≡◌,
-  ◌⊎◌,
   ℕ,
   Bool,
   true,

@@ -173,9 +173,9 @@ abbrev pub awaited_by : (m : Moment) (a : Point) (c : Connection) (d : Draft)
 awaited_by m a c d (by_host q rest is draft none) = Some (q, next_number a.state.bus)
 awaited_by m a c d (by_far who) = a.asked
 
--- Where the application processor takes notice of something, no request was made at the moment yet,
--- unless it is the end of one that wasn't answered. A sequence goes on with an answer only where its
--- request isn't awaited any more.
+-- Where the application processor takes notice of something, no request was made at the moment
+-- yet, unless it is the end of one that wasn't answered. A sequence goes on with an answer only
+-- where its request isn't awaited any more.
 abbrev pub IsOver : Moment → HostEvent → Bus → Type 0
 IsOver m (HostEvent.Ended n how) b =
     (result : ℕ) (payload : List ℕ) → how ≡ outcome.Answered result payload

@@ -1,5 +1,5 @@
--- While a removal waits, only starts of the enumeration of its interface wait, and no answer that it
--- waits for comes before the removal.
+-- While a removal waits, only starts of the enumeration of its interface wait, and no answer that
+-- it waits for comes before the removal.
 use Rattle.std.proofs.Common.{
   ◌≡◌,
   ◌≢◌,

@@ -71,7 +71,7 @@ use Rattle.gb_laws.proofs.QuietTurns.{quiet-awaited, quiet-failed, quiet-turned,
 use Rattle.gb_laws.proofs.QuietAsking.{quiet-asked}
 use Rattle.gb_laws.proofs.SvcMoves.{injected-other}
 use Rattle.gb_laws.proofs.There.{There}
-use Rattle.gb_machine.specs.Bus.{Connection, Raw, end_of, has_number, other_side, queue}
+use Rattle.gb_machine.specs.Bus.{Connection, Raw, has_number, other_side, queue}
 use Rattle.gb_machine.specs.Delivery.{answered}
 use Rattle.gb_machine.specs.Holding.{held_on}
 use Rattle.gb_machine.specs.HostServing.{host_serves}

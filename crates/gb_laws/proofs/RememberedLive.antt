@@ -1,5 +1,5 @@
--- A request is remembered for a connection that is live when it is made, and stays live for the rest
--- of the step.
+-- A request is remembered for a connection that is live when it is made, and stays live for the
+-- rest of the step.
 use Rattle.std.proofs.Common.{
   ◌≡◌,
   ◌⊎◌,

@@ -18,7 +18,24 @@ use Rattle.gb_invariants.proofs.Outcomes.{both-true}
 use Rattle.gb_laws.proofs.Acting.{goes-notices}
 use Rattle.gb_laws.proofs.Going.{At, Goes, IsToModule, goes-far_asks_all, goes-nothing, goes-tell, goes-▸}
 use Rattle.gb_laws.proofs.Places.{ComesFrom, LivesOn, comes-after, lives-after, same_end-is}
-use Rattle.gb_laws.proofs.Points.{IsAfterReply, IsLive, IsOver, IsServing, Law, PortsFrom, acting, as_before, loses_route, others, replied_to, served, serves, unreplied, unwires, wires}
+use Rattle.gb_laws.proofs.Points.{
+  IsAfterReply,
+  IsLive,
+  IsOver,
+  IsServing,
+  Law,
+  PortsFrom,
+  acting,
+  as_before,
+  loses_route,
+  others,
+  replied_to,
+  served,
+  serves,
+  unreplied,
+  unwires,
+  wires,
+}
 use Rattle.gb_laws.proofs.PointParts.{IsServed, Hand, IsCaused, IsNoticed, Untouched, Unwired, Wired, Wires}
 use Rattle.gb_laws.proofs.Served.{IsQuietly, ServedAs, inserting, plainly, removing, served as served_as}
 use Rattle.gb_machine.proofs.Opened.{machine_opened}

@@ -9,19 +9,16 @@ use Rattle.std.proofs.Common.{
   sym,
   ℕ,
   ◌++◌,
-  ◌+◌,
   ◌∙◌,
   ◌∷◌,
   ◌≡◌,
-  ◌⊎◌,
   [],
   ⊎_elim,
 }
-use Rattle.std.specs.Prelude.{◌-◌}
 use Rattle.gb_base.specs.declared.end.End.{End}
 use Rattle.gb_base.specs.declared.end.Side.TheVariants as side
 use Rattle.gb_base.specs.declared.event.Event.TheVariants as event
-use Rattle.gb_invariants.proofs.Awaiting.{same-some, still}
+use Rattle.gb_invariants.proofs.Awaiting.{same-some}
 use Rattle.gb_laws.proofs.Answering.{keeps-requests}
 use Rattle.gb_laws.proofs.Awaited.{awaited-rest}
 use Rattle.gb_laws.proofs.AwaitsOwn.{WaitsOwn, own-kept}

@@ -21,10 +21,8 @@ use Rattle.std.proofs.Common.{
   ◌∷◌,
   ◌≡◌,
   ◌≤◌,
-  ◌⊎◌,
   ⊎_elim,
 }
-use Rattle.std.specs.Prelude.{◌-◌}
 use Rattle.gb_base.specs.declared.end.Side.TheVariants as side
 use Rattle.gb_base.specs.declared.peers.Interface.{Interface}
 use Rattle.gb_base.specs.declared.peers.Link.{Link}

@@ -18,9 +18,7 @@ use Rattle.std.proofs.Common.{
   [],
   ⊎_elim,
 }
-use Rattle.std.specs.Prelude.{◌-◌}
 use Rattle.gb_base.specs.declared.end.Side.TheVariants as side
-use Rattle.gb_base.specs.declared.entry.ConnState.TheVariants as state
 use Rattle.gb_invariants.proofs.Awaiting.{not-both}
 use Rattle.gb_invariants.proofs.Lists.{in-front}
 use Rattle.gb_laws.proofs.Answering.{keeps-requests}

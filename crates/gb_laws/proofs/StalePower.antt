@@ -42,12 +42,12 @@ use Rattle.gb_laws.proofs.LinkBuses.{Linked}
 use Rattle.gb_laws.proofs.PointParts.{Basis, Point, resting}
 use Rattle.gb_laws.proofs.Points.{IsIdle, IsServing, PortsFrom, as_before, loses_route, served}
 use Rattle.gb_laws.proofs.QuietPower.{at-most_one, start-kind, unrouted-six}
-use Rattle.gb_laws.proofs.QuietServed.{IsServed, serving}
+use Rattle.gb_laws.proofs.QuietServed.{serving}
 use Rattle.gb_laws.proofs.RememberedLive.{RemembersSince}
 use Rattle.gb_laws.proofs.Pairs.{PairsFit}
 use Rattle.gb_laws.proofs.Stale.{HasNoStale, IsCool, IsStale, StaleAt, cool-still, due-still}
 use Rattle.gb_laws.proofs.There.{There}
-use Rattle.gb_machine.specs.Bus.{Ask, Item, Request}
+use Rattle.gb_machine.specs.Bus.{Ask, Item}
 use Rattle.gb_machine.specs.Incoming.{Incoming}
 use Rattle.gb_machine.specs.Lists.{behind_first}
 use Rattle.gb_machine.specs.Members.{IsIn}
@@ -139,12 +139,6 @@ module _ (m : Moment) (i : ℕ) (basis : Basis (resting m.told m.before))
           level-same (ap (level_of i) e ∙ g ∙ sym (ap (level_of i) w.ports))
       step q w e (by_record ask read l) = enumerating (enumerates i (Ok ask)) refl
         where
-          v : IsServed m a q
-          v = serving m basis links there a q w
-
-          later : List (ℕ × Request)
-          later = enums_of i m.before.bus (behind_first (svc_items side.Far m.before.bus))
-
           whole : enumerates i (Ok ask) ≡ true → enums i m.before.bus
               ≡ (
                 (serving m basis links there a q w).number,

@@ -24,7 +24,7 @@ use Rattle.std.proofs.Common.{
   ⊎_elim,
 }
 use Rattle.std.specs.List.{find}
-use Rattle.std.specs.Prelude.{not, ◌-◌, ◌==◌}
+use Rattle.std.specs.Prelude.{not, ◌==◌}
 use Rattle.gb_base.specs.declared.end.Side.TheVariants as side
 use Rattle.gb_base.specs.declared.outcome.Outcome.{Outcome}
 use Rattle.gb_base.specs.declared.outcome.Outcome.TheVariants as outcome

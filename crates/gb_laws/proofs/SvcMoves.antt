@@ -109,9 +109,6 @@ pub far-sent : (a : Point) (d : Draft) (label : ℕ) → Basis a → There a.sta
     → FarMoves a.state.bus (sent d label a.state.bus)
 far-sent a d label basis there = by (d.connection == 1) refl d.side refl
   where
-    x : Item
-    x = Ask (next_number a.state.bus)
-
     toward : (s : Side) → s ≡ side.Ap
         → IsPut (other_side s) (Ask (next_number a.state.bus)) a.state.bus
         (sent d label a.state.bus)
