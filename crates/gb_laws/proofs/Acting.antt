@@ -380,7 +380,7 @@ module _ (m : Moment) (law : ActLaw m) where
       (goes-act x xs s fit.0) (goes-acts xs (acts x s).state fit.1)
 
   -- the application processor takes notice of something
-  pub goes-notices : (e : HostEvent) (s : State) → IsOver e s.bus → IsCaused m e s.host
+  pub goes-notices : (e : HostEvent) (s : State) → IsOver m e s.bus → IsCaused m e s.host
       → Acts [] [] (notices e) s
   unfolding machine_opened
   goes-notices e s over cause =

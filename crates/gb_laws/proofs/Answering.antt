@@ -37,7 +37,8 @@ use Rattle.gb_machine.specs.State.{State}
 use Rattle.gb_machine.specs.Wires.{disconnected_told}
 
 -- requests stay, whatever changes
-keeps-requests : (m : Moment) (a : Point) (x : Change m a) → KeepsRequests a.state.bus (changed m a x).state.bus
+pub keeps-requests : (m : Moment) (a : Point) (x : Change m a)
+    → KeepsRequests a.state.bus (changed m a x).state.bus
 keeps-requests m a (asks d c label free live drawn who) n r made = sent-request d label a.state.bus n r made
 keeps-requests m a (names name d c label free live drawn host) n r made = sent-request d label a.state.bus n r made
 keeps-requests m a (acts_asked q k rest is) n r made = ap (request_of n) (awaited-rest q.purpose k a.state).bus ∙ made

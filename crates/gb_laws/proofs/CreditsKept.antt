@@ -1,7 +1,9 @@
 -- Credits stay at a moment at which no bridge line is done and no credits are taken: each
 -- connection behind it was there before with the same credits, or is new and has the most.
-use Rattle.std.proofs.Common.{◌≡◌, ◌≤◌, ◌<◌, ℕ, ◌+◌, Some, List, refl, sym, ap, ◌∙◌, ⊎_elim, subst, arith}
+use Rattle.std.proofs.Common.{◌≡◌, ◌≤◌, ◌<◌, ℕ, ◌+◌, Option, Some, None, List}
+use Rattle.std.proofs.Common.{refl, sym, ap, ◌∙◌, ⊎_elim, subst, arith}
 use Rattle.gb_base.specs.declared.peers.Link.{Link}
+use Rattle.gb_base.specs.declared.steps.SequenceStep.{SequenceStep}
 use Rattle.gb_formats.specs.UartDevice.{most_credits}
 use Rattle.gb_invariants.proofs.Lists.{in-pushed}
 use Rattle.gb_laws.proofs.Awaited.{awaited-rest}
@@ -44,16 +46,16 @@ kept-from m l h x (was y) = was (record {
 kept-from m l h x (new later most) =
     new (subst (λ n. m.before.bus.made < n) (sym x.same.connection) later) (x.credits ∙ most)
 
-credits-from : (m : Moment) (made : ℕ) (h g : Host) → LinksFrom h g → CreditsAt m made h
-    → CreditsAt m made g
+credits-from : {w : Option (ℕ × SequenceStep)} (m : Moment) (made : ℕ) (h g : Host)
+    → LinksFrom w h g → CreditsAt m made h → CreditsAt m made g
 credits-from m made h g from f = record {
-  links = λ l i. let x = from l i in kept-from m l h x (f.links x.link x.live);
+  links = λ l i. let x = (from l i).from in kept-from m l h x (f.links x.link x.live);
   made = f.made;
 }
 
 pub credits-start : (m : Moment) → CreditsAt m m.before.bus.made m.before.host
 credits-start m = record {
-  links = λ l i. was (from-links m.before.host m.before.host refl l i);
+  links = λ l i. was (from-links {w = None} m.before.host m.before.host refl l i).from;
   made = omega arith;
 }
 

@@ -27,7 +27,7 @@ use Rattle.gb_invariants.proofs.Selves.{put-self}
 use Rattle.gb_laws.proofs.LinkLists.{find-changed}
 use Rattle.gb_laws.proofs.PointParts.{is_silent}
 use Rattle.gb_machine.specs.Sending.{put}
-use Rattle.gb_laws.proofs.Serving.{Ends, HasPeer, ends-going, ends-response}
+use Rattle.gb_laws.proofs.Serving.{Ends, HasPeer, IsAsBefore, ends-going, ends-response}
 use Rattle.gb_laws.proofs.Delivered.{IsTaken, answered, delivered}
 use Rattle.gb_machine.proofs.Opened.{machine_opened}
 use Rattle.gb_machine.specs.Actions.{Action, by_state, given, nothing, on_bus, tell, ◌▸◌}
@@ -117,8 +117,9 @@ module _ (m : Moment) (law : Law m) where
   abbrev hand_of : Connection → Side → Item → Hand
   hand_of c at item = record { connection = c; side = at; item = item }
 
-  ends-responds : (c : Connection) (at : Side) (item : Item) (q : Incoming) (s : State) → s.host ≡ m.before.host
-      → request_in item s.bus ≡ Some q → IsTaken m s c at q → Ends m law (Some (hand_of c at item)) (serving at c q) s
+  ends-responds : (c : Connection) (at : Side) (item : Item) (q : Incoming) (s : State)
+      → IsAsBefore m s → request_in item s.bus ≡ Some q → IsTaken m s c at q
+      → Ends m law (Some (hand_of c at item)) (serving at c q) s
   unfolding machine_opened
   ends-responds c at item q s same made taken = λ told now. by (still told (law.basis _ now)) q.oneway refl told now
     where
@@ -147,8 +148,9 @@ module _ (m : Moment) (law : Law m) where
           taken (replied_to (response_at at c q s).answer refl)
           refl refl (peer-replied c.number (other_side at) (reply_item q (response_at at c q s).answer) c.peer s.bus peer) same refl)
 
-  ends-asked : (c : Connection) (at : Side) (item : Item) (q : Incoming) (s : State) → s.host ≡ m.before.host
-      → request_in item s.bus ≡ Some q → IsTaken m s c at q → Ends m law (Some (hand_of c at item)) (asked_at at c item q) s
+  ends-asked : (c : Connection) (at : Side) (item : Item) (q : Incoming) (s : State)
+      → IsAsBefore m s → request_in item s.bus ≡ Some q → IsTaken m s c at q
+      → Ends m law (Some (hand_of c at item)) (asked_at at c item q) s
   unfolding machine_opened
   ends-asked c at item q s same made taken = by at (is_held at c s) refl (ends-responds c at item q s same made taken)
     where
@@ -165,17 +167,21 @@ module _ (m : Moment) (law : Law m) where
 
   -- ---- responses
 
-  ends-answered : (h : Hand) (n result : ℕ) (payload : List ℕ) (s : State) → Says h n result payload → Answers h n s.bus
+  ends-answered : (h : Hand) (n result : ℕ) (payload : List ℕ) (s : State)
+      → s.bus.requests ≡ m.before.bus.requests → Says h n result payload → Answers h n s.bus
       → Ends m law (Some h) (ends_answered h.side h.connection n result payload) s
   unfolding machine_opened
-  ends-answered h n result payload s says which = λ told now.
+  ends-answered h n result payload s made says which = λ told now.
       then-ends (Some h) (on_bus (ended n (delivery.answered result payload)) ▸ tell (entry.Ended n (delivery.answered result payload) (reading_for h.side h.connection result payload (request_of n s.bus))))
       (follows n (delivery.answered result payload)) s
       (λ told now. law.kept _ (answers h n result payload refl says which) now)
       (ends-going m law None (follows n (delivery.answered result payload)) _
       (goes-notices m (acting m law) (HostEvent.Ended n (delivery.answered result payload)) _
-      (λ r p e. over-ended n (delivery.answered result payload) s.bus
-      (law.basis _ now).bus.outcomes (answers-open h n s.bus which)) tt)) told now
+      (λ r p e. (
+        over-ended n (delivery.answered result payload) s.bus (law.basis _ now).bus.outcomes
+            (answers-open h n s.bus which),
+        made,
+      )) tt)) told now
 
   ends-forgotten : (h : Hand) (n : ℕ) (e : Entry) (s : State) → is_silent e ≡ true → Forgets h n s.bus
       → Ends m law (Some h) (arriving.forgets n e) s
@@ -186,41 +192,47 @@ module _ (m : Moment) (law : Law m) where
         (law.kept _ (tells e quiet) (law.kept _ (forgets h n refl which) now)),
   )
 
-  ends-by_number : (c : Connection) (at : Side) (n result : ℕ) (payload : List ℕ) (s : State) → c.clean ≡ true
+  ends-by_number : (c : Connection) (at : Side) (n result : ℕ) (payload : List ℕ) (s : State)
+      → s.bus.requests ≡ m.before.bus.requests → c.clean ≡ true
       → Ends m law (Some (hand_of c at (Reply n result payload))) (arriving.by_number at c n result payload) s
   unfolding machine_opened
-  ends-by_number c at n result payload s clean = by (is_open n s.bus) refl
+  ends-by_number c at n result payload s made clean = by (is_open n s.bus) refl
     where
       by : (t : Bool) → is_open n s.bus ≡ t → Ends m law (Some (hand_of c at (Reply n result payload)))
           (cond t (ends_answered at c n result payload) (arriving.forgets n (entry.Late n))) s
-      by true e = ends-answered (hand_of c at (Reply n result payload)) n result payload s (numbered refl) (by_number result payload refl clean e)
+      by true e = ends-answered (hand_of c at (Reply n result payload)) n result payload s made
+          (numbered refl) (by_number result payload refl clean e)
       by false e = ends-forgotten (hand_of c at (Reply n result payload)) n (entry.Late n) s refl (by_number result payload refl clean)
 
-  ends-by_label : (c : Connection) (at : Side) (item : Item) (label result : ℕ) (payload : List ℕ) (s : State) → c.clean ≡ false
+  ends-by_label : (c : Connection) (at : Side) (item : Item) (label result : ℕ)
+      (payload : List ℕ) (s : State) → s.bus.requests ≡ m.before.bus.requests → c.clean ≡ false
       → Ends m law (Some (hand_of c at item)) (arriving.by_label at c label result payload) s
   unfolding machine_opened
-  ends-by_label c at item label result payload s dirty =
+  ends-by_label c at item label result payload s made dirty =
       by (open_with c.number at label s.bus) refl (given_up_with c.number at label s.bus) refl
     where
       by : (o : Option ℕ) → open_with c.number at label s.bus ≡ o → (g : Option ℕ) → given_up_with c.number at label s.bus ≡ g
           → Ends m law (Some (hand_of c at item)) (arriving.answers_by o g at c label result payload) s
-      by (Some n) e g f = ends-answered (hand_of c at item) n result payload s (unclean dirty) (by_label label dirty e)
+      by (Some n) e g f = ends-answered (hand_of c at item) n result payload s made (unclean dirty)
+          (by_label label dirty e)
       by None e (Some n) f = ends-forgotten (hand_of c at item) n (entry.LateLabel label) s refl (by_label label dirty f)
       by None e None f = ends-told (hand_of c at item) (entry.UnknownLabel label) s refl
 
   ends-reply : (c : Connection) (at : Side) (n result : ℕ) (payload : List ℕ) (s : State)
+      → s.bus.requests ≡ m.before.bus.requests
       → Ends m law (Some (hand_of c at (Reply n result payload))) (reply_taken at c n result payload) s
   unfolding machine_opened
-  ends-reply c at n result payload s = by c.clean refl
+  ends-reply c at n result payload s made = by c.clean refl
     where
       unsaid : (o : Option Request) → c.clean ≡ false
           → Ends m law (Some (hand_of c at (Reply n result payload))) (given o (λ r. arriving.by_label at c r.label result payload)) s
       unsaid None dirty = ends-untold (hand_of c at (Reply n result payload)) s
-      unsaid (Some r) dirty = ends-by_label c at (Reply n result payload) r.label result payload s dirty
+      unsaid (Some r) dirty =
+          ends-by_label c at (Reply n result payload) r.label result payload s made dirty
 
       by : (t : Bool) → c.clean ≡ t → Ends m law (Some (hand_of c at (Reply n result payload)))
           (cond t (arriving.by_number at c n result payload) (by_state (λ u. given (request_of n u.bus) (λ r. arriving.by_label at c r.label result payload)))) s
-      by true e = ends-by_number c at n result payload s e
+      by true e = ends-by_number c at n result payload s made e
       by false e = unsaid (request_of n s.bus) e
 
   -- ---- items
@@ -239,7 +251,7 @@ module _ (m : Moment) (law : Law m) where
           still.live (inl refl) still.self.number in
           absurd (not-both (is_numbered h.item) (a.numbered (still.self.clean ∙ e)) raw)
 
-  ends-raw : (c : Connection) (at : Side) (bytes : List ℕ) (s : State) → s.host ≡ m.before.host
+  ends-raw : (c : Connection) (at : Side) (bytes : List ℕ) (s : State) → IsAsBefore m s
       → ((q : Incoming) → request_in (Raw bytes) s.bus ≡ Some q → IsTaken m s c at q) → c.clean ≡ false
       → Ends m law (Some (hand_of c at (Raw bytes))) (raw_taken at c (Raw bytes) (raw_message bytes)) s
   unfolding machine_opened
@@ -247,7 +259,7 @@ module _ (m : Moment) (law : Law m) where
     where
       message : (x : Message) → raw_message bytes ≡ Ok x → (t : Bool) → is_request x ≡ t
           → Ends m law (Some (hand_of c at (Raw bytes))) (cond t (asked_at at c (Raw bytes) (incoming_raw x)) (arriving.by_label at c x.id x.result x.payload)) s
-      message x e false f = ends-by_label c at (Raw bytes) x.id x.result x.payload s dirty
+      message x e false f = ends-by_label c at (Raw bytes) x.id x.result x.payload s same.1 dirty
       message x e true f =
           let made : request_in (Raw bytes) s.bus ≡ Some (incoming_raw x) =
           ap raw_request e ∙ ap (λ t. cond t (Some (incoming_raw x)) None) f in
@@ -257,7 +269,7 @@ module _ (m : Moment) (law : Law m) where
       by (Err fault) e = ends-told (hand_of c at (Raw bytes)) (entry.BadRaw fault) s refl
       by (Ok x) e = message x e (is_request x) refl
 
-  ends-arrives : (c : Connection) (at : Side) (item : Item) (s : State) → s.host ≡ m.before.host
+  ends-arrives : (c : Connection) (at : Side) (item : Item) (s : State) → IsAsBefore m s
       → ((q : Incoming) → request_in item s.bus ≡ Some q → IsTaken m s c at q)
       → Ends m law (Some (hand_of c at item)) (arrives at c item) s
   unfolding machine_opened
@@ -269,11 +281,12 @@ module _ (m : Moment) (law : Law m) where
       by (Some r) e =
           let made : request_in (Ask n) s.bus ≡ Some (incoming n r) = ap (option_map (incoming n)) e in
           ends-asked c at (Ask n) (incoming n r) s same made (taken (incoming n r) made)
-  ends-arrives c at (Reply n result payload) s same taken = ends-reply c at n result payload s
+  ends-arrives c at (Reply n result payload) s same taken =
+      ends-reply c at n result payload s same.1
   ends-arrives c at (Raw bytes) s same taken = λ told now.
       ends-raw c at bytes s same taken (unclean-hand (hand_of c at (Raw bytes)) told s now refl) told now
   ends-arrives c at (RawReply label kind result payload) s same taken = λ told now.
-      ends-by_label c at (RawReply label kind result payload) label result payload s
+      ends-by_label c at (RawReply label kind result payload) label result payload s same.1
       (unclean-hand (hand_of c at (RawReply label kind result payload)) told s now refl) told now
 
   quiet-dropped : (item : Item) → is_silent (dropped item) ≡ true
@@ -282,7 +295,7 @@ module _ (m : Moment) (law : Law m) where
   quiet-dropped (Raw bytes) = refl
   quiet-dropped (RawReply label kind result payload) = refl
 
-  ends-handles : (c : Connection) (at : Side) (item : Item) (s : State) → s.host ≡ m.before.host
+  ends-handles : (c : Connection) (at : Side) (item : Item) (s : State) → IsAsBefore m s
       → ((q : Incoming) → request_in item s.bus ≡ Some q → IsTaken m s c at q)
       → Ends m law (Some (hand_of c at item)) (handles at c item) s
   unfolding machine_opened
@@ -304,7 +317,8 @@ module _ (m : Moment) (law : Law m) where
       → Ends m law (Some (hand_of p.connection p.side item)) (handles p.side p.connection item)
       (record m.before { bus = popped p.connection.number p.side m.before.bus })
   ends-taken at p item is e f =
-      ends-handles p.connection p.side item (record m.before { bus = popped p.connection.number p.side m.before.bus }) refl
+      ends-handles p.connection p.side item
+      (record m.before { bus = popped p.connection.number p.side m.before.bus }) (refl, refl)
       (λ q made. delivered at p item q is e f refl
       (sym (request-popped item p.connection.number p.side m.before.bus) ∙ made) refl)
 
@@ -334,7 +348,7 @@ module _ (m : Moment) (law : Law m) where
   ends-answers i c place is = by (module_place i c m.before) refl
     where
       serves : (p : Place) (item : Item) (s : State) → p.side ≡ side.Far
-          → p.connection.peer ≡ end.Module i c → s.host ≡ m.before.host
+          → p.connection.peer ≡ end.Module i c → IsAsBefore m s
           → (o : Option Incoming) → request_in item s.bus ≡ o
           → Ends m law (Some (hand_of p.connection p.side item)) (given o (serving p.side p.connection)) s
       serves p item s far peer same None e = ends-untold (hand_of p.connection p.side item) s
@@ -342,7 +356,7 @@ module _ (m : Moment) (law : Law m) where
           ends-responds p.connection p.side item q s same e (subst (λ t. IsTaken m s p.connection t q) (sym far) (answered i c q peer))
 
       held : (p : Place) (item : Item) (s : State) → p.side ≡ side.Far
-          → p.connection.peer ≡ end.Module i c → s.host ≡ m.before.host → (t : Bool)
+          → p.connection.peer ≡ end.Module i c → IsAsBefore m s → (t : Bool)
           → Ends m law (Some (hand_of p.connection p.side item))
           (cond t (given (request_in item s.bus) (serving p.side p.connection)) (tell (dropped item))) s
       held p item s far peer same true = serves p item s far peer same (request_in item s.bus) refl
@@ -356,7 +370,8 @@ module _ (m : Moment) (law : Law m) where
           let named = place-is (end.Module i c) m.before.bus.connections p e in
           let far = module-far i c p.side p.connection named.is in
           let peer = sym (ap (λ t. end_of t p.connection) far) ∙ named.is in
-          let r = held p h.item after far peer refl (arriving.takes p.side p.connection after) (told ++ [])
+          let r = held p h.item after far peer (refl, refl)
+          (arriving.takes p.side p.connection after) (told ++ [])
           (law.kept _ (takes_held i c place p h refl refl is e f) now) in (
             r.0,
             subst (λ es. At m (acting m law) None [] r.0 es (serves_held p h.item after).state)

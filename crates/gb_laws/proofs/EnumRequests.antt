@@ -1,7 +1,7 @@
 -- Which requests are those of an enumeration, by the step that asks them.
 use Rattle.std.proofs.Common.{◌≡◌, ◌≢◌, ◌≤◌, ℕ, ◌+◌, true, false, List, [], ◌∷◌, ◌++◌, refl, sym, ap, ◌∙◌, subst, arith}
 use Rattle.std.proofs.lemmas.Bool.Decides.{nat_tests}
-use Rattle.std.specs.Prelude.{Result, Ok, Err, ◌==◌}
+use Rattle.std.specs.Prelude.{Result, Ok, Err, ◌==◌, ◌&&◌}
 use Rattle.byteorder.specs.Endian.{little_number}
 use Rattle.byteorder.specs.Numbers.{little_number-reads_back}
 use Rattle.gb_base.specs.declared.steps.SequenceStep.{SequenceStep}
@@ -21,6 +21,9 @@ use Rattle.gb_machine.specs.Turns.{Asking}
 -- the CPort of a CONN_CREATE reads back
 cport-back : (c : ℕ) → c ≤ 4095 → little_number 2 (le16 c ++ 0 ∷ 0 ∷ []) ≡ c
 cport-back c low = little_number-reads_back 2 c (0 ∷ 0 ∷ []) (omega (arith, low))
+
+same-plus : (n k : ℕ) → n ≡ k → (n + 0 == k) ≡ true
+same-plus n k e = grind (arith, nat_tests, e)
 
 -- what a step asks is a request of the enumeration of its interface alone
 of-step : (i : ℕ) (step : SequenceStep) (t : Target)
@@ -57,18 +60,37 @@ formed-enumerates i q f on h =
     f.kind (subst (λ p. enumerates i (read_svc_ask q.kind p) ≡ true) f.payload h)) in
     (r.0, sym f.intf ∙ r.1)
 
--- The start of an enumeration is a request of it.
-pub start-enumerates : (i : ℕ) (q : Asking) → IsFormed q
-    → q.purpose.step ≡ steps.EnableVsys → q.purpose.intf ≡ i
+-- what a step that asks for power asks is a request of the enumeration of its interface
+step-own : (i : ℕ) (step : SequenceStep) (t : Target) → is_power_step step ≡ true
+    → (step ≡ steps.CreateControl → t.cport ≡ 0) → t.intf ≡ i
+    → enumerates i (read_svc_ask (kind_of step) (payload_of step t)) ≡ true
+step-own i steps.EnableVsys t s c at = same-plus t.intf i at
+step-own i steps.EnableRefclk t s c at = same-plus t.intf i at
+step-own i steps.EnableUnipro t s c at = same-plus t.intf i at
+step-own i steps.Activate t s c at = same-plus t.intf i at
+step-own i steps.GiveDevice t s c at = same-plus t.intf i at
+step-own i steps.CreateRoute t s c at = same-plus t.intf i at
+step-own i steps.CreateControl t s c at =
+    let none = c refl in
+    ap (λ u. u && little_number 2 (le16 t.cport ++ 0 ∷ 0 ∷ []) == 0) (same-plus t.intf i at)
+    ∙ ap (λ n. n == 0) (cport-back t.cport (omega (arith, none)) ∙ none)
+step-own i steps.CreateConnection t s c at = absurd cc
+step-own i steps.DestroyConnection t s c at = absurd cc
+step-own i steps.AskVersion t s c at = absurd cc
+step-own i steps.AskSize t s c at = absurd cc
+step-own i steps.AskManifest t s c at = absurd cc
+step-own i steps.TellConnected t s c at = absurd cc
+step-own i steps.TellDisconnecting t s c at = absurd cc
+step-own i steps.TellDisconnected t s c at = absurd cc
+
+-- A formed request of a step that asks for power is one of the enumeration of its interface.
+pub power-enumerates : (i : ℕ) (q : Asking) → IsFormed q → is_power_step q.purpose.step ≡ true
+    → (q.purpose.step ≡ steps.CreateControl → q.purpose.cport ≡ 0) → q.purpose.intf ≡ i
     → enumerates i (read_svc_ask q.kind q.payload) ≡ true
-start-enumerates i q f start at =
-    subst (λ k. enumerates i (read_svc_ask k q.payload) ≡ true) (sym (f.kind ∙ ap kind_of start))
-    (subst (λ p. enumerates i (read_svc_ask 0x21 p) ≡ true)
-    (sym (f.payload ∙ ap (λ s. payload_of s f.target) start))
-    (same (f.target.intf) i (f.intf ∙ at)))
-  where
-    same : (n k : ℕ) → n ≡ k → (n + 0 == k) ≡ true
-    same n k e = grind (arith, nat_tests, e)
+power-enumerates i q f s c at =
+    subst (λ k. enumerates i (read_svc_ask k q.payload) ≡ true) (sym f.kind)
+    (subst (λ p. enumerates i (read_svc_ask (kind_of q.purpose.step) p) ≡ true) (sym f.payload)
+    (step-own i q.purpose.step f.target s (λ e. f.cport ∙ c e) (f.intf ∙ at)))
 
 -- A request of an enumeration has a type that lines can't send.
 pub enumeration-reserved : (i kind : ℕ) (payload : List ℕ)

@@ -1,14 +1,47 @@
 -- The requests of an enumeration that wait toward the supervisory controller, and the removals that
 -- wait toward the application processor.
-use Rattle.std.proofs.Common.{◌≡◌, ◌⊎◌, ℕ, Bool, true, false, cond, Option, Some, None, List, [], ◌∷◌, ◌++◌, refl, sym, ap, ◌∙◌, inl, inr, append_assoc, append-nil}
+use Rattle.std.proofs.Common.{
+  ◌≡◌,
+  ◌⊎◌,
+  ℕ,
+  Bool,
+  true,
+  false,
+  cond,
+  Option,
+  Some,
+  None,
+  List,
+  [],
+  ◌∷◌,
+  map,
+  ◌++◌,
+  refl,
+  sym,
+  ap,
+  ◌∙◌,
+  inl,
+  inr,
+  append_assoc,
+  append-nil,
+}
 use Rattle.std.specs.Prelude.{◌||◌}
 use Rattle.gb_base.specs.declared.end.Side.TheVariants as side
 use Rattle.gb_laws.proofs.Marks.{AreAsked}
 use Rattle.gb_laws.proofs.Owning.{KeepsRequests}
 use Rattle.gb_machine.specs.Bus.{Ask, Bus, Item, Raw, RawReply, Reply, Request, request_of}
+use Rattle.gb_machine.specs.LawsSvc.{IsStart}
 use Rattle.gb_machine.specs.Lists.{behind_first}
 use Rattle.gb_machine.specs.Members.{Each, IsIn}
-use Rattle.gb_machine.specs.SvcQueues.{is_enumeration_request, is_removal, is_reply_to, svc_items}
+use Rattle.std.specs.List.{filter}
+use Rattle.gb_machine.specs.SvcQueues.{
+  is_enumeration_request,
+  is_removal,
+  is_reply_to,
+  request_onto,
+  requests_among,
+  svc_items,
+}
 
 -- ---- requests of an enumeration
 
@@ -126,6 +159,43 @@ enum-waits i b (x ∷ xs) e j = by x refl j (enum-waits i b xs e)
     by (Reply n result payload) is k rec = later rec k
     by (Raw bytes) is k rec = later rec k
     by (RawReply label kind result payload) is k rec = later rec k
+
+-- the requests are those that wait, without their numbers
+pub enums-requests : (i : ℕ) (b : Bus) (xs : List Item)
+    → filter (is_enumeration_request i) (requests_among b xs)
+    ≡ map (λ (e : ℕ × Request). e.1) (enums_of i b xs)
+enums-requests i b [] = refl
+enums-requests i b (x ∷ xs) = by x (enums-requests i b xs)
+  where
+    Same : Type 0
+    Same = filter (is_enumeration_request i) (requests_among b xs)
+        ≡ map (λ (e : ℕ × Request). e.1) (enums_of i b xs)
+
+    asked : (n : ℕ) (o : Option Request) → Same
+        → filter (is_enumeration_request i) (request_onto o (requests_among b xs))
+        ≡ map (λ (e : ℕ × Request). e.1) (enum_of i n o ++ enums_of i b xs)
+    asked n None h = h
+    asked n (Some r) h = either (is_enumeration_request i r)
+      where
+        either : (t : Bool)
+            → cond t (r ∷ filter (is_enumeration_request i) (requests_among b xs))
+            (filter (is_enumeration_request i) (requests_among b xs))
+            ≡ map (λ (e : ℕ × Request). e.1) (cond t ((n, r) ∷ []) [] ++ enums_of i b xs)
+        either true = ap (λ rs. r ∷ rs) h
+        either false = h
+
+    by : (y : Item) → Same
+        → filter (is_enumeration_request i) (requests_among b (y ∷ xs))
+        ≡ map (λ (e : ℕ × Request). e.1) (item_enum i b y ++ enums_of i b xs)
+    by (Ask n) h = asked n (request_of n b) h
+    by (Reply n result payload) h = h
+    by (Raw bytes) h = h
+    by (RawReply label kind result payload) h = h
+
+pub starts-requests : (es : List (ℕ × Request)) → AreStarts es
+    → Each IsStart (map (λ (e : ℕ × Request). e.1) es)
+starts-requests [] h = tt
+starts-requests (e ∷ es) h = (h.0, starts-requests es h.1)
 
 -- ---- removals
 

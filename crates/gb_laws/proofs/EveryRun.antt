@@ -2,19 +2,27 @@
 use Rattle.gb_laws.proofs.Absent.{between-at_moments, unconnected-by_moments}
 use Rattle.gb_laws.proofs.AllRuns.{at-all, of-all, of-state}
 use Rattle.gb_laws.proofs.Answering.{answered-at_moments}
+use Rattle.gb_laws.proofs.AwaitsOwn.{awaits-own_by_moments}
 use Rattle.gb_laws.proofs.Causes.{causes-at_moments}
 use Rattle.gb_laws.proofs.Ended.{ends-told_by_moments}
 use Rattle.gb_laws.proofs.Endpoints.{endpoints-by_moments}
+use Rattle.gb_laws.proofs.EnumRuns.{restarts-by_moments, served-by_moments}
 use Rattle.gb_laws.proofs.Foreign.{own-items, takes-at_moments}
 use Rattle.gb_laws.proofs.Happened.{ends-seen, items-seen, told-seen}
+use Rattle.gb_laws.proofs.QuietBefore.{quiet-before_moments}
 use Rattle.gb_laws.proofs.QuietRuns.{finds-at_moments, leaves-by_moments}
 use Rattle.gb_laws.proofs.Replies.{replies-by_moments}
 use Rattle.gb_laws.proofs.Replying.{ends-once_by_moments}
 use Rattle.gb_laws.proofs.Routed.{routed-by_moments}
 use Rattle.gb_laws.proofs.Single.{labels-by_moments, names-by_moments, one-item_by_moments}
+use Rattle.gb_laws.proofs.RememberedLive.{remembered-while_live}
 use Rattle.gb_laws.proofs.Remembering.{none-forgotten_at, remembered-for_one}
+use Rattle.gb_laws.proofs.StaleRuns.{stale-low_by_moments}
 use Rattle.gb_laws.proofs.ToldRuns.{absent-open_by_moments, absent-seen}
+use Rattle.gb_laws.proofs.WiredRemembered.{wired-remembered}
 use Rattle.gb_laws.specs.OwnSide.{AbsentHasNoOpenOfAp}
+use Rattle.gb_laws.specs.OwnWaits.{AwaitsOwnRequest, OnlyRestarts, ServedLeavesNone}
+use Rattle.gb_laws.specs.OwnWires.{WiredIsRemembered}
 use Rattle.gb_laws.proofs.OpenRuns.{open-live_by_moments}
 use Rattle.gb_machine.specs.Runs.{HoldsAtEachMoment, HoldsThroughout}
 use Rattle.gb_machine.specs.LawsBus.{
@@ -48,13 +56,18 @@ use Rattle.gb_machine.specs.LawsHotPlug.{
   NoneForgotten,
   OpenIsLive,
   RememberedForOne,
+  RememberedWhileLive,
   TakesFromItsConnection,
 }
 use Rattle.gb_machine.specs.LawsSvc.{
   AreRouted,
   FindsUnwired,
+  IsQuiet,
   LeavesNothing,
+  QuietBeforeRemoval,
   RemovalLeavesNothingWired,
+  StaleIsLow,
+  StaleRequestsMeetLowLevel,
   WiredMeansRouted,
 }
 
@@ -123,6 +136,14 @@ none-forgotten = at-all NoneForgotten none-forgotten_at
 pub remembered-for : HoldsThroughout RememberedForOne
 remembered-for = of-all RememberedForOne (of-state _) remembered-for_one
 
+-- It is for a connection that is live then.
+pub remembered-live : HoldsAtEachMoment RememberedWhileLive
+remembered-live = at-all RememberedWhileLive remembered-while_live
+
+-- What is wired is remembered to have been.
+pub remembered-wired : HoldsThroughout WiredIsRemembered
+remembered-wired = of-all WiredIsRemembered (of-state _) wired-remembered
+
 -- What is wired is routed.
 pub wired-routed : WiredMeansRouted
 wired-routed = of-all AreRouted (of-state _) routed-by_moments
@@ -136,3 +157,26 @@ nothing-wired = (
   }) leaves-by_moments,
   at-all FindsUnwired finds-at_moments,
 )
+
+-- While a removal waits, only starts wait, and no answer that is waited for comes before it.
+pub quiet-removal : QuietBeforeRemoval
+quiet-removal = of-all IsQuiet (record {
+  there = λ told s h. record { low = h.low; starts = h.starts; unanswered = h.unanswered };
+  back = λ told s h. record { low = h.low; starts = h.starts; unanswered = h.unanswered };
+}) quiet-before_moments
+
+-- An enumeration waits for a request of its own.
+pub own-request : HoldsThroughout AwaitsOwnRequest
+own-request = of-all AwaitsOwnRequest (of-state _) awaits-own_by_moments
+
+-- Requests for connections that are gone find their interface without a route.
+pub stale-unrouted : StaleRequestsMeetLowLevel
+stale-unrouted = of-all StaleIsLow (of-state _) stale-low_by_moments
+
+-- None of its requests waits once the one that it waits for was served.
+pub served-leaves : HoldsThroughout ServedLeavesNone
+served-leaves = of-all ServedLeavesNone (of-state _) served-by_moments
+
+-- Each of its requests that waits, but the first, is a start.
+pub only-restarts : HoldsThroughout OnlyRestarts
+only-restarts = of-all OnlyRestarts (of-state _) restarts-by_moments

@@ -219,10 +219,11 @@ frame-kept m absent other a (acts_left k rest free untouched is) basis links h =
     refl refl refl h
   where
     two : 2 ≤ k
-    two = (subst (ArePending a.state.host) is links.pending).0
+    two = (subst (ArePending a.state.host) is links.pending).0.0
 
     apart : (n : ℕ) → (n == 1) ≡ true → (n == k) ≡ false
-    apart n e = let low = (subst (ArePending a.state.host) is links.pending).0 in grind (arith, nat_tests)
+    apart n e = let low = (subst (ArePending a.state.host) is links.pending).0.0 in
+        grind (arith, nat_tests)
 frame-kept m absent other a (acts_opened w q rest free is) basis links h =
     frame-host m a (changed m a (acts_opened w q rest free is))
     (λ i. ap (λ o. marks_of i a.state.bus (items_in side.Ap o))

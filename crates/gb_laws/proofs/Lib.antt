@@ -5,6 +5,7 @@ pub mod Answering
 pub mod Asked
 pub mod AskedWaits
 pub mod Awaited
+pub mod AwaitsOwn
 pub mod Basics
 pub mod Causes
 pub mod ClosingTurns
@@ -21,6 +22,7 @@ pub mod Delivering
 pub mod Ended
 pub mod Endpoints
 pub mod EnumRequests
+pub mod EnumRuns
 pub mod Enums
 pub mod EveryRun
 pub mod Foreign
@@ -29,6 +31,7 @@ pub mod Going
 pub mod Happened
 pub mod Knowing
 pub mod Levels
+pub mod Leaving
 pub mod LinkActs
 pub mod LinkBuses
 pub mod LinkChanges
@@ -36,7 +39,9 @@ pub mod LinkClosing
 pub mod LinkDone
 pub mod LinkHosts
 pub mod LinkLaw
+pub mod LinkLeft
 pub mod LinkLists
+pub mod LinkLives
 pub mod LinkRuns
 pub mod LinkSources
 pub mod LinkSteps
@@ -61,6 +66,9 @@ pub mod Owned
 pub mod Owning
 pub mod Places
 pub mod Plugs
+pub mod Pairs
+pub mod PairsAsked
+pub mod PairsKept
 pub mod PointParts
 pub mod Points
 pub mod Powering
@@ -68,6 +76,7 @@ pub mod Pulling
 pub mod Quiet
 pub mod QuietAsking
 pub mod QuietAwaited
+pub mod QuietBefore
 pub mod QuietBuses
 pub mod QuietKept
 pub mod QuietLaw
@@ -79,6 +88,7 @@ pub mod QuietTaken
 pub mod QuietTurns
 pub mod Reached
 pub mod Reading
+pub mod RememberedLive
 pub mod Remembering
 pub mod Removing
 pub mod Replies
@@ -95,10 +105,19 @@ pub mod Silent
 pub mod Since
 pub mod Single
 pub mod Speaking
+pub mod Stale
+pub mod StaleBase
+pub mod StaleKept
+pub mod StaleLaw
+pub mod StalePower
+pub mod StaleRuns
+pub mod StaleTurns
 pub mod Stepping
 pub mod Steps
 pub mod SvcItems
 pub mod SvcKinds
+pub mod SvcMoves
+pub mod SvcOrder
 pub mod Taking
 pub mod Telling
 pub mod There
@@ -106,5 +125,6 @@ pub mod Ticking
 pub mod ToldLinks
 pub mod ToldRuns
 pub mod Turned
+pub mod WiredRemembered
 pub mod WiredRuns
 pub mod WiredWell

@@ -130,7 +130,7 @@ linked-asked q n rest s f =
 
 -- ---- a request can't be made
 
-none-leaves : (k : ℕ) (es : List Entry) → IsIn (Act.Leave k) (map Act.Tell es) → ⊥
+pub none-leaves : (k : ℕ) (es : List Entry) → IsIn (Act.Leave k) (map Act.Tell es) → ⊥
 none-leaves k [] i = i
 none-leaves k (e ∷ es) (inl f) = absurd cc
 none-leaves k (e ∷ es) (inr i) = none-leaves k es i

@@ -1,5 +1,6 @@
 -- The facts of the application processor's connections go over the steps of its sequences.
-use Rattle.std.proofs.Common.{◌≡◌, ◌≢◌, ℕ, Bool, true, false, cond, Option, Some, None, List, [], ◌∷◌, length, map, refl, sym, ap, ◌∙◌, inl, inr, subst, arith}
+use Rattle.std.proofs.Common.{◌≡◌, ◌≢◌, ℕ, Bool, true, false, cond, Option, Some, None, List, []}
+use Rattle.std.proofs.Common.{◌∷◌, length, map, refl, sym, ap, ◌∙◌, inr, subst, arith}
 use Rattle.std.specs.Prelude.{Result, Ok, Err, ◌==◌, ◌≤◌, option_map}
 use Rattle.gb_base.specs.declared.steps.Purpose.{Purpose}
 use Rattle.gb_base.specs.declared.steps.SequenceStep.{SequenceStep}
@@ -14,20 +15,26 @@ use Rattle.gb_base.specs.declared.entry.Entry.{Entry}
 use Rattle.gb_formats.specs.Manifest.{Manifest, check_answer}
 use Rattle.gb_formats.specs.ManifestRules.{Refused}
 use Rattle.gb_invariants.proofs.Awaiting.{not-both, same-some}
-use Rattle.gb_invariants.proofs.Lists.{found-in, in-without}
+use Rattle.gb_invariants.proofs.Lists.{found-in}
 use Rattle.gb_formats.specs.ControlRecords.{read_control_reply}
 use Rattle.gb_base.specs.declared.entry.IntfStage.TheVariants as stage
-use Rattle.gb_laws.proofs.LinkHosts.{Onto, kept-same, onto-interface, onto-link, onto-then, host-interface, host-link, links-without, next-interface, next-to, none-without, same-link, state-link, then-same, without-in}
-use Rattle.gb_laws.proofs.LinkLists.{on-control, find-none, first_free-is, found-at, link-is, none-any}
+use Rattle.gb_laws.proofs.LinkHosts.{Onto, kept-same, onto-interface, onto-link, onto-then}
+use Rattle.gb_laws.proofs.LinkHosts.{host-interface, host-link, next-interface, next-to, same-link}
+use Rattle.gb_laws.proofs.LinkHosts.{state-link, then-same}
+use Rattle.gb_laws.proofs.LinkLeft.{fits-left}
+use Rattle.gb_laws.proofs.LinkLists.{on-control, first_free-is, link-is, none-any}
 use Rattle.gb_laws.proofs.Links.{IsDueBy, IsFormed, IsNext, ArePending, HostFits, IsAtStep, IsDue, IsFollowed, IsIdle, IsWaiting, SameLink, TurnFits, control, leaves, stays}
 use Rattle.gb_machine.specs.Arriving.{state_takes}
 use Rattle.gb_machine.specs.Bus.{Bus}
 use Rattle.gb_machine.specs.Failures.{interface_fails, link_fails, link_told, step_fails}
-use Rattle.gb_machine.specs.Host.{Host, control_of, free_cport, free_device, in_state, interface_of, is_link, link_at, staged, with_interface, with_link, without_link}
-use Rattle.gb_machine.specs.Lists.{without}
+use Rattle.gb_machine.specs.Host.{Host, control_of, free_cport, free_device, in_state, interface_of}
+use Rattle.gb_machine.specs.Host.{is_link, link_at, staged, with_interface, with_link}
 use Rattle.gb_machine.specs.Members.{IsIn}
 use Rattle.gb_machine.specs.SequenceSteps.{Target, at_step, is_enumeration, is_reply}
-use Rattle.gb_machine.specs.Sequences.{ap_in, asked_on, asking, begins_control, begins_device, enumerated, goes_on, size_in, link_left, link_turn, manifest_checked, manifest_told, opened, opened_told, size_known, step_answered, step_asked, step_done, target, way_of}
+use Rattle.gb_machine.specs.Sequences.{ap_in, asked_on, asking, begins_control, begins_device}
+use Rattle.gb_machine.specs.Sequences.{enumerated, goes_on, size_in, link_turn, manifest_checked}
+use Rattle.gb_machine.specs.Sequences.{manifest_told, opened, opened_told, size_known}
+use Rattle.gb_machine.specs.Sequences.{step_answered, step_asked, step_done, target, way_of}
 use Rattle.gb_machine.specs.Turns.{Act, Turn, failed_turn, telling}
 
 -- ---- turns
@@ -145,13 +152,15 @@ fits-failed b step p h fits due = by step (none-waits b step p h fits due)
 
 -- the request of a step is formed
 formed-asking : (b : Bus) (p : Purpose) (h : Host) (k : ℕ) (t : Target) → HostFits b h
-    → way_of p h ≡ Some k → t.intf ≡ p.intf → p.step ≢ steps.CreateConnection
+    → way_of p h ≡ Some k → t.intf ≡ p.intf → t.cport ≡ p.cport
+    → p.step ≢ steps.CreateConnection
     → IsFormed (asking k p t)
-formed-asking b p h k t fits way intf other = record {
+formed-asking b p h k t fits way intf cport other = record {
   target = t;
   kind = refl;
   payload = refl;
   intf = intf;
+  cport = cport;
   created = λ e. absurd (other e);
   on = λ e. same-some k 1 (sym way ∙ ap (λ c. cond c (control_of p.intf h) (Some 1)) e);
   control = λ e. at (link_at p.intf 0 h) refl
@@ -176,7 +185,8 @@ fits-asked b p h fits due other = by (way_of p h) refl
         (
           due,
           refl,
-          formed-asking b p h k (target (ap_in (link_at p.intf p.cport h)) p h) fits e refl other,
+          formed-asking b p h k (target (ap_in (link_at p.intf p.cport h)) p h) fits e refl refl
+              other,
           on-control p h k e,
         ),
         tt,
@@ -232,6 +242,7 @@ fits-control b (Some a) p h fits next free = let f = free_cport-is h a free in r
           kind = refl;
           payload = refl;
           intf = refl;
+          cport = refl;
           created = λ e. absurd cc;
           on = λ e. refl;
           control = λ e. absurd cc;
@@ -273,43 +284,6 @@ fits-opened_told b h (Some l) t r = fits-telling b h (link_told state.Open l) t 
 fits-link_turn : (b : Bus) (to : ConnState) (o : Option Link) (h g : Host) → HostFits b g → Onto h g → TurnFits b h (link_turn to o g)
 fits-link_turn b to None h g fits stay = fits-host b h g [] fits stay
 fits-link_turn b to (Some l) h g fits stay = fits-host b h g (link_told to l ∷ []) fits stay
-
--- ---- a connection is there no more
-
-left-host : (b : Bus) (p : Purpose) (h : Host) → HostFits b h → HostFits b (without_link p.intf p.cport h)
-left-host b p h fits = record {
-  links = links-without b (is_link p.intf p.cport) h.links fits.links;
-  interfaces = λ x i w e. let old = fits.interfaces x i w e in
-      (old.0, λ early. none-without x.intf (is_link p.intf p.cport) h.links (old.1 early));
-  differ = fits.differ;
-  present = λ l i. fits.present l (in-without (is_link p.intf p.cport) h.links l i).0;
-}
-
-fits-left : (b : Bus) (p : Purpose) (h : Host) (o : Option Link) → link_at p.intf p.cport h ≡ o → HostFits b h
-    → TurnFits b h (link_left o (without_link p.intf p.cport h))
-fits-left b p h None found fits = record {
-  host = left-host b p h fits;
-  pending = tt;
-  followed = λ l i. stays l (without-in (is_link p.intf p.cport) h.links l i (find-none (is_link p.intf p.cport) h.links l found i)) (same-link l);
-  kept = kept-same h.interfaces;
-}
-fits-left b p h (Some k) found fits = record {
-  host = left-host b p h fits;
-  pending = ((fits.links.numbered k (found-in (is_link p.intf p.cport) h.links k found).0).from_two, (tt, tt));
-  followed = λ l i. by l i (is_link p.intf p.cport l) refl;
-  kept = kept-same h.interfaces;
-}
-  where
-    by : (l : Link) → IsIn l h.links → (t : Bool) → is_link p.intf p.cport l ≡ t
-        → IsFollowed l (without (is_link p.intf p.cport) h.links) (Act.Leave k.connection ∷ Act.Tell (link_told state.Closed k) ∷ [])
-    by l i false e = stays l (without-in (is_link p.intf p.cport) h.links l i e) (same-link l)
-    by l i true e =
-        let at = link-is p.intf p.cport l e in
-        let again : find (is_link p.intf p.cport) h.links ≡ Some l =
-        subst (λ x. find (is_link x p.cport) h.links ≡ Some l) at.0
-        (subst (λ x. find (is_link l.intf x) h.links ≡ Some l) at.1
-        (found-at h.links l fits.links.rise i)) in
-        leaves (inl (ap (λ (x : Link). Act.Leave x.connection) (same-some l k (sym again ∙ found))))
 
 -- ---- the steps
 

@@ -42,9 +42,9 @@ ActsTell h (Act.Leave k ∷ rest) = ActsTell h rest
 
 -- ---- hosts and lists
 
-tells-back : (h g : Host) → LinksFrom h g → (e : Entry) → TellsLink g e → TellsLink h e
+tells-back : (h g : Host) → LinksFrom None h g → (e : Entry) → TellsLink g e → TellsLink h e
 tells-back h g from (entry.Connection k ap i c state) t =
-    let x = from t.0 t.1 in (
+    let x = (from t.0 t.1).from in (
       x.link,
       x.live,
       sym x.same.connection ∙ t.2,
@@ -53,7 +53,8 @@ tells-back h g from (entry.Connection k ap i c state) t =
     )
 tells-back h g from _ t = tt
 
-acts-back : (h g : Host) → LinksFrom h g → (acts : List Act) → ActsTell g acts → ActsTell h acts
+acts-back : (h g : Host) → LinksFrom None h g → (acts : List Act) → ActsTell g acts
+    → ActsTell h acts
 acts-back h g from [] t = tt
 acts-back h g from (Act.Tell e ∷ rest) t =
     (tells-back h g from e t.0, acts-back h g from rest t.1)

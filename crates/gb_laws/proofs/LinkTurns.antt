@@ -260,7 +260,10 @@ pending-left : (g : Host) (ls : List Link) (x : Act) → ((l : Link) → IsIn l 
 pending-left g [] x two none h = h
 pending-left g (l ∷ ls) x two none h = (
   (two l (inl refl), λ k j e. absurd (none l k (inl refl) j e)),
-  (two l (inl refl), (tt, pending-left g ls x (λ m i. two m (inr i)) (λ m k i j e. none m k (inr i) j e) h)),
+  (
+    (two l (inl refl), λ k j e. none l k (inl refl) j e),
+    (tt, pending-left g ls x (λ m i. two m (inr i)) (λ m k i j e. none m k (inr i) j e) h),
+  ),
 )
 
 left-in : (ls : List Link) (l : Link) → IsIn l ls → IsIn (Act.Leave l.connection) (links_left ls)
@@ -352,6 +355,7 @@ fits-connects b i c h fits met low = by (option_and_then (cport_of c) (interface
               kind = refl;
               payload = refl;
               intf = refl;
+              cport = refl;
               created = λ e. (other view e', low);
               on = λ e. refl;
               control = λ e. absurd cc;

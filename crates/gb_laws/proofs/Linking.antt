@@ -45,7 +45,7 @@ abbrev pub noticed_host : HostEvent → Host → Host
 noticed_host (HostEvent.Inserted i) h = with_new_interface i h
 noticed_host e h = h
 
-same-links : (e : HostEvent) (h : Host) → (noticed_host e h).links ≡ h.links
+pub same-links : (e : HostEvent) (h : Host) → (noticed_host e h).links ≡ h.links
 same-links (HostEvent.Inserted i) h = refl
 same-links (HostEvent.Removed i) h = refl
 same-links (HostEvent.Connect i c) h = refl

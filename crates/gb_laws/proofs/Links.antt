@@ -136,6 +136,7 @@ pub record IsFormed (q : Asking) : Type 0 where
   pub kind : q.kind ≡ kind_of q.purpose.step
   pub payload : q.payload ≡ payload_of q.purpose.step target
   pub intf : target.intf ≡ q.purpose.intf
+  pub cport : target.cport ≡ q.purpose.cport
   pub created : q.purpose.step ≡ steps.CreateConnection
       → (target.cport ≢ 0) × (target.cport ≤ 4095)
   pub on : asks_control q.purpose.step ≡ false → q.on ≡ 1
@@ -171,7 +172,7 @@ IsPending h (Act.Ask q) rest =
     IsDue q.purpose.step q.purpose h × (rest ≡ []) × IsFormed q × IsOnControl h q
 IsPending h (Act.Open w q) rest = IsFree w q h × (rest ≡ [])
 IsPending h (Act.Shut k) rest = (2 ≤ k) × ((l : Link) → IsIn l h.links → l.connection ≡ k → IsDeaf l)
-IsPending h (Act.Leave k) rest = 2 ≤ k
+IsPending h (Act.Leave k) rest = (2 ≤ k) × ((l : Link) → IsIn l h.links → l.connection ≢ k)
 IsPending h (Act.Tell e) rest = Unit {0}
 
 -- The acts that are pending.

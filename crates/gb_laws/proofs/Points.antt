@@ -173,12 +173,14 @@ abbrev pub awaited_by : (m : Moment) (a : Point) (c : Connection) (d : Draft)
 awaited_by m a c d (by_host q rest is draft none) = Some (q, next_number a.state.bus)
 awaited_by m a c d (by_far who) = a.asked
 
--- a sequence goes on with an answer only where its request isn't awaited any more
-abbrev pub IsOver : HostEvent → Bus → Type 0
-IsOver (HostEvent.Ended n how) b =
+-- Where the application processor takes notice of something, no request was made at the moment
+-- yet, unless it is the end of one that wasn't answered. A sequence goes on with an answer only
+-- where its request isn't awaited any more.
+abbrev pub IsOver : Moment → HostEvent → Bus → Type 0
+IsOver m (HostEvent.Ended n how) b =
     (result : ℕ) (payload : List ℕ) → how ≡ outcome.Answered result payload
-    → is_awaited n b ≡ false
-IsOver _ b = Unit {0}
+    → (is_awaited n b ≡ false) × (b.requests ≡ m.before.bus.requests)
+IsOver m _ b = b.requests ≡ m.before.bus.requests
 
 -- What a line asks is no request of a sequence and goes to the supervisory controller, or it is on
 -- the connection of a module, where something is taken.
@@ -283,7 +285,8 @@ pub data Change (m : Moment) (a : Point) : Type 0 where
   -- bytes are injected
   injects : (i c : ℕ) (p : Place) (bytes : List ℕ) → a.hand ≡ None → module_place i c a.state ≡ Some p → Change m a
   -- the application processor takes notice of something
-  turns : (e : HostEvent) → a.hand ≡ None → (a.wires ≡ Untouched) × IsOver e a.state.bus → a.pending ≡ [] → IsCaused m e a.state.host → Change m a
+  turns : (e : HostEvent) → a.hand ≡ None → (a.wires ≡ Untouched) × IsOver m e a.state.bus
+      → a.pending ≡ [] → IsCaused m e a.state.host → Change m a
   -- it does an act
   acts_told : (e : Entry) (rest : List Act) → a.pending ≡ Act.Tell e ∷ rest → is_quiet e ≡ true → Change m a
   acts_shut : (k : ℕ) (rest : List Act) → a.hand ≡ None → a.pending ≡ Act.Shut k ∷ rest → IsShutFor m k → Change m a

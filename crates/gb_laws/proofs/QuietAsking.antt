@@ -37,7 +37,7 @@ use Rattle.gb_invariants.proofs.Awaiting.{not-both, same-some, sent-request}
 use Rattle.gb_invariants.proofs.Lists.{each-append}
 use Rattle.gb_invariants.proofs.Outcomes.{both-true}
 use Rattle.gb_laws.proofs.AskedWaits.{AsksIn, asks_in, is_power_step}
-use Rattle.gb_laws.proofs.EnumRequests.{formed-enumerates, start-enumerates}
+use Rattle.gb_laws.proofs.EnumRequests.{formed-enumerates, power-enumerates}
 use Rattle.gb_laws.proofs.Enums.{AreStarts, enums}
 use Rattle.gb_laws.proofs.Linking.{LinkedAt}
 use Rattle.gb_laws.proofs.Links.{ArePending, IsDue, IsDueBy, IsFormed}
@@ -220,7 +220,7 @@ quiet-asked i a b q rest label basis links there pending free none state hand as
         → WaitsOn i (next_number a.state.bus) b
     plain on v at s is = ⊎_elim
         (λ start. absurd (not-both (enumerates i (read_svc_ask q.kind q.payload))
-        (start-enumerates i q formed start at) is))
+        (power-enumerates i q formed s (λ e. let other = sym start ∙ e in absurd cc) at) is))
         (λ calm. new on (subst (IsLast (next_number a.state.bus))
         (sym (enumerated on ∙ ap (λ t. enums i a.state.bus ++ (cond t
         ((next_number a.state.bus, requested (host_draft q a.state.now) label) ∷ []) [] ++ [])) is

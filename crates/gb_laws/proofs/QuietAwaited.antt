@@ -74,7 +74,7 @@ pub record IsWaitedBy (h : Host) (n : ℕ) (p : Purpose) : Type 0 where
   pub intf : interface.intf ≡ p.intf
   pub awaits : interface.awaits ≡ Some (n, p.step)
 
-waited-in : (n : ℕ) (xs : List Interface) (p : Purpose) → interface_waits n xs ≡ Some p
+pub waited-in : (n : ℕ) (xs : List Interface) (p : Purpose) → interface_waits n xs ≡ Some p
     → (x : Interface) × IsIn x xs × (x.intf ≡ p.intf) × (x.awaits ≡ Some (n, p.step))
 waited-in n [] p h = absurd cc
 waited-in n (x ∷ xs) p h =

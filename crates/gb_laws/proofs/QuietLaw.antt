@@ -69,8 +69,9 @@ use Rattle.gb_laws.proofs.QuietTaken.{view-held, view-taken}
 use Rattle.gb_laws.proofs.QuietPower.{quiet-ports}
 use Rattle.gb_laws.proofs.QuietTurns.{quiet-awaited, quiet-failed, quiet-turned, turn-asks}
 use Rattle.gb_laws.proofs.QuietAsking.{quiet-asked}
+use Rattle.gb_laws.proofs.SvcMoves.{injected-other}
 use Rattle.gb_laws.proofs.There.{There}
-use Rattle.gb_machine.specs.Bus.{Connection, Raw, end_of, has_number, other_side, queue}
+use Rattle.gb_machine.specs.Bus.{Connection, Raw, has_number, other_side, queue}
 use Rattle.gb_machine.specs.Delivery.{answered}
 use Rattle.gb_machine.specs.Holding.{held_on}
 use Rattle.gb_machine.specs.HostServing.{host_serves}
@@ -98,7 +99,7 @@ rests i a b basis bus ports hand waits asked pending h =
 no-hand : (a : Point) (h : Hand) → None ≡ Some h → a.hand ≡ Some h
 no-hand a h e = absurd cc
 
-fewer-asks : (a : Point) (x : Act) (rest : List Act) → a.pending ≡ x ∷ rest → (q : Asking)
+pub fewer-asks : (a : Point) (x : Act) (rest : List Act) → a.pending ≡ x ∷ rest → (q : Asking)
     → AsksIn q rest → AsksIn q a.pending
 fewer-asks a x rest is q j = subst (AsksIn q) (sym is) (asks-more q x rest j)
 
@@ -222,24 +223,11 @@ module _ (m : Moment) (i : ℕ) (before : Basis (resting m.told m.before))
       (view-same i a (changed m a (injects j c p bytes free named)) basis
       (queues-other a.state.bus (changed m a (injects j c p bytes free named)).state.bus
       p.connection.number (λ x. queued side.Ap (Raw bytes) (record x { clean = false })) refl
-      (λ n r made. made) (λ x. refl) other) refl (λ n u x e. u.hand x e) (λ n u. u.awaited))
-      (same-waits a.state.host) refl (λ q j. j) h
-    where
-      other : p.connection.number ≢ 1
-      other one =
-          let place = place-is (end.Module j c) a.state.bus.connections p named in
-          svc-at (sym (ap (λ s. end_of s p.connection)
-          (module-far j c p.side p.connection place.is))
-          ∙ place.is) (links.svc p.connection place.live one).peer
-        where
-          svc-at : p.connection.peer ≡ end.Module j c → p.connection.peer ≡ end.Svc → ⊥
-          svc-at e f = apart (sym e ∙ f)
-            where
-              apart : end.Module j c ≡ end.Svc → ⊥
-              apart g = absurd cc
+      (λ n r made. made) (λ x. refl) (injected-other j c a p links named)) refl
+      (λ n u x e. u.hand x e) (λ n u. u.awaited)) (same-waits a.state.host) refl (λ q j. j) h
   quiet-kept a (turns e free untouched none cause) basis links there h =
       quiet-turned i a (changed m a (turns e free untouched none cause)) (host_turn e a.state.host)
-      basis (turn-asks i e a basis links there untouched.1 h) refl refl refl refl refl refl h
+      basis (turn-asks m i e a basis links there untouched.1 h) refl refl refl refl refl refl h
   quiet-kept a (acts_told e rest is quiet) basis links there h =
       rests i a (changed m a (acts_told e rest is quiet)) basis refl refl (λ x f. f)
       (same-waits a.state.host) refl (fewer-asks a (Act.Tell e) rest is) h
@@ -262,7 +250,7 @@ module _ (m : Moment) (i : ℕ) (before : Basis (resting m.told m.before))
       (fewer-asks a (Act.Leave k) rest is) h
     where
       apart : (n : ℕ) → (n == 1) ≡ true → (n == k) ≡ false
-      apart n e = let low = (subst (ArePending a.state.host) is links.pending).0 in
+      apart n e = let low = (subst (ArePending a.state.host) is links.pending).0.0 in
           grind (arith, nat_tests)
 
       stay : (at : Side) → svc_items at (changed m a (acts_left k rest free untouched is)).state.bus

@@ -58,7 +58,7 @@ start-of i (SvcAsk.Hello a b) is k = absurd (differ 0x02 0x21 refl k)
 start-of i (SvcAsk.ModuleInserted a b c) is k = absurd (differ 0x1f 0x21 refl k)
 start-of i (SvcAsk.ModuleRemoved a) is k = absurd (differ 0x20 0x21 refl k)
 
-start-kind : (i kind : ℕ) (payload : List ℕ) (ask : SvcAsk) → read_svc_ask kind payload ≡ Ok ask
+pub start-kind : (i kind : ℕ) (payload : List ℕ) (ask : SvcAsk) → read_svc_ask kind payload ≡ Ok ask
     → enumerates i (Ok ask) ≡ true → kind ≡ 0x21 → starts i ask ≡ true
 start-kind i kind payload ask e is start =
     start-of i ask is (svc-kind kind payload ask e ∙ start)
@@ -123,7 +123,7 @@ asked-six ports (SvcAsk.Hello a b) j h = absurd cc
 asked-six ports (SvcAsk.ModuleInserted a b c) j h = absurd cc
 asked-six ports (SvcAsk.ModuleRemoved a) j h = absurd cc
 
-unrouted-six : (ports : List Port) (kind : ℕ) (payload : List ℕ) (j : ℕ)
+pub unrouted-six : (ports : List Port) (kind : ℕ) (payload : List ℕ) (j : ℕ)
     → (svc_step ports kind payload).served ≡ Unroute j
     → (level_of j ports ≡ 6) × ((svc_step ports kind payload).ports ≡ ports)
 unrouted-six ports kind payload j = by (read_svc_ask_of_ap kind payload)
@@ -133,7 +133,7 @@ unrouted-six ports kind payload j = by (read_svc_ask_of_ap kind payload)
     by (Ok ask) h = asked-six ports ask j h
     by (Err fault) h = absurd cc
 
-at-most_one : (n : ℕ) → n ≤ 1 → (n ≡ 0) ⊎ (n ≡ 1)
+pub at-most_one : (n : ℕ) → n ≤ 1 → (n ≡ 0) ⊎ (n ≡ 1)
 at-most_one n h = by (n == 0) refl
   where
     by : (t : Bool) → (n == 0) ≡ t → (n ≡ 0) ⊎ (n ≡ 1)

@@ -38,7 +38,7 @@ use Rattle.gb_laws.proofs.PointParts.{Basis, resting}
 use Rattle.gb_laws.proofs.Quiet.{IsQuiet, quiet-still}
 use Rattle.gb_laws.proofs.QuietKept.{view-rest}
 use Rattle.gb_laws.proofs.QuietLaw.{quiet-kept}
-use Rattle.gb_laws.proofs.Runs.{HoldsAtMoments, HoldsByMoments, at_each, throughout, weaker}
+use Rattle.gb_laws.proofs.Runs.{HoldsAtMoments, HoldsByMoments, Keeps, at_each, throughout, weaker}
 use Rattle.gb_laws.proofs.Steps.{over-step}
 use Rattle.gb_laws.proofs.There.{There}
 use Rattle.gb_laws.proofs.WiredRuns.{WiredTo, wired-over, wired-throughout}
@@ -109,15 +109,17 @@ quiet-first i = record {
   made = λ q n e. absurd cc;
 }
 
+pub quiet-moment : Keeps QuietTo
+quiet-moment m one h = record { wired = wired-over m one h.wired; quiet = quiet-over m h one }
+
 pub quiet-throughout : HoldsByMoments QuietTo
 quiet-throughout =
-    throughout QuietTo (record { wired = wired-throughout [] tt; quiet = quiet-first })
-    (λ m one h. record { wired = wired-over m one h.wired; quiet = quiet-over m h one })
+    throughout QuietTo (record { wired = wired-throughout [] tt; quiet = quiet-first }) quiet-moment
 
 -- ---- the law
 
 -- a removal that waits is among the items
-removal-waits : (i : ℕ) (b : Bus) (xs : List Item)
+pub removal-waits : (i : ℕ) (b : Bus) (xs : List Item)
     → list_any (is_removal i) (requests_among b xs) ≡ removed_in i b xs
 removal-waits i b [] = refl
 removal-waits i b (x ∷ xs) = by x (removal-waits i b xs)
@@ -170,7 +172,7 @@ pub leaves-by_moments : HoldsByMoments LeavesNothing
 leaves-by_moments = weaker QuietTo LeavesNothing leaves quiet-throughout
 
 -- a removal that is handled waits before
-waits-before : (i : ℕ) (m : Moment) → HandlesRemoval i m → awaits_removal i m.before.bus ≡ true
+pub waits-before : (i : ℕ) (m : Moment) → HandlesRemoval i m → awaits_removal i m.before.bus ≡ true
 waits-before i m h = by (svc_items side.Ap m.before.bus) h.front
   where
     by : (xs : List Item) → first xs ≡ Some (Ask h.number)

@@ -58,6 +58,7 @@ pub record IsServed (m : Moment) (a : Point) (q : Incoming) : Type 0 where
   pub payload : request.payload ≡ q.payload
   pub front : svc_items side.Far m.before.bus
       ≡ Ask number ∷ behind_first (svc_items side.Far m.before.bus)
+  pub far : svc_items side.Far a.state.bus ≡ behind_first (svc_items side.Far m.before.bus)
   pub rest : (i : ℕ) → enums i a.state.bus
       ≡ enums_of i m.before.bus (behind_first (svc_items side.Far m.before.bus))
   pub removed : (i : ℕ) → is_removed i a.state.bus ≡ is_removed i m.before.bus
@@ -90,6 +91,7 @@ module _ (m : Moment) (basis : Basis (resting m.told m.before))
     payload = ap (λ (x : Incoming). x.payload) ask.4;
     front = front-of (svc_items side.Far m.before.bus)
         (ap (λ o. first (items_in side.Far o)) found ∙ front ∙ ap Some ask.2);
+    far = far w.bus;
     rest = λ i. rest i w.bus;
     removed = λ i. removed i w.bus;
     clean = λ n i h. clean n i h w.bus;
@@ -151,6 +153,12 @@ module _ (m : Moment) (basis : Basis (resting m.told m.before))
           (λ y. (put-self side.Ap (reply_item q r) y).number)
           (put-queues side.Ap side.Ap (reply_item q r) (without_front side.Far w.place.connection)
           (place-is w.at m.before.bus.connections w.place w.named).wired)
+
+      far : IsAfterReply w.place.connection.number side.Far q
+          (popped w.place.connection.number side.Far m.before.bus) a.state.bus
+          → svc_items side.Far a.state.bus ≡ behind_first (svc_items side.Far m.before.bus)
+      far (unreplied e) = ap (svc_items side.Far) e ∙ taken.0
+      far (replied_to r e) = ap (svc_items side.Far) e ∙ (put r).from ∙ taken.0
 
       rest : (i : ℕ) → IsAfterReply w.place.connection.number side.Far q
           (popped w.place.connection.number side.Far m.before.bus) a.state.bus

@@ -40,6 +40,7 @@ use Rattle.gb_machine.specs.HostTurns.{host_turn}
 use Rattle.gb_machine.specs.LawsBus.{is_awaited}
 use Rattle.gb_machine.specs.Members.{IsIn}
 use Rattle.gb_machine.specs.Ports.{level_of}
+use Rattle.gb_machine.specs.Runs.{Moment}
 use Rattle.gb_machine.specs.SequenceSteps.{is_enumeration}
 use Rattle.gb_machine.specs.State.{State}
 use Rattle.gb_machine.specs.Turns.{Act, Asking, HostEvent, Turn}
@@ -48,22 +49,22 @@ use Rattle.gb_laws.proofs.QuietAwaited.{none-over, waited-by}
 
 -- ---- turns
 
-pub turn-asks : (i : ℕ) (e : HostEvent) (a : Point) → Basis a → LinkedAt a → There a.state.bus
-    → IsOver e a.state.bus → IsQuiet i a
+pub turn-asks : (m : Moment) (i : ℕ) (e : HostEvent) (a : Point) → Basis a → LinkedAt a
+    → There a.state.bus → IsOver m e a.state.bus → IsQuiet i a
     → TurnAsks i (IsCalm i a) a.state.host (host_turn e a.state.host)
-turn-asks i (HostEvent.Inserted j) a basis links there over h =
+turn-asks m i (HostEvent.Inserted j) a basis links there over h =
     asks-inserted i (IsCalm i a) j a.state.host
-turn-asks i (HostEvent.Removed j) a basis links there over h =
+turn-asks m i (HostEvent.Removed j) a basis links there over h =
     asks-removed i (IsCalm i a) j a.state.host
-turn-asks i (HostEvent.Connect j c) a basis links there over h =
+turn-asks m i (HostEvent.Connect j c) a basis links there over h =
     asks-connects i (IsCalm i a) j c a.state.host
-turn-asks i (HostEvent.Disconnect j c) a basis links there over h =
+turn-asks m i (HostEvent.Disconnect j c) a basis links there over h =
     asks-disconnects i (IsCalm i a) j c a.state.host
-turn-asks i (HostEvent.Ended n how) a basis links there over h =
+turn-asks m i (HostEvent.Ended n how) a basis links there over h =
     asks-ended i (IsCalm i a) (awaited n a.state.host) how a.state.host (λ p e r bytes is at s.
     let w = waited-by n a.state.host p links.host.links.waiting e s in
     let waits = h.waits w.interface w.known (w.intf ∙ at) (n, p.step) w.awaits s in
-    let done = over r bytes is in (
+    let done = (over r bytes is).0 in (
       none-over i n a basis links there done waits.last,
       λ hot. not-both (is_awaited n a.state.bus) (waits.quiet hot).awaited done,
     ))

@@ -8,7 +8,7 @@ use Rattle.gb_invariants.proofs.Lists.{each-from, in-front, in-pushed}
 use Rattle.gb_laws.proofs.Basics.{Based, basis-first, basis-kept, basis-throughout, rested}
 use Rattle.gb_laws.proofs.PointParts.{Basis, Point}
 use Rattle.gb_laws.proofs.Points.{Change, IsAskedBy, Law, awaited_by, acts_asked, asks, by_far, by_host, changed, names, wires}
-use Rattle.gb_laws.proofs.Runs.{HoldsAtMoments, HoldsByMoments, at_each, throughout, weaker}
+use Rattle.gb_laws.proofs.Runs.{HoldsAtMoments, HoldsByMoments, Keeps, at_each, throughout, weaker}
 use Rattle.gb_laws.proofs.Steps.{over-step}
 use Rattle.gb_machine.specs.Bus.{Request}
 use Rattle.gb_machine.specs.Host.{link_at}
@@ -18,7 +18,7 @@ use Rattle.gb_machine.specs.Members.{IsIn}
 use Rattle.gb_machine.specs.Runs.{Moment, after}
 use Rattle.gb_machine.specs.Sending.{requested}
 use Rattle.gb_machine.specs.SequenceSteps.{is_for_connection}
-use Rattle.gb_machine.specs.State.{State}
+use Rattle.gb_machine.specs.State.{State, first_state}
 use Rattle.gb_machine.specs.Turns.{Asking}
 use Rattle.gb_machine.specs.Waits.{awaits}
 
@@ -29,7 +29,7 @@ abbrev pub StaysWired : Moment → State → Type 0
 StaysWired m s = (k : ℕ) → IsIn k m.before.past.wired → IsIn k s.past.wired
 
 -- a sequence that waits for a request leaves what was wired
-waiting-wired : (p : Purpose) (n : ℕ) (s : State)
+pub waiting-wired : (p : Purpose) (n : ℕ) (s : State)
     → (with_awaited p n s).past.wired ≡ s.past.wired
 waiting-wired p n s = by (is_for_connection p.step) (link_at p.intf p.cport (awaits p n s.host))
   where
@@ -94,7 +94,7 @@ remembers-asked count pairs asked q h = record {
       (omega (arith, is), λ k i. let low = h.below n k i in absurd (omega (arith, low, is)));
 }
 
-nothing-asked : (w : Asking × ℕ) → None ≡ Some w → ⊥
+pub nothing-asked : (w : Asking × ℕ) → None ≡ Some w → ⊥
 nothing-asked w e = absurd cc
 
 -- none is waited for any more
@@ -178,15 +178,21 @@ abbrev pub RemembersTo : List Entry → State → Type 0
 RemembersTo told s =
     Based told s × Remembers (length s.bus.requests) s.past.made_for None
 
+pub remembers-first : RemembersTo [] first_state
+remembers-first = (
+  basis-first,
+  record {
+    below = λ n k i. absurd i;
+    one = λ n k j i. absurd i;
+    fresh = λ q n e. absurd (nothing-asked (q, n) e);
+  },
+)
+
+pub remembers-over : Keeps RemembersTo
+remembers-over m one h =
+    let r = over-step m (remembers_law m) one h in (rested _ _ r.0 r.1.0, r.1.1)
+
 -- A request is remembered for one connection.
 pub remembered-for_one : HoldsByMoments RememberedForOne
 remembered-for_one = weaker RemembersTo RememberedForOne (λ told s h. h.1.one)
-    (throughout RemembersTo (
-      basis-first,
-      record {
-        below = λ n k i. absurd i;
-        one = λ n k j i. absurd i;
-        fresh = λ q n e. absurd (nothing-asked (q, n) e);
-      },
-    ) (λ m one h.
-    let r = over-step m (remembers_law m) one h in (rested _ _ r.0 r.1.0, r.1.1)))
+    (throughout RemembersTo remembers-first remembers-over)

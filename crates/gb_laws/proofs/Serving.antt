@@ -18,7 +18,24 @@ use Rattle.gb_invariants.proofs.Outcomes.{both-true}
 use Rattle.gb_laws.proofs.Acting.{goes-notices}
 use Rattle.gb_laws.proofs.Going.{At, Goes, IsToModule, goes-far_asks_all, goes-nothing, goes-tell, goes-▸}
 use Rattle.gb_laws.proofs.Places.{ComesFrom, LivesOn, comes-after, lives-after, same_end-is}
-use Rattle.gb_laws.proofs.Points.{IsAfterReply, IsLive, IsOver, IsServing, Law, PortsFrom, acting, as_before, loses_route, others, served, serves, unwires, wires}
+use Rattle.gb_laws.proofs.Points.{
+  IsAfterReply,
+  IsLive,
+  IsOver,
+  IsServing,
+  Law,
+  PortsFrom,
+  acting,
+  as_before,
+  loses_route,
+  others,
+  replied_to,
+  served,
+  serves,
+  unreplied,
+  unwires,
+  wires,
+}
 use Rattle.gb_laws.proofs.PointParts.{IsServed, Hand, IsCaused, IsNoticed, Untouched, Unwired, Wired, Wires}
 use Rattle.gb_laws.proofs.Served.{IsQuietly, ServedAs, inserting, plainly, removing, served as served_as}
 use Rattle.gb_machine.proofs.Opened.{machine_opened}
@@ -79,6 +96,10 @@ Comes m u (Destroy a i c) ports = Unit {0}
 Comes m u (Unroute i) ports =
     ((c : Connection) → IsIn c u.bus.connections → is_wired_to i c ≡ false)
     → PortsFrom m u (unrouted i ports)
+
+-- the application processor is as before a moment, and no request was made
+abbrev pub IsAsBefore : Moment → State → Type 0
+IsAsBefore m s = (s.host ≡ m.before.host) × (s.bus.requests ≡ m.before.bus.requests)
 
 module _ (m : Moment) (law : Law m) where
   -- an action ends a step, whatever becomes of wires
@@ -235,7 +256,7 @@ module _ (m : Moment) (law : Law m) where
   -- what it is then, what it tells and what it takes notice of
   goes-behind : (host : Host) (o : Option Entry) (n : Option HostEvent) (u : State)
       → Goes m (acting m law) None [] Untouched None [] Untouched (on_host (λ old. host)) u
-      → IsQuietly o → ((e : HostEvent) → n ≡ Some e → IsCaused m e host × IsOver e u.bus)
+      → IsQuietly o → ((e : HostEvent) → n ≡ Some e → IsCaused m e host × IsOver m e u.bus)
       → Goes m (acting m law) None [] Untouched None [] Untouched (on_host (λ old. host) ▸ given o tell ▸ given n notices) u
   unfolding machine_opened
   goes-behind host o n u first quiet cause =
@@ -249,7 +270,8 @@ module _ (m : Moment) (law : Law m) where
       says None s q = goes-nothing m (acting m law) None [] Untouched s
       says (Some e) s q = goes-tell m (acting m law) None [] Untouched e s q
 
-      takes_notice : (o : Option Entry) (n : Option HostEvent) → ((e : HostEvent) → n ≡ Some e → IsCaused m e host × IsOver e u.bus)
+      takes_notice : (o : Option Entry) (n : Option HostEvent)
+          → ((e : HostEvent) → n ≡ Some e → IsCaused m e host × IsOver m e u.bus)
           → Goes m (acting m law) None [] Untouched None [] Untouched (given n notices) ((on_host (λ old. host) ▸ given o tell) u).state
       takes_notice None None c = goes-nothing m (acting m law) None [] Untouched (record u { host = host })
       takes_notice None (Some e) c = goes-notices m (acting m law) e (record u { host = host }) (c e refl).1 (c e refl).0
@@ -257,11 +279,11 @@ module _ (m : Moment) (law : Law m) where
       takes_notice (Some x) (Some e) c = goes-notices m (acting m law) e (record u { host = host }) (c e refl).1 (c e refl).0
 
   ends-served : (k kind : ℕ) (payload : List ℕ) (u : State) → IsServed m k kind payload
-      → u.host ≡ m.before.host
+      → u.host ≡ m.before.host → u.bus.requests ≡ m.before.bus.requests
       → ((e : HostEvent) → (host_serves k kind payload m.before.host).notices ≡ Some e → IsNoticed m e)
       → Ends None (host_behind (host_serves k kind payload m.before.host)) u
   unfolding machine_opened
-  ends-served k kind payload u at_ap host notice =
+  ends-served k kind payload u at_ap host made notice =
       ends-going None (host_behind r) u
       (goes-behind r.host r.told r.notices u first (quiet (served_as k kind payload m.before.host))
       (λ e n. (
@@ -297,25 +319,32 @@ module _ (m : Moment) (law : Law m) where
           subst (λ x. IsCaused m x (host_serves k kind payload m.before.host).host) same (h, subst (IsNoticed m) (sym same) said)
 
       over : ServedAs m.before.host (host_serves k kind payload m.before.host) → (e : HostEvent)
-          → (host_serves k kind payload m.before.host).notices ≡ Some e → IsOver e u.bus
+          → (host_serves k kind payload m.before.host).notices ≡ Some e → IsOver m e u.bus
       over (plainly q n) e is = absurd (none-some e (sym n ∙ is))
         where
           none-some : (e : HostEvent) → None ≡ Some e → ⊥
           none-some e h = absurd cc
       over (inserting i h q n) e is =
-          subst (λ x. IsOver x u.bus) (same-some (HostEvent.Inserted i) e (sym n ∙ is)) tt
+          subst (λ x. IsOver m x u.bus) (same-some (HostEvent.Inserted i) e (sym n ∙ is)) made
       over (removing i h q n) e is =
-          subst (λ x. IsOver x u.bus) (same-some (HostEvent.Removed i) e (sym n ∙ is)) tt
+          subst (λ x. IsOver m x u.bus) (same-some (HostEvent.Removed i) e (sym n ∙ is)) made
+
+  same-after : {k : ℕ} {at : Side} {q : Incoming} {b after : Bus} → IsAfterReply k at q b after
+      → after.requests ≡ b.requests
+  same-after (unreplied e) = ap (λ (x : Bus). x.requests) e
+  same-after (replied_to r e) = ap (λ (x : Bus). x.requests) e
 
   -- what the party at a side answers has an end
   pub ends-response : (c : Connection) (at : Side) (q : Incoming) (s u : State)
       → IsTaken m s c at q → IsAfterReply c.number at q s.bus u.bus → u.ports ≡ s.ports
       → u.modules ≡ s.modules → HasPeer c.number c.peer u.bus
-      → s.host ≡ m.before.host → u.host ≡ s.host → Ends None (response_at at c q s).behind u
+      → IsAsBefore m s → u.host ≡ s.host → Ends None (response_at at c q s).behind u
   unfolding machine_opened
   ends-response c side.Ap q s u taken way ports modules peer before same =
-      subst (λ h. Ends None (host_behind (host_serves c.number q.kind q.payload h)) u) (sym before)
-      (ends-served c.number q.kind q.payload u (served-at m s c side.Ap q taken refl) (same ∙ before)
+      subst (λ h. Ends None (host_behind (host_serves c.number q.kind q.payload h)) u)
+      (sym before.0)
+      (ends-served c.number q.kind q.payload u (served-at m s c side.Ap q taken refl)
+      (same ∙ before.0) (same-after way ∙ before.1)
       (λ e n. noticed m s c side.Ap q e taken refl n))
   ends-response c side.Far q s u taken way ports modules peer before same =
       ends-far c.peer c.number q s u (lives-after way) (comes-after way) ports modules peer

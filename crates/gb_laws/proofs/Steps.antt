@@ -53,9 +53,12 @@ module _ (m : Moment) (law : Law m) where
   ends-does (event.InsertRaw i manifest) is one free = ends-going m law None (does (event.InsertRaw i manifest)) m.before (rests-plugs m law (subst IsOfSvc (sym is) tt) i (module_raw manifest) m.before (raw-short m.before i manifest free))
   ends-does (event.Pull i) is one free = ends-pulls m law (subst IsOfSvc (sym is) tt) i
   ends-does (event.Connect i c) is one free =
-      ends-going m law None (does (event.Connect i c)) m.before (goes-notices m (acting m law) (HostEvent.Connect i c) m.before tt (refl, is, free, one.1))
+      ends-going m law None (does (event.Connect i c)) m.before
+      (goes-notices m (acting m law) (HostEvent.Connect i c) m.before refl
+      (refl, is, free, one.1))
   ends-does (event.Disconnect i c) is one free =
-      ends-going m law None (does (event.Disconnect i c)) m.before (goes-notices m (acting m law) (HostEvent.Disconnect i c) m.before tt (refl, is, free))
+      ends-going m law None (does (event.Disconnect i c)) m.before
+      (goes-notices m (acting m law) (HostEvent.Disconnect i c) m.before refl (refl, is, free))
   ends-does (event.Send name to kind payload timeout) is one free =
       ends-going m law None (does (event.Send name to kind payload timeout)) m.before (rests-sends m law name to kind payload timeout m.before free)
   ends-does (event.Bridge name i c what) is one free =

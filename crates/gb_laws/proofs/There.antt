@@ -91,7 +91,8 @@ there-kept m a (acts_left k rest free untouched is) links h = record {
 }
   where
     other : (n : ℕ) → n ≡ 1 → (n == k) ≡ false
-    other n one = let low = (subst (ArePending a.state.host) is links.pending).0 in grind (arith, nat_tests)
+    other n one = let low = (subst (ArePending a.state.host) is links.pending).0.0 in
+        grind (arith, nat_tests)
 there-kept m a (acts_opened w q rest free is) links h = record {
   connection = h.connection;
   live = in-front h.connection a.state.bus.connections _ h.live;

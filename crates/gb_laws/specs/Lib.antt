@@ -1,1 +1,3 @@
 pub mod OwnSide
+pub mod OwnWaits
+pub mod OwnWires

@@ -2,6 +2,8 @@
 //! are the events of the run with each settle taken apart into its deliveries.
 
 ghost use Rattle.gb_laws.specs.OwnSide.{AbsentHasNoOpenOfAp};
+ghost use Rattle.gb_laws.specs.OwnWaits.{AwaitsOwnRequest, OnlyRestarts, ServedLeavesNone};
+ghost use Rattle.gb_laws.specs.OwnWires.{WiredIsRemembered};
 ghost use Rattle.gb_machine.specs.LawsBus.{
   EndpointsDiffer,
   LabelsDiffer,
@@ -22,8 +24,14 @@ ghost use Rattle.gb_machine.specs.LawsHotPlug.{
   NoneForgotten,
   OpenIsLive,
   RememberedForOne,
+  RememberedWhileLive,
 };
-ghost use Rattle.gb_machine.specs.LawsSvc.{RemovalLeavesNothingWired, WiredMeansRouted};
+ghost use Rattle.gb_machine.specs.LawsSvc.{
+  QuietBeforeRemoval,
+  RemovalLeavesNothingWired,
+  StaleRequestsMeetLowLevel,
+  WiredMeansRouted,
+};
 ghost use Rattle.gb_machine.specs.Runs.{HoldsAtEachMoment, HoldsThroughout, SettlesAreDeliveries};
 ghost use Rattle.gb_machine.specs.Summary.{CountsAddUp};
 
@@ -101,10 +109,47 @@ pub fn removal_leaves_nothing_wired()
     ensures { RemovalLeavesNothingWired }
 {}
 
+/// While MODULE_REMOVED of an interface waits and its power level is 1, only starts of its
+/// enumeration wait toward the supervisory controller, and no answer that its enumeration waits for
+/// stands in front of the last such removal.
+pub fn quiet_before_removal()
+    ensures { QuietBeforeRemoval }
+{}
+
+/// While a request to create or destroy a connection that isn't live any more waits toward the
+/// supervisory controller, its interface isn't routed.
+pub fn stale_requests_meet_low_level()
+    ensures { StaleRequestsMeetLowLevel }
+{}
+
+/// Where the enumeration of an interface waits for the supervisory controller, it waits for a
+/// request of its own to that.
+pub fn awaits_own_request()
+    ensures { HoldsThroughout AwaitsOwnRequest }
+{}
+
+/// Where that request waits no more toward the supervisory controller, no request of the
+/// enumeration does.
+pub fn served_leaves_none()
+    ensures { HoldsThroughout ServedLeavesNone }
+{}
+
+/// Of the requests of an enumeration that wait toward the supervisory controller each but the first
+/// is a start.
+pub fn only_restarts_wait()
+    ensures { HoldsThroughout OnlyRestarts }
+{}
+
 /// A connection that is wired, but for that of the supervisory controller, is at a routed interface
 /// where a module is plugged.
 pub fn wired_means_routed()
     ensures { WiredMeansRouted }
+{}
+
+/// A connection that is wired, but for that of the supervisory controller, is remembered to have
+/// been.
+pub fn wired_is_remembered()
+    ensures { HoldsThroughout WiredIsRemembered }
 {}
 
 /// Which connections were ever wired is never forgotten.
@@ -115,6 +160,12 @@ pub fn none_forgotten()
 /// A request that creates or destroys a connection is remembered for one connection.
 pub fn remembered_for_one()
     ensures { HoldsThroughout RememberedForOne }
+{}
+
+/// A request that creates or destroys a connection is remembered for one that is live when it is
+/// made.
+pub fn remembered_while_live()
+    ensures { HoldsAtEachMoment RememberedWhileLive }
 {}
 
 /// A name names a request that was made.

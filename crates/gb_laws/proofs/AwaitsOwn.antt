@@ -1,0 +1,289 @@
+-- What the enumeration of an interface waits for was asked for it: of the supervisory controller by
+-- one of its requests, or on another connection.
+use Rattle.std.proofs.Common.{
+  ◌≡◌,
+  ◌≢◌,
+  ℕ,
+  Bool,
+  true,
+  false,
+  cond,
+  Option,
+  Some,
+  None,
+  List,
+  [],
+  ◌∷◌,
+  refl,
+  sym,
+  ap,
+  ◌∙◌,
+  ⊎_elim,
+  subst,
+  arith,
+}
+use Rattle.std.specs.Prelude.{◌&&◌, not, option_and_then}
+use Rattle.gb_base.specs.declared.entry.Entry.{Entry}
+use Rattle.gb_base.specs.declared.peers.Interface.{Interface}
+use Rattle.gb_base.specs.declared.steps.SequenceStep.{SequenceStep}
+use Rattle.gb_invariants.proofs.Awaiting.{same-some, sent-new}
+use Rattle.gb_invariants.proofs.Lists.{found-in, in-at_first}
+use Rattle.gb_invariants.proofs.Outcomes.{same-number}
+use Rattle.gb_laws.proofs.Answering.{keeps-requests}
+use Rattle.gb_laws.proofs.Asked.{
+  asks-connects,
+  asks-disconnects,
+  asks-ended,
+  asks-inserted,
+  asks-removed,
+  waits-unsent,
+}
+use Rattle.gb_laws.proofs.AskedWaits.{WaitsFewer, is_power_step, same-waits}
+use Rattle.gb_laws.proofs.EnumRequests.{power-enumerates}
+use Rattle.gb_laws.proofs.LinkActs.{
+  ServedHost,
+  as_before,
+  awaited-host,
+  host-served,
+  with_more,
+}
+use Rattle.gb_laws.proofs.LinkLaw.{link_law}
+use Rattle.gb_laws.proofs.LinkRuns.{LinkedTo, linked-over, linked-throughout, start-absent}
+use Rattle.gb_laws.proofs.Linking.{InsertsAbsent, LinkedAt}
+use Rattle.gb_laws.proofs.Links.{ArePending, IsDue, IsDueBy, IsFormed}
+use Rattle.gb_laws.proofs.Owning.{KeepsRequests}
+use Rattle.gb_laws.proofs.PointParts.{Basis, Point, resting}
+use Rattle.gb_laws.proofs.Points.{
+  Change,
+  IsAskedBy,
+  Law,
+  acts_asked,
+  acts_failed,
+  asks,
+  awaited_by,
+  by_far,
+  by_host,
+  changed,
+  serves,
+  turns,
+}
+use Rattle.gb_laws.proofs.Remembering.{nothing-asked}
+use Rattle.gb_laws.proofs.Runs.{HoldsByMoments, Keeps, throughout, weaker}
+use Rattle.gb_laws.proofs.Steps.{over-step}
+use Rattle.gb_laws.specs.OwnWaits.{AwaitsOwnRequest}
+use Rattle.gb_machine.specs.Bus.{Bus, Request, next_number, request_of}
+use Rattle.gb_machine.specs.Host.{Host, interface_of, is_intf, with_interface, with_link}
+use Rattle.gb_machine.specs.HostActs.{host_draft}
+use Rattle.gb_machine.specs.HostServing.{host_serves}
+use Rattle.gb_machine.specs.HostTurns.{host_turn}
+use Rattle.gb_machine.specs.LawsSvc.{IsEnumeration}
+use Rattle.gb_machine.specs.LawsSvc as svc
+use Rattle.gb_machine.specs.Members.{IsIn}
+use Rattle.gb_machine.specs.Runs.{Moment}
+use Rattle.gb_machine.specs.Sending.{Draft, requested, sent}
+use Rattle.gb_machine.specs.SequenceSteps.{asks_control, is_enumeration}
+use Rattle.gb_machine.specs.State.{State}
+use Rattle.gb_machine.specs.Turns.{Act, Asking, HostEvent}
+use Rattle.gb_machine.specs.Waits.{awaited}
+
+-- Request n was made for a step of the enumeration of an interface.
+pub record IsOwnWait (i n : ℕ) (step : SequenceStep) (b : Bus) : Type 0 where
+  pub request : Request
+  pub made : request_of n b ≡ Some request
+  pub twoway : request.oneway ≡ false
+  pub svc : asks_control step ≡ false → IsEnumeration i request
+  pub control : asks_control step ≡ true → request.connection ≢ 1
+
+-- What interfaces wait for was made so, and what one is to wait for.
+pub record WaitsOwn (a : Point) : Type 0 where
+  pub waits : (x : Interface) → IsIn x a.state.host.interfaces → (w : ℕ × SequenceStep)
+      → x.awaits ≡ Some w → IsOwnWait x.intf w.0 w.1 a.state.bus
+  pub asked : (q : Asking) (n : ℕ) → a.asked ≡ Some (q, n)
+      → is_enumeration q.purpose.step ≡ true
+      → IsOwnWait q.purpose.intf n q.purpose.step a.state.bus
+
+-- ---- where requests are made and interfaces wait for no more
+
+wait-more : {i n : ℕ} {step : SequenceStep} {b after : Bus} → KeepsRequests b after
+    → IsOwnWait i n step b → IsOwnWait i n step after
+wait-more {i} {n} keeps w = record {
+  request = w.request;
+  made = keeps n w.request w.made;
+  twoway = w.twoway;
+  svc = w.svc;
+  control = w.control;
+}
+
+own-still : (a b : Point) → KeepsRequests a.state.bus b.state.bus
+    → WaitsFewer a.state.host b.state.host
+    → ((q : Asking) (n : ℕ) → b.asked ≡ Some (q, n) → is_enumeration q.purpose.step ≡ true
+    → IsOwnWait q.purpose.intf n q.purpose.step b.state.bus)
+    → WaitsOwn a → WaitsOwn b
+own-still a b keeps fewer asked h = record {
+  waits = λ x j w e. let was = fewer x j w e in
+      subst (λ i. IsOwnWait i w.0 w.1 b.state.bus) was.intf
+      (wait-more keeps (h.waits was.was was.known w (was.awaits ∙ e)));
+  asked = asked;
+}
+
+-- no turn lets an interface wait for more
+pub turn-waits : (e : HostEvent) (h : Host) → WaitsFewer h (host_turn e h).host
+turn-waits (HostEvent.Inserted j) h = (asks-inserted 0 (Unit {0}) j h).waits
+turn-waits (HostEvent.Removed j) h = (asks-removed 0 (Unit {0}) j h).waits
+turn-waits (HostEvent.Connect j c) h = (asks-connects 0 (Unit {0}) j c h).waits
+turn-waits (HostEvent.Disconnect j c) h = (asks-disconnects 0 (Unit {0}) j c h).waits
+turn-waits (HostEvent.Ended n how) h =
+    (asks-ended 0 (Unit {0}) (awaited n h) how h (λ p e r bytes is at s. tt)).waits
+
+-- ---- a request is made
+
+-- the request of a pending act
+host-own : (a : Point) (q : Asking) (rest : List Act) (label : ℕ) → LinkedAt a
+    → a.pending ≡ Act.Ask q ∷ rest → is_enumeration q.purpose.step ≡ true
+    → IsOwnWait q.purpose.intf (next_number a.state.bus) q.purpose.step
+    (sent (host_draft q a.state.now) label a.state.bus)
+host-own a q rest label links pending enumeration = record {
+  request = requested (host_draft q a.state.now) label;
+  made = sent-new (host_draft q a.state.now) label a.state.bus;
+  twoway = refl;
+  svc = λ e. record {
+    connection = formed.on e;
+    side = refl;
+    enumerates = power-enumerates q.purpose.intf q formed (power q.purpose.step enumeration e)
+        (λ c. next (is_enumeration q.purpose.step) enumeration due) refl;
+  };
+  control = λ e one. let low = formed.control e in omega (arith, low, one);
+}
+  where
+    due : IsDue q.purpose.step q.purpose a.state.host
+    due = (subst (ArePending a.state.host) pending links.pending).0.0
+
+    formed : IsFormed q
+    formed = (subst (ArePending a.state.host) pending links.pending).0.2
+
+    next : (t : Bool) → t ≡ true → IsDueBy t q.purpose.step q.purpose a.state.host
+        → q.purpose.cport ≡ 0
+    next true e d = d.cport
+    next false e d = absurd cc
+
+    power : (step : SequenceStep) → is_enumeration step ≡ true → asks_control step ≡ false
+        → is_power_step step ≡ true
+    power step e f = ap (λ t. t && not (asks_control step)) e ∙ ap not f
+
+-- ---- each single change
+
+pub own-kept : (m : Moment) (a : Point) (x : Change m a) → LinkedAt a → WaitsOwn a
+    → WaitsOwn (changed m a x)
+own-kept m a (asks d c label free live drawn who) links h =
+    own-still a (changed m a (asks d c label free live drawn who))
+    (keeps-requests m a (asks d c label free live drawn who)) (same-waits a.state.host) (by who) h
+  where
+    by : (w : IsAskedBy m a c d) (q : Asking) (n : ℕ) → awaited_by m a c d w ≡ Some (q, n)
+        → is_enumeration q.purpose.step ≡ true
+        → IsOwnWait q.purpose.intf n q.purpose.step (sent d label a.state.bus)
+    by (by_far far) q n e s =
+        wait-more (keeps-requests m a (asks d c label free live drawn who)) (h.asked q n e s)
+    by (by_host p rest pending draft none) q n e s =
+        let is = same-some (p, next_number a.state.bus) (q, n) e in
+        subst (λ (w : Asking × ℕ). IsOwnWait w.0.purpose.intf w.1 w.0.purpose.step
+        (sent d label a.state.bus)) is
+        (subst (λ (x : Draft). IsOwnWait p.purpose.intf (next_number a.state.bus) p.purpose.step
+        (sent x label a.state.bus)) (sym draft)
+        (host-own a p rest label links pending
+        (ap (λ (w : Asking × ℕ). is_enumeration w.0.purpose.step) is ∙ s)))
+own-kept m a (turns e free untouched none cause) links h =
+    own-still a (changed m a (turns e free untouched none cause)) (λ n r made. made)
+    (turn-waits e a.state.host) h.asked h
+own-kept m a (acts_asked q n rest is) links h = record {
+  waits = λ x j w e. wait-more (keeps-requests m a (acts_asked q n rest is))
+      (by (is_enumeration q.purpose.step) refl x
+      (subst (λ (g : Host). IsIn x g.interfaces) (awaited-host q.purpose n a.state) j) w e);
+  asked = λ p k e. absurd (nothing-asked (p, k) e);
+}
+  where
+    by : (t : Bool) → is_enumeration q.purpose.step ≡ t → (x : Interface)
+        → IsIn x (cond t (with_interface q.purpose.intf
+        (λ y. record y { awaits = Some (n, q.purpose.step) }) a.state.host)
+        (with_link q.purpose.intf q.purpose.cport
+        (λ l. record l { awaits = Some (n, q.purpose.step) }) a.state.host)).interfaces
+        → (w : ℕ × SequenceStep) → x.awaits ≡ Some w → IsOwnWait x.intf w.0 w.1 a.state.bus
+    by false e x j w f = h.waits x j w f
+    by true e x j w f = ⊎_elim
+        (λ o. h.waits x o w f)
+        (λ u.
+        let same = same-some (n, q.purpose.step) w
+        (sym (ap (λ (y : Interface). y.awaits) u.3) ∙ f) in
+        subst (λ (y : ℕ × SequenceStep). IsOwnWait x.intf y.0 y.1 a.state.bus) same
+        (subst (λ k. IsOwnWait k n q.purpose.step a.state.bus)
+        (sym (same-number u.0.intf q.purpose.intf u.2)
+        ∙ sym (ap (λ (y : Interface). y.intf) u.3)) (h.asked q n is.1 e)))
+        (in-at_first (is_intf q.purpose.intf)
+        (λ (y : Interface). record y { awaits = Some (n, q.purpose.step) }) a.state.host.interfaces
+        x j)
+own-kept m a (acts_failed q rest is quiet) links h =
+    own-still a (changed m a (acts_failed q rest is quiet)) (λ n r made. made)
+    (waits-unsent 0 (Unit {0}) q.purpose a.state.host) h.asked h
+own-kept m a (serves k kind payload none) links h =
+    own-still a (changed m a (serves k kind payload none)) (λ n r made. made)
+    (fewer (host-served k kind payload a.state.host)) h.asked h
+  where
+    fewer : ServedHost a.state.host (host_serves k kind payload a.state.host)
+        → WaitsFewer a.state.host (host_serves k kind payload a.state.host).host
+    fewer (as_before e) = subst (WaitsFewer a.state.host) (sym e) (same-waits a.state.host)
+    fewer (with_more j c total e) =
+        subst (WaitsFewer a.state.host) (sym e) (same-waits a.state.host)
+own-kept m a x links h =
+    own-still a (changed m a x) (keeps-requests m a x) (same-waits a.state.host)
+    (λ q n e s. wait-more (keeps-requests m a x) (h.asked q n e s)) h
+
+-- ---- throughout
+
+abbrev own_law : (m : Moment) → InsertsAbsent m → Law m
+own_law m absent = record {
+  holds = λ a. (Basis a × LinkedAt a) × WaitsOwn a;
+  basis = λ a h. h.0.0;
+  kept = λ a x h. ((link_law m absent).kept a x h.0, own-kept m a x h.0.1 h.1);
+}
+
+pub record OwnTo (told : List Entry) (s : State) : Type 0 where
+  pub links : LinkedTo told s
+  pub own : WaitsOwn (resting told s)
+
+pub own-over : Keeps OwnTo
+own-over m one h = record {
+  links = linked-over m one h.links;
+  own = let r = (over-step m (own_law m (start-absent m h.links)) one
+      ((h.links.0, h.links.1), h.own)).1.1 in record { waits = r.waits; asked = r.asked };
+}
+
+pub own-throughout : HoldsByMoments OwnTo
+own-throughout = throughout OwnTo (record {
+  links = linked-throughout [] tt;
+  own = record {
+    waits = λ x j. absurd j;
+    asked = λ q n e. absurd (nothing-asked (q, n) e);
+  };
+}) own-over
+
+-- what an interface waits for
+pub waiting-interface : (i : ℕ) (h : Host) (w : ℕ × SequenceStep) → svc.awaited_by i h ≡ Some w
+    → (x : Interface) × IsIn x h.interfaces × (x.intf ≡ i) × (x.awaits ≡ Some w)
+waiting-interface i h w e = by (interface_of i h) refl e
+  where
+    by : (o : Option Interface) → interface_of i h ≡ o
+        → option_and_then (λ (x : Interface). x.awaits) o ≡ Some w
+        → (x : Interface) × IsIn x h.interfaces × (x.intf ≡ i) × (x.awaits ≡ Some w)
+    by None f g = absurd cc
+    by (Some x) f g = let found = found-in (is_intf i) h.interfaces x f in
+        (x, found.0, same-number x.intf i found.1, g)
+
+-- The enumeration of an interface waits for a request of its own.
+pub awaits-own_by_moments : HoldsByMoments AwaitsOwnRequest
+awaits-own_by_moments = weaker OwnTo AwaitsOwnRequest (λ told s h i n step e asks.
+    let x = waiting-interface i s.host (n, step) e in
+    let w = h.own.waits x.0 x.1 (n, step) x.3 in
+    let of = w.svc asks in (
+      w.request,
+      w.made,
+      subst (λ k. IsEnumeration k w.request) x.2 of,
+    )) own-throughout

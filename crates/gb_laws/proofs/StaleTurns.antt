@@ -1,0 +1,241 @@
+-- While a request waits for a connection that is known no more, the power level of its interface is
+-- at most 1: where the application processor takes notice of something.
+use Rattle.std.proofs.Common.{
+  Bool,
+  List,
+  None,
+  Option,
+  Some,
+  ap,
+  arith,
+  false,
+  inl,
+  inr,
+  refl,
+  subst,
+  sym,
+  true,
+  ℕ,
+  ◌∙◌,
+  ◌≡◌,
+  ◌≤◌,
+  ◌⊎◌,
+  [],
+  ⊎_elim,
+}
+use Rattle.std.specs.List.{find}
+use Rattle.std.specs.Prelude.{not, ◌==◌}
+use Rattle.gb_base.specs.declared.end.Side.TheVariants as side
+use Rattle.gb_base.specs.declared.outcome.Outcome.{Outcome}
+use Rattle.gb_base.specs.declared.outcome.Outcome.TheVariants as outcome
+use Rattle.gb_base.specs.declared.peers.Interface.{Interface}
+use Rattle.gb_base.specs.declared.peers.Link.{Link}
+use Rattle.gb_base.specs.declared.steps.Purpose.{Purpose}
+use Rattle.gb_base.specs.declared.steps.SequenceStep.TheVariants as steps
+use Rattle.gb_invariants.proofs.Awaiting.{not-both}
+use Rattle.gb_invariants.proofs.Lists.{found-in, in-without}
+use Rattle.gb_invariants.proofs.Outcomes.{both-true, is-same, same-number}
+use Rattle.gb_laws.proofs.Asked.{
+  TurnAsks,
+  asks-connects,
+  asks-disconnects,
+  asks-ended,
+  asks-inserted,
+  asks-removed,
+}
+use Rattle.gb_laws.proofs.AskedWaits.{AsksIn, is_power_step}
+use Rattle.gb_laws.proofs.AwaitsOwn.{turn-waits}
+use Rattle.gb_laws.proofs.Enums.{AreStarts, enums}
+use Rattle.gb_laws.proofs.Leaving.{WhyLeft, removed, why-left, closed}
+use Rattle.gb_laws.proofs.LinkBuses.{Linked}
+use Rattle.gb_laws.proofs.LinkLists.{find-none, one-link}
+use Rattle.gb_laws.proofs.Linking.{InsertsAbsent, same-links, turn-fits}
+use Rattle.gb_laws.proofs.Links.{IsFollowed, leaves, stays}
+use Rattle.gb_laws.proofs.Noticing.{told-by_svc}
+use Rattle.gb_laws.proofs.PointParts.{IsCaused, IsNoticed, Point, resting}
+use Rattle.gb_laws.proofs.Points.{IsOver}
+use Rattle.gb_laws.proofs.Quiet.{IsQuiet, is_removed}
+use Rattle.gb_laws.proofs.QuietAwaited.{waited-by}
+use Rattle.gb_laws.proofs.QuietRuns.{removal-waits, waits-before}
+use Rattle.gb_laws.proofs.Stale.{HasNoStale, IsCool, StaleAt}
+use Rattle.gb_laws.proofs.StaleBase.{NoticedStill, StaleBase}
+use Rattle.gb_laws.proofs.SvcOrder.{none-earlier}
+use Rattle.gb_machine.specs.Bus.{Ask, request_of}
+use Rattle.gb_machine.specs.Host.{is_intf}
+use Rattle.gb_machine.specs.HostTurns.{host_turn, without_interface}
+use Rattle.gb_machine.specs.Members.{IsIn}
+use Rattle.gb_machine.specs.Ports.{level_of}
+use Rattle.gb_machine.specs.Runs.{Moment}
+use Rattle.gb_machine.specs.SequenceSteps.{asks_control, is_enumeration}
+use Rattle.gb_machine.specs.State.{State}
+use Rattle.gb_machine.specs.SvcQueues.{svc_items}
+use Rattle.gb_machine.specs.Turns.{Asking, HostEvent}
+use Rattle.gb_machine.specs.Waits.{awaited}
+
+module _ (m : Moment) (absent : InsertsAbsent m) (i : ℕ)
+    (start : StaleBase m (resting m.told m.before))
+    (quiet : IsQuiet i (resting m.told m.before)) where
+  pub cool-turned : (a : Point) (e : HostEvent) (b : Point) → StaleBase m a → NoticedStill m i a
+      → a.pending ≡ [] → IsOver m e a.state.bus → IsCaused m e a.state.host
+      → b.state ≡ record a.state { host = (host_turn e a.state.host).host }
+      → b.asked ≡ a.asked → b.pending ≡ (host_turn e a.state.host).acts
+      → IsCool i a → IsCool i b
+  cool-turned a e b f noticed none over cause state asked pending h = record {
+    low = λ n s. ⊎_elim (λ o. subst (λ (t : State). level_of i t.ports ≤ 1) (sym state) (h.low n o))
+        (λ gone. subst (λ (t : State). level_of i t.ports ≤ 1) (sym state)
+        (subst (λ k. k ≤ 1) (sym (still gone).0) (quiet.low.low (removed gone))))
+        (fate n s);
+    starts = λ n s one.
+        let level = sym (ap (λ (t : State). level_of i t.ports) state) ∙ one in
+        subst (λ (t : State). AreStarts (enums i t.bus)) (sym state)
+        (⊎_elim (λ o. h.starts n o level)
+        (λ gone. (still gone).1 (same gone)
+        (quiet.low.starts (removed gone, sym (still gone).0 ∙ level))) (fate n s));
+    waits = λ x j at w g p n s.
+        let k = subst (λ (t : State). IsIn x t.host.interfaces) state j in
+        let was = turn-waits e a.state.host x k w g in
+        ⊎_elim (λ o. h.waits was.was was.known (was.intf ∙ at) w (was.awaits ∙ g) p n o)
+        (λ gone. absurd (absent-then x at (subst (λ y. IsIn x (host_turn y
+        a.state.host).host.interfaces) gone k))) (fate n s);
+    due = λ g q j at p. asks e refl q (subst (AsksIn q) pending j) at p;
+  }
+    where
+      links : Linked a.state.bus a.state.host []
+      links = subst (Linked a.state.bus a.state.host) none f.links
+
+      -- what is stale was, or the removal of its interface is handled
+      fate : (n : ℕ) → StaleAt i n b → StaleAt i n a ⊎ (e ≡ HostEvent.Removed i)
+      fate n s = by (find (λ (l : Link). l.connection == s.connection) a.state.host.links) refl
+        where
+          pair : IsIn (n, s.connection) a.state.past.made_for
+          pair = subst (λ (t : State). IsIn (n, s.connection) t.past.made_for) state s.pair
+
+          waits : IsIn (Ask n) (svc_items side.Far a.state.bus)
+          waits = subst (λ (t : State). IsIn (Ask n) (svc_items side.Far t.bus)) state s.waits
+
+          made : request_of n a.state.bus ≡ Some s.request
+          made = subst (λ (t : State). request_of n t.bus ≡ Some s.request) state s.made
+
+          unknown : (l : Link) → IsIn l (host_turn e a.state.host).host.links
+              → l.connection ≡ s.connection → ⊥
+          unknown = subst (λ (t : State). (l : Link) → IsIn l t.host.links
+              → l.connection ≡ s.connection → ⊥) state s.unknown
+
+          why : (l : Link) → IsIn l a.state.host.links → l.connection ≡ s.connection
+              → WhyLeft a.state.host e l.connection → e ≡ HostEvent.Removed i
+          why l live on (removed j x is known at number) =
+              let one = one-link a.state.host.links x l links.host.links.rise known live number in
+              is ∙ ap HostEvent.Removed (sym at ∙ ap (λ (y : Link). y.intf) one
+              ∙ f.pairs.of n i l s.request live
+              (subst (λ k. IsIn (n, k) a.state.past.made_for) (sym on) pair) made s.speaks)
+          why l live on (closed j result payload x is known waiting number) =
+              let bound = f.pairs.bound x known (j, steps.DestroyConnection) waiting in
+              let own = f.pairs.made j x.connection (bound.own refl) in
+              let ended = (subst (λ y. IsOver m y a.state.bus) is over) result payload refl in
+              absurd (none-earlier a f.basis f.links f.there f.order j n own.request own.made
+              own.on own.by_ap own.twoway ended.0
+              (bound.last n (subst (λ k. IsIn (n, k) a.state.past.made_for)
+              (sym (number ∙ on)) pair)) waits)
+
+          followed : (l : Link) → IsIn l a.state.host.links → l.connection ≡ s.connection
+              → IsFollowed l (host_turn e a.state.host).host.links (host_turn e a.state.host).acts
+              → e ≡ HostEvent.Removed i
+          followed l live on (stays k j same) =
+              absurd (unknown k j (same.connection ∙ on))
+          followed l live on (leaves j) =
+              why l live on (why-left a.state.bus e a.state.host l.connection links.host j)
+
+          by : (o : Option Link)
+              → find (λ (l : Link). l.connection == s.connection) a.state.host.links ≡ o
+              → StaleAt i n a ⊎ (e ≡ HostEvent.Removed i)
+          by None g = inl (record {
+            connection = s.connection;
+            pair = pair;
+            waits = waits;
+            unknown = λ l live on. not-both (l.connection == s.connection)
+                (ap (λ k. k == s.connection) on ∙ is-same s.connection)
+                (find-none (λ (y : Link). y.connection == s.connection) a.state.host.links l g
+                live);
+            request = s.request;
+            made = made;
+            speaks = s.speaks;
+          })
+          by (Some l) g =
+              let found = found-in (λ (y : Link). y.connection == s.connection)
+              a.state.host.links l g in
+              let on = same-number l.connection s.connection found.1 in
+              inr (followed l found.0 on
+              ((turn-fits m a.state.bus e a.state.host absent cause links.host).followed l
+              (subst (λ ls. IsIn l ls) (sym (same-links e a.state.host)) found.0)))
+
+      -- where the removal is handled
+      told : e ≡ HostEvent.Removed i → IsNoticed m (HostEvent.Removed i)
+      told gone = (subst (λ y. IsCaused m y a.state.host) gone cause).1
+
+      still : e ≡ HostEvent.Removed i → (level_of i a.state.ports ≡ level_of i m.before.ports)
+          × (a.state.bus.requests ≡ m.before.bus.requests → AreStarts (enums i m.before.bus)
+          → AreStarts (enums i a.state.bus))
+      still gone = noticed (HostEvent.Removed i) (told gone)
+
+      same : e ≡ HostEvent.Removed i → a.state.bus.requests ≡ m.before.bus.requests
+      same gone = subst (λ y. IsOver m y a.state.bus) gone over
+
+      removed : e ≡ HostEvent.Removed i → is_removed i m.before.bus ≡ true
+      removed gone =
+          let t = told-by_svc m (HostEvent.Removed i) start.basis start.links (told gone) in
+          sym (removal-waits i m.before.bus (svc_items side.Ap m.before.bus))
+          ∙ waits-before i m (record {
+            number = t.number;
+            request = t.request;
+            is = t.is;
+            front = t.front;
+            made = t.made;
+            passes = t.tells;
+          })
+
+      absent-then : (x : Interface) → x.intf ≡ i
+          → IsIn x (without_interface i a.state.host).interfaces → ⊥
+      absent-then x at j = not-both (is_intf i x) (ap (λ k. k == i) at ∙ is-same i)
+          (in-without (is_intf i) a.state.host.interfaces x j).1
+
+      -- nothing stale waits once a step was answered
+      calm : (n : ℕ) (how : Outcome) → e ≡ HostEvent.Ended n how → (p : Purpose)
+          → awaited n a.state.host ≡ Some p → (r : ℕ) (bytes : List ℕ)
+          → how ≡ outcome.Answered r bytes → p.intf ≡ i → is_power_step p.step ≡ true
+          → HasNoStale i b
+      calm n how is p g r bytes done at power j s = ⊎_elim
+          (λ o.
+          let x = waited-by n a.state.host p links.host.links.waiting g power in
+          let own = f.own.waits x.interface x.known (n, p.step) x.awaits in
+          let svc = own.svc (unmarked (asks_control p.step)
+          (both-true (is_enumeration p.step) (not (asks_control p.step)) power).1) in
+          let ended = (subst (λ y. IsOver m y a.state.bus) is over) r bytes done in
+          let less = h.waits x.interface x.known (x.intf ∙ at) (n, p.step) x.awaits power j o in
+          none-earlier a f.basis f.links f.there f.order n j own.request own.made svc.connection
+          svc.side own.twoway ended.0 (omega (arith, less)) o.waits)
+          (λ gone. ended-removed n how (sym is ∙ gone)) (fate j s)
+        where
+          unmarked : (t : Bool) → not t ≡ true → t ≡ false
+          unmarked true g = absurd cc
+          unmarked false g = refl
+
+          ended-removed : (n : ℕ) (how : Outcome)
+              → HostEvent.Ended n how ≡ HostEvent.Removed i → ⊥
+          ended-removed n how e = absurd cc
+
+      asks : (y : HostEvent) → e ≡ y → (q : Asking)
+          → AsksIn q (host_turn e a.state.host).acts → q.purpose.intf ≡ i
+          → is_power_step q.purpose.step ≡ true
+          → (q.purpose.step ≡ steps.EnableVsys) ⊎ HasNoStale i b
+      asks y is q j at p = (by y is).asks q
+          (subst (λ z. AsksIn q (host_turn z a.state.host).acts) is j) at p
+        where
+          by : (y : HostEvent) → e ≡ y
+              → TurnAsks i (HasNoStale i b) a.state.host (host_turn y a.state.host)
+          by (HostEvent.Inserted k) g = asks-inserted i (HasNoStale i b) k a.state.host
+          by (HostEvent.Removed k) g = asks-removed i (HasNoStale i b) k a.state.host
+          by (HostEvent.Connect k c) g = asks-connects i (HasNoStale i b) k c a.state.host
+          by (HostEvent.Disconnect k c) g = asks-disconnects i (HasNoStale i b) k c a.state.host
+          by (HostEvent.Ended n how) g =
+              asks-ended i (HasNoStale i b) (awaited n a.state.host) how a.state.host
+              (λ p z r bytes done at power. calm n how g p z r bytes done at power)
