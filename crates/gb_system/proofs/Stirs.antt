@@ -33,7 +33,8 @@ use Rattle.gb_module.specs.declared.stir.Stir as code
 use Rattle.gb_module.specs.declared.stir.Stir.TheVariants as stir
 use Rattle.gb_module.specs.declared.stir.StirFault.{StirFault}
 use Rattle.gb_module.specs.declared.stir.StirFault.TheVariants as fault
-use Rattle.gb_system.proofs.Doings.{does-by_state, does-change, does-given, does-given_none, does-then}
+use Rattle.gb_system.proofs.Doings.{does-by_state, does-change}
+use Rattle.gb_system.proofs.Doings.{does-given, does-given_none, does-then}
 use Rattle.gb_system.proofs.Fits.{stir-asks}
 use Rattle.gb_system.proofs.Landing.{lands, lands-refused}
 use Rattle.gb_system.proofs.ModuleServes.{short-at, short-with, stands-with, with_modules}
@@ -64,7 +65,8 @@ stirs-at : (i : ℕ) (o : Option (Stirred Module)) (x y : Module) (ps zs : List 
     (r : Result (List OwnAsk) StirFault) → StirsAs o x y r → zs ≡ with_module i y ps
     → (y ≡ x → zs ≡ ps) → StirsAt i o ps zs (of_all r)
 stirs-at i o x y ps zs (Ok own) h changed kept =
-    subst (λ (p : Option (Stirred Module)). StirsAt i p ps zs (Ok (Some own))) (sym h) (refl, changed)
+    subst (λ (p : Option (Stirred Module)). StirsAt i p ps zs (Ok (Some own))) (sym h)
+    (refl, changed)
 stirs-at i o x y ps zs (Err fault.NoCport) h changed kept =
     subst (λ (p : Option (Stirred Module)). StirsAt i p ps zs (Err fault.NoCport)) (sym h.0)
     (refl, kept h.1)
