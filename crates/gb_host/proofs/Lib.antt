@@ -1,10 +1,14 @@
 pub mod Bridges
 pub mod Changing
+pub mod FarEnds
 pub mod Free
 pub mod Fronts
+pub mod Idle
+pub mod Indexed
 pub mod Looks
 pub mod Manifests
 pub mod Marks
+pub mod Named
 pub mod Ordering
 pub mod Restoring
 pub mod Rising

@@ -1,11 +1,13 @@
 -- Connections whose numbers rise.
-use Rattle.std.proofs.Common.{◌≡◌, ◌==◌, ◌<◌, ◌≤◌, ◌+◌, ℕ, zero, suc, Bool, true, false, ◌&&◌, cond, nat_lt, leb, ltb, ◌-◌, Some, None, List, [], ◌∷◌, ◌++◌, length, get_or, refl, sym, ap, ◌∙◌, arith, subst, length-append}
+use Rattle.std.proofs.Common.{◌≡◌, ◌==◌, ◌<◌, ◌≤◌, ◌+◌, ℕ, zero, suc, Bool, true, false, ◌&&◌, cond}
+use Rattle.std.proofs.Common.{nat_lt, ltb, ◌-◌, Some, None, List, [], ◌∷◌, ◌++◌, length, get_or}
+use Rattle.std.proofs.Common.{refl, sym, ap, ◌∙◌, arith, subst, length-append}
 use Rattle.std.proofs.Math.ListN.{get_or-append}
 use Rattle.std.proofs.Math.Seq.{get_or-append_seam}
 use Rattle.std.proofs.lemmas.Bool.Decides.{nat_tests}
 use Rattle.std.proofs.lemmas.List.{get_or_default}
 use Rattle.std.proofs.lemmas.List.Kept.{AllPairs-filter}
-use Rattle.std.specs.List.{filter, find}
+use Rattle.std.specs.List.{position_from}
 use Rattle.std.specs.List.Sorted.{IsNonDecreasingBy, IsPartitionPoint}
 use Rattle.gb_base.specs.declared.peers.Link.{Link}
 use Rattle.gb_host.specs.Indexes.{Rises}
@@ -19,7 +21,9 @@ climbs ls rises i j d most within = by (i == j) refl
     by true h =
         let same : i ≡ j = grind (arith, nat_tests) in
         subst (λ n. (get_or ls i d).connection ≤ (get_or ls n d).connection) same (omega arith)
-    by false h = let less : i < j = grind (arith, nat_tests) in rises i j d less within
+    by false h =
+        let less : i < j = grind (arith, nat_tests) in
+        let more = rises i j d less within in omega (arith, more)
 
 -- a change keeps how many there are
 length-kept : (test : Link → Bool) (f : Link → Link) (ls : List Link)
@@ -56,64 +60,66 @@ rises-kept test f ls ms same e rises = subst Rises (sym e) (λ i j d less within
     let inside : j < length ls = subst (λ n. j < n) (length-kept test f ls) within in
     let a = number-kept test f same ls i d in
     let b = number-kept test f same ls j d in
-    subst (λ n. n ≤ (get_or (at_first test f ls) j d).connection) (sym a)
-    (subst (λ n. (get_or ls i d).connection ≤ n) (sym b) (rises i j d less inside)))
+    subst (λ n. n < (get_or (at_first test f ls) j d).connection) (sym a)
+    (subst (λ n. (get_or ls i d).connection < n) (sym b) (rises i j d less inside)))
 
 -- the connections that stay rise
 pub rises-without : (test : Link → Bool) (ls ms : List Link) → ms ≡ without test ls → Rises ls
     → Rises ms
 rises-without test ls ms e rises = subst Rises (sym e) (AllPairs-filter (λ (l m : Link).
-    l.connection ≤ m.connection) _ ls rises)
+    l.connection < m.connection) _ ls rises)
 
--- no number is greater than that of one more at the end
+-- each number is smaller than that of one more at the end
 pub rises-last : (ls : List Link) (l : Link) → ((i : ℕ) (d : Link) → i < length ls
-    → (get_or ls i d).connection ≤ l.connection)
+    → (get_or ls i d).connection < l.connection)
     → Rises ls → Rises (ls ++ l ∷ [])
 rises-last ls l below rises i j d less within = by (nat_lt j (length ls)) refl
   where
-    by : (b : Bool) → nat_lt j (length ls) ≡ b → (get_or (ls ++ l ∷ []) i d).connection ≤ (get_or
+    by : (b : Bool) → nat_lt j (length ls) ≡ b → (get_or (ls ++ l ∷ []) i d).connection < (get_or
         (ls ++ l ∷ []) j d).connection
     by true h =
         let there : j < length ls = grind (arith, nat_tests) in
         let before : i < length ls = omega (arith, less, there) in
-        subst (λ (m : Link). m.connection ≤ (get_or (ls ++ l ∷ []) j d).connection) (sym
+        subst (λ (m : Link). m.connection < (get_or (ls ++ l ∷ []) j d).connection) (sym
         (get_or-append ls (l ∷ []) d i before))
-        (subst (λ (m : Link). (get_or ls i d).connection ≤ m.connection) (sym (get_or-append ls (l
+        (subst (λ (m : Link). (get_or ls i d).connection < m.connection) (sym (get_or-append ls (l
         ∷ []) d j there)) (rises i j d less there))
     by false h =
         let over : length ls ≤ j = grind (arith, nat_tests) in
         let count : length (ls ++ l ∷ []) ≡ length ls + 1 = length-append ls (l ∷ []) in
         let end : j ≡ length ls = omega (arith, over, count, within) in
         let before : i < length ls = omega (arith, less, end) in
-        subst (λ (m : Link). m.connection ≤ (get_or (ls ++ l ∷ []) j d).connection) (sym
+        subst (λ (m : Link). m.connection < (get_or (ls ++ l ∷ []) j d).connection) (sym
         (get_or-append ls (l ∷ []) d i before))
-        (subst (λ n. (get_or ls i d).connection ≤ (get_or (ls ++ l ∷ []) n d).connection) (sym end)
-        (subst (λ (m : Link). (get_or ls i d).connection ≤ m.connection) (sym (get_or-append_seam
+        (subst (λ n. (get_or ls i d).connection < (get_or (ls ++ l ∷ []) n d).connection) (sym end)
+        (subst (λ (m : Link). (get_or ls i d).connection < m.connection) (sym (get_or-append_seam
         ls l [] d)) (below i d before)))
 
 -- the first with a number, where those before it have smaller ones
-pub first-of : (k : ℕ) (ls : List Link) (i : ℕ) (d : Link) → i < length ls → ((j : ℕ) → j < i
+pub first-of : (k : ℕ) (ls : List Link) (n i : ℕ) (d : Link) → i < length ls → ((j : ℕ) → j < i
     → (get_or ls j d).connection < k)
-    → (get_or ls i d).connection ≡ k → find (λ l. l.connection == k) ls ≡ Some (get_or ls i d)
-first-of k [] i d within before is = absurd (omega (arith, within))
-first-of k (l ∷ ls) zero d within before is =
+    → (get_or ls i d).connection ≡ k → position_from (λ l. l.connection == k) n ls ≡ Some (n + i)
+first-of k [] n i d within before is = absurd (omega (arith, within))
+first-of k (l ∷ ls) n zero d within before is =
     let test : (l.connection == k) ≡ true = grind (arith, nat_tests) in
-    ap (λ b. cond b (Some l) (find (λ (m : Link). m.connection == k) ls)) test
-first-of k (l ∷ ls) (suc n) d within before is =
+    ap (λ b. cond b (Some n) (position_from (λ (m : Link). m.connection == k) (n + 1) ls)) test
+    ∙ ap Some (omega arith)
+first-of k (l ∷ ls) n (suc i) d within before is =
     let least : l.connection < k = before zero (omega arith) in
     let test : (l.connection == k) ≡ false = grind (arith, nat_tests) in
-    ap (λ b. cond b (Some l) (find (λ (m : Link). m.connection == k) ls)) test
-    ∙ first-of k ls n d (omega (arith, within)) (λ j h. before (suc j) (omega (arith, h))) is
+    ap (λ b. cond b (Some n) (position_from (λ (m : Link). m.connection == k) (n + 1) ls)) test
+    ∙ first-of k ls (n + 1) i d (omega (arith, within)) (λ j h. before (suc j) (omega (arith, h)))
+    is ∙ ap Some (omega arith)
 
 -- none, where all have other numbers
-pub none-of : (k : ℕ) (ls : List Link) → ((j : ℕ) (d : Link) → j < length ls
+pub none-of : (k : ℕ) (ls : List Link) (n : ℕ) → ((j : ℕ) (d : Link) → j < length ls
     → ((get_or ls j d).connection == k) ≡ false)
-    → find (λ l. l.connection == k) ls ≡ None
-none-of k [] other = refl
-none-of k (l ∷ ls) other =
-    ap (λ b. cond b (Some l) (find (λ (m : Link). m.connection == k) ls)) (other zero l (omega
-    arith))
-    ∙ none-of k ls (λ j d h. other (suc j) d (omega (arith, h)))
+    → position_from (λ l. l.connection == k) n ls ≡ None
+none-of k [] n other = refl
+none-of k (l ∷ ls) n other =
+    ap (λ b. cond b (Some n) (position_from (λ (m : Link). m.connection == k) (n + 1) ls)) (other
+    zero l (omega arith))
+    ∙ none-of k ls (n + 1) (λ j d h. other (suc j) d (omega (arith, h)))
 
 -- the place in front of which numbers are smaller, and from which on they aren't
 abbrev pub IsPoint : ℕ → List Link → ℕ → Type 0
@@ -122,8 +128,8 @@ IsPoint k ls i = IsPartitionPoint (λ (l : Link). ltb l.connection k
 
 -- none has the number, where the place is behind all
 pub behind-all : (k : ℕ) (ls : List Link) (i : ℕ) → IsPoint k ls i → i ≡ length ls
-    → find (λ l. l.connection == k) ls ≡ None
-behind-all k ls i point end = none-of k ls (λ j d h.
+    → position_from (λ l. l.connection == k) 0 ls ≡ None
+behind-all k ls i point end = none-of k ls 0 (λ j d h.
     let below : j < i = omega (arith, h, end) in
     let test : ltb (get_or ls j d).connection k ≡ true = point.0 j d (omega arith) below in
     grind (arith, nat_tests))
@@ -131,16 +137,17 @@ behind-all k ls i point end = none-of k ls (λ j d h.
 -- the one at the place has the number
 pub at-point : (k : ℕ) (ls : List Link) (i : ℕ) (d : Link) → IsPoint k ls i → i < length ls
     → (get_or ls i d).connection ≡ k
-    → find (λ l. l.connection == k) ls ≡ Some (get_or ls i d)
-at-point k ls i d point within is = first-of k ls i d within
+    → position_from (λ l. l.connection == k) 0 ls ≡ Some i
+at-point k ls i d point within is = first-of k ls 0 i d within
     (λ j h. let test : ltb (get_or ls j d).connection k ≡ true = point.0 j d (omega arith) h in
-    grind (arith, nat_tests)) is
+    grind (arith, nat_tests)) is ∙ ap Some (omega arith)
 
 -- none has the number, where the one at the place hasn't
 pub past-point : (k : ℕ) (ls : List Link) (i : ℕ) (e : Link) → Rises ls → IsPoint k ls i
     → i < length ls
-    → ((get_or ls i e).connection == k) ≡ false → find (λ l. l.connection == k) ls ≡ None
-past-point k ls i e rises point within other = none-of k ls (λ j d h. by j d h (nat_lt j i) refl)
+    → ((get_or ls i e).connection == k) ≡ false
+    → position_from (λ l. l.connection == k) 0 ls ≡ None
+past-point k ls i e rises point within other = none-of k ls 0 (λ j d h. by j d h (nat_lt j i) refl)
   where
     by : (j : ℕ) (d : Link) → j < length ls → (b : Bool) → nat_lt j i ≡ b
         → ((get_or ls j d).connection == k) ≡ false
@@ -165,17 +172,17 @@ and-both true true h = (refl, refl)
 and-both true false h = absurd cc
 and-both false b h = absurd cc
 
--- the numbers rise to that of one more, where the last is no greater
+-- the numbers rise to that of one more, where the last is smaller
 pub rises-to : (live ls : List Link) (l d : Link) → live ≡ ls
-    → leb (get_or live (length live - 1) d).connection l.connection ≡ true
+    → ltb (get_or live (length live - 1) d).connection l.connection ≡ true
     → Rises ls → Rises (ls ++ l ∷ [])
 rises-to live ls l d same says rises = rises-last ls l (λ i e h.
-    let test : leb (get_or ls (length ls - 1) d).connection l.connection ≡ true =
-    subst (λ ms. leb (get_or ms (length ms - 1) d).connection l.connection ≡ true) same says in
-    let most : (get_or ls (length ls - 1) d).connection ≤ l.connection = grind (arith, nat_tests) in
+    let test : ltb (get_or ls (length ls - 1) d).connection l.connection ≡ true =
+    subst (λ ms. ltb (get_or ms (length ms - 1) d).connection l.connection ≡ true) same says in
+    let most : (get_or ls (length ls - 1) d).connection < l.connection = grind (arith, nat_tests) in
     let before : i ≤ length ls - 1 = omega (arith, h) in
     let within : length ls - 1 < length ls = omega (arith, h) in
     let up : (get_or ls i d).connection ≤ (get_or ls (length ls - 1) d).connection = climbs ls
     rises i (length ls - 1) d before within in
     let one : get_or ls i e ≡ get_or ls i d = get_or_default ls i e d h in
-    subst (λ (m : Link). m.connection ≤ l.connection) (sym one) (omega (arith, up, most))) rises
+    subst (λ (m : Link). m.connection < l.connection) (sym one) (omega (arith, up, most))) rises

@@ -6,7 +6,11 @@ use Rattle.gb_base.specs.declared.peers.Link.{Link}
 use Rattle.gb_base.specs.declared.steps.SequenceStep.{SequenceStep}
 use Rattle.gb_host.specs.declared.interfaces.Change.{Change}
 use Rattle.gb_host.specs.declared.interfaces.Change.TheVariants as change
+use Rattle.gb_host.specs.declared.links.LinkChange.{LinkChange}
+use Rattle.gb_host.specs.declared.links.LinkChange.TheVariants as link
 use Rattle.gb_host.specs.declared.links.Links.{Links}
+use Rattle.gb_machine.specs.Host.{in_state}
+use Rattle.gb_machine.specs.HostServing.{with_credits}
 
 -- an interface is to have a device id, or none
 abbrev pub with_device : Option ℕ → Interface → Interface
@@ -29,6 +33,13 @@ link_awaits w l = record l { awaits = w }
 -- a connection has so many credits fewer, or none
 abbrev pub with_fewer : ℕ → Link → Link
 with_fewer taken l = record l { credits = l.credits - taken }
+
+-- a connection with a change
+abbrev pub link_changed : LinkChange → Link → Link
+link_changed (link.State to) l = in_state to l
+link_changed (link.Credits total) l = with_credits total l
+link_changed (link.Fewer taken) l = with_fewer taken l
+link_changed (link.Awaits w) l = link_awaits w l
 
 -- there are no connections
 abbrev pub is_empty : Links → Type 0

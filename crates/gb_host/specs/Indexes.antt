@@ -1,15 +1,26 @@
 -- What is kept to look connections up.
-use Rattle.std.specs.Prelude.{◌≡◌, ◌≤◌, Bool, true, List}
+use Rattle.std.specs.Prelude.{◌≡◌, ◌<◌, ◌≤◌, ℕ, Bool, true, None, List, get_or, length}
 use Rattle.std.specs.List.{AllPairs}
 use Rattle.gb_base.specs.declared.peers.Link.{Link}
 use Rattle.gb_host.specs.Marks.{Marks}
+use Rattle.gb_host.specs.Named.{AreNamed}
 use Rattle.gb_host.specs.declared.cports.Cports.{Cports}
+use Rattle.gb_host.specs.declared.ends.Ends.{Ends}
 
 -- The numbers of connections rise.
 abbrev pub Rises : List Link → Type 0
-Rises links = AllPairs (λ l m. l.connection ≤ m.connection) links
+Rises links = AllPairs (λ l m. l.connection < m.connection) links
 
--- The CPorts of connections are marked, and where it is said that the numbers rise they do.
-pub record AreIndexed (cports : Cports) (rising : Bool) (links : List Link) : Type 0 where
+-- No connection before this place waits.
+abbrev pub AreIdle : ℕ → List Link → Type 0
+AreIdle place links = (i : ℕ) (d : Link) → i < place → (get_or links i d).awaits ≡ None
+
+-- The CPorts of connections are marked, and none before a place waits. Where it is said so, their
+-- numbers rise, and those at each far end are known.
+pub record AreIndexed (cports : Cports) (ends : Ends) (known : Bool) (place : ℕ)
+    (links : List Link) : Type 0 where
   pub marks : Marks cports links
-  pub rises : rising ≡ true → Rises links
+  pub rises : known ≡ true → Rises links
+  pub named : known ≡ true → AreNamed ends links
+  pub within : place ≤ length links
+  pub idle : AreIdle place links

@@ -3,6 +3,7 @@ pub mod Bridging
 pub mod Changes
 pub mod Indexes
 pub mod Marks
+pub mod Named
 pub mod Refusing
 pub mod Serving
 pub mod Stands

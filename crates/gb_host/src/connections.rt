@@ -1,26 +1,33 @@
 //! The connections to modules, with what is kept to look them up.
 
-ghost use Rattle.std.specs.Prelude.{◌≡◌, ◌==◌, ◌∷◌, [], ◌++◌, None, IfOk, OnOk, find};
-ghost use Rattle.std.specs.List.{list_any};
+ghost use Rattle.std.specs.Prelude.{◌≡◌, ◌==◌, ◌<◌, ◌≤◌, ◌∷◌, [], ◌++◌, None, IfOk, IfSome, List};
+ghost use Rattle.std.specs.Prelude.{OnOk, find, length, set};
+ghost use Rattle.std.specs.List.{list_any, position_from};
+ghost use Rattle.gb_base.specs.declared.peers.Link.{Link};
+ghost use Rattle.gb_host.specs.Indexes.{AreIdle};
 ghost use Rattle.gb_machine.specs.Host.{in_state, is_link};
 ghost use Rattle.gb_machine.specs.HostServing.{with_credits};
 ghost use Rattle.gb_machine.specs.Lists.{at_first, first_free, without};
 ghost use Rattle.gb_machine.specs.Waits.{link_waits};
 
 use crate::cports::Cports;
-use crate::links::Links;
+use crate::ends::Ends;
+use crate::links::{LinkChange, Links};
 use gb_base::{ConnState, Link, OutOfMemory, Purpose, SequenceStep};
 use std::alloc::Global;
 use std::marker::Model;
 
-/// The connections to modules in order of number. A contract sees them alone. The CPorts of the
-/// application processor that they have are marked, so that a free one is found without them, and
-/// a connection is found by its number in few steps as long as new numbers are the greatest.
+/// The connections to modules in order of number. A contract sees them alone. The rest is kept so
+/// that nothing goes over all of them: the CPorts of the application processor that they have, the
+/// numbers of those at each far end, and a place before which none waits. Where numbers don't rise,
+/// or no memory was found, far ends and numbers aren't known, and are looked for one by one.
 #[derive(Drop)]
 pub struct Connections {
     links: Links,
     cports: Cports,
-    rising: bool,
+    ends: Ends,
+    known: bool,
+    idle: usize,
 }
 
 impl Model for Connections {
@@ -32,11 +39,12 @@ impl Model for Connections {
 
     ghost view = { λ x. x.links };
 
-    ghost invariant = { λ x. AreIndexed x.cports x.rising x.links.live.items };
+    ghost invariant = { λ x. AreIndexed x.cports x.ends x.known x.idle x.links.live.items };
 }
 
 impl Connections {
-    ghost use Rattle.gb_host.specs.Changes.{HasRoom, is_empty, link_awaits, with_fewer};
+    ghost use Rattle.gb_host.specs.Changes.{HasRoom, is_empty, link_awaits, link_changed};
+    ghost use Rattle.gb_host.specs.Changes.{with_fewer};
 
     /// No connections.
     pub fn new(alloc: Global) -> Result<Connections, OutOfMemory>
@@ -45,7 +53,9 @@ impl Connections {
         Ok(Connections {
             links: Links::new(alloc),
             cports: Cports::new(alloc)?,
-            rising: true,
+            ends: Ends::new(alloc),
+            known: true,
+            idle: 0,
         })
     }
 
@@ -60,14 +70,15 @@ impl Connections {
     pub fn at(&self, intf: u8, cport: u16) -> Option<Link>
         ensures { result ≡ find (is_link intf cport) self.now.live.items }
     {
-        self.links.at(intf, cport)
+        let place = self.place(intf, cport)?;
+        Some(self.links.get(place))
     }
 
     /// The connection with a number.
     pub fn of(&self, connection: u64) -> Option<Link>
         ensures { result ≡ find (λ l. l.connection == connection) self.now.live.items }
     {
-        if self.rising {
+        if self.known {
             self.links.of_rising(connection)
         } else {
             self.links.of(connection)
@@ -85,7 +96,7 @@ impl Connections {
     pub fn waiting(&self, number: u64) -> Option<Purpose>
         ensures { result ≡ link_waits number self.now.live.items }
     {
-        self.links.waiting(number)
+        self.links.waiting(self.idle, number)
     }
 
     /// What the connect or close of a connection waits for.
@@ -94,7 +105,10 @@ impl Connections {
             (at_first (is_link intf cport) (link_awaits None) self.now.live.items)
             ≡ self.now.live.items }
     {
-        self.links.awaits(intf, cport)
+        match self.at(intf, cport) {
+            Some(link) => link.awaits,
+            None => None,
+        }
     }
 
     /// The state of a connection that another state is about to replace.
@@ -103,7 +117,10 @@ impl Connections {
             (at_first (is_link intf cport) (in_state to) self.now.live.items)
             ≡ self.now.live.items }
     {
-        self.links.state(intf, cport, to)
+        match self.at(intf, cport) {
+            Some(link) => link.state,
+            None => to,
+        }
     }
 
     /// A connection more will take no memory.
@@ -120,6 +137,8 @@ impl Connections {
     {
         self.links.remove(intf, cport);
         self.cports.refill(self.links.items());
+        self.ends.remove(intf, cport);
+        self.idle = self.links.idle_from(0);
     }
 
     /// The connections of an interface are there no more.
@@ -128,6 +147,8 @@ impl Connections {
     {
         self.links.remove_all(intf);
         self.cports.refill(self.links.items());
+        self.ends.remove_all(intf);
+        self.idle = self.links.idle_from(0);
     }
 
     /// A connection goes to the end.
@@ -137,7 +158,8 @@ impl Connections {
         let rises = self.links.rises_to(link);
         if self.links.add(link) {
             self.cports.take(link);
-            self.rising &= rises;
+            let named = self.ends.add(link);
+            self.known &= rises & named;
         }
     }
 
@@ -146,7 +168,7 @@ impl Connections {
         ensures { self.new.live.items
             ≡ at_first (is_link intf cport) (in_state to) self.old.live.items }
     {
-        self.links.set_state(intf, cport, to);
+        self.change(intf, cport, LinkChange::State(to));
     }
 
     /// A connection has so many credits.
@@ -154,7 +176,7 @@ impl Connections {
         ensures { self.new.live.items
             ≡ at_first (is_link intf cport) (with_credits total) self.old.live.items }
     {
-        self.links.set_credits(intf, cport, total);
+        self.change(intf, cport, LinkChange::Credits(total));
     }
 
     /// A connection has so many credits fewer, or none.
@@ -162,7 +184,7 @@ impl Connections {
         ensures { self.new.live.items
             ≡ at_first (is_link intf cport) (with_fewer taken) self.old.live.items }
     {
-        self.links.spend(intf, cport, taken);
+        self.change(intf, cport, LinkChange::Fewer(taken));
     }
 
     /// The connect or close of a connection waits for this.
@@ -170,6 +192,44 @@ impl Connections {
         ensures { self.new.live.items
             ≡ at_first (is_link intf cport) (link_awaits awaits) self.old.live.items }
     {
-        self.links.set_awaits(intf, cport, awaits);
+        self.change(intf, cport, LinkChange::Awaits(awaits));
+    }
+
+    /// A connection is changed.
+    fn change(&mut self, intf: u8, cport: u16, change: LinkChange)
+        ensures { self.new.live.items
+            ≡ at_first (is_link intf cport) (link_changed change) self.old.live.items }
+    {
+        if let Some(place) = self.place(intf, cport) {
+            let link = change.of(self.links.get(place));
+            self.links.put(place, link);
+            let from = idle_with(self.idle, place, link);
+            self.idle = self.links.idle_from(from);
+        }
+    }
+
+    /// Where the connection to a CPort of an interface stands.
+    fn place(&self, intf: u8, cport: u16) -> Option<usize>
+        ensures first { result ≡ position_from (is_link intf cport) 0 self.now.live.items }
+        ensures within { IfSome result (λ i. i < length self.now.live.items) }
+    {
+        if !self.known {
+            return self.links.place(intf, cport);
+        }
+        let number = self.ends.number(intf, cport)?;
+        self.links.place_rising(number)
+    }
+}
+
+/// A place before which none waits, where none did before the other, once this connection stands at
+/// its place.
+fn idle_with(idle: usize, place: usize, link: Link) -> usize
+    ensures most { result ≤ idle }
+    ensures idle { (ls : List Link) → idle ≤ length ls → AreIdle idle ls
+        → AreIdle result (set ls place link) }
+{
+    match link.awaits {
+        Some(_) => idle.min(place),
+        None => idle,
     }
 }

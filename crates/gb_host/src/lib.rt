@@ -8,6 +8,7 @@ mod bridging;
 mod connecting;
 mod connections;
 mod cports;
+mod ends;
 mod enumerating;
 mod events;
 mod failing;

@@ -1,15 +1,47 @@
 //! The connections to modules.
 
-ghost use Rattle.std.specs.Prelude.{◌≡◌, ◌==◌, ◌<◌, ◌∷◌, [], ◌++◌, true, false, None, IfSome, OnOk, find, length};
+ghost use Rattle.std.specs.Prelude.{◌≡◌, ◌==◌, ◌<◌, ◌≤◌, ◌∷◌, [], ◌++◌, true, false, IfSome, OnOk};
+ghost use Rattle.std.specs.Prelude.{drop, find, get_or, length, set};
 ghost use Rattle.std.specs.List.{position_from};
-ghost use Rattle.gb_machine.specs.Host.{in_state, is_link};
-ghost use Rattle.gb_machine.specs.HostServing.{with_credits};
-ghost use Rattle.gb_machine.specs.Lists.{at_first, without};
+ghost use Rattle.gb_machine.specs.Host.{is_link};
+ghost use Rattle.gb_machine.specs.Lists.{without};
 ghost use Rattle.gb_machine.specs.Waits.{link_waits};
 
 use crate::waiting::purpose_in;
 use gb_base::{ConnState, Link, OutOfMemory, Purpose, SequenceStep};
 use std::alloc::Global;
+
+/// A change of a connection.
+#[derive(Clone, Copy, Debug, PartialEq, Eq)]
+pub enum LinkChange {
+    /// It has a state from now on.
+    State(ConnState),
+    /// It has so many credits.
+    Credits(u16),
+    /// It has so many credits fewer, or none.
+    Fewer(usize),
+    /// Its connect or close waits for this.
+    Awaits(Option<(u64, SequenceStep)>),
+}
+
+impl LinkChange {
+    ghost use Rattle.gb_host.specs.Changes.{link_changed};
+
+    /// The connection with the change.
+    pub fn of(self, link: Link) -> Link
+        ensures { result ≡ link_changed self link }
+    {
+        match self {
+            LinkChange::State(state) => Link { state, ..link },
+            LinkChange::Credits(credits) => Link { credits, ..link },
+            LinkChange::Fewer(taken) => {
+                let credits = usize::from(link.credits).saturating_sub(taken) as u16;
+                Link { credits, ..link }
+            }
+            LinkChange::Awaits(awaits) => Link { awaits, ..link },
+        }
+    }
+}
 
 /// The connections to modules in order of number.
 #[derive(Drop)]
@@ -18,8 +50,8 @@ pub struct Links {
 }
 
 impl Links {
-    ghost use Rattle.gb_host.specs.Indexes.{Rises};
-    ghost use Rattle.gb_host.specs.Changes.{HasRoom, is_empty, link_awaits, with_fewer};
+    ghost use Rattle.gb_host.specs.Indexes.{AreIdle, Rises};
+    ghost use Rattle.gb_host.specs.Changes.{HasRoom, is_empty};
 
     /// No connections. It takes no memory yet.
     pub fn new(alloc: Global) -> Links
@@ -37,14 +69,12 @@ impl Links {
         self.live.as_slice()
     }
 
-    /// The connection to a CPort of an interface.
-    pub fn at(&self, intf: u8, cport: u16) -> Option<Link>
-        ensures { result ≡ find (is_link intf cport) self.now.live.items }
+    /// The connection at a place.
+    pub fn get(&self, place: usize) -> Link
+        requires { place < length self.now.live.items }
+        ensures { result ≡ get_or self.now.live.items place result }
     {
-        self.live
-            .iter()
-            .copied()
-            .find(|link| link.intf == intf && link.cport == cport)
+        self.live[place]
     }
 
     /// The connection with a number.
@@ -62,6 +92,17 @@ impl Links {
         ensures { Rises self.now.live.items
             → result ≡ find (λ l. l.connection == connection) self.now.live.items }
     {
+        let place = self.place_rising(connection)?;
+        Some(self.live[place])
+    }
+
+    /// Where the connection with a number stands, where the numbers rise. Few connections are
+    /// looked at.
+    pub fn place_rising(&self, connection: u64) -> Option<usize>
+        ensures first { Rises self.now.live.items → result
+            ≡ position_from (λ l. l.connection == connection) 0 self.now.live.items }
+        ensures within { IfSome result (λ i. i < length self.now.live.items) }
+    {
         let place = self
             .live
             .partition_point(|link| link.connection < connection);
@@ -70,14 +111,41 @@ impl Links {
         }
         let link = self.live[place];
         if link.connection == connection {
-            Some(link)
+            Some(place)
         } else {
             None
         }
     }
 
-    /// No number is greater than that of a connection that is about to go to the end, where the
-    /// numbers rise.
+    /// Where the connection to a CPort of an interface stands.
+    pub fn place(&self, intf: u8, cport: u16) -> Option<usize>
+        ensures first { result ≡ position_from (is_link intf cport) 0 self.now.live.items }
+        ensures within { IfSome result (λ i. i < length self.now.live.items) }
+    {
+        for (i, link) in self.live.iter().enumerate() {
+            if link.intf == intf && link.cport == cport {
+                return Some(i);
+            }
+        }
+        None
+    }
+
+    /// No connection before this place waits, where none before the other does.
+    pub fn idle_from(&self, from: usize) -> usize
+        ensures idle { AreIdle from self.now.live.items → AreIdle result self.now.live.items }
+        ensures within { result ≤ length self.now.live.items }
+    {
+        let end = self.live.len();
+        for place in from..end {
+            let link = self.live[place];
+            if link.awaits.is_some() {
+                return place;
+            }
+        }
+        end
+    }
+
+    /// Numbers rise to that of a connection that is about to go to the end, where they rise.
     pub fn rises_to(&self, link: Link) -> bool
         ensures { result ≡ true → Rises self.now.live.items
             → Rises (self.now.live.items ++ link ∷ []) }
@@ -86,43 +154,21 @@ impl Links {
         if live.is_empty() {
             return true;
         }
-        live[live.len() - 1].connection <= link.connection
+        live[live.len() - 1].connection < link.connection
     }
 
-    /// The purpose of a request that a connect or close waits for.
-    pub fn waiting(&self, number: u64) -> Option<Purpose>
-        ensures { result ≡ link_waits number self.now.live.items }
+    /// The purpose of a request that a connect or close waits for, from this place on.
+    pub fn waiting(&self, from: usize, number: u64) -> Option<Purpose>
+        requires { from ≤ length self.now.live.items }
+        ensures { result ≡ link_waits number (drop from self.now.live.items) }
     {
-        for link in &self.live {
+        let (_, later) = self.live.split_at(from);
+        for link in later {
             if let Some(purpose) = purpose_in(number, link.intf, link.cport, link.awaits) {
                 return Some(purpose);
             }
         }
         None
-    }
-
-    /// What the connect or close of a connection waits for.
-    pub fn awaits(&self, intf: u8, cport: u16) -> Option<(u64, SequenceStep)>
-        ensures { at_first (is_link intf cport) (link_awaits result)
-            (at_first (is_link intf cport) (link_awaits None) self.now.live.items)
-            ≡ self.now.live.items }
-    {
-        match self.at(intf, cport) {
-            Some(link) => link.awaits,
-            None => None,
-        }
-    }
-
-    /// The state of a connection that another state is about to replace.
-    pub fn state(&self, intf: u8, cport: u16, to: ConnState) -> ConnState
-        ensures { at_first (is_link intf cport) (in_state result)
-            (at_first (is_link intf cport) (in_state to) self.now.live.items)
-            ≡ self.now.live.items }
-    {
-        match self.at(intf, cport) {
-            Some(link) => link.state,
-            None => to,
-        }
     }
 
     /// A connection more will take no memory.
@@ -158,57 +204,11 @@ impl Links {
         self.live.push(link).is_ok()
     }
 
-    /// A connection has a state from now on.
-    pub fn set_state(&mut self, intf: u8, cport: u16, to: ConnState)
-        ensures { self.new.live.items
-            ≡ at_first (is_link intf cport) (in_state to) self.old.live.items }
+    /// There is another connection at a place.
+    pub fn put(&mut self, place: usize, link: Link)
+        requires { place < length self.old.live.items }
+        ensures { self.new.live.items ≡ set self.old.live.items place link }
     {
-        if let Some(i) = self.index(intf, cport) {
-            self.live[i].state = to;
-        }
-    }
-
-    /// A connection has so many credits.
-    pub fn set_credits(&mut self, intf: u8, cport: u16, total: u16)
-        ensures { self.new.live.items
-            ≡ at_first (is_link intf cport) (with_credits total) self.old.live.items }
-    {
-        if let Some(i) = self.index(intf, cport) {
-            self.live[i].credits = total;
-        }
-    }
-
-    /// A connection has so many credits fewer, or none.
-    pub fn spend(&mut self, intf: u8, cport: u16, taken: usize)
-        ensures { self.new.live.items
-            ≡ at_first (is_link intf cport) (with_fewer taken) self.old.live.items }
-    {
-        if let Some(i) = self.index(intf, cport) {
-            let link = &mut self.live[i];
-            link.credits = usize::from(link.credits).saturating_sub(taken) as u16;
-        }
-    }
-
-    /// The connect or close of a connection waits for this.
-    pub fn set_awaits(&mut self, intf: u8, cport: u16, awaits: Option<(u64, SequenceStep)>)
-        ensures { self.new.live.items
-            ≡ at_first (is_link intf cport) (link_awaits awaits) self.old.live.items }
-    {
-        if let Some(i) = self.index(intf, cport) {
-            self.live[i].awaits = awaits;
-        }
-    }
-
-    /// Where the connection to a CPort of an interface stands.
-    fn index(&self, intf: u8, cport: u16) -> Option<usize>
-        ensures first { result ≡ position_from (is_link intf cport) 0 self.now.live.items }
-        ensures within { IfSome result (λ i. i < length self.now.live.items) }
-    {
-        for (i, link) in self.live.iter().enumerate() {
-            if link.intf == intf && link.cport == cport {
-                return Some(i);
-            }
-        }
-        None
+        self.live[place] = link;
     }
 }

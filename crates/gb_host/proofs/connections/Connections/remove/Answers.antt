@@ -1,16 +1,17 @@
--- The CPorts of the connections that stay are marked, and their numbers rise as before.
-use Rattle.std.proofs.Common.{subst}
-use Rattle.gb_machine.specs.Host.{is_link}
-use Rattle.gb_host.proofs.Rising.{rises-without}
+-- What is kept is right for the connections that stay.
+use Rattle.std.proofs.Common.{arith, subst}
+use Rattle.gb_host.proofs.Indexed.{indexed-left}
 use Rattle.gb_host.specs.Marks.{Marks}
 use Rattle.gb_host.proofs.connections.Connections.remove.Goals as goal
+use Rattle.gb_machine.specs.Host.{is_link}
 
 pub invariant_of-self : goal.invariant_of-self
-invariant_of-self c = record {
-  marks = subst (Marks c.refill.new.self) c.items.ensures
-      (c.refill.ensures c.self.inside.links.live.items c.self.invariant.marks);
-  rises = λ says.
-      rises-without (is_link c.args.intf c.args.cport) c.self.inside.links.live.items
-      c.remove.new.self.live.items
-      c.remove.ensures (c.self.invariant.rises says);
-}
+invariant_of-self c =
+    let ls = c.self.inside.links.live.items in
+    let ms = c.remove.new.self.live.items in
+    indexed-left c.self.inside.cports c.refill.new.self c.self.inside.ends c.remove-2.new.self
+    c.self.inside.known c.self.inside.idle c.idle_from-self-inside.result
+    (is_link c.args.intf c.args.cport) ls ms c.remove.ensures c.self.invariant
+    (subst (Marks c.refill.new.self) c.items.ensures (c.refill.ensures ls c.self.invariant.marks))
+    (c.remove-2.ensures ls) c.idle_from-self-inside.ensures.within
+    (c.idle_from-self-inside.ensures.idle (λ i d h. absurd (omega (arith, h))))

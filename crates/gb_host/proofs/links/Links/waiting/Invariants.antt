@@ -5,4 +5,4 @@ use Rattle.gb_host.proofs.links.Links.waiting.Given as goal
 
 abbrev pub invariant-loop-link : goal.invariant-loop-link
 invariant-loop-link l =
-    link_waits l.number (drop l.link-index l.link-items) ≡ link_waits l.number l.link-items
+    link_waits l.number (drop l.link-index l.later) ≡ link_waits l.number l.later

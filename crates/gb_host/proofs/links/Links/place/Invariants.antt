@@ -2,7 +2,7 @@
 use Rattle.std.proofs.Common.{◌≡◌, drop}
 use Rattle.std.specs.List.{position_from}
 use Rattle.gb_machine.specs.Host.{is_link}
-use Rattle.gb_host.proofs.links.Links.index.Given as goal
+use Rattle.gb_host.proofs.links.Links.place.Given as goal
 
 abbrev pub invariant-loop-i : goal.invariant-loop-i
 invariant-loop-i l =

@@ -1,7 +1,7 @@
 -- The connection is as it was, where there is one.
 use Rattle.std.proofs.Common.{refl}
 use Rattle.gb_host.proofs.Restoring.{none-back, one-back}
-use Rattle.gb_host.proofs.links.Links.state.Goals as goal
+use Rattle.gb_host.proofs.connections.Connections.state.Goals as goal
 use Rattle.gb_machine.specs.Host.{in_state, is_link}
 
 pub returns-in-Some : goal.returns-in-Some

@@ -2,7 +2,7 @@
 use Rattle.std.proofs.Common.{None, refl}
 use Rattle.gb_host.proofs.Restoring.{none-back, one-back}
 use Rattle.gb_host.specs.Changes.{link_awaits}
-use Rattle.gb_host.proofs.links.Links.awaits.Goals as goal
+use Rattle.gb_host.proofs.connections.Connections.awaits.Goals as goal
 use Rattle.gb_machine.specs.Host.{is_link}
 
 pub returns-in-Some : goal.returns-in-Some

@@ -1,0 +1,64 @@
+-- Connections of which the first ones wait for nothing.
+use Rattle.std.proofs.Common.{◌≡◌, ◌==◌, ◌<◌, ◌≤◌, ◌+◌, ℕ, zero, suc, Bool, true, false, Option}
+use Rattle.std.proofs.Common.{None, Some, List, [], ◌∷◌, ◌++◌, length, drop, get_or, refl, sym, ap}
+use Rattle.std.proofs.Common.{◌∙◌, arith, subst}
+use Rattle.std.proofs.Math.ListN.{get_or-append}
+use Rattle.std.proofs.lemmas.Bool.Decides.{nat_tests}
+use Rattle.std.proofs.lemmas.List.{get_or_default}
+use Rattle.std.specs.Option.{is_some}
+use Rattle.gb_base.specs.declared.peers.Link.{Link}
+use Rattle.gb_host.specs.Indexes.{AreIdle}
+use Rattle.gb_machine.specs.Bus.{or_else}
+use Rattle.gb_machine.specs.Waits.{link_waits, purpose_in}
+
+-- what is waited for is waited for behind them
+pub waits-behind : (ls : List Link) (idle n : ℕ) → idle ≤ length ls → AreIdle idle ls
+    → link_waits n (drop idle ls) ≡ link_waits n ls
+waits-behind ls zero n within quiet = refl
+waits-behind [] (suc idle) n within quiet = refl
+waits-behind (l ∷ ls) (suc idle) n within quiet =
+    waits-behind ls idle n (omega (arith, within)) (λ i d h. quiet (suc i) d (omega (arith, h)))
+    ∙ sym (ap (λ w. or_else (purpose_in n l.intf l.cport w) (link_waits n ls)) (quiet zero l
+    (omega arith)))
+
+-- what is waited for is waited for behind one that isn't
+pub waits-next : (n : ℕ) (ls : List Link) (place : ℕ) (d : Link) → place < length ls
+    → purpose_in n (get_or ls place d).intf (get_or ls place d).cport (get_or ls place d).awaits
+    ≡ None → link_waits n (drop (place + 1) ls) ≡ link_waits n (drop place ls)
+waits-next n [] place d within none = absurd (omega (arith, within))
+waits-next n (l ∷ ls) zero d within none =
+    sym (ap (λ o. or_else o (link_waits n ls)) none)
+waits-next n (l ∷ ls) (suc place) d within none =
+    let e : suc place + 1 ≡ suc (place + 1) = omega arith in
+    ap (λ j. link_waits n (drop j (l ∷ ls))) e
+    ∙ waits-next n ls place d (omega (arith, within)) none
+
+-- one more goes to the end
+pub idle-added : (ls : List Link) (l : Link) (idle : ℕ) → idle ≤ length ls → AreIdle idle ls
+    → AreIdle idle (ls ++ l ∷ [])
+idle-added ls l idle within quiet i d h =
+    let before : i < length ls = omega (arith, within, h) in
+    ap (λ (m : Link). m.awaits) (get_or-append ls (l ∷ []) d i before) ∙ quiet i d h
+
+-- the next waits for nothing
+pub idle-next : (ls : List Link) (l : Link) (place : ℕ) → place < length ls
+    → l ≡ get_or ls place l → l.awaits ≡ None → AreIdle place ls → AreIdle (place + 1) ls
+idle-next ls l place within is none quiet i d h = by (i == place) refl
+  where
+    by : (b : Bool) → (i == place) ≡ b → (get_or ls i d).awaits ≡ None
+    by true e =
+        let same : place ≡ i = grind (arith, nat_tests) in
+        subst (λ p. (get_or ls p d).awaits ≡ None) same
+        (ap (λ (m : Link). m.awaits) (get_or_default ls place d l within ∙ sym is) ∙ none)
+    by false e =
+        let below : i < place = grind (arith, nat_tests) in quiet i d below
+
+-- fewer of them
+pub idle-less : (ls : List Link) (place most : ℕ) → place ≤ most → AreIdle most ls
+    → AreIdle place ls
+idle-less ls place most h quiet i d below = quiet i d (omega (arith, h, below))
+
+-- nothing that is there is waited for
+pub none-awaited : {A : Type 0} (o : Option A) → is_some o ≡ false → o ≡ None
+none-awaited None h = refl
+none-awaited (Some x) h = absurd cc

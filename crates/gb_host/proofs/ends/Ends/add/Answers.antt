@@ -1,0 +1,16 @@
+-- The far end of the connection has a number.
+use Rattle.std.proofs.Common.{◌≡◌, true, false, sym, ◌∙◌}
+use Rattle.gb_host.proofs.FarEnds.{ends-new, ends-there, on-ok}
+use Rattle.gb_host.proofs.ends.Ends.add.Goals as goal
+
+pub returns-then-contains_key : goal.returns-then-contains_key
+returns-then-contains_key c = λ ls named says.
+    let there : c.contains_key.result ≡ true = search in
+    ends-there c.args.self.now ls c.args.link (sym c.contains_key.ensures ∙ there) named
+
+pub returns : goal.returns
+returns c = λ ls named says.
+    let none : c.contains_key.result ≡ false = search in
+    ends-new c.args.self.now (record { numbers = c.insert.new.self }) ls c.args.link
+    (sym c.contains_key.ensures ∙ none)
+    (on-ok c.insert.result c.insert.ensures.updates (sym c.is_ok.ensures.value ∙ says)) named
