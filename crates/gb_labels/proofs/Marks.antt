@@ -5,19 +5,12 @@ use Rattle.std.proofs.Common.{bit_or, get_or-set_same, get_or-set_other, slice_i
 use Rattle.std.proofs.Common.{leb, refl, sym, ap, ◌∙◌, subst, arith, w64}
 use Rattle.std.proofs.lemmas.Bool.Decides.{eqb_tells, leb_tells}
 use Rattle.std.proofs.lemmas.List.{get_or-replicate, get_or_past, get_or_read, length-replicate}
-use Rattle.std.proofs.lemmas.Nat.{div-add-mod', div_below, div-mul-add, mod-mul-add, mod_below}
+use Rattle.std.proofs.lemmas.Nat.{div-add-mod', div_below, mod_below}
 use Rattle.std.proofs.lemmas.Nat.Bits.{bit_at_clear_other, bit_at_clear_same, bit_at_set_other}
 use Rattle.std.proofs.lemmas.Nat.Bits.{bit_at_set_same, bit_at-zero}
 use Rattle.std.specs.Int.{bit_at, bit_not}
 use Rattle.gb_labels.specs.Drawing.{Frees, Marks, Takes}
 use Rattle.gb_labels.specs.LabelSet.{LabelSet, is_marked}
-
--- the mark at a place of a word
-pub at_place : (words : List ℕ) (i bit : ℕ) → bit < 64
-    → is_marked words (i * 64 + bit) ≡ (bit_at (slice_index words i) bit == 1)
-at_place words i bit h =
-    ap (λ n. bit_at (slice_index words n) ((i * 64 + bit) % 64) == 1) (div-mul-add i 64 bit h)
-    ∙ ap (λ n. bit_at (slice_index words i) n == 1) (mod-mul-add i 64 bit h)
 
 -- a word is written so that one mark changes
 pub record Writes (word new bit value : ℕ) : Type 0 where
