@@ -1,0 +1,9 @@
+//! The identifiers of the operations that one side of a connection has on the way.
+#![tactic(auto)]
+
+mod labels;
+#[cfg(test)]
+mod tests;
+mod word;
+
+pub use labels::{Labels, NoLabel};

@@ -1,0 +1,239 @@
+-- What the maps and the identifiers come to at each call.
+use Rattle.std.proofs.Common.{◌≡◌, ℕ, Bool, false, Option, Some, None, is_some}
+use Rattle.std.proofs.Common.{option_map, refl}
+use Rattle.std.proofs.Common.{sym, ap, ◌∙◌, subst}
+use Rattle.std.specs.BTreeMap.{BTreeMap, get, is_at}
+use Rattle.std.specs.BTreeSet.{contains}
+use Rattle.std.specs.Map.{lookup}
+use Rattle.std.specs.Ordering.{nat_cmp}
+use Rattle.gb_labels.specs.Drawing.{Frees, IsNext, Takes}
+use Rattle.gb_labels.specs.LabelSet.{LabelSet, next_of}
+use Rattle.gb_machine.specs.Labels.{free_label, greatest_label, label_after}
+use Rattle.gb_ops.proofs.Keeping.{begun, late_holder, left, open_holder}
+use Rattle.gb_ops.proofs.Maps.{same_some}
+use Rattle.gb_ops.specs.Calls.{Begins, Closes, Ends}
+use Rattle.gb_ops.specs.Finding.{IsLeast}
+use Rattle.gb_ops.specs.Operations.{Operations, Puts, next_label}
+use Rattle.gb_ops.specs.Tables.{Enters, Kept, Leaves, LeavesAs, MarksAs, ReleasesAs, TimesOthers}
+use Rattle.gb_ops.specs.Tables.{by_deadline}
+use Rattle.gb_ops.specs.Tables.{gave_up, holder_in, pending_in}
+use Rattle.gb_ops.specs.declared.entries.Holder.{Holder}
+use Rattle.gb_ops.specs.declared.entries.Pending.{Pending}
+use Rattle.gb_ops.specs.declared.tables.Tables.{Tables}
+
+-- what contracts see
+abbrev pub view : LabelSet → Tables → Operations
+view labels t =
+    record { holders = t.holders.entries; pending = t.pending.entries; last = labels.last }
+
+-- the identifier that is drawn next is that of the rule
+next_same : (labels : LabelSet) (t : Tables) → Kept labels t
+    → next_of labels ≡ next_label (view labels t)
+next_same labels t k = λ i. free_label (λ l. k.used l i) greatest_label (label_after labels.last)
+
+none_from : {A : Type 0} (o : Option A) → is_some o ≡ false → o ≡ None
+none_from None e = λ i. None
+none_from (Some a) e = absurd (cc e)
+
+-- ---- a request is begun
+
+pub begins : (labels after : LabelSet) (t u : Tables) (x : Operations) (label n d : ℕ)
+    → Kept labels t
+    → view labels t ≡ x → IsNext labels label → Enters t u label n d → Takes labels after label
+    → Begins x (view after u) n d label
+begins labels after t u x label n d k is next e w =
+    subst (λ o. Begins o (view after u) n d label) is (record {
+      next = sym (next_same labels t k) ∙ next.next;
+      holder = e.holder;
+      pending = e.pending;
+      last = w.last;
+    })
+
+pub begun_kept : (labels after : LabelSet) (t u : Tables) (label n d : ℕ) (b : Bool) → Kept labels t
+    → IsNext labels label → b ≡ is_some (pending_in t n) → b ≡ false → Enters t u label n d
+    → Takes labels after label → Kept after u
+begun_kept labels after t u label n d b k next known shut e w =
+    begun labels after t u label n d k
+    (none_from (holder_in t label) (sym (k.used label) ∙ next.unused))
+    (none_from (pending_in t n) (sym known ∙ shut)) e w
+
+-- ---- an open request is over or given up
+
+-- an open request is open no more, and its identifier has this
+pub record Departs (t u : Tables) (n : ℕ) (p : Pending) (w : Option Holder) : Type 0 where
+  pub there : pending_in t n ≡ Some p
+  pub pending : Puts (pending_in t) (pending_in u) n None
+  pub holder : Puts (holder_in t) (holder_in u) p.label w
+  pub times : TimesOthers t u n
+
+-- the same through maps with the same entries
+puts_from : {X : Type 0} (f : ℕ → Option X) (m n : BTreeMap ℕ X) (k : ℕ) (w : Option X)
+    → n.entries ≡ m.entries
+    → Puts f (λ q. get nat_cmp m q) k w → Puts f (λ q. get nat_cmp n q) k w
+puts_from f m n k w same p = record {
+  here = ap (λ es. lookup (is_at (nat_cmp k)) es) same ∙ p.here;
+  others = λ q ne. ap (λ es. lookup (is_at (nat_cmp q)) es) same ∙ p.others q ne;
+}
+
+puts_to : {X : Type 0} (f : ℕ → Option X) (m n : BTreeMap ℕ X) (k : ℕ) (w : Option X)
+    → n.entries ≡ m.entries
+    → Puts (λ q. get nat_cmp n q) f k w → Puts (λ q. get nat_cmp m q) f k w
+puts_to f m n k w same p = record {
+  here = p.here;
+  others = λ q ne. p.others q ne ∙ ap (λ es. lookup (is_at (nat_cmp q)) es) same;
+}
+
+times_from : (t m u : Tables) (n : ℕ) → u.deadlines ≡ m.deadlines → TimesOthers t m n
+    → TimesOthers t u n
+times_from t m u n same times =
+    λ d k ne. ap (λ s. contains by_deadline s (d, k)) same ∙ times d k ne
+
+times_to : (t m u : Tables) (n : ℕ) → m.deadlines ≡ t.deadlines → TimesOthers m u n
+    → TimesOthers t u n
+times_to t m u n same times = λ d k ne. times d k ne ∙ ap (λ s. contains by_deadline s (d, k)) same
+
+pub marked : (labels : LabelSet) (t m u : Tables) (n : ℕ) (p : Pending) → Kept labels t
+    → Leaves t m n p
+    → MarksAs m u p.label → Departs t u n p (Some (late_holder n))
+marked labels t m u n p k l w = record {
+  there = l.there;
+  pending = puts_from (pending_in t) m.pending u.pending n None
+      (ap (λ b. b.entries) w.pending) l.pending;
+  holder = record {
+    here =
+        w.holder.here
+        ∙ ap (option_map gave_up)
+        (ap (λ es. lookup (is_at (nat_cmp p.label)) es) l.holders ∙ k.held n p l.there);
+    others = λ q ne. w.holder.others q ne ∙ ap (λ es. lookup (is_at (nat_cmp q)) es) l.holders;
+  };
+  times = times_from t m u n w.deadlines l.times;
+}
+
+pub released : (t m u : Tables) (n : ℕ) (p : Pending) (r : Option Holder) → Leaves t m n p
+    → ReleasesAs m u p.label r → Departs t u n p None
+released t m u n p r l w = record {
+  there = l.there;
+  pending = puts_from (pending_in t) m.pending u.pending n None
+      (ap (λ b. b.entries) w.pending) l.pending;
+  holder = puts_to (holder_in u) t.holders m.holders p.label None l.holders w.holder;
+  times = times_from t m u n w.deadlines l.times;
+}
+
+pub given_up_kept : (labels : LabelSet) (t u : Tables) (n : ℕ) (p : Pending) → Kept labels t
+    → Departs t u n p (Some (late_holder n)) → Kept labels u
+given_up_kept labels t u n p k d =
+    left labels labels t u n p (Some (late_holder n)) k d.there d.pending d.holder over
+    (record { here = k.used p.label ∙ ap is_some (k.held n p d.there); others = λ q ne. refl })
+    d.times
+  where
+    over : (m : ℕ) → Some (late_holder n) ≡ Some (open_holder m) → ⊥
+    over m e = let clash = ap (λ x. x.given_up) (same_some (late_holder n) (open_holder m) e) in
+        absurd (cc clash)
+
+pub ended_kept : (labels after : LabelSet) (t u : Tables) (n : ℕ) (p : Pending) → Kept labels t
+    → Departs t u n p None → Frees labels after p.label → Kept after u
+ended_kept labels after t u n p k d f =
+    left labels after t u n p None k d.there d.pending d.holder
+    (λ m e. absurd (cc e)) f.marks d.times
+
+pub ends : (labels after : LabelSet) (t u : Tables) (x : Operations) (label n : ℕ) (p : Pending)
+    → Kept labels t
+    → view labels t ≡ x → Departs t u n p None → Frees labels after p.label → p.label ≡ label
+    → Ends x (view after u) label n
+ends labels after t u x label n p k is d f at =
+    subst (λ o. Ends o (view after u) label n) is
+    (subst (λ l. Ends (view labels t) (view after u) l n) at (record {
+      found = p;
+      there = d.there;
+      label_is = refl;
+      held = k.held n p d.there;
+      holder = d.holder;
+      pending = d.pending;
+      last = f.last;
+    }))
+
+pub closes : (labels after : LabelSet) (t u : Tables) (x : Operations) (n : ℕ) (p : Pending)
+    → Kept labels t
+    → view labels t ≡ x → IsLeast (pending_in t) n → Departs t u n p None
+    → Frees labels after p.label
+    → Closes x (view after u) n
+closes labels after t u x n p k is least d f =
+    subst (λ o. Closes o (view after u) n) is (record {
+      label = p.label;
+      least = least;
+      ends = ends labels after t u (view labels t) p.label n p k refl d f refl;
+    })
+
+-- ---- an answer
+
+-- the request that an identifier is in use for is open
+pub record IsOpened (t : Tables) (label n : ℕ) : Type 0 where
+  pub found : Pending
+  pub there : pending_in t n ≡ Some found
+  pub label_is : found.label ≡ label
+
+opened : (labels : LabelSet) (t : Tables) (label : ℕ) (h : Holder) → Kept labels t
+    → Some h ≡ holder_in t label
+    → h.given_up ≡ false → IsOpened t label h.number
+opened labels t label h k there shut =
+    by (pending_in t h.number) refl (k.opened label h.number held)
+  where
+    held : holder_in t label ≡ Some (open_holder h.number)
+    held = sym there ∙ ap (λ b. Some (record { number = h.number; given_up = b })) shut
+
+    by : (o : Option Pending) → pending_in t h.number ≡ o → option_map (λ p. p.label) o ≡ Some label
+        → IsOpened t label h.number
+    by None e m = absurd (cc m)
+    by (Some p) e m = record { found = p; there = e; label_is = same_some p.label label m }
+
+leaves_it : (m u : Tables) (n : ℕ) (p : Pending) (r : Option Pending) → pending_in m n ≡ Some p
+    → LeavesAs m u n r
+    → Leaves m u n p
+leaves_it m u n p None there l = absurd (cc (there, l.0))
+leaves_it m u n p (Some q) there l =
+    subst (λ z. Leaves m u n z) (same_some q p (sym l.there ∙ there)) l
+
+-- an open request is over by its answer
+pub record Answered (t u : Tables) (label n : ℕ) : Type 0 where
+  pub found : Pending
+  pub label_is : found.label ≡ label
+  pub departs : Departs t u n found None
+
+pub answered : (labels : LabelSet) (t m u : Tables) (label : ℕ) (h : Holder) (r : Option Pending)
+    → Kept labels t
+    → ReleasesAs t m label (Some h) → h.given_up ≡ false → LeavesAs m u h.number r
+    → Answered t u label h.number
+answered labels t m u label h r k w shut l =
+    let is = opened labels t label h k w.there shut in
+    let same = ap (λ b. b.entries) w.pending in
+    let away =
+    leaves_it m u h.number is.found r
+    (ap (λ es. lookup (is_at (nat_cmp h.number)) es) same ∙ is.there) l in
+    record {
+      found = is.found;
+      label_is = is.label_is;
+      departs = record {
+        there = is.there;
+        pending = puts_to (pending_in u) t.pending m.pending h.number None same away.pending;
+        holder =
+            subst (λ x. Puts (holder_in t) (holder_in u) x None) (sym is.label_is)
+            (puts_from (holder_in t) m.holders u.holders label None away.holders w.holder);
+        times = times_to t m u h.number w.deadlines away.times;
+      };
+    }
+
+pub answered_kept : (labels after : LabelSet) (t u : Tables) (label n : ℕ) → Kept labels t
+    → Answered t u label n
+    → Frees labels after label → Kept after u
+answered_kept labels after t u label n k a f =
+    ended_kept labels after t u n a.found k a.departs
+    (subst (λ x. Frees labels after x) (sym a.label_is) f)
+
+pub replies : (labels after : LabelSet) (t u : Tables) (x : Operations) (label n : ℕ)
+    → Kept labels t
+    → view labels t ≡ x → Answered t u label n → Frees labels after label
+    → Ends x (view after u) label n
+replies labels after t u x label n k is a f =
+    ends labels after t u x label n a.found k is a.departs
+    (subst (λ z. Frees labels after z) (sym a.label_is) f)
+    a.label_is

@@ -1,0 +1,4 @@
+mod Changing
+mod Dues
+mod Keeping
+mod Maps

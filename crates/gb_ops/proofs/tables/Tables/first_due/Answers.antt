@@ -1,0 +1,11 @@
+-- The first in order of number whose deadline came is the least.
+use Rattle.std.proofs.Common.{subst, sym}
+use Rattle.gb_ops.proofs.Dues.{finds_due}
+use Rattle.gb_ops.specs.Finding.{FindsDue}
+use Rattle.gb_ops.specs.Tables.{pending_in}
+use Rattle.gb_ops.proofs.tables.Tables.first_due.Goals as goal
+
+pub returns : goal.returns
+returns c = λ covered.
+    subst (λ r. FindsDue (pending_in c.args.self.now) c.args.now r) (sym c.first_by.ensures.first)
+    (finds_due c.args.now c.args.self.now.pending.entries c.first_by.ensures.ordered)

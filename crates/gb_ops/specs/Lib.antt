@@ -1,0 +1,4 @@
+pub mod Calls
+pub mod Finding
+pub mod Operations
+pub mod Tables

@@ -1,0 +1,11 @@
+//! The requests of one side of a connection whose identifiers are in use.
+#![tactic(auto)]
+
+mod entries;
+mod ops;
+mod tables;
+#[cfg(test)]
+mod tests;
+
+pub use entries::{BeginFault, Holder, Matched, Pending};
+pub use ops::Ops;

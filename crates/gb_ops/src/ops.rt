@@ -1,0 +1,144 @@
+//! The requests of one side of a connection.
+
+ghost use Rattle.std.specs.Prelude.{◌≡◌, IfOk, is_none};
+ghost use Rattle.gb_ops.specs.Calls.{
+  BeginsAs,
+  ClosesAs,
+  ExpiresAs,
+  GivesUpAs,
+  IsFirst,
+  RepliesAs,
+};
+ghost use Rattle.gb_ops.specs.Finding.{FindsDue};
+ghost use Rattle.gb_ops.specs.Operations.{next_label, pending_at};
+
+use crate::tables::Tables;
+use crate::{BeginFault, Matched};
+use gb_base::OutOfMemory;
+use gb_labels::Labels;
+use std::alloc::Global;
+use std::marker::Model;
+
+/// The requests of one side of a connection that are open, or were given up and not answered yet.
+/// The identifier of each is in use.
+#[derive(Drop)]
+pub struct Ops {
+    labels: Labels,
+    tables: Tables,
+}
+
+impl Model for Ops {
+    ghost use Rattle.gb_ops.specs.Operations.{Operations};
+    ghost use Rattle.gb_ops.specs.Tables.{Kept};
+
+    ghost Value = { Operations };
+
+    ghost view = { λ o. record {
+      holders = o.tables.holders.entries;
+      pending = o.tables.pending.entries;
+      last = o.labels.last;
+    } };
+
+    ghost invariant = { λ o. Kept o.labels o.tables };
+}
+
+impl Ops {
+    /// No request was begun.
+    pub fn new(alloc: Global) -> Result<Ops, OutOfMemory>
+        ensures { IfOk result IsFirst }
+    {
+        Ok(Ops {
+            labels: Labels::new(alloc)?,
+            tables: Tables::new(alloc),
+        })
+    }
+
+    /// Request n is open from now on, and its identifier is answered: the next one. `deadline` is
+    /// in milliseconds. After NoLabel and want of memory all is as before. Want of memory also
+    /// comes where n is open already.
+    pub fn begin(&mut self, n: u64, deadline: u64) -> Result<u16, BeginFault>
+        ensures { BeginsAs self.old self.new n deadline result }
+    {
+        let Ok(label) = self.labels.next() else {
+            return Err(BeginFault::NoLabel);
+        };
+        if self.tables.is_pending(n) {
+            return Err(BeginFault::Memory(OutOfMemory));
+        }
+        if let Err(refused) = self.tables.enter(label, n, deadline) {
+            return Err(BeginFault::Memory(refused));
+        }
+        self.labels.take(label);
+        Ok(label)
+    }
+
+    /// No identifier is left.
+    pub fn is_spent(&self) -> bool
+        ensures { result ≡ is_none (next_label self.now) }
+    {
+        self.labels.next().is_err()
+    }
+
+    /// The request that an answer with an identifier belongs to. The identifier is free then. It
+    /// takes no memory.
+    pub fn reply(&mut self, label: u16) -> Matched
+        ensures { RepliesAs self.old self.new label result }
+    {
+        let Some(holder) = self.tables.release(label) else {
+            return Matched::Unknown;
+        };
+        self.labels.free(label);
+        if holder.given_up {
+            return Matched::Late(holder.number);
+        }
+        self.tables.leave(holder.number);
+        Matched::Open(holder.number)
+    }
+
+    /// Gives up request n. Its identifier stays in use until its answer comes. false comes exactly
+    /// where n isn't open. It takes no memory.
+    pub fn give_up(&mut self, n: u64) -> bool
+        ensures { GivesUpAs self.old self.new n result }
+    {
+        let Some(pending) = self.tables.leave(n) else {
+            return false;
+        };
+        self.tables.mark(pending.label);
+        true
+    }
+
+    /// The open request with the least number whose deadline came. Where none has, it looks at the
+    /// least deadline alone; else it goes over the open requests in order of number up to the first
+    /// whose deadline came.
+    pub fn first_due(&self, now: u64) -> Option<u64>
+        ensures { FindsDue (pending_at self.now) now result }
+    {
+        self.tables.first_due(now)
+    }
+
+    /// Gives up the open request with the least number whose deadline came. It takes no memory.
+    pub fn expire_one(&mut self, now: u64) -> Option<u64>
+        ensures { ExpiresAs self.old self.new now result }
+    {
+        let n = self.first_due(now)?;
+        self.give_up(n);
+        Some(n)
+    }
+
+    /// Ends the open request with the least number. Where none is open all identifiers are free
+    /// then. The last one drawn stays. It takes no memory.
+    pub fn close_one(&mut self) -> Option<u64>
+        ensures { ClosesAs self.old self.new result }
+    {
+        let Some(n) = self.tables.first() else {
+            self.tables.clear();
+            self.labels.free_all();
+            return None;
+        };
+        if let Some(pending) = self.tables.leave(n) {
+            self.tables.release(pending.label);
+            self.labels.free(pending.label);
+        }
+        Some(n)
+    }
+}

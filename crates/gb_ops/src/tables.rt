@@ -1,0 +1,167 @@
+//! Requests by identifier, by number and by deadline.
+
+ghost use Rattle.std.specs.Prelude.{◌≡◌, None, OnErr, OnOk, false, is_some};
+ghost use Rattle.std.specs.BTreeMap.{IsOrdered};
+ghost use Rattle.std.specs.Ordering.{nat_cmp};
+ghost use Rattle.gb_ops.specs.Finding.{FindsDue, FindsLeast, NoneDue, due_in};
+ghost use Rattle.gb_ops.specs.Tables.{
+  Adds,
+  AllCovered,
+  Enters,
+  IsEmpty,
+  IsUnchanged,
+  LeavesAs,
+  MarksAs,
+  ReleasesAs,
+  StaysSame,
+  holder_in,
+  pending_in,
+};
+
+use crate::{Holder, Pending};
+use gb_base::OutOfMemory;
+use std::alloc::Global;
+use std::collections::{BTreeMap, BTreeSet};
+
+/// The requests of one side of a connection, in ordered maps.
+#[derive(Drop)]
+pub struct Tables {
+    /// By identifier, those that are open and those that were given up.
+    pub holders: BTreeMap<u16, Holder>,
+    /// By number, those that are open.
+    pub pending: BTreeMap<u64, Pending>,
+    /// The deadlines of those that are open, with their numbers.
+    pub deadlines: BTreeSet<(u64, u64)>,
+}
+
+impl Tables {
+    /// No request was begun.
+    pub fn new(alloc: Global) -> Tables
+        ensures { IsEmpty result }
+    {
+        Tables {
+            holders: BTreeMap::new(alloc),
+            pending: BTreeMap::new(alloc),
+            deadlines: BTreeSet::new(alloc),
+        }
+    }
+
+    /// A request is open. It wasn't before. After want
+    /// of memory all is as before.
+    pub fn enter(&mut self, label: u16, n: u64, deadline: u64) -> Result<(), OutOfMemory>
+        requires { pending_in self.old n ≡ None }
+        ensures entered { OnOk result (Enters self.old self.new label n deadline) }
+        ensures unchanged { OnErr result (StaysSame self.old self.new n) }
+    {
+        self.deadlines.insert((deadline, n))?;
+        match self.add(label, n, deadline) {
+            Ok(()) => Ok(()),
+            Err(refused) => {
+                self.deadlines.remove(&(deadline, n));
+                Err(refused)
+            }
+        }
+    }
+
+    /// A request has its number and its identifier. After want of memory all is as before.
+    fn add(&mut self, label: u16, n: u64, deadline: u64) -> Result<(), OutOfMemory>
+        requires { pending_in self.old n ≡ None }
+        ensures added { OnOk result (Adds self.old self.new label n deadline) }
+        ensures unchanged { OnErr result (IsUnchanged self.old self.new) }
+    {
+        self.pending.insert(n, Pending { label, deadline })?;
+        let holder = Holder {
+            number: n,
+            given_up: false,
+        };
+        match self.holders.insert(label, holder) {
+            Ok(_) => Ok(()),
+            Err(_) => {
+                self.pending.remove(&n);
+                Err(OutOfMemory)
+            }
+        }
+    }
+
+    /// A request is open no more. None comes where it wasn't.
+    pub fn leave(&mut self, n: u64) -> Option<Pending>
+        ensures { LeavesAs self.old self.new n result }
+    {
+        let pending = self.pending.remove(&n)?;
+        self.deadlines.remove(&(pending.deadline, n));
+        Some(pending)
+    }
+
+    /// Nothing has an identifier any more. None comes where it wasn't in use.
+    pub fn release(&mut self, label: u16) -> Option<Holder>
+        ensures { ReleasesAs self.old self.new label result }
+    {
+        self.holders.remove(&label)
+    }
+
+    /// Nothing is kept any more.
+    pub fn clear(&mut self)
+        ensures { IsEmpty self.new }
+    {
+        self.holders.clear();
+        self.pending.clear();
+        self.deadlines.clear();
+    }
+
+    /// A request is open.
+    pub fn is_pending(&self, n: u64) -> bool
+        ensures { result ≡ is_some (pending_in self.now n) }
+    {
+        self.pending.contains_key(&n)
+    }
+
+    /// The request that has an identifier was given up.
+    pub fn mark(&mut self, label: u16)
+        ensures { MarksAs self.old self.new label }
+    {
+        if let Some(holder) = self.holders.get_mut(&label) {
+            holder.given_up = true;
+        }
+    }
+
+    /// The open request with the least number.
+    pub fn first(&self) -> Option<u64>
+        ensures { FindsLeast (pending_in self.now) result }
+    {
+        let (number, _) = self.pending.first_key_value()?;
+        Some(*number)
+    }
+
+    /// The open request with the least number whose deadline came.
+    pub fn first_due(&self, now: u64) -> Option<u64>
+        ensures { AllCovered self.now → FindsDue (pending_in self.now) now result }
+    {
+        if !self.is_any_due(now) {
+            return None;
+        }
+        self.first_by(now)
+    }
+
+    /// The least deadline came.
+    fn is_any_due(&self, now: u64) -> bool
+        ensures { AllCovered self.now → result ≡ false → NoneDue (pending_in self.now) now }
+    {
+        match self.deadlines.first() {
+            Some(soonest) => soonest.0 <= now,
+            None => false,
+        }
+    }
+
+    /// The first in order of number whose deadline came.
+    fn first_by(&self, now: u64) -> Option<u64>
+        ensures first { result ≡ due_in now self.now.pending.entries }
+        ensures ordered { IsOrdered nat_cmp self.now.pending }
+    {
+        for (number, pending) in &self.pending {
+            if pending.deadline <= now {
+                return Some(*number);
+            }
+        }
+        None
+    }
+}
