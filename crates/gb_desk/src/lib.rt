@@ -6,6 +6,10 @@ mod fault;
 mod pass;
 mod seat;
 mod stored;
+#[cfg(test)]
+mod tests;
+#[cfg(test)]
+mod thread_tests;
 mod view;
 
 pub use desk::Desk;
