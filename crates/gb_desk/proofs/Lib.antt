@@ -1,0 +1,10 @@
+pub mod Prefixes
+pub mod Totals
+pub mod Histories
+pub mod Keeping
+pub mod Turning
+pub mod Cutting
+pub mod Joining
+pub mod Closing
+pub mod Calling
+pub mod Opening

@@ -1,0 +1,5 @@
+use Rattle.gb_desk.proofs.Calling.{same_parts}
+use Rattle.gb_desk.proofs.desk.Desk.call.Goals as goal
+
+pub returns-clause-parts : goal.returns-clause-parts
+returns-clause-parts c = same_parts _ _ _ _ _ c.enter.ensures.calls

@@ -1,0 +1,100 @@
+-- How each step changes what a pass knows, and what it tells.
+use Rattle.std.specs.Prelude.{◌≡◌, ◌≢◌, ℕ, ◌+◌, ◌-◌, ◌==◌, ◌≤◌, true}
+use Rattle.std.specs.Prelude.{if◌then◌else◌, nat_lt, List, [], ◌∷◌, ◌++◌, length, Some}
+use Rattle.std.specs.Prelude.{None, ◌||◌}
+use mathlib.Core.List.{IsPrefix}
+use Rattle.atomic_table.specs.Table.{Me, Step}
+use Rattle.gb_base.specs.declared.journal.JournalEntry.{JournalEntry}
+use Rattle.gb_desk.specs.declared.stored.Stored.{Stored}
+use Rattle.gb_desk.specs.declared.view.View.{View}
+use Rattle.gb_desk.specs.Rules.{Sound, all_parts, once_below, times}
+use Rattle.gb_system.specs.declared.system.System.{System}
+
+-- what a pass knows, with the slot that it holds
+abbrev pub Knows : Type 0
+Knows = Me Stored View
+
+-- ---- the turn is taken
+
+-- a pass that met another one that holds the turn
+abbrev pub met : View → View
+met v = record v { met = v.met + 1 }
+
+-- a pass that holds the turn
+abbrev pub taking : View → Stored → View
+taking v x = record v { out = Some x }
+
+-- The turn was got, and what is shared with it.
+pub record Took (v : View) (after : Knows) : Type 0 where
+  pub shared : Stored
+  pub first : System
+  pub me : after ≡ (taking v shared, (0, shared) ∷ [])
+  pub is_first : v.first ≡ Some first
+  pub sound : Sound first shared
+  pub seen : IsPrefix v.seen shared.journal
+  pub told : v.told ≡ true → shared.broken ≡ true
+
+-- The turn was held by another pass, so this one hasn't all parts.
+pub record Met (v : View) (after : Knows) : Type 0 where
+  pub me : after ≡ (met v, [])
+  pub parts : v.parts ≢ all_parts
+
+-- one try to take the turn
+abbrev pub Takes : Step Stored → Knows → ℕ → Knows → Type 0
+Takes st me n me' = (n ≡ 0 → Took me.0 me') × (n ≢ 0 → Met me.0 me')
+
+-- ---- the turn is given back
+
+-- the places of a pass, with a new one where the history grew
+abbrev pub mine_after : List ℕ → ℕ → ℕ → List ℕ
+mine_after mine before now = if before == now then mine else mine ++ before ∷ []
+
+-- a pass that took x and gave y back
+abbrev pub gave : View → Stored → Stored → View
+gave v x y = record v {
+  seen = y.journal;
+  mine = mine_after v.mine (length x.journal) (length y.journal);
+  told = y.broken;
+  out = None;
+}
+
+-- no place stands twice, and each is one of the history that was seen
+abbrev pub ArePlaces : View → Type 0
+ArePlaces v = (n : ℕ) → times n v.mine ≤ once_below n (length v.seen)
+
+-- the turn is given back
+abbrev pub Gives : Step Stored → Knows → ℕ → Knows → Type 0
+Gives st me n me' = (x y : Stored) → me.0.out ≡ Some x → me.1 ≡ (0, y) ∷ []
+    → (me' ≡ (gave me.0 x y, [])) × ArePlaces me'.0
+
+-- ---- passes are cut and put together
+
+-- a pass without some of its parts
+abbrev pub stays : ℕ → View → View
+stays k v = record v { parts = v.parts - k; cuts = v.cuts + 1 }
+
+-- a pass that was cut off, with these parts
+abbrev pub goes : ℕ → View → View
+goes k v = record v { mine = []; parts = k; met = 0; cuts = 0 }
+
+abbrev pub longer : List JournalEntry → List JournalEntry → List JournalEntry
+longer xs ys = if nat_lt (length xs) (length ys) then ys else xs
+
+-- two passes together, which remember what each of them has seen
+abbrev pub both : View → View → View
+both v w = record v {
+  beside = w.seen;
+  mine = v.mine ++ w.mine;
+  parts = v.parts + w.parts;
+  told = v.told || w.told;
+}
+
+-- a pass that knows which of two beginnings of the history is the longer one
+abbrev pub settled : View → View
+settled v = record v { seen = longer v.seen v.beside; beside = [] }
+
+-- both beginnings are ones of the longer, and no pass has more than all parts
+abbrev pub Settles : Step Stored → Knows → ℕ → Knows → Type 0
+Settles st me n me' = (me' ≡ (settled me.0, me.1))
+    × IsPrefix me.0.seen me'.0.seen × IsPrefix me.0.beside me'.0.seen
+    × (me.0.parts ≤ all_parts)

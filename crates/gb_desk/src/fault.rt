@@ -1,0 +1,16 @@
+//! Why a call on a desk did nothing.
+
+use gb_base::OutOfMemory;
+
+/// Why a call on a desk did nothing. They are tried in this order.
+#[derive(Clone, Copy, Debug, PartialEq, Eq)]
+pub enum DeskFault {
+    /// Another caller had the turn. Nobody waits: try again.
+    Busy,
+    /// The history is as long as it can get: 4,294,967,295 events, with those that the system had
+    /// taken before.
+    JournalSpent,
+    /// No memory was found, now or in an earlier call. Every later call that gets the turn answers
+    /// this.
+    Memory(OutOfMemory),
+}
