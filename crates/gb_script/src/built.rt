@@ -17,6 +17,9 @@ pub fn is_built(event: &Event) -> bool
             | Event::Connect { .. }
             | Event::Disconnect { .. }
             | Event::Send { .. }
+            | Event::Bridge { .. }
+            | Event::Level { .. }
+            | Event::SerialState { .. }
             | Event::Deliver { .. }
             | Event::Settle { .. }
             | Event::Cancel { .. }

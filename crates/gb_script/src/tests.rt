@@ -117,6 +117,10 @@ const NOT_BUILT: &[&str] = &[
     "answer 2 1 4294967295",
     "tick 1",
     "inject 2 1 -",
+];
+
+/// A line for each form of a bridge line, and of what devices have from outside.
+const BRIDGED: &[&str] = &[
     "gpio @x 2 1 count",
     "gpio @x 2 1 activate 255",
     "gpio @x 2 1 deactivate 0",
@@ -154,4 +158,20 @@ fn names_forms_that_are_not_built(rt: HostRuntime) {
             "{line}"
         );
     }
+}
+
+#[test]
+fn reads_bridge_lines(rt: HostRuntime) {
+    for line in BRIDGED {
+        let said = event(rt.alloc(), line.as_bytes(), 0);
+        assert!(rt; is_bridged(&said), "{line}");
+    }
+}
+
+/// Whether a line was a bridge line, or something from outside.
+fn is_bridged(said: &Result<Option<Event>, LineFault>) -> bool {
+    matches!(
+        said,
+        Ok(Some(Event::Bridge { .. } | Event::Level { .. } | Event::SerialState { .. }))
+    )
 }

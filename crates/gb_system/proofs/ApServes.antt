@@ -5,7 +5,6 @@ use Rattle.gb_base.specs.declared.end.Side.TheVariants as side
 use Rattle.gb_base.specs.declared.entry.Entry.{Entry}
 use Rattle.gb_base.specs.declared.entry.Entry.TheVariants as entry
 use Rattle.gb_base.specs.declared.peers.Link.{Link}
-use Rattle.gb_bus.proofs.Loosening.{let-go}
 use Rattle.gb_bus.specs.Delivering.{MayReply, taken_from}
 use Rattle.gb_bus.specs.declared.answers.Asked.{Asked}
 use Rattle.gb_formats.specs.GpioRecords.{GpioAsk, read_gpio_ask_of_module}
@@ -32,13 +31,13 @@ use Rattle.gb_machine.specs.Serving.{Answer, answer, success}
 use Rattle.gb_machine.specs.State.{State}
 use Rattle.gb_machine.specs.Turns.{HostEvent}
 use Rattle.gb_system.proofs.Doings.{does-as, does-given, does-given_none, does-is, does-tell, does-then}
-use Rattle.gb_system.proofs.Standing.{rehosted}
+use Rattle.gb_system.proofs.Standing.{let-gone, rehosted}
 use Rattle.gb_system.proofs.SvcServes.{may-reply}
 use Rattle.gb_system.specs.Acting.{MayTurn}
 use Rattle.gb_system.specs.Doing.{Does}
 use Rattle.gb_system.specs.Drafts.{IsUpon}
 use Rattle.gb_system.specs.Serving.{IsDelivered, MayNotice, MayServe, only, told_of}
-use Rattle.gb_system.specs.Stands.{PartsStand, held_items}
+use Rattle.gb_system.specs.Stands.{PartsStand}
 use Rattle.gb_system.specs.declared.parties.Parties.{Parties}
 
 -- ---- what is refused changes nothing
@@ -222,23 +221,6 @@ served-stands : {x : Parties} {s : State} {loose : List Loose} (c : Connection) 
     → PartsStand loose (record x { host = y }) (with_served (serving c q s) s)
 served-stands {s = s} c q served y is st =
     rehosted y (serving c q s).host st (ap (λ (h : HostServed). h.host) is)
-
--- the request is let go where it gets no reply
-let-gone : {x : Parties} {s : State} (l : Loose) (loose : List Loose) → PartsStand (l ∷ loose) x s
-    → PartsStand loose x s
-let-gone {x} {s} l loose st = record {
-  bus = let-go l (loose ++ held_items s) x.bus s.bus st.bus;
-  ports = st.ports;
-  modules = st.modules;
-  host = st.host;
-  names = st.names;
-  booted = st.booted;
-  sound = st.sound;
-  short = st.short;
-  now = st.now;
-  holds = st.holds;
-  held = st.held;
-}
 
 -- the state after the answer, by whether one is wanted
 abbrev after_by : Connection → Incoming → HostServed → State → Bool → State

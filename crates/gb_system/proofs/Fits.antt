@@ -1,33 +1,31 @@
 -- What modules answer and ask fits into messages.
-use Rattle.std.proofs.Common.{◌≡◌, ◌≤◌, ◌+◌, ◌/◌, ℕ, zero, suc, ◌==◌, nat_le, nat_lt, Bool, true, false, cond, ◌||◌, Option, Some, None, Result, Ok, Err, List, [], ◌∷◌, ◌++◌, length, length-append, take, drop, replicate, sum_by, refl, ap, arith}
+use Rattle.std.proofs.Common.{◌≡◌, ◌≤◌, ◌+◌, ◌/◌, ℕ, zero, suc, ◌==◌, nat_le, nat_lt, Bool, true, false, cond, ◌||◌, Option, Some, None, Result, Ok, Err, List, [], ◌∷◌, ◌++◌, length, length-append, take, drop, replicate, sum_by, refl, ap, subst, arith}
 use Rattle.std.proofs.lemmas.Bool.Decides.{nat_tests}
 use Rattle.std.proofs.lemmas.List.{length-replicate, length-take}
 use Rattle.std.proofs.lemmas.List.Sums.{sum_by-cons}
 use Rattle.std.specs.List.{list_any}
 use Rattle.std.specs.Prelude.{slice_get}
-use Rattle.gb_base.specs.declared.event.Kind.{Kind}
-use Rattle.gb_base.specs.declared.event.Kind.TheVariants as kind
 use Rattle.gb_base.specs.declared.served.OwnAsk.{OwnAsk}
 use Rattle.gb_base.specs.declared.served.Served.{Served}
 use Rattle.gb_formats.specs.Bytes.{le16}
 use Rattle.gb_formats.specs.ControlRecords.{ControlAsk, read_control_ask}
 use Rattle.gb_formats.specs.ControlResponder.{control_asked, control_read, is_off, is_quiet, made_quiet, turn_step, turned_off, turned_on}
-use Rattle.gb_formats.specs.Devices.{Device, device_step}
+use Rattle.gb_formats.specs.Devices.{Device, Stir, device_step, device_stir, irq_asks}
 use Rattle.gb_formats.specs.Devices as devices
-use Rattle.gb_formats.specs.GpioDevice.{AtLine, GpioLine, activate, at_line, deactivate, direction_of, direction_out, gpio_asked, gpio_read, if_active, line_of, line_step, set_irq, set_value, value_of}
+use Rattle.gb_formats.specs.GpioDevice.{AtLine, GpioLine, activate, at_line, deactivate, direction_of, direction_out, gpio_asked, gpio_level_set, gpio_read, if_active, line_of, line_step, set_irq, set_value, value_of}
 use Rattle.gb_formats.specs.GpioDevice as gpio
 use Rattle.gb_formats.specs.GpioRecords.{GpioAsk, GpioReply, gpio_reply_payload, read_gpio_ask_of_ap}
 use Rattle.gb_formats.specs.I2cDevice.{I2cDevice, after_op, has_strange_flags, i2c_asked, i2c_read, i2c_transfer_step, is_elsewhere, next_place, op_read_bytes, ops_run, read_from}
 use Rattle.gb_formats.specs.I2cRecords.{I2cAsk, TransferOp, op_read_size, op_size, op_written_size, ops_at, read_i2c_ask}
-use Rattle.gb_formats.specs.Kinds.{kind_manifest}
-use Rattle.gb_formats.specs.Module.{CportState, Module, ModulePort, Off, On, Quiet, is_on, module_of_kind, port_at}
-use Rattle.gb_formats.specs.ModuleSteps.{module_serve, port_served, served_in}
+use Rattle.gb_formats.specs.Module.{CportState, Module, ModulePort, Off, On, Quiet, if_on, is_on, port_at}
+use Rattle.gb_formats.specs.ModuleSteps.{module_serve, module_stir, port_served, port_stir, port_stirred, served_in}
 use Rattle.gb_formats.specs.Records.{PayloadFault}
-use Rattle.gb_formats.specs.Results.{Step, invalid, most_payload, nonexistent, overflow, protocol_bad, refuses}
+use Rattle.gb_formats.specs.Results.{Step, Stirred, invalid, most_payload, nonexistent, overflow, protocol_bad, refuses}
 use Rattle.gb_formats.specs.SpiDevice.{echo, entries_run, entry_read_bytes, entry_written_bytes, is_strange, last_of, master, spi_asked, spi_read, spi_transfer_step}
 use Rattle.gb_formats.specs.SpiRecords.{SpiAsk, TransferEntry, entries_at, entry_read_size, entry_size, entry_writes, entry_written_size, read_spi_ask, spi_reply_payload}
 use Rattle.gb_formats.specs.UartDevice.{echo_asks, is_coding, most_sent, send_answer, uart_asked, uart_read}
 use Rattle.gb_formats.specs.UartRecords.{UartAsk, read_uart_ask_of_ap, uart_ask_payload}
+use Rattle.gb_invariants.proofs.Awaiting.{same-some}
 use Rattle.gb_system.specs.Acting.{AreAskable}
 
 -- An answer and the requests of its own that go with it fit into messages.
@@ -336,10 +334,44 @@ module_fits m c kind payload h = by (c == 0)
     by true = control_read_fits m (read_control_ask kind payload) h
     by false = port_fits m (port_at m c) kind payload
 
--- The manifest of each kind fits into a message.
-pub kind_fits : (k : Kind) → length (module_of_kind k).manifest ≤ most_payload
-kind_fits kind.Gpio = at_most (length (kind_manifest kind.Gpio)) most_payload refl
-kind_fits kind.I2c = at_most (length (kind_manifest kind.I2c)) most_payload refl
-kind_fits kind.Spi = at_most (length (kind_manifest kind.Spi)) most_payload refl
-kind_fits kind.Uart = at_most (length (kind_manifest kind.Uart)) most_payload refl
-kind_fits kind.Bridge = at_most (length (kind_manifest kind.Bridge)) most_payload refl
+-- ---- what comes from outside
+
+device-asks : (device : Device) (stir : Stir) (t : Stirred Device) → device_stir device stir ≡ Some t
+    → AreAskable t.asks
+device-asks (devices.Gpio lines) (devices.Level which new) t is =
+    subst (λ (d : Stirred Device). AreAskable d.asks) (same-some _ t is)
+    (irq-asks (gpio_level_set lines which new).irq)
+  where
+    irq-asks : (irq : Option ℕ) → AreAskable (irq_asks irq)
+    irq-asks None = tt
+    irq-asks (Some line) = ((omega arith, omega arith), tt)
+device-asks devices.Uart (devices.Serial control) t is =
+    subst (λ (d : Stirred Device). AreAskable d.asks) (same-some _ t is)
+    ((omega arith, omega arith), tt)
+device-asks (devices.Gpio lines) (devices.Serial control) t is = absurd cc
+device-asks (devices.I2c device) stir t is = absurd cc
+device-asks (devices.Spi last) stir t is = absurd cc
+device-asks devices.Uart (devices.Level which new) t is = absurd cc
+
+-- requests are left out or not
+asks-if-on : (state : CportState) (asks : List OwnAsk) → AreAskable asks
+    → AreAskable (if_on state asks)
+asks-if-on Off asks h = tt
+asks-if-on On asks h = h
+asks-if-on Quiet asks h = tt
+
+-- What a module asks where its device was stirred fits into messages.
+pub stir-asks : (m : Module) (c : ℕ) (stir : Stir) (t : Stirred Module)
+    → module_stir m c stir ≡ Some t → AreAskable t.asks
+stir-asks m c stir t is = at_port (port_at m c) is
+  where
+    by : (port : ModulePort) (o : Option (Stirred Device)) → device_stir port.device stir ≡ o
+        → port_stir m port o ≡ Some t → AreAskable t.asks
+    by port None there e = absurd cc
+    by port (Some d) there e =
+        subst (λ (x : Stirred Module). AreAskable x.asks) (same-some _ t e)
+        (asks-if-on port.state d.asks (device-asks port.device stir d there))
+
+    at_port : (o : Option ModulePort) → port_stirred m o stir ≡ Some t → AreAskable t.asks
+    at_port None e = absurd cc
+    at_port (Some port) e = by port (device_stir port.device stir) refl e

@@ -5,6 +5,8 @@ pub mod Arrivals
 pub mod AskArrivals
 pub mod Asks
 pub mod Boots
+pub mod BridgeSends
+pub mod Bridgings
 pub mod Connects
 pub mod Decisions
 pub mod Doings
@@ -23,6 +25,7 @@ pub mod Sends
 pub mod Settles
 pub mod Showings
 pub mod Standing
+pub mod Stirs
 pub mod SvcServes
 pub mod SvcSteps
 pub mod Takings

@@ -34,7 +34,7 @@ use Rattle.gb_system.specs.declared.parties.Parties.{Parties}
 
 -- ---- manifests that fit
 
-short-at : (i : ℕ) (ps : List Plugged) (m : Module) → Each IsShort ps → module_at i ps ≡ Some m
+pub short-at : (i : ℕ) (ps : List Plugged) (m : Module) → Each IsShort ps → module_at i ps ≡ Some m
     → length m.manifest ≤ most_payload
 short-at i [] m h is = absurd cc
 short-at i (p ∷ ps) m h is = by (is_plugged_at i p) is (short-at i ps m h.1)
@@ -49,7 +49,7 @@ short-at i (p ∷ ps) m h is = by (is_plugged_at i p) is (short-at i ps m h.1)
         subst (λ (n : Module). length n.manifest ≤ most_payload) e h.0
     by false same later = later same
 
-short-with : (i : ℕ) (m : Module) (ps : List Plugged) → length m.manifest ≤ most_payload
+pub short-with : (i : ℕ) (m : Module) (ps : List Plugged) → length m.manifest ≤ most_payload
     → Each IsShort ps → Each IsShort (with_module i m ps)
 short-with i m [] short h = h
 short-with i m (p ∷ ps) short h = by (is_plugged_at i p) (short-with i m ps short h.1)
@@ -62,11 +62,11 @@ short-with i m (p ∷ ps) short h = by (is_plugged_at i p) (short-with i m ps sh
 -- ---- the machine
 
 -- the state with other modules
-abbrev with_modules : List Plugged → State → State
+abbrev pub with_modules : List Plugged → State → State
 with_modules ms s = record s { modules = ms }
 
 -- the parties stand for it, with these modules
-stands-with : {l : List Loose} {x : Parties} {s : State} (ms mods : List Plugged)
+pub stands-with : {l : List Loose} {x : Parties} {s : State} (ms mods : List Plugged)
     → ms ≡ mods → Each IsShort ms → PartsStand l x s
     → PartsStand l (record x { modules = mods }) (with_modules ms s)
 stands-with ms mods same short h = record {
@@ -135,7 +135,7 @@ ServesAtModule k i cport asked payload x y before told =
     (s : State) (c : Connection) (n : ℕ)
     → PartsStand (only k side.Far n) x s → IsUpon k s.bus c
     → c.peer ≡ end.Module i cport → (may : MayReply asked s.bus n)
-    → payload ≡ may.request.payload → length payload ≤ most_payload
+    → payload ≡ may.request.payload
     → Does y (serves side.Far c (incoming n may.request)) s before told
 
 -- where a module is plugged
@@ -147,7 +147,7 @@ pub serves-some : (k i cport : ℕ) (asked : Asked) (payload : List ℕ) (x y z 
     → AsksThere k served.asks y z b d
     → ServesAtModule k i cport asked payload x z a d
 serves-some k i cport asked payload x y z mods served a b d steps answers asks s c n stand live
-    peer may is short = by (module_at i x.modules) refl steps
+    peer may is = by (module_at i x.modules) refl steps
   where
     r : Request
     r = may.request
@@ -203,8 +203,8 @@ pub serves-nowhere : (k i cport : ℕ) (asked : Asked) (payload : List ℕ) (x z
     → ServesThere i cport asked.kind payload (module_at i x.modules) x.modules mods (Ok None)
     → AnswersThere k asked nonexistent [] (record x { modules = mods }) z a d
     → ServesAtModule k i cport asked payload x z a d
-serves-nowhere k i cport asked payload x z mods a d steps answers s c n stand live peer may is
-    short = by (module_at i x.modules) refl steps
+serves-nowhere k i cport asked payload x z mods a d steps answers s c n stand live peer may is =
+    by (module_at i x.modules) refl steps
   where
     r : Request
     r = may.request

@@ -112,33 +112,25 @@ does-sends_on x y s name n k kind payload timeout {a} {b} st number d =
         (ap (λ ns. ns ++ (name, n) ∷ []) d.stand.names))
 
 -- by the end
-does-sends : (x y : Parties) (s : State) (name : Name) (to : End) (n k kind : ℕ)
-    (payload : List ℕ) (timeout : ℕ) {a b : List Entry} → IsFar to → IsWay to s.host k
-    → PartsStand [] x s → n ≡ next_number s.bus
-    → Does y (asks (ap_draft k kind payload timeout)) s a b
-    → Does (record y { names = y.names ++ (name, n) ∷ [] })
-    (sends name to kind payload timeout) s a b
+does-sends : {x : Parties} {s : State} (name : Name) (to : End) (k kind : ℕ) (payload : List ℕ)
+    (timeout : ℕ) {a b : List Entry} → IsFar to → IsWay to s.host k
+    → Does x (sends_on name k kind payload timeout) s a b
+    → Does x (sends name to kind payload timeout) s a b
 unfolding machine_opened
-does-sends x y s name end.Svc n k kind payload timeout {a} {b} far way st number d =
-    subst (λ j. Does (record y { names = y.names ++ (name, n) ∷ [] })
-    (sends_on name j kind payload timeout) s a b) way
-    (does-sends_on x y s name n k kind payload timeout st number d)
-does-sends x y s name (end.Ap a) n k kind payload timeout far way st number d = absurd far
-does-sends x y s name (end.Module i c) n k kind payload timeout {a} {b} far way st number d =
+does-sends {x} {s} name end.Svc k kind payload timeout {a} {b} far way d =
+    subst (λ j. Does x (sends_on name j kind payload timeout) s a b) way d
+does-sends name (end.Ap a) k kind payload timeout far way d = absurd far
+does-sends {x} {s} name (end.Module i c) k kind payload timeout {a} {b} far way d =
     does-by_state (λ t. given (link_at i c t.host) sent) (by (link_at i c s.host) way)
   where
-    z : Parties
-    z = record y { names = y.names ++ (name, n) ∷ [] }
-
     sent : Link → Action
     sent l = sends_on name l.connection kind payload timeout
 
     by : (link : Option Link) → option_map (λ (l : Link). l.connection) link ≡ Some k
-        → Does z (given link sent) s a b
+        → Does x (given link sent) s a b
     by None e = absurd cc
     by (Some l) e = does-given sent l refl
-        (subst (λ j. Does z (sends_on name j kind payload timeout) s a b) (cc (e))
-        (does-sends_on x y s name n k kind payload timeout st number d))
+        (subst (λ j. Does x (sends_on name j kind payload timeout) s a b) (cc (e)) d)
 
 -- where an identifier is left, the request gets it
 is-labelled : (k kind : ℕ) (payload : List ℕ) (deadline : ℕ) (b : Bus)
@@ -214,36 +206,40 @@ abbrev IsNumber : Parties → ℕ → ℕ → List ℕ → ℕ → Option ℕ �
 IsNumber x k kind payload deadline o = (t : State) → PartsStand [] x t
     → o ≡ option_map (λ l. next_number t.bus) (label_on (ap_draft k kind payload deadline) t.bus)
 
--- a request is sent
+-- a request is sent on a connection
+pub sent-on : (x y : Parties) (s : State) (name : Name) (k kind : ℕ) (payload : List ℕ)
+    (timeout : ℕ) (o : Option ℕ) (n : ℕ) {a b : List Entry} → PartsStand [] x s
+    → IsNumber x k kind payload timeout o → o ≡ Some n → IsSome (next_label k side.Ap s.bus)
+    → Does y (asks (ap_draft k kind payload timeout)) s a b
+    → Does (record y { names = y.names ++ (name, n) ∷ [] }) (sends_on name k kind payload timeout)
+    s a b
+sent-on x y s name k kind payload timeout o n st number is label d =
+    let next : n ≡ next_number s.bus =
+    cc (is, number-is s k kind payload timeout o label (number s st)) in
+    does-sends_on x y s name n k kind payload timeout st next d
+
+-- one whose connection has an identifier left has a number
+pub sent-numbered : (x : Parties) (s : State) (k kind : ℕ) (payload : List ℕ) (timeout : ℕ)
+    (o : Option ℕ) → PartsStand [] x s → IsNumber x k kind payload timeout o
+    → IsSome (next_label k side.Ap s.bus) → o ≡ Some (next_number s.bus)
+sent-numbered x s k kind payload timeout o st number label =
+    number-is s k kind payload timeout o label (number s st)
+
+-- a request of a script is sent
 pub send-done : (x y : Parties) (s : State) (name : Name) (to : End) (kind : ℕ)
-    (payload : List ℕ) (timeout deadline k : ℕ) (o : Option ℕ) (n : ℕ) (before es : List Entry)
-    → IsValid (event.Send name to kind payload timeout) → deadline ≡ timeout → PartiesStand x s
+    (payload : List ℕ) (timeout wait k : ℕ) (before es : List Entry)
+    → IsValid (event.Send name to kind payload timeout) → wait ≡ timeout → PartiesStand x s
     → GoesAs s name to kind payload (Ok k) → before ≡ entry.Done ∷ []
-    → IsNumber x k kind payload deadline o → o ≡ Some n
     → ((t : State) → PartsStand [] x t → IsAskable kind payload
-    → Does y (asks (ap_draft k kind payload deadline)) t before es)
-    → PartsStep (record y { names = y.names ++ (name, n) ∷ [] }) s
-    (event.Send name to kind payload timeout) (Ok es)
+    → IsSome (next_label k side.Ap t.bus)
+    → Does y (sends_on name k kind payload wait) t before es)
+    → PartsStep y s (event.Send name to kind payload timeout) (Ok es)
 unfolding machine_opened
-send-done x y s name to kind payload timeout deadline k o n before es valid same st goes_as begun
-    number is asked =
+send-done x y s name to kind payload timeout wait k before es valid same st goes_as begun sent =
     let far = valid.1 in
     let g = goes-so s name to kind payload k far goes_as in
-    let next : n ≡ next_number s.bus =
-    cc (is, number-is s k kind payload deadline o g.label (number s st.parts)) in
     let low : kind < 128 = let most = valid.2 in omega (arith, most) in
-    lands (record y { names = y.names ++ (name, n) ∷ [] }) s
-    (event.Send name to kind payload timeout) before es g.allowed begun
-    (does-sends x y s name to n k kind payload timeout far g.way st.parts next
-    (subst (λ d. Does y (asks (ap_draft k kind payload d)) s before es) same
-    (asked s st.parts (low, fits s name to kind payload k far g))))
-
--- one that goes has a number
-pub send-numbered : (x : Parties) (s : State) (name : Name) (to : End) (kind : ℕ)
-    (payload : List ℕ) (timeout deadline k : ℕ) (o : Option ℕ)
-    → IsValid (event.Send name to kind payload timeout) → PartiesStand x s
-    → GoesAs s name to kind payload (Ok k) → IsNumber x k kind payload deadline o
-    → o ≡ Some (next_number s.bus)
-send-numbered x s name to kind payload timeout deadline k o valid st goes_as number =
-    number-is s k kind payload deadline o
-    (goes-so s name to kind payload k valid.1 goes_as).label (number s st.parts)
+    lands y s (event.Send name to kind payload timeout) before es g.allowed begun
+    (does-sends name to k kind payload timeout far g.way
+    (subst (λ d. Does y (sends_on name k kind payload d) s before es) same
+    (sent s st.parts (low, fits s name to kind payload k far g) g.label)))

@@ -1,6 +1,7 @@
 -- What of a state changes, and the parties stand for it still.
 use Rattle.std.proofs.Common.{◌≡◌, ℕ, suc, ◌<◌, ◌≤◌, Some, List, [], ◌∷◌, ◌++◌, length, sym, ap, ◌∙◌, ⊎_elim, subst, arith, length-append}
 use Rattle.std.proofs.lemmas.Bool.{cases_lt}
+use Rattle.gb_bus.proofs.Loosening.{let-go}
 use Rattle.gb_bus.specs.Stands as bus
 use Rattle.gb_bus.specs.declared.bus.Bus.{Bus}
 use Rattle.gb_host.specs.Stands as host
@@ -18,15 +19,19 @@ use Rattle.gb_switch.specs.declared.ladder.Ladder.{Ladder}
 use Rattle.gb_system.specs.Stands.{AreSound, PartsStand, held_items}
 use Rattle.gb_system.specs.declared.parties.Parties.{Parties}
 
--- The parties stand for a state with another bus, whose requests are sound.
-pub rebussed : {x : Parties} {s : State} {was : List Loose} (loose : List Loose) (y : Bus)
-    (b : machine.Bus) → PartsStand was x s → bus.Stands (loose ++ held_items s) y b → AreSound b
-    → PartsStand loose (record x { bus = y }) (with_bus b s)
-rebussed loose y b st stands sound = record {
-  bus = stands;
-  ports = st.ports;
+-- The parties stand for a state with another bus, other power levels, another application processor
+-- and another past.
+pub standing : {x : Parties} {s : State} {was : List Loose} (loose : List Loose) (y : Bus)
+    (b : machine.Bus) (v : Ladder) (ports : List Port) (z : Host) (h : machine_host.Host)
+    (past : Past) → PartsStand was x s → bus.Stands (loose ++ held_items s) y b → AreSound b
+    → switch.Stands v ports → host.Stands z h
+    → PartsStand loose (record x { bus = y; ladder = v; host = z })
+    (record s { bus = b; ports = ports; host = h; past = past })
+standing loose y b v ports z h past st bus_stands sound ladder_stands host_stands = record {
+  bus = bus_stands;
+  ports = ladder_stands;
   modules = st.modules;
-  host = st.host;
+  host = host_stands;
   names = st.names;
   booted = st.booted;
   sound = sound;
@@ -35,6 +40,19 @@ rebussed loose y b st stands sound = record {
   holds = st.holds;
   held = st.held;
 }
+
+-- The parties stand for a state with another bus, whose requests are sound.
+pub rebussed : {x : Parties} {s : State} {was : List Loose} (loose : List Loose) (y : Bus)
+    (b : machine.Bus) → PartsStand was x s → bus.Stands (loose ++ held_items s) y b → AreSound b
+    → PartsStand loose (record x { bus = y }) (with_bus b s)
+rebussed {x} {s} loose y b st stands sound =
+    standing loose y b x.ladder s.ports x.host s.host s.past st stands sound st.ports st.host
+
+-- An item is let go.
+pub let-gone : {x : Parties} {s : State} (l : Loose) (loose : List Loose)
+    → PartsStand (l ∷ loose) x s → PartsStand loose x s
+let-gone {x} {s} l loose st =
+    rebussed loose x.bus s.bus st (let-go l (loose ++ held_items s) x.bus s.bus st.bus) st.sound
 
 -- the same requests were made
 pub same-sound : (b c : machine.Bus) → c.requests ≡ b.requests → AreSound b → AreSound c
@@ -65,51 +83,19 @@ each_more P rs q old new n r h =
 pub rehosted : {x : Parties} {s : State} {loose : List Loose} (y : Host) (h : machine_host.Host)
     → PartsStand loose x s → host.Stands y h
     → PartsStand loose (record x { host = y }) (record s { host = h })
-rehosted y h st stands = record {
-  bus = st.bus;
-  ports = st.ports;
-  modules = st.modules;
-  host = stands;
-  names = st.names;
-  booted = st.booted;
-  sound = st.sound;
-  short = st.short;
-  now = st.now;
-  holds = st.holds;
-  held = st.held;
-}
+rehosted {x} {s} {loose} y h st stands =
+    standing loose x.bus s.bus x.ladder s.ports y h s.past st st.bus st.sound st.ports stands
 
 -- The past is no matter of theirs.
 pub repast : {x : Parties} {s : State} {loose : List Loose} (past : Past) → PartsStand loose x s
     → PartsStand loose x (record s { past = past })
-repast past st = record {
-  bus = st.bus;
-  ports = st.ports;
-  modules = st.modules;
-  host = st.host;
-  names = st.names;
-  booted = st.booted;
-  sound = st.sound;
-  short = st.short;
-  now = st.now;
-  holds = st.holds;
-  held = st.held;
-}
+repast {x} {s} {loose} past st =
+    standing loose x.bus s.bus x.ladder s.ports x.host s.host past st st.bus st.sound st.ports
+    st.host
 
 -- The parties stand for a state with other power levels.
 pub relevelled : {x : Parties} {s : State} {loose : List Loose} (y : Ladder) (ports : List Port)
     → PartsStand loose x s → switch.Stands y ports
     → PartsStand loose (record x { ladder = y }) (record s { ports = ports })
-relevelled y ports st stands = record {
-  bus = st.bus;
-  ports = stands;
-  modules = st.modules;
-  host = st.host;
-  names = st.names;
-  booted = st.booted;
-  sound = st.sound;
-  short = st.short;
-  now = st.now;
-  holds = st.holds;
-  held = st.held;
-}
+relevelled {x} {s} {loose} y ports st stands =
+    standing loose x.bus s.bus y ports x.host s.host s.past st st.bus st.sound stands st.host

@@ -53,112 +53,35 @@ module-takes at i c taken mods s p is of same there =
 
 -- ---- the application processor
 
--- a place at the far side has another end at the side of the application processor
-side-other : (at : End) (c : Connection) → side_at at c ≡ Some side.Far
-    → same_end at (end.Ap c.ap) ≡ false
-side-other at c h = by c.wired (same_end at (end.Ap c.ap)) refl h
-  where
-    by : (w a : Bool) → same_end at (end.Ap c.ap) ≡ a
-        → cond (w && a) (Some side.Ap) (cond (w && same_end at c.peer) (Some side.Far) None)
-        ≡ Some side.Far
-        → same_end at (end.Ap c.ap) ≡ false
-    by w false e k = e
-    by true true e k = absurd cc
-    by false true e k = absurd cc
-
-place-other : (at : End) (cs : List Connection) (p : Place) → place_of at cs ≡ Some p
-    → p.side ≡ side.Far → same_end at (end.Ap p.connection.ap) ≡ false
-place-other at [] p h far = absurd cc
-place-other at (c ∷ cs) p h far = by (side_at at c) refl h (place-other at cs p)
-  where
-    Other : Place → Type 0
-    Other q = q.side ≡ side.Far → same_end at (end.Ap q.connection.ap) ≡ false
-
-    by : (o : Option Side) → side_at at c ≡ o
-        → or_else (option_map (λ t. record { connection = c; side = t }) o) (place_of at cs)
-        ≡ Some p
-        → (place_of at cs ≡ Some p → p.side ≡ side.Far
-        → same_end at (end.Ap p.connection.ap) ≡ false)
-        → same_end at (end.Ap p.connection.ap) ≡ false
-    by None e k rec = rec k far
-    by (Some t) e k rec =
-        let q : Place = record { connection = c; side = t } in
-        subst Other (same-some q p k)
-        (λ (f : t ≡ side.Far). side-other at c (e ∙ ap Some f)) far
-
--- what code looks up at the place of an end
-pub record Looked (k : ℕ) (ends : Option (ℕ × End)) (p : Place) : Type 0 where
-  pub number : p.connection.number ≡ k
-  pub ends_are : ends ≡ Some (ends_of p.connection)
-
-pub looked : (loose : List Loose) (y : Bus) (b : machine.Bus) (at : End) (p : Place) (k : ℕ)
-    (o : Option ℕ) (ends : Option (ℕ × End)) → bus.Stands loose y b
+-- it takes by the state of its connection
+pub ap-taken : (loose : List Loose) (at : End) (o : Option ℕ) (k : ℕ)
+    (stage : Option ConnState) (taken : Bool) (x : Host) (y : Bus) (s : State) (p : Place)
+    → bus.Stands loose y s.bus → host.Stands x s.host
     → ((l : List Loose) (d : machine.Bus) → bus.Stands l y d
     → o ≡ option_map number_of (place_of at d.connections))
     → o ≡ Some k
-    → ((l : List Loose) (d : machine.Bus) → bus.Stands l y d
-    → ends ≡ option_map ends_of (connection_of k d))
-    → place_of at b.connections ≡ Some p → Looked k ends p
-looked loose y b at p k o ends stands named is looks there =
-    let same : Some p.connection.number ≡ Some k =
-    sym (ap (option_map number_of) there) ∙ sym (named loose b stands) ∙ is in
-    let number = same-some p.connection.number k same in
-    let live = found-by_number b.connections p.connection stands.facts.fits.numbers.rise
-    (place-is at b.connections p there).live in
-    record {
-      number = number;
-      ends_are = looks loose b stands
-          ∙ ap (λ j. option_map ends_of (connection_of j b)) (sym number)
-          ∙ ap (option_map ends_of) live;
-    }
-
--- it is looked up
-pub no-ends : (k : ℕ) (ends : Option (ℕ × End)) (p : Place) → Looked k ends p → ends ≡ None → ⊥
-no-ends k ends p l none =
-    let both : Some (ends_of p.connection) ≡ None = sym l.ends_are ∙ none in cc
-
--- the CPort of the application processor is another
-pub other-takes : (k a cport : ℕ) (far : End) (ends : Option (ℕ × End)) (s : State) (p : Place)
-    → Looked k ends p → ends ≡ Some (a, far) → (a ≡ cport → ⊥)
-    → place_of (end.Ap cport) s.bus.connections ≡ Some p
-    → true ≡ takes p.side p.connection s
-other-takes k a cport far ends s p l is other there =
-    by p.side (place-is (end.Ap cport) s.bus.connections p there).is
-  where
-    ap_is : p.connection.ap ≡ a
-    ap_is =
-        let both : Some (ends_of p.connection) ≡ Some (a, far) = sym l.ends_are ∙ is in
-        ap (λ (e : ℕ × End). e.0) (same-some (ends_of p.connection) (a, far) both)
-
-    by : (t : Side) → end_of t p.connection ≡ end.Ap cport → true ≡ takes t p.connection s
-    by side.Ap e =
-        let same : p.connection.ap ≡ cport = cc in absurd (other (sym ap_is ∙ same))
-    by side.Far e = sym (ap (λ f. far_takes f s.modules) e)
-
--- it is that which is looked up
-pub link-takes : (k a cport : ℕ) (far : End) (ends : Option (ℕ × End)) (stage : Option ConnState)
-    (taken : Bool) (x : Host) (s : State) (p : Place)
-    → Looked k ends p → ends ≡ Some (a, far) → a ≡ cport → host.Stands x s.host
     → ((h : machine_host.Host) → host.Stands x h
     → stage ≡ option_map (λ (l : Link). l.state) (link_of k h))
     → ((o : Option Link) → stage ≡ option_map (λ (l : Link). l.state) o → taken ≡ link_takes o)
-    → place_of (end.Ap cport) s.bus.connections ≡ Some p
+    → place_of at s.bus.connections ≡ Some p → side.Ap ≡ p.side
     → taken ≡ takes p.side p.connection s
-link-takes k a cport far ends stage taken x s p l is same stands stages takes_it there =
-    by p.side refl
+ap-taken loose at o k stage taken x y s p stands knows named is stages takes_it there ap_side =
+    subst (λ (t : Side). taken ≡ takes t p.connection s) ap_side
+    (takes_it (link_of k s.host) (stages s.host knows)
+    ∙ ap (λ j. link_takes (link_of j s.host)) (sym number))
   where
-    ap_is : p.connection.ap ≡ cport
-    ap_is =
-        let both : Some (ends_of p.connection) ≡ Some (a, far) = sym l.ends_are ∙ is in
-        ap (λ (e : ℕ × End). e.0) (same-some (ends_of p.connection) (a, far) both) ∙ same
+    number : p.connection.number ≡ k
+    number =
+        let same : Some p.connection.number ≡ Some k =
+        sym (ap (option_map number_of) there) ∙ sym (named loose s.bus stands) ∙ is in
+        same-some p.connection.number k same
 
-    by : (t : Side) → p.side ≡ t → taken ≡ takes t p.connection s
-    by side.Ap e =
-        takes_it (link_of k s.host) (stages s.host stands)
-        ∙ ap (λ j. link_takes (link_of j s.host)) (sym l.number)
-    by side.Far e =
-        let no : same_end (end.Ap cport) (end.Ap p.connection.ap) ≡ false =
-        place-other (end.Ap cport) s.bus.connections p there e in
-        let yes : same_end (end.Ap cport) (end.Ap p.connection.ap) ≡ true =
-        ap (λ c. same_end (end.Ap cport) (end.Ap c)) ap_is ∙ is-same cport in
-        absurd (let both : false ≡ true = sym no ∙ yes in cc)
+-- a place is named
+pub ap-named : (loose : List Loose) (at : End) (o : Option ℕ) (taken : Bool) (y : Bus) (s : State)
+    (p : Place) → bus.Stands loose y s.bus
+    → ((l : List Loose) (d : machine.Bus) → bus.Stands l y d
+    → o ≡ option_map number_of (place_of at d.connections))
+    → o ≡ None → place_of at s.bus.connections ≡ Some p → taken ≡ takes p.side p.connection s
+ap-named loose at o taken y s p stands named is there =
+    absurd (let none : Some p.connection.number ≡ None =
+    sym (ap (option_map number_of) there) ∙ sym (named loose s.bus stands) ∙ is in cc)

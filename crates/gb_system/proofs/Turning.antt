@@ -137,32 +137,3 @@ pub may-note : (s : State) (at : End) (p : Place) (n : ℕ) (r : Request) (e : H
       host = (host_serves p.connection.number r.kind r.payload s.host).host;
     })
 may-note s at p n r e run notes f = possible _ (turned-noticed s at p n r e run notes f)
-
--- behind the reply
-pub may-notice : (s : State) (at : End) (p : Place) (n : ℕ) (r : Request) (item : Item)
-    (e : HostEvent) → OfARun s → place_of at s.bus.connections ≡ Some p → p.side ≡ side.Ap
-    → first (queue p.side p.connection) ≡ Some (Ask n) → request_of n s.bus ≡ Some r
-    → (host_serves p.connection.number r.kind r.payload s.host).notices ≡ Some e
-    → MayTurn e (record s {
-      bus = replied p.connection.number side.Far item (popped p.connection.number p.side s.bus);
-      host = (host_serves p.connection.number r.kind r.payload s.host).host;
-    })
-may-notice s at p n r item e run named ap_side front made notices =
-    may-note s at p n r e run
-    (record { named = named; side = ap_side; front = front; made = made; notices = notices })
-    (linked-replied p.connection.number side.Far item
-    (linked-popped p.connection.number p.side (reached-linked s run)))
-
--- where no reply is awaited
-pub may-notice-oneway : (s : State) (at : End) (p : Place) (n : ℕ) (r : Request) (e : HostEvent)
-    → OfARun s → place_of at s.bus.connections ≡ Some p → p.side ≡ side.Ap
-    → first (queue p.side p.connection) ≡ Some (Ask n) → request_of n s.bus ≡ Some r
-    → (host_serves p.connection.number r.kind r.payload s.host).notices ≡ Some e
-    → MayTurn e (record s {
-      bus = popped p.connection.number p.side s.bus;
-      host = (host_serves p.connection.number r.kind r.payload s.host).host;
-    })
-may-notice-oneway s at p n r e run named ap_side front made notices =
-    may-note s at p n r e run
-    (record { named = named; side = ap_side; front = front; made = made; notices = notices })
-    (linked-popped p.connection.number p.side (reached-linked s run))

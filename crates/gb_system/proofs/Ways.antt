@@ -54,30 +54,10 @@ met-late (c ∷ cs) ds h = by c.0 (met-late cs ds) h
 abbrev kept_conditions : ℕ → Option Link → List Condition
 kept_conditions kind link = conditions_of (λ l. (is_kept l kind, why.Unsupported) ∷ []) link
 
-kept-met : (kind : ℕ) (link : Option Link) → holds_of (λ l. is_kept l kind) link ≡ true
-    → first_met (kept_conditions kind link) ≡ Some why.Unsupported
-kept-met kind None h = absurd cc
-kept-met kind (Some l) h = ap (λ b. first_met ((b, why.Unsupported) ∷ [])) h
-
 kept-unmet : (kind : ℕ) (link : Option Link) → holds_of (λ l. is_kept l kind) link ≡ false
     → first_met (kept_conditions kind link) ≡ None
 kept-unmet kind None h = refl
 kept-unmet kind (Some l) h = ap (λ b. first_met ((b, why.Unsupported) ∷ [])) h
-
--- the interface or the connection refuses
-pub leads-refused : (i c kind : ℕ) (h : Host) (why : Refusal)
-    → first_met (send_conditions i c h) ≡ Some why
-    → LeadsAs h (end.Module i c) kind (Err why)
-leads-refused i c kind h why is =
-    met-early (send_conditions i c h) (kept_conditions kind (link_at i c h)) why is
-
--- the type is kept
-pub leads-kept : (i c kind : ℕ) (h : Host) → first_met (send_conditions i c h) ≡ None
-    → holds_of (λ l. is_kept l kind) (link_at i c h) ≡ true
-    → LeadsAs h (end.Module i c) kind (Err why.Unsupported)
-leads-kept i c kind h free is =
-    met-late (send_conditions i c h) (kept_conditions kind (link_at i c h)) free
-    ∙ kept-met kind (link_at i c h) is
 
 -- a connection leads there
 pub leads : (i c kind k : ℕ) (h : Host) → first_met (send_conditions i c h) ≡ None
@@ -122,12 +102,6 @@ IsOut end.Svc = ⊤
 IsOut (end.Ap a) = ⊥
 IsOut (end.Module i c) = ⊤
 
--- a request of a script goes to such an end
-is-out : (to : End) → IsFar to → IsOut to
-is-out end.Svc far = tt
-is-out (end.Ap a) far = far
-is-out (end.Module i c) far = tt
-
 -- these are the machine's, to an end that isn't the application processor's
 all-is : (s : State) (name : Name) (to : End) (kind : ℕ) (payload : List ℕ) → IsOut to
     → first_met (send_to_conditions s name to kind payload)
@@ -163,16 +137,6 @@ goes-by s name (end.Ap a) kind payload why is = tt
 goes-by s name (end.Module i c) kind payload why is =
     all-is s name (end.Module i c) kind payload tt ∙ is tt
 
--- the name names something
-pub goes-occupied : (x : Parties) (s : State) (name : Name) (to : End) (kind : ℕ)
-    (payload : List ℕ) → PartiesStand x s → is_some (named name x.names) ≡ true
-    → GoesAs s name to kind payload (Err why.Occupied)
-goes-occupied x s name to kind payload st taken =
-    goes-by s name to kind payload why.Occupied (λ out.
-    ap (λ b. cond b (Some why.Occupied)
-    (first_met (way_conditions to kind s.host ++ rest_to s to payload)))
-    (ap is_some (named-is x s name st) ∙ taken))
-
 -- a free name decides nothing
 late-name : (x : Parties) (s : State) (name : Name) (to : End) (kind : ℕ) (payload : List ℕ)
     → PartiesStand x s → is_some (named name x.names) ≡ false
@@ -203,23 +167,8 @@ late-way x s name to kind payload k st free is out =
     ∙ met-late (way_conditions to kind s.host) (rest_to s to payload) is.0
     ∙ rest-is s to payload k out is.1
 
--- a payload that is too large
-long-is : (payload : List ℕ) → 2040 < length payload → is_long_payload payload ≡ true
-long-is payload h = grind (arith, nat_tests, h)
-
 short-is : (payload : List ℕ) → length payload ≤ 2040 → is_long_payload payload ≡ false
 short-is payload h = grind (arith, nat_tests, h)
-
--- the payload is too large
-pub goes-large : (x : Parties) (s : State) (name : Name) (to : End) (kind : ℕ)
-    (payload : List ℕ) (k : ℕ) → PartiesStand x s → is_some (named name x.names) ≡ false
-    → LeadsAs s.host to kind (Ok k) → 2040 < length payload
-    → GoesAs s name to kind payload (Err why.TooLarge)
-goes-large x s name to kind payload k st free is large =
-    goes-by s name to kind payload why.TooLarge (λ out.
-    late-way x s name to kind payload k st free is out
-    ∙ ap (λ b. first_met ((b, why.TooLarge)
-    ∷ (is_none (next_label k side.Ap s.bus), no_label) ∷ [])) (long-is payload large))
 
 -- a payload that isn't leaves the identifier
 late-label : (payload : List ℕ) (b : Bus) (k : ℕ) → length payload ≤ 2040
@@ -229,19 +178,8 @@ late-label payload b k short =
     ap (λ t. first_met ((t, why.TooLarge)
     ∷ (is_none (next_label k side.Ap b), no_label) ∷ [])) (short-is payload short)
 
--- no identifier is left
-pub goes-spent : (x : Parties) (s : State) (name : Name) (to : End) (kind : ℕ)
-    (payload : List ℕ) (k : ℕ) (spent : Bool) → PartiesStand x s
-    → is_some (named name x.names) ≡ false → LeadsAs s.host to kind (Ok k)
-    → length payload ≤ 2040 → spent ≡ is_none (next_label k side.Ap s.bus) → spent ≡ true
-    → GoesAs s name to kind payload (Err why.LabelsSpent)
-goes-spent x s name to kind payload k spent st free is short by it =
-    goes-by s name to kind payload why.LabelsSpent (λ out.
-    late-way x s name to kind payload k st free is out ∙ late-label payload s.bus k short
-    ∙ ap (λ t. first_met ((t, no_label) ∷ [])) (sym by ∙ it))
-
 -- what is there
-is-there : {A : Type 0} (o : Option A) → is_none o ≡ false → IsSome o
+pub is-there : {A : Type 0} (o : Option A) → is_none o ≡ false → IsSome o
 is-there None h = absurd (cc (h))
 is-there (Some n) h = refl
 

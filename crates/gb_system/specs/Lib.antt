@@ -1,5 +1,6 @@
 pub mod Acting
 pub mod Arriving
+pub mod Bridging
 pub mod Deciding
 pub mod Doing
 pub mod Drafts

@@ -1,12 +1,21 @@
--- What the modules that are plugged answer.
-use Rattle.std.specs.Prelude.{◌≡◌, ℕ, suc, nat_lt, if◌then◌else◌, Option, Some, None, Result, Ok, Err, List, [], ◌∷◌, map}
+-- What the modules that are plugged answer and ask.
+use Rattle.std.specs.Prelude.{◌≡◌, ℕ, suc, nat_lt, if◌then◌else◌, Option, Some, None}
+use Rattle.std.specs.Prelude.{Result, Ok, Err, List, [], ◌∷◌, map}
 use Rattle.gb_base.specs.declared.errors.OutOfMemory.{OutOfMemory}
+use Rattle.gb_base.specs.declared.event.Event.{Event}
+use Rattle.gb_base.specs.declared.event.Event.TheVariants as event
+use Rattle.gb_base.specs.declared.served.OwnAsk.{OwnAsk}
 use Rattle.gb_base.specs.declared.served.Served.{Served}
+use Rattle.gb_formats.specs.Devices.{Stir}
 use Rattle.gb_formats.specs.Module.{Module}
-use Rattle.gb_formats.specs.ModuleSteps.{module_serve}
-use Rattle.gb_formats.specs.Results.{Step}
+use Rattle.gb_formats.specs.ModuleSteps.{module_serve, module_stir}
+use Rattle.gb_formats.specs.Results.{Step, Stirred}
 use Rattle.gb_machine.specs.Modules.{with_module}
 use Rattle.gb_machine.specs.State.{Plugged}
+use Rattle.gb_module.specs.declared.stir.Stir as code
+use Rattle.gb_module.specs.declared.stir.Stir.TheVariants as stir
+use Rattle.gb_module.specs.declared.stir.StirFault.{StirFault}
+use Rattle.gb_module.specs.declared.stir.StirFault.TheVariants as fault
 
 -- the interfaces at which modules are plugged, rising
 abbrev pub intfs_of : List Plugged → List ℕ
@@ -30,3 +39,23 @@ ServesThere i c kind payload m old new (Err refused) = new ≡ old
 ServesThere i c kind payload None old new (Ok served) = (served ≡ None) × (new ≡ old)
 ServesThere i c kind payload (Some m) old new (Ok served) =
     StepsThere i (module_serve m c kind payload) old new served
+
+-- a stir of a module, and the modules after it
+abbrev pub StirsAt : ℕ → Option (Stirred Module) → List Plugged → List Plugged
+    → Result (Option (List OwnAsk)) StirFault → Type 0
+StirsAt i None old new result = (result ≡ Err fault.NoCport) × (new ≡ old)
+StirsAt i (Some t) old new (Ok own) = (own ≡ Some t.asks) × (new ≡ with_module i t.after old)
+StirsAt i (Some t) old new (Err fault.NoCport) = ⊥
+StirsAt i (Some t) old new (Err (fault.Memory refused)) = new ≡ old
+
+-- The device of a CPort of the module at an interface is stirred, if one is plugged. NoCport comes
+-- exactly where it has no such device. After each fault all are as before.
+abbrev pub StirsThere : ℕ → ℕ → Stir → Option Module → List Plugged → List Plugged
+    → Result (Option (List OwnAsk)) StirFault → Type 0
+StirsThere i c what None old new result = (result ≡ Ok None) × (new ≡ old)
+StirsThere i c what (Some m) old new result = StirsAt i (module_stir m c what) old new result
+
+-- the event by which something comes from outside
+abbrev pub event_of_stir : ℕ → ℕ → code.Stir → Event
+event_of_stir i c (stir.Level line value) = event.Level i c line value
+event_of_stir i c (stir.Serial control) = event.SerialState i c control

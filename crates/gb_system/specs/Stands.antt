@@ -29,11 +29,10 @@ held_item h = taken_from h.connection side.Far h.item
 abbrev pub held_items : State → List Loose
 held_items s = map held_item s.held
 
--- A request has a type that a request can have, fits into a message, has an identifier exactly
--- where it gets a reply, and gets one where the application processor made it.
+-- A request has a type that a request can have, has an identifier exactly where it gets a reply, and
+-- gets one where the application processor made it.
 pub record IsSound (r : Request) : Type 0 where
   pub kind : r.kind < 128
-  pub payload : length r.payload ≤ most_payload
   pub label : (r.label == 0) ≡ r.oneway
   pub twoway : r.side ≡ side.Ap → r.oneway ≡ false
 

@@ -6,7 +6,8 @@ ghost use Rattle.gb_machine.specs.HostActs.{fails, host_asks, notices};
 ghost use Rattle.gb_machine.specs.Failures.{unsent};
 ghost use Rattle.gb_machine.specs.State.{State};
 ghost use Rattle.gb_machine.specs.Wires.{disconnected_told, shuts, unwires};
-ghost use Rattle.gb_system.specs.Acting.{ActsAs, IsAskable, MakesAs, MayTurn, asking_of, making_of, tells_of};
+ghost use Rattle.gb_system.specs.Acting.{ActsAs, IsAskable, MakesAs, MayTurn};
+ghost use Rattle.gb_system.specs.Acting.{asking_of, making_of, tells_of};
 ghost use Rattle.gb_system.specs.Doing.{Does};
 ghost use Rattle.gb_system.specs.Stands.{PartsStand};
 

@@ -13,19 +13,11 @@ ghost use Rattle.gb_switch.specs.declared.ladder.Ladder as switch;
 ghost use Rattle.gb_system.specs.declared.deciding.Behind.TheVariants as behind;
 ghost use Rattle.gb_system.specs.Deciding.{BusAndPorts, Decides, answer_of};
 
+use crate::results::{INVALID, NONEXISTENT, SUCCESS};
 use arrayvec::ArrayVec;
 use gb_bus::Bus;
 use gb_svc::SvcServed;
 use gb_switch::{Ladder, NotRouted};
-
-/// The result of an operation that succeeded (Greybus Specification, "Operation Status Values").
-const SUCCESS: u8 = 0;
-
-/// The result where the state doesn't fit.
-const INVALID: u8 = 6;
-
-/// The result where what is asked for isn't there.
-const NONEXISTENT: u8 = 8;
 
 /// What the supervisory controller answers, and what it does after its reply.
 #[derive(Drop)]

@@ -15,15 +15,6 @@ pub fn begun(alloc: Global) -> Result<Entries, OutOfMemory>
     Ok(entries)
 }
 
-/// An event is done, and this is what it brought about.
-pub fn done(alloc: Global, entry: Entry) -> Result<Entries, OutOfMemory>
-    ensures { IfOk result (λ es. es ≡ told.Done ∷ entry ∷ []) }
-{
-    let mut entries = begun(alloc)?;
-    entries.push(entry)?;
-    Ok(entries)
-}
-
 /// An event is refused.
 pub fn refused(alloc: Global, why: Refusal) -> Result<Entries, OutOfMemory>
     ensures { IfOk result (λ es. es ≡ told.Refused why ∷ []) }

@@ -1,10 +1,9 @@
 //! Requests that modules serve.
 
-ghost use Rattle.std.specs.Prelude.{◌≡◌, ◌≤◌, ℕ, OnOk, length};
+ghost use Rattle.std.specs.Prelude.{◌≡◌, ℕ, OnOk};
 ghost use Rattle.gb_base.specs.declared.end.End.TheVariants as end;
 ghost use Rattle.gb_base.specs.declared.end.Side.TheVariants as side;
 ghost use Rattle.gb_bus.specs.Delivering.{MayReply};
-ghost use Rattle.gb_formats.specs.Results.{most_payload};
 ghost use Rattle.gb_machine.specs.Bus.{Connection};
 ghost use Rattle.gb_machine.specs.Incoming.{incoming};
 ghost use Rattle.gb_machine.specs.Responding.{serves};
@@ -15,11 +14,9 @@ ghost use Rattle.gb_system.specs.Serving.{only};
 ghost use Rattle.gb_system.specs.Stands.{PartsStand};
 
 use crate::parties::Parties;
+use crate::results::NONEXISTENT;
 use gb_base::{Entries, OutOfMemory, Side};
 use gb_bus::Asked;
-
-/// The result of a request at an interface where nothing is plugged.
-const NONEXISTENT: u8 = 0x08;
 
 impl Parties {
     /// A module serves a request at a CPort: its reply goes back, and then the requests of its own
@@ -37,7 +34,6 @@ impl Parties {
             → PartsStand (only connection side.Far n) self.old s
             → IsUpon connection s.bus c → c.peer ≡ end.Module intf cport
             → (may : MayReply asked.now s.bus n) → payload.now ≡ may.request.payload
-            → length payload.now ≤ most_payload
             → Does self.new (serves side.Far c (incoming n may.request)) s told.old told.new) }
     {
         let Some(served) = self.modules.serve(intf, cport, asked.kind, payload)? else {

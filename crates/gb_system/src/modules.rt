@@ -1,12 +1,16 @@
 //! The modules that are plugged.
 
-ghost use Rattle.std.specs.Prelude.{◌≡◌, ◌<◌, ◌≤◌, [], OnOk, OnErr, IfSome, length, option_copied, slice_get};
+ghost use Rattle.std.specs.Prelude.{◌≡◌, ◌<◌, ◌≤◌, [], OnOk, OnErr, IfSome};
+ghost use Rattle.std.specs.Prelude.{length, option_copied, slice_get};
 ghost use Rattle.std.specs.List.{position_from};
-ghost use Rattle.gb_machine.specs.Modules.{is_plugged_at, module_at, module_takes, plugged, unplugged};
-ghost use Rattle.gb_system.specs.Plugging.{ServesThere, intfs_of, place_behind};
+ghost use Rattle.gb_machine.specs.Modules.{is_plugged_at, module_at, module_takes};
+ghost use Rattle.gb_machine.specs.Modules.{plugged, unplugged};
+ghost use Rattle.gb_module.specs.Stirring.{IsStir};
+ghost use Rattle.gb_module.specs.Views.{stir_of};
+ghost use Rattle.gb_system.specs.Plugging.{ServesThere, StirsThere, intfs_of, place_behind};
 
-use gb_base::{OutOfMemory, Served};
-use gb_module::{CportState, Module};
+use gb_base::{OutOfMemory, OwnAsks, Served};
+use gb_module::{CportState, Module, Stir, StirFault};
 use std::alloc::Global;
 use std::marker::Model;
 
@@ -110,6 +114,21 @@ impl Modules {
         let plugged = &mut self.plugged[i];
         let served = plugged.body.serve(cport, kind, payload)?;
         Ok(Some(served))
+    }
+
+    /// Stirs the device of a CPort of the module at an interface: None exactly where none is plugged
+    /// there. After each fault all are as before.
+    pub fn stir(&mut self, intf: u8, cport: u16, what: Stir) -> Result<Option<OwnAsks>, StirFault>
+        requires { IsStir what }
+        ensures { StirsThere intf cport (stir_of what) (module_at intf self.old) self.old self.new
+            result }
+    {
+        let Some(i) = self.place(intf) else {
+            return Ok(None);
+        };
+        let plugged = &mut self.plugged[i];
+        let own = plugged.body.stir(cport, what)?;
+        Ok(Some(own))
     }
 
     /// How many modules are plugged.

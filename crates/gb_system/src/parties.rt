@@ -10,6 +10,7 @@ use crate::names::Names;
 use gb_base::{Entries, Event, OutOfMemory};
 use gb_bus::Bus;
 use gb_host::Host;
+use gb_module::Stir;
 use gb_switch::Ladder;
 use std::alloc::Global;
 
@@ -64,6 +65,30 @@ impl Parties {
                 payload,
                 timeout,
             } => self.send(name, *to, *kind, payload.items(), *timeout),
+            Event::Bridge {
+                name,
+                intf,
+                cport,
+                ask,
+            } => self.bridge(name, *intf, *cport, ask),
+            Event::Level {
+                intf,
+                cport,
+                line,
+                value,
+            } => self.stir(
+                *intf,
+                *cport,
+                Stir::Level {
+                    line: *line,
+                    value: *value,
+                },
+            ),
+            Event::SerialState {
+                intf,
+                cport,
+                control,
+            } => self.stir(*intf, *cport, Stir::Serial { control: *control }),
             Event::Deliver { at } => self.deliver(*at),
             Event::Settle { most } => self.settle(*most),
             Event::Cancel { name } => self.cancel(name),

@@ -1,11 +1,16 @@
 //! Requests that a script sends.
 
-ghost use Rattle.std.specs.Prelude.{◌≡◌};
+ghost use Rattle.std.specs.Prelude.{◌≡◌, [], IsSome, OnOk};
+ghost use Rattle.gb_base.specs.declared.end.Side.TheVariants as side;
 ghost use Rattle.gb_base.specs.declared.event.Event.TheVariants as event;
 ghost use Rattle.gb_formats.specs.ValidEvents.{IsValid};
+ghost use Rattle.gb_machine.specs.Labels.{next_label};
+ghost use Rattle.gb_machine.specs.LineActions.{sends_on};
 ghost use Rattle.gb_machine.specs.State.{State};
+ghost use Rattle.gb_system.specs.Acting.{IsAskable};
+ghost use Rattle.gb_system.specs.Doing.{Does};
 ghost use Rattle.gb_system.specs.Sending.{GoesAs, LeadsAs};
-ghost use Rattle.gb_system.specs.Stands.{PartiesStand, PartsStep};
+ghost use Rattle.gb_system.specs.Stands.{PartiesStand, PartsStand, PartsStep};
 
 use crate::asking::Draft;
 use crate::entries::{begun, refused};
@@ -34,18 +39,39 @@ impl Parties {
             Err(why) => return Ok(refused(self.alloc, why)?),
         };
         let mut told = begun(self.alloc)?;
+        let wait = u64::from(timeout);
+        self.send_on(name, connection, kind, payload, wait, &mut told)?;
+        Ok(told)
+    }
+
+    /// The application processor sends a request on a connection, and the request gets a name. The
+    /// timeout is in milliseconds.
+    pub fn send_on(
+        &mut self,
+        name: &Name,
+        connection: u64,
+        kind: u8,
+        payload: &[u8],
+        timeout: u64,
+        told: &mut Entries,
+    ) -> Result<(), OutOfMemory>
+        ensures step { OnOk result ((s : State) → PartsStand [] self.old s
+            → IsAskable kind payload.now → IsSome (next_label connection side.Ap s.bus)
+            → Does self.new (sends_on name.now connection kind payload.now timeout) s told.old
+            told.new) }
+    {
         let q = Draft {
             connection,
             side: Side::Ap,
             kind,
             payload,
-            deadline: u64::from(timeout),
+            deadline: timeout,
             oneway: false,
         };
-        if let Some(number) = self.ask(&q, &mut told)? {
+        if let Some(number) = self.ask(&q, told)? {
             self.names.bind(name.copy()?, number)?;
         }
-        Ok(told)
+        Ok(())
     }
 
     /// The connection on which a request is sent, or why it isn't.

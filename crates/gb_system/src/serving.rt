@@ -24,13 +24,10 @@ ghost use Rattle.gb_system.specs.Stands.{PartsStand};
 
 use crate::deciding::{Behind, decide};
 use crate::parties::Parties;
-use crate::svc::SVC;
+use crate::results::SUCCESS;
 use gb_base::{End, Entries, Entry, OutOfMemory, Side};
 use gb_bus::Asked;
 use gb_host::{HostEvent, HostServed};
-
-/// The result of an operation that succeeded (Greybus Specification, "Operation Status Values").
-const SUCCESS: u8 = 0;
 
 impl Parties {
     /// Serves a request that was delivered at an end: its reply goes back, and then what it brings

@@ -1,12 +1,13 @@
 //! Which ends take what is delivered.
 
 ghost use Rattle.std.specs.Prelude.{◌≡◌, Option, Some, List, option_map};
-ghost use Rattle.gb_base.specs.declared.end.End.TheVariants as end;
+ghost use Rattle.gb_base.specs.declared.end.Side.TheVariants as side;
 ghost use Rattle.gb_base.specs.declared.peers.Link.{Link};
 ghost use Rattle.gb_invariants.specs.Facts.{Loose};
 ghost use Rattle.gb_machine.specs.Arriving.{link_takes, takes};
 ghost use Rattle.gb_machine.specs.Bus.{Place, place_of};
 ghost use Rattle.gb_machine.specs.State.{State};
+ghost use Rattle.gb_system.specs.Serving.{side_of};
 ghost use Rattle.gb_system.specs.Stands.{PartsStand};
 
 use crate::parties::Parties;
@@ -16,32 +17,26 @@ impl Parties {
     /// Whether an end takes what is delivered there.
     pub fn takes(&self, at: End) -> bool
         ensures { (loose : List Loose) (s : State) (p : Place) → PartsStand loose self.now s
-            → place_of at s.bus.connections ≡ Some p → result ≡ takes p.side p.connection s }
+            → place_of at s.bus.connections ≡ Some p → side_of at ≡ p.side
+            → result ≡ takes p.side p.connection s }
     {
         match at {
             End::Svc => true,
             End::Module { intf, cport } => self.modules.takes(intf, cport),
-            End::Ap(cport) => self.ap_takes(cport),
+            End::Ap(_) => self.ap_takes(at),
         }
     }
 
-    /// Whether a CPort of the application processor takes what is delivered there.
-    fn ap_takes(&self, cport: u16) -> bool
+    /// Whether an end of the application processor takes what is delivered there.
+    fn ap_takes(&self, at: End) -> bool
         ensures { (loose : List Loose) (s : State) (p : Place) → PartsStand loose self.now s
-            → place_of (end.Ap cport) s.bus.connections ≡ Some p
+            → place_of at s.bus.connections ≡ Some p → side.Ap ≡ p.side
             → result ≡ takes p.side p.connection s }
     {
-        let Some(connection) = self.bus.named(End::Ap(cport)) else {
-            return true;
-        };
-        let Some((ap, _)) = self.bus.ends(connection) else {
-            return true;
-        };
-        if ap != cport {
-            // A far end takes all, though none is a CPort of the application processor.
-            return true;
+        match self.bus.named(at) {
+            Some(connection) => takes_in(self.host.stage(connection)),
+            None => true,
         }
-        takes_in(self.host.stage(connection))
     }
 }
 

@@ -1,7 +1,6 @@
 -- The party at the end serves.
-use Rattle.std.proofs.Common.{◌≤◌, List, ℕ, length, sym, subst}
+use Rattle.std.proofs.Common.{sym, subst}
 use Rattle.gb_base.specs.declared.end.End.{End}
-use Rattle.gb_formats.specs.Results.{most_payload}
 use Rattle.gb_system.proofs.SvcServes.{far-reply, may-reply}
 use Rattle.gb_system.specs.Serving.{ServesAt}
 use Rattle.gb_system.proofs.parties.Parties.serve.Goals as goal
@@ -28,7 +27,5 @@ returns-in_ok-serve_at_module-in-Module c = record {
       c.args.connection c.args.asked.now c.args.payload.now c.args.told.now
       c.serve_at_module.new.told) (sym c.in-Module.is)
       (λ s x n d st may. c.in_ok-serve_at_module-in-Module.ensures.step s x n st d.upon d.there
-      (may-reply d (far-reply d st)) d.payload_is
-      (subst (λ (p : List ℕ). length p ≤ most_payload) (sym d.payload_is)
-      (st.sound n d.request d.made).payload));
+      (may-reply d (far-reply d st)) d.payload_is);
 }

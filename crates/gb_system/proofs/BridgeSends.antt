@@ -1,0 +1,157 @@
+-- A bridge line is told as refused, or its request is sent, as the machine does.
+use Rattle.std.proofs.Common.{◌≡◌, ◌≤◌, ◌<◌, ℕ, ◌==◌, Bool, true, false, cond, Option, Some, None, IsSome}
+use Rattle.std.proofs.Common.{Ok, Err, List, [], ◌∷◌, ◌++◌, length, take, drop, refl, sym, ap, ◌∙◌}
+use Rattle.std.proofs.Common.{option_map, nat_lt, subst, arith}
+use Rattle.std.specs.Prelude.{◌||◌}
+use Rattle.std.proofs.Math.Seq.{take-append_seam}
+use Rattle.std.proofs.lemmas.Bool.Decides.{nat_tests}
+use Rattle.gb_base.specs.declared.bridge.BridgeAsk.{BridgeAsk}
+use Rattle.gb_base.specs.declared.bridge.BridgeAsk.TheVariants as ask
+use Rattle.gb_base.specs.declared.bridge.Bridged.{Bridged}
+use Rattle.gb_base.specs.declared.end.Side.TheVariants as side
+use Rattle.gb_base.specs.declared.entry.Entry.{Entry}
+use Rattle.gb_base.specs.declared.entry.Entry.TheVariants as entry
+use Rattle.gb_base.specs.declared.event.Event.TheVariants as event
+use Rattle.gb_base.specs.declared.name.Name.{Name}
+use Rattle.gb_base.specs.declared.peers.Link.{Link}
+use Rattle.gb_base.specs.declared.refusal.Refusal.{Refusal}
+use Rattle.gb_bridge_payload.specs.Serving.{WritesBridged}
+use Rattle.gb_formats.specs.Bridges.{Request, ask_request, asks_too_much, bridge_answer}
+use Rattle.gb_formats.specs.Results.{most_payload}
+use Rattle.gb_host.specs.Stands as host
+use Rattle.gb_host.specs.declared.host.Host as code
+use Rattle.gb_laws.proofs.CreditsLines.{answered-by}
+use Rattle.gb_machine.proofs.Conditions.{unmet}
+use Rattle.gb_machine.proofs.Opened.{machine_opened}
+use Rattle.gb_machine.specs.Actions.{Action, given, on_host, ◌▸◌}
+use Rattle.gb_machine.specs.Host.{Host, link_at, link_of, with_link}
+use Rattle.gb_machine.specs.HostRefusals.{bridge_conditions}
+use Rattle.gb_machine.specs.Labels.{next_label}
+use Rattle.gb_machine.specs.LineActions.{bridge_sent, bridges, sends_on, spent}
+use Rattle.gb_machine.specs.Lists.{first_met}
+use Rattle.gb_machine.specs.State.{State}
+use Rattle.gb_system.proofs.Bridgings.{IsLink, is-link, line-met}
+use Rattle.gb_system.proofs.Doings.{does-as, does-by_state, does-given, does-on_host, does-then}
+use Rattle.gb_system.proofs.Landing.{lands, lands-refused}
+use Rattle.gb_system.proofs.Standing.{rehosted}
+use Rattle.gb_system.specs.Acting.{IsAskable}
+use Rattle.gb_system.specs.Bridging.{BridgesTo, IsBridged}
+use Rattle.gb_system.specs.Doing.{Does}
+use Rattle.gb_system.specs.Stands.{PartiesStand, PartsStand, PartsStep}
+use Rattle.gb_system.specs.declared.bridging.Bridging.{Bridging}
+use Rattle.gb_system.specs.declared.parties.Parties.{Parties}
+
+-- ---- the type of a request
+
+by-if : (t : Bool) {m n : ℕ} → m < 128 → n < 128 → cond t m n < 128
+by-if true h k = h
+by-if false h k = k
+
+-- a request has a type that a request can have
+is-low : (what : BridgeAsk) → (ask_request what).0 < 128
+is-low (ask.Gpio kind line value) = grind arith
+is-low ask.I2cFunctionality = omega arith
+is-low (ask.I2cTransfer ops) = omega arith
+is-low ask.SpiConfig = omega arith
+is-low (ask.SpiDevice select) = omega arith
+is-low (ask.SpiTransfer select mode ops) = omega arith
+is-low (ask.UartSend bytes) = omega arith
+is-low (ask.UartCoding rate format parity bits flow) = omega arith
+is-low (ask.UartByte kind value) = grind arith
+
+-- its payload is what stands at the front, and fits
+written-is : (request : Request) (old new : List ℕ) (b : Bridged) → WritesBridged request old new b
+    → take b.len new ≡ request.1
+written-is request old new b w =
+    ap (λ n. take n new) w.len ∙ ap (take (length request.1)) w.bytes
+    ∙ take-append_seam request.1 (drop (length request.1) old)
+
+is-short : (what : BridgeAsk) (l : Link) → first_met (bridge_conditions l what) ≡ None
+    → length (ask_request what).1 ≤ most_payload
+is-short what l met = small (length (ask_request what).1) (unmet (bridge_conditions l what) met).1.0
+  where
+    small : (n : ℕ) → (nat_lt most_payload n || asks_too_much what) ≡ false → n ≤ most_payload
+    small n h = grind (arith, nat_tests)
+
+-- ---- the line
+
+-- a line is refused
+pub bridge-refused : (x : Parties) (s : State) (name : Name) (i c : ℕ) (what : BridgeAsk)
+    (old new : List ℕ) (why : Refusal) (es : List Entry) → PartiesStand x s
+    → BridgesTo s name i c what old new (Err why) → es ≡ entry.Refused why ∷ []
+    → PartsStep x s (event.Bridge name i c what) (Ok es)
+bridge-refused x s name i c what old new why es st is told =
+    lands-refused x s (event.Bridge name i c what) why es is told st.parts
+
+-- the machine's action, on the connection of the line
+does-bridges : {x y z : Parties} {s : State} {a b : List Entry} (name : Name) (i c : ℕ)
+    (what : BridgeAsk) (l : Link) → link_at i c s.host ≡ Some l
+    → first_met (bridge_conditions l what) ≡ None
+    → PartsStand [] y (record s { host = with_link l.intf l.cport (spent what) s.host })
+    → Does z (sends_on name l.connection (ask_request what).0 (ask_request what).1 1000)
+    (record s { host = with_link l.intf l.cport (spent what) s.host }) a b
+    → Does z (bridges name i c what) s a b
+unfolding machine_opened
+does-bridges {x} {y} {z} {s} {a} {b} name i c what l there met st sent =
+    does-by_state (λ t. given (link_at i c t.host) on)
+    (does-given on l there
+    (subst (λ answer. Does z (bridge_sent name l what answer) s a b) (sym answer)
+    (does-then (does-on_host (with_link l.intf l.cport (spent what)) st) sent)))
+  where
+    on : Link → Action
+    on k = bridge_sent name k what (bridge_answer k.protocol what)
+
+    answer : bridge_answer l.protocol what ≡ Ok (ask_request what)
+    answer = let h = unmet (bridge_conditions l what) met in answered-by l.protocol what h.0 h.1.0
+
+-- what becomes of a request on a connection
+abbrev pub SendsOn : Name → ℕ → ℕ → List ℕ → Parties → Parties → List Entry → List Entry → Type 0
+SendsOn name k kind payload x y before told =
+    (t : State) → PartsStand [] x t → IsAskable kind payload → IsSome (next_label k side.Ap t.bus)
+    → Does y (sends_on name k kind payload 1000) t before told
+
+-- a line is sent
+pub bridge-done : (x z : Parties) (h : code.Host) (s : State) (name : Name) (i c : ℕ)
+    (what : BridgeAsk) (old new payload : List ℕ) (b : Bridging) (before es : List Entry)
+    → PartiesStand x s → BridgesTo s name i c what old new (Ok b) → before ≡ entry.Done ∷ []
+    → ((g : Host) (l : Link) → host.Stands x.host g → link_of b.connection g ≡ Some l
+    → host.Stands h (with_link l.intf l.cport (spent what) g))
+    → payload ≡ take b.request.len new
+    → SendsOn name b.connection b.request.kind payload (record x { host = h }) z before es
+    → PartsStep z s (event.Bridge name i c what) (Ok es)
+bridge-done x z h s name i c what old new payload b before es st is begun spends front sends =
+    lands z s (event.Bridge name i c what) before es is.allowed begun
+    (does-bridges name i c what is.link is.there met stand
+    (subst (λ k. Does z (sends_on name k (ask_request what).0 (ask_request what).1 1000) t before
+    es) (sym is.number)
+    (subst (λ bytes. Does z (sends_on name b.connection (ask_request what).0 bytes 1000) t before
+    es) bytes_are
+    (subst (λ kind. Does z (sends_on name b.connection kind payload 1000) t before es)
+    is.written.kind (sends t stand askable is.label)))))
+  where
+    met : first_met (bridge_conditions is.link what) ≡ None
+    met = line-met s name i c what is.link is.there is.allowed
+
+    l : IsLink s.host i c b.connection
+    l = is-link s x i c b.connection st (ap (option_map (λ (k : Link). k.connection)) is.there
+        ∙ ap Some is.number)
+
+    t : State
+    t = record s { host = with_link is.link.intf is.link.cport (spent what) s.host }
+
+    same : l.link ≡ is.link
+    same = let both : Some l.link ≡ Some is.link = sym l.there ∙ is.there in cc
+
+    stand : PartsStand [] (record x { host = h }) t
+    stand =
+        rehosted h (with_link is.link.intf is.link.cport (spent what) s.host) st.parts
+        (spends s.host is.link st.parts.host (l.of_number ∙ ap Some same))
+
+    bytes_are : payload ≡ (ask_request what).1
+    bytes_are = front ∙ written-is (ask_request what) old new b.request is.written
+
+    askable : IsAskable b.request.kind payload
+    askable = (
+      subst (λ n. n < 128) (sym is.written.kind) (is-low what),
+      subst (λ bytes. length bytes ≤ most_payload) (sym bytes_are) (is-short what is.link met),
+    )

@@ -1,0 +1,198 @@
+-- A bridge line is refused, or becomes a request, as the machine does.
+use Rattle.std.proofs.Common.{◌≡◌, ◌≤◌, ◌<◌, ◌+◌, ℕ, ◌==◌, nat_le, nat_lt, Bool, true, false, cond, not}
+use Rattle.std.proofs.Common.{Option, Some, None, is_some, is_none, IsSome, option_map, Result, Ok, Err}
+use Rattle.std.proofs.Common.{List, [], ◌∷◌, ◌++◌, append_assoc, length, take, drop, refl, sym, ap, ◌∙◌}
+use Rattle.std.proofs.Common.{subst, arith}
+use Rattle.std.specs.Prelude.{◌||◌}
+use Rattle.std.proofs.lemmas.Bool.Decides.{nat_tests}
+use Rattle.gb_base.specs.declared.bridge.BridgeAsk.{BridgeAsk}
+use Rattle.gb_base.specs.declared.bridge.BridgeAsk.TheVariants as ask
+use Rattle.gb_base.specs.declared.bridge.Bridged.{Bridged}
+use Rattle.gb_base.specs.declared.end.Side.TheVariants as side
+use Rattle.gb_base.specs.declared.name.Name.{Name}
+use Rattle.gb_base.specs.declared.peers.Link.{Link}
+use Rattle.gb_base.specs.declared.refusal.Refusal.{Refusal}
+use Rattle.gb_base.specs.declared.refusal.Refusal.TheVariants as why
+use Rattle.gb_bridge_payload.specs.Serving.{WritesBridged}
+use Rattle.gb_formats.specs.Bridges.{ask_request}
+use Rattle.gb_host.specs.Bridging.{BridgesOn}
+use Rattle.gb_host.specs.Refusing.{SendsAs}
+use Rattle.gb_invariants.proofs.Lists.{found-in}
+use Rattle.gb_laws.proofs.LinkLists.{found-link}
+use Rattle.gb_laws.proofs.Reached.{reached-linked}
+use Rattle.gb_machine.proofs.Conditions.{front-unmet, unmet, unrefused}
+use Rattle.gb_machine.specs.Host.{Host, is_link, link_at, link_of}
+use Rattle.gb_machine.specs.HostRefusals.{bridge_conditions, send_conditions}
+use Rattle.gb_machine.specs.Labels.{next_label, no_label}
+use Rattle.gb_machine.specs.Lists.{Condition, conditions_of, first_met}
+use Rattle.gb_machine.specs.Names.{is_bound, named}
+use Rattle.gb_machine.specs.Refusals.{has_no_label, line_conditions}
+use Rattle.gb_machine.specs.State.{State}
+use Rattle.gb_system.proofs.NamedRequests.{named-is}
+use Rattle.gb_system.proofs.Ways.{is-there, met-early, met-late}
+use Rattle.gb_system.specs.Bridging.{BridgesTo, IsBridged}
+use Rattle.gb_system.specs.Stands.{PartiesStand}
+use Rattle.gb_system.specs.declared.bridging.Bridging.{Bridging}
+use Rattle.gb_system.specs.declared.parties.Parties.{Parties}
+
+-- ---- conditions in their order
+
+-- the conditions of a connection
+abbrev on_link : State → BridgeAsk → Option Link → List Condition
+on_link s what o =
+    conditions_of (λ l. bridge_conditions l what
+    ++ (has_no_label l.connection side.Ap s, no_label) ∷ []) o
+
+-- those behind the name's
+abbrev on_end : State → ℕ → ℕ → BridgeAsk → List Condition
+on_end s i c what = send_conditions i c s.host ++ on_link s what (link_at i c s.host)
+
+by-name : (x : Parties) (s : State) (name : Name) (i c : ℕ) (what : BridgeAsk) (bound : Bool)
+    → PartiesStand x s → is_some (named name x.names) ≡ bound
+    → first_met (line_conditions s name i c what)
+    ≡ cond bound (Some why.Occupied) (first_met (on_end s i c what))
+by-name x s name i c what bound st is =
+    ap (λ b. cond b (Some why.Occupied) (first_met (on_end s i c what)))
+    (ap is_some (named-is x s name st) ∙ is)
+
+-- ---- the connection to a CPort
+
+-- A connection leads to a CPort, and is found by its number.
+pub record IsLink (h : Host) (i c k : ℕ) : Type 0 where
+  pub link : Link
+  pub there : link_at i c h ≡ Some link
+  pub number : link.connection ≡ k
+  pub of_number : link_of k h ≡ Some link
+
+pub is-link : (s : State) (x : Parties) (i c k : ℕ) → PartiesStand x s
+    → option_map (λ (l : Link). l.connection) (link_at i c s.host) ≡ Some k
+    → IsLink s.host i c k
+is-link s x i c k st way = by (link_at i c s.host) refl way
+  where
+    by : (o : Option Link) → link_at i c s.host ≡ o
+        → option_map (λ (l : Link). l.connection) o ≡ Some k → IsLink s.host i c k
+    by None there e = absurd cc
+    by (Some l) there e =
+        let number : l.connection ≡ k = cc in record {
+          link = l;
+          there = there;
+          number = number;
+          of_number = ap (λ n. link_of n s.host) (sym number)
+              ∙ found-link s.host.links l (reached-linked s st.run).host.links.rise
+              (found-in (is_link i c) s.host.links l there).0;
+        }
+
+-- ---- refusals
+
+-- the name names something
+pub bridge-occupied : (x : Parties) (s : State) (name : Name) (i c : ℕ) (what : BridgeAsk)
+    (old new : List ℕ) → PartiesStand x s → is_some (named name x.names) ≡ true
+    → BridgesTo s name i c what old new (Err why.Occupied)
+bridge-occupied x s name i c what old new st taken = by-name x s name i c what true st taken
+
+-- no connection leads there
+pub bridge-nowhere : (x : Parties) (s : State) (name : Name) (i c : ℕ) (what : BridgeAsk)
+    (old new : List ℕ) (why : Refusal) → PartiesStand x s
+    → is_some (named name x.names) ≡ false
+    → SendsAs (first_met (send_conditions i c s.host)) (link_at i c s.host) (Err why)
+    → BridgesTo s name i c what old new (Err why)
+bridge-nowhere x s name i c what old new why st free is =
+    by-name x s name i c what false st free
+    ∙ met-early (send_conditions i c s.host) (on_link s what (link_at i c s.host)) why is
+
+-- with a connection, that decides
+on-link : (x : Parties) (s : State) (name : Name) (i c : ℕ) (what : BridgeAsk) (l : Link)
+    → PartiesStand x s → is_some (named name x.names) ≡ false
+    → first_met (send_conditions i c s.host) ≡ None → link_at i c s.host ≡ Some l
+    → first_met (line_conditions s name i c what) ≡ first_met (on_link s what (Some l))
+on-link x s name i c what l st free sends there =
+    by-name x s name i c what false st free
+    ∙ met-late (send_conditions i c s.host) (on_link s what (link_at i c s.host)) sends
+    ∙ ap (λ o. first_met (on_link s what o)) there
+
+-- what is known of a connection on which a line is bridged
+abbrev pub BridgesThere : Host → ℕ → BridgeAsk → List ℕ → List ℕ → Result Bridged Refusal → Type 0
+BridgesThere h k what old new result =
+    (l : Link) → link_of k h ≡ Some l → BridgesOn l what old new result
+
+-- the line is refused on its connection
+pub bridge-unfit : (x : Parties) (s : State) (name : Name) (i c k : ℕ) (what : BridgeAsk)
+    (old new : List ℕ) (why : Refusal) → PartiesStand x s
+    → is_some (named name x.names) ≡ false
+    → SendsAs (first_met (send_conditions i c s.host)) (link_at i c s.host) (Ok k)
+    → BridgesThere s.host k what old new (Err why)
+    → BridgesTo s name i c what old new (Err why)
+bridge-unfit x s name i c k what old new why st free way refuses =
+    let l = is-link s x i c k st way.1 in
+    on-link x s name i c what l.link st free way.0 l.there
+    ∙ met-early (bridge_conditions l.link what)
+    ((has_no_label l.link.connection side.Ap s, no_label) ∷ []) why (refuses l.link l.of_number)
+
+-- then the identifiers decide
+by-label : (x : Parties) (s : State) (name : Name) (i c k : ℕ) (what : BridgeAsk)
+    (old new : List ℕ) (b : Bridged) (spent : Bool) → PartiesStand x s
+    → is_some (named name x.names) ≡ false
+    → SendsAs (first_met (send_conditions i c s.host)) (link_at i c s.host) (Ok k)
+    → BridgesThere s.host k what old new (Ok b)
+    → spent ≡ is_none (next_label k side.Ap s.bus)
+    → first_met (line_conditions s name i c what) ≡ cond spent (Some no_label) None
+by-label x s name i c k what old new b spent st free way writes is =
+    let l = is-link s x i c k st way.1 in
+    on-link x s name i c what l.link st free way.0 l.there
+    ∙ met-late (bridge_conditions l.link what)
+    ((has_no_label l.link.connection side.Ap s, no_label) ∷ []) (writes l.link l.of_number).0
+    ∙ ap (λ j. cond (is_none (next_label j side.Ap s.bus)) (Some no_label) None) l.number
+    ∙ ap (λ t. cond t (Some no_label) None) (sym is)
+
+-- no identifier is left
+pub bridge-spent : (x : Parties) (s : State) (name : Name) (i c k : ℕ) (what : BridgeAsk)
+    (old new : List ℕ) (b : Bridged) (spent : Bool) → PartiesStand x s
+    → is_some (named name x.names) ≡ false
+    → SendsAs (first_met (send_conditions i c s.host)) (link_at i c s.host) (Ok k)
+    → BridgesThere s.host k what old new (Ok b)
+    → spent ≡ is_none (next_label k side.Ap s.bus) → spent ≡ true
+    → BridgesTo s name i c what old new (Err why.LabelsSpent)
+bridge-spent x s name i c k what old new b spent st free way writes is it =
+    by-label x s name i c k what old new b spent st free way writes is
+    ∙ ap (λ t. cond t (Some no_label) None) it
+
+-- the line becomes a request
+pub bridge-goes : (x : Parties) (s : State) (name : Name) (i c k : ℕ) (what : BridgeAsk)
+    (old new : List ℕ) (b : Bridged) (spent : Bool) → PartiesStand x s
+    → is_some (named name x.names) ≡ false
+    → SendsAs (first_met (send_conditions i c s.host)) (link_at i c s.host) (Ok k)
+    → BridgesThere s.host k what old new (Ok b)
+    → spent ≡ is_none (next_label k side.Ap s.bus) → spent ≡ false
+    → BridgesTo s name i c what old new (Ok (record { connection = k; request = b }))
+bridge-goes x s name i c k what old new b spent st free way writes is it =
+    let l = is-link s x i c k st way.1 in record {
+      allowed = by-label x s name i c k what old new b spent st free way writes is
+          ∙ ap (λ t. cond t (Some no_label) None) it;
+      link = l.link;
+      there = l.there;
+      number = l.number;
+      written = (writes l.link l.of_number).1;
+      label = is-there (next_label k side.Ap s.bus) (sym is ∙ it);
+    }
+
+-- where a line isn't refused, its connection doesn't refuse it
+pub line-met : (s : State) (name : Name) (i c : ℕ) (what : BridgeAsk) (l : Link)
+    → link_at i c s.host ≡ Some l → first_met (line_conditions s name i c what) ≡ None
+    → first_met (bridge_conditions l what) ≡ None
+line-met s name i c what l there allowed =
+    unrefused (bridge_conditions l what) (front-unmet (bridge_conditions l what) last
+    (unmet (bridge_conditions l what ++ last) met))
+  where
+    front : List Condition
+    front = (is_bound name s, why.Occupied) ∷ send_conditions i c s.host
+
+    last : List Condition
+    last = (has_no_label l.connection side.Ap s, no_label) ∷ []
+
+    met : first_met (on_link s what (Some l)) ≡ None
+    met =
+        ap (λ o. first_met (on_link s what o)) (sym there)
+        ∙ sym (met-late front (on_link s what (link_at i c s.host))
+        (unrefused front (front-unmet front (on_link s what (link_at i c s.host))
+        (unmet (front ++ on_link s what (link_at i c s.host)) allowed))))
+        ∙ allowed

@@ -1,0 +1,101 @@
+//! Bridge lines: requests in the words of a protocol.
+
+ghost use Rattle.std.specs.Prelude.{◌≡◌, length, take};
+ghost use Rattle.gb_base.specs.declared.event.Event.TheVariants as event;
+ghost use Rattle.gb_formats.specs.Results.{most_payload};
+ghost use Rattle.gb_formats.specs.ValidEvents.{HasForm, IsValid};
+ghost use Rattle.gb_machine.specs.State.{State};
+ghost use Rattle.gb_system.specs.Bridging.{BridgesTo};
+ghost use Rattle.gb_system.specs.Stands.{PartiesStand, PartsStep};
+
+use crate::asking::DEFAULT_TIMEOUT;
+use crate::entries::{begun, refused};
+use crate::message::LONGEST_PAYLOAD;
+use crate::parties::Parties;
+use gb_base::{BridgeAsk, Bridged, Entries, Name, OutOfMemory, Refusal, Side};
+
+/// The request of a bridge line, whose payload stands at the front of a buffer.
+#[derive(Clone, Copy, Debug)]
+pub struct Bridging {
+    /// The connection on which it is sent.
+    pub connection: u64,
+    /// Its type and the length of its payload.
+    pub request: Bridged,
+}
+
+impl Parties {
+    /// A bridge line becomes a request to a CPort of a module, and takes the credits of the bytes
+    /// that it sends to a UART.
+    pub fn bridge(
+        &mut self,
+        name: &Name,
+        intf: u8,
+        cport: u16,
+        ask: &BridgeAsk,
+    ) -> Result<Entries, OutOfMemory>
+        requires { IsValid (event.Bridge name.now intf cport ask.now) }
+        ensures step { (s : State) → PartiesStand self.old s
+            → PartsStep self.new s (event.Bridge name.now intf cport ask.now) result }
+    {
+        let mut room = vec![in self.alloc; 0u8; LONGEST_PAYLOAD]?;
+        let way = self.bridge_way(name, intf, cport, ask, room.as_mut_slice());
+        let Bridging {
+            connection,
+            request,
+        } = match way {
+            Ok(way) => way,
+            Err(why) => return Ok(refused(self.alloc, why)?),
+        };
+        let mut told = begun(self.alloc)?;
+        self.host.sent(connection, ask);
+        let payload = front(room.as_slice(), request.len);
+        self.send_on(
+            name,
+            connection,
+            request.kind,
+            payload,
+            DEFAULT_TIMEOUT,
+            &mut told,
+        )?;
+        Ok(told)
+    }
+
+    /// The request of a bridge line, with its payload at the front of `room`, or why it isn't sent.
+    fn bridge_way(
+        &self,
+        name: &Name,
+        intf: u8,
+        cport: u16,
+        ask: &BridgeAsk,
+        room: &mut [u8],
+    ) -> Result<Bridging, Refusal>
+        requires room { length room.old ≡ most_payload }
+        requires form { HasForm ask.now }
+        ensures step { (s : State) → PartiesStand self.now s
+            → BridgesTo s name.now intf cport ask.now room.old room.new result }
+    {
+        if self.names.get(name).is_some() {
+            return Err(Refusal::Occupied);
+        }
+        let connection = self.host.may_send(intf, cport)?;
+        let request = self.host.bridge(connection, ask, room)?;
+        if self.bus.spent(connection, Side::Ap) {
+            return Err(Refusal::LabelsSpent);
+        }
+        Ok(Bridging {
+            connection,
+            request,
+        })
+    }
+}
+
+/// The front of some bytes, all of them where they aren't longer.
+fn front(bytes: &[u8], len: usize) -> &[u8]
+    ensures { result.now ≡ take len bytes.now }
+{
+    if len < bytes.len() {
+        &bytes[..len]
+    } else {
+        bytes
+    }
+}
