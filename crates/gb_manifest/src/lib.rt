@@ -13,8 +13,6 @@ mod plain;
 mod refusal;
 mod rules;
 mod spec;
-#[cfg(test)]
-mod tests;
 mod undeclared;
 mod walk;
 mod writing;

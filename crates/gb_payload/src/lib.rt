@@ -9,8 +9,6 @@ mod reading;
 mod svc_ask;
 mod svc_kinds;
 mod svc_reply;
-#[cfg(test)]
-mod tests;
 mod writing;
 
 pub use control_ask::ControlAsk;

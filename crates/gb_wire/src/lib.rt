@@ -7,8 +7,6 @@ mod feeder;
 mod laws;
 mod message;
 mod owned;
-#[cfg(test)]
-mod tests;
 
 pub use decoder::decode;
 pub use feeder::{FeedFault, Feeder};
