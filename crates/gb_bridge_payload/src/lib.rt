@@ -1,11 +1,7 @@
 //! Reads and writes the payloads of the bridged protocols: GPIO, I2C, SPI and UART.
 #![tactic(auto)]
 
-#[cfg(test)]
-mod answer_tests;
 mod bridge_fault;
-#[cfg(test)]
-mod fault_tests;
 mod gpio_ask;
 pub mod gpio_kinds;
 mod gpio_reply;
@@ -19,8 +15,6 @@ mod served;
 mod spi_ask;
 pub mod spi_kinds;
 mod spi_reply;
-#[cfg(test)]
-mod tests;
 mod transfer_entry;
 mod transfer_op;
 mod uart_ask;

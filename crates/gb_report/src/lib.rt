@@ -3,15 +3,11 @@
 
 mod checked;
 mod dump;
-#[cfg(test)]
-mod dump_tests;
 mod entry;
 mod names;
 mod parts;
 mod report;
 mod show;
-#[cfg(test)]
-mod tests;
 
 pub use checked::{put_accepted, put_refused};
 pub use dump::put_dump;

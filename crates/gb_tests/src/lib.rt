@@ -3,8 +3,12 @@
 #![tactic(auto)]
 
 #[cfg(test)]
+mod bridge_payload;
+#[cfg(test)]
 mod manifest;
 #[cfg(test)]
 mod payload;
+#[cfg(test)]
+mod report;
 #[cfg(test)]
 mod wire;

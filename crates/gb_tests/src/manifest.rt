@@ -2,8 +2,8 @@
 
 use gb_base::{Bytes, Reason};
 use gb_manifest::{
-    BundleSpec, Bundles, CportSpec, Cports, ManifestSpec, StringSpec, Strings, WriteFault, check,
-    write,
+    BundleSpec, Bundles, CportSpec, Cports, ManifestSpec, Refused, StringSpec, Strings, WriteFault,
+    check, write,
 };
 use std::alloc::Global;
 use std::process::Abort;
@@ -92,4 +92,12 @@ fn reads_manifests(rt: HostRuntime) {
     assert_eq!(rt; found, Some((1, 2)));
     assert!(rt; m.cport(2).is_none());
     assert_eq!(rt; m.descriptors().count(), 7);
+}
+
+#[test]
+fn types_begin_at_one(rt: HostRuntime) {
+    let mut bytes = GPIO;
+    bytes[6] = 0;
+    let (at, reason) = (6, Reason::DescriptorType);
+    assert_eq!(rt; check(&bytes).err(), Some(Refused { at, reason }));
 }
