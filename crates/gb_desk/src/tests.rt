@@ -1,4 +1,4 @@
-//! One thread with several passes. Several threads are the program gb_desk_tries.
+//! One thread with several passes. The counts of entries are worked by hand.
 
 ghost use Rattle.std.specs.Prelude.{◌≡◌, true};
 ghost use Rattle.gb_desk.specs.Passes.{IsOf, known};
@@ -40,8 +40,8 @@ fn passes_share_one_history(rt: HostRuntime) {
     assert_eq!(rt; pass.parts(), u32::MAX);
     assert_eq!(rt; pass.tickets(), 0);
     let mut other = desk.split(&mut pass, 5);
-    done(&rt, &desk, &mut pass, 1, &Event::Boot, 2);
-    done(&rt, &desk, &mut other, 2, &Event::Settle { most: 9 }, 4);
+    done(&rt, &desk, &mut pass, 1, &Event::Boot, 3);
+    done(&rt, &desk, &mut other, 2, &Event::Settle { most: 9 }, 6);
     done(
         &rt,
         &desk,
