@@ -1,5 +1,6 @@
 -- The first number that isn't taken.
-use Rattle.std.proofs.Common.{◌≡◌, ◌<◌, ℕ, zero, suc, ◌+◌, Bool, true, false, cond, Some, None, ap, sym, subst, refl, ◌∙◌, arith}
+use Rattle.std.proofs.Common.{◌≡◌, ◌<◌, ◌≤◌, ℕ, zero, suc, ◌+◌, Bool, true, false, cond, Some}
+use Rattle.std.proofs.Common.{None, ap, sym, subst, refl, ◌∙◌, arith}
 use Rattle.gb_machine.specs.Lists.{first_free}
 
 free-base : (taken : ℕ → Bool) (u n : ℕ) → taken n ≡ true
@@ -31,14 +32,18 @@ free-zero taken n = refl
 pub free-none : (taken : ℕ → Bool) (t n : ℕ) → t ≡ zero → first_free taken t n ≡ None
 free-none taken t n e = subst (λ w. first_free taken w n ≡ None) (sym e) (free-zero taken n)
 
--- the same numbers are taken
-pub free-same : (t u : ℕ → Bool) (tries n : ℕ) → ((a : ℕ) → a < n + tries → t a ≡ u a)
-    → first_free t tries n ≡ first_free u tries n
-unfolding first_free
-free-same t u zero n same = refl
-free-same t u (suc tries) n same =
-    ap (λ b. cond b (first_free t tries (n + 1)) (Some n)) (same n (omega arith))
-    ∙ ap (λ o. cond (u n) o (Some n)) (free-same t u tries (n + 1) (λ a h. same a (omega (
+-- numbers up to another are taken
+pub free-past : (taken : ℕ → Bool) (k t u n m : ℕ) → t ≡ k + u → m ≡ n + k
+    → ((a : ℕ) → n ≤ a → a < m → taken a ≡ true) → first_free taken t n ≡ first_free taken u m
+free-past taken zero t u n m e f all =
+    let tries : t ≡ u = omega (arith, e) in
+    let same : n ≡ m = omega (arith, f) in
+    ap (λ w. first_free taken w n) tries ∙ ap (first_free taken u) same
+free-past taken (suc k) t u n m e f all =
+    let tries : t ≡ suc (k + u) = omega (arith, e) in
+    let inside : n < m = omega (arith, f) in
+    free-next taken t (k + u) n tries (all n (omega arith) inside)
+    ∙ free-past taken k (k + u) u (n + 1) m refl (omega (arith, f)) (λ a h w. all a (omega (
       arith,
       h,
-    ))))
+    )) w)

@@ -1,10 +1,14 @@
 -- Marks of the CPorts that connections have.
-use Rattle.std.proofs.Common.{◌≡◌, ◌==◌, ◌||◌, Bool, true, false, cond, List, [], ◌∷◌, refl, sym, ap, ◌∙◌}
+use Rattle.std.proofs.Common.{◌≡◌, ◌==◌, ◌<◌, ◌≤◌, ◌+◌, ◌-◌, ◌||◌, ℕ, suc, Bool, true, false}
+use Rattle.std.proofs.Common.{cond, List, [], ◌∷◌, Some, None, get_or, refl, sym, ap, ◌∙◌}
+use Rattle.std.proofs.Common.{arith, subst}
+use Rattle.std.proofs.lemmas.Bool.Decides.{nat_tests}
 use Rattle.std.specs.List.{list_any}
 use Rattle.gb_base.specs.declared.peers.Link.{Link}
+use Rattle.gb_host.proofs.Free.{free-here, free-none, free-past}
 use Rattle.gb_host.specs.Marks.{Marks}
 use Rattle.gb_host.specs.declared.cports.Cports.{Cports}
-use Rattle.gb_machine.specs.Lists.{at_first}
+use Rattle.gb_machine.specs.Lists.{at_first, first_free}
 
 -- a test that doesn't tell a changed member from the one before
 pub any-kept : {A : Type 0} (p test : A → Bool) (f : A → A) → ((x : A) → p (f x) ≡ p x)
@@ -24,8 +28,54 @@ pub marks-kept : (x : Cports) (test : Link → Bool) (f : Link → Link) (ls ms 
     → Marks x ls → ms ≡ at_first test f ls → Marks x ms
 marks-kept x test f ls ms same marks e = record {
   long = marks.long;
+  least = marks.least;
   each = λ a within.
       marks.each a within ∙ sym (any-kept (λ l. l.ap == a) test f (λ l. ap (λ n. n == a) (same l))
       ls)
       ∙ ap (list_any (λ l. l.ap == a)) (sym e);
 }
+
+-- one more is marked
+pub marked-next : (marks : List Bool) (from n : ℕ)
+    → ((a : ℕ) → from ≤ a → a < n → get_or marks a false ≡ true) → get_or marks n false ≡ true
+    → (a : ℕ) → from ≤ a → a < n + 1 → get_or marks a false ≡ true
+marked-next marks from n all last a h below = by (a == n) refl
+  where
+    by : (b : Bool) → (a == n) ≡ b → get_or marks a false ≡ true
+    by true e =
+        let same : n ≡ a = grind (arith, nat_tests) in
+        subst (λ m. get_or marks m false ≡ true) same last
+    by false e =
+        let less : a < n = grind (arith, nat_tests) in all a h less
+
+-- those before the least that isn't marked are passed over
+least-past : (x : Cports) (ls : List Link) (u : ℕ) → Marks x ls → u ≡ 4096 - x.least
+    → first_free (λ a. list_any (λ l. l.ap == a) ls) 4095 1
+    ≡ first_free (λ a. list_any (λ l. l.ap == a) ls) u x.least
+least-past x ls u marks e =
+    let least = marks.least in
+    let from = least.from-1 in
+    let within = least.within in
+    free-past (λ a. list_any (λ l. l.ap == a) ls) (x.least - 1) 4095 u 1 x.least (omega (
+      arith,
+      e,
+      from,
+      within,
+    )) (omega (arith, from)) (λ a h below. sym (marks.each a (omega (arith, below, within)))
+    ∙ least.before a h below)
+
+-- the least that isn't marked is the first that no connection has
+pub least-free : (x : Cports) (ls : List Link) → Marks x ls → x.least < 4096
+    → Some x.least ≡ first_free (λ a. list_any (λ l. l.ap == a) ls) 4095 1
+least-free x ls marks below =
+    let u : 4096 - x.least ≡ suc (4096 - (x.least + 1)) = omega (arith, below) in
+    sym (least-past x ls (4096 - x.least) marks refl
+    ∙ free-here (λ a. list_any (λ l. l.ap == a) ls) (4096 - x.least) (4096 - (x.least + 1)) x.least
+    u (sym (marks.each x.least below) ∙ marks.least.here below))
+
+-- all are marked
+pub least-none : (x : Cports) (ls : List Link) → Marks x ls → 4096 ≤ x.least
+    → None ≡ first_free (λ a. list_any (λ l. l.ap == a) ls) 4095 1
+least-none x ls marks over =
+    sym (least-past x ls (4096 - x.least) marks refl
+    ∙ free-none (λ a. list_any (λ l. l.ap == a) ls) (4096 - x.least) x.least (omega (arith, over)))

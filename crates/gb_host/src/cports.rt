@@ -1,6 +1,7 @@
 //! The CPorts of the application processor that connections have.
 
-ghost use Rattle.std.specs.Prelude.{◌≡◌, ◌==◌, ◌∷◌, [], ◌++◌, IfOk, List, false, get_or};
+ghost use Rattle.std.specs.Prelude.{◌≡◌, ◌==◌, ◌<◌, ◌≤◌, ◌∷◌, [], ◌++◌, ℕ, IfOk, List, true};
+ghost use Rattle.std.specs.Prelude.{false, get_or};
 ghost use Rattle.std.specs.List.{list_any};
 ghost use Rattle.gb_base.specs.declared.peers.Link.{Link};
 ghost use Rattle.gb_host.specs.Marks.{Marks};
@@ -15,10 +16,12 @@ const LEAST_CPORT: u16 = 1;
 /// The greatest CPort of the application processor, and one more.
 const CPORTS_END: u16 = 4096;
 
-/// A mark for each CPort of the application processor up to 4,095 that a connection has.
+/// A mark for each CPort of the application processor up to 4,095 that a connection has, and the
+/// least that isn't marked.
 #[derive(Drop)]
 pub struct Cports {
     taken: Vec<bool>,
+    least: u16,
 }
 
 impl Cports {
@@ -28,6 +31,7 @@ impl Cports {
     {
         Ok(Cports {
             taken: vec![in alloc; false; CPORTS_END as usize]?,
+            least: LEAST_CPORT,
         })
     }
 
@@ -36,19 +40,11 @@ impl Cports {
         ensures { (ls : List Link) → Marks self.now ls
             → result ≡ first_free (λ a. list_any (λ l. l.ap == a) ls) 4095 1 }
     {
-        self.unmarked()
-    }
-
-    /// The least CPort from 1 to 4,095 that isn't marked.
-    fn unmarked(&self) -> Option<u16>
-        ensures { result ≡ first_free (λ a. get_or self.now.taken.items a false) 4095 1 }
-    {
-        for ap in LEAST_CPORT..CPORTS_END {
-            if !self.has(ap) {
-                return Some(ap);
-            }
+        if self.least < CPORTS_END {
+            Some(self.least)
+        } else {
+            None
         }
-        None
     }
 
     /// The CPort of a connection more is marked.
@@ -58,6 +54,7 @@ impl Cports {
         let i = usize::from(link.ap);
         if i < self.taken.len() {
             self.taken[i] = true;
+            self.least = self.unmarked(self.least);
         }
     }
 
@@ -76,6 +73,23 @@ impl Cports {
         ensures { (ls : List Link) → Marks self.old ls → Marks self.new [] }
     {
         self.taken.fill(false);
+        self.least = LEAST_CPORT;
+    }
+
+    /// The least CPort from this one to 4,095 that isn't marked, or 4,096.
+    fn unmarked(&self, from: u16) -> u16
+        ensures within { result ≤ 4096 }
+        ensures marked { (a : ℕ) → from ≤ a → a < result
+            → get_or self.now.taken.items a false ≡ true }
+        ensures here { result < 4096 → get_or self.now.taken.items result false ≡ false }
+        ensures from { from ≤ 4096 → from ≤ result }
+    {
+        for ap in from..CPORTS_END {
+            if !self.has(ap) {
+                return ap;
+            }
+        }
+        CPORTS_END
     }
 
     /// A CPort is marked.

@@ -1,11 +1,13 @@
--- The marks are those of the connections.
-use Rattle.std.proofs.Common.{◌==◌, false, get_or, ◌∙◌}
-use Rattle.std.specs.List.{list_any}
-use Rattle.gb_host.proofs.Free.{free-same}
+-- The least that isn't marked is the first that no connection has.
+use Rattle.std.proofs.Common.{arith}
+use Rattle.gb_host.proofs.Marks.{least-free, least-none}
 use Rattle.gb_host.proofs.cports.Cports.free.Goals as goal
 
-pub returns : goal.returns
-returns c = λ ls marks.
-    c.unmarked.ensures
-    ∙ free-same (λ a. get_or c.args.self.now.taken.items a false) (λ a. list_any (λ l. l.ap == a)
-    ls) 4095 1 (λ a h. marks.each a h)
+pub returns-then-self-lt-CPORTS_END : goal.returns-then-self-lt-CPORTS_END
+returns-then-self-lt-CPORTS_END c = λ ls marks.
+    least-free c.args.self.now ls marks c.if-self-lt-CPORTS_END.true
+
+pub returns-else-self-lt-CPORTS_END : goal.returns-else-self-lt-CPORTS_END
+returns-else-self-lt-CPORTS_END c = λ ls marks.
+    let over = c.if-self-lt-CPORTS_END.false in
+    least-none c.args.self.now ls marks (omega (arith, over))

@@ -1,28 +1,18 @@
--- The first that isn't taken is found.
-use Rattle.std.proofs.Common.{◌≡◌, ◌+◌, ◌-◌, suc, get_or, true, false, sym, ◌∙◌, arith}
-use Rattle.gb_host.proofs.Free.{free-here, free-next, free-none}
+-- The next is marked, until one isn't.
+use Rattle.std.proofs.Common.{◌≡◌, true, sym, ◌∙◌, arith}
+use Rattle.gb_host.proofs.Marks.{marked-next}
 use Rattle.gb_host.proofs.cports.Cports.unmarked.Goals as goal
-
-pub returns-then-not-has : goal.returns-then-not-has
-returns-then-not-has c =
-    let below = c.loop-ap-test.true in
-    let u : 4096 - c.loop-ap.ap ≡ suc (4096 - (c.loop-ap.ap + 1)) = omega (arith, below) in
-    let free : c.has.result ≡ false = search in
-    sym (free-here (λ a. get_or c.args.self.now.taken.items a false) (4096 - c.loop-ap.ap) (4096 -
-    (c.loop-ap.ap + 1)) c.loop-ap.ap u (sym c.has.ensures ∙ free))
-    ∙ c.loop-ap.invariant
 
 pub loop-ap-preserved : goal.loop-ap-preserved
 loop-ap-preserved c =
-    let below = c.loop-ap-test.true in
-    let u : 4096 - c.loop-ap.ap ≡ suc (4096 - (c.loop-ap.ap + 1)) = omega (arith, below) in
     let taken : c.has.result ≡ true = search in
-    sym (free-next (λ a. get_or c.args.self.now.taken.items a false) (4096 - c.loop-ap.ap) (4096 -
-    (c.loop-ap.ap + 1)) c.loop-ap.ap u (sym c.has.ensures ∙ taken))
-    ∙ c.loop-ap.invariant
+    marked-next c.args.self.now.taken.items c.args.from c.loop-ap.ap c.loop-ap.invariant
+    (sym c.has.ensures ∙ taken)
 
-pub returns : goal.returns
-returns c =
+pub returns-then-not-has-clause-marked : goal.returns-then-not-has-clause-marked
+returns-then-not-has-clause-marked c = c.loop-ap.invariant
+
+pub returns-clause-marked : goal.returns-clause-marked
+returns-clause-marked c = λ a h below.
     let over = c.loop-ap-test.false in
-    sym (free-none (λ a. get_or c.args.self.now.taken.items a false) (4096 - c.loop-ap.ap)
-    c.loop-ap.ap (omega (arith, over))) ∙ c.loop-ap.invariant
+    c.loop-ap.invariant a h (omega (arith, below, over))
