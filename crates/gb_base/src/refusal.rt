@@ -37,6 +37,4 @@ pub enum Refusal {
     NoCredit = 16,
     /// All slots of the desk are taken.
     Full = 17,
-    /// That side of the connection has made 65,535 requests.
-    LabelsSpent = 18,
 }

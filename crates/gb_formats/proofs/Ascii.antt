@@ -106,7 +106,6 @@ refused refusal.QueueEmpty = refl
 refused refusal.NotHeld = refl
 refused refusal.NoCredit = refl
 refused refusal.Full = refl
-refused refusal.LabelsSpent = refl
 
 because : (x : Reason) → is_ascii (reason_text x) ≡ true
 because reason.ShortHeader = refl

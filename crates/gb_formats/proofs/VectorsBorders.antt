@@ -5,8 +5,6 @@ use Rattle.gb_base.specs.declared.event.Kind.TheVariants as kind
 use Rattle.gb_base.specs.declared.fault.LineReason.TheVariants as bad
 use Rattle.gb_base.specs.declared.fault.WireFault.TheVariants as wire
 use Rattle.gb_base.specs.declared.fault.Reason.TheVariants as reason
-use Rattle.gb_base.specs.declared.served.OwnAsk.{OwnAsk}
-use Rattle.gb_base.specs.declared.served.Served.{Served}
 use Rattle.gb_formats.specs.Kinds.{kind_manifest}
 use Rattle.gb_formats.specs.Manifest.{check_answer}
 use Rattle.gb_formats.specs.ManifestRules.{Refused}

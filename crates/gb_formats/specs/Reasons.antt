@@ -24,7 +24,6 @@ refusal_text refusal.QueueEmpty = codes "QueueEmpty"
 refusal_text refusal.NotHeld = codes "NotHeld"
 refusal_text refusal.NoCredit = codes "NoCredit"
 refusal_text refusal.Full = codes "Full"
-refusal_text refusal.LabelsSpent = codes "LabelsSpent"
 
 -- why a manifest is refused
 abbrev pub reason_text : Reason → List ℕ

@@ -1,7 +1,7 @@
 -- Where a member goes in order.
 use Rattle.std.proofs.Common.{◌≡◌, ◌+◌, ℕ, zero, suc, Bool, true, false, cond, Option, Some, None, List, [], ◌∷◌, ◌++◌, length, map, take, drop, refl, sym, ap, ◌∙◌, arith}
 use Rattle.std.specs.List.{insert, position_from}
-use Rattle.gb_machine.specs.Lists.{in_order, sorted}
+use Rattle.gb_machine.specs.Lists.{in_order}
 
 -- in front of the first that it comes before
 ordered-from : {A : Type 0} (before : A → A → Bool) (x : A) (ys : List A) (n i : ℕ)

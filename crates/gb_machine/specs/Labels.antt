@@ -21,21 +21,6 @@ abbrev pub with_last_label : Side → ℕ → Connection → Connection
 with_last_label side.Ap label c = record c { ap_last = label }
 with_last_label side.Far label c = record c { far_last = label }
 
--- Each identifier is used once: 1, 2 and so on to the greatest.
-abbrev pub fresh_label : Side → Connection → Option ℕ
-fresh_label side c =
-    if nat_lt (last_label side c) greatest_label then Some (last_label side c + 1) else None
-
--- The identifier of the next request that a side of a connection makes, None where none is left.
-abbrev pub next_label : ℕ → Side → Bus → Option ℕ
-next_label k side b = option_and_then (fresh_label side) (connection_of k b)
-
--- why an event is refused where no identifier is left
-abbrev pub no_label : Refusal
-no_label = why.LabelsSpent
-
--- ---- identifiers that come round
-
 -- the identifier that follows another, and 1 behind the greatest
 abbrev pub label_after : ℕ → ℕ
 label_after label = if nat_lt label greatest_label then label + 1 else 1
@@ -47,14 +32,15 @@ free_label used (suc tries) label =
     let later = free_label used tries (label_after label) in
     if used label then later else Some label
 
--- The first identifier behind the last one drawn on a side, in cyclic order, that is neither open
--- nor given up there.
-abbrev pub cyclic_label : ℕ → Side → Bus → Option ℕ
-cyclic_label k at b =
-    option_and_then
-    (λ c. free_label (is_used k at b) greatest_label (label_after (last_label at c)))
-    (connection_of k b)
+-- the first identifier behind the last one drawn on a side of a connection, in cyclic order, that
+-- is neither open nor given up there
+abbrev pub cyclic_label : ℕ → Side → Bus → Connection → Option ℕ
+cyclic_label k at b c = free_label (is_used k at b) greatest_label (label_after (last_label at c))
+
+-- The identifier of the next request that a side of a connection makes, None where all are in use.
+abbrev pub next_label : ℕ → Side → Bus → Option ℕ
+next_label k at b = option_and_then (cyclic_label k at b) (connection_of k b)
 
 -- why an event is refused where all identifiers are in use
-abbrev pub no_free_label : Refusal
-no_free_label = why.NoLabel
+abbrev pub no_label : Refusal
+no_label = why.NoLabel

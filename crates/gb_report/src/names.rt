@@ -28,7 +28,6 @@ pub fn refusal_name(why: Refusal) -> &'static str
         Refusal::NotHeld => "NotHeld",
         Refusal::NoCredit => "NoCredit",
         Refusal::Full => "Full",
-        Refusal::LabelsSpent => "LabelsSpent",
     }
 }
 
