@@ -1,5 +1,5 @@
 -- Each single change of the bus keeps its facts.
-use Rattle.std.proofs.Common.{◌≡◌, ◌⊎◌, ◌≤◌, ℕ, ◌+◌, true, false, cond, Some, List, [], ◌∷◌, refl, sym, ap, ◌∙◌, inl, inr, ⊎_elim, subst, arith}
+use Rattle.std.proofs.Common.{◌≡◌, ◌⊎◌, ◌≤◌, ℕ, ◌+◌, true, false, Some, List, [], ◌∷◌, refl, sym, ap, ◌∙◌, inl, inr, ⊎_elim, subst, arith}
 use Rattle.gb_base.specs.declared.end.Side.{Side}
 use Rattle.gb_base.specs.declared.end.Side.TheVariants as side
 use Rattle.gb_base.specs.declared.outcome.Outcome.{Outcome}
@@ -8,7 +8,7 @@ use Rattle.gb_invariants.proofs.Counts.{attached-counts, changed-counts, detache
 use Rattle.gb_invariants.proofs.Ending.{fits-ended, fits-forgotten, fits-gave_up, fits-sent, fits-side_ended}
 use Rattle.gb_invariants.proofs.ItemChanges.{NoneAnswers, SideIsOver, items-attached, items-changed, items-detached, items-ended, items-fewer, items-forgotten, items-gave_up, items-popped, items-replied, items-sent, items-side_ended}
 use Rattle.gb_invariants.proofs.Items.{HasNumber, IsNew, Lies, answers, asks, hangs, waits}
-use Rattle.gb_invariants.proofs.Labels.{KeepsDrawn, above-attached, above-fewer, above-sent, asked_on, asked_on-number, keeps-changed, keeps-detached, label_for-drawn, labels-fewer, labels-sent, put-last, put-number}
+use Rattle.gb_invariants.proofs.Labels.{asked_on, asked_on-number, label_for-drawn, labels-fewer, labels-sent, put-number}
 use Rattle.gb_invariants.proofs.Lists.{in-pushed}
 use Rattle.gb_invariants.proofs.Numbers.{found-by_number, found-number, in-changed, rise-attached, rise-changed, rise-detached, rise-sent, same-connection}
 use Rattle.gb_invariants.proofs.OneItem.{lies-counted, ones-sent}
@@ -16,7 +16,6 @@ use Rattle.gb_invariants.proofs.Selves.{front-self}
 use Rattle.gb_invariants.specs.Facts.{BusFits, IsOwn, Loose, OneEach, OutcomesFit, times_in, times_on}
 use Rattle.gb_machine.specs.Bus.{Ask, Bus, Connection, Item, Raw, RawReply, Reply, Request, connection_of, is_open, other_side, queue, request_of}
 use Rattle.gb_machine.specs.Delivery.{ended, forgotten, popped, replied, without_front}
-use Rattle.gb_machine.specs.Labels.{last_label, next_label}
 use Rattle.gb_machine.specs.LawsBus.{is_item_of}
 use Rattle.gb_machine.specs.Lists.{first}
 use Rattle.gb_machine.specs.Members.{IsIn}
@@ -33,9 +32,7 @@ sent-keeps loose d label c b live drawn h =
     let f = found-number d.connection b c live in record {
       numbers = rise-sent b d label (asked_on d label b) c (asked_on-number d label b) f.0 f.1 h.numbers;
       outcomes = fits-sent d label b h.outcomes;
-      labels = labels-sent d label b h.outcomes (label_for-drawn d label b h.above drawn) h.labels;
-      above = above-sent d label b h.outcomes h.numbers
-          (λ twoway. ap (λ t. cond t (Some 0) (next_label d.connection d.side b)) (sym twoway) ∙ drawn) h.above;
+      labels = labels-sent d label b h.outcomes (label_for-drawn d label b drawn) h.labels;
       items = items-sent loose d label b h.numbers h.outcomes h.items;
       ones = ones-sent loose d label b h.items h.ones;
     }
@@ -64,8 +61,6 @@ popped-keeps loose at item c b live front h = record {
   numbers = rise-changed b c.number (without_front at) (λ x. (front-self at x).number) h.numbers;
   outcomes = outcomes-stay b (popped c.number at b).made (popped c.number at b).connections h.outcomes;
   labels = labels-fewer b (popped c.number at b) (stays b b.made (popped c.number at b).connections) h.labels;
-  above = above-fewer b (popped c.number at b) (stays b b.made (popped c.number at b).connections)
-      (keeps-changed b c.number (without_front at) (λ x. (front-self at x).number) front-last h.numbers) h.above;
   items = items-popped loose at item c b h.numbers live front h.items;
   ones = λ n. omega (
     arith,
@@ -74,15 +69,6 @@ popped-keeps loose at item c b live front h = record {
     times-cons (λ (l : Loose). is_item_of n l.item) (record { connection = c.number; side = at; item = item }) loose,
   );
 }
-  where
-    front-last : (x : Connection) (s : Side) → last_label s (without_front at x) ≡ last_label s x
-    front-last x s = by at s
-      where
-        by : (t s : Side) → last_label s (without_front t x) ≡ last_label s x
-        by side.Ap side.Ap = refl
-        by side.Ap side.Far = refl
-        by side.Far side.Ap = refl
-        by side.Far side.Far = refl
 
 -- an item is put on a connection, of which others were let go
 pub replied-keeps : (loose later : List Loose) (k : ℕ) (at : Side) (item : Item) (b : Bus)
@@ -94,8 +80,6 @@ replied-keeps loose later k at item b fewer new counts h = record {
   numbers = rise-changed b k (put at item) (put-number at item) h.numbers;
   outcomes = outcomes-stay b (replied k at item b).made (replied k at item b).connections h.outcomes;
   labels = labels-fewer b (replied k at item b) (stays b b.made (replied k at item b).connections) h.labels;
-  above = above-fewer b (replied k at item b) (stays b b.made (replied k at item b).connections)
-      (keeps-changed b k (put at item) (put-number at item) (λ x s. put-last s at item x) h.numbers) h.above;
   items = items-replied loose later k at item b h.numbers fewer new h.items;
   ones = λ n. omega (arith, h.ones n, counts n, replied-counts (is_item_of n) later k at item b);
 }
@@ -106,17 +90,14 @@ pub changed-keeps : (loose later : List Loose) (k : ℕ) (change : Connection �
     → ((c : Connection) → (change c).number ≡ c.number)
     → ((c : Connection) → (change c).clean ≡ true → c.clean ≡ true)
     → ((c : Connection) → (change c).shut ≡ false → c.shut ≡ false)
-    → ((c : Connection) (s : Side) → last_label s (change c) ≡ last_label s c)
     → ((c : Connection) (at : Side) (item : Item) → IsIn item (queue at (change c)) → IsIn item (queue at c))
     → ((n : ℕ) (c : Connection) → times_on (is_item_of n) (change c) ≤ times_on (is_item_of n) c)
     → CountsFewer loose b later b
     → BusFits loose b → BusFits later (with_connection k change b)
-changed-keeps loose later k change b fewer number clean shut last items counts loose_counts h = record {
+changed-keeps loose later k change b fewer number clean shut items counts loose_counts h = record {
   numbers = rise-changed b k change number h.numbers;
   outcomes = outcomes-stay b b.made (with_connection k change b).connections h.outcomes;
   labels = labels-fewer b (with_connection k change b) (stays b b.made (with_connection k change b).connections) h.labels;
-  above = above-fewer b (with_connection k change b) (stays b b.made (with_connection k change b).connections)
-      (keeps-changed b k change number last h.numbers) h.above;
   items = items-changed loose later k change b h.numbers fewer number clean shut
       (λ c at item i. inl (items c at item i)) h.items;
   ones = λ n. omega (arith, h.ones n, loose_counts n, changed-counts (is_item_of n) later k change b (counts n));
@@ -126,12 +107,8 @@ changed-keeps loose later k change b fewer number clean shut last items counts l
 pub wired-keeps : (loose : List Loose) (k : ℕ) (b : Bus) → BusFits loose b → BusFits loose (wired k b)
 wired-keeps loose k b h =
     changed-keeps loose loose k (λ c. record c { wired = true }) b (λ l i. i) (λ c. refl) (λ c e. e) (λ c e. e)
-    last items (λ n c. omega arith) (λ n. omega arith) h
+    items (λ n c. omega arith) (λ n. omega arith) h
   where
-    last : (c : Connection) (s : Side) → last_label s (record c { wired = true }) ≡ last_label s c
-    last c side.Ap = refl
-    last c side.Far = refl
-
     items : (c : Connection) (at : Side) (item : Item) → IsIn item (queue at (record c { wired = true })) → IsIn item (queue at c)
     items c side.Ap item i = i
     items c side.Far item i = i
@@ -142,8 +119,6 @@ injected-keeps loose k bytes b h = record {
   numbers = rise-changed b k unclean (λ c. refl) h.numbers;
   outcomes = outcomes-stay b (injected k bytes b).made (injected k bytes b).connections h.outcomes;
   labels = labels-fewer b (injected k bytes b) (stays b b.made (injected k bytes b).connections) h.labels;
-  above = above-fewer b (injected k bytes b) (stays b b.made (injected k bytes b).connections)
-      (keeps-changed b k unclean (λ c. refl) unclean-last h.numbers) h.above;
   items = items-changed loose loose k unclean b h.numbers (λ l i. i) (λ c. refl)
       (λ c e. absurd (not-both false e refl)) (λ c e. e) unclean-items h.items;
   ones = λ n. omega (arith, h.ones n, injected-counts (is_item_of n) loose k bytes b refl);
@@ -151,10 +126,6 @@ injected-keeps loose k bytes b h = record {
   where
     unclean : Connection → Connection
     unclean c = queued side.Ap (Raw bytes) (record c { clean = false })
-
-    unclean-last : (c : Connection) (s : Side) → last_label s (unclean c) ≡ last_label s c
-    unclean-last c side.Ap = refl
-    unclean-last c side.Far = refl
 
     unclean-items : (c : Connection) (at : Side) (item : Item) → IsIn item (queue at (unclean c))
         → IsIn item (queue at c) ⊎ IsNew (injected k bytes b) (unclean c) at item
@@ -177,7 +148,6 @@ attached-keeps loose b a i c protocol h = record {
   outcomes = outcomes-stay b (attached a i c protocol b).made (attached a i c protocol b).connections h.outcomes;
   labels = labels-fewer b (attached a i c protocol b)
       (stays b (next_connection b) (attached a i c protocol b).connections) h.labels;
-  above = above-attached b a i c protocol h.numbers h.above;
   items = items-attached loose b a i c protocol h.items;
   ones = λ n. omega (arith, h.ones n, attached-counts (is_item_of n) loose b a i c protocol);
 }
@@ -188,7 +158,6 @@ detached-keeps loose k b h = record {
   numbers = rise-detached b k h.numbers;
   outcomes = outcomes-stay b (detached k b).made (detached k b).connections h.outcomes;
   labels = labels-fewer b (detached k b) (stays b b.made (detached k b).connections) h.labels;
-  above = above-fewer b (detached k b) (stays b b.made (detached k b).connections) (keeps-detached b k) h.above;
   items = items-detached loose b k h.items;
   ones = λ n. omega (arith, h.ones n, detached-counts (is_item_of n) loose b k);
 }
@@ -200,17 +169,11 @@ loose-keeps loose later b fewer counts h = record {
   numbers = h.numbers;
   outcomes = h.outcomes;
   labels = h.labels;
-  above = h.above;
   items = items-fewer loose later b fewer h.items;
   ones = ones-fewer loose later b b counts h.ones;
 }
 
 -- ---- requests end
-
--- where connections stay
-keeps-all : (b : Bus) (outcomes : List (ℕ × Outcome)) (given_up : List ℕ)
-    → KeepsDrawn b (record b { outcomes = outcomes; given_up = given_up })
-keeps-all b outcomes given_up c live = (c, live, refl, λ s. omega arith)
 
 -- an open request ends, and what was being handled is let go
 pub ended-keeps : (loose later : List Loose) (m : ℕ) (how : Outcome) (b : Bus) → is_open m b ≡ true
@@ -220,7 +183,6 @@ ended-keeps loose later m how b unended fewer counts none h = record {
   numbers = record { rise = h.numbers.rise; range = h.numbers.range; on = h.numbers.on };
   outcomes = fits-ended m how b unended h.outcomes;
   labels = labels-fewer b (ended m how b) (ended-before m how b) h.labels;
-  above = above-fewer b (ended m how b) (ended-before m how b) (keeps-all b (ended m how b).outcomes b.given_up) h.above;
   items = items-ended loose later m how b fewer none h.items;
   ones = ones-fewer loose later b (ended m how b) counts h.ones;
 }
@@ -233,7 +195,6 @@ forgotten-keeps loose later m b fewer counts none h = record {
   numbers = record { rise = h.numbers.rise; range = h.numbers.range; on = h.numbers.on };
   outcomes = fits-forgotten m b h.outcomes;
   labels = labels-fewer b (forgotten m b) (forgotten-before m b) h.labels;
-  above = above-fewer b (forgotten m b) (forgotten-before m b) (keeps-all b b.outcomes (forgotten m b).given_up) h.above;
   items = items-forgotten loose later m b fewer none h.items;
   ones = ones-fewer loose later b (forgotten m b) counts h.ones;
 }
@@ -245,8 +206,6 @@ gave_up-keeps loose m how b unended h = record {
   numbers = record { rise = h.numbers.rise; range = h.numbers.range; on = h.numbers.on };
   outcomes = fits-gave_up m how b unended h.outcomes;
   labels = labels-fewer b (gave_up m how b) (gave_up-before m how b unended) h.labels;
-  above = above-fewer b (gave_up m how b) (gave_up-before m how b unended)
-      (keeps-all b (gave_up m how b).outcomes (gave_up m how b).given_up) h.above;
   items = items-gave_up loose m how b h.items;
   ones = λ n. omega (arith, h.ones n);
 }
@@ -258,8 +217,6 @@ side_ended-keeps loose k at b over h = record {
   numbers = record { rise = h.numbers.rise; range = h.numbers.range; on = h.numbers.on };
   outcomes = fits-side_ended k at b h.outcomes;
   labels = labels-fewer b (side_ended k at b) (side_ended-before k at b) h.labels;
-  above = above-fewer b (side_ended k at b) (side_ended-before k at b)
-      (keeps-all b (side_ended k at b).outcomes (side_ended k at b).given_up) h.above;
   items = items-side_ended loose k at b over h.items;
   ones = λ n. omega (arith, h.ones n);
 }
@@ -274,13 +231,9 @@ pub unwired-keeps : (loose later : List Loose) (k : ℕ) (b : Bus) → ((l : Loo
     → BusFits loose b → BusFits later (unwired k b)
 unwired-keeps loose later k b fewer none counts h =
     side_ended-keeps later k side.Far (with_connection k cleared b) over
-    (changed-keeps loose later k cleared b fewer (λ c. refl) (λ c e. e) (λ c e. e) last items
+    (changed-keeps loose later k cleared b fewer (λ c. refl) (λ c e. e) (λ c e. e) items
     (λ n c. omega arith) counts h)
   where
-    last : (c : Connection) (s : Side) → last_label s (cleared c) ≡ last_label s c
-    last c side.Ap = refl
-    last c side.Far = refl
-
     items : (c : Connection) (at : Side) (item : Item) → IsIn item (queue at (cleared c)) → IsIn item (queue at c)
     items c side.Ap item i = absurd i
     items c side.Far item i = absurd i
@@ -303,15 +256,11 @@ unwired-keeps loose later k b fewer none counts h =
 pub shut-keeps : (loose : List Loose) (k : ℕ) (b : Bus) → BusFits loose b → BusFits loose (shut_down k b)
 shut-keeps loose k b h =
     side_ended-keeps loose k side.Ap (with_connection k closed b) over
-    (changed-keeps loose loose k closed b (λ l i. i) (λ c. refl) (λ c e. e) (λ c e. absurd (not-both true refl e)) last items
+    (changed-keeps loose loose k closed b (λ l i. i) (λ c. refl) (λ c e. e) (λ c e. absurd (not-both true refl e)) items
     (λ n c. omega arith) (λ n. omega arith) h)
   where
     closed : Connection → Connection
     closed c = record c { shut = true }
-
-    last : (c : Connection) (s : Side) → last_label s (record c { shut = true }) ≡ last_label s c
-    last c side.Ap = refl
-    last c side.Far = refl
 
     items : (c : Connection) (at : Side) (item : Item) → IsIn item (queue at (record c { shut = true })) → IsIn item (queue at c)
     items c side.Ap item i = i

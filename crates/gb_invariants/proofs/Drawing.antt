@@ -1,19 +1,19 @@
 -- The rule for identifiers: one that is drawn is from 1 to the greatest, and isn't in use on its side.
-use Rattle.std.proofs.Common.{◌≡◌, ◌≤◌, ◌<◌, ℕ, zero, suc, ◌+◌, ◌==◌, Bool, true, false, cond, ◌&&◌, ◌||◌, Option, Some, None, is_some, option_and_then, List, [], ◌∷◌, refl, sym, ap, ◌∙◌, inl, inr, subst, arith, ltb}
+use Rattle.std.proofs.Common.{◌≡◌, ◌≤◌, ◌<◌, ℕ, zero, suc, ◌+◌, ◌==◌, Bool, true, false, cond, ◌&&◌, ◌||◌, Option, Some, None, is_some, option_and_then, List, [], ◌∷◌, refl, sym, ap, ◌∙◌, inl, inr, arith, ltb}
 use Rattle.std.proofs.lemmas.Bool.Decides.{nat_tests}
 use Rattle.std.specs.List.{find}
 use Rattle.gb_base.specs.declared.end.Side.{Side}
-use Rattle.gb_invariants.proofs.Awaiting.{Awaits, awaited, awaits, is-of, is_of-is, late, not-both, or-right, same-some, still}
+use Rattle.gb_base.specs.declared.end.Side.TheVariants as side
+use Rattle.gb_invariants.proofs.Awaiting.{Awaits, AwaitsFewer, awaited, awaits, is-of, is_of-is, late, not-both, or-right, same-some, side_ended-after, side_ended-before, still}
 use Rattle.gb_invariants.proofs.Lists.{found-in}
-use Rattle.gb_invariants.proofs.Numbers.{found-number}
 use Rattle.gb_invariants.proofs.Outcomes.{both-true, in-open_requests, is-same, open_requests-in, same-number}
-use Rattle.gb_invariants.specs.Facts.{NoneAboveLast}
 use Rattle.gb_machine.specs.Bus.{Bus, Connection, Request, connection_of, outcome_of, request_of}
-use Rattle.gb_machine.specs.Labels.{cyclic_label, free_label, fresh_label, greatest_label, label_after, last_label, next_label}
+use Rattle.gb_machine.specs.Labels.{cyclic_label, free_label, greatest_label, label_after, last_label, next_label}
 use Rattle.gb_machine.specs.LawsBus.{is_awaited}
-use Rattle.gb_machine.specs.Lists.{first}
+use Rattle.gb_machine.specs.Lists.{first, nth}
 use Rattle.gb_machine.specs.Members.{IsIn}
 use Rattle.gb_machine.specs.Requests.{given_up_with, has_label, is_of, is_used, made_passes, open_requests, open_with, passes}
+use Rattle.gb_machine.specs.Wiring.{unwired, with_connection}
 
 -- An identifier may be drawn on a side of a connection.
 pub record IsFree (k : ℕ) (at : Side) (label : ℕ) (b : Bus) : Type 0 where
@@ -117,51 +117,7 @@ used-in_use k at b label h = by (open_with k at label b) refl (given_up_with k a
         absurd (not-both (is_used k at b label) u
         (ap (λ (o : Option ℕ). is_some o || is_some (given_up_with k at label b)) e ∙ ap is_some f))
 
--- ---- identifiers that are used once
-
-fresh-is : (at : Side) (c : Connection) (label : ℕ) → fresh_label at c ≡ Some label
-    → (last_label at c < greatest_label) × (label ≡ last_label at c + 1)
-fresh-is at c label h = by (ltb (last_label at c) greatest_label) refl h
-  where
-    by : (t : Bool) → ltb (last_label at c) greatest_label ≡ t → cond t (Some (last_label at c + 1)) None ≡ Some label
-        → (last_label at c < greatest_label) × (label ≡ last_label at c + 1)
-    by true e h = (grind (arith, nat_tests), sym (same-some (last_label at c + 1) label h))
-    by false e h = absurd cc
-
--- the connection on which an identifier is drawn
-pub next_label-on : (k : ℕ) (at : Side) (b : Bus) (label : ℕ) → next_label k at b ≡ Some label
-    → (c : Connection) × (connection_of k b ≡ Some c) × (last_label at c < greatest_label) × (label ≡ last_label at c + 1)
-next_label-on k at b label h = by (connection_of k b) refl h
-  where
-    by : (o : Option Connection) → connection_of k b ≡ o → option_and_then (fresh_label at) o ≡ Some label
-        → (c : Connection) × (connection_of k b ≡ Some c) × (last_label at c < greatest_label) × (label ≡ last_label at c + 1)
-    by None e h = absurd cc
-    by (Some c) e h = let f = fresh-is at c label h in (c, e, f.0, f.1)
-
--- An identifier that is drawn is free, where each is used once.
-pub drawn-is-free : (k : ℕ) (at : Side) (b : Bus) (label : ℕ) → NoneAboveLast b
-    → next_label k at b ≡ Some label → IsFree k at label b
-drawn-is-free k at b label above h =
-    let d = next_label-on k at b label h in record {
-      least = omega (arith, d.3);
-      greatest = omega (arith, d.2, d.3);
-      unused = by (is_used k at b label) refl;
-    }
-  where
-    out : IsInUse k at b label → ⊥
-    out u =
-        let d = next_label-on k at b label h in
-        let f = found-number k b d.0 d.1 in
-        let low : u.request.label ≤ last_label at d.0 =
-        subst (λ (s : Side). u.request.label ≤ last_label s d.0) (sym u.side)
-        (above d.0 u.number u.request f.0 u.made u.awaited (u.connection ∙ sym f.1)) in
-        absurd (omega (arith, low, d.3, u.label_is))
-
-    by : (t : Bool) → is_used k at b label ≡ t → is_used k at b label ≡ false
-    by false e = e
-    by true e = absurd (out (used-in_use k at b label e))
-
--- ---- identifiers that come round
+-- ---- what is drawn
 
 -- the identifier that follows is one
 label_after-within : (label : ℕ) → (1 ≤ label_after label) × (label_after label ≤ greatest_label)
@@ -190,15 +146,78 @@ free-unused used (suc tries) start label low high h =
         let is : start ≡ label = same-some start label h in
         (omega (arith, low, is), omega (arith, high, is), ap used (sym is) ∙ e)
 
--- An identifier that is drawn is free, where they come round.
-pub cyclic-is-free : (k : ℕ) (at : Side) (b : Bus) (label : ℕ) → cyclic_label k at b ≡ Some label → IsFree k at label b
-cyclic-is-free k at b label h = by (connection_of k b) h
+-- An identifier that is drawn is free.
+pub drawn-is-free : (k : ℕ) (at : Side) (b : Bus) (label : ℕ) → next_label k at b ≡ Some label → IsFree k at label b
+drawn-is-free k at b label h = by (connection_of k b) h
   where
     by : (o : Option Connection)
-        → option_and_then (λ c. free_label (is_used k at b) greatest_label (label_after (last_label at c))) o ≡ Some label
+        → option_and_then (cyclic_label k at b) o ≡ Some label
         → IsFree k at label b
     by None h = absurd cc
     by (Some c) h =
         let n = label_after-within (last_label at c) in
         let f = free-unused (is_used k at b) greatest_label (label_after (last_label at c)) label n.0 n.1 h in
         record { least = f.0; greatest = f.1; unused = f.2 }
+
+-- ---- what is in use stays so
+
+same-bool : (x y : Bool) → (x ≡ true → y ≡ true) → (y ≡ true → x ≡ true) → x ≡ y
+same-bool true true f g = refl
+same-bool false false f g = refl
+same-bool true false f g = absurd (not-both false (f refl) refl)
+same-bool false true f g = absurd (not-both false (g refl) refl)
+
+-- Where the requests of a side are awaited as before, the same identifiers are in use.
+pub used-stays : (k : ℕ) (at : Side) (b after : Bus) → AwaitsFewer b after
+    → ((n : ℕ) (r : Request) → request_of n b ≡ Some r → is_of k at r ≡ true → is_awaited n b ≡ true
+    → is_awaited n after ≡ true)
+    → (label : ℕ) → is_used k at after label ≡ is_used k at b label
+used-stays k at b after fewer stays label =
+    same-bool (is_used k at after label) (is_used k at b label)
+    (λ h. by (used-in_use k at after label h)) (λ h. back (used-in_use k at b label h))
+  where
+    used : (c : Bus) (n : ℕ) (r : Request) → request_of n c ≡ Some r → is_awaited n c ≡ true → r.connection ≡ k
+        → at ≡ r.side → r.label ≡ label → is_used k at c label ≡ true
+    used c n r made w on side_is label_is =
+        ap (is_used k at c) (sym label_is) ∙ ap (λ s. is_used k s c r.label) side_is
+        ∙ ap (λ j. is_used j r.side c r.label) (sym on) ∙ awaited-used c n r made w
+
+    by : IsInUse k at after label → is_used k at b label ≡ true
+    by u = used b u.number u.request (ap (nth u.number) (sym fewer.same) ∙ u.made)
+        (fewer.before u.number u.awaited) u.connection u.side u.label_is
+
+    of_side : (r : Request) → r.connection ≡ k → at ≡ r.side → is_of k at r ≡ true
+    of_side r on side_is = ap (λ j. is_of j at r) (sym on) ∙ ap (λ s. is_of r.connection s r) side_is ∙ is-of r
+
+    back : IsInUse k at b label → is_used k at after label ≡ true
+    back u = used after u.number u.request (ap (nth u.number) fewer.same ∙ u.made)
+        (stays u.number u.request u.made (of_side u.request u.connection u.side) u.awaited)
+        u.connection u.side u.label_is
+
+-- the same identifier comes next where the same are in use and the connection is as before
+pub next_label-same : (k : ℕ) (at : Side) (b after : Bus) → connection_of k after ≡ connection_of k b
+    → ((label : ℕ) → is_used k at after label ≡ is_used k at b label)
+    → next_label k at after ≡ next_label k at b
+next_label-same k at b after same used = λ i.
+    option_and_then (λ c. free_label (λ label. used label i) greatest_label (label_after (last_label at c))) (same i)
+
+-- no identifier of another connection is free or taken where one is unwired
+pub used-unwired : (j k : ℕ) (at : Side) (b : Bus) → (k ≡ j → ⊥)
+    → (label : ℕ) → is_used k at (unwired j b) label ≡ is_used k at b label
+used-unwired j k at b other =
+    used-stays k at b (unwired j b)
+    (record {
+      same = refl;
+      before = λ n h. (side_ended-before j side.Far (cut j b)).before n h;
+    })
+    (λ n r made own w. side_ended-after j side.Far (cut j b) n r made (elsewhere r own) w)
+  where
+    cut : ℕ → Bus → Bus
+    cut j b = with_connection j (λ c. record c { wired = false; to_ap = []; to_far = [] }) b
+
+    elsewhere : (r : Request) → is_of k at r ≡ true → is_of j side.Far r ≡ false
+    elsewhere r own = by (is_of j side.Far r) refl
+      where
+        by : (t : Bool) → is_of j side.Far r ≡ t → is_of j side.Far r ≡ false
+        by false e = e
+        by true e = absurd (other (sym (is_of-is k at r own).0 ∙ (is_of-is j side.Far r e).0))

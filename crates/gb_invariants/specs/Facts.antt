@@ -3,7 +3,6 @@ use Rattle.std.specs.Prelude.{◌≡◌, ◌≤◌, ◌<◌, ℕ, ◌+◌, Bool,
 use Rattle.gb_base.specs.declared.end.Side.{Side}
 use Rattle.gb_base.specs.declared.end.Side.TheVariants as side
 use Rattle.gb_machine.specs.Bus.{Ask, Bus, Connection, Item, Raw, RawReply, Reply, Request, other_side, outcome_of, queue, request_of}
-use Rattle.gb_machine.specs.Labels.{last_label}
 use Rattle.gb_machine.specs.LawsBus.{OwnLabels, is_awaited, is_item_of}
 use Rattle.gb_machine.specs.LawsEnds.{is_outcome_of}
 use Rattle.gb_machine.specs.Members.{Each, EachTwo, IsIn, times, total}
@@ -35,15 +34,6 @@ pub record OutcomesFit (b : Bus) : Type 0 where
   pub given : (n : ℕ) → is_given_up n b ≡ true → is_some (outcome_of n b) ≡ true
   pub oneway : (n : ℕ) (r : Request) → request_of n b ≡ Some r → r.oneway ≡ true
       → is_awaited n b ≡ false
-
--- ---- identifiers
-
--- No identifier of a request that is awaited on a live connection is above the last that was drawn
--- there. This goes with the rule by which each identifier is used once.
-abbrev pub NoneAboveLast : Bus → Type 0
-NoneAboveLast b =
-    (c : Connection) (n : ℕ) (r : Request) → IsIn c b.connections → request_of n b ≡ Some r
-    → is_awaited n b ≡ true → r.connection ≡ c.number → r.label ≤ last_label r.side c
 
 -- ---- items
 
@@ -122,6 +112,5 @@ pub record BusFits (loose : List Loose) (b : Bus) : Type 0 where
   pub numbers : NumbersRise b
   pub outcomes : OutcomesFit b
   pub labels : OwnLabels b
-  pub above : NoneAboveLast b
   pub items : ItemsFit loose b
   pub ones : OneEach loose b

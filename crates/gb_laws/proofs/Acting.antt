@@ -102,7 +102,7 @@ use Rattle.gb_machine.specs.HostActs.{
   with_awaited,
   with_made,
 }
-use Rattle.gb_machine.specs.Labels.{fresh_label, next_label}
+use Rattle.gb_machine.specs.Labels.{cyclic_label, next_label}
 use Rattle.gb_machine.specs.Sending.{sent}
 use Rattle.gb_machine.specs.State.{State}
 use Rattle.gb_machine.specs.Wiring.{next_connection}
@@ -323,7 +323,7 @@ module _ (m : Moment) (law : ActLaw m) where
   goes-host_asks q rest s = by (next_label q.on side.Ap s.bus) refl
     where
       unlabelled : connection_of q.on s.bus ≡ None → next_label q.on side.Ap s.bus ≡ None
-      unlabelled e = ap (option_and_then (fresh_label side.Ap)) e
+      unlabelled e = ap (option_and_then (cyclic_label q.on side.Ap s.bus)) e
 
       none-some : {n : ℕ} → None ≡ Some n → ⊥
       none-some e = absurd cc

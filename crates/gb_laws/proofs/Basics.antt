@@ -345,7 +345,6 @@ bus-first = record {
     differ = λ n k r q made other w v on at same. absurd (none-made n r made);
     range = λ n r made w. absurd (none-made n r made);
   };
-  above = λ c n r live made w on. absurd (none-made n r made);
   items = record {
     own = λ c at item live i. absurd (none-waits c at item live i);
     own_loose = λ l i. absurd i;

@@ -1,6 +1,6 @@
 -- Insertions and removals come in turn where a module is pulled.
 use Rattle.std.proofs.Common.{◌≡◌, ◌≢◌, ℕ, Bool, true, false, cond, Option, Some, None, List, [], ◌∷◌, ◌++◌, refl, sym, ap, ◌∙◌, subst, append-nil}
-use Rattle.std.specs.Prelude.{◌==◌, is_none, is_some, not, option_and_then, option_map}
+use Rattle.std.specs.Prelude.{◌==◌, is_none, is_some, not, option_map}
 use Rattle.std.specs.List.{find}
 use Rattle.gb_base.specs.declared.end.End.TheVariants as end
 use Rattle.gb_base.specs.declared.end.Side.TheVariants as side
@@ -20,7 +20,9 @@ use Rattle.gb_machine.proofs.Opened.{machine_opened}
 use Rattle.gb_machine.specs.Actions.{each, when}
 use Rattle.gb_machine.specs.Bus.{Ask, Bus, Connection, Item, Raw, RawReply, Reply, connection_of, has_number}
 use Rattle.gb_machine.specs.Host.{interface_of}
-use Rattle.gb_machine.specs.Labels.{fresh_label, next_label}
+use Rattle.gb_machine.specs.Labels.{next_label}
+use Rattle.gb_machine.specs.Requests.{is_used}
+use Rattle.gb_invariants.proofs.Drawing.{next_label-same, used-unwired}
 use Rattle.gb_machine.specs.Lists.{at_first, nth}
 use Rattle.gb_machine.specs.Members.{Each, EachTwo, IsIn}
 use Rattle.gb_machine.specs.Modules.{is_plugged, is_plugged_at, unplugged}
@@ -34,6 +36,7 @@ use Rattle.gb_machine.specs.Wires.{unwires, with_unwired}
 -- what of the supervisory controller's connection stays where others are unwired
 pub record SameSvc (s t : State) : Type 0 where
   pub connection : connection_of 1 t.bus ≡ connection_of 1 s.bus
+  pub used : (label : ℕ) → is_used 1 side.Far t.bus label ≡ is_used 1 side.Far s.bus label
   pub requests : t.bus.requests ≡ s.bus.requests
   pub host : t.host ≡ s.host
   pub modules : t.modules ≡ s.modules
@@ -57,10 +60,11 @@ find-past k f (x ∷ xs) same other = by (x.number == k) refl (find-past k f xs 
 
 pub unwires-svc : (ns : List ℕ) (s : State) → Each (λ n. n ≢ 1) ns → SameSvc s (each ns unwires s).state
 unfolding machine_opened
-unwires-svc [] s other = record { connection = refl; requests = refl; host = refl; modules = refl; ports = refl; started = refl }
+unwires-svc [] s other = record { connection = refl; used = λ label. refl; requests = refl; host = refl; modules = refl; ports = refl; started = refl }
 unwires-svc (n ∷ ns) s other =
     let r = unwires-svc ns (with_unwired n s) other.1 in record {
       connection = r.connection ∙ find-past n (λ c. record c { wired = false; to_ap = []; to_far = [] }) s.bus.connections (λ c. refl) other.0;
+      used = λ label. r.used label ∙ used-unwired n 1 side.Far s.bus (λ e. other.0 (sym e)) label;
       requests = r.requests;
       host = r.host;
       modules = r.modules;
@@ -158,7 +162,7 @@ pull-kept i s rise asked links there free start = by s.booted refl
         let first : connection_of 1 s.bus ≡ Some there.connection = subst (λ n. connection_of n s.bus ≡ Some there.connection) there.number found in
         let label = some-label (next_label 1 side.Far s.bus) free in
         let m = ask-told (SvcAsk.ModuleRemoved i) s2 there.connection label.0 queue (cut.connection ∙ first) there.wired
-        (ap (option_and_then (fresh_label side.Far)) cut.connection ∙ label.1) in
+        (next_label-same 1 side.Far s.bus s2.bus cut.connection cut.used ∙ label.1) in
         record {
           reads = λ j. subst (λ h. Reads (is_some (interface_of j h)) (marks j t.bus) (is_plugged j t.modules)) (sym (a.host ∙ cut.host))
               (subst (λ ms. Reads (is_some (interface_of j s.host)) (marks j t.bus) (is_plugged j ms)) (sym (a.modules ∙ modules))

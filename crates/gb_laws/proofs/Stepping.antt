@@ -45,7 +45,7 @@ use Rattle.gb_machine.specs.Holding.{marked}
 use Rattle.gb_machine.specs.Host.{is_link, link_at, with_link}
 use Rattle.gb_machine.specs.HostActs.{follows}
 use Rattle.gb_machine.specs.HostRefusals.{bridge_conditions, is_kept}
-use Rattle.gb_machine.specs.Labels.{fresh_label, next_label, no_label}
+use Rattle.gb_machine.specs.Labels.{cyclic_label, next_label, no_label}
 use Rattle.gb_machine.specs.LineActions.{ap_draft, bridge_sent, bridges, copies, holds, injects, injects_at, with_hold, sends, sends_on, spent, stirred, stirs}
 use Rattle.gb_machine.specs.Lists.{conditions_of, holds_of}
 use Rattle.gb_machine.specs.Modules.{is_plugged, is_plugged_at, module_at, with_module}
@@ -214,7 +214,7 @@ module _ (m : Moment) (law : Law m) where
           at
       by o e None f = absurd (not-both (is_none (next_label k side.Ap s.bus)) (ap is_none f) left)
       by None e (Some label) f =
-          absurd (not-both (is_none (next_label k side.Ap s.bus)) (ap (λ o. is_none (option_and_then (fresh_label side.Ap) o)) e) left)
+          absurd (not-both (is_none (next_label k side.Ap s.bus)) (ap (λ o. is_none (option_and_then (cyclic_label k side.Ap s.bus) o)) e) left)
 
   pub rests-copies : (x y : Name) (s : State) → Rests (copies x y) s
   unfolding machine_opened
