@@ -10,10 +10,12 @@ use Rattle.gb_ops.specs.declared.entries.Matched.TheVariants as matched
 use Rattle.gb_ops.specs.declared.entries.Pending.{Pending}
 
 -- no request was begun
-pub record IsFirst (x : Operations) : Type 0 where
-  pub holders : x.holders ≡ []
-  pub pending : x.pending ≡ []
-  pub last : x.last ≡ 0
+abbrev pub no_operations : Operations
+no_operations = record { holders = []; pending = []; last = 0 }
+
+-- no request is open any more, all identifiers are free, and the last one drawn stays
+abbrev pub emptied : Operations → Operations
+emptied x = record { holders = []; pending = []; last = x.last }
 
 -- a request is open, and has the identifier that came next
 pub record Begins (old new : Operations) (n deadline label : ℕ) : Type 0 where
@@ -89,12 +91,10 @@ pub record Closes (old new : Operations) (n : ℕ) : Type 0 where
   pub least : IsLeast (pending_at old) n
   pub ends : Ends old new label n
 
--- no request is open, and all identifiers are free
+-- no request was open, and all identifiers are free
 pub record Closed (old new : Operations) : Type 0 where
   pub none : (n : ℕ) → pending_at old n ≡ None
-  pub holders : new.holders ≡ []
-  pub pending : new.pending ≡ []
-  pub last : new.last ≡ old.last
+  pub emptied : new ≡ emptied old
 
 -- None comes exactly where no request is open.
 abbrev pub ClosesAs : Operations → Operations → Option ℕ → Type 0

@@ -6,14 +6,15 @@ ghost use Rattle.gb_ops.specs.Calls.{
   ClosesAs,
   ExpiresAs,
   GivesUpAs,
-  IsFirst,
   RepliesAs,
+  emptied,
+  no_operations,
 };
 ghost use Rattle.gb_ops.specs.Finding.{FindsDue};
-ghost use Rattle.gb_ops.specs.Operations.{next_label, pending_at};
+ghost use Rattle.gb_ops.specs.Operations.{holder_of, next_label, pending_at};
 
 use crate::tables::Tables;
-use crate::{BeginFault, Matched};
+use crate::{BeginFault, Holder, Matched};
 use gb_base::OutOfMemory;
 use gb_labels::Labels;
 use std::alloc::Global;
@@ -45,7 +46,7 @@ impl Model for Ops {
 impl Ops {
     /// No request was begun.
     pub fn new(alloc: Global) -> Result<Ops, OutOfMemory>
-        ensures { IfOk result IsFirst }
+        ensures { IfOk result (λ x. x ≡ no_operations) }
     {
         Ok(Ops {
             labels: Labels::new(alloc)?,
@@ -95,6 +96,13 @@ impl Ops {
         Matched::Open(holder.number)
     }
 
+    /// What an identifier is in use for, None where it isn't in use.
+    pub fn holder(&self, label: u16) -> Option<Holder>
+        ensures { result ≡ holder_of self.now label }
+    {
+        self.tables.holder(label)
+    }
+
     /// Gives up request n. Its identifier stays in use until its answer comes. false comes exactly
     /// where n isn't open. It takes no memory.
     pub fn give_up(&mut self, n: u64) -> bool
@@ -140,5 +148,14 @@ impl Ops {
             self.labels.free(pending.label);
         }
         Some(n)
+    }
+
+    /// No request is open any more, and all identifiers are free. The last one drawn stays. It
+    /// takes no memory.
+    pub fn close_all(&mut self)
+        ensures { self.new ≡ emptied self.old }
+    {
+        self.tables.clear();
+        self.labels.free_all();
     }
 }

@@ -115,6 +115,13 @@ impl Tables {
         self.pending.contains_key(&n)
     }
 
+    /// What an identifier is in use for.
+    pub fn holder(&self, label: u16) -> Option<Holder>
+        ensures { result ≡ holder_in self.now label }
+    {
+        self.holders.get(&label).copied()
+    }
+
     /// The request that has an identifier was given up.
     pub fn mark(&mut self, label: u16)
         ensures { MarksAs self.old self.new label }
