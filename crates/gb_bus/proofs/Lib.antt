@@ -11,6 +11,7 @@ pub mod Moves
 pub mod Queues
 pub mod Replies
 pub mod Sends
+pub mod Sides
 pub mod SlotLaws
 pub mod Standing
 pub mod Tellings

@@ -4,6 +4,7 @@ pub mod Ends
 pub mod Moving
 pub mod Parts
 pub mod Sending
+pub mod Sides
 pub mod Slots
 pub mod Stands
 pub mod Taking

@@ -8,9 +8,10 @@ use Rattle.gb_bus.specs.Ends.{earlier}
 use Rattle.gb_bus.specs.declared.connection.Connection.{Connection}
 use Rattle.gb_bus.specs.declared.queue.Item.{Item}
 use Rattle.gb_machine.specs.Bus.{or_else, same_end}
-use Rattle.gb_machine.specs.Labels.{greatest_label}
 use Rattle.gb_machine.specs.Lists.{at_first, behind_first, first}
 use Rattle.gb_machine.specs.Wiring.{is_at}
+use Rattle.gb_ops.specs.Calls.{emptied, no_operations}
+use Rattle.gb_ops.specs.Operations.{Operations, next_label}
 
 -- ---- one connection
 
@@ -23,8 +24,8 @@ new_connection k a peer protocol = record {
   protocol = protocol;
   wired = false;
   shut = false;
-  ap_last = 0;
-  far_last = 0;
+  ap_ops = no_operations;
+  far_ops = no_operations;
   to_ap = [];
   to_far = [];
 }
@@ -36,25 +37,26 @@ with_wire c = record c { wired = true }
 abbrev pub svc : Connection
 svc = with_wire (new_connection 1 0 end.Svc 0x14)
 
+-- the side of the application processor is closed, and all its identifiers are free
 abbrev pub closed : Connection → Connection
-closed c = record c { shut = true }
+closed c = record c { shut = true; ap_ops = emptied c.ap_ops }
 
+-- it isn't wired, nothing waits, and all identifiers of the far side are free
 abbrev pub cleared : Connection → Connection
-cleared c = record c { wired = false; to_ap = []; to_far = [] }
+cleared c = record c { wired = false; to_ap = []; to_far = []; far_ops = emptied c.far_ops }
 
--- the last identifier that a side drew
-abbrev pub last_of : Side → Connection → ℕ
-last_of side.Ap c = c.ap_last
-last_of side.Far c = c.far_last
+-- the requests of a side whose identifiers are in use
+abbrev pub ops_of : Side → Connection → Operations
+ops_of side.Ap c = c.ap_ops
+ops_of side.Far c = c.far_ops
 
-abbrev pub with_last : Side → ℕ → Connection → Connection
-with_last side.Ap label c = record c { ap_last = label }
-with_last side.Far label c = record c { far_last = label }
+abbrev pub with_ops : Side → Operations → Connection → Connection
+with_ops side.Ap ops c = record c { ap_ops = ops }
+with_ops side.Far ops c = record c { far_ops = ops }
 
 -- the identifier that a side draws next
 abbrev pub next_of : Side → Connection → Option ℕ
-next_of at c =
-    if nat_lt (last_of at c) greatest_label then Some (last_of at c + 1) else None
+next_of at c = next_label (ops_of at c)
 
 -- the queue toward a side
 abbrev pub queue_of : Side → Connection → List Item
@@ -121,12 +123,6 @@ earliest_in (c ∷ cs) = earliest_of c (earliest_in cs)
 -- the identifier that a side of a connection draws next
 abbrev pub next_in : ℕ → Side → List Connection → Option ℕ
 next_in k at cs = option_and_then (next_of at) (find (numbered k) cs)
-
--- an identifier was drawn, where one is left
-abbrev pub DrawsAs : List Connection → List Connection → ℕ → Side → Option ℕ → Type 0
-DrawsAs old new k at None = (next_in k at old ≡ None) × (new ≡ old)
-DrawsAs old new k at (Some label) =
-    (next_in k at old ≡ Some label) × (new ≡ at_first (numbered k) (with_last at label) old)
 
 -- the front message toward a side of a connection
 abbrev pub front_in : ℕ → Side → List Connection → Option Item

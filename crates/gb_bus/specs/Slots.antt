@@ -1,5 +1,5 @@
 -- The slots of requests.
-use Rattle.std.specs.Prelude.{ℕ, ◌+◌, ◌-◌, ◌==◌, Bool, false, ◌&&◌, is_none, if◌then◌else◌, Option, Some, None, List, [], ◌∷◌, slice_set}
+use Rattle.std.specs.Prelude.{ℕ, ◌+◌, ◌-◌, ◌==◌, Bool, nat_le, ◌&&◌, is_none, if◌then◌else◌, Option, Some, None, List, [], ◌∷◌, slice_set}
 use Rattle.gb_base.specs.declared.end.Side.{Side}
 use Rattle.gb_base.specs.declared.outcome.Outcome.{Outcome}
 use Rattle.gb_base.specs.declared.outcome.Outcome.TheVariants as outcome
@@ -10,10 +10,6 @@ use Rattle.gb_machine.specs.Requests.{same_side}
 -- a slot whose request ends so
 abbrev pub with_outcome : Outcome → Slot → Slot
 with_outcome how slot = record slot { outcome = Some how }
-
--- a slot whose request is given up or isn't any more
-abbrev pub with_mark : Bool → Slot → Slot
-with_mark mark slot = record slot { given_up = mark }
 
 -- the slots where one is replaced
 abbrev pub put_at : ℕ → (Slot → Slot) → List Slot → Option Slot → List Slot
@@ -32,22 +28,24 @@ is_on k at slot = slot.connection == k && same_side at slot.side
 abbrev pub is_open_on : ℕ → Side → Slot → Bool
 is_open_on k at slot = is_on k at slot && is_none slot.outcome
 
--- the numbers of the open requests of a side of a connection, the first slot being that of request
--- n
-abbrev pub open_in : ℕ → ℕ → Side → List Slot → List ℕ
-open_in n k at [] = []
-open_in n k at (slot ∷ slots) =
-    let later = open_in (n + 1) k at slots in
-    if is_open_on k at slot then n ∷ later else later
+-- the request is open, and its deadline came
+abbrev pub is_due : ℕ → Slot → Bool
+is_due now slot = nat_le slot.deadline now && is_none slot.outcome
 
--- an outcome, or else Disconnected
-abbrev pub or_disconnected : Option Outcome → Outcome
-or_disconnected None = outcome.Disconnected
-or_disconnected (Some how) = how
+-- the numbers of the slots that pass a test, the first slot being that of request n
+abbrev pub open_in : (Slot → Bool) → ℕ → List Slot → List ℕ
+open_in test n [] = []
+open_in test n (slot ∷ slots) =
+    let later = open_in test (n + 1) slots in
+    if test slot then n ∷ later else later
 
 -- a slot once a side of a connection is closed
 abbrev pub over : ℕ → Side → Slot → Slot
 over k at slot =
-    if is_on k at slot
-    then record slot { outcome = Some (or_disconnected slot.outcome); given_up = false }
-    else slot
+    if is_open_on k at slot then record slot { outcome = Some outcome.Disconnected } else slot
+
+-- the connection and the side of an open request, by what is kept of it
+abbrev pub open_place : Option Slot → Option (ℕ × Side)
+open_place None = None
+open_place (Some slot) =
+    if is_none slot.outcome then Some (slot.connection, slot.side) else None

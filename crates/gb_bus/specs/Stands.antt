@@ -1,6 +1,8 @@
 -- What the value of a bus stands for.
-use Rattle.std.specs.Prelude.{◌≡◌, ℕ, Bool, true, Option, Some, option_map, List, [], ◌∷◌, length}
+use Rattle.std.specs.Prelude.{◌≡◌, ℕ, Bool, true, ◌&&◌, if◌then◌else◌, Option, Some, None, option_map, List, [], ◌∷◌, length, find}
+use Rattle.gb_base.specs.declared.end.Side.{Side}
 use Rattle.gb_base.specs.declared.outcome.Outcome.{Outcome}
+use Rattle.gb_bus.specs.Parts.{numbered, ops_of}
 use Rattle.gb_bus.specs.declared.bus.Bus.{Bus}
 use Rattle.gb_bus.specs.declared.connection.Connection.{Connection}
 use Rattle.gb_bus.specs.declared.queue.Item.{Item}
@@ -8,11 +10,15 @@ use Rattle.gb_bus.specs.declared.queue.Item.TheVariants as code
 use Rattle.gb_bus.specs.declared.slots.Slot.{Slot}
 use Rattle.gb_invariants.specs.Facts.{BusFits, Loose}
 use Rattle.gb_machine.specs.Bus as machine
-use Rattle.gb_machine.specs.Bus.{Request, outcome_of, request_of}
-use Rattle.gb_machine.specs.LawsBus.{AreApart}
+use Rattle.gb_machine.specs.Bus.{Request, connection_of, is_open, outcome_of, request_of}
+use Rattle.gb_machine.specs.Labels.{last_label}
+use Rattle.gb_machine.specs.LawsBus.{AreApart, is_awaited}
 use Rattle.gb_machine.specs.Lists.{nth}
 use Rattle.gb_machine.specs.Members.{EachTwo}
-use Rattle.gb_machine.specs.Requests.{is_given_up}
+use Rattle.gb_machine.specs.Requests.{is_given_up, is_of}
+use Rattle.gb_ops.specs.Operations.{Operations, holder_of, pending_at}
+use Rattle.gb_ops.specs.declared.entries.Holder.{Holder}
+use Rattle.gb_ops.specs.declared.entries.Pending.{Pending}
 
 -- ---- queues
 
@@ -26,9 +32,13 @@ pub record StandsForAsk (requests : List Request) (number label kind : ℕ)
   pub kind_is : request.kind ≡ kind
   pub payload_is : request.payload ≡ payload
 
-pub record StandsForReply (number result : ℕ) (payload : List ℕ)
+-- a queued reply is to the request that was made under its number
+pub record StandsForReply (requests : List Request) (number label result : ℕ) (payload : List ℕ)
     (n r : ℕ) (bytes : List ℕ) : Type 0 where
+  pub request : Request
+  pub made : nth n requests ≡ Some request
   pub number_is : number ≡ n
+  pub label_is : request.label ≡ label
   pub result_is : result ≡ r
   pub payload_is : payload ≡ bytes
 
@@ -36,14 +46,14 @@ pub record StandsForReply (number result : ℕ) (payload : List ℕ)
 abbrev pub StandsForItem : List Request → Item → machine.Item → Type 0
 StandsForItem requests (code.Ask number label kind payload) (machine.Ask n) =
     StandsForAsk requests number label kind payload n
-StandsForItem requests (code.Reply number result payload) (machine.Reply n r bytes) =
-    StandsForReply number result payload n r bytes
+StandsForItem requests (code.Reply number label result payload) (machine.Reply n r bytes) =
+    StandsForReply requests number label result payload n r bytes
 StandsForItem requests (code.Ask number label kind payload) (machine.Reply n r bytes) = ⊥
 StandsForItem requests (code.Ask number label kind payload) (machine.Raw bytes) = ⊥
 StandsForItem requests (code.Ask number label kind payload) (machine.RawReply l k r bytes) = ⊥
-StandsForItem requests (code.Reply number result payload) (machine.Ask n) = ⊥
-StandsForItem requests (code.Reply number result payload) (machine.Raw bytes) = ⊥
-StandsForItem requests (code.Reply number result payload) (machine.RawReply l k r bytes) = ⊥
+StandsForItem requests (code.Reply number label result payload) (machine.Ask n) = ⊥
+StandsForItem requests (code.Reply number label result payload) (machine.Raw bytes) = ⊥
+StandsForItem requests (code.Reply number label result payload) (machine.RawReply l k r bytes) = ⊥
 
 -- the messages of a queue stand for the machine's in order
 abbrev pub StandsForQueue : List Request → List Item → List machine.Item → Type 0
@@ -65,8 +75,6 @@ pub record StandsForConnection (requests : List Request) (x : Connection)
   pub wired : x.wired ≡ c.wired
   pub clean : c.clean ≡ true
   pub shut : x.shut ≡ c.shut
-  pub ap_last : x.ap_last ≡ c.ap_last
-  pub far_last : x.far_last ≡ c.far_last
   pub to_ap : StandsForQueue requests x.to_ap c.to_ap
   pub to_far : StandsForQueue requests x.to_far c.to_far
 
@@ -81,20 +89,62 @@ StandForAll requests (x ∷ xs) [] = ⊥
 -- ---- requests
 
 -- what is kept of a request
-abbrev pub kept : Option Outcome → Bool → Request → Slot
-kept how given_up r = record {
+abbrev pub kept : Option Outcome → Request → Slot
+kept how r = record {
   connection = r.connection;
   side = r.side;
-  label = r.label;
   kind = r.kind;
   deadline = r.deadline;
   outcome = how;
-  given_up = given_up;
 }
 
 -- what is kept of request n
 abbrev pub slot_of : ℕ → machine.Bus → Option Slot
-slot_of n b = option_map (kept (outcome_of n b) (is_given_up n b)) (request_of n b)
+slot_of n b = option_map (kept (outcome_of n b)) (request_of n b)
+
+-- ---- identifiers
+
+-- an open request of a side, by whether it is open and by the request
+abbrev pub pending_by : ℕ → Side → Bool → Option Request → Option Pending
+pending_by k at unended None = None
+pending_by k at unended (Some r) =
+    if unended && is_of k at r
+    then Some (record { label = r.label; deadline = r.deadline })
+    else None
+
+-- request n as an open one of a side of a connection, None where it isn't
+abbrev pub pending_of : ℕ → Side → ℕ → machine.Bus → Option Pending
+pending_of k at n b = pending_by k at (is_open n b) (request_of n b)
+
+-- what the identifier of request n is in use for
+abbrev pub holding : ℕ → machine.Bus → Holder
+holding n b = record { number = n; given_up = is_given_up n b }
+
+-- an identifier of a side is in use for a request that is awaited there
+pub record IsHolder (k : ℕ) (at : Side) (label : ℕ) (h : Holder) (b : machine.Bus) : Type 0 where
+  pub request : Request
+  pub made : request_of h.number b ≡ Some request
+  pub own : is_of k at request ≡ true
+  pub label_is : request.label ≡ label
+  pub awaited : is_awaited h.number b ≡ true
+  pub is : h ≡ holding h.number b
+
+-- What is kept of a side of a connection is what the machine has: its open requests, those whose
+-- identifier is in use, and the last identifier drawn.
+pub record KeepsSide (k : ℕ) (at : Side) (x : Operations) (last : ℕ) (b : machine.Bus) : Type
+    0 where
+  pub last_is : x.last ≡ last
+  pub pending : (n : ℕ) → pending_at x n ≡ pending_of k at n b
+  pub held : (n : ℕ) (r : Request) → request_of n b ≡ Some r → is_of k at r ≡ true
+      → is_awaited n b ≡ true → holder_of x r.label ≡ Some (holding n b)
+  pub used : (label : ℕ) (h : Holder) → holder_of x label ≡ Some h → IsHolder k at label h b
+
+-- so it is of each side of each connection
+abbrev pub KeepSides : List Connection → machine.Bus → Type 0
+KeepSides xs b =
+    (k : ℕ) (at : Side) (x : Connection) (c : machine.Connection)
+    → find (numbered k) xs ≡ Some x → connection_of k b ≡ Some c
+    → KeepsSide k at (ops_of at x) (last_label at c) b
 
 -- ---- the bus
 
@@ -102,6 +152,7 @@ slot_of n b = option_map (kept (outcome_of n b) (is_given_up n b)) (request_of n
 pub record Shows (x : Bus) (b : machine.Bus) : Type 0 where
   pub made : x.made ≡ b.made
   pub connections : StandForAll b.requests x.connections b.connections
+  pub sides : KeepSides x.connections b
   pub count : length b.requests ≡ length x.slots
   pub slots : (n : ℕ) → nth n x.slots ≡ slot_of n b
 

@@ -18,4 +18,4 @@ open_kind (Some slot) = if is_none slot.outcome then Some slot.kind else None
 -- what is told of a message that is dropped
 abbrev pub dropped : Item → Arrival
 dropped (item.Ask number label kind payload) = arrival.Dropped (Some number) false
-dropped (item.Reply number result payload) = arrival.Dropped (Some number) true
+dropped (item.Reply number label result payload) = arrival.Dropped (Some number) true

@@ -5,7 +5,10 @@ ghost use Rattle.gb_invariants.specs.Facts.{Loose};
 ghost use Rattle.gb_machine.specs.Bus as machine;
 ghost use Rattle.gb_machine.specs.Bus.{first_bus, outcome_of};
 ghost use Rattle.gb_machine.specs.Lists.{nth};
+ghost use Rattle.gb_machine.specs.Requests.{is_due, open_requests};
+ghost use Rattle.gb_base.specs.declared.outcome.Outcome.TheVariants as outcome;
 ghost use Rattle.gb_machine.specs.Sending.{draft};
+ghost use Rattle.gb_bus.specs.Slots.{open_place};
 ghost use Rattle.gb_bus.specs.Taking.{dropped, open_kind};
 
 use crate::connections::Connections;
@@ -13,7 +16,8 @@ use crate::ends::{first_outcome, other_side};
 use crate::queue::Item;
 use crate::slots::{Slot, Slots};
 use crate::{AlreadyEnded, Arrival, Arrived, Asked, DeliverFault, SendFault, Sent};
-use gb_base::{Bytes, End, OutOfMemory, Outcome, Side, TryCopy};
+use gb_base::{Bytes, End, Numbers, OutOfMemory, Outcome, Side, TryCopy};
+use gb_ops::{BeginFault, Matched};
 use std::alloc::Global;
 
 /// Connections, requests and queues. Connection 1 is that of the supervisory controller. A call
@@ -27,9 +31,9 @@ pub struct Bus {
 }
 
 impl Bus {
-    ghost use Rattle.gb_bus.specs.Cancelling.{CancelsAs};
+    ghost use Rattle.gb_bus.specs.Cancelling.{GivesUpAs};
     ghost use Rattle.gb_bus.specs.Delivering.{DeliversAs, RepliesAs};
-    ghost use Rattle.gb_bus.specs.Moving.{AnswersAs, HandlesAs, LabelsAs, TakesAs};
+    ghost use Rattle.gb_bus.specs.Moving.{AnswersAs, EndsAs, HandlesAs, LabelsAs, TakesAs};
     ghost use Rattle.gb_bus.specs.Sending.{SendsAs};
     ghost use Rattle.gb_bus.specs.Stands.{Stands};
 
@@ -47,8 +51,8 @@ impl Bus {
 
     /// Makes a request on connection k. `deadline` is in milliseconds. A unidirectional request has
     /// identifier 0, and has ended as sent at once. NoLabel comes where the connection isn't live,
-    /// and for another request where the side has no identifier left. After want of memory nothing
-    /// is said.
+    /// and for another request where all identifiers of the side are in use. After want of memory
+    /// nothing is said. It also comes where no number is left.
     pub fn send(
         &mut self,
         k: u64,
@@ -66,17 +70,16 @@ impl Bus {
             return Err(SendFault::NoLabel);
         };
         let lost = !connection.wired;
-        let Some(label) = self.label_for(k, side, oneway) else {
-            return Err(SendFault::NoLabel);
+        let Some(number) = self.slots.count().checked_add(1) else {
+            return Err(SendFault::Memory(OutOfMemory));
         };
-        let number = self.slots.add(Slot {
+        let label = self.label_for(k, side, number, deadline, oneway)?;
+        self.slots.add(Slot {
             connection: k,
             side,
-            label,
             kind,
             deadline,
             outcome: first_outcome(oneway),
-            given_up: false,
         })?;
         let payload = Bytes::from_slice(self.alloc, payload)?;
         let item = Item::Ask {
@@ -108,7 +111,7 @@ impl Bus {
         let Some(item) = self.connections.pop(connection, side) else {
             return Err(DeliverFault::QueueEmpty);
         };
-        let item = self.handled(item, takes)?;
+        let item = self.handled(connection, side, item, takes)?;
         Ok(Arrived { connection, item })
     }
 
@@ -133,6 +136,7 @@ impl Bus {
         let payload = Bytes::from_slice(self.alloc, payload)?;
         let answer = Item::Reply {
             number,
+            label: asked.label,
             result: code,
             payload,
         };
@@ -144,15 +148,29 @@ impl Bus {
     /// comes. AlreadyEnded comes where n isn't open: it had ended, or it wasn't made.
     pub fn cancel(&mut self, n: u64) -> Result<(), AlreadyEnded>
         ensures step { (loose : List Loose) (b : machine.Bus) → Stands loose self.old b
-            → CancelsAs loose self.new n b result }
+            → GivesUpAs loose self.new outcome.Cancelled n b result }
         ensures unchanged { OnErr result (self.new ≡ self.old) }
     {
-        if self.open_kind(n).is_none() {
-            return Err(AlreadyEnded);
-        }
-        self.slots.end(n, Outcome::Cancelled);
-        self.slots.mark(n, true);
-        Ok(())
+        self.give_up(n, Outcome::Cancelled)
+    }
+
+    /// Gives up request n, which ends as timed out. Its identifier stays in use until its answer
+    /// comes. AlreadyEnded comes where n isn't open.
+    pub fn expire(&mut self, n: u64) -> Result<(), AlreadyEnded>
+        ensures step { (loose : List Loose) (b : machine.Bus) → Stands loose self.old b
+            → GivesUpAs loose self.new outcome.Timeout n b result }
+        ensures unchanged { OnErr result (self.new ≡ self.old) }
+    {
+        self.give_up(n, Outcome::Timeout)
+    }
+
+    /// The open requests whose deadline came, in order of number. `now` is in milliseconds.
+    pub fn due(&self, now: u64) -> Result<Numbers, OutOfMemory>
+        ensures { IfOk result (λ ns. (loose : List Loose) (b : machine.Bus)
+            → Stands loose self.now b → ns ≡ open_requests (is_due now) b) }
+    {
+        let due = self.slots.due(now)?;
+        Ok(due)
     }
 
     /// How request n ended, None where it is open or wasn't made.
@@ -163,31 +181,61 @@ impl Bus {
         self.slots.get(n)?.outcome.as_ref()
     }
 
-    /// The identifier of the next request of a side, None where none is left.
-    fn label_for(&mut self, k: u64, side: Side, oneway: bool) -> Option<u16>
-        ensures { LabelsAs self.old self.new k side oneway result }
+    /// The identifier of request n of a side: 0 where it is unidirectional.
+    fn label_for(
+        &mut self,
+        k: u64,
+        side: Side,
+        n: u64,
+        deadline: u64,
+        oneway: bool,
+    ) -> Result<u16, SendFault>
+        ensures { LabelsAs self.old self.new k side n deadline oneway result }
     {
         if oneway {
-            Some(0)
-        } else {
-            self.connections.draw(k, side)
+            return Ok(0);
+        }
+        match self.connections.begin(k, side, n, deadline) {
+            Ok(label) => Ok(label),
+            Err(BeginFault::NoLabel) => Err(SendFault::NoLabel),
+            Err(BeginFault::Memory(refused)) => Err(SendFault::Memory(refused)),
         }
     }
 
-    /// What a message brings to an end, which takes it or drops it.
-    fn handled(&mut self, item: Item, takes: bool) -> Result<Arrival, DeliverFault>
-        ensures { HandlesAs self.old self.new takes item result }
+    /// Gives up request n, which ends so.
+    fn give_up(&mut self, n: u64, how: Outcome) -> Result<(), AlreadyEnded>
+        ensures step { (loose : List Loose) (b : machine.Bus) → Stands loose self.old b
+            → GivesUpAs loose self.new how n b result }
+        ensures unchanged { OnErr result (self.new ≡ self.old) }
+    {
+        let Some((k, side)) = self.open_place(n) else {
+            return Err(AlreadyEnded);
+        };
+        self.connections.give_up(k, side, n);
+        self.slots.end(n, how);
+        Ok(())
+    }
+
+    /// What a message brings to a side of a connection, which takes it or drops it.
+    fn handled(
+        &mut self,
+        k: u64,
+        side: Side,
+        item: Item,
+        takes: bool,
+    ) -> Result<Arrival, DeliverFault>
+        ensures { HandlesAs self.old self.new k side takes item result }
     {
         if takes {
-            self.arrival(item)
+            self.arrival(k, side, item)
         } else {
             Ok(dropped(item))
         }
     }
 
-    /// What a message brings to an end that takes it.
-    fn arrival(&mut self, item: Item) -> Result<Arrival, DeliverFault>
-        ensures { TakesAs self.old self.new item result }
+    /// What a message brings to a side of a connection that takes it.
+    fn arrival(&mut self, k: u64, side: Side, item: Item) -> Result<Arrival, DeliverFault>
+        ensures { TakesAs self.old self.new k side item result }
     {
         match item {
             Item::Ask {
@@ -205,20 +253,46 @@ impl Bus {
             }),
             Item::Reply {
                 number,
+                label,
                 result: code,
                 payload,
-            } => self.answer(number, code, payload),
+            } => self.answer(k, side, number, label, code, payload),
         }
     }
 
-    /// What an answer brings: it ends its request where that is open, or else frees its identifier.
-    fn answer(&mut self, number: u64, code: u8, payload: Bytes) -> Result<Arrival, DeliverFault>
-        ensures { AnswersAs self.old self.new number code payload result }
+    /// What an answer brings. It belongs to the request that its identifier is in use for, and the
+    /// identifier is free then. It ends its request where that is open, or else is late. It is late
+    /// too where its request was over when its side was closed.
+    fn answer(
+        &mut self,
+        k: u64,
+        side: Side,
+        number: u64,
+        label: u16,
+        code: u8,
+        payload: Bytes,
+    ) -> Result<Arrival, DeliverFault>
+        ensures { AnswersAs self.old self.new k side number label code payload result }
     {
-        let Some(kind) = self.open_kind(number) else {
-            self.slots.mark(number, false);
-            return Ok(Arrival::Late { number });
-        };
+        match (
+            self.connections.matched(k, side, number, label),
+            self.open_kind(number),
+        ) {
+            (Matched::Open(_), Some(kind)) => self.ended(number, kind, code, payload),
+            _ => Ok(Arrival::Late { number }),
+        }
+    }
+
+    /// An open request is answered.
+    fn ended(
+        &mut self,
+        number: u64,
+        kind: u8,
+        code: u8,
+        payload: Bytes,
+    ) -> Result<Arrival, DeliverFault>
+        ensures { EndsAs self.old self.new number kind code payload result }
+    {
         let payload = if code == 0 {
             payload
         } else {
@@ -243,6 +317,16 @@ impl Bus {
     {
         match self.slots.get(n) {
             Some(slot) if slot.outcome.is_none() => Some(slot.kind),
+            _ => None,
+        }
+    }
+
+    /// The connection and the side of request n, None where n isn't open.
+    fn open_place(&self, n: u64) -> Option<(u64, Side)>
+        ensures { result ≡ open_place (nth n self.now.slots) }
+    {
+        match self.slots.get(n) {
+            Some(slot) if slot.outcome.is_none() => Some((slot.connection, slot.side)),
             _ => None,
         }
     }

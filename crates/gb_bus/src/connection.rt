@@ -1,7 +1,8 @@
 //! A live connection.
 
-ghost use Rattle.std.specs.Prelude.{◌≡◌, [], ◌∷◌, ◌++◌, OnOk, length};
-ghost use Rattle.gb_bus.specs.Parts.{PopsAs, cleared, earliest_of, is_wired_to, last_of, next_of, put, queue_of, side_at, with_last};
+ghost use Rattle.std.specs.Prelude.{◌≡◌, [], ◌∷◌, ◌++◌, IfOk, OnOk, is_none, length};
+ghost use Rattle.gb_bus.specs.Parts.{PopsAs, cleared, closed, earliest_of, is_wired_to, next_of, put, queue_of, side_at};
+ghost use Rattle.gb_bus.specs.Sides.{BeginsOn, GivesUpOn, MatchesAs, MatchesOn};
 ghost use Rattle.gb_bus.specs.Telling.{known_as, with_ends};
 
 use crate::ends::earlier;
@@ -9,10 +10,8 @@ use crate::queue::{Item, Queue};
 use crate::telling::add_end;
 use crate::{Known, Waiting};
 use gb_base::{End, OutOfMemory, Sequence, Side};
+use gb_ops::{BeginFault, Matched, Ops};
 use std::alloc::Global;
-
-/// The greatest identifier.
-const GREATEST_LABEL: u16 = 65_535;
 
 /// A connection between a CPort of the application processor and a far end.
 #[derive(Drop)]
@@ -29,10 +28,10 @@ pub struct Connection {
     pub wired: bool,
     /// The side of the application processor is closed.
     pub shut: bool,
-    /// The last identifier that the side of the application processor drew, 0 before the first.
-    pub ap_last: u16,
-    /// The last identifier that the far side drew.
-    pub far_last: u16,
+    /// The requests of the application processor's side whose identifiers are in use.
+    pub ap_ops: Ops,
+    /// Those of the far side.
+    pub far_ops: Ops,
     /// The messages toward the application processor.
     pub to_ap: Queue,
     /// The messages toward the far end.
@@ -43,21 +42,27 @@ impl Connection {
     ghost use Rattle.gb_bus.specs.Parts.{new_connection};
 
     /// A connection that isn't wired, on which nothing was drawn.
-    pub fn new(alloc: Global, number: u64, ap: u16, peer: End, protocol: u8) -> Connection
-        ensures { result ≡ new_connection number ap peer protocol }
+    pub fn new(
+        alloc: Global,
+        number: u64,
+        ap: u16,
+        peer: End,
+        protocol: u8,
+    ) -> Result<Connection, OutOfMemory>
+        ensures { IfOk result (λ x. x ≡ new_connection number ap peer protocol) }
     {
-        Connection {
+        Ok(Connection {
             number,
             ap,
             peer,
             protocol,
             wired: false,
             shut: false,
-            ap_last: 0,
-            far_last: 0,
+            ap_ops: Ops::new(alloc)?,
+            far_ops: Ops::new(alloc)?,
             to_ap: Queue::new(alloc),
             to_far: Queue::new(alloc),
-        }
+        })
     }
 
     /// It is wired, to a module at an interface.
@@ -70,29 +75,47 @@ impl Connection {
         }
     }
 
-    /// The identifier that a side draws next, None where none is left.
-    pub fn next_label(&self, side: Side) -> Option<u16>
-        ensures { result ≡ next_of side self.now }
+    /// All identifiers of a side are in use.
+    pub fn is_spent(&self, side: Side) -> bool
+        ensures { result ≡ is_none (next_of side self.now) }
     {
-        let last = match side {
-            Side::Ap => self.ap_last,
-            Side::Far => self.far_last,
-        };
-        if last < GREATEST_LABEL {
-            Some(last + 1)
-        } else {
-            None
+        match side {
+            Side::Ap => self.ap_ops.is_spent(),
+            Side::Far => self.far_ops.is_spent(),
         }
     }
 
-    /// This is the last identifier that a side drew now.
-    pub fn set_last(&mut self, side: Side, label: u16)
-        ensures { self.new ≡ with_last side label self.old }
+    /// Request n of a side is open from now on, and its identifier is answered. After NoLabel all
+    /// is as before.
+    pub fn begin(&mut self, side: Side, n: u64, deadline: u64) -> Result<u16, BeginFault>
+        ensures { BeginsOn self.old self.new side n deadline result }
     {
         match side {
-            Side::Ap => self.ap_last = label,
-            Side::Far => self.far_last = label,
+            Side::Ap => self.ap_ops.begin(n, deadline),
+            Side::Far => self.far_ops.begin(n, deadline),
         }
+    }
+
+    /// What an answer to request n with an identifier comes to on a side. The identifier is free
+    /// then. Unknown comes where the identifier isn't in use for request n: that was over when
+    /// its side was closed.
+    pub fn matched(&mut self, side: Side, n: u64, label: u16) -> Matched
+        ensures { MatchesOn self.old self.new side n label result }
+    {
+        match side {
+            Side::Ap => matched(&mut self.ap_ops, n, label),
+            Side::Far => matched(&mut self.far_ops, n, label),
+        }
+    }
+
+    /// Request n of a side is given up, where it is open. Its identifier stays in use.
+    pub fn give_up(&mut self, side: Side, n: u64)
+        ensures { GivesUpOn self.old self.new side n }
+    {
+        match side {
+            Side::Ap => self.ap_ops.give_up(n),
+            Side::Far => self.far_ops.give_up(n),
+        };
     }
 
     /// Adds a message to the queue toward a side. It is lost where the connection isn't wired.
@@ -118,13 +141,23 @@ impl Connection {
         }
     }
 
-    /// It isn't wired any more, and what waited in its queues is lost.
+    /// It isn't wired any more, what waited in its queues is lost, and all identifiers of the far
+    /// side are free.
     pub fn clear(&mut self)
         ensures { self.new ≡ cleared self.old }
     {
         self.wired = false;
         self.to_ap.clear();
         self.to_far.clear();
+        self.far_ops.close_all();
+    }
+
+    /// The application processor's side is closed, and all its identifiers are free.
+    pub fn shut(&mut self)
+        ensures { self.new ≡ closed self.old }
+    {
+        self.shut = true;
+        self.ap_ops.close_all();
     }
 
     /// How many messages wait toward a side.
@@ -187,5 +220,15 @@ impl Connection {
         }
         add_end(self.peer, self.to_far.len(), ordered)?;
         add_end(End::Ap(self.ap), self.to_ap.len(), ordered)
+    }
+}
+
+/// What an answer to request n with an identifier comes to on one side.
+fn matched(ops: &mut Ops, n: u64, label: u16) -> Matched
+    ensures { MatchesAs ops.old ops.new n label result }
+{
+    match ops.holder(label) {
+        Some(holder) if holder.number == n => ops.reply(label),
+        _ => Matched::Unknown,
     }
 }

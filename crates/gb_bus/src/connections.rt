@@ -10,6 +10,7 @@ use crate::connection::Connection;
 use crate::queue::Item;
 use crate::{Known, Waiting};
 use gb_base::{End, Numbers, OutOfMemory, Sequence, Side};
+use gb_ops::{BeginFault, Matched};
 use std::alloc::Global;
 use std::marker::Model;
 
@@ -32,13 +33,14 @@ impl Model for Connections {
 }
 
 impl Connections {
-    ghost use Rattle.gb_bus.specs.Parts.{DrawsAs, TakesFrontAs, earliest_in};
+    ghost use Rattle.gb_bus.specs.Parts.{TakesFrontAs, earliest_in};
+    ghost use Rattle.gb_bus.specs.Sides.{BeginsIn, GivesUpIn, MatchesIn};
 
     /// The connection of the supervisory controller alone, open for ever.
     pub fn new(alloc: Global) -> Result<Connections, OutOfMemory>
         ensures { IfOk result (λ x. x ≡ svc ∷ []) }
     {
-        let mut svc = Connection::new(alloc, 1, 0, End::Svc, SVC_PROTOCOL);
+        let mut svc = Connection::new(alloc, 1, 0, End::Svc, SVC_PROTOCOL)?;
         svc.wired = true;
         let mut live = Vec::new(alloc);
         live.push(svc)?;
@@ -161,7 +163,8 @@ impl Connections {
         }
     }
 
-    /// A connection isn't wired any more, and what waited in its queues is lost.
+    /// A connection isn't wired any more, what waited in its queues is lost, and all identifiers of
+    /// its far side are free.
     pub fn unwire(&mut self, k: u64)
         ensures { self.new ≡ at_first (numbered k) cleared self.old }
     {
@@ -170,12 +173,13 @@ impl Connections {
         }
     }
 
-    /// The application processor's side of a connection is closed.
+    /// The application processor's side of a connection is closed, and all its identifiers are
+    /// free.
     pub fn shut(&mut self, k: u64)
         ensures { self.new ≡ at_first (numbered k) closed self.old }
     {
         if let Some(i) = self.index(k) {
-            self.live[i].shut = true;
+            self.live[i].shut();
         }
     }
 
@@ -186,14 +190,36 @@ impl Connections {
         self.live.retain(|connection| connection.number != k);
     }
 
-    /// Draws the next identifier of a side of a connection.
-    pub fn draw(&mut self, k: u64, side: Side) -> Option<u16>
-        ensures { DrawsAs self.old self.new k side result }
+    /// Request n of a side of a connection is open from now on, and its identifier is answered.
+    /// NoLabel comes where the connection isn't live too. Nothing changes then.
+    pub fn begin(&mut self, k: u64, side: Side, n: u64, deadline: u64) -> Result<u16, BeginFault>
+        ensures { BeginsIn self.old self.new k side n deadline result }
     {
-        let i = self.index(k)?;
-        let label = self.live[i].next_label(side)?;
-        self.live[i].set_last(side, label);
-        Some(label)
+        match self.index(k) {
+            Some(i) => self.live[i].begin(side, n, deadline),
+            None => Err(BeginFault::NoLabel),
+        }
+    }
+
+    /// What an answer to request n with an identifier comes to on a side of a connection. The
+    /// identifier is free then. Unknown comes where it isn't in use for request n there.
+    pub fn matched(&mut self, k: u64, side: Side, n: u64, label: u16) -> Matched
+        ensures { MatchesIn self.old self.new k side n label result }
+    {
+        match self.index(k) {
+            Some(i) => self.live[i].matched(side, n, label),
+            None => Matched::Unknown,
+        }
+    }
+
+    /// Request n of a side of a connection is given up, where it is open. Its identifier stays in
+    /// use.
+    pub fn give_up(&mut self, k: u64, side: Side, n: u64)
+        ensures { GivesUpIn self.old self.new k side n }
+    {
+        if let Some(i) = self.index(k) {
+            self.live[i].give_up(side, n);
+        }
     }
 
     /// Adds a message to the queue toward a side of a connection. It is lost where the connection

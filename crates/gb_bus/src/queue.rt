@@ -27,6 +27,8 @@ pub enum Item {
     Reply {
         /// The request.
         number: u64,
+        /// Its identifier.
+        label: u16,
         /// The result byte.
         result: u8,
         /// The payload.

@@ -1,8 +1,8 @@
 //! What the bus keeps of each request that was made.
 
-ghost use Rattle.std.specs.Prelude.{◌≡◌, ◌+◌, [], ◌∷◌, ◌++◌, length, map, IfOk, option_copied};
+ghost use Rattle.std.specs.Prelude.{◌≡◌, ◌+◌, [], ◌∷◌, ◌++◌, length, map, IfOk, OnOk, option_copied};
 ghost use Rattle.gb_machine.specs.Lists.{nth};
-ghost use Rattle.gb_bus.specs.Slots.{at_number, is_open_on, open_in, over, with_mark, with_outcome};
+ghost use Rattle.gb_bus.specs.Slots.{at_number, is_due, is_open_on, open_in, over, with_outcome};
 
 use gb_base::{Numbers, OutOfMemory, Outcome, Side};
 use std::alloc::Global;
@@ -15,16 +15,12 @@ pub struct Slot {
     pub connection: u64,
     /// The side that made it.
     pub side: Side,
-    /// Its identifier, 0 where it is unidirectional.
-    pub label: u16,
     /// Its type.
     pub kind: u8,
     /// When it times out, in milliseconds.
     pub deadline: u64,
     /// How it ended, None while it is open.
     pub outcome: Option<Outcome>,
-    /// It was given up, and its answer hasn't come.
-    pub given_up: bool,
 }
 
 impl Slot {
@@ -35,17 +31,20 @@ impl Slot {
         self.connection == k && self.side == side && self.outcome.is_none()
     }
 
-    /// A side of a connection is closed: what it made ends, and is given up no more.
+    /// It is open, and its deadline came.
+    fn is_due(&self, now: u64) -> bool
+        ensures { result ≡ is_due now self.now }
+    {
+        self.deadline <= now && self.outcome.is_none()
+    }
+
+    /// A side of a connection is closed: what it made ends.
     fn close(&mut self, k: u64, side: Side)
         ensures { self.new ≡ over k side self.old }
     {
-        if self.connection != k || self.side != side {
-            return;
-        }
-        if self.outcome.is_none() {
+        if self.is_open_on(k, side) {
             self.outcome = Some(Outcome::Disconnected);
         }
-        self.given_up = false;
     }
 }
 
@@ -74,13 +73,12 @@ impl Slots {
         }
     }
 
-    /// Keeps a new request, and answers its number.
-    pub fn add(&mut self, slot: Slot) -> Result<u64, OutOfMemory>
-        ensures number { IfOk result (λ n. n ≡ length self.old + 1) }
-        ensures ok { IfOk result (λ _. self.new ≡ self.old ++ slot ∷ []) }
+    /// Keeps a new request.
+    pub fn add(&mut self, slot: Slot) -> Result<(), OutOfMemory>
+        ensures { OnOk result (self.new ≡ self.old ++ slot ∷ []) }
     {
         self.slots.push(slot)?;
-        Ok(self.slots.len() as u64)
+        Ok(())
     }
 
     /// The slot of request n, None where n wasn't made.
@@ -103,19 +101,9 @@ impl Slots {
         self.slots[(n - 1) as usize].outcome = Some(outcome);
     }
 
-    /// Request n, where it was made, is marked as given up or as no more so.
-    pub fn mark(&mut self, n: u64, given_up: bool)
-        ensures { self.new ≡ at_number n (with_mark given_up) self.old }
-    {
-        if n == 0 || n > self.slots.len() as u64 {
-            return;
-        }
-        self.slots[(n - 1) as usize].given_up = given_up;
-    }
-
     /// The open requests of a side of a connection, in order of number.
     pub fn open_on(&self, k: u64, side: Side) -> Result<Numbers, OutOfMemory>
-        ensures { IfOk result (λ ns. ns ≡ open_in 1 k side self.now) }
+        ensures { IfOk result (λ ns. ns ≡ open_in (is_open_on k side) 1 self.now) }
     {
         let mut open = Numbers::new(*self.slots.allocator());
         for (i, slot) in self.slots.iter().enumerate() {
@@ -126,8 +114,27 @@ impl Slots {
         Ok(open)
     }
 
-    /// The requests of a side of a connection are over: the open ones end as disconnected, and none
-    /// is given up any more.
+    /// The open requests whose deadline came, in order of number.
+    pub fn due(&self, now: u64) -> Result<Numbers, OutOfMemory>
+        ensures { IfOk result (λ ns. ns ≡ open_in (is_due now) 1 self.now) }
+    {
+        let mut due = Numbers::new(*self.slots.allocator());
+        for (i, slot) in self.slots.iter().enumerate() {
+            if slot.is_due(now) {
+                due.push(i as u64 + 1)?;
+            }
+        }
+        Ok(due)
+    }
+
+    /// How many requests were made.
+    pub fn count(&self) -> u64
+        ensures { result ≡ length self.now }
+    {
+        self.slots.len() as u64
+    }
+
+    /// The open requests of a side of a connection end as disconnected.
     pub fn close(&mut self, k: u64, side: Side)
         ensures { self.new ≡ map (over k side) self.old }
     {

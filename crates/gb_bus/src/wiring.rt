@@ -54,8 +54,8 @@ impl Bus {
             return Err(OutOfMemory);
         };
         let peer = End::Module { intf, cport };
-        self.connections
-            .add(Connection::new(self.alloc, number, ap, peer, protocol))?;
+        let connection = Connection::new(self.alloc, number, ap, peer, protocol)?;
+        self.connections.add(connection)?;
         self.made = number;
         Ok(number)
     }
@@ -186,7 +186,7 @@ impl Bus {
             → result ≡ is_none (next_label k side b) }
     {
         match self.connections.get(k) {
-            Some(connection) => connection.next_label(side).is_none(),
+            Some(connection) => connection.is_spent(side),
             None => true,
         }
     }

@@ -1,0 +1,90 @@
+-- The requests of one side of a connection whose identifiers are in use, and what changes them.
+use Rattle.std.specs.Prelude.{◌≡◌, ◌≢◌, ◌⊎◌, ℕ, Option, Some, None, option_and_then, Result, Ok, Err, List, ⊤, find}
+use Rattle.gb_base.specs.declared.end.Side.{Side}
+use Rattle.gb_base.specs.declared.end.Side.TheVariants as side
+use Rattle.gb_bus.specs.Parts.{next_in, numbered, ops_of, with_ops}
+use Rattle.gb_bus.specs.declared.connection.Connection.{Connection}
+use Rattle.gb_machine.specs.Lists.{at_first}
+use Rattle.gb_ops.specs.Calls.{Begins, Ends, Forgets, GivesUp}
+use Rattle.gb_ops.specs.Operations.{Operations, holder_of, next_label, pending_at}
+use Rattle.gb_ops.specs.declared.entries.BeginFault.{BeginFault}
+use Rattle.gb_ops.specs.declared.entries.BeginFault.TheVariants as begin
+use Rattle.gb_ops.specs.declared.entries.Holder.{Holder}
+use Rattle.gb_ops.specs.declared.entries.Matched.{Matched}
+use Rattle.gb_ops.specs.declared.entries.Matched.TheVariants as matched
+
+-- ---- one side
+
+-- an identifier isn't in use for request n
+abbrev pub IsNotOf : ℕ → Option Holder → Type 0
+IsNotOf n None = Unit {0}
+IsNotOf n (Some h) = h.number ≢ n
+
+-- What an answer to request n with an identifier comes to: it is open, or was given up, or the
+-- identifier isn't in use for it. Then nothing changes.
+abbrev pub MatchesAs : Operations → Operations → ℕ → ℕ → Matched → Type 0
+MatchesAs old new n label (matched.Open m) = (m ≡ n) × Ends old new label n
+MatchesAs old new n label (matched.Late m) = (m ≡ n) × Forgets old new label n
+MatchesAs old new n label matched.Unknown = IsNotOf n (holder_of old label) × (new ≡ old)
+
+-- Request n is given up, or wasn't open.
+abbrev pub GivesUpWhere : Operations → Operations → ℕ → Type 0
+GivesUpWhere old new n = GivesUp old new n ⊎ ((pending_at old n ≡ None) × (new ≡ old))
+
+-- ---- one connection
+
+-- of a connection one side changes so
+abbrev pub OnSide : Connection → Connection → Side → (Operations → Operations → Type 0) → Type 0
+OnSide old new at R =
+    R (ops_of at old) (ops_of at new) × (new ≡ with_ops at (ops_of at new) old)
+
+-- By cases on the answer. After want of memory nothing is said.
+abbrev pub BeginsOn : Connection → Connection → Side → ℕ → ℕ → Result ℕ BeginFault → Type 0
+BeginsOn old new at n deadline (Ok label) = OnSide old new at (λ x y. Begins x y n deadline label)
+BeginsOn old new at n deadline (Err begin.NoLabel) =
+    (next_label (ops_of at old) ≡ None) × (new ≡ old)
+BeginsOn old new at n deadline (Err (begin.Memory m)) = ⊤
+
+abbrev pub MatchesOn : Connection → Connection → Side → ℕ → ℕ → Matched → Type 0
+MatchesOn old new at n label m = OnSide old new at (λ x y. MatchesAs x y n label m)
+
+abbrev pub GivesUpOn : Connection → Connection → Side → ℕ → Type 0
+GivesUpOn old new at n = OnSide old new at (λ x y. GivesUpWhere x y n)
+
+-- ---- the connections
+
+-- a side of the connection with a number changes so
+pub record ChangesSide (old new : List Connection) (k : ℕ) (at : Side)
+    (R : Operations → Operations → Type 0) : Type 0 where
+  pub connection : Connection
+  pub after : Operations
+  pub found : find (numbered k) old ≡ Some connection
+  pub did : R (ops_of at connection) after
+  pub rest : new ≡ at_first (numbered k) (with_ops at after) old
+
+-- By cases on the answer. After want of memory nothing is said.
+abbrev pub BeginsIn : List Connection → List Connection → ℕ → Side → ℕ → ℕ
+    → Result ℕ BeginFault → Type 0
+BeginsIn old new k at n deadline (Ok label) =
+    ChangesSide old new k at (λ x y. Begins x y n deadline label)
+BeginsIn old new k at n deadline (Err begin.NoLabel) = (next_in k at old ≡ None) × (new ≡ old)
+BeginsIn old new k at n deadline (Err (begin.Memory m)) = ⊤
+
+-- a side changes so, or the connection isn't live and nothing changes
+abbrev pub ChangesAs : List Connection → List Connection → ℕ → Side
+    → (Operations → Operations → Type 0) → Type 0
+ChangesAs old new k at R =
+    ChangesSide old new k at R ⊎ ((find (numbered k) old ≡ None) × (new ≡ old))
+
+-- By cases on the answer.
+abbrev pub MatchesIn : List Connection → List Connection → ℕ → Side → ℕ → ℕ → Matched → Type 0
+MatchesIn old new k at n label (matched.Open m) =
+    ChangesSide old new k at (λ x y. MatchesAs x y n label (matched.Open m))
+MatchesIn old new k at n label (matched.Late m) =
+    ChangesSide old new k at (λ x y. MatchesAs x y n label (matched.Late m))
+MatchesIn old new k at n label matched.Unknown =
+    IsNotOf n (option_and_then (λ c. holder_of (ops_of at c) label) (find (numbered k) old))
+    × (new ≡ old)
+
+abbrev pub GivesUpIn : List Connection → List Connection → ℕ → Side → ℕ → Type 0
+GivesUpIn old new k at n = ChangesAs old new k at (λ x y. GivesUpWhere x y n)
