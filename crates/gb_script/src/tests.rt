@@ -111,10 +111,7 @@ fn is_ping(said: &Result<Option<Event>, LineFault>) -> bool {
 }
 
 /// A line for each form that isn't built.
-const NOT_BUILT: &[&str] = &[
-    "insert 2 raw 0aFf",
-    "inject 2 1 -",
-];
+const NOT_BUILT: &[&str] = &["insert 2 raw 0aFf", "inject 2 1 -"];
 
 /// A line for each form of a bridge line, and of what devices have from outside.
 const BRIDGED: &[&str] = &[
@@ -155,6 +152,41 @@ fn names_forms_that_are_not_built(rt: HostRuntime) {
             "{line}"
         );
     }
+}
+
+#[test]
+fn reads_times_and_places(rt: HostRuntime) {
+    let alloc = rt.alloc();
+    let tick = event(alloc, b"tick 4294967295", 0);
+    assert!(rt;
+        matches!(
+            tick,
+            Ok(Some(Event::Tick {
+                millis: 4_294_967_295
+            }))
+        )
+    );
+    let hold = event(alloc, b"hold 31 4095", 0);
+    assert!(rt;
+        matches!(
+            hold,
+            Ok(Some(Event::Hold {
+                intf: 31,
+                cport: 4095
+            }))
+        )
+    );
+    let answer = event(alloc, b"answer 2 1 4294967295", 0);
+    assert!(rt;
+        matches!(
+            answer,
+            Ok(Some(Event::Answer {
+                intf: 2,
+                cport: 1,
+                place: 4_294_967_295
+            }))
+        )
+    );
 }
 
 #[test]
