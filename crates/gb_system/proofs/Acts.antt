@@ -25,7 +25,7 @@ use Rattle.gb_machine.specs.Failures.{unsent}
 use Rattle.gb_machine.specs.Host as machine_host
 use Rattle.gb_machine.specs.Host.{link_at, with_new_link}
 use Rattle.gb_machine.specs.HostActs.{asked_with, fails, host_asks, host_draft, made_for, with_awaited, with_made}
-use Rattle.gb_machine.specs.Labels.{fresh_label, next_label}
+use Rattle.gb_machine.specs.Labels.{cyclic_label, next_label}
 use Rattle.gb_machine.specs.Lists.{without}
 use Rattle.gb_machine.specs.Requests.{open_on}
 use Rattle.gb_machine.specs.Sending.{Draft, draft, label_for}
@@ -153,7 +153,7 @@ label-next d b twoway =
     by : (o : Option Connection) → connection_of d.connection b ≡ o
         → option_and_then (λ c. next_label d.connection d.side b) o
         ≡ next_label d.connection d.side b
-    by None e = sym (ap (option_and_then (fresh_label d.side)) e)
+    by None e = sym (ap (option_and_then (cyclic_label d.connection d.side b)) e)
     by (Some c) e = refl
 
 -- the request of an act, as it is made at this time

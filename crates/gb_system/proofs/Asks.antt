@@ -1,5 +1,5 @@
 -- A request is made as the machine makes it.
-use Rattle.std.proofs.Common.{◌≡◌, ◌==◌, nat_lt, ℕ, ◌+◌, Bool, true, false, cond, Option, Some, None, option_map, option_and_then, List, [], ◌∷◌, ◌++◌, append_assoc, refl, sym, ap, ◌∙◌, subst, arith}
+use Rattle.std.proofs.Common.{◌≡◌, ◌≤◌, ◌==◌, nat_lt, ℕ, ◌+◌, Bool, true, false, cond, Option, Some, None, option_map, option_and_then, List, [], ◌∷◌, ◌++◌, append_assoc, refl, sym, ap, ◌∙◌, subst, arith}
 use Rattle.std.proofs.lemmas.Bool.Decides.{nat_tests}
 use Rattle.gb_base.specs.declared.bridge.Reading.TheVariants as reading
 use Rattle.gb_base.specs.declared.end.End.{End}
@@ -21,7 +21,8 @@ use Rattle.gb_machine.specs.Actions.{Action, given, nothing, on_bus, tell, when,
 use Rattle.gb_machine.specs.Asking.{asked, asks, asks_with}
 use Rattle.gb_machine.specs.Bus as machine
 use Rattle.gb_machine.specs.Bus.{Connection, connection_of, end_of, next_number, other_side}
-use Rattle.gb_machine.specs.Labels.{fresh_label, greatest_label, last_label, next_label}
+use Rattle.gb_invariants.proofs.Drawing.{drawn-is-free}
+use Rattle.gb_machine.specs.Labels.{next_label}
 use Rattle.gb_machine.specs.OwnAsking.{far_asks, far_asks_all}
 use Rattle.gb_machine.specs.Sending.{Draft, draft, is_lost, is_wired, label_for, requested, sent}
 use Rattle.gb_machine.specs.State.{State}
@@ -97,24 +98,15 @@ label-sound : (d : Draft) (b : machine.Bus) (label : ℕ) → label_for d b ≡ 
     → (label == 0) ≡ d.oneway
 label-sound d b label h = by d.oneway refl h
   where
-    drawn : (o : Option Connection) → option_and_then (fresh_label d.side) o ≡ Some label
-        → (label == 0) ≡ false
-    drawn None e = absurd cc
-    drawn (Some c) e = above (nat_lt (last_label d.side c) greatest_label) e
-      where
-        above : (t : Bool) → cond t (Some (last_label d.side c + 1)) None ≡ Some label
-            → (label == 0) ≡ false
-        above true f = let same : last_label d.side c + 1 ≡ label = cc in
-            let more : (last_label d.side c + 1 == 0) ≡ false = grind (arith, nat_tests) in
-            subst (λ n. (n == 0) ≡ false) same more
-        above false f = absurd cc
+    above : 1 ≤ label → (label == 0) ≡ false
+    above least = grind (arith, nat_tests)
 
     by : (t : Bool) → d.oneway ≡ t
         → cond t (Some 0) (next_label d.connection d.side b) ≡ Some label
         → (label == 0) ≡ d.oneway
     by true e f = let same : 0 ≡ label = cc in
         subst (λ n. (n == 0) ≡ true) same refl ∙ sym e
-    by false e f = drawn (connection_of d.connection b) f ∙ sym e
+    by false e f = above (drawn-is-free d.connection d.side b label f).least ∙ sym e
 
 -- the requests are sound still
 sound-sent : (d : Draft) (b : machine.Bus) (label : ℕ) → AreSound b → IsAskable d.kind d.payload

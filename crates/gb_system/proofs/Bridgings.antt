@@ -128,7 +128,7 @@ pub bridge-spent : (x : Parties) (s : State) (name : Name) (i c k : ℕ) (what :
     → SendsAs (first_met (send_conditions i c s.host)) (link_at i c s.host) (Ok k)
     → BridgesThere s.host k what old new (Ok b)
     → spent ≡ is_none (next_label k side.Ap s.bus) → spent ≡ true
-    → BridgesTo s name i c what old new (Err why.LabelsSpent)
+    → BridgesTo s name i c what old new (Err why.NoLabel)
 bridge-spent x s name i c k what old new b spent st free way writes is it =
     by-label x s name i c k what old new b spent st free way writes is
     ∙ ap (λ t. cond t (Some no_label) None) it

@@ -51,9 +51,9 @@ connect-last s i c spent free is =
 pub connect-spent : (x : Parties) (s : State) (i c : ℕ) (spent : Bool) (es : List Entry)
     → PartiesStand x s → first_met (connect_conditions i c s.host) ≡ None
     → spent ≡ is_none (next_label 1 side.Ap s.bus) → spent ≡ true
-    → es ≡ entry.Refused why.LabelsSpent ∷ [] → PartsStep x s (event.Connect i c) (Ok es)
+    → es ≡ entry.Refused why.NoLabel ∷ [] → PartsStep x s (event.Connect i c) (Ok es)
 connect-spent x s i c spent es st free by so is =
-    lands-refused x s (event.Connect i c) why.LabelsSpent es
+    lands-refused x s (event.Connect i c) why.NoLabel es
     (connect-last s i c spent free by ∙ ap (λ b. first_met ((b, no_label) ∷ [])) so) is st.parts
 
 -- it is done
@@ -100,9 +100,9 @@ disconnect-last s i c spent free is =
 pub disconnect-spent : (x : Parties) (s : State) (i c : ℕ) (spent : Bool) (es : List Entry)
     → PartiesStand x s → first_met (disconnect_conditions i c s.host) ≡ None
     → spent ≡ control_spent s i → spent ≡ true
-    → es ≡ entry.Refused why.LabelsSpent ∷ [] → PartsStep x s (event.Disconnect i c) (Ok es)
+    → es ≡ entry.Refused why.NoLabel ∷ [] → PartsStep x s (event.Disconnect i c) (Ok es)
 disconnect-spent x s i c spent es st free by so is =
-    lands-refused x s (event.Disconnect i c) why.LabelsSpent es
+    lands-refused x s (event.Disconnect i c) why.NoLabel es
     (disconnect-last s i c spent free by
     ∙ ap (λ b. first_met ((b, no_label) ∷ [])) so) is st.parts
 

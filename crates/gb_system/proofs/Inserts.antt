@@ -100,10 +100,10 @@ insert-occupied x s i kind es st there is =
 -- no identifier is left
 pub insert-spent : (x : Parties) (s : State) (i : ℕ) (kind : Kind) (es : List Entry)
     → PartiesStand x s → is_plugged i s.modules ≡ false → has_no_label 1 side.Far s ≡ true
-    → es ≡ entry.Refused why.LabelsSpent ∷ []
+    → es ≡ entry.Refused why.NoLabel ∷ []
     → PartsStep x s (event.Insert i kind) (Ok es)
 insert-spent x s i kind es st there spent is =
-    lands-refused x s (event.Insert i kind) why.LabelsSpent es
+    lands-refused x s (event.Insert i kind) why.NoLabel es
     (refusal-is s i kind ∙ ap (λ b. insert_refusal b (has_no_label 1 side.Far s)) there
     ∙ ap (insert_refusal false) spent) is st.parts
 

@@ -73,9 +73,9 @@ pull-nothing x s i es st there is =
 -- no identifier is left
 pub pull-spent : (x : Parties) (s : State) (i : ℕ) (es : List Entry)
     → PartiesStand x s → is_plugged i s.modules ≡ true → has_no_label 1 side.Far s ≡ true
-    → es ≡ entry.Refused why.LabelsSpent ∷ [] → PartsStep x s (event.Pull i) (Ok es)
+    → es ≡ entry.Refused why.NoLabel ∷ [] → PartsStep x s (event.Pull i) (Ok es)
 pull-spent x s i es st there spent is =
-    lands-refused x s (event.Pull i) why.LabelsSpent es
+    lands-refused x s (event.Pull i) why.NoLabel es
     (refusal-is s i ∙ ap (λ b. pull_refusal b (has_no_label 1 side.Far s)) there
     ∙ ap (pull_refusal true) spent) is st.parts
 

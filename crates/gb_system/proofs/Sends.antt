@@ -21,7 +21,7 @@ use Rattle.gb_machine.specs.Asking.{asks, asks_with}
 use Rattle.gb_machine.specs.Bus.{Bus, Connection, connection_of, next_number}
 use Rattle.gb_machine.specs.Host.{link_at}
 use Rattle.gb_machine.specs.HostRefusals.{is_kept, send_conditions}
-use Rattle.gb_machine.specs.Labels.{fresh_label, next_label, no_label}
+use Rattle.gb_machine.specs.Labels.{cyclic_label, next_label, no_label}
 use Rattle.gb_machine.specs.LineActions.{ap_draft, sends, sends_on}
 use Rattle.gb_machine.specs.Lists.{Condition, conditions_of, first_met}
 use Rattle.gb_machine.specs.Names.{bound, is_bound}
@@ -140,7 +140,7 @@ is-labelled k kind payload deadline b h = by (connection_of k b) refl
     by : (o : Option Connection) → connection_of k b ≡ o
         → IsSome (option_and_then (λ (c : Connection). next_label k side.Ap b) o)
     by None e = subst (λ (p : Option Connection).
-        IsSome (option_and_then (fresh_label side.Ap) p)) e h
+        IsSome (option_and_then (cyclic_label k side.Ap b) p)) e h
     by (Some c) e = h
 
 -- the number of a request is there, and is the next one

@@ -80,7 +80,7 @@ impl Parties {
         let connection = self.host.may_send(intf, cport)?;
         let request = self.host.bridge(connection, ask, room)?;
         if self.bus.spent(connection, Side::Ap) {
-            return Err(Refusal::LabelsSpent);
+            return Err(Refusal::NoLabel);
         }
         Ok(Bridging {
             connection,

@@ -28,7 +28,7 @@ impl Parties {
             return Ok(refused(self.alloc, why)?);
         }
         if self.bus.spent(SVC, Side::Ap) {
-            return Ok(refused(self.alloc, Refusal::LabelsSpent)?);
+            return Ok(refused(self.alloc, Refusal::NoLabel)?);
         }
         let mut told = begun(self.alloc)?;
         self.notice(HostEvent::Connect { intf, cport }, &mut told)?;
@@ -45,7 +45,7 @@ impl Parties {
             return Ok(refused(self.alloc, why)?);
         }
         if self.is_control_spent(intf) {
-            return Ok(refused(self.alloc, Refusal::LabelsSpent)?);
+            return Ok(refused(self.alloc, Refusal::NoLabel)?);
         }
         let mut told = begun(self.alloc)?;
         self.notice(HostEvent::Disconnect { intf, cport }, &mut told)?;

@@ -48,7 +48,7 @@ impl Parties {
             return Ok(refused(self.alloc, Refusal::Occupied)?);
         }
         if self.bus.spent(SVC, Side::Far) {
-            return Ok(refused(self.alloc, Refusal::LabelsSpent)?);
+            return Ok(refused(self.alloc, Refusal::NoLabel)?);
         }
         let mut told = begun(self.alloc)?;
         self.modules.plug(intf, Module::of_kind(self.alloc, kind)?)?;
@@ -70,7 +70,7 @@ impl Parties {
             return Ok(refused(self.alloc, Refusal::NoInterface)?);
         }
         if self.bus.spent(SVC, Side::Far) {
-            return Ok(refused(self.alloc, Refusal::LabelsSpent)?);
+            return Ok(refused(self.alloc, Refusal::NoLabel)?);
         }
         let mut told = begun(self.alloc)?;
         for connection in self.bus.wired_to(intf)?.items() {

@@ -87,7 +87,7 @@ impl Parties {
             return Err(Refusal::TooLarge);
         }
         if self.bus.spent(connection, Side::Ap) {
-            return Err(Refusal::LabelsSpent);
+            return Err(Refusal::NoLabel);
         }
         Ok(connection)
     }
