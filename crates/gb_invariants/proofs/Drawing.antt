@@ -120,7 +120,7 @@ used-in_use k at b label h = by (open_with k at label b) refl (given_up_with k a
 -- ---- what is drawn
 
 -- the identifier that follows is one
-label_after-within : (label : ℕ) → (1 ≤ label_after label) × (label_after label ≤ greatest_label)
+pub label_after-within : (label : ℕ) → (1 ≤ label_after label) × (label_after label ≤ greatest_label)
 label_after-within label = by (ltb label greatest_label) refl
   where
     by : (t : Bool) → ltb label greatest_label ≡ t

@@ -56,6 +56,7 @@ pub mod Marking
 pub mod Marks
 pub mod Midway
 pub mod Naming
+pub mod NoneLeft
 pub mod Noticing
 pub mod Onward
 pub mod OpenKept

@@ -1,3 +1,4 @@
+pub mod NoneLeft
 pub mod OwnSide
 pub mod OwnWaits
 pub mod OwnWires

@@ -1,6 +1,7 @@
 //! The laws of runs. Each speaks of every run of valid events; where it speaks of moments, those
 //! are the events of the run with each settle taken apart into its deliveries.
 
+ghost use Rattle.gb_laws.specs.NoneLeft.{NoneLeftMeansAllInUse};
 ghost use Rattle.gb_laws.specs.OwnSide.{AbsentHasNoOpenOfAp};
 ghost use Rattle.gb_laws.specs.OwnWaits.{AwaitsOwnRequest, OnlyRestarts, ServedLeavesNone};
 ghost use Rattle.gb_laws.specs.OwnWires.{WiredIsRemembered};
@@ -61,6 +62,11 @@ pub fn every_end_has_its_cause()
 /// Identifiers that are in use on a side of a connection differ, and are from 1 to 65,535.
 pub fn labels_differ()
     ensures { LabelsDiffer }
+{}
+
+/// Where no identifier is left on a side of a live connection, all 65,535 are in use there.
+pub fn none_left_means_all_in_use()
+    ensures { NoneLeftMeansAllInUse }
 {}
 
 /// On a clean connection each number is in one item at most, of those that wait and that are held.

@@ -2,9 +2,13 @@
 
 use crate::run::run;
 use gb_base::{
-    Bytes, FreeGate, MemSink, MemSource, Numbers, PlainSink, PlainSource, Sink, Source, Status,
+    Bytes, Entries, Entry, FreeGate, MemSink, MemSource, Numbers, PlainSink, PlainSource, Sink,
+    Source, Status,
 };
+use gb_script::event;
+use gb_system::System;
 use std::alloc::Global;
+use std::process::Abort;
 use std::test::Fail;
 use std::thread::Threads;
 
@@ -44,7 +48,11 @@ fn scripts_are_reported(rt: HostRuntime) -> Result<(), Fail> {
             Status::Success,
             b"line 1 ok\nline 2 refused NoInterface\n",
         ),
-        (b"# none\n\ninject 2 1 -", Status::Refused, b"line 3: not built\n"),
+        (
+            b"# none\n\ninject 2 1 -",
+            Status::Refused,
+            b"line 3: not built\n",
+        ),
         (b"boot now", Status::Refused, b"line 1: extra word 2\n"),
     ];
     for (input, wanted, output) in rows {
@@ -163,4 +171,72 @@ fn faults_are_told(rt: HostRuntime) -> Result<(), Fail> {
         assert!(rt; sink.taken() == output);
     }
     Ok(())
+}
+
+/// What a line brings about, which is in the grammar and built.
+fn steps(rt: &impl Abort, alloc: Global, system: &mut System, line: &[u8]) -> Entries {
+    assert!(rt; system.taken() < 4_294_967_295);
+    match event(alloc, line, 0) {
+        Ok(Some(e)) => system.step(&e).expect(rt, "memory"),
+        _ => {
+            assert!(rt; false);
+            Entries::new(alloc)
+        }
+    }
+}
+
+/// A GPIO module holds request 16, with identifier 1, which was given up.
+const HELD: [&[u8]; 9] = [
+    b"insert 2 gpio",
+    b"boot",
+    b"settle 40",
+    b"connect 2 1",
+    b"settle 10",
+    b"hold 2 1",
+    b"gpio @a 2 1 activate 0",
+    b"deliver 2 1",
+    b"cancel @a",
+];
+
+/// Another request is made and answered.
+const ROUND: [&[u8]; 5] = [
+    b"gpio @b 2 1 count",
+    b"deliver 2 1",
+    b"answer 2 1 2",
+    b"deliver ap 2",
+    b"drop @b",
+];
+
+/// The second entry tells that a request was made with this identifier, which is below 256.
+fn is_asked(told: &Entries, wanted: u64, label: u8) -> bool {
+    match told.items().get(1) {
+        Some(Entry::Asked { number, bytes, .. }) => {
+            *number == wanted && bytes.items().get(2) == Some(&label)
+        }
+        _ => false,
+    }
+}
+
+#[test]
+fn an_identifier_that_comes_round_is_not_mistaken(rt: HostRuntime) {
+    let alloc = rt.alloc();
+    let mut system = System::new(alloc).expect(&rt, "memory");
+    for line in HELD {
+        steps(&rt, alloc, &mut system, line);
+    }
+    for _ in 0..65_534 {
+        for line in ROUND {
+            steps(&rt, alloc, &mut system, line);
+        }
+    }
+    // Identifiers 2 to 65,535 came and went, and 1 is still awaited.
+    let told = steps(&rt, alloc, &mut system, b"gpio @c 2 1 count");
+    assert!(rt; is_asked(&told, 65_551, 2));
+    steps(&rt, alloc, &mut system, b"answer 2 1 1");
+    let told = steps(&rt, alloc, &mut system, b"deliver ap 2");
+    assert!(rt; matches!(told.items().get(1), Some(Entry::Late { number: 16 })));
+    let told = steps(&rt, alloc, &mut system, b"gpio @d 2 1 count");
+    assert!(rt; is_asked(&told, 65_552, 3));
+    let told = steps(&rt, alloc, &mut system, b"cancel @c");
+    assert!(rt; matches!(told.items().first(), Some(Entry::Done)));
 }
