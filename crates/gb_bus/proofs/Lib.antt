@@ -11,6 +11,8 @@ pub mod Moves
 pub mod Queues
 pub mod Replies
 pub mod Sends
+pub mod SideLists
+pub mod SideStates
 pub mod Sides
 pub mod SlotLaws
 pub mod Standing
