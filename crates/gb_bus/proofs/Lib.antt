@@ -11,6 +11,7 @@ pub mod Moves
 pub mod Queues
 pub mod Replies
 pub mod Sends
+pub mod SideChanges
 pub mod SideLists
 pub mod SideStates
 pub mod Sides
