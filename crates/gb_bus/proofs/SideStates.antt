@@ -180,7 +180,7 @@ keeps-same k at x last b after same keeps =
     (same-tells k at x b after same (tells k at x last b keeps))
 
 -- a mark and an outcome that stay, where requests stay
-same-side : (k : ℕ) (at : Side) (b after : Bus) → after.requests ≡ b.requests
+pub same-side : (k : ℕ) (at : Side) (b after : Bus) → after.requests ≡ b.requests
     → ((n : ℕ) (r : Request) → request_of n b ≡ Some r → is_of k at r ≡ true
     → (outcome_of n after ≡ outcome_of n b) × (is_given_up n after ≡ is_given_up n b))
     → SameSide k at b after
