@@ -13,6 +13,7 @@ pub mod Replies
 pub mod Sends
 pub mod SideChanges
 pub mod SideLists
+pub mod SideMoves
 pub mod SideParts
 pub mod SideSends
 pub mod SideStates

@@ -1,10 +1,10 @@
 -- What one side of a connection keeps stays what the machine has, where a request of it changes.
-use Rattle.std.proofs.Common.{◌≡◌, ◌⊎◌, ℕ, Bool, true, false, cond, ◌&&◌, ◌||◌, Option, Some, None, is_some, is_none, List, [], ◌∷◌, length, refl, sym, ap, ◌∙◌, inl, inr, arith}
+use Rattle.std.proofs.Common.{◌≡◌, ◌⊎◌, ℕ, Bool, true, false, ◌&&◌, ◌||◌, Option, Some, None, is_some, is_none, refl, sym, ap, ◌∙◌, inl, inr}
 use Rattle.std.proofs.lemmas.Bool.{cases_eq}
 use Rattle.gb_base.specs.declared.end.Side.{Side}
 use Rattle.gb_base.specs.declared.outcome.Outcome.{Outcome}
 use Rattle.gb_bus.proofs.SideLists.{not-none}
-use Rattle.gb_bus.proofs.SideStates.{IsPending, Tells, asked, closed-over, is-pending, keeps-by, mark-forgotten, mark-gave_up, mark-gone, mark-new, open-awaited, tells}
+use Rattle.gb_bus.proofs.SideStates.{IsPending, Tells, asked, closed-over, keeps-by, mark-forgotten, mark-gave_up, mark-gone, mark-new, open-awaited, tells}
 use Rattle.gb_bus.specs.Stands.{IsHolder, KeepsSide, holding}
 use Rattle.gb_invariants.proofs.Awaiting.{ended-after, ended-before, forgotten-after, forgotten-before, gave_up-after, gave_up-before, not-both, same-some}
 use Rattle.gb_invariants.proofs.Outcomes.{lookup-past, pair-there}

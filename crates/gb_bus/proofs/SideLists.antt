@@ -2,8 +2,8 @@
 use Rattle.std.proofs.Common.{◌≡◌, ◌⊎◌, ℕ, ◌==◌, Bool, true, false, not, cond, Option, Some, None, option_map, List, [], ◌∷◌, ◌++◌, refl, sym, ap, ◌∙◌, inl, inr}
 use Rattle.std.proofs.lemmas.Bool.{cases_eq}
 use Rattle.std.specs.List.{find}
-use Rattle.gb_invariants.proofs.Awaiting.{not-both, same-some}
-use Rattle.gb_invariants.proofs.Outcomes.{is-same, same-number}
+use Rattle.gb_invariants.proofs.Awaiting.{same-some}
+use Rattle.gb_invariants.proofs.Outcomes.{same-number}
 use Rattle.gb_machine.specs.Lists.{at_first, without}
 
 pub not-none : {A : Type 0} (x : A) → None ≡ Some x → ⊥

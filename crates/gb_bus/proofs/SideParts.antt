@@ -1,5 +1,5 @@
 -- What a change of one connection leaves of its number and of its sides.
-use Rattle.std.proofs.Common.{◌≡◌, Bool, true, false, cond, ℕ, refl, ap, ◌∙◌}
+use Rattle.std.proofs.Common.{◌≡◌, ℕ, Bool, true, false, cond, List, [], ◌∷◌, ◌++◌, refl, ap, ◌∙◌}
 use Rattle.gb_base.specs.declared.end.End.{End}
 use Rattle.gb_base.specs.declared.end.Side.{Side}
 use Rattle.gb_base.specs.declared.end.Side.TheVariants as side
@@ -13,7 +13,6 @@ use Rattle.gb_machine.specs.Sending.{Draft, drawn, queued}
 use Rattle.gb_machine.specs.Wiring as wiring
 use Rattle.gb_ops.specs.Calls.{no_operations}
 use Rattle.gb_ops.specs.Operations.{Operations}
-use Rattle.std.proofs.Common.{List, [], ◌∷◌, ◌++◌}
 
 -- ---- other operations of a side
 
@@ -35,7 +34,8 @@ with_ops-other side.Far side.Ap o x other = refl
 
 -- ---- a message more
 
-queue-number : (at : Side) (is : List Item) (x : Connection) → (with_queue at is x).number ≡ x.number
+queue-number : (at : Side) (is : List Item) (x : Connection)
+    → (with_queue at is x).number ≡ x.number
 queue-number side.Ap is x = refl
 queue-number side.Far is x = refl
 

@@ -1,10 +1,9 @@
 -- What the sides of connections keep stays what the machine has, where a request is made.
-use Rattle.std.proofs.Common.{◌≡◌, ◌⊎◌, ◌+◌, ℕ, Bool, true, false, cond, ◌&&◌, ◌||◌, Option, Some, None, is_some, is_none, option_and_then, List, [], ◌∷◌, length, refl, sym, ap, ◌∙◌, inl, inr, arith}
+use Rattle.std.proofs.Common.{◌≡◌, ◌⊎◌, ℕ, Bool, true, false, cond, ◌&&◌, ◌||◌, Option, Some, None, is_some, is_none, option_and_then, ◌∷◌, refl, sym, ap, ◌∙◌, inl, inr, arith}
 use Rattle.std.proofs.lemmas.Bool.{cases_eq}
 use Rattle.gb_base.specs.declared.end.Side.{Side}
 use Rattle.gb_base.specs.declared.outcome.Outcome.TheVariants as outcome
-use Rattle.gb_bus.proofs.SideLists.{not-none}
-use Rattle.gb_bus.proofs.SideStates.{IsPending, SameSide, Tells, asked, keeps-by, open-awaited, tells}
+use Rattle.gb_bus.proofs.SideStates.{IsPending, SameSide, Tells, asked, keeps-by, tells}
 use Rattle.gb_bus.specs.Stands.{IsHolder, KeepsSide, holding}
 use Rattle.gb_invariants.proofs.Awaiting.{is-of, is_of-is, not-both, same-some, sent-after, sent-awaited, sent-before, sent-made, sent-new, sent-request, unasked, unended}
 use Rattle.gb_invariants.proofs.Drawing.{awaited-used, drawn-is-free, used-in_use}

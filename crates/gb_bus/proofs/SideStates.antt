@@ -7,9 +7,8 @@ use Rattle.gb_base.specs.declared.outcome.Outcome.{Outcome}
 use Rattle.gb_base.specs.declared.outcome.Outcome.TheVariants as outcome
 use Rattle.gb_bus.proofs.SideLists.{not-none}
 use Rattle.gb_bus.specs.Stands.{IsHolder, KeepsSide, holding, pending_by, pending_of}
-use Rattle.gb_invariants.proofs.Awaiting.{is_of-is, not-both, or-right, same-some}
-use Rattle.gb_invariants.proofs.Lists.{in-without}
-use Rattle.gb_invariants.proofs.Outcomes.{both-true, in-open_requests, is-same, lookup-past, lookup-past-all, missing-all, open_requests-in, pair-there, same-number, there-after, there-all}
+use Rattle.gb_invariants.proofs.Awaiting.{not-both, same-some}
+use Rattle.gb_invariants.proofs.Outcomes.{both-true, in-open_requests, is-same, lookup-past, lookup-past-all, open_requests-in, pair-there, same-number, there-all}
 use Rattle.gb_machine.specs.Bus.{Bus, Request, is_open, outcome_of, request_of}
 use Rattle.gb_machine.specs.Delivery.{ended, forgotten}
 use Rattle.gb_machine.specs.LawsBus.{is_awaited}
