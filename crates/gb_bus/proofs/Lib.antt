@@ -11,6 +11,12 @@ pub mod Moves
 pub mod Queues
 pub mod Replies
 pub mod Sends
+pub mod SideChanges
+pub mod SideLists
+pub mod SideMoves
+pub mod SideParts
+pub mod SideSends
+pub mod SideStates
 pub mod Sides
 pub mod SlotLaws
 pub mod Standing
