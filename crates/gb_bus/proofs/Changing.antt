@@ -1,5 +1,5 @@
 -- What changes of one connection are of all.
-use Rattle.std.proofs.Common.{◌≡◌, ℕ, Option, Some, None, Ok, Err, Result, option_and_then, List, get_or, set, refl, subst, sym, ap, ◌∙◌}
+use Rattle.std.proofs.Common.{◌≡◌, ℕ, Bool, true, false, cond, Option, Some, None, Ok, Err, Result, option_and_then, List, [], ◌∷◌, get_or, set, refl, subst, sym, ap, ◌∙◌}
 use Rattle.std.proofs.lemmas.List.{set-get_or}
 use Rattle.std.specs.List.{find, position_from}
 use Rattle.gb_base.specs.declared.end.Side.{Side}
@@ -125,3 +125,20 @@ matches k xs o i x y at zs n label matched.Unknown e h view is d = (
     same-side : (s : Side) (c : Connection) → with_ops s (ops_of s c) c ≡ c
     same-side side.Ap c = refl
     same-side side.Far c = refl
+
+-- ---- two changes
+
+-- two changes of the first that passes are one
+pub twice : {A : Type 0} (test : A → Bool) (f g : A → A) (xs : List A)
+    → ((x : A) → test (g x) ≡ test x)
+    → at_first test f (at_first test g xs) ≡ at_first test (λ x. f (g x)) xs
+twice test f g [] same = refl
+twice test f g (x ∷ xs) same = by (test x) refl (twice test f g xs same)
+  where
+    by : (b : Bool) → test x ≡ b → at_first test f (at_first test g xs)
+        ≡ at_first test (λ y. f (g y)) xs
+        → at_first test f (cond b (g x ∷ xs) (x ∷ at_first test g xs))
+        ≡ cond b (f (g x) ∷ xs) (x ∷ at_first test (λ y. f (g y)) xs)
+    by true e later = ap (λ b. cond b (f (g x) ∷ xs) (g x ∷ at_first test f xs)) (same x ∙ e)
+    by false e later = ap (λ b. cond b (f x ∷ at_first test g xs)
+        (x ∷ at_first test f (at_first test g xs))) e ∙ ap (λ ys. x ∷ ys) later

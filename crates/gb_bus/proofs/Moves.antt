@@ -4,14 +4,14 @@ use Rattle.gb_base.specs.declared.end.Side.{Side}
 use Rattle.gb_base.specs.declared.end.Side.TheVariants as side
 use Rattle.gb_bus.proofs.Queues.{queue_more, queue_push}
 use Rattle.gb_bus.proofs.Standing.{Together}
-use Rattle.gb_bus.specs.Parts.{cleared, closed, put, queue_of, with_ops, with_queue, with_wire, without_front}
+use Rattle.gb_bus.specs.Parts.{cleared, closed, ops_of, put, queue_of, with_ops, with_queue, with_wire, without_front}
 use Rattle.gb_bus.specs.Stands.{StandsForConnection, StandsForItem, StandsForQueue}
 use Rattle.gb_bus.specs.declared.connection.Connection.{Connection}
 use Rattle.gb_bus.specs.declared.queue.Item.{Item}
 use Rattle.gb_machine.specs.Bus as machine
 use Rattle.gb_machine.specs.Bus.{Request, queue}
 use Rattle.gb_machine.specs.Delivery as delivery
-use Rattle.gb_machine.specs.Labels.{with_last_label}
+use Rattle.gb_machine.specs.Labels.{last_label, with_last_label}
 use Rattle.gb_machine.specs.Lists.{behind_first}
 use Rattle.gb_machine.specs.Sending as sending
 use Rattle.gb_ops.specs.Operations.{Operations}
@@ -130,3 +130,70 @@ more-stands rs r x c h =
     stands-by (rs ++ r ∷ []) _ _ h.number h.ap h.peer h.protocol h.wired h.clean h.shut
     (queue_more rs r x.to_ap c.to_ap h.to_ap)
     (queue_more rs r x.to_far c.to_far h.to_far)
+
+-- ---- what stays of the sides
+
+pub wire-ops : (at : Side) (x : Connection) → ops_of at (with_wire x) ≡ ops_of at x
+wire-ops side.Ap x = refl
+wire-ops side.Far x = refl
+
+pub wire-last : (at : Side) (c : machine.Connection)
+    → last_label at (record c { wired = true }) ≡ last_label at c
+wire-last side.Ap c = refl
+wire-last side.Far c = refl
+
+queue-ops : (s at : Side) (is : List Item) (x : Connection)
+    → ops_of s (with_queue at is x) ≡ ops_of s x
+queue-ops side.Ap side.Ap is x = refl
+queue-ops side.Ap side.Far is x = refl
+queue-ops side.Far side.Ap is x = refl
+queue-ops side.Far side.Far is x = refl
+
+queue-last : (s at : Side) (ms : List machine.Item) (c : machine.Connection)
+    → last_label s (machine.with_queue at ms c) ≡ last_label s c
+queue-last side.Ap side.Ap ms c = refl
+queue-last side.Ap side.Far ms c = refl
+queue-last side.Far side.Ap ms c = refl
+queue-last side.Far side.Far ms c = refl
+
+pub front-ops : (at s : Side) (x : Connection) → ops_of s (without_front at x) ≡ ops_of s x
+front-ops at s x = queue-ops s at (behind_first (queue_of at x)) x
+
+pub front-last : (at s : Side) (c : machine.Connection)
+    → last_label s (delivery.without_front at c) ≡ last_label s c
+front-last at s c = queue-last s at (behind_first (queue at c)) c
+
+pub put-ops : (at : Side) (i : Item) (s : Side) (x : Connection) → ops_of s (put at i x) ≡ ops_of s x
+put-ops at i s x = by x.wired
+  where
+    by : (w : Bool) → ops_of s (cond w (with_queue at (queue_of at x ++ i ∷ []) x) x) ≡ ops_of s x
+    by true = queue-ops s at (queue_of at x ++ i ∷ []) x
+    by false = refl
+
+pub put-last : (at : Side) (m : machine.Item) (s : Side) (c : machine.Connection)
+    → last_label s (sending.put at m c) ≡ last_label s c
+put-last at m s c = by c.wired
+  where
+    by : (w : Bool) → last_label s (cond w (machine.with_queue at (queue at c ++ m ∷ []) c) c)
+        ≡ last_label s c
+    by true = queue-last s at (queue at c ++ m ∷ []) c
+    by false = refl
+
+-- and the number
+pub queue-number : (at : Side) (is : List Item) (x : Connection)
+    → (with_queue at is x).number ≡ x.number
+queue-number side.Ap is x = refl
+queue-number side.Far is x = refl
+
+pub put-number : (at : Side) (i : Item) (x : Connection) → (put at i x).number ≡ x.number
+put-number at i x = by x.wired
+  where
+    by : (w : Bool)
+        → (cond w (with_queue at (queue_of at x ++ i ∷ []) x) x).number ≡ x.number
+    by true = queue-number at (queue_of at x ++ i ∷ []) x
+    by false = refl
+
+pub ops-number : (at : Side) (ops : Operations) (x : Connection)
+    → (with_ops at ops x).number ≡ x.number
+ops-number side.Ap ops x = refl
+ops-number side.Far ops x = refl
