@@ -27,7 +27,7 @@ use Rattle.gb_machine.specs.Lists.{nth}
 use Rattle.gb_machine.specs.Requests.{gave_up, is_of, same_side}
 
 -- a request is of its own connection and side
-is-own : (r : Request) → is_of r.connection r.side r ≡ true
+pub is-own : (r : Request) → is_of r.connection r.side r ≡ true
 is-own r = ap (λ t. t && same_side r.side r.side) (is-same r.connection) ∙ by r.side
   where
     by : (s : Side) → same_side s s ≡ true
