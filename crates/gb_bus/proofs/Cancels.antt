@@ -1,6 +1,5 @@
 -- A request that is given up is so in the machine's state.
-use Rattle.std.proofs.Common.{◌≡◌, ℕ, Bool, true, false, cond, ◌&&◌, ◌⊎◌, inl, inr, Option, Some, None, List, refl, sym, ap, ◌∙◌, subst}
-use Rattle.std.specs.List.{find}
+use Rattle.std.proofs.Common.{◌≡◌, ℕ, true, cond, ◌&&◌, inl, inr, Some, None, List, refl, sym, ap, ◌∙◌, subst}
 use Rattle.gb_base.specs.declared.end.Side.{Side}
 use Rattle.gb_base.specs.declared.end.Side.TheVariants as side
 use Rattle.gb_base.specs.declared.outcome.Outcome.{Outcome}
@@ -10,8 +9,8 @@ use Rattle.gb_bus.proofs.Moves.{ops-stand}
 use Rattle.gb_bus.proofs.Sides.{sides-gave_up, sides-gave_up_elsewhere}
 use Rattle.gb_bus.proofs.Standing.{stays-for}
 use Rattle.gb_bus.specs.Cancelling.{GivesUp}
-use Rattle.gb_bus.specs.Parts.{numbered, ops_of}
-use Rattle.gb_bus.specs.Sides.{ChangesSide, GivesUpIn, GivesUpWhere}
+use Rattle.gb_bus.specs.Parts.{ops_of}
+use Rattle.gb_bus.specs.Sides.{GivesUpIn, GivesUpWhere}
 use Rattle.gb_bus.specs.Slots.{at_number, open_place, with_outcome}
 use Rattle.gb_bus.specs.Stands.{KeepSides, StandForAll, Stands, pending_by, pending_of}
 use Rattle.gb_bus.specs.declared.bus.Bus.{Bus}
@@ -111,8 +110,9 @@ gives_up loose x b n how k at cs slots s is changes e = by (said b n)
         (subst (λ (p : ℕ × Side). GivesUpIn x.connections cs p.0 p.1 n) same changes) in
         record {
           unended = unended;
-          stands = subst (λ (ts : List Slot). Stands loose (record x { connections = cs; slots = ts })
-              (gave_up n how b)) (sym e) (record {
+          stands = subst (λ (ts : List Slot).
+              Stands loose (record x { connections = cs; slots = ts }) (gave_up n how b)) (sym e)
+              (record {
                 shows = shows-gave_up x b n how cs a.stand a.sides s.shows;
                 facts = record {
                   fits = gave_up-keeps loose n how b unended s.facts.fits;

@@ -34,9 +34,9 @@ use Rattle.gb_invariants.proofs.Outcomes.{is-same}
 use Rattle.gb_invariants.proofs.Selves.{front-self}
 use Rattle.gb_invariants.specs.Facts.{BusFits, Loose, times_in}
 use Rattle.gb_machine.specs.Bus as machine
-use Rattle.gb_machine.specs.Bus.{Place, Request, has_number, is_open, place_of, queue, request_of}
+use Rattle.gb_machine.specs.Bus.{Place, Request, is_open, place_of, queue, request_of}
 use Rattle.gb_machine.specs.Delivery as delivery
-use Rattle.gb_machine.specs.Delivery.{answered, ended, forgotten, popped}
+use Rattle.gb_machine.specs.Delivery.{answered, ended, forgotten}
 use Rattle.gb_machine.specs.LawsBus.{AreApart, is_awaited, is_item_of}
 use Rattle.gb_machine.specs.Lists.{at_first, behind_first, first, nth}
 use Rattle.gb_machine.specs.Members.{EachTwo, IsIn}

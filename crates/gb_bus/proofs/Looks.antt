@@ -81,8 +81,8 @@ spent-nowhere loose x b k at s none =
 
 -- ---- how many wait
 
-pub length-is : (rs : List Request) (is : List Item) (ms : List machine.Item) → StandsForQueue rs is ms
-    → length is ≡ length ms
+pub length-is : (rs : List Request) (is : List Item) (ms : List machine.Item)
+    → StandsForQueue rs is ms → length is ≡ length ms
 length-is rs [] [] h = refl
 length-is rs (i ∷ is) (m ∷ ms) h = ap suc (length-is rs is ms h.1)
 length-is rs [] (m ∷ ms) h = absurd h
@@ -256,7 +256,8 @@ pub wired_numbers-is : (rs : List Request) (i : ℕ) (xs : List Connection)
 wired_numbers-is rs i [] [] h = refl
 wired_numbers-is rs i (x ∷ xs) (c ∷ cs) h =
     by (parts.is_wired_to i x) (wiring.is_wired_to i c)
-    (ap (λ w. w && wiring.is_at i x.peer) h.0.wired ∙ ap (λ p. c.wired && wiring.is_at i p) h.0.peer)
+    (ap (λ w. w && wiring.is_at i x.peer) h.0.wired
+    ∙ ap (λ p. c.wired && wiring.is_at i p) h.0.peer)
     (wired_numbers-is rs i xs cs h.1)
   where
     code : List Connection

@@ -163,7 +163,8 @@ pub front-last : (at s : Side) (c : machine.Connection)
     → last_label s (delivery.without_front at c) ≡ last_label s c
 front-last at s c = queue-last s at (behind_first (queue at c)) c
 
-pub put-ops : (at : Side) (i : Item) (s : Side) (x : Connection) → ops_of s (put at i x) ≡ ops_of s x
+pub put-ops : (at : Side) (i : Item) (s : Side) (x : Connection)
+    → ops_of s (put at i x) ≡ ops_of s x
 put-ops at i s x = by x.wired
   where
     by : (w : Bool) → ops_of s (cond w (with_queue at (queue_of at x ++ i ∷ []) x) x) ≡ ops_of s x
