@@ -117,9 +117,9 @@ matches k xs o i x y at zs n label (matched.Late j) e h view is d =
     side-changes k xs o i x y at (λ v w. MatchesAs v w n label (matched.Late j)) zs e h view is d
 matches k xs o i x y at zs n label matched.Unknown e h view is d = (
   subst (λ (f : Option Connection). IsNotOf n (option_and_then (λ c. holder_of (ops_of at c) label)
-  f)) (sym (one-found k xs o i x zs e h view is)) d.0.0,
+      f)) (sym (one-found k xs o i x zs e h view is)) d.0.0,
   ap (set zs i) (d.1 ∙ ap (λ ops. with_ops at ops x) d.0.1 ∙ same-side at x)
-  ∙ same-place zs i x is ∙ view,
+      ∙ same-place zs i x is ∙ view,
 )
   where
     same-side : (s : Side) (c : Connection) → with_ops s (ops_of s c) c ≡ c
