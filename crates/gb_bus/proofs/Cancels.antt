@@ -1,51 +1,122 @@
--- A cancel stands for the machine's.
-use Rattle.std.proofs.Common.{◌≡◌, ℕ, true, false, List, is_some, sym, ap, ◌∙◌, subst}
-use Rattle.gb_base.specs.declared.outcome.Outcome.TheVariants as outcome
+-- A request that is given up is so in the machine's state.
+use Rattle.std.proofs.Common.{◌≡◌, ℕ, true, cond, ◌&&◌, inl, inr, Some, None, List, refl, sym, ap, ◌∙◌, subst}
+use Rattle.gb_base.specs.declared.end.Side.{Side}
+use Rattle.gb_base.specs.declared.end.Side.TheVariants as side
+use Rattle.gb_base.specs.declared.outcome.Outcome.{Outcome}
 use Rattle.gb_bus.proofs.Endings.{Said, over, said, shows-gave_up, still}
-use Rattle.gb_bus.specs.Cancelling.{Cancels, CancelsNothing}
-use Rattle.gb_bus.specs.Slots.{at_number, with_mark, with_outcome}
-use Rattle.gb_bus.specs.Stands.{Stands}
-use Rattle.gb_bus.specs.Taking.{open_kind}
+use Rattle.gb_bus.proofs.Finding.{twin}
+use Rattle.gb_bus.proofs.Moves.{ops-stand}
+use Rattle.gb_bus.proofs.Sides.{sides-gave_up, sides-gave_up_elsewhere}
+use Rattle.gb_bus.proofs.Standing.{stays-for}
+use Rattle.gb_bus.specs.Cancelling.{GivesUp}
+use Rattle.gb_bus.specs.Parts.{ops_of}
+use Rattle.gb_bus.specs.Sides.{GivesUpIn, GivesUpWhere}
+use Rattle.gb_bus.specs.Slots.{at_number, open_place, with_outcome}
+use Rattle.gb_bus.specs.Stands.{KeepSides, StandForAll, Stands, pending_by, pending_of}
 use Rattle.gb_bus.specs.declared.bus.Bus.{Bus}
-use Rattle.gb_invariants.proofs.Awaiting.{not-both}
+use Rattle.gb_bus.specs.declared.connection.Connection.{Connection}
+use Rattle.gb_bus.specs.declared.slots.Slot.{Slot}
+use Rattle.gb_invariants.proofs.Awaiting.{same-some}
 use Rattle.gb_invariants.proofs.Changes.{gave_up-keeps}
+use Rattle.gb_invariants.proofs.Outcomes.{is-same}
 use Rattle.gb_invariants.specs.Facts.{Loose}
 use Rattle.gb_machine.specs.Bus as machine
+use Rattle.gb_machine.specs.Bus.{Request, is_open, request_of}
 use Rattle.gb_machine.specs.Lists.{nth}
-use Rattle.gb_machine.specs.Requests.{gave_up}
+use Rattle.gb_machine.specs.Requests.{gave_up, is_of, same_side}
+
+-- a request is of its own connection and side
+pub is-own : (r : Request) → is_of r.connection r.side r ≡ true
+is-own r = ap (λ t. t && same_side r.side r.side) (is-same r.connection) ∙ by r.side
+  where
+    by : (s : Side) → same_side s s ≡ true
+    by side.Ap = refl
+    by side.Far = refl
+
+-- what its side has of an open request
+is-pending : (b : machine.Bus) (n : ℕ) (r : Request) → request_of n b ≡ Some r
+    → is_open n b ≡ true → pending_of r.connection r.side n b ≡ None → ⊥
+is-pending b n r made unended none =
+    clash (sym (ap (pending_by r.connection r.side (is_open n b)) made
+    ∙ ap (λ t. cond (t && is_of r.connection r.side r)
+    (Some (record { label = r.label; deadline = r.deadline })) None) unended
+    ∙ ap (λ t. cond t (Some (record { label = r.label; deadline = r.deadline })) None)
+    (is-own r)) ∙ none)
+  where
+    clash : {A : Type 0} {v : A} → Some v ≡ None → ⊥
+    clash e = absurd cc
+
+-- the connections once an open request is given up
+record After (xs : List Connection) (b : machine.Bus) (n : ℕ) (how : Outcome) : Type 0 where
+  stand : StandForAll b.requests xs b.connections
+  sides : KeepSides xs (gave_up n how b)
+
+after : (loose : List Loose) (x : Bus) (b : machine.Bus) (cs : List Connection) (n : ℕ)
+    (how : Outcome) (r : Request)
+    → Stands loose x b → request_of n b ≡ Some r → is_open n b ≡ true
+    → GivesUpIn x.connections cs r.connection r.side n → After cs b n how
+after loose x b cs n how r s made unended (inl d) = by d.did
+  where
+    stand : StandForAll b.requests cs b.connections
+    stand = subst (λ (ys : List Connection). StandForAll b.requests ys b.connections) (sym d.rest)
+        (stays-for b.requests r.connection _ x.connections b.connections
+        (ops-stand b.requests r.side d.after) s.shows.connections)
+
+    by : GivesUpWhere (ops_of r.side d.connection) d.after n → After cs b n how
+    by (inl g) = record {
+      stand = stand;
+      sides = sides-gave_up loose x.connections cs b r.connection r.side n how
+          s.shows.connections s.facts.fits (record {
+            connection = d.connection;
+            after = d.after;
+            found = d.found;
+            did = g;
+            rest = d.rest;
+          }) s.shows.sides;
+    }
+    by (inr g) =
+        let t = twin b.requests r.connection x.connections b.connections d.connection
+        s.shows.connections d.found in
+        let keeps = s.shows.sides r.connection r.side d.connection t.connection d.found t.live in
+        absurd (is-pending b n r made unended (sym (keeps.pending n) ∙ g.0))
+after loose x b cs n how r s made unended (inr e) = record {
+  stand = subst (λ (ys : List Connection). StandForAll b.requests ys b.connections) (sym e.1)
+      s.shows.connections;
+  sides = subst (λ (ys : List Connection). KeepSides ys (gave_up n how b)) (sym e.1)
+      (sides-gave_up_elsewhere x.connections b n how r made unended e.0 s.shows.sides);
+}
 
 -- an open request is given up
-pub cancels : (loose : List Loose) (x y : Bus) (b : machine.Bus) (n : ℕ) → Stands loose x b
-    → is_some (open_kind (nth n x.slots)) ≡ true
-    → y ≡ record x {
-      slots = at_number n (with_mark true) (at_number n (with_outcome outcome.Cancelled) x.slots);
-    }
-    → Cancels loose y n b
-cancels loose x y b n s is e = by (said b n)
+pub gives_up : (loose : List Loose) (x : Bus) (b : machine.Bus) (n : ℕ) (how : Outcome) (k : ℕ)
+    (at : Side) (cs : List Connection) (slots : List Slot)
+    → Stands loose x b → open_place (nth n x.slots) ≡ Some (k, at)
+    → GivesUpIn x.connections cs k at n → slots ≡ at_number n (with_outcome how) x.slots
+    → GivesUp loose (record x { connections = cs; slots = slots }) how n b
+gives_up loose x b n how k at cs slots s is changes e = by (said b n)
   where
-    by : Said b n → Cancels loose y n b
-    by (still r made unended free kind_is) = record {
-      unended = unended;
-      stands = subst (λ (w : Bus). Stands loose w (gave_up n outcome.Cancelled b)) (sym e) (record {
-        shows = shows-gave_up x b n outcome.Cancelled s.shows;
-        facts = record {
-          fits = gave_up-keeps loose n outcome.Cancelled b unended s.facts.fits;
-          apart = s.facts.apart;
-        };
-      });
-    }
-    by (over closed none) = absurd (not-both (is_some (open_kind (nth n x.slots))) is
-        (ap is_some (ap open_kind (s.shows.slots n) ∙ none)))
+    Goal : Type 0
+    Goal = GivesUp loose (record x { connections = cs; slots = slots }) how n b
 
--- one that isn't open is not
-pub cancels-nothing : (loose : List Loose) (x y : Bus) (b : machine.Bus) (n : ℕ) → Stands loose x b
-    → is_some (open_kind (nth n x.slots)) ≡ false → y ≡ x → CancelsNothing loose y n b
-cancels-nothing loose x y b n s is e = by (said b n)
-  where
-    by : Said b n → CancelsNothing loose y n b
-    by (still r made unended free kind_is) = absurd (not-both (is_some (open_kind (nth n x.slots)))
-        (ap is_some (ap open_kind (s.shows.slots n) ∙ kind_is)) is)
-    by (over closed none) = record {
-      over = closed;
-      stands = subst (λ (w : Bus). Stands loose w b) (sym e) s;
-    }
+    by : Said b n → Goal
+    by (over closed unkind nowhere) =
+        absurd (clash (sym (ap open_place (s.shows.slots n) ∙ nowhere) ∙ is))
+      where
+        clash : {A : Type 0} {v : A} → None ≡ Some v → ⊥
+        clash e = absurd cc
+    by (still r made unended kind_is place_is) =
+        let same = same-some (k, at) (r.connection, r.side)
+        (sym is ∙ ap open_place (s.shows.slots n) ∙ place_is) in
+        let a = after loose x b cs n how r s made unended
+        (subst (λ (p : ℕ × Side). GivesUpIn x.connections cs p.0 p.1 n) same changes) in
+        record {
+          unended = unended;
+          stands = subst (λ (ts : List Slot).
+              Stands loose (record x { connections = cs; slots = ts }) (gave_up n how b)) (sym e)
+              (record {
+                shows = shows-gave_up x b n how cs a.stand a.sides s.shows;
+                facts = record {
+                  fits = gave_up-keeps loose n how b unended s.facts.fits;
+                  apart = s.facts.apart;
+                };
+              });
+        }

@@ -1,40 +1,41 @@
 -- What slots say once a side of a connection is closed.
-use Rattle.std.proofs.Common.{◌≡◌, ℕ, suc, ◌+◌, Bool, true, false, not, cond, eqb, ◌&&◌, Option, Some, None, option_map, is_none, List, [], ◌∷◌, map, refl, sym, ap, ◌∙◌, inl, inr, arith}
+use Rattle.std.proofs.Common.{◌≡◌, ℕ, suc, ◌+◌, Bool, true, false, cond, eqb, ◌&&◌, Option, Some, None, option_map, is_none, List, [], ◌∷◌, map, refl, sym, ap, ◌∙◌, inl, inr, arith}
 use Rattle.std.specs.List.{slice_get}
-use Rattle.std.proofs.lemmas.Map.Views.{any-filter_same}
 use Rattle.gb_base.specs.declared.end.Side.{Side}
 use Rattle.gb_base.specs.declared.outcome.Outcome.{Outcome}
 use Rattle.gb_base.specs.declared.outcome.Outcome.TheVariants as outcome
 use Rattle.gb_bus.proofs.SlotLaws.{Tell, tell_mapped}
-use Rattle.gb_bus.specs.Slots.{is_open_on, open_in, or_disconnected, over}
+use Rattle.gb_bus.specs.Slots.{open_in, over}
 use Rattle.gb_bus.specs.Stands.{kept}
 use Rattle.gb_bus.specs.declared.slots.Slot.{Slot}
 use Rattle.gb_invariants.proofs.Awaiting.{not-both, same-some}
-use Rattle.gb_invariants.proofs.Outcomes.{in-open_requests, lookup-past-all, open_requests-in, pair-there, same-number}
+use Rattle.gb_invariants.proofs.Outcomes.{in-open_requests, lookup-past-all, open_requests-in, pair-there}
 use Rattle.gb_machine.specs.Bus as machine
 use Rattle.gb_machine.specs.Bus.{Request, outcome_of, request_of}
 use Rattle.gb_machine.specs.Lists.{lookup, nth}
 use Rattle.gb_machine.specs.Members.{IsIn}
-use Rattle.gb_machine.specs.Requests.{is_given_up, is_of, made_passes, open_from, open_on, passes}
+use Rattle.gb_machine.specs.Requests.{is_of, open_from, open_on}
 use Rattle.gb_machine.specs.Wiring.{all_ended, side_ended}
 
 -- ---- the numbers of the open requests
 
-pub opens : (n : ℕ) (k : ℕ) (at : Side) (b : machine.Bus) (mark : ℕ → Bool) (slots : List Slot)
-    (reqs : List Request)
-    → ((i j : ℕ) → j ≡ n + i → slice_get slots i
-    ≡ option_map (kept (outcome_of j b) (mark j)) (slice_get reqs i))
-    → open_in n k at slots ≡ open_from n (is_of k at) b reqs
-opens n k at b mark [] [] tell = refl
-opens n k at b mark [] (r ∷ rs) tell = let e = tell 0 n (omega arith) in absurd cc
-opens n k at b mark (s ∷ ss) [] tell = let e = tell 0 n (omega arith) in absurd cc
-opens n k at b mark (s ∷ ss) (r ∷ rs) tell =
-    let is : s ≡ kept (outcome_of n b) (mark n) r =
-    same-some s (kept (outcome_of n b) (mark n) r) (tell 0 n (omega arith)) in
-    let later = opens (n + 1) k at b mark ss rs (λ i j e. tell (suc i) j (omega (arith, e))) in
-    ap (λ (t : Slot). cond (is_open_on k at t) (n ∷ open_in (n + 1) k at ss)
-    (open_in (n + 1) k at ss)) is
-    ∙ ap (λ ns. cond (is_of k at r && is_none (outcome_of n b)) (n ∷ ns) ns) later
+-- a test of slots says what one of requests does of those that are open
+pub opens : (n : ℕ) (test : Slot → Bool) (of : Request → Bool) (b : machine.Bus)
+    (slots : List Slot) (reqs : List Request)
+    → ((o : Option Outcome) (r : Request) → test (kept o r) ≡ (of r && is_none o))
+    → ((i j : ℕ) → j ≡ n + i
+    → slice_get slots i ≡ option_map (kept (outcome_of j b)) (slice_get reqs i))
+    → open_in test n slots ≡ open_from n of b reqs
+opens n test of b [] [] same tell = refl
+opens n test of b [] (r ∷ rs) same tell = let e = tell 0 n (omega arith) in absurd cc
+opens n test of b (s ∷ ss) [] same tell = let e = tell 0 n (omega arith) in absurd cc
+opens n test of b (s ∷ ss) (r ∷ rs) same tell =
+    let is : s ≡ kept (outcome_of n b) r =
+    same-some s (kept (outcome_of n b) r) (tell 0 n (omega arith)) in
+    let later = opens (n + 1) test of b ss rs same (λ i j e. tell (suc i) j (omega (arith, e))) in
+    ap (λ t. cond t (n ∷ open_in test (n + 1) ss) (open_in test (n + 1) ss))
+    (ap test is ∙ same (outcome_of n b) r)
+    ∙ ap (λ ns. cond (of r && is_none (outcome_of n b)) (n ∷ ns) ns) later
 
 -- ---- how they end
 
@@ -70,54 +71,39 @@ other-ends k at b n r made other =
 
 -- of the side the open ones end
 own-ends : (k : ℕ) (at : Side) (b : machine.Bus) (n : ℕ) (r : Request) → request_of n b ≡ Some r
-    → is_of k at r ≡ true
-    → outcome_of n (side_ended k at b) ≡ Some (or_disconnected (outcome_of n b))
-own-ends k at b n r made own = by (outcome_of n b) refl
+    → is_of k at r ≡ true → outcome_of n b ≡ None
+    → outcome_of n (side_ended k at b) ≡ Some outcome.Disconnected
+own-ends k at b n r made own free =
+    ended-all (open_on k at b) n outcome.Disconnected b.outcomes
+    (open_requests-in (is_of k at) b n r made own free)
+
+-- and those that had ended stay so
+stays-so : (k : ℕ) (at : Side) (b : machine.Bus) (n : ℕ) (o : Outcome) → outcome_of n b ≡ Some o
+    → outcome_of n (side_ended k at b) ≡ Some o
+stays-so k at b n o e =
+    lookup-past-all (open_on k at b) n outcome.Disconnected b.outcomes
+    (λ i. clash o (sym (in-open_requests (is_of k at) b n i).3 ∙ e)) ∙ e
   where
     clash : (o : Outcome) → None ≡ Some o → ⊥
     clash o e = absurd cc
 
-    by : (o : Option Outcome) → outcome_of n b ≡ o → outcome_of n (side_ended k at b)
-        ≡ Some (or_disconnected o)
-    by None free = ended-all (open_on k at b) n outcome.Disconnected b.outcomes
-        (open_requests-in (is_of k at) b n r made own free)
-    by (Some o) e =
-        lookup-past-all (open_on k at b) n outcome.Disconnected b.outcomes
-        (λ i. clash o (sym (in-open_requests (is_of k at) b n i).3 ∙ e)) ∙ e
-
--- the marks that are left
-marks : (k : ℕ) (at : Side) (b : machine.Bus) (n : ℕ) (t : Bool) → passes (is_of k at) b n ≡ t
-    → is_given_up n (side_ended k at b) ≡ (not t && is_given_up n b)
-marks k at b n t e =
-    any-filter_same (λ m. eqb m n) (λ m. not (passes (is_of k at) b m)) (not t)
-    (λ m h. ap not (ap (passes (is_of k at) b) (same-number m n h) ∙ e)) b.given_up
-
 -- the slots that are over say so
 pub tell_closed : (k : ℕ) (at : Side) (b : machine.Bus) (slots : List Slot)
-    → Tell slots b.requests (λ n. outcome_of n b) (λ n. is_given_up n b)
+    → Tell slots b.requests (λ n. outcome_of n b)
     → Tell (map (over k at) slots) b.requests (λ n. outcome_of n (side_ended k at b))
-    (λ n. is_given_up n (side_ended k at b))
 tell_closed k at b slots tell =
     tell_mapped slots b.requests (λ n. outcome_of n b) (λ n. outcome_of n (side_ended k at b))
-    (λ n. is_given_up n b) (λ n. is_given_up n (side_ended k at b)) (over k at) each tell
+    (over k at) each tell
   where
     each : (n : ℕ) (r : Request) → nth n b.requests ≡ Some r
-        → over k at (kept (outcome_of n b) (is_given_up n b) r)
-        ≡ kept (outcome_of n (side_ended k at b)) (is_given_up n (side_ended k at b)) r
-    each n r made = by (is_of k at r) refl
+        → over k at (kept (outcome_of n b) r) ≡ kept (outcome_of n (side_ended k at b)) r
+    each n r made = by (is_of k at r) (outcome_of n b) refl refl
       where
-        passing : passes (is_of k at) b n ≡ is_of k at r
-        passing = ap (made_passes (is_of k at)) made
-
-        by : (t : Bool) → is_of k at r ≡ t
-            → cond t (kept (Some (or_disconnected (outcome_of n b))) false r)
-            (kept (outcome_of n b) (is_given_up n b) r)
-            ≡ kept (outcome_of n (side_ended k at b)) (is_given_up n (side_ended k at b)) r
-        by true e =
-            sym (ap (λ o. kept o (is_given_up n (side_ended k at b)) r) (own-ends k at b n r made e)
-            ∙ ap (λ m. kept (Some (or_disconnected (outcome_of n b))) m r)
-            (marks k at b n true (passing ∙ e)))
-        by false e =
-            sym (ap (λ o. kept o (is_given_up n (side_ended k at b)) r)
-            (other-ends k at b n r made e)
-            ∙ ap (λ m. kept (outcome_of n b) m r) (marks k at b n false (passing ∙ e)))
+        by : (t : Bool) (o : Option Outcome) → is_of k at r ≡ t → outcome_of n b ≡ o
+            → cond (t && is_none o) (kept (Some outcome.Disconnected) r) (kept o r)
+            ≡ kept (outcome_of n (side_ended k at b)) r
+        by true None e f =
+            sym (ap (λ o. kept o r) (own-ends k at b n r made e f))
+        by true (Some v) e f = sym (ap (λ o. kept o r) (stays-so k at b n v f))
+        by false o e f =
+            sym (ap (λ o. kept o r) (other-ends k at b n r made e ∙ f))

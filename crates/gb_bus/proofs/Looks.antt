@@ -1,16 +1,17 @@
 -- What is looked up is what the machine's bus has.
-use Rattle.std.proofs.Common.{◌≡◌, ℕ, ◌+◌, Bool, true, false, cond, map, ltb, eqb, ◌&&◌, ◌||◌, Option, Some, None, is_none, is_some, not, option_and_then, option_map, List, [], ◌∷◌, ◌++◌, length, refl, sym, ap, ◌∙◌, suc, append_assoc}
+use Rattle.std.proofs.Common.{◌≡◌, ℕ, ◌+◌, Bool, true, false, cond, map, eqb, ◌&&◌, ◌||◌, Option, Some, None, is_none, option_and_then, option_map, List, [], ◌∷◌, ◌++◌, length, refl, sym, ap, ◌∙◌, suc, append_assoc}
 use Rattle.std.specs.List.{filter, find, list_any}
 use Rattle.gb_base.specs.declared.end.End.{End}
 use Rattle.gb_base.specs.declared.end.End.TheVariants as end
 use Rattle.gb_base.specs.declared.end.Side.{Side}
 use Rattle.gb_bus.proofs.Finding.{place-is, placed, told}
-use Rattle.gb_bus.proofs.Moves.{last-is, queue-stands}
-use Rattle.gb_bus.proofs.Standing.{Agree, found, found-number, same-of}
+use Rattle.gb_bus.proofs.Moves.{queue-stands}
+use Rattle.gb_bus.proofs.Sides.{next-side}
+use Rattle.gb_bus.proofs.Standing.{Agree, StandsForFound, found, found-number, same-of}
 use Rattle.gb_bus.specs.Ends.{earlier, earlier_of}
 use Rattle.gb_bus.specs.Parts as parts
-use Rattle.gb_bus.specs.Parts.{earliest_in, earliest_of, is_none_left, joins, next_in, next_of, numbered, place_at, queue_of}
-use Rattle.gb_bus.specs.Stands.{StandForAll, Stands, StandsForConnection, StandsForQueue}
+use Rattle.gb_bus.specs.Parts.{earliest_in, earliest_of, is_none_left, joins, next_in, next_of, numbered, ops_of, place_at, queue_of}
+use Rattle.gb_bus.specs.Stands.{Shows, StandForAll, Stands, StandsForConnection, StandsForQueue}
 use Rattle.gb_bus.specs.Wiring.{count_at, ends_of, number_of}
 use Rattle.gb_bus.specs.declared.bus.Bus.{Bus}
 use Rattle.gb_bus.specs.declared.connection.Connection.{Connection}
@@ -18,8 +19,8 @@ use Rattle.gb_bus.specs.declared.queue.Item.{Item}
 use Rattle.gb_invariants.proofs.Awaiting.{same-some}
 use Rattle.gb_invariants.specs.Facts.{Loose}
 use Rattle.gb_machine.specs.Bus as machine
-use Rattle.gb_machine.specs.Bus.{Place, Request, connection_of, has_number, place_of, queue, same_end}
-use Rattle.gb_machine.specs.Labels.{fresh_label, greatest_label, next_label}
+use Rattle.gb_machine.specs.Bus.{Place, Request, connection_of, place_of, queue, same_end}
+use Rattle.gb_machine.specs.Labels.{cyclic_label, next_label}
 use Rattle.gb_machine.specs.Lists.{first, in_order, sorted}
 use Rattle.gb_machine.specs.Sending.{is_wired}
 use Rattle.gb_machine.specs.Waiting.{Queue, first_waiting, queue_before, queues_in, queues_of, unless_empty}
@@ -48,44 +49,40 @@ lives loose x b a i c s =
 -- ---- identifiers
 
 -- the next identifier of a side of a connection
-pub next-is : (x : Bus) (b : machine.Bus) (k : ℕ) (at : Side)
-    → StandForAll b.requests x.connections b.connections
+pub next-is : (x : Bus) (b : machine.Bus) (k : ℕ) (at : Side) → Shows x b
     → next_in k at x.connections ≡ next_label k at b
-next-is x b k at h =
-    same-of b.requests (option_and_then (next_of at)) (option_and_then (fresh_label at))
-    (find (numbered k) x.connections) (find (has_number k) b.connections) refl
-    (λ y m s. ap (λ l. cond (ltb l greatest_label) (Some (l + 1)) None)
-    (last-is b.requests at y m s))
-    (found-number b.requests k x.connections b.connections h)
-
--- a test of an option, by the other one
-none-tests : {A : Type 0} (o : Option A) (t : Bool) → is_some o ≡ not t → t ≡ is_none o
-none-tests None true h = refl
-none-tests None false h = absurd cc
-none-tests (Some v) true h = absurd cc
-none-tests (Some v) false h = refl
+next-is x b k at s =
+    by (find (numbered k) x.connections) (connection_of k b) refl refl
+    (found-number b.requests k x.connections b.connections s.connections)
+  where
+    by : (o : Option Connection) (p : Option machine.Connection)
+        → find (numbered k) x.connections ≡ o → connection_of k b ≡ p
+        → StandsForFound b.requests o p
+        → option_and_then (next_of at) o ≡ option_and_then (cyclic_label k at b) p
+    by None None e f h = refl
+    by (Some y) (Some c) e f h = next-side k at (ops_of at y) c b (s.sides k at y c e f)
+    by None (Some c) e f h = absurd h
+    by (Some y) None e f h = absurd h
 
 -- where the connection is live
 pub spent-is : (loose : List Loose) (x : Bus) (b : machine.Bus) (k : ℕ) (at : Side)
-    (found : Connection) (o : Option ℕ) (t : Bool) → Stands loose x b
-    → find (numbered k) x.connections ≡ Some found → o ≡ next_of at found → is_some o ≡ not t → t
-    ≡ is_none (next_label k at b)
-spent-is loose x b k at found o t s looks e h =
-    none-tests o t h
-    ∙ ap is_none (e ∙ sym (ap (option_and_then (next_of at)) looks)
-    ∙ next-is x b k at s.shows.connections)
+    (found : Connection) (t : Bool) → Stands loose x b
+    → find (numbered k) x.connections ≡ Some found → t ≡ is_none (next_of at found)
+    → t ≡ is_none (next_label k at b)
+spent-is loose x b k at found t s looks e =
+    e ∙ ap is_none (sym (ap (option_and_then (next_of at)) looks) ∙ next-is x b k at s.shows)
 
 -- where it isn't
 pub spent-nowhere : (loose : List Loose) (x : Bus) (b : machine.Bus) (k : ℕ) (at : Side)
     → Stands loose x b → find (numbered k) x.connections ≡ None
     → true ≡ is_none (next_label k at b)
 spent-nowhere loose x b k at s none =
-    ap is_none (sym (ap (option_and_then (next_of at)) none) ∙ next-is x b k at s.shows.connections)
+    ap is_none (sym (ap (option_and_then (next_of at)) none) ∙ next-is x b k at s.shows)
 
 -- ---- how many wait
 
-pub length-is : (rs : List Request) (is : List Item) (ms : List machine.Item) → StandsForQueue rs is ms
-    → length is ≡ length ms
+pub length-is : (rs : List Request) (is : List Item) (ms : List machine.Item)
+    → StandsForQueue rs is ms → length is ≡ length ms
 length-is rs [] [] h = refl
 length-is rs (i ∷ is) (m ∷ ms) h = ap suc (length-is rs is ms h.1)
 length-is rs [] (m ∷ ms) h = absurd h
@@ -259,7 +256,8 @@ pub wired_numbers-is : (rs : List Request) (i : ℕ) (xs : List Connection)
 wired_numbers-is rs i [] [] h = refl
 wired_numbers-is rs i (x ∷ xs) (c ∷ cs) h =
     by (parts.is_wired_to i x) (wiring.is_wired_to i c)
-    (ap (λ w. w && wiring.is_at i x.peer) h.0.wired ∙ ap (λ p. c.wired && wiring.is_at i p) h.0.peer)
+    (ap (λ w. w && wiring.is_at i x.peer) h.0.wired
+    ∙ ap (λ p. c.wired && wiring.is_at i p) h.0.peer)
     (wired_numbers-is rs i xs cs h.1)
   where
     code : List Connection

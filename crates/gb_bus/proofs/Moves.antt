@@ -4,7 +4,7 @@ use Rattle.gb_base.specs.declared.end.Side.{Side}
 use Rattle.gb_base.specs.declared.end.Side.TheVariants as side
 use Rattle.gb_bus.proofs.Queues.{queue_more, queue_push}
 use Rattle.gb_bus.proofs.Standing.{Together}
-use Rattle.gb_bus.specs.Parts.{cleared, closed, last_of, put, queue_of, with_last, with_queue, with_wire, without_front}
+use Rattle.gb_bus.specs.Parts.{cleared, closed, ops_of, put, queue_of, with_ops, with_queue, with_wire, without_front}
 use Rattle.gb_bus.specs.Stands.{StandsForConnection, StandsForItem, StandsForQueue}
 use Rattle.gb_bus.specs.declared.connection.Connection.{Connection}
 use Rattle.gb_bus.specs.declared.queue.Item.{Item}
@@ -14,6 +14,7 @@ use Rattle.gb_machine.specs.Delivery as delivery
 use Rattle.gb_machine.specs.Labels.{last_label, with_last_label}
 use Rattle.gb_machine.specs.Lists.{behind_first}
 use Rattle.gb_machine.specs.Sending as sending
+use Rattle.gb_ops.specs.Operations.{Operations}
 
 pub queue-stands : (rs : List Request) (at : Side) (x : Connection) (c : machine.Connection)
     → StandsForConnection rs x c
@@ -21,20 +22,13 @@ pub queue-stands : (rs : List Request) (at : Side) (x : Connection) (c : machine
 queue-stands rs side.Ap x c h = h.to_ap
 queue-stands rs side.Far x c h = h.to_far
 
-pub last-is : (rs : List Request) (at : Side) (x : Connection) (c : machine.Connection)
-    → StandsForConnection rs x c
-    → last_of at x ≡ last_label at c
-last-is rs side.Ap x c h = h.ap_last
-last-is rs side.Far x c h = h.far_last
-
 -- what a connection stands for, field by field in the order of the record
 stands-by : (rs : List Request) (x : Connection) (c : machine.Connection)
     → x.number ≡ c.number → x.ap ≡ c.ap → x.peer ≡ c.peer → x.protocol ≡ c.protocol
     → x.wired ≡ c.wired → c.clean ≡ true → x.shut ≡ c.shut
-    → x.ap_last ≡ c.ap_last → x.far_last ≡ c.far_last
     → StandsForQueue rs x.to_ap c.to_ap → StandsForQueue rs x.to_far c.to_far
     → StandsForConnection rs x c
-stands-by rs x c number ap peer protocol wired clean shut ap_last far_last to_ap to_far = record {
+stands-by rs x c number ap peer protocol wired clean shut to_ap to_far = record {
   number = number;
   ap = ap;
   peer = peer;
@@ -42,8 +36,6 @@ stands-by rs x c number ap peer protocol wired clean shut ap_last far_last to_ap
   wired = wired;
   clean = clean;
   shut = shut;
-  ap_last = ap_last;
-  far_last = far_last;
   to_ap = to_ap;
   to_far = to_far;
 }
@@ -54,21 +46,27 @@ pub with_queue-stands : (rs : List Request) (at : Side) (is : List Item) (ms : L
     → StandsForQueue rs is ms → StandsForConnection rs x c
     → StandsForConnection rs (with_queue at is x) (machine.with_queue at ms c)
 with_queue-stands rs side.Ap is ms x c q h =
-    stands-by rs _ _ h.number h.ap h.peer h.protocol h.wired h.clean h.shut h.ap_last h.far_last q
+    stands-by rs _ _ h.number h.ap h.peer h.protocol h.wired h.clean h.shut q
     h.to_far
 with_queue-stands rs side.Far is ms x c q h =
-    stands-by rs _ _ h.number h.ap h.peer h.protocol h.wired h.clean h.shut h.ap_last h.far_last
+    stands-by rs _ _ h.number h.ap h.peer h.protocol h.wired h.clean h.shut
     h.to_ap q
 
--- an identifier was drawn
-pub drawn-stands : (rs : List Request) (at : Side) (label : ℕ)
-    → Together rs rs (with_last at label) (with_last_label at label)
-drawn-stands rs side.Ap label x c h =
-    stands-by rs _ _ h.number h.ap h.peer h.protocol h.wired h.clean h.shut refl h.far_last h.to_ap
-    h.to_far
-drawn-stands rs side.Far label x c h =
-    stands-by rs _ _ h.number h.ap h.peer h.protocol h.wired h.clean h.shut h.ap_last refl h.to_ap
-    h.to_far
+-- an identifier is drawn
+pub drawn-stands : (rs : List Request) (at : Side) (ops : Operations) (label : ℕ)
+    → Together rs rs (with_ops at ops) (with_last_label at label)
+drawn-stands rs side.Ap ops label x c h =
+    stands-by rs _ _ h.number h.ap h.peer h.protocol h.wired h.clean h.shut h.to_ap h.to_far
+drawn-stands rs side.Far ops label x c h =
+    stands-by rs _ _ h.number h.ap h.peer h.protocol h.wired h.clean h.shut h.to_ap h.to_far
+
+-- the requests of a side are others
+pub ops-stand : (rs : List Request) (at : Side) (ops : Operations)
+    → Together rs rs (with_ops at ops) (λ c. c)
+ops-stand rs side.Ap ops x c h =
+    stands-by rs _ _ h.number h.ap h.peer h.protocol h.wired h.clean h.shut h.to_ap h.to_far
+ops-stand rs side.Far ops x c h =
+    stands-by rs _ _ h.number h.ap h.peer h.protocol h.wired h.clean h.shut h.to_ap h.to_far
 
 -- a message goes to the end of a queue, unless the connection isn't wired
 pub put-stands : (rs : List Request) (at : Side) (i : Item) (m : machine.Item)
@@ -107,20 +105,20 @@ front-stands rs at x c h =
 -- a connection is wired
 pub wired-stands : (rs : List Request) → Together rs rs with_wire (λ c. record c { wired = true })
 wired-stands rs x c h =
-    stands-by rs _ _ h.number h.ap h.peer h.protocol refl h.clean h.shut h.ap_last h.far_last
-    h.to_ap h.to_far
+    stands-by rs _ _ h.number h.ap h.peer h.protocol refl h.clean h.shut h.to_ap
+    h.to_far
 
 -- or isn't any more
 pub cleared-stands : (rs : List Request)
     → Together rs rs cleared (λ c. record c { wired = false; to_ap = []; to_far = [] })
 cleared-stands rs x c h =
-    stands-by rs _ _ h.number h.ap h.peer h.protocol refl h.clean h.shut h.ap_last h.far_last tt tt
+    stands-by rs _ _ h.number h.ap h.peer h.protocol refl h.clean h.shut tt tt
 
 -- or is closed
 pub closed-stands : (rs : List Request) → Together rs rs closed (λ c. record c { shut = true })
 closed-stands rs x c h =
-    stands-by rs _ _ h.number h.ap h.peer h.protocol h.wired h.clean refl h.ap_last h.far_last
-    h.to_ap h.to_far
+    stands-by rs _ _ h.number h.ap h.peer h.protocol h.wired h.clean refl h.to_ap
+    h.to_far
 
 -- it is the same
 pub same-stands : (rs : List Request) → Together rs rs (λ x. x) (λ c. c)
@@ -129,6 +127,74 @@ same-stands rs x c h = h
 -- and is so where one more request was made
 pub more-stands : (rs : List Request) (r : Request) → Together rs (rs ++ r ∷ []) (λ x. x) (λ c. c)
 more-stands rs r x c h =
-    stands-by (rs ++ r ∷ []) _ _ h.number h.ap h.peer h.protocol h.wired h.clean h.shut h.ap_last
-    h.far_last (queue_more rs r x.to_ap c.to_ap h.to_ap)
+    stands-by (rs ++ r ∷ []) _ _ h.number h.ap h.peer h.protocol h.wired h.clean h.shut
+    (queue_more rs r x.to_ap c.to_ap h.to_ap)
     (queue_more rs r x.to_far c.to_far h.to_far)
+
+-- ---- what stays of the sides
+
+pub wire-ops : (at : Side) (x : Connection) → ops_of at (with_wire x) ≡ ops_of at x
+wire-ops side.Ap x = refl
+wire-ops side.Far x = refl
+
+pub wire-last : (at : Side) (c : machine.Connection)
+    → last_label at (record c { wired = true }) ≡ last_label at c
+wire-last side.Ap c = refl
+wire-last side.Far c = refl
+
+queue-ops : (s at : Side) (is : List Item) (x : Connection)
+    → ops_of s (with_queue at is x) ≡ ops_of s x
+queue-ops side.Ap side.Ap is x = refl
+queue-ops side.Ap side.Far is x = refl
+queue-ops side.Far side.Ap is x = refl
+queue-ops side.Far side.Far is x = refl
+
+queue-last : (s at : Side) (ms : List machine.Item) (c : machine.Connection)
+    → last_label s (machine.with_queue at ms c) ≡ last_label s c
+queue-last side.Ap side.Ap ms c = refl
+queue-last side.Ap side.Far ms c = refl
+queue-last side.Far side.Ap ms c = refl
+queue-last side.Far side.Far ms c = refl
+
+pub front-ops : (at s : Side) (x : Connection) → ops_of s (without_front at x) ≡ ops_of s x
+front-ops at s x = queue-ops s at (behind_first (queue_of at x)) x
+
+pub front-last : (at s : Side) (c : machine.Connection)
+    → last_label s (delivery.without_front at c) ≡ last_label s c
+front-last at s c = queue-last s at (behind_first (queue at c)) c
+
+pub put-ops : (at : Side) (i : Item) (s : Side) (x : Connection)
+    → ops_of s (put at i x) ≡ ops_of s x
+put-ops at i s x = by x.wired
+  where
+    by : (w : Bool) → ops_of s (cond w (with_queue at (queue_of at x ++ i ∷ []) x) x) ≡ ops_of s x
+    by true = queue-ops s at (queue_of at x ++ i ∷ []) x
+    by false = refl
+
+pub put-last : (at : Side) (m : machine.Item) (s : Side) (c : machine.Connection)
+    → last_label s (sending.put at m c) ≡ last_label s c
+put-last at m s c = by c.wired
+  where
+    by : (w : Bool) → last_label s (cond w (machine.with_queue at (queue at c ++ m ∷ []) c) c)
+        ≡ last_label s c
+    by true = queue-last s at (queue at c ++ m ∷ []) c
+    by false = refl
+
+-- and the number
+pub queue-number : (at : Side) (is : List Item) (x : Connection)
+    → (with_queue at is x).number ≡ x.number
+queue-number side.Ap is x = refl
+queue-number side.Far is x = refl
+
+pub put-number : (at : Side) (i : Item) (x : Connection) → (put at i x).number ≡ x.number
+put-number at i x = by x.wired
+  where
+    by : (w : Bool)
+        → (cond w (with_queue at (queue_of at x ++ i ∷ []) x) x).number ≡ x.number
+    by true = queue-number at (queue_of at x ++ i ∷ []) x
+    by false = refl
+
+pub ops-number : (at : Side) (ops : Operations) (x : Connection)
+    → (with_ops at ops x).number ≡ x.number
+ops-number side.Ap ops x = refl
+ops-number side.Far ops x = refl

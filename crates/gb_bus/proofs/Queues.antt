@@ -19,13 +19,21 @@ item_more rs r (code.Ask number label kind payload) (machine.Ask n) h =
       kind_is = h.kind_is;
       payload_is = h.payload_is;
     }
-item_more rs r (code.Reply number result payload) (machine.Reply n v bytes) h = h
+item_more rs r (code.Reply number label result payload) (machine.Reply n v bytes) h =
+    record {
+      request = h.request;
+      made = nth-more n rs r h.request h.made;
+      number_is = h.number_is;
+      label_is = h.label_is;
+      result_is = h.result_is;
+      payload_is = h.payload_is;
+    }
 item_more rs r (code.Ask number label kind payload) (machine.Reply n v bytes) h = absurd h
 item_more rs r (code.Ask number label kind payload) (machine.Raw bytes) h = absurd h
 item_more rs r (code.Ask number label kind payload) (machine.RawReply l k v bytes) h = absurd h
-item_more rs r (code.Reply number result payload) (machine.Ask n) h = absurd h
-item_more rs r (code.Reply number result payload) (machine.Raw bytes) h = absurd h
-item_more rs r (code.Reply number result payload) (machine.RawReply l k v bytes) h = absurd h
+item_more rs r (code.Reply number label result payload) (machine.Ask n) h = absurd h
+item_more rs r (code.Reply number label result payload) (machine.Raw bytes) h = absurd h
+item_more rs r (code.Reply number label result payload) (machine.RawReply l k v bytes) h = absurd h
 
 -- a queue too
 pub queue_more : (rs : List Request) (r : Request) (is : List Item) (ms : List machine.Item)

@@ -2,7 +2,8 @@
 use Rattle.std.proofs.Common.{◌≡◌, ◌≤◌, ℕ, ◌+◌, Some, List, ◌∷◌, ◌++◌, refl, inr, subst, arith, sym}
 use Rattle.gb_base.specs.declared.end.Side.{Side}
 use Rattle.gb_bus.proofs.Loosening.{fits-first}
-use Rattle.gb_bus.proofs.Moves.{put-stands, same-stands}
+use Rattle.gb_bus.proofs.Moves.{put-last, put-number, put-ops, put-stands, same-stands}
+use Rattle.gb_bus.proofs.Sides.{sides-changed}
 use Rattle.gb_bus.proofs.Standing.{changed}
 use Rattle.gb_bus.proofs.Wires.{shows-connections}
 use Rattle.gb_bus.specs.Delivering.{MayReply, taken_from}
@@ -38,26 +39,34 @@ pub replies : (x y : Bus) (k : ℕ) (at : Side) (asked : Asked) (number result :
     (before after : List Loose) (b : machine.Bus) (n : ℕ)
     → asked.number ≡ Some number
     → y ≡ record x {
-      connections = at_first (numbered k) (put (other_side at) (code.Reply number result payload))
-          x.connections;
+      connections = at_first (numbered k)
+          (put (other_side at) (code.Reply number asked.label result payload)) x.connections;
     }
     → Stands (before ++ taken_from k at (machine.Ask n) ∷ after) x b → MayReply asked b n
     → Stands (before ++ after) y (replied k (other_side at) (machine.Reply n result payload) b)
 replies x y k at asked number result payload before after b n named moved s may =
     let same : number ≡ n = cc (may.names.number, named) in
     let item = machine.Reply n result payload in
+    let reply = code.Reply number asked.label result payload in
     let rest = before ++ after in
     let fits = fits-first before (taken_from k at (machine.Ask n)) after b s.facts.fits in
     subst (λ (w : Bus). Stands rest w (replied k (other_side at) item b)) (sym moved) (record {
       shows = shows-connections x b
-          (at_first (numbered k) (put (other_side at) (code.Reply number result payload))
-          x.connections)
-          (replied k (other_side at) item b).connections
-          (changed b.requests b.requests k (put (other_side at) (code.Reply number result payload))
+          (at_first (numbered k) (put (other_side at) reply) x.connections) (replied k (other_side at) item b).connections
+          (changed b.requests b.requests k (put (other_side at) reply)
           (sending.put (other_side at) item) x.connections b.connections
-          (put-stands b.requests (other_side at) (code.Reply number result payload) item
-          (record { number_is = same; result_is = refl; payload_is = refl }))
-          (same-stands b.requests) s.shows.connections) s.shows;
+          (put-stands b.requests (other_side at) reply item (record {
+            request = may.request;
+            made = may.made;
+            number_is = same;
+            label_is = sym may.names.label;
+            result_is = refl;
+            payload_is = refl;
+          })) (same-stands b.requests) s.shows.connections)
+          (sides-changed x.connections b k (put (other_side at) reply)
+          (sending.put (other_side at) item) (put-number (other_side at) reply)
+          (λ c. (put-self (other_side at) item c).number) (put-ops (other_side at) reply)
+          (put-last (other_side at) item) s.shows.sides) s.shows;
       facts = record {
         fits = replied-keeps (taken_from k at (machine.Ask n) ∷ rest) rest k (other_side at) item b
             (λ l i. inr i)

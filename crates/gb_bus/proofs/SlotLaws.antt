@@ -1,5 +1,5 @@
 -- What the slots of requests go on to say.
-use Rattle.std.proofs.Common.{◌≡◌, ℕ, zero, suc, ◌+◌, ◌-◌, ◌<◌, ◌≤◌, Bool, false, Option, Some, None, option_map, List, [], ◌∷◌, ◌++◌, length, map, set, length-set, refl, sym, ap, ◌∙◌, ◌⊎◌, ⊎_elim, inl, inr, arith, length-append, subst}
+use Rattle.std.proofs.Common.{◌≡◌, ℕ, zero, suc, ◌+◌, ◌-◌, ◌<◌, ◌≤◌, Option, Some, None, option_map, List, [], ◌∷◌, ◌++◌, length, map, set, length-set, refl, sym, ap, ◌∙◌, ◌⊎◌, ⊎_elim, inl, inr, arith, length-append, subst}
 use Rattle.std.proofs.lemmas.Bool.{cases_lt, cases_order}
 use Rattle.std.specs.List.{slice_get}
 use Rattle.gb_base.specs.declared.outcome.Outcome.{Outcome}
@@ -78,25 +78,24 @@ at_number-other (suc k) (suc j) change slots h = by (nth (suc k) slots)
 
 -- ---- what slots say
 
--- the slots say what was made, how it ended, and whether it was given up
-abbrev pub Tell : List Slot → List Request → (ℕ → Option Outcome) → (ℕ → Bool) → Type 0
-Tell slots reqs how mark = (n : ℕ) → nth n slots ≡ option_map (kept (how n) (mark n)) (nth n reqs)
+-- the slots say what was made and how it ended
+abbrev pub Tell : List Slot → List Request → (ℕ → Option Outcome) → Type 0
+Tell slots reqs how = (n : ℕ) → nth n slots ≡ option_map (kept (how n)) (nth n reqs)
 
--- of one request the end or the mark is another
+-- of one request the end is another
 pub tell_changed : (slots : List Slot) (reqs : List Request) (how how2 : ℕ → Option Outcome)
-    (mark mark2 : ℕ → Bool)
     (n : ℕ) (change : Slot → Slot)
-    → ((r : Request) → change (kept (how n) (mark n) r) ≡ kept (how2 n) (mark2 n) r)
-    → ((m : ℕ) → m < n ⊎ n < m → (how2 m ≡ how m) × (mark2 m ≡ mark m))
-    → Tell slots reqs how mark → Tell (at_number n change slots) reqs how2 mark2
-tell_changed slots reqs how how2 mark mark2 n change here elsewhere tell m =
+    → ((r : Request) → change (kept (how n) r) ≡ kept (how2 n) r)
+    → ((m : ℕ) → m < n ⊎ n < m → how2 m ≡ how m)
+    → Tell slots reqs how → Tell (at_number n change slots) reqs how2
+tell_changed slots reqs how how2 n change here elsewhere tell m =
     ⊎_elim same other (cases_order m n)
   where
     Says : ℕ → Type 0
-    Says k = nth k (at_number n change slots) ≡ option_map (kept (how2 k) (mark2 k)) (nth k reqs)
+    Says k = nth k (at_number n change slots) ≡ option_map (kept (how2 k)) (nth k reqs)
 
-    own : (o : Option Request) → option_map change (option_map (kept (how n) (mark n)) o)
-        ≡ option_map (kept (how2 n) (mark2 n)) o
+    own : (o : Option Request) → option_map change (option_map (kept (how n)) o)
+        ≡ option_map (kept (how2 n)) o
     own None = refl
     own (Some r) = ap Some (here r)
 
@@ -108,64 +107,56 @@ tell_changed slots reqs how how2 mark mark2 n change here elsewhere tell m =
 
     other : m < n ⊎ n < m → Says m
     other h =
-        let e = elsewhere m h in
         at_number-other n m change slots h ∙ tell m
-        ∙ sym (ap (λ o. option_map (kept o (mark2 m)) (nth m reqs)) e.0
-        ∙ ap (λ b. option_map (kept (how m) b) (nth m reqs)) e.1)
+        ∙ sym (ap (λ o. option_map (kept o) (nth m reqs)) (elsewhere m h))
 
--- of each request they may be others
+-- of each request it may be another
 pub tell_mapped : (slots : List Slot) (reqs : List Request) (how how2 : ℕ → Option Outcome)
-    (mark mark2 : ℕ → Bool)
     (change : Slot → Slot)
-    → ((n : ℕ) (r : Request) → nth n reqs ≡ Some r → change (kept (how n) (mark n) r)
-    ≡ kept (how2 n) (mark2 n) r)
-    → Tell slots reqs how mark → Tell (map change slots) reqs how2 mark2
-tell_mapped slots reqs how how2 mark mark2 change each tell n =
+    → ((n : ℕ) (r : Request) → nth n reqs ≡ Some r → change (kept (how n) r) ≡ kept (how2 n) r)
+    → Tell slots reqs how → Tell (map change slots) reqs how2
+tell_mapped slots reqs how how2 change each tell n =
     nth-map change n slots ∙ ap (option_map change) (tell n) ∙ by (nth n reqs) refl
   where
     by : (o : Option Request) → nth n reqs ≡ o
-        → option_map change (option_map (kept (how n) (mark n)) o)
-        ≡ option_map (kept (how2 n) (mark2 n)) o
+        → option_map change (option_map (kept (how n)) o) ≡ option_map (kept (how2 n)) o
     by None e = refl
     by (Some r) e = ap Some (each n r e)
 
 -- one more request
 pub tell_more : (slots : List Slot) (reqs : List Request) (how how2 : ℕ → Option Outcome)
-    (mark : ℕ → Bool) (r : Request) (o : Option Outcome)
-    → length reqs ≡ length slots → Tell slots reqs how mark
+    (r : Request) (o : Option Outcome)
+    → length reqs ≡ length slots → Tell slots reqs how
     → ((n : ℕ) → n ≤ length reqs → how2 n ≡ how n)
-    → how2 (length reqs + 1) ≡ o → mark (length reqs + 1) ≡ false
-    → Tell (slots ++ kept o false r ∷ []) (reqs ++ r ∷ []) how2 mark
-tell_more slots reqs how how2 mark r o count tell same last unmarked n =
+    → how2 (length reqs + 1) ≡ o
+    → Tell (slots ++ kept o r ∷ []) (reqs ++ r ∷ []) how2
+tell_more slots reqs how how2 r o count tell same last n =
     ⊎_elim (λ h. ⊎_elim (past h) (newest h) (cases_lt (suc (length reqs)) n)) old
     (cases_lt (length reqs) n)
   where
     Says : Type 0
-    Says = nth n (slots ++ kept o false r ∷ [])
-        ≡ option_map (kept (how2 n) (mark n)) (nth n (reqs ++ r ∷ []))
+    Says = nth n (slots ++ kept o r ∷ []) ≡ option_map (kept (how2 n)) (nth n (reqs ++ r ∷ []))
 
     past : length reqs < n → suc (length reqs) < n → Says
     past h beyond =
-        let slots_end : length (slots ++ kept o false r ∷ []) < n =
-        omega (arith, length-append slots (kept o false r ∷ [])) in
+        let slots_end : length (slots ++ kept o r ∷ []) < n =
+        omega (arith, length-append slots (kept o r ∷ [])) in
         let reqs_end : length (reqs ++ r ∷ []) < n = omega (arith, length-append reqs (r ∷ [])) in
-        nth-past n (slots ++ kept o false r ∷ []) slots_end
-        ∙ sym (ap (option_map (kept (how2 n) (mark n))) (nth-past n (reqs ++ r ∷ []) reqs_end))
+        nth-past n (slots ++ kept o r ∷ []) slots_end
+        ∙ sym (ap (option_map (kept (how2 n))) (nth-past n (reqs ++ r ∷ []) reqs_end))
 
     newest : length reqs < n → n ≤ suc (length reqs) → Says
     newest h most =
         let slot_place : n ≡ suc (length slots) = omega arith in
         let place : n ≡ suc (length reqs) = omega arith in
         let number : n ≡ length reqs + 1 = omega arith in
-        ap (λ k. nth k (slots ++ kept o false r ∷ [])) slot_place ∙ nth-push slots (kept o false r)
-        ∙ sym (ap (λ e. option_map (kept e (mark n)) (nth n (reqs ++ r ∷ [])))
-        (ap how2 number ∙ last)
-        ∙ ap (λ e. option_map (kept o e) (nth n (reqs ++ r ∷ []))) (ap mark number ∙ unmarked)
-        ∙ ap (option_map (kept o false)) (ap (λ k. nth k (reqs ++ r ∷ [])) place ∙ nth-push reqs r))
+        ap (λ k. nth k (slots ++ kept o r ∷ [])) slot_place ∙ nth-push slots (kept o r)
+        ∙ sym (ap (λ e. option_map (kept e) (nth n (reqs ++ r ∷ []))) (ap how2 number ∙ last)
+        ∙ ap (option_map (kept o)) (ap (λ k. nth k (reqs ++ r ∷ [])) place ∙ nth-push reqs r))
 
     old : n ≤ length reqs → Says
     old h =
         let fits : n ≤ length slots = omega arith in
-        nth-push-below n slots (kept o false r) fits ∙ tell n
-        ∙ sym (ap (λ e. option_map (kept e (mark n)) (nth n (reqs ++ r ∷ []))) (same n h)
-        ∙ ap (option_map (kept (how n) (mark n))) (nth-push-below n reqs r h))
+        nth-push-below n slots (kept o r) fits ∙ tell n
+        ∙ sym (ap (λ e. option_map (kept e) (nth n (reqs ++ r ∷ []))) (same n h)
+        ∙ ap (option_map (kept (how n))) (nth-push-below n reqs r h))

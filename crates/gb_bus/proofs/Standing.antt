@@ -52,6 +52,20 @@ changed rs qs k f g (x ∷ xs) (c ∷ cs) t s h =
 changed rs qs k f g [] (c ∷ cs) t s h = absurd h
 changed rs qs k f g (x ∷ xs) [] t s h = absurd h
 
+-- the connection with a number changes, and stands for the machine's as before
+pub stays-for : (rs : List Request) (k : ℕ) (f : Connection → Connection) (xs : List Connection)
+    (cs : List machine.Connection) → Together rs rs f (λ c. c) → StandForAll rs xs cs
+    → StandForAll rs (at_first (numbered k) f xs) cs
+stays-for rs k f [] [] t h = tt
+stays-for rs k f (x ∷ xs) (c ∷ cs) t h = by (numbered k x) (stays-for rs k f xs cs t h.1)
+  where
+    by : (a : Bool) → StandForAll rs (at_first (numbered k) f xs) cs
+        → StandForAll rs (cond a (f x ∷ xs) (x ∷ at_first (numbered k) f xs)) (c ∷ cs)
+    by true later = (t x c h.0, h.1)
+    by false later = (h.0, later)
+stays-for rs k f [] (c ∷ cs) t h = absurd h
+stays-for rs k f (x ∷ xs) [] t h = absurd h
+
 -- one more connection
 pub one-more : (rs : List Request) (x : Connection) (c : machine.Connection) (xs : List Connection)
     (cs : List machine.Connection)

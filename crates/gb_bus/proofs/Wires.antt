@@ -1,19 +1,24 @@
 -- Connections that are made, wired, unwired, closed and removed stand for the machine's.
-use Rattle.std.proofs.Common.{◌≡◌, ◌≤◌, ℕ, suc, ◌+◌, ◌==◌, not, true, false, option_map, List, [], ◌∷◌, ◌++◌, map, refl, sym, ap, ◌∙◌, subst, arith}
+use Rattle.std.proofs.Common.{◌≡◌, ◌≤◌, ℕ, suc, ◌+◌, ◌==◌, Bool, not, true, false, eqb, ◌&&◌, is_none, Option, option_map, List, [], ◌∷◌, ◌++◌, map, refl, sym, ap, ◌∙◌, subst, arith}
 use Rattle.std.proofs.lemmas.List.{length-map}
 use Rattle.std.specs.List.{slice_get}
 use Rattle.gb_base.specs.declared.end.End.TheVariants as end
 use Rattle.gb_base.specs.declared.end.Side.{Side}
 use Rattle.gb_base.specs.declared.end.Side.TheVariants as side
+use Rattle.gb_base.specs.declared.outcome.Outcome.{Outcome}
+use Rattle.gb_bus.proofs.Changing.{twice}
 use Rattle.gb_bus.proofs.Closing.{opens, tell_closed}
-use Rattle.gb_bus.proofs.Moves.{cleared-stands, closed-stands, same-stands, wired-stands}
+use Rattle.gb_bus.proofs.Moves.{cleared-stands, closed-stands, same-stands, wire-last, wire-ops, wired-stands}
+use Rattle.gb_bus.proofs.Sides.{sides-attached, sides-changed, sides-closed, sides-detached}
 use Rattle.gb_bus.proofs.Standing.{changed, one-more, removed}
-use Rattle.gb_bus.specs.Parts.{cleared, closed, new_connection, numbered, with_wire}
-use Rattle.gb_bus.specs.Slots.{open_in, over}
-use Rattle.gb_bus.specs.Stands.{Keeps, Shows, StandForAll, Stands, kept}
+use Rattle.gb_bus.specs.Parts.{cleared, closed, new_connection, numbered, ops_of, with_ops, with_wire}
+use Rattle.gb_bus.specs.Slots as slots
+use Rattle.gb_bus.specs.Slots.{is_open_on, open_in, over}
+use Rattle.gb_bus.specs.Stands.{KeepSides, Keeps, Shows, StandForAll, Stands, kept}
 use Rattle.gb_bus.specs.Wiring.{Attaches, EndsAs, IsOther, MayAttach, elsewhere}
 use Rattle.gb_bus.specs.declared.bus.Bus.{Bus}
 use Rattle.gb_bus.specs.declared.connection.Connection.{Connection}
+use Rattle.gb_bus.specs.declared.slots.Slot.{Slot}
 use Rattle.gb_invariants.proofs.Apart.{apart-attached, apart-changed, apart-detached}
 use Rattle.gb_invariants.proofs.Changes.{attached-keeps, detached-keeps, shut-keeps, unwired-keeps, wired-keeps}
 use Rattle.gb_invariants.proofs.Awaiting.{not-both}
@@ -23,20 +28,22 @@ use Rattle.gb_invariants.proofs.Outcomes.{is-same}
 use Rattle.gb_invariants.specs.Facts.{IsMade, Loose, times_in}
 use Rattle.gb_machine.specs.Bus as machine
 use Rattle.gb_machine.specs.Bus.{Request, outcome_of}
+use Rattle.gb_machine.specs.Labels.{last_label}
 use Rattle.gb_machine.specs.LawsBus.{AreApart, is_item_of}
 use Rattle.gb_machine.specs.Lists.{at_first, without}
 use Rattle.gb_machine.specs.Members.{Each, IsIn}
-use Rattle.gb_machine.specs.Requests.{is_given_up, open_on}
+use Rattle.gb_machine.specs.Requests.{is_due, is_of, open_on, open_requests}
 use Rattle.gb_machine.specs.Wiring as wiring
 use Rattle.gb_machine.specs.Wiring.{attached, detached, next_connection, shut_down, side_ended, unwired, wired, with_connection}
+use Rattle.gb_ops.specs.Calls.{emptied}
 
 -- only connections change
 pub shows-connections : (x : Bus) (b : machine.Bus) (xs : List Connection)
     (cs : List machine.Connection)
-    → StandForAll b.requests xs cs → Shows x b
+    → StandForAll b.requests xs cs → KeepSides xs (record b { connections = cs }) → Shows x b
     → Shows (record x { connections = xs }) (record b { connections = cs })
-shows-connections x b xs cs h s =
-    record { made = s.made; connections = h; count = s.count; slots = s.slots }
+shows-connections x b xs cs h sides s =
+    record { made = s.made; connections = h; sides = sides; count = s.count; slots = s.slots }
 
 pub wires : (loose : List Loose) (x y : Bus) (b : machine.Bus) (k : ℕ) → Stands loose x b
     → y ≡ record x { connections = at_first (numbered k) with_wire x.connections }
@@ -47,7 +54,9 @@ wires loose x y b k s e =
           (wired k b).connections
           (changed b.requests b.requests k with_wire (λ c. record c { wired = true }) x.connections
           b.connections
-          (wired-stands b.requests) (same-stands b.requests) s.shows.connections) s.shows;
+          (wired-stands b.requests) (same-stands b.requests) s.shows.connections)
+          (sides-changed x.connections b k with_wire (λ c. record c { wired = true }) (λ v. refl)
+          (λ c. refl) wire-ops wire-last s.shows.sides) s.shows;
       facts = record {
         fits = wired-keeps loose k b s.facts.fits;
         apart = apart-changed b k (λ c. record c { wired = true })
@@ -61,7 +70,8 @@ pub detaches : (loose : List Loose) (x y : Bus) (b : machine.Bus) (k : ℕ) → 
 detaches loose x y b k s e =
     subst (λ (w : Bus). Stands loose w (detached k b)) (sym e) (record {
       shows = shows-connections x b (without (numbered k) x.connections) (detached k b).connections
-          (removed b.requests k x.connections b.connections s.shows.connections) s.shows;
+          (removed b.requests k x.connections b.connections s.shows.connections)
+          (sides-detached x.connections b k s.shows.sides) s.shows;
       facts = record {
         fits = detached-keeps loose k b s.facts.fits;
         apart =
@@ -113,11 +123,14 @@ attaches loose x y b a i c protocol k s may number e =
                 wired = refl;
                 clean = refl;
                 shut = refl;
-                ap_last = refl;
-                far_last = refl;
                 to_ap = tt;
                 to_far = tt;
               }) s.shows.connections;
+          sides = subst (λ n. KeepSides
+              (x.connections ++ new_connection n a (end.Module i c) protocol ∷ [])
+              (attached a i c protocol b)) (sym next)
+              (sides-attached x.connections b a i c protocol s.shows.connections
+              s.facts.fits.numbers s.shows.sides);
           count = s.shows.count;
           slots = s.shows.slots;
         };
@@ -132,23 +145,80 @@ attaches loose x y b a i c protocol k s may number e =
 -- ---- a side ends
 
 -- the open requests that slots tell of
-pub opened-on : (x : Bus) (b : machine.Bus) (k : ℕ) (at : Side) → Shows x b → open_in 1 k at x.slots
-    ≡ open_on k at b
-opened-on x b k at s =
-    opens 1 k at b (λ n. is_given_up n b) x.slots b.requests (λ i j e.
+opened : (x : Bus) (b : machine.Bus) (test : Slot → Bool) (of : Request → Bool)
+    → ((o : Option Outcome) (r : Request) → test (kept o r) ≡ (of r && is_none o)) → Shows x b
+    → open_in test 1 x.slots ≡ open_requests of b
+opened x b test of same s =
+    opens 1 test of b x.slots b.requests same (λ i j e.
     subst (λ m. slice_get x.slots i
-    ≡ option_map (kept (outcome_of m b) (is_given_up m b)) (slice_get b.requests i))
+    ≡ option_map (kept (outcome_of m b)) (slice_get b.requests i))
     (let f : suc i ≡ j = omega (arith, e) in f) (s.slots (suc i)))
 
--- connections change, and then a side of one ends
-shows-closed : (x : Bus) (b : machine.Bus) (k : ℕ) (at : Side) → Shows x b
-    → Shows (record x { slots = map (over k at) x.slots }) (side_ended k at b)
-shows-closed x b k at s = record {
+-- those of a side of a connection
+opened-on : (x : Bus) (b : machine.Bus) (k : ℕ) (at : Side) → Shows x b
+    → open_in (is_open_on k at) 1 x.slots ≡ open_on k at b
+opened-on x b k at s = opened x b (is_open_on k at) (is_of k at) (λ o r. refl) s
+
+-- and those whose deadline came
+pub due-is : (x : Bus) (b : machine.Bus) (now : ℕ) → Shows x b
+    → open_in (slots.is_due now) 1 x.slots ≡ open_requests (is_due now) b
+due-is x b now s = opened x b (slots.is_due now) (is_due now) (λ o r. refl) s
+
+-- connections change, and a side of one ends
+shows-closed : (x : Bus) (b : machine.Bus) (k : ℕ) (at : Side) (xs : List Connection)
+    (cs : List machine.Connection)
+    → StandForAll b.requests xs cs → KeepSides xs (side_ended k at (record b { connections = cs }))
+    → Shows x b
+    → Shows (record x { connections = xs; slots = map (over k at) x.slots })
+    (side_ended k at (record b { connections = cs }))
+shows-closed x b k at xs cs h sides s = record {
   made = s.made;
-  connections = s.connections;
+  connections = h;
+  sides = sides;
   count = s.count ∙ sym (length-map x.slots (over k at));
-  slots = tell_closed k at b x.slots s.slots;
+  slots = tell_closed k at (record b { connections = cs }) x.slots s.slots;
 }
+
+-- a connection changes but for its sides, and then one of them ends
+sides-over : (xs : List Connection) (b : machine.Bus) (k : ℕ) (at : Side)
+    (f h : Connection → Connection) (g : machine.Connection → machine.Connection)
+    → ((x : Connection) → (f x).number ≡ x.number)
+    → ((c : machine.Connection) → (g c).number ≡ c.number)
+    → ((s : Side) (x : Connection) → ops_of s (f x) ≡ ops_of s x)
+    → ((s : Side) (c : machine.Connection) → last_label s (g c) ≡ last_label s c)
+    → (λ (x : Connection). with_ops at (emptied (ops_of at (f x))) (f x)) ≡ h
+    → KeepSides xs b
+    → KeepSides (at_first (numbered k) h xs) (side_ended k at (with_connection k g b))
+sides-over xs b k at f h g number same ops last is keeps =
+    subst (λ (ys : List Connection). KeepSides ys (side_ended k at (with_connection k g b)))
+    (twice (numbered k) (λ x. with_ops at (emptied (ops_of at x)) x) f xs
+    (λ x. ap (λ n. eqb n k) (number x)) ∙ ap (λ c. at_first (numbered k) c xs) is)
+    (sides-closed (at_first (numbered k) f xs) (with_connection k g b) k at
+    (sides-changed xs b k f g number same ops last keeps))
+
+-- a connection without its wire and what waited there, as its sides are
+abbrev cut : Connection → Connection
+cut x = record x { wired = false; to_ap = []; to_far = [] }
+
+abbrev cut_off : machine.Connection → machine.Connection
+cut_off c = record c { wired = false; to_ap = []; to_far = [] }
+
+cut-ops : (s : Side) (x : Connection) → ops_of s (cut x) ≡ ops_of s x
+cut-ops side.Ap x = refl
+cut-ops side.Far x = refl
+
+cut-last : (s : Side) (c : machine.Connection) → last_label s (cut_off c) ≡ last_label s c
+cut-last side.Ap c = refl
+cut-last side.Far c = refl
+
+shut-ops : (s : Side) (x : Connection) → ops_of s (record x { shut = true }) ≡ ops_of s x
+shut-ops side.Ap x = refl
+shut-ops side.Far x = refl
+
+shut-last : (s : Side) (c : machine.Connection)
+    → last_label s (record c { shut = true }) ≡ last_label s c
+shut-last side.Ap c = refl
+shut-last side.Far c = refl
 
 -- items that are of other connections are among those that there are
 of-elsewhere : (k : ℕ) (loose : List Loose) (l : Loose) → IsIn l (elsewhere k loose)
@@ -174,21 +244,20 @@ pub unwires : (loose : List Loose) (x y : Bus) (b : machine.Bus) (k : ℕ) (was 
       slots =
           map (over k side.Far) x.slots;
     }
-    → more ≡ open_in 1 k side.Far x.slots → now ≡ was ++ more
+    → more ≡ open_in (is_open_on k side.Far) 1 x.slots → now ≡ was ++ more
     → EndsAs (elsewhere k loose) y k side.Far b (unwired k b) was now
 unwires loose x y b k was now more s e opened after = record {
   stands = subst (λ (w : Bus). Stands (elsewhere k loose) w (unwired k b)) (sym e) (record {
-    shows = shows-closed (record x { connections = at_first (numbered k) cleared x.connections })
-        (with_connection k (λ c. record c { wired = false; to_ap = []; to_far = [] }) b) k side.Far
-        (shows-connections x b (at_first (numbered k) cleared x.connections)
-        (with_connection k (λ c. record c { wired = false; to_ap = []; to_far = [] }) b).connections
-        (changed b.requests b.requests k cleared
-        (λ c. record c { wired = false; to_ap = []; to_far = [] }) x.connections b.connections
-        (cleared-stands b.requests) (same-stands b.requests) s.shows.connections) s.shows);
+    shows = shows-closed x b k side.Far (at_first (numbered k) cleared x.connections)
+        (with_connection k cut_off b).connections
+        (changed b.requests b.requests k cleared cut_off x.connections b.connections
+        (cleared-stands b.requests) (same-stands b.requests) s.shows.connections)
+        (sides-over x.connections b k side.Far cut cleared cut_off (λ v. refl) (λ c. refl) cut-ops
+        cut-last refl s.shows.sides) s.shows;
     facts = record {
       fits = unwired-keeps loose (elsewhere k loose) k b (λ l i. (of-elsewhere k loose l i).0)
           (λ l i. (of-elsewhere k loose l i).1) (fewer-elsewhere k loose b) s.facts.fits;
-      apart = apart-changed b k (λ c. record c { wired = false; to_ap = []; to_far = [] })
+      apart = apart-changed b k cut_off
           (λ c. record { number = refl; ap = refl; peer = refl }) s.facts.apart;
     };
   });
@@ -202,17 +271,18 @@ pub shuts : (loose : List Loose) (x y : Bus) (b : machine.Bus) (k : ℕ) (was no
       slots =
           map (over k side.Ap) x.slots;
     }
-    → more ≡ open_in 1 k side.Ap x.slots → now ≡ was ++ more
+    → more ≡ open_in (is_open_on k side.Ap) 1 x.slots → now ≡ was ++ more
     → EndsAs loose y k side.Ap b (shut_down k b) was now
 shuts loose x y b k was now more s e opened after = record {
   stands = subst (λ (w : Bus). Stands loose w (shut_down k b)) (sym e) (record {
-    shows = shows-closed (record x { connections = at_first (numbered k) closed x.connections })
-        (with_connection k (λ c. record c { shut = true }) b) k side.Ap
-        (shows-connections x b (at_first (numbered k) closed x.connections)
+    shows = shows-closed x b k side.Ap (at_first (numbered k) closed x.connections)
         (with_connection k (λ c. record c { shut = true }) b).connections
         (changed b.requests b.requests k closed (λ c. record c { shut = true }) x.connections
         b.connections
-        (closed-stands b.requests) (same-stands b.requests) s.shows.connections) s.shows);
+        (closed-stands b.requests) (same-stands b.requests) s.shows.connections)
+        (sides-over x.connections b k side.Ap (λ v. record v { shut = true }) closed
+        (λ c. record c { shut = true }) (λ v. refl) (λ c. refl) shut-ops shut-last refl
+        s.shows.sides) s.shows;
     facts = record {
       fits = shut-keeps loose k b s.facts.fits;
       apart = apart-changed b k (λ c. record c { shut = true })

@@ -1,7 +1,6 @@
 -- The requests of one side of a connection whose identifiers are in use, and what changes them.
 use Rattle.std.specs.Prelude.{◌≡◌, ◌≢◌, ◌⊎◌, ℕ, Option, Some, None, option_and_then, Result, Ok, Err, List, ⊤, find}
 use Rattle.gb_base.specs.declared.end.Side.{Side}
-use Rattle.gb_base.specs.declared.end.Side.TheVariants as side
 use Rattle.gb_bus.specs.Parts.{next_in, numbered, ops_of, with_ops}
 use Rattle.gb_bus.specs.declared.connection.Connection.{Connection}
 use Rattle.gb_machine.specs.Lists.{at_first}

@@ -28,6 +28,8 @@ enum Act {
     /// A reply with the payload 9 to a request with this number and identifier, and its result.
     Reply(u64, Side, u64, u16, u8),
     Cancel(u64),
+    Expire(u64),
+    Due(u64),
     Outcome(u64),
     Wire(u64),
     Unwire(u64),
@@ -53,9 +55,10 @@ enum Seen {
     AlreadyEnded,
     Answered(u8, Option<u8>),
     Cancelled,
+    TimedOut,
     Disconnected,
     Unidirectional,
-    /// How many requests ended, and the first and the last of them.
+    /// How many requests ended or are due, and the first and the last of them.
     Numbers(usize, Option<u64>, Option<u64>),
     Count(u64),
     Spent(bool),
@@ -107,8 +110,8 @@ fn replies(rt: &impl Abort, bus: &mut Bus, k: u64, side: Side, asked: Asked, cod
     Seen::Done
 }
 
-fn cancels(bus: &mut Bus, n: u64) -> Seen {
-    match bus.cancel(n) {
+fn gives_up(given_up: Result<(), AlreadyEnded>) -> Seen {
+    match given_up {
         Ok(()) => Seen::Done,
         Err(AlreadyEnded) => Seen::AlreadyEnded,
     }
@@ -123,13 +126,17 @@ fn ended(bus: &Bus, n: u64) -> Seen {
         Some(Outcome::Cancelled) => Seen::Cancelled,
         Some(Outcome::Disconnected) => Seen::Disconnected,
         Some(Outcome::Sent) => Seen::Unidirectional,
-        Some(Outcome::Timeout) => Seen::Done,
+        Some(Outcome::Timeout) => Seen::TimedOut,
     }
 }
 
 fn numbers(told: &Numbers) -> Seen {
     let told = told.items();
     Seen::Numbers(told.len(), told.first().copied(), told.last().copied())
+}
+
+fn is_due(rt: &impl Abort, bus: &Bus, now: u64) -> Seen {
+    numbers(&bus.due(now).expect(rt, "memory"))
 }
 
 fn unwires(rt: &impl Abort, alloc: Global, bus: &mut Bus, k: u64) -> Seen {
@@ -162,7 +169,9 @@ fn comes_of(rt: &impl Abort, alloc: Global, bus: &mut Bus, act: Act) -> Seen {
             };
             replies(rt, bus, k, side, asked, code)
         }
-        Act::Cancel(n) => cancels(bus, n),
+        Act::Cancel(n) => gives_up(bus.cancel(n)),
+        Act::Expire(n) => gives_up(bus.expire(n)),
+        Act::Due(now) => is_due(rt, bus, now),
         Act::Outcome(n) => ended(bus, n),
         Act::Wire(k) => wires(rt, bus, k),
         Act::Unwire(k) => unwires(rt, alloc, bus, k),
@@ -197,7 +206,7 @@ fn two_modules(rt: &impl Abort, alloc: Global) -> Bus {
     bus
 }
 
-/// Requests that succeed, fail, are dropped, are unidirectional, and are answered late.
+/// Requests that succeed, fail, are dropped, are unidirectional, time out, and are answered late.
 const REQUESTS: &[(Act, Seen)] = &[
     (Act::Send(1, Side::Ap, false), Seen::Sent(1, 1, false)),
     (
@@ -234,7 +243,11 @@ const REQUESTS: &[(Act, Seen)] = &[
     ),
     (Act::Reply(1, Side::Far, 4, 3, 0), Seen::Done),
     (Act::Deliver(End::Ap(0), true), Seen::Late(4)),
-    (Act::Outcome(5), Seen::Nothing),
+    (Act::Due(499), Seen::Numbers(0, None, None)),
+    (Act::Due(500), Seen::Numbers(1, Some(5), Some(5))),
+    (Act::Expire(5), Seen::Done),
+    (Act::Expire(5), Seen::AlreadyEnded),
+    (Act::Outcome(5), Seen::TimedOut),
 ];
 
 #[test]
@@ -305,6 +318,8 @@ const CLOSING: &[(Act, Seen)] = &[
     (Act::Deliver(LIGHT, true), Seen::NoConnection),
     (Act::Send(5, Side::Ap, false), Seen::Sent(6, 2, true)),
     (Act::Wire(5), Seen::Done),
+    (Act::Reply(5, Side::Ap, 3, 2, 0), Seen::Done),
+    (Act::Deliver(LIGHT, true), Seen::Late(3)),
     (Act::Waiting(End::Ap(1)), Seen::Count(0)),
     (Act::Send(4, Side::Ap, false), Seen::Sent(7, 1, false)),
     (Act::Send(4, Side::Ap, false), Seen::Sent(8, 2, false)),
@@ -355,11 +370,24 @@ fn draws(rt: &impl Abort, bus: &mut Bus, n: u16) {
     );
 }
 
-/// The application processor has none left, and the other side has.
+/// The application processor has none left, and the other side has. Identifier 1 is drawn again once
+/// its request is answered.
 const SPENT: &[(Act, Seen)] = &[
     (Act::Spent(1, Side::Ap), Seen::Spent(true)),
     (Act::Send(1, Side::Ap, false), Seen::NoLabel),
     (Act::Send(1, Side::Far, false), Seen::Sent(65_536, 1, false)),
+    (
+        Act::Deliver(End::Svc, true),
+        Seen::Ask(1, Some(1), 1, Some(5)),
+    ),
+    (Act::Reply(1, Side::Far, 1, 1, 6), Seen::Done),
+    (
+        Act::Deliver(End::Ap(0), true),
+        Seen::Ask(1, Some(65_536), 1, Some(5)),
+    ),
+    (Act::Deliver(End::Ap(0), true), Seen::Ended(1, 1, 6, None)),
+    (Act::Send(1, Side::Ap, false), Seen::Sent(65_537, 1, false)),
+    (Act::Spent(1, Side::Ap), Seen::Spent(true)),
 ];
 
 #[test]

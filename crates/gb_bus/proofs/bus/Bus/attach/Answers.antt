@@ -7,5 +7,5 @@ pub returns : goal.returns
 returns c = record {
   step = λ loose b s may. attaches loose c.args.self.now _ b c.args.ap c.args.intf c.args.cport
       c.args.protocol c.in-Some.number s may
-      (search rules) (cc (c.in_ok-add.ensures, c.new.ensures));
+      (search rules) (cc (c.in_ok-add.ensures, c.in_ok-connection.ensures));
 }
