@@ -32,19 +32,31 @@ one-changes k xs o i x y f zs e h view is after =
     ap (λ l. set l i y) view ∙ ap (set xs i) (after ∙ ap f (is ∙ ap (λ l. get_or l i x) view))
     ∙ sym ((standing (numbered k) xs i (sym e ∙ h)).changed f x)
 
--- what is found of a connection
-pub found-of : {A : Type 0} (k : ℕ) (xs : List Connection) (o : Option ℕ) (i : ℕ) (x : Connection)
+-- the connection that has it
+pub one-found : (k : ℕ) (xs : List Connection) (o : Option ℕ) (i : ℕ) (x : Connection)
+    (zs : List Connection)
+    → o ≡ position_from (numbered k) 0 xs → o ≡ Some i → zs ≡ xs → x ≡ get_or zs i x
+    → find (numbered k) xs ≡ Some x
+one-found k xs o i x zs e h view is =
+    (standing (numbered k) xs i (sym e ∙ h)).found x
+    ∙ ap Some (sym (is ∙ ap (λ l. get_or l i x) view))
+
+pub none-found : (k : ℕ) (xs : List Connection) (o : Option ℕ)
+    → o ≡ position_from (numbered k) 0 xs → o ≡ None → find (numbered k) xs ≡ None
+none-found k xs o e h = (none-stands (numbered k) xs (sym e ∙ h)).0
+
+-- what is found of it
+found-of : {A : Type 0} (k : ℕ) (xs : List Connection) (o : Option ℕ) (i : ℕ) (x : Connection)
     (f : Connection → Option A) (zs : List Connection)
     → o ≡ position_from (numbered k) 0 xs → o ≡ Some i → zs ≡ xs → x ≡ get_or zs i x
     → option_and_then f (find (numbered k) xs) ≡ f x
 found-of k xs o i x f zs e h view is =
-    ap (option_and_then f) ((standing (numbered k) xs i (sym e ∙ h)).found x)
-    ∙ ap f (sym (is ∙ ap (λ l. get_or l i x) view))
+    ap (option_and_then f) (one-found k xs o i x zs e h view is)
 
 pub none-of : {A : Type 0} (k : ℕ) (xs : List Connection) (o : Option ℕ) (f : Connection → Option A)
     → o ≡ position_from (numbered k) 0 xs → o ≡ None → option_and_then f (find (numbered k) xs)
     ≡ None
-none-of k xs o f e h = ap (option_and_then f) (none-stands (numbered k) xs (sym e ∙ h)).0
+none-of k xs o f e h = ap (option_and_then f) (none-found k xs o e h)
 
 -- a connection that is put where it stands
 same-place : (xs : List Connection) (i : ℕ) (x : Connection) → x ≡ get_or xs i x → set xs i x ≡ xs
@@ -67,20 +79,7 @@ pops k xs o i x y at zs (Some item) e h view is p = (
 
 -- ---- one side of one connection
 
--- the connection that was found, and the others once it changes
-pub one-found : (k : ℕ) (xs : List Connection) (o : Option ℕ) (i : ℕ) (x : Connection)
-    (zs : List Connection)
-    → o ≡ position_from (numbered k) 0 xs → o ≡ Some i → zs ≡ xs → x ≡ get_or zs i x
-    → find (numbered k) xs ≡ Some x
-one-found k xs o i x zs e h view is =
-    (standing (numbered k) xs i (sym e ∙ h)).found x
-    ∙ ap Some (sym (is ∙ ap (λ l. get_or l i x) view))
-
-pub none-found : (k : ℕ) (xs : List Connection) (o : Option ℕ)
-    → o ≡ position_from (numbered k) 0 xs → o ≡ None → find (numbered k) xs ≡ None
-none-found k xs o e h = (none-stands (numbered k) xs (sym e ∙ h)).0
-
--- a side of it changes
+-- a side of the connection with the number changes
 pub side-changes : (k : ℕ) (xs : List Connection) (o : Option ℕ) (i : ℕ) (x y : Connection)
     (at : Side) (R : Operations → Operations → Type 0) (zs : List Connection)
     → o ≡ position_from (numbered k) 0 xs → o ≡ Some i → zs ≡ xs → x ≡ get_or zs i x
@@ -101,7 +100,7 @@ pub begins : (k : ℕ) (xs : List Connection) (o : Option ℕ) (i : ℕ) (x y : 
 begins k xs o i x y at zs n deadline (Ok label) e h view is d =
     side-changes k xs o i x y at (λ v w. Begins v w n deadline label) zs e h view is d
 begins k xs o i x y at zs n deadline (Err fault.NoLabel) e h view is d = (
-  ap (option_and_then (next_of at)) (one-found k xs o i x zs e h view is) ∙ d.0,
+  found-of k xs o i x (next_of at) zs e h view is ∙ d.0,
   ap (set zs i) d.1 ∙ same-place zs i x is ∙ view,
 )
 begins k xs o i x y at zs n deadline (Err (fault.Memory m)) e h view is d = tt

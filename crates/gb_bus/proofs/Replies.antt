@@ -52,7 +52,8 @@ replies x y k at asked number result payload before after b n named moved s may 
     let fits = fits-first before (taken_from k at (machine.Ask n)) after b s.facts.fits in
     subst (λ (w : Bus). Stands rest w (replied k (other_side at) item b)) (sym moved) (record {
       shows = shows-connections x b
-          (at_first (numbered k) (put (other_side at) reply) x.connections) (replied k (other_side at) item b).connections
+          (at_first (numbered k) (put (other_side at) reply) x.connections)
+          (replied k (other_side at) item b).connections
           (changed b.requests b.requests k (put (other_side at) reply)
           (sending.put (other_side at) item) x.connections b.connections
           (put-stands b.requests (other_side at) reply item (record {

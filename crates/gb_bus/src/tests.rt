@@ -370,8 +370,8 @@ fn draws(rt: &impl Abort, bus: &mut Bus, n: u16) {
     );
 }
 
-/// The application processor has none left, and the other side has. Identifier 1 is drawn again once
-/// its request is answered.
+/// The application processor has none left, and the other side has. Identifier 1 is drawn again
+/// once its request is answered.
 const SPENT: &[(Act, Seen)] = &[
     (Act::Spent(1, Side::Ap), Seen::Spent(true)),
     (Act::Send(1, Side::Ap, false), Seen::NoLabel),

@@ -1,6 +1,6 @@
 -- The request begins on the connection with the number.
-use Rattle.std.proofs.Common.{ap, option_and_then, refl}
-use Rattle.gb_bus.proofs.Changing.{begins, none-found}
+use Rattle.std.proofs.Common.{refl}
+use Rattle.gb_bus.proofs.Changing.{begins, none-of}
 use Rattle.gb_bus.specs.Parts.{next_of}
 use Rattle.gb_bus.proofs.connections.Connections.begin.Goals as goal
 
@@ -12,7 +12,7 @@ returns-in-Some c =
 
 pub returns-in-None : goal.returns-in-None
 returns-in-None c = (
-  ap (option_and_then (next_of c.args.side))
-      (none-found c.args.k c.args.self.now c.index.result c.index.ensures.first c.in-None.is),
+  none-of c.args.k c.args.self.now c.index.result (next_of c.args.side) c.index.ensures.first
+      c.in-None.is,
   refl,
 )

@@ -17,6 +17,7 @@ pub returns-in-None : goal.returns-in-None
 returns-in-None c = (
   subst (λ (f : Option Connection). IsNotOf c.args.n (option_and_then
       (λ x. holder_of (ops_of c.args.side x) c.args.label) f))
-      (sym (none-found c.args.k c.args.self.now c.index.result c.index.ensures.first c.in-None.is)) tt,
+      (sym (none-found c.args.k c.args.self.now c.index.result c.index.ensures.first
+      c.in-None.is)) tt,
   refl,
 )
