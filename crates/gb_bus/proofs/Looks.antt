@@ -1,5 +1,5 @@
 -- What is looked up is what the machine's bus has.
-use Rattle.std.proofs.Common.{◌≡◌, ℕ, ◌+◌, Bool, true, false, cond, map, eqb, ◌&&◌, ◌||◌, Option, Some, None, is_none, option_and_then, option_map, List, [], ◌∷◌, ◌++◌, length, refl, sym, ap, ◌∙◌, suc, append_assoc}
+use Rattle.std.proofs.Common.{◌≡◌, ℕ, Bool, true, false, cond, map, eqb, ◌&&◌, ◌||◌, Option, Some, None, is_none, option_and_then, option_map, List, [], ◌∷◌, ◌++◌, length, refl, sym, ap, ◌∙◌, suc, append_assoc}
 use Rattle.std.specs.List.{filter, find, list_any}
 use Rattle.gb_base.specs.declared.end.End.{End}
 use Rattle.gb_base.specs.declared.end.End.TheVariants as end

@@ -8,7 +8,6 @@ use Rattle.gb_bus.specs.Telling.{known_as, known_of, waiting_before, waiting_in,
 use Rattle.gb_bus.specs.declared.bus.Bus.{Bus}
 use Rattle.gb_bus.specs.declared.connection.Connection.{Connection}
 use Rattle.gb_bus.specs.declared.queue.Item.{Item}
-use Rattle.gb_bus.specs.declared.telling.Known.{Known}
 use Rattle.gb_bus.specs.declared.telling.Waiting.{Waiting}
 use Rattle.gb_bus.proofs.Looks.{length-is}
 use Rattle.gb_invariants.specs.Facts.{Loose}
