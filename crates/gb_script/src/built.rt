@@ -9,22 +9,5 @@ use gb_base::Event;
 pub fn is_built(event: &Event) -> bool
     ensures { result ≡ is_built event.now }
 {
-    matches!(
-        event,
-        Event::Boot
-            | Event::Insert { .. }
-            | Event::Pull { .. }
-            | Event::Connect { .. }
-            | Event::Disconnect { .. }
-            | Event::Send { .. }
-            | Event::Bridge { .. }
-            | Event::Level { .. }
-            | Event::SerialState { .. }
-            | Event::Deliver { .. }
-            | Event::Settle { .. }
-            | Event::Cancel { .. }
-            | Event::Copy { .. }
-            | Event::Forget { .. }
-            | Event::Show
-    )
+    !matches!(event, Event::InsertRaw { .. } | Event::Inject { .. })
 }

@@ -113,9 +113,6 @@ fn is_ping(said: &Result<Option<Event>, LineFault>) -> bool {
 /// A line for each form that isn't built.
 const NOT_BUILT: &[&str] = &[
     "insert 2 raw 0aFf",
-    "hold 2 1",
-    "answer 2 1 4294967295",
-    "tick 1",
     "inject 2 1 -",
 ];
 

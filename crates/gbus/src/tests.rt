@@ -44,7 +44,7 @@ fn scripts_are_reported(rt: HostRuntime) -> Result<(), Fail> {
             Status::Success,
             b"line 1 ok\nline 2 refused NoInterface\n",
         ),
-        (b"# none\n\ntick 1", Status::Refused, b"line 3: not built\n"),
+        (b"# none\n\ninject 2 1 -", Status::Refused, b"line 3: not built\n"),
         (b"boot now", Status::Refused, b"line 1: extra word 2\n"),
     ];
     for (input, wanted, output) in rows {
