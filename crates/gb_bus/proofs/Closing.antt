@@ -6,7 +6,7 @@ use Rattle.gb_base.specs.declared.end.Side.{Side}
 use Rattle.gb_base.specs.declared.outcome.Outcome.{Outcome}
 use Rattle.gb_base.specs.declared.outcome.Outcome.TheVariants as outcome
 use Rattle.gb_bus.proofs.SlotLaws.{Tell, tell_mapped}
-use Rattle.gb_bus.specs.Slots.{is_open_on, open_in, or_disconnected, over}
+use Rattle.gb_bus.specs.Slots.{numbers_in, or_disconnected, over}
 use Rattle.gb_bus.specs.Stands.{kept}
 use Rattle.gb_bus.specs.declared.slots.Slot.{Slot}
 use Rattle.gb_invariants.proofs.Awaiting.{not-both, same-some}
@@ -20,21 +20,31 @@ use Rattle.gb_machine.specs.Wiring.{all_ended, side_ended}
 
 -- ---- the numbers of the open requests
 
-pub opens : (n : ℕ) (k : ℕ) (at : Side) (b : machine.Bus) (mark : ℕ → Bool) (slots : List Slot)
-    (reqs : List Request)
+-- the test of a slot is that of its request, where that has no outcome
+abbrev pub TestsOpen : (Slot → Bool) → (Request → Bool) → Type 0
+TestsOpen of_slot of_request =
+    (how : Option Outcome) (mark : Bool) (r : Request)
+    → of_slot (kept how mark r) ≡ (of_request r && is_none how)
+
+pub opens : (n : ℕ) (of_slot : Slot → Bool) (of_request : Request → Bool) (b : machine.Bus)
+    (mark : ℕ → Bool) (slots : List Slot) (reqs : List Request) → TestsOpen of_slot of_request
     → ((i j : ℕ) → j ≡ n + i → slice_get slots i
     ≡ option_map (kept (outcome_of j b) (mark j)) (slice_get reqs i))
-    → open_in n k at slots ≡ open_from n (is_of k at) b reqs
-opens n k at b mark [] [] tell = refl
-opens n k at b mark [] (r ∷ rs) tell = let e = tell 0 n (omega arith) in absurd cc
-opens n k at b mark (s ∷ ss) [] tell = let e = tell 0 n (omega arith) in absurd cc
-opens n k at b mark (s ∷ ss) (r ∷ rs) tell =
+    → numbers_in n of_slot slots ≡ open_from n of_request b reqs
+opens n of_slot of_request b mark [] [] tests tell = refl
+opens n of_slot of_request b mark [] (r ∷ rs) tests tell =
+    let e = tell 0 n (omega arith) in absurd cc
+opens n of_slot of_request b mark (s ∷ ss) [] tests tell =
+    let e = tell 0 n (omega arith) in absurd cc
+opens n of_slot of_request b mark (s ∷ ss) (r ∷ rs) tests tell =
     let is : s ≡ kept (outcome_of n b) (mark n) r =
     same-some s (kept (outcome_of n b) (mark n) r) (tell 0 n (omega arith)) in
-    let later = opens (n + 1) k at b mark ss rs (λ i j e. tell (suc i) j (omega (arith, e))) in
-    ap (λ (t : Slot). cond (is_open_on k at t) (n ∷ open_in (n + 1) k at ss)
-    (open_in (n + 1) k at ss)) is
-    ∙ ap (λ ns. cond (is_of k at r && is_none (outcome_of n b)) (n ∷ ns) ns) later
+    let same : of_slot s ≡ (of_request r && is_none (outcome_of n b)) =
+    ap of_slot is ∙ tests (outcome_of n b) (mark n) r in
+    let later = opens (n + 1) of_slot of_request b mark ss rs tests
+    (λ i j e. tell (suc i) j (omega (arith, e))) in
+    ap (λ t. cond t (n ∷ numbers_in (n + 1) of_slot ss) (numbers_in (n + 1) of_slot ss)) same
+    ∙ ap (λ ns. cond (of_request r && is_none (outcome_of n b)) (n ∷ ns) ns) later
 
 -- ---- how they end
 

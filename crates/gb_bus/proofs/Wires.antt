@@ -1,19 +1,20 @@
 -- Connections that are made, wired, unwired, closed and removed stand for the machine's.
-use Rattle.std.proofs.Common.{◌≡◌, ◌≤◌, ℕ, suc, ◌+◌, ◌==◌, not, true, false, option_map, List, [], ◌∷◌, ◌++◌, map, refl, sym, ap, ◌∙◌, subst, arith}
+use Rattle.std.proofs.Common.{◌≡◌, ◌≤◌, ℕ, suc, ◌+◌, ◌==◌, Bool, not, true, false, option_map, List, [], ◌∷◌, ◌++◌, map, refl, sym, ap, ◌∙◌, subst, arith}
 use Rattle.std.proofs.lemmas.List.{length-map}
 use Rattle.std.specs.List.{slice_get}
 use Rattle.gb_base.specs.declared.end.End.TheVariants as end
 use Rattle.gb_base.specs.declared.end.Side.{Side}
 use Rattle.gb_base.specs.declared.end.Side.TheVariants as side
-use Rattle.gb_bus.proofs.Closing.{opens, tell_closed}
+use Rattle.gb_bus.proofs.Closing.{TestsOpen, opens, tell_closed}
 use Rattle.gb_bus.proofs.Moves.{cleared-stands, closed-stands, same-stands, wired-stands}
 use Rattle.gb_bus.proofs.Standing.{changed, one-more, removed}
 use Rattle.gb_bus.specs.Parts.{cleared, closed, new_connection, numbered, with_wire}
-use Rattle.gb_bus.specs.Slots.{open_in, over}
+use Rattle.gb_bus.specs.Slots.{is_open_on, is_overdue, numbers_in, open_in, over}
 use Rattle.gb_bus.specs.Stands.{Keeps, Shows, StandForAll, Stands, kept}
 use Rattle.gb_bus.specs.Wiring.{Attaches, EndsAs, IsOther, MayAttach, elsewhere}
 use Rattle.gb_bus.specs.declared.bus.Bus.{Bus}
 use Rattle.gb_bus.specs.declared.connection.Connection.{Connection}
+use Rattle.gb_bus.specs.declared.slots.Slot.{Slot}
 use Rattle.gb_invariants.proofs.Apart.{apart-attached, apart-changed, apart-detached}
 use Rattle.gb_invariants.proofs.Changes.{attached-keeps, detached-keeps, shut-keeps, unwired-keeps, wired-keeps}
 use Rattle.gb_invariants.proofs.Awaiting.{not-both}
@@ -26,7 +27,7 @@ use Rattle.gb_machine.specs.Bus.{Request, outcome_of}
 use Rattle.gb_machine.specs.LawsBus.{AreApart, is_item_of}
 use Rattle.gb_machine.specs.Lists.{at_first, without}
 use Rattle.gb_machine.specs.Members.{Each, IsIn}
-use Rattle.gb_machine.specs.Requests.{is_given_up, open_on}
+use Rattle.gb_machine.specs.Requests.{is_due, is_given_up, is_of, open_on, open_requests}
 use Rattle.gb_machine.specs.Wiring as wiring
 use Rattle.gb_machine.specs.Wiring.{attached, detached, next_connection, shut_down, side_ended, unwired, wired, with_connection}
 
@@ -132,13 +133,24 @@ attaches loose x y b a i c protocol k s may number e =
 -- ---- a side ends
 
 -- the open requests that slots tell of
-pub opened-on : (x : Bus) (b : machine.Bus) (k : ℕ) (at : Side) → Shows x b → open_in 1 k at x.slots
-    ≡ open_on k at b
-opened-on x b k at s =
-    opens 1 k at b (λ n. is_given_up n b) x.slots b.requests (λ i j e.
+opened-by : (x : Bus) (b : machine.Bus) (of_slot : Slot → Bool) (of_request : Request → Bool)
+    → Shows x b → TestsOpen of_slot of_request
+    → numbers_in 1 of_slot x.slots ≡ open_requests of_request b
+opened-by x b of_slot of_request s tests =
+    opens 1 of_slot of_request b (λ n. is_given_up n b) x.slots b.requests tests (λ i j e.
     subst (λ m. slice_get x.slots i
     ≡ option_map (kept (outcome_of m b) (is_given_up m b)) (slice_get b.requests i))
     (let f : suc i ≡ j = omega (arith, e) in f) (s.slots (suc i)))
+
+pub opened-on : (x : Bus) (b : machine.Bus) (k : ℕ) (at : Side) → Shows x b
+    → open_in k at x.slots ≡ open_on k at b
+opened-on x b k at s =
+    opened-by x b (is_open_on k at) (is_of k at) s (λ how mark r. refl)
+
+pub overdue-are : (x : Bus) (b : machine.Bus) (now : ℕ) → Shows x b
+    → numbers_in 1 (is_overdue now) x.slots ≡ open_requests (is_due now) b
+overdue-are x b now s =
+    opened-by x b (is_overdue now) (is_due now) s (λ how mark r. refl)
 
 -- connections change, and then a side of one ends
 shows-closed : (x : Bus) (b : machine.Bus) (k : ℕ) (at : Side) → Shows x b
@@ -174,7 +186,7 @@ pub unwires : (loose : List Loose) (x y : Bus) (b : machine.Bus) (k : ℕ) (was 
       slots =
           map (over k side.Far) x.slots;
     }
-    → more ≡ open_in 1 k side.Far x.slots → now ≡ was ++ more
+    → more ≡ open_in k side.Far x.slots → now ≡ was ++ more
     → EndsAs (elsewhere k loose) y k side.Far b (unwired k b) was now
 unwires loose x y b k was now more s e opened after = record {
   stands = subst (λ (w : Bus). Stands (elsewhere k loose) w (unwired k b)) (sym e) (record {
@@ -202,7 +214,7 @@ pub shuts : (loose : List Loose) (x y : Bus) (b : machine.Bus) (k : ℕ) (was no
       slots =
           map (over k side.Ap) x.slots;
     }
-    → more ≡ open_in 1 k side.Ap x.slots → now ≡ was ++ more
+    → more ≡ open_in k side.Ap x.slots → now ≡ was ++ more
     → EndsAs loose y k side.Ap b (shut_down k b) was now
 shuts loose x y b k was now more s e opened after = record {
   stands = subst (λ (w : Bus). Stands loose w (shut_down k b)) (sym e) (record {

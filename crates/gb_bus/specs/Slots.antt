@@ -1,9 +1,11 @@
 -- The slots of requests.
-use Rattle.std.specs.Prelude.{ℕ, ◌+◌, ◌-◌, ◌==◌, Bool, false, ◌&&◌, is_none, if◌then◌else◌, Option, Some, None, List, [], ◌∷◌, slice_set}
+use Rattle.std.specs.Prelude.{ℕ, ◌+◌, ◌-◌, ◌==◌, nat_le, Bool, false, ◌&&◌, is_none, if◌then◌else◌, Option, Some, None, List, [], ◌∷◌, slice_set}
 use Rattle.gb_base.specs.declared.end.Side.{Side}
 use Rattle.gb_base.specs.declared.outcome.Outcome.{Outcome}
 use Rattle.gb_base.specs.declared.outcome.Outcome.TheVariants as outcome
 use Rattle.gb_bus.specs.declared.slots.Slot.{Slot}
+use Rattle.gb_bus.specs.declared.slots.Sought.{Sought}
+use Rattle.gb_bus.specs.declared.slots.Sought.TheVariants as sought
 use Rattle.gb_machine.specs.Lists.{nth}
 use Rattle.gb_machine.specs.Requests.{same_side}
 
@@ -32,13 +34,25 @@ is_on k at slot = slot.connection == k && same_side at slot.side
 abbrev pub is_open_on : ℕ → Side → Slot → Bool
 is_open_on k at slot = is_on k at slot && is_none slot.outcome
 
--- the numbers of the open requests of a side of a connection, the first slot being that of request
--- n
-abbrev pub open_in : ℕ → ℕ → Side → List Slot → List ℕ
-open_in n k at [] = []
-open_in n k at (slot ∷ slots) =
-    let later = open_in (n + 1) k at slots in
-    if is_open_on k at slot then n ∷ later else later
+-- the request is open, and its deadline came
+abbrev pub is_overdue : ℕ → Slot → Bool
+is_overdue now slot = nat_le slot.deadline now && is_none slot.outcome
+
+-- the request is one of those that are looked for
+abbrev pub is_sought : Sought → Slot → Bool
+is_sought (sought.On k at) slot = is_open_on k at slot
+is_sought (sought.Due now) slot = is_overdue now slot
+
+-- the numbers of the requests whose slots pass a test, the first slot being that of request n
+abbrev pub numbers_in : ℕ → (Slot → Bool) → List Slot → List ℕ
+numbers_in n test [] = []
+numbers_in n test (slot ∷ slots) =
+    let later = numbers_in (n + 1) test slots in
+    if test slot then n ∷ later else later
+
+-- the numbers of the open requests of a side of a connection
+abbrev pub open_in : ℕ → Side → List Slot → List ℕ
+open_in k at slots = numbers_in 1 (is_open_on k at) slots
 
 -- an outcome, or else Disconnected
 abbrev pub or_disconnected : Option Outcome → Outcome

@@ -1,19 +1,21 @@
 //! The bus: messages.
 
 ghost use Rattle.std.specs.Prelude.{◌≡◌, None, List, [], OnOk, OnErr, IfOk, IsErrOf, option_copied};
+ghost use Rattle.gb_base.specs.declared.outcome.Outcome.TheVariants as outcome;
 ghost use Rattle.gb_invariants.specs.Facts.{Loose};
 ghost use Rattle.gb_machine.specs.Bus as machine;
 ghost use Rattle.gb_machine.specs.Bus.{first_bus, outcome_of};
 ghost use Rattle.gb_machine.specs.Lists.{nth};
+ghost use Rattle.gb_machine.specs.Requests.{is_due, open_requests};
 ghost use Rattle.gb_machine.specs.Sending.{draft};
 ghost use Rattle.gb_bus.specs.Taking.{dropped, open_kind};
 
 use crate::connections::Connections;
 use crate::ends::{first_outcome, other_side};
 use crate::queue::Item;
-use crate::slots::{Slot, Slots};
+use crate::slots::{Slot, Slots, Sought};
 use crate::{AlreadyEnded, Arrival, Arrived, Asked, DeliverFault, SendFault, Sent};
-use gb_base::{Bytes, End, OutOfMemory, Outcome, Side, TryCopy};
+use gb_base::{Bytes, End, Numbers, OutOfMemory, Outcome, Side, TryCopy};
 use std::alloc::Global;
 
 /// Connections, requests and queues. Connection 1 is that of the supervisory controller. A call
@@ -27,7 +29,7 @@ pub struct Bus {
 }
 
 impl Bus {
-    ghost use Rattle.gb_bus.specs.Cancelling.{CancelsAs};
+    ghost use Rattle.gb_bus.specs.Cancelling.{GivesUpAs};
     ghost use Rattle.gb_bus.specs.Delivering.{DeliversAs, RepliesAs};
     ghost use Rattle.gb_bus.specs.Moving.{AnswersAs, HandlesAs, LabelsAs, TakesAs};
     ghost use Rattle.gb_bus.specs.Sending.{SendsAs};
@@ -144,15 +146,28 @@ impl Bus {
     /// comes. AlreadyEnded comes where n isn't open: it had ended, or it wasn't made.
     pub fn cancel(&mut self, n: u64) -> Result<(), AlreadyEnded>
         ensures step { (loose : List Loose) (b : machine.Bus) → Stands loose self.old b
-            → CancelsAs loose self.new n b result }
+            → GivesUpAs loose self.new outcome.Cancelled n b result }
         ensures unchanged { OnErr result (self.new ≡ self.old) }
     {
-        if self.open_kind(n).is_none() {
-            return Err(AlreadyEnded);
-        }
-        self.slots.end(n, Outcome::Cancelled);
-        self.slots.mark(n, true);
-        Ok(())
+        self.give_up(n, Outcome::Cancelled)
+    }
+
+    /// Gives up request n, which ends as timed out. All else is as at a cancel.
+    pub fn expire(&mut self, n: u64) -> Result<(), AlreadyEnded>
+        ensures step { (loose : List Loose) (b : machine.Bus) → Stands loose self.old b
+            → GivesUpAs loose self.new outcome.Timeout n b result }
+        ensures unchanged { OnErr result (self.new ≡ self.old) }
+    {
+        self.give_up(n, Outcome::Timeout)
+    }
+
+    /// The open requests whose deadline came, in order of number. `now` is in milliseconds.
+    pub fn due(&self, now: u64) -> Result<Numbers, OutOfMemory>
+        ensures { IfOk result (λ ns. (loose : List Loose) (b : machine.Bus)
+            → Stands loose self.now b → ns ≡ open_requests (is_due now) b) }
+    {
+        let numbers = self.slots.open(Sought::Due { now })?;
+        Ok(numbers)
     }
 
     /// How request n ended, None where it is open or wasn't made.
@@ -235,6 +250,20 @@ impl Bus {
             result: code,
             payload,
         })
+    }
+
+    /// Gives up request n, which ends so.
+    fn give_up(&mut self, n: u64, how: Outcome) -> Result<(), AlreadyEnded>
+        ensures step { (loose : List Loose) (b : machine.Bus) → Stands loose self.old b
+            → GivesUpAs loose self.new how n b result }
+        ensures unchanged { OnErr result (self.new ≡ self.old) }
+    {
+        if self.open_kind(n).is_none() {
+            return Err(AlreadyEnded);
+        }
+        self.slots.end(n, how);
+        self.slots.mark(n, true);
+        Ok(())
     }
 
     /// The type of request n, None where n isn't open.

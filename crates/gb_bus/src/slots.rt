@@ -2,7 +2,15 @@
 
 ghost use Rattle.std.specs.Prelude.{◌≡◌, ◌+◌, [], ◌∷◌, ◌++◌, length, map, IfOk, option_copied};
 ghost use Rattle.gb_machine.specs.Lists.{nth};
-ghost use Rattle.gb_bus.specs.Slots.{at_number, is_open_on, open_in, over, with_mark, with_outcome};
+ghost use Rattle.gb_bus.specs.Slots.{
+  at_number,
+  is_open_on,
+  is_sought,
+  numbers_in,
+  over,
+  with_mark,
+  with_outcome,
+};
 
 use gb_base::{Numbers, OutOfMemory, Outcome, Side};
 use std::alloc::Global;
@@ -27,7 +35,26 @@ pub struct Slot {
     pub given_up: bool,
 }
 
+/// Which open requests are looked for.
+#[derive(Clone, Copy)]
+pub enum Sought {
+    /// Those that a side of a connection made.
+    On { connection: u64, side: Side },
+    /// Those whose deadline came. `now` is in milliseconds.
+    Due { now: u64 },
+}
+
 impl Slot {
+    /// It is one of those that are looked for.
+    fn is_sought(&self, sought: Sought) -> bool
+        ensures { result ≡ is_sought sought self.now }
+    {
+        match sought {
+            Sought::On { connection, side } => self.is_open_on(connection, side),
+            Sought::Due { now } => self.deadline <= now && self.outcome.is_none(),
+        }
+    }
+
     /// It is open, and was made by a side of a connection.
     fn is_open_on(&self, k: u64, side: Side) -> bool
         ensures { result ≡ is_open_on k side self.now }
@@ -113,13 +140,13 @@ impl Slots {
         self.slots[(n - 1) as usize].given_up = given_up;
     }
 
-    /// The open requests of a side of a connection, in order of number.
-    pub fn open_on(&self, k: u64, side: Side) -> Result<Numbers, OutOfMemory>
-        ensures { IfOk result (λ ns. ns ≡ open_in 1 k side self.now) }
+    /// The open requests that are looked for, in order of number.
+    pub fn open(&self, sought: Sought) -> Result<Numbers, OutOfMemory>
+        ensures { IfOk result (λ ns. ns ≡ numbers_in 1 (is_sought sought) self.now) }
     {
         let mut open = Numbers::new(*self.slots.allocator());
         for (i, slot) in self.slots.iter().enumerate() {
-            if slot.is_open_on(k, side) {
+            if slot.is_sought(sought) {
                 open.push(i as u64 + 1)?;
             }
         }

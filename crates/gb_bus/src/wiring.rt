@@ -21,6 +21,7 @@ ghost use Rattle.gb_machine.specs.Wiring.{
 
 use crate::Bus;
 use crate::connection::Connection;
+use crate::slots::Sought;
 use gb_base::{End, Numbers, OutOfMemory, Side};
 
 impl Bus {
@@ -78,7 +79,10 @@ impl Bus {
             → EndsAs (elsewhere k loose) self.new k side.Far b (unwired k b) ended.old ended.new) }
         ensures unchanged { OnErr result ((self.new ≡ self.old) × (ended.new ≡ ended.old)) }
     {
-        let open = self.slots.open_on(k, Side::Far)?;
+        let open = self.slots.open(Sought::On {
+            connection: k,
+            side: Side::Far,
+        })?;
         ended.extend(open.items())?;
         self.connections.unwire(k);
         self.slots.close(k, Side::Far);
@@ -93,7 +97,10 @@ impl Bus {
             → EndsAs loose self.new k side.Ap b (shut_down k b) ended.old ended.new) }
         ensures unchanged { OnErr result ((self.new ≡ self.old) × (ended.new ≡ ended.old)) }
     {
-        let open = self.slots.open_on(k, Side::Ap)?;
+        let open = self.slots.open(Sought::On {
+            connection: k,
+            side: Side::Ap,
+        })?;
         ended.extend(open.items())?;
         self.connections.shut(k);
         self.slots.close(k, Side::Ap);
