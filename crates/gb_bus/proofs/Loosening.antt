@@ -1,4 +1,4 @@
--- Items that are in no queue: one is let go, or comes first.
+-- Items that are in no queue: one is let go, comes first, or comes between others.
 use Rattle.std.proofs.Common.{List, ◌∷◌, ◌++◌, inl, inr, ⊎_elim, arith}
 use Rattle.gb_bus.specs.Stands.{Stands}
 use Rattle.gb_bus.specs.declared.bus.Bus.{Bus}
@@ -44,3 +44,45 @@ fits-first before l after b h =
     let here = times-cons has l after in
     let first = times-cons has l (before ++ after) in
     omega (arith, whole, rest, here, first)) h
+
+-- an item in front is among those that there are with it between others
+in-front-of : (before : List Loose) (l : Loose) (after : List Loose) (m : Loose)
+    → IsIn m (before ++ l ∷ after) → IsIn m (l ∷ before ++ after)
+in-front-of before l after m i =
+    ⊎_elim (λ j. inr (in-front m before after j))
+    (λ j. ⊎_elim (λ e. inl e) (λ k. inr (in-behind m before after k)) j)
+    (in-append m before (l ∷ after) i)
+
+-- so the facts hold with it there
+fits-between : (before : List Loose) (l : Loose) (after : List Loose) (b : machine.Bus)
+    → BusFits (l ∷ before ++ after) b → BusFits (before ++ l ∷ after) b
+fits-between before l after b h =
+    loose-keeps (l ∷ before ++ after) (before ++ l ∷ after) b (in-front-of before l after) (λ n.
+    let has = λ (m : Loose). is_item_of n m.item in
+    let whole = times-append has before (l ∷ after) in
+    let rest = times-append has before after in
+    let here = times-cons has l after in
+    let first = times-cons has l (before ++ after) in
+    omega (arith, whole, rest, here, first)) h
+
+-- A bus stands still where an item that is in no queue comes first,
+pub stands-first : (before : List Loose) (l : Loose) (after : List Loose) (x : Bus)
+    (b : machine.Bus) → Stands (before ++ l ∷ after) x b → Stands (l ∷ before ++ after) x b
+stands-first before l after x b s = record {
+  shows = s.shows;
+  facts = record {
+    fits = fits-first before l after b s.facts.fits;
+    apart = s.facts.apart;
+  };
+}
+
+-- or the first comes between others.
+pub stands-between : (before : List Loose) (l : Loose) (after : List Loose) (x : Bus)
+    (b : machine.Bus) → Stands (l ∷ before ++ after) x b → Stands (before ++ l ∷ after) x b
+stands-between before l after x b s = record {
+  shows = s.shows;
+  facts = record {
+    fits = fits-between before l after b s.facts.fits;
+    apart = s.facts.apart;
+  };
+}

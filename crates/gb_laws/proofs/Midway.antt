@@ -21,7 +21,7 @@ pub one-change : (m : Moment) (a b : Point) (x : Change m b) → ComesAfter m a 
 one-change m a b x after law h = law.kept b x (after law h)
 
 -- what is known at rest, whatever was told
-rests : (told : List Entry) (s : State) → LinkedTo [] s → LinkedTo told s
+pub rests : (told : List Entry) (s : State) → LinkedTo [] s → LinkedTo told s
 rests told s h = (record { bus = h.0.bus; names = h.0.names; hand = h.0.hand }, h.1, h.2, h.3)
 
 -- What is known at a point: the bus keeps its facts with what is in no queue, names name requests,
@@ -32,10 +32,25 @@ pub record KnownAt (a : Point) : Type 0 where
   pub links : LinkedAt a
   pub there : There a.state.bus
 
+-- the law that says it
+abbrev pub known_law : (m : Moment) → OfARun m.before → Law m
+known_law m run =
+    there_law m (start-absent m (rests m.told m.before (reached-told m.before run)))
+
+-- it holds at a state of a run,
+pub known-resting : (m : Moment) (run : OfARun m.before)
+    → (known_law m run).holds (resting m.told m.before)
+known-resting m run =
+    let start = rests m.told m.before (reached-told m.before run) in
+    ((start.0, start.1), start.3)
+
+-- and where it holds, that is known.
+pub known-held : (m : Moment) (run : OfARun m.before) (b : Point) → (known_law m run).holds b
+    → KnownAt b
+known-held m run b now = record { basis = now.0.0; links = now.0.1; there = now.1 }
+
 -- It is known at each point that comes after a state of a run.
 pub known-midway : (m : Moment) (b : Point) → OfARun m.before
     → ComesAfter m (resting m.told m.before) b → KnownAt b
 known-midway m b run after =
-    let start = rests m.told m.before (reached-told m.before run) in
-    let now = after (there_law m (start-absent m start)) ((start.0, start.1), start.3) in
-    record { basis = now.0.0; links = now.0.1; there = now.1 }
+    known-held m run b (after (known_law m run) (known-resting m run))

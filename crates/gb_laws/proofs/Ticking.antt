@@ -117,7 +117,7 @@ abbrev overdue : (m : Moment) (k : ℕ) → ActLaw m
 overdue m k = record { holds = λ a. IsOverdue m k a.state; kept = overdue-kept m k }
 
 -- another request stays overdue where one is given up
-overdue-after : (m : Moment) (n k : ℕ) (s : State) → n < k → IsOverdue m k s → IsOverdue m k (gives_up outcome.Timeout n s).state
+pub overdue-after : (m : Moment) (n k : ℕ) (s : State) → n < k → IsOverdue m k s → IsOverdue m k (gives_up outcome.Timeout n s).state
 unfolding machine_opened
 overdue-after m n k s less h =
     goes-notices m (overdue m k) (HostEvent.Ended n outcome.Timeout) (record s { bus = gave_up n outcome.Timeout s.bus }) (λ r p e. absurd cc) tt []
@@ -134,6 +134,46 @@ overdue-after m n k s less h =
         due = h.late.due;
       };
     })
+
+-- the others are overdue still
+overdue-others : (m : Moment) (n : ℕ) (ks : List ℕ) (s : State) → Each (λ k. n < k) ks
+    → Each (λ k. IsOverdue m k s) ks
+    → Each (λ k. IsOverdue m k (gives_up outcome.Timeout n s).state) ks
+overdue-others m n [] s above late = tt
+overdue-others m n (k ∷ ks) s above late =
+    (overdue-after m n k s above.0 late.0, overdue-others m n ks s above.1 late.1)
+
+-- the requests that are due by a time
+abbrev pub due_by : ℕ → State → List ℕ
+due_by now s = open_requests (is_due now) s.bus
+
+-- at first those are overdue that are due after the tick
+overdue-first : (m : Moment) (millis : ℕ) → m.event ≡ event.Tick millis
+    → Each (λ n. IsOverdue m n (later_by millis m.before)) (due_by (m.before.now + millis) m.before)
+overdue-first m millis is = all due (λ n i. i)
+  where
+    due : List ℕ
+    due = due_by (m.before.now + millis) m.before
+
+    late : (n : ℕ) → IsIn n due → IsOverdue m n (later_by millis m.before)
+    late n i = let o = in-open_requests (is_due (m.before.now + millis)) m.before.bus n i in record {
+      unended = is-open n m.before.bus o.0 o.1 o.3;
+      late = record {
+        millis = millis;
+        request = o.0;
+        event = is;
+        made = o.1;
+        due = passed o.0.deadline (m.before.now + millis) o.2;
+      };
+    }
+      where
+        passed : (x y : ℕ) → nat_le x y ≡ true → x ≤ y
+        passed x y h = grind (arith, nat_tests)
+
+    all : (ns : List ℕ) → ((n : ℕ) → IsIn n ns → IsIn n due)
+        → Each (λ n. IsOverdue m n (later_by millis m.before)) ns
+    all [] within = tt
+    all (n ∷ ns) within = (late n (within n (inl refl)), all ns (λ k i. within k (inr i)))
 
 -- ---- a connection that isn't unwired stays live
 
@@ -220,49 +260,47 @@ wired-rise (c ∷ cs) h = (above cs h.0, wired-rise cs h.1)
 -- ---- ticks and pulls
 
 module _ (m : Moment) (law : Law m) where
+  -- Midway through a tick: these requests are to be given up yet.
+  pub record Ticks (ns : List ℕ) (told : List Entry) (s : State) : Type 0 where
+    pub rise : Rise ns
+    pub late : Each (λ n. IsOverdue m n s) ns
+    pub holds : At m (acting m law) None [] Untouched told s
+
+  -- one more is given up
+  pub ticks-next : (n : ℕ) (ns : List ℕ) (told : List Entry) (s : State) → Ticks (n ∷ ns) told s
+      → Ticks ns (told ++ (gives_up outcome.Timeout n s).entries) (gives_up outcome.Timeout n s).state
+  ticks-next n ns told s h = record {
+    rise = h.rise.1;
+    late = overdue-others m n ns s h.rise.0 h.late.1;
+    holds = rests-gives_up m law n outcome.Timeout s h.late.0.unended h.late.0.late told h.holds;
+  }
+
   rests-overdue : (ns : List ℕ) (s : State) → Rise ns → Each (λ n. IsOverdue m n s) ns → Rests m law (each ns (gives_up outcome.Timeout)) s
   unfolding machine_opened
   rests-overdue [] s rise late = rests-nothing m law s
   rests-overdue (n ∷ ns) s rise late =
       rests-▸ m law (gives_up outcome.Timeout n) (each ns (gives_up outcome.Timeout)) s
       (rests-gives_up m law n outcome.Timeout s late.0.unended late.0.late)
-      (rests-overdue ns (gives_up outcome.Timeout n s).state rise.1 (later ns rise.0 late.1))
-    where
-      later : (ks : List ℕ) → Each (λ k. n < k) ks → Each (λ k. IsOverdue m k s) ks
-          → Each (λ k. IsOverdue m k (gives_up outcome.Timeout n s).state) ks
-      later [] a b = tt
-      later (k ∷ ks) a b = (overdue-after m n k s a.0 b.0, later ks a.1 b.1)
+      (rests-overdue ns (gives_up outcome.Timeout n s).state rise.1 (overdue-others m n ns s rise.0 late.1))
+
+  -- time has passed, and nothing is given up yet
+  pub ticks-first : (millis : ℕ) (told : List Entry) → m.event ≡ event.Tick millis
+      → At m (acting m law) None [] Untouched told m.before
+      → Ticks (due_by (m.before.now + millis) m.before) (told ++ []) (later_by millis m.before)
+  ticks-first millis told is at = record {
+    rise = open_requests-rise (is_due (m.before.now + millis)) m.before.bus;
+    late = overdue-first m millis is;
+    holds = law.kept _ (passes millis) at;
+  }
 
   pub rests-ticks : (millis : ℕ) → m.event ≡ event.Tick millis → Rests m law (ticks millis) m.before
   unfolding machine_opened
   rests-ticks millis is =
       rests-▸ m law (change (later_by millis)) times_out m.before
       (λ told at. law.kept _ (passes millis) at)
-      (rests-overdue due (later_by millis m.before) (open_requests-rise (is_due (later_by millis m.before).now) m.before.bus)
-      (all due (λ n i. i)))
-    where
-      due : List ℕ
-      due = open_requests (is_due (m.before.now + millis)) m.before.bus
-
-      late : (n : ℕ) → IsIn n (open_requests (is_due (m.before.now + millis)) m.before.bus) → IsOverdue m n (later_by millis m.before)
-      late n i = let o = in-open_requests (is_due (m.before.now + millis)) m.before.bus n i in record {
-        unended = is-open n m.before.bus o.0 o.1 o.3;
-        late = record {
-          millis = millis;
-          request = o.0;
-          event = is;
-          made = o.1;
-          due = passed o.0.deadline (m.before.now + millis) o.2;
-        };
-      }
-        where
-          passed : (x y : ℕ) → nat_le x y ≡ true → x ≤ y
-          passed x y h = grind (arith, nat_tests)
-
-      all : (ns : List ℕ) → ((n : ℕ) → IsIn n ns → IsIn n (open_requests (is_due (m.before.now + millis)) m.before.bus))
-          → Each (λ n. IsOverdue m n (later_by millis m.before)) ns
-      all [] within = tt
-      all (n ∷ ns) within = (late n (within n (inl refl)), all ns (λ k i. within k (inr i)))
+      (rests-overdue (due_by (m.before.now + millis) m.before) (later_by millis m.before)
+      (open_requests-rise (is_due (m.before.now + millis)) m.before.bus)
+      (overdue-first m millis is))
 
   -- what was unwired leaves the law, with what became of wires
   record Unwires (told : List Entry) (s : State) : Type 0 where

@@ -20,7 +20,7 @@ use Rattle.gb_machine.proofs.Steps.{told, with_bus}
 use Rattle.gb_machine.specs.Actions.{Told, change, given, on_bus, ◌▸◌}
 use Rattle.gb_machine.specs.Asking.{asks, asks_with}
 use Rattle.gb_machine.specs.Bus as machine
-use Rattle.gb_machine.specs.Bus.{Connection, connection_of, next_number}
+use Rattle.gb_machine.specs.Bus.{Connection, Request, connection_of, next_number}
 use Rattle.gb_machine.specs.Failures.{unsent}
 use Rattle.gb_machine.specs.Host as machine_host
 use Rattle.gb_machine.specs.Host.{link_at, with_new_link}
@@ -39,7 +39,9 @@ use Rattle.gb_system.proofs.Doings.{does-as, does-change, does-is, does-on_bus, 
 use Rattle.gb_system.proofs.Standing.{rebussed, rehosted, repast, same-sound}
 use Rattle.gb_system.specs.Acting.{makes, tells_of}
 use Rattle.gb_system.specs.Doing.{Does}
-use Rattle.gb_system.specs.Stands.{PartsStand, held_item, held_items}
+use Rattle.gb_system.specs.Held.{is_on}
+use Rattle.gb_system.specs.Stands.{PartsStand, StandForHeld, held_item, held_items}
+use Rattle.gb_system.specs.declared.held.HeldRequest.{HeldRequest}
 use Rattle.gb_system.specs.declared.parties.Parties.{Parties}
 
 -- ---- a connection is closed or unwired
@@ -57,7 +59,7 @@ shut-done {x} {s} {a} {b} y k now st ends appended =
     does-is (with_bus (shut_down k s.bus) s) (map disconnected_told (open_on k side.Ap s.bus))
     (shuts-is k s) (appended ∙ ap (λ ns. a ++ map disconnected_told ns) ends.ended)
     (rebussed [] y (shut_down k s.bus) st ends.stands
-    (same-sound s.bus (shut_down k s.bus) refl st.sound))
+    refl)
 
 unwires-is : (k : ℕ) (s : State) → unwires k s
     ≡ told (with_unwired k s) (map disconnected_told (open_on k side.Far s.bus))
@@ -80,10 +82,38 @@ held-elsewhere k (h ∷ hs) = by (h.connection == k) (held-elsewhere k hs)
     by true same = same
     by false same = ap (λ ls. held_item h ∷ ls) same
 
+-- what is held elsewhere stands for it still
+held-left : (k : ℕ) (rs : List Request) (xs : List HeldRequest) (hs : List Held)
+    → StandForHeld rs xs hs
+    → StandForHeld rs (without (is_on k) xs) (without (λ h. h.connection == k) hs)
+held-left k rs [] [] h = tt
+held-left k rs (x ∷ xs) (y ∷ ys) h =
+    subst (λ n. StandForHeld rs (cond (not (n == k)) (x ∷ without (is_on k) xs)
+    (without (is_on k) xs)) (without (λ h. h.connection == k) (y ∷ ys))) (sym h.0.connection)
+    (by (y.connection == k) (held-left k rs xs ys h.1))
+  where
+    rest : List HeldRequest
+    rest = without (is_on k) xs
+
+    left : List Held
+    left = without (λ h. h.connection == k) ys
+
+    by : (b : Bool) → StandForHeld rs rest left
+        → StandForHeld rs (cond (not b) (x ∷ rest) rest) (cond (not b) (y ∷ left) left)
+    by true behind = behind
+    by false behind = (h.0, behind)
+held-left k rs [] (y ∷ ys) h = absurd h
+held-left k rs (x ∷ xs) [] h = absurd h
+
 pub unwire-done : {x : Parties} {s : State} {a b : List Entry} (y : Bus) (k : ℕ) (now : List ℕ)
     → PartsStand [] x s
     → EndsAs (elsewhere k (held_items s)) y k side.Far s.bus (unwired k s.bus) [] now
-    → b ≡ a ++ map disconnected_told now → Does (record x { bus = y }) (unwires k) s a b
+    → b ≡ a ++ map disconnected_told now
+    → Does (record x {
+      bus = y;
+      holds = without (λ j. j == k) x.holds;
+      held = without (is_on k) x.held;
+    }) (unwires k) s a b
 unwire-done {x} {s} {a} {b} y k now st ends appended =
     does-is (with_unwired k s) (map disconnected_told (open_on k side.Far s.bus))
     (unwires-is k s) (appended ∙ ap (λ ns. a ++ map disconnected_told ns) ends.ended)
@@ -96,9 +126,9 @@ unwire-done {x} {s} {a} {b} y k now st ends appended =
       booted = st.booted;
       sound = same-sound s.bus (unwired k s.bus) refl st.sound;
       short = st.short;
-      now = st.now;
+      time = st.time;
       holds = ap (without (λ j. j == k)) st.holds;
-      held = ap (without (λ (h : Held). h.connection == k)) st.held;
+      held = held-left k s.bus.requests x.held s.held st.held;
     })
 
 -- ---- a sequence fails
@@ -156,9 +186,9 @@ label-next d b twoway =
     by None e = sym (ap (option_and_then (cyclic_label d.connection d.side b)) e)
     by (Some c) e = refl
 
--- the request of an act, as it is made at this time
-abbrev pub act_draft : Asking → Draft
-act_draft q = draft q.on side.Ap q.kind q.payload 1000 false
+-- the request of an act, with this deadline
+abbrev pub act_draft : Asking → ℕ → Draft
+act_draft q deadline = draft q.on side.Ap q.kind q.payload deadline false
 
 asked-some : (label : ℕ) (q : Asking) (s : State) → asked_with (Some label) q s
     ≡ (asks (host_draft q s.now) ▸ change (with_awaited q.purpose (next_number s.bus))) s
@@ -207,38 +237,39 @@ some-from None n m h = absurd cc
 some-from (Some l) n m h = record { label = l; some = refl; number = let e : m ≡ n = cc in e }
 
 -- the request is made, and its sequence waits for it
-pub host-asked : {x : Parties} {s : State} {a b : List Entry} (y : Host) (q : Asking) (n : ℕ)
-    → s.now ≡ 0 → Some n ≡ option_map (λ l. next_number s.bus) (label_on (act_draft q) s.bus)
-    → Does x (asks (act_draft q)) s a b
+pub host-asked : {x : Parties} {s : State} {a b : List Entry} (y : Host) (q : Asking)
+    (deadline n : ℕ) → s.now + default_timeout ≡ deadline
+    → Some n ≡ option_map (λ l. next_number s.bus) (label_on (act_draft q deadline) s.bus)
+    → Does x (asks (act_draft q deadline)) s a b
     → ((h : machine_host.Host) → host.Stands x.host h → host.Stands y (awaits q.purpose n h))
     → Does (record x { host = y }) (host_asks q) s a b
-host-asked {x} {s} {a} {b} y q n time has done waits =
-    let from = some-from (label_on (act_draft q) s.bus) (next_number s.bus) n has in
-    let t = (asks (act_draft q) s).state in
+host-asked {x} {s} {a} {b} y q deadline n time has done waits =
+    let from = some-from (label_on (act_draft q deadline) s.bus) (next_number s.bus) n has in
+    let t = (asks (act_draft q deadline) s).state in
     let changed = does-change {a = b} (with_awaited q.purpose n)
     (awaited-stands t q.purpose n
     (rehosted y (awaits q.purpose n t.host) done.stand (waits t.host done.stand.host))) in
     let both = does-then done changed in
     does-as (sym (host_asks-is q s
-    ∙ ap (λ o. asked_with o q s) (sym (label-next (act_draft q) s.bus refl) ∙ from.some)
+    ∙ ap (λ o. asked_with o q s) (sym (label-next (act_draft q deadline) s.bus refl) ∙ from.some)
     ∙ asked-some from.label q s
-    ∙ ap (λ m. (asks (draft q.on side.Ap q.kind q.payload (m + default_timeout) false)
+    ∙ ap (λ m. (asks (act_draft q m)
     ▸ change (with_awaited q.purpose (next_number s.bus))) s) time
-    ∙ ap (λ m. (asks (act_draft q) ▸ change (with_awaited q.purpose m)) s) (sym from.number))) both
+    ∙ ap (λ m. (asks (act_draft q deadline) ▸ change (with_awaited q.purpose m)) s) (sym from.number))) both
 
 -- no identifier is left for it
-pub host-unasked : {x y : Parties} {s : State} {a b c : List Entry} (q : Asking)
-    → None ≡ option_map (λ l. next_number s.bus) (label_on (act_draft q) s.bus)
-    → Does x (asks (act_draft q)) s a b
+pub host-unasked : {x y : Parties} {s : State} {a b c : List Entry} (q : Asking) (deadline : ℕ)
+    → None ≡ option_map (λ l. next_number s.bus) (label_on (act_draft q deadline) s.bus)
+    → Does x (asks (act_draft q deadline)) s a b
     → (PartsStand [] x s → Does y (fails (unsent q.purpose)) s b c)
     → Does y (host_asks q) s a c
 unfolding machine_opened
-host-unasked {x} {y} {s} {a} {b} {c} q has done fail =
-    let none = none-from (label_on (act_draft q) s.bus) (next_number s.bus) has in
-    let u = is-unasked (act_draft q) none done in
+host-unasked {x} {y} {s} {a} {b} {c} q deadline has done fail =
+    let none = none-from (label_on (act_draft q deadline) s.bus) (next_number s.bus) has in
+    let u = is-unasked (act_draft q deadline) none done in
     let f = fail u.stand in
     does-as {f = fails (unsent q.purpose)} (sym (host_asks-is q s
-    ∙ ap (λ o. asked_with o q s) (sym (label-next (act_draft q) s.bus refl) ∙ none)))
+    ∙ ap (λ o. asked_with o q s) (sym (label-next (act_draft q deadline) s.bus refl) ∙ none)))
     (record {
       told_is = f.told_is ∙ ap (λ es. es ++ (fails (unsent q.purpose) s).entries) u.same;
       stand = f.stand;
@@ -271,7 +302,7 @@ made-done {x} {s} {a} {b} y z m p k st attaches hosts i c appended =
     attaches.number)
     (rehosted z (with_made m s).host
     (rebussed [] y (attached m.ap m.intf m.cport m.protocol s.bus) st attaches.stands
-    (same-sound s.bus (attached m.ap m.intf m.cport m.protocol s.bus) refl st.sound))
+    refl)
     (subst (host.Stands z)
     (ap (λ n. with_new_link n m.ap p.intf p.cport m.protocol s.host) attaches.number
     ∙ ap (λ n. with_new_link (next_connection s.bus) m.ap n p.cport m.protocol s.host) i
@@ -284,4 +315,4 @@ pub leave-done : {x : Parties} {s : State} {a : List Entry} (y : Bus) (k : ℕ) 
     → Does (record x { bus = y }) (on_bus (detached k)) s a a
 leave-done {x} {s} {a} y k st stands =
     does-on_bus (detached k) (rebussed [] y (detached k s.bus) st stands
-    (same-sound s.bus (detached k s.bus) refl st.sound))
+    refl)

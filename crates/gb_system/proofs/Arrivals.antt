@@ -1,6 +1,5 @@
 -- What is delivered at an end is handled as the machine does.
 use Rattle.std.proofs.Common.{◌≡◌, ℕ, ◌==◌, Bool, true, false, Option, Some, None, is_none, if◌then◌else◌, List, [], ◌∷◌, ◌++◌, inl, inr, refl, sym, ap, ◌∙◌, subst}
-use Rattle.std.specs.List.{list_any}
 use Rattle.gb_base.specs.declared.bridge.Reading.{Reading}
 use Rattle.gb_base.specs.declared.bridge.Reading.TheVariants as reading
 use Rattle.gb_base.specs.declared.end.End.{End}
@@ -25,7 +24,7 @@ use Rattle.gb_laws.proofs.Reached.{reached-linked}
 use Rattle.gb_machine.proofs.Opened.{machine_opened}
 use Rattle.gb_machine.proofs.Steps.{deliver-allowed, delivers-by_number, delivers-drops, delivers-late, with_bus}
 use Rattle.gb_machine.specs.Actions.{tell, ◌▸◌}
-use Rattle.gb_machine.specs.Arriving.{delivers, dropped, is_held, reading_at, reading_for, takes, ends, ends_answered, forgets}
+use Rattle.gb_machine.specs.Arriving.{delivers, dropped, reading_at, reading_for, takes, ends, ends_answered, forgets}
 use Rattle.gb_machine.specs.Bus.{Ask, Connection, Item, Place, Request, connection_of, end_of, is_open, place_of, queue, request_of, Raw, RawReply, Reply}
 use Rattle.gb_machine.specs.Delivery.{answered, ended, forgotten, popped}
 use Rattle.gb_machine.specs.HostActs.{follows}
@@ -42,7 +41,7 @@ use Rattle.gb_host.specs.Bridging.{reading_on}
 use Rattle.gb_machine.specs.Host.{Host, link_of}
 use Rattle.gb_system.proofs.AnswerReadings.{reads-as}
 use Rattle.gb_system.proofs.Doings.{does-as, does-is}
-use Rattle.gb_system.proofs.Standing.{rebussed, same-sound}
+use Rattle.gb_system.proofs.Standing.{rebussed}
 use Rattle.gb_system.specs.Arriving.{ArrivesAs, ReadsOn}
 use Rattle.gb_system.specs.Doing.{Does}
 use Rattle.gb_system.specs.Serving.{side_of}
@@ -57,7 +56,6 @@ pub record IsThere (s : State) (at : End) (p : Place) : Type 0 where
   pub side : side_of at ≡ p.side
   pub is : end_of p.side p.connection ≡ at
   pub clean : p.connection.clean ≡ true
-  pub free : is_held p.side p.connection s ≡ false
   pub found : connection_of p.connection.number s.bus ≡ Some p.connection
 
 -- far ends are the supervisory controller and modules
@@ -78,10 +76,6 @@ clean-in rs (x ∷ xs) (d ∷ ds) c h (inr i) = clean-in rs xs ds c h.1 i
 clean-in rs [] (d ∷ ds) c h i = absurd h
 clean-in rs (x ∷ xs) [] c h i = absurd i
 
-held-nowhere : (at : Side) (c : Connection) (s : State) → s.holds ≡ [] → is_held at c s ≡ false
-held-nowhere side.Ap c s h = refl
-held-nowhere side.Far c s h = ap (list_any (λ k. k == c.number)) h
-
 pub is-there : (x : Parties) (s : State) (at : End) (p : Place) → PartiesStand x s
     → place_of at s.bus.connections ≡ Some p → IsThere s at p
 is-there x s at p st named =
@@ -92,7 +86,6 @@ is-there x s at p st named =
       is = w.is;
       clean = clean-in s.bus.requests x.bus.connections s.bus.connections p.connection
           st.parts.bus.shows.connections w.live;
-      free = held-nowhere p.side p.connection s st.parts.holds;
       found = found-by_number s.bus.connections p.connection st.parts.bus.facts.fits.numbers.rise
           w.live;
     }
@@ -131,7 +124,7 @@ pub nowhere-here : {x : Parties} {a : List Entry} (s : State) (at : End) (y : Bu
 nowhere-here s at y st there h = record {
   refused = refused-by s at false None (sym there) h.named;
   same = refl;
-  stand = rebussed [] y s.bus st h.stands st.sound;
+  stand = rebussed [] y s.bus st h.stands refl;
 }
 
 pub nothing-here : {x : Parties} {a : List Entry} (s : State) (at : End) (y : Bus)
@@ -142,7 +135,7 @@ nothing-here s at y st there h = record {
   refused = refused-by s at false (Some h.place) (sym there) h.named
       ∙ ap (λ is. first_met ((is_none (first is), why.QueueEmpty) ∷ [])) h.empty;
   same = refl;
-  stand = rebussed [] y s.bus st h.stands st.sound;
+  stand = rebussed [] y s.bus st h.stands refl;
 }
 
 -- ---- what was taken
@@ -210,7 +203,7 @@ answer-here {x} {z} {a} {b} s at y p item n kind result payload read st there na
     let w = is-there x s at p st named in
     let how = answered result h.bytes in
     let t = with_bus (ended n how (popped p.connection.number p.side s.bus)) s in
-    let stand = rebussed [] y t.bus st.parts h.stands (same-sound s.bus t.bus refl st.parts.sound)
+    let stand = rebussed [] y t.bus st.parts h.stands refl
     in
     let may = may-end t n how (linked-ended n how
     (linked-popped p.connection.number p.side (reached-linked s st.run))) in
@@ -246,7 +239,7 @@ late-here {x} s at y p item n st there named front taken h pushed =
       does-is (with_bus after s) (entry.Late n ∷ [])
           (delivers-late s at p n h.result h.bytes named (front ∙ ap Some h.item_is) taken w.clean
           h.closed) pushed
-          (rebussed [] y after st.parts h.stands (same-sound s.bus after refl st.parts.sound)),
+          (rebussed [] y after st.parts h.stands refl),
     )
 
 -- the entry of what is dropped: it has a number on a clean connection
@@ -279,7 +272,7 @@ dropped-here {x} {a} s at y p item number reply st there named front untaken h p
       does-is (with_bus after s) (dropped item ∷ [])
           (delivers-drops s at p item named front untaken)
           (pushed ∙ ap (λ e. a ++ e ∷ []) (dropped-is item number reply numbered h.told))
-          (rebussed [] y after st.parts h.stands (same-sound s.bus after refl st.parts.sound)),
+          (rebussed [] y after st.parts h.stands refl),
     )
 
 -- ---- what answers say

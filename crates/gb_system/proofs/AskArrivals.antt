@@ -1,4 +1,4 @@
--- A request that is delivered is served as the machine does.
+-- A request that is delivered is held or served as the machine does.
 use Rattle.std.proofs.Common.{◌≡◌, ℕ, Bool, true, false, Option, Some, None, if◌then◌else◌, option_map, List, [], refl, sym, ap, ◌∙◌, subst}
 use Rattle.gb_base.specs.declared.end.End.{End}
 use Rattle.gb_base.specs.declared.end.Side.{Side}
@@ -12,25 +12,27 @@ use Rattle.gb_laws.proofs.LinkBuses.{Linked}
 use Rattle.gb_laws.proofs.LinkChanges.{linked-popped, linked-replied}
 use Rattle.gb_laws.proofs.LinkLists.{find-changed}
 use Rattle.gb_laws.proofs.Reached.{reached-linked}
-use Rattle.gb_machine.proofs.Steps.{delivers-serves}
-use Rattle.gb_machine.specs.Arriving.{takes}
+use Rattle.gb_machine.proofs.Opened.{machine_opened}
+use Rattle.gb_machine.proofs.Steps.{delivers-arrives}
+use Rattle.gb_machine.specs.Actions.{given}
+use Rattle.gb_machine.specs.Arriving.{asked_at, delivers, takes}
 use Rattle.gb_machine.specs.Bus as machine
 use Rattle.gb_machine.specs.Bus.{Ask, Connection, Item, Place, Request, connection_of, end_of, has_number, is_open, place_of, queue, request_of, Raw, RawReply, Reply}
 use Rattle.gb_machine.specs.Delivery.{popped, replied, without_front}
 use Rattle.gb_machine.specs.Incoming.{incoming, reply_item}
 use Rattle.gb_machine.specs.Lists.{first}
 use Rattle.gb_machine.specs.Refusals.{is_end_unplugged}
-use Rattle.gb_machine.specs.Responding.{serves}
 use Rattle.gb_machine.specs.State.{State}
 use Rattle.gb_machine.specs.HostServing.{HostServed, host_serves}
 use Rattle.gb_machine.specs.Reached.{OfARun}
 use Rattle.gb_machine.specs.Turns.{HostEvent}
 use Rattle.gb_system.proofs.Turning.{may-note}
 use Rattle.gb_system.proofs.Doings.{does-as}
-use Rattle.gb_system.proofs.Standing.{rebussed, same-sound}
+use Rattle.gb_system.proofs.Standing.{rebussed}
 use Rattle.gb_system.specs.Arriving.{ArrivesAs}
 use Rattle.gb_system.specs.Drafts.{IsUpon}
-use Rattle.gb_system.specs.Serving.{IsDelivered, MayServe, only, side_of, MayNotice, ServesAt, after_serving}
+use Rattle.gb_system.specs.Holding.{AsksAt}
+use Rattle.gb_system.specs.Serving.{IsDelivered, MayServe, only, side_of, MayNotice, after_serving}
 use Rattle.gb_system.specs.Stands.{PartiesStand, PartsStand, held_items}
 use Rattle.gb_system.specs.declared.parties.Parties.{Parties}
 use Rattle.gb_system.proofs.Arrivals.{allowed-here, is-there, taken_state}
@@ -92,13 +94,26 @@ may-serve s at p n r run named front made = by p.side refl
     by side.Far e = tt
     by side.Ap e = noticed served.notices e refl
 
+-- it is held or served once it was taken
+delivers-asks : (s : State) (at : End) (p : Place) (n : ℕ) (r : Request)
+    → place_of at s.bus.connections ≡ Some p
+    → first (queue p.side p.connection) ≡ Some (Ask n)
+    → takes p.side p.connection s ≡ true → request_of n s.bus ≡ Some r
+    → delivers at s
+    ≡ asked_at p.side p.connection (Ask n) (incoming n r) (taken_state s p)
+unfolding machine_opened
+delivers-asks s at p n r named front taken made =
+    delivers-arrives s at p (Ask n) named front taken
+    ∙ ap (λ o. given o (λ (m : Request).
+    asked_at p.side p.connection (Ask n) (incoming n m)) (taken_state s p)) made
+
 pub ask-here : {x z : Parties} {a b : List Entry} (s : State) (at : End) (y : Bus) (p : Place)
     (k : ℕ) (item : Item) (asked : Asked) (payload bytes : List ℕ)
     → PartiesStand x s → false ≡ is_end_unplugged at s → place_of at s.bus.connections ≡ Some p
     → first (queue p.side p.connection) ≡ Some item → takes p.side p.connection s ≡ true
     → k ≡ p.connection.number → bytes ≡ payload
     → ArrivesAsk (held_items s) y p s.bus item asked payload
-    → ServesAt at (record x { bus = y }) z k asked bytes a b
+    → AsksAt at (record x { bus = y }) z k asked bytes a b
     → ArrivesAs z s at a b None
 ask-here {x} {z} {a} {b} s at y p k item asked payload bytes st there named front taken number same h
     serve =
@@ -109,7 +124,7 @@ ask-here {x} {z} {a} {b} s at y p k item asked payload bytes st there named fron
     let front_is = front ∙ ap Some h.item_is in
     let stand : PartsStand (only c.number p.side h.number) (record x { bus = y }) t =
     rebussed (only c.number p.side h.number) y t.bus st.parts h.stands
-    (same-sound s.bus t.bus refl st.parts.sound) in
+    refl in
     let delivered : IsDelivered at k asked bytes t c h.number = record {
       request = h.request;
       made = h.made;
@@ -125,7 +140,7 @@ ask-here {x} {z} {a} {b} s at y p k item asked payload bytes st there named fron
     (subst (λ d. MayServe d c q t) (sym w.side)
     (may-serve s at p h.number h.request st.run named front_is h.made)) in (
       allowed-here s at p item there named front,
-      does-as (ap (λ d. serves d c q t) w.side
-          ∙ sym (delivers-serves s at p h.number h.request named front_is taken w.free h.made))
+      does-as (ap (λ d. asked_at d c (Ask h.number) q t) w.side
+          ∙ sym (delivers-asks s at p h.number h.request named front_is taken h.made))
           done,
     )

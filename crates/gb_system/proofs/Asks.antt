@@ -27,7 +27,7 @@ use Rattle.gb_machine.specs.OwnAsking.{far_asks, far_asks_all}
 use Rattle.gb_machine.specs.Sending.{Draft, draft, is_lost, is_wired, label_for, requested, sent}
 use Rattle.gb_machine.specs.State.{State}
 use Rattle.gb_system.proofs.Doings.{does-given, does-given_none, does-is, does-unless, does-when}
-use Rattle.gb_system.proofs.Standing.{each_more, rebussed}
+use Rattle.gb_system.proofs.Standing.{each_more, held-more, requested-more}
 use Rattle.gb_system.specs.Acting.{IsAskable}
 use Rattle.gb_system.specs.Doing.{Does}
 use Rattle.gb_system.specs.Drafts.{ask_told, end_at, own_ask}
@@ -196,8 +196,10 @@ unfolding machine_opened
 ask-made {x} {s} {a} {b} y d ends r st askable twoway has sends appended =
     let on = is-on d s.bus ends r.label has sends.label in
     let c = on.connection in
-    let stands = rebussed [] y (sent d r.label s.bus) st sends.stands
-    (sound-sent d s.bus r.label st.sound askable twoway on.drawn) in
+    let stands = requested-more [] y (sent d r.label s.bus) st sends.stands (record {
+      sound = sound-sent d s.bus r.label st.sound askable twoway on.drawn;
+      held = held-more s.bus.requests (requested d r.label) x.held s.held st.held;
+    }) in
     let k = does-given (on_connection d s) c on.live
     (does-given (λ label. asks_with d c label) r.label on.drawn (by c on.same stands d.oneway refl)) in
     record { told_is = k.told_is; stand = k.stand }
@@ -231,15 +233,16 @@ ask-made {x} {s} {a} {b} y d ends r st askable twoway has sends appended =
 
 -- a request of a far side, where its connection is wired
 pub far-asked : {x : Parties} {s : State} {a b : List Entry} (k kind : ℕ) (payload : List ℕ)
-    (oneway : Bool) → s.now ≡ 0 → true ≡ is_wired (connection_of k s.bus)
-    → Does x (asks (draft k side.Far kind payload 1000 oneway)) s a b
+    (oneway : Bool) (deadline : ℕ) → s.now + default_timeout ≡ deadline
+    → true ≡ is_wired (connection_of k s.bus)
+    → Does x (asks (draft k side.Far kind payload deadline oneway)) s a b
     → Does x (far_asks k (own_ask kind payload oneway)) s a b
 unfolding machine_opened
-far-asked {x} {s} {a} {b} k kind payload oneway time wires d =
+far-asked {x} {s} {a} {b} k kind payload oneway deadline time wires d =
     let e : Does x (when (is_wired (connection_of k s.bus))
     (asks (draft k side.Far kind payload (s.now + default_timeout) oneway))) s a b =
     does-when (asks (draft k side.Far kind payload (s.now + default_timeout) oneway)) (sym wires)
-    (subst (λ n. Does x (asks (draft k side.Far kind payload (n + default_timeout) oneway)) s a b)
+    (subst (λ n. Does x (asks (draft k side.Far kind payload n oneway)) s a b)
     (sym time) d) in
     record { told_is = e.told_is; stand = e.stand }
 

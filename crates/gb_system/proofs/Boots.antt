@@ -86,7 +86,7 @@ started-stand x s st = record {
   booted = refl;
   sound = st.sound;
   short = st.short;
-  now = st.now;
+  time = st.time;
   holds = st.holds;
   held = st.held;
 }

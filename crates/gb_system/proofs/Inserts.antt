@@ -128,7 +128,7 @@ plugged-stand x s i kind modules m l st is kind_is ports = record {
   short = each-from IsShort (plugged i (module_of_kind kind) s.modules)
       (short-plugged i (module_of_kind kind) s.modules
       (λ p k. each-in IsShort s.modules p st.short k) (kind-short kind));
-  now = st.now;
+  time = st.time;
   holds = st.holds;
   held = st.held;
 }

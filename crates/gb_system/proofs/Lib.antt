@@ -12,6 +12,8 @@ pub mod Decisions
 pub mod Doings
 pub mod Endings
 pub mod Fits
+pub mod HeldAsks
+pub mod Holdings
 pub mod Inserts
 pub mod Landing
 pub mod Midways
@@ -29,6 +31,7 @@ pub mod Stirs
 pub mod SvcServes
 pub mod SvcSteps
 pub mod Takings
+pub mod Ticks
 pub mod Turning
 pub mod Ways
 pub mod WordOrder

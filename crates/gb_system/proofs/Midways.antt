@@ -21,7 +21,7 @@ pub record Midway (x : Parties) (whole rest : Action) (s : State) (before told :
   pub stand : PartsStand [] x state
 
 -- at first nothing was done
-pub midway-first : {x : Parties} {s : State} {a : List Entry} (f : Action) → PartsStand [] x s
+abbrev pub midway-first : {x : Parties} {s : State} {a : List Entry} (f : Action) → PartsStand [] x s
     → Midway x f f s a a
 midway-first {x} {s} {a} f st = record {
   state = s;

@@ -78,7 +78,7 @@ stands-with ms mods same short h = record {
   booted = h.booted;
   sound = h.sound;
   short = short;
-  now = h.now;
+  time = h.time;
   holds = h.holds;
   held = h.held;
 }

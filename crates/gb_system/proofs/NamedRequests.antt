@@ -9,7 +9,7 @@ use Rattle.gb_base.specs.declared.outcome.Outcome.{Outcome}
 use Rattle.gb_base.specs.declared.outcome.Outcome.TheVariants as outcome
 use Rattle.gb_base.specs.declared.refusal.Refusal.{Refusal}
 use Rattle.gb_base.specs.declared.refusal.Refusal.TheVariants as why
-use Rattle.gb_bus.specs.Cancelling.{Cancels, CancelsNothing}
+use Rattle.gb_bus.specs.Cancelling.{GivesUp, GivesUpNothing}
 use Rattle.gb_bus.specs.declared.bus.Bus as code
 use Rattle.gb_laws.proofs.LinkChanges.{linked-gave_up}
 use Rattle.gb_laws.proofs.Reached.{reached-linked, reached-names}
@@ -33,6 +33,7 @@ use Rattle.gb_system.proofs.Turning.{may-end}
 use Rattle.gb_system.specs.Acting.{MayTurn}
 use Rattle.gb_system.specs.Doing.{Does}
 use Rattle.gb_system.specs.Stands.{PartiesStand, PartsStand, PartsStep, held_items}
+use Rattle.gb_system.specs.Ticking.{given_up}
 use Rattle.gb_system.specs.declared.parties.Parties.{Parties}
 
 -- what a name names in the state that the parties stand for
@@ -53,7 +54,7 @@ renamed x s others st same = record {
   booted = st.booted;
   sound = st.sound;
   short = st.short;
-  now = st.now;
+  time = st.time;
   holds = st.holds;
   held = st.held;
 }
@@ -103,7 +104,7 @@ named-made (p ∷ ps) name n b made h = by (named-made ps name n b made.1) (same
 -- a request that had ended before
 pub cancel-ended : (x : Parties) (z : code.Bus) (s : State) (name : Name) (n : ℕ)
     (es : List Entry) → PartiesStand x s → named name x.names ≡ Some n
-    → CancelsNothing (held_items s) z n s.bus → es ≡ entry.Refused why.AlreadyEnded ∷ []
+    → GivesUpNothing (held_items s) z n s.bus → es ≡ entry.Refused why.AlreadyEnded ∷ []
     → PartsStep (record x { bus = z }) s (event.Cancel name) (Ok es)
 cancel-ended x z s name n es st h cancels is =
     let names_it = named-is x s name st ∙ h in
@@ -112,19 +113,14 @@ cancel-ended x z s name n es st h cancels is =
     lands-refused (record x { bus = z }) s (event.Cancel name) why.AlreadyEnded es
     (ap (λ o. first_met (cancel_conditions s o)) names_it
     ∙ ap (λ b. first_met ((b, why.AlreadyEnded) ∷ [])) ended) is
-    (rebussed [] z s.bus st.parts cancels.stands st.parts.sound)
-
--- the state once a request is given up
-abbrev pub given_up : ℕ → State → State
-given_up n s = record s { bus = gave_up n outcome.Cancelled s.bus }
+    (rebussed [] z s.bus st.parts cancels.stands refl)
 
 -- what is done where a request is given up
-does-gives_up : {y : Parties} (s : State) (n : ℕ) {before es : List Entry}
-    → Does y (tell (entry.Ended n outcome.Cancelled reading.Nothing) ▸ follows n outcome.Cancelled)
-    (given_up n s) before es
-    → Does y (gives_up outcome.Cancelled n) s before es
+pub does-gives_up : {y : Parties} (s : State) (how : Outcome) (n : ℕ) {before es : List Entry}
+    → Does y (tell (entry.Ended n how reading.Nothing) ▸ follows n how) (given_up n how s) before es
+    → Does y (gives_up how n) s before es
 unfolding machine_opened
-does-gives_up s n d = record { told_is = d.told_is; stand = d.stand }
+does-gives_up s how n d = record { told_is = d.told_is; stand = d.stand }
 
 -- what a cancel does
 does-cancels : {y : Parties} (s : State) (name : Name) (n : ℕ) {before es : List Entry}
@@ -138,11 +134,11 @@ does-cancels s name n is d =
 -- an open request is given up
 pub cancel-done : (x y : Parties) (z : code.Bus) (s : State) (name : Name) (n : ℕ)
     (before es : List Entry) → PartiesStand x s → named name x.names ≡ Some n
-    → Cancels (held_items s) z n s.bus → before ≡ entry.Done ∷ []
-    → (PartsStand [] (record x { bus = z }) (given_up n s)
-    → MayTurn (HostEvent.Ended n outcome.Cancelled) (given_up n s)
+    → GivesUp (held_items s) z outcome.Cancelled n s.bus → before ≡ entry.Done ∷ []
+    → (PartsStand [] (record x { bus = z }) (given_up n outcome.Cancelled s)
+    → MayTurn (HostEvent.Ended n outcome.Cancelled) (given_up n outcome.Cancelled s)
     → Does y (tell (entry.Ended n outcome.Cancelled reading.Nothing) ▸ follows n outcome.Cancelled)
-    (given_up n s) before es)
+    (given_up n outcome.Cancelled s) before es)
     → PartsStep y s (event.Cancel name) (Ok es)
 cancel-done x y z s name n before es st h cancels begun ends =
     let names_it = named-is x s name st ∙ h in
@@ -150,9 +146,9 @@ cancel-done x y z s name n before es st h cancels begun ends =
     lands y s (event.Cancel name) before es
     (ap (λ o. first_met (cancel_conditions s o)) names_it
     ∙ ap (λ o. first_met ((is_some o, why.AlreadyEnded) ∷ [])) still) begun
-    (does-cancels s name n names_it (does-gives_up s n (ends
-    (rebussed [] z (gave_up n outcome.Cancelled s.bus) st.parts cancels.stands st.parts.sound)
-    (may-end (given_up n s) n outcome.Cancelled
+    (does-cancels s name n names_it (does-gives_up s outcome.Cancelled n (ends
+    (rebussed [] z (gave_up n outcome.Cancelled s.bus) st.parts cancels.stands refl)
+    (may-end (given_up n outcome.Cancelled s) n outcome.Cancelled
     (linked-gave_up n outcome.Cancelled (reached-linked s st.run))))))
 
 -- ---- copies

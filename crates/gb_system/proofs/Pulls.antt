@@ -111,7 +111,7 @@ pulled-stand x t i modules l st is ports = record {
   booted = st.booted;
   sound = st.sound;
   short = each-filter IsShort (λ p. not (is_plugged_at i p)) t.modules st.short;
-  now = st.now;
+  time = st.time;
   holds = st.holds;
   held = st.held;
 }

@@ -21,7 +21,7 @@ use Rattle.gb_machine.specs.Responding.{replies}
 use Rattle.gb_machine.specs.Serving.{Answer, answer}
 use Rattle.gb_machine.specs.State.{State}
 use Rattle.gb_system.proofs.Doings.{does-is}
-use Rattle.gb_system.proofs.Standing.{rebussed, same-sound}
+use Rattle.gb_system.proofs.Standing.{rebussed}
 use Rattle.gb_system.specs.Doing.{Does}
 use Rattle.gb_system.specs.Drafts.{IsUpon, end_at, reply_told}
 use Rattle.gb_system.specs.Stands.{PartsStand, held_items}
@@ -86,4 +86,4 @@ answered-done {x} {s} {a} {b} y k at asked code payload ends e c n st live may h
     (rebussed [] y after st
     (subst (λ j. bus.Stands (held_items s) y
     (replied j (other_side at) (Reply n code payload) s.bus)) (sym same) stands)
-    (same-sound s.bus after refl st.sound))
+    refl)

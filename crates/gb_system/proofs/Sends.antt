@@ -1,5 +1,5 @@
 -- A request of a script goes on a connection, or is refused, as the machine does.
-use Rattle.std.proofs.Common.{◌≡◌, ◌≤◌, ◌<◌, ℕ, ◌+◌, false, Option, Some, None, IsSome, option_map, option_and_then, Ok, Err, List, [], ◌∷◌, ◌++◌, zero-add, length, refl, sym, ap, ◌∙◌, subst, arith}
+use Rattle.std.proofs.Common.{◌≡◌, ◌≤◌, ◌<◌, ℕ, ◌+◌, false, Option, Some, None, IsSome, option_map, option_and_then, Ok, Err, List, [], ◌∷◌, ◌++◌, length, refl, sym, ap, ◌∙◌, subst, arith}
 use Rattle.std.proofs.lemmas.Bool.Decides.{nat_tests}
 use Rattle.gb_base.specs.declared.end.End.{End}
 use Rattle.gb_base.specs.declared.end.End.TheVariants as end
@@ -77,18 +77,18 @@ asks-named name n k kind payload deadline s =
 
 -- The name is bound after the request is made, and the machine binds it before.
 does-sends_on : (x y : Parties) (s : State) (name : Name) (n k kind : ℕ) (payload : List ℕ)
-    (timeout : ℕ) {a b : List Entry} → PartsStand [] x s → n ≡ next_number s.bus
-    → Does y (asks (ap_draft k kind payload timeout)) s a b
+    (timeout deadline : ℕ) {a b : List Entry} → PartsStand [] x s → n ≡ next_number s.bus
+    → deadline ≡ x.time + timeout → Does y (asks (ap_draft k kind payload deadline)) s a b
     → Does (record y { names = y.names ++ (name, n) ∷ [] }) (sends_on name k kind payload timeout)
     s a b
 unfolding machine_opened
-does-sends_on x y s name n k kind payload timeout {a} {b} st number d =
+does-sends_on x y s name n k kind payload timeout deadline {a} {b} st number wait d =
     does-by_state binds (does-then
     (does-change (bound name (next_number s.bus))
     (renamed x s (bound name (next_number s.bus) s).names st
     (ap (λ ns. ns ++ (name, next_number s.bus) ∷ []) st.names)))
     (subst (λ t. Does z (asks (ap_draft k kind payload t)) (bound name (next_number s.bus) s) a b)
-    time (subst (λ m. Does z (asks (ap_draft k kind payload timeout)) (bound name m s) a b) number
+    time (subst (λ m. Does z (asks (ap_draft k kind payload deadline)) (bound name m s) a b) number
     later)))
   where
     z : Parties
@@ -99,15 +99,15 @@ does-sends_on x y s name n k kind payload timeout {a} {b} st number d =
         change (bound name (next_number t.bus))
         ▸ asks (ap_draft k kind payload (t.now + timeout))
 
-    time : timeout ≡ s.now + timeout
-    time = sym (ap (λ t. t + timeout) st.now ∙ zero-add timeout)
+    time : deadline ≡ s.now + timeout
+    time = wait ∙ sym (ap (λ t. t + timeout) st.time)
 
     after : Told
-    after = asks (ap_draft k kind payload timeout) s
+    after = asks (ap_draft k kind payload deadline) s
 
-    later : Does z (asks (ap_draft k kind payload timeout)) (bound name n s) a b
+    later : Does z (asks (ap_draft k kind payload deadline)) (bound name n s) a b
     later = does-is (bound name n after.state) after.entries
-        (asks-named name n k kind payload timeout s) d.told_is
+        (asks-named name n k kind payload deadline s) d.told_is
         (renamed y after.state (bound name n after.state).names d.stand
         (ap (λ ns. ns ++ (name, n) ∷ []) d.stand.names))
 
@@ -208,22 +208,23 @@ IsNumber x k kind payload deadline o = (t : State) → PartsStand [] x t
 
 -- a request is sent on a connection
 pub sent-on : (x y : Parties) (s : State) (name : Name) (k kind : ℕ) (payload : List ℕ)
-    (timeout : ℕ) (o : Option ℕ) (n : ℕ) {a b : List Entry} → PartsStand [] x s
-    → IsNumber x k kind payload timeout o → o ≡ Some n → IsSome (next_label k side.Ap s.bus)
-    → Does y (asks (ap_draft k kind payload timeout)) s a b
+    (timeout deadline : ℕ) (o : Option ℕ) (n : ℕ) {a b : List Entry} → PartsStand [] x s
+    → deadline ≡ x.time + timeout → IsNumber x k kind payload deadline o → o ≡ Some n
+    → IsSome (next_label k side.Ap s.bus)
+    → Does y (asks (ap_draft k kind payload deadline)) s a b
     → Does (record y { names = y.names ++ (name, n) ∷ [] }) (sends_on name k kind payload timeout)
     s a b
-sent-on x y s name k kind payload timeout o n st number is label d =
+sent-on x y s name k kind payload timeout deadline o n st wait number is label d =
     let next : n ≡ next_number s.bus =
-    cc (is, number-is s k kind payload timeout o label (number s st)) in
-    does-sends_on x y s name n k kind payload timeout st next d
+    cc (is, number-is s k kind payload deadline o label (number s st)) in
+    does-sends_on x y s name n k kind payload timeout deadline st next wait d
 
 -- one whose connection has an identifier left has a number
-pub sent-numbered : (x : Parties) (s : State) (k kind : ℕ) (payload : List ℕ) (timeout : ℕ)
-    (o : Option ℕ) → PartsStand [] x s → IsNumber x k kind payload timeout o
+pub sent-numbered : (x : Parties) (s : State) (k kind : ℕ) (payload : List ℕ) (deadline : ℕ)
+    (o : Option ℕ) → PartsStand [] x s → IsNumber x k kind payload deadline o
     → IsSome (next_label k side.Ap s.bus) → o ≡ Some (next_number s.bus)
-sent-numbered x s k kind payload timeout o st number label =
-    number-is s k kind payload timeout o label (number s st)
+sent-numbered x s k kind payload deadline o st number label =
+    number-is s k kind payload deadline o label (number s st)
 
 -- a request of a script is sent
 pub send-done : (x y : Parties) (s : State) (name : Name) (to : End) (kind : ℕ)

@@ -121,7 +121,7 @@ shown-as x s es st is =
 pub shows : (x : Parties) (s : State) (e0 e1 e2 e3 e4 e5 : List Entry) (text : List ℕ)
     (known : List Interface) (live : List Known) (waiting : List Waiting) (names : List (Name × ℕ))
     → PartsStand [] x s
-    → e0 ≡ entry.Done ∷ [] → text ≡ now_line 0 → e1 ≡ e0 ++ entry.Shown text ∷ []
+    → e0 ≡ entry.Done ∷ [] → text ≡ now_line x.time → e1 ≡ e0 ++ entry.Shown text ∷ []
     → e2 ≡ e1 ++ lines (map interface_shown known)
     → e3 ≡ e2 ++ lines (map (known_shown (host_of x.host)) live)
     → e4 ≡ e3 ++ lines (map waiting_shown waiting)
@@ -133,7 +133,7 @@ shows x s e0 e1 e2 e3 e4 e5 text known live waiting names st i0 it i1 i2 i3 i4 i
     shown-as x s e5 st
     (i5 ∙ ap (λ es. es ++ d) (i4 ∙ ap (λ es. es ++ c) (i3 ∙ ap (λ es. es ++ b)
     (i2 ∙ ap (λ es. es ++ a) (i1 ∙ ap (λ es. es ++ entry.Shown text ∷ []) i0
-    ∙ ap (λ t. entry.Done ∷ entry.Shown t ∷ []) (it ∙ ap now_line (sym st.now))))))
+    ∙ ap (λ t. entry.Done ∷ entry.Shown t ∷ []) (it ∙ ap now_line (sym st.time))))))
     ∙ four-behind (entry.Done ∷ entry.Shown (now_line s.now) ∷ []) a b c d
     ∙ ap (λ es. entry.Done ∷ es) (behind-time s (map interface_shown known)
     (map (known_shown (host_of x.host)) live) (map waiting_shown waiting)

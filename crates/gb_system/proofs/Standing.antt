@@ -1,5 +1,5 @@
 -- What of a state changes, and the parties stand for it still.
-use Rattle.std.proofs.Common.{◌≡◌, ℕ, suc, ◌<◌, ◌≤◌, Some, List, [], ◌∷◌, ◌++◌, length, sym, ap, ◌∙◌, ⊎_elim, subst, arith, length-append}
+use Rattle.std.proofs.Common.{◌≡◌, ℕ, suc, ◌<◌, ◌≤◌, Some, List, [], ◌∷◌, ◌++◌, length, refl, sym, ap, ◌∙◌, ⊎_elim, subst, arith, length-append}
 use Rattle.std.proofs.lemmas.Bool.{cases_lt}
 use Rattle.gb_bus.proofs.Loosening.{let-go}
 use Rattle.gb_bus.specs.Stands as bus
@@ -7,56 +7,76 @@ use Rattle.gb_bus.specs.declared.bus.Bus.{Bus}
 use Rattle.gb_host.specs.Stands as host
 use Rattle.gb_host.specs.declared.host.Host.{Host}
 use Rattle.gb_invariants.specs.Facts.{Loose}
-use Rattle.gb_machine.proofs.Lists.{nth-past, nth-push, nth-push-below}
+use Rattle.gb_machine.proofs.Lists.{nth-past, nth-push, nth-push-below, nth-more}
 use Rattle.gb_machine.proofs.Steps.{with_bus}
 use Rattle.gb_machine.specs.Bus as machine
 use Rattle.gb_machine.specs.Bus.{Request}
 use Rattle.gb_machine.specs.Host as machine_host
 use Rattle.gb_machine.specs.Lists.{nth}
-use Rattle.gb_machine.specs.State.{Past, Port, State}
+use Rattle.gb_machine.specs.State.{Held, Past, Port, State}
 use Rattle.gb_switch.specs.Stands as switch
 use Rattle.gb_switch.specs.declared.ladder.Ladder.{Ladder}
-use Rattle.gb_system.specs.Stands.{AreSound, PartsStand, held_items}
+use Rattle.gb_system.specs.Stands.{AreSound, PartsStand, StandForHeld, held_items}
+use Rattle.gb_system.specs.declared.held.HeldRequest.{HeldRequest}
 use Rattle.gb_system.specs.declared.parties.Parties.{Parties}
+
+-- the same requests were made
+pub same-sound : (b c : machine.Bus) → c.requests ≡ b.requests → AreSound b → AreSound c
+same-sound b c same sound = λ n r h. sound n r (ap (nth n) (sym same) ∙ h)
+
+-- The requests of a bus are sound, and those that are held are among them.
+pub record Keeps (x : Parties) (s : State) (b : machine.Bus) : Type 0 where
+  pub sound : AreSound b
+  pub held : StandForHeld b.requests x.held s.held
+
+-- it is so where the same requests were made
+same-keeps : {x : Parties} {s : State} {was : List Loose} (b : machine.Bus) → PartsStand was x s
+    → b.requests ≡ s.bus.requests → Keeps x s b
+same-keeps {x} {s} b st same = record {
+  sound = same-sound s.bus b same st.sound;
+  held = subst (λ rs. StandForHeld rs x.held s.held) (sym same) st.held;
+}
 
 -- The parties stand for a state with another bus, other power levels, another application processor
 -- and another past.
 pub standing : {x : Parties} {s : State} {was : List Loose} (loose : List Loose) (y : Bus)
     (b : machine.Bus) (v : Ladder) (ports : List Port) (z : Host) (h : machine_host.Host)
-    (past : Past) → PartsStand was x s → bus.Stands (loose ++ held_items s) y b → AreSound b
+    (past : Past) → PartsStand was x s → bus.Stands (loose ++ held_items s) y b → Keeps x s b
     → switch.Stands v ports → host.Stands z h
     → PartsStand loose (record x { bus = y; ladder = v; host = z })
     (record s { bus = b; ports = ports; host = h; past = past })
-standing loose y b v ports z h past st bus_stands sound ladder_stands host_stands = record {
+standing loose y b v ports z h past st bus_stands keeps ladder_stands host_stands = record {
   bus = bus_stands;
   ports = ladder_stands;
   modules = st.modules;
   host = host_stands;
   names = st.names;
   booted = st.booted;
-  sound = sound;
+  sound = keeps.sound;
   short = st.short;
-  now = st.now;
+  time = st.time;
   holds = st.holds;
-  held = st.held;
+  held = keeps.held;
 }
 
--- The parties stand for a state with another bus, whose requests are sound.
-pub rebussed : {x : Parties} {s : State} {was : List Loose} (loose : List Loose) (y : Bus)
-    (b : machine.Bus) → PartsStand was x s → bus.Stands (loose ++ held_items s) y b → AreSound b
+-- The parties stand for a state with another bus, on which these requests were made.
+pub requested-more : {x : Parties} {s : State} {was : List Loose} (loose : List Loose) (y : Bus)
+    (b : machine.Bus) → PartsStand was x s → bus.Stands (loose ++ held_items s) y b → Keeps x s b
     → PartsStand loose (record x { bus = y }) (with_bus b s)
-rebussed {x} {s} loose y b st stands sound =
-    standing loose y b x.ladder s.ports x.host s.host s.past st stands sound st.ports st.host
+requested-more {x} {s} loose y b st stands keeps =
+    standing loose y b x.ladder s.ports x.host s.host s.past st stands keeps st.ports st.host
+
+-- The parties stand for a state with another bus, on which the same requests were made.
+pub rebussed : {x : Parties} {s : State} {was : List Loose} (loose : List Loose) (y : Bus)
+    (b : machine.Bus) → PartsStand was x s → bus.Stands (loose ++ held_items s) y b
+    → b.requests ≡ s.bus.requests → PartsStand loose (record x { bus = y }) (with_bus b s)
+rebussed loose y b st stands same = requested-more loose y b st stands (same-keeps b st same)
 
 -- An item is let go.
 pub let-gone : {x : Parties} {s : State} (l : Loose) (loose : List Loose)
     → PartsStand (l ∷ loose) x s → PartsStand loose x s
 let-gone {x} {s} l loose st =
-    rebussed loose x.bus s.bus st (let-go l (loose ++ held_items s) x.bus s.bus st.bus) st.sound
-
--- the same requests were made
-pub same-sound : (b c : machine.Bus) → c.requests ≡ b.requests → AreSound b → AreSound c
-same-sound b c same sound = λ n r h. sound n r (ap (nth n) (sym same) ∙ h)
+    rebussed loose x.bus s.bus st (let-go l (loose ++ held_items s) x.bus s.bus st.bus) refl
 
 -- what holds of all requests and of a new one holds of all of them
 pub each_more : (P : Request → Type 0) (rs : List Request) (q : Request)
@@ -79,23 +99,44 @@ each_more P rs q old new n r h =
             let same : q ≡ r = cc (ap (λ m. nth m (rs ++ q ∷ [])) place, nth-push rs q, h) in
             subst P same new
 
+-- requests that are held stay those that were made where one more is made
+pub held-more : (rs : List Request) (q : Request) (xs : List HeldRequest) (hs : List Held)
+    → StandForHeld rs xs hs → StandForHeld (rs ++ q ∷ []) xs hs
+held-more rs q [] [] h = tt
+held-more rs q (x ∷ xs) (y ∷ ys) h =
+    let a = h.0 in (
+      record {
+        number = a.number;
+        request = a.request;
+        connection = a.connection;
+        item_is = a.item_is;
+        made = nth-more a.number rs q a.request a.made;
+        names = a.names;
+        payload_is = a.payload_is;
+      },
+      held-more rs q xs ys h.1,
+    )
+held-more rs q [] (y ∷ ys) h = absurd h
+held-more rs q (x ∷ xs) [] h = absurd h
+
 -- The parties stand for a state with another application processor.
 pub rehosted : {x : Parties} {s : State} {loose : List Loose} (y : Host) (h : machine_host.Host)
     → PartsStand loose x s → host.Stands y h
     → PartsStand loose (record x { host = y }) (record s { host = h })
 rehosted {x} {s} {loose} y h st stands =
-    standing loose x.bus s.bus x.ladder s.ports y h s.past st st.bus st.sound st.ports stands
+    standing loose x.bus s.bus x.ladder s.ports y h s.past st st.bus (same-keeps s.bus st refl) st.ports stands
 
 -- The past is no matter of theirs.
 pub repast : {x : Parties} {s : State} {loose : List Loose} (past : Past) → PartsStand loose x s
     → PartsStand loose x (record s { past = past })
 repast {x} {s} {loose} past st =
-    standing loose x.bus s.bus x.ladder s.ports x.host s.host past st st.bus st.sound st.ports
-    st.host
+    standing loose x.bus s.bus x.ladder s.ports x.host s.host past st st.bus (same-keeps s.bus st refl)
+    st.ports st.host
 
 -- The parties stand for a state with other power levels.
 pub relevelled : {x : Parties} {s : State} {loose : List Loose} (y : Ladder) (ports : List Port)
     → PartsStand loose x s → switch.Stands y ports
     → PartsStand loose (record x { ladder = y }) (record s { ports = ports })
 relevelled {x} {s} {loose} y ports st stands =
-    standing loose x.bus s.bus y ports x.host s.host s.past st st.bus st.sound stands st.host
+    standing loose x.bus s.bus y ports x.host s.host s.past st st.bus (same-keeps s.bus st refl) stands
+    st.host

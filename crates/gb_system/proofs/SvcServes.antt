@@ -23,7 +23,7 @@ use Rattle.gb_machine.specs.Wires.{unwires, wires, with_wired}
 use Rattle.gb_machine.specs.Wiring.{wired}
 use Rattle.gb_switch.specs.declared.ladder.Ladder.{Ladder}
 use Rattle.gb_system.proofs.Doings.{does-as, does-is, does-then}
-use Rattle.gb_system.proofs.Standing.{rebussed, relevelled, repast, same-sound}
+use Rattle.gb_system.proofs.Standing.{rebussed, relevelled, repast}
 use Rattle.gb_system.specs.Deciding.{Decides, DoesBehind, DoesThis, action_of, answer_of}
 use Rattle.gb_system.specs.Doing.{Does}
 use Rattle.gb_system.specs.Drafts.{IsUpon}
@@ -45,7 +45,7 @@ pub wire-done : {x : Parties} {s : State} {a : List Entry} (y : Bus) (k : â„•) â
 wire-done {x} {s} {a} y k st stands =
     does-is (with_wired k s) [] (wires-is k s) (sym (append-nil a))
     (repast (with_wired k s).past (rebussed [] y (wired k s.bus) st stands
-    (same-sound s.bus (wired k s.bus) refl st.sound)))
+    refl))
 
 -- ---- a request of the application processor
 

@@ -4,8 +4,11 @@ pub mod Bridging
 pub mod Deciding
 pub mod Doing
 pub mod Drafts
+pub mod Held
+pub mod Holding
 pub mod Plugging
 pub mod Sending
 pub mod Serving
 pub mod Showing
 pub mod Stands
+pub mod Ticking

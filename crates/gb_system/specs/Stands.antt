@@ -1,10 +1,10 @@
 -- What the value of a system stands for.
-use Rattle.std.specs.Prelude.{◌≡◌, ℕ, ◌==◌, ◌≤◌, ◌<◌, Bool, false, Some, Result, Ok, Err, ⊤, List, [], ◌++◌, length, map}
+use Rattle.std.specs.Prelude.{◌≡◌, ℕ, ◌==◌, ◌≤◌, ◌<◌, Bool, false, Some, Result, Ok, Err, ⊤, List, [], ◌∷◌, ◌++◌, length, map}
 use Rattle.gb_base.specs.declared.end.Side.TheVariants as side
 use Rattle.gb_base.specs.declared.entry.Entry.{Entry}
 use Rattle.gb_base.specs.declared.errors.OutOfMemory.{OutOfMemory}
 use Rattle.gb_base.specs.declared.event.Event.{Event}
-use Rattle.gb_bus.specs.Delivering.{taken_from}
+use Rattle.gb_bus.specs.Delivering.{Names, taken_from}
 use Rattle.gb_bus.specs.Stands as bus
 use Rattle.gb_invariants.specs.Facts.{Loose}
 use Rattle.gb_formats.specs.Results.{most_payload}
@@ -12,10 +12,12 @@ use Rattle.gb_host.specs.Stands as host
 use Rattle.gb_machine.specs.Bus as machine
 use Rattle.gb_machine.specs.Bus.{Request, request_of}
 use Rattle.gb_machine.specs.Events.{step}
+use Rattle.gb_machine.specs.Lists.{nth}
 use Rattle.gb_machine.specs.Members.{Each}
 use Rattle.gb_machine.specs.Reached.{OfARun}
 use Rattle.gb_machine.specs.State.{Held, Plugged, State}
 use Rattle.gb_switch.specs.Stands as switch
+use Rattle.gb_system.specs.declared.held.HeldRequest.{HeldRequest}
 use Rattle.gb_system.specs.declared.parties.Parties.{Parties}
 use Rattle.gb_system.specs.declared.system.System.{System}
 
@@ -28,6 +30,23 @@ held_item h = taken_from h.connection side.Far h.item
 -- the held requests, as items that are in no queue
 abbrev pub held_items : State → List Loose
 held_items s = map held_item s.held
+
+-- a held request is one that was made: its number, identifier, type and payload
+pub record StandsForHeld (requests : List Request) (x : HeldRequest) (h : Held) : Type 0 where
+  pub number : ℕ
+  pub request : Request
+  pub connection : x.connection ≡ h.connection
+  pub item_is : h.item ≡ machine.Ask number
+  pub made : nth number requests ≡ Some request
+  pub names : Names x.asked number request
+  pub payload_is : x.payload ≡ request.payload
+
+-- held requests stand for the machine's in order
+abbrev pub StandForHeld : List Request → List HeldRequest → List Held → Type 0
+StandForHeld requests [] [] = ⊤
+StandForHeld requests (x ∷ xs) (h ∷ hs) = StandsForHeld requests x h × StandForHeld requests xs hs
+StandForHeld requests [] (h ∷ hs) = ⊥
+StandForHeld requests (x ∷ xs) [] = ⊥
 
 -- A request has a type that a request can have, has an identifier exactly where it gets a reply, and
 -- gets one where the application processor made it.
@@ -55,10 +74,9 @@ pub record PartsStand (loose : List Loose) (x : Parties) (s : State) : Type 0 wh
   pub booted : s.booted ≡ x.booted
   pub sound : AreSound s.bus
   pub short : Each IsShort s.modules
-  -- These are as in the first state, since no event that changes them is built.
-  pub now : s.now ≡ 0
-  pub holds : s.holds ≡ []
-  pub held : s.held ≡ []
+  pub time : s.now ≡ x.time
+  pub holds : s.holds ≡ x.holds
+  pub held : StandForHeld s.bus.requests x.held s.held
 
 -- The parties stand for a state that some run of valid events leads to.
 pub record PartiesStand (x : Parties) (s : State) : Type 0 where

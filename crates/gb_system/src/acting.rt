@@ -80,12 +80,13 @@ impl Parties {
             → Does self.new (host_asks (asking_of on kind payload.now purpose)) s told.old
             told.new) }
     {
+        let deadline = self.deadline(DEFAULT_TIMEOUT)?;
         let q = Draft {
             connection: on,
             side: Side::Ap,
             kind,
             payload,
-            deadline: DEFAULT_TIMEOUT,
+            deadline,
             oneway: false,
         };
         match self.ask(&q, told)? {
@@ -148,13 +149,15 @@ impl Parties {
         Ok(())
     }
 
-    /// A connection is unwired.
+    /// A connection is unwired: what is held there is lost, and its hold mark is taken back.
     pub fn unwire(&mut self, connection: u64, told: &mut Entries) -> Result<(), OutOfMemory>
         ensures step { OnOk result ((s : State) → PartsStand [] self.old s
             → Does self.new (unwires connection) s told.old told.new) }
     {
         let mut ended = Numbers::new(self.alloc);
         self.bus.unwire(connection, &mut ended)?;
+        self.holds.remove(connection);
+        self.held.forget(connection);
         tell_disconnected(told, ended.items())?;
         Ok(())
     }

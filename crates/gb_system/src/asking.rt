@@ -91,12 +91,13 @@ impl Parties {
             told.new) }
     {
         if self.bus.is_wired(connection) {
+            let deadline = self.deadline(DEFAULT_TIMEOUT)?;
             let q = Draft {
                 connection,
                 side: Side::Far,
                 kind,
                 payload,
-                deadline: DEFAULT_TIMEOUT,
+                deadline,
                 oneway,
             };
             self.ask(&q, told)?;

@@ -63,13 +63,9 @@ impl Parties {
             Err(DeliverFault::Memory(refused)) => return Err(refused),
         };
         match item {
-            Arrival::Ask { asked, payload } => self.serve(
-                connection,
-                at,
-                &asked,
-                payload.items(),
-                told,
-            )?,
+            Arrival::Ask { asked, payload } => {
+                self.ask_at(connection, at, asked, payload, told)?
+            }
             Arrival::Ended {
                 number,
                 kind,

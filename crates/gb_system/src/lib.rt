@@ -10,6 +10,8 @@ mod deciding;
 mod delivering;
 mod ending;
 mod entries;
+mod held;
+mod holding;
 mod message;
 mod module_serving;
 mod modules;
@@ -28,5 +30,6 @@ mod system;
 mod taking;
 #[cfg(test)]
 mod tests;
+mod ticking;
 
 pub use system::System;

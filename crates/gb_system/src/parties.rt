@@ -5,6 +5,7 @@ ghost use Rattle.gb_formats.specs.Built.{is_built};
 ghost use Rattle.gb_formats.specs.ValidEvents.{IsValid};
 ghost use Rattle.gb_machine.specs.State.{State, first_state};
 
+use crate::held::{HeldRequests, Marks};
 use crate::modules::Modules;
 use crate::names::Names;
 use gb_base::{Entries, Event, OutOfMemory};
@@ -15,7 +16,7 @@ use gb_switch::Ladder;
 use std::alloc::Global;
 
 /// The application processor, the supervisory controller with the power levels of interfaces, the
-/// modules, and the bus between them, with the names that requests have.
+/// modules, and the bus between them, with the names that requests have, the time, and what is held.
 #[derive(Drop)]
 pub struct Parties {
     pub alloc: Global,
@@ -25,6 +26,12 @@ pub struct Parties {
     pub host: Host,
     pub names: Names,
     pub booted: bool,
+    /// The time in milliseconds.
+    pub time: u64,
+    /// The connections of which requests to the far side are held.
+    pub holds: Marks,
+    /// The requests that were delivered and wait to be answered.
+    pub held: HeldRequests,
 }
 
 impl Parties {
@@ -42,6 +49,9 @@ impl Parties {
             host: Host::new(alloc)?,
             names: Names::new(alloc),
             booted: false,
+            time: 0,
+            holds: Marks::new(alloc),
+            held: HeldRequests::new(alloc),
         })
     }
 
@@ -91,6 +101,9 @@ impl Parties {
             } => self.stir(*intf, *cport, Stir::Serial { control: *control }),
             Event::Deliver { at } => self.deliver(*at),
             Event::Settle { most } => self.settle(*most),
+            Event::Hold { intf, cport } => self.hold(*intf, *cport),
+            Event::Answer { intf, cport, place } => self.answer_held(*intf, *cport, *place),
+            Event::Tick { millis } => self.tick(*millis),
             Event::Cancel { name } => self.cancel(name),
             Event::Copy { from, to } => self.copy_name(from, to),
             Event::Forget { name } => self.forget_name(name),

@@ -45,7 +45,8 @@ impl Parties {
     }
 
     /// The application processor sends a request on a connection, and the request gets a name. The
-    /// timeout is in milliseconds.
+    /// timeout is in milliseconds. Out of memory also comes where its deadline has no number of 64
+    /// bits.
     pub fn send_on(
         &mut self,
         name: &Name,
@@ -60,12 +61,13 @@ impl Parties {
             → Does self.new (sends_on name.now connection kind payload.now timeout) s told.old
             told.new) }
     {
+        let deadline = self.deadline(timeout)?;
         let q = Draft {
             connection,
             side: Side::Ap,
             kind,
             payload,
-            deadline: timeout,
+            deadline,
             oneway: false,
         };
         if let Some(number) = self.ask(&q, told)? {

@@ -21,9 +21,6 @@ use gb_host::Host;
 use gb_report::{connection_line, interface_line, name_line, now_line, queue_line};
 use std::alloc::Global;
 
-/// The time in milliseconds: no event that changes it is built.
-const NOW: u64 = 0;
-
 impl Parties {
     /// Tells what there is, and changes nothing: the time, each interface that the application
     /// processor knows, each live connection, each queue that isn't empty, and each name.
@@ -32,7 +29,7 @@ impl Parties {
             → PartsStep self.now s event.Show result }
     {
         let mut told = begun(self.alloc)?;
-        let text = now_line(self.alloc, NOW)?;
+        let text = now_line(self.alloc, self.time)?;
         told.push(Entry::Shown { text })?;
         show_interfaces(self.alloc, self.host.interfaces(), &mut told)?;
         let known = self.bus.connections()?;

@@ -1,5 +1,5 @@
 -- What is delivered is handled as the machine does.
-use Rattle.std.proofs.Common.{[], ℕ, List, sym, ap, ◌∙◌, subst}
+use Rattle.std.proofs.Common.{[], ℕ, List, refl, sym, ap, ◌∙◌, subst}
 use Rattle.gb_bus.specs.Delivering.{Brings}
 use Rattle.gb_bus.specs.declared.answers.Arrival.{Arrival}
 use Rattle.gb_system.proofs.Arrivals.{answer-here, dropped-here, is-there, late-here, nothing-here, nowhere-here, reads-on, unplugged-here}
@@ -34,18 +34,18 @@ returns-in-Err-QueueEmpty c = record {
       (c.in-Err-QueueEmpty.ensures.step (held_items s) s.bus st.parts.bus));
 }
 
-pub returns-in_ok-serve-in-Ask : goal.returns-in_ok-serve-in-Ask
-returns-in_ok-serve-in-Ask c = record {
+pub returns-in_ok-ask_at-in-Ask : goal.returns-in_ok-ask_at-in-Ask
+returns-in_ok-ask_at-in-Ask c = record {
   step = λ s st.
       let d = c.in-Ok.ensures.step (held_items s) s.bus st.parts.bus in
       let a = subst (λ (w : Arrival). Brings (held_items s) c.deliver.new.self c.takes-takes.result
       d.place s.bus d.item w) c.in-Ask.is d.brings in
       ask-here s c.args.at c.deliver.new.self d.place c.in-Ok.arrived.connection d.item c.in-Ask.asked
-      c.in-Ask.payload c.items.result.now st
+      c.in-Ask.payload c.in-Ask.payload st
       (sym c.if-is_unplugged.false ∙ c.is_unplugged.ensures [] s st.parts) d.named d.front
       (sym (c.takes-takes.ensures [] s d.place st.parts d.named
-      (is-there c.args.self.now s c.args.at d.place st d.named).side) ∙ a.0) d.connection c.items.ensures a.1
-      c.in_ok-serve-in-Ask.ensures.step;
+      (is-there c.args.self.now s c.args.at d.place st d.named).side) ∙ a.0) d.connection refl a.1
+      c.in_ok-ask_at-in-Ask.ensures.step;
 }
 
 pub returns-in_ok-end-in-Ended : goal.returns-in_ok-end-in-Ended
@@ -62,7 +62,7 @@ returns-in_ok-end-in-Ended c = record {
       (λ t stand same. c.reading-reading.ensures [] t d.place.connection stand
       (reads-on s t c.args.at d.place c.in-Ok.arrived.connection st d.named d.connection same)
       ∙ ap (λ (p : List ℕ). reading_at (side_of c.args.at) d.place.connection c.in-Ended.kind
-      c.in-Ended.code p) c.items-in-Ended.ensures)
+      c.in-Ended.code p) c.items.ensures)
       c.in_ok-end-in-Ended.ensures.step;
 }
 

@@ -1,5 +1,5 @@
 -- A request is made and told, or not.
-use Rattle.std.proofs.Common.{[]}
+use Rattle.std.proofs.Common.{[], refl}
 use Rattle.gb_system.proofs.Asks.{ask-made, ask-nowhere, ask-unlabelled, told-oneway, told-twoway}
 use Rattle.gb_system.proofs.Standing.{rebussed}
 use Rattle.gb_system.specs.Drafts.{draft_of}
@@ -15,7 +15,7 @@ returns-in-Err-NoLabel-clause-step c = λ s st askable twoway.
     let none = rw c.in-Err-NoLabel.field-0-is at
     (c.in-Err-NoLabel.ensures.step (held_items s) s.bus st.bus) in
     ask-unlabelled (draft_of c.args.q.now)
-    (rebussed [] c.send.new.self s.bus st none.stands st.sound) none.label
+    (rebussed [] c.send.new.self s.bus st none.stands refl) none.label
 
 pub returns-in_ok-push-2-clause-step : goal.returns-in_ok-push-2-clause-step
 returns-in_ok-push-2-clause-step c = λ s st askable twoway.

@@ -1,7 +1,9 @@
 -- A cancel is refused or done as the machine does.
 use Rattle.std.proofs.Common.{sym}
-use Rattle.gb_system.proofs.NamedRequests.{cancel-done, cancel-ended, cancel-unnamed, given_up}
+use Rattle.gb_base.specs.declared.outcome.Outcome.TheVariants as outcome
+use Rattle.gb_system.proofs.NamedRequests.{cancel-done, cancel-ended, cancel-unnamed}
 use Rattle.gb_system.specs.Stands.{held_items}
+use Rattle.gb_system.specs.Ticking.{given_up}
 use Rattle.gb_system.proofs.parties.Parties.cancel.Goals as goal
 
 pub returns-in_default : goal.returns-in_default
@@ -17,7 +19,7 @@ returns-in_ok-end-in-Ok c = record {
       cancel-done c.args.self.now c.end.new.self c.cancel.new.self s c.args.name.now
       c.in-Some.number c.in_ok-told-in-Ok.told c.end.new.told st (sym c.in-Some.ensures)
       (c.in-Ok.ensures.step (held_items s) s.bus st.parts.bus) c.in_ok-told-in-Ok.ensures
-      (c.in_ok-end-in-Ok.ensures.step (given_up c.in-Some.number s));
+      (c.in_ok-end-in-Ok.ensures.step (given_up c.in-Some.number outcome.Cancelled s));
 }
 
 pub returns-in_ok-refused-in-Err : goal.returns-in_ok-refused-in-Err

@@ -1,5 +1,5 @@
 -- A far side asks where its connection is wired.
-use Rattle.std.proofs.Common.{sym, ◌∙◌}
+use Rattle.std.proofs.Common.{◌+◌, ap, sym, ◌∙◌}
 use Rattle.gb_system.proofs.Asks.{far-asked, far-unasked}
 use Rattle.gb_system.specs.Stands.{held_items}
 use Rattle.gb_system.proofs.parties.Parties.far_ask.Goals as goal
@@ -7,7 +7,8 @@ use Rattle.gb_system.proofs.parties.Parties.far_ask.Goals as goal
 pub returns-in_ok-ask : goal.returns-in_ok-ask
 returns-in_ok-ask c = record {
   step = λ s st askable.
-      far-asked c.args.connection c.args.kind c.args.payload.now c.args.oneway st.now
+      far-asked c.args.connection c.args.kind c.args.payload.now c.args.oneway
+      c.in_ok-deadline.deadline (ap (λ m. m + 1000) st.time ∙ sym c.in_ok-deadline.ensures)
       (sym c.if-is_wired.true ∙ c.is_wired.ensures (held_items s) s.bus st.bus)
       (c.in_ok-ask.ensures.step s st askable (λ e. absurd cc));
 }

@@ -15,7 +15,8 @@ returns-in_ok-bind c = record {
       (sym (c.in_ok-bind.ensures.ok
       ∙ ap (λ n. c.ask.new.self.names ++ (n, c.in-Some.number) ∷ []) c.in_ok-copy.ensures))
       (sent-on c.args.self.now c.ask.new.self s c.args.name.now c.args.connection c.args.kind
-      c.args.payload.now c.args.timeout c.in_ok-number.field-0 c.in-Some.number st
+      c.args.payload.now c.args.timeout c.in_ok-deadline.deadline c.in_ok-number.field-0
+      c.in-Some.number st c.in_ok-deadline.ensures
       c.in_ok-number.ensures.number c.in-Some.is label
       (c.in_ok-number.ensures.step s st askable (λ e. refl)));
 }
@@ -25,5 +26,5 @@ returns-in_default c = record {
   step = λ s st askable label.
       absurd (c.in_default.not-Some (next_number s.bus)
       (sent-numbered c.args.self.now s c.args.connection c.args.kind c.args.payload.now
-      c.args.timeout c.in_ok-number.field-0 st c.in_ok-number.ensures.number label));
+      c.in_ok-deadline.deadline c.in_ok-number.field-0 st c.in_ok-number.ensures.number label));
 }

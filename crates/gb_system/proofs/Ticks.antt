@@ -1,0 +1,167 @@
+-- Time passes, and requests whose deadline came are given up as the machine does.
+use Rattle.std.proofs.Common.{◌≡◌, ◌≤◌, ◌<◌, ℕ, ◌+◌, Bool, true, false, None, Result, Ok, Err, is_ok, List, [], ◌∷◌, ◌++◌, length, drop, refl, sym, ap, ◌∙◌, subst}
+use Rattle.gb_base.specs.declared.bridge.Reading.TheVariants as reading
+use Rattle.gb_base.specs.declared.entry.Entry.{Entry}
+use Rattle.gb_base.specs.declared.entry.Entry.TheVariants as entry
+use Rattle.gb_base.specs.declared.event.Event.TheVariants as event
+use Rattle.gb_base.specs.declared.outcome.Outcome.TheVariants as outcome
+use Rattle.gb_bus.specs.Cancelling.{GivesUp, GivesUpAs, GivesUpNothing}
+use Rattle.gb_bus.specs.declared.answers.AlreadyEnded.{AlreadyEnded}
+use Rattle.gb_bus.specs.declared.bus.Bus as code
+use Rattle.gb_invariants.proofs.Awaiting.{not-both}
+use Rattle.gb_laws.proofs.LinkChanges.{linked-gave_up}
+use Rattle.gb_laws.proofs.Midway.{known-held, known-resting, known_law}
+use Rattle.gb_laws.proofs.Points.{resting}
+use Rattle.gb_laws.proofs.Ticking.{Ticks, due_by, ticks-first, ticks-next}
+use Rattle.gb_machine.proofs.Opened.{machine_opened}
+use Rattle.gb_machine.specs.Actions.{Action, by_state, change, each, tell, ◌▸◌}
+use Rattle.gb_machine.specs.Bus.{is_open}
+use Rattle.gb_machine.specs.Events.{does}
+use Rattle.gb_machine.specs.GivingUp.{gives_up, later_by, times_out}
+use Rattle.gb_machine.specs.HostActs.{follows}
+use Rattle.gb_machine.specs.Reached.{OfARun}
+use Rattle.gb_machine.specs.Requests.{gave_up, is_due, open_requests}
+use Rattle.gb_machine.specs.Runs.{Moment}
+use Rattle.gb_machine.specs.State.{State}
+use Rattle.gb_machine.specs.Turns.{HostEvent}
+use Rattle.gb_system.proofs.Doings.{does-by_state, does-change, does-then}
+use Rattle.gb_system.proofs.Landing.{lands}
+use Rattle.gb_system.proofs.Midways.{Midway, each-cons, midway-as, midway-first, midway-more}
+use Rattle.gb_system.proofs.NamedRequests.{does-gives_up}
+use Rattle.gb_system.proofs.Standing.{rebussed}
+use Rattle.gb_system.proofs.Turning.{may-end}
+use Rattle.gb_system.specs.Acting.{MayTurn}
+use Rattle.gb_system.specs.Doing.{Does}
+use Rattle.gb_system.specs.Stands.{PartiesStand, PartsStand, PartsStep, held_items}
+use Rattle.gb_system.specs.Ticking.{MayTimeOut, given_up}
+use Rattle.gb_system.specs.declared.parties.Parties.{Parties}
+
+-- ---- one request
+
+-- it is given up, and told
+pub time-out : {x : Parties} (y : Parties) (z : code.Bus) (s : State) (n : ℕ)
+    (r : Result Unit AlreadyEnded) {a b : List Entry} → PartsStand [] x s → MayTimeOut n s
+    → GivesUpAs (held_items s) z outcome.Timeout n s.bus r → is_ok r ≡ true
+    → ((t : State) → PartsStand [] (record x { bus = z }) t
+    → MayTurn (HostEvent.Ended n outcome.Timeout) t
+    → Does y (tell (entry.Ended n outcome.Timeout reading.Nothing) ▸ follows n outcome.Timeout) t
+    a b)
+    → Does y (gives_up outcome.Timeout n) s a b
+time-out y z s n (Ok done) st may gives ok ends =
+    does-gives_up s outcome.Timeout n
+    (ends (given_up n outcome.Timeout s)
+    (rebussed [] z (gave_up n outcome.Timeout s.bus) st gives.stands refl) may.turn)
+time-out y z s n (Err fault) st may gives ok ends = absurd cc
+
+-- one that is open doesn't stay
+pub time-kept : {x : Parties} (s : State) (n : ℕ) (r : Result Unit AlreadyEnded)
+    (z : code.Bus) {a b : List Entry} → MayTimeOut n s
+    → GivesUpAs (held_items s) z outcome.Timeout n s.bus r → is_ok r ≡ false
+    → Does x (gives_up outcome.Timeout n) s a b
+time-kept s n (Ok done) z may gives ok = absurd cc
+time-kept s n (Err fault) z may gives ok = absurd (not-both (is_open n s.bus) may.unended gives.over)
+
+-- ---- a tick
+
+-- the moment of a tick
+abbrev pub ticking : State → ℕ → Moment
+ticking s millis = record { told = []; before = s; event = event.Tick millis }
+
+-- Midway through a tick: these of all requests that are due are left.
+pub record MidTick (x : Parties) (s : State) (run : OfARun s) (millis : ℕ) (all left : List ℕ)
+    (before told : List Entry) : Type 0 where
+  pub midway : Midway x (each all (gives_up outcome.Timeout))
+      (each left (gives_up outcome.Timeout)) (later_by millis s) before told
+  pub so_far : List Entry
+  pub going : Ticks (ticking s millis) (known_law (ticking s millis) run) left so_far midway.state
+
+-- the parties stand for the time that is passed
+pub later-stand : {x : Parties} {s : State} (millis time : ℕ) → PartsStand [] x s
+    → time ≡ x.time + millis → PartsStand [] (record x { time = time }) (later_by millis s)
+later-stand {x} {s} millis time st is = record {
+  bus = st.bus;
+  ports = st.ports;
+  modules = st.modules;
+  host = st.host;
+  names = st.names;
+  booted = st.booted;
+  sound = st.sound;
+  short = st.short;
+  time = ap (λ n. n + millis) st.time ∙ sym is;
+  holds = st.holds;
+  held = st.held;
+}
+
+-- which requests are due by the parties' time
+pub due-are : {x : Parties} (s : State) (millis time : ℕ) → PartsStand [] x s
+    → time ≡ x.time + millis
+    → open_requests (is_due time) s.bus ≡ due_by (s.now + millis) s
+due-are s millis time st is =
+    ap (λ n. due_by n s) (is ∙ sym (ap (λ n. n + millis) st.time))
+
+-- at first all are left
+pub mid-first : {x : Parties} {s : State} {a : List Entry} (run : OfARun s) (millis : ℕ)
+    (all : List ℕ) → PartsStand [] x (later_by millis s) → all ≡ due_by (s.now + millis) s
+    → MidTick x s run millis all all a a
+mid-first {x} {s} {a} run millis all st is = record {
+  midway = midway-first (each all (gives_up outcome.Timeout)) st;
+  so_far = [];
+  going = subst (λ ns. Ticks (ticking s millis) (known_law (ticking s millis) run) ns []
+      (later_by millis s)) (sym is)
+      (ticks-first (ticking s millis) (known_law (ticking s millis) run) millis [] refl
+      (known-resting (ticking s millis) run));
+}
+
+-- the next one may time out
+pub mid-may : {x : Parties} {s : State} {a b : List Entry} {run : OfARun s} {millis : ℕ}
+    {all rest : List ℕ} (n : ℕ) → (t : MidTick x s run millis all (n ∷ rest) a b)
+    → MayTimeOut n t.midway.state
+mid-may {s = s} {run = run} {millis = millis} n t =
+    let u = t.midway.state in
+    let known = known-held (ticking s millis) run (resting t.so_far u) t.going.holds in
+    record {
+      unended = t.going.late.0.unended;
+      turn = may-end (given_up n outcome.Timeout u) n outcome.Timeout
+          (linked-gave_up n outcome.Timeout known.links);
+    }
+
+-- where one is left at a place
+pub mid-at : {x : Parties} {s : State} {a b : List Entry} {run : OfARun s} {millis : ℕ}
+    {all : List ℕ} (i n : ℕ) → drop i all ≡ n ∷ drop (i + 1) all
+    → MidTick x s run millis all (drop i all) a b
+    → MidTick x s run millis all (n ∷ drop (i + 1) all) a b
+mid-at {x} {s} {a} {b} {run} {millis} {all} i n next t =
+    subst (λ ns. MidTick x s run millis all ns a b) next t
+
+-- one more is given up
+pub mid-next : {x y : Parties} {s : State} {a b c : List Entry} {run : OfARun s} {millis : ℕ}
+    {all rest : List ℕ} (n : ℕ) → (t : MidTick x s run millis all (n ∷ rest) a b)
+    → Does y (gives_up outcome.Timeout n) t.midway.state b c → MidTick y s run millis all rest a c
+mid-next {s = s} {run = run} {millis = millis} {rest = rest} n t d = record {
+  midway = midway-more (gives_up outcome.Timeout n) (each rest (gives_up outcome.Timeout))
+      (midway-as (gives_up outcome.Timeout n ▸ each rest (gives_up outcome.Timeout))
+      (each-cons n rest (gives_up outcome.Timeout)) t.midway) d;
+  so_far = t.so_far ++ (gives_up outcome.Timeout n t.midway.state).entries;
+  going = ticks-next (ticking s millis) (known_law (ticking s millis) run) n rest t.so_far
+      t.midway.state t.going;
+}
+
+-- all that were due are given up
+does-ticks : {x y : Parties} (s : State) (millis : ℕ) {a b : List Entry}
+    → PartsStand [] x (later_by millis s)
+    → Does y (each (due_by (s.now + millis) s) (gives_up outcome.Timeout)) (later_by millis s) a b
+    → Does y (does (event.Tick millis)) s a b
+unfolding machine_opened
+does-ticks s millis st d =
+    does-then (does-change (later_by millis) st)
+    (does-by_state (λ t. each (open_requests (is_due t.now) t.bus) (gives_up outcome.Timeout)) d)
+
+pub tick-done : (x y : Parties) (s : State) (millis : ℕ) (all : List ℕ) (before es : List Entry)
+    → PartsStand [] x (later_by millis s) → all ≡ due_by (s.now + millis) s
+    → before ≡ entry.Done ∷ []
+    → Does y (each all (gives_up outcome.Timeout)) (later_by millis s) before es
+    → PartsStep y s (event.Tick millis) (Ok es)
+tick-done x y s millis all before es st is begun d =
+    lands y s (event.Tick millis) before es refl begun
+    (does-ticks s millis st
+    (subst (λ ns. Does y (each ns (gives_up outcome.Timeout)) (later_by millis s) before es) is d))

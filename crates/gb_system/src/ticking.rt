@@ -1,0 +1,53 @@
+//! Time that passes, and requests whose deadline comes.
+
+ghost use Rattle.std.specs.Prelude.{◌≡◌, ◌+◌, [], true, IfOk, OnOk};
+ghost use Rattle.gb_base.specs.declared.event.Event.TheVariants as event;
+ghost use Rattle.gb_base.specs.declared.outcome.Outcome.TheVariants as outcome;
+ghost use Rattle.gb_machine.specs.Bus.{is_open};
+ghost use Rattle.gb_machine.specs.GivingUp.{gives_up};
+ghost use Rattle.gb_machine.specs.State.{State};
+ghost use Rattle.gb_system.specs.Doing.{Does};
+ghost use Rattle.gb_system.specs.Ticking.{MayTimeOut};
+ghost use Rattle.gb_system.specs.Stands.{PartiesStand, PartsStand, PartsStep};
+
+use crate::entries::begun;
+use crate::parties::Parties;
+use gb_base::{Entries, OutOfMemory, Outcome, Reading};
+
+impl Parties {
+    /// Milliseconds pass: the open requests whose deadline came are given up, in order of number.
+    /// Out of memory also comes where the time has no number of 64 bits.
+    pub fn tick(&mut self, millis: u32) -> Result<Entries, OutOfMemory>
+        ensures step { (s : State) → PartiesStand self.old s
+            → PartsStep self.new s (event.Tick millis) result }
+    {
+        self.time = self.deadline(u64::from(millis))?;
+        let mut told = begun(self.alloc)?;
+        for number in self.bus.due(self.time)?.items() {
+            self.time_out(*number, &mut told)?;
+        }
+        Ok(told)
+    }
+
+    /// The time at which a wait of so many milliseconds is over. Out of memory comes where that has
+    /// no number of 64 bits.
+    pub fn deadline(&self, wait: u64) -> Result<u64, OutOfMemory>
+        ensures { IfOk result (λ d. d ≡ self.now.time + wait) }
+    {
+        match self.time.checked_add(wait) {
+            Some(time) => Ok(time),
+            None => Err(OutOfMemory),
+        }
+    }
+
+    /// A request that is open is given up, since its deadline came, and what waited for it fails.
+    fn time_out(&mut self, number: u64, told: &mut Entries) -> Result<(), OutOfMemory>
+        ensures step { OnOk result ((s : State) → PartsStand [] self.old s → MayTimeOut number s
+            → Does self.new (gives_up outcome.Timeout number) s told.old told.new) }
+    {
+        if self.bus.expire(number).is_ok() {
+            self.end(number, Outcome::Timeout, Reading::Nothing, told)?;
+        }
+        Ok(())
+    }
+}
