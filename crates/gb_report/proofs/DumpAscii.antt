@@ -16,10 +16,10 @@ use Rattle.gb_formats.specs.Reasons.{reason_text}
 use Rattle.gb_formats.specs.Texts.{ended, entry_line, entry_text}
 use Rattle.gb_formats.proofs.Ascii.{IsAscii-entry_text}
 
-abbrev is_ascii : List ℕ → Bool
+abbrev pub is_ascii : List ℕ → Bool
 is_ascii bs = list_all (λ b. nat_lt b 128) bs
 
-seen : (bs : List ℕ) → is_ascii bs ≡ true → IsAscii bs
+pub seen : (bs : List ℕ) → is_ascii bs ≡ true → IsAscii bs
 seen [] h = IsAscii-nil
 seen (b ∷ bs) h = IsAscii-cons b bs (grind (arith, nat_tests)) (seen bs (grind (arith, nat_tests)))
 
@@ -29,7 +29,7 @@ tested (b ∷ bs) h =
     let first : b < 128 = h 0 in
     rw (tested bs (λ i. h (suc i))) (grind (arith, nat_tests))
 
-cat : (xs ys : List ℕ) → is_ascii (xs ++ ys) ≡ is_ascii xs && is_ascii ys
+pub cat : (xs ys : List ℕ) → is_ascii (xs ++ ys) ≡ is_ascii xs && is_ascii ys
 cat [] ys = refl
 cat (b ∷ bs) ys = rw (cat bs ys) (grind (arith, nat_tests))
 
@@ -44,7 +44,7 @@ front xs ys h = left (is_ascii xs) (is_ascii ys) (sym (cat xs ys) ∙ h)
 line_is : (e : Entry) → ((text : List ℕ) → e ≡ entry.Shown text → ⊥) → is_ascii (entry_text 0 false e) ≡ true
 line_is e h = tested (entry_text 0 false e) (IsAscii-entry_text 0 false e (λ text is. absurd (h text is)))
 
-dec : (n : ℕ) → is_ascii (decimal n) ≡ true
+pub dec : (n : ℕ) → is_ascii (decimal n) ≡ true
 dec n = front (decimal n) (10 ∷ []) (line_is (entry.Settled n) (λ text is. cc))
 
 byte : (b : ℕ) → is_ascii (byte_text b) ≡ true

@@ -1,2 +1,3 @@
 pub mod DumpAscii
 pub mod DumpText
+pub mod SummaryAscii

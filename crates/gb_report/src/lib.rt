@@ -8,8 +8,10 @@ mod names;
 mod parts;
 mod report;
 mod show;
+mod summary;
 
 pub use checked::{put_accepted, put_refused};
 pub use dump::put_dump;
 pub use report::{put, put_refusal};
 pub use show::{connection_line, interface_line, name_line, now_line, queue_line};
+pub use summary::{Counts, put_summary};

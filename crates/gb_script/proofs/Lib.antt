@@ -1,3 +1,4 @@
 pub mod Numbers
 pub mod HexWords
+pub mod MadeSteps
 pub mod Operations

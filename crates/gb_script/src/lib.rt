@@ -13,6 +13,7 @@ mod hex_words;
 mod i2c;
 mod interfaces;
 mod lines;
+mod made_script;
 mod ops;
 mod plain;
 mod read;
@@ -27,4 +28,5 @@ mod words;
 
 pub use fault::LineFault;
 pub use lines::first_line;
+pub use made_script::{MADE_LINES, made};
 pub use read::event;

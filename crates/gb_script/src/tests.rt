@@ -1,7 +1,7 @@
 //! Lines as the grammar has them.
 
-use crate::{LineFault, event, first_line};
-use gb_base::{End, Event, LineReason};
+use crate::{LineFault, event, first_line, made};
+use gb_base::{BridgeAsk, End, Event, Kind, LineReason, OutOfMemory};
 use std::test::Fail;
 
 #[test]
@@ -203,4 +203,42 @@ fn is_bridged(said: &Result<Option<Event>, LineFault>) -> bool {
         said,
         Ok(Some(Event::Bridge { .. } | Event::Level { .. } | Event::SerialState { .. }))
     )
+}
+
+#[test]
+fn makes_lines_from_a_seed(rt: HostRuntime) {
+    let alloc = rt.alloc();
+    let first = made(alloc, 1, 1);
+    assert!(rt;
+        matches!(
+            first,
+            Ok(Event::Insert {
+                intf: 2,
+                kind: Kind::Bridge
+            })
+        )
+    );
+    let tick = made(alloc, 1, 24);
+    assert!(rt; matches!(tick, Ok(Event::Tick { millis: 200 })));
+    let gpio = made(alloc, 1, 26);
+    assert!(rt; is_activate(&gpio));
+}
+
+/// Whether a line is `gpio @n3 2 1 activate 4`.
+fn is_activate(said: &Result<Event, OutOfMemory>) -> bool {
+    match said {
+        Ok(
+            Event::Bridge {
+                name,
+                intf: 2,
+                cport: 1,
+                ask: BridgeAsk::Gpio {
+                    kind: 0x03,
+                    line: 4,
+                    value: 0,
+                },
+            },
+        ) => name.who == 0 && name.word.bytes() == b"n3".as_slice(),
+        _ => false,
+    }
 }

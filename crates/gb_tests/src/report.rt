@@ -2,7 +2,7 @@
 
 use gb_base::{Bytes, End, Entry, LineReason, Outcome, Reading, Reason, Text};
 use gb_manifest::{Refused, check};
-use gb_report::{put, put_accepted, put_dump, put_refusal, put_refused};
+use gb_report::{Counts, put, put_accepted, put_dump, put_refusal, put_refused, put_summary};
 use std::alloc::Global;
 use std::process::Abort;
 
@@ -72,4 +72,25 @@ fn other_lines_follow_one_another(rt: HostRuntime) {
     let (at, reason) = (12, Reason::DescriptorShort);
     put_refused(alloc, &Refused { at, reason }, &mut out).expect(&rt, "memory");
     assert_eq!(rt; out.items(), ODD_TOLD.as_bytes());
+}
+
+/// Counts that differ.
+const COUNTS: Counts = Counts {
+    refused: 9,
+    requests: 21,
+    answered: 1,
+    cancelled: 2,
+    timeout: 3,
+    disconnected: 4,
+    sent: 5,
+    left_open: 6,
+};
+
+#[test]
+fn a_summary_has_its_line(rt: HostRuntime) {
+    let mut out = Text::new(rt.alloc());
+    put_summary(rt.alloc(), 20024, &COUNTS, &mut out).expect(&rt, "memory");
+    let told = "lines 20024 refused 9 requests 21 answered 1 cancelled 2 timeout 3 \
+        disconnected 4 sent 5 open 6\n";
+    assert_eq!(rt; out.items(), told.as_bytes());
 }

@@ -1,0 +1,62 @@
+//! The summary of a made script.
+
+ghost use Rattle.std.specs.Prelude.{◌≡◌, ◌++◌, OnOk, OnErr};
+ghost use Rattle.gb_formats.specs.ShowTexts.{summary_text};
+ghost use Rattle.gb_report.specs.Counted.{counts_of};
+
+use gb_base::{OutOfMemory, Text};
+use std::alloc::Global;
+
+/// How many lines of a script were refused, how many requests were made, and how those stand at
+/// its end.
+#[derive(Clone, Copy, Debug, PartialEq, Eq)]
+pub struct Counts {
+    /// Lines that were refused.
+    pub refused: u64,
+    /// Requests of both sides.
+    pub requests: u64,
+    /// Requests that were answered, with whatever result.
+    pub answered: u64,
+    /// Requests that were given up by a cancel.
+    pub cancelled: u64,
+    /// Requests that were given up after their time.
+    pub timeout: u64,
+    /// Requests whose connection ended first.
+    pub disconnected: u64,
+    /// Requests that have no answer, and were sent.
+    pub sent: u64,
+    /// Requests that are still open.
+    pub left_open: u64,
+}
+
+/// Appends the summary: how many lines the script has, and the counts. After a refusal `out` is as
+/// before.
+pub fn put_summary(
+    alloc: Global,
+    lines: u64,
+    counts: &Counts,
+    out: &mut Text,
+) -> Result<(), OutOfMemory>
+    ensures ok { OnOk result (out.new ≡ out.old ++ summary_text lines (counts_of counts.now)) }
+    ensures err { OnErr result (out.new ≡ out.old) }
+{
+    let Counts {
+        refused,
+        requests,
+        answered,
+        cancelled,
+        timeout,
+        disconnected,
+        sent,
+        left_open,
+    } = *counts;
+    let rest = format!(in alloc;
+        " timeout {timeout} disconnected {disconnected} sent {sent} open {left_open}"
+    )?;
+    let line = format!(in alloc;
+        "lines {lines} refused {refused} requests {requests} answered {answered} \
+        cancelled {cancelled}{rest}"
+    )?;
+    let ended = format!(in alloc; "{line}\n")?;
+    out.append(&ended)
+}
