@@ -255,7 +255,8 @@ host-asked {x} {s} {a} {b} y q deadline n time has done waits =
     ∙ asked-some from.label q s
     ∙ ap (λ m. (asks (act_draft q m)
     ▸ change (with_awaited q.purpose (next_number s.bus))) s) time
-    ∙ ap (λ m. (asks (act_draft q deadline) ▸ change (with_awaited q.purpose m)) s) (sym from.number))) both
+    ∙ ap (λ m. (asks (act_draft q deadline) ▸ change (with_awaited q.purpose m)) s)
+    (sym from.number))) both
 
 -- no identifier is left for it
 pub host-unasked : {x y : Parties} {s : State} {a b c : List Entry} (q : Asking) (deadline : ℕ)

@@ -1,8 +1,8 @@
 -- Lines that hold requests and answer those that are held do what the machine does.
-use Rattle.std.proofs.Common.{◌≡◌, ◌≤◌, ◌<◌, ℕ, zero, suc, nat_lt, Bool, true, false, not, cond, is_none, Option, Some, None, Ok, Err, option_map, List, [], ◌∷◌, ◌++◌, length, map, get_or, append-nil, refl, sym, ap, ◌∙◌, subst, arith}
+use Rattle.std.proofs.Common.{◌≡◌, ◌≤◌, ◌<◌, ℕ, zero, suc, nat_lt, Bool, true, false, cond, is_none, Option, Some, None, Ok, Err, option_map, List, [], ◌∷◌, ◌++◌, length, map, get_or, append-nil, refl, sym, ap, ◌∙◌, subst, arith}
 use Rattle.std.proofs.lemmas.Bool.Decides.{nat_tests}
 use Rattle.std.proofs.lemmas.List.{map-append}
-use Rattle.std.specs.List.{list_any, remove}
+use Rattle.std.specs.List.{remove}
 use Rattle.gb_base.specs.declared.end.End.{End}
 use Rattle.gb_base.specs.declared.end.End.TheVariants as end
 use Rattle.gb_base.specs.declared.end.Side.{Side}
@@ -17,14 +17,13 @@ use Rattle.gb_bus.specs.Delivering.{Names, taken_from}
 use Rattle.gb_bus.specs.Stands as bus
 use Rattle.gb_bus.specs.Wiring.{ends_of, number_of}
 use Rattle.gb_bus.specs.declared.answers.Asked.{Asked}
-use Rattle.gb_invariants.specs.Facts.{Loose}
 use Rattle.gb_machine.proofs.Lists.{nth-within}
 use Rattle.gb_machine.proofs.Opened.{machine_opened}
-use Rattle.gb_machine.specs.Actions.{Action, change, given, tell, ◌▸◌}
+use Rattle.gb_machine.specs.Actions.{change, given, tell, ◌▸◌}
 use Rattle.gb_machine.specs.Arriving.{asked_at, is_held, keeps, takes, with_held}
 use Rattle.gb_machine.specs.Bus.{Ask, Connection, Place, Request, connection_of, end_of, place_of}
 use Rattle.gb_machine.specs.Events.{does}
-use Rattle.gb_machine.specs.Holding.{held_on, held_without, marked}
+use Rattle.gb_machine.specs.Holding.{held_on, marked}
 use Rattle.gb_machine.specs.Incoming.{Incoming, incoming, request_in}
 use Rattle.gb_machine.specs.LineActions.{answers_at, answers_held, serves_held, with_fewer, with_hold}
 use Rattle.gb_machine.specs.Lists.{Condition, first_met, holds_of, nth}
@@ -32,13 +31,12 @@ use Rattle.gb_machine.specs.Refusals.{holds_fewer, is_unplugged, module_place, r
 use Rattle.gb_machine.specs.Responding.{serves}
 use Rattle.gb_machine.specs.State.{Held, State}
 use Rattle.gb_system.proofs.Arrivals.{is-there}
-use Rattle.gb_system.proofs.Doings.{does-as, does-by_state, does-change, does-given, does-is, does-tell, does-then}
+use Rattle.gb_system.proofs.Doings.{does-as, does-by_state, does-change, does-given, does-is, does-tell}
 use Rattle.gb_system.proofs.Holdings.{Found, found, held-pushed, unfound}
 use Rattle.gb_system.proofs.Landing.{lands, lands-refused}
 use Rattle.gb_system.proofs.Standing.{let-gone}
 use Rattle.gb_system.proofs.Ways.{met-late}
 use Rattle.gb_system.specs.Doing.{Does}
-use Rattle.gb_system.specs.Drafts.{IsUpon}
 use Rattle.gb_system.specs.Held.{Takes, index_from}
 use Rattle.gb_system.specs.Holding.{WiredAs}
 use Rattle.gb_system.specs.Serving.{IsDelivered, MayServe, only, side_of}
@@ -70,9 +68,11 @@ wired-not s i c there none =
 
 pub wired-there : (s : State) (i c k : ℕ) → is_unplugged i s ≡ false
     → Some k ≡ option_map number_of (module_place i c s) → WiredAs s i c (Ok k)
-wired-there s i c k there is =
-    (ap (λ b. first_met (conditions_by b (module_place i c s))) there
-    ∙ by (module_place i c s) is, sym is)
+wired-there s i c k there is = (
+  ap (λ b. first_met (conditions_by b (module_place i c s))) there
+      ∙ by (module_place i c s) is,
+  sym is,
+)
   where
     by : (o : Option Place) → Some k ≡ option_map number_of o
         → first_met ((is_none o, why.NoConnection) ∷ []) ≡ None
@@ -276,7 +276,8 @@ held-served {x} {y} {s} {a} {b} at k asked payload bytes p n d st there far take
     let q = incoming n d.request in
     does-as (ap (λ t. serves t p.connection q s) there
     ∙ sym (serves-by p n d.request s (sym taken) d.made))
-    (serve (delivered-as bytes same d) (subst (λ t. MayServe t p.connection q s) (sym (there ∙ far)) tt))
+    (serve (delivered-as bytes same d)
+    (subst (λ t. MayServe t p.connection q s) (sym (there ∙ far)) tt))
 
 -- ---- a line that answers
 
@@ -400,7 +401,8 @@ answer-done x y z s i c k (suc m) h before es one st wired t same begun serve =
     let taken : held_item f.one ≡ taken_from h.connection side.Far (Ask is.number) =
     ap (λ j. taken_from j side.Far f.one.item) (sym is.connection)
     ∙ ap (taken_from h.connection side.Far) is.item_is in
-    let delivered : IsDelivered at h.connection h.asked h.payload u p.connection is.number = record {
+    let delivered : IsDelivered at h.connection h.asked h.payload u p.connection is.number =
+    record {
       request = is.request;
       made = is.made;
       names = is.names;

@@ -1,5 +1,5 @@
 -- Requests are held, and those that are held are found.
-use Rattle.std.proofs.Common.{◌≡◌, ◌<◌, ℕ, zero, suc, ◌+◌, ◌-◌, ◌==◌, nat_lt, Bool, true, false, cond, Option, Some, None, List, [], ◌∷◌, ◌++◌, length, get_or, refl, sym, ap, ◌∙◌, arith}
+use Rattle.std.proofs.Common.{◌≡◌, ◌<◌, ℕ, zero, suc, ◌+◌, ◌-◌, ◌==◌, Bool, true, false, cond, Option, Some, None, List, [], ◌∷◌, ◌++◌, length, get_or, refl, sym, ap, ◌∙◌, arith}
 use Rattle.std.proofs.lemmas.Bool.Decides.{nat_tests}
 use Rattle.std.specs.List.{remove}
 use Rattle.gb_machine.specs.Bus.{Request}
@@ -93,6 +93,7 @@ found-behind rs n k q j x xs h hs st mine f = record {
   stands = f.stands;
   rest = (st.0, f.rest);
 }
+
 -- it is behind one of another connection
 found-past : (rs : List Request) (n k p j : ℕ) (x : HeldRequest) (xs : List HeldRequest)
     (h : Held) (hs : List Held) → StandForHeld rs (x ∷ xs) (h ∷ hs)

@@ -21,8 +21,8 @@ pub record Midway (x : Parties) (whole rest : Action) (s : State) (before told :
   pub stand : PartsStand [] x state
 
 -- at first nothing was done
-abbrev pub midway-first : {x : Parties} {s : State} {a : List Entry} (f : Action) → PartsStand [] x s
-    → Midway x f f s a a
+abbrev pub midway-first : {x : Parties} {s : State} {a : List Entry} (f : Action)
+    → PartsStand [] x s → Midway x f f s a a
 midway-first {x} {s} {a} f st = record {
   state = s;
   entries = [];

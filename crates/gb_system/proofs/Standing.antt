@@ -124,19 +124,20 @@ pub rehosted : {x : Parties} {s : State} {loose : List Loose} (y : Host) (h : ma
     → PartsStand loose x s → host.Stands y h
     → PartsStand loose (record x { host = y }) (record s { host = h })
 rehosted {x} {s} {loose} y h st stands =
-    standing loose x.bus s.bus x.ladder s.ports y h s.past st st.bus (same-keeps s.bus st refl) st.ports stands
+    standing loose x.bus s.bus x.ladder s.ports y h s.past st st.bus (same-keeps s.bus st refl)
+    st.ports stands
 
 -- The past is no matter of theirs.
 pub repast : {x : Parties} {s : State} {loose : List Loose} (past : Past) → PartsStand loose x s
     → PartsStand loose x (record s { past = past })
 repast {x} {s} {loose} past st =
-    standing loose x.bus s.bus x.ladder s.ports x.host s.host past st st.bus (same-keeps s.bus st refl)
-    st.ports st.host
+    standing loose x.bus s.bus x.ladder s.ports x.host s.host past st st.bus
+    (same-keeps s.bus st refl) st.ports st.host
 
 -- The parties stand for a state with other power levels.
 pub relevelled : {x : Parties} {s : State} {loose : List Loose} (y : Ladder) (ports : List Port)
     → PartsStand loose x s → switch.Stands y ports
     → PartsStand loose (record x { ladder = y }) (record s { ports = ports })
 relevelled {x} {s} {loose} y ports st stands =
-    standing loose x.bus s.bus y ports x.host s.host s.past st st.bus (same-keeps s.bus st refl) stands
-    st.host
+    standing loose x.bus s.bus y ports x.host s.host s.past st st.bus
+    (same-keeps s.bus st refl) stands st.host

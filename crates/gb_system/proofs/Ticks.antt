@@ -1,11 +1,11 @@
 -- Time passes, and requests whose deadline came are given up as the machine does.
-use Rattle.std.proofs.Common.{◌≡◌, ◌≤◌, ◌<◌, ℕ, ◌+◌, Bool, true, false, None, Result, Ok, Err, is_ok, List, [], ◌∷◌, ◌++◌, length, drop, refl, sym, ap, ◌∙◌, subst}
+use Rattle.std.proofs.Common.{◌≡◌, ℕ, ◌+◌, true, false, Result, Ok, Err, is_ok, List, [], ◌∷◌, ◌++◌, drop, refl, sym, ap, ◌∙◌, subst}
 use Rattle.gb_base.specs.declared.bridge.Reading.TheVariants as reading
 use Rattle.gb_base.specs.declared.entry.Entry.{Entry}
 use Rattle.gb_base.specs.declared.entry.Entry.TheVariants as entry
 use Rattle.gb_base.specs.declared.event.Event.TheVariants as event
 use Rattle.gb_base.specs.declared.outcome.Outcome.TheVariants as outcome
-use Rattle.gb_bus.specs.Cancelling.{GivesUp, GivesUpAs, GivesUpNothing}
+use Rattle.gb_bus.specs.Cancelling.{GivesUpAs}
 use Rattle.gb_bus.specs.declared.answers.AlreadyEnded.{AlreadyEnded}
 use Rattle.gb_bus.specs.declared.bus.Bus as code
 use Rattle.gb_invariants.proofs.Awaiting.{not-both}
@@ -14,10 +14,10 @@ use Rattle.gb_laws.proofs.Midway.{known-held, known-resting, known_law}
 use Rattle.gb_laws.proofs.Points.{resting}
 use Rattle.gb_laws.proofs.Ticking.{Ticks, due_by, ticks-first, ticks-next}
 use Rattle.gb_machine.proofs.Opened.{machine_opened}
-use Rattle.gb_machine.specs.Actions.{Action, by_state, change, each, tell, ◌▸◌}
+use Rattle.gb_machine.specs.Actions.{each, tell, ◌▸◌}
 use Rattle.gb_machine.specs.Bus.{is_open}
 use Rattle.gb_machine.specs.Events.{does}
-use Rattle.gb_machine.specs.GivingUp.{gives_up, later_by, times_out}
+use Rattle.gb_machine.specs.GivingUp.{gives_up, later_by}
 use Rattle.gb_machine.specs.HostActs.{follows}
 use Rattle.gb_machine.specs.Reached.{OfARun}
 use Rattle.gb_machine.specs.Requests.{gave_up, is_due, open_requests}
@@ -32,7 +32,7 @@ use Rattle.gb_system.proofs.Standing.{rebussed}
 use Rattle.gb_system.proofs.Turning.{may-end}
 use Rattle.gb_system.specs.Acting.{MayTurn}
 use Rattle.gb_system.specs.Doing.{Does}
-use Rattle.gb_system.specs.Stands.{PartiesStand, PartsStand, PartsStep, held_items}
+use Rattle.gb_system.specs.Stands.{PartsStand, PartsStep, held_items}
 use Rattle.gb_system.specs.Ticking.{MayTimeOut, given_up}
 use Rattle.gb_system.specs.declared.parties.Parties.{Parties}
 
@@ -59,7 +59,8 @@ pub time-kept : {x : Parties} (s : State) (n : ℕ) (r : Result Unit AlreadyEnde
     → GivesUpAs (held_items s) z outcome.Timeout n s.bus r → is_ok r ≡ false
     → Does x (gives_up outcome.Timeout n) s a b
 time-kept s n (Ok done) z may gives ok = absurd cc
-time-kept s n (Err fault) z may gives ok = absurd (not-both (is_open n s.bus) may.unended gives.over)
+time-kept s n (Err fault) z may gives ok =
+    absurd (not-both (is_open n s.bus) may.unended gives.over)
 
 -- ---- a tick
 

@@ -19,8 +19,8 @@ use Rattle.gb_system.specs.Stands.{PartsStand}
 use Rattle.gb_system.specs.declared.held.HeldRequest.{HeldRequest}
 use Rattle.gb_system.specs.declared.parties.Parties.{Parties}
 
--- The answer is the wired connection at a module's CPort exactly where no condition is met, and else
--- the first.
+-- The answer is the wired connection at a module's CPort exactly where no condition is met, and
+-- else the first.
 abbrev pub WiredAs : State → ℕ → ℕ → Result ℕ Refusal → Type 0
 WiredAs s i c (Ok k) =
     (first_met (wired_conditions s i c) ≡ None)

@@ -33,12 +33,7 @@ impl Parties {
 
     /// Serves the request at a place, from 1, among those that are held at a module's CPort, the
     /// oldest being the first.
-    pub fn answer_held(
-        &mut self,
-        intf: u8,
-        cport: u16,
-        place: u32,
-    ) -> Result<Entries, OutOfMemory>
+    pub fn answer_held(&mut self, intf: u8, cport: u16, place: u32) -> Result<Entries, OutOfMemory>
         requires { IsValid (event.Answer intf cport place) }
         ensures step { (s : State) → PartiesStand self.old s
             → PartsStep self.new s (event.Answer intf cport place) result }

@@ -16,7 +16,8 @@ returns-in_default c = record {
   step = λ s st.
       answer-unheld c.args.self.now _ s c.args.intf c.args.cport c.in-Ok.connection c.args.place
       c.in_ok-refused.field-0 c.requires.2.0 st (c.in-Ok.ensures s st.parts)
-      c.in_default.ensures.0 (ap (λ hs. record c.args.self.now { held = hs }) c.in_default.ensures.1)
+      c.in_default.ensures.0
+      (ap (λ hs. record c.args.self.now { held = hs }) c.in_default.ensures.1)
       c.in_ok-refused.ensures;
 }
 

@@ -1,6 +1,5 @@
 -- A request that is delivered is held or served as the machine does.
-use Rattle.std.proofs.Common.{refl, sym, ap, ◌∙◌, subst}
-use Rattle.gb_machine.specs.Bus.{Ask}
+use Rattle.std.proofs.Common.{refl, sym, ap, ◌∙◌}
 use Rattle.gb_machine.specs.Incoming.{incoming}
 use Rattle.gb_system.proofs.HeldAsks.{delivered-as, kept-done, unheld}
 use Rattle.gb_system.specs.Serving.{only, side_of}

@@ -14,7 +14,7 @@ returns-in-Err c = record {
 pub returns : goal.returns
 returns c = record {
   step = λ s st.
-      hold-done c.args.self.now _ s c.args.intf c.args.cport c.in-Ok.connection c.in_ok-begun.field-0
-      st (c.in-Ok.ensures s st.parts)
+      hold-done c.args.self.now _ s c.args.intf c.args.cport c.in-Ok.connection
+      c.in_ok-begun.field-0 st (c.in-Ok.ensures s st.parts)
       (ap (λ hs. record c.args.self.now { holds = hs }) c.in_ok-add.ensures) c.in_ok-begun.ensures;
 }

@@ -1,8 +1,7 @@
 -- Time passes as in the machine.
-use Rattle.std.proofs.Common.{◌+◌, slice_index_or, refl, sym, ap, ◌∙◌}
+use Rattle.std.proofs.Common.{◌+◌, slice_index_or, sym, ap, ◌∙◌}
 use Rattle.std.proofs.lemmas.Grind.{get_or_default_zero}
 use Rattle.gb_base.specs.declared.outcome.Outcome.TheVariants as outcome
-use Rattle.gb_laws.proofs.Ticking.{due_by}
 use Rattle.gb_machine.specs.GivingUp.{gives_up}
 use Rattle.gb_system.proofs.Midways.{drop-next}
 use Rattle.gb_system.proofs.Pulls.{midway-all}
@@ -26,8 +25,8 @@ loop-number-preserved c = λ s st.
     let n = slice_index_or numbers i 0 in
     let within = c.loop-number-test.true in
     let t = mid-at i n
-        (drop-next numbers i n within (sym (get_or_default_zero numbers i n within)))
-        (c.loop-number.invariant s st) in
+    (drop-next numbers i n within (sym (get_or_default_zero numbers i n within)))
+    (c.loop-number.invariant s st) in
     mid-next n t (c.in_ok-time_out.ensures.step t.midway.state t.midway.stand (mid-may n t))
 
 pub returns : goal.returns

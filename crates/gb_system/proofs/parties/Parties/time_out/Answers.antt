@@ -2,7 +2,6 @@
 use Rattle.std.proofs.Common.{sym, ◌∙◌}
 use Rattle.gb_system.proofs.Ticks.{time-out, time-kept}
 use Rattle.gb_system.specs.Stands.{held_items}
-use Rattle.gb_system.specs.Ticking.{given_up}
 use Rattle.gb_system.proofs.parties.Parties.time_out.Goals as goal
 
 pub returns-in_ok-end : goal.returns-in_ok-end
