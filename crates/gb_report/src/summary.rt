@@ -23,7 +23,7 @@ pub struct Counts {
     pub timeout: u64,
     /// Requests whose connection ended first.
     pub disconnected: u64,
-    /// Requests that have no answer, and were sent.
+    /// Unidirectional requests, which get no answer and were sent.
     pub sent: u64,
     /// Requests that are still open.
     pub left_open: u64,
