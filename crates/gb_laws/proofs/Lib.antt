@@ -11,6 +11,11 @@ pub mod Causes
 pub mod ClosingTurns
 pub mod Closings
 pub mod Controls
+pub mod Creating
+pub mod CreatingAsked
+pub mod CreatingFacts
+pub mod CreatingKept
+pub mod CreatingTurns
 pub mod CreditsDelivered
 pub mod CreditsKept
 pub mod CreditsLines
