@@ -11,6 +11,7 @@ pub mod Causes
 pub mod ClosingTurns
 pub mod Closings
 pub mod Controls
+pub mod CreateServed
 pub mod Creating
 pub mod CreatingAsked
 pub mod CreatingFacts
@@ -67,6 +68,7 @@ pub mod Onward
 pub mod OpenKept
 pub mod OpenRuns
 pub mod Opens
+pub mod OwnCreation
 pub mod OwnReplies
 pub mod Owned
 pub mod Owning
