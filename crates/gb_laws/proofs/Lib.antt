@@ -135,4 +135,5 @@ pub mod ToldRuns
 pub mod Turned
 pub mod WiredRemembered
 pub mod WiredRuns
+pub mod WiredSo
 pub mod WiredWell
