@@ -133,6 +133,8 @@ pub mod Ticking
 pub mod ToldLinks
 pub mod ToldRuns
 pub mod Turned
+pub mod WiredOnce
+pub mod WiredOnceRuns
 pub mod WiredRemembered
 pub mod WiredRuns
 pub mod WiredSo
