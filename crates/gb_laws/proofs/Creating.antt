@@ -12,7 +12,6 @@ use Rattle.std.proofs.Common.{
   true,
   ℕ,
   ◌++◌,
-  ◌∙◌,
   ◌∷◌,
   ◌≡◌,
   ◌≤◌,

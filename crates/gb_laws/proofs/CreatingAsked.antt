@@ -8,7 +8,6 @@ use Rattle.std.proofs.Common.{
   Some,
   [],
   ap,
-  arith,
   cond,
   false,
   inl,
@@ -19,7 +18,6 @@ use Rattle.std.proofs.Common.{
   true,
   ℕ,
   ⊎_elim,
-  ◌++◌,
   ◌∙◌,
   ◌∷◌,
   ◌≡◌,
@@ -42,7 +40,7 @@ use Rattle.gb_laws.proofs.Creating.{
 }
 use Rattle.gb_laws.proofs.CreatingFacts.{CreatesFit, IsPrepared, at-same}
 use Rattle.gb_laws.proofs.LinkActs.{awaits-fits}
-use Rattle.gb_laws.proofs.LinkHosts.{same-link, then-same}
+use Rattle.gb_laws.proofs.LinkHosts.{same-link}
 use Rattle.gb_laws.proofs.LinkLists.{find-changed, one-link}
 use Rattle.gb_laws.proofs.LinkSources.{from-waiting}
 use Rattle.gb_laws.proofs.Links.{HostFits, IsDue, IsFormed, SameLink}
@@ -52,7 +50,7 @@ use Rattle.gb_machine.specs.Bus.{Bus, Request, request_of}
 use Rattle.gb_machine.specs.Host.{Host, is_link, link_at, with_interface, with_link}
 use Rattle.gb_machine.specs.Lists.{nth}
 use Rattle.gb_machine.specs.Members.{IsIn}
-use Rattle.gb_machine.specs.SequenceSteps.{is_enumeration, is_for_connection, kind_of, payload_of}
+use Rattle.gb_machine.specs.SequenceSteps.{is_enumeration, is_for_connection, kind_of}
 use Rattle.gb_machine.specs.Turns.{Asking}
 use Rattle.gb_machine.specs.Waits.{awaits}
 
@@ -91,8 +89,9 @@ out-then true None n pairs j k i = inl i
 out-then false o n pairs j k i = inl i
 
 -- the connection of a purpose is found still
-found-then : (i c : ℕ) (w : ℕ × SequenceStep) (h : Host) (l : Link) → link_at i c h ≡ Some l → (t : Bool)
-    → (k : Link) × (link_at i c (cond t (with_interface i (λ x. record x { awaits = Some w }) h)
+found-then : (i c : ℕ) (w : ℕ × SequenceStep) (h : Host) (l : Link) → link_at i c h ≡ Some l
+    → (t : Bool) → (k : Link)
+    × (link_at i c (cond t (with_interface i (λ x. record x { awaits = Some w }) h)
     (with_link i c (λ y. record y { awaits = Some w }) h)) ≡ Some k) × SameLink l k
 found-then i c w h l e true = (l, e, same-link l)
 found-then i c w h l e false = (

@@ -1,25 +1,19 @@
 -- What is known of the requests that create connections, beside what is remembered of them.
 use Rattle.std.proofs.Common.{
-  Bool,
   List,
-  None,
   Option,
   Some,
   [],
   ap,
   arith,
-  cond,
-  false,
   inl,
   inr,
   length,
-  refl,
   subst,
   sym,
   true,
   ℕ,
   ⊎_elim,
-  ◌++◌,
   ◌∙◌,
   ◌∷◌,
   ◌≡◌,
@@ -35,7 +29,6 @@ use Rattle.gb_invariants.proofs.Awaiting.{not-both, sent-made}
 use Rattle.gb_laws.proofs.Creating.{CreatesAt, IsMade, creates_one, is_creating}
 use Rattle.gb_laws.proofs.CreatingTurns.{AreOrderly}
 use Rattle.gb_laws.proofs.Links.{SameLink}
-use Rattle.gb_machine.proofs.Lists.{nth-within}
 use Rattle.gb_machine.specs.Bus.{Bus, Request, next_number, request_of}
 use Rattle.gb_machine.specs.Host.{Host, link_at}
 use Rattle.gb_machine.specs.Lists.{nth}

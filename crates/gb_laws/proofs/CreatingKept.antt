@@ -1,7 +1,6 @@
 -- What is known of the requests that create connections is kept by each single change.
 use Rattle.std.proofs.Common.{
   Bool,
-  List,
   None,
   Option,
   Some,
@@ -12,7 +11,6 @@ use Rattle.std.proofs.Common.{
   false,
   inl,
   inr,
-  length,
   refl,
   subst,
   sym,
@@ -23,13 +21,10 @@ use Rattle.std.proofs.Common.{
   ◌∙◌,
   ◌∷◌,
   ◌≡◌,
-  ◌≤◌,
 }
-use Rattle.std.specs.List.{find}
 use Rattle.gb_base.specs.declared.end.Side.TheVariants as side
 use Rattle.gb_base.specs.declared.peers.Link.{Link}
-use Rattle.gb_formats.specs.SvcRecords.{read_svc_ask}
-use Rattle.gb_invariants.proofs.Awaiting.{not-both, same-some}
+use Rattle.gb_invariants.proofs.Awaiting.{not-both}
 use Rattle.gb_invariants.proofs.Lists.{in-behind, in-pushed}
 use Rattle.gb_laws.proofs.Awaited.{awaited-rest}
 use Rattle.gb_laws.proofs.Creating.{create-reserved, creates_one, made-creates}
@@ -38,7 +33,6 @@ use Rattle.gb_laws.proofs.CreatingFacts.{
   AreReady,
   Came,
   CreatesFit,
-  IsPrepared,
   creates-came,
   creates-sent,
   orderly-ready,
@@ -81,7 +75,7 @@ use Rattle.gb_laws.proofs.Points.{
   turns,
 }
 use Rattle.gb_laws.proofs.Remembering.{RemembersAt}
-use Rattle.gb_machine.specs.Bus.{Bus, Request, next_number}
+use Rattle.gb_machine.specs.Bus.{Bus, next_number}
 use Rattle.gb_machine.specs.Failures.{unsent}
 use Rattle.gb_machine.specs.Host.{Host, is_link, link_at, with_link}
 use Rattle.gb_machine.specs.HostActs.{made_for, with_awaited}
@@ -91,9 +85,9 @@ use Rattle.gb_machine.specs.LineActions.{spent}
 use Rattle.gb_machine.specs.Members.{IsIn}
 use Rattle.gb_machine.specs.Refusals.{is_reserved}
 use Rattle.gb_machine.specs.Runs.{Moment}
-use Rattle.gb_machine.specs.Sending.{Draft, requested, sent}
+use Rattle.gb_machine.specs.Sending.{Draft, requested}
 use Rattle.gb_machine.specs.SequenceSteps.{is_for_connection}
-use Rattle.gb_machine.specs.Turns.{Act, Asking, Making}
+use Rattle.gb_machine.specs.Turns.{Act, Asking}
 use Rattle.gb_machine.specs.Waits.{awaits}
 use Rattle.gb_machine.specs.Wiring.{next_connection}
 

@@ -31,7 +31,7 @@ use Rattle.gb_formats.specs.ControlRecords.{read_control_reply}
 use Rattle.gb_formats.specs.Manifest.{CportView, Manifest, check_answer}
 use Rattle.gb_formats.specs.ManifestRules.{Refused}
 use Rattle.gb_laws.proofs.Creating.{IsMade, is_creating}
-use Rattle.gb_machine.specs.Failures.{interface_fails, link_told, step_fails}
+use Rattle.gb_machine.specs.Failures.{interface_fails, step_fails}
 use Rattle.gb_machine.specs.Host.{
   Host,
   cport_of,

@@ -1,7 +1,6 @@
 -- A connection is wired by the request that was made for it, while a module is plugged at its
 -- interface, which is routed.
 use Rattle.std.proofs.Common.{
-  Bool,
   List,
   None,
   Option,
@@ -11,7 +10,6 @@ use Rattle.std.proofs.Common.{
   arith,
   false,
   inl,
-  inr,
   refl,
   subst,
   sym,
@@ -38,7 +36,7 @@ use Rattle.gb_laws.proofs.CreateServed.{create-read}
 use Rattle.gb_laws.proofs.Creating.{CreatesAt, is_create}
 use Rattle.gb_laws.proofs.CreatingFacts.{CreatesFit}
 use Rattle.gb_laws.proofs.LinkLists.{find-none, found-at}
-use Rattle.gb_laws.proofs.Links.{IsKnown, IsLinkOf, leaving, linked, supervisory}
+use Rattle.gb_laws.proofs.Links.{IsKnown, leaving, linked, supervisory}
 use Rattle.gb_laws.proofs.Places.{place-is}
 use Rattle.gb_laws.proofs.PointParts.{Point, resting}
 use Rattle.gb_laws.proofs.Points.{IsAfterReply, IsCreated, IsLive, replied_to, unreplied}
@@ -51,23 +49,22 @@ use Rattle.gb_machine.specs.Bus.{
   Ask,
   Bus,
   Connection,
-  Item,
   Request,
   connection_of,
   end_of,
   has_number,
   request_of,
 }
-use Rattle.gb_machine.specs.Delivery.{popped, replied, without_front}
+use Rattle.gb_machine.specs.Delivery.{popped, without_front}
 use Rattle.gb_machine.specs.Host.{is_link}
-use Rattle.gb_machine.specs.Incoming.{Incoming, reply_item}
-use Rattle.gb_machine.specs.Lists.{at_first, behind_first, first}
+use Rattle.gb_machine.specs.Incoming.{reply_item}
+use Rattle.gb_machine.specs.Lists.{at_first, behind_first}
 use Rattle.gb_machine.specs.Members.{IsIn}
 use Rattle.gb_machine.specs.Modules.{is_plugged}
 use Rattle.gb_machine.specs.Ports.{is_powered, level_of}
 use Rattle.gb_machine.specs.Runs.{Moment}
 use Rattle.gb_machine.specs.Sending.{put}
-use Rattle.gb_machine.specs.SvcQueues.{is_for_link, items_in, speaks_of_connection, svc_items}
+use Rattle.gb_machine.specs.SvcQueues.{items_in, speaks_of_connection, svc_items}
 
 -- At a moment the supervisory controller serves the request that was made to create connection k,
 -- which is live, to an interface that is routed and where a module is plugged.
@@ -226,7 +223,8 @@ module _ (m : Moment) (start : StaleTo m.told m.before)
       same-connection = by (start.since.links.1.known was.0 was.1)
         where
           ends : CreatesAt known.0.ap known.0.intf known.0.cport
-              (Ok (SvcAsk.ConnCreate 1 live.connection.ap live.intf live.cport reads.tc reads.flags))
+              (Ok (SvcAsk.ConnCreate 1 live.connection.ap live.intf live.cport reads.tc
+              reads.flags))
           ends = subst (CreatesAt known.0.ap known.0.intf known.0.cport) reads.is
               (fit.ends served.number known.0 served.request known.1
               (subst (λ j. IsIn (served.number, j) m.before.past.made_for) (sym known.2)

@@ -28,21 +28,16 @@ use Rattle.std.proofs.Common.{
 }
 use Rattle.std.specs.Prelude.{◌==◌}
 use Rattle.gb_base.specs.declared.end.Side.TheVariants as side
-use Rattle.gb_invariants.proofs.Awaiting.{not-both}
-use Rattle.gb_invariants.proofs.Lists.{in-front, in-pushed}
-use Rattle.gb_invariants.proofs.Outcomes.{is-same, same-number}
-use Rattle.gb_laws.proofs.Answering.{keeps-requests}
+use Rattle.gb_invariants.proofs.Lists.{in-pushed}
+use Rattle.gb_invariants.proofs.Outcomes.{same-number}
 use Rattle.gb_laws.proofs.Creating.{creates_one, is_create}
 use Rattle.gb_laws.proofs.CreatingFacts.{CreatesFit}
 use Rattle.gb_laws.proofs.OwnCreation.{IsCreation}
 use Rattle.gb_laws.proofs.Owning.{KeepsRequests}
-use Rattle.gb_laws.proofs.PointParts.{Point}
-use Rattle.gb_laws.proofs.Points.{Change, acts_asked, changed}
 use Rattle.gb_laws.proofs.Stale.{waited}
 use Rattle.gb_laws.proofs.SvcMoves.{FarMoves}
 use Rattle.gb_laws.proofs.SvcOrder.{Rising}
 use Rattle.gb_machine.specs.Bus.{Ask, Bus, Item, Request, request_of}
-use Rattle.gb_machine.specs.HostActs.{made_for, with_awaited}
 use Rattle.gb_machine.specs.Lists.{behind_first}
 use Rattle.gb_machine.specs.Members.{IsIn, times}
 use Rattle.gb_machine.specs.Runs.{Moment}

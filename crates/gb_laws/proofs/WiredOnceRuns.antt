@@ -25,10 +25,8 @@ use Rattle.std.proofs.Common.{
   ◌∷◌,
   ◌≡◌,
   ◌≢◌,
-  ◌≤◌,
   ◌⊎◌,
 }
-use Rattle.std.specs.Prelude.{◌==◌}
 use Rattle.gb_base.specs.declared.entry.Entry.{Entry}
 use Rattle.gb_base.specs.declared.peers.Link.{Link}
 use Rattle.gb_invariants.proofs.Awaiting.{not-both, same-some}
@@ -39,11 +37,10 @@ use Rattle.gb_laws.proofs.CreatingFacts.{CreatesFit}
 use Rattle.gb_laws.proofs.CreatingKept.{CreatesAll, creates-kept}
 use Rattle.gb_laws.proofs.LinkRuns.{start-absent}
 use Rattle.gb_laws.proofs.OwnCreation.{IsCreation, creation-at}
-use Rattle.gb_laws.proofs.Owning.{KeepsRequests}
 use Rattle.gb_laws.proofs.PointParts.{Point, Wires, resting}
 use Rattle.gb_laws.proofs.Points.{Change, Law, acts_asked, changed, wires}
 use Rattle.gb_laws.proofs.QuietServed.{IsServed, serving}
-use Rattle.gb_laws.proofs.Remembering.{nothing-asked, waiting-wired}
+use Rattle.gb_laws.proofs.Remembering.{waiting-wired}
 use Rattle.gb_laws.proofs.Runs.{HoldsAtMoments, HoldsByMoments, at_each, throughout, weaker}
 use Rattle.gb_laws.proofs.StaleBase.{StaleBase, base-kept}
 use Rattle.gb_laws.proofs.StaleRuns.{StaleTo, stale-over, stale-throughout, start-base}
@@ -59,7 +56,7 @@ use Rattle.gb_laws.proofs.WiredRemembered.{AreRemembered, remembered-first, reme
 use Rattle.gb_laws.proofs.WiredSo.{WiredAreSo, so-kept, wired_by}
 use Rattle.gb_machine.specs.Bus.{Connection, Request, connection_of}
 use Rattle.gb_machine.specs.Host.{link_at}
-use Rattle.gb_machine.specs.HostActs.{made_for, with_awaited}
+use Rattle.gb_machine.specs.HostActs.{made_for}
 use Rattle.gb_machine.specs.LawsHotPlug.{IsOwnCreation, WiredByItsRequest, WiredOnce}
 use Rattle.gb_machine.specs.Lists.{first, nth}
 use Rattle.gb_machine.specs.Members.{IsIn}

@@ -1,19 +1,5 @@
 -- What is wired is remembered to have been.
-use Rattle.std.proofs.Common.{
-  List,
-  Some,
-  ap,
-  inl,
-  refl,
-  subst,
-  sym,
-  true,
-  ℕ,
-  ◌∷◌,
-  ◌≡◌,
-  ◌≢◌,
-  [],
-}
+use Rattle.std.proofs.Common.{List, Some, ap, inl, subst, sym, true, ℕ, ◌∷◌, ◌≡◌, ◌≢◌, []}
 use Rattle.gb_base.specs.declared.entry.Entry.{Entry}
 use Rattle.gb_invariants.proofs.Awaiting.{same-some}
 use Rattle.gb_invariants.proofs.Lists.{each-from, in-behind, in-front}

@@ -13,7 +13,6 @@ use Rattle.std.proofs.Common.{
   true,
   ℕ,
   ◌∙◌,
-  ◌∷◌,
   ◌≡◌,
   ⊎_elim,
   [],
@@ -45,7 +44,6 @@ use Rattle.gb_laws.proofs.Points.{
 }
 use Rattle.gb_machine.specs.Bus.{Ask, Bus, Connection, Raw, has_number, next_number, other_side}
 use Rattle.gb_machine.specs.Delivery.{without_front}
-use Rattle.gb_machine.specs.HostActs.{with_awaited}
 use Rattle.gb_machine.specs.Incoming.{reply_item}
 use Rattle.gb_machine.specs.Lists.{at_first}
 use Rattle.gb_machine.specs.Members.{IsIn}
