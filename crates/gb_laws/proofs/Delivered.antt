@@ -68,9 +68,9 @@ noticed m s c at q e (answered i p r peer) ap_side h = absurd cc
 pub serving-of : (m : Moment) (s u : State) (c : Connection) (at : Side) (q : Incoming)
     → IsTaken m s c at q → at ≡ side.Far → c.peer ≡ end.Svc
     → IsAfterReply c.number at q s.bus u.bus → u.host ≡ s.host → u.ports ≡ s.ports
-    → IsServing m u q
+    → u.past ≡ s.past → IsServing m u q
 serving-of m s u c at q (delivered to p item r event_is named front is made from) far peer way host
-    ports = record {
+    ports past = record {
       at = to;
       place = p;
       item = item;
@@ -82,6 +82,7 @@ serving-of m s u c at q (delivered to p item r event_is named front is made from
       made = made;
       host = host ∙ ap (λ (t : State). t.host) from;
       ports = ports ∙ ap (λ (t : State). t.ports) from;
+      past = past ∙ ap (λ (t : State). t.past) from;
       bus = subst (λ t. IsAfterReply p.connection.number side.Far r
           (popped p.connection.number t m.before.bus) u.bus) far
           (subst (λ t. IsAfterReply p.connection.number t r
@@ -90,7 +91,7 @@ serving-of m s u c at q (delivered to p item r event_is named front is made from
           (ap (λ (t : State). t.bus) from)
           (subst (λ (x : Connection). IsAfterReply x.number p.side r s.bus u.bus) (sym is) way)));
     }
-serving-of m s u c at q (answered i p r module_peer) far peer way host ports =
+serving-of m s u c at q (answered i p r module_peer) far peer way host ports past =
     absurd (other (sym module_peer ∙ peer))
   where
     other : end.Module i p ≡ end.Svc → ⊥

@@ -135,7 +135,7 @@ module _ (m : Moment) (law : Law m) where
 
       oneway : HasPeer c.number c.peer s.bus → (t : Bool) → Ends m law (Some (hand_of c at item)) (cond t (response_at at c q s).behind (tell (entry.Ignored q.kind))) s
       oneway peer true = dropped-first (hand_of c at item) (response_at at c q s).behind s
-          (ends-response m law c at q s s taken (unreplied refl) refl refl peer same refl)
+          (ends-response m law c at q s s taken (unreplied refl) refl refl peer same refl refl)
       oneway peer false = ends-told (hand_of c at item) (entry.Ignored q.kind) s refl
 
       by : HasPeer c.number c.peer s.bus → (t : Bool) → q.oneway ≡ t
@@ -146,7 +146,8 @@ module _ (m : Moment) (law : Law m) where
           (λ told now. law.kept _ (replies (hand_of c at item) q (response_at at c q s).answer refl made e) now)
           (ends-response m law c at q s (record s { bus = replied c.number (other_side at) (reply_item q (response_at at c q s).answer) s.bus })
           taken (replied_to (response_at at c q s).answer refl)
-          refl refl (peer-replied c.number (other_side at) (reply_item q (response_at at c q s).answer) c.peer s.bus peer) same refl)
+          refl refl (peer-replied c.number (other_side at) (reply_item q (response_at at c q s).answer) c.peer s.bus peer) same refl
+          refl)
 
   ends-asked : (c : Connection) (at : Side) (item : Item) (q : Incoming) (s : State)
       → IsAsBefore m s → request_in item s.bus ≡ Some q → IsTaken m s c at q

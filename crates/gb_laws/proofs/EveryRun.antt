@@ -19,6 +19,7 @@ use Rattle.gb_laws.proofs.RememberedLive.{remembered-while_live}
 use Rattle.gb_laws.proofs.Remembering.{none-forgotten_at, remembered-for_one}
 use Rattle.gb_laws.proofs.StaleRuns.{stale-low_by_moments}
 use Rattle.gb_laws.proofs.ToldRuns.{absent-open_by_moments, absent-seen}
+use Rattle.gb_laws.proofs.WiredOnceRuns.{own-request_at_moments, wired-once_by_moments}
 use Rattle.gb_laws.proofs.WiredRemembered.{wired-remembered}
 use Rattle.gb_laws.specs.OwnSide.{AbsentHasNoOpenOfAp}
 use Rattle.gb_laws.specs.OwnWaits.{AwaitsOwnRequest, OnlyRestarts, ServedLeavesNone}
@@ -58,6 +59,9 @@ use Rattle.gb_machine.specs.LawsHotPlug.{
   RememberedForOne,
   RememberedWhileLive,
   TakesFromItsConnection,
+  WiredAtMostOnce,
+  WiredByItsRequest,
+  WiredOnce,
 }
 use Rattle.gb_machine.specs.LawsSvc.{
   AreRouted,
@@ -143,6 +147,27 @@ remembered-live = at-all RememberedWhileLive remembered-while_live
 -- What is wired is remembered to have been.
 pub remembered-wired : HoldsThroughout WiredIsRemembered
 remembered-wired = of-all WiredIsRemembered (of-state _) wired-remembered
+
+-- Each connection is remembered as wired once at most.
+pub wired-once : HoldsThroughout WiredOnce
+wired-once = of-all WiredOnce (record {
+  there = λ told s h. record { once = h.once; remembered = h.remembered };
+  back = λ told s h. record { once = h.once; remembered = h.remembered };
+}) wired-once_by_moments
+
+-- It is wired by its own request.
+pub wired-by_request : HoldsAtEachMoment WiredByItsRequest
+wired-by_request = at-all WiredByItsRequest own-request_at_moments
+
+-- A connection is wired at most once, by its own request.
+pub wired-at_most_once : WiredAtMostOnce
+wired-at_most_once = record {
+  once = wired-once;
+  own = wired-by_request;
+  kept = none-forgotten;
+  one = remembered-for;
+  live = remembered-live;
+}
 
 -- What is wired is routed.
 pub wired-routed : WiredMeansRouted

@@ -257,7 +257,7 @@ pub data StepOn (j kind : ℕ) (payload : List ℕ) (before after : ℕ) : Type 
   by_record : (ask : SvcAsk) → read_svc_ask kind payload ≡ Ok ask
       → StepLevels j ask before after → StepOn j kind payload before after
 
-ap-reads : {A : Type 0} (row : Option (Row A)) (payload : List ℕ) (made : A)
+pub ap-reads : {A : Type 0} (row : Option (Row A)) (payload : List ℕ) (made : A)
     → read_row (unless_own row) payload ≡ Ok made → read_row row payload ≡ Ok made
 ap-reads None payload made h = absurd cc
 ap-reads (Some row) payload made h = by row.own h

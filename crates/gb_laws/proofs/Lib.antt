@@ -11,6 +11,12 @@ pub mod Causes
 pub mod ClosingTurns
 pub mod Closings
 pub mod Controls
+pub mod CreateServed
+pub mod Creating
+pub mod CreatingAsked
+pub mod CreatingFacts
+pub mod CreatingKept
+pub mod CreatingTurns
 pub mod CreditsDelivered
 pub mod CreditsKept
 pub mod CreditsLines
@@ -62,6 +68,7 @@ pub mod Onward
 pub mod OpenKept
 pub mod OpenRuns
 pub mod Opens
+pub mod OwnCreation
 pub mod OwnReplies
 pub mod Owned
 pub mod Owning
@@ -126,6 +133,9 @@ pub mod Ticking
 pub mod ToldLinks
 pub mod ToldRuns
 pub mod Turned
+pub mod WiredOnce
+pub mod WiredOnceRuns
 pub mod WiredRemembered
 pub mod WiredRuns
+pub mod WiredSo
 pub mod WiredWell

@@ -86,26 +86,30 @@ at_first-back test change (y ∷ ys) x (inr j) = by (test y) (at_first-back test
     by true h = inl (inr j)
     by false h = ⊎_elim (λ a. inl (inr a)) (λ b. inr (inr b)) h
 
--- connections stay live, and wired or not
+-- connections stay live, wired or not, with their ends
 abbrev pub LivesOn : Bus → Bus → Type 0
-LivesOn b after = (k : ℕ) (t : Bool) (l : IsLive k t b) → (n : IsLive k t after) × (n.intf ≡ l.intf)
+LivesOn b after = (k : ℕ) (t : Bool) (l : IsLive k t b) → (n : IsLive k t after)
+    × (n.intf ≡ l.intf) × (n.cport ≡ l.cport) × (n.connection.ap ≡ l.connection.ap)
 
 pub lives-replied : (k : ℕ) (at : Side) (item : Item) (b : Bus) → LivesOn b (replied k at item b)
 lives-replied k at item b n t h =
-    ⊎_elim (λ i. still h.connection i refl refl refl)
-    (λ i. let s = same h.connection at h.connection.wired in still (put at item h.connection) i s.0 s.1 s.2)
+    ⊎_elim (λ i. still h.connection i refl refl refl refl)
+    (λ i. let s = same h.connection at h.connection.wired in
+    still (put at item h.connection) i s.0 s.1 s.2 s.3)
     (at_first-back (has_number k) (put at item) b.connections h.connection h.live)
   where
     same : (c : Connection) (s : Side) (w : Bool)
         → ((cond w (queued s item c) c).number ≡ c.number) × ((cond w (queued s item c) c).wired ≡ c.wired)
-        × ((cond w (queued s item c) c).peer ≡ c.peer)
-    same c side.Ap true = (refl, refl, refl)
-    same c side.Far true = (refl, refl, refl)
-    same c s false = (refl, refl, refl)
+        × ((cond w (queued s item c) c).peer ≡ c.peer) × ((cond w (queued s item c) c).ap ≡ c.ap)
+    same c side.Ap true = (refl, refl, refl, refl)
+    same c side.Far true = (refl, refl, refl, refl)
+    same c s false = (refl, refl, refl, refl)
 
     still : (x : Connection) → IsIn x (replied k at item b).connections → x.number ≡ h.connection.number
-        → x.wired ≡ h.connection.wired → x.peer ≡ h.connection.peer → (l : IsLive n t (replied k at item b)) × (l.intf ≡ h.intf)
-    still x i number wired peer = (
+        → x.wired ≡ h.connection.wired → x.peer ≡ h.connection.peer → x.ap ≡ h.connection.ap
+        → (l : IsLive n t (replied k at item b)) × (l.intf ≡ h.intf) × (l.cport ≡ h.cport)
+        × (l.connection.ap ≡ h.connection.ap)
+    still x i number wired peer ap_same = (
       record {
         connection = x;
         live = i;
@@ -116,6 +120,8 @@ lives-replied k at item b n t h =
         peer = peer ∙ h.peer;
       },
       refl,
+      refl,
+      ap_same,
     )
 
 -- each connection was there, wired or not as it is, with its far end
@@ -145,7 +151,7 @@ comes-replied k at item b c live =
 pub lives-after : {k : ℕ} {at : Side} {q : Incoming} {b after : Bus} → IsAfterReply k at q b after
     → LivesOn b after
 lives-after {k} {at} {q} {b} (unreplied e) =
-    subst (LivesOn b) (sym e) (λ n t l. (l, refl))
+    subst (LivesOn b) (sym e) (λ n t l. (l, refl, refl, refl))
 lives-after {k} {at} {q} {b} (replied_to r e) =
     subst (LivesOn b) (sym e) (lives-replied k (other_side at) (reply_item q r) b)
 

@@ -18,6 +18,7 @@ use Rattle.std.specs.Prelude.{
 use Rattle.gb_base.specs.declared.peers.Link.{Link}
 use Rattle.gb_base.specs.declared.bridge.Reading.TheVariants as reading
 use Rattle.gb_base.specs.declared.end.End.{End}
+use Rattle.gb_base.specs.declared.end.End.TheVariants as end
 use Rattle.gb_base.specs.declared.end.Side.{Side}
 use Rattle.gb_base.specs.declared.end.Side.TheVariants as side
 use Rattle.gb_base.specs.declared.entry.ConnState.TheVariants as state
@@ -37,14 +38,16 @@ use Rattle.gb_machine.specs.Bus.{
   Place,
   Request,
   next_number,
+  other_side,
   place_of,
   queue,
   request_of,
 }
+use Rattle.gb_machine.specs.Delivery.{popped, replied}
 use Rattle.gb_machine.specs.Host.{Host, link_at}
 use Rattle.gb_machine.specs.HostServing.{host_serves}
 use Rattle.gb_machine.specs.HostTurns.{links_of}
-use Rattle.gb_machine.specs.Incoming.{Incoming, request_in}
+use Rattle.gb_machine.specs.Incoming.{Incoming, reply_item, request_in}
 use Rattle.gb_machine.specs.LawsBus.{NameRequests}
 use Rattle.gb_machine.specs.Lists.{first}
 use Rattle.gb_machine.specs.Members.{Each, IsIn}
@@ -52,6 +55,7 @@ use Rattle.gb_machine.specs.Names.{named}
 use Rattle.gb_machine.specs.Refusals.{refusal}
 use Rattle.gb_machine.specs.Runs.{Moment}
 use Rattle.gb_machine.specs.Sending.{Draft}
+use Rattle.gb_machine.specs.Serving.{Answer}
 use Rattle.gb_machine.specs.State.{Held, State}
 use Rattle.gb_machine.specs.Turns.{Act, Asking, HostEvent}
 
@@ -188,6 +192,30 @@ pub record IsServed (m : Moment) (k type : ℕ) (bytes : List ℕ) : Type 0 wher
   pub on : place.connection.number ≡ k
   pub kind : request.kind ≡ type
   pub payload : request.payload ≡ bytes
+
+-- What the supervisory controller serves was taken, and may have been replied to.
+pub data IsAfterReply (k : ℕ) (at : Side) (q : Incoming) (b after : Bus) : Type 0 where
+  unreplied : after ≡ b → IsAfterReply k at q b after
+  replied_to : (r : Answer) → after ≡ replied k (other_side at) (reply_item q r) b
+      → IsAfterReply k at q b after
+
+-- At a moment the supervisory controller serves the request that stands in front toward it, and a
+-- state is as before but for that and the reply to it.
+pub record IsServing (m : Moment) (s : State) (q : Incoming) : Type 0 where
+  pub at : End
+  pub place : Place
+  pub item : Item
+  pub event : m.event ≡ event.Deliver at
+  pub named : place_of at m.before.bus.connections ≡ Some place
+  pub far : place.side ≡ side.Far
+  pub svc : place.connection.peer ≡ end.Svc
+  pub front : first (queue place.side place.connection) ≡ Some item
+  pub made : request_in item m.before.bus ≡ Some q
+  pub host : s.host ≡ m.before.host
+  pub ports : s.ports ≡ m.before.ports
+  pub past : s.past ≡ m.before.past
+  pub bus : IsAfterReply place.connection.number side.Far q
+      (popped place.connection.number side.Far m.before.bus) s.bus
 
 -- Why the application processor takes notice of something at a moment, its host being as it was
 -- before, but where a request ended.

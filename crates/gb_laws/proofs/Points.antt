@@ -24,7 +24,6 @@ use Rattle.gb_base.specs.declared.bridge.BridgeAsk.{BridgeAsk}
 use Rattle.gb_base.specs.declared.bridge.Reading.TheVariants as reading
 use Rattle.gb_base.specs.declared.end.End.{End}
 use Rattle.gb_base.specs.declared.end.End.TheVariants as end
-use Rattle.gb_base.specs.declared.end.Side.{Side}
 use Rattle.gb_base.specs.declared.end.Side.TheVariants as side
 use Rattle.gb_base.specs.declared.entry.ConnState.TheVariants as state
 use Rattle.gb_base.specs.declared.entry.Entry.{Entry}
@@ -72,7 +71,7 @@ use Rattle.gb_machine.specs.Serving.{Answer}
 use Rattle.gb_machine.specs.State.{Held, Plugged, Port, State}
 use Rattle.gb_formats.specs.SvcRecords.{read_svc_ask}
 use Rattle.gb_machine.specs.SvcQueues.{removes}
-use Rattle.gb_machine.specs.SvcTable.{Unroute, svc_step}
+use Rattle.gb_machine.specs.SvcTable.{Create, Unroute, svc_step}
 use Rattle.gb_machine.specs.Turns.{Act, Asking, HostEvent, Making}
 use Rattle.gb_machine.specs.Wires.{disconnected_told, with_unwired, with_wired}
 use Rattle.gb_machine.specs.Wiring.{detached, injected, is_wired_to, next_connection, shut_down}
@@ -81,11 +80,13 @@ pub use Rattle.gb_laws.proofs.PointParts.{
   Basis,
   Hand,
   IsCancelled,
+  IsAfterReply,
   IsCaused,
   IsGivenUpFor,
   IsLate,
   IsNoticed,
   IsServed,
+  IsServing,
   IsShutFor,
   IsStill,
   Point,
@@ -101,8 +102,10 @@ pub use Rattle.gb_laws.proofs.PointParts.{
   loose_held,
   on,
   on_bus,
+  replied_to,
   resting,
   sent_told,
+  unreplied,
 }
 
 -- ---- single changes
@@ -201,29 +204,6 @@ pub record SamePlugs (s : State) (booted : Bool) (ports : List Port) (modules : 
   pub differ : EachTwo (λ (p q : Plugged). p.intf ≢ q.intf) s.modules → EachTwo (λ (p q : Plugged). p.intf ≢ q.intf) modules
   pub short : AreShort s.modules → AreShort modules
 
--- What the supervisory controller serves was taken, and may have been replied to.
-pub data IsAfterReply (k : ℕ) (at : Side) (q : Incoming) (b after : Bus) : Type 0 where
-  unreplied : after ≡ b → IsAfterReply k at q b after
-  replied_to : (r : Answer) → after ≡ replied k (other_side at) (reply_item q r) b
-      → IsAfterReply k at q b after
-
--- At a moment the supervisory controller serves the request that stands in front toward it, and a
--- state is as before but for that and the reply to it.
-pub record IsServing (m : Moment) (s : State) (q : Incoming) : Type 0 where
-  pub at : End
-  pub place : Place
-  pub item : Item
-  pub event : m.event ≡ event.Deliver at
-  pub named : place_of at m.before.bus.connections ≡ Some place
-  pub far : place.side ≡ side.Far
-  pub svc : place.connection.peer ≡ end.Svc
-  pub front : first (queue place.side place.connection) ≡ Some item
-  pub made : request_in item m.before.bus ≡ Some q
-  pub host : s.host ≡ m.before.host
-  pub ports : s.ports ≡ m.before.ports
-  pub bus : IsAfterReply place.connection.number side.Far q
-      (popped place.connection.number side.Far m.before.bus) s.bus
-
 -- Where power levels come from: they stay, or are those of a step of the supervisory controller's
 -- table, or an interface without a wired connection loses its route.
 pub data PortsFrom (m : Moment) (s : State) (ports : List Port) : Type 0 where
@@ -235,6 +215,12 @@ pub data PortsFrom (m : Moment) (s : State) (ports : List Port) : Type 0 where
       → ports ≡ unrouted i (svc_step m.before.ports q.kind q.payload).ports
       → ((c : Connection) → IsIn c s.bus.connections → is_wired_to i c ≡ false)
       → PortsFrom m s ports
+
+-- At a moment the supervisory controller serves a request to wire a connection to a module.
+pub record IsCreated (m : Moment) (s : State) (c : Connection) (i p : ℕ) : Type 0 where
+  pub incoming : Incoming
+  pub serving : IsServing m s incoming
+  pub decides : (svc_step m.before.ports incoming.kind incoming.payload).served ≡ Create c.ap i p
 
 -- At an event of the supervisory controller a power level stays, or is off.
 abbrev pub PowersOff : State → List Port → Type 0
@@ -280,6 +266,7 @@ pub data Change (m : Moment) (a : Point) : Type 0 where
   wires : (k : ℕ) → a.hand ≡ None → a.wires ≡ Untouched → (live : IsLive k false a.state.bus)
       → (is_powered live.intf a.state.ports ≡ true)
       × (nat_lt (level_of live.intf a.state.ports) 6 ≡ false)
+      × IsCreated m a.state live.connection live.intf live.cport
       → Change m a
   unwires : (k : ℕ) → a.hand ≡ None → a.wires ≢ Wired → IsLive k true a.state.bus → Change m a
   -- bytes are injected

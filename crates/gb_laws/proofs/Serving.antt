@@ -14,12 +14,13 @@ use Rattle.gb_invariants.proofs.Awaiting.{same-some}
 use Rattle.gb_invariants.proofs.Lists.{found-in}
 use Rattle.gb_laws.proofs.Delivered.{IsTaken, noticed, served-at, serving-of}
 use Rattle.gb_laws.proofs.LinkLists.{none-any}
-use Rattle.gb_invariants.proofs.Outcomes.{both-true}
+use Rattle.gb_invariants.proofs.Outcomes.{both-true, same-number}
 use Rattle.gb_laws.proofs.Acting.{goes-notices}
 use Rattle.gb_laws.proofs.Going.{At, Goes, IsToModule, goes-far_asks_all, goes-nothing, goes-tell, goes-▸}
 use Rattle.gb_laws.proofs.Places.{ComesFrom, LivesOn, comes-after, lives-after, same_end-is}
 use Rattle.gb_laws.proofs.Points.{
   IsAfterReply,
+  IsCreated,
   IsLive,
   IsOver,
   IsServing,
@@ -68,7 +69,7 @@ use Rattle.gb_machine.specs.Wiring.{is_at, is_wired_to, joining, joins}
 
 -- it is live, and at a module
 pub joining-live : (a i c : ℕ) (b : Bus) (x : Connection) (t : Bool) → joining a i c b ≡ Some x → x.wired ≡ t
-    → (l : IsLive x.number t b) × (l.intf ≡ i)
+    → (l : IsLive x.number t b) × (l.intf ≡ i) × (l.cport ≡ c) × (l.connection.ap ≡ a)
 joining-live a i c b x t h w =
     let f = found-in (joins a i c) b.connections x h in
     let p = both-true (x.ap == a) (same_end x.peer (end.Module i c)) f.1 in (
@@ -82,16 +83,19 @@ joining-live a i c b x t h w =
         peer = same_end-is x.peer (end.Module i c) p.1;
       },
       refl,
+      refl,
+      same-number x.ap a p.0,
     )
 
 -- what has the number of a connection has its far end
 abbrev pub HasPeer : ℕ → End → Bus → Type 0
 HasPeer k e b = (c : Connection) → connection_of k b ≡ Some c → c.peer ≡ e
 
--- where the levels of what is served come from
+-- where the levels of what is served come from, and what is served where a connection is wired
 abbrev pub Comes : (m : Moment) (u : State) → SvcServed → List Port → Type 0
 Comes m u (Answered result payload) ports = PortsFrom m u ports
-Comes m u (Create a i c) ports = Unit {0}
+Comes m u (Create a i c) ports = (q : Incoming) × IsServing m u q
+    × ((svc_step m.before.ports q.kind q.payload).served ≡ Create a i c)
 Comes m u (Destroy a i c) ports = Unit {0}
 Comes m u (Unroute i) ports =
     ((c : Connection) → IsIn c u.bus.connections → is_wired_to i c ≡ false)
@@ -138,10 +142,11 @@ module _ (m : Moment) (law : Law m) where
   ends-nothing s = ends-going None nothing s (goes-nothing m (acting m law) None [] Untouched s)
 
   ends-wires : (k : ℕ) (s : State) (live : IsLive k false s.bus)
-      → IsRouted live.intf s.ports → Ends None (wiring.wires k) s
+      → IsRouted live.intf s.ports → IsCreated m s live.connection live.intf live.cport
+      → Ends None (wiring.wires k) s
   unfolding machine_opened
-  ends-wires k s live ready told at =
-      (Wired, law.kept _ (wires k refl refl live ready) at)
+  ends-wires k s live ready made told at =
+      (Wired, law.kept _ (wires k refl refl live (ready.0, ready.1, made)) at)
 
   ends-unwires : (k : ℕ) (s : State) → IsLive k true s.bus → Ends None (wiring.unwires k) s
   unfolding machine_opened
@@ -159,12 +164,13 @@ module _ (m : Moment) (law : Law m) where
 
   ends-creates : (o : Option Connection) (s : State)
       → ((x : Connection) → o ≡ Some x → x.wired ≡ false
-      → (l : IsLive x.number false s.bus) × IsRouted l.intf s.ports)
+      → (l : IsLive x.number false s.bus) × IsRouted l.intf s.ports
+      × IsCreated m s l.connection l.intf l.cport)
       → Ends None (creates o).behind s
   ends-creates None s live = ends-nothing s
   ends-creates (Some c) s live =
       ends-either c.wired (responds_plainly invalid) (responds_with (plainly_answers success) (wiring.wires c.number)) s
-      (λ e. ends-nothing s) (λ e. let l = live c refl e in ends-wires c.number s l.0 l.1)
+      (λ e. ends-nothing s) (λ e. let l = live c refl e in ends-wires c.number s l.0 l.1 l.2)
 
   ends-destroys : (o : Option Connection) (s : State) → IsLiveFound o s → Ends None (destroys o).behind s
   ends-destroys None s live = ends-nothing s
@@ -181,8 +187,17 @@ module _ (m : Moment) (law : Law m) where
   ends-decided (Create a i c) ports s u on came from powered ready =
       ends-creates (joining a i c s.bus) u (λ x e w.
       let j = joining-live a i c s.bus x false e w in
-      let l = on x.number false j.0 in
-      (l.0, subst (λ n. IsRouted n u.ports) (sym (l.1 ∙ j.1)) ready))
+      let l = on x.number false j.0 in (
+        l.0,
+        subst (λ n. IsRouted n u.ports) (sym (l.1 ∙ j.1)) ready,
+        record {
+          incoming = from.0;
+          serving = from.1;
+          decides = from.2 ∙ ap (λ n. Create n i c) (sym (l.3 ∙ j.3))
+              ∙ ap (λ n. Create l.0.connection.ap n c) (sym (l.1 ∙ j.1))
+              ∙ ap (Create l.0.connection.ap l.0.intf) (sym (l.2 ∙ j.2));
+        },
+      ))
   ends-decided (Destroy a i c) ports s u on came from powered ready =
       ends-destroys (joining a i c s.bus) u
       (λ x t e w. (on x.number t (joining-live a i c s.bus x t e w).0).0)
@@ -244,7 +259,11 @@ module _ (m : Moment) (law : Law m) where
           → Comes m u d (svc_step s.ports q.kind q.payload).ports
       comes (Answered result payload) e = served q (serving refl)
           (ap (λ ps. (svc_step ps q.kind q.payload).ports) (sym ports ∙ (serving refl).ports))
-      comes (Create a i c) e = tt
+      comes (Create a i c) e = (
+        q,
+        serving refl,
+        ap (λ ps. (svc_step ps q.kind q.payload).served) (sym same) ∙ e,
+      )
       comes (Destroy a i c) e = tt
       comes (Unroute i) e = loses_route q i (serving refl)
           (ap (λ ps. (svc_step ps q.kind q.payload).served) (sym same) ∙ e)
@@ -338,14 +357,15 @@ module _ (m : Moment) (law : Law m) where
   pub ends-response : (c : Connection) (at : Side) (q : Incoming) (s u : State)
       → IsTaken m s c at q → IsAfterReply c.number at q s.bus u.bus → u.ports ≡ s.ports
       → u.modules ≡ s.modules → HasPeer c.number c.peer u.bus
-      → IsAsBefore m s → u.host ≡ s.host → Ends None (response_at at c q s).behind u
+      → IsAsBefore m s → u.host ≡ s.host → u.past ≡ s.past
+      → Ends None (response_at at c q s).behind u
   unfolding machine_opened
-  ends-response c side.Ap q s u taken way ports modules peer before same =
+  ends-response c side.Ap q s u taken way ports modules peer before same past =
       subst (λ h. Ends None (host_behind (host_serves c.number q.kind q.payload h)) u)
       (sym before.0)
       (ends-served c.number q.kind q.payload u (served-at m s c side.Ap q taken refl)
       (same ∙ before.0) (same-after way ∙ before.1)
       (λ e n. noticed m s c side.Ap q e taken refl n))
-  ends-response c side.Far q s u taken way ports modules peer before same =
+  ends-response c side.Far q s u taken way ports modules peer before same past =
       ends-far c.peer c.number q s u (lives-after way) (comes-after way) ports modules peer
-      (λ is. serving-of m s u c side.Far q taken refl is way same ports)
+      (λ is. serving-of m s u c side.Far q taken refl is way same ports past)

@@ -46,7 +46,7 @@ pub record StaleTo (told : List Entry) (s : State) : Type 0 where
   pub order : SvcOrder s.bus
   pub cool : (i : ℕ) → IsCool i (resting told s)
 
-start-base : (m : Moment) → StaleTo m.told m.before → StaleBase m (resting m.told m.before)
+pub start-base : (m : Moment) → StaleTo m.told m.before → StaleBase m (resting m.told m.before)
 start-base m h = record {
   basis = h.since.links.0;
   links = h.since.links.1;
@@ -77,7 +77,7 @@ module _ (m : Moment) (h : StaleTo m.told m.before) where
     );
   }
 
-  stale-over : IsMoment m.event → StaleTo (m.told ++ told_at m) (after m)
+  pub stale-over : IsMoment m.event → StaleTo (m.told ++ told_at m) (after m)
   stale-over one = record {
     quiet = quiet-moment m one h.quiet;
     own = own-over m one h.own;

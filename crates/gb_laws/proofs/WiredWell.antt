@@ -75,7 +75,7 @@ fit-bus s t was modules ports h = record {
 }
 
 -- a level that isn't below the highest is that
-at-most : (n : ℕ) → n ≤ 6 → nat_lt n 6 ≡ false → n ≡ 6
+pub at-most : (n : ℕ) → n ≤ 6 → nat_lt n 6 ≡ false → n ≡ 6
 at-most n most h = grind (arith, nat_tests, most, h)
 
 -- what becomes of levels: none is too high, and what is routed stays so, unless nothing is wired

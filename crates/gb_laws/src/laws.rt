@@ -26,6 +26,9 @@ ghost use Rattle.gb_machine.specs.LawsHotPlug.{
   OpenIsLive,
   RememberedForOne,
   RememberedWhileLive,
+  WiredAtMostOnce,
+  WiredByItsRequest,
+  WiredOnce,
 };
 ghost use Rattle.gb_machine.specs.LawsSvc.{
   QuietBeforeRemoval,
@@ -172,6 +175,24 @@ pub fn remembered_for_one()
 /// made.
 pub fn remembered_while_live()
     ensures { HoldsAtEachMoment RememberedWhileLive }
+{}
+
+/// Each connection is remembered as wired once at most, and each that is wired, but for that of the
+/// supervisory controller, is.
+pub fn wired_once()
+    ensures { HoldsThroughout WiredOnce }
+{}
+
+/// What is wired at a moment is wired by the request that was made to create it, which the
+/// supervisory controller serves then. A module is plugged at its interface, which is routed, and
+/// it wasn't wired before.
+pub fn wired_by_its_request()
+    ensures { HoldsAtEachMoment WiredByItsRequest }
+{}
+
+/// A connection is wired at most once, by its own request, to a module that is plugged and routed.
+pub fn wired_at_most_once()
+    ensures { WiredAtMostOnce }
 {}
 
 /// A name names a request that was made.

@@ -1,0 +1,184 @@
+-- Requests that create connections: by their records, and by the steps that ask them.
+use Rattle.std.proofs.Common.{
+  Bool,
+  List,
+  [],
+  ap,
+  arith,
+  false,
+  refl,
+  subst,
+  sym,
+  true,
+  ℕ,
+  ◌++◌,
+  ◌∷◌,
+  ◌≡◌,
+  ◌≤◌,
+}
+use Rattle.std.specs.Prelude.{Err, Ok, Result}
+use Rattle.byteorder.specs.Endian.{little_number}
+use Rattle.byteorder.specs.Numbers.{little_number-reads_back}
+use Rattle.gb_base.specs.declared.steps.SequenceStep.{SequenceStep}
+use Rattle.gb_base.specs.declared.steps.SequenceStep.TheVariants as steps
+use Rattle.gb_formats.specs.Bytes.{le16}
+use Rattle.gb_formats.specs.Records.{PayloadFault}
+use Rattle.gb_formats.specs.SvcRecords.{SvcAsk, read_svc_ask}
+use Rattle.gb_laws.proofs.SvcKinds.{svc-kind}
+use Rattle.gb_machine.specs.Bus.{Request}
+use Rattle.gb_machine.specs.Refusals.{is_reserved}
+use Rattle.gb_machine.specs.SequenceSteps.{Target, is_for_connection, kind_of, payload_of}
+use Rattle.gb_machine.specs.Turns.{Asking, Making}
+
+-- a record that creates a connection
+abbrev pub is_create : Result SvcAsk PayloadFault → Bool
+is_create (Ok (SvcAsk.ConnCreate i1 c1 i c tc flags)) = true
+is_create _ = false
+
+-- a request that creates a connection
+abbrev pub creates_one : Request → Bool
+creates_one r = is_create (read_svc_ask r.kind r.payload)
+
+-- what a record creates is a connection from CPort a of the application processor to CPort c of
+-- interface i
+abbrev pub CreatesAt : ℕ → ℕ → ℕ → Result SvcAsk PayloadFault → Type 0
+CreatesAt a i c (Ok (SvcAsk.ConnCreate i1 c1 j d tc flags)) =
+    (i1 ≡ 1) × (c1 ≡ a) × (j ≡ i) × (d ≡ c)
+CreatesAt a i c _ = Unit {0}
+
+-- a step that creates a connection
+abbrev pub is_creating : SequenceStep → Bool
+is_creating steps.CreateControl = true
+is_creating steps.CreateConnection = true
+is_creating _ = false
+
+-- A request for a connection that is to be made speaks of that.
+pub record IsMade (w : Making) (q : Asking) : Type 0 where
+  pub target : Target
+  pub kind : q.kind ≡ kind_of q.purpose.step
+  pub payload : q.payload ≡ payload_of q.purpose.step target
+  pub ap : target.ap ≡ w.ap
+  pub intf : target.intf ≡ w.intf
+  pub cport : target.cport ≡ w.cport
+
+-- ---- records
+
+pub creates-nothing : (a i c : ℕ) (r : Result SvcAsk PayloadFault) → is_create r ≡ false
+    → CreatesAt a i c r
+creates-nothing a i c (Ok (SvcAsk.ConnCreate i1 c1 j d tc flags)) h = absurd cc
+creates-nothing a i c (Ok (SvcAsk.IntfDeviceId j d)) h = tt
+creates-nothing a i c (Ok (SvcAsk.ConnDestroy x y z w)) h = tt
+creates-nothing a i c (Ok (SvcAsk.RouteCreate x y z w)) h = tt
+creates-nothing a i c (Ok (SvcAsk.RouteDestroy x y)) h = tt
+creates-nothing a i c (Ok SvcAsk.Ping) h = tt
+creates-nothing a i c (Ok (SvcAsk.VsysEnable j)) h = tt
+creates-nothing a i c (Ok (SvcAsk.RefclkEnable j)) h = tt
+creates-nothing a i c (Ok (SvcAsk.UniproEnable j)) h = tt
+creates-nothing a i c (Ok (SvcAsk.IntfActivate j)) h = tt
+creates-nothing a i c (Ok (SvcAsk.ProtocolVersion x y)) h = tt
+creates-nothing a i c (Ok (SvcAsk.Hello x y)) h = tt
+creates-nothing a i c (Ok (SvcAsk.ModuleInserted x y z)) h = tt
+creates-nothing a i c (Ok (SvcAsk.ModuleRemoved x)) h = tt
+creates-nothing a i c (Err fault) h = tt
+
+-- A request that creates a connection has a type that lines can't send.
+pub create-reserved : (kind : ℕ) (payload : List ℕ)
+    → is_create (read_svc_ask kind payload) ≡ true → is_reserved kind ≡ true
+create-reserved kind payload h = by (read_svc_ask kind payload) refl h
+  where
+    by : (r : Result SvcAsk PayloadFault) → read_svc_ask kind payload ≡ r
+        → is_create r ≡ true → is_reserved kind ≡ true
+    by (Ok (SvcAsk.ConnCreate a b c d g k)) e f = ap is_reserved (sym (svc-kind kind payload _ e))
+    by (Ok _) e f = absurd cc
+    by (Err fault) e f = absurd cc
+
+-- ---- steps
+
+-- a step that asks for a connection to be created is one of the two that do
+pub step-creating : (step : SequenceStep) (t : Target)
+    → is_create (read_svc_ask (kind_of step) (payload_of step t)) ≡ true
+    → is_creating step ≡ true
+step-creating steps.CreateControl t h = refl
+step-creating steps.CreateConnection t h = refl
+step-creating steps.EnableVsys t h = absurd cc
+step-creating steps.EnableRefclk t h = absurd cc
+step-creating steps.EnableUnipro t h = absurd cc
+step-creating steps.Activate t h = absurd cc
+step-creating steps.GiveDevice t h = absurd cc
+step-creating steps.CreateRoute t h = absurd cc
+step-creating steps.AskVersion t h = absurd cc
+step-creating steps.AskSize t h = absurd cc
+step-creating steps.AskManifest t h = absurd cc
+step-creating steps.TellConnected t h = absurd cc
+step-creating steps.TellDisconnecting t h = absurd cc
+step-creating steps.TellDisconnected t h = absurd cc
+step-creating steps.DestroyConnection t h = absurd cc
+
+pub creating-for : (step : SequenceStep) → is_creating step ≡ true
+    → is_for_connection step ≡ true
+creating-for steps.CreateControl h = refl
+creating-for steps.CreateConnection h = refl
+creating-for steps.DestroyConnection h = refl
+creating-for steps.EnableVsys h = absurd cc
+creating-for steps.EnableRefclk h = absurd cc
+creating-for steps.EnableUnipro h = absurd cc
+creating-for steps.Activate h = absurd cc
+creating-for steps.GiveDevice h = absurd cc
+creating-for steps.CreateRoute h = absurd cc
+creating-for steps.AskVersion h = absurd cc
+creating-for steps.AskSize h = absurd cc
+creating-for steps.AskManifest h = absurd cc
+creating-for steps.TellConnected h = absurd cc
+creating-for steps.TellDisconnecting h = absurd cc
+creating-for steps.TellDisconnected h = absurd cc
+
+-- a number of two bytes reads back, with what is behind it
+reads-back : (c : ℕ) (rest : List ℕ) → c ≤ 4095 → little_number 2 (le16 c ++ rest) ≡ c
+reads-back c rest low = little_number-reads_back 2 c rest (omega (arith, low))
+
+-- what it asks for is the connection of its target
+pub step-creates : (step : SequenceStep) (t : Target) → t.ap ≤ 4095 → t.cport ≤ 4095
+    → CreatesAt t.ap t.intf t.cport (read_svc_ask (kind_of step) (payload_of step t))
+step-creates steps.CreateControl t low small = (
+  refl,
+  reads-back t.ap (t.intf ∷ le16 t.cport ++ 0 ∷ 0 ∷ []) low,
+  omega arith,
+  reads-back t.cport (0 ∷ 0 ∷ []) small,
+)
+step-creates steps.CreateConnection t low small = (
+  refl,
+  reads-back t.ap (t.intf ∷ le16 t.cport ++ 0 ∷ 0 ∷ []) low,
+  omega arith,
+  reads-back t.cport (0 ∷ 0 ∷ []) small,
+)
+step-creates steps.DestroyConnection t low small = tt
+step-creates steps.EnableVsys t low small = tt
+step-creates steps.EnableRefclk t low small = tt
+step-creates steps.EnableUnipro t low small = tt
+step-creates steps.Activate t low small = tt
+step-creates steps.GiveDevice t low small = tt
+step-creates steps.CreateRoute t low small = tt
+step-creates steps.AskVersion t low small = tt
+step-creates steps.AskSize t low small = tt
+step-creates steps.AskManifest t low small = tt
+step-creates steps.TellConnected t low small = tt
+step-creates steps.TellDisconnecting t low small = tt
+step-creates steps.TellDisconnected t low small = tt
+
+-- so is what is asked for a connection that is to be made
+pub made-creates : (w : Making) (q : Asking) → IsMade w q → w.ap ≤ 4095 → w.cport ≤ 4095
+    → CreatesAt w.ap w.intf w.cport (read_svc_ask q.kind q.payload)
+made-creates w q f low small =
+    let ap_low = f.ap in
+    let cport_low = f.cport in
+    subst (λ k. CreatesAt w.ap w.intf w.cport (read_svc_ask k q.payload)) (sym f.kind)
+    (subst (λ p. CreatesAt w.ap w.intf w.cport (read_svc_ask (kind_of q.purpose.step) p))
+    (sym f.payload)
+    (subst (λ a. CreatesAt a w.intf w.cport (read_svc_ask (kind_of q.purpose.step)
+    (payload_of q.purpose.step f.target))) f.ap
+    (subst (λ i. CreatesAt f.target.ap i w.cport (read_svc_ask (kind_of q.purpose.step)
+    (payload_of q.purpose.step f.target))) f.intf
+    (subst (λ c. CreatesAt f.target.ap f.target.intf c (read_svc_ask (kind_of q.purpose.step)
+    (payload_of q.purpose.step f.target))) f.cport
+    (step-creates q.purpose.step f.target (omega (arith, low, ap_low))
+    (omega (arith, small, cport_low)))))))

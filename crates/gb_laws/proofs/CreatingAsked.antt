@@ -1,0 +1,216 @@
+-- What is known of the requests that create connections stays where a sequence comes to wait for a
+-- request.
+use Rattle.std.proofs.Common.{
+  Bool,
+  List,
+  None,
+  Option,
+  Some,
+  [],
+  ap,
+  cond,
+  false,
+  inl,
+  inr,
+  refl,
+  subst,
+  sym,
+  true,
+  ℕ,
+  ⊎_elim,
+  ◌∙◌,
+  ◌∷◌,
+  ◌≡◌,
+  ◌⊎◌,
+}
+use Rattle.std.specs.Prelude.{option_map}
+use Rattle.gb_base.specs.declared.peers.Link.{Link}
+use Rattle.gb_base.specs.declared.steps.SequenceStep.{SequenceStep}
+use Rattle.gb_formats.specs.SvcRecords.{read_svc_ask}
+use Rattle.gb_invariants.proofs.Awaiting.{same-some}
+use Rattle.gb_invariants.proofs.Lists.{found-in, in-behind, in-front, in-pushed}
+use Rattle.gb_laws.proofs.Creating.{
+  CreatesAt,
+  creates-nothing,
+  creates_one,
+  creating-for,
+  is_create,
+  is_creating,
+  step-creating,
+}
+use Rattle.gb_laws.proofs.CreatingFacts.{CreatesFit, IsPrepared, at-same}
+use Rattle.gb_laws.proofs.LinkActs.{awaits-fits}
+use Rattle.gb_laws.proofs.LinkHosts.{same-link}
+use Rattle.gb_laws.proofs.LinkLists.{find-changed, one-link}
+use Rattle.gb_laws.proofs.LinkSources.{from-waiting}
+use Rattle.gb_laws.proofs.Links.{HostFits, IsDue, IsFormed, SameLink}
+use Rattle.gb_laws.proofs.Pairs.{IsAskedAs}
+use Rattle.gb_laws.proofs.PairsAsked.{pairs_then}
+use Rattle.gb_machine.specs.Bus.{Bus, Request, request_of}
+use Rattle.gb_machine.specs.Host.{Host, is_link, link_at, with_interface, with_link}
+use Rattle.gb_machine.specs.Lists.{nth}
+use Rattle.gb_machine.specs.Members.{IsIn}
+use Rattle.gb_machine.specs.SequenceSteps.{is_enumeration, is_for_connection, kind_of}
+use Rattle.gb_machine.specs.Turns.{Asking}
+use Rattle.gb_machine.specs.Waits.{awaits}
+
+-- ---- what is remembered then
+
+in-then : (t : Bool) (o : Option Link) (n : ℕ) (pairs : List (ℕ × ℕ)) (p : ℕ × ℕ) → IsIn p pairs
+    → IsIn p (pairs_then t o n pairs)
+in-then true (Some l) n pairs p i = in-front p pairs ((n, l.connection) ∷ []) i
+in-then true None n pairs p i = i
+in-then false o n pairs p i = i
+
+in-last : (t : Bool) (o : Option Link) (n : ℕ) (pairs : List (ℕ × ℕ)) (l : Link) → t ≡ true
+    → o ≡ Some l → IsIn (n, l.connection) (pairs_then t o n pairs)
+in-last t o n pairs l e f =
+    subst (λ u. IsIn (n, l.connection) (pairs_then u o n pairs)) (sym e)
+    (subst (λ x. IsIn (n, l.connection) (pairs_then true x n pairs)) (sym f)
+    (in-behind (n, l.connection) pairs ((n, l.connection) ∷ []) (inl refl)))
+
+-- a pair was remembered before, or is the new one
+record IsNewPair (o : Option Link) (n j k : ℕ) : Type 0 where
+  link : Link
+  is : o ≡ Some link
+  number : j ≡ n
+  on : k ≡ link.connection
+
+out-then : (t : Bool) (o : Option Link) (n : ℕ) (pairs : List (ℕ × ℕ)) (j k : ℕ)
+    → IsIn (j, k) (pairs_then t o n pairs) → IsIn (j, k) pairs ⊎ IsNewPair o n j k
+out-then true (Some l) n pairs j k i = ⊎_elim (λ old. inl old)
+    (λ e. inr (record {
+      link = l;
+      is = refl;
+      number = ap (λ (p : ℕ × ℕ). p.0) e;
+      on = ap (λ (p : ℕ × ℕ). p.1) e;
+    })) (in-pushed (j, k) pairs (n, l.connection) i)
+out-then true None n pairs j k i = inl i
+out-then false o n pairs j k i = inl i
+
+-- the connection of a purpose is found still
+found-then : (i c : ℕ) (w : ℕ × SequenceStep) (h : Host) (l : Link) → link_at i c h ≡ Some l
+    → (t : Bool) → (k : Link)
+    × (link_at i c (cond t (with_interface i (λ x. record x { awaits = Some w }) h)
+    (with_link i c (λ y. record y { awaits = Some w }) h)) ≡ Some k) × SameLink l k
+found-then i c w h l e true = (l, e, same-link l)
+found-then i c w h l e false = (
+  record l { awaits = Some w },
+  find-changed (is_link i c) (λ (y : Link). record y { awaits = Some w }) h.links (λ y. refl)
+      ∙ ap (option_map (λ (y : Link). record y { awaits = Some w })) e,
+  record { connection = refl; ap = refl; intf = refl; cport = refl; protocol = refl },
+)
+
+-- ---- a sequence waits
+
+module _ (b : Bus) (h : Host) (pairs : List (ℕ × ℕ)) (q : Asking) (n : ℕ) (fits : HostFits b h)
+    (due : IsDue q.purpose.step q.purpose h) (formed : IsFormed q) (asked : IsAskedAs q n b pairs)
+    (ready : is_creating q.purpose.step ≡ true → IsPrepared h pairs q)
+    (f : CreatesFit b.requests h.links pairs (Some (q, n))) where
+  abbrev then : Host
+  then = awaits q.purpose n h
+
+  abbrev at : Option Link
+  at = link_at q.purpose.intf q.purpose.cport (awaits q.purpose n h)
+
+  -- what it asked is what was to be asked
+  same-record : (j : ℕ) (r : Request) → nth j b.requests ≡ Some r → j ≡ n
+      → read_svc_ask r.kind r.payload ≡ read_svc_ask q.kind q.payload
+  same-record j r made e =
+      let same = same-some r asked.request
+      (sym made ∙ ap (λ k. request_of k b) e ∙ asked.made) in
+      ap (λ k. read_svc_ask k r.payload) (ap (λ (x : Request). x.kind) same ∙ asked.kind)
+      ∙ ap (read_svc_ask q.kind) (ap (λ (x : Request). x.payload) same ∙ asked.payload)
+
+  -- where it creates a connection, that was prepared
+  prepared : is_create (read_svc_ask q.kind q.payload) ≡ true → IsPrepared h pairs q
+  prepared is = ready (step-creating q.purpose.step formed.target
+      (ap (λ p. is_create (read_svc_ask (kind_of q.purpose.step) p)) (sym formed.payload)
+      ∙ ap (λ k. is_create (read_svc_ask k q.payload)) (sym formed.kind) ∙ is))
+
+  creating : is_create (read_svc_ask q.kind q.payload) ≡ true
+      → is_for_connection q.purpose.step ≡ true
+  creating is = creating-for q.purpose.step (step-creating q.purpose.step formed.target
+      (ap (λ p. is_create (read_svc_ask (kind_of q.purpose.step) p)) (sym formed.payload)
+      ∙ ap (λ k. is_create (read_svc_ask k q.payload)) (sym formed.kind) ∙ is))
+
+  -- and is found
+  found : (is : is_create (read_svc_ask q.kind q.payload) ≡ true)
+      → (k : Link) × (at ≡ Some k) × SameLink (prepared is).link k
+  found is = found-then q.purpose.intf q.purpose.cport (n, q.purpose.step) h (prepared is).link
+      (prepared is).found (is_enumeration q.purpose.step)
+
+  same-found : (is : is_create (read_svc_ask q.kind q.payload) ≡ true) (l : Link) → at ≡ Some l
+      → SameLink (prepared is).link l
+  same-found is l e =
+      let k = found is in
+      subst (SameLink (prepared is).link) (same-some k.0 l (sym k.1 ∙ e)) k.2
+
+  -- nothing was remembered of it
+  alone : (j k : ℕ) (r s : Request) → IsNewPair at n j k → nth j b.requests ≡ Some r
+      → creates_one r ≡ true → (i : ℕ) → IsIn (i, k) pairs → ⊥
+  alone j k r s new made is i old =
+      let create = ap is_create (sym (same-record j r made new.number)) ∙ is in
+      (prepared create).none i (subst (λ x. IsIn (i, x) pairs)
+      (new.on ∙ (same-found create new.link new.is).connection) old)
+
+  pub creates-asked : CreatesFit b.requests then.links
+      (pairs_then (is_for_connection q.purpose.step) at n pairs) None
+  creates-asked = record {
+    own = λ j r made on by_ap is. inr (⊎_elim
+        (λ a. here j r made is (sym (ap (λ (w : Asking × ℕ). w.1)
+        (same-some (q, n) (a.0, j) a.1))))
+        (λ p. (
+          p.0,
+          in-then (is_for_connection q.purpose.step) at n pairs (j, p.0) p.1,
+        )) (f.own j r made on by_ap is));
+    ends = λ j l r live p made. ⊎_elim (λ old. before j l r live made old)
+        (λ new. last l r live new (same-record j r made new.number) (creates_one r) refl)
+        (out-then (is_for_connection q.purpose.step) at n pairs j l.connection p);
+    one = λ i j k r s p o made_i made_j is_i is_j. ⊎_elim
+        (λ old. ⊎_elim (λ old2. f.one i j k r s old old2 made_i made_j is_i is_j)
+        (λ new2. absurd (alone j k s r new2 made_j is_j i old))
+        (out-then (is_for_connection q.purpose.step) at n pairs j k o))
+        (λ new. ⊎_elim (λ old2. absurd (alone i k r s new made_i is_i j old2))
+        (λ new2. new.number ∙ sym new2.number)
+        (out-then (is_for_connection q.purpose.step) at n pairs j k o))
+        (out-then (is_for_connection q.purpose.step) at n pairs i k p);
+  }
+    where
+      here : (j : ℕ) (r : Request) → nth j b.requests ≡ Some r → creates_one r ≡ true → j ≡ n
+          → (k : ℕ)
+          × IsIn (j, k) (pairs_then (is_for_connection q.purpose.step) at n pairs)
+      here j r made is e =
+          let create = ap is_create (sym (same-record j r made e)) ∙ is in
+          let k = found create in (
+            k.0.connection,
+            subst (λ x. IsIn (x, k.0.connection)
+                (pairs_then (is_for_connection q.purpose.step) at n pairs)) (sym e)
+                (in-last (is_for_connection q.purpose.step) at n pairs k.0 (creating create) k.1),
+          )
+
+      before : (j : ℕ) (l : Link) (r : Request) → IsIn l then.links → nth j b.requests ≡ Some r
+          → IsIn (j, l.connection) pairs
+          → CreatesAt l.ap l.intf l.cport (read_svc_ask r.kind r.payload)
+      before j l r live made p =
+          let x = (from-waiting (Some (n, q.purpose.step)) q.purpose h l live).from in
+          at-same x.link l x.same (read_svc_ask r.kind r.payload) (f.ends j x.link r x.live
+          (subst (λ k. IsIn (j, k) pairs) x.same.connection p) made)
+
+      last : {j : ℕ} (l : Link) (r : Request) → IsIn l then.links
+          → IsNewPair at n j l.connection
+          → read_svc_ask r.kind r.payload ≡ read_svc_ask q.kind q.payload
+          → (t : Bool) → creates_one r ≡ t
+          → CreatesAt l.ap l.intf l.cport (read_svc_ask r.kind r.payload)
+      last l r live new same false e =
+          creates-nothing l.ap l.intf l.cport (read_svc_ask r.kind r.payload) e
+      last l r live new same true e =
+          let create = ap is_create (sym same) ∙ e in
+          let rise = (awaits-fits b q.purpose n h fits due).0.links.rise in
+          let i = found-in (is_link q.purpose.intf q.purpose.cport) then.links new.link new.is in
+          let is = one-link then.links l new.link rise live i.0 new.on in
+          subst (λ (y : Link). CreatesAt y.ap y.intf y.cport (read_svc_ask r.kind r.payload))
+          (sym is)
+          (subst (CreatesAt new.link.ap new.link.intf new.link.cport) (sym same)
+          (at-same (prepared create).link new.link (same-found create new.link new.is)
+          (read_svc_ask q.kind q.payload) (prepared create).ends))
