@@ -117,7 +117,7 @@ abbrev overdue : (m : Moment) (k : ℕ) → ActLaw m
 overdue m k = record { holds = λ a. IsOverdue m k a.state; kept = overdue-kept m k }
 
 -- another request stays overdue where one is given up
-pub overdue-after : (m : Moment) (n k : ℕ) (s : State) → n < k → IsOverdue m k s → IsOverdue m k (gives_up outcome.Timeout n s).state
+overdue-after : (m : Moment) (n k : ℕ) (s : State) → n < k → IsOverdue m k s → IsOverdue m k (gives_up outcome.Timeout n s).state
 unfolding machine_opened
 overdue-after m n k s less h =
     goes-notices m (overdue m k) (HostEvent.Ended n outcome.Timeout) (record s { bus = gave_up n outcome.Timeout s.bus }) (λ r p e. absurd cc) tt []

@@ -1,14 +1,13 @@
 //! Time that passes, and requests whose deadline comes.
 
-ghost use Rattle.std.specs.Prelude.{◌≡◌, ◌+◌, [], true, IfOk, OnOk};
+ghost use Rattle.std.specs.Prelude.{◌≡◌, ◌+◌, [], IfOk, OnOk};
 ghost use Rattle.gb_base.specs.declared.event.Event.TheVariants as event;
 ghost use Rattle.gb_base.specs.declared.outcome.Outcome.TheVariants as outcome;
-ghost use Rattle.gb_machine.specs.Bus.{is_open};
 ghost use Rattle.gb_machine.specs.GivingUp.{gives_up};
 ghost use Rattle.gb_machine.specs.State.{State};
 ghost use Rattle.gb_system.specs.Doing.{Does};
-ghost use Rattle.gb_system.specs.Ticking.{MayTimeOut};
 ghost use Rattle.gb_system.specs.Stands.{PartiesStand, PartsStand, PartsStep};
+ghost use Rattle.gb_system.specs.Ticking.{MayTimeOut};
 
 use crate::entries::begun;
 use crate::parties::Parties;
