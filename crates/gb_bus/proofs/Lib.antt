@@ -1,6 +1,7 @@
 pub mod Cancels
 pub mod Changing
 pub mod Closing
+pub mod Counted
 pub mod Delivers
 pub mod Endings
 pub mod Finding

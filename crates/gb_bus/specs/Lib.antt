@@ -1,4 +1,5 @@
 pub mod Cancelling
+pub mod Counting
 pub mod Delivering
 pub mod Ends
 pub mod Moving

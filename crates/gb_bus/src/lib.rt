@@ -8,6 +8,7 @@ mod connections;
 mod ends;
 mod queue;
 mod slots;
+mod tally;
 mod telling;
 #[cfg(test)]
 mod tests;
@@ -15,4 +16,5 @@ mod wiring;
 
 pub use answers::{AlreadyEnded, Arrival, Arrived, Asked, DeliverFault, SendFault, Sent};
 pub use bus::Bus;
+pub use tally::Tally;
 pub use telling::{Known, Waiting};

@@ -2,8 +2,10 @@
 
 ghost use Rattle.std.specs.Prelude.{◌≡◌, ◌+◌, [], ◌∷◌, ◌++◌, length, map, IfOk, OnOk, option_copied};
 ghost use Rattle.gb_machine.specs.Lists.{nth};
+ghost use Rattle.gb_bus.specs.Counting.{counted_on, no_requests};
 ghost use Rattle.gb_bus.specs.Slots.{at_number, is_due, is_open_on, open_in, over, with_outcome};
 
+use crate::Tally;
 use gb_base::{Numbers, OutOfMemory, Outcome, Side};
 use std::alloc::Global;
 use std::marker::Model;
@@ -132,6 +134,17 @@ impl Slots {
         ensures { result ≡ length self.now }
     {
         self.slots.len() as u64
+    }
+
+    /// How many requests were made, and how these stand.
+    pub fn tally(&self) -> Tally
+        ensures { result ≡ counted_on no_requests self.now }
+    {
+        let mut tally = Tally::none();
+        for slot in self.slots.iter() {
+            tally.add(&slot.outcome);
+        }
+        tally
     }
 
     /// The open requests of a side of a connection end as disconnected.

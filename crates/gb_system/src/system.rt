@@ -2,12 +2,14 @@
 
 ghost use Rattle.std.specs.Prelude.{◌≡◌, ◌+◌, ◌<◌, if◌then◌else◌, true, false};
 ghost use Rattle.std.specs.Prelude.{IfOk, is_ok, is_err};
+ghost use Rattle.gb_bus.specs.Counting.{Tells};
 ghost use Rattle.gb_formats.specs.Built.{is_built};
 ghost use Rattle.gb_formats.specs.ValidEvents.{IsValid};
 ghost use Rattle.gb_machine.specs.State.{State, first_state};
 
 use crate::parties::Parties;
 use gb_base::{Entries, Event, OutOfMemory};
+use gb_bus::Tally;
 use std::alloc::Global;
 
 /// The application processor, the supervisory controller, the modules and the bus between them.
@@ -66,5 +68,12 @@ impl System {
         ensures { result ≡ taken_of self.now }
     {
         self.taken
+    }
+
+    /// How many requests were made by both sides, and how these stand.
+    pub fn tally(&self) -> Tally
+        ensures { (s : State) → Stands self.now s → Tells result s.bus }
+    {
+        self.parties.bus.tally()
     }
 }
