@@ -30,3 +30,4 @@ pub use fault::LineFault;
 pub use lines::first_line;
 pub use made_script::{MADE_LINES, made};
 pub use read::event;
+pub use values::number_word;

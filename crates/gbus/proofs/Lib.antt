@@ -1,3 +1,4 @@
+pub mod Driving
 pub mod EndedLines
 pub mod Fronts
 pub mod Limits

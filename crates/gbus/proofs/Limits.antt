@@ -12,7 +12,7 @@ use Rattle.gb_formats.specs.Manifest.{check_answer}
 use Rattle.gb_machine.specs.Report.{has_bad_line, report}
 use Rattle.gbus.specs.Answers.{is_long, script_in, status_for, text_for}
 use Rattle.gbus.specs.Manifests.{manifest_text, manifest_verdict}
-use Rattle.gbus.specs.Program.{Check, Job, Run, ended_lines, is_too_long, longest_input, output, script_status, script_within, verdict}
+use Rattle.gbus.specs.Program.{Check, Drive, Job, Run, ended_lines, is_too_long, longest_input, output, script_status, script_within, verdict}
 use Rattle.gbus.specs.Reading.{IsLong, IsRead, IsWhole}
 use Rattle.gbus.specs.declared.input.Input.{Input}
 use Rattle.gbus.specs.declared.input.Input.TheVariants as input
@@ -78,6 +78,7 @@ script_is (input.TooLong front) text h =
 -- What is written for an input is the output of its bytes.
 pub text_is : (j : Job) (i : Input) (text : List ℕ) → IsRead i text → output j text ≡ text_for j i
 text_is (Run hex) i text h = ap (report is_built hex) (script_is i text h)
+text_is (Drive seed) i text h = refl
 text_is (Check dump) (input.Whole bytes) text h =
     ap (λ b. cond b [] (manifest_text dump (check_answer text))) (long_is (input.Whole bytes) text h)
     ∙ ap (λ t. manifest_text dump (check_answer t)) h.0
@@ -89,6 +90,7 @@ pub status_is : (j : Job) (i : Input) (text : List ℕ) → IsRead i text → ve
 status_is (Run hex) i text h =
     ap (λ s. script_status (has_bad_line is_built (lines s)) (is_too_long text)) (script_is i text h)
     ∙ ap (script_status (has_bad_line is_built (lines (script_in i)))) (long_is i text h)
+status_is (Drive seed) i text h = refl
 status_is (Check dump) (input.Whole bytes) text h =
     ap (λ b. cond b status.TooLong (manifest_verdict (check_answer text))) (long_is (input.Whole bytes) text h)
     ∙ ap (λ t. manifest_verdict (check_answer t)) h.0

@@ -6,8 +6,9 @@ use Rattle.gb_formats.specs.Built.{is_built}
 use Rattle.gb_formats.specs.Lines.{lines}
 use Rattle.gb_formats.specs.Manifest.{check_answer}
 use Rattle.gb_machine.specs.Report.{has_bad_line, report}
+use Rattle.gb_machine.specs.Summary.{summary}
 use Rattle.gbus.specs.Manifests.{manifest_text, manifest_verdict}
-use Rattle.gbus.specs.Program.{Check, Job, Run, ended_lines, script_status}
+use Rattle.gbus.specs.Program.{Check, Drive, Job, Run, ended_lines, script_status}
 use Rattle.gbus.specs.declared.input.Input.{Input}
 use Rattle.gbus.specs.declared.input.Input.TheVariants as input
 
@@ -35,8 +36,10 @@ checked_status (input.TooLong front) = status.TooLong
 abbrev pub text_for : Job → Input → List ℕ
 text_for (Run hex) i = report is_built hex (script_in i)
 text_for (Check dump) i = checked_text dump i
+text_for (Drive seed) i = summary seed
 
 -- How the program ends where all of it is written.
 abbrev pub status_for : Job → Input → Status
 status_for (Run hex) i = script_status (has_bad_line is_built (lines (script_in i))) (is_long i)
 status_for (Check dump) i = checked_status i
+status_for (Drive seed) i = status.Success

@@ -1,4 +1,5 @@
 pub mod Answers
+pub mod Driving
 pub mod Jobs
 pub mod Manifests
 pub mod Program

@@ -1,16 +1,18 @@
 //! What the program writes for an input, and how it ends.
 
-ghost use Rattle.std.specs.Prelude.{◌≡◌, ◌≤◌, IfOk, length};
-ghost use Rattle.gbus.specs.Answers.{checked_status, checked_text, status_for, text_for};
-ghost use Rattle.gbus.specs.Jobs.{job_seen};
-ghost use Rattle.gbus.specs.Program.{IsVerdict};
-ghost use Rattle.gbus.specs.Reading.{kept_of};
+ghost use Rattle.std.specs.Prelude.{◌≡◌, ◌≤◌, Some, IfOk, true, false};
+ghost use Rattle.std.specs.Io.KnownBytes.{IsAtEnd};
+ghost use Rattle.gbus.specs.Answers.{checked_status, checked_text};
+ghost use Rattle.gbus.specs.Jobs.{job_seen, seed_of};
+ghost use Rattle.gbus.specs.Program.{IsVerdict, reads};
+ghost use Rattle.gbus.specs.Runs.{FailsAs, IsAnswerOf};
 
-use crate::input::Input;
+use crate::drive::drive;
+use crate::input::{Input, ReadStop, read_all};
 use crate::manifests::manifest_answer;
 use crate::script::script_answer;
 use crate::words::Job;
-use gb_base::{OutOfMemory, Status, Text};
+use gb_base::{OutOfMemory, Source, Status, Text};
 use std::alloc::Global;
 
 /// What is written, and how the program ends where all of it is.
@@ -22,15 +24,36 @@ pub struct Answer {
     pub status: Status,
 }
 
-/// What is written for an input.
-pub fn answer_for(alloc: Global, job: Job, input: &Input) -> Result<Answer, OutOfMemory>
-    requires { length (kept_of input.now) ≤ 1048576 }
-    ensures text { IfOk result (λ a. a.text ≡ text_for (job_seen job) input.now) }
-    ensures status { IfOk result (λ a. a.status ≡ status_for (job_seen job) input.now) }
+/// What is written for a job. The source is read to its end, or until too many bytes came, where
+/// the job is one that reads.
+pub fn answer_for<S: Source>(
+    alloc: Global,
+    job: Job,
+    source: &mut S,
+) -> Result<Answer, ReadStop>
+    requires { seed_of job ≤ 2147483647 }
+    ensures answer { IfOk result (IsAnswerOf (job_seen job) (S.left source.old)) }
+    ensures verdict { IfOk result (λ a. IsVerdict a.status) }
+    ensures at_end { reads (Some (job_seen job)) ≡ true
+        → IfOk result (λ a. a.status ≡ Status.Success → IsAtEnd (S.left source.new)) }
+    ensures kept { reads (Some (job_seen job)) ≡ false → source.new ≡ source.old }
+    ensures fault { FailsAs (S.faults source.old) (S.faults source.new) result }
 {
     match job {
-        Job::Run { hex } => script_answer(alloc, input, hex),
-        Job::Check { dump } => checked(alloc, input, dump),
+        Job::Run { hex } => {
+            let input = read_all(alloc, source)?;
+            let answer = script_answer(alloc, &input, hex)?;
+            Ok(answer)
+        }
+        Job::Check { dump } => {
+            let input = read_all(alloc, source)?;
+            let answer = checked(alloc, &input, dump)?;
+            Ok(answer)
+        }
+        Job::Drive { seed } => {
+            let answer = drive(alloc, seed)?;
+            Ok(answer)
+        }
     }
 }
 

@@ -52,6 +52,17 @@ impl From<AllocError> for ReadStop {
     }
 }
 
+impl From<OutOfMemory> for ReadStop {
+    ghost use Rattle.std.specs.Prelude.{◌≡◌};
+    ghost use Rattle.gbus.specs.declared.input.ReadStop.TheVariants as stop;
+
+    ghost from_gives = { λ refused e. e ≡ stop.Memory refused };
+
+    fn from(refused: OutOfMemory) -> ReadStop {
+        ReadStop::Memory(refused)
+    }
+}
+
 /// Reads to the end of the source, or until more bytes came than an input may have.
 pub fn read_all<S: Source>(alloc: Global, source: &mut S) -> Result<Input, ReadStop>
     ensures bytes { ReadsAll (S.left source.old) (S.left source.new) (S.faults source.old)

@@ -2,6 +2,7 @@
 #![tactic(auto)]
 
 mod answer;
+mod drive;
 mod input;
 #[cfg(test)]
 mod manifest_tests;

@@ -1,21 +1,22 @@
 //! The program as a function from words, a source and a sink to a status.
 
-ghost use Rattle.std.specs.Prelude.{◌≡◌, ◌↔◌, None, map};
+ghost use Rattle.std.specs.Prelude.{◌≡◌, ◌↔◌, None, map, true, false};
 ghost use Rattle.std.specs.String.{string_bytes};
 ghost use Rattle.std.specs.Io.KnownBytes.{IsAtEnd};
 ghost use Rattle.gb_base.specs.Faults.{Rose};
-ghost use Rattle.gbus.specs.Program.{IsVerdict, job_of};
+ghost use Rattle.gbus.specs.Program.{IsVerdict, job_of, reads};
 ghost use Rattle.gbus.specs.Runs.{IsAnswered, IsComplete, IsOfRun, IsWithin};
 
 use crate::answer::answer_for;
-use crate::input::{ReadStop, read_all};
+use crate::input::ReadStop;
 use crate::output::write_all;
 use crate::words::job_of;
 use gb_base::{Gate, Sink, Source, Status, WriteStop};
 use std::alloc::Global;
 use std::thread::Threads;
 
-/// Runs the program: reads the source, does what the words ask for, and writes to the sink.
+/// Runs the program: reads the source where the words ask for something of it, does what they ask
+/// for, and writes to the sink.
 ///
 /// `gate` is what requesters call before each line that they run in a thread of their own.
 pub fn run<R: Threads + Sync, S: Source, K: Sink, G: Gate>(
@@ -34,7 +35,11 @@ pub fn run<R: Threads + Sync, S: Source, K: Sink, G: Gate>(
     // Success, Refused and TooLong are the verdict on the input, and the whole output was written.
     ensures answered { IsVerdict result → IsAnswered (job_of (map string_bytes words.now))
         (S.left source.old) (K.taken sink.old) (K.taken sink.new) result }
-    ensures at_end { result ≡ Status.Success → IsAtEnd (S.left source.new) }
+    ensures at_end { reads (job_of (map string_bytes words.now)) ≡ true
+        → result ≡ Status.Success → IsAtEnd (S.left source.new) }
+
+    // Nothing is read where the words ask for nothing of the input.
+    ensures kept { reads (job_of (map string_bytes words.now)) ≡ false → source.new ≡ source.old }
 
     // Whatever the status is, nothing but a front of the output was written.
     ensures prefix { IsWithin (job_of (map string_bytes words.now)) (S.left source.old)
@@ -50,19 +55,16 @@ pub fn run<R: Threads + Sync, S: Source, K: Sink, G: Gate>(
         (S.faults source.old) (S.faults source.new) (K.faults sink.old) (K.faults sink.new) result }
 
     // The report of a script is the text of the trace of its events, a run of valid ones, so that
-    // each law of runs speaks of it.
+    // each law of runs speaks of it. So it is of the summary of a made script.
     ensures traced { IsOfRun (job_of (map string_bytes words.now)) (S.left source.old) }
 {
     let Some(job) = job_of(words) else {
         return Status::Usage;
     };
-    let input = match read_all(alloc, source) {
-        Ok(input) => input,
+    let answer = match answer_for(alloc, job, source) {
+        Ok(answer) => answer,
         Err(ReadStop::Failed) => return Status::ReadFault,
         Err(ReadStop::Memory(_)) => return Status::NoMemory,
-    };
-    let Ok(answer) = answer_for(alloc, job, &input) else {
-        return Status::NoMemory;
     };
     match write_all(sink, answer.text.items()) {
         Ok(()) => answer.status,

@@ -1,0 +1,122 @@
+//! Runs the script that is made from a number.
+
+ghost use Rattle.std.specs.Prelude.{◌≡◌, ◌+◌, ◌<◌, ◌≤◌, true, IfOk, OnOk};
+ghost use Rattle.gb_formats.specs.Built.{is_built};
+ghost use Rattle.gb_formats.specs.ValidEvents.{IsValid};
+ghost use Rattle.gb_machine.specs.Events.{trace};
+ghost use Rattle.gb_machine.specs.State.{State, first_state};
+ghost use Rattle.gb_machine.specs.Summary.{counts, counts_at, is_refused, made_events, summary};
+ghost use Rattle.gb_report.specs.Counted.{counts_of};
+ghost use Rattle.gb_system.specs.Stands.{taken_of};
+
+use crate::answer::Answer;
+use gb_base::{Entries, Entry, Event, OutOfMemory, Status, Text};
+use gb_bus::Tally;
+use gb_report::{Counts, put_summary};
+use gb_script::{MADE_LINES, made};
+use gb_system::System;
+use std::alloc::Global;
+
+/// The system that a made script has brought about.
+#[derive(Drop)]
+pub struct Driven {
+    system: System,
+    /// How many events were refused.
+    refused: u64,
+}
+
+impl Driven {
+    ghost use Rattle.gb_system.specs.Stands as system;
+    ghost use Rattle.gbus.specs.Driving.{GoesAs};
+
+    /// Before the first event.
+    fn new(alloc: Global) -> Result<Driven, OutOfMemory>
+        ensures stands { IfOk result (λ x. system.Stands x.system first_state) }
+        ensures taken { IfOk result (λ x. taken_of x.system ≡ 0) }
+        ensures refused { IfOk result (λ x. x.refused ≡ 0) }
+    {
+        Ok(Driven {
+            system: System::new(alloc)?,
+            refused: 0,
+        })
+    }
+
+    /// Steps the next event.
+    fn take(&mut self, e: &Event) -> Result<(), OutOfMemory>
+        requires built { is_built e.now ≡ true }
+        requires valid { IsValid e.now }
+        requires room { taken_of self.old.system < 4294967295 }
+        requires few { self.old.refused ≤ taken_of self.old.system }
+        ensures goes { (s : State) → system.Stands self.old.system s
+            → GoesAs self.old self.new s e.now result }
+        ensures taken { OnOk result (taken_of self.new.system ≡ taken_of self.old.system + 1) }
+        ensures few { OnOk result (self.new.refused ≤ self.old.refused + 1) }
+    {
+        let entries = self.system.step(e)?;
+        if is_refused(&entries) {
+            self.refused += 1;
+        }
+        Ok(())
+    }
+
+    /// How many events were refused, and how the requests stand.
+    fn counts(&self) -> Counts
+        ensures { (s : State) → system.Stands self.now.system s
+            → counts_of result ≡ counts_at self.now.refused s.bus }
+    {
+        let Tally {
+            requests,
+            answered,
+            cancelled,
+            timeout,
+            disconnected,
+            sent,
+            left_open,
+        } = self.system.tally();
+        Counts {
+            refused: self.refused,
+            requests,
+            answered,
+            cancelled,
+            timeout,
+            disconnected,
+            sent,
+            left_open,
+        }
+    }
+}
+
+/// What is written for the script that is made from a number: its summary.
+pub fn drive(alloc: Global, seed: u32) -> Result<Answer, OutOfMemory>
+    requires { seed ≤ 2147483647 }
+    ensures text { IfOk result (λ a. a.text ≡ summary seed) }
+    ensures status { IfOk result (λ a. a.status ≡ Status.Success) }
+{
+    let counts = made_counts(alloc, seed)?;
+    let mut text = Text::new(alloc);
+    put_summary(alloc, u64::from(MADE_LINES), &counts, &mut text)?;
+    Ok(Answer {
+        text,
+        status: Status::Success,
+    })
+}
+
+/// The counts of the script that is made from a number.
+fn made_counts(alloc: Global, seed: u32) -> Result<Counts, OutOfMemory>
+    requires { seed ≤ 2147483647 }
+    ensures { IfOk result (λ c. counts_of c ≡ counts (trace (made_events seed))) }
+{
+    let mut driven = Driven::new(alloc)?;
+    for place in 0..MADE_LINES {
+        let event = made(alloc, seed, place + 1)?;
+        driven.take(&event)?;
+    }
+    Ok(driven.counts())
+}
+
+/// An event was refused, by what it brought about.
+fn is_refused(entries: &Entries) -> bool
+    ensures { result ≡ is_refused entries.now }
+{
+    matches!(entries.items().first(), Some(Entry::Refused { .. }))
+}
