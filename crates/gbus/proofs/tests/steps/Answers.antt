@@ -5,9 +5,9 @@ use Rattle.gb_formats.specs.Built.{is_built}
 use Rattle.gbus.proofs.tests.steps.Goals as goal
 
 pub step-requires-clause-built : goal.step-requires-clause-built
-step-requires-clause-built c =
+step-requires-clause-built g c =
     said-built is_built 0 c.args.line.now c.in-Ok-Some.e (c.in-Ok-Some.ensures ∙ ap Ok c.in-Ok-Some.field-0-is)
 
 pub step-requires-clause-valid : goal.step-requires-clause-valid
-step-requires-clause-valid c =
+step-requires-clause-valid g c =
     said-valid is_built 0 c.args.line.now c.in-Ok-Some.e (c.in-Ok-Some.ensures ∙ ap Ok c.in-Ok-Some.field-0-is)
