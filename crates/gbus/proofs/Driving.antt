@@ -1,14 +1,11 @@
 -- Running a made script comes to what the machine does.
-use Rattle.std.proofs.Common.{◌≡◌, ◌≤◌, ℕ, zero, suc, ◌+◌, ◌-◌, Bool, true, false, cond, Ok, List, [], ◌∷◌, refl, sym, subst, ap, ◌∙◌, arith}
+use Rattle.std.proofs.Common.{◌≡◌, ◌≤◌, ℕ, zero, suc, ◌+◌, ◌-◌, Bool, true, false, cond, List, refl, subst, ap, ◌∙◌, arith}
 use Rattle.std.specs.Prelude.{◌==◌, nat_le, if◌then◌else◌}
 use Rattle.gb_base.specs.declared.event.Event.{Event}
-use Rattle.gb_bus.specs.Counting.{Tells}
 use Rattle.gb_formats.proofs.MadeValid.{made-valid}
 use Rattle.gb_formats.specs.Built.{is_built}
 use Rattle.gb_formats.specs.Made.{last_named, made, made_by, made_intf, made_row, made_value}
-use Rattle.gb_formats.specs.ShowTexts.{Counts}
 use Rattle.gb_machine.specs.Actions.{Told}
-use Rattle.gb_machine.specs.Bus.{Bus}
 use Rattle.gb_machine.specs.Events.{last_state, step, trace, trace_from}
 use Rattle.gb_machine.specs.Runs.{AreValid}
 use Rattle.gb_machine.specs.State.{State, first_state}
@@ -49,9 +46,10 @@ made-built seed k =
 made_from-valid : (seed left k : ℕ) → 1 ≤ k → k + left ≤ 20025 → AreValid (made_from seed k left)
 unfolding made_from
 made_from-valid seed zero k low high = tt
-made_from-valid seed (suc left) k low high =
-    (made-valid seed k low (omega arith),
-    made_from-valid seed left (k + 1) (omega arith) (omega arith))
+made_from-valid seed (suc left) k low high = (
+  made-valid seed k low (omega arith),
+  made_from-valid seed left (k + 1) (omega arith) (omega arith),
+)
 
 -- The made script is a run of valid events.
 pub made_events-valid : (seed : ℕ) → AreValid (made_events seed)

@@ -1,5 +1,5 @@
 -- What was read of an input, and what is run and written of it.
-use Rattle.std.proofs.Common.{◌≡◌, ℕ, ◌<◌, ◌≤◌, Bool, true, false, cond, Option, Some, None, List, [], ◌++◌, length, take, append-nil, append_assoc, length-append, drop, length-drop, refl, sym, subst, ap, ◌∙◌, arith}
+use Rattle.std.proofs.Common.{◌≡◌, ℕ, ◌<◌, ◌≤◌, cond, Option, Some, None, List, [], ◌++◌, length, take, append-nil, append_assoc, length-append, drop, length-drop, refl, sym, subst, ap, ◌∙◌, arith}
 use Rattle.std.specs.Prelude.{IfSome}
 use Rattle.std.specs.Io.KnownBytes.{Consumes}
 use Rattle.std.proofs.lemmas.Bool.Decides.{nat_tests}

@@ -1,5 +1,5 @@
 -- What a run promises, by what was read, answered and written.
-use Rattle.std.proofs.Common.{◌≡◌, ℕ, Bool, true, false, Option, Some, None, Result, Ok, Err, List, refl, sym, subst, ◌∙◌, inl}
+use Rattle.std.proofs.Common.{◌≡◌, ℕ, Bool, true, false, Option, Some, None, Result, Ok, Err, List, sym, subst, ◌∙◌, inl}
 use Rattle.std.specs.Prelude.{IfSome}
 use Rattle.std.specs.Io.KnownBytes.{Appends, IsAtEnd}
 use Rattle.gb_base.specs.declared.status.Status.{Status}
@@ -10,7 +10,6 @@ use Rattle.gb_formats.specs.Manifest.{Manifest, check_answer}
 use Rattle.gb_formats.specs.ManifestRules.{Refused}
 use Rattle.gb_machine.proofs.ScriptRuns.{reports-traced}
 use Rattle.gb_machine.specs.Report.{has_bad_line}
-use Rattle.gb_machine.specs.Summary.{summary}
 use Rattle.gbus.proofs.Driving.{made_events-valid}
 use Rattle.gbus.proofs.Fronts.{none_taken}
 use Rattle.gbus.proofs.Limits.{status_is, text_is}
@@ -23,7 +22,6 @@ use Rattle.gbus.specs.Writing.{TakesFront}
 use Rattle.gbus.specs.declared.answer.Answer.{Answer}
 use Rattle.gbus.specs.declared.input.Input.{Input}
 use Rattle.gbus.specs.declared.input.Input.TheVariants as input
-use Rattle.gbus.specs.declared.input.ReadStop.{ReadStop}
 
 -- what follows for each input follows
 of-each : (j : Job) (left : Option (List ℕ)) (Now Then : List ℕ → Type 0)

@@ -1,6 +1,5 @@
 -- What running a made script comes to.
-use Rattle.std.specs.Prelude.{◌≡◌, ℕ, ◌+◌, Bool, if◌then◌else◌, Result, Ok, Err, ⊤, List}
-use Rattle.gb_base.specs.declared.entry.Entry.{Entry}
+use Rattle.std.specs.Prelude.{◌≡◌, ◌+◌, if◌then◌else◌, Result, Ok, Err, ⊤}
 use Rattle.gb_base.specs.declared.errors.OutOfMemory.{OutOfMemory}
 use Rattle.gb_base.specs.declared.event.Event.{Event}
 use Rattle.gb_machine.specs.Events.{step}

@@ -26,11 +26,7 @@ pub struct Answer {
 
 /// What is written for a job. The source is read to its end, or until too many bytes came, where
 /// the job is one that reads.
-pub fn answer_for<S: Source>(
-    alloc: Global,
-    job: Job,
-    source: &mut S,
-) -> Result<Answer, ReadStop>
+pub fn answer_for<S: Source>(alloc: Global, job: Job, source: &mut S) -> Result<Answer, ReadStop>
     requires { seed_of job ≤ 2147483647 }
     ensures answer { IfOk result (IsAnswerOf (job_seen job) (S.left source.old)) }
     ensures verdict { IfOk result (λ a. IsVerdict a.status) }

@@ -67,7 +67,15 @@ fn scripts_are_reported(rt: HostRuntime) -> Result<(), Fail> {
 
 #[test]
 fn other_words_are_none_of_the_programs(rt: HostRuntime) -> Result<(), Fail> {
-    let rows: [&[&str]; 4] = [&[], &["rum"], &["run", "--hey"], &["run", "--hex", "--hex"]];
+    let rows: [&[&str]; 7] = [
+        &[],
+        &["rum"],
+        &["run", "--hey"],
+        &["run", "--hex", "--hex"],
+        &["drive"],
+        &["drive", "01"],
+        &["drive", "2147483648"],
+    ];
     for words in rows {
         let mut source = PlainSource::new(Bytes::from_slice(rt.alloc(), PING)?);
         let mut sink = PlainSink::new(rt.alloc());

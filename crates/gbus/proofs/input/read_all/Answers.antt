@@ -1,5 +1,5 @@
 use Rattle.std.proofs.Common.{arith}
-use Rattle.gbus.proofs.Limits.{cut_long, long_read, whole_read}
+use Rattle.gbus.proofs.Limits.{cut_long, long_read}
 use Rattle.gbus.proofs.input.read_all.Goals as goal
 
 pub returns-clause-bytes : goal.returns-clause-bytes

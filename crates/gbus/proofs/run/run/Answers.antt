@@ -1,5 +1,5 @@
 -- What was read, answered and written, together.
-use Rattle.std.proofs.Common.{Some, option_map, sym, ap, ◌∙◌}
+use Rattle.std.proofs.Common.{option_map, sym, ap, ◌∙◌}
 use Rattle.gbus.proofs.Fronts.{all_taken}
 use Rattle.gbus.proofs.Runs.{answered, complete, no-read-fault, no-usage, no-write-fault, of_run, some-job, unwritten, within}
 use Rattle.gbus.proofs.run.run.Goals as goal
@@ -92,10 +92,11 @@ pub returns-in-Err-Memory-clause-prefix : goal.returns-in-Err-Memory-clause-pref
 returns-in-Err-Memory-clause-prefix g c = unwritten _ _ _
 
 pub returns-in-Ok-write_all-clause-usage : goal.returns-in-Ok-write_all-clause-usage
-returns-in-Ok-write_all-clause-usage g c =
-    ((λ e. absurd (no-usage c.in-Ok.answer.status c.in-Ok.ensures.verdict e)),
-    (λ none. absurd (some-job _ (job_seen c.in-Some.job)
-    (sym (ap (option_map job_seen) c.in-Some.is) ∙ c.job_of.ensures.job) none)))
+returns-in-Ok-write_all-clause-usage g c = (
+  (λ e. absurd (no-usage c.in-Ok.answer.status c.in-Ok.ensures.verdict e)),
+  (λ none. absurd (some-job _ (job_seen c.in-Some.job)
+      (sym (ap (option_map job_seen) c.in-Some.is) ∙ c.job_of.ensures.job) none)),
+)
 
 pub returns-in-Ok-write_all-clause-untouched : goal.returns-in-Ok-write_all-clause-untouched
 returns-in-Ok-write_all-clause-untouched g c = λ e.
