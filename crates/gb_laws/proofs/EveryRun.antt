@@ -7,6 +7,11 @@ use Rattle.gb_laws.proofs.Causes.{causes-at_moments}
 use Rattle.gb_laws.proofs.Ended.{ends-told_by_moments}
 use Rattle.gb_laws.proofs.Endpoints.{endpoints-by_moments}
 use Rattle.gb_laws.proofs.EnumRuns.{restarts-by_moments, served-by_moments}
+use Rattle.gb_laws.proofs.FarOpenRuns.{
+  module-open_by_moments,
+  module-seen,
+  unwired-open_by_moments,
+}
 use Rattle.gb_laws.proofs.Foreign.{own-items, takes-at_moments}
 use Rattle.gb_laws.proofs.Happened.{ends-seen, items-seen, told-seen}
 use Rattle.gb_laws.proofs.QuietBefore.{quiet-before_moments}
@@ -21,7 +26,11 @@ use Rattle.gb_laws.proofs.StaleRuns.{stale-low_by_moments}
 use Rattle.gb_laws.proofs.ToldRuns.{absent-open_by_moments, absent-seen}
 use Rattle.gb_laws.proofs.WiredOnceRuns.{own-request_at_moments, wired-once_by_moments}
 use Rattle.gb_laws.proofs.WiredRemembered.{wired-remembered}
-use Rattle.gb_laws.specs.OwnSide.{AbsentHasNoOpenOfAp}
+use Rattle.gb_laws.specs.OwnSide.{
+  AbsentHasNoOpenOfAp,
+  AbsentHasNoOpenOfModule,
+  UnwiredHasNoOpenOfFar,
+}
 use Rattle.gb_laws.specs.OwnWaits.{AwaitsOwnRequest, OnlyRestarts, ServedLeavesNone}
 use Rattle.gb_laws.specs.OwnWires.{WiredIsRemembered}
 use Rattle.gb_laws.proofs.OpenRuns.{open-live_by_moments}
@@ -131,6 +140,15 @@ open-live = of-all OpenIsLive (of-state _) open-live_by_moments
 -- open.
 pub absent-open : HoldsThroughout AbsentHasNoOpenOfAp
 absent-open = of-all AbsentHasNoOpenOfAp absent-seen absent-open_by_moments
+
+-- What isn't wired has no open request of its far side.
+pub unwired-open : HoldsThroughout UnwiredHasNoOpenOfFar
+unwired-open = of-all UnwiredHasNoOpenOfFar (of-state _) unwired-open_by_moments
+
+-- Where an interface is absent, an open request of a module is on a connection that was to be
+-- destroyed.
+pub module-open : HoldsThroughout AbsentHasNoOpenOfModule
+module-open = of-all AbsentHasNoOpenOfModule module-seen module-open_by_moments
 
 -- Which connections were ever wired is never forgotten.
 pub none-forgotten : HoldsAtEachMoment NoneForgotten

@@ -31,6 +31,9 @@ pub mod EnumRequests
 pub mod EnumRuns
 pub mod Enums
 pub mod EveryRun
+pub mod FarOpen
+pub mod FarOpenKept
+pub mod FarOpenRuns
 pub mod Foreign
 pub mod Framing
 pub mod Going

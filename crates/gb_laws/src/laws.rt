@@ -2,7 +2,11 @@
 //! are the events of the run with each settle taken apart into its deliveries.
 
 ghost use Rattle.gb_laws.specs.NoneLeft.{NoneLeftMeansAllInUse};
-ghost use Rattle.gb_laws.specs.OwnSide.{AbsentHasNoOpenOfAp};
+ghost use Rattle.gb_laws.specs.OwnSide.{
+  AbsentHasNoOpenOfAp,
+  AbsentHasNoOpenOfModule,
+  UnwiredHasNoOpenOfFar,
+};
 ghost use Rattle.gb_laws.specs.OwnWaits.{AwaitsOwnRequest, OnlyRestarts, ServedLeavesNone};
 ghost use Rattle.gb_laws.specs.OwnWires.{WiredIsRemembered};
 ghost use Rattle.gb_machine.specs.LawsBus.{
@@ -110,6 +114,17 @@ pub fn open_is_live()
 /// open.
 pub fn absent_has_no_open_of_ap()
     ensures { HoldsThroughout AbsentHasNoOpenOfAp }
+{}
+
+/// Nothing that a far side asked on a live connection is open where that isn't wired.
+pub fn unwired_has_no_open_of_far()
+    ensures { HoldsThroughout UnwiredHasNoOpenOfFar }
+{}
+
+/// Nothing that a module asked on a connection that named an absent interface is open, unless a
+/// request to destroy that connection was made.
+pub fn absent_has_no_open_of_module()
+    ensures { HoldsThroughout AbsentHasNoOpenOfModule }
 {}
 
 /// While MODULE_REMOVED of an interface waits toward the application processor, the power level of
