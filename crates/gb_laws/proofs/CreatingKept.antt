@@ -115,7 +115,7 @@ nothing-some e = absurd cc
 
 -- ---- who asks
 
-far-side : (m : Moment) (a : Point) (d : Draft) (c : _) → IsFarAsking m a.state c d
+pub far-side : (m : Moment) (a : Point) (d : Draft) (c : _) → IsFarAsking m a.state c d
     → d.side ≡ side.Ap → ⊥
 far-side m a d c (by_module i p peer far) e = apart (sym far ∙ e)
   where

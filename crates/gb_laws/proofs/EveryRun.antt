@@ -2,6 +2,7 @@
 use Rattle.gb_laws.proofs.Absent.{between-at_moments, unconnected-by_moments}
 use Rattle.gb_laws.proofs.AllRuns.{at-all, of-all, of-state}
 use Rattle.gb_laws.proofs.Answering.{answered-at_moments}
+use Rattle.gb_laws.proofs.AwaitsNewest.{awaits-newest_by_moments}
 use Rattle.gb_laws.proofs.AwaitsOwn.{awaits-own_by_moments}
 use Rattle.gb_laws.proofs.Causes.{causes-at_moments}
 use Rattle.gb_laws.proofs.Ended.{ends-told_by_moments}
@@ -31,7 +32,12 @@ use Rattle.gb_laws.specs.OwnSide.{
   AbsentHasNoOpenOfModule,
   UnwiredHasNoOpenOfFar,
 }
-use Rattle.gb_laws.specs.OwnWaits.{AwaitsOwnRequest, OnlyRestarts, ServedLeavesNone}
+use Rattle.gb_laws.specs.OwnWaits.{
+  AwaitsNewest,
+  AwaitsOwnRequest,
+  OnlyRestarts,
+  ServedLeavesNone,
+}
 use Rattle.gb_laws.specs.OwnWires.{WiredIsRemembered}
 use Rattle.gb_laws.proofs.OpenRuns.{open-live_by_moments}
 use Rattle.gb_machine.specs.Runs.{HoldsAtEachMoment, HoldsThroughout}
@@ -211,6 +217,10 @@ quiet-removal = of-all IsQuiet (record {
 -- An enumeration waits for a request of its own.
 pub own-request : HoldsThroughout AwaitsOwnRequest
 own-request = of-all AwaitsOwnRequest (of-state _) awaits-own_by_moments
+
+-- That is the newest of its requests.
+pub newest-request : HoldsThroughout AwaitsNewest
+newest-request = of-all AwaitsNewest (of-state _) awaits-newest_by_moments
 
 -- Requests for connections that are gone find their interface without a route.
 pub stale-unrouted : StaleRequestsMeetLowLevel

@@ -5,6 +5,7 @@ pub mod Answering
 pub mod Asked
 pub mod AskedWaits
 pub mod Awaited
+pub mod AwaitsNewest
 pub mod AwaitsOwn
 pub mod Basics
 pub mod Causes

@@ -1,5 +1,5 @@
 -- What `AwaitsLast` and `OneThenRestarts` of gb_machine say of the requests of an enumeration.
-use Rattle.std.specs.Prelude.{◌≡◌, ℕ, false, Some, List}
+use Rattle.std.specs.Prelude.{◌≡◌, ◌≤◌, ℕ, false, Some, List}
 use Rattle.std.specs.List.{list_any}
 use Rattle.gb_base.specs.declared.end.Side.TheVariants as side
 use Rattle.gb_base.specs.declared.entry.Entry.{Entry}
@@ -37,3 +37,10 @@ ServedLeavesNone told s =
 abbrev pub OnlyRestarts : List Entry → State → Type 0
 OnlyRestarts told s =
     (i : ℕ) → Each IsStart (behind_first (enumeration_requests i s.bus))
+
+-- Where the enumeration of an interface waits for the supervisory controller, it waits for the last
+-- of its requests.
+abbrev pub AwaitsNewest : List Entry → State → Type 0
+AwaitsNewest told s =
+    (i n m : ℕ) (step : SequenceStep) (r : Request) → awaited_by i s.host ≡ Some (n, step)
+    → asks_control step ≡ false → request_of m s.bus ≡ Some r → IsEnumeration i r → m ≤ n

@@ -7,7 +7,12 @@ ghost use Rattle.gb_laws.specs.OwnSide.{
   AbsentHasNoOpenOfModule,
   UnwiredHasNoOpenOfFar,
 };
-ghost use Rattle.gb_laws.specs.OwnWaits.{AwaitsOwnRequest, OnlyRestarts, ServedLeavesNone};
+ghost use Rattle.gb_laws.specs.OwnWaits.{
+  AwaitsNewest,
+  AwaitsOwnRequest,
+  OnlyRestarts,
+  ServedLeavesNone,
+};
 ghost use Rattle.gb_laws.specs.OwnWires.{WiredIsRemembered};
 ghost use Rattle.gb_machine.specs.LawsBus.{
   EndpointsDiffer,
@@ -150,6 +155,11 @@ pub fn stale_requests_meet_low_level()
 /// request of its own to that.
 pub fn awaits_own_request()
     ensures { HoldsThroughout AwaitsOwnRequest }
+{}
+
+/// That is the last of the requests of its enumeration that were made.
+pub fn awaits_newest_request()
+    ensures { HoldsThroughout AwaitsNewest }
 {}
 
 /// Where that request waits no more toward the supervisory controller, no request of the
