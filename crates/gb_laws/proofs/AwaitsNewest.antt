@@ -83,7 +83,7 @@ sent-none : (d : Draft) (label : ℕ) (b : Bus)
 sent-none d label b none i m r made of = ⊎_elim (λ o. o)
     (λ new. absurd (none i (subst (IsEnumeration i) new.1 of))) (sent-made d label b m r made)
 
-plain-none : (a : Point) (d : Draft) (label : ℕ) → LinkedAt a → IsPlain a.state d → (i : ℕ)
+pub plain-none : (a : Point) (d : Draft) (label : ℕ) → LinkedAt a → IsPlain a.state d → (i : ℕ)
     → IsEnumeration i (requested d label) → ⊥
 plain-none a d label links (inl plain) i of = not-both (is_reserved d.kind)
     (enumeration-reserved i d.kind d.payload of.enumerates) plain.0

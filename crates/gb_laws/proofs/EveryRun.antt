@@ -8,6 +8,7 @@ use Rattle.gb_laws.proofs.Causes.{causes-at_moments}
 use Rattle.gb_laws.proofs.Ended.{ends-told_by_moments}
 use Rattle.gb_laws.proofs.Endpoints.{endpoints-by_moments}
 use Rattle.gb_laws.proofs.EnumRuns.{restarts-by_moments, served-by_moments}
+use Rattle.gb_laws.proofs.EnumSettledRuns.{asked-none_by_moments, done-none_by_moments}
 use Rattle.gb_laws.proofs.FarOpenRuns.{
   module-open_by_moments,
   module-seen,
@@ -32,12 +33,7 @@ use Rattle.gb_laws.specs.OwnSide.{
   AbsentHasNoOpenOfModule,
   UnwiredHasNoOpenOfFar,
 }
-use Rattle.gb_laws.specs.OwnWaits.{
-  AwaitsNewest,
-  AwaitsOwnRequest,
-  OnlyRestarts,
-  ServedLeavesNone,
-}
+use Rattle.gb_laws.specs.OwnWaits.{AwaitsOwnRequest, OnlyRestarts, ServedLeavesNone}
 use Rattle.gb_laws.specs.OwnWires.{WiredIsRemembered}
 use Rattle.gb_laws.proofs.OpenRuns.{open-live_by_moments}
 use Rattle.gb_machine.specs.Runs.{HoldsAtEachMoment, HoldsThroughout}
@@ -80,6 +76,8 @@ use Rattle.gb_machine.specs.LawsHotPlug.{
 }
 use Rattle.gb_machine.specs.LawsSvc.{
   AreRouted,
+  AwaitedIsTheLast,
+  AwaitsLast,
   FindsUnwired,
   IsQuiet,
   LeavesNothing,
@@ -218,10 +216,6 @@ quiet-removal = of-all IsQuiet (record {
 pub own-request : HoldsThroughout AwaitsOwnRequest
 own-request = of-all AwaitsOwnRequest (of-state _) awaits-own_by_moments
 
--- That is the newest of its requests.
-pub newest-request : HoldsThroughout AwaitsNewest
-newest-request = of-all AwaitsNewest (of-state _) awaits-newest_by_moments
-
 -- Requests for connections that are gone find their interface without a route.
 pub stale-unrouted : StaleRequestsMeetLowLevel
 stale-unrouted = of-all StaleIsLow (of-state _) stale-low_by_moments
@@ -229,6 +223,31 @@ stale-unrouted = of-all StaleIsLow (of-state _) stale-low_by_moments
 -- None of its requests waits once the one that it waits for was served.
 pub served-leaves : HoldsThroughout ServedLeavesNone
 served-leaves = of-all ServedLeavesNone (of-state _) served-by_moments
+
+-- It waits for the last of its requests, and none waits where it waits for the module or is done.
+pub awaited-last : AwaitedIsTheLast
+awaited-last = of-all AwaitsLast (record {
+  there = λ told s h. record {
+    own = h.own;
+    last = h.last;
+    served = h.served;
+    asked = h.asked;
+    done = h.done;
+  };
+  back = λ told s h. record {
+    own = h.own;
+    last = h.last;
+    served = h.served;
+    asked = h.asked;
+    done = h.done;
+  };
+}) (λ es are. record {
+  own = awaits-own_by_moments es are;
+  last = awaits-newest_by_moments es are;
+  served = served-by_moments es are;
+  asked = asked-none_by_moments es are;
+  done = done-none_by_moments es are;
+})
 
 -- Each of its requests that waits, but the first, is a start.
 pub only-restarts : HoldsThroughout OnlyRestarts

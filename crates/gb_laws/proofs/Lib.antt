@@ -30,6 +30,10 @@ pub mod Ended
 pub mod Endpoints
 pub mod EnumRequests
 pub mod EnumRuns
+pub mod EnumNone
+pub mod EnumSettled
+pub mod EnumSettledRuns
+pub mod EnumTurns
 pub mod Enums
 pub mod EveryRun
 pub mod FarOpen

@@ -7,12 +7,7 @@ ghost use Rattle.gb_laws.specs.OwnSide.{
   AbsentHasNoOpenOfModule,
   UnwiredHasNoOpenOfFar,
 };
-ghost use Rattle.gb_laws.specs.OwnWaits.{
-  AwaitsNewest,
-  AwaitsOwnRequest,
-  OnlyRestarts,
-  ServedLeavesNone,
-};
+ghost use Rattle.gb_laws.specs.OwnWaits.{AwaitsOwnRequest, OnlyRestarts, ServedLeavesNone};
 ghost use Rattle.gb_laws.specs.OwnWires.{WiredIsRemembered};
 ghost use Rattle.gb_machine.specs.LawsBus.{
   EndpointsDiffer,
@@ -40,6 +35,7 @@ ghost use Rattle.gb_machine.specs.LawsHotPlug.{
   WiredOnce,
 };
 ghost use Rattle.gb_machine.specs.LawsSvc.{
+  AwaitedIsTheLast,
   QuietBeforeRemoval,
   RemovalLeavesNothingWired,
   StaleRequestsMeetLowLevel,
@@ -157,15 +153,17 @@ pub fn awaits_own_request()
     ensures { HoldsThroughout AwaitsOwnRequest }
 {}
 
-/// That is the last of the requests of its enumeration that were made.
-pub fn awaits_newest_request()
-    ensures { HoldsThroughout AwaitsNewest }
-{}
-
 /// Where that request waits no more toward the supervisory controller, no request of the
 /// enumeration does.
 pub fn served_leaves_none()
     ensures { HoldsThroughout ServedLeavesNone }
+{}
+
+/// The enumeration of an interface waits for the last of its requests to the supervisory controller,
+/// and none waits there once that one was served. Where it waits for the module, or is done, none
+/// waits there.
+pub fn awaited_is_the_last()
+    ensures { AwaitedIsTheLast }
 {}
 
 /// Of the requests of an enumeration that wait toward the supervisory controller each but the first
