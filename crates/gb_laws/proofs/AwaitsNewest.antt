@@ -1,6 +1,28 @@
 -- What the enumeration of an interface waits for is the newest of its requests to the supervisory
 -- controller.
-use Rattle.std.proofs.Common.{◌≡◌, ◌≤◌, ℕ, Bool, true, false, cond, Some, None, List, [], ◌∷◌, inl, inr, refl, sym, ap, ◌∙◌, ⊎_elim, subst, arith}
+use Rattle.std.proofs.Common.{
+  ◌≡◌,
+  ◌≤◌,
+  ℕ,
+  Bool,
+  true,
+  false,
+  cond,
+  Some,
+  None,
+  List,
+  [],
+  ◌∷◌,
+  inl,
+  inr,
+  refl,
+  sym,
+  ap,
+  ◌∙◌,
+  ⊎_elim,
+  subst,
+  arith,
+}
 use Rattle.std.specs.Prelude.{◌&&◌}
 use Rattle.gb_base.specs.declared.entry.Entry.{Entry}
 use Rattle.gb_base.specs.declared.peers.Interface.{Interface}
@@ -26,7 +48,21 @@ use Rattle.gb_laws.proofs.LinkRuns.{LinkedTo, linked-over, linked-throughout, st
 use Rattle.gb_laws.proofs.Linking.{InsertsAbsent, LinkedAt}
 use Rattle.gb_laws.proofs.Links.{ArePending, IsDue, IsDueBy, IsFormed}
 use Rattle.gb_laws.proofs.PointParts.{Basis, Point, resting}
-use Rattle.gb_laws.proofs.Points.{Change, IsAskedBy, IsPlain, Law, acts_asked, acts_failed, asks, by_far, by_host, changed, names, serves, turns}
+use Rattle.gb_laws.proofs.Points.{
+  Change,
+  IsAskedBy,
+  IsPlain,
+  Law,
+  acts_asked,
+  acts_failed,
+  asks,
+  by_far,
+  by_host,
+  changed,
+  names,
+  serves,
+  turns,
+}
 use Rattle.gb_laws.proofs.Remembering.{nothing-asked}
 use Rattle.gb_laws.proofs.Runs.{HoldsByMoments, Keeps, throughout, weaker}
 use Rattle.gb_laws.proofs.Steps.{over-step}

@@ -1,6 +1,25 @@
 -- Where none of the requests of an enumeration waits toward the supervisory controller, none does
 -- after a change that makes none.
-use Rattle.std.proofs.Common.{◌≡◌, ℕ, true, cond, Some, None, List, [], ◌∷◌, inl, inr, refl, sym, ap, ◌∙◌, ⊎_elim, subst, arith}
+use Rattle.std.proofs.Common.{
+  ◌≡◌,
+  ℕ,
+  true,
+  cond,
+  Some,
+  None,
+  List,
+  [],
+  ◌∷◌,
+  inl,
+  inr,
+  refl,
+  sym,
+  ap,
+  ◌∙◌,
+  ⊎_elim,
+  subst,
+  arith,
+}
 use Rattle.gb_base.specs.declared.end.Side.TheVariants as side
 use Rattle.gb_invariants.proofs.Awaiting.{same-some, sent-new, sent-request}
 use Rattle.gb_invariants.proofs.Lists.{in-behind, in-front, in-pushed}

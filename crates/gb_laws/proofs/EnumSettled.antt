@@ -1,6 +1,27 @@
--- Where the enumeration of an interface waits for its module, or is done, none of its requests waits
--- toward the supervisory controller: at each point of a step.
-use Rattle.std.proofs.Common.{◌≡◌, ℕ, Bool, true, false, Option, Some, None, List, [], ◌∷◌, inl, inr, refl, sym, ap, ◌∙◌, ⊎_elim, subst, arith}
+-- Where the enumeration of an interface waits for its module, or is done, none of its requests
+-- waits toward the supervisory controller: at each point of a step.
+use Rattle.std.proofs.Common.{
+  ◌≡◌,
+  ℕ,
+  Bool,
+  true,
+  false,
+  Option,
+  Some,
+  None,
+  List,
+  [],
+  ◌∷◌,
+  inl,
+  inr,
+  refl,
+  sym,
+  ap,
+  ◌∙◌,
+  ⊎_elim,
+  subst,
+  arith,
+}
 use Rattle.std.specs.Prelude.{◌&&◌, is_some, not}
 use Rattle.gb_base.specs.declared.peers.Interface.{Interface}
 use Rattle.gb_base.specs.declared.steps.Purpose.{Purpose}
@@ -10,7 +31,15 @@ use Rattle.gb_laws.proofs.AskedWaits.{AsksIn, WaitsFewer, asks_in, opens_in}
 use Rattle.gb_laws.proofs.AwaitsOwn.{turn-waits}
 use Rattle.gb_laws.proofs.EnumNone.{IsNone, none-enums, none-sent}
 use Rattle.gb_laws.proofs.EnumRequests.{formed-enumerates}
-use Rattle.gb_laws.proofs.EnumTurns.{IsDone, TurnEnums, enums-connects, enums-disconnects, enums-ended, enums-inserted, enums-removed}
+use Rattle.gb_laws.proofs.EnumDone.{IsDone}
+use Rattle.gb_laws.proofs.EnumTurns.{
+  TurnEnums,
+  enums-connects,
+  enums-disconnects,
+  enums-ended,
+  enums-inserted,
+  enums-removed,
+}
 use Rattle.gb_laws.proofs.LinkTurns.{resumed, step-connects, waits-for, waits-link}
 use Rattle.gb_laws.proofs.Linking.{InsertsAbsent, LinkedAt}
 use Rattle.gb_laws.proofs.Links.{ArePending, HostFits, IsDue, IsDueBy, IsFormed, IsResting}
@@ -233,9 +262,9 @@ turn-enums m absent i (HostEvent.Ended n how) a basis links there over cause qui
         (quiet.waits w.interface w.known (w.intf ∙ at) (n, p.step) w.awaits
         (ap (λ t. t && not (asks_control p.step)) s ∙ ap not e)).last)
 
-pub settled-turned : (m : Moment) → InsertsAbsent m → (i : ℕ) (e : HostEvent) (a b : Point) → Basis a
-    → LinkedAt a → There a.state.bus → IsOver m e a.state.bus → IsCaused m e a.state.host
-    → IsQuiet i a → b.state ≡ record a.state { host = (host_turn e a.state.host).host }
+pub settled-turned : (m : Moment) → InsertsAbsent m → (i : ℕ) (e : HostEvent) (a b : Point)
+    → Basis a → LinkedAt a → There a.state.bus → IsOver m e a.state.bus
+    → IsCaused m e a.state.host → IsQuiet i a → b.state ≡ record a.state { host = (host_turn e a.state.host).host }
     → b.pending ≡ (host_turn e a.state.host).acts → IsSettled i a → IsSettled i b
 settled-turned m absent i e a b basis links there over cause quiet state pending h = record {
   done = λ d. onto (⊎_elim (λ o. h.done o) (λ c. c.0) (t.done (back d)));

@@ -1,6 +1,27 @@
--- Where the enumeration of an interface waits for its module, or is done, none of its requests waits
--- toward the supervisory controller, in each state of a run.
-use Rattle.std.proofs.Common.{◌≡◌, ℕ, Bool, true, false, cond, Some, List, [], ◌∷◌, ◌++◌, inl, inr, map, refl, sym, ap, ◌∙◌, ⊎_elim, subst}
+-- Where the enumeration of an interface waits for its module, or is done, none of its requests
+-- waits toward the supervisory controller, in each state of a run.
+use Rattle.std.proofs.Common.{
+  ◌≡◌,
+  ℕ,
+  Bool,
+  true,
+  false,
+  cond,
+  Some,
+  List,
+  [],
+  ◌∷◌,
+  ◌++◌,
+  inl,
+  inr,
+  map,
+  refl,
+  sym,
+  ap,
+  ◌∙◌,
+  ⊎_elim,
+  subst,
+}
 use Rattle.gb_base.specs.declared.end.Side.TheVariants as side
 use Rattle.gb_base.specs.declared.entry.Entry.{Entry}
 use Rattle.gb_base.specs.declared.peers.Interface.{Interface}
@@ -24,7 +45,7 @@ use Rattle.gb_laws.proofs.EnumSettled.{
   settled-still,
   settled-turned,
 }
-use Rattle.gb_laws.proofs.EnumTurns.{IsDone, done-unsent}
+use Rattle.gb_laws.proofs.EnumDone.{IsDone, done-unsent}
 use Rattle.gb_laws.proofs.Enums.{enum-waits, enums, enums-requests}
 use Rattle.gb_laws.proofs.LinkActs.{ServedHost, as_before, awaited-host, host-served, with_more}
 use Rattle.gb_laws.proofs.LinkRuns.{start-absent, there_law}
@@ -96,8 +117,8 @@ settled-kept m absent i a (names name d c label free live is host) basis links t
     (record { connection = one; side = own; enumerates = e })))
     (λ k. k) (same-waits a.state.host) (λ q j. j) h
 settled-kept m absent i a (turns e free untouched none cause) basis links there quiet h =
-    settled-turned m absent i e a (changed m a (turns e free untouched none cause)) basis links there
-    untouched.1 cause quiet refl refl h
+    settled-turned m absent i e a (changed m a (turns e free untouched none cause)) basis links
+    there untouched.1 cause quiet refl refl h
 settled-kept m absent i a (acts_told e rest is still) basis links there quiet h =
     settled-still i a (changed m a (acts_told e rest is still)) (λ k. k) (λ k. k)
     (same-waits a.state.host) (fewer-asks a (Act.Tell e) rest is) h
@@ -187,7 +208,7 @@ settled-kept m absent i a (acts_asked q n rest is) basis links there quiet h = r
         x j)
 settled-kept m absent i a (acts_failed q rest is still) basis links there quiet h =
     settled-still i a (changed m a (acts_failed q rest is still)) (λ k. k)
-    (done-unsent i (λ s. Unit {0}) (Unit {0}) q.purpose a.state.host)
+    (done-unsent i q.purpose a.state.host)
     (waits-unsent 0 (Unit {0}) q.purpose a.state.host) (fewer is) h
   where
     fewer : IsAsking q a.pending rest → (r : Asking) → AsksIn r rest → AsksIn r a.pending

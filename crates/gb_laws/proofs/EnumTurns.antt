@@ -1,6 +1,30 @@
--- What a turn of the application processor asks for the enumeration of an interface, and where that
--- is enumerated then.
-use Rattle.std.proofs.Common.{◌≡◌, ◌⊎◌, ℕ, Bool, true, false, cond, Option, Some, None, List, [], ◌∷◌, length, map, refl, sym, ap, ◌∙◌, inl, inr, ⊎_elim, subst}
+-- What a turn of the application processor asks for the enumeration of an interface, and where
+-- that is enumerated then.
+use Rattle.std.proofs.Common.{
+  ◌≡◌,
+  ◌⊎◌,
+  ℕ,
+  Bool,
+  true,
+  false,
+  cond,
+  Option,
+  Some,
+  None,
+  List,
+  [],
+  ◌∷◌,
+  length,
+  map,
+  refl,
+  sym,
+  ap,
+  ◌∙◌,
+  inl,
+  inr,
+  ⊎_elim,
+  subst,
+}
 use Rattle.std.specs.Prelude.{Result, Ok, Err, ◌==◌, option_and_then}
 use Rattle.gb_base.specs.declared.steps.Purpose.{Purpose}
 use Rattle.gb_base.specs.declared.steps.SequenceStep.{SequenceStep}
@@ -18,32 +42,72 @@ use Rattle.gb_formats.specs.ControlRecords.{read_control_reply}
 use Rattle.gb_formats.specs.Manifest.{CportView, Manifest, check_answer}
 use Rattle.gb_formats.specs.ManifestRules.{Refused}
 use Rattle.gb_invariants.proofs.Lists.{in-without}
+use Rattle.gb_laws.proofs.EnumDone.{
+  FewerDone,
+  IsDone,
+  done-fails,
+  done-interface,
+  done-nothing,
+  done-stage,
+}
 use Rattle.gb_laws.proofs.LinkHosts.{resting-changed}
 use Rattle.gb_laws.proofs.LinkLists.{in-ordered}
 use Rattle.gb_laws.proofs.Links.{IsResting}
-use Rattle.gb_machine.specs.Failures.{interface_fails, link_fails, link_told, step_fails, unsent, unsent_fails, without_device}
-use Rattle.gb_machine.specs.Host.{Host, cport_of, free_cport, free_device, in_state, interface_of, intf_before, is_intf, link_at, new_interface, staged, with_interface, with_link, with_new_interface, without_link}
-use Rattle.gb_machine.specs.HostTurns.{connects, connects_on, disconnects, ended_for, host_turn, links_of}
+use Rattle.gb_machine.specs.Failures.{interface_fails, link_told, step_fails}
+use Rattle.gb_machine.specs.Host.{
+  Host,
+  cport_of,
+  free_cport,
+  free_device,
+  in_state,
+  interface_of,
+  intf_before,
+  is_intf,
+  link_at,
+  new_interface,
+  with_interface,
+  with_link,
+  with_new_interface,
+  without_link,
+}
+use Rattle.gb_machine.specs.HostTurns.{
+  connects,
+  connects_on,
+  disconnects,
+  ended_for,
+  host_turn,
+  links_of,
+}
 use Rattle.gb_machine.specs.SequenceSteps.{at_step, is_reply, purpose}
-use Rattle.gb_machine.specs.Sequences.{asked_on, begins_control, begins_device, enumerated, goes_on, link_left, link_turn, manifest_checked, opened, opened_told, payload_in, size_in, size_known, step_answered, step_asked, step_done, way_of}
+use Rattle.gb_machine.specs.Sequences.{
+  asked_on,
+  begins_control,
+  begins_device,
+  enumerated,
+  goes_on,
+  link_left,
+  link_turn,
+  manifest_checked,
+  opened,
+  opened_told,
+  payload_in,
+  size_in,
+  size_known,
+  step_answered,
+  step_asked,
+  step_done,
+  way_of,
+}
 use Rattle.gb_machine.specs.Turns.{Act, Asking, HostEvent, Making, Turn, failed_turn}
 use Rattle.gb_machine.specs.Waits.{awaits_nothing}
 use Rattle.gb_laws.proofs.AskedWaits.{AsksIn, asks-tell, asks_in, no-asks, opens_in, told-asks}
 use Rattle.gb_invariants.proofs.Lists.{in-at_first}
 use Rattle.gb_invariants.proofs.Outcomes.{same-number}
-use Rattle.gb_machine.specs.Members.{IsIn}
 use Rattle.gb_laws.proofs.Asked.{asks-none}
 use Rattle.gb_machine.specs.SequenceSteps.{is_enumeration}
 
--- an interface is enumerated
-pub record IsDone (i : ℕ) (xs : List Interface) : Type 0 where
-  pub interface : Interface
-  pub known : IsIn interface xs
-  pub intf : interface.intf ≡ i
-  pub done : interface.stage ≡ stage.Enumerated
-
--- What a turn asks for the enumeration of interface i may be asked. That is enumerated where it was,
--- or where `Calm` holds, and then nothing is asked and it waits for nothing.
+-- What a turn asks for the enumeration of interface i may be asked. That is enumerated where it
+-- was, or where `Calm` holds, and then nothing is asked and it waits for nothing.
 pub record TurnEnums (i : ℕ) (May : SequenceStep → Type 0) (Calm : Type 0) (h : Host) (t : Turn)
     : Type 0 where
   pub asks : (q : Asking) → AsksIn q t.acts → q.purpose.intf ≡ i
@@ -60,28 +124,7 @@ module _ (i : ℕ) (May : SequenceStep → Type 0) (Calm : Type 0) where
   abbrev MayAsk : Purpose → Type 0
   MayAsk p = p.intf ≡ i → is_enumeration p.step ≡ true → May p.step
 
-  -- no interface is enumerated that wasn't
-  abbrev FewerDone : Host → Host → Type 0
-  FewerDone h g = IsDone i g.interfaces → IsDone i h.interfaces
-
-  done-interface : (h : Host) (j : ℕ) (f : Interface → Interface)
-      → ((x : Interface) → (f x).intf ≡ x.intf)
-      → ((x : Interface) → (f x).stage ≡ stage.Enumerated → x.stage ≡ stage.Enumerated)
-      → FewerDone h (with_interface j f h)
-  done-interface h j f intf back d = ⊎_elim
-      (λ o. record { interface = d.interface; known = o; intf = d.intf; done = d.done })
-      (λ v. record {
-        interface = v.0;
-        known = v.1;
-        intf = sym (intf v.0) ∙ ap (λ (x : Interface). x.intf) (sym v.3) ∙ d.intf;
-        done = back v.0 (ap (λ (x : Interface). x.stage) (sym v.3) ∙ d.done);
-      })
-      (in-at_first (is_intf j) f h.interfaces d.interface d.known)
-
-  failed-none : stage.Failed ≡ stage.Enumerated → ⊥
-  failed-none e = absurd cc
-
-  enums-through : (h g : Host) (t : Turn) → FewerDone h g → Enums g t → Enums h t
+  enums-through : (h g : Host) (t : Turn) → FewerDone i h g → Enums g t → Enums h t
   enums-through h g t f r = record {
     asks = r.asks;
     done = λ d. ⊎_elim (λ o. inl (f o)) (λ c. inr c) (r.done d);
@@ -95,33 +138,19 @@ module _ (i : ℕ) (May : SequenceStep → Type 0) (Calm : Type 0) where
         (r.done d);
   }
 
-  enums-failed : (h g : Host) (es : List Entry) → FewerDone h g
+  enums-failed : (h g : Host) (es : List Entry) → FewerDone i h g
       → Enums h (record { host = g; acts = map Act.Tell es })
   enums-failed h g es f =
       record { asks = λ q j. absurd (told-asks q es j); done = λ d. inl (f d) }
 
-  done-stage : (p : Purpose) (h : Host) → FewerDone h (interface_fails p h).host
-  done-stage p h = done-interface h p.intf (staged stage.Failed) (λ x. refl)
-      (λ x e. absurd (failed-none e))
-
-  done-fails : (step : SequenceStep) (p : Purpose) (h : Host)
-      → FewerDone h (step_fails step p h).host
-  done-fails steps.CreateControl p h d = done-stage p (link_fails p h).host d
-  done-fails steps.CreateConnection p h d = d
-  done-fails steps.TellConnected p h d = d
-  done-fails steps.TellDisconnecting p h d = d
-  done-fails steps.TellDisconnected p h d = d
-  done-fails steps.DestroyConnection p h d = d
-  done-fails _ p h d = done-stage p h d
-
   enums-fails : (step : SequenceStep) (p : Purpose) (h : Host)
       → Enums h (failed_turn (step_fails step p h))
   enums-fails step p h = enums-failed h (step_fails step p h).host (step_fails step p h).told
-      (done-fails step p h)
+      (done-fails i step p h)
 
   enums-stage : (p : Purpose) (h : Host) → Enums h (failed_turn (interface_fails p h))
   enums-stage p h =
-      enums-failed h (interface_fails p h).host (interface_fails p h).told (done-stage p h)
+      enums-failed h (interface_fails p h).host (interface_fails p h).told (done-stage i p h)
 
   -- the request of a purpose
   enums-asked : (p : Purpose) (h : Host) → MayAsk p → Enums h (step_asked p h)
@@ -156,7 +185,7 @@ module _ (i : ℕ) (May : SequenceStep → Type 0) (Calm : Type 0) where
           subst MayAsk (ap (λ (s : Asking). s.purpose) (sym (is-it v w q r e))) may
       one q (opens_in v (inr j)) = absurd j
 
-  enums-link : (to : ConnState) (o : Option Link) (h g : Host) → FewerDone h g
+  enums-link : (to : ConnState) (o : Option Link) (h g : Host) → FewerDone i h g
       → Enums h (link_turn to o g)
   enums-link to None h g f = enums-failed h g [] f
   enums-link to (Some l) h g f = enums-failed h g (link_told to l ∷ []) f
@@ -194,7 +223,7 @@ module _ (i : ℕ) (May : SequenceStep → Type 0) (Calm : Type 0) where
   enums-told None h t r = r
   enums-told (Some l) h t r = enums-telling h (link_told state.Open l) t r
 
-  enums-left : (o : Option Link) (h g : Host) → FewerDone h g → Enums h (link_left o g)
+  enums-left : (o : Option Link) (h g : Host) → FewerDone i h g → Enums h (link_left o g)
   enums-left None h g f = enums-failed h g [] f
   enums-left (Some l) h g f =
       record { asks = λ q j. absurd (none q j); done = λ d. inl (f d) }
@@ -228,13 +257,13 @@ module _ (i : ℕ) (May : SequenceStep → Type 0) (Calm : Type 0) where
       by None = enums-stage (at_step steps.GiveDevice p) h
       by (Some d) =
           enums-through h (with_interface p.intf (λ x. record x { device = Some d }) h) _
-          (done-interface h p.intf (λ x. record x { device = Some d }) (λ x. refl) (λ x e. e))
+          (done-interface i h p.intf (λ x. record x { device = Some d }) (λ x. refl) (λ x e. e))
           (enums-asked (at_step steps.GiveDevice p)
           (with_interface p.intf (λ x. record x { device = Some d }) h)
           (λ e f. (calm e refl).1 steps.GiveDevice))
   enums-done steps.GiveDevice p payload h calm =
       enums-through h (with_interface p.intf (λ x. record x { has_device = true }) h) _
-      (done-interface h p.intf (λ x. record x { has_device = true }) (λ x. refl) (λ x e. e))
+      (done-interface i h p.intf (λ x. record x { has_device = true }) (λ x. refl) (λ x e. e))
       (enums-asked (at_step steps.CreateRoute p)
       (with_interface p.intf (λ x. record x { has_device = true }) h)
       (λ e f. (calm e refl).1 steps.CreateRoute))
@@ -253,7 +282,7 @@ module _ (i : ℕ) (May : SequenceStep → Type 0) (Calm : Type 0) where
   enums-done steps.AskSize p payload h calm =
       let f = λ (x : Interface). record x { size = size_in (read_control_reply 0x03 payload) } in
       enums-through h (with_interface p.intf f h) _
-      (done-interface h p.intf f (λ x. refl) (λ x e. e))
+      (done-interface i h p.intf f (λ x. refl) (λ x e. e))
       (enums-asked (at_step steps.AskManifest p) (with_interface p.intf f h)
       (λ e g. (calm e refl).1 steps.AskManifest))
   enums-done steps.AskManifest p payload h calm =
@@ -261,7 +290,8 @@ module _ (i : ℕ) (May : SequenceStep → Type 0) (Calm : Type 0) where
     where
       by : (t : Bool) → Enums h (cond t
           (manifest_checked (check_answer payload) p payload h) (failed_turn (interface_fails p h)))
-      by true = enums-checked (check_answer payload) p payload h (λ e. ((calm e refl).0, (calm e refl).2))
+      by true = enums-checked (check_answer payload) p payload h
+          (λ e. ((calm e refl).0, (calm e refl).2))
       by false = enums-stage p h
   enums-done steps.CreateConnection p payload h calm =
       enums-asked (at_step steps.TellConnected p) h (λ e f. absurd cc)
@@ -285,16 +315,6 @@ module _ (i : ℕ) (May : SequenceStep → Type 0) (Calm : Type 0) where
       by true = enums-done p.step p payload h (calm payload refl)
       by false = enums-fails p.step p h
 
-  done-nothing : (p : Purpose) (h : Host) → FewerDone h (awaits_nothing p h)
-  done-nothing p h = by (is_enumeration p.step)
-    where
-      by : (t : Bool) → FewerDone h (cond t
-          (with_interface p.intf (λ x. record x { awaits = None }) h)
-          (with_link p.intf p.cport (λ l. record l { awaits = None }) h))
-      by true d = done-interface h p.intf (λ x. record x { awaits = None }) (λ x. refl)
-          (λ x e. e) d
-      by false d = d
-
   -- a request ended
   pub enums-ended : (o : Option Purpose) (how : Outcome) (h : Host)
       → ((p : Purpose) → o ≡ Some p → (result : ℕ) (payload : List ℕ)
@@ -302,7 +322,7 @@ module _ (i : ℕ) (May : SequenceStep → Type 0) (Calm : Type 0) where
       → Enums h (ended_for o how h)
   enums-ended None how h calm = enums-failed h h [] (λ d. d)
   enums-ended (Some p) how h calm =
-      enums-through h (awaits_nothing p h) _ (done-nothing p h)
+      enums-through h (awaits_nothing p h) _ (done-nothing i p h)
       (enums-answered (payload_in how) p (awaits_nothing p h)
       (λ payload e. let a = answered how e in calm p refl a.0 a.1 a.2))
     where
@@ -318,7 +338,8 @@ module _ (i : ℕ) (May : SequenceStep → Type 0) (Calm : Type 0) where
 
   pub enums-removed : (j : ℕ) (h : Host) → Enums h (host_turn (HostEvent.Removed j) h)
   enums-removed j h = record {
-    asks = λ q k. absurd (asks-none i Calm (links_of j h) q _ (λ m. no-asks q (asks-tell q _ [] m)) k);
+    asks = λ q k. absurd (asks-none i Calm (links_of j h) q _
+        (λ m. no-asks q (asks-tell q _ [] m)) k);
     done = λ d. inl (record {
       interface = d.interface;
       known = (in-without (is_intf j) h.interfaces d.interface d.known).0;
@@ -338,7 +359,7 @@ module _ (i : ℕ) (May : SequenceStep → Type 0) (Calm : Type 0) where
       other : stage.Enumerating ≡ stage.Enumerated → ⊥
       other e = absurd cc
 
-      new : FewerDone h (with_new_interface j h)
+      new : FewerDone i h (with_new_interface j h)
       new d = ⊎_elim
           (λ e. absurd (other (sym (ap (λ (x : Interface). x.stage) e) ∙ d.done)))
           (λ o. record { interface = d.interface; known = o; intf = d.intf; done = d.done })
@@ -375,25 +396,3 @@ module _ (i : ℕ) (May : SequenceStep → Type 0) (Calm : Type 0) where
           shut q (asks_in (inr m)) = asks_in m
           shut q (opens_in w (inl e)) = absurd cc
           shut q (opens_in w (inr m)) = opens_in w m
-
-  -- no identifier is left
-  pub done-unsent : (p : Purpose) (h : Host) → FewerDone h (unsent p h).host
-  done-unsent p h = by p.step
-    where
-      by : (step : SequenceStep) → FewerDone h (unsent_fails step p h).host
-      by steps.CreateControl d = done-stage p h d
-      by steps.CreateConnection d = d
-      by steps.GiveDevice d = done-interface h p.intf without_device (λ x. refl) (λ x e. e)
-          (done-stage p (with_interface p.intf without_device h) d)
-      by steps.EnableVsys d = done-stage p h d
-      by steps.EnableRefclk d = done-stage p h d
-      by steps.EnableUnipro d = done-stage p h d
-      by steps.Activate d = done-stage p h d
-      by steps.CreateRoute d = done-stage p h d
-      by steps.AskVersion d = done-stage p h d
-      by steps.AskSize d = done-stage p h d
-      by steps.AskManifest d = done-stage p h d
-      by steps.TellConnected d = d
-      by steps.TellDisconnecting d = d
-      by steps.TellDisconnected d = d
-      by steps.DestroyConnection d = d

@@ -1,4 +1,5 @@
--- What a far side asked and is awaited is on a connection that is wired, or that is to be destroyed.
+-- What a far side asked and is awaited is on a connection that is wired, or that is to be
+-- destroyed.
 use Rattle.std.proofs.Common.{
   Bool,
   List,
@@ -25,7 +26,14 @@ use Rattle.std.proofs.Common.{
 use Rattle.std.specs.Prelude.{not}
 use Rattle.gb_base.specs.declared.end.End.TheVariants as end
 use Rattle.gb_base.specs.declared.end.Side.TheVariants as side
-use Rattle.gb_invariants.proofs.Awaiting.{AwaitsFewer, is-of, sent-before, sent-made, sent-request, side_ended-before}
+use Rattle.gb_invariants.proofs.Awaiting.{
+  AwaitsFewer,
+  is-of,
+  sent-before,
+  sent-made,
+  sent-request,
+  side_ended-before,
+}
 use Rattle.gb_invariants.proofs.Labels.{asked_on, asked_on-number}
 use Rattle.gb_invariants.proofs.Lists.{filter-in, in-at_first, in-front, in-pushed, in-without}
 use Rattle.gb_laws.proofs.Places.{at_first-back}

@@ -1,6 +1,21 @@
--- What a far side asked and is awaited is on a connection that is wired, or that is to be destroyed:
--- each single change keeps it.
-use Rattle.std.proofs.Common.{Bool, Some, ap, cond, false, inl, refl, subst, sym, true, ℕ, ⊎_elim, ◌∙◌, ◌≡◌}
+-- What a far side asked and is awaited is on a connection that is wired, or that is to be
+-- destroyed: each single change keeps it.
+use Rattle.std.proofs.Common.{
+  Bool,
+  Some,
+  ap,
+  cond,
+  false,
+  inl,
+  refl,
+  subst,
+  sym,
+  true,
+  ℕ,
+  ⊎_elim,
+  ◌∙◌,
+  ◌≡◌,
+}
 use Rattle.gb_base.specs.declared.end.Side.TheVariants as side
 use Rattle.gb_base.specs.declared.peers.Link.{Link}
 use Rattle.gb_base.specs.declared.steps.SequenceStep.{SequenceStep}
@@ -17,7 +32,17 @@ use Rattle.gb_invariants.proofs.Numbers.{found-number, found-by_number}
 use Rattle.gb_invariants.proofs.Selves.{front-self, put-self}
 use Rattle.gb_laws.proofs.Answering.{keeps-requests}
 use Rattle.gb_laws.proofs.Awaited.{awaited-rest}
-use Rattle.gb_laws.proofs.FarOpen.{FarFits, IsFarOn, IsToGo, far-attached, far-first, far-left, far-same, far-sent, far-unwired}
+use Rattle.gb_laws.proofs.FarOpen.{
+  FarFits,
+  IsFarOn,
+  IsToGo,
+  far-attached,
+  far-first,
+  far-left,
+  far-same,
+  far-sent,
+  far-unwired,
+}
 use Rattle.gb_laws.proofs.LinkActs.{ServedHost, as_before, awaited-host, host-served, with_more}
 use Rattle.gb_laws.proofs.LinkBuses.{new_link}
 use Rattle.gb_laws.proofs.LinkSources.{from-turn, from-unsent}
@@ -54,7 +79,15 @@ use Rattle.gb_laws.proofs.Points.{
   wires,
 }
 use Rattle.gb_laws.proofs.WiredOnceRuns.{pairs-more}
-use Rattle.gb_machine.specs.Bus.{Bus, Connection, Raw, Request, connection_of, other_side, request_of}
+use Rattle.gb_machine.specs.Bus.{
+  Bus,
+  Connection,
+  Raw,
+  Request,
+  connection_of,
+  other_side,
+  request_of,
+}
 use Rattle.gb_machine.specs.Delivery.{answered, without_front}
 use Rattle.gb_machine.specs.Host.{Host, is_link, with_interface, with_link}
 use Rattle.gb_machine.specs.HostActs.{with_awaited}

@@ -1,6 +1,29 @@
--- What a far side asked and is open is on a connection that is wired, where that is live. Where it is
--- gone a request to destroy it was made: at a removal nothing is wired.
-use Rattle.std.proofs.Common.{Bool, List, Some, [], ap, arith, false, inl, inr, refl, subst, suc, sym, true, zero, ℕ, ⊎_elim, ◌++◌, ◌∙◌, ◌∷◌, ◌≡◌, ◌⊎◌}
+-- What a far side asked and is open is on a connection that is wired, where that is live. Where it
+-- is gone a request to destroy it was made: at a removal nothing is wired.
+use Rattle.std.proofs.Common.{
+  Bool,
+  List,
+  Some,
+  [],
+  ap,
+  arith,
+  false,
+  inl,
+  inr,
+  refl,
+  subst,
+  suc,
+  sym,
+  true,
+  zero,
+  ℕ,
+  ⊎_elim,
+  ◌++◌,
+  ◌∙◌,
+  ◌∷◌,
+  ◌≡◌,
+  ◌⊎◌,
+}
 use Rattle.std.specs.Prelude.{◌&&◌, ◌||◌, ◌==◌}
 use Rattle.gb_base.specs.declared.entry.Entry.{Entry}
 use Rattle.gb_base.specs.declared.entry.Entry.TheVariants as entry

@@ -30,6 +30,7 @@ pub mod Ended
 pub mod Endpoints
 pub mod EnumRequests
 pub mod EnumRuns
+pub mod EnumDone
 pub mod EnumNone
 pub mod EnumSettled
 pub mod EnumSettledRuns

@@ -159,9 +159,9 @@ pub fn served_leaves_none()
     ensures { HoldsThroughout ServedLeavesNone }
 {}
 
-/// The enumeration of an interface waits for the last of its requests to the supervisory controller,
-/// and none waits there once that one was served. Where it waits for the module, or is done, none
-/// waits there.
+/// The enumeration of an interface waits for the last of its requests to the supervisory
+/// controller, and none waits there once that one was served. Where it waits for the module, or is
+/// done, none waits there.
 pub fn awaited_is_the_last()
     ensures { AwaitedIsTheLast }
 {}
