@@ -256,7 +256,7 @@ module _ (i : ℕ) (Calm : Type 0) where
 
   -- ---- what else is noticed
 
-  asks-none : (ls : List Link) (q : Asking) (rest : List Act) → (AsksIn q rest → ⊥)
+  pub asks-none : (ls : List Link) (q : Asking) (rest : List Act) → (AsksIn q rest → ⊥)
       → AsksIn q (links_left ls ++ rest) → ⊥
   asks-none [] q rest none h = none h
   asks-none (l ∷ ls) q rest none (asks_in (inl e)) = absurd cc

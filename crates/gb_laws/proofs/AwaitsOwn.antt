@@ -181,7 +181,7 @@ own-kept m a (asks d c label free live drawn who) links h =
     by : (w : IsAskedBy m a c d) (q : Asking) (n : ℕ) → awaited_by m a c d w ≡ Some (q, n)
         → is_enumeration q.purpose.step ≡ true
         → IsOwnWait q.purpose.intf n q.purpose.step (sent d label a.state.bus)
-    by (by_far far) q n e s =
+    by (by_far far on) q n e s =
         wait-more (keeps-requests m a (asks d c label free live drawn who)) (h.asked q n e s)
     by (by_host p rest pending draft none) q n e s =
         let is = same-some (p, next_number a.state.bus) (q, n) e in

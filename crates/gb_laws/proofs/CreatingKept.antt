@@ -115,7 +115,7 @@ nothing-some e = absurd cc
 
 -- ---- who asks
 
-far-side : (m : Moment) (a : Point) (d : Draft) (c : _) → IsFarAsking m a.state c d
+pub far-side : (m : Moment) (a : Point) (d : Draft) (c : _) → IsFarAsking m a.state c d
     → d.side ≡ side.Ap → ⊥
 far-side m a d c (by_module i p peer far) e = apart (sym far ∙ e)
   where
@@ -149,13 +149,13 @@ creates-kept m a (asks d c label free live drawn who) links r f then h = record 
     still : (w : IsAskedBy m a c d) (q : Asking) (n : ℕ) → a.asked ≡ Some (q, n)
         → awaited_by m a c d w ≡ Some (q, n)
     still (by_host p rest is draft none) q n e = absurd (nothing-some (sym none ∙ e))
-    still (by_far far) q n e = e
+    still (by_far far on) q n e = e
 
     new : (w : IsAskedBy m a c d) → d.connection ≡ 1 → d.side ≡ side.Ap
         → creates_one (requested d label) ≡ true
         → (q : Asking) × (awaited_by m a c d w ≡ Some (q, next_number a.state.bus))
     new (by_host p rest is draft none) one own e = (p, refl)
-    new (by_far far) one own e = absurd (far-side m a d c far own)
+    new (by_far far on) one own e = absurd (far-side m a d c far own)
 creates-kept m a (names name d c label free live drawn host) links r f then h = record {
   fit = creates-sent d label a.state.bus a.state.host.links a.state.past.made_for a.asked
       a.asked r.below (λ q n e. e)

@@ -45,7 +45,7 @@ behind-map f [] = refl
 behind-map f (x ∷ xs) = refl
 
 -- none passes where none is left
-none-left : {A : Type 0} (test : A → Bool) (xs : List A) → filter test xs ≡ []
+pub none-left : {A : Type 0} (test : A → Bool) (xs : List A) → filter test xs ≡ []
     → Each (λ x. test x ≡ false) xs
 none-left test [] e = tt
 none-left {A} test (x ∷ xs) e = by (test x) refl e (none-left test xs)

@@ -2,11 +2,18 @@
 use Rattle.gb_laws.proofs.Absent.{between-at_moments, unconnected-by_moments}
 use Rattle.gb_laws.proofs.AllRuns.{at-all, of-all, of-state}
 use Rattle.gb_laws.proofs.Answering.{answered-at_moments}
+use Rattle.gb_laws.proofs.AwaitsNewest.{awaits-newest_by_moments}
 use Rattle.gb_laws.proofs.AwaitsOwn.{awaits-own_by_moments}
 use Rattle.gb_laws.proofs.Causes.{causes-at_moments}
 use Rattle.gb_laws.proofs.Ended.{ends-told_by_moments}
 use Rattle.gb_laws.proofs.Endpoints.{endpoints-by_moments}
 use Rattle.gb_laws.proofs.EnumRuns.{restarts-by_moments, served-by_moments}
+use Rattle.gb_laws.proofs.EnumSettledRuns.{asked-none_by_moments, done-none_by_moments}
+use Rattle.gb_laws.proofs.FarOpenRuns.{
+  module-open_by_moments,
+  module-seen,
+  unwired-open_by_moments,
+}
 use Rattle.gb_laws.proofs.Foreign.{own-items, takes-at_moments}
 use Rattle.gb_laws.proofs.Happened.{ends-seen, items-seen, told-seen}
 use Rattle.gb_laws.proofs.QuietBefore.{quiet-before_moments}
@@ -21,7 +28,11 @@ use Rattle.gb_laws.proofs.StaleRuns.{stale-low_by_moments}
 use Rattle.gb_laws.proofs.ToldRuns.{absent-open_by_moments, absent-seen}
 use Rattle.gb_laws.proofs.WiredOnceRuns.{own-request_at_moments, wired-once_by_moments}
 use Rattle.gb_laws.proofs.WiredRemembered.{wired-remembered}
-use Rattle.gb_laws.specs.OwnSide.{AbsentHasNoOpenOfAp}
+use Rattle.gb_laws.specs.OwnSide.{
+  AbsentHasNoOpenOfAp,
+  AbsentHasNoOpenOfModule,
+  UnwiredHasNoOpenOfFar,
+}
 use Rattle.gb_laws.specs.OwnWaits.{AwaitsOwnRequest, OnlyRestarts, ServedLeavesNone}
 use Rattle.gb_laws.specs.OwnWires.{WiredIsRemembered}
 use Rattle.gb_laws.proofs.OpenRuns.{open-live_by_moments}
@@ -65,6 +76,8 @@ use Rattle.gb_machine.specs.LawsHotPlug.{
 }
 use Rattle.gb_machine.specs.LawsSvc.{
   AreRouted,
+  AwaitedIsTheLast,
+  AwaitsLast,
   FindsUnwired,
   IsQuiet,
   LeavesNothing,
@@ -131,6 +144,15 @@ open-live = of-all OpenIsLive (of-state _) open-live_by_moments
 -- open.
 pub absent-open : HoldsThroughout AbsentHasNoOpenOfAp
 absent-open = of-all AbsentHasNoOpenOfAp absent-seen absent-open_by_moments
+
+-- What isn't wired has no open request of its far side.
+pub unwired-open : HoldsThroughout UnwiredHasNoOpenOfFar
+unwired-open = of-all UnwiredHasNoOpenOfFar (of-state _) unwired-open_by_moments
+
+-- Where an interface is absent, an open request of a module is on a connection that was to be
+-- destroyed.
+pub module-open : HoldsThroughout AbsentHasNoOpenOfModule
+module-open = of-all AbsentHasNoOpenOfModule module-seen module-open_by_moments
 
 -- Which connections were ever wired is never forgotten.
 pub none-forgotten : HoldsAtEachMoment NoneForgotten
@@ -201,6 +223,31 @@ stale-unrouted = of-all StaleIsLow (of-state _) stale-low_by_moments
 -- None of its requests waits once the one that it waits for was served.
 pub served-leaves : HoldsThroughout ServedLeavesNone
 served-leaves = of-all ServedLeavesNone (of-state _) served-by_moments
+
+-- It waits for the last of its requests, and none waits where it waits for the module or is done.
+pub awaited-last : AwaitedIsTheLast
+awaited-last = of-all AwaitsLast (record {
+  there = λ told s h. record {
+    own = h.own;
+    last = h.last;
+    served = h.served;
+    asked = h.asked;
+    done = h.done;
+  };
+  back = λ told s h. record {
+    own = h.own;
+    last = h.last;
+    served = h.served;
+    asked = h.asked;
+    done = h.done;
+  };
+}) (λ es are. record {
+  own = awaits-own_by_moments es are;
+  last = awaits-newest_by_moments es are;
+  served = served-by_moments es are;
+  asked = asked-none_by_moments es are;
+  done = done-none_by_moments es are;
+})
 
 -- Each of its requests that waits, but the first, is a start.
 pub only-restarts : HoldsThroughout OnlyRestarts

@@ -162,8 +162,8 @@ frame-kept m absent other a (asks d c label free live drawn who) basis links h =
     by : IsAskedBy m a c d
         → (d.side ≡ side.Ap) ⊎ ((j : ℕ) × (p : ℕ) × (c.peer ≡ end.Module j p))
     by (by_host q rest is e none) = inl (ap (λ (x : Draft). x.side) e)
-    by (by_far (by_module j p e far)) = inr (j, p, e)
-    by (by_far (by_svc of far off)) = absurd (other of)
+    by (by_far (by_module j p e far) on) = inr (j, p, e)
+    by (by_far (by_svc of far off) on) = absurd (other of)
 frame-kept m absent other a (names name d c label free live drawn host) basis links h =
     frame-bus m a (changed m a (names name d c label free live drawn host)) (λ i. marks-asked a d c label i basis links live (inl host.0)) refl refl refl h
 frame-kept m absent other a (binds x y n is) basis links h = frame-bus m a _ (λ i. refl) refl refl refl h

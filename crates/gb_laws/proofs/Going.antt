@@ -127,7 +127,7 @@ module _ (m : Moment) (law : ActLaw m) where
 
   pub goes-asks : (acts : List Act) (wires : Wires) (d : Draft) (s : State)
       → ((c : Connection) → connection_of d.connection s.bus ≡ Some c
-      → IsFarAsking m s c d)
+      → IsFarAsking m s c d × (c.wired ≡ true))
       → Stays None acts wires (asking d) s
   unfolding machine_opened
   goes-asks acts wires d s who told at = by (connection_of d.connection s.bus) refl (label_for d s.bus) refl
@@ -145,7 +145,7 @@ module _ (m : Moment) (law : ActLaw m) where
       by (Some c) e None f = goes-nothing None acts wires s told at
       by (Some c) e (Some label) f =
           oneway d.oneway (record s { bus = sent d label s.bus }) (asked d c label s.bus) (next_number s.bus)
-          (law.kept _ (asks d c label refl e f (by_far (who c e))) tt at)
+          (law.kept _ (asks d c label refl e f (by_far (who c e).0 (who c e).1)) tt at)
 
   pub goes-far_asks : (acts : List Act) (wires : Wires) (k : ℕ) (own : OwnAsk) (s : State)
       → ((c : Connection) → connection_of k s.bus ≡ Some c → IsFarAsking m s c
@@ -155,7 +155,7 @@ module _ (m : Moment) (law : ActLaw m) where
       goes-when None acts wires (is_wired (connection_of k s.bus))
       (asking (draft k side.Far own.kind own.payload (s.now + default_timeout) own.oneway)) s
       (λ e. goes-asks acts wires (draft k side.Far own.kind own.payload (s.now + default_timeout) own.oneway) s
-      who)
+      (λ c f. (who c f, sym (ap is_wired f) ∙ e)))
 
   -- a module's requests, one after another
   pub goes-far_asks_all : (acts : List Act) (wires : Wires) (k : ℕ) (own : List OwnAsk) (s : State) → IsToModule k s.bus

@@ -5,6 +5,7 @@ pub mod Answering
 pub mod Asked
 pub mod AskedWaits
 pub mod Awaited
+pub mod AwaitsNewest
 pub mod AwaitsOwn
 pub mod Basics
 pub mod Causes
@@ -29,8 +30,16 @@ pub mod Ended
 pub mod Endpoints
 pub mod EnumRequests
 pub mod EnumRuns
+pub mod EnumDone
+pub mod EnumNone
+pub mod EnumSettled
+pub mod EnumSettledRuns
+pub mod EnumTurns
 pub mod Enums
 pub mod EveryRun
+pub mod FarOpen
+pub mod FarOpenKept
+pub mod FarOpenRuns
 pub mod Foreign
 pub mod Framing
 pub mod Going

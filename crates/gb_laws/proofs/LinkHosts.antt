@@ -116,7 +116,7 @@ present-changed i j f xs same p =
     (λ w. record { interface = f p.interface; known = w; is = same p.interface ∙ p.is })
     (at_first-back (is_intf j) f xs p.interface p.known)
 
-resting-changed : (i j : ℕ) (f : Interface → Interface) (xs : List Interface) → ((x : Interface) → (f x).intf ≡ x.intf)
+pub resting-changed : (i j : ℕ) (f : Interface → Interface) (xs : List Interface) → ((x : Interface) → (f x).intf ≡ x.intf)
     → ((x : Interface) → (f x).awaits ≡ x.awaits) → IsResting i xs → IsResting i (at_first (is_intf j) f xs)
 resting-changed i j f xs same waits h x k e =
     ⊎_elim (λ o. h x o e)

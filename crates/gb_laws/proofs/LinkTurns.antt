@@ -85,16 +85,16 @@ waits-interface n (x ∷ xs) p h = by (purpose_in n x.intf 0 x.awaits) refl h (w
       step = ap (λ (y : Purpose). y.step) (sym s.2);
     }
 
-record WaitsAt (ls : List Link) (p : Purpose) : Type 0 where
-  link : Link
-  live : IsIn link ls
-  intf : p.intf ≡ link.intf
-  cport : p.cport ≡ link.cport
-  what : ℕ × SequenceStep
-  awaits : link.awaits ≡ Some what
-  step : p.step ≡ what.1
+pub record WaitsAt (ls : List Link) (p : Purpose) : Type 0 where
+  pub link : Link
+  pub live : IsIn link ls
+  pub intf : p.intf ≡ link.intf
+  pub cport : p.cport ≡ link.cport
+  pub what : ℕ × SequenceStep
+  pub awaits : link.awaits ≡ Some what
+  pub step : p.step ≡ what.1
 
-waits-link : (n : ℕ) (ls : List Link) (p : Purpose) → link_waits n ls ≡ Some p → WaitsAt ls p
+pub waits-link : (n : ℕ) (ls : List Link) (p : Purpose) → link_waits n ls ≡ Some p → WaitsAt ls p
 waits-link n [] p h = absurd cc
 waits-link n (l ∷ ls) p h = by (purpose_in n l.intf l.cport l.awaits) refl h (waits-link n ls p)
   where
@@ -120,7 +120,7 @@ waits-link n (l ∷ ls) p h = by (purpose_in n l.intf l.cport l.awaits) refl h (
     }
 
 -- the step of a connect or close isn't one of an enumeration
-step-connects : (step : SequenceStep) (s : ConnState) → IsAtStep step s → is_enumeration step ≡ false
+pub step-connects : (step : SequenceStep) (s : ConnState) → IsAtStep step s → is_enumeration step ≡ false
 step-connects steps.CreateConnection s h = refl
 step-connects steps.TellConnected s h = refl
 step-connects steps.TellDisconnecting s h = refl

@@ -70,12 +70,12 @@ upon-asked : (m : Moment) (a : Point) (d : Draft) (c : Connection)
     → d.side ≡ side.Ap → IsUpon d.connection a.state.bus a.pending
 upon-asked m a d c live links (by_host q rest is draft none) ap_side =
     upon-host m a d c q rest live links is (ap (λ (x : Draft). x.connection) draft)
-upon-asked m a d c live links (by_far (by_module i p at far)) ap_side = absurd (apart
+upon-asked m a d c live links (by_far (by_module i p at far) on) ap_side = absurd (apart
     (sym ap_side ∙ far))
   where
     apart : side.Ap ≡ side.Far → ⊥
     apart e = absurd cc
-upon-asked m a d c live links (by_far (by_svc of far off)) ap_side = absurd (apart (sym ap_side
+upon-asked m a d c live links (by_far (by_svc of far off) on) ap_side = absurd (apart (sym ap_side
     ∙ far))
   where
     apart : side.Ap ≡ side.Far → ⊥

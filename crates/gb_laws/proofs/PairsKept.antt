@@ -85,7 +85,7 @@ pairs-kept m a (asks d c label free live drawn who) links r f =
   where
     by : (w : IsAskedBy m a c d) (q : Asking) (n : ℕ) → awaited_by m a c d w ≡ Some (q, n)
         → IsAskedAs q n (sent d label a.state.bus) a.state.past.made_for
-    by (by_far far) q n e = asked-more q n a.state.bus (sent d label a.state.bus)
+    by (by_far far on) q n e = asked-more q n a.state.bus (sent d label a.state.bus)
         a.state.past.made_for (keeps-requests m a (asks d c label free live drawn who))
         (f.asks q n e)
     by (by_host p rest is draft none) q n e =

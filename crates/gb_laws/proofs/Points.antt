@@ -164,17 +164,17 @@ pub data IsFarAsking (m : Moment) (s : State) (c : Connection) (d : Draft) : Typ
       → level_of i s.ports ≡ 0) → IsFarAsking m s c d
 
 -- Who asks on a connection at a point: the application processor does an act, and its sequence is to
--- wait for the request, or a far side asks.
+-- wait for the request, or a far side asks on a connection that is wired.
 pub data IsAskedBy (m : Moment) (a : Point) (c : Connection) (d : Draft) : Type 0 where
   by_host : (q : Asking) (rest : List Act) → a.pending ≡ Act.Ask q ∷ rest
       → d ≡ host_draft q a.state.now → a.asked ≡ None → IsAskedBy m a c d
-  by_far : IsFarAsking m a.state c d → IsAskedBy m a c d
+  by_far : IsFarAsking m a.state c d → c.wired ≡ true → IsAskedBy m a c d
 
 -- the request for which a sequence is to wait then
 abbrev pub awaited_by : (m : Moment) (a : Point) (c : Connection) (d : Draft)
     → IsAskedBy m a c d → Option (Asking × ℕ)
 awaited_by m a c d (by_host q rest is draft none) = Some (q, next_number a.state.bus)
-awaited_by m a c d (by_far who) = a.asked
+awaited_by m a c d (by_far who on) = a.asked
 
 -- Where the application processor takes notice of something, no request was made at the moment
 -- yet, unless it is the end of one that wasn't answered. A sequence goes on with an answer only

@@ -120,10 +120,10 @@ module _ (m : Moment) (i : ℕ) (before : Basis (resting m.told m.before))
           q rest label basis links there pending free none
           (ap (λ (x : Draft). record a.state { bus = sent x label a.state.bus }) draft) refl refl
           refl h
-      by (by_far far) =
-          quiet-still i a (changed m a (asks d c label free live is (by_far far)))
-          (view-far m i a (changed m a (asks d c label free live is (by_far far))) d c label basis
-          links there live refl refl refl far) (same-waits a.state.host) refl (λ q j. j) h
+      by (by_far far on) =
+          quiet-still i a (changed m a (asks d c label free live is (by_far far on)))
+          (view-far m i a (changed m a (asks d c label free live is (by_far far on))) d c label
+          basis links there live refl refl refl far) (same-waits a.state.host) refl (λ q j. j) h
   quiet-kept a (names name d c label free live is host) basis links there h =
       quiet-still i a (changed m a (names name d c label free live is host))
       (by host.1) (same-waits a.state.host) refl (λ q j. j) h

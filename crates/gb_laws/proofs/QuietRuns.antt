@@ -138,7 +138,7 @@ removal-waits i b (x ∷ xs) = by x (removal-waits i b xs)
     by (Raw bytes) h = h
     by (RawReply label kind result payload) h = h
 
-leaves : (told : List Entry) (s : State) → QuietTo told s → LeavesNothing told s
+pub leaves : (told : List Entry) (s : State) → QuietTo told s → LeavesNothing told s
 leaves told s h = record {
   low = low;
   unwired = λ i r. each-from (λ c. is_wired_to i c ≡ false) s.bus.connections

@@ -216,7 +216,7 @@ since-kept m absent a (asks d c label free live drawn who) basis links r h =
     by (by_host p rest is draft none) q n e =
         inr (sym (ap (λ (w : Asking × ℕ). w.1)
         (same-some (p, length a.state.bus.requests + 1) (q, n) e)))
-    by (by_far far) q n e = inl e
+    by (by_far far on) q n e = inl e
 since-kept m absent a (names name d c label free live drawn host) basis links r h =
     since-sent m a (changed m a (names name d c label free live drawn host)) (requested d label)
     refl refl refl (λ q n e. inl e) h

@@ -145,7 +145,7 @@ remembers-kept m a (asks d c label free live drawn who) h =
         → Remembers (length a.state.bus.requests + 1) a.state.past.made_for (awaited_by m a c d w)
     by (by_host q rest is draft none) =
         remembers-asked (length a.state.bus.requests) a.state.past.made_for a.asked q h
-    by (by_far far) =
+    by (by_far far on) =
         remembers-more (length a.state.bus.requests) a.state.past.made_for a.asked h
 remembers-kept m a (names name d c label free live drawn host) h =
     remembers-sent a.asked a.state.past.made_for a.state.bus.requests (requested d label)

@@ -111,7 +111,7 @@ pub record IsCool (i : ℕ) (a : Point) : Type 0 where
 
 -- ---- the queue moves
 
-behind-in : (xs : List Item) (x : Item) → IsIn x (behind_first xs) → IsIn x xs
+pub behind-in : (xs : List Item) (x : Item) → IsIn x (behind_first xs) → IsIn x xs
 behind-in [] x i = absurd i
 behind-in (y ∷ ys) x i = inr i
 

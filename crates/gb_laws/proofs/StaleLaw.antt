@@ -109,9 +109,9 @@ module _ (m : Moment) (absent : InsertsAbsent m) (i : ℕ)
           (changed m a (asks d c label free live is (by_host q rest pending draft none))) q rest
           label f pending none
           (ap (λ (x : Draft). record a.state { bus = sent x label a.state.bus }) draft) refl h
-      by (by_far far) =
+      by (by_far far on) =
           cool-sent m i a
-          (changed m a (asks d c label free live is (by_far far))) d label f refl refl refl refl
+          (changed m a (asks d c label free live is (by_far far on))) d label f refl refl refl refl
           refl refl (λ one own e. absurd (far-apart (sym own ∙ far-side far))) h
         where
           far-side : IsFarAsking m a.state c d → d.side ≡ side.Far

@@ -76,7 +76,7 @@ stays-behind (x ∷ xs) n k h low i (inr j) = j
 stays-behind (x ∷ xs) n k h low i (inl e) =
     let less = h.0 n k (sym e) i in absurd (omega (arith, less, low))
 
-same-ask : (n k : ℕ) → Ask n ≡ Ask k → n ≡ k
+pub same-ask : (n k : ℕ) → Ask n ≡ Ask k → n ≡ k
 same-ask n k e = cc
 
 -- ---- each change

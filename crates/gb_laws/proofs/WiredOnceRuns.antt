@@ -69,7 +69,7 @@ use Rattle.gb_machine.specs.Waits.{awaits}
 -- ---- what is remembered
 
 -- What is remembered stays so.
-pairs-more : (m : Moment) (a : Point) (x : Change m a) (n k : ℕ)
+pub pairs-more : (m : Moment) (a : Point) (x : Change m a) (n k : ℕ)
     → IsIn (n, k) a.state.past.made_for → IsIn (n, k) (changed m a x).state.past.made_for
 pairs-more m a (acts_asked q j rest is) n k i =
     by (is_for_connection q.purpose.step)

@@ -1,10 +1,10 @@
--- What `AbsentHasNoOpen` of gb_machine says of the application processor's side.
-use Rattle.std.specs.Prelude.{◌≡◌, ℕ, false, Some, None, List}
+-- What `AbsentHasNoOpen` of gb_machine says of the two sides of a connection.
+use Rattle.std.specs.Prelude.{◌≡◌, ℕ, true, false, Some, None, List}
 use Rattle.gb_base.specs.declared.end.Side.TheVariants as side
 use Rattle.gb_base.specs.declared.entry.ConnState.{ConnState}
 use Rattle.gb_base.specs.declared.entry.Entry.{Entry}
 use Rattle.gb_base.specs.declared.entry.Entry.TheVariants as entry
-use Rattle.gb_machine.specs.Bus.{Request, is_open, request_of}
+use Rattle.gb_machine.specs.Bus.{Connection, Request, connection_of, is_open, request_of}
 use Rattle.gb_machine.specs.Host.{interface_of}
 use Rattle.gb_machine.specs.Members.{IsIn}
 use Rattle.gb_machine.specs.State.{State}
@@ -16,3 +16,25 @@ AbsentHasNoOpenOfAp told s =
     (i k own c n : ℕ) (state : ConnState) (r : Request) → interface_of i s.host ≡ None
     → IsIn (entry.Connection k own i c state) told → request_of n s.bus ≡ Some r
     → r.connection ≡ k → r.side ≡ side.Ap → is_open n s.bus ≡ false
+
+-- a request to destroy connection k was made, by its type CONN_DESTROY
+pub record IsToBeDestroyed (k : ℕ) (s : State) : Type 0 where
+  pub number : ℕ
+  pub request : Request
+  pub own : IsIn (number, k) s.past.made_for
+  pub made : request_of number s.bus ≡ Some request
+  pub destroys : request.kind ≡ 0x08
+
+-- Where a far side has an open request on a connection that is live, that is wired.
+abbrev pub UnwiredHasNoOpenOfFar : List Entry → State → Type 0
+UnwiredHasNoOpenOfFar told s =
+    (n : ℕ) (r : Request) (c : Connection) → request_of n s.bus ≡ Some r → r.side ≡ side.Far
+    → connection_of r.connection s.bus ≡ Some c → c.wired ≡ false → is_open n s.bus ≡ false
+
+-- Nothing that a module asked on a connection that named an absent interface is open, unless a
+-- request to destroy that connection was made: it went with its interface otherwise.
+abbrev pub AbsentHasNoOpenOfModule : List Entry → State → Type 0
+AbsentHasNoOpenOfModule told s =
+    (i k own c n : ℕ) (state : ConnState) (r : Request) → interface_of i s.host ≡ None
+    → IsIn (entry.Connection k own i c state) told → request_of n s.bus ≡ Some r
+    → r.connection ≡ k → r.side ≡ side.Far → is_open n s.bus ≡ true → IsToBeDestroyed k s

@@ -2,7 +2,11 @@
 //! are the events of the run with each settle taken apart into its deliveries.
 
 ghost use Rattle.gb_laws.specs.NoneLeft.{NoneLeftMeansAllInUse};
-ghost use Rattle.gb_laws.specs.OwnSide.{AbsentHasNoOpenOfAp};
+ghost use Rattle.gb_laws.specs.OwnSide.{
+  AbsentHasNoOpenOfAp,
+  AbsentHasNoOpenOfModule,
+  UnwiredHasNoOpenOfFar,
+};
 ghost use Rattle.gb_laws.specs.OwnWaits.{AwaitsOwnRequest, OnlyRestarts, ServedLeavesNone};
 ghost use Rattle.gb_laws.specs.OwnWires.{WiredIsRemembered};
 ghost use Rattle.gb_machine.specs.LawsBus.{
@@ -31,6 +35,7 @@ ghost use Rattle.gb_machine.specs.LawsHotPlug.{
   WiredOnce,
 };
 ghost use Rattle.gb_machine.specs.LawsSvc.{
+  AwaitedIsTheLast,
   QuietBeforeRemoval,
   RemovalLeavesNothingWired,
   StaleRequestsMeetLowLevel,
@@ -112,6 +117,17 @@ pub fn absent_has_no_open_of_ap()
     ensures { HoldsThroughout AbsentHasNoOpenOfAp }
 {}
 
+/// Nothing that a far side asked on a live connection is open where that isn't wired.
+pub fn unwired_has_no_open_of_far()
+    ensures { HoldsThroughout UnwiredHasNoOpenOfFar }
+{}
+
+/// Nothing that a module asked on a connection that named an absent interface is open, unless a
+/// request to destroy that connection was made.
+pub fn absent_has_no_open_of_module()
+    ensures { HoldsThroughout AbsentHasNoOpenOfModule }
+{}
+
 /// While MODULE_REMOVED of an interface waits toward the application processor, the power level of
 /// the interface is at most 1 and none of its connections is wired; so none is where it is handled.
 pub fn removal_leaves_nothing_wired()
@@ -141,6 +157,13 @@ pub fn awaits_own_request()
 /// enumeration does.
 pub fn served_leaves_none()
     ensures { HoldsThroughout ServedLeavesNone }
+{}
+
+/// The enumeration of an interface waits for the last of its requests to the supervisory
+/// controller, and none waits there once that one was served. Where it waits for the module, or is
+/// done, none waits there.
+pub fn awaited_is_the_last()
+    ensures { AwaitedIsTheLast }
 {}
 
 /// Of the requests of an enumeration that wait toward the supervisory controller each but the first
