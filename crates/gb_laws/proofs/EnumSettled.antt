@@ -264,7 +264,8 @@ turn-enums m absent i (HostEvent.Ended n how) a basis links there over cause qui
 
 pub settled-turned : (m : Moment) → InsertsAbsent m → (i : ℕ) (e : HostEvent) (a b : Point)
     → Basis a → LinkedAt a → There a.state.bus → IsOver m e a.state.bus
-    → IsCaused m e a.state.host → IsQuiet i a → b.state ≡ record a.state { host = (host_turn e a.state.host).host }
+    → IsCaused m e a.state.host → IsQuiet i a
+    → b.state ≡ record a.state { host = (host_turn e a.state.host).host }
     → b.pending ≡ (host_turn e a.state.host).acts → IsSettled i a → IsSettled i b
 settled-turned m absent i e a b basis links there over cause quiet state pending h = record {
   done = λ d. onto (⊎_elim (λ o. h.done o) (λ c. c.0) (t.done (back d)));
