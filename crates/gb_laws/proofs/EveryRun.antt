@@ -12,6 +12,7 @@ use Rattle.gb_laws.proofs.EnumSettledRuns.{asked-none_by_moments, done-none_by_m
 use Rattle.gb_laws.proofs.FarOpenRuns.{
   module-open_by_moments,
   module-seen,
+  none-open_at_moments,
   unwired-open_by_moments,
 }
 use Rattle.gb_laws.proofs.Foreign.{own-items, takes-at_moments}
@@ -31,6 +32,7 @@ use Rattle.gb_laws.proofs.WiredRemembered.{wired-remembered}
 use Rattle.gb_laws.specs.OwnSide.{
   AbsentHasNoOpenOfAp,
   AbsentHasNoOpenOfModule,
+  FindsNoneOpen,
   UnwiredHasNoOpenOfFar,
 }
 use Rattle.gb_laws.specs.OwnWaits.{AwaitsOwnRequest, OnlyRestarts, ServedLeavesNone}
@@ -148,6 +150,10 @@ absent-open = of-all AbsentHasNoOpenOfAp absent-seen absent-open_by_moments
 -- What isn't wired has no open request of its far side.
 pub unwired-open : HoldsThroughout UnwiredHasNoOpenOfFar
 unwired-open = of-all UnwiredHasNoOpenOfFar (of-state _) unwired-open_by_moments
+
+-- A removal that is handled finds none open that the module asked.
+pub none-open : HoldsAtEachMoment FindsNoneOpen
+none-open = at-all FindsNoneOpen none-open_at_moments
 
 -- Where an interface is absent, an open request of a module is on a connection that was to be
 -- destroyed.

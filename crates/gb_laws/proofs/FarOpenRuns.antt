@@ -71,7 +71,7 @@ use Rattle.gb_laws.proofs.Points.{
   wires,
 }
 use Rattle.gb_laws.proofs.QuietRuns.{leaves, waits-before}
-use Rattle.gb_laws.proofs.Runs.{HoldsByMoments, throughout, weaker}
+use Rattle.gb_laws.proofs.Runs.{HoldsAtMoments, HoldsByMoments, at_each, throughout, weaker}
 use Rattle.gb_laws.proofs.StaleBase.{StaleBase, base-kept}
 use Rattle.gb_laws.proofs.StaleRuns.{StaleTo, stale-over, stale-throughout, start-base}
 use Rattle.gb_laws.proofs.Steps.{over-step}
@@ -81,6 +81,7 @@ use Rattle.gb_laws.proofs.WiredOnceRuns.{pairs-more}
 use Rattle.gb_laws.proofs.WiredSo.{WiredAreSo, so-kept}
 use Rattle.gb_laws.specs.OwnSide.{
   AbsentHasNoOpenOfModule,
+  FindsNoneOpen,
   IsToBeDestroyed,
   UnwiredHasNoOpenOfFar,
 }
@@ -299,6 +300,20 @@ unwired-none told s h n r c made far live off = by (is_open n s.bus) refl
 -- What isn't wired has no open request of its far side.
 pub unwired-open_by_moments : HoldsByMoments UnwiredHasNoOpenOfFar
 unwired-open_by_moments = weaker FarTo UnwiredHasNoOpenOfFar unwired-none far-throughout
+
+-- A removal that is handled finds none open that the module asked.
+pub none-open_at_moments : HoldsAtMoments FindsNoneOpen
+none-open_at_moments = at_each FarTo FindsNoneOpen far-throughout
+    (λ m one h i n r c removal made far live at.
+    let x = found-number r.connection m.before.bus c live in
+    let cold = each-in (λ y. is_wired_to i y ≡ false) m.before.bus.connections c
+    ((leaves m.told m.before h.stale.quiet).unwired i (waits-before i m removal)) x.0 in
+    unwired-none m.told m.before h n r c made far live (off c.wired (is_at i c.peer) at cold))
+  where
+    off : (t u : Bool) → u ≡ true → t && u ≡ false → t ≡ false
+    off true true e f = absurd cc
+    off true false e f = absurd cc
+    off false u e f = refl
 
 -- Where an interface is absent, an open request of a module is on a connection that was to be
 -- destroyed.

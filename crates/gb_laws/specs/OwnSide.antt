@@ -7,7 +7,10 @@ use Rattle.gb_base.specs.declared.entry.Entry.TheVariants as entry
 use Rattle.gb_machine.specs.Bus.{Connection, Request, connection_of, is_open, request_of}
 use Rattle.gb_machine.specs.Host.{interface_of}
 use Rattle.gb_machine.specs.Members.{IsIn}
+use Rattle.gb_machine.specs.Runs.{Moment}
 use Rattle.gb_machine.specs.State.{State}
+use Rattle.gb_machine.specs.SvcQueues.{HandlesRemoval}
+use Rattle.gb_machine.specs.Wiring.{is_at}
 
 -- Nothing that the application processor asked on a connection that named an absent interface is
 -- open.
@@ -38,3 +41,12 @@ AbsentHasNoOpenOfModule told s =
     (i k own c n : ℕ) (state : ConnState) (r : Request) → interface_of i s.host ≡ None
     → IsIn (entry.Connection k own i c state) told → request_of n s.bus ≡ Some r
     → r.connection ≡ k → r.side ≡ side.Far → is_open n s.bus ≡ true → IsToBeDestroyed k s
+
+-- A removal that the application processor handles finds nothing open that the module asked on a
+-- connection which is live.
+abbrev pub FindsNoneOpen : Moment → Type 0
+FindsNoneOpen m =
+    (i n : ℕ) (r : Request) (c : Connection) → HandlesRemoval i m
+    → request_of n m.before.bus ≡ Some r → r.side ≡ side.Far
+    → connection_of r.connection m.before.bus ≡ Some c → is_at i c.peer ≡ true
+    → is_open n m.before.bus ≡ false

@@ -5,6 +5,7 @@ ghost use Rattle.gb_laws.specs.NoneLeft.{NoneLeftMeansAllInUse};
 ghost use Rattle.gb_laws.specs.OwnSide.{
   AbsentHasNoOpenOfAp,
   AbsentHasNoOpenOfModule,
+  FindsNoneOpen,
   UnwiredHasNoOpenOfFar,
 };
 ghost use Rattle.gb_laws.specs.OwnWaits.{AwaitsOwnRequest, OnlyRestarts, ServedLeavesNone};
@@ -120,6 +121,12 @@ pub fn absent_has_no_open_of_ap()
 /// Nothing that a far side asked on a live connection is open where that isn't wired.
 pub fn unwired_has_no_open_of_far()
     ensures { HoldsThroughout UnwiredHasNoOpenOfFar }
+{}
+
+/// A removal that the application processor handles finds nothing open that the module asked on a
+/// connection which is live then.
+pub fn removal_finds_none_open()
+    ensures { HoldsAtEachMoment FindsNoneOpen }
 {}
 
 /// Nothing that a module asked on a connection that named an absent interface is open, unless a

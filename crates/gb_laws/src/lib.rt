@@ -10,8 +10,8 @@ pub use laws::{
     credits_add_up, endpoints_differ, ends_are_told, ends_at_most_once, every_end_has_its_cause,
     labels_differ, names_name_requests, no_foreign_message, none_forgotten,
     none_left_means_all_in_use, one_item_a_number, only_restarts_wait, open_is_live,
-    quiet_before_removal, remembered_for_one, remembered_while_live, removal_leaves_nothing_wired,
-    replies_are_awaited, served_leaves_none, settles_are_deliveries, stale_requests_meet_low_level,
-    unwired_has_no_open_of_far, wired_at_most_once, wired_by_its_request, wired_is_remembered,
-    wired_means_routed, wired_once,
+    quiet_before_removal, remembered_for_one, remembered_while_live, removal_finds_none_open,
+    removal_leaves_nothing_wired, replies_are_awaited, served_leaves_none, settles_are_deliveries,
+    stale_requests_meet_low_level, unwired_has_no_open_of_far, wired_at_most_once,
+    wired_by_its_request, wired_is_remembered, wired_means_routed, wired_once,
 };
