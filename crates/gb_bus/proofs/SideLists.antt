@@ -71,22 +71,6 @@ was {A} number k j f xs x same h = by (cases_eq j k)
         ∙ ap (λ n. find (λ a. number a == j) (at_first (λ a. number a == n) f xs)) is ∙ h)
     by (inr other) = past other (sym (find-past number k j f xs same other) ∙ h)
 
--- two changes of one member
-pub twice : {A : Type 0} (test : A → Bool) (f g : A → A) (xs : List A)
-    → ((x : A) → test (f x) ≡ test x)
-    → at_first test g (at_first test f xs) ≡ at_first test (λ x. g (f x)) xs
-twice test f g [] same = refl
-twice test f g (x ∷ xs) same = by (test x) refl (twice test f g xs same)
-  where
-    by : (b : Bool) → test x ≡ b
-        → at_first test g (at_first test f xs) ≡ at_first test (λ x. g (f x)) xs
-        → at_first test g (cond b (f x ∷ xs) (x ∷ at_first test f xs))
-        ≡ cond b (g (f x) ∷ xs) (x ∷ at_first test (λ x. g (f x)) xs)
-    by true e rec = ap (λ t. cond t (g (f x) ∷ xs) (f x ∷ at_first test g xs)) (same x ∙ e)
-    by false e rec =
-        ap (λ t. cond t (g x ∷ at_first test f xs) (x ∷ at_first test g (at_first test f xs))) e
-        ∙ ap (λ ys. x ∷ ys) rec
-
 -- ---- one is there no more
 
 none-of : {A : Type 0} (test : A → Bool) (xs : List A) → find test (without test xs) ≡ None

@@ -5,7 +5,8 @@ use Rattle.gb_base.specs.declared.end.Side.{Side}
 use Rattle.gb_base.specs.declared.end.Side.TheVariants as side
 use Rattle.gb_bus.proofs.Finding.{twin}
 use Rattle.gb_bus.proofs.SideLists.{Was, here, past, was}
-use Rattle.gb_bus.proofs.SideParts.{with_ops-number, with_ops-other, with_ops-own}
+use Rattle.gb_bus.proofs.Moves.{ops-number}
+use Rattle.gb_bus.proofs.SideParts.{with_ops-other, with_ops-own}
 use Rattle.gb_bus.proofs.SideStates.{SameSide, keeps-same, same-side}
 use Rattle.gb_bus.specs.Parts.{numbered, ops_of, with_ops}
 use Rattle.gb_bus.specs.Sides.{ChangesSide}
@@ -144,7 +145,7 @@ pub changes-side : (xs ys : List Connection) (b after : machine.Bus) (k : ℕ) (
     → KeepSides xs b → KeepSides ys after
 changes-side xs ys b after k at R same c own others keeps =
     subst (λ zs. KeepSides zs after) (sym c.rest)
-    (combine xs b after k at (with_ops at c.after) (λ d. d) (with_ops-number at c.after)
+    (combine xs b after k at (with_ops at c.after) (λ d. d) (ops-number at c.after)
     (λ on x other. with_ops-other at on c.after x other) (λ on d other. refl)
     (λ j d live. unchanged b k j d (ap (find (has_number j)) (sym same) ∙ live))
     (λ x d found live.

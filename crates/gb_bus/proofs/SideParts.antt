@@ -1,11 +1,11 @@
 -- What a change of one connection leaves of its number and of its sides.
-use Rattle.std.proofs.Common.{◌≡◌, ℕ, Bool, true, false, cond, List, [], ◌∷◌, ◌++◌, refl, ap, ◌∙◌}
+use Rattle.std.proofs.Common.{◌≡◌, ℕ, Bool, true, false, cond, refl, ap, ◌∙◌}
 use Rattle.gb_base.specs.declared.end.End.{End}
 use Rattle.gb_base.specs.declared.end.Side.{Side}
 use Rattle.gb_base.specs.declared.end.Side.TheVariants as side
-use Rattle.gb_bus.specs.Parts.{new_connection, ops_of, put, queue_of, with_ops, with_queue}
+use Rattle.gb_bus.proofs.Moves.{put-last}
+use Rattle.gb_bus.specs.Parts.{new_connection, ops_of, with_ops}
 use Rattle.gb_bus.specs.declared.connection.Connection.{Connection}
-use Rattle.gb_bus.specs.declared.queue.Item.{Item}
 use Rattle.gb_machine.specs.Bus as machine
 use Rattle.gb_machine.specs.Labels.{last_label, with_last_label}
 use Rattle.gb_machine.specs.Sending as sending
@@ -15,11 +15,6 @@ use Rattle.gb_ops.specs.Calls.{no_operations}
 use Rattle.gb_ops.specs.Operations.{Operations}
 
 -- ---- other operations of a side
-
-pub with_ops-number : (at : Side) (o : Operations) (x : Connection)
-    → (with_ops at o x).number ≡ x.number
-with_ops-number side.Ap o x = refl
-with_ops-number side.Far o x = refl
 
 pub with_ops-own : (at : Side) (o : Operations) (x : Connection) → ops_of at (with_ops at o x) ≡ o
 with_ops-own side.Ap o x = refl
@@ -32,36 +27,6 @@ with_ops-other side.Far side.Far o x other = absurd (other refl)
 with_ops-other side.Ap side.Far o x other = refl
 with_ops-other side.Far side.Ap o x other = refl
 
--- ---- a message more
-
-queue-number : (at : Side) (is : List Item) (x : Connection)
-    → (with_queue at is x).number ≡ x.number
-queue-number side.Ap is x = refl
-queue-number side.Far is x = refl
-
-pub put-number : (at : Side) (i : Item) (x : Connection) → (put at i x).number ≡ x.number
-put-number at i x = by x.wired
-  where
-    by : (t : Bool)
-        → (cond t (with_queue at (queue_of at x ++ i ∷ []) x) x).number ≡ x.number
-    by true = queue-number at (queue_of at x ++ i ∷ []) x
-    by false = refl
-
-queue-ops : (on at : Side) (is : List Item) (x : Connection)
-    → ops_of on (with_queue at is x) ≡ ops_of on x
-queue-ops side.Ap side.Ap is x = refl
-queue-ops side.Ap side.Far is x = refl
-queue-ops side.Far side.Ap is x = refl
-queue-ops side.Far side.Far is x = refl
-
-pub put-ops : (on at : Side) (i : Item) (x : Connection) → ops_of on (put at i x) ≡ ops_of on x
-put-ops on at i x = by x.wired
-  where
-    by : (t : Bool)
-        → ops_of on (cond t (with_queue at (queue_of at x ++ i ∷ []) x) x) ≡ ops_of on x
-    by true = queue-ops on at (queue_of at x ++ i ∷ []) x
-    by false = refl
-
 queued-number : (at : Side) (i : machine.Item) (c : machine.Connection)
     → (queued at i c).number ≡ c.number
 queued-number side.Ap i c = refl
@@ -73,21 +38,6 @@ put-stays at i c = by c.wired
   where
     by : (t : Bool) → (cond t (queued at i c) c).number ≡ c.number
     by true = queued-number at i c
-    by false = refl
-
-queued-last : (on at : Side) (i : machine.Item) (c : machine.Connection)
-    → last_label on (queued at i c) ≡ last_label on c
-queued-last side.Ap side.Ap i c = refl
-queued-last side.Ap side.Far i c = refl
-queued-last side.Far side.Ap i c = refl
-queued-last side.Far side.Far i c = refl
-
-put-last : (on at : Side) (i : machine.Item) (c : machine.Connection)
-    → last_label on (sending.put at i c) ≡ last_label on c
-put-last on at i c = by c.wired
-  where
-    by : (t : Bool) → last_label on (cond t (queued at i c) c) ≡ last_label on c
-    by true = queued-last on at i c
     by false = refl
 
 -- ---- an identifier is drawn
@@ -139,20 +89,20 @@ asking-number d label i c =
 pub asking-own : (d : Draft) (label : ℕ) (i : machine.Item) (c : machine.Connection)
     → d.oneway ≡ false → last_label d.side (asking d label i c) ≡ label
 asking-own d label i c twoway =
-    put-last d.side (machine.other_side d.side) i (drawn d label c)
+    put-last (machine.other_side d.side) i d.side (drawn d label c)
     ∙ ap (λ t. last_label d.side (cond t c (with_last_label d.side label c))) twoway
     ∙ labelled-own d.side label c
 
 pub asking-other : (on : Side) (d : Draft) (label : ℕ) (i : machine.Item) (c : machine.Connection)
     → (d.side ≡ on → ⊥) → last_label on (asking d label i c) ≡ last_label on c
 asking-other on d label i c other =
-    put-last on (machine.other_side d.side) i (drawn d label c) ∙ drawn-other on d label c other
+    put-last (machine.other_side d.side) i on (drawn d label c) ∙ drawn-other on d label c other
 
 pub asking-oneway : (on : Side) (d : Draft) (label : ℕ) (i : machine.Item)
     (c : machine.Connection)
     → d.oneway ≡ true → last_label on (asking d label i c) ≡ last_label on c
 asking-oneway on d label i c oneway =
-    put-last on (machine.other_side d.side) i (drawn d label c)
+    put-last (machine.other_side d.side) i on (drawn d label c)
     ∙ ap (λ t. last_label on (cond t c (with_last_label d.side label c))) oneway
 
 -- ---- a new connection

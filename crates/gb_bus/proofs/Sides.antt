@@ -6,9 +6,11 @@ use Rattle.gb_base.specs.declared.end.Side.TheVariants as side
 use Rattle.gb_base.specs.declared.outcome.Outcome.{Outcome}
 use Rattle.gb_bus.proofs.Finding.{no-twin, twin}
 use Rattle.gb_bus.proofs.SideChanges.{marked-over, side-closes, side-ends, side-forgets, side-gives_up}
-use Rattle.gb_bus.proofs.SideLists.{find-behind, find-front, find-left, find-one, not-none, twice}
+use Rattle.gb_bus.proofs.SideLists.{find-behind, find-front, find-left, find-one, not-none}
 use Rattle.gb_bus.proofs.SideMoves.{before, changed, changes-side, combine, elsewhere, moved, same-requests, unchanged}
-use Rattle.gb_bus.proofs.SideParts.{asking, asking-number, asking-oneway, asking-other, asking-own, new-last, new-ops, put-number, put-ops, with_ops-number, with_ops-other, with_ops-own}
+use Rattle.gb_bus.proofs.Changing.{twice}
+use Rattle.gb_bus.proofs.Moves.{ops-number, put-number, put-ops}
+use Rattle.gb_bus.proofs.SideParts.{asking, asking-number, asking-oneway, asking-other, asking-own, new-last, new-ops, with_ops-other, with_ops-own}
 use Rattle.gb_bus.proofs.SideSends.{next-is, same-sent, side-begins}
 use Rattle.gb_bus.proofs.SideStates.{is-pending, keeps-by, keeps-same, same-closed, same-ended, same-forgotten, same-gave_up, same-side}
 use Rattle.gb_bus.specs.Parts.{new_connection, numbered, ops_of, put, with_ops}
@@ -144,8 +146,8 @@ sides-sent loose xs ys b d label i stand fits twoway changes keeps =
     subst (λ zs. KeepSides zs (sent d label b)) (sym both)
     (combine xs b (sent d label b) d.connection d.side f (asking d label (Ask (next_number b)))
     (λ x. put-number (other_side d.side) i (with_ops d.side changes.after x)
-    ∙ with_ops-number d.side changes.after x)
-    (λ on x other. put-ops on (other_side d.side) i (with_ops d.side changes.after x)
+    ∙ ops-number d.side changes.after x)
+    (λ on x other. put-ops (other_side d.side) i on (with_ops d.side changes.after x)
     ∙ with_ops-other d.side on changes.after x other)
     (λ on c other. asking-other on d label (Ask (next_number b)) c other)
     (λ j c live.
@@ -161,9 +163,9 @@ sides-sent loose xs ys b d label i stand fits twoway changes keeps =
         ≡ at_first (numbered d.connection) f xs
     both =
         ap (at_first (numbered d.connection) (put (other_side d.side) i)) changes.rest
-        ∙ twice (numbered d.connection) (with_ops d.side changes.after)
-        (put (other_side d.side) i) xs
-        (λ x. ap (λ n. n == d.connection) (with_ops-number d.side changes.after x))
+        ∙ twice (numbered d.connection) (put (other_side d.side) i)
+        (with_ops d.side changes.after) xs
+        (λ x. ap (λ n. n == d.connection) (ops-number d.side changes.after x))
 
     own : (x : Connection) (c : machine.Connection) → find (numbered d.connection) xs ≡ Some x
         → connection_of d.connection b ≡ Some c
@@ -172,7 +174,7 @@ sides-sent loose xs ys b d label i stand fits twoway changes keeps =
     own x c found live =
         moved d.connection d.connection d.side d.side changes.after (ops_of d.side (f x)) label
         (last_label d.side (asking d label (Ask (next_number b)) c)) (sent d label b) refl refl
-        (sym (put-ops d.side (other_side d.side) i (with_ops d.side changes.after x)
+        (sym (put-ops (other_side d.side) i d.side (with_ops d.side changes.after x)
         ∙ with_ops-own d.side changes.after x))
         (sym (asking-own d label (Ask (next_number b)) c twoway))
         (side-begins (ops_of d.side changes.connection) changes.after b c d label fits.outcomes
@@ -190,7 +192,7 @@ pub sides-sent_oneway : (loose : List Loose) (xs : List Connection) (b : machine
 sides-sent_oneway loose xs b d label i fits oneway keeps =
     combine xs b (sent d label b) d.connection d.side (put (other_side d.side) i)
     (asking d label (Ask (next_number b))) (put-number (other_side d.side) i)
-    (λ on x other. put-ops on (other_side d.side) i x)
+    (λ on x other. put-ops (other_side d.side) i on x)
     (λ on c other. asking-oneway on d label (Ask (next_number b)) c oneway)
     (λ j c live.
     changed b d.connection j (asking d label (Ask (next_number b))) c
@@ -199,7 +201,7 @@ sides-sent_oneway loose xs b d label i fits oneway keeps =
     moved d.connection d.connection d.side d.side (ops_of d.side x)
     (ops_of d.side (put (other_side d.side) i x)) (last_label d.side c)
     (last_label d.side (asking d label (Ask (next_number b)) c)) (sent d label b) refl refl
-    (sym (put-ops d.side (other_side d.side) i x))
+    (sym (put-ops (other_side d.side) i d.side x))
     (sym (asking-oneway d.side d label (Ask (next_number b)) c oneway))
     (keeps-same d.connection d.side (ops_of d.side x) (last_label d.side c) b (sent d label b)
     (same-sent d.connection d.side d label b fits.outcomes (inr oneway))
@@ -279,7 +281,7 @@ pub sides-closed : (xs : List Connection) (b : machine.Bus) (k : ℕ) (at : Side
     (side_ended k at b)
 sides-closed xs b k at keeps =
     combine xs b (side_ended k at b) k at (λ x. with_ops at (emptied (ops_of at x)) x) (λ c. c)
-    (λ x. with_ops-number at (emptied (ops_of at x)) x)
+    (λ x. ops-number at (emptied (ops_of at x)) x)
     (λ on x other. with_ops-other at on (emptied (ops_of at x)) x other) (λ on c other. refl)
     (λ j c live. unchanged b k j c live)
     (λ x c found live.
