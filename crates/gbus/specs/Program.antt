@@ -13,8 +13,8 @@ use Rattle.gb_formats.specs.Built.{is_built}
 use Rattle.gbus.specs.Manifests.{manifest_text, manifest_verdict}
 
 -- What the words ask for: the report of a script, with message bytes where hex is wanted; or the
--- check of a manifest, with its dump where that is wanted; or the summary of the script that is made
--- from a number.
+-- check of a manifest, with its dump where that is wanted; or the summary of the script that is
+-- made from a number.
 pub data Job : Type 0 where
   Run : Bool → Job
   Check : Bool → Job
@@ -77,8 +77,8 @@ reads (Some (Drive seed)) = false
 reads None = false
 
 -- What is written for an input: the report of a script, as far as it is run, or what a check of a
--- manifest says. Of a manifest that is too long nothing is. The summary of a made script is the same
--- whatever the input is.
+-- manifest says. Of a manifest that is too long nothing is. The summary of a made script is the
+-- same whatever the input is.
 abbrev pub output : Job → List ℕ → List ℕ
 output (Run hex) text = report is_built hex (script_within text)
 output (Check dump) text = if is_too_long text then [] else manifest_text dump (check_answer text)

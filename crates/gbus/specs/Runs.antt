@@ -38,7 +38,8 @@ IsWithin job left taken after =
 -- those of the source and the sink before and after.
 abbrev pub IsComplete : Option Job → Option (List ℕ) → (reads reads_after writes writes_after : ℕ)
     → Status → Type 0
-IsComplete job left reads reads_after writes writes_after s = IfSome job (λ j. OfInput j left (λ text.
+IsComplete job left reads reads_after writes writes_after s =
+    IfSome job (λ j. OfInput j left (λ text.
     ¬ Rose reads reads_after → ¬ Rose writes writes_after
     → s ≡ verdict j text ⊎ s ≡ status.NoMemory))
 
