@@ -4,6 +4,7 @@ pub mod Closing
 pub mod Counted
 pub mod Delivers
 pub mod Endings
+pub mod Expiring
 pub mod Finding
 pub mod Fronts
 pub mod Looks

@@ -1,13 +1,15 @@
 -- What a bus answers where a request is given up.
-use Rattle.std.specs.Prelude.{◌≡◌, ℕ, true, false, Result, Ok, Err, List}
+use Rattle.std.specs.Prelude.{◌≡◌, ℕ, true, false, Option, Some, None, Result, Ok, Err, List, []}
 use Rattle.gb_base.specs.declared.outcome.Outcome.{Outcome}
+use Rattle.gb_base.specs.declared.outcome.Outcome.TheVariants as outcome
 use Rattle.gb_bus.specs.Stands.{Stands}
 use Rattle.gb_bus.specs.declared.answers.AlreadyEnded.{AlreadyEnded}
 use Rattle.gb_bus.specs.declared.bus.Bus.{Bus}
 use Rattle.gb_invariants.specs.Facts.{Loose}
 use Rattle.gb_machine.specs.Bus as machine
 use Rattle.gb_machine.specs.Bus.{is_open}
-use Rattle.gb_machine.specs.Requests.{gave_up}
+use Rattle.gb_machine.specs.Lists.{first}
+use Rattle.gb_machine.specs.Requests.{gave_up, is_due, open_requests}
 
 -- an open request was given up, and ended so
 pub record GivesUp (loose : List Loose) (new : Bus) (how : Outcome) (n : ℕ) (b : machine.Bus) : Type
@@ -26,3 +28,18 @@ abbrev pub GivesUpAs : List Loose → Bus → Outcome → ℕ → machine.Bus �
     → Type 0
 GivesUpAs loose new how n b (Ok done) = GivesUp loose new how n b
 GivesUpAs loose new how n b (Err fault) = GivesUpNothing loose new n b
+
+-- the open request with the least number whose deadline came was given up
+pub record Expires (loose : List Loose) (new : Bus) (now n : ℕ) (b : machine.Bus) : Type 0 where
+  pub least : first (open_requests (is_due now) b) ≡ Some n
+  pub stands : Stands loose new (gave_up n outcome.Timeout b)
+
+-- no deadline of an open request came
+pub record ExpiresNone (loose : List Loose) (new : Bus) (now : ℕ) (b : machine.Bus) : Type 0 where
+  pub none : open_requests (is_due now) b ≡ []
+  pub stands : Stands loose new b
+
+-- By cases on the answer.
+abbrev pub ExpiresAs : List Loose → Bus → ℕ → machine.Bus → Option ℕ → Type 0
+ExpiresAs loose new now b (Some n) = Expires loose new now n b
+ExpiresAs loose new now b None = ExpiresNone loose new now b

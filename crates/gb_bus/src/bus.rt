@@ -31,7 +31,7 @@ pub struct Bus {
 }
 
 impl Bus {
-    ghost use Rattle.gb_bus.specs.Cancelling.{GivesUpAs};
+    ghost use Rattle.gb_bus.specs.Cancelling.{ExpiresAs, GivesUpAs};
     ghost use Rattle.gb_bus.specs.Delivering.{DeliversAs, RepliesAs};
     ghost use Rattle.gb_bus.specs.Moving.{AnswersAs, EndsAs, HandlesAs, LabelsAs, TakesAs};
     ghost use Rattle.gb_bus.specs.Sending.{SendsAs};
@@ -171,6 +171,19 @@ impl Bus {
     {
         let due = self.slots.due(now)?;
         Ok(due)
+    }
+
+    /// Gives up the open request with the least number whose deadline came, as `expire` does, and
+    /// answers its number. None comes exactly where no deadline of an open request came. `now` is
+    /// in milliseconds.
+    pub fn expire_one(&mut self, now: u64) -> Option<u64>
+        ensures step { (loose : List Loose) (b : machine.Bus) → Stands loose self.old b
+            → ExpiresAs loose self.new now b result }
+        ensures unchanged { result ≡ None → self.new ≡ self.old }
+    {
+        let n = self.slots.first_due(now)?;
+        let _ = self.expire(n);
+        Some(n)
     }
 
     /// How request n ended, None where it is open or wasn't made.

@@ -1,7 +1,7 @@
 //! What the bus keeps of each request that was made.
 
 ghost use Rattle.std.specs.Prelude.{◌≡◌, ◌+◌, [], ◌∷◌, ◌++◌, length, map, IfOk, OnOk, option_copied};
-ghost use Rattle.gb_machine.specs.Lists.{nth};
+ghost use Rattle.gb_machine.specs.Lists.{first, nth};
 ghost use Rattle.gb_bus.specs.Counting.{counted_on, no_requests};
 ghost use Rattle.gb_bus.specs.Slots.{at_number, is_due, is_open_on, open_in, over, with_outcome};
 
@@ -127,6 +127,18 @@ impl Slots {
             }
         }
         Ok(due)
+    }
+
+    /// The open request with the least number whose deadline came.
+    pub fn first_due(&self, now: u64) -> Option<u64>
+        ensures { result ≡ first (open_in (is_due now) 1 self.now) }
+    {
+        for (i, slot) in self.slots.iter().enumerate() {
+            if slot.is_due(now) {
+                return Some(i as u64 + 1);
+            }
+        }
+        None
     }
 
     /// How many requests were made.

@@ -29,6 +29,7 @@ enum Act {
     Reply(u64, Side, u64, u16, u8),
     Cancel(u64),
     Expire(u64),
+    ExpireOne(u64),
     Due(u64),
     Outcome(u64),
     Wire(u64),
@@ -171,6 +172,7 @@ fn comes_of(rt: &impl Abort, alloc: Global, bus: &mut Bus, act: Act) -> Seen {
         }
         Act::Cancel(n) => gives_up(bus.cancel(n)),
         Act::Expire(n) => gives_up(bus.expire(n)),
+        Act::ExpireOne(now) => bus.expire_one(now).map_or(Seen::Nothing, Seen::Count),
         Act::Due(now) => is_due(rt, bus, now),
         Act::Outcome(n) => ended(bus, n),
         Act::Wire(k) => wires(rt, bus, k),
@@ -248,6 +250,10 @@ const REQUESTS: &[(Act, Seen)] = &[
     (Act::Expire(5), Seen::Done),
     (Act::Expire(5), Seen::AlreadyEnded),
     (Act::Outcome(5), Seen::TimedOut),
+    (Act::Send(1, Side::Ap, false), Seen::Sent(6, 5, false)),
+    (Act::ExpireOne(499), Seen::Nothing),
+    (Act::ExpireOne(500), Seen::Count(6)),
+    (Act::Outcome(6), Seen::TimedOut),
 ];
 
 #[test]
