@@ -8,7 +8,9 @@ use Rattle.gb_formats.specs.Built.{is_built}
 use Rattle.gb_formats.specs.Lines.{lines}
 use Rattle.gb_formats.specs.Manifest.{Manifest, check_answer}
 use Rattle.gb_formats.specs.ManifestRules.{Refused}
+use Rattle.gb_laws.proofs.Single.{counts-add-up}
 use Rattle.gb_machine.proofs.ScriptRuns.{reports-traced}
+use Rattle.gb_machine.specs.Summary.{made_events}
 use Rattle.gb_machine.specs.Report.{has_bad_line}
 use Rattle.gbus.proofs.Driving.{made_events-valid}
 use Rattle.gbus.proofs.Fronts.{none_taken}
@@ -155,4 +157,5 @@ of_run (Some (Run hex)) None = tt
 of_run (Some (Check dump)) None = tt
 of_run (Some (Run hex)) (Some text) = reports-traced is_built hex (script_within text)
 of_run (Some (Check dump)) (Some text) = tt
-of_run (Some (Drive seed)) left = λ text. made_events-valid seed
+of_run (Some (Drive seed)) left =
+    λ text. (made_events-valid seed, counts-add-up (made_events seed))

@@ -7,7 +7,8 @@ use Rattle.gb_base.specs.declared.status.Status.TheVariants as status
 use Rattle.gb_formats.specs.Built.{is_built}
 use Rattle.gb_machine.specs.Runs.{AreValid}
 use Rattle.gb_machine.specs.ScriptRuns.{IsTraced}
-use Rattle.gb_machine.specs.Summary.{made_events}
+use Rattle.gb_machine.specs.Events.{trace}
+use Rattle.gb_machine.specs.Summary.{IsSum, counts, made_events}
 use Rattle.gbus.specs.Program.{Check, Drive, Job, Run, output, script_within, verdict}
 use Rattle.gbus.specs.Writing.{TakesFront}
 use Rattle.gbus.specs.declared.answer.Answer.{Answer}
@@ -44,11 +45,13 @@ IsComplete job left reads reads_after writes writes_after s =
     → s ≡ verdict j text ⊎ s ≡ status.NoMemory))
 
 -- What is written of a script is the text of the trace of its events, which are valid. The summary
--- of a made script is that of the trace of its events, and these are valid too.
+-- of a made script is that of the trace of its events: these are valid too, and each request is
+-- counted once.
 abbrev pub TracesBy : Job → List ℕ → Type 0
 TracesBy (Run hex) text = IsTraced is_built hex (script_within text)
 TracesBy (Check dump) text = ⊤
-TracesBy (Drive seed) text = AreValid (made_events seed)
+TracesBy (Drive seed) text =
+    AreValid (made_events seed) × IsSum (counts (trace (made_events seed)))
 
 abbrev pub IsOfRun : Option Job → Option (List ℕ) → Type 0
 IsOfRun job left = IfSome job (λ j. OfInput j left (TracesBy j))
