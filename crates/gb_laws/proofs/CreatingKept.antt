@@ -96,17 +96,17 @@ pub record CreatesAll (a : Point) : Type 0 where
   pub fit : CreatesFit a.state.bus.requests a.state.host.links a.state.past.made_for a.asked
   pub ready : AreReady a.state.host a.state.past.made_for a.pending
 
-came-from : {w : Option (ℕ × _)} (h g : Host) → LinksFrom w h g → Came h.links g.links
+pub came-from : {w : Option (ℕ × _)} (h g : Host) → LinksFrom w h g → Came h.links g.links
 came-from h g from l i = let x = (from l i).from in (x.link, x.live, x.same)
 
-came-link : (h : Host) (i c : ℕ) (f : Link → Link) → ((l : Link) → SameLink l (f l))
+pub came-link : (h : Host) (i c : ℕ) (f : Link → Link) → ((l : Link) → SameLink l (f l))
     → Came h.links (with_link i c f h).links
 came-link h i c f same l j = ⊎_elim (λ o. (l, o, same-link l))
     (λ v. (v.0, v.1, subst (SameLink v.0) (sym v.3) (same v.0)))
     (in-first (is_link i c) f h.links l j)
 
 -- a connection of which only what changes changes
-credits-same : (total : ℕ) (l : Link) → SameLink l (with_credits total l)
+pub credits-same : (total : ℕ) (l : Link) → SameLink l (with_credits total l)
 credits-same total l =
     record { connection = refl; ap = refl; intf = refl; cport = refl; protocol = refl }
 

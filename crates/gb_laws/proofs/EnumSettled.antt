@@ -195,7 +195,7 @@ settled-asked i a b q rest label basis links there moves pending state same h = 
 -- ---- a turn
 
 -- what an enumeration waits for, where that ended
-waited-enum : (b : Bus) (n : ℕ) (h : Host) (p : Purpose) → HostFits b h → awaited n h ≡ Some p
+pub waited-enum : (b : Bus) (n : ℕ) (h : Host) (p : Purpose) → HostFits b h → awaited n h ≡ Some p
     → is_enumeration p.step ≡ true → IsWaitedBy h n p
 waited-enum b n h p fits e s = by (interface_waits n h.interfaces) refl e
   where

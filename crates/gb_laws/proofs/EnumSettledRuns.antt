@@ -243,7 +243,7 @@ pub record SettledTo (told : List Entry) (s : State) : Type 0 where
   pub settled : (i : ℕ) → IsSettled i (resting told s)
 
 module _ (m : Moment) (start : SettledTo m.told m.before) where
-  abbrev settled_law : ℕ → Law m
+  abbrev pub settled_law : ℕ → Law m
   settled_law i = record {
     holds = λ a. (((Basis a × LinkedAt a) × There a.state.bus) × IsQuiet i a) × IsSettled i a;
     basis = λ a h. h.0.0.0.0;
@@ -258,7 +258,7 @@ module _ (m : Moment) (start : SettledTo m.told m.before) where
     );
   }
 
-  settled-over : IsMoment m.event → SettledTo (m.told ++ told_at m) (after m)
+  pub settled-over : IsMoment m.event → SettledTo (m.told ++ told_at m) (after m)
   settled-over one = record {
     quiet = quiet-moment m one start.quiet;
     settled = λ i. let r = (over i).1.1 in
@@ -285,7 +285,7 @@ settled-throughout = throughout SettledTo (record {
 
 -- ---- the laws
 
-none-waits : (i : ℕ) (b : Bus) → IsNone i b → HasNoEnumeration i b
+pub none-waits : (i : ℕ) (b : Bus) → IsNone i b → HasNoEnumeration i b
 none-waits i b none = by (enums i b) refl
   where
     by : (es : List (ℕ × _)) → enums i b ≡ es → HasNoEnumeration i b

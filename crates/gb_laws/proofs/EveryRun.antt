@@ -4,6 +4,7 @@ use Rattle.gb_laws.proofs.AllRuns.{at-all, of-all, of-state}
 use Rattle.gb_laws.proofs.Answering.{answered-at_moments}
 use Rattle.gb_laws.proofs.AwaitsNewest.{awaits-newest_by_moments}
 use Rattle.gb_laws.proofs.AwaitsOwn.{awaits-own_by_moments}
+use Rattle.gb_laws.proofs.BehindRuns.{none-behind_by_moments}
 use Rattle.gb_laws.proofs.Causes.{causes-at_moments}
 use Rattle.gb_laws.proofs.Ended.{ends-told_by_moments}
 use Rattle.gb_laws.proofs.Endpoints.{endpoints-by_moments}
@@ -35,7 +36,7 @@ use Rattle.gb_laws.specs.OwnSide.{
   FindsNoneOpen,
   UnwiredHasNoOpenOfFar,
 }
-use Rattle.gb_laws.specs.OwnWaits.{AwaitsOwnRequest, OnlyRestarts, ServedLeavesNone}
+use Rattle.gb_laws.specs.OwnWaits.{AwaitsOwnRequest, ServedLeavesNone}
 use Rattle.gb_laws.specs.OwnWires.{WiredIsRemembered}
 use Rattle.gb_laws.proofs.OpenRuns.{open-live_by_moments}
 use Rattle.gb_machine.specs.Runs.{HoldsAtEachMoment, HoldsThroughout}
@@ -83,6 +84,8 @@ use Rattle.gb_machine.specs.LawsSvc.{
   FindsUnwired,
   IsQuiet,
   LeavesNothing,
+  OneEnumerationRequestThenRestarts,
+  OneThenRestarts,
   QuietBeforeRemoval,
   RemovalLeavesNothingWired,
   StaleIsLow,
@@ -255,6 +258,13 @@ awaited-last = of-all AwaitsLast (record {
   done = done-none_by_moments es are;
 })
 
--- Each of its requests that waits, but the first, is a start.
-pub only-restarts : HoldsThroughout OnlyRestarts
-only-restarts = of-all OnlyRestarts (of-state _) restarts-by_moments
+-- Each of its requests that waits, but the first, is a start, and none for a connection stands
+-- behind one.
+pub then-restarts : OneEnumerationRequestThenRestarts
+then-restarts = of-all OneThenRestarts (record {
+  there = λ told s h. record { restarts = h.restarts; last = h.last };
+  back = λ told s h. record { restarts = h.restarts; last = h.last };
+}) (λ es are. record {
+  restarts = restarts-by_moments es are;
+  last = none-behind_by_moments es are;
+})

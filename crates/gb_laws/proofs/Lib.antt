@@ -8,6 +8,8 @@ pub mod Awaited
 pub mod AwaitsNewest
 pub mod AwaitsOwn
 pub mod Basics
+pub mod Behind
+pub mod BehindRuns
 pub mod Causes
 pub mod ClosingTurns
 pub mod Closings
@@ -26,11 +28,15 @@ pub mod CreditsRuns
 pub mod CreditsServed
 pub mod Delivered
 pub mod Delivering
+pub mod DoneStays
+pub mod DoneSteps
+pub mod DoneTurns
 pub mod Ended
 pub mod Endpoints
 pub mod EnumRequests
 pub mod EnumRuns
 pub mod EnumDone
+pub mod EnumLinks
 pub mod EnumNone
 pub mod EnumSettled
 pub mod EnumSettledRuns

@@ -8,7 +8,7 @@ ghost use Rattle.gb_laws.specs.OwnSide.{
   FindsNoneOpen,
   UnwiredHasNoOpenOfFar,
 };
-ghost use Rattle.gb_laws.specs.OwnWaits.{AwaitsOwnRequest, OnlyRestarts, ServedLeavesNone};
+ghost use Rattle.gb_laws.specs.OwnWaits.{AwaitsOwnRequest, ServedLeavesNone};
 ghost use Rattle.gb_laws.specs.OwnWires.{WiredIsRemembered};
 ghost use Rattle.gb_machine.specs.LawsBus.{
   EndpointsDiffer,
@@ -37,6 +37,7 @@ ghost use Rattle.gb_machine.specs.LawsHotPlug.{
 };
 ghost use Rattle.gb_machine.specs.LawsSvc.{
   AwaitedIsTheLast,
+  OneEnumerationRequestThenRestarts,
   QuietBeforeRemoval,
   RemovalLeavesNothingWired,
   StaleRequestsMeetLowLevel,
@@ -174,9 +175,10 @@ pub fn awaited_is_the_last()
 {}
 
 /// Of the requests of an enumeration that wait toward the supervisory controller each but the first
-/// is a start.
-pub fn only_restarts_wait()
-    ensures { HoldsThroughout OnlyRestarts }
+/// is a start, and no request to create or destroy another connection of the interface stands
+/// behind one of them.
+pub fn one_enumeration_request_then_restarts()
+    ensures { OneEnumerationRequestThenRestarts }
 {}
 
 /// A connection that is wired, but for that of the supervisory controller, is at a routed interface

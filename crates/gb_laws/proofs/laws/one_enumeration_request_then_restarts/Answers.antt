@@ -1,0 +1,5 @@
+use Rattle.gb_laws.proofs.EveryRun.{then-restarts}
+use Rattle.gb_laws.proofs.laws.one_enumeration_request_then_restarts.Goals as goal
+
+pub returns : goal.returns
+returns c = then-restarts
