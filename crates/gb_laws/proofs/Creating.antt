@@ -1,4 +1,4 @@
--- Requests that create connections: by their records, and by the steps that ask them.
+-- Requests that create or destroy connections: by their records, and by the steps that ask them.
 use Rattle.std.proofs.Common.{
   Bool,
   List,
@@ -39,12 +39,22 @@ is_create _ = false
 abbrev pub creates_one : Request → Bool
 creates_one r = is_create (read_svc_ask r.kind r.payload)
 
--- what a record creates is a connection from CPort a of the application processor to CPort c of
--- interface i
-abbrev pub CreatesAt : ℕ → ℕ → ℕ → Result SvcAsk PayloadFault → Type 0
-CreatesAt a i c (Ok (SvcAsk.ConnCreate i1 c1 j d tc flags)) =
+-- a record that destroys a connection
+abbrev pub is_destroy : Result SvcAsk PayloadFault → Bool
+is_destroy (Ok (SvcAsk.ConnDestroy i1 c1 i c)) = true
+is_destroy _ = false
+
+-- a request that destroys a connection
+abbrev pub destroys_one : Request → Bool
+destroys_one r = is_destroy (read_svc_ask r.kind r.payload)
+
+-- what a record creates or destroys is a connection from CPort a of the application processor to
+-- CPort c of interface i
+abbrev pub IsBetween : ℕ → ℕ → ℕ → Result SvcAsk PayloadFault → Type 0
+IsBetween a i c (Ok (SvcAsk.ConnCreate i1 c1 j d tc flags)) =
     (i1 ≡ 1) × (c1 ≡ a) × (j ≡ i) × (d ≡ c)
-CreatesAt a i c _ = Unit {0}
+IsBetween a i c (Ok (SvcAsk.ConnDestroy i1 c1 j d)) = (i1 ≡ 1) × (c1 ≡ a) × (j ≡ i) × (d ≡ c)
+IsBetween a i c _ = Unit {0}
 
 -- a step that creates a connection
 abbrev pub is_creating : SequenceStep → Bool
@@ -62,24 +72,6 @@ pub record IsMade (w : Making) (q : Asking) : Type 0 where
   pub cport : target.cport ≡ w.cport
 
 -- ---- records
-
-pub creates-nothing : (a i c : ℕ) (r : Result SvcAsk PayloadFault) → is_create r ≡ false
-    → CreatesAt a i c r
-creates-nothing a i c (Ok (SvcAsk.ConnCreate i1 c1 j d tc flags)) h = absurd cc
-creates-nothing a i c (Ok (SvcAsk.IntfDeviceId j d)) h = tt
-creates-nothing a i c (Ok (SvcAsk.ConnDestroy x y z w)) h = tt
-creates-nothing a i c (Ok (SvcAsk.RouteCreate x y z w)) h = tt
-creates-nothing a i c (Ok (SvcAsk.RouteDestroy x y)) h = tt
-creates-nothing a i c (Ok SvcAsk.Ping) h = tt
-creates-nothing a i c (Ok (SvcAsk.VsysEnable j)) h = tt
-creates-nothing a i c (Ok (SvcAsk.RefclkEnable j)) h = tt
-creates-nothing a i c (Ok (SvcAsk.UniproEnable j)) h = tt
-creates-nothing a i c (Ok (SvcAsk.IntfActivate j)) h = tt
-creates-nothing a i c (Ok (SvcAsk.ProtocolVersion x y)) h = tt
-creates-nothing a i c (Ok (SvcAsk.Hello x y)) h = tt
-creates-nothing a i c (Ok (SvcAsk.ModuleInserted x y z)) h = tt
-creates-nothing a i c (Ok (SvcAsk.ModuleRemoved x)) h = tt
-creates-nothing a i c (Err fault) h = tt
 
 -- A request that creates a connection has a type that lines can't send.
 pub create-reserved : (kind : ℕ) (payload : List ℕ)
@@ -137,48 +129,53 @@ reads-back : (c : ℕ) (rest : List ℕ) → c ≤ 4095 → little_number 2 (le1
 reads-back c rest low = little_number-reads_back 2 c rest (omega (arith, low))
 
 -- what it asks for is the connection of its target
-pub step-creates : (step : SequenceStep) (t : Target) → t.ap ≤ 4095 → t.cport ≤ 4095
-    → CreatesAt t.ap t.intf t.cport (read_svc_ask (kind_of step) (payload_of step t))
-step-creates steps.CreateControl t low small = (
+pub step-between : (step : SequenceStep) (t : Target) → t.ap ≤ 4095 → t.cport ≤ 4095
+    → IsBetween t.ap t.intf t.cport (read_svc_ask (kind_of step) (payload_of step t))
+step-between steps.CreateControl t low small = (
   refl,
   reads-back t.ap (t.intf ∷ le16 t.cport ++ 0 ∷ 0 ∷ []) low,
   omega arith,
   reads-back t.cport (0 ∷ 0 ∷ []) small,
 )
-step-creates steps.CreateConnection t low small = (
+step-between steps.CreateConnection t low small = (
   refl,
   reads-back t.ap (t.intf ∷ le16 t.cport ++ 0 ∷ 0 ∷ []) low,
   omega arith,
   reads-back t.cport (0 ∷ 0 ∷ []) small,
 )
-step-creates steps.DestroyConnection t low small = tt
-step-creates steps.EnableVsys t low small = tt
-step-creates steps.EnableRefclk t low small = tt
-step-creates steps.EnableUnipro t low small = tt
-step-creates steps.Activate t low small = tt
-step-creates steps.GiveDevice t low small = tt
-step-creates steps.CreateRoute t low small = tt
-step-creates steps.AskVersion t low small = tt
-step-creates steps.AskSize t low small = tt
-step-creates steps.AskManifest t low small = tt
-step-creates steps.TellConnected t low small = tt
-step-creates steps.TellDisconnecting t low small = tt
-step-creates steps.TellDisconnected t low small = tt
+step-between steps.DestroyConnection t low small = (
+  refl,
+  reads-back t.ap (t.intf ∷ le16 t.cport ++ []) low,
+  omega arith,
+  reads-back t.cport [] small,
+)
+step-between steps.EnableVsys t low small = tt
+step-between steps.EnableRefclk t low small = tt
+step-between steps.EnableUnipro t low small = tt
+step-between steps.Activate t low small = tt
+step-between steps.GiveDevice t low small = tt
+step-between steps.CreateRoute t low small = tt
+step-between steps.AskVersion t low small = tt
+step-between steps.AskSize t low small = tt
+step-between steps.AskManifest t low small = tt
+step-between steps.TellConnected t low small = tt
+step-between steps.TellDisconnecting t low small = tt
+step-between steps.TellDisconnected t low small = tt
 
 -- so is what is asked for a connection that is to be made
 pub made-creates : (w : Making) (q : Asking) → IsMade w q → w.ap ≤ 4095 → w.cport ≤ 4095
-    → CreatesAt w.ap w.intf w.cport (read_svc_ask q.kind q.payload)
+    → IsBetween w.ap w.intf w.cport (read_svc_ask q.kind q.payload)
 made-creates w q f low small =
     let ap_low = f.ap in
     let cport_low = f.cport in
-    subst (λ k. CreatesAt w.ap w.intf w.cport (read_svc_ask k q.payload)) (sym f.kind)
-    (subst (λ p. CreatesAt w.ap w.intf w.cport (read_svc_ask (kind_of q.purpose.step) p))
+    subst (λ k. IsBetween w.ap w.intf w.cport (read_svc_ask k q.payload)) (sym f.kind)
+    (subst (λ p. IsBetween w.ap w.intf w.cport (read_svc_ask (kind_of q.purpose.step) p))
     (sym f.payload)
-    (subst (λ a. CreatesAt a w.intf w.cport (read_svc_ask (kind_of q.purpose.step)
+    (subst (λ a. IsBetween a w.intf w.cport (read_svc_ask (kind_of q.purpose.step)
     (payload_of q.purpose.step f.target))) f.ap
-    (subst (λ i. CreatesAt f.target.ap i w.cport (read_svc_ask (kind_of q.purpose.step)
+    (subst (λ i. IsBetween f.target.ap i w.cport (read_svc_ask (kind_of q.purpose.step)
     (payload_of q.purpose.step f.target))) f.intf
-    (subst (λ c. CreatesAt f.target.ap f.target.intf c (read_svc_ask (kind_of q.purpose.step)
+    (subst (λ c. IsBetween f.target.ap f.target.intf c (read_svc_ask (kind_of q.purpose.step)
     (payload_of q.purpose.step f.target))) f.cport
-    (step-creates q.purpose.step f.target (omega (arith, low, ap_low))
+    (step-between q.purpose.step f.target (omega (arith, low, ap_low))
     (omega (arith, small, cport_low)))))))

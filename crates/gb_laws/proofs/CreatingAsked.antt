@@ -1,6 +1,7 @@
 -- What is known of the requests that create connections stays where a sequence comes to wait for a
 -- request.
 use Rattle.std.proofs.Common.{
+  arith,
   Bool,
   List,
   None,
@@ -30,18 +31,18 @@ use Rattle.gb_formats.specs.SvcRecords.{read_svc_ask}
 use Rattle.gb_invariants.proofs.Awaiting.{same-some}
 use Rattle.gb_invariants.proofs.Lists.{found-in, in-behind, in-front, in-pushed}
 use Rattle.gb_laws.proofs.Creating.{
-  CreatesAt,
-  creates-nothing,
+  IsBetween,
   creates_one,
   creating-for,
   is_create,
   is_creating,
+  step-between,
   step-creating,
 }
-use Rattle.gb_laws.proofs.CreatingFacts.{CreatesFit, IsPrepared, at-same}
+use Rattle.gb_laws.proofs.CreatingFacts.{CreatesFit, IsReady, at-same}
 use Rattle.gb_laws.proofs.LinkActs.{awaits-fits}
 use Rattle.gb_laws.proofs.LinkHosts.{same-link}
-use Rattle.gb_laws.proofs.LinkLists.{find-changed, one-link}
+use Rattle.gb_laws.proofs.LinkLists.{found-at, link-is, find-changed, one-link}
 use Rattle.gb_laws.proofs.LinkSources.{from-waiting}
 use Rattle.gb_laws.proofs.Links.{HostFits, IsDue, IsFormed, SameLink}
 use Rattle.gb_laws.proofs.Pairs.{IsAskedAs}
@@ -50,8 +51,9 @@ use Rattle.gb_machine.specs.Bus.{Bus, Request, request_of}
 use Rattle.gb_machine.specs.Host.{Host, is_link, link_at, with_interface, with_link}
 use Rattle.gb_machine.specs.Lists.{nth}
 use Rattle.gb_machine.specs.Members.{IsIn}
-use Rattle.gb_machine.specs.SequenceSteps.{is_enumeration, is_for_connection, kind_of}
-use Rattle.gb_machine.specs.Turns.{Asking}
+use Rattle.gb_machine.specs.SequenceSteps.{payload_of, is_enumeration, is_for_connection, kind_of}
+use Rattle.gb_machine.specs.Sequences.{ap_in, target}
+use Rattle.gb_machine.specs.Turns.{Act, Asking}
 use Rattle.gb_machine.specs.Waits.{awaits}
 
 -- ---- what is remembered then
@@ -105,7 +107,7 @@ found-then i c w h l e false = (
 
 module _ (b : Bus) (h : Host) (pairs : List (ℕ × ℕ)) (q : Asking) (n : ℕ) (fits : HostFits b h)
     (due : IsDue q.purpose.step q.purpose h) (formed : IsFormed q) (asked : IsAskedAs q n b pairs)
-    (ready : is_creating q.purpose.step ≡ true → IsPrepared h pairs q)
+    (ready : IsReady h pairs (Act.Ask q))
     (f : CreatesFit b.requests h.links pairs (Some (q, n))) where
   abbrev then : Host
   then = awaits q.purpose n h
@@ -122,37 +124,60 @@ module _ (b : Bus) (h : Host) (pairs : List (ℕ × ℕ)) (q : Asking) (n : ℕ)
       ap (λ k. read_svc_ask k r.payload) (ap (λ (x : Request). x.kind) same ∙ asked.kind)
       ∙ ap (read_svc_ask q.kind) (ap (λ (x : Request). x.payload) same ∙ asked.payload)
 
-  -- where it creates a connection, that was prepared
-  prepared : is_create (read_svc_ask q.kind q.payload) ≡ true → IsPrepared h pairs q
-  prepared is = ready (step-creating q.purpose.step formed.target
-      (ap (λ p. is_create (read_svc_ask (kind_of q.purpose.step) p)) (sym formed.payload)
-      ∙ ap (λ k. is_create (read_svc_ask k q.payload)) (sym formed.kind) ∙ is))
-
+  -- a step asks for a connection to be created where the record does
   creating : is_create (read_svc_ask q.kind q.payload) ≡ true
-      → is_for_connection q.purpose.step ≡ true
-  creating is = creating-for q.purpose.step (step-creating q.purpose.step formed.target
+      → is_creating q.purpose.step ≡ true
+  creating is = step-creating q.purpose.step formed.target
       (ap (λ p. is_create (read_svc_ask (kind_of q.purpose.step) p)) (sym formed.payload)
-      ∙ ap (λ k. is_create (read_svc_ask k q.payload)) (sym formed.kind) ∙ is))
+      ∙ ap (λ k. is_create (read_svc_ask k q.payload)) (sym formed.kind) ∙ is)
 
-  -- and is found
-  found : (is : is_create (read_svc_ask q.kind q.payload) ≡ true)
-      → (k : Link) × (at ≡ Some k) × SameLink (prepared is).link k
-  found is = found-then q.purpose.intf q.purpose.cport (n, q.purpose.step) h (prepared is).link
-      (prepared is).found (is_enumeration q.purpose.step)
+  -- that was prepared, and is found
+  found : (is : is_creating q.purpose.step ≡ true)
+      → (k : Link) × (at ≡ Some k) × SameLink (ready.0 is).link k
+  found is = found-then q.purpose.intf q.purpose.cport (n, q.purpose.step) h (ready.0 is).link
+      (ready.0 is).found (is_enumeration q.purpose.step)
 
-  same-found : (is : is_create (read_svc_ask q.kind q.payload) ≡ true) (l : Link) → at ≡ Some l
-      → SameLink (prepared is).link l
+  same-found : (is : is_creating q.purpose.step ≡ true) (l : Link) → at ≡ Some l
+      → SameLink (ready.0 is).link l
   same-found is l e =
       let k = found is in
-      subst (SameLink (prepared is).link) (same-some k.0 l (sym k.1 ∙ e)) k.2
+      subst (SameLink (ready.0 is).link) (same-some k.0 l (sym k.1 ∙ e)) k.2
 
   -- nothing was remembered of it
-  alone : (j k : ℕ) (r s : Request) → IsNewPair at n j k → nth j b.requests ≡ Some r
+  alone : (j k : ℕ) (r : Request) → IsNewPair at n j k → nth j b.requests ≡ Some r
       → creates_one r ≡ true → (i : ℕ) → IsIn (i, k) pairs → ⊥
-  alone j k r s new made is i old =
-      let create = ap is_create (sym (same-record j r made new.number)) ∙ is in
-      (prepared create).none i (subst (λ x. IsIn (i, x) pairs)
+  alone j k r new made is i old =
+      let create = creating (ap is_create (sym (same-record j r made new.number)) ∙ is) in
+      (ready.0 create).none i (subst (λ x. IsIn (i, x) pairs)
       (new.on ∙ (same-found create new.link new.is).connection) old)
+
+  -- what asks for no new connection speaks of that which is found
+  aimed : is_creating q.purpose.step ≡ false → (l : Link) → at ≡ Some l
+      → IsBetween l.ap l.intf l.cport (read_svc_ask q.kind q.payload)
+  aimed other l e =
+      let i = found-in (is_link q.purpose.intf q.purpose.cport) then.links l e in
+      let is = link-is q.purpose.intf q.purpose.cport l i.1 in
+      let x = (from-waiting (Some (n, q.purpose.step)) q.purpose h l i.0).from in
+      let numbered = fits.links.numbered x.link x.live in
+      let was = subst (λ c. link_at q.purpose.intf c h ≡ Some x.link) (sym x.same.cport ∙ is.1)
+      (subst (λ j. link_at j x.link.cport h ≡ Some x.link) (sym x.same.intf ∙ is.0)
+      (found-at h.links x.link fits.links.rise x.live)) in
+      at-same x.link l x.same (read_svc_ask q.kind q.payload)
+      (subst (λ k. IsBetween x.link.ap x.link.intf x.link.cport (read_svc_ask k q.payload))
+      (sym formed.kind)
+      (subst (λ p. IsBetween x.link.ap x.link.intf x.link.cport
+      (read_svc_ask (kind_of q.purpose.step) p))
+      (sym (ready.1 other ∙ ap (λ o. payload_of q.purpose.step (target (ap_in o) q.purpose h)) was))
+      (subst (λ j. IsBetween x.link.ap j x.link.cport
+      (read_svc_ask (kind_of q.purpose.step)
+      (payload_of q.purpose.step (target x.link.ap q.purpose h))))
+      (sym is.0 ∙ x.same.intf)
+      (subst (λ c. IsBetween x.link.ap q.purpose.intf c
+      (read_svc_ask (kind_of q.purpose.step)
+      (payload_of q.purpose.step (target x.link.ap q.purpose h))))
+      (sym is.1 ∙ x.same.cport)
+      (step-between q.purpose.step (target x.link.ap q.purpose h) numbered.within
+      (let low = numbered.cport in omega (arith, low, sym is.1 ∙ x.same.cport)))))))
 
   pub creates-asked : CreatesFit b.requests then.links
       (pairs_then (is_for_connection q.purpose.step) at n pairs) None
@@ -165,14 +190,15 @@ module _ (b : Bus) (h : Host) (pairs : List (ℕ × ℕ)) (q : Asking) (n : ℕ)
           in-then (is_for_connection q.purpose.step) at n pairs (j, p.0) p.1,
         )) (f.own j r made on by_ap is));
     ends = λ j l r live p made. ⊎_elim (λ old. before j l r live made old)
-        (λ new. last l r live new (same-record j r made new.number) (creates_one r) refl)
+        (λ new. last l r live new (same-record j r made new.number)
+        (is_creating q.purpose.step) refl)
         (out-then (is_for_connection q.purpose.step) at n pairs j l.connection p);
-    one = λ i j k r s p o made_i made_j is_i is_j. ⊎_elim
-        (λ old. ⊎_elim (λ old2. f.one i j k r s old old2 made_i made_j is_i is_j)
-        (λ new2. absurd (alone j k s r new2 made_j is_j i old))
+    first = λ i j k r p o made is. ⊎_elim
+        (λ old. ⊎_elim (λ old2. f.first i j k r old old2 made is)
+        (λ new2. let less = asked.behind i k old in omega (arith, less, new2.number))
         (out-then (is_for_connection q.purpose.step) at n pairs j k o))
-        (λ new. ⊎_elim (λ old2. absurd (alone i k r s new made_i is_i j old2))
-        (λ new2. new.number ∙ sym new2.number)
+        (λ new. ⊎_elim (λ old2. absurd (alone i k r new made is j old2))
+        (λ new2. omega (arith, new.number, new2.number))
         (out-then (is_for_connection q.purpose.step) at n pairs j k o))
         (out-then (is_for_connection q.purpose.step) at n pairs i k p);
   }
@@ -181,17 +207,18 @@ module _ (b : Bus) (h : Host) (pairs : List (ℕ × ℕ)) (q : Asking) (n : ℕ)
           → (k : ℕ)
           × IsIn (j, k) (pairs_then (is_for_connection q.purpose.step) at n pairs)
       here j r made is e =
-          let create = ap is_create (sym (same-record j r made e)) ∙ is in
+          let create = creating (ap is_create (sym (same-record j r made e)) ∙ is) in
           let k = found create in (
             k.0.connection,
             subst (λ x. IsIn (x, k.0.connection)
                 (pairs_then (is_for_connection q.purpose.step) at n pairs)) (sym e)
-                (in-last (is_for_connection q.purpose.step) at n pairs k.0 (creating create) k.1),
+                (in-last (is_for_connection q.purpose.step) at n pairs k.0
+                (creating-for q.purpose.step create) k.1),
           )
 
       before : (j : ℕ) (l : Link) (r : Request) → IsIn l then.links → nth j b.requests ≡ Some r
           → IsIn (j, l.connection) pairs
-          → CreatesAt l.ap l.intf l.cport (read_svc_ask r.kind r.payload)
+          → IsBetween l.ap l.intf l.cport (read_svc_ask r.kind r.payload)
       before j l r live made p =
           let x = (from-waiting (Some (n, q.purpose.step)) q.purpose h l live).from in
           at-same x.link l x.same (read_svc_ask r.kind r.payload) (f.ends j x.link r x.live
@@ -200,17 +227,19 @@ module _ (b : Bus) (h : Host) (pairs : List (ℕ × ℕ)) (q : Asking) (n : ℕ)
       last : {j : ℕ} (l : Link) (r : Request) → IsIn l then.links
           → IsNewPair at n j l.connection
           → read_svc_ask r.kind r.payload ≡ read_svc_ask q.kind q.payload
-          → (t : Bool) → creates_one r ≡ t
-          → CreatesAt l.ap l.intf l.cport (read_svc_ask r.kind r.payload)
-      last l r live new same false e =
-          creates-nothing l.ap l.intf l.cport (read_svc_ask r.kind r.payload) e
-      last l r live new same true e =
-          let create = ap is_create (sym same) ∙ e in
+          → (t : Bool) → is_creating q.purpose.step ≡ t
+          → IsBetween l.ap l.intf l.cport (read_svc_ask r.kind r.payload)
+      last l r live new same t e =
           let rise = (awaits-fits b q.purpose n h fits due).0.links.rise in
           let i = found-in (is_link q.purpose.intf q.purpose.cport) then.links new.link new.is in
           let is = one-link then.links l new.link rise live i.0 new.on in
-          subst (λ (y : Link). CreatesAt y.ap y.intf y.cport (read_svc_ask r.kind r.payload))
+          subst (λ (y : Link). IsBetween y.ap y.intf y.cport (read_svc_ask r.kind r.payload))
           (sym is)
-          (subst (CreatesAt new.link.ap new.link.intf new.link.cport) (sym same)
-          (at-same (prepared create).link new.link (same-found create new.link new.is)
-          (read_svc_ask q.kind q.payload) (prepared create).ends))
+          (subst (IsBetween new.link.ap new.link.intf new.link.cport) (sym same) (by t e))
+        where
+          by : (t : Bool) → is_creating q.purpose.step ≡ t
+              → IsBetween new.link.ap new.link.intf new.link.cport
+              (read_svc_ask q.kind q.payload)
+          by true e = at-same (ready.0 e).link new.link (same-found e new.link new.is)
+              (read_svc_ask q.kind q.payload) (ready.0 e).ends
+          by false e = aimed e new.link new.is

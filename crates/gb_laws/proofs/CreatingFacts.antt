@@ -1,5 +1,6 @@
 -- What is known of the requests that create connections, beside what is remembered of them.
 use Rattle.std.proofs.Common.{
+  false,
   List,
   Option,
   Some,
@@ -26,8 +27,8 @@ use Rattle.gb_base.specs.declared.peers.Link.{Link}
 use Rattle.gb_formats.specs.Records.{PayloadFault}
 use Rattle.gb_formats.specs.SvcRecords.{SvcAsk, read_svc_ask}
 use Rattle.gb_invariants.proofs.Awaiting.{not-both, sent-made}
-use Rattle.gb_laws.proofs.Creating.{CreatesAt, IsMade, creates_one, is_creating}
-use Rattle.gb_laws.proofs.CreatingTurns.{AreOrderly}
+use Rattle.gb_laws.proofs.Creating.{IsBetween, IsMade, creates_one, is_creating}
+use Rattle.gb_laws.proofs.CreatingTurns.{AreOrderly, IsAimed}
 use Rattle.gb_laws.proofs.Links.{SameLink}
 use Rattle.gb_machine.specs.Bus.{Bus, Request, next_number, request_of}
 use Rattle.gb_machine.specs.Host.{Host, link_at}
@@ -45,21 +46,31 @@ pub record CreatesFit (rs : List Request) (ls : List Link) (pairs : List (ℕ ×
       → creates_one r ≡ true
       → ((q : Asking) × (asked ≡ Some (q, n))) ⊎ ((k : ℕ) × IsIn (n, k) pairs)
   pub ends : (n : ℕ) (l : Link) (r : Request) → IsIn l ls → IsIn (n, l.connection) pairs
-      → nth n rs ≡ Some r → CreatesAt l.ap l.intf l.cport (read_svc_ask r.kind r.payload)
-  pub one : (n j k : ℕ) (r s : Request) → IsIn (n, k) pairs → IsIn (j, k) pairs
-      → nth n rs ≡ Some r → nth j rs ≡ Some s → creates_one r ≡ true → creates_one s ≡ true
-      → n ≡ j
+      → nth n rs ≡ Some r → IsBetween l.ap l.intf l.cport (read_svc_ask r.kind r.payload)
+  pub first : (n j k : ℕ) (r : Request) → IsIn (n, k) pairs → IsIn (j, k) pairs
+      → nth n rs ≡ Some r → creates_one r ≡ true → n ≤ j
+
+-- no two create one connection
+pub creates-one : {rs : List Request} {ls : List Link} {pairs : List (ℕ × ℕ)}
+    {asked : Option (Asking × ℕ)} → CreatesFit rs ls pairs asked → (n j k : ℕ) (r s : Request)
+    → IsIn (n, k) pairs → IsIn (j, k) pairs → nth n rs ≡ Some r → nth j rs ≡ Some s
+    → creates_one r ≡ true → creates_one s ≡ true → n ≡ j
+creates-one f n j k r s i o made_n made_j is_n is_j =
+    let low = f.first n j k r i o made_n is_n in
+    let high = f.first j n k s o i made_j is_j in
+    omega (arith, low, high)
 
 -- The connection that a request is to create is known, and nothing is remembered of it.
 pub record IsPrepared (h : Host) (pairs : List (ℕ × ℕ)) (q : Asking) : Type 0 where
   pub link : Link
   pub found : link_at q.purpose.intf q.purpose.cport h ≡ Some link
   pub none : (n : ℕ) → IsIn (n, link.connection) pairs → ⊥
-  pub ends : CreatesAt link.ap link.intf link.cport (read_svc_ask q.kind q.payload)
+  pub ends : IsBetween link.ap link.intf link.cport (read_svc_ask q.kind q.payload)
 
 -- an act is ready
 abbrev pub IsReady : Host → List (ℕ × ℕ) → Act → Type 0
-IsReady h pairs (Act.Ask q) = is_creating q.purpose.step ≡ true → IsPrepared h pairs q
+IsReady h pairs (Act.Ask q) = (is_creating q.purpose.step ≡ true → IsPrepared h pairs q)
+    × (is_creating q.purpose.step ≡ false → IsAimed h q)
 IsReady h pairs (Act.Open w q) = IsMade w q
 IsReady h pairs (Act.Shut k) = Unit {0}
 IsReady h pairs (Act.Leave k) = Unit {0}
@@ -70,11 +81,11 @@ abbrev pub AreReady : Host → List (ℕ × ℕ) → List Act → Type 0
 AreReady h pairs acts = Each (IsReady h pairs) acts
 
 -- what a turn does is ready
-pub orderly-ready : (h : Host) (pairs : List (ℕ × ℕ)) (acts : List Act) → AreOrderly acts
+pub orderly-ready : (h : Host) (pairs : List (ℕ × ℕ)) (acts : List Act) → AreOrderly h acts
     → AreReady h pairs acts
 orderly-ready h pairs [] all = tt
 orderly-ready h pairs (Act.Ask q ∷ acts) all = (
-  λ is. absurd (not-both (is_creating q.purpose.step) is all.0),
+  (λ is. absurd (not-both (is_creating q.purpose.step) is all.0.0), λ e. all.0.1),
   orderly-ready h pairs acts all.1,
 )
 orderly-ready h pairs (Act.Open w q ∷ acts) all = (all.0, orderly-ready h pairs acts all.1)
@@ -90,11 +101,11 @@ Came ls ms = (l : Link) → IsIn l ms → (x : Link) × IsIn x ls × SameLink x 
 
 -- what creates a connection creates it whatever its state
 pub at-same : (x l : Link) → SameLink x l → (r : Result SvcAsk PayloadFault)
-    → CreatesAt x.ap x.intf x.cport r → CreatesAt l.ap l.intf l.cport r
+    → IsBetween x.ap x.intf x.cport r → IsBetween l.ap l.intf l.cport r
 at-same x l same r h =
-    subst (λ a. CreatesAt a l.intf l.cport r) (sym same.ap)
-    (subst (λ i. CreatesAt x.ap i l.cport r) (sym same.intf)
-    (subst (λ c. CreatesAt x.ap x.intf c r) (sym same.cport) h))
+    subst (λ a. IsBetween a l.intf l.cport r) (sym same.ap)
+    (subst (λ i. IsBetween x.ap i l.cport r) (sym same.intf)
+    (subst (λ c. IsBetween x.ap x.intf c r) (sym same.cport) h))
 
 pub creates-came : (rs : List Request) (ls ms : List Link) (pairs : List (ℕ × ℕ))
     (asked : Option (Asking × ℕ)) → Came ls ms → CreatesFit rs ls pairs asked
@@ -104,7 +115,7 @@ creates-came rs ls ms pairs asked came f = record {
   ends = λ n l r i p made. let x = came l i in
       at-same x.0 l x.2 (read_svc_ask r.kind r.payload)
       (f.ends n x.0 r x.1 (subst (λ k. IsIn (n, k) pairs) x.2.connection p) made);
-  one = f.one;
+  first = f.first;
 }
 
 -- ---- a request is made
@@ -126,8 +137,7 @@ creates-sent d label b ls pairs asked now below still new f = record {
       inl (q.0, q.1 ∙ ap (λ k. Some (q.0, k)) (sym e.0)))
       (sent-made d label b n r made);
   ends = λ n l r live p made. f.ends n l r live p (before n l.connection r p made);
-  one = λ n j k r s p o made_n made_j is_n is_j.
-      f.one n j k r s p o (before n k r p made_n) (before j k s o made_j) is_n is_j;
+  first = λ n j k r p o made is. f.first n j k r p o (before n k r p made) is;
 }
   where
     before : (n k : ℕ) (r : Request) → IsIn (n, k) pairs → request_of n (sent d label b) ≡ Some r

@@ -24,10 +24,11 @@ use Rattle.std.proofs.Common.{
 }
 use Rattle.gb_base.specs.declared.end.Side.TheVariants as side
 use Rattle.gb_base.specs.declared.peers.Link.{Link}
+use Rattle.gb_base.specs.declared.steps.SequenceStep.{SequenceStep}
 use Rattle.gb_invariants.proofs.Awaiting.{not-both}
 use Rattle.gb_invariants.proofs.Lists.{in-behind, in-pushed}
 use Rattle.gb_laws.proofs.Awaited.{awaited-rest}
-use Rattle.gb_laws.proofs.Creating.{create-reserved, creates_one, made-creates}
+use Rattle.gb_laws.proofs.Creating.{is_creating, create-reserved, creates_one, made-creates}
 use Rattle.gb_laws.proofs.CreatingAsked.{creates-asked}
 use Rattle.gb_laws.proofs.CreatingFacts.{
   AreReady,
@@ -44,7 +45,7 @@ use Rattle.gb_laws.proofs.LinkHosts.{same-link}
 use Rattle.gb_laws.proofs.LinkLists.{found-at, in-first}
 use Rattle.gb_laws.proofs.LinkSources.{LinksFrom, from-turn, from-unsent}
 use Rattle.gb_laws.proofs.Linking.{LinkedAt}
-use Rattle.gb_laws.proofs.Links.{ArePending, IsFree, SameLink}
+use Rattle.gb_laws.proofs.Links.{ArePending, IsFree, IsMaking, SameLink, connection, control}
 use Rattle.gb_laws.proofs.PairsAsked.{pairs_then}
 use Rattle.gb_laws.proofs.PairsKept.{PairsAt}
 use Rattle.gb_laws.proofs.PointParts.{Point}
@@ -187,21 +188,24 @@ creates-kept m a (acts_opened w q rest free is) links r f then h = record {
     ends = λ n l x live p made. ⊎_elim (λ o. h.fit.ends n l x o p made)
         (λ e. absurd (fresh n l.connection p (ap (λ (y : Link). y.connection) e)))
         (in-pushed l a.state.host.links new live);
-    one = h.fit.one;
+    first = h.fit.first;
   };
   ready = (
-    λ s. record {
-      link = new;
-      found = subst (λ c. link_at q.purpose.intf c
-          (changed m a (acts_opened w q rest free is)).state.host ≡ Some new) (sym made.cport)
-          (subst (λ i. link_at i w.cport
-          (changed m a (acts_opened w q rest free is)).state.host ≡ Some new) (sym made.intf)
-          (found-at (a.state.host.links ++ new ∷ []) new then.host.links.rise
-          (in-behind new a.state.host.links (new ∷ []) (inl refl))));
-      none = λ n p. fresh n (next_connection a.state.bus) p refl;
-      ends = made-creates w q (subst (AreReady a.state.host a.state.past.made_for) is h.ready).0
-          made.within made.cport_within;
-    },
+    (
+      λ s. record {
+        link = new;
+        found = subst (λ c. link_at q.purpose.intf c
+            (changed m a (acts_opened w q rest free is)).state.host ≡ Some new) (sym made.cport)
+            (subst (λ i. link_at i w.cport
+            (changed m a (acts_opened w q rest free is)).state.host ≡ Some new) (sym made.intf)
+            (found-at (a.state.host.links ++ new ∷ []) new then.host.links.rise
+            (in-behind new a.state.host.links (new ∷ []) (inl refl))));
+        none = λ n p. fresh n (next_connection a.state.bus) p refl;
+        ends = made-creates w q (subst (AreReady a.state.host a.state.past.made_for) is h.ready).0
+            made.within made.cport_within;
+      },
+      λ e. absurd (not-both (is_creating q.purpose.step) (making made.step) e),
+    ),
     subst (AreReady (changed m a (acts_opened w q rest free is)).state.host
         a.state.past.made_for) (sym (subst (ArePending a.state.host) is links.pending).0.1) tt,
   );
@@ -212,6 +216,10 @@ creates-kept m a (acts_opened w q rest free is) links r f then h = record {
 
     made : IsFree w q a.state.host
     made = (subst (ArePending a.state.host) is links.pending).0.0
+
+    making : {step : SequenceStep} → IsMaking w step → is_creating step ≡ true
+    making (control zero) = refl
+    making (connection other) = refl
 
     -- nothing is remembered of what is new
     fresh : (n k : ℕ) → IsIn (n, k) a.state.past.made_for → k ≡ next_connection a.state.bus → ⊥

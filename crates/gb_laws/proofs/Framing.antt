@@ -20,7 +20,7 @@ use Rattle.gb_laws.proofs.LinkBuses.{Linked}
 use Rattle.gb_laws.proofs.Linking.{InsertsAbsent, LinkedAt}
 use Rattle.gb_laws.proofs.Links.{ArePending, IsPresent}
 use Rattle.gb_laws.proofs.Marks.{AreAsked, AreElsewhere, find-left, find-pushed, item_mark, marks, marks-first, marks-more, marks-unmarked, marks_of}
-use Rattle.gb_laws.proofs.Points.{AreShort, Change, IsAskedBy, IsLive, IsOfSvc, PortsFrom, IsIdle, PowersOff, SamePlugs, by_far, acts_asked, acts_failed, acts_left, acts_opened, acts_shut, acts_told, answers, asks, binds, by_host, by_module, by_svc, changed, drops, forgets, frees, gives_up, holds, injects, names, others, passes, replies, serves, spends, takes, takes_held, tells, turns, unwires, wires}
+use Rattle.gb_laws.proofs.Points.{Change, IsAskedBy, IsLive, IsOfSvc, IsElse, by_far, acts_asked, acts_failed, acts_left, acts_opened, acts_shut, acts_told, answers, asks, binds, by_host, by_module, by_svc, changed, drops, forgets, frees, gives_up, holds, injects, names, others, passes, replies, serves, spends, takes, takes_held, tells, turns, unwires, wires}
 use Rattle.gb_laws.proofs.PointParts.{Basis, IsNoticed, Point}
 use Rattle.gb_machine.specs.Bus.{Ask, Bus, Connection, Item, Place, Raw, Request, connection_of, has_number, other_side, place_of, queue, request_of}
 use Rattle.gb_machine.specs.Delivery.{popped}
@@ -258,7 +258,7 @@ frame-kept m absent other a (spends i c what none) basis links h =
 frame-kept m absent other a (passes millis) basis links h = frame-bus m a (changed m a (passes millis)) (λ i. refl) refl refl refl h
 frame-kept m absent other a (others booted marks ports modules same) basis links h = by same
   where
-    by : (SamePlugs a.state booted ports modules × PortsFrom m a.state ports × IsIdle a) ⊎ (IsOfSvc m.event × PowersOff a.state ports × (AreShort a.state.modules → AreShort modules))
+    by : IsElse m a booted marks ports modules
         → FrameAt m (changed m a (others booted marks ports modules same))
     by (inl s) = record {
       same = h.same;

@@ -33,7 +33,7 @@ use Rattle.gb_invariants.proofs.Numbers.{found-by_number}
 use Rattle.gb_invariants.proofs.Outcomes.{is-same, same-number}
 use Rattle.gb_invariants.proofs.Selves.{SameSelf, front-self, put-self}
 use Rattle.gb_laws.proofs.CreateServed.{create-read}
-use Rattle.gb_laws.proofs.Creating.{CreatesAt, is_create}
+use Rattle.gb_laws.proofs.Creating.{IsBetween, is_create}
 use Rattle.gb_laws.proofs.CreatingFacts.{CreatesFit}
 use Rattle.gb_laws.proofs.LinkLists.{find-none, found-at}
 use Rattle.gb_laws.proofs.Links.{IsKnown, leaving, linked, supervisory}
@@ -222,10 +222,10 @@ module _ (m : Moment) (start : StaleTo m.told m.before)
       same-connection : remembered.0 ≡ k
       same-connection = by (start.since.links.1.known was.0 was.1)
         where
-          ends : CreatesAt known.0.ap known.0.intf known.0.cport
+          ends : IsBetween known.0.ap known.0.intf known.0.cport
               (Ok (SvcAsk.ConnCreate 1 live.connection.ap live.intf live.cport reads.tc
               reads.flags))
-          ends = subst (CreatesAt known.0.ap known.0.intf known.0.cport) reads.is
+          ends = subst (IsBetween known.0.ap known.0.intf known.0.cport) reads.is
               (fit.ends served.number known.0 served.request known.1
               (subst (λ j. IsIn (served.number, j) m.before.past.made_for) (sym known.2)
               remembered.1) served.made)

@@ -1,20 +1,24 @@
 -- Places of ends, and connections that stay live.
-use Rattle.std.proofs.Common.{◌≡◌, ◌⊎◌, ℕ, Bool, true, false, cond, Option, Some, None, List, [], ◌∷◌, refl, sym, ap, ◌∙◌, inl, inr, ⊎_elim, subst}
+use Rattle.std.proofs.Common.{◌≡◌, ◌⊎◌, ℕ, Bool, true, false, cond, Option, Some, None, List, [], ◌∷◌, ◌++◌, refl, sym, ap, ◌∙◌, inl, inr, ⊎_elim, subst}
 use Rattle.std.specs.Prelude.{◌==◌, ◌&&◌, option_map}
+use Rattle.std.specs.List.{list_any}
 use Rattle.gb_base.specs.declared.end.End.{End}
 use Rattle.gb_base.specs.declared.end.End.TheVariants as end
 use Rattle.gb_base.specs.declared.end.Side.{Side}
 use Rattle.gb_base.specs.declared.end.Side.TheVariants as side
 use Rattle.gb_invariants.proofs.Awaiting.{same-some}
 use Rattle.gb_invariants.proofs.Outcomes.{both-true, same-number}
-use Rattle.gb_invariants.proofs.Lists.{in-at_first}
-use Rattle.gb_laws.proofs.Points.{IsAfterReply, IsLive, replied_to, unreplied}
+use Rattle.gb_invariants.proofs.Lists.{in-at_first, in-pushed}
+use Rattle.gb_laws.proofs.Points.{AreMarked, IsAfterReply, IsLive, replied_to, unreplied}
 use Rattle.gb_machine.specs.Bus.{Bus, Connection, Item, Place, end_of, has_number, or_else, other_side, place_of, same_end, side_at}
+use Rattle.gb_machine.specs.Holding.{marked}
 use Rattle.gb_machine.specs.Incoming.{Incoming, reply_item}
 use Rattle.gb_machine.specs.Delivery.{replied}
 use Rattle.gb_machine.specs.Lists.{at_first}
 use Rattle.gb_machine.specs.Members.{IsIn}
+use Rattle.gb_machine.specs.Refusals.{module_place}
 use Rattle.gb_machine.specs.Sending.{put, queued}
+use Rattle.gb_machine.specs.State.{State}
 
 -- ends that test as one are one
 pub same_end-is : (a b : End) → same_end a b ≡ true → a ≡ b
@@ -161,3 +165,25 @@ comes-after {k} {at} {q} {b} (unreplied e) =
     subst (ComesFrom b) (sym e) (λ c live. (c, live, refl, refl))
 comes-after {k} {at} {q} {b} (replied_to r e) =
     subst (ComesFrom b) (sym e) (comes-replied k (other_side at) (reply_item q r) b)
+
+-- ---- marks
+
+-- what is marked to hold is the connection of a module
+pub place-marked : (i c : ℕ) (s : State) (p : Place) → module_place i c s ≡ Some p
+    → AreMarked s (marked p.connection.number s.holds)
+place-marked i c s p e = by (list_any (λ j. j == p.connection.number) s.holds)
+  where
+    by : (t : Bool) → AreMarked s (cond t s.holds (s.holds ++ p.connection.number ∷ []))
+    by true k n = inl n
+    by false k n = ⊎_elim (λ o. inl o) (λ same.
+        let place = place-is (end.Module i c) s.bus.connections p e in
+        inr (
+          p.connection,
+          i,
+          c,
+          place.live,
+          sym same,
+          sym (ap (λ x. end_of x p.connection) (module-far i c p.side p.connection place.is))
+              ∙ place.is,
+        ))
+        (in-pushed k s.holds p.connection.number n)

@@ -226,11 +226,26 @@ pub record IsCreated (m : Moment) (s : State) (c : Connection) (i p : ℕ) : Typ
 abbrev pub PowersOff : State → List Port → Type 0
 PowersOff s ports = (i : ℕ) → (level_of i ports ≡ level_of i s.ports) ⊎ (level_of i ports ≡ 0)
 
+-- a hold mark stood before, or is one of a connection to a module
+abbrev pub AreMarked : State → List ℕ → Type 0
+AreMarked s marks = (k : ℕ) → IsIn k marks → IsIn k s.holds
+    ⊎ ((c : Connection) × (i : ℕ) × (p : ℕ) × IsIn c s.bus.connections × (c.number ≡ k)
+    × (c.peer ≡ end.Module i p))
+
 -- nothing is being handled, and the application processor has nothing to do
 pub record IsIdle (a : Point) : Type 0 where
   pub hand : a.hand ≡ None
   pub pending : a.pending ≡ []
   pub asked : a.asked ≡ None
+
+-- what else changes that is no matter of requests: power levels as they do, or at an event of the
+-- supervisory controller
+abbrev pub IsElse : Moment → Point → Bool → List ℕ → List Port → List Plugged → Type 0
+IsElse m a booted marks ports modules =
+    (SamePlugs a.state booted ports modules × PortsFrom m a.state ports × IsIdle a
+    × AreMarked a.state marks)
+    ⊎ (IsOfSvc m.event × PowersOff a.state ports × (AreShort a.state.modules → AreShort modules)
+    × AreMarked a.state marks)
 
 -- A single change at a point.
 pub data Change (m : Moment) (a : Point) : Type 0 where
@@ -290,9 +305,7 @@ pub data Change (m : Moment) (a : Point) : Type 0 where
   passes : (millis : ℕ) → Change m a
   -- something else changes that is no matter of requests
   others : (booted : Bool) (marks : List ℕ) (ports : List Port) (modules : List Plugged)
-      → (SamePlugs a.state booted ports modules × PortsFrom m a.state ports × IsIdle a)
-      ⊎ (IsOfSvc m.event × PowersOff a.state ports × (AreShort a.state.modules → AreShort modules))
-      → Change m a
+      → IsElse m a booted marks ports modules → Change m a
 
 -- the point after a single change
 abbrev pub changed : (m : Moment) (a : Point) → Change m a → Point

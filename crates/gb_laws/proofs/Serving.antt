@@ -135,6 +135,7 @@ module _ (m : Moment) (law : Law m) where
       },
       from,
       record { hand = refl; pending = refl; asked = refl },
+      λ k i. inl i,
     ))) at,
   )
 
@@ -226,6 +227,7 @@ module _ (m : Moment) (law : Law m) where
         module-plugs s i step.after short,
         as_before refl,
         record { hand = refl; pending = refl; asked = refl },
+        λ k i. inl i,
       ))) at)
       (goes-far_asks_all m (acting m law) [] Untouched k step.served.asks (record s { modules = with_module i step.after s.modules }) to))
 

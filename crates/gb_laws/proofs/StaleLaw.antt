@@ -1,23 +1,6 @@
 -- While a request waits for a connection that is known no more, the power level of its interface is
 -- at most 1: a law of points.
-use Rattle.std.proofs.Common.{
-  ap,
-  arith,
-  inl,
-  inr,
-  refl,
-  subst,
-  sym,
-  true,
-  ℕ,
-  ◌∙◌,
-  ◌∷◌,
-  ◌≡◌,
-  ◌≤◌,
-  ◌⊎◌,
-  [],
-  ⊎_elim,
-}
+use Rattle.std.proofs.Common.{ap, arith, inl, inr, refl, subst, sym, true, ℕ, ◌∙◌, ◌∷◌, ◌≡◌, ◌≤◌, [], ⊎_elim}
 use Rattle.gb_base.specs.declared.end.Side.TheVariants as side
 use Rattle.gb_invariants.proofs.Awaiting.{not-both}
 use Rattle.gb_invariants.proofs.Lists.{in-front}
@@ -38,38 +21,7 @@ use Rattle.gb_laws.proofs.LinkHosts.{Stay, same-link, stay-changed, stay-same}
 use Rattle.gb_laws.proofs.Linking.{InsertsAbsent}
 use Rattle.gb_laws.proofs.Links.{ArePending}
 use Rattle.gb_laws.proofs.PointParts.{Point, resting}
-use Rattle.gb_laws.proofs.Points.{
-  AreShort,
-  Change,
-  IsAskedBy,
-  IsAsking,
-  IsFarAsking,
-  IsIdle,
-  IsOfSvc,
-  IsPlain,
-  PortsFrom,
-  PowersOff,
-  SamePlugs,
-  acts_asked,
-  acts_failed,
-  acts_left,
-  acts_opened,
-  acts_shut,
-  acts_told,
-  asking,
-  asks,
-  by_far,
-  by_host,
-  by_module,
-  by_svc,
-  changed,
-  names,
-  opening,
-  others,
-  serves,
-  spends,
-  turns,
-}
+use Rattle.gb_laws.proofs.Points.{Change, IsAskedBy, IsAsking, IsFarAsking, IsElse, IsPlain, acts_asked, acts_failed, acts_left, acts_opened, acts_shut, acts_told, asking, asks, by_far, by_host, by_module, by_svc, changed, names, opening, others, serves, spends, turns}
 use Rattle.gb_laws.proofs.Quiet.{IsQuiet}
 use Rattle.gb_laws.proofs.QuietLaw.{fewer-asks}
 use Rattle.gb_laws.proofs.Stale.{IsCool, StaleAt, cool-still, due-still}
@@ -258,9 +210,7 @@ module _ (m : Moment) (absent : InsertsAbsent m) (i : ℕ)
             (λ q j. j) h;
       }
 
-      by : (SamePlugs a.state booted ports modules × PortsFrom m a.state ports × IsIdle a)
-          ⊎ (IsOfSvc m.event × PowersOff a.state ports
-          × (AreShort a.state.modules → AreShort modules))
+      by : IsElse m a booted marks ports modules
           → IsCool i (changed m a (others booted marks ports modules same))
       by (inl s) = cool-ports m i start.basis start.links start.there cool start.pairs
           quiet.low.restarts a (changed m a (others booted marks ports modules same)) ports s.1 s.2

@@ -25,7 +25,7 @@ use Rattle.gb_laws.proofs.Naming.{made-named}
 use Rattle.gb_invariants.proofs.Lists.{found-in, two-at_first}
 use Rattle.gb_invariants.proofs.Numbers.{found-number, same-connection}
 use Rattle.gb_invariants.specs.Facts.{IsBefore}
-use Rattle.gb_laws.proofs.Places.{at_first-back, module-far, place-is}
+use Rattle.gb_laws.proofs.Places.{at_first-back, module-far, place-is, place-marked}
 use Rattle.gb_laws.proofs.PointParts.{AreSilent}
 use Rattle.gb_machine.specs.Members.{EachTwo, IsIn}
 use Rattle.std.specs.List.{find}
@@ -180,7 +180,7 @@ module _ (m : Moment) (law : Law m) where
       (each s.modules (λ p. tells_inserted p.intf)) s
       (rests-▸ (change (λ t. record t { booted = true }) ▸ svc_asks (SvcAsk.ProtocolVersion 0 1)) (svc_asks (SvcAsk.Hello 1 1)) s
       (rests-▸ (change (λ t. record t { booted = true })) (svc_asks (SvcAsk.ProtocolVersion 0 1)) s
-      (λ told at. law.kept _ (others true s.holds s.ports s.modules (inr (of, λ i. inl refl, λ h. h))) at)
+      (λ told at. law.kept _ (others true s.holds s.ports s.modules (inr (of, λ i. inl refl, λ h. h, λ k i. inl i))) at)
       (rests-svc of (SvcAsk.ProtocolVersion 0 1) _ (λ j h. absurd cc)))
       (rests-svc of (SvcAsk.Hello 1 1) _ (λ j h. absurd cc)))
       (rests-inserted_all of s.modules _)
@@ -191,7 +191,12 @@ module _ (m : Moment) (law : Law m) where
   rests-plugs of i x s fits =
       rests-▸ (change (with_plugged i x)) (when s.booted (tells_inserted i)) s
       (λ told at. law.kept _ (others s.booted s.holds (with_plugged i x s).ports (with_plugged i x s).modules
-      (inr (of, λ j. powered-off i j s.ports (i == j), λ h. short-plugged i x s.modules h fits))) at)
+      (inr (
+        of,
+        λ j. powered-off i j s.ports (i == j),
+        λ h. short-plugged i x s.modules h fits,
+        λ k n. inl n,
+      ))) at)
       (rests-when s.booted (tells_inserted i) (with_plugged i x s) (rests-svc of (SvcAsk.ModuleInserted i 1 0) (with_plugged i x s) (λ j h. absurd cc)))
 
   -- ---- requests of lines
@@ -309,6 +314,7 @@ module _ (m : Moment) (law : Law m) where
             module-plugs s i t.after (short t refl),
             as_before refl,
             record { hand = refl; pending = refl; asked = refl },
+            λ k n. inl n,
           ))) at)
           (placed t (record s { modules = with_module i t.after s.modules }) (module_place i c s) refl)
 
@@ -321,15 +327,18 @@ module _ (m : Moment) (law : Law m) where
 
   pub rests-holds : (i c : ℕ) (s : State) → Rests (holds i c) s
   unfolding machine_opened
-  rests-holds i c s = by (module_place i c s)
+  rests-holds i c s = by (module_place i c s) refl
     where
-      by : (o : Option Place) → Rests (given o (λ p. change (with_hold p.connection.number))) s
-      by None = rests-nothing s
-      by (Some p) = λ told at. law.kept _ (others s.booted (marked p.connection.number s.holds) s.ports s.modules (inl (
-        same-plugs s,
-        as_before refl,
-        record { hand = refl; pending = refl; asked = refl },
-      ))) at
+      by : (o : Option Place) → module_place i c s ≡ o
+          → Rests (given o (λ p. change (with_hold p.connection.number))) s
+      by None e = rests-nothing s
+      by (Some p) e = λ told at. law.kept _ (others s.booted (marked p.connection.number s.holds)
+          s.ports s.modules (inl (
+            same-plugs s,
+            as_before refl,
+            record { hand = refl; pending = refl; asked = refl },
+            place-marked i c s p e,
+          ))) at
 
   pub rests-injects : (i c : ℕ) (bytes : List ℕ) (s : State) → Rests (injects i c bytes) s
   unfolding machine_opened

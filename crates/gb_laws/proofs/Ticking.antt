@@ -352,6 +352,7 @@ module _ (m : Moment) (law : Law m) where
               of,
               λ j. unpowered-off i j w.ports (j == i) refl,
               λ h p k. h p (in-without (is_plugged_at i) w.modules p k).0,
+              λ k n. inl n,
             ))) u.holds;
       }
 

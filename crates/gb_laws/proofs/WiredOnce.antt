@@ -31,7 +31,7 @@ use Rattle.gb_base.specs.declared.end.Side.TheVariants as side
 use Rattle.gb_invariants.proofs.Lists.{in-pushed}
 use Rattle.gb_invariants.proofs.Outcomes.{same-number}
 use Rattle.gb_laws.proofs.Creating.{creates_one, is_create}
-use Rattle.gb_laws.proofs.CreatingFacts.{CreatesFit}
+use Rattle.gb_laws.proofs.CreatingFacts.{creates-one, CreatesFit}
 use Rattle.gb_laws.proofs.OwnCreation.{IsCreation}
 use Rattle.gb_laws.proofs.Owning.{KeepsRequests}
 use Rattle.gb_laws.proofs.Stale.{waited}
@@ -112,7 +112,7 @@ module _ (m : Moment) (k : ℕ) (c : IsCreation m k)
   pub unwired-before : IsIn k m.before.past.wired → ⊥
   unwired-before i =
       let x = h.spent k i in
-      let one = fit.one x.number c.number k x.request c.request x.pair c.own x.made c.made x.creates
+      let one = creates-one fit x.number c.number k x.request c.request x.pair c.own x.made c.made x.creates
       (ap is_create c.creates) in
       x.served (subst (λ n. IsIn (Ask n) (svc_items side.Far m.before.bus)) (sym one)
       (subst (λ xs. IsIn (Ask c.number) xs) (sym c.front) (inl refl)))

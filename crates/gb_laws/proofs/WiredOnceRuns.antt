@@ -246,7 +246,7 @@ wiring-throughout = throughout WiringTo (record {
   creates = record {
     own = λ n r made. absurd (unmade n r made);
     ends = λ n l r live. absurd live;
-    one = λ n j k r s i. absurd i;
+    first = λ n j k r i. absurd i;
   };
   wirings = record { spent = λ k i. absurd i; once = λ k. omega arith };
   remembered = remembered-first;

@@ -16,7 +16,7 @@ use Rattle.gb_laws.proofs.Awaited.{awaited-rest}
 use Rattle.gb_laws.proofs.Levels.{StepOn, by_record, nothing_changes, other-port, same-port, step-levels}
 use Rattle.gb_laws.proofs.LinkActs.{awaited-plugs}
 use Rattle.gb_laws.proofs.Onward.{drawn-wired, front-wired, put-wired}
-use Rattle.gb_laws.proofs.Points.{AreShort, as_before, loses_route, served, Change, IsOfSvc, PortsFrom, IsIdle, PowersOff, SamePlugs, acts_asked, acts_failed, acts_left, acts_opened, acts_shut, acts_told, answers, asks, binds, changed, drops, forgets, frees, gives_up, holds, injects, names, others, passes, replies, serves, spends, takes, takes_held, tells, turns, unwires, wires}
+use Rattle.gb_laws.proofs.Points.{as_before, loses_route, served, Change, IsOfSvc, PortsFrom, IsElse, acts_asked, acts_failed, acts_left, acts_opened, acts_shut, acts_told, answers, asks, binds, changed, drops, forgets, frees, gives_up, holds, injects, names, others, passes, replies, serves, spends, takes, takes_held, tells, turns, unwires, wires}
 use Rattle.gb_laws.proofs.PointParts.{Basis, Point}
 use Rattle.gb_machine.specs.Bus.{Ask, Bus, Connection, Raw, has_number, next_number, other_side}
 use Rattle.gb_machine.specs.Delivery.{without_front}
@@ -221,7 +221,8 @@ wired-kept m other a (acts_asked q n rest is) basis h =
     }
 wired-kept m other a (others booted marks ports modules same) basis h = by same
   where
-    by : (SamePlugs a.state booted ports modules × PortsFrom m a.state ports × IsIdle a) ⊎ (IsOfSvc m.event × PowersOff a.state ports × (AreShort a.state.modules → AreShort modules)) → WiredFit (changed m a (others booted marks ports modules same)).state
+    by : IsElse m a booted marks ports modules
+        → WiredFit (changed m a (others booted marks ports modules same)).state
     by (inl s) = record {
       wired = λ c live wired i p at. s.0.plugged i ∙ h.wired c live wired i p at;
       powered = λ i e. s.0.plugged i ∙ h.powered i (s.0.powered i e);
