@@ -15,14 +15,36 @@ pub record SameRest (s t : State) : Type 0 where
   pub held : t.held ≡ s.held
   pub names : t.names ≡ s.names
   pub ports : t.ports ≡ s.ports
+  pub holds : t.holds ≡ s.holds
 
 pub awaited-rest : (p : Purpose) (n : ℕ) (s : State) → SameRest s (with_awaited p n s)
 awaited-rest p n s = by (is_for_connection p.step) (link_at p.intf p.cport (awaits p n s.host))
   where
     made : (o : Option Link) → SameRest s (made_for n o (record s { host = awaits p n s.host }))
-    made None = record { bus = refl; now = refl; held = refl; names = refl; ports = refl }
-    made (Some l) = record { bus = refl; now = refl; held = refl; names = refl; ports = refl }
+    made None = record {
+      bus = refl;
+      now = refl;
+      held = refl;
+      names = refl;
+      ports = refl;
+      holds = refl;
+    }
+    made (Some l) = record {
+      bus = refl;
+      now = refl;
+      held = refl;
+      names = refl;
+      ports = refl;
+      holds = refl;
+    }
 
     by : (t : Bool) (o : Option Link) → SameRest s (cond t (made_for n o (record s { host = awaits p n s.host })) (record s { host = awaits p n s.host }))
     by true o = made o
-    by false o = record { bus = refl; now = refl; held = refl; names = refl; ports = refl }
+    by false o = record {
+      bus = refl;
+      now = refl;
+      held = refl;
+      names = refl;
+      ports = refl;
+      holds = refl;
+    }

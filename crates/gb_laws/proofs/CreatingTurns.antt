@@ -233,7 +233,8 @@ disconnects-orderly (Some l) p h other =
 pub turn-orderly : (e : HostEvent) (h : Host) → IsTurn (host_turn e h)
 turn-orderly (HostEvent.Inserted i) h =
     (tt, asks-orderly (purpose i 0 steps.EnableVsys) (with_new_interface i h) refl)
-turn-orderly (HostEvent.Removed i) h = left-orderly (without_interface i h) (links_of i h) _ (tt, tt)
+turn-orderly (HostEvent.Removed i) h =
+    left-orderly (without_interface i h) (links_of i h) _ (tt, tt)
 turn-orderly (HostEvent.Connect i c) h =
     connects-orderly (option_and_then (cport_of c) (interface_of i h))
     (purpose i c steps.CreateConnection) h

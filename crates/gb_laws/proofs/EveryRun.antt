@@ -1,4 +1,10 @@
 -- The laws, of every run.
+use Rattle.std.proofs.Common.{◌≡◌, ℕ, Some, None, List, false, refl}
+use Rattle.gb_base.specs.declared.end.Side.{Side}
+use Rattle.gb_base.specs.declared.end.Side.TheVariants as side
+use Rattle.gb_base.specs.declared.entry.ConnState.{ConnState}
+use Rattle.gb_base.specs.declared.entry.Entry.TheVariants as entry
+use Rattle.gb_base.specs.declared.event.Event.{Event}
 use Rattle.gb_laws.proofs.Absent.{between-at_moments, unconnected-by_moments}
 use Rattle.gb_laws.proofs.AllRuns.{at-all, of-all, of-state}
 use Rattle.gb_laws.proofs.Answering.{answered-at_moments}
@@ -39,7 +45,16 @@ use Rattle.gb_laws.specs.OwnSide.{
 use Rattle.gb_laws.specs.OwnWaits.{AwaitsOwnRequest, ServedLeavesNone}
 use Rattle.gb_laws.specs.OwnWires.{WiredIsRemembered}
 use Rattle.gb_laws.proofs.OpenRuns.{open-live_by_moments}
-use Rattle.gb_machine.specs.Runs.{HoldsAtEachMoment, HoldsThroughout}
+use Rattle.gb_machine.specs.Bus.{Request, is_open, request_of}
+use Rattle.gb_machine.specs.Host.{interface_of}
+use Rattle.gb_machine.specs.Members.{IsIn}
+use Rattle.gb_machine.specs.Runs.{
+  AreValid,
+  HoldsAtEachMoment,
+  HoldsThroughout,
+  state_by,
+  told_by,
+}
 use Rattle.gb_machine.specs.LawsBus.{
   EndpointsDiffer,
   HaveAwaited,
@@ -69,6 +84,7 @@ use Rattle.gb_machine.specs.LawsHotPlug.{
   NoForeignMessage,
   AbsentAfterRemoval,
   NoneForgotten,
+  NothingLeftAfterRemoval,
   OpenIsLive,
   RememberedForOne,
   RememberedWhileLive,
@@ -158,10 +174,28 @@ unwired-open = of-all UnwiredHasNoOpenOfFar (of-state _) unwired-open_by_moments
 pub none-open : HoldsAtEachMoment FindsNoneOpen
 none-open = at-all FindsNoneOpen none-open_at_moments
 
--- Where an interface is absent, an open request of a module is on a connection that was to be
--- destroyed.
+-- Nothing that a module asked on a connection that named an absent interface is open.
 pub module-open : HoldsThroughout AbsentHasNoOpenOfModule
 module-open = of-all AbsentHasNoOpenOfModule module-seen module-open_by_moments
+
+-- Once the removal of an interface is handled, nothing on it is open, until it is inserted again.
+pub nothing-left : NothingLeftAfterRemoval
+nothing-left = record {
+  absent = absent-after;
+  closed = λ es valid i gone k own c n state r said made on.
+      either es valid i gone k own c n state r said made on r.side refl;
+  live = open-live;
+}
+  where
+    either : (es : List Event) → AreValid es → (i : ℕ)
+        → interface_of i (state_by es).host ≡ None → (k own c n : ℕ) (state : ConnState)
+        (r : Request) → IsIn (entry.Connection k own i c state) (told_by es)
+        → request_of n (state_by es).bus ≡ Some r → r.connection ≡ k → (s : Side)
+        → r.side ≡ s → is_open n (state_by es).bus ≡ false
+    either es valid i gone k own c n state r said made on side.Ap e =
+        absent-open es valid i k own c n state r gone said made on e
+    either es valid i gone k own c n state r said made on side.Far e =
+        module-open es valid i k own c n state r gone said made on e
 
 -- Which connections were ever wired is never forgotten.
 pub none-forgotten : HoldsAtEachMoment NoneForgotten

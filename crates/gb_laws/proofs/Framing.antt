@@ -1,6 +1,29 @@
 -- What stays within a step at which the supervisory controller doesn't ask: the marks that wait, but
 -- for the one that is taken, what is plugged, and which interfaces are known.
-use Rattle.std.proofs.Common.{◌≡◌, ◌⊎◌, ◌≤◌, ◌≢◌, ℕ, Bool, true, false, cond, Option, Some, None, [], refl, sym, ap, ◌∙◌, inl, inr, ⊎_elim, subst, arith}
+use Rattle.std.proofs.Common.{
+  ◌≡◌,
+  ◌⊎◌,
+  ◌≤◌,
+  ◌≢◌,
+  ℕ,
+  Bool,
+  true,
+  false,
+  cond,
+  Option,
+  Some,
+  None,
+  [],
+  refl,
+  sym,
+  ap,
+  ◌∙◌,
+  inl,
+  inr,
+  ⊎_elim,
+  subst,
+  arith,
+}
 use Rattle.std.proofs.lemmas.Bool.Decides.{nat_tests}
 use Rattle.std.specs.Prelude.{◌==◌, ◌+◌}
 use Rattle.gb_base.specs.declared.peers.Interface.{Interface}
@@ -19,10 +42,73 @@ use Rattle.gb_laws.proofs.Knowing.{KnownAt, known-kept}
 use Rattle.gb_laws.proofs.LinkBuses.{Linked}
 use Rattle.gb_laws.proofs.Linking.{InsertsAbsent, LinkedAt}
 use Rattle.gb_laws.proofs.Links.{ArePending, IsPresent}
-use Rattle.gb_laws.proofs.Marks.{AreAsked, AreElsewhere, find-left, find-pushed, item_mark, marks, marks-first, marks-more, marks-unmarked, marks_of}
-use Rattle.gb_laws.proofs.Points.{Change, IsAskedBy, IsLive, IsOfSvc, IsElse, by_far, acts_asked, acts_failed, acts_left, acts_opened, acts_shut, acts_told, answers, asks, binds, by_host, by_module, by_svc, changed, drops, forgets, frees, gives_up, holds, injects, names, others, passes, replies, serves, spends, takes, takes_held, tells, turns, unwires, wires}
+use Rattle.gb_laws.proofs.Marks.{
+  AreAsked,
+  AreElsewhere,
+  find-left,
+  find-pushed,
+  item_mark,
+  marks,
+  marks-first,
+  marks-more,
+  marks-unmarked,
+  marks_of,
+}
+use Rattle.gb_laws.proofs.Points.{
+  Change,
+  IsAskedBy,
+  IsLive,
+  IsOfSvc,
+  IsElse,
+  by_far,
+  acts_asked,
+  acts_failed,
+  acts_left,
+  acts_opened,
+  acts_shut,
+  acts_told,
+  answers,
+  asks,
+  binds,
+  by_host,
+  by_module,
+  by_svc,
+  changed,
+  drops,
+  forgets,
+  frees,
+  gives_up,
+  holds,
+  injects,
+  names,
+  others,
+  passes,
+  replies,
+  serves,
+  spends,
+  takes,
+  takes_held,
+  tells,
+  turns,
+  unwires,
+  wires,
+}
 use Rattle.gb_laws.proofs.PointParts.{Basis, IsNoticed, Point}
-use Rattle.gb_machine.specs.Bus.{Ask, Bus, Connection, Item, Place, Raw, Request, connection_of, has_number, other_side, place_of, queue, request_of}
+use Rattle.gb_machine.specs.Bus.{
+  Ask,
+  Bus,
+  Connection,
+  Item,
+  Place,
+  Raw,
+  Request,
+  connection_of,
+  has_number,
+  other_side,
+  place_of,
+  queue,
+  request_of,
+}
 use Rattle.gb_machine.specs.Delivery.{popped}
 use Rattle.gb_machine.specs.Host.{Host}
 use Rattle.gb_machine.specs.Incoming.{Incoming, reply_item}

@@ -45,10 +45,13 @@ pub mod Enums
 pub mod EveryRun
 pub mod FarOpen
 pub mod FarOpenKept
+pub mod FarOpenLeft
 pub mod FarOpenRuns
 pub mod Foreign
 pub mod Framing
 pub mod Going
+pub mod Gone
+pub mod GoneRuns
 pub mod Happened
 pub mod Knowing
 pub mod Levels
@@ -119,6 +122,7 @@ pub mod Replying
 pub mod Routed
 pub mod Runs
 pub mod Served
+pub mod ServedDestroy
 pub mod Serving
 pub mod SettleQueues
 pub mod Settles
@@ -136,6 +140,7 @@ pub mod StalePower
 pub mod StaleRuns
 pub mod StaleTurns
 pub mod Stepping
+pub mod StillWaiting
 pub mod Steps
 pub mod SvcItems
 pub mod SvcKinds
@@ -148,6 +153,7 @@ pub mod Ticking
 pub mod ToldLinks
 pub mod ToldRuns
 pub mod Turned
+pub mod Unheld
 pub mod WiredOnce
 pub mod WiredOnceRuns
 pub mod WiredRemembered

@@ -113,6 +113,18 @@ none-any test (y ∷ ys) x h i = by (test y) refl h i (none-any test ys x)
 
 -- ---- connections
 
+-- one passes where any does
+pub any-in : {A : Type 0} (test : A → Bool) (xs : List A) → list_any test xs ≡ true
+    → (x : A) × IsIn x xs × (test x ≡ true)
+any-in test [] h = absurd cc
+any-in {A} test (y ∷ ys) h = by (test y) refl h (any-in test ys)
+  where
+    by : (b : Bool) → test y ≡ b → (b || list_any test ys) ≡ true
+        → (list_any test ys ≡ true → (x : A) × IsIn x ys × (test x ≡ true))
+        → (x : A) × IsIn x (y ∷ ys) × (test x ≡ true)
+    by true e h rec = (y, inl refl, e)
+    by false e h rec = let w = rec h in (w.0, inr w.1, w.2)
+
 -- a connection is the one of a CPort
 pub link-is : (i c : ℕ) (l : Link) → is_link i c l ≡ true → (l.intf ≡ i) × (l.cport ≡ c)
 link-is i c l h = let p = both-true (l.intf == i) (l.cport == c) h in (same-number l.intf i p.0, same-number l.cport c p.1)

@@ -1,5 +1,28 @@
 -- Places of ends, and connections that stay live.
-use Rattle.std.proofs.Common.{◌≡◌, ◌⊎◌, ℕ, Bool, true, false, cond, Option, Some, None, List, [], ◌∷◌, ◌++◌, refl, sym, ap, ◌∙◌, inl, inr, ⊎_elim, subst}
+use Rattle.std.proofs.Common.{
+  ◌≡◌,
+  ◌⊎◌,
+  ℕ,
+  Bool,
+  true,
+  false,
+  cond,
+  Option,
+  Some,
+  None,
+  List,
+  [],
+  ◌∷◌,
+  ◌++◌,
+  refl,
+  sym,
+  ap,
+  ◌∙◌,
+  inl,
+  inr,
+  ⊎_elim,
+  subst,
+}
 use Rattle.std.specs.Prelude.{◌==◌, ◌&&◌, option_map}
 use Rattle.std.specs.List.{list_any}
 use Rattle.gb_base.specs.declared.end.End.{End}
@@ -10,7 +33,19 @@ use Rattle.gb_invariants.proofs.Awaiting.{same-some}
 use Rattle.gb_invariants.proofs.Outcomes.{both-true, same-number}
 use Rattle.gb_invariants.proofs.Lists.{in-at_first, in-pushed}
 use Rattle.gb_laws.proofs.Points.{AreMarked, IsAfterReply, IsLive, replied_to, unreplied}
-use Rattle.gb_machine.specs.Bus.{Bus, Connection, Item, Place, end_of, has_number, or_else, other_side, place_of, same_end, side_at}
+use Rattle.gb_machine.specs.Bus.{
+  Bus,
+  Connection,
+  Item,
+  Place,
+  end_of,
+  has_number,
+  or_else,
+  other_side,
+  place_of,
+  same_end,
+  side_at,
+}
 use Rattle.gb_machine.specs.Holding.{marked}
 use Rattle.gb_machine.specs.Incoming.{Incoming, reply_item}
 use Rattle.gb_machine.specs.Delivery.{replied}

@@ -1,6 +1,30 @@
 -- While a removal of an interface waits toward the application processor, its power level is at
 -- most 1: a law of points.
-use Rattle.std.proofs.Common.{◌≡◌, ◌≢◌, ◌≤◌, ℕ, ◌+◌, Bool, true, false, Some, None, List, [], ◌∷◌, map, refl, sym, ap, ◌∙◌, inl, inr, ⊎_elim, subst, arith}
+use Rattle.std.proofs.Common.{
+  ◌≡◌,
+  ◌≢◌,
+  ◌≤◌,
+  ℕ,
+  ◌+◌,
+  Bool,
+  true,
+  false,
+  Some,
+  None,
+  List,
+  [],
+  ◌∷◌,
+  map,
+  refl,
+  sym,
+  ap,
+  ◌∙◌,
+  inl,
+  inr,
+  ⊎_elim,
+  subst,
+  arith,
+}
 use Rattle.std.proofs.lemmas.Bool.Decides.{nat_tests}
 use Rattle.std.specs.Prelude.{◌==◌}
 use Rattle.gb_base.specs.declared.end.End.TheVariants as end
@@ -19,7 +43,42 @@ use Rattle.gb_laws.proofs.Links.{ArePending}
 use Rattle.gb_laws.proofs.Loosening.{held-at, map-held-in}
 use Rattle.gb_laws.proofs.Marks.{find-left, find-pushed}
 use Rattle.gb_laws.proofs.Places.{module-far, place-is}
-use Rattle.gb_laws.proofs.Points.{Change, IsAskedBy, IsElse, IsPlain, acts_asked, acts_failed, acts_left, acts_opened, acts_shut, acts_told, answers, asks, binds, by_far, by_host, changed, drops, forgets, frees, gives_up, holds, injects, names, others, passes, replies, serves, spends, takes, takes_held, tells, turns, unwires, wires}
+use Rattle.gb_laws.proofs.Points.{
+  Change,
+  IsAskedBy,
+  IsElse,
+  IsPlain,
+  acts_asked,
+  acts_failed,
+  acts_left,
+  acts_opened,
+  acts_shut,
+  acts_told,
+  answers,
+  asks,
+  binds,
+  by_far,
+  by_host,
+  changed,
+  drops,
+  forgets,
+  frees,
+  gives_up,
+  holds,
+  injects,
+  names,
+  others,
+  passes,
+  replies,
+  serves,
+  spends,
+  takes,
+  takes_held,
+  tells,
+  turns,
+  unwires,
+  wires,
+}
 use Rattle.gb_laws.proofs.PointParts.{Basis, Hand, Point, loose_hand, loose_held, resting}
 use Rattle.gb_laws.proofs.Quiet.{IsQuiet, SameView, off, quiet-still, view-same}
 use Rattle.gb_laws.proofs.QuietBuses.{queues-kept, queues-other}

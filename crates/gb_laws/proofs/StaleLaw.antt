@@ -1,6 +1,22 @@
 -- While a request waits for a connection that is known no more, the power level of its interface is
 -- at most 1: a law of points.
-use Rattle.std.proofs.Common.{ap, arith, inl, inr, refl, subst, sym, true, ℕ, ◌∙◌, ◌∷◌, ◌≡◌, ◌≤◌, [], ⊎_elim}
+use Rattle.std.proofs.Common.{
+  ap,
+  arith,
+  inl,
+  inr,
+  refl,
+  subst,
+  sym,
+  true,
+  ℕ,
+  ◌∙◌,
+  ◌∷◌,
+  ◌≡◌,
+  ◌≤◌,
+  [],
+  ⊎_elim,
+}
 use Rattle.gb_base.specs.declared.end.Side.TheVariants as side
 use Rattle.gb_invariants.proofs.Awaiting.{not-both}
 use Rattle.gb_invariants.proofs.Lists.{in-front}
@@ -21,7 +37,33 @@ use Rattle.gb_laws.proofs.LinkHosts.{Stay, same-link, stay-changed, stay-same}
 use Rattle.gb_laws.proofs.Linking.{InsertsAbsent}
 use Rattle.gb_laws.proofs.Links.{ArePending}
 use Rattle.gb_laws.proofs.PointParts.{Point, resting}
-use Rattle.gb_laws.proofs.Points.{Change, IsAskedBy, IsAsking, IsFarAsking, IsElse, IsPlain, acts_asked, acts_failed, acts_left, acts_opened, acts_shut, acts_told, asking, asks, by_far, by_host, by_module, by_svc, changed, names, opening, others, serves, spends, turns}
+use Rattle.gb_laws.proofs.Points.{
+  Change,
+  IsAskedBy,
+  IsAsking,
+  IsFarAsking,
+  IsElse,
+  IsPlain,
+  acts_asked,
+  acts_failed,
+  acts_left,
+  acts_opened,
+  acts_shut,
+  acts_told,
+  asking,
+  asks,
+  by_far,
+  by_host,
+  by_module,
+  by_svc,
+  changed,
+  names,
+  opening,
+  others,
+  serves,
+  spends,
+  turns,
+}
 use Rattle.gb_laws.proofs.Quiet.{IsQuiet}
 use Rattle.gb_laws.proofs.QuietLaw.{fewer-asks}
 use Rattle.gb_laws.proofs.Stale.{IsCool, StaleAt, cool-still, due-still}

@@ -180,7 +180,8 @@ module _ (m : Moment) (law : Law m) where
       (each s.modules (λ p. tells_inserted p.intf)) s
       (rests-▸ (change (λ t. record t { booted = true }) ▸ svc_asks (SvcAsk.ProtocolVersion 0 1)) (svc_asks (SvcAsk.Hello 1 1)) s
       (rests-▸ (change (λ t. record t { booted = true })) (svc_asks (SvcAsk.ProtocolVersion 0 1)) s
-      (λ told at. law.kept _ (others true s.holds s.ports s.modules (inr (of, λ i. inl refl, λ h. h, λ k i. inl i))) at)
+      (λ told at. law.kept _ (others true s.holds s.ports s.modules
+      (inr (of, λ i. inl refl, λ h. h, λ k i. inl i))) at)
       (rests-svc of (SvcAsk.ProtocolVersion 0 1) _ (λ j h. absurd cc)))
       (rests-svc of (SvcAsk.Hello 1 1) _ (λ j h. absurd cc)))
       (rests-inserted_all of s.modules _)

@@ -189,6 +189,61 @@ injected-other i c a p links named one =
 
 -- ---- each single change
 
+-- a change asks nothing, takes nothing and replies nothing
+abbrev pub IsStill : (m : Moment) (a : Point) → Change m a → Type 0
+IsStill m a (asks d c label free live drawn who) = ⊥
+IsStill m a (names name d c label free live drawn host) = ⊥
+IsStill m a (takes at p item free start is named front) = ⊥
+IsStill m a (replies x q r is made twoway) = ⊥
+IsStill m a _ = Unit {0}
+
+-- the queue stays then
+pub far-same : (m : Moment) (a : Point) (x : Change m a) → IsStill m a x → Basis a → LinkedAt a
+    → svc_items side.Far (changed m a x).state.bus ≡ svc_items side.Far a.state.bus
+far-same m a (asks d c label free live drawn who) still basis links = absurd still
+far-same m a (names name d c label free live drawn host) still basis links = absurd still
+far-same m a (takes at p item free start is named front) still basis links = absurd still
+far-same m a (replies x q r is made twoway) still basis links = absurd still
+far-same m a (wires k free untouched live powered) still basis links =
+    (queues-kept a.state.bus (changed m a (wires k free untouched live powered)).state.bus k
+    (λ c. record c { wired = true }) refl (λ n r made. made) (λ c. refl) queues).far
+  where
+    queues : (at : Side) (c : Connection) → queue at (record c { wired = true }) ≡ queue at c
+    queues side.Ap c = refl
+    queues side.Far c = refl
+far-same m a (unwires k free cut live) still basis links =
+    (queues-other a.state.bus (changed m a (unwires k free cut live)).state.bus k
+    (λ c. record c { wired = false; to_ap = []; to_far = [] }) refl (λ n r made. made) (λ c. refl)
+    (not-one a k true links live)).far
+far-same m a (injects j c p bytes free named) still basis links =
+    (queues-other a.state.bus (changed m a (injects j c p bytes free named)).state.bus
+    p.connection.number (λ x. queued side.Ap (Raw bytes) (record x { clean = false })) refl
+    (λ n r made. made) (λ x. refl) (injected-other j c a p links named)).far
+far-same m a (acts_shut k rest free is cause) still basis links =
+    (queues-kept a.state.bus (changed m a (acts_shut k rest free is cause)).state.bus k
+    (λ c. record c { shut = true }) refl (λ n r made. made) (λ c. refl) queues).far
+  where
+    queues : (at : Side) (c : Connection) → queue at (record c { shut = true }) ≡ queue at c
+    queues side.Ap c = refl
+    queues side.Far c = refl
+far-same m a (acts_left k rest free untouched is) still basis links =
+    ap (items_in side.Far) (find-left (has_number 1) (has_number k)
+    a.state.bus.connections (λ c e. apart c.number e))
+  where
+    apart : (n : ℕ) → (n == 1) ≡ true → (n == k) ≡ false
+    apart n e = let low = (subst (ArePending a.state.host) is links.pending).0.0 in
+        grind (arith, nat_tests)
+far-same m a (acts_opened w q rest free is) still basis links =
+    ap (items_in side.Far) (find-pushed (has_number 1) a.state.bus.connections
+    (new_connection (next_connection a.state.bus) w.ap (end.Module w.intf w.cport) w.protocol)
+    (above a.state.bus.made links.made))
+  where
+    above : (n : ℕ) → 1 ≤ n → (n + 1 == 1) ≡ false
+    above n low = grind (arith, nat_tests)
+far-same m a (acts_asked q n rest is) still basis links =
+    ap (svc_items side.Far) (awaited-rest q.purpose n a.state).bus
+far-same m a _ still basis links = refl
+
 pub far-moves : (m : Moment) (a : Point) (x : Change m a) → Basis a → LinkedAt a
     → There a.state.bus → FarMoves a.state.bus (changed m a x).state.bus
 far-moves m a (asks d c label free live drawn who) basis links there =
@@ -199,44 +254,7 @@ far-moves m a (takes at p item free start is named front) basis links there =
     far-popped a p.connection.number p.side basis there
 far-moves m a (replies x q r is made twoway) basis links there =
     far-replied a x.connection.number (other_side x.side) q r basis there
-far-moves m a (wires k free untouched live powered) basis links there =
-    stays refl (queues-kept a.state.bus
-    (changed m a (wires k free untouched live powered)).state.bus k
-    (λ c. record c { wired = true }) refl (λ n r made. made) (λ c. refl) queues).far
-  where
-    queues : (at : Side) (c : Connection) → queue at (record c { wired = true }) ≡ queue at c
-    queues side.Ap c = refl
-    queues side.Far c = refl
-far-moves m a (unwires k free cut live) basis links there =
-    stays refl (queues-other a.state.bus (changed m a (unwires k free cut live)).state.bus k
-    (λ c. record c { wired = false; to_ap = []; to_far = [] }) refl (λ n r made. made) (λ c. refl)
-    (not-one a k true links live)).far
-far-moves m a (injects j c p bytes free named) basis links there =
-    stays refl (queues-other a.state.bus (changed m a (injects j c p bytes free named)).state.bus
-    p.connection.number (λ x. queued side.Ap (Raw bytes) (record x { clean = false })) refl
-    (λ n r made. made) (λ x. refl) (injected-other j c a p links named)).far
-far-moves m a (acts_shut k rest free is cause) basis links there =
-    stays refl (queues-kept a.state.bus (changed m a (acts_shut k rest free is cause)).state.bus k
-    (λ c. record c { shut = true }) refl (λ n r made. made) (λ c. refl) queues).far
-  where
-    queues : (at : Side) (c : Connection) → queue at (record c { shut = true }) ≡ queue at c
-    queues side.Ap c = refl
-    queues side.Far c = refl
-far-moves m a (acts_left k rest free untouched is) basis links there =
-    stays refl (ap (items_in side.Far) (find-left (has_number 1) (has_number k)
-    a.state.bus.connections (λ c e. apart c.number e)))
-  where
-    apart : (n : ℕ) → (n == 1) ≡ true → (n == k) ≡ false
-    apart n e = let low = (subst (ArePending a.state.host) is links.pending).0.0 in
-        grind (arith, nat_tests)
-far-moves m a (acts_opened w q rest free is) basis links there =
-    stays refl (ap (items_in side.Far) (find-pushed (has_number 1) a.state.bus.connections
-    (new_connection (next_connection a.state.bus) w.ap (end.Module w.intf w.cport) w.protocol)
-    (above a.state.bus.made links.made)))
-  where
-    above : (n : ℕ) → 1 ≤ n → (n + 1 == 1) ≡ false
-    above n low = grind (arith, nat_tests)
 far-moves m a (acts_asked q n rest is) basis links there =
     stays (ap (λ (b : Bus). b.requests) (awaited-rest q.purpose n a.state).bus)
-    (ap (svc_items side.Far) (awaited-rest q.purpose n a.state).bus)
-far-moves m a _ basis links there = stays refl refl
+    (far-same m a (acts_asked q n rest is) tt basis links)
+far-moves m a x basis links there = stays refl (far-same m a x tt basis links)

@@ -112,8 +112,8 @@ module _ (m : Moment) (k : ℕ) (c : IsCreation m k)
   pub unwired-before : IsIn k m.before.past.wired → ⊥
   unwired-before i =
       let x = h.spent k i in
-      let one = creates-one fit x.number c.number k x.request c.request x.pair c.own x.made c.made x.creates
-      (ap is_create c.creates) in
+      let one = creates-one fit x.number c.number k x.request c.request x.pair c.own x.made c.made
+      x.creates (ap is_create c.creates) in
       x.served (subst (λ n. IsIn (Ask n) (svc_items side.Far m.before.bus)) (sym one)
       (subst (λ xs. IsIn (Ask c.number) xs) (sym c.front) (inl refl)))
 

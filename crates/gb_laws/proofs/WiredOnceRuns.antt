@@ -85,18 +85,18 @@ pairs-more m a _ n k i = i
 
 -- ---- each single change
 
-abbrev WiringsAt : Point → Type 0
+abbrev pub WiringsAt : Point → Type 0
 WiringsAt a = WiringsFit a.state.bus a.state.past.made_for a.state.past.wired
 
 -- a connection was wired before a moment
-record WasWired (m : Moment) (k : ℕ) : Type 0 where
-  connection : Connection
-  live : IsIn connection m.before.bus.connections
-  number : connection.number ≡ k
-  wired : connection.wired ≡ true
+pub record WasWired (m : Moment) (k : ℕ) : Type 0 where
+  pub connection : Connection
+  pub live : IsIn connection m.before.bus.connections
+  pub number : connection.number ≡ k
+  pub wired : connection.wired ≡ true
 
 -- what is wired was, or is wired by its own request
-abbrev IsOwn : Moment → ℕ → Type 0
+abbrev pub IsOwn : Moment → ℕ → Type 0
 IsOwn m k = WasWired m k ⊎ IsCreation m k
 
 -- what is known in each state
@@ -107,7 +107,7 @@ pub record WiringTo (told : List Entry) (s : State) : Type 0 where
   pub remembered : AreRemembered s.bus.connections s.past.wired
 
 module _ (m : Moment) (start : WiringTo m.told m.before) where
-  wirings-kept : (a : Point) (x : Change m a) → StaleBase m a → WiringsAt a
+  pub wirings-kept : (a : Point) (x : Change m a) → StaleBase m a → WiringsAt a
       → WiringsAt (changed m a x)
   wirings-kept a (wires k free untouched live powered) f h =
       wirings-on a.state.bus (changed m a (wires k free untouched live powered)).state.bus
@@ -138,12 +138,12 @@ module _ (m : Moment) (start : WiringTo m.told m.before) where
       (keeps-requests m a x) f.remembers.below (λ n k i. i) h
 
   -- what a change wires is wired by its own request
-  own-new : (a : Point) (x : Change m a) (k : ℕ) → wired_by m a x ≡ Some k → IsOwn m k
+  pub own-new : (a : Point) (x : Change m a) (k : ℕ) → wired_by m a x ≡ Some k → IsOwn m k
   own-new a (wires k free untouched live powered) n e = inr (subst (IsCreation m) (same-some k n e)
       (creation-at m start.stale start.creates a k live powered.0 powered.1 powered.2))
   own-new a _ n e = absurd cc
 
-  abbrev wiring_law : Law m
+  abbrev pub wiring_law : Law m
   wiring_law = record {
     holds = λ a. (((StaleBase m a × CreatesAll a) × WiringsAt a)
         × WiredAreSo (IsOwn m) a.state.bus.connections)
@@ -166,9 +166,8 @@ module _ (m : Moment) (start : WiringTo m.told m.before) where
         );
   }
 
-  over : IsMoment m.event → (w : Wires)
-      × wiring_law.holds (record (resting (m.told ++ told_at m) (after m)) { wires = w })
-  over one = over-step m wiring_law one (
+  pub wiring-start : wiring_law.holds (resting m.told m.before)
+  wiring-start = (
     (
       (
         (start-base m start.stale, record { fit = start.creates; ready = tt }),
@@ -179,7 +178,11 @@ module _ (m : Moment) (start : WiringTo m.told m.before) where
     start.remembered,
   )
 
-  wiring-over : IsMoment m.event → WiringTo (m.told ++ told_at m) (after m)
+  over : IsMoment m.event → (w : Wires)
+      × wiring_law.holds (record (resting (m.told ++ told_at m) (after m)) { wires = w })
+  over one = over-step m wiring_law one wiring-start
+
+  pub wiring-over : IsMoment m.event → WiringTo (m.told ++ told_at m) (after m)
   wiring-over one = record {
     stale = stale-over m start.stale one;
     creates = (over one).1.0.0.0.1.fit;

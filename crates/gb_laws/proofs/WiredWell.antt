@@ -1,5 +1,27 @@
 -- Where a connection is wired, its module is plugged and its interface is routed.
-use Rattle.std.proofs.Common.{◌≡◌, ◌⊎◌, ◌≤◌, ℕ, Bool, true, false, Option, Some, None, List, [], refl, sym, ap, ◌∙◌, inl, inr, ⊎_elim, subst, arith}
+use Rattle.std.proofs.Common.{
+  ◌≡◌,
+  ◌⊎◌,
+  ◌≤◌,
+  ℕ,
+  Bool,
+  true,
+  false,
+  Option,
+  Some,
+  None,
+  List,
+  [],
+  refl,
+  sym,
+  ap,
+  ◌∙◌,
+  inl,
+  inr,
+  ⊎_elim,
+  subst,
+  arith,
+}
 use Rattle.std.proofs.lemmas.Bool.Decides.{nat_tests}
 use Rattle.std.specs.Prelude.{◌==◌, ◌&&◌, nat_lt, option_map}
 use Rattle.gb_base.specs.declared.end.End.TheVariants as end
@@ -13,10 +35,53 @@ use Rattle.gb_invariants.proofs.Numbers.{same-connection}
 use Rattle.gb_invariants.proofs.Outcomes.{is-same, same-number}
 use Rattle.gb_invariants.proofs.Selves.{front-self, put-self}
 use Rattle.gb_laws.proofs.Awaited.{awaited-rest}
-use Rattle.gb_laws.proofs.Levels.{StepOn, by_record, nothing_changes, other-port, same-port, step-levels}
+use Rattle.gb_laws.proofs.Levels.{
+  StepOn,
+  by_record,
+  nothing_changes,
+  other-port,
+  same-port,
+  step-levels,
+}
 use Rattle.gb_laws.proofs.LinkActs.{awaited-plugs}
 use Rattle.gb_laws.proofs.Onward.{drawn-wired, front-wired, put-wired}
-use Rattle.gb_laws.proofs.Points.{as_before, loses_route, served, Change, IsOfSvc, PortsFrom, IsElse, acts_asked, acts_failed, acts_left, acts_opened, acts_shut, acts_told, answers, asks, binds, changed, drops, forgets, frees, gives_up, holds, injects, names, others, passes, replies, serves, spends, takes, takes_held, tells, turns, unwires, wires}
+use Rattle.gb_laws.proofs.Points.{
+  as_before,
+  loses_route,
+  served,
+  Change,
+  IsOfSvc,
+  PortsFrom,
+  IsElse,
+  acts_asked,
+  acts_failed,
+  acts_left,
+  acts_opened,
+  acts_shut,
+  acts_told,
+  answers,
+  asks,
+  binds,
+  changed,
+  drops,
+  forgets,
+  frees,
+  gives_up,
+  holds,
+  injects,
+  names,
+  others,
+  passes,
+  replies,
+  serves,
+  spends,
+  takes,
+  takes_held,
+  tells,
+  turns,
+  unwires,
+  wires,
+}
 use Rattle.gb_laws.proofs.PointParts.{Basis, Point}
 use Rattle.gb_machine.specs.Bus.{Ask, Bus, Connection, Raw, has_number, next_number, other_side}
 use Rattle.gb_machine.specs.Delivery.{without_front}

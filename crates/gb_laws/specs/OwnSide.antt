@@ -20,27 +20,18 @@ AbsentHasNoOpenOfAp told s =
     → IsIn (entry.Connection k own i c state) told → request_of n s.bus ≡ Some r
     → r.connection ≡ k → r.side ≡ side.Ap → is_open n s.bus ≡ false
 
--- a request to destroy connection k was made, by its type CONN_DESTROY
-pub record IsToBeDestroyed (k : ℕ) (s : State) : Type 0 where
-  pub number : ℕ
-  pub request : Request
-  pub own : IsIn (number, k) s.past.made_for
-  pub made : request_of number s.bus ≡ Some request
-  pub destroys : request.kind ≡ 0x08
-
 -- Where a far side has an open request on a connection that is live, that is wired.
 abbrev pub UnwiredHasNoOpenOfFar : List Entry → State → Type 0
 UnwiredHasNoOpenOfFar told s =
     (n : ℕ) (r : Request) (c : Connection) → request_of n s.bus ≡ Some r → r.side ≡ side.Far
     → connection_of r.connection s.bus ≡ Some c → c.wired ≡ false → is_open n s.bus ≡ false
 
--- Nothing that a module asked on a connection that named an absent interface is open, unless a
--- request to destroy that connection was made: it went with its interface otherwise.
+-- Nothing that a module asked on a connection that named an absent interface is open.
 abbrev pub AbsentHasNoOpenOfModule : List Entry → State → Type 0
 AbsentHasNoOpenOfModule told s =
     (i k own c n : ℕ) (state : ConnState) (r : Request) → interface_of i s.host ≡ None
     → IsIn (entry.Connection k own i c state) told → request_of n s.bus ≡ Some r
-    → r.connection ≡ k → r.side ≡ side.Far → is_open n s.bus ≡ true → IsToBeDestroyed k s
+    → r.connection ≡ k → r.side ≡ side.Far → is_open n s.bus ≡ false
 
 -- A removal that the application processor handles finds nothing open that the module asked on a
 -- connection which is live.

@@ -28,6 +28,7 @@ ghost use Rattle.gb_machine.specs.LawsHotPlug.{
   AbsentAfterRemoval,
   NoForeignMessage,
   NoneForgotten,
+  NothingLeftAfterRemoval,
   OpenIsLive,
   RememberedForOne,
   RememberedWhileLive,
@@ -130,10 +131,17 @@ pub fn removal_finds_none_open()
     ensures { HoldsAtEachMoment FindsNoneOpen }
 {}
 
-/// Nothing that a module asked on a connection that named an absent interface is open, unless a
-/// request to destroy that connection was made.
+/// Nothing that a module asked on a connection that named an absent interface is open.
 pub fn absent_has_no_open_of_module()
     ensures { HoldsThroughout AbsentHasNoOpenOfModule }
+{}
+
+/// Once the removal of an interface is handled nothing is left of it, until its insertion is: it is
+/// absent, no live connection names it, and nothing that was asked on a connection which did is
+/// open. An open request of the application processor is on a live connection whose side isn't
+/// closed.
+pub fn nothing_left_after_removal()
+    ensures { NothingLeftAfterRemoval }
 {}
 
 /// While MODULE_REMOVED of an interface waits toward the application processor, the power level of

@@ -1,0 +1,5 @@
+use Rattle.gb_laws.proofs.EveryRun.{nothing-left}
+use Rattle.gb_laws.proofs.laws.nothing_left_after_removal.Goals as goal
+
+pub returns : goal.returns
+returns c = nothing-left
