@@ -12,6 +12,7 @@ use Rattle.gb_laws.proofs.AwaitsNewest.{awaits-newest_by_moments}
 use Rattle.gb_laws.proofs.AwaitsOwn.{awaits-own_by_moments}
 use Rattle.gb_laws.proofs.BehindRuns.{none-behind_by_moments}
 use Rattle.gb_laws.proofs.Causes.{causes-at_moments}
+use Rattle.gb_laws.proofs.CreditsRuns.{credits-add_up}
 use Rattle.gb_laws.proofs.Ended.{ends-told_by_moments}
 use Rattle.gb_laws.proofs.Endpoints.{endpoints-by_moments}
 use Rattle.gb_laws.proofs.EnumRuns.{restarts-by_moments, served-by_moments}
@@ -29,7 +30,13 @@ use Rattle.gb_laws.proofs.QuietRuns.{finds-at_moments, leaves-by_moments}
 use Rattle.gb_laws.proofs.Replies.{replies-by_moments}
 use Rattle.gb_laws.proofs.Replying.{ends-once_by_moments}
 use Rattle.gb_laws.proofs.Routed.{routed-by_moments}
-use Rattle.gb_laws.proofs.Single.{labels-by_moments, names-by_moments, one-item_by_moments}
+use Rattle.gb_laws.proofs.Settling.{settles-are_deliveries}
+use Rattle.gb_laws.proofs.Single.{
+  counts-add-up,
+  labels-by_moments,
+  names-by_moments,
+  one-item_by_moments,
+}
 use Rattle.gb_laws.proofs.RememberedLive.{remembered-while_live}
 use Rattle.gb_laws.proofs.Remembering.{none-forgotten_at, remembered-for_one}
 use Rattle.gb_laws.proofs.StaleRuns.{stale-low_by_moments}
@@ -55,6 +62,7 @@ use Rattle.gb_machine.specs.Runs.{
   state_by,
   told_by,
 }
+use Rattle.gb_machine.specs.Laws.{FactsOfRuns, LawsOfRuns}
 use Rattle.gb_machine.specs.LawsBus.{
   EndpointsDiffer,
   HaveAwaited,
@@ -302,3 +310,34 @@ then-restarts = of-all OneThenRestarts (record {
   restarts = restarts-by_moments es are;
   last = none-behind_by_moments es are;
 })
+
+-- ---- together
+
+pub laws-together : LawsOfRuns
+laws-together = record {
+  settles = settles-are_deliveries;
+  once = ends-at-most-once;
+  told = ends-are-told;
+  answered = answered-by_its_responder;
+  caused = every-end_has_its_cause;
+  left = nothing-left;
+  own = no-foreign;
+  wired = wired-at_most_once;
+  credits = credits-add_up;
+  counts = counts-add-up;
+}
+
+pub facts-together : FactsOfRuns
+facts-together = record {
+  names = names-name;
+  labels = labels-differ;
+  items = one-item;
+  replies = replies-are_awaited;
+  ends = endpoints-differ;
+  routed = wired-routed;
+  removal = nothing-wired;
+  restarts = then-restarts;
+  quiet = quiet-removal;
+  awaited = awaited-last;
+  stale = stale-unrouted;
+}

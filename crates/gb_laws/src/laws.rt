@@ -10,6 +10,7 @@ ghost use Rattle.gb_laws.specs.OwnSide.{
 };
 ghost use Rattle.gb_laws.specs.OwnWaits.{AwaitsOwnRequest, ServedLeavesNone};
 ghost use Rattle.gb_laws.specs.OwnWires.{WiredIsRemembered};
+ghost use Rattle.gb_machine.specs.Laws.{FactsOfRuns, LawsOfRuns};
 ghost use Rattle.gb_machine.specs.LawsBus.{
   EndpointsDiffer,
   LabelsDiffer,
@@ -256,4 +257,14 @@ pub fn counts_add_up()
 /// done or settled.
 pub fn settles_are_deliveries()
     ensures { SettlesAreDeliveries }
+{}
+
+/// The laws of runs, together.
+pub fn laws_of_runs()
+    ensures { LawsOfRuns }
+{}
+
+/// What holds of every state of a run, together.
+pub fn facts_of_runs()
+    ensures { FactsOfRuns }
 {}

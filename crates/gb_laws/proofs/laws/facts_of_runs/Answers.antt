@@ -1,0 +1,5 @@
+use Rattle.gb_laws.proofs.EveryRun.{facts-together}
+use Rattle.gb_laws.proofs.laws.facts_of_runs.Goals as goal
+
+pub returns : goal.returns
+returns c = facts-together

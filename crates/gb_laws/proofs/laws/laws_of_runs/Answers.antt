@@ -1,0 +1,5 @@
+use Rattle.gb_laws.proofs.EveryRun.{laws-together}
+use Rattle.gb_laws.proofs.laws.laws_of_runs.Goals as goal
+
+pub returns : goal.returns
+returns c = laws-together
