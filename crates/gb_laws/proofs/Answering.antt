@@ -21,7 +21,7 @@ use Rattle.gb_laws.proofs.Loosening.{held-at, map-held-in}
 use Rattle.gb_invariants.proofs.ItemChanges.{first-in}
 use Rattle.gb_laws.proofs.Owning.{KeepsRequests}
 use Rattle.gb_laws.proofs.Places.{module-far, place-is}
-use Rattle.gb_laws.proofs.Points.{Answers, Change, Law, Says, acts_asked, acts_failed, acts_left, acts_opened, acts_shut, acts_told, answers, asks, binds, by_label, by_number, changed, drops, forgets, frees, gives_up, holds, injects, names, numbered, others, passes, replies, serves, spends, takes, takes_held, tells, turns, unclean, unwires, wires}
+use Rattle.gb_laws.proofs.Points.{Answers, Change, Law, Says, acts_asked, acts_failed, acts_opened, acts_shut, acts_told, answers, asks, binds, by_label, by_number, changed, drops, forgets, frees, gives_up, holds, injects, names, numbered, replies, takes, takes_held, tells, unclean, unwires}
 use Rattle.gb_laws.proofs.PointParts.{IsGivenUpFor, AreQuiet, Basis, Hand, Point, asked_told, is_quiet, loose_held, sent_told}
 use Rattle.gb_laws.proofs.Runs.{HoldsAtMoments, at_each}
 use Rattle.gb_laws.proofs.Steps.{over-step}
@@ -173,8 +173,6 @@ so-far-kept m start a (asks d c label free live drawn who) h =
     so-far m a (asks d c label free live drawn who) (asked_told d c label a.state.bus) refl (sent-fine m _ d c label a.state.bus) h.hand h
 so-far-kept m start a (names name d c label free live drawn host) h =
     so-far m a (names name d c label free live drawn host) (asked_told d c label a.state.bus) refl (sent-fine m _ d c label a.state.bus) h.hand h
-so-far-kept m start a (binds x y n is) h = so-far m a (binds x y n is) [] refl tt h.hand h
-so-far-kept m start a (frees name) h = so-far m a (frees name) [] refl tt h.hand h
 so-far-kept m start a (takes at p item free is event_is named front) h =
     so-far m a (takes at p item free is event_is named front) [] refl tt
     (λ y e. subst (IsFresh m) (same-some (record { connection = p.connection; side = p.side; item = item }) y e) fresh) h
@@ -206,24 +204,18 @@ so-far-kept m start a (answers x n result payload is says which) h =
 so-far-kept m start a (forgets x n is which) h = so-far m a (forgets x n is which) [] refl tt (λ y e. absurd (none-some y e)) h
 so-far-kept m start a (gives_up n how free open_ cause) h =
     so-far m a (gives_up n how free open_ cause) (_ ∷ []) refl (given_up-fine m a.state _ n how cause, tt) h.hand h
-so-far-kept m start a (wires k free untouched live powered) h = so-far m a (wires k free untouched live powered) [] refl tt h.hand h
 so-far-kept m start a (unwires k free before live) h =
     so-far m a (unwires k free before live) _ refl (ended-fine m _ (open_on k side.Far a.state.bus)) h.hand h
 so-far-kept m start a (injects i c p bytes free named) h = so-far m a (injects i c p bytes free named) (_ ∷ []) refl (tt, tt) h.hand h
-so-far-kept m start a (turns e free untouched none cause) h = so-far m a (turns e free untouched none cause) [] refl tt h.hand h
 so-far-kept m start a (acts_told e rest is quiet) h =
     so-far m a (acts_told e rest is quiet) (e ∷ []) refl (quiet-fine m a.state.bus e quiet, tt) h.hand h
 so-far-kept m start a (acts_shut k rest free is cause) h =
     so-far m a (acts_shut k rest free is cause) _ refl (ended-fine m _ (open_on k side.Ap a.state.bus)) h.hand h
-so-far-kept m start a (acts_left k rest free untouched is) h = so-far m a (acts_left k rest free untouched is) [] refl tt h.hand h
 so-far-kept m start a (acts_opened w q rest free is) h = so-far m a (acts_opened w q rest free is) (_ ∷ []) refl (tt, tt) h.hand h
-so-far-kept m start a (acts_asked q n rest is) h = so-far m a (acts_asked q n rest is) [] refl tt h.hand h
 so-far-kept m start a (acts_failed q rest is quiet) h =
     so-far m a (acts_failed q rest is quiet) _ refl (quiet-all-fine m _ _ quiet) h.hand h
-so-far-kept m start a (serves k kind payload none) h = so-far m a (serves k kind payload none) [] refl tt h.hand h
-so-far-kept m start a (spends i c what none) h = so-far m a (spends i c what none) [] refl tt h.hand h
-so-far-kept m start a (passes millis) h = so-far m a (passes millis) [] refl tt h.hand h
-so-far-kept m start a (others booted marks ports modules same) h = so-far m a (others booted marks ports modules same) [] refl tt h.hand h
+so-far-kept m start a x h =
+    so-far m a x [] refl tt h.hand h
 
 -- ---- the law
 

@@ -23,7 +23,7 @@ use Rattle.gb_laws.proofs.Delivering.{answers-open}
 use Rattle.gb_laws.proofs.Loosening.{Fewer, fewer-held, fewer-tail, fewer-taken, fewer-without, held-at, without-none}
 use Rattle.gb_laws.proofs.Naming.{made-named}
 use Rattle.gb_laws.proofs.Places.{at_first-back, module-far, place-is}
-use Rattle.gb_laws.proofs.Points.{Answers, Change, Forgets, Law, acts_asked, acts_failed, acts_left, acts_opened, acts_shut, acts_told, answers, asks, binds, by_label, by_number, changed, drops, forgets, frees, gives_up, holds, injects, names, others, passes, replies, serves, spends, takes, takes_held, tells, turns, unwires, wires}
+use Rattle.gb_laws.proofs.Points.{Answers, Change, Forgets, Law, acts_asked, acts_left, acts_opened, acts_shut, answers, asks, binds, by_label, by_number, changed, drops, forgets, frees, gives_up, holds, injects, names, replies, takes, takes_held, unwires, wires}
 use Rattle.gb_laws.proofs.PointParts.{Basis, Hand, IsStill, Point, loose, loose_hand, loose_held, resting, Wires}
 use Rattle.gb_laws.proofs.Runs.{HoldsByMoments, throughout}
 use Rattle.gb_laws.proofs.Steps.{over-step}
@@ -202,7 +202,6 @@ forgets-none rest b x n fits still (by_label label dirty is) =
 -- ---- each change
 
 pub basis-kept : (m : Moment) (a : Point) (x : Change m a) → Basis a → Basis (changed m a x)
-basis-kept m a (tells e quiet) h = basis-same a _ refl refl refl refl h
 basis-kept m a (asks d c label free live drawn who) h =
     free-basis _ free (sent-keeps (map loose_held a.state.held) d label c a.state.bus live drawn (free-bus a free h))
     (names-remain a.state.names a.state.bus (sent d label a.state.bus) (sent-remains d label a.state.bus) h.names)
@@ -286,8 +285,6 @@ basis-kept m a (unwires k free before live) h =
     (λ n. let less = f.counts (is_item_of n) in omega (arith, less)) (free-bus a free h)) h.names
 basis-kept m a (injects i c p bytes free named) h =
     free-basis _ free (injected-keeps (map loose_held a.state.held) p.connection.number bytes a.state.bus (free-bus a free h)) h.names
-basis-kept m a (turns e free untouched none cause) h = basis-same a _ refl refl refl refl h
-basis-kept m a (acts_told e rest is quiet) h = basis-same a _ refl refl refl refl h
 basis-kept m a (acts_shut k rest free is cause) h =
     free-basis _ free (shut-keeps (map loose_held a.state.held) k a.state.bus (free-bus a free h)) h.names
 basis-kept m a (acts_left k rest free untouched is) h =
@@ -296,11 +293,8 @@ basis-kept m a (acts_opened w q rest free is) h =
     free-basis _ free (attached-keeps (map loose_held a.state.held) a.state.bus w.ap w.intf w.cport w.protocol (free-bus a free h)) h.names
 basis-kept m a (acts_asked q n rest is) h =
     let r = awaited-rest q.purpose n a.state in basis-same a _ refl r.bus r.held r.names h
-basis-kept m a (acts_failed q rest is quiet) h = basis-same a _ refl refl refl refl h
-basis-kept m a (serves k kind payload none) h = basis-same a _ refl refl refl refl h
-basis-kept m a (spends i c what none) h = basis-same a _ refl refl refl refl h
-basis-kept m a (passes millis) h = basis-same a _ refl refl refl refl h
-basis-kept m a (others booted marks ports modules same) h = basis-same a _ refl refl refl refl h
+basis-kept m a _ h =
+    basis-same a _ refl refl refl refl h
 
 -- The basis as a law of points.
 abbrev pub basis : (m : Moment) → Law m

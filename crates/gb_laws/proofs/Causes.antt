@@ -24,7 +24,7 @@ use Rattle.gb_laws.proofs.LinkLaw.{link_law}
 use Rattle.gb_laws.proofs.LinkRuns.{LinkedTo, linked-throughout, start-absent}
 use Rattle.gb_laws.proofs.Noticing.{told-by_svc}
 use Rattle.gb_laws.proofs.Onward.{IsOnward, onward}
-use Rattle.gb_laws.proofs.Points.{Change, IsLive, Law, acts_asked, acts_failed, acts_left, acts_opened, acts_shut, acts_told, answers, asks, binds, changed, drops, forgets, frees, gives_up, holds, injects, names, others, passes, replies, serves, spends, takes, takes_held, tells, turns, unwires, wires}
+use Rattle.gb_laws.proofs.Points.{Change, IsLive, Law, acts_failed, acts_opened, acts_shut, acts_told, answers, asks, changed, drops, gives_up, injects, names, replies, tells, unwires}
 use Rattle.gb_laws.proofs.PointParts.{AreQuiet, Basis, IsGivenUpFor, IsShutFor, Point, Unwired, Wired, asked_told, disconnected, is_quiet, removed, resting, sent_told}
 use Rattle.gb_laws.proofs.Runs.{HoldsAtMoments, at_each}
 use Rattle.gb_laws.proofs.Steps.{over-step}
@@ -232,18 +232,10 @@ so-far-kept m start a (asks d c label free live drawn who) basis links h =
     so-far m a (asks d c label free live drawn who) (asked_told d c label a.state.bus) refl (sent-fine m _ d c label a.state.bus) h
 so-far-kept m start a (names name d c label free live drawn host) basis links h =
     so-far m a (names name d c label free live drawn host) (asked_told d c label a.state.bus) refl (sent-fine m _ d c label a.state.bus) h
-so-far-kept m start a (binds x y n is) basis links h = so-far m a (binds x y n is) [] refl tt h
-so-far-kept m start a (frees name) basis links h = so-far m a (frees name) [] refl tt h
-so-far-kept m start a (takes at p item free is event_is named front) basis links h =
-    so-far m a (takes at p item free is event_is named front) [] refl tt h
-so-far-kept m start a (takes_held i c place p x free is event_is at held) basis links h =
-    so-far m a (takes_held i c place p x free is event_is at held) [] refl tt h
 so-far-kept m start a drops basis links h = so-far m a drops [] (sym (append-nil a.told)) tt h
-so-far-kept m start a (holds x is far) basis links h = so-far m a (holds x is far) [] refl tt h
 so-far-kept m start a (replies x q r is made twoway) basis links h = so-far m a (replies x q r is made twoway) (_ ∷ []) refl (tt, tt) h
 so-far-kept m start a (answers x n result payload is says which) basis links h =
     so-far m a (answers x n result payload is says which) (_ ∷ []) refl (tt, tt) h
-so-far-kept m start a (forgets x n is which) basis links h = so-far m a (forgets x n is which) [] refl tt h
 so-far-kept m start a (gives_up n how free unended cause) basis links h =
     so-far m a (gives_up n how free unended cause) (entry.Ended n how reading.Nothing ∷ []) refl
     (given_up-after how cause, tt) h
@@ -256,27 +248,21 @@ so-far-kept m start a (gives_up n how free unended cause) basis links h =
     given_up-after outcome.Disconnected c = absurd c
     given_up-after outcome.Sent c = absurd c
     given_up-after (outcome.Answered result payload) c = absurd c
-so-far-kept m start a (wires k free untouched live powered) basis links h = so-far m a (wires k free untouched live powered) [] refl tt h
 so-far-kept m start a (unwires k free before live) basis links h =
     so-far m a (unwires k free before live) (map disconnected_told (open_on k side.Far a.state.bus)) refl
     (unwires-fine m a k free before live basis links h) h
 so-far-kept m start a (injects i c p bytes free named) basis links h = so-far m a (injects i c p bytes free named) (_ ∷ []) refl (tt, tt) h
-so-far-kept m start a (turns e free untouched none cause) basis links h = so-far m a (turns e free untouched none cause) [] refl tt h
 so-far-kept m start a (acts_told e rest is quiet) basis links h =
     so-far m a (acts_told e rest is quiet) (e ∷ []) refl (quiet-fine m (changed m a (acts_told e rest is quiet)) e quiet, tt) h
 so-far-kept m start a (acts_shut k rest free is cause) basis links h =
     let why = shut-cause m k start cause in
     so-far m a (acts_shut k rest free is cause) (map disconnected_told (open_on k side.Ap a.state.bus)) refl
     (ended-fine m (changed m a (acts_shut k rest free is cause)) side.Ap k a.state.bus (λ n r made. made) why.0 why.1) h
-so-far-kept m start a (acts_left k rest free untouched is) basis links h = so-far m a (acts_left k rest free untouched is) [] refl tt h
 so-far-kept m start a (acts_opened w q rest free is) basis links h = so-far m a (acts_opened w q rest free is) (_ ∷ []) refl (tt, tt) h
-so-far-kept m start a (acts_asked q n rest is) basis links h = so-far m a (acts_asked q n rest is) [] refl tt h
 so-far-kept m start a (acts_failed q rest is quiet) basis links h =
     so-far m a (acts_failed q rest is quiet) _ refl (quiet-all-fine m (changed m a (acts_failed q rest is quiet)) _ quiet) h
-so-far-kept m start a (serves k kind payload none) basis links h = so-far m a (serves k kind payload none) [] refl tt h
-so-far-kept m start a (spends i c what none) basis links h = so-far m a (spends i c what none) [] refl tt h
-so-far-kept m start a (passes millis) basis links h = so-far m a (passes millis) [] refl tt h
-so-far-kept m start a (others booted marks ports modules same) basis links h = so-far m a (others booted marks ports modules same) [] refl tt h
+so-far-kept m start a x basis links h =
+    so-far m a x [] refl tt h
 
 -- ---- the law
 

@@ -13,7 +13,7 @@ use Rattle.gb_laws.proofs.LinkBuses.{new_link}
 use Rattle.gb_laws.proofs.LinkHosts.{then-same}
 use Rattle.gb_laws.proofs.LinkSources.{CameFrom, LinksFrom, from-links, from-turn, from-unsent, from-waiting}
 use Rattle.gb_laws.proofs.PointParts.{Basis, IsServed, Point}
-use Rattle.gb_laws.proofs.Points.{Change, IsBridge, Law, acts_asked, acts_failed, acts_left, acts_opened, acts_shut, acts_told, answers, asks, binds, changed, drops, forgets, frees, gives_up, holds, injects, names, others, passes, replies, serves, spends, takes, takes_held, tells, turns, unwires, wires}
+use Rattle.gb_laws.proofs.Points.{Change, IsBridge, Law, acts_asked, acts_failed, acts_opened, answers, changed, serves, spends, takes, turns, unwires}
 use Rattle.gb_machine.specs.Bus.{Bus}
 use Rattle.gb_machine.specs.Failures.{unsent}
 use Rattle.gb_machine.specs.Host.{Host, with_new_link}
@@ -97,27 +97,8 @@ credits-kept m less a (serves k kind payload none) h =
     (sym (ap (λ g. (host_serves k kind payload g).host) none.2 ∙ less.served k kind payload none.1))
     (record { links = (credits-start m).links; made = h.made })
 credits-kept m less a (spends i c what none) h = absurd (less.line none.1)
-credits-kept m less a (tells e quiet) h = h
-credits-kept m less a (asks d c label free live drawn who) h = h
-credits-kept m less a (names name d c label free live drawn host) h = h
-credits-kept m less a (binds x y n is) h = h
-credits-kept m less a (frees name) h = h
-credits-kept m less a (takes at p item free start is named front) h = h
-credits-kept m less a (takes_held i c place p x free start is at held) h = h
-credits-kept m less a drops h = h
-credits-kept m less a (holds x is far) h = h
-credits-kept m less a (replies x q r is made twoway) h = h
-credits-kept m less a (answers x n result payload is says which) h = h
-credits-kept m less a (forgets x n is which) h = h
-credits-kept m less a (gives_up n how free unended cause) h = h
-credits-kept m less a (wires k free untouched live powered) h = h
-credits-kept m less a (unwires k free before live) h = h
-credits-kept m less a (injects i c p bytes free named) h = h
-credits-kept m less a (acts_told e rest is quiet) h = h
-credits-kept m less a (acts_shut k rest free is cause) h = h
-credits-kept m less a (acts_left k rest free untouched is) h = h
-credits-kept m less a (passes millis) h = h
-credits-kept m less a (others booted marks ports modules same) h = h
+credits-kept m less a _ h =
+    h
 
 abbrev pub credits_law : (m : Moment) → IsCreditless m → Law m
 credits_law m less = record {

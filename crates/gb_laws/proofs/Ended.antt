@@ -13,7 +13,7 @@ use Rattle.gb_invariants.proofs.Outcomes.{is-same, open_requests-same}
 use Rattle.gb_invariants.proofs.Lists.{in-append, in-behind, in-front}
 use Rattle.gb_laws.proofs.Awaited.{awaited-rest}
 use Rattle.gb_laws.proofs.Basics.{basis-first, basis-kept, rested}
-use Rattle.gb_laws.proofs.Points.{Change, Law, acts_asked, acts_failed, acts_left, acts_opened, acts_shut, acts_told, answers, asks, binds, changed, drops, forgets, frees, gives_up, holds, injects, names, others, passes, replies, serves, spends, takes, takes_held, tells, turns, unwires, wires}
+use Rattle.gb_laws.proofs.Points.{Change, Law, acts_asked, acts_failed, acts_opened, acts_shut, acts_told, answers, asks, changed, drops, gives_up, injects, names, replies, tells, unwires}
 use Rattle.gb_laws.proofs.PointParts.{AreQuiet, Basis, Point, asked_told, is_quiet, resting, sent_told}
 use Rattle.gb_laws.proofs.Silent.{silent-quiet}
 use Rattle.gb_machine.specs.Asking.{asked}
@@ -142,35 +142,24 @@ says-kept : (m : Moment) (a : Point) (x : Change m a) → Says a → Says (chang
 says-kept m a (tells e quiet) h = says-more a.told (e ∷ []) a.state.bus.outcomes (quiet-no-end e (silent-quiet e quiet), tt) h
 says-kept m a (asks d c label free live drawn who) h = says-asked a.told a.state.bus.outcomes d c label a.state.bus h
 says-kept m a (names name d c label free live drawn host) h = says-asked a.told a.state.bus.outcomes d c label a.state.bus h
-says-kept m a (binds x y n is) h = untold a h
-says-kept m a (frees name) h = untold a h
-says-kept m a (takes at p item free start is named front) h = untold a h
-says-kept m a (takes_held i c place p x free start is at held) h = untold a h
 says-kept m a drops h = h
-says-kept m a (holds x is far) h = untold a h
 says-kept m a (replies x q r is made twoway) h = says-more a.told _ a.state.bus.outcomes ((λ n. refl), tt) h
 says-kept m a (answers x n result payload is says which) h = says-end a.told a.state.bus.outcomes n _ _ h
-says-kept m a (forgets x n is which) h = untold a h
 says-kept m a (gives_up n how free unended cause) h = says-end a.told a.state.bus.outcomes n how reading.Nothing h
-says-kept m a (wires k free untouched live powered) h = untold a h
 says-kept m a (unwires k free before live) h =
     subst (λ ns. SaysEnds (a.told ++ map disconnected_told (open_on k side.Far a.state.bus)) (all_ended ns outcome.Disconnected a.state.bus.outcomes))
     (sym (open_requests-same (is_of k side.Far) a.state.bus _)) (says-ended a.told (open_on k side.Far a.state.bus) a.state.bus.outcomes h)
 says-kept m a (injects i c p bytes free named) h = says-more a.told _ a.state.bus.outcomes ((λ n. refl), tt) h
-says-kept m a (turns e free untouched none cause) h = untold a h
 says-kept m a (acts_told e rest is quiet) h = says-more a.told (e ∷ []) a.state.bus.outcomes (quiet-no-end e quiet, tt) h
 says-kept m a (acts_shut k rest free is cause) h =
     subst (λ ns. SaysEnds (a.told ++ map disconnected_told (open_on k side.Ap a.state.bus)) (all_ended ns outcome.Disconnected a.state.bus.outcomes))
     (sym (open_requests-same (is_of k side.Ap) a.state.bus _)) (says-ended a.told (open_on k side.Ap a.state.bus) a.state.bus.outcomes h)
-says-kept m a (acts_left k rest free untouched is) h = untold a h
 says-kept m a (acts_opened w q rest free is) h = says-more a.told _ a.state.bus.outcomes ((λ n. refl), tt) h
 says-kept m a (acts_asked q n rest is) h =
     subst (λ (b : Bus). SaysEnds (a.told ++ []) b.outcomes) (sym (awaited-rest q.purpose n a.state).bus) (untold a h)
 says-kept m a (acts_failed q rest is quiet) h = says-more a.told _ a.state.bus.outcomes (quiet-no-ends _ quiet) h
-says-kept m a (serves k kind payload none) h = untold a h
-says-kept m a (spends i c what none) h = untold a h
-says-kept m a (passes millis) h = untold a h
-says-kept m a (others booted marks ports modules same) h = untold a h
+says-kept m a _ h =
+    untold a h
 
 -- ---- the laws
 

@@ -16,7 +16,7 @@ use Rattle.gb_laws.proofs.Linking.{InsertsAbsent, LinkedAt}
 use Rattle.gb_laws.proofs.LinkRuns.{LinkedTo, linked-over, linked-throughout, start-absent}
 use Rattle.gb_laws.proofs.Links.{ArePending, IsFree, IsKnown, leaving, linked, supervisory}
 use Rattle.gb_laws.proofs.Owning.{ends-of}
-use Rattle.gb_laws.proofs.Points.{Change, Law, acts_asked, acts_failed, acts_left, acts_opened, acts_shut, acts_told, answers, asks, binds, changed, drops, forgets, frees, gives_up, holds, injects, names, others, passes, replies, serves, spends, takes, takes_held, tells, turns, unwires, wires}
+use Rattle.gb_laws.proofs.Points.{Change, Law, acts_asked, acts_left, acts_opened, acts_shut, asks, changed, injects, names, replies, takes, unwires, wires}
 use Rattle.gb_laws.proofs.PointParts.{Basis, Point}
 use Rattle.gb_laws.proofs.Runs.{HoldsByMoments, throughout, weaker}
 use Rattle.gb_laws.proofs.Steps.{over-step}
@@ -85,22 +85,8 @@ apart-kept m a (acts_opened w q rest free is) basis links h =
     (subst (ArePending a.state.host) is links.pending).0.0)) h
 apart-kept m a (acts_asked q n rest is) basis links h =
     subst (EachTwo AreApart) (sym (ap (λ (b : Bus). b.connections) (awaited-rest q.purpose n a.state).bus)) h
-apart-kept m a (tells e quiet) basis links h = h
-apart-kept m a (binds x y n is) basis links h = h
-apart-kept m a (frees name) basis links h = h
-apart-kept m a (takes_held i c place p x free start is at held) basis links h = h
-apart-kept m a drops basis links h = h
-apart-kept m a (holds x is far) basis links h = h
-apart-kept m a (answers x n result payload is says which) basis links h = h
-apart-kept m a (forgets x n is which) basis links h = h
-apart-kept m a (gives_up n how free unended cause) basis links h = h
-apart-kept m a (turns e free untouched none cause) basis links h = h
-apart-kept m a (acts_told e rest is quiet) basis links h = h
-apart-kept m a (acts_failed q rest is quiet) basis links h = h
-apart-kept m a (serves k kind payload none) basis links h = h
-apart-kept m a (spends i c what none) basis links h = h
-apart-kept m a (passes millis) basis links h = h
-apart-kept m a (others booted marks ports modules same) basis links h = h
+apart-kept m a _ basis links h =
+    h
 
 abbrev apart_law : (m : Moment) → InsertsAbsent m → Law m
 apart_law m absent = record {

@@ -54,45 +54,7 @@ use Rattle.gb_laws.proofs.Marks.{
   marks-unmarked,
   marks_of,
 }
-use Rattle.gb_laws.proofs.Points.{
-  Change,
-  IsAskedBy,
-  IsLive,
-  IsOfSvc,
-  IsElse,
-  by_far,
-  acts_asked,
-  acts_failed,
-  acts_left,
-  acts_opened,
-  acts_shut,
-  acts_told,
-  answers,
-  asks,
-  binds,
-  by_host,
-  by_module,
-  by_svc,
-  changed,
-  drops,
-  forgets,
-  frees,
-  gives_up,
-  holds,
-  injects,
-  names,
-  others,
-  passes,
-  replies,
-  serves,
-  spends,
-  takes,
-  takes_held,
-  tells,
-  turns,
-  unwires,
-  wires,
-}
+use Rattle.gb_laws.proofs.Points.{Change, IsAskedBy, IsLive, IsOfSvc, IsElse, by_far, acts_asked, acts_failed, acts_left, acts_opened, acts_shut, asks, binds, by_host, by_module, by_svc, changed, drops, frees, injects, names, others, replies, serves, spends, takes, tells, turns, unwires, wires}
 use Rattle.gb_laws.proofs.PointParts.{Basis, IsNoticed, Point}
 use Rattle.gb_machine.specs.Bus.{
   Ask,
@@ -262,21 +224,12 @@ frame-kept m absent other a (takes at p item free start is named front) basis li
   plugged = h.plugged;
   differ = h.differ;
 }
-frame-kept m absent other a (takes_held i c place p x free start is at held) basis links h =
-    frame-bus m a (changed m a (takes_held i c place p x free start is at held)) (λ i. refl) refl refl refl h
 frame-kept m absent other a drops basis links h = frame-bus m a (record a { hand = None }) (λ i. refl) refl refl refl h
-frame-kept m absent other a (holds x is far) basis links h = frame-bus m a (changed m a (holds x is far)) (λ i. refl) refl refl refl h
 frame-kept m absent other a (replies x q r is made twoway) basis links h =
     frame-bus m a (changed m a (replies x q r is made twoway))
     (λ i. marks-first i a.state.bus x.connection.number (put (other_side x.side) (reply_item q r)) a.state.bus.connections
     (λ c. (put-self (other_side x.side) (reply_item q r) c).number)
     (λ c j on one. put-ap i a.state.bus (other_side x.side) (reply_item q r) c (unmarked-reply i a.state.bus q r))) refl refl refl h
-frame-kept m absent other a (answers x n result payload is says which) basis links h =
-    frame-bus m a (changed m a (answers x n result payload is says which)) (λ i. refl) refl refl refl h
-frame-kept m absent other a (forgets x n is which) basis links h =
-    frame-bus m a (changed m a (forgets x n is which)) (λ i. refl) refl refl refl h
-frame-kept m absent other a (gives_up n how free unended cause) basis links h =
-    frame-bus m a (changed m a (gives_up n how free unended cause)) (λ i. refl) refl refl refl h
 frame-kept m absent other a (wires k free untouched live powered) basis links h =
     frame-bus m a (changed m a (wires k free untouched live powered))
     (λ i. marks-first i a.state.bus k (λ c. record c { wired = true }) a.state.bus.connections (λ c. refl) (λ c j on one. refl)) refl refl refl h
@@ -295,7 +248,6 @@ frame-kept m absent other a (turns e free untouched none cause) basis links h = 
   plugged = h.plugged;
   differ = h.differ;
 }
-frame-kept m absent other a (acts_told e rest is quiet) basis links h = frame-bus m a (changed m a (acts_told e rest is quiet)) (λ i. refl) refl refl refl h
 frame-kept m absent other a (acts_shut k rest free is cause) basis links h =
     frame-bus m a (changed m a (acts_shut k rest free is cause))
     (λ i. marks-first i a.state.bus k (λ c. record c { shut = true }) a.state.bus.connections (λ c. refl) (λ c j on one. refl)) refl refl refl h
@@ -341,7 +293,6 @@ frame-kept m absent other a (serves k kind payload none) basis links h = record 
 }
 frame-kept m absent other a (spends i c what none) basis links h =
     frame-host m a (changed m a (spends i c what none)) (λ i. refl) (kept-all a.state.host) refl refl h
-frame-kept m absent other a (passes millis) basis links h = frame-bus m a (changed m a (passes millis)) (λ i. refl) refl refl refl h
 frame-kept m absent other a (others booted marks ports modules same) basis links h = by same
   where
     by : IsElse m a booted marks ports modules
@@ -354,3 +305,5 @@ frame-kept m absent other a (others booted marks ports modules same) basis links
       differ = s.0.differ h.differ;
     }
     by (inr of) = absurd (other of.0)
+frame-kept m absent other a x basis links h =
+    frame-bus m a (changed m a x) (λ i. refl) refl refl refl h

@@ -13,7 +13,7 @@ use Rattle.gb_laws.proofs.LinkClosing.{fits-disconnects}
 use Rattle.gb_laws.proofs.LinkTurns.{fits-connects, fits-ended, fits-inserted, fits-removed}
 use Rattle.gb_laws.proofs.Links.{HostFits, IsFollowed, IsKnown, TurnFits, leaves, leaving, linked, stays, supervisory}
 use Rattle.gb_laws.proofs.Places.{module-far, place-is}
-use Rattle.gb_laws.proofs.Points.{Change, acts_asked, acts_failed, acts_left, acts_opened, acts_shut, acts_told, answers, asks, binds, changed, drops, forgets, frees, gives_up, holds, injects, names, others, passes, replies, serves, spends, takes, takes_held, tells, turns, unwires, wires}
+use Rattle.gb_laws.proofs.Points.{Change, acts_asked, acts_failed, acts_left, acts_opened, acts_shut, acts_told, answers, asks, changed, forgets, gives_up, injects, names, replies, serves, spends, takes, turns, unwires, wires}
 use Rattle.gb_laws.proofs.PointParts.{Basis, IsCaused, IsNoticed, Point}
 use Rattle.gb_base.specs.declared.end.Side.{Side}
 use Rattle.gb_base.specs.declared.peers.Link.{Link}
@@ -107,16 +107,10 @@ abbrev pub LinkedAt : Point → Type 0
 LinkedAt a = Linked a.state.bus a.state.host a.pending
 
 pub linked-kept : (m : Moment) → InsertsAbsent m → (a : Point) (x : Change m a) → Basis a → LinkedAt a → LinkedAt (changed m a x)
-linked-kept m absent a (tells e quiet) basis h = h
 linked-kept m absent a (asks d c label free live drawn who) basis h = linked-sent d label h
 linked-kept m absent a (names name d c label free live drawn host) basis h = linked-sent d label h
-linked-kept m absent a (binds x y n is) basis h = h
-linked-kept m absent a (frees name) basis h = h
 linked-kept m absent a (takes at p item free start is named front) basis h =
     linked-popped p.connection.number p.side h
-linked-kept m absent a (takes_held i c place p x free start is at held) basis h = h
-linked-kept m absent a drops basis h = h
-linked-kept m absent a (holds x is far) basis h = h
 linked-kept m absent a (replies x q r is made twoway) basis h =
     linked-replied x.connection.number (other_side x.side) (reply_item q r) h
 linked-kept m absent a (answers x n result payload is says which) basis h =
@@ -165,5 +159,5 @@ linked-kept m absent a (serves k kind payload none) basis h =
 linked-kept m absent a (spends i c what none) basis h =
     subst (Linked a.state.bus (with_link i c (spent what) a.state.host)) (sym none.0)
     (linked-link i c (λ l. l.credits - credits_taken what) a.state.bus a.state.host (subst (Linked a.state.bus a.state.host) none.0 h))
-linked-kept m absent a (passes millis) basis h = h
-linked-kept m absent a (others booted marks ports modules same) basis h = h
+linked-kept m absent a _ basis h =
+    h

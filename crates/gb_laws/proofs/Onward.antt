@@ -27,37 +27,7 @@ use Rattle.gb_invariants.proofs.Selves.{front-self, put-self}
 use Rattle.gb_laws.proofs.Awaited.{awaited-rest}
 use Rattle.gb_laws.proofs.Owning.{KeepsRequests}
 use Rattle.gb_laws.proofs.Places.{at_first-back}
-use Rattle.gb_laws.proofs.Points.{
-  Change,
-  acts_asked,
-  acts_failed,
-  acts_left,
-  acts_opened,
-  acts_shut,
-  acts_told,
-  answers,
-  asks,
-  binds,
-  changed,
-  drops,
-  forgets,
-  frees,
-  gives_up,
-  holds,
-  injects,
-  names,
-  others,
-  passes,
-  replies,
-  serves,
-  spends,
-  takes,
-  takes_held,
-  tells,
-  turns,
-  unwires,
-  wires,
-}
+use Rattle.gb_laws.proofs.Points.{Change, acts_asked, acts_left, acts_opened, acts_shut, asks, changed, injects, names, replies, takes, unwires, wires}
 use Rattle.gb_laws.proofs.PointParts.{Point, Untouched, Unwired, Wired}
 use Rattle.gb_machine.specs.Bus.{Bus, Connection, Item, Raw, has_number, other_side, request_of}
 use Rattle.gb_machine.specs.Delivery.{without_front}
@@ -159,30 +129,19 @@ onward-same a after requests now same_wires same = record {
 
 -- Each single change goes onward.
 pub onward : (m : Moment) (a : Point) (x : Change m a) → IsOnward a (changed m a x)
-onward m a (tells e quiet) = onward-same a (changed m a (tells e quiet)) (λ n r h. h) (omega arith) refl refl
 onward m a (asks d c label free live is who) =
     onward-first a (changed m a (asks d c label free live is who)) d.connection (asked_on d label a.state.bus)
     (sent-request d label a.state.bus) (omega arith) refl refl (asked-wire d label a.state.bus)
 onward m a (names name d c label free live is host) =
     onward-first a (changed m a (names name d c label free live is host)) d.connection (asked_on d label a.state.bus)
     (sent-request d label a.state.bus) (omega arith) refl refl (asked-wire d label a.state.bus)
-onward m a (binds x y n is) = onward-same a (changed m a (binds x y n is)) (λ n r h. h) (omega arith) refl refl
-onward m a (frees name) = onward-same a (changed m a (frees name)) (λ n r h. h) (omega arith) refl refl
 onward m a (takes at p item free start is named front) =
     onward-first a (changed m a (takes at p item free start is named front)) p.connection.number (without_front p.side) (λ n r h. h) (omega arith) refl refl
     (λ c. same-wire c (without_front p.side c) (front-self p.side c).number (front-wired p.side c))
-onward m a (takes_held i c place p x free start is at held) =
-    onward-same a (changed m a (takes_held i c place p x free start is at held)) (λ n r h. h) (omega arith) refl refl
-onward m a drops = onward-same a (changed m a drops) (λ n r h. h) (omega arith) refl refl
-onward m a (holds x is far) = onward-same a (changed m a (holds x is far)) (λ n r h. h) (omega arith) refl refl
 onward m a (replies x q r is made twoway) =
     onward-first a (changed m a (replies x q r is made twoway)) x.connection.number (put (other_side x.side) (reply_item q r)) (λ n r h. h) (omega arith) refl refl
     (λ c. same-wire c (put (other_side x.side) (reply_item q r) c) (put-self (other_side x.side) (reply_item q r) c).number
     (put-wired (other_side x.side) (reply_item q r) c))
-onward m a (answers x n result payload is says which) =
-    onward-same a (changed m a (answers x n result payload is says which)) (λ n r h. h) (omega arith) refl refl
-onward m a (forgets x n is which) = onward-same a (changed m a (forgets x n is which)) (λ n r h. h) (omega arith) refl refl
-onward m a (gives_up n how free unended cause) = onward-same a (changed m a (gives_up n how free unended cause)) (λ n r h. h) (omega arith) refl refl
 onward m a (wires k free untouched live powered) = record {
   requests = λ n r h. h;
   now = omega arith;
@@ -210,8 +169,6 @@ onward m a (injects i c p bytes free named) =
     onward-first a (changed m a (injects i c p bytes free named)) p.connection.number (λ x. queued side.Ap (Raw bytes) (record x { clean = false }))
     (λ n r h. h) (omega arith) refl refl
     (λ x. same-wire x (queued side.Ap (Raw bytes) (record x { clean = false })) refl refl)
-onward m a (turns e free untouched none cause) = onward-same a (changed m a (turns e free untouched none cause)) (λ n r h. h) (omega arith) refl refl
-onward m a (acts_told e rest is quiet) = onward-same a (changed m a (acts_told e rest is quiet)) (λ n r h. h) (omega arith) refl refl
 onward m a (acts_shut k rest free is cause) =
     onward-first a (changed m a (acts_shut k rest free is cause)) k (λ c. record c { shut = true }) (λ n r h. h) (omega arith) refl refl
     (λ c. same-wire c (record c { shut = true }) refl refl)
@@ -238,8 +195,5 @@ onward m a (acts_asked q n rest is) =
     let r = awaited-rest q.purpose n a.state in
     onward-same a (changed m a (acts_asked q n rest is)) (λ k x made. ap (λ (b : Bus). request_of k b) r.bus ∙ made)
     (let same = r.now in omega (arith, same)) refl (ap (λ (b : Bus). b.connections) r.bus)
-onward m a (acts_failed q rest is quiet) = onward-same a (changed m a (acts_failed q rest is quiet)) (λ n r h. h) (omega arith) refl refl
-onward m a (serves k kind payload none) = onward-same a (changed m a (serves k kind payload none)) (λ n r h. h) (omega arith) refl refl
-onward m a (spends i c what none) = onward-same a (changed m a (spends i c what none)) (λ n r h. h) (omega arith) refl refl
-onward m a (passes millis) = onward-same a (changed m a (passes millis)) (λ n r h. h) (omega arith) refl refl
-onward m a (others booted marks ports modules same) = onward-same a (changed m a (others booted marks ports modules same)) (λ n r h. h) (omega arith) refl refl
+onward m a x =
+    onward-same a (changed m a x) (λ n r h. h) (omega arith) refl refl

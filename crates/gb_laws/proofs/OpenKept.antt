@@ -18,7 +18,7 @@ use Rattle.gb_laws.proofs.LinkActs.{ServedHost, as_before, awaited-host, host-se
 use Rattle.gb_laws.proofs.LinkBuses.{Linked, new_link}
 use Rattle.gb_laws.proofs.Linking.{LinkedAt}
 use Rattle.gb_laws.proofs.Links.{ArePending}
-use Rattle.gb_laws.proofs.Points.{Change, IsAskedBy, IsAsking, IsPlain, acts_asked, acts_failed, acts_left, acts_opened, acts_shut, acts_told, answers, asking, asks, binds, by_far, by_host, by_module, by_svc, changed, drops, forgets, frees, gives_up, holds, injects, names, opening, others, passes, replies, serves, spends, takes, takes_held, tells, turns, unwires, wires}
+use Rattle.gb_laws.proofs.Points.{Change, IsAskedBy, IsAsking, IsPlain, acts_asked, acts_failed, acts_left, acts_opened, acts_shut, acts_told, answers, asking, asks, by_far, by_host, by_module, by_svc, changed, forgets, gives_up, injects, names, opening, replies, serves, spends, takes, turns, unwires, wires}
 use Rattle.gb_laws.proofs.PointParts.{Basis, Point}
 use Rattle.gb_laws.proofs.Shutting.{is_shut, shut-gone, shut-left, shut-more, shut-other, shut-self, shut_of, side_ended-none}
 use Rattle.gb_machine.specs.Bus.{Bus, Connection, Raw, Request, connection_of, other_side, request_of}
@@ -306,11 +306,5 @@ opens-kept m a (serves k kind payload none) basis links h =
 opens-kept m a (spends i c what none) basis links h =
     opens-host a.state.bus a.state.host (with_link i c (spent what) a.state.host) a.pending
     (fewer-kept i c (spent what) a.state.host (λ l. refl) (λ l. refl)) h
-opens-kept m a (tells e quiet) basis links h = h
-opens-kept m a (binds x y n is) basis links h = h
-opens-kept m a (frees name) basis links h = h
-opens-kept m a (takes_held i c place p x free start is at held) basis links h = h
-opens-kept m a drops basis links h = h
-opens-kept m a (holds x is far) basis links h = h
-opens-kept m a (passes millis) basis links h = h
-opens-kept m a (others booted marks ports modules same) basis links h = h
+opens-kept m a _ basis links h =
+    h

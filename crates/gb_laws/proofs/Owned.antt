@@ -22,7 +22,7 @@ use Rattle.gb_laws.proofs.Onward.{drawn-wired}
 use Rattle.gb_laws.proofs.OwnReplies.{own-reply}
 use Rattle.gb_laws.proofs.Owning.{IsLooseOf, OwnTold, ends-of, ends-same, own-changed, own-more, own-new, own-still, own-with}
 use Rattle.gb_laws.proofs.Places.{IsPlace, module-far, place-is}
-use Rattle.gb_laws.proofs.Points.{Change, acts_asked, acts_failed, acts_left, acts_opened, acts_shut, acts_told, answers, asks, binds, changed, drops, forgets, frees, gives_up, holds, injects, names, others, passes, replies, serves, spends, takes, takes_held, tells, turns, unwires, wires}
+use Rattle.gb_laws.proofs.Points.{Change, acts_asked, acts_failed, acts_left, acts_opened, acts_shut, acts_told, answers, asks, changed, drops, forgets, gives_up, holds, injects, names, replies, takes, takes_held, tells, unwires, wires}
 use Rattle.gb_laws.proofs.PointParts.{Basis, Hand, Point, asked_told, loose, loose_hand, loose_held}
 use Rattle.gb_laws.proofs.Since.{IsOpened, opened-more, opening-opened}
 use Rattle.gb_machine.specs.Bus.{Ask, Bus, Connection, Item, Raw, connection_of, end_of, has_number, next_number, other_side, queue, request_of}
@@ -105,8 +105,6 @@ pub own-kept : (m : Moment) (a : Point) (x : Change m a) → Basis a → OwnTold
 own-kept m a (tells e quiet) basis h = own-still a _ (e ∷ []) refl (λ k r made. made) refl (λ l i. i) h
 own-kept m a (asks d c label free live is who) basis h = own-asked a _ d c label basis live refl refl (λ l i. i) h
 own-kept m a (names name d c label free live is host) basis h = own-asked a _ d c label basis live refl refl (λ l i. i) h
-own-kept m a (binds x y n is) basis h = own-still a _ [] refl (λ k r made. made) refl (λ l i. i) h
-own-kept m a (frees name) basis h = own-still a _ [] refl (λ k r made. made) refl (λ l i. i) h
 own-kept m a (takes at p item free start is named front) basis h =
     let live = subst (λ s. IsIn p.connection s.bus.connections) (sym start) (place-is at m.before.bus.connections p named).live in
     own-with a (changed m a (takes at p item free start is named front)) [] p.connection.number (without_front p.side) basis.bus.numbers refl (λ k r made. made) refl
@@ -207,7 +205,6 @@ own-kept m a (injects i c p bytes free named) basis h =
         (queued side.Ap (Raw bytes) (record x { clean = false })) side.Ap y) (sym e)
         (refl, subst (λ (y : Connection). IsIn (entry.Raw y.peer (end.Ap y.ap) (length bytes) bytes) (told_since y.number (a.told ++ raw ∷ []))) (sym same) told_here)))
         (in-pushed item x.to_ap (Raw bytes) j)
-own-kept m a (turns e free untouched none cause) basis h = own-still a _ [] refl (λ k r made. made) refl (λ l i. i) h
 own-kept m a (acts_told e rest is quiet) basis h = own-still a _ (e ∷ []) refl (λ k r made. made) refl (λ l i. i) h
 own-kept m a (acts_shut k rest free is cause) basis h =
     own-with a _ _ k (λ c. record c { shut = true }) basis.bus.numbers refl (λ k r made. made) refl
@@ -250,7 +247,5 @@ own-kept m a (acts_asked q n rest is) basis h =
     own-still a _ [] refl (λ k x made. ap (request_of k) r.bus ∙ made) (ap (λ (b : Bus). b.connections) r.bus)
     (λ l i. subst (λ hs. IsIn l (loose_hand a.hand (map loose_held hs))) r.held i) h
 own-kept m a (acts_failed q rest is quiet) basis h = own-still a _ _ refl (λ k r made. made) refl (λ l i. i) h
-own-kept m a (serves k kind payload none) basis h = own-still a _ [] refl (λ k r made. made) refl (λ l i. i) h
-own-kept m a (spends i c what none) basis h = own-still a _ [] refl (λ k r made. made) refl (λ l i. i) h
-own-kept m a (passes millis) basis h = own-still a _ [] refl (λ k r made. made) refl (λ l i. i) h
-own-kept m a (others booted marks ports modules same) basis h = own-still a _ [] refl (λ k r made. made) refl (λ l i. i) h
+own-kept m a _ basis h =
+    own-still a _ [] refl (λ k r made. made) refl (λ l i. i) h

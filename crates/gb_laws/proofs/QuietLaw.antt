@@ -43,42 +43,7 @@ use Rattle.gb_laws.proofs.Links.{ArePending}
 use Rattle.gb_laws.proofs.Loosening.{held-at, map-held-in}
 use Rattle.gb_laws.proofs.Marks.{find-left, find-pushed}
 use Rattle.gb_laws.proofs.Places.{module-far, place-is}
-use Rattle.gb_laws.proofs.Points.{
-  Change,
-  IsAskedBy,
-  IsElse,
-  IsPlain,
-  acts_asked,
-  acts_failed,
-  acts_left,
-  acts_opened,
-  acts_shut,
-  acts_told,
-  answers,
-  asks,
-  binds,
-  by_far,
-  by_host,
-  changed,
-  drops,
-  forgets,
-  frees,
-  gives_up,
-  holds,
-  injects,
-  names,
-  others,
-  passes,
-  replies,
-  serves,
-  spends,
-  takes,
-  takes_held,
-  tells,
-  turns,
-  unwires,
-  wires,
-}
+use Rattle.gb_laws.proofs.Points.{Change, IsAskedBy, IsElse, IsPlain, acts_asked, acts_failed, acts_left, acts_opened, acts_shut, acts_told, answers, asks, by_far, by_host, changed, drops, forgets, gives_up, holds, injects, names, others, replies, serves, takes, takes_held, turns, unwires, wires}
 use Rattle.gb_laws.proofs.PointParts.{Basis, Hand, Point, loose_hand, loose_held, resting}
 use Rattle.gb_laws.proofs.Quiet.{IsQuiet, SameView, off, quiet-still, view-same}
 use Rattle.gb_laws.proofs.QuietBuses.{queues-kept, queues-other}
@@ -334,18 +299,5 @@ module _ (m : Moment) (i : ℕ) (before : Basis (resting m.told m.before))
           (record { enums = inl refl; power = off zero }) (same-waits a.state.host) refl
           (λ q j. j) h)
           (of.1 i)
-  quiet-kept a (tells e quiet) basis links there h =
-      rests i a (changed m a (tells e quiet)) basis refl refl (λ x f. f) (same-waits a.state.host)
-      refl (λ q j. j) h
-  quiet-kept a (binds x y n is) basis links there h =
-      rests i a (changed m a (binds x y n is)) basis refl refl (λ x f. f)
-      (same-waits a.state.host) refl (λ q j. j) h
-  quiet-kept a (frees name) basis links there h =
-      rests i a (changed m a (frees name)) basis refl refl (λ x f. f) (same-waits a.state.host)
-      refl (λ q j. j) h
-  quiet-kept a (spends j c what none) basis links there h =
-      rests i a (changed m a (spends j c what none)) basis refl refl (λ x f. f)
-      (same-waits a.state.host) refl (λ q j. j) h
-  quiet-kept a (passes millis) basis links there h =
-      rests i a (changed m a (passes millis)) basis refl refl (λ x f. f) (same-waits a.state.host)
-      refl (λ q j. j) h
+  quiet-kept a x basis links there h =
+      rests i a (changed m a x) basis refl refl (λ x f. f) (same-waits a.state.host) refl (λ q j. j) h

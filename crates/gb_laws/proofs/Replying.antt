@@ -19,7 +19,7 @@ use Rattle.gb_laws.proofs.Basics.{basis-first, basis-kept, loose_of, rested, tak
 use Rattle.gb_laws.proofs.Ended.{ends-throughout}
 use Rattle.gb_laws.proofs.Loosening.{Fewer, fewer-held, fewer-tail, fewer-taken, fewer-without, held-at}
 use Rattle.gb_laws.proofs.Places.{module-far, place-is}
-use Rattle.gb_laws.proofs.Points.{Change, Law, acts_asked, acts_failed, acts_left, acts_opened, acts_shut, acts_told, answers, asks, binds, changed, drops, forgets, frees, gives_up, holds, injects, names, others, passes, replies, serves, spends, takes, takes_held, tells, turns, unwires, wires}
+use Rattle.gb_laws.proofs.Points.{Change, Law, acts_asked, acts_failed, acts_left, acts_opened, acts_shut, acts_told, answers, asks, changed, drops, forgets, gives_up, holds, injects, names, replies, takes, takes_held, tells, unwires, wires}
 use Rattle.gb_laws.proofs.PointParts.{AreQuiet, Basis, Hand, Point, asked_told, is_quiet, loose, loose_hand, loose_held, resting, sent_told}
 use Rattle.gb_laws.proofs.Runs.{HoldsByMoments, throughout}
 use Rattle.gb_laws.proofs.Steps.{over-step}
@@ -261,8 +261,6 @@ once-kept : (m : Moment) (a : Point) (x : Change m a) → Basis a → RepliesOnc
 once-kept m a (tells e quiet) basis h = once-fewer a _ (e ∷ []) refl (quiet-no-reply e (silent-quiet e quiet), tt) (λ n r made. made) (λ n. omega arith) h
 once-kept m a (asks d c label free live drawn who) basis h = once-asked a _ d c label basis refl refl refl refl h
 once-kept m a (names name d c label free live drawn host) basis h = once-asked a _ d c label basis refl refl refl refl h
-once-kept m a (binds x y n is) basis h = once-fewer a _ [] refl tt (λ n r made. made) (λ n. omega arith) h
-once-kept m a (frees name) basis h = once-fewer a _ [] refl tt (λ n r made. made) (λ n. omega arith) h
 once-kept m a (takes at p item free start is named front) basis h =
     once-fewer a _ [] refl tt (λ n r made. made) (λ n.
     let live = subst (λ s. IsIn p.connection s.bus.connections) (sym start) (place-is at m.before.bus.connections p named).live in
@@ -308,7 +306,6 @@ once-kept m a (unwires k free before live) basis h =
     omega (arith, fewer, cleared, free_is, free_after)) h
 once-kept m a (injects i c p bytes free named) basis h =
     once-fewer a _ (_ ∷ []) refl ((λ k. refl), tt) (λ n r made. made) (λ n. injected-counts (is_ask n) (loose a) p.connection.number bytes a.state.bus refl) h
-once-kept m a (turns e free untouched none cause) basis h = once-fewer a _ [] refl tt (λ n r made. made) (λ n. omega arith) h
 once-kept m a (acts_told e rest is quiet) basis h = once-fewer a _ (e ∷ []) refl (quiet-no-reply e quiet, tt) (λ n r made. made) (λ n. omega arith) h
 once-kept m a (acts_shut k rest free is cause) basis h =
     once-fewer a _ _ refl (ended-no-replies (open_on k side.Ap a.state.bus)) (λ n r made. made)
@@ -325,10 +322,8 @@ once-kept m a (acts_asked q k rest is) basis h =
     let held = ap (λ hs. times_in (is_ask n) (loose_hand a.hand (map loose_held hs)) a.state.bus) r.held in
     omega (arith, same, held)) h
 once-kept m a (acts_failed q rest is quiet) basis h = once-fewer a _ _ refl (quiet-no-replies _ quiet) (λ n r made. made) (λ n. omega arith) h
-once-kept m a (serves k kind payload none) basis h = once-fewer a _ [] refl tt (λ n r made. made) (λ n. omega arith) h
-once-kept m a (spends i c what none) basis h = once-fewer a _ [] refl tt (λ n r made. made) (λ n. omega arith) h
-once-kept m a (passes millis) basis h = once-fewer a _ [] refl tt (λ n r made. made) (λ n. omega arith) h
-once-kept m a (others booted marks ports modules same) basis h = once-fewer a _ [] refl tt (λ n r made. made) (λ n. omega arith) h
+once-kept m a _ basis h =
+    once-fewer a _ [] refl tt (λ n r made. made) (λ n. omega arith) h
 
 -- ---- the law
 

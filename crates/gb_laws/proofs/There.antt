@@ -13,7 +13,7 @@ use Rattle.gb_laws.proofs.Linking.{LinkedAt}
 use Rattle.gb_laws.proofs.Links.{ArePending}
 use Rattle.gb_laws.proofs.Onward.{drawn-wired, front-wired, put-wired}
 use Rattle.gb_laws.proofs.Places.{at_first-back}
-use Rattle.gb_laws.proofs.Points.{Change, acts_asked, acts_failed, acts_left, acts_opened, acts_shut, acts_told, answers, asks, binds, changed, drops, forgets, frees, gives_up, holds, injects, names, others, passes, replies, serves, spends, takes, takes_held, tells, turns, unwires, wires}
+use Rattle.gb_laws.proofs.Points.{Change, acts_asked, acts_left, acts_opened, acts_shut, answers, asks, changed, forgets, gives_up, injects, names, replies, takes, unwires, wires}
 use Rattle.gb_laws.proofs.PointParts.{Point}
 use Rattle.gb_laws.proofs.Ticking.{at_first-stays}
 use Rattle.gb_machine.specs.Bus.{Ask, Bus, Connection, Raw, has_number, next_number, other_side}
@@ -101,19 +101,8 @@ there-kept m a (acts_opened w q rest free is) links h = record {
 }
 there-kept m a (acts_asked q n rest is) links h =
     there-same a.state.bus (changed m a (acts_asked q n rest is)).state.bus (ap (λ (b : Bus). b.connections) (awaited-rest q.purpose n a.state).bus) h
-there-kept m a (tells e quiet) links h = h
-there-kept m a (binds x y n is) links h = h
-there-kept m a (frees name) links h = h
-there-kept m a (takes_held i c place p x free start is at held) links h = h
-there-kept m a drops links h = h
-there-kept m a (holds x is far) links h = h
 there-kept m a (answers x n result payload is says which) links h = there-same a.state.bus (changed m a (answers x n result payload is says which)).state.bus refl h
 there-kept m a (forgets x n is which) links h = there-same a.state.bus (changed m a (forgets x n is which)).state.bus refl h
 there-kept m a (gives_up n how free unended cause) links h = there-same a.state.bus (changed m a (gives_up n how free unended cause)).state.bus refl h
-there-kept m a (turns e free untouched none cause) links h = h
-there-kept m a (acts_told e rest is quiet) links h = h
-there-kept m a (acts_failed q rest is quiet) links h = h
-there-kept m a (serves k kind payload none) links h = h
-there-kept m a (spends i c what none) links h = h
-there-kept m a (passes millis) links h = h
-there-kept m a (others booted marks ports modules same) links h = h
+there-kept m a _ links h =
+    h

@@ -17,7 +17,7 @@ use Rattle.gb_laws.proofs.LinkTells.{ActsTell, TellsLink, turns-tell, unsent-tol
 use Rattle.gb_laws.proofs.Linking.{LinkedAt}
 use Rattle.gb_laws.proofs.Links.{ArePending, IsKnown, leaving, linked, supervisory}
 use Rattle.gb_laws.proofs.PointParts.{Basis, Point, is_silent, sent_told}
-use Rattle.gb_laws.proofs.Points.{Change, IsAsking, acts_asked, acts_failed, acts_left, acts_opened, acts_shut, acts_told, answers, asking, asks, binds, changed, drops, forgets, frees, gives_up, holds, injects, names, opening, others, passes, replies, serves, spends, takes, takes_held, tells, turns, unwires, wires}
+use Rattle.gb_laws.proofs.Points.{Change, IsAsking, acts_asked, acts_failed, acts_left, acts_opened, acts_shut, acts_told, answers, asking, asks, changed, drops, forgets, gives_up, injects, names, opening, replies, takes, tells, turns, unwires, wires}
 use Rattle.gb_machine.specs.Bus.{Bus, Connection, Raw, has_number, next_number, other_side}
 use Rattle.gb_machine.specs.Delivery.{without_front}
 use Rattle.gb_machine.specs.Failures.{unsent}
@@ -183,17 +183,12 @@ told-links_kept m a (names name d c label free live drawn host) basis links h =
     (asked_on d label a.state.bus) refl refl (asked_on-number d label a.state.bus)
     (λ x. (asked_on-self d label a.state.bus x).peer))
     (tt, sent-matches (sent d label a.state.bus) d.oneway (next_number a.state.bus)) h
-told-links_kept m a (binds x y n is) basis links h = told-by a a.state.bus [] (still a) tt h
-told-links_kept m a (frees name) basis links h = told-by a a.state.bus [] (still a) tt h
 told-links_kept m a (takes at p item free start is named front) basis links h =
     told-by a _ [] (peers-first a.state.bus
     (changed m a (takes at p item free start is named front)).state.bus p.connection.number
     (without_front p.side) refl refl (λ c. (front-self p.side c).number)
     (λ c. (front-self p.side c).peer)) tt h
-told-links_kept m a (takes_held i c place p x free start is at held) basis links h =
-    told-by a a.state.bus [] (still a) tt h
 told-links_kept m a drops basis links h = record { told = h.told; acts = h.acts }
-told-links_kept m a (holds x is far) basis links h = told-by a a.state.bus [] (still a) tt h
 told-links_kept m a (replies x q r is made twoway) basis links h =
     told-by a _ _ (peers-first a.state.bus
     (changed m a (replies x q r is made twoway)).state.bus x.connection.number
@@ -306,9 +301,5 @@ told-links_kept m a (acts_failed q rest is quiet) basis links h = record {
     left : IsAsking q a.pending rest → ActsMatch a.state.bus rest
     left (asking e) = subst (ActsMatch a.state.bus) e h.acts
     left (opening w e) = subst (ActsMatch a.state.bus) e h.acts
-told-links_kept m a (serves k kind payload none) basis links h =
-    told-by a a.state.bus [] (still a) tt h
-told-links_kept m a (spends i c what none) basis links h = told-by a a.state.bus [] (still a) tt h
-told-links_kept m a (passes millis) basis links h = told-by a a.state.bus [] (still a) tt h
-told-links_kept m a (others booted marks ports modules same) basis links h =
+told-links_kept m a _ basis links h =
     told-by a a.state.bus [] (still a) tt h

@@ -45,43 +45,7 @@ use Rattle.gb_laws.proofs.Levels.{
 }
 use Rattle.gb_laws.proofs.LinkActs.{awaited-plugs}
 use Rattle.gb_laws.proofs.Onward.{drawn-wired, front-wired, put-wired}
-use Rattle.gb_laws.proofs.Points.{
-  as_before,
-  loses_route,
-  served,
-  Change,
-  IsOfSvc,
-  PortsFrom,
-  IsElse,
-  acts_asked,
-  acts_failed,
-  acts_left,
-  acts_opened,
-  acts_shut,
-  acts_told,
-  answers,
-  asks,
-  binds,
-  changed,
-  drops,
-  forgets,
-  frees,
-  gives_up,
-  holds,
-  injects,
-  names,
-  others,
-  passes,
-  replies,
-  serves,
-  spends,
-  takes,
-  takes_held,
-  tells,
-  turns,
-  unwires,
-  wires,
-}
+use Rattle.gb_laws.proofs.Points.{as_before, loses_route, served, Change, IsOfSvc, PortsFrom, IsElse, acts_asked, acts_left, acts_opened, acts_shut, answers, asks, changed, drops, forgets, gives_up, injects, names, others, replies, takes, unwires, wires}
 use Rattle.gb_laws.proofs.PointParts.{Basis, Point}
 use Rattle.gb_machine.specs.Bus.{Ask, Bus, Connection, Raw, has_number, next_number, other_side}
 use Rattle.gb_machine.specs.Delivery.{without_front}
@@ -299,13 +263,7 @@ wired-kept m other a (others booted marks ports modules same) basis h = by same
           ((levels-kept m a.state ports h.bound s.1).routed i (h.routed c live wired i p at));
     }
     by (inr of) = absurd (other of.0)
-wired-kept m other a (tells e quiet) basis h = fit-bus a.state (changed m a (tells e quiet)).state (was-same a.state.bus a.state.bus refl) refl refl h
-wired-kept m other a (binds x y n is) basis h = fit-bus a.state (changed m a (binds x y n is)).state (was-same a.state.bus a.state.bus refl) refl refl h
-wired-kept m other a (frees name) basis h = fit-bus a.state (changed m a (frees name)).state (was-same a.state.bus a.state.bus refl) refl refl h
-wired-kept m other a (takes_held i c place p x free start is at held) basis h =
-    fit-bus a.state (changed m a (takes_held i c place p x free start is at held)).state (was-same a.state.bus a.state.bus refl) refl refl h
 wired-kept m other a drops basis h = h
-wired-kept m other a (holds x is far) basis h = fit-bus a.state (changed m a (holds x is far)).state (was-same a.state.bus a.state.bus refl) refl refl h
 wired-kept m other a (answers x n result payload is says which) basis h =
     fit-bus a.state (changed m a (answers x n result payload is says which)).state
     (was-same a.state.bus (changed m a (answers x n result payload is says which)).state.bus refl) refl refl h
@@ -314,15 +272,5 @@ wired-kept m other a (forgets x n is which) basis h =
 wired-kept m other a (gives_up n how free unended cause) basis h =
     fit-bus a.state (changed m a (gives_up n how free unended cause)).state
     (was-same a.state.bus (changed m a (gives_up n how free unended cause)).state.bus refl) refl refl h
-wired-kept m other a (turns e free untouched none cause) basis h =
-    fit-bus a.state (changed m a (turns e free untouched none cause)).state (was-same a.state.bus a.state.bus refl) refl refl h
-wired-kept m other a (acts_told e rest is quiet) basis h =
-    fit-bus a.state (changed m a (acts_told e rest is quiet)).state (was-same a.state.bus a.state.bus refl) refl refl h
-wired-kept m other a (acts_failed q rest is quiet) basis h =
-    fit-bus a.state (changed m a (acts_failed q rest is quiet)).state (was-same a.state.bus a.state.bus refl) refl refl h
-wired-kept m other a (serves k kind payload none) basis h =
-    fit-bus a.state (changed m a (serves k kind payload none)).state (was-same a.state.bus a.state.bus refl) refl refl h
-wired-kept m other a (spends i c what none) basis h =
-    fit-bus a.state (changed m a (spends i c what none)).state (was-same a.state.bus a.state.bus refl) refl refl h
-wired-kept m other a (passes millis) basis h =
-    fit-bus a.state (changed m a (passes millis)).state (was-same a.state.bus a.state.bus refl) refl refl h
+wired-kept m other a x basis h =
+    fit-bus a.state (changed m a x).state (was-same a.state.bus a.state.bus refl) refl refl h
