@@ -1,6 +1,22 @@
 -- An interface is absent from the handling of its removal to that of its next insertion, and no
 -- live connection names it then.
-use Rattle.std.proofs.Common.{◌≡◌, ℕ, Bool, true, false, Some, None, [], refl, sym, ap, ◌∙◌, subst, inl, inr}
+use Rattle.std.proofs.Common.{
+  ◌≡◌,
+  ℕ,
+  Bool,
+  true,
+  false,
+  Some,
+  None,
+  [],
+  refl,
+  sym,
+  ap,
+  ◌∙◌,
+  subst,
+  inl,
+  inr,
+}
 use Rattle.std.specs.Prelude.{◌==◌, is_some}
 use Rattle.gb_base.specs.declared.peers.Link.{Link}
 use Rattle.gb_base.specs.declared.end.End.TheVariants as end

@@ -1,5 +1,26 @@
 -- A request is answered by what its own responder replied.
-use Rattle.std.proofs.Common.{◌≡◌, ℕ, Bool, true, false, cond, Some, None, List, [], ◌∷◌, ◌++◌, map, refl, sym, ap, ◌∙◌, subst, append-nil, append_assoc}
+use Rattle.std.proofs.Common.{
+  ◌≡◌,
+  ℕ,
+  Bool,
+  true,
+  false,
+  cond,
+  Some,
+  None,
+  List,
+  [],
+  ◌∷◌,
+  ◌++◌,
+  map,
+  refl,
+  sym,
+  ap,
+  ◌∙◌,
+  subst,
+  append-nil,
+  append_assoc,
+}
 use Rattle.std.specs.Prelude.{◌==◌}
 use Rattle.gb_base.specs.declared.bridge.Reading.TheVariants as reading
 use Rattle.gb_base.specs.declared.end.End.TheVariants as end
@@ -21,12 +42,63 @@ use Rattle.gb_laws.proofs.Loosening.{held-at, map-held-in}
 use Rattle.gb_invariants.proofs.ItemChanges.{first-in}
 use Rattle.gb_laws.proofs.Owning.{KeepsRequests}
 use Rattle.gb_laws.proofs.Places.{module-far, place-is}
-use Rattle.gb_laws.proofs.Points.{Answers, Change, Law, Says, acts_asked, acts_failed, acts_opened, acts_shut, acts_told, answers, asks, binds, by_label, by_number, changed, drops, forgets, frees, gives_up, holds, injects, names, numbered, replies, takes, takes_held, tells, unclean, unwires}
-use Rattle.gb_laws.proofs.PointParts.{IsGivenUpFor, AreQuiet, Basis, Hand, Point, asked_told, is_quiet, loose_held, sent_told}
+use Rattle.gb_laws.proofs.Points.{
+  Answers,
+  Change,
+  Law,
+  Says,
+  acts_asked,
+  acts_failed,
+  acts_opened,
+  acts_shut,
+  acts_told,
+  answers,
+  asks,
+  binds,
+  by_label,
+  by_number,
+  changed,
+  drops,
+  forgets,
+  frees,
+  gives_up,
+  holds,
+  injects,
+  names,
+  numbered,
+  replies,
+  takes,
+  takes_held,
+  tells,
+  unclean,
+  unwires,
+}
+use Rattle.gb_laws.proofs.PointParts.{
+  IsGivenUpFor,
+  AreQuiet,
+  Basis,
+  Hand,
+  Point,
+  asked_told,
+  is_quiet,
+  loose_held,
+  sent_told,
+}
 use Rattle.gb_laws.proofs.Runs.{HoldsAtMoments, at_each}
 use Rattle.gb_laws.proofs.Steps.{over-step}
 use Rattle.gb_laws.proofs.Silent.{silent-quiet}
-use Rattle.gb_machine.specs.Bus.{Bus, Connection, Reply, Request, connection_of, end_of, next_number, other_side, queue, request_of}
+use Rattle.gb_machine.specs.Bus.{
+  Bus,
+  Connection,
+  Reply,
+  Request,
+  connection_of,
+  end_of,
+  next_number,
+  other_side,
+  queue,
+  request_of,
+}
 use Rattle.gb_machine.specs.LawsEnds.{HadItsReply, WasReplied}
 use Rattle.gb_machine.specs.LawsHotPlug.{IsOwnItem}
 use Rattle.gb_machine.specs.Members.{Each, IsIn}
@@ -39,9 +111,12 @@ use Rattle.gb_machine.specs.Wires.{disconnected_told}
 -- requests stay, whatever changes
 pub keeps-requests : (m : Moment) (a : Point) (x : Change m a)
     → KeepsRequests a.state.bus (changed m a x).state.bus
-keeps-requests m a (asks d c label free live drawn who) n r made = sent-request d label a.state.bus n r made
-keeps-requests m a (names name d c label free live drawn host) n r made = sent-request d label a.state.bus n r made
-keeps-requests m a (acts_asked q k rest is) n r made = ap (request_of n) (awaited-rest q.purpose k a.state).bus ∙ made
+keeps-requests m a (asks d c label free live drawn who) n r made =
+    sent-request d label a.state.bus n r made
+keeps-requests m a (names name d c label free live drawn host) n r made =
+    sent-request d label a.state.bus n r made
+keeps-requests m a (acts_asked q k rest is) n r made =
+    ap (request_of n) (awaited-rest q.purpose k a.state).bus ∙ made
 keeps-requests m a (tells e quiet) n r made = made
 keeps-requests m a (binds x y k is) n r made = made
 keeps-requests m a (frees name) n r made = made
@@ -61,7 +136,8 @@ abbrev IsFine : Moment → Bus → Entry → Type 0
 IsFine m b (entry.Ended n (outcome.Answered result payload) read) = WasAnswered m b n result payload
 IsFine m b _ = Unit {0}
 
-fine-more : (m : Moment) (b after : Bus) (e : Entry) → KeepsRequests b after → IsFine m b e → IsFine m after e
+fine-more : (m : Moment) (b after : Bus) (e : Entry) → KeepsRequests b after → IsFine m b e
+    → IsFine m after e
 fine-more m b after (entry.Ended n (outcome.Answered result payload) read) keeps h = record {
   request = h.request;
   made = keeps n h.request h.made;
@@ -103,15 +179,18 @@ record IsSoFar (m : Moment) (a : Point) : Type 0 where
   grown : KeepsRequests m.before.bus a.state.bus
 
 -- more is told, and it is fine
-so-far : (m : Moment) (a : Point) (x : Change m a) (es : List Entry) → (changed m a x).told ≡ a.told ++ es
-    → Each (IsFine m (changed m a x).state.bus) es → ((y : Hand) → (changed m a x).hand ≡ Some y → IsFresh m y)
+so-far : (m : Moment) (a : Point) (x : Change m a) (es : List Entry)
+    → (changed m a x).told ≡ a.told ++ es
+    → Each (IsFine m (changed m a x).state.bus) es
+    → ((y : Hand) → (changed m a x).hand ≡ Some y → IsFresh m y)
     → IsSoFar m a → IsSoFar m (changed m a x)
 so-far m a x es told fine hand h = record {
   new = h.new ++ es;
   told = told ∙ ap (λ l. l ++ es) h.told ∙ append_assoc m.told h.new es;
   fine = each-append (IsFine m (changed m a x).state.bus) h.new es
       (each-weaker (IsFine m a.state.bus) (IsFine m (changed m a x).state.bus) h.new
-      (λ e. fine-more m a.state.bus (changed m a x).state.bus e (keeps-requests m a x)) h.fine) fine;
+      (λ e. fine-more m a.state.bus (changed m a x).state.bus e (keeps-requests m a x)) h.fine)
+      fine;
   hand = hand;
   grown = λ n r made. keeps-requests m a x n r (h.grown n r made);
 }
@@ -120,9 +199,11 @@ none-some : (y : Hand) → None ≡ Some y → ⊥
 none-some y e = absurd cc
 
 -- an answer is its responder's
-answered-fine : (m : Moment) (b after : Bus) (x : Hand) (n result : ℕ) (payload : List ℕ) → IsFresh m x → KeepsRequests m.before.bus after
+answered-fine : (m : Moment) (b after : Bus) (x : Hand) (n result : ℕ) (payload : List ℕ)
+    → IsFresh m x → KeepsRequests m.before.bus after
     → ((k : ℕ) (r : Request) → request_of k b ≡ Some r → request_of k after ≡ Some r)
-    → Says x n result payload → Answers x n b → WasAnswered m after n result (cond (result == 0) payload [])
+    → Says x n result payload → Answers x n b
+    → WasAnswered m after n result (cond (result == 0) payload [])
 answered-fine m b after x n result payload fresh grown keeps says (by_label label dirty is) =
     let o = open_with-in_use x.connection.number x.side label b n is in
     let p = both-true (is_of x.connection.number x.side o.0) (o.0.label == label) o.2 in
@@ -133,12 +214,15 @@ answered-fine m b after x n result payload fresh grown keeps says (by_label labe
       live = ap (λ k. connection_of k m.before.bus) q.0 ∙ fresh.live;
       replied = λ clean. absurd (not-both x.connection.clean clean dirty);
     }
-answered-fine m b after x n result payload fresh grown keeps (unclean dirty) (by_number r p is clean open_) =
+answered-fine m b after x n result payload fresh grown keeps (unclean dirty)
+    (by_number r p is clean open_) =
     absurd (not-both x.connection.clean clean dirty)
-answered-fine m b after x n result payload fresh grown keeps (numbered says) (by_number r p is clean open_) =
+answered-fine m b after x n result payload fresh grown keeps (numbered says)
+    (by_number r p is clean open_) =
     by (subst (λ i. IsOwnItem m.told m.before.bus x.connection x.side i) says fresh.own)
   where
-    by : IsOwnItem m.told m.before.bus x.connection x.side (Reply n result payload) → WasAnswered m after n result (cond (result == 0) payload [])
+    by : IsOwnItem m.told m.before.bus x.connection x.side (Reply n result payload)
+        → WasAnswered m after n result (cond (result == 0) payload [])
     by own = record {
       request = own.0;
       made = grown n own.0 own.1;
@@ -146,13 +230,16 @@ answered-fine m b after x n result payload fresh grown keeps (numbered says) (by
       live = ap (λ k. connection_of k m.before.bus) own.2 ∙ fresh.live;
       replied = λ clean. record {
         sent = payload;
-        said = subst (λ s. IsIn (entry.Replied (Some n) (end_of (other_side s) x.connection) (end_of s x.connection) result
-            (message_size payload) (spelling (response own.0.label own.0.kind result payload))) m.told) (sym own.3) own.4;
+        said = subst (λ s. IsIn (entry.Replied (Some n) (end_of (other_side s) x.connection)
+            (end_of s x.connection) result
+            (message_size payload) (spelling (response own.0.label own.0.kind result payload)))
+            m.told) (sym own.3) own.4;
         same = λ zero_result. sym (ap (λ k. cond (k == 0) payload []) zero_result);
       };
     }
 
-sent-fine : (m : Moment) (b : Bus) (d : Draft) (c : Connection) (label : ℕ) (old : Bus) → Each (IsFine m b) (asked_told d c label old)
+sent-fine : (m : Moment) (b : Bus) (d : Draft) (c : Connection) (label : ℕ) (old : Bus)
+    → Each (IsFine m b) (asked_told d c label old)
 sent-fine m b d c label old = (tt, by d.oneway)
   where
     by : (t : Bool) → Each (IsFine m b) (sent_told t (next_number old))
@@ -167,51 +254,75 @@ given_up-fine m s b n outcome.Disconnected cause = tt
 given_up-fine m s b n outcome.Sent cause = tt
 given_up-fine m s b n (outcome.Answered result payload) cause = absurd cause
 
-so-far-kept : (m : Moment) (start : OwnAt m.told m.before) (a : Point) (x : Change m a) → IsSoFar m a → IsSoFar m (changed m a x)
-so-far-kept m start a (tells e quiet) h = so-far m a (tells e quiet) (e ∷ []) refl (quiet-fine m a.state.bus e (silent-quiet e quiet), tt) h.hand h
+so-far-kept : (m : Moment) (start : OwnAt m.told m.before) (a : Point) (x : Change m a)
+    → IsSoFar m a → IsSoFar m (changed m a x)
+so-far-kept m start a (tells e quiet) h = so-far m a (tells e quiet) (e ∷ []) refl
+    (quiet-fine m a.state.bus e (silent-quiet e quiet), tt) h.hand h
 so-far-kept m start a (asks d c label free live drawn who) h =
-    so-far m a (asks d c label free live drawn who) (asked_told d c label a.state.bus) refl (sent-fine m _ d c label a.state.bus) h.hand h
+    so-far m a (asks d c label free live drawn who) (asked_told d c label a.state.bus) refl
+    (sent-fine m _ d c label a.state.bus) h.hand h
 so-far-kept m start a (names name d c label free live drawn host) h =
-    so-far m a (names name d c label free live drawn host) (asked_told d c label a.state.bus) refl (sent-fine m _ d c label a.state.bus) h.hand h
+    so-far m a (names name d c label free live drawn host) (asked_told d c label a.state.bus) refl
+    (sent-fine m _ d c label a.state.bus) h.hand h
 so-far-kept m start a (takes at p item free is event_is named front) h =
     so-far m a (takes at p item free is event_is named front) [] refl tt
-    (λ y e. subst (IsFresh m) (same-some (record { connection = p.connection; side = p.side; item = item }) y e) fresh) h
+    (λ y e. subst (IsFresh m) (same-some
+    (record { connection = p.connection; side = p.side; item = item }) y e) fresh) h
   where
     fresh : IsFresh m (record { connection = p.connection; side = p.side; item = item })
     fresh = let place = place-is at m.before.bus.connections p named in record {
-      live = found-by_number m.before.bus.connections p.connection start.0.bus.numbers.rise place.live;
-      own = start.1.waiting p.connection p.side item place.live (first-in (queue p.side p.connection) item front);
+      live = found-by_number m.before.bus.connections p.connection start.0.bus.numbers.rise
+          place.live;
+      own = start.1.waiting p.connection p.side item place.live
+          (first-in (queue p.side p.connection) item front);
     }
 so-far-kept m start a (takes_held i c place p x free is event_is at held) h =
     so-far m a (takes_held i c place p x free is event_is at held) [] refl tt
-    (λ y e. subst (IsFresh m) (same-some (record { connection = p.connection; side = p.side; item = x.item }) y e) fresh) h
+    (λ y e. subst (IsFresh m) (same-some
+    (record { connection = p.connection; side = p.side; item = x.item }) y e) fresh) h
   where
     fresh : IsFresh m (record { connection = p.connection; side = p.side; item = x.item })
     fresh =
         let q = place-is (end.Module i c) m.before.bus.connections p at in
         let on = held-at p.connection.number place m.before.held x held in record {
-          live = found-by_number m.before.bus.connections p.connection start.0.bus.numbers.rise q.live;
-          own = subst (λ s. IsOwnItem m.told m.before.bus p.connection s x.item) (sym (module-far i c p.side p.connection q.is))
-              (start.1.hanging p.connection (loose_held x) q.live (map-held-in x m.before.held on.0) (sym on.1));
+          live = found-by_number m.before.bus.connections p.connection start.0.bus.numbers.rise
+              q.live;
+          own = subst (λ s. IsOwnItem m.told m.before.bus p.connection s x.item)
+              (sym (module-far i c p.side p.connection q.is))
+              (start.1.hanging p.connection (loose_held x) q.live (map-held-in x m.before.held on.0)
+              (sym on.1));
         }
-so-far-kept m start a drops h = so-far m a drops [] (sym (append-nil a.told)) tt (λ y e. absurd (none-some y e)) h
-so-far-kept m start a (holds x is far) h = so-far m a (holds x is far) [] refl tt (λ y e. absurd (none-some y e)) h
+so-far-kept m start a drops h =
+    so-far m a drops [] (sym (append-nil a.told)) tt (λ y e. absurd (none-some y e)) h
+so-far-kept m start a (holds x is far) h =
+    so-far m a (holds x is far) [] refl tt (λ y e. absurd (none-some y e)) h
 so-far-kept m start a (replies x q r is made twoway) h =
-    so-far m a (replies x q r is made twoway) (_ ∷ []) refl (tt, tt) (λ y e. absurd (none-some y e)) h
+    so-far m a (replies x q r is made twoway) (_ ∷ []) refl (tt, tt) (λ y e. absurd (none-some y e))
+    h
 so-far-kept m start a (answers x n result payload is says which) h =
-    so-far m a (answers x n result payload is says which) (_ ∷ []) refl
-    (answered-fine m a.state.bus _ x n result payload (h.hand x is) h.grown (λ k r made. made) says which, tt) (λ y e. absurd (none-some y e)) h
-so-far-kept m start a (forgets x n is which) h = so-far m a (forgets x n is which) [] refl tt (λ y e. absurd (none-some y e)) h
+    so-far m a (answers x n result payload is says which) (_ ∷ []) refl (
+      answered-fine m a.state.bus _ x n result payload (h.hand x is) h.grown (λ k r made. made) says
+          which,
+      tt,
+    ) (λ y e. absurd (none-some y e)) h
+so-far-kept m start a (forgets x n is which) h =
+    so-far m a (forgets x n is which) [] refl tt (λ y e. absurd (none-some y e)) h
 so-far-kept m start a (gives_up n how free open_ cause) h =
-    so-far m a (gives_up n how free open_ cause) (_ ∷ []) refl (given_up-fine m a.state _ n how cause, tt) h.hand h
+    so-far m a (gives_up n how free open_ cause) (_ ∷ []) refl
+    (given_up-fine m a.state _ n how cause, tt) h.hand h
 so-far-kept m start a (unwires k free before live) h =
-    so-far m a (unwires k free before live) _ refl (ended-fine m _ (open_on k side.Far a.state.bus)) h.hand h
-so-far-kept m start a (injects i c p bytes free named) h = so-far m a (injects i c p bytes free named) (_ ∷ []) refl (tt, tt) h.hand h
+    so-far m a (unwires k free before live) _ refl (ended-fine m _ (open_on k side.Far a.state.bus))
+    h.hand h
+so-far-kept m start a (injects i c p bytes free named) h =
+    so-far m a (injects i c p bytes free named) (_ ∷ []) refl (tt, tt) h.hand h
 so-far-kept m start a (acts_told e rest is quiet) h =
-    so-far m a (acts_told e rest is quiet) (e ∷ []) refl (quiet-fine m a.state.bus e quiet, tt) h.hand h
+    so-far m a (acts_told e rest is quiet) (e ∷ []) refl (quiet-fine m a.state.bus e quiet, tt)
+    h.hand h
 so-far-kept m start a (acts_shut k rest free is cause) h =
-    so-far m a (acts_shut k rest free is cause) _ refl (ended-fine m _ (open_on k side.Ap a.state.bus)) h.hand h
-so-far-kept m start a (acts_opened w q rest free is) h = so-far m a (acts_opened w q rest free is) (_ ∷ []) refl (tt, tt) h.hand h
+    so-far m a (acts_shut k rest free is cause) _ refl
+    (ended-fine m _ (open_on k side.Ap a.state.bus)) h.hand h
+so-far-kept m start a (acts_opened w q rest free is) h =
+    so-far m a (acts_opened w q rest free is) (_ ∷ []) refl (tt, tt) h.hand h
 so-far-kept m start a (acts_failed q rest is quiet) h =
     so-far m a (acts_failed q rest is quiet) _ refl (quiet-all-fine m _ _ quiet) h.hand h
 so-far-kept m start a x h =
@@ -248,16 +359,19 @@ had-reply m one start n result payload read r i made =
     let h = end_law.1.1 in
     let fine : WasAnswered m (after m).bus n result payload =
     each-in (IsFine m (after m).bus) h.new (entry.Ended n (outcome.Answered result payload) read)
-    h.fine (subst (IsIn (entry.Ended n (outcome.Answered result payload) read)) (same-rest m.told (told_at m) h.new h.told) i) in
+    h.fine (subst (IsIn (entry.Ended n (outcome.Answered result payload) read))
+    (same-rest m.told (told_at m) h.new h.told) i) in
     by fine
   where
     by : WasAnswered m (after m).bus n result payload
-        → (c : Connection) × (connection_of r.connection m.before.bus ≡ Some c) × (c.clean ≡ true → WasReplied m.told c n r result payload)
+        → (c : Connection) × (connection_of r.connection m.before.bus ≡ Some c)
+        × (c.clean ≡ true → WasReplied m.told c n r result payload)
     by fine =
         let same = same-some fine.request r (sym fine.made ∙ made) in (
           fine.connection,
           ap (λ (q : Request). connection_of q.connection m.before.bus) (sym same) ∙ fine.live,
-          λ clean. subst (λ q. WasReplied m.told fine.connection n q result payload) same (fine.replied clean),
+          λ clean. subst (λ q. WasReplied m.told fine.connection n q result payload) same
+              (fine.replied clean),
         )
 
 -- On a clean connection a request is answered by what its own responder replied.

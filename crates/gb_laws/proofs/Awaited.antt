@@ -38,7 +38,9 @@ awaited-rest p n s = by (is_for_connection p.step) (link_at p.intf p.cport (awai
       holds = refl;
     }
 
-    by : (t : Bool) (o : Option Link) → SameRest s (cond t (made_for n o (record s { host = awaits p n s.host })) (record s { host = awaits p n s.host }))
+    by : (t : Bool) (o : Option Link)
+        → SameRest s (cond t (made_for n o (record s { host = awaits p n s.host }))
+        (record s { host = awaits p n s.host }))
     by true o = made o
     by false o = record {
       bus = refl;

@@ -1,6 +1,25 @@
 -- Each turn of the application processor closes the side of a connection before it gives that up,
 -- or gives up one that was closing.
-use Rattle.std.proofs.Common.{◌≡◌, ◌⊎◌, ℕ, Option, Some, None, List, [], ◌∷◌, ◌++◌, refl, sym, ap, ◌∙◌, inl, inr, ⊎_elim, subst}
+use Rattle.std.proofs.Common.{
+  ◌≡◌,
+  ◌⊎◌,
+  ℕ,
+  Option,
+  Some,
+  None,
+  List,
+  [],
+  ◌∷◌,
+  ◌++◌,
+  refl,
+  sym,
+  ap,
+  ◌∙◌,
+  inl,
+  inr,
+  ⊎_elim,
+  subst,
+}
 use Rattle.std.specs.Prelude.{◌==◌, option_and_then}
 use Rattle.gb_base.specs.declared.entry.ConnState.TheVariants as state
 use Rattle.gb_base.specs.declared.entry.Entry.{Entry}
@@ -13,13 +32,49 @@ use Rattle.gb_base.specs.declared.steps.SequenceStep.TheVariants as steps
 use Rattle.gb_formats.specs.Manifest.{CportView}
 use Rattle.gb_invariants.proofs.Awaiting.{same-some}
 use Rattle.gb_invariants.proofs.Lists.{found-in, in-without}
-use Rattle.gb_laws.proofs.Closings.{IsClosing, LeavesOpen, TurnCloses, closes-answered, closes-asked, closes-host, closes-telling, closes-through, fewer-links, fewer-waiting, fewer-without}
+use Rattle.gb_laws.proofs.Closings.{
+  IsClosing,
+  LeavesOpen,
+  TurnCloses,
+  closes-answered,
+  closes-asked,
+  closes-host,
+  closes-telling,
+  closes-through,
+  fewer-links,
+  fewer-waiting,
+  fewer-without,
+}
 use Rattle.gb_laws.proofs.LinkLists.{in-first}
 use Rattle.gb_laws.proofs.LinkTurns.{resumed, waits-for}
 use Rattle.gb_laws.proofs.Links.{HostFits, IsDue}
 use Rattle.gb_machine.specs.Bus.{Bus}
-use Rattle.gb_machine.specs.Host.{Host, cport_of, free_cport, in_state, interface_of, is_link, link_at, with_link, with_new_interface}
-use Rattle.gb_machine.specs.HostTurns.{connects, connects_on, disconnects, ended_for, host_connects, host_disconnects, host_ended, host_inserted, host_removed, host_turn, links_left, links_of, without_interface}
+use Rattle.gb_machine.specs.Host.{
+  Host,
+  cport_of,
+  free_cport,
+  in_state,
+  interface_of,
+  is_link,
+  link_at,
+  with_link,
+  with_new_interface,
+}
+use Rattle.gb_machine.specs.HostTurns.{
+  connects,
+  connects_on,
+  disconnects,
+  ended_for,
+  host_connects,
+  host_disconnects,
+  host_ended,
+  host_inserted,
+  host_removed,
+  host_turn,
+  links_left,
+  links_of,
+  without_interface,
+}
 use Rattle.gb_machine.specs.SequenceSteps.{purpose}
 use Rattle.gb_machine.specs.Sequences.{payload_in, step_asked}
 use Rattle.gb_machine.specs.Turns.{Act, HostEvent}

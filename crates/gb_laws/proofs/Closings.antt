@@ -1,6 +1,31 @@
 -- What turns of the application processor make of connections that are closing, and which
 -- connections they give up.
-use Rattle.std.proofs.Common.{◌≡◌, ◌≢◌, ◌⊎◌, ℕ, Bool, true, false, cond, Option, Some, None, List, [], ◌∷◌, length, map, refl, sym, ap, ◌∙◌, inl, inr, ⊎_elim, subst}
+use Rattle.std.proofs.Common.{
+  ◌≡◌,
+  ◌≢◌,
+  ◌⊎◌,
+  ℕ,
+  Bool,
+  true,
+  false,
+  cond,
+  Option,
+  Some,
+  None,
+  List,
+  [],
+  ◌∷◌,
+  length,
+  map,
+  refl,
+  sym,
+  ap,
+  ◌∙◌,
+  inl,
+  inr,
+  ⊎_elim,
+  subst,
+}
 use Rattle.std.specs.Prelude.{Result, Ok, Err, ◌==◌}
 use Rattle.gb_base.specs.declared.entry.ConnState.{ConnState}
 use Rattle.gb_base.specs.declared.entry.ConnState.TheVariants as state
@@ -15,11 +40,45 @@ use Rattle.gb_formats.specs.Manifest.{Manifest, check_answer}
 use Rattle.gb_formats.specs.ManifestRules.{Refused}
 use Rattle.gb_invariants.proofs.Lists.{in-without}
 use Rattle.gb_laws.proofs.LinkLists.{in-first}
-use Rattle.gb_machine.specs.Failures.{interface_fails, link_fails, link_told, step_fails, unsent_fails}
-use Rattle.gb_machine.specs.Host.{Host, free_cport, free_device, in_state, interface_of, is_link, link_at, with_interface, with_link, without_link}
+use Rattle.gb_machine.specs.Failures.{
+  interface_fails,
+  link_fails,
+  link_told,
+  step_fails,
+  unsent_fails,
+}
+use Rattle.gb_machine.specs.Host.{
+  Host,
+  free_cport,
+  free_device,
+  in_state,
+  interface_of,
+  is_link,
+  link_at,
+  with_interface,
+  with_link,
+  without_link,
+}
 use Rattle.gb_machine.specs.Members.{IsIn}
 use Rattle.gb_machine.specs.SequenceSteps.{at_step, is_enumeration, is_reply}
-use Rattle.gb_machine.specs.Sequences.{asked_on, begins_control, begins_device, enumerated, link_left, link_turn, manifest_checked, manifest_told, opened, opened_told, size_in, size_known, step_answered, step_asked, step_done, way_of}
+use Rattle.gb_machine.specs.Sequences.{
+  asked_on,
+  begins_control,
+  begins_device,
+  enumerated,
+  link_left,
+  link_turn,
+  manifest_checked,
+  manifest_told,
+  opened,
+  opened_told,
+  size_in,
+  size_known,
+  step_answered,
+  step_asked,
+  step_done,
+  way_of,
+}
 use Rattle.gb_machine.specs.Turns.{Act, Turn, failed_turn}
 use Rattle.gb_machine.specs.Waits.{waiting}
 

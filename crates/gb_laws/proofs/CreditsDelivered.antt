@@ -1,5 +1,29 @@
 -- What a delivery makes of the credits of connections: those that come back are told.
-use Rattle.std.proofs.Common.{◌≡◌, ◌≤◌, ◌⊎◌, ℕ, ◌+◌, Bool, true, false, cond, Option, Some, None, List, [], ◌∷◌, refl, sym, ap, ◌∙◌, inl, inr, subst, arith}
+use Rattle.std.proofs.Common.{
+  ◌≡◌,
+  ◌≤◌,
+  ◌⊎◌,
+  ℕ,
+  ◌+◌,
+  Bool,
+  true,
+  false,
+  cond,
+  Option,
+  Some,
+  None,
+  List,
+  [],
+  ◌∷◌,
+  refl,
+  sym,
+  ap,
+  ◌∙◌,
+  inl,
+  inr,
+  subst,
+  arith,
+}
 use Rattle.std.specs.Prelude.{◌==◌}
 use Rattle.std.specs.List.{find, list_any}
 use Rattle.gb_base.specs.declared.end.End.{End}
@@ -17,8 +41,28 @@ use Rattle.gb_invariants.proofs.Lists.{found-in}
 use Rattle.gb_invariants.proofs.Outcomes.{is-same, same-number}
 use Rattle.gb_laws.proofs.Absent.{far-end}
 use Rattle.gb_laws.proofs.CreditsLines.{Moved, in-linked, old, other-number}
-use Rattle.gb_laws.proofs.CreditsMoved.{back-far, back-untold, count-read, if-zero, plain-host, popped-request, sent-other, stayed}
-use Rattle.gb_laws.proofs.CreditsServed.{IsPlainly, DoesAs, HandlesAs, UartServed, comes_back, drops_it, handles-does, nothing_back, takes_it, uart-served}
+use Rattle.gb_laws.proofs.CreditsMoved.{
+  back-far,
+  back-untold,
+  count-read,
+  if-zero,
+  plain-host,
+  popped-request,
+  sent-other,
+  stayed,
+}
+use Rattle.gb_laws.proofs.CreditsServed.{
+  IsPlainly,
+  DoesAs,
+  HandlesAs,
+  UartServed,
+  comes_back,
+  drops_it,
+  handles-does,
+  nothing_back,
+  takes_it,
+  uart-served,
+}
 use Rattle.gb_laws.proofs.LinkBuses.{Linked}
 use Rattle.gb_laws.proofs.LinkHosts.{same-link}
 use Rattle.gb_laws.proofs.LinkLists.{found-at, found-link}
@@ -39,7 +83,15 @@ use Rattle.gb_machine.specs.Events.{decided, step}
 use Rattle.gb_machine.specs.Host.{Host, is_link, link_of, with_link}
 use Rattle.gb_machine.specs.HostServing.{host_serves, served_on, with_credits}
 use Rattle.gb_machine.specs.Incoming.{Incoming, request_in}
-use Rattle.gb_machine.specs.LawsCredits.{bytes_sent, count_at, count_in, count_of, count_on, credits_back, is_credits}
+use Rattle.gb_machine.specs.LawsCredits.{
+  bytes_sent,
+  count_at,
+  count_in,
+  count_of,
+  count_on,
+  credits_back,
+  is_credits,
+}
 use Rattle.gb_machine.specs.Lists.{first}
 use Rattle.gb_machine.specs.Members.{IsIn}
 use Rattle.gb_machine.specs.Refusals.{refusal}

@@ -11,9 +11,30 @@ use Rattle.gb_laws.proofs.Basics.{basis-kept}
 use Rattle.gb_laws.proofs.LinkActs.{awaited-host}
 use Rattle.gb_laws.proofs.LinkBuses.{new_link}
 use Rattle.gb_laws.proofs.LinkHosts.{then-same}
-use Rattle.gb_laws.proofs.LinkSources.{CameFrom, LinksFrom, from-links, from-turn, from-unsent, from-waiting}
+use Rattle.gb_laws.proofs.LinkSources.{
+  CameFrom,
+  LinksFrom,
+  from-links,
+  from-turn,
+  from-unsent,
+  from-waiting,
+}
 use Rattle.gb_laws.proofs.PointParts.{Basis, IsServed, Point}
-use Rattle.gb_laws.proofs.Points.{Change, IsBridge, Law, acts_asked, acts_failed, acts_opened, answers, changed, serves, spends, takes, turns, unwires}
+use Rattle.gb_laws.proofs.Points.{
+  Change,
+  IsBridge,
+  Law,
+  acts_asked,
+  acts_failed,
+  acts_opened,
+  answers,
+  changed,
+  serves,
+  spends,
+  takes,
+  turns,
+  unwires,
+}
 use Rattle.gb_machine.specs.Bus.{Bus}
 use Rattle.gb_machine.specs.Failures.{unsent}
 use Rattle.gb_machine.specs.Host.{Host, with_new_link}

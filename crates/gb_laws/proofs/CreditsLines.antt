@@ -1,5 +1,32 @@
 -- What a moment makes of the credits of a connection, and what a bridge line makes of them.
-use Rattle.std.proofs.Common.{◌≡◌, ◌≤◌, ◌<◌, ◌⊎◌, ℕ, ◌+◌, Bool, true, false, cond, Option, Some, None, List, [], ◌∷◌, ◌++◌, refl, sym, ap, ◌∙◌, inl, inr, ⊎_elim, subst, arith}
+use Rattle.std.proofs.Common.{
+  ◌≡◌,
+  ◌≤◌,
+  ◌<◌,
+  ◌⊎◌,
+  ℕ,
+  ◌+◌,
+  Bool,
+  true,
+  false,
+  cond,
+  Option,
+  Some,
+  None,
+  List,
+  [],
+  ◌∷◌,
+  ◌++◌,
+  refl,
+  sym,
+  ap,
+  ◌∙◌,
+  inl,
+  inr,
+  ⊎_elim,
+  subst,
+  arith,
+}
 use Rattle.std.proofs.lemmas.Bool.Decides.{nat_tests}
 use Rattle.std.specs.Prelude.{Ok, Err, ◌==◌, ◌-◌, ◌&&◌, ◌||◌, nat_le, not, is_none}
 use Rattle.std.specs.List.{find}
@@ -8,7 +35,15 @@ use Rattle.gb_base.specs.declared.end.Side.TheVariants as side
 use Rattle.gb_base.specs.declared.event.Event.TheVariants as event
 use Rattle.gb_base.specs.declared.name.Name.{Name}
 use Rattle.gb_base.specs.declared.peers.Link.{Link}
-use Rattle.gb_formats.specs.Bridges.{TooLarge, Unsupported, ask_protocol, ask_request, bridge_answer, credits_taken, is_too_large}
+use Rattle.gb_formats.specs.Bridges.{
+  TooLarge,
+  Unsupported,
+  ask_protocol,
+  ask_request,
+  bridge_answer,
+  credits_taken,
+  is_too_large,
+}
 use Rattle.gb_formats.specs.Grammar.{default_timeout}
 use Rattle.gb_formats.specs.UartDevice.{credits_spent, most_credits}
 use Rattle.gb_invariants.proofs.Awaiting.{not-both, same-some}

@@ -1,5 +1,21 @@
 -- What each moment makes of the credits of connections.
-use Rattle.std.proofs.Common.{◌≡◌, ℕ, Bool, true, false, cond, Some, List, refl, sym, ap, ◌∙◌, ⊎_elim, subst, arith}
+use Rattle.std.proofs.Common.{
+  ◌≡◌,
+  ℕ,
+  Bool,
+  true,
+  false,
+  cond,
+  Some,
+  List,
+  refl,
+  sym,
+  ap,
+  ◌∙◌,
+  ⊎_elim,
+  subst,
+  arith,
+}
 use Rattle.std.specs.Prelude.{Result, Ok, Err, ◌==◌, ◌&&◌, is_none}
 use Rattle.std.specs.List.{list_any}
 use Rattle.gb_base.specs.declared.end.End.{End}
@@ -12,9 +28,23 @@ use Rattle.gb_base.specs.declared.refusal.Refusal.{Refusal}
 use Rattle.gb_formats.specs.Bridges.{credits_taken}
 use Rattle.gb_formats.specs.GpioRecords.{GpioAsk, read_gpio_ask_of_module}
 use Rattle.gb_formats.specs.Records.{PayloadFault, read_far_ask, read_table, row_of}
-use Rattle.gb_formats.specs.UartRecords.{UartAsk, read_receive, read_send, read_uart_ask, read_uart_ask_of_module, uart_asks}
+use Rattle.gb_formats.specs.UartRecords.{
+  UartAsk,
+  read_receive,
+  read_send,
+  read_uart_ask,
+  read_uart_ask_of_module,
+  uart_asks,
+}
 use Rattle.gb_invariants.proofs.Outcomes.{same-number}
-use Rattle.gb_laws.proofs.CreditsKept.{IsCreditless, IsKept, credits-start, credits_law, new as newly, was}
+use Rattle.gb_laws.proofs.CreditsKept.{
+  IsCreditless,
+  IsKept,
+  credits-start,
+  credits_law,
+  new as newly,
+  was,
+}
 use Rattle.gb_laws.proofs.CreditsLines.{Moved, new, old}
 use Rattle.gb_laws.proofs.LinkHosts.{same-link}
 use Rattle.gb_laws.proofs.LinkRuns.{LinkedTo}
@@ -28,9 +58,23 @@ use Rattle.gb_machine.specs.Bus.{Ask, Bus, Item, Raw, RawReply, Reply, place_of}
 use Rattle.gb_machine.specs.Delivery.{popped}
 use Rattle.gb_machine.specs.Events.{decided}
 use Rattle.gb_machine.specs.Host.{Host, link_at}
-use Rattle.gb_machine.specs.HostServing.{HostServed, host_refuses, interrupted, served_on, serves_gpio, serves_uart}
+use Rattle.gb_machine.specs.HostServing.{
+  HostServed,
+  host_refuses,
+  interrupted,
+  served_on,
+  serves_gpio,
+  serves_uart,
+}
 use Rattle.gb_machine.specs.Incoming.{request_in}
-use Rattle.gb_machine.specs.LawsCredits.{bytes_sent, count_in, count_on, credits_back, is_credits, is_numbered}
+use Rattle.gb_machine.specs.LawsCredits.{
+  bytes_sent,
+  count_in,
+  count_on,
+  credits_back,
+  is_credits,
+  is_numbered,
+}
 use Rattle.gb_machine.specs.Members.{IsIn}
 use Rattle.gb_machine.specs.Refusals.{refusal}
 use Rattle.gb_machine.specs.Runs.{IsMoment, Moment, after, told_at}

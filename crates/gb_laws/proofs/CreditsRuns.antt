@@ -1,5 +1,28 @@
 -- The credits of each connection to a UART add up over the moments of every run.
-use Rattle.std.proofs.Common.{◌≡◌, ◌≤◌, ◌<◌, ℕ, ◌+◌, Bool, true, false, cond, Option, Some, None, List, [], ◌∷◌, ◌++◌, refl, sym, ap, ◌∙◌, subst, arith}
+use Rattle.std.proofs.Common.{
+  ◌≡◌,
+  ◌≤◌,
+  ◌<◌,
+  ℕ,
+  ◌+◌,
+  Bool,
+  true,
+  false,
+  cond,
+  Option,
+  Some,
+  None,
+  List,
+  [],
+  ◌∷◌,
+  ◌++◌,
+  refl,
+  sym,
+  ap,
+  ◌∙◌,
+  subst,
+  arith,
+}
 use Rattle.std.proofs.lemmas.Bool.Decides.{nat_tests}
 use Rattle.std.specs.Prelude.{◌==◌, ◌&&◌, is_none}
 use Rattle.gb_base.specs.declared.end.End.TheVariants as end
@@ -24,11 +47,32 @@ use Rattle.gb_machine.proofs.Conditions.{waits}
 use Rattle.gb_machine.specs.Bus.{Place, place_of, queue}
 use Rattle.gb_machine.specs.Events.{last_state, step, trace_from}
 use Rattle.gb_machine.specs.Host.{is_link, link_at}
-use Rattle.gb_machine.specs.LawsCredits.{AddUp, CreditsAddUp, back_on, bytes_sent, count_at, count_on, credits_back, is_credits, is_numbered, sent_on}
+use Rattle.gb_machine.specs.LawsCredits.{
+  AddUp,
+  CreditsAddUp,
+  back_on,
+  bytes_sent,
+  count_at,
+  count_on,
+  credits_back,
+  is_credits,
+  is_numbered,
+  sent_on,
+}
 use Rattle.gb_machine.specs.Lists.{first}
 use Rattle.gb_machine.specs.Members.{IsIn}
 use Rattle.gb_machine.specs.Refusals.{refusal}
-use Rattle.gb_machine.specs.Runs.{AreMoments, IsMoment, Moment, after, moments_from, moments_in, state_by, told_at, unsettled}
+use Rattle.gb_machine.specs.Runs.{
+  AreMoments,
+  IsMoment,
+  Moment,
+  after,
+  moments_from,
+  moments_in,
+  state_by,
+  told_at,
+  unsettled,
+}
 use Rattle.gb_machine.specs.State.{State, first_state}
 use Rattle.std.specs.List.{list_any}
 

@@ -1,6 +1,25 @@
 -- What the application processor does where a request of a UART is delivered: its credits come
 -- back, and that is told, or nothing of its own changes.
-use Rattle.std.proofs.Common.{◌≡◌, ◌≤◌, ℕ, ◌+◌, Bool, true, false, cond, Option, Some, None, List, refl, sym, ap, ◌∙◌, subst, arith}
+use Rattle.std.proofs.Common.{
+  ◌≡◌,
+  ◌≤◌,
+  ℕ,
+  ◌+◌,
+  Bool,
+  true,
+  false,
+  cond,
+  Option,
+  Some,
+  None,
+  List,
+  refl,
+  sym,
+  ap,
+  ◌∙◌,
+  subst,
+  arith,
+}
 use Rattle.std.proofs.lemmas.Bool.Decides.{nat_tests}
 use Rattle.std.specs.Prelude.{Result, Ok, Err, ◌==◌, ◌||◌, nat_le, option_map}
 use Rattle.std.specs.List.{list_any}
@@ -17,12 +36,37 @@ use Rattle.gb_formats.specs.Wire.{raw_message}
 use Rattle.gb_invariants.proofs.Awaiting.{same-some}
 use Rattle.gb_machine.proofs.Opened.{machine_opened}
 use Rattle.gb_machine.specs.Actions.{Told, given, on_host, tell, ◌▸◌}
-use Rattle.gb_machine.specs.Arriving.{arrives, asked_at, by_label, dropped, handles, raw_taken, takes}
+use Rattle.gb_machine.specs.Arriving.{
+  arrives,
+  asked_at,
+  by_label,
+  dropped,
+  handles,
+  raw_taken,
+  takes,
+}
 use Rattle.gb_machine.specs.Bus.{Ask, Connection, Item, Raw, RawReply, Reply, Request, request_of}
 use Rattle.gb_machine.specs.Host.{Host, link_of, with_link}
 use Rattle.gb_machine.specs.HostActs.{notices}
-use Rattle.gb_machine.specs.HostServing.{HostServed, credited, host_refuses, host_serves, served_on, serves_gpio, serves_uart, uart_notified_by, with_credits}
-use Rattle.gb_machine.specs.Incoming.{Incoming, incoming, incoming_raw, is_request, raw_request, request_in}
+use Rattle.gb_machine.specs.HostServing.{
+  HostServed,
+  credited,
+  host_refuses,
+  host_serves,
+  served_on,
+  serves_gpio,
+  serves_uart,
+  uart_notified_by,
+  with_credits,
+}
+use Rattle.gb_machine.specs.Incoming.{
+  Incoming,
+  incoming,
+  incoming_raw,
+  is_request,
+  raw_request,
+  request_in,
+}
 use Rattle.gb_machine.specs.LawsCredits.{is_credits}
 use Rattle.gb_machine.specs.Responding.{host_served, replies, responds, serves_oneway}
 use Rattle.gb_machine.specs.Serving.{protocol_bad, success}

@@ -5,7 +5,14 @@ use Rattle.gb_base.specs.declared.end.Side.TheVariants as side
 use Rattle.gb_base.specs.declared.entry.Entry.{Entry}
 use Rattle.gb_invariants.proofs.Lists.{each-from, in-filter}
 use Rattle.gb_invariants.proofs.Outcomes.{same-number}
-use Rattle.gb_laws.proofs.Basics.{Based, basis-first, basis-kept, basis-throughout, none-waits, rested}
+use Rattle.gb_laws.proofs.Basics.{
+  Based,
+  basis-first,
+  basis-kept,
+  basis-throughout,
+  none-waits,
+  rested,
+}
 use Rattle.gb_laws.proofs.Loosening.{map-held-in}
 use Rattle.gb_laws.proofs.Owned.{own-kept}
 use Rattle.gb_laws.proofs.Owning.{OwnTold}
@@ -17,7 +24,12 @@ use Rattle.gb_machine.proofs.Conditions.{waits}
 use Rattle.gb_laws.proofs.Steps.{over-step}
 use Rattle.gb_machine.specs.Bus.{Connection, svc_connection}
 use Rattle.gb_machine.specs.Holding.{held_on, is_held_on}
-use Rattle.gb_machine.specs.LawsHotPlug.{HasOwnItems, HaveOwnItems, IsOwnItem, TakesFromItsConnection}
+use Rattle.gb_machine.specs.LawsHotPlug.{
+  HasOwnItems,
+  HaveOwnItems,
+  IsOwnItem,
+  TakesFromItsConnection,
+}
 use Rattle.gb_machine.specs.Members.{IsIn}
 use Rattle.gb_machine.specs.Refusals.{refusal}
 use Rattle.gb_machine.specs.Runs.{Moment}
@@ -41,24 +53,37 @@ own-first = record {
   opened = λ c i p live at. absurd (first-peer c live at);
 }
   where
-    first-peer : (c : Connection) → IsIn c (svc_connection ∷ []) → {i p : ℕ} → c.peer ≡ end.Module i p → ⊥
+    first-peer : (c : Connection) → IsIn c (svc_connection ∷ []) → {i p : ℕ}
+        → c.peer ≡ end.Module i p → ⊥
     first-peer c (inl e) at = let svc = sym (ap (λ (x : Connection). x.peer) e) ∙ at in absurd cc
     first-peer c (inr j) at = j
 
 pub own-throughout : HoldsByMoments OwnAt
 own-throughout = throughout OwnAt (basis-first, own-first)
-    (λ m one h. let r = over-step m (own_law m) one h in
-    (rested _ _ r.0 r.1.0, record { waiting = r.1.1.waiting; hanging = r.1.1.hanging; opened = r.1.1.opened }))
+    (λ m one h. let r = over-step m (own_law m) one h in (
+      rested _ _ r.0 r.1.0,
+      record {
+        waiting = r.1.1.waiting;
+        hanging = r.1.1.hanging;
+        opened =
+            r.1.1.opened;
+      },
+    ))
 
 -- Each item is of its own connection.
 pub own-items : HoldsByMoments HaveOwnItems
-own-items = weaker OwnAt HaveOwnItems (λ told s h. each-from (HasOwnItems told s) s.bus.connections (λ c live. record {
-  to_ap = each-from (IsOwnItem told s.bus c side.Ap) c.to_ap (λ item i. h.1.waiting c side.Ap item live i);
-  to_far = each-from (IsOwnItem told s.bus c side.Far) c.to_far (λ item i. h.1.waiting c side.Far item live i);
-  held = each-from (λ (x : Held). IsOwnItem told s.bus c side.Far x.item) (held_on c.number s.held) (λ x i.
-      let f = in-filter (is_held_on c.number) s.held x i in
-      h.1.hanging c (loose_held x) live (map-held-in x s.held f.0) (sym (same-number x.connection c.number f.1)));
-})) own-throughout
+own-items = weaker OwnAt HaveOwnItems
+    (λ told s h. each-from (HasOwnItems told s) s.bus.connections (λ c live. record {
+      to_ap = each-from (IsOwnItem told s.bus c side.Ap) c.to_ap
+          (λ item i. h.1.waiting c side.Ap item live i);
+      to_far = each-from (IsOwnItem told s.bus c side.Far) c.to_far
+          (λ item i. h.1.waiting c side.Far item live i);
+      held = each-from (λ (x : Held). IsOwnItem told s.bus c side.Far x.item) (held_on c.number s.held)
+          (λ x i.
+          let f = in-filter (is_held_on c.number) s.held x i in
+          h.1.hanging c (loose_held x) live (map-held-in x s.held f.0)
+          (sym (same-number x.connection c.number f.1)));
+    })) own-throughout
 
 -- A delivery takes its item from a connection that is live, wired and names the end.
 takes-own : (m : Moment) → TakesFromItsConnection m

@@ -1,5 +1,26 @@
 -- A law of points goes over the actions of the machine: the combinators, and asking.
-use Rattle.std.proofs.Common.{◌≡◌, ℕ, ◌+◌, Bool, true, false, Option, Some, None, List, [], ◌∷◌, ◌++◌, refl, sym, ap, ◌∙◌, subst, append_assoc, append-nil}
+use Rattle.std.proofs.Common.{
+  ◌≡◌,
+  ℕ,
+  ◌+◌,
+  Bool,
+  true,
+  false,
+  Option,
+  Some,
+  None,
+  List,
+  [],
+  ◌∷◌,
+  ◌++◌,
+  refl,
+  sym,
+  ap,
+  ◌∙◌,
+  subst,
+  append_assoc,
+  append-nil,
+}
 use Rattle.gb_base.specs.declared.bridge.Reading.TheVariants as reading
 use Rattle.gb_base.specs.declared.end.Side.TheVariants as side
 use Rattle.gb_base.specs.declared.served.OwnAsk.{OwnAsk}
@@ -28,45 +49,63 @@ use Rattle.gb_machine.specs.Turns.{Act}
 
 -- a live connection is to a module
 abbrev pub IsToModule : ℕ → Bus → Type 0
-IsToModule k b = (c : Connection) → connection_of k b ≡ Some c → (i : ℕ) × (p : ℕ) × (c.peer ≡ end.Module i p)
+IsToModule k b =
+    (c : Connection) → connection_of k b ≡ Some c → (i : ℕ) × (p : ℕ) × (c.peer ≡ end.Module i p)
 
 -- it is so still once a request was made there
-to-sent : (d : Draft) (label : ℕ) (b : Bus) → IsToModule d.connection b → IsToModule d.connection (sent d label b)
+to-sent : (d : Draft) (label : ℕ) (b : Bus) → IsToModule d.connection b
+    → IsToModule d.connection (sent d label b)
 to-sent d label b to c e = by (connection_of d.connection b) refl
   where
-    by : (o : Option Connection) → connection_of d.connection b ≡ o → (i : ℕ) × (p : ℕ) × (c.peer ≡ end.Module i p)
+    by : (o : Option Connection) → connection_of d.connection b ≡ o → (i : ℕ) × (p : ℕ)
+        × (c.peer ≡ end.Module i p)
     by None f = absurd (none-some (sym (changed None f) ∙ e))
       where
-        changed : (o : Option Connection) → connection_of d.connection b ≡ o → connection_of d.connection (sent d label b) ≡ option_map (asked_on d label b) o
-        changed o f = find-changed (has_number d.connection) (asked_on d label b) b.connections (λ x. ap (λ n. n == d.connection) (asked_on-number d label b x))
+        changed : (o : Option Connection) → connection_of d.connection b ≡ o
+            → connection_of d.connection (sent d label b) ≡ option_map (asked_on d label b) o
+        changed o f = find-changed (has_number d.connection) (asked_on d label b) b.connections
+            (λ x. ap (λ n. n == d.connection) (asked_on-number d label b x))
             ∙ ap (option_map (asked_on d label b)) f
 
         none-some : None ≡ Some c → ⊥
         none-some h = absurd cc
     by (Some x) f =
         let p = to x f in
-        let is = same-some (asked_on d label b x) c (sym (find-changed (has_number d.connection) (asked_on d label b) b.connections
-        (λ x. ap (λ n. n == d.connection) (asked_on-number d label b x)) ∙ ap (option_map (asked_on d label b)) f) ∙ e) in
-        (p.0, p.1, sym (ap (λ (y : Connection). y.peer) is) ∙ (asked_on-self d label b x).peer ∙ p.2)
+        let is = same-some (asked_on d label b x) c
+        (sym (find-changed (has_number d.connection) (asked_on d label b) b.connections
+        (λ x. ap (λ n. n == d.connection) (asked_on-number d label b x))
+        ∙ ap (option_map (asked_on d label b)) f) ∙ e) in (
+          p.0,
+          p.1,
+          sym (ap (λ (y : Connection). y.peer) is) ∙ (asked_on-self d label b x).peer
+              ∙ p.2,
+        )
 
-to-asked : (k : ℕ) (x : OwnAsk) (s : State) → IsToModule k s.bus → IsToModule k (far_asks k x s).state.bus
+to-asked : (k : ℕ) (x : OwnAsk) (s : State) → IsToModule k s.bus
+    → IsToModule k (far_asks k x s).state.bus
 unfolding machine_opened
 to-asked k x s to = wired (is_wired (connection_of k s.bus))
   where
     d : Draft
     d = draft k side.Far x.kind x.payload (s.now + default_timeout) x.oneway
 
-    oneway : (t : Bool) (n : ℕ) (w : State) → IsToModule k w.bus → IsToModule k (when t (tell (entry.Ended n outcome.Sent reading.Nothing)) w).state.bus
+    oneway : (t : Bool) (n : ℕ) (w : State) → IsToModule k w.bus
+        → IsToModule k (when t (tell (entry.Ended n outcome.Sent reading.Nothing)) w).state.bus
     oneway true n w h = h
     oneway false n w h = h
 
     by : (o : Option Connection) (l : Option ℕ)
-        → IsToModule k (given o (λ c. given l (λ label. asks_with (draft k side.Far x.kind x.payload (s.now + default_timeout) x.oneway) c label)) s).state.bus
+        → IsToModule k (given o (λ c. given l
+        (λ label. asks_with (draft k side.Far x.kind x.payload (s.now + default_timeout) x.oneway) c
+        label)) s).state.bus
     by None l = to
     by (Some c) None = to
-    by (Some c) (Some label) = oneway x.oneway (next_number s.bus) (record s { bus = sent d label s.bus }) (to-sent d label s.bus to)
+    by (Some c) (Some label) = oneway x.oneway (next_number s.bus)
+        (record s { bus = sent d label s.bus }) (to-sent d label s.bus to)
 
-    wired : (t : Bool) → IsToModule k (when t (asking (draft k side.Far x.kind x.payload (s.now + default_timeout) x.oneway)) s).state.bus
+    wired : (t : Bool) → IsToModule k
+        (when t (asking (draft k side.Far x.kind x.payload (s.now + default_timeout) x.oneway))
+        s).state.bus
     wired true = by (connection_of k s.bus) (label_for d s.bus)
     wired false = to
 
@@ -84,15 +123,18 @@ module _ (m : Moment) (law : ActLaw m) where
       })
 
   -- an action leads from the law at a state to the law behind it
-  abbrev pub Goes : Option Hand → List Act → Wires → Option Hand → List Act → Wires → Action → State → Type 0
+  abbrev pub Goes : Option Hand → List Act → Wires → Option Hand → List Act → Wires → Action → State
+      → Type 0
   Goes hand acts wires hand2 acts2 wires2 f s =
-      (told : List Entry) → At hand acts wires told s → At hand2 acts2 wires2 (told ++ (f s).entries) (f s).state
+      (told : List Entry) → At hand acts wires told s
+      → At hand2 acts2 wires2 (told ++ (f s).entries) (f s).state
 
   -- an action that changes nothing that the law has beside what was told and the state
   abbrev pub Stays : Option Hand → List Act → Wires → Action → State → Type 0
   Stays hand acts wires f s = Goes hand acts wires hand acts wires f s
 
-  pub goes-▸ : (hand hand2 hand3 : Option Hand) (acts acts2 acts3 : List Act) (wires wires2 wires3 : Wires) (f g : Action) (s : State)
+  pub goes-▸ : (hand hand2 hand3 : Option Hand) (acts acts2 acts3 : List Act)
+      (wires wires2 wires3 : Wires) (f g : Action) (s : State)
       → Goes hand acts wires hand2 acts2 wires2 f s
       → Goes hand2 acts2 wires2 hand3 acts3 wires3 g (f s).state
       → Goes hand acts wires hand3 acts3 wires3 (f ▸ g) s
@@ -102,22 +144,29 @@ module _ (m : Moment) (law : ActLaw m) where
       (append_assoc told (f s).entries (g (f s).state).entries)
       (k (told ++ (f s).entries) (h told at))
 
-  pub goes-nothing : (hand : Option Hand) (acts : List Act) (wires : Wires) (s : State) → Stays hand acts wires nothing s
+  pub goes-nothing : (hand : Option Hand) (acts : List Act) (wires : Wires) (s : State)
+      → Stays hand acts wires nothing s
   unfolding machine_opened
-  goes-nothing hand acts wires s told at = subst (λ es. At hand acts wires es s) (sym (append-nil told)) at
+  goes-nothing hand acts wires s told at =
+      subst (λ es. At hand acts wires es s) (sym (append-nil told)) at
 
-  pub goes-tell : (hand : Option Hand) (acts : List Act) (wires : Wires) (e : Entry) (s : State) → is_silent e ≡ true → Stays hand acts wires (tell e) s
+  pub goes-tell : (hand : Option Hand) (acts : List Act) (wires : Wires) (e : Entry) (s : State)
+      → is_silent e ≡ true → Stays hand acts wires (tell e) s
   unfolding machine_opened
   goes-tell hand acts wires e s quiet told at = law.kept _ (tells e quiet) tt at
 
-  pub goes-tell_all : (hand : Option Hand) (acts : List Act) (wires : Wires) (es : List Entry) (s : State) → AreSilent es → Stays hand acts wires (tell_all es) s
+  pub goes-tell_all : (hand : Option Hand) (acts : List Act) (wires : Wires) (es : List Entry)
+      (s : State) → AreSilent es → Stays hand acts wires (tell_all es) s
   unfolding machine_opened
-  goes-tell_all hand acts wires [] s quiet told at = subst (λ es. At hand acts wires es s) (sym (append-nil told)) at
+  goes-tell_all hand acts wires [] s quiet told at =
+      subst (λ es. At hand acts wires es s) (sym (append-nil told)) at
   goes-tell_all hand acts wires (e ∷ es) s quiet told at =
       subst (λ all. At hand acts wires all s) (append_assoc told (e ∷ []) es)
-      (goes-tell_all hand acts wires es s quiet.1 (told ++ e ∷ []) (law.kept _ (tells e quiet.0) tt at))
+      (goes-tell_all hand acts wires es s quiet.1 (told ++ e ∷ [])
+      (law.kept _ (tells e quiet.0) tt at))
 
-  pub goes-when : (hand : Option Hand) (acts : List Act) (wires : Wires) (b : Bool) (f : Action) (s : State)
+  pub goes-when : (hand : Option Hand) (acts : List Act) (wires : Wires) (b : Bool) (f : Action)
+      (s : State)
       → (b ≡ true → Stays hand acts wires f s) → Stays hand acts wires (when b f) s
   unfolding machine_opened
   goes-when hand acts wires true f s h = h refl
@@ -130,35 +179,44 @@ module _ (m : Moment) (law : ActLaw m) where
       → IsFarAsking m s c d × (c.wired ≡ true))
       → Stays None acts wires (asking d) s
   unfolding machine_opened
-  goes-asks acts wires d s who told at = by (connection_of d.connection s.bus) refl (label_for d s.bus) refl
+  goes-asks acts wires d s who told at =
+      by (connection_of d.connection s.bus) refl (label_for d s.bus) refl
     where
-      oneway : (t : Bool) (w : State) (e : Entry) (n : ℕ) → At None acts wires (told ++ e ∷ sent_told t n) w
-          → At None acts wires (told ++ e ∷ (when t (tell (entry.Ended n outcome.Sent reading.Nothing)) w).entries)
+      oneway : (t : Bool) (w : State) (e : Entry) (n : ℕ)
+          → At None acts wires (told ++ e ∷ sent_told t n) w
+          → At None acts wires (told ++ e ∷ (when t
+          (tell (entry.Ended n outcome.Sent reading.Nothing)) w).entries)
           (when t (tell (entry.Ended n outcome.Sent reading.Nothing)) w).state
       oneway true w e n h = h
       oneway false w e n h = h
 
-      by : (o : Option Connection) → connection_of d.connection s.bus ≡ o → (l : Option ℕ) → label_for d s.bus ≡ l
-          → At None acts wires (told ++ (given o (λ c. given l (λ label. asks_with d c label)) s).entries)
+      by : (o : Option Connection) → connection_of d.connection s.bus ≡ o → (l : Option ℕ)
+          → label_for d s.bus ≡ l
+          → At None acts wires (told ++ (given o (λ c. given l (λ label. asks_with d c label))
+          s).entries)
           (given o (λ c. given l (λ label. asks_with d c label)) s).state
       by None e l f = goes-nothing None acts wires s told at
       by (Some c) e None f = goes-nothing None acts wires s told at
       by (Some c) e (Some label) f =
-          oneway d.oneway (record s { bus = sent d label s.bus }) (asked d c label s.bus) (next_number s.bus)
+          oneway d.oneway (record s { bus = sent d label s.bus }) (asked d c label s.bus)
+          (next_number s.bus)
           (law.kept _ (asks d c label refl e f (by_far (who c e).0 (who c e).1)) tt at)
 
   pub goes-far_asks : (acts : List Act) (wires : Wires) (k : ℕ) (own : OwnAsk) (s : State)
       → ((c : Connection) → connection_of k s.bus ≡ Some c → IsFarAsking m s c
-      (draft k side.Far own.kind own.payload (s.now + default_timeout) own.oneway)) → Stays None acts wires (far_asks k own) s
+      (draft k side.Far own.kind own.payload (s.now + default_timeout) own.oneway))
+      → Stays None acts wires (far_asks k own) s
   unfolding machine_opened
   goes-far_asks acts wires k own s who =
       goes-when None acts wires (is_wired (connection_of k s.bus))
       (asking (draft k side.Far own.kind own.payload (s.now + default_timeout) own.oneway)) s
-      (λ e. goes-asks acts wires (draft k side.Far own.kind own.payload (s.now + default_timeout) own.oneway) s
+      (λ e. goes-asks acts wires (draft k side.Far own.kind own.payload (s.now + default_timeout)
+      own.oneway) s
       (λ c f. (who c f, sym (ap is_wired f) ∙ e)))
 
   -- a module's requests, one after another
-  pub goes-far_asks_all : (acts : List Act) (wires : Wires) (k : ℕ) (own : List OwnAsk) (s : State) → IsToModule k s.bus
+  pub goes-far_asks_all : (acts : List Act) (wires : Wires) (k : ℕ) (own : List OwnAsk) (s : State)
+      → IsToModule k s.bus
       → Stays None acts wires (far_asks_all k own) s
   unfolding machine_opened
   goes-far_asks_all acts wires k [] s to = goes-nothing None acts wires s

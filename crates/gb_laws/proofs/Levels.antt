@@ -1,5 +1,25 @@
 -- What a step of the supervisory controller's table makes of power levels.
-use Rattle.std.proofs.Common.{◌≡◌, ◌≤◌, ℕ, Bool, true, false, cond, Option, Some, None, List, [], ◌∷◌, refl, sym, ap, ◌∙◌, subst, arith}
+use Rattle.std.proofs.Common.{
+  ◌≡◌,
+  ◌≤◌,
+  ℕ,
+  Bool,
+  true,
+  false,
+  cond,
+  Option,
+  Some,
+  None,
+  List,
+  [],
+  ◌∷◌,
+  refl,
+  sym,
+  ap,
+  ◌∙◌,
+  subst,
+  arith,
+}
 use Rattle.std.proofs.lemmas.Bool.Decides.{nat_tests}
 use Rattle.std.specs.Prelude.{Result, Ok, Err, ◌==◌, ◌+◌, ◌||◌, nat_le, nat_lt, not, option_map}
 use Rattle.gb_formats.specs.Records.{PayloadFault, Row, read_row, row_of, unless_own}
@@ -22,7 +42,17 @@ use Rattle.gb_machine.specs.Ports.{
 }
 use Rattle.gb_machine.specs.State.{Port}
 use Rattle.gb_machine.specs.SvcQueues.{enumerates}
-use Rattle.gb_machine.specs.SvcTable.{SvcStep, climbs, device_given, is_no_device, is_route, svc_asked, svc_read, svc_refuses, svc_step}
+use Rattle.gb_machine.specs.SvcTable.{
+  SvcStep,
+  climbs,
+  device_given,
+  is_no_device,
+  is_route,
+  svc_asked,
+  svc_read,
+  svc_refuses,
+  svc_step,
+}
 
 -- ---- one interface
 

@@ -1,6 +1,27 @@
 -- The facts of the application processor's connections go over its acts, and over what it serves.
 use Rattle.gb_base.specs.declared.end.End.TheVariants as end
-use Rattle.std.proofs.Common.{◌≡◌, ℕ, Bool, true, false, cond, Option, Some, None, List, [], ◌∷◌, map, refl, sym, ap, ◌∙◌, inl, inr, subst}
+use Rattle.std.proofs.Common.{
+  ◌≡◌,
+  ℕ,
+  Bool,
+  true,
+  false,
+  cond,
+  Option,
+  Some,
+  None,
+  List,
+  [],
+  ◌∷◌,
+  map,
+  refl,
+  sym,
+  ap,
+  ◌∙◌,
+  inl,
+  inr,
+  subst,
+}
 use Rattle.std.specs.Prelude.{Result, Ok, Err, ◌==◌}
 use Rattle.gb_base.specs.declared.entry.Entry.{Entry}
 use Rattle.gb_base.specs.declared.peers.Link.{Link}
@@ -17,16 +38,56 @@ use Rattle.gb_invariants.proofs.Lists.{found-in}
 use Rattle.gb_laws.proofs.Awaited.{awaited-rest}
 use Rattle.gb_laws.proofs.LinkBuses.{Linked}
 use Rattle.gb_laws.proofs.LinkLists.{link-is}
-use Rattle.gb_laws.proofs.LinkHosts.{Onto, onto-interface, onto-link, onto-same, Stay, host-interface, host-link, stay-changed}
+use Rattle.gb_laws.proofs.LinkHosts.{
+  Onto,
+  onto-interface,
+  onto-link,
+  onto-same,
+  Stay,
+  host-interface,
+  host-link,
+  stay-changed,
+}
 use Rattle.gb_laws.proofs.LinkSteps.{fits-failed, fits-interface_fails, fits-through}
 use Rattle.gb_invariants.proofs.Outcomes.{same-number}
-use Rattle.gb_laws.proofs.Links.{HasNoControl, is_early, HostFits, IsAtStep, IsDue, IsDueBy, IsFollowed, IsKnown, IsMaking, SameLink, TurnFits, connection, control, leaves, leaving, linked, stays, supervisory}
+use Rattle.gb_laws.proofs.Links.{
+  HasNoControl,
+  is_early,
+  HostFits,
+  IsAtStep,
+  IsDue,
+  IsDueBy,
+  IsFollowed,
+  IsKnown,
+  IsMaking,
+  SameLink,
+  TurnFits,
+  connection,
+  control,
+  leaves,
+  leaving,
+  linked,
+  stays,
+  supervisory,
+}
 use Rattle.gb_laws.proofs.Points.{IsAsking, SamePlugs, asking, opening}
 use Rattle.gb_machine.specs.Bus.{Bus, Connection}
 use Rattle.gb_machine.specs.Failures.{interface_fails, step_fails, unsent, unsent_fails}
 use Rattle.gb_machine.specs.Host.{Host, is_link, link_at, link_of, with_interface, with_link}
 use Rattle.gb_machine.specs.HostActs.{made_for, with_awaited}
-use Rattle.gb_machine.specs.HostServing.{HostServed, credited, host_refuses, host_serves, interrupted, notified_by, served_on, serves_gpio, serves_uart, uart_notified_by, with_credits}
+use Rattle.gb_machine.specs.HostServing.{
+  HostServed,
+  credited,
+  host_refuses,
+  host_serves,
+  interrupted,
+  notified_by,
+  served_on,
+  serves_gpio,
+  serves_uart,
+  uart_notified_by,
+  with_credits,
+}
 use Rattle.gb_machine.specs.Members.{IsIn}
 use Rattle.gb_machine.specs.SequenceSteps.{is_enumeration, is_for_connection}
 use Rattle.gb_machine.specs.State.{State}
@@ -35,7 +96,8 @@ use Rattle.gb_machine.specs.Waits.{awaits}
 
 -- ---- the application processor changes, and its connections stay
 
-known-stay : (c : Connection) (ls after : List Link) (acts : List Act) → Stay ls after → IsKnown c ls acts → IsKnown c after acts
+known-stay : (c : Connection) (ls after : List Link) (acts : List Act) → Stay ls after
+    → IsKnown c ls acts → IsKnown c after acts
 known-stay c ls after acts stay (supervisory e) = supervisory e
 known-stay c ls after acts stay (leaving i) = leaving i
 known-stay c ls after acts stay (linked l i of) = let s = stay l i in linked s.0 s.1 (record {
@@ -47,7 +109,8 @@ known-stay c ls after acts stay (linked l i of) = let s = stay l i in linked s.0
 })
 
 -- at rest
-pub linked-stay : (b : Bus) (h g : Host) → HostFits b g → Stay h.links g.links → Linked b h [] → Linked b g []
+pub linked-stay : (b : Bus) (h g : Host) → HostFits b g → Stay h.links g.links → Linked b h []
+    → Linked b g []
 linked-stay b h g fits stay f = record {
   host = fits;
   pending = tt;
@@ -57,7 +120,8 @@ linked-stay b h g fits stay f = record {
 }
 
 -- the last act is done, and it is none that gives up a connection
-linked-last : (b : Bus) (h : Host) (x : Act) (rest : List Act) → rest ≡ [] → ((k : ℕ) → Act.Leave k ≡ x → ⊥) → Linked b h (x ∷ rest) → Linked b h []
+linked-last : (b : Bus) (h : Host) (x : Act) (rest : List Act) → rest ≡ []
+    → ((k : ℕ) → Act.Leave k ≡ x → ⊥) → Linked b h (x ∷ rest) → Linked b h []
 linked-last b h x rest none other f = record {
   host = f.host;
   pending = tt;
@@ -75,7 +139,8 @@ linked-last b h x rest none other f = record {
 -- ---- a sequence waits
 
 -- a step's request was made
-pub awaits-fits : (b : Bus) (p : Purpose) (n : ℕ) (h : Host) → HostFits b h → IsDue p.step p h → HostFits b (awaits p n h) × Onto h (awaits p n h)
+pub awaits-fits : (b : Bus) (p : Purpose) (n : ℕ) (h : Host) → HostFits b h → IsDue p.step p h
+    → HostFits b (awaits p n h) × Onto h (awaits p n h)
 awaits-fits b p n h fits due = by (is_enumeration p.step) refl due
   where
     wait : ℕ × SequenceStep
@@ -91,7 +156,8 @@ awaits-fits b p n h fits due = by (is_enumeration p.step) refl due
           (λ x i at old w f. (
             ap (λ (y : ℕ × SequenceStep). is_enumeration y.1) (sym (same-some wait w f)) ∙ e,
             λ early. subst (λ k. HasNoControl k h.links) (sym (same-number x.intf p.intf at))
-                (next.none (ap (λ (y : ℕ × SequenceStep). is_early y.1) (same-some wait w f) ∙ early)),
+                (next.none (ap (λ (y : ℕ × SequenceStep). is_early y.1) (same-some wait w f)
+                ∙ early)),
           )) fits,
       onto-interface h p.intf (λ x. record x { awaits = Some (n, p.step) }) (λ x. refl),
     )
@@ -99,33 +165,47 @@ awaits-fits b p n h fits due = by (is_enumeration p.step) refl due
       host-link b h p.intf p.cport (λ l. record l { awaits = Some (n, p.step) })
           (λ l. record { connection = refl; ap = refl; intf = refl; cport = refl; protocol = refl })
           (λ l i found old w f. (
-            λ z. idle.cport (sym (link-is p.intf p.cport l (found-in (is_link p.intf p.cport) h.links l found).1).1 ∙ z),
-            subst (λ (y : ℕ × SequenceStep). IsAtStep y.1 l.state) (same-some wait w f) (idle.state l found),
+            λ z. idle.cport (sym (link-is p.intf p.cport l
+                (found-in (is_link p.intf p.cport) h.links l found).1).1 ∙ z),
+            subst (λ (y : ℕ × SequenceStep). IsAtStep y.1 l.state) (same-some wait w f)
+                (idle.state l found),
           ))
           (λ l i found d. record { cport = d.cport; takes = d.takes }) fits,
       onto-link h p.intf p.cport (λ l. record l { awaits = Some (n, p.step) })
-          (λ l. record { connection = refl; ap = refl; intf = refl; cport = refl; protocol = refl }),
+          (λ l. record {
+            connection = refl;
+            ap = refl;
+            intf = refl;
+            cport = refl;
+            protocol = refl;
+          }),
     )
 
 pub awaited-host : (p : Purpose) (n : ℕ) (s : State) → (with_awaited p n s).host ≡ awaits p n s.host
 awaited-host p n s = by (is_for_connection p.step) (link_at p.intf p.cport (awaits p n s.host))
   where
-    made : (o : Option Link) → (made_for n o (record s { host = awaits p n s.host })).host ≡ awaits p n s.host
+    made : (o : Option Link) → (made_for n o (record s { host = awaits p n s.host })).host ≡ awaits
+        p n s.host
     made None = refl
     made (Some l) = refl
 
     by : (t : Bool) (o : Option Link)
-        → (cond t (made_for n o (record s { host = awaits p n s.host })) (record s { host = awaits p n s.host })).host ≡ awaits p n s.host
+        → (cond t (made_for n o (record s { host = awaits p n s.host }))
+        (record s { host = awaits p n s.host })).host ≡ awaits p n s.host
     by true o = made o
     by false o = refl
 
-pub linked-asked : (q : Asking) (n : ℕ) (rest : List Act) (s : State) → Linked s.bus s.host (Act.Ask q ∷ rest)
+pub linked-asked : (q : Asking) (n : ℕ) (rest : List Act) (s : State)
+    → Linked s.bus s.host (Act.Ask q ∷ rest)
     → Linked (with_awaited q.purpose n s).bus (with_awaited q.purpose n s).host rest
 linked-asked q n rest s f =
     let w = awaits-fits s.bus q.purpose n s.host f.host f.pending.0.0 in
-    let done = linked-stay s.bus s.host (awaits q.purpose n s.host) w.0 w.1.stay (linked-last s.bus s.host (Act.Ask q) rest f.pending.0.1 (λ k e. absurd cc) f) in
-    subst (λ r. Linked (with_awaited q.purpose n s).bus (with_awaited q.purpose n s).host r) (sym f.pending.0.1)
-    (subst (λ b. Linked b (with_awaited q.purpose n s).host []) (sym (awaited-rest q.purpose n s).bus)
+    let done = linked-stay s.bus s.host (awaits q.purpose n s.host) w.0 w.1.stay
+    (linked-last s.bus s.host (Act.Ask q) rest f.pending.0.1 (λ k e. absurd cc) f) in
+    subst (λ r. Linked (with_awaited q.purpose n s).bus (with_awaited q.purpose n s).host r)
+    (sym f.pending.0.1)
+    (subst (λ b. Linked b (with_awaited q.purpose n s).host [])
+    (sym (awaited-rest q.purpose n s).bus)
     (subst (λ h. Linked s.bus h []) (sym (awaited-host q.purpose n s)) done))
 
 -- ---- a request can't be made
@@ -142,64 +222,90 @@ FailsWell b h f = HostFits b f.host × Onto h f.host
 failed-well : (b : Bus) (h : Host) (f : Failing) → TurnFits b h (failed_turn f) → FailsWell b h f
 failed-well b h f r = (r.host, record { stay = λ l i. by l (r.followed l i); kept = r.kept })
   where
-    by : (l : Link) → IsFollowed l f.host.links (map Act.Tell f.told) → (k : Link) × IsIn k f.host.links × SameLink l k
+    by : (l : Link) → IsFollowed l f.host.links (map Act.Tell f.told) → (k : Link)
+        × IsIn k f.host.links × SameLink l k
     by l (stays k i s) = (k, i, s)
     by l (leaves i) = absurd (none-leaves l.connection f.told i)
 
-pub unsent-due : (b : Bus) (step : SequenceStep) (p : Purpose) (h : Host) → HostFits b h → IsDue step p h → FailsWell b h (unsent_fails step p h)
-unsent-due b steps.CreateControl p h fits due = failed-well b h (interface_fails p h) (fits-interface_fails b p h fits)
+pub unsent-due : (b : Bus) (step : SequenceStep) (p : Purpose) (h : Host) → HostFits b h
+    → IsDue step p h → FailsWell b h (unsent_fails step p h)
+unsent-due b steps.CreateControl p h fits due =
+    failed-well b h (interface_fails p h) (fits-interface_fails b p h fits)
 unsent-due b steps.CreateConnection p h fits due = (fits, onto-same h)
 unsent-due b steps.GiveDevice p h fits due =
     let without_device = with_interface p.intf (λ x. record x { device = None }) h in
-    failed-well b h (interface_fails p without_device) (fits-through b h without_device (failed_turn (interface_fails p without_device)) (onto-interface h p.intf (λ x. record x { device = None }) (λ x. refl))
+    failed-well b h (interface_fails p without_device)
+    (fits-through b h without_device (failed_turn (interface_fails p without_device))
+    (onto-interface h p.intf (λ x. record x { device = None }) (λ x. refl))
     (fits-interface_fails b p without_device
-    (host-interface b p.intf (λ x. record x { device = None }) h (λ x. refl) (λ x i at e w k. e w k) fits)))
-unsent-due b steps.EnableVsys p h fits due = failed-well b h (step_fails steps.EnableVsys p h) (fits-failed b steps.EnableVsys p h fits due)
-unsent-due b steps.EnableRefclk p h fits due = failed-well b h (step_fails steps.EnableRefclk p h) (fits-failed b steps.EnableRefclk p h fits due)
-unsent-due b steps.EnableUnipro p h fits due = failed-well b h (step_fails steps.EnableUnipro p h) (fits-failed b steps.EnableUnipro p h fits due)
-unsent-due b steps.Activate p h fits due = failed-well b h (step_fails steps.Activate p h) (fits-failed b steps.Activate p h fits due)
-unsent-due b steps.CreateRoute p h fits due = failed-well b h (step_fails steps.CreateRoute p h) (fits-failed b steps.CreateRoute p h fits due)
-unsent-due b steps.AskVersion p h fits due = failed-well b h (step_fails steps.AskVersion p h) (fits-failed b steps.AskVersion p h fits due)
-unsent-due b steps.AskSize p h fits due = failed-well b h (step_fails steps.AskSize p h) (fits-failed b steps.AskSize p h fits due)
-unsent-due b steps.AskManifest p h fits due = failed-well b h (step_fails steps.AskManifest p h) (fits-failed b steps.AskManifest p h fits due)
-unsent-due b steps.TellConnected p h fits due = failed-well b h (step_fails steps.TellConnected p h) (fits-failed b steps.TellConnected p h fits due)
-unsent-due b steps.TellDisconnecting p h fits due = failed-well b h (step_fails steps.TellDisconnecting p h) (fits-failed b steps.TellDisconnecting p h fits due)
-unsent-due b steps.TellDisconnected p h fits due = failed-well b h (step_fails steps.TellDisconnected p h) (fits-failed b steps.TellDisconnected p h fits due)
-unsent-due b steps.DestroyConnection p h fits due = failed-well b h (step_fails steps.DestroyConnection p h) (fits-failed b steps.DestroyConnection p h fits due)
+    (host-interface b p.intf (λ x. record x { device = None }) h (λ x. refl) (λ x i at e w k. e w k)
+    fits)))
+unsent-due b steps.EnableVsys p h fits due =
+    failed-well b h (step_fails steps.EnableVsys p h) (fits-failed b steps.EnableVsys p h fits due)
+unsent-due b steps.EnableRefclk p h fits due = failed-well b h (step_fails steps.EnableRefclk p h)
+    (fits-failed b steps.EnableRefclk p h fits due)
+unsent-due b steps.EnableUnipro p h fits due = failed-well b h (step_fails steps.EnableUnipro p h)
+    (fits-failed b steps.EnableUnipro p h fits due)
+unsent-due b steps.Activate p h fits due =
+    failed-well b h (step_fails steps.Activate p h) (fits-failed b steps.Activate p h fits due)
+unsent-due b steps.CreateRoute p h fits due = failed-well b h (step_fails steps.CreateRoute p h)
+    (fits-failed b steps.CreateRoute p h fits due)
+unsent-due b steps.AskVersion p h fits due =
+    failed-well b h (step_fails steps.AskVersion p h) (fits-failed b steps.AskVersion p h fits due)
+unsent-due b steps.AskSize p h fits due =
+    failed-well b h (step_fails steps.AskSize p h) (fits-failed b steps.AskSize p h fits due)
+unsent-due b steps.AskManifest p h fits due = failed-well b h (step_fails steps.AskManifest p h)
+    (fits-failed b steps.AskManifest p h fits due)
+unsent-due b steps.TellConnected p h fits due = failed-well b h (step_fails steps.TellConnected p h)
+    (fits-failed b steps.TellConnected p h fits due)
+unsent-due b steps.TellDisconnecting p h fits due = failed-well b h
+    (step_fails steps.TellDisconnecting p h) (fits-failed b steps.TellDisconnecting p h fits due)
+unsent-due b steps.TellDisconnected p h fits due = failed-well b h
+    (step_fails steps.TellDisconnected p h) (fits-failed b steps.TellDisconnected p h fits due)
+unsent-due b steps.DestroyConnection p h fits due = failed-well b h
+    (step_fails steps.DestroyConnection p h) (fits-failed b steps.DestroyConnection p h fits due)
 
-pub unsent-making : (b : Bus) (w : Making) (step : SequenceStep) (p : Purpose) (h : Host) → HostFits b h → IsMaking w step → FailsWell b h (unsent_fails step p h)
-unsent-making b w step p h fits (control zero_cport) = failed-well b h (interface_fails p h) (fits-interface_fails b p h fits)
+pub unsent-making : (b : Bus) (w : Making) (step : SequenceStep) (p : Purpose) (h : Host)
+    → HostFits b h → IsMaking w step → FailsWell b h (unsent_fails step p h)
+unsent-making b w step p h fits (control zero_cport) =
+    failed-well b h (interface_fails p h) (fits-interface_fails b p h fits)
 unsent-making b w step p h fits (connection other) = (fits, onto-same h)
 
-pub linked-unsent : (q : Asking) (rest acts : List Act) (b : Bus) (h : Host) → IsAsking q acts rest → Linked b h acts → Linked b (unsent q.purpose h).host rest
+pub linked-unsent : (q : Asking) (rest acts : List Act) (b : Bus) (h : Host) → IsAsking q acts rest
+    → Linked b h acts → Linked b (unsent q.purpose h).host rest
 linked-unsent q rest acts b h (asking is) all =
     let f = subst (Linked b h) is all in
     let w = unsent-due b q.purpose.step q.purpose h f.host f.pending.0.0 in
     subst (Linked b (unsent q.purpose h).host) (sym f.pending.0.1)
-    (linked-stay b h (unsent q.purpose h).host w.0 w.1.stay (linked-last b h (Act.Ask q) rest f.pending.0.1 (λ k e. absurd cc) f))
+    (linked-stay b h (unsent q.purpose h).host w.0 w.1.stay
+    (linked-last b h (Act.Ask q) rest f.pending.0.1 (λ k e. absurd cc) f))
 linked-unsent q rest acts b h (opening v is) all =
     let f = subst (Linked b h) is all in
     let w = unsent-making b v q.purpose.step q.purpose h f.host f.pending.0.0.step in
     subst (Linked b (unsent q.purpose h).host) (sym f.pending.0.1)
-    (linked-stay b h (unsent q.purpose h).host w.0 w.1.stay (linked-last b h (Act.Open v q) rest f.pending.0.1 (λ k e. absurd cc) f))
+    (linked-stay b h (unsent q.purpose h).host w.0 w.1.stay
+    (linked-last b h (Act.Open v q) rest f.pending.0.1 (λ k e. absurd cc) f))
 
 -- ---- credits
 
 -- the credits of a connection change
-pub linked-link : (i c : ℕ) (credits : Link → ℕ) (b : Bus) (h : Host) → Linked b h [] → Linked b (with_link i c (λ l. record l { credits = credits l }) h) []
+pub linked-link : (i c : ℕ) (credits : Link → ℕ) (b : Bus) (h : Host) → Linked b h []
+    → Linked b (with_link i c (λ l. record l { credits = credits l }) h) []
 linked-link i c credits b h f =
     linked-stay b h (with_link i c (λ l. record l { credits = credits l }) h)
     (host-link b h i c (λ l. record l { credits = credits l })
     (λ l. record { connection = refl; ap = refl; intf = refl; cport = refl; protocol = refl })
     (λ l j found w v e. w v e) (λ l j found d. record { cport = d.cport; takes = d.takes }) f.host)
-    (stay-changed h.links i c (λ l. record l { credits = credits l }) (λ l. record { connection = refl; ap = refl; intf = refl; cport = refl; protocol = refl })) f
+    (stay-changed h.links i c (λ l. record l { credits = credits l })
+    (λ l. record { connection = refl; ap = refl; intf = refl; cport = refl; protocol = refl })) f
 
 -- how the application processor is once it served a request: as it was, but for credits
 pub data ServedHost (h : Host) (r : HostServed) : Type 0 where
   as_before : r.host ≡ h → ServedHost h r
   with_more : (i c total : ℕ) → r.host ≡ with_link i c (with_credits total) h → ServedHost h r
 
-host-if : (h : Host) (t : Bool) (x y : HostServed) → ServedHost h x → ServedHost h y → ServedHost h (cond t x y)
+host-if : (h : Host) (t : Bool) (x y : HostServed) → ServedHost h x → ServedHost h y
+    → ServedHost h (cond t x y)
 host-if h true x y p q = p
 host-if h false x y p q = q
 
@@ -211,7 +317,8 @@ host-svc h (Ok (SvcAsk.ProtocolVersion major minor)) = as_before refl
 host-svc h (Ok (SvcAsk.Hello endo intf)) = as_before refl
 host-svc h (Ok _) = as_before refl
 
-host-gpio : (h : Host) (l : Link) (r : Result GpioAsk PayloadFault) → ServedHost h (interrupted l r h)
+host-gpio : (h : Host) (l : Link) (r : Result GpioAsk PayloadFault)
+    → ServedHost h (interrupted l r h)
 host-gpio h l (Err fault) = as_before refl
 host-gpio h l (Ok (GpioAsk.IrqEvent which)) = as_before refl
 host-gpio h l (Ok _) = as_before refl
@@ -220,14 +327,16 @@ host-credits : (h : Host) (l : Link) (o : Option ℕ) → ServedHost h (credited
 host-credits h l None = as_before refl
 host-credits h l (Some total) = with_more l.intf l.cport total refl
 
-host-uart : (h : Host) (l : Link) (r : Result UartAsk PayloadFault) → ServedHost h (uart_notified_by l r h)
+host-uart : (h : Host) (l : Link) (r : Result UartAsk PayloadFault)
+    → ServedHost h (uart_notified_by l r h)
 host-uart h l (Err fault) = as_before refl
 host-uart h l (Ok (UartAsk.ReceiveData flags bytes)) = as_before refl
 host-uart h l (Ok (UartAsk.SerialState lines)) = as_before refl
 host-uart h l (Ok (UartAsk.ReceiveCredits count)) = host-credits h l (credits_added l.credits count)
 host-uart h l (Ok _) = as_before refl
 
-pub host-served : (k kind : ℕ) (payload : List ℕ) (h : Host) → ServedHost h (host_serves k kind payload h)
+pub host-served : (k kind : ℕ) (payload : List ℕ) (h : Host)
+    → ServedHost h (host_serves k kind payload h)
 host-served k kind payload h = by (link_of k h)
   where
     by : (o : Option Link) → ServedHost h (served_on o kind payload h)
@@ -239,24 +348,38 @@ host-served k kind payload h = by (link_of k h)
         (host-uart h l (read_uart_ask_of_module kind payload)) (as_before refl))
 
 -- a request is served
-pub linked-served : (k kind : ℕ) (payload : List ℕ) (b : Bus) (h : Host) → Linked b h [] → Linked b (host_serves k kind payload h).host []
+pub linked-served : (k kind : ℕ) (payload : List ℕ) (b : Bus) (h : Host) → Linked b h []
+    → Linked b (host_serves k kind payload h).host []
 linked-served k kind payload b h f = by (host-served k kind payload h)
   where
-    by : ServedHost h (host_serves k kind payload h) → Linked b (host_serves k kind payload h).host []
+    by : ServedHost h (host_serves k kind payload h)
+        → Linked b (host_serves k kind payload h).host []
     by (as_before e) = subst (λ g. Linked b g []) (sym e) f
-    by (with_more i c total e) = subst (λ g. Linked b g []) (sym e) (linked-link i c (λ l. total) b h f)
+    by (with_more i c total e) =
+        subst (λ g. Linked b g []) (sym e) (linked-link i c (λ l. total) b h f)
 
 -- what is plugged stays too
-pub awaited-plugs : (p : Purpose) (n : ℕ) (s : State) → SamePlugs s (with_awaited p n s).booted (with_awaited p n s).ports (with_awaited p n s).modules
+pub awaited-plugs : (p : Purpose) (n : ℕ) (s : State)
+    → SamePlugs s (with_awaited p n s).booted (with_awaited p n s).ports
+    (with_awaited p n s).modules
 awaited-plugs p n s = by (is_for_connection p.step) (link_at p.intf p.cport (awaits p n s.host))
   where
     same : SamePlugs s s.booted s.ports s.modules
-    same = record { started = refl; plugged = λ i. refl; powered = λ i e. e; differ = λ h. h; short = λ h. h }
+    same = record {
+      started = refl;
+      plugged = λ i. refl;
+      powered = λ i e. e;
+      differ = λ h. h;
+      short = λ h. h;
+    }
 
     by : (t : Bool) (o : Option Link)
-        → SamePlugs s (cond t (made_for n o (record s { host = awaits p n s.host })) (record s { host = awaits p n s.host })).booted
-        (cond t (made_for n o (record s { host = awaits p n s.host })) (record s { host = awaits p n s.host })).ports
-        (cond t (made_for n o (record s { host = awaits p n s.host })) (record s { host = awaits p n s.host })).modules
+        → SamePlugs s (cond t (made_for n o (record s { host = awaits p n s.host }))
+        (record s { host = awaits p n s.host })).booted
+        (cond t (made_for n o (record s { host = awaits p n s.host }))
+        (record s { host = awaits p n s.host })).ports
+        (cond t (made_for n o (record s { host = awaits p n s.host }))
+        (record s { host = awaits p n s.host })).modules
     by true None = same
     by true (Some l) = same
     by false o = same

@@ -1,5 +1,22 @@
 -- The facts of the application processor's connections go over a disconnect.
-use Rattle.std.proofs.Common.{◌≡◌, ◌≢◌, ℕ, false, Option, Some, None, List, [], ◌∷◌, refl, sym, ap, ◌∙◌, inr, subst}
+use Rattle.std.proofs.Common.{
+  ◌≡◌,
+  ◌≢◌,
+  ℕ,
+  false,
+  Option,
+  Some,
+  None,
+  List,
+  [],
+  ◌∷◌,
+  refl,
+  sym,
+  ap,
+  ◌∙◌,
+  inr,
+  subst,
+}
 use Rattle.std.specs.Prelude.{◌==◌, option_map}
 use Rattle.std.specs.List.{find}
 use Rattle.gb_base.specs.declared.steps.Purpose.{Purpose}
@@ -13,12 +30,30 @@ use Rattle.gb_invariants.proofs.Lists.{found-in}
 use Rattle.gb_laws.proofs.LinkLists.{changed-in, find-changed, link-is, one-link}
 use Rattle.gb_laws.proofs.LinkHosts.{kept-same, host-link, state-link, stay-changed, then-same}
 use Rattle.gb_laws.proofs.LinkSteps.{fits-asked, followed-same, waits-not}
-use Rattle.gb_laws.proofs.Links.{HostFits, IsAtStep, IsDeaf, IsFollowed, IsIdle, IsWaiting, LinksFit, SameLink, TurnFits, leaves, stays}
+use Rattle.gb_laws.proofs.Links.{
+  HostFits,
+  IsAtStep,
+  IsDeaf,
+  IsFollowed,
+  IsIdle,
+  IsWaiting,
+  LinksFit,
+  SameLink,
+  TurnFits,
+  leaves,
+  stays,
+}
 use Rattle.gb_machine.proofs.Conditions.{AreUnmet}
 use Rattle.gb_machine.specs.Bus.{Bus}
 use Rattle.gb_machine.specs.Failures.{link_told}
 use Rattle.gb_machine.specs.Host.{Host, in_state, is_link, link_at, with_link}
-use Rattle.gb_machine.specs.HostRefusals.{disconnect_conditions, is_closing, is_failed, is_unopened, link_conditions}
+use Rattle.gb_machine.specs.HostRefusals.{
+  disconnect_conditions,
+  is_closing,
+  is_failed,
+  is_unopened,
+  link_conditions,
+}
 use Rattle.gb_machine.specs.HostTurns.{disconnects, host_disconnects}
 use Rattle.gb_machine.specs.Members.{IsIn}
 use Rattle.gb_machine.specs.SequenceSteps.{purpose}
@@ -27,7 +62,8 @@ use Rattle.gb_machine.specs.Turns.{Act}
 
 -- ---- disconnect
 
-open-state : (s : ConnState) → is_unopened s ≡ false → is_closing s ≡ false → is_failed s ≡ false → s ≡ state.Open
+open-state : (s : ConnState) → is_unopened s ≡ false → is_closing s ≡ false → is_failed s ≡ false
+    → s ≡ state.Open
 open-state state.Open h k f = refl
 open-state state.Opening h k f = absurd cc
 open-state state.Closing h k f = absurd cc
@@ -60,21 +96,32 @@ open-idle l waits is = by l.awaits refl
     by (Some w) e = absurd (none-open w.1 (subst (IsAtStep w.1) is (waits w e).1))
 
 -- what has the number of a connection where nothing is taken is that
-one-deaf : (b : Bus) (ls : List Link) (x : Link) (k : ℕ) → LinksFit b ls → IsIn x ls → x.connection ≡ k → IsDeaf x
+one-deaf : (b : Bus) (ls : List Link) (x : Link) (k : ℕ) → LinksFit b ls → IsIn x ls
+    → x.connection ≡ k → IsDeaf x
     → (l : Link) → IsIn l ls → l.connection ≡ k → IsDeaf l
-one-deaf b ls x k fits i on deaf l j e = subst IsDeaf (one-link ls x l fits.rise i j (on ∙ sym e)) deaf
+one-deaf b ls x k fits i on deaf l j e =
+    subst IsDeaf (one-link ls x l fits.rise i j (on ∙ sym e)) deaf
 
 -- where a connection is closing
 closing : (i c : ℕ) → Host → Host
 closing i c h = with_link i c (in_state state.Closing) h
 
 -- what is done, once the connection is found
-fits-closing : (b : Bus) (i c : ℕ) (h : Host) (l : Link) → HostFits b h → c ≢ 0 → find (is_link i c) h.links ≡ Some l → l.awaits ≡ None
+fits-closing : (b : Bus) (i c : ℕ) (h : Host) (l : Link) → HostFits b h → c ≢ 0
+    → find (is_link i c) h.links ≡ Some l → l.awaits ≡ None
     → TurnFits b h (disconnects (Some l) (purpose i c steps.TellDisconnecting) h)
 fits-closing b i c h l fits other e idle = record {
   host = asked.host;
-  pending = (((fits.links.numbered l (found-in (is_link i c) h.links l e).0).from_two, deaf (way_of p g) asked.host.links), (tt, asked.pending));
-  followed = λ k j. let s = stay-changed h.links i c (in_state state.Closing) (state-link state.Closing) k j in
+  pending = (
+    (
+      (fits.links.numbered l (found-in (is_link i c) h.links l e).0).from_two,
+      deaf
+          (way_of p g) asked.host.links,
+    ),
+    (tt, asked.pending),
+  );
+  followed = λ k j. let s = stay-changed h.links i c (in_state state.Closing)
+      (state-link state.Closing) k j in
       behind k s.0 s.2 (asked.followed s.0 s.1);
   kept = asked.kept;
 }
@@ -90,21 +137,28 @@ fits-closing b i c h l fits other e idle = record {
 
     now : HostFits b (with_link i c (in_state state.Closing) h)
     now = host-link b h i c (in_state state.Closing) (state-link state.Closing)
-        (λ y j f w. waits-not (in_state state.Closing y) (ap (λ (x : Link). x.awaits) (sym (same-some l y (sym e ∙ f))) ∙ idle))
+        (λ y j f w. waits-not (in_state state.Closing y)
+        (ap (λ (x : Link). x.awaits) (sym (same-some l y (sym e ∙ f))) ∙ idle))
         (λ y j f d. record { cport = d.cport; takes = refl }) fits
 
-    found : find (is_link i c) (with_link i c (in_state state.Closing) h).links ≡ Some (in_state state.Closing l)
-    found = find-changed (is_link i c) (in_state state.Closing) h.links (λ x. refl) ∙ ap (option_map (in_state state.Closing)) e
+    found : find (is_link i c) (with_link i c (in_state state.Closing) h).links ≡ Some
+        (in_state state.Closing l)
+    found = find-changed (is_link i c) (in_state state.Closing) h.links (λ x. refl)
+        ∙ ap (option_map (in_state state.Closing)) e
 
-    due : IsIdle steps.TellDisconnecting (purpose i c steps.TellDisconnecting) (with_link i c (in_state state.Closing) h).links
+    due : IsIdle steps.TellDisconnecting (purpose i c steps.TellDisconnecting)
+        (with_link i c (in_state state.Closing) h).links
     due = record {
       cport = other;
-      idle = λ y f. ap (λ (x : Link). x.awaits) (sym (same-some (in_state state.Closing l) y (sym found ∙ f))) ∙ idle;
-      state = λ y f. ap (λ (x : Link). x.state) (sym (same-some (in_state state.Closing l) y (sym found ∙ f)));
+      idle = λ y f. ap (λ (x : Link). x.awaits)
+          (sym (same-some (in_state state.Closing l) y (sym found ∙ f))) ∙ idle;
+      state = λ y f. ap (λ (x : Link). x.state)
+          (sym (same-some (in_state state.Closing l) y (sym found ∙ f)));
     }
 
     asked : TurnFits b (with_link i c (in_state state.Closing) h)
-        (step_asked (purpose i c steps.TellDisconnecting) (with_link i c (in_state state.Closing) h))
+        (step_asked (purpose i c steps.TellDisconnecting)
+        (with_link i c (in_state state.Closing) h))
     asked = fits-asked b p g now due (λ e. absurd cc)
 
     cport : l.cport ≢ 0
@@ -114,19 +168,24 @@ fits-closing b i c h l fits other e idle = record {
         → (k : Link) → IsIn k (asked_on o p g).host.links → k.connection ≡ l.connection → IsDeaf k
     deaf None at =
         one-deaf b _ (in_state state.Failed (in_state state.Closing l)) l.connection at
-        (changed-in (is_link i c) (in_state state.Failed) g.links (in_state state.Closing l) found) refl (record { cport = cport; takes = refl })
+        (changed-in (is_link i c) (in_state state.Failed) g.links (in_state state.Closing l) found)
+        refl (record { cport = cport; takes = refl })
     deaf (Some k) at =
         one-deaf b _ (in_state state.Closing l) l.connection at
-        (changed-in (is_link i c) (in_state state.Closing) h.links l e) refl (record { cport = cport; takes = refl })
+        (changed-in (is_link i c) (in_state state.Closing) h.links l e) refl
+        (record { cport = cport; takes = refl })
 
-    behind : (k j : Link) → SameLink k j → IsFollowed j (step_asked p g).host.links (step_asked p g).acts
-        → IsFollowed k (step_asked p g).host.links (Act.Shut l.connection ∷ Act.Tell (link_told state.Closing l) ∷ (step_asked p g).acts)
+    behind : (k j : Link) → SameLink k j
+        → IsFollowed j (step_asked p g).host.links (step_asked p g).acts
+        → IsFollowed k (step_asked p g).host.links
+        (Act.Shut l.connection ∷ Act.Tell (link_told state.Closing l) ∷ (step_asked p g).acts)
     behind k j same (stays x m s) = stays x m (then-same k j x same s)
     behind k j same (leaves m) =
         leaves (inr (inr (subst (λ n. IsIn (Act.Leave n) (step_asked p g).acts) same.connection m)))
 
 -- a disconnect that isn't refused is of an open connection other than Control
-pub fits-disconnects : (b : Bus) (i c : ℕ) (h : Host) → HostFits b h → AreUnmet (disconnect_conditions i c h) → TurnFits b h (host_disconnects i c h)
+pub fits-disconnects : (b : Bus) (i c : ℕ) (h : Host) → HostFits b h
+    → AreUnmet (disconnect_conditions i c h) → TurnFits b h (host_disconnects i c h)
 fits-disconnects b i c h fits met = by (link_at i c h) refl met.1.1
   where
     other : c ≢ 0
@@ -134,7 +193,14 @@ fits-disconnects b i c h fits met = by (link_at i c h) refl met.1.1
 
     by : (o : Option Link) → link_at i c h ≡ o → AreUnmet (link_conditions o)
         → TurnFits b h (disconnects o (purpose i c steps.TellDisconnecting) h)
-    by None e may = record { host = fits; pending = tt; followed = followed-same h.links []; kept = kept-same h.interfaces }
+    by None e may = record {
+      host = fits;
+      pending = tt;
+      followed = followed-same h.links [];
+      kept =
+          kept-same h.interfaces;
+    }
     by (Some l) e may =
         let waits = fits.links.waiting l (found-in (is_link i c) h.links l e).0 in
-        fits-closing b i c h l fits other e (open-idle l waits (open-state l.state may.0 may.1.0 may.1.1.0))
+        fits-closing b i c h l fits other e
+        (open-idle l waits (open-state l.state may.0 may.1.0 may.1.1.0))

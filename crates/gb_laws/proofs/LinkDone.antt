@@ -1,6 +1,20 @@
 -- The facts of the application processor's connections hold at rest again once the acts of a turn
 -- are done.
-use Rattle.std.proofs.Common.{◌≤◌, ℕ, Option, Some, None, List, [], ◌∷◌, refl, inl, inr, subst, arith}
+use Rattle.std.proofs.Common.{
+  ◌≤◌,
+  ℕ,
+  Option,
+  Some,
+  None,
+  List,
+  [],
+  ◌∷◌,
+  refl,
+  inl,
+  inr,
+  subst,
+  arith,
+}
 use Rattle.gb_base.specs.declared.end.Side.TheVariants as side
 use Rattle.gb_base.specs.declared.outcome.Outcome.{Outcome}
 use Rattle.gb_laws.proofs.LinkActs.{linked-asked, linked-unsent}
@@ -13,7 +27,16 @@ use Rattle.gb_machine.proofs.Opened.{machine_opened}
 use Rattle.gb_machine.specs.Actions.{each, given}
 use Rattle.gb_machine.specs.Asking.{asks, asks_with}
 use Rattle.gb_machine.specs.Bus.{Connection, connection_of, next_number}
-use Rattle.gb_machine.specs.HostActs.{acts, asked_with, follows, host_asks, host_draft, notices, opened_with, with_made}
+use Rattle.gb_machine.specs.HostActs.{
+  acts,
+  asked_with,
+  follows,
+  host_asks,
+  host_draft,
+  notices,
+  opened_with,
+  with_made,
+}
 use Rattle.gb_machine.specs.GivingUp.{gives_up}
 use Rattle.gb_machine.specs.HostTurns.{host_turn}
 use Rattle.gb_machine.specs.Labels.{next_label}

@@ -1,4 +1,5 @@
--- The facts of the application processor's connections as a law of points, and that they hold first.
+-- The facts of the application processor's connections as a law of points, and that they hold
+-- first.
 use Rattle.std.proofs.Common.{◌≡◌, ◌∷◌, [], ap, arith, ⊎_elim}
 use Rattle.gb_laws.proofs.Basics.{basis-kept}
 use Rattle.gb_laws.proofs.LinkBuses.{Linked}

@@ -1,6 +1,21 @@
--- The application processor's connections go with the bus, and insertions and removals come in turn,
+-- The application processor's connections go with the bus, and insertions and removals come in
+-- turn,
 -- throughout.
-use Rattle.std.proofs.Common.{◌≡◌, false, Option, Some, None, List, [], refl, sym, ap, ◌∙◌, inl, subst}
+use Rattle.std.proofs.Common.{
+  ◌≡◌,
+  false,
+  Option,
+  Some,
+  None,
+  List,
+  [],
+  refl,
+  sym,
+  ap,
+  ◌∙◌,
+  inl,
+  subst,
+}
 use Rattle.gb_base.specs.declared.end.End.{End}
 use Rattle.gb_base.specs.declared.entry.Entry.{Entry}
 use Rattle.gb_base.specs.declared.event.Event.{Event}
@@ -46,48 +61,72 @@ no-modules : (i : _) → is_plugged i [] ≡ false
 no-modules i = refl
 
 module _ (m : Moment) (one : IsMoment m.event) (start : LinkedTo m.told m.before) where
-  still : (e : Event) → m.event ≡ e → (IsOfSvc e → ⊥) → taken_bus e m.before.bus ≡ m.before.bus → ((at : End) → e ≡ event.Deliver at → ⊥) → MarksFit (after m)
+  still : (e : Event) → m.event ≡ e → (IsOfSvc e → ⊥) → taken_bus e m.before.bus ≡ m.before.bus
+      → ((at : End) → e ≡ event.Deliver at → ⊥) → MarksFit (after m)
   still e is other same undelivered =
-      marks-still m one start.0 start.1 start.2 (λ of. other (subst IsOfSvc is of)) (ap (λ x. taken_bus x m.before.bus) is ∙ same)
+      marks-still m one start.0 start.1 start.2 (λ of. other (subst IsOfSvc is of))
+      (ap (λ x. taken_bus x m.before.bus) is ∙ same)
       (λ at f. undelivered at (sym is ∙ f))
 
   -- where the supervisory controller may ask, and the event isn't refused
-  asking : (e : Event) → m.event ≡ e → (refusal m.before e ≡ None → MarksFit (decided None e m.before).state) → MarksFit (after m)
+  asking : (e : Event) → m.event ≡ e
+      → (refusal m.before e ≡ None → MarksFit (decided None e m.before).state) → MarksFit (after m)
   unfolding machine_opened
   asking e is done = by (refusal m.before e) refl
     where
       by : (o : Option Refusal) → refusal m.before e ≡ o → MarksFit (after m)
-      by (Some reason) f = subst MarksFit (sym (refused-state m reason (ap (refusal m.before) is ∙ f))) start.2
-      by None f = subst MarksFit (sym (ap (λ x. (step m.before x).state) is ∙ ap (λ o. (decided o e m.before).state) f)) (done f)
+      by (Some reason) f =
+          subst MarksFit (sym (refused-state m reason (ap (refusal m.before) is ∙ f))) start.2
+      by None f = subst MarksFit (sym
+          (ap (λ x. (step m.before x).state) is ∙ ap (λ o. (decided o e m.before).state) f))
+          (done f)
 
-  plugged : (i : _) (x : Module) (manifest : List _) → AreUnmet (insert_conditions m.before i manifest) → MarksFit (plugs i x m.before).state
+  plugged : (i : _) (x : Module) (manifest : List _)
+      → AreUnmet (insert_conditions m.before i manifest) → MarksFit (plugs i x m.before).state
   plugged i x manifest met =
       plug-kept i x m.before (asked-items (resting m.told m.before) start.0) met.0 start.2
 
   marks-kept : (e : Event) → m.event ≡ e → IsMoment e → MarksFit (after m)
   unfolding machine_opened
   marks-kept event.Boot is at = asking event.Boot is (λ allowed.
-      boot-kept m.before (asked-items (resting m.told m.before) start.0) (free m.before event.Boot allowed).0 start.2)
-  marks-kept (event.Insert i kind) is at = asking (event.Insert i kind) is (λ allowed. plugged i (module_of_kind kind) [] (free m.before (event.Insert i kind) allowed))
-  marks-kept (event.InsertRaw i manifest) is at = asking (event.InsertRaw i manifest) is (λ allowed. plugged i (module_raw manifest) manifest (free m.before (event.InsertRaw i manifest) allowed))
+      boot-kept m.before (asked-items (resting m.told m.before) start.0)
+      (free m.before event.Boot allowed).0 start.2)
+  marks-kept (event.Insert i kind) is at = asking (event.Insert i kind) is
+      (λ allowed. plugged i (module_of_kind kind) [] (free m.before (event.Insert i kind) allowed))
+  marks-kept (event.InsertRaw i manifest) is at = asking (event.InsertRaw i manifest) is
+      (λ allowed. plugged i (module_raw manifest) manifest
+      (free m.before (event.InsertRaw i manifest) allowed))
   marks-kept (event.Pull i) is at = asking (event.Pull i) is (λ allowed.
-      pull-kept i m.before start.0.bus.numbers.rise (asked-items (resting m.told m.before) start.0) start.1 start.3
+      pull-kept i m.before start.0.bus.numbers.rise (asked-items (resting m.told m.before) start.0)
+      start.1 start.3
       (free m.before (event.Pull i) allowed).1.0 start.2)
-  marks-kept (event.Deliver to) is at = marks-delivered m one start.0 start.1 start.2 (λ of. subst IsOfSvc is of) to is
+  marks-kept (event.Deliver to) is at =
+      marks-delivered m one start.0 start.1 start.2 (λ of. subst IsOfSvc is of) to is
   marks-kept (event.Settle most) is at = absurd at
-  marks-kept (event.Connect i c) is at = still (event.Connect i c) is (λ x. x) refl (λ k e. absurd cc)
-  marks-kept (event.Disconnect i c) is at = still (event.Disconnect i c) is (λ x. x) refl (λ k e. absurd cc)
-  marks-kept (event.Send name to kind payload timeout) is at = still (event.Send name to kind payload timeout) is (λ x. x) refl (λ k e. absurd cc)
-  marks-kept (event.Bridge name i c what) is at = still (event.Bridge name i c what) is (λ x. x) refl (λ k e. absurd cc)
-  marks-kept (event.Level i c line value) is at = still (event.Level i c line value) is (λ x. x) refl (λ k e. absurd cc)
-  marks-kept (event.SerialState i c control) is at = still (event.SerialState i c control) is (λ x. x) refl (λ k e. absurd cc)
+  marks-kept (event.Connect i c) is at =
+      still (event.Connect i c) is (λ x. x) refl (λ k e. absurd cc)
+  marks-kept (event.Disconnect i c) is at =
+      still (event.Disconnect i c) is (λ x. x) refl (λ k e. absurd cc)
+  marks-kept (event.Send name to kind payload timeout) is at =
+      still (event.Send name to kind payload timeout) is (λ x. x) refl (λ k e. absurd cc)
+  marks-kept (event.Bridge name i c what) is at =
+      still (event.Bridge name i c what) is (λ x. x) refl (λ k e. absurd cc)
+  marks-kept (event.Level i c line value) is at =
+      still (event.Level i c line value) is (λ x. x) refl (λ k e. absurd cc)
+  marks-kept (event.SerialState i c control) is at =
+      still (event.SerialState i c control) is (λ x. x) refl (λ k e. absurd cc)
   marks-kept (event.Hold i c) is at = still (event.Hold i c) is (λ x. x) refl (λ k e. absurd cc)
-  marks-kept (event.Answer i c place) is at = still (event.Answer i c place) is (λ x. x) refl (λ k e. absurd cc)
-  marks-kept (event.Cancel name) is at = still (event.Cancel name) is (λ x. x) refl (λ k e. absurd cc)
+  marks-kept (event.Answer i c place) is at =
+      still (event.Answer i c place) is (λ x. x) refl (λ k e. absurd cc)
+  marks-kept (event.Cancel name) is at =
+      still (event.Cancel name) is (λ x. x) refl (λ k e. absurd cc)
   marks-kept (event.Copy x y) is at = still (event.Copy x y) is (λ z. z) refl (λ k e. absurd cc)
-  marks-kept (event.Forget name) is at = still (event.Forget name) is (λ x. x) refl (λ k e. absurd cc)
-  marks-kept (event.Tick millis) is at = still (event.Tick millis) is (λ x. x) refl (λ k e. absurd cc)
-  marks-kept (event.Inject i c bytes) is at = still (event.Inject i c bytes) is (λ x. x) refl (λ k e. absurd cc)
+  marks-kept (event.Forget name) is at =
+      still (event.Forget name) is (λ x. x) refl (λ k e. absurd cc)
+  marks-kept (event.Tick millis) is at =
+      still (event.Tick millis) is (λ x. x) refl (λ k e. absurd cc)
+  marks-kept (event.Inject i c bytes) is at =
+      still (event.Inject i c bytes) is (λ x. x) refl (λ k e. absurd cc)
   marks-kept event.Show is at = still event.Show is (λ x. x) refl (λ k e. absurd cc)
 
 -- ---- throughout
@@ -100,10 +139,21 @@ there_law m absent = record {
 }
 
 marks-first_state : MarksFit first_state
-marks-first_state = record { reads = λ i e. absurd (not-both false e refl); unstarted = λ e i. (refl, refl); differ = tt }
+marks-first_state = record {
+  reads = λ i e. absurd (not-both false e refl);
+  unstarted = λ e i.
+      (refl, refl);
+  differ = tt;
+}
 
 there-first_state : There first_bus
-there-first_state = record { connection = svc_connection; live = inl refl; number = refl; wired = refl }
+there-first_state = record {
+  connection = svc_connection;
+  live = inl refl;
+  number = refl;
+  wired =
+      refl;
+}
 
 -- over a moment
 pub linked-over : Keeps LinkedTo
@@ -111,4 +161,5 @@ linked-over m one h = let r = over-step m (there_law m (start-absent m h)) one (
     (rested _ _ r.0 r.1.0.0, r.1.0.1, marks-kept m one h m.event refl one, r.1.1)
 
 pub linked-throughout : HoldsByMoments LinkedTo
-linked-throughout = throughout LinkedTo (basis-first, linked-first, marks-first_state, there-first_state) linked-over
+linked-throughout = throughout LinkedTo
+    (basis-first, linked-first, marks-first_state, there-first_state) linked-over

@@ -19,11 +19,51 @@ use Rattle.gb_laws.proofs.LinkHosts.{same-link, state-link, then-same}
 use Rattle.gb_laws.proofs.LinkLists.{in-first}
 use Rattle.gb_laws.proofs.Links.{SameLink}
 use Rattle.gb_machine.specs.Failures.{interface_fails, link_fails, step_fails, unsent_fails}
-use Rattle.gb_machine.specs.Host.{Host, cport_of, free_cport, free_device, in_state, interface_of, is_link, link_at, with_interface, with_link, with_new_interface, without_link}
-use Rattle.gb_machine.specs.HostTurns.{connects, connects_on, disconnects, ended_for, host_connects, host_disconnects, host_ended, host_turn, without_interface}
+use Rattle.gb_machine.specs.Host.{
+  Host,
+  cport_of,
+  free_cport,
+  free_device,
+  in_state,
+  interface_of,
+  is_link,
+  link_at,
+  with_interface,
+  with_link,
+  with_new_interface,
+  without_link,
+}
+use Rattle.gb_machine.specs.HostTurns.{
+  connects,
+  connects_on,
+  disconnects,
+  ended_for,
+  host_connects,
+  host_disconnects,
+  host_ended,
+  host_turn,
+  without_interface,
+}
 use Rattle.gb_machine.specs.Members.{IsIn}
 use Rattle.gb_machine.specs.SequenceSteps.{at_step, is_enumeration, is_reply, purpose}
-use Rattle.gb_machine.specs.Sequences.{asked_on, begins_control, begins_device, link_left, link_turn, manifest_checked, manifest_told, opened, opened_told, payload_in, size_in, size_known, step_answered, step_asked, step_done, way_of}
+use Rattle.gb_machine.specs.Sequences.{
+  asked_on,
+  begins_control,
+  begins_device,
+  link_left,
+  link_turn,
+  manifest_checked,
+  manifest_told,
+  opened,
+  opened_told,
+  payload_in,
+  size_in,
+  size_known,
+  step_answered,
+  step_asked,
+  step_done,
+  way_of,
+}
 use Rattle.gb_machine.specs.Turns.{HostEvent, Turn, failed_turn}
 use Rattle.gb_machine.specs.Waits.{awaited, awaits_nothing, waiting}
 

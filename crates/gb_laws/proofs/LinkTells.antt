@@ -1,5 +1,26 @@
 -- What turns of the application processor tell of connections, they tell of those that it knows.
-use Rattle.std.proofs.Common.{◌≡◌, ℕ, Bool, true, false, cond, Option, Some, None, List, [], ◌∷◌, ◌++◌, length, map, refl, sym, ◌∙◌, inl, inr}
+use Rattle.std.proofs.Common.{
+  ◌≡◌,
+  ℕ,
+  Bool,
+  true,
+  false,
+  cond,
+  Option,
+  Some,
+  None,
+  List,
+  [],
+  ◌∷◌,
+  ◌++◌,
+  length,
+  map,
+  refl,
+  sym,
+  ◌∙◌,
+  inl,
+  inr,
+}
 use Rattle.std.specs.Prelude.{Result, Ok, Err, ◌==◌, option_and_then}
 use Rattle.gb_base.specs.declared.entry.ConnState.{ConnState}
 use Rattle.gb_base.specs.declared.entry.ConnState.TheVariants as state
@@ -16,12 +37,59 @@ use Rattle.gb_formats.specs.Manifest.{CportView, Manifest, check_answer}
 use Rattle.gb_formats.specs.ManifestRules.{Refused}
 use Rattle.gb_invariants.proofs.Lists.{each-append, found-in, in-filter}
 use Rattle.gb_laws.proofs.LinkSources.{LinksFrom, from-links, from-opened, from-state, from-waiting}
-use Rattle.gb_machine.specs.Failures.{interface_fails, link_fails, step_fails, told_of, unsent_fails}
-use Rattle.gb_machine.specs.Host.{Host, cport_of, free_cport, free_device, in_state, interface_of, is_link, link_at, with_interface, with_link, with_new_interface, without_link}
-use Rattle.gb_machine.specs.HostTurns.{connects, connects_on, disconnects, ended_for, host_connects, host_disconnects, host_ended, host_turn, links_left, links_of}
+use Rattle.gb_machine.specs.Failures.{
+  interface_fails,
+  link_fails,
+  step_fails,
+  told_of,
+  unsent_fails,
+}
+use Rattle.gb_machine.specs.Host.{
+  Host,
+  cport_of,
+  free_cport,
+  free_device,
+  in_state,
+  interface_of,
+  is_link,
+  link_at,
+  with_interface,
+  with_link,
+  with_new_interface,
+  without_link,
+}
+use Rattle.gb_machine.specs.HostTurns.{
+  connects,
+  connects_on,
+  disconnects,
+  ended_for,
+  host_connects,
+  host_disconnects,
+  host_ended,
+  host_turn,
+  links_left,
+  links_of,
+}
 use Rattle.gb_machine.specs.Members.{Each, IsIn}
 use Rattle.gb_machine.specs.SequenceSteps.{at_step, is_reply, purpose}
-use Rattle.gb_machine.specs.Sequences.{asked_on, begins_control, begins_device, link_left, link_turn, manifest_checked, manifest_told, opened, opened_told, payload_in, size_in, size_known, step_answered, step_asked, step_done, way_of}
+use Rattle.gb_machine.specs.Sequences.{
+  asked_on,
+  begins_control,
+  begins_device,
+  link_left,
+  link_turn,
+  manifest_checked,
+  manifest_told,
+  opened,
+  opened_told,
+  payload_in,
+  size_in,
+  size_known,
+  step_answered,
+  step_asked,
+  step_done,
+  way_of,
+}
 use Rattle.gb_machine.specs.Turns.{Act, HostEvent, Turn, failed_turn}
 use Rattle.gb_machine.specs.Waits.{awaited, awaits_nothing}
 

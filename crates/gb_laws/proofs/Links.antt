@@ -13,7 +13,13 @@ use Rattle.gb_machine.specs.Bus.{Bus, Connection}
 use Rattle.gb_machine.specs.Host.{Host, is_link}
 use Rattle.std.specs.List.{find}
 use Rattle.gb_machine.specs.Members.{EachTwo, IsIn}
-use Rattle.gb_machine.specs.SequenceSteps.{Target, asks_control, is_enumeration, kind_of, payload_of}
+use Rattle.gb_machine.specs.SequenceSteps.{
+  Target,
+  asks_control,
+  is_enumeration,
+  kind_of,
+  payload_of,
+}
 use Rattle.gb_machine.specs.Turns.{Act, Asking, Making, Turn}
 
 -- ---- one connection
@@ -65,7 +71,8 @@ pub record IsDeaf (l : Link) : Type 0 where
   pub cport : l.cport ≢ 0
   pub takes : state_takes l.state ≡ false
 
--- a connection has a number that was given, and a CPort of the application processor from 1 to 4,095
+-- a connection has a number that was given, and a CPort of the application processor from 1 to
+-- 4,095
 pub record IsNumbered (made : ℕ) (l : Link) : Type 0 where
   pub from_two : 2 ≤ l.connection
   pub given : l.connection ≤ made
@@ -86,7 +93,8 @@ pub record LinksFit (b : Bus) (ls : List Link) : Type 0 where
   pub rise : EachTwo IsLinkBefore ls
   pub numbered : (l : Link) → IsIn l ls → IsNumbered b.made l
   pub waiting : (l : Link) → IsIn l ls → IsWaiting l
-  pub deaf : (l : Link) (c : Connection) → IsIn l ls → IsIn c b.connections → c.number ≡ l.connection
+  pub deaf : (l : Link) (c : Connection) → IsIn l ls → IsIn c b.connections
+      → c.number ≡ l.connection
       → c.shut ≡ true → IsDeaf l
 
 -- what is known of interfaces
@@ -171,7 +179,8 @@ abbrev pub IsPending : Host → Act → List Act → Type 0
 IsPending h (Act.Ask q) rest =
     IsDue q.purpose.step q.purpose h × (rest ≡ []) × IsFormed q × IsOnControl h q
 IsPending h (Act.Open w q) rest = IsFree w q h × (rest ≡ [])
-IsPending h (Act.Shut k) rest = (2 ≤ k) × ((l : Link) → IsIn l h.links → l.connection ≡ k → IsDeaf l)
+IsPending h (Act.Shut k) rest =
+    (2 ≤ k) × ((l : Link) → IsIn l h.links → l.connection ≡ k → IsDeaf l)
 IsPending h (Act.Leave k) rest = (2 ≤ k) × ((l : Link) → IsIn l h.links → l.connection ≢ k)
 IsPending h (Act.Tell e) rest = Unit {0}
 

@@ -1,5 +1,32 @@
 -- Loose items: none more than before.
-use Rattle.std.proofs.Common.{◌≡◌, ◌≤◌, ℕ, zero, suc, ◌-◌, Bool, true, false, not, cond, Some, List, [], ◌∷◌, ◌++◌, map, refl, sym, ap, ◌∙◌, inl, inr, ⊎_elim, subst, arith}
+use Rattle.std.proofs.Common.{
+  ◌≡◌,
+  ◌≤◌,
+  ℕ,
+  zero,
+  suc,
+  ◌-◌,
+  Bool,
+  true,
+  false,
+  not,
+  cond,
+  Some,
+  List,
+  [],
+  ◌∷◌,
+  ◌++◌,
+  map,
+  refl,
+  sym,
+  ap,
+  ◌∙◌,
+  inl,
+  inr,
+  ⊎_elim,
+  subst,
+  arith,
+}
 use Rattle.std.proofs.lemmas.Bool.Decides.{nat_tests}
 use Rattle.std.specs.Prelude.{◌==◌}
 use Rattle.std.specs.List.{slice_get}
@@ -30,7 +57,8 @@ fewer-tail l ls = record {
   counts = λ test. omega (arith, times-cons (on_item test) l ls);
 }
 
-in-map-held : (l : Loose) (hs : List Held) → IsIn l (map loose_held hs) → (h : Held) × IsIn h hs × (l ≡ loose_held h)
+in-map-held : (l : Loose) (hs : List Held) → IsIn l (map loose_held hs) → (h : Held) × IsIn h hs
+    × (l ≡ loose_held h)
 in-map-held l [] i = absurd i
 in-map-held l (h ∷ hs) (inl e) = (h, inl refl, e)
 in-map-held l (h ∷ hs) (inr i) = let r = in-map-held l hs i in (r.0, inr r.1, r.2)
@@ -48,7 +76,8 @@ within-held later hs f l i =
     subst (λ x. IsIn x (map loose_held hs)) (sym r.2) (map-held-in r.0 hs (f r.0 r.1))
 
 -- an item that is held goes behind the others
-pub fewer-held : (l : Loose) (h : Held) (hs : List Held) → l ≡ loose_held h → Fewer (map loose_held (hs ++ h ∷ [])) (l ∷ map loose_held hs)
+pub fewer-held : (l : Loose) (h : Held) (hs : List Held) → l ≡ loose_held h
+    → Fewer (map loose_held (hs ++ h ∷ [])) (l ∷ map loose_held hs)
 fewer-held l h hs e = record { within = within; counts = counts hs }
   where
     within : (x : Loose) → IsIn x (map loose_held (hs ++ h ∷ [])) → IsIn x (l ∷ map loose_held hs)
@@ -57,7 +86,9 @@ fewer-held l h hs e = record { within = within; counts = counts hs }
         ⊎_elim (λ j. inr (subst (λ y. IsIn y (map loose_held hs)) (sym r.2) (map-held-in r.0 hs j)))
         (λ is. inl (r.2 ∙ ap loose_held is ∙ sym e)) (in-pushed r.0 hs h r.1)
 
-    counts : (ks : List Held) (test : Item → Bool) → times (on_item test) (map loose_held (ks ++ h ∷ [])) ≤ times (on_item test) (l ∷ map loose_held ks)
+    counts : (ks : List Held) (test : Item → Bool)
+        → times (on_item test) (map loose_held (ks ++ h ∷ [])) ≤ times (on_item test)
+        (l ∷ map loose_held ks)
     counts [] test = omega (arith, ap (λ x. times (on_item test) (x ∷ [])) e)
     counts (k ∷ ks) test =
         omega (
@@ -70,30 +101,39 @@ fewer-held l h hs e = record { within = within; counts = counts hs }
         )
 
 -- what is held but for those of a connection
-pub fewer-without : (k : ℕ) (hs : List Held) → Fewer (map loose_held (without (λ h. h.connection == k) hs)) (map loose_held hs)
+pub fewer-without : (k : ℕ) (hs : List Held)
+    → Fewer (map loose_held (without (λ h. h.connection == k) hs)) (map loose_held hs)
 fewer-without k hs = record {
-  within = within-held (without (λ h. h.connection == k) hs) hs (λ h i. (in-without (λ (h : Held). h.connection == k) hs h i).0);
+  within = within-held (without (λ h. h.connection == k) hs) hs
+      (λ h i. (in-without (λ (h : Held). h.connection == k) hs h i).0);
   counts = λ test. counts test hs;
 }
   where
-    counts : (test : Item → Bool) (ks : List Held) → times (on_item test) (map loose_held (without (λ h. h.connection == k) ks))
+    counts : (test : Item → Bool) (ks : List Held)
+        → times (on_item test) (map loose_held (without (λ h. h.connection == k) ks))
         ≤ times (on_item test) (map loose_held ks)
     counts test [] = omega arith
     counts test (h ∷ ks) = by (not (h.connection == k)) (counts test ks)
       where
-        by : (t : Bool) → times (on_item test) (map loose_held (without (λ h. h.connection == k) ks)) ≤ times (on_item test) (map loose_held ks)
-            → times (on_item test) (map loose_held (cond t (h ∷ without (λ h. h.connection == k) ks) (without (λ h. h.connection == k) ks)))
+        by : (t : Bool) → times (on_item test)
+            (map loose_held (without (λ h. h.connection == k) ks)) ≤ times (on_item test)
+            (map loose_held ks)
+            → times (on_item test) (map loose_held
+            (cond t (h ∷ without (λ h. h.connection == k) ks)
+            (without (λ h. h.connection == k) ks)))
             ≤ times (on_item test) (loose_held h ∷ map loose_held ks)
         by true r = omega (
           arith,
           r,
-          times-cons (on_item test) (loose_held h) (map loose_held (without (λ h. h.connection == k) ks)),
+          times-cons (on_item test) (loose_held h)
+              (map loose_held (without (λ h. h.connection == k) ks)),
           times-cons (on_item test) (loose_held h) (map loose_held ks),
         )
         by false r = omega (arith, r, times-cons (on_item test) (loose_held h) (map loose_held ks))
 
 -- and none of them is of that connection
-pub without-none : (k : ℕ) (hs : List Held) (l : Loose) → IsIn l (map loose_held (without (λ h. h.connection == k) hs)) → l.connection ≡ k → ⊥
+pub without-none : (k : ℕ) (hs : List Held) (l : Loose)
+    → IsIn l (map loose_held (without (λ h. h.connection == k) hs)) → l.connection ≡ k → ⊥
 without-none k hs l i e =
     let r = in-map-held l (without (λ h. h.connection == k) hs) i in
     let other = (in-without (λ (h : Held). h.connection == k) hs r.0 r.1).1 in
@@ -112,17 +152,23 @@ in-nth zero xs x h = absurd cc
 in-nth (suc i) xs x h = in-slice xs i x h
 
 -- a held item at a place is held on that connection
-pub held-at : (k place : ℕ) (hs : List Held) (h : Held) → nth place (held_on k hs) ≡ Some h → IsIn h hs × (h.connection ≡ k)
+pub held-at : (k place : ℕ) (hs : List Held) (h : Held) → nth place (held_on k hs) ≡ Some h
+    → IsIn h hs × (h.connection ≡ k)
 held-at k place hs h e =
-    let f = in-filter (is_held_on k) hs h (in-nth place (held_on k hs) h e) in (f.0, same-number h.connection k f.1)
+    let f = in-filter (is_held_on k) hs h (in-nth place (held_on k hs) h e) in
+    (f.0, same-number h.connection k f.1)
 
-in-held_without : (k place : ℕ) (hs : List Held) (h : Held) → IsIn h (held_without k place hs) → IsIn h hs
+in-held_without : (k place : ℕ) (hs : List Held) (h : Held) → IsIn h (held_without k place hs)
+    → IsIn h hs
 in-held_without k place [] h i = absurd i
 in-held_without k place (x ∷ xs) h i =
-    by (is_held_on k x) (place == 1) i (in-held_without k (place - 1) xs h) (in-held_without k place xs h)
+    by (is_held_on k x) (place == 1) i (in-held_without k (place - 1) xs h)
+    (in-held_without k place xs h)
   where
-    by : (t one : Bool) → IsIn h (cond t (cond one xs (x ∷ held_without k (place - 1) xs)) (x ∷ held_without k place xs))
-        → (IsIn h (held_without k (place - 1) xs) → IsIn h xs) → (IsIn h (held_without k place xs) → IsIn h xs) → IsIn h (x ∷ xs)
+    by : (t one : Bool) → IsIn h (cond t (cond one xs (x ∷ held_without k (place - 1) xs))
+        (x ∷ held_without k place xs))
+        → (IsIn h (held_without k (place - 1) xs) → IsIn h xs)
+        → (IsIn h (held_without k place xs) → IsIn h xs) → IsIn h (x ∷ xs)
     by true true i f g = inr i
     by true false (inl e) f g = inl e
     by true false (inr i) f g = inr (f i)
@@ -130,8 +176,10 @@ in-held_without k place (x ∷ xs) h i =
     by false one (inr i) f g = inr (g i)
 
 -- the item that is taken, and the others, are as many as were held
-counts-taken : (test : Item → Bool) (k place : ℕ) (hs : List Held) (h : Held) → nth place (held_on k hs) ≡ Some h
-    → times (on_item test) (map loose_held (h ∷ held_without k place hs)) ≤ times (on_item test) (map loose_held hs)
+counts-taken : (test : Item → Bool) (k place : ℕ) (hs : List Held) (h : Held)
+    → nth place (held_on k hs) ≡ Some h
+    → times (on_item test) (map loose_held (h ∷ held_without k place hs)) ≤ times (on_item test)
+    (map loose_held hs)
 counts-taken test k zero hs h e = absurd cc
 counts-taken test k (suc i) [] h e = absurd cc
 counts-taken test k (suc i) (x ∷ xs) h e =
@@ -139,7 +187,8 @@ counts-taken test k (suc i) (x ∷ xs) h e =
   where
     -- how many there are, with one in front
     Most : List Held → List Held → Type 0
-    Most later ks = times (on_item test) (map loose_held (h ∷ later)) ≤ times (on_item test) (map loose_held ks)
+    Most later ks = times (on_item test) (map loose_held (h ∷ later)) ≤ times (on_item test)
+        (map loose_held ks)
 
     in-front : (later ks : List Held) → Most later ks → Most (x ∷ later) (x ∷ ks)
     in-front later ks r =
@@ -152,23 +201,29 @@ counts-taken test k (suc i) (x ∷ xs) h e =
           times-cons (on_item test) (loose_held x) (map loose_held ks),
         )
 
-    by : (t : Bool) → is_held_on k x ≡ t → (i : ℕ) → nth (suc i) (cond t (x ∷ held_on k xs) (held_on k xs)) ≡ Some h
+    by : (t : Bool) → is_held_on k x ≡ t → (i : ℕ)
+        → nth (suc i) (cond t (x ∷ held_on k xs) (held_on k xs)) ≡ Some h
         → (nth i (held_on k xs) ≡ Some h → Most (held_without k i xs) xs)
         → (nth (suc i) (held_on k xs) ≡ Some h → Most (held_without k (suc i) xs) xs)
-        → Most (cond t (cond (suc i == 1) xs (x ∷ held_without k (suc i - 1) xs)) (x ∷ held_without k (suc i) xs)) (x ∷ xs)
+        → Most (cond t (cond (suc i == 1) xs (x ∷ held_without k (suc i - 1) xs))
+        (x ∷ held_without k (suc i) xs)) (x ∷ xs)
     by false f i e front later = in-front (held_without k (suc i) xs) xs (later e)
-    by true f zero e front later = let is : x ≡ h = same-some x h e in omega (arith, ap (λ y. times (on_item test) (map loose_held (y ∷ xs))) is)
+    by true f zero e front later = let is : x ≡ h = same-some x h e in omega
+        (arith, ap (λ y. times (on_item test) (map loose_held (y ∷ xs))) is)
     by true f (suc j) e front later =
         let other : (suc (suc j) == 1) ≡ false = grind (arith, nat_tests) in
         let less : suc (suc j) - 1 ≡ suc j = omega arith in
         subst (λ t. Most (cond t xs (x ∷ held_without k (suc (suc j) - 1) xs)) (x ∷ xs)) (sym other)
-        (subst (λ n. Most (x ∷ held_without k n xs) (x ∷ xs)) (sym less) (in-front (held_without k (suc j) xs) xs (front e)))
+        (subst (λ n. Most (x ∷ held_without k n xs) (x ∷ xs)) (sym less)
+        (in-front (held_without k (suc j) xs) xs (front e)))
 
-pub fewer-taken : (k place : ℕ) (hs : List Held) (h : Held) (l : Loose) → nth place (held_on k hs) ≡ Some h → l ≡ loose_held h
+pub fewer-taken : (k place : ℕ) (hs : List Held) (h : Held) (l : Loose)
+    → nth place (held_on k hs) ≡ Some h → l ≡ loose_held h
     → Fewer (l ∷ map loose_held (held_without k place hs)) (map loose_held hs)
 fewer-taken k place hs h l e is = record {
   within = λ x i. ⊎_elim
-      (λ same. subst (λ y. IsIn y (map loose_held hs)) (sym (same ∙ is)) (map-held-in h hs (held-at k place hs h e).0))
+      (λ same. subst (λ y. IsIn y (map loose_held hs)) (sym (same ∙ is))
+      (map-held-in h hs (held-at k place hs h e).0))
       (λ j. within-held (held_without k place hs) hs (in-held_without k place hs) x j) i;
   counts = λ test. omega (
     arith,

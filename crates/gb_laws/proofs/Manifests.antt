@@ -1,5 +1,24 @@
 -- The manifest of each module that is plugged fits into a message, and no module changes it.
-use Rattle.std.proofs.Common.{◌≡◌, ◌≤◌, ℕ, Bool, true, false, cond, Option, Some, None, List, length, refl, sym, ap, ⊎_elim, subst, arith}
+use Rattle.std.proofs.Common.{
+  ◌≡◌,
+  ◌≤◌,
+  ℕ,
+  Bool,
+  true,
+  false,
+  cond,
+  Option,
+  Some,
+  None,
+  List,
+  length,
+  refl,
+  sym,
+  ap,
+  ⊎_elim,
+  subst,
+  arith,
+}
 use Rattle.std.proofs.lemmas.Bool.Decides.{nat_tests}
 use Rattle.std.specs.Prelude.{Result, Ok, Err, ◌==◌, option_map}
 use Rattle.std.specs.List.{find}
@@ -7,10 +26,33 @@ use Rattle.gb_base.specs.declared.event.Event.TheVariants as event
 use Rattle.gb_base.specs.declared.event.Kind.{Kind}
 use Rattle.gb_base.specs.declared.event.Kind.TheVariants as kinds
 use Rattle.gb_formats.specs.ControlRecords.{ControlAsk, read_control_ask}
-use Rattle.gb_formats.specs.ControlResponder.{control_read, control_step, is_off, is_quiet, made_quiet, turn_step, turned_off, turned_on}
+use Rattle.gb_formats.specs.ControlResponder.{
+  control_read,
+  control_step,
+  is_off,
+  is_quiet,
+  made_quiet,
+  turn_step,
+  turned_off,
+  turned_on,
+}
 use Rattle.gb_formats.specs.Devices.{Device, Stir, device_stir}
-use Rattle.gb_formats.specs.Module.{CportState, Module, ModulePort, is_on, module_of_kind, module_raw, port_at}
-use Rattle.gb_formats.specs.ModuleSteps.{module_serve, module_stir, port_served, port_stir, port_stirred}
+use Rattle.gb_formats.specs.Module.{
+  CportState,
+  Module,
+  ModulePort,
+  is_on,
+  module_of_kind,
+  module_raw,
+  port_at,
+}
+use Rattle.gb_formats.specs.ModuleSteps.{
+  module_serve,
+  module_stir,
+  port_served,
+  port_stir,
+  port_stirred,
+}
 use Rattle.gb_formats.specs.Records.{PayloadFault}
 use Rattle.gb_formats.specs.Results.{Step, Stirred}
 use Rattle.gb_invariants.proofs.Awaiting.{same-some}

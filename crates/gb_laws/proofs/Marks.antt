@@ -1,12 +1,47 @@
 -- The insertions and removals that the supervisory controller has told and that wait to be handled.
-use Rattle.std.proofs.Common.{◌≡◌, ◌≢◌, ℕ, Bool, true, false, cond, Option, Some, None, List, [], ◌∷◌, ◌++◌, refl, sym, ap, ◌∙◌, inl, inr, append_assoc, append-nil}
+use Rattle.std.proofs.Common.{
+  ◌≡◌,
+  ◌≢◌,
+  ℕ,
+  Bool,
+  true,
+  false,
+  cond,
+  Option,
+  Some,
+  None,
+  List,
+  [],
+  ◌∷◌,
+  ◌++◌,
+  refl,
+  sym,
+  ap,
+  ◌∙◌,
+  inl,
+  inr,
+  append_assoc,
+  append-nil,
+}
 use Rattle.std.specs.Prelude.{◌==◌, if◌then◌else◌, is_some, not}
 use Rattle.std.specs.List.{find}
 use Rattle.gb_base.specs.declared.end.Side.TheVariants as side
 use Rattle.gb_invariants.proofs.Awaiting.{not-both}
 use Rattle.gb_invariants.proofs.Outcomes.{same-number}
 use Rattle.gb_laws.proofs.Owning.{KeepsRequests}
-use Rattle.gb_machine.specs.Bus.{Ask, Bus, Connection, Item, Raw, RawReply, Reply, Request, has_number, queue, request_of}
+use Rattle.gb_machine.specs.Bus.{
+  Ask,
+  Bus,
+  Connection,
+  Item,
+  Raw,
+  RawReply,
+  Reply,
+  Request,
+  has_number,
+  queue,
+  request_of,
+}
 use Rattle.gb_machine.specs.Host.{first_host, interface_of}
 use Rattle.gb_machine.specs.HostServing.{serves_svc}
 use Rattle.gb_machine.specs.Lists.{at_first, without}
@@ -47,7 +82,8 @@ marks_of i b (x ∷ xs) = item_mark i b x ++ marks_of i b xs
 abbrev pub marks : ℕ → Bus → List Bool
 marks i b = marks_of i b (svc_items side.Ap b)
 
--- Marks are read from whether an interface is known: an insertion comes only where it isn't. What is
+-- Marks are read from whether an interface is known: an insertion comes only where it isn't. What
+-- is
 -- known at the end is plugged.
 abbrev pub Reads : Bool → List Bool → Bool → Type 0
 Reads known [] plugged = known ≡ true → plugged ≡ true
@@ -60,14 +96,16 @@ AreElsewhere p q = p.intf ≢ q.intf
 
 -- Insertions and removals come in turn, and none before the supervisory controller has started.
 pub record MarksFit (s : State) : Type 0 where
-  pub reads : (i : ℕ) → Reads (is_some (interface_of i s.host)) (marks i s.bus) (is_plugged i s.modules)
+  pub reads : (i : ℕ) → Reads (is_some (interface_of i s.host)) (marks i s.bus)
+      (is_plugged i s.modules)
   pub unstarted : s.booted ≡ false → (i : ℕ) → (marks i s.bus ≡ []) × (interface_of i s.host ≡ None)
   pub differ : EachTwo AreElsewhere s.modules
 
 -- ---- reading
 
 -- where less is known
-pub reads-less : (known less : Bool) (ms : List Bool) (plugged : Bool) → (less ≡ true → known ≡ true) → Reads known ms plugged → Reads less ms plugged
+pub reads-less : (known less : Bool) (ms : List Bool) (plugged : Bool)
+    → (less ≡ true → known ≡ true) → Reads known ms plugged → Reads less ms plugged
 reads-less known less [] plugged h r = λ e. r (h e)
 reads-less known less (true ∷ ms) plugged h r = (by less refl, r.1)
   where
@@ -77,7 +115,8 @@ reads-less known less (true ∷ ms) plugged h r = (by less refl, r.1)
 reads-less known less (false ∷ ms) plugged h r = r
 
 -- where nothing is plugged at the end, something is plugged and told
-pub reads-told : (known : Bool) (ms : List Bool) → Reads known ms false → Reads known (ms ++ true ∷ []) true
+pub reads-told : (known : Bool) (ms : List Bool) → Reads known ms false
+    → Reads known (ms ++ true ∷ []) true
 reads-told known [] r = (by known r, λ e. refl)
   where
     by : (t : Bool) → (t ≡ true → false ≡ true) → t ≡ false
@@ -87,40 +126,47 @@ reads-told known (true ∷ ms) r = (r.0, reads-told true ms r.1)
 reads-told known (false ∷ ms) r = reads-told false ms r
 
 -- whatever was plugged, its removal is told
-pub reads-removed : (known : Bool) (ms : List Bool) (plugged after : Bool) → Reads known ms plugged → Reads known (ms ++ false ∷ []) after
+pub reads-removed : (known : Bool) (ms : List Bool) (plugged after : Bool) → Reads known ms plugged
+    → Reads known (ms ++ false ∷ []) after
 reads-removed known [] plugged after r = λ e. absurd (not-both false e refl)
 reads-removed known (true ∷ ms) plugged after r = (r.0, reads-removed true ms plugged after r.1)
 reads-removed known (false ∷ ms) plugged after r = reads-removed false ms plugged after r
 
 -- more is plugged
-pub reads-plugged : (known : Bool) (ms : List Bool) (plugged : Bool) → Reads known ms plugged → Reads known ms true
+pub reads-plugged : (known : Bool) (ms : List Bool) (plugged : Bool) → Reads known ms plugged
+    → Reads known ms true
 reads-plugged known [] plugged r = λ e. refl
 reads-plugged known (true ∷ ms) plugged r = (r.0, reads-plugged true ms plugged r.1)
 reads-plugged known (false ∷ ms) plugged r = reads-plugged false ms plugged r
 
 -- ---- marks of items
 
-pub marks-append : (i : ℕ) (b : Bus) (xs ys : List Item) → marks_of i b (xs ++ ys) ≡ marks_of i b xs ++ marks_of i b ys
+pub marks-append : (i : ℕ) (b : Bus) (xs ys : List Item)
+    → marks_of i b (xs ++ ys) ≡ marks_of i b xs ++ marks_of i b ys
 marks-append i b [] ys = refl
 marks-append i b (x ∷ xs) ys = ap (λ ms. item_mark i b x ++ ms) (marks-append i b xs ys)
     ∙ sym (append_assoc (item_mark i b x) (marks_of i b xs) (marks_of i b ys))
 
 -- one more that is no mark
-pub marks-unmarked : (i : ℕ) (b : Bus) (xs : List Item) (y : Item) → item_mark i b y ≡ [] → marks_of i b (xs ++ y ∷ []) ≡ marks_of i b xs
-marks-unmarked i b xs y e = marks-append i b xs (y ∷ []) ∙ ap (λ ms. marks_of i b xs ++ (ms ++ [])) e ∙ append-nil (marks_of i b xs)
+pub marks-unmarked : (i : ℕ) (b : Bus) (xs : List Item) (y : Item) → item_mark i b y ≡ []
+    → marks_of i b (xs ++ y ∷ []) ≡ marks_of i b xs
+marks-unmarked i b xs y e = marks-append i b xs (y ∷ [])
+    ∙ ap (λ ms. marks_of i b xs ++ (ms ++ [])) e ∙ append-nil (marks_of i b xs)
 
 -- the requests of items were made
 abbrev pub AreAsked : Bus → List Item → Type 0
 AreAsked b xs = (n : ℕ) → IsIn (Ask n) xs → (r : Request) × (request_of n b ≡ Some r)
 
 -- where more requests were made
-pub marks-more : (i : ℕ) (b after : Bus) (xs : List Item) → KeepsRequests b after → AreAsked b xs → marks_of i after xs ≡ marks_of i b xs
+pub marks-more : (i : ℕ) (b after : Bus) (xs : List Item) → KeepsRequests b after → AreAsked b xs
+    → marks_of i after xs ≡ marks_of i b xs
 marks-more i b after [] keeps asked = refl
 marks-more i b after (x ∷ xs) keeps asked =
     ap (λ ms. ms ++ marks_of i after xs) (one x (λ n e. asked n (inl (sym e))))
     ∙ ap (λ ms. item_mark i b x ++ ms) (marks-more i b after xs keeps (λ n j. asked n (inr j)))
   where
-    one : (y : Item) → ((n : ℕ) → y ≡ Ask n → (r : Request) × (request_of n b ≡ Some r)) → item_mark i after y ≡ item_mark i b y
+    one : (y : Item) → ((n : ℕ) → y ≡ Ask n → (r : Request) × (request_of n b ≡ Some r))
+        → item_mark i after y ≡ item_mark i b y
     one (Ask n) made = let m = made n refl in ap (request_mark i) (keeps n m.0 m.1 ∙ sym m.1)
     one (Reply n result payload) made = refl
     one (Raw bytes) made = refl
@@ -129,47 +175,66 @@ marks-more i b after (x ∷ xs) keeps asked =
 -- ---- marks on a bus
 
 -- where a connection changes that isn't the supervisory controller's, or keeps its marks
-pub marks-first : (i : ℕ) (b : Bus) (k : ℕ) (f : Connection → Connection) (cs : List Connection) → ((c : Connection) → (f c).number ≡ c.number)
-    → ((c : Connection) → IsIn c cs → c.number ≡ k → c.number ≡ 1 → marks_of i b (queue side.Ap (f c)) ≡ marks_of i b (queue side.Ap c))
-    → marks_of i b (items_in side.Ap (find (has_number 1) (at_first (has_number k) f cs))) ≡ marks_of i b (items_in side.Ap (find (has_number 1) cs))
+pub marks-first : (i : ℕ) (b : Bus) (k : ℕ) (f : Connection → Connection) (cs : List Connection)
+    → ((c : Connection) → (f c).number ≡ c.number)
+    → ((c : Connection) → IsIn c cs → c.number ≡ k → c.number ≡ 1
+    → marks_of i b (queue side.Ap (f c)) ≡ marks_of i b (queue side.Ap c))
+    → marks_of i b (items_in side.Ap
+    (find (has_number 1) (at_first (has_number k) f cs))) ≡ marks_of i b
+    (items_in side.Ap (find (has_number 1) cs))
 marks-first i b k f [] same keeps = refl
-marks-first i b k f (x ∷ xs) same keeps = by (x.number == k) refl (marks-first i b k f xs same (λ c j. keeps c (inr j)))
+marks-first i b k f (x ∷ xs) same keeps =
+    by (x.number == k) refl (marks-first i b k f xs same (λ c j. keeps c (inr j)))
   where
     Same : List Connection → Type 0
-    Same ys = marks_of i b (items_in side.Ap (find (has_number 1) ys)) ≡ marks_of i b (items_in side.Ap (find (has_number 1) (x ∷ xs)))
+    Same ys = marks_of i b (items_in side.Ap (find (has_number 1) ys)) ≡ marks_of i b
+        (items_in side.Ap (find (has_number 1) (x ∷ xs)))
 
     here : x.number ≡ k → (t : Bool) → (x.number == 1) ≡ t
-        → marks_of i b (items_in side.Ap (cond t (Some (f x)) (find (has_number 1) xs))) ≡ marks_of i b (items_in side.Ap (cond t (Some x) (find (has_number 1) xs)))
+        → marks_of i b (items_in side.Ap (cond t (Some (f x)) (find (has_number 1) xs))) ≡ marks_of
+        i b (items_in side.Ap (cond t (Some x) (find (has_number 1) xs)))
     here on true e = keeps x (inl refl) on (same-number x.number 1 e)
     here on false e = refl
 
-    rest : (t : Bool) → marks_of i b (items_in side.Ap (find (has_number 1) (at_first (has_number k) f xs))) ≡ marks_of i b (items_in side.Ap (find (has_number 1) xs))
-        → marks_of i b (items_in side.Ap (cond t (Some x) (find (has_number 1) (at_first (has_number k) f xs))))
+    rest : (t : Bool) → marks_of i b
+        (items_in side.Ap (find (has_number 1) (at_first (has_number k) f xs))) ≡ marks_of i b
+        (items_in side.Ap (find (has_number 1) xs))
+        → marks_of i b (items_in side.Ap
+        (cond t (Some x) (find (has_number 1) (at_first (has_number k) f xs))))
         ≡ marks_of i b (items_in side.Ap (cond t (Some x) (find (has_number 1) xs)))
     rest true h = refl
     rest false h = h
 
     by : (t : Bool) → (x.number == k) ≡ t
-        → marks_of i b (items_in side.Ap (find (has_number 1) (at_first (has_number k) f xs))) ≡ marks_of i b (items_in side.Ap (find (has_number 1) xs))
-        → marks_of i b (items_in side.Ap (find (has_number 1) (cond t (f x ∷ xs) (x ∷ at_first (has_number k) f xs))))
+        → marks_of i b (items_in side.Ap
+        (find (has_number 1) (at_first (has_number k) f xs))) ≡ marks_of i b
+        (items_in side.Ap (find (has_number 1) xs))
+        → marks_of i b (items_in side.Ap
+        (find (has_number 1) (cond t (f x ∷ xs) (x ∷ at_first (has_number k) f xs))))
         ≡ marks_of i b (items_in side.Ap (find (has_number 1) (x ∷ xs)))
-    by true e h = ap (λ n. marks_of i b (items_in side.Ap (cond (n == 1) (Some (f x)) (find (has_number 1) xs)))) (same x)
+    by true e h = ap (λ n. marks_of i b
+        (items_in side.Ap (cond (n == 1) (Some (f x)) (find (has_number 1) xs)))) (same x)
         ∙ here (same-number x.number k e) (x.number == 1) refl
     by false e h = rest (x.number == 1) h
 
 -- what is found stays where others leave
-pub find-left : {A : Type 0} (test left : A → Bool) (xs : List A) → ((x : A) → test x ≡ true → left x ≡ false) → find test (without left xs) ≡ find test xs
+pub find-left : {A : Type 0} (test left : A → Bool) (xs : List A)
+    → ((x : A) → test x ≡ true → left x ≡ false) → find test (without left xs) ≡ find test xs
 find-left test left [] other = refl
-find-left {A} test left (x ∷ xs) other = by (test x) refl (left x) refl (find-left test left xs other)
+find-left {A} test left (x ∷ xs) other =
+    by (test x) refl (left x) refl (find-left test left xs other)
   where
-    by : (t : Bool) → test x ≡ t → (u : Bool) → left x ≡ u → find test (without left xs) ≡ find test xs
-        → find test (cond (not u) (x ∷ without left xs) (without left xs)) ≡ cond t (Some x) (find test xs)
+    by : (t : Bool) → test x ≡ t → (u : Bool) → left x ≡ u
+        → find test (without left xs) ≡ find test xs
+        → find test (cond (not u) (x ∷ without left xs) (without left xs)) ≡ cond t (Some x)
+        (find test xs)
     by true e true f h = absurd (not-both (left x) f (other x e))
     by true e false f h = ap (λ b. cond b (Some x) (find test (without left xs))) e
     by false e true f h = h
     by false e false f h = ap (λ b. cond b (Some x) (find test (without left xs))) e ∙ h
 
 -- or one comes behind that doesn't pass
-pub find-pushed : {A : Type 0} (test : A → Bool) (xs : List A) (y : A) → test y ≡ false → find test (xs ++ y ∷ []) ≡ find test xs
+pub find-pushed : {A : Type 0} (test : A → Bool) (xs : List A) (y : A) → test y ≡ false
+    → find test (xs ++ y ∷ []) ≡ find test xs
 find-pushed test [] y e = ap (λ b. cond b (Some y) None) e
 find-pushed test (x ∷ xs) y e = ap (λ o. cond (test x) (Some x) o) (find-pushed test xs y e)

@@ -1,10 +1,40 @@
 -- Where no identifier comes next, all of the cycle are in use.
-use Rattle.std.proofs.Common.{◌≡◌, ◌<◌, ◌≤◌, ℕ, zero, suc, ◌+◌, ◌-◌, Bool, true, false, cond, ⊎_elim, Some, None, option_and_then, refl, sym, ap, ◌∙◌, arith, ltb}
+use Rattle.std.proofs.Common.{
+  ◌≡◌,
+  ◌<◌,
+  ◌≤◌,
+  ℕ,
+  zero,
+  suc,
+  ◌+◌,
+  ◌-◌,
+  Bool,
+  true,
+  false,
+  cond,
+  ⊎_elim,
+  Some,
+  None,
+  option_and_then,
+  refl,
+  sym,
+  ap,
+  ◌∙◌,
+  arith,
+  ltb,
+}
 use Rattle.std.proofs.lemmas.Bool.{cases_lt}
 use Rattle.std.proofs.lemmas.Bool.Decides.{nat_tests}
 use Rattle.gb_invariants.proofs.Drawing.{label_after-within}
 use Rattle.gb_laws.specs.NoneLeft.{NoneLeftMeansAllInUse}
-use Rattle.gb_machine.specs.Labels.{cyclic_label, free_label, greatest_label, label_after, last_label, next_label}
+use Rattle.gb_machine.specs.Labels.{
+  cyclic_label,
+  free_label,
+  greatest_label,
+  label_after,
+  last_label,
+  next_label,
+}
 use Rattle.gb_machine.specs.Requests.{is_used}
 
 -- the identifier so many places behind another in the cycle

@@ -1,6 +1,27 @@
 -- Each request of the application processor that is awaited is on a live connection, and its side
 -- of that isn't closed.
-use Rattle.std.proofs.Common.{◌≡◌, ◌≢◌, ◌⊎◌, ℕ, Bool, true, false, Some, None, List, ◌∷◌, refl, sym, ap, ◌∙◌, inl, inr, ⊎_elim, subst, arith}
+use Rattle.std.proofs.Common.{
+  ◌≡◌,
+  ◌≢◌,
+  ◌⊎◌,
+  ℕ,
+  Bool,
+  true,
+  false,
+  Some,
+  None,
+  List,
+  ◌∷◌,
+  refl,
+  sym,
+  ap,
+  ◌∙◌,
+  inl,
+  inr,
+  ⊎_elim,
+  subst,
+  arith,
+}
 use Rattle.std.specs.Prelude.{option_map}
 use Rattle.gb_base.specs.declared.end.Side.TheVariants as side
 use Rattle.gb_base.specs.declared.peers.Link.{Link}
@@ -14,7 +35,15 @@ use Rattle.gb_laws.proofs.LinkBuses.{Linked}
 use Rattle.gb_laws.proofs.Links.{IsDeaf}
 use Rattle.gb_laws.proofs.Shutting.{is_shut, shut-first, shut_in, shut_of}
 use Rattle.gb_machine.proofs.Lists.{nth-past}
-use Rattle.gb_machine.specs.Bus.{Bus, Connection, next_number, Request, connection_of, has_number, request_of}
+use Rattle.gb_machine.specs.Bus.{
+  Bus,
+  Connection,
+  next_number,
+  Request,
+  connection_of,
+  has_number,
+  request_of,
+}
 use Rattle.gb_machine.specs.Host.{Host}
 use Rattle.gb_machine.specs.LawsBus.{is_awaited}
 use Rattle.gb_machine.specs.Lists.{at_first}

@@ -75,31 +75,41 @@ pub record IsPlace (at : End) (cs : List Connection) (p : Place) : Type 0 where
   pub wired : p.connection.wired ≡ true
   pub is : end_of p.side p.connection ≡ at
 
-side-is : (at : End) (c : Connection) (s : Side) → side_at at c ≡ Some s → (c.wired ≡ true) × (end_of s c ≡ at)
-side-is at c s h = by (c.wired && same_end at (end.Ap c.ap)) refl (c.wired && same_end at c.peer) refl h
+side-is : (at : End) (c : Connection) (s : Side) → side_at at c ≡ Some s → (c.wired ≡ true)
+    × (end_of s c ≡ at)
+side-is at c s h =
+    by (c.wired && same_end at (end.Ap c.ap)) refl (c.wired && same_end at c.peer) refl h
   where
-    by : (x : Bool) → (c.wired && same_end at (end.Ap c.ap)) ≡ x → (y : Bool) → (c.wired && same_end at c.peer) ≡ y
-        → cond x (Some side.Ap) (cond y (Some side.Far) None) ≡ Some s → (c.wired ≡ true) × (end_of s c ≡ at)
+    by : (x : Bool) → (c.wired && same_end at (end.Ap c.ap)) ≡ x → (y : Bool)
+        → (c.wired && same_end at c.peer) ≡ y
+        → cond x (Some side.Ap) (cond y (Some side.Far) None) ≡ Some s → (c.wired ≡ true)
+        × (end_of s c ≡ at)
     by true e y f h =
-        let p = both-true c.wired (same_end at (end.Ap c.ap)) e in
-        (p.0, ap (λ t. end_of t c) (sym (same-some side.Ap s h)) ∙ sym (same_end-is at (end.Ap c.ap) p.1))
+        let p = both-true c.wired (same_end at (end.Ap c.ap)) e in (
+          p.0,
+          ap (λ t. end_of t c) (sym (same-some side.Ap s h))
+              ∙ sym (same_end-is at (end.Ap c.ap) p.1),
+        )
     by false e true f h =
         let p = both-true c.wired (same_end at c.peer) f in
         (p.0, ap (λ t. end_of t c) (sym (same-some side.Far s h)) ∙ sym (same_end-is at c.peer p.1))
     by false e false f h = absurd cc
 
-pub place-is : (at : End) (cs : List Connection) (p : Place) → place_of at cs ≡ Some p → IsPlace at cs p
+pub place-is : (at : End) (cs : List Connection) (p : Place) → place_of at cs ≡ Some p
+    → IsPlace at cs p
 place-is at [] p h = absurd cc
 place-is at (c ∷ cs) p h = by (side_at at c) refl h (place-is at cs p)
   where
     by : (o : Option Side) → side_at at c ≡ o
-        → or_else (option_map (λ s. record { connection = c; side = s }) o) (place_of at cs) ≡ Some p
+        → or_else (option_map (λ s. record { connection = c; side = s }) o) (place_of at cs) ≡ Some
+        p
         → (place_of at cs ≡ Some p → IsPlace at cs p) → IsPlace at (c ∷ cs) p
     by None e h rec = let r = rec h in record { live = inr r.live; wired = r.wired; is = r.is }
     by (Some s) e h rec =
         let k = side-is at c s e in
         let q : Place = record { connection = c; side = s } in
-        subst (λ x. IsPlace at (c ∷ cs) x) (same-some q p h) (record { live = inl refl; wired = k.0; is = k.1 })
+        subst (λ x. IsPlace at (c ∷ cs) x) (same-some q p h)
+        (record { live = inl refl; wired = k.0; is = k.1 })
 
 -- the place of a module's CPort is at the far side
 pub module-far : (i c : ℕ) (s : Side) (x : Connection) → end_of s x ≡ end.Module i c → s ≡ side.Far
@@ -108,7 +118,8 @@ module-far i c side.Ap x h = absurd cc
 
 -- ---- a connection that changes stays live
 
-pub at_first-back : {A : Type 0} (test : A → Bool) (change : A → A) (xs : List A) (x : A) → IsIn x xs
+pub at_first-back : {A : Type 0} (test : A → Bool) (change : A → A) (xs : List A) (x : A)
+    → IsIn x xs
     → IsIn x (at_first test change xs) ⊎ IsIn (change x) (at_first test change xs)
 at_first-back test change [] x i = absurd i
 at_first-back test change (y ∷ ys) x (inl e) = by (test y)
@@ -138,13 +149,15 @@ lives-replied k at item b n t h =
     (at_first-back (has_number k) (put at item) b.connections h.connection h.live)
   where
     same : (c : Connection) (s : Side) (w : Bool)
-        → ((cond w (queued s item c) c).number ≡ c.number) × ((cond w (queued s item c) c).wired ≡ c.wired)
+        → ((cond w (queued s item c) c).number ≡ c.number)
+        × ((cond w (queued s item c) c).wired ≡ c.wired)
         × ((cond w (queued s item c) c).peer ≡ c.peer) × ((cond w (queued s item c) c).ap ≡ c.ap)
     same c side.Ap true = (refl, refl, refl, refl)
     same c side.Far true = (refl, refl, refl, refl)
     same c s false = (refl, refl, refl, refl)
 
-    still : (x : Connection) → IsIn x (replied k at item b).connections → x.number ≡ h.connection.number
+    still : (x : Connection) → IsIn x (replied k at item b).connections
+        → x.number ≡ h.connection.number
         → x.wired ≡ h.connection.wired → x.peer ≡ h.connection.peer → x.ap ≡ h.connection.ap
         → (l : IsLive n t (replied k at item b)) × (l.intf ≡ h.intf) × (l.cport ≡ h.cport)
         × (l.connection.ap ≡ h.connection.ap)

@@ -108,7 +108,11 @@ on_bus b es a = on (record a.state { bus = b }) es a
 -- an item in hand, as a loose one
 abbrev pub loose_hand : Option Hand → List Loose → List Loose
 loose_hand None loose = loose
-loose_hand (Some h) loose = record { connection = h.connection.number; side = h.side; item = h.item } ∷ loose
+loose_hand (Some h) loose = record {
+  connection = h.connection.number;
+  side = h.side;
+  item = h.item;
+} ∷ loose
 
 -- a held item, as a loose one
 abbrev pub loose_held : Held → Loose
@@ -164,7 +168,8 @@ asked_told d c label b = asked d c label b ∷ sent_told d.oneway (next_number b
 
 -- ---- causes
 
--- At this moment an item is delivered at the application processor, which takes notice of something.
+-- At this moment an item is delivered at the application processor, which takes notice of
+-- something.
 pub record IsNoticed (m : Moment) (e : HostEvent) : Type 0 where
   pub at : End
   pub place : Place
@@ -175,9 +180,11 @@ pub record IsNoticed (m : Moment) (e : HostEvent) : Type 0 where
   pub side : place.side ≡ side.Ap
   pub front : first (queue place.side place.connection) ≡ Some item
   pub made : request_in item m.before.bus ≡ Some request
-  pub notices : (host_serves place.connection.number request.kind request.payload m.before.host).notices ≡ Some e
+  pub notices : (host_serves place.connection.number request.kind request.payload
+      m.before.host).notices ≡ Some e
 
--- At this moment a request is delivered at the application processor, on connection k, of a type and
+-- At this moment a request is delivered at the application processor, on connection k, of a type
+-- and
 -- with a payload.
 pub record IsServed (m : Moment) (k type : ℕ) (bytes : List ℕ) : Type 0 where
   pub at : End
@@ -223,9 +230,11 @@ abbrev pub IsCaused : Moment → HostEvent → Host → Type 0
 IsCaused m (HostEvent.Inserted i) h = (h ≡ m.before.host) × IsNoticed m (HostEvent.Inserted i)
 IsCaused m (HostEvent.Removed i) h = (h ≡ m.before.host) × IsNoticed m (HostEvent.Removed i)
 IsCaused m (HostEvent.Connect i c) h =
-    (h ≡ m.before.host) × (m.event ≡ event.Connect i c) × (refusal m.before (event.Connect i c) ≡ None) × (c ≤ 4095)
+    (h ≡ m.before.host) × (m.event ≡ event.Connect i c)
+    × (refusal m.before (event.Connect i c) ≡ None) × (c ≤ 4095)
 IsCaused m (HostEvent.Disconnect i c) h =
-    (h ≡ m.before.host) × (m.event ≡ event.Disconnect i c) × (refusal m.before (event.Disconnect i c) ≡ None)
+    (h ≡ m.before.host) × (m.event ≡ event.Disconnect i c)
+    × (refusal m.before (event.Disconnect i c) ≡ None)
 IsCaused m (HostEvent.Ended n how) h = Unit {0}
 
 -- a tick, and a request whose deadline came
@@ -251,7 +260,9 @@ IsGivenUpFor m s _ n = ⊥
 -- why the application processor's side of a connection is closed at a moment: the connection is
 -- disconnected, or is one of an interface whose removal is handled
 pub data IsShutFor (m : Moment) (k : ℕ) : Type 0 where
-  disconnected : (i c : ℕ) (l : Link) → m.event ≡ event.Disconnect i c → link_at i c m.before.host ≡ Some l
+  disconnected : (i c : ℕ) (l : Link) → m.event ≡ event.Disconnect i c
+      → link_at i c m.before.host ≡ Some l
       → l.connection ≡ k → IsShutFor m k
-  removed : (i : ℕ) (l : Link) → IsNoticed m (HostEvent.Removed i) → IsIn l (links_of i m.before.host)
+  removed : (i : ℕ) (l : Link) → IsNoticed m (HostEvent.Removed i)
+      → IsIn l (links_of i m.before.host)
       → l.connection ≡ k → IsShutFor m k

@@ -1,5 +1,24 @@
 -- What is said of an enumeration goes over what becomes of the bus.
-use Rattle.std.proofs.Common.{◌≡◌, ◌≢◌, ℕ, Bool, true, false, cond, Some, None, [], ◌∷◌, ◌++◌, refl, sym, ap, ◌∙◌, subst, arith}
+use Rattle.std.proofs.Common.{
+  ◌≡◌,
+  ◌≢◌,
+  ℕ,
+  Bool,
+  true,
+  false,
+  cond,
+  Some,
+  None,
+  [],
+  ◌∷◌,
+  ◌++◌,
+  refl,
+  sym,
+  ap,
+  ◌∙◌,
+  subst,
+  arith,
+}
 use Rattle.std.specs.Prelude.{◌==◌}
 use Rattle.std.specs.List.{find}
 use Rattle.gb_base.specs.declared.end.Side.{Side}
@@ -10,7 +29,15 @@ use Rattle.gb_invariants.proofs.Numbers.{found-by_number}
 use Rattle.gb_invariants.proofs.Outcomes.{same-number}
 use Rattle.gb_invariants.proofs.Selves.{drawn-queue, front-self, put-self}
 use Rattle.gb_invariants.specs.Facts.{IsOwn}
-use Rattle.gb_laws.proofs.Enums.{IsClean, clean-none, enum_of, enums, enums-append, enums-more, enums_of}
+use Rattle.gb_laws.proofs.Enums.{
+  IsClean,
+  clean-none,
+  enum_of,
+  enums,
+  enums-append,
+  enums-more,
+  enums_of,
+}
 use Rattle.gb_laws.proofs.Framing.{asked-toward}
 use Rattle.gb_laws.proofs.Onward.{drawn-wired}
 use Rattle.gb_laws.proofs.Owning.{KeepsRequests}

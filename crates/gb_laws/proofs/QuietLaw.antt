@@ -43,7 +43,37 @@ use Rattle.gb_laws.proofs.Links.{ArePending}
 use Rattle.gb_laws.proofs.Loosening.{held-at, map-held-in}
 use Rattle.gb_laws.proofs.Marks.{find-left, find-pushed}
 use Rattle.gb_laws.proofs.Places.{module-far, place-is}
-use Rattle.gb_laws.proofs.Points.{Change, IsAskedBy, IsElse, IsPlain, acts_asked, acts_failed, acts_left, acts_opened, acts_shut, acts_told, answers, asks, by_far, by_host, changed, drops, forgets, gives_up, holds, injects, names, others, replies, serves, takes, takes_held, turns, unwires, wires}
+use Rattle.gb_laws.proofs.Points.{
+  Change,
+  IsAskedBy,
+  IsElse,
+  IsPlain,
+  acts_asked,
+  acts_failed,
+  acts_left,
+  acts_opened,
+  acts_shut,
+  acts_told,
+  answers,
+  asks,
+  by_far,
+  by_host,
+  changed,
+  drops,
+  forgets,
+  gives_up,
+  holds,
+  injects,
+  names,
+  others,
+  replies,
+  serves,
+  takes,
+  takes_held,
+  turns,
+  unwires,
+  wires,
+}
 use Rattle.gb_laws.proofs.PointParts.{Basis, Hand, Point, loose_hand, loose_held, resting}
 use Rattle.gb_laws.proofs.Quiet.{IsQuiet, SameView, off, quiet-still, view-same}
 use Rattle.gb_laws.proofs.QuietBuses.{queues-kept, queues-other}
@@ -300,4 +330,5 @@ module _ (m : Moment) (i : ℕ) (before : Basis (resting m.told m.before))
           (λ q j. j) h)
           (of.1 i)
   quiet-kept a x basis links there h =
-      rests i a (changed m a x) basis refl refl (λ x f. f) (same-waits a.state.host) refl (λ q j. j) h
+      rests i a (changed m a x) basis refl refl (λ x f. f) (same-waits a.state.host) refl (λ q j. j)
+      h

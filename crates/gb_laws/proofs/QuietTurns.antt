@@ -1,6 +1,25 @@
 -- What is said of an enumeration while a removal waits is kept by what the application processor
 -- does: its turns, what its sequences wait for, and where no identifier is left.
-use Rattle.std.proofs.Common.{◌≡◌, ℕ, Bool, true, false, cond, Some, None, List, [], refl, sym, ap, ◌∙◌, inl, inr, ⊎_elim, subst}
+use Rattle.std.proofs.Common.{
+  ◌≡◌,
+  ℕ,
+  Bool,
+  true,
+  false,
+  cond,
+  Some,
+  None,
+  List,
+  [],
+  refl,
+  sym,
+  ap,
+  ◌∙◌,
+  inl,
+  inr,
+  ⊎_elim,
+  subst,
+}
 use Rattle.gb_base.specs.declared.steps.SequenceStep.{SequenceStep}
 use Rattle.gb_base.specs.declared.peers.Interface.{Interface}
 use Rattle.gb_invariants.proofs.Awaiting.{not-both, same-some}

@@ -1,5 +1,30 @@
 -- What laws alone speak of is never forgotten, and each request is remembered for one connection.
-use Rattle.std.proofs.Common.{◌≡◌, ◌≤◌, ℕ, ◌+◌, Bool, true, false, cond, Option, Some, None, List, [], ◌∷◌, ◌++◌, length, length-append, refl, sym, ap, ◌∙◌, ⊎_elim, subst, arith}
+use Rattle.std.proofs.Common.{
+  ◌≡◌,
+  ◌≤◌,
+  ℕ,
+  ◌+◌,
+  Bool,
+  true,
+  false,
+  cond,
+  Option,
+  Some,
+  None,
+  List,
+  [],
+  ◌∷◌,
+  ◌++◌,
+  length,
+  length-append,
+  refl,
+  sym,
+  ap,
+  ◌∙◌,
+  ⊎_elim,
+  subst,
+  arith,
+}
 use Rattle.gb_base.specs.declared.entry.Entry.{Entry}
 use Rattle.gb_base.specs.declared.peers.Link.{Link}
 use Rattle.gb_base.specs.declared.steps.Purpose.{Purpose}
@@ -7,7 +32,19 @@ use Rattle.gb_invariants.proofs.Awaiting.{same-some}
 use Rattle.gb_invariants.proofs.Lists.{each-from, in-front, in-pushed}
 use Rattle.gb_laws.proofs.Basics.{Based, basis-first, basis-kept, basis-throughout, rested}
 use Rattle.gb_laws.proofs.PointParts.{Basis, Point}
-use Rattle.gb_laws.proofs.Points.{Change, IsAskedBy, Law, awaited_by, acts_asked, asks, by_far, by_host, changed, names, wires}
+use Rattle.gb_laws.proofs.Points.{
+  Change,
+  IsAskedBy,
+  Law,
+  awaited_by,
+  acts_asked,
+  asks,
+  by_far,
+  by_host,
+  changed,
+  names,
+  wires,
+}
 use Rattle.gb_laws.proofs.Runs.{HoldsAtMoments, HoldsByMoments, Keeps, at_each, throughout, weaker}
 use Rattle.gb_laws.proofs.Steps.{over-step}
 use Rattle.gb_machine.specs.Bus.{Request}

@@ -11,7 +11,18 @@ use Rattle.gb_formats.specs.UartDevice.{credits_added}
 use Rattle.gb_formats.specs.UartRecords.{UartAsk, read_uart_ask_of_module}
 use Rattle.gb_laws.proofs.PointParts.{is_silent}
 use Rattle.gb_machine.specs.Host.{Host, link_of}
-use Rattle.gb_machine.specs.HostServing.{HostServed, credited, host_refuses, host_serves, interrupted, notified_by, served_on, serves_gpio, serves_uart, uart_notified_by}
+use Rattle.gb_machine.specs.HostServing.{
+  HostServed,
+  credited,
+  host_refuses,
+  host_serves,
+  interrupted,
+  notified_by,
+  served_on,
+  serves_gpio,
+  serves_uart,
+  uart_notified_by,
+}
 use Rattle.gb_machine.specs.Turns.{HostEvent}
 
 -- what is told, if anything, is quiet
@@ -22,11 +33,14 @@ IsQuietly (Some e) = is_silent e ≡ true
 -- How the application processor serves a request.
 pub data ServedAs (h : Host) (r : HostServed) : Type 0 where
   plainly : IsQuietly r.told → r.notices ≡ None → ServedAs h r
-  inserting : (i : ℕ) → r.host ≡ h → r.told ≡ None → r.notices ≡ Some (HostEvent.Inserted i) → ServedAs h r
-  removing : (i : ℕ) → r.host ≡ h → r.told ≡ None → r.notices ≡ Some (HostEvent.Removed i) → ServedAs h r
+  inserting : (i : ℕ) → r.host ≡ h → r.told ≡ None → r.notices ≡ Some (HostEvent.Inserted i)
+      → ServedAs h r
+  removing : (i : ℕ) → r.host ≡ h → r.told ≡ None → r.notices ≡ Some (HostEvent.Removed i)
+      → ServedAs h r
 
 -- one of two
-served-if : (h : Host) (b : Bool) (x y : HostServed) → ServedAs h x → ServedAs h y → ServedAs h (cond b x y)
+served-if : (h : Host) (b : Bool) (x y : HostServed) → ServedAs h x → ServedAs h y
+    → ServedAs h (cond b x y)
 served-if h true x y p q = p
 served-if h false x y p q = q
 
@@ -41,7 +55,8 @@ served-svc h (Ok (SvcAsk.ProtocolVersion major minor)) = plainly tt refl
 served-svc h (Ok (SvcAsk.Hello endo intf)) = plainly tt refl
 served-svc h (Ok _) = plainly tt refl
 
-served-gpio : (h : Host) (l : Link) (r : Result GpioAsk PayloadFault) → ServedAs h (interrupted l r h)
+served-gpio : (h : Host) (l : Link) (r : Result GpioAsk PayloadFault)
+    → ServedAs h (interrupted l r h)
 served-gpio h l (Err fault) = refused h _
 served-gpio h l (Ok (GpioAsk.IrqEvent which)) = plainly refl refl
 served-gpio h l (Ok _) = plainly tt refl
@@ -50,11 +65,13 @@ served-credits : (h : Host) (l : Link) (o : Option ℕ) → ServedAs h (credited
 served-credits h l None = refused h _
 served-credits h l (Some total) = plainly refl refl
 
-served-uart : (h : Host) (l : Link) (r : Result UartAsk PayloadFault) → ServedAs h (uart_notified_by l r h)
+served-uart : (h : Host) (l : Link) (r : Result UartAsk PayloadFault)
+    → ServedAs h (uart_notified_by l r h)
 served-uart h l (Err fault) = refused h _
 served-uart h l (Ok (UartAsk.ReceiveData flags bytes)) = plainly refl refl
 served-uart h l (Ok (UartAsk.SerialState control)) = plainly refl refl
-served-uart h l (Ok (UartAsk.ReceiveCredits count)) = served-credits h l (credits_added l.credits count)
+served-uart h l (Ok (UartAsk.ReceiveCredits count)) =
+    served-credits h l (credits_added l.credits count)
 served-uart h l (Ok _) = plainly tt refl
 
 pub served : (k kind : ℕ) (payload : List ℕ) (h : Host) → ServedAs h (host_serves k kind payload h)

@@ -24,7 +24,8 @@ pub record EndsKnown (s : State) (c : Connection) : Type 0 where
   plugged : c.wired ≡ true → is_end_unplugged c.peer s ≡ false
   peer : c.wired ≡ true → IsEnd c.peer
 
-pub ends-known : (s : State) (c : Connection) → Linked s.bus s.host [] → WiredFit s → IsIn c s.bus.connections → EndsKnown s c
+pub ends-known : (s : State) (c : Connection) → Linked s.bus s.host [] → WiredFit s
+    → IsIn c s.bus.connections → EndsKnown s c
 ends-known s c links well live = by (links.known c live)
   where
     by : IsKnown c s.host.links [] → EndsKnown s c
@@ -39,18 +40,24 @@ ends-known s c links well live = by (links.known c live)
       ap = let within = n.within in let same = of.ap in omega (arith, within, same);
       plugged = λ wired. ap (λ e. is_end_unplugged e s) of.peer
           ∙ ap not (well.wired c live wired l.intf l.cport of.peer);
-      peer = λ wired. subst IsEnd (sym of.peer) (well.range l.intf (well.wired c live wired l.intf l.cport of.peer), n.cport);
+      peer = λ wired. subst IsEnd (sym of.peer)
+          (well.range l.intf (well.wired c live wired l.intf l.cport of.peer), n.cport);
     }
     by (leaving i) = absurd i
 
-settleable : (s : State) → EachTwo AreApart s.bus.connections → Linked s.bus s.host [] → WiredFit s → IsSettleable s
+settleable : (s : State) → EachTwo AreApart s.bus.connections → Linked s.bus s.host [] → WiredFit s
+    → IsSettleable s
 settleable s apart links well = record {
   deliverable = record {
     apart = apart;
     far = λ c live. (ends-known s c links well live).far;
     plugged = λ c live wired. (ends-known s c links well live).plugged wired;
   };
-  ends = λ c live wired. ((ends-known s c links well live).ap, (ends-known s c links well live).peer wired);
+  ends = λ c live wired. (
+    (ends-known s c links well live).ap,
+    (ends-known s c links well live).peer
+        wired,
+  );
 }
 
 -- In every state nothing that waits is refused.

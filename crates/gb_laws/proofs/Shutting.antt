@@ -1,5 +1,26 @@
 -- Whether the application processor's side of a connection is closed, as it goes with the bus.
-use Rattle.std.proofs.Common.{◌≡◌, ◌≢◌, ℕ, Bool, true, false, cond, Option, Some, None, List, [], ◌∷◌, ◌++◌, refl, sym, ap, ◌∙◌, inl, inr}
+use Rattle.std.proofs.Common.{
+  ◌≡◌,
+  ◌≢◌,
+  ℕ,
+  Bool,
+  true,
+  false,
+  cond,
+  Option,
+  Some,
+  None,
+  List,
+  [],
+  ◌∷◌,
+  ◌++◌,
+  refl,
+  sym,
+  ap,
+  ◌∙◌,
+  inl,
+  inr,
+}
 use Rattle.std.specs.Prelude.{◌==◌, is_some, option_map}
 use Rattle.std.specs.List.{find}
 use Rattle.gb_base.specs.declared.end.Side.{Side}
@@ -7,7 +28,13 @@ use Rattle.gb_base.specs.declared.outcome.Outcome.{Outcome}
 use Rattle.gb_base.specs.declared.outcome.Outcome.TheVariants as outcome
 use Rattle.gb_invariants.proofs.Awaiting.{Awaits, awaits, late, not-both, still}
 use Rattle.gb_invariants.proofs.Lists.{in-without}
-use Rattle.gb_invariants.proofs.Outcomes.{missing-all, open_requests-in, pair-there, same-number, there-all}
+use Rattle.gb_invariants.proofs.Outcomes.{
+  missing-all,
+  open_requests-in,
+  pair-there,
+  same-number,
+  there-all,
+}
 use Rattle.gb_laws.proofs.LinkLists.{find-changed, none-of}
 use Rattle.gb_laws.proofs.Marks.{find-left, find-pushed}
 use Rattle.gb_machine.specs.Bus.{Bus, Connection, Request, has_number, request_of}

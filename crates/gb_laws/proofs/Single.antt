@@ -1,5 +1,25 @@
 -- Identifiers differ, each number is in one item, names name requests, and the counts add up.
-use Rattle.std.proofs.Common.{◌≡◌, ◌≤◌, ℕ, ◌+◌, Bool, true, false, cond, Option, Some, None, List, [], ◌∷◌, ◌++◌, length, map, refl, arith}
+use Rattle.std.proofs.Common.{
+  ◌≡◌,
+  ◌≤◌,
+  ℕ,
+  ◌+◌,
+  Bool,
+  true,
+  false,
+  cond,
+  Option,
+  Some,
+  None,
+  List,
+  [],
+  ◌∷◌,
+  ◌++◌,
+  length,
+  map,
+  refl,
+  arith,
+}
 use Rattle.gb_base.specs.declared.outcome.Outcome.{Outcome}
 use Rattle.gb_base.specs.declared.outcome.Outcome.TheVariants as outcome
 use Rattle.gb_invariants.proofs.Counts.{times-append, times-cons, total-some}
@@ -14,7 +34,16 @@ use Rattle.gb_machine.specs.Holding.{held_on, is_held_on}
 use Rattle.gb_machine.specs.LawsBus.{HaveNamed, HaveOneItem, HaveOwnLabels, is_item_of}
 use Rattle.gb_machine.specs.Members.{times}
 use Rattle.gb_machine.specs.State.{Held, first_state}
-use Rattle.gb_machine.specs.Summary.{CountsAddUp, is_answered, is_cancelled, is_disconnected, is_sent, is_timed_out, is_unended, standing_from}
+use Rattle.gb_machine.specs.Summary.{
+  CountsAddUp,
+  is_answered,
+  is_cancelled,
+  is_disconnected,
+  is_sent,
+  is_timed_out,
+  is_unended,
+  standing_from,
+}
 
 -- Identifiers that are in use differ.
 pub labels-by_moments : HoldsByMoments HaveOwnLabels
@@ -26,23 +55,32 @@ names-by_moments = weaker Based HaveNamed (λ told s h. h.names) basis-throughou
 
 -- what is held on a connection is among what is loose
 held-counted : (test : Item → Bool) (k : ℕ) (hs : List Held)
-    → times test (map (λ (h : Held). h.item) (held_on k hs)) ≤ times (λ (l : Loose). test l.item) (map loose_held hs)
+    → times test (map (λ (h : Held). h.item) (held_on k hs)) ≤ times (λ (l : Loose). test l.item)
+    (map loose_held hs)
 held-counted test k [] = omega arith
 held-counted test k (h ∷ hs) = by (is_held_on k h) (held-counted test k hs)
   where
-    by : (t : Bool) → times test (map (λ (h : Held). h.item) (held_on k hs)) ≤ times (λ (l : Loose). test l.item) (map loose_held hs)
-        → times test (map (λ (h : Held). h.item) (cond t (h ∷ held_on k hs) (held_on k hs))) ≤ times (λ (l : Loose). test l.item) (loose_held h ∷ map loose_held hs)
+    by : (t : Bool) → times test (map (λ (h : Held). h.item) (held_on k hs)) ≤ times
+        (λ (l : Loose). test l.item) (map loose_held hs)
+        → times test (map (λ (h : Held). h.item) (cond t (h ∷ held_on k hs) (held_on k hs))) ≤ times
+        (λ (l : Loose). test l.item) (loose_held h ∷ map loose_held hs)
     by true r = omega (
       arith,
       r,
       times-cons test h.item (map (λ (h : Held). h.item) (held_on k hs)),
       times-cons (λ (l : Loose). test l.item) (loose_held h) (map loose_held hs),
     )
-    by false r = omega (arith, r, times-cons (λ (l : Loose). test l.item) (loose_held h) (map loose_held hs))
+    by false r = omega (
+      arith,
+      r,
+      times-cons (λ (l : Loose). test l.item) (loose_held h)
+          (map loose_held hs),
+    )
 
 -- On a clean connection each number is in one item at most; so it is on others.
 pub one-item_by_moments : HoldsByMoments HaveOneItem
-one-item_by_moments = weaker Based HaveOneItem (λ told s h. each-from _ s.bus.connections (λ c live clean n.
+one-item_by_moments =
+    weaker Based HaveOneItem (λ told s h. each-from _ s.bus.connections (λ c live clean n.
     let most = h.bus.ones n in
     let here = total-some (times_on (is_item_of n)) s.bus.connections c live in
     let held = held-counted (is_item_of n) c.number s.held in
@@ -51,7 +89,8 @@ one-item_by_moments = weaker Based HaveOneItem (λ told s h. each-from _ s.bus.c
       most,
       here,
       held,
-      times-append (is_item_of n) c.to_ap (c.to_far ++ map (λ (x : Held). x.item) (held_on c.number s.held)),
+      times-append (is_item_of n) c.to_ap
+          (c.to_far ++ map (λ (x : Held). x.item) (held_on c.number s.held)),
       times-append (is_item_of n) c.to_far (map (λ (x : Held). x.item) (held_on c.number s.held)),
     ))) basis-throughout
 
@@ -59,20 +98,30 @@ one-item_by_moments = weaker Based HaveOneItem (λ told s h. each-from _ s.bus.c
 
 -- how a request stands is one of six
 adds-up : (n : ℕ) (b : Bus) (rs : List Request)
-    → length rs ≡ standing_from n is_answered b rs + standing_from n is_cancelled b rs + standing_from n is_timed_out b rs
-    + standing_from n is_disconnected b rs + standing_from n is_sent b rs + standing_from n is_unended b rs
+    → length rs ≡ standing_from n is_answered b rs + standing_from n is_cancelled b rs +
+    standing_from n is_timed_out b rs
+    + standing_from n is_disconnected b rs + standing_from n is_sent b rs + standing_from n
+    is_unended b rs
 adds-up n b [] = refl
 adds-up n b (r ∷ rs) = by (outcome_of n b) (adds-up (n + 1) b rs)
   where
     by : (o : Option Outcome)
-        → length rs ≡ standing_from (n + 1) is_answered b rs + standing_from (n + 1) is_cancelled b rs + standing_from (n + 1) is_timed_out b rs
-        + standing_from (n + 1) is_disconnected b rs + standing_from (n + 1) is_sent b rs + standing_from (n + 1) is_unended b rs
-        → length (r ∷ rs) ≡ cond (is_answered o) (standing_from (n + 1) is_answered b rs + 1) (standing_from (n + 1) is_answered b rs)
-        + cond (is_cancelled o) (standing_from (n + 1) is_cancelled b rs + 1) (standing_from (n + 1) is_cancelled b rs)
-        + cond (is_timed_out o) (standing_from (n + 1) is_timed_out b rs + 1) (standing_from (n + 1) is_timed_out b rs)
-        + cond (is_disconnected o) (standing_from (n + 1) is_disconnected b rs + 1) (standing_from (n + 1) is_disconnected b rs)
-        + cond (is_sent o) (standing_from (n + 1) is_sent b rs + 1) (standing_from (n + 1) is_sent b rs)
-        + cond (is_unended o) (standing_from (n + 1) is_unended b rs + 1) (standing_from (n + 1) is_unended b rs)
+        → length rs ≡ standing_from (n + 1) is_answered b rs + standing_from (n + 1) is_cancelled b
+        rs + standing_from (n + 1) is_timed_out b rs
+        + standing_from (n + 1) is_disconnected b rs + standing_from (n + 1) is_sent b rs +
+        standing_from (n + 1) is_unended b rs
+        → length (r ∷ rs) ≡ cond (is_answered o) (standing_from (n + 1) is_answered b rs + 1)
+        (standing_from (n + 1) is_answered b rs)
+        + cond (is_cancelled o) (standing_from (n + 1) is_cancelled b rs + 1)
+        (standing_from (n + 1) is_cancelled b rs)
+        + cond (is_timed_out o) (standing_from (n + 1) is_timed_out b rs + 1)
+        (standing_from (n + 1) is_timed_out b rs)
+        + cond (is_disconnected o) (standing_from (n + 1) is_disconnected b rs + 1)
+        (standing_from (n + 1) is_disconnected b rs)
+        + cond (is_sent o) (standing_from (n + 1) is_sent b rs + 1)
+        (standing_from (n + 1) is_sent b rs)
+        + cond (is_unended o) (standing_from (n + 1) is_unended b rs + 1)
+        (standing_from (n + 1) is_unended b rs)
     by None h = omega (arith, h)
     by (Some outcome.Cancelled) h = omega (arith, h)
     by (Some outcome.Timeout) h = omega (arith, h)

@@ -1,5 +1,21 @@
 -- What waits on the supervisory controller's connection, where a connection changes.
-use Rattle.std.proofs.Common.{◌≡◌, ℕ, Bool, true, false, cond, Some, List, [], ◌∷◌, refl, ap, ◌∙◌, inl, inr}
+use Rattle.std.proofs.Common.{
+  ◌≡◌,
+  ℕ,
+  Bool,
+  true,
+  false,
+  cond,
+  Some,
+  List,
+  [],
+  ◌∷◌,
+  refl,
+  ap,
+  ◌∙◌,
+  inl,
+  inr,
+}
 use Rattle.std.specs.Prelude.{◌==◌, option_map}
 use Rattle.std.specs.List.{find}
 use Rattle.gb_base.specs.declared.end.Side.{Side}

@@ -1,5 +1,22 @@
 -- The type of a request of the SVC protocol is that of the record that its payload is.
-use Rattle.std.proofs.Common.{◌≡◌, ℕ, Bool, true, false, cond, Some, List, [], ◌∷◌, length, refl, sym, ap, ◌∙◌, subst}
+use Rattle.std.proofs.Common.{
+  ◌≡◌,
+  ℕ,
+  Bool,
+  true,
+  false,
+  cond,
+  Some,
+  List,
+  [],
+  ◌∷◌,
+  length,
+  refl,
+  sym,
+  ap,
+  ◌∙◌,
+  subst,
+}
 use Rattle.std.specs.Prelude.{Result, Ok, Err, ◌==◌, ◌+◌, min, sum}
 use Rattle.std.specs.List.{find}
 use Rattle.gb_formats.specs.Records.{PayloadFault, Row, fields_of, read_row, read_table}

@@ -1,5 +1,26 @@
 -- What was told of a connection is of one that was made, and names its far end.
-use Rattle.std.proofs.Common.{◌≡◌, ◌≤◌, ℕ, Bool, true, false, List, [], ◌∷◌, ◌++◌, map, refl, sym, ap, ◌∙◌, inl, inr, ⊎_elim, subst, arith}
+use Rattle.std.proofs.Common.{
+  ◌≡◌,
+  ◌≤◌,
+  ℕ,
+  Bool,
+  true,
+  false,
+  List,
+  [],
+  ◌∷◌,
+  ◌++◌,
+  map,
+  refl,
+  sym,
+  ap,
+  ◌∙◌,
+  inl,
+  inr,
+  ⊎_elim,
+  subst,
+  arith,
+}
 use Rattle.gb_base.specs.declared.end.End.TheVariants as end
 use Rattle.gb_base.specs.declared.entry.Entry.{Entry}
 use Rattle.gb_base.specs.declared.entry.Entry.TheVariants as entry
@@ -7,7 +28,14 @@ use Rattle.gb_base.specs.declared.end.Side.TheVariants as side
 use Rattle.gb_base.specs.declared.peers.Link.{Link}
 use Rattle.gb_invariants.proofs.Labels.{asked_on, asked_on-number}
 use Rattle.gb_invariants.proofs.ItemChanges.{asked_on-self}
-use Rattle.gb_invariants.proofs.Lists.{each-append, each-in, each-weaker, in-at_first, in-pushed, in-without}
+use Rattle.gb_invariants.proofs.Lists.{
+  each-append,
+  each-in,
+  each-weaker,
+  in-at_first,
+  in-pushed,
+  in-without,
+}
 use Rattle.gb_invariants.proofs.Selves.{front-self, put-self}
 use Rattle.gb_invariants.specs.Facts.{IsMade}
 use Rattle.gb_laws.proofs.Awaited.{awaited-rest}
@@ -17,7 +45,32 @@ use Rattle.gb_laws.proofs.LinkTells.{ActsTell, TellsLink, turns-tell, unsent-tol
 use Rattle.gb_laws.proofs.Linking.{LinkedAt}
 use Rattle.gb_laws.proofs.Links.{ArePending, IsKnown, leaving, linked, supervisory}
 use Rattle.gb_laws.proofs.PointParts.{Basis, Point, is_silent, sent_told}
-use Rattle.gb_laws.proofs.Points.{Change, IsAsking, acts_asked, acts_failed, acts_left, acts_opened, acts_shut, acts_told, answers, asking, asks, changed, drops, forgets, gives_up, injects, names, opening, replies, takes, tells, turns, unwires, wires}
+use Rattle.gb_laws.proofs.Points.{
+  Change,
+  IsAsking,
+  acts_asked,
+  acts_failed,
+  acts_left,
+  acts_opened,
+  acts_shut,
+  acts_told,
+  answers,
+  asking,
+  asks,
+  changed,
+  drops,
+  forgets,
+  gives_up,
+  injects,
+  names,
+  opening,
+  replies,
+  takes,
+  tells,
+  turns,
+  unwires,
+  wires,
+}
 use Rattle.gb_machine.specs.Bus.{Bus, Connection, Raw, has_number, next_number, other_side}
 use Rattle.gb_machine.specs.Delivery.{without_front}
 use Rattle.gb_machine.specs.Failures.{unsent}

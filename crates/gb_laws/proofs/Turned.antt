@@ -1,6 +1,21 @@
 -- The facts of the application processor's connections behind each of its turns, before the acts of
 -- the turn are done.
-use Rattle.std.proofs.Common.{◌≡◌, ◌≤◌, ℕ, Option, Some, None, List, [], ◌∷◌, refl, sym, ap, ◌∙◌, subst}
+use Rattle.std.proofs.Common.{
+  ◌≡◌,
+  ◌≤◌,
+  ℕ,
+  Option,
+  Some,
+  None,
+  List,
+  [],
+  ◌∷◌,
+  refl,
+  sym,
+  ap,
+  ◌∙◌,
+  subst,
+}
 use Rattle.std.specs.Prelude.{Result, Ok, Err, option_map}
 use Rattle.gb_base.specs.declared.end.End.{End}
 use Rattle.gb_base.specs.declared.end.Side.TheVariants as side
@@ -20,7 +35,13 @@ use Rattle.gb_machine.proofs.Conditions.{free, front-unmet}
 use Rattle.gb_machine.specs.Bus.{Ask, Bus, Place, Request, place_of, queue, request_of}
 use Rattle.gb_machine.specs.Host.{Host, control_of, interface_of, link_of}
 use Rattle.gb_machine.specs.HostRefusals.{connect_conditions, disconnect_conditions}
-use Rattle.gb_machine.specs.HostServing.{HostServed, host_serves, notified_by, served_on, serves_svc}
+use Rattle.gb_machine.specs.HostServing.{
+  HostServed,
+  host_serves,
+  notified_by,
+  served_on,
+  serves_svc,
+}
 use Rattle.gb_machine.specs.HostTurns.{host_turn}
 use Rattle.gb_machine.specs.Incoming.{incoming}
 use Rattle.gb_machine.specs.Labels.{no_label}

@@ -1,6 +1,31 @@
 -- Where a connection is wired its module is plugged and its interface routed, throughout.
 use Rattle.gb_laws.proofs.LinkLists.{none-of}
-use Rattle.std.proofs.Common.{◌≡◌, ◌≢◌, ◌≤◌, arith, ℕ, Bool, true, false, cond, Option, Some, None, List, [], ◌∷◌, map, refl, sym, ap, ◌∙◌, inl, inr, ⊎_elim, subst}
+use Rattle.std.proofs.Common.{
+  ◌≡◌,
+  ◌≢◌,
+  ◌≤◌,
+  arith,
+  ℕ,
+  Bool,
+  true,
+  false,
+  cond,
+  Option,
+  Some,
+  None,
+  List,
+  [],
+  ◌∷◌,
+  map,
+  refl,
+  sym,
+  ap,
+  ◌∙◌,
+  inl,
+  inr,
+  ⊎_elim,
+  subst,
+}
 use Rattle.std.specs.Prelude.{◌==◌, ◌&&◌, is_some, option_map}
 use Rattle.std.specs.List.{filter, find}
 use Rattle.gb_base.specs.declared.end.End.TheVariants as end
@@ -37,8 +62,24 @@ use Rattle.gb_machine.specs.Events.{decided, step}
 use Rattle.gb_machine.specs.Members.{EachTwo, IsIn}
 use Rattle.gb_machine.specs.Modules.{is_plugged, is_plugged_at, plugged, unplugged}
 use Rattle.gb_machine.specs.OwnAsking.{svc_asks}
-use Rattle.gb_machine.specs.Plugging.{boots, plugs, pulls, tells_inserted, wired_numbers, with_plugged, with_pulled}
-use Rattle.gb_machine.specs.Ports.{is_port, is_powered, level_in, level_of, port_of, powered, unpowered}
+use Rattle.gb_machine.specs.Plugging.{
+  boots,
+  plugs,
+  pulls,
+  tells_inserted,
+  wired_numbers,
+  with_plugged,
+  with_pulled,
+}
+use Rattle.gb_machine.specs.Ports.{
+  is_port,
+  is_powered,
+  level_in,
+  level_of,
+  port_of,
+  powered,
+  unpowered,
+}
 use Rattle.gb_machine.specs.Refusals.{refusal}
 use Rattle.gb_machine.specs.Runs.{IsMoment, Moment, after}
 use Rattle.gb_machine.specs.State.{Plugged, Port, State, first_state}
@@ -51,12 +92,14 @@ use Rattle.gb_machine.specs.Wiring.{is_at, is_wired_to}
 fit-ask : (s t : State) (o : Option HostEvent) → AfterAsk s t o → WiredFit s → WiredFit t
 fit-ask s t o a h = fit-bus s t a.wired a.modules a.ports h
 
-fit-tells : (ps : List Plugged) (s : State) → QueueIsAsked s.bus → WiredFit s → WiredFit (each ps (λ p. tells_inserted p.intf) s).state
+fit-tells : (ps : List Plugged) (s : State) → QueueIsAsked s.bus → WiredFit s
+    → WiredFit (each ps (λ p. tells_inserted p.intf) s).state
 unfolding machine_opened
 fit-tells [] s asked h = h
 fit-tells (p ∷ ps) s asked h =
     let a = after-ask (SvcAsk.ModuleInserted p.intf 1 0) s asked in
-    fit-tells ps (tells_inserted p.intf s).state a.asked (fit-ask s (tells_inserted p.intf s).state _ a h)
+    fit-tells ps (tells_inserted p.intf s).state a.asked
+    (fit-ask s (tells_inserted p.intf s).state _ a h)
 
 fit-boots : (s : State) → QueueIsAsked s.bus → WiredFit s → WiredFit (boots s).state
 unfolding machine_opened
@@ -88,13 +131,15 @@ fit-plugged i x s valid free h = record {
 }
   where
     by_bound : (j : ℕ) (t : Bool)
-        → level_in (cond t (Some (record { intf = i; level = 0; device = None })) (port_of j s.ports)) ≤ 6
+        → level_in (cond t (Some (record { intf = i; level = 0; device = None }))
+        (port_of j s.ports)) ≤ 6
     by_bound j true = omega arith
     by_bound j false = h.bound j
 
     by_route : (c : Connection) → IsIn c s.bus.connections → c.wired ≡ true → (j p : ℕ)
         → c.peer ≡ end.Module j p → (t : Bool) → (i == j) ≡ t
-        → level_in (cond t (Some (record { intf = i; level = 0; device = None })) (port_of j s.ports)) ≡ 6
+        → level_in (cond t (Some (record { intf = i; level = 0; device = None }))
+        (port_of j s.ports)) ≡ 6
     by_route c live wired j p at true e =
         absurd (not-both (is_plugged i s.modules)
         (ap (λ n. is_plugged n s.modules) (same-number i j e) ∙ h.wired c live wired j p at) free)
@@ -110,14 +155,19 @@ fit-plugged i x s valid free h = record {
         by true f = plugged-at j (record { intf = i; body = x }) s.modules f
         by false f = plugged-other j (record { intf = i; body = x }) s.modules f ∙ e
 
-    by_power : (j : ℕ) (t : Bool) → (i == j) ≡ t → is_powered j (powered i s.ports) ≡ true → is_plugged j (plugged i x s.modules) ≡ true
+    by_power : (j : ℕ) (t : Bool) → (i == j) ≡ t → is_powered j (powered i s.ports) ≡ true
+        → is_plugged j (plugged i x s.modules) ≡ true
     by_power j true f e = plugged-at j (record { intf = i; body = x }) s.modules f
     by_power j false f e = plugged-other j (record { intf = i; body = x }) s.modules f
-        ∙ h.powered j (sym (ap (λ t. is_some (cond t (Some (let p : Port = record { intf = i; level = 0; device = None } in p)) (find (is_port j) s.ports))) f) ∙ e)
+        ∙ h.powered j (sym (ap (λ t. is_some
+        (cond t (Some (let p : Port = record { intf = i; level = 0; device = None } in p))
+        (find (is_port j) s.ports))) f) ∙ e)
 
-    by_range : (j : ℕ) (t : Bool) → (i == j) ≡ t → is_plugged j (plugged i x s.modules) ≡ true → IsIntf j
+    by_range : (j : ℕ) (t : Bool) → (i == j) ≡ t → is_plugged j (plugged i x s.modules) ≡ true
+        → IsIntf j
     by_range j true f e = subst IsIntf (same-number i j f) valid
-    by_range j false f e = h.range j (sym (plugged-other j (record { intf = i; body = x }) s.modules f) ∙ e)
+    by_range j false f e =
+        h.range j (sym (plugged-other j (record { intf = i; body = x }) s.modules f) ∙ e)
 
 fit-plugs : (i : ℕ) (x : Module) (s : State) → IsIntf i → is_plugged i s.modules ≡ false
     → QueueIsAsked s.bus → WiredFit s → WiredFit (plugs i x s).state
@@ -125,40 +175,51 @@ unfolding machine_opened
 fit-plugs i x s valid free asked h = by s.booted
   where
     by : (t : Bool) → WiredFit (when t (tells_inserted i) (with_plugged i x s)).state
-    by true = fit-ask (with_plugged i x s) _ _ (after-ask (SvcAsk.ModuleInserted i 1 0) (with_plugged i x s) asked) (fit-plugged i x s valid free h)
+    by true = fit-ask (with_plugged i x s) _ _
+        (after-ask (SvcAsk.ModuleInserted i 1 0) (with_plugged i x s) asked)
+        (fit-plugged i x s valid free h)
     by false = fit-plugged i x s valid free h
 
 -- ---- pulling
 
 -- what is wired still was wired, and has none of the numbers
-cut-from : (ns : List ℕ) (s : State) (c : Connection) → EachTwo IsBefore s.bus.connections → IsIn c (each ns unwires s).state.bus.connections
+cut-from : (ns : List ℕ) (s : State) (c : Connection) → EachTwo IsBefore s.bus.connections
+    → IsIn c (each ns unwires s).state.bus.connections
     → c.wired ≡ true → IsIn c s.bus.connections × ((n : ℕ) → IsIn n ns → c.number ≢ n)
 unfolding machine_opened
 cut-from [] s c rise live wired = (live, λ n i. absurd i)
 cut-from (n ∷ ns) s c rise live wired =
     let f = λ (x : Connection). record x { wired = false; to_ap = []; to_far = [] } in
     let rec = cut-from ns (with_unwired n s) c
-    (two-at_first IsBefore (has_number n) f s.bus.connections (λ x y r. r) (λ x y r. r) rise) live wired in
-    let here = ⊎_elim (λ o. o) (λ w. absurd (not-both c.wired wired (ap (λ (x : Connection). x.wired) w.3)))
+    (two-at_first IsBefore (has_number n) f s.bus.connections (λ x y r. r) (λ x y r. r) rise) live
+    wired in
+    let here = ⊎_elim (λ o. o) (λ w. absurd
+    (not-both c.wired wired (ap (λ (x : Connection). x.wired) w.3)))
     (in-changed s.bus.connections n f c rise rec.0) in
     (here.0, λ k i. ⊎_elim (λ e g. here.1 (g ∙ e)) (λ j. rec.1 k j) i)
 
-number-in : (cs : List Connection) (c : Connection) → IsIn c cs → IsIn c.number (map (λ (x : Connection). x.number) cs)
+number-in : (cs : List Connection) (c : Connection) → IsIn c cs
+    → IsIn c.number (map (λ (x : Connection). x.number) cs)
 number-in [] c i = i
 number-in (x ∷ xs) c (inl e) = inl (ap (λ (y : Connection). y.number) e)
 number-in (x ∷ xs) c (inr j) = inr (number-in xs c j)
 
 fit-pulled : (i : ℕ) (s : State) → EachTwo IsBefore s.bus.connections → WiredFit s
-    → (s1 : State) → s1 ≡ (each (wired_numbers i s.bus) unwires s).state → s1.modules ≡ s.modules → s1.ports ≡ s.ports → WiredFit (with_pulled i s1)
+    → (s1 : State) → s1 ≡ (each (wired_numbers i s.bus) unwires s).state → s1.modules ≡ s.modules
+    → s1.ports ≡ s.ports → WiredFit (with_pulled i s1)
 fit-pulled i s rise h s1 is modules ports = record {
   wired = λ c live wired j p at.
-      let w = cut-from (wired_numbers i s.bus) s c rise (subst (λ t. IsIn c t.bus.connections) is live) wired in
+      let w = cut-from (wired_numbers i s.bus) s c rise
+      (subst (λ t. IsIn c t.bus.connections) is live) wired in
       by_wired c j p w.0 wired at w.1 (i == j) refl;
-  powered = λ j e. by_power j (i == j) refl (sym (ap (λ ps. is_powered j (unpowered i ps)) ports) ∙ e);
-  range = λ j e. by_range j (i == j) refl (sym (ap (λ ms. is_plugged j (unplugged i ms)) modules) ∙ e);
+  powered =
+      λ j e. by_power j (i == j) refl (sym (ap (λ ps. is_powered j (unpowered i ps)) ports) ∙ e);
+  range = λ j e. by_range j (i == j) refl
+      (sym (ap (λ ms. is_plugged j (unplugged i ms)) modules) ∙ e);
   bound = λ j. subst (λ ps. level_of j (unpowered i ps) ≤ 6) (sym ports) (by_bound j (i == j) refl);
   routed = λ c live wired j p at.
-      let w = cut-from (wired_numbers i s.bus) s c rise (subst (λ t. IsIn c t.bus.connections) is live) wired in
+      let w = cut-from (wired_numbers i s.bus) s c rise
+      (subst (λ t. IsIn c t.bus.connections) is live) wired in
       ap (λ ps. level_of j (unpowered i ps)) ports
       ∙ by_route c j p w.0 wired at w.1 (i == j) refl;
 }
@@ -191,31 +252,41 @@ fit-pulled i s rise h s1 is modules ports = record {
     by_route c j p live wired at other false e =
         ap level_in (left j e) ∙ h.routed c live wired j p at
 
-    by_wired : (c : Connection) (j p : ℕ) → IsIn c s.bus.connections → c.wired ≡ true → c.peer ≡ end.Module j p
-        → ((n : ℕ) → IsIn n (wired_numbers i s.bus) → c.number ≢ n) → (t : Bool) → (i == j) ≡ t → is_plugged j (unplugged i s1.modules) ≡ true
+    by_wired : (c : Connection) (j p : ℕ) → IsIn c s.bus.connections → c.wired ≡ true
+        → c.peer ≡ end.Module j p
+        → ((n : ℕ) → IsIn n (wired_numbers i s.bus) → c.number ≢ n) → (t : Bool) → (i == j) ≡ t
+        → is_plugged j (unplugged i s1.modules) ≡ true
     by_wired c j p live wired at other true e =
         let to : is_wired_to i c ≡ true =
-        ap (λ t. t && is_at i c.peer) wired ∙ ap (is_at i) at ∙ ap (λ n. n == i) (sym (same-number i j e)) ∙ is-same i in
-        absurd (other c.number (number-in (filter (is_wired_to i) s.bus.connections) c (filter-in (is_wired_to i) s.bus.connections c live to)) refl)
+        ap (λ t. t && is_at i c.peer) wired ∙ ap (is_at i) at
+        ∙ ap (λ n. n == i) (sym (same-number i j e)) ∙ is-same i in
+        absurd (other c.number (number-in (filter (is_wired_to i) s.bus.connections) c
+        (filter-in (is_wired_to i) s.bus.connections c live to)) refl)
     by_wired c j p live wired at other false e =
-        ap (λ ms. is_plugged j (unplugged i ms)) modules ∙ pulled-other i j s.modules e ∙ h.wired c live wired j p at
+        ap (λ ms. is_plugged j (unplugged i ms)) modules ∙ pulled-other i j s.modules e
+        ∙ h.wired c live wired j p at
 
-    by_power : (j : ℕ) (t : Bool) → (i == j) ≡ t → is_powered j (unpowered i s.ports) ≡ true → is_plugged j (unplugged i s1.modules) ≡ true
+    by_power : (j : ℕ) (t : Bool) → (i == j) ≡ t → is_powered j (unpowered i s.ports) ≡ true
+        → is_plugged j (unplugged i s1.modules) ≡ true
     by_power j true e f =
         absurd (not-both (is_powered j (unpowered i s.ports)) f
-        (ap (λ k. is_powered k (unpowered i s.ports)) (sym (same-number i j e)) ∙ ap is_some (none-of (is_port i) s.ports)))
+        (ap (λ k. is_powered k (unpowered i s.ports)) (sym (same-number i j e))
+        ∙ ap is_some (none-of (is_port i) s.ports)))
     by_power j false e f =
         ap (λ ms. is_plugged j (unplugged i ms)) modules ∙ pulled-other i j s.modules e
         ∙ h.powered j (sym (ap is_some (left j e)) ∙ f)
 
-    by_range : (j : ℕ) (t : Bool) → (i == j) ≡ t → is_plugged j (unplugged i s.modules) ≡ true → IsIntf j
+    by_range : (j : ℕ) (t : Bool) → (i == j) ≡ t → is_plugged j (unplugged i s.modules) ≡ true
+        → IsIntf j
     by_range j true e f =
         absurd (not-both (is_plugged j (unplugged i s.modules)) f
         (ap (λ k. is_plugged k (unplugged i s.modules)) (sym (same-number i j e))
-        ∙ ap (λ o. is_some (option_map (λ (p : Plugged). p.body) o)) (none-of (is_plugged_at i) s.modules)))
+        ∙ ap (λ o. is_some (option_map (λ (p : Plugged). p.body) o))
+        (none-of (is_plugged_at i) s.modules)))
     by_range j false e f = h.range j (sym (pulled-other i j s.modules e) ∙ f)
 
-fit-pulls : (i : ℕ) (told : List Entry) (s : State) → LinkedTo told s → QueueIsAsked s.bus → WiredFit s → WiredFit (pulls i s).state
+fit-pulls : (i : ℕ) (told : List Entry) (s : State) → LinkedTo told s → QueueIsAsked s.bus
+    → WiredFit s → WiredFit (pulls i s).state
 unfolding machine_opened
 fit-pulls i told s start asked h = by s.booted
   where
@@ -227,10 +298,13 @@ fit-pulls i told s start asked h = by s.booted
         fit-pulled i s start.0.bus.numbers.rise h _ refl c.modules c.ports
 
     queue : QueueIsAsked (with_pulled i (each (wired_numbers i s.bus) unwires s).state).bus
-    queue = svc-asked s (each (wired_numbers i s.bus) unwires s).state (unwires-svc (wired_numbers i s.bus) s (wired-others i s start.1)) asked
+    queue = svc-asked s (each (wired_numbers i s.bus) unwires s).state
+        (unwires-svc (wired_numbers i s.bus) s (wired-others i s start.1)) asked
 
-    by : (t : Bool) → WiredFit (when t (svc_asks (SvcAsk.ModuleRemoved i)) (with_pulled i (each (wired_numbers i s.bus) unwires s).state)).state
-    by true = fit-ask _ _ _ (after-ask (SvcAsk.ModuleRemoved i) (with_pulled i (each (wired_numbers i s.bus) unwires s).state) queue) cut
+    by : (t : Bool) → WiredFit (when t (svc_asks (SvcAsk.ModuleRemoved i))
+        (with_pulled i (each (wired_numbers i s.bus) unwires s).state)).state
+    by true = fit-ask _ _ _ (after-ask (SvcAsk.ModuleRemoved i)
+        (with_pulled i (each (wired_numbers i s.bus) unwires s).state) queue) cut
     by false = cut
 
 -- ---- each moment
@@ -249,7 +323,8 @@ module _ (m : Moment) (one : IsMoment m.event) (start : WiredTo m.told m.before)
   }
 
   fit-still : (e : Event) → m.event ≡ e → (IsOfSvc e → ⊥) → WiredFit (after m)
-  fit-still e is other = (over-step m (wired_law (λ of. other (subst IsOfSvc is of))) one (start.links.0, start.wired)).1.1
+  fit-still e is other = (over-step m (wired_law (λ of. other (subst IsOfSvc is of))) one
+      (start.links.0, start.wired)).1.1
 
   fit-asking : (e : Event) → m.event ≡ e
       → (refusal m.before e ≡ None → WiredFit (decided None e m.before).state)
@@ -258,26 +333,37 @@ module _ (m : Moment) (one : IsMoment m.event) (start : WiredTo m.told m.before)
   fit-asking e is done = by (refusal m.before e) refl
     where
       by : (o : Option Refusal) → refusal m.before e ≡ o → WiredFit (after m)
-      by (Some reason) f = subst WiredFit (sym (refused-state m reason (ap (refusal m.before) is ∙ f))) start.wired
-      by None f = subst WiredFit (sym (ap (λ x. (step m.before x).state) is ∙ ap (λ o. (decided o e m.before).state) f)) (done f)
+      by (Some reason) f =
+          subst WiredFit (sym (refused-state m reason (ap (refusal m.before) is ∙ f))) start.wired
+      by None f = subst WiredFit (sym
+          (ap (λ x. (step m.before x).state) is ∙ ap (λ o. (decided o e m.before).state) f))
+          (done f)
 
   fit-kept : (e : Event) → m.event ≡ e → IsMoment e → WiredFit (after m)
   unfolding machine_opened
-  fit-kept event.Boot is at = fit-asking event.Boot is (λ free. fit-boots m.before (asked-items (resting m.told m.before) start.links.0) start.wired)
+  fit-kept event.Boot is at = fit-asking event.Boot is
+      (λ free. fit-boots m.before (asked-items (resting m.told m.before) start.links.0) start.wired)
   fit-kept (event.Insert i kind) is at = fit-asking (event.Insert i kind) is
-      (λ free. fit-plugs i (module_of_kind kind) m.before at (unmet m.before (event.Insert i kind) free).0 (asked-items (resting m.told m.before) start.links.0) start.wired)
+      (λ free. fit-plugs i (module_of_kind kind) m.before at
+      (unmet m.before (event.Insert i kind) free).0
+      (asked-items (resting m.told m.before) start.links.0) start.wired)
   fit-kept (event.InsertRaw i manifest) is at = fit-asking (event.InsertRaw i manifest) is
-      (λ free. fit-plugs i (module_raw manifest) m.before at (unmet m.before (event.InsertRaw i manifest) free).0 (asked-items (resting m.told m.before) start.links.0) start.wired)
+      (λ free. fit-plugs i (module_raw manifest) m.before at
+      (unmet m.before (event.InsertRaw i manifest) free).0
+      (asked-items (resting m.told m.before) start.links.0) start.wired)
   fit-kept (event.Pull i) is at = fit-asking (event.Pull i) is
-      (λ free. fit-pulls i m.told m.before start.links (asked-items (resting m.told m.before) start.links.0) start.wired)
+      (λ free. fit-pulls i m.told m.before start.links
+      (asked-items (resting m.told m.before) start.links.0) start.wired)
   fit-kept (event.Deliver to) is at = fit-still (event.Deliver to) is (λ x. x)
   fit-kept (event.Settle most) is at = absurd at
   fit-kept (event.Connect i c) is at = fit-still (event.Connect i c) is (λ x. x)
   fit-kept (event.Disconnect i c) is at = fit-still (event.Disconnect i c) is (λ x. x)
-  fit-kept (event.Send name to kind payload timeout) is at = fit-still (event.Send name to kind payload timeout) is (λ x. x)
+  fit-kept (event.Send name to kind payload timeout) is at =
+      fit-still (event.Send name to kind payload timeout) is (λ x. x)
   fit-kept (event.Bridge name i c what) is at = fit-still (event.Bridge name i c what) is (λ x. x)
   fit-kept (event.Level i c line value) is at = fit-still (event.Level i c line value) is (λ x. x)
-  fit-kept (event.SerialState i c control) is at = fit-still (event.SerialState i c control) is (λ x. x)
+  fit-kept (event.SerialState i c control) is at =
+      fit-still (event.SerialState i c control) is (λ x. x)
   fit-kept (event.Hold i c) is at = fit-still (event.Hold i c) is (λ x. x)
   fit-kept (event.Answer i c place) is at = fit-still (event.Answer i c place) is (λ x. x)
   fit-kept (event.Cancel name) is at = fit-still (event.Cancel name) is (λ x. x)
@@ -289,7 +375,8 @@ module _ (m : Moment) (one : IsMoment m.event) (start : WiredTo m.told m.before)
 
 wired-first : WiredFit first_state
 wired-first = record {
-  wired = λ c i wired j p at. ⊎_elim (λ e. absurd (svc-peer j p (sym (ap (λ (x : Connection). x.peer) e) ∙ at))) (λ n. absurd n) i;
+  wired = λ c i wired j p at. ⊎_elim
+      (λ e. absurd (svc-peer j p (sym (ap (λ (x : Connection). x.peer) e) ∙ at))) (λ n. absurd n) i;
   powered = λ i e. absurd (not-both false e refl);
   range = λ i e. absurd (not-both false e refl);
   bound = λ i. omega arith;

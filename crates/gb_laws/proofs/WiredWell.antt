@@ -45,7 +45,32 @@ use Rattle.gb_laws.proofs.Levels.{
 }
 use Rattle.gb_laws.proofs.LinkActs.{awaited-plugs}
 use Rattle.gb_laws.proofs.Onward.{drawn-wired, front-wired, put-wired}
-use Rattle.gb_laws.proofs.Points.{as_before, loses_route, served, Change, IsOfSvc, PortsFrom, IsElse, acts_asked, acts_left, acts_opened, acts_shut, answers, asks, changed, drops, forgets, gives_up, injects, names, others, replies, takes, unwires, wires}
+use Rattle.gb_laws.proofs.Points.{
+  as_before,
+  loses_route,
+  served,
+  Change,
+  IsOfSvc,
+  PortsFrom,
+  IsElse,
+  acts_asked,
+  acts_left,
+  acts_opened,
+  acts_shut,
+  answers,
+  asks,
+  changed,
+  drops,
+  forgets,
+  gives_up,
+  injects,
+  names,
+  others,
+  replies,
+  takes,
+  unwires,
+  wires,
+}
 use Rattle.gb_laws.proofs.PointParts.{Basis, Point}
 use Rattle.gb_machine.specs.Bus.{Ask, Bus, Connection, Raw, has_number, next_number, other_side}
 use Rattle.gb_machine.specs.Delivery.{without_front}
@@ -79,23 +104,35 @@ WasWiredTo b after = (d : Connection) → IsIn d after.connections → d.wired �
 pub was-same : (b after : Bus) → after.connections ≡ b.connections → WasWiredTo b after
 was-same b after same d live wired = (d, subst (λ cs. IsIn d cs) same live, wired, refl)
 
-pub was-first : (b after : Bus) (k : ℕ) (f : Connection → Connection) → after.connections ≡ at_first (has_number k) f b.connections
-    → ((c : Connection) → (f c).peer ≡ c.peer) → ((c : Connection) → (f c).wired ≡ true → c.wired ≡ true) → WasWiredTo b after
+pub was-first : (b after : Bus) (k : ℕ) (f : Connection → Connection)
+    → after.connections ≡ at_first (has_number k) f b.connections
+    → ((c : Connection) → (f c).peer ≡ c.peer)
+    → ((c : Connection) → (f c).wired ≡ true → c.wired ≡ true) → WasWiredTo b after
 was-first b after k f same peer was d live wired =
     ⊎_elim (λ o. (d, o, wired, refl))
-    (λ w. (w.0, w.1, was w.0 (sym (ap (λ (x : Connection). x.wired) w.3) ∙ wired), sym (ap (λ (x : Connection). x.peer) w.3 ∙ peer w.0)))
+    (λ w. (
+      w.0,
+      w.1,
+      was w.0 (sym (ap (λ (x : Connection). x.wired) w.3) ∙ wired),
+      sym
+          (ap (λ (x : Connection). x.peer) w.3 ∙ peer w.0),
+    ))
     (in-at_first (has_number k) f b.connections d (subst (λ cs. IsIn d cs) same live))
 
-pub was-asked : (b after : Bus) (d : Draft) (label : ℕ) → after.connections ≡ at_first (has_number d.connection) (asked_on d label b) b.connections
+pub was-asked : (b after : Bus) (d : Draft) (label : ℕ)
+    → after.connections ≡ at_first (has_number d.connection) (asked_on d label b) b.connections
     → WasWiredTo b after
 was-asked b after d label same =
     was-first b after d.connection (asked_on d label b) same (λ c. (asked_on-self d label b c).peer)
-    (λ c e. sym (put-wired (other_side d.side) (Ask (next_number b)) (drawn d label c) ∙ drawn-wired d label c) ∙ e)
+    (λ c e. sym (put-wired (other_side d.side) (Ask (next_number b)) (drawn d label c)
+    ∙ drawn-wired d label c) ∙ e)
 
 -- the bus changes so, and nothing else that matters
-pub fit-bus : (s t : State) → WasWiredTo s.bus t.bus → t.modules ≡ s.modules → t.ports ≡ s.ports → WiredFit s → WiredFit t
+pub fit-bus : (s t : State) → WasWiredTo s.bus t.bus → t.modules ≡ s.modules → t.ports ≡ s.ports
+    → WiredFit s → WiredFit t
 fit-bus s t was modules ports h = record {
-  wired = λ c live wired i p at. let w = was c live wired in ap (is_plugged i) modules ∙ h.wired w.0 w.1 w.2 i p (w.3 ∙ at);
+  wired = λ c live wired i p at. let w =
+      was c live wired in ap (is_plugged i) modules ∙ h.wired w.0 w.1 w.2 i p (w.3 ∙ at);
   powered = λ i e. ap (is_plugged i) modules ∙ h.powered i (sym (ap (is_powered i) ports) ∙ e);
   range = λ i e. h.range i (sym (ap (is_plugged i) modules) ∙ e);
   bound = λ i. subst (λ ps. level_of i ps ≤ 6) (sym ports) (h.bound i);
@@ -180,38 +217,53 @@ levels-kept m s ports most (loses_route q j w lost e none) = record {
 same-module : (i j c d : ℕ) → end.Module i c ≡ end.Module j d → i ≡ j
 same-module i j c d e = cc
 
-pub wired-kept : (m : Moment) → (IsOfSvc m.event → ⊥) → (a : Point) (x : Change m a) → Basis a → WiredFit a.state → WiredFit (changed m a x).state
+pub wired-kept : (m : Moment) → (IsOfSvc m.event → ⊥) → (a : Point) (x : Change m a) → Basis a
+    → WiredFit a.state → WiredFit (changed m a x).state
 wired-kept m other a (asks d c label free live is who) basis h =
-    fit-bus a.state (changed m a (asks d c label free live is who)).state (was-asked a.state.bus (changed m a (asks d c label free live is who)).state.bus d label refl) refl refl h
+    fit-bus a.state (changed m a (asks d c label free live is who)).state
+    (was-asked a.state.bus (changed m a (asks d c label free live is who)).state.bus d label refl)
+    refl refl h
 wired-kept m other a (names name d c label free live is host) basis h =
     fit-bus a.state (changed m a (names name d c label free live is host)).state
-    (was-asked a.state.bus (changed m a (names name d c label free live is host)).state.bus d label refl) refl refl h
+    (was-asked a.state.bus (changed m a (names name d c label free live is host)).state.bus d label
+    refl) refl refl h
 wired-kept m other a (takes at p item free start is named front) basis h =
     fit-bus a.state (changed m a (takes at p item free start is named front)).state
-    (was-first a.state.bus (changed m a (takes at p item free start is named front)).state.bus p.connection.number (without_front p.side) refl
+    (was-first a.state.bus (changed m a (takes at p item free start is named front)).state.bus
+    p.connection.number (without_front p.side) refl
     (λ c. (front-self p.side c).peer) (λ c e. sym (front-wired p.side c) ∙ e)) refl refl h
 wired-kept m other a (replies x q r is made twoway) basis h =
     fit-bus a.state (changed m a (replies x q r is made twoway)).state
-    (was-first a.state.bus (changed m a (replies x q r is made twoway)).state.bus x.connection.number (put (other_side x.side) (reply_item q r)) refl
-    (λ c. (put-self (other_side x.side) (reply_item q r) c).peer) (λ c e. sym (put-wired (other_side x.side) (reply_item q r) c) ∙ e)) refl refl h
+    (was-first a.state.bus (changed m a (replies x q r is made twoway)).state.bus
+    x.connection.number (put (other_side x.side) (reply_item q r)) refl
+    (λ c. (put-self (other_side x.side) (reply_item q r) c).peer)
+    (λ c e. sym (put-wired (other_side x.side) (reply_item q r) c) ∙ e)) refl refl h
 wired-kept m other a (unwires k free before live) basis h =
     fit-bus a.state (changed m a (unwires k free before live)).state
-    (was-first a.state.bus (changed m a (unwires k free before live)).state.bus k (λ c. record c { wired = false; to_ap = []; to_far = [] }) refl
+    (was-first a.state.bus (changed m a (unwires k free before live)).state.bus k
+    (λ c. record c { wired = false; to_ap = []; to_far = [] }) refl
     (λ c. refl) (λ c e. absurd (not-both false e refl))) refl refl h
 wired-kept m other a (injects i c p bytes free named) basis h =
     fit-bus a.state (changed m a (injects i c p bytes free named)).state
-    (was-first a.state.bus (changed m a (injects i c p bytes free named)).state.bus p.connection.number
-    (λ x. queued side.Ap (Raw bytes) (record x { clean = false })) refl (λ c. refl) (λ c e. e)) refl refl h
+    (was-first a.state.bus (changed m a (injects i c p bytes free named)).state.bus
+    p.connection.number
+    (λ x. queued side.Ap (Raw bytes) (record x { clean = false })) refl (λ c. refl) (λ c e. e)) refl
+    refl h
 wired-kept m other a (acts_shut k rest free is cause) basis h =
     fit-bus a.state (changed m a (acts_shut k rest free is cause)).state
-    (was-first a.state.bus (changed m a (acts_shut k rest free is cause)).state.bus k (λ c. record c { shut = true }) refl (λ c. refl) (λ c e. e)) refl refl h
+    (was-first a.state.bus (changed m a (acts_shut k rest free is cause)).state.bus k
+    (λ c. record c { shut = true }) refl (λ c. refl) (λ c e. e)) refl refl h
 wired-kept m other a (acts_left k rest free untouched is) basis h =
     fit-bus a.state (changed m a (acts_left k rest free untouched is)).state
-    (λ d live wired. (d, (in-without (has_number k) a.state.bus.connections d live).0, wired, refl)) refl refl h
+    (λ d live wired. (d, (in-without (has_number k) a.state.bus.connections d live).0, wired, refl))
+    refl refl h
 wired-kept m other a (acts_opened w q rest free is) basis h =
     fit-bus a.state (changed m a (acts_opened w q rest free is)).state
-    (λ d live wired. ⊎_elim (λ o. (d, o, wired, refl)) (λ e. absurd (not-both d.wired wired (ap (λ (x : Connection). x.wired) e)))
-    (in-pushed d a.state.bus.connections (new_connection (next_connection a.state.bus) w.ap (end.Module w.intf w.cport) w.protocol) live)) refl refl h
+    (λ d live wired. ⊎_elim (λ o. (d, o, wired, refl))
+    (λ e. absurd (not-both d.wired wired (ap (λ (x : Connection). x.wired) e)))
+    (in-pushed d a.state.bus.connections
+    (new_connection (next_connection a.state.bus) w.ap (end.Module w.intf w.cport) w.protocol)
+    live)) refl refl h
 wired-kept m other a (wires k free untouched live powered) basis h = record {
   wired = λ c alive wired i p at. ⊎_elim (λ o. h.wired c o wired i p at)
       (λ w. ap (λ n. is_plugged n a.state.modules) (sym (same c i p at w))
@@ -241,7 +293,8 @@ wired-kept m other a (acts_asked q n rest is) basis h =
     let plugs = awaited-plugs q.purpose n a.state in
     let bus = (awaited-rest q.purpose n a.state).bus in
     let ports = (awaited-rest q.purpose n a.state).ports in record {
-      wired = λ c live wired i p at. plugs.plugged i ∙ h.wired c (subst (λ (b : Bus). IsIn c b.connections) bus live) wired i p at;
+      wired = λ c live wired i p at. plugs.plugged i
+          ∙ h.wired c (subst (λ (b : Bus). IsIn c b.connections) bus live) wired i p at;
       powered = λ i e. plugs.plugged i ∙ h.powered i (plugs.powered i e);
       range = λ i e. h.range i (sym (plugs.plugged i) ∙ e);
       bound = λ i. subst (λ ps. level_of i ps ≤ 6) (sym ports) (h.bound i);
@@ -266,11 +319,14 @@ wired-kept m other a (others booted marks ports modules same) basis h = by same
 wired-kept m other a drops basis h = h
 wired-kept m other a (answers x n result payload is says which) basis h =
     fit-bus a.state (changed m a (answers x n result payload is says which)).state
-    (was-same a.state.bus (changed m a (answers x n result payload is says which)).state.bus refl) refl refl h
+    (was-same a.state.bus (changed m a (answers x n result payload is says which)).state.bus refl)
+    refl refl h
 wired-kept m other a (forgets x n is which) basis h =
-    fit-bus a.state (changed m a (forgets x n is which)).state (was-same a.state.bus (changed m a (forgets x n is which)).state.bus refl) refl refl h
+    fit-bus a.state (changed m a (forgets x n is which)).state
+    (was-same a.state.bus (changed m a (forgets x n is which)).state.bus refl) refl refl h
 wired-kept m other a (gives_up n how free unended cause) basis h =
     fit-bus a.state (changed m a (gives_up n how free unended cause)).state
-    (was-same a.state.bus (changed m a (gives_up n how free unended cause)).state.bus refl) refl refl h
+    (was-same a.state.bus (changed m a (gives_up n how free unended cause)).state.bus refl) refl
+    refl h
 wired-kept m other a x basis h =
     fit-bus a.state (changed m a x).state (was-same a.state.bus a.state.bus refl) refl refl h
