@@ -28,7 +28,7 @@ use Rattle.gb_invariants.proofs.Numbers.{found-by_number}
 use Rattle.gb_invariants.proofs.Outcomes.{same-number}
 use Rattle.gb_laws.proofs.Endpoints.{ApartTo, apart-throughout}
 use Rattle.gb_laws.proofs.Knowing.{KnownAt, WasKnown, known-kept}
-use Rattle.gb_laws.proofs.LinkBuses.{Linked}
+use Rattle.gb_laws.proofs.LinkedFrom.{Linked}
 use Rattle.gb_laws.proofs.LinkLaw.{link_law}
 use Rattle.gb_laws.proofs.LinkRuns.{start-absent}
 use Rattle.gb_laws.proofs.Linking.{InsertsAbsent, LinkedAt}

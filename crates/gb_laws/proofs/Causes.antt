@@ -1,8 +1,27 @@
 -- Each end by cancelling, timeout or disconnection has its cause at its moment.
 use Rattle.gb_laws.proofs.Silent.{silent-quiet}
-use Rattle.gb_machine.specs.SvcQueues.{is_removal}
-use Rattle.std.proofs.Common.{◌≡◌, ◌⊎◌, ◌≤◌, ◌≢◌, ℕ, Bool, true, false, Some, None, List, [], ◌∷◌, ◌++◌, map, refl, sym, ap, ◌∙◌, inl, inr, subst, append-nil, append_assoc, arith}
-use Rattle.std.specs.Prelude.{◌==◌}
+use Rattle.std.proofs.Common.{
+  ◌≡◌,
+  ◌≤◌,
+  ◌≢◌,
+  ℕ,
+  true,
+  false,
+  Some,
+  None,
+  List,
+  [],
+  ◌∷◌,
+  ◌++◌,
+  map,
+  refl,
+  sym,
+  ap,
+  ◌∙◌,
+  subst,
+  append-nil,
+  append_assoc,
+}
 use Rattle.std.specs.List.{find}
 use Rattle.gb_base.specs.declared.bridge.Reading.TheVariants as reading
 use Rattle.gb_base.specs.declared.end.End.TheVariants as end
@@ -12,165 +31,54 @@ use Rattle.gb_base.specs.declared.entry.Entry.{Entry}
 use Rattle.gb_base.specs.declared.entry.Entry.TheVariants as entry
 use Rattle.gb_base.specs.declared.outcome.Outcome.{Outcome}
 use Rattle.gb_base.specs.declared.outcome.Outcome.TheVariants as outcome
-use Rattle.gb_base.specs.declared.peers.Link.{Link}
-use Rattle.gb_invariants.proofs.Awaiting.{is_of-is, same-some}
-use Rattle.gb_invariants.proofs.Lists.{each-append, each-in, each-weaker, in-filter, found-in}
+use Rattle.gb_invariants.proofs.Awaiting.{same-some}
+use Rattle.gb_invariants.proofs.Lists.{each-append, each-in, each-weaker}
 use Rattle.gb_invariants.proofs.Numbers.{found-by_number}
-use Rattle.gb_invariants.proofs.Outcomes.{in-open_requests, same-number}
 use Rattle.gb_laws.proofs.Answering.{same-rest}
-use Rattle.gb_laws.proofs.LinkBuses.{Linked}
-use Rattle.gb_laws.proofs.LinkLists.{changed-in, found-link}
+use Rattle.gb_laws.proofs.LinkedFrom.{Linked}
+use Rattle.gb_laws.proofs.LinkLists.{changed-in}
 use Rattle.gb_laws.proofs.LinkLaw.{link_law}
 use Rattle.gb_laws.proofs.LinkRuns.{LinkedTo, linked-throughout, start-absent}
-use Rattle.gb_laws.proofs.Noticing.{told-by_svc}
-use Rattle.gb_laws.proofs.Onward.{IsOnward, onward}
-use Rattle.gb_laws.proofs.Points.{Change, IsLive, Law, acts_failed, acts_opened, acts_shut, acts_told, answers, asks, changed, drops, gives_up, injects, names, replies, tells, unwires}
-use Rattle.gb_laws.proofs.PointParts.{AreQuiet, Basis, IsGivenUpFor, IsShutFor, Point, Unwired, Wired, asked_told, disconnected, is_quiet, removed, resting, sent_told}
+use Rattle.gb_laws.proofs.Onward.{onward}
+use Rattle.gb_laws.proofs.Points.{
+  Change,
+  IsLive,
+  Law,
+  acts_failed,
+  acts_opened,
+  acts_shut,
+  acts_told,
+  answers,
+  asks,
+  changed,
+  drops,
+  gives_up,
+  injects,
+  names,
+  replies,
+  tells,
+  unwires,
+}
+use Rattle.gb_laws.proofs.PointParts.{Basis, IsGivenUpFor, Point, Wired, asked_told, resting}
 use Rattle.gb_laws.proofs.Runs.{HoldsAtMoments, at_each}
 use Rattle.gb_laws.proofs.Steps.{over-step}
-use Rattle.gb_machine.specs.Bus.{Bus, Connection, Request, connection_of, has_number, next_number, request_of}
-use Rattle.gb_machine.specs.Host.{link_of}
-use Rattle.gb_machine.specs.LawsEnds.{HasItsCause, IsDisconnect, IsDisconnection, IsRemovalOf}
+use Rattle.gb_machine.specs.Bus.{Connection, Request, connection_of, has_number}
+use Rattle.gb_machine.specs.LawsEnds.{HasItsCause, IsDisconnection}
 use Rattle.gb_machine.specs.Members.{Each, IsIn}
-use Rattle.gb_machine.specs.Requests.{is_of, open_on}
+use Rattle.gb_machine.specs.Requests.{open_on}
 use Rattle.gb_machine.specs.Runs.{IsMoment, Moment, after, told_at}
-use Rattle.gb_machine.specs.Sending.{Draft}
 use Rattle.gb_machine.specs.Wires.{disconnected_told}
-
--- ---- what causes an end
-
--- a connection was wired before a moment, and is there and isn't wired
-record IsCut (m : Moment) (a : Point) (k : ℕ) : Type 0 where
-  wires : a.wires ≡ Unwired
-  was : Connection
-  before : IsIn was m.before.bus.connections
-  was_number : was.number ≡ k
-  was_wired : was.wired ≡ true
-  now : Connection
-  live : IsIn now a.state.bus.connections
-  number : now.number ≡ k
-  wired : now.wired ≡ false
-
--- what cuts the requests of a side of a connection
-abbrev IsCutOn : Moment → Point → Side → ℕ → Type 0
-IsCutOn m a side.Ap k = IsDisconnect m k ⊎ IsRemovalOf m k
-IsCutOn m a side.Far k = IsCut m a k
-
-record IsDisconnected (m : Moment) (a : Point) (n : ℕ) : Type 0 where
-  request : Request
-  made : request_of n a.state.bus ≡ Some request
-  other : request.connection ≢ 1
-  cut : IsCutOn m a request.side request.connection
-
--- an entry tells an end that has its cause, or none that needs one
-abbrev IsFine : Moment → Point → Entry → Type 0
-IsFine m a (entry.Ended n outcome.Cancelled read) = IsGivenUpFor m a.state outcome.Cancelled n
-IsFine m a (entry.Ended n outcome.Timeout read) = IsGivenUpFor m a.state outcome.Timeout n
-IsFine m a (entry.Ended n outcome.Disconnected read) = IsDisconnected m a n
-IsFine m a _ = Unit {0}
-
--- it stays fine
-fine-on : (m : Moment) (a after : Point) (e : Entry) → IsOnward a after → IsFine m a e → IsFine m after e
-fine-on m a after (entry.Ended n outcome.Cancelled read) on h = h
-fine-on m a after (entry.Ended n outcome.Timeout read) on h = record {
-  millis = h.millis;
-  request = h.request;
-  event = h.event;
-  made = on.requests n h.request h.made;
-  due = let due = h.due in let later = on.now in omega (arith, due, later);
+use Rattle.gb_laws.proofs.EndCauses.{
+  IsCutOn,
+  IsFine,
+  Start,
+  ended-fine,
+  fine-on,
+  quiet-all-fine,
+  quiet-fine,
+  sent-fine,
+  shut-cause,
 }
-fine-on m a after (entry.Ended n outcome.Disconnected read) on h = record {
-  request = h.request;
-  made = on.requests n h.request h.made;
-  other = h.other;
-  cut = cut-on h.request.side h.cut;
-}
-  where
-    cut-on : (s : Side) → IsCutOn m a s h.request.connection → IsCutOn m after s h.request.connection
-    cut-on side.Ap c = c
-    cut-on side.Far c =
-        let f = on.forth c.wires in
-        let d = f.1 c.now c.live c.wired in record {
-          wires = f.0;
-          was = c.was;
-          before = c.before;
-          was_number = c.was_number;
-          was_wired = c.was_wired;
-          now = d.0;
-          live = d.1;
-          number = d.2 ∙ c.number;
-          wired = d.3;
-        }
-fine-on m a after (entry.Ended n outcome.Sent read) on h = tt
-fine-on m a after (entry.Ended n (outcome.Answered result payload) read) on h = tt
-fine-on m a after entry.Done on h = tt
-fine-on m a after _ on h = tt
-
-quiet-fine : (m : Moment) (a : Point) (e : Entry) → is_quiet e ≡ true → IsFine m a e
-quiet-fine m a (entry.Ended n how read) quiet = absurd cc
-quiet-fine m a entry.Done quiet = tt
-quiet-fine m a _ quiet = tt
-
-quiet-all-fine : (m : Moment) (a : Point) (es : List Entry) → AreQuiet es → Each (IsFine m a) es
-quiet-all-fine m a [] h = tt
-quiet-all-fine m a (e ∷ es) h = (quiet-fine m a e h.0, quiet-all-fine m a es h.1)
-
-sent-fine : (m : Moment) (a : Point) (d : Draft) (c : Connection) (label : ℕ) (b : Bus) → Each (IsFine m a) (asked_told d c label b)
-sent-fine m a d c label b = (tt, by d.oneway)
-  where
-    by : (t : Bool) → Each (IsFine m a) (sent_told t (next_number b))
-    by true = (tt, tt)
-    by false = tt
-
--- ---- a side is closed or unwired
-
--- the requests that end so are of that side of the connection
-ended-fine : (m : Moment) (a : Point) (at : Side) (k : ℕ) (b : Bus) → ((n : ℕ) (r : Request) → request_of n b ≡ Some r → request_of n a.state.bus ≡ Some r)
-    → k ≢ 1 → IsCutOn m a at k → Each (IsFine m a) (map disconnected_told (open_on k at b))
-ended-fine m a at k b stay other cut = all (open_on k at b) (λ n i. i)
-  where
-    one : (n : ℕ) → IsIn n (open_on k at b) → IsDisconnected m a n
-    one n i =
-        let o = in-open_requests (is_of k at) b n i in
-        let of = is_of-is k at o.0 o.2 in record {
-          request = o.0;
-          made = stay n o.0 o.1;
-          other = λ e. other (sym of.0 ∙ e);
-          cut = subst (λ s. IsCutOn m a s o.0.connection) of.1 (subst (IsCutOn m a at) (sym of.0) cut);
-        }
-
-    all : (ns : List ℕ) → ((n : ℕ) → IsIn n ns → IsIn n (open_on k at b)) → Each (IsFine m a) (map disconnected_told ns)
-    all [] within = tt
-    all (n ∷ ns) within = (one n (within n (inl refl)), all ns (λ j i. within j (inr i)))
-
--- what is known where a moment begins
-abbrev Start : Moment → Type 0
-Start m = LinkedTo m.told m.before
-
--- the application processor's side of a connection to a module is closed by a disconnect or a removal
-shut-cause : (m : Moment) (k : ℕ) → Start m → IsShutFor m k → (k ≢ 1) × (IsDisconnect m k ⊎ IsRemovalOf m k)
-shut-cause m k start (disconnected i c l is at own) = (
-  λ e. let two = (start.1.host.links.numbered l (found-in _ m.before.host.links l at).0).from_two in
-      absurd (omega (arith, two, own, e)),
-  inl (i, c, l, is, at, own),
-)
-shut-cause m k start (removed i l noticed live own) =
-    let f = in-filter (λ (x : Link). x.intf == i) m.before.host.links l live in
-    let t = told-by_svc m _ start.0 start.1 noticed in (
-      λ e. let two = (start.1.host.links.numbered l f.0).from_two in absurd (omega (arith, two, own, e)),
-      inr (
-        l,
-        subst (λ n. link_of n m.before.host ≡ Some l) own (found-link m.before.host.links l start.1.host.links.rise f.0),
-        record {
-          number = t.number;
-          request = t.request;
-          is = t.is;
-          front = t.front;
-          made = t.made;
-          passes = subst (λ j. is_removal j t.request ≡ true) (sym (same-number l.intf i f.1)) t.tells;
-        },
-      ),
-    )
 
 -- ---- what was told at the moment so far
 
@@ -179,16 +87,19 @@ record IsSoFar (m : Moment) (a : Point) : Type 0 where
   told : a.told ≡ m.told ++ new
   fine : Each (IsFine m a) new
   wired : a.wires ≢ Wired → (d : Connection) → IsIn d a.state.bus.connections → d.wired ≡ true
-      → (c : Connection) × IsIn c m.before.bus.connections × (c.number ≡ d.number) × (c.wired ≡ true)
+      → (c : Connection) × IsIn c m.before.bus.connections × (c.number ≡ d.number)
+      × (c.wired ≡ true)
 
 -- more is told, and it is fine
-so-far : (m : Moment) (a : Point) (x : Change m a) (es : List Entry) → (changed m a x).told ≡ a.told ++ es
+so-far : (m : Moment) (a : Point) (x : Change m a) (es : List Entry)
+    → (changed m a x).told ≡ a.told ++ es
     → Each (IsFine m (changed m a x)) es → IsSoFar m a → IsSoFar m (changed m a x)
 so-far m a x es told fine h = let on = onward m a x in record {
   new = h.new ++ es;
   told = told ∙ ap (λ l. l ++ es) h.told ∙ append_assoc m.told h.new es;
   fine = each-append (IsFine m (changed m a x)) h.new es
-      (each-weaker (IsFine m a) (IsFine m (changed m a x)) h.new (λ e. fine-on m a (changed m a x) e on) h.fine) fine;
+      (each-weaker (IsFine m a) (IsFine m (changed m a x)) h.new
+      (λ e. fine-on m a (changed m a x) e on) h.fine) fine;
   wired = λ n d live wired.
       let back = on.back n in
       let was = back.1 d live wired in
@@ -196,11 +107,14 @@ so-far m a x es told fine h = let on = onward m a x in record {
       (first.0, first.1, first.2 ∙ was.2, first.3);
 }
 
-unwires-fine : (m : Moment) (a : Point) (k : ℕ) (free : a.hand ≡ None) (before : a.wires ≢ Wired) (live : IsLive k true a.state.bus)
+unwires-fine : (m : Moment) (a : Point) (k : ℕ) (free : a.hand ≡ None) (before : a.wires ≢ Wired)
+    (live : IsLive k true a.state.bus)
     → Basis a → Linked a.state.bus a.state.host a.pending → IsSoFar m a
-    → Each (IsFine m (changed m a (unwires k free before live))) (map disconnected_told (open_on k side.Far a.state.bus))
+    → Each (IsFine m (changed m a (unwires k free before live)))
+    (map disconnected_told (open_on k side.Far a.state.bus))
 unwires-fine m a k free before live basis links h =
-    ended-fine m (changed m a (unwires k free before live)) side.Far k a.state.bus (λ n r made. made)
+    ended-fine m (changed m a (unwires k free before live)) side.Far k a.state.bus
+    (λ n r made. made)
     (λ e. not-svc (links.svc live.connection live.live (live.number ∙ e)).peer) (record {
       wires = refl;
       was = was.0;
@@ -208,14 +122,18 @@ unwires-fine m a k free before live basis links h =
       was_number = was.2 ∙ live.number;
       was_wired = was.3;
       now = record live.connection { wired = false; to_ap = []; to_far = [] };
-      live = changed-in (has_number k) (λ c. record c { wired = false; to_ap = []; to_far = [] }) a.state.bus.connections live.connection
-          (subst (λ n. find (has_number n) a.state.bus.connections ≡ Some live.connection) live.number
-          (found-by_number a.state.bus.connections live.connection basis.bus.numbers.rise live.live));
+      live = changed-in (has_number k) (λ c. record c { wired = false; to_ap = []; to_far = [] })
+          a.state.bus.connections live.connection
+          (subst (λ n. find (has_number n) a.state.bus.connections ≡ Some live.connection)
+          live.number
+          (found-by_number a.state.bus.connections live.connection basis.bus.numbers.rise
+          live.live));
       number = live.number;
       wired = refl;
     })
   where
-    was : (c : Connection) × IsIn c m.before.bus.connections × (c.number ≡ live.connection.number) × (c.wired ≡ true)
+    was : (c : Connection) × IsIn c m.before.bus.connections × (c.number ≡ live.connection.number)
+        × (c.wired ≡ true)
     was = h.wired before live.connection live.live live.wired
 
     not-svc : live.connection.peer ≡ end.Svc → ⊥
@@ -224,16 +142,21 @@ unwires-fine m a k free before live basis links h =
         other : end.Module live.intf live.cport ≡ end.Svc → ⊥
         other f = absurd cc
 
-so-far-kept : (m : Moment) (start : Start m) (a : Point) (x : Change m a) → Basis a → Linked a.state.bus a.state.host a.pending
+so-far-kept : (m : Moment) (start : Start m) (a : Point) (x : Change m a) → Basis a
+    → Linked a.state.bus a.state.host a.pending
     → IsSoFar m a → IsSoFar m (changed m a x)
 so-far-kept m start a (tells e quiet) basis links h =
-    so-far m a (tells e quiet) (e ∷ []) refl (quiet-fine m (changed m a (tells e quiet)) e (silent-quiet e quiet), tt) h
+    so-far m a (tells e quiet) (e ∷ []) refl
+    (quiet-fine m (changed m a (tells e quiet)) e (silent-quiet e quiet), tt) h
 so-far-kept m start a (asks d c label free live drawn who) basis links h =
-    so-far m a (asks d c label free live drawn who) (asked_told d c label a.state.bus) refl (sent-fine m _ d c label a.state.bus) h
+    so-far m a (asks d c label free live drawn who) (asked_told d c label a.state.bus) refl
+    (sent-fine m _ d c label a.state.bus) h
 so-far-kept m start a (names name d c label free live drawn host) basis links h =
-    so-far m a (names name d c label free live drawn host) (asked_told d c label a.state.bus) refl (sent-fine m _ d c label a.state.bus) h
+    so-far m a (names name d c label free live drawn host) (asked_told d c label a.state.bus) refl
+    (sent-fine m _ d c label a.state.bus) h
 so-far-kept m start a drops basis links h = so-far m a drops [] (sym (append-nil a.told)) tt h
-so-far-kept m start a (replies x q r is made twoway) basis links h = so-far m a (replies x q r is made twoway) (_ ∷ []) refl (tt, tt) h
+so-far-kept m start a (replies x q r is made twoway) basis links h =
+    so-far m a (replies x q r is made twoway) (_ ∷ []) refl (tt, tt) h
 so-far-kept m start a (answers x n result payload is says which) basis links h =
     so-far m a (answers x n result payload is says which) (_ ∷ []) refl (tt, tt) h
 so-far-kept m start a (gives_up n how free unended cause) basis links h =
@@ -241,26 +164,40 @@ so-far-kept m start a (gives_up n how free unended cause) basis links h =
     (given_up-after how cause, tt) h
   where
     given_up-after : (o : Outcome) → IsGivenUpFor m a.state o n
-        → IsFine m (changed m a (gives_up n how free unended cause)) (entry.Ended n o reading.Nothing)
+        → IsFine m (changed m a (gives_up n how free unended cause))
+        (entry.Ended n o reading.Nothing)
     given_up-after outcome.Cancelled c = c
     given_up-after outcome.Timeout c =
-        record { millis = c.millis; request = c.request; event = c.event; made = c.made; due = c.due }
+        record {
+          millis = c.millis;
+          request = c.request;
+          event = c.event;
+          made = c.made;
+          due = c.due;
+        }
     given_up-after outcome.Disconnected c = absurd c
     given_up-after outcome.Sent c = absurd c
     given_up-after (outcome.Answered result payload) c = absurd c
 so-far-kept m start a (unwires k free before live) basis links h =
-    so-far m a (unwires k free before live) (map disconnected_told (open_on k side.Far a.state.bus)) refl
+    so-far m a (unwires k free before live) (map disconnected_told (open_on k side.Far a.state.bus))
+    refl
     (unwires-fine m a k free before live basis links h) h
-so-far-kept m start a (injects i c p bytes free named) basis links h = so-far m a (injects i c p bytes free named) (_ ∷ []) refl (tt, tt) h
+so-far-kept m start a (injects i c p bytes free named) basis links h =
+    so-far m a (injects i c p bytes free named) (_ ∷ []) refl (tt, tt) h
 so-far-kept m start a (acts_told e rest is quiet) basis links h =
-    so-far m a (acts_told e rest is quiet) (e ∷ []) refl (quiet-fine m (changed m a (acts_told e rest is quiet)) e quiet, tt) h
+    so-far m a (acts_told e rest is quiet) (e ∷ []) refl
+    (quiet-fine m (changed m a (acts_told e rest is quiet)) e quiet, tt) h
 so-far-kept m start a (acts_shut k rest free is cause) basis links h =
     let why = shut-cause m k start cause in
-    so-far m a (acts_shut k rest free is cause) (map disconnected_told (open_on k side.Ap a.state.bus)) refl
-    (ended-fine m (changed m a (acts_shut k rest free is cause)) side.Ap k a.state.bus (λ n r made. made) why.0 why.1) h
-so-far-kept m start a (acts_opened w q rest free is) basis links h = so-far m a (acts_opened w q rest free is) (_ ∷ []) refl (tt, tt) h
+    so-far m a (acts_shut k rest free is cause)
+    (map disconnected_told (open_on k side.Ap a.state.bus)) refl
+    (ended-fine m (changed m a (acts_shut k rest free is cause)) side.Ap k a.state.bus
+    (λ n r made. made) why.0 why.1) h
+so-far-kept m start a (acts_opened w q rest free is) basis links h =
+    so-far m a (acts_opened w q rest free is) (_ ∷ []) refl (tt, tt) h
 so-far-kept m start a (acts_failed q rest is quiet) basis links h =
-    so-far m a (acts_failed q rest is quiet) _ refl (quiet-all-fine m (changed m a (acts_failed q rest is quiet)) _ quiet) h
+    so-far m a (acts_failed q rest is quiet) _ refl
+    (quiet-all-fine m (changed m a (acts_failed q rest is quiet)) _ quiet) h
 so-far-kept m start a x basis links h =
     so-far m a x [] refl tt h
 
@@ -270,21 +207,28 @@ abbrev cause_law : (m : Moment) → Start m → Law m
 cause_law m start = record {
   holds = λ a. (Basis a × Linked a.state.bus a.state.host a.pending) × IsSoFar m a;
   basis = λ a h. h.0.0;
-  kept = λ a x h. ((link_law m (start-absent m start)).kept a x h.0, so-far-kept m start a x h.0.0 h.0.1 h.1);
+  kept = λ a x h. (
+    (link_law m (start-absent m start)).kept a x h.0,
+    so-far-kept m start a x h.0.0
+        h.0.1 h.1,
+  );
 }
 
 has-cause : (m : Moment) → IsMoment m.event → Start m → HasItsCause m
 has-cause m one start = record {
-  cancelled = λ n read i. let c = fine (entry.Ended n outcome.Cancelled read) i in (c.name, c.event, c.named);
+  cancelled = λ n read i. let c = fine (entry.Ended n outcome.Cancelled read) i in
+      (c.name, c.event, c.named);
   timeout = λ n read r i made. let c = fine (entry.Ended n outcome.Timeout read) i in
       let same = same-some c.request r (sym c.made ∙ made) in
       (c.millis, c.event, subst (λ (q : Request). q.deadline ≤ (after m).now) same c.due);
   disconnected = λ n read r i made. let c = fine (entry.Ended n outcome.Disconnected read) i in
-      subst (λ (q : Request). (q.connection ≢ 1) × IsDisconnection m q.side q.connection) (same-some c.request r (sym c.made ∙ made))
+      subst (λ (q : Request). (q.connection ≢ 1) × IsDisconnection m q.side q.connection)
+      (same-some c.request r (sym c.made ∙ made))
       (c.other, cut c.request.side c.request.connection c.cut);
 }
   where
-    over : (w : _) × (cause_law m start).holds (record (resting (m.told ++ told_at m) (after m)) { wires = w })
+    over : (w : _) × (cause_law m start).holds
+        (record (resting (m.told ++ told_at m) (after m)) { wires = w })
     over = over-step m (cause_law m start) one (
       (start.0, start.1),
       record {
@@ -298,13 +242,17 @@ has-cause m one start = record {
     point : Point
     point = record (resting (m.told ++ told_at m) (after m)) { wires = over.0 }
 
-    fine : (e : Entry) → IsIn e (told_at m) → IsFine m (record (resting (m.told ++ told_at m) (after m)) { wires = over.0 }) e
+    fine : (e : Entry) → IsIn e (told_at m)
+        → IsFine m (record (resting (m.told ++ told_at m) (after m)) { wires = over.0 }) e
     fine e i =
         let h = over.1.1 in
-        each-in (IsFine m (record (resting (m.told ++ told_at m) (after m)) { wires = over.0 })) h.new e h.fine
+        each-in (IsFine m (record (resting (m.told ++ told_at m) (after m)) { wires = over.0 }))
+        h.new e h.fine
         (subst (IsIn e) (same-rest m.told (told_at m) h.new h.told) i)
 
-    cut : (s : Side) (k : ℕ) → IsCutOn m (record (resting (m.told ++ told_at m) (after m)) { wires = over.0 }) s k → IsDisconnection m s k
+    cut : (s : Side) (k : ℕ) → IsCutOn m
+        (record (resting (m.told ++ told_at m) (after m)) { wires = over.0 }) s k
+        → IsDisconnection m s k
     cut side.Ap k c = c
     cut side.Far k c = (
       c.was,

@@ -46,7 +46,7 @@ use Rattle.gb_laws.proofs.Closings.{
   fewer-without,
 }
 use Rattle.gb_laws.proofs.LinkLists.{in-first}
-use Rattle.gb_laws.proofs.LinkTurns.{resumed, waits-for}
+use Rattle.gb_laws.proofs.LinkEnds.{resumed, waits-for}
 use Rattle.gb_laws.proofs.Links.{HostFits, IsDue}
 use Rattle.gb_machine.specs.Bus.{Bus}
 use Rattle.gb_machine.specs.Host.{

@@ -63,7 +63,7 @@ use Rattle.gb_laws.proofs.CreditsServed.{
   takes_it,
   uart-served,
 }
-use Rattle.gb_laws.proofs.LinkBuses.{Linked}
+use Rattle.gb_laws.proofs.LinkedFrom.{Linked}
 use Rattle.gb_laws.proofs.LinkHosts.{same-link}
 use Rattle.gb_laws.proofs.LinkLists.{found-at, found-link}
 use Rattle.gb_laws.proofs.LinkRuns.{LinkedTo}

@@ -49,7 +49,7 @@ use Rattle.gb_formats.specs.UartDevice.{credits_spent, most_credits}
 use Rattle.gb_invariants.proofs.Awaiting.{not-both, same-some}
 use Rattle.gb_invariants.proofs.Lists.{each-in, found-in}
 use Rattle.gb_invariants.proofs.Outcomes.{is-same, same-number}
-use Rattle.gb_laws.proofs.LinkBuses.{Linked}
+use Rattle.gb_laws.proofs.LinkedFrom.{Linked}
 use Rattle.gb_laws.proofs.LinkHosts.{same-link}
 use Rattle.gb_laws.proofs.LinkLists.{found-at, is-link, link-is, one-link}
 use Rattle.gb_laws.proofs.Links.{IsLinkBefore, SameLink}

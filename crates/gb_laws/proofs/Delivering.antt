@@ -1,6 +1,6 @@
 -- A law of points goes over deliveries, and over held requests that are answered.
 use Rattle.std.proofs.Common.{◌≡◌, ℕ, Bool, true, false, cond, Option, Some, None, List, [], ◌∷◌, ◌++◌, refl, sym, ap, ◌∙◌, inl, subst, append-nil, append_assoc}
-use Rattle.std.specs.Prelude.{Result, Ok, Err, ◌==◌, ◌&&◌, ◌||◌, is_none, is_some, option_map}
+use Rattle.std.specs.Prelude.{Result, Ok, Err, ◌==◌, option_map}
 use Rattle.gb_base.specs.declared.end.End.{End}
 use Rattle.gb_base.specs.declared.end.End.TheVariants as end
 use Rattle.gb_base.specs.declared.end.Side.{Side}
@@ -8,88 +8,41 @@ use Rattle.gb_base.specs.declared.end.Side.TheVariants as side
 use Rattle.gb_base.specs.declared.entry.Entry.{Entry}
 use Rattle.gb_base.specs.declared.entry.Entry.TheVariants as entry
 use Rattle.gb_base.specs.declared.event.Event.TheVariants as event
-use Rattle.gb_base.specs.declared.outcome.Outcome.{Outcome}
 use Rattle.gb_base.specs.declared.fault.RawFault.{RawFault}
 use Rattle.gb_formats.specs.Message.{Message}
 use Rattle.gb_formats.specs.Wire.{raw_message}
-use Rattle.gb_invariants.proofs.Awaiting.{is-open, not-both, opened}
-use Rattle.gb_invariants.proofs.Drawing.{open_with-in_use}
-use Rattle.gb_invariants.proofs.Outcomes.{pair-there}
-use Rattle.gb_invariants.specs.Facts.{OutcomesFit, is_numbered}
+use Rattle.gb_invariants.proofs.Awaiting.{not-both}
+use Rattle.gb_invariants.specs.Facts.{is_numbered}
 use Rattle.gb_laws.proofs.Acting.{goes-notices}
 use Rattle.gb_laws.proofs.Going.{At, Goes, goes-nothing, goes-tell}
 use Rattle.gb_laws.proofs.Places.{module-far, place-is}
 use Rattle.gb_laws.proofs.Points.{Answers, replied_to, unreplied, Forgets, Law, Says, acting, answers, by_label, by_number, drops, forgets, holds, numbered, replies, takes, takes_held, tells, unclean}
 use Rattle.gb_laws.proofs.PointParts.{Basis, Hand, Untouched}
-use Rattle.gb_invariants.proofs.Awaiting.{same-some}
 use Rattle.gb_invariants.proofs.Numbers.{found-number, same-connection}
-use Rattle.gb_invariants.proofs.Selves.{put-self}
-use Rattle.gb_laws.proofs.LinkLists.{find-changed}
 use Rattle.gb_laws.proofs.PointParts.{is_silent}
-use Rattle.gb_machine.specs.Sending.{put}
-use Rattle.gb_laws.proofs.Serving.{Ends, HasPeer, IsAsBefore, ends-going, ends-response}
+use Rattle.gb_laws.proofs.Serving.{Ends, ends-going, ends-response}
+use Rattle.gb_laws.proofs.ServedOn.{HasPeer, IsAsBefore}
 use Rattle.gb_laws.proofs.Delivered.{IsTaken, answered, delivered}
 use Rattle.gb_machine.proofs.Opened.{machine_opened}
 use Rattle.gb_machine.specs.Actions.{Action, by_state, given, nothing, on_bus, tell, ◌▸◌}
 use Rattle.gb_machine.specs.Arriving as arriving
 use Rattle.gb_machine.specs.Arriving.{arrives, asked_at, delivers, delivers_at, dropped, ends_answered, handles, is_held, keeps, late_by, raw_taken, reading_for, reply_taken, with_held}
-use Rattle.gb_machine.specs.Bus.{connection_of, has_number, Ask, Bus, Connection, Item, Place, Raw, RawReply, Reply, Request, end_of, is_open, other_side, outcome_of, place_of, queue, request_of}
+use Rattle.gb_machine.specs.Bus.{Ask, Connection, Item, Place, Raw, RawReply, Reply, Request, end_of, is_open, other_side, place_of, queue, request_of}
 use Rattle.gb_machine.specs.Delivery as delivery
 use Rattle.gb_machine.specs.Delivery.{ended, forgotten, popped, replied}
 use Rattle.gb_machine.specs.HostActs.{follows}
 use Rattle.gb_machine.specs.Incoming.{Incoming, incoming, incoming_raw, is_request, raw_request, reply_item, request_in}
 use Rattle.gb_machine.specs.Holding.{held_on}
 use Rattle.gb_machine.specs.LineActions.{answers as answering, answers_at, answers_held, serves_held, with_fewer}
-use Rattle.gb_machine.specs.LawsBus.{is_awaited}
 use Rattle.gb_machine.specs.Lists.{first, nth}
 use Rattle.gb_machine.specs.Refusals.{module_place}
-use Rattle.gb_machine.specs.Requests.{given_up_with, is_given_up, open_with}
+use Rattle.gb_machine.specs.Requests.{given_up_with, open_with}
 use Rattle.gb_machine.specs.Responding.{Response, replies as replying, response_at, serves as serving, serves_oneway}
 use Rattle.gb_machine.specs.Runs.{Moment}
 use Rattle.gb_machine.specs.Serving.{success}
 use Rattle.gb_machine.specs.State.{Held, State}
 use Rattle.gb_machine.specs.Turns.{HostEvent}
-
--- requests stay where an item is taken
-request-popped : (item : Item) (k : ℕ) (at : Side) (b : Bus) → request_in item (popped k at b) ≡ request_in item b
-request-popped (Ask n) k at b = refl
-request-popped (Raw bytes) k at b = refl
-request-popped (Reply n result payload) k at b = refl
-request-popped (RawReply label kind result payload) k at b = refl
-
--- far ends stay where something is replied
-peer-replied : (k : ℕ) (at : Side) (item : Item) (e : End) (b : Bus) → HasPeer k e b → HasPeer k e (replied k at item b)
-peer-replied k at item e b peer c f = by (connection_of k b) refl
-  where
-    by : (o : Option Connection) → connection_of k b ≡ o → c.peer ≡ e
-    by None g = absurd (none-some (sym (find-changed (has_number k) (put at item) b.connections (λ x. ap (λ n. n == k) (put-self at item x).number)
-        ∙ ap (option_map (put at item)) g) ∙ f))
-      where
-        none-some : None ≡ Some c → ⊥
-        none-some h = absurd cc
-    by (Some x) g =
-        let is = same-some (put at item x) c (sym (find-changed (has_number k) (put at item) b.connections (λ x. ap (λ n. n == k) (put-self at item x).number)
-        ∙ ap (option_map (put at item)) g) ∙ f) in
-        sym (ap (λ (y : Connection). y.peer) is) ∙ (put-self at item x).peer ∙ peer x g
-
--- what is ended by a response is open
-pub answers-open : (x : Hand) (n : ℕ) (b : Bus) → Answers x n b → is_open n b ≡ true
-answers-open x n b (by_number result payload is clean unended) = unended
-answers-open x n b (by_label label dirty is) =
-    let o = open_with-in_use x.connection.number x.side label b n is in is-open n b o.0 o.1 o.3
-
--- and isn't awaited any more then
-over-ended : (n : ℕ) (how : Outcome) (b : Bus) → OutcomesFit b → is_open n b ≡ true
-    → is_awaited n (ended n how b) ≡ false
-over-ended n how b fits unended =
-    ap (λ o. is_some (request_of n b) && is_none o || is_given_up n b) (pair-there n how b.outcomes)
-    ∙ by (is_some (request_of n b)) (is_given_up n b) refl
-  where
-    by : (t u : Bool) → is_given_up n b ≡ u → (t && false || u) ≡ false
-    by true false e = refl
-    by false false e = refl
-    by t true e = absurd (not-both (is_some (outcome_of n b)) (fits.given n e)
-        (ap is_some (opened n b unended).2))
+use Rattle.gb_laws.proofs.DeliveredHands.{answers-open, over-ended, peer-replied, request-popped}
 
 module _ (m : Moment) (law : Law m) where
   -- one action after another ends a step

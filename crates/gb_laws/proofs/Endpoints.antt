@@ -26,7 +26,7 @@ use Rattle.gb_invariants.proofs.Lists.{each-from, each-in}
 use Rattle.gb_invariants.proofs.Selves.{front-self, put-self}
 use Rattle.gb_invariants.specs.Facts.{IsMade}
 use Rattle.gb_laws.proofs.Awaited.{awaited-rest}
-use Rattle.gb_laws.proofs.LinkBuses.{Linked}
+use Rattle.gb_laws.proofs.LinkedFrom.{Linked}
 use Rattle.gb_laws.proofs.LinkLaw.{link_law}
 use Rattle.gb_laws.proofs.Linking.{InsertsAbsent, LinkedAt}
 use Rattle.gb_laws.proofs.LinkRuns.{LinkedTo, linked-over, linked-throughout, start-absent}

@@ -59,7 +59,7 @@ use Rattle.gb_laws.proofs.LinkBuses.{new_link}
 use Rattle.gb_laws.proofs.LinkHosts.{same-link}
 use Rattle.gb_laws.proofs.LinkLists.{link-is}
 use Rattle.gb_laws.proofs.LinkSources.{from-turn, from-unsent, from-waiting}
-use Rattle.gb_laws.proofs.LinkTurns.{WaitsFor, connecting, enumerating, waits-for}
+use Rattle.gb_laws.proofs.LinkEnds.{WaitsFor, connecting, enumerating, waits-for}
 use Rattle.gb_laws.proofs.Linking.{InsertsAbsent, LinkedAt}
 use Rattle.gb_laws.proofs.Links.{ArePending, IsFree, IsMaking, connection, control}
 use Rattle.gb_laws.proofs.Marking.{present-some}

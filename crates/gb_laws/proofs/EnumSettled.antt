@@ -40,7 +40,7 @@ use Rattle.gb_laws.proofs.EnumTurns.{
   enums-inserted,
   enums-removed,
 }
-use Rattle.gb_laws.proofs.LinkTurns.{resumed, step-connects, waits-for, waits-link}
+use Rattle.gb_laws.proofs.LinkEnds.{resumed, step-connects, waits-for, waits-link}
 use Rattle.gb_laws.proofs.Linking.{InsertsAbsent, LinkedAt}
 use Rattle.gb_laws.proofs.Links.{ArePending, HostFits, IsDue, IsDueBy, IsFormed, IsResting}
 use Rattle.gb_laws.proofs.Marking.{present-some}

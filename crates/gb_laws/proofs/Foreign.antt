@@ -78,7 +78,8 @@ own-items = weaker OwnAt HaveOwnItems
           (λ item i. h.1.waiting c side.Ap item live i);
       to_far = each-from (IsOwnItem told s.bus c side.Far) c.to_far
           (λ item i. h.1.waiting c side.Far item live i);
-      held = each-from (λ (x : Held). IsOwnItem told s.bus c side.Far x.item) (held_on c.number s.held)
+      held = each-from (λ (x : Held). IsOwnItem told s.bus c side.Far x.item)
+          (held_on c.number s.held)
           (λ x i.
           let f = in-filter (is_held_on c.number) s.held x i in
           h.1.hanging c (loose_held x) live (map-held-in x s.held f.0)

@@ -40,7 +40,7 @@ use Rattle.gb_invariants.proofs.Selves.{drawn-queue, put-self}
 use Rattle.gb_laws.proofs.Awaited.{awaited-rest}
 use Rattle.gb_laws.proofs.LinkActs.{awaited-plugs}
 use Rattle.gb_laws.proofs.Knowing.{KnownAt, known-kept}
-use Rattle.gb_laws.proofs.LinkBuses.{Linked}
+use Rattle.gb_laws.proofs.LinkedFrom.{Linked}
 use Rattle.gb_laws.proofs.Linking.{InsertsAbsent, LinkedAt}
 use Rattle.gb_laws.proofs.Links.{ArePending, IsPresent}
 use Rattle.gb_laws.proofs.Marks.{

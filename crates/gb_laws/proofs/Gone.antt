@@ -26,7 +26,7 @@ use Rattle.gb_invariants.proofs.Lists.{found-in, in-at_first}
 use Rattle.gb_invariants.proofs.Outcomes.{both-true, is-same}
 use Rattle.gb_invariants.proofs.Selves.{front-self}
 use Rattle.gb_laws.proofs.Creating.{IsBetween, is_destroy}
-use Rattle.gb_laws.proofs.LinkBuses.{Linked}
+use Rattle.gb_laws.proofs.LinkedFrom.{Linked}
 use Rattle.gb_laws.proofs.LinkLists.{find-changed, find-none, found-at}
 use Rattle.gb_laws.proofs.Links.{IsKnown, leaving, linked, supervisory}
 use Rattle.gb_laws.proofs.Onward.{front-wired}

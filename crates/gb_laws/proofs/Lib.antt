@@ -1,5 +1,6 @@
 pub mod Absent
 pub mod Acting
+pub mod ActsFit
 pub mod AllRuns
 pub mod Answering
 pub mod Asked
@@ -8,6 +9,7 @@ pub mod Awaited
 pub mod AwaitsNewest
 pub mod AwaitsOwn
 pub mod Basics
+pub mod BasisParts
 pub mod Behind
 pub mod BehindRuns
 pub mod Causes
@@ -27,10 +29,12 @@ pub mod CreditsMoved
 pub mod CreditsRuns
 pub mod CreditsServed
 pub mod Delivered
+pub mod DeliveredHands
 pub mod Delivering
 pub mod DoneStays
 pub mod DoneSteps
 pub mod DoneTurns
+pub mod EndCauses
 pub mod Ended
 pub mod Endpoints
 pub mod EnumRequests
@@ -61,6 +65,8 @@ pub mod LinkBuses
 pub mod LinkChanges
 pub mod LinkClosing
 pub mod LinkDone
+pub mod LinkEnds
+pub mod LinkFails
 pub mod LinkHosts
 pub mod LinkLaw
 pub mod LinkLeft
@@ -71,6 +77,7 @@ pub mod LinkSources
 pub mod LinkSteps
 pub mod LinkTells
 pub mod LinkTurns
+pub mod LinkedFrom
 pub mod Linking
 pub mod Links
 pub mod Loosening
@@ -83,9 +90,11 @@ pub mod Naming
 pub mod NoneLeft
 pub mod Noticing
 pub mod Onward
+pub mod OpenActs
 pub mod OpenKept
 pub mod OpenRuns
 pub mod Opens
+pub mod Overdue
 pub mod OwnCreation
 pub mod OwnReplies
 pub mod Owned
@@ -104,6 +113,7 @@ pub mod QuietAsking
 pub mod QuietAwaited
 pub mod QuietBefore
 pub mod QuietBuses
+pub mod QuietEnums
 pub mod QuietKept
 pub mod QuietLaw
 pub mod QuietPower
@@ -118,11 +128,13 @@ pub mod RememberedLive
 pub mod Remembering
 pub mod Removing
 pub mod Replies
+pub mod ReplyHands
 pub mod Replying
 pub mod Routed
 pub mod Runs
 pub mod Served
 pub mod ServedDestroy
+pub mod ServedOn
 pub mod Serving
 pub mod SettleQueues
 pub mod Settles
@@ -139,6 +151,7 @@ pub mod StaleLaw
 pub mod StalePower
 pub mod StaleRuns
 pub mod StaleTurns
+pub mod StayPlugged
 pub mod Stepping
 pub mod StillWaiting
 pub mod Steps

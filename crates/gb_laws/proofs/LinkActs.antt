@@ -36,7 +36,7 @@ use Rattle.gb_formats.specs.UartRecords.{UartAsk, read_uart_ask_of_module}
 use Rattle.gb_invariants.proofs.Awaiting.{same-some}
 use Rattle.gb_invariants.proofs.Lists.{found-in}
 use Rattle.gb_laws.proofs.Awaited.{awaited-rest}
-use Rattle.gb_laws.proofs.LinkBuses.{Linked}
+use Rattle.gb_laws.proofs.LinkedFrom.{Linked}
 use Rattle.gb_laws.proofs.LinkLists.{link-is}
 use Rattle.gb_laws.proofs.LinkHosts.{
   Onto,
@@ -48,7 +48,7 @@ use Rattle.gb_laws.proofs.LinkHosts.{
   host-link,
   stay-changed,
 }
-use Rattle.gb_laws.proofs.LinkSteps.{fits-failed, fits-interface_fails, fits-through}
+use Rattle.gb_laws.proofs.LinkFails.{fits-failed, fits-interface_fails, fits-through}
 use Rattle.gb_invariants.proofs.Outcomes.{same-number}
 use Rattle.gb_laws.proofs.Links.{
   HasNoControl,

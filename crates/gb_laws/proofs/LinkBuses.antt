@@ -1,5 +1,28 @@
 -- The facts of the application processor's connections go over what becomes of the bus.
-use Rattle.std.proofs.Common.{◌≡◌, ◌≤◌, ℕ, ◌+◌, Bool, true, false, Some, None, List, [], ◌∷◌, ◌++◌, refl, sym, ap, ◌∙◌, inl, inr, ⊎_elim, subst, arith}
+use Rattle.std.proofs.Common.{
+  ◌≡◌,
+  ◌≤◌,
+  ℕ,
+  ◌+◌,
+  Bool,
+  true,
+  false,
+  Some,
+  None,
+  List,
+  [],
+  ◌∷◌,
+  ◌++◌,
+  refl,
+  sym,
+  ap,
+  ◌∙◌,
+  inl,
+  inr,
+  ⊎_elim,
+  subst,
+  arith,
+}
 use Rattle.std.specs.Prelude.{◌==◌}
 use Rattle.std.specs.List.{find}
 use Rattle.gb_base.specs.declared.end.End.TheVariants as end
@@ -9,11 +32,35 @@ use Rattle.gb_base.specs.declared.peers.Link.{Link}
 use Rattle.gb_base.specs.declared.steps.SequenceStep.{SequenceStep}
 use Rattle.gb_formats.specs.UartDevice.{most_credits}
 use Rattle.gb_invariants.proofs.Awaiting.{not-both}
-use Rattle.gb_invariants.proofs.Lists.{each-from, found-in, in-at_first, in-front, in-pushed, in-without, two-pushed}
+use Rattle.gb_invariants.proofs.Lists.{
+  each-from,
+  found-in,
+  in-at_first,
+  in-front,
+  in-pushed,
+  in-without,
+  two-pushed,
+}
 use Rattle.gb_invariants.proofs.Outcomes.{is-same, same-number}
-use Rattle.gb_invariants.proofs.Selves.{SameSelf}
 use Rattle.gb_laws.proofs.LinkLists.{is-link, link-is}
-use Rattle.gb_laws.proofs.Links.{ArePending, HostFits, IsDue, IsFree, IsKnown, IsLinkBefore, IsMaking, IsNumbered, IsPresent, IsSvc, IsWaiting, LinksFit, connection, control, leaving, linked, supervisory}
+use Rattle.gb_laws.proofs.Links.{
+  ArePending,
+  HostFits,
+  IsDue,
+  IsFree,
+  IsKnown,
+  IsLinkBefore,
+  IsMaking,
+  IsNumbered,
+  IsPresent,
+  IsWaiting,
+  LinksFit,
+  connection,
+  control,
+  leaving,
+  linked,
+  supervisory,
+}
 use Rattle.gb_machine.specs.Bus.{Bus, Connection, has_number}
 use Rattle.gb_machine.specs.Host.{Host, is_link, with_new_link}
 use Rattle.gb_machine.specs.Lists.{at_first}
@@ -21,98 +68,12 @@ use Rattle.gb_machine.specs.Members.{IsIn}
 use Rattle.gb_machine.specs.SequenceSteps.{asks_control}
 use Rattle.gb_machine.specs.Turns.{Act, Asking, Making}
 use Rattle.gb_machine.specs.Wiring.{attached, detached, new_connection, next_connection}
-
--- The application processor and the bus, with the acts that are pending.
-pub record Linked (b : Bus) (h : Host) (acts : List Act) : Type 0 where
-  pub host : HostFits b h
-  pub pending : ArePending h acts
-  pub known : (c : Connection) → IsIn c b.connections → IsKnown c h.links acts
-  pub svc : (c : Connection) → IsIn c b.connections → c.number ≡ 1 → IsSvc c
-  pub made : 1 ≤ b.made
-
--- ---- where connections come from
-
--- a connection keeps what the application processor knows of it, and is unclean only where it may be
-pub record IsFrom (was c : Connection) : Type 0 where
-  pub number : c.number ≡ was.number
-  pub shut : c.shut ≡ was.shut
-  pub ap : c.ap ≡ was.ap
-  pub peer : c.peer ≡ was.peer
-  pub protocol : c.protocol ≡ was.protocol
-  pub clean : c.number ≡ 1 → c.clean ≡ was.clean
-
-pub from-self : (was c : Connection) → c.protocol ≡ was.protocol → SameSelf was c → IsFrom was c
-from-self was c speaks h = record {
-  number = h.number;
-  shut = h.shut;
-  ap = h.ap;
-  peer = h.peer;
-  protocol = speaks;
-  clean = λ e. h.clean;
-}
-
-pub from-same : (c : Connection) → IsFrom c c
-from-same c = record { number = refl; shut = refl; ap = refl; peer = refl; protocol = refl; clean = λ e. refl }
-
--- each connection of a bus comes from one of another
-abbrev pub AreFrom : Bus → Bus → Type 0
-AreFrom b after = (c : Connection) → IsIn c after.connections → (was : Connection) × IsIn was b.connections × IsFrom was c
-
--- one connection changes
-pub from-first : (b after : Bus) (k : ℕ) (change : Connection → Connection)
-    → after.connections ≡ at_first (has_number k) change b.connections
-    → ((c : Connection) → IsIn c b.connections → c.number ≡ k → IsFrom c (change c)) → AreFrom b after
-from-first b after k change same from c live =
-    ⊎_elim (λ o. (c, o, from-same c))
-    (λ w. (w.0, w.1, subst (IsFrom w.0) (sym w.3) (from w.0 w.1 (same-number w.0.number k w.2))))
-    (in-at_first (has_number k) change b.connections c (subst (λ cs. IsIn c cs) same live))
-
-pub from-all : (b after : Bus) → after.connections ≡ b.connections → AreFrom b after
-from-all b after same c live = (c, subst (λ cs. IsIn c cs) same live, from-same c)
-
--- what is known of a connection is known of one that comes from it
-known-from : (was c : Connection) (ls : List Link) (acts : List Act) → IsFrom was c → IsKnown was ls acts → IsKnown c ls acts
-known-from was c ls acts same (supervisory e) = supervisory (same.number ∙ e)
-known-from was c ls acts same (linked l i of) =
-    linked l i (record {
-      number = same.number ∙ of.number;
-      ap = same.ap ∙ of.ap;
-      peer = same.peer ∙ of.peer;
-      protocol = same.protocol ∙ of.protocol;
-    })
-known-from was c ls acts same (leaving i) = leaving (subst (λ n. IsIn (Act.Leave n) acts) (sym same.number) i)
-
--- Where connections come from those before, and none more was made.
-pub linked-from : (b after : Bus) (h : Host) (acts : List Act) → after.made ≡ b.made → AreFrom b after → Linked b h acts → Linked after h acts
-linked-from b after h acts made from f = record {
-  host = record {
-    links = record {
-      rise = f.host.links.rise;
-      numbered = λ l i. subst (λ n. IsNumbered n l) (sym made) (f.host.links.numbered l i);
-      waiting = f.host.links.waiting;
-      deaf = λ l c i live on shut. let w = from c live in
-          f.host.links.deaf l w.0 i w.1 (sym w.2.number ∙ on) (sym w.2.shut ∙ shut);
-    };
-    interfaces = f.host.interfaces;
-    differ = f.host.differ;
-    present = f.host.present;
-  };
-  pending = f.pending;
-  known = λ c live. let w = from c live in known-from w.0 c h.links acts w.2 (f.known w.0 w.1);
-  svc = λ c live one. let w = from c live in let s = f.svc w.0 w.1 (sym w.2.number ∙ one) in
-      record {
-        ap = w.2.ap ∙ s.ap;
-        peer = w.2.peer ∙ s.peer;
-        clean = w.2.clean one ∙ s.clean;
-        shut = w.2.shut ∙ s.shut;
-        protocol = w.2.protocol ∙ s.protocol;
-      };
-  made = subst (λ n. 1 ≤ n) (sym made) f.made;
-}
+pub use Rattle.gb_laws.proofs.LinkedFrom.{Linked}
 
 -- ---- an act is done
 
-known-rest : (c : Connection) (ls : List Link) (x : Act) (rest : List Act) → (Act.Leave c.number ≡ x → ⊥)
+known-rest : (c : Connection) (ls : List Link) (x : Act) (rest : List Act)
+    → (Act.Leave c.number ≡ x → ⊥)
     → IsKnown c ls (x ∷ rest) → IsKnown c ls rest
 known-rest c ls x rest other (supervisory e) = supervisory e
 known-rest c ls x rest other (linked l i of) = linked l i of
@@ -131,14 +92,16 @@ linked-rest b h x rest other f = record {
 }
 
 -- a connection is given up
-pub linked-left : (b : Bus) (h : Host) (k : ℕ) (rest : List Act) → Linked b h (Act.Leave k ∷ rest) → Linked (detached k b) h rest
+pub linked-left : (b : Bus) (h : Host) (k : ℕ) (rest : List Act) → Linked b h (Act.Leave k ∷ rest)
+    → Linked (detached k b) h rest
 linked-left b h k rest f = record {
   host = record {
     links = record {
       rise = f.host.links.rise;
       numbered = f.host.links.numbered;
       waiting = f.host.links.waiting;
-      deaf = λ l c i live. f.host.links.deaf l c i (in-without (has_number k) b.connections c live).0;
+      deaf = λ l c i live. f.host.links.deaf l c i
+          (in-without (has_number k) b.connections c live).0;
     };
     interfaces = f.host.interfaces;
     differ = f.host.differ;
@@ -146,7 +109,9 @@ linked-left b h k rest f = record {
   };
   pending = f.pending.1;
   known = λ c live. let w = in-without (has_number k) b.connections c live in
-      known-rest c h.links (Act.Leave k) rest (λ e. not-both (c.number == k) (ap (λ n. n == k) (same-leave c.number k e) ∙ is-same k) w.1) (f.known c w.0);
+      known-rest c h.links (Act.Leave k) rest
+      (λ e. not-both (c.number == k) (ap (λ n. n == k) (same-leave c.number k e) ∙ is-same k) w.1)
+      (f.known c w.0);
   svc = λ c live. f.svc c (in-without (has_number k) b.connections c live).0;
   made = f.made;
 }
@@ -167,27 +132,35 @@ linked-shut b after h k rest made same f = record {
       numbered = λ l i. subst (λ n. IsNumbered n l) (sym made) (f.host.links.numbered l i);
       waiting = f.host.links.waiting;
       deaf = λ l c i live on shut. ⊎_elim (λ o. f.host.links.deaf l c i o on shut)
-          (λ w. f.pending.0.1 l i (sym on ∙ ap (λ (x : Connection). x.number) w.3 ∙ same-number w.0.number k w.2))
-          (in-at_first (has_number k) (λ (x : Connection). record x { shut = true }) b.connections c (subst (λ cs. IsIn c cs) same live));
+          (λ w. f.pending.0.1 l i (sym on ∙ ap (λ (x : Connection). x.number) w.3
+          ∙ same-number w.0.number k w.2))
+          (in-at_first (has_number k) (λ (x : Connection). record x { shut = true }) b.connections c
+          (subst (λ cs. IsIn c cs) same live));
     };
     interfaces = f.host.interfaces;
     differ = f.host.differ;
     present = f.host.present;
   };
   pending = f.pending.1;
-  known = λ c live. ⊎_elim (λ o. known-rest c h.links (Act.Shut k) rest (λ e. absurd cc) (f.known c o))
-      (λ w. subst (λ x. IsKnown x h.links rest) (sym w.3) (changed w.0 (known-rest w.0 h.links (Act.Shut k) rest (λ e. absurd cc) (f.known w.0 w.1))))
-      (in-at_first (has_number k) (λ (x : Connection). record x { shut = true }) b.connections c (subst (λ cs. IsIn c cs) same live));
+  known = λ c live. ⊎_elim (λ o. known-rest c h.links (Act.Shut k) rest (λ e. absurd cc)
+      (f.known c o))
+      (λ w. subst (λ x. IsKnown x h.links rest) (sym w.3)
+      (changed w.0 (known-rest w.0 h.links (Act.Shut k) rest (λ e. absurd cc) (f.known w.0 w.1))))
+      (in-at_first (has_number k) (λ (x : Connection). record x { shut = true }) b.connections c
+      (subst (λ cs. IsIn c cs) same live));
   svc = λ c live one. ⊎_elim (λ o. f.svc c o one)
       (λ w. absurd (let two = f.pending.0.0 in
       omega (arith, two, same-number w.0.number k w.2, one, ap (λ (x : Connection). x.number) w.3)))
-      (in-at_first (has_number k) (λ (x : Connection). record x { shut = true }) b.connections c (subst (λ cs. IsIn c cs) same live));
+      (in-at_first (has_number k) (λ (x : Connection). record x { shut = true }) b.connections c
+      (subst (λ cs. IsIn c cs) same live));
   made = subst (λ n. 1 ≤ n) (sym made) f.made;
 }
   where
-    changed : (c : Connection) → IsKnown c h.links rest → IsKnown (record c { shut = true }) h.links rest
+    changed : (c : Connection) → IsKnown c h.links rest
+        → IsKnown (record c { shut = true }) h.links rest
     changed c (supervisory e) = supervisory e
-    changed c (linked l i of) = linked l i (record { number = of.number; ap = of.ap; peer = of.peer; protocol = of.protocol })
+    changed c (linked l i of) = linked l i
+        (record { number = of.number; ap = of.ap; peer = of.peer; protocol = of.protocol })
     changed c (leaving i) = leaving i
 
 -- ---- a connection is made
@@ -209,24 +182,36 @@ no-step : (w : ℕ × SequenceStep) → None ≡ Some w → ⊥
 no-step w f = absurd cc
 
 -- none stays deaf for a connection that is new
-known-more : (c : Connection) (ls : List Link) (l : Link) (x : Act) → (Act.Leave c.number ≡ x → ⊥) → IsKnown c ls (x ∷ [])
+known-more : (c : Connection) (ls : List Link) (l : Link) (x : Act) → (Act.Leave c.number ≡ x → ⊥)
+    → IsKnown c ls (x ∷ [])
     → (acts : List Act) → IsKnown c (ls ++ l ∷ []) acts
 known-more c ls l x other (supervisory e) acts = supervisory e
 known-more c ls l x other (linked k i of) acts = linked k (in-front k ls (l ∷ []) i) of
 known-more c ls l x other (leaving (inl e)) acts = absurd (other e)
 known-more c ls l x other (leaving (inr i)) acts = absurd i
 
-links-more : (b : Bus) (h : Host) (w : Making) (q : Asking) → LinksFit b h.links → IsFree w q h → 1 ≤ b.made
+links-more : (b : Bus) (h : Host) (w : Making) (q : Asking) → LinksFit b h.links → IsFree w q h
+    → 1 ≤ b.made
     → ((c : Connection) → IsIn c b.connections → c.number ≤ b.made)
-    → LinksFit (attached w.ap w.intf w.cport w.protocol b) (h.links ++ new_link (next_connection b) w ∷ [])
+    → LinksFit (attached w.ap w.intf w.cport w.protocol b)
+    (h.links ++ new_link (next_connection b) w ∷ [])
 links-more b h w q f free made range = record {
-  rise = two-pushed IsLinkBefore h.links new f.rise (each-from (λ l. IsLinkBefore l new) h.links (λ l i. let n = f.numbered l i in record {
-    number = let g = n.given in omega (arith, g);
-    ap = free.ap l i;
-    apart = apart l i (is_link l.intf l.cport new) refl;
-  }));
+  rise = two-pushed IsLinkBefore h.links new f.rise
+      (each-from (λ l. IsLinkBefore l new) h.links (λ l i. let n = f.numbered l i in record {
+        number = let g = n.given in omega (arith, g);
+        ap = free.ap l i;
+        apart = apart l i (is_link l.intf l.cport new) refl;
+      }));
   numbered = λ l i. ⊎_elim
-      (λ o. let n = f.numbered l o in record { from_two = n.from_two; given = let g = n.given in omega (arith, g); from_one = n.from_one; within = n.within; cport = n.cport })
+      (λ o. let n = f.numbered l o in
+      record {
+        from_two = n.from_two;
+        given = let g = n.given in omega (arith, g);
+        from_one =
+            n.from_one;
+        within = n.within;
+        cport = n.cport;
+      })
       (λ e. subst (IsNumbered (b.made + 1)) (sym e) (record {
         from_two = omega (arith, made);
         given = omega arith;
@@ -234,32 +219,40 @@ links-more b h w q f free made range = record {
         within = free.within;
         cport = free.cport_within;
       })) (in-pushed l h.links new i);
-  waiting = λ l i. ⊎_elim (λ o. f.waiting l o) (λ e. subst IsWaiting (sym e) (λ v k. absurd (no-step v k))) (in-pushed l h.links new i);
+  waiting = λ l i. ⊎_elim (λ o. f.waiting l o)
+      (λ e. subst IsWaiting (sym e) (λ v k. absurd (no-step v k))) (in-pushed l h.links new i);
   deaf = λ l c i live on shut. ⊎_elim
       (λ o. ⊎_elim (λ a. f.deaf l c a o on shut)
-      (λ e. let high = range c o in absurd (omega (arith, high, on, ap (λ (x : Link). x.connection) e))) (in-pushed l h.links new i))
+      (λ e. let high = range c o in absurd
+      (omega (arith, high, on, ap (λ (x : Link). x.connection) e))) (in-pushed l h.links new i))
       (λ e. absurd (not-both c.shut shut (ap (λ (x : Connection). x.shut) e)))
-      (in-pushed c b.connections (new_connection (next_connection b) w.ap (end.Module w.intf w.cport) w.protocol) live);
+      (in-pushed c b.connections (new_connection (next_connection b) w.ap
+      (end.Module w.intf w.cport) w.protocol) live);
 }
   where
     new : Link
     new = new_link (next_connection b) w
 
-    apart : (l : Link) → IsIn l h.links → (t : Bool) → is_link l.intf l.cport (new_link (next_connection b) w) ≡ t → t ≡ false
+    apart : (l : Link) → IsIn l h.links → (t : Bool)
+        → is_link l.intf l.cport (new_link (next_connection b) w) ≡ t → t ≡ false
     apart l i false e = refl
     apart l i true e =
         let at = link-is l.intf l.cport (new_link (next_connection b) w) e in
-        absurd (not-both (is_link w.intf w.cport l) (is-link w.intf w.cport l (sym at.0) (sym at.1)) (free.at l i))
+        absurd (not-both (is_link w.intf w.cport l) (is-link w.intf w.cport l (sym at.0) (sym at.1))
+        (free.at l i))
 
-host-more : (b : Bus) (h : Host) (w : Making) (q : Asking) → HostFits b h → IsFree w q h → 1 ≤ b.made
+host-more : (b : Bus) (h : Host) (w : Making) (q : Asking) → HostFits b h → IsFree w q h
+    → 1 ≤ b.made
     → ((c : Connection) → IsIn c b.connections → c.number ≤ b.made)
-    → HostFits (attached w.ap w.intf w.cport w.protocol b) (with_new_link (next_connection b) w.ap w.intf w.cport w.protocol h)
+    → HostFits (attached w.ap w.intf w.cport w.protocol b)
+    (with_new_link (next_connection b) w.ap w.intf w.cport w.protocol h)
 host-more b h w q f free made range = record {
   links = links-more b h w q f.links free made range;
   interfaces = λ x i v e. let old = f.interfaces x i v e in (
     old.0,
     λ early l j.
-        ⊎_elim (λ o. old.1 early l o) (λ new. ap (is_link x.intf 0) new ∙ other x i v e (is_link x.intf 0 (new_link (next_connection b) w)) refl)
+        ⊎_elim (λ o. old.1 early l o) (λ new. ap (is_link x.intf 0) new
+        ∙ other x i v e (is_link x.intf 0 (new_link (next_connection b) w)) refl)
         (in-pushed l h.links (new_link (next_connection b) w) j),
   );
   differ = f.differ;
@@ -268,7 +261,8 @@ host-more b h w q f free made range = record {
       (in-pushed l h.links (new_link (next_connection b) w) i);
 }
   where
-    other : (x : Interface) → IsIn x h.interfaces → (v : ℕ × SequenceStep) → x.awaits ≡ Some v → (t : Bool)
+    other : (x : Interface) → IsIn x h.interfaces → (v : ℕ × SequenceStep) → x.awaits ≡ Some v
+        → (t : Bool)
         → is_link x.intf 0 (new_link (next_connection b) w) ≡ t → t ≡ false
     other x i v e false is = refl
     other x i v e true is =
@@ -277,8 +271,10 @@ host-more b h w q f free made range = record {
 
 -- A connection is made, and its request is pending.
 pub linked-opened : (b : Bus) (h : Host) (w : Making) (q : Asking) (rest : List Act)
-    → ((c : Connection) → IsIn c b.connections → c.number ≤ b.made) → Linked b h (Act.Open w q ∷ rest)
-    → Linked (attached w.ap w.intf w.cport w.protocol b) (with_new_link (next_connection b) w.ap w.intf w.cport w.protocol h) (Act.Ask q ∷ rest)
+    → ((c : Connection) → IsIn c b.connections → c.number ≤ b.made)
+    → Linked b h (Act.Open w q ∷ rest)
+    → Linked (attached w.ap w.intf w.cport w.protocol b)
+    (with_new_link (next_connection b) w.ap w.intf w.cport w.protocol h) (Act.Ask q ∷ rest)
 linked-opened b h w q rest range f = record {
   host = host-more b h w q f.host free f.made range;
   pending = (
@@ -293,12 +289,17 @@ linked-opened b h w q rest range f = record {
   );
   known = λ c live. ⊎_elim
       (λ o. known-more c h.links (new_link (next_connection b) w) (Act.Open w q) (λ e. absurd cc)
-      (subst (λ r. IsKnown c h.links (Act.Open w q ∷ r)) f.pending.0.1 (f.known c o)) (Act.Ask q ∷ rest))
-      (λ e. subst (λ x. IsKnown x (h.links ++ new_link (next_connection b) w ∷ []) (Act.Ask q ∷ rest)) (sym e)
-      (linked (new_link (next_connection b) w) (last h.links) (record { number = refl; ap = refl; peer = refl; protocol = refl })))
+      (subst (λ r. IsKnown c h.links (Act.Open w q ∷ r)) f.pending.0.1 (f.known c o))
+      (Act.Ask q ∷ rest))
+      (λ e. subst (λ x. IsKnown x (h.links ++ new_link (next_connection b) w ∷ [])
+      (Act.Ask q ∷ rest)) (sym e)
+      (linked (new_link (next_connection b) w) (last h.links)
+      (record { number = refl; ap = refl; peer = refl; protocol = refl })))
       (in-pushed c b.connections new live);
   svc = λ c live one. ⊎_elim (λ o. f.svc c o one)
-      (λ e. let high = f.made in absurd (omega (arith, high, one, ap (λ (x : Connection). x.number) e))) (in-pushed c b.connections new live);
+      (λ e. let high = f.made in absurd
+      (omega (arith, high, one, ap (λ (x : Connection). x.number) e)))
+      (in-pushed c b.connections new live);
   made = omega arith;
 }
   where
@@ -312,7 +313,8 @@ linked-opened b h w q rest range f = record {
     own step (control zero_cport) e = absurd cc
     own step (connection other) e = absurd cc
 
-    last : (ls : List Link) → IsIn (new_link (next_connection b) w) (ls ++ new_link (next_connection b) w ∷ [])
+    last : (ls : List Link) → IsIn (new_link (next_connection b) w)
+        (ls ++ new_link (next_connection b) w ∷ [])
     last [] = inl refl
     last (l ∷ ls) = inr (last ls)
 
@@ -322,7 +324,8 @@ linked-opened b h w q rest range f = record {
       cport = f.pending.0.0.cport ∙ zero_cport;
       none = λ e. absurd cc;
       idle = λ x i e. f.pending.0.0.idle zero_cport x i (e ∙ f.pending.0.0.intf);
-      present = let p = f.pending.0.0.present in record { interface = p.interface; known = p.known; is = p.is ∙ sym f.pending.0.0.intf };
+      present = let p = f.pending.0.0.present in
+          record { interface = p.interface; known = p.known; is = p.is ∙ sym f.pending.0.0.intf };
     }
     due step (connection other) = record {
       cport = λ z. other (sym f.pending.0.0.cport ∙ z);
@@ -330,10 +333,14 @@ linked-opened b h w q rest range f = record {
       state = λ l e. ap (λ (x : Link). x.state) (is-new l e);
     }
       where
-        is-new : (l : Link) → find (is_link q.purpose.intf q.purpose.cport) (h.links ++ new_link (next_connection b) w ∷ []) ≡ Some l
+        is-new : (l : Link) → find (is_link q.purpose.intf q.purpose.cport)
+            (h.links ++ new_link (next_connection b) w ∷ []) ≡ Some l
             → l ≡ new_link (next_connection b) w
         is-new l e =
-            let i = found-in (is_link q.purpose.intf q.purpose.cport) (h.links ++ new_link (next_connection b) w ∷ []) l e in
+            let i = found-in (is_link q.purpose.intf q.purpose.cport)
+            (h.links ++ new_link (next_connection b) w ∷ []) l e in
             ⊎_elim (λ o. absurd (not-both (is_link w.intf w.cport l)
-            (ap (λ n. is_link n w.cport l) (sym f.pending.0.0.intf) ∙ ap (λ n. is_link q.purpose.intf n l) (sym f.pending.0.0.cport) ∙ i.1)
-            (f.pending.0.0.at l o))) (λ e. e) (in-pushed l h.links (new_link (next_connection b) w) i.0)
+            (ap (λ n. is_link n w.cport l) (sym f.pending.0.0.intf)
+            ∙ ap (λ n. is_link q.purpose.intf n l) (sym f.pending.0.0.cport) ∙ i.1)
+            (f.pending.0.0.at l o))) (λ e. e)
+            (in-pushed l h.links (new_link (next_connection b) w) i.0)

@@ -6,7 +6,7 @@ use Rattle.gb_base.specs.declared.outcome.Outcome.{Outcome}
 use Rattle.gb_invariants.proofs.ItemChanges.{asked_on-self}
 use Rattle.gb_invariants.proofs.Labels.{asked_on}
 use Rattle.gb_invariants.proofs.Selves.{front-self, put-self}
-use Rattle.gb_laws.proofs.LinkBuses.{Linked, from-all, from-first, from-self, linked-from}
+use Rattle.gb_laws.proofs.LinkedFrom.{Linked, from-all, from-first, from-self, linked-from}
 use Rattle.gb_laws.proofs.Speaking.{asked-speaks, front-speaks, put-speaks}
 use Rattle.gb_machine.specs.Bus.{Bus, Item}
 use Rattle.gb_machine.specs.Delivery.{ended, forgotten, popped, replied, without_front}

@@ -29,7 +29,8 @@ use Rattle.gb_invariants.proofs.Awaiting.{not-both, same-some}
 use Rattle.gb_invariants.proofs.Lists.{found-in}
 use Rattle.gb_laws.proofs.LinkLists.{changed-in, find-changed, link-is, one-link}
 use Rattle.gb_laws.proofs.LinkHosts.{kept-same, host-link, state-link, stay-changed, then-same}
-use Rattle.gb_laws.proofs.LinkSteps.{fits-asked, followed-same, waits-not}
+use Rattle.gb_laws.proofs.LinkSteps.{fits-asked}
+use Rattle.gb_laws.proofs.LinkFails.{followed-same, waits-not}
 use Rattle.gb_laws.proofs.Links.{
   HostFits,
   IsAtStep,

@@ -18,7 +18,8 @@ use Rattle.std.proofs.Common.{
 use Rattle.gb_base.specs.declared.end.Side.TheVariants as side
 use Rattle.gb_base.specs.declared.outcome.Outcome.{Outcome}
 use Rattle.gb_laws.proofs.LinkActs.{linked-asked, linked-unsent}
-use Rattle.gb_laws.proofs.LinkBuses.{Linked, linked-left, linked-opened, linked-rest, linked-shut}
+use Rattle.gb_laws.proofs.LinkBuses.{linked-left, linked-opened, linked-rest, linked-shut}
+use Rattle.gb_laws.proofs.LinkedFrom.{Linked}
 use Rattle.gb_laws.proofs.LinkChanges.{linked-gave_up, linked-sent}
 use Rattle.gb_laws.proofs.Links.{IsKnown, leaving, linked, supervisory}
 use Rattle.gb_laws.proofs.Points.{asking, opening}

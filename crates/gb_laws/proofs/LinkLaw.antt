@@ -2,7 +2,7 @@
 -- first.
 use Rattle.std.proofs.Common.{◌≡◌, ◌∷◌, [], ap, arith, ⊎_elim}
 use Rattle.gb_laws.proofs.Basics.{basis-kept}
-use Rattle.gb_laws.proofs.LinkBuses.{Linked}
+use Rattle.gb_laws.proofs.LinkedFrom.{Linked}
 use Rattle.gb_laws.proofs.Linking.{InsertsAbsent, LinkedAt, linked-kept}
 use Rattle.gb_laws.proofs.Links.{supervisory}
 use Rattle.gb_laws.proofs.Points.{Law}

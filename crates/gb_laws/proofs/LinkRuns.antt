@@ -25,7 +25,7 @@ use Rattle.gb_formats.specs.Module.{Module, module_of_kind, module_raw}
 use Rattle.gb_invariants.proofs.Awaiting.{not-both}
 use Rattle.gb_laws.proofs.Basics.{Based, basis-first, rested}
 use Rattle.gb_laws.proofs.Framing.{asked-items, taken_bus}
-use Rattle.gb_laws.proofs.LinkBuses.{Linked}
+use Rattle.gb_laws.proofs.LinkedFrom.{Linked}
 use Rattle.gb_laws.proofs.LinkLaw.{link_law, linked-first}
 use Rattle.gb_laws.proofs.Linking.{InsertsAbsent, LinkedAt}
 use Rattle.gb_laws.proofs.Marking.{inserts-absent, marks-delivered, marks-still, refused-state}

@@ -1,6 +1,6 @@
 -- The facts of the application processor's connections go over the steps of its sequences.
 use Rattle.std.proofs.Common.{◌≡◌, ◌≢◌, ℕ, Bool, true, false, cond, Option, Some, None, List, []}
-use Rattle.std.proofs.Common.{◌∷◌, length, map, refl, sym, ap, ◌∙◌, inr, subst, arith}
+use Rattle.std.proofs.Common.{◌∷◌, length, refl, sym, ap, ◌∙◌, subst, arith}
 use Rattle.std.specs.Prelude.{Result, Ok, Err, ◌==◌, ◌≤◌, option_map}
 use Rattle.gb_base.specs.declared.steps.Purpose.{Purpose}
 use Rattle.gb_base.specs.declared.steps.SequenceStep.{SequenceStep}
@@ -11,142 +11,47 @@ use Rattle.gb_invariants.proofs.Outcomes.{is-same}
 use Rattle.std.specs.List.{find, list_any}
 use Rattle.gb_base.specs.declared.entry.ConnState.{ConnState}
 use Rattle.gb_base.specs.declared.entry.ConnState.TheVariants as state
-use Rattle.gb_base.specs.declared.entry.Entry.{Entry}
 use Rattle.gb_formats.specs.Manifest.{Manifest, check_answer}
 use Rattle.gb_formats.specs.ManifestRules.{Refused}
 use Rattle.gb_invariants.proofs.Awaiting.{not-both, same-some}
 use Rattle.gb_invariants.proofs.Lists.{found-in}
 use Rattle.gb_formats.specs.ControlRecords.{read_control_reply}
-use Rattle.gb_base.specs.declared.entry.IntfStage.TheVariants as stage
-use Rattle.gb_laws.proofs.LinkHosts.{Onto, kept-same, onto-interface, onto-link, onto-then}
-use Rattle.gb_laws.proofs.LinkHosts.{host-interface, host-link, next-interface, next-to, same-link}
-use Rattle.gb_laws.proofs.LinkHosts.{state-link, then-same}
+use Rattle.gb_laws.proofs.LinkHosts.{Onto, kept-same, onto-interface, onto-link}
+use Rattle.gb_laws.proofs.LinkHosts.{host-interface, host-link, next-interface, next-to}
+use Rattle.gb_laws.proofs.LinkHosts.{state-link}
 use Rattle.gb_laws.proofs.LinkLeft.{fits-left}
 use Rattle.gb_laws.proofs.LinkLists.{on-control, first_free-is, link-is, none-any}
-use Rattle.gb_laws.proofs.Links.{IsDueBy, IsFormed, IsNext, ArePending, HostFits, IsAtStep, IsDue, IsFollowed, IsIdle, IsWaiting, SameLink, TurnFits, control, leaves, stays}
+use Rattle.gb_laws.proofs.Links.{
+  IsFormed,
+  IsNext,
+  HostFits,
+  IsAtStep,
+  IsDue,
+  IsIdle,
+  TurnFits,
+  control,
+}
 use Rattle.gb_machine.specs.Arriving.{state_takes}
 use Rattle.gb_machine.specs.Bus.{Bus}
-use Rattle.gb_machine.specs.Failures.{interface_fails, link_fails, link_told, step_fails}
+use Rattle.gb_machine.specs.Failures.{interface_fails, link_told, step_fails}
 use Rattle.gb_machine.specs.Host.{Host, control_of, free_cport, free_device, in_state, interface_of}
-use Rattle.gb_machine.specs.Host.{is_link, link_at, staged, with_interface, with_link}
+use Rattle.gb_machine.specs.Host.{is_link, link_at, with_interface}
 use Rattle.gb_machine.specs.Members.{IsIn}
-use Rattle.gb_machine.specs.SequenceSteps.{Target, at_step, is_enumeration, is_reply}
+use Rattle.gb_machine.specs.SequenceSteps.{Target, at_step, is_reply}
 use Rattle.gb_machine.specs.Sequences.{ap_in, asked_on, asking, begins_control, begins_device}
 use Rattle.gb_machine.specs.Sequences.{enumerated, goes_on, size_in, link_turn, manifest_checked}
 use Rattle.gb_machine.specs.Sequences.{manifest_told, opened, opened_told, size_known}
 use Rattle.gb_machine.specs.Sequences.{step_answered, step_asked, step_done, target, way_of}
-use Rattle.gb_machine.specs.Turns.{Act, Turn, failed_turn, telling}
-
--- ---- turns
-
-pub followed-same : (ls : List Link) (acts : List Act) (l : Link) → IsIn l ls → IsFollowed l ls acts
-followed-same ls acts l i = stays l i (same-link l)
-
-pub pending-told : (h : Host) (es : List Entry) → ArePending h (map Act.Tell es)
-pending-told h [] = tt
-pending-told h (e ∷ es) = (tt, pending-told h es)
-
--- a turn behind a change of connections that stay
-pub fits-through : (b : Bus) (h g : Host) (t : Turn) → Onto h g → TurnFits b g t → TurnFits b h t
-fits-through b h g t onto r = record {
-  host = r.host;
-  pending = r.pending;
-  followed = λ l i. let s = onto.stay l i in by l s.0 s.2 (r.followed s.0 s.1);
-  kept = λ x i. let p = r.kept x i in let q = onto.kept p.interface p.known in
-      record { interface = q.interface; known = q.known; is = q.is ∙ p.is };
+use Rattle.gb_machine.specs.Turns.{Turn, failed_turn}
+use Rattle.gb_laws.proofs.LinkFails.{
+  fits-failed,
+  fits-host,
+  fits-interface_fails,
+  fits-telling,
+  fits-through,
+  followed-same,
+  waits-not,
 }
-  where
-    by : (l k : Link) → SameLink l k → IsFollowed k t.host.links t.acts → IsFollowed l t.host.links t.acts
-    by l k same (stays j i s) = stays j i (then-same l k j same s)
-    by l k same (leaves i) = leaves (subst (λ n. IsIn (Act.Leave n) t.acts) same.connection i)
-
-pub fits-telling : (b : Bus) (h : Host) (e : Entry) (t : Turn) → TurnFits b h t → TurnFits b h (telling e t)
-fits-telling b h e t r = record {
-  host = r.host;
-  pending = (tt, r.pending);
-  followed = λ l i. by l (r.followed l i);
-  kept = r.kept;
-}
-  where
-    by : (l : Link) → IsFollowed l t.host.links t.acts → IsFollowed l t.host.links (Act.Tell e ∷ t.acts)
-    by l (stays k i s) = stays k i s
-    by l (leaves i) = leaves (inr i)
-
--- the host changes, and nothing is done but telling
-fits-host : (b : Bus) (h g : Host) (es : List Entry) → HostFits b g → Onto h g
-    → TurnFits b h (record { host = g; acts = map Act.Tell es })
-fits-host b h g es fits onto = record {
-  host = fits;
-  pending = pending-told g es;
-  followed = λ l i. let s = onto.stay l i in stays s.0 s.1 s.2;
-  kept = onto.kept;
-}
-
--- ---- failures
-
-pub fits-interface_fails : (b : Bus) (p : Purpose) (h : Host) → HostFits b h → TurnFits b h (failed_turn (interface_fails p h))
-fits-interface_fails b p h fits =
-    fits-host b h (interface_fails p h).host (interface_fails p h).told
-    (host-interface b p.intf (staged stage.Failed) h (λ x. refl) (λ x j is e w k. e w k) fits) (onto-interface h p.intf (staged stage.Failed) (λ x. refl))
-
--- none waits where a step is due
-none-waits : (b : Bus) (step : SequenceStep) (p : Purpose) (h : Host) → HostFits b h → IsDue step p h
-    → (l : Link) → find (is_link p.intf p.cport) h.links ≡ Some l → l.awaits ≡ None
-none-waits b step p h fits due l found = by (is_enumeration step) refl due
-  where
-    by : (t : Bool) → is_enumeration step ≡ t → IsDueBy t step p h → l.awaits ≡ None
-    by false e idle = idle.idle l found
-    by true e next = waits l.awaits refl
-      where
-        waits : (o : Option (ℕ × SequenceStep)) → l.awaits ≡ o → o ≡ None
-        waits None f = refl
-        waits (Some w) f =
-            let i = found-in (is_link p.intf p.cport) h.links l found in
-            absurd ((fits.links.waiting l i.0 w f).0 ((link-is p.intf p.cport l i.1).1 ∙ next.cport))
-
-pub waits-not : (l : Link) → l.awaits ≡ None → IsWaiting l
-waits-not l none w e = absurd (by w (sym none ∙ e))
-  where
-    by : (w : ℕ × SequenceStep) → None ≡ Some w → ⊥
-    by w e = cc
-
-failed-host : (b : Bus) (p : Purpose) (h : Host) → HostFits b h
-    → ((l : Link) → find (is_link p.intf p.cport) h.links ≡ Some l → l.awaits ≡ None)
-    → HostFits b (with_link p.intf p.cport (in_state state.Failed) h)
-failed-host b p h fits none =
-    host-link b h p.intf p.cport (in_state state.Failed) (state-link state.Failed)
-    (λ l i f w. waits-not (in_state state.Failed l) (none l f)) (λ l i f d. record { cport = d.cport; takes = refl }) fits
-
--- What fails where a step isn't answered as it should be.
-pub fits-failed : (b : Bus) (step : SequenceStep) (p : Purpose) (h : Host) → HostFits b h → IsDue step p h
-    → TurnFits b h (failed_turn (step_fails step p h))
-fits-failed b step p h fits due = by step (none-waits b step p h fits due)
-  where
-    link : ((l : Link) → find (is_link p.intf p.cport) h.links ≡ Some l → l.awaits ≡ None) → TurnFits b h (failed_turn (link_fails p h))
-    link none = fits-host b h (link_fails p h).host (link_fails p h).told (failed-host b p h fits none)
-        (onto-link h p.intf p.cport (in_state state.Failed) (state-link state.Failed))
-
-    by : (s : SequenceStep) → ((l : Link) → find (is_link p.intf p.cport) h.links ≡ Some l → l.awaits ≡ None)
-        → TurnFits b h (failed_turn (step_fails s p h))
-    by steps.CreateControl none =
-        fits-host b h (step_fails steps.CreateControl p h).host (step_fails steps.CreateControl p h).told
-        (host-interface b p.intf (staged stage.Failed) (link_fails p h).host (λ x. refl) (λ x j is e w k. e w k) (failed-host b p h fits none))
-        (onto-then h (link_fails p h).host _ (onto-link h p.intf p.cport (in_state state.Failed) (state-link state.Failed))
-        (onto-interface (link_fails p h).host p.intf (staged stage.Failed) (λ x. refl)))
-    by steps.CreateConnection none = link none
-    by steps.TellConnected none = link none
-    by steps.TellDisconnecting none = link none
-    by steps.TellDisconnected none = link none
-    by steps.DestroyConnection none = link none
-    by steps.EnableVsys none = fits-interface_fails b p h fits
-    by steps.EnableRefclk none = fits-interface_fails b p h fits
-    by steps.EnableUnipro none = fits-interface_fails b p h fits
-    by steps.Activate none = fits-interface_fails b p h fits
-    by steps.GiveDevice none = fits-interface_fails b p h fits
-    by steps.CreateRoute none = fits-interface_fails b p h fits
-    by steps.AskVersion none = fits-interface_fails b p h fits
-    by steps.AskSize none = fits-interface_fails b p h fits
-    by steps.AskManifest none = fits-interface_fails b p h fits
 
 -- ---- asking
 
@@ -195,14 +100,19 @@ fits-asked b p h fits due other = by (way_of p h) refl
       kept = kept-same h.interfaces;
     }
 
-fits-device : (b : Bus) (o : Option ℕ) (p : Purpose) (h : Host) → HostFits b h → IsNext steps.GiveDevice (at_step steps.GiveDevice p) h
+fits-device : (b : Bus) (o : Option ℕ) (p : Purpose) (h : Host) → HostFits b h
+    → IsNext steps.GiveDevice (at_step steps.GiveDevice p) h
     → TurnFits b h (begins_device o (at_step steps.GiveDevice p) h)
 fits-device b None p h fits next = fits-interface_fails b (at_step steps.GiveDevice p) h fits
 fits-device b (Some d) p h fits next =
-    fits-through b h (with_interface p.intf (λ x. record x { device = Some d }) h) _ (onto-interface h p.intf (λ x. record x { device = Some d }) (λ x. refl))
-    (fits-asked b (at_step steps.GiveDevice p) (with_interface p.intf (λ x. record x { device = Some d }) h)
-    (host-interface b p.intf (λ x. record x { device = Some d }) h (λ x. refl) (λ x j is e w k. e w k) fits)
-    (next-interface steps.GiveDevice (at_step steps.GiveDevice p) h p.intf (λ x. record x { device = Some d }) (λ x. refl) (λ x. refl) next)
+    fits-through b h (with_interface p.intf (λ x. record x { device = Some d }) h) _
+    (onto-interface h p.intf (λ x. record x { device = Some d }) (λ x. refl))
+    (fits-asked b (at_step steps.GiveDevice p)
+    (with_interface p.intf (λ x. record x { device = Some d }) h)
+    (host-interface b p.intf (λ x. record x { device = Some d }) h (λ x. refl)
+    (λ x j is e w k. e w k) fits)
+    (next-interface steps.GiveDevice (at_step steps.GiveDevice p) h p.intf
+    (λ x. record x { device = Some d }) (λ x. refl) (λ x. refl) next)
     (λ e. absurd cc))
 
 -- the least free CPort of the application processor is from 1 to 4,095, and no connection has it
@@ -216,12 +126,15 @@ free_cport-is h a e =
     let f = first_free-is (λ n. list_any (λ (l : Link). l.ap == n) h.links) 4095 1 a e in record {
       from_one = f.1;
       within = omega (arith, f.2);
-      other = λ l i same. not-both (l.ap == a) (ap (λ n. n == a) same ∙ is-same a) (none-any (λ (l : Link). l.ap == a) h.links l f.0 i);
+      other = λ l i same. not-both (l.ap == a) (ap (λ n. n == a) same ∙ is-same a)
+          (none-any (λ (l : Link). l.ap == a) h.links l f.0 i);
     }
 
-fits-control : (b : Bus) (o : Option ℕ) (p : Purpose) (h : Host) → HostFits b h → IsNext steps.CreateRoute p h → free_cport h ≡ o
+fits-control : (b : Bus) (o : Option ℕ) (p : Purpose) (h : Host) → HostFits b h
+    → IsNext steps.CreateRoute p h → free_cport h ≡ o
     → TurnFits b h (begins_control o (at_step steps.CreateControl p) h)
-fits-control b None p h fits next free = fits-interface_fails b (at_step steps.CreateControl p) h fits
+fits-control b None p h fits next free =
+    fits-interface_fails b (at_step steps.CreateControl p) h fits
 fits-control b (Some a) p h fits next free = let f = free_cport-is h a free in record {
   host = fits;
   pending = (
@@ -259,16 +172,19 @@ fits-control b (Some a) p h fits next free = let f = free_cport-is h a free in r
 -- ---- a connection is open
 
 -- Control is open
-opened-control : (b : Bus) (p : Purpose) (h : Host) → HostFits b h → p.cport ≡ 0 → HostFits b (opened p h)
+opened-control : (b : Bus) (p : Purpose) (h : Host) → HostFits b h → p.cport ≡ 0
+    → HostFits b (opened p h)
 opened-control b p h fits zero_cport =
     host-link b h p.intf p.cport (in_state state.Open) (state-link state.Open)
     (λ l i f waits w e. absurd ((waits w e).0 (at l f))) (λ l i f d. absurd (d.cport (at l f))) fits
   where
     at : (l : Link) → find (is_link p.intf p.cport) h.links ≡ Some l → l.cport ≡ 0
-    at l f = (link-is p.intf p.cport l (found-in (is_link p.intf p.cport) h.links l f).1).1 ∙ zero_cport
+    at l f = (link-is p.intf p.cport l (found-in (is_link p.intf p.cport) h.links l f).1).1
+        ∙ zero_cport
 
 -- another is open that was opening
-opened-link : (b : Bus) (p : Purpose) (h : Host) → HostFits b h → IsIdle steps.TellConnected p h.links → HostFits b (opened p h)
+opened-link : (b : Bus) (p : Purpose) (h : Host) → HostFits b h
+    → IsIdle steps.TellConnected p h.links → HostFits b (opened p h)
 opened-link b p h fits idle =
     host-link b h p.intf p.cport (in_state state.Open) (state-link state.Open)
     (λ l i f waits. waits-not (in_state state.Open l) (idle.idle l f))
@@ -277,94 +193,126 @@ opened-link b p h fits idle =
     hears : (s : ConnState) → s ≡ state.Opening → state_takes s ≡ false → ⊥
     hears s e f = not-both (state_takes s) (ap state_takes e) f
 
-fits-opened_told : (b : Bus) (h : Host) (o : Option Link) (t : Turn) → TurnFits b h t → TurnFits b h (opened_told o t)
+fits-opened_told : (b : Bus) (h : Host) (o : Option Link) (t : Turn) → TurnFits b h t
+    → TurnFits b h (opened_told o t)
 fits-opened_told b h None t r = r
 fits-opened_told b h (Some l) t r = fits-telling b h (link_told state.Open l) t r
 
-fits-link_turn : (b : Bus) (to : ConnState) (o : Option Link) (h g : Host) → HostFits b g → Onto h g → TurnFits b h (link_turn to o g)
+fits-link_turn : (b : Bus) (to : ConnState) (o : Option Link) (h g : Host) → HostFits b g → Onto h g
+    → TurnFits b h (link_turn to o g)
 fits-link_turn b to None h g fits stay = fits-host b h g [] fits stay
 fits-link_turn b to (Some l) h g fits stay = fits-host b h g (link_told to l ∷ []) fits stay
 
 -- ---- the steps
 
-fits-checked : (b : Bus) (r : Result Manifest Refused) (p : Purpose) (bytes : List ℕ) (h : Host) → HostFits b h
+fits-checked : (b : Bus) (r : Result Manifest Refused) (p : Purpose) (bytes : List ℕ) (h : Host)
+    → HostFits b h
     → TurnFits b h (manifest_checked r p bytes h)
 fits-checked b (Ok v) p bytes h fits =
-    fits-host b h _ (_ ∷ []) (host-interface b p.intf (enumerated bytes) h (λ x. refl) (λ x j is e w k. e w k) fits) (onto-interface h p.intf (enumerated bytes) (λ x. refl))
+    fits-host b h _ (_ ∷ []) (host-interface b p.intf (enumerated bytes) h (λ x. refl)
+    (λ x j is e w k. e w k) fits) (onto-interface h p.intf (enumerated bytes) (λ x. refl))
 fits-checked b (Err why) p bytes h fits = fits-telling b h _ _ (fits-interface_fails b p h fits)
 
-fits-manifest : (b : Bus) (p : Purpose) (bytes : List ℕ) (h : Host) → HostFits b h → TurnFits b h (manifest_told p bytes h)
+fits-manifest : (b : Bus) (p : Purpose) (bytes : List ℕ) (h : Host) → HostFits b h
+    → TurnFits b h (manifest_told p bytes h)
 fits-manifest b p bytes h fits = by (length bytes == size_known (interface_of p.intf h))
   where
-    by : (t : Bool) → TurnFits b h (cond t (manifest_checked (check_answer bytes) p bytes h) (failed_turn (interface_fails p h)))
+    by : (t : Bool) → TurnFits b h (cond t (manifest_checked (check_answer bytes) p bytes h)
+        (failed_turn (interface_fails p h)))
     by true = fits-checked b (check_answer bytes) p bytes h fits
     by false = fits-interface_fails b p h fits
 
 -- another step is due where connections and their states stay
-idle-on : (step to : SequenceStep) (p : Purpose) (ls : List Link) → ((s : ConnState) → IsAtStep step s → IsAtStep to s)
+idle-on : (step to : SequenceStep) (p : Purpose) (ls : List Link)
+    → ((s : ConnState) → IsAtStep step s → IsAtStep to s)
     → IsIdle step p ls → IsIdle to p ls
-idle-on step to p ls on h = record { cport = h.cport; idle = h.idle; state = λ l f. on l.state (h.state l f) }
+idle-on step to p ls on h = record {
+  cport = h.cport;
+  idle = h.idle;
+  state = λ l f. on l.state
+      (h.state l f);
+}
 
-at-step : (s : SequenceStep) (to : SequenceStep) (p : Purpose) (ls : List Link) → IsIdle s p ls → IsIdle s (at_step to p) ls
+at-step : (s : SequenceStep) (to : SequenceStep) (p : Purpose) (ls : List Link) → IsIdle s p ls
+    → IsIdle s (at_step to p) ls
 at-step s to p ls h = record { cport = h.cport; idle = h.idle; state = h.state }
 
 -- What follows a step that was answered as it should be.
-fits-done : (b : Bus) (step : SequenceStep) (p : Purpose) (payload : List ℕ) (h : Host) → HostFits b h → IsDue step p h
+fits-done : (b : Bus) (step : SequenceStep) (p : Purpose) (payload : List ℕ) (h : Host)
+    → HostFits b h → IsDue step p h
     → TurnFits b h (step_done step p payload h)
 fits-done b steps.EnableVsys p payload h fits due =
-    fits-asked b (at_step steps.EnableRefclk p) h fits (next-to steps.EnableVsys steps.EnableRefclk p h (λ e. refl) due) (λ e. absurd cc)
+    fits-asked b (at_step steps.EnableRefclk p) h fits
+    (next-to steps.EnableVsys steps.EnableRefclk p h (λ e. refl) due) (λ e. absurd cc)
 fits-done b steps.EnableRefclk p payload h fits due =
-    fits-asked b (at_step steps.EnableUnipro p) h fits (next-to steps.EnableRefclk steps.EnableUnipro p h (λ e. refl) due) (λ e. absurd cc)
+    fits-asked b (at_step steps.EnableUnipro p) h fits
+    (next-to steps.EnableRefclk steps.EnableUnipro p h (λ e. refl) due) (λ e. absurd cc)
 fits-done b steps.EnableUnipro p payload h fits due =
-    fits-asked b (at_step steps.Activate p) h fits (next-to steps.EnableUnipro steps.Activate p h (λ e. refl) due) (λ e. absurd cc)
+    fits-asked b (at_step steps.Activate p) h fits
+    (next-to steps.EnableUnipro steps.Activate p h (λ e. refl) due) (λ e. absurd cc)
 fits-done b steps.Activate p payload h fits due =
-    fits-device b (free_device h) p h fits (next-to steps.Activate steps.GiveDevice p h (λ e. refl) due)
+    fits-device b (free_device h) p h fits
+    (next-to steps.Activate steps.GiveDevice p h (λ e. refl) due)
 fits-done b steps.GiveDevice p payload h fits due =
-    fits-through b h (with_interface p.intf (λ x. record x { has_device = true }) h) _ (onto-interface h p.intf (λ x. record x { has_device = true }) (λ x. refl))
-    (fits-asked b (at_step steps.CreateRoute p) (with_interface p.intf (λ x. record x { has_device = true }) h)
-    (host-interface b p.intf (λ x. record x { has_device = true }) h (λ x. refl) (λ x j is e w k. e w k) fits)
-    (next-interface steps.CreateRoute (at_step steps.CreateRoute p) h p.intf (λ x. record x { has_device = true }) (λ x. refl) (λ x. refl)
+    fits-through b h (with_interface p.intf (λ x. record x { has_device = true }) h) _
+    (onto-interface h p.intf (λ x. record x { has_device = true }) (λ x. refl))
+    (fits-asked b (at_step steps.CreateRoute p)
+    (with_interface p.intf (λ x. record x { has_device = true }) h)
+    (host-interface b p.intf (λ x. record x { has_device = true }) h (λ x. refl)
+    (λ x j is e w k. e w k) fits)
+    (next-interface steps.CreateRoute (at_step steps.CreateRoute p) h p.intf
+    (λ x. record x { has_device = true }) (λ x. refl) (λ x. refl)
     (next-to steps.GiveDevice steps.CreateRoute p h (λ e. refl) due)) (λ e. absurd cc))
 fits-done b steps.CreateRoute p payload h fits due = fits-control b (free_cport h) p h fits due refl
 fits-done b steps.CreateControl p payload h fits due =
     fits-opened_told b h (link_at p.intf p.cport h) (goes_on steps.AskVersion p (opened p h))
-    (fits-through b h (opened p h) _ (onto-link h p.intf p.cport (in_state state.Open) (state-link state.Open))
+    (fits-through b h (opened p h) _
+    (onto-link h p.intf p.cport (in_state state.Open) (state-link state.Open))
     (fits-asked b (at_step steps.AskVersion p) (opened p h) (opened-control b p h fits due.cport)
     (record { cport = due.cport; none = λ e. absurd cc; idle = due.idle; present = due.present })
     (λ e. absurd cc)))
 fits-done b steps.AskVersion p payload h fits due =
-    fits-asked b (at_step steps.AskSize p) h fits (next-to steps.AskVersion steps.AskSize p h (λ e. absurd cc) due) (λ e. absurd cc)
+    fits-asked b (at_step steps.AskSize p) h fits
+    (next-to steps.AskVersion steps.AskSize p h (λ e. absurd cc) due) (λ e. absurd cc)
 fits-done b steps.AskSize p payload h fits due =
     let f = λ (x : Interface). record x { size = size_in (read_control_reply 0x03 payload) } in
     fits-through b h (with_interface p.intf f h) _ (onto-interface h p.intf f (λ x. refl))
     (fits-asked b (at_step steps.AskManifest p) (with_interface p.intf f h)
     (host-interface b p.intf f h (λ x. refl) (λ x j is e w k. e w k) fits)
-    (next-interface steps.AskManifest (at_step steps.AskManifest p) h p.intf f (λ x. refl) (λ x. refl)
+    (next-interface steps.AskManifest (at_step steps.AskManifest p) h p.intf f (λ x. refl)
+    (λ x. refl)
     (next-to steps.AskSize steps.AskManifest p h (λ e. absurd cc) due)) (λ e. absurd cc))
 fits-done b steps.AskManifest p payload h fits due = fits-manifest b p payload h fits
 fits-done b steps.CreateConnection p payload h fits due =
     fits-asked b (at_step steps.TellConnected p) h fits
-    (idle-on steps.CreateConnection steps.TellConnected (at_step steps.TellConnected p) h.links (λ s e. e)
+    (idle-on steps.CreateConnection steps.TellConnected (at_step steps.TellConnected p) h.links
+    (λ s e. e)
     (at-step steps.CreateConnection steps.TellConnected p h.links due)) (λ e. absurd cc)
 fits-done b steps.TellConnected p payload h fits due =
-    fits-link_turn b state.Open (link_at p.intf p.cport h) h (opened p h) (opened-link b p h fits due)
+    fits-link_turn b state.Open (link_at p.intf p.cport h) h (opened p h)
+    (opened-link b p h fits due)
     (onto-link h p.intf p.cport (in_state state.Open) (state-link state.Open))
 fits-done b steps.TellDisconnecting p payload h fits due =
     fits-asked b (at_step steps.TellDisconnected p) h fits
-    (idle-on steps.TellDisconnecting steps.TellDisconnected (at_step steps.TellDisconnected p) h.links (λ s e. e)
+    (idle-on steps.TellDisconnecting steps.TellDisconnected (at_step steps.TellDisconnected p)
+    h.links (λ s e. e)
     (at-step steps.TellDisconnecting steps.TellDisconnected p h.links due)) (λ e. absurd cc)
 fits-done b steps.TellDisconnected p payload h fits due =
     fits-asked b (at_step steps.DestroyConnection p) h fits
-    (idle-on steps.TellDisconnected steps.DestroyConnection (at_step steps.DestroyConnection p) h.links (λ s e. e)
+    (idle-on steps.TellDisconnected steps.DestroyConnection (at_step steps.DestroyConnection p)
+    h.links (λ s e. e)
     (at-step steps.TellDisconnected steps.DestroyConnection p h.links due)) (λ e. absurd cc)
-fits-done b steps.DestroyConnection p payload h fits due = fits-left b p h (link_at p.intf p.cport h) refl fits
+fits-done b steps.DestroyConnection p payload h fits due =
+    fits-left b p h (link_at p.intf p.cport h) refl fits
 
 -- A step's request ended.
-pub fits-answered : (b : Bus) (o : Option (List ℕ)) (p : Purpose) (h : Host) → HostFits b h → IsDue p.step p h
+pub fits-answered : (b : Bus) (o : Option (List ℕ)) (p : Purpose) (h : Host) → HostFits b h
+    → IsDue p.step p h
     → TurnFits b h (step_answered o p h)
 fits-answered b None p h fits due = fits-failed b p.step p h fits due
 fits-answered b (Some payload) p h fits due = by (is_reply p.step payload)
   where
-    by : (t : Bool) → TurnFits b h (cond t (step_done p.step p payload h) (failed_turn (step_fails p.step p h)))
+    by : (t : Bool) → TurnFits b h (cond t (step_done p.step p payload h)
+        (failed_turn (step_fails p.step p h)))
     by true = fits-done b p.step p payload h fits due
     by false = fits-failed b p.step p h fits due

@@ -6,15 +6,8 @@ use Rattle.gb_base.specs.declared.end.Side.TheVariants as side
 use Rattle.gb_base.specs.declared.event.Event.TheVariants as event
 use Rattle.gb_invariants.proofs.Lists.{each-in}
 use Rattle.gb_invariants.specs.Facts.{IsMade}
-use Rattle.gb_laws.proofs.LinkBuses.{
-  Linked,
-  from-first,
-  linked-from,
-  linked-left,
-  linked-opened,
-  linked-rest,
-  linked-shut,
-}
+use Rattle.gb_laws.proofs.LinkBuses.{linked-left, linked-opened, linked-rest, linked-shut}
+use Rattle.gb_laws.proofs.LinkedFrom.{Linked, from-first, linked-from}
 use Rattle.gb_laws.proofs.LinkActs.{linked-asked, linked-link, linked-served, linked-unsent}
 use Rattle.gb_laws.proofs.LinkChanges.{
   linked-ended,
@@ -25,7 +18,8 @@ use Rattle.gb_laws.proofs.LinkChanges.{
   linked-sent,
 }
 use Rattle.gb_laws.proofs.LinkClosing.{fits-disconnects}
-use Rattle.gb_laws.proofs.LinkTurns.{fits-connects, fits-ended, fits-inserted, fits-removed}
+use Rattle.gb_laws.proofs.LinkTurns.{fits-connects, fits-inserted, fits-removed}
+use Rattle.gb_laws.proofs.LinkEnds.{fits-ended}
 use Rattle.gb_laws.proofs.Links.{
   HostFits,
   IsFollowed,

@@ -32,7 +32,7 @@ use Rattle.gb_invariants.proofs.Outcomes.{is-same, same-number}
 use Rattle.gb_laws.proofs.Basics.{basis-kept}
 use Rattle.gb_laws.proofs.Delivering.{ends-taken}
 use Rattle.gb_laws.proofs.Framing.{FrameAt, frame-kept, popped_at, taken_bus}
-use Rattle.gb_laws.proofs.LinkBuses.{Linked}
+use Rattle.gb_laws.proofs.LinkedFrom.{Linked}
 use Rattle.gb_laws.proofs.LinkLaw.{link_law}
 use Rattle.gb_laws.proofs.LinkLists.{find-none}
 use Rattle.gb_laws.proofs.Linking.{InsertsAbsent, LinkedAt, linked-kept}

@@ -31,7 +31,7 @@ use Rattle.gb_invariants.proofs.ItemChanges.{asked_on-self}
 use Rattle.gb_invariants.proofs.Numbers.{found-number}
 use Rattle.gb_invariants.specs.Facts.{OutcomesFit}
 use Rattle.gb_laws.proofs.Closings.{ClosesFewer, IsClosing, LeavesOpen}
-use Rattle.gb_laws.proofs.LinkBuses.{Linked}
+use Rattle.gb_laws.proofs.LinkedFrom.{Linked}
 use Rattle.gb_laws.proofs.Links.{IsDeaf}
 use Rattle.gb_laws.proofs.Shutting.{is_shut, shut-first, shut_in, shut_of}
 use Rattle.gb_machine.proofs.Lists.{nth-past}

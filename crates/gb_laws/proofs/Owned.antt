@@ -48,7 +48,7 @@ use Rattle.gb_invariants.proofs.Selves.{
 }
 use Rattle.gb_invariants.specs.Facts.{Loose}
 use Rattle.gb_laws.proofs.Awaited.{awaited-rest}
-use Rattle.gb_laws.proofs.Basics.{loose_of, taken-is}
+use Rattle.gb_laws.proofs.BasisParts.{loose_of, taken-is}
 use Rattle.gb_laws.proofs.Loosening.{fewer-held, fewer-taken, fewer-without, held-at}
 use Rattle.gb_laws.proofs.Onward.{drawn-wired}
 use Rattle.gb_laws.proofs.OwnReplies.{own-reply}

@@ -38,7 +38,7 @@ use Rattle.gb_laws.proofs.EnumRequests.{enumeration-reserved}
 use Rattle.gb_laws.proofs.Framing.{not-one}
 use Rattle.gb_laws.proofs.LinkActs.{ServedHost, as_before, host-served, with_more}
 use Rattle.gb_laws.proofs.Linking.{LinkedAt}
-use Rattle.gb_laws.proofs.LinkBuses.{Linked}
+use Rattle.gb_laws.proofs.LinkedFrom.{Linked}
 use Rattle.gb_laws.proofs.Links.{ArePending}
 use Rattle.gb_laws.proofs.Loosening.{held-at, map-held-in}
 use Rattle.gb_laws.proofs.Marks.{find-left, find-pushed}

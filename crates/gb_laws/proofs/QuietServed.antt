@@ -15,7 +15,7 @@ use Rattle.gb_laws.proofs.Enums.{
   removed-unasked,
   removed_in,
 }
-use Rattle.gb_laws.proofs.LinkBuses.{Linked}
+use Rattle.gb_laws.proofs.LinkedFrom.{Linked}
 use Rattle.gb_laws.proofs.Links.{IsKnown, leaving, linked, supervisory}
 use Rattle.gb_laws.proofs.LinkLists.{find-changed}
 use Rattle.gb_laws.proofs.Noticing.{numbered-ask}

@@ -9,7 +9,7 @@ use Rattle.gb_base.specs.declared.event.Event.TheVariants as event
 use Rattle.gb_formats.specs.ValidEvents.{IsEnd, IsValid}
 use Rattle.gb_invariants.proofs.Lists.{each-append}
 use Rattle.gb_laws.proofs.AllRuns.{of-all, of-state}
-use Rattle.gb_laws.proofs.LinkBuses.{Linked}
+use Rattle.gb_laws.proofs.LinkedFrom.{Linked}
 use Rattle.gb_laws.proofs.LinkRuns.{LinkedTo, linked-throughout}
 use Rattle.gb_laws.proofs.ManifestRuns.{short-throughout}
 use Rattle.gb_laws.proofs.Points.{AreShort}

@@ -5,7 +5,7 @@ use Rattle.std.proofs.Common.{◌≡◌, ℕ, Option, Some, None, List, [], sym,
 use Rattle.gb_base.specs.declared.peers.Link.{Link}
 use Rattle.gb_base.specs.declared.bridge.Reading.TheVariants as reading
 use Rattle.gb_formats.specs.Bridges.{reading_of}
-use Rattle.gb_laws.proofs.LinkBuses.{Linked}
+use Rattle.gb_laws.proofs.LinkedFrom.{Linked}
 use Rattle.gb_laws.proofs.LinkLists.{found-link}
 use Rattle.gb_laws.proofs.Links.{IsKnown, leaving, linked, supervisory}
 use Rattle.gb_laws.proofs.Taking.{no-link-one}

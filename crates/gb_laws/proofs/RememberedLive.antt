@@ -52,7 +52,8 @@ use Rattle.gb_laws.proofs.LinkActs.{
   unsent-making,
   with_more,
 }
-use Rattle.gb_laws.proofs.LinkBuses.{Linked, new_link}
+use Rattle.gb_laws.proofs.LinkBuses.{new_link}
+use Rattle.gb_laws.proofs.LinkedFrom.{Linked}
 use Rattle.gb_laws.proofs.LinkHosts.{Stay, same-link, stay-changed, stay-same}
 use Rattle.gb_laws.proofs.LinkLaw.{link_law}
 use Rattle.gb_laws.proofs.LinkLives.{AreAlive, alive-kept}

@@ -6,7 +6,7 @@ use Rattle.gb_base.specs.declared.entry.Entry.{Entry}
 use Rattle.gb_invariants.proofs.Awaiting.{not-both}
 use Rattle.gb_invariants.proofs.Lists.{each-from}
 use Rattle.gb_invariants.specs.Facts.{IsAnswerable}
-use Rattle.gb_laws.proofs.LinkBuses.{Linked}
+use Rattle.gb_laws.proofs.LinkedFrom.{Linked}
 use Rattle.gb_laws.proofs.LinkLists.{found-link}
 use Rattle.gb_laws.proofs.LinkRuns.{LinkedTo, linked-throughout}
 use Rattle.gb_laws.proofs.Links.{IsKnown, leaving, linked, supervisory}

@@ -1,7 +1,7 @@
 -- What is wired is routed.
 use Rattle.std.proofs.Common.{◌≡◌, ◌≢◌, true, [], sym, subst}
 use Rattle.gb_invariants.proofs.Lists.{each-from}
-use Rattle.gb_laws.proofs.LinkBuses.{Linked}
+use Rattle.gb_laws.proofs.LinkedFrom.{Linked}
 use Rattle.gb_laws.proofs.Links.{IsKnown, leaving, linked, supervisory}
 use Rattle.gb_laws.proofs.Runs.{HoldsByMoments, weaker}
 use Rattle.gb_laws.proofs.WiredRuns.{WiredTo, wired-throughout}

@@ -1,6 +1,6 @@
 -- A law of points goes over what a served request brings about.
 use Rattle.std.proofs.Common.{◌≡◌, ℕ, Bool, true, false, cond, Option, Some, None, List, [], ◌++◌, refl, sym, ap, ◌∙◌, inl, subst, length, ◌≤◌}
-use Rattle.std.specs.Prelude.{◌==◌, ◌&&◌}
+use Rattle.std.specs.Prelude.{◌&&◌}
 use Rattle.std.specs.List.{list_any}
 use Rattle.gb_base.specs.declared.end.End.{End}
 use Rattle.gb_base.specs.declared.end.End.TheVariants as end
@@ -11,13 +11,11 @@ use Rattle.gb_formats.specs.Module.{Module}
 use Rattle.gb_formats.specs.ModuleSteps.{module_serve}
 use Rattle.gb_formats.specs.Results.{Step}
 use Rattle.gb_invariants.proofs.Awaiting.{same-some}
-use Rattle.gb_invariants.proofs.Lists.{found-in}
 use Rattle.gb_laws.proofs.Delivered.{IsTaken, noticed, served-at, serving-of}
 use Rattle.gb_laws.proofs.LinkLists.{none-any}
-use Rattle.gb_invariants.proofs.Outcomes.{both-true, same-number}
 use Rattle.gb_laws.proofs.Acting.{goes-notices}
 use Rattle.gb_laws.proofs.Going.{At, Goes, IsToModule, goes-far_asks_all, goes-nothing, goes-tell, goes-▸}
-use Rattle.gb_laws.proofs.Places.{ComesFrom, LivesOn, comes-after, lives-after, same_end-is}
+use Rattle.gb_laws.proofs.Places.{ComesFrom, LivesOn, comes-after, lives-after}
 use Rattle.gb_laws.proofs.Points.{
   IsAfterReply,
   IsCreated,
@@ -43,15 +41,14 @@ use Rattle.gb_machine.proofs.Opened.{machine_opened}
 use Rattle.gb_machine.specs.Actions.{Action, change, given, nothing, on_host, tell, ◌▸◌}
 use Rattle.gb_laws.proofs.Manifests.{serve-manifest, short-at}
 use Rattle.gb_laws.proofs.Points.{AreShort}
-use Rattle.gb_laws.proofs.Stepping.{module-plugs}
+use Rattle.gb_laws.proofs.StayPlugged.{module-plugs}
 use Rattle.gb_machine.specs.Refusals.{longest_manifest}
-use Rattle.gb_machine.specs.Bus.{Bus, Connection, connection_of, same_end}
+use Rattle.gb_machine.specs.Bus.{Bus, Connection}
 use Rattle.gb_machine.specs.Host.{Host}
 use Rattle.gb_machine.specs.HostActs.{notices}
 use Rattle.gb_machine.specs.HostServing.{HostServed, host_serves}
 use Rattle.gb_machine.specs.Incoming.{Incoming}
 use Rattle.gb_machine.specs.Lists.{first}
-use Rattle.gb_machine.specs.Members.{IsIn}
 use Rattle.gb_machine.specs.Modules.{module_at, with_module}
 use Rattle.gb_machine.specs.OwnAsking.{far_asks_all}
 use Rattle.gb_machine.specs.Responding.{Response, creates, destroys, far_response, host_behind, module_response, module_stepped, responds_plainly, responds_with, response_at, svc_decided, with_ports}
@@ -63,47 +60,8 @@ use Rattle.gb_machine.specs.State.{Port, State}
 use Rattle.gb_machine.specs.SvcTable.{Answered, Create, Destroy, SvcServed, Unroute, svc_step}
 use Rattle.gb_machine.specs.Turns.{HostEvent}
 use Rattle.gb_machine.specs.Wires as wiring
-use Rattle.gb_machine.specs.Wiring.{is_at, is_wired_to, joining, joins}
-
--- ---- the connection that a request to the supervisory controller speaks of
-
--- it is live, and at a module
-pub joining-live : (a i c : ℕ) (b : Bus) (x : Connection) (t : Bool) → joining a i c b ≡ Some x → x.wired ≡ t
-    → (l : IsLive x.number t b) × (l.intf ≡ i) × (l.cport ≡ c) × (l.connection.ap ≡ a)
-joining-live a i c b x t h w =
-    let f = found-in (joins a i c) b.connections x h in
-    let p = both-true (x.ap == a) (same_end x.peer (end.Module i c)) f.1 in (
-      record {
-        connection = x;
-        live = f.0;
-        number = refl;
-        wired = w;
-        intf = i;
-        cport = c;
-        peer = same_end-is x.peer (end.Module i c) p.1;
-      },
-      refl,
-      refl,
-      same-number x.ap a p.0,
-    )
-
--- what has the number of a connection has its far end
-abbrev pub HasPeer : ℕ → End → Bus → Type 0
-HasPeer k e b = (c : Connection) → connection_of k b ≡ Some c → c.peer ≡ e
-
--- where the levels of what is served come from, and what is served where a connection is wired
-abbrev pub Comes : (m : Moment) (u : State) → SvcServed → List Port → Type 0
-Comes m u (Answered result payload) ports = PortsFrom m u ports
-Comes m u (Create a i c) ports = (q : Incoming) × IsServing m u q
-    × ((svc_step m.before.ports q.kind q.payload).served ≡ Create a i c)
-Comes m u (Destroy a i c) ports = Unit {0}
-Comes m u (Unroute i) ports =
-    ((c : Connection) → IsIn c u.bus.connections → is_wired_to i c ≡ false)
-    → PortsFrom m u (unrouted i ports)
-
--- the application processor is as before a moment, and no request was made
-abbrev pub IsAsBefore : Moment → State → Type 0
-IsAsBefore m s = (s.host ≡ m.before.host) × (s.bus.requests ≡ m.before.bus.requests)
+use Rattle.gb_machine.specs.Wiring.{is_at, is_wired_to, joining}
+use Rattle.gb_laws.proofs.ServedOn.{Comes, HasPeer, IsAsBefore, joining-live}
 
 module _ (m : Moment) (law : Law m) where
   -- an action ends a step, whatever becomes of wires

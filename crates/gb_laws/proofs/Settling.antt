@@ -3,7 +3,7 @@ use Rattle.std.proofs.Common.{◌≡◌, ◌≤◌, true, false, not, [], sym, a
 use Rattle.std.specs.Prelude.{not}
 use Rattle.gb_formats.specs.ValidEvents.{IsEnd}
 use Rattle.gb_laws.proofs.Endpoints.{apart-throughout}
-use Rattle.gb_laws.proofs.LinkBuses.{Linked}
+use Rattle.gb_laws.proofs.LinkedFrom.{Linked}
 use Rattle.gb_laws.proofs.Links.{IsKnown, leaving, linked, supervisory}
 use Rattle.gb_laws.proofs.Runs.{HoldsByMoments}
 use Rattle.gb_laws.proofs.SettleQueues.{IsFarEnd}

@@ -38,10 +38,10 @@ use Rattle.gb_laws.proofs.Levels.{
   starts,
   step-levels,
 }
-use Rattle.gb_laws.proofs.LinkBuses.{Linked}
+use Rattle.gb_laws.proofs.LinkedFrom.{Linked}
 use Rattle.gb_laws.proofs.PointParts.{Basis, Point, resting}
 use Rattle.gb_laws.proofs.Points.{IsIdle, IsServing, PortsFrom, as_before, loses_route, served}
-use Rattle.gb_laws.proofs.QuietPower.{at-most_one, start-kind, unrouted-six}
+use Rattle.gb_laws.proofs.QuietEnums.{at-most_one, start-kind, unrouted-six}
 use Rattle.gb_laws.proofs.QuietServed.{serving}
 use Rattle.gb_laws.proofs.RememberedLive.{RemembersSince}
 use Rattle.gb_laws.proofs.Pairs.{PairsFit}

@@ -47,7 +47,7 @@ use Rattle.gb_laws.proofs.AskedWaits.{AsksIn, is_power_step}
 use Rattle.gb_laws.proofs.AwaitsOwn.{turn-waits}
 use Rattle.gb_laws.proofs.Enums.{AreStarts, enums}
 use Rattle.gb_laws.proofs.Leaving.{WhyLeft, removed, why-left, closed}
-use Rattle.gb_laws.proofs.LinkBuses.{Linked}
+use Rattle.gb_laws.proofs.LinkedFrom.{Linked}
 use Rattle.gb_laws.proofs.LinkLists.{find-none, one-link}
 use Rattle.gb_laws.proofs.Linking.{InsertsAbsent, same-links, turn-fits}
 use Rattle.gb_laws.proofs.Links.{IsFollowed, leaves, stays}

@@ -1,6 +1,6 @@
 -- A law of points goes over the step of each event.
-use Rattle.std.proofs.Common.{◌≡◌, ◌⊎◌, ℕ, ◌+◌, subst, Bool, true, false, cond, Option, Some, None, List, [], ◌∷◌, ◌++◌, map, refl, sym, ap, ◌∙◌, inl, inr, ⊎_elim, length, ◌≤◌}
-use Rattle.std.specs.Prelude.{Result, Ok, Err, ◌==◌, ◌≢◌, is_none, is_some, option_and_then, option_map}
+use Rattle.std.proofs.Common.{◌≡◌, ℕ, ◌+◌, subst, Bool, true, false, Option, Some, None, List, [], ◌∷◌, ◌++◌, map, refl, sym, ap, ◌∙◌, inl, inr, ⊎_elim, length, ◌≤◌}
+use Rattle.std.specs.Prelude.{Result, Ok, Err, ◌==◌, is_none, is_some, option_and_then}
 use Rattle.gb_base.specs.declared.peers.Link.{Link}
 use Rattle.gb_base.specs.declared.bridge.BridgeAsk.{BridgeAsk}
 use Rattle.gb_base.specs.declared.bridge.Reading.TheVariants as reading
@@ -20,16 +20,13 @@ use Rattle.gb_formats.specs.Results.{Stirred}
 use Rattle.gb_formats.specs.SvcRecords.{SvcAsk, read_svc_ask, svc_ask_kind, svc_ask_payload}
 use Rattle.gb_invariants.proofs.Awaiting.{is-open, not-both}
 use Rattle.gb_laws.proofs.Acting.{goes-notices}
-use Rattle.gb_laws.proofs.Going.{At, Goes, IsToModule, goes-far_asks, goes-far_asks_all, goes-nothing, goes-tell_all, goes-when, goes-▸}
+use Rattle.gb_laws.proofs.Going.{At, Goes, goes-far_asks, goes-far_asks_all, goes-nothing, goes-tell_all, goes-when, goes-▸}
 use Rattle.gb_laws.proofs.Naming.{made-named}
-use Rattle.gb_invariants.proofs.Lists.{found-in, two-at_first}
-use Rattle.gb_invariants.proofs.Numbers.{found-number, same-connection}
-use Rattle.gb_invariants.specs.Facts.{IsBefore}
-use Rattle.gb_laws.proofs.Places.{at_first-back, module-far, place-is, place-marked}
+use Rattle.gb_invariants.proofs.Lists.{found-in}
+use Rattle.gb_laws.proofs.Places.{at_first-back, place-marked}
 use Rattle.gb_laws.proofs.PointParts.{AreSilent}
-use Rattle.gb_machine.specs.Members.{EachTwo, IsIn}
-use Rattle.std.specs.List.{find}
-use Rattle.gb_laws.proofs.Points.{IsBridge, IsOfSvc, IsPlain, as_before, SamePlugs, by_svc, Law, acting, binds, gives_up as giving_up, injects as injecting, names, others, spends}
+use Rattle.gb_machine.specs.Members.{IsIn}
+use Rattle.gb_laws.proofs.Points.{IsBridge, IsOfSvc, IsPlain, as_before, by_svc, Law, acting, binds, gives_up as giving_up, injects as injecting, names, others, spends}
 use Rattle.gb_laws.proofs.PointParts.{IsGivenUpFor, Untouched}
 use Rattle.gb_machine.proofs.Conditions.{AreUnmet, free}
 use Rattle.gb_machine.proofs.Opened.{machine_opened}
@@ -38,7 +35,7 @@ use Rattle.gb_base.specs.declared.refusal.Refusal.TheVariants as why
 use Rattle.gb_formats.specs.Grammar.{default_timeout}
 use Rattle.gb_machine.specs.Asking.{asks_with}
 use Rattle.gb_machine.specs.Actions.{Action, by_state, change, each, given, nothing, on_bus, on_host, tell, when, ◌▸◌}
-use Rattle.gb_machine.specs.Bus.{Bus, end_of, place_of, Connection, Place, Request, connection_of, is_open, next_number, outcome_of, request_of}
+use Rattle.gb_machine.specs.Bus.{Connection, Place, Request, connection_of, is_open, next_number, outcome_of, request_of}
 use Rattle.gb_machine.specs.Events.{shows}
 use Rattle.gb_machine.specs.GivingUp.{cancels, gives_up}
 use Rattle.gb_machine.specs.Holding.{marked}
@@ -48,94 +45,24 @@ use Rattle.gb_machine.specs.HostRefusals.{bridge_conditions, is_kept}
 use Rattle.gb_machine.specs.Labels.{cyclic_label, next_label, no_label}
 use Rattle.gb_machine.specs.LineActions.{ap_draft, bridge_sent, bridges, copies, holds, injects, injects_at, with_hold, sends, sends_on, spent, stirred, stirs}
 use Rattle.gb_machine.specs.Lists.{conditions_of, holds_of}
-use Rattle.gb_machine.specs.Modules.{is_plugged, is_plugged_at, module_at, with_module}
+use Rattle.gb_machine.specs.Modules.{module_at, with_module}
 use Rattle.gb_machine.specs.Names.{bound, named}
 use Rattle.gb_machine.specs.OwnAsking.{far_asks_all, svc_asks, svc_own}
 use Rattle.gb_machine.specs.Plugging.{boots, plugs, tells_inserted, with_plugged}
 use Rattle.gb_machine.specs.Refusals.{has_no_label, is_long_payload, module_place, refusal}
-use Rattle.gb_laws.proofs.Manifests.{short-at, short-changed, short-plugged, stir-manifest}
+use Rattle.gb_laws.proofs.Manifests.{short-at, short-plugged, stir-manifest}
 use Rattle.gb_laws.proofs.Points.{AreShort}
-use Rattle.gb_base.specs.declared.entry.ConnState.{ConnState}
-use Rattle.gb_base.specs.declared.entry.ConnState.TheVariants as state
 use Rattle.gb_machine.specs.Arriving.{state_takes}
-use Rattle.gb_machine.specs.HostRefusals.{is_closing, is_failed, is_unopened, link_conditions}
+use Rattle.gb_machine.specs.HostRefusals.{link_conditions}
 use Rattle.gb_machine.specs.Requests.{gave_up}
 use Rattle.gb_machine.specs.Refusals.{longest_manifest}
 use Rattle.gb_machine.specs.Runs.{Moment}
 use Rattle.gb_machine.specs.Sending.{Draft}
 use Rattle.gb_machine.specs.Show.{lines_shown, shown}
-use Rattle.gb_machine.specs.Ports.{level_in, level_of, port_of}
-use Rattle.gb_machine.specs.State.{Plugged, Port, State}
+use Rattle.gb_machine.specs.State.{Plugged, State}
 use Rattle.gb_machine.specs.SvcQueues.{removes}
 use Rattle.gb_machine.specs.Turns.{HostEvent}
-
--- ---- what stays plugged
-
-pub same-plugs : (s : State) → SamePlugs s s.booted s.ports s.modules
-same-plugs s = record { started = refl; plugged = λ i. refl; powered = λ i e. e; differ = λ h. h; short = λ h. h }
-
--- where a module changes
-pub module-plugs : (s : State) (i : ℕ) (x : Module)
-    → (AreShort s.modules → length x.manifest ≤ longest_manifest)
-    → SamePlugs s s.booted s.ports (with_module i x s.modules)
-module-plugs s i x fits = record {
-  started = refl;
-  plugged = plugged s.modules;
-  powered = λ j e. e;
-  differ = λ h. two-at_first (λ (p q : Plugged). p.intf ≢ q.intf) (is_plugged_at i) (λ p. record p { body = x }) s.modules
-      (λ p q r. r) (λ p q r. r) h;
-  short = λ h. short-changed i x s.modules h (fits h);
-}
-  where
-    plugged : (ms : List Plugged) (j : ℕ) → is_plugged j (with_module i x ms) ≡ is_plugged j ms
-    plugged [] j = refl
-    plugged (p ∷ ps) j = by (p.intf == i) (plugged ps j)
-      where
-        behind : (t : Bool) → is_plugged j (with_module i x ps) ≡ is_plugged j ps
-            → is_some (option_map (λ (q : Plugged). q.body) (cond t (Some p) (find (is_plugged_at j) (with_module i x ps))))
-            ≡ is_some (option_map (λ (q : Plugged). q.body) (cond t (Some p) (find (is_plugged_at j) ps)))
-        behind true h = refl
-        behind false h = h
-
-        here : (t : Bool)
-            → is_some (option_map (λ (q : Plugged). q.body) (cond t (Some (record p { body = x })) (find (is_plugged_at j) ps)))
-            ≡ is_some (option_map (λ (q : Plugged). q.body) (cond t (Some p) (find (is_plugged_at j) ps)))
-        here true = refl
-        here false = refl
-
-        by : (t : Bool) → is_plugged j (with_module i x ps) ≡ is_plugged j ps
-            → is_plugged j (cond t (record p { body = x } ∷ ps) (p ∷ with_module i x ps)) ≡ is_plugged j (p ∷ ps)
-        by true h = here (p.intf == j)
-        by false h = behind (p.intf == j) h
-
--- where a module is plugged, the power of its interface is off
-powered-off : (i j : ℕ) (ports : List Port) (t : Bool)
-    → (level_in (cond t (Some (record { intf = i; level = 0; device = None })) (port_of j ports))
-    ≡ level_of j ports) ⊎ (level_in (cond t (Some (record { intf = i; level = 0; device = None }))
-    (port_of j ports)) ≡ 0)
-powered-off i j ports true = inr refl
-powered-off i j ports false = inl refl
-
--- a connection on which lines are sent takes what is delivered there
-open-takes : (l : Link) → AreUnmet (link_conditions (Some l)) → state_takes l.state ≡ true
-open-takes l met = by l.state met.0 met.1.0 met.1.1.0
-  where
-    by : (s : ConnState) → is_unopened s ≡ false → is_closing s ≡ false → is_failed s ≡ false
-        → state_takes s ≡ true
-    by state.Open h k f = refl
-    by state.Opening h k f = absurd cc
-    by state.Closing h k f = absurd cc
-    by state.Closed h k f = absurd cc
-    by state.Failed h k f = absurd cc
-
--- what is at a module's CPort is to a module
-pub place-module : (i c : ℕ) (b : Bus) (p : Place) → EachTwo IsBefore b.connections → place_of (end.Module i c) b.connections ≡ Some p
-    → IsToModule p.connection.number b
-place-module i c b p rise e x f =
-    let q = place-is (end.Module i c) b.connections p e in
-    let n = found-number p.connection.number b x f in
-    let is = same-connection b.connections x p.connection rise n.0 q.live n.1 in
-    (i, c, ap (λ (y : Connection). y.peer) is ∙ sym (ap (λ s. end_of s p.connection) (module-far i c p.side p.connection q.is)) ∙ q.is)
+use Rattle.gb_laws.proofs.StayPlugged.{module-plugs, open-takes, place-module, powered-off, same-plugs}
 
 -- ---- the shape of steps that leave wires alone
 

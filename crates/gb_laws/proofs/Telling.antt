@@ -162,7 +162,8 @@ asked-on ask label s c found asked t wired = (made, λ j. whole j)
         (λ e. (
           requested (svc_draft ask s) label,
           ap
-              (λ k. request_of k (sent (svc_draft ask s) label s.bus)) (same n (next_number s.bus) e)
+              (λ k. request_of k (sent (svc_draft ask s) label s.bus))
+              (same n (next_number s.bus) e)
               ∙ sent-new (svc_draft ask s) label s.bus,
         ))
         (in-pushed (Ask n) c.to_ap (Ask (next_number s.bus)) i)

@@ -1,7 +1,34 @@
 -- A law of points goes over ticks and pulls.
-use Rattle.std.proofs.Common.{◌≡◌, ◌⊎◌, ◌≤◌, ◌<◌, ◌≢◌, ℕ, ◌+◌, Bool, true, false, cond, Some, None, List, [], ◌∷◌, ◌++◌, map, refl, sym, ap, ◌∙◌, inl, inr, subst, append-nil, append_assoc, arith}
+use Rattle.std.proofs.Common.{
+  ◌≡◌,
+  ◌⊎◌,
+  ◌<◌,
+  ◌≢◌,
+  ℕ,
+  ◌+◌,
+  Bool,
+  true,
+  false,
+  cond,
+  None,
+  List,
+  [],
+  ◌∷◌,
+  ◌++◌,
+  map,
+  refl,
+  sym,
+  ap,
+  ◌∙◌,
+  inl,
+  inr,
+  subst,
+  append-nil,
+  append_assoc,
+  arith,
+}
 use Rattle.std.proofs.lemmas.Bool.Decides.{nat_tests}
-use Rattle.std.specs.Prelude.{◌==◌, nat_le}
+use Rattle.std.specs.Prelude.{◌==◌}
 use Rattle.std.specs.List.{filter}
 use Rattle.gb_base.specs.declared.end.End.{End}
 use Rattle.gb_base.specs.declared.end.End.TheVariants as end
@@ -10,33 +37,36 @@ use Rattle.gb_base.specs.declared.entry.Entry.{Entry}
 use Rattle.gb_base.specs.declared.event.Event.TheVariants as event
 use Rattle.gb_base.specs.declared.outcome.Outcome.TheVariants as outcome
 use Rattle.gb_formats.specs.SvcRecords.{SvcAsk}
-use Rattle.gb_invariants.proofs.Awaiting.{is-open, not-both, opened, sent-request}
+use Rattle.gb_invariants.proofs.Awaiting.{not-both}
 use Rattle.gb_invariants.proofs.Lists.{two-filter, in-without}
-use Rattle.gb_invariants.proofs.Outcomes.{Rise, both-true, in-open_requests, lookup-past, open_requests-rise, same-number}
+use Rattle.gb_invariants.proofs.Outcomes.{Rise, both-true, open_requests-rise, same-number}
 use Rattle.gb_invariants.specs.Facts.{IsBefore}
-use Rattle.gb_laws.proofs.Acting.{goes-notices}
-use Rattle.gb_laws.proofs.Awaited.{awaited-rest}
 use Rattle.gb_laws.proofs.Going.{At, goes-far_asks, goes-when}
-use Rattle.gb_laws.proofs.Points.{IsOfSvc, by_svc, ActLaw, Change, IsActing, IsLive, Law, acting, acts_asked, acts_failed, acts_left, acts_opened, acts_shut, acts_told, asks, changed, others, passes, tells, turns, unwires as unwiring}
-use Rattle.gb_laws.proofs.PointParts.{IsLate, IsShutFor, Point, Untouched, Unwired, Wired, Wires, disconnected, removed}
+use Rattle.gb_laws.proofs.Points.{
+  IsOfSvc,
+  by_svc,
+  IsLive,
+  Law,
+  acting,
+  others,
+  passes,
+  unwires as unwiring,
+}
+use Rattle.gb_laws.proofs.PointParts.{Untouched, Unwired, Wired, Wires}
 use Rattle.gb_laws.proofs.Serving.{Ends}
 use Rattle.gb_laws.proofs.Stepping.{Rests, rests-gives_up, rests-nothing, rests-▸}
 use Rattle.gb_machine.specs.Modules.{is_plugged_at}
-use Rattle.gb_machine.proofs.Lists.{nth-within}
 use Rattle.gb_machine.proofs.Opened.{machine_opened}
 use Rattle.gb_machine.specs.Actions.{Action, change, each, when, ◌▸◌}
-use Rattle.gb_machine.specs.Bus.{Bus, Connection, Request, has_number, is_open, next_number, outcome_of, request_of}
+use Rattle.gb_machine.specs.Bus.{Bus, Connection, has_number}
 use Rattle.gb_machine.specs.GivingUp.{gives_up, later_by, ticks, times_out}
-use Rattle.gb_machine.specs.HostActs.{with_awaited}
-use Rattle.gb_machine.specs.Lists.{at_first, lookup, nth}
+use Rattle.gb_machine.specs.Lists.{at_first}
 use Rattle.gb_machine.specs.Members.{Each, EachTwo, IsIn}
 use Rattle.gb_machine.specs.OwnAsking.{svc_asks, svc_own}
 use Rattle.gb_machine.specs.Plugging.{pulls, wired_numbers, with_pulled}
-use Rattle.gb_machine.specs.Requests.{gave_up, is_due, open_on, open_requests}
+use Rattle.gb_machine.specs.Requests.{is_due, open_on}
 use Rattle.gb_machine.specs.Runs.{Moment}
-use Rattle.gb_machine.specs.Sending.{Draft, sent}
 use Rattle.gb_machine.specs.State.{State}
-use Rattle.gb_machine.specs.Turns.{HostEvent}
 use Rattle.gb_machine.specs.Wires as wiring
 use Rattle.gb_machine.specs.Wiring.{is_at, is_wired_to, unwired}
 use Rattle.gb_laws.proofs.LinkLists.{none-of}
@@ -45,144 +75,19 @@ use Rattle.gb_formats.specs.SvcRecords.{read_svc_ask, svc_ask_kind, svc_ask_payl
 use Rattle.gb_machine.specs.Ports.{is_port, level_in, level_of, unpowered}
 use Rattle.gb_machine.specs.State.{Port}
 use Rattle.gb_machine.specs.SvcQueues.{removes}
-
--- ---- requests that are late stay open until they are given up
-
--- a request is open, and its deadline came with the tick
-pub record IsOverdue (m : Moment) (k : ℕ) (s : State) : Type 0 where
-  pub unended : is_open k s.bus ≡ true
-  pub late : IsLate m s k
-
--- no side of a connection is closed at a tick
-no-shut : (m : Moment) (k millis : ℕ) → m.event ≡ event.Tick millis → IsShutFor m k → ⊥
-no-shut m k millis tick (disconnected i c l is at own) = absurd cc
-no-shut m k millis tick (removed i l n live own) = let other = n.event in absurd cc
-
-open-sent : (d : Draft) (label : ℕ) (b : Bus) (k : ℕ) → is_open k b ≡ true → is_open k (sent d label b) ≡ true
-open-sent d label b k h =
-    let o = opened k b h in
-    is-open k (sent d label b) o.0 (sent-request d label b k o.0 o.1) (free o.0 o.1 o.2 d.oneway)
-  where
-    free : (r : Request) → request_of k b ≡ Some r → outcome_of k b ≡ None
-        → (t : Bool) → lookup k (cond t ((next_number b, outcome.Sent) ∷ b.outcomes) b.outcomes) ≡ None
-    free r made none false = none
-    free r made none true =
-        lookup-past (next_number b) k outcome.Sent b.outcomes
-        (λ e. absurd (omega (arith, nth-within k b.requests r made, e))) ∙ none
-
-overdue-sent : (m : Moment) (d : Draft) (label k : ℕ) (s : State) → IsOverdue m k s → IsOverdue m k (record s { bus = sent d label s.bus })
-overdue-sent m d label k s h = record {
-  unended = open-sent d label s.bus k h.unended;
-  late = record {
-    millis = h.late.millis;
-    request = h.late.request;
-    event = h.late.event;
-    made = sent-request d label s.bus k h.late.request h.late.made;
-    due = h.late.due;
-  };
-}
-
--- where requests, outcomes and the time stay
-overdue-same : (m : Moment) (k : ℕ) (s t : State) → t.bus.requests ≡ s.bus.requests → t.bus.outcomes ≡ s.bus.outcomes → t.now ≡ s.now
-    → IsOverdue m k s → IsOverdue m k t
-overdue-same m k s t requests outcomes now h = record {
-  unended =
-      let o = opened k s.bus h.unended in
-      is-open k t.bus o.0 (ap (nth k) requests ∙ o.1) (ap (lookup k) outcomes ∙ o.2);
-  late = record {
-    millis = h.late.millis;
-    request = h.late.request;
-    event = h.late.event;
-    made = ap (nth k) requests ∙ h.late.made;
-    due = omega (arith, h.late.due, now);
-  };
-}
-
-overdue-kept : (m : Moment) (k : ℕ) (a : Point) (x : Change m a) → IsActing m a x → IsOverdue m k a.state → IsOverdue m k (changed m a x).state
-overdue-kept m k a (tells e quiet) is h = h
-overdue-kept m k a (asks d c label free live drawn who) is h = overdue-sent m d label k a.state h
-overdue-kept m k a (turns e free untouched none cause) is h = overdue-same m k a.state _ refl refl refl h
-overdue-kept m k a (acts_told e rest at quiet) is h = h
-overdue-kept m k a (acts_shut j rest free at cause) is h = absurd (no-shut m j h.late.millis h.late.event cause)
-overdue-kept m k a (acts_left j rest free untouched at) is h = overdue-same m k a.state _ refl refl refl h
-overdue-kept m k a (acts_opened w q rest free at) is h = overdue-same m k a.state _ refl refl refl h
-overdue-kept m k a (acts_asked q n rest at) is h =
-    let r = awaited-rest q.purpose n a.state in
-    overdue-same m k a.state (with_awaited q.purpose n a.state)
-    (ap (λ (b : Bus). b.requests) r.bus) (ap (λ (b : Bus). b.outcomes) r.bus) r.now h
-overdue-kept m k a (acts_failed q rest at quiet) is h = overdue-same m k a.state _ refl refl refl h
-overdue-kept m k a _ is h = absurd is
-
-abbrev overdue : (m : Moment) (k : ℕ) → ActLaw m
-overdue m k = record { holds = λ a. IsOverdue m k a.state; kept = overdue-kept m k }
-
--- another request stays overdue where one is given up
-overdue-after : (m : Moment) (n k : ℕ) (s : State) → n < k → IsOverdue m k s → IsOverdue m k (gives_up outcome.Timeout n s).state
-unfolding machine_opened
-overdue-after m n k s less h =
-    goes-notices m (overdue m k) (HostEvent.Ended n outcome.Timeout) (record s { bus = gave_up n outcome.Timeout s.bus }) (λ r p e. absurd cc) tt []
-    (record {
-      unended =
-          let o = opened k s.bus h.unended in
-          is-open k (gave_up n outcome.Timeout s.bus) o.0 o.1
-          (lookup-past n k outcome.Timeout s.bus.outcomes (λ e. absurd (omega (arith, less, e))) ∙ o.2);
-      late = record {
-        millis = h.late.millis;
-        request = h.late.request;
-        event = h.late.event;
-        made = h.late.made;
-        due = h.late.due;
-      };
-    })
-
--- the others are overdue still
-overdue-others : (m : Moment) (n : ℕ) (ks : List ℕ) (s : State) → Each (λ k. n < k) ks
-    → Each (λ k. IsOverdue m k s) ks
-    → Each (λ k. IsOverdue m k (gives_up outcome.Timeout n s).state) ks
-overdue-others m n [] s above late = tt
-overdue-others m n (k ∷ ks) s above late =
-    (overdue-after m n k s above.0 late.0, overdue-others m n ks s above.1 late.1)
-
--- the requests that are due by a time
-abbrev pub due_by : ℕ → State → List ℕ
-due_by now s = open_requests (is_due now) s.bus
-
--- at first those are overdue that are due after the tick
-overdue-first : (m : Moment) (millis : ℕ) → m.event ≡ event.Tick millis
-    → Each (λ n. IsOverdue m n (later_by millis m.before)) (due_by (m.before.now + millis) m.before)
-overdue-first m millis is = all due (λ n i. i)
-  where
-    due : List ℕ
-    due = due_by (m.before.now + millis) m.before
-
-    late : (n : ℕ) → IsIn n due → IsOverdue m n (later_by millis m.before)
-    late n i = let o = in-open_requests (is_due (m.before.now + millis)) m.before.bus n i in record {
-      unended = is-open n m.before.bus o.0 o.1 o.3;
-      late = record {
-        millis = millis;
-        request = o.0;
-        event = is;
-        made = o.1;
-        due = passed o.0.deadline (m.before.now + millis) o.2;
-      };
-    }
-      where
-        passed : (x y : ℕ) → nat_le x y ≡ true → x ≤ y
-        passed x y h = grind (arith, nat_tests)
-
-    all : (ns : List ℕ) → ((n : ℕ) → IsIn n ns → IsIn n due)
-        → Each (λ n. IsOverdue m n (later_by millis m.before)) ns
-    all [] within = tt
-    all (n ∷ ns) within = (late n (within n (inl refl)), all ns (λ k i. within k (inr i)))
+use Rattle.gb_laws.proofs.Overdue.{IsOverdue, overdue-first, overdue-others}
+pub use Rattle.gb_laws.proofs.Overdue.{due_by}
 
 -- ---- a connection that isn't unwired stays live
 
-pub at_first-stays : {A : Type 0} (test : A → Bool) (change : A → A) (xs : List A) (x : A) → IsIn x xs → test x ≡ false
+pub at_first-stays : {A : Type 0} (test : A → Bool) (change : A → A) (xs : List A) (x : A)
+    → IsIn x xs → test x ≡ false
     → IsIn x (at_first test change xs)
 at_first-stays test change [] x i h = absurd i
 at_first-stays test change (y ∷ ys) x i h = by (test y) refl i (at_first-stays test change ys x)
   where
-    by : (b : Bool) → test y ≡ b → IsIn x (y ∷ ys) → (IsIn x ys → test x ≡ false → IsIn x (at_first test change ys))
+    by : (b : Bool) → test y ≡ b → IsIn x (y ∷ ys)
+        → (IsIn x ys → test x ≡ false → IsIn x (at_first test change ys))
         → IsIn x (cond b (change y ∷ ys) (y ∷ at_first test change ys))
     by true e (inl is) rec = absurd (not-both (test x) (ap test is ∙ e) h)
     by true e (inr j) rec = inr j
@@ -225,14 +130,18 @@ is_at-module i (end.Module j c) h = (c, ap (λ k. end.Module k c) (same-number j
 is_at-module i (end.Ap a) h = absurd cc
 is_at-module i end.Svc h = absurd cc
 
-pub wired-live : (i : ℕ) (b : Bus) (cs : List Connection) → ((c : Connection) → IsIn c cs → IsIn c b.connections)
+pub wired-live : (i : ℕ) (b : Bus) (cs : List Connection)
+    → ((c : Connection) → IsIn c cs → IsIn c b.connections)
     → Each (λ n. IsLive n true b) (map (λ (c : Connection). c.number) (filter (is_wired_to i) cs))
 wired-live i b [] within = tt
-wired-live i b (c ∷ cs) within = by (is_wired_to i c) refl (wired-live i b cs (λ d j. within d (inr j)))
+wired-live i b (c ∷ cs) within =
+    by (is_wired_to i c) refl (wired-live i b cs (λ d j. within d (inr j)))
   where
     by : (t : Bool) → is_wired_to i c ≡ t
-        → Each (λ n. IsLive n true b) (map (λ (c : Connection). c.number) (filter (is_wired_to i) cs))
-        → Each (λ n. IsLive n true b) (map (λ (c : Connection). c.number) (cond t (c ∷ filter (is_wired_to i) cs) (filter (is_wired_to i) cs)))
+        → Each (λ n. IsLive n true b) (map (λ (c : Connection). c.number)
+        (filter (is_wired_to i) cs))
+        → Each (λ n. IsLive n true b) (map (λ (c : Connection). c.number)
+        (cond t (c ∷ filter (is_wired_to i) cs) (filter (is_wired_to i) cs)))
     by false e rest = rest
     by true e rest =
         let p = both-true c.wired (is_at i c.peer) e in
@@ -249,11 +158,13 @@ wired-live i b (c ∷ cs) within = by (is_wired_to i c) refl (wired-live i b cs 
           rest,
         )
 
-wired-rise : (cs : List Connection) → EachTwo IsBefore cs → Rise (map (λ (c : Connection). c.number) cs)
+wired-rise : (cs : List Connection) → EachTwo IsBefore cs
+    → Rise (map (λ (c : Connection). c.number) cs)
 wired-rise [] h = tt
 wired-rise (c ∷ cs) h = (above cs h.0, wired-rise cs h.1)
   where
-    above : (ds : List Connection) → Each (IsBefore c) ds → Each (λ n. c.number < n) (map (λ (d : Connection). d.number) ds)
+    above : (ds : List Connection) → Each (IsBefore c) ds
+        → Each (λ n. c.number < n) (map (λ (d : Connection). d.number) ds)
     above [] k = tt
     above (d ∷ ds) k = (k.0, above ds k.1)
 
@@ -268,20 +179,23 @@ module _ (m : Moment) (law : Law m) where
 
   -- one more is given up
   pub ticks-next : (n : ℕ) (ns : List ℕ) (told : List Entry) (s : State) → Ticks (n ∷ ns) told s
-      → Ticks ns (told ++ (gives_up outcome.Timeout n s).entries) (gives_up outcome.Timeout n s).state
+      → Ticks ns (told ++ (gives_up outcome.Timeout n s).entries)
+      (gives_up outcome.Timeout n s).state
   ticks-next n ns told s h = record {
     rise = h.rise.1;
     late = overdue-others m n ns s h.rise.0 h.late.1;
     holds = rests-gives_up m law n outcome.Timeout s h.late.0.unended h.late.0.late told h.holds;
   }
 
-  rests-overdue : (ns : List ℕ) (s : State) → Rise ns → Each (λ n. IsOverdue m n s) ns → Rests m law (each ns (gives_up outcome.Timeout)) s
+  rests-overdue : (ns : List ℕ) (s : State) → Rise ns → Each (λ n. IsOverdue m n s) ns
+      → Rests m law (each ns (gives_up outcome.Timeout)) s
   unfolding machine_opened
   rests-overdue [] s rise late = rests-nothing m law s
   rests-overdue (n ∷ ns) s rise late =
       rests-▸ m law (gives_up outcome.Timeout n) (each ns (gives_up outcome.Timeout)) s
       (rests-gives_up m law n outcome.Timeout s late.0.unended late.0.late)
-      (rests-overdue ns (gives_up outcome.Timeout n s).state rise.1 (overdue-others m n ns s rise.0 late.1))
+      (rests-overdue ns (gives_up outcome.Timeout n s).state rise.1
+      (overdue-others m n ns s rise.0 late.1))
 
   -- time has passed, and nothing is given up yet
   pub ticks-first : (millis : ℕ) (told : List Entry) → m.event ≡ event.Tick millis
@@ -315,16 +229,30 @@ module _ (m : Moment) (law : Law m) where
   cuts-▸ : (f g : Action) (s : State) → Cuts f s → Cuts g (f s).state → Cuts (f ▸ g) s
   unfolding machine_opened
   cuts-▸ f g s h k told u =
-      subst (λ es. Unwires es (g (f s).state).state) (append_assoc told (f s).entries (g (f s).state).entries)
+      subst (λ es. Unwires es (g (f s).state).state)
+      (append_assoc told (f s).entries (g (f s).state).entries)
       (k (told ++ (f s).entries) (h told u))
 
-  unwires-each : (ns : List ℕ) (s : State) → Rise ns → Each (λ n. IsLive n true s.bus) ns → Cuts (each ns wiring.unwires) s
+  unwires-each : (ns : List ℕ) (s : State) → Rise ns → Each (λ n. IsLive n true s.bus) ns
+      → Cuts (each ns wiring.unwires) s
   unfolding machine_opened
-  unwires-each [] s rise live told h = record { wires = h.wires; is = h.is; holds = subst (λ es. At m (acting m law) None [] h.wires es s) (sym (append-nil told)) h.holds }
+  unwires-each [] s rise live told h =
+      record {
+        wires = h.wires;
+        is = h.is;
+        holds = subst
+            (λ es. At m (acting m law) None [] h.wires es s) (sym (append-nil told)) h.holds;
+      }
   unwires-each (n ∷ ns) s rise live told h =
       let ends = map wiring.disconnected_told (open_on n side.Far s.bus) in
-      let rest = unwires-each ns (wiring.with_unwired n s) rise.1 (later ns rise.0 live.1) (told ++ ends)
-      (record { wires = Unwired; is = λ e. absurd cc; holds = law.kept _ (unwiring n refl h.is live.0) h.holds }) in
+      let rest = unwires-each ns (wiring.with_unwired n s) rise.1 (later ns rise.0 live.1)
+      (told ++ ends)
+      (record {
+        wires = Unwired;
+        is = λ e. absurd cc;
+        holds = law.kept _
+            (unwiring n refl h.is live.0) h.holds;
+      }) in
       subst (λ es. Unwires es (each ns wiring.unwires (wiring.with_unwired n s)).state)
       (append_assoc told ends (each ns wiring.unwires (wiring.with_unwired n s)).entries) rest
     where
@@ -333,12 +261,15 @@ module _ (m : Moment) (law : Law m) where
       later [] a b = tt
       later (k ∷ ks) a b = (live-unwired n k true s.bus a.0 b.0, later ks a.1 b.1)
 
-  cuts-pulls : IsOfSvc m.event → (i : ℕ) (s : State) → Rise (wired_numbers i s.bus) → Cuts (pulls i) s
+  cuts-pulls : IsOfSvc m.event → (i : ℕ) (s : State) → Rise (wired_numbers i s.bus)
+      → Cuts (pulls i) s
   unfolding machine_opened
   cuts-pulls of i s rise =
-      cuts-▸ (each (wired_numbers i s.bus) wiring.unwires ▸ change (with_pulled i)) (when s.booted (svc_asks (SvcAsk.ModuleRemoved i))) s
+      cuts-▸ (each (wired_numbers i s.bus) wiring.unwires ▸ change (with_pulled i))
+      (when s.booted (svc_asks (SvcAsk.ModuleRemoved i))) s
       (cuts-▸ (each (wired_numbers i s.bus) wiring.unwires) (change (with_pulled i)) s
-      (unwires-each (wired_numbers i s.bus) s rise (wired-live i s.bus s.bus.connections (λ c j. j)))
+      (unwires-each (wired_numbers i s.bus) s rise
+      (wired-live i s.bus s.bus.connections (λ c j. j)))
       (gone (each (wired_numbers i s.bus) wiring.unwires s).state))
       (tells_removed (with_pulled i (each (wired_numbers i s.bus) wiring.unwires s).state)
       (pulled-off i (each (wired_numbers i s.bus) wiring.unwires s).state.ports))
@@ -347,7 +278,8 @@ module _ (m : Moment) (law : Law m) where
       gone w told u = record {
         wires = u.wires;
         is = u.is;
-        holds = law.kept _ (others w.booted w.holds (with_pulled i w).ports (with_pulled i w).modules
+        holds = law.kept _ (others w.booted w.holds (with_pulled i w).ports
+            (with_pulled i w).modules
             (inr (
               of,
               λ j. unpowered-off i j w.ports (j == i) refl,
@@ -361,15 +293,18 @@ module _ (m : Moment) (law : Law m) where
       tells_removed w off told u = record {
         wires = u.wires;
         is = u.is;
-        holds = goes-when m (acting m law) None [] u.wires s.booted (svc_asks (SvcAsk.ModuleRemoved i)) w
+        holds = goes-when m (acting m law) None [] u.wires s.booted
+            (svc_asks (SvcAsk.ModuleRemoved i)) w
             (λ e. goes-far_asks m (acting m law) [] u.wires 1 (svc_own (SvcAsk.ModuleRemoved i)) w
-            (λ c e. by_svc of refl (λ j h. ap (λ n. level_of n w.ports) (sym (removed-at i j h)) ∙ off))) told u.holds;
+            (λ c e. by_svc of refl (λ j h. ap (λ n. level_of n w.ports) (sym (removed-at i j h))
+            ∙ off))) told u.holds;
       }
 
   pub ends-pulls : IsOfSvc m.event → (i : ℕ) → Ends m law None (pulls i) m.before
   ends-pulls of i told at =
       let numbers = (law.basis _ at).bus.numbers in
       let r = cuts-pulls of i m.before
-      (wired-rise (filter (is_wired_to i) m.before.bus.connections) (two-filter IsBefore (is_wired_to i) m.before.bus.connections numbers.rise))
+      (wired-rise (filter (is_wired_to i) m.before.bus.connections)
+      (two-filter IsBefore (is_wired_to i) m.before.bus.connections numbers.rise))
       told (record { wires = Untouched; is = λ e. absurd cc; holds = at }) in
       (r.wires, r.holds)

@@ -39,7 +39,7 @@ use Rattle.gb_invariants.proofs.Lists.{
 use Rattle.gb_invariants.proofs.Selves.{front-self, put-self}
 use Rattle.gb_invariants.specs.Facts.{IsMade}
 use Rattle.gb_laws.proofs.Awaited.{awaited-rest}
-use Rattle.gb_laws.proofs.LinkBuses.{Linked}
+use Rattle.gb_laws.proofs.LinkedFrom.{Linked}
 use Rattle.gb_laws.proofs.LinkLists.{one-link}
 use Rattle.gb_laws.proofs.LinkTells.{ActsTell, TellsLink, turns-tell, unsent-told}
 use Rattle.gb_laws.proofs.Linking.{LinkedAt}

@@ -24,10 +24,11 @@ use Rattle.gb_base.specs.declared.outcome.Outcome.{Outcome}
 use Rattle.gb_base.specs.declared.peers.Link.{Link}
 use Rattle.gb_formats.specs.Records.{PayloadFault}
 use Rattle.gb_formats.specs.SvcRecords.{SvcAsk, read_svc_ask, read_svc_ask_of_svc}
-use Rattle.gb_laws.proofs.LinkBuses.{Linked}
+use Rattle.gb_laws.proofs.LinkedFrom.{Linked}
 use Rattle.gb_laws.proofs.LinkClosing.{fits-disconnects}
 use Rattle.gb_laws.proofs.LinkRuns.{start-absent}
-use Rattle.gb_laws.proofs.LinkTurns.{fits-connects, fits-ended, fits-inserted, fits-removed}
+use Rattle.gb_laws.proofs.LinkTurns.{fits-connects, fits-inserted, fits-removed}
+use Rattle.gb_laws.proofs.LinkEnds.{fits-ended}
 use Rattle.gb_laws.proofs.Linking.{linked-fits}
 use Rattle.gb_laws.proofs.Noticing.{Tells, told-svc, unnoticed}
 use Rattle.gb_laws.proofs.Reached.{reached-told}
