@@ -21,10 +21,10 @@ use Rattle.gb_base.specs.declared.end.Side.TheVariants as side
 use Rattle.gb_base.specs.declared.entry.ConnState.TheVariants as state
 use Rattle.gb_base.specs.declared.entry.Entry.TheVariants as entry
 use Rattle.gb_laws.proofs.Going.{At, Goes, goes-nothing, goes-▸}
+use Rattle.gb_laws.proofs.ActLaws.{ActLaw}
 use Rattle.gb_laws.proofs.Points.{
   asks,
   by_host,
-  ActLaw,
   IsAsking,
   IsOver,
   acts_asked,

@@ -1,248 +1,204 @@
 -- What a turn of the application processor asks the supervisory controller for an enumeration: its
 -- start, or the next step where the one that an interface waited for was answered. No interface
 -- waits for more than before.
-use Rattle.std.proofs.Common.{◌≡◌, ◌⊎◌, ℕ, Bool, true, false, cond, Option, Some, None, List, [], ◌∷◌, ◌++◌, length, map, refl, sym, ap, ◌∙◌, inl, inr, ⊎_elim, subst}
-use Rattle.std.specs.Prelude.{Result, Ok, Err, ◌==◌, option_and_then}
+use Rattle.std.proofs.Common.{
+  ◌≡◌,
+  ℕ,
+  Bool,
+  true,
+  false,
+  cond,
+  Option,
+  Some,
+  None,
+  List,
+  [],
+  ◌∷◌,
+  ◌++◌,
+  length,
+  refl,
+  sym,
+  ap,
+  ◌∙◌,
+  inl,
+  inr,
+  ⊎_elim,
+}
+use Rattle.std.specs.Prelude.{◌==◌, option_and_then}
 use Rattle.gb_base.specs.declared.steps.Purpose.{Purpose}
 use Rattle.gb_base.specs.declared.steps.SequenceStep.{SequenceStep}
 use Rattle.gb_base.specs.declared.peers.Interface.{Interface}
 use Rattle.gb_base.specs.declared.peers.Link.{Link}
 use Rattle.gb_base.specs.declared.steps.SequenceStep.TheVariants as steps
-use Rattle.gb_base.specs.declared.entry.ConnState.{ConnState}
 use Rattle.gb_base.specs.declared.entry.ConnState.TheVariants as state
-use Rattle.gb_base.specs.declared.entry.Entry.{Entry}
 use Rattle.gb_base.specs.declared.entry.Entry.TheVariants as entry
 use Rattle.gb_base.specs.declared.entry.IntfStage.TheVariants as stage
 use Rattle.gb_base.specs.declared.outcome.Outcome.{Outcome}
 use Rattle.gb_base.specs.declared.outcome.Outcome.TheVariants as outcome
 use Rattle.gb_formats.specs.ControlRecords.{read_control_reply}
-use Rattle.gb_formats.specs.Manifest.{CportView, Manifest, check_answer}
-use Rattle.gb_formats.specs.ManifestRules.{Refused}
+use Rattle.gb_formats.specs.Manifest.{CportView, check_answer}
 use Rattle.gb_invariants.proofs.Lists.{in-without}
 use Rattle.gb_laws.proofs.LinkLists.{in-ordered}
-use Rattle.gb_machine.specs.Failures.{interface_fails, link_fails, link_told, step_fails, unsent, unsent_fails, without_device}
-use Rattle.gb_machine.specs.Host.{Host, cport_of, free_cport, free_device, in_state, interface_of, intf_before, is_intf, link_at, new_interface, staged, with_interface, with_link, with_new_interface, without_link}
-use Rattle.gb_machine.specs.HostTurns.{connects, connects_on, disconnects, ended_for, host_turn, links_left, links_of}
+use Rattle.gb_machine.specs.Failures.{
+  interface_fails,
+  step_fails,
+  unsent,
+  unsent_fails,
+  without_device,
+}
+use Rattle.gb_machine.specs.Host.{
+  Host,
+  cport_of,
+  free_cport,
+  free_device,
+  in_state,
+  interface_of,
+  intf_before,
+  is_intf,
+  link_at,
+  new_interface,
+  with_interface,
+  with_link,
+  with_new_interface,
+  without_link,
+}
+use Rattle.gb_machine.specs.HostTurns.{
+  connects,
+  connects_on,
+  disconnects,
+  ended_for,
+  host_turn,
+  links_left,
+  links_of,
+}
 use Rattle.gb_machine.specs.SequenceSteps.{at_step, is_reply, purpose}
-use Rattle.gb_machine.specs.Sequences.{asked_on, begins_control, begins_device, enumerated, goes_on, link_left, link_turn, manifest_checked, opened, opened_told, payload_in, size_in, size_known, step_answered, step_asked, step_done, way_of}
-use Rattle.gb_machine.specs.Turns.{Act, Asking, HostEvent, Making, Turn, failed_turn}
+use Rattle.gb_machine.specs.Sequences.{
+  begins_control,
+  begins_device,
+  goes_on,
+  manifest_checked,
+  opened,
+  payload_in,
+  size_in,
+  size_known,
+  step_answered,
+  step_asked,
+  step_done,
+}
+use Rattle.gb_machine.specs.Turns.{Act, Asking, HostEvent, failed_turn}
 use Rattle.gb_machine.specs.Waits.{awaits_nothing}
-use Rattle.gb_laws.proofs.AskedWaits.{AsksIn, WaitsFewer, asks-tell, asks_in, is_power_step, no-asks, opens_in, same-waits, then-waits, told-asks, waits-interface, waits-purpose}
-
--- ---- turns
-
--- What a turn asks and waits for: of interface i it asks the supervisory controller for the start
--- of an enumeration alone, unless `Calm` holds.
-pub record TurnAsks (i : ℕ) (Calm : Type 0) (h : Host) (t : Turn) : Type 0 where
-  pub asks : (q : Asking) → AsksIn q t.acts → q.purpose.intf ≡ i
-      → is_power_step q.purpose.step ≡ true
-      → (q.purpose.step ≡ steps.EnableVsys) ⊎ Calm
-  pub waits : WaitsFewer h t.host
-
--- a step may be asked
-abbrev MayAsk : ℕ → Type 0 → Purpose → Type 0
-MayAsk i Calm p = p.intf ≡ i → is_power_step p.step ≡ true
-    → (p.step ≡ steps.EnableVsys) ⊎ Calm
+use Rattle.gb_laws.proofs.AskedWaits.{
+  AsksIn,
+  WaitsFewer,
+  asks-tell,
+  asks_in,
+  is_power_step,
+  no-asks,
+  opens_in,
+  same-waits,
+  then-waits,
+  waits-interface,
+  waits-purpose,
+}
+use Rattle.gb_laws.proofs.AskedSteps.{
+  TurnAsks,
+  asks-asked,
+  asks-checked,
+  asks-failed,
+  asks-fails,
+  asks-left,
+  asks-link,
+  asks-opened,
+  asks-stage,
+  asks-telling,
+  asks-through,
+  asks-told,
+  waits-stage,
+}
 
 module _ (i : ℕ) (Calm : Type 0) where
-  asks-through : (h g : Host) (t : Turn) → WaitsFewer h g → TurnAsks i Calm g t
-      → TurnAsks i Calm h t
-  asks-through h g t f r = record { asks = r.asks; waits = then-waits h g t.host f r.waits }
-
-  asks-telling : (h : Host) (e : Entry) (t : Turn) → TurnAsks i Calm h t
-      → TurnAsks i Calm h (record t { acts = Act.Tell e ∷ t.acts })
-  asks-telling h e t r = record {
-    asks = λ q j. r.asks q (asks-tell q e t.acts j);
-    waits = r.waits;
-  }
-
-  asks-failed : (h g : Host) (es : List Entry) → WaitsFewer h g
-      → TurnAsks i Calm h (record { host = g; acts = map Act.Tell es })
-  asks-failed h g es f = record { asks = λ q j. absurd (told-asks q es j); waits = f }
-
-  waits-stage : (p : Purpose) (h : Host) → WaitsFewer h (interface_fails p h).host
-  waits-stage p h = waits-interface h p.intf (staged stage.Failed) (λ x. refl) (λ x. refl)
-
-  waits-fails : (step : SequenceStep) (p : Purpose) (h : Host)
-      → WaitsFewer h (step_fails step p h).host
-  waits-fails steps.CreateControl p h =
-      then-waits h (link_fails p h).host (interface_fails p (link_fails p h).host).host
-      (same-waits h) (waits-stage p (link_fails p h).host)
-  waits-fails steps.CreateConnection p h = same-waits h
-  waits-fails steps.TellConnected p h = same-waits h
-  waits-fails steps.TellDisconnecting p h = same-waits h
-  waits-fails steps.TellDisconnected p h = same-waits h
-  waits-fails steps.DestroyConnection p h = same-waits h
-  waits-fails steps.EnableVsys p h = waits-stage p h
-  waits-fails steps.EnableRefclk p h = waits-stage p h
-  waits-fails steps.EnableUnipro p h = waits-stage p h
-  waits-fails steps.Activate p h = waits-stage p h
-  waits-fails steps.GiveDevice p h = waits-stage p h
-  waits-fails steps.CreateRoute p h = waits-stage p h
-  waits-fails steps.AskVersion p h = waits-stage p h
-  waits-fails steps.AskSize p h = waits-stage p h
-  waits-fails steps.AskManifest p h = waits-stage p h
-
-  asks-fails : (step : SequenceStep) (p : Purpose) (h : Host)
-      → TurnAsks i Calm h (failed_turn (step_fails step p h))
-  asks-fails step p h = asks-failed h (step_fails step p h).host (step_fails step p h).told
-      (waits-fails step p h)
-
-  asks-stage : (p : Purpose) (h : Host) → TurnAsks i Calm h (failed_turn (interface_fails p h))
-  asks-stage p h =
-      asks-failed h (interface_fails p h).host (interface_fails p h).told (waits-stage p h)
-
-  -- the request of a purpose
-  asks-asked : (p : Purpose) (h : Host) → MayAsk i Calm p → TurnAsks i Calm h (step_asked p h)
-  asks-asked p h may = by (way_of p h)
-    where
-      by : (o : Option ℕ) → TurnAsks i Calm h (asked_on o p h)
-      by None = asks-fails p.step p h
-      by (Some k) = record { asks = λ q j. one q j; waits = same-waits h }
-        where
-          is-it : (q r : Asking) → Act.Ask q ≡ Act.Ask r → q ≡ r
-          is-it q r e = cc
-
-          one : (q : Asking) → AsksIn q (asked_on (Some k) p h).acts → q.purpose.intf ≡ i
-              → is_power_step q.purpose.step ≡ true
-              → (q.purpose.step ≡ steps.EnableVsys) ⊎ Calm
-          one q (asks_in (inl e)) =
-              subst (MayAsk i Calm) (ap (λ (r : Asking). r.purpose) (sym (is-it q _ e))) may
-          one q (asks_in (inr j)) = absurd j
-          one q (opens_in w (inl e)) = absurd cc
-          one q (opens_in w (inr j)) = absurd j
-
-  -- a connection is made for it
-  asks-opened : (w : Making) (r : Asking) (h : Host) → MayAsk i Calm r.purpose
-      → TurnAsks i Calm h (record { host = h; acts = Act.Open w r ∷ [] })
-  asks-opened w r h may = record { asks = λ q j. one q j; waits = same-waits h }
-    where
-      is-it : (v u : Making) (q s : Asking) → Act.Open v q ≡ Act.Open u s → q ≡ s
-      is-it v u q s e = cc
-
-      one : (q : Asking) → AsksIn q (Act.Open w r ∷ []) → q.purpose.intf ≡ i
-          → is_power_step q.purpose.step ≡ true
-          → (q.purpose.step ≡ steps.EnableVsys) ⊎ Calm
-      one q (asks_in (inl e)) = absurd cc
-      one q (asks_in (inr j)) = absurd j
-      one q (opens_in v (inl e)) =
-          subst (MayAsk i Calm) (ap (λ (s : Asking). s.purpose) (sym (is-it v w q r e))) may
-      one q (opens_in v (inr j)) = absurd j
-
-  asks-link : (to : ConnState) (o : Option Link) (h g : Host) → WaitsFewer h g
-      → TurnAsks i Calm h (link_turn to o g)
-  asks-link to None h g f = asks-failed h g [] f
-  asks-link to (Some l) h g f = asks-failed h g (link_told to l ∷ []) f
-
-  asks-checked : (r : Result Manifest Refused) (p : Purpose) (bytes : List ℕ) (h : Host)
-      → TurnAsks i Calm h (manifest_checked r p bytes h)
-  asks-checked (Ok v) p bytes h =
-      asks-failed h _ (entry.Interface p.intf stage.Enumerated ∷ [])
-      (waits-interface h p.intf (enumerated bytes) (λ x. refl) (λ x. refl))
-  asks-checked (Err why) p bytes h =
-      asks-telling h (entry.Manifest p.intf why.at why.reason) (failed_turn (interface_fails p h))
-      (asks-stage p h)
-
-  asks-told : (o : Option Link) (h : Host) (t : Turn) → TurnAsks i Calm h t
-      → TurnAsks i Calm h (opened_told o t)
-  asks-told None h t r = r
-  asks-told (Some l) h t r = asks-telling h (link_told state.Open l) t r
-
-  asks-left : (o : Option Link) (h g : Host) → WaitsFewer h g
-      → TurnAsks i Calm h (link_left o g)
-  asks-left None h g f = asks-failed h g [] f
-  asks-left (Some l) h g f = record { asks = λ q j. absurd (none q j); waits = f }
-    where
-      none : (q : Asking)
-          → AsksIn q (Act.Leave l.connection ∷ Act.Tell (link_told state.Closed l) ∷ []) → ⊥
-      none q (asks_in (inl e)) = absurd cc
-      none q (asks_in (inr (inl e))) = absurd cc
-      none q (asks_in (inr (inr j))) = j
-      none q (opens_in w (inl e)) = absurd cc
-      none q (opens_in w (inr (inl e))) = absurd cc
-      none q (opens_in w (inr (inr j))) = j
-
   -- what follows a step that was answered, where `Calm` holds if it was a step of interface i that
   -- asked the supervisory controller
   asks-done : (step : SequenceStep) (p : Purpose) (payload : List ℕ) (h : Host)
       → (p.intf ≡ i → is_power_step step ≡ true → Calm)
       → TurnAsks i Calm h (step_done step p payload h)
   asks-done steps.EnableVsys p payload h calm =
-      asks-asked (at_step steps.EnableRefclk p) h (λ e f. inr (calm e refl))
+      asks-asked i Calm (at_step steps.EnableRefclk p) h (λ e f. inr (calm e refl))
   asks-done steps.EnableRefclk p payload h calm =
-      asks-asked (at_step steps.EnableUnipro p) h (λ e f. inr (calm e refl))
+      asks-asked i Calm (at_step steps.EnableUnipro p) h (λ e f. inr (calm e refl))
   asks-done steps.EnableUnipro p payload h calm =
-      asks-asked (at_step steps.Activate p) h (λ e f. inr (calm e refl))
+      asks-asked i Calm (at_step steps.Activate p) h (λ e f. inr (calm e refl))
   asks-done steps.Activate p payload h calm = by (free_device h)
     where
       by : (o : Option ℕ)
           → TurnAsks i Calm h (begins_device o (at_step steps.GiveDevice p) h)
-      by None = asks-stage (at_step steps.GiveDevice p) h
-      by (Some d) = asks-through h (with_interface p.intf (λ x. record x { device = Some d }) h) _
+      by None = asks-stage i Calm (at_step steps.GiveDevice p) h
+      by (Some d) =
+          asks-through i Calm h (with_interface p.intf (λ x. record x { device = Some d }) h) _
           (waits-interface h p.intf (λ x. record x { device = Some d }) (λ x. refl) (λ x. refl))
-          (asks-asked (at_step steps.GiveDevice p)
+          (asks-asked i Calm (at_step steps.GiveDevice p)
           (with_interface p.intf (λ x. record x { device = Some d }) h)
           (λ e f. inr (calm e refl)))
   asks-done steps.GiveDevice p payload h calm =
-      asks-through h (with_interface p.intf (λ x. record x { has_device = true }) h) _
+      asks-through i Calm h (with_interface p.intf (λ x. record x { has_device = true }) h) _
       (waits-interface h p.intf (λ x. record x { has_device = true }) (λ x. refl) (λ x. refl))
-      (asks-asked (at_step steps.CreateRoute p)
+      (asks-asked i Calm (at_step steps.CreateRoute p)
       (with_interface p.intf (λ x. record x { has_device = true }) h) (λ e f. inr (calm e refl)))
   asks-done steps.CreateRoute p payload h calm = by (free_cport h)
     where
       by : (o : Option ℕ)
           → TurnAsks i Calm h (begins_control o (at_step steps.CreateControl p) h)
-      by None = asks-stage (at_step steps.CreateControl p) h
-      by (Some a) = asks-opened _ _ h (λ e f. inr (calm e refl))
+      by None = asks-stage i Calm (at_step steps.CreateControl p) h
+      by (Some a) = asks-opened i Calm _ _ h (λ e f. inr (calm e refl))
   asks-done steps.CreateControl p payload h calm =
-      asks-told (link_at p.intf p.cport h) h (goes_on steps.AskVersion p (opened p h))
-      (asks-through h (opened p h) _ (same-waits h)
-      (asks-asked (at_step steps.AskVersion p) (opened p h) (λ e f. absurd cc)))
+      asks-told i Calm (link_at p.intf p.cport h) h (goes_on steps.AskVersion p (opened p h))
+      (asks-through i Calm h (opened p h) _ (same-waits h)
+      (asks-asked i Calm (at_step steps.AskVersion p) (opened p h) (λ e f. absurd cc)))
   asks-done steps.AskVersion p payload h calm =
-      asks-asked (at_step steps.AskSize p) h (λ e f. absurd cc)
+      asks-asked i Calm (at_step steps.AskSize p) h (λ e f. absurd cc)
   asks-done steps.AskSize p payload h calm =
       let f = λ (x : Interface). record x { size = size_in (read_control_reply 0x03 payload) } in
-      asks-through h (with_interface p.intf f h) _
+      asks-through i Calm h (with_interface p.intf f h) _
       (waits-interface h p.intf f (λ x. refl) (λ x. refl))
-      (asks-asked (at_step steps.AskManifest p) (with_interface p.intf f h)
+      (asks-asked i Calm (at_step steps.AskManifest p) (with_interface p.intf f h)
       (λ e f. absurd cc))
   asks-done steps.AskManifest p payload h calm =
       by (length payload == size_known (interface_of p.intf h))
     where
       by : (t : Bool) → TurnAsks i Calm h (cond t
           (manifest_checked (check_answer payload) p payload h) (failed_turn (interface_fails p h)))
-      by true = asks-checked (check_answer payload) p payload h
-      by false = asks-stage p h
+      by true = asks-checked i Calm (check_answer payload) p payload h
+      by false = asks-stage i Calm p h
   asks-done steps.CreateConnection p payload h calm =
-      asks-asked (at_step steps.TellConnected p) h (λ e f. absurd cc)
+      asks-asked i Calm (at_step steps.TellConnected p) h (λ e f. absurd cc)
   asks-done steps.TellConnected p payload h calm =
-      asks-link state.Open (link_at p.intf p.cport h) h (opened p h) (same-waits h)
+      asks-link i Calm state.Open (link_at p.intf p.cport h) h (opened p h) (same-waits h)
   asks-done steps.TellDisconnecting p payload h calm =
-      asks-asked (at_step steps.TellDisconnected p) h (λ e f. absurd cc)
+      asks-asked i Calm (at_step steps.TellDisconnected p) h (λ e f. absurd cc)
   asks-done steps.TellDisconnected p payload h calm =
-      asks-asked (at_step steps.DestroyConnection p) h (λ e f. absurd cc)
+      asks-asked i Calm (at_step steps.DestroyConnection p) h (λ e f. absurd cc)
   asks-done steps.DestroyConnection p payload h calm =
-      asks-left (link_at p.intf p.cport h) h (without_link p.intf p.cport h) (same-waits h)
+      asks-left i Calm (link_at p.intf p.cport h) h (without_link p.intf p.cport h) (same-waits h)
 
   asks-answered : (o : Option (List ℕ)) (p : Purpose) (h : Host)
       → ((payload : List ℕ) → o ≡ Some payload → p.intf ≡ i → is_power_step p.step ≡ true → Calm)
       → TurnAsks i Calm h (step_answered o p h)
-  asks-answered None p h calm = asks-fails p.step p h
+  asks-answered None p h calm = asks-fails i Calm p.step p h
   asks-answered (Some payload) p h calm = by (is_reply p.step payload)
     where
       by : (t : Bool) → TurnAsks i Calm h (cond t (step_done p.step p payload h)
           (failed_turn (step_fails p.step p h)))
       by true = asks-done p.step p payload h (calm payload refl)
-      by false = asks-fails p.step p h
+      by false = asks-fails i Calm p.step p h
 
   -- a request ended
   pub asks-ended : (o : Option Purpose) (how : Outcome) (h : Host)
       → ((p : Purpose) → o ≡ Some p → (result : ℕ) (payload : List ℕ)
       → how ≡ outcome.Answered result payload → p.intf ≡ i → is_power_step p.step ≡ true → Calm)
       → TurnAsks i Calm h (ended_for o how h)
-  asks-ended None how h calm = asks-failed h h [] (same-waits h)
+  asks-ended None how h calm = asks-failed i Calm h h [] (same-waits h)
   asks-ended (Some p) how h calm =
-      asks-through h (awaits_nothing p h) _ (waits-purpose p h)
+      asks-through i Calm h (awaits_nothing p h) _ (waits-purpose p h)
       (asks-answered (payload_in how) p (awaits_nothing p h)
       (λ payload e. let a = answered how e in calm p refl a.0 a.1 a.2))
     where
@@ -283,10 +239,10 @@ module _ (i : ℕ) (Calm : Type 0) where
 
   pub asks-inserted : (j : ℕ) (h : Host) → TurnAsks i Calm h (host_turn (HostEvent.Inserted j) h)
   asks-inserted j h =
-      asks-telling h (entry.Interface j stage.Enumerating)
+      asks-telling i Calm h (entry.Interface j stage.Enumerating)
       (step_asked (purpose j 0 steps.EnableVsys) (with_new_interface j h))
-      (asks-through h (with_new_interface j h) _ waits
-      (asks-asked (purpose j 0 steps.EnableVsys) (with_new_interface j h)
+      (asks-through i Calm h (with_new_interface j h) _ waits
+      (asks-asked i Calm (purpose j 0 steps.EnableVsys) (with_new_interface j h)
       (λ e f. inl refl)))
     where
       none : (w : ℕ × SequenceStep) → None ≡ Some w → ⊥
@@ -304,12 +260,12 @@ module _ (i : ℕ) (Calm : Type 0) where
     where
       on : (view : CportView) (o : Option ℕ) → TurnAsks i Calm h
           (connects_on o view.protocol (purpose j c steps.CreateConnection) h)
-      on view None = asks-failed h h [] (same-waits h)
-      on view (Some a) = asks-opened _ _ h (λ e f. absurd cc)
+      on view None = asks-failed i Calm h h [] (same-waits h)
+      on view (Some a) = asks-opened i Calm _ _ h (λ e f. absurd cc)
 
       by : (o : Option CportView)
           → TurnAsks i Calm h (connects o (purpose j c steps.CreateConnection) h)
-      by None = asks-failed h h [] (same-waits h)
+      by None = asks-failed i Calm h h [] (same-waits h)
       by (Some view) = on view (free_cport h)
 
   pub asks-disconnects : (j c : ℕ) (h : Host)
@@ -318,9 +274,9 @@ module _ (i : ℕ) (Calm : Type 0) where
     where
       by : (o : Option Link)
           → TurnAsks i Calm h (disconnects o (purpose j c steps.TellDisconnecting) h)
-      by None = asks-failed h h [] (same-waits h)
+      by None = asks-failed i Calm h h [] (same-waits h)
       by (Some l) =
-          let r = asks-asked (purpose j c steps.TellDisconnecting)
+          let r = asks-asked i Calm (purpose j c steps.TellDisconnecting)
           (with_link j c (in_state state.Closing) h) (λ e f. absurd cc) in record {
             asks = λ q k. r.asks q (asks-tell q _ _ (shut q k));
             waits = r.waits;
@@ -339,21 +295,21 @@ module _ (i : ℕ) (Calm : Type 0) where
   waits-unsent p h = by p.step
     where
       by : (step : SequenceStep) → WaitsFewer h (unsent_fails step p h).host
-      by steps.CreateControl = waits-stage p h
+      by steps.CreateControl = waits-stage i Calm p h
       by steps.CreateConnection = same-waits h
       by steps.GiveDevice =
           then-waits h (with_interface p.intf without_device h)
           (interface_fails p (with_interface p.intf without_device h)).host
           (waits-interface h p.intf without_device (λ x. refl) (λ x. refl))
-          (waits-stage p (with_interface p.intf without_device h))
-      by steps.EnableVsys = waits-stage p h
-      by steps.EnableRefclk = waits-stage p h
-      by steps.EnableUnipro = waits-stage p h
-      by steps.Activate = waits-stage p h
-      by steps.CreateRoute = waits-stage p h
-      by steps.AskVersion = waits-stage p h
-      by steps.AskSize = waits-stage p h
-      by steps.AskManifest = waits-stage p h
+          (waits-stage i Calm p (with_interface p.intf without_device h))
+      by steps.EnableVsys = waits-stage i Calm p h
+      by steps.EnableRefclk = waits-stage i Calm p h
+      by steps.EnableUnipro = waits-stage i Calm p h
+      by steps.Activate = waits-stage i Calm p h
+      by steps.CreateRoute = waits-stage i Calm p h
+      by steps.AskVersion = waits-stage i Calm p h
+      by steps.AskSize = waits-stage i Calm p h
+      by steps.AskManifest = waits-stage i Calm p h
       by steps.TellConnected = same-waits h
       by steps.TellDisconnecting = same-waits h
       by steps.TellDisconnected = same-waits h

@@ -33,7 +33,8 @@ use Rattle.gb_invariants.proofs.Awaiting.{same-some}
 use Rattle.gb_invariants.proofs.ItemChanges.{asked_on-self}
 use Rattle.gb_invariants.proofs.Labels.{asked_on, asked_on-number}
 use Rattle.gb_laws.proofs.LinkLists.{find-changed}
-use Rattle.gb_laws.proofs.Points.{ActLaw, IsFarAsking, by_far, by_module, asks, tells}
+use Rattle.gb_laws.proofs.ActLaws.{ActLaw}
+use Rattle.gb_laws.proofs.Points.{IsFarAsking, by_far, by_module, asks, tells}
 use Rattle.gb_laws.proofs.PointParts.{Hand, Wires, sent_told}
 use Rattle.gb_laws.proofs.PointParts.{is_silent, AreSilent}
 use Rattle.gb_machine.proofs.Opened.{machine_opened}

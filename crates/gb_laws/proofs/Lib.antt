@@ -1,9 +1,11 @@
 pub mod Absent
+pub mod ActLaws
 pub mod Acting
 pub mod ActsFit
 pub mod AllRuns
 pub mod Answering
 pub mod Asked
+pub mod AskedSteps
 pub mod AskedWaits
 pub mod Awaited
 pub mod AwaitsNewest
@@ -31,6 +33,7 @@ pub mod CreditsServed
 pub mod Delivered
 pub mod DeliveredHands
 pub mod Delivering
+pub mod DeliveringOne
 pub mod DoneStays
 pub mod DoneSteps
 pub mod DoneTurns
@@ -136,6 +139,7 @@ pub mod Served
 pub mod ServedDestroy
 pub mod ServedOn
 pub mod Serving
+pub mod ServingSvc
 pub mod SettleQueues
 pub mod Settles
 pub mod Settling
@@ -153,6 +157,7 @@ pub mod StaleRuns
 pub mod StaleTurns
 pub mod StayPlugged
 pub mod Stepping
+pub mod SteppingPlugs
 pub mod StillWaiting
 pub mod Steps
 pub mod SvcItems

@@ -29,10 +29,9 @@ use Rattle.gb_invariants.proofs.Awaiting.{is-open, opened, sent-request}
 use Rattle.gb_invariants.proofs.Outcomes.{in-open_requests, lookup-past}
 use Rattle.gb_laws.proofs.Acting.{goes-notices}
 use Rattle.gb_laws.proofs.Awaited.{awaited-rest}
+use Rattle.gb_laws.proofs.ActLaws.{ActLaw, IsActing}
 use Rattle.gb_laws.proofs.Points.{
-  ActLaw,
   Change,
-  IsActing,
   acts_asked,
   acts_failed,
   acts_left,

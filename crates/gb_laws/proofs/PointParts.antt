@@ -24,6 +24,7 @@ use Rattle.gb_base.specs.declared.end.Side.TheVariants as side
 use Rattle.gb_base.specs.declared.entry.ConnState.TheVariants as state
 use Rattle.gb_base.specs.declared.entry.Entry.{Entry}
 use Rattle.gb_base.specs.declared.entry.Entry.TheVariants as entry
+use Rattle.gb_base.specs.declared.event.Event.{Event}
 use Rattle.gb_base.specs.declared.event.Event.TheVariants as event
 use Rattle.gb_base.specs.declared.name.Name.{Name}
 use Rattle.gb_base.specs.declared.outcome.Outcome.{Outcome}
@@ -266,3 +267,18 @@ pub data IsShutFor (m : Moment) (k : ℕ) : Type 0 where
   removed : (i : ℕ) (l : Link) → IsNoticed m (HostEvent.Removed i)
       → IsIn l (links_of i m.before.host)
       → l.connection ≡ k → IsShutFor m k
+
+-- ---- events
+
+-- an event at which the supervisory controller asks of its own
+abbrev pub IsOfSvc : Event → Type 0
+IsOfSvc event.Boot = Unit {0}
+IsOfSvc (event.Insert i kind) = Unit {0}
+IsOfSvc (event.InsertRaw i manifest) = Unit {0}
+IsOfSvc (event.Pull i) = Unit {0}
+IsOfSvc _ = ⊥
+
+-- an event that is a bridge line
+abbrev pub IsBridge : Event → Type 0
+IsBridge (event.Bridge name i c what) = Unit {0}
+IsBridge _ = ⊥

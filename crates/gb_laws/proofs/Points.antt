@@ -28,7 +28,6 @@ use Rattle.gb_base.specs.declared.end.Side.TheVariants as side
 use Rattle.gb_base.specs.declared.entry.ConnState.TheVariants as state
 use Rattle.gb_base.specs.declared.entry.Entry.{Entry}
 use Rattle.gb_base.specs.declared.entry.Entry.TheVariants as entry
-use Rattle.gb_base.specs.declared.event.Event.{Event}
 use Rattle.gb_base.specs.declared.event.Event.TheVariants as event
 use Rattle.gb_base.specs.declared.name.Name.{Name}
 use Rattle.gb_base.specs.declared.outcome.Outcome.{Outcome}
@@ -81,10 +80,12 @@ pub use Rattle.gb_laws.proofs.PointParts.{
   Hand,
   IsCancelled,
   IsAfterReply,
+  IsBridge,
   IsCaused,
   IsGivenUpFor,
   IsLate,
   IsNoticed,
+  IsOfSvc,
   IsServed,
   IsServing,
   IsShutFor,
@@ -128,42 +129,36 @@ pub record IsLive (k : ℕ) (wire : Bool) (b : Bus) : Type 0 where
 -- Which request a response ends: on a clean connection the open one of its number, on another the
 -- open one of its identifier.
 pub data Answers (h : Hand) (n : ℕ) (b : Bus) : Type 0 where
-  by_number : (result : ℕ) (payload : List ℕ) → h.item ≡ Reply n result payload → h.connection.clean ≡ true
+  by_number : (result : ℕ) (payload : List ℕ) → h.item ≡ Reply n result payload
+      → h.connection.clean ≡ true
       → is_open n b ≡ true → Answers h n b
-  by_label : (label : ℕ) → h.connection.clean ≡ false → open_with h.connection.number h.side label b ≡ Some n → Answers h n b
+  by_label : (label : ℕ) → h.connection.clean ≡ false
+      → open_with h.connection.number h.side label b ≡ Some n → Answers h n b
 
 -- Which request is forgotten at a response: on a clean connection the one of its number, on another
 -- the one that was given up with its identifier.
 pub data Forgets (h : Hand) (n : ℕ) (b : Bus) : Type 0 where
-  by_number : (result : ℕ) (payload : List ℕ) → h.item ≡ Reply n result payload → h.connection.clean ≡ true → Forgets h n b
-  by_label : (label : ℕ) → h.connection.clean ≡ false → given_up_with h.connection.number h.side label b ≡ Some n → Forgets h n b
+  by_number : (result : ℕ) (payload : List ℕ) → h.item ≡ Reply n result payload
+      → h.connection.clean ≡ true → Forgets h n b
+  by_label : (label : ℕ) → h.connection.clean ≡ false
+      → given_up_with h.connection.number h.side label b ≡ Some n → Forgets h n b
 
 -- what a response that is taken answers with
 pub data Says (h : Hand) (n result : ℕ) (payload : List ℕ) : Type 0 where
   numbered : h.item ≡ Reply n result payload → Says h n result payload
   unclean : h.connection.clean ≡ false → Says h n result payload
 
--- an event at which the supervisory controller asks of its own
-abbrev pub IsOfSvc : Event → Type 0
-IsOfSvc event.Boot = Unit {0}
-IsOfSvc (event.Insert i kind) = Unit {0}
-IsOfSvc (event.InsertRaw i manifest) = Unit {0}
-IsOfSvc (event.Pull i) = Unit {0}
-IsOfSvc _ = ⊥
-
--- an event that is a bridge line
-abbrev pub IsBridge : Event → Type 0
-IsBridge (event.Bridge name i c what) = Unit {0}
-IsBridge _ = ⊥
-
--- A far side asks on a connection: a module, or the supervisory controller at an event that concerns
+-- A far side asks on a connection: a module, or the supervisory controller at an event that
+-- concerns
 -- it, which tells the removal of an interface once that has no power.
 pub data IsFarAsking (m : Moment) (s : State) (c : Connection) (d : Draft) : Type 0 where
   by_module : (i p : ℕ) → c.peer ≡ end.Module i p → d.side ≡ side.Far → IsFarAsking m s c d
-  by_svc : IsOfSvc m.event → d.side ≡ side.Far → ((i : ℕ) → removes i (read_svc_ask d.kind d.payload) ≡ true
+  by_svc : IsOfSvc m.event → d.side ≡ side.Far
+      → ((i : ℕ) → removes i (read_svc_ask d.kind d.payload) ≡ true
       → level_of i s.ports ≡ 0) → IsFarAsking m s c d
 
--- Who asks on a connection at a point: the application processor does an act, and its sequence is to
+-- Who asks on a connection at a point: the application processor does an act, and its sequence is
+-- to
 -- wait for the request, or a far side asks on a connection that is wired.
 pub data IsAskedBy (m : Moment) (a : Point) (c : Connection) (d : Draft) : Type 0 where
   by_host : (q : Asking) (rest : List Act) → a.pending ≡ Act.Ask q ∷ rest
@@ -197,11 +192,13 @@ abbrev pub AreShort : List Plugged → Type 0
 AreShort ms = (p : Plugged) → IsIn p ms → length p.body.manifest ≤ longest_manifest
 
 -- what is plugged stays, and so does whether the supervisory controller has started
-pub record SamePlugs (s : State) (booted : Bool) (ports : List Port) (modules : List Plugged) : Type 0 where
+pub record SamePlugs (s : State) (booted : Bool) (ports : List Port) (modules : List Plugged) : Type
+    0 where
   pub started : booted ≡ s.booted
   pub plugged : (i : ℕ) → is_plugged i modules ≡ is_plugged i s.modules
   pub powered : (i : ℕ) → is_powered i ports ≡ true → is_powered i s.ports ≡ true
-  pub differ : EachTwo (λ (p q : Plugged). p.intf ≢ q.intf) s.modules → EachTwo (λ (p q : Plugged). p.intf ≢ q.intf) modules
+  pub differ : EachTwo (λ (p q : Plugged). p.intf ≢ q.intf) s.modules
+      → EachTwo (λ (p q : Plugged). p.intf ≢ q.intf) modules
   pub short : AreShort s.modules → AreShort modules
 
 -- Where power levels come from: they stay, or are those of a step of the supervisory controller's
@@ -257,26 +254,34 @@ pub data Change (m : Moment) (a : Point) : Type 0 where
       → label_for d a.state.bus ≡ Some label → IsAskedBy m a c d → Change m a
   names : (name : Name) (d : Draft) (c : Connection) (label : ℕ) → a.hand ≡ None
       → connection_of d.connection a.state.bus ≡ Some c
-      → label_for d a.state.bus ≡ Some label → (d.side ≡ side.Ap) × IsPlain a.state d × (a.pending ≡ [])
+      → label_for d a.state.bus ≡ Some label → (d.side ≡ side.Ap) × IsPlain a.state d
+      × (a.pending ≡ [])
       → Change m a
   -- a name gets a request that another has, or is free
   binds : (x y : Name) (n : ℕ) → named x a.state.names ≡ Some n → Change m a
   frees : (name : Name) → Change m a
   -- the front item toward an end is taken, or a held item
-  takes : (at : End) (p : Place) (item : Item) → a.hand ≡ None → a.state ≡ m.before → m.event ≡ event.Deliver at
-      → place_of at m.before.bus.connections ≡ Some p → first (queue p.side p.connection) ≡ Some item → Change m a
-  takes_held : (i c place : ℕ) (p : Place) (h : Held) → a.hand ≡ None → a.state ≡ m.before → m.event ≡ event.Answer i c place
-      → module_place i c m.before ≡ Some p → nth place (held_on p.connection.number m.before.held) ≡ Some h → Change m a
-  -- what is being handled is let go, or held, or replied to, or answers a request, or one is forgotten
+  takes : (at : End) (p : Place) (item : Item) → a.hand ≡ None → a.state ≡ m.before
+      → m.event ≡ event.Deliver at
+      → place_of at m.before.bus.connections ≡ Some p
+      → first (queue p.side p.connection) ≡ Some item → Change m a
+  takes_held : (i c place : ℕ) (p : Place) (h : Held) → a.hand ≡ None → a.state ≡ m.before
+      → m.event ≡ event.Answer i c place
+      → module_place i c m.before ≡ Some p
+      → nth place (held_on p.connection.number m.before.held) ≡ Some h → Change m a
+  -- what is being handled is let go, or held, or replied to, or answers a request, or one is
+  -- forgotten
   drops : Change m a
   holds : (h : Hand) → a.hand ≡ Some h → h.side ≡ side.Far → Change m a
-  replies : (h : Hand) (q : Incoming) (r : Answer) → a.hand ≡ Some h → request_in h.item a.state.bus ≡ Some q
+  replies : (h : Hand) (q : Incoming) (r : Answer) → a.hand ≡ Some h
+      → request_in h.item a.state.bus ≡ Some q
       → q.oneway ≡ false → Change m a
   answers : (h : Hand) (n result : ℕ) (payload : List ℕ) → a.hand ≡ Some h → Says h n result payload
       → Answers h n a.state.bus → Change m a
   forgets : (h : Hand) (n : ℕ) → a.hand ≡ Some h → Forgets h n a.state.bus → Change m a
   -- a request is given up
-  gives_up : (n : ℕ) (how : Outcome) → a.hand ≡ None → is_open n a.state.bus ≡ true → IsGivenUpFor m a.state how n → Change m a
+  gives_up : (n : ℕ) (how : Outcome) → a.hand ≡ None → is_open n a.state.bus ≡ true
+      → IsGivenUpFor m a.state how n → Change m a
   -- a connection is wired, or unwired
   wires : (k : ℕ) → a.hand ≡ None → a.wires ≡ Untouched → (live : IsLive k false a.state.bus)
       → (is_powered live.intf a.state.ports ≡ true)
@@ -285,18 +290,24 @@ pub data Change (m : Moment) (a : Point) : Type 0 where
       → Change m a
   unwires : (k : ℕ) → a.hand ≡ None → a.wires ≢ Wired → IsLive k true a.state.bus → Change m a
   -- bytes are injected
-  injects : (i c : ℕ) (p : Place) (bytes : List ℕ) → a.hand ≡ None → module_place i c a.state ≡ Some p → Change m a
+  injects : (i c : ℕ) (p : Place) (bytes : List ℕ) → a.hand ≡ None
+      → module_place i c a.state ≡ Some p → Change m a
   -- the application processor takes notice of something
   turns : (e : HostEvent) → a.hand ≡ None → (a.wires ≡ Untouched) × IsOver m e a.state.bus
       → a.pending ≡ [] → IsCaused m e a.state.host → Change m a
   -- it does an act
-  acts_told : (e : Entry) (rest : List Act) → a.pending ≡ Act.Tell e ∷ rest → is_quiet e ≡ true → Change m a
-  acts_shut : (k : ℕ) (rest : List Act) → a.hand ≡ None → a.pending ≡ Act.Shut k ∷ rest → IsShutFor m k → Change m a
-  acts_left : (k : ℕ) (rest : List Act) → a.hand ≡ None → a.wires ≡ Untouched → a.pending ≡ Act.Leave k ∷ rest → Change m a
-  acts_opened : (w : Making) (q : Asking) (rest : List Act) → a.hand ≡ None → a.pending ≡ Act.Open w q ∷ rest → Change m a
+  acts_told : (e : Entry) (rest : List Act) → a.pending ≡ Act.Tell e ∷ rest → is_quiet e ≡ true
+      → Change m a
+  acts_shut : (k : ℕ) (rest : List Act) → a.hand ≡ None → a.pending ≡ Act.Shut k ∷ rest
+      → IsShutFor m k → Change m a
+  acts_left : (k : ℕ) (rest : List Act) → a.hand ≡ None → a.wires ≡ Untouched
+      → a.pending ≡ Act.Leave k ∷ rest → Change m a
+  acts_opened : (w : Making) (q : Asking) (rest : List Act) → a.hand ≡ None
+      → a.pending ≡ Act.Open w q ∷ rest → Change m a
   acts_asked : (q : Asking) (n : ℕ) (rest : List Act)
       → (a.pending ≡ Act.Ask q ∷ rest) × (a.asked ≡ Some (q, n)) → Change m a
-  acts_failed : (q : Asking) (rest : List Act) → IsAsking q a.pending rest → AreQuiet (unsent q.purpose a.state.host).told → Change m a
+  acts_failed : (q : Asking) (rest : List Act) → IsAsking q a.pending rest
+      → AreQuiet (unsent q.purpose a.state.host).told → Change m a
   -- it serves a request, or spends credits
   serves : (k kind : ℕ) (payload : List ℕ) → (a.pending ≡ []) × IsServed m k kind payload
       × (a.state.host ≡ m.before.host) → Change m a
@@ -328,70 +339,58 @@ changed m a (takes_held i c place p h free start is named held) =
       hand = Some (record { connection = p.connection; side = p.side; item = h.item });
     }
 changed m a drops = record a { hand = None }
-changed m a (holds h is far) = record (on (with_held h.connection.number h.item a.state) [] a) { hand = None }
+changed m a (holds h is far) =
+    record (on (with_held h.connection.number h.item a.state) [] a) { hand = None }
 changed m a (replies h q r is made twoway) =
     record (on_bus (replied h.connection.number (other_side h.side) (reply_item q r) a.state.bus)
     (reply_entry h.side h.connection q r ∷ []) a) { hand = None }
 changed m a (answers h n result payload is says open_) =
     record (on_bus (ended n (answered result payload) a.state.bus)
-    (entry.Ended n (answered result payload) (reading_for h.side h.connection result payload (request_of n a.state.bus)) ∷ []) a)
+    (entry.Ended n (answered result payload)
+    (reading_for h.side h.connection result payload (request_of n a.state.bus)) ∷ []) a)
     { hand = None }
 changed m a (forgets h n is late) = record (on_bus (forgotten n a.state.bus) [] a) { hand = None }
 changed m a (gives_up n how free open_ cause) =
     on_bus (gave_up n how a.state.bus) (entry.Ended n how reading.Nothing ∷ []) a
-changed m a (wires k free untouched live powered) = record (on (with_wired k a.state) [] a) { wires = Wired }
+changed m a (wires k free untouched live powered) =
+    record (on (with_wired k a.state) [] a) { wires = Wired }
 changed m a (unwires k free unwired live) =
-    record (on (with_unwired k a.state) (map disconnected_told (open_on k side.Far a.state.bus)) a) { wires = Unwired }
+    record (on (with_unwired k a.state) (map disconnected_told (open_on k side.Far a.state.bus)) a)
+    { wires = Unwired }
 changed m a (injects i c p bytes free named) =
     on_bus (injected p.connection.number bytes a.state.bus)
     (entry.Raw (end.Module i c) (end.Ap p.connection.ap) (length bytes) bytes ∷ []) a
 changed m a (turns e free untouched none cause) =
-    record (on (record a.state { host = (host_turn e a.state.host).host }) [] a) { pending = (host_turn e a.state.host).acts }
+    record (on (record a.state { host = (host_turn e a.state.host).host }) [] a)
+    { pending = (host_turn e a.state.host).acts }
 changed m a (acts_told e rest is quiet) = record (on a.state (e ∷ []) a) { pending = rest }
 changed m a (acts_shut k rest free is cause) =
-    record (on_bus (shut_down k a.state.bus) (map disconnected_told (open_on k side.Ap a.state.bus)) a) { pending = rest }
-changed m a (acts_left k rest free untouched is) = record (on_bus (detached k a.state.bus) [] a) { pending = rest }
+    record (on_bus (shut_down k a.state.bus) (map disconnected_told (open_on k side.Ap a.state.bus))
+    a) { pending = rest }
+changed m a (acts_left k rest free untouched is) =
+    record (on_bus (detached k a.state.bus) [] a) { pending = rest }
 changed m a (acts_opened w q rest free is) =
     record (on (with_made w a.state)
-    (entry.Connection (next_connection a.state.bus) w.ap w.intf w.cport state.Opening ∷ []) a) { pending = Act.Ask q ∷ rest }
+    (entry.Connection (next_connection a.state.bus) w.ap w.intf w.cport state.Opening ∷ []) a)
+    { pending = Act.Ask q ∷ rest }
 changed m a (acts_asked q n rest is) =
     record (on (with_awaited q.purpose n a.state) [] a) { pending = rest; asked = None }
 changed m a (acts_failed q rest is quiet) =
-    record (on (record a.state { host = (unsent q.purpose a.state.host).host }) (unsent q.purpose a.state.host).told a) { pending = rest }
-changed m a (serves k kind payload none) = on (record a.state { host = (host_serves k kind payload a.state.host).host }) [] a
-changed m a (spends i c what none) = on (record a.state { host = with_link i c (spent what) a.state.host }) [] a
+    record (on (record a.state { host = (unsent q.purpose a.state.host).host })
+    (unsent q.purpose a.state.host).told a) { pending = rest }
+changed m a (serves k kind payload none) =
+    on (record a.state { host = (host_serves k kind payload a.state.host).host }) [] a
+changed m a (spends i c what none) =
+    on (record a.state { host = with_link i c (spent what) a.state.host }) [] a
 changed m a (passes millis) = on (record a.state { now = a.state.now + millis }) [] a
 changed m a (others booted marks ports modules same) =
     on (record a.state { booted = booted; holds = marks; ports = ports; modules = modules }) [] a
 
 -- ---- laws
 
--- A law of points within a step is kept by each single change. It says at least what the basis does.
+-- A law of points within a step is kept by each single change. It says at least what the basis
+-- does.
 pub record Law (m : Moment) : Type 1 where
   pub holds : Point → Type 0
   pub basis : (a : Point) → holds a → Basis a
   pub kept : (a : Point) (x : Change m a) → holds a → holds (changed m a x)
-
--- ---- what the application processor does
-
--- a change is one of those that the acts of the application processor are made of
-abbrev pub IsActing : (m : Moment) (a : Point) → Change m a → Type 0
-IsActing m a (tells e quiet) = Unit {0}
-IsActing m a (asks d c label free live drawn who) = Unit {0}
-IsActing m a (turns e free untouched none cause) = Unit {0}
-IsActing m a (acts_told e rest is quiet) = Unit {0}
-IsActing m a (acts_shut k rest free is cause) = Unit {0}
-IsActing m a (acts_left k rest free untouched is) = Unit {0}
-IsActing m a (acts_opened w q rest free is) = Unit {0}
-IsActing m a (acts_asked q n rest is) = Unit {0}
-IsActing m a (acts_failed q rest is quiet) = Unit {0}
-IsActing m a _ = ⊥
-
--- A law of points is kept by what the application processor does.
-pub record ActLaw (m : Moment) : Type 1 where
-  pub holds : Point → Type 0
-  pub kept : (a : Point) (x : Change m a) → IsActing m a x → holds a → holds (changed m a x)
-
--- a law that each change keeps
-abbrev pub acting : (m : Moment) → Law m → ActLaw m
-acting m law = record { holds = law.holds; kept = λ a x is. law.kept a x }

@@ -26,7 +26,6 @@ use Rattle.gb_invariants.proofs.Awaiting.{not-both, same-some}
 use Rattle.gb_invariants.proofs.Lists.{in-at_first}
 use Rattle.gb_invariants.proofs.Outcomes.{same-number}
 use Rattle.gb_laws.proofs.Asked.{
-  TurnAsks,
   asks-connects,
   asks-disconnects,
   asks-ended,
@@ -34,6 +33,7 @@ use Rattle.gb_laws.proofs.Asked.{
   asks-removed,
   waits-unsent,
 }
+use Rattle.gb_laws.proofs.AskedSteps.{TurnAsks}
 use Rattle.gb_laws.proofs.AskedWaits.{AsksIn, asks-more, is_power_step, no-asks}
 use Rattle.gb_laws.proofs.Awaited.{awaited-rest}
 use Rattle.gb_laws.proofs.LinkActs.{awaited-host}

@@ -1,7 +1,22 @@
 -- A law of points goes over what a served request brings about.
-use Rattle.std.proofs.Common.{◌≡◌, ℕ, Bool, true, false, cond, Option, Some, None, List, [], ◌++◌, refl, sym, ap, ◌∙◌, inl, subst, length, ◌≤◌}
-use Rattle.std.specs.Prelude.{◌&&◌}
-use Rattle.std.specs.List.{list_any}
+use Rattle.std.proofs.Common.{
+  ◌≡◌,
+  ℕ,
+  Option,
+  Some,
+  None,
+  List,
+  [],
+  ◌++◌,
+  refl,
+  sym,
+  ap,
+  ◌∙◌,
+  inl,
+  subst,
+  length,
+  ◌≤◌,
+}
 use Rattle.gb_base.specs.declared.end.End.{End}
 use Rattle.gb_base.specs.declared.end.End.TheVariants as end
 use Rattle.gb_base.specs.declared.end.Side.{Side}
@@ -12,19 +27,23 @@ use Rattle.gb_formats.specs.ModuleSteps.{module_serve}
 use Rattle.gb_formats.specs.Results.{Step}
 use Rattle.gb_invariants.proofs.Awaiting.{same-some}
 use Rattle.gb_laws.proofs.Delivered.{IsTaken, noticed, served-at, serving-of}
-use Rattle.gb_laws.proofs.LinkLists.{none-any}
 use Rattle.gb_laws.proofs.Acting.{goes-notices}
-use Rattle.gb_laws.proofs.Going.{At, Goes, IsToModule, goes-far_asks_all, goes-nothing, goes-tell, goes-▸}
+use Rattle.gb_laws.proofs.Going.{
+  At,
+  Goes,
+  IsToModule,
+  goes-far_asks_all,
+  goes-nothing,
+  goes-tell,
+  goes-▸,
+}
 use Rattle.gb_laws.proofs.Places.{ComesFrom, LivesOn, comes-after, lives-after}
+use Rattle.gb_laws.proofs.ActLaws.{acting}
 use Rattle.gb_laws.proofs.Points.{
   IsAfterReply,
-  IsCreated,
-  IsLive,
   IsOver,
   IsServing,
   Law,
-  PortsFrom,
-  acting,
   as_before,
   loses_route,
   others,
@@ -32,13 +51,18 @@ use Rattle.gb_laws.proofs.Points.{
   served,
   serves,
   unreplied,
-  unwires,
-  wires,
 }
-use Rattle.gb_laws.proofs.PointParts.{IsServed, Hand, IsCaused, IsNoticed, Untouched, Unwired, Wired, Wires}
-use Rattle.gb_laws.proofs.Served.{IsQuietly, ServedAs, inserting, plainly, removing, served as served_as}
+use Rattle.gb_laws.proofs.PointParts.{IsServed, IsCaused, IsNoticed, Untouched}
+use Rattle.gb_laws.proofs.Served.{
+  IsQuietly,
+  ServedAs,
+  inserting,
+  plainly,
+  removing,
+  served as served_as,
+}
 use Rattle.gb_machine.proofs.Opened.{machine_opened}
-use Rattle.gb_machine.specs.Actions.{Action, change, given, nothing, on_host, tell, ◌▸◌}
+use Rattle.gb_machine.specs.Actions.{change, given, on_host, tell, ◌▸◌}
 use Rattle.gb_laws.proofs.Manifests.{serve-manifest, short-at}
 use Rattle.gb_laws.proofs.Points.{AreShort}
 use Rattle.gb_laws.proofs.StayPlugged.{module-plugs}
@@ -51,135 +75,34 @@ use Rattle.gb_machine.specs.Incoming.{Incoming}
 use Rattle.gb_machine.specs.Lists.{first}
 use Rattle.gb_machine.specs.Modules.{module_at, with_module}
 use Rattle.gb_machine.specs.OwnAsking.{far_asks_all}
-use Rattle.gb_machine.specs.Responding.{Response, creates, destroys, far_response, host_behind, module_response, module_stepped, responds_plainly, responds_with, response_at, svc_decided, with_ports}
+use Rattle.gb_machine.specs.Responding.{
+  far_response,
+  host_behind,
+  module_response,
+  module_stepped,
+  response_at,
+}
 use Rattle.gb_machine.specs.Ports.{is_powered, unrouted}
-use Rattle.gb_laws.proofs.Powering.{IsReady, IsRouted, port-powered, step-powered, step-ready}
+use Rattle.gb_laws.proofs.Powering.{IsReady, step-powered, step-ready}
 use Rattle.gb_machine.specs.Runs.{Moment}
-use Rattle.gb_machine.specs.Serving.{invalid, nonexistent, plainly as plainly_answers, success}
-use Rattle.gb_machine.specs.State.{Port, State}
+use Rattle.gb_machine.specs.State.{State}
 use Rattle.gb_machine.specs.SvcTable.{Answered, Create, Destroy, SvcServed, Unroute, svc_step}
 use Rattle.gb_machine.specs.Turns.{HostEvent}
-use Rattle.gb_machine.specs.Wires as wiring
-use Rattle.gb_machine.specs.Wiring.{is_at, is_wired_to, joining}
-use Rattle.gb_laws.proofs.ServedOn.{Comes, HasPeer, IsAsBefore, joining-live}
+use Rattle.gb_laws.proofs.ServedOn.{Comes, HasPeer, IsAsBefore}
+use Rattle.gb_laws.proofs.ServingSvc.{Ends, ends-decided, ends-going, ends-nothing}
 
 module _ (m : Moment) (law : Law m) where
-  -- an action ends a step, whatever becomes of wires
-  abbrev pub Ends : Option Hand → Action → State → Type 0
-  Ends hand f s =
-      (told : List Entry) → At m (acting m law) hand [] Untouched told s
-      → (w : Wires) × At m (acting m law) None [] w (told ++ (f s).entries) (f s).state
-
-  -- one that stays with the wires
-  pub ends-going : (hand : Option Hand) (f : Action) (s : State)
-      → Goes m (acting m law) hand [] Untouched None [] Untouched f s → Ends hand f s
-  ends-going hand f s h told at = (Untouched, h told at)
-
-  -- ---- the supervisory controller
-
-  ends-ports : (ports : List Port) (s : State) → PortsFrom m s ports
-      → ((i : ℕ) → is_powered i ports ≡ true → is_powered i s.ports ≡ true)
-      → Ends None (with_ports ports) s
-  unfolding machine_opened
-  ends-ports ports s from powered told at = (
-    Untouched,
-    law.kept _ (others s.booted s.holds ports s.modules (inl (
-      record {
-        started = refl;
-        plugged = λ i. refl;
-        powered = powered;
-        differ = λ h. h;
-        short = λ h. h;
-      },
-      from,
-      record { hand = refl; pending = refl; asked = refl },
-      λ k i. inl i,
-    ))) at,
-  )
-
-  ends-nothing : (s : State) → Ends None nothing s
-  ends-nothing s = ends-going None nothing s (goes-nothing m (acting m law) None [] Untouched s)
-
-  ends-wires : (k : ℕ) (s : State) (live : IsLive k false s.bus)
-      → IsRouted live.intf s.ports → IsCreated m s live.connection live.intf live.cport
-      → Ends None (wiring.wires k) s
-  unfolding machine_opened
-  ends-wires k s live ready made told at =
-      (Wired, law.kept _ (wires k refl refl live (ready.0, ready.1, made)) at)
-
-  ends-unwires : (k : ℕ) (s : State) → IsLive k true s.bus → Ends None (wiring.unwires k) s
-  unfolding machine_opened
-  ends-unwires k s live told at = (Unwired, law.kept _ (unwires k refl (λ e. absurd cc) live) at)
-
-  -- one of two responses
-  ends-either : (b : Bool) (x y : Response) (s : State) → (b ≡ true → Ends None x.behind s) → (b ≡ false → Ends None y.behind s)
-      → Ends None (cond b x y).behind s
-  ends-either true x y s h k = h refl
-  ends-either false x y s h k = k refl
-
-  -- the connection that was found is live still
-  abbrev IsLiveFound : Option Connection → State → Type 0
-  IsLiveFound o s = (x : Connection) (t : Bool) → o ≡ Some x → x.wired ≡ t → IsLive x.number t s.bus
-
-  ends-creates : (o : Option Connection) (s : State)
-      → ((x : Connection) → o ≡ Some x → x.wired ≡ false
-      → (l : IsLive x.number false s.bus) × IsRouted l.intf s.ports
-      × IsCreated m s l.connection l.intf l.cport)
-      → Ends None (creates o).behind s
-  ends-creates None s live = ends-nothing s
-  ends-creates (Some c) s live =
-      ends-either c.wired (responds_plainly invalid) (responds_with (plainly_answers success) (wiring.wires c.number)) s
-      (λ e. ends-nothing s) (λ e. let l = live c refl e in ends-wires c.number s l.0 l.1 l.2)
-
-  ends-destroys : (o : Option Connection) (s : State) → IsLiveFound o s → Ends None (destroys o).behind s
-  ends-destroys None s live = ends-nothing s
-  ends-destroys (Some c) s live =
-      ends-either c.wired (responds_with (plainly_answers success) (wiring.unwires c.number)) (responds_plainly nonexistent) s
-      (λ e. ends-unwires c.number s (live c true refl e)) (λ e. ends-nothing s)
-
-  ends-decided : (d : SvcServed) (ports : List Port) (s u : State) → LivesOn s.bus u.bus
-      → ComesFrom s.bus u.bus → Comes m u d ports
-      → ((i : ℕ) → is_powered i ports ≡ true → is_powered i u.ports ≡ true)
-      → IsReady d u.ports → Ends None (svc_decided d ports s).behind u
-  ends-decided (Answered result payload) ports s u on came from powered ready =
-      ends-ports ports u from powered
-  ends-decided (Create a i c) ports s u on came from powered ready =
-      ends-creates (joining a i c s.bus) u (λ x e w.
-      let j = joining-live a i c s.bus x false e w in
-      let l = on x.number false j.0 in (
-        l.0,
-        subst (λ n. IsRouted n u.ports) (sym (l.1 ∙ j.1)) ready,
-        record {
-          incoming = from.0;
-          serving = from.1;
-          decides = from.2 ∙ ap (λ n. Create n i c) (sym (l.3 ∙ j.3))
-              ∙ ap (λ n. Create l.0.connection.ap n c) (sym (l.1 ∙ j.1))
-              ∙ ap (Create l.0.connection.ap l.0.intf) (sym (l.2 ∙ j.2));
-        },
-      ))
-  ends-decided (Destroy a i c) ports s u on came from powered ready =
-      ends-destroys (joining a i c s.bus) u
-      (λ x t e w. (on x.number t (joining-live a i c s.bus x t e w).0).0)
-  ends-decided (Unroute i) ports s u on came from powered ready =
-      ends-either (list_any (is_wired_to i) s.bus.connections) (responds_plainly invalid)
-      (responds_with (plainly_answers success) (with_ports (unrouted i ports))) u
-      (λ e. ends-nothing u)
-      (λ e. ends-ports (unrouted i ports) u
-      (from (λ c live. let w = came c live in
-      ap (λ t. t && is_at i c.peer) (sym w.2) ∙ ap (λ p. w.0.wired && is_at i p) (sym w.3)
-      ∙ none-any (is_wired_to i) s.bus.connections w.0 e w.1))
-      (λ j f. powered j (port-powered j i (λ p. record p { level = 5 }) ports (λ p. refl) f)))
-
   -- ---- modules
 
   ends-module : (k i : ℕ) (step : Step Module) (s : State)
       → (AreShort s.modules → length step.after.manifest ≤ longest_manifest)
-      → IsToModule k s.bus → Ends None (module_stepped k i step).behind s
+      → IsToModule k s.bus → Ends m law None (module_stepped k i step).behind s
   unfolding machine_opened
   ends-module k i step s short to =
-      ends-going None (module_stepped k i step).behind s
+      ends-going m law None (module_stepped k i step).behind s
       (goes-▸ m (acting m law) None None None [] [] [] Untouched Untouched Untouched
-      (change (λ t. record t { modules = with_module i step.after t.modules })) (far_asks_all k step.served.asks) s
+      (change (λ t. record t { modules = with_module i step.after t.modules }))
+      (far_asks_all k step.served.asks) s
       (λ told at. law.kept _ (others s.booted s.holds s.ports (with_module i step.after s.modules)
       (inl (
         module-plugs s i step.after short,
@@ -187,12 +110,13 @@ module _ (m : Moment) (law : Law m) where
         record { hand = refl; pending = refl; asked = refl },
         λ k i. inl i,
       ))) at)
-      (goes-far_asks_all m (acting m law) [] Untouched k step.served.asks (record s { modules = with_module i step.after s.modules }) to))
+      (goes-far_asks_all m (acting m law) [] Untouched k step.served.asks
+      (record s { modules = with_module i step.after s.modules }) to))
 
   ends-at_module : (k i c : ℕ) (q : Incoming) (o : Option Module) (s : State)
       → module_at i s.modules ≡ o → IsToModule k s.bus
-      → Ends None (module_response k i c q o).behind s
-  ends-at_module k i c q None s e to = ends-nothing s
+      → Ends m law None (module_response k i c q o).behind s
+  ends-at_module k i c q None s e to = ends-nothing m law s
   ends-at_module k i c q (Some x) s e to = ends-module k i (module_serve x c q.kind q.payload) s
       (λ h. subst (λ bytes. length bytes ≤ longest_manifest)
       (sym (serve-manifest x c q.kind q.payload)) (short-at i s.modules x e h)) to
@@ -201,13 +125,13 @@ module _ (m : Moment) (law : Law m) where
 
   ends-far : (e : End) (k : ℕ) (q : Incoming) (s u : State) → LivesOn s.bus u.bus
       → ComesFrom s.bus u.bus → u.ports ≡ s.ports → u.modules ≡ s.modules → HasPeer k e u.bus
-      → (e ≡ end.Svc → IsServing m u q) → Ends None (far_response e k q s).behind u
+      → (e ≡ end.Svc → IsServing m u q) → Ends m law None (far_response e k q s).behind u
   ends-far (end.Module i c) k q s u on came ports modules peer serving =
       ends-at_module k i c q (module_at i s.modules) u (ap (module_at i) modules)
       (λ x e. (i, c, peer x e))
   ends-far end.Svc k q s u on came ports modules peer serving =
       let step = svc_step s.ports q.kind q.payload in
-      ends-decided step.served step.ports s u on came
+      ends-decided m law step.served step.ports s u on came
       (comes step.served refl)
       (λ i e. ap (is_powered i) ports ∙ step-powered s.ports q.kind q.payload i e)
       (subst (IsReady step.served) (sym ports) (step-ready s.ports q.kind q.payload))
@@ -228,7 +152,7 @@ module _ (m : Moment) (law : Law m) where
       comes (Unroute i) e = loses_route q i (serving refl)
           (ap (λ ps. (svc_step ps q.kind q.payload).served) (sym same) ∙ e)
           (ap (λ ps. unrouted i (svc_step ps q.kind q.payload).ports) same)
-  ends-far (end.Ap a) k q s u on came ports modules peer serving = ends-nothing u
+  ends-far (end.Ap a) k q s u on came ports modules peer serving = ends-nothing m law u
 
   -- ---- the application processor
 
@@ -236,7 +160,8 @@ module _ (m : Moment) (law : Law m) where
   goes-behind : (host : Host) (o : Option Entry) (n : Option HostEvent) (u : State)
       → Goes m (acting m law) None [] Untouched None [] Untouched (on_host (λ old. host)) u
       → IsQuietly o → ((e : HostEvent) → n ≡ Some e → IsCaused m e host × IsOver m e u.bus)
-      → Goes m (acting m law) None [] Untouched None [] Untouched (on_host (λ old. host) ▸ given o tell ▸ given n notices) u
+      → Goes m (acting m law) None [] Untouched None [] Untouched
+      (on_host (λ old. host) ▸ given o tell ▸ given n notices) u
   unfolding machine_opened
   goes-behind host o n u first quiet cause =
       goes-▸ m (acting m law) None None None [] [] [] Untouched Untouched Untouched
@@ -245,25 +170,32 @@ module _ (m : Moment) (law : Law m) where
       (on_host (λ old. host)) (given o tell) u first (says o (record u { host = host }) quiet))
       (takes_notice o n cause)
     where
-      says : (o : Option Entry) (s : State) → IsQuietly o → Goes m (acting m law) None [] Untouched None [] Untouched (given o tell) s
+      says : (o : Option Entry) (s : State) → IsQuietly o
+          → Goes m (acting m law) None [] Untouched None [] Untouched (given o tell) s
       says None s q = goes-nothing m (acting m law) None [] Untouched s
       says (Some e) s q = goes-tell m (acting m law) None [] Untouched e s q
 
       takes_notice : (o : Option Entry) (n : Option HostEvent)
           → ((e : HostEvent) → n ≡ Some e → IsCaused m e host × IsOver m e u.bus)
-          → Goes m (acting m law) None [] Untouched None [] Untouched (given n notices) ((on_host (λ old. host) ▸ given o tell) u).state
-      takes_notice None None c = goes-nothing m (acting m law) None [] Untouched (record u { host = host })
-      takes_notice None (Some e) c = goes-notices m (acting m law) e (record u { host = host }) (c e refl).1 (c e refl).0
-      takes_notice (Some x) None c = goes-nothing m (acting m law) None [] Untouched (record u { host = host })
-      takes_notice (Some x) (Some e) c = goes-notices m (acting m law) e (record u { host = host }) (c e refl).1 (c e refl).0
+          → Goes m (acting m law) None [] Untouched None [] Untouched (given n notices)
+          ((on_host (λ old. host) ▸ given o tell) u).state
+      takes_notice None None c =
+          goes-nothing m (acting m law) None [] Untouched (record u { host = host })
+      takes_notice None (Some e) c =
+          goes-notices m (acting m law) e (record u { host = host }) (c e refl).1 (c e refl).0
+      takes_notice (Some x) None c =
+          goes-nothing m (acting m law) None [] Untouched (record u { host = host })
+      takes_notice (Some x) (Some e) c =
+          goes-notices m (acting m law) e (record u { host = host }) (c e refl).1 (c e refl).0
 
   ends-served : (k kind : ℕ) (payload : List ℕ) (u : State) → IsServed m k kind payload
       → u.host ≡ m.before.host → u.bus.requests ≡ m.before.bus.requests
-      → ((e : HostEvent) → (host_serves k kind payload m.before.host).notices ≡ Some e → IsNoticed m e)
-      → Ends None (host_behind (host_serves k kind payload m.before.host)) u
+      → ((e : HostEvent) → (host_serves k kind payload m.before.host).notices ≡ Some e
+      → IsNoticed m e)
+      → Ends m law None (host_behind (host_serves k kind payload m.before.host)) u
   unfolding machine_opened
   ends-served k kind payload u at_ap host made notice =
-      ends-going None (host_behind r) u
+      ends-going m law None (host_behind r) u
       (goes-behind r.host r.told r.notices u first (quiet (served_as k kind payload m.before.host))
       (λ e n. (
         cause (served_as k kind payload m.before.host) e n (notice e n),
@@ -273,12 +205,15 @@ module _ (m : Moment) (law : Law m) where
       r : HostServed
       r = host_serves k kind payload m.before.host
 
-      first : Goes m (acting m law) None [] Untouched None [] Untouched (on_host (λ old. (host_serves k kind payload m.before.host).host)) u
+      first : Goes m (acting m law) None [] Untouched None [] Untouched
+          (on_host (λ old. (host_serves k kind payload m.before.host).host)) u
       first told at =
-          subst (λ h. At m (acting m law) None [] Untouched (told ++ []) (record u { host = (host_serves k kind payload h).host })) host
+          subst (λ h. At m (acting m law) None [] Untouched (told ++ [])
+          (record u { host = (host_serves k kind payload h).host })) host
           (law.kept _ (serves k kind payload (refl, at_ap, host)) at)
 
-      quiet : ServedAs m.before.host (host_serves k kind payload m.before.host) → IsQuietly (host_serves k kind payload m.before.host).told
+      quiet : ServedAs m.before.host (host_serves k kind payload m.before.host)
+          → IsQuietly (host_serves k kind payload m.before.host).told
       quiet (plainly q n) = q
       quiet (inserting i h q n) = subst IsQuietly (sym q) tt
       quiet (removing i h q n) = subst IsQuietly (sym q) tt
@@ -292,10 +227,12 @@ module _ (m : Moment) (law : Law m) where
           none-some e h = absurd cc
       cause (inserting i h q n) e is said =
           let same = same-some (HostEvent.Inserted i) e (sym n ∙ is) in
-          subst (λ x. IsCaused m x (host_serves k kind payload m.before.host).host) same (h, subst (IsNoticed m) (sym same) said)
+          subst (λ x. IsCaused m x (host_serves k kind payload m.before.host).host) same
+          (h, subst (IsNoticed m) (sym same) said)
       cause (removing i h q n) e is said =
           let same = same-some (HostEvent.Removed i) e (sym n ∙ is) in
-          subst (λ x. IsCaused m x (host_serves k kind payload m.before.host).host) same (h, subst (IsNoticed m) (sym same) said)
+          subst (λ x. IsCaused m x (host_serves k kind payload m.before.host).host) same
+          (h, subst (IsNoticed m) (sym same) said)
 
       over : ServedAs m.before.host (host_serves k kind payload m.before.host) → (e : HostEvent)
           → (host_serves k kind payload m.before.host).notices ≡ Some e → IsOver m e u.bus
@@ -318,10 +255,10 @@ module _ (m : Moment) (law : Law m) where
       → IsTaken m s c at q → IsAfterReply c.number at q s.bus u.bus → u.ports ≡ s.ports
       → u.modules ≡ s.modules → HasPeer c.number c.peer u.bus
       → IsAsBefore m s → u.host ≡ s.host → u.past ≡ s.past
-      → Ends None (response_at at c q s).behind u
+      → Ends m law None (response_at at c q s).behind u
   unfolding machine_opened
   ends-response c side.Ap q s u taken way ports modules peer before same past =
-      subst (λ h. Ends None (host_behind (host_serves c.number q.kind q.payload h)) u)
+      subst (λ h. Ends m law None (host_behind (host_serves c.number q.kind q.payload h)) u)
       (sym before.0)
       (ends-served c.number q.kind q.payload u (served-at m s c side.Ap q taken refl)
       (same ∙ before.0) (same-after way ∙ before.1)

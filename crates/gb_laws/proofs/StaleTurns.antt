@@ -36,13 +36,13 @@ use Rattle.gb_invariants.proofs.Awaiting.{not-both}
 use Rattle.gb_invariants.proofs.Lists.{found-in, in-without}
 use Rattle.gb_invariants.proofs.Outcomes.{both-true, is-same, same-number}
 use Rattle.gb_laws.proofs.Asked.{
-  TurnAsks,
   asks-connects,
   asks-disconnects,
   asks-ended,
   asks-inserted,
   asks-removed,
 }
+use Rattle.gb_laws.proofs.AskedSteps.{TurnAsks}
 use Rattle.gb_laws.proofs.AskedWaits.{AsksIn, is_power_step}
 use Rattle.gb_laws.proofs.AwaitsOwn.{turn-waits}
 use Rattle.gb_laws.proofs.Enums.{AreStarts, enums}

@@ -1,6 +1,30 @@
 -- A law of points goes over the step of each event.
-use Rattle.std.proofs.Common.{◌≡◌, ℕ, ◌+◌, subst, Bool, true, false, Option, Some, None, List, [], ◌∷◌, ◌++◌, map, refl, sym, ap, ◌∙◌, inl, inr, ⊎_elim, length, ◌≤◌}
-use Rattle.std.specs.Prelude.{Result, Ok, Err, ◌==◌, is_none, is_some, option_and_then}
+use Rattle.std.proofs.Common.{
+  ◌≡◌,
+  ℕ,
+  ◌+◌,
+  subst,
+  true,
+  false,
+  Option,
+  Some,
+  None,
+  List,
+  [],
+  ◌∷◌,
+  ◌++◌,
+  map,
+  refl,
+  sym,
+  ap,
+  ◌∙◌,
+  inl,
+  inr,
+  ⊎_elim,
+  length,
+  ◌≤◌,
+}
+use Rattle.std.specs.Prelude.{Result, Ok, Err, is_none, is_some, option_and_then}
 use Rattle.gb_base.specs.declared.peers.Link.{Link}
 use Rattle.gb_base.specs.declared.bridge.BridgeAsk.{BridgeAsk}
 use Rattle.gb_base.specs.declared.bridge.Reading.TheVariants as reading
@@ -17,16 +41,27 @@ use Rattle.gb_formats.specs.Devices.{Stir}
 use Rattle.gb_formats.specs.Module.{Module}
 use Rattle.gb_formats.specs.ModuleSteps.{module_stir}
 use Rattle.gb_formats.specs.Results.{Stirred}
-use Rattle.gb_formats.specs.SvcRecords.{SvcAsk, read_svc_ask, svc_ask_kind, svc_ask_payload}
 use Rattle.gb_invariants.proofs.Awaiting.{is-open, not-both}
 use Rattle.gb_laws.proofs.Acting.{goes-notices}
-use Rattle.gb_laws.proofs.Going.{At, Goes, goes-far_asks, goes-far_asks_all, goes-nothing, goes-tell_all, goes-when, goes-▸}
+use Rattle.gb_laws.proofs.Going.{At, goes-far_asks_all, goes-tell_all}
 use Rattle.gb_laws.proofs.Naming.{made-named}
 use Rattle.gb_invariants.proofs.Lists.{found-in}
 use Rattle.gb_laws.proofs.Places.{at_first-back, place-marked}
 use Rattle.gb_laws.proofs.PointParts.{AreSilent}
 use Rattle.gb_machine.specs.Members.{IsIn}
-use Rattle.gb_laws.proofs.Points.{IsBridge, IsOfSvc, IsPlain, as_before, by_svc, Law, acting, binds, gives_up as giving_up, injects as injecting, names, others, spends}
+use Rattle.gb_laws.proofs.ActLaws.{acting}
+use Rattle.gb_laws.proofs.Points.{
+  IsBridge,
+  IsPlain,
+  as_before,
+  Law,
+  binds,
+  gives_up as giving_up,
+  injects as injecting,
+  names,
+  others,
+  spends,
+}
 use Rattle.gb_laws.proofs.PointParts.{IsGivenUpFor, Untouched}
 use Rattle.gb_machine.proofs.Conditions.{AreUnmet, free}
 use Rattle.gb_machine.proofs.Opened.{machine_opened}
@@ -34,8 +69,17 @@ use Rattle.gb_machine.proofs.Options.{none-of}
 use Rattle.gb_base.specs.declared.refusal.Refusal.TheVariants as why
 use Rattle.gb_formats.specs.Grammar.{default_timeout}
 use Rattle.gb_machine.specs.Asking.{asks_with}
-use Rattle.gb_machine.specs.Actions.{Action, by_state, change, each, given, nothing, on_bus, on_host, tell, when, ◌▸◌}
-use Rattle.gb_machine.specs.Bus.{Connection, Place, Request, connection_of, is_open, next_number, outcome_of, request_of}
+use Rattle.gb_machine.specs.Actions.{by_state, change, given, on_bus, on_host, tell, ◌▸◌}
+use Rattle.gb_machine.specs.Bus.{
+  Connection,
+  Place,
+  Request,
+  connection_of,
+  is_open,
+  next_number,
+  outcome_of,
+  request_of,
+}
 use Rattle.gb_machine.specs.Events.{shows}
 use Rattle.gb_machine.specs.GivingUp.{cancels, gives_up}
 use Rattle.gb_machine.specs.Holding.{marked}
@@ -43,14 +87,27 @@ use Rattle.gb_machine.specs.Host.{is_link, link_at, with_link}
 use Rattle.gb_machine.specs.HostActs.{follows}
 use Rattle.gb_machine.specs.HostRefusals.{bridge_conditions, is_kept}
 use Rattle.gb_machine.specs.Labels.{cyclic_label, next_label, no_label}
-use Rattle.gb_machine.specs.LineActions.{ap_draft, bridge_sent, bridges, copies, holds, injects, injects_at, with_hold, sends, sends_on, spent, stirred, stirs}
+use Rattle.gb_machine.specs.LineActions.{
+  ap_draft,
+  bridge_sent,
+  bridges,
+  copies,
+  holds,
+  injects,
+  injects_at,
+  with_hold,
+  sends,
+  sends_on,
+  spent,
+  stirred,
+  stirs,
+}
 use Rattle.gb_machine.specs.Lists.{conditions_of, holds_of}
 use Rattle.gb_machine.specs.Modules.{module_at, with_module}
 use Rattle.gb_machine.specs.Names.{bound, named}
-use Rattle.gb_machine.specs.OwnAsking.{far_asks_all, svc_asks, svc_own}
-use Rattle.gb_machine.specs.Plugging.{boots, plugs, tells_inserted, with_plugged}
+use Rattle.gb_machine.specs.OwnAsking.{far_asks_all}
 use Rattle.gb_machine.specs.Refusals.{has_no_label, is_long_payload, module_place, refusal}
-use Rattle.gb_laws.proofs.Manifests.{short-at, short-plugged, stir-manifest}
+use Rattle.gb_laws.proofs.Manifests.{short-at, stir-manifest}
 use Rattle.gb_laws.proofs.Points.{AreShort}
 use Rattle.gb_machine.specs.Arriving.{state_takes}
 use Rattle.gb_machine.specs.HostRefusals.{link_conditions}
@@ -59,79 +116,18 @@ use Rattle.gb_machine.specs.Refusals.{longest_manifest}
 use Rattle.gb_machine.specs.Runs.{Moment}
 use Rattle.gb_machine.specs.Sending.{Draft}
 use Rattle.gb_machine.specs.Show.{lines_shown, shown}
-use Rattle.gb_machine.specs.State.{Plugged, State}
-use Rattle.gb_machine.specs.SvcQueues.{removes}
+use Rattle.gb_machine.specs.State.{State}
 use Rattle.gb_machine.specs.Turns.{HostEvent}
-use Rattle.gb_laws.proofs.StayPlugged.{module-plugs, open-takes, place-module, powered-off, same-plugs}
-
--- ---- the shape of steps that leave wires alone
+use Rattle.gb_laws.proofs.StayPlugged.{module-plugs, open-takes, place-module, same-plugs}
+use Rattle.gb_laws.proofs.SteppingPlugs.{Rests, rests-nothing, rests-▸}
 
 module _ (m : Moment) (law : Law m) where
-  -- an action that leads from rest to rest
-  abbrev pub Rests : Action → State → Type 0
-  Rests f s = Goes m (acting m law) None [] Untouched None [] Untouched f s
-
-  pub rests-▸ : (f g : Action) (s : State) → Rests f s → Rests g (f s).state → Rests (f ▸ g) s
-  rests-▸ f g s h k = goes-▸ m (acting m law) None None None [] [] [] Untouched Untouched Untouched f g s h k
-
-  pub rests-nothing : (s : State) → Rests nothing s
-  rests-nothing s = goes-nothing m (acting m law) None [] Untouched s
-
-  pub rests-when : (b : Bool) (f : Action) (s : State) → Rests f s → Rests (when b f) s
-  rests-when b f s h = goes-when m (acting m law) None [] Untouched b f s (λ e. h)
-
-  -- what the supervisory controller asks is no removal
-  abbrev pub RemovesNone : SvcAsk → Type 0
-  RemovesNone ask =
-      (i : ℕ) → removes i (read_svc_ask (svc_ask_kind ask) (svc_ask_payload ask)) ≡ true → ⊥
-
-  pub rests-svc : IsOfSvc m.event → (ask : SvcAsk) (s : State) → RemovesNone ask
-      → Rests (svc_asks ask) s
-  unfolding machine_opened
-  rests-svc of ask s none = goes-far_asks m (acting m law) [] Untouched 1 (svc_own ask) s
-      (λ c e. by_svc of refl (λ i h. absurd (none i h)))
-
-  -- ---- booting, plugging and pulling
-
-  pub rests-inserted_all : IsOfSvc m.event → (ps : List Plugged) (s : State) → Rests (each ps (λ p. tells_inserted p.intf)) s
-  unfolding machine_opened
-  rests-inserted_all of [] s = rests-nothing s
-  rests-inserted_all of (p ∷ ps) s =
-      rests-▸ (tells_inserted p.intf) (each ps (λ p. tells_inserted p.intf)) s
-      (rests-svc of (SvcAsk.ModuleInserted p.intf 1 0) s (λ j h. absurd cc)) (rests-inserted_all of ps (tells_inserted p.intf s).state)
-
-  pub rests-boots : IsOfSvc m.event → (s : State) → Rests boots s
-  unfolding machine_opened
-  rests-boots of s =
-      rests-▸ (change (λ t. record t { booted = true }) ▸ svc_asks (SvcAsk.ProtocolVersion 0 1) ▸ svc_asks (SvcAsk.Hello 1 1))
-      (each s.modules (λ p. tells_inserted p.intf)) s
-      (rests-▸ (change (λ t. record t { booted = true }) ▸ svc_asks (SvcAsk.ProtocolVersion 0 1)) (svc_asks (SvcAsk.Hello 1 1)) s
-      (rests-▸ (change (λ t. record t { booted = true })) (svc_asks (SvcAsk.ProtocolVersion 0 1)) s
-      (λ told at. law.kept _ (others true s.holds s.ports s.modules
-      (inr (of, λ i. inl refl, λ h. h, λ k i. inl i))) at)
-      (rests-svc of (SvcAsk.ProtocolVersion 0 1) _ (λ j h. absurd cc)))
-      (rests-svc of (SvcAsk.Hello 1 1) _ (λ j h. absurd cc)))
-      (rests-inserted_all of s.modules _)
-
-  pub rests-plugs : IsOfSvc m.event → (i : ℕ) (x : Module) (s : State)
-      → length x.manifest ≤ longest_manifest → Rests (plugs i x) s
-  unfolding machine_opened
-  rests-plugs of i x s fits =
-      rests-▸ (change (with_plugged i x)) (when s.booted (tells_inserted i)) s
-      (λ told at. law.kept _ (others s.booted s.holds (with_plugged i x s).ports (with_plugged i x s).modules
-      (inr (
-        of,
-        λ j. powered-off i j s.ports (i == j),
-        λ h. short-plugged i x s.modules h fits,
-        λ k n. inl n,
-      ))) at)
-      (rests-when s.booted (tells_inserted i) (with_plugged i x s) (rests-svc of (SvcAsk.ModuleInserted i 1 0) (with_plugged i x s) (λ j h. absurd cc)))
-
   -- ---- requests of lines
 
   pub rests-sends_on : (name : Name) (k kind : ℕ) (payload : List ℕ) (timeout : ℕ) (s : State)
       → IsPlain s (ap_draft k kind payload (s.now + timeout))
-      → is_none (next_label k side.Ap s.bus) ≡ false → Rests (sends_on name k kind payload timeout) s
+      → is_none (next_label k side.Ap s.bus) ≡ false
+      → Rests m law (sends_on name k kind payload timeout) s
   unfolding machine_opened
   rests-sends_on name k kind payload timeout s plain left told at =
       by (connection_of k s.bus) refl (next_label k side.Ap s.bus) refl
@@ -139,37 +135,47 @@ module _ (m : Moment) (law : Law m) where
       d : Draft
       d = ap_draft k kind payload (s.now + timeout)
 
-      by : (o : Option Connection) → connection_of k s.bus ≡ o → (l : Option ℕ) → next_label k side.Ap s.bus ≡ l
+      by : (o : Option Connection) → connection_of k s.bus ≡ o → (l : Option ℕ)
+          → next_label k side.Ap s.bus ≡ l
           → At m (acting m law) None [] Untouched
-          (told ++ (given o (λ c. given l (λ label. asks_with (ap_draft k kind payload (s.now + timeout)) c label)) (bound name (next_number s.bus) s)).entries)
-          (given o (λ c. given l (λ label. asks_with (ap_draft k kind payload (s.now + timeout)) c label)) (bound name (next_number s.bus) s)).state
-      by (Some c) e (Some label) f = law.kept _ (names name (ap_draft k kind payload (s.now + timeout)) c label refl e f (refl, plain, refl))
+          (told ++ (given o (λ c. given l
+          (λ label. asks_with (ap_draft k kind payload (s.now + timeout)) c label))
+          (bound name (next_number s.bus) s)).entries)
+          (given o (λ c. given l (λ label. asks_with (ap_draft k kind payload (s.now + timeout)) c
+          label)) (bound name (next_number s.bus) s)).state
+      by (Some c) e (Some label) f = law.kept _
+          (names name (ap_draft k kind payload (s.now + timeout)) c label refl e f
+          (refl, plain, refl))
           at
       by o e None f = absurd (not-both (is_none (next_label k side.Ap s.bus)) (ap is_none f) left)
       by None e (Some label) f =
-          absurd (not-both (is_none (next_label k side.Ap s.bus)) (ap (λ o. is_none (option_and_then (cyclic_label k side.Ap s.bus) o)) e) left)
+          absurd (not-both (is_none (next_label k side.Ap s.bus))
+          (ap (λ o. is_none (option_and_then (cyclic_label k side.Ap s.bus) o)) e) left)
 
-  pub rests-copies : (x y : Name) (s : State) → Rests (copies x y) s
+  pub rests-copies : (x y : Name) (s : State) → Rests m law (copies x y) s
   unfolding machine_opened
   rests-copies x y s = by (named x s.names) refl
     where
-      by : (o : Option ℕ) → named x s.names ≡ o → Rests (given o (λ n. change (bound y n))) s
-      by None e = rests-nothing s
+      by : (o : Option ℕ) → named x s.names ≡ o → Rests m law (given o (λ n. change (bound y n))) s
+      by None e = rests-nothing m law s
       by (Some n) e = λ told at. law.kept _ (binds x y n e) at
 
   pub rests-sends : (name : Name) (to : End) (kind : ℕ) (payload : List ℕ) (timeout : ℕ) (s : State)
-      → refusal s (event.Send name to kind payload timeout) ≡ None → Rests (sends name to kind payload timeout) s
+      → refusal s (event.Send name to kind payload timeout) ≡ None
+      → Rests m law (sends name to kind payload timeout) s
   unfolding machine_opened
   rests-sends name end.Svc kind payload timeout s allowed = λ told at.
       rests-sends_on name 1 kind payload timeout s
       (inl ((free s (event.Send name end.Svc kind payload timeout) allowed).1.0, refl))
       (free s (event.Send name end.Svc kind payload timeout) allowed).1.1.1.0 told at
-  rests-sends name (end.Ap a) kind payload timeout s allowed = λ told at. rests-nothing s told at
-  rests-sends name (end.Module i c) kind payload timeout s allowed = λ told at. by (link_at i c s.host) refl told at
+  rests-sends name (end.Ap a) kind payload timeout s allowed =
+      λ told at. rests-nothing m law s told at
+  rests-sends name (end.Module i c) kind payload timeout s allowed =
+      λ told at. by (link_at i c s.host) refl told at
     where
       by : (o : Option Link) → link_at i c s.host ≡ o
-          → Rests (given o (λ l. sends_on name l.connection kind payload timeout)) s
-      by None e = rests-nothing s
+          → Rests m law (given o (λ l. sends_on name l.connection kind payload timeout)) s
+      by None e = rests-nothing m law s
       by (Some l) e =
           let met = free s (event.Send name (end.Module i c) kind payload timeout) allowed in
           let linked = subst (λ o. AreUnmet (conditions_of (λ k.
@@ -186,7 +192,7 @@ module _ (m : Moment) (law : Law m) where
           )) linked.1.1.0
 
   pub rests-bridges : IsBridge m.event → (name : Name) (i c : ℕ) (what : BridgeAsk) (s : State)
-      → refusal s (event.Bridge name i c what) ≡ None → Rests (bridges name i c what) s
+      → refusal s (event.Bridge name i c what) ≡ None → Rests m law (bridges name i c what) s
   unfolding machine_opened
   rests-bridges of name i c what s allowed = by (link_at i c s.host) refl
     where
@@ -198,22 +204,26 @@ module _ (m : Moment) (law : Law m) where
           (at_first-back (is_link l.intf l.cport) (spent what) s.host.links l live)
 
       sent_by : (l : Link) → IsIn l s.host.links → state_takes l.state ≡ true
-          → is_none (next_label l.connection side.Ap s.bus) ≡ false → (r : Result (ℕ × List ℕ) BridgeFault)
-          → Rests (bridge_sent name l what r) s
-      sent_by l live took left (Err fault) = rests-nothing s
+          → is_none (next_label l.connection side.Ap s.bus) ≡ false
+          → (r : Result (ℕ × List ℕ) BridgeFault)
+          → Rests m law (bridge_sent name l what r) s
+      sent_by l live took left (Err fault) = rests-nothing m law s
       sent_by l live took left (Ok request) =
-          rests-▸ (on_host (with_link l.intf l.cport (spent what))) (sends_on name l.connection request.0 request.1 default_timeout) s
+          rests-▸ m law (on_host (with_link l.intf l.cport (spent what)))
+          (sends_on name l.connection request.0 request.1 default_timeout) s
           (λ told at. law.kept _ (spends l.intf l.cport what (refl, of)) at)
-          (rests-sends_on name l.connection request.0 request.1 default_timeout (record s { host = with_link l.intf l.cport (spent what) s.host })
+          (rests-sends_on name l.connection request.0 request.1 default_timeout
+          (record s { host = with_link l.intf l.cport (spent what) s.host })
           (inr (still l live l.connection refl took)) left)
 
       by : (o : Option Link) → link_at i c s.host ≡ o
-          → Rests (given o (λ l. bridge_sent name l what (bridge_answer l.protocol what))) s
-      by None e = rests-nothing s
+          → Rests m law (given o (λ l. bridge_sent name l what (bridge_answer l.protocol what))) s
+      by None e = rests-nothing m law s
       by (Some l) e =
           let met = free s (event.Bridge name i c what) allowed in
           let linked = subst (λ o. AreUnmet (conditions_of
-          (λ k. bridge_conditions k what ++ (has_no_label k.connection side.Ap s, no_label) ∷ []) o)) e met.1.1.1.1.1 in
+          (λ k. bridge_conditions k what ++ (has_no_label k.connection side.Ap s, no_label) ∷ [])
+          o)) e met.1.1.1.1.1 in
           sent_by l (found-in (is_link i c) s.host.links l e).0 (open-takes l
           (subst (λ o. AreUnmet (link_conditions o)) e
           (met.1.1.0, (met.1.1.1.0, (met.1.1.1.1.0, tt))))) linked.1.1.1.0
@@ -221,45 +231,49 @@ module _ (m : Moment) (law : Law m) where
 
   -- ---- what comes from outside
 
-  pub rests-stirs : (i c : ℕ) (stir : Stir) (s : State) → Rests (stirs i c stir) s
+  pub rests-stirs : (i c : ℕ) (stir : Stir) (s : State) → Rests m law (stirs i c stir) s
   unfolding machine_opened
   rests-stirs i c stir s = at_module (module_at i s.modules) refl
     where
-      placed : (t : Stirred Module) (w : State) (o : Option Place) → module_place i c w ≡ o → Rests (given o (λ p. far_asks_all p.connection.number t.asks)) w
-      placed t w None e = rests-nothing w
+      placed : (t : Stirred Module) (w : State) (o : Option Place) → module_place i c w ≡ o
+          → Rests m law (given o (λ p. far_asks_all p.connection.number t.asks)) w
+      placed t w None e = rests-nothing m law w
       placed t w (Some p) e = λ told at.
           goes-far_asks_all m (acting m law) [] Untouched p.connection.number t.asks w
           (place-module i c w.bus p (law.basis _ at).bus.numbers.rise e) told at
 
       stirred_by : (o : Option (Stirred Module)) → ((t : Stirred Module) → o ≡ Some t
           → AreShort s.modules → length t.after.manifest ≤ longest_manifest)
-          → Rests (given o (stirred i c)) s
-      stirred_by None short = rests-nothing s
+          → Rests m law (given o (stirred i c)) s
+      stirred_by None short = rests-nothing m law s
       stirred_by (Some t) short =
-          rests-▸ (change (λ w. record w { modules = with_module i t.after w.modules }))
-          (by_state (λ w. given (module_place i c w) (λ p. far_asks_all p.connection.number t.asks))) s
-          (λ told at. law.kept _ (others s.booted s.holds s.ports (with_module i t.after s.modules) (inl (
+          rests-▸ m law (change (λ w. record w { modules = with_module i t.after w.modules }))
+          (by_state (λ w. given (module_place i c w)
+          (λ p. far_asks_all p.connection.number t.asks))) s
+          (λ told at. law.kept _ (others s.booted s.holds s.ports (with_module i t.after s.modules)
+          (inl (
             module-plugs s i t.after (short t refl),
             as_before refl,
             record { hand = refl; pending = refl; asked = refl },
             λ k n. inl n,
           ))) at)
-          (placed t (record s { modules = with_module i t.after s.modules }) (module_place i c s) refl)
+          (placed t (record s { modules = with_module i t.after s.modules }) (module_place i c s)
+          refl)
 
       at_module : (o : Option Module) → module_at i s.modules ≡ o
-          → Rests (given o (λ x. given (module_stir x c stir) (stirred i c))) s
-      at_module None e = rests-nothing s
+          → Rests m law (given o (λ x. given (module_stir x c stir) (stirred i c))) s
+      at_module None e = rests-nothing m law s
       at_module (Some x) e = stirred_by (module_stir x c stir)
           (λ t is h. subst (λ bytes. length bytes ≤ longest_manifest)
           (sym (stir-manifest x c stir t is)) (short-at i s.modules x e h))
 
-  pub rests-holds : (i c : ℕ) (s : State) → Rests (holds i c) s
+  pub rests-holds : (i c : ℕ) (s : State) → Rests m law (holds i c) s
   unfolding machine_opened
   rests-holds i c s = by (module_place i c s) refl
     where
       by : (o : Option Place) → module_place i c s ≡ o
-          → Rests (given o (λ p. change (with_hold p.connection.number))) s
-      by None e = rests-nothing s
+          → Rests m law (given o (λ p. change (with_hold p.connection.number))) s
+      by None e = rests-nothing m law s
       by (Some p) e = λ told at. law.kept _ (others s.booted (marked p.connection.number s.holds)
           s.ports s.modules (inl (
             same-plugs s,
@@ -268,21 +282,23 @@ module _ (m : Moment) (law : Law m) where
             place-marked i c s p e,
           ))) at
 
-  pub rests-injects : (i c : ℕ) (bytes : List ℕ) (s : State) → Rests (injects i c bytes) s
+  pub rests-injects : (i c : ℕ) (bytes : List ℕ) (s : State) → Rests m law (injects i c bytes) s
   unfolding machine_opened
   rests-injects i c bytes s = by (module_place i c s) refl
     where
-      by : (o : Option Place) → module_place i c s ≡ o → Rests (given o (injects_at i c bytes)) s
-      by None e = rests-nothing s
+      by : (o : Option Place) → module_place i c s ≡ o
+          → Rests m law (given o (injects_at i c bytes)) s
+      by None e = rests-nothing m law s
       by (Some p) e = λ told at. law.kept _ (injecting i c p bytes refl e) at
 
   quiet-shown : (lines : List (List ℕ)) → AreSilent (map entry.Shown lines)
   quiet-shown [] = tt
   quiet-shown (l ∷ ls) = (refl, quiet-shown ls)
 
-  pub rests-shows : (s : State) → Rests shows s
+  pub rests-shows : (s : State) → Rests m law shows s
   unfolding machine_opened
-  rests-shows s = goes-tell_all m (acting m law) None [] Untouched (shown s) s (quiet-shown (lines_shown s))
+  rests-shows s =
+      goes-tell_all m (acting m law) None [] Untouched (shown s) s (quiet-shown (lines_shown s))
 
   -- ---- giving up
 
@@ -295,15 +311,19 @@ module _ (m : Moment) (law : Law m) where
   unanswered s n outcome.Sent r p e cause = cause
   unanswered s n (outcome.Answered result payload) r p e cause = cause
 
-  pub rests-gives_up : (n : ℕ) (how : Outcome) (s : State) → is_open n s.bus ≡ true → IsGivenUpFor m s how n → Rests (gives_up how n) s
+  pub rests-gives_up : (n : ℕ) (how : Outcome) (s : State) → is_open n s.bus ≡ true
+      → IsGivenUpFor m s how n → Rests m law (gives_up how n) s
   unfolding machine_opened
   rests-gives_up n how s unended cause =
-      rests-▸ (on_bus (gave_up n how) ▸ tell (entry.Ended n how reading.Nothing)) (follows n how) s
+      rests-▸ m law (on_bus (gave_up n how) ▸ tell (entry.Ended n how reading.Nothing))
+      (follows n how) s
       (λ told at. law.kept _ (giving_up n how refl unended cause) at)
-      (goes-notices m (acting m law) (HostEvent.Ended n how) (record s { bus = gave_up n how s.bus })
+      (goes-notices m (acting m law) (HostEvent.Ended n how)
+      (record s { bus = gave_up n how s.bus })
       (λ r p e. absurd (unanswered s n how r p e cause)) tt)
 
-  pub rests-cancels : (name : Name) → m.event ≡ event.Cancel name → refusal m.before (event.Cancel name) ≡ None → Rests (cancels name) m.before
+  pub rests-cancels : (name : Name) → m.event ≡ event.Cancel name
+      → refusal m.before (event.Cancel name) ≡ None → Rests m law (cancels name) m.before
   unfolding machine_opened
   rests-cancels name is allowed = by (named name m.before.names) refl
     where
@@ -311,13 +331,15 @@ module _ (m : Moment) (law : Law m) where
       some-made None h = absurd cc
       some-made (Some r) h = (r, refl)
 
-      by : (o : Option ℕ) → named name m.before.names ≡ o → Rests (given o (gives_up outcome.Cancelled)) m.before
-      by None e = rests-nothing m.before
+      by : (o : Option ℕ) → named name m.before.names ≡ o
+          → Rests m law (given o (gives_up outcome.Cancelled)) m.before
+      by None e = rests-nothing m law m.before
       by (Some n) e = λ told at.
           let met = free m.before (event.Cancel name) allowed in
           let unended : is_some (outcome_of n m.before.bus) ≡ false =
           sym (ap (holds_of (λ k. is_some (outcome_of k m.before.bus))) e) ∙ met.1.0 in
-          let made = some-made (request_of n m.before.bus) (made-named name m.before.names n m.before.bus (law.basis _ at).names e) in
+          let made = some-made (request_of n m.before.bus)
+          (made-named name m.before.names n m.before.bus (law.basis _ at).names e) in
           rests-gives_up n outcome.Cancelled m.before
           (is-open n m.before.bus made.0 made.1 (none-of (outcome_of n m.before.bus) unended))
           (record { name = name; event = is; named = e }) told at

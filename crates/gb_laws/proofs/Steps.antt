@@ -21,21 +21,21 @@ use Rattle.gb_formats.specs.Module.{module_of_kind, module_raw}
 use Rattle.gb_laws.proofs.Acting.{goes-notices}
 use Rattle.gb_laws.proofs.Delivering.{ends-answers, ends-delivers}
 use Rattle.gb_laws.proofs.Going.{At}
-use Rattle.gb_laws.proofs.Points.{IsBridge, IsOfSvc, Law, acting, frees, tells}
+use Rattle.gb_laws.proofs.ActLaws.{acting}
+use Rattle.gb_laws.proofs.Points.{IsBridge, IsOfSvc, Law, frees, tells}
 use Rattle.gb_laws.proofs.PointParts.{Untouched, Wires, resting}
-use Rattle.gb_laws.proofs.Serving.{Ends, ends-going}
+use Rattle.gb_laws.proofs.ServingSvc.{Ends, ends-going}
 use Rattle.gb_laws.proofs.Stepping.{
-  rests-boots,
   rests-bridges,
   rests-cancels,
   rests-copies,
   rests-holds,
   rests-injects,
-  rests-plugs,
   rests-sends,
   rests-shows,
   rests-stirs,
 }
+use Rattle.gb_laws.proofs.SteppingPlugs.{rests-boots, rests-plugs}
 use Rattle.gb_laws.proofs.Ticking.{ends-pulls, rests-ticks}
 use Rattle.gb_laws.proofs.Manifests.{kind-short, raw-short}
 use Rattle.gb_machine.proofs.Opened.{machine_opened}

@@ -42,19 +42,12 @@ use Rattle.gb_invariants.proofs.Lists.{two-filter, in-without}
 use Rattle.gb_invariants.proofs.Outcomes.{Rise, both-true, open_requests-rise, same-number}
 use Rattle.gb_invariants.specs.Facts.{IsBefore}
 use Rattle.gb_laws.proofs.Going.{At, goes-far_asks, goes-when}
-use Rattle.gb_laws.proofs.Points.{
-  IsOfSvc,
-  by_svc,
-  IsLive,
-  Law,
-  acting,
-  others,
-  passes,
-  unwires as unwiring,
-}
+use Rattle.gb_laws.proofs.ActLaws.{acting}
+use Rattle.gb_laws.proofs.Points.{IsOfSvc, by_svc, IsLive, Law, others, passes, unwires as unwiring}
 use Rattle.gb_laws.proofs.PointParts.{Untouched, Unwired, Wired, Wires}
-use Rattle.gb_laws.proofs.Serving.{Ends}
-use Rattle.gb_laws.proofs.Stepping.{Rests, rests-gives_up, rests-nothing, rests-▸}
+use Rattle.gb_laws.proofs.ServingSvc.{Ends}
+use Rattle.gb_laws.proofs.Stepping.{rests-gives_up}
+use Rattle.gb_laws.proofs.SteppingPlugs.{Rests, rests-nothing, rests-▸}
 use Rattle.gb_machine.specs.Modules.{is_plugged_at}
 use Rattle.gb_machine.proofs.Opened.{machine_opened}
 use Rattle.gb_machine.specs.Actions.{Action, change, each, when, ◌▸◌}
