@@ -1,5 +1,7 @@
 pub mod Climbs
 pub mod Ladders
+pub mod Lines
 pub mod Others
+pub mod Places
 pub mod Ports
 pub mod Slots

@@ -1,3 +1,6 @@
 pub mod Climbing
 pub mod Levels
+pub mod Lines
+pub mod Places
+pub mod Queues
 pub mod Stands

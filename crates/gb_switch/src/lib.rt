@@ -1,11 +1,16 @@
-//! The switch between the application processor and the modules: the power sequence of interfaces.
+//! The switch between the application processor and the modules: the power sequence of interfaces,
+//! and what waits at each end.
 #![tactic(auto)]
 
 mod ladder;
+mod place;
 mod port;
+mod queues;
 mod rung;
 #[cfg(test)]
 mod tests;
 
 pub use ladder::Ladder;
+pub use place::Place;
+pub use queues::Queues;
 pub use rung::{NotReady, NotRouted, Rung};

@@ -1,6 +1,8 @@
-//! Rows of the power sequence. The expected values are those of its table.
+//! Rows of the power sequence, whose expected values are those of its table, and of queues.
 
-use crate::{Ladder, NotReady, NotRouted, Rung};
+use crate::{Ladder, NotReady, NotRouted, Queues, Rung};
+use gb_base::End;
+use std::alloc::Global;
 use std::process::Abort;
 
 const DONE: Result<(), NotReady> = Ok(());
@@ -118,4 +120,55 @@ fn nothing_is_plugged_elsewhere(rt: HostRuntime) {
         assert_eq!(rt; ladder.unroute(intf), Err(NotRouted), "at {intf}");
         assert!(rt; !ladder.routed(intf), "at {intf}");
     }
+}
+
+/// CPort 1 of interface 2.
+const NEAR: End = End::Module { intf: 2, cport: 1 };
+
+/// CPort 1 of interface 3.
+const FAR: End = End::Module { intf: 3, cport: 1 };
+
+/// The queues of three connections, in which nothing waits.
+fn three_connections(rt: &impl Abort, alloc: Global) -> Queues<u8> {
+    let mut queues = Queues::new(alloc);
+    queues.create(End::Ap(0), End::Svc).expect(rt, "memory");
+    queues.create(End::Ap(7), FAR).expect(rt, "memory");
+    queues.create(End::Ap(300), NEAR).expect(rt, "memory");
+    queues
+}
+
+/// An item comes to each of these ends.
+fn fill(rt: &impl Abort, queues: &mut Queues<u8>, ends: &[End]) {
+    for at in ends.iter() {
+        queues.push(*at, 5).expect(rt, "memory");
+    }
+}
+
+/// These are the ends where an item waits, in order, and each has no more than that.
+fn empties(rt: &impl Abort, queues: &mut Queues<u8>, order: &[End]) {
+    for at in order.iter() {
+        assert_eq!(rt; queues.first(), Some(*at));
+        assert_eq!(rt; queues.len(*at), Some(1));
+        assert_eq!(rt; queues.pop(*at), Some(5));
+    }
+    assert_eq!(rt; queues.first(), None);
+}
+
+#[test]
+fn ends_are_settled_in_order(rt: HostRuntime) {
+    let mut queues = three_connections(&rt, rt.alloc());
+    let ends = [FAR, End::Ap(300), NEAR, End::Ap(7), End::Svc, End::Ap(0)];
+    fill(&rt, &mut queues, &ends);
+    let order = [End::Svc, End::Ap(0), End::Ap(7), End::Ap(300), NEAR, FAR];
+    empties(&rt, &mut queues, &order);
+}
+
+#[test]
+fn a_queue_is_gone_with_its_items(rt: HostRuntime) {
+    let mut queues = three_connections(&rt, rt.alloc());
+    fill(&rt, &mut queues, &[NEAR, NEAR, FAR]);
+    queues.destroy(End::Ap(300), NEAR);
+    assert_eq!(rt; queues.len(NEAR), None);
+    assert_eq!(rt; queues.pop(NEAR), None);
+    empties(&rt, &mut queues, &[FAR]);
 }

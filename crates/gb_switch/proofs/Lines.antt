@@ -1,0 +1,263 @@
+-- What the maps of queues come to at each call.
+use Rattle.std.proofs.Common.{◌≡◌, ◌≢◌, Bool, true, false, cond, ◌⊎◌, inl, inr, Option, Some, None, option_map, is_some, List, [], ◌∷◌, ◌++◌, length, Result, Ok, Err, OnErr, OnOk, refl, sym, ap, ◌∙◌, ⊎_elim, ◌<◌, arith}
+use Rattle.std.proofs.lemmas.Bool.{true≢false}
+use Rattle.std.specs.BTreeMap.{BTreeMap, get, is_at}
+use Rattle.std.specs.BTreeSet.{BTreeSet, IsLowerBound, btree_set_len, contains}
+use Rattle.std.specs.List.{list_any}
+use Rattle.std.specs.Map.{lookup}
+use Rattle.std.specs.Ordering.{is_eq, is_gt}
+use Rattle.std.specs.declared.collections.VecDeque.{VecDeque}
+use Rattle.gb_base.specs.declared.end.End.{End}
+use Rattle.gb_machine.specs.Waiting.{end_before}
+use Rattle.gb_switch.proofs.Places.{end-place, place-end, place-other, place-own, place-same, places-apart, settled-before}
+use Rattle.gb_switch.specs.Lines.{Agrees, by_place, has_items, line_in, lines_of}
+use Rattle.gb_switch.specs.Places.{end_of, place_of}
+use Rattle.gb_switch.specs.Queues.{Appends, Creates, Destroys, IsFirst, Puts, StaysSame, TakesAs, items_at}
+use Rattle.gb_switch.specs.declared.place.Place.{Place}
+
+-- what contracts see at an end is what the map has at its place
+lookup-lines : {T Z : Type 0} (test : Place → Bool) (es : List (Place × VecDeque T Z))
+    → lookup test (lines_of es) ≡ option_map (λ q. q.items) (lookup test es)
+lookup-lines test [] = refl
+lookup-lines {T} {Z} test (e ∷ es) = by (lookup-lines test es) (test e.0)
+  where
+    by : lookup test (lines_of es) ≡ option_map (λ q. q.items) (lookup test es)
+        → (b : Bool) → cond b (Some e.1.items) (lookup test (lines_of es))
+        ≡ option_map (λ (q : VecDeque T Z). q.items) (cond b (Some e.1) (lookup test es))
+    by later true = refl
+    by later false = later
+
+pub items-line : {T Z : Type 0} (x : List (Place × List T)) (m : BTreeMap Place (VecDeque T Z))
+    → lines_of m.entries ≡ x → (at : End) → items_at x at ≡ line_in m (place_of at)
+items-line x m is at =
+    ap (λ es. lookup (is_at (by_place (place_of at))) es) (sym is)
+    ∙ lookup-lines (is_at (by_place (place_of at))) m.entries
+
+-- what an ordered map has after a change at one place
+abbrev pub Updated : {X : Type 0} → BTreeMap Place X → BTreeMap Place X → Place → Option X → Type 0
+Updated m n k w = (q : Place) → get by_place n q ≡ cond (is_at (by_place k) q) w (get by_place m q)
+
+pub updated-here : {T Z : Type 0} (m n : BTreeMap Place (VecDeque T Z)) (k : Place)
+    (w : Option (VecDeque T Z)) → Updated m n k w → line_in n k ≡ option_map (λ q. q.items) w
+updated-here m n k w u =
+    ap (option_map (λ q. q.items)) (u k ∙ ap (λ t. cond t w (get by_place m k)) (place-own k))
+
+pub updated-others : {T Z : Type 0} (m n : BTreeMap Place (VecDeque T Z)) (k : Place)
+    (w : Option (VecDeque T Z)) → Updated m n k w → (q : Place) → q ≢ k → line_in n q ≡ line_in m q
+updated-others m n k w u q ne =
+    ap (option_map (λ q. q.items))
+    (u q ∙ ap (λ t. cond t w (get by_place m q)) (place-other k q (λ e. ne (sym e))))
+
+-- the same from a map with the same entries
+pub updated-from : {X : Type 0} (m n o : BTreeMap Place X) (k : Place) (w : Option X)
+    → n.entries ≡ m.entries → Updated n o k w → Updated m o k w
+updated-from m n o k w same u q =
+    u q ∙ ap (λ es. cond (is_at (by_place k) q) w (lookup (is_at (by_place q)) es)) same
+
+-- a place is the one that was changed, or another
+pub is-place : (p q : Place) → (p ≡ q) ⊎ (p ≢ q)
+is-place p q = by (is_eq (by_place p q)) refl
+  where
+    by : (b : Bool) → is_eq (by_place p q) ≡ b → (p ≡ q) ⊎ (p ≢ q)
+    by true e = inl (place-same p q e)
+    by false e = inr (λ same. true≢false (sym (place-own p) ∙ ap (λ r. is_eq (by_place p r)) same ∙ e))
+
+pub is-end : (a b : End) → (a ≡ b) ⊎ (a ≢ b)
+is-end a b =
+    ⊎_elim (λ e. inl (sym (end-place a) ∙ ap end_of e ∙ end-place b))
+    (λ ne. inr (λ e. ne (ap place_of e)))
+    (is-place (place_of a) (place_of b))
+
+-- nothing waits at a place where nothing waited, after a change to nothing
+pub idle-after : {T Z : Type 0} (m n : BTreeMap Place (VecDeque T Z)) (k : Place)
+    (w : Option (VecDeque T Z)) → Updated m n k w → has_items (option_map (λ q. q.items) w) ≡ false
+    → (q : Place) → has_items (line_in m q) ≡ false → has_items (line_in n q) ≡ false
+idle-after m n k w u none q before =
+    ⊎_elim
+    (λ e. ap (λ p. has_items (line_in n p)) e ∙ ap has_items (updated-here m n k w u) ∙ none)
+    (λ ne. ap has_items (updated-others m n k w u q ne) ∙ before)
+    (is-place q k)
+
+pub agrees-idle : {T Z : Type 0} (m n : BTreeMap Place (VecDeque T Z)) (waiting : BTreeSet Place)
+    (k : Place) (w : Option (VecDeque T Z)) → Updated m n k w
+    → has_items (option_map (λ q. q.items) w) ≡ false → has_items (line_in m k) ≡ false
+    → Agrees m waiting → Agrees n waiting
+agrees-idle m n waiting k w u none before a p =
+    a p ∙ ⊎_elim
+    (λ e.
+    ap (λ q. has_items (line_in m q)) e ∙ before ∙ sym none
+    ∙ sym (ap has_items (updated-here m n k w u)) ∙ sym (ap (λ q. has_items (line_in n q)) e))
+    (λ ne. sym (ap has_items (updated-others m n k w u p ne)))
+    (is-place p k)
+
+-- no queue is there where a map has none
+pub no-line : {T Z : Type 0} (m : BTreeMap Place (VecDeque T Z)) (k : Place) (b : Bool)
+    → b ≡ is_some (get by_place m k) → b ≡ false → line_in m k ≡ None
+no-line {T} {Z} m k b there none = by (get by_place m k) (sym there ∙ none)
+  where
+    by : (o : Option (VecDeque T Z)) → is_some o ≡ false → option_map (λ q. q.items) o ≡ None
+    by None e = refl
+    by (Some q) e = absurd (true≢false e)
+
+-- ---- two queues are made
+
+pub creates : {T Z : Type 0} (x y : List (Place × List T)) (m n o : BTreeMap Place (VecDeque T Z))
+    (a b : End) (p q : Place) (v w : VecDeque T Z)
+    → lines_of m.entries ≡ x → lines_of o.entries ≡ y → p ≡ place_of a → q ≡ place_of b
+    → line_in m p ≡ None → line_in m q ≡ None
+    → Updated m n p (Some v) → Updated n o q (Some w) → v.items ≡ [] → w.items ≡ []
+    → Creates x y a b
+creates x y m n o a b p q v w is-x is-y is-p is-q none-p none-q u t empty-v empty-w = record {
+  free_a = items-line x m is-x a ∙ ap (line_in m) (sym is-p) ∙ none-p;
+  free_b = items-line x m is-x b ∙ ap (line_in m) (sym is-q) ∙ none-q;
+  at_a = items-line y o is-y a ∙ ap (line_in o) (sym is-p) ∙ at_p (is-place p q);
+  at_b = items-line y o is-y b ∙ ap (line_in o) (sym is-q) ∙ at_q;
+  others = λ at ne_a ne_b.
+      items-line y o is-y at
+      ∙ updated-others n o q (Some w) t (place_of at)
+      (λ e. places-apart at b ne_b (e ∙ is-q))
+      ∙ updated-others m n p (Some v) u (place_of at) (λ e. places-apart at a ne_a (e ∙ is-p))
+      ∙ sym (items-line x m is-x at);
+}
+  where
+    at_q : line_in o q ≡ Some []
+    at_q = updated-here n o q (Some w) t ∙ ap Some empty-w
+
+    at_p : (p ≡ q) ⊎ (p ≢ q) → line_in o p ≡ Some []
+    at_p (inl e) = ap (line_in o) e ∙ at_q
+    at_p (inr ne) =
+        updated-others n o q (Some w) t p ne ∙ updated-here m n p (Some v) u ∙ ap Some empty-v
+
+pub creates-agrees : {T Z : Type 0} (m n o : BTreeMap Place (VecDeque T Z))
+    (waiting : BTreeSet Place) (p q : Place) (v w : VecDeque T Z)
+    → line_in m p ≡ None → line_in m q ≡ None
+    → Updated m n p (Some v) → Updated n o q (Some w) → v.items ≡ [] → w.items ≡ []
+    → Agrees m waiting → Agrees o waiting
+creates-agrees m n o waiting p q v w none-p none-q u t empty-v empty-w a =
+    agrees-idle n o waiting q (Some w) t (ap (λ l. has_items (Some l)) empty-w)
+    (idle-after m n p (Some v) u (ap (λ l. has_items (Some l)) empty-v) q (ap has_items none-q))
+    (agrees-idle m n waiting p (Some v) u (ap (λ l. has_items (Some l)) empty-v)
+    (ap has_items none-p) a)
+
+-- a queue was made and taken away
+pub restored : {T Z : Type 0} (m n o : BTreeMap Place (VecDeque T Z)) (p : Place)
+    (v : VecDeque T Z) → line_in m p ≡ None → Updated m n p (Some v) → Updated n o p None
+    → (q : Place) → line_in o q ≡ line_in m q
+restored m n o p v none u t q =
+    ⊎_elim
+    (λ e. ap (line_in o) e ∙ updated-here n o p None t ∙ sym none ∙ sym (ap (line_in m) e))
+    (λ ne. updated-others n o p None t q ne ∙ updated-others m n p (Some v) u q ne)
+    (is-place q p)
+
+-- ---- from places to ends
+
+pub stays : {T Z : Type 0} (x y : List (Place × List T)) (m n : BTreeMap Place (VecDeque T Z))
+    → lines_of m.entries ≡ x → lines_of n.entries ≡ y
+    → ((p : Place) → line_in n p ≡ line_in m p) → StaysSame x y
+stays x y m n is-x is-y same at =
+    items-line y n is-y at ∙ same (place_of at) ∙ sym (items-line x m is-x at)
+
+pub puts : {T Z : Type 0} (x y : List (Place × List T)) (m n : BTreeMap Place (VecDeque T Z))
+    (at : End) (p : Place) (v : Option (List T))
+    → lines_of m.entries ≡ x → lines_of n.entries ≡ y → p ≡ place_of at
+    → Puts (line_in m) (line_in n) p v → Puts (items_at x) (items_at y) at v
+puts x y m n at p v is-x is-y is-p w = record {
+  here = items-line y n is-y at ∙ ap (line_in n) (sym is-p) ∙ w.here;
+  others = λ other ne.
+      items-line y n is-y other
+      ∙ w.others (place_of other) (λ e. places-apart other at ne (e ∙ is-p))
+      ∙ sym (items-line x m is-x other);
+}
+
+pub removes : {T Z : Type 0} (x y : List (Place × List T)) (m n : BTreeMap Place (VecDeque T Z))
+    (at : End) (p : Place) → lines_of m.entries ≡ x → lines_of n.entries ≡ y → p ≡ place_of at
+    → Updated m n p None → Puts (items_at x) (items_at y) at None
+removes x y m n at p is-x is-y is-p u =
+    puts x y m n at p None is-x is-y is-p
+    (record { here = updated-here m n p None u; others = updated-others m n p None u })
+
+pub destroys : {T : Type 0} (x y z : List (Place × List T)) (a b : End)
+    → Puts (items_at x) (items_at y) a None → Puts (items_at y) (items_at z) b None
+    → Destroys x z a b
+destroys x y z a b u t = record {
+  at_a = ⊎_elim (λ e. ap (items_at z) e ∙ t.here) (λ ne. t.others a ne ∙ u.here) (is-end a b);
+  at_b = t.here;
+  others = λ at ne_a ne_b. t.others at ne_b ∙ u.others at ne_a;
+}
+
+pub appends : {T Z : Type 0} (x y : List (Place × List T)) (m n : BTreeMap Place (VecDeque T Z))
+    (at : End) (p : Place) (item : T)
+    → lines_of m.entries ≡ x → lines_of n.entries ≡ y → p ≡ place_of at
+    → Appends (line_in m) (line_in n) p item → Appends (items_at x) (items_at y) at item
+appends x y m n at p item is-x is-y is-p w = record {
+  before = w.before;
+  was = items-line x m is-x at ∙ ap (line_in m) (sym is-p) ∙ w.was;
+  puts = puts x y m n at p (Some (w.before ++ item ∷ [])) is-x is-y is-p w.puts;
+}
+
+pub appends-as : {T Z E : Type 0} (x y : List (Place × List T))
+    (m n : BTreeMap Place (VecDeque T Z)) (at : End) (p : Place) (item : T) (r : Result Unit E)
+    → lines_of m.entries ≡ x → lines_of n.entries ≡ y → p ≡ place_of at
+    → OnOk r (Appends (line_in m) (line_in n) p item)
+    → OnOk r (Appends (items_at x) (items_at y) at item)
+appends-as x y m n at p item (Ok u) is-x is-y is-p w = appends x y m n at p item is-x is-y is-p w
+appends-as x y m n at p item (Err e) is-x is-y is-p w = tt
+
+pub stays-as : {T Z E : Type 0} (x y : List (Place × List T))
+    (m n : BTreeMap Place (VecDeque T Z)) (r : Result Unit E)
+    → lines_of m.entries ≡ x → lines_of n.entries ≡ y
+    → OnErr r ((p : Place) → line_in n p ≡ line_in m p) → OnErr r (StaysSame x y)
+stays-as x y m n (Ok u) is-x is-y same = tt
+stays-as x y m n (Err e) is-x is-y same = stays x y m n is-x is-y same
+
+pub takes-as : {T Z : Type 0} (x y : List (Place × List T)) (m n : BTreeMap Place (VecDeque T Z))
+    (at : End) (p : Place) (r : Option T)
+    → lines_of m.entries ≡ x → lines_of n.entries ≡ y → p ≡ place_of at
+    → TakesAs (line_in m) (line_in n) p r → TakesAs (items_at x) (items_at y) at r
+takes-as x y m n at p None is-x is-y is-p w = (
+  ap has_items (items-line x m is-x at ∙ ap (line_in m) (sym is-p)) ∙ w.0,
+  λ other. stays x y m n is-x is-y w.1 other,
+)
+takes-as x y m n at p (Some item) is-x is-y is-p w = record {
+  behind = w.behind;
+  was = items-line x m is-x at ∙ ap (line_in m) (sym is-p) ∙ w.was;
+  puts = puts x y m n at p (Some w.behind) is-x is-y is-p w.puts;
+}
+
+-- ---- the first end where an item waits
+
+empty-keys : (ks : List Place) (test : Place → Bool) → (0 < length ks → ⊥)
+    → list_any test ks ≡ false
+empty-keys [] test h = refl
+empty-keys (k ∷ ks) test h = absurd (h (omega arith))
+
+pub finds-none : {T Z : Type 0} (x : List (Place × List T)) (m : BTreeMap Place (VecDeque T Z))
+    (waiting : BTreeSet Place) → lines_of m.entries ≡ x → Agrees m waiting
+    → (0 < btree_set_len waiting → ⊥) → (at : End) → has_items (items_at x at) ≡ false
+finds-none x m waiting is-x a empty at =
+    ap has_items (items-line x m is-x at) ∙ sym (a (place_of at))
+    ∙ empty-keys waiting.keys (is_at (by_place (place_of at))) empty
+
+pub finds : {T Z : Type 0} (x : List (Place × List T)) (m : BTreeMap Place (VecDeque T Z))
+    (waiting : BTreeSet Place) (k : Place) (at : End) → lines_of m.entries ≡ x → Agrees m waiting
+    → at ≡ end_of k → contains by_place waiting k ≡ true → IsLowerBound by_place waiting k
+    → IsFirst (items_at x) at
+finds x m waiting k at is-x a is there least = record {
+  waits = queue-of at ∙ ap (λ p. has_items (line_in m p)) is-k ∙ sym (a k) ∙ there;
+  before = λ other earlier. by other earlier (has_items (items_at x other)) refl;
+}
+  where
+    queue-of : (e : End) → has_items (items_at x e) ≡ has_items (line_in m (place_of e))
+    queue-of e = ap has_items (items-line x m is-x e)
+
+    is-k : place_of at ≡ k
+    is-k = ap place_of is ∙ place-end k
+
+    by : (other : End) → end_before other at ≡ true → (b : Bool)
+        → has_items (items_at x other) ≡ b → has_items (items_at x other) ≡ false
+    by other earlier false e = e
+    by other earlier true e =
+        absurd (true≢false
+        (sym (ap (λ p. is_gt (by_place p (place_of other))) (sym is-k)
+        ∙ settled-before other at earlier)
+        ∙ least (place_of other) (a (place_of other) ∙ sym (queue-of other) ∙ e)))

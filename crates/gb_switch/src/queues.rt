@@ -1,0 +1,178 @@
+//! What waits at each end.
+
+ghost use Rattle.std.specs.Prelude.{◌≡◌, ◌≢◌, Option, Some, None, [], ◌∷◌, IfErr, OnErr, OnOk, not, length, option_and_then, option_map};
+ghost use Rattle.gb_switch.specs.declared.place.Place.{Place};
+ghost use Rattle.gb_switch.specs.Queues.{
+  Appends,
+  Creates,
+  Destroys,
+  FindsFirst,
+  Puts,
+  StaysSame,
+  TakesAs,
+  items_at,
+};
+ghost use Rattle.gb_switch.specs.Lines.{has_items, line_in};
+
+use crate::Place;
+use gb_base::{End, OutOfMemory};
+use std::alloc::Global;
+use std::collections::{BTreeMap, BTreeSet, VecDeque};
+use std::marker::Model;
+
+/// One list of items for each end that has a queue.
+#[derive(Drop)]
+pub struct Queues<T> {
+    alloc: Global,
+    /// The queues, in the order in which they are settled.
+    queues: BTreeMap<Place, VecDeque<T>>,
+    /// Those that aren't empty.
+    waiting: BTreeSet<Place>,
+}
+
+impl<T> Model for Queues<T> {
+    ghost use Rattle.std.specs.Prelude.{List};
+    ghost use Rattle.gb_switch.specs.declared.place.Place.{Place};
+
+    ghost Value = { List (Place × List T) };
+
+    ghost use Rattle.gb_switch.specs.Lines.{Agrees, lines_of};
+
+    ghost view = { λ q. lines_of q.queues.entries };
+
+    ghost invariant = { λ q. Agrees q.queues q.waiting };
+}
+
+impl<T: Drop> Queues<T> {
+    /// No end has a queue.
+    pub fn new(alloc: Global) -> Queues<T>
+        ensures { result ≡ [] }
+    {
+        Queues {
+            alloc,
+            queues: BTreeMap::new(alloc),
+            waiting: BTreeSet::new(alloc),
+        }
+    }
+
+    /// Two ends have an empty queue each from now on. After want of memory, which also comes where
+    /// one of them has a queue, all is as before.
+    pub fn create(&mut self, a: End, b: End) -> Result<(), OutOfMemory>
+        ensures created { OnOk result (Creates self.old self.new a b) }
+        ensures unchanged { OnErr result (StaysSame self.old self.new) }
+    {
+        let (one, other) = (Place::of(a), Place::of(b));
+        if self.queues.contains_key(&one) || self.queues.contains_key(&other) {
+            return Err(OutOfMemory);
+        }
+        self.queues.insert(one, VecDeque::new(self.alloc))?;
+        match self.queues.insert(other, VecDeque::new(self.alloc)) {
+            Ok(_) => Ok(()),
+            Err(_) => {
+                self.queues.remove(&one);
+                Err(OutOfMemory)
+            }
+        }
+    }
+
+    /// Two ends have no queue any more. What waited there is lost.
+    pub fn destroy(&mut self, a: End, b: End)
+        ensures { Destroys self.old self.new a b }
+    {
+        self.remove(a);
+        self.remove(b);
+    }
+
+    /// An end has no queue any more. What waited there is lost.
+    fn remove(&mut self, at: End)
+        ensures { Puts (items_at self.old) (items_at self.new) at None }
+    {
+        let place = Place::of(at);
+        self.queues.remove(&place);
+        self.waiting.remove(&place);
+    }
+
+    /// Adds an item at the end of an end's queue. For want of memory, and where the end has no
+    /// queue, the item is handed back, and all is as before.
+    pub fn push(&mut self, at: End, item: T) -> Result<(), T>
+        ensures pushed { OnOk result (Appends (items_at self.old) (items_at self.new) at item) }
+        ensures back { IfErr result (λ x. x ≡ item) }
+        ensures unchanged { OnErr result (StaysSame self.old self.new) }
+    {
+        let place = Place::of(at);
+        if self.waiting.insert(place).is_err() {
+            return Err(item);
+        }
+        let pushed = append(&mut self.queues, place, item);
+        if is_idle(&self.queues, place) {
+            self.waiting.remove(&place);
+        }
+        pushed
+    }
+
+    /// Takes the front item of an end's queue. None comes where there is none.
+    pub fn pop(&mut self, at: End) -> Option<T>
+        ensures { TakesAs (items_at self.old) (items_at self.new) at result }
+    {
+        let place = Place::of(at);
+        let front = take_front(&mut self.queues, place);
+        if is_idle(&self.queues, place) {
+            self.waiting.remove(&place);
+        }
+        front
+    }
+
+    /// How many items wait in an end's queue. None comes where it has no queue.
+    pub fn len(&self, at: End) -> Option<u64>
+        ensures { result ≡ option_map length (items_at self.now at) }
+    {
+        let queue = self.queues.get(&Place::of(at))?;
+        Some(queue.len() as u64)
+    }
+
+    /// The first end, in the order in which queues are settled, where an item waits.
+    pub fn first(&self) -> Option<End>
+        ensures { FindsFirst (items_at self.now) result }
+    {
+        let place = self.waiting.first()?;
+        Some(place.end())
+    }
+}
+
+/// Adds an item at the end of the queue at a place. For want of memory, and where there is no
+/// queue, the item is handed back, and all is as before.
+fn append<T: Drop>(
+    queues: &mut BTreeMap<Place, VecDeque<T>>,
+    place: Place,
+    item: T,
+) -> Result<(), T>
+    ensures pushed { OnOk result (Appends (line_in queues.old) (line_in queues.new) place item) }
+    ensures back { IfErr result (λ x. x ≡ item) }
+    ensures unchanged { OnErr result
+        ((p : Place) → line_in queues.new p ≡ line_in queues.old p) }
+{
+    let Some(queue) = queues.get_mut(&place) else {
+        return Err(item);
+    };
+    match queue.push_back(item) {
+        Ok(()) => Ok(()),
+        Err(refused) => Err(refused.value),
+    }
+}
+
+/// Takes the front item of the queue at a place.
+fn take_front<T: Drop>(queues: &mut BTreeMap<Place, VecDeque<T>>, place: Place) -> Option<T>
+    ensures { TakesAs (line_in queues.old) (line_in queues.new) place result }
+{
+    queues.get_mut(&place)?.pop_front()
+}
+
+/// No item is in the queue at a place.
+fn is_idle<T>(queues: &BTreeMap<Place, VecDeque<T>>, place: Place) -> bool
+    ensures { result ≡ not (has_items (line_in queues.now place)) }
+{
+    match queues.get(&place) {
+        Some(queue) => queue.is_empty(),
+        None => true,
+    }
+}
