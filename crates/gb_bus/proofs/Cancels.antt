@@ -11,18 +11,15 @@ use Rattle.gb_bus.proofs.Standing.{stays-for}
 use Rattle.gb_bus.specs.Cancelling.{GivesUp}
 use Rattle.gb_bus.specs.Parts.{ops_of}
 use Rattle.gb_bus.specs.Sides.{GivesUpIn, GivesUpWhere}
-use Rattle.gb_bus.specs.Slots.{at_number, open_place, with_outcome}
-use Rattle.gb_bus.specs.Stands.{KeepSides, StandForAll, Stands, pending_by, pending_of}
+use Rattle.gb_bus.specs.Slots.{Kept, MovesAt, ended_at, gives_up_so, open_place, slot_at}
+use Rattle.gb_bus.specs.Stands.{Around, KeepSides, StandForAll, Stands, pending_by, pending_of}
 use Rattle.gb_bus.specs.declared.bus.Bus.{Bus}
-use Rattle.gb_bus.specs.declared.connection.Connection.{Connection}
-use Rattle.gb_bus.specs.declared.slots.Slot.{Slot}
+use Rattle.gb_bus.specs.Connection.{Connection}
 use Rattle.gb_invariants.proofs.Awaiting.{same-some}
 use Rattle.gb_invariants.proofs.Changes.{gave_up-keeps}
 use Rattle.gb_invariants.proofs.Outcomes.{is-same}
-use Rattle.gb_invariants.specs.Facts.{Loose}
 use Rattle.gb_machine.specs.Bus as machine
 use Rattle.gb_machine.specs.Bus.{Request, is_open, request_of}
-use Rattle.gb_machine.specs.Lists.{nth}
 use Rattle.gb_machine.specs.Requests.{gave_up, is_of, same_side}
 
 -- a request is of its own connection and side
@@ -51,11 +48,11 @@ record After (xs : List Connection) (b : machine.Bus) (n : ℕ) (how : Outcome) 
   stand : StandForAll b.requests xs b.connections
   sides : KeepSides xs (gave_up n how b)
 
-after : (loose : List Loose) (x : Bus) (b : machine.Bus) (cs : List Connection) (n : ℕ)
+after : (around : Around) (x : Bus) (b : machine.Bus) (cs : List Connection) (n : ℕ)
     (how : Outcome) (r : Request)
-    → Stands loose x b → request_of n b ≡ Some r → is_open n b ≡ true
+    → Stands around x b → request_of n b ≡ Some r → is_open n b ≡ true
     → GivesUpIn x.connections cs r.connection r.side n → After cs b n how
-after loose x b cs n how r s made unended (inl d) = by d.did
+after around x b cs n how r s made unended (inl d) = by d.did
   where
     stand : StandForAll b.requests cs b.connections
     stand = subst (λ (ys : List Connection). StandForAll b.requests ys b.connections) (sym d.rest)
@@ -65,7 +62,7 @@ after loose x b cs n how r s made unended (inl d) = by d.did
     by : GivesUpWhere (ops_of r.side d.connection) d.after n → After cs b n how
     by (inl g) = record {
       stand = stand;
-      sides = sides-gave_up loose x.connections cs b r.connection r.side n how
+      sides = sides-gave_up around.items x.connections cs b r.connection r.side n how
           s.shows.connections s.facts.fits (record {
             connection = d.connection;
             after = d.after;
@@ -79,7 +76,7 @@ after loose x b cs n how r s made unended (inl d) = by d.did
         s.shows.connections d.found in
         let keeps = s.shows.sides r.connection r.side d.connection t.connection d.found t.live in
         absurd (is-pending b n r made unended (sym (keeps.pending n) ∙ g.0))
-after loose x b cs n how r s made unended (inr e) = record {
+after around x b cs n how r s made unended (inr e) = record {
   stand = subst (λ (ys : List Connection). StandForAll b.requests ys b.connections) (sym e.1)
       s.shows.connections;
   sides = subst (λ (ys : List Connection). KeepSides ys (gave_up n how b)) (sym e.1)
@@ -87,17 +84,18 @@ after loose x b cs n how r s made unended (inr e) = record {
 }
 
 -- an open request is given up
-pub gives_up : (loose : List Loose) (x : Bus) (b : machine.Bus) (n : ℕ) (how : Outcome) (k : ℕ)
-    (at : Side) (cs : List Connection) (slots : List Slot)
-    → Stands loose x b → open_place (nth n x.slots) ≡ Some (k, at)
-    → GivesUpIn x.connections cs k at n → slots ≡ at_number n (with_outcome how) x.slots
-    → GivesUp loose (record x { connections = cs; slots = slots }) how n b
-gives_up loose x b n how k at cs slots s is changes e = by (said b n)
+pub gives_up : (around : Around) (x : Bus) (b : machine.Bus) (n : ℕ) (how : Outcome) (k : ℕ)
+    (at : Side) (cs : List Connection) (y : Kept)
+    → Stands around x b → open_place (slot_at x.slots n) ≡ Some (k, at)
+    → GivesUpIn x.connections cs k at n
+    → MovesAt n (gives_up_so how) (ended_at n how x.slots) x.slots y
+    → GivesUp around (record x { connections = cs; slots = y }) how n b
+gives_up around x b n how k at cs y s is changes moves = by (said around.names b n)
   where
     Goal : Type 0
-    Goal = GivesUp loose (record x { connections = cs; slots = slots }) how n b
+    Goal = GivesUp around (record x { connections = cs; slots = y }) how n b
 
-    by : Said b n → Goal
+    by : Said around.names b n → Goal
     by (over closed unkind nowhere) =
         absurd (clash (sym (ap open_place (s.shows.slots n) ∙ nowhere) ∙ is))
       where
@@ -106,17 +104,17 @@ gives_up loose x b n how k at cs slots s is changes e = by (said b n)
     by (still r made unended kind_is place_is) =
         let same = same-some (k, at) (r.connection, r.side)
         (sym is ∙ ap open_place (s.shows.slots n) ∙ place_is) in
-        let a = after loose x b cs n how r s made unended
+        let a = after around x b cs n how r s made unended
         (subst (λ (p : ℕ × Side). GivesUpIn x.connections cs p.0 p.1 n) same changes) in
         record {
           unended = unended;
-          stands = subst (λ (ts : List Slot).
-              Stands loose (record x { connections = cs; slots = ts }) (gave_up n how b)) (sym e)
-              (record {
-                shows = shows-gave_up x b n how cs a.stand a.sides s.shows;
-                facts = record {
-                  fits = gave_up-keeps loose n how b unended s.facts.fits;
-                  apart = s.facts.apart;
-                };
-              });
+          stands = record {
+            shows = shows-gave_up around.names x b n how cs y unended a.stand a.sides moves
+                s.shows;
+            named = s.named;
+            facts = record {
+              fits = gave_up-keeps around.items n how b unended s.facts.fits;
+              apart = s.facts.apart;
+            };
+          };
         }

@@ -1,41 +1,28 @@
 -- What slots say once a side of a connection is closed.
-use Rattle.std.proofs.Common.{◌≡◌, ℕ, suc, ◌+◌, Bool, true, false, cond, eqb, ◌&&◌, Option, Some, None, option_map, is_none, List, [], ◌∷◌, map, refl, sym, ap, ◌∙◌, inl, inr, arith}
-use Rattle.std.specs.List.{slice_get}
+use Rattle.std.proofs.Common.{◌≡◌, ℕ, Bool, true, false, cond, eqb, ◌&&◌, ◌||◌, Option, Some, None, option_and_then, is_none, is_some, List, [], ◌∷◌, refl, sym, ap, ◌∙◌, inl, inr, arith, nat_lt, ◌<◌}
 use Rattle.gb_base.specs.declared.end.Side.{Side}
 use Rattle.gb_base.specs.declared.outcome.Outcome.{Outcome}
 use Rattle.gb_base.specs.declared.outcome.Outcome.TheVariants as outcome
-use Rattle.gb_bus.proofs.SlotLaws.{Tell, tell_mapped}
-use Rattle.gb_bus.specs.Slots.{open_in, over}
-use Rattle.gb_bus.specs.Stands.{kept}
+use Rattle.gb_bus.proofs.Counted.{tells-ended, tells-same}
+use Rattle.gb_bus.proofs.Endings.{not-open, same-test}
+use Rattle.gb_bus.proofs.Listed.{those-are}
+use Rattle.gb_bus.specs.Counting.{Tells, one_ended}
+use Rattle.gb_bus.specs.Listing.{AreThose, Rises, count, stands_in}
+use Rattle.gb_bus.specs.Slots.{AreOpen, Kept, all_disconnected, closes, is_late_on, is_on, is_open_on, is_open_slot, slot_at}
+use Rattle.gb_bus.specs.Stands.{kept, kept_of, slot_of}
 use Rattle.gb_bus.specs.declared.slots.Slot.{Slot}
-use Rattle.gb_invariants.proofs.Awaiting.{not-both, same-some}
-use Rattle.gb_invariants.proofs.Outcomes.{in-open_requests, lookup-past-all, open_requests-in, pair-there}
+use Rattle.gb_bus.specs.declared.tally.Tally.{Tally}
+use Rattle.gb_invariants.proofs.Awaiting.{is-open, not-both, same-some, side_ended-after, side_ended-before}
+use Rattle.gb_invariants.proofs.Lists.{in-without}
+use Rattle.gb_invariants.proofs.Outcomes.{any-in, in-any, in-open_requests, lookup-past, lookup-past-all, open_requests-in, open_requests-rise, pair-there}
 use Rattle.gb_machine.specs.Bus as machine
-use Rattle.gb_machine.specs.Bus.{Request, outcome_of, request_of}
-use Rattle.gb_machine.specs.Lists.{lookup, nth}
-use Rattle.gb_machine.specs.Members.{IsIn}
-use Rattle.gb_machine.specs.Requests.{is_of, open_from, open_on}
+use Rattle.gb_machine.specs.Bus.{Request, is_open, outcome_of, request_of}
+use Rattle.gb_machine.specs.Delivery.{ended}
+use Rattle.gb_machine.specs.LawsBus.{is_awaited}
+use Rattle.gb_machine.specs.Lists.{lookup, without}
+use Rattle.gb_machine.specs.Members.{Each, IsIn}
+use Rattle.gb_machine.specs.Requests.{is_given_up, is_of, made_passes, open_on, open_requests, passes}
 use Rattle.gb_machine.specs.Wiring.{all_ended, side_ended}
-
--- ---- the numbers of the open requests
-
--- a test of slots says what one of requests does of those that are open
-pub opens : (n : ℕ) (test : Slot → Bool) (of : Request → Bool) (b : machine.Bus)
-    (slots : List Slot) (reqs : List Request)
-    → ((o : Option Outcome) (r : Request) → test (kept o r) ≡ (of r && is_none o))
-    → ((i j : ℕ) → j ≡ n + i
-    → slice_get slots i ≡ option_map (kept (outcome_of j b)) (slice_get reqs i))
-    → open_in test n slots ≡ open_from n of b reqs
-opens n test of b [] [] same tell = refl
-opens n test of b [] (r ∷ rs) same tell = let e = tell 0 n (omega arith) in absurd cc
-opens n test of b (s ∷ ss) [] same tell = let e = tell 0 n (omega arith) in absurd cc
-opens n test of b (s ∷ ss) (r ∷ rs) same tell =
-    let is : s ≡ kept (outcome_of n b) r =
-    same-some s (kept (outcome_of n b) r) (tell 0 n (omega arith)) in
-    let later = opens (n + 1) test of b ss rs same (λ i j e. tell (suc i) j (omega (arith, e))) in
-    ap (λ t. cond t (n ∷ open_in test (n + 1) ss) (open_in test (n + 1) ss))
-    (ap test is ∙ same (outcome_of n b) r)
-    ∙ ap (λ ns. cond (of r && is_none (outcome_of n b)) (n ∷ ns) ns) later
 
 -- ---- how they end
 
@@ -87,23 +74,267 @@ stays-so k at b n o e =
     clash : (o : Outcome) → None ≡ Some o → ⊥
     clash o e = absurd cc
 
--- the slots that are over say so
-pub tell_closed : (k : ℕ) (at : Side) (b : machine.Bus) (slots : List Slot)
-    → Tell slots b.requests (λ n. outcome_of n b)
-    → Tell (map (over k at) slots) b.requests (λ n. outcome_of n (side_ended k at b))
-tell_closed k at b slots tell =
-    tell_mapped slots b.requests (λ n. outcome_of n b) (λ n. outcome_of n (side_ended k at b))
-    (over k at) each tell
+-- ---- what is awaited then
+
+-- of the side nothing is
+own-unawaited : (k : ℕ) (at : Side) (b : machine.Bus) (n : ℕ) (r : Request) (v : Outcome)
+    → request_of n b ≡ Some r → is_of k at r ≡ true
+    → outcome_of n (side_ended k at b) ≡ Some v → is_awaited n (side_ended k at b) ≡ false
+own-unawaited k at b n r v made own over =
+    ap (λ t. t || is_given_up n (side_ended k at b)) (not-open (side_ended k at b) n v over)
+    ∙ by (is_given_up n (side_ended k at b)) (λ i. is_given_up n (side_ended k at b))
   where
-    each : (n : ℕ) (r : Request) → nth n b.requests ≡ Some r
-        → over k at (kept (outcome_of n b) r) ≡ kept (outcome_of n (side_ended k at b)) r
-    each n r made = by (is_of k at r) (outcome_of n b) refl refl
+    by : (t : Bool) → is_given_up n (side_ended k at b) ≡ t → t ≡ false
+    by false e = refl
+    by true e =
+        let i = any-in n (without (passes (is_of k at) b) b.given_up) e in
+        absurd (not-both (passes (is_of k at) b n)
+        (ap (made_passes (is_of k at)) made ∙ own)
+        (in-without (passes (is_of k at) b) b.given_up n i).1)
+
+-- of another side the same is
+other-awaited : (k : ℕ) (at : Side) (b : machine.Bus) (n : ℕ) (r : Request)
+    → request_of n b ≡ Some r → is_of k at r ≡ false
+    → is_awaited n (side_ended k at b) ≡ is_awaited n b
+other-awaited k at b n r made other =
+    same-test (is_awaited n (side_ended k at b)) (is_awaited n b)
+    ((side_ended-before k at b).before n) (side_ended-after k at b n r made other)
+
+-- ---- which slots are of the side
+
+-- a test of the slot of a request that was made
+pub slot-of-made : {A : Type 0} (names : List ℕ) (b : machine.Bus) (n : ℕ) (r : Request)
+    (f : Option Slot → A) → request_of n b ≡ Some r
+    → f (slot_of names n b)
+    ≡ f (kept_of n (is_awaited n b) (count n names) (outcome_of n b) (Some r))
+slot-of-made names b n r f made =
+    ap (λ o. f (kept_of n (is_awaited n b) (count n names) (outcome_of n b) o)) made
+
+-- the slots of open requests of a side are of those
+open-on-is : (names : List ℕ) (b : machine.Bus) (k n : ℕ) (at : Side)
+    → is_open_on k at (slot_of names n b) ≡ true → IsIn n (open_on k at b)
+open-on-is names b k n at h = by (request_of n b) (λ i. request_of n b)
+  where
+    by-slot : (r : Request) → request_of n b ≡ Some r → (o : Option Outcome) → outcome_of n b ≡ o
+        → (t : Bool) → is_open_on k at (cond t (Some (kept n (is_awaited n b) (count n names) o r))
+        None) ≡ true → IsIn n (open_on k at b)
+    by-slot r made None free true g =
+        open_requests-in (is_of k at) b n r made (left (is_of k at r) g) free
       where
-        by : (t : Bool) (o : Option Outcome) → is_of k at r ≡ t → outcome_of n b ≡ o
-            → cond (t && is_none o) (kept (Some outcome.Disconnected) r) (kept o r)
-            ≡ kept (outcome_of n (side_ended k at b)) r
-        by true None e f =
-            sym (ap (λ o. kept o r) (own-ends k at b n r made e f))
-        by true (Some v) e f = sym (ap (λ o. kept o r) (stays-so k at b n v f))
-        by false o e f =
-            sym (ap (λ o. kept o r) (other-ends k at b n r made e ∙ f))
+        left : (u : Bool) → u && true ≡ true → u ≡ true
+        left true e = refl
+        left false e = e
+    by-slot r made (Some v) free true g = absurd (never (is_of k at r) g)
+      where
+        never : (u : Bool) → u && false ≡ true → ⊥
+        never true e = absurd cc
+        never false e = absurd cc
+    by-slot r made o free false g = absurd cc
+
+    by : (o : Option Request) → request_of n b ≡ o → IsIn n (open_on k at b)
+    by None e =
+        absurd (not-both (is_open_on k at (slot_of names n b)) h
+        (ap (λ o. is_open_on k at (kept_of n (is_awaited n b) (count n names) (outcome_of n b) o))
+        e))
+    by (Some r) e =
+        by-slot r e (outcome_of n b) (λ i. outcome_of n b)
+        (is_awaited n b || nat_lt 0 (count n names))
+        (sym (slot-of-made names b n r (is_open_on k at) e) ∙ h)
+
+is-open-on : (names : List ℕ) (b : machine.Bus) (k n : ℕ) (at : Side) (r : Request)
+    → request_of n b ≡ Some r → is_of k at r ≡ true → outcome_of n b ≡ None
+    → is_open_on k at (slot_of names n b) ≡ true
+is-open-on names b k n at r made own free =
+    slot-of-made names b n r (is_open_on k at) made
+    ∙ ap (λ a. is_open_on k at (kept_of n a (count n names) (outcome_of n b) (Some r)))
+    (ap (λ t. t || is_given_up n b) (is-open n b r made free))
+    ∙ ap (λ o. is_open_on k at (kept_of n true (count n names) o (Some r))) free
+    ∙ ap (λ t. t && true) own
+
+-- The open requests of a side that the slots list are those that the machine has.
+pub opened-on : (x : Kept) (names : List ℕ) (b : machine.Bus) (k : ℕ) (at : Side) (ns : List ℕ)
+    → ((n : ℕ) → slot_at x n ≡ slot_of names n b)
+    → AreThose (λ n. is_open_on k at (slot_at x n)) ns → ns ≡ open_on k at b
+opened-on x names b k at ns tell h =
+    those-are (λ n. is_open_on k at (slot_at x n)) ns (open_on k at b) h
+    (open_requests-rise (is_of k at) b)
+    (λ n e. open-on-is names b k n at (sym (ap (is_open_on k at) (tell n)) ∙ e))
+    (λ n i. let q = in-open_requests (is_of k at) b n i in
+    ap (is_open_on k at) (tell n) ∙ is-open-on names b k n at q.0 q.1 q.2 q.3)
+
+-- ---- the slots once the side is closed
+
+pub tell_closed : (old new : Kept) (names : List ℕ) (b : machine.Bus) (k : ℕ) (at : Side)
+    (unended late : List ℕ)
+    → ((n : ℕ) → stands_in n unended ≡ is_open_on k at (slot_at old n))
+    → ((n : ℕ) → stands_in n late ≡ is_late_on k at (slot_at old n))
+    → ((n : ℕ) → slot_at old n ≡ slot_of names n b)
+    → ((n : ℕ) → slot_at new n
+    ≡ option_and_then (closes (stands_in n unended) (stands_in n late)) (slot_at old n))
+    → (n : ℕ) → slot_at new n ≡ slot_of names n (side_ended k at b)
+tell_closed old new names b k at unended late opens lates tell closed n =
+    closed n
+    ∙ ap (λ t. option_and_then (closes t (stands_in n late)) (slot_at old n))
+    (opens n ∙ ap (is_open_on k at) (tell n))
+    ∙ ap (λ t. option_and_then (closes (is_open_on k at (slot_of names n b)) t) (slot_at old n))
+    (lates n ∙ ap (is_late_on k at) (tell n))
+    ∙ ap (option_and_then (closes (is_open_on k at (slot_of names n b))
+    (is_late_on k at (slot_of names n b)))) (tell n)
+    ∙ by (request_of n b) (λ i. request_of n b)
+  where
+    c : ℕ
+    c = count n names
+
+    a : Bool
+    a = is_awaited n b
+
+    close : Option Slot → Option Slot
+    close s = option_and_then (closes (is_open_on k at s) (is_late_on k at s)) s
+
+    -- it is of the side
+    own : (r : Request) → is_of k at r ≡ true → (u : Bool) (o : Option Outcome)
+        → (o ≡ None → u ≡ true)
+        → (w : Option Outcome) → (o ≡ None → w ≡ Some outcome.Disconnected)
+        → ((v : Outcome) → o ≡ Some v → w ≡ Some v)
+        → close (kept_of n u c o (Some r)) ≡ kept_of n false c w (Some r)
+    own r is true None on w ends stays =
+        ap (λ t. option_and_then (closes (t && true) (t && (false && true)))
+        (Some (kept n true c None r))) is
+        ∙ sym (ap (λ x. kept_of n false c x (Some r)) (ends refl))
+    own r is false None on w ends stays = absurd (clash (on refl))
+      where
+        clash : false ≡ true → ⊥
+        clash e = absurd cc
+    own r is true (Some v) on w ends stays =
+        ap (λ t. option_and_then (closes (t && false) (t && (true && true)))
+        (Some (kept n true c (Some v) r))) is
+        ∙ sym (ap (λ x. kept_of n false c x (Some r)) (stays v refl))
+    own r is false (Some v) on w ends stays =
+        same (nat_lt 0 c) ∙ sym (ap (λ x. kept_of n false c x (Some r)) (stays v refl))
+      where
+        slot : Slot
+        slot = kept n false c (Some v) r
+
+        same : (t : Bool) → close (cond t (Some slot) None) ≡ cond t (Some slot) None
+        same false = refl
+        same true =
+            ap (λ u. option_and_then (closes (u && false) (u && (true && false))) (Some slot)) is
+
+    -- it is of another
+    other : (r : Request) → is_of k at r ≡ false → (u : Bool) (o : Option Outcome)
+        → close (kept_of n u c o (Some r)) ≡ kept_of n u c o (Some r)
+    other r isnt u o = same (u || nat_lt 0 c)
+      where
+        slot : Slot
+        slot = kept n u c o r
+
+        same : (t : Bool) → close (cond t (Some slot) None) ≡ cond t (Some slot) None
+        same false = refl
+        same true =
+            ap (λ t. option_and_then (closes (t && is_none o) (t && (is_some o && u)))
+            (Some slot)) isnt
+
+    mine : (r : Request) → request_of n b ≡ Some r → (t : Bool) → is_of k at r ≡ t
+        → close (kept_of n a c (outcome_of n b) (Some r))
+        ≡ kept_of n (is_awaited n (side_ended k at b)) c (outcome_of n (side_ended k at b)) (Some r)
+    mine r made true e =
+        own r e a (outcome_of n b)
+        (λ f. ap (λ t. t || is_given_up n b) (is-open n b r made f))
+        (outcome_of n (side_ended k at b)) (own-ends k at b n r made e)
+        (λ v f. stays-so k at b n v f)
+        ∙ sym (ap (λ t. kept_of n t c (outcome_of n (side_ended k at b)) (Some r))
+        (over (outcome_of n b) (λ i. outcome_of n b)))
+      where
+        over : (o : Option Outcome) → outcome_of n b ≡ o
+            → is_awaited n (side_ended k at b) ≡ false
+        over None f =
+            own-unawaited k at b n r outcome.Disconnected made e (own-ends k at b n r made e f)
+        over (Some v) f = own-unawaited k at b n r v made e (stays-so k at b n v f)
+    mine r made false e =
+        other r e a (outcome_of n b)
+        ∙ sym (ap (λ t. kept_of n t c (outcome_of n (side_ended k at b)) (Some r))
+        (other-awaited k at b n r made e)
+        ∙ ap (λ o. kept_of n a c o (Some r)) (other-ends k at b n r made e))
+
+    by : (o : Option Request) → request_of n b ≡ o
+        → close (slot_of names n b) ≡ slot_of names n (side_ended k at b)
+    by None e =
+        ap (λ o. close (kept_of n a c (outcome_of n b) o)) e
+        ∙ sym (ap (λ o. kept_of n (is_awaited n (side_ended k at b)) c
+        (outcome_of n (side_ended k at b)) o) e)
+    by (Some r) e =
+        ap (λ o. close (kept_of n a c (outcome_of n b) o)) e
+        ∙ mine r e (is_of k at r) (λ i. is_of k at r)
+        ∙ sym (ap (λ o. kept_of n (is_awaited n (side_ended k at b)) c
+        (outcome_of n (side_ended k at b)) o) e)
+
+-- ---- the counts then
+
+-- each of these is open
+abbrev Unended : machine.Bus → List ℕ → Type 0
+Unended b ns = Each (λ n. is_open n b ≡ true) ns
+
+still-open : (b : machine.Bus) (n : ℕ) (ns : List ℕ) → Each (λ m. n < m) ns → Unended b ns
+    → Unended (ended n outcome.Disconnected b) ns
+still-open b n [] above all = tt
+still-open b n (m ∷ ns) above all = (
+  ap (λ o. is_some (request_of m b) && is_none o)
+      (lookup-past n m outcome.Disconnected b.outcomes
+      (λ e. let low = above.0 in absurd (omega (arith, low, e)))) ∙ all.0,
+  still-open b n ns above.1 all.1,
+)
+
+pub tells-closed : (ns : List ℕ) (s : Tally) (b : machine.Bus) → Rises ns → Unended b ns
+    → Tells s b
+    → Tells (all_disconnected ns s)
+    (record b { outcomes = all_ended ns outcome.Disconnected b.outcomes })
+tells-closed [] s b rises all tells = tells
+tells-closed (n ∷ ns) s b rises all tells =
+    tells-closed ns (one_ended outcome.Disconnected s) (ended n outcome.Disconnected b) rises.1
+    (still-open b n ns rises.0 all.1)
+    (tells-ended s (one_ended outcome.Disconnected s) b (ended n outcome.Disconnected b) n
+    outcome.Disconnected all.0 refl (pair-there n outcome.Disconnected b.outcomes)
+    (λ m other. lookup-past n m outcome.Disconnected b.outcomes (λ e. other (sym e))) refl tells)
+
+-- the open requests of a side are open
+side-unended : (b : machine.Bus) (ns : List ℕ) (test : Request → Bool)
+    → ((n : ℕ) → IsIn n ns → IsIn n (open_requests test b)) → Unended b ns
+side-unended b [] test all = tt
+side-unended b (n ∷ ns) test all =
+    let q = in-open_requests test b n (all n (inl refl)) in
+    (is-open n b q.0 q.1 q.3, side-unended b ns test (λ m i. all m (inr i)))
+
+-- The counts once a side is closed.
+pub tells-side : (s : Tally) (b : machine.Bus) (k : ℕ) (at : Side) → Tells s b
+    → Tells (all_disconnected (open_on k at b) s) (side_ended k at b)
+tells-side s b k at tells =
+    tells-same (all_disconnected (open_on k at b) s)
+    (record b { outcomes = all_ended (open_on k at b) outcome.Disconnected b.outcomes })
+    (side_ended k at b) refl (λ m. refl)
+    (tells-closed (open_on k at b) s b (open_requests-rise (is_of k at) b)
+    (side-unended b (open_on k at b) (is_of k at) (λ n i. i)) tells)
+
+-- the slots of these say that they are open
+pub are-open : (x : Kept) (names : List ℕ) (b : machine.Bus) (k : ℕ) (at : Side) (ns : List ℕ)
+    → ((n : ℕ) → slot_at x n ≡ slot_of names n b)
+    → AreThose (λ n. is_open_on k at (slot_at x n)) ns → AreOpen ns x
+are-open x names b k at ns tell h = record {
+  rises = h.rises;
+  each = by ns (λ n i. h.each n ∙ refl) (λ n i. i);
+}
+  where
+    weaker : (o : Option Slot) → is_open_on k at o ≡ true → is_open_slot o ≡ true
+    weaker None e = absurd cc
+    weaker (Some s) e = right (is_on k at s) (is_none s.outcome) e
+      where
+        right : (u v : Bool) → u && v ≡ true → v ≡ true
+        right true v e = e
+        right false v e = absurd cc
+
+    by : (ms : List ℕ) → ((n : ℕ) → IsIn n ms → stands_in n ns ≡ is_open_on k at (slot_at x n))
+        → ((n : ℕ) → IsIn n ms → IsIn n ns) → Each (λ n. is_open_slot (slot_at x n) ≡ true) ms
+    by [] e all = tt
+    by (m ∷ ms) e all = (
+      weaker (slot_at x m) (sym (e m (inl refl)) ∙ in-any m ns (all m (inl refl))),
+      by ms (λ n i. e n (inr i)) (λ n i. all n (inr i)),
+    )

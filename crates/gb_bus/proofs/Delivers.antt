@@ -12,17 +12,17 @@ use Rattle.gb_bus.proofs.Moves.{front-last, front-ops, front-stands, ops-stand, 
 use Rattle.gb_bus.proofs.Sides.{match-late, match-none, match-open, sides-changed, sides-ended, sides-forgotten}
 use Rattle.gb_bus.proofs.Standing.{changed, stays-for}
 use Rattle.gb_bus.proofs.Wires.{shows-connections}
-use Rattle.gb_bus.specs.Delivering.{Brings, Delivers, DeliversNothing, DeliversNowhere, IsDropped, taken_at, taken_from}
-use Rattle.gb_bus.specs.Moving.{Answered, Answers, HandlesAs, naming, with_connections}
+use Rattle.gb_bus.specs.Delivering.{Brings, Delivers, DeliversNothing, DeliversNowhere, IsDropped, taken_at, taken_from, with_item}
+use Rattle.gb_bus.specs.Moving.{Answered, Answers, ChangesRequest, HandlesAs, naming}
 use Rattle.gb_bus.specs.Parts.{front_in, numbered, ops_of, place_at, queue_of, with_ops, without_front}
 use Rattle.gb_bus.specs.Sides.{ChangesSide, IsNotOf, MatchesIn}
-use Rattle.gb_bus.specs.Slots.{at_number, with_outcome}
-use Rattle.gb_bus.specs.Stands.{KeepSides, Shows, StandForAll, Stands, StandsForItem, StandsForReply, slot_of}
+use Rattle.gb_bus.specs.Slots.{ended_at, ends_so, forgets, slot_at}
+use Rattle.gb_bus.specs.Stands.{AreMade, Around, KeepSides, Shows, StandForAll, Stands, StandsForItem, StandsForReply, slot_of}
 use Rattle.gb_bus.specs.Taking.{open_kind, shown}
 use Rattle.gb_bus.specs.declared.answers.Arrival.{Arrival}
 use Rattle.gb_bus.specs.declared.answers.Arrival.TheVariants as arrival
 use Rattle.gb_bus.specs.declared.bus.Bus.{Bus}
-use Rattle.gb_bus.specs.declared.connection.Connection.{Connection}
+use Rattle.gb_bus.specs.Connection.{Connection}
 use Rattle.gb_bus.specs.declared.queue.Item.{Item}
 use Rattle.gb_bus.specs.declared.queue.Item.TheVariants as code
 use Rattle.gb_invariants.proofs.Apart.{apart-changed}
@@ -38,7 +38,7 @@ use Rattle.gb_machine.specs.Bus.{Place, Request, is_open, place_of, queue, reque
 use Rattle.gb_machine.specs.Delivery as delivery
 use Rattle.gb_machine.specs.Delivery.{answered, ended, forgotten}
 use Rattle.gb_machine.specs.LawsBus.{AreApart, is_awaited, is_item_of}
-use Rattle.gb_machine.specs.Lists.{at_first, behind_first, first, nth}
+use Rattle.gb_machine.specs.Lists.{at_first, behind_first, first}
 use Rattle.gb_machine.specs.Members.{EachTwo, IsIn}
 use Rattle.gb_machine.specs.Requests.{is_given_up, is_of}
 use Rattle.gb_ops.specs.Calls.{Ends, Forgets}
@@ -51,21 +51,23 @@ abbrev loose_at : Place → machine.Item → Loose
 loose_at p item = taken_from p.connection.number p.side item
 
 -- what holds once the front item of a place is taken
-record Taken (loose : List Loose) (y : Bus) (p : Place) (b : machine.Bus)
+record Taken (around : Around) (y : Bus) (p : Place) (b : machine.Bus)
     (item : machine.Item) : Type 0 where
-  shows : Shows y (taken_at p b)
-  fits : BusFits (loose_at p item ∷ loose) (taken_at p b)
+  shows : Shows around.names y (taken_at p b)
+  named : AreMade around.names b
+  fits : BusFits (loose_at p item ∷ around.items) (taken_at p b)
   apart : EachTwo AreApart (taken_at p b).connections
   found : Connection
   there : find (numbered p.connection.number) y.connections ≡ Some found
 
 -- the bus, the item being handled
-settled : (loose : List Loose) (y : Bus) (p : Place) (b : machine.Bus) (item : machine.Item)
-    → Taken loose y p b item → Stands loose y (taken_at p b)
-settled loose y p b item t = record {
+settled : (around : Around) (y : Bus) (p : Place) (b : machine.Bus) (item : machine.Item)
+    → Taken around y p b item → Stands around y (taken_at p b)
+settled around y p b item t = record {
   shows = t.shows;
+  named = t.named;
   facts = record
-      { fits = fits-without (loose_at p item) loose (taken_at p b) t.fits; apart = t.apart };
+      { fits = fits-without (loose_at p item) around.items (taken_at p b) t.fits; apart = t.apart };
 }
 
 -- no other item has the number of the one that was taken
@@ -82,11 +84,11 @@ alone loose p b n code bytes h =
     omega (arith, most, first_one, it)
 
 -- nothing that was taken answers the request of a reply any more
-none-answers : (loose : List Loose) (y : Bus) (p : Place) (b : machine.Bus) (n r : ℕ)
-    (bytes : List ℕ) → Taken loose y p b (machine.Reply n r bytes)
-    → NoneAnswers loose (taken_at p b) n
-none-answers loose y p b n r bytes t =
-    none-counted-answers loose (taken_at p b) n (alone loose p b n r bytes t.fits)
+none-answers : (around : Around) (y : Bus) (p : Place) (b : machine.Bus) (n r : ℕ)
+    (bytes : List ℕ) → Taken around y p b (machine.Reply n r bytes)
+    → NoneAnswers around.items (taken_at p b) n
+none-answers around y p b n r bytes t =
+    none-counted-answers around.items (taken_at p b) n (alone around.items p b n r bytes t.fits)
 
 -- the connections once a side of one changes
 stand-changed : (rs : List Request) (xs ys : List Connection) (cs : List machine.Connection) (k : ℕ)
@@ -109,36 +111,34 @@ renumbered xs ys k at n m R d = record {
 }
 
 -- an answer ended its request
-answers-open : (loose : List Loose) (y z : Bus) (b : machine.Bus) (p : Place) (n label r : ℕ)
+answers-open : (around : Around) (y z : Bus) (b : machine.Bus) (p : Place) (n label r : ℕ)
     (bytes : List ℕ) (q : Request) (a : Arrival)
-    → Taken loose y p b (machine.Reply n r bytes) → request_of n b ≡ Some q → is_open n b ≡ true
+    → Taken around y p b (machine.Reply n r bytes) → request_of n b ≡ Some q → is_open n b ≡ true
     → ChangesSide y.connections z.connections p.connection.number p.side (λ u v. Ends u v label n)
     → a ≡ arrival.Ended n q.kind r (shown r bytes)
-    → z ≡ record y {
-      connections = z.connections;
-      slots = at_number n (with_outcome (answered r bytes)) y.slots;
-    }
-    → Brings loose z true p b (machine.Reply n r bytes) a
-answers-open loose y z b p n label r bytes q a t made unanswered changes is_ended after =
+    → ChangesRequest y z n (ends_so (answered r bytes)) (ended_at n (answered r bytes) y.slots)
+    → Brings around z true p b (machine.Reply n r bytes) a
+answers-open around y z b p n label r bytes q a t made unanswered changes is_ended after =
     let k = p.connection.number in
     let how = answered r bytes in
-    let fits = fits-without (loose_at p (machine.Reply n r bytes)) loose (taken_at p b) t.fits in
-    let stays : Stands loose (record y {
-      connections = z.connections;
-      slots = at_number n (with_outcome how) y.slots;
-    }) (ended n how (taken_at p b)) = record {
-      shows = shows-ended y (taken_at p b) n how z.connections
+    let fits = fits-without (loose_at p (machine.Reply n r bytes)) around.items (taken_at p b)
+    t.fits in
+    let stays : Stands around (record y { connections = z.connections; slots = z.slots })
+    (ended n how (taken_at p b)) = record {
+      shows = shows-ended around.names y (taken_at p b) n how z.connections z.slots fits.outcomes
+          unanswered
           (stand-changed b.requests y.connections z.connections (taken_at p b).connections k p.side
           (λ u v. Ends u v label n) t.shows.connections changes)
-          (sides-ended loose y.connections z.connections (taken_at p b) k p.side n label how
-          t.shows.connections fits changes t.shows.sides) t.shows;
+          (sides-ended around.items y.connections z.connections (taken_at p b) k p.side n label how
+          t.shows.connections fits changes t.shows.sides) after.moves t.shows;
+      named = t.named;
       facts = record {
-        fits = ended-keeps loose loose n how (taken_at p b) unanswered (λ l i. i)
-            (λ m. omega arith) (none-answers loose y p b n r bytes t) fits;
+        fits = ended-keeps around.items around.items n how (taken_at p b) unanswered (λ l i. i)
+            (λ m. omega arith) (none-answers around y p b n r bytes t) fits;
         apart = t.apart;
       };
     } in
-    let answer : Brings loose z true p b (machine.Reply n r bytes)
+    let answer : Brings around z true p b (machine.Reply n r bytes)
     (arrival.Ended n q.kind r (shown r bytes)) = (
       refl,
       record {
@@ -149,43 +149,48 @@ answers-open loose y z b p n label r bytes q a t made unanswered changes is_ende
         made = made;
         kind_is = refl;
         outcome_is = refl;
-        stands = subst (λ (w : Bus). Stands loose w (ended n how (taken_at p b))) (sym after) stays;
+        stands = subst (λ (w : Bus). Stands around w (ended n how (taken_at p b)))
+            (sym after.rest) stays;
       },
     ) in
-    subst (λ (w : Arrival). Brings loose z true p b (machine.Reply n r bytes) w) (sym is_ended)
+    subst (λ (w : Arrival). Brings around z true p b (machine.Reply n r bytes) w) (sym is_ended)
     answer
 
 -- an answer came to a request that had ended
-answers-late : (loose : List Loose) (y z : Bus) (b : machine.Bus) (p : Place) (n r : ℕ)
+answers-late : (around : Around) (y z : Bus) (b : machine.Bus) (p : Place) (n r : ℕ)
     (bytes : List ℕ) (a : Arrival)
-    → Taken loose y p b (machine.Reply n r bytes) → is_open n b ≡ false
+    → Taken around y p b (machine.Reply n r bytes) → is_open n b ≡ false
     → StandForAll b.requests z.connections (taken_at p b).connections
     → KeepSides z.connections (forgotten n (taken_at p b))
-    → a ≡ arrival.Late n → z ≡ with_connections z.connections y
-    → Brings loose z true p b (machine.Reply n r bytes) a
-answers-late loose y z b p n r bytes a t closed stand sides is_late after =
-    let fits = fits-without (loose_at p (machine.Reply n r bytes)) loose (taken_at p b) t.fits in
-    let stays : Stands loose (with_connections z.connections y) (forgotten n (taken_at p b)) =
-    record {
-      shows = shows-forgotten y (taken_at p b) n z.connections stand sides t.shows;
+    → a ≡ arrival.Late n → ChangesRequest y z n forgets y.slots.tally
+    → Brings around z true p b (machine.Reply n r bytes) a
+answers-late around y z b p n r bytes a t closed stand sides is_late after =
+    let fits = fits-without (loose_at p (machine.Reply n r bytes)) around.items (taken_at p b)
+    t.fits in
+    let stays : Stands around (record y { connections = z.connections; slots = z.slots })
+    (forgotten n (taken_at p b)) = record {
+      shows = shows-forgotten around.names y (taken_at p b) n z.connections z.slots closed stand
+          sides after.moves t.shows;
+      named = t.named;
       facts = record {
-        fits = forgotten-keeps loose loose n (taken_at p b) (λ l i. i) (λ m. omega arith)
-            (none-answers loose y p b n r bytes t) fits;
+        fits = forgotten-keeps around.items around.items n (taken_at p b) (λ l i. i)
+            (λ m. omega arith)
+            (none-answers around y p b n r bytes t) fits;
         apart = t.apart;
       };
     } in
-    let answer : Brings loose z true p b (machine.Reply n r bytes) (arrival.Late n) = (
+    let answer : Brings around z true p b (machine.Reply n r bytes) (arrival.Late n) = (
       refl,
       record {
         result = r;
         bytes = bytes;
         item_is = refl;
         closed = closed;
-        stands = subst (λ (w : Bus). Stands loose w (forgotten n (taken_at p b))) (sym after)
-            stays;
+        stands = subst (λ (w : Bus). Stands around w (forgotten n (taken_at p b)))
+            (sym after.rest) stays;
       },
     ) in
-    subst (λ (w : Arrival). Brings loose z true p b (machine.Reply n r bytes) w) (sym is_late)
+    subst (λ (w : Arrival). Brings around z true p b (machine.Reply n r bytes) w) (sym is_late)
     answer
 
 -- a request that isn't awaited isn't open, and wasn't given up
@@ -194,13 +199,13 @@ neither true v e = absurd cc
 neither false v e = (refl, e)
 
 -- the identifier isn't in use for the request: it isn't awaited
-unawaited : (loose : List Loose) (y : Bus) (b : machine.Bus) (p : Place) (n label r : ℕ)
+unawaited : (around : Around) (y : Bus) (b : machine.Bus) (p : Place) (n label r : ℕ)
     (bytes : List ℕ) (q : Request)
-    → Taken loose y p b (machine.Reply n r bytes) → request_of n b ≡ Some q → q.label ≡ label
+    → Taken around y p b (machine.Reply n r bytes) → request_of n b ≡ Some q → q.label ≡ label
     → IsNotOf n (option_and_then (λ c. holder_of (ops_of p.side c) label)
     (find (numbered p.connection.number) y.connections))
     → is_awaited n b ≡ false
-unawaited loose y b p n label r bytes q t made label_is other =
+unawaited around y b p n label r bytes q t made label_is other =
     let own = t.fits.items.own_loose (loose_at p (machine.Reply n r bytes)) (inl refl) in
     let same : own.0 ≡ q = same-some own.0 q (sym own.1 ∙ made) in
     let on : q.connection ≡ p.connection.number =
@@ -219,29 +224,30 @@ unawaited loose y b p n label r bytes q t made label_is other =
         subst (λ j. is_of j at q ≡ true) e (subst (λ s. is_of q.connection s q ≡ true) f (is-own q))
 
 -- an answer ends its request where that is open
-answers : (loose : List Loose) (y z : Bus) (b : machine.Bus) (p : Place) (n label r : ℕ)
+answers : (around : Around) (y z : Bus) (b : machine.Bus) (p : Place) (n label r : ℕ)
     (bytes : List ℕ) (q : Request) (m : Matched) (a : Arrival)
-    → Taken loose y p b (machine.Reply n r bytes) → request_of n b ≡ Some q → q.label ≡ label
+    → Taken around y p b (machine.Reply n r bytes) → request_of n b ≡ Some q → q.label ≡ label
     → MatchesIn y.connections z.connections p.connection.number p.side n label m
-    → Answers y z n r bytes m (open_kind (nth n y.slots)) a
-    → Brings loose z true p b (machine.Reply n r bytes) a
-answers loose y z b p n label r bytes q m a t made label_is = by m (said b n)
+    → Answers y z n r bytes m (open_kind (slot_at y.slots n)) a
+    → Brings around z true p b (machine.Reply n r bytes) a
+answers around y z b p n label r bytes q m a t made label_is = by m (said around.names b n)
   where
     k : ℕ
     k = p.connection.number
 
     Goal : Type 0
-    Goal = Brings loose z true p b (machine.Reply n r bytes) a
+    Goal = Brings around z true p b (machine.Reply n r bytes) a
 
-    told : (m : Matched) (o : Option ℕ) → open_kind (slot_of n b) ≡ o
-        → Answers y z n r bytes m (open_kind (nth n y.slots)) a → Answers y z n r bytes m o a
+    told : (m : Matched) (o : Option ℕ) → open_kind (slot_of around.names n b) ≡ o
+        → Answers y z n r bytes m (open_kind (slot_at y.slots n)) a → Answers y z n r bytes m o a
     told m o e h = subst (λ v. Answers y z n r bytes m v a) (ap open_kind (t.shows.slots n) ∙ e) h
 
-    by : (m : Matched) → Said b n → MatchesIn y.connections z.connections k p.side n label m
-        → Answers y z n r bytes m (open_kind (nth n y.slots)) a → Goal
+    by : (m : Matched) → Said around.names b n
+        → MatchesIn y.connections z.connections k p.side n label m
+        → Answers y z n r bytes m (open_kind (slot_at y.slots n)) a → Goal
     by (matched.Open j) (still v there unanswered kind_is place_is) d h =
         let w = told (matched.Open j) (Some v.kind) kind_is h in
-        answers-open loose y z b p n label r bytes v a t there unanswered
+        answers-open around y z b p n label r bytes v a t there unanswered
         (renumbered y.connections z.connections k p.side n j (λ i u x. Ends u x label i) d) w.0 w.1
     by (matched.Open j) (over closed unkind nowhere) d h =
         absurd (not-both (is_open n b) (match-open y.connections z.connections (taken_at p b) k
@@ -249,30 +255,30 @@ answers loose y z b p n label r bytes q m a t made label_is = by m (said b n)
         (renumbered y.connections z.connections k p.side n j (λ i u x. Ends u x label i) d)
         t.shows.sides) closed)
     by (matched.Late j) (still v there unanswered kind_is place_is) d h =
-        absurd (not-both (is_open n b) unanswered (match-late loose y.connections z.connections
-        (taken_at p b) k p.side n label t.shows.connections
-        (fits-without (loose_at p (machine.Reply n r bytes)) loose (taken_at p b) t.fits)
+        absurd (not-both (is_open n b) unanswered (match-late around.items y.connections
+        z.connections (taken_at p b) k p.side n label t.shows.connections
+        (fits-without (loose_at p (machine.Reply n r bytes)) around.items (taken_at p b) t.fits)
         (renumbered y.connections z.connections k p.side n j (λ i u x. Forgets u x label i) d)
         t.shows.sides))
     by (matched.Late j) (over closed unkind nowhere) d h =
         let w = told (matched.Late j) None unkind h in
         let changes = renumbered y.connections z.connections k p.side n j
         (λ i u x. Forgets u x label i) d in
-        answers-late loose y z b p n r bytes a t closed
+        answers-late around y z b p n r bytes a t closed
         (stand-changed b.requests y.connections z.connections (taken_at p b).connections k p.side
         (λ u x. Forgets u x label n) t.shows.connections changes)
-        (sides-forgotten loose y.connections z.connections (taken_at p b) k p.side n label
+        (sides-forgotten around.items y.connections z.connections (taken_at p b) k p.side n label
         t.shows.connections
-        (fits-without (loose_at p (machine.Reply n r bytes)) loose (taken_at p b) t.fits) changes
-        t.shows.sides) w.0 w.1
+        (fits-without (loose_at p (machine.Reply n r bytes)) around.items (taken_at p b) t.fits)
+        changes t.shows.sides) w.0 w.1
     by matched.Unknown (still v there unanswered kind_is place_is) d h =
         absurd (not-both (is_open n b) unanswered (neither (is_open n b) (is_given_up n b)
-        (unawaited loose y b p n label r bytes q t made label_is d.0)).0)
+        (unawaited around y b p n label r bytes q t made label_is d.0)).0)
     by matched.Unknown (over closed unkind nowhere) d h =
         let w = told matched.Unknown None unkind h in
         let free = neither (is_open n b) (is_given_up n b)
-        (unawaited loose y b p n label r bytes q t made label_is d.0) in
-        answers-late loose y z b p n r bytes a t closed
+        (unawaited around y b p n label r bytes q t made label_is d.0) in
+        answers-late around y z b p n r bytes a t closed
         (subst (λ (ys : List Connection). StandForAll b.requests ys (taken_at p b).connections)
         (sym d.1) t.shows.connections)
         (subst (λ (ys : List Connection). KeepSides ys (forgotten n (taken_at p b))) (sym d.1)
@@ -280,55 +286,56 @@ answers loose y z b p n label r bytes q m a t made label_is = by m (said b n)
         (sym (nothing-forgotten (taken_at p b) n free.1)) t.shows.sides)) w.0 w.1
 
 -- a reply that stands for the machine's is answered so
-answers-reply : (loose : List Loose) (y z : Bus) (b : machine.Bus) (p : Place)
+answers-reply : (around : Around) (y z : Bus) (b : machine.Bus) (p : Place)
     (number label code : ℕ) (payload bytes : List ℕ) (n r : ℕ) (a : Arrival)
-    → Taken loose y p b (machine.Reply n r bytes)
+    → Taken around y p b (machine.Reply n r bytes)
     → StandsForReply b.requests number label code payload n r bytes
     → Answered y z p.connection.number p.side number label code payload a
-    → Brings loose z true p b (machine.Reply n r bytes) a
-answers-reply loose y z b p number label code payload bytes n r a t st h =
+    → Brings around z true p b (machine.Reply n r bytes) a
+answers-reply around y z b p number label code payload bytes n r a t st h =
     subst (λ m. Says m code payload → Goal) (sym st.number_is)
     (subst (λ v. Says n v payload → Goal) (sym st.result_is)
     (subst (λ (v : List ℕ). Says n r v → Goal) (sym st.payload_is)
-    (λ w. answers loose y z b p n label r bytes st.request w.matched a t st.made st.label_is
+    (λ w. answers around y z b p n label r bytes st.request w.matched a t st.made st.label_is
     w.matches w.answers))) h
   where
     Goal : Type 0
-    Goal = Brings loose z true p b (machine.Reply n r bytes) a
+    Goal = Brings around z true p b (machine.Reply n r bytes) a
 
     Says : ℕ → ℕ → List ℕ → Type 0
     Says m c v = Answered y z p.connection.number p.side m label c v a
 
 -- a message is dropped
-drops : (loose : List Loose) (y z : Bus) (b : machine.Bus) (p : Place) (m : machine.Item)
+drops : (around : Around) (y z : Bus) (b : machine.Bus) (p : Place) (m : machine.Item)
     (a : Arrival) (number : ℕ) (reply : Bool)
-    → Stands loose y (taken_at p b) → z ≡ y → a ≡ arrival.Dropped (Some number) reply
+    → Stands around y (taken_at p b) → z ≡ y → a ≡ arrival.Dropped (Some number) reply
     → IsDropped m (Some number) reply
-    → Brings loose z false p b m a
-drops loose y z b p m a number reply s same is told =
-    let answer : Brings loose z false p b m (arrival.Dropped (Some number) reply) = (
+    → Brings around z false p b m a
+drops around y z b p m a number reply s same is told =
+    let answer : Brings around z false p b m (arrival.Dropped (Some number) reply) = (
       refl,
       record {
         told = told;
-        stands = subst (λ (w : Bus). Stands loose w (taken_at p b)) (sym same) s;
+        stands = subst (λ (w : Bus). Stands around w (taken_at p b)) (sym same) s;
       },
     ) in
-    subst (λ (w : Arrival). Brings loose z false p b m w) (sym is) answer
+    subst (λ (w : Arrival). Brings around z false p b m w) (sym is) answer
 
 -- what is told of a message stands for the machine's, by the message and the item that it stands
 -- for
-brings : (loose : List Loose) (y z : Bus) (b : machine.Bus) (p : Place) (takes : Bool) (i : Item)
+brings : (around : Around) (y z : Bus) (b : machine.Bus) (p : Place) (takes : Bool) (i : Item)
     (m : machine.Item) (a : Arrival)
-    → Taken loose y p b m → StandsForItem b.requests i m
+    → Taken around y p b m → StandsForItem b.requests i m
     → HandlesAs y z p.connection.number p.side takes i (Ok a)
-    → Brings loose z takes p b m a
-brings loose y z b p true (code.Ask number label kind payload) (machine.Ask n) a t st h =
+    → Brings around z takes p b m a
+brings around y z b p true (code.Ask number label kind payload) (machine.Ask n) a t st h =
     let is : a ≡ arrival.Ask (naming number label kind) payload = cc (h.0) in
-    let here = loose_at p (machine.Ask n) ∷ loose in
+    let here = with_item (loose_at p (machine.Ask n)) around in
     let stays : Stands here z (taken_at p b) =
     subst (λ (w : Bus). Stands here w (taken_at p b)) (sym h.1)
-    (record { shows = t.shows; facts = record { fits = t.fits; apart = t.apart } }) in
-    let answer : Brings loose z true p b (machine.Ask n)
+    (record { shows = t.shows; named = t.named; facts = record { fits = t.fits; apart = t.apart } })
+    in
+    let answer : Brings around z true p b (machine.Ask n)
     (arrival.Ask (naming number label kind) payload) = (
       refl,
       record {
@@ -341,29 +348,29 @@ brings loose y z b p true (code.Ask number label kind payload) (machine.Ask n) a
         stands = stays;
       },
     ) in
-    subst (λ (w : Arrival). Brings loose z true p b (machine.Ask n) w) (sym is) answer
-brings loose y z b p true (code.Reply number label code payload) (machine.Reply n r bytes) a t st
-    h = answers-reply loose y z b p number label code payload bytes n r a t st h
-brings loose y z b p false (code.Ask number label kind payload) (machine.Ask n) a t st h =
-    drops loose y z b p (machine.Ask n) a number false (settled loose y p b (machine.Ask n) t) h.1
+    subst (λ (w : Arrival). Brings around z true p b (machine.Ask n) w) (sym is) answer
+brings around y z b p true (code.Reply number label code payload) (machine.Reply n r bytes) a t st
+    h = answers-reply around y z b p number label code payload bytes n r a t st h
+brings around y z b p false (code.Ask number label kind payload) (machine.Ask n) a t st h =
+    drops around y z b p (machine.Ask n) a number false (settled around y p b (machine.Ask n) t) h.1
     (cc (h.0)) (ap Some st.same, refl)
-brings loose y z b p false (code.Reply number label code payload) (machine.Reply n r bytes) a t st
+brings around y z b p false (code.Reply number label code payload) (machine.Reply n r bytes) a t st
     h =
-    drops loose y z b p (machine.Reply n r bytes) a number true
-    (settled loose y p b (machine.Reply n r bytes) t) h.1 (cc (h.0))
+    drops around y z b p (machine.Reply n r bytes) a number true
+    (settled around y p b (machine.Reply n r bytes) t) h.1 (cc (h.0))
     (ap Some st.number_is, refl)
-brings loose y z b p takes (code.Ask number label kind payload) (machine.Reply n r bytes) a t st h =
+brings around y z b p takes (code.Ask number label kind payload) (machine.Reply n r bytes) a t st
+    h = absurd st
+brings around y z b p takes (code.Ask number label kind payload) (machine.Raw bytes) a t st h =
     absurd st
-brings loose y z b p takes (code.Ask number label kind payload) (machine.Raw bytes) a t st h =
-    absurd st
-brings loose y z b p takes (code.Ask number label kind payload) (machine.RawReply l k r bytes) a t
+brings around y z b p takes (code.Ask number label kind payload) (machine.RawReply l k r bytes) a t
     st h = absurd st
-brings loose y z b p takes (code.Reply number label code payload) (machine.Ask n) a t st h =
+brings around y z b p takes (code.Reply number label code payload) (machine.Ask n) a t st h =
     absurd st
-brings loose y z b p takes (code.Reply number label code payload) (machine.Raw bytes) a t st h =
+brings around y z b p takes (code.Reply number label code payload) (machine.Raw bytes) a t st h =
     absurd st
-brings loose y z b p takes (code.Reply number label code payload) (machine.RawReply l k r bytes) a t
-    st h = absurd st
+brings around y z b p takes (code.Reply number label code payload) (machine.RawReply l k r bytes) a
+    t st h = absurd st
 
 -- the connection with a number is found still once it changes
 found-changed : (k : ℕ) (f : Connection → Connection) (xs : List Connection) (x : Connection)
@@ -383,20 +390,21 @@ found-changed k f (y ∷ ys) x same e = by (numbered k y) refl e (found-changed 
         ap (λ t. cond t (Some y) (find (numbered k) (at_first (numbered k) f ys))) is ∙ later e
 
 -- once the front message is taken
-taken : (loose : List Loose) (x y : Bus) (b : machine.Bus) (p : Place) (item : machine.Item)
+taken : (around : Around) (x y : Bus) (b : machine.Bus) (p : Place) (item : machine.Item)
     (found : Connection)
-    → Stands loose x b → IsIn p.connection b.connections
+    → Stands around x b → IsIn p.connection b.connections
     → first (queue p.side p.connection) ≡ Some item
     → find (numbered p.connection.number) x.connections ≡ Some found
     → y ≡ record x {
       connections = at_first (numbered p.connection.number) (without_front p.side)
           x.connections;
-    } → Taken loose y p b item
-taken loose x y b p item found s live front looks e =
+    } → Taken around y p b item
+taken around x y b p item found s live front looks e =
     let k = p.connection.number in
     let rest = λ (v : Connection). behind_first (queue_of p.side v) in
-    subst (λ (w : Bus). Taken loose w p b item) (sym e) (record {
-      shows = shows-connections x b (at_first (numbered k) (without_front p.side) x.connections)
+    subst (λ (w : Bus). Taken around w p b item) (sym e) (record {
+      shows = shows-connections around.names x b
+          (at_first (numbered k) (without_front p.side) x.connections)
           (taken_at p b).connections
           (changed b.requests b.requests k (without_front p.side)
           (delivery.without_front p.side) x.connections b.connections
@@ -404,7 +412,8 @@ taken loose x y b p item found s live front looks e =
           (sides-changed x.connections b k (without_front p.side) (delivery.without_front p.side)
           (λ v. queue-number p.side (rest v) v) (λ c. (front-self p.side c).number)
           (front-ops p.side) (front-last p.side) s.shows.sides) s.shows;
-      fits = popped-keeps loose p.side item p.connection b live front s.facts.fits;
+      named = s.named;
+      fits = popped-keeps around.items p.side item p.connection b live front s.facts.fits;
       apart = apart-changed b k (delivery.without_front p.side)
           (λ c. let f = front-self p.side c in
           record { number = f.number; ap = f.ap; peer = f.peer }) s.facts.apart;
@@ -420,15 +429,15 @@ front-is : (x : Bus) (k : ℕ) (to : Side) (found : Connection) → find (number
 front-is x k to found looks = ap (option_and_then (λ c. first (queue_of to c))) looks
 
 -- The answer of a delivery where the end is named and a message waits.
-pub delivers : (loose : List Loose) (x y z : Bus) (b : machine.Bus) (at : End) (takes : Bool)
+pub delivers : (around : Around) (x y z : Bus) (b : machine.Bus) (at : End) (takes : Bool)
     (k : ℕ) (to : Side) (i : Item) (a : Arrival)
-    → Stands loose x b → place_at at x.connections ≡ Some (k, to) → front_in k to x.connections
+    → Stands around x b → place_at at x.connections ≡ Some (k, to) → front_in k to x.connections
     ≡ Some i
     → y ≡ record x { connections = at_first (numbered k) (without_front to) x.connections }
     → HandlesAs y z k to takes i (Ok a)
-    → Delivers loose z at takes b (record { connection = k; item = a })
-delivers loose x y z b at takes k to i a s named front e h =
-    let w = placed loose x b at k to s named in
+    → Delivers around z at takes b (record { connection = k; item = a })
+delivers around x y z b at takes k to i a s named front e h =
+    let w = placed around x b at k to s named in
     let p = placed_on w.connection to in
     let f = front_of b.requests (queue_of to w.found) (queue to w.connection) i
     (queue-stands b.requests to w.found w.connection w.stands)
@@ -439,8 +448,8 @@ delivers loose x y z b at takes k to i a s named front e h =
       named = w.named;
       front = f.front;
       connection = w.number;
-      brings = brings loose y z b p takes i f.item_of a
-          (taken loose x y b p f.item_of w.found s w.live f.front
+      brings = brings around y z b p takes i f.item_of a
+          (taken around x y b p f.item_of w.found s w.live f.front
           (ap (λ j. find (numbered j) x.connections) (sym w.number) ∙ w.looks)
           (e ∙ ap (λ j. record x {
             connections =
@@ -450,26 +459,26 @@ delivers loose x y z b at takes k to i a s named front e h =
     }
 
 -- The answer where nothing waits.
-pub delivers_nothing : (loose : List Loose) (x y : Bus) (b : machine.Bus) (at : End) (k : ℕ)
+pub delivers_nothing : (around : Around) (x y : Bus) (b : machine.Bus) (at : End) (k : ℕ)
     (to : Side)
-    → Stands loose x b → place_at at x.connections ≡ Some (k, to) → front_in k to x.connections
+    → Stands around x b → place_at at x.connections ≡ Some (k, to) → front_in k to x.connections
     ≡ None → y ≡ x
-    → DeliversNothing loose y at b
-delivers_nothing loose x y b at k to s named none same =
-    let w = placed loose x b at k to s named in
+    → DeliversNothing around y at b
+delivers_nothing around x y b at k to s named none same =
+    let w = placed around x b at k to s named in
     record {
       place = placed_on w.connection to;
       named = w.named;
       empty = empty_of b.requests (queue_of to w.found) (queue to w.connection)
           (queue-stands b.requests to w.found w.connection w.stands)
           (sym (front-is x k to w.found w.looks) ∙ none);
-      stands = subst (λ (v : Bus). Stands loose v b) (sym same) s;
+      stands = subst (λ (v : Bus). Stands around v b) (sym same) s;
     }
 
 -- The answer where no wired connection names the end.
-pub delivers_nowhere : (loose : List Loose) (x : Bus) (b : machine.Bus) (at : End)
-    → Stands loose x b → None ≡ place_at at x.connections → DeliversNowhere loose x at b
-delivers_nowhere loose x b at s none = record {
+pub delivers_nowhere : (around : Around) (x : Bus) (b : machine.Bus) (at : End)
+    → Stands around x b → None ≡ place_at at x.connections → DeliversNowhere around x at b
+delivers_nowhere around x b at s none = record {
   named = by (place_of at b.connections)
       (sym (none ∙ place-is b.requests at x.connections b.connections s.shows.connections));
   stands = s;

@@ -7,12 +7,11 @@ use Rattle.gb_base.specs.declared.end.Side.{Side}
 use Rattle.gb_base.specs.declared.end.Side.TheVariants as side
 use Rattle.gb_bus.proofs.Standing.{StandsForFound, found-number}
 use Rattle.gb_bus.specs.Parts.{numbered, place_at, side_at}
-use Rattle.gb_bus.specs.Stands.{StandForAll, Stands, StandsForConnection}
+use Rattle.gb_bus.specs.Stands.{Around, StandForAll, Stands, StandsForConnection}
 use Rattle.gb_bus.specs.declared.bus.Bus.{Bus}
-use Rattle.gb_bus.specs.declared.connection.Connection.{Connection}
+use Rattle.gb_bus.specs.Connection.{Connection}
 use Rattle.gb_invariants.proofs.Awaiting.{same-some}
 use Rattle.gb_invariants.proofs.Numbers.{found-by_number}
-use Rattle.gb_invariants.specs.Facts.{Loose}
 use Rattle.gb_machine.specs.Bus as machine
 use Rattle.gb_machine.specs.Bus.{Place, Request, has_number, or_else, place_of, same_end}
 use Rattle.gb_machine.specs.Members.{IsIn}
@@ -107,10 +106,10 @@ matched rs k xs cs c h e = by (find (numbered k) xs) refl
     by None f s = absurd s
     by (Some x) f s = record { found = x; looks = f; stands = s }
 
-pub placed : (loose : List Loose) (x : Bus) (b : machine.Bus) (at : End) (k : ℕ) (to : Side)
-    → Stands loose x b → place_at at x.connections ≡ Some (k, to)
+pub placed : (around : Around) (x : Bus) (b : machine.Bus) (at : End) (k : ℕ) (to : Side)
+    → Stands around x b → place_at at x.connections ≡ Some (k, to)
     → Placed x b at k to
-placed loose x b at k to s named =
+placed around x b at k to s named =
     by (place_of at b.connections) refl
     (sym (place-is b.requests at x.connections b.connections s.shows.connections) ∙ named)
   where

@@ -1,5 +1,5 @@
 -- What is looked up is what the machine's bus has.
-use Rattle.std.proofs.Common.{◌≡◌, ℕ, Bool, true, false, cond, map, eqb, ◌&&◌, ◌||◌, Option, Some, None, is_none, option_and_then, option_map, List, [], ◌∷◌, ◌++◌, length, refl, sym, ap, ◌∙◌, suc, append_assoc}
+use Rattle.std.proofs.Common.{◌≡◌, ℕ, Bool, true, false, cond, map, eqb, ◌&&◌, ◌||◌, Option, Some, None, option_and_then, option_map, List, [], ◌∷◌, ◌++◌, length, refl, sym, ap, ◌∙◌, suc, append_assoc}
 use Rattle.std.specs.List.{filter, find, list_any}
 use Rattle.gb_base.specs.declared.end.End.{End}
 use Rattle.gb_base.specs.declared.end.End.TheVariants as end
@@ -10,14 +10,13 @@ use Rattle.gb_bus.proofs.Sides.{next-side}
 use Rattle.gb_bus.proofs.Standing.{Agree, StandsForFound, found, found-number, same-of}
 use Rattle.gb_bus.specs.Ends.{earlier, earlier_of}
 use Rattle.gb_bus.specs.Parts as parts
-use Rattle.gb_bus.specs.Parts.{earliest_in, earliest_of, is_none_left, joins, next_in, next_of, numbered, ops_of, place_at, queue_of}
-use Rattle.gb_bus.specs.Stands.{Shows, StandForAll, Stands, StandsForConnection, StandsForQueue}
+use Rattle.gb_bus.specs.Parts.{earliest_in, earliest_of, ends_in, is_none_left, joins, next_in, next_of, numbered, ops_of, place_at, queue_of}
+use Rattle.gb_bus.specs.Stands.{Around, Shows, StandForAll, Stands, StandsForConnection, StandsForQueue}
 use Rattle.gb_bus.specs.Wiring.{count_at, ends_of, number_of}
 use Rattle.gb_bus.specs.declared.bus.Bus.{Bus}
-use Rattle.gb_bus.specs.declared.connection.Connection.{Connection}
+use Rattle.gb_bus.specs.Connection.{Connection}
 use Rattle.gb_bus.specs.declared.queue.Item.{Item}
 use Rattle.gb_invariants.proofs.Awaiting.{same-some}
-use Rattle.gb_invariants.specs.Facts.{Loose}
 use Rattle.gb_machine.specs.Bus as machine
 use Rattle.gb_machine.specs.Bus.{Place, Request, connection_of, place_of, queue, same_end}
 use Rattle.gb_machine.specs.Labels.{cyclic_label, next_label}
@@ -34,10 +33,10 @@ joins-agree rs a i c x m h =
     ap (λ n. eqb n a && same_end x.peer (end.Module i c)) h.ap
     ∙ ap (λ p. eqb m.ap a && same_end p (end.Module i c)) h.peer
 
-pub lives : (loose : List Loose) (x : Bus) (b : machine.Bus) (a i c : ℕ) → Stands loose x b
+pub lives : (around : Around) (x : Bus) (b : machine.Bus) (a i c : ℕ) → Stands around x b
     → option_map (λ (y : Connection). y.number) (find (joins a (end.Module i c)) x.connections)
     ≡ option_map (λ (m : machine.Connection). m.number) (wiring.joining a i c b)
-lives loose x b a i c s =
+lives around x b a i c s =
     same-of b.requests (option_map (λ (y : Connection). y.number))
     (option_map (λ (m : machine.Connection). m.number))
     (find (joins a (end.Module i c)) x.connections) (wiring.joining a i c b) refl
@@ -49,7 +48,7 @@ lives loose x b a i c s =
 -- ---- identifiers
 
 -- the next identifier of a side of a connection
-pub next-is : (x : Bus) (b : machine.Bus) (k : ℕ) (at : Side) → Shows x b
+pub next-is : {names : List ℕ} → (x : Bus) (b : machine.Bus) (k : ℕ) (at : Side) → Shows names x b
     → next_in k at x.connections ≡ next_label k at b
 next-is x b k at s =
     by (find (numbered k) x.connections) (connection_of k b) refl refl
@@ -64,21 +63,6 @@ next-is x b k at s =
     by None (Some c) e f h = absurd h
     by (Some y) None e f h = absurd h
 
--- where the connection is live
-pub spent-is : (loose : List Loose) (x : Bus) (b : machine.Bus) (k : ℕ) (at : Side)
-    (found : Connection) (t : Bool) → Stands loose x b
-    → find (numbered k) x.connections ≡ Some found → t ≡ is_none (next_of at found)
-    → t ≡ is_none (next_label k at b)
-spent-is loose x b k at found t s looks e =
-    e ∙ ap is_none (sym (ap (option_and_then (next_of at)) looks) ∙ next-is x b k at s.shows)
-
--- where it isn't
-pub spent-nowhere : (loose : List Loose) (x : Bus) (b : machine.Bus) (k : ℕ) (at : Side)
-    → Stands loose x b → find (numbered k) x.connections ≡ None
-    → true ≡ is_none (next_label k at b)
-spent-nowhere loose x b k at s none =
-    ap is_none (sym (ap (option_and_then (next_of at)) none) ∙ next-is x b k at s.shows)
-
 -- ---- how many wait
 
 pub length-is : (rs : List Request) (is : List Item) (ms : List machine.Item)
@@ -89,33 +73,33 @@ length-is rs [] (m ∷ ms) h = absurd h
 length-is rs (i ∷ is) [] h = absurd h
 
 -- where the end is named
-pub waits : (loose : List Loose) (x : Bus) (b : machine.Bus) (at : End) (k : ℕ) (to : Side)
-    (found : Connection) → Stands loose x b
+pub waits : (around : Around) (x : Bus) (b : machine.Bus) (at : End) (k : ℕ) (to : Side)
+    (found : Connection) → Stands around x b
     → place_at at x.connections ≡ Some (k, to) → find (numbered k) x.connections ≡ Some found
     → Some (length (queue_of to found)) ≡ option_map count_at (place_of at b.connections)
-waits loose x b at k to found s named looks =
-    let w = placed loose x b at k to s named in
+waits around x b at k to found s named looks =
+    let w = placed around x b at k to s named in
     let same : w.found ≡ found = same-some w.found found (sym w.looks ∙ looks) in
     ap (λ c. Some (length (queue_of to c))) (sym same)
     ∙ ap Some (length-is b.requests (queue_of to w.found) (queue to w.connection)
     (queue-stands b.requests to w.found w.connection w.stands))
     ∙ sym (ap (option_map count_at) w.named)
 
--- where it is, its connection is found
-pub waits-there : (loose : List Loose) (x : Bus) (b : machine.Bus) (at : End) (k : ℕ) (to : Side)
-    → Stands loose x b
-    → place_at at x.connections ≡ Some (k, to) → find (numbered k) x.connections ≡ None → ⊥
-waits-there loose x b at k to s named none = let w = placed loose x b at k to s named in
-    absurd (some-none (sym w.looks ∙ none))
-  where
-    some-none : {A : Type 0} {y : A} → Some y ≡ None → ⊥
-    some-none e = absurd cc
+-- how many wait toward a side of the connection that the end names
+pub counts : (around : Around) (x : Bus) (b : machine.Bus) (at : End) (k : ℕ) (to : Side)
+    → Stands around x b → place_at at x.connections ≡ Some (k, to)
+    → option_map (λ c. length (queue_of to c)) (find (numbered k) x.connections)
+    ≡ option_map count_at (place_of at b.connections)
+counts around x b at k to s named =
+    let w = placed around x b at k to s named in
+    ap (option_map (λ c. length (queue_of to c))) w.looks
+    ∙ waits around x b at k to w.found s named w.looks
 
 -- where it isn't
-pub waits-nowhere : (loose : List Loose) (x : Bus) (b : machine.Bus) (at : End) → Stands loose x b
+pub waits-nowhere : (around : Around) (x : Bus) (b : machine.Bus) (at : End) → Stands around x b
     → place_at at x.connections ≡ None
     → None ≡ option_map count_at (place_of at b.connections)
-waits-nowhere loose x b at s none =
+waits-nowhere around x b at s none =
     by (place_of at b.connections) (sym
     (place-is b.requests at x.connections b.connections s.shows.connections) ∙ none)
   where
@@ -193,9 +177,9 @@ first-is rs (x ∷ xs) (c ∷ cs) h = ap (earliest_of x) (first-is rs xs cs h.1)
 first-is rs [] (c ∷ cs) h = absurd h
 first-is rs (x ∷ xs) [] h = absurd h
 
-pub firsts : (loose : List Loose) (x : Bus) (b : machine.Bus) → Stands loose x b
+pub firsts : (around : Around) (x : Bus) (b : machine.Bus) → Stands around x b
     → earliest_in x.connections ≡ first_waiting b
-firsts loose x b s = first-is b.requests x.connections b.connections s.shows.connections
+firsts around x b s = first-is b.requests x.connections b.connections s.shows.connections
 
 -- ---- wires
 
@@ -207,6 +191,22 @@ wired-is x b k h =
     same-of b.requests parts.is_wired is_wired (find (numbered k) x.connections) (connection_of k b)
     refl (λ y c s. s.wired)
     (found-number b.requests k x.connections b.connections h)
+
+-- a connection that is found, by whether it is wired
+pub record FoundWired (o : Option Connection) (w : Bool) : Type 0 where
+  pub found : Connection
+  pub looks : o ≡ Some found
+  pub is : w ≡ found.wired
+
+pub found-wired : (o : Option Connection) (w : Bool)
+    → Some w ≡ option_map (λ (c : Connection). c.wired) o → FoundWired o w
+found-wired None w e = absurd cc
+found-wired (Some c) w e = record { found = c; looks = refl; is = same-some w c.wired e }
+
+pub found-none : (o : Option Connection) → None ≡ option_map (λ (c : Connection). c.wired) o
+    → o ≡ None
+found-none None e = refl
+found-none (Some c) e = absurd cc
 
 -- whether some connection is wired to an interface
 pub wired-to-is : (rs : List Request) (i : ℕ) (xs : List Connection) (cs : List machine.Connection)
@@ -221,10 +221,6 @@ wired-to-is rs i [] (c ∷ cs) h = absurd h
 wired-to-is rs i (x ∷ xs) [] h = absurd h
 
 -- ---- which ends a connection has, and which connection an end names
-
--- the ends of a connection in code
-abbrev pub ends_in : Connection → ℕ × End
-ends_in x = (x.ap, x.peer)
 
 pub ends-is : (x : Bus) (b : machine.Bus) (k : ℕ)
     → StandForAll b.requests x.connections b.connections

@@ -1,6 +1,7 @@
 -- Items that are in no queue: one is let go, comes first, or comes between others.
-use Rattle.std.proofs.Common.{List, ◌∷◌, ◌++◌, inl, inr, ⊎_elim, arith}
-use Rattle.gb_bus.specs.Stands.{Stands}
+use Rattle.std.proofs.Common.{ℕ, List, ◌∷◌, ◌++◌, inl, inr, ⊎_elim, arith}
+use Rattle.gb_bus.specs.Delivering.{with_item}
+use Rattle.gb_bus.specs.Stands.{Around, Stands, around_of}
 use Rattle.gb_bus.specs.declared.bus.Bus.{Bus}
 use Rattle.gb_invariants.proofs.Changes.{loose-keeps}
 use Rattle.gb_invariants.proofs.Counts.{times-append, times-cons}
@@ -18,11 +19,12 @@ fits-without l loose b h =
     let t = times-cons (λ (m : Loose). is_item_of n m.item) l loose in omega (arith, t)) h
 
 -- A bus stands still where an item that is in no queue is let go, as a request that gets no reply.
-pub let-go : (l : Loose) (loose : List Loose) (x : Bus) (b : machine.Bus)
-    → Stands (l ∷ loose) x b → Stands loose x b
-let-go l loose x b s = record {
+pub let-go : (l : Loose) (around : Around) (x : Bus) (b : machine.Bus)
+    → Stands (with_item l around) x b → Stands around x b
+let-go l around x b s = record {
   shows = s.shows;
-  facts = record { fits = fits-without l loose b s.facts.fits; apart = s.facts.apart };
+  named = s.named;
+  facts = record { fits = fits-without l around.items b s.facts.fits; apart = s.facts.apart };
 }
 
 -- an item between others is among those that there are with it in front
@@ -66,10 +68,12 @@ fits-between before l after b h =
     omega (arith, whole, rest, here, first)) h
 
 -- A bus stands still where an item that is in no queue comes first,
-pub stands-first : (before : List Loose) (l : Loose) (after : List Loose) (x : Bus)
-    (b : machine.Bus) → Stands (before ++ l ∷ after) x b → Stands (l ∷ before ++ after) x b
-stands-first before l after x b s = record {
+pub stands-first : (names : List ℕ) (before : List Loose) (l : Loose) (after : List Loose) (x : Bus)
+    (b : machine.Bus) → Stands (around_of (before ++ l ∷ after) names) x b
+    → Stands (around_of (l ∷ before ++ after) names) x b
+stands-first names before l after x b s = record {
   shows = s.shows;
+  named = s.named;
   facts = record {
     fits = fits-first before l after b s.facts.fits;
     apart = s.facts.apart;
@@ -77,10 +81,12 @@ stands-first before l after x b s = record {
 }
 
 -- or the first comes between others.
-pub stands-between : (before : List Loose) (l : Loose) (after : List Loose) (x : Bus)
-    (b : machine.Bus) → Stands (l ∷ before ++ after) x b → Stands (before ++ l ∷ after) x b
-stands-between before l after x b s = record {
+pub stands-between : (names : List ℕ) (before : List Loose) (l : Loose) (after : List Loose)
+    (x : Bus) (b : machine.Bus) → Stands (around_of (l ∷ before ++ after) names) x b
+    → Stands (around_of (before ++ l ∷ after) names) x b
+stands-between names before l after x b s = record {
   shows = s.shows;
+  named = s.named;
   facts = record {
     fits = fits-between before l after b s.facts.fits;
     apart = s.facts.apart;

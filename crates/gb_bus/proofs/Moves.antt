@@ -6,7 +6,7 @@ use Rattle.gb_bus.proofs.Queues.{queue_more, queue_push}
 use Rattle.gb_bus.proofs.Standing.{Together}
 use Rattle.gb_bus.specs.Parts.{cleared, closed, ops_of, put, queue_of, with_ops, with_queue, with_wire, without_front}
 use Rattle.gb_bus.specs.Stands.{StandsForConnection, StandsForItem, StandsForQueue}
-use Rattle.gb_bus.specs.declared.connection.Connection.{Connection}
+use Rattle.gb_bus.specs.Connection.{Connection}
 use Rattle.gb_bus.specs.declared.queue.Item.{Item}
 use Rattle.gb_machine.specs.Bus as machine
 use Rattle.gb_machine.specs.Bus.{Request, queue}

@@ -8,7 +8,7 @@ use Rattle.gb_bus.proofs.Standing.{changed}
 use Rattle.gb_bus.proofs.Wires.{shows-connections}
 use Rattle.gb_bus.specs.Delivering.{MayReply, taken_from}
 use Rattle.gb_bus.specs.Parts.{numbered, put}
-use Rattle.gb_bus.specs.Stands.{Stands}
+use Rattle.gb_bus.specs.Stands.{Stands, around_of}
 use Rattle.gb_bus.specs.declared.answers.Asked.{Asked}
 use Rattle.gb_bus.specs.declared.bus.Bus.{Bus}
 use Rattle.gb_bus.specs.declared.queue.Item.TheVariants as code
@@ -36,22 +36,25 @@ reply-counts rest b k n result payload at m =
 
 -- The bus after a reply.
 pub replies : (x y : Bus) (k : ℕ) (at : Side) (asked : Asked) (number result : ℕ) (payload : List ℕ)
-    (before after : List Loose) (b : machine.Bus) (n : ℕ)
+    (names : List ℕ) (before after : List Loose) (b : machine.Bus) (n : ℕ)
     → asked.number ≡ Some number
     → y ≡ record x {
       connections = at_first (numbered k)
           (put (other_side at) (code.Reply number asked.label result payload)) x.connections;
     }
-    → Stands (before ++ taken_from k at (machine.Ask n) ∷ after) x b → MayReply asked b n
-    → Stands (before ++ after) y (replied k (other_side at) (machine.Reply n result payload) b)
-replies x y k at asked number result payload before after b n named moved s may =
+    → Stands (around_of (before ++ taken_from k at (machine.Ask n) ∷ after) names) x b
+    → MayReply asked b n
+    → Stands (around_of (before ++ after) names) y
+    (replied k (other_side at) (machine.Reply n result payload) b)
+replies x y k at asked number result payload names before after b n named moved s may =
     let same : number ≡ n = cc (may.names.number, named) in
     let item = machine.Reply n result payload in
     let reply = code.Reply number asked.label result payload in
     let rest = before ++ after in
     let fits = fits-first before (taken_from k at (machine.Ask n)) after b s.facts.fits in
-    subst (λ (w : Bus). Stands rest w (replied k (other_side at) item b)) (sym moved) (record {
-      shows = shows-connections x b
+    subst (λ (w : Bus). Stands (around_of rest names) w (replied k (other_side at) item b))
+    (sym moved) (record {
+      shows = shows-connections names x b
           (at_first (numbered k) (put (other_side at) reply) x.connections)
           (replied k (other_side at) item b).connections
           (changed b.requests b.requests k (put (other_side at) reply)
@@ -68,6 +71,7 @@ replies x y k at asked number result payload before after b n named moved s may 
           (sending.put (other_side at) item) (put-number (other_side at) reply)
           (λ c. (put-self (other_side at) item c).number) (put-ops (other_side at) reply)
           (put-last (other_side at) item) s.shows.sides) s.shows;
+      named = s.named;
       facts = record {
         fits = replied-keeps (taken_from k at (machine.Ask n) ∷ rest) rest k (other_side at) item b
             (λ l i. inr i)

@@ -1,38 +1,44 @@
 -- A send stands for the machine's.
-use Rattle.std.proofs.Common.{◌≡◌, ◌<◌, ℕ, ◌+◌, ◌==◌, Bool, true, false, not, cond, Option, Some, None, Result, Ok, Err, option_and_then, List, [], ◌∷◌, ◌++◌, length, length-append, refl, sym, ap, ◌∙◌, ◌⊎◌, inl, arith, subst, add-one}
+use Rattle.std.proofs.Common.{◌≡◌, ◌≤◌, ◌<◌, ℕ, ◌+◌, ◌==◌, Bool, true, false, not, cond, Option, Some, None, Result, Ok, Err, option_and_then, List, [], ◌∷◌, ◌++◌, length, eqb, is_some, refl, sym, ap, ◌∙◌, ◌⊎◌, ⊎_elim, inl, arith, subst, add-one}
 use Rattle.std.specs.List.{find}
 use Rattle.gb_base.specs.declared.end.Side.{Side}
 use Rattle.gb_base.specs.declared.outcome.Outcome.{Outcome}
 use Rattle.gb_base.specs.declared.outcome.Outcome.TheVariants as outcome
 use Rattle.gb_bus.proofs.Changing.{twice}
-use Rattle.gb_bus.proofs.Endings.{lookup-other, lookup-same}
+use Rattle.gb_bus.proofs.Counted.{tells-made}
+use Rattle.gb_bus.proofs.Endings.{lookup-other, lookup-same, same-test}
 use Rattle.gb_bus.proofs.Finding.{no-twin, twin}
 use Rattle.gb_bus.proofs.Looks.{next-is}
 use Rattle.gb_bus.proofs.Moves.{drawn-stands, more-stands, ops-number, put-stands}
 use Rattle.gb_bus.proofs.Sides.{sides-sent, sides-sent_oneway}
-use Rattle.gb_bus.proofs.SlotLaws.{tell_more}
+use Rattle.gb_bus.proofs.SlotLaws.{Tell, tell_more, tell_sent}
 use Rattle.gb_bus.proofs.Standing.{changed}
+use Rattle.gb_bus.specs.Counting.{Tells, with_one}
 use Rattle.gb_bus.specs.Ends.{first_outcome}
+use Rattle.gb_bus.specs.Listing.{count}
 use Rattle.gb_bus.specs.Moving.{LabelsAs}
 use Rattle.gb_bus.specs.Parts.{next_of, numbered, put, with_ops}
 use Rattle.gb_bus.specs.Sending.{Sends, SendsAs, SendsNone}
-use Rattle.gb_bus.specs.Stands.{KeepSides, Shows, StandForAll, Stands, StandsForItem, kept}
+use Rattle.gb_bus.specs.Slots.{Kept, MakesAs}
+use Rattle.gb_bus.specs.Stands.{AreMade, Around, KeepSides, Shows, StandForAll, Stands, StandsForItem, kept}
 use Rattle.gb_bus.specs.declared.answers.SendFault.{SendFault}
 use Rattle.gb_bus.specs.declared.answers.SendFault.TheVariants as fault
 use Rattle.gb_bus.specs.declared.bus.Bus.{Bus}
-use Rattle.gb_bus.specs.declared.connection.Connection.{Connection}
+use Rattle.gb_bus.specs.Connection.{Connection}
 use Rattle.gb_bus.specs.declared.queue.Item.{Item}
 use Rattle.gb_bus.specs.declared.queue.Item.TheVariants as code
 use Rattle.gb_bus.specs.declared.slots.Slot.{Slot}
 use Rattle.gb_invariants.proofs.Apart.{apart-changed}
-use Rattle.gb_invariants.proofs.Awaiting.{unended}
+use Rattle.gb_invariants.proofs.Awaiting.{not-both, sent-after, sent-awaited, sent-before, sent-request, unasked, unended}
 use Rattle.gb_invariants.proofs.Changes.{sent-keeps}
 use Rattle.gb_invariants.proofs.Selves.{drawn-self, put-self}
-use Rattle.gb_invariants.specs.Facts.{Loose}
-use Rattle.gb_machine.proofs.Lists.{nth-push}
+use Rattle.gb_invariants.proofs.Outcomes.{same-number}
+use Rattle.gb_invariants.specs.Facts.{OutcomesFit}
+use Rattle.gb_machine.proofs.Lists.{nth-past, nth-push}
 use Rattle.gb_machine.specs.Bus as machine
-use Rattle.gb_machine.specs.Bus.{connection_of, has_number, next_number, other_side, outcome_of}
+use Rattle.gb_machine.specs.Bus.{Request, connection_of, has_number, next_number, other_side, outcome_of, request_of}
 use Rattle.gb_machine.specs.Labels.{with_last_label}
+use Rattle.gb_machine.specs.LawsBus.{is_awaited}
 use Rattle.gb_machine.specs.Lists.{at_first, lookup, nth}
 use Rattle.gb_machine.specs.Sending as sending
 use Rattle.gb_machine.specs.Sending.{Draft, draft, drawn, is_lost, is_wired, label_for, requested, sent, sent_at_once}
@@ -76,14 +82,14 @@ record Drawn (x y : Bus) (b : machine.Bus) (d : Draft) (label : ℕ) (i : Item)
 same-label : (l m : ℕ) (r : Result ℕ SendFault) → r ≡ Ok l → r ≡ Ok m → l ≡ m
 same-label l m r e f = cc
 
-draws : (loose : List Loose) (x y : Bus) (b : machine.Bus) (k : ℕ) (at : Side) (kind : ℕ)
+draws : (around : Around) (x y : Bus) (b : machine.Bus) (k : ℕ) (at : Side) (kind : ℕ)
     (payload : List ℕ) (deadline : ℕ) (oneway : Bool) (label : ℕ) (i : Item)
-    → Stands loose x b
+    → Stands around x b
     → StandsForItem (b.requests ++ requested (draft k at kind payload deadline oneway) label ∷ []) i
     (machine.Ask (next_number b))
     → LabelsAs x y k at (next_number b) deadline oneway (Ok label)
     → Drawn x y b (draft k at kind payload deadline oneway) label i (machine.Ask (next_number b))
-draws loose x y b k at kind payload deadline true label i s item h =
+draws around x y b k at kind payload deadline true label i s item h =
     let d = draft k at kind payload deadline true in
     let r = requested d label in
     let m = machine.Ask (next_number b) in
@@ -96,9 +102,10 @@ draws loose x y b k at kind payload deadline true label i s item h =
           (λ v c t. put-stands (b.requests ++ r ∷ []) (other_side at) i m item v c
           (more-stands b.requests r v c t))
           (more-stands b.requests r) s.shows.connections;
-      sides = sides-sent_oneway loose x.connections b d label i s.facts.fits refl s.shows.sides;
+      sides = sides-sent_oneway around.items x.connections b d label i s.facts.fits refl
+          s.shows.sides;
     }
-draws loose x y b k at kind payload deadline false label i s item h =
+draws around x y b k at kind payload deadline false label i s item h =
     let d = draft k at kind payload deadline false in
     let r = requested d label in
     let m = machine.Ask (next_number b) in
@@ -127,7 +134,7 @@ draws loose x y b k at kind payload deadline false label i s item h =
           (drawn-stands (b.requests ++ r ∷ []) at w.after label v c
           (more-stands b.requests r v c t)))
           (more-stands b.requests r) s.shows.connections));
-      sides = sides-sent loose x.connections y.connections b d label i s.shows.connections
+      sides = sides-sent around.items x.connections y.connections b d label i s.shows.connections
           s.facts.fits refl w s.shows.sides;
     }
 
@@ -148,38 +155,136 @@ new_item b d label number e = record {
 -- ---- the answer
 
 -- the bus once the request was kept and waits toward the other side
-abbrev pub sending_on : Draft → ℕ → ℕ → Bus → Bus
-sending_on d label number x = record x {
+abbrev pub sending_on : Draft → ℕ → ℕ → Kept → Bus → Bus
+sending_on d label number y x = record x {
   connections = at_first (numbered d.connection)
       (put (other_side d.side) (code.Ask number label d.kind d.payload)) x.connections;
-  slots = x.slots ++ kept (first_outcome d.oneway) (requested d label) ∷ [];
+  slots = y;
 }
 
-shows-sent : (loose : List Loose) (x : Bus) (b : machine.Bus) (d : Draft) (label number : ℕ)
-    (cs : List Connection) → Stands loose x b
+-- drawing an identifier changes no slot
+pub same-slots : (x y : Bus) (k : ℕ) (at : Side) (n deadline : ℕ) (oneway : Bool) (label : ℕ)
+    → LabelsAs x y k at n deadline oneway (Ok label) → y.slots ≡ x.slots
+same-slots x y k at n deadline true label h = ap (λ (v : Bus). v.slots) h.1
+same-slots x y k at n deadline false label h = ap (λ (v : Bus). v.slots) h.1
+
+-- no name names the next request yet
+unnamed : (names : List ℕ) (b : machine.Bus) → AreMade names b → count (next_number b) names ≡ 0
+unnamed [] b made = refl
+unnamed (n ∷ ns) b made = by (eqb n (next_number b)) (λ i. eqb n (next_number b))
+    (unnamed ns b made.1)
+  where
+    by : (t : Bool) → eqb n (next_number b) ≡ t → count (next_number b) ns ≡ 0
+        → cond t (count (next_number b) ns + 1) (count (next_number b) ns) ≡ 0
+    by false e later = later
+    by true e later =
+        absurd (not-both (is_some (request_of n b)) made.0
+        (ap is_some (ap (λ m. request_of m b) (same-number n (next_number b) e)
+        ∙ nth-past (next_number b) b.requests (omega arith))))
+
+-- and names of requests that were made name such then
+pub still-made : (names : List ℕ) (b c : machine.Bus)
+    → ((n : ℕ) (r : Request) → request_of n b ≡ Some r → request_of n c ≡ Some r)
+    → AreMade names b → AreMade names c
+still-made [] b c same made = tt
+still-made (n ∷ ns) b c same made =
+    (by (request_of n b) (λ i. request_of n b) made.0, still-made ns b c same made.1)
+  where
+    by : (o : Option Request) → request_of n b ≡ o → is_some o ≡ true
+        → is_some (request_of n c) ≡ true
+    by None e h = absurd cc
+    by (Some r) e h = ap is_some (same n r e)
+
+-- what was awaited among those that were made before
+awaited-so : (d : Draft) (label : ℕ) (b : machine.Bus) → OutcomesFit b → (m : ℕ)
+    → m ≤ length b.requests → is_awaited m (sent d label b) ≡ is_awaited m b
+awaited-so d label b fits m low =
+    same-test (is_awaited m (sent d label b)) (is_awaited m b) before (sent-after d label b m)
+  where
+    before : is_awaited m (sent d label b) ≡ true → is_awaited m b ≡ true
+    before h =
+        ⊎_elim (λ o. o) (λ e. let is = e.0 in absurd (omega (arith, low, is)))
+        (sent-before d label b m fits h)
+
+-- a unidirectional request isn't awaited
+sent-unawaited : (d : Draft) (label : ℕ) (b : machine.Bus) → OutcomesFit b → d.oneway ≡ true
+    → is_awaited (next_number b) (sent d label b) ≡ false
+sent-unawaited d label b fits oneway =
+    by (is_awaited (next_number b) (sent d label b))
+    (λ i. is_awaited (next_number b) (sent d label b))
+  where
+    by : (t : Bool) → is_awaited (next_number b) (sent d label b) ≡ t → t ≡ false
+    by false e = refl
+    by true e =
+        absurd (⊎_elim
+        (λ o. not-both (is_awaited (next_number b) b) o (unasked b fits))
+        (λ w. not-both d.oneway oneway w.1) (sent-before d label b (next_number b) fits e))
+
+-- what is kept once a request is made
+kept-sent : (around : Around) (x : Bus) (b : machine.Bus) (d : Draft) (label number : ℕ)
+    (slot : Slot) (y : Kept) → Stands around x b → number ≡ next_number b
+    → slot ≡ kept number true 0 None (requested d label)
+    → (t : Bool) → d.oneway ≡ t → MakesAs t slot x.slots y
+    → Tell y around.names (b.requests ++ requested d label ∷ [])
+    (λ n. is_awaited n (sent d label b)) (λ n. outcome_of n (sent d label b))
+kept-sent around x b d label number slot y s place is true oneway makes =
+    tell_sent x.slots y around.names b.requests (λ n. is_awaited n b)
+    (λ n. is_awaited n (sent d label b)) (λ n. outcome_of n b)
+    (λ n. outcome_of n (sent d label b)) (requested d label) makes.at
+    (awaited-so d label b s.facts.fits.outcomes)
+    (λ m low. sent_others d b.outcomes (next_number b) m (inl (omega (arith, low))))
+    (sent-unawaited d label b s.facts.fits.outcomes oneway) (unnamed around.names b s.named)
+    s.shows.slots
+kept-sent around x b d label number slot y s place is false oneway makes =
+    tell_more x.slots y slot around.names b.requests (λ n. is_awaited n b)
+    (λ n. is_awaited n (sent d label b)) (λ n. outcome_of n b)
+    (λ n. outcome_of n (sent d label b)) (requested d label) makes.at
+    (is ∙ ap (λ n. kept n true 0 None (requested d label)) place)
+    (awaited-so d label b s.facts.fits.outcomes)
+    (λ m low. sent_others d b.outcomes (next_number b) m (inl (omega (arith, low))))
+    (sent-awaited d label b s.facts.fits.outcomes oneway)
+    (sent_own d b.outcomes (next_number b) (unended b s.facts.fits.outcomes)
+    ∙ ap first_outcome oneway)
+    (unnamed around.names b s.named) s.shows.slots
+
+-- and what is counted
+counted-sent : (around : Around) (x : Bus) (b : machine.Bus) (d : Draft) (label : ℕ)
+    (slot : Slot) (y : Kept) → Stands around x b → (t : Bool) → d.oneway ≡ t
+    → MakesAs t slot x.slots y → Tells y.tally (sent d label b)
+counted-sent around x b d label slot y s t oneway makes =
+    tells-made x.slots.tally y.tally b (sent d label b) (requested d label) (first_outcome t) refl
+    (sent_own d b.outcomes (next_number b) (unended b s.facts.fits.outcomes)
+    ∙ ap first_outcome oneway)
+    (λ m low. sent_others d b.outcomes (next_number b) m (inl (omega (arith, low))))
+    (by t makes) s.shows.tally
+  where
+    by : (u : Bool) → MakesAs u slot x.slots y → y.tally ≡ with_one (first_outcome u) x.slots.tally
+    by true m = m.tally_is
+    by false m = m.tally_is
+
+shows-sent : (around : Around) (x : Bus) (b : machine.Bus) (d : Draft) (label number : ℕ)
+    (cs : List Connection) (slot : Slot) (y : Kept) → Stands around x b → number ≡ next_number b
+    → slot ≡ kept number true 0 None (requested d label) → MakesAs d.oneway slot x.slots y
     → StandForAll (b.requests ++ requested d label ∷ [])
     (at_first (numbered d.connection)
     (put (other_side d.side) (code.Ask number label d.kind d.payload)) cs)
     (sent d label b).connections
     → KeepSides (at_first (numbered d.connection)
     (put (other_side d.side) (code.Ask number label d.kind d.payload)) cs) (sent d label b)
-    → Shows (sending_on d label number (record x { connections = cs })) (sent d label b)
-shows-sent loose x b d label number cs s stand sides = record {
+    → Shows around.names (sending_on d label number y (record x { connections = cs }))
+    (sent d label b)
+shows-sent around x b d label number cs slot y s place is makes stand sides = record {
   made = s.shows.made;
   connections = stand;
   sides = sides;
-  count = length-append b.requests (requested d label ∷ []) ∙ ap (λ n. n + 1) s.shows.count
-      ∙ sym (length-append x.slots (kept (first_outcome d.oneway) (requested d label) ∷ []));
-  slots = tell_more x.slots b.requests (λ n. outcome_of n b) (λ n. outcome_of n (sent d label b))
-      (requested d label) (first_outcome d.oneway) s.shows.count s.shows.slots
-      (λ n h. sent_others d b.outcomes (next_number b) n (inl (omega arith)))
-      (sent_own d b.outcomes (next_number b) (unended b s.facts.fits.outcomes));
+  slots = kept-sent around x b d label number slot y s place is d.oneway refl makes;
+  tally = counted-sent around x b d label slot y s d.oneway refl makes;
 }
 
 -- The answer where the connection isn't live.
-pub sends_nowhere : (loose : List Loose) (x : Bus) (b : machine.Bus) (d : Draft) → Stands loose x b
-    → find (numbered d.connection) x.connections ≡ None → SendsNone loose x d b
-sends_nowhere loose x b d s none = record {
+pub sends_nowhere : (around : Around) (x : Bus) (b : machine.Bus) (d : Draft) → Stands around x b
+    → find (numbered d.connection) x.connections ≡ None → SendsNone around x d b
+sends_nowhere around x b d s none = record {
   label = ap (option_and_then (λ c. label_for d b))
       (no-twin b.requests d.connection x.connections b.connections s.shows.connections none);
   stands = s;
@@ -192,48 +297,53 @@ none_on None = refl
 none_on (Some c) = refl
 
 -- The answer where no identifier was had.
-pub sends_none : (loose : List Loose) (x y : Bus) (b : machine.Bus) (k : ℕ) (at : Side) (kind n : ℕ)
+pub sends_none : (around : Around) (x y : Bus) (b : machine.Bus) (k : ℕ) (at : Side) (kind n : ℕ)
     (payload : List ℕ) (deadline : ℕ) (oneway : Bool) (e : SendFault)
-    → Stands loose x b → LabelsAs x y k at n deadline oneway (Err e)
-    → SendsAs loose y (draft k at kind payload deadline oneway) b (Err e)
-sends_none loose x y b k at kind n payload deadline true fault.NoLabel s h =
+    → Stands around x b → LabelsAs x y k at n deadline oneway (Err e)
+    → SendsAs around y (draft k at kind payload deadline oneway) b (Err e)
+sends_none around x y b k at kind n payload deadline true fault.NoLabel s h =
     absurd (clash h.0)
   where
     clash : {A E : Type 0} {e : E} {v : A} → Err e ≡ Ok v → ⊥
     clash e = absurd cc
-sends_none loose x y b k at kind n payload deadline oneway (fault.Memory m) s h = tt
-sends_none loose x y b k at kind n payload deadline false fault.NoLabel s h = record {
+sends_none around x y b k at kind n payload deadline oneway (fault.Memory m) s h = tt
+sends_none around x y b k at kind n payload deadline false fault.NoLabel s h = record {
   label = ap (λ o. option_and_then (λ c. o) (connection_of k b))
       (sym (next-is x b k at s.shows) ∙ h.0) ∙ none_on (connection_of k b);
-  stands = subst (λ (v : Bus). Stands loose v b) (sym h.1) s;
+  stands = subst (λ (v : Bus). Stands around v b) (sym h.1) s;
 }
 
 -- the answer where what waits and what is kept are given at once
-sends_on : (loose : List Loose) (x y z : Bus) (b : machine.Bus) (k : ℕ) (at : Side) (kind : ℕ)
+sends_on : (around : Around) (x y z : Bus) (b : machine.Bus) (k : ℕ) (at : Side) (kind : ℕ)
     (payload : List ℕ) (deadline : ℕ) (oneway : Bool)
-    (label number : ℕ) (lost : Bool) (found : Connection)
-    → Stands loose x b → number ≡ next_number b
+    (label number : ℕ) (lost : Bool) (found : Connection) (slot : Slot) (w : Kept)
+    → Stands around x b → number ≡ next_number b
     → LabelsAs x y k at (next_number b) deadline oneway (Ok label)
     → find (numbered k) x.connections ≡ Some found → lost ≡ not found.wired
-    → z ≡ sending_on (draft k at kind payload deadline oneway) label number y
-    → Sends loose z (draft k at kind payload deadline oneway) b
+    → slot ≡ kept number true 0 None (requested (draft k at kind payload deadline oneway) label)
+    → MakesAs oneway slot x.slots w
+    → z ≡ sending_on (draft k at kind payload deadline oneway) label number w y
+    → Sends around z (draft k at kind payload deadline oneway) b
     (record { number = number; label = label; lost = lost })
-sends_on loose x y z b k at kind payload deadline oneway label number lost found s place h looks
-    is_lost after =
+sends_on around x y z b k at kind payload deadline oneway label number lost found slot v s place h
+    looks is_lost is makes after =
     let d = draft k at kind payload deadline oneway in
     let c = twin b.requests k x.connections b.connections found s.shows.connections looks in
-    let w = draws loose x y b k at kind payload deadline oneway label
+    let w = draws around x y b k at kind payload deadline oneway label
     (code.Ask number label kind payload) s (new_item b d label number place) h in
     let ask = machine.Ask (next_number b) in
     record {
       label = ap (option_and_then (λ o. label_for d b)) c.live ∙ w.label_is;
       number = place;
       lost = is_lost ∙ ap not (c.stands.wired ∙ sym (ap is_wired c.live));
-      stands = subst (λ (v : Bus). Stands loose v (sent d label b))
-          (sym (after ∙ ap (sending_on d label number) w.after)) (record {
-            shows = shows-sent loose x b d label number w.connections s w.stand w.sides;
+      stands = subst (λ (u : Bus). Stands around u (sent d label b))
+          (sym (after ∙ ap (sending_on d label number v) w.after)) (record {
+            shows = shows-sent around x b d label number w.connections slot v s place is makes
+                w.stand w.sides;
+            named = still-made around.names b (sent d label b) (sent-request d label b) s.named;
             facts = record {
-              fits = sent-keeps loose d label c.connection b c.live w.label_is s.facts.fits;
+              fits = sent-keeps around.items d label c.connection b c.live w.label_is
+                  s.facts.fits;
               apart = apart-changed b k (λ v. sending.put (other_side at) ask (drawn d label v))
                   (λ v.
                   let p = put-self (other_side at) ask (drawn d label v) in
@@ -246,38 +356,33 @@ sends_on loose x y z b k at kind payload deadline oneway label number lost found
 
 -- The answer of a send that draws an identifier, or needs none. What waits and what is kept are
 -- given by their parts.
-pub sends : (loose : List Loose) (x y : Bus) (b : machine.Bus) (k : ℕ) (at to : Side) (kind : ℕ)
+pub sends : (around : Around) (x y : Bus) (b : machine.Bus) (k : ℕ) (at to : Side) (kind : ℕ)
     (payload bytes : List ℕ) (deadline : ℕ) (oneway : Bool)
-    (label number : ℕ) (lost : Bool) (found : Connection) (how : Option Outcome)
-    (cs : List Connection) (slots : List Slot)
-    → Stands loose x b → number ≡ length x.slots + 1
+    (label number : ℕ) (lost : Bool) (found : Connection) (slot : Slot)
+    (cs : List Connection) (w : Kept)
+    → Stands around x b → number ≡ x.slots.tally.requests + 1
     → LabelsAs x y k at number deadline oneway (Ok label)
     → find (numbered k) x.connections ≡ Some found → lost ≡ not found.wired
-    → to ≡ other_side at → bytes ≡ payload → how ≡ first_outcome oneway
+    → to ≡ other_side at → bytes ≡ payload
+    → slot ≡ kept number true 0 None (requested (draft k at kind payload deadline oneway) label)
     → cs ≡ at_first (numbered k) (put to (code.Ask number label kind bytes)) y.connections
-    → slots ≡ y.slots ++ kept how (requested (draft k at kind payload deadline oneway) label) ∷ []
-    → Sends loose (record y { connections = cs; slots = slots })
+    → MakesAs oneway slot y.slots w → y.slots ≡ x.slots
+    → Sends around (record y { connections = cs; slots = w })
     (draft k at kind payload deadline oneway) b
     (record { number = number; label = label; lost = lost })
-sends loose x y b k at to kind payload bytes deadline oneway label number lost found how cs slots s
-    count h looks is_lost to_is bytes_is how_is goes keeps =
-    let place : number ≡ next_number b = count ∙ ap (λ l. l + 1) (sym s.shows.count) in
-    sends_on loose x y (record y { connections = cs; slots = slots }) b k at kind payload deadline
-    oneway label number lost found s place
-    (subst (λ n. LabelsAs x y k at n deadline oneway (Ok label)) place h) looks is_lost after
+sends around x y b k at to kind payload bytes deadline oneway label number lost found slot cs w s
+    count h looks is_lost to_is bytes_is is goes makes same =
+    let place : number ≡ next_number b = count ∙ ap (λ l. l + 1) s.shows.tally.requests in
+    sends_on around x y (record y { connections = cs; slots = w }) b k at kind payload deadline
+    oneway label number lost found slot w s place
+    (subst (λ n. LabelsAs x y k at n deadline oneway (Ok label)) place h) looks is_lost is
+    (subst (λ v. MakesAs oneway slot v w) same makes) after
   where
-    after : record y { connections = cs; slots = slots }
-        ≡ sending_on (draft k at kind payload deadline oneway) label number y
+    after : record y { connections = cs; slots = w }
+        ≡ sending_on (draft k at kind payload deadline oneway) label number w y
     after =
-        ap (λ l. record y { connections = l; slots = slots })
+        ap (λ l. record y { connections = l; slots = w })
         (goes ∙ ap (λ t. at_first (numbered k) (put t (code.Ask number label kind bytes))
         y.connections) to_is
         ∙ ap (λ v. at_first (numbered k) (put (other_side at) (code.Ask number label kind v))
         y.connections) bytes_is)
-        ∙ ap (λ l. record y {
-          connections = at_first (numbered k)
-              (put (other_side at) (code.Ask number label kind payload)) y.connections;
-          slots = l;
-        })
-        (keeps ∙ ap (λ o. y.slots ++ kept o
-        (requested (draft k at kind payload deadline oneway) label) ∷ []) how_is)

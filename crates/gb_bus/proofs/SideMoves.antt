@@ -11,7 +11,7 @@ use Rattle.gb_bus.proofs.SideStates.{SameSide, keeps-same, same-side}
 use Rattle.gb_bus.specs.Parts.{numbered, ops_of, with_ops}
 use Rattle.gb_bus.specs.Sides.{ChangesSide}
 use Rattle.gb_bus.specs.Stands.{KeepSides, KeepsSide, StandForAll}
-use Rattle.gb_bus.specs.declared.connection.Connection.{Connection}
+use Rattle.gb_bus.specs.Connection.{Connection}
 use Rattle.gb_invariants.proofs.Awaiting.{is_of-is, same-some}
 use Rattle.std.specs.List.{find}
 use Rattle.gb_machine.specs.Bus as machine

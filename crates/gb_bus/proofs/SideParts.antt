@@ -5,7 +5,7 @@ use Rattle.gb_base.specs.declared.end.Side.{Side}
 use Rattle.gb_base.specs.declared.end.Side.TheVariants as side
 use Rattle.gb_bus.proofs.Moves.{put-last}
 use Rattle.gb_bus.specs.Parts.{new_connection, ops_of, with_ops}
-use Rattle.gb_bus.specs.declared.connection.Connection.{Connection}
+use Rattle.gb_bus.specs.Connection.{Connection}
 use Rattle.gb_machine.specs.Bus as machine
 use Rattle.gb_machine.specs.Labels.{last_label, with_last_label}
 use Rattle.gb_machine.specs.Sending as sending

@@ -16,7 +16,7 @@ use Rattle.gb_bus.proofs.SideStates.{is-pending, keeps-by, keeps-same, same-clos
 use Rattle.gb_bus.specs.Parts.{new_connection, numbered, ops_of, put, with_ops}
 use Rattle.gb_bus.specs.Sides.{ChangesSide, IsNotOf}
 use Rattle.gb_bus.specs.Stands.{KeepSides, KeepsSide, StandForAll}
-use Rattle.gb_bus.specs.declared.connection.Connection.{Connection}
+use Rattle.gb_bus.specs.Connection.{Connection}
 use Rattle.gb_bus.specs.declared.queue.Item.{Item}
 use Rattle.gb_invariants.proofs.Awaiting.{is_of-is, same-some}
 use Rattle.gb_invariants.specs.Facts.{BusFits, Loose, NumbersRise}

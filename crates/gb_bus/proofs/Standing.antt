@@ -3,7 +3,7 @@ use Rattle.std.proofs.Common.{◌≡◌, ℕ, Bool, true, false, cond, Option, S
 use Rattle.std.specs.List.{find}
 use Rattle.gb_bus.specs.Parts.{numbered}
 use Rattle.gb_bus.specs.Stands.{StandForAll, StandsForConnection}
-use Rattle.gb_bus.specs.declared.connection.Connection.{Connection}
+use Rattle.gb_bus.specs.Connection.{Connection}
 use Rattle.gb_machine.specs.Bus as machine
 use Rattle.gb_machine.specs.Bus.{Request, has_number}
 use Rattle.gb_machine.specs.Lists.{at_first, without}

@@ -3,14 +3,13 @@ use Rattle.std.proofs.Common.{◌≡◌, ℕ, suc, eqb, Bool, true, false, cond,
 use Rattle.std.proofs.lemmas.Bool.Decides.{nat_tests}
 use Rattle.gb_base.specs.declared.end.End.{End}
 use Rattle.gb_base.specs.declared.end.End.TheVariants as end
-use Rattle.gb_bus.specs.Stands.{StandForAll, Stands, StandsForConnection, StandsForQueue}
+use Rattle.gb_bus.specs.Stands.{Around, StandForAll, Stands, StandsForConnection, StandsForQueue}
 use Rattle.gb_bus.specs.Telling.{known_as, known_of, waiting_before, waiting_in, waiting_of, with_end, with_ends}
 use Rattle.gb_bus.specs.declared.bus.Bus.{Bus}
-use Rattle.gb_bus.specs.declared.connection.Connection.{Connection}
+use Rattle.gb_bus.specs.Connection.{Connection}
 use Rattle.gb_bus.specs.declared.queue.Item.{Item}
 use Rattle.gb_bus.specs.declared.telling.Waiting.{Waiting}
 use Rattle.gb_bus.proofs.Looks.{length-is}
-use Rattle.gb_invariants.specs.Facts.{Loose}
 use Rattle.gb_machine.proofs.Ordering.{in_order-map}
 use Rattle.gb_machine.specs.Bus as machine
 use Rattle.gb_machine.specs.Bus.{Request}
@@ -32,9 +31,9 @@ known-all rs (x ∷ xs) (c ∷ cs) h =
 known-all rs [] (c ∷ cs) h = absurd h
 known-all rs (x ∷ xs) [] h = absurd h
 
-pub known-is : (loose : List Loose) (x : Bus) (b : machine.Bus) → Stands loose x b
+pub known-is : (around : Around) (x : Bus) (b : machine.Bus) → Stands around x b
     → map known_as x.connections ≡ map known_of b.connections
-known-is loose x b s = known-all b.requests x.connections b.connections s.shows.connections
+known-is around x b s = known-all b.requests x.connections b.connections s.shows.connections
 
 -- ---- queues
 
@@ -102,6 +101,6 @@ told-all rs (x ∷ xs) (c ∷ cs) h =
 told-all rs [] (c ∷ cs) h = absurd h
 told-all rs (x ∷ xs) [] h = absurd h
 
-pub waiting-is : (loose : List Loose) (x : Bus) (b : machine.Bus) → Stands loose x b
+pub waiting-is : (around : Around) (x : Bus) (b : machine.Bus) → Stands around x b
     → waiting_in x.connections ≡ map waiting_of (queues b)
-waiting-is loose x b s = told-all b.requests x.connections b.connections s.shows.connections
+waiting-is around x b s = told-all b.requests x.connections b.connections s.shows.connections

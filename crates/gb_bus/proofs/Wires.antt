@@ -1,24 +1,22 @@
 -- Connections that are made, wired, unwired, closed and removed stand for the machine's.
-use Rattle.std.proofs.Common.{◌≡◌, ◌≤◌, ℕ, suc, ◌+◌, ◌==◌, Bool, not, true, false, eqb, ◌&&◌, is_none, Option, option_map, List, [], ◌∷◌, ◌++◌, map, refl, sym, ap, ◌∙◌, subst, arith}
-use Rattle.std.proofs.lemmas.List.{length-map}
-use Rattle.std.specs.List.{slice_get}
+use Rattle.std.proofs.Common.{◌≡◌, ◌≤◌, ℕ, ◌+◌, ◌==◌, not, true, false, eqb, List, [], ◌∷◌, ◌++◌, refl, sym, ap, ◌∙◌, subst, arith}
 use Rattle.gb_base.specs.declared.end.End.TheVariants as end
 use Rattle.gb_base.specs.declared.end.Side.{Side}
 use Rattle.gb_base.specs.declared.end.Side.TheVariants as side
-use Rattle.gb_base.specs.declared.outcome.Outcome.{Outcome}
 use Rattle.gb_bus.proofs.Changing.{twice}
-use Rattle.gb_bus.proofs.Closing.{opens, tell_closed}
+use Rattle.gb_bus.proofs.Closing.{are-open, opened-on, tell_closed, tells-side}
+use Rattle.gb_bus.proofs.Counted.{tells-same}
 use Rattle.gb_bus.proofs.Moves.{cleared-stands, closed-stands, same-stands, wire-last, wire-ops, wired-stands}
 use Rattle.gb_bus.proofs.Sides.{sides-attached, sides-changed, sides-closed, sides-detached}
 use Rattle.gb_bus.proofs.Standing.{changed, one-more, removed}
+use Rattle.gb_bus.specs.Counting.{Tells}
+use Rattle.gb_bus.specs.Listing.{AreThose}
 use Rattle.gb_bus.specs.Parts.{cleared, closed, new_connection, numbered, ops_of, with_ops, with_wire}
-use Rattle.gb_bus.specs.Slots as slots
-use Rattle.gb_bus.specs.Slots.{is_open_on, open_in, over}
-use Rattle.gb_bus.specs.Stands.{KeepSides, Keeps, Shows, StandForAll, Stands, kept}
+use Rattle.gb_bus.specs.Slots.{Closes, Kept, all_disconnected, is_late_on, is_open_on, slot_at}
+use Rattle.gb_bus.specs.Stands.{Around, KeepSides, Keeps, Shows, StandForAll, Stands}
 use Rattle.gb_bus.specs.Wiring.{Attaches, EndsAs, IsOther, MayAttach, elsewhere}
 use Rattle.gb_bus.specs.declared.bus.Bus.{Bus}
-use Rattle.gb_bus.specs.declared.connection.Connection.{Connection}
-use Rattle.gb_bus.specs.declared.slots.Slot.{Slot}
+use Rattle.gb_bus.specs.Connection.{Connection}
 use Rattle.gb_invariants.proofs.Apart.{apart-attached, apart-changed, apart-detached}
 use Rattle.gb_invariants.proofs.Changes.{attached-keeps, detached-keeps, shut-keeps, unwired-keeps, wired-keeps}
 use Rattle.gb_invariants.proofs.Awaiting.{not-both}
@@ -32,48 +30,55 @@ use Rattle.gb_machine.specs.Labels.{last_label}
 use Rattle.gb_machine.specs.LawsBus.{AreApart, is_item_of}
 use Rattle.gb_machine.specs.Lists.{at_first, without}
 use Rattle.gb_machine.specs.Members.{Each, IsIn}
-use Rattle.gb_machine.specs.Requests.{is_due, is_of, open_on, open_requests}
 use Rattle.gb_machine.specs.Wiring as wiring
 use Rattle.gb_machine.specs.Wiring.{attached, detached, next_connection, shut_down, side_ended, unwired, wired, with_connection}
 use Rattle.gb_ops.specs.Calls.{emptied}
 
 -- only connections change
-pub shows-connections : (x : Bus) (b : machine.Bus) (xs : List Connection)
+pub shows-connections : (names : List ℕ) (x : Bus) (b : machine.Bus) (xs : List Connection)
     (cs : List machine.Connection)
-    → StandForAll b.requests xs cs → KeepSides xs (record b { connections = cs }) → Shows x b
-    → Shows (record x { connections = xs }) (record b { connections = cs })
-shows-connections x b xs cs h sides s =
-    record { made = s.made; connections = h; sides = sides; count = s.count; slots = s.slots }
+    → StandForAll b.requests xs cs → KeepSides xs (record b { connections = cs }) → Shows names x b
+    → Shows names (record x { connections = xs }) (record b { connections = cs })
+shows-connections names x b xs cs h sides s = record {
+  made = s.made;
+  connections = h;
+  sides = sides;
+  slots = s.slots;
+  tally = tells-same x.slots.tally b (record b { connections = cs }) refl (λ m. refl) s.tally;
+}
 
-pub wires : (loose : List Loose) (x y : Bus) (b : machine.Bus) (k : ℕ) → Stands loose x b
+pub wires : (around : Around) (x y : Bus) (b : machine.Bus) (k : ℕ) → Stands around x b
     → y ≡ record x { connections = at_first (numbered k) with_wire x.connections }
-    → Stands loose y (wired k b)
-wires loose x y b k s e =
-    subst (λ (w : Bus). Stands loose w (wired k b)) (sym e) (record {
-      shows = shows-connections x b (at_first (numbered k) with_wire x.connections)
+    → Stands around y (wired k b)
+wires around x y b k s e =
+    subst (λ (w : Bus). Stands around w (wired k b)) (sym e) (record {
+      shows = shows-connections around.names x b (at_first (numbered k) with_wire x.connections)
           (wired k b).connections
           (changed b.requests b.requests k with_wire (λ c. record c { wired = true }) x.connections
           b.connections
           (wired-stands b.requests) (same-stands b.requests) s.shows.connections)
           (sides-changed x.connections b k with_wire (λ c. record c { wired = true }) (λ v. refl)
           (λ c. refl) wire-ops wire-last s.shows.sides) s.shows;
+      named = s.named;
       facts = record {
-        fits = wired-keeps loose k b s.facts.fits;
+        fits = wired-keeps around.items k b s.facts.fits;
         apart = apart-changed b k (λ c. record c { wired = true })
             (λ c. record { number = refl; ap = refl; peer = refl }) s.facts.apart;
       };
     })
 
-pub detaches : (loose : List Loose) (x y : Bus) (b : machine.Bus) (k : ℕ) → Stands loose x b
+pub detaches : (around : Around) (x y : Bus) (b : machine.Bus) (k : ℕ) → Stands around x b
     → y ≡ record x { connections = without (numbered k) x.connections }
-    → Stands loose y (detached k b)
-detaches loose x y b k s e =
-    subst (λ (w : Bus). Stands loose w (detached k b)) (sym e) (record {
-      shows = shows-connections x b (without (numbered k) x.connections) (detached k b).connections
+    → Stands around y (detached k b)
+detaches around x y b k s e =
+    subst (λ (w : Bus). Stands around w (detached k b)) (sym e) (record {
+      shows = shows-connections around.names x b (without (numbered k) x.connections)
+          (detached k b).connections
           (removed b.requests k x.connections b.connections s.shows.connections)
           (sides-detached x.connections b k s.shows.sides) s.shows;
+      named = s.named;
       facts = record {
-        fits = detached-keeps loose k b s.facts.fits;
+        fits = detached-keeps around.items k b s.facts.fits;
         apart =
             apart-detached b k s.facts.apart;
       };
@@ -97,19 +102,19 @@ new_ends loose b a i c protocol f may =
       peers = own.peer;
     })
 
-pub attaches : (loose : List Loose) (x y : Bus) (b : machine.Bus) (a i c protocol k : ℕ)
-    → Stands loose x b → MayAttach a i c b → k ≡ x.made + 1
+pub attaches : (around : Around) (x y : Bus) (b : machine.Bus) (a i c protocol k : ℕ)
+    → Stands around x b → MayAttach a i c b → k ≡ x.made + 1
     → y ≡ record x {
       made = k;
       connections =
           x.connections ++ new_connection k a (end.Module i c) protocol ∷ [];
     }
-    → Attaches loose y a i c protocol b k
-attaches loose x y b a i c protocol k s may number e =
+    → Attaches around y a i c protocol b k
+attaches around x y b a i c protocol k s may number e =
     let next : k ≡ next_connection b = number ∙ ap (λ n. n + 1) s.shows.made in
     record {
       number = next;
-      stands = subst (λ (w : Bus). Stands loose w (attached a i c protocol b)) (sym e) (record {
+      stands = subst (λ (w : Bus). Stands around w (attached a i c protocol b)) (sym e) (record {
         shows = record {
           made = next;
           connections = one-more b.requests (new_connection k a (end.Module i c) protocol)
@@ -131,12 +136,15 @@ attaches loose x y b a i c protocol k s may number e =
               (attached a i c protocol b)) (sym next)
               (sides-attached x.connections b a i c protocol s.shows.connections
               s.facts.fits.numbers s.shows.sides);
-          count = s.shows.count;
           slots = s.shows.slots;
+          tally = tells-same x.slots.tally b (attached a i c protocol b) refl (λ m. refl)
+              s.shows.tally;
         };
+        named = s.named;
         facts = record {
-          fits = attached-keeps loose b a i c protocol s.facts.fits;
-          apart = apart-attached b a i c protocol (new_ends loose b a i c protocol s.facts may)
+          fits = attached-keeps around.items b a i c protocol s.facts.fits;
+          apart = apart-attached b a i c protocol
+              (new_ends around.items b a i c protocol s.facts may)
               s.facts.apart;
         };
       });
@@ -144,40 +152,30 @@ attaches loose x y b a i c protocol k s may number e =
 
 -- ---- a side ends
 
--- the open requests that slots tell of
-opened : (x : Bus) (b : machine.Bus) (test : Slot → Bool) (of : Request → Bool)
-    → ((o : Option Outcome) (r : Request) → test (kept o r) ≡ (of r && is_none o)) → Shows x b
-    → open_in test 1 x.slots ≡ open_requests of b
-opened x b test of same s =
-    opens 1 test of b x.slots b.requests same (λ i j e.
-    subst (λ m. slice_get x.slots i
-    ≡ option_map (kept (outcome_of m b)) (slice_get b.requests i))
-    (let f : suc i ≡ j = omega (arith, e) in f) (s.slots (suc i)))
-
--- those of a side of a connection
-opened-on : (x : Bus) (b : machine.Bus) (k : ℕ) (at : Side) → Shows x b
-    → open_in (is_open_on k at) 1 x.slots ≡ open_on k at b
-opened-on x b k at s = opened x b (is_open_on k at) (is_of k at) (λ o r. refl) s
-
--- and those whose deadline came
-pub due-is : (x : Bus) (b : machine.Bus) (now : ℕ) → Shows x b
-    → open_in (slots.is_due now) 1 x.slots ≡ open_requests (is_due now) b
-due-is x b now s = opened x b (slots.is_due now) (is_due now) (λ o r. refl) s
-
 -- connections change, and a side of one ends
-shows-closed : (x : Bus) (b : machine.Bus) (k : ℕ) (at : Side) (xs : List Connection)
-    (cs : List machine.Connection)
+shows-closed : (names : List ℕ) (x : Bus) (b : machine.Bus) (k : ℕ) (at : Side)
+    (xs : List Connection) (cs : List machine.Connection) (unended late : List ℕ) (y : Kept)
     → StandForAll b.requests xs cs → KeepSides xs (side_ended k at (record b { connections = cs }))
-    → Shows x b
-    → Shows (record x { connections = xs; slots = map (over k at) x.slots })
+    → AreThose (λ n. is_open_on k at (slot_at x.slots n)) unended
+    → AreThose (λ n. is_late_on k at (slot_at x.slots n)) late
+    → Closes unended late x.slots y → Shows names x b
+    → Shows names (record x { connections = xs; slots = y })
     (side_ended k at (record b { connections = cs }))
-shows-closed x b k at xs cs h sides s = record {
-  made = s.made;
-  connections = h;
-  sides = sides;
-  count = s.count ∙ sym (length-map x.slots (over k at));
-  slots = tell_closed k at (record b { connections = cs }) x.slots s.slots;
-}
+shows-closed names x b k at xs cs unended late y h sides opens lates closes s =
+    let c = record b { connections = cs } in
+    record {
+      made = s.made;
+      connections = h;
+      sides = sides;
+      slots = tell_closed x.slots y names c k at unended late opens.each lates.each s.slots
+          closes.at;
+      tally = subst (λ t. Tells t (side_ended k at c))
+          (sym (closes.tally_is (are-open x.slots names c k at unended s.slots opens)
+          ∙ ap (λ ns. all_disconnected ns x.slots.tally)
+          (opened-on x.slots names c k at unended s.slots opens)))
+          (tells-side x.slots.tally c k at
+          (tells-same x.slots.tally b c refl (λ m. refl) s.tally));
+    }
 
 -- a connection changes but for its sides, and then one of them ends
 sides-over : (xs : List Connection) (b : machine.Bus) (k : ℕ) (at : Side)
@@ -221,73 +219,85 @@ shut-last side.Ap c = refl
 shut-last side.Far c = refl
 
 -- items that are of other connections are among those that there are
-of-elsewhere : (k : ℕ) (loose : List Loose) (l : Loose) → IsIn l (elsewhere k loose)
-    → IsIn l loose × (l.connection ≡ k → ⊥)
-of-elsewhere k loose l i =
-    let w = in-without (λ (m : Loose). m.connection == k) loose l i in
+of-elsewhere : (k : ℕ) (around : Around) (l : Loose) → IsIn l (elsewhere k around).items
+    → IsIn l around.items × (l.connection ≡ k → ⊥)
+of-elsewhere k around l i =
+    let w = in-without (λ (m : Loose). m.connection == k) around.items l i in
     (w.0, λ e. other (l.connection) e w.1)
   where
     other : (n : ℕ) → n ≡ k → (n == k) ≡ false → ⊥
     other n e h = not-both (n == k) (ap (λ m. m == k) e ∙ is-same k) h
 
-fewer-elsewhere : (k : ℕ) (loose : List Loose) (b : machine.Bus) (n : ℕ)
-    → times_in (is_item_of n) (elsewhere k loose) b ≤ times_in (is_item_of n) loose b
-fewer-elsewhere k loose b n =
+fewer-elsewhere : (k : ℕ) (around : Around) (b : machine.Bus) (n : ℕ)
+    → times_in (is_item_of n) (elsewhere k around).items b ≤ times_in (is_item_of n) around.items b
+fewer-elsewhere k around b n =
     let t = times-filter (λ (l : Loose). is_item_of n l.item)
-    (λ (m : Loose). not (m.connection == k)) loose in
+    (λ (m : Loose). not (m.connection == k)) around.items in
     omega (arith, t)
 
-pub unwires : (loose : List Loose) (x y : Bus) (b : machine.Bus) (k : ℕ) (was now more : List ℕ)
-    → Stands loose x b
+pub unwires : (around : Around) (x y : Bus) (b : machine.Bus) (k : ℕ)
+    (was later unended late : List ℕ)
+    → Stands around x b
     → y ≡ record x {
       connections = at_first (numbered k) cleared x.connections;
-      slots =
-          map (over k side.Far) x.slots;
+      slots = y.slots;
     }
-    → more ≡ open_in (is_open_on k side.Far) 1 x.slots → now ≡ was ++ more
-    → EndsAs (elsewhere k loose) y k side.Far b (unwired k b) was now
-unwires loose x y b k was now more s e opened after = record {
-  stands = subst (λ (w : Bus). Stands (elsewhere k loose) w (unwired k b)) (sym e) (record {
-    shows = shows-closed x b k side.Far (at_first (numbered k) cleared x.connections)
-        (with_connection k cut_off b).connections
+    → AreThose (λ n. is_open_on k side.Far (slot_at x.slots n)) unended
+    → AreThose (λ n. is_late_on k side.Far (slot_at x.slots n)) late
+    → Closes unended late x.slots y.slots → later ≡ was ++ unended
+    → EndsAs (elsewhere k around) y k side.Far b (unwired k b) was later
+unwires around x y b k was later unended late s e opens lates closes after = record {
+  stands = subst (λ (w : Bus). Stands (elsewhere k around) w (unwired k b)) (sym e) (record {
+    shows = shows-closed around.names x b k side.Far
+        (at_first (numbered k) cleared x.connections)
+        (with_connection k cut_off b).connections unended late y.slots
         (changed b.requests b.requests k cleared cut_off x.connections b.connections
         (cleared-stands b.requests) (same-stands b.requests) s.shows.connections)
         (sides-over x.connections b k side.Far cut cleared cut_off (λ v. refl) (λ c. refl) cut-ops
-        cut-last refl s.shows.sides) s.shows;
+        cut-last refl s.shows.sides) opens lates closes s.shows;
+    named = s.named;
     facts = record {
-      fits = unwired-keeps loose (elsewhere k loose) k b (λ l i. (of-elsewhere k loose l i).0)
-          (λ l i. (of-elsewhere k loose l i).1) (fewer-elsewhere k loose b) s.facts.fits;
+      fits = unwired-keeps around.items (elsewhere k around).items k b
+          (λ l i. (of-elsewhere k around l i).0) (λ l i. (of-elsewhere k around l i).1)
+          (fewer-elsewhere k around b) s.facts.fits;
       apart = apart-changed b k cut_off
           (λ c. record { number = refl; ap = refl; peer = refl }) s.facts.apart;
     };
   });
-  ended = after ∙ ap (λ ns. was ++ ns) (opened ∙ opened-on x b k side.Far s.shows);
+  ended = after
+      ∙ ap (λ ns. was ++ ns)
+      (opened-on x.slots around.names b k side.Far unended s.shows.slots opens);
 }
 
-pub shuts : (loose : List Loose) (x y : Bus) (b : machine.Bus) (k : ℕ) (was now more : List ℕ)
-    → Stands loose x b
+pub shuts : (around : Around) (x y : Bus) (b : machine.Bus) (k : ℕ)
+    (was later unended late : List ℕ)
+    → Stands around x b
     → y ≡ record x {
       connections = at_first (numbered k) closed x.connections;
-      slots =
-          map (over k side.Ap) x.slots;
+      slots = y.slots;
     }
-    → more ≡ open_in (is_open_on k side.Ap) 1 x.slots → now ≡ was ++ more
-    → EndsAs loose y k side.Ap b (shut_down k b) was now
-shuts loose x y b k was now more s e opened after = record {
-  stands = subst (λ (w : Bus). Stands loose w (shut_down k b)) (sym e) (record {
-    shows = shows-closed x b k side.Ap (at_first (numbered k) closed x.connections)
-        (with_connection k (λ c. record c { shut = true }) b).connections
+    → AreThose (λ n. is_open_on k side.Ap (slot_at x.slots n)) unended
+    → AreThose (λ n. is_late_on k side.Ap (slot_at x.slots n)) late
+    → Closes unended late x.slots y.slots → later ≡ was ++ unended
+    → EndsAs around y k side.Ap b (shut_down k b) was later
+shuts around x y b k was later unended late s e opens lates closes after = record {
+  stands = subst (λ (w : Bus). Stands around w (shut_down k b)) (sym e) (record {
+    shows = shows-closed around.names x b k side.Ap (at_first (numbered k) closed x.connections)
+        (with_connection k (λ c. record c { shut = true }) b).connections unended late y.slots
         (changed b.requests b.requests k closed (λ c. record c { shut = true }) x.connections
         b.connections
         (closed-stands b.requests) (same-stands b.requests) s.shows.connections)
         (sides-over x.connections b k side.Ap (λ v. record v { shut = true }) closed
         (λ c. record c { shut = true }) (λ v. refl) (λ c. refl) shut-ops shut-last refl
-        s.shows.sides) s.shows;
+        s.shows.sides) opens lates closes s.shows;
+    named = s.named;
     facts = record {
-      fits = shut-keeps loose k b s.facts.fits;
+      fits = shut-keeps around.items k b s.facts.fits;
       apart = apart-changed b k (λ c. record c { shut = true })
           (λ c. record { number = refl; ap = refl; peer = refl }) s.facts.apart;
     };
   });
-  ended = after ∙ ap (λ ns. was ++ ns) (opened ∙ opened-on x b k side.Ap s.shows);
+  ended = after
+      ∙ ap (λ ns. was ++ ns)
+      (opened-on x.slots around.names b k side.Ap unended s.shows.slots opens);
 }

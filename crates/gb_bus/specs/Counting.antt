@@ -1,8 +1,7 @@
 -- How many requests there are, and how they stand.
-use Rattle.std.specs.Prelude.{◌≡◌, ℕ, ◌+◌, ◌≤◌, Option, Some, None, List, [], ◌∷◌, length}
+use Rattle.std.specs.Prelude.{◌≡◌, ℕ, ◌+◌, ◌-◌, Option, Some, None, length}
 use Rattle.gb_base.specs.declared.outcome.Outcome.{Outcome}
 use Rattle.gb_base.specs.declared.outcome.Outcome.TheVariants as outcome
-use Rattle.gb_bus.specs.declared.slots.Slot.{Slot}
 use Rattle.gb_bus.specs.declared.tally.Tally.{Tally}
 use Rattle.gb_machine.specs.Bus as machine
 use Rattle.gb_machine.specs.Summary.{is_answered, is_cancelled, is_disconnected, is_sent, is_timed_out, is_unended, standing}
@@ -32,20 +31,14 @@ with_counted (Some outcome.Sent) s = record s { sent = s.sent + 1 }
 abbrev pub with_one : Option Outcome → Tally → Tally
 with_one how s = with_counted how (record s { requests = s.requests + 1 })
 
--- the requests of these slots are counted too
-abbrev pub counted_on : Tally → List Slot → Tally
-counted_on s [] = s
-counted_on s (x ∷ xs) = counted_on (with_one x.outcome s) xs
+-- an open request ended so
+abbrev pub one_ended : Outcome → Tally → Tally
+one_ended how s = with_counted (Some how) (record s { left_open = s.left_open - 1 })
 
--- no count is above a bound
-pub record AreAtMost (bound : ℕ) (s : Tally) : Type 0 where
-  pub requests : s.requests ≤ bound
-  pub answered : s.answered ≤ bound
-  pub cancelled : s.cancelled ≤ bound
-  pub timeout : s.timeout ≤ bound
-  pub disconnected : s.disconnected ≤ bound
-  pub sent : s.sent ≤ bound
-  pub left_open : s.left_open ≤ bound
+-- each request is counted once behind the first count
+abbrev pub counted_once : Tally → ℕ
+counted_once s =
+    s.answered + (s.cancelled + (s.timeout + (s.disconnected + (s.sent + s.left_open))))
 
 -- The requests of a bus are so many, and stand so.
 pub record Tells (s : Tally) (b : machine.Bus) : Type 0 where

@@ -1,9 +1,15 @@
 pub mod Cancelling
+pub mod Connection
 pub mod Counting
 pub mod Delivering
 pub mod Ends
+pub mod Index
+pub mod Keeping
+pub mod Listing
 pub mod Moving
+pub mod Naming
 pub mod Parts
+pub mod Seen
 pub mod Sending
 pub mod Sides
 pub mod Slots

@@ -4,7 +4,7 @@ use Rattle.gb_base.specs.declared.end.Side.{Side}
 use Rattle.gb_base.specs.declared.outcome.Outcome.TheVariants as outcome
 use Rattle.gb_bus.specs.Parts.{next_in}
 use Rattle.gb_bus.specs.Sides.{BeginsIn, MatchesIn}
-use Rattle.gb_bus.specs.Slots.{at_number, with_outcome}
+use Rattle.gb_bus.specs.Slots.{MovesAt, ended_at, ends_so, forgets, slot_at}
 use Rattle.gb_bus.specs.Taking.{dropped, open_kind, shown}
 use Rattle.gb_bus.specs.declared.answers.Arrival.{Arrival}
 use Rattle.gb_bus.specs.declared.answers.Arrival.TheVariants as arrival
@@ -14,10 +14,11 @@ use Rattle.gb_bus.specs.declared.answers.DeliverFault.TheVariants as deliver
 use Rattle.gb_bus.specs.declared.answers.SendFault.{SendFault}
 use Rattle.gb_bus.specs.declared.answers.SendFault.TheVariants as send
 use Rattle.gb_bus.specs.declared.bus.Bus.{Bus}
-use Rattle.gb_bus.specs.declared.connection.Connection.{Connection}
+use Rattle.gb_bus.specs.Connection.{Connection}
 use Rattle.gb_bus.specs.declared.queue.Item.{Item}
 use Rattle.gb_bus.specs.declared.queue.Item.TheVariants as item
-use Rattle.gb_machine.specs.Lists.{nth}
+use Rattle.gb_bus.specs.declared.slots.Slot.{Slot}
+use Rattle.gb_bus.specs.declared.tally.Tally.{Tally}
 use Rattle.gb_ops.specs.declared.entries.Matched.{Matched}
 use Rattle.gb_ops.specs.declared.entries.Matched.TheVariants as matched
 
@@ -36,18 +37,21 @@ LabelsAs old new k at n deadline false (Err send.NoLabel) =
     (next_in k at old.connections ≡ None) × (new ≡ old)
 LabelsAs old new k at n deadline false (Err (send.Memory m)) = ⊤
 
+-- what is kept of a request changes, and the connections may
+pub record ChangesRequest (old new : Bus) (n : ℕ) (change : Slot → Option Slot)
+    (tally : Tally) : Type 0 where
+  pub rest : new ≡ record old { connections = new.connections; slots = new.slots }
+  pub moves : MovesAt n change tally old.slots new.slots
+
 -- What an answer does to the bus, by what its identifier is in use for, and by the type of its
 -- request, where that is open: it ends the request, or it is late.
 abbrev pub Answers : Bus → Bus → ℕ → ℕ → List ℕ → Matched → Option ℕ → Arrival → Type 0
 Answers old new number code payload (matched.Open m) (Some kind) a =
     (a ≡ arrival.Ended number kind code (shown code payload))
-    × (new ≡ record old {
-      connections = new.connections;
-      slots = at_number number (with_outcome (outcome.Answered code (shown code payload)))
-          old.slots;
-    })
+    × ChangesRequest old new number (ends_so (outcome.Answered code (shown code payload)))
+    (ended_at number (outcome.Answered code (shown code payload)) old.slots)
 Answers old new number code payload m kind a =
-    (a ≡ arrival.Late number) × (new ≡ with_connections new.connections old)
+    (a ≡ arrival.Late number) × ChangesRequest old new number forgets old.slots.tally
 
 -- the only fault is want of memory
 abbrev pub IsMemory : DeliverFault → Type 0
@@ -59,10 +63,9 @@ IsMemory deliver.QueueEmpty = ⊥
 abbrev pub EndsAs : Bus → Bus → ℕ → ℕ → ℕ → List ℕ → Result Arrival DeliverFault → Type 0
 EndsAs old new number kind code payload (Ok a) =
     (a ≡ arrival.Ended number kind code (shown code payload))
-    × (new ≡ record old {
-      slots = at_number number (with_outcome (outcome.Answered code (shown code payload)))
-          old.slots;
-    })
+    × (new ≡ record old { slots = new.slots })
+    × MovesAt number (ends_so (outcome.Answered code (shown code payload)))
+    (ended_at number (outcome.Answered code (shown code payload)) old.slots) old.slots new.slots
 EndsAs old new number kind code payload (Err e) = IsMemory e
 
 -- an answer to a request with a number and an identifier came at a side of a connection
@@ -71,7 +74,7 @@ pub record Answered (old new : Bus) (k : ℕ) (at : Side) (number label code : �
   pub matched : Matched
   pub matches : MatchesIn old.connections new.connections k at number label matched
   pub answers : Answers old new number code payload matched
-      (open_kind (nth number old.slots)) a
+      (open_kind (slot_at old.slots number)) a
 
 abbrev pub AnswersAs : Bus → Bus → ℕ → Side → ℕ → ℕ → ℕ → List ℕ
     → Result Arrival DeliverFault → Type 0

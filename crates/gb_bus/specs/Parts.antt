@@ -5,7 +5,7 @@ use Rattle.gb_base.specs.declared.end.End.TheVariants as end
 use Rattle.gb_base.specs.declared.end.Side.{Side}
 use Rattle.gb_base.specs.declared.end.Side.TheVariants as side
 use Rattle.gb_bus.specs.Ends.{earlier}
-use Rattle.gb_bus.specs.declared.connection.Connection.{Connection}
+use Rattle.gb_bus.specs.Connection.{Connection}
 use Rattle.gb_bus.specs.declared.queue.Item.{Item}
 use Rattle.gb_machine.specs.Bus.{or_else, same_end}
 use Rattle.gb_machine.specs.Lists.{at_first, behind_first, first}
@@ -75,11 +75,6 @@ put at item c = if c.wired then with_queue at (queue_of at c ++ item ∷ []) c e
 abbrev pub without_front : Side → Connection → Connection
 without_front at c = with_queue at (behind_first (queue_of at c)) c
 
--- the front message toward a side was taken, where there is one
-abbrev pub PopsAs : Connection → Connection → Side → Option Item → Type 0
-PopsAs old new at None = (first (queue_of at old) ≡ None) × (new ≡ old)
-PopsAs old new at (Some item) = (first (queue_of at old) ≡ Some item) × (new ≡ without_front at old)
-
 -- whether nothing is in a list
 abbrev pub is_none_left : List Item → Bool
 is_none_left [] = true
@@ -92,6 +87,15 @@ side_at at c =
     else if same_end at (end.Ap c.ap) then Some side.Ap
     else if same_end at c.peer then Some side.Far
     else None
+
+-- the end at a side
+abbrev pub end_at : Side → Connection → End
+end_at side.Ap c = end.Ap c.ap
+end_at side.Far c = c.peer
+
+-- the ends of a connection: the application processor's CPort and the far end
+abbrev pub ends_in : Connection → ℕ × End
+ends_in c = (c.ap, c.peer)
 
 -- the earliest of the ends at which something waits, and one that was found before
 abbrev pub earliest_of : Connection → Option End → Option End

@@ -2,7 +2,7 @@
 use Rattle.std.specs.Prelude.{◌≡◌, ◌≢◌, ◌⊎◌, ℕ, Option, Some, None, option_and_then, Result, Ok, Err, List, ⊤, find}
 use Rattle.gb_base.specs.declared.end.Side.{Side}
 use Rattle.gb_bus.specs.Parts.{next_in, numbered, ops_of, with_ops}
-use Rattle.gb_bus.specs.declared.connection.Connection.{Connection}
+use Rattle.gb_bus.specs.Connection.{Connection}
 use Rattle.gb_machine.specs.Lists.{at_first}
 use Rattle.gb_ops.specs.Calls.{Begins, Ends, Forgets, GivesUp}
 use Rattle.gb_ops.specs.Operations.{Operations, holder_of, next_label, pending_at}
@@ -43,6 +43,12 @@ BeginsOn old new at n deadline (Ok label) = OnSide old new at (λ x y. Begins x 
 BeginsOn old new at n deadline (Err begin.NoLabel) =
     (next_label (ops_of at old) ≡ None) × (new ≡ old)
 BeginsOn old new at n deadline (Err (begin.Memory m)) = ⊤
+
+-- a connection has the ends of one, and is wired where that is
+pub record HasEndsOf (old new : Connection) : Type 0 where
+  pub near : new.ap ≡ old.ap
+  pub far : new.peer ≡ old.peer
+  pub wire : new.wired ≡ old.wired
 
 abbrev pub MatchesOn : Connection → Connection → Side → ℕ → ℕ → Matched → Type 0
 MatchesOn old new at n label m = OnSide old new at (λ x y. MatchesAs x y n label m)

@@ -1,10 +1,13 @@
 -- What the value of a bus stands for.
-use Rattle.std.specs.Prelude.{◌≡◌, ℕ, Bool, true, ◌&&◌, if◌then◌else◌, Option, Some, None, option_map, List, [], ◌∷◌, length, find}
+use Rattle.std.specs.Prelude.{◌≡◌, ℕ, Bool, true, ◌&&◌, if◌then◌else◌, Option, Some, None, is_some, List, [], ◌∷◌, find}
 use Rattle.gb_base.specs.declared.end.Side.{Side}
 use Rattle.gb_base.specs.declared.outcome.Outcome.{Outcome}
+use Rattle.gb_bus.specs.Counting.{Tells}
+use Rattle.gb_bus.specs.Listing.{count}
 use Rattle.gb_bus.specs.Parts.{numbered, ops_of}
+use Rattle.gb_bus.specs.Slots.{slot_at, while_asked_for}
 use Rattle.gb_bus.specs.declared.bus.Bus.{Bus}
-use Rattle.gb_bus.specs.declared.connection.Connection.{Connection}
+use Rattle.gb_bus.specs.Connection.{Connection}
 use Rattle.gb_bus.specs.declared.queue.Item.{Item}
 use Rattle.gb_bus.specs.declared.queue.Item.TheVariants as code
 use Rattle.gb_bus.specs.declared.slots.Slot.{Slot}
@@ -14,7 +17,7 @@ use Rattle.gb_machine.specs.Bus.{Request, connection_of, is_open, outcome_of, re
 use Rattle.gb_machine.specs.Labels.{last_label}
 use Rattle.gb_machine.specs.LawsBus.{AreApart, is_awaited}
 use Rattle.gb_machine.specs.Lists.{nth}
-use Rattle.gb_machine.specs.Members.{EachTwo}
+use Rattle.gb_machine.specs.Members.{Each, EachTwo}
 use Rattle.gb_machine.specs.Requests.{is_given_up, is_of}
 use Rattle.gb_ops.specs.Operations.{Operations, holder_of, pending_at}
 use Rattle.gb_ops.specs.declared.entries.Holder.{Holder}
@@ -88,19 +91,41 @@ StandForAll requests (x ∷ xs) [] = ⊥
 
 -- ---- requests
 
+-- What there is of requests outside of the bus: items that are in none of its queues, since they
+-- are held or are being handled, and the number of the request that each name names.
+pub record Around : Type 0 where
+  pub items : List Loose
+  pub names : List ℕ
+
+abbrev pub around_of : List Loose → List ℕ → Around
+around_of items names = record { items = items; names = names }
+
+-- names name requests that were made
+abbrev pub AreMade : List ℕ → machine.Bus → Type 0
+AreMade names b = Each (λ n. is_some (request_of n b) ≡ true) names
+
 -- what is kept of a request
-abbrev pub kept : Option Outcome → Request → Slot
-kept how r = record {
+abbrev pub kept : ℕ → Bool → ℕ → Option Outcome → Request → Slot
+kept n awaited names how r = record {
+  number = n;
   connection = r.connection;
   side = r.side;
   kind = r.kind;
   deadline = r.deadline;
   outcome = how;
+  awaited = awaited;
+  names = names;
 }
 
--- what is kept of request n
-abbrev pub slot_of : ℕ → machine.Bus → Option Slot
-slot_of n b = option_map (kept (outcome_of n b)) (request_of n b)
+-- what is kept of a request that was made, None where nothing asks for it
+abbrev pub kept_of : ℕ → Bool → ℕ → Option Outcome → Option Request → Option Slot
+kept_of n awaited names how None = None
+kept_of n awaited names how (Some r) = while_asked_for (kept n awaited names how r)
+
+-- What is kept of request n: it has a slot exactly where it is open, was given up and not answered
+-- yet, or has a name.
+abbrev pub slot_of : List ℕ → ℕ → machine.Bus → Option Slot
+slot_of names n b = kept_of n (is_awaited n b) (count n names) (outcome_of n b) (request_of n b)
 
 -- ---- identifiers
 
@@ -149,12 +174,12 @@ KeepSides xs b =
 -- ---- the bus
 
 -- what the value of a bus has is what the machine's bus has
-pub record Shows (x : Bus) (b : machine.Bus) : Type 0 where
+pub record Shows (names : List ℕ) (x : Bus) (b : machine.Bus) : Type 0 where
   pub made : x.made ≡ b.made
   pub connections : StandForAll b.requests x.connections b.connections
   pub sides : KeepSides x.connections b
-  pub count : length b.requests ≡ length x.slots
-  pub slots : (n : ℕ) → nth n x.slots ≡ slot_of n b
+  pub slots : (n : ℕ) → slot_at x.slots n ≡ slot_of names n b
+  pub tally : Tells x.slots.tally b
 
 -- What every call keeps of the machine's bus, and of the items that are in none of its queues: they
 -- are held, or are being handled. Numbers of connections rise, outcomes are those of requests that
@@ -164,7 +189,8 @@ pub record Keeps (loose : List Loose) (b : machine.Bus) : Type 0 where
   pub fits : BusFits loose b
   pub apart : EachTwo AreApart b.connections
 
--- The bus stands for this bus part of the machine's state, these items being in no queue.
-pub record Stands (loose : List Loose) (x : Bus) (b : machine.Bus) : Type 0 where
-  pub shows : Shows x b
-  pub facts : Keeps loose b
+-- The bus stands for this bus part of the machine's state, with what is around it.
+pub record Stands (around : Around) (x : Bus) (b : machine.Bus) : Type 0 where
+  pub shows : Shows around.names x b
+  pub named : AreMade around.names b
+  pub facts : Keeps around.items b

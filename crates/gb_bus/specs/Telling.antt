@@ -2,7 +2,7 @@
 use Rattle.std.specs.Prelude.{ℕ, ◌==◌, Bool, true, if◌then◌else◌, List, [], ◌∷◌, length}
 use Rattle.gb_base.specs.declared.end.End.{End}
 use Rattle.gb_base.specs.declared.end.End.TheVariants as end
-use Rattle.gb_bus.specs.declared.connection.Connection.{Connection}
+use Rattle.gb_bus.specs.Connection.{Connection}
 use Rattle.gb_bus.specs.declared.telling.Known.{Known}
 use Rattle.gb_bus.specs.declared.telling.Waiting.{Waiting}
 use Rattle.gb_machine.specs.Bus as machine

@@ -4,7 +4,7 @@ use Rattle.gb_base.specs.declared.end.End.{End}
 use Rattle.gb_base.specs.declared.end.End.TheVariants as end
 use Rattle.gb_base.specs.declared.end.Side.{Side}
 use Rattle.gb_base.specs.declared.errors.OutOfMemory.{OutOfMemory}
-use Rattle.gb_bus.specs.Stands.{Stands}
+use Rattle.gb_bus.specs.Stands.{Around, Stands}
 use Rattle.gb_bus.specs.declared.bus.Bus.{Bus}
 use Rattle.gb_invariants.specs.Facts.{Loose}
 use Rattle.gb_machine.specs.Bus as machine
@@ -24,26 +24,27 @@ abbrev pub MayAttach : ℕ → ℕ → ℕ → machine.Bus → Type 0
 MayAttach a i c b = Each (IsOther a i c) b.connections
 
 -- a connection was made
-pub record Attaches (loose : List Loose) (new : Bus) (a i c protocol : ℕ) (b : machine.Bus)
+pub record Attaches (around : Around) (new : Bus) (a i c protocol : ℕ) (b : machine.Bus)
     (k : ℕ) : Type 0 where
   pub number : k ≡ next_connection b
-  pub stands : Stands loose new (attached a i c protocol b)
+  pub stands : Stands around new (attached a i c protocol b)
 
 -- By cases on the answer. After want of memory nothing is said.
-abbrev pub AttachesAs : List Loose → Bus → ℕ → ℕ → ℕ → ℕ → machine.Bus → Result ℕ OutOfMemory
+abbrev pub AttachesAs : Around → Bus → ℕ → ℕ → ℕ → ℕ → machine.Bus → Result ℕ OutOfMemory
     → Type 0
-AttachesAs loose new a i c protocol b (Ok k) = Attaches loose new a i c protocol b k
-AttachesAs loose new a i c protocol b (Err m) = ⊤
+AttachesAs around new a i c protocol b (Ok k) = Attaches around new a i c protocol b k
+AttachesAs around new a i c protocol b (Err m) = ⊤
 
--- the items that are of other connections
-abbrev pub elsewhere : ℕ → List Loose → List Loose
-elsewhere k loose = without (λ l. l.connection == k) loose
+-- without the items that are of a connection
+abbrev pub elsewhere : ℕ → Around → Around
+elsewhere k around =
+    record around { items = without (λ (l : Loose). l.connection == k) around.items }
 
 -- The bus stands for this state, and the open requests that a side of a connection had stand behind
 -- the numbers that stood there.
-pub record EndsAs (loose : List Loose) (new : Bus) (k : ℕ) (at : Side) (b after : machine.Bus)
+pub record EndsAs (around : Around) (new : Bus) (k : ℕ) (at : Side) (b after : machine.Bus)
     (was now : List ℕ) : Type 0 where
-  pub stands : Stands loose new after
+  pub stands : Stands around new after
   pub ended : now ≡ was ++ open_on k at b
 
 -- how many items wait at a place

@@ -4,7 +4,7 @@ ghost use Rattle.std.specs.Prelude.{◌≡◌};
 ghost use Rattle.gb_bus.specs.declared.answers.DeliverFault.TheVariants as deliver;
 ghost use Rattle.gb_bus.specs.declared.answers.SendFault.TheVariants as send;
 
-use gb_base::{Bytes, OutOfMemory};
+use gb_base::{Bytes, OutOfMemory, Side};
 
 /// A request that was made.
 #[derive(Clone, Copy, Debug, PartialEq, Eq)]
@@ -86,6 +86,17 @@ pub struct Asked {
     /// Its identifier, 0 where it gets no answer.
     pub label: u16,
     /// Its type.
+    pub kind: u8,
+}
+
+/// Where a request was made, and its type.
+#[derive(Clone, Copy, Debug, PartialEq, Eq)]
+pub struct About {
+    /// The connection.
+    pub connection: u64,
+    /// The side of it that asked.
+    pub side: Side,
+    /// The type.
     pub kind: u8,
 }
 

@@ -1,18 +1,16 @@
 //! The bus: messages.
 
-ghost use Rattle.std.specs.Prelude.{◌≡◌, None, List, [], OnOk, OnErr, IfOk, IsErrOf, option_copied};
-ghost use Rattle.gb_invariants.specs.Facts.{Loose};
+ghost use Rattle.std.specs.Prelude.{◌≡◌, None, [], OnOk, OnErr, IfOk, IsErrOf};
 ghost use Rattle.gb_machine.specs.Bus as machine;
-ghost use Rattle.gb_machine.specs.Bus.{first_bus, outcome_of};
-ghost use Rattle.gb_machine.specs.Lists.{nth};
+ghost use Rattle.gb_machine.specs.Bus.{first_bus};
 ghost use Rattle.gb_machine.specs.Requests.{is_due, open_requests};
 ghost use Rattle.gb_base.specs.declared.outcome.Outcome.TheVariants as outcome;
 ghost use Rattle.gb_machine.specs.Sending.{draft};
-ghost use Rattle.gb_bus.specs.Slots.{open_place};
+ghost use Rattle.gb_bus.specs.Slots.{open_place, slot_at};
 ghost use Rattle.gb_bus.specs.Taking.{dropped, open_kind};
 
 use crate::connections::Connections;
-use crate::ends::{first_outcome, other_side};
+use crate::ends::other_side;
 use crate::queue::Item;
 use crate::slots::{Slot, Slots};
 use crate::{AlreadyEnded, Arrival, Arrived, Asked, DeliverFault, SendFault, Sent};
@@ -35,11 +33,11 @@ impl Bus {
     ghost use Rattle.gb_bus.specs.Delivering.{DeliversAs, RepliesAs};
     ghost use Rattle.gb_bus.specs.Moving.{AnswersAs, EndsAs, HandlesAs, LabelsAs, TakesAs};
     ghost use Rattle.gb_bus.specs.Sending.{SendsAs};
-    ghost use Rattle.gb_bus.specs.Stands.{Stands};
+    ghost use Rattle.gb_bus.specs.Stands.{Around, Stands, around_of};
 
     /// The bus on which nothing was sent. It has the connection of the supervisory controller.
     pub fn new(alloc: Global) -> Result<Bus, OutOfMemory>
-        ensures { IfOk result (λ x. Stands [] x first_bus) }
+        ensures { IfOk result (λ x. Stands (around_of [] []) x first_bus) }
     {
         Ok(Bus {
             alloc,
@@ -62,25 +60,29 @@ impl Bus {
         deadline: u64,
         oneway: bool,
     ) -> Result<Sent, SendFault>
-        ensures step { (loose : List Loose) (b : machine.Bus) → Stands loose self.old b
-            → SendsAs loose self.new (draft k side kind payload.now deadline oneway) b result }
+        ensures step { (around : Around) (b : machine.Bus) → Stands around self.old b
+            → SendsAs around self.new (draft k side kind payload.now deadline oneway) b result }
         ensures unchanged { IsErrOf result SendFault.NoLabel → self.new ≡ self.old }
     {
-        let Some(connection) = self.connections.get(k) else {
+        let Some(wired) = self.connections.wired(k) else {
             return Err(SendFault::NoLabel);
         };
-        let lost = !connection.wired;
+        let lost = !wired;
         let Some(number) = self.slots.count().checked_add(1) else {
             return Err(SendFault::Memory(OutOfMemory));
         };
         let label = self.label_for(k, side, number, deadline, oneway)?;
-        self.slots.add(Slot {
+        let slot = Slot {
+            number,
             connection: k,
             side,
             kind,
             deadline,
-            outcome: first_outcome(oneway),
-        })?;
+            outcome: None,
+            awaited: true,
+            names: 0,
+        };
+        self.slots.add(slot, oneway)?;
         let payload = Bytes::from_slice(self.alloc, payload)?;
         let item = Item::Ask {
             number,
@@ -100,8 +102,8 @@ impl Bus {
     /// drops it. A late answer frees the identifier of its request. A request is in no queue then:
     /// it is among those that may be answered.
     pub fn deliver(&mut self, at: End, takes: bool) -> Result<Arrived, DeliverFault>
-        ensures step { (loose : List Loose) (b : machine.Bus) → Stands loose self.old b
-            → DeliversAs loose self.new at takes b result }
+        ensures step { (around : Around) (b : machine.Bus) → Stands around self.old b
+            → DeliversAs around self.new at takes b result }
         ensures unchanged { IsErrOf result DeliverFault.NoConnection → self.new ≡ self.old }
         ensures still { IsErrOf result DeliverFault.QueueEmpty → self.new ≡ self.old }
     {
@@ -147,8 +149,8 @@ impl Bus {
     /// Gives up request n, which ends as cancelled. Its identifier stays in use until its answer
     /// comes. AlreadyEnded comes where n isn't open: it had ended, or it wasn't made.
     pub fn cancel(&mut self, n: u64) -> Result<(), AlreadyEnded>
-        ensures step { (loose : List Loose) (b : machine.Bus) → Stands loose self.old b
-            → GivesUpAs loose self.new outcome.Cancelled n b result }
+        ensures step { (around : Around) (b : machine.Bus) → Stands around self.old b
+            → GivesUpAs around self.new outcome.Cancelled n b result }
         ensures unchanged { OnErr result (self.new ≡ self.old) }
     {
         self.give_up(n, Outcome::Cancelled)
@@ -157,8 +159,8 @@ impl Bus {
     /// Gives up request n, which ends as timed out. Its identifier stays in use until its answer
     /// comes. AlreadyEnded comes where n isn't open.
     pub fn expire(&mut self, n: u64) -> Result<(), AlreadyEnded>
-        ensures step { (loose : List Loose) (b : machine.Bus) → Stands loose self.old b
-            → GivesUpAs loose self.new outcome.Timeout n b result }
+        ensures step { (around : Around) (b : machine.Bus) → Stands around self.old b
+            → GivesUpAs around self.new outcome.Timeout n b result }
         ensures unchanged { OnErr result (self.new ≡ self.old) }
     {
         self.give_up(n, Outcome::Timeout)
@@ -166,10 +168,10 @@ impl Bus {
 
     /// The open requests whose deadline came, in order of number. `now` is in milliseconds.
     pub fn due(&self, now: u64) -> Result<Numbers, OutOfMemory>
-        ensures { IfOk result (λ ns. (loose : List Loose) (b : machine.Bus)
-            → Stands loose self.now b → ns ≡ open_requests (is_due now) b) }
+        ensures { IfOk result (λ ns. (around : Around) (b : machine.Bus)
+            → Stands around self.now b → ns ≡ open_requests (is_due now) b) }
     {
-        let due = self.slots.due(now)?;
+        let due = self.slots.due(self.alloc, now)?;
         Ok(due)
     }
 
@@ -177,21 +179,13 @@ impl Bus {
     /// answers its number. None comes exactly where no deadline of an open request came. `now` is
     /// in milliseconds.
     pub fn expire_one(&mut self, now: u64) -> Option<u64>
-        ensures step { (loose : List Loose) (b : machine.Bus) → Stands loose self.old b
-            → ExpiresAs loose self.new now b result }
+        ensures step { (around : Around) (b : machine.Bus) → Stands around self.old b
+            → ExpiresAs around self.new now b result }
         ensures unchanged { result ≡ None → self.new ≡ self.old }
     {
         let n = self.slots.first_due(now)?;
         let _ = self.expire(n);
         Some(n)
-    }
-
-    /// How request n ended, None where it is open or wasn't made.
-    pub fn outcome(&self, n: u64) -> Option<&Outcome>
-        ensures { (loose : List Loose) (b : machine.Bus) → Stands loose self.now b
-            → option_copied result ≡ outcome_of n b }
-    {
-        self.slots.get(n)?.outcome.as_ref()
     }
 
     /// The identifier of request n of a side: 0 where it is unidirectional.
@@ -217,15 +211,15 @@ impl Bus {
 
     /// Gives up request n, which ends so.
     fn give_up(&mut self, n: u64, how: Outcome) -> Result<(), AlreadyEnded>
-        ensures step { (loose : List Loose) (b : machine.Bus) → Stands loose self.old b
-            → GivesUpAs loose self.new how n b result }
+        ensures step { (around : Around) (b : machine.Bus) → Stands around self.old b
+            → GivesUpAs around self.new how n b result }
         ensures unchanged { OnErr result (self.new ≡ self.old) }
     {
         let Some((k, side)) = self.open_place(n) else {
             return Err(AlreadyEnded);
         };
         self.connections.give_up(k, side, n);
-        self.slots.end(n, how);
+        self.slots.give_up(n, how);
         Ok(())
     }
 
@@ -292,7 +286,10 @@ impl Bus {
             self.open_kind(number),
         ) {
             (Matched::Open(_), Some(kind)) => self.ended(number, kind, code, payload),
-            _ => Ok(Arrival::Late { number }),
+            _ => {
+                self.slots.forget(number);
+                Ok(Arrival::Late { number })
+            }
         }
     }
 
@@ -326,7 +323,7 @@ impl Bus {
 
     /// The type of request n, None where n isn't open.
     fn open_kind(&self, n: u64) -> Option<u8>
-        ensures { result ≡ open_kind (nth n self.now.slots) }
+        ensures { result ≡ open_kind (slot_at self.now.slots n) }
     {
         match self.slots.get(n) {
             Some(slot) if slot.outcome.is_none() => Some(slot.kind),
@@ -336,7 +333,7 @@ impl Bus {
 
     /// The connection and the side of request n, None where n isn't open.
     fn open_place(&self, n: u64) -> Option<(u64, Side)>
-        ensures { result ≡ open_place (nth n self.now.slots) }
+        ensures { result ≡ open_place (slot_at self.now.slots n) }
     {
         match self.slots.get(n) {
             Some(slot) if slot.outcome.is_none() => Some((slot.connection, slot.side)),

@@ -1,23 +1,29 @@
-//! A live connection.
+//! A live connection, without what waits on it.
 
-ghost use Rattle.std.specs.Prelude.{◌≡◌, [], ◌∷◌, ◌++◌, IfOk, OnOk, is_none, length};
-ghost use Rattle.gb_bus.specs.Parts.{PopsAs, cleared, closed, earliest_of, is_wired_to, next_of, put, queue_of, side_at};
-ghost use Rattle.gb_bus.specs.Sides.{BeginsOn, GivesUpOn, MatchesAs, MatchesOn};
-ghost use Rattle.gb_bus.specs.Telling.{known_as, with_ends};
+ghost use Rattle.std.specs.Prelude.{◌≡◌, IfOk, is_none};
+ghost use Rattle.gb_bus.specs.Parts.{
+  cleared,
+  closed,
+  end_at,
+  is_wired_to,
+  joins,
+  new_connection,
+  next_of,
+  side_at,
+  with_wire,
+};
+ghost use Rattle.gb_bus.specs.Seen.{alone};
+ghost use Rattle.gb_bus.specs.Sides.{BeginsOn, HasEndsOf, GivesUpOn, MatchesAs, MatchesOn};
+ghost use Rattle.gb_bus.specs.Telling.{known_as};
 
-use crate::ends::earlier;
-use crate::queue::{Item, Queue};
-use crate::telling::add_end;
-use crate::{Known, Waiting};
-use gb_base::{End, OutOfMemory, Sequence, Side};
+use crate::Known;
+use gb_base::{End, OutOfMemory, Side};
 use gb_ops::{BeginFault, Matched, Ops};
 use std::alloc::Global;
 
 /// A connection between a CPort of the application processor and a far end.
 #[derive(Drop)]
 pub struct Connection {
-    /// Its number, from 1, never used twice.
-    pub number: u64,
     /// The CPort of the application processor.
     pub ap: u16,
     /// The far end.
@@ -32,27 +38,14 @@ pub struct Connection {
     pub ap_ops: Ops,
     /// Those of the far side.
     pub far_ops: Ops,
-    /// The messages toward the application processor.
-    pub to_ap: Queue,
-    /// The messages toward the far end.
-    pub to_far: Queue,
 }
 
 impl Connection {
-    ghost use Rattle.gb_bus.specs.Parts.{new_connection};
-
     /// A connection that isn't wired, on which nothing was drawn.
-    pub fn new(
-        alloc: Global,
-        number: u64,
-        ap: u16,
-        peer: End,
-        protocol: u8,
-    ) -> Result<Connection, OutOfMemory>
-        ensures { IfOk result (λ x. x ≡ new_connection number ap peer protocol) }
+    pub fn new(alloc: Global, ap: u16, peer: End, protocol: u8) -> Result<Connection, OutOfMemory>
+        ensures { IfOk result (λ x. alone 0 x ≡ new_connection 0 ap peer protocol) }
     {
         Ok(Connection {
-            number,
             ap,
             peer,
             protocol,
@@ -60,14 +53,12 @@ impl Connection {
             shut: false,
             ap_ops: Ops::new(alloc)?,
             far_ops: Ops::new(alloc)?,
-            to_ap: Queue::new(alloc),
-            to_far: Queue::new(alloc),
         })
     }
 
     /// It is wired, to a module at an interface.
     pub fn is_wired_to(&self, intf: u8) -> bool
-        ensures { result ≡ is_wired_to intf self.now }
+        ensures { result ≡ is_wired_to intf (alone 0 self.now) }
     {
         match self.peer {
             End::Module { intf: at, .. } => self.wired && at == intf,
@@ -75,9 +66,16 @@ impl Connection {
         }
     }
 
+    /// It is that of a CPort of the application processor with a far end.
+    pub fn joins(&self, ap: u16, peer: End) -> bool
+        ensures { result ≡ joins ap peer (alone 0 self.now) }
+    {
+        self.ap == ap && self.peer == peer
+    }
+
     /// All identifiers of a side are in use.
     pub fn is_spent(&self, side: Side) -> bool
-        ensures { result ≡ is_none (next_of side self.now) }
+        ensures { result ≡ is_none (next_of side (alone 0 self.now)) }
     {
         match side {
             Side::Ap => self.ap_ops.is_spent(),
@@ -88,7 +86,8 @@ impl Connection {
     /// Request n of a side is open from now on, and its identifier is answered. After NoLabel all
     /// is as before.
     pub fn begin(&mut self, side: Side, n: u64, deadline: u64) -> Result<u16, BeginFault>
-        ensures { BeginsOn self.old self.new side n deadline result }
+        ensures begun { BeginsOn (alone 0 self.old) (alone 0 self.new) side n deadline result }
+        ensures ends { HasEndsOf (alone 0 self.old) (alone 0 self.new) }
     {
         match side {
             Side::Ap => self.ap_ops.begin(n, deadline),
@@ -100,7 +99,7 @@ impl Connection {
     /// then. Unknown comes where the identifier isn't in use for request n: that was over when
     /// its side was closed.
     pub fn matched(&mut self, side: Side, n: u64, label: u16) -> Matched
-        ensures { MatchesOn self.old self.new side n label result }
+        ensures { MatchesOn (alone 0 self.old) (alone 0 self.new) side n label result }
     {
         match side {
             Side::Ap => matched(&mut self.ap_ops, n, label),
@@ -110,7 +109,7 @@ impl Connection {
 
     /// Request n of a side is given up, where it is open. Its identifier stays in use.
     pub fn give_up(&mut self, side: Side, n: u64)
-        ensures { GivesUpOn self.old self.new side n }
+        ensures { GivesUpOn (alone 0 self.old) (alone 0 self.new) side n }
     {
         match side {
             Side::Ap => self.ap_ops.give_up(n),
@@ -118,61 +117,42 @@ impl Connection {
         };
     }
 
-    /// Adds a message to the queue toward a side. It is lost where the connection isn't wired.
-    pub fn push(&mut self, side: Side, item: Item) -> Result<(), OutOfMemory>
-        ensures { OnOk result (self.new ≡ put side item self.old) }
+    /// It is wired.
+    pub fn wire(&mut self)
+        ensures { alone 0 self.new ≡ with_wire (alone 0 self.old) }
     {
-        if !self.wired {
-            return Ok(());
-        }
-        match side {
-            Side::Ap => self.to_ap.push(item),
-            Side::Far => self.to_far.push(item),
-        }
+        self.wired = true;
     }
 
-    /// Takes the front message toward a side.
-    pub fn pop(&mut self, side: Side) -> Option<Item>
-        ensures { PopsAs self.old self.new side result }
-    {
-        match side {
-            Side::Ap => self.to_ap.pop(),
-            Side::Far => self.to_far.pop(),
-        }
-    }
-
-    /// It isn't wired any more, what waited in its queues is lost, and all identifiers of the far
-    /// side are free.
+    /// It isn't wired any more, and all identifiers of the far side are free.
     pub fn clear(&mut self)
-        ensures { self.new ≡ cleared self.old }
+        ensures { alone 0 self.new ≡ cleared (alone 0 self.old) }
     {
         self.wired = false;
-        self.to_ap.clear();
-        self.to_far.clear();
         self.far_ops.close_all();
     }
 
     /// The application processor's side is closed, and all its identifiers are free.
     pub fn shut(&mut self)
-        ensures { self.new ≡ closed self.old }
+        ensures { alone 0 self.new ≡ closed (alone 0 self.old) }
     {
         self.shut = true;
         self.ap_ops.close_all();
     }
 
-    /// How many messages wait toward a side.
-    pub fn waiting(&self, side: Side) -> u64
-        ensures { result ≡ length (queue_of side self.now) }
+    /// The end at a side.
+    pub fn end(&self, side: Side) -> End
+        ensures { result ≡ end_at side (alone 0 self.now) }
     {
         match side {
-            Side::Ap => self.to_ap.len(),
-            Side::Far => self.to_far.len(),
+            Side::Ap => End::Ap(self.ap),
+            Side::Far => self.peer,
         }
     }
 
     /// The side at which an end stands, None where it isn't wired or has no such end.
     pub fn side_at(&self, at: End) -> Option<Side>
-        ensures { result ≡ side_at at self.now }
+        ensures { result ≡ side_at at (alone 0 self.now) }
     {
         if !self.wired {
             return None;
@@ -186,40 +166,17 @@ impl Connection {
         }
     }
 
-    /// The earliest of its ends at which something waits and one that was found before.
-    pub fn earliest(&self, found: Option<End>) -> Option<End>
-        ensures { result ≡ earliest_of self.now found }
-    {
-        if !self.wired {
-            return found;
-        }
-        let found = earlier(self.to_far.is_empty(), self.peer, found);
-        earlier(self.to_ap.is_empty(), End::Ap(self.ap), found)
-    }
-
-    /// What is told of it.
-    pub fn known(&self) -> Known
-        ensures { result ≡ known_as self.now }
+    /// What is told of it. It has this number.
+    pub fn known(&self, number: u64) -> Known
+        ensures { result ≡ known_as (alone number self.now) }
     {
         Known {
-            number: self.number,
+            number,
             ap: self.ap,
             peer: self.peer,
             protocol: self.protocol,
             clean: true,
         }
-    }
-
-    /// Adds those of its ends at which something waits, where they belong in the order in which
-    /// queues are settled.
-    pub fn add_ends(&self, ordered: &mut Sequence<Waiting>) -> Result<(), OutOfMemory>
-        ensures { OnOk result (ordered.new ≡ with_ends self.now ordered.old) }
-    {
-        if !self.wired {
-            return Ok(());
-        }
-        add_end(self.peer, self.to_far.len(), ordered)?;
-        add_end(End::Ap(self.ap), self.to_ap.len(), ordered)
     }
 }
 

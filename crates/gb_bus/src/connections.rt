@@ -1,89 +1,181 @@
 //! The live connections.
 
-ghost use Rattle.std.specs.Prelude.{◌≡◌, ◌==◌, [], ◌∷◌, ◌++◌, ◌<◌, OnOk, IfOk, IfSome, length, map, option_copied, option_map, find};
-ghost use Rattle.std.specs.List.{filter, list_any, position_from};
+ghost use Rattle.std.specs.Prelude.{
+  ◌≡◌,
+  [],
+  ◌∷◌,
+  ◌++◌,
+  OnOk,
+  IfOk,
+  is_none,
+  length,
+  map,
+  option_map,
+  find,
+};
+ghost use Rattle.std.specs.List.{filter, list_any};
+ghost use Rattle.gb_bus.specs.Seen.{seen};
 ghost use Rattle.gb_machine.specs.Lists.{at_first, without};
-ghost use Rattle.gb_bus.specs.Telling.{known_as, waiting_in};
-ghost use Rattle.gb_bus.specs.Parts.{cleared, closed, is_wired_to, joins, numbered, place_at, put, svc, with_wire};
+ghost use Rattle.gb_bus.specs.Telling.{known_as, waiting_in, with_ends};
+ghost use Rattle.gb_bus.specs.Parts.{
+  cleared,
+  closed,
+  ends_in,
+  is_wired_to,
+  joins,
+  new_connection,
+  next_in,
+  numbered,
+  place_at,
+  put,
+  queue_of,
+  svc,
+  with_wire,
+};
 
 use crate::connection::Connection;
+use crate::ends::is_same;
 use crate::queue::Item;
-use crate::{Known, Waiting};
+use crate::telling::add_end;
+use crate::{Known, Waiting, live};
 use gb_base::{End, Numbers, OutOfMemory, Sequence, Side};
 use gb_ops::{BeginFault, Matched};
+use gb_switch::{Place, Queues};
 use std::alloc::Global;
+use std::collections::BTreeMap;
 use std::marker::Model;
 
 /// The protocol of the supervisory controller.
 const SVC_PROTOCOL: u8 = 0x14;
 
-/// The live connections in order of number.
+/// The live connections in order of number, with what waits on them.
 #[derive(Drop)]
 pub struct Connections {
-    live: Vec<Connection>,
+    /// By number.
+    live: BTreeMap<u64, Connection>,
+    /// The number of the one that has an end.
+    ends: BTreeMap<Place, u64>,
+    /// What waits at the ends of those that are wired.
+    queues: Queues<Item>,
 }
 
 impl Model for Connections {
     ghost use Rattle.std.specs.Prelude.{List};
-    ghost use Rattle.gb_bus.specs.declared.connection.Connection.{Connection};
+    ghost use Rattle.gb_bus.specs.Connection.{Connection};
 
     ghost Value = { List Connection };
 
-    ghost view = { λ c. c.live.items };
+    ghost use Rattle.gb_bus.specs.Index.{Kept};
+    ghost use Rattle.gb_bus.specs.Seen.{all_seen};
+
+    ghost view = { λ c. all_seen c.queues c.live.entries };
+
+    ghost invariant = { λ c. Kept c.live c.ends c.queues };
 }
 
 impl Connections {
-    ghost use Rattle.gb_bus.specs.Parts.{TakesFrontAs, earliest_in};
+    ghost use Rattle.gb_bus.specs.Parts.{TakesFrontAs, earliest_in, is_wired};
     ghost use Rattle.gb_bus.specs.Sides.{BeginsIn, GivesUpIn, MatchesIn};
 
     /// The connection of the supervisory controller alone, open for ever.
     pub fn new(alloc: Global) -> Result<Connections, OutOfMemory>
         ensures { IfOk result (λ x. x ≡ svc ∷ []) }
     {
-        let mut svc = Connection::new(alloc, 1, 0, End::Svc, SVC_PROTOCOL)?;
-        svc.wired = true;
-        let mut live = Vec::new(alloc);
-        live.push(svc)?;
-        Ok(Connections { live })
+        let mut connections = Connections::none(alloc);
+        connections.add(alloc, 1, 0, End::Svc, SVC_PROTOCOL)?;
+        connections.wire(1)?;
+        Ok(connections)
     }
 
-    /// Adds a connection at the end.
-    pub fn add(&mut self, connection: Connection) -> Result<(), OutOfMemory>
-        ensures { OnOk result (self.new ≡ self.old ++ connection ∷ []) }
+    /// There is none.
+    fn none(alloc: Global) -> Connections
+        ensures { result ≡ [] }
     {
-        self.live.push(connection)?;
+        Connections {
+            live: BTreeMap::new(alloc),
+            ends: BTreeMap::new(alloc),
+            queues: Queues::new(alloc),
+        }
+    }
+
+    /// Adds a connection at the end. Want of memory also comes where its number isn't greater than
+    /// all others, and where one of its ends is that of another.
+    pub fn add(
+        &mut self,
+        alloc: Global,
+        number: u64,
+        ap: u16,
+        peer: End,
+        protocol: u8,
+    ) -> Result<(), OutOfMemory>
+        ensures { OnOk result (self.new ≡ self.old ++ new_connection number ap peer protocol ∷ []) }
+    {
+        let (near, far) = (Place::of(End::Ap(ap)), Place::of(peer));
+        if is_same(End::Ap(ap), peer) || !live::is_above(&self.live, number) {
+            return Err(OutOfMemory);
+        }
+        if self.ends.contains_key(&near) || self.ends.contains_key(&far) {
+            return Err(OutOfMemory);
+        }
+        let connection = Connection::new(alloc, ap, peer, protocol)?;
+        self.ends.insert(near, number)?;
+        self.ends.insert(far, number)?;
+        self.live.insert(number, connection)?;
         Ok(())
     }
 
-    /// The live connection with a number.
-    pub fn get(&self, k: u64) -> Option<&Connection>
-        ensures { option_copied result ≡ find (numbered k) self.now }
+    /// Whether the live connection with a number is wired. None comes where it isn't live.
+    pub fn wired(&self, k: u64) -> Option<bool>
+        ensures { result ≡ option_map (λ c. c.wired) (find (numbered k) self.now) }
     {
-        for connection in &self.live {
-            if connection.number == k {
-                return Some(connection);
-            }
+        Some(self.live.get(&k)?.wired)
+    }
+
+    /// The ends of the live connection with a number.
+    pub fn ends(&self, k: u64) -> Option<(u16, End)>
+        ensures { result ≡ option_map ends_in (find (numbered k) self.now) }
+    {
+        let connection = self.live.get(&k)?;
+        Some((connection.ap, connection.peer))
+    }
+
+    /// No identifier is left on a side of a connection, or it isn't live.
+    pub fn is_spent(&self, k: u64, side: Side) -> bool
+        ensures { result ≡ is_none (next_in k side self.now) }
+    {
+        match self.live.get(&k) {
+            Some(connection) => connection.is_spent(side),
+            None => true,
         }
-        None
+    }
+
+    /// How many messages wait toward a side of the live connection with a number.
+    pub fn count(&self, k: u64, side: Side) -> Option<u64>
+        ensures { result
+            ≡ option_map (λ c. length (queue_of side c)) (find (numbered k) self.now) }
+    {
+        let connection = self.live.get(&k)?;
+        Some(count(&self.queues, connection, side))
     }
 
     /// The number of the connection of a CPort of the application processor with a module's.
     pub fn joining(&self, ap: u16, peer: End) -> Option<u64>
         ensures { result ≡ option_map (λ c. c.number) (find (joins ap peer) self.now) }
     {
-        for connection in &self.live {
-            if connection.ap == ap && connection.peer == peer {
-                return Some(connection.number);
-            }
+        let number = *self.ends.get(&Place::of(End::Ap(ap)))?;
+        let connection = self.live.get(&number)?;
+        if connection.joins(ap, peer) {
+            Some(number)
+        } else {
+            None
         }
-        None
     }
 
     /// Some connection is wired to a module at an interface.
     pub fn is_wired_to(&self, intf: u8) -> bool
         ensures { result ≡ list_any (is_wired_to intf) self.now }
     {
-        for connection in &self.live {
+        for (_, connection) in &self.live {
             if connection.is_wired_to(intf) {
                 return true;
             }
@@ -97,9 +189,9 @@ impl Connections {
             (λ ns. ns ≡ map (λ c. c.number) (filter (is_wired_to intf) self.now)) }
     {
         let mut numbers = Numbers::new(alloc);
-        for connection in &self.live {
+        for (number, connection) in &self.live {
             if connection.is_wired_to(intf) {
-                numbers.push(connection.number)?;
+                numbers.push(*number)?;
             }
         }
         Ok(numbers)
@@ -109,25 +201,16 @@ impl Connections {
     pub fn place(&self, at: End) -> Option<(u64, Side)>
         ensures { result ≡ place_at at self.now }
     {
-        for connection in &self.live {
-            if let Some(side) = connection.side_at(at) {
-                return Some((connection.number, side));
-            }
-        }
-        None
+        let number = *self.ends.get(&Place::of(at))?;
+        let side = self.live.get(&number)?.side_at(at)?;
+        Some((number, side))
     }
 
     /// The first end at which something waits.
     pub fn first(&self) -> Option<End>
         ensures { result ≡ earliest_in self.now }
     {
-        let mut found = None;
-        let mut left = self.live.len();
-        while left > 0 {
-            left -= 1;
-            found = self.live[left].earliest(found);
-        }
-        found
+        self.queues.first()
     }
 
     /// What is told of each, in order.
@@ -135,8 +218,8 @@ impl Connections {
         ensures { IfOk result (λ ks. ks ≡ map known_as self.now) }
     {
         let mut known = Sequence::new(alloc);
-        for connection in &self.live {
-            known.push(connection.known())?;
+        for (number, connection) in &self.live {
+            known.push(connection.known(*number))?;
         }
         Ok(known)
     }
@@ -146,21 +229,25 @@ impl Connections {
         ensures { IfOk result (λ ws. ws ≡ waiting_in self.now) }
     {
         let mut ordered = Sequence::new(alloc);
-        let mut left = self.live.len();
-        while left > 0 {
-            left -= 1;
-            self.live[left].add_ends(&mut ordered)?;
+        for (_, connection) in self.live.iter().rev() {
+            add_ends(&self.queues, connection, &mut ordered)?;
         }
         Ok(ordered)
     }
 
-    /// A connection is wired.
-    pub fn wire(&mut self, k: u64)
-        ensures { self.new ≡ at_first (numbered k) with_wire self.old }
+    /// A connection is wired, and nothing waits at its ends. After want of memory nothing is said.
+    pub fn wire(&mut self, k: u64) -> Result<(), OutOfMemory>
+        ensures { OnOk result (self.new ≡ at_first (numbered k) with_wire self.old) }
     {
-        if let Some(i) = self.index(k) {
-            self.live[i].wired = true;
+        let Some(connection) = self.live.get(&k) else {
+            return Ok(());
+        };
+        if connection.wired {
+            return Ok(());
         }
+        self.queues.create(End::Ap(connection.ap), connection.peer)?;
+        live::wire(&mut self.live, k);
+        Ok(())
     }
 
     /// A connection isn't wired any more, what waited in its queues is lost, and all identifiers of
@@ -168,9 +255,11 @@ impl Connections {
     pub fn unwire(&mut self, k: u64)
         ensures { self.new ≡ at_first (numbered k) cleared self.old }
     {
-        if let Some(i) = self.index(k) {
-            self.live[i].clear();
-        }
+        let Some(connection) = self.live.get(&k) else {
+            return;
+        };
+        self.queues.destroy(End::Ap(connection.ap), connection.peer);
+        live::clear(&mut self.live, k);
     }
 
     /// The application processor's side of a connection is closed, and all its identifiers are
@@ -178,16 +267,20 @@ impl Connections {
     pub fn shut(&mut self, k: u64)
         ensures { self.new ≡ at_first (numbered k) closed self.old }
     {
-        if let Some(i) = self.index(k) {
-            self.live[i].shut();
-        }
+        live::shut(&mut self.live, k);
     }
 
     /// A connection is there no more.
     pub fn remove(&mut self, k: u64)
         ensures { self.new ≡ without (numbered k) self.old }
     {
-        self.live.retain(|connection| connection.number != k);
+        let Some(connection) = self.live.remove(&k) else {
+            return;
+        };
+        let near = End::Ap(connection.ap);
+        self.ends.remove(&Place::of(near));
+        self.ends.remove(&Place::of(connection.peer));
+        self.queues.destroy(near, connection.peer);
     }
 
     /// Request n of a side of a connection is open from now on, and its identifier is answered.
@@ -195,10 +288,7 @@ impl Connections {
     pub fn begin(&mut self, k: u64, side: Side, n: u64, deadline: u64) -> Result<u16, BeginFault>
         ensures { BeginsIn self.old self.new k side n deadline result }
     {
-        match self.index(k) {
-            Some(i) => self.live[i].begin(side, n, deadline),
-            None => Err(BeginFault::NoLabel),
-        }
+        live::begin(&mut self.live, k, side, n, deadline)
     }
 
     /// What an answer to request n with an identifier comes to on a side of a connection. The
@@ -206,10 +296,7 @@ impl Connections {
     pub fn matched(&mut self, k: u64, side: Side, n: u64, label: u16) -> Matched
         ensures { MatchesIn self.old self.new k side n label result }
     {
-        match self.index(k) {
-            Some(i) => self.live[i].matched(side, n, label),
-            None => Matched::Unknown,
-        }
+        live::matched(&mut self.live, k, side, n, label)
     }
 
     /// Request n of a side of a connection is given up, where it is open. Its identifier stays in
@@ -217,9 +304,7 @@ impl Connections {
     pub fn give_up(&mut self, k: u64, side: Side, n: u64)
         ensures { GivesUpIn self.old self.new k side n }
     {
-        if let Some(i) = self.index(k) {
-            self.live[i].give_up(side, n);
-        }
+        live::give_up(&mut self.live, k, side, n);
     }
 
     /// Adds a message to the queue toward a side of a connection. It is lost where the connection
@@ -227,8 +312,15 @@ impl Connections {
     pub fn push(&mut self, k: u64, side: Side, item: Item) -> Result<(), OutOfMemory>
         ensures { OnOk result (self.new ≡ at_first (numbered k) (put side item) self.old) }
     {
-        if let Some(i) = self.index(k) {
-            self.live[i].push(side, item)?;
+        let Some(connection) = self.live.get(&k) else {
+            return Ok(());
+        };
+        if !connection.wired {
+            return Ok(());
+        }
+        let pushed = self.queues.push(connection.end(side), item);
+        if pushed.is_err() {
+            return Err(OutOfMemory);
         }
         Ok(())
     }
@@ -237,20 +329,48 @@ impl Connections {
     pub fn pop(&mut self, k: u64, side: Side) -> Option<Item>
         ensures { TakesFrontAs self.old self.new k side result }
     {
-        let i = self.index(k)?;
-        self.live[i].pop(side)
-    }
-
-    /// Where the connection with a number stands.
-    fn index(&self, k: u64) -> Option<usize>
-        ensures first { result ≡ position_from (numbered k) 0 self.now }
-        ensures within { IfSome result (λ i. i < length self.now) }
-    {
-        for (i, connection) in self.live.iter().enumerate() {
-            if connection.number == k {
-                return Some(i);
-            }
+        let connection = self.live.get(&k)?;
+        if !connection.wired {
+            return None;
         }
-        None
+        self.queues.pop(connection.end(side))
     }
+}
+
+/// How many messages wait toward a side of a connection.
+fn count(queues: &Queues<Item>, connection: &Connection, side: Side) -> u64
+    ensures { result ≡ length (queue_of side (seen queues.now 0 connection.now)) }
+{
+    if !connection.wired {
+        return 0;
+    }
+    match queues.len(connection.end(side)) {
+        Some(count) => count,
+        None => 0,
+    }
+}
+
+/// Adds those of the ends of a connection at which something waits, where they belong in the order
+/// in which queues are settled.
+fn add_ends(
+    queues: &Queues<Item>,
+    connection: &Connection,
+    ordered: &mut Sequence<Waiting>,
+) -> Result<(), OutOfMemory>
+    ensures { OnOk result
+        (ordered.new ≡ with_ends (seen queues.now 0 connection.now) ordered.old) }
+{
+    if !connection.wired {
+        return Ok(());
+    }
+    add_end(
+        connection.peer,
+        count(queues, connection, Side::Far),
+        ordered,
+    )?;
+    add_end(
+        End::Ap(connection.ap),
+        count(queues, connection, Side::Ap),
+        ordered,
+    )
 }

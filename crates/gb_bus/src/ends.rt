@@ -1,18 +1,10 @@
 //! What is decided of ends and requests without a bus.
 
 ghost use Rattle.std.specs.Prelude.{◌≡◌};
-ghost use Rattle.gb_machine.specs.Bus.{other_side};
+ghost use Rattle.gb_machine.specs.Bus.{other_side, same_end};
 ghost use Rattle.gb_machine.specs.Waiting.{end_before};
-ghost use Rattle.gb_bus.specs.Ends.{earlier, first_outcome};
 
-use gb_base::{End, Outcome, Side};
-
-/// The outcome that a request has from the first.
-pub fn first_outcome(oneway: bool) -> Option<Outcome>
-    ensures { result ≡ first_outcome oneway }
-{
-    if oneway { Some(Outcome::Sent) } else { None }
-}
+use gb_base::{End, Side};
 
 /// The other side of a connection.
 pub fn other_side(side: Side) -> Side
@@ -24,15 +16,11 @@ pub fn other_side(side: Side) -> Side
     }
 }
 
-/// The earlier of an end, unless nothing waits there, and one that was found before.
-pub fn earlier(empty: bool, at: End, found: Option<End>) -> Option<End>
-    ensures { result ≡ earlier empty at found }
+/// Two ends are one.
+pub fn is_same(a: End, b: End) -> bool
+    ensures { result ≡ same_end a b }
 {
-    match found {
-        _ if empty => found,
-        Some(later) if !is_before(at, later) => Some(later),
-        _ => Some(at),
-    }
+    a == b
 }
 
 /// The order in which ends are settled: the supervisory controller, then the CPorts of the

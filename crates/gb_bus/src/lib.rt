@@ -6,6 +6,8 @@ mod bus;
 mod connection;
 mod connections;
 mod ends;
+mod live;
+mod naming;
 mod queue;
 mod slots;
 mod tally;
@@ -14,7 +16,7 @@ mod telling;
 mod tests;
 mod wiring;
 
-pub use answers::{AlreadyEnded, Arrival, Arrived, Asked, DeliverFault, SendFault, Sent};
+pub use answers::{About, AlreadyEnded, Arrival, Arrived, Asked, DeliverFault, SendFault, Sent};
 pub use bus::Bus;
 pub use tally::Tally;
 pub use telling::{Known, Waiting};

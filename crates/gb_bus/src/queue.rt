@@ -1,13 +1,6 @@
-//! The queue of messages toward one end.
+//! What waits in queues.
 
-ghost use Rattle.std.specs.Prelude.{◌≡◌, [], ◌∷◌, ◌++◌, OnOk, OnErr, length};
-ghost use Rattle.gb_machine.specs.Lists.{behind_first, first};
-ghost use Rattle.gb_bus.specs.Parts.{is_none_left};
-
-use gb_base::{Bytes, OutOfMemory};
-use std::alloc::Global;
-use std::collections::VecDeque;
-use std::marker::Model;
+use gb_base::Bytes;
 
 /// A message in a queue. It carries all that its delivery needs.
 #[derive(Drop)]
@@ -34,68 +27,4 @@ pub enum Item {
         /// The payload.
         payload: Bytes,
     },
-}
-
-/// Messages in the order in which they were sent.
-#[derive(Drop)]
-pub struct Queue {
-    items: VecDeque<Item>,
-}
-
-impl Model for Queue {
-    ghost use Rattle.std.specs.Prelude.{List};
-    ghost use Rattle.gb_bus.specs.declared.queue.Item.{Item};
-
-    ghost Value = { List Item };
-
-    ghost view = { λ q. q.items.items };
-}
-
-impl Queue {
-    /// The empty queue.
-    pub fn new(alloc: Global) -> Queue
-        ensures { result ≡ [] }
-    {
-        Queue {
-            items: VecDeque::new(alloc),
-        }
-    }
-
-    /// Adds a message at the end.
-    pub fn push(&mut self, item: Item) -> Result<(), OutOfMemory>
-        ensures ok { OnOk result (self.new ≡ self.old ++ item ∷ []) }
-        ensures err { OnErr result (self.new ≡ self.old) }
-    {
-        self.items.push_back(item)?;
-        Ok(())
-    }
-
-    /// Takes the front message.
-    pub fn pop(&mut self) -> Option<Item>
-        ensures front { result ≡ first self.old }
-        ensures behind { self.new ≡ behind_first self.old }
-    {
-        self.items.pop_front()
-    }
-
-    /// Loses all messages.
-    pub fn clear(&mut self)
-        ensures { self.new ≡ [] }
-    {
-        self.items.clear();
-    }
-
-    /// How many messages wait.
-    pub fn len(&self) -> u64
-        ensures { result ≡ length self.now }
-    {
-        self.items.len() as u64
-    }
-
-    /// No message waits.
-    pub fn is_empty(&self) -> bool
-        ensures { result ≡ is_none_left self.now }
-    {
-        self.items.is_empty()
-    }
 }

@@ -1,18 +1,55 @@
-//! What the bus keeps of each request that was made.
+//! The slots of requests.
 
-ghost use Rattle.std.specs.Prelude.{◌≡◌, ◌+◌, [], ◌∷◌, ◌++◌, length, map, IfOk, OnOk, option_copied};
-ghost use Rattle.gb_machine.specs.Lists.{first, nth};
-ghost use Rattle.gb_bus.specs.Counting.{counted_on, no_requests};
-ghost use Rattle.gb_bus.specs.Slots.{at_number, is_due, is_open_on, open_in, over, with_outcome};
+ghost use Rattle.std.specs.Prelude.{
+  ◌≡◌,
+  ◌+◌,
+  ℕ,
+  Some,
+  None,
+  true,
+  false,
+  IfOk,
+  OnOk,
+  option_copied,
+};
+ghost use Rattle.gb_bus.specs.Counting.{no_requests};
+ghost use Rattle.std.specs.BTreeMap.{IsOrdered};
+ghost use Rattle.std.specs.Ordering.{nat_cmp};
+ghost use Rattle.slab.specs.Slab.{get};
+ghost use Rattle.gb_bus.specs.Keeping.{is_let_go, lesser_of, numbers_where};
+ghost use Rattle.gb_bus.specs.Slots.{
+  Closes,
+  MakesAs,
+  MovesAt,
+  Opens,
+  ended_at,
+  ends_so,
+  forgets,
+  gets_name,
+  gives_up_so,
+  is_asked_for,
+  is_due,
+  is_late_on,
+  is_open_on,
+  is_open_slot,
+  loses_name,
+  one_more,
+  slot_at,
+};
+ghost use Rattle.gb_bus.specs.Listing.{AreThose, FindsLeast};
 
 use crate::Tally;
 use gb_base::{Numbers, OutOfMemory, Outcome, Side};
+use slab::Slab;
 use std::alloc::Global;
+use std::collections::{BTreeMap, BTreeSet};
 use std::marker::Model;
 
-/// What is kept of a request.
+/// What is kept of a request while something asks for it.
 #[derive(Drop)]
 pub struct Slot {
+    /// Its number.
+    pub number: u64,
     /// The connection on which it was made.
     pub connection: u64,
     /// The side that made it.
@@ -23,148 +60,360 @@ pub struct Slot {
     pub deadline: u64,
     /// How it ended, None while it is open.
     pub outcome: Option<Outcome>,
+    /// Its identifier is in use: it is open, or it was given up and its answer hasn't come.
+    pub awaited: bool,
+    /// How many names it has.
+    pub names: u64,
 }
 
 impl Slot {
-    /// It is open, and was made by a side of a connection.
-    fn is_open_on(&self, k: u64, side: Side) -> bool
-        ensures { result ≡ is_open_on k side self.now }
+    /// Its identifier is in use, or it has a name.
+    fn is_asked_for(&self) -> bool
+        ensures { result ≡ is_asked_for self.now }
     {
-        self.connection == k && self.side == side && self.outcome.is_none()
+        self.awaited || self.names > 0
     }
 
-    /// It is open, and its deadline came.
-    fn is_due(&self, now: u64) -> bool
-        ensures { result ≡ is_due now self.now }
+    /// It has one more name. Past the most it can count it stays.
+    fn add_name(&mut self)
+        ensures { self.new ≡ record self.old { names = one_more self.old.names } }
     {
-        self.deadline <= now && self.outcome.is_none()
-    }
-
-    /// A side of a connection is closed: what it made ends.
-    fn close(&mut self, k: u64, side: Side)
-        ensures { self.new ≡ over k side self.old }
-    {
-        if self.is_open_on(k, side) {
-            self.outcome = Some(Outcome::Disconnected);
-        }
+        self.names = self.names.saturating_add(1);
     }
 }
 
-/// The slots of all requests. Request n stands at the n-th place, counted from 1.
+/// The requests that are open, were given up and not answered yet, or have a name, each in a slot,
+/// and the counts of all that were made.
 #[derive(Drop)]
 pub struct Slots {
-    slots: Vec<Slot>,
+    slots: Slab<Slot>,
+    /// The keys of the slots by number.
+    places: BTreeMap<u64, usize>,
+    /// The deadlines of the open requests, with their numbers.
+    deadlines: BTreeSet<(u64, u64)>,
+    tally: Tally,
 }
 
 impl Model for Slots {
-    ghost use Rattle.std.specs.Prelude.{List};
-    ghost use Rattle.gb_bus.specs.declared.slots.Slot.{Slot};
+    ghost use Rattle.gb_bus.specs.Keeping.{IsKept, kept_in};
+    ghost use Rattle.gb_bus.specs.Slots.{Kept};
 
-    ghost Value = { List Slot };
+    ghost Value = { Kept };
 
-    ghost view = { λ s. s.slots.items };
+    ghost view = { λ x. kept_in x.slots x.places x.tally };
+
+    ghost invariant = { λ x. IsKept x.slots x.places x.deadlines x.tally };
 }
 
 impl Slots {
     /// No request was made.
     pub fn new(alloc: Global) -> Slots
-        ensures { result ≡ [] }
+        ensures none { (n : ℕ) → slot_at result n ≡ None }
+        ensures tally { result.tally ≡ no_requests }
     {
         Slots {
-            slots: Vec::new(alloc),
+            slots: Slab::new(alloc),
+            places: BTreeMap::new(alloc),
+            deadlines: BTreeSet::new(alloc),
+            tally: Tally::none(),
         }
-    }
-
-    /// Keeps a new request.
-    pub fn add(&mut self, slot: Slot) -> Result<(), OutOfMemory>
-        ensures { OnOk result (self.new ≡ self.old ++ slot ∷ []) }
-    {
-        self.slots.push(slot)?;
-        Ok(())
-    }
-
-    /// The slot of request n, None where n wasn't made.
-    pub fn get(&self, n: u64) -> Option<&Slot>
-        ensures { option_copied result ≡ nth n self.now }
-    {
-        if n == 0 {
-            return None;
-        }
-        self.slots.get((n - 1) as usize)
-    }
-
-    /// Request n ends so, where it was made.
-    pub fn end(&mut self, n: u64, outcome: Outcome)
-        ensures { self.new ≡ at_number n (with_outcome outcome) self.old }
-    {
-        if n == 0 || n > self.slots.len() as u64 {
-            return;
-        }
-        self.slots[(n - 1) as usize].outcome = Some(outcome);
-    }
-
-    /// The open requests of a side of a connection, in order of number.
-    pub fn open_on(&self, k: u64, side: Side) -> Result<Numbers, OutOfMemory>
-        ensures { IfOk result (λ ns. ns ≡ open_in (is_open_on k side) 1 self.now) }
-    {
-        let mut open = Numbers::new(*self.slots.allocator());
-        for (i, slot) in self.slots.iter().enumerate() {
-            if slot.is_open_on(k, side) {
-                open.push(i as u64 + 1)?;
-            }
-        }
-        Ok(open)
-    }
-
-    /// The open requests whose deadline came, in order of number.
-    pub fn due(&self, now: u64) -> Result<Numbers, OutOfMemory>
-        ensures { IfOk result (λ ns. ns ≡ open_in (is_due now) 1 self.now) }
-    {
-        let mut due = Numbers::new(*self.slots.allocator());
-        for (i, slot) in self.slots.iter().enumerate() {
-            if slot.is_due(now) {
-                due.push(i as u64 + 1)?;
-            }
-        }
-        Ok(due)
-    }
-
-    /// The open request with the least number whose deadline came.
-    pub fn first_due(&self, now: u64) -> Option<u64>
-        ensures { result ≡ first (open_in (is_due now) 1 self.now) }
-    {
-        for (i, slot) in self.slots.iter().enumerate() {
-            if slot.is_due(now) {
-                return Some(i as u64 + 1);
-            }
-        }
-        None
     }
 
     /// How many requests were made.
     pub fn count(&self) -> u64
-        ensures { result ≡ length self.now }
+        ensures { result ≡ self.now.tally.requests }
     {
-        self.slots.len() as u64
+        self.tally.requests
     }
 
     /// How many requests were made, and how these stand.
     pub fn tally(&self) -> Tally
-        ensures { result ≡ counted_on no_requests self.now }
+        ensures { result ≡ self.now.tally }
     {
-        let mut tally = Tally::none();
-        for slot in self.slots.iter() {
-            tally.add(&slot.outcome);
-        }
-        tally
+        self.tally
     }
 
-    /// The open requests of a side of a connection end as disconnected.
-    pub fn close(&mut self, k: u64, side: Side)
-        ensures { self.new ≡ map (over k side) self.old }
+    /// The slot of request n, None where it isn't kept.
+    pub fn get(&self, n: u64) -> Option<&Slot>
+        ensures { option_copied result ≡ slot_at self.now n }
     {
-        for slot in self.slots.iter_mut() {
-            slot.close(k, side);
+        let key = *self.places.get(&n)?;
+        self.slots.get(key)
+    }
+
+    /// Counts a new request. One that isn't unidirectional is open, and is kept. After want of
+    /// memory nothing is said.
+    pub fn add(&mut self, slot: Slot, oneway: bool) -> Result<(), OutOfMemory>
+        requires number { slot.number ≡ self.old.tally.requests + 1 }
+        requires unended { slot.outcome ≡ None }
+        requires awaited { slot.awaited ≡ true }
+        ensures { OnOk result (MakesAs oneway slot self.old self.new) }
+    {
+        if oneway {
+            self.tally.add(&Some(Outcome::Sent));
+            return Ok(());
         }
+        self.open(slot)
+    }
+
+    /// A new request is open. Its slot comes last, when there is room for all.
+    fn open(&mut self, slot: Slot) -> Result<(), OutOfMemory>
+        requires number { slot.number ≡ self.old.tally.requests + 1 }
+        requires unended { slot.outcome ≡ None }
+        requires awaited { slot.awaited ≡ true }
+        ensures { OnOk result (Opens slot self.old self.new) }
+    {
+        let number = slot.number;
+        let deadline = slot.deadline;
+        self.slots.reserve(1)?;
+        self.deadlines.insert((deadline, number))?;
+        let key = self.slots.vacant_key();
+        if self.places.insert(number, key).is_err() {
+            self.deadlines.remove(&(deadline, number));
+            return Err(OutOfMemory);
+        }
+        self.slots.insert_reserved(slot);
+        self.tally.add(&None);
+        Ok(())
+    }
+
+    /// Request n ends so, where it is open.
+    pub fn end(&mut self, n: u64, how: Outcome)
+        ensures { MovesAt n (ends_so how) (ended_at n how self.old) self.old self.new }
+    {
+        if self.finish(n, how) {
+            self.forget(n);
+        }
+    }
+
+    /// Request n is given up, and ends so, where it is open.
+    pub fn give_up(&mut self, n: u64, how: Outcome)
+        ensures { MovesAt n (gives_up_so how) (ended_at n how self.old) self.old self.new }
+    {
+        self.finish(n, how);
+    }
+
+    /// Request n ends so, where it is open, and its identifier stays in use. It was open.
+    fn finish(&mut self, n: u64, how: Outcome) -> bool
+        ensures was_open { result ≡ is_open_slot (slot_at self.old n) }
+        ensures moves { MovesAt n (gives_up_so how) (ended_at n how self.old) self.old self.new }
+    {
+        let Some(key) = self.places.get(&n).copied() else {
+            return false;
+        };
+        let Some(slot) = self.slots.get_mut(key) else {
+            return false;
+        };
+        if slot.outcome.is_some() {
+            return false;
+        }
+        let deadline = slot.deadline;
+        self.deadlines.remove(&(deadline, n));
+        self.tally.end(&how);
+        slot.outcome = Some(how);
+        true
+    }
+
+    /// The identifier of request n is free, where n has ended.
+    pub fn forget(&mut self, n: u64)
+        ensures { MovesAt n forgets self.old.tally self.old self.new }
+    {
+        let Some(key) = self.places.get(&n).copied() else {
+            return;
+        };
+        let Some(slot) = self.slots.get_mut(key) else {
+            return;
+        };
+        if slot.outcome.is_none() {
+            return;
+        }
+        slot.awaited = false;
+        if !slot.is_asked_for() {
+            self.let_go(n);
+        }
+    }
+
+    /// Request n has one more name, where it is kept.
+    pub fn keep(&mut self, n: u64)
+        ensures { MovesAt n gets_name self.old.tally self.old self.new }
+    {
+        let Some(key) = self.places.get(&n).copied() else {
+            return;
+        };
+        let Some(slot) = self.slots.get_mut(key) else {
+            return;
+        };
+        slot.add_name();
+    }
+
+    /// Request n has one name less, where it is kept.
+    pub fn loose(&mut self, n: u64)
+        ensures { MovesAt n loses_name self.old.tally self.old self.new }
+    {
+        let Some(key) = self.places.get(&n).copied() else {
+            return;
+        };
+        let Some(slot) = self.slots.get_mut(key) else {
+            return;
+        };
+        slot.names = slot.names.saturating_sub(1);
+        if !slot.is_asked_for() {
+            self.let_go(n);
+        }
+    }
+
+    /// The open requests of a side of a connection, in order of number.
+    pub fn open_on(&self, alloc: Global, k: u64, side: Side) -> Result<Numbers, OutOfMemory>
+        ensures { IfOk result (λ ns. AreThose (λ n. is_open_on k side (slot_at self.now n)) ns) }
+    {
+        let numbers = open_among(alloc, &self.slots, &self.places, k, side)?;
+        Ok(numbers)
+    }
+
+    /// The requests of a side of a connection that have ended and whose identifiers are in use, in
+    /// order of number.
+    pub fn late_on(&self, alloc: Global, k: u64, side: Side) -> Result<Numbers, OutOfMemory>
+        ensures { IfOk result (λ ns. AreThose (λ n. is_late_on k side (slot_at self.now n)) ns) }
+    {
+        let numbers = late_among(alloc, &self.slots, &self.places, k, side)?;
+        Ok(numbers)
+    }
+
+    /// Request n, which isn't open, isn't kept any more.
+    fn let_go(&mut self, n: u64)
+        requires { is_open_slot (slot_at self.old n) ≡ false }
+        ensures { MovesAt n is_let_go self.old.tally self.old self.new }
+    {
+        let Some(key) = self.places.remove(&n) else {
+            return;
+        };
+        self.slots.try_remove(key);
+    }
+
+    /// A side is closed on which these requests are open, in order of number, and those were given
+    /// up: the first end as disconnected, and the identifiers of the others are free.
+    pub fn close(&mut self, unended: &[u64], late: &[u64])
+        ensures { Closes unended.now late.now self.old self.new }
+    {
+        for n in unended {
+            self.end(*n, Outcome::Disconnected);
+        }
+        for n in late {
+            self.forget(*n);
+        }
+    }
+
+    /// The open requests whose deadline came, in order of number.
+    pub fn due(&self, alloc: Global, now: u64) -> Result<Numbers, OutOfMemory>
+        ensures { IfOk result (λ ns. AreThose (λ n. is_due now (slot_at self.now n)) ns) }
+    {
+        let mut found = BTreeSet::new(alloc);
+        for (deadline, number) in &self.deadlines {
+            if *deadline > now {
+                break;
+            }
+            found.insert(*number)?;
+        }
+        let mut due = Numbers::new(alloc);
+        for number in &found {
+            due.push(*number)?;
+        }
+        Ok(due)
+    }
+
+    /// The open request with the least number whose deadline came. It takes no memory.
+    pub fn first_due(&self, now: u64) -> Option<u64>
+        ensures { FindsLeast (λ n. is_due now (slot_at self.now n)) result }
+    {
+        let mut least = None;
+        for (deadline, number) in &self.deadlines {
+            if *deadline > now {
+                break;
+            }
+            least = lesser(*number, least);
+        }
+        least
+    }
+
+    /// The key of the next slot.
+    #[cfg(test)]
+    pub fn next_key(&self) -> usize {
+        self.slots.vacant_key()
+    }
+}
+
+/// The lesser of a number and one that was found before.
+fn lesser(n: u64, least: Option<u64>) -> Option<u64>
+    ensures { result ≡ Some (lesser_of n least) }
+{
+    match least {
+        Some(m) if m <= n => Some(m),
+        _ => Some(n),
+    }
+}
+
+/// The open requests of a side of a connection among those that have a place, in order of number.
+fn open_among(
+    alloc: Global,
+    slots: &Slab<Slot>,
+    places: &BTreeMap<u64, usize>,
+    k: u64,
+    side: Side,
+) -> Result<Numbers, OutOfMemory>
+    ensures numbers { IfOk result
+        (λ ns. ns
+        ≡ numbers_where (λ key. is_open_on k side (get slots.now key)) places.now.entries) }
+    ensures ordered { IsOrdered nat_cmp places.now }
+{
+    let mut numbers = Numbers::new(alloc);
+    for (number, key) in places {
+        if is_open_at(slots, *key, k, side) {
+            numbers.push(*number)?;
+        }
+    }
+    Ok(numbers)
+}
+
+/// Those that have ended and whose identifiers are in use.
+fn late_among(
+    alloc: Global,
+    slots: &Slab<Slot>,
+    places: &BTreeMap<u64, usize>,
+    k: u64,
+    side: Side,
+) -> Result<Numbers, OutOfMemory>
+    ensures numbers { IfOk result
+        (λ ns. ns
+        ≡ numbers_where (λ key. is_late_on k side (get slots.now key)) places.now.entries) }
+    ensures ordered { IsOrdered nat_cmp places.now }
+{
+    let mut numbers = Numbers::new(alloc);
+    for (number, key) in places {
+        if is_late_at(slots, *key, k, side) {
+            numbers.push(*number)?;
+        }
+    }
+    Ok(numbers)
+}
+
+/// The slot under a key is that of an open request of a side of a connection.
+fn is_open_at(slots: &Slab<Slot>, key: usize, k: u64, side: Side) -> bool
+    ensures { result ≡ is_open_on k side (get slots.now key) }
+{
+    match slots.get(key) {
+        Some(slot) => slot.connection == k && slot.side == side && slot.outcome.is_none(),
+        None => false,
+    }
+}
+
+/// Or of one that has ended, and whose identifier is in use.
+fn is_late_at(slots: &Slab<Slot>, key: usize, k: u64, side: Side) -> bool
+    ensures { result ≡ is_late_on k side (get slots.now key) }
+{
+    match slots.get(key) {
+        Some(slot) => {
+            slot.connection == k && slot.side == side && slot.outcome.is_some() && slot.awaited
+        }
+        None => false,
     }
 }

@@ -1,9 +1,8 @@
 //! How many requests there are, and how they stand.
 
-ghost use Rattle.std.specs.Prelude.{◌≡◌, List};
-ghost use Rattle.gb_invariants.specs.Facts.{Loose};
+ghost use Rattle.std.specs.Prelude.{◌≡◌, ◌<◌, ◌≤◌};
 ghost use Rattle.gb_machine.specs.Bus as machine;
-ghost use Rattle.gb_bus.specs.Counting.{AreAtMost, Tells, no_requests, with_one};
+ghost use Rattle.gb_bus.specs.Counting.{Tells, counted_once, no_requests, one_ended, with_one};
 
 use crate::Bus;
 use gb_base::Outcome;
@@ -46,7 +45,8 @@ impl Tally {
 
     /// One more request was made, which ended so, or is open.
     pub fn add(&mut self, outcome: &Option<Outcome>)
-        requires { AreAtMost 18446744073709551614 self.old }
+        requires once { counted_once self.old ≡ self.old.requests }
+        requires room { self.old.requests < 18446744073709551615 }
         ensures { self.new ≡ with_one outcome.now self.old }
     {
         self.requests += 1;
@@ -59,14 +59,30 @@ impl Tally {
             Some(Outcome::Sent) => self.sent += 1,
         }
     }
+
+    /// An open request ended so.
+    pub fn end(&mut self, how: &Outcome)
+        requires once { counted_once self.old ≡ self.old.requests }
+        requires open { 1 ≤ self.old.left_open }
+        ensures { self.new ≡ one_ended how.now self.old }
+    {
+        self.left_open -= 1;
+        match how {
+            Outcome::Answered { .. } => self.answered += 1,
+            Outcome::Cancelled => self.cancelled += 1,
+            Outcome::Timeout => self.timeout += 1,
+            Outcome::Disconnected => self.disconnected += 1,
+            Outcome::Sent => self.sent += 1,
+        }
+    }
 }
 
 impl Bus {
-    ghost use Rattle.gb_bus.specs.Stands.{Stands};
+    ghost use Rattle.gb_bus.specs.Stands.{Around, Stands};
 
     /// How many requests were made, and how these stand.
     pub fn tally(&self) -> Tally
-        ensures { (loose : List Loose) (b : machine.Bus) → Stands loose self.now b
+        ensures { (around : Around) (b : machine.Bus) → Stands around self.now b
             → Tells result b }
     {
         self.slots.tally()

@@ -1,8 +1,7 @@
 //! What the bus tells of its connections and of what waits.
 
-ghost use Rattle.std.specs.Prelude.{◌≡◌, ℕ, ◌<◌, ◌≤◌, List, OnOk, IfOk, IfSome, insert, length, map};
+ghost use Rattle.std.specs.Prelude.{◌≡◌, ℕ, ◌<◌, ◌≤◌, OnOk, IfOk, IfSome, insert, length, map};
 ghost use Rattle.std.specs.List.{position_from};
-ghost use Rattle.gb_invariants.specs.Facts.{Loose};
 ghost use Rattle.gb_machine.specs.Bus as machine;
 ghost use Rattle.gb_machine.specs.Lists.{in_order};
 ghost use Rattle.gb_machine.specs.Waiting.{end_before, queues};
@@ -37,12 +36,12 @@ pub struct Waiting {
 }
 
 impl Bus {
-    ghost use Rattle.gb_bus.specs.Stands.{Stands};
+    ghost use Rattle.gb_bus.specs.Stands.{Around, Stands};
 
     /// The live connections in order of number.
     pub fn connections(&self) -> Result<Sequence<Known>, OutOfMemory>
-        ensures { IfOk result (λ ks. (loose : List Loose) (b : machine.Bus)
-            → Stands loose self.now b → ks ≡ map known_of b.connections) }
+        ensures { IfOk result (λ ks. (around : Around) (b : machine.Bus)
+            → Stands around self.now b → ks ≡ map known_of b.connections) }
     {
         let known = self.connections.known(self.alloc)?;
         Ok(known)
@@ -50,8 +49,8 @@ impl Bus {
 
     /// The ends at which messages wait, in the order in which queues are settled.
     pub fn queues(&self) -> Result<Sequence<Waiting>, OutOfMemory>
-        ensures { IfOk result (λ ws. (loose : List Loose) (b : machine.Bus)
-            → Stands loose self.now b → ws ≡ map waiting_of (queues b)) }
+        ensures { IfOk result (λ ws. (around : Around) (b : machine.Bus)
+            → Stands around self.now b → ws ≡ map waiting_of (queues b)) }
     {
         let waiting = self.connections.waiting(self.alloc)?;
         Ok(waiting)

@@ -32,6 +32,9 @@ enum Act {
     ExpireOne(u64),
     Due(u64),
     Outcome(u64),
+    Keep(u64),
+    Loose(u64),
+    About(u64),
     Wire(u64),
     Unwire(u64),
     Shut(u64),
@@ -62,6 +65,8 @@ enum Seen {
     /// How many requests ended or are due, and the first and the last of them.
     Numbers(usize, Option<u64>, Option<u64>),
     Count(u64),
+    /// The connection of a request, and its side.
+    About(u64, Side),
     Spent(bool),
 }
 
@@ -131,6 +136,23 @@ fn ended(bus: &Bus, n: u64) -> Seen {
     }
 }
 
+fn keeps(bus: &mut Bus, n: u64) -> Seen {
+    bus.keep(n);
+    Seen::Done
+}
+
+fn looses(bus: &mut Bus, n: u64) -> Seen {
+    bus.loose(n);
+    Seen::Done
+}
+
+fn tells_about(bus: &Bus, n: u64) -> Seen {
+    match bus.about(n) {
+        None => Seen::Nothing,
+        Some(about) => Seen::About(about.connection, about.side),
+    }
+}
+
 fn numbers(told: &Numbers) -> Seen {
     let told = told.items();
     Seen::Numbers(told.len(), told.first().copied(), told.last().copied())
@@ -175,6 +197,9 @@ fn comes_of(rt: &impl Abort, alloc: Global, bus: &mut Bus, act: Act) -> Seen {
         Act::ExpireOne(now) => bus.expire_one(now).map_or(Seen::Nothing, Seen::Count),
         Act::Due(now) => is_due(rt, bus, now),
         Act::Outcome(n) => ended(bus, n),
+        Act::Keep(n) => keeps(bus, n),
+        Act::Loose(n) => looses(bus, n),
+        Act::About(n) => tells_about(bus, n),
         Act::Wire(k) => wires(rt, bus, k),
         Act::Unwire(k) => unwires(rt, alloc, bus, k),
         Act::Shut(k) => shuts(rt, alloc, bus, k),
@@ -209,8 +234,12 @@ fn two_modules(rt: &impl Abort, alloc: Global) -> Bus {
 }
 
 /// Requests that succeed, fail, are dropped, are unidirectional, time out, and are answered late.
+/// One that has ended is known as long as it has a name, or its answer hasn't come.
 const REQUESTS: &[(Act, Seen)] = &[
+    (Act::Keep(1), Seen::Done),
     (Act::Send(1, Side::Ap, false), Seen::Sent(1, 1, false)),
+    (Act::Keep(1), Seen::Done),
+    (Act::Keep(1), Seen::Done),
     (
         Act::Deliver(End::Svc, true),
         Seen::Ask(1, Some(1), 1, Some(5)),
@@ -222,6 +251,10 @@ const REQUESTS: &[(Act, Seen)] = &[
         Seen::Ended(1, 1, 0, Some(9)),
     ),
     (Act::Outcome(1), Seen::Answered(0, Some(9))),
+    (Act::Loose(1), Seen::Done),
+    (Act::About(1), Seen::About(1, Side::Ap)),
+    (Act::Loose(1), Seen::Done),
+    (Act::About(1), Seen::Nothing),
     (Act::Deliver(End::Ap(0), true), Seen::QueueEmpty),
     (Act::Send(1, Side::Ap, false), Seen::Sent(2, 2, false)),
     (
@@ -230,9 +263,9 @@ const REQUESTS: &[(Act, Seen)] = &[
     ),
     (Act::Reply(1, Side::Far, 2, 2, 6), Seen::Done),
     (Act::Deliver(End::Ap(0), true), Seen::Ended(1, 2, 6, None)),
-    (Act::Outcome(2), Seen::Answered(6, None)),
+    (Act::Outcome(2), Seen::Nothing),
     (Act::Send(1, Side::Ap, true), Seen::Sent(3, 0, false)),
-    (Act::Outcome(3), Seen::Unidirectional),
+    (Act::About(3), Seen::Nothing),
     (Act::Deliver(End::Svc, false), Seen::Dropped(Some(3), false)),
     (Act::Send(1, Side::Ap, false), Seen::Sent(4, 3, false)),
     (Act::Cancel(4), Seen::Done),
@@ -244,7 +277,9 @@ const REQUESTS: &[(Act, Seen)] = &[
         Seen::Ask(1, Some(4), 3, Some(5)),
     ),
     (Act::Reply(1, Side::Far, 4, 3, 0), Seen::Done),
+    (Act::About(4), Seen::About(1, Side::Ap)),
     (Act::Deliver(End::Ap(0), true), Seen::Late(4)),
+    (Act::About(4), Seen::Nothing),
     (Act::Due(499), Seen::Numbers(0, None, None)),
     (Act::Due(500), Seen::Numbers(1, Some(5), Some(5))),
     (Act::Expire(5), Seen::Done),
@@ -313,12 +348,14 @@ const CLOSING: &[(Act, Seen)] = &[
     (Act::Reply(5, Side::Ap, 2, 1, 0), Seen::Done),
     (Act::Deliver(LIGHT, true), Seen::Ended(5, 2, 0, Some(9))),
     (Act::Send(5, Side::Far, false), Seen::Sent(3, 2, false)),
+    (Act::Keep(3), Seen::Done),
     (Act::Send(4, Side::Far, false), Seen::Sent(4, 1, false)),
     (Act::Send(5, Side::Far, false), Seen::Sent(5, 3, false)),
     (Act::Waiting(End::Ap(1)), Seen::Count(2)),
     (Act::Unwire(5), Seen::Numbers(2, Some(3), Some(5))),
     (Act::Outcome(1), Seen::Nothing),
     (Act::Outcome(3), Seen::Disconnected),
+    (Act::About(5), Seen::Nothing),
     (Act::Outcome(4), Seen::Nothing),
     (Act::Waiting(LIGHT), Seen::Nothing),
     (Act::Deliver(LIGHT, true), Seen::NoConnection),
@@ -330,8 +367,9 @@ const CLOSING: &[(Act, Seen)] = &[
     (Act::Send(4, Side::Ap, false), Seen::Sent(7, 1, false)),
     (Act::Send(4, Side::Ap, false), Seen::Sent(8, 2, false)),
     (Act::Cancel(7), Seen::Done),
+    (Act::Keep(8), Seen::Done),
     (Act::Shut(4), Seen::Numbers(1, Some(8), Some(8))),
-    (Act::Outcome(7), Seen::Cancelled),
+    (Act::About(7), Seen::Nothing),
     (Act::Outcome(8), Seen::Disconnected),
     (Act::Outcome(4), Seen::Nothing),
 ];
@@ -403,5 +441,33 @@ fn each_side_has_65535_identifiers(rt: HostRuntime) -> Result<(), Fail> {
         draws(&rt, &mut bus, n);
     }
     plays(&rt, rt.alloc(), &mut bus, SPENT);
+    Ok(())
+}
+
+/// A ping is sent, served, answered and met.
+fn pings(rt: &impl Abort, bus: &mut Bus, n: u64) {
+    let Seen::Sent(number, label, _) = sends(bus, 1, Side::Ap, false) else {
+        panic!(rt; "request {n}");
+    };
+    delivers(bus, End::Svc, true);
+    let asked = Asked {
+        number: Some(number),
+        label,
+        kind: PING,
+    };
+    replies(rt, bus, 1, Side::Far, asked, 0);
+    assert_eq!(rt;
+        delivers(bus, End::Ap(0), true),
+        Seen::Ended(1, n, 0, Some(9))
+    );
+}
+
+#[test]
+fn a_slot_is_used_again(rt: HostRuntime) -> Result<(), Fail> {
+    let mut bus = Bus::new(rt.alloc())?;
+    for n in 1..=100_000u64 {
+        pings(&rt, &mut bus, n);
+    }
+    assert!(rt; bus.slots.next_key() <= 1);
     Ok(())
 }

@@ -1,9 +1,8 @@
 //! The bus: which connections there are, and what waits on them.
 
-ghost use Rattle.std.specs.Prelude.{◌≡◌, List, IfOk, OnOk, OnErr, option_map, is_none};
+ghost use Rattle.std.specs.Prelude.{◌≡◌, IfOk, OnOk, OnErr, option_map, is_none};
 ghost use Rattle.std.specs.List.{list_any};
 ghost use Rattle.gb_base.specs.declared.end.Side.TheVariants as side;
-ghost use Rattle.gb_invariants.specs.Facts.{Loose};
 ghost use Rattle.gb_machine.specs.Bus as machine;
 ghost use Rattle.gb_machine.specs.Bus.{connection_of, place_of};
 ghost use Rattle.gb_machine.specs.Labels.{next_label};
@@ -20,11 +19,10 @@ ghost use Rattle.gb_machine.specs.Wiring.{
 };
 
 use crate::Bus;
-use crate::connection::Connection;
 use gb_base::{End, Numbers, OutOfMemory, Side};
 
 impl Bus {
-    ghost use Rattle.gb_bus.specs.Stands.{Stands};
+    ghost use Rattle.gb_bus.specs.Stands.{Around, Stands};
     ghost use Rattle.gb_bus.specs.Wiring.{
       AttachesAs,
       EndsAs,
@@ -46,26 +44,26 @@ impl Bus {
         cport: u16,
         protocol: u8,
     ) -> Result<u64, OutOfMemory>
-        ensures step { (loose : List Loose) (b : machine.Bus) → Stands loose self.old b
+        ensures step { (around : Around) (b : machine.Bus) → Stands around self.old b
             → MayAttach ap intf cport b
-            → AttachesAs loose self.new ap intf cport protocol b result }
+            → AttachesAs around self.new ap intf cport protocol b result }
     {
         let Some(number) = self.made.checked_add(1) else {
             return Err(OutOfMemory);
         };
         let peer = End::Module { intf, cport };
-        let connection = Connection::new(self.alloc, number, ap, peer, protocol)?;
-        self.connections.add(connection)?;
+        self.connections
+            .add(self.alloc, number, ap, peer, protocol)?;
         self.made = number;
         Ok(number)
     }
 
-    /// A connection is wired. It takes no memory today.
+    /// A connection is wired. After want of memory nothing is said.
     pub fn wire(&mut self, k: u64) -> Result<(), OutOfMemory>
-        ensures step { OnOk result ((loose : List Loose) (b : machine.Bus) → Stands loose self.old b
-            → Stands loose self.new (wired k b)) }
+        ensures step { OnOk result ((around : Around) (b : machine.Bus) → Stands around self.old b
+            → Stands around self.new (wired k b)) }
     {
-        self.connections.wire(k);
+        self.connections.wire(k)?;
         Ok(())
     }
 
@@ -74,14 +72,15 @@ impl Bus {
     /// disconnected. Their numbers stand in `ended` after those that stood there, in order. After
     /// want of memory the bus and `ended` are as before.
     pub fn unwire(&mut self, k: u64, ended: &mut Numbers) -> Result<(), OutOfMemory>
-        ensures step { OnOk result ((loose : List Loose) (b : machine.Bus) → Stands loose self.old b
-            → EndsAs (elsewhere k loose) self.new k side.Far b (unwired k b) ended.old ended.new) }
+        ensures step { OnOk result ((around : Around) (b : machine.Bus) → Stands around self.old b
+            → EndsAs (elsewhere k around) self.new k side.Far b (unwired k b) ended.old ended.new) }
         ensures unchanged { OnErr result ((self.new ≡ self.old) × (ended.new ≡ ended.old)) }
     {
-        let open = self.slots.open_on(k, Side::Far)?;
-        ended.extend(open.items())?;
+        let unended = self.slots.open_on(self.alloc, k, Side::Far)?;
+        let late = self.slots.late_on(self.alloc, k, Side::Far)?;
+        ended.extend(unended.items())?;
         self.connections.unwire(k);
-        self.slots.close(k, Side::Far);
+        self.slots.close(unended.items(), late.items());
         Ok(())
     }
 
@@ -89,28 +88,29 @@ impl Bus {
     /// disconnected. Their numbers stand in `ended` after those that stood there, in order. After
     /// want of memory the bus and `ended` are as before.
     pub fn shut(&mut self, k: u64, ended: &mut Numbers) -> Result<(), OutOfMemory>
-        ensures step { OnOk result ((loose : List Loose) (b : machine.Bus) → Stands loose self.old b
-            → EndsAs loose self.new k side.Ap b (shut_down k b) ended.old ended.new) }
+        ensures step { OnOk result ((around : Around) (b : machine.Bus) → Stands around self.old b
+            → EndsAs around self.new k side.Ap b (shut_down k b) ended.old ended.new) }
         ensures unchanged { OnErr result ((self.new ≡ self.old) × (ended.new ≡ ended.old)) }
     {
-        let open = self.slots.open_on(k, Side::Ap)?;
-        ended.extend(open.items())?;
+        let unended = self.slots.open_on(self.alloc, k, Side::Ap)?;
+        let late = self.slots.late_on(self.alloc, k, Side::Ap)?;
+        ended.extend(unended.items())?;
         self.connections.shut(k);
-        self.slots.close(k, Side::Ap);
+        self.slots.close(unended.items(), late.items());
         Ok(())
     }
 
     /// A connection is there no more.
     pub fn detach(&mut self, k: u64)
-        ensures step { (loose : List Loose) (b : machine.Bus) → Stands loose self.old b
-            → Stands loose self.new (detached k b) }
+        ensures step { (around : Around) (b : machine.Bus) → Stands around self.old b
+            → Stands around self.new (detached k b) }
     {
         self.connections.remove(k);
     }
 
     /// The live connection of a CPort of the application processor with a module's CPort.
     pub fn live(&self, ap: u16, intf: u8, cport: u16) -> Option<u64>
-        ensures { (loose : List Loose) (b : machine.Bus) → Stands loose self.now b
+        ensures { (around : Around) (b : machine.Bus) → Stands around self.now b
             → result ≡ option_map (λ c. c.number) (joining ap intf cport b) }
     {
         self.connections.joining(ap, End::Module { intf, cport })
@@ -118,18 +118,18 @@ impl Bus {
 
     /// Connection k is live and wired.
     pub fn is_wired(&self, k: u64) -> bool
-        ensures { (loose : List Loose) (b : machine.Bus) → Stands loose self.now b
+        ensures { (around : Around) (b : machine.Bus) → Stands around self.now b
             → result ≡ is_wired (connection_of k b) }
     {
-        match self.connections.get(k) {
-            Some(connection) => connection.wired,
+        match self.connections.wired(k) {
+            Some(wired) => wired,
             None => false,
         }
     }
 
     /// Some connection is wired to a module at an interface.
     pub fn is_wired_to(&self, intf: u8) -> bool
-        ensures { (loose : List Loose) (b : machine.Bus) → Stands loose self.now b
+        ensures { (around : Around) (b : machine.Bus) → Stands around self.now b
             → result ≡ list_any (is_wired_to intf) b.connections }
     {
         self.connections.is_wired_to(intf)
@@ -138,16 +138,15 @@ impl Bus {
     /// The CPort of the application processor and the far end of a connection, None where it isn't
     /// live.
     pub fn ends(&self, k: u64) -> Option<(u16, End)>
-        ensures { (loose : List Loose) (b : machine.Bus) → Stands loose self.now b
+        ensures { (around : Around) (b : machine.Bus) → Stands around self.now b
             → result ≡ option_map ends_of (connection_of k b) }
     {
-        let connection = self.connections.get(k)?;
-        Some((connection.ap, connection.peer))
+        self.connections.ends(k)
     }
 
     /// The wired connection that an end names, None where there is none.
     pub fn named(&self, at: End) -> Option<u64>
-        ensures { (loose : List Loose) (b : machine.Bus) → Stands loose self.now b
+        ensures { (around : Around) (b : machine.Bus) → Stands around self.now b
             → result ≡ option_map number_of (place_of at b.connections) }
     {
         let (connection, _) = self.connections.place(at)?;
@@ -156,8 +155,8 @@ impl Bus {
 
     /// The numbers of the connections that are wired to a module at an interface, in order.
     pub fn wired_to(&self, intf: u8) -> Result<Numbers, OutOfMemory>
-        ensures { IfOk result (λ ns. (loose : List Loose) (b : machine.Bus)
-            → Stands loose self.now b → ns ≡ wired_numbers intf b) }
+        ensures { IfOk result (λ ns. (around : Around) (b : machine.Bus)
+            → Stands around self.now b → ns ≡ wired_numbers intf b) }
     {
         let numbers = self.connections.wired_to(self.alloc, intf)?;
         Ok(numbers)
@@ -165,7 +164,7 @@ impl Bus {
 
     /// The first end at which something waits, in the order in which queues are settled.
     pub fn first(&self) -> Option<End>
-        ensures { (loose : List Loose) (b : machine.Bus) → Stands loose self.now b
+        ensures { (around : Around) (b : machine.Bus) → Stands around self.now b
             → result ≡ first_waiting b }
     {
         self.connections.first()
@@ -173,21 +172,18 @@ impl Bus {
 
     /// How many messages wait at an end, None where no wired connection names it.
     pub fn waiting(&self, at: End) -> Option<u64>
-        ensures { (loose : List Loose) (b : machine.Bus) → Stands loose self.now b
+        ensures { (around : Around) (b : machine.Bus) → Stands around self.now b
             → result ≡ option_map count_at (place_of at b.connections) }
     {
         let (connection, side) = self.connections.place(at)?;
-        Some(self.connections.get(connection)?.waiting(side))
+        self.connections.count(connection, side)
     }
 
     /// No identifier is left on a side of a connection, or it isn't live.
     pub fn spent(&self, k: u64, side: Side) -> bool
-        ensures { (loose : List Loose) (b : machine.Bus) → Stands loose self.now b
+        ensures { (around : Around) (b : machine.Bus) → Stands around self.now b
             → result ≡ is_none (next_label k side b) }
     {
-        match self.connections.get(k) {
-            Some(connection) => connection.is_spent(side),
-            None => true,
-        }
+        self.connections.is_spent(k, side)
     }
 }

@@ -60,7 +60,9 @@ is-place p q = by (is_eq (by_place p q)) refl
   where
     by : (b : Bool) → is_eq (by_place p q) ≡ b → (p ≡ q) ⊎ (p ≢ q)
     by true e = inl (place-same p q e)
-    by false e = inr (λ same. true≢false (sym (place-own p) ∙ ap (λ r. is_eq (by_place p r)) same ∙ e))
+    by false e =
+        inr (λ same. true≢false
+        (sym (place-own p) ∙ ap (λ r. is_eq (by_place p r)) same ∙ e))
 
 pub is-end : (a b : End) → (a ≡ b) ⊎ (a ≢ b)
 is-end a b =

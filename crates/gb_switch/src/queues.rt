@@ -1,6 +1,21 @@
 //! What waits at each end.
 
-ghost use Rattle.std.specs.Prelude.{◌≡◌, ◌≢◌, Option, Some, None, [], ◌∷◌, IfErr, OnErr, OnOk, not, length, option_and_then, option_map};
+ghost use Rattle.std.specs.Prelude.{
+  ◌≡◌,
+  ◌≢◌,
+  Option,
+  Some,
+  None,
+  [],
+  ◌∷◌,
+  IfErr,
+  OnErr,
+  OnOk,
+  not,
+  length,
+  option_and_then,
+  option_map,
+};
 ghost use Rattle.gb_switch.specs.declared.place.Place.{Place};
 ghost use Rattle.gb_switch.specs.Queues.{
   Appends,

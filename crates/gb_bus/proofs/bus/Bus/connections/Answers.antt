@@ -4,4 +4,4 @@ use Rattle.gb_bus.proofs.Tellings.{known-is}
 use Rattle.gb_bus.proofs.bus.Bus.connections.Goals as goal
 
 pub returns : goal.returns
-returns c = λ loose b s. c.in_ok-known.ensures ∙ known-is loose c.args.self.now b s
+returns c = λ around b s. c.in_ok-known.ensures ∙ known-is around c.args.self.now b s

@@ -4,19 +4,19 @@ use Rattle.gb_bus.proofs.Delivers.{delivers, delivers_nothing, delivers_nowhere}
 use Rattle.gb_bus.proofs.bus.Bus.deliver.Goals as goal
 
 pub returns-in_default-clause-step : goal.returns-in_default-clause-step
-returns-in_default-clause-step c = λ loose b s.
-    delivers_nowhere loose c.args.self.now b c.args.at s c.in_default.ensures
+returns-in_default-clause-step c = λ around b s.
+    delivers_nowhere around c.args.self.now b c.args.at s c.in_default.ensures
 
 pub returns-in_default-pop-clause-step : goal.returns-in_default-pop-clause-step
-returns-in_default-pop-clause-step c = λ loose b s.
-    delivers_nothing loose c.args.self.now _ b c.args.at c.in-Some.connection c.in-Some.side s
+returns-in_default-pop-clause-step c = λ around b s.
+    delivers_nothing around c.args.self.now _ b c.args.at c.in-Some.connection c.in-Some.side s
     (sym c.in-Some.ensures)
     c.in_default-pop.ensures.0 (ap (λ cs. record c.args.self.now { connections = cs })
     c.in_default-pop.ensures.1)
 
 pub returns-clause-step : goal.returns-clause-step
-returns-clause-step c = λ loose b s.
-    delivers loose c.args.self.now _ c.handled.new.self b c.args.at c.args.takes
+returns-clause-step c = λ around b s.
+    delivers around c.args.self.now _ c.handled.new.self b c.args.at c.args.takes
     c.in-Some.connection c.in-Some.side
     c.in-Some-pop.item c.in_ok-item.item s (sym c.in-Some.ensures) c.in-Some-pop.ensures.0
     (ap (λ cs. record c.args.self.now { connections = cs }) c.in-Some-pop.ensures.1)

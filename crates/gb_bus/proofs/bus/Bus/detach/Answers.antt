@@ -5,6 +5,6 @@ use Rattle.gb_bus.proofs.bus.Bus.detach.Goals as goal
 
 pub returns : goal.returns
 returns c = record {
-  step = λ loose b s. detaches loose c.args.self.now _ b c.args.k s
+  step = λ around b s. detaches around c.args.self.now _ b c.args.k s
       (ap (λ cs. record c.args.self.now { connections = cs }) c.remove.ensures);
 }

@@ -1,8 +1,8 @@
 -- The requests whose deadline came are the machine's.
-use Rattle.std.proofs.Common.{◌∙◌}
-use Rattle.gb_bus.proofs.Wires.{due-is}
+use Rattle.gb_bus.proofs.Expiring.{due-are}
 use Rattle.gb_bus.proofs.bus.Bus.due.Goals as goal
 
 pub returns : goal.returns
-returns c = λ loose b s.
-    c.in_ok-due.ensures ∙ due-is c.args.self.now b c.args.now s.shows
+returns c = λ around b s.
+    due-are c.args.self.now.slots around.names b c.args.now c.in_ok-due.due s.shows.slots
+    c.in_ok-due.ensures

@@ -4,4 +4,4 @@ use Rattle.gb_bus.proofs.Looks.{firsts}
 use Rattle.gb_bus.proofs.bus.Bus.first.Goals as goal
 
 pub returns : goal.returns
-returns c = λ loose b s. c.first.ensures ∙ firsts loose c.args.self.now b s
+returns c = λ around b s. c.first.ensures ∙ firsts around c.args.self.now b s

@@ -4,6 +4,6 @@ use Rattle.gb_bus.proofs.Looks.{wired-to-is}
 use Rattle.gb_bus.proofs.bus.Bus.is_wired_to.Goals as goal
 
 pub returns : goal.returns
-returns c = λ loose b s.
+returns c = λ around b s.
     c.is_wired_to.ensures ∙ wired-to-is b.requests c.args.intf c.args.self.now.connections
     b.connections s.shows.connections

@@ -4,5 +4,5 @@ use Rattle.gb_bus.proofs.Looks.{lives}
 use Rattle.gb_bus.proofs.bus.Bus.live.Goals as goal
 
 pub returns : goal.returns
-returns c = λ loose b s. c.joining.ensures
-    ∙ lives loose c.args.self.now b c.args.ap c.args.intf c.args.cport s
+returns c = λ around b s. c.joining.ensures
+    ∙ lives around c.args.self.now b c.args.ap c.args.intf c.args.cport s

@@ -4,4 +4,4 @@ use Rattle.gb_bus.proofs.Tellings.{waiting-is}
 use Rattle.gb_bus.proofs.bus.Bus.queues.Goals as goal
 
 pub returns : goal.returns
-returns c = λ loose b s. c.in_ok-waiting.ensures ∙ waiting-is loose c.args.self.now b s
+returns c = λ around b s. c.in_ok-waiting.ensures ∙ waiting-is around c.args.self.now b s

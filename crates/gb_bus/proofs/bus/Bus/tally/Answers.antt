@@ -1,6 +1,7 @@
 -- The counts are those of the machine's requests.
-use Rattle.gb_bus.proofs.Counted.{tells}
+use Rattle.std.proofs.Common.{subst, sym}
+use Rattle.gb_bus.specs.Counting.{Tells}
 use Rattle.gb_bus.proofs.bus.Bus.tally.Goals as goal
 
 pub returns : goal.returns
-returns c = λ loose b s. tells loose c.args.self.now b c.tally.result s c.tally.ensures
+returns c = λ around b s. subst (λ t. Tells t b) (sym c.tally.ensures) s.shows.tally

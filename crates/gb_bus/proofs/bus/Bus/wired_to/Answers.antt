@@ -4,7 +4,7 @@ use Rattle.gb_bus.proofs.Looks.{wired_numbers-is}
 use Rattle.gb_bus.proofs.bus.Bus.wired_to.Goals as goal
 
 pub returns : goal.returns
-returns c = λ loose b s.
+returns c = λ around b s.
     c.in_ok-numbers.ensures
     ∙ wired_numbers-is b.requests c.args.intf c.args.self.now.connections b.connections
     s.shows.connections

@@ -1,17 +1,21 @@
 -- The request is given up on the connection with the number.
-use Rattle.std.proofs.Common.{inl, inr, refl}
-use Rattle.gb_bus.proofs.Changing.{none-found, side-changes}
-use Rattle.gb_bus.specs.Sides.{GivesUpWhere}
+use Rattle.std.proofs.Common.{subst}
+use Rattle.gb_bus.proofs.Seeing.{gives-up, keeps, side-ends}
+use Rattle.gb_bus.specs.Seen.{all_seen}
+use Rattle.gb_bus.specs.Sides.{GivesUpIn, GivesUpOn, GivesUpWhere}
 use Rattle.gb_bus.proofs.connections.Connections.give_up.Goals as goal
 
-pub returns-in-Some : goal.returns-in-Some
-returns-in-Some c = inl (side-changes c.args.k c.args.self.now c.index.result c.in-Some.i
-    c.index_mut.result.now c.give_up.new.self c.args.side (λ x y. GivesUpWhere x y c.args.n)
-    c.self.inside.live.items
-    c.index.ensures.first c.in-Some.is c.self.view_is c.index_mut.ensures.value c.give_up.ensures)
+pub invariant_of-self : goal.invariant_of-self
+invariant_of-self c =
+    keeps c.self.inside.live c.give_up.new.live c.self.inside.ends c.self.inside.queues c.args.k
+    (λ x y. GivesUpOn x y c.args.side c.args.n)
+    (side-ends c.args.side (λ v w. GivesUpWhere v w c.args.n))
+    c.give_up.ensures.there c.give_up.ensures.nowhere c.self.invariant
 
-pub returns-in_default : goal.returns-in_default
-returns-in_default c = inr (
-  none-found c.args.k c.args.self.now c.index.result c.index.ensures.first c.in_default.is,
-  refl,
-)
+pub returns : goal.returns
+returns c =
+    subst (λ xs. GivesUpIn xs (all_seen c.self.inside.queues c.give_up.new.live.entries) c.args.k
+    c.args.side c.args.n) c.self.view_is
+    (gives-up c.self.inside.live c.give_up.new.live c.self.inside.ends c.self.inside.queues
+    c.args.k c.args.side c.args.n c.self.invariant c.give_up.ensures.there
+    c.give_up.ensures.nowhere)

@@ -1,9 +1,12 @@
 -- What was told so far, and what the connections not looked at yet tell, is all.
-use Rattle.std.proofs.Common.{◌≡◌, ◌++◌, drop, map}
+use Rattle.std.proofs.Common.{[], ◌≡◌, ◌++◌, map}
+use Rattle.gb_bus.specs.Seen.{all_seen}
 use Rattle.gb_bus.specs.Telling.{known_as}
 use Rattle.gb_bus.proofs.connections.Connections.known.Given as goal
 
-abbrev pub invariant-loop-connection : goal.invariant-loop-connection
-invariant-loop-connection l =
-    l.known ++ map known_as (drop l.connection-index l.connection-items)
-    ≡ map known_as l.connection-items
+abbrev pub invariant-loop-number : goal.invariant-loop-number
+invariant-loop-number l =
+    (goal.iterator-loop-number).can_next l.number-iterator
+    × (goal.iterator-loop-number).is_finite l.number-iterator
+    × (l.known ++ map known_as (all_seen [] l.number-iterator)
+    ≡ map known_as l.self)

@@ -1,23 +1,21 @@
 -- The answer is matched on the connection with the number.
-use Rattle.std.proofs.Common.{Option, option_and_then, refl, subst, sym}
-use Rattle.gb_bus.proofs.Changing.{matches, none-found}
-use Rattle.gb_bus.specs.Parts.{ops_of}
-use Rattle.gb_bus.specs.Sides.{IsNotOf}
-use Rattle.gb_bus.specs.declared.connection.Connection.{Connection}
-use Rattle.gb_ops.specs.Operations.{holder_of}
+use Rattle.std.proofs.Common.{subst}
+use Rattle.gb_bus.proofs.Seeing.{keeps, matches, side-ends}
+use Rattle.gb_bus.specs.Seen.{all_seen}
+use Rattle.gb_bus.specs.Sides.{MatchesAs, MatchesIn, MatchesOn}
 use Rattle.gb_bus.proofs.connections.Connections.matched.Goals as goal
 
-pub returns-in-Some : goal.returns-in-Some
-returns-in-Some c =
-    matches c.args.k c.args.self.now c.index.result c.in-Some.i c.index_mut.result.now
-    c.matched.new.self c.args.side c.self.inside.live.items c.args.n c.args.label c.matched.result
-    c.index.ensures.first c.in-Some.is c.self.view_is c.index_mut.ensures.value c.matched.ensures
+pub invariant_of-self : goal.invariant_of-self
+invariant_of-self c =
+    keeps c.self.inside.live c.matched.new.live c.self.inside.ends c.self.inside.queues c.args.k
+    (λ x y. MatchesOn x y c.args.side c.args.n c.args.label c.matched.result)
+    (side-ends c.args.side (λ v w. MatchesAs v w c.args.n c.args.label c.matched.result))
+    c.matched.ensures.there c.matched.ensures.nowhere c.self.invariant
 
-pub returns-in-None : goal.returns-in-None
-returns-in-None c = (
-  subst (λ (f : Option Connection). IsNotOf c.args.n (option_and_then
-      (λ x. holder_of (ops_of c.args.side x) c.args.label) f))
-      (sym (none-found c.args.k c.args.self.now c.index.result c.index.ensures.first
-      c.in-None.is)) tt,
-  refl,
-)
+pub returns : goal.returns
+returns c =
+    subst (λ xs. MatchesIn xs (all_seen c.self.inside.queues c.matched.new.live.entries) c.args.k
+    c.args.side c.args.n c.args.label c.matched.result) c.self.view_is
+    (matches c.self.inside.live c.matched.new.live c.self.inside.ends c.self.inside.queues c.args.k
+    c.args.side c.args.n c.args.label c.matched.result c.self.invariant c.matched.ensures.there
+    c.matched.ensures.nowhere c.matched.ensures.none)

@@ -1,12 +1,32 @@
 -- The connections that stay are those with another number.
-use Rattle.std.proofs.Common.{not, rules, ap, ◌∙◌}
-use Rattle.std.proofs.lemmas.Fn.{filter_same}
-use Rattle.gb_bus.specs.Parts.{numbered}
+use Rattle.std.proofs.Common.{ap, sym, ◌∙◌}
+use Rattle.gb_bus.proofs.Keeping.{kept-removed, kept-same}
+use Rattle.gb_bus.proofs.Seeing.{removes, removes-none}
+use Rattle.gb_bus.specs.Seen.{all_seen}
 use Rattle.gb_bus.proofs.connections.Connections.remove.Goals as goal
-use Rattle.gb_machine.specs.Lists.{without}
+
+pub invariant_of-self : goal.invariant_of-self
+invariant_of-self c =
+    kept-same c.self.inside.live c.remove.new.self c.self.inside.ends c.self.inside.queues
+    c.in_default.ensures.unchanged c.self.invariant
+
+pub returns-in_default : goal.returns-in_default
+returns-in_default c =
+    ap (all_seen c.self.inside.queues) c.in_default.ensures.unchanged
+    ∙ c.self.view_is
+    ∙ removes-none c.self.inside.live c.self.inside.queues c.args.self.now c.args.k c.self.view_is
+    (sym c.in_default.ensures.value)
+
+pub invariant_of-self-2 : goal.invariant_of-self-2
+invariant_of-self-2 c =
+    kept-removed c.self.inside.live c.remove.new.self c.self.inside.ends c.remove-2.new.self
+    c.remove-3.new.self c.self.inside.queues c.destroy.new.self c.args.k c.in-Some.connection
+    c.of.result c.of-2.result (sym c.in-Some.ensures.value) c.in-Some.ensures.updates.0
+    c.in-Some.ensures.ordered c.of.ensures c.of-2.ensures c.remove-2.ensures.updates.0
+    c.remove-3.ensures.updates.0 c.destroy.ensures c.self.invariant
 
 pub returns : goal.returns
 returns c =
-    filter_same _ (λ y. not (numbered c.args.k y)) _ (λ x b f' k. search rules) _ _
-    c.retain.ensures.filtered
-    ∙ ap (without (numbered c.args.k)) c.self.view_is
+    removes c.self.inside.live c.remove.new.self c.self.inside.ends c.self.inside.queues
+    c.destroy.new.self c.args.self.now c.args.k c.in-Some.connection c.self.invariant
+    c.self.view_is (sym c.in-Some.ensures.value) c.in-Some.ensures.entries c.destroy.ensures

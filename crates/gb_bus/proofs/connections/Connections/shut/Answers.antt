@@ -1,14 +1,17 @@
 -- The connection with the number is closed on the side of the application processor.
-use Rattle.gb_bus.proofs.Changing.{none-changes, one-changes}
-use Rattle.gb_bus.specs.Parts.{closed}
+use Rattle.std.proofs.Common.{ap, ◌∙◌, ◌≡◌}
+use Rattle.gb_bus.proofs.Seeing.{closed-ends, keeps, shuts}
+use Rattle.gb_bus.specs.Parts.{closed, numbered}
+use Rattle.gb_machine.specs.Lists.{at_first}
 use Rattle.gb_bus.proofs.connections.Connections.shut.Goals as goal
 
-pub returns-in-Some : goal.returns-in-Some
-returns-in-Some c =
-    one-changes c.args.k c.args.self.now c.index.result c.in-Some.i c.index_mut.result.now
-    c.shut.new.self closed c.self.inside.live.items
-    c.index.ensures.first c.in-Some.is c.self.view_is c.index_mut.ensures.value c.shut.ensures
+pub invariant_of-self : goal.invariant_of-self
+invariant_of-self c =
+    keeps c.self.inside.live c.shut.new.live c.self.inside.ends c.self.inside.queues c.args.k
+    (λ x y. y ≡ closed x) closed-ends c.shut.ensures.there c.shut.ensures.nowhere c.self.invariant
 
-pub returns-in_default : goal.returns-in_default
-returns-in_default c = none-changes c.args.k c.args.self.now c.index.result closed
-    c.index.ensures.first c.in_default.is
+pub returns : goal.returns
+returns c =
+    shuts c.self.inside.live c.shut.new.live c.self.inside.ends c.self.inside.queues c.args.k
+    c.self.invariant c.shut.ensures.there c.shut.ensures.nowhere
+    ∙ ap (at_first (numbered c.args.k) closed) c.self.view_is

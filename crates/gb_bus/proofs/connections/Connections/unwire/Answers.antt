@@ -1,14 +1,22 @@
 -- The connection with the number is cleared.
-use Rattle.gb_bus.proofs.Changing.{none-changes, one-changes}
+use Rattle.std.proofs.Common.{sym}
+use Rattle.gb_bus.proofs.Seeing.{kept-unwires, nothing-changes, unwires}
 use Rattle.gb_bus.specs.Parts.{cleared}
 use Rattle.gb_bus.proofs.connections.Connections.unwire.Goals as goal
 
-pub returns-in-Some : goal.returns-in-Some
-returns-in-Some c =
-    one-changes c.args.k c.args.self.now c.index.result c.in-Some.i c.index_mut.result.now
-    c.clear.new.self cleared c.self.inside.live.items
-    c.index.ensures.first c.in-Some.is c.self.view_is c.index_mut.ensures.value c.clear.ensures
-
 pub returns-in_default : goal.returns-in_default
-returns-in_default c = none-changes c.args.k c.args.self.now c.index.result cleared
-    c.index.ensures.first c.in_default.is
+returns-in_default c =
+    nothing-changes c.self.inside.live c.self.inside.queues c.args.self.now c.args.k cleared
+    c.self.view_is (sym c.in_default.ensures.value)
+
+pub invariant_of-self : goal.invariant_of-self
+invariant_of-self c =
+    kept-unwires c.self.inside.live c.clear.new.live c.self.inside.ends c.self.inside.queues
+    c.destroy.new.self c.args.k c.in-Some.connection.now c.self.invariant
+    (sym c.in-Some.ensures.value) c.destroy.ensures c.clear.ensures.there
+
+pub returns : goal.returns
+returns c =
+    unwires c.self.inside.live c.clear.new.live c.self.inside.ends c.self.inside.queues
+    c.destroy.new.self c.args.self.now c.args.k c.in-Some.connection.now c.self.invariant
+    c.self.view_is (sym c.in-Some.ensures.value) c.destroy.ensures c.clear.ensures.there

@@ -1,11 +1,11 @@
--- What was put in order so far are the ends of the connections that were looked at.
-use Rattle.std.proofs.Common.{◌≡◌, ◌≤◌, drop, length}
-use Rattle.gb_bus.specs.Telling.{waiting_in}
+-- What was put in order so far, and the ends of the connections in front, are all.
+use Rattle.std.proofs.Common.{[], ◌≡◌}
+use Rattle.gb_bus.proofs.Told.{waiting_over}
 use Rattle.gb_bus.proofs.connections.Connections.waiting.Given as goal
 
-abbrev pub invariant-loop-left : goal.invariant-loop-left
-invariant-loop-left l =
-    (l.left ≤ length l.self) × (l.ordered ≡ waiting_in (drop l.left l.self))
-
-abbrev pub decreases-loop-left : goal.decreases-loop-left
-decreases-loop-left l = l.left
+abbrev pub invariant-loop-connection : goal.invariant-loop-connection
+invariant-loop-connection l =
+    (goal.iterator-loop-connection).can_next l.connection-iterator
+    × (goal.iterator-loop-connection).is_finite l.connection-iterator
+    × (waiting_over l.self-inside.queues l.connection-iterator.iter l.ordered
+    ≡ waiting_over l.self-inside.queues l.self-inside.live.entries [])

@@ -1,15 +1,35 @@
 -- The connection with the number is wired.
-use Rattle.std.proofs.Common.{refl}
-use Rattle.gb_bus.proofs.Changing.{none-changes, one-changes}
+use Rattle.std.proofs.Common.{sym}
+use Rattle.gb_bus.proofs.Keeping.{kept-stays}
+use Rattle.gb_bus.proofs.Seeing.{kept-wires, nothing-changes, wired-still, wires}
 use Rattle.gb_bus.specs.Parts.{with_wire}
 use Rattle.gb_bus.proofs.connections.Connections.wire.Goals as goal
 
-pub returns-in-Some : goal.returns-in-Some
-returns-in-Some c =
-    one-changes c.args.k c.args.self.now c.index.result c.in-Some.i c.index_mut.result.now _
-    with_wire c.self.inside.live.items
-    c.index.ensures.first c.in-Some.is c.self.view_is c.index_mut.ensures.value refl
-
 pub returns-in_default : goal.returns-in_default
-returns-in_default c = none-changes c.args.k c.args.self.now c.index.result with_wire
-    c.index.ensures.first c.in_default.is
+returns-in_default c =
+    nothing-changes c.self.inside.live c.self.inside.queues c.args.self.now c.args.k with_wire
+    c.self.view_is (sym c.in_default.ensures.value)
+
+pub returns-then-connection : goal.returns-then-connection
+returns-then-connection c =
+    wired-still c.self.inside.live c.self.inside.ends c.self.inside.queues c.args.self.now c.args.k
+    c.in-Some.connection.now c.self.invariant c.self.view_is (sym c.in-Some.ensures.value)
+    c.if-connection.true
+
+pub invariant_of-self : goal.invariant_of-self
+invariant_of-self c =
+    kept-stays c.self.inside.live c.self.inside.ends c.self.inside.queues c.create.new.self
+    c.in_err-create.ensures.unchanged c.self.invariant
+
+pub invariant_of-self-2 : goal.invariant_of-self-2
+invariant_of-self-2 c =
+    kept-wires c.self.inside.live c.wire.new.live c.self.inside.ends c.self.inside.queues
+    c.create.new.self c.args.k c.in-Some.connection.now c.self.invariant
+    (sym c.in-Some.ensures.value) c.in_ok-create.ensures.created c.wire.ensures.there
+
+pub returns : goal.returns
+returns c =
+    wires c.self.inside.live c.wire.new.live c.self.inside.ends c.self.inside.queues
+    c.create.new.self c.args.self.now c.args.k c.in-Some.connection.now c.self.invariant
+    c.self.view_is (sym c.in-Some.ensures.value) c.if-connection.false
+    c.in_ok-create.ensures.created c.wire.ensures.there

@@ -1,9 +1,13 @@
--- The slots that were looked at are over, and those behind them are to be.
-use Rattle.std.proofs.Common.{◌≡◌, ◌++◌, drop, map, take}
-use Rattle.gb_bus.specs.Slots.{over}
+-- What closes the rest closes all.
+use Rattle.std.proofs.Common.{[], drop}
 use Rattle.gb_bus.proofs.slots.Slots.close.Given as goal
+use Rattle.gb_bus.specs.Slots.{Closes, Kept}
 
-abbrev pub invariant-loop-slot : goal.invariant-loop-slot
-invariant-loop-slot l =
-    take l.slot-index l.slot-items ++ map (over l.k l.side) (drop l.slot-index l.slot-items)
-    ≡ map (over l.k l.side) l.initial.slot-items
+abbrev pub invariant-loop-n : goal.invariant-loop-n
+invariant-loop-n l =
+    (c : Kept) → Closes (drop l.n-index l.unended) l.late l.self c
+    → Closes l.unended l.late l.fn.self c
+
+abbrev pub invariant-loop-n-2 : goal.invariant-loop-n-2
+invariant-loop-n-2 l =
+    (c : Kept) → Closes [] (drop l.n-index l.late) l.self c → Closes l.unended l.late l.fn.self c

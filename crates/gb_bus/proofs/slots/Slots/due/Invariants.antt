@@ -1,8 +1,17 @@
--- What was found, and what the slots not looked at yet have.
-use Rattle.std.proofs.Common.{◌≡◌, ◌+◌, ◌++◌, drop}
-use Rattle.gb_bus.specs.Slots.{is_due, open_in}
+-- The numbers found and the deadlines not looked at give all; then those so far and the rest do.
+use Rattle.std.proofs.Common.{◌≡◌, ◌++◌, []}
+use Rattle.gb_bus.proofs.SlotDues.{due-keys}
 use Rattle.gb_bus.proofs.slots.Slots.due.Given as goal
 
-abbrev pub invariant-loop-i : goal.invariant-loop-i
-invariant-loop-i l = l.due ++ open_in (is_due l.now) (l.i + 1) (drop l.i l.slot-items)
-    ≡ open_in (is_due l.now) 1 l.slot-items
+abbrev pub invariant-loop-deadline : goal.invariant-loop-deadline
+invariant-loop-deadline l =
+    (goal.iterator-loop-deadline).can_next l.deadline-iterator
+    × (goal.iterator-loop-deadline).is_finite l.deadline-iterator
+    × (due-keys l.now l.found.keys l.deadline-iterator
+    ≡ due-keys l.now [] l.initial.deadline-iterator)
+
+abbrev pub invariant-loop-number : goal.invariant-loop-number
+invariant-loop-number l =
+    (goal.iterator-loop-number).can_next l.number-iterator
+    × (goal.iterator-loop-number).is_finite l.number-iterator
+    × (l.due ++ l.number-iterator ≡ l.initial.number-iterator)

@@ -1,9 +1,11 @@
--- The first one is among the slots not looked at yet.
-use Rattle.std.proofs.Common.{◌≡◌, ◌+◌, drop}
-use Rattle.gb_bus.specs.Slots.{is_due, open_in}
+-- The least so far and the deadlines not looked at give the least of all.
+use Rattle.std.proofs.Common.{◌≡◌, None}
+use Rattle.gb_bus.proofs.SlotDues.{least-from}
 use Rattle.gb_bus.proofs.slots.Slots.first_due.Given as goal
-use Rattle.gb_machine.specs.Lists.{first}
 
-abbrev pub invariant-loop-i : goal.invariant-loop-i
-invariant-loop-i l = first (open_in (is_due l.now) (l.i + 1) (drop l.i l.slot-items))
-    ≡ first (open_in (is_due l.now) 1 l.slot-items)
+abbrev pub invariant-loop-deadline : goal.invariant-loop-deadline
+invariant-loop-deadline l =
+    (goal.iterator-loop-deadline).can_next l.deadline-iterator
+    × (goal.iterator-loop-deadline).is_finite l.deadline-iterator
+    × (least-from l.now l.least l.deadline-iterator
+    ≡ least-from l.now None l.initial.deadline-iterator)

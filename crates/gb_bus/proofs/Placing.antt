@@ -1,0 +1,195 @@
+-- Which connection an end names, and which one joins two ends.
+use Rattle.std.proofs.Common.{◌≡◌, ◌≢◌, ℕ, Bool, true, false, cond, not, ◌&&◌, eqb, inl, inr, Option, Some, None, option_map, List, [], ◌∷◌, ◌++◌, refl, sym, ap, ◌∙◌, subst}
+use Rattle.std.proofs.lemmas.Bool.{eqb-true, ne_eqb, and_left}
+use Rattle.std.specs.BTreeMap.{get}
+use Rattle.std.specs.List.{find}
+use Rattle.std.specs.Ordering.{nat_cmp}
+use Rattle.gb_base.specs.declared.end.End.{End}
+use Rattle.gb_base.specs.declared.end.End.TheVariants as end
+use Rattle.gb_base.specs.declared.end.Side.{Side}
+use Rattle.gb_base.specs.declared.end.Side.TheVariants as side
+use Rattle.gb_bus.proofs.Entries.{EachEntry, both, each-back, each-entry, each-front, find-none, find-split, nowhere, same-some, some-none, split}
+use Rattle.gb_bus.proofs.Keeping.{Ends, Live, Queues, number-of-end}
+use Rattle.gb_bus.specs.Index.{IsEndOf, IsIndexed, Kept}
+use Rattle.gb_bus.specs.Parts.{joins, place_at, side_at}
+use Rattle.gb_bus.specs.Seen.{all_seen, alone, seen}
+use Rattle.gb_bus.specs.declared.connection.Connection as code
+use Rattle.gb_machine.specs.Bus.{or_else, same_end}
+use Rattle.gb_switch.specs.Lines.{by_place}
+use Rattle.gb_switch.specs.Places.{place_of}
+
+-- ends that compare equal are one
+end-is : (a b : End) → same_end a b ≡ true → a ≡ b
+end-is end.Svc end.Svc e = refl
+end-is end.Svc (end.Ap b) e = absurd (cc e)
+end-is end.Svc (end.Module j d) e = absurd (cc e)
+end-is (end.Ap a) end.Svc e = absurd (cc e)
+end-is (end.Ap a) (end.Ap b) e = ap end.Ap (eqb-true a b e)
+end-is (end.Ap a) (end.Module j d) e = absurd (cc e)
+end-is (end.Module i c) end.Svc e = absurd (cc e)
+end-is (end.Module i c) (end.Ap b) e = absurd (cc e)
+end-is (end.Module i c) (end.Module j d) e =
+    by (eqb i j) refl (eqb c d) refl e
+  where
+    by : (t : Bool) → eqb i j ≡ t → (u : Bool) → eqb c d ≡ u → (t && u) ≡ true
+        → end.Module i c ≡ end.Module j d
+    by true f true g h = ap (λ n. end.Module n c) (eqb-true i j f)
+        ∙ ap (λ n. end.Module j n) (eqb-true c d g)
+    by true f false g h = absurd (cc h)
+    by false f true g h = absurd (cc h)
+    by false f false g h = absurd (cc h)
+
+by-false : (b : Bool) → (b ≡ true → ⊥) → b ≡ false
+by-false true never = absurd (never refl)
+by-false false never = refl
+
+pub end-differs : (a b : End) → a ≢ b → same_end a b ≡ false
+end-differs a b ne = by-false (same_end a b) (λ e. ne (end-is a b e))
+
+-- an end that a connection hasn't is at none of its sides
+no-side : (q : Queues) (k : ℕ) (x : code.Connection) (at : End) → (IsEndOf at x → ⊥)
+    → side_at at (seen q k x) ≡ None
+no-side q k x at never =
+    ap (λ b. cond (not x.wired) None (cond b (Some side.Ap)
+    (cond (same_end at x.peer) (Some side.Far) None)))
+    (end-differs at (end.Ap x.ap) (λ e. never (inl e)))
+    ∙ ap (λ b. cond (not x.wired) None (cond b (Some side.Far) None))
+    (end-differs at x.peer (λ e. never (inr e)))
+    ∙ by x.wired
+  where
+    by : (w : Bool) → cond (not w) None (let n : Option Side = None in n) ≡ None
+    by true = refl
+    by false = refl
+
+-- where no connection has an end
+place-none : (q : Queues) (at : End) (es : List (ℕ × code.Connection))
+    → EachEntry (λ k x. side_at at (seen q k x) ≡ None) es → place_at at (all_seen q es) ≡ None
+place-none q at [] h = refl
+place-none q at (e ∷ es) h =
+    ap (λ o. or_else (option_map (λ s. (e.0, s)) o) (place_at at (all_seen q es))) h.0
+    ∙ place-none q at es h.1
+
+or-none : {A : Type 0} (o : Option A) → or_else o None ≡ o
+or-none None = refl
+or-none (Some a) = refl
+
+-- where only that with a number may have it
+place-split : (q : Queues) (at : End) (front back : List (ℕ × code.Connection)) (n : ℕ)
+    (x : code.Connection)
+    → EachEntry (λ k z. side_at at (seen q k z) ≡ None) front
+    → EachEntry (λ k z. side_at at (seen q k z) ≡ None) back
+    → place_at at (all_seen q (front ++ (n, x) ∷ back))
+    ≡ option_map (λ s. (n, s)) (side_at at (seen q n x))
+place-split q at [] back n x h b =
+    ap (λ o. or_else (option_map (λ s. (n, s)) (side_at at (seen q n x))) o)
+    (place-none q at back b)
+    ∙ or-none (option_map (λ s. (n, s)) (side_at at (seen q n x)))
+place-split q at (e ∷ front) back n x h b =
+    ap (λ o. or_else (option_map (λ s. (e.0, s)) o)
+    (place_at at (all_seen q (front ++ (n, x) ∷ back)))) h.0
+    ∙ place-split q at front back n x h.1 b
+
+-- a connection whose number an end hasn't got hasn't the end
+not-its : (ends : Ends) (k : ℕ) (x : code.Connection) (at : End) (o : Option ℕ)
+    → get by_place ends (place_of at) ≡ o → (o ≡ Some k → ⊥) → IsIndexed ends k x
+    → IsEndOf at x → ⊥
+not-its ends k x at o is ne i own = ne (sym is ∙ number-of-end ends k x at i own)
+
+-- ---- the place of an end
+
+-- the end has no number
+pub places-nowhere : (live : Live) (ends : Ends) (q : Queues) (at : End) → Kept live ends q
+    → get by_place ends (place_of at) ≡ None → place_at at (all_seen q live.entries) ≡ None
+places-nowhere live ends q at k none =
+    place-none q at live.entries
+    (each-entry (λ n x. side_at at (seen q n x) ≡ None) live.entries k.ordered
+    (λ n x there. no-side q n x at
+    (not-its ends n x at None none (λ e. some-none n (sym e)) (k.indexed n x there))))
+
+-- others than the one with its number haven't it
+others-no-side : (live : Live) (ends : Ends) (q : Queues) (at : End) (n : ℕ) → Kept live ends q
+    → get by_place ends (place_of at) ≡ Some n
+    → EachEntry (λ j z. j ≢ n → side_at at (seen q j z) ≡ None) live.entries
+others-no-side live ends q at n k is =
+    each-entry (λ j z. j ≢ n → side_at at (seen q j z) ≡ None) live.entries k.ordered
+    (λ j z there ne. no-side q j z at
+    (not-its ends j z at (Some n) is (λ e. ne (sym (same-some n j e))) (k.indexed j z there)))
+
+-- the end has a number that no live connection has
+pub places-dead : (live : Live) (ends : Ends) (q : Queues) (at : End) (n : ℕ) → Kept live ends q
+    → get by_place ends (place_of at) ≡ Some n → get nat_cmp live n ≡ None
+    → place_at at (all_seen q live.entries) ≡ None
+places-dead live ends q at n k is dead =
+    place-none q at live.entries
+    (both (λ j z. j ≢ n) (λ j z. side_at at (seen q j z) ≡ None) live.entries
+    (nowhere n live.entries dead) (others-no-side live ends q at n k is))
+
+-- it has that of a live one
+pub places : (live : Live) (ends : Ends) (q : Queues) (at : End) (n : ℕ) (x : code.Connection)
+    → Kept live ends q → get by_place ends (place_of at) ≡ Some n → get nat_cmp live n ≡ Some x
+    → place_at at (all_seen q live.entries)
+    ≡ option_map (λ s. (n, s)) (side_at at (alone 0 x))
+places live ends q at n x k is there =
+    let p = split live.entries n x k.ordered there in
+    let all = subst (EachEntry (λ j z. j ≢ n → side_at at (seen q j z) ≡ None)) p.is
+    (others-no-side live ends q at n k is) in
+    let front = both (λ j z. j ≢ n) (λ j z. side_at at (seen q j z) ≡ None) p.front p.before
+    (each-front (λ j z. j ≢ n → side_at at (seen q j z) ≡ None) p.front ((n, x) ∷ p.back)
+    all) in
+    let back = both (λ j z. j ≢ n) (λ j z. side_at at (seen q j z) ≡ None) p.back p.behind
+    (each-back (λ j z. j ≢ n → side_at at (seen q j z) ≡ None) p.front ((n, x) ∷ p.back)
+    all).1 in
+    ap (λ es. place_at at (all_seen q es)) p.is ∙ place-split q at p.front p.back n x front back
+
+-- ---- the connection that joins two ends
+
+-- one with another CPort of the application processor joins others
+no-join : (q : Queues) (k : ℕ) (x : code.Connection) (a : ℕ) (peer : End)
+    → (IsEndOf (end.Ap a) x → ⊥) → joins a peer (seen q k x) ≡ false
+no-join q k x a peer never =
+    and_left (eqb x.ap a) (same_end x.peer peer)
+    (ne_eqb x.ap a (λ e. never (inl (ap end.Ap (sym e)))))
+
+pub joins-nowhere : (live : Live) (ends : Ends) (q : Queues) (a : ℕ) (peer : End)
+    → Kept live ends q → get by_place ends (place_of (end.Ap a)) ≡ None
+    → find (joins a peer) (all_seen q live.entries) ≡ None
+joins-nowhere live ends q a peer k none =
+    find-none q (joins a peer) live.entries
+    (each-entry (λ n x. joins a peer (seen q n x) ≡ false) live.entries k.ordered
+    (λ n x there. no-join q n x a peer
+    (not-its ends n x (end.Ap a) None none (λ e. some-none n (sym e)) (k.indexed n x there))))
+
+others-join : (live : Live) (ends : Ends) (q : Queues) (a : ℕ) (peer : End) (n : ℕ)
+    → Kept live ends q → get by_place ends (place_of (end.Ap a)) ≡ Some n
+    → EachEntry (λ j z. j ≢ n → joins a peer (seen q j z) ≡ false) live.entries
+others-join live ends q a peer n k is =
+    each-entry (λ j z. j ≢ n → joins a peer (seen q j z) ≡ false) live.entries k.ordered
+    (λ j z there ne. no-join q j z a peer
+    (not-its ends j z (end.Ap a) (Some n) is (λ e. ne (sym (same-some n j e)))
+    (k.indexed j z there)))
+
+pub joins-dead : (live : Live) (ends : Ends) (q : Queues) (a : ℕ) (peer : End) (n : ℕ)
+    → Kept live ends q → get by_place ends (place_of (end.Ap a)) ≡ Some n
+    → get nat_cmp live n ≡ None → find (joins a peer) (all_seen q live.entries) ≡ None
+joins-dead live ends q a peer n k is dead =
+    find-none q (joins a peer) live.entries
+    (both (λ j z. j ≢ n) (λ j z. joins a peer (seen q j z) ≡ false) live.entries
+    (nowhere n live.entries dead) (others-join live ends q a peer n k is))
+
+pub joins-there : (live : Live) (ends : Ends) (q : Queues) (a : ℕ) (peer : End) (n : ℕ)
+    (x : code.Connection) → Kept live ends q
+    → get by_place ends (place_of (end.Ap a)) ≡ Some n → get nat_cmp live n ≡ Some x
+    → find (joins a peer) (all_seen q live.entries)
+    ≡ cond (joins a peer (seen q n x)) (Some (seen q n x)) None
+joins-there live ends q a peer n x k is there =
+    let p = split live.entries n x k.ordered there in
+    let all = subst (EachEntry (λ j z. j ≢ n → joins a peer (seen q j z) ≡ false)) p.is
+    (others-join live ends q a peer n k is) in
+    let front = both (λ j z. j ≢ n) (λ j z. joins a peer (seen q j z) ≡ false) p.front p.before
+    (each-front (λ j z. j ≢ n → joins a peer (seen q j z) ≡ false) p.front
+    ((n, x) ∷ p.back) all) in
+    let back = both (λ j z. j ≢ n) (λ j z. joins a peer (seen q j z) ≡ false) p.back p.behind
+    (each-back (λ j z. j ≢ n → joins a peer (seen q j z) ≡ false) p.front ((n, x) ∷ p.back)
+    all).1 in
+    ap (λ es. find (joins a peer) (all_seen q es)) p.is
+    ∙ find-split q (joins a peer) p.front p.back n x front back

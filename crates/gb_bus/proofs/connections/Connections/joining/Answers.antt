@@ -1,0 +1,51 @@
+-- The connection that has the CPort of the application processor, where it has the far end.
+use Rattle.std.proofs.Common.{None, Some, ap, cond, option_map, sym, ◌∙◌}
+use Rattle.std.specs.BTreeMap.{get}
+use Rattle.std.specs.List.{find}
+use Rattle.gb_bus.proofs.Placing.{joins-dead, joins-nowhere, joins-there}
+use Rattle.gb_bus.specs.Connection.{Connection}
+use Rattle.gb_bus.specs.Parts.{joins}
+use Rattle.gb_bus.specs.Seen.{seen}
+use Rattle.gb_switch.specs.Lines.{by_place}
+use Rattle.gb_bus.proofs.connections.Connections.joining.Goals as goal
+
+pub returns-in_err-number : goal.returns-in_err-number
+returns-in_err-number c =
+    c.from_residual.ensures
+    ∙ sym (ap (option_map (λ (x : Connection). x.number))
+    (ap (find (joins c.args.ap c.args.peer)) (sym c.self.view_is)
+    ∙ joins-nowhere c.self.inside.live c.self.inside.ends c.self.inside.queues c.args.ap
+    c.args.peer c.self.invariant
+    (ap (get by_place c.self.inside.ends) (sym c.of.ensures) ∙ sym c.in_err-number.ensures.value)))
+
+pub returns-in_err-connection : goal.returns-in_err-connection
+returns-in_err-connection c =
+    c.from_residual-in_err-connection.ensures
+    ∙ sym (ap (option_map (λ (x : Connection). x.number))
+    (ap (find (joins c.args.ap c.args.peer)) (sym c.self.view_is)
+    ∙ joins-dead c.self.inside.live c.self.inside.ends c.self.inside.queues c.args.ap
+    c.args.peer c.in_ok-number.field-0.now c.self.invariant
+    (ap (get by_place c.self.inside.ends) (sym c.of.ensures) ∙ sym c.in_ok-number.ensures.value)
+    (sym c.in_err-connection.ensures.value)))
+
+pub returns-then-joins : goal.returns-then-joins
+returns-then-joins c =
+    sym (ap (option_map (λ (x : Connection). x.number))
+    (ap (find (joins c.args.ap c.args.peer)) (sym c.self.view_is)
+    ∙ joins-there c.self.inside.live c.self.inside.ends c.self.inside.queues c.args.ap
+    c.args.peer c.in_ok-number.field-0.now c.in_ok-connection.connection.now c.self.invariant
+    (ap (get by_place c.self.inside.ends) (sym c.of.ensures) ∙ sym c.in_ok-number.ensures.value)
+    (sym c.in_ok-connection.ensures.value)
+    ∙ ap (λ b. cond b (Some (seen c.self.inside.queues c.in_ok-number.field-0.now
+    c.in_ok-connection.connection.now)) None) (sym c.joins.ensures ∙ c.if-joins.true)))
+
+pub returns-else-joins : goal.returns-else-joins
+returns-else-joins c =
+    sym (ap (option_map (λ (x : Connection). x.number))
+    (ap (find (joins c.args.ap c.args.peer)) (sym c.self.view_is)
+    ∙ joins-there c.self.inside.live c.self.inside.ends c.self.inside.queues c.args.ap
+    c.args.peer c.in_ok-number.field-0.now c.in_ok-connection.connection.now c.self.invariant
+    (ap (get by_place c.self.inside.ends) (sym c.of.ensures) ∙ sym c.in_ok-number.ensures.value)
+    (sym c.in_ok-connection.ensures.value)
+    ∙ ap (λ b. cond b (Some (seen c.self.inside.queues c.in_ok-number.field-0.now
+    c.in_ok-connection.connection.now)) None) (sym c.joins.ensures ∙ c.if-joins.false)))

@@ -1,0 +1,18 @@
+-- Whether the connection with a number is wired.
+use Rattle.std.proofs.Common.{None, Some, ap, option_map, sym, ◌∙◌}
+use Rattle.gb_bus.proofs.Seeing.{finds}
+use Rattle.gb_bus.specs.Connection.{Connection}
+use Rattle.gb_bus.proofs.connections.Connections.wired.Goals as goal
+
+pub returns-in_err-get : goal.returns-in_err-get
+returns-in_err-get c =
+    c.from_residual.ensures
+    ∙ sym (ap (option_map (λ (x : Connection). x.wired))
+    (finds c.self.inside.live c.self.inside.queues c.args.self.now c.args.k None c.self.view_is
+    (sym c.in_err-get.ensures.value)))
+
+pub returns : goal.returns
+returns c =
+    sym (ap (option_map (λ (x : Connection). x.wired))
+    (finds c.self.inside.live c.self.inside.queues c.args.self.now c.args.k
+    (Some c.in_ok-get.field-0.now) c.self.view_is (sym c.in_ok-get.ensures.value)))

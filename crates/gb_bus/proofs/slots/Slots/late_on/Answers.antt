@@ -1,0 +1,16 @@
+-- The numbers that the places list are those of the side.
+use Rattle.std.proofs.Common.{refl, subst}
+use Rattle.gb_bus.proofs.SlotLists.{slots-listed}
+use Rattle.gb_bus.specs.Keeping.{kept_in}
+use Rattle.gb_bus.specs.Listing.{AreThose}
+use Rattle.gb_bus.specs.Slots.{Kept, is_late_on, slot_at}
+use Rattle.gb_bus.proofs.slots.Slots.late_on.Goals as goal
+
+pub returns : goal.returns
+returns c =
+    let e = c.in_ok-numbers.ensures in
+    subst (λ (x : Kept).
+    AreThose (λ n. is_late_on c.args.k c.args.side (slot_at x n)) c.in_ok-numbers.numbers)
+    c.self.view_is
+    (slots-listed (kept_in c.self.inside.slots c.self.inside.places c.self.inside.tally)
+    (is_late_on c.args.k c.args.side) c.in_ok-numbers.numbers refl e.ordered e.numbers)

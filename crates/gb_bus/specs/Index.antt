@@ -1,0 +1,64 @@
+-- How live connections are kept: by number, the numbers by end, and what waits by end.
+use Rattle.std.specs.Prelude.{◌≡◌, ◌⊎◌, ℕ, true, false, Some, IsSome, List}
+use Rattle.std.specs.BTreeMap.{BTreeMap, IsOrdered, get, is_at}
+use Rattle.std.specs.Map.{set_value}
+use Rattle.std.specs.Ordering.{nat_cmp}
+use Rattle.gb_base.specs.declared.end.End.{End}
+use Rattle.gb_base.specs.declared.end.End.TheVariants as end
+use Rattle.gb_bus.specs.Connection.{Connection}
+use Rattle.gb_bus.specs.Seen.{alone}
+use Rattle.gb_bus.specs.declared.connection.Connection as code
+use Rattle.gb_bus.specs.declared.queue.Item.{Item}
+use Rattle.gb_machine.specs.Bus.{same_end}
+use Rattle.gb_switch.specs.Lines.{by_place}
+use Rattle.gb_switch.specs.Places.{place_of}
+use Rattle.gb_switch.specs.Queues.{items_at}
+use Rattle.gb_switch.specs.declared.place.Place.{Place}
+
+-- an end is one of a connection's
+abbrev pub IsEndOf : End → code.Connection → Type 0
+IsEndOf at x = (at ≡ end.Ap x.ap) ⊎ (at ≡ x.peer)
+
+-- Both ends of a connection have its number, and are two.
+pub record IsIndexed (ends : BTreeMap Place ℕ) (k : ℕ) (x : code.Connection) : Type 0 where
+  pub near : get by_place ends (place_of (end.Ap x.ap)) ≡ Some k
+  pub far : get by_place ends (place_of x.peer) ≡ Some k
+  pub two : same_end (end.Ap x.ap) x.peer ≡ false
+
+-- an end is one of a live connection that is wired
+pub record IsOwned (live : BTreeMap ℕ code.Connection) (at : End) : Type 0 where
+  pub number : ℕ
+  pub connection : code.Connection
+  pub there : get nat_cmp live number ≡ Some connection
+  pub wired : connection.wired ≡ true
+  pub own : IsEndOf at connection
+
+-- there is a queue at each end of a connection
+pub record HasQueues (queues : List (Place × List Item)) (x : code.Connection) : Type 0 where
+  pub near : IsSome (items_at queues (end.Ap x.ap))
+  pub far : IsSome (items_at queues x.peer)
+
+-- Ends are those of one live connection each. Queues are those of the ends of wired ones.
+pub record Kept (live : BTreeMap ℕ code.Connection) (ends : BTreeMap Place ℕ)
+    (queues : List (Place × List Item)) : Type 0 where
+  pub ordered : IsOrdered nat_cmp live
+  pub indexed : (k : ℕ) (x : code.Connection) → get nat_cmp live k ≡ Some x → IsIndexed ends k x
+  pub owned : (at : End) (items : List Item) → items_at queues at ≡ Some items → IsOwned live at
+  pub queued : (k : ℕ) (x : code.Connection) → get nat_cmp live k ≡ Some x → x.wired ≡ true
+      → HasQueues queues x
+
+-- the connection with a number was this, and changes so
+pub record ChangesOf (old new : BTreeMap ℕ code.Connection) (k : ℕ)
+    (R : Connection → Connection → Type 0) (before : code.Connection) : Type 0 where
+  pub after : code.Connection
+  pub did : R (alone 0 before) (alone 0 after)
+  pub now : new.entries ≡ set_value (is_at (nat_cmp k)) old.entries after
+
+-- The connection with a number changes so, but for its number and what waits, and no other does.
+abbrev pub ChangesBy : BTreeMap ℕ code.Connection → BTreeMap ℕ code.Connection → ℕ
+    → (Connection → Connection → Type 0) → Type 0
+ChangesBy old new k R = (x : code.Connection) → get nat_cmp old k ≡ Some x → ChangesOf old new k R x
+
+-- none changes
+abbrev pub Leaves : BTreeMap ℕ code.Connection → BTreeMap ℕ code.Connection → Type 0
+Leaves old new = new.entries ≡ old.entries

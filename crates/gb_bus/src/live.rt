@@ -1,0 +1,103 @@
+//! What changes of one live connection, by its number.
+
+ghost use Rattle.std.specs.Prelude.{◌≡◌, ◌<◌, ℕ, None, true, Err, IsSome};
+ghost use Rattle.std.specs.BTreeMap.{get};
+ghost use Rattle.std.specs.Ordering.{nat_cmp};
+ghost use Rattle.gb_bus.specs.Index.{ChangesBy, Leaves};
+ghost use Rattle.gb_bus.specs.Parts.{cleared, closed, with_wire};
+ghost use Rattle.gb_bus.specs.Sides.{BeginsOn, GivesUpOn, HasEndsOf, MatchesOn};
+ghost use Rattle.gb_ops.specs.declared.entries.BeginFault.TheVariants as fault;
+ghost use Rattle.gb_ops.specs.declared.entries.Matched.TheVariants as matching;
+
+use crate::connection::Connection;
+use gb_base::Side;
+use gb_ops::{BeginFault, Matched};
+use std::collections::BTreeMap;
+
+/// A number is greater than those of all live connections.
+pub fn is_above(live: &BTreeMap<u64, Connection>, number: u64) -> bool
+    ensures above { result ≡ true → (k : ℕ) → IsSome (get nat_cmp live.now k) → k < number }
+{
+    match live.last_key_value() {
+        Some((last, _)) => *last < number,
+        None => true,
+    }
+}
+
+/// A connection is wired.
+pub fn wire(live: &mut BTreeMap<u64, Connection>, k: u64)
+    ensures there { ChangesBy live.old live.new k (λ x y. y ≡ with_wire x) }
+    ensures nowhere { get nat_cmp live.old k ≡ None → Leaves live.old live.new }
+{
+    if let Some(connection) = live.get_mut(&k) {
+        connection.wire();
+    }
+}
+
+/// A connection isn't wired any more, and all identifiers of its far side are free.
+pub fn clear(live: &mut BTreeMap<u64, Connection>, k: u64)
+    ensures there { ChangesBy live.old live.new k (λ x y. y ≡ cleared x) }
+    ensures nowhere { get nat_cmp live.old k ≡ None → Leaves live.old live.new }
+{
+    if let Some(connection) = live.get_mut(&k) {
+        connection.clear();
+    }
+}
+
+/// The application processor's side of a connection is closed, and all its identifiers are free.
+pub fn shut(live: &mut BTreeMap<u64, Connection>, k: u64)
+    ensures there { ChangesBy live.old live.new k (λ x y. y ≡ closed x) }
+    ensures nowhere { get nat_cmp live.old k ≡ None → Leaves live.old live.new }
+{
+    if let Some(connection) = live.get_mut(&k) {
+        connection.shut();
+    }
+}
+
+/// Request n of a side of a connection is open from now on, and its identifier is answered.
+/// NoLabel comes where the connection isn't live too.
+pub fn begin(
+    live: &mut BTreeMap<u64, Connection>,
+    k: u64,
+    side: Side,
+    n: u64,
+    deadline: u64,
+) -> Result<u16, BeginFault>
+    ensures there { ChangesBy live.old live.new k
+        (λ x y. BeginsOn x y side n deadline result × HasEndsOf x y) }
+    ensures nowhere { get nat_cmp live.old k ≡ None → Leaves live.old live.new }
+    ensures none { get nat_cmp live.old k ≡ None → result ≡ Err fault.NoLabel }
+{
+    match live.get_mut(&k) {
+        Some(connection) => connection.begin(side, n, deadline),
+        None => Err(BeginFault::NoLabel),
+    }
+}
+
+/// What an answer to request n with an identifier comes to on a side of a connection.
+pub fn matched(
+    live: &mut BTreeMap<u64, Connection>,
+    k: u64,
+    side: Side,
+    n: u64,
+    label: u16,
+) -> Matched
+    ensures there { ChangesBy live.old live.new k (λ x y. MatchesOn x y side n label result) }
+    ensures nowhere { get nat_cmp live.old k ≡ None → Leaves live.old live.new }
+    ensures none { get nat_cmp live.old k ≡ None → result ≡ matching.Unknown }
+{
+    match live.get_mut(&k) {
+        Some(connection) => connection.matched(side, n, label),
+        None => Matched::Unknown,
+    }
+}
+
+/// Request n of a side of a connection is given up, where it is open.
+pub fn give_up(live: &mut BTreeMap<u64, Connection>, k: u64, side: Side, n: u64)
+    ensures there { ChangesBy live.old live.new k (λ x y. GivesUpOn x y side n) }
+    ensures nowhere { get nat_cmp live.old k ≡ None → Leaves live.old live.new }
+{
+    if let Some(connection) = live.get_mut(&k) {
+        connection.give_up(side, n);
+    }
+}
