@@ -12,6 +12,7 @@ use Rattle.gb_bus.specs.Wiring.{Attaches, EndsAs, elsewhere}
 use Rattle.gb_bus.specs.declared.bus.Bus.{Bus}
 use Rattle.gb_formats.specs.Grammar.{default_timeout}
 use Rattle.gb_host.specs.Stands as host
+use Rattle.gb_invariants.specs.Facts.{Loose}
 use Rattle.gb_host.specs.Turning.{Turns, spelled}
 use Rattle.gb_host.specs.declared.acts.Act as code
 use Rattle.gb_host.specs.declared.host.Host.{Host}
@@ -36,12 +37,14 @@ use Rattle.gb_machine.specs.Waits.{awaits}
 use Rattle.gb_machine.specs.Wires.{disconnected_told, shuts, unwires, with_unwired}
 use Rattle.gb_machine.specs.Wiring.{attached, detached, next_connection, shut_down, unwired}
 use Rattle.gb_system.proofs.Doings.{does-as, does-change, does-is, does-on_bus, does-then}
+use Rattle.gb_system.proofs.HoldMarks.{unmarked-alike}
+use Rattle.gb_system.proofs.Holdings.{stand-lost}
 use Rattle.gb_system.proofs.Standing.{rebussed, rehosted, repast, same-sound}
 use Rattle.gb_system.specs.Acting.{makes, tells_of}
 use Rattle.gb_system.specs.Doing.{Does}
-use Rattle.gb_system.specs.Held.{is_on}
-use Rattle.gb_system.specs.Stands.{PartsStand, StandForHeld, held_item, held_items}
-use Rattle.gb_system.specs.declared.held.HeldRequest.{HeldRequest}
+use Rattle.gb_system.specs.Held.{HoldsAs, MarksAs}
+use Rattle.gb_system.specs.Stands.{PartsStand, around_bus, held_item, names_of}
+use Rattle.gb_system.specs.declared.held.HeldRequests.{HeldRequests}
 use Rattle.gb_system.specs.declared.parties.Parties.{Parties}
 
 -- ---- a connection is closed or unwired
@@ -53,7 +56,7 @@ shuts-is k s = refl
 
 pub shut-done : {x : Parties} {s : State} {a b : List Entry} (y : Bus) (k : ℕ) (now : List ℕ)
     → PartsStand [] x s
-    → EndsAs (held_items s) y k side.Ap s.bus (shut_down k s.bus) [] now
+    → EndsAs (around_bus [] s) y k side.Ap s.bus (shut_down k s.bus) [] now
     → b ≡ a ++ map disconnected_told now → Does (record x { bus = y }) (shuts k) s a b
 shut-done {x} {s} {a} {b} y k now st ends appended =
     does-is (with_bus (shut_down k s.bus) s) (map disconnected_told (open_on k side.Ap s.bus))
@@ -68,67 +71,46 @@ unwires-is k s = refl
 
 -- what is held elsewhere is what is held but for one connection
 held-elsewhere : (k : ℕ) (hs : List Held)
-    → elsewhere k (map held_item hs) ≡ map held_item (without (λ h. h.connection == k) hs)
+    → without (λ (l : Loose). l.connection == k) (map held_item hs)
+    ≡ map held_item (without (λ h. h.connection == k) hs)
 held-elsewhere k [] = refl
 held-elsewhere k (h ∷ hs) = by (h.connection == k) (held-elsewhere k hs)
   where
     rest : List Held
     rest = without (λ h. h.connection == k) hs
 
-    by : (b : Bool) → elsewhere k (map held_item hs) ≡ map held_item rest
-        → cond (not b) (held_item h ∷ elsewhere k (map held_item hs))
-        (elsewhere k (map held_item hs))
+    items : List Loose
+    items = without (λ (l : Loose). l.connection == k) (map held_item hs)
+
+    by : (b : Bool) → items ≡ map held_item rest
+        → cond (not b) (held_item h ∷ items) items
         ≡ map held_item (cond (not b) (h ∷ rest) rest)
     by true same = same
     by false same = ap (λ ls. held_item h ∷ ls) same
 
--- what is held elsewhere stands for it still
-held-left : (k : ℕ) (rs : List Request) (xs : List HeldRequest) (hs : List Held)
-    → StandForHeld rs xs hs
-    → StandForHeld rs (without (is_on k) xs) (without (λ h. h.connection == k) hs)
-held-left k rs [] [] h = tt
-held-left k rs (x ∷ xs) (y ∷ ys) h =
-    subst (λ n. StandForHeld rs (cond (not (n == k)) (x ∷ without (is_on k) xs)
-    (without (is_on k) xs)) (without (λ h. h.connection == k) (y ∷ ys))) (sym h.0.connection)
-    (by (y.connection == k) (held-left k rs xs ys h.1))
-  where
-    rest : List HeldRequest
-    rest = without (is_on k) xs
-
-    left : List Held
-    left = without (λ h. h.connection == k) ys
-
-    by : (b : Bool) → StandForHeld rs rest left
-        → StandForHeld rs (cond (not b) (x ∷ rest) rest) (cond (not b) (y ∷ left) left)
-    by true behind = behind
-    by false behind = (h.0, behind)
-held-left k rs [] (y ∷ ys) h = absurd h
-held-left k rs (x ∷ xs) [] h = absurd h
-
-pub unwire-done : {x : Parties} {s : State} {a b : List Entry} (y : Bus) (k : ℕ) (now : List ℕ)
-    → PartsStand [] x s
-    → EndsAs (elsewhere k (held_items s)) y k side.Far s.bus (unwired k s.bus) [] now
+pub unwire-done : {x : Parties} {s : State} {a b : List Entry} (y : Bus) (holds : List ℕ)
+    (held : HeldRequests) (k : ℕ) (now : List ℕ) → PartsStand [] x s
+    → EndsAs (elsewhere k (around_bus [] s)) y k side.Far s.bus (unwired k s.bus) [] now
+    → MarksAs x.holds holds k false → HoldsAs x.held held k []
     → b ≡ a ++ map disconnected_told now
-    → Does (record x {
-      bus = y;
-      holds = without (λ j. j == k) x.holds;
-      held = without (is_on k) x.held;
-    }) (unwires k) s a b
-unwire-done {x} {s} {a} {b} y k now st ends appended =
+    → Does (record x { bus = y; holds = holds; held = held }) (unwires k) s a b
+unwire-done {x} {s} {a} {b} y holds held k now st ends marks lost appended =
     does-is (with_unwired k s) (map disconnected_told (open_on k side.Far s.bus))
     (unwires-is k s) (appended ∙ ap (λ ns. a ++ map disconnected_told ns) ends.ended)
     (record {
-      bus = subst (λ ls. bus.Stands ls y (unwired k s.bus)) (held-elsewhere k s.held) ends.stands;
+      bus = subst (λ ls. bus.Stands (bus.around_of ls (names_of s)) y (unwired k s.bus))
+          (held-elsewhere k s.held) ends.stands;
       ports = st.ports;
       modules = st.modules;
       host = st.host;
       names = st.names;
+      apart = st.apart;
       booted = st.booted;
       sound = same-sound s.bus (unwired k s.bus) refl st.sound;
       short = st.short;
       time = st.time;
-      holds = ap (without (λ j. j == k)) st.holds;
-      held = held-left k s.bus.requests x.held s.held st.held;
+      holds = unmarked-alike x.holds holds s.holds k marks st.holds;
+      held = stand-lost s.bus.requests s.held k st.held lost;
     })
 
 -- ---- a sequence fails
@@ -288,9 +270,14 @@ pub some-left : (o : Option ℕ) → false ≡ is_none o → IsSome o
 some-left None h = absurd cc
 some-left (Some label) h = refl
 
+-- or none
+pub none-left : (o : Option ℕ) → true ≡ is_none o → o ≡ None
+none-left None h = refl
+none-left (Some label) h = absurd cc
+
 pub made-done : {x : Parties} {s : State} {a b : List Entry} (y : Bus) (z : Host) (m : Making)
     (p : Purpose) (k : ℕ) → PartsStand [] x s
-    → Attaches (held_items s) y m.ap m.intf m.cport m.protocol s.bus k
+    → Attaches (around_bus [] s) y m.ap m.intf m.cport m.protocol s.bus k
     → host.Stands z (with_new_link k m.ap p.intf p.cport m.protocol s.host)
     → p.intf ≡ m.intf → p.cport ≡ m.cport
     → b ≡ a ++ entry.Connection k m.ap m.intf m.cport state.Opening ∷ []
@@ -312,7 +299,7 @@ made-done {x} {s} {a} {b} y z m p k st attaches hosts i c appended =
 -- ---- the other acts
 
 pub leave-done : {x : Parties} {s : State} {a : List Entry} (y : Bus) (k : ℕ) → PartsStand [] x s
-    → bus.Stands (held_items s) y (detached k s.bus)
+    → bus.Stands (around_bus [] s) y (detached k s.bus)
     → Does (record x { bus = y }) (on_bus (detached k)) s a a
 leave-done {x} {s} {a} y k st stands =
     does-on_bus (detached k) (rebussed [] y (detached k s.bus) st stands

@@ -14,7 +14,7 @@ use Rattle.gb_base.specs.declared.refusal.Refusal.TheVariants as why
 use Rattle.gb_bus.specs.Delivering.{ArrivesAnswer, ArrivesDropped, ArrivesLate, IsDropped, DeliversNothing, DeliversNowhere}
 use Rattle.gb_bus.specs.Stands as bus
 use Rattle.gb_bus.specs.declared.bus.Bus.{Bus}
-use Rattle.gb_bus.specs.declared.connection.Connection as bus_code
+use Rattle.gb_bus.specs.Connection as bus_code
 use Rattle.gb_invariants.proofs.Numbers.{found-by_number}
 use Rattle.gb_laws.proofs.LinkBuses.{Linked}
 use Rattle.gb_laws.proofs.Links.{IsKnown, leaving, linked, supervisory}
@@ -45,7 +45,7 @@ use Rattle.gb_system.proofs.Standing.{rebussed}
 use Rattle.gb_system.specs.Arriving.{ArrivesAs, ReadsOn}
 use Rattle.gb_system.specs.Doing.{Does}
 use Rattle.gb_system.specs.Serving.{side_of}
-use Rattle.gb_system.specs.Stands.{PartiesStand, PartsStand, held_items}
+use Rattle.gb_system.specs.Stands.{PartiesStand, PartsStand, around_bus}
 use Rattle.gb_system.specs.declared.parties.Parties.{Parties}
 
 -- ---- where an end is
@@ -119,7 +119,7 @@ unplugged-here s at st there = record {
 
 pub nowhere-here : {x : Parties} {a : List Entry} (s : State) (at : End) (y : Bus)
     → PartsStand [] x s → false ≡ is_end_unplugged at s
-    → DeliversNowhere (held_items s) y at s.bus
+    → DeliversNowhere (around_bus [] s) y at s.bus
     → ArrivesAs (record x { bus = y }) s at a a (Some why.NoConnection)
 nowhere-here s at y st there h = record {
   refused = refused-by s at false None (sym there) h.named;
@@ -129,7 +129,7 @@ nowhere-here s at y st there h = record {
 
 pub nothing-here : {x : Parties} {a : List Entry} (s : State) (at : End) (y : Bus)
     → PartsStand [] x s → false ≡ is_end_unplugged at s
-    → DeliversNothing (held_items s) y at s.bus
+    → DeliversNothing (around_bus [] s) y at s.bus
     → ArrivesAs (record x { bus = y }) s at a a (Some why.QueueEmpty)
 nothing-here s at y st there h = record {
   refused = refused-by s at false (Some h.place) (sym there) h.named
@@ -190,7 +190,7 @@ pub answer-here : {x z : Parties} {a b : List Entry} (s : State) (at : End) (y :
     (item : Item) (n kind result : ℕ) (payload : List ℕ) (read : Reading)
     → PartiesStand x s → false ≡ is_end_unplugged at s → place_of at s.bus.connections ≡ Some p
     → first (queue p.side p.connection) ≡ Some item → takes p.side p.connection s ≡ true
-    → ArrivesAnswer (held_items s) y p s.bus item n kind result payload
+    → ArrivesAnswer (around_bus [] s) y p s.bus item n kind result payload
     → ((t : State) → PartsStand [] (record x { bus = y }) t
     → t.host ≡ s.host → read ≡ reading_at (side_of at) p.connection kind result payload)
     → ((t : State) → PartsStand [] (record x { bus = y }) t
@@ -230,7 +230,7 @@ answer-here {x} {z} {a} {b} s at y p item n kind result payload read st there na
 pub late-here : {x : Parties} {a b : List Entry} (s : State) (at : End) (y : Bus) (p : Place)
     (item : Item) (n : ℕ) → PartiesStand x s → false ≡ is_end_unplugged at s
     → place_of at s.bus.connections ≡ Some p → first (queue p.side p.connection) ≡ Some item
-    → takes p.side p.connection s ≡ true → ArrivesLate (held_items s) y p s.bus item n
+    → takes p.side p.connection s ≡ true → ArrivesLate (around_bus [] s) y p s.bus item n
     → b ≡ a ++ entry.Late n ∷ [] → ArrivesAs (record x { bus = y }) s at a b None
 late-here {x} s at y p item n st there named front taken h pushed =
     let w = is-there x s at p st named in
@@ -261,7 +261,7 @@ pub dropped-here : {x : Parties} {a b : List Entry} (s : State) (at : End) (y : 
     → false ≡ is_end_unplugged at s
     → place_of at s.bus.connections ≡ Some p → first (queue p.side p.connection) ≡ Some item
     → takes p.side p.connection s ≡ false
-    → ArrivesDropped (held_items s) y p s.bus item number reply
+    → ArrivesDropped (around_bus [] s) y p s.bus item number reply
     → b ≡ a ++ entry.Dropped number reply ∷ [] → ArrivesAs (record x { bus = y }) s at a b None
 dropped-here {x} {a} s at y p item number reply st there named front untaken h pushed =
     let w = is-there x s at p st named in

@@ -33,7 +33,7 @@ use Rattle.gb_system.specs.Arriving.{ArrivesAs}
 use Rattle.gb_system.specs.Drafts.{IsUpon}
 use Rattle.gb_system.specs.Holding.{AsksAt}
 use Rattle.gb_system.specs.Serving.{IsDelivered, MayServe, only, side_of, MayNotice, after_serving}
-use Rattle.gb_system.specs.Stands.{PartiesStand, PartsStand, held_items}
+use Rattle.gb_system.specs.Stands.{PartiesStand, PartsStand, around_bus}
 use Rattle.gb_system.specs.declared.parties.Parties.{Parties}
 use Rattle.gb_system.proofs.Arrivals.{allowed-here, is-there, taken_state}
 
@@ -112,7 +112,7 @@ pub ask-here : {x z : Parties} {a b : List Entry} (s : State) (at : End) (y : Bu
     → PartiesStand x s → false ≡ is_end_unplugged at s → place_of at s.bus.connections ≡ Some p
     → first (queue p.side p.connection) ≡ Some item → takes p.side p.connection s ≡ true
     → k ≡ p.connection.number → bytes ≡ payload
-    → ArrivesAsk (held_items s) y p s.bus item asked payload
+    → ArrivesAsk (around_bus [] s) y p s.bus item asked payload
     → AsksAt at (record x { bus = y }) z k asked bytes a b
     → ArrivesAs z s at a b None
 ask-here {x} {z} {a} {b} s at y p k item asked payload bytes st there named front taken number same h

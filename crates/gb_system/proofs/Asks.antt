@@ -27,11 +27,11 @@ use Rattle.gb_machine.specs.OwnAsking.{far_asks, far_asks_all}
 use Rattle.gb_machine.specs.Sending.{Draft, draft, is_lost, is_wired, label_for, requested, sent}
 use Rattle.gb_machine.specs.State.{State}
 use Rattle.gb_system.proofs.Doings.{does-given, does-given_none, does-is, does-unless, does-when}
-use Rattle.gb_system.proofs.Standing.{each_more, held-more, requested-more}
+use Rattle.gb_system.proofs.Standing.{each_more, held-stand-more, requested-more}
 use Rattle.gb_system.specs.Acting.{IsAskable}
 use Rattle.gb_system.specs.Doing.{Does}
 use Rattle.gb_system.specs.Drafts.{ask_told, end_at, own_ask}
-use Rattle.gb_system.specs.Stands.{AreSound, IsSound, PartsStand, held_items}
+use Rattle.gb_system.specs.Stands.{AreSound, IsSound, PartsStand, around_bus}
 use Rattle.gb_system.specs.declared.parties.Parties.{Parties}
 
 -- ---- no request is made
@@ -53,6 +53,17 @@ ask-nowhere {x} {s} {a} d st none =
     does-given_none (on_connection d s)
     (none-mapped ends_of (connection_of d.connection s.bus) (sym none)) st in
     record { told_is = e.told_is; stand = e.stand }
+
+-- then there is no number
+pub number-nowhere : {A : Type 0} (f : Connection → A) (d : Draft) (b : machine.Bus)
+    → None ≡ option_map f (connection_of d.connection b)
+    → None ≡ option_map (λ l. next_number b) (label_on d b)
+number-nowhere f d b none = by (connection_of d.connection b) none
+  where
+    by : (o : Option Connection) → None ≡ option_map f o
+        → None ≡ option_map (λ l. next_number b) (option_and_then (λ c. label_for d b) o)
+    by None e = refl
+    by (Some c) e = absurd cc
 
 -- it is, and no identifier is left
 pub ask-unlabelled : {x : Parties} {s : State} {a : List Entry} (d : Draft) → PartsStand [] x s
@@ -190,7 +201,7 @@ pub ask-made : {x : Parties} {s : State} {a b : List Entry} (y : Bus) (d : Draft
     (ends : ℕ × End) (r : Sent) → PartsStand [] x s → IsAskable d.kind d.payload
     → (d.side ≡ side.Ap → d.oneway ≡ false)
     → Some ends ≡ option_map ends_of (connection_of d.connection s.bus)
-    → Sends (held_items s) y d s.bus r → b ≡ a ++ entries_of d ends r
+    → Sends (around_bus [] s) y d s.bus r → b ≡ a ++ entries_of d ends r
     → Does (record x { bus = y }) (asks d) s a b
 unfolding machine_opened
 ask-made {x} {s} {a} {b} y d ends r st askable twoway has sends appended =
@@ -198,7 +209,7 @@ ask-made {x} {s} {a} {b} y d ends r st askable twoway has sends appended =
     let c = on.connection in
     let stands = requested-more [] y (sent d r.label s.bus) st sends.stands (record {
       sound = sound-sent d s.bus r.label st.sound askable twoway on.drawn;
-      held = held-more s.bus.requests (requested d r.label) x.held s.held st.held;
+      held = held-stand-more s.bus.requests (requested d r.label) x.held s.held st.held;
     }) in
     let k = does-given (on_connection d s) c on.live
     (does-given (λ label. asks_with d c label) r.label on.drawn (by c on.same stands d.oneway refl)) in

@@ -83,6 +83,7 @@ started-stand x s st = record {
   modules = st.modules;
   host = st.host;
   names = st.names;
+  apart = st.apart;
   booted = refl;
   sound = st.sound;
   short = st.short;

@@ -23,12 +23,15 @@ use Rattle.gb_host.specs.declared.host.Host as code
 use Rattle.gb_laws.proofs.CreditsLines.{answered-by}
 use Rattle.gb_machine.proofs.Conditions.{unmet}
 use Rattle.gb_machine.proofs.Opened.{machine_opened}
+use Rattle.gb_machine.proofs.Options.{none-of}
 use Rattle.gb_machine.specs.Actions.{Action, given}
 use Rattle.gb_machine.specs.Host.{Host, link_at, link_of, with_link}
 use Rattle.gb_machine.specs.HostRefusals.{bridge_conditions}
 use Rattle.gb_machine.specs.Labels.{next_label}
 use Rattle.gb_machine.specs.LineActions.{bridge_sent, bridges, sends_on, spent}
 use Rattle.gb_machine.specs.Lists.{first_met}
+use Rattle.gb_machine.specs.Names.{named}
+use Rattle.gb_machine.specs.Refusals.{line_conditions}
 use Rattle.gb_machine.specs.State.{State}
 use Rattle.gb_system.proofs.Bridgings.{IsLink, is-link, line-met}
 use Rattle.gb_system.proofs.Doings.{does-by_state, does-given, does-on_host, does-then}
@@ -110,7 +113,8 @@ does-bridges {y} {z} {s} {a} {b} name i c what l there met st sent =
 -- what becomes of a request on a connection
 abbrev pub SendsOn : Name → ℕ → ℕ → List ℕ → Parties → Parties → List Entry → List Entry → Type 0
 SendsOn name k kind payload x y before told =
-    (t : State) → PartsStand [] x t → IsAskable kind payload → IsSome (next_label k side.Ap t.bus)
+    (t : State) → PartsStand [] x t → named name t.names ≡ None → IsAskable kind payload
+    → IsSome (next_label k side.Ap t.bus)
     → Does y (sends_on name k kind payload 1000) t before told
 
 -- a line is sent
@@ -131,10 +135,13 @@ bridge-done x z h s name i c what old new payload b before es st is begun spends
     (subst (λ bytes. Does z (sends_on name b.connection (ask_request what).0 bytes 1000) t before
     es) bytes_are
     (subst (λ kind. Does z (sends_on name b.connection kind payload 1000) t before es)
-    is.written.kind (sends t stand askable is.label)))))
+    is.written.kind (sends t stand free askable is.label)))))
   where
     met : first_met (bridge_conditions is.link what) ≡ None
     met = line-met s name i c what is.link is.there is.allowed
+
+    free : named name s.names ≡ None
+    free = none-of (named name s.names) (unmet (line_conditions s name i c what) is.allowed).0
 
     l : IsLink s.host i c b.connection
     l = is-link s x i c b.connection st (ap (option_map (λ (k : Link). k.connection)) is.there

@@ -92,6 +92,22 @@ abbrev pub BridgesThere : Host → ℕ → BridgeAsk → List ℕ → List ℕ �
 BridgesThere h k what old new result =
     (l : Link) → link_of k h ≡ Some l → BridgesOn l what old new result
 
+-- its name isn't free
+pub bridge-occupied : (x : Parties) (s : State) (name : Name) (i c : ℕ) (what : BridgeAsk)
+    (old new : List ℕ) → PartiesStand x s → is_some (named name x.names) ≡ true
+    → BridgesTo s name i c what old new (Err why.Occupied)
+bridge-occupied x s name i c what old new st taken = by-name x s name i c what true st taken
+
+-- nothing is sent to the CPort
+pub bridge-nowhere : (x : Parties) (s : State) (name : Name) (i c : ℕ) (what : BridgeAsk)
+    (old new : List ℕ) (why : Refusal) → PartiesStand x s
+    → is_some (named name x.names) ≡ false
+    → SendsAs (first_met (send_conditions i c s.host)) (link_at i c s.host) (Err why)
+    → BridgesTo s name i c what old new (Err why)
+bridge-nowhere x s name i c what old new why st free way =
+    by-name x s name i c what false st free
+    ∙ met-early (send_conditions i c s.host) (on_link s what (link_at i c s.host)) why way
+
 -- the line is refused on its connection
 pub bridge-unfit : (x : Parties) (s : State) (name : Name) (i c k : ℕ) (what : BridgeAsk)
     (old new : List ℕ) (why : Refusal) → PartiesStand x s

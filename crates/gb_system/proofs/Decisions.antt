@@ -3,7 +3,7 @@ use Rattle.std.proofs.Common.{◌≡◌, ℕ, true, false, if◌then◌else◌, 
 use Rattle.std.specs.List.{list_any}
 use Rattle.gb_invariants.proofs.Lists.{found-in}
 use Rattle.gb_invariants.proofs.Numbers.{found-by_number}
-use Rattle.gb_invariants.specs.Facts.{Loose}
+use Rattle.gb_bus.specs.Stands.{Around}
 use Rattle.gb_machine.proofs.Opened.{machine_opened}
 use Rattle.gb_machine.specs.Actions.{nothing}
 use Rattle.gb_machine.specs.Bus.{Connection, connection_of}
@@ -89,10 +89,10 @@ record Joined (s : State) (a i c k : ℕ) : Type 0 where
   pub number : connection.number ≡ k
   pub live : connection_of k s.bus ≡ Some connection
 
-joined : (loose : List Loose) (x : Bus) (y : Ladder) (s : State) (a i c k : ℕ)
-    → BusAndPorts loose x y s
+joined : (around : Around) (x : Bus) (y : Ladder) (s : State) (a i c k : ℕ)
+    → BusAndPorts around x y s
     → Some k ≡ option_map (λ (z : Connection). z.number) (joining a i c s.bus) → Joined s a i c k
-joined loose x y s a i c k st h = by (joining a i c s.bus) refl h
+joined around x y s a i c k st h = by (joining a i c s.bus) refl h
   where
     by : (o : Option Connection) → joining a i c s.bus ≡ o → Some k
         ≡ option_map (λ (z : Connection). z.number) o → Joined s a i c k
@@ -113,24 +113,24 @@ none_of None h = refl
 none_of (Some z) h = absurd cc
 
 -- no connection joins the two ends
-pub creates_nowhere : (loose : List Loose) (x : Bus) (y : Ladder) (s : State) (a i c : ℕ)
-    (d : Decision) → BusAndPorts loose x y s
+pub creates_nowhere : (around : Around) (x : Bus) (y : Ladder) (s : State) (a i c : ℕ)
+    (d : Decision) → BusAndPorts around x y s
     → None ≡ option_map (λ (z : Connection). z.number) (joining a i c s.bus)
     → answer_of d ≡ plainly nonexistent → d.behind ≡ behind.Nothing
     → Decides y s (creates (joining a i c s.bus)) d
-creates_nowhere loose x y s a i c d st h says none =
+creates_nowhere around x y s a i c d st h says none =
     subst (λ o. Decides y s (creates o) d) (sym (none_of (joining a i c s.bus) h))
     (refuses_with y s nonexistent d st.ports says none)
 
 -- it is wired already
-pub creates_wired : (loose : List Loose) (x : Bus) (y : Ladder) (s : State) (a i c k : ℕ)
-    (d : Decision) → BusAndPorts loose x y s
+pub creates_wired : (around : Around) (x : Bus) (y : Ladder) (s : State) (a i c k : ℕ)
+    (d : Decision) → BusAndPorts around x y s
     → Some k ≡ option_map (λ (z : Connection). z.number) (joining a i c s.bus)
     → is_wired (connection_of k s.bus) ≡ true
     → answer_of d ≡ plainly invalid → d.behind ≡ behind.Nothing
     → Decides y s (creates (joining a i c s.bus)) d
-creates_wired loose x y s a i c k d st h wired says none =
-    let j = joined loose x y s a i c k st h in
+creates_wired around x y s a i c k d st h wired says none =
+    let j = joined around x y s a i c k st h in
     let is : j.connection.wired ≡ true = ap is_wired (sym j.live) ∙ wired in
     subst (λ o. Decides y s (creates o) d) (sym j.joins)
     (subst (λ b. Decides y s (if b then responds_plainly invalid else responds_with
@@ -138,14 +138,14 @@ creates_wired loose x y s a i c k d st h wired says none =
     (refuses_with y s invalid d st.ports says none))
 
 -- it is wired
-pub creates_one : (loose : List Loose) (x : Bus) (y : Ladder) (s : State) (a i c k : ℕ)
-    (d : Decision) → BusAndPorts loose x y s
+pub creates_one : (around : Around) (x : Bus) (y : Ladder) (s : State) (a i c k : ℕ)
+    (d : Decision) → BusAndPorts around x y s
     → Some k ≡ option_map (λ (z : Connection). z.number) (joining a i c s.bus)
     → is_wired (connection_of k s.bus) ≡ false
     → answer_of d ≡ plainly success → d.behind ≡ behind.Wire k
     → Decides y s (creates (joining a i c s.bus)) d
-creates_one loose x y s a i c k d st h unwired says does =
-    let j = joined loose x y s a i c k st h in
+creates_one around x y s a i c k d st h unwired says does =
+    let j = joined around x y s a i c k st h in
     let is : j.connection.wired ≡ false = ap is_wired (sym j.live) ∙ unwired in
     subst (λ o. Decides y s (creates o) d) (sym j.joins)
     (subst (λ b. Decides y s (if b then responds_plainly invalid else responds_with
@@ -153,24 +153,24 @@ creates_one loose x y s a i c k d st h unwired says does =
     (wires_behind y s k j.connection.number d st.ports j.number says does))
 
 -- no connection is there to be unwired
-pub destroys_nowhere : (loose : List Loose) (x : Bus) (y : Ladder) (s : State) (a i c : ℕ)
-    (d : Decision) → BusAndPorts loose x y s
+pub destroys_nowhere : (around : Around) (x : Bus) (y : Ladder) (s : State) (a i c : ℕ)
+    (d : Decision) → BusAndPorts around x y s
     → None ≡ option_map (λ (z : Connection). z.number) (joining a i c s.bus)
     → answer_of d ≡ plainly nonexistent → d.behind ≡ behind.Nothing
     → Decides y s (destroys (joining a i c s.bus)) d
-destroys_nowhere loose x y s a i c d st h says none =
+destroys_nowhere around x y s a i c d st h says none =
     subst (λ o. Decides y s (destroys o) d) (sym (none_of (joining a i c s.bus) h))
     (refuses_with y s nonexistent d st.ports says none)
 
 -- it isn't wired
-pub destroys_unwired : (loose : List Loose) (x : Bus) (y : Ladder) (s : State) (a i c k : ℕ)
-    (d : Decision) → BusAndPorts loose x y s
+pub destroys_unwired : (around : Around) (x : Bus) (y : Ladder) (s : State) (a i c k : ℕ)
+    (d : Decision) → BusAndPorts around x y s
     → Some k ≡ option_map (λ (z : Connection). z.number) (joining a i c s.bus)
     → is_wired (connection_of k s.bus) ≡ false
     → answer_of d ≡ plainly nonexistent → d.behind ≡ behind.Nothing
     → Decides y s (destroys (joining a i c s.bus)) d
-destroys_unwired loose x y s a i c k d st h unwired says none =
-    let j = joined loose x y s a i c k st h in
+destroys_unwired around x y s a i c k d st h unwired says none =
+    let j = joined around x y s a i c k st h in
     let is : j.connection.wired ≡ false = ap is_wired (sym j.live) ∙ unwired in
     subst (λ o. Decides y s (destroys o) d) (sym j.joins)
     (subst (λ b. Decides y s (if b then responds_with (plainly success)
@@ -178,14 +178,14 @@ destroys_unwired loose x y s a i c k d st h unwired says none =
     (refuses_with y s nonexistent d st.ports says none))
 
 -- it is unwired
-pub destroys_one : (loose : List Loose) (x : Bus) (y : Ladder) (s : State) (a i c k : ℕ)
-    (d : Decision) → BusAndPorts loose x y s
+pub destroys_one : (around : Around) (x : Bus) (y : Ladder) (s : State) (a i c k : ℕ)
+    (d : Decision) → BusAndPorts around x y s
     → Some k ≡ option_map (λ (z : Connection). z.number) (joining a i c s.bus)
     → is_wired (connection_of k s.bus) ≡ true
     → answer_of d ≡ plainly success → d.behind ≡ behind.Unwire k
     → Decides y s (destroys (joining a i c s.bus)) d
-destroys_one loose x y s a i c k d st h wired says does =
-    let j = joined loose x y s a i c k st h in
+destroys_one around x y s a i c k d st h wired says does =
+    let j = joined around x y s a i c k st h in
     let is : j.connection.wired ≡ true = ap is_wired (sym j.live) ∙ wired in
     subst (λ o. Decides y s (destroys o) d) (sym j.joins)
     (subst (λ b. Decides y s (if b then responds_with (plainly success)
@@ -193,12 +193,12 @@ destroys_one loose x y s a i c k d st h wired says does =
     (unwires_behind y s k j.connection.number d st.ports j.number says does))
 
 -- a connection is wired to an interface that is to lose its route
-pub unroutes_wired : (loose : List Loose) (x : Bus) (y : Ladder) (s : State) (i : ℕ) (d : Decision)
-    → BusAndPorts loose x y s
+pub unroutes_wired : (around : Around) (x : Bus) (y : Ladder) (s : State) (i : ℕ) (d : Decision)
+    → BusAndPorts around x y s
     → list_any (is_wired_to i) s.bus.connections ≡ true
     → answer_of d ≡ plainly invalid → d.behind ≡ behind.Nothing
     → Decides y s (unroutes (list_any (is_wired_to i) s.bus.connections) i s.ports) d
-unroutes_wired loose x y s i d st wired says none =
+unroutes_wired around x y s i d st wired says none =
     subst (λ b. Decides y s (unroutes b i s.ports) d) (sym wired)
     (refuses_with y s invalid d st.ports says none)
 
@@ -225,10 +225,10 @@ decided_answer y s step result payload d f says none =
     (answers_with y s step.ports result payload d f.stands says none)
 
 -- the parts stand still where the table leaves it to connections
-pub stand_still : (loose : List Loose) (x : Bus) (y z : Ladder) (s : State) (step : SvcStep)
-    (v : SvcServed) → BusAndPorts loose x z s → Follows y step v
-    → step.ports ≡ s.ports → BusAndPorts loose x y s
-stand_still loose x y z s step v st f same =
+pub stand_still : (around : Around) (x : Bus) (y z : Ladder) (s : State) (step : SvcStep)
+    (v : SvcServed) → BusAndPorts around x z s → Follows y step v
+    → step.ports ≡ s.ports → BusAndPorts around x y s
+stand_still around x y z s step v st f same =
     record { bus = st.bus; ports = subst (switch.Stands y) same f.stands }
 
 -- connections decide on a creation or a destruction

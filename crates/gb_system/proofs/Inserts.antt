@@ -123,6 +123,7 @@ plugged-stand x s i kind modules m l st is kind_is ports = record {
       ∙ ap (λ w. plugged i w x.modules) (sym kind_is) ∙ sym is;
   host = st.host;
   names = st.names;
+  apart = st.apart;
   booted = st.booted;
   sound = st.sound;
   short = each-from IsShort (plugged i (module_of_kind kind) s.modules)

@@ -5,6 +5,7 @@ pub mod Arrivals
 pub mod AskArrivals
 pub mod Asks
 pub mod Boots
+pub mod BoundNames
 pub mod BridgeSends
 pub mod Bridgings
 pub mod Connects
@@ -12,17 +13,22 @@ pub mod Decisions
 pub mod Doings
 pub mod Endings
 pub mod Fits
+pub mod HeldAnswers
 pub mod HeldAsks
+pub mod HoldMarks
 pub mod Holdings
 pub mod Inserts
 pub mod Landing
 pub mod Midways
 pub mod ModuleServes
+pub mod NameCounts
+pub mod NameOrders
 pub mod NamedRequests
 pub mod Notices
 pub mod Plugged
 pub mod Pulls
 pub mod Replies
+pub mod RequestOutcomes
 pub mod Sends
 pub mod Settles
 pub mod Showings
@@ -34,4 +40,3 @@ pub mod Takings
 pub mod Ticks
 pub mod Turning
 pub mod Ways
-pub mod WordOrder

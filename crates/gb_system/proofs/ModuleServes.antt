@@ -75,6 +75,7 @@ stands-with ms mods same short h = record {
   modules = same;
   host = h.host;
   names = h.names;
+  apart = h.apart;
   booted = h.booted;
   sound = h.sound;
   short = short;

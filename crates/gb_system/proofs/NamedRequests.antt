@@ -1,5 +1,5 @@
 -- The request of a name is cancelled, and names are copied and freed, as the machine does.
-use Rattle.std.proofs.Common.{◌≡◌, ℕ, Bool, true, false, cond, not, Option, Some, None, is_some, is_none, ◌&&◌, Ok, List, [], ◌∷◌, ◌++◌, refl, sym, ap, ◌∙◌, subst}
+use Rattle.std.proofs.Common.{◌≡◌, ℕ, Bool, true, false, cond, not, Option, Some, None, is_some, is_none, ◌&&◌, Ok, List, [], ◌∷◌, ◌++◌, map, length, ◌<◌, refl, sym, ap, ◌∙◌, subst}
 use Rattle.gb_base.specs.declared.bridge.Reading.TheVariants as reading
 use Rattle.gb_base.specs.declared.entry.Entry.{Entry}
 use Rattle.gb_base.specs.declared.entry.Entry.TheVariants as entry
@@ -9,7 +9,11 @@ use Rattle.gb_base.specs.declared.outcome.Outcome.{Outcome}
 use Rattle.gb_base.specs.declared.outcome.Outcome.TheVariants as outcome
 use Rattle.gb_base.specs.declared.refusal.Refusal.{Refusal}
 use Rattle.gb_base.specs.declared.refusal.Refusal.TheVariants as why
+use Rattle.gb_bus.proofs.Named.{alike}
 use Rattle.gb_bus.specs.Cancelling.{GivesUp, GivesUpNothing}
+use Rattle.gb_bus.specs.Naming.{KeepsAs, asked_for, with_name, without_name}
+use Rattle.gb_bus.specs.Slots.{most_names}
+use Rattle.gb_bus.specs.Stands as bus
 use Rattle.gb_bus.specs.declared.bus.Bus as code
 use Rattle.gb_laws.proofs.LinkChanges.{linked-gave_up}
 use Rattle.gb_laws.proofs.Reached.{reached-linked, reached-names}
@@ -20,37 +24,54 @@ use Rattle.gb_machine.specs.Bus.{Bus, Request, outcome_of, request_of}
 use Rattle.gb_machine.specs.Events.{does}
 use Rattle.gb_machine.specs.GivingUp.{gives_up}
 use Rattle.gb_machine.specs.HostActs.{follows}
-use Rattle.gb_machine.specs.Lists.{Condition, first_met, holds_of, without}
+use Rattle.gb_machine.specs.Lists.{Condition, first_met, holds_of, in_order, sorted, without}
 use Rattle.gb_machine.specs.Members.{Each}
 use Rattle.gb_machine.specs.Names.{bound, freed, named, same_name}
 use Rattle.gb_machine.specs.Requests.{gave_up}
 use Rattle.gb_machine.specs.State.{State}
 use Rattle.gb_machine.specs.Turns.{HostEvent}
+use Rattle.gb_system.proofs.BoundNames.{apart-bound, apart-freed, named-sorted, sorted-bound, sorted-freed}
 use Rattle.gb_system.proofs.Doings.{does-by_state, does-change, does-given}
 use Rattle.gb_system.proofs.Landing.{lands, lands-refused}
+use Rattle.gb_system.proofs.NameCounts.{count-bound, count-freed, length-sorted, made-bound}
+use Rattle.gb_system.proofs.NameCounts.{made-freed, named-asked}
 use Rattle.gb_system.proofs.Standing.{rebussed}
 use Rattle.gb_system.proofs.Turning.{may-end}
 use Rattle.gb_system.specs.Acting.{MayTurn}
 use Rattle.gb_system.specs.Doing.{Does}
-use Rattle.gb_system.specs.Stands.{PartiesStand, PartsStand, PartsStep, held_items}
+use Rattle.gb_system.specs.NameOrder.{AreApart}
+use Rattle.gb_system.specs.Showing.{pair_before}
+use Rattle.gb_system.specs.Stands.{PartiesStand, PartsStand, PartsStep, around_bus, held_items, names_of}
 use Rattle.gb_system.specs.Ticking.{given_up}
 use Rattle.gb_system.specs.declared.parties.Parties.{Parties}
 
 -- what a name names in the state that the parties stand for
+pub named-parts : (x : Parties) (s : State) (name : Name) → PartsStand [] x s
+    → named name s.names ≡ named name x.names
+named-parts x s name st = sym (named-sorted name s.names st.apart) ∙ ap (named name) st.names
+
 pub named-is : (x : Parties) (s : State) (name : Name) → PartiesStand x s
     → named name s.names ≡ named name x.names
-named-is x s name st = ap (named name) st.parts.names
+named-is x s name st = named-parts x s name st.parts
 
--- The parties stand for a state with other names.
-pub renamed : (x : Parties) (s : State) {names : List (Name × ℕ)} (others : List (Name × ℕ))
-    → PartsStand [] x s → others ≡ names
-    → PartsStand [] (record x { names = names }) (record s { names = others })
-renamed x s others st same = record {
-  bus = st.bus;
+-- what it names, where a key is the name
+pub named-as : {key name : Name} (names : List (Name × ℕ)) {o : Option ℕ} → key ≡ name
+    → o ≡ named key names → named name names ≡ o
+named-as names same is = ap (λ n. named n names) (sym same) ∙ sym is
+
+-- The parties stand for a state with other names, and a bus with these.
+renamed : (x : Parties) (s : State) (y : code.Bus) {names : List (Name × ℕ)}
+    (others : List (Name × ℕ)) → PartsStand [] x s
+    → bus.Stands (bus.around_of (held_items s) (map (λ p. p.1) others)) y s.bus
+    → sorted pair_before others ≡ names → AreApart others
+    → PartsStand [] (record x { bus = y; names = names }) (record s { names = others })
+renamed x s y others st stands same apart = record {
+  bus = stands;
   ports = st.ports;
   modules = st.modules;
   host = st.host;
   names = same;
+  apart = apart;
   booted = st.booted;
   sound = st.sound;
   short = st.short;
@@ -58,6 +79,60 @@ renamed x s others st same = record {
   holds = st.holds;
   held = st.held;
 }
+
+-- A name is bound to a request, where it was free, and fewer names were than have a number.
+pub record Binds (old new : List (Name × ℕ)) (name : Name) (n : ℕ) : Type 0 where
+  pub bound : named name old ≡ None → new ≡ in_order pair_before (name, n) old
+  pub room : length old < most_names
+
+-- a request has one more name
+abbrev pub Keeps : code.Bus → code.Bus → ℕ → Type 0
+Keeps old new n = (around : bus.Around) (b : Bus) → bus.Stands around old b
+    → KeepsAs around new n b
+
+-- a request has one name less
+abbrev pub Loosens : code.Bus → code.Bus → ℕ → Type 0
+Loosens old new n = (around : bus.Around) (b : Bus) → bus.Stands around old b
+    → bus.Stands (without_name n around) new b
+
+-- one name more is bound
+pub bound-stand : (x : Parties) (s : State) (y : code.Bus) (names : List (Name × ℕ)) (name : Name)
+    (n : ℕ) → PartsStand [] x s → named name s.names ≡ None → Binds x.names names name n
+    → Keeps x.bus y n → is_some (asked_for (names_of s) n s.bus) ≡ true
+    → PartsStand [] (record x { bus = y; names = names }) (bound name n s)
+bound-stand x s y names name n st free binds keeps asked =
+    renamed x s y (s.names ++ (name, n) ∷ []) st
+    (alike (with_name n (around_bus [] s)) (names_of (bound name n s)) y s.bus
+    (λ m. count-bound m n name s.names)
+    (made-bound n name s.names s.bus with_it.named.0 st.bus.named)
+    with_it)
+    (sorted-bound name n s.names free
+    ∙ ap (in_order pair_before (name, n)) st.names
+    ∙ sym (binds.bound (sym (named-parts x s name st) ∙ free)))
+    (apart-bound name n s.names st.apart free)
+  where
+    room : length (names_of s) < most_names
+    room = subst (λ k. k < most_names)
+        (ap length (sym st.names) ∙ length-sorted s.names) binds.room
+
+    with_it : bus.Stands (with_name n (around_bus [] s)) y s.bus
+    with_it = subst (λ t. bus.Stands (cond t (with_name n (around_bus [] s)) (around_bus [] s)) y
+        s.bus) asked (keeps (around_bus [] s) s.bus st.bus room)
+
+-- a name is free again
+pub freed-stand : (x : Parties) (s : State) (y : code.Bus) (names : List (Name × ℕ)) (name : Name)
+    (n : ℕ) → PartsStand [] x s → named name s.names ≡ Some n
+    → names ≡ without (λ p. same_name p.0 name) x.names → Loosens x.bus y n
+    → PartsStand [] (record x { bus = y; names = names }) (freed name s)
+freed-stand x s y names name n st names_it is loosens =
+    renamed x s y (without (λ p. same_name p.0 name) s.names) st
+    (alike (without_name n (around_bus [] s)) (names_of (freed name s)) y s.bus
+    (λ m. count-freed m n name s.names st.apart names_it)
+    (made-freed (λ p. same_name p.0 name) s.names s.bus st.bus.named)
+    (loosens (around_bus [] s) s.bus st.bus))
+    (sorted-freed (λ p. same_name p.0 name) s.names st.apart
+    ∙ ap (without (λ p. same_name p.0 name)) st.names ∙ sym is)
+    (apart-freed (λ p. same_name p.0 name) s.names st.apart)
 
 -- ---- cancels
 
@@ -104,7 +179,7 @@ named-made (p ∷ ps) name n b made h = by (named-made ps name n b made.1) (same
 -- a request that had ended before
 pub cancel-ended : (x : Parties) (z : code.Bus) (s : State) (name : Name) (n : ℕ)
     (es : List Entry) → PartiesStand x s → named name x.names ≡ Some n
-    → GivesUpNothing (held_items s) z n s.bus → es ≡ entry.Refused why.AlreadyEnded ∷ []
+    → GivesUpNothing (around_bus [] s) z n s.bus → es ≡ entry.Refused why.AlreadyEnded ∷ []
     → PartsStep (record x { bus = z }) s (event.Cancel name) (Ok es)
 cancel-ended x z s name n es st h cancels is =
     let names_it = named-is x s name st ∙ h in
@@ -134,7 +209,7 @@ does-cancels s name n is d =
 -- an open request is given up
 pub cancel-done : (x y : Parties) (z : code.Bus) (s : State) (name : Name) (n : ℕ)
     (before es : List Entry) → PartiesStand x s → named name x.names ≡ Some n
-    → GivesUp (held_items s) z outcome.Cancelled n s.bus → before ≡ entry.Done ∷ []
+    → GivesUp (around_bus [] s) z outcome.Cancelled n s.bus → before ≡ entry.Done ∷ []
     → (PartsStand [] (record x { bus = z }) (given_up n outcome.Cancelled s)
     → MayTurn (HostEvent.Ended n outcome.Cancelled) (given_up n outcome.Cancelled s)
     → Does y (tell (entry.Ended n outcome.Cancelled reading.Nothing) ▸ follows n outcome.Cancelled)
@@ -187,18 +262,22 @@ does-copies s from to n is st =
     (does-given (λ m. change (bound to m)) n is (does-change (bound to n) st))
 
 -- a request gets another name
-pub copy-done : (x y : Parties) (s : State) (from to : Name) (n : ℕ) (es : List Entry)
-    → PartiesStand x s → named from x.names ≡ Some n → is_some (named to x.names) ≡ false
-    → y ≡ record x { names = x.names ++ (to, n) ∷ [] } → es ≡ entry.Done ∷ []
-    → PartsStep y s (event.Copy from to) (Ok es)
-copy-done x y s from to n es st h free same is =
+pub copy-done : (x : Parties) (y : code.Bus) (names : List (Name × ℕ)) (s : State)
+    (from to : Name) (n : ℕ) (es : List Entry) → PartiesStand x s → named from x.names ≡ Some n
+    → is_some (named to x.names) ≡ false
+    → Binds x.names names to n → Keeps x.bus y n → es ≡ entry.Done ∷ []
+    → PartsStep (record x { bus = y; names = names }) s (event.Copy from to) (Ok es)
+copy-done x y names s from to n es st h free binds keeps is =
     let names_it = named-is x s from st ∙ h in
-    lands y s (event.Copy from to) es es
+    let none = none-of (named to x.names) free in
+    let free_there = named-is x s to st ∙ none in
+    lands (record x { bus = y; names = names }) s (event.Copy from to) es es
     (ap (λ o. copy_refusal o (named to s.names)) names_it
-    ∙ ap (copy_refusal (Some n)) (named-is x s to st ∙ none-of (named to x.names) free)) is
+    ∙ ap (copy_refusal (Some n)) free_there) is
     (does-copies s from to n names_it
-    (subst (λ (w : Parties). PartsStand [] w (bound to n s)) (sym same)
-    (renamed x s (bound to n s).names st.parts (ap (λ ns. ns ++ (to, n) ∷ []) st.parts.names))))
+    (bound-stand x s y names to n st.parts free_there binds keeps
+    (named-asked from s.names n s.bus names_it
+    (named-made s.names from n s.bus (reached-names s st.run) names_it))))
 
 -- ---- frees
 
@@ -218,14 +297,13 @@ unfolding machine_opened
 does-frees s name st = does-change (freed name) st
 
 -- the name is free again
-pub forget-done : (x y : Parties) (s : State) (name : Name) (n : ℕ) (es : List Entry)
-    → PartiesStand x s → named name x.names ≡ Some n
-    → y ≡ record x { names = without (λ p. same_name p.0 name) x.names } → es ≡ entry.Done ∷ []
-    → PartsStep y s (event.Forget name) (Ok es)
-forget-done x y s name n es st h same is =
-    lands y s (event.Forget name) es es
+pub forget-done : (x : Parties) (y : code.Bus) (names : List (Name × ℕ)) (s : State)
+    (name : Name) (n : ℕ) (es : List Entry) → PartiesStand x s → named name x.names ≡ Some n
+    → names ≡ without (λ p. same_name p.0 name) x.names → Loosens x.bus y n
+    → es ≡ entry.Done ∷ []
+    → PartsStep (record x { bus = y; names = names }) s (event.Forget name) (Ok es)
+forget-done x y names s name n es st h same loosens is =
+    lands (record x { bus = y; names = names }) s (event.Forget name) es es
     (ap (λ o. first_met ((not (is_some o), why.NoName) ∷ [])) (named-is x s name st ∙ h)) is
     (does-frees s name
-    (subst (λ (w : Parties). PartsStand [] w (freed name s)) (sym same)
-    (renamed x s (freed name s).names st.parts
-    (ap (without (λ (p : Name × ℕ). same_name p.0 name)) st.parts.names))))
+    (freed-stand x s y names name n st.parts (named-is x s name st ∙ h) same loosens))

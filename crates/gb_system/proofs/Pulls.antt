@@ -108,6 +108,7 @@ pulled-stand x t i modules l st is ports = record {
   modules = ap (unplugged i) st.modules ∙ sym is;
   host = st.host;
   names = st.names;
+  apart = st.apart;
   booted = st.booted;
   sound = st.sound;
   short = each-filter IsShort (λ p. not (is_plugged_at i p)) t.modules st.short;

@@ -24,7 +24,7 @@ use Rattle.gb_system.proofs.Doings.{does-is}
 use Rattle.gb_system.proofs.Standing.{rebussed}
 use Rattle.gb_system.specs.Doing.{Does}
 use Rattle.gb_system.specs.Drafts.{IsUpon, end_at, reply_told}
-use Rattle.gb_system.specs.Stands.{PartsStand, held_items}
+use Rattle.gb_system.specs.Stands.{PartsStand, around_bus}
 use Rattle.gb_system.specs.declared.parties.Parties.{Parties}
 
 replies-is : (at : Side) (c : Connection) (q : Incoming) (a : Answer) (s : State)
@@ -68,7 +68,7 @@ pub answered-done : {x : Parties} {s : State} {a b : List Entry} {loose : List L
     (k : ℕ) (at : Side) (asked : Asked) (code : ℕ) (payload : List ℕ) (ends : ℕ × End) (e : Entry)
     (c : Connection) (n : ℕ) → PartsStand loose x s → IsUpon k s.bus c
     → (may : MayReply asked s.bus n) → Some ends ≡ option_map ends_of (connection_of k s.bus)
-    → bus.Stands (held_items s) y (replied k (other_side at) (Reply n code payload) s.bus)
+    → bus.Stands (around_bus [] s) y (replied k (other_side at) (Reply n code payload) s.bus)
     → (asked.kind < 128
     → e ≡ reply_told at ends asked.number asked.label asked.kind code payload)
     → b ≡ a ++ e ∷ []
@@ -84,6 +84,6 @@ answered-done {x} {s} {a} {b} y k at asked code payload ends e c n st live may h
     (told-is at c n code payload r asked ends e may.names.number may.names.label may.names.kind
     (st.sound n r may.made).kind (some-is ends (ends_of c) (option_map ends_of (connection_of k s.bus)) has live.ends) says))
     (rebussed [] y after st
-    (subst (λ j. bus.Stands (held_items s) y
+    (subst (λ j. bus.Stands (around_bus [] s) y
     (replied j (other_side at) (Reply n code payload) s.bus)) (sym same) stands)
     refl)

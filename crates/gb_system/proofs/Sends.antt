@@ -1,5 +1,5 @@
 -- A request of a script goes on a connection, or is refused, as the machine does.
-use Rattle.std.proofs.Common.{◌≡◌, ◌≤◌, ◌<◌, ℕ, ◌+◌, false, Option, Some, None, IsSome, option_map, option_and_then, Ok, Err, List, [], ◌∷◌, ◌++◌, length, refl, sym, ap, ◌∙◌, subst, arith}
+use Rattle.std.proofs.Common.{◌≡◌, ◌≤◌, ◌<◌, ℕ, ◌+◌, nat_lt, true, false, cond, ◌||◌, Option, Some, None, IsSome, is_some, option_map, option_and_then, Ok, Err, List, [], ◌∷◌, ◌++◌, length, refl, sym, ap, ◌∙◌, subst, arith}
 use Rattle.std.proofs.lemmas.Bool.Decides.{nat_tests}
 use Rattle.gb_base.specs.declared.end.End.{End}
 use Rattle.gb_base.specs.declared.end.End.TheVariants as end
@@ -11,30 +11,36 @@ use Rattle.gb_base.specs.declared.name.Name.{Name}
 use Rattle.gb_base.specs.declared.peers.Link.{Link}
 use Rattle.gb_base.specs.declared.refusal.Refusal.{Refusal}
 use Rattle.gb_base.specs.declared.refusal.Refusal.TheVariants as why
+use Rattle.gb_bus.specs.Listing.{count}
+use Rattle.gb_bus.specs.Naming.{asked_for}
 use Rattle.gb_bus.specs.Sending.{label_on}
+use Rattle.gb_bus.specs.declared.bus.Bus as code
 use Rattle.gb_formats.specs.ValidEvents.{IsFar, IsValid}
+use Rattle.gb_invariants.proofs.Awaiting.{sent-awaited, sent-new}
+use Rattle.gb_invariants.specs.Facts.{OutcomesFit}
 use Rattle.gb_machine.proofs.Conditions.{front-unmet, unmet, unrefused}
 use Rattle.gb_machine.proofs.Opened.{machine_opened}
+use Rattle.gb_machine.proofs.Options.{none-of}
 use Rattle.gb_machine.proofs.Steps.{told}
-use Rattle.gb_machine.specs.Actions.{Action, Told, change, given, ◌▸◌}
+use Rattle.gb_machine.specs.Actions.{Action, Told, given}
 use Rattle.gb_machine.specs.Asking.{asks, asks_with}
-use Rattle.gb_machine.specs.Bus.{Bus, Connection, connection_of, next_number}
+use Rattle.gb_machine.specs.Bus.{Bus, Connection, connection_of, next_number, request_of}
 use Rattle.gb_machine.specs.Host.{link_at}
 use Rattle.gb_machine.specs.HostRefusals.{is_kept, send_conditions}
 use Rattle.gb_machine.specs.Labels.{cyclic_label, next_label, no_label}
 use Rattle.gb_machine.specs.LineActions.{ap_draft, sends, sends_on}
 use Rattle.gb_machine.specs.Lists.{Condition, conditions_of, first_met}
-use Rattle.gb_machine.specs.Names.{bound, is_bound}
+use Rattle.gb_machine.specs.Names.{bound, is_bound, named}
 use Rattle.gb_machine.specs.Refusals.{has_no_label, is_long_payload, send_to_conditions}
-use Rattle.gb_machine.specs.Sending.{label_for}
+use Rattle.gb_machine.specs.Sending.{Draft, label_for, sent}
 use Rattle.gb_machine.specs.State.{State}
-use Rattle.gb_system.proofs.Doings.{does-by_state, does-change, does-given, does-is, does-then}
+use Rattle.gb_system.proofs.Doings.{does-by_state, does-given, does-is}
 use Rattle.gb_system.proofs.Landing.{lands, lands-refused}
-use Rattle.gb_system.proofs.NamedRequests.{renamed}
+use Rattle.gb_system.proofs.NamedRequests.{Binds, Keeps, bound-stand}
 use Rattle.gb_system.specs.Acting.{IsAskable}
 use Rattle.gb_system.specs.Doing.{Does}
 use Rattle.gb_system.specs.Sending.{GoesAs, IsWay}
-use Rattle.gb_system.specs.Stands.{PartiesStand, PartsStand, PartsStep}
+use Rattle.gb_system.specs.Stands.{PartiesStand, PartsStand, PartsStep, names_of}
 use Rattle.gb_system.specs.declared.parties.Parties.{Parties}
 use Rattle.gb_system.proofs.Ways.{goes, met-late}
 
@@ -75,41 +81,93 @@ asks-named name n k kind payload deadline s =
     by (Some c) None = refl
     by (Some c) (Some l) = refl
 
--- The name is bound after the request is made, and the machine binds it before.
-does-sends_on : (x y : Parties) (s : State) (name : Name) (n k kind : ℕ) (payload : List ℕ)
-    (timeout deadline : ℕ) {a b : List Entry} → PartsStand [] x s → n ≡ next_number s.bus
-    → deadline ≡ x.time + timeout → Does y (asks (ap_draft k kind payload deadline)) s a b
-    → Does (record y { names = y.names ++ (name, n) ∷ [] }) (sends_on name k kind payload timeout)
-    s a b
+-- A request changes no names.
+asks-names : (k kind : ℕ) (payload : List ℕ) (deadline : ℕ) (s : State)
+    → (asks (ap_draft k kind payload deadline) s).state.names ≡ s.names
 unfolding machine_opened
-does-sends_on x y s name n k kind payload timeout deadline {a} {b} st number wait d =
-    does-by_state binds (does-then
-    (does-change (bound name (next_number s.bus))
-    (renamed x s (bound name (next_number s.bus) s).names st
-    (ap (λ ns. ns ++ (name, next_number s.bus) ∷ []) st.names)))
-    (subst (λ t. Does z (asks (ap_draft k kind payload t)) (bound name (next_number s.bus) s) a b)
-    time (subst (λ m. Does z (asks (ap_draft k kind payload deadline)) (bound name m s) a b) number
-    later)))
+asks-names k kind payload deadline s =
+    by (connection_of k s.bus) (label_for (ap_draft k kind payload deadline) s.bus)
   where
-    z : Parties
-    z = record y { names = y.names ++ (name, n) ∷ [] }
+    by : (o : Option Connection) (p : Option ℕ)
+        → (given o (λ c. given p (λ l. asks_with (ap_draft k kind payload deadline) c l))
+        s).state.names ≡ s.names
+    by None p = refl
+    by (Some c) None = refl
+    by (Some c) (Some l) = refl
 
-    binds : State → Action
-    binds t =
-        change (bound name (next_number t.bus))
-        ▸ asks (ap_draft k kind payload (t.now + timeout))
+-- where an identifier is left, the request gets it
+is-labelled : (k kind : ℕ) (payload : List ℕ) (deadline : ℕ) (b : Bus)
+    → IsSome (next_label k side.Ap b) → IsSome (label_on (ap_draft k kind payload deadline) b)
+is-labelled k kind payload deadline b h = by (connection_of k b) refl
+  where
+    by : (o : Option Connection) → connection_of k b ≡ o
+        → IsSome (option_and_then (λ (c : Connection). next_label k side.Ap b) o)
+    by None e = subst (λ (p : Option Connection).
+        IsSome (option_and_then (cyclic_label k side.Ap b) p)) e h
+    by (Some c) e = h
 
+-- The request is asked for.
+asks-awaited : (k kind : ℕ) (payload : List ℕ) (deadline : ℕ) (s : State) (names : List ℕ)
+    → OutcomesFit s.bus → IsSome (label_on (ap_draft k kind payload deadline) s.bus)
+    → is_some (asked_for names (next_number s.bus)
+    (asks (ap_draft k kind payload deadline) s).state.bus) ≡ true
+unfolding machine_opened
+asks-awaited k kind payload deadline s names fits label =
+    by (connection_of k s.bus) (label_for d s.bus) label
+  where
+    d : Draft
+    d = ap_draft k kind payload deadline
+
+    asked : (l : ℕ) → is_some (asked_for names (next_number s.bus) (sent d l s.bus)) ≡ true
+    asked l =
+        ap (λ t. is_some (cond (t || nat_lt 0 (count (next_number s.bus) names))
+        (request_of (next_number s.bus) (sent d l s.bus)) None)) (sent-awaited d l s.bus fits refl)
+        ∙ ap is_some (sent-new d l s.bus)
+
+    by : (o : Option Connection) (p : Option ℕ) → IsSome (option_and_then (λ c. p) o)
+        → is_some (asked_for names (next_number s.bus)
+        (given o (λ c. given p (λ l. asks_with d c l)) s).state.bus) ≡ true
+    by None p e = absurd cc
+    by (Some c) None e = absurd cc
+    by (Some c) (Some l) e = asked l
+
+-- The machine binds the name before the request is made, which is the same as behind it.
+sends_on-is : (s : State) (name : Name) (k kind : ℕ) (payload : List ℕ) (timeout : ℕ)
+    → sends_on name k kind payload timeout s
+    ≡ told (bound name (next_number s.bus)
+    (asks (ap_draft k kind payload (s.now + timeout)) s).state)
+    (asks (ap_draft k kind payload (s.now + timeout)) s).entries
+unfolding machine_opened
+sends_on-is s name k kind payload timeout =
+    asks-named name (next_number s.bus) k kind payload (s.now + timeout) s
+
+does-sends_on : (x y : Parties) (z : code.Bus) (names : List (Name × ℕ)) (s : State) (name : Name)
+    (n k kind : ℕ) (payload : List ℕ) (timeout deadline : ℕ) {a b : List Entry} → PartsStand [] x s
+    → named name s.names ≡ None → Binds y.names names name n → Keeps y.bus z n
+    → n ≡ next_number s.bus → deadline ≡ x.time + timeout
+    → IsSome (label_on (ap_draft k kind payload deadline) s.bus)
+    → Does y (asks (ap_draft k kind payload deadline)) s a b
+    → Does (record y { bus = z; names = names }) (sends_on name k kind payload timeout) s a b
+does-sends_on x y z names s name n k kind payload timeout deadline {a} {b} st free binds keeps
+    number wait label d =
+    does-is (bound name n after.state) after.entries
+    (sends_on-is s name k kind payload timeout
+    ∙ ap (λ t. told (bound name (next_number s.bus) (asks (ap_draft k kind payload t) s).state)
+    (asks (ap_draft k kind payload t) s).entries) (sym time)
+    ∙ ap (λ m. told (bound name m after.state) after.entries) (sym number)) d.told_is
+    (bound-stand y after.state z names name n d.stand free_there binds keeps
+    (subst (λ m. is_some (asked_for (names_of after.state) m after.state.bus) ≡ true) (sym number)
+    (asks-awaited k kind payload deadline s (names_of after.state) st.bus.facts.fits.outcomes
+    label)))
+  where
     time : deadline ≡ s.now + timeout
     time = wait ∙ sym (ap (λ t. t + timeout) st.time)
 
     after : Told
     after = asks (ap_draft k kind payload deadline) s
 
-    later : Does z (asks (ap_draft k kind payload deadline)) (bound name n s) a b
-    later = does-is (bound name n after.state) after.entries
-        (asks-named name n k kind payload deadline s) d.told_is
-        (renamed y after.state (bound name n after.state).names d.stand
-        (ap (λ ns. ns ++ (name, n) ∷ []) d.stand.names))
+    free_there : named name after.state.names ≡ None
+    free_there = ap (named name) (asks-names k kind payload deadline s) ∙ free
 
 -- by the end
 does-sends : {x : Parties} {s : State} (name : Name) (to : End) (k kind : ℕ) (payload : List ℕ)
@@ -131,17 +189,6 @@ does-sends {x} {s} name (end.Module i c) k kind payload timeout {a} {b} far way 
     by None e = absurd cc
     by (Some l) e = does-given sent l refl
         (subst (λ j. Does x (sends_on name j kind payload timeout) s a b) (cc (e)) d)
-
--- where an identifier is left, the request gets it
-is-labelled : (k kind : ℕ) (payload : List ℕ) (deadline : ℕ) (b : Bus)
-    → IsSome (next_label k side.Ap b) → IsSome (label_on (ap_draft k kind payload deadline) b)
-is-labelled k kind payload deadline b h = by (connection_of k b) refl
-  where
-    by : (o : Option Connection) → connection_of k b ≡ o
-        → IsSome (option_and_then (λ (c : Connection). next_label k side.Ap b) o)
-    by None e = subst (λ (p : Option Connection).
-        IsSome (option_and_then (cyclic_label k side.Ap b) p)) e h
-    by (Some c) e = h
 
 -- the number of a request is there, and is the next one
 is-numbered : (o : Option ℕ) (label : Option ℕ) (n : ℕ) → IsSome label
@@ -201,23 +248,37 @@ fits s name (end.Module i c) kind payload k far g = by (link_at i c s.host) g.wa
     by None e h = absurd cc
     by (Some l) e h = is-short payload (unmet (on_link (Some l)) h).1.0
 
+-- its name is free
+is-free : (s : State) (name : Name) (to : End) (kind : ℕ) (payload : List ℕ) (k : ℕ) → IsFar to
+    → Goes s name to kind payload k → named name s.names ≡ None
+is-free s name end.Svc kind payload k far g =
+    none-of (named name s.names)
+    (unmet (send_to_conditions s name end.Svc kind payload) g.allowed).0
+is-free s name (end.Ap a) kind payload k far g = absurd far
+is-free s name (end.Module i c) kind payload k far g =
+    none-of (named name s.names)
+    (unmet (send_to_conditions s name (end.Module i c) kind payload) g.allowed).0
+
 -- what is known of the answer of a request
 abbrev IsNumber : Parties → ℕ → ℕ → List ℕ → ℕ → Option ℕ → Type 0
 IsNumber x k kind payload deadline o = (t : State) → PartsStand [] x t
     → o ≡ option_map (λ l. next_number t.bus) (label_on (ap_draft k kind payload deadline) t.bus)
 
 -- a request is sent on a connection
-pub sent-on : (x y : Parties) (s : State) (name : Name) (k kind : ℕ) (payload : List ℕ)
-    (timeout deadline : ℕ) (o : Option ℕ) (n : ℕ) {a b : List Entry} → PartsStand [] x s
-    → deadline ≡ x.time + timeout → IsNumber x k kind payload deadline o → o ≡ Some n
+pub sent-on : (x y : Parties) (z : code.Bus) (names : List (Name × ℕ)) (s : State) (name : Name)
+    (k kind : ℕ) (payload : List ℕ) (timeout deadline : ℕ) (o : Option ℕ) (n : ℕ)
+    {a b : List Entry} → PartsStand [] x s → named name s.names ≡ None
+    → Binds y.names names name n → Keeps y.bus z n → deadline ≡ x.time + timeout
+    → IsNumber x k kind payload deadline o → o ≡ Some n
     → IsSome (next_label k side.Ap s.bus)
     → Does y (asks (ap_draft k kind payload deadline)) s a b
-    → Does (record y { names = y.names ++ (name, n) ∷ [] }) (sends_on name k kind payload timeout)
-    s a b
-sent-on x y s name k kind payload timeout deadline o n st wait number is label d =
+    → Does (record y { bus = z; names = names }) (sends_on name k kind payload timeout) s a b
+sent-on x y z names s name k kind payload timeout deadline o n st free binds keeps wait number is
+    label d =
     let next : n ≡ next_number s.bus =
     cc (is, number-is s k kind payload deadline o label (number s st)) in
-    does-sends_on x y s name n k kind payload timeout deadline st next wait d
+    does-sends_on x y z names s name n k kind payload timeout deadline st free binds keeps next wait
+    (is-labelled k kind payload deadline s.bus label) d
 
 -- one whose connection has an identifier left has a number
 pub sent-numbered : (x : Parties) (s : State) (k kind : ℕ) (payload : List ℕ) (deadline : ℕ)
@@ -231,7 +292,7 @@ pub send-done : (x y : Parties) (s : State) (name : Name) (to : End) (kind : ℕ
     (payload : List ℕ) (timeout wait k : ℕ) (before es : List Entry)
     → IsValid (event.Send name to kind payload timeout) → wait ≡ timeout → PartiesStand x s
     → GoesAs s name to kind payload (Ok k) → before ≡ entry.Done ∷ []
-    → ((t : State) → PartsStand [] x t → IsAskable kind payload
+    → ((t : State) → PartsStand [] x t → named name t.names ≡ None → IsAskable kind payload
     → IsSome (next_label k side.Ap t.bus)
     → Does y (sends_on name k kind payload wait) t before es)
     → PartsStep y s (event.Send name to kind payload timeout) (Ok es)
@@ -243,4 +304,5 @@ send-done x y s name to kind payload timeout wait k before es valid same st goes
     lands y s (event.Send name to kind payload timeout) before es g.allowed begun
     (does-sends name to k kind payload timeout far g.way
     (subst (λ d. Does y (sends_on name k kind payload d) s before es) same
-    (sent s st.parts (low, fits s name to kind payload k far g) g.label)))
+    (sent s st.parts (is-free s name to kind payload k far g)
+    (low, fits s name to kind payload k far g) g.label)))

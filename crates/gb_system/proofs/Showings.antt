@@ -5,7 +5,6 @@ use Rattle.gb_base.specs.declared.entry.ConnState.TheVariants as state
 use Rattle.gb_base.specs.declared.entry.Entry.{Entry}
 use Rattle.gb_base.specs.declared.entry.Entry.TheVariants as entry
 use Rattle.gb_base.specs.declared.event.Event.TheVariants as event
-use Rattle.gb_base.specs.declared.name.Name.{Name}
 use Rattle.gb_base.specs.declared.peers.Interface.{Interface}
 use Rattle.gb_base.specs.declared.peers.Link.{Link}
 use Rattle.gb_bus.specs.Telling.{known_of, waiting_of}
@@ -17,7 +16,6 @@ use Rattle.gb_machine.proofs.Opened.{machine_opened}
 use Rattle.gb_machine.specs.Actions.{tell_all}
 use Rattle.gb_machine.specs.Bus.{Connection}
 use Rattle.gb_machine.specs.Host.{Host}
-use Rattle.gb_machine.specs.Lists.{sorted}
 use Rattle.gb_machine.specs.Names.{names_in_order}
 use Rattle.gb_machine.specs.Show.{connection_shown, interface_shown, name_shown, queue_shown, shown, state_of}
 use Rattle.gb_machine.specs.State.{State}
@@ -25,7 +23,7 @@ use Rattle.gb_machine.specs.Waiting.{Queue, queues}
 use Rattle.gb_system.proofs.Doings.{does-by_state, does-tell_all}
 use Rattle.gb_system.proofs.Landing.{lands}
 use Rattle.gb_system.proofs.Midways.{drop-next}
-use Rattle.gb_system.specs.Showing.{known_shown, lines, pair_before, waiting_shown}
+use Rattle.gb_system.specs.Showing.{known_shown, lines, waiting_shown}
 use Rattle.gb_system.specs.Stands.{PartsStand, PartsStep}
 use Rattle.gb_system.specs.declared.parties.Parties.{Parties}
 
@@ -119,17 +117,16 @@ shown-as x s es st is =
 
 -- The lines are told one part after another.
 pub shows : (x : Parties) (s : State) (e0 e1 e2 e3 e4 e5 : List Entry) (text : List ℕ)
-    (known : List Interface) (live : List Known) (waiting : List Waiting) (names : List (Name × ℕ))
-    → PartsStand [] x s
+    (known : List Interface) (live : List Known) (waiting : List Waiting) → PartsStand [] x s
     → e0 ≡ entry.Done ∷ [] → text ≡ now_line x.time → e1 ≡ e0 ++ entry.Shown text ∷ []
     → e2 ≡ e1 ++ lines (map interface_shown known)
     → e3 ≡ e2 ++ lines (map (known_shown (host_of x.host)) live)
     → e4 ≡ e3 ++ lines (map waiting_shown waiting)
-    → e5 ≡ e4 ++ lines (map (name_shown s.bus) names)
+    → e5 ≡ e4 ++ lines (map (name_shown s.bus) x.names)
     → known ≡ s.host.interfaces → live ≡ map known_of s.bus.connections
-    → waiting ≡ map waiting_of (queues s.bus) → names ≡ sorted pair_before x.names
+    → waiting ≡ map waiting_of (queues s.bus)
     → PartsStep x s event.Show (Ok e5)
-shows x s e0 e1 e2 e3 e4 e5 text known live waiting names st i0 it i1 i2 i3 i4 i5 ik il iw iv =
+shows x s e0 e1 e2 e3 e4 e5 text known live waiting st i0 it i1 i2 i3 i4 i5 ik il iw =
     shown-as x s e5 st
     (i5 ∙ ap (λ es. es ++ d) (i4 ∙ ap (λ es. es ++ c) (i3 ∙ ap (λ es. es ++ b)
     (i2 ∙ ap (λ es. es ++ a) (i1 ∙ ap (λ es. es ++ entry.Shown text ∷ []) i0
@@ -137,7 +134,7 @@ shows x s e0 e1 e2 e3 e4 e5 text known live waiting names st i0 it i1 i2 i3 i4 i
     ∙ four-behind (entry.Done ∷ entry.Shown (now_line s.now) ∷ []) a b c d
     ∙ ap (λ es. entry.Done ∷ es) (behind-time s (map interface_shown known)
     (map (known_shown (host_of x.host)) live) (map waiting_shown waiting)
-    (map (name_shown s.bus) names) (ap (map interface_shown) ik) eb ec ed))
+    (map (name_shown s.bus) x.names) (ap (map interface_shown) ik) eb ec ed))
   where
     a : List Entry
     a = lines (map interface_shown known)
@@ -149,7 +146,7 @@ shows x s e0 e1 e2 e3 e4 e5 text known live waiting names st i0 it i1 i2 i3 i4 i
     c = lines (map waiting_shown waiting)
 
     d : List Entry
-    d = lines (map (name_shown s.bus) names)
+    d = lines (map (name_shown s.bus) x.names)
 
     eb : map (known_shown (host_of x.host)) live ≡ map (connection_shown s.host) s.bus.connections
     eb = ap (map (known_shown (host_of x.host))) il
@@ -159,5 +156,5 @@ shows x s e0 e1 e2 e3 e4 e5 text known live waiting names st i0 it i1 i2 i3 i4 i
     ec : map waiting_shown waiting ≡ map queue_shown (queues s.bus)
     ec = ap (map waiting_shown) iw ∙ waiting-lines (queues s.bus)
 
-    ed : map (name_shown s.bus) names ≡ map (name_shown s.bus) (names_in_order s)
-    ed = ap (map (name_shown s.bus)) (iv ∙ ap (sorted pair_before) (sym st.names))
+    ed : map (name_shown s.bus) x.names ≡ map (name_shown s.bus) (names_in_order s)
+    ed = ap (map (name_shown s.bus)) (sym st.names)

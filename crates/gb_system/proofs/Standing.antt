@@ -11,13 +11,16 @@ use Rattle.gb_machine.proofs.Lists.{nth-past, nth-push, nth-push-below, nth-more
 use Rattle.gb_machine.proofs.Steps.{with_bus}
 use Rattle.gb_machine.specs.Bus as machine
 use Rattle.gb_machine.specs.Bus.{Request}
+use Rattle.gb_machine.specs.Holding.{held_on}
 use Rattle.gb_machine.specs.Host as machine_host
 use Rattle.gb_machine.specs.Lists.{nth}
 use Rattle.gb_machine.specs.State.{Held, Past, Port, State}
 use Rattle.gb_switch.specs.Stands as switch
 use Rattle.gb_switch.specs.declared.ladder.Ladder.{Ladder}
-use Rattle.gb_system.specs.Stands.{AreSound, PartsStand, StandForHeld, held_items}
+use Rattle.gb_system.specs.Held.{held_at}
+use Rattle.gb_system.specs.Stands.{AreSound, HeldStand, PartsStand, StandForHeld, around_bus}
 use Rattle.gb_system.specs.declared.held.HeldRequest.{HeldRequest}
+use Rattle.gb_system.specs.declared.held.HeldRequests.{HeldRequests}
 use Rattle.gb_system.specs.declared.parties.Parties.{Parties}
 
 -- the same requests were made
@@ -27,21 +30,21 @@ same-sound b c same sound = λ n r h. sound n r (ap (nth n) (sym same) ∙ h)
 -- The requests of a bus are sound, and those that are held are among them.
 pub record Keeps (x : Parties) (s : State) (b : machine.Bus) : Type 0 where
   pub sound : AreSound b
-  pub held : StandForHeld b.requests x.held s.held
+  pub held : HeldStand b.requests x.held s.held
 
 -- it is so where the same requests were made
 same-keeps : {x : Parties} {s : State} {was : List Loose} (b : machine.Bus) → PartsStand was x s
     → b.requests ≡ s.bus.requests → Keeps x s b
 same-keeps {x} {s} b st same = record {
   sound = same-sound s.bus b same st.sound;
-  held = subst (λ rs. StandForHeld rs x.held s.held) (sym same) st.held;
+  held = subst (λ rs. HeldStand rs x.held s.held) (sym same) st.held;
 }
 
 -- The parties stand for a state with another bus, other power levels, another application processor
 -- and another past.
 pub standing : {x : Parties} {s : State} {was : List Loose} (loose : List Loose) (y : Bus)
     (b : machine.Bus) (v : Ladder) (ports : List Port) (z : Host) (h : machine_host.Host)
-    (past : Past) → PartsStand was x s → bus.Stands (loose ++ held_items s) y b → Keeps x s b
+    (past : Past) → PartsStand was x s → bus.Stands (around_bus loose s) y b → Keeps x s b
     → switch.Stands v ports → host.Stands z h
     → PartsStand loose (record x { bus = y; ladder = v; host = z })
     (record s { bus = b; ports = ports; host = h; past = past })
@@ -51,6 +54,7 @@ standing loose y b v ports z h past st bus_stands keeps ladder_stands host_stand
   modules = st.modules;
   host = host_stands;
   names = st.names;
+  apart = st.apart;
   booted = st.booted;
   sound = keeps.sound;
   short = st.short;
@@ -61,14 +65,14 @@ standing loose y b v ports z h past st bus_stands keeps ladder_stands host_stand
 
 -- The parties stand for a state with another bus, on which these requests were made.
 pub requested-more : {x : Parties} {s : State} {was : List Loose} (loose : List Loose) (y : Bus)
-    (b : machine.Bus) → PartsStand was x s → bus.Stands (loose ++ held_items s) y b → Keeps x s b
+    (b : machine.Bus) → PartsStand was x s → bus.Stands (around_bus loose s) y b → Keeps x s b
     → PartsStand loose (record x { bus = y }) (with_bus b s)
 requested-more {x} {s} loose y b st stands keeps =
     standing loose y b x.ladder s.ports x.host s.host s.past st stands keeps st.ports st.host
 
 -- The parties stand for a state with another bus, on which the same requests were made.
 pub rebussed : {x : Parties} {s : State} {was : List Loose} (loose : List Loose) (y : Bus)
-    (b : machine.Bus) → PartsStand was x s → bus.Stands (loose ++ held_items s) y b
+    (b : machine.Bus) → PartsStand was x s → bus.Stands (around_bus loose s) y b
     → b.requests ≡ s.bus.requests → PartsStand loose (record x { bus = y }) (with_bus b s)
 rebussed loose y b st stands same = requested-more loose y b st stands (same-keeps b st same)
 
@@ -76,7 +80,7 @@ rebussed loose y b st stands same = requested-more loose y b st stands (same-kee
 pub let-gone : {x : Parties} {s : State} (l : Loose) (loose : List Loose)
     → PartsStand (l ∷ loose) x s → PartsStand loose x s
 let-gone {x} {s} l loose st =
-    rebussed loose x.bus s.bus st (let-go l (loose ++ held_items s) x.bus s.bus st.bus) refl
+    rebussed loose x.bus s.bus st (let-go l (around_bus loose s) x.bus s.bus st.bus) refl
 
 -- what holds of all requests and of a new one holds of all of them
 pub each_more : (P : Request → Type 0) (rs : List Request) (q : Request)
@@ -100,7 +104,7 @@ each_more P rs q old new n r h =
             subst P same new
 
 -- requests that are held stay those that were made where one more is made
-pub held-more : (rs : List Request) (q : Request) (xs : List HeldRequest) (hs : List Held)
+held-more : (rs : List Request) (q : Request) (xs : List HeldRequest) (hs : List Held)
     → StandForHeld rs xs hs → StandForHeld (rs ++ q ∷ []) xs hs
 held-more rs q [] [] h = tt
 held-more rs q (x ∷ xs) (y ∷ ys) h =
@@ -108,7 +112,6 @@ held-more rs q (x ∷ xs) (y ∷ ys) h =
       record {
         number = a.number;
         request = a.request;
-        connection = a.connection;
         item_is = a.item_is;
         made = nth-more a.number rs q a.request a.made;
         names = a.names;
@@ -118,6 +121,10 @@ held-more rs q (x ∷ xs) (y ∷ ys) h =
     )
 held-more rs q [] (y ∷ ys) h = absurd h
 held-more rs q (x ∷ xs) [] h = absurd h
+
+pub held-stand-more : (rs : List Request) (q : Request) (x : HeldRequests) (hs : List Held)
+    → HeldStand rs x hs → HeldStand (rs ++ q ∷ []) x hs
+held-stand-more rs q x hs h = λ k. held-more rs q (held_at x k) (held_on k hs) (h k)
 
 -- The parties stand for a state with another application processor.
 pub rehosted : {x : Parties} {s : State} {loose : List Loose} (y : Host) (h : machine_host.Host)

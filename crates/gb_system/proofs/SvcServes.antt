@@ -28,7 +28,7 @@ use Rattle.gb_system.specs.Deciding.{Decides, DoesBehind, DoesThis, action_of, a
 use Rattle.gb_system.specs.Doing.{Does}
 use Rattle.gb_system.specs.Drafts.{IsUpon}
 use Rattle.gb_system.specs.Serving.{IsDelivered, only}
-use Rattle.gb_system.specs.Stands.{PartsStand, held_items}
+use Rattle.gb_system.specs.Stands.{PartsStand, around_bus}
 use Rattle.gb_system.specs.declared.deciding.Behind.{Behind}
 use Rattle.gb_system.specs.declared.deciding.Behind.TheVariants as behind
 use Rattle.gb_system.specs.declared.deciding.Decision.{Decision}
@@ -41,7 +41,7 @@ unfolding machine_opened
 wires-is k s = refl
 
 pub wire-done : {x : Parties} {s : State} {a : List Entry} (y : Bus) (k : ℕ) → PartsStand [] x s
-    → bus.Stands (held_items s) y (wired k s.bus) → Does (record x { bus = y }) (wires k) s a a
+    → bus.Stands (around_bus [] s) y (wired k s.bus) → Does (record x { bus = y }) (wires k) s a a
 wire-done {x} {s} {a} y k st stands =
     does-is (with_wired k s) [] (wires-is k s) (sym (append-nil a))
     (repast (with_wired k s).past (rebussed [] y (wired k s.bus) st stands

@@ -12,7 +12,7 @@ use Rattle.gb_bus.specs.declared.bus.Bus.{Bus}
 use Rattle.gb_host.specs.Stands as host
 use Rattle.gb_host.specs.declared.host.Host.{Host}
 use Rattle.gb_invariants.proofs.Awaiting.{same-some}
-use Rattle.gb_invariants.specs.Facts.{Loose}
+use Rattle.gb_bus.specs.Stands.{Around}
 use Rattle.gb_laws.proofs.Places.{place-is}
 use Rattle.gb_machine.specs.Arriving.{link_takes, takes}
 use Rattle.gb_machine.specs.Bus as machine
@@ -51,10 +51,10 @@ module-takes at i c taken mods s p is of same there =
 -- ---- the application processor
 
 -- it takes by the state of its connection
-pub ap-taken : (loose : List Loose) (at : End) (o : Option ℕ) (k : ℕ)
+pub ap-taken : (around : Around) (at : End) (o : Option ℕ) (k : ℕ)
     (stage : Option ConnState) (taken : Bool) (x : Host) (y : Bus) (s : State) (p : Place)
-    → bus.Stands loose y s.bus → host.Stands x s.host
-    → ((l : List Loose) (d : machine.Bus) → bus.Stands l y d
+    → bus.Stands around y s.bus → host.Stands x s.host
+    → ((l : Around) (d : machine.Bus) → bus.Stands l y d
     → o ≡ option_map number_of (place_of at d.connections))
     → o ≡ Some k
     → ((h : machine_host.Host) → host.Stands x h
@@ -62,7 +62,7 @@ pub ap-taken : (loose : List Loose) (at : End) (o : Option ℕ) (k : ℕ)
     → ((o : Option Link) → stage ≡ option_map (λ (l : Link). l.state) o → taken ≡ link_takes o)
     → place_of at s.bus.connections ≡ Some p → side.Ap ≡ p.side
     → taken ≡ takes p.side p.connection s
-ap-taken loose at o k stage taken x y s p stands knows named is stages takes_it there ap_side =
+ap-taken around at o k stage taken x y s p stands knows named is stages takes_it there ap_side =
     subst (λ (t : Side). taken ≡ takes t p.connection s) ap_side
     (takes_it (link_of k s.host) (stages s.host knows)
     ∙ ap (λ j. link_takes (link_of j s.host)) (sym number))
@@ -70,15 +70,15 @@ ap-taken loose at o k stage taken x y s p stands knows named is stages takes_it 
     number : p.connection.number ≡ k
     number =
         let same : Some p.connection.number ≡ Some k =
-        sym (ap (option_map number_of) there) ∙ sym (named loose s.bus stands) ∙ is in
+        sym (ap (option_map number_of) there) ∙ sym (named around s.bus stands) ∙ is in
         same-some p.connection.number k same
 
 -- a place is named
-pub ap-named : (loose : List Loose) (at : End) (o : Option ℕ) (taken : Bool) (y : Bus) (s : State)
-    (p : Place) → bus.Stands loose y s.bus
-    → ((l : List Loose) (d : machine.Bus) → bus.Stands l y d
+pub ap-named : (around : Around) (at : End) (o : Option ℕ) (taken : Bool) (y : Bus) (s : State)
+    (p : Place) → bus.Stands around y s.bus
+    → ((l : Around) (d : machine.Bus) → bus.Stands l y d
     → o ≡ option_map number_of (place_of at d.connections))
     → o ≡ None → place_of at s.bus.connections ≡ Some p → taken ≡ takes p.side p.connection s
-ap-named loose at o taken y s p stands named is there =
+ap-named around at o taken y s p stands named is there =
     absurd (let none : Some p.connection.number ≡ None =
-    sym (ap (option_map number_of) there) ∙ sym (named loose s.bus stands) ∙ is in cc)
+    sym (ap (option_map number_of) there) ∙ sym (named around s.bus stands) ∙ is in cc)

@@ -32,7 +32,7 @@ use Rattle.gb_system.proofs.Standing.{rebussed}
 use Rattle.gb_system.proofs.Turning.{may-end}
 use Rattle.gb_system.specs.Acting.{MayTurn}
 use Rattle.gb_system.specs.Doing.{Does}
-use Rattle.gb_system.specs.Stands.{PartsStand, PartsStep, held_items}
+use Rattle.gb_system.specs.Stands.{PartsStand, PartsStep, around_bus}
 use Rattle.gb_system.specs.Ticking.{MayTimeOut, given_up}
 use Rattle.gb_system.specs.declared.parties.Parties.{Parties}
 
@@ -41,7 +41,7 @@ use Rattle.gb_system.specs.declared.parties.Parties.{Parties}
 -- it is given up, and told
 pub time-out : {x : Parties} (y : Parties) (z : code.Bus) (s : State) (n : ℕ)
     (r : Result Unit AlreadyEnded) {a b : List Entry} → PartsStand [] x s → MayTimeOut n s
-    → GivesUpAs (held_items s) z outcome.Timeout n s.bus r → is_ok r ≡ true
+    → GivesUpAs (around_bus [] s) z outcome.Timeout n s.bus r → is_ok r ≡ true
     → ((t : State) → PartsStand [] (record x { bus = z }) t
     → MayTurn (HostEvent.Ended n outcome.Timeout) t
     → Does y (tell (entry.Ended n outcome.Timeout reading.Nothing) ▸ follows n outcome.Timeout) t
@@ -56,7 +56,7 @@ time-out y z s n (Err fault) st may gives ok ends = absurd cc
 -- one that is open doesn't stay
 pub time-kept : {x : Parties} (s : State) (n : ℕ) (r : Result Unit AlreadyEnded)
     (z : code.Bus) {a b : List Entry} → MayTimeOut n s
-    → GivesUpAs (held_items s) z outcome.Timeout n s.bus r → is_ok r ≡ false
+    → GivesUpAs (around_bus [] s) z outcome.Timeout n s.bus r → is_ok r ≡ false
     → Does x (gives_up outcome.Timeout n) s a b
 time-kept s n (Ok done) z may gives ok = absurd cc
 time-kept s n (Err fault) z may gives ok =
@@ -85,6 +85,7 @@ later-stand {x} {s} millis time st is = record {
   modules = st.modules;
   host = st.host;
   names = st.names;
+  apart = st.apart;
   booted = st.booted;
   sound = st.sound;
   short = st.short;

@@ -1,5 +1,5 @@
 -- On which connection a request of a script goes, and when it is refused.
-use Rattle.std.proofs.Common.{◌≡◌, ◌≤◌, ℕ, Bool, true, false, cond, Option, Some, None, is_some, is_none, IsSome, option_map, Ok, Err, List, [], ◌∷◌, ◌++◌, append_assoc, length, refl, sym, ap, ◌∙◌, arith}
+use Rattle.std.proofs.Common.{◌≡◌, ◌≤◌, ◌<◌, ℕ, Bool, true, false, cond, Option, Some, None, is_some, is_none, IsSome, option_map, Ok, Err, List, [], ◌∷◌, ◌++◌, append_assoc, length, refl, sym, ap, ◌∙◌, arith}
 use Rattle.std.specs.Bool.{⊤}
 use Rattle.std.proofs.lemmas.Bool.Decides.{nat_tests}
 use Rattle.gb_base.specs.declared.end.End.{End}
@@ -146,6 +146,16 @@ late-name x s name to kind payload st free =
     (first_met (way_conditions to kind s.host ++ rest_to s to payload)))
     (ap is_some (named-is x s name st) ∙ free)
 
+-- the name isn't free
+pub goes-occupied : (x : Parties) (s : State) (name : Name) (to : End) (kind : ℕ)
+    (payload : List ℕ) → PartiesStand x s → is_some (named name x.names) ≡ true
+    → GoesAs s name to kind payload (Err why.Occupied)
+goes-occupied x s name to kind payload st taken =
+    goes-by s name to kind payload why.Occupied (λ out.
+    ap (λ b. cond b (Some why.Occupied)
+    (first_met (way_conditions to kind s.host ++ rest_to s to payload)))
+    (ap is_some (named-is x s name st) ∙ taken))
+
 -- there is no way
 pub goes-nowhere : (x : Parties) (s : State) (name : Name) (to : End) (kind : ℕ)
     (payload : List ℕ) (why : Refusal) → PartiesStand x s
@@ -176,6 +186,31 @@ late-label : (payload : List ℕ) (b : Bus) (k : ℕ) → length payload ≤ 204
 late-label payload b k short =
     ap (λ t. first_met ((t, why.TooLarge)
     ∷ (is_none (next_label k side.Ap b), no_label) ∷ [])) (short-is payload short)
+
+long-is : (payload : List ℕ) → 2040 < length payload → is_long_payload payload ≡ true
+long-is payload h = grind (arith, nat_tests, h)
+
+-- the payload is too long
+pub goes-long : (x : Parties) (s : State) (name : Name) (to : End) (kind : ℕ) (payload : List ℕ)
+    (k : ℕ) → PartiesStand x s → is_some (named name x.names) ≡ false
+    → LeadsAs s.host to kind (Ok k) → 2040 < length payload
+    → GoesAs s name to kind payload (Err why.TooLarge)
+goes-long x s name to kind payload k st free is long =
+    goes-by s name to kind payload why.TooLarge (λ out.
+    late-way x s name to kind payload k st free is out
+    ∙ ap (λ t. first_met ((t, why.TooLarge)
+    ∷ (is_none (next_label k side.Ap s.bus), no_label) ∷ [])) (long-is payload long))
+
+-- no identifier is left
+pub goes-spent : (x : Parties) (s : State) (name : Name) (to : End) (kind : ℕ) (payload : List ℕ)
+    (k : ℕ) (spent : Bool) → PartiesStand x s → is_some (named name x.names) ≡ false
+    → LeadsAs s.host to kind (Ok k) → length payload ≤ 2040
+    → spent ≡ is_none (next_label k side.Ap s.bus) → spent ≡ true
+    → GoesAs s name to kind payload (Err why.NoLabel)
+goes-spent x s name to kind payload k spent st free is short by it =
+    goes-by s name to kind payload why.NoLabel (λ out.
+    late-way x s name to kind payload k st free is out ∙ late-label payload s.bus k short
+    ∙ ap (λ t. first_met ((t, no_label) ∷ [])) (sym by ∙ it))
 
 -- what is there
 pub is-there : {A : Type 0} (o : Option A) → is_none o ≡ false → IsSome o

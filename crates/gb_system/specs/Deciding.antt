@@ -2,7 +2,6 @@
 use Rattle.std.specs.Prelude.{◌≡◌, List, []}
 use Rattle.gb_bus.specs.Stands as bus
 use Rattle.gb_bus.specs.declared.bus.Bus.{Bus}
-use Rattle.gb_invariants.specs.Facts.{Loose}
 use Rattle.gb_machine.specs.Actions.{Action, nothing}
 use Rattle.gb_machine.specs.Responding.{Response}
 use Rattle.gb_machine.specs.Serving.{Answer, answer}
@@ -15,8 +14,8 @@ use Rattle.gb_system.specs.declared.deciding.Behind.TheVariants as behind
 use Rattle.gb_system.specs.declared.deciding.Decision.{Decision}
 
 -- A bus, with these items in no queue, and a ladder stand for their parts of a state.
-pub record BusAndPorts (loose : List Loose) (x : Bus) (y : Ladder) (s : State) : Type 0 where
-  pub bus : bus.Stands loose x s.bus
+pub record BusAndPorts (around : bus.Around) (x : Bus) (y : Ladder) (s : State) : Type 0 where
+  pub bus : bus.Stands around x s.bus
   pub ports : switch.Stands y s.ports
 
 -- the answer of a decision

@@ -1,29 +1,51 @@
--- The list of the requests that are held.
-use Rattle.std.specs.Prelude.{◌≡◌, ℕ, ◌+◌, ◌-◌, ◌==◌, Bool, if◌then◌else◌, Option, Some, None, List, [], ◌∷◌, get_or}
-use Rattle.std.specs.List.{remove}
+-- Hold marks, and the requests that are held.
+use Rattle.std.specs.Prelude.{◌≡◌, ◌≢◌, ◌<◌, ℕ, ◌-◌, ◌==◌, Bool, Option, Some, None, List, [], length}
+use Rattle.std.specs.BTreeMap.{get}
+use Rattle.std.specs.List.{list_any, remove}
+use Rattle.std.specs.Ordering.{nat_cmp}
+use Rattle.std.specs.declared.collections.VecDeque.{VecDeque}
+use Rattle.gb_machine.specs.Lists.{nth}
 use Rattle.gb_system.specs.declared.held.HeldRequest.{HeldRequest}
+use Rattle.gb_system.specs.declared.held.HeldRequests.{HeldRequests}
 
--- a request is held on a connection
-abbrev pub is_on : ℕ → HeldRequest → Bool
-is_on k h = h.connection == k
+-- ---- marks
 
--- where the one at a place, from 1, among those of a connection stands, the first of the list
--- standing at n
-abbrev pub index_from : ℕ → ℕ → ℕ → List HeldRequest → Option ℕ
-index_from n k place [] = None
-index_from n k place (h ∷ hs) =
-    let behind = index_from (n + 1) k (place - 1) hs in
-    let past = index_from (n + 1) k place hs in
-    if is_on k h then (if place == 1 then Some n else behind) else past
+-- a connection is among those with the mark
+abbrev pub is_marked : ℕ → List ℕ → Bool
+is_marked k marks = list_any (λ j. j == k) marks
 
--- the request that stands at i is taken
-pub record Takes (old new : List HeldRequest) (k place : ℕ) (taken : HeldRequest) : Type 0 where
-  pub i : ℕ
-  pub first : index_from 0 k place old ≡ Some i
-  pub taken_is : taken ≡ get_or old i taken
-  pub rest : new ≡ remove old i
+-- a connection has the mark or hasn't, and the others have it as before
+pub record MarksAs (old new : List ℕ) (k : ℕ) (mark : Bool) : Type 0 where
+  pub here : is_marked k new ≡ mark
+  pub others : (j : ℕ) → j ≢ k → is_marked j new ≡ is_marked j old
+
+-- ---- requests
+
+-- the requests of a list, none where there is no list
+abbrev pub requests_of : {A : Type 0} → Option (VecDeque HeldRequest A) → List HeldRequest
+requests_of None = []
+requests_of (Some requests) = requests.items
+
+-- the requests that are held on a connection, the oldest first
+abbrev pub held_at : HeldRequests → ℕ → List HeldRequest
+held_at x k = requests_of (get nat_cmp x.held k)
+
+-- on a connection these are held, and on the others what was held
+pub record HoldsAs (old new : HeldRequests) (k : ℕ) (requests : List HeldRequest) : Type 0 where
+  pub here : held_at new k ≡ requests
+  pub others : (j : ℕ) → j ≢ k → held_at new j ≡ held_at old j
+
+-- the request at a place is taken
+pub record Takes (old new : HeldRequests) (k place : ℕ) (taken : HeldRequest) : Type 0 where
+  pub there : nth place (held_at old k) ≡ Some taken
+  pub rest : HoldsAs old new k (remove (held_at old k) (place - 1))
+
+-- fewer are held, and none is taken
+pub record TakesNone (old new : HeldRequests) (k place : ℕ) : Type 0 where
+  pub fewer : length (held_at old k) < place
+  pub same : (j : ℕ) → held_at new j ≡ held_at old j
 
 -- By cases on what is taken.
-abbrev pub TakesAs : List HeldRequest → List HeldRequest → ℕ → ℕ → Option HeldRequest → Type 0
-TakesAs old new k place None = (index_from 0 k place old ≡ None) × (new ≡ old)
+abbrev pub TakesAs : HeldRequests → HeldRequests → ℕ → ℕ → Option HeldRequest → Type 0
+TakesAs old new k place None = TakesNone old new k place
 TakesAs old new k place (Some taken) = Takes old new k place taken

@@ -36,10 +36,11 @@ AsksAt at old new k asked payload before told =
     → Does new (asked_at (side_of at) c (Ask n) (incoming n d.request)) s before told
 
 -- A request that was held at an end is served or dropped as the machine does.
-abbrev pub ServesHeldAt : End → Parties → Parties → HeldRequest → List Entry → List Entry → Type 0
-ServesHeldAt at old new h before told =
+abbrev pub ServesHeldAt : End → Parties → Parties → ℕ → HeldRequest → List Entry → List Entry
+    → Type 0
+ServesHeldAt at old new k h before told =
     (s : State) (p : Place) (n : ℕ)
-    → (d : IsDelivered at h.connection h.asked h.payload s p.connection n)
-    → PartsStand (only h.connection (side_of at) n) old s
+    → (d : IsDelivered at k h.asked h.payload s p.connection n)
+    → PartsStand (only k (side_of at) n) old s
     → place_of at s.bus.connections ≡ Some p → side_of at ≡ p.side → p.side ≡ side.Far
     → Does new (serves_held p (Ask n)) s before told

@@ -6,6 +6,8 @@ pub mod Doing
 pub mod Drafts
 pub mod Held
 pub mod Holding
+pub mod NameOrder
+pub mod Outcomes
 pub mod Plugging
 pub mod Sending
 pub mod Serving

@@ -12,12 +12,17 @@ use Rattle.gb_host.specs.Stands as host
 use Rattle.gb_machine.specs.Bus as machine
 use Rattle.gb_machine.specs.Bus.{Request, request_of}
 use Rattle.gb_machine.specs.Events.{step}
+use Rattle.gb_machine.specs.Holding.{held_on}
 use Rattle.gb_machine.specs.Lists.{nth}
 use Rattle.gb_machine.specs.Members.{Each}
+use Rattle.gb_machine.specs.Names.{names_in_order}
 use Rattle.gb_machine.specs.Reached.{OfARun}
 use Rattle.gb_machine.specs.State.{Held, Plugged, State}
 use Rattle.gb_switch.specs.Stands as switch
+use Rattle.gb_system.specs.Held.{held_at, is_marked}
+use Rattle.gb_system.specs.NameOrder.{AreApart}
 use Rattle.gb_system.specs.declared.held.HeldRequest.{HeldRequest}
+use Rattle.gb_system.specs.declared.held.HeldRequests.{HeldRequests}
 use Rattle.gb_system.specs.declared.parties.Parties.{Parties}
 use Rattle.gb_system.specs.declared.system.System.{System}
 
@@ -31,11 +36,18 @@ held_item h = taken_from h.connection side.Far h.item
 abbrev pub held_items : State → List Loose
 held_items s = map held_item s.held
 
+-- the requests that names name, one for each name
+abbrev pub names_of : State → List ℕ
+names_of s = map (λ p. p.1) s.names
+
+-- what there is of requests outside of the bus: these items, the held requests, and the names
+abbrev pub around_bus : List Loose → State → bus.Around
+around_bus loose s = bus.around_of (loose ++ held_items s) (names_of s)
+
 -- a held request is one that was made: its number, identifier, type and payload
 pub record StandsForHeld (requests : List Request) (x : HeldRequest) (h : Held) : Type 0 where
   pub number : ℕ
   pub request : Request
-  pub connection : x.connection ≡ h.connection
   pub item_is : h.item ≡ machine.Ask number
   pub made : nth number requests ≡ Some request
   pub names : Names x.asked number request
@@ -47,6 +59,10 @@ StandForHeld requests [] [] = ⊤
 StandForHeld requests (x ∷ xs) (h ∷ hs) = StandsForHeld requests x h × StandForHeld requests xs hs
 StandForHeld requests [] (h ∷ hs) = ⊥
 StandForHeld requests (x ∷ xs) [] = ⊥
+
+-- those of each connection stand for the machine's there
+abbrev pub HeldStand : List Request → HeldRequests → List Held → Type 0
+HeldStand requests x hs = (k : ℕ) → StandForHeld requests (held_at x k) (held_on k hs)
 
 -- A request has a type that a request can have, has an identifier exactly where it gets a reply, and
 -- gets one where the application processor made it.
@@ -66,17 +82,18 @@ IsShort p = length p.body.manifest ≤ most_payload
 -- The parties stand for this state, part by part, with these items in no queue besides those that
 -- are held. What the past was is no matter of theirs.
 pub record PartsStand (loose : List Loose) (x : Parties) (s : State) : Type 0 where
-  pub bus : bus.Stands (loose ++ held_items s) x.bus s.bus
+  pub bus : bus.Stands (around_bus loose s) x.bus s.bus
   pub ports : switch.Stands x.ladder s.ports
   pub modules : s.modules ≡ x.modules
   pub host : host.Stands x.host s.host
-  pub names : s.names ≡ x.names
+  pub names : names_in_order s ≡ x.names
+  pub apart : AreApart s.names
   pub booted : s.booted ≡ x.booted
   pub sound : AreSound s.bus
   pub short : Each IsShort s.modules
   pub time : s.now ≡ x.time
-  pub holds : s.holds ≡ x.holds
-  pub held : StandForHeld s.bus.requests x.held s.held
+  pub holds : (k : ℕ) → is_marked k s.holds ≡ is_marked k x.holds
+  pub held : HeldStand s.bus.requests x.held s.held
 
 -- The parties stand for a state that some run of valid events leads to.
 pub record PartiesStand (x : Parties) (s : State) : Type 0 where

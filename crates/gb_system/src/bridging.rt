@@ -10,6 +10,7 @@ ghost use Rattle.gb_system.specs.Stands.{PartiesStand, PartsStep};
 
 use crate::asking::DEFAULT_TIMEOUT;
 use crate::entries::{begun, refused};
+use crate::key::Key;
 use crate::message::LONGEST_PAYLOAD;
 use crate::parties::Parties;
 use gb_base::{BridgeAsk, Bridged, Entries, Name, OutOfMemory, Refusal, Side};
@@ -37,8 +38,9 @@ impl Parties {
         ensures step { (s : State) → PartiesStand self.old s
             → PartsStep self.new s (event.Bridge name.now intf cport ask.now) result }
     {
+        let name = Key::of(name)?;
         let mut room = vec![in self.alloc; 0u8; LONGEST_PAYLOAD]?;
-        let way = self.bridge_way(name, intf, cport, ask, room.as_mut_slice());
+        let way = self.bridge_way(&name, intf, cport, ask, room.as_mut_slice());
         let Bridging {
             connection,
             request,
@@ -63,7 +65,7 @@ impl Parties {
     /// The request of a bridge line, with its payload at the front of `room`, or why it isn't sent.
     fn bridge_way(
         &self,
-        name: &Name,
+        name: &Key,
         intf: u8,
         cport: u16,
         ask: &BridgeAsk,

@@ -1,7 +1,7 @@
 //! What the supervisory controller decides on a request: its table, and what connections decide.
 
 ghost use Rattle.std.specs.Prelude.{◌≡◌, List, []};
-ghost use Rattle.gb_invariants.specs.Facts.{Loose};
+ghost use Rattle.gb_bus.specs.Stands.{Around};
 ghost use Rattle.gb_machine.specs.Responding.{creates, destroys, svc_stepped, unroutes};
 ghost use Rattle.gb_machine.specs.Serving.{plainly, success};
 ghost use Rattle.gb_machine.specs.State.{State};
@@ -50,7 +50,7 @@ pub enum Behind {
 /// Decides on a request by the table of the supervisory controller. Connections decide whether one
 /// is wired or unwired, and whether an interface loses its route.
 pub fn decide(bus: &Bus, ladder: &mut Ladder, kind: u8, payload: &[u8]) -> Decision
-    ensures step { (loose : List Loose) (s : State) → BusAndPorts loose bus.now ladder.old s
+    ensures step { (around : Around) (s : State) → BusAndPorts around bus.now ladder.old s
         → Decides ladder.new s (svc_stepped (svc_step s.ports kind payload.now) s) result }
 {
     match gb_svc::serve(ladder, kind, payload) {
@@ -67,8 +67,8 @@ pub fn decide(bus: &Bus, ladder: &mut Ladder, kind: u8, payload: &[u8]) -> Decis
 
 /// A connection is wired where it is there and isn't wired.
 fn create(bus: &Bus, ap: u16, intf: u8, cport: u16) -> Decision
-    ensures step { (loose : List Loose) (s : State) (x : switch.Ladder)
-        → BusAndPorts loose bus.now x s
+    ensures step { (around : Around) (s : State) (x : switch.Ladder)
+        → BusAndPorts around bus.now x s
         → Decides x s (creates (joining ap intf cport s.bus)) result }
 {
     let Some(connection) = bus.live(ap, intf, cport) else {
@@ -82,8 +82,8 @@ fn create(bus: &Bus, ap: u16, intf: u8, cport: u16) -> Decision
 
 /// A connection is unwired where it is wired.
 fn destroy(bus: &Bus, ap: u16, intf: u8, cport: u16) -> Decision
-    ensures step { (loose : List Loose) (s : State) (x : switch.Ladder)
-        → BusAndPorts loose bus.now x s
+    ensures step { (around : Around) (s : State) (x : switch.Ladder)
+        → BusAndPorts around bus.now x s
         → Decides x s (destroys (joining ap intf cport s.bus)) result }
 {
     let Some(connection) = bus.live(ap, intf, cport) else {
@@ -97,7 +97,7 @@ fn destroy(bus: &Bus, ap: u16, intf: u8, cport: u16) -> Decision
 
 /// An interface that is routed loses its route where no connection is wired to it.
 fn unroute(bus: &Bus, ladder: &mut Ladder, intf: u8) -> Decision
-    ensures step { (loose : List Loose) (s : State) → BusAndPorts loose bus.now ladder.old s
+    ensures step { (around : Around) (s : State) → BusAndPorts around bus.now ladder.old s
         → level_of intf s.ports ≡ 6 → Decides ladder.new s
         (unroutes (list_any (is_wired_to intf) s.bus.connections) intf s.ports) result }
 {

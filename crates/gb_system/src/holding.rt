@@ -46,7 +46,7 @@ impl Parties {
             return Ok(refused(self.alloc, Refusal::NotHeld)?);
         };
         let mut told = begun(self.alloc)?;
-        self.serve_held(End::Module { intf, cport }, &request, &mut told)?;
+        self.serve_held(connection, End::Module { intf, cport }, &request, &mut told)?;
         Ok(told)
     }
 
@@ -64,11 +64,7 @@ impl Parties {
             (AsksAt at self.old self.new connection asked payload told.old told.new) }
     {
         if self.is_held(connection, at) {
-            self.held.push(HeldRequest {
-                connection,
-                asked,
-                payload,
-            })?;
+            self.held.push(connection, HeldRequest { asked, payload })?;
             told.push(Entry::Held {
                 number: asked.number,
             })?;
@@ -78,19 +74,21 @@ impl Parties {
         Ok(())
     }
 
-    /// Serves a request that was held at an end, or drops it where the end takes nothing.
+    /// Serves a request that was held on a connection, at an end, or drops it where the end takes
+    /// nothing.
     fn serve_held(
         &mut self,
+        connection: u64,
         at: End,
         request: &HeldRequest,
         told: &mut Entries,
     ) -> Result<(), OutOfMemory>
         ensures step { OnOk result
-            (ServesHeldAt at self.old self.new request.now told.old told.new) }
+            (ServesHeldAt at self.old self.new connection request.now told.old told.new) }
     {
         if self.takes(at) {
             let payload = request.payload.items();
-            self.serve(request.connection, at, &request.asked, payload, told)?;
+            self.serve(connection, at, &request.asked, payload, told)?;
             return Ok(());
         }
         told.push(Entry::Dropped {

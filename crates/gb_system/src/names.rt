@@ -1,26 +1,35 @@
 //! The names of requests.
 
-ghost use Rattle.std.specs.Prelude.{◌≡◌, [], ◌∷◌, ◌++◌, OnOk, OnErr};
-ghost use Rattle.gb_machine.specs.Lists.{without};
+ghost use Rattle.std.specs.Prelude.{◌≡◌, ◌<◌, None, [], OnOk, OnErr, length};
+ghost use Rattle.gb_machine.specs.Lists.{in_order, without};
 ghost use Rattle.gb_machine.specs.Names.{named, same_name};
+ghost use Rattle.gb_system.specs.Showing.{pair_before};
 
-use gb_base::{Name, OutOfMemory};
+use crate::key::Key;
+use gb_base::OutOfMemory;
 use std::alloc::Global;
+use std::collections::BTreeMap;
+use std::collections::btree_map::Iter;
 use std::marker::Model;
 
-/// The names that are bound, in the order in which they were, each with its request.
+/// The names that are bound, each with its request. A contract sees them in order of requester and
+/// word.
 #[derive(Drop)]
 pub struct Names {
-    bound: Vec<(Name, u64)>,
+    bound: BTreeMap<Key, u64>,
 }
 
 impl Model for Names {
     ghost use Rattle.std.specs.Prelude.{ℕ, List};
+    ghost use Rattle.std.specs.BTreeMap.{IsOrdered};
     ghost use Rattle.gb_base.specs.declared.name.Name.{Name};
+    ghost use Rattle.gb_system.specs.NameOrder.{name_cmp};
 
     ghost Value = { List (Name × ℕ) };
 
-    ghost view = { λ n. n.bound.items };
+    ghost view = { λ n. n.bound.entries };
+
+    ghost invariant = { λ n. IsOrdered name_cmp n.bound };
 }
 
 impl Names {
@@ -29,42 +38,43 @@ impl Names {
         ensures { result ≡ [] }
     {
         Names {
-            bound: Vec::new(alloc),
+            bound: BTreeMap::new(alloc),
         }
     }
 
-    /// The names in the order in which they were bound, each with its request.
-    pub fn items(&self) -> &[(Name, u64)]
-        ensures { result.now ≡ self.now }
+    /// The names in order, each with its request.
+    pub fn iter(&self) -> Iter<'_, Key, u64>
+        ensures { result ≡ self.now }
     {
-        self.bound.as_slice()
+        self.bound.iter()
     }
 
     /// The request that a name names, None where the name is free.
-    pub fn get(&self, name: &Name) -> Option<u64>
+    pub fn get(&self, name: &Key) -> Option<u64>
         ensures { result ≡ named name.now self.now }
     {
-        for (bound, number) in &self.bound {
-            if bound == name {
-                return Some(*number);
-            }
-        }
-        None
+        self.bound.get(name).copied()
     }
 
-    /// Binds a free name.
-    pub fn bind(&mut self, name: Name, number: u64) -> Result<(), OutOfMemory>
-        ensures ok { OnOk result (self.new ≡ self.old ++ (name, number) ∷ []) }
+    /// Binds a free name. After want of memory all is as before. It also comes where so many names
+    /// are bound that one more would have no number of 64 bits.
+    pub fn bind(&mut self, name: Key, number: u64) -> Result<(), OutOfMemory>
+        ensures ok { OnOk result (named name self.old ≡ None
+            → self.new ≡ in_order pair_before (name, number) self.old) }
         ensures err { OnErr result (self.new ≡ self.old) }
+        ensures room { OnOk result (length self.old < 18446744073709551615) }
     {
-        self.bound.push((name, number))?;
+        if self.bound.len() == usize::MAX {
+            return Err(OutOfMemory);
+        }
+        self.bound.insert(name, number)?;
         Ok(())
     }
 
     /// Frees a name.
-    pub fn free(&mut self, name: &Name)
+    pub fn free(&mut self, name: &Key)
         ensures { self.new ≡ without (λ p. same_name p.0 name.now) self.old }
     {
-        self.bound.retain(|(bound, _)| bound != name);
+        self.bound.remove(name);
     }
 }

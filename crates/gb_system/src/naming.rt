@@ -6,8 +6,9 @@ ghost use Rattle.gb_machine.specs.State.{State};
 ghost use Rattle.gb_system.specs.Stands.{PartiesStand, PartsStep};
 
 use crate::entries::{begun, refused};
+use crate::key::Key;
 use crate::parties::Parties;
-use gb_base::{Entries, Name, OutOfMemory, Outcome, Reading, Refusal, TryCopy};
+use gb_base::{Entries, Name, OutOfMemory, Outcome, Reading, Refusal};
 use gb_bus::AlreadyEnded;
 
 impl Parties {
@@ -16,7 +17,8 @@ impl Parties {
         ensures step { (s : State) → PartiesStand self.old s
             → PartsStep self.new s (event.Cancel name.now) result }
     {
-        let Some(number) = self.names.get(name) else {
+        let name = Key::of(name)?;
+        let Some(number) = self.names.get(&name) else {
             return Ok(refused(self.alloc, Refusal::NoName)?);
         };
         match self.bus.cancel(number) {
@@ -34,13 +36,16 @@ impl Parties {
         ensures step { (s : State) → PartiesStand self.old s
             → PartsStep self.new s (event.Copy from.now to.now) result }
     {
-        let Some(number) = self.names.get(from) else {
+        let from = Key::of(from)?;
+        let to = Key::of(to)?;
+        let Some(number) = self.names.get(&from) else {
             return Ok(refused(self.alloc, Refusal::NoName)?);
         };
-        if self.names.get(to).is_some() {
+        if self.names.get(&to).is_some() {
             return Ok(refused(self.alloc, Refusal::Occupied)?);
         }
-        self.names.bind(to.copy()?, number)?;
+        self.names.bind(to, number)?;
+        self.bus.keep(number);
         Ok(begun(self.alloc)?)
     }
 
@@ -49,10 +54,12 @@ impl Parties {
         ensures step { (s : State) → PartiesStand self.old s
             → PartsStep self.new s (event.Forget name.now) result }
     {
-        let Some(_) = self.names.get(name) else {
+        let name = Key::of(name)?;
+        let Some(number) = self.names.get(&name) else {
             return Ok(refused(self.alloc, Refusal::NoName)?);
         };
-        self.names.free(name);
+        self.names.free(&name);
+        self.bus.loose(number);
         Ok(begun(self.alloc)?)
     }
 }

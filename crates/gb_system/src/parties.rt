@@ -5,7 +5,8 @@ ghost use Rattle.gb_formats.specs.Built.{is_built};
 ghost use Rattle.gb_formats.specs.ValidEvents.{IsValid};
 ghost use Rattle.gb_machine.specs.State.{State, first_state};
 
-use crate::held::{HeldRequests, Marks};
+use crate::held::HeldRequests;
+use crate::marks::Marks;
 use crate::modules::Modules;
 use crate::names::Names;
 use gb_base::{Entries, Event, OutOfMemory};

@@ -1,11 +1,12 @@
 //! Requests that a script sends.
 
-ghost use Rattle.std.specs.Prelude.{◌≡◌, [], IsSome, OnOk};
+ghost use Rattle.std.specs.Prelude.{◌≡◌, [], IsSome, None, OnOk};
 ghost use Rattle.gb_base.specs.declared.end.Side.TheVariants as side;
 ghost use Rattle.gb_base.specs.declared.event.Event.TheVariants as event;
 ghost use Rattle.gb_formats.specs.ValidEvents.{IsValid};
 ghost use Rattle.gb_machine.specs.Labels.{next_label};
 ghost use Rattle.gb_machine.specs.LineActions.{sends_on};
+ghost use Rattle.gb_machine.specs.Names.{named};
 ghost use Rattle.gb_machine.specs.State.{State};
 ghost use Rattle.gb_system.specs.Acting.{IsAskable};
 ghost use Rattle.gb_system.specs.Doing.{Does};
@@ -14,10 +15,11 @@ ghost use Rattle.gb_system.specs.Stands.{PartiesStand, PartsStand, PartsStep};
 
 use crate::asking::Draft;
 use crate::entries::{begun, refused};
+use crate::key::Key;
 use crate::message::LONGEST_PAYLOAD;
 use crate::parties::Parties;
 use crate::svc::{SVC, is_reserved};
-use gb_base::{End, Entries, Name, OutOfMemory, Refusal, Side, TryCopy};
+use gb_base::{End, Entries, Name, OutOfMemory, Refusal, Side};
 
 impl Parties {
     /// Sends a request to the supervisory controller or to a CPort of a module. The timeout is in
@@ -34,7 +36,8 @@ impl Parties {
         ensures step { (s : State) → PartiesStand self.old s
             → PartsStep self.new s (event.Send name.now to kind payload.now timeout) result }
     {
-        let connection = match self.way(name, to, kind, payload) {
+        let name = Key::of(name)?;
+        let connection = match self.way(&name, to, kind, payload) {
             Ok(connection) => connection,
             Err(why) => return Ok(refused(self.alloc, why)?),
         };
@@ -44,12 +47,12 @@ impl Parties {
         Ok(told)
     }
 
-    /// The application processor sends a request on a connection, and the request gets a name. The
-    /// timeout is in milliseconds. Out of memory also comes where its deadline has no number of 64
-    /// bits.
+    /// The application processor sends a request on a connection, and the request gets a free
+    /// name. The timeout is in milliseconds. Out of memory also comes where its deadline has no
+    /// number of 64 bits.
     pub fn send_on(
         &mut self,
-        name: &Name,
+        name: Key,
         connection: u64,
         kind: u8,
         payload: &[u8],
@@ -57,8 +60,9 @@ impl Parties {
         told: &mut Entries,
     ) -> Result<(), OutOfMemory>
         ensures step { OnOk result ((s : State) → PartsStand [] self.old s
-            → IsAskable kind payload.now → IsSome (next_label connection side.Ap s.bus)
-            → Does self.new (sends_on name.now connection kind payload.now timeout) s told.old
+            → named name s.names ≡ None → IsAskable kind payload.now
+            → IsSome (next_label connection side.Ap s.bus)
+            → Does self.new (sends_on name connection kind payload.now timeout) s told.old
             told.new) }
     {
         let deadline = self.deadline(timeout)?;
@@ -71,13 +75,14 @@ impl Parties {
             oneway: false,
         };
         if let Some(number) = self.ask(&q, told)? {
-            self.names.bind(name.copy()?, number)?;
+            self.names.bind(name, number)?;
+            self.bus.keep(number);
         }
         Ok(())
     }
 
     /// The connection on which a request is sent, or why it isn't.
-    fn way(&self, name: &Name, to: End, kind: u8, payload: &[u8]) -> Result<u64, Refusal>
+    fn way(&self, name: &Key, to: End, kind: u8, payload: &[u8]) -> Result<u64, Refusal>
         ensures step { (s : State) → PartiesStand self.now s
             → GoesAs s name.now to kind payload.now result }
     {

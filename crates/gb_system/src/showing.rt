@@ -1,21 +1,20 @@
 //! What `show` tells.
 
-ghost use Rattle.std.specs.Prelude.{◌≡◌, ◌++◌, List, IfOk, OnOk, map};
+ghost use Rattle.std.specs.Prelude.{◌≡◌, ◌++◌, IfOk, OnOk, map};
 ghost use Rattle.gb_base.specs.declared.event.Event.TheVariants as event;
-ghost use Rattle.gb_bus.specs.Stands as of_bus;
+ghost use Rattle.gb_bus.specs.Stands.{Around, Stands};
 ghost use Rattle.gb_host.specs.Stands.{host_of};
-ghost use Rattle.gb_invariants.specs.Facts.{Loose};
 ghost use Rattle.gb_machine.specs.Bus as machine;
 ghost use Rattle.gb_machine.specs.Host.{link_of};
 ghost use Rattle.gb_machine.specs.Show.{interface_shown, name_shown, state_of};
 ghost use Rattle.gb_machine.specs.State.{State};
-ghost use Rattle.gb_system.specs.Showing.{known_shown, lines, waiting_shown};
+ghost use Rattle.gb_system.specs.Showing.{AreTold, known_shown, lines, waiting_shown};
 ghost use Rattle.gb_system.specs.Stands.{PartiesStand, PartsStep};
 
 use crate::entries::begun;
-use crate::ordering::in_order;
+use crate::names::Names;
 use crate::parties::Parties;
-use gb_base::{ConnState, Entries, Entry, Interface, Name, OutOfMemory, Text};
+use gb_base::{ConnState, Entries, Entry, Interface, OutOfMemory, Text};
 use gb_bus::{Bus, Known, Waiting};
 use gb_host::Host;
 use gb_report::{connection_line, interface_line, name_line, now_line, queue_line};
@@ -36,8 +35,7 @@ impl Parties {
         show_connections(self.alloc, &self.host, known.items(), &mut told)?;
         let waiting = self.bus.queues()?;
         show_queues(self.alloc, waiting.items(), &mut told)?;
-        let names = in_order(self.alloc, self.names.items())?;
-        show_names(self.alloc, &self.bus, names.items(), &mut told)?;
+        show_names(self.alloc, &self.bus, &self.names, &mut told)?;
         Ok(told)
     }
 }
@@ -129,14 +127,15 @@ fn show_queues(alloc: Global, waiting: &[Waiting], told: &mut Entries) -> Result
 fn show_names(
     alloc: Global,
     bus: &Bus,
-    names: &[(Name, u64)],
+    names: &Names,
     told: &mut Entries,
 ) -> Result<(), OutOfMemory>
-    ensures { OnOk result ((loose : List Loose) (b : machine.Bus) → of_bus.Stands loose bus.now b
+    ensures { OnOk result ((around : Around) (b : machine.Bus) → Stands around bus.now b
+        → AreTold around.names names.now b
         → told.new ≡ told.old ++ lines (map (name_shown b) names.now)) }
 {
-    for (name, number) in names {
-        let text = name_line(alloc, name, *number, bus.outcome(*number))?;
+    for (name, number) in names.iter() {
+        let text = name_line(alloc, name.name(), *number, bus.outcome(*number))?;
         told.push(Entry::Shown { text })?;
     }
     Ok(())

@@ -1,14 +1,15 @@
 //! The system: the parties, stepped event by event until no memory is found.
 
 ghost use Rattle.std.specs.Prelude.{◌≡◌, ◌+◌, ◌<◌, if◌then◌else◌, true, false};
-ghost use Rattle.std.specs.Prelude.{IfOk, is_ok, is_err};
+ghost use Rattle.std.specs.Prelude.{IfOk, is_ok, is_err, option_copied, option_map};
 ghost use Rattle.gb_bus.specs.Counting.{Tells};
 ghost use Rattle.gb_formats.specs.Built.{is_built};
 ghost use Rattle.gb_formats.specs.ValidEvents.{IsValid};
 ghost use Rattle.gb_machine.specs.State.{State, first_state};
+ghost use Rattle.gb_system.specs.Outcomes.{outcome_in};
 
 use crate::parties::Parties;
-use gb_base::{Entries, Event, OutOfMemory};
+use gb_base::{Entries, Event, OutOfMemory, Outcome};
 use gb_bus::Tally;
 use std::alloc::Global;
 
@@ -68,6 +69,23 @@ impl System {
         ensures { result ≡ taken_of self.now }
     {
         self.taken
+    }
+
+    /// How request n ended, None in it where it is open. Nothing comes where n isn't open, wasn't
+    /// given up or was answered since, and has no name.
+    pub fn outcome(&self, n: u64) -> Option<Option<&Outcome>>
+        ensures { (s : State) → Stands self.now s
+            → option_map (λ how. option_copied how) result ≡ outcome_in n s }
+    {
+        self.parties.bus.about(n)?;
+        Some(self.parties.bus.outcome(n))
+    }
+
+    /// A step found no memory: every later one answers that too.
+    pub fn memory_failed(&self) -> bool
+        ensures { result ≡ has_failed self.now }
+    {
+        self.failed
     }
 
     /// How many requests were made by both sides, and how these stand.

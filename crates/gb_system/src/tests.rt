@@ -1,10 +1,14 @@
-//! What no script shows: what connections decide by themselves, and requests of a module's own. The
-//! expected values are worked by hand.
+//! What no script shows: what connections decide by themselves, requests of a module's own, and the
+//! outcomes of requests. The expected values are worked by hand.
+
+ghost use Rattle.std.specs.Prelude.{◌+◌, ◌<◌, ◌≤◌};
+ghost use Rattle.gb_formats.specs.ValidEvents.{IsName};
+ghost use Rattle.gb_system.specs.Stands.{taken_of};
 
 use crate::System;
 use crate::deciding::{Behind, decide};
 use crate::parties::Parties;
-use gb_base::{End, Entries, Entry, Event, Outcome, Side};
+use gb_base::{Bytes, End, Entries, Entry, Event, Name, Outcome, Side, Word};
 use gb_switch::Rung;
 use std::alloc::Global;
 use std::process::Abort;
@@ -17,6 +21,57 @@ fn an_event_is_stepped(rt: HostRuntime) -> Result<(), Fail> {
     assert_eq!(rt; told.items().len(), 2);
     assert_eq!(rt; system.taken(), 1);
     Ok(())
+}
+
+/// The name `@x`.
+fn name(rt: &impl Abort) -> Name
+    ensures { IsName result }
+{
+    Name {
+        who: 0,
+        word: Word::from_bytes(b"x").expect(rt, "a word"),
+    }
+}
+
+/// The supervisory controller is pinged, and the request gets the name.
+fn pings(rt: &impl Abort, alloc: Global, system: &mut System)
+    requires { taken_of system.old < 4294967295 }
+    ensures { taken_of system.new ≤ taken_of system.old + 1 }
+{
+    let ping = Event::Send {
+        name: name(rt),
+        to: End::Svc,
+        kind: 0,
+        payload: Bytes::new(alloc),
+        timeout: 1000,
+    };
+    assert!(rt; system.step(&ping).is_ok());
+}
+
+fn settles(rt: &impl Abort, system: &mut System)
+    requires { taken_of system.old < 4294967295 }
+    ensures { taken_of system.new ≤ taken_of system.old + 1 }
+{
+    assert!(rt; system.step(&Event::Settle { most: 9 }).is_ok());
+}
+
+/// The name is dropped.
+fn drops(rt: &impl Abort, system: &mut System)
+    requires { taken_of system.old < 4294967295 }
+{
+    let drop = Event::Forget { name: name(rt) };
+    assert!(rt; system.step(&drop).is_ok());
+}
+
+#[test]
+fn an_outcome_is_told_while_the_request_has_a_name(rt: HostRuntime) {
+    let mut system = System::new(rt.alloc()).expect(&rt, "memory");
+    pings(&rt, rt.alloc(), &mut system);
+    assert!(rt; matches!(system.outcome(1), Some(None)));
+    settles(&rt, &mut system);
+    assert!(rt; matches!(system.outcome(1), Some(Some(Outcome::Answered { .. }))));
+    drops(&rt, &mut system);
+    assert!(rt; system.outcome(1).is_none());
 }
 
 fn climbs(rt: &impl Abort, parties: &mut Parties, rung: Rung) {

@@ -7,7 +7,7 @@ use Rattle.gb_system.proofs.deciding.decide.Goals as goal
 
 pub returns-in-Answer : goal.returns-in-Answer
 returns-in-Answer c = record {
-  step = λ loose s st.
+  step = λ around s st.
       decided_answer c.serve.new.ladder s (svc_step s.ports c.args.kind c.args.payload.now)
       c.in-Answer.result
       c.in-Answer.payload.items _ (c.in-Answer.ensures.step s.ports st.ports) refl refl;
@@ -15,33 +15,33 @@ returns-in-Answer c = record {
 
 pub returns-in-Create : goal.returns-in-Create
 returns-in-Create c = record {
-  step = λ loose s st.
+  step = λ around s st.
       let step = svc_step s.ports c.args.kind c.args.payload.now in
       let v = SvcServed.Create c.in-Create.ap c.in-Create.intf c.in-Create.cport in
       let f = c.in-Create.ensures.step s.ports st.ports in
       let same = subst (Leaves s.ports step.ports) f.answer
       (leaves-ports s.ports c.args.kind c.args.payload.now) in
       decided_by c.serve.new.ladder s step v c.create.result f same
-      (c.create.ensures.step loose s c.serve.new.ladder
-      (stand_still loose c.args.bus.now c.serve.new.ladder c.args.ladder.now s step v st f same));
+      (c.create.ensures.step around s c.serve.new.ladder
+      (stand_still around c.args.bus.now c.serve.new.ladder c.args.ladder.now s step v st f same));
 }
 
 pub returns-in-Destroy : goal.returns-in-Destroy
 returns-in-Destroy c = record {
-  step = λ loose s st.
+  step = λ around s st.
       let step = svc_step s.ports c.args.kind c.args.payload.now in
       let v = SvcServed.Destroy c.in-Destroy.ap c.in-Destroy.intf c.in-Destroy.cport in
       let f = c.in-Destroy.ensures.step s.ports st.ports in
       let same = subst (Leaves s.ports step.ports) f.answer
       (leaves-ports s.ports c.args.kind c.args.payload.now) in
       decided_by c.serve.new.ladder s step v c.destroy.result f same
-      (c.destroy.ensures.step loose s c.serve.new.ladder
-      (stand_still loose c.args.bus.now c.serve.new.ladder c.args.ladder.now s step v st f same));
+      (c.destroy.ensures.step around s c.serve.new.ladder
+      (stand_still around c.args.bus.now c.serve.new.ladder c.args.ladder.now s step v st f same));
 }
 
 pub returns-in-Unroute : goal.returns-in-Unroute
 returns-in-Unroute c = record {
-  step = λ loose s st.
+  step = λ around s st.
       let step = svc_step s.ports c.args.kind c.args.payload.now in
       let v = SvcServed.Unroute c.in-Unroute.intf in
       let f = c.in-Unroute.ensures.step s.ports st.ports in
@@ -49,7 +49,7 @@ returns-in-Unroute c = record {
       (leaves-ports s.ports c.args.kind c.args.payload.now) in
       decided_unroute c.serve.new.ladder c.unroute.new.ladder s step c.in-Unroute.intf
       c.unroute.result f same.0
-      (c.unroute.ensures.step loose s
-      (stand_still loose c.args.bus.now c.serve.new.ladder c.args.ladder.now s step v st f same.0)
+      (c.unroute.ensures.step around s
+      (stand_still around c.args.bus.now c.serve.new.ladder c.args.ladder.now s step v st f same.0)
       same.1);
 }

@@ -5,7 +5,7 @@ use Rattle.gb_host.specs.declared.acts.Act.{Act}
 use Rattle.gb_system.proofs.Acts.{leave-done}
 use Rattle.gb_system.proofs.Doings.{does-tell}
 use Rattle.gb_system.specs.Acting.{ActsAs}
-use Rattle.gb_system.specs.Stands.{held_items}
+use Rattle.gb_system.specs.Stands.{around_bus}
 use Rattle.gb_system.proofs.parties.Parties.act.Goals as goal
 
 pub returns-in_ok-shut-in-Shut : goal.returns-in_ok-shut-in-Shut
@@ -20,7 +20,7 @@ pub returns-in-Leave : goal.returns-in-Leave
 returns-in-Leave c = record {
   step = λ s st.
       let done = leave-done c.detach.new.self c.in-Leave.connection st
-      (c.detach.ensures.step (held_items s) s.bus st.bus) in
+      (c.detach.ensures.step (around_bus [] s) s.bus st.bus) in
       subst (λ (a : Act). ActsAs c.args.self.now.host
       (record c.args.self.now { bus = c.detach.new.self }) a s false c.args.told.now
       c.args.told.now) (sym c.in-Leave.is) (refl, done, refl);

@@ -4,14 +4,15 @@ use Rattle.gb_bus.specs.Delivering.{taken_from}
 use Rattle.gb_bus.specs.Wiring.{ends_of}
 use Rattle.gb_machine.specs.Bus.{Ask, connection_of}
 use Rattle.gb_system.proofs.Replies.{answered-done, none-not}
-use Rattle.gb_system.specs.Stands.{held_items}
+use Rattle.gb_system.specs.Stands.{around_bus, held_items, names_of}
 use Rattle.gb_system.proofs.parties.Parties.answer.Goals as goal
 
 pub returns-in_default : goal.returns-in_default
 returns-in_default c = record {
   step = λ s x n st live may short.
       absurd (none-not (ends_of x) (option_map ends_of (connection_of c.args.connection s.bus))
-      (c.in_default.ensures (taken_from c.args.connection c.args.side (Ask n) ∷ held_items s) s.bus
+      (c.in_default.ensures
+      (around_bus (taken_from c.args.connection c.args.side (Ask n) ∷ []) s) s.bus
       st.bus) live.ends);
 }
 
@@ -20,8 +21,9 @@ returns c = record {
   step = λ s x n st live may short.
       answered-done c.reply.new.self c.args.connection c.args.side c.args.asked.now c.args.code
       c.args.payload.now c.in-Some.ends c.in_ok-replied.field-0 x n st live may
-      (c.in-Some.ensures (taken_from c.args.connection c.args.side (Ask n) ∷ held_items s) s.bus
+      (c.in-Some.ensures
+      (around_bus (taken_from c.args.connection c.args.side (Ask n) ∷ []) s) s.bus
       st.bus)
-      (c.in_ok-reply.ensures.step [] (held_items s) s.bus n st.bus may)
+      (c.in_ok-reply.ensures.step (names_of s) [] (held_items s) s.bus n st.bus may)
       (λ low. c.in_ok-replied.ensures low short) c.in_ok-push.ensures.ok;
 }

@@ -1,6 +1,5 @@
 -- A line that answers is refused or done as the machine does.
-use Rattle.std.proofs.Common.{ap, refl}
-use Rattle.gb_system.proofs.HeldAsks.{answer-done, answer-refused, answer-unheld}
+use Rattle.gb_system.proofs.HeldAnswers.{answer-done, answer-refused, answer-unheld}
 use Rattle.gb_system.proofs.parties.Parties.answer_held.Goals as goal
 
 pub returns-in-Err : goal.returns-in-Err
@@ -14,19 +13,16 @@ returns-in-Err c = record {
 pub returns-in_default : goal.returns-in_default
 returns-in_default c = record {
   step = λ s st.
-      answer-unheld c.args.self.now _ s c.args.intf c.args.cport c.in-Ok.connection c.args.place
-      c.in_ok-refused.field-0 c.requires.2.0 st (c.in-Ok.ensures s st.parts)
-      c.in_default.ensures.0
-      (ap (λ hs. record c.args.self.now { held = hs }) c.in_default.ensures.1)
-      c.in_ok-refused.ensures;
+      answer-unheld c.args.self.now c.take.new.self s c.args.intf c.args.cport
+      c.in-Ok.connection c.args.place c.in_ok-refused.field-0 st (c.in-Ok.ensures s st.parts)
+      c.in_default.ensures c.in_ok-refused.ensures;
 }
 
 pub returns : goal.returns
 returns c = record {
   step = λ s st.
-      let x = c.args.self.now in
-      answer-done x (record x { held = c.take.new.self }) c.serve_held.new.self s c.args.intf
+      answer-done c.args.self.now c.serve_held.new.self c.take.new.self s c.args.intf
       c.args.cport c.in-Ok.connection c.args.place c.in-Some.request c.in_ok-told.told
-      c.serve_held.new.told c.requires.2.0 st (c.in-Ok.ensures s st.parts) c.in-Some.ensures refl
+      c.serve_held.new.told c.requires.2.0 st (c.in-Ok.ensures s st.parts) c.in-Some.ensures
       c.in_ok-told.ensures c.in_ok-serve_held.ensures.step;
 }

@@ -6,7 +6,7 @@ use Rattle.gb_system.proofs.Arrivals.{answer-here, dropped-here, is-there, late-
 use Rattle.gb_machine.specs.Arriving.{reading_at}
 use Rattle.gb_system.proofs.AskArrivals.{ask-here}
 use Rattle.gb_system.specs.Serving.{side_of}
-use Rattle.gb_system.specs.Stands.{held_items}
+use Rattle.gb_system.specs.Stands.{around_bus}
 use Rattle.gb_system.proofs.parties.Parties.arrive.Goals as goal
 
 pub returns-then-is_unplugged : goal.returns-then-is_unplugged
@@ -22,7 +22,7 @@ returns-in-Err-NoConnection c = record {
       nowhere-here s c.args.at c.deliver.new.self st.parts
       (sym c.if-is_unplugged.false ∙ c.is_unplugged.ensures [] s st.parts)
       (rw c.in-Err-NoConnection.field-0-is at
-      (c.in-Err-NoConnection.ensures.step (held_items s) s.bus st.parts.bus));
+      (c.in-Err-NoConnection.ensures.step (around_bus [] s) s.bus st.parts.bus));
 }
 
 pub returns-in-Err-QueueEmpty : goal.returns-in-Err-QueueEmpty
@@ -31,14 +31,15 @@ returns-in-Err-QueueEmpty c = record {
       nothing-here s c.args.at c.deliver.new.self st.parts
       (sym c.if-is_unplugged.false ∙ c.is_unplugged.ensures [] s st.parts)
       (rw c.in-Err-QueueEmpty.field-0-is at
-      (c.in-Err-QueueEmpty.ensures.step (held_items s) s.bus st.parts.bus));
+      (c.in-Err-QueueEmpty.ensures.step (around_bus [] s) s.bus st.parts.bus));
 }
 
 pub returns-in_ok-ask_at-in-Ask : goal.returns-in_ok-ask_at-in-Ask
 returns-in_ok-ask_at-in-Ask c = record {
   step = λ s st.
-      let d = c.in-Ok.ensures.step (held_items s) s.bus st.parts.bus in
-      let a = subst (λ (w : Arrival). Brings (held_items s) c.deliver.new.self c.takes-takes.result
+      let d = c.in-Ok.ensures.step (around_bus [] s) s.bus st.parts.bus in
+      let a = subst (λ (w : Arrival). Brings (around_bus [] s) c.deliver.new.self
+      c.takes-takes.result
       d.place s.bus d.item w) c.in-Ask.is d.brings in
       ask-here s c.args.at c.deliver.new.self d.place c.in-Ok.arrived.connection d.item c.in-Ask.asked
       c.in-Ask.payload c.in-Ask.payload st
@@ -51,8 +52,9 @@ returns-in_ok-ask_at-in-Ask c = record {
 pub returns-in_ok-end-in-Ended : goal.returns-in_ok-end-in-Ended
 returns-in_ok-end-in-Ended c = record {
   step = λ s st.
-      let d = c.in-Ok.ensures.step (held_items s) s.bus st.parts.bus in
-      let a = subst (λ (w : Arrival). Brings (held_items s) c.deliver.new.self c.takes-takes.result
+      let d = c.in-Ok.ensures.step (around_bus [] s) s.bus st.parts.bus in
+      let a = subst (λ (w : Arrival). Brings (around_bus [] s) c.deliver.new.self
+      c.takes-takes.result
       d.place s.bus d.item w) c.in-Ended.is d.brings in
       answer-here s c.args.at c.deliver.new.self d.place d.item c.in-Ended.number c.in-Ended.kind
       c.in-Ended.code c.in-Ended.payload c.reading-reading.result st
@@ -69,8 +71,9 @@ returns-in_ok-end-in-Ended c = record {
 pub returns-in_ok-push-in-Late : goal.returns-in_ok-push-in-Late
 returns-in_ok-push-in-Late c = record {
   step = λ s st.
-      let d = c.in-Ok.ensures.step (held_items s) s.bus st.parts.bus in
-      let a = subst (λ (w : Arrival). Brings (held_items s) c.deliver.new.self c.takes-takes.result
+      let d = c.in-Ok.ensures.step (around_bus [] s) s.bus st.parts.bus in
+      let a = subst (λ (w : Arrival). Brings (around_bus [] s) c.deliver.new.self
+      c.takes-takes.result
       d.place s.bus d.item w) c.in-Late.is d.brings in
       late-here s c.args.at c.deliver.new.self d.place d.item c.in-Late.number st
       (sym c.if-is_unplugged.false ∙ c.is_unplugged.ensures [] s st.parts) d.named d.front
@@ -82,8 +85,9 @@ returns-in_ok-push-in-Late c = record {
 pub returns-in_ok-push-in-Dropped : goal.returns-in_ok-push-in-Dropped
 returns-in_ok-push-in-Dropped c = record {
   step = λ s st.
-      let d = c.in-Ok.ensures.step (held_items s) s.bus st.parts.bus in
-      let a = subst (λ (w : Arrival). Brings (held_items s) c.deliver.new.self c.takes-takes.result
+      let d = c.in-Ok.ensures.step (around_bus [] s) s.bus st.parts.bus in
+      let a = subst (λ (w : Arrival). Brings (around_bus [] s) c.deliver.new.self
+      c.takes-takes.result
       d.place s.bus d.item w) c.in-Dropped.is d.brings in
       dropped-here s c.args.at c.deliver.new.self d.place d.item c.in-Dropped.number
       c.in-Dropped.reply st

@@ -1,5 +1,5 @@
 -- A request that is delivered is held or served as the machine does.
-use Rattle.std.proofs.Common.{refl, sym, ap, ◌∙◌}
+use Rattle.std.proofs.Common.{refl, sym, ◌∙◌}
 use Rattle.gb_machine.specs.Incoming.{incoming}
 use Rattle.gb_system.proofs.HeldAsks.{delivered-as, kept-done, unheld}
 use Rattle.gb_system.specs.Serving.{only, side_of}
@@ -17,9 +17,9 @@ returns c = record {
 pub returns-then-is_held : goal.returns-then-is_held
 returns-then-is_held c = record {
   step = λ s x n d st may.
-      kept-done c.args.at c.args.connection c.args.asked c.args.payload x n _ d st
+      kept-done c.push.new.self c.args.at c.args.connection c.args.asked c.args.payload x n _ d st
       (sym c.if-is_held.true ∙ c.is_held.ensures (only c.args.connection (side_of c.args.at) n) s x
       st d.upon.number) refl
-      (ap (λ hs. record c.args.self.now { held = hs }) c.in_ok-push.ensures)
+      c.in_ok-push.ensures
       c.in_ok-push-2.ensures.ok;
 }

@@ -1,26 +1,32 @@
 -- A bridge line is told as refused, or its request is sent.
-use Rattle.std.proofs.Common.{ap, take, ◌∙◌}
+use Rattle.std.proofs.Common.{Ok, ap, take, ◌∙◌, subst}
+use Rattle.gb_base.specs.declared.event.Event.TheVariants as event
 use Rattle.gb_system.proofs.BridgeSends.{bridge-done, bridge-refused, whole}
+use Rattle.gb_system.specs.Stands.{PartsStep}
 use Rattle.gb_system.proofs.parties.Parties.bridge.Goals as goal
 
 pub returns-in-Err : goal.returns-in-Err
 returns-in-Err c = record {
   step = λ s st.
-      bridge-refused c.args.self.now s c.args.name.now c.args.intf c.args.cport c.args.ask.now
+      subst (λ name. PartsStep c.args.self.now s (event.Bridge name c.args.intf c.args.cport
+      c.args.ask.now) (Ok c.in_ok-refused-in-Err.field-0)) c.in_ok-name.ensures
+      (bridge-refused c.args.self.now s c.in_ok-name.name c.args.intf c.args.cport c.args.ask.now
       c.as_mut_slice.result.now c.bridge_way-way.new.room c.in-Err.why
       c.in_ok-refused-in-Err.field-0 st (c.in-Err.ensures.step s st)
-      c.in_ok-refused-in-Err.ensures;
+      c.in_ok-refused-in-Err.ensures);
 }
 
 pub returns : goal.returns
 returns c = record {
   step = λ s st.
-      bridge-done c.args.self.now c.send_on.new.self c.sent.new.self s c.args.name.now c.args.intf
-      c.args.cport c.args.ask.now c.as_mut_slice.result.now c.bridge_way-way.new.room
-      c.front-payload.result.now c.in-Ok.way c.in_ok-told.told c.send_on.new.told st
-      (c.in-Ok.ensures.step s st) c.in_ok-told.ensures c.sent.ensures.step
+      subst (λ name. PartsStep c.send_on.new.self s (event.Bridge name c.args.intf c.args.cport
+      c.args.ask.now) (Ok c.send_on.new.told)) c.in_ok-name.ensures
+      (bridge-done c.args.self.now c.send_on.new.self c.sent.new.self s c.in_ok-name.name
+      c.args.intf c.args.cport c.args.ask.now c.as_mut_slice.result.now
+      c.bridge_way-way.new.room c.front-payload.result.now c.in-Ok.way c.in_ok-told.told
+      c.send_on.new.told st (c.in-Ok.ensures.step s st) c.in_ok-told.ensures c.sent.ensures.step
       (c.front-payload.ensures ∙ ap (take c.in-Ok.way.request.len) (whole c.bridge_way-way.new.room
       c.in_ok-room.room.items c.as_slice.result.now c.in_ok-room.room.len c.as_slice.ensures.value
       (c.bridge_way-way.auto.room ∙ c.as_mut_slice.ensures.len)))
-      c.in_ok-send_on.ensures.step;
+      c.in_ok-send_on.ensures.step);
 }

@@ -1,10 +1,31 @@
 -- A bridge line is refused on its connection, or becomes a request there.
-use Rattle.std.proofs.Common.{Err, sym, ap, ◌∙◌, subst}
+use Rattle.std.proofs.Common.{[], Err, sym, ap, ◌∙◌, subst}
 use Rattle.std.proofs.lemmas.Result.{err_from_is_err_and}
-use Rattle.gb_system.proofs.Bridgings.{bridge-goes, bridge-spent, bridge-unfit}
+use Rattle.gb_system.proofs.Bridgings.{bridge-goes, bridge-nowhere, bridge-occupied, bridge-spent, bridge-unfit}
 use Rattle.gb_system.specs.Bridging.{BridgesTo}
-use Rattle.gb_system.specs.Stands.{held_items}
+use Rattle.gb_system.specs.Stands.{around_bus}
 use Rattle.gb_system.proofs.parties.Parties.bridge_way.Goals as goal
+
+pub returns-then-is_some : goal.returns-then-is_some
+returns-then-is_some c = record {
+  step = λ s st.
+      bridge-occupied c.args.self.now s c.args.name.now c.args.intf c.args.cport c.args.ask.now
+      c.args.room.now c.args.room.now st
+      (cc (c.is_some.ensures, c.get.ensures, c.if-is_some.true));
+}
+
+pub returns-in_err-connection : goal.returns-in_err-connection
+returns-in_err-connection c = record {
+  step = λ s st.
+      let p = err_from_is_err_and c.from_residual.result c.from_residual.ensures.1 in
+      subst (λ r. BridgesTo s c.args.name.now c.args.intf c.args.cport c.args.ask.now
+      c.args.room.now c.args.room.now r)
+      (sym (p.1 ∙ ap Err p.2))
+      (bridge-nowhere c.args.self.now s c.args.name.now c.args.intf c.args.cport c.args.ask.now
+      c.args.room.now c.args.room.now c.in_err-connection.field-0.0 st
+      (cc (c.is_some.ensures, c.get.ensures, c.if-is_some.false))
+      (c.in_err-connection.ensures.step s.host st.parts.host));
+}
 
 pub returns-in_err-request : goal.returns-in_err-request
 returns-in_err-request c = record {
@@ -30,7 +51,7 @@ returns-then-spent c = record {
       (cc (c.is_some.ensures, c.get.ensures, c.if-is_some.false))
       (c.in_ok-connection.ensures.step s.host st.parts.host)
       (λ l of. c.in_ok-request.ensures.step s.host l st.parts.host of)
-      (c.spent.ensures (held_items s) s.bus st.parts.bus) c.if-spent.true;
+      (c.spent.ensures (around_bus [] s) s.bus st.parts.bus) c.if-spent.true;
 }
 
 pub returns : goal.returns
@@ -42,5 +63,5 @@ returns c = record {
       (cc (c.is_some.ensures, c.get.ensures, c.if-is_some.false))
       (c.in_ok-connection.ensures.step s.host st.parts.host)
       (λ l of. c.in_ok-request.ensures.step s.host l st.parts.host of)
-      (c.spent.ensures (held_items s) s.bus st.parts.bus) c.if-spent.false;
+      (c.spent.ensures (around_bus [] s) s.bus st.parts.bus) c.if-spent.false;
 }

@@ -1,8 +1,8 @@
 -- A cancel is refused or done as the machine does.
-use Rattle.std.proofs.Common.{sym}
+use Rattle.std.proofs.Common.{[]}
 use Rattle.gb_base.specs.declared.outcome.Outcome.TheVariants as outcome
-use Rattle.gb_system.proofs.NamedRequests.{cancel-done, cancel-ended, cancel-unnamed}
-use Rattle.gb_system.specs.Stands.{held_items}
+use Rattle.gb_system.proofs.NamedRequests.{cancel-done, cancel-ended, cancel-unnamed, named-as}
+use Rattle.gb_system.specs.Stands.{around_bus}
 use Rattle.gb_system.specs.Ticking.{given_up}
 use Rattle.gb_system.proofs.parties.Parties.cancel.Goals as goal
 
@@ -10,15 +10,17 @@ pub returns-in_default : goal.returns-in_default
 returns-in_default c = record {
   step = λ s st.
       cancel-unnamed c.args.self.now s c.args.name.now c.in_ok-refused.field-0 st
-      (sym c.in_default.ensures) c.in_ok-refused.ensures;
+      (named-as c.args.self.now.names c.in_ok-name.ensures c.in_default.ensures)
+      c.in_ok-refused.ensures;
 }
 
 pub returns-in_ok-end-in-Ok : goal.returns-in_ok-end-in-Ok
 returns-in_ok-end-in-Ok c = record {
   step = λ s st.
       cancel-done c.args.self.now c.end.new.self c.cancel.new.self s c.args.name.now
-      c.in-Some.number c.in_ok-told-in-Ok.told c.end.new.told st (sym c.in-Some.ensures)
-      (c.in-Ok.ensures.step (held_items s) s.bus st.parts.bus) c.in_ok-told-in-Ok.ensures
+      c.in-Some.number c.in_ok-told-in-Ok.told c.end.new.told st
+      (named-as c.args.self.now.names c.in_ok-name.ensures c.in-Some.ensures)
+      (c.in-Ok.ensures.step (around_bus [] s) s.bus st.parts.bus) c.in_ok-told-in-Ok.ensures
       (c.in_ok-end-in-Ok.ensures.step (given_up c.in-Some.number outcome.Cancelled s));
 }
 
@@ -26,6 +28,7 @@ pub returns-in_ok-refused-in-Err : goal.returns-in_ok-refused-in-Err
 returns-in_ok-refused-in-Err c = record {
   step = λ s st.
       cancel-ended c.args.self.now c.cancel.new.self s c.args.name.now c.in-Some.number
-      c.in_ok-refused-in-Err.field-0 st (sym c.in-Some.ensures)
-      (c.in-Err.ensures.step (held_items s) s.bus st.parts.bus) c.in_ok-refused-in-Err.ensures;
+      c.in_ok-refused-in-Err.field-0 st
+      (named-as c.args.self.now.names c.in_ok-name.ensures c.in-Some.ensures)
+      (c.in-Err.ensures.step (around_bus [] s) s.bus st.parts.bus) c.in_ok-refused-in-Err.ensures;
 }

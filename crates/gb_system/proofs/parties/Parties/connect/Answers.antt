@@ -1,6 +1,7 @@
 -- A connect is refused or done as the machine does.
+use Rattle.std.proofs.Common.{[]}
 use Rattle.gb_system.proofs.Connects.{connect-done, connect-refused, connect-spent}
-use Rattle.gb_system.specs.Stands.{held_items}
+use Rattle.gb_system.specs.Stands.{around_bus}
 use Rattle.gb_system.proofs.parties.Parties.connect.Goals as goal
 
 pub returns-in-Err : goal.returns-in-Err
@@ -16,7 +17,7 @@ returns-then-spent c = record {
   step = λ s st.
       connect-spent c.args.self.now s c.args.intf c.args.cport c.spent.result
       c.in_ok-refused-2.field-0 st (c.in_default.ensures.step s.host st.parts.host)
-      (c.spent.ensures (held_items s) s.bus st.parts.bus) c.if-spent.true
+      (c.spent.ensures (around_bus [] s) s.bus st.parts.bus) c.if-spent.true
       c.in_ok-refused-2.ensures;
 }
 
@@ -26,6 +27,6 @@ returns c = record {
       connect-done c.args.self.now c.notice.new.self s c.args.intf c.args.cport c.spent.result
       c.in_ok-told.told c.notice.new.told c.requires st
       (c.in_default.ensures.step s.host st.parts.host)
-      (c.spent.ensures (held_items s) s.bus st.parts.bus) c.if-spent.false
+      (c.spent.ensures (around_bus [] s) s.bus st.parts.bus) c.if-spent.false
       c.in_ok-told.ensures c.in_ok-notice.ensures.step;
 }

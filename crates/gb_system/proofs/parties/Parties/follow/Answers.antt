@@ -1,10 +1,10 @@
 -- What comes after a reply is done.
-use Rattle.std.proofs.Common.{sym, subst}
+use Rattle.std.proofs.Common.{[], sym, subst}
 use Rattle.gb_system.proofs.Doings.{does-nothing}
 use Rattle.gb_system.proofs.SvcServes.{wire-done}
 use Rattle.gb_system.specs.Deciding.{action_of}
 use Rattle.gb_system.specs.Doing.{Does}
-use Rattle.gb_system.specs.Stands.{held_items}
+use Rattle.gb_system.specs.Stands.{around_bus}
 use Rattle.gb_system.specs.declared.deciding.Behind.{Behind}
 use Rattle.gb_system.proofs.parties.Parties.follow.Goals as goal
 
@@ -21,5 +21,5 @@ returns-in_ok-wire-in-Wire c = record {
       subst (λ (w : Behind). Does (record c.args.self.now { bus = c.wire.new.self }) (action_of w) s
       c.args.told.now c.args.told.now) (sym c.in-Wire.is)
       (wire-done c.wire.new.self c.in-Wire.connection st
-      (c.in_ok-wire-in-Wire.ensures.step (held_items s) s.bus st.bus));
+      (c.in_ok-wire-in-Wire.ensures.step (around_bus [] s) s.bus st.bus));
 }

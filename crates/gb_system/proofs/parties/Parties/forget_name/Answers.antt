@@ -1,19 +1,27 @@
 -- A name is freed, or not, as the machine does.
-use Rattle.std.proofs.Common.{sym}
-use Rattle.gb_system.proofs.NamedRequests.{forget-done, forget-unnamed}
+use Rattle.std.proofs.Common.{ap, ◌∙◌}
+use Rattle.gb_machine.specs.Lists.{without}
+use Rattle.gb_machine.specs.Names.{same_name}
+use Rattle.gb_system.proofs.NamedRequests.{forget-done, forget-unnamed, named-as}
 use Rattle.gb_system.proofs.parties.Parties.forget_name.Goals as goal
 
 pub returns-in_default : goal.returns-in_default
 returns-in_default c = record {
   step = λ s st.
       forget-unnamed c.args.self.now s c.args.name.now c.in_ok-refused.field-0 st
-      (sym c.in_default.ensures) c.in_ok-refused.ensures;
+      (named-as c.args.self.now.names c.in_ok-name.ensures c.in_default.ensures)
+      c.in_ok-refused.ensures;
 }
 
 pub returns : goal.returns
 returns c = record {
   step = λ s st.
-      forget-done c.args.self.now (record c.args.self.now { names = c.free.new.self }) s
-      c.args.name.now c.in-Some.field-0
-      c.in_ok-begun.field-0 st (sym c.in-Some.ensures) (cc (c.free.ensures)) c.in_ok-begun.ensures;
+      forget-done c.args.self.now c.loose.new.self c.free.new.self s
+      c.args.name.now c.in-Some.number
+      c.in_ok-begun.field-0 st
+      (named-as c.args.self.now.names c.in_ok-name.ensures c.in-Some.ensures)
+      (c.free.ensures
+      ∙ ap (λ n. without (λ p. same_name p.0 n) c.args.self.now.names) c.in_ok-name.ensures)
+      c.loose.ensures
+      c.in_ok-begun.ensures;
 }

@@ -1,5 +1,4 @@
 -- A hold is refused or done as the machine does.
-use Rattle.std.proofs.Common.{ap}
 use Rattle.gb_system.proofs.HeldAsks.{hold-done, hold-refused}
 use Rattle.gb_system.proofs.parties.Parties.hold.Goals as goal
 
@@ -14,7 +13,7 @@ returns-in-Err c = record {
 pub returns : goal.returns
 returns c = record {
   step = λ s st.
-      hold-done c.args.self.now _ s c.args.intf c.args.cport c.in-Ok.connection
-      c.in_ok-begun.field-0 st (c.in-Ok.ensures s st.parts)
-      (ap (λ hs. record c.args.self.now { holds = hs }) c.in_ok-add.ensures) c.in_ok-begun.ensures;
+      hold-done c.args.self.now c.add.new.self s c.args.intf c.args.cport c.in-Ok.connection
+      c.in_ok-begun.field-0 st (c.in-Ok.ensures s st.parts) c.in_ok-add.ensures
+      c.in_ok-begun.ensures;
 }

@@ -1,9 +1,9 @@
 -- An insert is refused or done as the machine does.
-use Rattle.std.proofs.Common.{sym, ◌∙◌}
+use Rattle.std.proofs.Common.{[], sym, ◌∙◌}
 use Rattle.gb_base.specs.declared.event.Event.TheVariants as event
 use Rattle.gb_system.proofs.Inserts.{insert-occupied, insert-spent, insert-told, insert-untold, plugged-is, plugged-stand, unpowered-there}
 use Rattle.gb_system.proofs.Landing.{step-as}
-use Rattle.gb_system.specs.Stands.{held_items}
+use Rattle.gb_system.specs.Stands.{around_bus}
 use Rattle.gb_system.proofs.parties.Parties.insert.Goals.{then-self+in_ok-tell_inserted, else-self}
 use Rattle.gb_system.proofs.parties.Parties.insert.Goals as goal
 
@@ -21,7 +21,7 @@ returns-then-spent c = record {
       insert-spent c.args.self.now s c.args.intf c.args.kind c.in_ok-refused-2.field-0 st
       (plugged-is c.args.self.now s c.args.intf c.at.result c.is_some.result st.parts
       c.at.ensures c.is_some.ensures ∙ c.if-is_some.false)
-      (sym (c.spent.ensures (held_items s) s.bus st.parts.bus) ∙ c.if-spent.true)
+      (sym (c.spent.ensures (around_bus [] s) s.bus st.parts.bus) ∙ c.if-spent.true)
       c.in_ok-refused-2.ensures;
 }
 
@@ -30,7 +30,7 @@ returns c = record {
   step = λ s st.
       let there = plugged-is c.args.self.now s c.args.intf c.at.result c.is_some.result
       st.parts c.at.ensures c.is_some.ensures ∙ c.if-is_some.false in
-      let spent = sym (c.spent.ensures (held_items s) s.bus st.parts.bus) ∙ c.if-spent.false in
+      let spent = sym (c.spent.ensures (around_bus [] s) s.bus st.parts.bus) ∙ c.if-spent.false in
       let stands = plugged-stand c.args.self.now s c.args.intf c.args.kind c.plug.new.self
       c.in_ok-of_kind.field-0 c.plug-2.new.self st.parts c.in_ok-plug.ensures.ok
       c.in_ok-of_kind.ensures (c.plug-2.ensures.step s.ports st.parts.ports

@@ -1,5 +1,5 @@
 -- A pull is refused or done as the machine does.
-use Rattle.std.proofs.Common.{not, slice_index_or, refl, sym, ap, ◌∙◌, subst}
+use Rattle.std.proofs.Common.{[], not, slice_index_or, refl, sym, ap, ◌∙◌, subst}
 use Rattle.std.proofs.lemmas.Grind.{get_or_default_zero}
 use Rattle.gb_base.specs.declared.event.Event.TheVariants as event
 use Rattle.gb_machine.specs.Actions.{each}
@@ -9,7 +9,7 @@ use Rattle.gb_system.proofs.Landing.{step-as}
 use Rattle.gb_system.proofs.Midways.{drop-next, midway-first}
 use Rattle.gb_system.proofs.Pulls.{Pulling, midway-all, midway-next, pull-nothing, pull-spent, pull-told, pull-untold}
 use Rattle.gb_system.specs.Doing.{Does}
-use Rattle.gb_system.specs.Stands.{held_items}
+use Rattle.gb_system.specs.Stands.{around_bus}
 use Rattle.gb_system.proofs.parties.Parties.pull.Goals.{then-self+in_ok-svc_ask, else-self}
 use Rattle.gb_system.proofs.parties.Parties.pull.Goals as goal
 
@@ -27,7 +27,7 @@ returns-then-spent c = record {
       pull-spent c.args.self.now s c.args.intf c.in_ok-refused-2.field-0 st
       (plugged-is c.args.self.now s c.args.intf c.at.result (not c.is_none.result) st.parts
       c.at.ensures (sym c.is_none.ensures) ∙ ap not c.if-is_none.false)
-      (sym (c.spent.ensures (held_items s) s.bus st.parts.bus) ∙ c.if-spent.true)
+      (sym (c.spent.ensures (around_bus [] s) s.bus st.parts.bus) ∙ c.if-spent.true)
       c.in_ok-refused-2.ensures;
 }
 
@@ -53,14 +53,14 @@ returns c = record {
       let y = record x { modules = c.unplug.new.self; ladder = c.pull.new.self } in
       let numbers = c.items-connection-items.result.now in
       let all = c.items-connection-items.ensures
-      ∙ c.in_ok-wired_to.ensures (held_items s) s.bus st.parts.bus in
+      ∙ c.in_ok-wired_to.ensures (around_bus [] s) s.bus st.parts.bus in
       let unwired = subst (λ ns. Does x (each ns unwires) s c.in_ok-told.told
       c.loop-connection.told) all (midway-all unwires numbers c.loop-connection.connection-index
       c.loop-connection-test.false (c.loop-connection.invariant s st)) in
       let p : Pulling x y s c.args.intf c.in_ok-told.told c.loop-connection.told = record {
         there = plugged-is c.args.self.now s c.args.intf c.at.result (not c.is_none.result) st.parts
             c.at.ensures (sym c.is_none.ensures) ∙ ap not c.if-is_none.false;
-        spent = sym (c.spent.ensures (held_items s) s.bus st.parts.bus) ∙ c.if-spent.false;
+        spent = sym (c.spent.ensures (around_bus [] s) s.bus st.parts.bus) ∙ c.if-spent.false;
         begun = c.in_ok-told.ensures;
         unwired = unwired;
         modules = c.unplug.ensures;

@@ -1,5 +1,5 @@
 -- The table decides, the reply goes back, and what comes after it is done.
-use Rattle.std.proofs.Common.{List, ℕ, ◌∷◌, arith, subst}
+use Rattle.std.proofs.Common.{[], List, ℕ, ◌∷◌, arith, subst}
 use Rattle.gb_base.specs.declared.end.Side.TheVariants as side
 use Rattle.gb_bus.specs.Delivering.{taken_from}
 use Rattle.gb_machine.specs.Bus.{Ask}
@@ -8,7 +8,7 @@ use Rattle.gb_machine.specs.Responding.{replies}
 use Rattle.gb_machine.specs.Serving.{answer}
 use Rattle.gb_system.proofs.SvcServes.{svc-served}
 use Rattle.gb_system.specs.Doing.{Does}
-use Rattle.gb_system.specs.Stands.{held_items}
+use Rattle.gb_system.specs.Stands.{around_bus}
 use Rattle.gb_system.proofs.parties.Parties.serve_at_svc.Goals as goal
 
 pub returns : goal.returns
@@ -16,7 +16,8 @@ returns c = record {
   step = λ s x n d st.
       svc-served c.decide-decision.new.ladder c.args.connection c.args.asked.now c.args.payload.now
       x n c.decide-decision.result d st
-      (c.decide-decision.ensures.step (taken_from c.args.connection side.Far (Ask n) ∷ held_items s)
+      (c.decide-decision.ensures.step
+      (around_bus (taken_from c.args.connection side.Far (Ask n) ∷ []) s)
       s (record { bus = st.bus; ports = st.ports }))
       (λ t stand live may. subst (λ (p : List ℕ). Does c.answer.new.self
       (replies side.Far x (incoming n may.request) (answer c.decide-decision.result.result p)) t

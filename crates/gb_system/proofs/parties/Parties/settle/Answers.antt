@@ -1,8 +1,8 @@
 -- Each delivery goes on with the settle, and nothing waits or all are made at its end.
-use Rattle.std.proofs.Common.{◌≡◌, Some, None, sym, arith}
+use Rattle.std.proofs.Common.{[], ◌≡◌, Some, None, sym, arith}
 use Rattle.gb_machine.specs.Waiting.{first_waiting}
 use Rattle.gb_system.proofs.Settles.{midway-end, midway-first, midway-more, midway-none}
-use Rattle.gb_system.specs.Stands.{held_items}
+use Rattle.gb_system.specs.Stands.{around_bus}
 use Rattle.gb_system.proofs.parties.Parties.settle.Goals as goal
 
 pub loop-count-init : goal.loop-count-init
@@ -14,7 +14,7 @@ returns-in_default c = record {
   step = λ s st.
       let m = c.loop-count.invariant s st in
       let none : first_waiting m.state.bus
-      ≡ None = sym (c.in_default.ensures (held_items m.state) m.state.bus m.stands.parts.bus) in
+      ≡ None = sym (c.in_default.ensures (around_bus [] m.state) m.state.bus m.stands.parts.bus) in
       midway-none c.loop-count.self s c.args.most c.loop-count.count c.loop-count.told
       c.push.new.self (omega (arith, c.loop-count-test.true))
       m none c.in_ok-push.ensures.ok;
@@ -24,7 +24,7 @@ pub loop-count-preserved : goal.loop-count-preserved
 loop-count-preserved c = λ s st.
     let m = c.loop-count.invariant s st in
     let some : first_waiting m.state.bus
-    ≡ Some c.in-Some.at = sym (c.in-Some.ensures (held_items m.state) m.state.bus
+    ≡ Some c.in-Some.at = sym (c.in-Some.ensures (around_bus [] m.state) m.state.bus
     m.stands.parts.bus) in
     midway-more c.loop-count.self c.arrive.new.self s c.args.most c.loop-count.count c.in-Some.at
     c.loop-count.told c.arrive.new.told c.in_ok-arrive.field-0

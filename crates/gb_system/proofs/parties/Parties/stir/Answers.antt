@@ -1,5 +1,5 @@
 -- A device is stirred, or that is refused.
-use Rattle.std.proofs.Common.{Ok, Err, sym, subst}
+use Rattle.std.proofs.Common.{[], Ok, Err, sym, subst}
 use Rattle.gb_machine.specs.Modules.{module_at}
 use Rattle.gb_machine.specs.OwnAsking.{far_asks_all}
 use Rattle.gb_module.specs.Views.{stir_of}
@@ -8,7 +8,7 @@ use Rattle.gb_system.proofs.Stirs.{stir-nowhere, stir-unfit, stir-unwired, stir-
 use Rattle.gb_system.specs.Acting.{AreAskable}
 use Rattle.gb_system.specs.Doing.{Does}
 use Rattle.gb_system.specs.Plugging.{StirsThere, event_of_stir}
-use Rattle.gb_system.specs.Stands.{held_items}
+use Rattle.gb_system.specs.Stands.{around_bus}
 use Rattle.gb_system.proofs.parties.Parties.stir.Goals.{in-Some+in_ok-far_ask_all, in_default}
 use Rattle.gb_system.proofs.parties.Parties.stir.Goals as goal
 
@@ -46,7 +46,7 @@ returns c = record {
             (stir-wired c.args.self.now w.far_ask_all.new.self s c.args.intf c.args.cport c.args.what
             c.stir.new.self c.in-Ok-Some.own c.named.result w.in-Some.connection c.in_ok-told.told
             w.far_ask_all.new.told st stirred c.in_ok-told.ensures
-            (λ t stand. c.named.ensures (held_items t) t.bus stand.bus) w.in-Some.is
+            (λ t stand. c.named.ensures (around_bus [] t) t.bus stand.bus) w.in-Some.is
             (λ t stand askable.
             subst (λ own. Does w.far_ask_all.new.self (far_asks_all w.in-Some.connection own) t
             c.in_ok-told.told w.far_ask_all.new.told) w.items.ensures
@@ -56,7 +56,7 @@ returns c = record {
             step-as s (event_of_stir c.args.intf c.args.cport c.args.what) w.self-is w.told-is
             (stir-unwired c.args.self.now s c.args.intf c.args.cport c.args.what c.stir.new.self
             c.in-Ok-Some.own c.named.result c.in_ok-told.told st stirred c.in_ok-told.ensures
-            (λ t stand. c.named.ensures (held_items t) t.bus stand.bus)
+            (λ t stand. c.named.ensures (around_bus [] t) t.bus stand.bus)
             w.in_default.not-Some)
       ];
 }

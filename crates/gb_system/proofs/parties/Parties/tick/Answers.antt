@@ -1,12 +1,12 @@
 -- Time passes as in the machine.
-use Rattle.std.proofs.Common.{◌+◌, slice_index_or, sym, ap, ◌∙◌}
+use Rattle.std.proofs.Common.{[], ◌+◌, slice_index_or, sym, ap, ◌∙◌}
 use Rattle.std.proofs.lemmas.Grind.{get_or_default_zero}
 use Rattle.gb_base.specs.declared.outcome.Outcome.TheVariants as outcome
 use Rattle.gb_machine.specs.GivingUp.{gives_up}
 use Rattle.gb_system.proofs.Midways.{drop-next}
 use Rattle.gb_system.proofs.Pulls.{midway-all}
 use Rattle.gb_system.proofs.Ticks.{due-are, later-stand, mid-at, mid-first, mid-may, mid-next, tick-done}
-use Rattle.gb_system.specs.Stands.{held_items}
+use Rattle.gb_system.specs.Stands.{around_bus}
 use Rattle.gb_system.proofs.parties.Parties.tick.Goals as goal
 
 pub loop-number-init : goal.loop-number-init
@@ -14,7 +14,7 @@ loop-number-init c = λ s st.
     mid-first st.run c.args.millis c.items-number-items.result.now
     (later-stand c.args.millis _ st.parts
     (c.in_ok-self.ensures ∙ ap (λ n. c.args.self.now.time + n) c.from.ensures))
-    (c.items-number-items.ensures ∙ c.in_ok-due.ensures (held_items s) s.bus st.parts.bus
+    (c.items-number-items.ensures ∙ c.in_ok-due.ensures (around_bus [] s) s.bus st.parts.bus
     ∙ due-are s c.args.millis _ st.parts
     (c.in_ok-self.ensures ∙ ap (λ n. c.args.self.now.time + n) c.from.ensures))
 
@@ -37,7 +37,7 @@ returns c = record {
       let t = c.loop-number.invariant s st in
       tick-done _ _ s c.args.millis numbers c.in_ok-told.told c.loop-number.told
       (later-stand c.args.millis _ st.parts wait)
-      (c.items-number-items.ensures ∙ c.in_ok-due.ensures (held_items s) s.bus st.parts.bus
+      (c.items-number-items.ensures ∙ c.in_ok-due.ensures (around_bus [] s) s.bus st.parts.bus
       ∙ due-are s c.args.millis _ st.parts wait)
       c.in_ok-told.ensures
       (midway-all (gives_up outcome.Timeout) numbers c.loop-number.number-index

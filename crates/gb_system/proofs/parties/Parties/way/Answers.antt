@@ -1,9 +1,17 @@
--- Where there is no way to an end, why not is why the request isn't sent.
-use Rattle.std.proofs.Common.{sym, ap, ◌∙◌, Err, subst}
+-- A request goes on a connection, or isn't sent, as the machine says.
+use Rattle.std.proofs.Common.{[], ◌≤◌, ◌<◌, length, sym, ap, ◌∙◌, Err, subst, arith}
 use Rattle.std.proofs.lemmas.Result.{err_from_is_err_and}
-use Rattle.gb_system.proofs.Ways.{goes-nowhere}
+use Rattle.gb_system.proofs.Ways.{goes, goes-long, goes-nowhere, goes-occupied, goes-spent}
 use Rattle.gb_system.specs.Sending.{GoesAs}
+use Rattle.gb_system.specs.Stands.{around_bus}
 use Rattle.gb_system.proofs.parties.Parties.way.Goals as goal
+
+pub returns-then-is_some : goal.returns-then-is_some
+returns-then-is_some c = record {
+  step = λ s st.
+      goes-occupied c.args.self.now s c.args.name.now c.args.to c.args.kind c.args.payload.now st
+      (cc (c.is_some.ensures, c.get.ensures, c.if-is_some.true));
+}
 
 pub returns-in_err-connection : goal.returns-in_err-connection
 returns-in_err-connection c = record {
@@ -15,4 +23,39 @@ returns-in_err-connection c = record {
       c.in_err-connection.field-0.0 st
       (cc (c.is_some.ensures, c.get.ensures, c.if-is_some.false))
       (c.in_err-connection.ensures.step s st));
+}
+
+pub returns-then-payload-gt-LONGEST_PAYLOAD : goal.returns-then-payload-gt-LONGEST_PAYLOAD
+returns-then-payload-gt-LONGEST_PAYLOAD c = record {
+  step = λ s st.
+      let long : 2040 < length c.args.payload.now =
+      omega (arith, c.if-payload-gt-LONGEST_PAYLOAD.true) in
+      goes-long c.args.self.now s c.args.name.now c.args.to c.args.kind c.args.payload.now
+      c.in_ok-connection.connection st
+      (cc (c.is_some.ensures, c.get.ensures, c.if-is_some.false))
+      (c.in_ok-connection.ensures.step s st) long;
+}
+
+pub returns-then-spent : goal.returns-then-spent
+returns-then-spent c = record {
+  step = λ s st.
+      let short : length c.args.payload.now ≤ 2040 =
+      omega (arith, c.if-payload-gt-LONGEST_PAYLOAD.false) in
+      goes-spent c.args.self.now s c.args.name.now c.args.to c.args.kind c.args.payload.now
+      c.in_ok-connection.connection c.spent.result st
+      (cc (c.is_some.ensures, c.get.ensures, c.if-is_some.false))
+      (c.in_ok-connection.ensures.step s st) short
+      (c.spent.ensures (around_bus [] s) s.bus st.parts.bus) c.if-spent.true;
+}
+
+pub returns : goal.returns
+returns c = record {
+  step = λ s st.
+      let short : length c.args.payload.now ≤ 2040 =
+      omega (arith, c.if-payload-gt-LONGEST_PAYLOAD.false) in
+      goes c.args.self.now s c.args.name.now c.args.to c.args.kind c.args.payload.now
+      c.in_ok-connection.connection c.spent.result st
+      (cc (c.is_some.ensures, c.get.ensures, c.if-is_some.false))
+      (c.in_ok-connection.ensures.step s st) short
+      (c.spent.ensures (around_bus [] s) s.bus st.parts.bus) c.if-spent.false;
 }
