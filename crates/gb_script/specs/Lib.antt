@@ -1,2 +1,5 @@
+pub mod Fronts
 pub mod Parts
+pub mod Readers
+pub mod Reading
 pub mod Tells

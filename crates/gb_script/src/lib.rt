@@ -8,13 +8,19 @@ mod built;
 mod deliveries;
 mod fault;
 mod forms;
+mod front;
 mod gpio;
+mod held;
 mod hex_words;
 mod i2c;
 mod interfaces;
+mod line_reader;
+#[cfg(test)]
+mod line_reader_tests;
 mod lines;
 mod made_script;
 mod ops;
+mod piece;
 mod plain;
 mod read;
 mod requests;
@@ -27,6 +33,8 @@ mod values;
 mod words;
 
 pub use fault::LineFault;
+pub use held::LineStop;
+pub use line_reader::{Line, LineReader};
 pub use lines::first_line;
 pub use made_script::{MADE_LINES, made};
 pub use read::event;

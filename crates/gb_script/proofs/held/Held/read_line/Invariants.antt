@@ -1,0 +1,21 @@
+-- The bytes that came are the front of the line.
+use Rattle.std.proofs.Common.{◌≡◌, ◌≤◌, ◌+◌, List, ℕ, length}
+use Rattle.std.specs.Io.KnownBytes.{Consumes}
+use Rattle.gb_script.specs.Fronts.{IsFront}
+use Rattle.gb_script.specs.Reading.{HasNoLf, to_come}
+use Rattle.gb_script.proofs.held.Held.read_line.Given as goal
+
+abbrev pub invariant-loop-b : goal.invariant-loop-b
+invariant-loop-b g l = record {
+  raw : List ℕ;
+  plain : HasNoLf raw;
+  taken : Consumes (to_come l.initial.self (g.S.Source.left l.initial.source)) (to_come l.self (g.S.Source.left l.source)) raw;
+  front : IsFront l.self.front raw;
+  room : length raw + l.self.room ≡ l.initial.self.room;
+  within : l.initial.self.room ≤ 1048576;
+  few : length l.self.piece ≤ 4096;
+  later : g.S.Source.faults l.initial.source ≤ g.S.Source.faults l.source;
+}
+
+abbrev pub decreases-loop-b : goal.decreases-loop-b
+decreases-loop-b g l = l.self.room

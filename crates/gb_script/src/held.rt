@@ -1,0 +1,99 @@
+//! The bytes that a reader of lines holds.
+
+ghost use Rattle.std.specs.Prelude.{◌≡◌, ◌≤◌, [], length, IfOk, IsErrOf};
+ghost use Rattle.gb_base.specs.Faults.{Rose};
+
+use crate::front::Front;
+use crate::piece::Piece;
+use gb_base::{Failed, OutOfMemory, Source};
+use std::alloc::Global;
+
+/// How many bytes an input may have.
+const LONGEST_INPUT: usize = 1_048_576;
+
+/// Why no line is read.
+#[derive(Clone, Copy, Debug, PartialEq, Eq)]
+pub enum LineStop {
+    /// The source failed.
+    ReadFault,
+    /// More than 1,048,576 bytes came.
+    TooLong,
+}
+
+impl From<Failed> for LineStop {
+    ghost use Rattle.std.specs.Prelude.{◌≡◌};
+    ghost use Rattle.gb_script.specs.declared.held.LineStop.TheVariants as stop;
+
+    ghost from_gives = { λ _ e. e ≡ stop.ReadFault };
+
+    fn from(_failed: Failed) -> LineStop {
+        LineStop::ReadFault
+    }
+}
+
+/// The bytes of the last read that weren't taken, and the line that they go on.
+#[derive(Drop)]
+pub struct Held {
+    pub piece: Piece,
+    pub front: Front,
+    /// How many bytes may still be taken.
+    pub room: usize,
+}
+
+impl Held {
+    ghost use Rattle.gb_script.specs.Fronts.{IsFront};
+    ghost use Rattle.gb_script.specs.Reading.{ReadsLine, Takes};
+
+    /// Before the first read.
+    pub fn new(alloc: Global) -> Result<Held, OutOfMemory>
+        ensures piece { IfOk result (λ h. h.piece ≡ []) }
+        ensures room { IfOk result (λ h. h.room ≡ 1048576) }
+    {
+        Ok(Held {
+            piece: Piece::new(alloc)?,
+            front: Front::new(alloc)?,
+            room: LONGEST_INPUT,
+        })
+    }
+
+    /// Takes the next byte. None at the end of the source.
+    fn byte<S: Source>(&mut self, source: &mut S) -> Result<Option<u8>, LineStop>
+        requires { length self.old.piece ≤ 4096 }
+        ensures takes { Takes self.old self.new (S.left source.old) (S.left source.new) result }
+        ensures few { length self.new.piece ≤ 4096 }
+        ensures less { self.new.room ≤ self.old.room }
+        ensures later { S.faults source.old ≤ S.faults source.new }
+        ensures cause { IsErrOf result LineStop.ReadFault
+            → Rose (S.faults source.old) (S.faults source.new) }
+    {
+        let Some(b) = self.piece.next(source)? else {
+            return Ok(None);
+        };
+        if self.room == 0 {
+            return Err(LineStop::TooLong);
+        }
+        self.room -= 1;
+        Ok(Some(b))
+    }
+
+    /// Takes the next line. True where it ended with LF, and false where the source did.
+    pub fn read_line<S: Source>(&mut self, source: &mut S) -> Result<bool, LineStop>
+        requires few { length self.old.piece ≤ 4096 }
+        requires room { self.old.room ≤ 1048576 }
+        ensures line { ReadsLine self.old self.new (S.left source.old) (S.left source.new) result }
+        ensures few { length self.new.piece ≤ 4096 }
+        ensures less { self.new.room ≤ self.old.room }
+        ensures later { S.faults source.old ≤ S.faults source.new }
+        ensures cause { IsErrOf result LineStop.ReadFault
+            → Rose (S.faults source.old) (S.faults source.new) }
+    {
+        self.front.clear();
+        while let Some(b) = self.byte(source)? {
+            if b == b'\n' {
+                return Ok(true);
+            }
+            self.front.push(b);
+        }
+        Ok(false)
+    }
+}
