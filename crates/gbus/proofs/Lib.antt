@@ -1,6 +1,7 @@
 pub mod Driving
-pub mod EndedLines
 pub mod Fronts
 pub mod Limits
 pub mod Runs
+pub mod ScriptRuns
+pub mod Scripts
 pub mod Turns

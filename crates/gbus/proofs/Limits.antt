@@ -1,18 +1,16 @@
 -- What was read of an input, and what is run and written of it.
-use Rattle.std.proofs.Common.{◌≡◌, ℕ, ◌<◌, ◌≤◌, cond, Option, Some, None, List, [], ◌++◌, length, take, append-nil, append_assoc, length-append, drop, length-drop, refl, sym, subst, ap, ◌∙◌, arith}
+use Rattle.std.proofs.Common.{◌≡◌, ℕ, ◌<◌, ◌≤◌, Bool, true, false, cond, Option, Some, None, List, [], ◌++◌, length, take, append-nil, append_assoc, length-append, drop, length-drop, refl, sym, subst, ap, ◌∙◌, arith}
 use Rattle.std.specs.Prelude.{IfSome}
 use Rattle.std.specs.Io.KnownBytes.{Consumes}
 use Rattle.std.proofs.lemmas.Bool.Decides.{nat_tests}
 use Rattle.std.proofs.Math.Seq.{take-append_seam}
 use Rattle.std.proofs.lemmas.List.{length-take-le, take-append-drop}
 use Rattle.gb_base.specs.declared.status.Status.TheVariants as status
-use Rattle.gb_formats.specs.Built.{is_built}
-use Rattle.gb_formats.specs.Lines.{lines}
 use Rattle.gb_formats.specs.Manifest.{check_answer}
-use Rattle.gb_machine.specs.Report.{has_bad_line, report}
-use Rattle.gbus.specs.Answers.{is_long, script_in, status_for, text_for}
+use Rattle.gb_script.specs.Readers.{longest_input}
+use Rattle.gbus.specs.Answers.{checked_status, checked_text}
 use Rattle.gbus.specs.Manifests.{manifest_text, manifest_verdict}
-use Rattle.gbus.specs.Program.{Check, Drive, Job, Run, ended_lines, is_too_long, longest_input, output, script_status, script_within, verdict}
+use Rattle.gbus.specs.Program.{Check, is_too_long, output, verdict}
 use Rattle.gbus.specs.Reading.{IsLong, IsRead, IsWhole}
 use Rattle.gbus.specs.declared.input.Input.{Input}
 use Rattle.gbus.specs.declared.input.Input.TheVariants as input
@@ -29,13 +27,13 @@ whole_read (Some text) (Some rest) bytes w =
     (same, subst (λ t. length t ≤ longest_input) (sym same) w.within)
 
 -- the front of a text
-cut_at : (n : ℕ) (front others rest : List ℕ) → length front ≡ n → take n ((front ++ others) ++ rest) ≡ front
+pub cut_at : (n : ℕ) (front others rest : List ℕ) → length front ≡ n → take n ((front ++ others) ++ rest) ≡ front
 cut_at n front others rest full =
     ap (λ k. take k ((front ++ others) ++ rest)) (sym full) ∙ ap (take (length front)) (append_assoc front others rest)
     ∙ take-append_seam front (others ++ rest)
 
 -- a text that is too long
-beyond : (front others rest : List ℕ) → length front ≡ longest_input → 0 < length others
+pub beyond : (front others rest : List ℕ) → length front ≡ longest_input → 0 < length others
     → longest_input < length ((front ++ others) ++ rest)
 beyond front others rest full more = simp (length-append) (omega arith)
 
@@ -60,39 +58,26 @@ cut_long left after bytes front read more is = cut_long_at longest_input refl
       more = omega (arith, length-drop n bytes);
     }
 
--- ---- what is run and written
+-- ---- what is written
 
--- whether an input is too long
-long_is : (i : Input) (text : List ℕ) → IsRead i text → is_too_long text ≡ is_long i
-long_is (input.Whole bytes) text h = let small = h.1 in grind (arith, nat_tests, small)
-long_is (input.TooLong front) text h = let large = h.1 in grind (arith, nat_tests, large)
+pub within_is : (text : List ℕ) → length text ≤ longest_input → is_too_long text ≡ false
+within_is text h = grind (arith, nat_tests)
 
--- what is run of an input
-script_is : (i : Input) (text : List ℕ) → IsRead i text → script_within text ≡ script_in i
-script_is (input.Whole bytes) text h =
-    ap (λ b. cond b (ended_lines (take longest_input text)) text) (long_is (input.Whole bytes) text h) ∙ h.0
-script_is (input.TooLong front) text h =
-    ap (λ b. cond b (ended_lines (take longest_input text)) text) (long_is (input.TooLong front) text h)
-    ∙ ap ended_lines (sym h.0)
+pub beyond_is : (text : List ℕ) → longest_input < length text → is_too_long text ≡ true
+beyond_is text h = grind (arith, nat_tests)
 
 -- What is written for an input is the output of its bytes.
-pub text_is : (j : Job) (i : Input) (text : List ℕ) → IsRead i text → output j text ≡ text_for j i
-text_is (Run hex) i text h = ap (report is_built hex) (script_is i text h)
-text_is (Drive seed) i text h = refl
-text_is (Check dump) (input.Whole bytes) text h =
-    ap (λ b. cond b [] (manifest_text dump (check_answer text))) (long_is (input.Whole bytes) text h)
+pub text_is : (dump : Bool) (i : Input) (text : List ℕ) → IsRead i text → output (Check dump) text ≡ checked_text dump i
+text_is dump (input.Whole bytes) text h =
+    ap (λ b. cond b [] (manifest_text dump (check_answer text))) (within_is text h.1)
     ∙ ap (λ t. manifest_text dump (check_answer t)) h.0
-text_is (Check dump) (input.TooLong front) text h =
-    ap (λ b. cond b [] (manifest_text dump (check_answer text))) (long_is (input.TooLong front) text h)
+text_is dump (input.TooLong front) text h =
+    ap (λ b. cond b [] (manifest_text dump (check_answer text))) (beyond_is text h.1)
 
 -- How the program ends is the verdict on them.
-pub status_is : (j : Job) (i : Input) (text : List ℕ) → IsRead i text → verdict j text ≡ status_for j i
-status_is (Run hex) i text h =
-    ap (λ s. script_status (has_bad_line is_built (lines s)) (is_too_long text)) (script_is i text h)
-    ∙ ap (script_status (has_bad_line is_built (lines (script_in i)))) (long_is i text h)
-status_is (Drive seed) i text h = refl
-status_is (Check dump) (input.Whole bytes) text h =
-    ap (λ b. cond b status.TooLong (manifest_verdict (check_answer text))) (long_is (input.Whole bytes) text h)
+pub status_is : (dump : Bool) (i : Input) (text : List ℕ) → IsRead i text → verdict (Check dump) text ≡ checked_status i
+status_is dump (input.Whole bytes) text h =
+    ap (λ b. cond b status.TooLong (manifest_verdict (check_answer text))) (within_is text h.1)
     ∙ ap (λ t. manifest_verdict (check_answer t)) h.0
-status_is (Check dump) (input.TooLong front) text h =
-    ap (λ b. cond b status.TooLong (manifest_verdict (check_answer text))) (long_is (input.TooLong front) text h)
+status_is dump (input.TooLong front) text h =
+    ap (λ b. cond b status.TooLong (manifest_verdict (check_answer text))) (beyond_is text h.1)

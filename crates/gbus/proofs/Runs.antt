@@ -5,19 +5,17 @@ use Rattle.std.specs.Io.KnownBytes.{Appends, IsAtEnd}
 use Rattle.gb_base.specs.declared.status.Status.{Status}
 use Rattle.gb_base.specs.declared.status.Status.TheVariants as status
 use Rattle.gb_formats.specs.Built.{is_built}
-use Rattle.gb_formats.specs.Lines.{lines}
 use Rattle.gb_formats.specs.Manifest.{Manifest, check_answer}
 use Rattle.gb_formats.specs.ManifestRules.{Refused}
 use Rattle.gb_laws.proofs.Single.{counts-add-up}
 use Rattle.gb_machine.proofs.ScriptRuns.{reports-traced}
 use Rattle.gb_machine.specs.Summary.{made_events}
-use Rattle.gb_machine.specs.Report.{has_bad_line}
 use Rattle.gbus.proofs.Driving.{made_events-valid}
 use Rattle.gbus.proofs.Fronts.{none_taken}
 use Rattle.gbus.proofs.Limits.{status_is, text_is}
-use Rattle.gbus.specs.Answers.{is_long, script_in, status_for, text_for}
+use Rattle.gbus.specs.Answers.{checked_status, checked_text}
 use Rattle.gbus.specs.Manifests.{manifest_verdict}
-use Rattle.gbus.specs.Program.{Check, Drive, IsVerdict, Job, Run, output, script_status, script_within, verdict}
+use Rattle.gbus.specs.Program.{Check, Drive, IsVerdict, Job, Run, output, script_within, verdict}
 use Rattle.gbus.specs.Reading.{IsRead, ReadsAll}
 use Rattle.gbus.specs.Runs.{IsAnswerOf, IsAnswered, IsComplete, IsOfRun, IsWithin, OfInput}
 use Rattle.gbus.specs.Writing.{TakesFront}
@@ -36,43 +34,23 @@ of-each (Drive seed) left Now Then f h = λ text. f text (h text)
 
 -- ---- what is answered
 
--- what is answered to an input that was read is the answer of the job
-read-answer : (j : Job) (i : Input) (left : Option (List ℕ)) (a : Answer)
-    → IfSome left (IsRead i) → a.text ≡ text_for j i → a.status ≡ status_for j i
-    → IfSome left (λ text. (a.text ≡ output j text) × (a.status ≡ verdict j text))
-read-answer j i None a read text ends = tt
-read-answer j i (Some t) a read text ends =
-    (text ∙ sym (text_is j i t read), ends ∙ sym (status_is j i t read))
-
-pub run-answer : (hex : Bool) (i : Input) (left : Option (List ℕ)) (a : Answer)
-    → IfSome left (IsRead i) → a.text ≡ text_for (Run hex) i → a.status ≡ status_for (Run hex) i
-    → IsAnswerOf (Run hex) left a
-run-answer hex i left a read text ends = read-answer (Run hex) i left a read text ends
-
+-- what is answered to an input that was read is the answer of the task
 pub check-answer : (dump : Bool) (i : Input) (left : Option (List ℕ)) (a : Answer)
-    → IfSome left (IsRead i) → a.text ≡ text_for (Check dump) i
-    → a.status ≡ status_for (Check dump) i → IsAnswerOf (Check dump) left a
-check-answer dump i left a read text ends = read-answer (Check dump) i left a read text ends
+    → IfSome left (IsRead i) → a.text ≡ checked_text dump i → a.status ≡ checked_status i
+    → IsAnswerOf (Check dump) left a
+check-answer dump i None a read text ends = tt
+check-answer dump i (Some t) a read text ends =
+    (text ∙ sym (text_is dump i t read), ends ∙ sym (status_is dump i t read))
 
--- how a job ends is a verdict
-script-verdict : (bad long : Bool) → IsVerdict (script_status bad long)
-script-verdict true long = tt
-script-verdict false true = tt
-script-verdict false false = tt
-
+-- how a task ends is a verdict
 manifest-verdict : (r : Result Manifest Refused) → IsVerdict (manifest_verdict r)
 manifest-verdict (Ok m) = tt
 manifest-verdict (Err why) = tt
 
--- and so it is for each input
-pub read-verdict : (j : Job) (i : Input) (s : Status) → s ≡ status_for j i → IsVerdict s
-read-verdict (Run hex) i s e =
-    subst IsVerdict (sym e)
-    (script-verdict (has_bad_line is_built (lines (script_in i))) (is_long i))
-read-verdict (Check dump) (input.Whole bytes) s e =
+pub read-verdict : (i : Input) (s : Status) → s ≡ checked_status i → IsVerdict s
+read-verdict (input.Whole bytes) s e =
     subst IsVerdict (sym e) (manifest-verdict (check_answer bytes.items))
-read-verdict (Check dump) (input.TooLong front) s e = subst IsVerdict (sym e) tt
-read-verdict (Drive seed) i s e = subst IsVerdict (sym e) tt
+read-verdict (input.TooLong front) s e = subst IsVerdict (sym e) tt
 
 -- a verdict is none of the other statuses
 pub no-usage : (s : Status) → IsVerdict s → s ≡ status.Usage → ⊥
@@ -91,25 +69,12 @@ some-job job j is none = clash (is ∙ none)
     clash : Some j ≡ None → ⊥
     clash e = absurd cc
 
--- an input that is too long is no success
-long-script : (b : Bool) → script_status b true ≡ status.Success → ⊥
-long-script true h = absurd cc
-long-script false h = absurd cc
-
 -- after a success the source is at its end
-run-end : (hex : Bool) (i : Input) (left after : Option (List ℕ)) (before faults : ℕ) (s : Status)
-    → ReadsAll left after before faults (Ok i) → s ≡ status_for (Run hex) i
+pub check-end : (i : Input) (left after : Option (List ℕ)) (before faults : ℕ) (s : Status)
+    → ReadsAll left after before faults (Ok i) → s ≡ checked_status i
     → s ≡ status.Success → IsAtEnd after
-run-end hex (input.Whole bytes) left after before faults s read ends good = read.at_end
-run-end hex (input.TooLong front) left after before faults s read ends good =
-    absurd (long-script (has_bad_line is_built (lines (script_in (input.TooLong front))))
-    (sym ends ∙ good))
-
-check-end : (dump : Bool) (i : Input) (left after : Option (List ℕ)) (before faults : ℕ) (s : Status)
-    → ReadsAll left after before faults (Ok i) → s ≡ status_for (Check dump) i
-    → s ≡ status.Success → IsAtEnd after
-check-end dump (input.Whole bytes) left after before faults s read ends good = read.at_end
-check-end dump (input.TooLong front) left after before faults s read ends good =
+check-end (input.Whole bytes) left after before faults s read ends good = read.at_end
+check-end (input.TooLong front) left after before faults s read ends good =
     absurd (clash (sym ends ∙ good))
   where
     clash : status.TooLong ≡ status.Success → ⊥

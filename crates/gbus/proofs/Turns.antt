@@ -1,55 +1,77 @@
 -- A line that is run goes on as the report does.
-use Rattle.std.proofs.Common.{◌≡◌, ℕ, ◌+◌, Bool, true, false, ◌||◌, Some, Ok, Err, List, [], ◌∷◌, ◌++◌, append_assoc, append-nil, refl, sym, ap, ◌∙◌, subst}
+use Rattle.std.proofs.Common.{◌≡◌, ℕ, ◌+◌, ◌≤◌, nat_lt, length, arith, Bool, true, false, ◌||◌, Option, Some, None, Ok, Err, List, [], ◌∷◌, ◌++◌, append_assoc, append-nil, refl, sym, ap, ◌∙◌, subst}
 use Rattle.gb_base.specs.declared.entry.Entry.{Entry}
 use Rattle.gb_base.specs.declared.event.Event.{Event}
 use Rattle.gb_formats.specs.Grammar.{Said}
 use Rattle.gb_base.specs.declared.fault.LineReason.{LineReason}
-use Rattle.gb_formats.specs.Lines.{lines}
 use Rattle.gb_formats.specs.Texts.{entries_text}
+use Rattle.std.specs.Io.KnownBytes.{Appends}
 use Rattle.std.specs.Result.{is_err}
+use Rattle.std.proofs.lemmas.Bool.Decides.{nat_tests}
+use Rattle.std.proofs.lemmas.List.{take_all}
+use Rattle.gb_script.specs.Readers.{IsLineOf}
 use Rattle.gb_machine.specs.Events.{step}
-use Rattle.gb_machine.specs.Report.{has_bad_line, report, report_from, reported}
+use Rattle.gb_formats.specs.Script.{said}
+use Rattle.gb_machine.specs.Report.{has_bad_line, report_from, reported}
 use Rattle.gb_machine.specs.State.{State, first_state}
 use Rattle.gb_formats.specs.Built.{is_built}
 use Rattle.gb_system.specs.Stands as system
-use Rattle.gbus.specs.Sessions.{Ends, GoesOn, line_says}
+use Rattle.gbus.proofs.Fronts.{appends_more, nothing_more}
+use Rattle.gbus.specs.Scripts.{report_of}
+use Rattle.gbus.specs.Sessions.{Ends, GoesOn, TurnsAs, line_says}
+use Rattle.gbus.specs.Stages.{IsBehind}
 use Rattle.gbus.specs.declared.session.Session.{Session}
+use Rattle.gbus.specs.declared.session.Turn.{Turn}
+use Rattle.gbus.specs.declared.session.Turn.TheVariants as turn
+
+-- a line that isn't long is handed out whole
+not-long : (n m : ℕ) → false ≡ nat_lt m n → n ≤ m
+not-long n m h = grind (arith, nat_tests)
+
+pub short_line : (bytes : List ℕ) (long : Bool) (whole : List ℕ) → IsLineOf bytes long whole → long ≡ false → bytes ≡ whole
+short_line bytes long whole is h = is.0 ∙ take_all 8192 whole (not-long (length whole) 8192 (sym h ∙ is.1))
 
 -- an event was stepped, and its entries were reported
 pub goes_on : (old new : Session) (says : Said) (s : State) (e : Event) (es : List Entry)
     → says ≡ Ok (Some e) → system.StepsAs new.system s e (Ok es)
-    → new.text ≡ old.text ++ entries_text new.number old.hex es
+    → new.text ≡ entries_text new.number old.hex es
     → GoesOn old new says s
 goes_on old new says s e es is steps text = record {
   after = (step s e).state;
   stands = steps.1;
-  piece = entries_text new.number old.hex es;
-  text = text;
   whole = λ later. ap (λ w. reported w new.number old.hex s later) is
-      ∙ ap (λ xs. entries_text new.number old.hex xs ++ later (step s e).state) (sym steps.0);
+      ∙ ap (λ xs. entries_text new.number old.hex xs ++ later (step s e).state) (sym steps.0)
+      ∙ ap (λ t. t ++ later (step s e).state) (sym text);
+  good = ap is_err is;
+}
+
+-- a line without an event
+pub passes : (old new : Session) (says : Said) (s : State) → says ≡ Ok None → system.Stands new.system s → new.text ≡ []
+    → GoesOn old new says s
+passes old new says s is stands text = record {
+  after = s;
+  stands = stands;
+  whole = λ later. ap (λ w. reported w new.number old.hex s later) is ∙ ap (λ t. t ++ later s) (sym text);
   good = ap is_err is;
 }
 
 -- the report of a line that is run and of the lines behind it
-report_next : (old new : Session) (line : List ℕ) (ls : List (List ℕ)) (s : State) (h : GoesOn old new (line_says line) s)
-    → new.number ≡ old.number + 1
-    → old.text ++ report_from is_built old.hex (old.number + 1) s (line ∷ ls) ≡ new.text ++ report_from is_built old.hex (new.number + 1) h.after ls
+line_next : (old new : Session) (hex : Bool) (line : List ℕ) (ls : List (List ℕ)) (s : State) (h : GoesOn old new (line_says line) s)
+    → old.hex ≡ hex → new.number ≡ old.number + 1
+    → report_from is_built hex (old.number + 1) s (line ∷ ls) ≡ new.text ++ report_from is_built hex (new.number + 1) h.after ls
 unfolding report_from
-report_next old new line ls s h number =
-    let later : State → List ℕ = λ t. report_from is_built old.hex (new.number + 1) t ls in
-    ap (λ n. old.text ++ reported (line_says line) n old.hex s (λ t. report_from is_built old.hex (n + 1) t ls)) (sym number)
-    ∙ ap (λ t. old.text ++ t) (h.whole later)
-    ∙ sym (append_assoc old.text h.piece (later h.after))
-    ∙ ap (λ t. t ++ later h.after) (sym h.text)
+line_next old new hex line ls s h same number =
+    ap (λ n. reported (line_says line) n hex s (λ t. report_from is_built hex (n + 1) t ls)) (sym number)
+    ∙ ap (λ b. reported (line_says line) new.number b s (λ t. report_from is_built hex (new.number + 1) t ls)) (sym same)
+    ∙ h.whole (λ t. report_from is_built hex (new.number + 1) t ls)
 
 -- the report of a bad line
-report_bad : (old new : Session) (line : List ℕ) (ls : List (List ℕ)) (s : State) (h : Ends old new (line_says line))
-    → new.number ≡ old.number + 1
-    → old.text ++ report_from is_built old.hex (old.number + 1) s (line ∷ ls) ≡ new.text
+line_bad : (old new : Session) (hex : Bool) (line : List ℕ) (ls : List (List ℕ)) (s : State) (h : Ends old new (line_says line))
+    → new.number ≡ old.number + 1 → report_from is_built hex (old.number + 1) s (line ∷ ls) ≡ new.text
 unfolding report_from
-report_bad old new line ls s h number =
-    ap (λ n. old.text ++ reported (line_says line) n old.hex s (λ t. report_from is_built old.hex (n + 1) t ls)) (sym number)
-    ∙ ap (λ w. old.text ++ reported w new.number old.hex s (λ t. report_from is_built old.hex (new.number + 1) t ls)) h.said_is
+line_bad old new hex line ls s h number =
+    ap (λ n. reported (line_says line) n hex s (λ t. report_from is_built hex (n + 1) t ls)) (sym number)
+    ∙ ap (λ w. reported w new.number hex s (λ t. report_from is_built hex (new.number + 1) t ls)) h.said_is
     ∙ sym h.text
 
 -- nothing is reported of no lines
@@ -57,66 +79,103 @@ report_none : (hex : Bool) (n : ℕ) (s : State) → report_from is_built hex n 
 unfolding report_from
 report_none hex n s = refl
 
--- whether a line or a line behind it is bad
-bad_next : (line : List ℕ) (ls : List (List ℕ)) → is_err (line_says line) ≡ false → has_bad_line is_built (line ∷ ls) ≡ has_bad_line is_built ls
-unfolding has_bad_line
-bad_next line ls h = ap (λ b. b || has_bad_line is_built ls) h
+-- ---- bad lines
 
-bad_line_ends : (line : List ℕ) (ls : List (List ℕ)) (why : LineReason) → line_says line ≡ Err why → has_bad_line is_built (line ∷ ls) ≡ true
-unfolding has_bad_line
-bad_line_ends line ls why h = ap (λ w. is_err w || has_bad_line is_built ls) h
+bad_step : (t : Bool) (xs ys : List (List ℕ)) → has_bad_line is_built (xs ++ ys) ≡ has_bad_line is_built xs || has_bad_line is_built ys
+    → t || has_bad_line is_built (xs ++ ys) ≡ (t || has_bad_line is_built xs) || has_bad_line is_built ys
+bad_step true xs ys h = refl
+bad_step false xs ys h = h
 
-bad_none : has_bad_line is_built [] ≡ false
+pub bad_of : (xs ys : List (List ℕ)) → has_bad_line is_built (xs ++ ys) ≡ has_bad_line is_built xs || has_bad_line is_built ys
+unfolding has_bad_line
+bad_of [] ys = refl
+bad_of (line ∷ xs) ys = bad_step (is_err (said is_built 0 line)) xs ys (bad_of xs ys)
+
+pub bad_none : has_bad_line is_built [] ≡ false
 unfolding has_bad_line
 bad_none = refl
 
--- What a session has come to in a script: the report so far and that of the lines that are left are
--- the whole.
-pub record Stage (x : Session) (hex : Bool) (ls : List (List ℕ)) (script : List ℕ) (state : State) : Type 0 where
-  pub stands : system.Stands x.system state
-  pub text : x.text ++ report_from is_built hex (x.number + 1) state ls ≡ report is_built hex script
-  pub bad : has_bad_line is_built ls ≡ has_bad_line is_built (lines script)
-  pub same : x.hex ≡ hex
+bad_one : (line : List ℕ) (ls : List (List ℕ)) → has_bad_line is_built (line ∷ ls) ≡ is_err (line_says line) || has_bad_line is_built ls
+unfolding has_bad_line
+bad_one line ls = refl
+
+-- good lines, and then a good one
+pub good_more : (given : List (List ℕ)) (line : List ℕ) → has_bad_line is_built given ≡ false → is_err (line_says line) ≡ false
+    → has_bad_line is_built (given ++ line ∷ []) ≡ false
+good_more given line h good =
+    bad_of given (line ∷ []) ∙ ap (λ b. b || has_bad_line is_built (line ∷ [])) h
+    ∙ bad_one line [] ∙ ap (λ b. b || has_bad_line is_built []) good ∙ bad_none
+
+-- a bad line among others
+or_true : (t : Bool) → t || true ≡ true
+or_true true = refl
+or_true false = refl
+
+pub bad_among : (given : List (List ℕ)) (line : List ℕ) (ls : List (List ℕ)) → is_err (line_says line) ≡ true
+    → has_bad_line is_built (given ++ line ∷ ls) ≡ true
+bad_among given line ls bad =
+    bad_of given (line ∷ ls)
+    ∙ ap (λ b. has_bad_line is_built given || b) (bad_one line ls ∙ ap (λ b. b || has_bad_line is_built ls) bad)
+    ∙ or_true (has_bad_line is_built given)
+
+-- ---- behind a line
+
+-- what is reported of lines, of which this one is run
+pub goes_line : (old new : Session) (hex : Bool) (taken after : Option (List ℕ)) (given : List (List ℕ)) (line : List ℕ) (s : State)
+    → IsBehind old hex taken after given s → (h : GoesOn old new (line_says line) s) → new.number ≡ old.number + 1
+    → (ls : List (List ℕ)) → report_of hex (given ++ line ∷ ls) ≡ (report_of hex given ++ new.text) ++ report_from is_built hex (new.number + 1) h.after ls
+goes_line old new hex taken after given line s b h number ls =
+    b.goes (line ∷ ls) ∙ ap (λ t. report_of hex given ++ t) (line_next old new hex line ls s h b.same number)
+    ∙ sym (append_assoc (report_of hex given) new.text (report_from is_built hex (new.number + 1) h.after ls))
+
+-- of which this one is the first bad one
+pub goes_bad : (old new : Session) (hex : Bool) (taken after : Option (List ℕ)) (given : List (List ℕ)) (line : List ℕ) (s : State)
+    → IsBehind old hex taken after given s → Ends old new (line_says line) → new.number ≡ old.number + 1
+    → (ls : List (List ℕ)) → report_of hex (given ++ line ∷ ls) ≡ report_of hex given ++ new.text
+goes_bad old new hex taken after given line s b h number ls =
+    b.goes (line ∷ ls) ∙ ap (λ t. report_of hex given ++ t) (line_bad old new hex line ls s h number)
+
+-- what is reported of lines up to one, and what behind it
+pub goes_turn : (old new : Session) (hex : Bool) (taken after : Option (List ℕ)) (given : List (List ℕ)) (line : List ℕ) (s : State) (turn : Turn)
+    → IsBehind old hex taken after given s → TurnsAs old new line s (Ok turn) → new.number ≡ old.number + 1
+    → (ls : List (List ℕ)) → (tail : List ℕ) × (report_of hex (given ++ line ∷ ls) ≡ (report_of hex given ++ new.text) ++ tail)
+goes_turn old new hex taken after given line s turn.Next b h number ls =
+    (report_from is_built hex (new.number + 1) h.after ls, goes_line old new hex taken after given line s b h number ls)
+goes_turn old new hex taken after given line s turn.Refused b h number ls =
+    ([], goes_bad old new hex taken after given line s b h number ls ∙ sym (append-nil (report_of hex given ++ new.text)))
+
+-- the report of the lines up to this one
+pub wrote_turn : (old new : Session) (hex : Bool) (taken after : Option (List ℕ)) (given : List (List ℕ)) (line : List ℕ) (s : State) (turn : Turn)
+    → IsBehind old hex taken after given s → TurnsAs old new line s (Ok turn) → new.number ≡ old.number + 1
+    → report_of hex (given ++ line ∷ []) ≡ report_of hex given ++ new.text
+wrote_turn old new hex taken after given line s turn.Next b h number =
+    goes_line old new hex taken after given line s b h number []
+    ∙ ap (λ t. (report_of hex given ++ new.text) ++ t) (report_none hex (new.number + 1) h.after) ∙ append-nil (report_of hex given ++ new.text)
+wrote_turn old new hex taken after given line s turn.Refused b h number = goes_bad old new hex taken after given line s b h number []
+
+-- a line was run, and its report written
+pub next_behind : (old new : Session) (hex : Bool) (taken after later : Option (List ℕ)) (given : List (List ℕ)) (line : List ℕ) (s : State)
+    → IsBehind old hex taken after given s → (h : GoesOn old new (line_says line) s) → new.number ≡ old.number + 1 → new.hex ≡ old.hex
+    → Appends after later new.text → IsBehind new hex taken later (given ++ line ∷ []) h.after
+next_behind old new hex taken after later given line s b h number same wrote =
+    let up_to = wrote_turn old new hex taken after given line s turn.Next b h number in
+    record {
+      stands = h.stands;
+      same = same ∙ b.same;
+      wrote = subst (Appends taken later) (sym up_to) (appends_more taken after later (report_of hex given) new.text b.wrote wrote);
+      goes = λ ls. ap (report_of hex) (append_assoc given (line ∷ []) ls) ∙ goes_line old new hex taken after given line s b h number ls
+          ∙ ap (λ t. t ++ report_from is_built hex (new.number + 1) h.after ls) (sym up_to);
+      good = good_more given line b.good h.good;
+    }
 
 -- before the first line
-pub first_stage : (x : Session) (hex : Bool) (script : List ℕ) → system.Stands x.system first_state → x.text ≡ [] → x.number ≡ 0 → x.hex ≡ hex
-    → Stage x hex (lines script) script first_state
-first_stage x hex script stands text number same = record {
+pub first_behind : (x : Session) (hex : Bool) (taken : Option (List ℕ)) → system.Stands x.system first_state → x.number ≡ 0 → x.hex ≡ hex
+    → IsBehind x hex taken taken [] first_state
+first_behind x hex taken stands number same = record {
   stands = stands;
-  text = ap (λ t. t ++ report_from is_built hex (x.number + 1) first_state (lines script)) text
-      ∙ ap (λ n. report_from is_built hex (n + 1) first_state (lines script)) number;
-  bad = refl;
   same = same;
+  wrote = subst (Appends taken taken) (sym (report_none hex 1 first_state)) (nothing_more taken);
+  goes = λ ls. sym (ap (λ t. t ++ report_from is_built hex (x.number + 1) first_state ls) (report_none hex 1 first_state)
+      ∙ ap (λ n. report_from is_built hex (n + 1) first_state ls) number);
+  good = bad_none;
 }
-
--- a line was run
-pub next_stage : (old new : Session) (hex : Bool) (line : List ℕ) (ls : List (List ℕ)) (script : List ℕ) (state : State)
-    → Stage old hex (line ∷ ls) script state → (h : GoesOn old new (line_says line) state)
-    → new.number ≡ old.number + 1 → new.hex ≡ old.hex → Stage new hex ls script h.after
-next_stage old new hex line ls script state g h number same = record {
-  stands = h.stands;
-  text = subst (λ b. new.text ++ report_from is_built b (new.number + 1) h.after ls ≡ report is_built hex script) g.same
-      (sym (report_next old new line ls state h number)
-      ∙ ap (λ b. old.text ++ report_from is_built b (old.number + 1) state (line ∷ ls)) g.same ∙ g.text);
-  bad = sym (bad_next line ls h.good) ∙ g.bad;
-  same = same ∙ g.same;
-}
-
--- a line was bad
-pub bad_text_is : (old new : Session) (hex : Bool) (line : List ℕ) (ls : List (List ℕ)) (script : List ℕ) (state : State)
-    → Stage old hex (line ∷ ls) script state → Ends old new (line_says line) → new.number ≡ old.number + 1
-    → new.text ≡ report is_built hex script
-bad_text_is old new hex line ls script state g h number =
-    sym (report_bad old new line ls state h number)
-    ∙ ap (λ b. old.text ++ report_from is_built b (old.number + 1) state (line ∷ ls)) g.same ∙ g.text
-
-pub bad_is : (old new : Session) (hex : Bool) (line : List ℕ) (ls : List (List ℕ)) (script : List ℕ) (state : State)
-    → Stage old hex (line ∷ ls) script state → Ends old new (line_says line) → true ≡ has_bad_line is_built (lines script)
-bad_is old new hex line ls script state g h = sym (bad_line_ends line ls h.why h.said_is) ∙ g.bad
-
--- no line is left
-pub all_text : (x : Session) (hex : Bool) (script : List ℕ) (state : State) → Stage x hex [] script state → x.text ≡ report is_built hex script
-all_text x hex script state g = sym (ap (λ t. x.text ++ t) (report_none hex (x.number + 1) state) ∙ append-nil x.text) ∙ g.text
-
-pub all_good : (x : Session) (hex : Bool) (script : List ℕ) (state : State) → Stage x hex [] script state → false ≡ has_bad_line is_built (lines script)
-all_good x hex script state g = sym bad_none ∙ g.bad

@@ -5,6 +5,8 @@ pub mod Manifests
 pub mod Program
 pub mod Reading
 pub mod Runs
+pub mod Scripts
 pub mod Sessions
+pub mod Stages
 pub mod Stops
 pub mod Writing

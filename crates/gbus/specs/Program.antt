@@ -1,6 +1,5 @@
 -- What the program writes and how it ends, by its words and its input.
-use Rattle.std.specs.Prelude.{ℕ, ◌==◌, nat_lt, Bool, true, false, ◌&&◌, if◌then◌else◌, Option, Some, None, option_map, List, [], ◌∷◌, length, take, codes}
-use Rattle.std.specs.List.{list_any}
+use Rattle.std.specs.Prelude.{ℕ, nat_lt, Bool, true, false, ◌&&◌, if◌then◌else◌, Option, Some, None, option_map, List, [], ◌∷◌, length, take, codes}
 use Rattle.std.specs.Str.{bytes_eq}
 use Rattle.gb_base.specs.declared.status.Status.{Status}
 use Rattle.gb_base.specs.declared.status.Status.TheVariants as status
@@ -10,6 +9,8 @@ use Rattle.gb_formats.specs.WordValues.{number_word}
 use Rattle.gb_machine.specs.Report.{has_bad_line, report}
 use Rattle.gb_machine.specs.Summary.{summary}
 use Rattle.gb_formats.specs.Built.{is_built}
+use Rattle.gb_script.specs.Readers.{longest_input}
+use Rattle.gb_script.specs.Reading.{ended_lines}
 use Rattle.gbus.specs.Manifests.{manifest_text, manifest_verdict}
 
 -- What the words ask for: the report of a script, with message bytes where hex is wanted; or the
@@ -46,22 +47,8 @@ job_of (w ∷ []) = one_word w
 job_of (w ∷ x ∷ []) = two_words w x
 job_of (w ∷ x ∷ y ∷ ws) = None
 
--- how many bytes an input may have
-abbrev pub longest_input : ℕ
-longest_input = 1048576
-
 abbrev pub is_too_long : List ℕ → Bool
 is_too_long text = nat_lt longest_input (length text)
-
--- the line end LF
-abbrev pub is_lf : ℕ → Bool
-is_lf b = b == 10
-
--- the lines of a text that end with LF: all up to the last LF
-abbrev pub ended_lines : List ℕ → List ℕ
-ended_lines [] = []
-ended_lines (b ∷ bs) =
-    let later = ended_lines bs in if list_any is_lf (b ∷ bs) then b ∷ later else []
 
 -- What is run of a script: all of it, or of one that is too long the lines that end within the
 -- limit.
@@ -75,6 +62,13 @@ reads (Some (Run hex)) = true
 reads (Some (Check dump)) = true
 reads (Some (Drive seed)) = false
 reads None = false
+
+-- whether a script is run
+abbrev pub is_run : Option Job → Bool
+is_run (Some (Run hex)) = true
+is_run (Some (Check dump)) = false
+is_run (Some (Drive seed)) = false
+is_run None = false
 
 -- What is written for an input: the report of a script, as far as it is run, or what a check of a
 -- manifest says. Of a manifest that is too long nothing is. The summary of a made script is the

@@ -2,7 +2,7 @@
 use Rattle.std.specs.Prelude.{◌≡◌, ◌<◌, ◌≤◌, ℕ, Option, Result, Ok, Err, ⊤, List, ◌++◌, length, take}
 use Rattle.std.specs.Io.KnownBytes.{Consumes, IsAtEnd}
 use Rattle.gb_base.specs.Faults.{Rose}
-use Rattle.gbus.specs.Program.{longest_input}
+use Rattle.gb_script.specs.Readers.{longest_input}
 use Rattle.gbus.specs.declared.input.Input.{Input}
 use Rattle.gbus.specs.declared.input.Input.TheVariants as input
 use Rattle.gbus.specs.declared.input.ReadStop.{ReadStop}

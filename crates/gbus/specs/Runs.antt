@@ -1,5 +1,5 @@
 -- What a run of the program promises.
-use Rattle.std.specs.Prelude.{◌≡◌, ℕ, ◌⊎◌, Option, Result, Ok, Err, ⊤, List, IfSome}
+use Rattle.std.specs.Prelude.{◌≡◌, ℕ, Bool, ◌⊎◌, Option, Some, None, Result, Ok, Err, ⊤, List, IfSome}
 use Rattle.std.specs.Io.KnownBytes.{Appends}
 use Rattle.gb_base.specs.Faults.{Rose}
 use Rattle.gb_base.specs.declared.status.Status.{Status}
@@ -21,6 +21,13 @@ abbrev pub OfInput : Job → Option (List ℕ) → (List ℕ → Type 0) → Typ
 OfInput (Run hex) left Holds = IfSome left Holds
 OfInput (Check dump) left Holds = IfSome left Holds
 OfInput (Drive seed) left Holds = (text : List ℕ) → Holds text
+
+-- So it is where a script is run.
+abbrev pub IfRun : Option Job → (Bool → Type 0) → Type 0
+IfRun None Holds = ⊤
+IfRun (Some (Run hex)) Holds = Holds hex
+IfRun (Some (Check dump)) Holds = ⊤
+IfRun (Some (Drive seed)) Holds = ⊤
 
 -- The status is the verdict on the bytes that the source had left, and the sink took the output.
 -- `job` is what the words ask for, `left` what the source had left where it tells it, `taken` and

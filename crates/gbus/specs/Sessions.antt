@@ -17,21 +17,19 @@ use Rattle.gbus.specs.declared.session.Turn.TheVariants as turn
 abbrev pub line_says : List ℕ → Said
 line_says line = said is_built 0 line
 
--- a line was run from this state: its text stands behind the report, and so will what comes later
+-- a line was run from this state: its text is written, and then what comes later
 pub record GoesOn (old new : Session) (says : Said) (s : State) : Type 0 where
   pub after : State
   pub stands : system.Stands new.system after
-  pub piece : List ℕ
-  pub text : new.text ≡ old.text ++ piece
   pub whole : (later : State → List ℕ) →
-      reported says new.number old.hex s later ≡ piece ++ later after
+      reported says new.number old.hex s later ≡ new.text ++ later after
   pub good : is_err says ≡ false
 
 -- a line is bad, and the report names it
 pub record Ends (old new : Session) (says : Said) : Type 0 where
   pub why : LineReason
   pub said_is : says ≡ Err why
-  pub text : new.text ≡ old.text ++ refusal_line_text new.number why
+  pub text : new.text ≡ refusal_line_text new.number why
 
 -- By cases on the answer. After want of memory nothing is said.
 abbrev pub TurnsBy : Session → Session → Said → State → Result Turn OutOfMemory → Type 0

@@ -1,5 +1,5 @@
 -- What writing a text answers.
-use Rattle.std.specs.Prelude.{◌≡◌, ℕ, Option, Result, Ok, Err, ⊤, List, ◌++◌}
+use Rattle.std.specs.Prelude.{◌≡◌, ◌<◌, ℕ, length, Option, Result, Ok, Err, ⊤, List, ◌++◌}
 use Rattle.std.specs.Io.KnownBytes.{Appends}
 use Rattle.gb_base.specs.Faults.{Rose}
 use Rattle.gb_base.specs.declared.sink.WriteStop.{WriteStop}
@@ -12,6 +12,14 @@ pub record TakesFront (taken after : Option (List ℕ)) (bytes : List ℕ) : Typ
   pub whole : bytes ≡ front ++ rest
   pub taken_is : Appends taken after front
 
+-- a front of these bytes was taken, and not all
+pub record TakesPart (taken after : Option (List ℕ)) (bytes : List ℕ) : Type 0 where
+  pub front : List ℕ
+  pub rest : List ℕ
+  pub whole : bytes ≡ front ++ rest
+  pub short : 0 < length rest
+  pub taken_is : Appends taken after front
+
 -- the sink failed, or memory was wanting
 abbrev pub StopsBy : ℕ → ℕ → WriteStop → Type 0
 StopsBy before faults stop.Failed = Rose before faults
@@ -22,4 +30,4 @@ abbrev pub WritesAll : {A : Type 0} → Option (List ℕ) → Option (List ℕ) 
     → Result A WriteStop → Type 0
 WritesAll taken after before faults bytes (Ok x) = Appends taken after bytes
 WritesAll taken after before faults bytes (Err e) =
-    TakesFront taken after bytes × StopsBy before faults e
+    TakesPart taken after bytes × StopsBy before faults e

@@ -3,15 +3,14 @@
 ghost use Rattle.std.specs.Prelude.{◌≡◌, ◌≤◌, Some, IfOk, true, false};
 ghost use Rattle.std.specs.Io.KnownBytes.{IsAtEnd};
 ghost use Rattle.gbus.specs.Answers.{checked_status, checked_text};
-ghost use Rattle.gbus.specs.Jobs.{job_seen, seed_of};
+ghost use Rattle.gbus.specs.Jobs.{task_seed, task_seen};
 ghost use Rattle.gbus.specs.Program.{IsVerdict, reads};
 ghost use Rattle.gbus.specs.Runs.{FailsAs, IsAnswerOf};
 
 use crate::drive::drive;
 use crate::input::{Input, ReadStop, read_all};
 use crate::manifests::manifest_answer;
-use crate::script::script_answer;
-use crate::words::Job;
+use crate::words::Task;
 use gb_base::{OutOfMemory, Source, Status, Text};
 use std::alloc::Global;
 
@@ -24,29 +23,24 @@ pub struct Answer {
     pub status: Status,
 }
 
-/// What is written for a job. The source is read to its end, or until too many bytes came, where
-/// the job is one that reads.
-pub fn answer_for<S: Source>(alloc: Global, job: Job, source: &mut S) -> Result<Answer, ReadStop>
-    requires { seed_of job ≤ 2147483647 }
-    ensures answer { IfOk result (IsAnswerOf (job_seen job) (S.left source.old)) }
+/// What is written for a task. The source is read to its end, or until too many bytes came, where
+/// the task is one that reads.
+pub fn answer_for<S: Source>(alloc: Global, task: Task, source: &mut S) -> Result<Answer, ReadStop>
+    requires { task_seed task ≤ 2147483647 }
+    ensures answer { IfOk result (IsAnswerOf (task_seen task) (S.left source.old)) }
     ensures verdict { IfOk result (λ a. IsVerdict a.status) }
-    ensures at_end { reads (Some (job_seen job)) ≡ true
+    ensures at_end { reads (Some (task_seen task)) ≡ true
         → IfOk result (λ a. a.status ≡ Status.Success → IsAtEnd (S.left source.new)) }
-    ensures kept { reads (Some (job_seen job)) ≡ false → source.new ≡ source.old }
+    ensures kept { reads (Some (task_seen task)) ≡ false → source.new ≡ source.old }
     ensures fault { FailsAs (S.faults source.old) (S.faults source.new) result }
 {
-    match job {
-        Job::Run { hex } => {
-            let input = read_all(alloc, source)?;
-            let answer = script_answer(alloc, &input, hex)?;
-            Ok(answer)
-        }
-        Job::Check { dump } => {
+    match task {
+        Task::Check { dump } => {
             let input = read_all(alloc, source)?;
             let answer = checked(alloc, &input, dump)?;
             Ok(answer)
         }
-        Job::Drive { seed } => {
+        Task::Drive { seed } => {
             let answer = drive(alloc, seed)?;
             Ok(answer)
         }

@@ -4,13 +4,15 @@ ghost use Rattle.std.specs.Prelude.{◌≡◌, ◌↔◌, None, map, true, false
 ghost use Rattle.std.specs.String.{string_bytes};
 ghost use Rattle.std.specs.Io.KnownBytes.{IsAtEnd};
 ghost use Rattle.gb_base.specs.Faults.{Rose};
-ghost use Rattle.gbus.specs.Program.{IsVerdict, job_of, reads};
-ghost use Rattle.gbus.specs.Runs.{IsAnswered, IsComplete, IsOfRun, IsWithin};
+ghost use Rattle.gbus.specs.Program.{IsVerdict, is_run, job_of, reads};
+ghost use Rattle.gbus.specs.Runs.{IfRun, IsAnswered, IsComplete, IsOfRun, IsWithin};
+ghost use Rattle.gbus.specs.Scripts.{IsCutOff, IsRefusedAt, StopsShort};
 
 use crate::answer::answer_for;
 use crate::input::ReadStop;
 use crate::output::write_all;
-use crate::words::job_of;
+use crate::script::run_script;
+use crate::words::{Job, job_of};
 use gb_base::{Gate, Sink, Source, Status, WriteStop};
 use std::alloc::Global;
 use std::thread::Threads;
@@ -47,8 +49,21 @@ pub fn run<R: Threads + Sync, S: Source, K: Sink, G: Gate>(
 
     // A fault comes only where the count of the source or of the sink rose.
     ensures read { result ≡ Status.ReadFault → Rose (S.faults source.old) (S.faults source.new) }
-    ensures unread { result ≡ Status.ReadFault → sink.new ≡ sink.old }
+    ensures unread { result ≡ Status.ReadFault → is_run (job_of (map string_bytes words.now)) ≡ false
+        → sink.new ≡ sink.old }
     ensures write { result ≡ Status.WriteFault → Rose (K.faults sink.old) (K.faults sink.new) }
+
+    // A script is run line by line. At ReadFault the report of the lines that ended within the bytes
+    // read was written, and none of these is bad. At WriteFault at most 4,096 bytes were read past
+    // the first line whose report wasn't wholly taken, and at Refused past the bad line.
+    ensures cut_off { result ≡ Status.ReadFault → IfRun (job_of (map string_bytes words.now))
+        (λ hex. IsCutOff hex (S.left source.old) (S.left source.new) (K.taken sink.old)
+        (K.taken sink.new)) }
+    ensures stops_short { result ≡ Status.WriteFault → IfRun (job_of (map string_bytes words.now))
+        (λ hex. StopsShort hex (S.left source.old) (S.left source.new) (K.taken sink.old)
+        (K.taken sink.new)) }
+    ensures refused_at { result ≡ Status.Refused → IfRun (job_of (map string_bytes words.now))
+        (λ hex. IsRefusedAt (S.left source.old) (S.left source.new)) }
 
     // Where no count rose, the status is the verdict, unless memory is wanting.
     ensures complete { IsComplete (job_of (map string_bytes words.now)) (S.left source.old)
@@ -61,7 +76,11 @@ pub fn run<R: Threads + Sync, S: Source, K: Sink, G: Gate>(
     let Some(job) = job_of(words) else {
         return Status::Usage;
     };
-    let answer = match answer_for(alloc, job, source) {
+    let task = match job {
+        Job::Run { hex } => return run_script(alloc, hex, source, sink),
+        Job::Task(task) => task,
+    };
+    let answer = match answer_for(alloc, task, source) {
         Ok(answer) => answer,
         Err(ReadStop::Failed) => return Status::ReadFault,
         Err(ReadStop::Memory(_)) => return Status::NoMemory,

@@ -1,101 +1,106 @@
-//! The report of a script.
+//! Runs a script line by line.
 
-ghost use Rattle.std.specs.Prelude.{◌≡◌, ◌≤◌, IfOk, length};
-ghost use Rattle.gb_formats.specs.Built.{is_built};
-ghost use Rattle.gb_formats.specs.Lines.{lines};
-ghost use Rattle.gb_machine.specs.Report.{has_bad_line, report};
-ghost use Rattle.gbus.specs.Answers.{script_in, status_for, text_for};
-ghost use Rattle.gbus.specs.Program.{Run, ended_lines, script_status};
-ghost use Rattle.gbus.specs.Reading.{kept_of};
+ghost use Rattle.std.specs.Prelude.{◌≡◌, ◌+◌, ◌≤◌, ℕ, List, [], ◌∷◌, ◌++◌, Bool, Option, Some, None, IfSome, IfOk};
+ghost use Rattle.gb_machine.specs.State.{State};
+ghost use Rattle.gb_script.specs.Readers.{Lends, Reads, number_of, stopped};
+ghost use Rattle.gbus.specs.Scripts.{FaultRose, IsFrontOfReport, ScriptEnds};
 
-use crate::answer::Answer;
-use crate::input::Input;
+use crate::output::write_all;
 use crate::session::{Session, Turn};
-use gb_base::{OutOfMemory, Status, Text};
-use gb_script::first_line;
+use gb_base::{OutOfMemory, Sink, Source, Status, WriteStop};
+use gb_script::{LineReader, LineStop};
 use std::alloc::Global;
 
-/// The report of a script.
+/// A script that is read, run and reported.
 #[derive(Drop)]
-struct Report {
-    /// Its text.
-    text: Text,
-    /// A line is bad, and the text names it last.
-    refused: bool,
+pub struct Script {
+    reader: LineReader,
+    session: Session,
 }
 
-/// Runs the script of an input, and reports what each line brings about. Of an input that is too
-/// long the lines that end within the limit are run.
-pub fn script_answer(alloc: Global, input: &Input, hex: bool) -> Result<Answer, OutOfMemory>
-    requires { length (kept_of input.now) ≤ 1048576 }
-    ensures text { IfOk result (λ a. a.text ≡ text_for (Run hex) input.now) }
-    ensures status { IfOk result (λ a. a.status ≡ status_for (Run hex) input.now) }
-{
-    let report = report_script(alloc, script_in(input), hex)?;
-    Ok(Answer {
-        text: report.text,
-        status: script_status(report.refused, matches!(input, Input::TooLong(_))),
-    })
-}
+impl Script {
+    ghost use Rattle.gbus.specs.Stages.{IsBehind, Stage, TurnsOut};
 
-/// The script that is run of an input.
-fn script_in(input: &Input) -> &[u8]
-    ensures script { result.now ≡ script_in input.now }
-    ensures shorter { length result.now ≤ length (kept_of input.now) }
-{
-    match input {
-        Input::Whole(script) => script.as_slice(),
-        Input::TooLong(front) => ended_lines(front.as_slice()),
+    /// Before the first line.
+    fn new(alloc: Global, hex: bool) -> Result<Script, OutOfMemory>
+        ensures { IfOk result (λ x. (left : Option (List ℕ)) → (taken : Option (List ℕ))
+            → Stage x hex left left taken taken) }
+    {
+        Ok(Script {
+            reader: LineReader::new(alloc)?,
+            session: Session::new(alloc, hex)?,
+        })
     }
-}
 
-/// How a script ends, of which everything was written: a bad line comes before an input that is
-/// too long.
-fn script_status(refused: bool, too_long: bool) -> Status
-    ensures { result ≡ script_status refused too_long }
-{
-    if refused {
-        Status::Refused
-    } else if too_long {
-        Status::TooLong
-    } else {
-        Status::Success
-    }
-}
-
-/// The lines of a text that end with LF.
-fn ended_lines(text: &[u8]) -> &[u8]
-    ensures lines { result.now ≡ ended_lines text.now }
-    ensures shorter { length result.now ≤ length text.now }
-{
-    let mut end = text.len();
-    while end > 0 && text[end - 1] != b'\n' {
-        end -= 1;
-    }
-    &text[..end]
-}
-
-/// Runs a script, and reports what each line brings about.
-fn report_script(alloc: Global, script: &[u8], hex: bool) -> Result<Report, OutOfMemory>
-    requires { length script.now ≤ 1048576 }
-    ensures text { IfOk result (λ r. r.text ≡ report is_built hex script.now) }
-    ensures refused { IfOk result (λ r. r.refused ≡ has_bad_line is_built (lines script.now)) }
-{
-    let mut session = Session::new(alloc, hex)?;
-    let mut rest = script;
-    while let Some((line, behind)) = first_line(rest) {
-        match session.take(line)? {
-            Turn::Next => rest = behind,
-            Turn::Refused => {
-                return Ok(Report {
-                    text: session.into_text(),
-                    refused: true,
-                });
-            }
+    /// Reads the next line, runs it and writes its report. None where the next one may be read.
+    fn turn<S: Source, K: Sink>(&mut self, source: &mut S, sink: &mut K) -> Option<Status>
+        requires { number_of self.old.reader ≡ self.old.session.number }
+        ensures turns { (hex : Bool) → (left : Option (List ℕ)) → (taken : Option (List ℕ))
+            → Stage self.old hex left (S.left source.old) taken (K.taken sink.old)
+            → TurnsOut self.new hex left (S.left source.new) taken (K.taken sink.new) result }
+        ensures counts { result ≡ None → ((number_of self.new.reader ≡ number_of self.old.reader + 1)
+            × (number_of self.new.reader ≤ 1048576)) }
+        ensures reads { S.faults source.old ≤ S.faults source.new }
+        ensures writes { K.faults sink.old ≤ K.faults sink.new }
+        ensures faults { stopped self.old.reader ≡ None → IfSome result (FaultRose
+            (S.faults source.old) (S.faults source.new) (K.faults sink.old) (K.faults sink.new)) }
+    {
+        match self.reader.next(source) {
+            Ok(true) => self.run_line(sink),
+            Ok(false) => Some(Status::Success),
+            Err(LineStop::ReadFault) => Some(Status::ReadFault),
+            Err(LineStop::TooLong) => Some(Status::TooLong),
         }
     }
-    Ok(Report {
-        text: session.into_text(),
-        refused: false,
-    })
+
+    /// Runs the line that was read, and writes its report.
+    fn run_line<K: Sink>(&mut self, sink: &mut K) -> Option<Status>
+        requires { number_of self.old.reader ≡ self.old.session.number + 1 }
+        ensures turns { (hex : Bool) → (left : Option (List ℕ)) → (left_after : Option (List ℕ))
+            → (taken : Option (List ℕ)) → (given : List (List ℕ)) → (line : List ℕ)
+            → (state : State) → IsBehind self.old.session hex taken (K.taken sink.old) given state
+            → Lends self.old.reader line
+            → Reads self.old.reader left left_after (given ++ line ∷ [])
+            → TurnsOut self.new hex left left_after taken (K.taken sink.new) result }
+        ensures same { self.new.reader ≡ self.old.reader }
+        ensures writes { K.faults sink.old ≤ K.faults sink.new }
+        ensures faults { IfSome result (FaultRose 0 0 (K.faults sink.old) (K.faults sink.new)) }
+    {
+        let Ok(turn) = self.session.take(self.reader.line()) else {
+            return Some(Status::NoMemory);
+        };
+        match write_all(sink, self.session.text()) {
+            Ok(()) => {}
+            Err(WriteStop::Failed) => return Some(Status::WriteFault),
+            Err(WriteStop::Memory(_)) => return Some(Status::NoMemory),
+        }
+        match turn {
+            Turn::Next => None,
+            Turn::Refused => Some(Status::Refused),
+        }
+    }
+}
+
+/// Runs a script line by line, and reports what each brings about before the next one is read.
+pub fn run_script<S: Source, K: Sink>(
+    alloc: Global,
+    hex: bool,
+    source: &mut S,
+    sink: &mut K,
+) -> Status
+    ensures ends { ScriptEnds hex (S.left source.old) (S.left source.new) (K.taken sink.old)
+        (K.taken sink.new) result }
+    ensures prefix { IsFrontOfReport hex (S.left source.old) (K.taken sink.old)
+        (K.taken sink.new) }
+    ensures faults { FaultRose (S.faults source.old) (S.faults source.new) (K.faults sink.old)
+        (K.faults sink.new) result }
+{
+    let Ok(mut script) = Script::new(alloc, hex) else {
+        return Status::NoMemory;
+    };
+    loop {
+        if let Some(status) = script.turn(source, sink) {
+            return status;
+        }
+    }
 }

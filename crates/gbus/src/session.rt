@@ -1,17 +1,18 @@
 //! A script that is being run.
 
-ghost use Rattle.std.specs.Prelude.{◌≡◌, ◌+◌, ◌<◌, ◌≤◌, [], ◌++◌, IfOk, OnOk};
+ghost use Rattle.std.specs.Prelude.{◌≡◌, ◌+◌, ◌<◌, ◌≤◌, ℕ, List, [], ◌++◌, IfOk, OnOk};
 ghost use Rattle.gb_formats.specs.Texts.{entries_text};
 ghost use Rattle.gb_machine.specs.State.{State, first_state};
+ghost use Rattle.gb_script.specs.Readers.{IsLineOf};
 ghost use Rattle.gb_system.specs.Stands.{taken_of};
 
-use gb_base::{Entries, OutOfMemory, Text};
+use gb_base::{Entries, LineReason, OutOfMemory, Text};
 use gb_report::{put, put_refusal};
-use gb_script::{LineFault, event};
+use gb_script::{Line, LineFault, event};
 use gb_system::System;
 use std::alloc::Global;
 
-/// The system that a script has brought about, and the report of its lines so far.
+/// The system that a script has brought about, and the report of its last line.
 #[derive(Drop)]
 pub struct Session {
     alloc: Global,
@@ -39,7 +40,6 @@ impl Session {
     /// Before the first line.
     pub fn new(alloc: Global, hex: bool) -> Result<Session, OutOfMemory>
         ensures stands { IfOk result (λ x. system.Stands x.system first_state) }
-        ensures empty { IfOk result (λ x. x.text ≡ []) }
         ensures number { IfOk result (λ x. x.number ≡ 0) }
         ensures hex { IfOk result (λ x. x.hex ≡ hex) }
     {
@@ -53,15 +53,21 @@ impl Session {
     }
 
     /// Runs the next line.
-    pub fn take(&mut self, line: &[u8]) -> Result<Turn, OutOfMemory>
-        requires { self.old.number < 4294967295 }
-        ensures turn { (s : State) → system.Stands self.old.system s
-            → TurnsAs self.old self.new line.now s result }
+    pub fn take(&mut self, line: Line<'_>) -> Result<Turn, OutOfMemory>
+        requires { line.number ≡ self.old.number + 1 }
+        ensures turn { (s : State) → (whole : List ℕ) → system.Stands self.old.system s
+            → IsLineOf line.entry.bytes.now line.entry.long whole
+            → TurnsAs self.old self.new whole s result }
         ensures number { OnOk result (self.new.number ≡ self.old.number + 1) }
         ensures hex { OnOk result (self.new.hex ≡ self.old.hex) }
     {
-        self.number += 1;
-        match event(self.alloc, line, 0) {
+        self.number = line.number;
+        self.text = Text::new(self.alloc);
+        if line.long {
+            put_refusal(self.alloc, self.number, &LineReason::Long, &mut self.text)?;
+            return Ok(Turn::Refused);
+        }
+        match event(self.alloc, line.bytes, 0) {
             Ok(None) => Ok(Turn::Next),
             Ok(Some(e)) => {
                 let entries = self.system.step(&e)?;
@@ -76,18 +82,11 @@ impl Session {
         }
     }
 
-    /// The report.
-    pub fn into_text(self) -> Text
-        ensures { result ≡ self.text }
+    /// The report of the last line.
+    pub fn text(&self) -> &[u8]
+        ensures { result.now ≡ self.now.text }
     {
-        let Session {
-            alloc: _,
-            hex: _,
-            system: _,
-            text,
-            number: _,
-        } = self;
-        text
+        self.text.items()
     }
 }
 

@@ -181,6 +181,38 @@ fn faults_are_told(rt: HostRuntime) -> Result<(), Fail> {
     Ok(())
 }
 
+#[test]
+fn each_line_is_reported_before_the_next_is_read(rt: HostRuntime) -> Result<(), Fail> {
+    // The input, how many bytes a read gives, the read and the write that fail, where one does, the
+    // status, what is taken, and how many bytes are left.
+    let rows: [(&[u8], usize, u64, u64, Status, &[u8], usize); 3] = [
+        (PING, 17, 2, 0, Status::ReadFault, &PING_REPORT[..43], 25),
+        (
+            b"sned\n",
+            5,
+            2,
+            0,
+            Status::Refused,
+            b"line 1: bad word 1\n",
+            0,
+        ),
+        (PING, 17, 0, 1, Status::WriteFault, b"", 25),
+    ];
+    for (input, step, read, write, wanted, output, left) in rows {
+        let mut reads = Numbers::new(rt.alloc());
+        reads.push(read)?;
+        let mut writes = Numbers::new(rt.alloc());
+        writes.push(write)?;
+        let mut source = MemSource::new(Bytes::from_slice(rt.alloc(), input)?, step, reads);
+        let mut sink = MemSink::new(rt.alloc(), writes);
+        let status = ended(&rt, rt.alloc(), &["run"], &mut source, &mut sink)?;
+        assert!(rt; status == wanted);
+        assert!(rt; sink.taken() == output);
+        assert!(rt; source.left().len() == left);
+    }
+    Ok(())
+}
+
 /// What a line brings about, which is in the grammar and built.
 fn steps(rt: &impl Abort, alloc: Global, system: &mut System, line: &[u8]) -> Entries {
     assert!(rt; system.taken() < 4_294_967_295);

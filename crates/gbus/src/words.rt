@@ -18,6 +18,13 @@ pub enum Job {
         /// The bytes of messages are shown.
         hex: bool,
     },
+    /// What is written at the end alone.
+    Task(Task),
+}
+
+/// What is done of the input as a whole, or without it.
+#[derive(Clone, Copy, Debug, PartialEq, Eq)]
+pub enum Task {
     /// The check of a manifest.
     Check {
         /// The dump of a manifest that is one.
@@ -40,11 +47,11 @@ pub fn job_of(words: &[String]) -> Option<Job>
         [word, hex] if word.as_str() == "run" && hex.as_str() == "--hex" => {
             Some(Job::Run { hex: true })
         }
-        [word] if word.as_str() == "check" => Some(Job::Check { dump: false }),
-        [word] if word.as_str() == "dump" => Some(Job::Check { dump: true }),
+        [word] if word.as_str() == "check" => Some(Job::Task(Task::Check { dump: false })),
+        [word] if word.as_str() == "dump" => Some(Job::Task(Task::Check { dump: true })),
         [word, number] if word.as_str() == "drive" => {
             let seed = number_word(number.as_str().as_bytes(), 0, GREATEST_SEED)?;
-            Some(Job::Drive { seed })
+            Some(Job::Task(Task::Drive { seed }))
         }
         _ => None,
     }

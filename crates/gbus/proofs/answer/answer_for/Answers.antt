@@ -2,14 +2,13 @@
 use Rattle.std.proofs.Common.{sym, subst}
 use Rattle.gbus.proofs.Runs.{check-answer, read-verdict}
 use Rattle.gbus.proofs.answer.answer_for.Goals as goal
-use Rattle.gbus.specs.Jobs.{job_seen}
-use Rattle.gbus.specs.Program.{Check}
+use Rattle.gbus.specs.Jobs.{task_seen}
 use Rattle.gbus.specs.Runs.{IsAnswerOf}
-use Rattle.gbus.specs.declared.words.Job.{Job}
+use Rattle.gbus.specs.declared.words.Task.{Task}
 
 pub returns-in_ok-answer-in-Check-clause-answer : goal.returns-in_ok-answer-in-Check-clause-answer
 returns-in_ok-answer-in-Check-clause-answer g c =
-    subst (λ (j : Job). IsAnswerOf (job_seen j) (g.S.Source.left c.args.source.now)
+    subst (λ (t : Task). IsAnswerOf (task_seen t) (g.S.Source.left c.args.source.now)
     c.in_ok-answer-in-Check.answer) (sym c.in-Check.is)
     (check-answer c.in-Check.dump c.in_ok-input-in-Check.input
     (g.S.Source.left c.args.source.now) c.in_ok-answer-in-Check.answer
@@ -19,5 +18,5 @@ returns-in_ok-answer-in-Check-clause-answer g c =
 pub returns-in_ok-answer-in-Check-clause-verdict :
     goal.returns-in_ok-answer-in-Check-clause-verdict
 returns-in_ok-answer-in-Check-clause-verdict g c =
-    read-verdict (Check c.in-Check.dump) c.in_ok-input-in-Check.input
+    read-verdict c.in_ok-input-in-Check.input
     c.in_ok-answer-in-Check.answer.status c.in_ok-answer-in-Check.ensures.status
