@@ -45,8 +45,6 @@ pub enum LineReason {
     MissingWord(u32),
     /// The word at this place is one too many.
     ExtraWord(u32),
-    /// Its form isn't built.
-    NotBuilt,
 }
 
 /// Why bytes aren't a manifest.

@@ -1,5 +1,7 @@
 -- The texts of the report are ASCII.
-use Rattle.std.proofs.Common.{◌≡◌, ℕ, zero, suc, ◌<◌, ◌/◌, ◌%◌, ◌==◌, Bool, true, false, if◌then◌else◌, Option, Some, None, List, [], ◌∷◌, ◌++◌, refl, codes, nat_lt, IsAscii, ◌∙◌, ◌&&◌, arith}
+use Rattle.std.proofs.Common.{◌≡◌, ℕ, zero, suc, ◌<◌, ◌/◌, ◌%◌, ◌==◌, Bool, true, false}
+use Rattle.std.proofs.Common.{if◌then◌else◌, Option, Some, None, List, [], ◌∷◌, ◌++◌, refl, codes}
+use Rattle.std.proofs.Common.{nat_lt, IsAscii, ◌∙◌, ◌&&◌, arith}
 use Rattle.std.specs.Fmt.{decimal, digits, digits_onto, digit_glyph}
 use Rattle.std.specs.List.{list_all}
 use Rattle.std.proofs.lemmas.Bool.Decides.{nat_tests}
@@ -31,8 +33,13 @@ use Rattle.gb_base.specs.declared.refusal.Refusal.{Refusal}
 use Rattle.gb_base.specs.declared.refusal.Refusal.TheVariants as refusal
 use Rattle.gb_formats.specs.Bytes.{byte_text, hex_text, joined}
 use Rattle.gb_formats.specs.Reasons.{reason_text, refusal_text}
-use Rattle.gb_formats.specs.ShowTexts.{connection_line, device_text, interface_line, name_line, now_line, queue_line, requester_text, standing_text, unclean_text}
-use Rattle.gb_formats.specs.Texts.{answer_text, bad_line, bad_text, dropped_text, end_text, ended, entry_line, entry_text, item_text, lost_text, outcome_text, raw_fault_text, reading_text, refusal_line_text, size_text, stage_text, state_text, wire_fault_text}
+use Rattle.gb_formats.specs.ShowTexts.{connection_line, device_text, interface_line, name_line}
+use Rattle.gb_formats.specs.ShowTexts.{now_line, queue_line, requester_text, standing_text}
+use Rattle.gb_formats.specs.ShowTexts.{unclean_text}
+use Rattle.gb_formats.specs.Texts.{answer_text, bad_line, bad_text, dropped_text, end_text, ended}
+use Rattle.gb_formats.specs.Texts.{entry_line, entry_text, item_text, lost_text, outcome_text}
+use Rattle.gb_formats.specs.Texts.{raw_fault_text, reading_text, refusal_line_text, size_text}
+use Rattle.gb_formats.specs.Texts.{stage_text, state_text, wire_fault_text}
 
 -- A text is seen to be ASCII by a test of each byte. What is written in a text computes away, so
 -- that its other pieces are left.
@@ -57,16 +64,19 @@ cat (b ∷ bs) ys = rw (cat bs ys) (grind (arith, nat_tests))
 both : (xs ys : List ℕ) → is_ascii xs ≡ true → is_ascii ys ≡ true → is_ascii (xs ++ ys) ≡ true
 both xs ys x y = cat xs ys ∙ rw (x, y) refl
 
-either : (t : Bool) (xs ys : List ℕ) → is_ascii xs ≡ true → is_ascii ys ≡ true → is_ascii (if t then xs else ys) ≡ true
+either : (t : Bool) (xs ys : List ℕ) → is_ascii xs ≡ true → is_ascii ys ≡ true
+    → is_ascii (if t then xs else ys) ≡ true
 either true xs ys x y = x
 either false xs ys x y = y
 
 -- numbers
 
-glyph : (n : ℕ) (acc : List ℕ) → is_ascii acc ≡ true → is_ascii (digit_glyph false (n % 10) ∷ acc) ≡ true
+glyph : (n : ℕ) (acc : List ℕ) → is_ascii acc ≡ true
+    → is_ascii (digit_glyph false (n % 10) ∷ acc) ≡ true
 glyph n acc h = rw h (grind (arith, nat_tests))
 
-onto : (k n : ℕ) (acc : List ℕ) → is_ascii acc ≡ true → is_ascii (digits_onto k 10 false n acc) ≡ true
+onto : (k n : ℕ) (acc : List ℕ) → is_ascii acc ≡ true
+    → is_ascii (digits_onto k 10 false n acc) ≡ true
 onto zero n acc h = h
 onto (suc k) n acc h =
     let more = glyph n acc h in
@@ -153,7 +163,8 @@ numbered None = refl
 
 sized : (hex : Bool) (size : ℕ) (bs : List ℕ) → is_ascii (size_text hex size bs) ≡ true
 sized hex size bs =
-    either hex (joined (decimal size ∷ codes " " ∷ hex_text bs ∷ [])) (decimal size) (simp (cat, dec, bytes)) (dec size)
+    either hex (joined (decimal size ∷ codes " " ∷ hex_text bs ∷ [])) (decimal size)
+    (simp (cat, dec, bytes)) (dec size)
 
 lost_is : (lost : Bool) → is_ascii (lost_text lost) ≡ true
 lost_is lost = either lost (codes " lost") [] refl refl
@@ -196,11 +207,12 @@ bad_is (bad.BadByte at) = dec at
 bad_is (bad.BadWord at) = dec at
 bad_is (bad.MissingWord at) = dec at
 bad_is (bad.ExtraWord at) = dec at
-bad_is bad.NotBuilt = refl
 
 -- lines
 
-line_is : (line : ℕ) (hex : Bool) (e : Entry) → ((text : List ℕ) → e ≡ entry.Shown text → is_ascii text ≡ true) → is_ascii (entry_line line hex e) ≡ true
+line_is : (line : ℕ) (hex : Bool) (e : Entry) →
+    ((text : List ℕ) → e ≡ entry.Shown text → is_ascii text ≡ true)
+    → is_ascii (entry_line line hex e) ≡ true
 line_is line hex entry.Done h = simp (cat, dec)
 line_is line hex (entry.Refused why) h = simp (cat, dec, refused)
 line_is line hex (entry.Asked n from to kind size bs lost) h =
@@ -231,8 +243,10 @@ end_of_line : (line : List ℕ) → is_ascii line ≡ true → IsAscii (ended li
 end_of_line line h = seen (ended line) (both line (10 ∷ []) h refl)
 
 -- what the report has for an entry; what `show` shows must be ASCII
-pub IsAscii-entry_text : (line : ℕ) (hex : Bool) (e : Entry) → ((text : List ℕ) → e ≡ entry.Shown text → IsAscii text) → IsAscii (entry_text line hex e)
-IsAscii-entry_text line hex e h = end_of_line (entry_line line hex e) (line_is line hex e (λ text is. tested text (h text is)))
+pub IsAscii-entry_text : (line : ℕ) (hex : Bool) (e : Entry)
+    → ((text : List ℕ) → e ≡ entry.Shown text → IsAscii text) → IsAscii (entry_text line hex e)
+IsAscii-entry_text line hex e h =
+    end_of_line (entry_line line hex e) (line_is line hex e (λ text is. tested text (h text is)))
 
 -- what the report has for a bad line
 pub IsAscii-refusal_line_text : (line : ℕ) (why : LineReason) → IsAscii (refusal_line_text line why)

@@ -6,7 +6,8 @@ use Rattle.gb_base.specs.declared.end.End.TheVariants as end
 use Rattle.gb_base.specs.declared.event.Event.TheVariants as event
 use Rattle.gb_base.specs.declared.fault.LineReason.TheVariants as bad
 use Rattle.gb_formats.specs.Grammar.{is_comment, is_name_word, ping_event, asked_for}
-use Rattle.gb_formats.specs.Script.{judged, is_plain, is_printable, bad_place, unless_bad, longest_line}
+use Rattle.gb_formats.specs.Script.{judged, is_plain, is_printable, bad_place, unless_bad}
+use Rattle.gb_formats.specs.Script.{longest_line}
 use Rattle.gb_formats.specs.WordValues.{cport_word}
 use Rattle.gb_formats.specs.Words.{words}
 

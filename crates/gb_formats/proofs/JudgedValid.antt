@@ -1,16 +1,20 @@
 -- Whatever a line of a script says is an event that the machine may be given.
-use Rattle.std.proofs.Common.{◌≡◌, ℕ, Bool, true, false, cond, List, [], ◌∷◌, refl, sym, ap, ◌∙◌, subst}
-use Rattle.std.specs.Prelude.{Option, Some, None, Ok, Err, nat_le, length, codes}
+use Rattle.std.proofs.Common.{◌≡◌, ℕ, List, [], ◌∷◌, subst}
+use Rattle.std.specs.Prelude.{Option, Some, None, Ok, nat_le, length, codes}
 use Rattle.std.specs.Str.{bytes_eq}
 use Rattle.gb_base.specs.declared.event.Event.{Event}
 use Rattle.gb_base.specs.declared.event.Event.TheVariants as event
-use Rattle.gb_base.specs.declared.fault.LineReason.TheVariants as bad
 use Rattle.gb_formats.specs.Grammar.{Said, is_comment, by_first, asked_for}
-use Rattle.gb_formats.specs.Script.{longest_line, bad_place, only_built, said, unless_bad, judged}
+use Rattle.gb_formats.specs.Script.{longest_line, bad_place, unless_bad, judged}
 use Rattle.gb_formats.specs.ValidEvents.{IsValid}
 use Rattle.gb_formats.specs.Words.{words}
-use Rattle.gb_formats.proofs.SaidValid.{SaysValid, at_end-valid, if-valid, of_intf-valid, of_cport-valid, of_name-valid, inserting-valid, sending-valid, copying-valid, delivering-valid, settling-valid, answering-valid, ticking-valid, injecting-valid}
-use Rattle.gb_formats.proofs.SaidValidBridges.{gpio_form-valid, i2c_form-valid, spi_form-valid, uart_form-valid}
+use Rattle.gb_formats.proofs.SaidValid.{SaysValid, at_end-valid, if-valid, of_intf-valid}
+use Rattle.gb_formats.proofs.SaidValid.{of_cport-valid, of_name-valid, inserting-valid}
+use Rattle.gb_formats.proofs.SaidValid.{sending-valid, copying-valid, delivering-valid}
+use Rattle.gb_formats.proofs.SaidValid.{settling-valid, answering-valid, ticking-valid}
+use Rattle.gb_formats.proofs.SaidValid.{injecting-valid}
+use Rattle.gb_formats.proofs.SaidValidBridges.{gpio_form-valid, i2c_form-valid, spi_form-valid}
+use Rattle.gb_formats.proofs.SaidValidBridges.{uart_form-valid}
 
 pub by_first-valid : (who : ℕ) (w : List ℕ) (ws : List (List ℕ)) → SaysValid (by_first who w ws)
 by_first-valid who w ws =
@@ -55,32 +59,3 @@ judged-says_valid who line =
 -- An event that a line says is valid.
 pub judged-valid : (who : ℕ) (line : List ℕ) (e : Event) → judged who line ≡ Ok (Some e) → IsValid e
 judged-valid who line e is = subst SaysValid is (judged-says_valid who line)
-
--- An event that a line says is built.
-pub said-built : (built : Event → Bool) (who : ℕ) (line : List ℕ) (e : Event)
-    → said built who line ≡ Ok (Some e) → built e ≡ true
-said-built built who line e is = by (judged who line) is
-  where
-    same : (x : Event) (b : Bool) → built x ≡ b
-        → cond b (Ok (Some x)) (Err bad.NotBuilt) ≡ Ok (Some e) → built e ≡ true
-    same x true f h = let one : x ≡ e = cc in ap built (sym one) ∙ f
-    same x false f h = absurd cc
-
-    by : (s : Said) → only_built built s ≡ Ok (Some e) → built e ≡ true
-    by (Ok (Some x)) h = same x (built x) refl h
-    by (Ok None) h = absurd cc
-    by (Err why) h = absurd cc
-
--- It is valid, too.
-pub said-valid : (built : Event → Bool) (who : ℕ) (line : List ℕ) (e : Event)
-    → said built who line ≡ Ok (Some e) → IsValid e
-said-valid built who line e is = by (judged who line) (judged-says_valid who line) is
-  where
-    same : (x : Event) (b : Bool) → cond b (Ok (Some x)) (Err bad.NotBuilt) ≡ Ok (Some e) → x ≡ e
-    same x true h = cc
-    same x false h = absurd cc
-
-    by : (s : Said) → SaysValid s → only_built built s ≡ Ok (Some e) → IsValid e
-    by (Ok (Some x)) v h = subst IsValid (same x (built x) h) v
-    by (Ok None) v h = absurd cc
-    by (Err why) v h = absurd cc

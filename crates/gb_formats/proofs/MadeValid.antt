@@ -1,5 +1,6 @@
 -- Each line of the made script is an event that the machine may be given.
-use Rattle.std.proofs.Common.{◌≡◌, ◌≤◌, ◌<◌, ℕ, zero, suc, ◌+◌, ◌-◌, ◌%◌, ◌^◌, Bool, true, false, List, [], ◌∷◌, ◌++◌, refl, arith, inl, inr}
+use Rattle.std.proofs.Common.{◌≡◌, ◌≤◌, ◌<◌, ℕ, zero, suc, ◌+◌, ◌-◌, ◌%◌, ◌^◌, Bool, true, false}
+use Rattle.std.proofs.Common.{List, [], ◌∷◌, ◌++◌, refl, arith, inl, inr}
 use Rattle.std.proofs.lemmas.Bool.Decides.{nat_tests}
 use Rattle.std.proofs.lemmas.Fmt.{decimal_by_steps, length-decimal-le}
 use Rattle.std.specs.Prelude.{◌==◌, nat_le, if◌then◌else◌}
@@ -7,7 +8,8 @@ use Rattle.std.specs.Fmt.{decimal}
 use Rattle.std.specs.List.{list_all}
 use Rattle.gb_base.specs.Name.{is_name_byte}
 use Rattle.gb_base.specs.declared.event.Event.{Event}
-use Rattle.gb_formats.specs.Made.{made, made_by, made_name, made_intf, made_value, made_row, last_named, made_lines}
+use Rattle.gb_formats.specs.Made.{made, made_by, made_name, made_intf, made_value, made_row}
+use Rattle.gb_formats.specs.Made.{last_named, made_lines}
 use Rattle.gb_formats.specs.ValidEvents.{IsValid, IsName, IsIntf}
 
 -- a byte more that can stand in a name

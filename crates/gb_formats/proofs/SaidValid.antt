@@ -1,17 +1,22 @@
 -- Whatever a line says is an event that the machine may be given.
 use Rattle.std.proofs.Common.{◌≡◌, ◌≤◌, ℕ, ◌+◌, Bool, true, false, List, [], ◌∷◌, refl, arith}
 use Rattle.std.proofs.lemmas.Bool.Decides.{nat_tests}
-use Rattle.std.specs.Prelude.{Option, Some, None, Ok, Err, ⊤, ◌&&◌, ◌==◌, nat_le, nat_lt, if◌then◌else◌, option_and_then, length, slice_index, codes}
+use Rattle.std.specs.Prelude.{Option, Some, None, Ok, Err, ⊤, ◌&&◌, ◌==◌, nat_le, nat_lt}
+use Rattle.std.specs.Prelude.{if◌then◌else◌, option_and_then, length, slice_index, codes}
 use Rattle.std.specs.Str.{bytes_eq}
 use Rattle.std.specs.Bool.{then_some}
 use Rattle.gb_base.specs.declared.end.End.TheVariants as end
 use Rattle.gb_base.specs.declared.event.Event.{Event}
 use Rattle.gb_base.specs.declared.event.Event.TheVariants as event
 use Rattle.gb_base.specs.declared.name.Name.{Name}
-use Rattle.gb_formats.specs.Grammar.{of_intf, of_cport, of_name, inserting_what, inserting, timed, sending_svc, sending_module, sending_to, sending, copying, delivering, settling, answering, ticking, injecting}
+use Rattle.gb_formats.specs.Grammar.{of_intf, of_cport, of_name, inserting_what, inserting, timed}
+use Rattle.gb_formats.specs.Grammar.{sending_svc, sending_module, sending_to, sending, copying}
+use Rattle.gb_formats.specs.Grammar.{delivering, settling, answering, ticking, injecting}
 use Rattle.gb_formats.specs.Said.{Said, by_meaning, next_word, next_cport, at_end}
 use Rattle.gb_formats.specs.ValidEvents.{IsValid, IsIntf, IsCport, IsName, IsFromOne}
-use Rattle.gb_formats.specs.WordValues.{number_word, is_number, number_of, cport_word, name_word, is_name_word, name_of, type_word, hex_word, low_byte, kind_word}
+use Rattle.gb_formats.specs.WordValues.{number_word, is_number, number_of, cport_word, name_word}
+use Rattle.gb_formats.specs.WordValues.{is_name_word, name_of, type_word, hex_word, low_byte}
+use Rattle.gb_formats.specs.WordValues.{kind_word}
 
 -- a line says a valid event, or none, or is bad
 abbrev pub SaysValid : Said → Type 0

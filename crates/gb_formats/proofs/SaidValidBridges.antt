@@ -1,6 +1,7 @@
 -- Whatever a bridge line says is an event that the machine may be given.
 use Rattle.std.proofs.Common.{◌≤◌, ℕ, ◌+◌, Bool, true, false, List, [], ◌∷◌, ◌++◌, refl, inl, inr}
-use Rattle.std.specs.Prelude.{Option, Some, None, ◌&&◌, ◌==◌, if◌then◌else◌, option_map, option_and_then, take, drop, slice_index, codes}
+use Rattle.std.specs.Prelude.{Option, Some, None, ◌&&◌, ◌==◌, if◌then◌else◌, option_map}
+use Rattle.std.specs.Prelude.{option_and_then, take, drop, slice_index, codes}
 use Rattle.std.specs.Str.{bytes_eq}
 use Rattle.gb_base.specs.declared.bridge.BridgeAsk.{BridgeAsk}
 use Rattle.gb_base.specs.declared.bridge.BridgeAsk.TheVariants as ask
@@ -9,11 +10,18 @@ use Rattle.gb_base.specs.declared.bridge.SpiOp.{SpiOp}
 use Rattle.gb_base.specs.declared.bridge.SpiOp.TheVariants as spi
 use Rattle.gb_base.specs.declared.event.Event.{Event}
 use Rattle.gb_base.specs.declared.event.Event.TheVariants as event
-use Rattle.gb_formats.specs.BridgeForms.{bridging, begins_with_at, gpio_line, gpio_value, gpio_named, gpio_asking, literal_word, gpio_level, gpio_form, i2c_get, i2c_put, i2c_read_word, i2c_write_word, i2c_op_word, i2c_asking, i2c_form, spi_op_word, spi_asking, spi_form, uart_coding, uart_byte, uart_named, uart_asking, uart_state, uart_form}
+use Rattle.gb_formats.specs.BridgeForms.{bridging, begins_with_at, gpio_line, gpio_value}
+use Rattle.gb_formats.specs.BridgeForms.{gpio_named, gpio_asking, literal_word, gpio_level}
+use Rattle.gb_formats.specs.BridgeForms.{gpio_form, i2c_get, i2c_put, i2c_read_word, i2c_write_word}
+use Rattle.gb_formats.specs.BridgeForms.{i2c_op_word, i2c_asking, i2c_form, spi_op_word, spi_asking}
+use Rattle.gb_formats.specs.BridgeForms.{spi_form, uart_coding, uart_byte, uart_named, uart_asking}
+use Rattle.gb_formats.specs.BridgeForms.{uart_state, uart_form}
 use Rattle.gb_formats.specs.Said.{Said, each_word}
 use Rattle.gb_formats.specs.ValidEvents.{IsValid, HasForm, IsI2cOp, AreI2cOps, IsSpiOp, AreSpiOps}
 use Rattle.gb_formats.specs.WordValues.{number_word, u16_word, hex_word, type_word}
-use Rattle.gb_formats.proofs.SaidValid.{SaysValid, OfSome, number_word-in, type_word-in, at_end-valid, by_meaning-valid, next_number-valid, next_name-valid, next_any-valid, next_cport-valid, if-valid}
+use Rattle.gb_formats.proofs.SaidValid.{SaysValid, OfSome, number_word-in, type_word-in}
+use Rattle.gb_formats.proofs.SaidValid.{at_end-valid, by_meaning-valid, next_number-valid}
+use Rattle.gb_formats.proofs.SaidValid.{next_name-valid, next_any-valid, next_cport-valid, if-valid}
 
 -- what is made of an ask is valid where the ask has a form
 abbrev pub MakesValid : (BridgeAsk → Event) → Type 0

@@ -2,8 +2,11 @@
 use Rattle.std.proofs.Common.{◌≡◌, ℕ, List, [], ◌∷◌, refl}
 use Rattle.std.specs.Prelude.{Ok, Err, map}
 use Rattle.gb_formats.specs.Records.{PayloadFault}
-use Rattle.gb_formats.specs.GpioRecords.{GpioAsk, read_gpio_ask, gpio_ask_kind, gpio_ask_payload, GpioReply, read_gpio_reply, gpio_reply_kind, gpio_reply_payload}
-use Rattle.gb_formats.specs.I2cRecords.{I2cAsk, read_i2c_ask, i2c_ask_kind, i2c_ask_payload, I2cReply, read_i2c_reply, i2c_reply_kind, i2c_reply_payload}
+use Rattle.gb_formats.specs.GpioRecords.{GpioAsk, read_gpio_ask, gpio_ask_kind, gpio_ask_payload}
+use Rattle.gb_formats.specs.GpioRecords.{GpioReply, read_gpio_reply, gpio_reply_kind}
+use Rattle.gb_formats.specs.GpioRecords.{gpio_reply_payload}
+use Rattle.gb_formats.specs.I2cRecords.{I2cAsk, read_i2c_ask, i2c_ask_kind, i2c_ask_payload}
+use Rattle.gb_formats.specs.I2cRecords.{I2cReply, read_i2c_reply, i2c_reply_kind, i2c_reply_payload}
 
 -- types, payloads and records of the GPIO protocol
 abbrev pub gpio_ask_rows : List (ℕ × List ℕ × GpioAsk)

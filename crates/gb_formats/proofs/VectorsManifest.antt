@@ -1,6 +1,7 @@
 -- Manifests: the kinds' bytes, what other bytes are refused for, and the dump.
 use Rattle.std.proofs.Common.{◌≡◌, ℕ, ◌+◌, List, [], ◌∷◌, refl, arith}
-use Rattle.std.specs.Prelude.{◌/◌, ◌%◌, Option, Some, None, Result, Ok, Err, option_and_then, replicate, ◌++◌, map, option_map, length, slice_set, take, codes}
+use Rattle.std.specs.Prelude.{◌/◌, ◌%◌, Option, Some, None, Result, Ok, Err, option_and_then}
+use Rattle.std.specs.Prelude.{replicate, ◌++◌, map, option_map, length, slice_set, take, codes}
 use Rattle.std.specs.Fmt.{digits}
 use Rattle.hex.specs.Hex.{encode_with}
 use Rattle.gb_base.specs.declared.event.Kind.TheVariants as kind
@@ -8,7 +9,8 @@ use Rattle.gb_base.specs.declared.fault.Reason.TheVariants as reason
 use Rattle.gb_formats.specs.Descriptors.{Descriptor, IsDescriptor}
 use Rattle.gb_formats.specs.Dump.{dump_text, string_text, check_text, refused_text}
 use Rattle.gb_formats.specs.Kinds.{kind_manifest, string_of, bundle_of, cport_of}
-use Rattle.gb_formats.specs.Manifest.{Manifest, IsManifest, check_answer, refusal, refusal_at, cport}
+use Rattle.gb_formats.specs.Manifest.{Manifest, IsManifest, check_answer, refusal, refusal_at}
+use Rattle.gb_formats.specs.Manifest.{cport}
 use Rattle.gb_formats.specs.ManifestRules.{Refused}
 use Rattle.gb_formats.specs.ManifestSpec.{ManifestSpec, write_answer, WriteFault}
 use Rattle.gb_formats.proofs.Samples.{text_of}

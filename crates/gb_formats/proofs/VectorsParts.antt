@@ -1,12 +1,11 @@
 -- Scripts with requesters and the made script, and what they are.
-use Rattle.std.proofs.Common.{◌≡◌, Bool, true, [], ◌∷◌, refl}
+use Rattle.std.proofs.Common.{◌≡◌, [], ◌∷◌, refl}
 use Rattle.std.specs.Prelude.{Some, None, ◌++◌, map, codes}
 use Rattle.std.specs.Fmt.{digits}
 use Rattle.hex.specs.Hex.{decode_pairs}
 use Rattle.gb_base.specs.declared.bridge.BridgeAsk.TheVariants as ask
 use Rattle.gb_base.specs.declared.bridge.I2cOp.TheVariants as i2c
 use Rattle.gb_base.specs.declared.end.End.TheVariants as end
-use Rattle.gb_base.specs.declared.event.Event.{Event}
 use Rattle.gb_base.specs.declared.event.Event.TheVariants as event
 use Rattle.gb_base.specs.declared.event.Kind.TheVariants as kind
 use Rattle.gb_base.specs.declared.fault.LineReason.TheVariants as bad
@@ -15,12 +14,8 @@ use Rattle.gb_formats.specs.Made.{made, made_number, last_named}
 use Rattle.gb_formats.specs.Parts.{parts}
 use Rattle.gb_formats.proofs.Samples.{named, text_of}
 
--- every event is built
-abbrev pub all_built : Event → Bool
-all_built e = true
-
 -- two requesters, with lines before the first heading
-pub parts-two : parts all_built (text_of (codes "boot" ∷ codes "requester 1" ∷ codes ""
+pub parts-two : parts (text_of (codes "boot" ∷ codes "requester 1" ∷ codes ""
     ∷ codes "pull 2" ∷ codes "requester 2" ∷ codes "show" ∷ codes "# the end" ∷ []))
     ≡ record {
       asked = record { line = 1; who = 0; event = event.Boot }
@@ -32,18 +27,18 @@ unfolding decode_pairs
 parts-two = refl
 
 -- a heading that doesn't rise by one
-pub parts-second_first : parts all_built (codes "requester 2")
+pub parts-second_first : parts (codes "requester 2")
     ≡ record { asked = []; bad = Some (1, bad.BadWord 2) }
 unfolding decode_pairs
 parts-second_first = refl
 
 -- a heading alone, and one with a word too many
-pub parts-alone : parts all_built (codes " requester")
+pub parts-alone : parts (codes " requester")
     ≡ record { asked = []; bad = Some (1, bad.MissingWord 2) }
 unfolding decode_pairs
 parts-alone = refl
 
-pub parts-extra : parts all_built
+pub parts-extra : parts
     (text_of (codes "boot" ∷ codes "requester 1 x" ∷ codes "boot" ∷ []))
     ≡ record {
       asked = record { line = 1; who = 0; event = event.Boot } ∷ [];
@@ -53,7 +48,7 @@ unfolding decode_pairs
 parts-extra = refl
 
 -- a ninth requester
-pub parts-ninth : parts all_built (text_of (codes "requester 1" ∷ codes "requester 2"
+pub parts-ninth : parts (text_of (codes "requester 1" ∷ codes "requester 2"
     ∷ codes "requester 3" ∷ codes "requester 4" ∷ codes "requester 5" ∷ codes "requester 6"
     ∷ codes "requester 7" ∷ codes "requester 8" ∷ codes "requester 9" ∷ []))
     ≡ record { asked = []; bad = Some (9, bad.BadWord 2) }

@@ -2,8 +2,11 @@
 use Rattle.std.proofs.Common.{◌≡◌, ℕ, List, [], ◌∷◌, refl}
 use Rattle.std.specs.Prelude.{Ok, Err, map}
 use Rattle.gb_formats.specs.Records.{PayloadFault}
-use Rattle.gb_formats.specs.SvcRecords.{SvcAsk, read_svc_ask, svc_ask_kind, svc_ask_payload, SvcReply, read_svc_reply, svc_reply_kind, svc_reply_payload}
-use Rattle.gb_formats.specs.ControlRecords.{ControlAsk, read_control_ask, control_ask_kind, control_ask_payload, ControlReply, read_control_reply, control_reply_kind, control_reply_payload}
+use Rattle.gb_formats.specs.SvcRecords.{SvcAsk, read_svc_ask, svc_ask_kind, svc_ask_payload}
+use Rattle.gb_formats.specs.SvcRecords.{SvcReply, read_svc_reply, svc_reply_kind, svc_reply_payload}
+use Rattle.gb_formats.specs.ControlRecords.{ControlAsk, read_control_ask, control_ask_kind}
+use Rattle.gb_formats.specs.ControlRecords.{control_ask_payload, ControlReply, read_control_reply}
+use Rattle.gb_formats.specs.ControlRecords.{control_reply_kind, control_reply_payload}
 
 -- types, payloads and records of the SVC protocol
 abbrev pub svc_ask_rows : List (ℕ × List ℕ × SvcAsk)

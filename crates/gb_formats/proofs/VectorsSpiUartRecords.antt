@@ -2,8 +2,11 @@
 use Rattle.std.proofs.Common.{◌≡◌, ℕ, List, [], ◌∷◌, refl}
 use Rattle.std.specs.Prelude.{Ok, Err, map}
 use Rattle.gb_formats.specs.Records.{PayloadFault}
-use Rattle.gb_formats.specs.SpiRecords.{SpiAsk, read_spi_ask, spi_ask_kind, spi_ask_payload, SpiReply, read_spi_reply, spi_reply_kind, spi_reply_payload}
-use Rattle.gb_formats.specs.UartRecords.{UartAsk, read_uart_ask, uart_ask_kind, uart_ask_payload, UartReply, read_uart_reply, uart_reply_kind, uart_reply_payload}
+use Rattle.gb_formats.specs.SpiRecords.{SpiAsk, read_spi_ask, spi_ask_kind, spi_ask_payload}
+use Rattle.gb_formats.specs.SpiRecords.{SpiReply, read_spi_reply, spi_reply_kind, spi_reply_payload}
+use Rattle.gb_formats.specs.UartRecords.{UartAsk, read_uart_ask, uart_ask_kind, uart_ask_payload}
+use Rattle.gb_formats.specs.UartRecords.{UartReply, read_uart_reply, uart_reply_kind}
+use Rattle.gb_formats.specs.UartRecords.{uart_reply_payload}
 
 -- types, payloads and records of the SPI protocol
 abbrev pub spi_ask_rows : List (ℕ × List ℕ × SpiAsk)

@@ -7,7 +7,8 @@ use Rattle.gb_base.specs.declared.end.End.TheVariants as end
 use Rattle.gb_base.specs.declared.entry.ConnState.TheVariants as state
 use Rattle.gb_base.specs.declared.entry.IntfStage.TheVariants as stage
 use Rattle.gb_base.specs.declared.outcome.Outcome.TheVariants as outcome
-use Rattle.gb_formats.specs.ShowTexts.{now_line, interface_line, connection_line, queue_line, name_line, order_text, ticket_line, summary_text}
+use Rattle.gb_formats.specs.ShowTexts.{now_line, interface_line, connection_line, queue_line}
+use Rattle.gb_formats.specs.ShowTexts.{name_line, order_text, ticket_line, summary_text}
 use Rattle.gb_formats.proofs.Samples.{named_of}
 
 pub now-text : now_line 0 ≡ codes "now 0"

@@ -1,5 +1,6 @@
 -- The forms of the script for bridged protocols: `gpio`, `i2c`, `spi` and `uart`.
-use Rattle.std.specs.Prelude.{ℕ, ◌==◌, Bool, ◌&&◌, if◌then◌else◌, Option, Some, None, option_map, option_and_then, Err, List, [], ◌∷◌, take, drop, slice_index, codes}
+use Rattle.std.specs.Prelude.{ℕ, ◌==◌, Bool, ◌&&◌, if◌then◌else◌, Option, Some, None, option_map}
+use Rattle.std.specs.Prelude.{option_and_then, Err, List, [], ◌∷◌, take, drop, slice_index, codes}
 use Rattle.std.specs.Str.{bytes_eq}
 use Rattle.gb_base.specs.declared.bridge.BridgeAsk.{BridgeAsk}
 use Rattle.gb_base.specs.declared.bridge.BridgeAsk.TheVariants as ask
@@ -11,7 +12,8 @@ use Rattle.gb_base.specs.declared.event.Event.{Event}
 use Rattle.gb_base.specs.declared.event.Event.TheVariants as event
 use Rattle.gb_base.specs.declared.fault.LineReason.TheVariants as bad
 use Rattle.gb_formats.specs.Said.{Said, next_word, next_cport, at_end, each_word}
-use Rattle.gb_formats.specs.WordValues.{name_word, u8_word, u16_word, u32_word, pin_word, level_word, hex_word, type_word}
+use Rattle.gb_formats.specs.WordValues.{name_word, u8_word, u16_word, u32_word, pin_word}
+use Rattle.gb_formats.specs.WordValues.{level_word, hex_word, type_word}
 
 -- whether a word begins with `@`, which is 64
 abbrev pub begins_with_at : List ℕ → Bool

@@ -1,5 +1,6 @@
 -- Bridge lines: the requests that they become, and what their answers say.
-use Rattle.std.specs.Prelude.{ℕ, ◌+◌, ◌==◌, nat_lt, Bool, false, ◌||◌, if◌then◌else◌, Result, Ok, Err, List, [], ◌∷◌, ◌++◌, map, length, sum_by}
+use Rattle.std.specs.Prelude.{ℕ, ◌+◌, ◌==◌, nat_lt, Bool, false, ◌||◌, if◌then◌else◌, Result, Ok}
+use Rattle.std.specs.Prelude.{Err, List, [], ◌∷◌, ◌++◌, map, length, sum_by}
 use Rattle.std.specs.List.{concat}
 use Rattle.gb_base.specs.declared.bridge.BridgeAsk.{BridgeAsk}
 use Rattle.gb_base.specs.declared.bridge.BridgeAsk.TheVariants as ask
@@ -10,12 +11,15 @@ use Rattle.gb_base.specs.declared.bridge.Reading.TheVariants as reading
 use Rattle.gb_base.specs.declared.bridge.SpiOp.{SpiOp}
 use Rattle.gb_base.specs.declared.bridge.SpiOp.TheVariants as spi
 use Rattle.gb_formats.specs.Bytes.{le16}
-use Rattle.gb_formats.specs.GpioRecords.{GpioAsk, GpioReply, gpio_ask_kind, gpio_ask_payload, read_gpio_reply}
-use Rattle.gb_formats.specs.I2cRecords.{I2cAsk, I2cReply, i2c_ask_kind, i2c_ask_payload, read_i2c_reply}
+use Rattle.gb_formats.specs.GpioRecords.{GpioAsk, GpioReply, gpio_ask_kind, gpio_ask_payload}
+use Rattle.gb_formats.specs.GpioRecords.{read_gpio_reply}
+use Rattle.gb_formats.specs.I2cRecords.{I2cAsk, I2cReply, i2c_ask_kind, i2c_ask_payload}
+use Rattle.gb_formats.specs.I2cRecords.{read_i2c_reply}
 use Rattle.gb_formats.specs.Protocols.{gpio_protocol, i2c_protocol, uart_protocol, spi_protocol}
 use Rattle.gb_formats.specs.Records.{PayloadFault, le32}
 use Rattle.gb_formats.specs.Results.{most_payload}
-use Rattle.gb_formats.specs.SpiRecords.{SpiAsk, SpiReply, read_spi_reply, spi_ask_kind, spi_ask_payload}
+use Rattle.gb_formats.specs.SpiRecords.{SpiAsk, SpiReply, read_spi_reply, spi_ask_kind}
+use Rattle.gb_formats.specs.SpiRecords.{spi_ask_payload}
 use Rattle.gb_formats.specs.UartDevice.{most_sent}
 use Rattle.gb_formats.specs.UartRecords.{UartAsk, uart_ask_kind, uart_ask_payload}
 

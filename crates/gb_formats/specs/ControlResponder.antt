@@ -1,11 +1,15 @@
 -- The Control responder of a module: its version, its manifest, and the states of its CPorts
 -- (Greybus Specification, "Control Protocol").
-use Rattle.std.specs.Prelude.{ℕ, Bool, true, false, if◌then◌else◌, Option, Some, None, Result, Ok, Err, List, [], length}
-use Rattle.gb_formats.specs.ControlRecords.{ControlAsk, ControlReply, read_control_ask, control_reply_payload}
+use Rattle.std.specs.Prelude.{ℕ, Bool, true, false, if◌then◌else◌, Option, Some, None, Result, Ok}
+use Rattle.std.specs.Prelude.{Err, List, [], length}
+use Rattle.gb_formats.specs.ControlRecords.{ControlAsk, ControlReply, read_control_ask}
+use Rattle.gb_formats.specs.ControlRecords.{control_reply_payload}
 use Rattle.gb_formats.specs.Devices.{restarted_device}
-use Rattle.gb_formats.specs.Module.{CportState, Off, On, Quiet, Module, ModulePort, is_on, port_at, with_changed}
+use Rattle.gb_formats.specs.Module.{CportState, Off, On, Quiet, Module, ModulePort, is_on, port_at}
+use Rattle.gb_formats.specs.Module.{with_changed}
 use Rattle.gb_formats.specs.Records.{PayloadFault}
-use Rattle.gb_formats.specs.Results.{Step, tells, refuses, answer_of, fault_result, invalid, nonexistent}
+use Rattle.gb_formats.specs.Results.{Step, tells, refuses, answer_of, fault_result, invalid}
+use Rattle.gb_formats.specs.Results.{nonexistent}
 
 -- CONNECTED wants a CPort that is off
 abbrev pub is_off : CportState → Bool

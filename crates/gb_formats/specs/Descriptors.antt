@@ -1,6 +1,7 @@
 -- Manifest descriptors (Greybus Specification, "Manifest"; in Linux's greybus_manifest.h
 -- `greybus_descriptor`).
-use Rattle.std.specs.Prelude.{◌≡◌, ◌<◌, ◌≤◌, ⊤, ℕ, ◌+◌, ◌-◌, ◌*◌, ◌/◌, ◌%◌, ◌==◌, if◌then◌else◌, List, [], ◌∷◌, ◌++◌, length, take, drop, slice_index, replicate}
+use Rattle.std.specs.Prelude.{◌≡◌, ◌<◌, ◌≤◌, ⊤, ℕ, ◌+◌, ◌-◌, ◌*◌, ◌/◌, ◌%◌, ◌==◌, if◌then◌else◌}
+use Rattle.std.specs.Prelude.{List, [], ◌∷◌, ◌++◌, length, take, drop, slice_index, replicate}
 use Rattle.byteorder.specs.Endian.{little_number}
 use Rattle.gb_formats.specs.Bytes.{le16}
 

@@ -2,7 +2,8 @@
 -- what comes from outside.
 use Rattle.std.specs.Prelude.{ℕ, ◌==◌, if◌then◌else◌, Option, Some, None, List, [], ◌∷◌}
 use Rattle.gb_base.specs.declared.served.OwnAsk.{OwnAsk}
-use Rattle.gb_formats.specs.GpioDevice.{GpioLine, Levelled, first_gpio, restarted_gpio, gpio_step, gpio_level_set, irq_told}
+use Rattle.gb_formats.specs.GpioDevice.{GpioLine, Levelled, first_gpio, restarted_gpio, gpio_step}
+use Rattle.gb_formats.specs.GpioDevice.{gpio_level_set, irq_told}
 use Rattle.gb_formats.specs.I2cDevice.{I2cDevice, first_i2c, i2c_step}
 use Rattle.gb_formats.specs.Protocols.{gpio_protocol, i2c_protocol, uart_protocol, spi_protocol}
 use Rattle.gb_formats.specs.Results.{Step, Stirred}

@@ -1,9 +1,13 @@
 -- The GPIO device: eight lines.
-use Rattle.std.specs.Prelude.{ℕ, ◌-◌, ◌==◌, nat_le, Bool, true, false, not, ◌&&◌, ◌||◌, if◌then◌else◌, Option, Some, None, Result, Ok, Err, List, [], map, replicate, slice_get, slice_set}
+use Rattle.std.specs.Prelude.{ℕ, ◌-◌, ◌==◌, nat_le, Bool, true, false, not, ◌&&◌, ◌||◌}
+use Rattle.std.specs.Prelude.{if◌then◌else◌, Option, Some, None, Result, Ok, Err, List, [], map}
+use Rattle.std.specs.Prelude.{replicate, slice_get, slice_set}
 use Rattle.gb_base.specs.declared.served.OwnAsk.{OwnAsk}
-use Rattle.gb_formats.specs.GpioRecords.{GpioAsk, GpioReply, gpio_ask_kind, gpio_ask_payload, gpio_reply_payload, read_gpio_ask_of_ap}
+use Rattle.gb_formats.specs.GpioRecords.{GpioAsk, GpioReply, gpio_ask_kind, gpio_ask_payload}
+use Rattle.gb_formats.specs.GpioRecords.{gpio_reply_payload, read_gpio_ask_of_ap}
 use Rattle.gb_formats.specs.Records.{PayloadFault}
-use Rattle.gb_formats.specs.Results.{Step, tells, refuses, answer_of, fault_result, oneway_ask, protocol_bad, invalid, nonexistent}
+use Rattle.gb_formats.specs.Results.{Step, tells, refuses, answer_of, fault_result, oneway_ask}
+use Rattle.gb_formats.specs.Results.{protocol_bad, invalid, nonexistent}
 
 -- A line. `input` is true where its direction is in, `irq` is its interrupt type, and `level` is
 -- what comes from outside.

@@ -2,7 +2,8 @@
 -- greybus_protocols.h `GB_GPIO_TYPE_..`). LineCount answers the count less 1.
 use Rattle.std.specs.Prelude.{ℕ, Result, List, [], ◌∷◌}
 use Rattle.gb_formats.specs.Bytes.{le16}
-use Rattle.gb_formats.specs.Records.{PayloadFault, Row, by_far, row0, row1, row2, u8, u16, read_ap_ask, read_far_ask, read_table}
+use Rattle.gb_formats.specs.Records.{PayloadFault, Row, by_far, row0, row1, row2, u8, u16}
+use Rattle.gb_formats.specs.Records.{read_ap_ask, read_far_ask, read_table}
 
 -- the payloads of requests
 pub data GpioAsk : Type 0 where

@@ -1,5 +1,6 @@
 -- The script grammar: what the words of a line ask for.
-use Rattle.std.specs.Prelude.{ℕ, ◌+◌, ◌==◌, Bool, if◌then◌else◌, Some, None, Ok, Err, List, [], ◌∷◌, slice_index, codes}
+use Rattle.std.specs.Prelude.{ℕ, ◌+◌, ◌==◌, Bool, if◌then◌else◌, Some, None, Ok, Err, List, [], ◌∷◌}
+use Rattle.std.specs.Prelude.{slice_index, codes}
 use Rattle.std.specs.Str.{bytes_eq}
 use Rattle.gb_base.specs.declared.end.End.TheVariants as end
 use Rattle.gb_base.specs.declared.event.Event.{Event}
@@ -8,7 +9,8 @@ use Rattle.gb_base.specs.declared.fault.LineReason.TheVariants as bad
 use Rattle.gb_base.specs.declared.name.Name.{Name}
 use Rattle.gb_formats.specs.BridgeForms.{gpio_form, i2c_form, spi_form, uart_form}
 use Rattle.gb_formats.specs.Said.{next_word, next_cport, at_end}
-use Rattle.gb_formats.specs.WordValues.{name_word, intf_word, cport_word, count_word, from_one_word, hex_word, type_word, kind_word}
+use Rattle.gb_formats.specs.WordValues.{name_word, intf_word, cport_word, count_word, from_one_word}
+use Rattle.gb_formats.specs.WordValues.{hex_word, type_word, kind_word}
 pub use Rattle.gb_formats.specs.Said.{Said}
 pub use Rattle.gb_formats.specs.WordValues.{is_name_word, name_of}
 

@@ -1,9 +1,14 @@
 -- The I2C device: a memory of 256 bytes at address 50, with a pointer.
-use Rattle.std.specs.Prelude.{ℕ, zero, suc, ◌+◌, ◌/◌, ◌%◌, ◌==◌, nat_lt, Bool, not, if◌then◌else◌, Result, Ok, Err, List, [], ◌∷◌, ◌++◌, length, take, drop, slice_index, slice_set, sum_by}
+use Rattle.std.specs.Prelude.{ℕ, zero, suc, ◌+◌, ◌/◌, ◌%◌, ◌==◌, nat_lt, Bool, not, if◌then◌else◌}
+use Rattle.std.specs.Prelude.{Result, Ok, Err, List, [], ◌∷◌, ◌++◌, length, take, drop, slice_index}
+use Rattle.std.specs.Prelude.{slice_set, sum_by}
 use Rattle.std.specs.List.{list_any}
-use Rattle.gb_formats.specs.I2cRecords.{I2cAsk, I2cReply, TransferOp, op_size, ops_at, op_reads, op_written_size, op_read_size, read_i2c_ask, i2c_reply_payload}
+use Rattle.gb_formats.specs.I2cRecords.{I2cAsk, I2cReply, TransferOp, op_size, ops_at, op_reads}
+use Rattle.gb_formats.specs.I2cRecords.{op_written_size, op_read_size, read_i2c_ask}
+use Rattle.gb_formats.specs.I2cRecords.{i2c_reply_payload}
 use Rattle.gb_formats.specs.Records.{PayloadFault}
-use Rattle.gb_formats.specs.Results.{Step, tells, refuses, fault_result, invalid, nonexistent, overflow, most_payload}
+use Rattle.gb_formats.specs.Results.{Step, tells, refuses, fault_result, invalid, nonexistent}
+use Rattle.gb_formats.specs.Results.{overflow, most_payload}
 
 -- the memory and the pointer
 pub record I2cDevice : Type 0 where

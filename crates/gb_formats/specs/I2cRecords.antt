@@ -1,9 +1,11 @@
 -- Records of the I2C protocol (Greybus Specification, "I2C Protocol"; in Linux's
 -- greybus_protocols.h `GB_I2C_TYPE_..`).
-use Rattle.std.specs.Prelude.{ℕ, zero, suc, ◌+◌, ◌*◌, ◌/◌, ◌==◌, Bool, if◌then◌else◌, Result, Ok, List, [], ◌∷◌, ◌++◌, length, take, drop, sum_by}
+use Rattle.std.specs.Prelude.{ℕ, zero, suc, ◌+◌, ◌*◌, ◌/◌, ◌==◌, Bool, if◌then◌else◌, Result, Ok}
+use Rattle.std.specs.Prelude.{List, [], ◌∷◌, ◌++◌, length, take, drop, sum_by}
 use Rattle.byteorder.specs.Endian.{little_number}
 use Rattle.gb_formats.specs.Bytes.{le16}
-use Rattle.gb_formats.specs.Records.{le32, PayloadFault, has_read_flag, Row, row0, row1, u32, whole, read_table}
+use Rattle.gb_formats.specs.Records.{le32, PayloadFault, has_read_flag, Row, row0, row1, u32, whole}
+use Rattle.gb_formats.specs.Records.{read_table}
 
 -- The payloads of requests. The ops are the bytes of the ops as they stand in the payload, the data
 -- those behind them.

@@ -3,7 +3,8 @@ use Rattle.std.specs.Prelude.{ℕ, List, [], ◌∷◌, codes}
 use Rattle.gb_base.specs.declared.event.Kind.{Kind}
 use Rattle.gb_base.specs.declared.event.Kind.TheVariants as kind
 use Rattle.gb_formats.specs.ManifestSpec.{ManifestSpec, StringSpec, BundleSpec, CportSpec, plain}
-use Rattle.gb_formats.specs.Protocols.{control_protocol, gpio_protocol, i2c_protocol, uart_protocol, spi_protocol, control_class, bridged_class}
+use Rattle.gb_formats.specs.Protocols.{control_protocol, gpio_protocol, i2c_protocol, uart_protocol}
+use Rattle.gb_formats.specs.Protocols.{spi_protocol, control_class, bridged_class}
 
 -- the product string of a kind
 abbrev pub product_of : Kind → List ℕ

@@ -1,6 +1,5 @@
 pub mod BridgeForms
 pub mod Bridges
-pub mod Built
 pub mod Bytes
 pub mod ControlRecords
 pub mod ControlResponder

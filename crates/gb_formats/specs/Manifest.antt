@@ -1,10 +1,14 @@
 -- Manifests (Greybus Specification, "Manifest"; in Linux's greybus_manifest.h
 -- `greybus_manifest_header`): which bytes are one, and where and why others aren't.
-use Rattle.std.specs.Prelude.{◌≡◌, ◌≤◌, ℕ, zero, suc, ◌+◌, ◌-◌, ◌%◌, ◌==◌, nat_lt, nat_le, Bool, not, ◌&&◌, ◌||◌, if◌then◌else◌, Option, Some, None, option_map, Result, Ok, Err, List, [], ◌∷◌, ◌++◌, map, length, drop, slice_index, find}
+use Rattle.std.specs.Prelude.{◌≡◌, ◌≤◌, ℕ, zero, suc, ◌+◌, ◌-◌, ◌%◌, ◌==◌, nat_lt, nat_le, Bool}
+use Rattle.std.specs.Prelude.{not, ◌&&◌, ◌||◌, if◌then◌else◌, Option, Some, None, option_map}
+use Rattle.std.specs.Prelude.{Result, Ok, Err, List, [], ◌∷◌, ◌++◌, map, length, drop, slice_index}
+use Rattle.std.specs.Prelude.{find}
 use Rattle.gb_base.specs.declared.fault.Reason.{Reason}
 use Rattle.gb_base.specs.declared.fault.Reason.TheVariants as reason
 use Rattle.gb_formats.specs.Bytes.{le16}
-use Rattle.gb_formats.specs.Descriptors.{Descriptor, IsDescriptor, size_at, type_at, least_size_at, descriptor_at}
+use Rattle.gb_formats.specs.Descriptors.{Descriptor, IsDescriptor, size_at, type_at, least_size_at}
+use Rattle.gb_formats.specs.Descriptors.{descriptor_at}
 use Rattle.gb_formats.specs.ManifestRules.{Placed, Refused, rules_refusal, is_cport}
 
 -- A manifest: its minor version, its size in bytes, and its descriptors in order.

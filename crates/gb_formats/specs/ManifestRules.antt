@@ -1,5 +1,6 @@
 -- The rules on the descriptors of a manifest as a whole, in the order in which they are tried.
-use Rattle.std.specs.Prelude.{ℕ, ◌==◌, nat_lt, Bool, true, false, not, ◌&&◌, if◌then◌else◌, Option, Some, None, option_map, List, [], ◌∷◌, ◌++◌}
+use Rattle.std.specs.Prelude.{ℕ, ◌==◌, nat_lt, Bool, true, false, not, ◌&&◌, if◌then◌else◌, Option}
+use Rattle.std.specs.Prelude.{Some, None, option_map, List, [], ◌∷◌, ◌++◌}
 use Rattle.std.specs.List.{list_any}
 use Rattle.gb_base.specs.declared.fault.Reason.{Reason}
 use Rattle.gb_base.specs.declared.fault.Reason.TheVariants as reason

@@ -1,5 +1,6 @@
 -- Manifests that are written from a spec, with least sizes and zero pads.
-use Rattle.std.specs.Prelude.{ℕ, ◌+◌, nat_lt, if◌then◌else◌, Option, Some, None, Result, Ok, Err, List, [], ◌∷◌, ◌++◌, map, length}
+use Rattle.std.specs.Prelude.{ℕ, ◌+◌, nat_lt, if◌then◌else◌, Option, Some, None, Result, Ok, Err}
+use Rattle.std.specs.Prelude.{List, [], ◌∷◌, ◌++◌, map, length}
 use Rattle.std.specs.List.{concat}
 use Rattle.gb_base.specs.declared.fault.Reason.{Reason}
 use Rattle.gb_formats.specs.Bytes.{le16}

@@ -1,12 +1,13 @@
 -- The parts of a script with requesters: its lines in order, each with the requester whose it is.
-use Rattle.std.specs.Prelude.{ℕ, ◌+◌, nat_le, Bool, false, if◌then◌else◌, Option, Some, None, Result, Ok, Err, List, [], ◌∷◌, codes}
+use Rattle.std.specs.Prelude.{ℕ, ◌+◌, nat_le, Bool, false, if◌then◌else◌, Option, Some, None}
+use Rattle.std.specs.Prelude.{Result, Ok, Err, List, [], ◌∷◌, codes}
 use Rattle.std.specs.Str.{bytes_eq}
 use Rattle.gb_base.specs.declared.event.Event.{Event}
 use Rattle.gb_base.specs.declared.fault.LineReason.{LineReason}
 use Rattle.gb_base.specs.declared.fault.LineReason.TheVariants as bad
 use Rattle.gb_formats.specs.Grammar.{Said}
 use Rattle.gb_formats.specs.Lines.{lines}
-use Rattle.gb_formats.specs.Script.{by_bytes, said}
+use Rattle.gb_formats.specs.Script.{by_bytes, judged}
 use Rattle.gb_formats.specs.WordValues.{number_word}
 use Rattle.gb_formats.specs.Words.{words}
 
@@ -59,11 +60,11 @@ said_part (Ok None) = Ok Nothing
 said_part (Ok (Some e)) = Ok (Asks e)
 said_part (Err why) = Err why
 
--- What a line is, behind lines of requester `who`; `built` tells which events are done.
-abbrev pub part_of : (Event → Bool) → ℕ → List ℕ → Result Part LineReason
-part_of built who line =
+-- What a line is, behind lines of requester `who`.
+abbrev pub part_of : ℕ → List ℕ → Result Part LineReason
+part_of who line =
     if is_heading (words line) then by_bytes line (heading who (words line))
-    else said_part (said built who line)
+    else said_part (judged who line)
 
 -- the parts with one more line in front
 abbrev pub with_line : Asked → Parts → Parts
@@ -78,11 +79,11 @@ parts_with at who (Ok (Asks e)) later =
 parts_with at who (Err why) later = record { asked = []; bad = Some (at, why) }
 
 -- the parts of lines whose first has number `at` and stands behind lines of requester `who`
-abbrev pub parts_from : (Event → Bool) → ℕ → ℕ → List (List ℕ) → Parts
-parts_from built at who [] = record { asked = []; bad = None }
-parts_from built at who (line ∷ more) =
-    parts_with at who (part_of built who line) (λ next. parts_from built (at + 1) next more)
+abbrev pub parts_from : ℕ → ℕ → List (List ℕ) → Parts
+parts_from at who [] = record { asked = []; bad = None }
+parts_from at who (line ∷ more) =
+    parts_with at who (part_of who line) (λ next. parts_from (at + 1) next more)
 
 -- The parts of a script: lines before the first heading are requester 0's.
-abbrev pub parts : (Event → Bool) → List ℕ → Parts
-parts built text = parts_from built 1 0 (lines text)
+abbrev pub parts : List ℕ → Parts
+parts text = parts_from 1 0 (lines text)

@@ -1,5 +1,7 @@
 -- Payload records: how the bytes of a payload are the fields of a row of a protocol's table.
-use Rattle.std.specs.Prelude.{ℕ, ◌+◌, ◌%◌, ◌==◌, min, Bool, true, false, if◌then◌else◌, Option, Some, None, Result, Ok, Err, List, [], ◌∷◌, length, drop, slice_index, sum, find}
+use Rattle.std.specs.Prelude.{ℕ, ◌+◌, ◌%◌, ◌==◌, min, Bool, true, false, if◌then◌else◌, Option}
+use Rattle.std.specs.Prelude.{Some, None, Result, Ok, Err, List, [], ◌∷◌, length, drop, slice_index}
+use Rattle.std.specs.Prelude.{sum, find}
 use Rattle.byteorder.specs.Endian.{little_bytes, little_number}
 
 -- Why a payload isn't a record of a type: the protocol hasn't the type, or no record of the type

@@ -1,7 +1,7 @@
 -- What a line of a script says.
-use Rattle.std.specs.Prelude.{ℕ, ◌+◌, Bool, ◌&&◌, nat_le, if◌then◌else◌, Option, Some, None, Result, Ok, Err, List, [], ◌∷◌, length}
+use Rattle.std.specs.Prelude.{ℕ, ◌+◌, Bool, ◌&&◌, nat_le, if◌then◌else◌, Option, Some, None, Result}
+use Rattle.std.specs.Prelude.{Err, List, [], ◌∷◌, length}
 use Rattle.std.specs.List.{list_all}
-use Rattle.gb_base.specs.declared.event.Event.{Event}
 use Rattle.gb_base.specs.declared.fault.LineReason.{LineReason}
 use Rattle.gb_base.specs.declared.fault.LineReason.TheVariants as bad
 use Rattle.gb_formats.specs.Grammar.{Said, asked_for}
@@ -36,16 +36,6 @@ by_bytes line by_words =
     if nat_le (length line) longest_line then unless_bad (bad_place 1 line) by_words
     else Err bad.Long
 
--- What a line says by the grammar.
+-- What a line says to requester `who`.
 abbrev pub judged : ℕ → List ℕ → Said
 judged who line = by_bytes line (asked_for who (words line))
-
--- what a line says, where only the events that are `built` are done
-abbrev pub only_built : (Event → Bool) → Said → Said
-only_built built (Ok (Some e)) = if built e then Ok (Some e) else Err bad.NotBuilt
-only_built built (Ok None) = Ok None
-only_built built (Err reason) = Err reason
-
--- What a line says to requester `who`, where only the events that are `built` are done.
-abbrev pub said : (Event → Bool) → ℕ → List ℕ → Said
-said built who line = only_built built (judged who line)

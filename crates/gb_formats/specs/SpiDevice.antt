@@ -1,9 +1,14 @@
 -- The SPI device at chip select 0: an echo, which keeps the last byte written.
-use Rattle.std.specs.Prelude.{ℕ, ◌-◌, ◌/◌, ◌==◌, nat_lt, Bool, not, ◌||◌, if◌then◌else◌, Result, Ok, Err, List, [], ◌∷◌, ◌++◌, length, take, drop, replicate, slice_index_or, sum_by, codes}
+use Rattle.std.specs.Prelude.{ℕ, ◌-◌, ◌/◌, ◌==◌, nat_lt, Bool, not, ◌||◌, if◌then◌else◌, Result, Ok}
+use Rattle.std.specs.Prelude.{Err, List, [], ◌∷◌, ◌++◌, length, take, drop, replicate}
+use Rattle.std.specs.Prelude.{slice_index_or, sum_by, codes}
 use Rattle.std.specs.List.{list_any}
 use Rattle.gb_formats.specs.Records.{PayloadFault}
-use Rattle.gb_formats.specs.Results.{Step, tells, refuses, fault_result, invalid, nonexistent, overflow, most_payload}
-use Rattle.gb_formats.specs.SpiRecords.{SpiAsk, SpiReply, TransferEntry, entry_size, name_size, entries_at, entry_writes, entry_written_size, entry_read_size, read_spi_ask, spi_reply_payload}
+use Rattle.gb_formats.specs.Results.{Step, tells, refuses, fault_result, invalid, nonexistent}
+use Rattle.gb_formats.specs.Results.{overflow, most_payload}
+use Rattle.gb_formats.specs.SpiRecords.{SpiAsk, SpiReply, TransferEntry, entry_size, name_size}
+use Rattle.gb_formats.specs.SpiRecords.{entries_at, entry_writes, entry_written_size}
+use Rattle.gb_formats.specs.SpiRecords.{entry_read_size, read_spi_ask, spi_reply_payload}
 
 -- the last byte written is first 0
 abbrev pub first_spi : ℕ

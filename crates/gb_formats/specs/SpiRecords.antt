@@ -1,9 +1,11 @@
 -- Records of the SPI protocol (Greybus Specification, "SPI Protocol"; in Linux's
 -- greybus_protocols.h `GB_SPI_TYPE_..`).
-use Rattle.std.specs.Prelude.{ℕ, zero, suc, ◌+◌, ◌*◌, ◌/◌, ◌%◌, ◌==◌, Bool, if◌then◌else◌, Result, Ok, List, [], ◌∷◌, ◌++◌, length, take, drop, slice_index, sum_by}
+use Rattle.std.specs.Prelude.{ℕ, zero, suc, ◌+◌, ◌*◌, ◌/◌, ◌%◌, ◌==◌, Bool, if◌then◌else◌, Result}
+use Rattle.std.specs.Prelude.{Ok, List, [], ◌∷◌, ◌++◌, length, take, drop, slice_index, sum_by}
 use Rattle.byteorder.specs.Endian.{little_number}
 use Rattle.gb_formats.specs.Bytes.{le16}
-use Rattle.gb_formats.specs.Records.{le32, PayloadFault, has_read_flag, Row, row0, row1, row6, u8, u16, u32, whole, read_table}
+use Rattle.gb_formats.specs.Records.{le32, PayloadFault, has_read_flag, Row, row0, row1, row6, u8}
+use Rattle.gb_formats.specs.Records.{u16, u32, whole, read_table}
 
 -- The payloads of requests. The entries are the bytes of the entries as they stand in the payload,
 -- the data those behind them.
@@ -12,7 +14,8 @@ pub data SpiAsk : Type 0 where
   DeviceConfig : (select : ℕ) → SpiAsk
   Transfer : (select mode : ℕ) → (entries data_bytes : List ℕ) → SpiAsk
 
--- The payloads of responses. MasterConfig has the mask of bits, and the least and the greatest speed.
+-- The payloads of responses. MasterConfig has the mask of bits, and the least and the greatest
+-- speed.
 pub data SpiReply : Type 0 where
   MasterConfig : (mask least greatest mode flags selects : ℕ) → SpiReply
   DeviceConfig : (mode bits speed device : ℕ) → (name : List ℕ) → SpiReply

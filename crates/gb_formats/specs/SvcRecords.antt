@@ -3,7 +3,8 @@
 -- asks.
 use Rattle.std.specs.Prelude.{ℕ, Result, List, [], ◌∷◌, ◌++◌}
 use Rattle.gb_formats.specs.Bytes.{le16}
-use Rattle.gb_formats.specs.Records.{PayloadFault, Row, by_far, row0, row1, row2, row3, row4, row6, u8, u16, read_ap_ask, read_far_ask, read_table}
+use Rattle.gb_formats.specs.Records.{PayloadFault, Row, by_far, row0, row1, row2, row3, row4, row6}
+use Rattle.gb_formats.specs.Records.{u8, u16, read_ap_ask, read_far_ask, read_table}
 
 -- the payloads of requests
 pub data SvcAsk : Type 0 where

@@ -1,5 +1,6 @@
 -- The texts of the report, one line for each entry.
-use Rattle.std.specs.Prelude.{ℕ, Bool, if◌then◌else◌, Option, Some, None, List, [], ◌∷◌, ◌++◌, ◌==◌, codes}
+use Rattle.std.specs.Prelude.{ℕ, Bool, if◌then◌else◌, Option, Some, None, List, [], ◌∷◌, ◌++◌, ◌==◌}
+use Rattle.std.specs.Prelude.{codes}
 use Rattle.std.specs.Fmt.{decimal}
 use Rattle.gb_base.specs.declared.bridge.Reading.{Reading}
 use Rattle.gb_base.specs.declared.bridge.Reading.TheVariants as reading
@@ -150,7 +151,6 @@ bad_text (bad.BadByte at) = joined (codes "bad byte " ∷ decimal at ∷ [])
 bad_text (bad.BadWord at) = joined (codes "bad word " ∷ decimal at ∷ [])
 bad_text (bad.MissingWord at) = joined (codes "missing word " ∷ decimal at ∷ [])
 bad_text (bad.ExtraWord at) = joined (codes "extra word " ∷ decimal at ∷ [])
-bad_text bad.NotBuilt = codes "not built"
 
 -- The line that names a bad line, without its end.
 abbrev pub bad_line : ℕ → LineReason → List ℕ

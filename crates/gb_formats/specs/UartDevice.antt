@@ -1,10 +1,13 @@
 -- The UART device, an echo that keeps nothing, and the credits of its peer.
-use Rattle.std.specs.Prelude.{ℕ, ◌+◌, ◌-◌, ◌==◌, nat_lt, nat_le, Bool, ◌&&◌, if◌then◌else◌, Option, Some, None, Result, Ok, Err, List, [], ◌∷◌, length}
+use Rattle.std.specs.Prelude.{ℕ, ◌+◌, ◌-◌, ◌==◌, nat_lt, nat_le, Bool, ◌&&◌, if◌then◌else◌, Option}
+use Rattle.std.specs.Prelude.{Some, None, Result, Ok, Err, List, [], ◌∷◌, length}
 use Rattle.gb_base.specs.declared.served.OwnAsk.{OwnAsk}
 use Rattle.gb_base.specs.declared.served.Served.{Served}
 use Rattle.gb_formats.specs.Records.{PayloadFault}
-use Rattle.gb_formats.specs.Results.{answer_of, refusal_of, own_ask, success, fault_result, protocol_bad, invalid, overflow}
-use Rattle.gb_formats.specs.UartRecords.{UartAsk, read_uart_ask_of_ap, uart_ask_kind, uart_ask_payload}
+use Rattle.gb_formats.specs.Results.{answer_of, refusal_of, own_ask, success, fault_result}
+use Rattle.gb_formats.specs.Results.{protocol_bad, invalid, overflow}
+use Rattle.gb_formats.specs.UartRecords.{UartAsk, read_uart_ask_of_ap, uart_ask_kind}
+use Rattle.gb_formats.specs.UartRecords.{uart_ask_payload}
 
 -- the most bytes that one SEND_DATA may carry
 abbrev pub most_sent : ℕ

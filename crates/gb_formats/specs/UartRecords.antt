@@ -1,9 +1,11 @@
 -- Records of the UART protocol (Greybus Specification, "UART Protocol"; in Linux's
 -- greybus_protocols.h `GB_UART_TYPE_..`).
-use Rattle.std.specs.Prelude.{ℕ, ◌+◌, ◌==◌, if◌then◌else◌, Result, List, [], ◌∷◌, ◌++◌, length, drop, slice_index}
+use Rattle.std.specs.Prelude.{ℕ, ◌+◌, ◌==◌, if◌then◌else◌, Result, List, [], ◌∷◌, ◌++◌, length}
+use Rattle.std.specs.Prelude.{drop, slice_index}
 use Rattle.byteorder.specs.Endian.{little_number}
 use Rattle.gb_formats.specs.Bytes.{le16}
-use Rattle.gb_formats.specs.Records.{le32, PayloadFault, Row, by_far, row0, row1, row5, u8, u16, u32, whole, read_ap_ask, read_far_ask, read_table}
+use Rattle.gb_formats.specs.Records.{le32, PayloadFault, Row, by_far, row0, row1, row5, u8, u16}
+use Rattle.gb_formats.specs.Records.{u32, whole, read_ap_ask, read_far_ask, read_table}
 
 -- the payloads of requests
 pub data UartAsk : Type 0 where

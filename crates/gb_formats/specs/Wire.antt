@@ -1,6 +1,8 @@
 -- How bytes spell messages, one and many (Greybus Specification, "Operation Messages"; in Linux's
 -- greybus_protocols.h `gb_operation_msg_hdr`).
-use Rattle.std.specs.Prelude.{◌≡◌, ◌<◌, ◌≤◌, ◌≢◌, ◌⊎◌, ℕ, ◌-◌, ◌==◌, nat_lt, Bool, not, ◌&&◌, if◌then◌else◌, Result, Ok, Err, List, [], ◌∷◌, ◌++◌, length, take, drop, slice_index}
+use Rattle.std.specs.Prelude.{◌≡◌, ◌<◌, ◌≤◌, ◌≢◌, ◌⊎◌, ℕ, ◌-◌, ◌==◌, nat_lt, Bool, not, ◌&&◌}
+use Rattle.std.specs.Prelude.{if◌then◌else◌, Result, Ok, Err, List, [], ◌∷◌, ◌++◌, length, take}
+use Rattle.std.specs.Prelude.{drop, slice_index}
 use Rattle.byteorder.specs.Endian.{little_number}
 use Rattle.gb_base.specs.declared.fault.RawFault.{RawFault}
 use Rattle.gb_base.specs.declared.fault.RawFault.TheVariants as raw
@@ -13,9 +15,9 @@ use Rattle.gb_formats.specs.Message.{Message, message_size}
 abbrev pub header_size : ℕ
 header_size = 8
 
--- how many bytes the greatest payload has
-abbrev pub longest_payload : ℕ
-longest_payload = 65527
+-- how many bytes the greatest payload has whose message the size field can tell
+abbrev pub longest_spelled_payload : ℕ
+longest_spelled_payload = 65527
 
 -- Bytes spell a message: size, identifier, type, result, two bytes of any value, and the payload.
 -- A request has result 0.
@@ -24,7 +26,7 @@ pub record Spells (bytes : List ℕ) (m : Message) : Type 0 where
   pub pad2 : ℕ
   pub spelt : bytes ≡
       le16 (message_size m.payload) ++ (le16 m.id ++ (m.kind ∷ m.result ∷ pad1 ∷ pad2 ∷ m.payload))
-  pub short : length m.payload ≤ longest_payload
+  pub short : length m.payload ≤ longest_spelled_payload
   pub id_fits : m.id < 65536
   pub clear : m.kind < 128 → m.result ≡ 0
 

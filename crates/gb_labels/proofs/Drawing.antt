@@ -1,27 +1,11 @@
 -- The cyclic rule, and the least identifier from one on that isn't in use.
 use Rattle.std.proofs.Common.{◌≡◌, ◌<◌, ◌≤◌, ℕ, zero, suc, ◌+◌, ◌-◌, Bool, true, false, cond, ◌⊎◌}
-use Rattle.std.proofs.Common.{inl, inr, leb, Some, None, refl, sym, ap, ◌∙◌, arith, ltb}
-use Rattle.std.proofs.lemmas.Bool.Decides.{leb_tells, nat_tests}
+use Rattle.std.proofs.Common.{inl, inr, leb, Some, None, refl, sym, ap, ◌∙◌, arith}
+use Rattle.std.proofs.lemmas.Bool.Decides.{leb_tells}
 use Rattle.gb_labels.specs.Drawing.{AllInUse, AreUsed, IsFirstFree, IsNext, IsSpent}
 use Rattle.gb_labels.specs.LabelSet.{LabelSet, is_in_use}
+use Rattle.gb_machine.proofs.Labels.{label_after-less, label_after-within}
 use Rattle.gb_machine.specs.Labels.{free_label, greatest_label, label_after}
-
--- the identifier behind one that isn't the greatest
-after-less : (label : ℕ) → label < greatest_label → label_after label ≡ label + 1
-after-less label h = by (ltb label greatest_label) refl
-  where
-    by : (t : Bool) → ltb label greatest_label ≡ t → cond t (label + 1) 1 ≡ label + 1
-    by true e = refl
-    by false e = absurd (grind (arith, nat_tests))
-
-after-within : (label : ℕ) → (1 ≤ label_after label) × (label_after label ≤ greatest_label)
-after-within label = by (ltb label greatest_label) refl
-  where
-    by : (t : Bool) → ltb label greatest_label ≡ t
-        → (1 ≤ cond t (label + 1) 1) × (cond t (label + 1) 1 ≤ greatest_label)
-    by true e = let less : label < greatest_label = grind (arith, nat_tests) in
-        (omega arith, omega (arith, less))
-    by false e = (omega arith, omega arith)
 
 -- one that is in use is passed over
 passed : (used : ℕ → Bool) (tries label : ℕ) → used label ≡ true
@@ -44,7 +28,7 @@ over used zero tries label h u =
 over used (suc n) tries label h u =
     ap (λ t. free_label used t label) (omega arith)
     ∙ passed used (n + tries) label (u label (omega arith) (omega arith))
-    ∙ ap (free_label used (n + tries)) (after-less label (omega arith))
+    ∙ ap (free_label used (n + tries)) (label_after-less label (omega arith))
     ∙ over used n tries (label + 1) (omega arith) (λ j low high. u j (omega arith) (omega arith))
     ∙ ap (free_label used tries) (omega arith)
 
@@ -54,7 +38,7 @@ none : (used : ℕ → Bool) (tries label : ℕ) → 1 ≤ label → label ≤ g
 unfolding free_label
 none used zero label low high u = refl
 none used (suc tries) label low high u =
-    let next = after-within label in
+    let next = label_after-within label in
     passed used tries label (u label low (omega arith))
     ∙ none used tries (label_after label) next.0 next.1 u
 
@@ -120,7 +104,7 @@ pub next_ahead : (set : LabelSet) (start label : ℕ) → Begins set start
     → IsFirstFree (is_in_use set) start label
     → IsNext set label
 next_ahead set start label at f =
-    let low : 1 ≤ start = omega (arith, at, after-within set.last) in record {
+    let low : 1 ≤ start = omega (arith, at, label_after-within set.last) in record {
       next = ap (free_label (is_in_use set) greatest_label) (sym at)
           ∙ ahead (is_in_use set) start label low f;
       least = omega (arith, low, f.behind);
@@ -133,7 +117,7 @@ pub next_wrapped : (set : LabelSet) (start label : ℕ) → Begins set start
     → AreUsed (is_in_use set) start (suc greatest_label) → IsFirstFree (is_in_use set) 1 label
     → IsNext set label
 next_wrapped set start label at u f =
-    let within = after-within set.last in record {
+    let within = label_after-within set.last in record {
       next =
           ap (free_label (is_in_use set) greatest_label) (sym at)
           ∙ wrapped (is_in_use set) start label (omega (arith, at, within))
@@ -146,7 +130,7 @@ next_wrapped set start label at u f =
 -- or none
 pub next_none : (set : LabelSet) → AllInUse set → IsSpent set
 next_none set u =
-    let start = after-within set.last in record {
+    let start = label_after-within set.last in record {
       next = none (is_in_use set) greatest_label (label_after set.last) start.0 start.1 u;
       used = u;
     }

@@ -1,5 +1,6 @@
 -- What it says that an event isn't refused: none of the conditions of its refusals is met.
-use Rattle.std.proofs.Common.{◌≡◌, Bool, true, false, cond, Some, None, List, [], ◌∷◌, ◌++◌, is_none, refl, sym, ap, ◌∙◌}
+use Rattle.std.proofs.Common.{◌≡◌, Bool, true, false, cond, Some, None, List, [], ◌∷◌, ◌++◌}
+use Rattle.std.proofs.Common.{is_none, refl, sym, ap, ◌∙◌}
 use Rattle.gb_base.specs.declared.end.End.{End}
 use Rattle.gb_base.specs.declared.event.Event.{Event}
 use Rattle.gb_base.specs.declared.event.Event.TheVariants as event

@@ -1,6 +1,7 @@
 -- The facts on hot-plug as tests of a state, for one interface: what LawsSvc in specs/ says, so
 -- that it can be computed.
-use Rattle.std.proofs.Common.{ℕ, ◌+◌, ◌==◌, Bool, true, false, not, ◌&&◌, ◌||◌, if◌then◌else◌, Option, Some, None, is_some, List, [], ◌∷◌, nat_le, nat_lt}
+use Rattle.std.proofs.Common.{ℕ, ◌+◌, ◌==◌, Bool, true, false, not, ◌&&◌, ◌||◌, if◌then◌else◌}
+use Rattle.std.proofs.Common.{Option, Some, None, is_some, List, [], ◌∷◌, nat_le, nat_lt}
 use Rattle.std.specs.List.{list_all, list_any}
 use Rattle.gb_base.specs.declared.end.End.{End}
 use Rattle.gb_base.specs.declared.end.End.TheVariants as end
@@ -11,14 +12,16 @@ use Rattle.gb_base.specs.declared.peers.Interface.{Interface}
 use Rattle.gb_base.specs.declared.steps.SequenceStep.{SequenceStep}
 use Rattle.gb_machine.specs.Bus.{Request, connection_of, request_of}
 use Rattle.gb_machine.specs.Host.{interface_of}
-use Rattle.gb_machine.specs.LawsSvc.{awaited_by, awaits_removal, before_removal, enumeration_requests}
+use Rattle.gb_machine.specs.LawsSvc.{awaited_by, awaits_removal, before_removal}
+use Rattle.gb_machine.specs.LawsSvc.{enumeration_requests}
 use Rattle.gb_machine.specs.Lists.{behind_first}
 use Rattle.gb_machine.specs.Modules.{is_plugged}
 use Rattle.gb_machine.specs.Ports.{level_of}
 use Rattle.gb_machine.specs.Requests.{same_side}
 use Rattle.gb_machine.specs.SequenceSteps.{asks_control}
 use Rattle.gb_machine.specs.State.{State}
-use Rattle.gb_machine.specs.SvcQueues.{is_ask, is_connection_request, is_enumeration_request, is_for_link, is_reply_to, svc_items, svc_requests}
+use Rattle.gb_machine.specs.SvcQueues.{is_ask, is_connection_request, is_enumeration_request}
+use Rattle.gb_machine.specs.SvcQueues.{is_for_link, is_reply_to, svc_items, svc_requests}
 use Rattle.gb_machine.specs.Wiring.{is_wired_to}
 
 -- ---- wired means routed

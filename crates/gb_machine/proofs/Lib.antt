@@ -1,6 +1,7 @@
 pub mod Conditions
 pub mod Exploration
 pub mod HotPlugTests
+pub mod Labels
 pub mod Lists
 pub mod Opened
 pub mod Options

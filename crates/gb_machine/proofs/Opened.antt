@@ -1,17 +1,24 @@
 -- What a proof unfolds to compute a step of the machine.
 use Rattle.std.specs.Prelude.{⊤}
-use Rattle.gb_machine.specs.Actions.{by_state, change, each, given, nothing, on_bus, on_host, tell, tell_all, when, ◌▸◌}
-use Rattle.gb_machine.specs.Arriving.{answers_by, arrives, asked_at, by_label, by_number, delivers, delivers_at, ends, ends_answered, forgets, handles, keeps, late_by, raw_taken, reply_taken}
+use Rattle.gb_machine.specs.Actions.{by_state, change, each, given, nothing, on_bus, on_host, tell}
+use Rattle.gb_machine.specs.Actions.{tell_all, when, ◌▸◌}
+use Rattle.gb_machine.specs.Arriving.{answers_by, arrives, asked_at, by_label, by_number, delivers}
+use Rattle.gb_machine.specs.Arriving.{delivers_at, ends, ends_answered, forgets, handles, keeps}
+use Rattle.gb_machine.specs.Arriving.{late_by, raw_taken, reply_taken}
 use Rattle.gb_machine.specs.Asking.{asks, asks_with}
 use Rattle.gb_machine.specs.Events.{decided, does, shows, step}
 use Rattle.gb_machine.specs.GivingUp.{cancels, gives_up, ticks, times_out}
-use Rattle.gb_machine.specs.HostActs.{acts, asked_with, fails, follows, host_asks, host_opens, notices, opened_with, turns}
+use Rattle.gb_machine.specs.HostActs.{acts, asked_with, fails, follows, host_asks, host_opens}
+use Rattle.gb_machine.specs.HostActs.{notices, opened_with, turns}
 use Rattle.gb_machine.specs.Labels.{free_label}
-use Rattle.gb_machine.specs.LineActions.{answers, answers_at, answers_held, bridge_sent, bridges, copies, holds, injects, injects_at, sends, sends_on, serves_held, stirred, stirs}
+use Rattle.gb_machine.specs.LineActions.{answers, answers_at, answers_held, bridge_sent, bridges}
+use Rattle.gb_machine.specs.LineActions.{copies, holds, injects, injects_at, sends, sends_on}
+use Rattle.gb_machine.specs.LineActions.{serves_held, stirred, stirs}
 use Rattle.gb_machine.specs.Lists.{first_free}
 use Rattle.gb_machine.specs.OwnAsking.{far_asks, far_asks_all, svc_asks}
 use Rattle.gb_machine.specs.Plugging.{boots, plugs, pulls, tells_inserted}
-use Rattle.gb_machine.specs.Responding.{host_behind, replies, responds, serves, serves_oneway, with_ports}
+use Rattle.gb_machine.specs.Responding.{host_behind, replies, responds, serves, serves_oneway}
+use Rattle.gb_machine.specs.Responding.{with_ports}
 use Rattle.gb_machine.specs.Settling.{settles, settles_at, settles_from}
 use Rattle.gb_machine.specs.Wires.{shuts, unwires, wires}
 
@@ -37,15 +44,19 @@ serving_opened = tt
 
 -- delivering
 unfoldable pub delivering_opened : ⊤
-unfolding answers_by arrives asked_at by_label by_number delivers delivers_at ends ends_answered forgets handles keeps late_by raw_taken reply_taken
+unfolding answers_by arrives asked_at by_label by_number delivers delivers_at ends ends_answered
+    forgets handles keeps late_by raw_taken reply_taken
 delivering_opened = tt
 
 -- the lines of a script
 unfoldable pub lines_opened : ⊤
-unfolding answers answers_at answers_held boots bridge_sent bridges cancels copies gives_up holds injects injects_at plugs pulls sends sends_on serves_held settles settles_at settles_from shows stirred stirs tells_inserted ticks times_out
+unfolding answers answers_at answers_held boots bridge_sent bridges cancels copies gives_up holds
+    injects injects_at plugs pulls sends sends_on serves_held settles settles_at settles_from shows
+    stirred stirs tells_inserted ticks times_out
 lines_opened = tt
 
 -- the whole machine
 unfoldable pub machine_opened : ⊤
-unfolding actions_opened bus_opened host_opened serving_opened delivering_opened lines_opened does decided step
+unfolding actions_opened bus_opened host_opened serving_opened delivering_opened lines_opened does
+    decided step
 machine_opened = tt

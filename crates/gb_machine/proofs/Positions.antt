@@ -1,5 +1,6 @@
 -- The first that passes a test, by its place.
-use Rattle.std.proofs.Common.{◌≡◌, ℕ, zero, suc, ◌+◌, ◌<◌, Bool, true, false, cond, Some, None, List, [], ◌∷◌, length, get_or, set, refl, ap, ◌∙◌, arith, subst}
+use Rattle.std.proofs.Common.{◌≡◌, ℕ, zero, suc, ◌+◌, ◌<◌, Bool, true, false, cond, Some, None}
+use Rattle.std.proofs.Common.{List, [], ◌∷◌, length, get_or, set, refl, ap, ◌∙◌, arith, subst}
 use Rattle.std.specs.List.{find, position_from}
 use Rattle.gb_machine.specs.Lists.{at_first}
 

@@ -1,5 +1,6 @@
 -- A worked script with what it reports: the credits of a UART.
-use Rattle.std.proofs.Common.{◌≡◌, ℕ, Bool, true, false, List, [], ◌∷◌, codes, filter, map, replicate, refl}
+use Rattle.std.proofs.Common.{◌≡◌, ℕ, Bool, true, false, List, [], ◌∷◌, codes, filter, map}
+use Rattle.std.proofs.Common.{replicate, refl}
 use Rattle.gb_base.specs.declared.bridge.BridgeAsk.TheVariants as ask
 use Rattle.gb_base.specs.declared.entry.Entry.{Entry}
 use Rattle.gb_base.specs.declared.entry.Entry.TheVariants as entry
@@ -14,7 +15,8 @@ use Rattle.gb_machine.specs.State.{first_state}
 
 -- so many bytes are sent to the UART
 abbrev sends_bytes : List ℕ → ℕ → ℕ → Event
-sends_bytes name byte count = event.Bridge (name_of 0 name) 2 1 (ask.UartSend (replicate count byte))
+sends_bytes name byte count =
+    event.Bridge (name_of 0 name) 2 1 (ask.UartSend (replicate count byte))
 
 -- data that came isn't told
 abbrev without_data : Entry → Bool
@@ -26,8 +28,10 @@ short told = entries_text 1 false (filter without_data told.entries)
 
 -- three sends take all credits, and the echoes bring them back
 pub credits : map short (trace_from (after first_state (setup (codes "insert 2 uart")))
-    (sends_bytes (codes "@a") 171 2037 ∷ sends_bytes (codes "@b") 205 2037 ∷ sends_bytes (codes "@c") 239 22
-    ∷ sends_bytes (codes "@d") 0 1 ∷ event.Settle 100 ∷ sends_bytes (codes "@d") 0 1 ∷ sends_bytes (codes "@e") 0 2038 ∷ []))
+    (sends_bytes (codes "@a") 171 2037 ∷ sends_bytes (codes "@b") 205 2037 ∷ sends_bytes
+    (codes "@c") 239 22
+    ∷ sends_bytes (codes "@d") 0 1 ∷ event.Settle 100 ∷ sends_bytes (codes "@d") 0 1 ∷ sends_bytes
+    (codes "@e") 0 2038 ∷ []))
     ≡ text (codes "line 1 ok" ∷ codes "ask #16 ap 2 > 2 1 type 02 size 2047" ∷ [])
     ∷ text (codes "line 1 ok" ∷ codes "ask #17 ap 2 > 2 1 type 02 size 2047" ∷ [])
     ∷ text (codes "line 1 ok" ∷ codes "ask #18 ap 2 > 2 1 type 02 size 32" ∷ [])

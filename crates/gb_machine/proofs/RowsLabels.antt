@@ -30,7 +30,8 @@ unfolding report_opened
 around_used = refl
 
 -- an identifier is free once its answer came
-pub around_free : next_label 1 side.Ap (drawn_last 65535 (given_up ++ codes "deliver svc" ∷ codes "deliver ap 0" ∷ [])) ≡ Some 1
+pub around_free : next_label 1 side.Ap (drawn_last 65535
+    (given_up ++ codes "deliver svc" ∷ codes "deliver ap 0" ∷ [])) ≡ Some 1
 unfolding report_opened
 around_free = refl
 

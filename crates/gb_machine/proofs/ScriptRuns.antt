@@ -1,17 +1,18 @@
 -- The report of a script is the text of the trace of its events.
-use Rattle.std.proofs.Common.{◌≡◌, ℕ, ◌+◌, Bool, true, false, cond, Some, None, Ok, Err, List, [], ◌∷◌, ◌++◌, map, append_assoc, refl, sym, ap, ◌∙◌}
+use Rattle.std.proofs.Common.{◌≡◌, ℕ, ◌+◌, Bool, Some, None, Ok, Err, List, [], ◌∷◌, ◌++◌, map}
+use Rattle.std.proofs.Common.{append_assoc, refl, sym, ap, ◌∙◌}
 use Rattle.gb_base.specs.declared.event.Event.{Event}
-use Rattle.gb_base.specs.declared.fault.LineReason.TheVariants as bad
 use Rattle.gb_formats.proofs.JudgedValid.{judged-says_valid}
 use Rattle.gb_formats.proofs.SaidValid.{SaysValid}
 use Rattle.gb_formats.specs.Grammar.{Said}
 use Rattle.gb_formats.specs.Lines.{lines}
-use Rattle.gb_formats.specs.Script.{judged, only_built, said}
+use Rattle.gb_formats.specs.Script.{judged}
 use Rattle.gb_formats.specs.Texts.{entries_text}
 use Rattle.gb_machine.specs.Events.{step, trace_from}
 use Rattle.gb_machine.specs.Report.{report_from, reported}
 use Rattle.gb_machine.specs.Runs.{AreValid}
-use Rattle.gb_machine.specs.ScriptRuns.{Line, ReportsAreTraced, bad_line_text, bad_text, line_onto, lines_from, told_text}
+use Rattle.gb_machine.specs.ScriptRuns.{Line, ReportsAreTraced, bad_line_text, bad_text, line_onto}
+use Rattle.gb_machine.specs.ScriptRuns.{lines_from, told_text}
 use Rattle.gb_machine.specs.State.{State, first_state}
 
 -- the events of lines
@@ -20,27 +21,17 @@ events ls = map (λ l. l.1) ls
 
 -- ---- they are valid
 
--- what is said by the grammar is valid, and so is what is built of it
-only-valid : (built : Event → Bool) (s : Said) → SaysValid s → SaysValid (only_built built s)
-only-valid built (Ok (Some e)) h = by (built e)
-  where
-    by : (b : Bool) → SaysValid (cond b (Ok (Some e)) (Err bad.NotBuilt))
-    by true = h
-    by false = tt
-only-valid built (Ok None) h = tt
-only-valid built (Err why) h = tt
-
 onto-valid : (n : ℕ) (s : Said) (more : List Line) → SaysValid s → AreValid (events more)
     → AreValid (events (line_onto n s more))
 onto-valid n (Ok None) more h k = k
 onto-valid n (Ok (Some e)) more h k = (h, k)
 onto-valid n (Err why) more h k = tt
 
-lines-valid : (built : Event → Bool) (n : ℕ) (ls : List (List ℕ)) → AreValid (events (lines_from built n ls))
-lines-valid built n [] = tt
-lines-valid built n (line ∷ ls) =
-    onto-valid n (said built 0 line) (lines_from built (n + 1) ls)
-    (only-valid built (judged 0 line) (judged-says_valid 0 line)) (lines-valid built (n + 1) ls)
+lines-valid : (n : ℕ) (ls : List (List ℕ)) → AreValid (events (lines_from n ls))
+lines-valid n [] = tt
+lines-valid n (line ∷ ls) =
+    onto-valid n (judged 0 line) (lines_from (n + 1) ls) (judged-says_valid 0 line)
+    (lines-valid (n + 1) ls)
 
 -- ---- the report is the text of their trace
 
@@ -54,20 +45,21 @@ line-traced : (hex : Bool) (n : ℕ) (says : Said) (s : State) (more : List Line
 line-traced hex n (Ok None) s more ending later h = h s
 line-traced hex n (Ok (Some e)) s more ending later h =
     ap (λ x. entries_text n hex (step s e).entries ++ x) (h (step s e).state)
-    ∙ sym (append_assoc (entries_text n hex (step s e).entries) (told_text hex more (trace_from (step s e).state (events more))) ending)
+    ∙ sym (append_assoc (entries_text n hex (step s e).entries)
+    (told_text hex more (trace_from (step s e).state (events more))) ending)
 line-traced hex n (Err why) s more ending later h = refl
 
-lines-traced : (built : Event → Bool) (hex : Bool) (n : ℕ) (ls : List (List ℕ)) (s : State)
-    → report_from built hex n s ls ≡ traced hex (lines_from built n ls) s (bad_line_text built n ls)
+lines-traced : (hex : Bool) (n : ℕ) (ls : List (List ℕ)) (s : State)
+    → report_from hex n s ls ≡ traced hex (lines_from n ls) s (bad_line_text n ls)
 unfolding report_from
-lines-traced built hex n [] s = refl
-lines-traced built hex n (line ∷ ls) s =
-    line-traced hex n (said built 0 line) s (lines_from built (n + 1) ls) (bad_line_text built (n + 1) ls)
-    (λ t. report_from built hex (n + 1) t ls) (λ t. lines-traced built hex (n + 1) ls t)
+lines-traced hex n [] s = refl
+lines-traced hex n (line ∷ ls) s =
+    line-traced hex n (judged 0 line) s (lines_from (n + 1) ls) (bad_line_text (n + 1) ls)
+    (λ t. report_from hex (n + 1) t ls) (λ t. lines-traced hex (n + 1) ls t)
 
 -- Every report is that of a run of valid events.
 pub reports-traced : ReportsAreTraced
-reports-traced built hex text = record {
-  valid = lines-valid built 1 (lines text);
-  report_is = lines-traced built hex 1 (lines text) first_state;
+reports-traced hex text = record {
+  valid = lines-valid 1 (lines text);
+  report_is = lines-traced hex 1 (lines text) first_state;
 }

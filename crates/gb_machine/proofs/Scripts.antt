@@ -1,21 +1,17 @@
 -- Scripts and their reports, line by line.
-use Rattle.std.proofs.Common.{ℕ, ◌+◌, Bool, true, false, Some, None, Ok, Err, List, [], ◌∷◌, ◌++◌, codes, length}
+use Rattle.std.proofs.Common.{ℕ, ◌+◌, Bool, true, false, Some, None, Ok, Err, List, [], ◌∷◌, ◌++◌}
+use Rattle.std.proofs.Common.{codes, length}
 use Rattle.std.specs.Fmt.{digits}
 use Rattle.std.specs.Prelude.{⊤}
 use Rattle.hex.specs.Hex.{decode_pairs, encode_with}
-use Rattle.gb_base.specs.declared.event.Event.{Event}
 use Rattle.gb_formats.specs.Grammar.{Said}
 use Rattle.gb_formats.specs.I2cDevice.{counted_from}
-use Rattle.gb_formats.specs.Script.{said}
+use Rattle.gb_formats.specs.Script.{judged}
 use Rattle.gb_formats.specs.Texts.{ended}
 use Rattle.gb_machine.proofs.Opened.{machine_opened}
 use Rattle.gb_machine.specs.Events.{step}
 use Rattle.gb_machine.specs.Report.{report, report_from}
 use Rattle.gb_machine.specs.State.{State, first_state}
-
--- every event is done
-abbrev pub any_event : Event → Bool
-any_event e = true
 
 -- the text of these lines
 abbrev pub text : List (List ℕ) → List ℕ
@@ -24,11 +20,11 @@ text (line ∷ ls) = ended line ++ text ls
 
 -- the report of a script of these lines, with the bytes of messages
 abbrev pub hex_report : List (List ℕ) → List ℕ
-hex_report script = report any_event true (text script)
+hex_report script = report true (text script)
 
 -- the same without the bytes
 abbrev pub plain_report : List (List ℕ) → List ℕ
-plain_report script = report any_event false (text script)
+plain_report script = report false (text script)
 
 -- the state after what a line says
 abbrev pub after_said : Said → State → State
@@ -39,12 +35,12 @@ after_said (Err why) s = s
 -- the state after these lines
 abbrev pub after : State → List (List ℕ) → State
 after s [] = s
-after s (line ∷ ls) = after (after_said (said any_event 0 line) s) ls
+after s (line ∷ ls) = after (after_said (judged 0 line) s) ls
 
 -- what is reported of the lines of a script that follow a first part
 abbrev pub report_behind : Bool → List (List ℕ) → List (List ℕ) → List ℕ
 report_behind hex setup script =
-    report_from any_event hex (length setup + 1) (after first_state setup) script
+    report_from hex (length setup + 1) (after first_state setup) script
 
 -- with the bytes of messages
 abbrev pub hex_behind : List (List ℕ) → List (List ℕ) → List ℕ

@@ -1,5 +1,6 @@
 -- What the machine's step is for each event, one equation for each way that it goes.
-use Rattle.std.proofs.Common.{◌≡◌, ℕ, suc, ◌+◌, true, false, not, if◌then◌else◌, Some, None, is_none, is_some, List, [], ◌∷◌, ◌++◌, refl, ap, ◌∙◌}
+use Rattle.std.proofs.Common.{◌≡◌, ℕ, suc, ◌+◌, true, false, not, if◌then◌else◌, Some, None}
+use Rattle.std.proofs.Common.{is_none, is_some, List, [], ◌∷◌, ◌++◌, refl, ap, ◌∙◌}
 use Rattle.gb_base.specs.declared.bridge.Reading.TheVariants as reading
 use Rattle.gb_base.specs.declared.end.End.{End}
 use Rattle.gb_base.specs.declared.end.End.TheVariants as end
@@ -16,9 +17,12 @@ use Rattle.gb_base.specs.declared.refusal.Refusal.TheVariants as why
 use Rattle.gb_machine.proofs.Opened.{machine_opened}
 use Rattle.gb_machine.proofs.Conditions.{unrefused}
 use Rattle.gb_machine.specs.Actions.{Told, by_state, change, given, on_bus, tell, ◌▸◌}
-use Rattle.gb_machine.specs.Arriving.{arrives, asked_at, by_label, by_number, delivers, delivers_at, dropped, ends, ends_answered, forgets, handles, is_held, keeps, reading_for, takes}
+use Rattle.gb_machine.specs.Arriving.{arrives, asked_at, by_label, by_number, delivers, delivers_at}
+use Rattle.gb_machine.specs.Arriving.{dropped, ends, ends_answered, forgets, handles, is_held}
+use Rattle.gb_machine.specs.Arriving.{keeps, reading_for, takes}
 use Rattle.gb_machine.specs.Asking.{asked, asks, asks_with}
-use Rattle.gb_machine.specs.Bus.{Ask, Bus, Connection, Item, Place, Reply, Request, connection_of, is_open, next_number, outcome_of, place_of, queue, request_of}
+use Rattle.gb_machine.specs.Bus.{Ask, Bus, Connection, Item, Place, Reply, Request, connection_of}
+use Rattle.gb_machine.specs.Bus.{is_open, next_number, outcome_of, place_of, queue, request_of}
 use Rattle.gb_machine.specs.Delivery.{answered, ended, forgotten, popped}
 use Rattle.gb_machine.specs.Events.{decided, does, step, svc_draft}
 use Rattle.gb_machine.specs.GivingUp.{gives_up}
@@ -28,7 +32,8 @@ use Rattle.gb_machine.specs.Incoming.{incoming}
 use Rattle.gb_machine.specs.Labels.{next_label}
 use Rattle.gb_machine.specs.Lists.{first, first_met, holds_of}
 use Rattle.gb_machine.specs.Names.{bound, freed, is_bound, named}
-use Rattle.gb_machine.specs.Refusals.{deliver_conditions, has_nothing, is_end_unplugged, refusal, svc_conditions}
+use Rattle.gb_machine.specs.Refusals.{deliver_conditions, has_nothing, is_end_unplugged, refusal}
+use Rattle.gb_machine.specs.Refusals.{svc_conditions}
 use Rattle.gb_machine.specs.Requests.{gave_up}
 use Rattle.gb_machine.specs.Responding.{serves}
 use Rattle.gb_machine.specs.Sending.{Draft, label_for, sent}
@@ -70,25 +75,30 @@ asks-made d s c label live drawn =
     ∙ ap (λ o. given o (λ l. asks_with d c l) s) drawn
 
 -- a request to the supervisory controller
-pub step-send_svc : (s : State) (name : Name) (kind : ℕ) (payload : List ℕ) (timeout : ℕ) (c : Connection) (label : ℕ)
+pub step-send_svc : (s : State) (name : Name) (kind : ℕ) (payload : List ℕ) (timeout : ℕ)
+    (c : Connection) (label : ℕ)
     → first_met (svc_conditions s name kind payload) ≡ None
     → connection_of 1 s.bus ≡ Some c
     → next_label 1 side.Ap s.bus ≡ Some label
     → step s (event.Send name end.Svc kind payload timeout)
-    ≡ told (with_bus (sent (svc_draft kind payload (s.now + timeout)) label s.bus) (bound name (next_number s.bus) s))
+    ≡ told (with_bus (sent (svc_draft kind payload (s.now + timeout)) label s.bus)
+    (bound name (next_number s.bus) s))
     (entry.Done ∷ asked (svc_draft kind payload (s.now + timeout)) c label s.bus ∷ [])
 unfolding machine_opened
 step-send_svc s name kind payload timeout c label free live drawn =
     ap (λ o. decided o (event.Send name end.Svc kind payload timeout) s) free
-    ∙ ap behind_done (asks-made (svc_draft kind payload (s.now + timeout)) (bound name (next_number s.bus) s) c label live drawn)
+    ∙ ap behind_done (asks-made (svc_draft kind payload (s.now + timeout))
+    (bound name (next_number s.bus) s) c label live drawn)
 
 -- taking is no matter of the bus
-takes-bus : (at : Side) (c : Connection) (b : Bus) (s : State) → takes at c (with_bus b s) ≡ takes at c s
+takes-bus : (at : Side) (c : Connection) (b : Bus) (s : State)
+    → takes at c (with_bus b s) ≡ takes at c s
 takes-bus side.Ap c b s = refl
 takes-bus side.Far c b s = refl
 
 -- and neither is holding
-is_held-bus : (at : Side) (c : Connection) (b : Bus) (s : State) → is_held at c (with_bus b s) ≡ is_held at c s
+is_held-bus : (at : Side) (c : Connection) (b : Bus) (s : State)
+    → is_held at c (with_bus b s) ≡ is_held at c s
 is_held-bus side.Ap c b s = refl
 is_held-bus side.Far c b s = refl
 
@@ -109,7 +119,8 @@ unfolding machine_opened
 step-deliver s at h = step-does s (event.Deliver at) h
 
 -- nothing is delivered where no wired connection names the end
-pub delivers-nowhere : (s : State) (at : End) → place_of at s.bus.connections ≡ None → delivers at s ≡ told s []
+pub delivers-nowhere : (s : State) (at : End) → place_of at s.bus.connections ≡ None
+    → delivers at s ≡ told s []
 unfolding machine_opened
 delivers-nowhere s at named = ap (λ o. given o delivers_at s) named
 
@@ -121,24 +132,28 @@ pub delivers-nothing : (s : State) (at : End) (p : Place)
 unfolding machine_opened
 delivers-nothing s at p named empty =
     ap (λ o. given o delivers_at s) named
-    ∙ ap (λ is. given (first is) (λ i. on_bus (popped p.connection.number p.side) ▸ handles p.side p.connection i) s) empty
+    ∙ ap (λ is. given (first is) (λ i. on_bus (popped p.connection.number p.side) ▸ handles p.side
+    p.connection i) s) empty
 
 -- what is delivered is taken from its queue and handled
 pub delivers-handles : (s : State) (at : End) (p : Place) (item : Item)
     → place_of at s.bus.connections ≡ Some p
     → first (queue p.side p.connection) ≡ Some item
-    → delivers at s ≡ handles p.side p.connection item (with_bus (popped p.connection.number p.side s.bus) s)
+    → delivers at s ≡ handles p.side p.connection item
+    (with_bus (popped p.connection.number p.side s.bus) s)
 unfolding machine_opened
 delivers-handles s at p item named front =
     ap (λ o. given o delivers_at s) named
-    ∙ ap (λ o. given o (λ i. on_bus (popped p.connection.number p.side) ▸ handles p.side p.connection i) s) front
+    ∙ ap (λ o. given o (λ i. on_bus (popped p.connection.number p.side) ▸ handles p.side
+    p.connection i) s) front
 
 -- where the end takes it, it arrives
 pub delivers-arrives : (s : State) (at : End) (p : Place) (item : Item)
     → place_of at s.bus.connections ≡ Some p
     → first (queue p.side p.connection) ≡ Some item
     → takes p.side p.connection s ≡ true
-    → delivers at s ≡ arrives p.side p.connection item (with_bus (popped p.connection.number p.side s.bus) s)
+    → delivers at s ≡ arrives p.side p.connection item
+    (with_bus (popped p.connection.number p.side s.bus) s)
 unfolding machine_opened
 delivers-arrives s at p item named front taken =
     let t = with_bus (popped p.connection.number p.side s.bus) s in
@@ -151,7 +166,8 @@ pub delivers-drops : (s : State) (at : End) (p : Place) (item : Item)
     → place_of at s.bus.connections ≡ Some p
     → first (queue p.side p.connection) ≡ Some item
     → takes p.side p.connection s ≡ false
-    → delivers at s ≡ told (with_bus (popped p.connection.number p.side s.bus) s) (dropped item ∷ [])
+    → delivers at s ≡ told (with_bus (popped p.connection.number p.side s.bus) s)
+    (dropped item ∷ [])
 unfolding machine_opened
 delivers-drops s at p item named front untaken =
     let t = with_bus (popped p.connection.number p.side s.bus) s in
@@ -166,13 +182,16 @@ pub delivers-serves : (s : State) (at : End) (p : Place) (n : ℕ) (r : Request)
     → takes p.side p.connection s ≡ true
     → is_held p.side p.connection s ≡ false
     → request_of n s.bus ≡ Some r
-    → delivers at s ≡ serves p.side p.connection (incoming n r) (with_bus (popped p.connection.number p.side s.bus) s)
+    → delivers at s ≡ serves p.side p.connection (incoming n r)
+    (with_bus (popped p.connection.number p.side s.bus) s)
 unfolding machine_opened
 delivers-serves s at p n r named front taken free made =
     let t = with_bus (popped p.connection.number p.side s.bus) s in
     delivers-arrives s at p (Ask n) named front taken
-    ∙ ap (λ o. given o (λ (m : Request). asked_at p.side p.connection (Ask n) (incoming n m)) t) made
-    ∙ ap (λ b. (if b then keeps p.connection (Ask n) (incoming n r) else serves p.side p.connection (incoming n r)) t)
+    ∙ ap (λ o. given o (λ (m : Request). asked_at p.side p.connection (Ask n) (incoming n m)) t)
+    made
+    ∙ ap (λ b. (if b then keeps p.connection (Ask n) (incoming n r) else serves p.side p.connection
+    (incoming n r)) t)
     (is_held-bus p.side p.connection (popped p.connection.number p.side s.bus) s ∙ free)
 
 -- on a clean connection an answer is taken by its number
@@ -181,13 +200,15 @@ pub delivers-by_number : (s : State) (at : End) (p : Place) (n result : ℕ) (pa
     → first (queue p.side p.connection) ≡ Some (Reply n result payload)
     → takes p.side p.connection s ≡ true
     → p.connection.clean ≡ true
-    → delivers at s ≡ by_number p.side p.connection n result payload (with_bus (popped p.connection.number p.side s.bus) s)
+    → delivers at s ≡ by_number p.side p.connection n result payload
+    (with_bus (popped p.connection.number p.side s.bus) s)
 unfolding machine_opened
 delivers-by_number s at p n result payload named front taken clean =
     let t = with_bus (popped p.connection.number p.side s.bus) s in
     delivers-arrives s at p (Reply n result payload) named front taken
     ∙ ap (λ b. (if b then by_number p.side p.connection n result payload
-    else by_state (λ u. given (request_of n u.bus) (λ (r : Request). by_label p.side p.connection r.label result payload))) t) clean
+    else by_state (λ u. given (request_of n u.bus)
+    (λ (r : Request). by_label p.side p.connection r.label result payload))) t) clean
 
 -- an answer to an open request is delivered, says nothing, and no sequence waits for it
 pub delivers-answer : (s : State) (at : End) (p : Place) (n result : ℕ) (payload : List ℕ)
@@ -198,12 +219,14 @@ pub delivers-answer : (s : State) (at : End) (p : Place) (n result : ℕ) (paylo
     → is_open n s.bus ≡ true
     → reading_for p.side p.connection result payload (request_of n s.bus) ≡ reading.Nothing
     → awaited n s.host ≡ None
-    → delivers at s ≡ told (with_bus (ended n (answered result payload) (popped p.connection.number p.side s.bus)) s)
+    → delivers at s ≡ told (with_bus (ended n (answered result payload)
+    (popped p.connection.number p.side s.bus)) s)
     (entry.Ended n (answered result payload) reading.Nothing ∷ [])
 unfolding machine_opened
 delivers-answer s at p n result payload named front taken clean unanswered says unawaited =
     let t = with_bus (popped p.connection.number p.side s.bus) s in
-    let u = with_bus (ended n (answered result payload) (popped p.connection.number p.side s.bus)) s in
+    let u = with_bus (ended n (answered result payload) (popped p.connection.number p.side s.bus)) s
+    in
     delivers-by_number s at p n result payload named front taken clean
     ∙ ap (λ b. (if b then ends_answered p.side p.connection n result payload
     else forgets n (entry.Late n)) t) unanswered
@@ -218,7 +241,8 @@ pub delivers-late : (s : State) (at : End) (p : Place) (n result : ℕ) (payload
     → takes p.side p.connection s ≡ true
     → p.connection.clean ≡ true
     → is_open n s.bus ≡ false
-    → delivers at s ≡ told (with_bus (forgotten n (popped p.connection.number p.side s.bus)) s) (entry.Late n ∷ [])
+    → delivers at s ≡ told (with_bus (forgotten n (popped p.connection.number p.side s.bus)) s)
+    (entry.Late n ∷ [])
 unfolding machine_opened
 delivers-late s at p n result payload named front taken clean closed =
     let t = with_bus (popped p.connection.number p.side s.bus) s in
@@ -229,7 +253,8 @@ delivers-late s at p n result payload named front taken clean closed =
 -- ---- settles
 
 -- a settle
-pub step-settle : (s : State) (most : ℕ) → step s (event.Settle most) ≡ behind_done (settles_from most 0 s)
+pub step-settle : (s : State) (most : ℕ) → step s (event.Settle most)
+    ≡ behind_done (settles_from most 0 s)
 unfolding machine_opened
 step-settle s most = refl
 
@@ -267,7 +292,8 @@ pub step-copy : (s : State) (x y : Name) (n : ℕ)
     → step s (event.Copy x y) ≡ told (bound y n s) (entry.Done ∷ [])
 unfolding machine_opened
 step-copy s x y n from to =
-    ap (λ o. decided (first_met ((not (is_some o), why.NoName) ∷ (is_bound y s, why.Occupied) ∷ [])) (event.Copy x y) s) from
+    ap (λ o. decided (first_met ((not (is_some o), why.NoName) ∷ (is_bound y s, why.Occupied) ∷ []))
+    (event.Copy x y) s) from
     ∙ ap (λ o. decided (first_met ((is_some o, why.Occupied) ∷ [])) (event.Copy x y) s) to
     ∙ ap (λ o. behind_done (given o (λ m. change (bound y m)) s)) from
 
@@ -293,8 +319,10 @@ unfolding machine_opened
 step-cancel s name n bound still unawaited =
     let u = with_bus (gave_up n outcome.Cancelled s.bus) s in
     ap (λ o. decided (first_met ((is_none o, why.NoName)
-    ∷ (holds_of (λ m. is_some (outcome_of m s.bus)) o, why.AlreadyEnded) ∷ [])) (event.Cancel name) s) bound
+    ∷ (holds_of (λ m. is_some (outcome_of m s.bus)) o, why.AlreadyEnded) ∷ []))
+    (event.Cancel name) s) bound
     ∙ ap (λ o. decided (first_met ((is_some o, why.AlreadyEnded) ∷ [])) (event.Cancel name) s) still
     ∙ ap (λ o. behind_done (given o (gives_up outcome.Cancelled) s)) bound
     ∙ ap (λ o. let w : Told = turns (ended_for o outcome.Cancelled s.host) u in
-    told w.state (entry.Done ∷ entry.Ended n outcome.Cancelled reading.Nothing ∷ w.entries)) unawaited
+    told w.state (entry.Done ∷ entry.Ended n outcome.Cancelled reading.Nothing ∷ w.entries))
+    unawaited

@@ -10,7 +10,8 @@ use Rattle.gb_machine.specs.Actions.{Action, Told, by_state, change, tell, tell_
 use Rattle.gb_machine.specs.Arriving.{delivers}
 use Rattle.gb_machine.specs.GivingUp.{cancels, ticks}
 use Rattle.gb_machine.specs.HostActs.{notices}
-use Rattle.gb_machine.specs.LineActions.{answers, ap_draft, bridges, copies, holds, injects, sends, stirs}
+use Rattle.gb_machine.specs.LineActions.{answers, ap_draft, bridges, copies, holds, injects, sends}
+use Rattle.gb_machine.specs.LineActions.{stirs}
 use Rattle.gb_machine.specs.Names.{freed}
 use Rattle.gb_machine.specs.Plugging.{boots, plugs, pulls}
 use Rattle.gb_machine.specs.Refusals.{refusal}

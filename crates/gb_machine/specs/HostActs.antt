@@ -7,7 +7,8 @@ use Rattle.gb_base.specs.declared.outcome.Outcome.{Outcome}
 use Rattle.gb_base.specs.declared.peers.Link.{Link}
 use Rattle.gb_base.specs.declared.steps.Purpose.{Purpose}
 use Rattle.gb_formats.specs.Grammar.{default_timeout}
-use Rattle.gb_machine.specs.Actions.{Action, by_state, change, each, on_bus, on_host, tell, tell_all, ◌▸◌}
+use Rattle.gb_machine.specs.Actions.{Action, by_state, change, each, on_bus, on_host, tell}
+use Rattle.gb_machine.specs.Actions.{tell_all, ◌▸◌}
 use Rattle.gb_machine.specs.Asking.{asks}
 use Rattle.gb_machine.specs.Bus.{next_number}
 use Rattle.gb_machine.specs.Host.{Host, link_at, with_new_link}

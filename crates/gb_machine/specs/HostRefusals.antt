@@ -1,6 +1,7 @@
--- When the application processor refuses what is asked of it: refusals in their order, each with its
--- condition.
-use Rattle.std.specs.Prelude.{ℕ, ◌==◌, Bool, true, false, not, ◌&&◌, ◌||◌, Option, is_some, is_none, option_and_then, List, [], ◌∷◌}
+-- When the application processor refuses what is asked of it: refusals in their order, each with
+-- its condition.
+use Rattle.std.specs.Prelude.{ℕ, ◌==◌, Bool, true, false, not, ◌&&◌, ◌||◌, Option, is_some, is_none}
+use Rattle.std.specs.Prelude.{option_and_then, List, [], ◌∷◌}
 use Rattle.std.specs.List.{list_any}
 use Rattle.gb_base.specs.declared.bridge.BridgeAsk.{BridgeAsk}
 use Rattle.gb_base.specs.declared.entry.ConnState.{ConnState}

@@ -9,7 +9,8 @@ use Rattle.gb_base.specs.declared.peers.Link.{Link}
 use Rattle.gb_base.specs.declared.steps.Purpose.{Purpose}
 use Rattle.gb_base.specs.declared.steps.SequenceStep.TheVariants as steps
 use Rattle.gb_formats.specs.Manifest.{CportView}
-use Rattle.gb_machine.specs.Host.{Host, cport_of, free_cport, in_state, interface_of, is_intf, link_at, with_link, with_new_interface}
+use Rattle.gb_machine.specs.Host.{Host, cport_of, free_cport, in_state, interface_of, is_intf}
+use Rattle.gb_machine.specs.Host.{link_at, with_link, with_new_interface}
 use Rattle.gb_machine.specs.Lists.{without}
 use Rattle.gb_machine.specs.SequenceSteps.{purpose}
 use Rattle.gb_machine.specs.Failures.{link_told}

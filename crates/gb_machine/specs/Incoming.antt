@@ -1,12 +1,14 @@
 -- A request that is delivered, and its reply.
-use Rattle.std.specs.Prelude.{ℕ, ◌==◌, nat_lt, Bool, if◌then◌else◌, Option, Some, None, option_map, Result, Ok, Err, List}
+use Rattle.std.specs.Prelude.{ℕ, ◌==◌, nat_lt, Bool, if◌then◌else◌, Option, Some, None, option_map}
+use Rattle.std.specs.Prelude.{Result, Ok, Err, List}
 use Rattle.gb_base.specs.declared.end.Side.{Side}
 use Rattle.gb_base.specs.declared.entry.Entry.{Entry}
 use Rattle.gb_base.specs.declared.entry.Entry.TheVariants as entry
 use Rattle.gb_base.specs.declared.fault.RawFault.{RawFault}
 use Rattle.gb_formats.specs.Message.{Message, message_size, response, spelling}
 use Rattle.gb_formats.specs.Wire.{raw_message}
-use Rattle.gb_machine.specs.Bus.{Ask, Bus, Connection, Item, Raw, RawReply, Reply, Request, end_of, other_side, request_of}
+use Rattle.gb_machine.specs.Bus.{Ask, Bus, Connection, Item, Raw, RawReply, Reply, Request, end_of}
+use Rattle.gb_machine.specs.Bus.{other_side, request_of}
 use Rattle.gb_machine.specs.Serving.{Answer}
 
 -- A request as a responder sees it. One that came as raw bytes has no number.

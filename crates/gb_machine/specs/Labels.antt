@@ -1,9 +1,8 @@
 -- The identifier that the next request of a side gets.
-use Rattle.std.specs.Prelude.{ℕ, zero, suc, ◌+◌, nat_lt, Bool, if◌then◌else◌, Option, Some, None, option_and_then}
+use Rattle.std.specs.Prelude.{ℕ, zero, suc, ◌+◌, nat_lt, Bool, if◌then◌else◌, Option, Some, None}
+use Rattle.std.specs.Prelude.{option_and_then}
 use Rattle.gb_base.specs.declared.end.Side.{Side}
 use Rattle.gb_base.specs.declared.end.Side.TheVariants as side
-use Rattle.gb_base.specs.declared.refusal.Refusal.{Refusal}
-use Rattle.gb_base.specs.declared.refusal.Refusal.TheVariants as why
 use Rattle.gb_machine.specs.Bus.{Bus, Connection, connection_of}
 use Rattle.gb_machine.specs.Requests.{is_used}
 
@@ -40,7 +39,3 @@ cyclic_label k at b c = free_label (is_used k at b) greatest_label (label_after 
 -- The identifier of the next request that a side of a connection makes, None where all are in use.
 abbrev pub next_label : ℕ → Side → Bus → Option ℕ
 next_label k at b = option_and_then (cyclic_label k at b) (connection_of k b)
-
--- why an event is refused where all identifiers are in use
-abbrev pub no_label : Refusal
-no_label = why.NoLabel

@@ -1,9 +1,13 @@
 -- The laws of runs, together.
-use Rattle.gb_machine.specs.LawsBus.{EndpointsDiffer, LabelsDiffer, NamesNameRequests, OneItemANumber, RepliesAreAwaited}
+use Rattle.gb_machine.specs.LawsBus.{EndpointsDiffer, LabelsDiffer, NamesNameRequests}
+use Rattle.gb_machine.specs.LawsBus.{OneItemANumber, RepliesAreAwaited}
 use Rattle.gb_machine.specs.LawsCredits.{CreditsAddUp}
-use Rattle.gb_machine.specs.LawsEnds.{AnsweredByItsResponder, EndsAreTold, EndsAtMostOnce, EveryEndHasItsCause}
+use Rattle.gb_machine.specs.LawsEnds.{AnsweredByItsResponder, EndsAreTold, EndsAtMostOnce}
+use Rattle.gb_machine.specs.LawsEnds.{EveryEndHasItsCause}
 use Rattle.gb_machine.specs.LawsHotPlug.{NoForeignMessage, NothingLeftAfterRemoval, WiredAtMostOnce}
-use Rattle.gb_machine.specs.LawsSvc.{AwaitedIsTheLast, OneEnumerationRequestThenRestarts, QuietBeforeRemoval, RemovalLeavesNothingWired, StaleRequestsMeetLowLevel, WiredMeansRouted}
+use Rattle.gb_machine.specs.LawsSvc.{AwaitedIsTheLast, OneEnumerationRequestThenRestarts}
+use Rattle.gb_machine.specs.LawsSvc.{QuietBeforeRemoval, RemovalLeavesNothingWired}
+use Rattle.gb_machine.specs.LawsSvc.{StaleRequestsMeetLowLevel, WiredMeansRouted}
 use Rattle.gb_machine.specs.Runs.{SettlesAreDeliveries}
 use Rattle.gb_machine.specs.Summary.{CountsAddUp}
 

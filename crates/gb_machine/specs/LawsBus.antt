@@ -1,10 +1,12 @@
 -- Facts of every state of a run: identifiers, items, replies, ends and names.
-use Rattle.std.specs.Prelude.{◌≡◌, ◌≢◌, ◌≤◌, ℕ, ◌==◌, Bool, true, false, ◌||◌, Some, is_some, List, ◌++◌, map}
+use Rattle.std.specs.Prelude.{◌≡◌, ◌≢◌, ◌≤◌, ℕ, ◌==◌, Bool, true, false, ◌||◌, Some, is_some, List}
+use Rattle.std.specs.Prelude.{◌++◌, map}
 use Rattle.gb_base.specs.declared.entry.Entry.{Entry}
 use Rattle.gb_base.specs.declared.end.Side.TheVariants as side
 use Rattle.gb_base.specs.declared.name.Name.{Name}
 use Rattle.gb_machine.specs.Arriving.{takes}
-use Rattle.gb_machine.specs.Bus.{Ask, Bus, Connection, Item, Reply, Request, is_open, request_of, same_end}
+use Rattle.gb_machine.specs.Bus.{Ask, Bus, Connection, Item, Reply, Request, is_open, request_of}
+use Rattle.gb_machine.specs.Bus.{same_end}
 use Rattle.gb_machine.specs.Holding.{held_on}
 use Rattle.gb_machine.specs.Labels.{greatest_label}
 use Rattle.gb_machine.specs.Members.{Each, EachTwo, times}

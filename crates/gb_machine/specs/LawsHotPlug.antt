@@ -1,6 +1,7 @@
 -- Laws of runs: what stands once a module was removed, whose messages are handled, and when a
 -- connection is wired.
-use Rattle.std.specs.Prelude.{◌≡◌, ◌≤◌, ◌≢◌, ◌⊎◌, ℕ, ◌==◌, true, false, if◌then◌else◌, is_some, Some, None, Ok, List, [], ◌∷◌, length}
+use Rattle.std.specs.Prelude.{◌≡◌, ◌≤◌, ◌≢◌, ◌⊎◌, ℕ, ◌==◌, true, false, if◌then◌else◌, is_some}
+use Rattle.std.specs.Prelude.{Some, None, Ok, List, [], ◌∷◌, length}
 use Rattle.gb_base.specs.declared.end.End.{End}
 use Rattle.gb_base.specs.declared.end.End.TheVariants as end
 use Rattle.gb_base.specs.declared.end.Side.{Side}
@@ -12,7 +13,9 @@ use Rattle.gb_base.specs.declared.entry.Entry.TheVariants as entry
 use Rattle.gb_base.specs.declared.event.Event.TheVariants as event
 use Rattle.gb_formats.specs.Message.{message_size, request, response, spelling}
 use Rattle.gb_formats.specs.SvcRecords.{SvcAsk, read_svc_ask}
-use Rattle.gb_machine.specs.Bus.{Ask, Bus, Connection, Item, Place, Raw, RawReply, Reply, Request, connection_of, end_of, is_open, other_side, place_of, queue, request_of}
+use Rattle.gb_machine.specs.Bus.{Ask, Bus, Connection, Item, Place, Raw, RawReply, Reply, Request}
+use Rattle.gb_machine.specs.Bus.{connection_of, end_of, is_open, other_side, place_of, queue}
+use Rattle.gb_machine.specs.Bus.{request_of}
 use Rattle.gb_machine.specs.Holding.{held_on}
 use Rattle.gb_machine.specs.Host.{interface_of}
 use Rattle.gb_machine.specs.Lists.{first}
@@ -33,8 +36,8 @@ abbrev pub AbsentIsUnconnected : List Entry → State → Type 0
 AbsentIsUnconnected told s =
     (i : ℕ) → interface_of i s.host ≡ None → Each (λ c. is_at i c.peer ≡ false) s.bus.connections
 
--- Each open request of the application processor is on a live connection, and its side of that isn't
--- closed.
+-- Each open request of the application processor is on a live connection, and its side of that
+-- isn't closed.
 abbrev pub OpenIsLive : List Entry → State → Type 0
 OpenIsLive told s =
     (n : ℕ) (r : Request) → request_of n s.bus ≡ Some r → is_open n s.bus ≡ true

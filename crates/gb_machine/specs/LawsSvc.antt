@@ -1,6 +1,7 @@
 -- Facts of every state of a run: what is wired is routed, and what waits on the supervisory
 -- controller's connection.
-use Rattle.std.specs.Prelude.{◌≡◌, ◌≢◌, ◌<◌, ◌≤◌, ℕ, Bool, true, false, if◌then◌else◌, Option, Some, None, option_and_then, List, [], ◌∷◌, ⊤}
+use Rattle.std.specs.Prelude.{◌≡◌, ◌≢◌, ◌<◌, ◌≤◌, ℕ, Bool, true, false, if◌then◌else◌, Option, Some}
+use Rattle.std.specs.Prelude.{None, option_and_then, List, [], ◌∷◌, ⊤}
 use Rattle.std.specs.List.{filter, list_any}
 use Rattle.gb_base.specs.declared.end.End.{End}
 use Rattle.gb_base.specs.declared.end.End.TheVariants as end
@@ -18,7 +19,9 @@ use Rattle.gb_machine.specs.Ports.{level_of}
 use Rattle.gb_machine.specs.Runs.{HoldsAtEachMoment, HoldsThroughout, Moment}
 use Rattle.gb_machine.specs.SequenceSteps.{asks_control}
 use Rattle.gb_machine.specs.State.{State}
-use Rattle.gb_machine.specs.SvcQueues.{HandlesRemoval, is_ask, is_ask_that, is_connection_request, is_enumeration_request, is_for_link, is_removal, is_reply_to, svc_items, svc_requests}
+use Rattle.gb_machine.specs.SvcQueues.{HandlesRemoval, is_ask, is_ask_that, is_connection_request}
+use Rattle.gb_machine.specs.SvcQueues.{is_enumeration_request, is_for_link, is_removal, is_reply_to}
+use Rattle.gb_machine.specs.SvcQueues.{svc_items, svc_requests}
 use Rattle.gb_machine.specs.Wiring.{is_wired_to}
 
 -- ---- wired means routed

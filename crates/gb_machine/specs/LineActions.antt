@@ -13,7 +13,8 @@ use Rattle.gb_formats.specs.Devices.{Stir}
 use Rattle.gb_formats.specs.Module.{Module}
 use Rattle.gb_formats.specs.ModuleSteps.{module_stir}
 use Rattle.gb_formats.specs.Results.{Stirred}
-use Rattle.gb_machine.specs.Actions.{Action, by_state, change, given, nothing, on_bus, on_host, tell, ◌▸◌}
+use Rattle.gb_machine.specs.Actions.{Action, by_state, change, given, nothing, on_bus, on_host}
+use Rattle.gb_machine.specs.Actions.{tell, ◌▸◌}
 use Rattle.gb_machine.specs.Arriving.{dropped, takes}
 use Rattle.gb_machine.specs.Asking.{asks}
 use Rattle.gb_machine.specs.Bus.{Item, Place, next_number}

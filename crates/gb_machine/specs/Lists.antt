@@ -1,5 +1,6 @@
 -- Words on lists that stand for maps.
-use Rattle.std.specs.Prelude.{ℕ, zero, suc, ◌+◌, ◌==◌, Bool, false, not, if◌then◌else◌, Option, Some, None, List, [], ◌∷◌, slice_get}
+use Rattle.std.specs.Prelude.{ℕ, zero, suc, ◌+◌, ◌==◌, Bool, false, not, if◌then◌else◌, Option}
+use Rattle.std.specs.Prelude.{Some, None, List, [], ◌∷◌, slice_get}
 use Rattle.std.specs.List.{filter}
 use Rattle.gb_base.specs.declared.refusal.Refusal.{Refusal}
 

@@ -1,5 +1,6 @@
 -- The modules that are plugged.
-use Rattle.std.specs.Prelude.{ℕ, ◌==◌, nat_lt, Bool, true, false, ◌||◌, Option, Some, None, option_map, is_some, List, find}
+use Rattle.std.specs.Prelude.{ℕ, ◌==◌, nat_lt, Bool, true, false, ◌||◌, Option, Some, None}
+use Rattle.std.specs.Prelude.{option_map, is_some, List, find}
 use Rattle.gb_base.specs.declared.end.End.{End}
 use Rattle.gb_base.specs.declared.end.End.TheVariants as end
 use Rattle.gb_formats.specs.Module.{CportState, Module, Off, On, Quiet, cport_state}

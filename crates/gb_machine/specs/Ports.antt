@@ -1,6 +1,7 @@
 -- The power levels and device ids of interfaces at the supervisory controller. The levels are 0
 -- off, 1 VSYS, 2 REFCLK, 3 UNIPRO, 4 active, 5 device id given and 6 routed.
-use Rattle.std.specs.Prelude.{ℕ, ◌==◌, nat_lt, Bool, not, ◌&&◌, if◌then◌else◌, Option, Some, None, option_and_then, List, ◌∷◌, find, is_some}
+use Rattle.std.specs.Prelude.{ℕ, ◌==◌, nat_lt, Bool, not, ◌&&◌, if◌then◌else◌, Option, Some, None}
+use Rattle.std.specs.Prelude.{option_and_then, List, ◌∷◌, find, is_some}
 use Rattle.std.specs.List.{list_any}
 use Rattle.gb_machine.specs.Host.{is_device}
 use Rattle.gb_machine.specs.Lists.{at_first, without}

@@ -1,5 +1,6 @@
 -- When an event is refused: refusals in their order, each with its condition.
-use Rattle.std.specs.Prelude.{ℕ, ◌+◌, ◌==◌, nat_lt, Bool, false, not, Option, is_some, is_none, option_and_then, List, [], ◌∷◌, ◌++◌, length}
+use Rattle.std.specs.Prelude.{ℕ, ◌+◌, ◌==◌, nat_lt, Bool, false, not, Option, is_some, is_none}
+use Rattle.std.specs.Prelude.{option_and_then, List, [], ◌∷◌, ◌++◌, length}
 use Rattle.std.specs.List.{list_any}
 use Rattle.gb_base.specs.declared.bridge.BridgeAsk.{BridgeAsk}
 use Rattle.gb_base.specs.declared.end.End.{End}
@@ -16,9 +17,10 @@ use Rattle.gb_formats.specs.ModuleSteps.{module_stir}
 use Rattle.gb_formats.specs.Results.{most_payload}
 use Rattle.gb_machine.specs.Bus.{Place, outcome_of, place_of, queue}
 use Rattle.gb_machine.specs.Host.{control_of, link_at}
-use Rattle.gb_machine.specs.HostRefusals.{bridge_conditions, connect_conditions, disconnect_conditions, is_kept, send_conditions}
+use Rattle.gb_machine.specs.HostRefusals.{bridge_conditions, connect_conditions}
+use Rattle.gb_machine.specs.HostRefusals.{disconnect_conditions, is_kept, send_conditions}
 use Rattle.gb_machine.specs.Holding.{held_on}
-use Rattle.gb_machine.specs.Labels.{next_label, no_label}
+use Rattle.gb_machine.specs.Labels.{next_label}
 use Rattle.gb_machine.specs.Lists.{Condition, conditions_of, first, first_met, holds_of}
 use Rattle.gb_machine.specs.Modules.{is_plugged, module_at}
 use Rattle.gb_machine.specs.Names.{is_bound, named}
@@ -53,7 +55,7 @@ svc_conditions s name kind payload =
     (is_bound name s, why.Occupied)
     ∷ (is_reserved kind, why.Unsupported)
     ∷ (is_long_payload payload, why.TooLarge)
-    ∷ (has_no_label 1 side.Ap s, no_label)
+    ∷ (has_no_label 1 side.Ap s, why.NoLabel)
     ∷ []
 
 -- when a request to a CPort of a module is refused
@@ -64,7 +66,7 @@ module_conditions s name i c kind payload =
     ++ conditions_of (λ l.
     (is_kept l kind, why.Unsupported)
     ∷ (is_long_payload payload, why.TooLarge)
-    ∷ (has_no_label l.connection side.Ap s, no_label)
+    ∷ (has_no_label l.connection side.Ap s, why.NoLabel)
     ∷ []) (link_at i c s.host)
 
 -- when a request that a script sends is refused, by its far end
@@ -79,7 +81,7 @@ line_conditions s name i c what =
     (is_bound name s, why.Occupied)
     ∷ send_conditions i c s.host
     ++ conditions_of (λ l.
-    bridge_conditions l what ++ (has_no_label l.connection side.Ap s, no_label) ∷ [])
+    bridge_conditions l what ++ (has_no_label l.connection side.Ap s, why.NoLabel) ∷ [])
     (link_at i c s.host)
 
 -- ---- deliveries
@@ -126,7 +128,7 @@ abbrev pub insert_conditions : State → ℕ → List ℕ → List Condition
 insert_conditions s i manifest =
     (is_plugged i s.modules, why.Occupied)
     ∷ (nat_lt longest_manifest (length manifest), why.TooLarge)
-    ∷ (has_no_label 1 side.Far s, no_label)
+    ∷ (has_no_label 1 side.Far s, why.NoLabel)
     ∷ []
 
 -- when a device isn't there to be stirred from outside
@@ -145,12 +147,12 @@ conditions s event.Boot = (s.booted, why.Occupied) ∷ []
 conditions s (event.Insert i kind) = insert_conditions s i []
 conditions s (event.InsertRaw i manifest) = insert_conditions s i manifest
 conditions s (event.Pull i) =
-    (is_unplugged i s, why.NoInterface) ∷ (has_no_label 1 side.Far s, no_label) ∷ []
+    (is_unplugged i s, why.NoInterface) ∷ (has_no_label 1 side.Far s, why.NoLabel) ∷ []
 conditions s (event.Connect i c) =
-    connect_conditions i c s.host ++ (has_no_label 1 side.Ap s, no_label) ∷ []
+    connect_conditions i c s.host ++ (has_no_label 1 side.Ap s, why.NoLabel) ∷ []
 conditions s (event.Disconnect i c) =
     disconnect_conditions i c s.host
-    ++ (holds_of (λ k. has_no_label k side.Ap s) (control_of i s.host), no_label) ∷ []
+    ++ (holds_of (λ k. has_no_label k side.Ap s) (control_of i s.host), why.NoLabel) ∷ []
 conditions s (event.Send name to kind payload timeout) = send_to_conditions s name to kind payload
 conditions s (event.Bridge name i c what) = line_conditions s name i c what
 conditions s (event.Level i c line value) = stir_conditions s i c (Level line value)

@@ -1,9 +1,9 @@
 -- The report of a script.
-use Rattle.std.specs.Prelude.{ℕ, ◌+◌, Bool, false, ◌||◌, is_err, Some, None, Ok, Err, List, [], ◌∷◌, ◌++◌}
-use Rattle.gb_base.specs.declared.event.Event.{Event}
+use Rattle.std.specs.Prelude.{ℕ, ◌+◌, Bool, false, ◌||◌, is_err, Some, None, Ok, Err, List, [], ◌∷◌}
+use Rattle.std.specs.Prelude.{◌++◌}
 use Rattle.gb_formats.specs.Grammar.{Said}
 use Rattle.gb_formats.specs.Lines.{lines}
-use Rattle.gb_formats.specs.Script.{said}
+use Rattle.gb_formats.specs.Script.{judged}
 use Rattle.gb_formats.specs.Texts.{entries_text, refusal_line_text}
 use Rattle.gb_machine.specs.Actions.{Told}
 use Rattle.gb_machine.specs.Events.{step}
@@ -21,16 +21,16 @@ reported (Ok (Some e)) n hex s later = event_reported n hex (step s e) later
 
 -- What is reported of lines, of which the first is line n, from a state on: the entries of each
 -- line in order, up to the first bad line, which is named.
-unfoldable pub report_from : (Event → Bool) → Bool → ℕ → State → List (List ℕ) → List ℕ
-report_from built hex n s [] = []
-report_from built hex n s (line ∷ ls) =
-    reported (said built 0 line) n hex s (λ later. report_from built hex (n + 1) later ls)
+unfoldable pub report_from : Bool → ℕ → State → List (List ℕ) → List ℕ
+report_from hex n s [] = []
+report_from hex n s (line ∷ ls) =
+    reported (judged 0 line) n hex s (λ later. report_from hex (n + 1) later ls)
 
--- The report of a script, of which the events that are `built` are done.
-abbrev pub report : (Event → Bool) → Bool → List ℕ → List ℕ
-report built hex text = report_from built hex 1 first_state (lines text)
+-- The report of a script.
+abbrev pub report : Bool → List ℕ → List ℕ
+report hex text = report_from hex 1 first_state (lines text)
 
 -- whether some line is bad
-unfoldable pub has_bad_line : (Event → Bool) → List (List ℕ) → Bool
-has_bad_line built [] = false
-has_bad_line built (line ∷ ls) = is_err (said built 0 line) || has_bad_line built ls
+unfoldable pub has_bad_line : List (List ℕ) → Bool
+has_bad_line [] = false
+has_bad_line (line ∷ ls) = is_err (judged 0 line) || has_bad_line ls

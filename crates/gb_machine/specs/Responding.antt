@@ -9,7 +9,8 @@ use Rattle.gb_base.specs.declared.entry.Entry.TheVariants as entry
 use Rattle.gb_formats.specs.Module.{Module}
 use Rattle.gb_formats.specs.ModuleSteps.{module_serve}
 use Rattle.gb_formats.specs.Results.{Step}
-use Rattle.gb_machine.specs.Actions.{Action, by_state, change, given, nothing, on_bus, on_host, tell, ◌▸◌}
+use Rattle.gb_machine.specs.Actions.{Action, by_state, change, given, nothing, on_bus, on_host}
+use Rattle.gb_machine.specs.Actions.{tell, ◌▸◌}
 use Rattle.gb_machine.specs.Bus.{Connection, other_side}
 use Rattle.gb_machine.specs.Delivery.{replied}
 use Rattle.gb_machine.specs.HostActs.{notices}
@@ -20,7 +21,8 @@ use Rattle.gb_machine.specs.OwnAsking.{far_asks_all}
 use Rattle.gb_machine.specs.Ports.{unrouted}
 use Rattle.gb_machine.specs.Serving.{Answer, answer, invalid, nonexistent, plainly, success}
 use Rattle.gb_machine.specs.State.{Port, State}
-use Rattle.gb_machine.specs.SvcTable.{Answered, Create, Destroy, SvcServed, SvcStep, Unroute, svc_step}
+use Rattle.gb_machine.specs.SvcTable.{Answered, Create, Destroy, SvcServed, SvcStep, Unroute}
+use Rattle.gb_machine.specs.SvcTable.{svc_step}
 use Rattle.gb_machine.specs.Wires.{unwires, wires}
 use Rattle.gb_machine.specs.Wiring.{is_wired_to, joining}
 

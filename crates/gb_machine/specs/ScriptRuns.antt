@@ -3,7 +3,7 @@ use Rattle.std.specs.Prelude.{◌≡◌, ℕ, ◌+◌, Bool, Some, None, Ok, Err
 use Rattle.gb_base.specs.declared.event.Event.{Event}
 use Rattle.gb_formats.specs.Grammar.{Said}
 use Rattle.gb_formats.specs.Lines.{lines}
-use Rattle.gb_formats.specs.Script.{said}
+use Rattle.gb_formats.specs.Script.{judged}
 use Rattle.gb_formats.specs.Texts.{entries_text, refusal_line_text}
 use Rattle.gb_machine.specs.Actions.{Told}
 use Rattle.gb_machine.specs.Events.{trace}
@@ -23,17 +23,17 @@ line_onto n (Ok (Some e)) more = (n, e) ∷ more
 line_onto n (Err why) more = []
 
 -- the events of lines, of which the first is line n, up to the first bad line
-abbrev pub lines_from : (Event → Bool) → ℕ → List (List ℕ) → List Line
-lines_from built n [] = []
-lines_from built n (line ∷ ls) = line_onto n (said built 0 line) (lines_from built (n + 1) ls)
+abbrev pub lines_from : ℕ → List (List ℕ) → List Line
+lines_from n [] = []
+lines_from n (line ∷ ls) = line_onto n (judged 0 line) (lines_from (n + 1) ls)
 
 -- The events of a script, each with the number of its line, up to the first bad line.
-abbrev pub script_lines : (Event → Bool) → List ℕ → List Line
-script_lines built text = lines_from built 1 (lines text)
+abbrev pub script_lines : List ℕ → List Line
+script_lines text = lines_from 1 (lines text)
 
 -- The events of a script.
-abbrev pub script_events : (Event → Bool) → List ℕ → List Event
-script_events built text = map (λ l. l.1) (script_lines built text)
+abbrev pub script_events : List ℕ → List Event
+script_events text = map (λ l. l.1) (script_lines text)
 
 -- ---- the text of their trace
 
@@ -49,25 +49,22 @@ bad_text n (Ok says) later = later
 bad_text n (Err why) later = refusal_line_text n why
 
 -- what is told of the first bad line
-abbrev pub bad_line_text : (Event → Bool) → ℕ → List (List ℕ) → List ℕ
-bad_line_text built n [] = []
-bad_line_text built n (line ∷ ls) =
-    bad_text n (said built 0 line) (bad_line_text built (n + 1) ls)
+abbrev pub bad_line_text : ℕ → List (List ℕ) → List ℕ
+bad_line_text n [] = []
+bad_line_text n (line ∷ ls) = bad_text n (judged 0 line) (bad_line_text (n + 1) ls)
 
 -- The text of the trace of a script's events, and then of its first bad line.
-abbrev pub trace_text : (Event → Bool) → Bool → List ℕ → List ℕ
-trace_text built hex text =
-    told_text hex (script_lines built text) (trace (script_events built text))
-    ++ bad_line_text built 1 (lines text)
+abbrev pub trace_text : Bool → List ℕ → List ℕ
+trace_text hex text =
+    told_text hex (script_lines text) (trace (script_events text)) ++ bad_line_text 1 (lines text)
 
 -- ---- the law
 
 -- The report of a script is the text of the trace of its events, which the machine may be given.
-pub record IsTraced (built : Event → Bool) (hex : Bool) (text : List ℕ) : Type 0 where
-  pub valid : AreValid (script_events built text)
-  pub report_is : report built hex text ≡ trace_text built hex text
+pub record IsTraced (hex : Bool) (text : List ℕ) : Type 0 where
+  pub valid : AreValid (script_events text)
+  pub report_is : report hex text ≡ trace_text hex text
 
 -- Every report is that of a run of valid events.
 abbrev pub ReportsAreTraced : Type 0
-ReportsAreTraced =
-    (built : Event → Bool) (hex : Bool) (text : List ℕ) → IsTraced built hex text
+ReportsAreTraced = (hex : Bool) (text : List ℕ) → IsTraced hex text

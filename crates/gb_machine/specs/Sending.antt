@@ -1,9 +1,11 @@
 -- Sending a request.
-use Rattle.std.specs.Prelude.{ℕ, Bool, false, not, if◌then◌else◌, Option, Some, None, List, [], ◌∷◌, ◌++◌}
+use Rattle.std.specs.Prelude.{ℕ, Bool, false, not, if◌then◌else◌, Option, Some, None, List, [], ◌∷◌}
+use Rattle.std.specs.Prelude.{◌++◌}
 use Rattle.gb_base.specs.declared.end.Side.{Side}
 use Rattle.gb_base.specs.declared.outcome.Outcome.{Outcome}
 use Rattle.gb_base.specs.declared.outcome.Outcome.TheVariants as outcome
-use Rattle.gb_machine.specs.Bus.{Ask, Bus, Connection, Item, Request, connection_of, has_number, next_number, other_side, queue, with_queue}
+use Rattle.gb_machine.specs.Bus.{Ask, Bus, Connection, Item, Request, connection_of, has_number}
+use Rattle.gb_machine.specs.Bus.{next_number, other_side, queue, with_queue}
 use Rattle.gb_machine.specs.Labels.{next_label, with_last_label}
 use Rattle.gb_machine.specs.Lists.{at_first}
 

@@ -1,7 +1,8 @@
 -- The steps of the application processor's sequences: a request each, which goes on where it is
 -- answered with success. The first ten enumerate an interface, the next two connect a CPort, and
 -- the last three close a connection.
-use Rattle.std.specs.Prelude.{ℕ, ◌==◌, Bool, true, false, ◌&&◌, is_ok, if◌then◌else◌, Result, Ok, Err, List}
+use Rattle.std.specs.Prelude.{ℕ, ◌==◌, Bool, true, false, ◌&&◌, is_ok, if◌then◌else◌, Result, Ok}
+use Rattle.std.specs.Prelude.{Err, List}
 use Rattle.gb_base.specs.declared.steps.Purpose.{Purpose}
 use Rattle.gb_base.specs.declared.steps.SequenceStep.{SequenceStep}
 use Rattle.gb_base.specs.declared.steps.SequenceStep.TheVariants as steps

@@ -1,6 +1,7 @@
 -- The sequences of the application processor: enumerating an interface, connecting a CPort and
 -- closing a connection. Each step is asked when the one before was answered with success.
-use Rattle.std.specs.Prelude.{ℕ, ◌==◌, true, if◌then◌else◌, Option, Some, None, unwrap_or, Result, Ok, Err, List, [], ◌∷◌, length}
+use Rattle.std.specs.Prelude.{ℕ, ◌==◌, true, if◌then◌else◌, Option, Some, None, unwrap_or, Result}
+use Rattle.std.specs.Prelude.{Ok, Err, List, [], ◌∷◌, length}
 use Rattle.gb_base.specs.declared.entry.ConnState.{ConnState}
 use Rattle.gb_base.specs.declared.entry.ConnState.TheVariants as state
 use Rattle.gb_base.specs.declared.entry.Entry.TheVariants as entry
@@ -16,8 +17,10 @@ use Rattle.gb_formats.specs.ControlRecords.{ControlReply, read_control_reply}
 use Rattle.gb_formats.specs.Manifest.{Manifest, check_answer}
 use Rattle.gb_formats.specs.ManifestRules.{Refused}
 use Rattle.gb_formats.specs.Records.{PayloadFault}
-use Rattle.gb_machine.specs.Host.{Host, control_of, free_cport, free_device, in_state, interface_of, link_at, with_interface, with_link, without_link}
-use Rattle.gb_machine.specs.SequenceSteps.{Target, asks_control, at_step, is_reply, kind_of, payload_of}
+use Rattle.gb_machine.specs.Host.{Host, control_of, free_cport, free_device, in_state, interface_of}
+use Rattle.gb_machine.specs.Host.{link_at, with_interface, with_link, without_link}
+use Rattle.gb_machine.specs.SequenceSteps.{Target, asks_control, at_step, is_reply, kind_of}
+use Rattle.gb_machine.specs.SequenceSteps.{payload_of}
 use Rattle.gb_machine.specs.Turns.{Act, Asking, Making, Turn, failed_turn, telling, turn}
 use Rattle.gb_machine.specs.Failures.{interface_fails, link_told, step_fails}
 

@@ -7,7 +7,8 @@ use Rattle.gb_base.specs.declared.entry.Entry.TheVariants as entry
 use Rattle.gb_base.specs.declared.name.Name.{Name}
 use Rattle.gb_base.specs.declared.peers.Interface.{Interface}
 use Rattle.gb_base.specs.declared.peers.Link.{Link}
-use Rattle.gb_formats.specs.ShowTexts.{connection_line, interface_line, name_line, now_line, queue_line}
+use Rattle.gb_formats.specs.ShowTexts.{connection_line, interface_line, name_line, now_line}
+use Rattle.gb_formats.specs.ShowTexts.{queue_line}
 use Rattle.gb_machine.specs.Bus.{Bus, Connection, outcome_of}
 use Rattle.gb_machine.specs.Host.{Host, link_of}
 use Rattle.gb_machine.specs.Names.{names_in_order}

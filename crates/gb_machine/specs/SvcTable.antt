@@ -1,11 +1,13 @@
 -- What the supervisory controller answers to the application processor, as far as power levels and
 -- device ids decide it.
-use Rattle.std.specs.Prelude.{ℕ, ◌==◌, nat_lt, nat_le, Bool, not, ◌||◌, if◌then◌else◌, Result, Ok, Err, List, [], ◌∷◌}
+use Rattle.std.specs.Prelude.{ℕ, ◌==◌, nat_lt, nat_le, Bool, not, ◌||◌, if◌then◌else◌, Result, Ok}
+use Rattle.std.specs.Prelude.{Err, List, [], ◌∷◌}
 use Rattle.gb_formats.specs.Records.{PayloadFault}
 use Rattle.gb_formats.specs.Results.{fault_result}
 use Rattle.gb_formats.specs.SvcRecords.{SvcAsk, read_svc_ask_of_ap}
 use Rattle.gb_machine.specs.Host.{is_device}
-use Rattle.gb_machine.specs.Ports.{device_of, is_elsewhere, is_powered, level_of, raised, with_device}
+use Rattle.gb_machine.specs.Ports.{device_of, is_elsewhere, is_powered, level_of, raised}
+use Rattle.gb_machine.specs.Ports.{with_device}
 use Rattle.gb_machine.specs.Serving.{invalid, nonexistent, protocol_bad, success}
 use Rattle.gb_machine.specs.State.{Port}
 

@@ -171,7 +171,6 @@ impl fmt::Display for Bad {
             LineReason::BadWord(at) => write!(f, "bad word {at}"),
             LineReason::MissingWord(at) => write!(f, "missing word {at}"),
             LineReason::ExtraWord(at) => write!(f, "extra word {at}"),
-            LineReason::NotBuilt => write!(f, "not built"),
         }
     }
 }

@@ -4,7 +4,6 @@
 #[cfg(test)]
 mod bad_lines;
 mod bridges;
-mod built;
 mod deliveries;
 mod fault;
 mod forms;

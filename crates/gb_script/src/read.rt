@@ -1,30 +1,17 @@
 //! Reads the event of a line.
 
-ghost use Rattle.std.specs.Prelude.{◌≡◌};
-ghost use Rattle.gb_formats.specs.Built as built;
-ghost use Rattle.gb_formats.specs.Script.{judged, said};
+ghost use Rattle.gb_formats.specs.Script.{judged};
 ghost use Rattle.gb_script.specs.Tells.{Tells};
 
 use crate::LineFault;
-use crate::built::is_built;
 use crate::forms::form;
 use crate::plain::plain;
 use crate::words::first_word;
-use gb_base::{Event, LineReason};
+use gb_base::Event;
 use std::alloc::Global;
 
 /// The event of a line, None for a blank or comment line. `who` is the requester.
 pub fn event(alloc: Global, line: &[u8], who: u8) -> Result<Option<Event>, LineFault>
-    ensures { Tells result (said built.is_built who line.now) }
-{
-    match judged(alloc, line, who)? {
-        Some(event) if !is_built(&event) => Err(LineFault::Bad(LineReason::NotBuilt)),
-        said => Ok(said),
-    }
-}
-
-/// The event of a line by the whole grammar.
-fn judged(alloc: Global, line: &[u8], who: u8) -> Result<Option<Event>, LineFault>
     ensures { Tells result (judged who line.now) }
 {
     plain(line)?;

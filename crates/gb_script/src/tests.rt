@@ -1,7 +1,7 @@
 //! Lines as the grammar has them.
 
 use crate::{LineFault, event, first_line, made};
-use gb_base::{BridgeAsk, End, Event, Kind, LineReason, OutOfMemory};
+use gb_base::{BridgeAsk, End, Event, Kind, OutOfMemory};
 use std::test::Fail;
 
 #[test]
@@ -110,9 +110,6 @@ fn is_ping(said: &Result<Option<Event>, LineFault>) -> bool {
     }
 }
 
-/// A line for each form that isn't built.
-const NOT_BUILT: &[&str] = &["insert 2 raw 0aFf", "inject 2 1 -"];
-
 /// A line for each form of a bridge line, and of what devices have from outside.
 const BRIDGED: &[&str] = &[
     "gpio @x 2 1 count",
@@ -144,13 +141,27 @@ const BRIDGED: &[&str] = &[
 ];
 
 #[test]
-fn names_forms_that_are_not_built(rt: HostRuntime) {
-    for line in NOT_BUILT {
-        let said = event(rt.alloc(), line.as_bytes(), 0);
-        assert!(rt;
-            matches!(said, Err(LineFault::Bad(LineReason::NotBuilt))),
-            "{line}"
-        );
+fn reads_raw_bytes(rt: HostRuntime) {
+    let module = event(rt.alloc(), b"insert 2 raw 0aFf", 0);
+    assert!(rt; has_raw_bytes(&module, &[0x0a, 0xff]));
+    let none = event(rt.alloc(), b"inject 2 1 -", 0);
+    assert!(rt; has_raw_bytes(&none, &[]));
+}
+
+/// Whether a line has these bytes for interface 2, or for its CPort 1.
+fn has_raw_bytes(said: &Result<Option<Event>, LineFault>, wanted: &[u8]) -> bool {
+    match said {
+        Ok(Some(Event::InsertRaw { intf: 2, manifest })) => manifest.items() == wanted,
+        Ok(
+            Some(
+                Event::Inject {
+                    intf: 2,
+                    cport: 1,
+                    bytes,
+                },
+            ),
+        ) => bytes.items() == wanted,
+        _ => false,
     }
 }
 

@@ -52,7 +52,7 @@ const ODD: &[u8] = b"\x1c\0\0\xff\x08\0\x01\0\0\0\xa5\0\
     \x10\0\x02\0\x09\x05\"\\\x1f ~\x7f\xffa\n\0";
 
 const ODD_TOLD: &str = "line 12: bad byte 3
-line 13: not built
+line 13: missing word 4
 manifest version 0.255 size 28
 interface vendor 0 product 0 features a5
 string 5 \"\\x22\\x5c\\x1f ~\\x7f\\xffa\\x0a\"
@@ -66,7 +66,7 @@ fn other_lines_follow_one_another(rt: HostRuntime) {
     let m = check(ODD).expect(&rt, "this is a manifest");
     let mut out = Text::new(alloc);
     put_refusal(alloc, 12, &LineReason::BadByte(3), &mut out).expect(&rt, "memory");
-    put_refusal(alloc, 13, &LineReason::NotBuilt, &mut out).expect(&rt, "memory");
+    put_refusal(alloc, 13, &LineReason::MissingWord(4), &mut out).expect(&rt, "memory");
     put_dump(alloc, &m, &mut out).expect(&rt, "memory");
     put_accepted(alloc, &m, &mut out).expect(&rt, "memory");
     let (at, reason) = (12, Reason::DescriptorShort);

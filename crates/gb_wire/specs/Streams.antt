@@ -3,12 +3,12 @@ use Rattle.std.specs.Prelude.{◌≡◌, ◌<◌, ◌≤◌, ℕ, List, length, 
 use Rattle.gb_base.specs.declared.fault.WireFault.{WireFault}
 use Rattle.gb_base.specs.declared.fault.WireFault.TheVariants as wire
 use Rattle.gb_formats.specs.Message.{Message}
-use Rattle.gb_formats.specs.Wire.{header_size, longest_payload, size_field, result_field}
+use Rattle.gb_formats.specs.Wire.{header_size, longest_spelled_payload, size_field, result_field}
 use Rattle.gb_formats.specs.Wire.{IsShort, BeginsWrongRequest, IsStream}
 
 -- Which messages have a spelling.
 pub record IsSpelled (m : Message) : Type 0 where
-  pub short : length m.payload ≤ longest_payload
+  pub short : length m.payload ≤ longest_spelled_payload
   pub id_fits : m.id < 65536
   pub clear : m.kind < 128 → m.result ≡ 0
 
