@@ -1,10 +1,12 @@
 pub mod Apart
 pub mod Awaiting
+pub mod BusChanges
 pub mod Changes
 pub mod Counts
 pub mod Drawing
 pub mod Ending
 pub mod ItemChanges
+pub mod Found
 pub mod Items
 pub mod Labels
 pub mod Lists
@@ -12,3 +14,4 @@ pub mod Numbers
 pub mod OneItem
 pub mod Outcomes
 pub mod Selves
+pub mod Wires

@@ -1,8 +1,13 @@
 -- Laws of members of lists, of lists with one member changed, and of counts.
-use Rattle.std.proofs.Common.{◌≡◌, ◌⊎◌, Bool, true, false, not, cond, Some, List, [], ◌∷◌, ◌++◌, refl, sym, ap, ◌∙◌, inl, inr, ⊎_elim, subst}
+use Rattle.std.proofs.Common.{Bool, List, Some, ap, cond, false, inl, inr, not, refl, subst, sym}
+use Rattle.std.proofs.Common.{true, ⊎_elim, [], ◌++◌, ◌∙◌, ◌∷◌, ◌≡◌, ◌⊎◌}
 use Rattle.std.specs.List.{filter, find}
-use Rattle.gb_machine.specs.Lists.{at_first, without}
 use Rattle.gb_machine.specs.Members.{Each, EachTwo, IsIn}
+use Rattle.gb_machine.specs.Lists.{at_first, without}
+
+-- a test that is true isn't false
+pub not-both : (b : Bool) → b ≡ true → b ≡ false → ⊥
+not-both b h k = absurd cc
 
 -- ---- members
 
@@ -13,23 +18,27 @@ each-in P (y ∷ ys) x h i =
     ⊎_elim (λ e. subst P (sym e) h.0) (λ later. each-in P ys x h.1 later) i
 
 -- each member is so where a member is
-pub each-from : {A : Type 0} (P : A → Type 0) (xs : List A) → ((x : A) → IsIn x xs → P x) → Each P xs
+pub each-from : {A : Type 0} (P : A → Type 0) (xs : List A) → ((x : A) → IsIn x xs → P x)
+    → Each P xs
 each-from P [] h = tt
 each-from P (x ∷ xs) h = (h x (inl refl), each-from P xs (λ y i. h y (inr i)))
 
 -- each member is so where it is so by another fact
-pub each-weaker : {A : Type 0} (P Q : A → Type 0) (xs : List A) → ((x : A) → P x → Q x) → Each P xs → Each Q xs
+pub each-weaker : {A : Type 0} (P Q : A → Type 0) (xs : List A) → ((x : A) → P x → Q x) → Each P xs
+    → Each Q xs
 each-weaker P Q [] f h = tt
 each-weaker P Q (x ∷ xs) f h = (f x h.0, each-weaker P Q xs f h.1)
 
-pub each-append : {A : Type 0} (P : A → Type 0) (xs ys : List A) → Each P xs → Each P ys → Each P (xs ++ ys)
+pub each-append : {A : Type 0} (P : A → Type 0) (xs ys : List A) → Each P xs → Each P ys
+    → Each P (xs ++ ys)
 each-append P [] ys h k = k
 each-append P (x ∷ xs) ys h k = (h.0, each-append P xs ys h.1 k)
 
 pub in-append : {A : Type 0} (x : A) (xs ys : List A) → IsIn x (xs ++ ys) → IsIn x xs ⊎ IsIn x ys
 in-append x [] ys i = inr i
 in-append x (z ∷ zs) ys i =
-    ⊎_elim (λ e. inl (inl e)) (λ later. ⊎_elim (λ a. inl (inr a)) (λ b. inr b) (in-append x zs ys later)) i
+    ⊎_elim (λ e. inl (inl e)) (λ later. ⊎_elim (λ a. inl (inr a)) (λ b. inr b)
+    (in-append x zs ys later)) i
 
 pub in-front : {A : Type 0} (x : A) (xs ys : List A) → IsIn x xs → IsIn x (xs ++ ys)
 in-front x [] ys i = absurd i
@@ -40,8 +49,10 @@ in-behind x [] ys i = i
 in-behind x (z ∷ zs) ys i = inr (in-behind x zs ys i)
 
 -- a member of a list with one more is it or was there
-pub in-pushed : {A : Type 0} (x : A) (xs : List A) (y : A) → IsIn x (xs ++ y ∷ []) → IsIn x xs ⊎ (x ≡ y)
-in-pushed x xs y i = ⊎_elim (λ a. inl a) (λ b. ⊎_elim (λ e. inr e) (λ n. absurd n) b) (in-append x xs (y ∷ []) i)
+pub in-pushed : {A : Type 0} (x : A) (xs : List A) (y : A) → IsIn x (xs ++ y ∷ [])
+    → IsIn x xs ⊎ (x ≡ y)
+in-pushed x xs y i = ⊎_elim (λ a. inl a) (λ b. ⊎_elim (λ e. inr e) (λ n. absurd n) b)
+    (in-append x xs (y ∷ []) i)
 
 -- ---- what passes a test
 
@@ -85,8 +96,14 @@ pub filter-in : {A : Type 0} (test : A → Bool) (xs : List A) (x : A) → IsIn 
     → IsIn x (filter test xs)
 filter-in test [] x i h = absurd i
 filter-in test (y ∷ ys) x (inl e) h =
-    subst (λ z. IsIn x (cond (test z) (z ∷ filter test ys) (filter test ys))) e (in-kept (test x) x (filter test ys) h)
-filter-in test (y ∷ ys) x (inr later) h = in-later (test y) x y (filter test ys) (filter-in test ys x later h)
+    subst (λ z. IsIn x (cond (test z) (z ∷ filter test ys) (filter test ys))) e
+    (in-kept (test x) x (filter test ys) h)
+filter-in test (y ∷ ys) x (inr later) h = in-later (test y) x y (filter test ys)
+    (filter-in test ys x later h)
+
+pub stays-without : {A : Type 0} (test : A → Bool) (xs : List A) (x : A) → IsIn x xs
+    → test x ≡ false → IsIn x (without test xs)
+stays-without test xs x i h = filter-in (λ y. not (test y)) xs x i (ap not h)
 
 -- what is found is a member that passes
 pub found-in : {A : Type 0} (test : A → Bool) (xs : List A) (x : A) → find test xs ≡ Some x
@@ -95,8 +112,7 @@ found-in test [] x h = absurd cc
 found-in test (y ∷ ys) x h = by (test y) refl h (found-in test ys x)
   where
     by : (b : Bool) → test y ≡ b → cond b (Some y) (find test ys) ≡ Some x
-        → (find test ys ≡ Some x → IsIn x ys × (test x ≡ true))
-        → IsIn x (y ∷ ys) × (test x ≡ true)
+        → (find test ys ≡ Some x → IsIn x ys × (test x ≡ true)) → IsIn x (y ∷ ys) × (test x ≡ true)
     by true e h rec = let s : x ≡ y = cc in (inl s, ap test s ∙ e)
     by false e h rec = (inr (rec h).0, (rec h).1)
 
@@ -120,6 +136,38 @@ in-at_first {A} test change (y ∷ ys) x i = by (test y) refl i (in-at_first tes
     by false e (inr later) rec =
         ⊎_elim (λ a. inl (inr a)) (λ h. inr (h.0, inr h.1, h.2, h.3)) (rec later)
 
+-- a member stays, where it isn't the one that is changed
+pub at_first-stays : {A : Type 0} (test : A → Bool) (change : A → A) (xs : List A) (x : A)
+    → IsIn x xs → test x ≡ false → IsIn x (at_first test change xs)
+at_first-stays test change [] x i h = absurd i
+at_first-stays test change (y ∷ ys) x i h = by (test y) refl i (at_first-stays test change ys x)
+  where
+    by : (b : Bool) → test y ≡ b → IsIn x (y ∷ ys)
+        → (IsIn x ys → test x ≡ false → IsIn x (at_first test change ys))
+        → IsIn x (cond b (change y ∷ ys) (y ∷ at_first test change ys))
+    by true e (inl is) rec = absurd (not-both (test x) (ap test is ∙ e) h)
+    by true e (inr j) rec = inr j
+    by false e (inl is) rec = inl is
+    by false e (inr j) rec = inr (rec j h)
+
+-- a member stays, or the changed one is there
+pub at_first-back : {A : Type 0} (test : A → Bool) (change : A → A) (xs : List A) (x : A)
+    → IsIn x xs → IsIn x (at_first test change xs) ⊎ IsIn (change x) (at_first test change xs)
+at_first-back test change [] x i = absurd i
+at_first-back test change (y ∷ ys) x (inl e) = by (test y)
+  where
+    by : (b : Bool) → IsIn x (cond b (change y ∷ ys) (y ∷ at_first test change ys))
+        ⊎ IsIn (change x) (cond b (change y ∷ ys) (y ∷ at_first test change ys))
+    by true = inr (inl (ap change e))
+    by false = inl (inl e)
+at_first-back test change (y ∷ ys) x (inr j) = by (test y) (at_first-back test change ys x j)
+  where
+    by : (b : Bool) → IsIn x (at_first test change ys) ⊎ IsIn (change x) (at_first test change ys)
+        → IsIn x (cond b (change y ∷ ys) (y ∷ at_first test change ys))
+        ⊎ IsIn (change x) (cond b (change y ∷ ys) (y ∷ at_first test change ys))
+    by true h = inl (inr j)
+    by false h = ⊎_elim (λ a. inl (inr a)) (λ b. inr (inr b)) h
+
 -- ---- each, and each two, of a changed list
 
 pub each-at_first : {A : Type 0} (P : A → Type 0) (test : A → Bool) (change : A → A) (xs : List A)
@@ -132,16 +180,18 @@ each-at_first P test change (x ∷ xs) f h = by (test x) (each-at_first P test c
     by true rest = (f x h.0, h.1)
     by false rest = (h.0, rest)
 
-pub each-filter : {A : Type 0} (P : A → Type 0) (test : A → Bool) (xs : List A) → Each P xs → Each P (filter test xs)
+pub each-filter : {A : Type 0} (P : A → Type 0) (test : A → Bool) (xs : List A) → Each P xs
+    → Each P (filter test xs)
 each-filter P test [] h = tt
 each-filter P test (x ∷ xs) h = by (test x) (each-filter P test xs h.1)
   where
-    by : (b : Bool) → Each P (filter test xs) → Each P (cond b (x ∷ filter test xs) (filter test xs))
+    by : (b : Bool) → Each P (filter test xs)
+        → Each P (cond b (x ∷ filter test xs) (filter test xs))
     by true rest = (h.0, rest)
     by false rest = rest
 
-pub two-at_first : {A : Type 0} (R : A → A → Type 0) (test : A → Bool) (change : A → A) (xs : List A)
-    → ((x y : A) → R x y → R (change x) y) → ((x y : A) → R x y → R x (change y))
+pub two-at_first : {A : Type 0} (R : A → A → Type 0) (test : A → Bool) (change : A
+    → A) (xs : List A) → ((x y : A) → R x y → R (change x) y) → ((x y : A) → R x y → R x (change y))
     → EachTwo R xs → EachTwo R (at_first test change xs)
 two-at_first R test change [] f g h = tt
 two-at_first R test change (x ∷ xs) f g h = by (test x) (two-at_first R test change xs f g h.1)
@@ -151,20 +201,21 @@ two-at_first R test change (x ∷ xs) f g h = by (test x) (two-at_first R test c
     by true rest = (each-weaker (R x) (R (change x)) xs (λ y r. f x y r) h.0, h.1)
     by false rest = (each-at_first (R x) test change xs (λ y r. g x y r) h.0, rest)
 
-pub two-filter : {A : Type 0} (R : A → A → Type 0) (test : A → Bool) (xs : List A) → EachTwo R xs → EachTwo R (filter test xs)
+pub two-filter : {A : Type 0} (R : A → A → Type 0) (test : A → Bool) (xs : List A) → EachTwo R xs
+    → EachTwo R (filter test xs)
 two-filter R test [] h = tt
 two-filter R test (x ∷ xs) h = by (test x) (two-filter R test xs h.1)
   where
-    by : (b : Bool) → EachTwo R (filter test xs) → EachTwo R (cond b (x ∷ filter test xs) (filter test xs))
+    by : (b : Bool) → EachTwo R (filter test xs)
+        → EachTwo R (cond b (x ∷ filter test xs) (filter test xs))
     by true rest = (each-filter (R x) test xs h.0, rest)
     by false rest = rest
 
-pub two-pushed : {A : Type 0} (R : A → A → Type 0) (xs : List A) (y : A) → EachTwo R xs → Each (λ x. R x y) xs
-    → EachTwo R (xs ++ y ∷ [])
+pub two-pushed : {A : Type 0} (R : A → A → Type 0) (xs : List A) (y : A) → EachTwo R xs
+    → Each (λ x. R x y) xs → EachTwo R (xs ++ y ∷ [])
 two-pushed R [] y h k = (tt, tt)
-two-pushed R (x ∷ xs) y h k = (each-append (R x) xs (y ∷ []) h.0 (k.0, tt), two-pushed R xs y h.1 k.1)
-
--- each two are so where they are by another fact
-pub two-weaker : {A : Type 0} (R S : A → A → Type 0) (xs : List A) → ((x y : A) → R x y → S x y) → EachTwo R xs → EachTwo S xs
-two-weaker R S [] f h = tt
-two-weaker R S (x ∷ xs) f h = (each-weaker (R x) (S x) xs (f x) h.0, two-weaker R S xs f h.1)
+two-pushed R (x ∷ xs) y h k = (
+  each-append (R x) xs (y ∷ []) h.0 (k.0, tt),
+  two-pushed R xs y h.1
+      k.1,
+)

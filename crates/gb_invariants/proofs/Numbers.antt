@@ -1,23 +1,24 @@
 -- Connections have numbers of their own, whatever becomes of the bus.
-use Rattle.std.proofs.Common.{◌≡◌, ◌⊎◌, ◌<◌, ℕ, ◌==◌, Bool, true, false, not, cond, Some, List, [], ◌∷◌, refl, sym, ap, ◌∙◌, inl, inr, ⊎_elim, arith}
+use Rattle.std.proofs.Common.{Bool, List, Some, ap, arith, cond, false, inl, inr, not, refl, sym}
+use Rattle.std.proofs.Common.{true, ℕ, ⊎_elim, [], ◌<◌, ◌==◌, ◌∙◌, ◌∷◌, ◌≡◌, ◌⊎◌}
 use Rattle.std.proofs.lemmas.Bool.Decides.{nat_tests}
 use Rattle.std.specs.List.{find}
-use Rattle.gb_invariants.proofs.Awaiting.{sent-made}
-use Rattle.gb_invariants.proofs.Lists.{each-append, each-at_first, each-filter, each-in, each-weaker, found-in, two-at_first, two-filter, two-pushed}
-use Rattle.gb_invariants.proofs.Outcomes.{is-same, same-number}
-use Rattle.gb_invariants.specs.Facts.{IsBefore, IsMade, NumbersRise}
 use Rattle.gb_base.specs.declared.end.End.TheVariants as end
 use Rattle.gb_machine.specs.Bus.{Bus, Connection, Request, connection_of, has_number}
-use Rattle.gb_machine.specs.Lists.{at_first}
-use Rattle.gb_machine.specs.Members.{EachTwo, IsIn}
-use Rattle.gb_machine.specs.Sending.{Draft, sent}
-use Rattle.gb_machine.specs.Wiring.{attached, detached, new_connection, next_connection, with_connection}
+use Rattle.gb_machine.specs.Wiring.{attached, detached, new_connection, next_connection}
+use Rattle.gb_machine.specs.Wiring.{with_connection}
+use Rattle.gb_machine.specs.{Lists.at_first, Members.EachTwo, Members.IsIn, Sending.Draft}
+use Rattle.gb_machine.specs.{Sending.sent}
+use Rattle.gb_invariants.proofs.Lists.{each-append, each-at_first, each-filter, each-in}
+use Rattle.gb_invariants.proofs.Lists.{each-weaker, found-in, two-at_first, two-filter, two-pushed}
+use Rattle.gb_invariants.proofs.{Awaiting.sent-made, Outcomes.is-same, Outcomes.same-number}
+use Rattle.gb_invariants.specs.Facts.{IsBefore, IsMade, NumbersRise}
 
 -- ---- one connection for a number
 
 -- connections that rise and have one number are one
-pub same-connection : (cs : List Connection) (c d : Connection) → EachTwo IsBefore cs → IsIn c cs → IsIn d cs
-    → c.number ≡ d.number → c ≡ d
+pub same-connection : (cs : List Connection) (c d : Connection) → EachTwo IsBefore cs → IsIn c cs
+    → IsIn d cs → c.number ≡ d.number → c ≡ d
 same-connection [] c d rise i j e = absurd i
 same-connection (x ∷ xs) c d rise (inl i) (inl j) e = i ∙ sym j
 same-connection (x ∷ xs) c d rise (inl i) (inr j) e =
@@ -59,10 +60,12 @@ in-changed (x ∷ xs) k change c rise i = by (x.number == k) refl i (in-changed 
         ⊎ ((d : Connection) × IsIn d cs × (d.number ≡ k) × (c ≡ change d))
 
     above : x.number ≡ k → IsIn c xs → c.number ≡ k → ⊥
-    above e j f = let low : x.number < c.number = each-in (IsBefore x) xs c rise.0 j in absurd (omega (arith, low, e, f))
+    above e j f = let low : x.number < c.number = each-in (IsBefore x) xs c rise.0 j in absurd
+        (omega (arith, low, e, f))
 
     apart : (x.number == k) ≡ false → c ≡ x → c.number ≡ k → ⊥
-    apart e is f = let g : x.number ≡ k = sym (ap (λ (y : Connection). y.number) is) ∙ f in grind (arith, nat_tests)
+    apart e is f = let g : x.number ≡ k = sym (ap (λ (y : Connection). y.number) is) ∙ f in grind
+        (arith, nat_tests)
 
     by : (b : Bool) → (x.number == k) ≡ b
         → IsIn c (cond b (change x ∷ xs) (x ∷ at_first (has_number k) change xs))
@@ -77,7 +80,8 @@ in-changed (x ∷ xs) k change c rise i = by (x.number == k) refl i (in-changed 
 
 -- where a connection changes and its number stays
 pub rise-changed : (b : Bus) (k : ℕ) (change : Connection → Connection)
-    → ((c : Connection) → (change c).number ≡ c.number) → NumbersRise b → NumbersRise (with_connection k change b)
+    → ((c : Connection) → (change c).number ≡ c.number) → NumbersRise b
+    → NumbersRise (with_connection k change b)
 rise-changed b k change same h = record {
   rise = two-at_first IsBefore (has_number k) change b.connections
       (λ c d low. omega (arith, low, same c)) (λ c d low. omega (arith, low, same d)) h.rise;
@@ -87,29 +91,35 @@ rise-changed b k change same h = record {
 }
 
 -- where a request is made on a live connection
-pub rise-sent : (b : Bus) (d : Draft) (label : ℕ) (change : Connection → Connection) (c : Connection)
-    → ((x : Connection) → (change x).number ≡ x.number) → IsIn c b.connections → c.number ≡ d.connection
-    → NumbersRise b
-    → NumbersRise (record (sent d label b) { connections = at_first (has_number d.connection) change b.connections })
+pub rise-sent : (b : Bus) (d : Draft) (label : ℕ) (change : Connection
+    → Connection) (c : Connection)
+    → ((x : Connection) → (change x).number ≡ x.number) → IsIn c b.connections
+    → c.number ≡ d.connection → NumbersRise b
+    → NumbersRise (record (sent d label b) {
+      connections = at_first (has_number d.connection) change
+          b.connections;
+    })
 rise-sent b d label change c same live is h =
     let rest = rise-changed b d.connection change same h in record {
       rise = rest.rise;
       range = rest.range;
       on = λ n r made. ⊎_elim (λ old. h.on n r old)
           (λ new. let m = each-in (IsMade b) b.connections c h.range live in
-          omega (arith, m.1, is, ap (λ (q : Request). q.connection) new.1)) (sent-made d label b n r made);
+          omega (arith, m.1, is, ap (λ (q : Request). q.connection) new.1))
+          (sent-made d label b n r made);
     }
 
 -- where a connection is made
-pub rise-attached : (b : Bus) (ap i c protocol : ℕ) → NumbersRise b → NumbersRise (attached ap i c protocol b)
+pub rise-attached : (b : Bus) (ap i c protocol : ℕ) → NumbersRise b
+    → NumbersRise (attached ap i c protocol b)
 rise-attached b a i c protocol h = record {
-  rise = two-pushed IsBefore b.connections (new_connection (next_connection b) a (end.Module i c) protocol) h.rise
-      (each-weaker (IsMade b) (λ x. x.number < next_connection b) b.connections (λ x r. omega (arith, r.1)) h.range);
+  rise = two-pushed IsBefore b.connections (new_connection (next_connection b) a (end.Module i c)
+      protocol) h.rise (each-weaker (IsMade b) (λ x. x.number < next_connection b) b.connections
+      (λ x r. omega (arith, r.1)) h.range);
   range = each-append (IsMade (attached a i c protocol b)) b.connections
       (new_connection (next_connection b) a (end.Module i c) protocol ∷ [])
       (each-weaker (IsMade b) (IsMade (attached a i c protocol b)) b.connections
-      (λ x r. (r.0, omega (arith, r.1))) h.range)
-      ((omega arith, omega arith), tt);
+      (λ x r. (r.0, omega (arith, r.1))) h.range) ((omega arith, omega arith), tt);
   on = λ n r made. let low = h.on n r made in omega (arith, low);
 }
 

@@ -1,14 +1,14 @@
 -- What outcomes and the list of those that were given up say after a change.
-use Rattle.std.proofs.Common.{◌≡◌, ◌⊎◌, ◌≤◌, ◌<◌, ℕ, zero, suc, ◌+◌, ◌==◌, Bool, true, false, cond, ◌&&◌, ◌||◌, Option, Some, None, is_some, is_none, List, [], ◌∷◌, refl, sym, ap, ◌∙◌, inl, inr, ⊎_elim, subst, arith, one-add}
+use Rattle.std.proofs.Common.{Bool, List, None, Option, Some, ap, arith, cond, false, inl, inr}
+use Rattle.std.proofs.Common.{is_none, is_some, one-add, refl, subst, suc, sym, true, zero, ℕ}
+use Rattle.std.proofs.Common.{⊎_elim, [], ◌&&◌, ◌+◌, ◌<◌, ◌==◌, ◌||◌, ◌∙◌, ◌∷◌, ◌≡◌, ◌≤◌, ◌⊎◌}
 use Rattle.std.proofs.lemmas.Bool.Decides.{nat_tests}
 use Rattle.std.specs.List.{list_any, slice_get}
 use Rattle.gb_base.specs.declared.outcome.Outcome.{Outcome}
 use Rattle.gb_machine.specs.Bus.{Bus, Connection, Request, outcome_of, request_of}
-use Rattle.gb_machine.specs.LawsEnds.{is_outcome_of}
-use Rattle.gb_machine.specs.Lists.{lookup, nth}
 use Rattle.gb_machine.specs.Members.{Each, EachTwo, IsIn, times}
-use Rattle.gb_machine.specs.Requests.{open_from, open_requests}
-use Rattle.gb_machine.specs.Wiring.{all_ended}
+use Rattle.gb_machine.specs.{LawsEnds.is_outcome_of, Lists.lookup, Lists.nth, Requests.open_from}
+use Rattle.gb_machine.specs.{Requests.open_requests, Wiring.all_ended}
 
 -- ---- tests
 
@@ -34,7 +34,8 @@ any-in n (x ∷ xs) h = by (x == n) refl h (any-in n xs)
 
 pub in-any : (n : ℕ) (xs : List ℕ) → IsIn n xs → list_any (λ m. m == n) xs ≡ true
 in-any n [] i = absurd i
-in-any n (x ∷ xs) (inl e) = ap (λ b. b || list_any (λ m. m == n) xs) (ap (λ m. m == n) (sym e) ∙ is-same n)
+in-any n (x ∷ xs) (inl e) = ap (λ b. b || list_any (λ m. m == n) xs)
+    (ap (λ m. m == n) (sym e) ∙ is-same n)
 in-any n (x ∷ xs) (inr later) = or-later (x == n) (list_any (λ m. m == n) xs) (in-any n xs later)
   where
     or-later : (a b : Bool) → b ≡ true → a || b ≡ true
@@ -62,7 +63,8 @@ there-after m n how outs h = by (m == n)
     by false = h
 
 -- the pair is there
-pub pair-there : (n : ℕ) (how : Outcome) (outs : List (ℕ × Outcome)) → lookup n ((n, how) ∷ outs) ≡ Some how
+pub pair-there : (n : ℕ) (how : Outcome) (outs : List (ℕ × Outcome))
+    → lookup n ((n, how) ∷ outs) ≡ Some how
 pair-there n how outs = ap (λ b. cond b (Some how) (lookup n outs)) (is-same n)
 
 -- another number's outcome stays
@@ -79,15 +81,16 @@ lookup-past m n how outs other = by (m == n) refl
 pub missing-all : (ns : List ℕ) (n : ℕ) (how : Outcome) (outs : List (ℕ × Outcome))
     → lookup n (all_ended ns how outs) ≡ None → lookup n outs ≡ None
 missing-all [] n how outs h = h
-missing-all (m ∷ ns) n how outs h = missing-before m n how outs (missing-all ns n how ((m, how) ∷ outs) h)
+missing-all (m ∷ ns) n how outs h = missing-before m n how outs
+    (missing-all ns n how ((m, how) ∷ outs) h)
 
 pub there-all : (ns : List ℕ) (n : ℕ) (how : Outcome) (outs : List (ℕ × Outcome))
     → is_some (lookup n outs) ≡ true → is_some (lookup n (all_ended ns how outs)) ≡ true
 there-all [] n how outs h = h
 there-all (m ∷ ns) n how outs h = there-all ns n how ((m, how) ∷ outs) (there-after m n how outs h)
 
-pub lookup-past-all : (ns : List ℕ) (n : ℕ) (how : Outcome) (outs : List (ℕ × Outcome)) → (IsIn n ns → ⊥)
-    → lookup n (all_ended ns how outs) ≡ lookup n outs
+pub lookup-past-all : (ns : List ℕ) (n : ℕ) (how : Outcome) (outs : List (ℕ × Outcome))
+    → (IsIn n ns → ⊥) → lookup n (all_ended ns how outs) ≡ lookup n outs
 lookup-past-all [] n how outs other = refl
 lookup-past-all (m ∷ ns) n how outs other =
     lookup-past-all ns n how ((m, how) ∷ outs) (λ i. other (inr i))
@@ -95,7 +98,8 @@ lookup-past-all (m ∷ ns) n how outs other =
 
 -- what has an outcome then had one before, or is one that ended
 pub found-all : (ns : List ℕ) (n : ℕ) (how : Outcome) (outs : List (ℕ × Outcome))
-    → is_some (lookup n (all_ended ns how outs)) ≡ true → (is_some (lookup n outs) ≡ true) ⊎ IsIn n ns
+    → is_some (lookup n (all_ended ns how outs)) ≡ true
+    → (is_some (lookup n outs) ≡ true) ⊎ IsIn n ns
 found-all [] n how outs h = inl h
 found-all (m ∷ ns) n how outs h =
     ⊎_elim (λ a. by (m == n) refl a) (λ i. inr (inr i)) (found-all ns n how ((m, how) ∷ outs) h)
@@ -112,7 +116,8 @@ abbrev pub AtMostOnce : List (ℕ × Outcome) → Type 0
 AtMostOnce outs = (n : ℕ) → times (is_outcome_of n) outs ≤ 1
 
 -- a number that has no outcome isn't counted
-pub none-counted : (n : ℕ) (outs : List (ℕ × Outcome)) → lookup n outs ≡ None → times (is_outcome_of n) outs ≡ 0
+pub none-counted : (n : ℕ) (outs : List (ℕ × Outcome)) → lookup n outs ≡ None
+    → times (is_outcome_of n) outs ≡ 0
 none-counted n [] h = refl
 none-counted n (p ∷ ps) h = by (p.0 == n) h (none-counted n ps)
   where
@@ -130,7 +135,8 @@ once-more m how outs free h n = by (m == n) refl
         → cond b (times (is_outcome_of n) outs + 1) (times (is_outcome_of n) outs) ≤ 1
     by true e =
         let zeroed : times (is_outcome_of n) outs ≡ 0 =
-        subst (λ k. times (is_outcome_of k) outs ≡ 0) (same-number m n e) (none-counted m outs free) in
+        subst (λ k. times (is_outcome_of k) outs ≡ 0) (same-number m n e) (none-counted m outs free)
+        in
         omega arith
     by false e = h n
 
@@ -142,7 +148,8 @@ pub once-all : (ns : List ℕ) (how : Outcome) (outs : List (ℕ × Outcome)) �
     → Each (λ n. lookup n outs ≡ None) ns → AtMostOnce outs → AtMostOnce (all_ended ns how outs)
 once-all [] how outs rise free h = h
 once-all (m ∷ ns) how outs rise free h =
-    once-all ns how ((m, how) ∷ outs) rise.1 (later ns rise.0 free.1) (once-more m how outs free.0 h)
+    once-all ns how ((m, how) ∷ outs) rise.1 (later ns rise.0 free.1)
+    (once-more m how outs free.0 h)
   where
     later : (ks : List ℕ) → Each (λ n. m < n) ks → Each (λ n. lookup n outs ≡ None) ks
         → Each (λ n. lookup n ((m, how) ∷ outs) ≡ None) ks
@@ -156,7 +163,8 @@ pub nth-at : {A : Type 0} (i : ℕ) (xs : List A) → nth (1 + i) xs ≡ slice_g
 nth-at i xs = ap (λ n. nth n xs) (one-add i)
 
 -- what stands of a member of the list of those that pass a test and have no outcome
-pub record IsOpenFrom (start : ℕ) (test : Request → Bool) (b : Bus) (rs : List Request) (n : ℕ) : Type 0 where
+pub record IsOpenFrom (start : ℕ) (test : Request → Bool) (b : Bus) (rs : List Request) (n : ℕ) :
+    Type 0 where
   pub place : ℕ
   pub request : Request
   pub is : n ≡ start + place
@@ -185,7 +193,8 @@ in-open_from start test b (r ∷ rs) n i =
     }
 
     by : (t : Bool) → (test r && is_none (outcome_of start b)) ≡ t
-        → IsIn n (cond t (start ∷ open_from (start + 1) test b rs) (open_from (start + 1) test b rs))
+        → IsIn n (cond t (start ∷ open_from (start + 1) test b rs)
+        (open_from (start + 1) test b rs))
         → (IsIn n (open_from (start + 1) test b rs) → IsOpenFrom (start + 1) test b rs n)
         → IsOpenFrom start test b (r ∷ rs) n
     by true e (inl is) rec =
@@ -205,10 +214,15 @@ in-open_from start test b (r ∷ rs) n i =
 pub in-open_requests : (test : Request → Bool) (b : Bus) (n : ℕ) → IsIn n (open_requests test b)
     → (r : Request) × (request_of n b ≡ Some r) × (test r ≡ true) × (outcome_of n b ≡ None)
 in-open_requests test b n i =
-    let h = in-open_from 1 test b b.requests n i in
-    (h.request, ap (λ m. request_of m b) h.is ∙ nth-at h.place b.requests ∙ h.at, h.passes, h.missing)
+    let h = in-open_from 1 test b b.requests n i in (
+      h.request,
+      ap (λ m. request_of m b) h.is ∙ nth-at h.place b.requests ∙ h.at,
+      h.passes,
+      h.missing,
+    )
 
-open_from-in : (start : ℕ) (test : Request → Bool) (b : Bus) (rs : List Request) (i : ℕ) (r : Request)
+open_from-in : (start : ℕ) (test : Request
+    → Bool) (b : Bus) (rs : List Request) (i : ℕ) (r : Request)
     → slice_get rs i ≡ Some r → test r ≡ true → outcome_of (start + i) b ≡ None
     → IsIn (start + i) (open_from start test b rs)
 open_from-in start test b [] i r at passes free = absurd cc
@@ -224,7 +238,8 @@ open_from-in start test b (q ∷ qs) zero r at passes free =
     both false y h k = absurd cc
 
     first : (t : Bool) → t ≡ true → start + 0 ≡ start
-        → IsIn (start + 0) (cond t (start ∷ open_from (start + 1) test b qs) (open_from (start + 1) test b qs))
+        → IsIn (start + 0) (cond t (start ∷ open_from (start + 1) test b qs)
+        (open_from (start + 1) test b qs))
     first true h s = inl s
     first false h s = absurd cc
 open_from-in start test b (q ∷ qs) (suc i) r at passes free =
@@ -234,13 +249,15 @@ open_from-in start test b (q ∷ qs) (suc i) r at passes free =
     (open_from-in (start + 1) test b qs i r at passes (ap (λ m. outcome_of m b) s ∙ free)))
   where
     within : (t : Bool) → IsIn (start + suc i) (open_from (start + 1) test b qs)
-        → IsIn (start + suc i) (cond t (start ∷ open_from (start + 1) test b qs) (open_from (start + 1) test b qs))
+        → IsIn (start + suc i) (cond t (start ∷ open_from (start + 1) test b qs)
+        (open_from (start + 1) test b qs))
     within true j = inr j
     within false j = j
 
 -- a request that passes and has no outcome is in the list
 pub open_requests-in : (test : Request → Bool) (b : Bus) (n : ℕ) (r : Request)
-    → request_of n b ≡ Some r → test r ≡ true → outcome_of n b ≡ None → IsIn n (open_requests test b)
+    → request_of n b ≡ Some r → test r ≡ true → outcome_of n b ≡ None
+    → IsIn n (open_requests test b)
 open_requests-in test b zero r made passes free = absurd cc
 open_requests-in test b (suc i) r made passes free =
     subst (λ m. IsIn m (open_requests test b)) (one-add i)
@@ -248,23 +265,26 @@ open_requests-in test b (suc i) r made passes free =
 
 above-start : (start : ℕ) (test : Request → Bool) (b : Bus) (rs : List Request)
     → Each (λ n. start ≤ n) (open_from start test b rs)
-above-start start test b rs = all (open_from start test b rs) (λ n i. let h = in-open_from start test b rs n i in omega (arith, h.is))
+above-start start test b rs = all (open_from start test b rs)
+    (λ n i. let h = in-open_from start test b rs n i in omega (arith, h.is))
   where
     all : (ns : List ℕ) → ((n : ℕ) → IsIn n ns → start ≤ n) → Each (λ n. start ≤ n) ns
     all [] f = tt
     all (n ∷ ns) f = (f n (inl refl), all ns (λ m i. f m (inr i)))
 
-open_from-rise : (start : ℕ) (test : Request → Bool) (b : Bus) (rs : List Request) → Rise (open_from start test b rs)
+open_from-rise : (start : ℕ) (test : Request → Bool) (b : Bus) (rs : List Request)
+    → Rise (open_from start test b rs)
 open_from-rise start test b [] = tt
 open_from-rise start test b (r ∷ rs) =
-    by (test r && is_none (outcome_of start b)) (above (open_from (start + 1) test b rs) (above-start (start + 1) test b rs))
-    (open_from-rise (start + 1) test b rs)
+    by (test r && is_none (outcome_of start b)) (above (open_from (start + 1) test b rs)
+    (above-start (start + 1) test b rs)) (open_from-rise (start + 1) test b rs)
   where
     above : (ns : List ℕ) → Each (λ n. start + 1 ≤ n) ns → Each (λ n. start < n) ns
     above [] h = tt
     above (n ∷ ns) h = (omega (arith, h.0), above ns h.1)
 
-    by : (t : Bool) → Each (λ n. start < n) (open_from (start + 1) test b rs) → Rise (open_from (start + 1) test b rs)
+    by : (t : Bool) → Each (λ n. start < n) (open_from (start + 1) test b rs)
+        → Rise (open_from (start + 1) test b rs)
         → Rise (cond t (start ∷ open_from (start + 1) test b rs) (open_from (start + 1) test b rs))
     by true h k = (h, k)
     by false h k = k
@@ -273,11 +293,13 @@ open_from-rise start test b (r ∷ rs) =
 pub open_requests-rise : (test : Request → Bool) (b : Bus) → Rise (open_requests test b)
 open_requests-rise test b = open_from-rise 1 test b b.requests
 
-open_from-same : (n : ℕ) (test : Request → Bool) (b : Bus) (cs : List Connection) (rs : List Request)
+open_from-same : (n : ℕ) (test : Request
+    → Bool) (b : Bus) (cs : List Connection) (rs : List Request)
     → open_from n test (record b { connections = cs }) rs ≡ open_from n test b rs
 open_from-same n test b cs [] = refl
 open_from-same n test b cs (r ∷ rs) =
-    ap (λ later. cond (test r && is_none (outcome_of n b)) (n ∷ later) later) (open_from-same (n + 1) test b cs rs)
+    ap (λ later. cond (test r && is_none (outcome_of n b)) (n ∷ later) later)
+    (open_from-same (n + 1) test b cs rs)
 
 -- which requests are open is no matter of connections
 pub open_requests-same : (test : Request → Bool) (b : Bus) (cs : List Connection)

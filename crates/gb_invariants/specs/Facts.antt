@@ -2,7 +2,8 @@
 use Rattle.std.specs.Prelude.{◌≡◌, ◌≤◌, ◌<◌, ℕ, ◌+◌, Bool, true, false, is_some, Some, List}
 use Rattle.gb_base.specs.declared.end.Side.{Side}
 use Rattle.gb_base.specs.declared.end.Side.TheVariants as side
-use Rattle.gb_machine.specs.Bus.{Ask, Bus, Connection, Item, Raw, RawReply, Reply, Request, other_side, outcome_of, queue, request_of}
+use Rattle.gb_machine.specs.Bus.{Ask, Bus, Connection, Item, Raw, RawReply, Reply, Request}
+use Rattle.gb_machine.specs.Bus.{other_side, outcome_of, queue, request_of}
 use Rattle.gb_machine.specs.LawsBus.{OwnLabels, is_awaited, is_item_of}
 use Rattle.gb_machine.specs.LawsEnds.{is_outcome_of}
 use Rattle.gb_machine.specs.Members.{Each, EachTwo, IsIn, times, total}

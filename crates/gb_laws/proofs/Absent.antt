@@ -1,59 +1,30 @@
 -- An interface is absent from the handling of its removal to that of its next insertion, and no
 -- live connection names it then.
-use Rattle.std.proofs.Common.{
-  ◌≡◌,
-  ℕ,
-  Bool,
-  true,
-  false,
-  Some,
-  None,
-  [],
-  refl,
-  sym,
-  ap,
-  ◌∙◌,
-  subst,
-  inl,
-  inr,
-}
-use Rattle.std.specs.Prelude.{◌==◌, is_some}
-use Rattle.gb_base.specs.declared.peers.Link.{Link}
+use Rattle.std.proofs.Common.{Bool, None, Some, ap, false, inl, inr, refl, subst, sym, true, ℕ, []}
+use Rattle.std.proofs.Common.{◌∙◌, ◌≡◌}
+use Rattle.std.specs.Prelude.{is_some, ◌==◌}
 use Rattle.gb_base.specs.declared.end.End.TheVariants as end
 use Rattle.gb_base.specs.declared.end.Side.TheVariants as side
 use Rattle.gb_base.specs.declared.peers.Link.{Link}
-use Rattle.gb_invariants.proofs.Awaiting.{not-both}
-use Rattle.gb_invariants.proofs.Lists.{each-from}
-use Rattle.gb_invariants.proofs.Numbers.{found-by_number}
-use Rattle.gb_invariants.proofs.Outcomes.{same-number}
-use Rattle.gb_laws.proofs.Endpoints.{ApartTo, apart-throughout}
-use Rattle.gb_laws.proofs.Knowing.{KnownAt, WasKnown, known-kept}
-use Rattle.gb_laws.proofs.LinkedFrom.{Linked}
-use Rattle.gb_laws.proofs.LinkLaw.{link_law}
-use Rattle.gb_laws.proofs.LinkRuns.{start-absent}
-use Rattle.gb_laws.proofs.Linking.{InsertsAbsent, LinkedAt}
-use Rattle.gb_laws.proofs.Links.{IsKnown, IsPresent, leaving, linked, supervisory}
-use Rattle.gb_laws.proofs.Marking.{present-some, some-present}
-use Rattle.gb_laws.proofs.Noticing.{notice-any, told-by_svc}
-use Rattle.gb_laws.proofs.Points.{Law}
-use Rattle.gb_laws.proofs.PointParts.{Basis, IsNoticed, resting}
-use Rattle.gb_laws.proofs.Removing.{removed-absent}
-use Rattle.gb_laws.proofs.Runs.{HoldsAtMoments, HoldsByMoments, at_each, weaker}
-use Rattle.gb_laws.proofs.SettleQueues.{IsFarEnd, place-found}
-use Rattle.gb_laws.proofs.Steps.{over-step}
-use Rattle.gb_laws.proofs.SvcKinds.{removal-notice}
-use Rattle.gb_laws.proofs.Taking.{no-link-one}
 use Rattle.gb_machine.specs.Bus.{Ask, Connection, Place, connection_of, place_of}
 use Rattle.gb_machine.specs.Host.{first_host, interface_of, link_of}
-use Rattle.gb_machine.specs.HostServing.{served_on}
-use Rattle.gb_machine.specs.LawsHotPlug.{AbsentBetween, AbsentIsUnconnected}
-use Rattle.gb_machine.specs.Lists.{first}
-use Rattle.gb_machine.specs.Members.{IsIn}
 use Rattle.gb_machine.specs.Runs.{IsMoment, Moment, after}
-use Rattle.gb_machine.specs.State.{State}
 use Rattle.gb_machine.specs.SvcQueues.{HandlesInsertion, HandlesRemoval, items_in}
-use Rattle.gb_machine.specs.Turns.{HostEvent}
-use Rattle.gb_machine.specs.Wiring.{is_at}
+use Rattle.gb_machine.specs.{HostServing.served_on, LawsHotPlug.AbsentBetween}
+use Rattle.gb_machine.specs.{LawsHotPlug.AbsentIsUnconnected, Lists.first, Members.IsIn}
+use Rattle.gb_machine.specs.{State.State, Turns.HostEvent, Wiring.is_at}
+use Rattle.gb_invariants.proofs.{Awaiting.not-both, Lists.each-from, Numbers.found-by_number}
+use Rattle.gb_invariants.proofs.{Outcomes.same-number}
+use Rattle.gb_laws.proofs.Links.{IsKnown, IsPresent, leaving, linked, supervisory}
+use Rattle.gb_laws.proofs.MarkKnown.{KnownAt, WasKnown, known-kept}
+use Rattle.gb_laws.proofs.PointParts.{Basis, IsNoticed, resting}
+use Rattle.gb_laws.proofs.Runs.{HoldsAtMoments, HoldsByMoments, at_each, weaker}
+use Rattle.gb_laws.proofs.{Endpoints.ApartTo, Endpoints.apart-throughout, LinkFrom.Linked}
+use Rattle.gb_laws.proofs.{LinkKept.InsertsAbsent, LinkLaw.link_law, LinkRuns.start-absent}
+use Rattle.gb_laws.proofs.{MarkMoments.present-some, MarkMoments.some-present}
+use Rattle.gb_laws.proofs.{MarkNotices.notice-any, MarkNotices.told-by_svc, MarkTakes.no-link-one}
+use Rattle.gb_laws.proofs.{Points.Law, Points.upon, Removing.removed-absent, SettleQueues.IsFarEnd}
+use Rattle.gb_laws.proofs.{SettleQueues.place-found, Steps.over-step, SvcKinds.removal-notice}
 
 -- ---- no live connection names an absent interface
 
@@ -66,8 +37,7 @@ unconnected i s links absent c live = by (links.known c live)
     other l j false e = refl
     other l j true e = absurd (not-both (is_some (interface_of i s.host))
         (subst (λ n. is_some (interface_of n s.host) ≡ true) (same-number l.intf i e)
-        (present-some l.intf s.host (links.host.present l j)))
-        (ap is_some absent))
+        (present-some s.host (links.host.present l j))) (ap is_some absent))
 
     by : IsKnown c s.host.links [] → is_at i c.peer ≡ false
     by (supervisory one) = ap (is_at i) (links.svc c live one).peer
@@ -112,8 +82,7 @@ removed-at m start i h =
     named : place_of (end.Ap 0) m.before.bus.connections ≡ Some p
     named = subst (λ a. place_of (end.Ap a) m.before.bus.connections ≡ Some p) svc
         (place-found m.before.bus.connections c side.Ap start.apart
-        (far-end m.before links) start.links.3.live
-        start.links.3.wired)
+        (far-end m.before links) start.links.3.live start.links.3.wired)
 
     front : first c.to_ap ≡ Some (Ask h.number)
     front = ap (λ o. first (items_in side.Ap o)) (sym found) ∙ h.front
@@ -133,11 +102,8 @@ removed-at m start i h =
 
 -- what is known of interfaces, with what it stands on
 abbrev known_law : (m : Moment) → InsertsAbsent m → Law m
-known_law m absent = record {
-  holds = λ a. (Basis a × LinkedAt a) × KnownAt m a;
-  basis = λ a h. h.0.0;
-  kept = λ a x h. ((link_law m absent).kept a x h.0, known-kept m absent a x h.0.1 h.1);
-}
+known_law m absent =
+    upon (link_law m absent) (KnownAt m) (λ a x g h. known-kept m absent a x g.1 h)
 
 inserted-at : (m : Moment) → IsMoment m.event → ApartTo m.told m.before → (i : ℕ)
     → interface_of i m.before.host ≡ None → is_some (interface_of i (after m).host) ≡ true
@@ -155,7 +121,7 @@ inserted-at m one start i absent there = by (stays p.interface p.known)
 
     by : WasKnown m p.interface.intf → HandlesInsertion i m
     by (inl k) = absurd (not-both (is_some (interface_of i m.before.host))
-        (present-some i m.before.host (subst (λ n. IsPresent n m.before.host.interfaces) p.is k))
+        (present-some m.before.host (subst (λ n. IsPresent n m.before.host.interfaces) p.is k))
         (ap is_some absent))
     by (inr n) =
         let t = told-by_svc m (HostEvent.Inserted i) start.links.0 start.links.1

@@ -1,112 +1,42 @@
 -- What a turn of the application processor tells and closes, at each event that it takes notice of.
-use Rattle.std.proofs.Common.{
-  ◌≡◌,
-  ℕ,
-  Bool,
-  true,
-  false,
-  cond,
-  Option,
-  Some,
-  None,
-  List,
-  [],
-  ◌∷◌,
-  length,
-  map,
-  refl,
-  sym,
-  ap,
-  ◌∙◌,
-  inl,
-  inr,
-  subst,
-}
-use Rattle.std.specs.Prelude.{Result, Ok, Err, ◌==◌, option_and_then}
-use Rattle.gb_base.specs.declared.entry.ConnState.{ConnState}
+use Rattle.std.proofs.Common.{Bool, List, None, Option, Some, ap, cond, false, inl, inr, length}
+use Rattle.std.proofs.Common.{map, refl, subst, sym, true, ℕ, [], ◌∙◌, ◌∷◌, ◌≡◌}
+use Rattle.std.specs.Prelude.{Err, Ok, Result, option_and_then, ◌==◌}
+use Rattle.gb_base.specs.declared.entry.{ConnState.ConnState, Entry.Entry}
 use Rattle.gb_base.specs.declared.entry.ConnState.TheVariants as state
-use Rattle.gb_base.specs.declared.entry.Entry.{Entry}
 use Rattle.gb_base.specs.declared.entry.Entry.TheVariants as entry
 use Rattle.gb_base.specs.declared.entry.IntfStage.TheVariants as stage
 use Rattle.gb_base.specs.declared.outcome.Outcome.{Outcome}
 use Rattle.gb_base.specs.declared.peers.Link.{Link}
-use Rattle.gb_base.specs.declared.steps.Purpose.{Purpose}
-use Rattle.gb_base.specs.declared.steps.SequenceStep.{SequenceStep}
+use Rattle.gb_base.specs.declared.steps.{Purpose.Purpose, SequenceStep.SequenceStep}
 use Rattle.gb_base.specs.declared.steps.SequenceStep.TheVariants as steps
 use Rattle.gb_formats.specs.Manifest.{CportView, Manifest, check_answer}
 use Rattle.gb_formats.specs.ManifestRules.{Refused}
-use Rattle.gb_invariants.proofs.Lists.{each-append}
-use Rattle.gb_laws.proofs.PointParts.{
-  AreQuiet,
-  IsCaused,
-  IsShutFor,
-  disconnected,
-  is_quiet,
-  removed,
-}
-use Rattle.gb_machine.specs.Failures.{
-  interface_fails,
-  link_fails,
-  link_told,
-  step_fails,
-  told_of,
-  unsent,
-  unsent_fails,
-}
-use Rattle.gb_machine.specs.Host.{
-  Host,
-  cport_of,
-  free_cport,
-  free_device,
-  in_state,
-  interface_of,
-  link_at,
-  with_interface,
-  with_link,
-  with_new_interface,
-}
-use Rattle.gb_machine.specs.HostTurns.{
-  connects,
-  connects_on,
-  disconnects,
-  ended_for,
-  host_turn,
-  links_left,
-  links_of,
-}
-use Rattle.gb_machine.specs.Members.{Each, IsIn}
-use Rattle.gb_machine.specs.Runs.{Moment}
+use Rattle.gb_machine.specs.Failures.{interface_fails, link_fails, link_told, step_fails, told_of}
+use Rattle.gb_machine.specs.Failures.{unsent, unsent_fails}
+use Rattle.gb_machine.specs.Host.{Host, cport_of, free_cport, free_device, in_state, interface_of}
+use Rattle.gb_machine.specs.Host.{link_at, with_interface, with_link, with_new_interface}
+use Rattle.gb_machine.specs.HostTurns.{connects, connects_on, disconnects, ended_for, host_turn}
+use Rattle.gb_machine.specs.HostTurns.{links_left, links_of}
 use Rattle.gb_machine.specs.SequenceSteps.{at_step, is_reply, purpose}
-use Rattle.gb_machine.specs.Sequences.{
-  asked_on,
-  begins_control,
-  begins_device,
-  goes_on,
-  link_left,
-  link_turn,
-  manifest_checked,
-  manifest_told,
-  opened,
-  opened_told,
-  payload_in,
-  size_known,
-  step_answered,
-  step_asked,
-  step_done,
-  way_of,
-}
+use Rattle.gb_machine.specs.Sequences.{asked_on, begins_control, begins_device, goes_on, link_left}
+use Rattle.gb_machine.specs.Sequences.{link_turn, manifest_checked, manifest_told, opened}
+use Rattle.gb_machine.specs.Sequences.{opened_told, payload_in, size_known, step_answered}
+use Rattle.gb_machine.specs.Sequences.{step_asked, step_done, way_of}
 use Rattle.gb_machine.specs.Turns.{Act, HostEvent, Turn, failed_turn}
-use Rattle.gb_machine.specs.Waits.{awaited, awaits_nothing}
+use Rattle.gb_machine.specs.{Members.Each, Members.IsIn, Runs.Moment, Waits.awaited}
+use Rattle.gb_machine.specs.{Waits.awaits_nothing}
+use Rattle.gb_invariants.proofs.Lists.{each-append}
+use Rattle.gb_laws.proofs.PointParts.{AreQuiet, IsCaused, IsShutFor, disconnected, is_quiet}
+use Rattle.gb_laws.proofs.PointParts.{removed}
 
 -- ---- the acts of a turn
 
 -- What an act may be at a moment: what it tells is quiet, and what it closes has a cause.
 abbrev pub IsFit : Moment → Act → Type 0
-IsFit m (Act.Ask q) = Unit {0}
-IsFit m (Act.Open w q) = Unit {0}
 IsFit m (Act.Shut k) = IsShutFor m k
-IsFit m (Act.Leave k) = Unit {0}
 IsFit m (Act.Tell e) = is_quiet e ≡ true
+IsFit m _ = Unit {0}
 
 abbrev pub AreFit : Moment → Turn → Type 0
 AreFit m t = Each (IsFit m) t.acts
@@ -275,10 +205,8 @@ fit-turn m (HostEvent.Inserted i) h cause =
     (refl, fit-asked m (purpose i 0 steps.EnableVsys) (with_new_interface i h))
 fit-turn m (HostEvent.Removed i) h cause =
     each-append (IsFit m) (links_left (links_of i h))
-    (Act.Tell (entry.Interface i stage.Removed) ∷ [])
-    (fit-removed m i (links_of i h)
-    (λ l j. removed i l cause.1 (subst (λ k. IsIn l (links_of i k)) cause.0 j) refl))
-    (refl, tt)
+    (Act.Tell (entry.Interface i stage.Removed) ∷ []) (fit-removed m i (links_of i h)
+    (λ l j. removed i l cause.1 (subst (λ k. IsIn l (links_of i k)) cause.0 j) refl)) (refl, tt)
 fit-turn m (HostEvent.Connect i c) h cause =
     fit-connects m (option_and_then (cport_of c) (interface_of i h))
     (purpose i c steps.CreateConnection) h

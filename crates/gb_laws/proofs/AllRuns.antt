@@ -1,26 +1,13 @@
 -- From runs of moments to all runs: a settle is its deliveries.
-use Rattle.std.proofs.Common.{◌≡◌, List, [], ◌∷◌, ◌++◌, ap, ◌∙◌, subst, append-nil}
+use Rattle.std.proofs.Common.{List, ap, append-nil, subst, [], ◌++◌, ◌∙◌, ◌∷◌, ◌≡◌}
 use Rattle.gb_base.specs.declared.entry.Entry.{Entry}
 use Rattle.gb_base.specs.declared.event.Event.{Event}
+use Rattle.gb_machine.specs.Runs.{AreMoments, HoldsAtEachMoment, HoldsThroughout, IsMoment, Moment}
+use Rattle.gb_machine.specs.Runs.{happenings, moments_from, state_by, told_by, unsettled}
+use Rattle.gb_machine.specs.{Events.step, Members.Each, State.State, State.first_state}
 use Rattle.gb_invariants.proofs.Lists.{each-append}
-use Rattle.gb_laws.proofs.Runs.{HoldsAtMoments, HoldsByMoments}
-use Rattle.gb_laws.proofs.Settles.{last-append, told-append}
-use Rattle.gb_laws.proofs.Settling.{settles-are_deliveries}
-use Rattle.gb_machine.specs.Events.{step}
-use Rattle.gb_machine.specs.Members.{Each}
-use Rattle.gb_machine.specs.Runs.{
-  AreMoments,
-  HoldsAtEachMoment,
-  HoldsThroughout,
-  IsMoment,
-  Moment,
-  happenings,
-  moments_from,
-  state_by,
-  told_by,
-  unsettled,
-}
-use Rattle.gb_machine.specs.State.{State, first_state}
+use Rattle.gb_laws.proofs.{Runs.HoldsAtMoments, Runs.HoldsByMoments, Settles.last-append}
+use Rattle.gb_laws.proofs.{Settles.told-append, Settling.settles-are_deliveries}
 
 -- A fact says the same of what was told and of what happened in it.
 pub record SeesHappenings (Fact : List Entry → State → Type 0) : Type 0 where
@@ -33,10 +20,17 @@ pub of-all : (Fact : List Entry → State → Type 0) → SeesHappenings Fact
 of-all Fact sees holds es valid =
     let d = settles-are_deliveries es valid in
     let apart = unsettled first_state es in
-    sees.back (told_by es) (state_by es)
-    (subst (λ told. Fact told (state_by es)) d.told
+    sees.back (told_by es) (state_by es) (subst (λ told. Fact told (state_by es)) d.told
     (subst (Fact (happenings (told_by apart))) d.state
     (sees.there (told_by apart) (state_by apart) (holds apart d.moments))))
+
+-- A fact for which it doesn't matter what was told is such a fact.
+pub of-untold : (Fact : List Entry → State → Type 0)
+    → ((told more : List Entry) (s : State) → Fact told s → Fact more s) → SeesHappenings Fact
+of-untold Fact same = record {
+  there = λ told s h. same told (happenings told) s h;
+  back = λ told s h. same (happenings told) told s h;
+}
 
 -- A fact of the state alone is such a fact.
 pub of-state : (Fact : State → Type 0) → SeesHappenings (λ told s. Fact s)
@@ -58,10 +52,8 @@ each-moment Law holds before [] done are = tt
 each-moment Law holds before (e ∷ es) done are = (
   holds before e done are.0,
   subst (λ told. Each Law (moments_from told (step (state_by before) e).state es))
-      (told-one before e)
-      (subst (λ s. Each Law (moments_from (told_by (before ++ e ∷ [])) s es))
-      (last-append before (e ∷ []) first_state)
-      (each-moment Law holds (before ++ e ∷ []) es
+      (told-one before e) (subst (λ s. Each Law (moments_from (told_by (before ++ e ∷ [])) s es))
+      (last-append before (e ∷ []) first_state) (each-moment Law holds (before ++ e ∷ []) es
       (each-append IsMoment before (e ∷ []) done (are.0, tt)) are.1)),
 )
 

@@ -1,26 +1,6 @@
 -- A request is answered by what its own responder replied.
-use Rattle.std.proofs.Common.{
-  ◌≡◌,
-  ℕ,
-  Bool,
-  true,
-  false,
-  cond,
-  Some,
-  None,
-  List,
-  [],
-  ◌∷◌,
-  ◌++◌,
-  map,
-  refl,
-  sym,
-  ap,
-  ◌∙◌,
-  subst,
-  append-nil,
-  append_assoc,
-}
+use Rattle.std.proofs.Common.{Bool, List, Some, ap, append-nil, append_assoc, cond, false, map}
+use Rattle.std.proofs.Common.{refl, subst, sym, true, ℕ, [], ◌++◌, ◌∙◌, ◌∷◌, ◌≡◌}
 use Rattle.std.specs.Prelude.{◌==◌}
 use Rattle.gb_base.specs.declared.bridge.Reading.TheVariants as reading
 use Rattle.gb_base.specs.declared.end.End.TheVariants as end
@@ -30,97 +10,26 @@ use Rattle.gb_base.specs.declared.entry.Entry.TheVariants as entry
 use Rattle.gb_base.specs.declared.outcome.Outcome.{Outcome}
 use Rattle.gb_base.specs.declared.outcome.Outcome.TheVariants as outcome
 use Rattle.gb_formats.specs.Message.{message_size, response, spelling}
-use Rattle.gb_invariants.proofs.Awaiting.{is_of-is, not-both, same-some, sent-request}
-use Rattle.gb_invariants.proofs.Drawing.{open_with-in_use}
-use Rattle.gb_invariants.proofs.Lists.{each-append, each-in, each-weaker}
-use Rattle.gb_invariants.proofs.Numbers.{found-by_number}
-use Rattle.gb_invariants.proofs.Outcomes.{both-true}
-use Rattle.gb_laws.proofs.Awaited.{awaited-rest}
-use Rattle.gb_laws.proofs.Basics.{basis-kept}
-use Rattle.gb_laws.proofs.Foreign.{OwnAt, own-throughout}
-use Rattle.gb_laws.proofs.Loosening.{held-at, map-held-in}
-use Rattle.gb_invariants.proofs.ItemChanges.{first-in}
-use Rattle.gb_laws.proofs.Owning.{KeepsRequests}
-use Rattle.gb_laws.proofs.Places.{module-far, place-is}
-use Rattle.gb_laws.proofs.Points.{
-  Answers,
-  Change,
-  Law,
-  Says,
-  acts_asked,
-  acts_failed,
-  acts_opened,
-  acts_shut,
-  acts_told,
-  answers,
-  asks,
-  binds,
-  by_label,
-  by_number,
-  changed,
-  drops,
-  forgets,
-  frees,
-  gives_up,
-  holds,
-  injects,
-  names,
-  numbered,
-  replies,
-  takes,
-  takes_held,
-  tells,
-  unclean,
-  unwires,
-}
-use Rattle.gb_laws.proofs.PointParts.{
-  IsGivenUpFor,
-  AreQuiet,
-  Basis,
-  Hand,
-  Point,
-  asked_told,
-  is_quiet,
-  loose_held,
-  sent_told,
-}
-use Rattle.gb_laws.proofs.Runs.{HoldsAtMoments, at_each}
-use Rattle.gb_laws.proofs.Steps.{over-step}
-use Rattle.gb_laws.proofs.Silent.{silent-quiet}
-use Rattle.gb_machine.specs.Bus.{
-  Bus,
-  Connection,
-  Reply,
-  Request,
-  connection_of,
-  end_of,
-  next_number,
-  other_side,
-  queue,
-  request_of,
-}
-use Rattle.gb_machine.specs.LawsEnds.{HadItsReply, WasReplied}
-use Rattle.gb_machine.specs.LawsHotPlug.{IsOwnItem}
-use Rattle.gb_machine.specs.Members.{Each, IsIn}
-use Rattle.gb_machine.specs.Requests.{is_of, open_on}
+use Rattle.gb_machine.specs.Bus.{Bus, Connection, Reply, Request, connection_of, end_of}
+use Rattle.gb_machine.specs.Bus.{next_number, other_side, queue, request_of}
 use Rattle.gb_machine.specs.Runs.{IsMoment, Moment, after, told_at}
-use Rattle.gb_machine.specs.Sending.{Draft}
-use Rattle.gb_machine.specs.State.{State}
-use Rattle.gb_machine.specs.Wires.{disconnected_told}
-
--- requests stay, whatever changes
-pub keeps-requests : (m : Moment) (a : Point) (x : Change m a)
-    → KeepsRequests a.state.bus (changed m a x).state.bus
-keeps-requests m a (asks d c label free live drawn who) n r made =
-    sent-request d label a.state.bus n r made
-keeps-requests m a (names name d c label free live drawn host) n r made =
-    sent-request d label a.state.bus n r made
-keeps-requests m a (acts_asked q k rest is) n r made =
-    ap (request_of n) (awaited-rest q.purpose k a.state).bus ∙ made
-keeps-requests m a (tells e quiet) n r made = made
-keeps-requests m a (binds x y k is) n r made = made
-keeps-requests m a (frees name) n r made = made
-keeps-requests m a _ n r made = made
+use Rattle.gb_machine.specs.{LawsEnds.HadItsReply, LawsEnds.WasReplied, LawsHotPlug.IsOwnItem}
+use Rattle.gb_machine.specs.{Members.Each, Members.IsIn, Requests.is_of, Requests.open_on}
+use Rattle.gb_machine.specs.{Sending.Draft, State.State, Wires.disconnected_told}
+use Rattle.gb_invariants.proofs.Awaiting.{is_of-is, none-some, not-both, same-some}
+use Rattle.gb_invariants.proofs.Lists.{each-append, each-in, each-weaker}
+use Rattle.gb_invariants.proofs.{BusChanges.KeepsRequests, Drawing.open_with-in_use}
+use Rattle.gb_invariants.proofs.{ItemChanges.first-in, Numbers.found-by_number, Outcomes.both-true}
+use Rattle.gb_laws.proofs.PointParts.{AreQuiet, Hand, IsGivenUpFor, Point, asked_told, is_quiet}
+use Rattle.gb_laws.proofs.PointParts.{loose_held, sent_told}
+use Rattle.gb_laws.proofs.Points.{Answers, Change, Law, Says, acts_failed, acts_opened, acts_shut}
+use Rattle.gb_laws.proofs.Points.{acts_told, answers, asks, by_label, by_number, changed, drops}
+use Rattle.gb_laws.proofs.Points.{forgets, gives_up, holds, injects, names, numbered, replies}
+use Rattle.gb_laws.proofs.Points.{takes, takes_held, tells, unclean, unwires, upon}
+use Rattle.gb_laws.proofs.{Basics.basis, ChangeBuses.keeps-requests, Foreign.OwnAt}
+use Rattle.gb_laws.proofs.{Foreign.own-throughout, Loosening.held-at, Loosening.map-held-in}
+use Rattle.gb_laws.proofs.{Places.module-far, Places.place-is, Runs.HoldsAtMoments, Runs.at_each}
+use Rattle.gb_laws.proofs.{Silent.silent-quiet, Steps.over-step}
 
 -- A request that ends as answered does so on its live connection, and where that is clean its reply
 -- was told before.
@@ -179,12 +88,11 @@ record IsSoFar (m : Moment) (a : Point) : Type 0 where
   grown : KeepsRequests m.before.bus a.state.bus
 
 -- more is told, and it is fine
-so-far : (m : Moment) (a : Point) (x : Change m a) (es : List Entry)
-    → (changed m a x).told ≡ a.told ++ es
-    → Each (IsFine m (changed m a x).state.bus) es
+so-far : {m : Moment} {a : Point} (x : Change m a) (es : List Entry)
+    → (changed m a x).told ≡ a.told ++ es → Each (IsFine m (changed m a x).state.bus) es
     → ((y : Hand) → (changed m a x).hand ≡ Some y → IsFresh m y)
     → IsSoFar m a → IsSoFar m (changed m a x)
-so-far m a x es told fine hand h = record {
+so-far {m} {a} x es told fine hand h = record {
   new = h.new ++ es;
   told = told ∙ ap (λ l. l ++ es) h.told ∙ append_assoc m.told h.new es;
   fine = each-append (IsFine m (changed m a x).state.bus) h.new es
@@ -195,16 +103,13 @@ so-far m a x es told fine hand h = record {
   grown = λ n r made. keeps-requests m a x n r (h.grown n r made);
 }
 
-none-some : (y : Hand) → None ≡ Some y → ⊥
-none-some y e = absurd cc
-
 -- an answer is its responder's
-answered-fine : (m : Moment) (b after : Bus) (x : Hand) (n result : ℕ) (payload : List ℕ)
+answered-fine : (m : Moment) {b : Bus} (after : Bus) (x : Hand) (n result : ℕ) (payload : List ℕ)
     → IsFresh m x → KeepsRequests m.before.bus after
     → ((k : ℕ) (r : Request) → request_of k b ≡ Some r → request_of k after ≡ Some r)
     → Says x n result payload → Answers x n b
     → WasAnswered m after n result (cond (result == 0) payload [])
-answered-fine m b after x n result payload fresh grown keeps says (by_label label dirty is) =
+answered-fine m {b} after x n result payload fresh grown keeps says (by_label label dirty is) =
     let o = open_with-in_use x.connection.number x.side label b n is in
     let p = both-true (is_of x.connection.number x.side o.0) (o.0.label == label) o.2 in
     let q = is_of-is x.connection.number x.side o.0 p.0 in record {
@@ -214,10 +119,10 @@ answered-fine m b after x n result payload fresh grown keeps says (by_label labe
       live = ap (λ k. connection_of k m.before.bus) q.0 ∙ fresh.live;
       replied = λ clean. absurd (not-both x.connection.clean clean dirty);
     }
-answered-fine m b after x n result payload fresh grown keeps (unclean dirty)
+answered-fine m after x n result payload fresh grown keeps (unclean dirty)
     (by_number r p is clean open_) =
     absurd (not-both x.connection.clean clean dirty)
-answered-fine m b after x n result payload fresh grown keeps (numbered says)
+answered-fine m after x n result payload fresh grown keeps (numbered says)
     (by_number r p is clean open_) =
     by (subst (λ i. IsOwnItem m.told m.before.bus x.connection x.side i) says fresh.own)
   where
@@ -248,24 +153,21 @@ sent-fine m b d c label old = (tt, by d.oneway)
 
 given_up-fine : (m : Moment) (s : State) (b : Bus) (n : ℕ) (how : Outcome) → IsGivenUpFor m s how n
     → IsFine m b (entry.Ended n how reading.Nothing)
-given_up-fine m s b n outcome.Cancelled cause = tt
-given_up-fine m s b n outcome.Timeout cause = tt
-given_up-fine m s b n outcome.Disconnected cause = tt
-given_up-fine m s b n outcome.Sent cause = tt
 given_up-fine m s b n (outcome.Answered result payload) cause = absurd cause
+given_up-fine m s b n _ cause = tt
 
 so-far-kept : (m : Moment) (start : OwnAt m.told m.before) (a : Point) (x : Change m a)
     → IsSoFar m a → IsSoFar m (changed m a x)
-so-far-kept m start a (tells e quiet) h = so-far m a (tells e quiet) (e ∷ []) refl
+so-far-kept m start a (tells e quiet) h = so-far (tells e quiet) (e ∷ []) refl
     (quiet-fine m a.state.bus e (silent-quiet e quiet), tt) h.hand h
 so-far-kept m start a (asks d c label free live drawn who) h =
-    so-far m a (asks d c label free live drawn who) (asked_told d c label a.state.bus) refl
+    so-far (asks d c label free live drawn who) (asked_told d c label a.state.bus) refl
     (sent-fine m _ d c label a.state.bus) h.hand h
 so-far-kept m start a (names name d c label free live drawn host) h =
-    so-far m a (names name d c label free live drawn host) (asked_told d c label a.state.bus) refl
+    so-far (names name d c label free live drawn host) (asked_told d c label a.state.bus) refl
     (sent-fine m _ d c label a.state.bus) h.hand h
 so-far-kept m start a (takes at p item free is event_is named front) h =
-    so-far m a (takes at p item free is event_is named front) [] refl tt
+    so-far (takes at p item free is event_is named front) [] refl tt
     (λ y e. subst (IsFresh m) (same-some
     (record { connection = p.connection; side = p.side; item = item }) y e) fresh) h
   where
@@ -277,7 +179,7 @@ so-far-kept m start a (takes at p item free is event_is named front) h =
           (first-in (queue p.side p.connection) item front);
     }
 so-far-kept m start a (takes_held i c place p x free is event_is at held) h =
-    so-far m a (takes_held i c place p x free is event_is at held) [] refl tt
+    so-far (takes_held i c place p x free is event_is at held) [] refl tt
     (λ y e. subst (IsFresh m) (same-some
     (record { connection = p.connection; side = p.side; item = x.item }) y e) fresh) h
   where
@@ -293,49 +195,42 @@ so-far-kept m start a (takes_held i c place p x free is event_is at held) h =
               (sym on.1));
         }
 so-far-kept m start a drops h =
-    so-far m a drops [] (sym (append-nil a.told)) tt (λ y e. absurd (none-some y e)) h
+    so-far drops [] (sym (append-nil a.told)) tt (λ y e. absurd (none-some e)) h
 so-far-kept m start a (holds x is far) h =
-    so-far m a (holds x is far) [] refl tt (λ y e. absurd (none-some y e)) h
+    so-far (holds x is far) [] refl tt (λ y e. absurd (none-some e)) h
 so-far-kept m start a (replies x q r is made twoway) h =
-    so-far m a (replies x q r is made twoway) (_ ∷ []) refl (tt, tt) (λ y e. absurd (none-some y e))
-    h
+    so-far (replies x q r is made twoway) (_ ∷ []) refl (tt, tt) (λ y e. absurd (none-some e)) h
 so-far-kept m start a (answers x n result payload is says which) h =
-    so-far m a (answers x n result payload is says which) (_ ∷ []) refl (
-      answered-fine m a.state.bus _ x n result payload (h.hand x is) h.grown (λ k r made. made) says
-          which,
+    so-far (answers x n result payload is says which) (_ ∷ []) refl (
+      answered-fine m _ x n result payload (h.hand x is) h.grown (λ k r made. made) says which,
       tt,
-    ) (λ y e. absurd (none-some y e)) h
+    ) (λ y e. absurd (none-some e)) h
 so-far-kept m start a (forgets x n is which) h =
-    so-far m a (forgets x n is which) [] refl tt (λ y e. absurd (none-some y e)) h
+    so-far (forgets x n is which) [] refl tt (λ y e. absurd (none-some e)) h
 so-far-kept m start a (gives_up n how free open_ cause) h =
-    so-far m a (gives_up n how free open_ cause) (_ ∷ []) refl
+    so-far (gives_up n how free open_ cause) (_ ∷ []) refl
     (given_up-fine m a.state _ n how cause, tt) h.hand h
 so-far-kept m start a (unwires k free before live) h =
-    so-far m a (unwires k free before live) _ refl (ended-fine m _ (open_on k side.Far a.state.bus))
+    so-far (unwires k free before live) _ refl (ended-fine m _ (open_on k side.Far a.state.bus))
     h.hand h
 so-far-kept m start a (injects i c p bytes free named) h =
-    so-far m a (injects i c p bytes free named) (_ ∷ []) refl (tt, tt) h.hand h
+    so-far (injects i c p bytes free named) (_ ∷ []) refl (tt, tt) h.hand h
 so-far-kept m start a (acts_told e rest is quiet) h =
-    so-far m a (acts_told e rest is quiet) (e ∷ []) refl (quiet-fine m a.state.bus e quiet, tt)
-    h.hand h
+    so-far (acts_told e rest is quiet) (e ∷ []) refl (quiet-fine m a.state.bus e quiet, tt) h.hand h
 so-far-kept m start a (acts_shut k rest free is cause) h =
-    so-far m a (acts_shut k rest free is cause) _ refl
+    so-far (acts_shut k rest free is cause) _ refl
     (ended-fine m _ (open_on k side.Ap a.state.bus)) h.hand h
 so-far-kept m start a (acts_opened w q rest free is) h =
-    so-far m a (acts_opened w q rest free is) (_ ∷ []) refl (tt, tt) h.hand h
+    so-far (acts_opened w q rest free is) (_ ∷ []) refl (tt, tt) h.hand h
 so-far-kept m start a (acts_failed q rest is quiet) h =
-    so-far m a (acts_failed q rest is quiet) _ refl (quiet-all-fine m _ _ quiet) h.hand h
+    so-far (acts_failed q rest is quiet) _ refl (quiet-all-fine m _ _ quiet) h.hand h
 so-far-kept m start a x h =
-    so-far m a x [] refl tt h.hand h
+    so-far x [] refl tt h.hand h
 
 -- ---- the law
 
 abbrev answered_law : (m : Moment) → OwnAt m.told m.before → Law m
-answered_law m start = record {
-  holds = λ a. Basis a × IsSoFar m a;
-  basis = λ a h. h.0;
-  kept = λ a x h. (basis-kept m a x h.0, so-far-kept m start a x h.1);
-}
+answered_law m start = upon (basis m) (IsSoFar m) (λ a x g h. so-far-kept m start a x h)
 
 pub same-rest : (front xs ys : List Entry) → front ++ xs ≡ front ++ ys → xs ≡ ys
 same-rest [] xs ys e = e
@@ -352,7 +247,7 @@ had-reply m one start n result payload read r i made =
         new = [];
         told = sym (append-nil m.told);
         fine = tt;
-        hand = λ x e. absurd (none-some x e);
+        hand = λ x e. absurd (none-some e);
         grown = λ k q h. h;
       },
     ) in

@@ -1,120 +1,37 @@
 -- What a turn of the application processor asks the supervisory controller for an enumeration: its
 -- start, or the next step where the one that an interface waited for was answered. No interface
 -- waits for more than before.
-use Rattle.std.proofs.Common.{
-  ◌≡◌,
-  ℕ,
-  Bool,
-  true,
-  false,
-  cond,
-  Option,
-  Some,
-  None,
-  List,
-  [],
-  ◌∷◌,
-  ◌++◌,
-  length,
-  refl,
-  sym,
-  ap,
-  ◌∙◌,
-  inl,
-  inr,
-  ⊎_elim,
-}
-use Rattle.std.specs.Prelude.{◌==◌, option_and_then}
-use Rattle.gb_base.specs.declared.steps.Purpose.{Purpose}
-use Rattle.gb_base.specs.declared.steps.SequenceStep.{SequenceStep}
-use Rattle.gb_base.specs.declared.peers.Interface.{Interface}
-use Rattle.gb_base.specs.declared.peers.Link.{Link}
-use Rattle.gb_base.specs.declared.steps.SequenceStep.TheVariants as steps
+use Rattle.std.proofs.Common.{Bool, List, None, Option, Some, ap, cond, false, inl, inr, length}
+use Rattle.std.proofs.Common.{refl, sym, true, ℕ, ⊎_elim, [], ◌++◌, ◌∙◌, ◌∷◌, ◌≡◌}
+use Rattle.std.specs.Prelude.{option_and_then, ◌==◌}
 use Rattle.gb_base.specs.declared.entry.ConnState.TheVariants as state
 use Rattle.gb_base.specs.declared.entry.Entry.TheVariants as entry
 use Rattle.gb_base.specs.declared.entry.IntfStage.TheVariants as stage
 use Rattle.gb_base.specs.declared.outcome.Outcome.{Outcome}
 use Rattle.gb_base.specs.declared.outcome.Outcome.TheVariants as outcome
-use Rattle.gb_formats.specs.ControlRecords.{read_control_reply}
-use Rattle.gb_formats.specs.Manifest.{CportView, check_answer}
-use Rattle.gb_invariants.proofs.Lists.{in-without}
-use Rattle.gb_laws.proofs.LinkLists.{in-ordered}
-use Rattle.gb_machine.specs.Failures.{
-  interface_fails,
-  step_fails,
-  unsent,
-  unsent_fails,
-  without_device,
-}
-use Rattle.gb_machine.specs.Host.{
-  Host,
-  cport_of,
-  free_cport,
-  free_device,
-  in_state,
-  interface_of,
-  intf_before,
-  is_intf,
-  link_at,
-  new_interface,
-  with_interface,
-  with_link,
-  with_new_interface,
-  without_link,
-}
-use Rattle.gb_machine.specs.HostTurns.{
-  connects,
-  connects_on,
-  disconnects,
-  ended_for,
-  host_turn,
-  links_left,
-  links_of,
-}
+use Rattle.gb_base.specs.declared.peers.{Interface.Interface, Link.Link}
+use Rattle.gb_base.specs.declared.steps.{Purpose.Purpose, SequenceStep.SequenceStep}
+use Rattle.gb_base.specs.declared.steps.SequenceStep.TheVariants as steps
+use Rattle.gb_formats.specs.{ControlRecords.read_control_reply, Manifest.CportView}
+use Rattle.gb_formats.specs.{Manifest.check_answer}
+use Rattle.gb_machine.specs.Failures.{interface_fails, step_fails, unsent, unsent_fails}
+use Rattle.gb_machine.specs.Failures.{without_device}
+use Rattle.gb_machine.specs.Host.{Host, cport_of, free_cport, free_device, interface_of}
+use Rattle.gb_machine.specs.Host.{intf_before, is_intf, link_at, new_interface, with_interface}
+use Rattle.gb_machine.specs.Host.{with_new_interface, without_link}
+use Rattle.gb_machine.specs.HostTurns.{connects, connects_on, disconnects, ended_for, host_turn}
+use Rattle.gb_machine.specs.HostTurns.{links_left, links_of}
 use Rattle.gb_machine.specs.SequenceSteps.{at_step, is_reply, purpose}
-use Rattle.gb_machine.specs.Sequences.{
-  begins_control,
-  begins_device,
-  goes_on,
-  manifest_checked,
-  opened,
-  payload_in,
-  size_in,
-  size_known,
-  step_answered,
-  step_asked,
-  step_done,
-}
+use Rattle.gb_machine.specs.Sequences.{begins_control, begins_device, manifest_checked, opened}
+use Rattle.gb_machine.specs.Sequences.{payload_in, size_in, size_known, step_answered, step_done}
 use Rattle.gb_machine.specs.Turns.{Act, Asking, HostEvent, failed_turn}
-use Rattle.gb_machine.specs.Waits.{awaits_nothing}
-use Rattle.gb_laws.proofs.AskedWaits.{
-  AsksIn,
-  WaitsFewer,
-  asks-tell,
-  asks_in,
-  is_power_step,
-  no-asks,
-  opens_in,
-  same-waits,
-  then-waits,
-  waits-interface,
-  waits-purpose,
-}
-use Rattle.gb_laws.proofs.AskedSteps.{
-  TurnAsks,
-  asks-asked,
-  asks-checked,
-  asks-failed,
-  asks-fails,
-  asks-left,
-  asks-link,
-  asks-opened,
-  asks-stage,
-  asks-telling,
-  asks-through,
-  asks-told,
-  waits-stage,
-}
+use Rattle.gb_invariants.proofs.{Awaiting.none-some, Found.in-ordered, Lists.in-without}
+use Rattle.gb_laws.proofs.AskedSteps.{TurnAsks, asks-asked, asks-checked, asks-failed, asks-fails}
+use Rattle.gb_laws.proofs.AskedSteps.{asks-left, asks-link, asks-opened, asks-stage, asks-telling}
+use Rattle.gb_laws.proofs.AskedSteps.{asks-through, asks-told, waits-stage}
+use Rattle.gb_laws.proofs.AskedWaits.{AsksIn, WaitsFewer, asks-tell, asks_in, is_power_step}
+use Rattle.gb_laws.proofs.AskedWaits.{no-asks, opens_in, same-waits, then-waits, waits-interface}
+use Rattle.gb_laws.proofs.AskedWaits.{waits-purpose}
 
 module _ (i : ℕ) (Calm : Type 0) where
   -- what follows a step that was answered, where `Calm` holds if it was a step of interface i that
@@ -123,45 +40,37 @@ module _ (i : ℕ) (Calm : Type 0) where
       → (p.intf ≡ i → is_power_step step ≡ true → Calm)
       → TurnAsks i Calm h (step_done step p payload h)
   asks-done steps.EnableVsys p payload h calm =
-      asks-asked i Calm (at_step steps.EnableRefclk p) h (λ e f. inr (calm e refl))
+      asks-asked i Calm (at_step steps.EnableRefclk p) (λ e f. inr (calm e refl))
   asks-done steps.EnableRefclk p payload h calm =
-      asks-asked i Calm (at_step steps.EnableUnipro p) h (λ e f. inr (calm e refl))
+      asks-asked i Calm (at_step steps.EnableUnipro p) (λ e f. inr (calm e refl))
   asks-done steps.EnableUnipro p payload h calm =
-      asks-asked i Calm (at_step steps.Activate p) h (λ e f. inr (calm e refl))
+      asks-asked i Calm (at_step steps.Activate p) (λ e f. inr (calm e refl))
   asks-done steps.Activate p payload h calm = by (free_device h)
     where
-      by : (o : Option ℕ)
-          → TurnAsks i Calm h (begins_device o (at_step steps.GiveDevice p) h)
+      by : (o : Option ℕ) → TurnAsks i Calm h (begins_device o (at_step steps.GiveDevice p) h)
       by None = asks-stage i Calm (at_step steps.GiveDevice p) h
       by (Some d) =
-          asks-through i Calm h (with_interface p.intf (λ x. record x { device = Some d }) h) _
+          asks-through i Calm
           (waits-interface h p.intf (λ x. record x { device = Some d }) (λ x. refl) (λ x. refl))
-          (asks-asked i Calm (at_step steps.GiveDevice p)
-          (with_interface p.intf (λ x. record x { device = Some d }) h)
-          (λ e f. inr (calm e refl)))
+          (asks-asked i Calm (at_step steps.GiveDevice p) (λ e f. inr (calm e refl)))
   asks-done steps.GiveDevice p payload h calm =
-      asks-through i Calm h (with_interface p.intf (λ x. record x { has_device = true }) h) _
+      asks-through i Calm
       (waits-interface h p.intf (λ x. record x { has_device = true }) (λ x. refl) (λ x. refl))
-      (asks-asked i Calm (at_step steps.CreateRoute p)
-      (with_interface p.intf (λ x. record x { has_device = true }) h) (λ e f. inr (calm e refl)))
+      (asks-asked i Calm (at_step steps.CreateRoute p) (λ e f. inr (calm e refl)))
   asks-done steps.CreateRoute p payload h calm = by (free_cport h)
     where
-      by : (o : Option ℕ)
-          → TurnAsks i Calm h (begins_control o (at_step steps.CreateControl p) h)
+      by : (o : Option ℕ) → TurnAsks i Calm h (begins_control o (at_step steps.CreateControl p) h)
       by None = asks-stage i Calm (at_step steps.CreateControl p) h
       by (Some a) = asks-opened i Calm _ _ h (λ e f. inr (calm e refl))
   asks-done steps.CreateControl p payload h calm =
-      asks-told i Calm (link_at p.intf p.cport h) h (goes_on steps.AskVersion p (opened p h))
-      (asks-through i Calm h (opened p h) _ (same-waits h)
-      (asks-asked i Calm (at_step steps.AskVersion p) (opened p h) (λ e f. absurd cc)))
+      asks-told i Calm (link_at p.intf p.cport h) h (asks-through i Calm (same-waits h)
+      (asks-asked i Calm (at_step steps.AskVersion p) (λ e f. absurd cc)))
   asks-done steps.AskVersion p payload h calm =
-      asks-asked i Calm (at_step steps.AskSize p) h (λ e f. absurd cc)
+      asks-asked i Calm (at_step steps.AskSize p) (λ e f. absurd cc)
   asks-done steps.AskSize p payload h calm =
       let f = λ (x : Interface). record x { size = size_in (read_control_reply 0x03 payload) } in
-      asks-through i Calm h (with_interface p.intf f h) _
-      (waits-interface h p.intf f (λ x. refl) (λ x. refl))
-      (asks-asked i Calm (at_step steps.AskManifest p) (with_interface p.intf f h)
-      (λ e f. absurd cc))
+      asks-through i Calm (waits-interface h p.intf f (λ x. refl) (λ x. refl))
+      (asks-asked i Calm (at_step steps.AskManifest p) (λ e f. absurd cc))
   asks-done steps.AskManifest p payload h calm =
       by (length payload == size_known (interface_of p.intf h))
     where
@@ -170,21 +79,21 @@ module _ (i : ℕ) (Calm : Type 0) where
       by true = asks-checked i Calm (check_answer payload) p payload h
       by false = asks-stage i Calm p h
   asks-done steps.CreateConnection p payload h calm =
-      asks-asked i Calm (at_step steps.TellConnected p) h (λ e f. absurd cc)
+      asks-asked i Calm (at_step steps.TellConnected p) (λ e f. absurd cc)
   asks-done steps.TellConnected p payload h calm =
       asks-link i Calm state.Open (link_at p.intf p.cport h) h (opened p h) (same-waits h)
   asks-done steps.TellDisconnecting p payload h calm =
-      asks-asked i Calm (at_step steps.TellDisconnected p) h (λ e f. absurd cc)
+      asks-asked i Calm (at_step steps.TellDisconnected p) (λ e f. absurd cc)
   asks-done steps.TellDisconnected p payload h calm =
-      asks-asked i Calm (at_step steps.DestroyConnection p) h (λ e f. absurd cc)
+      asks-asked i Calm (at_step steps.DestroyConnection p) (λ e f. absurd cc)
   asks-done steps.DestroyConnection p payload h calm =
       asks-left i Calm (link_at p.intf p.cport h) h (without_link p.intf p.cport h) (same-waits h)
 
-  asks-answered : (o : Option (List ℕ)) (p : Purpose) (h : Host)
+  asks-answered : (o : Option (List ℕ)) (p : Purpose) {h : Host}
       → ((payload : List ℕ) → o ≡ Some payload → p.intf ≡ i → is_power_step p.step ≡ true → Calm)
       → TurnAsks i Calm h (step_answered o p h)
-  asks-answered None p h calm = asks-fails i Calm p.step p h
-  asks-answered (Some payload) p h calm = by (is_reply p.step payload)
+  asks-answered None p {h} calm = asks-fails i Calm p.step p h
+  asks-answered (Some payload) p {h} calm = by (is_reply p.step payload)
     where
       by : (t : Bool) → TurnAsks i Calm h (cond t (step_done p.step p payload h)
           (failed_turn (step_fails p.step p h)))
@@ -196,10 +105,9 @@ module _ (i : ℕ) (Calm : Type 0) where
       → ((p : Purpose) → o ≡ Some p → (result : ℕ) (payload : List ℕ)
       → how ≡ outcome.Answered result payload → p.intf ≡ i → is_power_step p.step ≡ true → Calm)
       → TurnAsks i Calm h (ended_for o how h)
-  asks-ended None how h calm = asks-failed i Calm h h [] (same-waits h)
+  asks-ended None how h calm = asks-failed i Calm h [] (same-waits h)
   asks-ended (Some p) how h calm =
-      asks-through i Calm h (awaits_nothing p h) _ (waits-purpose p h)
-      (asks-answered (payload_in how) p (awaits_nothing p h)
+      asks-through i Calm (waits-purpose p h) (asks-answered (payload_in how) p
       (λ payload e. let a = answered how e in calm p refl a.0 a.1 a.2))
     where
       answered : (how : Outcome) {payload : List ℕ} → payload_in how ≡ Some payload
@@ -212,23 +120,23 @@ module _ (i : ℕ) (Calm : Type 0) where
 
   -- ---- what else is noticed
 
-  pub asks-none : (ls : List Link) (q : Asking) (rest : List Act) → (AsksIn q rest → ⊥)
+  pub asks-none : (ls : List Link) {q : Asking} (rest : List Act) → (AsksIn q rest → ⊥)
       → AsksIn q (links_left ls ++ rest) → ⊥
-  asks-none [] q rest none h = none h
-  asks-none (l ∷ ls) q rest none (asks_in (inl e)) = absurd cc
-  asks-none (l ∷ ls) q rest none (asks_in (inr (inl e))) = absurd cc
-  asks-none (l ∷ ls) q rest none (asks_in (inr (inr (inl e)))) = absurd cc
-  asks-none (l ∷ ls) q rest none (asks_in (inr (inr (inr j)))) =
-      asks-none ls q rest none (asks_in j)
-  asks-none (l ∷ ls) q rest none (opens_in w (inl e)) = absurd cc
-  asks-none (l ∷ ls) q rest none (opens_in w (inr (inl e))) = absurd cc
-  asks-none (l ∷ ls) q rest none (opens_in w (inr (inr (inl e)))) = absurd cc
-  asks-none (l ∷ ls) q rest none (opens_in w (inr (inr (inr j)))) =
-      asks-none ls q rest none (opens_in w j)
+  asks-none [] rest none h = none h
+  asks-none (l ∷ ls) rest none (asks_in (inl e)) = absurd cc
+  asks-none (l ∷ ls) rest none (asks_in (inr (inl e))) = absurd cc
+  asks-none (l ∷ ls) rest none (asks_in (inr (inr (inl e)))) = absurd cc
+  asks-none (l ∷ ls) rest none (asks_in (inr (inr (inr j)))) =
+      asks-none ls rest none (asks_in j)
+  asks-none (l ∷ ls) rest none (opens_in w (inl e)) = absurd cc
+  asks-none (l ∷ ls) rest none (opens_in w (inr (inl e))) = absurd cc
+  asks-none (l ∷ ls) rest none (opens_in w (inr (inr (inl e)))) = absurd cc
+  asks-none (l ∷ ls) rest none (opens_in w (inr (inr (inr j)))) =
+      asks-none ls rest none (opens_in w j)
 
   pub asks-removed : (j : ℕ) (h : Host) → TurnAsks i Calm h (host_turn (HostEvent.Removed j) h)
   asks-removed j h = record {
-    asks = λ q k. absurd (asks-none (links_of j h) q _ (λ m. no-asks q (asks-tell q _ [] m)) k);
+    asks = λ q k. absurd (asks-none (links_of j h) _ (λ m. no-asks (asks-tell _ m)) k);
     waits = λ x k w e. record {
       was = x;
       known = (in-without (is_intf j) h.interfaces x k).0;
@@ -239,33 +147,26 @@ module _ (i : ℕ) (Calm : Type 0) where
 
   pub asks-inserted : (j : ℕ) (h : Host) → TurnAsks i Calm h (host_turn (HostEvent.Inserted j) h)
   asks-inserted j h =
-      asks-telling i Calm h (entry.Interface j stage.Enumerating)
-      (step_asked (purpose j 0 steps.EnableVsys) (with_new_interface j h))
-      (asks-through i Calm h (with_new_interface j h) _ waits
-      (asks-asked i Calm (purpose j 0 steps.EnableVsys) (with_new_interface j h)
-      (λ e f. inl refl)))
+      asks-telling i Calm h (entry.Interface j stage.Enumerating) (asks-through i Calm waits
+      (asks-asked i Calm (purpose j 0 steps.EnableVsys) (λ e f. inl refl)))
     where
-      none : (w : ℕ × SequenceStep) → None ≡ Some w → ⊥
-      none w e = absurd cc
-
       waits : WaitsFewer h (with_new_interface j h)
       waits x k w e =
-          ⊎_elim (λ new. absurd (none w (sym (ap (λ (y : Interface). y.awaits) new) ∙ e)))
+          ⊎_elim (λ new. absurd (none-some (sym (ap (λ (y : Interface). y.awaits) new) ∙ e)))
           (λ o. record { was = x; known = o; intf = refl; awaits = refl })
           (in-ordered intf_before x (new_interface j) h.interfaces k)
 
-  pub asks-connects : (j c : ℕ) (h : Host)
-      → TurnAsks i Calm h (host_turn (HostEvent.Connect j c) h)
+  pub asks-connects : (j c : ℕ) (h : Host) → TurnAsks i Calm h (host_turn (HostEvent.Connect j c) h)
   asks-connects j c h = by (option_and_then (cport_of c) (interface_of j h))
     where
       on : (view : CportView) (o : Option ℕ) → TurnAsks i Calm h
           (connects_on o view.protocol (purpose j c steps.CreateConnection) h)
-      on view None = asks-failed i Calm h h [] (same-waits h)
+      on view None = asks-failed i Calm h [] (same-waits h)
       on view (Some a) = asks-opened i Calm _ _ h (λ e f. absurd cc)
 
       by : (o : Option CportView)
           → TurnAsks i Calm h (connects o (purpose j c steps.CreateConnection) h)
-      by None = asks-failed i Calm h h [] (same-waits h)
+      by None = asks-failed i Calm h [] (same-waits h)
       by (Some view) = on view (free_cport h)
 
   pub asks-disconnects : (j c : ℕ) (h : Host)
@@ -274,11 +175,11 @@ module _ (i : ℕ) (Calm : Type 0) where
     where
       by : (o : Option Link)
           → TurnAsks i Calm h (disconnects o (purpose j c steps.TellDisconnecting) h)
-      by None = asks-failed i Calm h h [] (same-waits h)
+      by None = asks-failed i Calm h [] (same-waits h)
       by (Some l) =
-          let r = asks-asked i Calm (purpose j c steps.TellDisconnecting)
-          (with_link j c (in_state state.Closing) h) (λ e f. absurd cc) in record {
-            asks = λ q k. r.asks q (asks-tell q _ _ (shut q k));
+          let r = asks-asked i Calm (purpose j c steps.TellDisconnecting) (λ e f. absurd cc) in
+          record {
+            asks = λ q k. r.asks q (asks-tell _ (shut q k));
             waits = r.waits;
           }
         where

@@ -1,60 +1,22 @@
 -- What a step of a sequence asks, and what interfaces wait for then.
-use Rattle.std.proofs.Common.{
-  ◌≡◌,
-  ◌⊎◌,
-  ℕ,
-  true,
-  Option,
-  Some,
-  None,
-  List,
-  [],
-  ◌∷◌,
-  map,
-  refl,
-  sym,
-  ap,
-  inl,
-  inr,
-  subst,
-}
-use Rattle.std.specs.Prelude.{Result, Ok, Err}
-use Rattle.gb_base.specs.declared.steps.Purpose.{Purpose}
-use Rattle.gb_base.specs.declared.steps.SequenceStep.{SequenceStep}
-use Rattle.gb_base.specs.declared.peers.Link.{Link}
-use Rattle.gb_base.specs.declared.steps.SequenceStep.TheVariants as steps
-use Rattle.gb_base.specs.declared.entry.ConnState.{ConnState}
+use Rattle.std.proofs.Common.{List, None, Option, Some, ap, inl, inr, map, refl, subst, sym, true}
+use Rattle.std.proofs.Common.{ℕ, [], ◌∷◌, ◌≡◌, ◌⊎◌}
+use Rattle.std.specs.Prelude.{Err, Ok, Result}
+use Rattle.gb_base.specs.declared.entry.{ConnState.ConnState, Entry.Entry}
 use Rattle.gb_base.specs.declared.entry.ConnState.TheVariants as state
-use Rattle.gb_base.specs.declared.entry.Entry.{Entry}
 use Rattle.gb_base.specs.declared.entry.Entry.TheVariants as entry
 use Rattle.gb_base.specs.declared.entry.IntfStage.TheVariants as stage
-use Rattle.gb_formats.specs.Manifest.{Manifest}
-use Rattle.gb_formats.specs.ManifestRules.{Refused}
+use Rattle.gb_base.specs.declared.peers.Link.{Link}
+use Rattle.gb_base.specs.declared.steps.{Purpose.Purpose, SequenceStep.SequenceStep}
+use Rattle.gb_base.specs.declared.steps.SequenceStep.TheVariants as steps
+use Rattle.gb_formats.specs.{Manifest.Manifest, ManifestRules.Refused}
 use Rattle.gb_machine.specs.Failures.{interface_fails, link_fails, link_told, step_fails}
-use Rattle.gb_machine.specs.Host.{Host, staged}
-use Rattle.gb_machine.specs.Sequences.{
-  asked_on,
-  enumerated,
-  link_left,
-  link_turn,
-  manifest_checked,
-  opened_told,
-  step_asked,
-  way_of,
-}
+use Rattle.gb_machine.specs.Sequences.{asked_on, enumerated, link_left, link_turn, manifest_checked}
+use Rattle.gb_machine.specs.Sequences.{opened_told, step_asked, way_of}
 use Rattle.gb_machine.specs.Turns.{Act, Asking, Making, Turn, failed_turn}
-use Rattle.gb_laws.proofs.AskedWaits.{
-  AsksIn,
-  WaitsFewer,
-  asks-tell,
-  asks_in,
-  is_power_step,
-  opens_in,
-  same-waits,
-  then-waits,
-  told-asks,
-  waits-interface,
-}
+use Rattle.gb_machine.specs.Host.{Host, staged}
+use Rattle.gb_laws.proofs.AskedWaits.{AsksIn, WaitsFewer, asks-tell, asks_in, is_power_step}
+use Rattle.gb_laws.proofs.AskedWaits.{opens_in, same-waits, then-waits, told-asks, waits-interface}
 
 -- ---- turns
 
@@ -62,30 +24,28 @@ use Rattle.gb_laws.proofs.AskedWaits.{
 -- of an enumeration alone, unless `Calm` holds.
 pub record TurnAsks (i : ℕ) (Calm : Type 0) (h : Host) (t : Turn) : Type 0 where
   pub asks : (q : Asking) → AsksIn q t.acts → q.purpose.intf ≡ i
-      → is_power_step q.purpose.step ≡ true
-      → (q.purpose.step ≡ steps.EnableVsys) ⊎ Calm
+      → is_power_step q.purpose.step ≡ true → (q.purpose.step ≡ steps.EnableVsys) ⊎ Calm
   pub waits : WaitsFewer h t.host
 
 -- a step may be asked
 abbrev MayAsk : ℕ → Type 0 → Purpose → Type 0
-MayAsk i Calm p = p.intf ≡ i → is_power_step p.step ≡ true
-    → (p.step ≡ steps.EnableVsys) ⊎ Calm
+MayAsk i Calm p = p.intf ≡ i → is_power_step p.step ≡ true → (p.step ≡ steps.EnableVsys) ⊎ Calm
 
 module _ (i : ℕ) (Calm : Type 0) where
-  pub asks-through : (h g : Host) (t : Turn) → WaitsFewer h g → TurnAsks i Calm g t
+  pub asks-through : {h g : Host} {t : Turn} → WaitsFewer h g → TurnAsks i Calm g t
       → TurnAsks i Calm h t
-  asks-through h g t f r = record { asks = r.asks; waits = then-waits h g t.host f r.waits }
+  asks-through {h} {g} {t} f r = record { asks = r.asks; waits = then-waits h g t.host f r.waits }
 
-  pub asks-telling : (h : Host) (e : Entry) (t : Turn) → TurnAsks i Calm h t
+  pub asks-telling : (h : Host) (e : Entry) {t : Turn} → TurnAsks i Calm h t
       → TurnAsks i Calm h (record t { acts = Act.Tell e ∷ t.acts })
-  asks-telling h e t r = record {
-    asks = λ q j. r.asks q (asks-tell q e t.acts j);
+  asks-telling h e r = record {
+    asks = λ q j. r.asks q (asks-tell e j);
     waits = r.waits;
   }
 
-  pub asks-failed : (h g : Host) (es : List Entry) → WaitsFewer h g
+  pub asks-failed : {h : Host} (g : Host) (es : List Entry) → WaitsFewer h g
       → TurnAsks i Calm h (record { host = g; acts = map Act.Tell es })
-  asks-failed h g es f = record { asks = λ q j. absurd (told-asks q es j); waits = f }
+  asks-failed g es f = record { asks = λ q j. absurd (told-asks q es j); waits = f }
 
   pub waits-stage : (p : Purpose) (h : Host) → WaitsFewer h (interface_fails p h).host
   waits-stage p h = waits-interface h p.intf (staged stage.Failed) (λ x. refl) (λ x. refl)
@@ -100,28 +60,20 @@ module _ (i : ℕ) (Calm : Type 0) where
   waits-fails steps.TellDisconnecting p h = same-waits h
   waits-fails steps.TellDisconnected p h = same-waits h
   waits-fails steps.DestroyConnection p h = same-waits h
-  waits-fails steps.EnableVsys p h = waits-stage p h
-  waits-fails steps.EnableRefclk p h = waits-stage p h
-  waits-fails steps.EnableUnipro p h = waits-stage p h
-  waits-fails steps.Activate p h = waits-stage p h
-  waits-fails steps.GiveDevice p h = waits-stage p h
-  waits-fails steps.CreateRoute p h = waits-stage p h
-  waits-fails steps.AskVersion p h = waits-stage p h
-  waits-fails steps.AskSize p h = waits-stage p h
-  waits-fails steps.AskManifest p h = waits-stage p h
+  waits-fails _ p h = waits-stage p h
 
   pub asks-fails : (step : SequenceStep) (p : Purpose) (h : Host)
       → TurnAsks i Calm h (failed_turn (step_fails step p h))
-  asks-fails step p h = asks-failed h (step_fails step p h).host (step_fails step p h).told
+  asks-fails step p h = asks-failed (step_fails step p h).host (step_fails step p h).told
       (waits-fails step p h)
 
   pub asks-stage : (p : Purpose) (h : Host) → TurnAsks i Calm h (failed_turn (interface_fails p h))
   asks-stage p h =
-      asks-failed h (interface_fails p h).host (interface_fails p h).told (waits-stage p h)
+      asks-failed (interface_fails p h).host (interface_fails p h).told (waits-stage p h)
 
   -- the request of a purpose
-  pub asks-asked : (p : Purpose) (h : Host) → MayAsk i Calm p → TurnAsks i Calm h (step_asked p h)
-  asks-asked p h may = by (way_of p h)
+  pub asks-asked : (p : Purpose) {h : Host} → MayAsk i Calm p → TurnAsks i Calm h (step_asked p h)
+  asks-asked p {h} may = by (way_of p h)
     where
       by : (o : Option ℕ) → TurnAsks i Calm h (asked_on o p h)
       by None = asks-fails p.step p h
@@ -131,8 +83,7 @@ module _ (i : ℕ) (Calm : Type 0) where
           is-it q r e = cc
 
           one : (q : Asking) → AsksIn q (asked_on (Some k) p h).acts → q.purpose.intf ≡ i
-              → is_power_step q.purpose.step ≡ true
-              → (q.purpose.step ≡ steps.EnableVsys) ⊎ Calm
+              → is_power_step q.purpose.step ≡ true → (q.purpose.step ≡ steps.EnableVsys) ⊎ Calm
           one q (asks_in (inl e)) =
               subst (MayAsk i Calm) (ap (λ (r : Asking). r.purpose) (sym (is-it q _ e))) may
           one q (asks_in (inr j)) = absurd j
@@ -148,8 +99,7 @@ module _ (i : ℕ) (Calm : Type 0) where
       is-it v u q s e = cc
 
       one : (q : Asking) → AsksIn q (Act.Open w r ∷ []) → q.purpose.intf ≡ i
-          → is_power_step q.purpose.step ≡ true
-          → (q.purpose.step ≡ steps.EnableVsys) ⊎ Calm
+          → is_power_step q.purpose.step ≡ true → (q.purpose.step ≡ steps.EnableVsys) ⊎ Calm
       one q (asks_in (inl e)) = absurd cc
       one q (asks_in (inr j)) = absurd j
       one q (opens_in v (inl e)) =
@@ -158,26 +108,25 @@ module _ (i : ℕ) (Calm : Type 0) where
 
   pub asks-link : (to : ConnState) (o : Option Link) (h g : Host) → WaitsFewer h g
       → TurnAsks i Calm h (link_turn to o g)
-  asks-link to None h g f = asks-failed h g [] f
-  asks-link to (Some l) h g f = asks-failed h g (link_told to l ∷ []) f
+  asks-link to None h g f = asks-failed g [] f
+  asks-link to (Some l) h g f = asks-failed g (link_told to l ∷ []) f
 
   pub asks-checked : (r : Result Manifest Refused) (p : Purpose) (bytes : List ℕ) (h : Host)
       → TurnAsks i Calm h (manifest_checked r p bytes h)
   asks-checked (Ok v) p bytes h =
-      asks-failed h _ (entry.Interface p.intf stage.Enumerated ∷ [])
+      asks-failed _ (entry.Interface p.intf stage.Enumerated ∷ [])
       (waits-interface h p.intf (enumerated bytes) (λ x. refl) (λ x. refl))
   asks-checked (Err why) p bytes h =
-      asks-telling h (entry.Manifest p.intf why.at why.reason) (failed_turn (interface_fails p h))
-      (asks-stage p h)
+      asks-telling h (entry.Manifest p.intf why.at why.reason) (asks-stage p h)
 
-  pub asks-told : (o : Option Link) (h : Host) (t : Turn) → TurnAsks i Calm h t
+  pub asks-told : (o : Option Link) (h : Host) {t : Turn} → TurnAsks i Calm h t
       → TurnAsks i Calm h (opened_told o t)
-  asks-told None h t r = r
-  asks-told (Some l) h t r = asks-telling h (link_told state.Open l) t r
+  asks-told None h r = r
+  asks-told (Some l) h r = asks-telling h (link_told state.Open l) r
 
   pub asks-left : (o : Option Link) (h g : Host) → WaitsFewer h g
       → TurnAsks i Calm h (link_left o g)
-  asks-left None h g f = asks-failed h g [] f
+  asks-left None h g f = asks-failed g [] f
   asks-left (Some l) h g f = record { asks = λ q j. absurd (none q j); waits = f }
     where
       none : (q : Asking)

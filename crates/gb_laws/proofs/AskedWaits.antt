@@ -1,36 +1,15 @@
 -- What acts ask, and what interfaces wait for.
-use Rattle.std.proofs.Common.{
-  ◌≡◌,
-  ℕ,
-  Bool,
-  true,
-  false,
-  cond,
-  Some,
-  None,
-  List,
-  [],
-  ◌∷◌,
-  map,
-  refl,
-  sym,
-  ap,
-  ◌∙◌,
-  inl,
-  inr,
-  ⊎_elim,
-}
-use Rattle.std.specs.Prelude.{◌&&◌, not}
-use Rattle.gb_base.specs.declared.steps.Purpose.{Purpose}
-use Rattle.gb_base.specs.declared.steps.SequenceStep.{SequenceStep}
-use Rattle.gb_base.specs.declared.peers.Interface.{Interface}
+use Rattle.std.proofs.Common.{Bool, List, None, Some, ap, cond, false, inl, inr, map, refl, sym}
+use Rattle.std.proofs.Common.{true, ℕ, ⊎_elim, [], ◌∙◌, ◌∷◌, ◌≡◌}
+use Rattle.std.specs.Prelude.{not, ◌&&◌}
 use Rattle.gb_base.specs.declared.entry.Entry.{Entry}
-use Rattle.gb_invariants.proofs.Lists.{in-at_first}
+use Rattle.gb_base.specs.declared.peers.Interface.{Interface}
+use Rattle.gb_base.specs.declared.steps.{Purpose.Purpose, SequenceStep.SequenceStep}
 use Rattle.gb_machine.specs.Host.{Host, is_intf, with_interface, with_link}
-use Rattle.gb_machine.specs.Members.{IsIn}
-use Rattle.gb_machine.specs.SequenceSteps.{asks_control, is_enumeration}
 use Rattle.gb_machine.specs.Turns.{Act, Asking, Making}
-use Rattle.gb_machine.specs.Waits.{awaits_nothing}
+use Rattle.gb_machine.specs.{Members.IsIn, SequenceSteps.asks_control, SequenceSteps.is_enumeration}
+use Rattle.gb_machine.specs.{Waits.awaits_nothing}
+use Rattle.gb_invariants.proofs.{Awaiting.none-some, Lists.in-at_first}
 
 -- ---- what is asked
 
@@ -43,24 +22,24 @@ pub data AsksIn (q : Asking) (acts : List Act) : Type 0 where
   asks_in : IsIn (Act.Ask q) acts → AsksIn q acts
   opens_in : (w : Making) → IsIn (Act.Open w q) acts → AsksIn q acts
 
-pub asks-more : (q : Asking) (x : Act) (acts : List Act) → AsksIn q acts → AsksIn q (x ∷ acts)
-asks-more q x acts (asks_in i) = asks_in (inr i)
-asks-more q x acts (opens_in w i) = opens_in w (inr i)
+pub asks-more : (q : Asking) (x : Act) {acts : List Act} → AsksIn q acts → AsksIn q (x ∷ acts)
+asks-more q x (asks_in i) = asks_in (inr i)
+asks-more q x (opens_in w i) = opens_in w (inr i)
 
-pub no-asks : (q : Asking) → AsksIn q [] → ⊥
-no-asks q (asks_in i) = i
-no-asks q (opens_in w i) = i
+pub no-asks : {q : Asking} → AsksIn q [] → ⊥
+no-asks (asks_in i) = i
+no-asks (opens_in w i) = i
 
-pub asks-tell : (q : Asking) (e : Entry) (acts : List Act) → AsksIn q (Act.Tell e ∷ acts)
+pub asks-tell : {q : Asking} (e : Entry) {acts : List Act} → AsksIn q (Act.Tell e ∷ acts)
     → AsksIn q acts
-asks-tell q e acts (asks_in (inl f)) = absurd cc
-asks-tell q e acts (asks_in (inr i)) = asks_in i
-asks-tell q e acts (opens_in w (inl f)) = absurd cc
-asks-tell q e acts (opens_in w (inr i)) = opens_in w i
+asks-tell e (asks_in (inl f)) = absurd cc
+asks-tell e (asks_in (inr i)) = asks_in i
+asks-tell e (opens_in w (inl f)) = absurd cc
+asks-tell e (opens_in w (inr i)) = opens_in w i
 
 pub told-asks : (q : Asking) (es : List Entry) → AsksIn q (map Act.Tell es) → ⊥
-told-asks q [] h = no-asks q h
-told-asks q (e ∷ es) h = told-asks q es (asks-tell q e (map Act.Tell es) h)
+told-asks q [] h = no-asks h
+told-asks q (e ∷ es) h = told-asks q es (asks-tell e h)
 
 -- ---- what is waited for
 
@@ -90,8 +69,7 @@ pub waits-interface : (h : Host) (i : ℕ) (f : Interface → Interface)
     → ((x : Interface) → (f x).intf ≡ x.intf) → ((x : Interface) → (f x).awaits ≡ x.awaits)
     → WaitsFewer h (with_interface i f h)
 waits-interface h i f intf same x j w e =
-    ⊎_elim (λ o. record { was = x; known = o; intf = refl; awaits = refl })
-    (λ v. record {
+    ⊎_elim (λ o. record { was = x; known = o; intf = refl; awaits = refl }) (λ v. record {
       was = v.0;
       known = v.1;
       intf = sym (ap (λ (y : Interface). y.intf) v.3 ∙ intf v.0);
@@ -103,11 +81,8 @@ waits-nothing : (h : Host) (i : ℕ)
     → WaitsFewer h (with_interface i (λ x. record x { awaits = None }) h)
 waits-nothing h i x j w e =
     ⊎_elim (λ o. record { was = x; known = o; intf = refl; awaits = refl })
-    (λ v. absurd (none (sym (ap (λ (y : Interface). y.awaits) v.3) ∙ e)))
+    (λ v. absurd (none-some (sym (ap (λ (y : Interface). y.awaits) v.3) ∙ e)))
     (in-at_first (is_intf i) (λ (y : Interface). record y { awaits = None }) h.interfaces x j)
-  where
-    none : None ≡ Some w → ⊥
-    none f = absurd cc
 
 pub waits-purpose : (p : Purpose) (h : Host) → WaitsFewer h (awaits_nothing p h)
 waits-purpose p h = by (is_enumeration p.step)

@@ -1,85 +1,32 @@
 -- What the enumeration of an interface waits for is the newest of its requests to the supervisory
 -- controller.
-use Rattle.std.proofs.Common.{
-  ◌≡◌,
-  ◌≤◌,
-  ℕ,
-  Bool,
-  true,
-  false,
-  cond,
-  Some,
-  None,
-  List,
-  [],
-  ◌∷◌,
-  inl,
-  inr,
-  refl,
-  sym,
-  ap,
-  ◌∙◌,
-  ⊎_elim,
-  subst,
-  arith,
-}
+use Rattle.std.proofs.Common.{Bool, List, None, Some, ap, arith, cond, false, inl, inr, refl, subst}
+use Rattle.std.proofs.Common.{sym, true, ℕ, ⊎_elim, [], ◌∙◌, ◌∷◌, ◌≡◌, ◌≤◌}
 use Rattle.std.specs.Prelude.{◌&&◌}
 use Rattle.gb_base.specs.declared.entry.Entry.{Entry}
 use Rattle.gb_base.specs.declared.peers.Interface.{Interface}
 use Rattle.gb_base.specs.declared.steps.SequenceStep.{SequenceStep}
-use Rattle.gb_invariants.proofs.Awaiting.{not-both, same-some, sent-made}
-use Rattle.gb_invariants.proofs.Lists.{in-at_first}
-use Rattle.gb_invariants.proofs.Outcomes.{same-number}
-use Rattle.gb_laws.proofs.Asked.{waits-unsent}
-use Rattle.gb_laws.proofs.AskedWaits.{WaitsFewer, same-waits}
-use Rattle.gb_laws.proofs.Awaited.{awaited-rest}
-use Rattle.gb_laws.proofs.AwaitsOwn.{turn-waits, waiting-interface}
-use Rattle.gb_laws.proofs.CreatingKept.{far-side}
-use Rattle.gb_laws.proofs.EnumRequests.{enumeration-reserved, formed-enumerates}
-use Rattle.gb_laws.proofs.LinkActs.{
-  ServedHost,
-  as_before,
-  awaited-host,
-  host-served,
-  with_more,
-}
-use Rattle.gb_laws.proofs.LinkLaw.{link_law}
-use Rattle.gb_laws.proofs.LinkRuns.{LinkedTo, linked-over, linked-throughout, start-absent}
-use Rattle.gb_laws.proofs.Linking.{InsertsAbsent, LinkedAt}
-use Rattle.gb_laws.proofs.Links.{ArePending, IsDue, IsDueBy, IsFormed}
-use Rattle.gb_laws.proofs.PointParts.{Basis, Point, resting}
-use Rattle.gb_laws.proofs.Points.{
-  Change,
-  IsAskedBy,
-  IsPlain,
-  Law,
-  acts_asked,
-  acts_failed,
-  asks,
-  by_far,
-  by_host,
-  changed,
-  names,
-  serves,
-  turns,
-}
-use Rattle.gb_laws.proofs.Remembering.{nothing-asked}
-use Rattle.gb_laws.proofs.Runs.{HoldsByMoments, Keeps, throughout, weaker}
-use Rattle.gb_laws.proofs.Steps.{over-step}
-use Rattle.gb_laws.specs.OwnWaits.{AwaitsNewest}
 use Rattle.gb_machine.proofs.Lists.{nth-within}
 use Rattle.gb_machine.specs.Bus.{Bus, Request, next_number, request_of}
 use Rattle.gb_machine.specs.Host.{Host, is_intf, with_interface, with_link}
-use Rattle.gb_machine.specs.HostActs.{host_draft}
-use Rattle.gb_machine.specs.HostServing.{host_serves}
-use Rattle.gb_machine.specs.LawsSvc.{IsEnumeration}
-use Rattle.gb_machine.specs.Members.{IsIn}
-use Rattle.gb_machine.specs.Refusals.{is_reserved}
-use Rattle.gb_machine.specs.Runs.{Moment}
 use Rattle.gb_machine.specs.Sending.{Draft, requested, sent}
-use Rattle.gb_machine.specs.SequenceSteps.{asks_control, is_enumeration}
-use Rattle.gb_machine.specs.State.{State}
-use Rattle.gb_machine.specs.Turns.{Act, Asking}
+use Rattle.gb_machine.specs.{HostActs.host_draft, LawsSvc.IsEnumeration, Members.IsIn}
+use Rattle.gb_machine.specs.{Refusals.is_reserved, Runs.Moment, SequenceSteps.asks_control}
+use Rattle.gb_machine.specs.{SequenceSteps.is_enumeration, State.State, Turns.Act, Turns.Asking}
+use Rattle.gb_invariants.proofs.Awaiting.{none-some, not-both, same-some, sent-made}
+use Rattle.gb_invariants.proofs.{Lists.in-at_first, Outcomes.same-number}
+use Rattle.gb_laws.proofs.LinkRuns.{LinkedTo, linked-over, linked-throughout, start-absent}
+use Rattle.gb_laws.proofs.Links.{ArePending, IsDue, IsDueBy, IsFormed}
+use Rattle.gb_laws.proofs.Points.{Change, IsAskedBy, IsPlain, Law, acts_asked, asks, by_far}
+use Rattle.gb_laws.proofs.Points.{by_host, changed, names, turns, upon}
+use Rattle.gb_laws.proofs.Runs.{HoldsByMoments, Keeps, throughout, weaker}
+use Rattle.gb_laws.proofs.{AskedWaits.WaitsFewer, AskedWaits.same-waits, Awaited.awaited-rest}
+use Rattle.gb_laws.proofs.{AwaitsOwn.turn-waits, AwaitsOwn.waiting-interface}
+use Rattle.gb_laws.proofs.{ChangeHosts.waits-kept, CreatingKept.far-side}
+use Rattle.gb_laws.proofs.{EnumRequests.enumeration-reserved, EnumRequests.formed-enumerates}
+use Rattle.gb_laws.proofs.{LinkActs.awaited-host, LinkKept.InsertsAbsent, LinkKept.LinkedAt}
+use Rattle.gb_laws.proofs.{LinkLaw.link_law, PointParts.Point, PointParts.resting, Steps.over-step}
+use Rattle.gb_laws.specs.OwnWaits.{AwaitsNewest}
 
 -- no request of an enumeration was made behind request n
 abbrev pub IsNewest : ℕ → ℕ → Bus → Type 0
@@ -101,9 +48,9 @@ MadeBefore b after =
     (i m : ℕ) (r : Request) → request_of m after ≡ Some r → IsEnumeration i r
     → request_of m b ≡ Some r
 
-newest-still : (a b : Point) → MadeBefore a.state.bus b.state.bus
+newest-still : {a b : Point} → MadeBefore a.state.bus b.state.bus
     → WaitsFewer a.state.host b.state.host → b.asked ≡ a.asked → WaitsNewest a → WaitsNewest b
-newest-still a b before fewer same h = record {
+newest-still before fewer same h = record {
   waits = λ x j w e on m r made of. let was = fewer x j w e in
       h.waits was.was was.known w (was.awaits ∙ e) on m r (before x.intf m r made of)
       (subst (λ i. IsEnumeration i r) (sym was.intf) of);
@@ -130,15 +77,14 @@ plain-none a d label links (inr on) i of =
     omega (arith, low, same, one)
 
 -- one that a sequence asks
-host-newest : (a b : Point) (q : Asking) (rest : List Act) (label : ℕ) → LinkedAt a
+host-newest : (a : Point) {b : Point} (q : Asking) (rest : List Act) (label : ℕ) → LinkedAt a
     → a.pending ≡ Act.Ask q ∷ rest → a.asked ≡ None
     → b.state ≡ record a.state { bus = sent (host_draft q a.state.now) label a.state.bus }
     → b.asked ≡ Some (q, next_number a.state.bus) → WaitsNewest a → WaitsNewest b
-host-newest a b q rest label links pending none state asked h = record {
+host-newest a q rest label links pending none state asked h = record {
   waits = λ x j w e on m r made of.
       let k = subst (λ (t : State). IsIn x t.host.interfaces) state j in
-      ⊎_elim
-      (λ old. h.waits x k w e on m r old of)
+      ⊎_elim (λ old. h.waits x k w e on m r old of)
       (λ new. absurd (idle x k w e (subst (IsEnumeration x.intf) new.1 of)))
       (sent-made (host_draft q a.state.now) label a.state.bus m r
       (subst (λ (t : State). request_of m t.bus ≡ Some r) state made));
@@ -164,8 +110,7 @@ host-newest a b q rest label links pending none state asked h = record {
 
     -- its interface waits for nothing
     idle : (x : Interface) → IsIn x a.state.host.interfaces → (w : ℕ × SequenceStep)
-        → x.awaits ≡ Some w
-        → IsEnumeration x.intf (requested (host_draft q a.state.now) label) → ⊥
+        → x.awaits ≡ Some w → IsEnumeration x.intf (requested (host_draft q a.state.now) label) → ⊥
     idle x j w e of =
         let p = formed-enumerates x.intf q formed
         (svc of.connection (asks_control q.purpose.step) refl) of.enumerates in
@@ -174,9 +119,6 @@ host-newest a b q rest label links pending none state asked h = record {
         left : (t u : Bool) → t && u ≡ true → t ≡ true
         left true u g = refl
         left false u g = absurd cc
-
-        none-some : None ≡ Some w → ⊥
-        none-some g = absurd cc
 
         by : (t : Bool) → t ≡ true → IsDueBy t q.purpose.step q.purpose a.state.host
             → q.purpose.intf ≡ x.intf → ⊥
@@ -191,25 +133,22 @@ newest-kept m a (asks d c label free live drawn who) links h = by who
   where
     by : (w : IsAskedBy m a c d) → WaitsNewest (changed m a (asks d c label free live drawn w))
     by (by_far far on) =
-        newest-still a (changed m a (asks d c label free live drawn (by_far far on)))
-        (sent-none d label a.state.bus (λ i of. far-side m a d c far of.side))
+        newest-still (sent-none d label a.state.bus (λ i of. far-side m a d c far of.side))
         (same-waits a.state.host) refl h
     by (by_host q rest is draft none) =
-        host-newest a (changed m a (asks d c label free live drawn (by_host q rest is draft none)))
-        q rest label links is none
+        host-newest a q rest label links is none
         (ap (λ (y : Draft). record a.state { bus = sent y label a.state.bus }) draft) refl h
 newest-kept m a (names name d c label free live drawn host) links h =
-    newest-still a (changed m a (names name d c label free live drawn host))
+    newest-still
     (sent-none d label a.state.bus (plain-none a d label links host.1)) (same-waits a.state.host)
     refl h
 newest-kept m a (turns e free untouched none cause) links h =
-    newest-still a (changed m a (turns e free untouched none cause)) (λ i n r made of. made)
-    (turn-waits e a.state.host) refl h
+    newest-still (λ i n r made of. made) (turn-waits e a.state.host) refl h
 newest-kept m a (acts_asked q n rest is) links h = record {
-  waits = λ x j w e on. subst (IsNewest x.intf w.0) (sym (awaited-rest q.purpose n a.state).bus)
+  waits = λ x j w e on. subst (IsNewest x.intf w.0) (sym (awaited-rest q.purpose n).bus)
       (by (is_enumeration q.purpose.step) refl x
       (subst (λ (g : Host). IsIn x g.interfaces) (awaited-host q.purpose n a.state) j) w e on);
-  asked = λ p k e. absurd (nothing-asked (p, k) e);
+  asked = λ p k e. absurd (none-some e);
 }
   where
     by : (t : Bool) → is_enumeration q.purpose.step ≡ t → (x : Interface)
@@ -220,41 +159,23 @@ newest-kept m a (acts_asked q n rest is) links h = record {
         → (w : ℕ × SequenceStep) → x.awaits ≡ Some w → asks_control w.1 ≡ false
         → IsNewest x.intf w.0 a.state.bus
     by false e x j w f on = h.waits x j w f on
-    by true e x j w f on = ⊎_elim
-        (λ o. h.waits x o w f on)
-        (λ u.
+    by true e x j w f on = ⊎_elim (λ o. h.waits x o w f on) (λ u.
         let same = same-some (n, q.purpose.step) w
         (sym (ap (λ (y : Interface). y.awaits) u.3) ∙ f) in
         subst (λ (y : ℕ × SequenceStep). IsNewest x.intf y.0 a.state.bus) same
-        (subst (λ k. IsNewest k n a.state.bus)
-        (sym (same-number u.0.intf q.purpose.intf u.2)
+        (subst (λ k. IsNewest k n a.state.bus) (sym (same-number u.0.intf q.purpose.intf u.2)
         ∙ sym (ap (λ (y : Interface). y.intf) u.3)) (h.asked q n is.1 e)))
         (in-at_first (is_intf q.purpose.intf)
         (λ (y : Interface). record y { awaits = Some (n, q.purpose.step) }) a.state.host.interfaces
         x j)
-newest-kept m a (acts_failed q rest is quiet) links h =
-    newest-still a (changed m a (acts_failed q rest is quiet)) (λ i n r made of. made)
-    (waits-unsent 0 (Unit {0}) q.purpose a.state.host) refl h
-newest-kept m a (serves k kind payload none) links h =
-    newest-still a (changed m a (serves k kind payload none)) (λ i n r made of. made)
-    (fewer (host-served k kind payload a.state.host)) refl h
-  where
-    fewer : ServedHost a.state.host (host_serves k kind payload a.state.host)
-        → WaitsFewer a.state.host (host_serves k kind payload a.state.host).host
-    fewer (as_before e) = subst (WaitsFewer a.state.host) (sym e) (same-waits a.state.host)
-    fewer (with_more j c total e) =
-        subst (WaitsFewer a.state.host) (sym e) (same-waits a.state.host)
 newest-kept m a x links h =
-    newest-still a (changed m a x) (λ i n r made of. made) (same-waits a.state.host) refl h
+    newest-still (λ i n r made of. made) (waits-kept m a x tt) refl h
 
 -- ---- throughout
 
 abbrev newest_law : (m : Moment) → InsertsAbsent m → Law m
-newest_law m absent = record {
-  holds = λ a. (Basis a × LinkedAt a) × WaitsNewest a;
-  basis = λ a h. h.0.0;
-  kept = λ a x h. ((link_law m absent).kept a x h.0, newest-kept m a x h.0.1 h.1);
-}
+newest_law m absent =
+    upon (link_law m absent) WaitsNewest (λ a x g h. newest-kept m a x g.1 h)
 
 pub record NewestTo (told : List Entry) (s : State) : Type 0 where
   pub links : LinkedTo told s
@@ -272,7 +193,7 @@ newest-throughout = throughout NewestTo (record {
   links = linked-throughout [] tt;
   newest = record {
     waits = λ x j. absurd j;
-    asked = λ q n e. absurd (nothing-asked (q, n) e);
+    asked = λ q n e. absurd (none-some e);
   };
 }) newest-over
 

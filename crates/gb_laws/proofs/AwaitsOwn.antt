@@ -1,90 +1,35 @@
 -- What the enumeration of an interface waits for was asked for it: of the supervisory controller by
 -- one of its requests, or on another connection.
-use Rattle.std.proofs.Common.{
-  ◌≡◌,
-  ◌≢◌,
-  ℕ,
-  Bool,
-  true,
-  false,
-  cond,
-  Option,
-  Some,
-  None,
-  List,
-  [],
-  ◌∷◌,
-  refl,
-  sym,
-  ap,
-  ◌∙◌,
-  ⊎_elim,
-  subst,
-  arith,
-}
-use Rattle.std.specs.Prelude.{◌&&◌, not, option_and_then}
+use Rattle.std.proofs.Common.{Bool, List, None, Option, Some, ap, arith, cond, false, refl, subst}
+use Rattle.std.proofs.Common.{sym, true, ℕ, ⊎_elim, [], ◌∙◌, ◌∷◌, ◌≡◌, ◌≢◌}
+use Rattle.std.specs.Prelude.{not, option_and_then, ◌&&◌}
 use Rattle.gb_base.specs.declared.entry.Entry.{Entry}
 use Rattle.gb_base.specs.declared.peers.Interface.{Interface}
 use Rattle.gb_base.specs.declared.steps.SequenceStep.{SequenceStep}
-use Rattle.gb_invariants.proofs.Awaiting.{same-some, sent-new}
-use Rattle.gb_invariants.proofs.Lists.{found-in, in-at_first}
-use Rattle.gb_invariants.proofs.Outcomes.{same-number}
-use Rattle.gb_laws.proofs.Answering.{keeps-requests}
-use Rattle.gb_laws.proofs.Asked.{
-  asks-connects,
-  asks-disconnects,
-  asks-ended,
-  asks-inserted,
-  asks-removed,
-  waits-unsent,
-}
-use Rattle.gb_laws.proofs.AskedWaits.{WaitsFewer, is_power_step, same-waits}
-use Rattle.gb_laws.proofs.EnumRequests.{power-enumerates}
-use Rattle.gb_laws.proofs.LinkActs.{
-  ServedHost,
-  as_before,
-  awaited-host,
-  host-served,
-  with_more,
-}
-use Rattle.gb_laws.proofs.LinkLaw.{link_law}
-use Rattle.gb_laws.proofs.LinkRuns.{LinkedTo, linked-over, linked-throughout, start-absent}
-use Rattle.gb_laws.proofs.Linking.{InsertsAbsent, LinkedAt}
-use Rattle.gb_laws.proofs.Links.{ArePending, IsDue, IsDueBy, IsFormed}
-use Rattle.gb_laws.proofs.Owning.{KeepsRequests}
-use Rattle.gb_laws.proofs.PointParts.{Basis, Point, resting}
-use Rattle.gb_laws.proofs.Points.{
-  Change,
-  IsAskedBy,
-  Law,
-  acts_asked,
-  acts_failed,
-  asks,
-  awaited_by,
-  by_far,
-  by_host,
-  changed,
-  serves,
-  turns,
-}
-use Rattle.gb_laws.proofs.Remembering.{nothing-asked}
-use Rattle.gb_laws.proofs.Runs.{HoldsByMoments, Keeps, throughout, weaker}
-use Rattle.gb_laws.proofs.Steps.{over-step}
-use Rattle.gb_laws.specs.OwnWaits.{AwaitsOwnRequest}
 use Rattle.gb_machine.specs.Bus.{Bus, Request, next_number, request_of}
 use Rattle.gb_machine.specs.Host.{Host, interface_of, is_intf, with_interface, with_link}
-use Rattle.gb_machine.specs.HostActs.{host_draft}
-use Rattle.gb_machine.specs.HostServing.{host_serves}
-use Rattle.gb_machine.specs.HostTurns.{host_turn}
-use Rattle.gb_machine.specs.LawsSvc.{IsEnumeration}
-use Rattle.gb_machine.specs.LawsSvc as svc
-use Rattle.gb_machine.specs.Members.{IsIn}
-use Rattle.gb_machine.specs.Runs.{Moment}
 use Rattle.gb_machine.specs.Sending.{Draft, requested, sent}
-use Rattle.gb_machine.specs.SequenceSteps.{asks_control, is_enumeration}
-use Rattle.gb_machine.specs.State.{State}
 use Rattle.gb_machine.specs.Turns.{Act, Asking, HostEvent}
-use Rattle.gb_machine.specs.Waits.{awaited}
+use Rattle.gb_machine.specs.{HostActs.host_draft, HostTurns.host_turn, LawsSvc.IsEnumeration}
+use Rattle.gb_machine.specs.{Members.IsIn, Runs.Moment, SequenceSteps.asks_control}
+use Rattle.gb_machine.specs.{SequenceSteps.is_enumeration, State.State, Waits.awaited}
+use Rattle.gb_machine.specs.LawsSvc as svc
+use Rattle.gb_invariants.proofs.Awaiting.{none-some, same-some, sent-new}
+use Rattle.gb_invariants.proofs.{BusChanges.KeepsRequests, Lists.found-in, Lists.in-at_first}
+use Rattle.gb_invariants.proofs.{Outcomes.same-number}
+use Rattle.gb_laws.proofs.Asked.{asks-connects, asks-disconnects, asks-ended, asks-inserted}
+use Rattle.gb_laws.proofs.Asked.{asks-removed}
+use Rattle.gb_laws.proofs.AskedWaits.{WaitsFewer, is_power_step, same-waits}
+use Rattle.gb_laws.proofs.LinkRuns.{LinkedTo, linked-over, linked-throughout, start-absent}
+use Rattle.gb_laws.proofs.Links.{ArePending, IsDue, IsDueBy, IsFormed}
+use Rattle.gb_laws.proofs.Points.{Change, IsAskedBy, Law, acts_asked, asks, awaited_by, by_far}
+use Rattle.gb_laws.proofs.Points.{by_host, changed, turns, upon}
+use Rattle.gb_laws.proofs.Runs.{HoldsByMoments, Keeps, throughout, weaker}
+use Rattle.gb_laws.proofs.{ChangeBuses.keeps-requests, ChangeHosts.waits-kept}
+use Rattle.gb_laws.proofs.{EnumRequests.power-enumerates, LinkActs.awaited-host}
+use Rattle.gb_laws.proofs.{LinkKept.InsertsAbsent, LinkKept.LinkedAt, LinkLaw.link_law}
+use Rattle.gb_laws.proofs.{PointParts.Point, PointParts.resting, Steps.over-step}
+use Rattle.gb_laws.specs.OwnWaits.{AwaitsOwnRequest}
 
 -- Request n was made for a step of the enumeration of an interface.
 pub record IsOwnWait (i n : ℕ) (step : SequenceStep) (b : Bus) : Type 0 where
@@ -98,15 +43,14 @@ pub record IsOwnWait (i n : ℕ) (step : SequenceStep) (b : Bus) : Type 0 where
 pub record WaitsOwn (a : Point) : Type 0 where
   pub waits : (x : Interface) → IsIn x a.state.host.interfaces → (w : ℕ × SequenceStep)
       → x.awaits ≡ Some w → IsOwnWait x.intf w.0 w.1 a.state.bus
-  pub asked : (q : Asking) (n : ℕ) → a.asked ≡ Some (q, n)
-      → is_enumeration q.purpose.step ≡ true
+  pub asked : (q : Asking) (n : ℕ) → a.asked ≡ Some (q, n) → is_enumeration q.purpose.step ≡ true
       → IsOwnWait q.purpose.intf n q.purpose.step a.state.bus
 
 -- ---- where requests are made and interfaces wait for no more
 
 wait-more : {i n : ℕ} {step : SequenceStep} {b after : Bus} → KeepsRequests b after
     → IsOwnWait i n step b → IsOwnWait i n step after
-wait-more {i} {n} keeps w = record {
+wait-more {n} keeps w = record {
   request = w.request;
   made = keeps n w.request w.made;
   twoway = w.twoway;
@@ -117,8 +61,7 @@ wait-more {i} {n} keeps w = record {
 own-still : (a b : Point) → KeepsRequests a.state.bus b.state.bus
     → WaitsFewer a.state.host b.state.host
     → ((q : Asking) (n : ℕ) → b.asked ≡ Some (q, n) → is_enumeration q.purpose.step ≡ true
-    → IsOwnWait q.purpose.intf n q.purpose.step b.state.bus)
-    → WaitsOwn a → WaitsOwn b
+    → IsOwnWait q.purpose.intf n q.purpose.step b.state.bus) → WaitsOwn a → WaitsOwn b
 own-still a b keeps fewer asked h = record {
   waits = λ x j w e. let was = fewer x j w e in
       subst (λ i. IsOwnWait i w.0 w.1 b.state.bus) was.intf
@@ -188,8 +131,7 @@ own-kept m a (asks d c label free live drawn who) links h =
         subst (λ (w : Asking × ℕ). IsOwnWait w.0.purpose.intf w.1 w.0.purpose.step
         (sent d label a.state.bus)) is
         (subst (λ (x : Draft). IsOwnWait p.purpose.intf (next_number a.state.bus) p.purpose.step
-        (sent x label a.state.bus)) (sym draft)
-        (host-own a p rest label links pending
+        (sent x label a.state.bus)) (sym draft) (host-own a p rest label links pending
         (ap (λ (w : Asking × ℕ). is_enumeration w.0.purpose.step) is ∙ s)))
 own-kept m a (turns e free untouched none cause) links h =
     own-still a (changed m a (turns e free untouched none cause)) (λ n r made. made)
@@ -198,7 +140,7 @@ own-kept m a (acts_asked q n rest is) links h = record {
   waits = λ x j w e. wait-more (keeps-requests m a (acts_asked q n rest is))
       (by (is_enumeration q.purpose.step) refl x
       (subst (λ (g : Host). IsIn x g.interfaces) (awaited-host q.purpose n a.state) j) w e);
-  asked = λ p k e. absurd (nothing-asked (p, k) e);
+  asked = λ p k e. absurd (none-some e);
 }
   where
     by : (t : Bool) → is_enumeration q.purpose.step ≡ t → (x : Interface)
@@ -208,9 +150,7 @@ own-kept m a (acts_asked q n rest is) links h = record {
         (λ l. record l { awaits = Some (n, q.purpose.step) }) a.state.host)).interfaces
         → (w : ℕ × SequenceStep) → x.awaits ≡ Some w → IsOwnWait x.intf w.0 w.1 a.state.bus
     by false e x j w f = h.waits x j w f
-    by true e x j w f = ⊎_elim
-        (λ o. h.waits x o w f)
-        (λ u.
+    by true e x j w f = ⊎_elim (λ o. h.waits x o w f) (λ u.
         let same = same-some (n, q.purpose.step) w
         (sym (ap (λ (y : Interface). y.awaits) u.3) ∙ f) in
         subst (λ (y : ℕ × SequenceStep). IsOwnWait x.intf y.0 y.1 a.state.bus) same
@@ -220,30 +160,13 @@ own-kept m a (acts_asked q n rest is) links h = record {
         (in-at_first (is_intf q.purpose.intf)
         (λ (y : Interface). record y { awaits = Some (n, q.purpose.step) }) a.state.host.interfaces
         x j)
-own-kept m a (acts_failed q rest is quiet) links h =
-    own-still a (changed m a (acts_failed q rest is quiet)) (λ n r made. made)
-    (waits-unsent 0 (Unit {0}) q.purpose a.state.host) h.asked h
-own-kept m a (serves k kind payload none) links h =
-    own-still a (changed m a (serves k kind payload none)) (λ n r made. made)
-    (fewer (host-served k kind payload a.state.host)) h.asked h
-  where
-    fewer : ServedHost a.state.host (host_serves k kind payload a.state.host)
-        → WaitsFewer a.state.host (host_serves k kind payload a.state.host).host
-    fewer (as_before e) = subst (WaitsFewer a.state.host) (sym e) (same-waits a.state.host)
-    fewer (with_more j c total e) =
-        subst (WaitsFewer a.state.host) (sym e) (same-waits a.state.host)
-own-kept m a x links h =
-    own-still a (changed m a x) (keeps-requests m a x) (same-waits a.state.host)
+own-kept m a x links h = own-still a (changed m a x) (keeps-requests m a x) (waits-kept m a x tt)
     (λ q n e s. wait-more (keeps-requests m a x) (h.asked q n e s)) h
 
 -- ---- throughout
 
 abbrev own_law : (m : Moment) → InsertsAbsent m → Law m
-own_law m absent = record {
-  holds = λ a. (Basis a × LinkedAt a) × WaitsOwn a;
-  basis = λ a h. h.0.0;
-  kept = λ a x h. ((link_law m absent).kept a x h.0, own-kept m a x h.0.1 h.1);
-}
+own_law m absent = upon (link_law m absent) WaitsOwn (λ a x g h. own-kept m a x g.1 h)
 
 pub record OwnTo (told : List Entry) (s : State) : Type 0 where
   pub links : LinkedTo told s
@@ -261,7 +184,7 @@ own-throughout = throughout OwnTo (record {
   links = linked-throughout [] tt;
   own = record {
     waits = λ x j. absurd j;
-    asked = λ q n e. absurd (nothing-asked (q, n) e);
+    asked = λ q n e. absurd (none-some e);
   };
 }) own-over
 

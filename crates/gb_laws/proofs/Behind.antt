@@ -1,79 +1,27 @@
 -- No request for a connection waits behind one of the enumeration of its interface, after a change
 -- that asks for none or asks while no request of the enumeration waits.
-use Rattle.std.proofs.Common.{
-  ◌≡◌,
-  ℕ,
-  Bool,
-  true,
-  false,
-  Option,
-  Some,
-  None,
-  List,
-  [],
-  ◌∷◌,
-  ◌++◌,
-  inl,
-  inr,
-  refl,
-  sym,
-  ap,
-  ◌∙◌,
-  subst,
-}
-use Rattle.std.specs.Prelude.{Result, Ok, Err, ◌&&◌, not}
+use Rattle.std.proofs.Common.{Bool, List, None, Option, Some, ap, false, inl, inr, refl, subst, sym}
+use Rattle.std.proofs.Common.{true, ℕ, [], ◌++◌, ◌∙◌, ◌∷◌, ◌≡◌}
+use Rattle.std.specs.Prelude.{Err, Ok, Result, not, ◌&&◌}
 use Rattle.gb_base.specs.declared.end.Side.TheVariants as side
 use Rattle.gb_base.specs.declared.steps.SequenceStep.{SequenceStep}
 use Rattle.gb_base.specs.declared.steps.SequenceStep.TheVariants as steps
-use Rattle.gb_formats.specs.Records.{PayloadFault}
-use Rattle.gb_formats.specs.SvcRecords.{SvcAsk, read_svc_ask}
-use Rattle.gb_invariants.proofs.Awaiting.{not-both, sent-new}
-use Rattle.gb_invariants.proofs.Lists.{each-append}
-use Rattle.gb_invariants.proofs.Outcomes.{both-true}
-use Rattle.gb_laws.proofs.EnumRequests.{power-enumerates}
-use Rattle.gb_laws.proofs.Framing.{asked-toward}
-use Rattle.gb_laws.proofs.Links.{IsFormed}
-use Rattle.gb_laws.proofs.Marks.{AreAsked}
-use Rattle.gb_laws.proofs.Owning.{KeepsRequests}
-use Rattle.gb_laws.proofs.Pairs.{speaks-of}
-use Rattle.gb_laws.proofs.PointParts.{Basis, Point}
-use Rattle.gb_laws.proofs.Stale.{behind-in}
-use Rattle.gb_laws.proofs.SvcKinds.{svc-kind}
+use Rattle.gb_formats.specs.{Records.PayloadFault, SvcRecords.SvcAsk, SvcRecords.read_svc_ask}
+use Rattle.gb_machine.specs.Bus.{Ask, Bus, Item, Raw, RawReply, Reply, Request, next_number}
+use Rattle.gb_machine.specs.Bus.{request_of}
+use Rattle.gb_machine.specs.SequenceSteps.{Target, asks_control, is_enumeration, is_for_connection}
+use Rattle.gb_machine.specs.SequenceSteps.{kind_of, payload_of}
+use Rattle.gb_machine.specs.SvcQueues.{is_connection_request, is_enumeration_request, request_onto}
+use Rattle.gb_machine.specs.SvcQueues.{requests_among, speaks_of_connection, svc_items}
+use Rattle.gb_machine.specs.SvcQueues.{svc_requests}
+use Rattle.gb_machine.specs.{LawsSvc.HasNoEnumeration, LawsSvc.NoneBehind, Lists.behind_first}
+use Rattle.gb_machine.specs.{Members.Each, Refusals.is_reserved, Sending.requested, Turns.Asking}
+use Rattle.gb_invariants.proofs.{Awaiting.not-both, Awaiting.sent-new, BusChanges.KeepsRequests}
+use Rattle.gb_invariants.proofs.{Lists.each-append, Outcomes.both-true}
 use Rattle.gb_laws.proofs.SvcMoves.{FarMoves, asked, elsewhere, puts, stays, taken}
-use Rattle.gb_machine.specs.Bus.{
-  Ask,
-  Bus,
-  Item,
-  Raw,
-  RawReply,
-  Reply,
-  Request,
-  next_number,
-  request_of,
-}
-use Rattle.gb_machine.specs.LawsSvc.{HasNoEnumeration, NoneBehind}
-use Rattle.gb_machine.specs.Lists.{behind_first}
-use Rattle.gb_machine.specs.Members.{Each}
-use Rattle.gb_machine.specs.Refusals.{is_reserved}
-use Rattle.gb_machine.specs.Sending.{requested}
-use Rattle.gb_machine.specs.SequenceSteps.{
-  Target,
-  asks_control,
-  is_enumeration,
-  is_for_connection,
-  kind_of,
-  payload_of,
-}
-use Rattle.gb_machine.specs.SvcQueues.{
-  is_connection_request,
-  is_enumeration_request,
-  request_onto,
-  requests_among,
-  speaks_of_connection,
-  svc_items,
-  svc_requests,
-}
-use Rattle.gb_machine.specs.Turns.{Asking}
+use Rattle.gb_laws.proofs.{EnumRequests.power-enumerates, Links.IsFormed, MarkFrame.asked-toward}
+use Rattle.gb_laws.proofs.{Marks.AreAsked, Pairs.speaks-of, PointParts.Basis, PointParts.Point}
+use Rattle.gb_laws.proofs.{Stale.behind-in, SvcKinds.svc-kind}
 
 -- ---- the requests among items
 
@@ -108,9 +56,7 @@ requests-asked b (x ∷ xs) n r made = by x (requests-asked b xs n r made)
         → requests_among b (x ∷ (xs ++ Ask n ∷ [])) ≡ requests_among b (x ∷ xs) ++ r ∷ []
     by (Ask k) e = ap (request_onto (request_of k b)) e
         ∙ onto (request_of k b) (requests_among b xs)
-    by (Reply k result payload) e = e
-    by (Raw bytes) e = e
-    by (RawReply label kind result payload) e = e
+    by _ e = e
 
 -- where more requests were made
 requests-more : (b after : Bus) (xs : List Item) → KeepsRequests b after → AreAsked b xs
@@ -141,9 +87,7 @@ behind-taken i b (Ask n ∷ xs) h = by (request_of n b) h
         → NoneBehind i (requests_among b xs)
     by None h = h
     by (Some r) h = h.1
-behind-taken i b (Reply n result payload ∷ xs) h = h
-behind-taken i b (Raw bytes ∷ xs) h = h
-behind-taken i b (RawReply label kind result payload ∷ xs) h = h
+behind-taken i b _ h = h
 
 behind-pushed : (i : ℕ) (rs : List Request) (r : Request)
     → (is_connection_request i r ≡ true → Each (λ q. is_enumeration_request i q ≡ false) rs)
@@ -155,21 +99,19 @@ behind-pushed i (q ∷ rs) r none h = (
   behind-pushed i rs r (λ e. (none e).1) h.1,
 )
   where
-    by : is_enumeration_request i q ≡ true → (t : Bool) → is_connection_request i r ≡ t
-        → t ≡ false
+    by : is_enumeration_request i q ≡ true → (t : Bool) → is_connection_request i r ≡ t → t ≡ false
     by e false f = refl
     by e true f = absurd (not-both (is_enumeration_request i q) e (none f).0)
 
 -- ---- the queue moves
 
 -- None stands behind where what is asked for a connection is asked while none enumerates.
-pub behind-on : (i : ℕ) (a : Point) (after : Bus) → Basis a → FarMoves a.state.bus after
+pub behind-on : (i : ℕ) (a : Point) {after : Bus} → Basis a → FarMoves a.state.bus after
     → KeepsRequests a.state.bus after
     → ((r : Request) → request_of (next_number a.state.bus) after ≡ Some r → r.connection ≡ 1
     → r.side ≡ side.Ap → is_connection_request i r ≡ true → HasNoEnumeration i a.state.bus)
-    → NoneBehind i (svc_requests side.Far a.state.bus)
-    → NoneBehind i (svc_requests side.Far after)
-behind-on i a after basis moves keeps new h = by moves
+    → NoneBehind i (svc_requests side.Far a.state.bus) → NoneBehind i (svc_requests side.Far after)
+behind-on i a {after} basis moves keeps new h = by moves
   where
     xs : List Item
     xs = svc_items side.Far a.state.bus
@@ -180,8 +122,7 @@ behind-on i a after basis moves keeps new h = by moves
     by : FarMoves a.state.bus after → NoneBehind i (svc_requests side.Far after)
     by (stays requests far) =
         subst (NoneBehind i) (sym (ap (requests_among after) far ∙ same)) h
-    by (taken requests far) = subst (NoneBehind i)
-        (sym (ap (requests_among after) far
+    by (taken requests far) = subst (NoneBehind i) (sym (ap (requests_among after) far
         ∙ requests-more a.state.bus after (behind_first xs) keeps
         (λ n j. asked-toward side.Far a basis n (behind-in xs (Ask n) j))))
         (behind-taken i a.state.bus xs h)
@@ -189,8 +130,7 @@ behind-on i a after basis moves keeps new h = by moves
         (sym (ap (requests_among after) far ∙ requests-unasked after xs x unasked ∙ same)) h
     by (asked d label e one own far) =
         let made = ap (request_of (next_number a.state.bus)) e ∙ sent-new d label a.state.bus in
-        subst (NoneBehind i)
-        (sym (ap (requests_among after) far
+        subst (NoneBehind i) (sym (ap (requests_among after) far
         ∙ requests-asked after xs (next_number a.state.bus) (requested d label) made
         ∙ ap (λ rs. rs ++ requested d label ∷ []) same))
         (behind-pushed i (svc_requests side.Far a.state.bus) (requested d label)
@@ -219,24 +159,12 @@ for-connection : (i : ℕ) (step : SequenceStep) (t : Target) → asks_control s
 for-connection i steps.CreateControl t s h = refl
 for-connection i steps.CreateConnection t s h = refl
 for-connection i steps.DestroyConnection t s h = refl
-for-connection i steps.EnableVsys t s h = absurd cc
-for-connection i steps.EnableRefclk t s h = absurd cc
-for-connection i steps.EnableUnipro t s h = absurd cc
-for-connection i steps.Activate t s h = absurd cc
-for-connection i steps.GiveDevice t s h = absurd cc
-for-connection i steps.CreateRoute t s h = absurd cc
-for-connection i steps.AskVersion t s h = absurd cc
-for-connection i steps.AskSize t s h = absurd cc
-for-connection i steps.AskManifest t s h = absurd cc
-for-connection i steps.TellConnected t s h = absurd cc
-for-connection i steps.TellDisconnecting t s h = absurd cc
-for-connection i steps.TellDisconnected t s h = absurd cc
+for-connection i _ t s h = absurd cc
 
 -- A formed request for a connection is one of a connect or close of its own interface.
 pub formed-connects : (i : ℕ) (q : Asking) → IsFormed q → asks_control q.purpose.step ≡ false
     → (is_enumeration q.purpose.step ≡ true → q.purpose.cport ≡ 0)
-    → (r : Request) → r.kind ≡ q.kind → r.payload ≡ q.payload
-    → is_connection_request i r ≡ true
+    → (r : Request) → r.kind ≡ q.kind → r.payload ≡ q.payload → is_connection_request i r ≡ true
     → (is_enumeration q.purpose.step ≡ false) × (q.purpose.intf ≡ i)
 formed-connects i q f on zero r kind payload h =
     (by (is_enumeration q.purpose.step) refl, at)
@@ -265,6 +193,5 @@ formed-connects i q f on zero r kind payload h =
     by true e = absurd (apart (is_enumeration_request i r)
         (subst (λ k. is_enumeration_request i (record r { kind = k }) ≡ true) (sym kind)
         (subst (λ p. is_enumeration_request i (record r { kind = q.kind; payload = p }) ≡ true)
-        (sym payload)
-        (power-enumerates i q f (ap (λ t. t && not (asks_control q.purpose.step)) e
+        (sym payload) (power-enumerates i q f (ap (λ t. t && not (asks_control q.purpose.step)) e
         ∙ ap not on) (λ s. zero e) at))) both.1)

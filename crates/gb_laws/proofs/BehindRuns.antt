@@ -1,93 +1,45 @@
 -- No request for a connection waits behind one of the enumeration of its interface, in each state
 -- of a run.
-use Rattle.std.proofs.Common.{
-  ◌≡◌,
-  ℕ,
-  Bool,
-  true,
-  false,
-  Some,
-  None,
-  List,
-  [],
-  ◌∷◌,
-  ◌++◌,
-  inl,
-  inr,
-  refl,
-  sym,
-  ap,
-  ◌∙◌,
-  subst,
-  arith,
-}
+use Rattle.std.proofs.Common.{Bool, List, ap, arith, false, inl, inr, refl, subst, sym, true, ℕ, []}
+use Rattle.std.proofs.Common.{◌++◌, ◌∙◌, ◌∷◌, ◌≡◌}
 use Rattle.gb_base.specs.declared.end.Side.TheVariants as side
 use Rattle.gb_base.specs.declared.entry.Entry.{Entry}
-use Rattle.gb_invariants.proofs.Awaiting.{not-both, same-some, sent-new, sent-request}
-use Rattle.gb_invariants.proofs.Outcomes.{both-true}
-use Rattle.gb_laws.proofs.Answering.{keeps-requests}
-use Rattle.gb_laws.proofs.AskedWaits.{AsksIn, asks_in, no-asks}
-use Rattle.gb_laws.proofs.Awaited.{awaited-rest}
-use Rattle.gb_laws.proofs.Behind.{behind-on, connection-reserved, formed-connects}
-use Rattle.gb_laws.proofs.CreatingKept.{far-side}
-use Rattle.gb_laws.proofs.EnumLinks.{LinksDone, links-kept}
-use Rattle.gb_laws.proofs.EnumSettled.{IsSettled}
-use Rattle.gb_laws.proofs.EnumSettledRuns.{
-  SettledTo,
-  none-waits,
-  settled-over,
-  settled-throughout,
-  settled_law,
-}
-use Rattle.gb_laws.proofs.LinkRuns.{start-absent}
-use Rattle.gb_laws.proofs.Linking.{LinkedAt}
-use Rattle.gb_laws.proofs.Links.{ArePending, IsDue, IsDueBy, IsFormed}
-use Rattle.gb_laws.proofs.PointParts.{Basis, Point, Wires, resting}
-use Rattle.gb_laws.proofs.Points.{
-  Change,
-  IsAskedBy,
-  IsPlain,
-  Law,
-  acts_asked,
-  asks,
-  by_far,
-  by_host,
-  changed,
-  names,
-}
-use Rattle.gb_laws.proofs.Quiet.{IsQuiet}
-use Rattle.gb_laws.proofs.Runs.{HoldsByMoments, throughout, weaker}
-use Rattle.gb_laws.proofs.Steps.{over-step}
-use Rattle.gb_laws.proofs.SvcMoves.{far-moves, far-sent}
-use Rattle.gb_laws.proofs.There.{There}
 use Rattle.gb_machine.proofs.Lists.{nth-past}
 use Rattle.gb_machine.specs.Bus.{Bus, Request, next_number, request_of}
-use Rattle.gb_machine.specs.HostActs.{host_draft}
-use Rattle.gb_machine.specs.LawsSvc.{HasNoEnumeration, NoneBehind}
-use Rattle.gb_machine.specs.Refusals.{is_reserved}
 use Rattle.gb_machine.specs.Runs.{IsMoment, Moment, after, told_at}
 use Rattle.gb_machine.specs.Sending.{Draft, requested, sent}
-use Rattle.gb_machine.specs.SequenceSteps.{asks_control, is_enumeration}
-use Rattle.gb_machine.specs.State.{State}
 use Rattle.gb_machine.specs.SvcQueues.{is_connection_request, is_for_link, svc_requests}
-use Rattle.gb_machine.specs.Turns.{Act, Asking}
+use Rattle.gb_machine.specs.{HostActs.host_draft, LawsSvc.HasNoEnumeration, LawsSvc.NoneBehind}
+use Rattle.gb_machine.specs.{Refusals.is_reserved, SequenceSteps.asks_control}
+use Rattle.gb_machine.specs.{SequenceSteps.is_enumeration, State.State, Turns.Act, Turns.Asking}
+use Rattle.gb_invariants.proofs.Awaiting.{none-some, not-both, same-some, sent-new, sent-request}
+use Rattle.gb_invariants.proofs.Outcomes.{both-true}
+use Rattle.gb_laws.proofs.AskedWaits.{AsksIn, asks_in, no-asks}
+use Rattle.gb_laws.proofs.Behind.{behind-on, connection-reserved, formed-connects}
+use Rattle.gb_laws.proofs.EnumSettledRuns.{SettledTo, none-waits, settled-over, settled-throughout}
+use Rattle.gb_laws.proofs.EnumSettledRuns.{settled_law}
+use Rattle.gb_laws.proofs.Links.{ArePending, IsDue, IsDueBy, IsFormed}
+use Rattle.gb_laws.proofs.PointParts.{Basis, Point, Wires, resting}
+use Rattle.gb_laws.proofs.Points.{Change, IsAskedBy, IsPlain, Law, acts_asked, asks, by_far}
+use Rattle.gb_laws.proofs.Points.{by_host, changed, names, upon}
+use Rattle.gb_laws.proofs.Runs.{HoldsByMoments, throughout, weaker}
+use Rattle.gb_laws.proofs.{Awaited.awaited-rest, ChangeBuses.keeps-requests, CreatingKept.far-side}
+use Rattle.gb_laws.proofs.{EnumLinks.LinksDone, EnumLinks.links-kept, EnumSettled.IsSettled}
+use Rattle.gb_laws.proofs.{LinkKept.LinkedAt, LinkRuns.start-absent, Steps.over-step}
+use Rattle.gb_laws.proofs.{SvcMoves.far-moves, SvcMoves.far-sent, SvcThere.There}
 
 abbrev BehindAt : ℕ → Point → Type 0
 BehindAt i a = NoneBehind i (svc_requests side.Far a.state.bus)
 
 -- ---- each single change
 
-none-some : (r : Request) → None ≡ Some r → ⊥
-none-some r e = absurd cc
-
 -- where no request is made
 behind-same : (i : ℕ) (m : Moment) (a : Point) (x : Change m a) → Basis a → LinkedAt a
     → There a.state.bus → (changed m a x).state.bus.requests ≡ a.state.bus.requests
     → BehindAt i a → BehindAt i (changed m a x)
 behind-same i m a x basis links there same h =
-    behind-on i a (changed m a x).state.bus basis (far-moves m a x basis links there)
-    (keeps-requests m a x)
-    (λ r made on own is. absurd (none-some r
+    behind-on i a basis (far-moves m x basis links there) (keeps-requests m a x)
+    (λ r made on own is. absurd (none-some
     (sym (nth-past (next_number a.state.bus) a.state.bus.requests (omega arith))
     ∙ ap (λ rs. request_of (next_number a.state.bus)
     (record (changed m a x).state.bus { requests = rs })) (sym same) ∙ made))) h
@@ -98,9 +50,8 @@ behind-sent : (i : ℕ) (a : Point) (d : Draft) (label : ℕ) → Basis a → Th
     → is_connection_request i (requested d label) ≡ true → HasNoEnumeration i a.state.bus)
     → BehindAt i a → NoneBehind i (svc_requests side.Far (sent d label a.state.bus))
 behind-sent i a d label basis there none h =
-    behind-on i a (sent d label a.state.bus) basis (far-sent a d label basis there)
-    (λ n r made. sent-request d label a.state.bus n r made)
-    (λ r made on own is.
+    behind-on i a basis (far-sent d label basis there)
+    (λ n r made. sent-request d label a.state.bus n r made) (λ r made on own is.
     let same = same-some (requested d label) r (sym (sent-new d label a.state.bus) ∙ made) in
     none (ap (λ (q : Request). q.connection) same ∙ on) (ap (λ (q : Request). q.side) same ∙ own)
     (ap (is_connection_request i) same ∙ is)) h
@@ -146,8 +97,7 @@ host-apart a q rest label i links settled done pending one is =
         (requested (host_draft q a.state.now) label) refl refl is
 
 behind-kept : (m : Moment) (i : ℕ) (a : Point) (x : Change m a) → Basis a → LinkedAt a
-    → There a.state.bus → IsSettled i a → LinksDone i a → BehindAt i a
-    → BehindAt i (changed m a x)
+    → There a.state.bus → IsSettled i a → LinksDone i a → BehindAt i a → BehindAt i (changed m a x)
 behind-kept m i a (asks d c label free live is who) basis links there settled done h =
     behind-sent i a d label basis there (by who) h
   where
@@ -163,7 +113,7 @@ behind-kept m i a (names name d c label free live is host) basis links there set
     (λ one own e. absurd (plain-apart a d label i links host.1 one e)) h
 behind-kept m i a (acts_asked q n rest is) basis links there settled done h =
     behind-same i m a (acts_asked q n rest is) basis links there
-    (ap (λ (b : Bus). b.requests) (awaited-rest q.purpose n a.state).bus) h
+    (ap (λ (b : Bus). b.requests) (awaited-rest q.purpose n).bus) h
 behind-kept m i a x basis links there settled done h =
     behind-same i m a x basis links there refl h
 
@@ -176,19 +126,10 @@ pub record BehindTo (told : List Entry) (s : State) : Type 0 where
 
 module _ (m : Moment) (start : BehindTo m.told m.before) where
   abbrev behind_law : ℕ → Law m
-  behind_law i = record {
-    holds = λ a. (((((Basis a × LinkedAt a) × There a.state.bus) × IsQuiet i a) × IsSettled i a)
-        × LinksDone i a) × BehindAt i a;
-    basis = λ a h. h.0.0.0.0.0.0;
-    kept = λ a x h. (
-      (
-        (settled_law m start.settled i).kept a x h.0.0,
-        links-kept m (start-absent m start.settled.quiet.wired.links) i a x h.0.0.0.0.0.1 h.0.0.1
-            h.0.1,
-      ),
-      behind-kept m i a x h.0.0.0.0.0.0 h.0.0.0.0.0.1 h.0.0.0.0.1 h.0.0.1 h.0.1 h.1,
-    );
-  }
+  behind_law i = upon (upon (settled_law m start.settled i) (LinksDone i)
+      (λ a x g h. links-kept m (start-absent m start.settled.quiet.wired.links) i a x g.0.0.0.1
+      g.1 h)) (BehindAt i)
+      (λ a x g h. behind-kept m i a x g.0.0.0.0.0 g.0.0.0.0.1 g.0.0.0.1 g.0.1 g.1 h)
 
   behind-over : IsMoment m.event → BehindTo (m.told ++ told_at m) (after m)
   behind-over one = record {
@@ -215,7 +156,7 @@ behind-throughout = throughout BehindTo (record {
   links = λ i. record {
     stages = λ x j. absurd j;
     links = λ l j. absurd j;
-    due = λ q j. absurd (no-asks q j);
+    due = λ q j. absurd (no-asks j);
   };
   behind = λ i. tt;
 }) (λ m one h. behind-over m h one)

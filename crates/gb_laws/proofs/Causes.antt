@@ -1,84 +1,31 @@
 -- Each end by cancelling, timeout or disconnection has its cause at its moment.
-use Rattle.gb_laws.proofs.Silent.{silent-quiet}
-use Rattle.std.proofs.Common.{
-  ◌≡◌,
-  ◌≤◌,
-  ◌≢◌,
-  ℕ,
-  true,
-  false,
-  Some,
-  None,
-  List,
-  [],
-  ◌∷◌,
-  ◌++◌,
-  map,
-  refl,
-  sym,
-  ap,
-  ◌∙◌,
-  subst,
-  append-nil,
-  append_assoc,
-}
+use Rattle.std.proofs.Common.{List, None, Some, ap, append-nil, append_assoc, false, map, refl}
+use Rattle.std.proofs.Common.{subst, sym, true, ℕ, [], ◌++◌, ◌∙◌, ◌∷◌, ◌≡◌, ◌≢◌, ◌≤◌}
 use Rattle.std.specs.List.{find}
 use Rattle.gb_base.specs.declared.bridge.Reading.TheVariants as reading
-use Rattle.gb_base.specs.declared.end.End.TheVariants as end
 use Rattle.gb_base.specs.declared.end.Side.{Side}
+use Rattle.gb_base.specs.declared.end.End.TheVariants as end
 use Rattle.gb_base.specs.declared.end.Side.TheVariants as side
 use Rattle.gb_base.specs.declared.entry.Entry.{Entry}
 use Rattle.gb_base.specs.declared.entry.Entry.TheVariants as entry
 use Rattle.gb_base.specs.declared.outcome.Outcome.{Outcome}
 use Rattle.gb_base.specs.declared.outcome.Outcome.TheVariants as outcome
-use Rattle.gb_invariants.proofs.Awaiting.{same-some}
-use Rattle.gb_invariants.proofs.Lists.{each-append, each-in, each-weaker}
-use Rattle.gb_invariants.proofs.Numbers.{found-by_number}
-use Rattle.gb_laws.proofs.Answering.{same-rest}
-use Rattle.gb_laws.proofs.LinkedFrom.{Linked}
-use Rattle.gb_laws.proofs.LinkLists.{changed-in}
-use Rattle.gb_laws.proofs.LinkLaw.{link_law}
-use Rattle.gb_laws.proofs.LinkRuns.{LinkedTo, linked-throughout, start-absent}
-use Rattle.gb_laws.proofs.Onward.{onward}
-use Rattle.gb_laws.proofs.Points.{
-  Change,
-  IsLive,
-  Law,
-  acts_failed,
-  acts_opened,
-  acts_shut,
-  acts_told,
-  answers,
-  asks,
-  changed,
-  drops,
-  gives_up,
-  injects,
-  names,
-  replies,
-  tells,
-  unwires,
-}
-use Rattle.gb_laws.proofs.PointParts.{Basis, IsGivenUpFor, Point, Wired, asked_told, resting}
-use Rattle.gb_laws.proofs.Runs.{HoldsAtMoments, at_each}
-use Rattle.gb_laws.proofs.Steps.{over-step}
 use Rattle.gb_machine.specs.Bus.{Connection, Request, connection_of, has_number}
-use Rattle.gb_machine.specs.LawsEnds.{HasItsCause, IsDisconnection}
-use Rattle.gb_machine.specs.Members.{Each, IsIn}
-use Rattle.gb_machine.specs.Requests.{open_on}
 use Rattle.gb_machine.specs.Runs.{IsMoment, Moment, after, told_at}
-use Rattle.gb_machine.specs.Wires.{disconnected_told}
-use Rattle.gb_laws.proofs.EndCauses.{
-  IsCutOn,
-  IsFine,
-  Start,
-  ended-fine,
-  fine-on,
-  quiet-all-fine,
-  quiet-fine,
-  sent-fine,
-  shut-cause,
-}
+use Rattle.gb_machine.specs.{LawsEnds.HasItsCause, LawsEnds.IsDisconnection, Members.Each}
+use Rattle.gb_machine.specs.{Members.IsIn, Requests.open_on, Wires.disconnected_told}
+use Rattle.gb_invariants.proofs.Lists.{each-append, each-in, each-weaker}
+use Rattle.gb_invariants.proofs.{Awaiting.same-some, Found.changed-in, Numbers.found-by_number}
+use Rattle.gb_invariants.proofs.{Selves.module-no-svc}
+use Rattle.gb_laws.proofs.EndCauses.{IsCutOn, IsFine, Start, ended-fine, fine-on, quiet-all-fine}
+use Rattle.gb_laws.proofs.EndCauses.{quiet-fine, sent-fine, shut-cause}
+use Rattle.gb_laws.proofs.LinkRuns.{LinkedTo, linked-throughout, start-absent}
+use Rattle.gb_laws.proofs.PointParts.{Basis, IsGivenUpFor, Point, Wired, asked_told, resting}
+use Rattle.gb_laws.proofs.Points.{Change, IsLive, Law, acts_failed, acts_opened, acts_shut}
+use Rattle.gb_laws.proofs.Points.{acts_told, answers, asks, changed, drops, gives_up, injects}
+use Rattle.gb_laws.proofs.Points.{names, replies, tells, unwires, upon}
+use Rattle.gb_laws.proofs.{Answering.same-rest, LinkFrom.Linked, LinkLaw.link_law, Onward.onward}
+use Rattle.gb_laws.proofs.{Runs.HoldsAtMoments, Runs.at_each, Silent.silent-quiet, Steps.over-step}
 
 -- ---- what was told at the moment so far
 
@@ -91,10 +38,10 @@ record IsSoFar (m : Moment) (a : Point) : Type 0 where
       × (c.wired ≡ true)
 
 -- more is told, and it is fine
-so-far : (m : Moment) (a : Point) (x : Change m a) (es : List Entry)
+so-far : {m : Moment} {a : Point} (x : Change m a) (es : List Entry)
     → (changed m a x).told ≡ a.told ++ es
     → Each (IsFine m (changed m a x)) es → IsSoFar m a → IsSoFar m (changed m a x)
-so-far m a x es told fine h = let on = onward m a x in record {
+so-far {m} {a} x es told fine h = let on = onward m a x in record {
   new = h.new ++ es;
   told = told ∙ ap (λ l. l ++ es) h.told ∙ append_assoc m.told h.new es;
   fine = each-append (IsFine m (changed m a x)) h.new es
@@ -104,7 +51,7 @@ so-far m a x es told fine h = let on = onward m a x in record {
       let back = on.back n in
       let was = back.1 d live wired in
       let first = h.wired back.0 was.0 was.1 was.3 in
-      (first.0, first.1, first.2 ∙ was.2, first.3);
+      (first.0, first.1, first.2 ∙ sym was.2.number, first.3);
 }
 
 unwires-fine : (m : Moment) (a : Point) (k : ℕ) (free : a.hand ≡ None) (before : a.wires ≢ Wired)
@@ -137,30 +84,26 @@ unwires-fine m a k free before live basis links h =
     was = h.wired before live.connection live.live live.wired
 
     not-svc : live.connection.peer ≡ end.Svc → ⊥
-    not-svc e = other (sym live.peer ∙ e)
-      where
-        other : end.Module live.intf live.cport ≡ end.Svc → ⊥
-        other f = absurd cc
+    not-svc e = module-no-svc (sym live.peer ∙ e)
 
 so-far-kept : (m : Moment) (start : Start m) (a : Point) (x : Change m a) → Basis a
-    → Linked a.state.bus a.state.host a.pending
-    → IsSoFar m a → IsSoFar m (changed m a x)
+    → Linked a.state.bus a.state.host a.pending → IsSoFar m a → IsSoFar m (changed m a x)
 so-far-kept m start a (tells e quiet) basis links h =
-    so-far m a (tells e quiet) (e ∷ []) refl
+    so-far (tells e quiet) (e ∷ []) refl
     (quiet-fine m (changed m a (tells e quiet)) e (silent-quiet e quiet), tt) h
 so-far-kept m start a (asks d c label free live drawn who) basis links h =
-    so-far m a (asks d c label free live drawn who) (asked_told d c label a.state.bus) refl
+    so-far (asks d c label free live drawn who) (asked_told d c label a.state.bus) refl
     (sent-fine m _ d c label a.state.bus) h
 so-far-kept m start a (names name d c label free live drawn host) basis links h =
-    so-far m a (names name d c label free live drawn host) (asked_told d c label a.state.bus) refl
+    so-far (names name d c label free live drawn host) (asked_told d c label a.state.bus) refl
     (sent-fine m _ d c label a.state.bus) h
-so-far-kept m start a drops basis links h = so-far m a drops [] (sym (append-nil a.told)) tt h
+so-far-kept m start a drops basis links h = so-far drops [] (sym (append-nil a.told)) tt h
 so-far-kept m start a (replies x q r is made twoway) basis links h =
-    so-far m a (replies x q r is made twoway) (_ ∷ []) refl (tt, tt) h
+    so-far (replies x q r is made twoway) (_ ∷ []) refl (tt, tt) h
 so-far-kept m start a (answers x n result payload is says which) basis links h =
-    so-far m a (answers x n result payload is says which) (_ ∷ []) refl (tt, tt) h
+    so-far (answers x n result payload is says which) (_ ∷ []) refl (tt, tt) h
 so-far-kept m start a (gives_up n how free unended cause) basis links h =
-    so-far m a (gives_up n how free unended cause) (entry.Ended n how reading.Nothing ∷ []) refl
+    so-far (gives_up n how free unended cause) (entry.Ended n how reading.Nothing ∷ []) refl
     (given_up-after how cause, tt) h
   where
     given_up-after : (o : Outcome) → IsGivenUpFor m a.state o n
@@ -179,40 +122,32 @@ so-far-kept m start a (gives_up n how free unended cause) basis links h =
     given_up-after outcome.Sent c = absurd c
     given_up-after (outcome.Answered result payload) c = absurd c
 so-far-kept m start a (unwires k free before live) basis links h =
-    so-far m a (unwires k free before live) (map disconnected_told (open_on k side.Far a.state.bus))
-    refl
-    (unwires-fine m a k free before live basis links h) h
+    so-far (unwires k free before live) (map disconnected_told (open_on k side.Far a.state.bus))
+    refl (unwires-fine m a k free before live basis links h) h
 so-far-kept m start a (injects i c p bytes free named) basis links h =
-    so-far m a (injects i c p bytes free named) (_ ∷ []) refl (tt, tt) h
+    so-far (injects i c p bytes free named) (_ ∷ []) refl (tt, tt) h
 so-far-kept m start a (acts_told e rest is quiet) basis links h =
-    so-far m a (acts_told e rest is quiet) (e ∷ []) refl
+    so-far (acts_told e rest is quiet) (e ∷ []) refl
     (quiet-fine m (changed m a (acts_told e rest is quiet)) e quiet, tt) h
 so-far-kept m start a (acts_shut k rest free is cause) basis links h =
     let why = shut-cause m k start cause in
-    so-far m a (acts_shut k rest free is cause)
+    so-far (acts_shut k rest free is cause)
     (map disconnected_told (open_on k side.Ap a.state.bus)) refl
     (ended-fine m (changed m a (acts_shut k rest free is cause)) side.Ap k a.state.bus
     (λ n r made. made) why.0 why.1) h
 so-far-kept m start a (acts_opened w q rest free is) basis links h =
-    so-far m a (acts_opened w q rest free is) (_ ∷ []) refl (tt, tt) h
+    so-far (acts_opened w q rest free is) (_ ∷ []) refl (tt, tt) h
 so-far-kept m start a (acts_failed q rest is quiet) basis links h =
-    so-far m a (acts_failed q rest is quiet) _ refl
+    so-far (acts_failed q rest is quiet) _ refl
     (quiet-all-fine m (changed m a (acts_failed q rest is quiet)) _ quiet) h
 so-far-kept m start a x basis links h =
-    so-far m a x [] refl tt h
+    so-far x [] refl tt h
 
 -- ---- the law
 
 abbrev cause_law : (m : Moment) → Start m → Law m
-cause_law m start = record {
-  holds = λ a. (Basis a × Linked a.state.bus a.state.host a.pending) × IsSoFar m a;
-  basis = λ a h. h.0.0;
-  kept = λ a x h. (
-    (link_law m (start-absent m start)).kept a x h.0,
-    so-far-kept m start a x h.0.0
-        h.0.1 h.1,
-  );
-}
+cause_law m start = upon (link_law m (start-absent m start)) (IsSoFar m)
+    (λ a x g h. so-far-kept m start a x g.0 g.1 h)
 
 has-cause : (m : Moment) → IsMoment m.event → Start m → HasItsCause m
 has-cause m one start = record {
@@ -247,8 +182,7 @@ has-cause m one start = record {
     fine e i =
         let h = over.1.1 in
         each-in (IsFine m (record (resting (m.told ++ told_at m) (after m)) { wires = over.0 }))
-        h.new e h.fine
-        (subst (IsIn e) (same-rest m.told (told_at m) h.new h.told) i)
+        h.new e h.fine (subst (IsIn e) (same-rest m.told (told_at m) h.new h.told) i)
 
     cut : (s : Side) (k : ℕ) → IsCutOn m
         (record (resting (m.told ++ told_at m) (after m)) { wires = over.0 }) s k

@@ -1,61 +1,20 @@
 -- No manifest declares CPort 0 outside bundle 0, so no connect speaks of it.
-use Rattle.std.proofs.Common.{
-  ◌≡◌,
-  ℕ,
-  Bool,
-  true,
-  false,
-  not,
-  cond,
-  Option,
-  Some,
-  None,
-  List,
-  [],
-  ◌∷◌,
-  ◌++◌,
-  length,
-  map,
-  refl,
-  sym,
-  ap,
-  ◌∙◌,
-  inl,
-  inr,
-}
-use Rattle.std.specs.Prelude.{Result, Ok, Err, ◌==◌, ◌&&◌, option_and_then, option_map, drop}
+use Rattle.std.proofs.Common.{Bool, List, None, Option, Some, ap, cond, false, inl, inr, length}
+use Rattle.std.proofs.Common.{map, not, refl, sym, true, ℕ, [], ◌++◌, ◌∙◌, ◌∷◌, ◌≡◌}
 use Rattle.std.specs.List.{find}
+use Rattle.std.specs.Prelude.{Err, Ok, Result, drop, option_and_then, option_map, ◌&&◌, ◌==◌}
 use Rattle.gb_base.specs.declared.fault.Reason.{Reason}
 use Rattle.gb_base.specs.declared.fault.Reason.TheVariants as reason
 use Rattle.gb_base.specs.declared.peers.Interface.{Interface}
+use Rattle.gb_formats.specs.Manifest.{Manifest, check_answer, cport_view, descriptors_from}
+use Rattle.gb_formats.specs.Manifest.{header_refusal, manifest_after, manifest_of, manifest_unless}
+use Rattle.gb_formats.specs.ManifestRules.{Placed, Refused, breach, first_breach, first_of}
+use Rattle.gb_formats.specs.ManifestRules.{is_cport, no_interface, rules_refusal, second_interface}
+use Rattle.gb_formats.specs.ManifestRules.{written_rules, wrong_control}
 use Rattle.gb_formats.specs.Descriptors.{Descriptor}
-use Rattle.gb_formats.specs.Manifest.{
-  Manifest,
-  check_answer,
-  cport_view,
-  descriptors_from,
-  header_refusal,
-  manifest_after,
-  manifest_of,
-  manifest_unless,
-}
-use Rattle.gb_formats.specs.ManifestRules.{
-  Placed,
-  Refused,
-  breach,
-  first_breach,
-  first_of,
-  is_cport,
-  no_interface,
-  rules_refusal,
-  second_interface,
-  written_rules,
-  wrong_control,
-}
-use Rattle.gb_invariants.proofs.Awaiting.{same-some}
-use Rattle.gb_invariants.proofs.Outcomes.{same-number}
-use Rattle.gb_machine.specs.Members.{IsIn}
 use Rattle.gb_machine.specs.Host.{cport_in, cport_of, outside_control}
+use Rattle.gb_machine.specs.Members.{IsIn}
+use Rattle.gb_invariants.proofs.{Awaiting.same-some, Outcomes.same-number}
 
 -- no rule is broken where there is no first that is
 none-broken : (xs : List (Option Refused)) (o : Option Refused) → first_of xs ≡ None → IsIn o xs
@@ -72,8 +31,7 @@ unbroken why (Some place) h = absurd cc
 control-ruled : (len : ℕ) (all : List Placed) → rules_refusal len all ≡ None
     → first_breach wrong_control [] all ≡ None
 control-ruled len all h =
-    unbroken reason.ControlCport (first_breach wrong_control [] all)
-    (none-broken
+    unbroken reason.ControlCport (first_breach wrong_control [] all) (none-broken
     (no_interface len all ∷ breach reason.SecondInterface
     (first_breach second_interface [] all) ∷ written_rules all)
     (breach reason.ControlCport (first_breach wrong_control [] all)) h
@@ -105,13 +63,10 @@ inside before (d ∷ ds) y none found = by d.descriptor none found (inside (befo
     by : (x : Descriptor) → cond (wrong_control before x) (Some d.at)
         (first_breach wrong_control (before ++ d ∷ []) ds) ≡ None
         → cond (is_cport 0 x) (Some x) (find (is_cport 0)
-        (map (λ (d : Placed). d.descriptor) ds)) ≡ Some y
-        → Rest → (cport_view y).bundle ≡ 0
+        (map (λ (d : Placed). d.descriptor) ds)) ≡ Some y → Rest → (cport_view y).bundle ≡ 0
     by (Descriptor.Cport id bundle protocol) none found rec =
         cport id bundle protocol (id == 0) refl (bundle == 0) refl none found rec
-    by (Descriptor.Interface vendor product features) none found rec = rec none found
-    by (Descriptor.Words id bytes) none found rec = rec none found
-    by (Descriptor.Bundle id class) none found rec = rec none found
+    by _ none found rec = rec none found
 
 -- what an accepted manifest's descriptors break: nothing
 record Ruled (bytes : List ℕ) (m : Manifest) : Type 0 where

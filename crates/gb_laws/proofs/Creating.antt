@@ -1,34 +1,15 @@
 -- Requests that create or destroy connections: by their records, and by the steps that ask them.
-use Rattle.std.proofs.Common.{
-  Bool,
-  List,
-  [],
-  ap,
-  arith,
-  false,
-  refl,
-  subst,
-  sym,
-  true,
-  ℕ,
-  ◌++◌,
-  ◌∷◌,
-  ◌≡◌,
-  ◌≤◌,
-}
+use Rattle.std.proofs.Common.{Bool, List, ap, arith, false, refl, subst, sym, true, ℕ, [], ◌++◌}
+use Rattle.std.proofs.Common.{◌∷◌, ◌≡◌, ◌≤◌}
 use Rattle.std.specs.Prelude.{Err, Ok, Result}
-use Rattle.byteorder.specs.Endian.{little_number}
-use Rattle.byteorder.specs.Numbers.{little_number-reads_back}
 use Rattle.gb_base.specs.declared.steps.SequenceStep.{SequenceStep}
 use Rattle.gb_base.specs.declared.steps.SequenceStep.TheVariants as steps
-use Rattle.gb_formats.specs.Bytes.{le16}
-use Rattle.gb_formats.specs.Records.{PayloadFault}
-use Rattle.gb_formats.specs.SvcRecords.{SvcAsk, read_svc_ask}
-use Rattle.gb_laws.proofs.SvcKinds.{svc-kind}
-use Rattle.gb_machine.specs.Bus.{Request}
-use Rattle.gb_machine.specs.Refusals.{is_reserved}
+use Rattle.gb_formats.specs.{Bytes.le16, Records.PayloadFault, SvcRecords.SvcAsk}
+use Rattle.gb_formats.specs.{SvcRecords.read_svc_ask}
 use Rattle.gb_machine.specs.SequenceSteps.{Target, is_for_connection, kind_of, payload_of}
-use Rattle.gb_machine.specs.Turns.{Asking, Making}
+use Rattle.gb_machine.specs.{Bus.Request, Refusals.is_reserved, Turns.Asking, Turns.Making}
+use Rattle.gb_laws.proofs.SvcKinds.{svc-kind}
+use Rattle.byteorder.specs.{Endian.little_number, Numbers.little_number-reads_back}
 
 -- a record that creates a connection
 abbrev pub is_create : Result SvcAsk PayloadFault → Bool
@@ -88,41 +69,16 @@ create-reserved kind payload h = by (read_svc_ask kind payload) refl h
 
 -- a step that asks for a connection to be created is one of the two that do
 pub step-creating : (step : SequenceStep) (t : Target)
-    → is_create (read_svc_ask (kind_of step) (payload_of step t)) ≡ true
-    → is_creating step ≡ true
+    → is_create (read_svc_ask (kind_of step) (payload_of step t)) ≡ true → is_creating step ≡ true
 step-creating steps.CreateControl t h = refl
 step-creating steps.CreateConnection t h = refl
-step-creating steps.EnableVsys t h = absurd cc
-step-creating steps.EnableRefclk t h = absurd cc
-step-creating steps.EnableUnipro t h = absurd cc
-step-creating steps.Activate t h = absurd cc
-step-creating steps.GiveDevice t h = absurd cc
-step-creating steps.CreateRoute t h = absurd cc
-step-creating steps.AskVersion t h = absurd cc
-step-creating steps.AskSize t h = absurd cc
-step-creating steps.AskManifest t h = absurd cc
-step-creating steps.TellConnected t h = absurd cc
-step-creating steps.TellDisconnecting t h = absurd cc
-step-creating steps.TellDisconnected t h = absurd cc
-step-creating steps.DestroyConnection t h = absurd cc
+step-creating _ t h = absurd cc
 
-pub creating-for : (step : SequenceStep) → is_creating step ≡ true
-    → is_for_connection step ≡ true
+pub creating-for : (step : SequenceStep) → is_creating step ≡ true → is_for_connection step ≡ true
 creating-for steps.CreateControl h = refl
 creating-for steps.CreateConnection h = refl
 creating-for steps.DestroyConnection h = refl
-creating-for steps.EnableVsys h = absurd cc
-creating-for steps.EnableRefclk h = absurd cc
-creating-for steps.EnableUnipro h = absurd cc
-creating-for steps.Activate h = absurd cc
-creating-for steps.GiveDevice h = absurd cc
-creating-for steps.CreateRoute h = absurd cc
-creating-for steps.AskVersion h = absurd cc
-creating-for steps.AskSize h = absurd cc
-creating-for steps.AskManifest h = absurd cc
-creating-for steps.TellConnected h = absurd cc
-creating-for steps.TellDisconnecting h = absurd cc
-creating-for steps.TellDisconnected h = absurd cc
+creating-for _ h = absurd cc
 
 -- a number of two bytes reads back, with what is behind it
 reads-back : (c : ℕ) (rest : List ℕ) → c ≤ 4095 → little_number 2 (le16 c ++ rest) ≡ c
@@ -170,8 +126,7 @@ made-creates w q f low small =
     let cport_low = f.cport in
     subst (λ k. IsBetween w.ap w.intf w.cport (read_svc_ask k q.payload)) (sym f.kind)
     (subst (λ p. IsBetween w.ap w.intf w.cport (read_svc_ask (kind_of q.purpose.step) p))
-    (sym f.payload)
-    (subst (λ a. IsBetween a w.intf w.cport (read_svc_ask (kind_of q.purpose.step)
+    (sym f.payload) (subst (λ a. IsBetween a w.intf w.cport (read_svc_ask (kind_of q.purpose.step)
     (payload_of q.purpose.step f.target))) f.ap
     (subst (λ i. IsBetween f.target.ap i w.cport (read_svc_ask (kind_of q.purpose.step)
     (payload_of q.purpose.step f.target))) f.intf

@@ -1,60 +1,25 @@
 -- What is known of the requests that create connections stays where a sequence comes to wait for a
 -- request.
-use Rattle.std.proofs.Common.{
-  arith,
-  Bool,
-  List,
-  None,
-  Option,
-  Some,
-  [],
-  ap,
-  cond,
-  false,
-  inl,
-  inr,
-  refl,
-  subst,
-  sym,
-  true,
-  ℕ,
-  ⊎_elim,
-  ◌∙◌,
-  ◌∷◌,
-  ◌≡◌,
-  ◌⊎◌,
-}
+use Rattle.std.proofs.Common.{Bool, List, None, Option, Some, ap, arith, cond, false, inl, inr}
+use Rattle.std.proofs.Common.{refl, subst, sym, true, ℕ, ⊎_elim, [], ◌∙◌, ◌∷◌, ◌≡◌, ◌⊎◌}
 use Rattle.std.specs.Prelude.{option_map}
 use Rattle.gb_base.specs.declared.peers.Link.{Link}
 use Rattle.gb_base.specs.declared.steps.SequenceStep.{SequenceStep}
 use Rattle.gb_formats.specs.SvcRecords.{read_svc_ask}
-use Rattle.gb_invariants.proofs.Awaiting.{same-some}
-use Rattle.gb_invariants.proofs.Lists.{found-in, in-behind, in-front, in-pushed}
-use Rattle.gb_laws.proofs.Creating.{
-  IsBetween,
-  creates_one,
-  creating-for,
-  is_create,
-  is_creating,
-  step-between,
-  step-creating,
-}
-use Rattle.gb_laws.proofs.CreatingFacts.{CreatesFit, IsReady, at-same}
-use Rattle.gb_laws.proofs.LinkActs.{awaits-fits}
-use Rattle.gb_laws.proofs.LinkHosts.{same-link}
-use Rattle.gb_laws.proofs.LinkLists.{found-at, link-is, find-changed, one-link}
-use Rattle.gb_laws.proofs.LinkSources.{from-waiting}
-use Rattle.gb_laws.proofs.Links.{HostFits, IsDue, IsFormed, SameLink}
-use Rattle.gb_laws.proofs.Pairs.{IsAskedAs}
-use Rattle.gb_laws.proofs.PairsAsked.{pairs_then}
 use Rattle.gb_machine.specs.Bus.{Bus, Request, request_of}
 use Rattle.gb_machine.specs.Host.{Host, is_link, link_at, with_interface, with_link}
-use Rattle.gb_machine.specs.Lists.{nth}
-use Rattle.gb_machine.specs.Members.{IsIn}
-use Rattle.gb_machine.specs.SequenceSteps.{payload_of, is_enumeration, is_for_connection, kind_of}
-use Rattle.gb_machine.specs.Sequences.{ap_in, target}
-use Rattle.gb_machine.specs.Turns.{Act, Asking}
-use Rattle.gb_machine.specs.Waits.{awaits}
+use Rattle.gb_machine.specs.SequenceSteps.{is_enumeration, is_for_connection, kind_of, payload_of}
+use Rattle.gb_machine.specs.{Lists.nth, Members.IsIn, Sequences.ap_in, Sequences.target, Turns.Act}
+use Rattle.gb_machine.specs.{Turns.Asking, Waits.awaits}
+use Rattle.gb_invariants.proofs.Lists.{found-in, in-behind, in-front, in-pushed}
+use Rattle.gb_invariants.proofs.{Awaiting.same-some, Found.find-changed}
+use Rattle.gb_laws.proofs.Creating.{IsBetween, creates_one, creating-for, is_create, is_creating}
+use Rattle.gb_laws.proofs.Creating.{step-between, step-creating}
+use Rattle.gb_laws.proofs.CreatingFacts.{CreatesFit, IsReady, at-same}
+use Rattle.gb_laws.proofs.LinkLists.{found-at, link-is, one-link}
+use Rattle.gb_laws.proofs.Links.{HostFits, IsDue, IsFormed, SameLink}
+use Rattle.gb_laws.proofs.{LinkActs.awaits-fits, LinkHosts.awaits-link, LinkHosts.same-link}
+use Rattle.gb_laws.proofs.{LinkSources.from-waiting, Pairs.IsAskedAs, PairsAsked.pairs_then}
 
 -- ---- what is remembered then
 
@@ -80,13 +45,12 @@ record IsNewPair (o : Option Link) (n j k : ℕ) : Type 0 where
 
 out-then : (t : Bool) (o : Option Link) (n : ℕ) (pairs : List (ℕ × ℕ)) (j k : ℕ)
     → IsIn (j, k) (pairs_then t o n pairs) → IsIn (j, k) pairs ⊎ IsNewPair o n j k
-out-then true (Some l) n pairs j k i = ⊎_elim (λ old. inl old)
-    (λ e. inr (record {
-      link = l;
-      is = refl;
-      number = ap (λ (p : ℕ × ℕ). p.0) e;
-      on = ap (λ (p : ℕ × ℕ). p.1) e;
-    })) (in-pushed (j, k) pairs (n, l.connection) i)
+out-then true (Some l) n pairs j k i = ⊎_elim (λ old. inl old) (λ e. inr (record {
+  link = l;
+  is = refl;
+  number = ap (λ (p : ℕ × ℕ). p.0) e;
+  on = ap (λ (p : ℕ × ℕ). p.1) e;
+})) (in-pushed (j, k) pairs (n, l.connection) i)
 out-then true None n pairs j k i = inl i
 out-then false o n pairs j k i = inl i
 
@@ -100,7 +64,7 @@ found-then i c w h l e false = (
   record l { awaits = Some w },
   find-changed (is_link i c) (λ (y : Link). record y { awaits = Some w }) h.links (λ y. refl)
       ∙ ap (option_map (λ (y : Link). record y { awaits = Some w })) e,
-  record { connection = refl; ap = refl; intf = refl; cport = refl; protocol = refl },
+  awaits-link (Some w) _,
 )
 
 -- ---- a sequence waits
@@ -119,14 +83,12 @@ module _ (b : Bus) (h : Host) (pairs : List (ℕ × ℕ)) (q : Asking) (n : ℕ)
   same-record : (j : ℕ) (r : Request) → nth j b.requests ≡ Some r → j ≡ n
       → read_svc_ask r.kind r.payload ≡ read_svc_ask q.kind q.payload
   same-record j r made e =
-      let same = same-some r asked.request
-      (sym made ∙ ap (λ k. request_of k b) e ∙ asked.made) in
+      let same = same-some r asked.request (sym made ∙ ap (λ k. request_of k b) e ∙ asked.made) in
       ap (λ k. read_svc_ask k r.payload) (ap (λ (x : Request). x.kind) same ∙ asked.kind)
       ∙ ap (read_svc_ask q.kind) (ap (λ (x : Request). x.payload) same ∙ asked.payload)
 
   -- a step asks for a connection to be created where the record does
-  creating : is_create (read_svc_ask q.kind q.payload) ≡ true
-      → is_creating q.purpose.step ≡ true
+  creating : is_create (read_svc_ask q.kind q.payload) ≡ true → is_creating q.purpose.step ≡ true
   creating is = step-creating q.purpose.step formed.target
       (ap (λ p. is_create (read_svc_ask (kind_of q.purpose.step) p)) (sym formed.payload)
       ∙ ap (λ k. is_create (read_svc_ask k q.payload)) (sym formed.kind) ∙ is)
@@ -137,9 +99,9 @@ module _ (b : Bus) (h : Host) (pairs : List (ℕ × ℕ)) (q : Asking) (n : ℕ)
   found is = found-then q.purpose.intf q.purpose.cport (n, q.purpose.step) h (ready.0 is).link
       (ready.0 is).found (is_enumeration q.purpose.step)
 
-  same-found : (is : is_creating q.purpose.step ≡ true) (l : Link) → at ≡ Some l
+  same-found : (is : is_creating q.purpose.step ≡ true) {l : Link} → at ≡ Some l
       → SameLink (ready.0 is).link l
-  same-found is l e =
+  same-found is {l} e =
       let k = found is in
       subst (SameLink (ready.0 is).link) (same-some k.0 l (sym k.1 ∙ e)) k.2
 
@@ -149,7 +111,7 @@ module _ (b : Bus) (h : Host) (pairs : List (ℕ × ℕ)) (q : Asking) (n : ℕ)
   alone j k r new made is i old =
       let create = creating (ap is_create (sym (same-record j r made new.number)) ∙ is) in
       (ready.0 create).none i (subst (λ x. IsIn (i, x) pairs)
-      (new.on ∙ (same-found create new.link new.is).connection) old)
+      (new.on ∙ (same-found create new.is).connection) old)
 
   -- what asks for no new connection speaks of that which is found
   aimed : is_creating q.purpose.step ≡ false → (l : Link) → at ≡ Some l
@@ -164,18 +126,13 @@ module _ (b : Bus) (h : Host) (pairs : List (ℕ × ℕ)) (q : Asking) (n : ℕ)
       (found-at h.links x.link fits.links.rise x.live)) in
       at-same x.link l x.same (read_svc_ask q.kind q.payload)
       (subst (λ k. IsBetween x.link.ap x.link.intf x.link.cport (read_svc_ask k q.payload))
-      (sym formed.kind)
-      (subst (λ p. IsBetween x.link.ap x.link.intf x.link.cport
+      (sym formed.kind) (subst (λ p. IsBetween x.link.ap x.link.intf x.link.cport
       (read_svc_ask (kind_of q.purpose.step) p))
       (sym (ready.1 other ∙ ap (λ o. payload_of q.purpose.step (target (ap_in o) q.purpose h)) was))
-      (subst (λ j. IsBetween x.link.ap j x.link.cport
-      (read_svc_ask (kind_of q.purpose.step)
-      (payload_of q.purpose.step (target x.link.ap q.purpose h))))
-      (sym is.0 ∙ x.same.intf)
-      (subst (λ c. IsBetween x.link.ap q.purpose.intf c
-      (read_svc_ask (kind_of q.purpose.step)
-      (payload_of q.purpose.step (target x.link.ap q.purpose h))))
-      (sym is.1 ∙ x.same.cport)
+      (subst (λ j. IsBetween x.link.ap j x.link.cport (read_svc_ask (kind_of q.purpose.step)
+      (payload_of q.purpose.step (target x.link.ap q.purpose h)))) (sym is.0 ∙ x.same.intf)
+      (subst (λ c. IsBetween x.link.ap q.purpose.intf c (read_svc_ask (kind_of q.purpose.step)
+      (payload_of q.purpose.step (target x.link.ap q.purpose h)))) (sym is.1 ∙ x.same.cport)
       (step-between q.purpose.step (target x.link.ap q.purpose h) numbered.within
       (let low = numbered.cport in omega (arith, low, sym is.1 ∙ x.same.cport)))))))
 
@@ -183,8 +140,7 @@ module _ (b : Bus) (h : Host) (pairs : List (ℕ × ℕ)) (q : Asking) (n : ℕ)
       (pairs_then (is_for_connection q.purpose.step) at n pairs) None
   creates-asked = record {
     own = λ j r made on by_ap is. inr (⊎_elim
-        (λ a. here j r made is (sym (ap (λ (w : Asking × ℕ). w.1)
-        (same-some (q, n) (a.0, j) a.1))))
+        (λ a. here j r made is (sym (ap (λ (w : Asking × ℕ). w.1) (same-some (q, n) (a.0, j) a.1))))
         (λ p. (
           p.0,
           in-then (is_for_connection q.purpose.step) at n pairs (j, p.0) p.1,
@@ -193,8 +149,7 @@ module _ (b : Bus) (h : Host) (pairs : List (ℕ × ℕ)) (q : Asking) (n : ℕ)
         (λ new. last l r live new (same-record j r made new.number)
         (is_creating q.purpose.step) refl)
         (out-then (is_for_connection q.purpose.step) at n pairs j l.connection p);
-    first = λ i j k r p o made is. ⊎_elim
-        (λ old. ⊎_elim (λ old2. f.first i j k r old old2 made is)
+    first = λ i j k r p o made is. ⊎_elim (λ old. ⊎_elim (λ old2. f.first i j k r old old2 made is)
         (λ new2. let less = asked.behind i k old in omega (arith, less, new2.number))
         (out-then (is_for_connection q.purpose.step) at n pairs j k o))
         (λ new. ⊎_elim (λ old2. absurd (alone i k r new made is j old2))
@@ -204,8 +159,7 @@ module _ (b : Bus) (h : Host) (pairs : List (ℕ × ℕ)) (q : Asking) (n : ℕ)
   }
     where
       here : (j : ℕ) (r : Request) → nth j b.requests ≡ Some r → creates_one r ≡ true → j ≡ n
-          → (k : ℕ)
-          × IsIn (j, k) (pairs_then (is_for_connection q.purpose.step) at n pairs)
+          → (k : ℕ) × IsIn (j, k) (pairs_then (is_for_connection q.purpose.step) at n pairs)
       here j r made is e =
           let create = creating (ap is_create (sym (same-record j r made e)) ∙ is) in
           let k = found create in (
@@ -224,22 +178,19 @@ module _ (b : Bus) (h : Host) (pairs : List (ℕ × ℕ)) (q : Asking) (n : ℕ)
           at-same x.link l x.same (read_svc_ask r.kind r.payload) (f.ends j x.link r x.live
           (subst (λ k. IsIn (j, k) pairs) x.same.connection p) made)
 
-      last : {j : ℕ} (l : Link) (r : Request) → IsIn l then.links
-          → IsNewPair at n j l.connection
+      last : {j : ℕ} (l : Link) (r : Request) → IsIn l then.links → IsNewPair at n j l.connection
           → read_svc_ask r.kind r.payload ≡ read_svc_ask q.kind q.payload
           → (t : Bool) → is_creating q.purpose.step ≡ t
           → IsBetween l.ap l.intf l.cport (read_svc_ask r.kind r.payload)
       last l r live new same t e =
-          let rise = (awaits-fits b q.purpose n h fits due).0.links.rise in
+          let rise = (awaits-fits q.purpose n fits due).0.links.rise in
           let i = found-in (is_link q.purpose.intf q.purpose.cport) then.links new.link new.is in
           let is = one-link then.links l new.link rise live i.0 new.on in
           subst (λ (y : Link). IsBetween y.ap y.intf y.cport (read_svc_ask r.kind r.payload))
-          (sym is)
-          (subst (IsBetween new.link.ap new.link.intf new.link.cport) (sym same) (by t e))
+          (sym is) (subst (IsBetween new.link.ap new.link.intf new.link.cport) (sym same) (by t e))
         where
           by : (t : Bool) → is_creating q.purpose.step ≡ t
-              → IsBetween new.link.ap new.link.intf new.link.cport
-              (read_svc_ask q.kind q.payload)
-          by true e = at-same (ready.0 e).link new.link (same-found e new.link new.is)
+              → IsBetween new.link.ap new.link.intf new.link.cport (read_svc_ask q.kind q.payload)
+          by true e = at-same (ready.0 e).link new.link (same-found e new.is)
               (read_svc_ask q.kind q.payload) (ready.0 e).ends
           by false e = aimed e new.link new.is

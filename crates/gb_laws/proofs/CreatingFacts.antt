@@ -1,41 +1,17 @@
 -- What is known of the requests that create connections, beside what is remembered of them.
-use Rattle.std.proofs.Common.{
-  false,
-  List,
-  Option,
-  Some,
-  [],
-  ap,
-  arith,
-  inl,
-  inr,
-  length,
-  subst,
-  sym,
-  true,
-  ℕ,
-  ⊎_elim,
-  ◌∙◌,
-  ◌∷◌,
-  ◌≡◌,
-  ◌≤◌,
-  ◌⊎◌,
-}
+use Rattle.std.proofs.Common.{List, Option, Some, ap, arith, false, inl, inr, length, subst, sym}
+use Rattle.std.proofs.Common.{true, ℕ, ⊎_elim, [], ◌∙◌, ◌∷◌, ◌≡◌, ◌≤◌, ◌⊎◌}
 use Rattle.std.specs.Prelude.{Result}
 use Rattle.gb_base.specs.declared.end.Side.TheVariants as side
 use Rattle.gb_base.specs.declared.peers.Link.{Link}
-use Rattle.gb_formats.specs.Records.{PayloadFault}
-use Rattle.gb_formats.specs.SvcRecords.{SvcAsk, read_svc_ask}
+use Rattle.gb_formats.specs.{Records.PayloadFault, SvcRecords.SvcAsk, SvcRecords.read_svc_ask}
+use Rattle.gb_machine.specs.Bus.{Bus, Request, next_number, request_of}
+use Rattle.gb_machine.specs.Sending.{Draft, requested, sent}
+use Rattle.gb_machine.specs.{Host.Host, Host.link_at, Lists.nth, Members.Each, Members.IsIn}
+use Rattle.gb_machine.specs.{Turns.Act, Turns.Asking}
 use Rattle.gb_invariants.proofs.Awaiting.{not-both, sent-made}
 use Rattle.gb_laws.proofs.Creating.{IsBetween, IsMade, creates_one, is_creating}
-use Rattle.gb_laws.proofs.CreatingTurns.{AreOrderly, IsAimed}
-use Rattle.gb_laws.proofs.Links.{SameLink}
-use Rattle.gb_machine.specs.Bus.{Bus, Request, next_number, request_of}
-use Rattle.gb_machine.specs.Host.{Host, link_at}
-use Rattle.gb_machine.specs.Lists.{nth}
-use Rattle.gb_machine.specs.Members.{Each, IsIn}
-use Rattle.gb_machine.specs.Sending.{Draft, requested, sent}
-use Rattle.gb_machine.specs.Turns.{Act, Asking}
+use Rattle.gb_laws.proofs.{CreatingTurns.AreOrderly, CreatingTurns.IsAimed, Links.SameLink}
 
 -- Each request of the application processor to the supervisory controller that creates a connection
 -- is remembered for one, but for the one for which a sequence is still to wait. It creates that
@@ -72,9 +48,7 @@ abbrev pub IsReady : Host → List (ℕ × ℕ) → Act → Type 0
 IsReady h pairs (Act.Ask q) = (is_creating q.purpose.step ≡ true → IsPrepared h pairs q)
     × (is_creating q.purpose.step ≡ false → IsAimed h q)
 IsReady h pairs (Act.Open w q) = IsMade w q
-IsReady h pairs (Act.Shut k) = Unit {0}
-IsReady h pairs (Act.Leave k) = Unit {0}
-IsReady h pairs (Act.Tell e) = Unit {0}
+IsReady h pairs _ = Unit {0}
 
 -- those that are pending are
 abbrev pub AreReady : Host → List (ℕ × ℕ) → List Act → Type 0
@@ -107,10 +81,10 @@ at-same x l same r h =
     (subst (λ i. IsBetween x.ap i l.cport r) (sym same.intf)
     (subst (λ c. IsBetween x.ap x.intf c r) (sym same.cport) h))
 
-pub creates-came : (rs : List Request) (ls ms : List Link) (pairs : List (ℕ × ℕ))
-    (asked : Option (Asking × ℕ)) → Came ls ms → CreatesFit rs ls pairs asked
+pub creates-came : {rs : List Request} {ls ms : List Link} {pairs : List (ℕ × ℕ)}
+    {asked : Option (Asking × ℕ)} → Came ls ms → CreatesFit rs ls pairs asked
     → CreatesFit rs ms pairs asked
-creates-came rs ls ms pairs asked came f = record {
+creates-came {pairs} came f = record {
   own = f.own;
   ends = λ n l r i p made. let x = came l i in
       at-same x.0 l x.2 (read_svc_ask r.kind r.payload)
@@ -121,21 +95,17 @@ creates-came rs ls ms pairs asked came f = record {
 -- ---- a request is made
 
 pub creates-sent : (d : Draft) (label : ℕ) (b : Bus) (ls : List Link) (pairs : List (ℕ × ℕ))
-    (asked now : Option (Asking × ℕ))
-    → ((n k : ℕ) → IsIn (n, k) pairs → n ≤ length b.requests)
+    (asked now : Option (Asking × ℕ)) → ((n k : ℕ) → IsIn (n, k) pairs → n ≤ length b.requests)
     → ((q : Asking) (n : ℕ) → asked ≡ Some (q, n) → now ≡ Some (q, n))
     → (d.connection ≡ 1 → d.side ≡ side.Ap → creates_one (requested d label) ≡ true
     → (q : Asking) × (now ≡ Some (q, next_number b)))
     → CreatesFit b.requests ls pairs asked → CreatesFit (sent d label b).requests ls pairs now
 creates-sent d label b ls pairs asked now below still new f = record {
-  own = λ n r made on by_ap is. ⊎_elim
-      (λ old. ⊎_elim (λ a. inl (a.0, still a.0 n a.1)) (λ p. inr p)
+  own = λ n r made on by_ap is. ⊎_elim (λ old. ⊎_elim (λ a. inl (a.0, still a.0 n a.1)) (λ p. inr p)
       (f.own n r old on by_ap is))
       (λ e. let q = new (ap (λ (x : Request). x.connection) (sym e.1) ∙ on)
-      (ap (λ (x : Request). x.side) (sym e.1) ∙ by_ap)
-      (ap creates_one (sym e.1) ∙ is) in
-      inl (q.0, q.1 ∙ ap (λ k. Some (q.0, k)) (sym e.0)))
-      (sent-made d label b n r made);
+      (ap (λ (x : Request). x.side) (sym e.1) ∙ by_ap) (ap creates_one (sym e.1) ∙ is) in
+      inl (q.0, q.1 ∙ ap (λ k. Some (q.0, k)) (sym e.0))) (sent-made d label b n r made);
   ends = λ n l r live p made. f.ends n l r live p (before n l.connection r p made);
   first = λ n j k r p o made is. f.first n j k r p o (before n k r p made) is;
 }

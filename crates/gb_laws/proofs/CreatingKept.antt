@@ -1,96 +1,33 @@
 -- What is known of the requests that create connections is kept by each single change.
-use Rattle.std.proofs.Common.{
-  Bool,
-  None,
-  Option,
-  Some,
-  [],
-  ap,
-  arith,
-  cond,
-  false,
-  inl,
-  inr,
-  refl,
-  subst,
-  sym,
-  true,
-  ℕ,
-  ⊎_elim,
-  ◌++◌,
-  ◌∙◌,
-  ◌∷◌,
-  ◌≡◌,
-}
+use Rattle.std.proofs.Common.{Bool, None, Option, Some, ap, arith, cond, false, inl, inr, refl}
+use Rattle.std.proofs.Common.{subst, sym, true, ℕ, ⊎_elim, [], ◌++◌, ◌∙◌, ◌∷◌, ◌≡◌}
 use Rattle.gb_base.specs.declared.end.Side.TheVariants as side
 use Rattle.gb_base.specs.declared.peers.Link.{Link}
 use Rattle.gb_base.specs.declared.steps.SequenceStep.{SequenceStep}
-use Rattle.gb_invariants.proofs.Awaiting.{not-both}
-use Rattle.gb_invariants.proofs.Lists.{in-behind, in-pushed}
-use Rattle.gb_laws.proofs.Awaited.{awaited-rest}
-use Rattle.gb_laws.proofs.Creating.{is_creating, create-reserved, creates_one, made-creates}
-use Rattle.gb_laws.proofs.CreatingAsked.{creates-asked}
-use Rattle.gb_laws.proofs.CreatingFacts.{
-  AreReady,
-  Came,
-  CreatesFit,
-  creates-came,
-  creates-sent,
-  orderly-ready,
-}
-use Rattle.gb_laws.proofs.CreatingTurns.{turn-orderly}
-use Rattle.gb_laws.proofs.LinkActs.{ServedHost, as_before, awaited-host, host-served, with_more}
-use Rattle.gb_laws.proofs.LinkBuses.{new_link}
-use Rattle.gb_laws.proofs.LinkHosts.{same-link}
-use Rattle.gb_laws.proofs.LinkLists.{found-at, in-first}
-use Rattle.gb_laws.proofs.LinkSources.{LinksFrom, from-turn, from-unsent}
-use Rattle.gb_laws.proofs.Linking.{LinkedAt}
-use Rattle.gb_laws.proofs.Links.{ArePending, IsFree, IsMaking, SameLink, connection, control}
-use Rattle.gb_laws.proofs.PairsAsked.{pairs_then}
-use Rattle.gb_laws.proofs.PairsKept.{PairsAt}
-use Rattle.gb_laws.proofs.PointParts.{Point}
-use Rattle.gb_laws.proofs.Points.{
-  Change,
-  IsAskedBy,
-  IsAsking,
-  IsFarAsking,
-  IsPlain,
-  acts_asked,
-  acts_failed,
-  acts_left,
-  acts_opened,
-  acts_shut,
-  acts_told,
-  asking,
-  asks,
-  awaited_by,
-  by_far,
-  by_host,
-  by_module,
-  by_svc,
-  changed,
-  names,
-  opening,
-  serves,
-  spends,
-  turns,
-}
-use Rattle.gb_laws.proofs.Remembering.{RemembersAt}
-use Rattle.gb_machine.specs.Bus.{Bus, next_number}
-use Rattle.gb_machine.specs.Failures.{unsent}
 use Rattle.gb_machine.specs.Host.{Host, is_link, link_at, with_link}
-use Rattle.gb_machine.specs.HostActs.{made_for, with_awaited}
-use Rattle.gb_machine.specs.HostServing.{host_serves, with_credits}
-use Rattle.gb_machine.specs.HostTurns.{host_turn}
-use Rattle.gb_machine.specs.LineActions.{spent}
-use Rattle.gb_machine.specs.Members.{IsIn}
-use Rattle.gb_machine.specs.Refusals.{is_reserved}
-use Rattle.gb_machine.specs.Runs.{Moment}
-use Rattle.gb_machine.specs.Sending.{Draft, requested}
-use Rattle.gb_machine.specs.SequenceSteps.{is_for_connection}
-use Rattle.gb_machine.specs.Turns.{Act, Asking}
-use Rattle.gb_machine.specs.Waits.{awaits}
-use Rattle.gb_machine.specs.Wiring.{next_connection}
+use Rattle.gb_machine.specs.{Bus.Bus, Bus.next_number, Failures.unsent, HostActs.made_for}
+use Rattle.gb_machine.specs.{HostActs.with_awaited, HostServing.host_serves}
+use Rattle.gb_machine.specs.{HostServing.with_credits, HostTurns.host_turn, LineActions.spent}
+use Rattle.gb_machine.specs.{Members.IsIn, Refusals.is_reserved, Runs.Moment, Sending.Draft}
+use Rattle.gb_machine.specs.{Sending.requested, SequenceSteps.is_for_connection, Turns.Act}
+use Rattle.gb_machine.specs.{Turns.Asking, Waits.awaits, Wiring.next_connection}
+use Rattle.gb_invariants.proofs.{Awaiting.none-some, Awaiting.not-both, Found.in-first}
+use Rattle.gb_invariants.proofs.{Lists.in-behind, Lists.in-pushed, Selves.far-no-ap}
+use Rattle.gb_laws.proofs.Creating.{create-reserved, creates_one, is_creating, made-creates}
+use Rattle.gb_laws.proofs.CreatingFacts.{AreReady, Came, CreatesFit, creates-came, creates-sent}
+use Rattle.gb_laws.proofs.CreatingFacts.{orderly-ready}
+use Rattle.gb_laws.proofs.LinkActs.{ServedHost, as_before, awaited-host, host-served, with_more}
+use Rattle.gb_laws.proofs.LinkSources.{LinksFrom, from-turn, from-unsent}
+use Rattle.gb_laws.proofs.Links.{ArePending, IsFree, IsMaking, SameLink, connection, control}
+use Rattle.gb_laws.proofs.Points.{Change, IsAskedBy, IsAsking, IsFarAsking, IsPlain, acts_asked}
+use Rattle.gb_laws.proofs.Points.{acts_failed, acts_left, acts_opened, acts_shut, acts_told, asking}
+use Rattle.gb_laws.proofs.Points.{asks, awaited_by, by_far, by_host, by_module, by_svc, changed}
+use Rattle.gb_laws.proofs.Points.{names, opening, serves, spends, turns}
+use Rattle.gb_laws.proofs.{Awaited.awaited-rest, CreatingAsked.creates-asked}
+use Rattle.gb_laws.proofs.{CreatingTurns.turn-orderly, LinkBuses.new_link, LinkHosts.credits-link}
+use Rattle.gb_laws.proofs.{LinkHosts.same-link, LinkKept.LinkedAt, LinkLists.found-at}
+use Rattle.gb_laws.proofs.{PairsAsked.pairs_then, PairsKept.PairsAt, PointParts.Point}
+use Rattle.gb_laws.proofs.{Remembering.RemembersAt}
 
 -- what is known at a point
 pub record CreatesAll (a : Point) : Type 0 where
@@ -106,26 +43,12 @@ came-link h i c f same l j = ⊎_elim (λ o. (l, o, same-link l))
     (λ v. (v.0, v.1, subst (SameLink v.0) (sym v.3) (same v.0)))
     (in-first (is_link i c) f h.links l j)
 
--- a connection of which only what changes changes
-pub credits-same : (total : ℕ) (l : Link) → SameLink l (with_credits total l)
-credits-same total l =
-    record { connection = refl; ap = refl; intf = refl; cport = refl; protocol = refl }
-
-nothing-some : {w : Asking × ℕ} → None ≡ Some w → ⊥
-nothing-some e = absurd cc
-
 -- ---- who asks
 
 pub far-side : (m : Moment) (a : Point) (d : Draft) (c : _) → IsFarAsking m a.state c d
     → d.side ≡ side.Ap → ⊥
-far-side m a d c (by_module i p peer far) e = apart (sym far ∙ e)
-  where
-    apart : side.Far ≡ side.Ap → ⊥
-    apart g = absurd cc
-far-side m a d c (by_svc of far level) e = apart (sym far ∙ e)
-  where
-    apart : side.Far ≡ side.Ap → ⊥
-    apart g = absurd cc
+far-side m a d c (by_module i p peer far) e = far-no-ap (sym far ∙ e)
+far-side m a d c (by_svc of far level) e = far-no-ap (sym far ∙ e)
 
 -- what a line asks creates no connection
 plain-none : (a : Point) (d : Draft) (label : ℕ) → LinkedAt a → IsPlain a.state d
@@ -149,7 +72,7 @@ creates-kept m a (asks d c label free live drawn who) links r f then h = record 
   where
     still : (w : IsAskedBy m a c d) (q : Asking) (n : ℕ) → a.asked ≡ Some (q, n)
         → awaited_by m a c d w ≡ Some (q, n)
-    still (by_host p rest is draft none) q n e = absurd (nothing-some (sym none ∙ e))
+    still (by_host p rest is draft none) q n e = absurd (none-some (sym none ∙ e))
     still (by_far far on) q n e = e
 
     new : (w : IsAskedBy m a c d) → d.connection ≡ 1 → d.side ≡ side.Ap
@@ -164,8 +87,7 @@ creates-kept m a (names name d c label free live drawn host) links r f then h = 
   ready = h.ready;
 }
 creates-kept m a (turns e free untouched none cause) links r f then h = record {
-  fit = creates-came a.state.bus.requests a.state.host.links (host_turn e a.state.host).host.links
-      a.state.past.made_for a.asked
+  fit = creates-came
       (came-from a.state.host (host_turn e a.state.host).host (from-turn e a.state.host)) h.fit;
   ready = orderly-ready (host_turn e a.state.host).host a.state.past.made_for
       (host_turn e a.state.host).acts (turn-orderly e a.state.host);
@@ -226,12 +148,10 @@ creates-kept m a (acts_opened w q rest free is) links r f then h = record {
     fresh n k p e = let low = f.given n k p in omega (arith, low, e)
 creates-kept m a (acts_asked q n rest is) links r f then h = record {
   fit = subst (λ (b : Bus). CreatesFit b.requests (with_awaited q.purpose n a.state).host.links
-      (with_awaited q.purpose n a.state).past.made_for None)
-      (sym (awaited-rest q.purpose n a.state).bus)
+      (with_awaited q.purpose n a.state).past.made_for None) (sym (awaited-rest q.purpose n).bus)
       (subst (λ (g : Host). CreatesFit a.state.bus.requests g.links
       (with_awaited q.purpose n a.state).past.made_for None)
-      (sym (awaited-host q.purpose n a.state))
-      (by (is_for_connection q.purpose.step)
+      (sym (awaited-host q.purpose n a.state)) (by (is_for_connection q.purpose.step)
       (link_at q.purpose.intf q.purpose.cport (awaits q.purpose n a.state.host))
       (creates-asked a.state.bus a.state.host a.state.past.made_for q n links.host pending.0.0
       pending.0.2 (f.asks q n is.1)
@@ -255,9 +175,7 @@ creates-kept m a (acts_asked q n rest is) links r f then h = record {
     by true (Some l) x = x
     by false o x = x
 creates-kept m a (acts_failed q rest is quiet) links r f then h = record {
-  fit = creates-came a.state.bus.requests a.state.host.links
-      (unsent q.purpose a.state.host).host.links a.state.past.made_for a.asked
-      (came-from a.state.host (unsent q.purpose a.state.host).host
+  fit = creates-came (came-from a.state.host (unsent q.purpose a.state.host).host
       (from-unsent q.purpose.step q.purpose a.state.host)) h.fit;
   ready = subst (AreReady (unsent q.purpose a.state.host).host a.state.past.made_for)
       (sym (last is)) tt;
@@ -267,9 +185,7 @@ creates-kept m a (acts_failed q rest is quiet) links r f then h = record {
     last (asking e) = (subst (ArePending a.state.host) e links.pending).0.1
     last (opening w e) = (subst (ArePending a.state.host) e links.pending).0.1
 creates-kept m a (serves k kind payload none) links r f then h = record {
-  fit = creates-came a.state.bus.requests a.state.host.links
-      (host_serves k kind payload a.state.host).host.links a.state.past.made_for a.asked
-      (by (host-served k kind payload a.state.host)) h.fit;
+  fit = creates-came (by (host-served k kind payload)) h.fit;
   ready = subst (AreReady (host_serves k kind payload a.state.host).host a.state.past.made_for)
       (sym none.0) tt;
 }
@@ -279,17 +195,9 @@ creates-kept m a (serves k kind payload none) links r f then h = record {
     by (as_before e) = subst (λ (g : Host). Came a.state.host.links g.links) (sym e)
         (λ l i. (l, i, same-link l))
     by (with_more i c total e) = subst (λ (g : Host). Came a.state.host.links g.links) (sym e)
-        (came-link a.state.host i c (with_credits total) (credits-same total))
+        (came-link a.state.host i c (with_credits total) (credits-link total))
 creates-kept m a (spends i c what none) links r f then h = record {
-  fit = creates-came a.state.bus.requests a.state.host.links
-      (with_link i c (spent what) a.state.host).links a.state.past.made_for a.asked
-      (came-link a.state.host i c (spent what) (λ l. record {
-        connection = refl;
-        ap = refl;
-        intf = refl;
-        cport = refl;
-        protocol = refl;
-      })) h.fit;
+  fit = creates-came (came-link a.state.host i c (spent what) (λ l. credits-link _ l)) h.fit;
   ready = subst (AreReady (with_link i c (spent what) a.state.host) a.state.past.made_for)
       (sym none.0) tt;
 }

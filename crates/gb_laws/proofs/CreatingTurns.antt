@@ -1,84 +1,29 @@
 -- What a turn of the application processor asks creates no connection, but behind one that it
 -- makes, of which the request then speaks.
-use Rattle.std.proofs.Common.{
-  Bool,
-  List,
-  None,
-  Option,
-  Some,
-  [],
-  cond,
-  false,
-  length,
-  map,
-  refl,
-  true,
-  ℕ,
-  ◌++◌,
-  ◌∷◌,
-  ◌≡◌,
-}
+use Rattle.std.proofs.Common.{Bool, List, None, Option, Some, cond, false, length, map, refl, true}
+use Rattle.std.proofs.Common.{ℕ, [], ◌++◌, ◌∷◌, ◌≡◌}
 use Rattle.std.specs.Prelude.{Err, Ok, Result, option_and_then, ◌==◌}
-use Rattle.gb_base.specs.declared.entry.ConnState.TheVariants as state
 use Rattle.gb_base.specs.declared.entry.Entry.{Entry}
+use Rattle.gb_base.specs.declared.entry.ConnState.TheVariants as state
 use Rattle.gb_base.specs.declared.outcome.Outcome.{Outcome}
-use Rattle.gb_base.specs.declared.peers.Interface.{Interface}
-use Rattle.gb_base.specs.declared.peers.Link.{Link}
-use Rattle.gb_base.specs.declared.steps.Purpose.{Purpose}
-use Rattle.gb_base.specs.declared.steps.SequenceStep.{SequenceStep}
+use Rattle.gb_base.specs.declared.peers.{Interface.Interface, Link.Link}
+use Rattle.gb_base.specs.declared.steps.{Purpose.Purpose, SequenceStep.SequenceStep}
 use Rattle.gb_base.specs.declared.steps.SequenceStep.TheVariants as steps
-use Rattle.gb_formats.specs.ControlRecords.{read_control_reply}
 use Rattle.gb_formats.specs.Manifest.{CportView, Manifest, check_answer}
-use Rattle.gb_formats.specs.ManifestRules.{Refused}
-use Rattle.gb_laws.proofs.Creating.{IsMade, is_creating}
-use Rattle.gb_machine.specs.Failures.{interface_fails, step_fails}
-use Rattle.gb_machine.specs.Host.{
-  Host,
-  cport_of,
-  free_cport,
-  free_device,
-  in_state,
-  interface_of,
-  link_at,
-  with_interface,
-  with_link,
-  with_new_interface,
-}
-use Rattle.gb_machine.specs.HostTurns.{
-  without_interface,
-  connects,
-  connects_on,
-  disconnects,
-  ended_for,
-  host_turn,
-  links_left,
-  links_of,
-}
-use Rattle.gb_machine.specs.Members.{Each}
-use Rattle.gb_machine.specs.SequenceSteps.{payload_of, at_step, is_reply, purpose}
-use Rattle.gb_machine.specs.Sequences.{
-  ap_in,
-  asked_on,
-  begins_control,
-  begins_device,
-  goes_on,
-  link_left,
-  link_turn,
-  manifest_checked,
-  opened,
-  opened_told,
-  opens,
-  payload_in,
-  size_in,
-  size_known,
-  step_answered,
-  step_asked,
-  step_done,
-  target,
-  way_of,
-}
+use Rattle.gb_formats.specs.{ControlRecords.read_control_reply, ManifestRules.Refused}
+use Rattle.gb_machine.specs.Host.{Host, cport_of, free_cport, free_device, in_state, interface_of}
+use Rattle.gb_machine.specs.Host.{link_at, with_interface, with_link, with_new_interface}
+use Rattle.gb_machine.specs.HostTurns.{connects, connects_on, disconnects, ended_for, host_turn}
+use Rattle.gb_machine.specs.HostTurns.{links_left, links_of, without_interface}
+use Rattle.gb_machine.specs.SequenceSteps.{at_step, is_reply, payload_of, purpose}
+use Rattle.gb_machine.specs.Sequences.{ap_in, asked_on, begins_control, begins_device, goes_on}
+use Rattle.gb_machine.specs.Sequences.{link_left, link_turn, manifest_checked, opened, opened_told}
+use Rattle.gb_machine.specs.Sequences.{opens, payload_in, size_in, size_known, step_answered}
+use Rattle.gb_machine.specs.Sequences.{step_asked, step_done, target, way_of}
 use Rattle.gb_machine.specs.Turns.{Act, Asking, Failing, HostEvent, Turn, failed_turn}
-use Rattle.gb_machine.specs.Waits.{awaited, awaits_nothing}
+use Rattle.gb_machine.specs.{Failures.interface_fails, Failures.step_fails, Members.Each}
+use Rattle.gb_machine.specs.{Waits.awaited, Waits.awaits_nothing}
+use Rattle.gb_laws.proofs.Creating.{IsMade, is_creating}
 
 -- a request speaks of the connection of its purpose
 abbrev pub IsAimed : Host → Asking → Type 0
@@ -89,9 +34,7 @@ IsAimed h q = q.payload ≡ payload_of q.purpose.step
 abbrev pub IsOrderly : Host → Act → Type 0
 IsOrderly h (Act.Ask q) = (is_creating q.purpose.step ≡ false) × IsAimed h q
 IsOrderly h (Act.Open w q) = IsMade w q
-IsOrderly h (Act.Shut k) = Unit {0}
-IsOrderly h (Act.Leave k) = Unit {0}
-IsOrderly h (Act.Tell e) = Unit {0}
+IsOrderly h _ = Unit {0}
 
 abbrev pub AreOrderly : Host → List Act → Type 0
 AreOrderly h acts = Each (IsOrderly h) acts
@@ -107,16 +50,14 @@ tells-orderly h (e ∷ es) = (tt, tells-orderly h es)
 fails-orderly : (f : Failing) → IsTurn (failed_turn f)
 fails-orderly f = tells-orderly f.host f.told
 
-asks-orderly : (p : Purpose) (h : Host) → is_creating p.step ≡ false
-    → IsTurn (step_asked p h)
+asks-orderly : (p : Purpose) (h : Host) → is_creating p.step ≡ false → IsTurn (step_asked p h)
 asks-orderly p h other = by (way_of p h)
   where
     by : (o : Option ℕ) → IsTurn (asked_on o p h)
     by None = fails-orderly (step_fails p.step p h)
     by (Some k) = ((other, refl), tt)
 
-opens-orderly : (a protocol : ℕ) (p : Purpose) (h : Host)
-    → IsTurn (opens a protocol p h)
+opens-orderly : (a protocol : ℕ) (p : Purpose) (h : Host) → IsTurn (opens a protocol p h)
 opens-orderly a protocol p h = (
   record {
     target = target a p h;
@@ -136,8 +77,7 @@ checked-orderly : (r : Result Manifest Refused) (p : Purpose) (bytes : List ℕ)
 checked-orderly (Ok v) p bytes h = (tt, tt)
 checked-orderly (Err why) p bytes h = (tt, fails-orderly (interface_fails p h))
 
-told-orderly : (o : Option Link) (t : Turn) → IsTurn t
-    → IsTurn (opened_told o t)
+told-orderly : (o : Option Link) (t : Turn) → IsTurn t → IsTurn (opened_told o t)
 told-orderly None t h = h
 told-orderly (Some l) t h = (tt, h)
 
@@ -170,8 +110,7 @@ done-orderly steps.AskSize p payload h = asks-orderly (at_step steps.AskManifest
 done-orderly steps.AskManifest p payload h =
     by (length payload == size_known (interface_of p.intf h))
   where
-    by : (t : Bool) → IsTurn (cond t
-        (manifest_checked (check_answer payload) p payload h)
+    by : (t : Bool) → IsTurn (cond t (manifest_checked (check_answer payload) p payload h)
         (failed_turn (interface_fails p h)))
     by true = checked-orderly (check_answer payload) p payload h
     by false = fails-orderly (interface_fails p h)
@@ -192,8 +131,7 @@ done-orderly steps.DestroyConnection p payload h = by (link_at p.intf p.cport h)
     by None g = tt
     by (Some l) g = (tt, (tt, tt))
 
-answered-orderly : (o : Option (List ℕ)) (p : Purpose) (h : Host)
-    → IsTurn (step_answered o p h)
+answered-orderly : (o : Option (List ℕ)) (p : Purpose) (h : Host) → IsTurn (step_answered o p h)
 answered-orderly None p h = fails-orderly (step_fails p.step p h)
 answered-orderly (Some payload) p h = by (is_reply p.step payload)
   where
@@ -202,8 +140,7 @@ answered-orderly (Some payload) p h = by (is_reply p.step payload)
     by true = done-orderly p.step p payload h
     by false = fails-orderly (step_fails p.step p h)
 
-ended-orderly : (o : Option Purpose) (how : Outcome) (h : Host)
-    → IsTurn (ended_for o how h)
+ended-orderly : (o : Option Purpose) (how : Outcome) (h : Host) → IsTurn (ended_for o how h)
 ended-orderly None how h = tt
 ended-orderly (Some p) how h = answered-orderly (payload_in how) p (awaits_nothing p h)
 
@@ -214,8 +151,7 @@ left-orderly : (g : Host) (ls : List Link) (rest : List Act) → AreOrderly g re
 left-orderly g [] rest h = h
 left-orderly g (l ∷ ls) rest h = (tt, (tt, (tt, left-orderly g ls rest h)))
 
-connects-orderly : (o : Option CportView) (p : Purpose) (h : Host)
-    → IsTurn (connects o p h)
+connects-orderly : (o : Option CportView) (p : Purpose) (h : Host) → IsTurn (connects o p h)
 connects-orderly None p h = tt
 connects-orderly (Some view) p h = on (free_cport h)
   where

@@ -1,102 +1,40 @@
 -- What a delivery makes of the credits of connections: those that come back are told.
-use Rattle.std.proofs.Common.{
-  ◌≡◌,
-  ◌≤◌,
-  ◌⊎◌,
-  ℕ,
-  ◌+◌,
-  Bool,
-  true,
-  false,
-  cond,
-  Option,
-  Some,
-  None,
-  List,
-  [],
-  ◌∷◌,
-  refl,
-  sym,
-  ap,
-  ◌∙◌,
-  inl,
-  inr,
-  subst,
-  arith,
-}
-use Rattle.std.specs.Prelude.{◌==◌}
+use Rattle.std.proofs.Common.{Bool, List, None, Option, Some, ap, arith, cond, false, inl, inr}
+use Rattle.std.proofs.Common.{refl, subst, sym, true, ℕ, [], ◌+◌, ◌∙◌, ◌∷◌, ◌≡◌, ◌≤◌, ◌⊎◌}
 use Rattle.std.specs.List.{find, list_any}
-use Rattle.gb_base.specs.declared.end.End.{End}
+use Rattle.std.specs.Prelude.{◌==◌}
+use Rattle.gb_base.specs.declared.end.{End.End, Side.Side}
 use Rattle.gb_base.specs.declared.end.End.TheVariants as end
-use Rattle.gb_base.specs.declared.end.Side.{Side}
 use Rattle.gb_base.specs.declared.end.Side.TheVariants as side
 use Rattle.gb_base.specs.declared.entry.Entry.TheVariants as entry
 use Rattle.gb_base.specs.declared.event.Event.TheVariants as event
 use Rattle.gb_base.specs.declared.peers.Link.{Link}
-use Rattle.gb_formats.specs.SvcRecords.{read_svc_ask_of_svc}
-use Rattle.gb_formats.specs.UartDevice.{most_credits}
-use Rattle.gb_formats.specs.UartRecords.{read_uart_ask, read_uart_ask_of_module}
-use Rattle.gb_invariants.proofs.Awaiting.{not-both, same-some}
-use Rattle.gb_invariants.proofs.Lists.{found-in}
-use Rattle.gb_invariants.proofs.Outcomes.{is-same, same-number}
-use Rattle.gb_laws.proofs.Absent.{far-end}
-use Rattle.gb_laws.proofs.CreditsLines.{Moved, in-linked, old, other-number}
-use Rattle.gb_laws.proofs.CreditsMoved.{
-  back-far,
-  back-untold,
-  count-read,
-  if-zero,
-  plain-host,
-  popped-request,
-  sent-other,
-  stayed,
-}
-use Rattle.gb_laws.proofs.CreditsServed.{
-  IsPlainly,
-  DoesAs,
-  HandlesAs,
-  UartServed,
-  comes_back,
-  drops_it,
-  handles-does,
-  nothing_back,
-  takes_it,
-  uart-served,
-}
-use Rattle.gb_laws.proofs.LinkedFrom.{Linked}
-use Rattle.gb_laws.proofs.LinkHosts.{same-link}
-use Rattle.gb_laws.proofs.LinkLists.{found-at, found-link}
-use Rattle.gb_laws.proofs.LinkRuns.{LinkedTo}
-use Rattle.gb_laws.proofs.Links.{SameLink}
-use Rattle.gb_laws.proofs.Places.{place-is}
-use Rattle.gb_laws.proofs.PointParts.{IsServed}
-use Rattle.gb_laws.proofs.Points.{IsBridge}
-use Rattle.gb_laws.proofs.Removing.{delivered-state}
-use Rattle.gb_laws.proofs.SettleQueues.{IsFarEnd}
-use Rattle.gb_laws.proofs.Turned.{svc-host}
+use Rattle.gb_formats.specs.{SvcRecords.read_svc_ask_of_svc, UartDevice.most_credits}
+use Rattle.gb_formats.specs.{UartRecords.read_uart_ask, UartRecords.read_uart_ask_of_module}
 use Rattle.gb_machine.proofs.Opened.{machine_opened}
 use Rattle.gb_machine.specs.Actions.{given, on_bus, ◌▸◌}
-use Rattle.gb_machine.specs.Arriving.{delivers_at, handles}
 use Rattle.gb_machine.specs.Bus.{Item, Place, end_of, place_of, queue}
-use Rattle.gb_machine.specs.Delivery.{popped}
-use Rattle.gb_machine.specs.Events.{decided, step}
 use Rattle.gb_machine.specs.Host.{Host, is_link, link_of, with_link}
 use Rattle.gb_machine.specs.HostServing.{host_serves, served_on, with_credits}
-use Rattle.gb_machine.specs.Incoming.{Incoming, request_in}
-use Rattle.gb_machine.specs.LawsCredits.{
-  bytes_sent,
-  count_at,
-  count_in,
-  count_of,
-  count_on,
-  credits_back,
-  is_credits,
-}
-use Rattle.gb_machine.specs.Lists.{first}
-use Rattle.gb_machine.specs.Members.{IsIn}
-use Rattle.gb_machine.specs.Refusals.{refusal}
+use Rattle.gb_machine.specs.LawsCredits.{bytes_sent, count_at, count_in, count_of, count_on}
+use Rattle.gb_machine.specs.LawsCredits.{credits_back, is_credits}
 use Rattle.gb_machine.specs.Runs.{IsMoment, Moment, after, told_at}
-use Rattle.gb_machine.specs.State.{State}
+use Rattle.gb_machine.specs.{Arriving.delivers_at, Arriving.handles, Delivery.popped}
+use Rattle.gb_machine.specs.{Events.decided, Events.step, Incoming.Incoming, Incoming.request_in}
+use Rattle.gb_machine.specs.{Lists.first, Members.IsIn, Refusals.refusal, State.State}
+use Rattle.gb_invariants.proofs.Awaiting.{none-some, not-both, same-some}
+use Rattle.gb_invariants.proofs.{Lists.found-in, Outcomes.is-same, Outcomes.same-number}
+use Rattle.gb_invariants.proofs.{Selves.ap-no-far}
+use Rattle.gb_laws.proofs.CreditsLines.{Moved, in-linked, old, other-number}
+use Rattle.gb_laws.proofs.CreditsMoved.{back-far, back-untold, count-read, if-zero, plain-host}
+use Rattle.gb_laws.proofs.CreditsMoved.{popped-request, sent-other, stayed}
+use Rattle.gb_laws.proofs.CreditsServed.{DoesAs, HandlesAs, IsPlainly, UartServed, comes_back}
+use Rattle.gb_laws.proofs.CreditsServed.{drops_it, handles-does, nothing_back, takes_it}
+use Rattle.gb_laws.proofs.CreditsServed.{uart-served}
+use Rattle.gb_laws.proofs.{Absent.far-end, LinkFrom.Linked, LinkHosts.same-link, LinkLists.found-at}
+use Rattle.gb_laws.proofs.{LinkLists.found-link, LinkRuns.LinkedTo, Links.SameLink, Places.place-is}
+use Rattle.gb_laws.proofs.{PointParts.IsServed, Points.IsBridge, Removing.delivered-state}
+use Rattle.gb_laws.proofs.{SettleQueues.IsFarEnd, Turned.svc-host}
 
 -- the front item at a place was taken
 abbrev with_taken : Place → State → State
@@ -142,16 +80,13 @@ module _ (m : Moment) (one : IsMoment m.event) (start : LinkedTo m.told m.before
   moved-far : p.side ≡ side.Far → (l : Link) → IsIn l (after m).host.links → Moved m l
   moved-far far = stayed m one start (record {
     line = no-line;
-    served = λ k kind payload x. absurd (apart
+    served = λ k kind payload x. absurd (ap-no-far
         (sym x.side ∙ ap (λ (q : Place). q.side) (same-place x) ∙ far));
   }) (λ l i q. (
     sent-other l.connection m m.event no-line,
     ap (credits_back l.connection m) is ∙ back-far l.connection m at far_end,
   ))
     where
-      apart : side.Ap ≡ side.Far → ⊥
-      apart e = absurd cc
-
       far_end : IsFarEnd at
       far_end =
           let place = place-is at m.before.bus.connections p named in
@@ -195,8 +130,7 @@ module _ (m : Moment) (one : IsMoment m.event) (start : LinkedTo m.told m.before
         → (l : Link) → IsIn l (after m).host.links → Moved m l
     moved-svc none = stayed m one start (record {
       line = no-line;
-      served = λ k kind payload x.
-          ap (λ o. (served_on o kind payload m.before.host).host)
+      served = λ k kind payload x. ap (λ o. (served_on o kind payload m.before.host).host)
           (ap (λ n. link_of n m.before.host) (sym (same-number-at x)) ∙ none)
           ∙ svc-host m.before.host (read_svc_ask_of_svc kind payload);
     }) (λ l i q. (
@@ -204,21 +138,17 @@ module _ (m : Moment) (one : IsMoment m.event) (start : LinkedTo m.told m.before
       elsewhere l.connection (by l i (p.connection.number == l.connection) refl),
     ))
       where
-        none-some : (l : Link) → None ≡ Some l → ⊥
-        none-some l e = absurd cc
-
         by : (l : Link) → IsIn l m.before.host.links → (t : Bool)
             → (p.connection.number == l.connection) ≡ t → t ≡ false
         by l i false e = refl
-        by l i true e = absurd (none-some l (sym none ∙ found l i e))
+        by l i true e = absurd (none-some (sym none ∙ found l i e))
 
     -- on a connection of another protocol
     moved-plain : (k : Link) → link_of p.connection.number m.before.host ≡ Some k
         → (k.protocol == 0x04) ≡ false → (l : Link) → IsIn l (after m).host.links → Moved m l
     moved-plain k at_k other = stayed m one start (record {
       line = no-line;
-      served = λ n kind payload x.
-          ap (λ o. (served_on o kind payload m.before.host).host)
+      served = λ n kind payload x. ap (λ o. (served_on o kind payload m.before.host).host)
           (ap (λ j. link_of j m.before.host) (sym (same-number-at x)) ∙ at_k)
           ∙ plain-host k kind payload m.before.host other;
     }) (λ l i q. (
@@ -238,7 +168,7 @@ module _ (m : Moment) (one : IsMoment m.event) (start : LinkedTo m.told m.before
         → (l : Link) → IsIn l (after m).host.links → Moved m l
     moved-answer none = stayed m one start (record {
       line = no-line;
-      served = λ k kind payload x. absurd (none-some x.request (sym none
+      served = λ k kind payload x. absurd (none-some (sym none
           ∙ ap (λ y. request_in y m.before.bus) (sym (same-some x.item item (sym x.front
           ∙ ap (λ (q : Place). first (queue q.side q.connection)) (same-place x) ∙ front)))
           ∙ x.made));
@@ -250,9 +180,6 @@ module _ (m : Moment) (one : IsMoment m.event) (start : LinkedTo m.told m.before
           ∙ if-zero (list_any is_credits (told_at m)) _
           (if-zero (p.connection.number == l.connection) 0 refl),
     ))
-      where
-        none-some : (q : Incoming) → None ≡ Some q → ⊥
-        none-some q e = absurd cc
 
     -- a request of a UART
     module _ (k : Link) (q : Incoming) (at_k : link_of p.connection.number m.before.host ≡ Some k)
@@ -263,12 +190,10 @@ module _ (m : Moment) (one : IsMoment m.event) (start : LinkedTo m.told m.before
       host-is : (after m).host ≡ (handles side.Ap p.connection item
           (with_taken p m.before)).state.host
       host-is = ap (λ (s : State). s.host) (delivered-state m at p item is named front free_at)
-          ∙ ap (λ s. (handles s p.connection item
-          (with_taken p m.before)).state.host) ap_side
+          ∙ ap (λ s. (handles s p.connection item (with_taken p m.before)).state.host) ap_side
 
       told-is : list_any is_credits (told_at m)
-          ≡ list_any is_credits (handles side.Ap p.connection item
-          (with_taken p m.before)).entries
+          ≡ list_any is_credits (handles side.Ap p.connection item (with_taken p m.before)).entries
       unfolding machine_opened
       told-is = ap (λ e. list_any is_credits (step m.before e).entries) is
           ∙ ap (λ o. list_any is_credits (decided o (event.Deliver at) m.before).entries) free_at
@@ -276,8 +201,7 @@ module _ (m : Moment) (one : IsMoment m.event) (start : LinkedTo m.told m.before
           (given o delivers_at m.before).entries)) named
           ∙ ap (λ o. list_any is_credits (entry.Done ∷ (given o
           (λ x. on_bus (popped p.connection.number p.side) ▸ handles p.side p.connection x)
-          m.before).entries)) front
-          ∙ ap (λ s. list_any is_credits (handles s p.connection item
+          m.before).entries)) front ∙ ap (λ s. list_any is_credits (handles s p.connection item
           (with_taken p m.before)).entries) ap_side
 
       live : IsIn k m.before.host.links
@@ -289,10 +213,8 @@ module _ (m : Moment) (one : IsMoment m.event) (start : LinkedTo m.told m.before
 
       -- credits come back
       back : (count : ℕ) → count_in (read_uart_ask q.kind q.payload) ≡ count
-          → k.credits + count ≤ most_credits
-          → (after m).host ≡ with_link k.intf k.cport
-          (with_credits (k.credits + count)) m.before.host
-          → list_any is_credits (told_at m) ≡ true
+          → k.credits + count ≤ most_credits → (after m).host ≡ with_link k.intf k.cport
+          (with_credits (k.credits + count)) m.before.host → list_any is_credits (told_at m) ≡ true
           → (l : Link) → IsIn l (after m).host.links → Moved m l
       back count read fits host told l i =
           by (in-linked k.intf k.cport (with_credits (k.credits + count)) m.before.host.links l
@@ -330,21 +252,19 @@ module _ (m : Moment) (one : IsMoment m.event) (start : LinkedTo m.told m.before
               })
 
       moved-uart : (l : Link) → IsIn l (after m).host.links → Moved m l
-      moved-uart = by (handles-does p.connection item q
-          (with_taken p m.before)
+      moved-uart = by (handles-does p.connection item q (with_taken p m.before)
           (popped-request item p.connection.number p.side m.before.bus ∙ made) serve.1)
         where
           serve : UartServed k m.before.host (read_uart_ask_of_module q.kind q.payload)
               (host_serves p.connection.number q.kind q.payload m.before.host)
               × IsPlainly m.before.host
               (host_serves p.connection.number q.kind q.payload m.before.host)
-          serve = uart-served p.connection.number q.kind q.payload m.before.host k at_k uart
+          serve = uart-served p.connection.number q.kind q.payload k at_k uart
 
           took : UartServed k m.before.host (read_uart_ask_of_module q.kind q.payload)
               (host_serves p.connection.number q.kind q.payload m.before.host)
               → DoesAs (host_serves p.connection.number q.kind q.payload m.before.host)
-              (handles side.Ap p.connection item
-              (with_taken p m.before))
+              (handles side.Ap p.connection item (with_taken p m.before))
               → (l : Link) → IsIn l (after m).host.links → Moved m l
           took (nothing_back same untold) d =
               unchanged (host-is ∙ d.host ∙ same) (told-is ∙ d.told ∙ untold)
@@ -354,8 +274,7 @@ module _ (m : Moment) (one : IsMoment m.event) (start : LinkedTo m.told m.before
 
           by : HandlesAs m.before.host
               (host_serves p.connection.number q.kind q.payload m.before.host)
-              (handles side.Ap p.connection item
-              (with_taken p m.before))
+              (handles side.Ap p.connection item (with_taken p m.before))
               → (l : Link) → IsIn l (after m).host.links → Moved m l
           by (takes_it d) = took serve.0 d
           by (drops_it same untold) = unchanged (host-is ∙ same) (told-is ∙ untold)
@@ -364,8 +283,7 @@ module _ (m : Moment) (one : IsMoment m.event) (start : LinkedTo m.told m.before
     moved-ap = by (link_of p.connection.number m.before.host) refl
       where
         by_item : (k : Link) → link_of p.connection.number m.before.host ≡ Some k
-            → k.protocol ≡ 0x04
-            → (o : Option Incoming) → request_in item m.before.bus ≡ o
+            → k.protocol ≡ 0x04 → (o : Option Incoming) → request_in item m.before.bus ≡ o
             → (l : Link) → IsIn l (after m).host.links → Moved m l
         by_item k e uart None f = moved-answer f
         by_item k e uart (Some q) f = moved-uart k q e uart f

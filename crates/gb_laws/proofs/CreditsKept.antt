@@ -1,51 +1,21 @@
 -- Credits stay at a moment at which no bridge line is done and no credits are taken: each
 -- connection behind it was there before with the same credits, or is new and has the most.
-use Rattle.std.proofs.Common.{◌≡◌, ◌≤◌, ◌<◌, ℕ, ◌+◌, Option, Some, None, List}
-use Rattle.std.proofs.Common.{refl, sym, ap, ◌∙◌, ⊎_elim, subst, arith}
+use Rattle.std.proofs.Common.{List, None, Option, Some, ap, arith, refl, subst, sym, ℕ, ⊎_elim, ◌+◌}
+use Rattle.std.proofs.Common.{◌<◌, ◌∙◌, ◌≡◌, ◌≤◌}
 use Rattle.gb_base.specs.declared.peers.Link.{Link}
 use Rattle.gb_base.specs.declared.steps.SequenceStep.{SequenceStep}
 use Rattle.gb_formats.specs.UartDevice.{most_credits}
+use Rattle.gb_machine.specs.{Bus.Bus, Host.Host, Host.with_new_link, HostActs.with_awaited}
+use Rattle.gb_machine.specs.{HostServing.host_serves, Members.IsIn, Runs.Moment, Turns.Making}
+use Rattle.gb_machine.specs.{Wiring.next_connection}
 use Rattle.gb_invariants.proofs.Lists.{in-pushed}
-use Rattle.gb_laws.proofs.Awaited.{awaited-rest}
-use Rattle.gb_laws.proofs.Basics.{basis-kept}
-use Rattle.gb_laws.proofs.LinkActs.{awaited-host}
-use Rattle.gb_laws.proofs.LinkBuses.{new_link}
-use Rattle.gb_laws.proofs.LinkHosts.{then-same}
-use Rattle.gb_laws.proofs.LinkSources.{
-  CameFrom,
-  LinksFrom,
-  from-links,
-  from-turn,
-  from-unsent,
-  from-waiting,
-}
-use Rattle.gb_laws.proofs.PointParts.{Basis, IsServed, Point}
-use Rattle.gb_laws.proofs.Points.{
-  Change,
-  IsBridge,
-  Law,
-  acts_asked,
-  acts_failed,
-  acts_opened,
-  answers,
-  changed,
-  serves,
-  spends,
-  takes,
-  turns,
-  unwires,
-}
-use Rattle.gb_machine.specs.Bus.{Bus}
-use Rattle.gb_machine.specs.Failures.{unsent}
-use Rattle.gb_machine.specs.Host.{Host, with_new_link}
-use Rattle.gb_machine.specs.HostActs.{with_awaited}
-use Rattle.gb_machine.specs.HostServing.{host_serves}
-use Rattle.gb_machine.specs.HostTurns.{host_turn}
-use Rattle.gb_machine.specs.Members.{IsIn}
-use Rattle.gb_machine.specs.Runs.{Moment}
-use Rattle.gb_machine.specs.Turns.{Making}
-use Rattle.gb_machine.specs.Waits.{awaits}
-use Rattle.gb_machine.specs.Wiring.{next_connection}
+use Rattle.gb_laws.proofs.LinkSources.{CameFrom, LinksFrom, from-links, from-turn, from-unsent}
+use Rattle.gb_laws.proofs.LinkSources.{from-waiting}
+use Rattle.gb_laws.proofs.Points.{Change, IsBridge, Law, acts_asked, acts_failed, acts_opened}
+use Rattle.gb_laws.proofs.Points.{changed, serves, spends, turns, upon}
+use Rattle.gb_laws.proofs.{Awaited.awaited-rest, Basics.basis, LinkActs.awaited-host}
+use Rattle.gb_laws.proofs.{LinkBuses.new_link, LinkHosts.then-same, PointParts.IsServed}
+use Rattle.gb_laws.proofs.{PointParts.Point}
 
 -- A connection was there before with the same credits, or is new and has the most.
 pub data IsKept (m : Moment) (l : Link) : Type 0 where
@@ -61,15 +31,15 @@ kept-from : (m : Moment) (l : Link) (h : Host) (x : CameFrom l h) → IsKept m x
 kept-from m l h x (was y) = was (record {
   link = y.link;
   live = y.live;
-  same = then-same y.link x.link l y.same x.same;
+  same = then-same l y.same x.same;
   credits = x.credits ∙ y.credits;
 })
 kept-from m l h x (new later most) =
     new (subst (λ n. m.before.bus.made < n) (sym x.same.connection) later) (x.credits ∙ most)
 
-credits-from : {w : Option (ℕ × SequenceStep)} (m : Moment) (made : ℕ) (h g : Host)
+credits-from : {w : Option (ℕ × SequenceStep)} (m : Moment) {made : ℕ} {h g : Host}
     → LinksFrom w h g → CreditsAt m made h → CreditsAt m made g
-credits-from m made h g from f = record {
+credits-from m {made} {h} from f = record {
   links = λ l i. let x = (from l i).from in kept-from m l h x (f.links x.link x.live);
   made = f.made;
 }
@@ -81,9 +51,9 @@ credits-start m = record {
 }
 
 -- a connection more
-credits-opened : (m : Moment) (b : Bus) (w : Making) (h : Host) → CreditsAt m b.made h
+credits-opened : (m : Moment) (b : Bus) (w : Making) {h : Host} → CreditsAt m b.made h
     → CreditsAt m (b.made + 1) (with_new_link (next_connection b) w.ap w.intf w.cport w.protocol h)
-credits-opened m b w h f = record {
+credits-opened m b w {h} f = record {
   links = λ l i. ⊎_elim (λ o. f.links l o)
       (λ e. subst (IsKept m) (sym e) (new (let low = f.made in omega (arith, low)) refl))
       (in-pushed l h.links (new_link (next_connection b) w) i);
@@ -100,19 +70,16 @@ pub credits-kept : (m : Moment) → IsCreditless m → (a : Point) (x : Change m
     → CreditsAt m a.state.bus.made a.state.host
     → CreditsAt m (changed m a x).state.bus.made (changed m a x).state.host
 credits-kept m less a (turns e free untouched none cause) h =
-    credits-from m a.state.bus.made a.state.host (host_turn e a.state.host).host
-    (from-turn e a.state.host) h
+    credits-from m (from-turn e a.state.host) h
 credits-kept m less a (acts_opened w q rest free is) h =
-    credits-opened m a.state.bus w a.state.host h
+    credits-opened m a.state.bus w h
 credits-kept m less a (acts_asked q n rest is) h =
     subst (λ (b : Bus). CreditsAt m b.made (with_awaited q.purpose n a.state).host)
-    (sym (awaited-rest q.purpose n a.state).bus)
+    (sym (awaited-rest q.purpose n).bus)
     (subst (λ g. CreditsAt m a.state.bus.made g) (sym (awaited-host q.purpose n a.state))
-    (credits-from m a.state.bus.made a.state.host (awaits q.purpose n a.state.host)
-    (from-waiting (Some (n, q.purpose.step)) q.purpose a.state.host) h))
+    (credits-from m (from-waiting (Some (n, q.purpose.step)) q.purpose a.state.host) h))
 credits-kept m less a (acts_failed q rest is quiet) h =
-    credits-from m a.state.bus.made a.state.host (unsent q.purpose a.state.host).host
-    (from-unsent q.purpose.step q.purpose a.state.host) h
+    credits-from m (from-unsent q.purpose.step q.purpose a.state.host) h
 credits-kept m less a (serves k kind payload none) h =
     subst (λ g. CreditsAt m a.state.bus.made g)
     (sym (ap (λ g. (host_serves k kind payload g).host) none.2 ∙ less.served k kind payload none.1))
@@ -122,11 +89,8 @@ credits-kept m less a _ h =
     h
 
 abbrev pub credits_law : (m : Moment) → IsCreditless m → Law m
-credits_law m less = record {
-  holds = λ a. Basis a × CreditsAt m a.state.bus.made a.state.host;
-  basis = λ a h. h.0;
-  kept = λ a x h. (basis-kept m a x h.0, credits-kept m less a x h.1);
-}
+credits_law m less = upon (basis m) (λ a. CreditsAt m a.state.bus.made a.state.host)
+    (λ a x g h. credits-kept m less a x h)
 
 -- ---- connections are made, and none is unmade
 
@@ -134,15 +98,9 @@ pub made-kept : (m : Moment) (a : Point) (x : Change m a) → m.before.bus.made 
     → m.before.bus.made ≤ (changed m a x).state.bus.made
 made-kept m a (acts_opened w q rest free is) h = omega (arith, h)
 made-kept m a (acts_asked q n rest is) h =
-    subst (λ (b : Bus). m.before.bus.made ≤ b.made) (sym (awaited-rest q.purpose n a.state).bus) h
-made-kept m a (takes at p item free start is named front) h = h
-made-kept m a (answers x n result payload is says which) h = h
-made-kept m a (unwires k free before live) h = h
+    subst (λ (b : Bus). m.before.bus.made ≤ b.made) (sym (awaited-rest q.purpose n).bus) h
 made-kept m a _ h = h
 
 abbrev pub made_law : (m : Moment) → Law m
-made_law m = record {
-  holds = λ a. Basis a × (m.before.bus.made ≤ a.state.bus.made);
-  basis = λ a h. h.0;
-  kept = λ a x h. (basis-kept m a x h.0, made-kept m a x h.1);
-}
+made_law m = upon (basis m) (λ a. m.before.bus.made ≤ a.state.bus.made)
+    (λ a x g h. made-kept m a x h)

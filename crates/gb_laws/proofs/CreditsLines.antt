@@ -1,75 +1,35 @@
 -- What a moment makes of the credits of a connection, and what a bridge line makes of them.
-use Rattle.std.proofs.Common.{
-  ◌≡◌,
-  ◌≤◌,
-  ◌<◌,
-  ◌⊎◌,
-  ℕ,
-  ◌+◌,
-  Bool,
-  true,
-  false,
-  cond,
-  Option,
-  Some,
-  None,
-  List,
-  [],
-  ◌∷◌,
-  ◌++◌,
-  refl,
-  sym,
-  ap,
-  ◌∙◌,
-  inl,
-  inr,
-  ⊎_elim,
-  subst,
-  arith,
-}
+use Rattle.std.proofs.Common.{Bool, List, None, Option, Some, ap, arith, cond, false, inl, inr}
+use Rattle.std.proofs.Common.{refl, subst, sym, true, ℕ, ⊎_elim, [], ◌++◌, ◌+◌, ◌<◌, ◌∙◌, ◌∷◌, ◌≡◌}
+use Rattle.std.proofs.Common.{◌≤◌, ◌⊎◌}
 use Rattle.std.proofs.lemmas.Bool.Decides.{nat_tests}
-use Rattle.std.specs.Prelude.{Ok, Err, ◌==◌, ◌-◌, ◌&&◌, ◌||◌, nat_le, not, is_none}
 use Rattle.std.specs.List.{find}
+use Rattle.std.specs.Prelude.{Err, Ok, is_none, nat_le, not, ◌&&◌, ◌-◌, ◌==◌, ◌||◌}
+use Rattle.gb_base.specs.declared.refusal.Refusal.TheVariants as why
 use Rattle.gb_base.specs.declared.bridge.BridgeAsk.{BridgeAsk}
 use Rattle.gb_base.specs.declared.end.Side.TheVariants as side
 use Rattle.gb_base.specs.declared.event.Event.TheVariants as event
 use Rattle.gb_base.specs.declared.name.Name.{Name}
 use Rattle.gb_base.specs.declared.peers.Link.{Link}
-use Rattle.gb_formats.specs.Bridges.{
-  TooLarge,
-  Unsupported,
-  ask_protocol,
-  ask_request,
-  bridge_answer,
-  credits_taken,
-  is_too_large,
-}
-use Rattle.gb_formats.specs.Grammar.{default_timeout}
-use Rattle.gb_formats.specs.UartDevice.{credits_spent, most_credits}
-use Rattle.gb_invariants.proofs.Awaiting.{not-both, same-some}
-use Rattle.gb_invariants.proofs.Lists.{each-in, found-in}
-use Rattle.gb_invariants.proofs.Outcomes.{is-same, same-number}
-use Rattle.gb_laws.proofs.LinkedFrom.{Linked}
-use Rattle.gb_laws.proofs.LinkHosts.{same-link}
-use Rattle.gb_laws.proofs.LinkLists.{found-at, is-link, link-is, one-link}
-use Rattle.gb_laws.proofs.Links.{IsLinkBefore, SameLink}
-use Rattle.gb_machine.proofs.Conditions.{AreUnmet, free}
-use Rattle.gb_machine.proofs.Opened.{machine_opened}
-use Rattle.gb_machine.specs.Actions.{given}
-use Rattle.gb_machine.specs.Asking.{asks_with}
+use Rattle.gb_formats.specs.Bridges.{TooLarge, Unsupported, ask_protocol, ask_request}
+use Rattle.gb_formats.specs.Bridges.{bridge_answer, credits_taken, is_too_large}
+use Rattle.gb_formats.specs.{Grammar.default_timeout, UartDevice.credits_spent}
+use Rattle.gb_formats.specs.{UartDevice.most_credits}
+use Rattle.gb_machine.proofs.{Conditions.AreUnmet, Conditions.free, Opened.machine_opened}
 use Rattle.gb_machine.specs.Bus.{Connection, connection_of, next_number}
-use Rattle.gb_machine.specs.Events.{decided, step}
 use Rattle.gb_machine.specs.Host.{Host, is_link, link_at, with_link}
-use Rattle.gb_machine.specs.HostRefusals.{bridge_conditions, is_unopened}
-use Rattle.gb_machine.specs.Labels.{next_label, no_label}
 use Rattle.gb_machine.specs.LawsCredits.{bytes_sent, credits_back, is_numbered}
 use Rattle.gb_machine.specs.LineActions.{ap_draft, bridge_sent, bridges, sends_on, spent}
 use Rattle.gb_machine.specs.Lists.{at_first, conditions_of, holds_of}
-use Rattle.gb_machine.specs.Members.{EachTwo, IsIn}
-use Rattle.gb_machine.specs.Names.{bound}
-use Rattle.gb_machine.specs.Refusals.{has_no_label, refusal}
-use Rattle.gb_machine.specs.Runs.{Moment, after}
-use Rattle.gb_machine.specs.State.{State}
+use Rattle.gb_machine.specs.{Actions.given, Asking.asks_with, Events.decided, Events.step}
+use Rattle.gb_machine.specs.{HostRefusals.bridge_conditions, HostRefusals.is_unopened}
+use Rattle.gb_machine.specs.{Labels.next_label, Members.EachTwo, Members.IsIn}
+use Rattle.gb_machine.specs.{Names.bound, Refusals.has_no_label, Refusals.refusal, Runs.Moment}
+use Rattle.gb_machine.specs.{Runs.after, State.State}
+use Rattle.gb_invariants.proofs.{Awaiting.not-both, Awaiting.same-some, Lists.each-in}
+use Rattle.gb_invariants.proofs.{Lists.found-in, Outcomes.is-same, Outcomes.same-number}
+use Rattle.gb_laws.proofs.LinkLists.{found-at, is-link, link-is, one-link}
+use Rattle.gb_laws.proofs.{LinkFrom.Linked, LinkHosts.same-link, Links.IsLinkBefore, Links.SameLink}
 
 -- What a moment makes of the credits of a UART: fewer by what is sent, more by what comes back.
 pub record Moves (m : Moment) (k l : Link) : Type 0 where
@@ -87,8 +47,7 @@ pub data Moved (m : Moment) (l : Link) : Type 0 where
 
 -- where the connection of a CPort changes, each is another, or that one, changed
 pub in-linked : (i c : ℕ) (f : Link → Link) (ls : List Link) (l : Link) → EachTwo IsLinkBefore ls
-    → IsIn l (at_first (is_link i c) f ls)
-    → (IsIn l ls × (is_link i c l ≡ false))
+    → IsIn l (at_first (is_link i c) f ls) → (IsIn l ls × (is_link i c l ≡ false))
     ⊎ ((y : Link) × IsIn y ls × (find (is_link i c) ls ≡ Some y) × (l ≡ f y))
 in-linked i c f [] l rise j = absurd j
 in-linked i c f (x ∷ xs) l rise j = by (is_link i c x) refl j (in-linked i c f xs l rise.1)
@@ -106,8 +65,7 @@ in-linked i c f (x ∷ xs) l rise j = by (is_link i c x) refl j (in-linked i c f
         let apart = (each-in (IsLinkBefore x) xs l rise.0 k).apart in
         inl (
           inr k,
-          ap (λ n. is_link n c l) (sym at.0) ∙ ap (λ n. is_link x.intf n l) (sym at.1)
-              ∙ apart,
+          ap (λ n. is_link n c l) (sym at.0) ∙ ap (λ n. is_link x.intf n l) (sym at.1) ∙ apart,
         )
     by false e (inl same) rec = inl (inl same, ap (is_link i c) same ∙ e)
     by false e (inr k) rec =
@@ -133,8 +91,7 @@ sent-host : (name : Name) (k kind : ℕ) (payload : List ℕ) (timeout : ℕ) (s
 unfolding machine_opened
 sent-host name k kind payload timeout s = by (connection_of k s.bus) (next_label k side.Ap s.bus)
   where
-    by : (o : Option Connection) (l : Option ℕ)
-        → (given o (λ c. given l (λ label.
+    by : (o : Option Connection) (l : Option ℕ) → (given o (λ c. given l (λ label.
         asks_with (ap_draft k kind payload (s.now + timeout)) c label))
         (bound name (next_number s.bus) s)).state.host ≡ s.host
     by None l = refl
@@ -157,8 +114,7 @@ pub answered-by : (protocol : ℕ) (what : BridgeAsk) → not (ask_protocol what
     → is_too_large what ≡ false → bridge_answer protocol what ≡ Ok (ask_request what)
 answered-by protocol what supported small =
     ap (λ t. cond t (cond (is_too_large what) (Err TooLarge) (Ok (ask_request what)))
-    (Err Unsupported))
-    (not-false (ask_protocol what == protocol) supported)
+    (Err Unsupported)) (not-false (ask_protocol what == protocol) supported)
     ∙ ap (λ t. cond t (Err TooLarge) (Ok (ask_request what))) small
 
 spends-enough : (credits n : ℕ) → is_none (credits_spent credits n) ≡ false → n ≤ credits
@@ -179,7 +135,7 @@ bridge-spent name i c what s allowed =
     by : (o : Option Link) → link_at i c s.host ≡ o
         → (is_none o || holds_of (λ (l : Link). is_unopened l.state) o) ≡ false
         → AreUnmet (conditions_of (λ (k : Link).
-        bridge_conditions k what ++ (has_no_label k.connection side.Ap s, no_label) ∷ []) o)
+        bridge_conditions k what ++ (has_no_label k.connection side.Ap s, why.NoLabel) ∷ []) o)
         → IsSpent name i c what s
     by None e f linked = absurd cc
     by (Some l) e f linked = record {
@@ -218,8 +174,7 @@ moved-line m name i c what is allowed links l j =
         ≡ cond (x.link.connection == k) (credits_taken what) 0
     sent_is k = ap (bytes_sent k m) is
         ∙ ap (λ o. cond (is_none o && is_numbered k (link_at i c m.before.host))
-        (credits_taken what) 0)
-        allowed
+        (credits_taken what) 0) allowed
         ∙ ap (λ o. cond (is_numbered k o) (credits_taken what) 0) x.at
 
     back_is : (k : ℕ) → credits_back k m m.event ≡ 0

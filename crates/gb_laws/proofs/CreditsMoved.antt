@@ -1,85 +1,36 @@
 -- What each moment makes of the credits of connections.
-use Rattle.std.proofs.Common.{
-  ◌≡◌,
-  ℕ,
-  Bool,
-  true,
-  false,
-  cond,
-  Some,
-  List,
-  refl,
-  sym,
-  ap,
-  ◌∙◌,
-  ⊎_elim,
-  subst,
-  arith,
-}
-use Rattle.std.specs.Prelude.{Result, Ok, Err, ◌==◌, ◌&&◌, is_none}
+use Rattle.std.proofs.Common.{Bool, List, Some, ap, arith, cond, false, refl, subst, sym, true, ℕ}
+use Rattle.std.proofs.Common.{⊎_elim, ◌∙◌, ◌≡◌}
 use Rattle.std.specs.List.{list_any}
-use Rattle.gb_base.specs.declared.end.End.{End}
+use Rattle.std.specs.Prelude.{Err, Ok, Result, is_none, ◌&&◌, ◌==◌}
+use Rattle.gb_base.specs.declared.end.{End.End, Side.Side}
 use Rattle.gb_base.specs.declared.end.End.TheVariants as end
-use Rattle.gb_base.specs.declared.end.Side.{Side}
 use Rattle.gb_base.specs.declared.event.Event.{Event}
 use Rattle.gb_base.specs.declared.event.Event.TheVariants as event
 use Rattle.gb_base.specs.declared.peers.Link.{Link}
 use Rattle.gb_base.specs.declared.refusal.Refusal.{Refusal}
-use Rattle.gb_formats.specs.Bridges.{credits_taken}
-use Rattle.gb_formats.specs.GpioRecords.{GpioAsk, read_gpio_ask_of_module}
 use Rattle.gb_formats.specs.Records.{PayloadFault, read_far_ask, read_table, row_of}
-use Rattle.gb_formats.specs.UartRecords.{
-  UartAsk,
-  read_receive,
-  read_send,
-  read_uart_ask,
-  read_uart_ask_of_module,
-  uart_asks,
-}
-use Rattle.gb_invariants.proofs.Outcomes.{same-number}
-use Rattle.gb_laws.proofs.CreditsKept.{
-  IsCreditless,
-  IsKept,
-  credits-start,
-  credits_law,
-  new as newly,
-  was,
-}
-use Rattle.gb_laws.proofs.CreditsLines.{Moved, new, old}
-use Rattle.gb_laws.proofs.LinkHosts.{same-link}
-use Rattle.gb_laws.proofs.LinkRuns.{LinkedTo}
-use Rattle.gb_laws.proofs.Marking.{refused-state}
-use Rattle.gb_laws.proofs.Noticing.{far-reads}
-use Rattle.gb_laws.proofs.Points.{IsBridge}
-use Rattle.gb_laws.proofs.SettleQueues.{IsFarEnd}
-use Rattle.gb_laws.proofs.Steps.{over-step}
+use Rattle.gb_formats.specs.UartRecords.{UartAsk, read_receive, read_send, read_uart_ask}
+use Rattle.gb_formats.specs.UartRecords.{read_uart_ask_of_module, uart_asks}
+use Rattle.gb_formats.specs.{Bridges.credits_taken, GpioRecords.GpioAsk}
+use Rattle.gb_formats.specs.{GpioRecords.read_gpio_ask_of_module}
 use Rattle.gb_machine.proofs.Opened.{machine_opened}
 use Rattle.gb_machine.specs.Bus.{Ask, Bus, Item, Raw, RawReply, Reply, place_of}
-use Rattle.gb_machine.specs.Delivery.{popped}
-use Rattle.gb_machine.specs.Events.{decided}
-use Rattle.gb_machine.specs.Host.{Host, link_at}
-use Rattle.gb_machine.specs.HostServing.{
-  HostServed,
-  host_refuses,
-  interrupted,
-  served_on,
-  serves_gpio,
-  serves_uart,
-}
-use Rattle.gb_machine.specs.Incoming.{request_in}
-use Rattle.gb_machine.specs.LawsCredits.{
-  bytes_sent,
-  count_in,
-  count_on,
-  credits_back,
-  is_credits,
-  is_numbered,
-}
-use Rattle.gb_machine.specs.Members.{IsIn}
-use Rattle.gb_machine.specs.Refusals.{refusal}
+use Rattle.gb_machine.specs.HostServing.{HostServed, host_refuses, interrupted, served_on}
+use Rattle.gb_machine.specs.HostServing.{serves_gpio, serves_uart}
+use Rattle.gb_machine.specs.LawsCredits.{bytes_sent, count_in, count_on, credits_back, is_credits}
+use Rattle.gb_machine.specs.LawsCredits.{is_numbered}
 use Rattle.gb_machine.specs.Runs.{IsMoment, Moment, after, told_at}
-use Rattle.gb_machine.specs.Serving.{protocol_bad}
-use Rattle.gb_machine.specs.State.{State}
+use Rattle.gb_machine.specs.{Delivery.popped, Events.decided, Host.Host, Host.link_at}
+use Rattle.gb_machine.specs.{Incoming.request_in, Members.IsIn, Refusals.refusal}
+use Rattle.gb_machine.specs.{Serving.protocol_bad, State.State}
+use Rattle.gb_invariants.proofs.Outcomes.{same-number}
+use Rattle.gb_laws.proofs.CreditsKept.{IsCreditless, IsKept, credits-start, credits_law}
+use Rattle.gb_laws.proofs.CreditsKept.{new as newly, was}
+use Rattle.gb_laws.proofs.CreditsLines.{Moved, new, old}
+use Rattle.gb_laws.proofs.{LinkHosts.same-link, LinkRuns.LinkedTo, MarkMoments.refused-state}
+use Rattle.gb_laws.proofs.{MarkNotices.far-reads, Points.IsBridge, SettleQueues.IsFarEnd}
+use Rattle.gb_laws.proofs.{Steps.over-step}
 
 -- ---- events that are no matter of credits
 
@@ -122,8 +73,7 @@ if-zero false n e = refl
 
 -- nothing is sent where a line is refused
 sent-refused : (k : ℕ) (m : Moment) (e : Event) (why : Refusal)
-    → refusal m.before m.event ≡ Some why
-    → bytes_sent k m e ≡ 0
+    → refusal m.before m.event ≡ Some why → bytes_sent k m e ≡ 0
 sent-refused k m (event.Bridge name i c what) why refused =
     ap (λ o. cond (is_none o && is_numbered k (link_at i c m.before.host)) (credits_taken what) 0)
     refused
@@ -215,8 +165,7 @@ module _ (m : Moment) (one : IsMoment m.event) (start : LinkedTo m.told m.before
       let back = back-untold l.connection m m.event
       (ap (λ o. list_any is_credits (decided o m.event m.before).entries) refused) in
       old l (subst (λ (s : State). IsIn l s.host.links) (refused-state m why refused) i)
-      (same-link l)
-      (λ p. record { sum = omega (arith, sent, back); bound = λ h. h })
+      (same-link l) (λ p. record { sum = omega (arith, sent, back); bound = λ h. h })
 
   -- an event that is no matter of credits
   pub moved-other : IsOther m.event → (l : Link) → IsIn l (after m).host.links → Moved m l

@@ -1,80 +1,32 @@
 -- The credits of each connection to a UART add up over the moments of every run.
-use Rattle.std.proofs.Common.{
-  ◌≡◌,
-  ◌≤◌,
-  ◌<◌,
-  ℕ,
-  ◌+◌,
-  Bool,
-  true,
-  false,
-  cond,
-  Option,
-  Some,
-  None,
-  List,
-  [],
-  ◌∷◌,
-  ◌++◌,
-  refl,
-  sym,
-  ap,
-  ◌∙◌,
-  subst,
-  arith,
-}
+use Rattle.std.proofs.Common.{Bool, List, None, Option, Some, ap, arith, cond, false, refl, subst}
+use Rattle.std.proofs.Common.{sym, true, ℕ, [], ◌++◌, ◌+◌, ◌<◌, ◌∙◌, ◌∷◌, ◌≡◌, ◌≤◌}
 use Rattle.std.proofs.lemmas.Bool.Decides.{nat_tests}
-use Rattle.std.specs.Prelude.{◌==◌, ◌&&◌, is_none}
+use Rattle.std.specs.List.{list_any}
+use Rattle.std.specs.Prelude.{is_none, ◌&&◌, ◌==◌}
 use Rattle.gb_base.specs.declared.end.End.TheVariants as end
 use Rattle.gb_base.specs.declared.entry.Entry.{Entry}
 use Rattle.gb_base.specs.declared.event.Event.{Event}
 use Rattle.gb_base.specs.declared.event.Event.TheVariants as event
 use Rattle.gb_base.specs.declared.peers.Link.{Link}
 use Rattle.gb_base.specs.declared.refusal.Refusal.{Refusal}
-use Rattle.gb_formats.specs.Bridges.{credits_taken}
-use Rattle.gb_formats.specs.UartDevice.{most_credits}
-use Rattle.gb_invariants.proofs.Lists.{each-from, each-in, found-in}
-use Rattle.gb_invariants.specs.Facts.{IsMade}
-use Rattle.gb_laws.proofs.CreditsDelivered.{moved-delivery}
-use Rattle.gb_laws.proofs.CreditsKept.{made_law}
-use Rattle.gb_laws.proofs.CreditsLines.{Moved, moved-line, new, old}
-use Rattle.gb_laws.proofs.CreditsMoved.{IsOther, if-zero, moved-other, moved-refused}
-use Rattle.gb_laws.proofs.LinkRuns.{LinkedTo, linked-over, linked-throughout}
-use Rattle.gb_laws.proofs.Places.{place-is}
-use Rattle.gb_laws.proofs.Settling.{settles-are_deliveries}
-use Rattle.gb_laws.proofs.Steps.{over-step}
+use Rattle.gb_formats.specs.{Bridges.credits_taken, UartDevice.most_credits}
 use Rattle.gb_machine.proofs.Conditions.{waits}
 use Rattle.gb_machine.specs.Bus.{Place, place_of, queue}
 use Rattle.gb_machine.specs.Events.{last_state, step, trace_from}
-use Rattle.gb_machine.specs.Host.{is_link, link_at}
-use Rattle.gb_machine.specs.LawsCredits.{
-  AddUp,
-  CreditsAddUp,
-  back_on,
-  bytes_sent,
-  count_at,
-  count_on,
-  credits_back,
-  is_credits,
-  is_numbered,
-  sent_on,
-}
-use Rattle.gb_machine.specs.Lists.{first}
-use Rattle.gb_machine.specs.Members.{IsIn}
-use Rattle.gb_machine.specs.Refusals.{refusal}
-use Rattle.gb_machine.specs.Runs.{
-  AreMoments,
-  IsMoment,
-  Moment,
-  after,
-  moments_from,
-  moments_in,
-  state_by,
-  told_at,
-  unsettled,
-}
-use Rattle.gb_machine.specs.State.{State, first_state}
-use Rattle.std.specs.List.{list_any}
+use Rattle.gb_machine.specs.LawsCredits.{AddUp, CreditsAddUp, back_on, bytes_sent, count_at}
+use Rattle.gb_machine.specs.LawsCredits.{count_on, credits_back, is_credits, is_numbered, sent_on}
+use Rattle.gb_machine.specs.Runs.{AreMoments, IsMoment, Moment, after, moments_from, moments_in}
+use Rattle.gb_machine.specs.Runs.{state_by, told_at, unsettled}
+use Rattle.gb_machine.specs.{Host.is_link, Host.link_at, Lists.first, Members.IsIn}
+use Rattle.gb_machine.specs.{Refusals.refusal, State.State, State.first_state}
+use Rattle.gb_invariants.proofs.Lists.{each-from, each-in, found-in}
+use Rattle.gb_invariants.specs.Facts.{IsMade}
+use Rattle.gb_laws.proofs.CreditsLines.{Moved, moved-line, new, old}
+use Rattle.gb_laws.proofs.CreditsMoved.{IsOther, if-zero, moved-other, moved-refused}
+use Rattle.gb_laws.proofs.LinkRuns.{LinkedTo, linked-over, linked-throughout}
+use Rattle.gb_laws.proofs.{CreditsDelivered.moved-delivery, CreditsKept.made_law, Places.place-is}
+use Rattle.gb_laws.proofs.{Settling.settles-are_deliveries, Steps.over-step}
 
 -- ---- a moment
 
@@ -147,9 +99,9 @@ record SumsFit (sent back : ℕ → ℕ) (s : State) : Type 0 where
       × (l.credits ≤ most_credits)
   above : (k : ℕ) → s.bus.made < k → (sent k ≡ 0) × (back k ≡ 0)
 
-sums-same : (sent back more later : ℕ → ℕ) (s : State) → ((k : ℕ) → more k ≡ sent k)
+sums-same : {sent back more later : ℕ → ℕ} {s : State} → ((k : ℕ) → more k ≡ sent k)
     → ((k : ℕ) → later k ≡ back k) → SumsFit sent back s → SumsFit more later s
-sums-same sent back more later s e f h = record {
+sums-same e f h = record {
   uart = λ l i p.
       let u = h.uart l i p in (
         ap (λ n. l.credits + n) (e l.connection) ∙ u.0
@@ -196,26 +148,14 @@ sums-step m one start sent back h = record {
         (omega (arith, u.0, sum, x, y), v.bound u.1)
 
 -- over a run of moments
-sums-from : (es : List Event) (told : List Entry) (s : State) (sent back : ℕ → ℕ) → AreMoments es
+sums-from : (es : List Event) (told : List Entry) {s : State} {sent back : ℕ → ℕ} → AreMoments es
     → LinkedTo told s → SumsFit sent back s
     → SumsFit (λ k. sent k + sent_on k (moments_from told s es))
     (λ k. back k + back_on k (moments_from told s es)) (last_state s (trace_from s es))
-sums-from [] told s sent back are start h =
-    sums-same sent back (λ k. sent k + 0) (λ k. back k + 0) s (λ k. omega arith)
-    (λ k. omega arith) h
-sums-from (e ∷ es) told s sent back are start h = sums-same
-    (λ k. sent k + bytes_sent k m e
-    + sent_on k (moments_from (told ++ (step s e).entries) (step s e).state es))
-    (λ k. back k + credits_back k m e
-    + back_on k (moments_from (told ++ (step s e).entries) (step s e).state es))
-    (λ k. sent k + (bytes_sent k m e
-    + sent_on k (moments_from (told ++ (step s e).entries) (step s e).state es)))
-    (λ k. back k + (credits_back k m e
-    + back_on k (moments_from (told ++ (step s e).entries) (step s e).state es)))
-    (last_state (step s e).state (trace_from (step s e).state es))
-    (λ k. omega arith) (λ k. omega arith)
-    (sums-from es (told ++ (step s e).entries) (step s e).state
-    (λ k. sent k + bytes_sent k m e) (λ k. back k + credits_back k m e) are.1
+sums-from [] told are start h =
+    sums-same (λ k. omega arith) (λ k. omega arith) h
+sums-from (e ∷ es) told {s} {sent} {back} are start h = sums-same
+    (λ k. omega arith) (λ k. omega arith) (sums-from es (told ++ (step s e).entries) are.1
     (linked-over m are.0 start) (sums-step m are.0 start sent back h))
   where
     m : Moment
@@ -226,7 +166,7 @@ pub credits-add_up : CreditsAddUp
 credits-add_up es valid =
     let d = settles-are_deliveries es valid in
     let apart = unsettled first_state es in
-    let fits = sums-from apart [] first_state (λ k. 0) (λ k. 0) d.moments (linked-throughout [] tt)
+    let fits = sums-from apart [] d.moments (linked-throughout [] tt)
     (record { uart = λ l i. absurd i; above = λ k high. (refl, refl) }) in
     each-from (λ (l : Link). l.protocol ≡ 0x04 → AddUp (moments_in es) l) (state_by es).host.links
     (λ l i p.

@@ -1,77 +1,32 @@
 -- What the application processor does where a request of a UART is delivered: its credits come
 -- back, and that is told, or nothing of its own changes.
-use Rattle.std.proofs.Common.{
-  ◌≡◌,
-  ◌≤◌,
-  ℕ,
-  ◌+◌,
-  Bool,
-  true,
-  false,
-  cond,
-  Option,
-  Some,
-  None,
-  List,
-  refl,
-  sym,
-  ap,
-  ◌∙◌,
-  subst,
-  arith,
-}
+use Rattle.std.proofs.Common.{Bool, List, None, Option, Some, ap, arith, cond, false, refl, subst}
+use Rattle.std.proofs.Common.{sym, true, ℕ, ◌+◌, ◌∙◌, ◌≡◌, ◌≤◌}
 use Rattle.std.proofs.lemmas.Bool.Decides.{nat_tests}
-use Rattle.std.specs.Prelude.{Result, Ok, Err, ◌==◌, ◌||◌, nat_le, option_map}
 use Rattle.std.specs.List.{list_any}
+use Rattle.std.specs.Prelude.{Err, Ok, Result, nat_le, option_map, ◌==◌, ◌||◌}
 use Rattle.gb_base.specs.declared.end.Side.TheVariants as side
 use Rattle.gb_base.specs.declared.entry.Entry.{Entry}
 use Rattle.gb_base.specs.declared.entry.Entry.TheVariants as entry
 use Rattle.gb_base.specs.declared.fault.RawFault.{RawFault}
 use Rattle.gb_base.specs.declared.peers.Link.{Link}
-use Rattle.gb_formats.specs.Message.{Message}
-use Rattle.gb_formats.specs.Records.{PayloadFault}
-use Rattle.gb_formats.specs.UartDevice.{credits_added, most_credits}
-use Rattle.gb_formats.specs.UartRecords.{UartAsk, read_uart_ask_of_module}
-use Rattle.gb_formats.specs.Wire.{raw_message}
-use Rattle.gb_invariants.proofs.Awaiting.{same-some}
+use Rattle.gb_formats.specs.{Message.Message, Records.PayloadFault, UartDevice.credits_added}
+use Rattle.gb_formats.specs.{UartDevice.most_credits, UartRecords.UartAsk}
+use Rattle.gb_formats.specs.{UartRecords.read_uart_ask_of_module, Wire.raw_message}
 use Rattle.gb_machine.proofs.Opened.{machine_opened}
 use Rattle.gb_machine.specs.Actions.{Told, given, on_host, tell, ◌▸◌}
-use Rattle.gb_machine.specs.Arriving.{
-  arrives,
-  asked_at,
-  by_label,
-  dropped,
-  handles,
-  raw_taken,
-  takes,
-}
+use Rattle.gb_machine.specs.Arriving.{arrives, asked_at, by_label, dropped, handles, raw_taken}
+use Rattle.gb_machine.specs.Arriving.{takes}
 use Rattle.gb_machine.specs.Bus.{Ask, Connection, Item, Raw, RawReply, Reply, Request, request_of}
 use Rattle.gb_machine.specs.Host.{Host, link_of, with_link}
-use Rattle.gb_machine.specs.HostActs.{notices}
-use Rattle.gb_machine.specs.HostServing.{
-  HostServed,
-  credited,
-  host_refuses,
-  host_serves,
-  served_on,
-  serves_gpio,
-  serves_uart,
-  uart_notified_by,
-  with_credits,
-}
-use Rattle.gb_machine.specs.Incoming.{
-  Incoming,
-  incoming,
-  incoming_raw,
-  is_request,
-  raw_request,
-  request_in,
-}
-use Rattle.gb_machine.specs.LawsCredits.{is_credits}
+use Rattle.gb_machine.specs.HostServing.{HostServed, credited, host_refuses, host_serves, served_on}
+use Rattle.gb_machine.specs.HostServing.{serves_gpio, serves_uart, uart_notified_by, with_credits}
+use Rattle.gb_machine.specs.Incoming.{Incoming, incoming, incoming_raw, is_request, raw_request}
+use Rattle.gb_machine.specs.Incoming.{request_in}
 use Rattle.gb_machine.specs.Responding.{host_served, replies, responds, serves_oneway}
-use Rattle.gb_machine.specs.Serving.{protocol_bad, success}
-use Rattle.gb_machine.specs.State.{State}
-use Rattle.gb_machine.specs.Turns.{HostEvent}
+use Rattle.gb_machine.specs.{HostActs.notices, LawsCredits.is_credits, Serving.protocol_bad}
+use Rattle.gb_machine.specs.{Serving.success, State.State, Turns.HostEvent}
+use Rattle.gb_invariants.proofs.Awaiting.{same-some}
 
 -- ---- what is served
 
@@ -97,8 +52,7 @@ pub record IsPlainly (h : Host) (r : HostServed) : Type 0 where
 
 uart-credited : (l : Link) (h : Host) (count : ℕ)
     → UartServed l h (Ok (UartAsk.ReceiveCredits count)) (credited l
-    (credits_added l.credits count) h)
-    × IsPlainly h (credited l (credits_added l.credits count) h)
+    (credits_added l.credits count) h) × IsPlainly h (credited l (credits_added l.credits count) h)
 uart-credited l h count = by (nat_le (l.credits + count) most_credits) refl
   where
     by : (t : Bool) → nat_le (l.credits + count) most_credits ≡ t
@@ -131,11 +85,11 @@ uart-serves k kind payload h l found protocol =
     ∙ ap (λ p. cond (p == 0x02) (serves_gpio l kind payload h)
     (cond (p == 0x04) (serves_uart l kind payload h) (host_refuses protocol_bad h))) protocol
 
-pub uart-served : (k kind : ℕ) (payload : List ℕ) (h : Host) (l : Link) → link_of k h ≡ Some l
+pub uart-served : (k kind : ℕ) (payload : List ℕ) {h : Host} (l : Link) → link_of k h ≡ Some l
     → l.protocol ≡ 0x04
     → UartServed l h (read_uart_ask_of_module kind payload) (host_serves k kind payload h)
     × IsPlainly h (host_serves k kind payload h)
-uart-served k kind payload h l found protocol =
+uart-served k kind payload {h} l found protocol =
     subst (λ r. UartServed l h (read_uart_ask_of_module kind payload) r × IsPlainly h r)
     (sym (uart-serves k kind payload h l found protocol))
     (uart-notified l h (read_uart_ask_of_module kind payload))
@@ -161,10 +115,10 @@ behind-does h None None s none = (refl, refl)
 behind-does h (Some e) None s none = (refl, or-none (is_credits e))
 behind-does h o (Some e) s none = absurd cc
 
-responds-does : (c : Connection) (q : Incoming) (r : HostServed) (s : State) → IsPlainly s.host r
+responds-does : (c : Connection) (q : Incoming) {r : HostServed} (s : State) → IsPlainly s.host r
     → DoesAs r (responds side.Ap c q (host_served r) s)
 unfolding machine_opened
-responds-does c q r s plainly = by q.oneway
+responds-does c q {r} s plainly = by q.oneway
   where
     done : (u : State) → DoesAs r ((host_served r).behind u)
     done u = let d = behind-does r.host r.told r.notices u plainly.notices in
@@ -194,7 +148,7 @@ asked-does : (c : Connection) (item : Item) (q : Incoming) (s : State)
     → DoesAs (host_serves c.number q.kind q.payload s.host) (asked_at side.Ap c item q s)
 unfolding machine_opened
 asked-does c item q s plainly =
-    responds-does c q (host_serves c.number q.kind q.payload s.host) s plainly
+    responds-does c q s plainly
 
 arrives-does : (c : Connection) (item : Item) (q : Incoming) (s : State)
     → request_in item s.bus ≡ Some q

@@ -1,20 +1,16 @@
 -- What is known of a request that is served at a moment.
-use Rattle.std.proofs.Common.{◌≡◌, ℕ, Some, refl, sym, ap, ◌∙◌, subst}
-use Rattle.gb_base.specs.declared.end.End.{End}
+use Rattle.std.proofs.Common.{Some, ap, refl, subst, sym, ℕ, ◌∙◌, ◌≡◌}
+use Rattle.gb_base.specs.declared.end.{End.End, Side.Side}
 use Rattle.gb_base.specs.declared.end.End.TheVariants as end
-use Rattle.gb_base.specs.declared.end.Side.{Side}
 use Rattle.gb_base.specs.declared.end.Side.TheVariants as side
 use Rattle.gb_base.specs.declared.event.Event.TheVariants as event
-use Rattle.gb_laws.proofs.Points.{IsAfterReply, IsServing}
-use Rattle.gb_laws.proofs.PointParts.{IsServed, IsNoticed}
 use Rattle.gb_machine.specs.Bus.{Bus, Connection, Item, Place, place_of, queue}
-use Rattle.gb_machine.specs.Delivery.{popped}
-use Rattle.gb_machine.specs.HostServing.{host_serves}
-use Rattle.gb_machine.specs.Incoming.{Incoming, request_in}
-use Rattle.gb_machine.specs.Lists.{first}
-use Rattle.gb_machine.specs.Runs.{Moment}
-use Rattle.gb_machine.specs.State.{State}
-use Rattle.gb_machine.specs.Turns.{HostEvent}
+use Rattle.gb_machine.specs.{Delivery.popped, HostServing.host_serves, Incoming.Incoming}
+use Rattle.gb_machine.specs.{Incoming.request_in, Lists.first, Runs.Moment, State.State}
+use Rattle.gb_machine.specs.{Turns.HostEvent}
+use Rattle.gb_invariants.proofs.Selves.{module-no-svc}
+use Rattle.gb_laws.proofs.{PointParts.IsNoticed, PointParts.IsServed, Points.IsAfterReply}
+use Rattle.gb_laws.proofs.{Points.IsServing}
 
 -- What is served is what was delivered at this moment, which was taken alone, or was held by a
 -- module.
@@ -92,7 +88,4 @@ serving-of m s u c at q (delivered to p item r event_is named front is made from
           (subst (λ (x : Connection). IsAfterReply x.number p.side r s.bus u.bus) (sym is) way)));
     }
 serving-of m s u c at q (answered i p r module_peer) far peer way host ports past =
-    absurd (other (sym module_peer ∙ peer))
-  where
-    other : end.Module i p ≡ end.Svc → ⊥
-    other e = absurd cc
+    absurd (module-no-svc (sym module_peer ∙ peer))

@@ -1,38 +1,19 @@
 -- What is taken at a delivery, and what it answers.
-use Rattle.std.proofs.Common.{◌≡◌, ℕ, Bool, true, false, Option, Some, None, refl, sym, ap, ◌∙◌}
-use Rattle.std.specs.Prelude.{◌==◌, ◌&&◌, ◌||◌, is_none, is_some, option_map}
-use Rattle.gb_base.specs.declared.end.End.{End}
-use Rattle.gb_base.specs.declared.end.Side.{Side}
+use Rattle.std.proofs.Common.{Bool, None, Option, Some, ap, false, refl, sym, true, ℕ, ◌∙◌, ◌≡◌}
+use Rattle.std.specs.Prelude.{is_none, is_some, option_map, ◌&&◌, ◌==◌, ◌||◌}
+use Rattle.gb_base.specs.declared.end.{End.End, Side.Side}
 use Rattle.gb_base.specs.declared.outcome.Outcome.{Outcome}
-use Rattle.gb_invariants.proofs.Awaiting.{is-open, not-both, opened}
-use Rattle.gb_invariants.proofs.Drawing.{open_with-in_use}
-use Rattle.gb_invariants.proofs.Outcomes.{pair-there}
+use Rattle.gb_machine.specs.Bus.{Ask, Bus, Connection, Item, Raw, RawReply, Reply, connection_of}
+use Rattle.gb_machine.specs.Bus.{has_number, is_open, outcome_of, request_of}
+use Rattle.gb_machine.specs.Delivery.{ended, popped, replied}
+use Rattle.gb_machine.specs.{Incoming.request_in, LawsBus.is_awaited, Requests.is_given_up}
+use Rattle.gb_machine.specs.{Sending.put}
+use Rattle.gb_invariants.proofs.Awaiting.{is-open, none-some, not-both, opened, same-some}
+use Rattle.gb_invariants.proofs.{Drawing.open_with-in_use, Found.find-changed, Outcomes.pair-there}
+use Rattle.gb_invariants.proofs.{Selves.put-self}
 use Rattle.gb_invariants.specs.Facts.{OutcomesFit}
 use Rattle.gb_laws.proofs.Points.{Answers, by_label, by_number}
-use Rattle.gb_laws.proofs.PointParts.{Hand}
-use Rattle.gb_invariants.proofs.Awaiting.{same-some}
-use Rattle.gb_invariants.proofs.Selves.{put-self}
-use Rattle.gb_laws.proofs.LinkLists.{find-changed}
-use Rattle.gb_machine.specs.Sending.{put}
-use Rattle.gb_laws.proofs.ServedOn.{HasPeer}
-use Rattle.gb_machine.specs.Bus.{
-  connection_of,
-  has_number,
-  Ask,
-  Bus,
-  Connection,
-  Item,
-  Raw,
-  RawReply,
-  Reply,
-  is_open,
-  outcome_of,
-  request_of,
-}
-use Rattle.gb_machine.specs.Delivery.{ended, popped, replied}
-use Rattle.gb_machine.specs.Incoming.{request_in}
-use Rattle.gb_machine.specs.LawsBus.{is_awaited}
-use Rattle.gb_machine.specs.Requests.{is_given_up}
+use Rattle.gb_laws.proofs.{PointParts.Hand, ServedOn.HasPeer}
 
 -- requests stay where an item is taken
 pub request-popped : (item : Item) (k : ℕ) (at : Side) (b : Bus)
@@ -48,13 +29,8 @@ pub peer-replied : (k : ℕ) (at : Side) (item : Item) (e : End) (b : Bus) → H
 peer-replied k at item e b peer c f = by (connection_of k b) refl
   where
     by : (o : Option Connection) → connection_of k b ≡ o → c.peer ≡ e
-    by None g = absurd (none-some (sym
-        (find-changed (has_number k) (put at item) b.connections
-        (λ x. ap (λ n. n == k) (put-self at item x).number)
-        ∙ ap (option_map (put at item)) g) ∙ f))
-      where
-        none-some : None ≡ Some c → ⊥
-        none-some h = absurd cc
+    by None g = absurd (none-some (sym (find-changed (has_number k) (put at item) b.connections
+        (λ x. ap (λ n. n == k) (put-self at item x).number) ∙ ap (option_map (put at item)) g) ∙ f))
     by (Some x) g =
         let is = same-some (put at item x) c
         (sym (find-changed (has_number k) (put at item) b.connections
@@ -63,9 +39,9 @@ peer-replied k at item e b peer c f = by (connection_of k b) refl
         sym (ap (λ (y : Connection). y.peer) is) ∙ (put-self at item x).peer ∙ peer x g
 
 -- what is ended by a response is open
-pub answers-open : (x : Hand) (n : ℕ) (b : Bus) → Answers x n b → is_open n b ≡ true
-answers-open x n b (by_number result payload is clean unended) = unended
-answers-open x n b (by_label label dirty is) =
+pub answers-open : (x : Hand) (n : ℕ) {b : Bus} → Answers x n b → is_open n b ≡ true
+answers-open x n (by_number result payload is clean unended) = unended
+answers-open x n {b} (by_label label dirty is) =
     let o = open_with-in_use x.connection.number x.side label b n is in is-open n b o.0 o.1 o.3
 
 -- and isn't awaited any more then

@@ -1,47 +1,18 @@
 -- An interface that is enumerated stays so, and none is said to be removed, at each change of the
 -- application processor but the removal.
-use Rattle.std.proofs.Common.{
-  ◌≡◌,
-  ◌⊎◌,
-  ℕ,
-  Bool,
-  true,
-  false,
-  cond,
-  Option,
-  List,
-  [],
-  ◌∷◌,
-  inl,
-  inr,
-  refl,
-  sym,
-  ap,
-  ◌∙◌,
-  ⊎_elim,
-  subst,
-}
+use Rattle.std.proofs.Common.{Bool, List, Option, ap, cond, false, inl, inr, refl, subst, sym, true}
+use Rattle.std.proofs.Common.{ℕ, ⊎_elim, [], ◌∙◌, ◌∷◌, ◌≡◌, ◌⊎◌}
 use Rattle.gb_base.specs.declared.entry.IntfStage.TheVariants as stage
 use Rattle.gb_base.specs.declared.peers.Interface.{Interface}
-use Rattle.gb_base.specs.declared.steps.Purpose.{Purpose}
-use Rattle.gb_base.specs.declared.steps.SequenceStep.{SequenceStep}
+use Rattle.gb_base.specs.declared.steps.{Purpose.Purpose, SequenceStep.SequenceStep}
 use Rattle.gb_base.specs.declared.steps.SequenceStep.TheVariants as steps
-use Rattle.gb_invariants.proofs.Lists.{in-at_first}
-use Rattle.gb_invariants.proofs.Outcomes.{same-number}
-use Rattle.gb_laws.proofs.EnumDone.{IsDone, done-interface}
-use Rattle.gb_machine.specs.Failures.{
-  interface_fails,
-  link_fails,
-  step_fails,
-  unsent,
-  unsent_fails,
-  without_device,
-}
+use Rattle.gb_machine.specs.Failures.{interface_fails, link_fails, step_fails, unsent, unsent_fails}
+use Rattle.gb_machine.specs.Failures.{without_device}
 use Rattle.gb_machine.specs.Host.{Host, is_intf, staged, with_interface, with_link}
-use Rattle.gb_machine.specs.Lists.{at_first}
-use Rattle.gb_machine.specs.Members.{IsIn}
-use Rattle.gb_machine.specs.SequenceSteps.{is_enumeration}
-use Rattle.gb_machine.specs.Waits.{waiting}
+use Rattle.gb_machine.specs.{Lists.at_first, Members.IsIn, SequenceSteps.is_enumeration}
+use Rattle.gb_machine.specs.{Waits.waiting}
+use Rattle.gb_invariants.proofs.{Lists.in-at_first, Outcomes.same-number}
+use Rattle.gb_laws.proofs.EnumDone.{IsDone, done-interface}
 
 -- no interface that is known is said to be removed
 abbrev pub NoneRemoved : List Interface → Type 0
@@ -60,8 +31,7 @@ first-then test change [] x i = absurd i
 first-then test change (y ∷ ys) x (inl e) = by (test y) refl
   where
     by : (t : Bool) → test y ≡ t → IsIn x (cond t (change y ∷ ys) (y ∷ at_first test change ys))
-        ⊎ (IsIn (change x) (cond t (change y ∷ ys) (y ∷ at_first test change ys))
-        × (test x ≡ true))
+        ⊎ (IsIn (change x) (cond t (change y ∷ ys) (y ∷ at_first test change ys)) × (test x ≡ true))
     by true f = inr (inl (ap change e), ap test e ∙ f)
     by false f = inl (inl e)
 first-then test change (y ∷ ys) x (inr j) = by (test y) (first-then test change ys x j)
@@ -69,8 +39,7 @@ first-then test change (y ∷ ys) x (inr j) = by (test y) (first-then test chang
     by : (t : Bool) → IsIn x (at_first test change ys)
         ⊎ (IsIn (change x) (at_first test change ys) × (test x ≡ true))
         → IsIn x (cond t (change y ∷ ys) (y ∷ at_first test change ys))
-        ⊎ (IsIn (change x) (cond t (change y ∷ ys) (y ∷ at_first test change ys))
-        × (test x ≡ true))
+        ⊎ (IsIn (change x) (cond t (change y ∷ ys) (y ∷ at_first test change ys)) × (test x ≡ true))
     by true h = inl (inr j)
     by false h = ⊎_elim (λ a. inl (inr a)) (λ b. inr (inr b.0, b.1)) h
 
@@ -90,8 +59,8 @@ module _ (i : ℕ) where
     stages = λ none x j. none x (subst (λ xs. IsIn x xs) e j);
   }
 
-  pub keeps-then : (h g k : Host) → KeepsDone i h g → KeepsDone i g k → KeepsDone i h k
-  keeps-then h g k a b =
+  pub keeps-then : (h : Host) {g k : Host} → KeepsDone i h g → KeepsDone i g k → KeepsDone i h k
+  keeps-then h a b =
       record { done = λ d. b.done (a.done d); stages = λ n. b.stages (a.stages n) }
 
   -- an interface changes, and keeps its stage
@@ -106,17 +75,16 @@ module _ (i : ℕ) where
           known = v.0;
           intf = intf d.interface ∙ d.intf;
           done = same d.interface ∙ d.done;
-        })
-        (first-then (is_intf j) f h.interfaces d.interface d.known);
+        }) (first-then (is_intf j) f h.interfaces d.interface d.known);
     stages = λ none x k e. ⊎_elim (λ o. none x o e)
         (λ v. none v.0 v.1 (sym (same v.0) ∙ sym (ap (λ (y : Interface). y.stage) v.3) ∙ e))
         (in-at_first (is_intf j) f h.interfaces x k);
   }
 
   -- one that isn't enumerated fails
-  pub keeps-failed : (p : Purpose) (h : Host) → IsUndone p h
+  pub keeps-failed : (p : Purpose) {h : Host} → IsUndone p h
       → KeepsDone i h (interface_fails p h).host
-  keeps-failed p h undone = record {
+  keeps-failed p {h} undone = record {
     done = λ d. ⊎_elim
         (λ o. record { interface = d.interface; known = o; intf = d.intf; done = d.done })
         (λ v. absurd (undone (sym (same-number d.interface.intf p.intf v.1) ∙ d.intf) d))
@@ -133,9 +101,7 @@ module _ (i : ℕ) where
   pub keeps-fails : (step : SequenceStep) (p : Purpose) (h : Host)
       → (is_enumeration step ≡ true → IsUndone p h) → KeepsDone i h (step_fails step p h).host
   keeps-fails steps.CreateControl p h undone =
-      keeps-then h (link_fails p h).host (step_fails steps.CreateControl p h).host
-      (keeps-same h (link_fails p h).host refl)
-      (keeps-failed p (link_fails p h).host (undone refl))
+      keeps-then h (keeps-same h (link_fails p h).host refl) (keeps-failed p (undone refl))
   keeps-fails steps.CreateConnection p h undone =
       keeps-same h (step_fails steps.CreateConnection p h).host refl
   keeps-fails steps.TellConnected p h undone =
@@ -146,39 +112,29 @@ module _ (i : ℕ) where
       keeps-same h (step_fails steps.TellDisconnected p h).host refl
   keeps-fails steps.DestroyConnection p h undone =
       keeps-same h (step_fails steps.DestroyConnection p h).host refl
-  keeps-fails steps.EnableVsys p h undone = keeps-failed p h (undone refl)
-  keeps-fails steps.EnableRefclk p h undone = keeps-failed p h (undone refl)
-  keeps-fails steps.EnableUnipro p h undone = keeps-failed p h (undone refl)
-  keeps-fails steps.Activate p h undone = keeps-failed p h (undone refl)
-  keeps-fails steps.GiveDevice p h undone = keeps-failed p h (undone refl)
-  keeps-fails steps.CreateRoute p h undone = keeps-failed p h (undone refl)
-  keeps-fails steps.AskVersion p h undone = keeps-failed p h (undone refl)
-  keeps-fails steps.AskSize p h undone = keeps-failed p h (undone refl)
-  keeps-fails steps.AskManifest p h undone = keeps-failed p h (undone refl)
+  keeps-fails _ p h undone = keeps-failed p (undone refl)
 
   -- and where no identifier is left
-  pub keeps-unsent : (p : Purpose) (h : Host) → (is_enumeration p.step ≡ true → IsUndone p h)
+  pub keeps-unsent : (p : Purpose) {h : Host} → (is_enumeration p.step ≡ true → IsUndone p h)
       → KeepsDone i h (unsent p h).host
-  keeps-unsent p h undone = by p.step undone
+  keeps-unsent p {h} undone = by p.step undone
     where
       by : (step : SequenceStep) → (is_enumeration step ≡ true → IsUndone p h)
           → KeepsDone i h (unsent_fails step p h).host
-      by steps.CreateControl undone = keeps-failed p h (undone refl)
+      by steps.CreateControl undone = keeps-failed p (undone refl)
       by steps.CreateConnection undone = keeps-same h h refl
       by steps.GiveDevice undone =
-          keeps-then h (with_interface p.intf without_device h)
-          (unsent_fails steps.GiveDevice p h).host
-          (keeps-changed h p.intf without_device (λ x. refl) (λ x. refl))
-          (keeps-failed p (with_interface p.intf without_device h) (λ at d. undone refl at
+          keeps-then h (keeps-changed h p.intf without_device (λ x. refl) (λ x. refl))
+          (keeps-failed p (λ at d. undone refl at
           (done-interface i h p.intf without_device (λ x. refl) (λ x e. e) d)))
-      by steps.EnableVsys undone = keeps-failed p h (undone refl)
-      by steps.EnableRefclk undone = keeps-failed p h (undone refl)
-      by steps.EnableUnipro undone = keeps-failed p h (undone refl)
-      by steps.Activate undone = keeps-failed p h (undone refl)
-      by steps.CreateRoute undone = keeps-failed p h (undone refl)
-      by steps.AskVersion undone = keeps-failed p h (undone refl)
-      by steps.AskSize undone = keeps-failed p h (undone refl)
-      by steps.AskManifest undone = keeps-failed p h (undone refl)
+      by steps.EnableVsys undone = keeps-failed p (undone refl)
+      by steps.EnableRefclk undone = keeps-failed p (undone refl)
+      by steps.EnableUnipro undone = keeps-failed p (undone refl)
+      by steps.Activate undone = keeps-failed p (undone refl)
+      by steps.CreateRoute undone = keeps-failed p (undone refl)
+      by steps.AskVersion undone = keeps-failed p (undone refl)
+      by steps.AskSize undone = keeps-failed p (undone refl)
+      by steps.AskManifest undone = keeps-failed p (undone refl)
       by steps.TellConnected undone =
           keeps-same h (unsent_fails steps.TellConnected p h).host refl
       by steps.TellDisconnecting undone =
@@ -189,9 +145,9 @@ module _ (i : ℕ) where
           keeps-same h (unsent_fails steps.DestroyConnection p h).host refl
 
   -- a sequence waits for something, or for nothing
-  pub keeps-waiting : (w : Option (ℕ × SequenceStep)) (p : Purpose) (h : Host)
+  pub keeps-waiting : (w : Option (ℕ × SequenceStep)) (p : Purpose) {h : Host}
       → KeepsDone i h (waiting w p h)
-  keeps-waiting w p h = by (is_enumeration p.step)
+  keeps-waiting w p {h} = by (is_enumeration p.step)
     where
       by : (t : Bool) → KeepsDone i h (cond t
           (with_interface p.intf (λ x. record x { awaits = w }) h)

@@ -1,26 +1,6 @@
 -- What causes an end by cancelling, timeout or disconnection at a moment.
-use Rattle.gb_machine.specs.SvcQueues.{is_removal}
-use Rattle.std.proofs.Common.{
-  ◌≡◌,
-  ◌⊎◌,
-  ◌≢◌,
-  ℕ,
-  Bool,
-  true,
-  false,
-  Some,
-  List,
-  [],
-  ◌∷◌,
-  map,
-  refl,
-  sym,
-  ◌∙◌,
-  inl,
-  inr,
-  subst,
-  arith,
-}
+use Rattle.std.proofs.Common.{Bool, List, Some, arith, false, inl, inr, map, refl, subst, sym, true}
+use Rattle.std.proofs.Common.{ℕ, [], ◌∙◌, ◌∷◌, ◌≡◌, ◌≢◌, ◌⊎◌}
 use Rattle.std.specs.Prelude.{◌==◌}
 use Rattle.gb_base.specs.declared.end.Side.{Side}
 use Rattle.gb_base.specs.declared.end.Side.TheVariants as side
@@ -28,33 +8,17 @@ use Rattle.gb_base.specs.declared.entry.Entry.{Entry}
 use Rattle.gb_base.specs.declared.entry.Entry.TheVariants as entry
 use Rattle.gb_base.specs.declared.outcome.Outcome.TheVariants as outcome
 use Rattle.gb_base.specs.declared.peers.Link.{Link}
-use Rattle.gb_invariants.proofs.Awaiting.{is_of-is}
-use Rattle.gb_invariants.proofs.Lists.{in-filter, found-in}
-use Rattle.gb_invariants.proofs.Outcomes.{in-open_requests, same-number}
-use Rattle.gb_laws.proofs.LinkLists.{found-link}
-use Rattle.gb_laws.proofs.LinkRuns.{LinkedTo}
-use Rattle.gb_laws.proofs.Noticing.{told-by_svc}
-use Rattle.gb_laws.proofs.Onward.{IsOnward}
-use Rattle.gb_laws.proofs.PointParts.{
-  AreQuiet,
-  IsGivenUpFor,
-  IsShutFor,
-  Point,
-  Unwired,
-  asked_told,
-  disconnected,
-  is_quiet,
-  removed,
-  sent_told,
-}
 use Rattle.gb_machine.specs.Bus.{Bus, Connection, Request, next_number, request_of}
-use Rattle.gb_machine.specs.Host.{link_of}
-use Rattle.gb_machine.specs.LawsEnds.{IsDisconnect, IsRemovalOf}
-use Rattle.gb_machine.specs.Members.{Each, IsIn}
-use Rattle.gb_machine.specs.Requests.{is_of, open_on}
-use Rattle.gb_machine.specs.Runs.{Moment, after}
-use Rattle.gb_machine.specs.Sending.{Draft}
-use Rattle.gb_machine.specs.Wires.{disconnected_told}
+use Rattle.gb_machine.specs.{Host.link_of, LawsEnds.IsDisconnect, LawsEnds.IsRemovalOf}
+use Rattle.gb_machine.specs.{Members.Each, Members.IsIn, Requests.is_of, Requests.open_on}
+use Rattle.gb_machine.specs.{Runs.Moment, Runs.after, Sending.Draft, SvcQueues.is_removal}
+use Rattle.gb_machine.specs.{Wires.disconnected_told}
+use Rattle.gb_invariants.proofs.{Awaiting.is_of-is, Lists.found-in, Lists.in-filter}
+use Rattle.gb_invariants.proofs.{Outcomes.in-open_requests, Outcomes.same-number}
+use Rattle.gb_laws.proofs.PointParts.{AreQuiet, IsGivenUpFor, IsShutFor, Point, Unwired, asked_told}
+use Rattle.gb_laws.proofs.PointParts.{disconnected, is_quiet, removed, sent_told}
+use Rattle.gb_laws.proofs.{LinkLists.found-link, LinkRuns.LinkedTo, MarkNotices.told-by_svc}
+use Rattle.gb_laws.proofs.{Onward.IsOnward}
 
 -- ---- what causes an end
 

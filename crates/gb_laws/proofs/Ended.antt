@@ -1,31 +1,8 @@
 -- What is told of ends is what the outcomes are.
-use Rattle.std.proofs.Common.{
-  ◌≡◌,
-  ℕ,
-  ◌+◌,
-  Bool,
-  true,
-  false,
-  cond,
-  Some,
-  List,
-  [],
-  ◌∷◌,
-  ◌++◌,
-  map,
-  refl,
-  sym,
-  ap,
-  ap₂,
-  ◌∙◌,
-  inl,
-  inr,
-  ⊎_elim,
-  subst,
-  append-nil,
-  append_assoc,
-  arith,
-}
+use Rattle.std.proofs.Common.{Bool, List, Some, ap, append-nil, append_assoc, ap₂, arith, cond}
+use Rattle.std.proofs.Common.{false, inl, inr, map, refl, subst, sym, true, ℕ, ⊎_elim, [], ◌++◌}
+use Rattle.std.proofs.Common.{◌+◌, ◌∙◌, ◌∷◌, ◌≡◌}
+use Rattle.std.specs.Prelude.{is_some, ◌==◌}
 use Rattle.gb_base.specs.declared.bridge.Reading.{Reading}
 use Rattle.gb_base.specs.declared.bridge.Reading.TheVariants as reading
 use Rattle.gb_base.specs.declared.end.Side.TheVariants as side
@@ -33,55 +10,23 @@ use Rattle.gb_base.specs.declared.entry.Entry.{Entry}
 use Rattle.gb_base.specs.declared.entry.Entry.TheVariants as entry
 use Rattle.gb_base.specs.declared.outcome.Outcome.{Outcome}
 use Rattle.gb_base.specs.declared.outcome.Outcome.TheVariants as outcome
-use Rattle.gb_invariants.proofs.Counts.{times-append, times-cons}
-use Rattle.gb_invariants.proofs.Awaiting.{not-both}
-use Rattle.gb_invariants.proofs.Outcomes.{is-same, open_requests-same}
-use Rattle.gb_invariants.proofs.Lists.{in-append, in-behind, in-front}
-use Rattle.gb_laws.proofs.Awaited.{awaited-rest}
-use Rattle.gb_laws.proofs.Basics.{basis-first, basis-kept, rested}
-use Rattle.gb_laws.proofs.Points.{
-  Change,
-  Law,
-  acts_asked,
-  acts_failed,
-  acts_opened,
-  acts_shut,
-  acts_told,
-  answers,
-  asks,
-  changed,
-  drops,
-  gives_up,
-  injects,
-  names,
-  replies,
-  tells,
-  unwires,
-}
-use Rattle.gb_laws.proofs.PointParts.{
-  AreQuiet,
-  Basis,
-  Point,
-  asked_told,
-  is_quiet,
-  resting,
-  sent_told,
-}
-use Rattle.gb_laws.proofs.Silent.{silent-quiet}
-use Rattle.gb_machine.specs.Asking.{asked}
 use Rattle.gb_machine.specs.Bus.{Bus, Connection, next_number}
-use Rattle.gb_machine.specs.Sending.{Draft, sent_at_once}
-use Rattle.std.specs.Prelude.{◌==◌, is_some}
-use Rattle.gb_laws.proofs.Runs.{HoldsByMoments, throughout, weaker}
-use Rattle.gb_laws.proofs.Steps.{over-step}
-use Rattle.gb_machine.specs.Lists.{lookup}
-use Rattle.gb_machine.specs.State.{State}
 use Rattle.gb_machine.specs.LawsEnds.{EndsTold, is_end_of, is_outcome_of}
 use Rattle.gb_machine.specs.Members.{Each, IsIn, times}
-use Rattle.gb_machine.specs.Requests.{is_of, open_on}
-use Rattle.gb_machine.specs.Runs.{Moment}
-use Rattle.gb_machine.specs.Wires.{disconnected_told}
-use Rattle.gb_machine.specs.Wiring.{all_ended}
+use Rattle.gb_machine.specs.{Asking.asked, Lists.lookup, Requests.is_of, Requests.open_on}
+use Rattle.gb_machine.specs.{Runs.Moment, Sending.Draft, Sending.sent_at_once, State.State}
+use Rattle.gb_machine.specs.{Wires.disconnected_told, Wiring.all_ended}
+use Rattle.gb_invariants.proofs.Lists.{in-append, in-behind, in-front}
+use Rattle.gb_invariants.proofs.{Awaiting.not-both, Counts.times-append, Counts.times-cons}
+use Rattle.gb_invariants.proofs.{Outcomes.is-same, Outcomes.open_requests-same}
+use Rattle.gb_laws.proofs.Basics.{basis-first, basis-kept, rested}
+use Rattle.gb_laws.proofs.PointParts.{AreQuiet, Basis, Point, asked_told, is_quiet, resting}
+use Rattle.gb_laws.proofs.PointParts.{sent_told}
+use Rattle.gb_laws.proofs.Points.{Change, Law, acts_asked, acts_failed, acts_opened, acts_shut}
+use Rattle.gb_laws.proofs.Points.{acts_told, answers, asks, changed, drops, gives_up, injects}
+use Rattle.gb_laws.proofs.Points.{names, replies, tells, unwires}
+use Rattle.gb_laws.proofs.Runs.{HoldsByMoments, throughout, weaker}
+use Rattle.gb_laws.proofs.{Awaited.awaited-rest, Silent.silent-quiet, Steps.over-step}
 
 -- What was told of ends is what the outcomes are, and as often.
 pub record SaysEnds (told : List Entry) (outcomes : List (ℕ × Outcome)) : Type 0 where
@@ -111,9 +56,9 @@ no-end-count (e ∷ es) n h = ap (λ b. cond b (times (is_end_of n) es + 1) (tim
     (h.0 n) ∙ no-end-count es n h.1
 
 -- where nothing is told of ends
-pub says-more : (told es : List Entry) (outcomes : List (ℕ × Outcome)) → Each IsNoEnd es
-    → SaysEnds told outcomes → SaysEnds (told ++ es) outcomes
-says-more told es outcomes quiet h = record {
+pub says-more : {told : List Entry} (es : List Entry) {outcomes : List (ℕ × Outcome)} → Each IsNoEnd
+    es → SaysEnds told outcomes → SaysEnds (told ++ es) outcomes
+says-more {told} es quiet h = record {
   count = λ n. times-append (is_end_of n) told es
       ∙ (let c = h.count n in let z = no-end-count es n quiet in omega (arith, c, z));
   said = λ n how i. let r = h.said n how i in (r.0, in-front (entry.Ended n how r.0) told es r.1);
@@ -130,19 +75,17 @@ pair : (k n : ℕ) (w how : Outcome) → k ≡ n → w ≡ how → Pair k w n ho
 pair k n w how e f = ap₂ (λ (a : ℕ) (b : Outcome). let p : ℕ × Outcome = (a, b) in p) e f
 
 -- where an end is told
-pub says-end : (told : List Entry) (outcomes : List (ℕ × Outcome)) (n : ℕ) (how : Outcome)
+pub says-end : {told : List Entry} {outcomes : List (ℕ × Outcome)} (n : ℕ) (how : Outcome)
     (read : Reading) → SaysEnds told outcomes
     → SaysEnds (told ++ entry.Ended n how read ∷ []) ((n, how) ∷ outcomes)
-says-end told outcomes n how read h = record {
+says-end {told} {outcomes} n how read h = record {
   count = λ k. times-append (is_end_of k) told (entry.Ended n how read ∷ [])
       ∙ (let c = h.count k in let z = times-cons (is_outcome_of k) (n, how) outcomes in omega
       (arith, c, z));
   said = λ k w i. ⊎_elim (λ e. (
     read,
-    in-behind (entry.Ended k w read) told
-        (entry.Ended n how read ∷ []) (inl (same k w e)),
-  ))
-      (λ old. let r = h.said k w old in
+    in-behind (entry.Ended k w read) told (entry.Ended n how read ∷ []) (inl (same k w e)),
+  )) (λ old. let r = h.said k w old in
       (r.0, in-front (entry.Ended k w r.0) told (entry.Ended n how read ∷ []) r.1)) i;
   kept = λ k w r i. ⊎_elim (λ old. inr (h.kept k w r old))
       (λ new. ⊎_elim (λ e. inl (back k w r e)) (λ none. absurd none) new)
@@ -163,15 +106,14 @@ says-end told outcomes n how read h = record {
         outcome-of e = cc
 
 -- where requests are disconnected, one after another
-pub says-ended : (told : List Entry) (ns : List ℕ) (outcomes : List (ℕ × Outcome))
+pub says-ended : {told : List Entry} (ns : List ℕ) {outcomes : List (ℕ × Outcome)}
     → SaysEnds told outcomes
     → SaysEnds (told ++ map disconnected_told ns) (all_ended ns outcome.Disconnected outcomes)
-says-ended told [] outcomes h = subst (λ es. SaysEnds es outcomes) (sym (append-nil told)) h
-says-ended told (n ∷ ns) outcomes h =
+says-ended {told} [] {outcomes} h = subst (λ es. SaysEnds es outcomes) (sym (append-nil told)) h
+says-ended {told} (n ∷ ns) {outcomes} h =
     subst (λ es. SaysEnds es (all_ended (n ∷ ns) outcome.Disconnected outcomes))
-    (append_assoc told (disconnected_told n ∷ []) (map disconnected_told ns))
-    (says-ended (told ++ disconnected_told n ∷ []) ns ((n, outcome.Disconnected) ∷ outcomes)
-    (says-end told outcomes n outcome.Disconnected reading.Nothing h))
+    (append_assoc told (disconnected_told n ∷ []) (map disconnected_told ns)) (says-ended ns
+    (says-end n outcome.Disconnected reading.Nothing h))
 
 -- quiet entries are no ends
 quiet-no-end : (e : Entry) → is_quiet e ≡ true → IsNoEnd e
@@ -184,14 +126,13 @@ quiet-no-ends [] h = tt
 quiet-no-ends (e ∷ es) h = (quiet-no-end e h.0, quiet-no-ends es h.1)
 
 -- what is told where a request is made
-says-asked : (told : List Entry) (outcomes : List (ℕ × Outcome)) (d : Draft) (c : Connection)
-    (label : ℕ) (b : Bus)
-    → SaysEnds told outcomes → SaysEnds (told ++ asked_told d c label b)
+says-asked : {told : List Entry} {outcomes : List (ℕ × Outcome)} (d : Draft) (c : Connection)
+    (label : ℕ) (b : Bus) → SaysEnds told outcomes → SaysEnds (told ++ asked_told d c label b)
     (sent_at_once d (next_number b) outcomes)
-says-asked told outcomes d c label b h = by d.oneway
+says-asked {told} {outcomes} d c label b h = by d.oneway
   where
     asked_first : SaysEnds (told ++ asked d c label b ∷ []) outcomes
-    asked_first = says-more told (asked d c label b ∷ []) outcomes ((λ n. refl), tt) h
+    asked_first = says-more (asked d c label b ∷ []) ((λ n. refl), tt) h
 
     by : (t : Bool) → SaysEnds (told ++ asked d c label b ∷ sent_told t (next_number b))
         (cond t ((next_number b, outcome.Sent) ∷ outcomes) outcomes)
@@ -200,8 +141,7 @@ says-asked told outcomes d c label b h = by d.oneway
         subst (λ es. SaysEnds es ((next_number b, outcome.Sent) ∷ outcomes))
         (append_assoc told (asked d c label b ∷ [])
         (entry.Ended (next_number b) outcome.Sent reading.Nothing ∷ []))
-        (says-end (told ++ asked d c label b ∷ []) outcomes (next_number b) outcome.Sent
-        reading.Nothing asked_first)
+        (says-end (next_number b) outcome.Sent reading.Nothing asked_first)
 
 -- ---- the law of points
 
@@ -210,43 +150,43 @@ abbrev Says : Point → Type 0
 Says a = SaysEnds a.told a.state.bus.outcomes
 
 untold : (a : Point) → Says a → SaysEnds (a.told ++ []) a.state.bus.outcomes
-untold a h = says-more a.told [] a.state.bus.outcomes tt h
+untold a h = says-more [] tt h
 
 says-kept : (m : Moment) (a : Point) (x : Change m a) → Says a → Says (changed m a x)
 says-kept m a (tells e quiet) h =
-    says-more a.told (e ∷ []) a.state.bus.outcomes (quiet-no-end e (silent-quiet e quiet), tt) h
+    says-more (e ∷ []) (quiet-no-end e (silent-quiet e quiet), tt) h
 says-kept m a (asks d c label free live drawn who) h =
-    says-asked a.told a.state.bus.outcomes d c label a.state.bus h
+    says-asked d c label a.state.bus h
 says-kept m a (names name d c label free live drawn host) h =
-    says-asked a.told a.state.bus.outcomes d c label a.state.bus h
+    says-asked d c label a.state.bus h
 says-kept m a drops h = h
 says-kept m a (replies x q r is made twoway) h =
-    says-more a.told _ a.state.bus.outcomes ((λ n. refl), tt) h
+    says-more _ ((λ n. refl), tt) h
 says-kept m a (answers x n result payload is says which) h =
-    says-end a.told a.state.bus.outcomes n _ _ h
+    says-end n _ _ h
 says-kept m a (gives_up n how free unended cause) h =
-    says-end a.told a.state.bus.outcomes n how reading.Nothing h
+    says-end n how reading.Nothing h
 says-kept m a (unwires k free before live) h =
     subst (λ ns. SaysEnds (a.told ++ map disconnected_told (open_on k side.Far a.state.bus))
     (all_ended ns outcome.Disconnected a.state.bus.outcomes))
     (sym (open_requests-same (is_of k side.Far) a.state.bus _))
-    (says-ended a.told (open_on k side.Far a.state.bus) a.state.bus.outcomes h)
+    (says-ended (open_on k side.Far a.state.bus) h)
 says-kept m a (injects i c p bytes free named) h =
-    says-more a.told _ a.state.bus.outcomes ((λ n. refl), tt) h
+    says-more _ ((λ n. refl), tt) h
 says-kept m a (acts_told e rest is quiet) h =
-    says-more a.told (e ∷ []) a.state.bus.outcomes (quiet-no-end e quiet, tt) h
+    says-more (e ∷ []) (quiet-no-end e quiet, tt) h
 says-kept m a (acts_shut k rest free is cause) h =
     subst (λ ns. SaysEnds (a.told ++ map disconnected_told (open_on k side.Ap a.state.bus))
     (all_ended ns outcome.Disconnected a.state.bus.outcomes))
     (sym (open_requests-same (is_of k side.Ap) a.state.bus _))
-    (says-ended a.told (open_on k side.Ap a.state.bus) a.state.bus.outcomes h)
+    (says-ended (open_on k side.Ap a.state.bus) h)
 says-kept m a (acts_opened w q rest free is) h =
-    says-more a.told _ a.state.bus.outcomes ((λ n. refl), tt) h
+    says-more _ ((λ n. refl), tt) h
 says-kept m a (acts_asked q n rest is) h =
     subst (λ (b : Bus). SaysEnds (a.told ++ []) b.outcomes)
-    (sym (awaited-rest q.purpose n a.state).bus) (untold a h)
+    (sym (awaited-rest q.purpose n).bus) (untold a h)
 says-kept m a (acts_failed q rest is quiet) h =
-    says-more a.told _ a.state.bus.outcomes (quiet-no-ends _ quiet) h
+    says-more _ (quiet-no-ends _ quiet) h
 says-kept m a _ h =
     untold a h
 
@@ -260,7 +200,7 @@ abbrev ends_law : (m : Moment) → Law m
 ends_law m = record {
   holds = Told;
   basis = λ a h. h.0;
-  kept = λ a x h. (basis-kept m a x h.0, says-kept m a x h.1);
+  kept = λ a x h. (basis-kept a x h.0, says-kept m a x h.1);
 }
 
 abbrev pub ToldAt : List Entry → State → Type 0
@@ -272,11 +212,9 @@ ends-throughout = throughout ToldAt (
   record {
     count = λ n. refl;
     said = λ n how i. absurd i;
-    kept = λ n how read i.
-        absurd i;
+    kept = λ n how read i. absurd i;
   },
-)
-    (λ m one h. let r = over-step m (ends_law m) one h in (rested _ _ r.0 r.1.0, r.1.1))
+) (λ m one h. let r = over-step m (ends_law m) one h in (rested _ _ r.0 r.1.0, r.1.1))
 
 -- What is told of ends is what the outcomes are.
 pub ends-told_by_moments : HoldsByMoments EndsTold

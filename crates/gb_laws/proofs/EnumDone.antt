@@ -1,37 +1,15 @@
 -- An interface is enumerated, and where it stays so.
-use Rattle.std.proofs.Common.{
-  ◌≡◌,
-  ℕ,
-  Bool,
-  true,
-  false,
-  cond,
-  None,
-  List,
-  refl,
-  sym,
-  ap,
-  ◌∙◌,
-  ⊎_elim,
-}
-use Rattle.gb_base.specs.declared.steps.Purpose.{Purpose}
-use Rattle.gb_base.specs.declared.steps.SequenceStep.{SequenceStep}
-use Rattle.gb_base.specs.declared.peers.Interface.{Interface}
-use Rattle.gb_base.specs.declared.steps.SequenceStep.TheVariants as steps
+use Rattle.std.proofs.Common.{Bool, List, None, ap, cond, false, refl, sym, true, ℕ, ⊎_elim, ◌∙◌}
+use Rattle.std.proofs.Common.{◌≡◌}
 use Rattle.gb_base.specs.declared.entry.IntfStage.TheVariants as stage
-use Rattle.gb_machine.specs.Failures.{
-  interface_fails,
-  link_fails,
-  step_fails,
-  unsent,
-  unsent_fails,
-  without_device,
-}
+use Rattle.gb_base.specs.declared.peers.Interface.{Interface}
+use Rattle.gb_base.specs.declared.steps.{Purpose.Purpose, SequenceStep.SequenceStep}
+use Rattle.gb_base.specs.declared.steps.SequenceStep.TheVariants as steps
+use Rattle.gb_machine.specs.Failures.{interface_fails, link_fails, step_fails, unsent, unsent_fails}
+use Rattle.gb_machine.specs.Failures.{without_device}
 use Rattle.gb_machine.specs.Host.{Host, is_intf, staged, with_interface, with_link}
-use Rattle.gb_machine.specs.Waits.{awaits_nothing}
+use Rattle.gb_machine.specs.{Members.IsIn, SequenceSteps.is_enumeration, Waits.awaits_nothing}
 use Rattle.gb_invariants.proofs.Lists.{in-at_first}
-use Rattle.gb_machine.specs.Members.{IsIn}
-use Rattle.gb_machine.specs.SequenceSteps.{is_enumeration}
 
 -- an interface is enumerated
 pub record IsDone (i : ℕ) (xs : List Interface) : Type 0 where
@@ -56,8 +34,7 @@ module _ (i : ℕ) where
         known = v.1;
         intf = sym (intf v.0) ∙ ap (λ (x : Interface). x.intf) (sym v.3) ∙ d.intf;
         done = back v.0 (ap (λ (x : Interface). x.stage) (sym v.3) ∙ d.done);
-      })
-      (in-at_first (is_intf j) f h.interfaces d.interface d.known)
+      }) (in-at_first (is_intf j) f h.interfaces d.interface d.known)
 
   pub failed-none : stage.Failed ≡ stage.Enumerated → ⊥
   failed-none e = absurd cc
@@ -82,8 +59,7 @@ module _ (i : ℕ) where
       by : (t : Bool) → FewerDone h (cond t
           (with_interface p.intf (λ x. record x { awaits = None }) h)
           (with_link p.intf p.cport (λ l. record l { awaits = None }) h))
-      by true d = done-interface h p.intf (λ x. record x { awaits = None }) (λ x. refl)
-          (λ x e. e) d
+      by true d = done-interface h p.intf (λ x. record x { awaits = None }) (λ x. refl) (λ x e. e) d
       by false d = d
 
   -- no identifier is left

@@ -1,108 +1,45 @@
 -- Each connection but Control is one of an interface that is enumerated, and so is each that a
 -- sequence is to ask for: at each point of a step.
-use Rattle.std.proofs.Common.{
-  ◌≡◌,
-  ◌≢◌,
-  ℕ,
-  Bool,
-  true,
-  false,
-  Option,
-  Some,
-  None,
-  List,
-  [],
-  ◌∷◌,
-  inl,
-  inr,
-  refl,
-  sym,
-  ap,
-  ◌∙◌,
-  ⊎_elim,
-  subst,
-}
-use Rattle.std.specs.Prelude.{is_some, is_none, ◌==◌}
+use Rattle.std.proofs.Common.{Bool, List, None, Option, Some, ap, false, inl, refl, subst, sym}
+use Rattle.std.proofs.Common.{true, ℕ, ⊎_elim, [], ◌∙◌, ◌∷◌, ◌≡◌, ◌≢◌}
+use Rattle.std.specs.Prelude.{is_none, is_some, ◌==◌}
+use Rattle.gb_base.specs.declared.refusal.Refusal.TheVariants as why
 use Rattle.gb_base.specs.declared.end.Side.TheVariants as side
 use Rattle.gb_base.specs.declared.entry.IntfStage.{IntfStage}
 use Rattle.gb_base.specs.declared.entry.IntfStage.TheVariants as stage
 use Rattle.gb_base.specs.declared.event.Event.TheVariants as event
-use Rattle.gb_base.specs.declared.peers.Interface.{Interface}
-use Rattle.gb_base.specs.declared.peers.Link.{Link}
+use Rattle.gb_base.specs.declared.peers.{Interface.Interface, Link.Link}
 use Rattle.gb_base.specs.declared.steps.Purpose.{Purpose}
-use Rattle.gb_invariants.proofs.Awaiting.{not-both}
-use Rattle.gb_invariants.proofs.Lists.{found-in, in-pushed, in-without}
-use Rattle.gb_invariants.proofs.Outcomes.{is-same, same-number}
-use Rattle.gb_laws.proofs.Asked.{asks-none}
-use Rattle.gb_laws.proofs.AskedWaits.{AsksIn, asks-tell, asks_in, no-asks, opens_in}
-use Rattle.gb_laws.proofs.CreatingFacts.{Came}
-use Rattle.gb_laws.proofs.CreatingKept.{came-from, came-link, credits-same}
-use Rattle.gb_laws.proofs.DoneStays.{
-  KeepsDone,
-  NoneRemoved,
-  keeps-same,
-  keeps-unsent,
-  keeps-waiting,
-}
-use Rattle.gb_laws.proofs.DoneSteps.{IsTimely, TurnDone}
-use Rattle.gb_laws.proofs.DoneTurns.{
-  done-connects,
-  done-disconnects,
-  done-ended,
-  done-inserted,
-  done-removed,
-}
-use Rattle.gb_laws.proofs.EnumDone.{IsDone}
-use Rattle.gb_laws.proofs.EnumSettled.{IsSettled, waited-enum}
-use Rattle.gb_laws.proofs.LinkActs.{ServedHost, as_before, awaited-host, host-served, with_more}
-use Rattle.gb_laws.proofs.LinkBuses.{new_link}
-use Rattle.gb_laws.proofs.LinkHosts.{same-link}
-use Rattle.gb_laws.proofs.LinkLists.{link-is}
-use Rattle.gb_laws.proofs.LinkSources.{from-turn, from-unsent, from-waiting}
-use Rattle.gb_laws.proofs.LinkEnds.{WaitsFor, connecting, enumerating, waits-for}
-use Rattle.gb_laws.proofs.Linking.{InsertsAbsent, LinkedAt}
-use Rattle.gb_laws.proofs.Links.{ArePending, IsFree, IsMaking, connection, control}
-use Rattle.gb_laws.proofs.Marking.{present-some}
-use Rattle.gb_laws.proofs.PointParts.{IsCaused, Point}
-use Rattle.gb_laws.proofs.Points.{
-  Change,
-  IsAsking,
-  acts_asked,
-  acts_failed,
-  acts_left,
-  acts_opened,
-  acts_shut,
-  acts_told,
-  asking,
-  changed,
-  opening,
-  serves,
-  spends,
-  turns,
-}
-use Rattle.gb_laws.proofs.QuietLaw.{fewer-asks}
 use Rattle.gb_machine.proofs.Conditions.{AreUnmet, free, front-unmet}
-use Rattle.gb_machine.specs.Failures.{unsent}
 use Rattle.gb_machine.specs.Host.{Host, control_of, interface_of, is_intf, is_link, with_link}
-use Rattle.gb_machine.specs.HostRefusals.{
-  connect_conditions,
-  disconnect_conditions,
-  is_enumerating,
-  is_failed_stage,
-}
-use Rattle.gb_machine.specs.HostServing.{host_serves, with_credits}
-use Rattle.gb_machine.specs.HostTurns.{host_turn, links_of}
-use Rattle.gb_machine.specs.Labels.{no_label}
-use Rattle.gb_machine.specs.LineActions.{spent}
-use Rattle.gb_machine.specs.Lists.{holds_of}
-use Rattle.gb_machine.specs.Members.{IsIn}
-use Rattle.gb_machine.specs.Refusals.{has_no_label}
-use Rattle.gb_machine.specs.Runs.{Moment}
-use Rattle.gb_machine.specs.SequenceSteps.{is_enumeration}
-use Rattle.gb_machine.specs.State.{State}
+use Rattle.gb_machine.specs.HostRefusals.{connect_conditions, disconnect_conditions, is_enumerating}
+use Rattle.gb_machine.specs.HostRefusals.{is_failed_stage}
 use Rattle.gb_machine.specs.Turns.{Act, Asking, HostEvent}
-use Rattle.gb_machine.specs.Waits.{awaited, awaits}
-use Rattle.gb_machine.specs.Wiring.{next_connection}
+use Rattle.gb_machine.specs.{Failures.unsent, HostServing.host_serves, HostServing.with_credits}
+use Rattle.gb_machine.specs.{HostTurns.host_turn, HostTurns.links_of}
+use Rattle.gb_machine.specs.{LineActions.spent, Lists.holds_of, Members.IsIn, Refusals.has_no_label}
+use Rattle.gb_machine.specs.{Runs.Moment, SequenceSteps.is_enumeration, State.State, Waits.awaited}
+use Rattle.gb_machine.specs.{Waits.awaits, Wiring.next_connection}
+use Rattle.gb_invariants.proofs.Lists.{found-in, in-pushed, in-without}
+use Rattle.gb_invariants.proofs.{Awaiting.not-both, Outcomes.is-same, Outcomes.same-number}
+use Rattle.gb_laws.proofs.AskedWaits.{AsksIn, asks-tell, asks_in, no-asks, opens_in}
+use Rattle.gb_laws.proofs.DoneStays.{KeepsDone, NoneRemoved, keeps-same, keeps-unsent}
+use Rattle.gb_laws.proofs.DoneStays.{keeps-waiting}
+use Rattle.gb_laws.proofs.DoneTurns.{done-connects, done-disconnects, done-ended, done-inserted}
+use Rattle.gb_laws.proofs.DoneTurns.{done-removed}
+use Rattle.gb_laws.proofs.LinkActs.{ServedHost, as_before, awaited-host, host-served, with_more}
+use Rattle.gb_laws.proofs.LinkEnds.{WaitsFor, connecting, enumerating, waits-for}
+use Rattle.gb_laws.proofs.LinkSources.{from-turn, from-unsent, from-waiting}
+use Rattle.gb_laws.proofs.Links.{ArePending, IsFree, IsMaking, connection, control}
+use Rattle.gb_laws.proofs.Points.{Change, IsAsking, acts_asked, acts_failed, acts_opened, asking}
+use Rattle.gb_laws.proofs.Points.{changed, opening, serves, spends, turns}
+use Rattle.gb_laws.proofs.{Asked.asks-none, ChangeHosts.asks-kept, CreatingFacts.Came}
+use Rattle.gb_laws.proofs.{CreatingKept.came-from, CreatingKept.came-link, DoneSteps.IsTimely}
+use Rattle.gb_laws.proofs.{DoneSteps.TurnDone, EnumDone.IsDone, EnumSettled.IsSettled}
+use Rattle.gb_laws.proofs.{EnumSettled.waited-enum, LinkBuses.new_link, LinkHosts.credits-link}
+use Rattle.gb_laws.proofs.{LinkHosts.same-link, LinkKept.InsertsAbsent, LinkKept.LinkedAt}
+use Rattle.gb_laws.proofs.{LinkLists.link-is, MarkMoments.present-some, PointParts.IsCaused}
+use Rattle.gb_laws.proofs.{PointParts.Point}
 
 pub record LinksDone (i : ℕ) (a : Point) : Type 0 where
   pub stages : NoneRemoved a.state.host.interfaces
@@ -113,10 +50,10 @@ pub record LinksDone (i : ℕ) (a : Point) : Type 0 where
 
 -- ---- what stays
 
-pub links-still : (i : ℕ) (a b : Point) → KeepsDone i a.state.host b.state.host
+pub links-still : {i : ℕ} {a b : Point} → KeepsDone i a.state.host b.state.host
     → Came a.state.host.links b.state.host.links
     → ((q : Asking) → AsksIn q b.pending → AsksIn q a.pending) → LinksDone i a → LinksDone i b
-links-still i a b keeps came fewer h = record {
+links-still keeps came fewer h = record {
   stages = keeps.stages h.stages;
   links = λ l j at other. let x = came l j in
       keeps.done (h.links x.0 x.1 (sym x.2.intf ∙ at) (λ e. other (x.2.cport ∙ e)));
@@ -142,8 +79,7 @@ connects-done i j c h none met at = by (interface_of j h) refl met.0 met.1.0 met
   where
     by : (o : Option Interface) → interface_of j h ≡ o → is_none o ≡ false
         → holds_of (λ (x : Interface). is_enumerating x.stage) o ≡ false
-        → holds_of (λ (x : Interface). is_failed_stage x.stage) o ≡ false
-        → IsDone i h.interfaces
+        → holds_of (λ (x : Interface). is_failed_stage x.stage) o ≡ false → IsDone i h.interfaces
     by None e there running failed = absurd cc
     by (Some x) e there running failed =
         let found = found-in (is_intf j) h.interfaces x e in record {
@@ -160,15 +96,14 @@ module _ (m : Moment) (absent : InsertsAbsent m) (i : ℕ) (a : Point) (links : 
       → IsTimely i p.step p a.state.host
   timely n p e = record {
     before = λ s at.
-        let w = waited-enum a.state.bus n a.state.host p links.host e s in
+        let w = waited-enum n p links.host e s in
         (settled.waits w.interface w.known (w.intf ∙ at) (n, p.step) w.awaits).0;
-    behind = λ s at. by s at (waits-for a.state.bus n a.state.host p links.host e);
+    behind = λ s at. by s at (waits-for n p links.host e);
   }
     where
       by : is_enumeration p.step ≡ false → p.intf ≡ i → WaitsFor a.state.host p
           → IsDone i a.state.host.interfaces
-      by s at (enumerating x j intf cport w waits step) = absurd (not-both
-          (is_enumeration p.step)
+      by s at (enumerating x j intf cport w waits step) = absurd (not-both (is_enumeration p.step)
           (ap is_enumeration step ∙ (links.host.interfaces x j w waits).0) s)
       by s at (connecting l j intf cport w waits step) =
           h.links l j (sym intf ∙ at) (links.host.links.waiting l j w waits).0
@@ -176,21 +111,20 @@ module _ (m : Moment) (absent : InsertsAbsent m) (i : ℕ) (a : Point) (links : 
   turn-done : (e : HostEvent) → IsCaused m e a.state.host
       → ((j : ℕ) → e ≡ HostEvent.Removed j → (j == i) ≡ false)
       → TurnDone i a.state.host (host_turn e a.state.host)
-  turn-done (HostEvent.Inserted j) cause other = done-inserted i j a.state.host (λ at d.
-      not-both (is_some (interface_of i a.state.host))
-      (present-some i a.state.host
+  turn-done (HostEvent.Inserted j) cause other = done-inserted i j (λ at d.
+      not-both (is_some (interface_of i a.state.host)) (present-some a.state.host
       (record { interface = d.interface; known = d.known; is = d.intf }))
       (ap (λ g. is_some (interface_of i g)) cause.0
       ∙ ap is_some (subst (λ k. interface_of k m.before.host ≡ None) at (absent j cause.1))))
   turn-done (HostEvent.Removed j) cause other =
-      done-removed i j a.state.host (other j refl)
-  turn-done (HostEvent.Connect j c) cause other = done-connects i j c a.state.host
+      done-removed i j (other j refl)
+  turn-done (HostEvent.Connect j c) cause other = done-connects i j c
       (connects-done i j c a.state.host h.stages
       (subst (λ g. AreUnmet (connect_conditions j c g)) (sym cause.0)
       (front-unmet (connect_conditions j c m.before.host)
-      ((has_no_label 1 side.Ap m.before, no_label) ∷ [])
+      ((has_no_label 1 side.Ap m.before, why.NoLabel) ∷ [])
       (free m.before (event.Connect j c) cause.2))))
-  turn-done (HostEvent.Disconnect j c) cause other = done-disconnects i j c a.state.host
+  turn-done (HostEvent.Disconnect j c) cause other = done-disconnects i j c
       (λ l e at. let found = found-in (is_link j c) a.state.host.links l e in
       let is = link-is j c l found.1 in
       h.links l found.0 (is.0 ∙ at) (λ zero. not-both (c == 0)
@@ -198,34 +132,30 @@ module _ (m : Moment) (absent : InsertsAbsent m) (i : ℕ) (a : Point) (links : 
     where
       met : AreUnmet (disconnect_conditions j c a.state.host)
       met = subst (λ g. AreUnmet (disconnect_conditions j c g)) (sym cause.0)
-          (front-unmet (disconnect_conditions j c m.before.host)
-          ((
+          (front-unmet (disconnect_conditions j c m.before.host) ((
             holds_of (λ k. has_no_label k side.Ap m.before) (control_of j m.before.host),
-            no_label,
-          ) ∷ [])
-          (free m.before (event.Disconnect j c) cause.2))
+            why.NoLabel,
+          ) ∷ []) (free m.before (event.Disconnect j c) cause.2))
   turn-done (HostEvent.Ended n how) cause other =
-      done-ended i (awaited n a.state.host) how a.state.host (timely n)
+      done-ended i (awaited n a.state.host) how (timely n)
 
-  links-turned : (e : HostEvent) (b : Point) → IsCaused m e a.state.host
+  links-turned : (e : HostEvent) {b : Point} → IsCaused m e a.state.host
       → b.state ≡ record a.state { host = (host_turn e a.state.host).host }
       → b.pending ≡ (host_turn e a.state.host).acts
       → ((j : ℕ) → e ≡ HostEvent.Removed j → (j == i) ≡ false) → LinksDone i b
-  links-turned e b cause state pending other =
+  links-turned e {b} cause state pending other =
       let t = turn-done e cause other in record {
         stages = subst (λ (s : State). NoneRemoved s.host.interfaces) (sym state)
             (t.keeps.stages h.stages);
         links = λ l j at other.
             let x = came-from a.state.host (host_turn e a.state.host).host
-            (from-turn e a.state.host) l
-            (subst (λ (s : State). IsIn l s.host.links) state j) in
+            (from-turn e a.state.host) l (subst (λ (s : State). IsIn l s.host.links) state j) in
             onto (t.keeps.done (h.links x.0 x.1 (sym x.2.intf ∙ at)
             (λ zero. other (x.2.cport ∙ zero))));
         due = λ q j at s. onto (t.keeps.done (t.asks q (subst (AsksIn q) pending j) at s));
       }
     where
-      onto : IsDone i (host_turn e a.state.host).host.interfaces
-          → IsDone i b.state.host.interfaces
+      onto : IsDone i (host_turn e a.state.host).host.interfaces → IsDone i b.state.host.interfaces
       onto d = subst (λ (s : State). IsDone i s.host.interfaces) (sym state) d
 
   -- its removal is handled
@@ -239,8 +169,8 @@ module _ (m : Moment) (absent : InsertsAbsent m) (i : ℕ) (a : Point) (links : 
         let w = in-without (λ (x : Link). x.intf == j) a.state.host.links l
         (subst (λ (s : State). IsIn l s.host.links) state k) in
         absurd (not-both (l.intf == j) (ap (λ n. n == j) (at ∙ sym same) ∙ is-same j) w.1);
-    due = λ q k. absurd (asks-none i (Unit {0}) (links_of j a.state.host) q _
-        (λ n. no-asks q (asks-tell q _ [] n)) (subst (AsksIn q) pending k));
+    due = λ q k. absurd (asks-none i (Unit {0}) (links_of j a.state.host) _
+        (λ n. no-asks (asks-tell _ n)) (subst (AsksIn q) pending k));
   }
 
 -- ---- each single change
@@ -256,13 +186,11 @@ links-kept m absent i a (turns e free untouched none cause) links settled h = by
         → (j : ℕ) → e ≡ HostEvent.Removed j → (j == i) ≡ false
     other e f same never j is = never j (sym same ∙ is)
 
-    removed : (j : ℕ) → e ≡ HostEvent.Removed j → (t : Bool) → (j == i) ≡ t
-        → LinksDone i at
-    removed j is true f = links-removed m absent i a links settled h j at
-        (same-number j i f)
+    removed : (j : ℕ) → e ≡ HostEvent.Removed j → (t : Bool) → (j == i) ≡ t → LinksDone i at
+    removed j is true f = links-removed m absent i a links settled h j at (same-number j i f)
         (ap (λ g. record a.state { host = (host_turn g a.state.host).host }) is)
         (ap (λ g. (host_turn g a.state.host).acts) is)
-    removed j is false f = links-turned m absent i a links settled h e at cause refl refl
+    removed j is false f = links-turned m absent i a links settled h e cause refl refl
         (λ k same. subst (λ n. (n == i) ≡ false) (number j k (sym is ∙ same)) f)
       where
         number : (n k : ℕ) → HostEvent.Removed n ≡ HostEvent.Removed k → n ≡ k
@@ -270,26 +198,14 @@ links-kept m absent i a (turns e free untouched none cause) links settled h = by
 
     by : (f : HostEvent) → e ≡ f → LinksDone i at
     by (HostEvent.Removed j) is = removed j is (j == i) refl
-    by (HostEvent.Inserted j) is = links-turned m absent i a links settled h e at cause refl refl
+    by (HostEvent.Inserted j) is = links-turned m absent i a links settled h e cause refl refl
         (other e _ is (λ k f. absurd cc))
-    by (HostEvent.Connect j c) is = links-turned m absent i a links settled h e at cause refl refl
+    by (HostEvent.Connect j c) is = links-turned m absent i a links settled h e cause refl refl
         (other e _ is (λ k f. absurd cc))
-    by (HostEvent.Disconnect j c) is = links-turned m absent i a links settled h e at cause refl
+    by (HostEvent.Disconnect j c) is = links-turned m absent i a links settled h e cause refl
         refl (other e _ is (λ k f. absurd cc))
-    by (HostEvent.Ended n how) is = links-turned m absent i a links settled h e at cause refl
+    by (HostEvent.Ended n how) is = links-turned m absent i a links settled h e cause refl
         refl (other e _ is (λ k f. absurd cc))
-links-kept m absent i a (acts_told e rest is quiet) links settled h =
-    links-still i a (changed m a (acts_told e rest is quiet))
-    (keeps-same i a.state.host a.state.host refl) (came-same a.state.host.links)
-    (fewer-asks a (Act.Tell e) rest is) h
-links-kept m absent i a (acts_shut k rest free is cause) links settled h =
-    links-still i a (changed m a (acts_shut k rest free is cause))
-    (keeps-same i a.state.host a.state.host refl) (came-same a.state.host.links)
-    (fewer-asks a (Act.Shut k) rest is) h
-links-kept m absent i a (acts_left k rest free untouched is) links settled h =
-    links-still i a (changed m a (acts_left k rest free untouched is))
-    (keeps-same i a.state.host a.state.host refl) (came-same a.state.host.links)
-    (fewer-asks a (Act.Leave k) rest is) h
 links-kept m absent i a (acts_opened w q rest free is) links settled h = record {
   stages = h.stages;
   links = λ l j at other. ⊎_elim (λ o. h.links l o at other)
@@ -302,15 +218,8 @@ links-kept m absent i a (acts_opened w q rest free is) links settled h = record 
     made : IsFree w q a.state.host
     made = (subst (ArePending a.state.host) is links.pending).0.0
 
-    same : (x y : Asking) → Act.Ask x ≡ Act.Ask y → x ≡ y
-    same x y e = cc
-
     asked : (r : Asking) → AsksIn r (Act.Ask q ∷ rest) → AsksIn r a.pending
-    asked r (asks_in (inl e)) =
-        subst (AsksIn r) (sym is) (opens_in w (inl (ap (Act.Open w) (same r q e))))
-    asked r (asks_in (inr j)) = subst (AsksIn r) (sym is) (asks_in (inr j))
-    asked r (opens_in v (inl e)) = absurd cc
-    asked r (opens_in v (inr j)) = subst (AsksIn r) (sym is) (opens_in v (inr j))
+    asked r j = asks-kept m a (acts_opened w q rest free is) tt r j
 
     step : w.cport ≢ 0 → IsMaking w q.purpose.step → is_enumeration q.purpose.step ≡ false
     step other s = by q.purpose.step s
@@ -320,55 +229,38 @@ links-kept m absent i a (acts_opened w q rest free is) links settled h = record 
         by _ (connection k) = refl
 
     new : w.intf ≡ i → w.cport ≢ 0 → IsDone i a.state.host.interfaces
-    new at other = h.due q (asked q (asks_in (inl refl))) (made.intf ∙ at)
-        (step other made.step)
+    new at other = h.due q (asked q (asks_in (inl refl))) (made.intf ∙ at) (step other made.step)
 links-kept m absent i a (acts_asked q n rest is) links settled h =
-    links-still i a (changed m a (acts_asked q n rest is))
-    (subst (KeepsDone i a.state.host) (sym (awaited-host q.purpose n a.state))
-    (keeps-waiting i (Some (n, q.purpose.step)) q.purpose a.state.host))
-    (subst (λ (g : Host). Came a.state.host.links g.links)
-    (sym (awaited-host q.purpose n a.state))
+    links-still (subst (KeepsDone i a.state.host) (sym (awaited-host q.purpose n a.state))
+    (keeps-waiting i (Some (n, q.purpose.step)) q.purpose))
+    (subst (λ (g : Host). Came a.state.host.links g.links) (sym (awaited-host q.purpose n a.state))
     (came-from a.state.host (awaits q.purpose n a.state.host)
     (from-waiting (Some (n, q.purpose.step)) q.purpose a.state.host)))
-    (fewer-asks a (Act.Ask q) rest is.0) h
+    (asks-kept m a (acts_asked q n rest is) tt) h
 links-kept m absent i a (acts_failed q rest is quiet) links settled h =
-    links-still i a (changed m a (acts_failed q rest is quiet))
-    (keeps-unsent i q.purpose a.state.host
-    (λ s at. (settled.due q (there is) at s).0))
+    links-still (keeps-unsent i q.purpose (λ s at. (settled.due q (there is) at s).0))
     (came-from a.state.host (unsent q.purpose a.state.host).host
     (from-unsent q.purpose.step q.purpose a.state.host))
-    (fewer is) h
+    (asks-kept m a (acts_failed q rest is quiet) tt) h
   where
     there : IsAsking q a.pending rest → AsksIn q a.pending
     there (asking e) = subst (AsksIn q) (sym e) (asks_in (inl refl))
     there (opening w e) = subst (AsksIn q) (sym e) (opens_in w (inl refl))
-
-    fewer : IsAsking q a.pending rest → (r : Asking) → AsksIn r rest → AsksIn r a.pending
-    fewer (asking e) = fewer-asks a (Act.Ask q) rest e
-    fewer (opening w e) = fewer-asks a (Act.Open w q) rest e
 links-kept m absent i a (serves k kind payload none) links settled h =
-    by (host-served k kind payload a.state.host)
+    by (host-served k kind payload)
   where
     by : ServedHost a.state.host (host_serves k kind payload a.state.host)
         → LinksDone i (changed m a (serves k kind payload none))
-    by (as_before e) = links-still i a (changed m a (serves k kind payload none))
-        (keeps-same i a.state.host _ (ap (λ (g : Host). g.interfaces) e))
+    by (as_before e) = links-still (keeps-same i a.state.host _ (ap (λ (g : Host). g.interfaces) e))
         (subst (λ (g : Host). Came a.state.host.links g.links) (sym e)
         (came-same a.state.host.links)) (λ q j. j) h
-    by (with_more j c total e) = links-still i a (changed m a (serves k kind payload none))
+    by (with_more j c total e) = links-still
         (keeps-same i a.state.host _ (ap (λ (g : Host). g.interfaces) e))
         (subst (λ (g : Host). Came a.state.host.links g.links) (sym e)
-        (came-link a.state.host j c (with_credits total) (credits-same total))) (λ q j. j) h
+        (came-link a.state.host j c (with_credits total) (credits-link total))) (λ q j. j) h
 links-kept m absent i a (spends j c what none) links settled h =
-    links-still i a (changed m a (spends j c what none))
-    (keeps-same i a.state.host (with_link j c (spent what) a.state.host) refl)
-    (came-link a.state.host j c (spent what) (λ l. record {
-      connection = refl;
-      ap = refl;
-      intf = refl;
-      cport = refl;
-      protocol = refl;
-    })) (λ q j. j) h
+    links-still (keeps-same i a.state.host (with_link j c (spent what) a.state.host) refl)
+    (came-link a.state.host j c (spent what) (λ l. credits-link _ l)) (λ q j. j) h
 links-kept m absent i a x links settled h =
-    links-still i a (changed m a x) (keeps-same i a.state.host a.state.host refl)
-    (came-same a.state.host.links) (λ q j. j) h
+    links-still (keeps-same i a.state.host a.state.host refl) (came-same a.state.host.links)
+    (asks-kept m a x tt) h

@@ -1,40 +1,17 @@
 -- Which requests are those of an enumeration, by the step that asks them.
-use Rattle.std.proofs.Common.{
-  ◌≡◌,
-  ◌≢◌,
-  ◌≤◌,
-  ℕ,
-  ◌+◌,
-  true,
-  false,
-  List,
-  [],
-  ◌∷◌,
-  ◌++◌,
-  refl,
-  sym,
-  ap,
-  ◌∙◌,
-  subst,
-  arith,
-}
+use Rattle.std.proofs.Common.{List, ap, arith, false, refl, subst, sym, true, ℕ, [], ◌++◌, ◌+◌, ◌∙◌}
+use Rattle.std.proofs.Common.{◌∷◌, ◌≡◌, ◌≢◌, ◌≤◌}
 use Rattle.std.proofs.lemmas.Bool.Decides.{nat_tests}
-use Rattle.std.specs.Prelude.{Result, Ok, Err, ◌==◌, ◌&&◌}
-use Rattle.byteorder.specs.Endian.{little_number}
-use Rattle.byteorder.specs.Numbers.{little_number-reads_back}
+use Rattle.std.specs.Prelude.{Err, Ok, Result, ◌&&◌, ◌==◌}
 use Rattle.gb_base.specs.declared.steps.SequenceStep.{SequenceStep}
 use Rattle.gb_base.specs.declared.steps.SequenceStep.TheVariants as steps
-use Rattle.gb_formats.specs.Bytes.{le16}
-use Rattle.gb_formats.specs.Records.{PayloadFault}
-use Rattle.gb_formats.specs.SvcRecords.{SvcAsk, read_svc_ask}
-use Rattle.gb_invariants.proofs.Outcomes.{both-true, same-number}
-use Rattle.gb_laws.proofs.AskedWaits.{is_power_step}
-use Rattle.gb_laws.proofs.Links.{IsFormed}
-use Rattle.gb_laws.proofs.SvcKinds.{svc-kind}
-use Rattle.gb_machine.specs.Refusals.{is_reserved}
+use Rattle.gb_formats.specs.{Bytes.le16, Records.PayloadFault, SvcRecords.SvcAsk}
+use Rattle.gb_formats.specs.{SvcRecords.read_svc_ask}
 use Rattle.gb_machine.specs.SequenceSteps.{Target, asks_control, kind_of, payload_of}
-use Rattle.gb_machine.specs.SvcQueues.{enumerates}
-use Rattle.gb_machine.specs.Turns.{Asking}
+use Rattle.gb_machine.specs.{Refusals.is_reserved, SvcQueues.enumerates, Turns.Asking}
+use Rattle.gb_invariants.proofs.Outcomes.{both-true, same-number}
+use Rattle.gb_laws.proofs.{AskedWaits.is_power_step, Links.IsFormed, SvcKinds.svc-kind}
+use Rattle.byteorder.specs.{Endian.little_number, Numbers.little_number-reads_back}
 
 -- the CPort of a CONN_CREATE reads back
 cport-back : (c : ℕ) → c ≤ 4095 → little_number 2 (le16 c ++ 0 ∷ 0 ∷ []) ≡ c
@@ -45,8 +22,7 @@ same-plus n k e = grind (arith, nat_tests, e)
 
 -- what a step asks is a request of the enumeration of its interface alone
 of-step : (i : ℕ) (step : SequenceStep) (t : Target)
-    → (step ≡ steps.CreateConnection → (t.cport ≢ 0) × (t.cport ≤ 4095))
-    → asks_control step ≡ false
+    → (step ≡ steps.CreateConnection → (t.cport ≢ 0) × (t.cport ≤ 4095)) → asks_control step ≡ false
     → enumerates i (read_svc_ask (kind_of step) (payload_of step t)) ≡ true
     → (is_power_step step ≡ true) × (t.intf ≡ i)
 of-step i steps.EnableVsys t c on h = (refl, omega (arith, same-number (t.intf + 0) i h))
@@ -59,13 +35,7 @@ of-step i steps.CreateControl t c on h =
     (refl, omega (arith, same-number (t.intf + 0) i (both-true _ _ h).0))
 of-step i steps.CreateConnection t c on h =
     absurd ((c refl).0 (sym (cport-back t.cport (c refl).1) ∙ same-number _ 0 (both-true _ _ h).1))
-of-step i steps.DestroyConnection t c on h = absurd cc
-of-step i steps.AskVersion t c on h = absurd cc
-of-step i steps.AskSize t c on h = absurd cc
-of-step i steps.AskManifest t c on h = absurd cc
-of-step i steps.TellConnected t c on h = absurd cc
-of-step i steps.TellDisconnecting t c on h = absurd cc
-of-step i steps.TellDisconnected t c on h = absurd cc
+of-step i _ t c on h = absurd cc
 
 -- A formed request to the supervisory controller is one of the enumeration of its own interface
 -- alone, and of a step that asks for power.
@@ -92,14 +62,7 @@ step-own i steps.CreateControl t s c at =
     let none = c refl in
     ap (λ u. u && little_number 2 (le16 t.cport ++ 0 ∷ 0 ∷ []) == 0) (same-plus t.intf i at)
     ∙ ap (λ n. n == 0) (cport-back t.cport (omega (arith, none)) ∙ none)
-step-own i steps.CreateConnection t s c at = absurd cc
-step-own i steps.DestroyConnection t s c at = absurd cc
-step-own i steps.AskVersion t s c at = absurd cc
-step-own i steps.AskSize t s c at = absurd cc
-step-own i steps.AskManifest t s c at = absurd cc
-step-own i steps.TellConnected t s c at = absurd cc
-step-own i steps.TellDisconnecting t s c at = absurd cc
-step-own i steps.TellDisconnected t s c at = absurd cc
+step-own i _ t s c at = absurd cc
 
 -- A formed request of a step that asks for power is one of the enumeration of its interface.
 pub power-enumerates : (i : ℕ) (q : Asking) → IsFormed q → is_power_step q.purpose.step ≡ true

@@ -1,41 +1,20 @@
 -- What waits of an enumeration toward the supervisory controller, in each state of a run.
-use Rattle.std.proofs.Common.{
-  ◌≡◌,
-  ℕ,
-  Bool,
-  true,
-  false,
-  cond,
-  List,
-  [],
-  ◌∷◌,
-  map,
-  refl,
-  sym,
-  ap,
-  ◌∙◌,
-  subst,
-}
-use Rattle.std.specs.Prelude.{◌==◌, ◌&&◌, not}
+use Rattle.std.proofs.Common.{Bool, List, ap, cond, false, map, refl, subst, sym, true, ℕ, [], ◌∙◌}
+use Rattle.std.proofs.Common.{◌∷◌, ◌≡◌}
 use Rattle.std.specs.List.{filter}
+use Rattle.std.specs.Prelude.{not, ◌&&◌, ◌==◌}
 use Rattle.gb_base.specs.declared.end.Side.TheVariants as side
 use Rattle.gb_base.specs.declared.entry.Entry.{Entry}
-use Rattle.gb_invariants.proofs.Awaiting.{not-both}
-use Rattle.gb_invariants.proofs.Outcomes.{is-same}
-use Rattle.gb_laws.proofs.AwaitsOwn.{waiting-interface}
-use Rattle.gb_laws.proofs.Enums.{enum-waits, enums, enums-requests, starts-requests}
-use Rattle.gb_laws.proofs.LinkLists.{none-any}
-use Rattle.gb_laws.proofs.Quiet.{IsLast, last-in}
-use Rattle.gb_laws.proofs.QuietRuns.{QuietTo, quiet-throughout}
-use Rattle.gb_laws.proofs.Runs.{HoldsByMoments, weaker}
-use Rattle.gb_laws.specs.OwnWaits.{OnlyRestarts, ServedLeavesNone}
-use Rattle.gb_machine.specs.Bus.{Ask, Request}
-use Rattle.gb_machine.specs.LawsSvc.{HasNoEnumeration, IsStart}
-use Rattle.gb_machine.specs.Lists.{behind_first}
-use Rattle.gb_machine.specs.Members.{Each, IsIn}
-use Rattle.gb_machine.specs.SequenceSteps.{asks_control}
-use Rattle.gb_machine.specs.State.{State}
 use Rattle.gb_machine.specs.SvcQueues.{is_ask, is_enumeration_request, svc_items, svc_requests}
+use Rattle.gb_machine.specs.{Bus.Ask, Bus.Request, LawsSvc.HasNoEnumeration, LawsSvc.IsStart}
+use Rattle.gb_machine.specs.{Lists.behind_first, Members.Each, Members.IsIn}
+use Rattle.gb_machine.specs.{SequenceSteps.asks_control, State.State}
+use Rattle.gb_invariants.proofs.{Awaiting.not-both, Found.none-any, Outcomes.is-same}
+use Rattle.gb_laws.proofs.Enums.{enum-waits, enums, enums-requests, starts-requests}
+use Rattle.gb_laws.proofs.{AwaitsOwn.waiting-interface, Quiet.IsLast, Quiet.last-in}
+use Rattle.gb_laws.proofs.{QuietRuns.QuietTo, QuietRuns.quiet-throughout, Runs.HoldsByMoments}
+use Rattle.gb_laws.proofs.{Runs.weaker}
+use Rattle.gb_laws.specs.OwnWaits.{OnlyRestarts, ServedLeavesNone}
 
 -- ---- lists
 
@@ -48,7 +27,7 @@ behind-map f (x ∷ xs) = refl
 pub none-left : {A : Type 0} (test : A → Bool) (xs : List A) → filter test xs ≡ []
     → Each (λ x. test x ≡ false) xs
 none-left test [] e = tt
-none-left {A} test (x ∷ xs) e = by (test x) refl e (none-left test xs)
+none-left test (x ∷ xs) e = by (test x) refl e (none-left test xs)
   where
     by : (t : Bool) → test x ≡ t → cond t (x ∷ filter test xs) (filter test xs) ≡ []
         → (filter test xs ≡ [] → Each (λ y. test y ≡ false) xs)
@@ -76,14 +55,12 @@ served-none : (told : List Entry) (s : State) → QuietTo told s → ServedLeave
 served-none told s h i n step e asks gone =
     let x = waiting-interface i s.host (n, step) e in
     let enumeration = (h.wired.links.1.host.interfaces x.0 x.1 (n, step) x.3).0 in
-    by (enums i s.bus) refl
-    ((h.quiet i).waits x.0 x.1 x.2 (n, step) x.3
+    by (enums i s.bus) refl ((h.quiet i).waits x.0 x.1 x.2 (n, step) x.3
     (ap (λ t. t && not (asks_control step)) enumeration ∙ ap not asks)).last
   where
     by : (es : List (ℕ × Request)) → enums i s.bus ≡ es → IsLast n es → HasNoEnumeration i s.bus
     by [] is last = none-left (is_enumeration_request i) (svc_requests side.Far s.bus)
-        (enums-requests i s.bus (svc_items side.Far s.bus)
-        ∙ ap (map (λ (z : ℕ × Request). z.1)) is)
+        (enums-requests i s.bus (svc_items side.Far s.bus) ∙ ap (map (λ (z : ℕ × Request). z.1)) is)
     by (z ∷ es) is last =
         let r = last-in n z es last in
         let w = enum-waits i s.bus (svc_items side.Far s.bus) (n, r.0)

@@ -1,68 +1,29 @@
 -- Where the enumeration of an interface waits for its module, or is done, none of its requests
 -- waits toward the supervisory controller: at each point of a step.
-use Rattle.std.proofs.Common.{
-  ◌≡◌,
-  ℕ,
-  Bool,
-  true,
-  false,
-  Option,
-  Some,
-  None,
-  List,
-  [],
-  ◌∷◌,
-  inl,
-  inr,
-  refl,
-  sym,
-  ap,
-  ◌∙◌,
-  ⊎_elim,
-  subst,
-  arith,
-}
-use Rattle.std.specs.Prelude.{◌&&◌, is_some, not}
+use Rattle.std.proofs.Common.{Bool, List, None, Option, Some, ap, arith, false, inl, inr, refl}
+use Rattle.std.proofs.Common.{subst, sym, true, ℕ, ⊎_elim, [], ◌∙◌, ◌∷◌, ◌≡◌}
+use Rattle.std.specs.Prelude.{is_some, not, ◌&&◌}
 use Rattle.gb_base.specs.declared.peers.Interface.{Interface}
-use Rattle.gb_base.specs.declared.steps.Purpose.{Purpose}
-use Rattle.gb_base.specs.declared.steps.SequenceStep.{SequenceStep}
-use Rattle.gb_invariants.proofs.Awaiting.{not-both}
-use Rattle.gb_laws.proofs.AskedWaits.{AsksIn, WaitsFewer, asks_in, opens_in}
-use Rattle.gb_laws.proofs.AwaitsOwn.{turn-waits}
-use Rattle.gb_laws.proofs.EnumNone.{IsNone, none-enums, none-sent}
-use Rattle.gb_laws.proofs.EnumRequests.{formed-enumerates}
-use Rattle.gb_laws.proofs.EnumDone.{IsDone}
-use Rattle.gb_laws.proofs.EnumTurns.{
-  TurnEnums,
-  enums-connects,
-  enums-disconnects,
-  enums-ended,
-  enums-inserted,
-  enums-removed,
-}
-use Rattle.gb_laws.proofs.LinkEnds.{resumed, step-connects, waits-for, waits-link}
-use Rattle.gb_laws.proofs.Linking.{InsertsAbsent, LinkedAt}
-use Rattle.gb_laws.proofs.Links.{ArePending, HostFits, IsDue, IsDueBy, IsFormed, IsResting}
-use Rattle.gb_laws.proofs.Marking.{present-some}
-use Rattle.gb_laws.proofs.PointParts.{Basis, IsCaused, Point}
-use Rattle.gb_laws.proofs.Points.{IsOver}
-use Rattle.gb_laws.proofs.Quiet.{IsQuiet}
-use Rattle.gb_laws.proofs.QuietAwaited.{IsWaitedBy, none-over, waited-in}
-use Rattle.gb_laws.proofs.SvcMoves.{FarMoves}
-use Rattle.gb_laws.proofs.There.{There}
-use Rattle.gb_machine.specs.Bus.{Bus, or_else}
-use Rattle.gb_machine.specs.Host.{Host, interface_of}
-use Rattle.gb_machine.specs.HostActs.{host_draft}
-use Rattle.gb_machine.specs.HostTurns.{host_turn}
-use Rattle.gb_machine.specs.LawsBus.{is_awaited}
-use Rattle.gb_machine.specs.Members.{IsIn}
-use Rattle.gb_machine.specs.Runs.{Moment}
-use Rattle.gb_machine.specs.Sending.{requested, sent}
-use Rattle.gb_machine.specs.SequenceSteps.{asks_control, is_enumeration}
-use Rattle.gb_machine.specs.State.{State}
-use Rattle.gb_machine.specs.SvcQueues.{is_enumeration_request}
+use Rattle.gb_base.specs.declared.steps.{Purpose.Purpose, SequenceStep.SequenceStep}
 use Rattle.gb_machine.specs.Turns.{Act, Asking, HostEvent}
 use Rattle.gb_machine.specs.Waits.{awaited, awaits_nothing, interface_waits, link_waits}
+use Rattle.gb_machine.specs.{Bus.Bus, Bus.or_else, Host.Host, Host.interface_of}
+use Rattle.gb_machine.specs.{HostActs.host_draft, HostTurns.host_turn, LawsBus.is_awaited}
+use Rattle.gb_machine.specs.{Members.IsIn, Runs.Moment, Sending.requested, Sending.sent}
+use Rattle.gb_machine.specs.{SequenceSteps.asks_control, SequenceSteps.is_enumeration, State.State}
+use Rattle.gb_machine.specs.{SvcQueues.is_enumeration_request}
+use Rattle.gb_invariants.proofs.Awaiting.{none-some, not-both}
+use Rattle.gb_laws.proofs.AskedWaits.{AsksIn, WaitsFewer, asks_in, opens_in}
+use Rattle.gb_laws.proofs.EnumNone.{IsNone, none-enums, none-sent}
+use Rattle.gb_laws.proofs.EnumTurns.{TurnEnums, enums-connects, enums-disconnects, enums-ended}
+use Rattle.gb_laws.proofs.EnumTurns.{enums-inserted, enums-removed}
+use Rattle.gb_laws.proofs.LinkEnds.{resumed, step-connects, waits-for, waits-link}
+use Rattle.gb_laws.proofs.Links.{ArePending, HostFits, IsDue, IsDueBy, IsFormed, IsResting}
+use Rattle.gb_laws.proofs.PointParts.{Basis, IsCaused, Point}
+use Rattle.gb_laws.proofs.QuietAwaited.{IsWaitedBy, none-over, waited-in}
+use Rattle.gb_laws.proofs.{AwaitsOwn.turn-waits, EnumDone.IsDone, EnumRequests.formed-enumerates}
+use Rattle.gb_laws.proofs.{LinkKept.InsertsAbsent, LinkKept.LinkedAt, MarkMoments.present-some}
+use Rattle.gb_laws.proofs.{Points.IsOver, Quiet.IsQuiet, SvcMoves.FarMoves, SvcThere.There}
 
 -- A step may be asked: the enumeration isn't done, and for one of the module nothing waits.
 abbrev pub May : ℕ → List Interface → Bus → SequenceStep → Type 0
@@ -80,21 +41,19 @@ pub record IsSettled (i : ℕ) (a : Point) : Type 0 where
 
 -- ---- what stays
 
-may-on : (i : ℕ) (a b : Point) (step : SequenceStep)
-    → (IsNone i a.state.bus → IsNone i b.state.bus)
+may-on : (i : ℕ) (a b : Point) (step : SequenceStep) → (IsNone i a.state.bus → IsNone i b.state.bus)
     → (IsDone i b.state.host.interfaces → IsDone i a.state.host.interfaces) → MayAt i a step
     → MayAt i b step
 may-on i a b step none back h = (λ d. h.0 (back d), λ e. none (h.1 e))
 
-pub settled-still : (i : ℕ) (a b : Point) → (IsNone i a.state.bus → IsNone i b.state.bus)
+pub settled-still : {i : ℕ} {a b : Point} → (IsNone i a.state.bus → IsNone i b.state.bus)
     → (IsDone i b.state.host.interfaces → IsDone i a.state.host.interfaces)
     → WaitsFewer a.state.host b.state.host
     → ((q : Asking) → AsksIn q b.pending → AsksIn q a.pending) → IsSettled i a → IsSettled i b
-settled-still i a b none back fewer pending h = record {
+settled-still {i} {a} {b} none back fewer pending h = record {
   done = λ d. none (h.done (back d));
   waits = λ x j at w e. let was = fewer x j w e in
-      may-on i a b w.1 none back
-      (h.waits was.was was.known (was.intf ∙ at) w (was.awaits ∙ e));
+      may-on i a b w.1 none back (h.waits was.was was.known (was.intf ∙ at) w (was.awaits ∙ e));
   due = λ q j at s. may-on i a b q.purpose.step none back (h.due q (pending q j) at s);
 }
 
@@ -106,13 +65,13 @@ record IsStep (i : ℕ) (q : Asking) : Type 0 where
   svc : asks_control q.purpose.step ≡ false
   at : q.purpose.intf ≡ i
 
-pub settled-asked : (i : ℕ) (a b : Point) (q : Asking) (rest : List Act) (label : ℕ) → Basis a
-    → LinkedAt a → There a.state.bus
+pub settled-asked : (i : ℕ) (a : Point) {b : Point} (q : Asking) (rest : List Act) (label : ℕ) →
+    Basis a → LinkedAt a → There a.state.bus
     → FarMoves a.state.bus (sent (host_draft q a.state.now) label a.state.bus)
     → a.pending ≡ Act.Ask q ∷ rest
     → b.state ≡ record a.state { bus = sent (host_draft q a.state.now) label a.state.bus }
     → b.pending ≡ a.pending → IsSettled i a → IsSettled i b
-settled-asked i a b q rest label basis links there moves pending state same h = record {
+settled-asked i a {b} q rest label basis links there moves pending state same h = record {
   done = λ d.
       let k = subst (λ (t : State). IsDone i t.host.interfaces) state d in
       onto (none-sent i a (host_draft q a.state.now) label basis moves
@@ -177,43 +136,38 @@ settled-asked i a b q rest label basis links there moves pending state same h = 
         let m = h.due q (subst (AsksIn q) (sym pending) (asks_in (inl refl))) at s in (
           λ d. m.0 (subst (λ (t : State). IsDone i t.host.interfaces) state d),
           λ c. onto (none-sent i a (host_draft q a.state.now) label basis moves
-              (λ one o is. not-both (asks_control q.purpose.step) c (own-step one is).svc)
-              (m.1 c)),
+              (λ one o is. not-both (asks_control q.purpose.step) c (own-step one is).svc) (m.1 c)),
         )
 
     idle : (x : Interface) → IsIn x a.state.host.interfaces → x.intf ≡ i
         → (w : ℕ × SequenceStep) → x.awaits ≡ Some w → IsStep i q → ⊥
     idle x k at w e s = by (is_enumeration q.purpose.step) s.enumeration due
       where
-        none-wait : None ≡ Some w → ⊥
-        none-wait f = absurd cc
-
         by : (t : Bool) → t ≡ true → IsDueBy t q.purpose.step q.purpose a.state.host → ⊥
-        by true f d = none-wait (sym (d.idle x k (at ∙ sym s.at)) ∙ e)
+        by true f d = none-some (sym (d.idle x k (at ∙ sym s.at)) ∙ e)
         by false f d = absurd cc
 
 -- ---- a turn
 
 -- what an enumeration waits for, where that ended
-pub waited-enum : (b : Bus) (n : ℕ) (h : Host) (p : Purpose) → HostFits b h → awaited n h ≡ Some p
+pub waited-enum : {b : Bus} (n : ℕ) {h : Host} (p : Purpose) → HostFits b h → awaited n h ≡ Some p
     → is_enumeration p.step ≡ true → IsWaitedBy h n p
-waited-enum b n h p fits e s = by (interface_waits n h.interfaces) refl e
+waited-enum n {h} p fits e s = by (interface_waits n h.interfaces) refl e
   where
     by : (o : Option Purpose) → interface_waits n h.interfaces ≡ o
         → or_else o (link_waits n h.links) ≡ Some p → IsWaitedBy h n p
     by None f g =
         let r = waits-link n h.links p g in
         absurd (not-both (is_enumeration p.step) s (ap is_enumeration r.step
-        ∙ step-connects r.what.1 r.link.state
-        (fits.links.waiting r.link r.live r.what r.awaits).1))
+        ∙ step-connects r.what.1 r.link.state (fits.links.waiting r.link r.live r.what r.awaits).1))
     by (Some q) f g = let w = waited-in n h.interfaces p (f ∙ g) in
         record { interface = w.0; known = w.1; intf = w.2; awaits = w.3 }
 
 -- its interface waits for nothing then
-waits-none : (b : Bus) (n : ℕ) (h : Host) (p : Purpose) → HostFits b h → awaited n h ≡ Some p
+waits-none : {b : Bus} (n : ℕ) {h : Host} (p : Purpose) → HostFits b h → awaited n h ≡ Some p
     → is_enumeration p.step ≡ true → IsResting p.intf (awaits_nothing p h).interfaces
-waits-none b n h p fits e s =
-    by (is_enumeration p.step) s (resumed b p h fits (waits-for b n h p fits e)).due
+waits-none {b} n {h} p fits e s =
+    by (is_enumeration p.step) s (resumed b p h fits (waits-for n p fits e)).due
   where
     by : (t : Bool) → t ≡ true → IsDueBy t p.step p (awaits_nothing p h)
         → IsResting p.intf (awaits_nothing p h).interfaces
@@ -229,12 +183,10 @@ turn-enums m absent i (HostEvent.Inserted j) a basis links there over cause quie
     (λ at. (λ d. fresh at d, λ c. absurd cc))
   where
     fresh : j ≡ i → IsDone i a.state.host.interfaces → ⊥
-    fresh at d = not-both (is_some (interface_of i a.state.host))
-        (present-some i a.state.host
+    fresh at d = not-both (is_some (interface_of i a.state.host)) (present-some a.state.host
         (record { interface = d.interface; known = d.known; is = d.intf }))
         (ap (λ g. is_some (interface_of i g)) cause.0
-        ∙ ap is_some (subst (λ k. interface_of k m.before.host ≡ None) at
-        (absent j cause.1)))
+        ∙ ap is_some (subst (λ k. interface_of k m.before.host ≡ None) at (absent j cause.1)))
 turn-enums m absent i (HostEvent.Removed j) a basis links there over cause quiet h =
     enums-removed i (MayAt i a) (IsNone i a.state.bus) j a.state.host
 turn-enums m absent i (HostEvent.Connect j c) a basis links there over cause quiet h =
@@ -244,21 +196,20 @@ turn-enums m absent i (HostEvent.Disconnect j c) a basis links there over cause 
 turn-enums m absent i (HostEvent.Ended n how) a basis links there over cause quiet h =
     enums-ended i (MayAt i a) (IsNone i a.state.bus) (awaited n a.state.host) how a.state.host
     (λ p e r bytes is at s.
-    let w = waited-enum a.state.bus n a.state.host p links.host e s in
+    let w = waited-enum n p links.host e s in
     let may = h.waits w.interface w.known (w.intf ∙ at) (n, p.step) w.awaits in
     let none = by p w (over r bytes is).0 at s may (asks_control p.step) refl in (
       none,
       λ step. (may.0, λ c. none),
       subst (λ k. IsResting k (awaits_nothing p a.state.host).interfaces) at
-          (waits-none a.state.bus n a.state.host p links.host e s),
+          (waits-none n p links.host e s),
     ))
   where
     by : (p : Purpose) (w : IsWaitedBy a.state.host n p) → is_awaited n a.state.bus ≡ false
         → p.intf ≡ i → is_enumeration p.step ≡ true → MayAt i a p.step → (t : Bool)
         → asks_control p.step ≡ t → IsNone i a.state.bus
     by p w over at s may true e = may.1 e
-    by p w over at s may false e = none-enums i a.state.bus
-        (none-over i n a basis links there over
+    by p w over at s may false e = none-enums i a.state.bus (none-over i n a basis links there over
         (quiet.waits w.interface w.known (w.intf ∙ at) (n, p.step) w.awaits
         (ap (λ t. t && not (asks_control p.step)) s ∙ ap not e)).last)
 
@@ -273,7 +224,7 @@ settled-turned m absent i e a b basis links there over cause quiet state pending
       let k = subst (λ (s : State). IsIn x s.host.interfaces) state j in
       let was = turn-waits e a.state.host x k w f in
       let may = h.waits was.was was.known (was.intf ∙ at) w (was.awaits ∙ f) in (
-        λ d. ⊎_elim may.0 (λ c. none-wait (sym (c.2 x k at) ∙ f)) (t.done (back d)),
+        λ d. ⊎_elim may.0 (λ c. none-some (sym (c.2 x k at) ∙ f)) (t.done (back d)),
         λ c. onto (may.1 c),
       );
   due = λ q j at s.
@@ -288,9 +239,5 @@ settled-turned m absent i e a b basis links there over cause quiet state pending
     onto : IsNone i a.state.bus → IsNone i b.state.bus
     onto k = subst (λ (s : State). IsNone i s.bus) (sym state) k
 
-    back : IsDone i b.state.host.interfaces
-        → IsDone i (host_turn e a.state.host).host.interfaces
+    back : IsDone i b.state.host.interfaces → IsDone i (host_turn e a.state.host).host.interfaces
     back d = subst (λ (s : State). IsDone i s.host.interfaces) state d
-
-    none-wait : {w : ℕ × SequenceStep} → None ≡ Some w → ⊥
-    none-wait f = absurd cc

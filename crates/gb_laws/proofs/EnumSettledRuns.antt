@@ -1,98 +1,37 @@
 -- Where the enumeration of an interface waits for its module, or is done, none of its requests
 -- waits toward the supervisory controller, in each state of a run.
-use Rattle.std.proofs.Common.{
-  ◌≡◌,
-  ℕ,
-  Bool,
-  true,
-  false,
-  cond,
-  Some,
-  List,
-  [],
-  ◌∷◌,
-  ◌++◌,
-  inl,
-  inr,
-  map,
-  refl,
-  sym,
-  ap,
-  ◌∙◌,
-  ⊎_elim,
-  subst,
-}
+use Rattle.std.proofs.Common.{Bool, List, Some, ap, cond, false, inl, map, refl, subst, sym, true}
+use Rattle.std.proofs.Common.{ℕ, ⊎_elim, [], ◌++◌, ◌∙◌, ◌∷◌, ◌≡◌}
 use Rattle.gb_base.specs.declared.end.Side.TheVariants as side
 use Rattle.gb_base.specs.declared.entry.Entry.{Entry}
 use Rattle.gb_base.specs.declared.peers.Interface.{Interface}
 use Rattle.gb_base.specs.declared.steps.SequenceStep.{SequenceStep}
-use Rattle.gb_invariants.proofs.Awaiting.{same-some}
-use Rattle.gb_invariants.proofs.Lists.{found-in, in-at_first}
-use Rattle.gb_invariants.proofs.Outcomes.{same-number}
-use Rattle.gb_laws.proofs.Answering.{keeps-requests}
-use Rattle.gb_laws.proofs.Asked.{waits-unsent}
-use Rattle.gb_laws.proofs.AskedWaits.{AsksIn, WaitsFewer, asks_in, no-asks, opens_in, same-waits}
-use Rattle.gb_laws.proofs.Awaited.{awaited-rest}
-use Rattle.gb_laws.proofs.AwaitsNewest.{plain-none}
-use Rattle.gb_laws.proofs.AwaitsOwn.{waiting-interface}
-use Rattle.gb_laws.proofs.CreatingKept.{far-side}
-use Rattle.gb_laws.proofs.EnumRuns.{none-left}
+use Rattle.gb_machine.specs.Host.{Host, is_intf, with_interface, with_link}
+use Rattle.gb_machine.specs.Runs.{IsMoment, Moment, after, told_at}
+use Rattle.gb_machine.specs.SvcQueues.{is_enumeration_request, svc_items, svc_requests}
+use Rattle.gb_machine.specs.{Bus.Bus, HostActs.host_draft, HostActs.with_awaited}
+use Rattle.gb_machine.specs.{HostServing.host_serves, LawsSvc.HasNoEnumeration, Members.IsIn}
+use Rattle.gb_machine.specs.{Sending.Draft, Sending.sent, SequenceSteps.is_enumeration, State.State}
+use Rattle.gb_invariants.proofs.{Awaiting.same-some, Lists.found-in, Lists.in-at_first}
+use Rattle.gb_invariants.proofs.{Outcomes.same-number}
+use Rattle.gb_laws.proofs.AskedWaits.{AsksIn, asks_in, no-asks, same-waits}
 use Rattle.gb_laws.proofs.EnumNone.{IsNone, none-same, none-sent}
-use Rattle.gb_laws.proofs.EnumSettled.{
-  IsSettled,
-  May,
-  settled-asked,
-  settled-still,
-  settled-turned,
-}
-use Rattle.gb_laws.proofs.EnumDone.{IsDone, done-unsent}
+use Rattle.gb_laws.proofs.EnumSettled.{IsSettled, May, settled-asked, settled-still, settled-turned}
 use Rattle.gb_laws.proofs.Enums.{enum-waits, enums, enums-requests}
 use Rattle.gb_laws.proofs.LinkActs.{ServedHost, as_before, awaited-host, host-served, with_more}
-use Rattle.gb_laws.proofs.LinkRuns.{start-absent, there_law}
-use Rattle.gb_laws.proofs.Linking.{InsertsAbsent, LinkedAt}
-use Rattle.gb_laws.proofs.Links.{ArePending}
 use Rattle.gb_laws.proofs.PointParts.{Basis, Point, Wires, resting}
-use Rattle.gb_laws.proofs.Points.{
-  Change,
-  IsAskedBy,
-  IsAsking,
-  Law,
-  acts_asked,
-  acts_failed,
-  acts_left,
-  acts_opened,
-  acts_shut,
-  acts_told,
-  asking,
-  asks,
-  by_far,
-  by_host,
-  changed,
-  names,
-  opening,
-  serves,
-  turns,
-}
-use Rattle.gb_laws.proofs.Quiet.{IsQuiet}
-use Rattle.gb_laws.proofs.QuietLaw.{fewer-asks, quiet-kept}
+use Rattle.gb_laws.proofs.Points.{Change, IsAskedBy, Law, acts_asked, acts_failed, asks, by_far}
+use Rattle.gb_laws.proofs.Points.{by_host, changed, names, serves, turns, upon}
 use Rattle.gb_laws.proofs.QuietRuns.{QuietTo, quiet-moment, quiet-throughout}
 use Rattle.gb_laws.proofs.Runs.{HoldsByMoments, throughout, weaker}
-use Rattle.gb_laws.proofs.Steps.{over-step}
-use Rattle.gb_laws.proofs.SvcMoves.{far-moves, far-sent}
-use Rattle.gb_laws.proofs.There.{There}
+use Rattle.gb_laws.proofs.{Awaited.awaited-rest, AwaitsNewest.plain-none}
+use Rattle.gb_laws.proofs.{AwaitsOwn.waiting-interface, ChangeBuses.keeps-requests}
+use Rattle.gb_laws.proofs.{ChangeHosts.asks-kept, ChangeHosts.waits-kept, CreatingKept.far-side}
+use Rattle.gb_laws.proofs.{EnumDone.IsDone, EnumDone.done-unsent, EnumRuns.none-left}
+use Rattle.gb_laws.proofs.{LinkKept.InsertsAbsent, LinkKept.LinkedAt, LinkRuns.start-absent}
+use Rattle.gb_laws.proofs.{LinkRuns.there_law, Links.ArePending, Quiet.IsQuiet, QuietLaw.quiet-kept}
+use Rattle.gb_laws.proofs.{Steps.over-step, SvcMoves.far-moves, SvcMoves.far-sent, SvcThere.There}
 use Rattle.gb_laws.specs.OwnWaits.{AskedLeavesNone, DoneLeavesNone}
-use Rattle.gb_machine.specs.Bus.{Bus}
-use Rattle.gb_machine.specs.Host.{Host, is_intf, with_interface, with_link}
-use Rattle.gb_machine.specs.HostActs.{host_draft, with_awaited}
-use Rattle.gb_machine.specs.HostServing.{host_serves}
-use Rattle.gb_machine.specs.LawsSvc.{HasNoEnumeration}
-use Rattle.gb_machine.specs.Members.{IsIn}
-use Rattle.gb_machine.specs.Runs.{IsMoment, Moment, after, told_at}
-use Rattle.gb_machine.specs.Sending.{Draft, sent}
-use Rattle.gb_machine.specs.SequenceSteps.{is_enumeration}
-use Rattle.gb_machine.specs.State.{State}
-use Rattle.gb_machine.specs.SvcQueues.{is_enumeration_request, svc_items, svc_requests}
-use Rattle.gb_machine.specs.Turns.{Act, Asking}
 
 -- ---- each single change
 
@@ -102,61 +41,30 @@ settled-kept m absent i a (asks d c label free live is who) basis links there qu
   where
     by : (w : IsAskedBy m a c d) → IsSettled i (changed m a (asks d c label free live is w))
     by (by_far far on) =
-        settled-still i a (changed m a (asks d c label free live is (by_far far on)))
-        (none-sent i a d label basis (far-sent a d label basis there)
+        settled-still (none-sent i a d label basis (far-sent d label basis there)
         (λ one own e. far-side m a d c far own)) (λ k. k) (same-waits a.state.host) (λ q j. j) h
     by (by_host q rest pending draft none) =
-        settled-asked i a
-        (changed m a (asks d c label free live is (by_host q rest pending draft none))) q rest label
-        basis links there (far-sent a (host_draft q a.state.now) label basis there) pending
+        settled-asked i a q rest label
+        basis links there (far-sent (host_draft q a.state.now) label basis there) pending
         (ap (λ (x : Draft). record a.state { bus = sent x label a.state.bus }) draft) refl h
 settled-kept m absent i a (names name d c label free live is host) basis links there quiet h =
-    settled-still i a (changed m a (names name d c label free live is host))
-    (none-sent i a d label basis (far-sent a d label basis there)
+    settled-still (none-sent i a d label basis (far-sent d label basis there)
     (λ one own e. plain-none a d label links host.1 i
     (record { connection = one; side = own; enumerates = e })))
     (λ k. k) (same-waits a.state.host) (λ q j. j) h
 settled-kept m absent i a (turns e free untouched none cause) basis links there quiet h =
     settled-turned m absent i e a (changed m a (turns e free untouched none cause)) basis links
     there untouched.1 cause quiet refl refl h
-settled-kept m absent i a (acts_told e rest is still) basis links there quiet h =
-    settled-still i a (changed m a (acts_told e rest is still)) (λ k. k) (λ k. k)
-    (same-waits a.state.host) (fewer-asks a (Act.Tell e) rest is) h
-settled-kept m absent i a (acts_shut k rest free is cause) basis links there quiet h =
-    settled-still i a (changed m a (acts_shut k rest free is cause))
-    (none-same i a (changed m a (acts_shut k rest free is cause)).state.bus basis
-    (far-moves m a (acts_shut k rest free is cause) basis links there) (λ n r made. made) refl)
-    (λ j. j) (same-waits a.state.host) (fewer-asks a (Act.Shut k) rest is) h
-settled-kept m absent i a (acts_left k rest free untouched is) basis links there quiet h =
-    settled-still i a (changed m a (acts_left k rest free untouched is))
-    (none-same i a (changed m a (acts_left k rest free untouched is)).state.bus basis
-    (far-moves m a (acts_left k rest free untouched is) basis links there) (λ n r made. made) refl)
-    (λ j. j) (same-waits a.state.host) (fewer-asks a (Act.Leave k) rest is) h
-settled-kept m absent i a (acts_opened w q rest free is) basis links there quiet h =
-    settled-still i a (changed m a (acts_opened w q rest free is))
-    (none-same i a (changed m a (acts_opened w q rest free is)).state.bus basis
-    (far-moves m a (acts_opened w q rest free is) basis links there) (λ n r made. made) refl)
-    (λ j. j) (same-waits a.state.host) asked h
-  where
-    same : (x y : Asking) → Act.Ask x ≡ Act.Ask y → x ≡ y
-    same x y e = cc
-
-    asked : (r : Asking) → AsksIn r (Act.Ask q ∷ rest) → AsksIn r a.pending
-    asked r (asks_in (inl e)) =
-        subst (AsksIn r) (sym is) (opens_in w (inl (ap (Act.Open w) (same r q e))))
-    asked r (asks_in (inr j)) = subst (AsksIn r) (sym is) (asks_in (inr j))
-    asked r (opens_in v (inl e)) = absurd cc
-    asked r (opens_in v (inr j)) = subst (AsksIn r) (sym is) (opens_in v (inr j))
 settled-kept m absent i a (acts_asked q n rest is) basis links there quiet h = record {
   done = λ d. onto (h.done (back d));
   waits = λ x j at w e. then w.1 (by (is_enumeration q.purpose.step) refl x
       (subst (λ (g : Host). IsIn x g.interfaces) (awaited-host q.purpose n a.state) j) at w e);
-  due = λ r j. absurd (no-asks r (subst (AsksIn r)
+  due = λ r j. absurd (no-asks (subst (AsksIn r)
       (subst (ArePending a.state.host) is.0 links.pending).0.1 j));
 }
   where
     onto : IsNone i a.state.bus → IsNone i (with_awaited q.purpose n a.state).bus
-    onto k = subst (IsNone i) (sym (awaited-rest q.purpose n a.state).bus) k
+    onto k = subst (IsNone i) (sym (awaited-rest q.purpose n).bus) k
 
     back-by : (t : Bool) → IsDone i (cond t (with_interface q.purpose.intf
         (λ y. record y { awaits = Some (n, q.purpose.step) }) a.state.host)
@@ -171,8 +79,7 @@ settled-kept m absent i a (acts_asked q n rest is) basis links there quiet h = r
           known = v.1;
           intf = ap (λ (y : Interface). y.intf) (sym v.3) ∙ d.intf;
           done = ap (λ (y : Interface). y.stage) (sym v.3) ∙ d.done;
-        })
-        (in-at_first (is_intf q.purpose.intf)
+        }) (in-at_first (is_intf q.purpose.intf)
         (λ (y : Interface). record y { awaits = Some (n, q.purpose.step) }) a.state.host.interfaces
         d.interface d.known)
 
@@ -194,47 +101,31 @@ settled-kept m absent i a (acts_asked q n rest is) basis links there quiet h = r
         → x.intf ≡ i → (w : ℕ × SequenceStep) → x.awaits ≡ Some w
         → May i a.state.host.interfaces a.state.bus w.1
     by false e x j at w f = h.waits x j at w f
-    by true e x j at w f = ⊎_elim
-        (λ o. h.waits x o at w f)
-        (λ u.
+    by true e x j at w f = ⊎_elim (λ o. h.waits x o at w f) (λ u.
         let same = same-some (n, q.purpose.step) w
         (sym (ap (λ (y : Interface). y.awaits) u.3) ∙ f) in
         subst (λ (y : ℕ × SequenceStep). May i a.state.host.interfaces a.state.bus y.1) same
         (h.due q (subst (AsksIn q) (sym is.0) (asks_in (inl refl)))
         (sym (same-number u.0.intf q.purpose.intf u.2)
-        ∙ ap (λ (y : Interface). y.intf) (sym u.3) ∙ at) e))
-        (in-at_first (is_intf q.purpose.intf)
+        ∙ ap (λ (y : Interface). y.intf) (sym u.3) ∙ at) e)) (in-at_first (is_intf q.purpose.intf)
         (λ (y : Interface). record y { awaits = Some (n, q.purpose.step) }) a.state.host.interfaces
         x j)
 settled-kept m absent i a (acts_failed q rest is still) basis links there quiet h =
-    settled-still i a (changed m a (acts_failed q rest is still)) (λ k. k)
-    (done-unsent i q.purpose a.state.host)
-    (waits-unsent 0 (Unit {0}) q.purpose a.state.host) (fewer is) h
-  where
-    fewer : IsAsking q a.pending rest → (r : Asking) → AsksIn r rest → AsksIn r a.pending
-    fewer (asking e) = fewer-asks a (Act.Ask q) rest e
-    fewer (opening w e) = fewer-asks a (Act.Open w q) rest e
+    settled-still (λ k. k) (done-unsent i q.purpose a.state.host)
+    (waits-kept m a (acts_failed q rest is still) tt)
+    (asks-kept m a (acts_failed q rest is still) tt) h
 settled-kept m absent i a (serves k kind payload none) basis links there quiet h =
-    settled-still i a (changed m a (serves k kind payload none)) (λ j. j)
-    (back (host-served k kind payload a.state.host))
-    (fewer (host-served k kind payload a.state.host)) (λ q j. j) h
+    settled-still (λ j. j) (back (host-served k kind payload))
+    (waits-kept m a (serves k kind payload none) tt) (λ q j. j) h
   where
     back : ServedHost a.state.host (host_serves k kind payload a.state.host)
         → IsDone i (host_serves k kind payload a.state.host).host.interfaces
         → IsDone i a.state.host.interfaces
     back (as_before e) d = subst (λ (g : Host). IsDone i g.interfaces) e d
     back (with_more j c total e) d = subst (λ (g : Host). IsDone i g.interfaces) e d
-
-    fewer : ServedHost a.state.host (host_serves k kind payload a.state.host)
-        → WaitsFewer a.state.host (host_serves k kind payload a.state.host).host
-    fewer (as_before e) = subst (WaitsFewer a.state.host) (sym e) (same-waits a.state.host)
-    fewer (with_more j c total e) =
-        subst (WaitsFewer a.state.host) (sym e) (same-waits a.state.host)
 settled-kept m absent i a x basis links there quiet h =
-    settled-still i a (changed m a x)
-    (none-same i a (changed m a x).state.bus basis (far-moves m a x basis links there)
-    (keeps-requests m a x) refl)
-    (λ j. j) (same-waits a.state.host) (λ q j. j) h
+    settled-still (none-same i a basis (far-moves m x basis links there)
+    (keeps-requests m a x) refl) (λ j. j) (same-waits a.state.host) (asks-kept m a x tt) h
 
 -- ---- throughout
 
@@ -244,19 +135,11 @@ pub record SettledTo (told : List Entry) (s : State) : Type 0 where
 
 module _ (m : Moment) (start : SettledTo m.told m.before) where
   abbrev pub settled_law : ℕ → Law m
-  settled_law i = record {
-    holds = λ a. (((Basis a × LinkedAt a) × There a.state.bus) × IsQuiet i a) × IsSettled i a;
-    basis = λ a h. h.0.0.0.0;
-    kept = λ a x h. (
-      (
-        (there_law m (start-absent m start.quiet.wired.links)).kept a x h.0.0,
-        quiet-kept m i start.quiet.wired.links.0 start.quiet.wired.links.1
-            start.quiet.wired.links.3 (start.quiet.quiet i) a x h.0.0.0.0 h.0.0.0.1 h.0.0.1 h.0.1,
-      ),
-      settled-kept m (start-absent m start.quiet.wired.links) i a x h.0.0.0.0 h.0.0.0.1 h.0.0.1
-          h.0.1 h.1,
-    );
-  }
+  settled_law i = upon (upon (there_law m (start-absent m start.quiet.wired.links)) (IsQuiet i)
+      (λ a x g h. quiet-kept m i start.quiet.wired.links.0 start.quiet.wired.links.1
+      start.quiet.wired.links.3 (start.quiet.quiet i) a x g.0.0 g.0.1 g.1 h)) (IsSettled i)
+      (λ a x g h. settled-kept m (start-absent m start.quiet.wired.links) i a x g.0.0.0 g.0.0.1
+      g.0.1 g.1 h)
 
   pub settled-over : IsMoment m.event → SettledTo (m.told ++ told_at m) (after m)
   settled-over one = record {
@@ -279,7 +162,7 @@ settled-throughout = throughout SettledTo (record {
   settled = λ i. record {
     done = λ d. absurd d.known;
     waits = λ x j. absurd j;
-    due = λ q j. absurd (no-asks q j);
+    due = λ q j. absurd (no-asks j);
   };
 }) (λ m one h. settled-over m h one)
 
@@ -299,8 +182,7 @@ none-waits i b none = by (enums i b) refl
 pub asked-none_by_moments : HoldsByMoments AskedLeavesNone
 asked-none_by_moments = weaker SettledTo AskedLeavesNone (λ told s h i n step e asks.
     let x = waiting-interface i s.host (n, step) e in
-    none-waits i s.bus (((h.settled i).waits x.0 x.1 x.2 (n, step) x.3).1 asks))
-    settled-throughout
+    none-waits i s.bus (((h.settled i).waits x.0 x.1 x.2 (n, step) x.3).1 asks)) settled-throughout
 
 pub done-none_by_moments : HoldsByMoments DoneLeavesNone
 done-none_by_moments = weaker SettledTo DoneLeavesNone (λ told s h i x e done.

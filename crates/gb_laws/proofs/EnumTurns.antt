@@ -1,110 +1,38 @@
 -- What a turn of the application processor asks for the enumeration of an interface, and where
 -- that is enumerated then.
-use Rattle.std.proofs.Common.{
-  ◌≡◌,
-  ◌⊎◌,
-  ℕ,
-  Bool,
-  true,
-  false,
-  cond,
-  Option,
-  Some,
-  None,
-  List,
-  [],
-  ◌∷◌,
-  length,
-  map,
-  refl,
-  sym,
-  ap,
-  ◌∙◌,
-  inl,
-  inr,
-  ⊎_elim,
-  subst,
-}
-use Rattle.std.specs.Prelude.{Result, Ok, Err, ◌==◌, option_and_then}
-use Rattle.gb_base.specs.declared.steps.Purpose.{Purpose}
-use Rattle.gb_base.specs.declared.steps.SequenceStep.{SequenceStep}
-use Rattle.gb_base.specs.declared.peers.Interface.{Interface}
-use Rattle.gb_base.specs.declared.peers.Link.{Link}
-use Rattle.gb_base.specs.declared.steps.SequenceStep.TheVariants as steps
-use Rattle.gb_base.specs.declared.entry.ConnState.{ConnState}
+use Rattle.std.proofs.Common.{Bool, List, None, Option, Some, ap, cond, false, inl, inr, length}
+use Rattle.std.proofs.Common.{map, refl, subst, sym, true, ℕ, ⊎_elim, [], ◌∙◌, ◌∷◌, ◌≡◌, ◌⊎◌}
+use Rattle.std.specs.Prelude.{Err, Ok, Result, option_and_then, ◌==◌}
+use Rattle.gb_base.specs.declared.entry.{ConnState.ConnState, Entry.Entry}
 use Rattle.gb_base.specs.declared.entry.ConnState.TheVariants as state
-use Rattle.gb_base.specs.declared.entry.Entry.{Entry}
 use Rattle.gb_base.specs.declared.entry.Entry.TheVariants as entry
 use Rattle.gb_base.specs.declared.entry.IntfStage.TheVariants as stage
 use Rattle.gb_base.specs.declared.outcome.Outcome.{Outcome}
 use Rattle.gb_base.specs.declared.outcome.Outcome.TheVariants as outcome
-use Rattle.gb_formats.specs.ControlRecords.{read_control_reply}
+use Rattle.gb_base.specs.declared.peers.{Interface.Interface, Link.Link}
+use Rattle.gb_base.specs.declared.steps.{Purpose.Purpose, SequenceStep.SequenceStep}
+use Rattle.gb_base.specs.declared.steps.SequenceStep.TheVariants as steps
 use Rattle.gb_formats.specs.Manifest.{CportView, Manifest, check_answer}
-use Rattle.gb_formats.specs.ManifestRules.{Refused}
-use Rattle.gb_invariants.proofs.Lists.{in-without}
-use Rattle.gb_laws.proofs.EnumDone.{
-  FewerDone,
-  IsDone,
-  done-fails,
-  done-interface,
-  done-nothing,
-  done-stage,
-}
-use Rattle.gb_laws.proofs.LinkHosts.{resting-changed}
-use Rattle.gb_laws.proofs.LinkLists.{in-ordered}
-use Rattle.gb_laws.proofs.Links.{IsResting}
+use Rattle.gb_formats.specs.{ControlRecords.read_control_reply, ManifestRules.Refused}
 use Rattle.gb_machine.specs.Failures.{interface_fails, link_told, step_fails}
-use Rattle.gb_machine.specs.Host.{
-  Host,
-  cport_of,
-  free_cport,
-  free_device,
-  in_state,
-  interface_of,
-  intf_before,
-  is_intf,
-  link_at,
-  new_interface,
-  with_interface,
-  with_link,
-  with_new_interface,
-  without_link,
-}
-use Rattle.gb_machine.specs.HostTurns.{
-  connects,
-  connects_on,
-  disconnects,
-  ended_for,
-  host_turn,
-  links_of,
-}
-use Rattle.gb_machine.specs.SequenceSteps.{at_step, is_reply, purpose}
-use Rattle.gb_machine.specs.Sequences.{
-  asked_on,
-  begins_control,
-  begins_device,
-  enumerated,
-  goes_on,
-  link_left,
-  link_turn,
-  manifest_checked,
-  opened,
-  opened_told,
-  payload_in,
-  size_in,
-  size_known,
-  step_answered,
-  step_asked,
-  step_done,
-  way_of,
-}
+use Rattle.gb_machine.specs.Host.{Host, cport_of, free_cport, free_device, in_state, interface_of}
+use Rattle.gb_machine.specs.Host.{intf_before, is_intf, link_at, new_interface, with_interface}
+use Rattle.gb_machine.specs.Host.{with_link, with_new_interface, without_link}
+use Rattle.gb_machine.specs.HostTurns.{connects, connects_on, disconnects, ended_for, host_turn}
+use Rattle.gb_machine.specs.HostTurns.{links_of}
+use Rattle.gb_machine.specs.SequenceSteps.{at_step, is_enumeration, is_reply, purpose}
+use Rattle.gb_machine.specs.Sequences.{asked_on, begins_control, begins_device, enumerated, goes_on}
+use Rattle.gb_machine.specs.Sequences.{link_left, link_turn, manifest_checked, opened, opened_told}
+use Rattle.gb_machine.specs.Sequences.{payload_in, size_in, size_known, step_answered, step_asked}
+use Rattle.gb_machine.specs.Sequences.{step_done, way_of}
 use Rattle.gb_machine.specs.Turns.{Act, Asking, HostEvent, Making, Turn, failed_turn}
 use Rattle.gb_machine.specs.Waits.{awaits_nothing}
+use Rattle.gb_invariants.proofs.{Found.in-ordered, Lists.in-at_first, Lists.in-without}
+use Rattle.gb_invariants.proofs.{Outcomes.same-number}
 use Rattle.gb_laws.proofs.AskedWaits.{AsksIn, asks-tell, asks_in, no-asks, opens_in, told-asks}
-use Rattle.gb_invariants.proofs.Lists.{in-at_first}
-use Rattle.gb_invariants.proofs.Outcomes.{same-number}
-use Rattle.gb_laws.proofs.Asked.{asks-none}
-use Rattle.gb_machine.specs.SequenceSteps.{is_enumeration}
+use Rattle.gb_laws.proofs.EnumDone.{FewerDone, IsDone, done-fails, done-interface, done-nothing}
+use Rattle.gb_laws.proofs.EnumDone.{done-stage}
+use Rattle.gb_laws.proofs.{Asked.asks-none, LinkHosts.resting-changed, Links.IsResting}
 
 -- What a turn asks for the enumeration of interface i may be asked. That is enumerated where it
 -- was, or where `Calm` holds, and then nothing is asked and it waits for nothing.
@@ -112,8 +40,7 @@ pub record TurnEnums (i : ℕ) (May : SequenceStep → Type 0) (Calm : Type 0) (
     : Type 0 where
   pub asks : (q : Asking) → AsksIn q t.acts → q.purpose.intf ≡ i
       → is_enumeration q.purpose.step ≡ true → May q.purpose.step
-  pub done : IsDone i t.host.interfaces
-      → IsDone i h.interfaces
+  pub done : IsDone i t.host.interfaces → IsDone i h.interfaces
       ⊎ (Calm × ((q : Asking) → AsksIn q t.acts → ⊥) × IsResting i t.host.interfaces)
 
 module _ (i : ℕ) (May : SequenceStep → Type 0) (Calm : Type 0) where
@@ -133,9 +60,8 @@ module _ (i : ℕ) (May : SequenceStep → Type 0) (Calm : Type 0) where
   enums-telling : (h : Host) (e : Entry) (t : Turn) → Enums h t
       → Enums h (record t { acts = Act.Tell e ∷ t.acts })
   enums-telling h e t r = record {
-    asks = λ q j. r.asks q (asks-tell q e t.acts j);
-    done = λ d. ⊎_elim (λ o. inl o) (λ c. inr (c.0, λ q j. c.1 q (asks-tell q e t.acts j), c.2))
-        (r.done d);
+    asks = λ q j. r.asks q (asks-tell e j);
+    done = λ d. ⊎_elim (λ o. inl o) (λ c. inr (c.0, λ q j. c.1 q (asks-tell e j), c.2)) (r.done d);
   }
 
   enums-failed : (h g : Host) (es : List Entry) → FewerDone i h g
@@ -194,14 +120,12 @@ module _ (i : ℕ) (May : SequenceStep → Type 0) (Calm : Type 0) where
       → (p.intf ≡ i → Calm × IsResting i h.interfaces) → Enums h (manifest_checked r p bytes h)
   enums-checked (Ok v) p bytes h calm = record {
     asks = λ q j. absurd (none q j);
-    done = λ d. ⊎_elim
-        (λ o. inl (record {
-          interface = d.interface;
-          known = o;
-          intf = d.intf;
-          done = d.done;
-        }))
-        (λ v.
+    done = λ d. ⊎_elim (λ o. inl (record {
+      interface = d.interface;
+      known = o;
+      intf = d.intf;
+      done = d.done;
+    })) (λ v.
         let at = sym (same-number v.0.intf p.intf v.2)
         ∙ ap (λ (x : Interface). x.intf) (sym v.3) ∙ d.intf in
         let c = calm at in
@@ -209,12 +133,11 @@ module _ (i : ℕ) (May : SequenceStep → Type 0) (Calm : Type 0) where
           c.0,
           none,
           resting-changed i p.intf (enumerated bytes) h.interfaces (λ x. refl) (λ x. refl) c.1,
-        ))
-        (in-at_first (is_intf p.intf) (enumerated bytes) h.interfaces d.interface d.known);
+        )) (in-at_first (is_intf p.intf) (enumerated bytes) h.interfaces d.interface d.known);
   }
     where
       none : (q : Asking) → AsksIn q (Act.Tell (entry.Interface p.intf stage.Enumerated) ∷ []) → ⊥
-      none q j = no-asks q (asks-tell q _ [] j)
+      none q j = no-asks (asks-tell _ j)
   enums-checked (Err why) p bytes h calm =
       enums-telling h (entry.Manifest p.intf why.at why.reason) (failed_turn (interface_fails p h))
       (enums-stage p h)
@@ -338,8 +261,7 @@ module _ (i : ℕ) (May : SequenceStep → Type 0) (Calm : Type 0) where
 
   pub enums-removed : (j : ℕ) (h : Host) → Enums h (host_turn (HostEvent.Removed j) h)
   enums-removed j h = record {
-    asks = λ q k. absurd (asks-none i Calm (links_of j h) q _
-        (λ m. no-asks q (asks-tell q _ [] m)) k);
+    asks = λ q k. absurd (asks-none i Calm (links_of j h) _ (λ m. no-asks (asks-tell _ m)) k);
     done = λ d. inl (record {
       interface = d.interface;
       known = (in-without (is_intf j) h.interfaces d.interface d.known).0;
@@ -360,8 +282,7 @@ module _ (i : ℕ) (May : SequenceStep → Type 0) (Calm : Type 0) where
       other e = absurd cc
 
       new : FewerDone i h (with_new_interface j h)
-      new d = ⊎_elim
-          (λ e. absurd (other (sym (ap (λ (x : Interface). x.stage) e) ∙ d.done)))
+      new d = ⊎_elim (λ e. absurd (other (sym (ap (λ (x : Interface). x.stage) e) ∙ d.done)))
           (λ o. record { interface = d.interface; known = o; intf = d.intf; done = d.done })
           (in-ordered intf_before d.interface (new_interface j) h.interfaces d.known)
 
@@ -385,9 +306,9 @@ module _ (i : ℕ) (May : SequenceStep → Type 0) (Calm : Type 0) where
       by (Some l) =
           let r = enums-asked (purpose j c steps.TellDisconnecting)
           (with_link j c (in_state state.Closing) h) (λ e f. absurd cc) in record {
-            asks = λ q k. r.asks q (asks-tell q _ _ (shut q k));
+            asks = λ q k. r.asks q (asks-tell _ (shut q k));
             done = λ d. ⊎_elim (λ o. inl o)
-                (λ v. inr (v.0, λ q k. v.1 q (asks-tell q _ _ (shut q k)), v.2)) (r.done d);
+                (λ v. inr (v.0, λ q k. v.1 q (asks-tell _ (shut q k)), v.2)) (r.done d);
           }
         where
           shut : {rest : List Act} (q : Asking) → AsksIn q (Act.Shut l.connection ∷ rest)

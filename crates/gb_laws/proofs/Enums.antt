@@ -1,47 +1,17 @@
 -- The requests of an enumeration that wait toward the supervisory controller, and the removals that
 -- wait toward the application processor.
-use Rattle.std.proofs.Common.{
-  ◌≡◌,
-  ◌⊎◌,
-  ℕ,
-  Bool,
-  true,
-  false,
-  cond,
-  Option,
-  Some,
-  None,
-  List,
-  [],
-  ◌∷◌,
-  map,
-  ◌++◌,
-  refl,
-  sym,
-  ap,
-  ◌∙◌,
-  inl,
-  inr,
-  append_assoc,
-  append-nil,
-}
+use Rattle.std.proofs.Common.{Bool, List, None, Option, Some, ap, append-nil, append_assoc, cond}
+use Rattle.std.proofs.Common.{false, inl, inr, map, refl, sym, true, ℕ, [], ◌++◌, ◌∙◌, ◌∷◌, ◌≡◌}
+use Rattle.std.proofs.Common.{◌⊎◌}
+use Rattle.std.specs.List.{filter}
 use Rattle.std.specs.Prelude.{◌||◌}
 use Rattle.gb_base.specs.declared.end.Side.TheVariants as side
-use Rattle.gb_laws.proofs.Marks.{AreAsked}
-use Rattle.gb_laws.proofs.Owning.{KeepsRequests}
 use Rattle.gb_machine.specs.Bus.{Ask, Bus, Item, Raw, RawReply, Reply, Request, request_of}
-use Rattle.gb_machine.specs.LawsSvc.{IsStart}
-use Rattle.gb_machine.specs.Lists.{behind_first}
-use Rattle.gb_machine.specs.Members.{Each, IsIn}
-use Rattle.std.specs.List.{filter}
-use Rattle.gb_machine.specs.SvcQueues.{
-  is_enumeration_request,
-  is_removal,
-  is_reply_to,
-  request_onto,
-  requests_among,
-  svc_items,
-}
+use Rattle.gb_machine.specs.SvcQueues.{is_enumeration_request, is_removal, is_reply_to}
+use Rattle.gb_machine.specs.SvcQueues.{request_onto, requests_among, svc_items}
+use Rattle.gb_machine.specs.{LawsSvc.IsStart, Lists.behind_first, Members.Each, Members.IsIn}
+use Rattle.gb_invariants.proofs.BusChanges.{KeepsRequests}
+use Rattle.gb_laws.proofs.Marks.{AreAsked}
 
 -- ---- requests of an enumeration
 
@@ -51,9 +21,7 @@ enum_of i n (Some r) = cond (is_enumeration_request i r) ((n, r) ∷ []) []
 
 abbrev pub item_enum : ℕ → Bus → Item → List (ℕ × Request)
 item_enum i b (Ask n) = enum_of i n (request_of n b)
-item_enum i b (Reply n result payload) = []
-item_enum i b (Raw bytes) = []
-item_enum i b (RawReply label kind result payload) = []
+item_enum i b _ = []
 
 abbrev pub enums_of : ℕ → Bus → List Item → List (ℕ × Request)
 enums_of i b [] = []
@@ -85,8 +53,7 @@ pub enums-more : (i : ℕ) (b after : Bus) (xs : List Item) → KeepsRequests b 
 enums-more i b after [] keeps asked = refl
 enums-more i b after (x ∷ xs) keeps asked =
     ap (λ es. es ++ enums_of i after xs) (one x (λ n e. asked n (inl (sym e))))
-    ∙ ap (λ es. item_enum i b x ++ es)
-    (enums-more i b after xs keeps (λ n j. asked n (inr j)))
+    ∙ ap (λ es. item_enum i b x ++ es) (enums-more i b after xs keeps (λ n j. asked n (inr j)))
   where
     one : (y : Item) → ((n : ℕ) → y ≡ Ask n → (r : Request) × (request_of n b ≡ Some r))
         → item_enum i after y ≡ item_enum i b y
@@ -107,8 +74,7 @@ enums-taken i b (x ∷ xs) = by x
     asked n None = inl refl
     asked n (Some r) = either (is_enumeration_request i r)
       where
-        either : (t : Bool)
-            → (enums_of i b xs ≡ cond t ((n, r) ∷ []) [] ++ enums_of i b xs)
+        either : (t : Bool) → (enums_of i b xs ≡ cond t ((n, r) ∷ []) [] ++ enums_of i b xs)
             ⊎ (enums_of i b xs ≡ behind_first (cond t ((n, r) ∷ []) [] ++ enums_of i b xs))
         either true = inr refl
         either false = inl refl
@@ -116,14 +82,11 @@ enums-taken i b (x ∷ xs) = by x
     by : (y : Item) → (enums_of i b xs ≡ item_enum i b y ++ enums_of i b xs)
         ⊎ (enums_of i b xs ≡ behind_first (item_enum i b y ++ enums_of i b xs))
     by (Ask n) = asked n (request_of n b)
-    by (Reply n result payload) = inl refl
-    by (Raw bytes) = inl refl
-    by (RawReply label kind result payload) = inl refl
+    by _ = inl refl
 
 -- an asked one waits
 pub enum-waits : (i : ℕ) (b : Bus) (xs : List Item) (e : ℕ × Request) → IsIn e (enums_of i b xs)
-    → IsIn (Ask e.0) xs × (request_of e.0 b ≡ Some e.1)
-    × (is_enumeration_request i e.1 ≡ true)
+    → IsIn (Ask e.0) xs × (request_of e.0 b ≡ Some e.1) × (is_enumeration_request i e.1 ≡ true)
 enum-waits i b [] e j = absurd j
 enum-waits i b (x ∷ xs) e j = by x refl j (enum-waits i b xs e)
   where
@@ -156,9 +119,7 @@ enum-waits i b (x ∷ xs) e j = by x refl j (enum-waits i b xs e)
 
     by : (y : Item) → x ≡ y → IsIn e (item_enum i b y ++ enums_of i b xs) → Later → Waits
     by (Ask n) is k rec = asked n is (request_of n b) refl k rec
-    by (Reply n result payload) is k rec = later rec k
-    by (Raw bytes) is k rec = later rec k
-    by (RawReply label kind result payload) is k rec = later rec k
+    by _ is k rec = later rec k
 
 -- the requests are those that wait, without their numbers
 pub enums-requests : (i : ℕ) (b : Bus) (xs : List Item)
@@ -177,20 +138,16 @@ enums-requests i b (x ∷ xs) = by x (enums-requests i b xs)
     asked n None h = h
     asked n (Some r) h = either (is_enumeration_request i r)
       where
-        either : (t : Bool)
-            → cond t (r ∷ filter (is_enumeration_request i) (requests_among b xs))
+        either : (t : Bool) → cond t (r ∷ filter (is_enumeration_request i) (requests_among b xs))
             (filter (is_enumeration_request i) (requests_among b xs))
             ≡ map (λ (e : ℕ × Request). e.1) (cond t ((n, r) ∷ []) [] ++ enums_of i b xs)
         either true = ap (λ rs. r ∷ rs) h
         either false = h
 
-    by : (y : Item) → Same
-        → filter (is_enumeration_request i) (requests_among b (y ∷ xs))
+    by : (y : Item) → Same → filter (is_enumeration_request i) (requests_among b (y ∷ xs))
         ≡ map (λ (e : ℕ × Request). e.1) (item_enum i b y ++ enums_of i b xs)
     by (Ask n) h = asked n (request_of n b) h
-    by (Reply n result payload) h = h
-    by (Raw bytes) h = h
-    by (RawReply label kind result payload) h = h
+    by _ h = h
 
 pub starts-requests : (es : List (ℕ × Request)) → AreStarts es
     → Each IsStart (map (λ (e : ℕ × Request). e.1) es)
@@ -205,9 +162,7 @@ request_removes i (Some r) = is_removal i r
 
 abbrev pub item_removes : ℕ → Bus → Item → Bool
 item_removes i b (Ask n) = request_removes i (request_of n b)
-item_removes i b (Reply n result payload) = false
-item_removes i b (Raw bytes) = false
-item_removes i b (RawReply label kind result payload) = false
+item_removes i b _ = false
 
 -- the removal of an interface is among items
 abbrev pub removed_in : ℕ → Bus → List Item → Bool
@@ -238,9 +193,7 @@ removes-more : (i : ℕ) (b after : Bus) (x : Item) → KeepsRequests b after
     → item_removes i after x ≡ item_removes i b x
 removes-more i b after (Ask n) keeps made =
     let m = made n refl in ap (request_removes i) (keeps n m.0 m.1 ∙ sym m.1)
-removes-more i b after (Reply n result payload) keeps made = refl
-removes-more i b after (Raw bytes) keeps made = refl
-removes-more i b after (RawReply label kind result payload) keeps made = refl
+removes-more i b after _ keeps made = refl
 
 pub removed-more : (i : ℕ) (b after : Bus) (xs : List Item) → KeepsRequests b after
     → AreAsked b xs → removed_in i after xs ≡ removed_in i b xs
@@ -248,8 +201,7 @@ removed-more i b after [] keeps asked = refl
 removed-more i b after (x ∷ xs) keeps asked =
     ap (λ t. t || removed_in i after xs)
     (removes-more i b after x keeps (λ n e. asked n (inl (sym e))))
-    ∙ ap (λ t. item_removes i b x || t)
-    (removed-more i b after xs keeps (λ n j. asked n (inr j)))
+    ∙ ap (λ t. item_removes i b x || t) (removed-more i b after xs keeps (λ n j. asked n (inr j)))
 
 pub clean-more : (n i : ℕ) (b after : Bus) (xs : List Item) → KeepsRequests b after
     → AreAsked b xs → IsClean n i b xs → IsClean n i after xs

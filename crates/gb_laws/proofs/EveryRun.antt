@@ -1,121 +1,54 @@
 -- The laws, of every run.
-use Rattle.std.proofs.Common.{◌≡◌, ℕ, Some, None, List, false, refl}
+use Rattle.std.proofs.Common.{List, None, Some, false, refl, ℕ, ◌≡◌}
 use Rattle.gb_base.specs.declared.end.Side.{Side}
 use Rattle.gb_base.specs.declared.end.Side.TheVariants as side
 use Rattle.gb_base.specs.declared.entry.ConnState.{ConnState}
 use Rattle.gb_base.specs.declared.entry.Entry.TheVariants as entry
 use Rattle.gb_base.specs.declared.event.Event.{Event}
-use Rattle.gb_laws.proofs.Absent.{between-at_moments, unconnected-by_moments}
-use Rattle.gb_laws.proofs.AllRuns.{at-all, of-all, of-state}
-use Rattle.gb_laws.proofs.Answering.{answered-at_moments}
-use Rattle.gb_laws.proofs.AwaitsNewest.{awaits-newest_by_moments}
-use Rattle.gb_laws.proofs.AwaitsOwn.{awaits-own_by_moments}
-use Rattle.gb_laws.proofs.BehindRuns.{none-behind_by_moments}
-use Rattle.gb_laws.proofs.Causes.{causes-at_moments}
-use Rattle.gb_laws.proofs.CreditsRuns.{credits-add_up}
-use Rattle.gb_laws.proofs.Ended.{ends-told_by_moments}
-use Rattle.gb_laws.proofs.Endpoints.{endpoints-by_moments}
-use Rattle.gb_laws.proofs.EnumRuns.{restarts-by_moments, served-by_moments}
-use Rattle.gb_laws.proofs.EnumSettledRuns.{asked-none_by_moments, done-none_by_moments}
-use Rattle.gb_laws.proofs.FarOpenRuns.{
-  module-open_by_moments,
-  module-seen,
-  none-open_at_moments,
-  unwired-open_by_moments,
-}
-use Rattle.gb_laws.proofs.Foreign.{own-items, takes-at_moments}
-use Rattle.gb_laws.proofs.Happened.{ends-seen, items-seen, told-seen}
-use Rattle.gb_laws.proofs.QuietBefore.{quiet-before_moments}
-use Rattle.gb_laws.proofs.QuietRuns.{finds-at_moments, leaves-by_moments}
-use Rattle.gb_laws.proofs.Replies.{replies-by_moments}
-use Rattle.gb_laws.proofs.Replying.{ends-once_by_moments}
-use Rattle.gb_laws.proofs.Routed.{routed-by_moments}
-use Rattle.gb_laws.proofs.Settling.{settles-are_deliveries}
-use Rattle.gb_laws.proofs.Single.{
-  counts-add-up,
-  labels-by_moments,
-  names-by_moments,
-  one-item_by_moments,
-}
-use Rattle.gb_laws.proofs.RememberedLive.{remembered-while_live}
-use Rattle.gb_laws.proofs.Remembering.{none-forgotten_at, remembered-for_one}
-use Rattle.gb_laws.proofs.StaleRuns.{stale-low_by_moments}
-use Rattle.gb_laws.proofs.ToldRuns.{absent-open_by_moments, absent-seen}
-use Rattle.gb_laws.proofs.WiredOnceRuns.{own-request_at_moments, wired-once_by_moments}
-use Rattle.gb_laws.proofs.WiredRemembered.{wired-remembered}
-use Rattle.gb_laws.specs.OwnSide.{
-  AbsentHasNoOpenOfAp,
-  AbsentHasNoOpenOfModule,
-  FindsNoneOpen,
-  UnwiredHasNoOpenOfFar,
-}
-use Rattle.gb_laws.specs.OwnWaits.{AwaitsOwnRequest, ServedLeavesNone}
-use Rattle.gb_laws.specs.OwnWires.{WiredIsRemembered}
-use Rattle.gb_laws.proofs.OpenRuns.{open-live_by_moments}
 use Rattle.gb_machine.specs.Bus.{Request, is_open, request_of}
-use Rattle.gb_machine.specs.Host.{interface_of}
-use Rattle.gb_machine.specs.Members.{IsIn}
-use Rattle.gb_machine.specs.Runs.{
-  AreValid,
-  HoldsAtEachMoment,
-  HoldsThroughout,
-  state_by,
-  told_by,
-}
-use Rattle.gb_machine.specs.Laws.{FactsOfRuns, LawsOfRuns}
-use Rattle.gb_machine.specs.LawsBus.{
-  EndpointsDiffer,
-  HaveAwaited,
-  HaveNamed,
-  HaveOneItem,
-  HaveOwnEnds,
-  HaveOwnLabels,
-  LabelsDiffer,
-  NamesNameRequests,
-  OneItemANumber,
-  RepliesAreAwaited,
-}
-use Rattle.gb_machine.specs.LawsEnds.{
-  AnsweredByItsResponder,
-  EndOnce,
-  EndsAreTold,
-  EndsAtMostOnce,
-  EndsTold,
-  EveryEndHasItsCause,
-  HadItsReply,
-  HasItsCause,
-}
-use Rattle.gb_machine.specs.LawsHotPlug.{
-  AbsentBetween,
-  AbsentIsUnconnected,
-  HaveOwnItems,
-  NoForeignMessage,
-  AbsentAfterRemoval,
-  NoneForgotten,
-  NothingLeftAfterRemoval,
-  OpenIsLive,
-  RememberedForOne,
-  RememberedWhileLive,
-  TakesFromItsConnection,
-  WiredAtMostOnce,
-  WiredByItsRequest,
-  WiredOnce,
-}
-use Rattle.gb_machine.specs.LawsSvc.{
-  AreRouted,
-  AwaitedIsTheLast,
-  AwaitsLast,
-  FindsUnwired,
-  IsQuiet,
-  LeavesNothing,
-  OneEnumerationRequestThenRestarts,
-  OneThenRestarts,
-  QuietBeforeRemoval,
-  RemovalLeavesNothingWired,
-  StaleIsLow,
-  StaleRequestsMeetLowLevel,
-  WiredMeansRouted,
-}
+use Rattle.gb_machine.specs.LawsBus.{EndpointsDiffer, HaveAwaited, HaveNamed, HaveOneItem}
+use Rattle.gb_machine.specs.LawsBus.{HaveOwnEnds, HaveOwnLabels, LabelsDiffer, NamesNameRequests}
+use Rattle.gb_machine.specs.LawsBus.{OneItemANumber, RepliesAreAwaited}
+use Rattle.gb_machine.specs.LawsEnds.{AnsweredByItsResponder, EndOnce, EndsAreTold, EndsAtMostOnce}
+use Rattle.gb_machine.specs.LawsEnds.{EndsTold, EveryEndHasItsCause, HadItsReply, HasItsCause}
+use Rattle.gb_machine.specs.LawsHotPlug.{AbsentAfterRemoval, AbsentBetween, AbsentIsUnconnected}
+use Rattle.gb_machine.specs.LawsHotPlug.{HaveOwnItems, NoForeignMessage, NoneForgotten}
+use Rattle.gb_machine.specs.LawsHotPlug.{NothingLeftAfterRemoval, OpenIsLive, RememberedForOne}
+use Rattle.gb_machine.specs.LawsHotPlug.{RememberedWhileLive, TakesFromItsConnection}
+use Rattle.gb_machine.specs.LawsHotPlug.{WiredAtMostOnce, WiredByItsRequest, WiredOnce}
+use Rattle.gb_machine.specs.LawsSvc.{AreRouted, AwaitedIsTheLast, AwaitsLast, FindsUnwired, IsQuiet}
+use Rattle.gb_machine.specs.LawsSvc.{LeavesNothing, OneEnumerationRequestThenRestarts}
+use Rattle.gb_machine.specs.LawsSvc.{OneThenRestarts, QuietBeforeRemoval, RemovalLeavesNothingWired}
+use Rattle.gb_machine.specs.LawsSvc.{StaleIsLow, StaleRequestsMeetLowLevel, WiredMeansRouted}
+use Rattle.gb_machine.specs.Runs.{AreValid, HoldsAtEachMoment, HoldsThroughout, state_by, told_by}
+use Rattle.gb_machine.specs.{Host.interface_of, Laws.FactsOfRuns, Laws.LawsOfRuns, Members.IsIn}
+use Rattle.gb_laws.proofs.AllRuns.{at-all, of-all, of-state, of-untold}
+use Rattle.gb_laws.proofs.FarOpenRuns.{module-open_by_moments, module-seen, none-open_at_moments}
+use Rattle.gb_laws.proofs.FarOpenRuns.{unwired-open_by_moments}
+use Rattle.gb_laws.proofs.Happened.{ends-seen, items-seen, told-seen}
+use Rattle.gb_laws.proofs.Single.{counts-add-up, labels-by_moments, names-by_moments}
+use Rattle.gb_laws.proofs.Single.{one-item_by_moments}
+use Rattle.gb_laws.proofs.{Absent.between-at_moments, Absent.unconnected-by_moments}
+use Rattle.gb_laws.proofs.{Answering.answered-at_moments, AwaitsNewest.awaits-newest_by_moments}
+use Rattle.gb_laws.proofs.{AwaitsOwn.awaits-own_by_moments, BehindRuns.none-behind_by_moments}
+use Rattle.gb_laws.proofs.{Causes.causes-at_moments, CreditsRuns.credits-add_up}
+use Rattle.gb_laws.proofs.{Ended.ends-told_by_moments, Endpoints.endpoints-by_moments}
+use Rattle.gb_laws.proofs.{EnumRuns.restarts-by_moments, EnumRuns.served-by_moments}
+use Rattle.gb_laws.proofs.{EnumSettledRuns.asked-none_by_moments}
+use Rattle.gb_laws.proofs.{EnumSettledRuns.done-none_by_moments, Foreign.own-items}
+use Rattle.gb_laws.proofs.{Foreign.takes-at_moments, OpenRuns.open-live_by_moments}
+use Rattle.gb_laws.proofs.{QuietBefore.quiet-before_moments, QuietRuns.finds-at_moments}
+use Rattle.gb_laws.proofs.{QuietRuns.leaves-by_moments, RememberedLive.remembered-while_live}
+use Rattle.gb_laws.proofs.{Remembering.none-forgotten_at, Remembering.remembered-for_one}
+use Rattle.gb_laws.proofs.{Replies.replies-by_moments, Replying.ends-once_by_moments}
+use Rattle.gb_laws.proofs.{Routed.routed-by_moments, Settling.settles-are_deliveries}
+use Rattle.gb_laws.proofs.{StaleRuns.stale-low_by_moments, ToldRuns.absent-open_by_moments}
+use Rattle.gb_laws.proofs.{ToldRuns.absent-seen, WiredOnceRuns.own-request_at_moments}
+use Rattle.gb_laws.proofs.{WiredOnceRuns.wired-once_by_moments, WiredRemembered.wired-remembered}
+use Rattle.gb_laws.specs.OwnSide.{AbsentHasNoOpenOfAp, AbsentHasNoOpenOfModule, FindsNoneOpen}
+use Rattle.gb_laws.specs.OwnSide.{UnwiredHasNoOpenOfFar}
+use Rattle.gb_laws.specs.{OwnWaits.AwaitsOwnRequest, OwnWaits.ServedLeavesNone}
+use Rattle.gb_laws.specs.{OwnWires.WiredIsRemembered}
 
 -- Each request ends at most once and is replied to at most once.
 pub ends-at-most-once : EndsAtMostOnce
@@ -223,10 +156,8 @@ remembered-wired = of-all WiredIsRemembered (of-state _) wired-remembered
 
 -- Each connection is remembered as wired once at most.
 pub wired-once : HoldsThroughout WiredOnce
-wired-once = of-all WiredOnce (record {
-  there = λ told s h. record { once = h.once; remembered = h.remembered };
-  back = λ told s h. record { once = h.once; remembered = h.remembered };
-}) wired-once_by_moments
+wired-once = of-all WiredOnce (of-untold WiredOnce
+    (λ told more s h. record { once = h.once; remembered = h.remembered })) wired-once_by_moments
 
 -- It is wired by its own request.
 pub wired-by_request : HoldsAtEachMoment WiredByItsRequest
@@ -249,19 +180,16 @@ wired-routed = of-all AreRouted (of-state _) routed-by_moments
 -- While a removal waits nothing of its interface is wired, nor is it where that is handled.
 pub nothing-wired : RemovalLeavesNothingWired
 nothing-wired = (
-  of-all LeavesNothing (record {
-    there = λ told s h. record { low = h.low; unwired = h.unwired };
-    back = λ told s h. record { low = h.low; unwired = h.unwired };
-  }) leaves-by_moments,
+  of-all LeavesNothing (of-untold LeavesNothing
+      (λ told more s h. record { low = h.low; unwired = h.unwired })) leaves-by_moments,
   at-all FindsUnwired finds-at_moments,
 )
 
 -- While a removal waits, only starts wait, and no answer that is waited for comes before it.
 pub quiet-removal : QuietBeforeRemoval
-quiet-removal = of-all IsQuiet (record {
-  there = λ told s h. record { low = h.low; starts = h.starts; unanswered = h.unanswered };
-  back = λ told s h. record { low = h.low; starts = h.starts; unanswered = h.unanswered };
-}) quiet-before_moments
+quiet-removal = of-all IsQuiet (of-untold IsQuiet
+    (λ told more s h. record { low = h.low; starts = h.starts; unanswered = h.unanswered }))
+    quiet-before_moments
 
 -- An enumeration waits for a request of its own.
 pub own-request : HoldsThroughout AwaitsOwnRequest
@@ -277,22 +205,13 @@ served-leaves = of-all ServedLeavesNone (of-state _) served-by_moments
 
 -- It waits for the last of its requests, and none waits where it waits for the module or is done.
 pub awaited-last : AwaitedIsTheLast
-awaited-last = of-all AwaitsLast (record {
-  there = λ told s h. record {
-    own = h.own;
-    last = h.last;
-    served = h.served;
-    asked = h.asked;
-    done = h.done;
-  };
-  back = λ told s h. record {
-    own = h.own;
-    last = h.last;
-    served = h.served;
-    asked = h.asked;
-    done = h.done;
-  };
-}) (λ es are. record {
+awaited-last = of-all AwaitsLast (of-untold AwaitsLast (λ told more s h. record {
+  own = h.own;
+  last = h.last;
+  served = h.served;
+  asked = h.asked;
+  done = h.done;
+})) (λ es are. record {
   own = awaits-own_by_moments es are;
   last = awaits-newest_by_moments es are;
   served = served-by_moments es are;
@@ -303,13 +222,12 @@ awaited-last = of-all AwaitsLast (record {
 -- Each of its requests that waits, but the first, is a start, and none for a connection stands
 -- behind one.
 pub then-restarts : OneEnumerationRequestThenRestarts
-then-restarts = of-all OneThenRestarts (record {
-  there = λ told s h. record { restarts = h.restarts; last = h.last };
-  back = λ told s h. record { restarts = h.restarts; last = h.last };
-}) (λ es are. record {
-  restarts = restarts-by_moments es are;
-  last = none-behind_by_moments es are;
-})
+then-restarts = of-all OneThenRestarts (of-untold OneThenRestarts
+    (λ told more s h. record { restarts = h.restarts; last = h.last }))
+    (λ es are. record {
+      restarts = restarts-by_moments es are;
+      last = none-behind_by_moments es are;
+    })
 
 -- ---- together
 

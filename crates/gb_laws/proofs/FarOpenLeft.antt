@@ -1,73 +1,30 @@
 -- A connection that a turn gives up isn't wired: its interface is removed, or the request to
 -- destroy it was served.
-use Rattle.std.proofs.Common.{
-  List,
-  Some,
-  [],
-  ap,
-  arith,
-  false,
-  inl,
-  inr,
-  refl,
-  subst,
-  sym,
-  true,
-  ℕ,
-  ⊎_elim,
-  ◌∙◌,
-  ◌∷◌,
-  ◌≡◌,
-  ◌⊎◌,
-}
+use Rattle.std.proofs.Common.{List, Some, ap, arith, false, inl, inr, refl, subst, sym, true, ℕ}
+use Rattle.std.proofs.Common.{⊎_elim, [], ◌∙◌, ◌∷◌, ◌≡◌, ◌⊎◌}
 use Rattle.std.specs.Prelude.{◌&&◌, ◌==◌}
+use Rattle.gb_base.specs.declared.end.Side.TheVariants as side
 use Rattle.gb_base.specs.declared.peers.Link.{Link}
 use Rattle.gb_base.specs.declared.steps.SequenceStep.TheVariants as steps
-use Rattle.gb_invariants.proofs.Awaiting.{same-some, not-both}
-use Rattle.gb_invariants.proofs.Lists.{each-in}
-use Rattle.gb_invariants.proofs.Outcomes.{is-same}
-use Rattle.gb_laws.proofs.FarOpenKept.{HasStep, WaitsKinds}
-use Rattle.gb_laws.proofs.GoneRuns.{GoneTo, gone-base, gone_law}
-use Rattle.gb_laws.proofs.Leaving.{WhyLeft, closed, removed, why-left}
-use Rattle.gb_laws.proofs.LinkLists.{one-link}
-use Rattle.gb_laws.proofs.Links.{IsKnown, leaving, linked, supervisory}
-use Rattle.gb_laws.proofs.Noticing.{told-by_svc}
-use Rattle.gb_laws.proofs.PointParts.{IsCaused, IsNoticed, Point, Untouched}
-use Rattle.gb_laws.proofs.Points.{
-  Change,
-  IsOver,
-  acts_asked,
-  acts_failed,
-  acts_left,
-  acts_opened,
-  acts_shut,
-  acts_told,
-  asking,
-  IsAsking,
-  changed,
-  opening,
-  turns,
-  unwires,
-  wires,
-}
-use Rattle.gb_laws.proofs.QuietRuns.{leaves, waits-before}
-use Rattle.gb_laws.proofs.Creating.{destroys_one, is_destroy}
-use Rattle.gb_laws.proofs.StaleBase.{StaleBase}
-use Rattle.gb_laws.proofs.StillWaiting.{IsFront}
-use Rattle.gb_laws.proofs.SvcOrder.{none-earlier}
-use Rattle.gb_base.specs.declared.end.Side.TheVariants as side
 use Rattle.gb_formats.specs.SvcRecords.{read_svc_ask}
 use Rattle.gb_machine.proofs.Lists.{nth-within}
-use Rattle.gb_machine.specs.SequenceSteps.{kind_of}
-use Rattle.gb_machine.specs.SvcQueues.{svc_items}
-use Rattle.gb_laws.proofs.WiredSo.{WiredAreSo, so-kept}
 use Rattle.gb_machine.specs.Bus.{Ask, Connection, Request, request_of}
-use Rattle.gb_machine.specs.Host.{Host}
-use Rattle.gb_machine.specs.LawsBus.{is_awaited}
-use Rattle.gb_machine.specs.Members.{IsIn}
-use Rattle.gb_machine.specs.Runs.{Moment}
-use Rattle.gb_machine.specs.Turns.{Act, HostEvent}
-use Rattle.gb_machine.specs.Wiring.{is_at, is_wired_to}
+use Rattle.gb_machine.specs.{Host.Host, LawsBus.is_awaited, Members.IsIn, Runs.Moment}
+use Rattle.gb_machine.specs.{SequenceSteps.kind_of, SvcQueues.svc_items, Turns.Act, Turns.HostEvent}
+use Rattle.gb_machine.specs.{Wiring.is_at, Wiring.is_wired_to}
+use Rattle.gb_invariants.proofs.{Awaiting.not-both, Awaiting.same-some, Lists.each-in}
+use Rattle.gb_invariants.proofs.{Outcomes.is-same, Wires.WiredAreSo}
+use Rattle.gb_laws.proofs.GoneRuns.{GoneTo, gone-base, gone_law}
+use Rattle.gb_laws.proofs.LinkLeaves.{WhyLeft, closed, removed, why-left}
+use Rattle.gb_laws.proofs.Links.{IsKnown, leaving, linked, supervisory}
+use Rattle.gb_laws.proofs.PointParts.{IsCaused, IsNoticed, Point, Untouched}
+use Rattle.gb_laws.proofs.Points.{Change, IsAsking, IsOver, acts_asked, acts_failed, acts_left}
+use Rattle.gb_laws.proofs.Points.{acts_opened, acts_shut, acts_told, asking, changed, opening}
+use Rattle.gb_laws.proofs.Points.{turns, unwires, wires}
+use Rattle.gb_laws.proofs.{Creating.destroys_one, Creating.is_destroy, FarOpenKept.HasStep}
+use Rattle.gb_laws.proofs.{FarOpenKept.WaitsKinds, LinkLists.one-link, MarkNotices.told-by_svc}
+use Rattle.gb_laws.proofs.{QuietRuns.leaves, QuietRuns.waits-before, StaleBase.StaleBase}
+use Rattle.gb_laws.proofs.{StillWaiting.IsFront, SvcOrder.none-earlier, WiredRemembered.so-kept}
 
 -- connection k is live and wired
 pub record IsWiredIn (k : ℕ) (cs : List Connection) : Type 0 where
@@ -163,8 +120,7 @@ module _ (m : Moment) (start : GoneTo m.told m.before) where
       pair : IsIn (n, l.connection) a.state.past.made_for
       pair = (f.pairs.bound l known (n, steps.DestroyConnection) waiting).own refl
 
-      q : (k.request.oneway ≡ false) × (k.request.connection ≡ 1)
-          × (k.request.side ≡ side.Ap)
+      q : (k.request.oneway ≡ false) × (k.request.connection ≡ 1) × (k.request.side ≡ side.Ap)
       q =
           let x = f.pairs.made n l.connection pair in
           let same = same-some x.request k.request (sym x.made ∙ k.made) in (
@@ -181,16 +137,14 @@ module _ (m : Moment) (start : GoneTo m.told m.before) where
           → IsIn (n, l.connection) m.before.past.made_for
       paired before = ⊎_elim (λ o. o)
           (λ w. let low = nth-within n m.before.bus.requests k.request before in
-          let high = w.0 in absurd (omega (arith, low, high)))
-          (f.since.new n l.connection pair)
+          let high = w.0 in absurd (omega (arith, low, high))) (f.since.new n l.connection pair)
 
       by : IsIn (Ask n) (svc_items side.Far a.state.bus)
           ⊎ ((request_of n m.before.bus ≡ Some k.request)
           × ((IsIn (Ask n) (svc_items side.Far m.before.bus) → ⊥) ⊎ IsFront m n))
           → (IsWiredIn l.connection m.before.bus.connections → ⊥) ⊎ IsDestroying m
       by (inl i) = absurd (out i)
-      by (inr w) = ⊎_elim
-          (λ none. inl (λ on. not-both on.connection.wired on.wired
+      by (inr w) = ⊎_elim (λ none. inl (λ on. not-both on.connection.wired on.wired
           (start.gone n l.connection k.request
           (λ e. let low = (f.links.host.links.numbered l known).from_two in
           omega (arith, low, e)) (paired w.0) w.0 is none on.connection on.live on.number)))
@@ -211,8 +165,7 @@ module _ (m : Moment) (start : GoneTo m.told m.before) where
   pub leaves-kept : (a : Point) (x : Change m a) → (gone_law m start).holds a
       → WaitsKinds a.state.bus a.state.host → LeavesWell m a → LeavesWell m (changed m a x)
   leaves-kept a (turns e free untouched none cause) g kinds h =
-      λ k i. why k (why-left a.state.bus e a.state.host k
-      (gone-base m start a g).links.host i)
+      λ k i. why k (why-left a.state.bus e a.state.host k (gone-base m start a g).links.host i)
     where
       why : (k : ℕ) → WhyLeft a.state.host e k
           → (IsWiredIn k m.before.bus.connections → ⊥) ⊎ IsDestroying m
@@ -225,11 +178,9 @@ module _ (m : Moment) (start : GoneTo m.told m.before) where
           (closed-unwired a g kinds j l known waiting
           (subst (λ y. IsOver m y a.state.bus) is untouched.1 result payload refl).0)
   leaves-kept a (acts_told e rest is quiet) g kinds h =
-      leaves-on a (changed m a (acts_told e rest is quiet))
-      (fewer a (Act.Tell e) rest is) h
+      leaves-on a (changed m a (acts_told e rest is quiet)) (fewer a (Act.Tell e) rest is) h
   leaves-kept a (acts_shut k rest free is cause) g kinds h =
-      leaves-on a (changed m a (acts_shut k rest free is cause))
-      (fewer a (Act.Shut k) rest is) h
+      leaves-on a (changed m a (acts_shut k rest free is cause)) (fewer a (Act.Shut k) rest is) h
   leaves-kept a (acts_left k rest free untouched is) g kinds h =
       leaves-on a (changed m a (acts_left k rest free untouched is))
       (fewer a (Act.Leave k) rest is) h
@@ -237,11 +188,9 @@ module _ (m : Moment) (start : GoneTo m.told m.before) where
       leaves-on a (changed m a (acts_opened w q rest free is))
       (λ k i. ⊎_elim (λ e. absurd cc) (λ j. fewer a (Act.Open w q) rest is k j) i) h
   leaves-kept a (acts_asked q n rest is) g kinds h =
-      leaves-on a (changed m a (acts_asked q n rest is))
-      (fewer a (Act.Ask q) rest is.0) h
+      leaves-on a (changed m a (acts_asked q n rest is)) (fewer a (Act.Ask q) rest is.0) h
   leaves-kept a (acts_failed q rest is quiet) g kinds h =
-      leaves-on a (changed m a (acts_failed q rest is quiet))
-      (by is) h
+      leaves-on a (changed m a (acts_failed q rest is quiet)) (by is) h
     where
       by : IsAsking q a.pending rest → (k : ℕ) → IsIn (Act.Leave k) rest
           → IsIn (Act.Leave k) a.pending

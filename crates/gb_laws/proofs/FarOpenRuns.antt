@@ -1,81 +1,34 @@
 -- What a far side asked and is open is on a connection that is live and wired, in each state of a
 -- run: one that leaves isn't wired.
-use Rattle.std.proofs.Common.{
-  Bool,
-  List,
-  Some,
-  [],
-  ap,
-  false,
-  inl,
-  inr,
-  refl,
-  subst,
-  suc,
-  sym,
-  true,
-  zero,
-  ℕ,
-  ⊎_elim,
-  ◌++◌,
-  ◌∙◌,
-  ◌≡◌,
-  ◌⊎◌,
-}
+use Rattle.std.proofs.Common.{Bool, List, Some, ap, false, inl, inr, refl, subst, suc, sym, true}
+use Rattle.std.proofs.Common.{zero, ℕ, ⊎_elim, [], ◌++◌, ◌∙◌, ◌≡◌, ◌⊎◌}
 use Rattle.std.specs.Prelude.{◌&&◌, ◌||◌}
+use Rattle.gb_base.specs.declared.end.Side.TheVariants as side
 use Rattle.gb_base.specs.declared.entry.Entry.{Entry}
 use Rattle.gb_base.specs.declared.entry.Entry.TheVariants as entry
-use Rattle.gb_invariants.proofs.Awaiting.{not-both}
-use Rattle.gb_invariants.proofs.Lists.{each-in}
-use Rattle.gb_invariants.proofs.Numbers.{found-number}
-use Rattle.gb_invariants.proofs.Outcomes.{is-same}
-use Rattle.gb_laws.proofs.Absent.{unconnected}
-use Rattle.gb_laws.proofs.AllRuns.{SeesHappenings}
-use Rattle.gb_laws.proofs.FarOpen.{FarFits, IsThere, far-popped, far-replied, far-unwired}
-use Rattle.gb_laws.proofs.FarOpenLeft.{
-  IsDestroying,
-  IsStillWired,
-  IsWiredIn,
-  LeavesWell,
-  leaves-kept,
-  still-kept,
-}
+use Rattle.gb_formats.specs.SvcRecords.{read_svc_ask}
+use Rattle.gb_machine.specs.Bus.{Bus, Item, Request, is_open}
+use Rattle.gb_machine.specs.Runs.{IsMoment, Moment, after, state_by, told_at, told_by}
+use Rattle.gb_machine.specs.{Delivery.popped, Delivery.replied, LawsBus.is_awaited, Lists.nth}
+use Rattle.gb_machine.specs.{Members.IsIn, Requests.is_given_up, State.State, Turns.Act}
+use Rattle.gb_machine.specs.{Wiring.is_at, Wiring.is_wired_to}
+use Rattle.gb_invariants.proofs.{Awaiting.not-both, BusChanges.BusChange, Lists.each-in}
+use Rattle.gb_invariants.proofs.{Numbers.found-number, Outcomes.is-same, Wires.IsAlive}
 use Rattle.gb_laws.proofs.FarOpenKept.{FarAt, GoesWell, WaitsKinds, far-kept, kinds-kept}
-use Rattle.gb_laws.proofs.Gone.{IsDestroy, destroy-is}
-use Rattle.gb_laws.proofs.GoneRuns.{
-  GoneTo,
-  gone-base,
-  gone-over,
-  gone-start,
-  gone-throughout,
-  gone_law,
-}
-use Rattle.gb_laws.proofs.Happened.{happened-told, told-happened}
+use Rattle.gb_laws.proofs.FarOpenLeft.{IsDestroying, IsStillWired, IsWiredIn, LeavesWell}
+use Rattle.gb_laws.proofs.FarOpenLeft.{leaves-kept, still-kept}
+use Rattle.gb_laws.proofs.GoneRuns.{GoneTo, gone-base, gone-over, gone-start, gone-throughout}
+use Rattle.gb_laws.proofs.GoneRuns.{gone_law}
 use Rattle.gb_laws.proofs.PointParts.{Point, Wires, resting}
 use Rattle.gb_laws.proofs.Points.{Change, Law, acts_left}
-use Rattle.gb_laws.proofs.QuietRuns.{leaves, waits-before}
 use Rattle.gb_laws.proofs.Runs.{HoldsAtMoments, HoldsByMoments, at_each, throughout, weaker}
 use Rattle.gb_laws.proofs.ServedDestroy.{IsDestroyed, cut, destroyed-bus, uncut}
-use Rattle.gb_base.specs.declared.end.Side.TheVariants as side
-use Rattle.gb_formats.specs.SvcRecords.{read_svc_ask}
-use Rattle.gb_machine.specs.Delivery.{popped, replied}
-use Rattle.gb_laws.proofs.Steps.{over-step}
-use Rattle.gb_laws.proofs.ToldLinks.{Matches}
-use Rattle.gb_laws.proofs.ToldRuns.{told-throughout}
-use Rattle.gb_laws.specs.OwnSide.{
-  AbsentHasNoOpenOfModule,
-  FindsNoneOpen,
-  UnwiredHasNoOpenOfFar,
-}
-use Rattle.gb_machine.specs.Bus.{Bus, Request, is_open}
-use Rattle.gb_machine.specs.LawsBus.{is_awaited}
-use Rattle.gb_machine.specs.Lists.{nth}
-use Rattle.gb_machine.specs.Members.{IsIn}
-use Rattle.gb_machine.specs.Requests.{is_given_up}
-use Rattle.gb_machine.specs.Runs.{IsMoment, Moment, after, state_by, told_at, told_by}
-use Rattle.gb_machine.specs.State.{State}
-use Rattle.gb_machine.specs.Turns.{Act}
-use Rattle.gb_machine.specs.Wiring.{is_at, is_wired_to}
+use Rattle.gb_laws.proofs.{Absent.unconnected, AllRuns.SeesHappenings, FarOpen.FarFits}
+use Rattle.gb_laws.proofs.{FarOpen.far-after, Gone.IsDestroy, Gone.destroy-is}
+use Rattle.gb_laws.proofs.{Happened.happened-told, Happened.told-happened, QuietRuns.leaves}
+use Rattle.gb_laws.proofs.{QuietRuns.waits-before, Steps.over-step, ToldLinks.Matches}
+use Rattle.gb_laws.proofs.{ToldRuns.told-throughout}
+use Rattle.gb_laws.specs.OwnSide.{AbsentHasNoOpenOfModule, FindsNoneOpen, UnwiredHasNoOpenOfFar}
 
 -- what is known in each state
 pub record FarTo (told : List Entry) (s : State) : Type 0 where
@@ -126,15 +79,15 @@ module _ (m : Moment) (start : FarTo m.told m.before) where
       k : ℕ
       k = d.front.place.connection.number
 
+      answered : (item : Item) → FarFits (replied k side.Ap item (popped k side.Far m.before.bus))
+      answered item = far-after (BusChange.puts k side.Ap item) (popped k side.Far m.before.bus) tt
+          (far-after (BusChange.takes k side.Far) m.before.bus tt start.far)
+
       by : IsDestroyed k r.i1 r.a r.i r.c (popped k side.Far m.before.bus) (after m).bus
           → FarFits (after m).bus
-      by (cut item x e is) = subst FarFits (sym is)
-          (far-unwired (replied k side.Ap item (popped k side.Far m.before.bus)) x.number
-          (far-replied k side.Ap item (popped k side.Far m.before.bus)
-          (far-popped k side.Far m.before.bus start.far)))
-      by (uncut item none is) = subst FarFits (sym is)
-          (far-replied k side.Ap item (popped k side.Far m.before.bus)
-          (far-popped k side.Far m.before.bus start.far))
+      by (cut item x e is) = subst FarFits (sym is) (far-after (BusChange.unwires x.number)
+          (replied k side.Ap item (popped k side.Far m.before.bus)) tt (answered item))
+      by (uncut item none is) = subst FarFits (sym is) (answered item)
 
   far-over : IsMoment m.event → FarTo (m.told ++ told_at m) (after m)
   far-over one = record {
@@ -205,7 +158,7 @@ pub module-open_by_moments : HoldsByMoments AbsentHasNoOpenOfModule
 module-open_by_moments es are i k own c n state r absent said made on far =
     by (is_open n (state_by es).bus) refl
   where
-    gone : IsThere r.connection (state_by es).bus.connections → ⊥
+    gone : IsAlive r.connection (state_by es).bus.connections → ⊥
     gone t =
         let links = (told-throughout es are).links.1 in
         let names = (each-in (Matches (state_by es).bus) (told_by es)

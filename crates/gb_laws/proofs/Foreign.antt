@@ -1,46 +1,23 @@
 -- No end handles a message of another connection.
-use Rattle.std.proofs.Common.{◌≡◌, ℕ, List, [], ◌∷◌, sym, ap, ◌∙◌, inl, inr}
+use Rattle.std.proofs.Common.{List, ap, inl, inr, sym, ℕ, [], ◌∙◌, ◌∷◌, ◌≡◌}
 use Rattle.gb_base.specs.declared.end.End.TheVariants as end
 use Rattle.gb_base.specs.declared.end.Side.TheVariants as side
 use Rattle.gb_base.specs.declared.entry.Entry.{Entry}
-use Rattle.gb_invariants.proofs.Lists.{each-from, in-filter}
-use Rattle.gb_invariants.proofs.Outcomes.{same-number}
-use Rattle.gb_laws.proofs.Basics.{
-  Based,
-  basis-first,
-  basis-kept,
-  basis-throughout,
-  none-waits,
-  rested,
-}
-use Rattle.gb_laws.proofs.Loosening.{map-held-in}
-use Rattle.gb_laws.proofs.Owned.{own-kept}
-use Rattle.gb_laws.proofs.Owning.{OwnTold}
-use Rattle.gb_laws.proofs.Places.{place-is}
-use Rattle.gb_laws.proofs.Points.{Law}
+use Rattle.gb_machine.proofs.Conditions.{waits}
+use Rattle.gb_machine.specs.LawsHotPlug.{HasOwnItems, HaveOwnItems, IsOwnItem}
+use Rattle.gb_machine.specs.LawsHotPlug.{TakesFromItsConnection}
+use Rattle.gb_machine.specs.State.{Held, State, first_state}
+use Rattle.gb_machine.specs.{Bus.Connection, Bus.svc_connection, Holding.held_on}
+use Rattle.gb_machine.specs.{Holding.is_held_on, Members.IsIn, Refusals.refusal, Runs.Moment}
+use Rattle.gb_invariants.proofs.{Lists.each-from, Lists.in-filter, Outcomes.same-number}
+use Rattle.gb_laws.proofs.Basics.{Based, basis, basis-first, basis-throughout, none-waits, rested}
 use Rattle.gb_laws.proofs.PointParts.{Basis, loose_held, resting}
 use Rattle.gb_laws.proofs.Runs.{HoldsAtMoments, HoldsByMoments, at_each, throughout, weaker}
-use Rattle.gb_machine.proofs.Conditions.{waits}
-use Rattle.gb_laws.proofs.Steps.{over-step}
-use Rattle.gb_machine.specs.Bus.{Connection, svc_connection}
-use Rattle.gb_machine.specs.Holding.{held_on, is_held_on}
-use Rattle.gb_machine.specs.LawsHotPlug.{
-  HasOwnItems,
-  HaveOwnItems,
-  IsOwnItem,
-  TakesFromItsConnection,
-}
-use Rattle.gb_machine.specs.Members.{IsIn}
-use Rattle.gb_machine.specs.Refusals.{refusal}
-use Rattle.gb_machine.specs.Runs.{Moment}
-use Rattle.gb_machine.specs.State.{Held, State, first_state}
+use Rattle.gb_laws.proofs.{Loosening.map-held-in, Owned.own-kept, Owning.OwnTold, Places.place-is}
+use Rattle.gb_laws.proofs.{Points.Law, Points.upon, Steps.over-step}
 
 abbrev own_law : (m : Moment) → Law m
-own_law m = record {
-  holds = λ a. Basis a × OwnTold a;
-  basis = λ a h. h.0;
-  kept = λ a x h. (basis-kept m a x h.0, own-kept m a x h.0 h.1);
-}
+own_law m = upon (basis m) OwnTold (λ a x g h. own-kept m a x g h)
 
 -- the basis, and that items are of their own connection
 abbrev pub OwnAt : List Entry → State → Type 0
@@ -65,8 +42,7 @@ own-throughout = throughout OwnAt (basis-first, own-first)
       record {
         waiting = r.1.1.waiting;
         hanging = r.1.1.hanging;
-        opened =
-            r.1.1.opened;
+        opened = r.1.1.opened;
       },
     ))
 
@@ -79,8 +55,7 @@ own-items = weaker OwnAt HaveOwnItems
       to_far = each-from (IsOwnItem told s.bus c side.Far) c.to_far
           (λ item i. h.1.waiting c side.Far item live i);
       held = each-from (λ (x : Held). IsOwnItem told s.bus c side.Far x.item)
-          (held_on c.number s.held)
-          (λ x i.
+          (held_on c.number s.held) (λ x i.
           let f = in-filter (is_held_on c.number) s.held x i in
           h.1.hanging c (loose_held x) live (map-held-in x s.held f.0)
           (sym (same-number x.connection c.number f.1)));

@@ -1,42 +1,25 @@
 -- A connection is unwired where the request to destroy it is served.
-use Rattle.std.proofs.Common.{
-  ◌≡◌,
-  ℕ,
-  true,
-  false,
-  Option,
-  Some,
-  None,
-  [],
-  refl,
-  sym,
-  ap,
-  ◌∙◌,
-  ⊎_elim,
-}
-use Rattle.std.specs.Prelude.{Result, Ok, Err, option_map, ◌&&◌, ◌==◌}
+use Rattle.std.proofs.Common.{None, Option, Some, ap, false, refl, sym, true, ℕ, ⊎_elim, [], ◌∙◌}
+use Rattle.std.proofs.Common.{◌≡◌}
 use Rattle.std.specs.List.{find}
+use Rattle.std.specs.Prelude.{Err, Ok, Result, option_map, ◌&&◌, ◌==◌}
 use Rattle.gb_base.specs.declared.end.End.TheVariants as end
 use Rattle.gb_base.specs.declared.end.Side.TheVariants as side
 use Rattle.gb_base.specs.declared.peers.Link.{Link}
-use Rattle.gb_formats.specs.Records.{PayloadFault}
-use Rattle.gb_formats.specs.SvcRecords.{SvcAsk}
-use Rattle.gb_invariants.proofs.Awaiting.{not-both, same-some}
-use Rattle.gb_invariants.proofs.Lists.{found-in, in-at_first}
-use Rattle.gb_invariants.proofs.Outcomes.{both-true, is-same}
-use Rattle.gb_invariants.proofs.Selves.{front-self}
-use Rattle.gb_laws.proofs.Creating.{IsBetween, is_destroy}
-use Rattle.gb_laws.proofs.LinkedFrom.{Linked}
-use Rattle.gb_laws.proofs.LinkLists.{find-changed, find-none, found-at}
-use Rattle.gb_laws.proofs.Links.{IsKnown, leaving, linked, supervisory}
-use Rattle.gb_laws.proofs.Onward.{front-wired}
-use Rattle.gb_laws.proofs.Places.{at_first-back, same_end-is}
-use Rattle.gb_laws.proofs.ServedDestroy.{IsDestroyed, cut, uncut}
+use Rattle.gb_formats.specs.{Records.PayloadFault, SvcRecords.SvcAsk}
 use Rattle.gb_machine.specs.Bus.{Bus, Connection, connection_of, has_number, same_end}
 use Rattle.gb_machine.specs.Delivery.{popped, replied, without_front}
-use Rattle.gb_machine.specs.Host.{Host, is_link}
-use Rattle.gb_machine.specs.Members.{IsIn}
 use Rattle.gb_machine.specs.Wiring.{joining, joins, unwired}
+use Rattle.gb_machine.specs.{Host.Host, Host.is_link, Members.IsIn}
+use Rattle.gb_invariants.proofs.Awaiting.{none-some, not-both, same-some}
+use Rattle.gb_invariants.proofs.Lists.{at_first-back, found-in, in-at_first}
+use Rattle.gb_invariants.proofs.Selves.{front-body, front-self, svc-no-module}
+use Rattle.gb_invariants.proofs.{Found.find-changed, Found.find-none, Outcomes.both-true}
+use Rattle.gb_invariants.proofs.{Outcomes.is-same}
+use Rattle.gb_laws.proofs.Links.{IsKnown, leaving, linked, supervisory}
+use Rattle.gb_laws.proofs.ServedDestroy.{IsDestroyed, cut, uncut}
+use Rattle.gb_laws.proofs.{Creating.IsBetween, Creating.is_destroy, LinkFrom.Linked}
+use Rattle.gb_laws.proofs.{LinkLists.found-at, Places.same_end-is}
 
 -- a record that destroys a connection
 pub record IsDestroy (r : Result SvcAsk PayloadFault) : Type 0 where
@@ -67,16 +50,13 @@ module _ (before : Bus) (h : Host) (links : Linked before h []) (rise : (c : Con
   joined x e =
       let f = found-in (joins a i c) (popped k side.Far before).connections x e in
       let both = both-true (x.ap == a) (same_end x.peer (end.Module i c)) f.1 in
-      ⊎_elim
-      (λ old. same x old (same_end-is x.peer (end.Module i c) both.1))
-      (λ v.
+      ⊎_elim (λ old. same x old (same_end-is x.peer (end.Module i c) both.1)) (λ v.
       let self = front-self side.Far v.0 in
       let was = same v.0 v.1 (sym self.peer ∙ ap (λ (y : Connection). y.peer) (sym v.3)
       ∙ same_end-is x.peer (end.Module i c) both.1) in (
         ap (λ (y : Connection). y.number) v.3 ∙ self.number ∙ was.0,
-        ap (λ (y : Connection). y.wired) v.3 ∙ front-wired side.Far v.0 ∙ was.1,
-      ))
-      (in-at_first (has_number k) (without_front side.Far) before.connections x f.0)
+        ap (λ (y : Connection). y.wired) v.3 ∙ (front-body side.Far v.0).wired ∙ was.1,
+      )) (in-at_first (has_number k) (without_front side.Far) before.connections x f.0)
     where
       intf-same : (i j x y : ℕ) → end.Module i x ≡ end.Module j y → i ≡ j
       intf-same i j x y e = cc
@@ -93,10 +73,7 @@ module _ (before : Bus) (h : Host) (links : Linked before h []) (rise : (c : Con
           (on, ap (λ (z : Connection). z.wired) is ∙ wired)
         where
           by : IsKnown y h.links [] → y.number ≡ w.number
-          by (supervisory one) = absurd (other (sym (links.svc y there one).peer ∙ peer))
-            where
-              other : end.Svc ≡ end.Module i c → ⊥
-              other g = absurd cc
+          by (supervisory one) = absurd (svc-no-module (sym (links.svc y there one).peer ∙ peer))
           by (leaving j) = absurd j
           by (linked t j of) =
               let both = sym of.peer ∙ peer ∙ sym at in
@@ -114,8 +91,7 @@ module _ (before : Bus) (h : Host) (links : Linked before h []) (rise : (c : Con
     where
       speaks : (x : Connection) → x.ap ≡ w.ap → x.peer ≡ w.peer → joins a i c x ≡ true
       speaks x ap_same peer_same =
-          ap (λ n. (n == a) && same_end x.peer (end.Module i c))
-          (ap_same ∙ w_ap ∙ sym between.1)
+          ap (λ n. (n == a) && same_end x.peer (end.Module i c)) (ap_same ∙ w_ap ∙ sym between.1)
           ∙ ap (λ p. (a == a) && same_end p (end.Module i c)) (peer_same ∙ w_peer ∙ at)
           ∙ ap (λ t. t && same_end (end.Module i c) (end.Module i c)) (is-same a)
           ∙ ap (λ t. t && (c == c)) (is-same i) ∙ is-same c
@@ -123,8 +99,7 @@ module _ (before : Bus) (h : Host) (links : Linked before h []) (rise : (c : Con
       by : (o : Option Connection) → joining a i c (popped k side.Far before) ≡ o
           → (x : Connection) × (joining a i c (popped k side.Far before) ≡ Some x)
       by (Some x) e = (x, e)
-      by None e = absurd (⊎_elim
-          (λ old. not-both (joins a i c w) (speaks w refl refl)
+      by None e = absurd (⊎_elim (λ old. not-both (joins a i c w) (speaks w refl refl)
           (find-none (joins a i c) (popped k side.Far before).connections w e old))
           (λ v. let self = front-self side.Far w in
           not-both (joins a i c (without_front side.Far w))
@@ -134,10 +109,10 @@ module _ (before : Bus) (h : Host) (links : Linked before h []) (rise : (c : Con
           (at_first-back (has_number k) (without_front side.Far) before.connections w live))
 
   -- So it isn't wired afterwards.
-  pub gone-unwired : (after : Bus) → IsDestroyed k i1 a i c (popped k side.Far before) after
+  pub gone-unwired : {after : Bus} → IsDestroyed k i1 a i c (popped k side.Far before) after
       → (x : Connection) → connection_of x.number after ≡ Some x → x.number ≡ w.number
       → x.wired ≡ false
-  gone-unwired after (cut item y e is) x there on =
+  gone-unwired {after} (cut item y e is) x there on =
       by (connection_of x.number (replied k side.Ap item (popped k side.Far before))) refl
     where
       off : Connection → Connection
@@ -154,11 +129,7 @@ module _ (before : Bus) (h : Host) (links : Linked before h []) (rise : (c : Con
           → connection_of x.number (replied k side.Ap item (popped k side.Far before)) ≡ o
           → x.wired ≡ false
       by None g = absurd (none-some (sym (after-is ∙ ap (option_map off) g) ∙ there))
-        where
-          none-some : None ≡ Some x → ⊥
-          none-some f = absurd cc
       by (Some z) g = ap (λ (v : Connection). v.wired)
           (same-some x (off z) (sym there ∙ after-is ∙ ap (option_map off) g))
-  gone-unwired after (uncut item none is) x there on =
-      absurd (not-both found.0.wired (joined found.0 found.1).1
-      (none between.0 found.0 found.1))
+  gone-unwired (uncut item none is) x there on =
+      absurd (not-both found.0.wired (joined found.0 found.1).1 (none between.0 found.0 found.1))

@@ -1,61 +1,26 @@
 -- Where a request to destroy a connection doesn't wait any more, that isn't wired: in each state of
 -- a run.
-use Rattle.std.proofs.Common.{
-  ◌≡◌,
-  ◌≢◌,
-  ℕ,
-  Bool,
-  true,
-  false,
-  Some,
-  List,
-  [],
-  ◌++◌,
-  ◌⊎◌,
-  inl,
-  refl,
-  sym,
-  ap,
-  ◌∙◌,
-  ⊎_elim,
-  subst,
-  arith,
-}
-use Rattle.std.specs.Prelude.{Result, Ok}
+use Rattle.std.proofs.Common.{Bool, List, Some, ap, arith, false, inl, refl, subst, sym, true, ℕ}
+use Rattle.std.proofs.Common.{⊎_elim, [], ◌++◌, ◌∙◌, ◌≡◌, ◌≢◌, ◌⊎◌}
+use Rattle.std.specs.Prelude.{Ok, Result}
 use Rattle.gb_base.specs.declared.end.Side.TheVariants as side
 use Rattle.gb_base.specs.declared.entry.Entry.{Entry}
-use Rattle.gb_formats.specs.Records.{PayloadFault}
-use Rattle.gb_formats.specs.SvcRecords.{SvcAsk, read_svc_ask}
-use Rattle.gb_invariants.proofs.Awaiting.{not-both, same-some}
-use Rattle.gb_invariants.proofs.Numbers.{found-by_number}
+use Rattle.gb_formats.specs.{Records.PayloadFault, SvcRecords.SvcAsk, SvcRecords.read_svc_ask}
+use Rattle.gb_machine.proofs.Lists.{nth-within}
+use Rattle.gb_machine.specs.Bus.{Ask, Bus, Connection, Request, request_of}
+use Rattle.gb_machine.specs.Runs.{IsMoment, Moment, after, told_at}
+use Rattle.gb_machine.specs.{Lists.first, Members.IsIn, State.State, SvcQueues.svc_items}
+use Rattle.gb_invariants.proofs.{Awaiting.not-both, Awaiting.same-some, Numbers.found-by_number}
 use Rattle.gb_laws.proofs.Creating.{IsBetween, destroys_one, is_create, is_destroy}
 use Rattle.gb_laws.proofs.Gone.{IsDestroy, destroy-is, gone-unwired}
 use Rattle.gb_laws.proofs.Links.{IsKnown, leaving, linked, supervisory}
-use Rattle.gb_laws.proofs.OwnCreation.{IsCreation}
 use Rattle.gb_laws.proofs.PointParts.{Point, Wires, resting}
-use Rattle.gb_laws.proofs.Points.{Law}
-use Rattle.gb_laws.proofs.Runs.{HoldsByMoments, throughout}
-use Rattle.gb_laws.proofs.ServedDestroy.{destroyed-bus}
-use Rattle.gb_laws.proofs.StaleBase.{StaleBase}
-use Rattle.gb_laws.proofs.Steps.{over-step}
 use Rattle.gb_laws.proofs.StillWaiting.{IsFront, WaitsStill, still-kept, still-start}
-use Rattle.gb_laws.proofs.Unheld.{IsUnheld, unheld-kept}
-use Rattle.gb_laws.proofs.WiredOnceRuns.{
-  IsOwn,
-  WasWired,
-  WiringTo,
-  wiring-over,
-  wiring-start,
-  wiring-throughout,
-  wiring_law,
-}
-use Rattle.gb_machine.proofs.Lists.{nth-within}
-use Rattle.gb_machine.specs.Bus.{Ask, Bus, Connection, Request, request_of}
-use Rattle.gb_machine.specs.Lists.{first}
-use Rattle.gb_machine.specs.Members.{IsIn}
-use Rattle.gb_machine.specs.Runs.{IsMoment, Moment, after, told_at}
-use Rattle.gb_machine.specs.State.{State}
-use Rattle.gb_machine.specs.SvcQueues.{svc_items}
+use Rattle.gb_laws.proofs.WiredOnceRuns.{IsOwn, WasWired, WiringTo, wiring-over, wiring-start}
+use Rattle.gb_laws.proofs.WiredOnceRuns.{wiring-throughout, wiring_law}
+use Rattle.gb_laws.proofs.{OwnCreation.IsCreation, Points.Law, Points.upon, Runs.HoldsByMoments}
+use Rattle.gb_laws.proofs.{Runs.throughout, ServedDestroy.destroyed-bus, StaleBase.StaleBase}
+use Rattle.gb_laws.proofs.{Steps.over-step, Unheld.IsUnheld, Unheld.unheld-kept}
 
 -- Where a request to destroy connection k doesn't wait any more, that isn't wired.
 abbrev pub GoneFit : Bus → List (ℕ × ℕ) → Type 0
@@ -79,17 +44,9 @@ create-apart _ e g = absurd cc
 
 module _ (m : Moment) (start : GoneTo m.told m.before) where
   abbrev pub gone_law : Law m
-  gone_law = record {
-    holds = λ a. ((wiring_law m start.wiring).holds a × IsUnheld a.state) × WaitsStill m a;
-    basis = λ a h. h.0.0.0.0.0.0.basis;
-    kept = λ a x h. (
-      (
-        (wiring_law m start.wiring).kept a x h.0.0,
-        unheld-kept m a x h.0.0.0.0.0.0.links h.0.1,
-      ),
-      still-kept m a x h.0.0.0.0.0.0.basis h.0.0.0.0.0.0.links h.0.0.0.0.0.0.there h.1,
-    );
-  }
+  gone_law = upon (upon (wiring_law m start.wiring) (λ a. IsUnheld a.state)
+      (λ a x g h. unheld-kept m a x g.0.0.0.0.links h)) (WaitsStill m)
+      (λ a x g h. still-kept m a x g.0.0.0.0.0.basis g.0.0.0.0.0.links g.0.0.0.0.0.there h)
 
   -- what is known beneath it
   pub gone-base : (a : Point) → gone_law.holds a → StaleBase m a
@@ -109,8 +66,7 @@ module _ (m : Moment) (start : GoneTo m.told m.before) where
     base : StaleBase m (record (resting (m.told ++ told_at m) (after m)) { wires = over.0 })
     base = over.1.0.0.0.0.0.0
 
-    module _ (n k : ℕ) (r : Request) (other : k ≢ 1)
-        (pair : IsIn (n, k) (after m).past.made_for)
+    module _ (n k : ℕ) (r : Request) (other : k ≢ 1) (pair : IsIn (n, k) (after m).past.made_for)
         (made : request_of n (after m).bus ≡ Some r) (is : destroys_one r ≡ true)
         (out : IsIn (Ask n) (svc_items side.Far (after m).bus) → ⊥) (c : Connection)
         (live : IsIn c (after m).bus.connections) (on : c.number ≡ k) where
@@ -126,21 +82,17 @@ module _ (m : Moment) (start : GoneTo m.told m.before) where
       -- it was made before, and for this connection
       waited : (request_of n m.before.bus ≡ Some r)
           × ((IsIn (Ask n) (svc_items side.Far m.before.bus) → ⊥) ⊎ IsFront m n)
-      waited = ⊎_elim (λ i. absurd (out i)) (λ w. w)
-          (over.1.1 n r made asked.0 asked.1)
+      waited = ⊎_elim (λ i. absurd (out i)) (λ w. w) (over.1.1 n r made asked.0 asked.1)
 
       paired : IsIn (n, k) m.before.past.made_for
-      paired = ⊎_elim (λ o. o)
-          (λ w. let low = nth-within n m.before.bus.requests r waited.0 in
-          let high = w.0 in absurd (omega (arith, low, high)))
-          (base.since.new n k pair)
+      paired = ⊎_elim (λ o. o) (λ w. let low = nth-within n m.before.bus.requests r waited.0 in
+          let high = w.0 in absurd (omega (arith, low, high))) (base.since.new n k pair)
 
       -- it was made behind the one that created the connection
       created : IsCreation m k → (IsIn (Ask n) (svc_items side.Far m.before.bus) → ⊥) → ⊥
       created x none = none (start.wiring.stale.order.later n x.number r waited.0 asked.0 asked.1
           (start.wiring.creates.first x.number n k x.request x.own paired x.made
-          (ap is_create x.creates))
-          (subst (λ xs. IsIn (Ask x.number) xs) (sym x.front) (inl refl)))
+          (ap is_create x.creates)) (subst (λ xs. IsIn (Ask x.number) xs) (sym x.front) (inl refl)))
 
       front-apart : IsCreation m k → IsFront m n → ⊥
       front-apart x f =
@@ -164,16 +116,12 @@ module _ (m : Moment) (start : GoneTo m.told m.before) where
           by (supervisory e) = absurd (other (sym w.number ∙ e))
           by (leaving i) = absurd i
           by (linked l i of) = gone-unwired m.before.bus m.before.host
-              start.wiring.stale.since.links.1
-              (λ x j. found-by_number m.before.bus.connections x
+              start.wiring.stale.since.links.1 (λ x j. found-by_number m.before.bus.connections x
               start.wiring.stale.since.links.0.bus.numbers.rise j)
               w.connection w.live w.wired l i of.number of.ap of.peer f.place.connection.number
-              d.i1 d.a d.i d.c
-              (subst (IsBetween l.ap l.intf l.cport) d.is
-              (start.wiring.creates.ends n l r i
-              (subst (λ j. IsIn (n, j) m.before.past.made_for)
+              d.i1 d.a d.i d.c (subst (IsBetween l.ap l.intf l.cport) d.is
+              (start.wiring.creates.ends n l r i (subst (λ j. IsIn (n, j) m.before.past.made_for)
               (sym w.number ∙ of.number) paired) waited.0))
-              (after m).bus
               (destroyed-bus m start.wiring.stale.since.links.1 start.unheld n f r waited.0 asked.2
               d.i1 d.a d.i d.c d.is) c
               (found-by_number (after m).bus.connections c base.basis.bus.numbers.rise live)
@@ -181,9 +129,7 @@ module _ (m : Moment) (start : GoneTo m.told m.before) where
 
       -- what was wired isn't any more
       still : c.wired ≡ true → c.wired ≡ false
-      still e = ⊎_elim
-          (λ w. ⊎_elim
-          (λ none. absurd (not-both w.connection.wired w.wired
+      still e = ⊎_elim (λ w. ⊎_elim (λ none. absurd (not-both w.connection.wired w.wired
           (start.gone n k r other paired waited.0 is none w.connection w.live w.number)))
           (λ f. served w f) waited.1)
           (λ x. ⊎_elim (λ none. absurd (created x none)) (λ f. absurd (front-apart x f)) waited.1)

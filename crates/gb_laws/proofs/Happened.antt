@@ -1,38 +1,20 @@
 -- What was told, and what happened in it: laws see no line that only says that something is done
 -- or settled.
-use Rattle.std.proofs.Common.{
-  ◌≡◌,
-  ◌≤◌,
-  ℕ,
-  ◌+◌,
-  Bool,
-  true,
-  false,
-  cond,
-  List,
-  [],
-  ◌∷◌,
-  refl,
-  sym,
-  ap,
-  ◌∙◌,
-  subst,
-}
+use Rattle.std.proofs.Common.{Bool, List, ap, cond, false, refl, subst, sym, true, ℕ, [], ◌+◌, ◌∙◌}
+use Rattle.std.proofs.Common.{◌∷◌, ◌≡◌, ◌≤◌}
 use Rattle.std.specs.Prelude.{◌==◌}
-use Rattle.gb_base.specs.declared.entry.ConnState.TheVariants as state
-use Rattle.gb_base.specs.declared.entry.Entry.{Entry}
-use Rattle.gb_base.specs.declared.entry.Entry.TheVariants as entry
-use Rattle.gb_invariants.proofs.Lists.{each-weaker, filter-in, in-filter}
-use Rattle.gb_laws.proofs.AllRuns.{SeesHappenings}
-use Rattle.gb_machine.specs.Bus.{Ask, Bus, Connection, Item, Raw, RawReply, Reply}
 use Rattle.gb_base.specs.declared.end.Side.{Side}
 use Rattle.gb_base.specs.declared.end.Side.TheVariants as side
-use Rattle.gb_machine.specs.Holding.{held_on}
+use Rattle.gb_base.specs.declared.entry.Entry.{Entry}
+use Rattle.gb_base.specs.declared.entry.ConnState.TheVariants as state
+use Rattle.gb_base.specs.declared.entry.Entry.TheVariants as entry
+use Rattle.gb_machine.specs.Bus.{Ask, Bus, Connection, Item, Raw, RawReply, Reply}
 use Rattle.gb_machine.specs.LawsEnds.{EndOnce, EndsTold, is_end_of, is_reply_of}
 use Rattle.gb_machine.specs.LawsHotPlug.{HasOwnItems, HaveOwnItems, IsOwnItem, told_since}
-use Rattle.gb_machine.specs.Members.{IsIn, times}
-use Rattle.gb_machine.specs.Runs.{happenings, is_happening}
-use Rattle.gb_machine.specs.State.{Held, State}
+use Rattle.gb_machine.specs.{Holding.held_on, Members.IsIn, Members.times, Runs.happenings}
+use Rattle.gb_machine.specs.{Runs.is_happening, State.Held, State.State}
+use Rattle.gb_invariants.proofs.Lists.{each-weaker, filter-in, in-filter}
+use Rattle.gb_laws.proofs.AllRuns.{SeesHappenings}
 
 -- ---- members
 

@@ -1,58 +1,17 @@
 -- What a step of the supervisory controller's table makes of power levels.
-use Rattle.std.proofs.Common.{
-  ◌≡◌,
-  ◌≤◌,
-  ℕ,
-  Bool,
-  true,
-  false,
-  cond,
-  Option,
-  Some,
-  None,
-  List,
-  [],
-  ◌∷◌,
-  refl,
-  sym,
-  ap,
-  ◌∙◌,
-  subst,
-  arith,
-}
+use Rattle.std.proofs.Common.{Bool, List, None, Option, Some, ap, arith, cond, false, refl, subst}
+use Rattle.std.proofs.Common.{sym, true, ℕ, [], ◌∙◌, ◌∷◌, ◌≡◌, ◌≤◌}
 use Rattle.std.proofs.lemmas.Bool.Decides.{nat_tests}
-use Rattle.std.specs.Prelude.{Result, Ok, Err, ◌==◌, ◌+◌, ◌||◌, nat_le, nat_lt, not, option_map}
+use Rattle.std.specs.Prelude.{Err, Ok, Result, nat_le, nat_lt, not, option_map, ◌+◌, ◌==◌, ◌||◌}
 use Rattle.gb_formats.specs.Records.{PayloadFault, Row, read_row, row_of, unless_own}
 use Rattle.gb_formats.specs.SvcRecords.{SvcAsk, read_svc_ask, read_svc_ask_of_ap, svc_asks}
-use Rattle.gb_invariants.proofs.Awaiting.{not-both}
-use Rattle.gb_invariants.proofs.Outcomes.{is-same, same-number}
-use Rattle.gb_laws.proofs.LinkLists.{find-changed}
-use Rattle.gb_machine.specs.Host.{is_device}
-use Rattle.gb_machine.specs.Ports.{
-  device_of,
-  is_elsewhere,
-  is_port,
-  is_powered,
-  level_in,
-  level_of,
-  port_of,
-  raised,
-  with_device,
-  with_port,
-}
-use Rattle.gb_machine.specs.State.{Port}
-use Rattle.gb_machine.specs.SvcQueues.{enumerates}
-use Rattle.gb_machine.specs.SvcTable.{
-  SvcStep,
-  climbs,
-  device_given,
-  is_no_device,
-  is_route,
-  svc_asked,
-  svc_read,
-  svc_refuses,
-  svc_step,
-}
+use Rattle.gb_machine.specs.Ports.{device_of, is_elsewhere, is_port, is_powered, level_in, level_of}
+use Rattle.gb_machine.specs.Ports.{port_of, raised, with_device, with_port}
+use Rattle.gb_machine.specs.SvcTable.{SvcStep, climbs, device_given, is_no_device, is_route}
+use Rattle.gb_machine.specs.SvcTable.{svc_asked, svc_read, svc_refuses, svc_step}
+use Rattle.gb_machine.specs.{Host.is_device, State.Port, SvcQueues.enumerates}
+use Rattle.gb_invariants.proofs.{Awaiting.not-both, Found.find-changed, Outcomes.is-same}
+use Rattle.gb_invariants.proofs.{Outcomes.same-number}
 
 -- ---- one interface
 
@@ -95,8 +54,7 @@ pub record StepLevels (j : ℕ) (ask : SvcAsk) (before after : ℕ) : Type 0 whe
   pub same : enumerates j (Ok ask) ≡ false → after ≡ before
   pub low : starts j ask ≡ true → before ≤ 1 → after ≤ 1
 
-stays : (j : ℕ) (ask : SvcAsk) (before after : ℕ) → after ≡ before
-    → StepLevels j ask before after
+stays : (j : ℕ) (ask : SvcAsk) (before after : ℕ) → after ≡ before → StepLevels j ask before after
 stays j ask before after e = record {
   bound = λ h. subst (λ n. n ≤ 6) (sym e) h;
   routed = λ h. e ∙ h;
@@ -144,32 +102,29 @@ climbed j i level ask ports most mine first next = by (j == i) refl
     by false e = stays j ask (level_of j ports) (level_of j (raised i level ports))
         (ap level_in (other-port j i (lifted level) ports (lifted-intf level) e))
     by true e = subst (λ k. StepLevels k ask (level_of k ports) (level_of k (raised i level ports)))
-        (sym (same-number j i e))
-        (subst (λ o. StepLevels i ask (level_of i ports) (level_in o))
-        (sym (same-port i (lifted level) ports (lifted-intf level)))
-        (at (port_of i ports) refl))
+        (sym (same-number j i e)) (subst (λ o. StepLevels i ask (level_of i ports) (level_in o))
+        (sym (same-port i (lifted level) ports (lifted-intf level))) (at (port_of i ports) refl))
 
 -- one of two steps
-one-of : (j : ℕ) (ask : SvcAsk) (ports : List Port) (t : Bool) (x y : SvcStep)
+one-of : {j : ℕ} {ask : SvcAsk} (ports : List Port) (t : Bool) (x y : SvcStep)
     → (t ≡ true → StepLevels j ask (level_of j ports) (level_of j x.ports))
     → (t ≡ false → StepLevels j ask (level_of j ports) (level_of j y.ports))
     → StepLevels j ask (level_of j ports) (level_of j (cond t x y).ports)
-one-of j ask ports true x y h k = h refl
-one-of j ask ports false x y h k = k refl
+one-of ports true x y h k = h refl
+one-of ports false x y h k = k refl
 
 refused : (j : ℕ) (ask : SvcAsk) (ports : List Port)
     → StepLevels j ask (level_of j ports) (level_of j ports)
 refused j ask ports = stays j ask (level_of j ports) (level_of j ports) refl
 
-climbs-levels : (j i level : ℕ) (payload : List ℕ) (ready : Bool) (ask : SvcAsk)
+climbs-levels : (j i level : ℕ) (payload : List ℕ) (ready : Bool) {ask : SvcAsk}
     (ports : List Port) → level ≤ 6 → enumerates i (Ok ask) ≡ true
     → (starts i ask ≡ true → level ≡ 1)
     → (ready ≡ true → starts i ask ≡ false → 1 ≤ level_of i ports)
     → StepLevels j ask (level_of j ports) (level_of j (climbs ready i level payload ports).ports)
-climbs-levels j i level payload ready ask ports most mine first next =
-    one-of j ask ports ready _ (svc_refuses ports _)
-    (λ e. climbed j i level ask ports most mine first (next e))
-    (λ e. refused j ask ports)
+climbs-levels j i level payload ready {ask} ports most mine first next =
+    one-of ports ready _ (svc_refuses ports _)
+    (λ e. climbed j i level ask ports most mine first (next e)) (λ e. refused j ask ports)
 
 abbrev given_device : ℕ → Port → Port
 given_device d p = record p { level = 5; device = Some d }
@@ -179,9 +134,8 @@ given-levels : (j i d : ℕ) (ports : List Port)
     → StepLevels j (SvcAsk.IntfDeviceId i d) (level_of j ports)
     (level_of j (device_given i d ports).ports)
 given-levels j i d ports =
-    one-of j ask ports (nat_lt (level_of i ports) 4) (svc_refuses ports _) _
-    (λ e. refused j ask ports) (λ e.
-    one-of j ask ports (is_no_device i d ports) (svc_refuses ports _) _
+    one-of ports (nat_lt (level_of i ports) 4) (svc_refuses ports _) _
+    (λ e. refused j ask ports) (λ e. one-of ports (is_no_device i d ports) (svc_refuses ports _) _
     (λ f. refused j ask ports) (λ f. by e f (j == i) refl))
   where
     ask : SvcAsk
@@ -210,12 +164,10 @@ given-levels j i d ports =
     }
 
     by : nat_lt (level_of i ports) 4 ≡ false → is_no_device i d ports ≡ false → (t : Bool)
-        → (j == i) ≡ t
-        → StepLevels j (SvcAsk.IntfDeviceId i d) (level_of j ports)
+        → (j == i) ≡ t → StepLevels j (SvcAsk.IntfDeviceId i d) (level_of j ports)
         (level_of j (with_device i d ports))
     by e f false g = stays j (SvcAsk.IntfDeviceId i d) (level_of j ports) _
-        (ap level_in (other-port j i (given_device d) ports
-        (λ p. refl) g))
+        (ap level_in (other-port j i (given_device d) ports (λ p. refl) g))
     by e f true g =
         subst (λ k. StepLevels k (SvcAsk.IntfDeviceId i d) (level_of k ports)
         (level_of k (with_device i d ports))) (sym (same-number j i g))
@@ -242,35 +194,35 @@ at-least k n h = grind (arith, nat_tests, h)
 asked-levels : (j : ℕ) (ports : List Port) (ask : SvcAsk)
     → StepLevels j ask (level_of j ports) (level_of j (svc_asked ports ask).ports)
 asked-levels j ports (SvcAsk.VsysEnable i) =
-    climbs-levels j i 1 _ (is_powered i ports) (SvcAsk.VsysEnable i) ports (omega arith)
+    climbs-levels j i 1 _ (is_powered i ports) ports (omega arith)
     (is-same i) (λ e. refl) (λ r n. absurd (not-both (i == i) (is-same i) n))
 asked-levels j ports (SvcAsk.RefclkEnable i) =
-    climbs-levels j i 2 _ (nat_le 1 (level_of i ports)) (SvcAsk.RefclkEnable i) ports (omega arith)
+    climbs-levels j i 2 _ (nat_le 1 (level_of i ports)) ports (omega arith)
     (is-same i) (λ e. absurd cc) (λ r n. at-least 0 (level_of i ports) r)
 asked-levels j ports (SvcAsk.UniproEnable i) =
-    climbs-levels j i 3 _ (nat_le 2 (level_of i ports)) (SvcAsk.UniproEnable i) ports (omega arith)
+    climbs-levels j i 3 _ (nat_le 2 (level_of i ports)) ports (omega arith)
     (is-same i) (λ e. absurd cc) (λ r n. at-least 1 (level_of i ports) r)
 asked-levels j ports (SvcAsk.IntfActivate i) =
-    climbs-levels j i 4 _ (nat_le 3 (level_of i ports)) (SvcAsk.IntfActivate i) ports (omega arith)
+    climbs-levels j i 4 _ (nat_le 3 (level_of i ports)) ports (omega arith)
     (is-same i) (λ e. absurd cc) (λ r n. at-least 2 (level_of i ports) r)
 asked-levels j ports (SvcAsk.IntfDeviceId i d) = given-levels j i d ports
 asked-levels j ports (SvcAsk.RouteCreate i1 d1 i2 d2) =
-    climbs-levels j i2 6 _ (is_route i1 d1 i2 d2 ports) (SvcAsk.RouteCreate i1 d1 i2 d2) ports
+    climbs-levels j i2 6 _ (is_route i1 d1 i2 d2 ports) ports
     (omega arith) (is-same i2) (λ e. absurd cc) (λ r n. routed-five i1 d1 i2 d2 ports r)
 asked-levels j ports (SvcAsk.ConnCreate i1 c1 i2 c2 tc flags) =
-    one-of j ask ports (not (i1 == 1) || nat_lt (level_of i2 ports) 6) (svc_refuses ports _) _
+    one-of ports (not (i1 == 1) || nat_lt (level_of i2 ports) 6) (svc_refuses ports _) _
     (λ e. refused j ask ports) (λ e. stays j ask (level_of j ports) (level_of j ports) refl)
   where
     ask : SvcAsk
     ask = SvcAsk.ConnCreate i1 c1 i2 c2 tc flags
 asked-levels j ports (SvcAsk.ConnDestroy i1 c1 i2 c2) =
-    one-of j ask ports (i1 == 1) _ (svc_refuses ports _)
+    one-of ports (i1 == 1) _ (svc_refuses ports _)
     (λ e. stays j ask (level_of j ports) (level_of j ports) refl) (λ e. refused j ask ports)
   where
     ask : SvcAsk
     ask = SvcAsk.ConnDestroy i1 c1 i2 c2
 asked-levels j ports (SvcAsk.RouteDestroy i1 i2) =
-    one-of j ask ports (not (i1 == 1) || not (level_of i2 ports == 6)) (svc_refuses ports _) _
+    one-of ports (not (i1 == 1) || not (level_of i2 ports == 6)) (svc_refuses ports _) _
     (λ e. refused j ask ports) (λ e. stays j ask (level_of j ports) (level_of j ports) refl)
   where
     ask : SvcAsk
@@ -297,9 +249,9 @@ ap-reads (Some row) payload made h = by row.own h
     by true h = absurd cc
     by false h = h
 
-pub step-levels : (j : ℕ) (ports : List Port) (kind : ℕ) (payload : List ℕ)
+pub step-levels : (j : ℕ) (ports : List Port) {kind : ℕ} {payload : List ℕ}
     → StepOn j kind payload (level_of j ports) (level_of j (svc_step ports kind payload).ports)
-step-levels j ports kind payload = by (read_svc_ask_of_ap kind payload) refl
+step-levels j ports {kind} {payload} = by (read_svc_ask_of_ap kind payload) refl
   where
     by : (r : Result SvcAsk PayloadFault) → read_svc_ask_of_ap kind payload ≡ r
         → StepOn j kind payload (level_of j ports) (level_of j (svc_read ports r).ports)

@@ -1,98 +1,33 @@
 -- The facts of the application processor's connections go over its acts, and over what it serves.
+use Rattle.std.proofs.Common.{Bool, List, None, Option, Some, ap, cond, false, inl, inr, map, refl}
+use Rattle.std.proofs.Common.{subst, sym, true, ℕ, [], ◌∙◌, ◌∷◌, ◌≡◌}
+use Rattle.std.specs.Prelude.{Err, Ok, Result, ◌==◌}
 use Rattle.gb_base.specs.declared.end.End.TheVariants as end
-use Rattle.std.proofs.Common.{
-  ◌≡◌,
-  ℕ,
-  Bool,
-  true,
-  false,
-  cond,
-  Option,
-  Some,
-  None,
-  List,
-  [],
-  ◌∷◌,
-  map,
-  refl,
-  sym,
-  ap,
-  ◌∙◌,
-  inl,
-  inr,
-  subst,
-}
-use Rattle.std.specs.Prelude.{Result, Ok, Err, ◌==◌}
 use Rattle.gb_base.specs.declared.entry.Entry.{Entry}
 use Rattle.gb_base.specs.declared.peers.Link.{Link}
-use Rattle.gb_base.specs.declared.steps.Purpose.{Purpose}
-use Rattle.gb_base.specs.declared.steps.SequenceStep.{SequenceStep}
+use Rattle.gb_base.specs.declared.steps.{Purpose.Purpose, SequenceStep.SequenceStep}
 use Rattle.gb_base.specs.declared.steps.SequenceStep.TheVariants as steps
-use Rattle.gb_formats.specs.GpioRecords.{GpioAsk, read_gpio_ask_of_module}
-use Rattle.gb_formats.specs.Records.{PayloadFault}
-use Rattle.gb_formats.specs.SvcRecords.{SvcAsk, read_svc_ask_of_svc}
-use Rattle.gb_formats.specs.UartDevice.{credits_added}
-use Rattle.gb_formats.specs.UartRecords.{UartAsk, read_uart_ask_of_module}
-use Rattle.gb_invariants.proofs.Awaiting.{same-some}
-use Rattle.gb_invariants.proofs.Lists.{found-in}
-use Rattle.gb_laws.proofs.Awaited.{awaited-rest}
-use Rattle.gb_laws.proofs.LinkedFrom.{Linked}
-use Rattle.gb_laws.proofs.LinkLists.{link-is}
-use Rattle.gb_laws.proofs.LinkHosts.{
-  Onto,
-  onto-interface,
-  onto-link,
-  onto-same,
-  Stay,
-  host-interface,
-  host-link,
-  stay-changed,
-}
-use Rattle.gb_laws.proofs.LinkFails.{fits-failed, fits-interface_fails, fits-through}
-use Rattle.gb_invariants.proofs.Outcomes.{same-number}
-use Rattle.gb_laws.proofs.Links.{
-  HasNoControl,
-  is_early,
-  HostFits,
-  IsAtStep,
-  IsDue,
-  IsDueBy,
-  IsFollowed,
-  IsKnown,
-  IsMaking,
-  SameLink,
-  TurnFits,
-  connection,
-  control,
-  leaves,
-  leaving,
-  linked,
-  stays,
-  supervisory,
-}
-use Rattle.gb_laws.proofs.Points.{IsAsking, SamePlugs, asking, opening}
-use Rattle.gb_machine.specs.Bus.{Bus, Connection}
+use Rattle.gb_formats.specs.{GpioRecords.GpioAsk, GpioRecords.read_gpio_ask_of_module}
+use Rattle.gb_formats.specs.{Records.PayloadFault, SvcRecords.SvcAsk}
+use Rattle.gb_formats.specs.{SvcRecords.read_svc_ask_of_svc, UartDevice.credits_added}
+use Rattle.gb_formats.specs.{UartRecords.UartAsk, UartRecords.read_uart_ask_of_module}
 use Rattle.gb_machine.specs.Failures.{interface_fails, step_fails, unsent, unsent_fails}
 use Rattle.gb_machine.specs.Host.{Host, is_link, link_at, link_of, with_interface, with_link}
-use Rattle.gb_machine.specs.HostActs.{made_for, with_awaited}
-use Rattle.gb_machine.specs.HostServing.{
-  HostServed,
-  credited,
-  host_refuses,
-  host_serves,
-  interrupted,
-  notified_by,
-  served_on,
-  serves_gpio,
-  serves_uart,
-  uart_notified_by,
-  with_credits,
-}
-use Rattle.gb_machine.specs.Members.{IsIn}
-use Rattle.gb_machine.specs.SequenceSteps.{is_enumeration, is_for_connection}
-use Rattle.gb_machine.specs.State.{State}
+use Rattle.gb_machine.specs.HostServing.{HostServed, credited, host_serves, interrupted}
+use Rattle.gb_machine.specs.HostServing.{notified_by, served_on, uart_notified_by, with_credits}
 use Rattle.gb_machine.specs.Turns.{Act, Asking, Failing, Making, failed_turn}
-use Rattle.gb_machine.specs.Waits.{awaits}
+use Rattle.gb_machine.specs.{Bus.Bus, Bus.Connection, HostActs.made_for, HostActs.with_awaited}
+use Rattle.gb_machine.specs.{Members.IsIn, SequenceSteps.is_enumeration}
+use Rattle.gb_machine.specs.{SequenceSteps.is_for_connection, State.State, Waits.awaits}
+use Rattle.gb_invariants.proofs.{Awaiting.same-some, Lists.found-in, Outcomes.same-number}
+use Rattle.gb_laws.proofs.LinkFails.{fits-failed, fits-interface_fails, fits-through}
+use Rattle.gb_laws.proofs.LinkHosts.{Onto, Stay, awaits-link, credits-link, host-interface}
+use Rattle.gb_laws.proofs.LinkHosts.{host-link, onto-interface, onto-link, onto-same, stay-changed}
+use Rattle.gb_laws.proofs.Links.{HasNoControl, HostFits, IsAtStep, IsDue, IsDueBy, IsFollowed}
+use Rattle.gb_laws.proofs.Links.{IsKnown, IsMaking, SameLink, TurnFits, connection, control}
+use Rattle.gb_laws.proofs.Links.{is_early, leaves, leaving, linked, stays, supervisory}
+use Rattle.gb_laws.proofs.Points.{IsAsking, SamePlugs, asking, opening}
+use Rattle.gb_laws.proofs.{Awaited.awaited-rest, LinkFrom.Linked, LinkLists.link-is}
 
 -- ---- the application processor changes, and its connections stay
 
@@ -109,9 +44,9 @@ known-stay c ls after acts stay (linked l i of) = let s = stay l i in linked s.0
 })
 
 -- at rest
-pub linked-stay : (b : Bus) (h g : Host) → HostFits b g → Stay h.links g.links → Linked b h []
+pub linked-stay : {b : Bus} {h g : Host} → HostFits b g → Stay h.links g.links → Linked b h []
     → Linked b g []
-linked-stay b h g fits stay f = record {
+linked-stay {h} {g} fits stay f = record {
   host = fits;
   pending = tt;
   known = λ c live. known-stay c h.links g.links [] stay (f.known c live);
@@ -139,9 +74,9 @@ linked-last b h x rest none other f = record {
 -- ---- a sequence waits
 
 -- a step's request was made
-pub awaits-fits : (b : Bus) (p : Purpose) (n : ℕ) (h : Host) → HostFits b h → IsDue p.step p h
+pub awaits-fits : {b : Bus} (p : Purpose) (n : ℕ) {h : Host} → HostFits b h → IsDue p.step p h
     → HostFits b (awaits p n h) × Onto h (awaits p n h)
-awaits-fits b p n h fits due = by (is_enumeration p.step) refl due
+awaits-fits {b} p n {h} fits due = by (is_enumeration p.step) refl due
   where
     wait : ℕ × SequenceStep
     wait = (n, p.step)
@@ -152,33 +87,26 @@ awaits-fits b p n h fits due = by (is_enumeration p.step) refl due
         × Onto h (cond t (with_interface p.intf (λ x. record x { awaits = Some (n, p.step) }) h)
         (with_link p.intf p.cport (λ l. record l { awaits = Some (n, p.step) }) h))
     by true e next = (
-      host-interface b p.intf (λ x. record x { awaits = Some (n, p.step) }) h (λ x. refl)
+      host-interface p.intf (λ x. record x { awaits = Some (n, p.step) }) (λ x. refl)
           (λ x i at old w f. (
             ap (λ (y : ℕ × SequenceStep). is_enumeration y.1) (sym (same-some wait w f)) ∙ e,
             λ early. subst (λ k. HasNoControl k h.links) (sym (same-number x.intf p.intf at))
                 (next.none (ap (λ (y : ℕ × SequenceStep). is_early y.1) (same-some wait w f)
                 ∙ early)),
           )) fits,
-      onto-interface h p.intf (λ x. record x { awaits = Some (n, p.step) }) (λ x. refl),
+      onto-interface p.intf (λ x. record x { awaits = Some (n, p.step) }) (λ x. refl),
     )
     by false e idle = (
-      host-link b h p.intf p.cport (λ l. record l { awaits = Some (n, p.step) })
-          (λ l. record { connection = refl; ap = refl; intf = refl; cport = refl; protocol = refl })
+      host-link p.intf p.cport (λ l. record l { awaits = Some (n, p.step) })
+          (awaits-link (Some (n, p.step)))
           (λ l i found old w f. (
             λ z. idle.cport (sym (link-is p.intf p.cport l
                 (found-in (is_link p.intf p.cport) h.links l found).1).1 ∙ z),
             subst (λ (y : ℕ × SequenceStep). IsAtStep y.1 l.state) (same-some wait w f)
                 (idle.state l found),
-          ))
-          (λ l i found d. record { cport = d.cport; takes = d.takes }) fits,
-      onto-link h p.intf p.cport (λ l. record l { awaits = Some (n, p.step) })
-          (λ l. record {
-            connection = refl;
-            ap = refl;
-            intf = refl;
-            cport = refl;
-            protocol = refl;
-          }),
+          )) (λ l i found d. record { cport = d.cport; takes = d.takes }) fits,
+      onto-link p.intf p.cport (λ l. record l { awaits = Some (n, p.step) })
+          (awaits-link (Some (n, p.step))),
     )
 
 pub awaited-host : (p : Purpose) (n : ℕ) (s : State) → (with_awaited p n s).host ≡ awaits p n s.host
@@ -199,13 +127,12 @@ pub linked-asked : (q : Asking) (n : ℕ) (rest : List Act) (s : State)
     → Linked s.bus s.host (Act.Ask q ∷ rest)
     → Linked (with_awaited q.purpose n s).bus (with_awaited q.purpose n s).host rest
 linked-asked q n rest s f =
-    let w = awaits-fits s.bus q.purpose n s.host f.host f.pending.0.0 in
-    let done = linked-stay s.bus s.host (awaits q.purpose n s.host) w.0 w.1.stay
+    let w = awaits-fits q.purpose n f.host f.pending.0.0 in
+    let done = linked-stay w.0 w.1.stay
     (linked-last s.bus s.host (Act.Ask q) rest f.pending.0.1 (λ k e. absurd cc) f) in
     subst (λ r. Linked (with_awaited q.purpose n s).bus (with_awaited q.purpose n s).host r)
-    (sym f.pending.0.1)
-    (subst (λ b. Linked b (with_awaited q.purpose n s).host [])
-    (sym (awaited-rest q.purpose n s).bus)
+    (sym f.pending.0.1) (subst (λ b. Linked b (with_awaited q.purpose n s).host [])
+    (sym (awaited-rest q.purpose n).bus)
     (subst (λ h. Linked s.bus h []) (sym (awaited-host q.purpose n s)) done))
 
 -- ---- a request can't be made
@@ -219,95 +146,92 @@ none-leaves k (e ∷ es) (inr i) = none-leaves k es i
 abbrev pub FailsWell : Bus → Host → Failing → Type 0
 FailsWell b h f = HostFits b f.host × Onto h f.host
 
-failed-well : (b : Bus) (h : Host) (f : Failing) → TurnFits b h (failed_turn f) → FailsWell b h f
-failed-well b h f r = (r.host, record { stay = λ l i. by l (r.followed l i); kept = r.kept })
+failed-well : {b : Bus} {h : Host} (f : Failing) → TurnFits b h (failed_turn f) → FailsWell b h f
+failed-well f r = (r.host, record { stay = λ l i. by l (r.followed l i); kept = r.kept })
   where
     by : (l : Link) → IsFollowed l f.host.links (map Act.Tell f.told) → (k : Link)
         × IsIn k f.host.links × SameLink l k
     by l (stays k i s) = (k, i, s)
     by l (leaves i) = absurd (none-leaves l.connection f.told i)
 
-pub unsent-due : (b : Bus) (step : SequenceStep) (p : Purpose) (h : Host) → HostFits b h
+pub unsent-due : {b : Bus} (step : SequenceStep) (p : Purpose) {h : Host} → HostFits b h
     → IsDue step p h → FailsWell b h (unsent_fails step p h)
-unsent-due b steps.CreateControl p h fits due =
-    failed-well b h (interface_fails p h) (fits-interface_fails b p h fits)
-unsent-due b steps.CreateConnection p h fits due = (fits, onto-same h)
-unsent-due b steps.GiveDevice p h fits due =
+unsent-due steps.CreateControl p {h} fits due =
+    failed-well (interface_fails p h) (fits-interface_fails p fits)
+unsent-due steps.CreateConnection p {h} fits due = (fits, onto-same h)
+unsent-due {b} steps.GiveDevice p {h} fits due =
     let without_device = with_interface p.intf (λ x. record x { device = None }) h in
-    failed-well b h (interface_fails p without_device)
+    failed-well (interface_fails p without_device)
     (fits-through b h without_device (failed_turn (interface_fails p without_device))
-    (onto-interface h p.intf (λ x. record x { device = None }) (λ x. refl))
-    (fits-interface_fails b p without_device
-    (host-interface b p.intf (λ x. record x { device = None }) h (λ x. refl) (λ x i at e w k. e w k)
+    (onto-interface p.intf (λ x. record x { device = None }) (λ x. refl)) (fits-interface_fails p
+    (host-interface p.intf (λ x. record x { device = None }) (λ x. refl) (λ x i at e w k. e w k)
     fits)))
-unsent-due b steps.EnableVsys p h fits due =
-    failed-well b h (step_fails steps.EnableVsys p h) (fits-failed b steps.EnableVsys p h fits due)
-unsent-due b steps.EnableRefclk p h fits due = failed-well b h (step_fails steps.EnableRefclk p h)
-    (fits-failed b steps.EnableRefclk p h fits due)
-unsent-due b steps.EnableUnipro p h fits due = failed-well b h (step_fails steps.EnableUnipro p h)
-    (fits-failed b steps.EnableUnipro p h fits due)
-unsent-due b steps.Activate p h fits due =
-    failed-well b h (step_fails steps.Activate p h) (fits-failed b steps.Activate p h fits due)
-unsent-due b steps.CreateRoute p h fits due = failed-well b h (step_fails steps.CreateRoute p h)
-    (fits-failed b steps.CreateRoute p h fits due)
-unsent-due b steps.AskVersion p h fits due =
-    failed-well b h (step_fails steps.AskVersion p h) (fits-failed b steps.AskVersion p h fits due)
-unsent-due b steps.AskSize p h fits due =
-    failed-well b h (step_fails steps.AskSize p h) (fits-failed b steps.AskSize p h fits due)
-unsent-due b steps.AskManifest p h fits due = failed-well b h (step_fails steps.AskManifest p h)
-    (fits-failed b steps.AskManifest p h fits due)
-unsent-due b steps.TellConnected p h fits due = failed-well b h (step_fails steps.TellConnected p h)
-    (fits-failed b steps.TellConnected p h fits due)
-unsent-due b steps.TellDisconnecting p h fits due = failed-well b h
-    (step_fails steps.TellDisconnecting p h) (fits-failed b steps.TellDisconnecting p h fits due)
-unsent-due b steps.TellDisconnected p h fits due = failed-well b h
-    (step_fails steps.TellDisconnected p h) (fits-failed b steps.TellDisconnected p h fits due)
-unsent-due b steps.DestroyConnection p h fits due = failed-well b h
-    (step_fails steps.DestroyConnection p h) (fits-failed b steps.DestroyConnection p h fits due)
+unsent-due {b} steps.EnableVsys p {h} fits due =
+    failed-well {b = b} {h = h} (step_fails steps.EnableVsys p h)
+    (fits-failed {b = b} steps.EnableVsys p {h = h} fits due)
+unsent-due {b} steps.EnableRefclk p {h} fits due = failed-well {b = b} {h = h}
+    (step_fails steps.EnableRefclk p h) (fits-failed steps.EnableRefclk p fits due)
+unsent-due steps.EnableUnipro p {h} fits due = failed-well (step_fails steps.EnableUnipro p h)
+    (fits-failed steps.EnableUnipro p fits due)
+unsent-due steps.Activate p {h} fits due =
+    failed-well (step_fails steps.Activate p h) (fits-failed steps.Activate p fits due)
+unsent-due steps.CreateRoute p {h} fits due = failed-well (step_fails steps.CreateRoute p h)
+    (fits-failed steps.CreateRoute p fits due)
+unsent-due steps.AskVersion p {h} fits due =
+    failed-well (step_fails steps.AskVersion p h) (fits-failed steps.AskVersion p fits due)
+unsent-due steps.AskSize p {h} fits due =
+    failed-well (step_fails steps.AskSize p h) (fits-failed steps.AskSize p fits due)
+unsent-due steps.AskManifest p {h} fits due = failed-well (step_fails steps.AskManifest p h)
+    (fits-failed steps.AskManifest p fits due)
+unsent-due steps.TellConnected p {h} fits due = failed-well (step_fails steps.TellConnected p h)
+    (fits-failed steps.TellConnected p fits due)
+unsent-due steps.TellDisconnecting p {h} fits due = failed-well
+    (step_fails steps.TellDisconnecting p h) (fits-failed steps.TellDisconnecting p fits due)
+unsent-due steps.TellDisconnected p {h} fits due = failed-well
+    (step_fails steps.TellDisconnected p h) (fits-failed steps.TellDisconnected p fits due)
+unsent-due steps.DestroyConnection p {h} fits due = failed-well
+    (step_fails steps.DestroyConnection p h) (fits-failed steps.DestroyConnection p fits due)
 
-pub unsent-making : (b : Bus) (w : Making) (step : SequenceStep) (p : Purpose) (h : Host)
+pub unsent-making : {b : Bus} (w : Making) {step : SequenceStep} (p : Purpose) {h : Host}
     → HostFits b h → IsMaking w step → FailsWell b h (unsent_fails step p h)
-unsent-making b w step p h fits (control zero_cport) =
-    failed-well b h (interface_fails p h) (fits-interface_fails b p h fits)
-unsent-making b w step p h fits (connection other) = (fits, onto-same h)
+unsent-making w p {h} fits (control zero_cport) =
+    failed-well (interface_fails p h) (fits-interface_fails p fits)
+unsent-making w p {h} fits (connection other) = (fits, onto-same h)
 
-pub linked-unsent : (q : Asking) (rest acts : List Act) (b : Bus) (h : Host) → IsAsking q acts rest
+pub linked-unsent : (q : Asking) {rest acts : List Act} {b : Bus} {h : Host} → IsAsking q acts rest
     → Linked b h acts → Linked b (unsent q.purpose h).host rest
-linked-unsent q rest acts b h (asking is) all =
+linked-unsent q {rest} {b} {h} (asking is) all =
     let f = subst (Linked b h) is all in
-    let w = unsent-due b q.purpose.step q.purpose h f.host f.pending.0.0 in
-    subst (Linked b (unsent q.purpose h).host) (sym f.pending.0.1)
-    (linked-stay b h (unsent q.purpose h).host w.0 w.1.stay
+    let w = unsent-due q.purpose.step q.purpose f.host f.pending.0.0 in
+    subst (Linked b (unsent q.purpose h).host) (sym f.pending.0.1) (linked-stay w.0 w.1.stay
     (linked-last b h (Act.Ask q) rest f.pending.0.1 (λ k e. absurd cc) f))
-linked-unsent q rest acts b h (opening v is) all =
+linked-unsent q {rest} {b} {h} (opening v is) all =
     let f = subst (Linked b h) is all in
-    let w = unsent-making b v q.purpose.step q.purpose h f.host f.pending.0.0.step in
-    subst (Linked b (unsent q.purpose h).host) (sym f.pending.0.1)
-    (linked-stay b h (unsent q.purpose h).host w.0 w.1.stay
+    let w = unsent-making v q.purpose f.host f.pending.0.0.step in
+    subst (Linked b (unsent q.purpose h).host) (sym f.pending.0.1) (linked-stay w.0 w.1.stay
     (linked-last b h (Act.Open v q) rest f.pending.0.1 (λ k e. absurd cc) f))
 
 -- ---- credits
 
 -- the credits of a connection change
-pub linked-link : (i c : ℕ) (credits : Link → ℕ) (b : Bus) (h : Host) → Linked b h []
+pub linked-link : (i c : ℕ) (credits : Link → ℕ) {b : Bus} {h : Host} → Linked b h []
     → Linked b (with_link i c (λ l. record l { credits = credits l }) h) []
-linked-link i c credits b h f =
-    linked-stay b h (with_link i c (λ l. record l { credits = credits l }) h)
-    (host-link b h i c (λ l. record l { credits = credits l })
-    (λ l. record { connection = refl; ap = refl; intf = refl; cport = refl; protocol = refl })
+linked-link i c credits {h} f =
+    linked-stay (host-link i c (λ l. record l { credits = credits l })
+    (λ l. credits-link (credits l) l)
     (λ l j found w v e. w v e) (λ l j found d. record { cport = d.cport; takes = d.takes }) f.host)
     (stay-changed h.links i c (λ l. record l { credits = credits l })
-    (λ l. record { connection = refl; ap = refl; intf = refl; cport = refl; protocol = refl })) f
+    (λ l. credits-link (credits l) l)) f
 
 -- how the application processor is once it served a request: as it was, but for credits
 pub data ServedHost (h : Host) (r : HostServed) : Type 0 where
   as_before : r.host ≡ h → ServedHost h r
   with_more : (i c total : ℕ) → r.host ≡ with_link i c (with_credits total) h → ServedHost h r
 
-host-if : (h : Host) (t : Bool) (x y : HostServed) → ServedHost h x → ServedHost h y
+host-if : (h : Host) (t : Bool) {x y : HostServed} → ServedHost h x → ServedHost h y
     → ServedHost h (cond t x y)
-host-if h true x y p q = p
-host-if h false x y p q = q
+host-if h true p q = p
+host-if h false p q = q
 
 host-svc : (h : Host) (r : Result SvcAsk PayloadFault) → ServedHost h (notified_by r h)
 host-svc h (Err fault) = as_before refl
@@ -329,40 +253,36 @@ host-credits h l (Some total) = with_more l.intf l.cport total refl
 
 host-uart : (h : Host) (l : Link) (r : Result UartAsk PayloadFault)
     → ServedHost h (uart_notified_by l r h)
-host-uart h l (Err fault) = as_before refl
-host-uart h l (Ok (UartAsk.ReceiveData flags bytes)) = as_before refl
-host-uart h l (Ok (UartAsk.SerialState lines)) = as_before refl
 host-uart h l (Ok (UartAsk.ReceiveCredits count)) = host-credits h l (credits_added l.credits count)
-host-uart h l (Ok _) = as_before refl
+host-uart h l _ = as_before refl
 
-pub host-served : (k kind : ℕ) (payload : List ℕ) (h : Host)
+pub host-served : (k kind : ℕ) (payload : List ℕ) {h : Host}
     → ServedHost h (host_serves k kind payload h)
-host-served k kind payload h = by (link_of k h)
+host-served k kind payload {h} = by (link_of k h)
   where
     by : (o : Option Link) → ServedHost h (served_on o kind payload h)
     by None = host-svc h (read_svc_ask_of_svc kind payload)
     by (Some l) =
-        host-if h (l.protocol == 0x02) (serves_gpio l kind payload h) _
-        (host-gpio h l (read_gpio_ask_of_module kind payload))
-        (host-if h (l.protocol == 0x04) (serves_uart l kind payload h) (host_refuses _ h)
+        host-if h (l.protocol == 0x02) (host-gpio h l (read_gpio_ask_of_module kind payload))
+        (host-if h (l.protocol == 0x04)
         (host-uart h l (read_uart_ask_of_module kind payload)) (as_before refl))
 
 -- a request is served
-pub linked-served : (k kind : ℕ) (payload : List ℕ) (b : Bus) (h : Host) → Linked b h []
+pub linked-served : (k kind : ℕ) (payload : List ℕ) {b : Bus} {h : Host} → Linked b h []
     → Linked b (host_serves k kind payload h).host []
-linked-served k kind payload b h f = by (host-served k kind payload h)
+linked-served k kind payload {b} {h} f = by (host-served k kind payload)
   where
     by : ServedHost h (host_serves k kind payload h)
         → Linked b (host_serves k kind payload h).host []
     by (as_before e) = subst (λ g. Linked b g []) (sym e) f
     by (with_more i c total e) =
-        subst (λ g. Linked b g []) (sym e) (linked-link i c (λ l. total) b h f)
+        subst (λ g. Linked b g []) (sym e) (linked-link i c (λ l. total) f)
 
 -- what is plugged stays too
-pub awaited-plugs : (p : Purpose) (n : ℕ) (s : State)
+pub awaited-plugs : (p : Purpose) (n : ℕ) {s : State}
     → SamePlugs s (with_awaited p n s).booted (with_awaited p n s).ports
     (with_awaited p n s).modules
-awaited-plugs p n s = by (is_for_connection p.step) (link_at p.intf p.cport (awaits p n s.host))
+awaited-plugs p n {s} = by (is_for_connection p.step) (link_at p.intf p.cport (awaits p n s.host))
   where
     same : SamePlugs s s.booted s.ports s.modules
     same = record {

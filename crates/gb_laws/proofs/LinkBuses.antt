@@ -1,84 +1,36 @@
 -- The facts of the application processor's connections go over what becomes of the bus.
-use Rattle.std.proofs.Common.{
-  ◌≡◌,
-  ◌≤◌,
-  ℕ,
-  ◌+◌,
-  Bool,
-  true,
-  false,
-  Some,
-  None,
-  List,
-  [],
-  ◌∷◌,
-  ◌++◌,
-  refl,
-  sym,
-  ap,
-  ◌∙◌,
-  inl,
-  inr,
-  ⊎_elim,
-  subst,
-  arith,
-}
-use Rattle.std.specs.Prelude.{◌==◌}
+use Rattle.std.proofs.Common.{Bool, List, None, Some, ap, arith, false, inl, inr, refl, subst, sym}
+use Rattle.std.proofs.Common.{true, ℕ, ⊎_elim, [], ◌++◌, ◌+◌, ◌∙◌, ◌∷◌, ◌≡◌, ◌≤◌}
 use Rattle.std.specs.List.{find}
+use Rattle.std.specs.Prelude.{◌==◌}
 use Rattle.gb_base.specs.declared.end.End.TheVariants as end
 use Rattle.gb_base.specs.declared.entry.ConnState.TheVariants as state
-use Rattle.gb_base.specs.declared.peers.Interface.{Interface}
-use Rattle.gb_base.specs.declared.peers.Link.{Link}
+use Rattle.gb_base.specs.declared.peers.{Interface.Interface, Link.Link}
 use Rattle.gb_base.specs.declared.steps.SequenceStep.{SequenceStep}
 use Rattle.gb_formats.specs.UartDevice.{most_credits}
-use Rattle.gb_invariants.proofs.Awaiting.{not-both}
-use Rattle.gb_invariants.proofs.Lists.{
-  each-from,
-  found-in,
-  in-at_first,
-  in-front,
-  in-pushed,
-  in-without,
-  two-pushed,
-}
-use Rattle.gb_invariants.proofs.Outcomes.{is-same, same-number}
-use Rattle.gb_laws.proofs.LinkLists.{is-link, link-is}
-use Rattle.gb_laws.proofs.Links.{
-  ArePending,
-  HostFits,
-  IsDue,
-  IsFree,
-  IsKnown,
-  IsLinkBefore,
-  IsMaking,
-  IsNumbered,
-  IsPresent,
-  IsWaiting,
-  LinksFit,
-  connection,
-  control,
-  leaving,
-  linked,
-  supervisory,
-}
 use Rattle.gb_machine.specs.Bus.{Bus, Connection, has_number}
 use Rattle.gb_machine.specs.Host.{Host, is_link, with_new_link}
-use Rattle.gb_machine.specs.Lists.{at_first}
-use Rattle.gb_machine.specs.Members.{IsIn}
-use Rattle.gb_machine.specs.SequenceSteps.{asks_control}
 use Rattle.gb_machine.specs.Turns.{Act, Asking, Making}
 use Rattle.gb_machine.specs.Wiring.{attached, detached, new_connection, next_connection}
-pub use Rattle.gb_laws.proofs.LinkedFrom.{Linked}
+use Rattle.gb_machine.specs.{Lists.at_first, Members.IsIn, SequenceSteps.asks_control}
+use Rattle.gb_invariants.proofs.Lists.{each-from, found-in, in-at_first, in-front, in-pushed}
+use Rattle.gb_invariants.proofs.Lists.{in-without, two-pushed}
+use Rattle.gb_invariants.proofs.{Awaiting.none-some, Awaiting.not-both, Outcomes.is-same}
+use Rattle.gb_invariants.proofs.{Outcomes.same-number}
+use Rattle.gb_laws.proofs.Links.{ArePending, HostFits, IsDue, IsFree, IsKnown, IsLinkBefore}
+use Rattle.gb_laws.proofs.Links.{IsMaking, IsNumbered, IsPresent, IsWaiting, LinksFit, connection}
+use Rattle.gb_laws.proofs.Links.{control, leaving, linked, supervisory}
+use Rattle.gb_laws.proofs.LinkLists.{is-link, link-is}
+pub use Rattle.gb_laws.proofs.LinkFrom.{Linked}
 
 -- ---- an act is done
 
-known-rest : (c : Connection) (ls : List Link) (x : Act) (rest : List Act)
-    → (Act.Leave c.number ≡ x → ⊥)
-    → IsKnown c ls (x ∷ rest) → IsKnown c ls rest
-known-rest c ls x rest other (supervisory e) = supervisory e
-known-rest c ls x rest other (linked l i of) = linked l i of
-known-rest c ls x rest other (leaving (inl e)) = absurd (other e)
-known-rest c ls x rest other (leaving (inr i)) = leaving i
+known-rest : (c : Connection) {ls : List Link} (x : Act) {rest : List Act}
+    → (Act.Leave c.number ≡ x → ⊥) → IsKnown c ls (x ∷ rest) → IsKnown c ls rest
+known-rest c x other (supervisory e) = supervisory e
+known-rest c x other (linked l i of) = linked l i of
+known-rest c x other (leaving (inl e)) = absurd (other e)
+known-rest c x other (leaving (inr i)) = leaving i
 
 -- one that gives up no connection
 pub linked-rest : (b : Bus) (h : Host) (x : Act) (rest : List Act) → ((k : ℕ) → Act.Leave k ≡ x → ⊥)
@@ -86,7 +38,7 @@ pub linked-rest : (b : Bus) (h : Host) (x : Act) (rest : List Act) → ((k : ℕ
 linked-rest b h x rest other f = record {
   host = f.host;
   pending = f.pending.1;
-  known = λ c live. known-rest c h.links x rest (other c.number) (f.known c live);
+  known = λ c live. known-rest c x (other c.number) (f.known c live);
   svc = f.svc;
   made = f.made;
 }
@@ -109,7 +61,7 @@ linked-left b h k rest f = record {
   };
   pending = f.pending.1;
   known = λ c live. let w = in-without (has_number k) b.connections c live in
-      known-rest c h.links (Act.Leave k) rest
+      known-rest c (Act.Leave k)
       (λ e. not-both (c.number == k) (ap (λ n. n == k) (same-leave c.number k e) ∙ is-same k) w.1)
       (f.known c w.0);
   svc = λ c live. f.svc c (in-without (has_number k) b.connections c live).0;
@@ -142,14 +94,12 @@ linked-shut b after h k rest made same f = record {
     present = f.host.present;
   };
   pending = f.pending.1;
-  known = λ c live. ⊎_elim (λ o. known-rest c h.links (Act.Shut k) rest (λ e. absurd cc)
-      (f.known c o))
+  known = λ c live. ⊎_elim (λ o. known-rest c (Act.Shut k) (λ e. absurd cc) (f.known c o))
       (λ w. subst (λ x. IsKnown x h.links rest) (sym w.3)
-      (changed w.0 (known-rest w.0 h.links (Act.Shut k) rest (λ e. absurd cc) (f.known w.0 w.1))))
+      (changed w.0 (known-rest w.0 (Act.Shut k) (λ e. absurd cc) (f.known w.0 w.1))))
       (in-at_first (has_number k) (λ (x : Connection). record x { shut = true }) b.connections c
       (subst (λ cs. IsIn c cs) same live));
-  svc = λ c live one. ⊎_elim (λ o. f.svc c o one)
-      (λ w. absurd (let two = f.pending.0.0 in
+  svc = λ c live one. ⊎_elim (λ o. f.svc c o one) (λ w. absurd (let two = f.pending.0.0 in
       omega (arith, two, same-number w.0.number k w.2, one, ap (λ (x : Connection). x.number) w.3)))
       (in-at_first (has_number k) (λ (x : Connection). record x { shut = true }) b.connections c
       (subst (λ cs. IsIn c cs) same live));
@@ -178,21 +128,16 @@ new_link k w = record {
   awaits = None;
 }
 
-no-step : (w : ℕ × SequenceStep) → None ≡ Some w → ⊥
-no-step w f = absurd cc
-
 -- none stays deaf for a connection that is new
 known-more : (c : Connection) (ls : List Link) (l : Link) (x : Act) → (Act.Leave c.number ≡ x → ⊥)
-    → IsKnown c ls (x ∷ [])
-    → (acts : List Act) → IsKnown c (ls ++ l ∷ []) acts
-known-more c ls l x other (supervisory e) acts = supervisory e
-known-more c ls l x other (linked k i of) acts = linked k (in-front k ls (l ∷ []) i) of
-known-more c ls l x other (leaving (inl e)) acts = absurd (other e)
-known-more c ls l x other (leaving (inr i)) acts = absurd i
+    → IsKnown c ls (x ∷ []) → {acts : List Act} → IsKnown c (ls ++ l ∷ []) acts
+known-more c ls l x other (supervisory e) = supervisory e
+known-more c ls l x other (linked k i of) = linked k (in-front k ls (l ∷ []) i) of
+known-more c ls l x other (leaving (inl e)) = absurd (other e)
+known-more c ls l x other (leaving (inr i)) = absurd i
 
 links-more : (b : Bus) (h : Host) (w : Making) (q : Asking) → LinksFit b h.links → IsFree w q h
-    → 1 ≤ b.made
-    → ((c : Connection) → IsIn c b.connections → c.number ≤ b.made)
+    → 1 ≤ b.made → ((c : Connection) → IsIn c b.connections → c.number ≤ b.made)
     → LinksFit (attached w.ap w.intf w.cport w.protocol b)
     (h.links ++ new_link (next_connection b) w ∷ [])
 links-more b h w q f free made range = record {
@@ -202,17 +147,14 @@ links-more b h w q f free made range = record {
         ap = free.ap l i;
         apart = apart l i (is_link l.intf l.cport new) refl;
       }));
-  numbered = λ l i. ⊎_elim
-      (λ o. let n = f.numbered l o in
+  numbered = λ l i. ⊎_elim (λ o. let n = f.numbered l o in
       record {
         from_two = n.from_two;
         given = let g = n.given in omega (arith, g);
-        from_one =
-            n.from_one;
+        from_one = n.from_one;
         within = n.within;
         cport = n.cport;
-      })
-      (λ e. subst (IsNumbered (b.made + 1)) (sym e) (record {
+      }) (λ e. subst (IsNumbered (b.made + 1)) (sym e) (record {
         from_two = omega (arith, made);
         given = omega arith;
         from_one = free.from_one;
@@ -220,9 +162,8 @@ links-more b h w q f free made range = record {
         cport = free.cport_within;
       })) (in-pushed l h.links new i);
   waiting = λ l i. ⊎_elim (λ o. f.waiting l o)
-      (λ e. subst IsWaiting (sym e) (λ v k. absurd (no-step v k))) (in-pushed l h.links new i);
-  deaf = λ l c i live on shut. ⊎_elim
-      (λ o. ⊎_elim (λ a. f.deaf l c a o on shut)
+      (λ e. subst IsWaiting (sym e) (λ v k. absurd (none-some k))) (in-pushed l h.links new i);
+  deaf = λ l c i live on shut. ⊎_elim (λ o. ⊎_elim (λ a. f.deaf l c a o on shut)
       (λ e. let high = range c o in absurd
       (omega (arith, high, on, ap (λ (x : Link). x.connection) e))) (in-pushed l h.links new i))
       (λ e. absurd (not-both c.shut shut (ap (λ (x : Connection). x.shut) e)))
@@ -242,16 +183,14 @@ links-more b h w q f free made range = record {
         (free.at l i))
 
 host-more : (b : Bus) (h : Host) (w : Making) (q : Asking) → HostFits b h → IsFree w q h
-    → 1 ≤ b.made
-    → ((c : Connection) → IsIn c b.connections → c.number ≤ b.made)
+    → 1 ≤ b.made → ((c : Connection) → IsIn c b.connections → c.number ≤ b.made)
     → HostFits (attached w.ap w.intf w.cport w.protocol b)
     (with_new_link (next_connection b) w.ap w.intf w.cport w.protocol h)
 host-more b h w q f free made range = record {
   links = links-more b h w q f.links free made range;
   interfaces = λ x i v e. let old = f.interfaces x i v e in (
     old.0,
-    λ early l j.
-        ⊎_elim (λ o. old.1 early l o) (λ new. ap (is_link x.intf 0) new
+    λ early l j. ⊎_elim (λ o. old.1 early l o) (λ new. ap (is_link x.intf 0) new
         ∙ other x i v e (is_link x.intf 0 (new_link (next_connection b) w)) refl)
         (in-pushed l h.links (new_link (next_connection b) w) j),
   );
@@ -262,20 +201,18 @@ host-more b h w q f free made range = record {
 }
   where
     other : (x : Interface) → IsIn x h.interfaces → (v : ℕ × SequenceStep) → x.awaits ≡ Some v
-        → (t : Bool)
-        → is_link x.intf 0 (new_link (next_connection b) w) ≡ t → t ≡ false
+        → (t : Bool) → is_link x.intf 0 (new_link (next_connection b) w) ≡ t → t ≡ false
     other x i v e false is = refl
     other x i v e true is =
         let at = link-is x.intf 0 (new_link (next_connection b) w) is in
-        absurd (no-step v (sym (free.idle at.1 x i (sym at.0)) ∙ e))
+        absurd (none-some (sym (free.idle at.1 x i (sym at.0)) ∙ e))
 
 -- A connection is made, and its request is pending.
-pub linked-opened : (b : Bus) (h : Host) (w : Making) (q : Asking) (rest : List Act)
+pub linked-opened : {b : Bus} {h : Host} (w : Making) (q : Asking) (rest : List Act)
     → ((c : Connection) → IsIn c b.connections → c.number ≤ b.made)
-    → Linked b h (Act.Open w q ∷ rest)
-    → Linked (attached w.ap w.intf w.cport w.protocol b)
+    → Linked b h (Act.Open w q ∷ rest) → Linked (attached w.ap w.intf w.cport w.protocol b)
     (with_new_link (next_connection b) w.ap w.intf w.cport w.protocol h) (Act.Ask q ∷ rest)
-linked-opened b h w q rest range f = record {
+linked-opened {b} {h} w q rest range f = record {
   host = host-more b h w q f.host free f.made range;
   pending = (
     (
@@ -289,15 +226,12 @@ linked-opened b h w q rest range f = record {
   );
   known = λ c live. ⊎_elim
       (λ o. known-more c h.links (new_link (next_connection b) w) (Act.Open w q) (λ e. absurd cc)
-      (subst (λ r. IsKnown c h.links (Act.Open w q ∷ r)) f.pending.0.1 (f.known c o))
-      (Act.Ask q ∷ rest))
+      (subst (λ r. IsKnown c h.links (Act.Open w q ∷ r)) f.pending.0.1 (f.known c o)))
       (λ e. subst (λ x. IsKnown x (h.links ++ new_link (next_connection b) w ∷ [])
-      (Act.Ask q ∷ rest)) (sym e)
-      (linked (new_link (next_connection b) w) (last h.links)
+      (Act.Ask q ∷ rest)) (sym e) (linked (new_link (next_connection b) w) (last h.links)
       (record { number = refl; ap = refl; peer = refl; protocol = refl })))
       (in-pushed c b.connections new live);
-  svc = λ c live one. ⊎_elim (λ o. f.svc c o one)
-      (λ e. let high = f.made in absurd
+  svc = λ c live one. ⊎_elim (λ o. f.svc c o one) (λ e. let high = f.made in absurd
       (omega (arith, high, one, ap (λ (x : Connection). x.number) e)))
       (in-pushed c b.connections new live);
   made = omega arith;

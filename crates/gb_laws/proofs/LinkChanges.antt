@@ -1,56 +1,85 @@
--- The facts of the application processor's connections are kept by what sending and delivering does
--- to the bus.
-use Rattle.std.proofs.Common.{ℕ, List, refl}
+-- The facts of the application processor's connections go over what becomes of the bus, where no
+-- side is closed, and no connection goes or is made.
+use Rattle.std.proofs.Common.{Bool, List, Some, refl, sym, ℕ, ◌∙◌, ◌≡◌, ◌≢◌}
 use Rattle.gb_base.specs.declared.end.Side.{Side}
 use Rattle.gb_base.specs.declared.outcome.Outcome.{Outcome}
-use Rattle.gb_invariants.proofs.ItemChanges.{asked_on-self}
-use Rattle.gb_invariants.proofs.Labels.{asked_on}
-use Rattle.gb_invariants.proofs.Selves.{front-self, put-self}
-use Rattle.gb_laws.proofs.LinkedFrom.{Linked, from-all, from-first, from-self, linked-from}
-use Rattle.gb_laws.proofs.Speaking.{asked-speaks, front-speaks, put-speaks}
-use Rattle.gb_machine.specs.Bus.{Bus, Item}
-use Rattle.gb_machine.specs.Delivery.{ended, forgotten, popped, replied, without_front}
-use Rattle.gb_machine.specs.Host.{Host}
-use Rattle.gb_machine.specs.Requests.{gave_up}
-use Rattle.gb_machine.specs.Sending.{Draft, put, sent}
-use Rattle.gb_machine.specs.Turns.{Act}
+use Rattle.gb_machine.specs.Bus.{Bus, Connection, Item}
+use Rattle.gb_machine.specs.Delivery.{ended, popped, replied}
+use Rattle.gb_machine.specs.{Host.Host, Members.IsIn, Requests.gave_up, Sending.Draft, Sending.sent}
+use Rattle.gb_machine.specs.{Turns.Act}
+use Rattle.gb_invariants.proofs.BusChanges.{BusChange, Was, bus_after, came, clean_by, ends}
+use Rattle.gb_invariants.proofs.BusChanges.{gives_up, injects, leaves, made_by, number_of, opens}
+use Rattle.gb_invariants.proofs.BusChanges.{puts, sends, shut_by, shuts, stayed, takes, was, went}
+use Rattle.gb_invariants.proofs.Awaiting.{none-some}
+use Rattle.gb_laws.proofs.LinkFrom.{IsFrom, Linked, from-same, linked-from}
+
+-- no side is closed, no connection goes or is made, and the supervisory controller's stays clean
+abbrev pub IsLinkWell : BusChange → Type 0
+IsLinkWell (shuts k) = ⊥
+IsLinkWell (leaves k) = ⊥
+IsLinkWell (opens a i c protocol) = ⊥
+IsLinkWell (injects k bytes) = k ≢ 1
+IsLinkWell _ = Unit {0}
+
+shut-stays : (x : BusChange) → IsLinkWell x → (t : Bool) → shut_by x t ≡ t
+shut-stays (shuts k) well t = absurd well
+shut-stays _ well t = refl
+
+clean-stays : (x : BusChange) → IsLinkWell x → number_of x ≡ 1 → (t : Bool) → clean_by x t ≡ t
+clean-stays (injects k bytes) well one t = absurd (well one)
+clean-stays _ well one t = refl
+
+made-stays : (x : BusChange) (b : Bus) → IsLinkWell x → (bus_after x b).made ≡ b.made
+made-stays (opens a i c protocol) b well = absurd well
+made-stays (sends d label) b well = refl
+made-stays _ b well = refl
+
+none-made : (x : BusChange) (b : Bus) (c : Connection) → IsLinkWell x → made_by x b ≡ Some c → ⊥
+none-made (opens a i p protocol) b c well e = absurd well
+none-made _ b c well e = none-some e
+
+pub linked-after : {b : Bus} {h : Host} {acts : List Act} (x : BusChange) → IsLinkWell x
+    → Linked b h acts → Linked (bus_after x b) h acts
+linked-after {b} {h} {acts} x well f =
+    linked-from b h acts (made-stays x b well) (λ c live. by c (was x b c live)) f
+  where
+    by : (c : Connection) → Was x b c → (d : Connection) × IsIn d b.connections × IsFrom d c
+    by c (stayed o) = (c, o, from-same c)
+    by c (went d o at is g) = (
+      d,
+      o,
+      record {
+        number = g.ends.number;
+        shut = g.shut ∙ shut-stays x well d.shut;
+        ap = g.ends.ap;
+        peer = g.ends.peer;
+        protocol = g.protocol;
+        clean = λ one. g.clean ∙ clean-stays x well (sym at ∙ sym g.ends.number ∙ one) d.clean;
+      },
+    )
+    by c (came e) = absurd (none-made x b c well e)
 
 -- a request is made
 pub linked-sent : {b : Bus} {h : Host} {acts : List Act} (d : Draft) (label : ℕ) → Linked b h acts
     → Linked (sent d label b) h acts
-linked-sent {b} {h} {acts} d label f = linked-from b (sent d label b) h acts refl
-    (from-first b (sent d label b) d.connection (asked_on d label b) refl
-    (λ c i on. from-self c (asked_on d label b c) (asked-speaks d label b c)
-    (asked_on-self d label b c))) f
+linked-sent d label f = linked-after (sends d label) tt f
 
 -- an item is taken
 pub linked-popped : {b : Bus} {h : Host} {acts : List Act} (k : ℕ) (at : Side) → Linked b h acts
     → Linked (popped k at b) h acts
-linked-popped {b} {h} {acts} k at f = linked-from b (popped k at b) h acts refl
-    (from-first b (popped k at b) k (without_front at) refl
-    (λ c i on. from-self c (without_front at c) (front-speaks at c) (front-self at c))) f
+linked-popped k at f = linked-after (takes k at) tt f
 
 -- a reply goes
 pub linked-replied : {b : Bus} {h : Host} {acts : List Act} (k : ℕ) (at : Side) (item : Item)
     → Linked b h acts → Linked (replied k at item b) h acts
-linked-replied {b} {h} {acts} k at item f = linked-from b (replied k at item b) h acts refl
-    (from-first b (replied k at item b) k (put at item) refl
-    (λ c i on. from-self c (put at item c) (put-speaks at item c) (put-self at item c))) f
+linked-replied k at item f = linked-after (puts k at item) tt f
 
 -- a request ends
 pub linked-ended : {b : Bus} {h : Host} {acts : List Act} (n : ℕ) (how : Outcome) → Linked b h acts
     → Linked (ended n how b) h acts
-linked-ended {b} {h} {acts} n how f =
-    linked-from b (ended n how b) h acts refl (from-all b (ended n how b) refl) f
-
--- the answer to a request that was given up came
-pub linked-forgotten : {b : Bus} {h : Host} {acts : List Act} (n : ℕ) → Linked b h acts
-    → Linked (forgotten n b) h acts
-linked-forgotten {b} {h} {acts} n f =
-    linked-from b (forgotten n b) h acts refl (from-all b (forgotten n b) refl) f
+linked-ended n how f = linked-after (ends n how) tt f
 
 -- a request is given up
 pub linked-gave_up : {b : Bus} {h : Host} {acts : List Act} (n : ℕ) (how : Outcome)
     → Linked b h acts → Linked (gave_up n how b) h acts
-linked-gave_up {b} {h} {acts} n how f =
-    linked-from b (gave_up n how b) h acts refl (from-all b (gave_up n how b) refl) f
+linked-gave_up n how f = linked-after (gives_up n how) tt f

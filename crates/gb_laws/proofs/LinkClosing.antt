@@ -1,75 +1,35 @@
 -- The facts of the application processor's connections go over a disconnect.
-use Rattle.std.proofs.Common.{
-  ◌≡◌,
-  ◌≢◌,
-  ℕ,
-  false,
-  Option,
-  Some,
-  None,
-  List,
-  [],
-  ◌∷◌,
-  refl,
-  sym,
-  ap,
-  ◌∙◌,
-  inr,
-  subst,
-}
-use Rattle.std.specs.Prelude.{◌==◌, option_map}
+use Rattle.std.proofs.Common.{List, None, Option, Some, ap, false, inr, refl, subst, sym, ℕ}
+use Rattle.std.proofs.Common.{◌∙◌, ◌∷◌, ◌≡◌, ◌≢◌}
 use Rattle.std.specs.List.{find}
-use Rattle.gb_base.specs.declared.steps.Purpose.{Purpose}
-use Rattle.gb_base.specs.declared.steps.SequenceStep.{SequenceStep}
-use Rattle.gb_base.specs.declared.peers.Link.{Link}
-use Rattle.gb_base.specs.declared.steps.SequenceStep.TheVariants as steps
+use Rattle.std.specs.Prelude.{option_map, ◌==◌}
 use Rattle.gb_base.specs.declared.entry.ConnState.{ConnState}
 use Rattle.gb_base.specs.declared.entry.ConnState.TheVariants as state
-use Rattle.gb_invariants.proofs.Awaiting.{not-both, same-some}
-use Rattle.gb_invariants.proofs.Lists.{found-in}
-use Rattle.gb_laws.proofs.LinkLists.{changed-in, find-changed, link-is, one-link}
-use Rattle.gb_laws.proofs.LinkHosts.{kept-same, host-link, state-link, stay-changed, then-same}
-use Rattle.gb_laws.proofs.LinkSteps.{fits-asked}
-use Rattle.gb_laws.proofs.LinkFails.{followed-same, waits-not}
-use Rattle.gb_laws.proofs.Links.{
-  HostFits,
-  IsAtStep,
-  IsDeaf,
-  IsFollowed,
-  IsIdle,
-  IsWaiting,
-  LinksFit,
-  SameLink,
-  TurnFits,
-  leaves,
-  stays,
-}
+use Rattle.gb_base.specs.declared.peers.Link.{Link}
+use Rattle.gb_base.specs.declared.steps.{Purpose.Purpose, SequenceStep.SequenceStep}
+use Rattle.gb_base.specs.declared.steps.SequenceStep.TheVariants as steps
 use Rattle.gb_machine.proofs.Conditions.{AreUnmet}
-use Rattle.gb_machine.specs.Bus.{Bus}
-use Rattle.gb_machine.specs.Failures.{link_told}
 use Rattle.gb_machine.specs.Host.{Host, in_state, is_link, link_at, with_link}
-use Rattle.gb_machine.specs.HostRefusals.{
-  disconnect_conditions,
-  is_closing,
-  is_failed,
-  is_unopened,
-  link_conditions,
-}
-use Rattle.gb_machine.specs.HostTurns.{disconnects, host_disconnects}
-use Rattle.gb_machine.specs.Members.{IsIn}
-use Rattle.gb_machine.specs.SequenceSteps.{purpose}
+use Rattle.gb_machine.specs.HostRefusals.{disconnect_conditions, is_closing, is_failed, is_unopened}
+use Rattle.gb_machine.specs.HostRefusals.{link_conditions}
 use Rattle.gb_machine.specs.Sequences.{asked_on, step_asked, way_of}
-use Rattle.gb_machine.specs.Turns.{Act}
+use Rattle.gb_machine.specs.{Bus.Bus, Failures.link_told, HostTurns.disconnects}
+use Rattle.gb_machine.specs.{HostTurns.host_disconnects, Members.IsIn, SequenceSteps.purpose}
+use Rattle.gb_machine.specs.{Turns.Act}
+use Rattle.gb_invariants.proofs.{Awaiting.not-both, Awaiting.same-some, Found.changed-in}
+use Rattle.gb_invariants.proofs.{Found.find-changed, Lists.found-in}
+use Rattle.gb_laws.proofs.LinkHosts.{host-link, kept-same, state-link, stay-changed, then-same}
+use Rattle.gb_laws.proofs.Links.{HostFits, IsAtStep, IsDeaf, IsFollowed, IsIdle, IsWaiting}
+use Rattle.gb_laws.proofs.Links.{LinksFit, SameLink, TurnFits, leaves, stays}
+use Rattle.gb_laws.proofs.{LinkFails.followed-same, LinkFails.waits-not, LinkLists.link-is}
+use Rattle.gb_laws.proofs.{LinkLists.one-link, LinkSteps.fits-asked}
 
 -- ---- disconnect
 
 open-state : (s : ConnState) → is_unopened s ≡ false → is_closing s ≡ false → is_failed s ≡ false
     → s ≡ state.Open
 open-state state.Open h k f = refl
-open-state state.Opening h k f = absurd cc
-open-state state.Closing h k f = absurd cc
-open-state state.Closed h k f = absurd cc
-open-state state.Failed h k f = absurd cc
+open-state _ h k f = absurd cc
 
 none-open : (step : SequenceStep) → IsAtStep step state.Open → ⊥
 none-open steps.CreateConnection h = absurd cc
@@ -77,16 +37,7 @@ none-open steps.TellConnected h = absurd cc
 none-open steps.TellDisconnecting h = absurd cc
 none-open steps.TellDisconnected h = absurd cc
 none-open steps.DestroyConnection h = absurd cc
-none-open steps.EnableVsys h = h
-none-open steps.EnableRefclk h = h
-none-open steps.EnableUnipro h = h
-none-open steps.Activate h = h
-none-open steps.GiveDevice h = h
-none-open steps.CreateRoute h = h
-none-open steps.CreateControl h = h
-none-open steps.AskVersion h = h
-none-open steps.AskSize h = h
-none-open steps.AskManifest h = h
+none-open _ h = h
 
 -- an open connection waits for nothing
 open-idle : (l : Link) → IsWaiting l → l.state ≡ state.Open → l.awaits ≡ None
@@ -97,10 +48,9 @@ open-idle l waits is = by l.awaits refl
     by (Some w) e = absurd (none-open w.1 (subst (IsAtStep w.1) is (waits w e).1))
 
 -- what has the number of a connection where nothing is taken is that
-one-deaf : (b : Bus) (ls : List Link) (x : Link) (k : ℕ) → LinksFit b ls → IsIn x ls
-    → x.connection ≡ k → IsDeaf x
-    → (l : Link) → IsIn l ls → l.connection ≡ k → IsDeaf l
-one-deaf b ls x k fits i on deaf l j e =
+one-deaf : (b : Bus) (ls : List Link) {x : Link} (k : ℕ) → LinksFit b ls → IsIn x ls
+    → x.connection ≡ k → IsDeaf x → (l : Link) → IsIn l ls → l.connection ≡ k → IsDeaf l
+one-deaf b ls {x} k fits i on deaf l j e =
     subst IsDeaf (one-link ls x l fits.rise i j (on ∙ sym e)) deaf
 
 -- where a connection is closing
@@ -116,8 +66,7 @@ fits-closing b i c h l fits other e idle = record {
   pending = (
     (
       (fits.links.numbered l (found-in (is_link i c) h.links l e).0).from_two,
-      deaf
-          (way_of p g) asked.host.links,
+      deaf (way_of p g) asked.host.links,
     ),
     (tt, asked.pending),
   );
@@ -137,7 +86,7 @@ fits-closing b i c h l fits other e idle = record {
     is-it y f = same-some l y (sym e ∙ f)
 
     now : HostFits b (with_link i c (in_state state.Closing) h)
-    now = host-link b h i c (in_state state.Closing) (state-link state.Closing)
+    now = host-link i c (in_state state.Closing) (state-link state.Closing)
         (λ y j f w. waits-not (in_state state.Closing y)
         (ap (λ (x : Link). x.awaits) (sym (same-some l y (sym e ∙ f))) ∙ idle))
         (λ y j f d. record { cport = d.cport; takes = refl }) fits
@@ -160,7 +109,7 @@ fits-closing b i c h l fits other e idle = record {
     asked : TurnFits b (with_link i c (in_state state.Closing) h)
         (step_asked (purpose i c steps.TellDisconnecting)
         (with_link i c (in_state state.Closing) h))
-    asked = fits-asked b p g now due (λ e. absurd cc)
+    asked = fits-asked p now due (λ e. absurd cc)
 
     cport : l.cport ≢ 0
     cport = λ z. other (sym (link-is i c l (found-in (is_link i c) h.links l e).1).1 ∙ z)
@@ -168,11 +117,11 @@ fits-closing b i c h l fits other e idle = record {
     deaf : (o : Option ℕ) → LinksFit b (asked_on o p g).host.links
         → (k : Link) → IsIn k (asked_on o p g).host.links → k.connection ≡ l.connection → IsDeaf k
     deaf None at =
-        one-deaf b _ (in_state state.Failed (in_state state.Closing l)) l.connection at
+        one-deaf b _ l.connection at
         (changed-in (is_link i c) (in_state state.Failed) g.links (in_state state.Closing l) found)
         refl (record { cport = cport; takes = refl })
     deaf (Some k) at =
-        one-deaf b _ (in_state state.Closing l) l.connection at
+        one-deaf b _ l.connection at
         (changed-in (is_link i c) (in_state state.Closing) h.links l e) refl
         (record { cport = cport; takes = refl })
 
@@ -180,7 +129,7 @@ fits-closing b i c h l fits other e idle = record {
         → IsFollowed j (step_asked p g).host.links (step_asked p g).acts
         → IsFollowed k (step_asked p g).host.links
         (Act.Shut l.connection ∷ Act.Tell (link_told state.Closing l) ∷ (step_asked p g).acts)
-    behind k j same (stays x m s) = stays x m (then-same k j x same s)
+    behind k j same (stays x m s) = stays x m (then-same x same s)
     behind k j same (leaves m) =
         leaves (inr (inr (subst (λ n. IsIn (Act.Leave n) (step_asked p g).acts) same.connection m)))
 
@@ -197,9 +146,8 @@ fits-disconnects b i c h fits met = by (link_at i c h) refl met.1.1
     by None e may = record {
       host = fits;
       pending = tt;
-      followed = followed-same h.links [];
-      kept =
-          kept-same h.interfaces;
+      followed = followed-same;
+      kept = kept-same h.interfaces;
     }
     by (Some l) e may =
         let waits = fits.links.waiting l (found-in (is_link i c) h.links l e).0 in

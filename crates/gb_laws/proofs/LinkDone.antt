@@ -1,51 +1,22 @@
 -- The facts of the application processor's connections hold at rest again once the acts of a turn
 -- are done.
-use Rattle.std.proofs.Common.{
-  ◌≤◌,
-  ℕ,
-  Option,
-  Some,
-  None,
-  List,
-  [],
-  ◌∷◌,
-  refl,
-  inl,
-  inr,
-  subst,
-  arith,
-}
+use Rattle.std.proofs.Common.{List, None, Option, Some, arith, inl, inr, refl, subst, ℕ, [], ◌∷◌}
+use Rattle.std.proofs.Common.{◌≤◌}
 use Rattle.gb_base.specs.declared.end.Side.TheVariants as side
 use Rattle.gb_base.specs.declared.outcome.Outcome.{Outcome}
-use Rattle.gb_laws.proofs.LinkActs.{linked-asked, linked-unsent}
-use Rattle.gb_laws.proofs.LinkBuses.{linked-left, linked-opened, linked-rest, linked-shut}
-use Rattle.gb_laws.proofs.LinkedFrom.{Linked}
-use Rattle.gb_laws.proofs.LinkChanges.{linked-gave_up, linked-sent}
-use Rattle.gb_laws.proofs.Links.{IsKnown, leaving, linked, supervisory}
-use Rattle.gb_laws.proofs.Points.{asking, opening}
-use Rattle.gb_laws.proofs.Turned.{TurnsTo, turned-ended}
 use Rattle.gb_machine.proofs.Opened.{machine_opened}
-use Rattle.gb_machine.specs.Actions.{each, given}
-use Rattle.gb_machine.specs.Asking.{asks, asks_with}
 use Rattle.gb_machine.specs.Bus.{Connection, connection_of, next_number}
-use Rattle.gb_machine.specs.HostActs.{
-  acts,
-  asked_with,
-  follows,
-  host_asks,
-  host_draft,
-  notices,
-  opened_with,
-  with_made,
-}
-use Rattle.gb_machine.specs.GivingUp.{gives_up}
-use Rattle.gb_machine.specs.HostTurns.{host_turn}
-use Rattle.gb_machine.specs.Labels.{next_label}
-use Rattle.gb_machine.specs.Members.{IsIn}
-use Rattle.gb_machine.specs.Requests.{gave_up}
-use Rattle.gb_machine.specs.State.{State}
+use Rattle.gb_machine.specs.HostActs.{acts, asked_with, follows, host_asks, host_draft, notices}
+use Rattle.gb_machine.specs.HostActs.{opened_with, with_made}
 use Rattle.gb_machine.specs.Turns.{Act, Asking, HostEvent, Making}
-use Rattle.gb_machine.specs.Wiring.{shut_down}
+use Rattle.gb_machine.specs.{Actions.each, Actions.given, Asking.asks, Asking.asks_with}
+use Rattle.gb_machine.specs.{GivingUp.gives_up, HostTurns.host_turn, Labels.next_label}
+use Rattle.gb_machine.specs.{Members.IsIn, Requests.gave_up, State.State, Wiring.shut_down}
+use Rattle.gb_laws.proofs.LinkBuses.{linked-left, linked-opened, linked-rest, linked-shut}
+use Rattle.gb_laws.proofs.Links.{IsKnown, leaving, linked, supervisory}
+use Rattle.gb_laws.proofs.{LinkActs.linked-asked, LinkActs.linked-unsent}
+use Rattle.gb_laws.proofs.{LinkChanges.linked-gave_up, LinkChanges.linked-sent, LinkFrom.Linked}
+use Rattle.gb_laws.proofs.{Points.asking, Points.opening, Turned.TurnsTo, Turned.turned-ended}
 
 -- the facts of connections in a state, with the acts that are pending
 abbrev pub LinkedIn : State → List Act → Type 0
@@ -57,8 +28,7 @@ linked-asks : (q : Asking) (s : State) (pending : List Act) → LinkedIn s pendi
 unfolding machine_opened
 linked-asks q s pending f = by (connection_of q.on s.bus) (next_label q.on side.Ap s.bus)
   where
-    by : (o : Option Connection) (l : Option ℕ)
-        → LinkedIn (given o
+    by : (o : Option Connection) (l : Option ℕ) → LinkedIn (given o
         (λ c. given l (λ label. asks_with (host_draft q s.now) c label)) s).state pending
     by None l = f
     by (Some c) None = f
@@ -69,9 +39,8 @@ linked-ask : (q : Asking) (rest : List Act) (s : State) → LinkedIn s (Act.Ask 
 unfolding machine_opened
 linked-ask q rest s f = by (next_label q.on side.Ap s.bus)
   where
-    by : (o : Option ℕ)
-        → LinkedIn (asked_with o q s).state rest
-    by None = linked-unsent q rest (Act.Ask q ∷ rest) s.bus s.host (asking refl) f
+    by : (o : Option ℕ) → LinkedIn (asked_with o q s).state rest
+    by None = linked-unsent q (asking refl) f
     by (Some label) = linked-asked q (next_number s.bus) rest (asks (host_draft q s.now) s).state
         (linked-asks q s (Act.Ask q ∷ rest) f)
 
@@ -90,16 +59,14 @@ given-numbers w q rest s f c live =
     by (leaving (inr i)) = absurd i
 
 linked-open : (w : Making) (q : Asking) (rest : List Act) (s : State)
-    → LinkedIn s (Act.Open w q ∷ rest)
-    → LinkedIn (acts (Act.Open w q) s).state rest
+    → LinkedIn s (Act.Open w q ∷ rest) → LinkedIn (acts (Act.Open w q) s).state rest
 unfolding machine_opened
 linked-open w q rest s f = by (next_label q.on side.Ap s.bus)
   where
-    by : (o : Option ℕ)
-        → LinkedIn (opened_with o w q s).state rest
-    by None = linked-unsent q rest (Act.Open w q ∷ rest) s.bus s.host (opening w refl) f
+    by : (o : Option ℕ) → LinkedIn (opened_with o w q s).state rest
+    by None = linked-unsent q (opening w refl) f
     by (Some label) = linked-ask q rest (with_made w s)
-        (linked-opened s.bus s.host w q rest (given-numbers w q rest s f) f)
+        (linked-opened w q rest (given-numbers w q rest s f) f)
 
 -- An act is done.
 pub linked-act : (x : Act) (rest : List Act) (s : State) → LinkedIn s (x ∷ rest)
@@ -114,8 +81,7 @@ linked-act (Act.Tell e) rest s f =
     linked-rest s.bus s.host (Act.Tell e) rest (λ k g. absurd cc) f
 
 -- All are.
-pub linked-acts : (xs : List Act) (s : State) → LinkedIn s xs
-    → LinkedIn (each xs acts s).state []
+pub linked-acts : (xs : List Act) (s : State) → LinkedIn s xs → LinkedIn (each xs acts s).state []
 unfolding machine_opened
 linked-acts [] s f = f
 linked-acts (x ∷ rest) s f = linked-acts rest (acts x s).state (linked-act x rest s f)
@@ -139,11 +105,3 @@ pub linked-gives_up : (how : Outcome) (n : ℕ) (s : State) → LinkedIn s []
 unfolding machine_opened
 linked-gives_up how n s f =
     linked-follows n how (record s { bus = gave_up n how s.bus }) (linked-gave_up n how f)
-
--- Also where each of some is.
-pub linked-gives_up_all : (how : Outcome) (ns : List ℕ) (s : State) → LinkedIn s []
-    → LinkedIn (each ns (gives_up how) s).state []
-unfolding machine_opened
-linked-gives_up_all how [] s f = f
-linked-gives_up_all how (n ∷ ns) s f =
-    linked-gives_up_all how ns (gives_up how n s).state (linked-gives_up how n s f)

@@ -1,77 +1,34 @@
 -- The facts of the application processor's connections go over the end of a request.
-use Rattle.std.proofs.Common.{
-  ◌≡◌,
-  ◌≢◌,
-  ℕ,
-  Bool,
-  true,
-  false,
-  cond,
-  Option,
-  Some,
-  None,
-  List,
-  [],
-  ◌∷◌,
-  refl,
-  sym,
-  ap,
-  ◌∙◌,
-  inl,
-  inr,
-  subst,
-}
-use Rattle.std.specs.Prelude.{◌==◌, option_map}
+use Rattle.std.proofs.Common.{Bool, List, None, Option, Some, ap, cond, false, inl, inr, refl}
+use Rattle.std.proofs.Common.{subst, sym, true, ℕ, [], ◌∙◌, ◌∷◌, ◌≡◌, ◌≢◌}
 use Rattle.std.specs.List.{find}
-use Rattle.gb_base.specs.declared.steps.Purpose.{Purpose}
-use Rattle.gb_base.specs.declared.steps.SequenceStep.{SequenceStep}
-use Rattle.gb_base.specs.declared.peers.Interface.{Interface}
-use Rattle.gb_base.specs.declared.peers.Link.{Link}
-use Rattle.gb_base.specs.declared.steps.SequenceStep.TheVariants as steps
+use Rattle.std.specs.Prelude.{option_map, ◌==◌}
 use Rattle.gb_base.specs.declared.entry.ConnState.{ConnState}
 use Rattle.gb_base.specs.declared.outcome.Outcome.{Outcome}
-use Rattle.gb_invariants.proofs.Awaiting.{same-some}
-use Rattle.gb_laws.proofs.LinkLists.{find-changed, found-at, in-only}
-use Rattle.gb_laws.proofs.LinkHosts.{
-  Onto,
-  kept-same,
-  onto-interface,
-  onto-link,
-  present-changed,
-  host-interface,
-  host-link,
-}
-use Rattle.gb_laws.proofs.LinkSteps.{fits-answered}
-use Rattle.gb_laws.proofs.LinkFails.{fits-through, followed-same, waits-not}
-use Rattle.gb_laws.proofs.Links.{
-  HasNoControl,
-  HostFits,
-  IsAtStep,
-  IsDue,
-  IsDueBy,
-  SameLink,
-  TurnFits,
-  is_early,
-}
-use Rattle.gb_machine.specs.Bus.{Bus, or_else}
-use Rattle.gb_machine.specs.Host.{with_interface, Host, is_link, with_link}
-use Rattle.gb_machine.specs.HostTurns.{ended_for, host_ended}
-use Rattle.gb_machine.specs.Lists.{at_first}
-use Rattle.gb_machine.specs.Members.{IsIn}
-use Rattle.gb_machine.specs.SequenceSteps.{is_enumeration, purpose}
-use Rattle.gb_machine.specs.Sequences.{payload_in}
+use Rattle.gb_base.specs.declared.peers.{Interface.Interface, Link.Link}
+use Rattle.gb_base.specs.declared.steps.{Purpose.Purpose, SequenceStep.SequenceStep}
+use Rattle.gb_base.specs.declared.steps.SequenceStep.TheVariants as steps
+use Rattle.gb_machine.specs.Host.{Host, is_link, with_interface, with_link}
 use Rattle.gb_machine.specs.Waits.{awaited, awaits_nothing, interface_waits, link_waits, purpose_in}
+use Rattle.gb_machine.specs.{Bus.Bus, Bus.or_else, HostTurns.ended_for, HostTurns.host_ended}
+use Rattle.gb_machine.specs.{Lists.at_first, Members.IsIn, SequenceSteps.is_enumeration}
+use Rattle.gb_machine.specs.{SequenceSteps.purpose, Sequences.payload_in}
+use Rattle.gb_invariants.proofs.{Awaiting.none-some, Awaiting.same-some, Found.find-changed}
+use Rattle.gb_laws.proofs.LinkFails.{fits-through, followed-same, waits-not}
+use Rattle.gb_laws.proofs.LinkHosts.{Onto, awaits-link, host-interface, host-link, kept-same}
+use Rattle.gb_laws.proofs.LinkHosts.{onto-interface, onto-link, present-changed}
+use Rattle.gb_laws.proofs.Links.{HasNoControl, HostFits, IsAtStep, IsDue, IsDueBy, TurnFits}
+use Rattle.gb_laws.proofs.Links.{is_early}
+use Rattle.gb_laws.proofs.{LinkLists.found-at, LinkLists.in-only, LinkSteps.fits-answered}
 
 -- ---- a request ended
 
 -- a step that waits, from an interface or from a connection
 pub data WaitsFor (h : Host) (p : Purpose) : Type 0 where
   enumerating : (x : Interface) → IsIn x h.interfaces → p.intf ≡ x.intf → p.cport ≡ 0
-      → (w : ℕ × SequenceStep) → x.awaits ≡ Some w
-      → p.step ≡ w.1 → WaitsFor h p
+      → (w : ℕ × SequenceStep) → x.awaits ≡ Some w → p.step ≡ w.1 → WaitsFor h p
   connecting : (l : Link) → IsIn l h.links → p.intf ≡ l.intf → p.cport ≡ l.cport
-      → (w : ℕ × SequenceStep) → l.awaits ≡ Some w
-      → p.step ≡ w.1 → WaitsFor h p
+      → (w : ℕ × SequenceStep) → l.awaits ≡ Some w → p.step ≡ w.1 → WaitsFor h p
 
 purpose-is : (n i c : ℕ) (o : Option (ℕ × SequenceStep)) (p : Purpose) → purpose_in n i c o ≡ Some p
     → (w : ℕ × SequenceStep) × (o ≡ Some w) × (purpose i c w.1 ≡ p)
@@ -162,16 +119,7 @@ step-connects steps.TellConnected s h = refl
 step-connects steps.TellDisconnecting s h = refl
 step-connects steps.TellDisconnected s h = refl
 step-connects steps.DestroyConnection s h = refl
-step-connects steps.EnableVsys s h = absurd h
-step-connects steps.EnableRefclk s h = absurd h
-step-connects steps.EnableUnipro s h = absurd h
-step-connects steps.Activate s h = absurd h
-step-connects steps.GiveDevice s h = absurd h
-step-connects steps.CreateRoute s h = absurd h
-step-connects steps.CreateControl s h = absurd h
-step-connects steps.AskVersion s h = absurd h
-step-connects steps.AskSize s h = absurd h
-step-connects steps.AskManifest s h = absurd h
+step-connects _ s h = absurd h
 
 -- What is known once a sequence waits no more for a request that ended.
 pub record Resumed (b : Bus) (p : Purpose) (h g : Host) : Type 0 where
@@ -179,22 +127,16 @@ pub record Resumed (b : Bus) (p : Purpose) (h g : Host) : Type 0 where
   pub due : IsDue p.step p g
   pub onto : Onto h g
 
-pub no-wait : (w : ℕ × SequenceStep) → None ≡ Some w → ⊥
-no-wait w f = absurd cc
-
 abbrev idle_link : Link → Link
 idle_link l = record l { awaits = None }
-
-same-idle : (l : Link) → SameLink l (record l { awaits = None })
-same-idle l = record { connection = refl; ap = refl; intf = refl; cport = refl; protocol = refl }
 
 resumed-interface : (b : Bus) (p : Purpose) (h : Host) → HostFits b h → (x : Interface)
     → IsIn x h.interfaces → p.intf ≡ x.intf → p.cport ≡ 0
     → is_enumeration p.step ≡ true → (is_early p.step ≡ true → HasNoControl x.intf h.links)
     → Resumed b p h (with_interface p.intf (λ y. record y { awaits = None }) h)
 resumed-interface b p h fits x i at zero_cport is none = record {
-  host = host-interface b p.intf (λ y. record y { awaits = None }) h (λ y. refl)
-      (λ y j e old w f. absurd (no-wait w f)) fits;
+  host = host-interface p.intf (λ y. record y { awaits = None }) (λ y. refl)
+      (λ y j e old w f. absurd (none-some f)) fits;
   due = subst (λ t. IsDueBy t p.step p (with_interface p.intf (λ y. record y { awaits = None }) h))
       (sym is) (record {
         cport = zero_cport;
@@ -202,18 +144,17 @@ resumed-interface b p h fits x i at zero_cport is none = record {
         idle = λ y j e. ap (λ (z : Interface). z.awaits)
             (in-only p.intf (λ z. record z { awaits = None }) h.interfaces y fits.differ j e).2;
         present =
-            present-changed p.intf p.intf (λ y. record y { awaits = None }) h.interfaces (λ y. refl)
+            present-changed p.intf (λ y. record y { awaits = None }) (λ y. refl)
             (record { interface = x; known = i; is = sym at });
       });
-  onto = onto-interface h p.intf (λ y. record y { awaits = None }) (λ y. refl);
+  onto = onto-interface p.intf (λ y. record y { awaits = None }) (λ y. refl);
 }
 
 resumed-link : (b : Bus) (p : Purpose) (h : Host) → HostFits b h → (l : Link) → IsIn l h.links
-    → p.intf ≡ l.intf → p.cport ≡ l.cport
-    → (l.cport ≢ 0) → IsAtStep p.step l.state
+    → p.intf ≡ l.intf → p.cport ≡ l.cport → (l.cport ≢ 0) → IsAtStep p.step l.state
     → Resumed b p h (with_link p.intf p.cport (λ k. record k { awaits = None }) h)
 resumed-link b p h fits l i intf cport other at = record {
-  host = host-link b h p.intf p.cport (λ k. record k { awaits = None }) same-idle
+  host = host-link p.intf p.cport (λ k. record k { awaits = None }) (awaits-link None)
       (λ k j f v. waits-not (record k { awaits = None }) refl)
       (λ k j f d. record { cport = d.cport; takes = d.takes }) fits;
   due = subst (λ t. IsDueBy t p.step p
@@ -223,7 +164,7 @@ resumed-link b p h fits l i intf cport other at = record {
         idle = λ y f. ap (λ (x : Link). x.awaits) (sym (is-it y f));
         state = λ y f. subst (λ (x : Link). IsAtStep p.step x.state) (is-it y f) at;
       });
-  onto = onto-link h p.intf p.cport (λ k. record k { awaits = None }) same-idle;
+  onto = onto-link p.intf p.cport (λ k. record k { awaits = None }) (awaits-link None);
 }
   where
     is-it : (y : Link) → find (is_link p.intf p.cport)
@@ -231,8 +172,7 @@ resumed-link b p h fits l i intf cport other at = record {
         → record l { awaits = None } ≡ y
     is-it y f = same-some (record l { awaits = None }) y
         (sym (find-changed (is_link p.intf p.cport) (λ k. record k { awaits = None }) h.links
-        (λ x. refl)
-        ∙ ap (option_map idle_link) (ap (λ x. find (is_link x p.cport) h.links) intf
+        (λ x. refl) ∙ ap (option_map idle_link) (ap (λ x. find (is_link x p.cport) h.links) intf
         ∙ ap (λ x. find (is_link l.intf x) h.links) cport
         ∙ found-at h.links l fits.links.rise i)) ∙ f)
 
@@ -252,12 +192,11 @@ resumed b p h fits (connecting l i intf cport w awaits step) =
     subst (Resumed b p h)
     (sym (ap (λ t. cond t (with_interface p.intf (λ x. record x { awaits = None }) h)
     (with_link p.intf p.cport (λ l. record l { awaits = None }) h))
-    (step-connects p.step l.state at)))
-    (resumed-link b p h fits l i intf cport waits.0 at)
+    (step-connects p.step l.state at))) (resumed-link b p h fits l i intf cport waits.0 at)
 
-pub waits-for : (b : Bus) (n : ℕ) (h : Host) (p : Purpose) → HostFits b h → awaited n h ≡ Some p
+pub waits-for : {b : Bus} (n : ℕ) {h : Host} (p : Purpose) → HostFits b h → awaited n h ≡ Some p
     → WaitsFor h p
-waits-for b n h p fits e = by (interface_waits n h.interfaces) refl e
+waits-for n {h} p fits e = by (interface_waits n h.interfaces) refl e
   where
     by : (o : Option Purpose) → interface_waits n h.interfaces ≡ o
         → or_else o (link_waits n h.links) ≡ Some p → WaitsFor h p
@@ -274,11 +213,10 @@ fits-ended b n how h fits = by (awaited n h) refl
     by None e = record {
       host = fits;
       pending = tt;
-      followed = followed-same h.links [];
-      kept =
-          kept-same h.interfaces;
+      followed = followed-same;
+      kept = kept-same h.interfaces;
     }
     by (Some p) e =
-        let r = resumed b p h fits (waits-for b n h p fits e) in
+        let r = resumed b p h fits (waits-for n p fits e) in
         fits-through b h (awaits_nothing p h) _ r.onto
-        (fits-answered b (payload_in how) p (awaits_nothing p h) r.host r.due)
+        (fits-answered b (payload_in how) p r.host r.due)

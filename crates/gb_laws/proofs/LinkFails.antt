@@ -1,43 +1,28 @@
 -- The facts of the application processor's connections go over a turn that fails.
-use Rattle.std.proofs.Common.{◌≡◌, ℕ, Bool, true, false, Option, Some, None, List, []}
-use Rattle.std.proofs.Common.{◌∷◌, map, refl, sym, ◌∙◌, inr, subst}
-use Rattle.gb_base.specs.declared.steps.Purpose.{Purpose}
-use Rattle.gb_base.specs.declared.steps.SequenceStep.{SequenceStep}
-use Rattle.gb_base.specs.declared.peers.Link.{Link}
-use Rattle.gb_base.specs.declared.steps.SequenceStep.TheVariants as steps
+use Rattle.std.proofs.Common.{Bool, List, None, Option, Some, false, inr, map, refl, subst, sym}
+use Rattle.std.proofs.Common.{true, ℕ, [], ◌∙◌, ◌∷◌, ◌≡◌}
 use Rattle.std.specs.List.{find}
-use Rattle.gb_base.specs.declared.entry.ConnState.TheVariants as state
 use Rattle.gb_base.specs.declared.entry.Entry.{Entry}
-use Rattle.gb_invariants.proofs.Lists.{found-in}
+use Rattle.gb_base.specs.declared.entry.ConnState.TheVariants as state
 use Rattle.gb_base.specs.declared.entry.IntfStage.TheVariants as stage
-use Rattle.gb_laws.proofs.LinkHosts.{Onto, onto-interface, onto-link, onto-then}
-use Rattle.gb_laws.proofs.LinkHosts.{host-interface, host-link, same-link}
-use Rattle.gb_laws.proofs.LinkHosts.{state-link, then-same}
-use Rattle.gb_laws.proofs.LinkLists.{link-is}
-use Rattle.gb_laws.proofs.Links.{
-  IsDueBy,
-  ArePending,
-  HostFits,
-  IsDue,
-  IsFollowed,
-  IsWaiting,
-  SameLink,
-  TurnFits,
-  leaves,
-  stays,
-}
-use Rattle.gb_machine.specs.Bus.{Bus}
+use Rattle.gb_base.specs.declared.peers.Link.{Link}
+use Rattle.gb_base.specs.declared.steps.{Purpose.Purpose, SequenceStep.SequenceStep}
+use Rattle.gb_base.specs.declared.steps.SequenceStep.TheVariants as steps
 use Rattle.gb_machine.specs.Failures.{interface_fails, link_fails, step_fails}
-use Rattle.gb_machine.specs.Host.{Host, in_state}
-use Rattle.gb_machine.specs.Host.{is_link, staged, with_link}
-use Rattle.gb_machine.specs.Members.{IsIn}
-use Rattle.gb_machine.specs.SequenceSteps.{is_enumeration}
+use Rattle.gb_machine.specs.Host.{Host, in_state, is_link, staged, with_link}
 use Rattle.gb_machine.specs.Turns.{Act, Turn, failed_turn, telling}
+use Rattle.gb_machine.specs.{Bus.Bus, Members.IsIn, SequenceSteps.is_enumeration}
+use Rattle.gb_invariants.proofs.Lists.{found-in}
+use Rattle.gb_laws.proofs.LinkHosts.{Onto, host-interface, host-link, onto-interface, onto-link}
+use Rattle.gb_laws.proofs.LinkHosts.{onto-then, same-link, state-link, then-same}
+use Rattle.gb_laws.proofs.Links.{ArePending, HostFits, IsDue, IsDueBy, IsFollowed, IsWaiting}
+use Rattle.gb_laws.proofs.Links.{SameLink, TurnFits, leaves, stays}
+use Rattle.gb_laws.proofs.LinkLists.{link-is}
 
 -- ---- turns
 
-pub followed-same : (ls : List Link) (acts : List Act) (l : Link) → IsIn l ls → IsFollowed l ls acts
-followed-same ls acts l i = stays l i (same-link l)
+pub followed-same : {ls : List Link} {acts : List Act} (l : Link) → IsIn l ls → IsFollowed l ls acts
+followed-same l i = stays l i (same-link l)
 
 pub pending-told : (h : Host) (es : List Entry) → ArePending h (map Act.Tell es)
 pending-told h [] = tt
@@ -55,7 +40,7 @@ fits-through b h g t onto r = record {
   where
     by : (l k : Link) → SameLink l k → IsFollowed k t.host.links t.acts
         → IsFollowed l t.host.links t.acts
-    by l k same (stays j i s) = stays j i (then-same l k j same s)
+    by l k same (stays j i s) = stays j i (then-same {l = l} {k = k} j same s)
     by l k same (leaves i) = leaves (subst (λ n. IsIn (Act.Leave n) t.acts) same.connection i)
 
 pub fits-telling : (b : Bus) (h : Host) (e : Entry) (t : Turn) → TurnFits b h t
@@ -73,9 +58,9 @@ fits-telling b h e t r = record {
     by l (leaves i) = leaves (inr i)
 
 -- the host changes, and nothing is done but telling
-pub fits-host : (b : Bus) (h g : Host) (es : List Entry) → HostFits b g → Onto h g
+pub fits-host : {b : Bus} {h g : Host} (es : List Entry) → HostFits b g → Onto h g
     → TurnFits b h (record { host = g; acts = map Act.Tell es })
-fits-host b h g es fits onto = record {
+fits-host {g} es fits onto = record {
   host = fits;
   pending = pending-told g es;
   followed = λ l i. let s = onto.stay l i in stays s.0 s.1 s.2;
@@ -84,17 +69,16 @@ fits-host b h g es fits onto = record {
 
 -- ---- failures
 
-pub fits-interface_fails : (b : Bus) (p : Purpose) (h : Host) → HostFits b h
+pub fits-interface_fails : {b : Bus} (p : Purpose) {h : Host} → HostFits b h
     → TurnFits b h (failed_turn (interface_fails p h))
-fits-interface_fails b p h fits =
-    fits-host b h (interface_fails p h).host (interface_fails p h).told
-    (host-interface b p.intf (staged stage.Failed) h (λ x. refl) (λ x j is e w k. e w k) fits)
-    (onto-interface h p.intf (staged stage.Failed) (λ x. refl))
+fits-interface_fails p {h} fits =
+    fits-host (interface_fails p h).told
+    (host-interface p.intf (staged stage.Failed) (λ x. refl) (λ x j is e w k. e w k) fits)
+    (onto-interface p.intf (staged stage.Failed) (λ x. refl))
 
 -- none waits where a step is due
 none-waits : (b : Bus) (step : SequenceStep) (p : Purpose) (h : Host) → HostFits b h
-    → IsDue step p h
-    → (l : Link) → find (is_link p.intf p.cport) h.links ≡ Some l → l.awaits ≡ None
+    → IsDue step p h → (l : Link) → find (is_link p.intf p.cport) h.links ≡ Some l → l.awaits ≡ None
 none-waits b step p h fits due l found = by (is_enumeration step) refl due
   where
     by : (t : Bool) → is_enumeration step ≡ t → IsDueBy t step p h → l.awaits ≡ None
@@ -118,44 +102,32 @@ failed-host : (b : Bus) (p : Purpose) (h : Host) → HostFits b h
     → ((l : Link) → find (is_link p.intf p.cport) h.links ≡ Some l → l.awaits ≡ None)
     → HostFits b (with_link p.intf p.cport (in_state state.Failed) h)
 failed-host b p h fits none =
-    host-link b h p.intf p.cport (in_state state.Failed) (state-link state.Failed)
+    host-link p.intf p.cport (in_state state.Failed) (state-link state.Failed)
     (λ l i f w. waits-not (in_state state.Failed l) (none l f))
     (λ l i f d. record { cport = d.cport; takes = refl }) fits
 
 -- What fails where a step isn't answered as it should be.
-pub fits-failed : (b : Bus) (step : SequenceStep) (p : Purpose) (h : Host) → HostFits b h
-    → IsDue step p h
-    → TurnFits b h (failed_turn (step_fails step p h))
-fits-failed b step p h fits due = by step (none-waits b step p h fits due)
+pub fits-failed : {b : Bus} (step : SequenceStep) (p : Purpose) {h : Host} → HostFits b h
+    → IsDue step p h → TurnFits b h (failed_turn (step_fails step p h))
+fits-failed {b} step p {h} fits due = by step (none-waits b step p h fits due)
   where
     link : ((l : Link) → find (is_link p.intf p.cport) h.links ≡ Some l → l.awaits ≡ None)
         → TurnFits b h (failed_turn (link_fails p h))
     link none =
-        fits-host b h (link_fails p h).host (link_fails p h).told (failed-host b p h fits none)
-        (onto-link h p.intf p.cport (in_state state.Failed) (state-link state.Failed))
+        fits-host (link_fails p h).told (failed-host b p h fits none)
+        (onto-link p.intf p.cport (in_state state.Failed) (state-link state.Failed))
 
     by : (s : SequenceStep) → ((l : Link) → find (is_link p.intf p.cport) h.links ≡ Some l
-        → l.awaits ≡ None)
-        → TurnFits b h (failed_turn (step_fails s p h))
+        → l.awaits ≡ None) → TurnFits b h (failed_turn (step_fails s p h))
     by steps.CreateControl none =
-        fits-host b h (step_fails steps.CreateControl p h).host
-        (step_fails steps.CreateControl p h).told
-        (host-interface b p.intf (staged stage.Failed) (link_fails p h).host (λ x. refl)
-        (λ x j is e w k. e w k) (failed-host b p h fits none))
-        (onto-then h (link_fails p h).host _
-        (onto-link h p.intf p.cport (in_state state.Failed) (state-link state.Failed))
-        (onto-interface (link_fails p h).host p.intf (staged stage.Failed) (λ x. refl)))
+        fits-host (step_fails steps.CreateControl p h).told
+        (host-interface p.intf (staged stage.Failed) (λ x. refl)
+        (λ x j is e w k. e w k) (failed-host b p h fits none)) (onto-then h _
+        (onto-link p.intf p.cport (in_state state.Failed) (state-link state.Failed))
+        (onto-interface p.intf (staged stage.Failed) (λ x. refl)))
     by steps.CreateConnection none = link none
     by steps.TellConnected none = link none
     by steps.TellDisconnecting none = link none
     by steps.TellDisconnected none = link none
     by steps.DestroyConnection none = link none
-    by steps.EnableVsys none = fits-interface_fails b p h fits
-    by steps.EnableRefclk none = fits-interface_fails b p h fits
-    by steps.EnableUnipro none = fits-interface_fails b p h fits
-    by steps.Activate none = fits-interface_fails b p h fits
-    by steps.GiveDevice none = fits-interface_fails b p h fits
-    by steps.CreateRoute none = fits-interface_fails b p h fits
-    by steps.AskVersion none = fits-interface_fails b p h fits
-    by steps.AskSize none = fits-interface_fails b p h fits
-    by steps.AskManifest none = fits-interface_fails b p h fits
+    by _ none = fits-interface_fails p fits

@@ -1,54 +1,31 @@
 -- The facts of the application processor's connections where one of them changes, or an interface.
-use Rattle.std.proofs.Common.{
-  ◌≡◌,
-  ℕ,
-  Bool,
-  true,
-  false,
-  Some,
-  List,
-  refl,
-  sym,
-  ap,
-  ◌∙◌,
-  ⊎_elim,
-  subst,
-  arith,
-}
-use Rattle.std.specs.Prelude.{◌==◌, ◌&&◌, not}
+use Rattle.std.proofs.Common.{Bool, List, Option, Some, ap, arith, false, refl, subst, sym, true, ℕ}
+use Rattle.std.proofs.Common.{⊎_elim, ◌∙◌, ◌≡◌}
 use Rattle.std.specs.List.{find}
+use Rattle.std.specs.Prelude.{Option, not, ◌&&◌, ◌==◌}
 use Rattle.gb_base.specs.declared.entry.ConnState.{ConnState}
-use Rattle.gb_base.specs.declared.peers.Interface.{Interface}
-use Rattle.gb_base.specs.declared.peers.Link.{Link}
-use Rattle.gb_base.specs.declared.steps.Purpose.{Purpose}
-use Rattle.gb_base.specs.declared.steps.SequenceStep.{SequenceStep}
-use Rattle.gb_invariants.proofs.Lists.{filter-in, in-without, two-at_first, two-filter, found-in}
-use Rattle.gb_laws.proofs.LinkLists.{in-first}
-use Rattle.gb_laws.proofs.Links.{
-  AreOther,
-  HasNoControl,
-  HostFits,
-  IsDeaf,
-  IsEnumerating,
-  IsLinkBefore,
-  IsNext,
-  IsNumbered,
-  IsPresent,
-  IsResting,
-  IsWaiting,
-  LinksFit,
-  SameLink,
-  is_early,
-}
-use Rattle.gb_laws.proofs.Places.{at_first-back}
-use Rattle.gb_machine.specs.Bus.{Bus}
+use Rattle.gb_base.specs.declared.peers.{Interface.Interface, Link.Link}
+use Rattle.gb_base.specs.declared.steps.{Purpose.Purpose, SequenceStep.SequenceStep}
 use Rattle.gb_machine.specs.Host.{Host, in_state, is_intf, is_link, with_interface, with_link}
-use Rattle.gb_machine.specs.Lists.{at_first, without}
-use Rattle.gb_machine.specs.Members.{IsIn}
-use Rattle.gb_machine.specs.SequenceSteps.{at_step}
+use Rattle.gb_machine.specs.{Bus.Bus, Lists.at_first, Lists.without, Members.IsIn}
+use Rattle.gb_machine.specs.{SequenceSteps.at_step}
+use Rattle.gb_invariants.proofs.Lists.{at_first-back, filter-in, found-in, in-without, two-at_first}
+use Rattle.gb_invariants.proofs.Lists.{two-filter}
+use Rattle.gb_invariants.proofs.Found.{in-first}
+use Rattle.gb_laws.proofs.Links.{AreOther, HasNoControl, HostFits, IsDeaf, IsEnumerating}
+use Rattle.gb_laws.proofs.Links.{IsLinkBefore, IsNext, IsNumbered, IsPresent, IsResting, IsWaiting}
+use Rattle.gb_laws.proofs.Links.{LinksFit, SameLink, is_early}
 
 pub same-link : (l : Link) → SameLink l l
 same-link l = record { connection = refl; ap = refl; intf = refl; cport = refl; protocol = refl }
+
+pub awaits-link : (w : Option (ℕ × SequenceStep)) (l : Link) → SameLink l (record l { awaits = w })
+awaits-link w l =
+    record { connection = refl; ap = refl; intf = refl; cport = refl; protocol = refl }
+
+pub credits-link : (n : ℕ) (l : Link) → SameLink l (record l { credits = n })
+credits-link n l =
+    record { connection = refl; ap = refl; intf = refl; cport = refl; protocol = refl }
 
 pub state-link : (to : ConnState) (l : Link) → SameLink l (in_state to l)
 state-link to l = record {
@@ -59,8 +36,8 @@ state-link to l = record {
   protocol = refl;
 }
 
-pub then-same : (l k j : Link) → SameLink l k → SameLink k j → SameLink l j
-then-same l k j a b = record {
+pub then-same : {l k : Link} (j : Link) → SameLink l k → SameLink k j → SameLink l j
+then-same j a b = record {
   connection = b.connection ∙ a.connection;
   ap = b.ap ∙ a.ap;
   intf = b.intf ∙ a.intf;
@@ -114,8 +91,7 @@ links-changed b ls i c f same waiting deaf h = record {
   deaf = λ l x j live on shut. ⊎_elim (λ o. h.deaf l x o live on shut)
       (λ w. subst IsDeaf (sym w.3) (deaf w.0 w.1 w.2
       (h.deaf w.0 x w.1 live (on ∙ ap (λ (y : Link). y.connection) w.3 ∙ (same w.0).connection)
-      shut)))
-      (in-first (is_link i c) f ls l j);
+      shut))) (in-first (is_link i c) f ls l j);
 }
 
 -- what of connections stays where one changes
@@ -137,28 +113,27 @@ none-changed j ls i c f same none l k =
     ⊎_elim (λ o. none l o) (λ w. ap (is_link j 0) w.3 ∙ same-at j 0 w.0 (f w.0) (same w.0)
     ∙ none w.0 w.1) (in-first (is_link i c) f ls l k)
 
-pub host-link : (b : Bus) (h : Host) (i c : ℕ) (f : Link → Link) → ((l : Link) → SameLink l (f l))
+pub host-link : {b : Bus} {h : Host} (i c : ℕ) (f : Link → Link) → ((l : Link) → SameLink l (f l))
     → ((l : Link) → IsIn l h.links → find (is_link i c) h.links ≡ Some l → IsWaiting l
     → IsWaiting (f l))
     → ((l : Link) → IsIn l h.links → find (is_link i c) h.links ≡ Some l → IsDeaf l → IsDeaf (f l))
     → HostFits b h → HostFits b (with_link i c f h)
-host-link b h i c f same waiting deaf fits = record {
+host-link {b} {h} i c f same waiting deaf fits = record {
   links = links-changed b h.links i c f same waiting deaf fits.links;
   interfaces = λ x j w e. let old = fits.interfaces x j w e in
       (old.0, λ early. none-changed x.intf h.links i c f same (old.1 early));
   differ = fits.differ;
-  present = λ l j. ⊎_elim (λ o. fits.present l o)
-      (λ w. subst (λ n. IsPresent n h.interfaces)
+  present = λ l j. ⊎_elim (λ o. fits.present l o) (λ w. subst (λ n. IsPresent n h.interfaces)
       (sym (ap (λ (x : Link). x.intf) w.3 ∙ (same w.0).intf)) (fits.present w.0 w.1))
       (in-first (is_link i c) f h.links l j);
 }
 
 -- ---- one interface changes
 
-pub present-changed : (i j : ℕ) (f : Interface → Interface) (xs : List Interface)
+pub present-changed : {i : ℕ} (j : ℕ) (f : Interface → Interface) {xs : List Interface}
     → ((x : Interface) → (f x).intf ≡ x.intf)
     → IsPresent i xs → IsPresent i (at_first (is_intf j) f xs)
-present-changed i j f xs same p =
+present-changed j f {xs} same p =
     ⊎_elim (λ o. record { interface = p.interface; known = o; is = p.is })
     (λ w. record { interface = f p.interface; known = w; is = same p.interface ∙ p.is })
     (at_first-back (is_intf j) f xs p.interface p.known)
@@ -168,17 +143,15 @@ pub resting-changed : (i j : ℕ) (f : Interface → Interface) (xs : List Inter
     → ((x : Interface) → (f x).awaits ≡ x.awaits) → IsResting i xs
     → IsResting i (at_first (is_intf j) f xs)
 resting-changed i j f xs same waits h x k e =
-    ⊎_elim (λ o. h x o e)
-    (λ w. ap (λ (y : Interface). y.awaits) w.3 ∙ waits w.0
+    ⊎_elim (λ o. h x o e) (λ w. ap (λ (y : Interface). y.awaits) w.3 ∙ waits w.0
     ∙ h w.0 w.1 (sym (same w.0) ∙ sym (ap (λ (y : Interface). y.intf) w.3) ∙ e))
     (in-first (is_intf j) f xs x k)
 
-pub host-interface : (b : Bus) (i : ℕ) (f : Interface → Interface) (h : Host)
+pub host-interface : {b : Bus} (i : ℕ) (f : Interface → Interface) {h : Host}
     → ((x : Interface) → (f x).intf ≡ x.intf)
     → ((x : Interface) → IsIn x h.interfaces → is_intf i x ≡ true → IsEnumerating h.links x
-    → IsEnumerating h.links (f x))
-    → HostFits b h → HostFits b (with_interface i f h)
-host-interface b i f h same enumerating fits = record {
+    → IsEnumerating h.links (f x)) → HostFits b h → HostFits b (with_interface i f h)
+host-interface i f {h} same enumerating fits = record {
   links = fits.links;
   interfaces = λ x j. ⊎_elim (λ o. fits.interfaces x o)
       (λ w. subst (IsEnumerating h.links) (sym w.3)
@@ -186,7 +159,7 @@ host-interface b i f h same enumerating fits = record {
       (in-first (is_intf i) f h.interfaces x j);
   differ = two-at_first AreOther (is_intf i) f h.interfaces (λ x y r e. r (sym (same x) ∙ e))
       (λ x y r e. r (e ∙ same y)) fits.differ;
-  present = λ l j. present-changed l.intf i f h.interfaces same (fits.present l j);
+  present = λ l j. present-changed i f same (fits.present l j);
 }
 
 -- ---- what stays of a host
@@ -202,64 +175,59 @@ kept-same xs x i = record { interface = x; known = i; is = refl }
 pub onto-same : (h : Host) → Onto h h
 onto-same h = record { stay = stay-same h.links; kept = kept-same h.interfaces }
 
-pub onto-link : (h : Host) (i c : ℕ) (f : Link → Link) → ((l : Link) → SameLink l (f l))
+pub onto-link : {h : Host} (i c : ℕ) (f : Link → Link) → ((l : Link) → SameLink l (f l))
     → Onto h (with_link i c f h)
-onto-link h i c f same = record {
+onto-link {h} i c f same = record {
   stay = stay-changed h.links i c f same;
-  kept = kept-same
-      h.interfaces;
+  kept = kept-same h.interfaces;
 }
 
-pub onto-interface : (h : Host) (i : ℕ) (f : Interface → Interface)
+pub onto-interface : {h : Host} (i : ℕ) (f : Interface → Interface)
     → ((x : Interface) → (f x).intf ≡ x.intf) → Onto h (with_interface i f h)
-onto-interface h i f same = record {
+onto-interface {h} i f same = record {
   stay = stay-same h.links;
-  kept = λ x j. ⊎_elim (λ o. kept-same h.interfaces x o)
-      (λ w. record {
-        interface = w.0;
-        known = w.1;
-        is = sym
-            (ap (λ (y : Interface). y.intf) w.3 ∙ same w.0);
-      })
-      (in-first (is_intf i) f h.interfaces x j);
+  kept = λ x j. ⊎_elim (λ o. kept-same h.interfaces x o) (λ w. record {
+    interface = w.0;
+    known = w.1;
+    is = sym (ap (λ (y : Interface). y.intf) w.3 ∙ same w.0);
+  }) (in-first (is_intf i) f h.interfaces x j);
 }
 
-pub onto-then : (h g k : Host) → Onto h g → Onto g k → Onto h k
-onto-then h g k a b = record {
+pub onto-then : (h : Host) {g : Host} (k : Host) → Onto h g → Onto g k → Onto h k
+onto-then h k a b = record {
   stay = λ l i. let s =
-      a.stay l i in let t = b.stay s.0 s.1 in (t.0, t.1, then-same l s.0 t.0 s.2 t.2);
+      a.stay l i in let t = b.stay s.0 s.1 in (t.0, t.1, then-same t.0 s.2 t.2);
   kept = λ x i. let p = b.kept x i in let q = a.kept p.interface p.known in
       record { interface = q.interface; known = q.known; is = q.is ∙ p.is };
 }
 
 -- ---- steps of an enumeration that are due
 
-pub next-to : (step to : SequenceStep) (p : Purpose) (h : Host)
-    → (is_early to ≡ true → is_early step ≡ true) → IsNext step p h
-    → IsNext to (at_step to p) h
-next-to step to p h early n = record {
+pub next-to : {step to : SequenceStep} {p : Purpose} {h : Host}
+    → (is_early to ≡ true → is_early step ≡ true) → IsNext step p h → IsNext to (at_step to p) h
+next-to early n = record {
   cport = n.cport;
   none = λ e. n.none (early e);
   idle = n.idle;
   present = n.present;
 }
 
-pub next-interface : (step : SequenceStep) (p : Purpose) (h : Host) (j : ℕ)
+pub next-interface : {step : SequenceStep} {p : Purpose} (h : Host) (j : ℕ)
     (f : Interface → Interface) → ((x : Interface) → (f x).intf ≡ x.intf)
     → ((x : Interface) → (f x).awaits ≡ x.awaits) → IsNext step p h
     → IsNext step p (with_interface j f h)
-next-interface step p h j f same waits n = record {
+next-interface {p} h j f same waits n = record {
   cport = n.cport;
   none = n.none;
   idle = resting-changed p.intf j f h.interfaces same waits n.idle;
-  present = present-changed p.intf j f h.interfaces same n.present;
+  present = present-changed j f same n.present;
 }
 
 -- ---- connections without some
 
-pub links-without : (b : Bus) (test : Link → Bool) (ls : List Link) → LinksFit b ls
+pub links-without : (b : Bus) (test : Link → Bool) {ls : List Link} → LinksFit b ls
     → LinksFit b (without test ls)
-links-without b test ls h = record {
+links-without b test {ls} h = record {
   rise = two-filter IsLinkBefore (λ l. not (test l)) ls h.rise;
   numbered = λ l i. h.numbered l (in-without test ls l i).0;
   waiting = λ l i. h.waiting l (in-without test ls l i).0;

@@ -1,24 +1,16 @@
 -- The facts of the application processor's connections as a law of points, and that they hold
 -- first.
-use Rattle.std.proofs.Common.{◌≡◌, ◌∷◌, [], ap, arith, ⊎_elim}
-use Rattle.gb_laws.proofs.Basics.{basis-kept}
-use Rattle.gb_laws.proofs.LinkedFrom.{Linked}
-use Rattle.gb_laws.proofs.Linking.{InsertsAbsent, LinkedAt, linked-kept}
-use Rattle.gb_laws.proofs.Links.{supervisory}
-use Rattle.gb_laws.proofs.Points.{Law}
-use Rattle.gb_laws.proofs.PointParts.{Basis}
+use Rattle.std.proofs.Common.{ap, arith, ⊎_elim, [], ◌∷◌, ◌≡◌}
 use Rattle.gb_machine.specs.Bus.{Connection, first_bus, svc_connection}
-use Rattle.gb_machine.specs.Host.{first_host}
-use Rattle.gb_machine.specs.Members.{IsIn}
-use Rattle.gb_machine.specs.Runs.{Moment}
+use Rattle.gb_machine.specs.{Host.first_host, Members.IsIn, Runs.Moment}
+use Rattle.gb_laws.proofs.LinkKept.{InsertsAbsent, LinkedAt, linked-kept}
+use Rattle.gb_laws.proofs.{Basics.basis, LinkFrom.Linked, Links.supervisory, Points.Law}
+use Rattle.gb_laws.proofs.{Points.upon}
 
 -- the facts of connections as a law of points
 abbrev pub link_law : (m : Moment) → InsertsAbsent m → Law m
-link_law m absent = record {
-  holds = λ a. Basis a × LinkedAt a;
-  basis = λ a h. h.0;
-  kept = λ a x h. (basis-kept m a x h.0, linked-kept m absent a x h.0 h.1);
-}
+link_law m absent =
+    upon (basis m) LinkedAt (λ a x g h. linked-kept m absent x g h)
 
 pub is-svc : (c : Connection) → IsIn c (svc_connection ∷ []) → c ≡ svc_connection
 is-svc c i = ⊎_elim (λ e. e) (λ n. absurd n) i

@@ -1,49 +1,23 @@
 -- The facts of the application processor's connections where one is given up.
-use Rattle.std.proofs.Common.{
-  ◌≡◌,
-  ◌≢◌,
-  Bool,
-  true,
-  false,
-  Option,
-  Some,
-  None,
-  ◌∷◌,
-  [],
-  refl,
-  sym,
-  ap,
-  ◌∙◌,
-  inl,
-  subst,
-}
+use Rattle.std.proofs.Common.{Bool, None, Option, Some, ap, false, inl, refl, subst, sym, true, []}
+use Rattle.std.proofs.Common.{◌∙◌, ◌∷◌, ◌≡◌, ◌≢◌}
 use Rattle.std.specs.List.{find}
 use Rattle.gb_base.specs.declared.entry.ConnState.TheVariants as state
 use Rattle.gb_base.specs.declared.peers.Link.{Link}
 use Rattle.gb_base.specs.declared.steps.Purpose.{Purpose}
-use Rattle.gb_invariants.proofs.Awaiting.{not-both, same-some}
-use Rattle.gb_invariants.proofs.Lists.{found-in, in-without}
-use Rattle.gb_laws.proofs.LinkHosts.{
-  kept-same,
-  links-without,
-  none-without,
-  same-link,
-  without-in,
-}
-use Rattle.gb_laws.proofs.LinkLists.{find-none, found-at, link-is, one-link}
-use Rattle.gb_laws.proofs.Links.{HostFits, IsFollowed, TurnFits, leaves, stays}
-use Rattle.gb_machine.specs.Bus.{Bus}
-use Rattle.gb_machine.specs.Failures.{link_told}
 use Rattle.gb_machine.specs.Host.{Host, is_link, link_at, without_link}
-use Rattle.gb_machine.specs.Lists.{without}
-use Rattle.gb_machine.specs.Members.{IsIn}
-use Rattle.gb_machine.specs.Sequences.{link_left}
-use Rattle.gb_machine.specs.Turns.{Act}
+use Rattle.gb_machine.specs.{Bus.Bus, Failures.link_told, Lists.without, Members.IsIn}
+use Rattle.gb_machine.specs.{Sequences.link_left, Turns.Act}
+use Rattle.gb_invariants.proofs.{Awaiting.not-both, Awaiting.same-some, Found.find-none}
+use Rattle.gb_invariants.proofs.{Lists.found-in, Lists.in-without}
+use Rattle.gb_laws.proofs.LinkHosts.{kept-same, links-without, none-without, same-link, without-in}
+use Rattle.gb_laws.proofs.LinkLists.{found-at, link-is, one-link}
+use Rattle.gb_laws.proofs.Links.{HostFits, IsFollowed, TurnFits, leaves, stays}
 
 left-host : (b : Bus) (p : Purpose) (h : Host) → HostFits b h
     → HostFits b (without_link p.intf p.cport h)
 left-host b p h fits = record {
-  links = links-without b (is_link p.intf p.cport) h.links fits.links;
+  links = links-without b (is_link p.intf p.cport) fits.links;
   interfaces = λ x i w e. let old = fits.interfaces x i w e in
       (old.0, λ early. none-without x.intf (is_link p.intf p.cport) h.links (old.1 early));
   differ = fits.differ;

@@ -1,51 +1,29 @@
 -- The application processor's connections go with the bus, and insertions and removals come in
 -- turn,
 -- throughout.
-use Rattle.std.proofs.Common.{
-  ◌≡◌,
-  false,
-  Option,
-  Some,
-  None,
-  List,
-  [],
-  refl,
-  sym,
-  ap,
-  ◌∙◌,
-  inl,
-  subst,
-}
+use Rattle.std.proofs.Common.{List, None, Option, Some, ap, false, inl, refl, subst, sym, [], ◌∙◌}
+use Rattle.std.proofs.Common.{◌≡◌}
 use Rattle.gb_base.specs.declared.end.End.{End}
 use Rattle.gb_base.specs.declared.entry.Entry.{Entry}
 use Rattle.gb_base.specs.declared.event.Event.{Event}
 use Rattle.gb_base.specs.declared.event.Event.TheVariants as event
 use Rattle.gb_base.specs.declared.refusal.Refusal.{Refusal}
 use Rattle.gb_formats.specs.Module.{Module, module_of_kind, module_raw}
+use Rattle.gb_machine.proofs.{Conditions.AreUnmet, Conditions.free, Opened.machine_opened}
+use Rattle.gb_machine.specs.Runs.{IsMoment, Moment, after}
+use Rattle.gb_machine.specs.{Bus.first_bus, Bus.svc_connection, Events.decided, Events.step}
+use Rattle.gb_machine.specs.{Plugging.plugs, Refusals.insert_conditions, Refusals.refusal}
+use Rattle.gb_machine.specs.{State.State, State.first_state}
 use Rattle.gb_invariants.proofs.Awaiting.{not-both}
 use Rattle.gb_laws.proofs.Basics.{Based, basis-first, rested}
-use Rattle.gb_laws.proofs.Framing.{asked-items, taken_bus}
-use Rattle.gb_laws.proofs.LinkedFrom.{Linked}
-use Rattle.gb_laws.proofs.LinkLaw.{link_law, linked-first}
-use Rattle.gb_laws.proofs.Linking.{InsertsAbsent, LinkedAt}
-use Rattle.gb_laws.proofs.Marking.{inserts-absent, marks-delivered, marks-still, refused-state}
-use Rattle.gb_laws.proofs.Marks.{MarksFit}
-use Rattle.gb_laws.proofs.Plugs.{boot-kept, plug-kept}
-use Rattle.gb_laws.proofs.Points.{IsOfSvc, Law}
-use Rattle.gb_laws.proofs.PointParts.{Basis, resting}
-use Rattle.gb_laws.proofs.Pulling.{pull-kept}
+use Rattle.gb_laws.proofs.MarkMoments.{inserts-absent, marks-delivered, marks-still, refused-state}
+use Rattle.gb_laws.proofs.Points.{IsOfSvc, Law, upon}
 use Rattle.gb_laws.proofs.Runs.{HoldsByMoments, Keeps, throughout}
-use Rattle.gb_machine.proofs.Conditions.{AreUnmet, free}
-use Rattle.gb_laws.proofs.Steps.{over-step}
-use Rattle.gb_laws.proofs.There.{There, there-kept}
-use Rattle.gb_machine.proofs.Opened.{machine_opened}
-use Rattle.gb_machine.specs.Bus.{first_bus, svc_connection}
-use Rattle.gb_machine.specs.Events.{decided, step}
-use Rattle.gb_machine.specs.Modules.{is_plugged}
-use Rattle.gb_machine.specs.Plugging.{plugs}
-use Rattle.gb_machine.specs.Refusals.{insert_conditions, refusal}
-use Rattle.gb_machine.specs.Runs.{IsMoment, Moment, after}
-use Rattle.gb_machine.specs.State.{State, first_state}
+use Rattle.gb_laws.proofs.{LinkFrom.Linked, LinkKept.InsertsAbsent, LinkLaw.link_law}
+use Rattle.gb_laws.proofs.{LinkLaw.linked-first, MarkFrame.asked-items, MarkFrame.taken_bus}
+use Rattle.gb_laws.proofs.{MarkPlugs.boot-kept, MarkPlugs.plug-kept, MarkPulls.pull-kept}
+use Rattle.gb_laws.proofs.{Marks.MarksFit, PointParts.resting, Steps.over-step, SvcThere.There}
+use Rattle.gb_laws.proofs.{SvcThere.there-kept}
 
 -- What is known at rest of the application processor's connections, and of insertions and removals.
 abbrev pub LinkedTo : List Entry → State → Type 0
@@ -57,16 +35,12 @@ start-absent m start = inserts-absent m start.0 start.1 start.2
 
 -- ---- the marks at each moment
 
-no-modules : (i : _) → is_plugged i [] ≡ false
-no-modules i = refl
-
 module _ (m : Moment) (one : IsMoment m.event) (start : LinkedTo m.told m.before) where
   still : (e : Event) → m.event ≡ e → (IsOfSvc e → ⊥) → taken_bus e m.before.bus ≡ m.before.bus
       → ((at : End) → e ≡ event.Deliver at → ⊥) → MarksFit (after m)
   still e is other same undelivered =
       marks-still m one start.0 start.1 start.2 (λ of. other (subst IsOfSvc is of))
-      (ap (λ x. taken_bus x m.before.bus) is ∙ same)
-      (λ at f. undelivered at (sym is ∙ f))
+      (ap (λ x. taken_bus x m.before.bus) is ∙ same) (λ at f. undelivered at (sym is ∙ f))
 
   -- where the supervisory controller may ask, and the event isn't refused
   asking : (e : Event) → m.event ≡ e
@@ -98,8 +72,7 @@ module _ (m : Moment) (one : IsMoment m.event) (start : LinkedTo m.told m.before
       (free m.before (event.InsertRaw i manifest) allowed))
   marks-kept (event.Pull i) is at = asking (event.Pull i) is (λ allowed.
       pull-kept i m.before start.0.bus.numbers.rise (asked-items (resting m.told m.before) start.0)
-      start.1 start.3
-      (free m.before (event.Pull i) allowed).1.0 start.2)
+      start.1 start.3 (free m.before (event.Pull i) allowed).1.0 start.2)
   marks-kept (event.Deliver to) is at =
       marks-delivered m one start.0 start.1 start.2 (λ of. subst IsOfSvc is of) to is
   marks-kept (event.Settle most) is at = absurd at
@@ -132,17 +105,13 @@ module _ (m : Moment) (one : IsMoment m.event) (start : LinkedTo m.told m.before
 -- ---- throughout
 
 abbrev pub there_law : (m : Moment) → InsertsAbsent m → Law m
-there_law m absent = record {
-  holds = λ a. (Basis a × LinkedAt a) × There a.state.bus;
-  basis = λ a h. h.0.0;
-  kept = λ a x h. ((link_law m absent).kept a x h.0, there-kept m a x h.0.1 h.1);
-}
+there_law m absent = upon (link_law m absent) (λ a. There a.state.bus)
+    (λ a x g h. there-kept m a x g.1 h)
 
 marks-first_state : MarksFit first_state
 marks-first_state = record {
   reads = λ i e. absurd (not-both false e refl);
-  unstarted = λ e i.
-      (refl, refl);
+  unstarted = λ e i. (refl, refl);
   differ = tt;
 }
 
@@ -151,8 +120,7 @@ there-first_state = record {
   connection = svc_connection;
   live = inl refl;
   number = refl;
-  wired =
-      refl;
+  wired = refl;
 }
 
 -- over a moment

@@ -1,71 +1,33 @@
 -- The application processor's connections behind a turn come from those before it, and keep their
 -- credits.
-use Rattle.std.proofs.Common.{◌≡◌, ◌⊎◌, ℕ, Bool, true, false, cond, Option, Some, None, List}
-use Rattle.std.proofs.Common.{length, refl, sym, ap, ◌∙◌, inl, inr, ⊎_elim, subst}
-use Rattle.std.specs.Prelude.{Result, Ok, Err, ◌==◌, option_and_then}
+use Rattle.std.proofs.Common.{Bool, List, None, Option, Some, ap, cond, false, inl, inr, length}
+use Rattle.std.proofs.Common.{refl, subst, sym, true, ℕ, ⊎_elim, ◌∙◌, ◌≡◌, ◌⊎◌}
+use Rattle.std.specs.Prelude.{Err, Ok, Result, option_and_then, ◌==◌}
 use Rattle.gb_base.specs.declared.entry.ConnState.{ConnState}
 use Rattle.gb_base.specs.declared.entry.ConnState.TheVariants as state
 use Rattle.gb_base.specs.declared.outcome.Outcome.{Outcome}
-use Rattle.gb_base.specs.declared.peers.Interface.{Interface}
-use Rattle.gb_base.specs.declared.peers.Link.{Link}
-use Rattle.gb_base.specs.declared.steps.Purpose.{Purpose}
-use Rattle.gb_base.specs.declared.steps.SequenceStep.{SequenceStep}
+use Rattle.gb_base.specs.declared.peers.{Interface.Interface, Link.Link}
+use Rattle.gb_base.specs.declared.steps.{Purpose.Purpose, SequenceStep.SequenceStep}
 use Rattle.gb_base.specs.declared.steps.SequenceStep.TheVariants as steps
-use Rattle.gb_formats.specs.ControlRecords.{read_control_reply}
 use Rattle.gb_formats.specs.Manifest.{CportView, Manifest, check_answer}
-use Rattle.gb_formats.specs.ManifestRules.{Refused}
-use Rattle.gb_invariants.proofs.Lists.{in-without}
-use Rattle.gb_laws.proofs.LinkHosts.{same-link, state-link, then-same}
-use Rattle.gb_laws.proofs.LinkLists.{in-first}
-use Rattle.gb_laws.proofs.Links.{SameLink}
+use Rattle.gb_formats.specs.{ControlRecords.read_control_reply, ManifestRules.Refused}
 use Rattle.gb_machine.specs.Failures.{interface_fails, link_fails, step_fails, unsent_fails}
-use Rattle.gb_machine.specs.Host.{
-  Host,
-  cport_of,
-  free_cport,
-  free_device,
-  in_state,
-  interface_of,
-  is_link,
-  link_at,
-  with_interface,
-  with_link,
-  with_new_interface,
-  without_link,
-}
-use Rattle.gb_machine.specs.HostTurns.{
-  connects,
-  connects_on,
-  disconnects,
-  ended_for,
-  host_connects,
-  host_disconnects,
-  host_ended,
-  host_turn,
-  without_interface,
-}
-use Rattle.gb_machine.specs.Members.{IsIn}
+use Rattle.gb_machine.specs.Host.{Host, cport_of, free_cport, free_device, in_state, interface_of}
+use Rattle.gb_machine.specs.Host.{is_link, link_at, with_interface, with_link, with_new_interface}
+use Rattle.gb_machine.specs.Host.{without_link}
+use Rattle.gb_machine.specs.HostTurns.{connects, connects_on, disconnects, ended_for, host_connects}
+use Rattle.gb_machine.specs.HostTurns.{host_disconnects, host_ended, host_turn, without_interface}
 use Rattle.gb_machine.specs.SequenceSteps.{at_step, is_enumeration, is_reply, purpose}
-use Rattle.gb_machine.specs.Sequences.{
-  asked_on,
-  begins_control,
-  begins_device,
-  link_left,
-  link_turn,
-  manifest_checked,
-  manifest_told,
-  opened,
-  opened_told,
-  payload_in,
-  size_in,
-  size_known,
-  step_answered,
-  step_asked,
-  step_done,
-  way_of,
-}
+use Rattle.gb_machine.specs.Sequences.{asked_on, begins_control, begins_device, link_left}
+use Rattle.gb_machine.specs.Sequences.{link_turn, manifest_checked, manifest_told, opened}
+use Rattle.gb_machine.specs.Sequences.{opened_told, payload_in, size_in, size_known, step_answered}
+use Rattle.gb_machine.specs.Sequences.{step_asked, step_done, way_of}
 use Rattle.gb_machine.specs.Turns.{HostEvent, Turn, failed_turn}
 use Rattle.gb_machine.specs.Waits.{awaited, awaits_nothing, waiting}
+use Rattle.gb_machine.specs.Members.{IsIn}
+use Rattle.gb_invariants.proofs.{Found.in-first, Lists.in-without}
+use Rattle.gb_laws.proofs.LinkHosts.{awaits-link, same-link, state-link, then-same}
+use Rattle.gb_laws.proofs.Links.{SameLink}
 
 -- a connection comes from one that was known
 pub record CameFrom (l : Link) (h : Host) : Type 0 where
@@ -85,8 +47,7 @@ LinksFrom w h g = (l : Link) → IsIn l g.links → WaitsFrom w l h
 
 -- ---- hosts
 
-pub from-links : {w : Option (ℕ × SequenceStep)} (h g : Host) → g.links ≡ h.links
-    → LinksFrom w h g
+pub from-links : {w : Option (ℕ × SequenceStep)} (h g : Host) → g.links ≡ h.links → LinksFrom w h g
 from-links h g same l i = record {
   from = record {
     link = l;
@@ -105,7 +66,7 @@ from-then h g k a b l i =
       from = record {
         link = x.from.link;
         live = x.from.live;
-        same = then-same x.from.link y.from.link l x.from.same y.from.same;
+        same = then-same l x.from.same y.from.same;
         credits = y.from.credits ∙ x.from.credits;
       };
       awaits = ⊎_elim (λ e. ⊎_elim (λ f. inl (e ∙ f)) (λ f. inr (e ∙ f)) x.awaits) (λ e. inr e)
@@ -116,28 +77,25 @@ pub from-kept : {w : Option (ℕ × SequenceStep)} (i c : ℕ) (f : Link → Lin
     → ((l : Link) → SameLink l (f l)) → ((l : Link) → (f l).credits ≡ l.credits)
     → ((l : Link) → ((f l).awaits ≡ l.awaits) ⊎ ((f l).awaits ≡ w))
     → LinksFrom w h (with_link i c f h)
-from-kept i c f h same kept waits l j = ⊎_elim
-    (λ o. record {
-      from = record { link = l; live = o; same = same-link l; credits = refl };
-      awaits = inl refl;
-    })
-    (λ v. record {
-      from = record {
-        link = v.0;
-        live = v.1;
-        same = subst (SameLink v.0) (sym v.3) (same v.0);
-        credits = ap (λ (k : Link). k.credits) v.3 ∙ kept v.0;
-      };
-      awaits = ⊎_elim (λ e. inl (ap (λ (k : Link). k.awaits) v.3 ∙ e))
-          (λ e. inr (ap (λ (k : Link). k.awaits) v.3 ∙ e)) (waits v.0);
-    }) (in-first (is_link i c) f h.links l j)
+from-kept i c f h same kept waits l j = ⊎_elim (λ o. record {
+  from = record { link = l; live = o; same = same-link l; credits = refl };
+  awaits = inl refl;
+}) (λ v. record {
+  from = record {
+    link = v.0;
+    live = v.1;
+    same = subst (SameLink v.0) (sym v.3) (same v.0);
+    credits = ap (λ (k : Link). k.credits) v.3 ∙ kept v.0;
+  };
+  awaits = ⊎_elim (λ e. inl (ap (λ (k : Link). k.awaits) v.3 ∙ e))
+      (λ e. inr (ap (λ (k : Link). k.awaits) v.3 ∙ e)) (waits v.0);
+}) (in-first (is_link i c) f h.links l j)
 
 pub from-state : (to : ConnState) (i c : ℕ) (h : Host)
     → LinksFrom None h (with_link i c (in_state to) h)
 from-state to i c h = from-kept i c (in_state to) h (state-link to) (λ l. refl) (λ l. inl refl)
 
-from-without : (h g : Host) → ((l : Link) → IsIn l g.links → IsIn l h.links)
-    → LinksFrom None h g
+from-without : (h g : Host) → ((l : Link) → IsIn l g.links → IsIn l h.links) → LinksFrom None h g
 from-without h g in_h l i =
     record {
       from = record { link = l; live = in_h l i; same = same-link l; credits = refl };
@@ -163,20 +121,11 @@ from-fails steps.TellConnected p h = from-failed p h
 from-fails steps.TellDisconnecting p h = from-failed p h
 from-fails steps.TellDisconnected p h = from-failed p h
 from-fails steps.DestroyConnection p h = from-failed p h
-from-fails steps.EnableVsys p h = from-interface p h
-from-fails steps.EnableRefclk p h = from-interface p h
-from-fails steps.EnableUnipro p h = from-interface p h
-from-fails steps.Activate p h = from-interface p h
-from-fails steps.GiveDevice p h = from-interface p h
-from-fails steps.CreateRoute p h = from-interface p h
-from-fails steps.AskVersion p h = from-interface p h
-from-fails steps.AskSize p h = from-interface p h
-from-fails steps.AskManifest p h = from-interface p h
+from-fails _ p h = from-interface p h
 
 -- where the request of a step can't be made
 pub from-unsent : (step : SequenceStep) (p : Purpose) (h : Host)
     → LinksFrom None h (unsent_fails step p h).host
-from-unsent steps.CreateControl p h = from-interface p h
 from-unsent steps.CreateConnection p h = from-links h h refl
 from-unsent steps.GiveDevice p h =
     from-links h (unsent_fails steps.GiveDevice p h).host refl
@@ -184,14 +133,7 @@ from-unsent steps.TellConnected p h = from-failed p h
 from-unsent steps.TellDisconnecting p h = from-failed p h
 from-unsent steps.TellDisconnected p h = from-failed p h
 from-unsent steps.DestroyConnection p h = from-failed p h
-from-unsent steps.EnableVsys p h = from-interface p h
-from-unsent steps.EnableRefclk p h = from-interface p h
-from-unsent steps.EnableUnipro p h = from-interface p h
-from-unsent steps.Activate p h = from-interface p h
-from-unsent steps.CreateRoute p h = from-interface p h
-from-unsent steps.AskVersion p h = from-interface p h
-from-unsent steps.AskSize p h = from-interface p h
-from-unsent steps.AskManifest p h = from-interface p h
+from-unsent _ p h = from-interface p h
 
 -- where a sequence waits for something, or for nothing
 pub from-waiting : (w : Option (ℕ × SequenceStep)) (p : Purpose) (h : Host)
@@ -202,7 +144,7 @@ from-waiting w p h = by (is_enumeration p.step)
         (with_link p.intf p.cport (λ l. record l { awaits = w }) h))
     by true = from-links h (with_interface p.intf (λ x. record x { awaits = w }) h) refl
     by false = from-kept p.intf p.cport (λ l. record l { awaits = w }) h
-        (λ l. record { connection = refl; ap = refl; intf = refl; cport = refl; protocol = refl })
+        (awaits-link w)
         (λ l. refl) (λ l. inr refl)
 
 -- ---- steps
@@ -234,8 +176,7 @@ from-manifest p bytes h = by (length bytes == size_known (interface_of p.intf h)
     by true = from-checked (check_answer bytes) p bytes h
     by false = from-interface p h
 
-from-device : (o : Option ℕ) (p : Purpose) (h : Host)
-    → LinksFrom None h (begins_device o p h).host
+from-device : (o : Option ℕ) (p : Purpose) (h : Host) → LinksFrom None h (begins_device o p h).host
 from-device None p h = from-interface p h
 from-device (Some d) p h = from-changed p p.intf (λ x. record x { device = Some d }) h
 
@@ -335,8 +276,7 @@ from-disconnects i c h = by (link_at i c h)
     by None = from-links h h refl
     by (Some l) = from-then h (with_link i c (in_state state.Closing) h)
         (step_asked (purpose i c steps.TellDisconnecting)
-        (with_link i c (in_state state.Closing) h)).host
-        (from-state state.Closing i c h)
+        (with_link i c (in_state state.Closing) h)).host (from-state state.Closing i c h)
         (from-asked (purpose i c steps.TellDisconnecting) (with_link i c
         (in_state state.Closing) h))
 

@@ -1,97 +1,33 @@
 -- What turns of the application processor tell of connections, they tell of those that it knows.
-use Rattle.std.proofs.Common.{
-  ◌≡◌,
-  ℕ,
-  Bool,
-  true,
-  false,
-  cond,
-  Option,
-  Some,
-  None,
-  List,
-  [],
-  ◌∷◌,
-  ◌++◌,
-  length,
-  map,
-  refl,
-  sym,
-  ◌∙◌,
-  inl,
-  inr,
-}
-use Rattle.std.specs.Prelude.{Result, Ok, Err, ◌==◌, option_and_then}
-use Rattle.gb_base.specs.declared.entry.ConnState.{ConnState}
+use Rattle.std.proofs.Common.{Bool, List, None, Option, Some, cond, false, inl, inr, length, map}
+use Rattle.std.proofs.Common.{refl, sym, true, ℕ, [], ◌++◌, ◌∙◌, ◌∷◌, ◌≡◌}
+use Rattle.std.specs.Prelude.{Err, Ok, Result, option_and_then, ◌==◌}
+use Rattle.gb_base.specs.declared.entry.{ConnState.ConnState, Entry.Entry}
 use Rattle.gb_base.specs.declared.entry.ConnState.TheVariants as state
-use Rattle.gb_base.specs.declared.entry.Entry.{Entry}
 use Rattle.gb_base.specs.declared.entry.Entry.TheVariants as entry
 use Rattle.gb_base.specs.declared.outcome.Outcome.{Outcome}
-use Rattle.gb_base.specs.declared.peers.Interface.{Interface}
-use Rattle.gb_base.specs.declared.peers.Link.{Link}
-use Rattle.gb_base.specs.declared.steps.Purpose.{Purpose}
-use Rattle.gb_base.specs.declared.steps.SequenceStep.{SequenceStep}
+use Rattle.gb_base.specs.declared.peers.{Interface.Interface, Link.Link}
+use Rattle.gb_base.specs.declared.steps.{Purpose.Purpose, SequenceStep.SequenceStep}
 use Rattle.gb_base.specs.declared.steps.SequenceStep.TheVariants as steps
-use Rattle.gb_formats.specs.ControlRecords.{read_control_reply}
 use Rattle.gb_formats.specs.Manifest.{CportView, Manifest, check_answer}
-use Rattle.gb_formats.specs.ManifestRules.{Refused}
+use Rattle.gb_formats.specs.{ControlRecords.read_control_reply, ManifestRules.Refused}
+use Rattle.gb_machine.specs.Failures.{interface_fails, link_fails, step_fails, told_of}
+use Rattle.gb_machine.specs.Failures.{unsent_fails}
+use Rattle.gb_machine.specs.Host.{Host, cport_of, free_cport, free_device, in_state, interface_of}
+use Rattle.gb_machine.specs.Host.{is_link, link_at, with_interface, with_link, with_new_interface}
+use Rattle.gb_machine.specs.Host.{without_link}
+use Rattle.gb_machine.specs.HostTurns.{connects, connects_on, disconnects, ended_for, host_connects}
+use Rattle.gb_machine.specs.HostTurns.{host_disconnects, host_ended, host_turn, links_left}
+use Rattle.gb_machine.specs.HostTurns.{links_of}
+use Rattle.gb_machine.specs.SequenceSteps.{at_step, is_reply, purpose}
+use Rattle.gb_machine.specs.Sequences.{asked_on, begins_control, begins_device, link_left}
+use Rattle.gb_machine.specs.Sequences.{link_turn, manifest_checked, manifest_told, opened}
+use Rattle.gb_machine.specs.Sequences.{opened_told, payload_in, size_in, size_known, step_answered}
+use Rattle.gb_machine.specs.Sequences.{step_asked, step_done, way_of}
+use Rattle.gb_machine.specs.Turns.{Act, HostEvent, Turn, failed_turn}
+use Rattle.gb_machine.specs.{Members.Each, Members.IsIn, Waits.awaited, Waits.awaits_nothing}
 use Rattle.gb_invariants.proofs.Lists.{each-append, found-in, in-filter}
 use Rattle.gb_laws.proofs.LinkSources.{LinksFrom, from-links, from-opened, from-state, from-waiting}
-use Rattle.gb_machine.specs.Failures.{
-  interface_fails,
-  link_fails,
-  step_fails,
-  told_of,
-  unsent_fails,
-}
-use Rattle.gb_machine.specs.Host.{
-  Host,
-  cport_of,
-  free_cport,
-  free_device,
-  in_state,
-  interface_of,
-  is_link,
-  link_at,
-  with_interface,
-  with_link,
-  with_new_interface,
-  without_link,
-}
-use Rattle.gb_machine.specs.HostTurns.{
-  connects,
-  connects_on,
-  disconnects,
-  ended_for,
-  host_connects,
-  host_disconnects,
-  host_ended,
-  host_turn,
-  links_left,
-  links_of,
-}
-use Rattle.gb_machine.specs.Members.{Each, IsIn}
-use Rattle.gb_machine.specs.SequenceSteps.{at_step, is_reply, purpose}
-use Rattle.gb_machine.specs.Sequences.{
-  asked_on,
-  begins_control,
-  begins_device,
-  link_left,
-  link_turn,
-  manifest_checked,
-  manifest_told,
-  opened,
-  opened_told,
-  payload_in,
-  size_in,
-  size_known,
-  step_answered,
-  step_asked,
-  step_done,
-  way_of,
-}
-use Rattle.gb_machine.specs.Turns.{Act, HostEvent, Turn, failed_turn}
-use Rattle.gb_machine.specs.Waits.{awaited, awaits_nothing}
 
 -- an entry on a connection tells of one that is known
 abbrev pub TellsLink : Host → Entry → Type 0
@@ -155,34 +91,17 @@ fails-told steps.TellConnected p h = failed-told p h
 fails-told steps.TellDisconnecting p h = failed-told p h
 fails-told steps.TellDisconnected p h = failed-told p h
 fails-told steps.DestroyConnection p h = failed-told p h
-fails-told steps.EnableVsys p h = (tt, tt)
-fails-told steps.EnableRefclk p h = (tt, tt)
-fails-told steps.EnableUnipro p h = (tt, tt)
-fails-told steps.Activate p h = (tt, tt)
-fails-told steps.GiveDevice p h = (tt, tt)
-fails-told steps.CreateRoute p h = (tt, tt)
-fails-told steps.AskVersion p h = (tt, tt)
-fails-told steps.AskSize p h = (tt, tt)
-fails-told steps.AskManifest p h = (tt, tt)
+fails-told _ p h = (tt, tt)
 
 -- where the request of a step can't be made
 pub unsent-told : (step : SequenceStep) (p : Purpose) (h : Host)
     → Each (TellsLink h) (unsent_fails step p h).told
-unsent-told steps.CreateControl p h = (tt, tt)
 unsent-told steps.CreateConnection p h = tt
-unsent-told steps.GiveDevice p h = (tt, tt)
 unsent-told steps.TellConnected p h = failed-told p h
 unsent-told steps.TellDisconnecting p h = failed-told p h
 unsent-told steps.TellDisconnected p h = failed-told p h
 unsent-told steps.DestroyConnection p h = failed-told p h
-unsent-told steps.EnableVsys p h = (tt, tt)
-unsent-told steps.EnableRefclk p h = (tt, tt)
-unsent-told steps.EnableUnipro p h = (tt, tt)
-unsent-told steps.Activate p h = (tt, tt)
-unsent-told steps.CreateRoute p h = (tt, tt)
-unsent-told steps.AskVersion p h = (tt, tt)
-unsent-told steps.AskSize p h = (tt, tt)
-unsent-told steps.AskManifest p h = (tt, tt)
+unsent-told _ p h = (tt, tt)
 
 fails-tell : (step : SequenceStep) (p : Purpose) (h : Host)
     → ActsTell h (failed_turn (step_fails step p h)).acts

@@ -1,103 +1,30 @@
 -- The facts of the application processor's connections go over each of its turns.
-use Rattle.std.proofs.Common.{
-  ◌≡◌,
-  ◌≤◌,
-  ◌≢◌,
-  ℕ,
-  Bool,
-  true,
-  false,
-  Option,
-  Some,
-  None,
-  List,
-  [],
-  ◌∷◌,
-  ◌++◌,
-  refl,
-  sym,
-  ap,
-  ◌∙◌,
-  inl,
-  inr,
-  ⊎_elim,
-  subst,
-}
-use Rattle.std.specs.Prelude.{◌==◌, not, option_and_then}
-use Rattle.gb_base.specs.declared.peers.Interface.{Interface}
-use Rattle.gb_base.specs.declared.peers.Link.{Link}
-use Rattle.gb_base.specs.declared.steps.SequenceStep.TheVariants as steps
+use Rattle.std.proofs.Common.{Bool, List, None, Option, Some, ap, false, inl, inr, refl, subst, sym}
+use Rattle.std.proofs.Common.{true, ℕ, ⊎_elim, [], ◌++◌, ◌∙◌, ◌∷◌, ◌≡◌, ◌≢◌, ◌≤◌}
+use Rattle.std.specs.Prelude.{not, option_and_then, ◌==◌}
 use Rattle.gb_base.specs.declared.entry.Entry.TheVariants as entry
 use Rattle.gb_base.specs.declared.entry.IntfStage.TheVariants as stage
+use Rattle.gb_base.specs.declared.peers.{Interface.Interface, Link.Link}
+use Rattle.gb_base.specs.declared.steps.SequenceStep.TheVariants as steps
 use Rattle.gb_formats.specs.Manifest.{CportView}
-use Rattle.gb_invariants.proofs.Awaiting.{not-both}
-use Rattle.gb_invariants.proofs.Lists.{
-  filter-in,
-  found-in,
-  in-filter,
-  in-front,
-  in-without,
-  two-filter,
-}
-use Rattle.gb_invariants.proofs.Outcomes.{is-same, same-number}
-use Rattle.gb_laws.proofs.Controls.{control-none}
-use Rattle.gb_laws.proofs.LinkLists.{
-  find-none,
-  in-ordered,
-  link-is,
-  one-link,
-  ordered-differ,
-  ordered-in,
-  ordered-stays,
-}
+use Rattle.gb_machine.proofs.{Conditions.AreUnmet, Options.none-of, Options.some-of}
+use Rattle.gb_machine.specs.Host.{Host, cport_of, free_cport, interface_of, intf_before, is_intf}
+use Rattle.gb_machine.specs.Host.{is_link, link_at, new_interface, with_new_interface}
+use Rattle.gb_machine.specs.HostTurns.{connects, connects_on, host_connects, host_inserted}
+use Rattle.gb_machine.specs.HostTurns.{host_removed, links_left, links_of, without_interface}
+use Rattle.gb_machine.specs.{Bus.Bus, HostRefusals.connect_conditions, Lists.without, Members.IsIn}
+use Rattle.gb_machine.specs.{SequenceSteps.purpose, Sequences.step_asked, Sequences.target}
+use Rattle.gb_machine.specs.{Turns.Act}
+use Rattle.gb_invariants.proofs.Lists.{filter-in, found-in, in-filter, in-front, in-without}
+use Rattle.gb_invariants.proofs.Lists.{two-filter}
+use Rattle.gb_invariants.proofs.{Awaiting.none-some, Awaiting.not-both, Found.find-none}
+use Rattle.gb_invariants.proofs.{Found.in-ordered, Outcomes.is-same, Outcomes.same-number}
 use Rattle.gb_laws.proofs.LinkHosts.{kept-same, links-without, none-without, same-link, without-in}
-use Rattle.gb_laws.proofs.LinkSteps.{fits-asked, free_cport-is}
-use Rattle.gb_laws.proofs.LinkFails.{fits-telling, followed-same}
-use Rattle.gb_laws.proofs.Links.{
-  AreOther,
-  ArePending,
-  HasNoControl,
-  HostFits,
-  IsEnumerating,
-  IsFollowed,
-  IsPresent,
-  TurnFits,
-  connection,
-  leaves,
-  stays,
-}
-use Rattle.gb_machine.proofs.Conditions.{AreUnmet}
-use Rattle.gb_machine.proofs.Options.{none-of, some-of}
-use Rattle.gb_machine.specs.Bus.{Bus}
-use Rattle.gb_machine.specs.Host.{
-  Host,
-  cport_of,
-  free_cport,
-  interface_of,
-  intf_before,
-  is_intf,
-  is_link,
-  link_at,
-  new_interface,
-  with_new_interface,
-}
-use Rattle.gb_machine.specs.HostRefusals.{connect_conditions}
-use Rattle.gb_machine.specs.HostTurns.{
-  connects,
-  connects_on,
-  host_connects,
-  host_inserted,
-  host_removed,
-  links_left,
-  links_of,
-  without_interface,
-}
-use Rattle.gb_machine.specs.Lists.{without}
-use Rattle.gb_machine.specs.Members.{IsIn}
-use Rattle.gb_machine.specs.SequenceSteps.{purpose}
-use Rattle.gb_machine.specs.Sequences.{step_asked, target}
-use Rattle.gb_machine.specs.Turns.{Act}
-use Rattle.gb_laws.proofs.LinkEnds.{no-wait}
+use Rattle.gb_laws.proofs.LinkLists.{link-is, one-link, ordered-differ, ordered-in, ordered-stays}
+use Rattle.gb_laws.proofs.Links.{AreOther, ArePending, HasNoControl, HostFits, IsEnumerating}
+use Rattle.gb_laws.proofs.Links.{IsFollowed, IsPresent, TurnFits, connection, leaves, stays}
+use Rattle.gb_laws.proofs.{Controls.control-none, LinkFails.fits-telling, LinkFails.followed-same}
+use Rattle.gb_laws.proofs.{LinkSteps.fits-asked, LinkSteps.free_cport-is}
 
 -- ---- insertion and removal
 
@@ -119,31 +46,27 @@ pub fits-inserted : (b : Bus) (i : ℕ) (h : Host) → HostFits b h → interfac
 fits-inserted b i h fits absent =
     fits-telling b (with_new_interface i h) (entry.Interface i stage.Enumerating)
     (step_asked (purpose i 0 steps.EnableVsys) (with_new_interface i h))
-    (fits-asked b (purpose i 0 steps.EnableVsys) (with_new_interface i h)
-    (record {
+    (fits-asked (purpose i 0 steps.EnableVsys) (record {
       links = fits.links;
       interfaces = λ x j. ⊎_elim (λ e. subst (IsEnumerating h.links) (sym e)
-          (λ w f. absurd (no-wait w f)))
+          (λ w f. absurd (none-some f)))
           (λ o. fits.interfaces x o) (in-ordered intf_before x (new_interface i) h.interfaces j);
       differ = ordered-differ intf_before (new_interface i) h.interfaces
           (λ x j e. other x j (sym e)) fits.differ;
       present = λ l j. let p = fits.present l j in
           record {
             interface = p.interface;
-            known = ordered-stays intf_before p.interface
-                (new_interface i) h.interfaces p.known;
+            known = ordered-stays intf_before p.interface (new_interface i) h.interfaces p.known;
             is = p.is;
           };
-    })
-    (record {
+    }) (record {
       cport = refl;
       none = λ e. absent-none b i h fits absent;
       idle = λ x j e. ⊎_elim (λ f. ap (λ (y : Interface). y.awaits) f) (λ o. absurd (other x o e))
           (in-ordered intf_before x (new_interface i) h.interfaces j);
       present = record {
         interface = new_interface i;
-        known = ordered-in intf_before
-            (new_interface i) h.interfaces;
+        known = ordered-in intf_before (new_interface i) h.interfaces;
         is = refl;
       };
     }) (λ e. absurd cc))
@@ -172,7 +95,7 @@ left-in (k ∷ ks) l (inr j) = inr (inr (inr (left-in ks l j)))
 pub fits-removed : (b : Bus) (i : ℕ) (h : Host) → HostFits b h → TurnFits b h (host_removed i h)
 fits-removed b i h fits = record {
   host = record {
-    links = links-without b (λ l. l.intf == i) h.links fits.links;
+    links = links-without b (λ l. l.intf == i) fits.links;
     interfaces =
         λ x j w e. let old = fits.interfaces x (in-without (is_intf i) h.interfaces x j).0 w e in
         (old.0, λ early. none-without x.intf (λ l. l.intf == i) h.links (old.1 early));
@@ -211,9 +134,6 @@ fits-removed b i h fits = record {
 
 -- ---- connect
 
-no-view : (view : CportView) → None ≡ Some view → ⊥
-no-view view f = absurd cc
-
 pub fits-connects : (b : Bus) (i c : ℕ) (h : Host) → HostFits b h
     → AreUnmet (connect_conditions i c h) → c ≤ 4095 → TurnFits b h (host_connects i c h)
 fits-connects b i c h fits met low = by (option_and_then (cport_of c) (interface_of i h)) refl
@@ -231,9 +151,8 @@ fits-connects b i c h fits met low = by (option_and_then (cport_of c) (interface
     nothing = record {
       host = fits;
       pending = tt;
-      followed = followed-same h.links [];
-      kept =
-          kept-same h.interfaces;
+      followed = followed-same;
+      kept = kept-same h.interfaces;
     }
 
     undeclared : (o : Option Interface) → option_and_then (cport_of 0) o ≡ None
@@ -241,7 +160,7 @@ fits-connects b i c h fits met low = by (option_and_then (cport_of c) (interface
     undeclared (Some x) = control-none x
 
     other : (view : CportView) → option_and_then (cport_of c) (interface_of i h) ≡ Some view → c ≢ 0
-    other view e z = no-view view (sym (undeclared (interface_of i h))
+    other view e z = none-some (sym (undeclared (interface_of i h))
         ∙ ap (λ k. option_and_then (cport_of k) (interface_of i h)) (sym z) ∙ e)
 
     on : (view : CportView) → option_and_then (cport_of c) (interface_of i h) ≡ Some view
@@ -278,7 +197,7 @@ fits-connects b i c h fits met low = by (option_and_then (cport_of c) (interface
         ),
         tt,
       );
-      followed = followed-same h.links _;
+      followed = followed-same;
       kept = kept-same h.interfaces;
     }
 

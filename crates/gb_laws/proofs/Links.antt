@@ -1,26 +1,17 @@
 -- Facts of the application processor's connections, as they go with the bus.
-use Rattle.std.proofs.Common.{◌≡◌, ◌≤◌, ◌<◌, ◌≢◌, ℕ, Bool, true, false, Some, None, List, [], ◌∷◌}
-use Rattle.gb_base.specs.declared.steps.Purpose.{Purpose}
-use Rattle.gb_base.specs.declared.steps.SequenceStep.{SequenceStep}
-use Rattle.gb_base.specs.declared.peers.Interface.{Interface}
-use Rattle.gb_base.specs.declared.peers.Link.{Link}
-use Rattle.gb_base.specs.declared.steps.SequenceStep.TheVariants as steps
+use Rattle.std.proofs.Common.{Bool, List, None, Some, false, true, ℕ, [], ◌<◌, ◌∷◌, ◌≡◌, ◌≢◌, ◌≤◌}
+use Rattle.std.specs.List.{find}
 use Rattle.gb_base.specs.declared.end.End.TheVariants as end
 use Rattle.gb_base.specs.declared.entry.ConnState.{ConnState}
 use Rattle.gb_base.specs.declared.entry.ConnState.TheVariants as state
-use Rattle.gb_machine.specs.Arriving.{state_takes}
-use Rattle.gb_machine.specs.Bus.{Bus, Connection}
-use Rattle.gb_machine.specs.Host.{Host, is_link}
-use Rattle.std.specs.List.{find}
-use Rattle.gb_machine.specs.Members.{EachTwo, IsIn}
-use Rattle.gb_machine.specs.SequenceSteps.{
-  Target,
-  asks_control,
-  is_enumeration,
-  kind_of,
-  payload_of,
-}
+use Rattle.gb_base.specs.declared.peers.{Interface.Interface, Link.Link}
+use Rattle.gb_base.specs.declared.steps.{Purpose.Purpose, SequenceStep.SequenceStep}
+use Rattle.gb_base.specs.declared.steps.SequenceStep.TheVariants as steps
+use Rattle.gb_machine.specs.SequenceSteps.{Target, asks_control, is_enumeration, kind_of}
+use Rattle.gb_machine.specs.SequenceSteps.{payload_of}
 use Rattle.gb_machine.specs.Turns.{Act, Asking, Making, Turn}
+use Rattle.gb_machine.specs.{Arriving.state_takes, Bus.Bus, Bus.Connection, Host.Host, Host.is_link}
+use Rattle.gb_machine.specs.{Members.EachTwo, Members.IsIn}
 
 -- ---- one connection
 
@@ -94,8 +85,7 @@ pub record LinksFit (b : Bus) (ls : List Link) : Type 0 where
   pub numbered : (l : Link) → IsIn l ls → IsNumbered b.made l
   pub waiting : (l : Link) → IsIn l ls → IsWaiting l
   pub deaf : (l : Link) (c : Connection) → IsIn l ls → IsIn c b.connections
-      → c.number ≡ l.connection
-      → c.shut ≡ true → IsDeaf l
+      → c.number ≡ l.connection → c.shut ≡ true → IsDeaf l
 
 -- what is known of interfaces
 abbrev pub AreEnumerating : List Link → List Interface → Type 0
@@ -145,8 +135,7 @@ pub record IsFormed (q : Asking) : Type 0 where
   pub payload : q.payload ≡ payload_of q.purpose.step target
   pub intf : target.intf ≡ q.purpose.intf
   pub cport : target.cport ≡ q.purpose.cport
-  pub created : q.purpose.step ≡ steps.CreateConnection
-      → (target.cport ≢ 0) × (target.cport ≤ 4095)
+  pub created : q.purpose.step ≡ steps.CreateConnection → (target.cport ≢ 0) × (target.cport ≤ 4095)
   pub on : asks_control q.purpose.step ≡ false → q.on ≡ 1
   pub control : asks_control q.purpose.step ≡ true → 2 ≤ q.on
 

@@ -1,46 +1,18 @@
 -- Loose items: none more than before.
-use Rattle.std.proofs.Common.{
-  ◌≡◌,
-  ◌≤◌,
-  ℕ,
-  zero,
-  suc,
-  ◌-◌,
-  Bool,
-  true,
-  false,
-  not,
-  cond,
-  Some,
-  List,
-  [],
-  ◌∷◌,
-  ◌++◌,
-  map,
-  refl,
-  sym,
-  ap,
-  ◌∙◌,
-  inl,
-  inr,
-  ⊎_elim,
-  subst,
-  arith,
-}
+use Rattle.std.proofs.Common.{Bool, List, Some, ap, arith, cond, false, inl, inr, map, not, refl}
+use Rattle.std.proofs.Common.{subst, suc, sym, true, zero, ℕ, ⊎_elim, [], ◌++◌, ◌-◌, ◌∙◌, ◌∷◌, ◌≡◌}
+use Rattle.std.proofs.Common.{◌≤◌}
 use Rattle.std.proofs.lemmas.Bool.Decides.{nat_tests}
-use Rattle.std.specs.Prelude.{◌==◌}
 use Rattle.std.specs.List.{slice_get}
-use Rattle.gb_invariants.proofs.Awaiting.{same-some}
-use Rattle.gb_invariants.proofs.Counts.{one, times-cons}
+use Rattle.std.specs.Prelude.{◌==◌}
+use Rattle.gb_machine.specs.Holding.{held_on, held_without, is_held_on}
+use Rattle.gb_machine.specs.{Bus.Item, Lists.nth, Lists.without, Members.IsIn, Members.times}
+use Rattle.gb_machine.specs.{State.Held}
 use Rattle.gb_invariants.proofs.Lists.{in-filter, in-pushed, in-without}
-use Rattle.gb_invariants.proofs.Outcomes.{same-number}
+use Rattle.gb_invariants.proofs.{Awaiting.same-some, Counts.one, Counts.times-cons}
+use Rattle.gb_invariants.proofs.{Outcomes.same-number}
 use Rattle.gb_invariants.specs.Facts.{Loose}
 use Rattle.gb_laws.proofs.PointParts.{loose_held}
-use Rattle.gb_machine.specs.Bus.{Item}
-use Rattle.gb_machine.specs.Holding.{held_on, held_without, is_held_on}
-use Rattle.gb_machine.specs.Lists.{nth, without}
-use Rattle.gb_machine.specs.Members.{IsIn, times}
-use Rattle.gb_machine.specs.State.{Held}
 
 -- a test of items, on loose ones
 abbrev pub on_item : (Item → Bool) → Loose → Bool
@@ -51,8 +23,8 @@ pub record Fewer (later loose : List Loose) : Type 0 where
   pub within : (l : Loose) → IsIn l later → IsIn l loose
   pub counts : (test : Item → Bool) → times (on_item test) later ≤ times (on_item test) loose
 
-pub fewer-tail : (l : Loose) (ls : List Loose) → Fewer ls (l ∷ ls)
-fewer-tail l ls = record {
+pub fewer-tail : (l : Loose) {ls : List Loose} → Fewer ls (l ∷ ls)
+fewer-tail l {ls} = record {
   within = λ x i. inr i;
   counts = λ test. omega (arith, times-cons (on_item test) l ls);
 }
@@ -117,8 +89,7 @@ fewer-without k hs = record {
       where
         by : (t : Bool) → times (on_item test)
             (map loose_held (without (λ h. h.connection == k) ks)) ≤ times (on_item test)
-            (map loose_held ks)
-            → times (on_item test) (map loose_held
+            (map loose_held ks) → times (on_item test) (map loose_held
             (cond t (h ∷ without (λ h. h.connection == k) ks)
             (without (λ h. h.connection == k) ks)))
             ≤ times (on_item test) (loose_held h ∷ map loose_held ks)
@@ -166,8 +137,7 @@ in-held_without k place (x ∷ xs) h i =
     (in-held_without k place xs h)
   where
     by : (t one : Bool) → IsIn h (cond t (cond one xs (x ∷ held_without k (place - 1) xs))
-        (x ∷ held_without k place xs))
-        → (IsIn h (held_without k (place - 1) xs) → IsIn h xs)
+        (x ∷ held_without k place xs)) → (IsIn h (held_without k (place - 1) xs) → IsIn h xs)
         → (IsIn h (held_without k place xs) → IsIn h xs) → IsIn h (x ∷ xs)
     by true true i f g = inr i
     by true false (inl e) f g = inl e
@@ -221,8 +191,7 @@ pub fewer-taken : (k place : ℕ) (hs : List Held) (h : Held) (l : Loose)
     → nth place (held_on k hs) ≡ Some h → l ≡ loose_held h
     → Fewer (l ∷ map loose_held (held_without k place hs)) (map loose_held hs)
 fewer-taken k place hs h l e is = record {
-  within = λ x i. ⊎_elim
-      (λ same. subst (λ y. IsIn y (map loose_held hs)) (sym (same ∙ is))
+  within = λ x i. ⊎_elim (λ same. subst (λ y. IsIn y (map loose_held hs)) (sym (same ∙ is))
       (map-held-in h hs (held-at k place hs h e).0))
       (λ j. within-held (held_without k place hs) hs (in-held_without k place hs) x j) i;
   counts = λ test. omega (

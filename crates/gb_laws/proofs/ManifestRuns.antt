@@ -1,28 +1,22 @@
 -- The manifest of each module that is plugged fits into a message, in each state of a run.
 use Rattle.std.proofs.Common.{List, ⊎_elim}
 use Rattle.gb_base.specs.declared.entry.Entry.{Entry}
-use Rattle.gb_laws.proofs.Basics.{Based, basis-first, basis-kept, rested}
-use Rattle.gb_laws.proofs.LinkActs.{awaited-plugs}
-use Rattle.gb_laws.proofs.PointParts.{Basis, Point}
-use Rattle.gb_laws.proofs.Points.{AreShort, Change, Law, acts_asked, changed, others}
+use Rattle.gb_machine.specs.{Runs.Moment, State.State}
+use Rattle.gb_laws.proofs.Basics.{Based, basis, basis-first, rested}
+use Rattle.gb_laws.proofs.Points.{AreShort, Change, Law, acts_asked, changed, others, upon}
 use Rattle.gb_laws.proofs.Runs.{HoldsByMoments, throughout, weaker}
-use Rattle.gb_laws.proofs.Steps.{over-step}
-use Rattle.gb_machine.specs.Runs.{Moment}
-use Rattle.gb_machine.specs.State.{State}
+use Rattle.gb_laws.proofs.{LinkActs.awaited-plugs, PointParts.Point, Steps.over-step}
 
 pub short-kept : (m : Moment) (a : Point) (x : Change m a) → AreShort a.state.modules
     → AreShort (changed m a x).state.modules
-short-kept m a (acts_asked q n rest is) h = (awaited-plugs q.purpose n a.state).short h
+short-kept m a (acts_asked q n rest is) h = (awaited-plugs q.purpose n).short h
 short-kept m a (others booted marks ports modules same) h =
     ⊎_elim (λ s. s.0.short h) (λ of. of.2 h) same
 short-kept m a _ h = h
 
 abbrev pub short_law : (m : Moment) → Law m
-short_law m = record {
-  holds = λ a. Basis a × AreShort a.state.modules;
-  basis = λ a h. h.0;
-  kept = λ a x h. (basis-kept m a x h.0, short-kept m a x h.1);
-}
+short_law m =
+    upon (basis m) (λ a. AreShort a.state.modules) (λ a x g h. short-kept m a x h)
 
 abbrev pub ShortTo : List Entry → State → Type 0
 ShortTo told s = Based told s × AreShort s.modules

@@ -1,68 +1,28 @@
 -- The manifest of each module that is plugged fits into a message, and no module changes it.
-use Rattle.std.proofs.Common.{
-  ◌≡◌,
-  ◌≤◌,
-  ℕ,
-  Bool,
-  true,
-  false,
-  cond,
-  Option,
-  Some,
-  None,
-  List,
-  length,
-  refl,
-  sym,
-  ap,
-  ⊎_elim,
-  subst,
-  arith,
-}
+use Rattle.std.proofs.Common.{Bool, List, None, Option, Some, ap, arith, cond, false, length, refl}
+use Rattle.std.proofs.Common.{subst, sym, true, ℕ, ⊎_elim, ◌≡◌, ◌≤◌}
 use Rattle.std.proofs.lemmas.Bool.Decides.{nat_tests}
-use Rattle.std.specs.Prelude.{Result, Ok, Err, ◌==◌, option_map}
 use Rattle.std.specs.List.{find}
-use Rattle.gb_base.specs.declared.event.Event.TheVariants as event
+use Rattle.std.specs.Prelude.{Ok, Result, option_map, ◌==◌}
 use Rattle.gb_base.specs.declared.event.Kind.{Kind}
+use Rattle.gb_base.specs.declared.event.Event.TheVariants as event
 use Rattle.gb_base.specs.declared.event.Kind.TheVariants as kinds
-use Rattle.gb_formats.specs.ControlRecords.{ControlAsk, read_control_ask}
-use Rattle.gb_formats.specs.ControlResponder.{
-  control_read,
-  control_step,
-  is_off,
-  is_quiet,
-  made_quiet,
-  turn_step,
-  turned_off,
-  turned_on,
-}
+use Rattle.gb_formats.specs.ControlResponder.{control_read, control_step, is_off, is_quiet}
+use Rattle.gb_formats.specs.ControlResponder.{made_quiet, turn_step, turned_off, turned_on}
 use Rattle.gb_formats.specs.Devices.{Device, Stir, device_stir}
-use Rattle.gb_formats.specs.Module.{
-  CportState,
-  Module,
-  ModulePort,
-  is_on,
-  module_of_kind,
-  module_raw,
-  port_at,
-}
-use Rattle.gb_formats.specs.ModuleSteps.{
-  module_serve,
-  module_stir,
-  port_served,
-  port_stir,
-  port_stirred,
-}
-use Rattle.gb_formats.specs.Records.{PayloadFault}
-use Rattle.gb_formats.specs.Results.{Step, Stirred}
-use Rattle.gb_invariants.proofs.Awaiting.{same-some}
-use Rattle.gb_invariants.proofs.Lists.{found-in, in-at_first}
-use Rattle.gb_laws.proofs.LinkLists.{in-ordered}
-use Rattle.gb_laws.proofs.Points.{AreShort}
+use Rattle.gb_formats.specs.Module.{CportState, Module, ModulePort, is_on, module_of_kind}
+use Rattle.gb_formats.specs.Module.{module_raw, port_at}
+use Rattle.gb_formats.specs.ModuleSteps.{module_serve, module_stir, port_served, port_stir}
+use Rattle.gb_formats.specs.ModuleSteps.{port_stirred}
+use Rattle.gb_formats.specs.{ControlRecords.ControlAsk, ControlRecords.read_control_ask}
+use Rattle.gb_formats.specs.{Records.PayloadFault, Results.Step, Results.Stirred}
 use Rattle.gb_machine.proofs.Conditions.{free}
 use Rattle.gb_machine.specs.Modules.{is_plugged_at, module_at, plugged, plugged_before, with_module}
-use Rattle.gb_machine.specs.Refusals.{longest_manifest, refusal}
-use Rattle.gb_machine.specs.State.{Plugged, State}
+use Rattle.gb_machine.specs.{Refusals.longest_manifest, Refusals.refusal, State.Plugged}
+use Rattle.gb_machine.specs.{State.State}
+use Rattle.gb_invariants.proofs.{Awaiting.same-some, Found.in-ordered, Lists.found-in}
+use Rattle.gb_invariants.proofs.{Lists.in-at_first}
+use Rattle.gb_laws.proofs.Points.{AreShort}
 
 -- ---- no module changes its manifest
 
@@ -80,15 +40,12 @@ turn-manifest m (Some port) wanted change =
 
 control-manifest : (m : Module) (r : Result ControlAsk PayloadFault)
     → (control_read m r).after.manifest ≡ m.manifest
-control-manifest m (Err fault) = refl
-control-manifest m (Ok (ControlAsk.Version major minor)) = refl
-control-manifest m (Ok ControlAsk.GetManifestSize) = refl
-control-manifest m (Ok ControlAsk.GetManifest) = refl
 control-manifest m (Ok (ControlAsk.Connected c)) = turn-manifest m (port_at m c) is_off turned_on
 control-manifest m (Ok (ControlAsk.Disconnected c)) =
     turn-manifest m (port_at m c) is_quiet turned_off
 control-manifest m (Ok (ControlAsk.Disconnecting c)) =
     turn-manifest m (port_at m c) is_on made_quiet
+control-manifest m _ = refl
 
 -- A request that is served leaves it.
 pub serve-manifest : (m : Module) (c kind : ℕ) (payload : List ℕ)

@@ -1,55 +1,16 @@
 -- The insertions and removals that the supervisory controller has told and that wait to be handled.
-use Rattle.std.proofs.Common.{
-  ◌≡◌,
-  ◌≢◌,
-  ℕ,
-  Bool,
-  true,
-  false,
-  cond,
-  Option,
-  Some,
-  None,
-  List,
-  [],
-  ◌∷◌,
-  ◌++◌,
-  refl,
-  sym,
-  ap,
-  ◌∙◌,
-  inl,
-  inr,
-  append_assoc,
-  append-nil,
-}
-use Rattle.std.specs.Prelude.{◌==◌, if◌then◌else◌, is_some, not}
+use Rattle.std.proofs.Common.{Bool, List, None, Option, Some, ap, append-nil, append_assoc, false}
+use Rattle.std.proofs.Common.{inl, inr, refl, sym, true, ℕ, [], ◌++◌, ◌∙◌, ◌∷◌, ◌≡◌, ◌≢◌}
 use Rattle.std.specs.List.{find}
+use Rattle.std.specs.Prelude.{if◌then◌else◌, is_some, ◌==◌}
 use Rattle.gb_base.specs.declared.end.Side.TheVariants as side
-use Rattle.gb_invariants.proofs.Awaiting.{not-both}
-use Rattle.gb_invariants.proofs.Outcomes.{same-number}
-use Rattle.gb_laws.proofs.Owning.{KeepsRequests}
-use Rattle.gb_machine.specs.Bus.{
-  Ask,
-  Bus,
-  Connection,
-  Item,
-  Raw,
-  RawReply,
-  Reply,
-  Request,
-  has_number,
-  queue,
-  request_of,
-}
-use Rattle.gb_machine.specs.Host.{first_host, interface_of}
-use Rattle.gb_machine.specs.HostServing.{serves_svc}
-use Rattle.gb_machine.specs.Lists.{at_first, without}
-use Rattle.gb_machine.specs.Members.{EachTwo, IsIn}
-use Rattle.gb_machine.specs.Modules.{is_plugged}
-use Rattle.gb_machine.specs.State.{Plugged, State}
-use Rattle.gb_machine.specs.SvcQueues.{items_in, svc_items}
-use Rattle.gb_machine.specs.Turns.{HostEvent}
+use Rattle.gb_machine.specs.Bus.{Ask, Bus, Connection, Item, Raw, RawReply, Reply, Request}
+use Rattle.gb_machine.specs.Bus.{has_number, queue, request_of}
+use Rattle.gb_machine.specs.{Host.first_host, Host.interface_of, HostServing.serves_svc}
+use Rattle.gb_machine.specs.{Lists.at_first, Members.EachTwo, Members.IsIn, Modules.is_plugged}
+use Rattle.gb_machine.specs.{State.Plugged, State.State, SvcQueues.items_in, SvcQueues.svc_items}
+use Rattle.gb_machine.specs.{Turns.HostEvent}
+use Rattle.gb_invariants.proofs.{Awaiting.not-both, BusChanges.KeepsRequests, Found.found-first}
 
 -- what a request of the supervisory controller makes the application processor take notice of
 abbrev pub notice_of : ℕ → List ℕ → Option HostEvent
@@ -57,12 +18,9 @@ notice_of kind payload = (serves_svc kind payload first_host).notices
 
 -- true for the insertion of an interface, false for its removal
 abbrev pub mark_in : ℕ → Option HostEvent → List Bool
-mark_in i None = []
 mark_in i (Some (HostEvent.Inserted j)) = if j == i then true ∷ [] else []
 mark_in i (Some (HostEvent.Removed j)) = if j == i then false ∷ [] else []
-mark_in i (Some (HostEvent.Connect j c)) = []
-mark_in i (Some (HostEvent.Disconnect j c)) = []
-mark_in i (Some (HostEvent.Ended n how)) = []
+mark_in i _ = []
 
 abbrev pub request_mark : ℕ → Option Request → List Bool
 request_mark i None = []
@@ -70,9 +28,7 @@ request_mark i (Some r) = mark_in i (notice_of r.kind r.payload)
 
 abbrev pub item_mark : ℕ → Bus → Item → List Bool
 item_mark i b (Ask n) = request_mark i (request_of n b)
-item_mark i b (Reply n result payload) = []
-item_mark i b (Raw bytes) = []
-item_mark i b (RawReply label kind result payload) = []
+item_mark i b _ = []
 
 abbrev pub marks_of : ℕ → Bus → List Item → List Bool
 marks_of i b [] = []
@@ -104,15 +60,15 @@ pub record MarksFit (s : State) : Type 0 where
 -- ---- reading
 
 -- where less is known
-pub reads-less : (known less : Bool) (ms : List Bool) (plugged : Bool)
+pub reads-less : {known : Bool} (less : Bool) (ms : List Bool) (plugged : Bool)
     → (less ≡ true → known ≡ true) → Reads known ms plugged → Reads less ms plugged
-reads-less known less [] plugged h r = λ e. r (h e)
-reads-less known less (true ∷ ms) plugged h r = (by less refl, r.1)
+reads-less less [] plugged h r = λ e. r (h e)
+reads-less {known} less (true ∷ ms) plugged h r = (by less refl, r.1)
   where
     by : (t : Bool) → less ≡ t → t ≡ false
     by false e = refl
     by true e = absurd (not-both known (h e) r.0)
-reads-less known less (false ∷ ms) plugged h r = r
+reads-less less (false ∷ ms) plugged h r = r
 
 -- where nothing is plugged at the end, something is plugged and told
 pub reads-told : (known : Bool) (ms : List Bool) → Reads known ms false
@@ -182,59 +138,5 @@ pub marks-first : (i : ℕ) (b : Bus) (k : ℕ) (f : Connection → Connection) 
     → marks_of i b (items_in side.Ap
     (find (has_number 1) (at_first (has_number k) f cs))) ≡ marks_of i b
     (items_in side.Ap (find (has_number 1) cs))
-marks-first i b k f [] same keeps = refl
-marks-first i b k f (x ∷ xs) same keeps =
-    by (x.number == k) refl (marks-first i b k f xs same (λ c j. keeps c (inr j)))
-  where
-    Same : List Connection → Type 0
-    Same ys = marks_of i b (items_in side.Ap (find (has_number 1) ys)) ≡ marks_of i b
-        (items_in side.Ap (find (has_number 1) (x ∷ xs)))
-
-    here : x.number ≡ k → (t : Bool) → (x.number == 1) ≡ t
-        → marks_of i b (items_in side.Ap (cond t (Some (f x)) (find (has_number 1) xs))) ≡ marks_of
-        i b (items_in side.Ap (cond t (Some x) (find (has_number 1) xs)))
-    here on true e = keeps x (inl refl) on (same-number x.number 1 e)
-    here on false e = refl
-
-    rest : (t : Bool) → marks_of i b
-        (items_in side.Ap (find (has_number 1) (at_first (has_number k) f xs))) ≡ marks_of i b
-        (items_in side.Ap (find (has_number 1) xs))
-        → marks_of i b (items_in side.Ap
-        (cond t (Some x) (find (has_number 1) (at_first (has_number k) f xs))))
-        ≡ marks_of i b (items_in side.Ap (cond t (Some x) (find (has_number 1) xs)))
-    rest true h = refl
-    rest false h = h
-
-    by : (t : Bool) → (x.number == k) ≡ t
-        → marks_of i b (items_in side.Ap
-        (find (has_number 1) (at_first (has_number k) f xs))) ≡ marks_of i b
-        (items_in side.Ap (find (has_number 1) xs))
-        → marks_of i b (items_in side.Ap
-        (find (has_number 1) (cond t (f x ∷ xs) (x ∷ at_first (has_number k) f xs))))
-        ≡ marks_of i b (items_in side.Ap (find (has_number 1) (x ∷ xs)))
-    by true e h = ap (λ n. marks_of i b
-        (items_in side.Ap (cond (n == 1) (Some (f x)) (find (has_number 1) xs)))) (same x)
-        ∙ here (same-number x.number k e) (x.number == 1) refl
-    by false e h = rest (x.number == 1) h
-
--- what is found stays where others leave
-pub find-left : {A : Type 0} (test left : A → Bool) (xs : List A)
-    → ((x : A) → test x ≡ true → left x ≡ false) → find test (without left xs) ≡ find test xs
-find-left test left [] other = refl
-find-left {A} test left (x ∷ xs) other =
-    by (test x) refl (left x) refl (find-left test left xs other)
-  where
-    by : (t : Bool) → test x ≡ t → (u : Bool) → left x ≡ u
-        → find test (without left xs) ≡ find test xs
-        → find test (cond (not u) (x ∷ without left xs) (without left xs)) ≡ cond t (Some x)
-        (find test xs)
-    by true e true f h = absurd (not-both (left x) f (other x e))
-    by true e false f h = ap (λ b. cond b (Some x) (find test (without left xs))) e
-    by false e true f h = h
-    by false e false f h = ap (λ b. cond b (Some x) (find test (without left xs))) e ∙ h
-
--- or one comes behind that doesn't pass
-pub find-pushed : {A : Type 0} (test : A → Bool) (xs : List A) (y : A) → test y ≡ false
-    → find test (xs ++ y ∷ []) ≡ find test xs
-find-pushed test [] y e = ap (λ b. cond b (Some y) None) e
-find-pushed test (x ∷ xs) y e = ap (λ o. cond (test x) (Some x) o) (find-pushed test xs y e)
+marks-first i b k f cs same keeps =
+    found-first 1 (λ o. marks_of i b (items_in side.Ap o)) k f cs same keeps

@@ -2,14 +2,10 @@
 -- changes lead to from there.
 use Rattle.std.proofs.Common.{List, []}
 use Rattle.gb_base.specs.declared.entry.Entry.{Entry}
+use Rattle.gb_machine.specs.{Reached.OfARun, Runs.Moment, State.State}
 use Rattle.gb_laws.proofs.LinkRuns.{LinkedTo, start-absent, there_law}
-use Rattle.gb_laws.proofs.Linking.{LinkedAt}
 use Rattle.gb_laws.proofs.Points.{Basis, Change, Law, Point, changed, resting}
-use Rattle.gb_laws.proofs.Reached.{reached-told}
-use Rattle.gb_laws.proofs.There.{There}
-use Rattle.gb_machine.specs.Reached.{OfARun}
-use Rattle.gb_machine.specs.Runs.{Moment}
-use Rattle.gb_machine.specs.State.{State}
+use Rattle.gb_laws.proofs.{LinkKept.LinkedAt, Reached.reached-told, SvcThere.There}
 
 -- A point comes after another within a step: each law that holds there holds here.
 abbrev pub ComesAfter : (m : Moment) → Point → Point → Type 1

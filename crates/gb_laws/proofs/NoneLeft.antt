@@ -1,41 +1,13 @@
 -- Where no identifier comes next, all of the cycle are in use.
-use Rattle.std.proofs.Common.{
-  ◌≡◌,
-  ◌<◌,
-  ◌≤◌,
-  ℕ,
-  zero,
-  suc,
-  ◌+◌,
-  ◌-◌,
-  Bool,
-  true,
-  false,
-  cond,
-  ⊎_elim,
-  Some,
-  None,
-  option_and_then,
-  refl,
-  sym,
-  ap,
-  ◌∙◌,
-  arith,
-  ltb,
-}
+use Rattle.std.proofs.Common.{Bool, None, Some, ap, arith, cond, false, ltb, option_and_then, refl}
+use Rattle.std.proofs.Common.{suc, sym, true, zero, ℕ, ⊎_elim, ◌+◌, ◌-◌, ◌<◌, ◌∙◌, ◌≡◌, ◌≤◌}
 use Rattle.std.proofs.lemmas.Bool.{cases_lt}
 use Rattle.std.proofs.lemmas.Bool.Decides.{nat_tests}
-use Rattle.gb_invariants.proofs.Drawing.{label_after-within}
-use Rattle.gb_laws.specs.NoneLeft.{NoneLeftMeansAllInUse}
-use Rattle.gb_machine.specs.Labels.{
-  cyclic_label,
-  free_label,
-  greatest_label,
-  label_after,
-  last_label,
-  next_label,
-}
+use Rattle.gb_machine.proofs.Labels.{label_after-less, label_after-within}
+use Rattle.gb_machine.specs.Labels.{cyclic_label, free_label, greatest_label, label_after}
+use Rattle.gb_machine.specs.Labels.{last_label, next_label}
 use Rattle.gb_machine.specs.Requests.{is_used}
+use Rattle.gb_laws.specs.NoneLeft.{NoneLeftMeansAllInUse}
 
 -- the identifier so many places behind another in the cycle
 unfoldable label_behind : ℕ → ℕ → ℕ
@@ -52,28 +24,19 @@ all-tried used (suc tries) start none i less =
   where
     by : (t : Bool) → used start ≡ t
         → cond t (free_label used tries (label_after start)) (Some start) ≡ None
-        → (i : ℕ) → i < suc tries
-        → (free_label used tries (label_after start) ≡ None
+        → (i : ℕ) → i < suc tries → (free_label used tries (label_after start) ≡ None
         → (j : ℕ) → j < tries → used (label_behind j (label_after start)) ≡ true)
         → used (label_behind i start) ≡ true
     by false e h i less later = absurd cc
     by true e h zero less later = e
     by true e h (suc j) less later = later h j (omega (arith, less))
 
--- the identifier behind one that isn't the greatest, and behind the greatest
-after-less : (label : ℕ) → label < greatest_label → label_after label ≡ label + 1
-after-less label h = by (ltb label greatest_label) refl
-  where
-    by : (t : Bool) → ltb label greatest_label ≡ t → cond t (label + 1) 1 ≡ label + 1
-    by true e = refl
-    by false e = absurd (grind (arith, nat_tests))
-
 -- up to the greatest they rise by one
 rises : (n start : ℕ) → start + n ≤ greatest_label → label_behind n start ≡ start + n
 unfolding label_behind
 rises zero start h = omega arith
 rises (suc n) start h =
-    ap (label_behind n) (after-less start (omega (arith, h)))
+    ap (label_behind n) (label_after-less start (omega (arith, h)))
     ∙ rises n (start + 1) (omega (arith, h)) ∙ omega arith
 
 behind-sum : (m n start : ℕ) → label_behind (m + n) start ≡ label_behind n (label_behind m start)
@@ -97,8 +60,7 @@ unfolding label_behind
 around start label high low least =
     ap (λ i. label_behind i start) split
     ∙ behind-sum (greatest_label - start) (suc (label - 1)) start
-    ∙ ap (label_behind (suc (label - 1))) (rises (greatest_label - start) start up ∙ last)
-    ∙ first
+    ∙ ap (label_behind (suc (label - 1))) (rises (greatest_label - start) start up ∙ last) ∙ first
   where
     split : greatest_label - start + label ≡ greatest_label - start + suc (label - 1)
     split = omega (arith, low)
@@ -112,9 +74,9 @@ around start label high low least =
     first : label_behind (suc (label - 1)) greatest_label ≡ label
     first = rises (label - 1) 1 (omega (arith, low, least)) ∙ omega (arith, low)
 
-stands : (start label : ℕ) → 1 ≤ start → start ≤ greatest_label → 1 ≤ label → label ≤ greatest_label
-    → Stands start label
-stands start label low high least greatest = ⊎_elim below above (cases_lt label start)
+stands : {start : ℕ} (label : ℕ) → 1 ≤ start → start ≤ greatest_label → 1 ≤ label → label ≤
+    greatest_label → Stands start label
+stands {start} label low high least greatest = ⊎_elim below above (cases_lt label start)
   where
     above : start ≤ label → Stands start label
     above h = record {
@@ -139,7 +101,7 @@ none-left b k at c live none label low high = by none
     by : next_label k at b ≡ None → is_used k at b label ≡ true
     by h =
         let n = label_after-within (last_label at c) in
-        let s = stands (label_after (last_label at c)) label n.0 n.1 low high in
+        let s = stands label n.0 n.1 low high in
         ap (is_used k at b) (sym s.is)
         ∙ all-tried (is_used k at b) greatest_label (label_after (last_label at c))
         (ap (option_and_then (cyclic_label k at b)) (sym live) ∙ h) s.places s.within

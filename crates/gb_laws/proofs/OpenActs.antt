@@ -1,73 +1,27 @@
 -- The requests of the application processor are upon live connections behind each of its acts.
-use Rattle.std.proofs.Common.{
-  ◌≡◌,
-  ◌≢◌,
-  ◌≤◌,
-  ℕ,
-  Bool,
-  true,
-  false,
-  Option,
-  Some,
-  None,
-  List,
-  [],
-  ◌∷◌,
-  refl,
-  sym,
-  ap,
-  ◌∙◌,
-  inl,
-  inr,
-  ⊎_elim,
-  subst,
-  arith,
-}
-use Rattle.std.specs.Prelude.{◌==◌, option_map}
+use Rattle.std.proofs.Common.{Bool, List, None, Option, Some, ap, arith, false, inl, inr, refl}
+use Rattle.std.proofs.Common.{subst, sym, true, ℕ, ⊎_elim, [], ◌∙◌, ◌∷◌, ◌≡◌, ◌≢◌, ◌≤◌}
+use Rattle.std.specs.Prelude.{option_map, ◌==◌}
+use Rattle.gb_base.specs.declared.end.End.TheVariants as end
 use Rattle.gb_base.specs.declared.end.Side.TheVariants as side
 use Rattle.gb_base.specs.declared.entry.ConnState.TheVariants as state
 use Rattle.gb_base.specs.declared.peers.Link.{Link}
-use Rattle.gb_invariants.proofs.Awaiting.{AwaitsFewer, is-of, not-both, side_ended-before}
-use Rattle.gb_invariants.proofs.Lists.{in-pushed}
-use Rattle.gb_invariants.proofs.Numbers.{found-number}
-use Rattle.gb_invariants.proofs.Outcomes.{is-same, same-number}
-use Rattle.gb_laws.proofs.Closings.{LeavesOpen}
-use Rattle.gb_laws.proofs.LinkBuses.{new_link}
-use Rattle.gb_laws.proofs.LinkedFrom.{Linked}
-use Rattle.gb_laws.proofs.Linking.{LinkedAt}
-use Rattle.gb_laws.proofs.Links.{ArePending}
-use Rattle.gb_laws.proofs.Points.{IsAskedBy, IsPlain, by_far, by_host, by_module, by_svc}
-use Rattle.gb_laws.proofs.PointParts.{Point}
-use Rattle.gb_laws.proofs.Shutting.{
-  is_shut,
-  shut-gone,
-  shut-left,
-  shut-more,
-  shut-other,
-  shut-self,
-  shut_of,
-  side_ended-none,
-}
 use Rattle.gb_machine.specs.Bus.{Bus, Connection, Request, connection_of, request_of}
-use Rattle.gb_machine.specs.Host.{Host, with_new_link}
-use Rattle.gb_machine.specs.LawsBus.{is_awaited}
-use Rattle.gb_machine.specs.Members.{IsIn}
-use Rattle.gb_machine.specs.Requests.{is_of}
-use Rattle.gb_machine.specs.Arriving.{state_takes}
-use Rattle.gb_machine.specs.SequenceSteps.{asks_control}
-use Rattle.gb_base.specs.declared.end.End.TheVariants as end
-use Rattle.gb_machine.specs.Runs.{Moment}
-use Rattle.gb_machine.specs.Sending.{Draft}
 use Rattle.gb_machine.specs.Turns.{Act, Asking, Making}
-use Rattle.gb_machine.specs.Wiring.{
-  attached,
-  detached,
-  new_connection,
-  next_connection,
-  shut_down,
-  with_connection,
-}
+use Rattle.gb_machine.specs.Wiring.{attached, detached, new_connection, next_connection, shut_down}
+use Rattle.gb_machine.specs.Wiring.{with_connection}
+use Rattle.gb_machine.specs.{Arriving.state_takes, Host.Host, Host.with_new_link}
+use Rattle.gb_machine.specs.{LawsBus.is_awaited, Members.IsIn, Requests.is_of, Runs.Moment}
+use Rattle.gb_machine.specs.{Sending.Draft, SequenceSteps.asks_control}
+use Rattle.gb_invariants.proofs.Awaiting.{AwaitsFewer, is-of, not-both, side_ended-before}
+use Rattle.gb_invariants.proofs.{Lists.in-pushed, Numbers.found-number, Outcomes.is-same}
+use Rattle.gb_invariants.proofs.{Outcomes.same-number, Selves.ap-no-far}
+use Rattle.gb_laws.proofs.LinkSides.{is_shut, shut-gone, shut-left, shut-more, shut-other}
+use Rattle.gb_laws.proofs.LinkSides.{shut-self, shut_of, side_ended-none}
 use Rattle.gb_laws.proofs.Opens.{IsUpon, Opens, open-found, open-link, open-svc}
+use Rattle.gb_laws.proofs.Points.{IsAskedBy, IsPlain, by_far, by_host, by_module, by_svc}
+use Rattle.gb_laws.proofs.{LinkBuses.new_link, LinkCloses.LeavesOpen, LinkFrom.Linked}
+use Rattle.gb_laws.proofs.{LinkKept.LinkedAt, Links.ArePending, PointParts.Point}
 
 -- ---- who asks
 
@@ -85,28 +39,20 @@ upon-host m a d c q rest live links is on = record {
     pending = subst (ArePending a.state.host) is links.pending
 
     by : (t : Bool) → asks_control q.purpose.step ≡ t → c.shut ≡ true → ⊥
-    by false e = open-svc a.state.bus a.state.host a.pending d.connection c links live
-        (on ∙ pending.0.2.on e)
+    by false e = open-svc d.connection c links live (on ∙ pending.0.2.on e)
     by true e =
         let l = pending.0.3 e in
-        open-link a.state.bus a.state.host a.pending d.connection c l.0 links live l.1
-        (on ∙ sym l.2) (λ deaf. deaf.cport l.3)
+        open-link d.connection c l.0 links live l.1 (on ∙ sym l.2) (λ deaf. deaf.cport l.3)
 
 pub upon-asked : (m : Moment) (a : Point) (d : Draft) (c : Connection)
     → connection_of d.connection a.state.bus ≡ Some c → LinkedAt a → IsAskedBy m a c d
     → d.side ≡ side.Ap → IsUpon d.connection a.state.bus a.pending
 upon-asked m a d c live links (by_host q rest is draft none) ap_side =
     upon-host m a d c q rest live links is (ap (λ (x : Draft). x.connection) draft)
-upon-asked m a d c live links (by_far (by_module i p at far) on) ap_side = absurd (apart
+upon-asked m a d c live links (by_far (by_module i p at far) on) ap_side = absurd (ap-no-far
     (sym ap_side ∙ far))
-  where
-    apart : side.Ap ≡ side.Far → ⊥
-    apart e = absurd cc
-upon-asked m a d c live links (by_far (by_svc of far off) on) ap_side = absurd (apart (sym ap_side
-    ∙ far))
-  where
-    apart : side.Ap ≡ side.Far → ⊥
-    apart e = absurd cc
+upon-asked m a d c live links (by_far (by_svc of far off) on) ap_side = absurd
+    (ap-no-far (sym ap_side ∙ far))
 
 -- a line that asks
 pub upon-line : (a : Point) (d : Draft) (c : Connection)
@@ -118,27 +64,25 @@ upon-line a d c live links plain none = record {
 }
   where
     by : IsPlain a.state d → c.shut ≡ true → ⊥
-    by (inl svc) = open-svc a.state.bus a.state.host a.pending d.connection c links live svc.1
-    by (inr l) = open-link a.state.bus a.state.host a.pending d.connection c l.0 links live l.1 l.2
+    by (inl svc) = open-svc d.connection c links live svc.1
+    by (inr l) = open-link d.connection c l.0 links live l.1 l.2
         (λ deaf. not-both (state_takes l.0.state) l.3 deaf.takes)
 
 -- ---- acts
 
 -- a side is closed
-pub opens-shut : (b : Bus) (h : Host) (k : ℕ) (rest : List Act) → Opens b h (Act.Shut k ∷ rest)
+pub opens-shut : {b : Bus} {h : Host} (k : ℕ) (rest : List Act) → Opens b h (Act.Shut k ∷ rest)
     → Opens (shut_down k b) h rest
-opens-shut b h k rest f = record {
+opens-shut {b} k rest f = record {
   upon = λ n r made w ap_side.
       let other = apart n r made w ap_side in
       let u = f.upon n r made (before.before n w) ap_side in
       record {
         open_ = ap (option_map is_shut) (shut-other k closed b.connections
-            (λ c. refl) r.connection other)
-            ∙ u.open_;
+            (λ c. refl) r.connection other) ∙ u.open_;
         stays = λ y. u.stays (λ e. other (sym e), y);
       };
-  closing = λ n x. ⊎_elim
-      (λ shut. inl (still n shut (n == k) refl))
+  closing = λ n x. ⊎_elim (λ shut. inl (still n shut (n == k) refl))
       (λ i. ⊎_elim (λ e. inl (subst (λ j. shut_of j (shut_down k b) ≢ Some false)
       (sym (same-shut n k e)) (shut-self k b.connections))) (λ j. inr j) i) (f.closing n x);
 }
@@ -170,17 +114,16 @@ opens-shut b h k rest f = record {
         (λ f. not-both (n == k) (ap (λ j. j == k) f ∙ is-same k) e))) ∙ g)
 
 -- a connection is given up
-pub opens-left : (b : Bus) (h : Host) (k : ℕ) (rest : List Act) → Opens b h (Act.Leave k ∷ rest)
+pub opens-left : {b : Bus} {h : Host} (k : ℕ) (rest : List Act) → Opens b h (Act.Leave k ∷ rest)
     → Opens (detached k b) h rest
-opens-left b h k rest f = record {
+opens-left {b} k rest f = record {
   upon = λ n r made w ap_side.
       let u = f.upon n r made w ap_side in
       record {
         open_ = shut-left k b.connections r.connection (λ e. u.stays (inl (sym e))) ∙ u.open_;
         stays = λ y. u.stays (inr y);
       };
-  closing = λ n x. ⊎_elim
-      (λ shut. inl (still n shut (n == k) refl))
+  closing = λ n x. ⊎_elim (λ shut. inl (still n shut (n == k) refl))
       (λ i. inr (⊎_elim (λ e. absurd cc) (λ j. j) i)) (f.closing n x);
 }
   where
@@ -192,12 +135,12 @@ opens-left b h k rest f = record {
         (λ f. not-both (n == k) (ap (λ j. j == k) f ∙ is-same k) e)) ∙ g)
 
 -- a connection is made
-pub opens-opened : (b : Bus) (h : Host) (w : Making) (q : Asking) (rest : List Act)
+pub opens-opened : {b : Bus} {h : Host} (w : Making) (q : Asking) (rest : List Act)
     → ((c : Connection) → IsIn c b.connections → c.number ≤ b.made)
     → Linked b h (Act.Open w q ∷ rest) → Opens b h (Act.Open w q ∷ rest)
     → Opens (attached w.ap w.intf w.cport w.protocol b)
     (with_new_link (next_connection b) w.ap w.intf w.cport w.protocol h) (Act.Ask q ∷ rest)
-opens-opened b h w q rest range links f = record {
+opens-opened {b} {h} w q rest range links f = record {
   upon = λ n r made w' ap_side.
       let u = f.upon n r made w' ap_side in
       record {
@@ -205,11 +148,8 @@ opens-opened b h w q rest range links f = record {
             ∙ u.open_;
         stays = u.stays;
       };
-  closing = λ n x. ⊎_elim
-      (λ old. ⊎_elim
-      (λ shut. inl (λ e. shut (sym (shut-more b.connections new n
-      (linked-before n x.link old x.on)) ∙ e)))
-      (λ i. inr (⊎_elim (λ e. absurd cc) (λ j. inr j) i))
+  closing = λ n x. ⊎_elim (λ old. ⊎_elim (λ shut. inl (λ e. shut (sym (shut-more b.connections new n
+      (linked-before n x.link old x.on)) ∙ e))) (λ i. inr (⊎_elim (λ e. absurd cc) (λ j. inr j) i))
       (f.closing n (record { link = x.link; live = old; on = x.on; closing = x.closing })))
       (λ e. absurd (opening-closing (sym (ap (λ (l : Link). l.state) e) ∙ x.closing)))
       (in-pushed x.link h.links (new_link (next_connection b) w) x.live);

@@ -1,33 +1,21 @@
 -- Each open request of the application processor is on a live connection, and its side of that
 -- isn't closed, in each state of a run.
-use Rattle.std.proofs.Common.{◌≡◌, ℕ, false, Option, Some, None, List, [], refl, ap}
-use Rattle.std.specs.Prelude.{◌||◌, option_map}
+use Rattle.std.proofs.Common.{List, None, Option, Some, ap, false, refl, ℕ, [], ◌≡◌}
+use Rattle.std.specs.Prelude.{option_map, ◌||◌}
 use Rattle.gb_base.specs.declared.entry.Entry.{Entry}
-use Rattle.gb_invariants.proofs.Awaiting.{same-some}
-use Rattle.gb_laws.proofs.Basics.{none-made}
-use Rattle.gb_laws.proofs.LinkLaw.{link_law}
-use Rattle.gb_laws.proofs.LinkRuns.{LinkedTo, linked-over, linked-throughout, start-absent}
-use Rattle.gb_laws.proofs.Linking.{InsertsAbsent, LinkedAt}
-use Rattle.gb_laws.proofs.OpenKept.{opens-kept}
-use Rattle.gb_laws.proofs.Opens.{Opens}
-use Rattle.gb_laws.proofs.PointParts.{Basis}
-use Rattle.gb_laws.proofs.Points.{Law}
-use Rattle.gb_laws.proofs.Runs.{HoldsByMoments, throughout, weaker}
-use Rattle.gb_laws.proofs.Shutting.{is_shut, shut_of}
-use Rattle.gb_laws.proofs.Steps.{over-step}
 use Rattle.gb_machine.specs.Bus.{Bus, Connection, connection_of}
-use Rattle.gb_machine.specs.LawsHotPlug.{OpenIsLive}
-use Rattle.gb_machine.specs.Requests.{is_given_up}
-use Rattle.gb_machine.specs.Runs.{Moment}
-use Rattle.gb_machine.specs.State.{State}
+use Rattle.gb_machine.specs.{LawsHotPlug.OpenIsLive, Requests.is_given_up, Runs.Moment, State.State}
+use Rattle.gb_invariants.proofs.Awaiting.{same-some}
+use Rattle.gb_laws.proofs.LinkRuns.{LinkedTo, linked-over, linked-throughout, start-absent}
+use Rattle.gb_laws.proofs.Runs.{HoldsByMoments, throughout, weaker}
+use Rattle.gb_laws.proofs.{Basics.none-made, LinkKept.InsertsAbsent, LinkLaw.link_law}
+use Rattle.gb_laws.proofs.{LinkSides.is_shut, LinkSides.shut_of, OpenKept.opens-kept, Opens.Opens}
+use Rattle.gb_laws.proofs.{Points.Law, Points.upon, Steps.over-step}
 
 -- what is known of connections, with the requests that are upon them
 abbrev pub opens_law : (m : Moment) → InsertsAbsent m → Law m
-opens_law m absent = record {
-  holds = λ a. (Basis a × LinkedAt a) × Opens a.state.bus a.state.host a.pending;
-  basis = λ a h. h.0.0;
-  kept = λ a x h. ((link_law m absent).kept a x h.0, opens-kept m a x h.0.0 h.0.1 h.1);
-}
+opens_law m absent = upon (link_law m absent)
+    (λ a. Opens a.state.bus a.state.host a.pending) (λ a x g h. opens-kept m a x g.0 g.1 h)
 
 pub record OpensTo (told : List Entry) (s : State) : Type 0 where
   pub links : LinkedTo told s

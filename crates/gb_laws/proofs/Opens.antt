@@ -1,55 +1,21 @@
 -- Each request of the application processor that is awaited is on a live connection, and its side
 -- of that isn't closed.
-use Rattle.std.proofs.Common.{
-  ◌≡◌,
-  ◌≢◌,
-  ◌⊎◌,
-  ℕ,
-  Bool,
-  true,
-  false,
-  Some,
-  None,
-  List,
-  ◌∷◌,
-  refl,
-  sym,
-  ap,
-  ◌∙◌,
-  inl,
-  inr,
-  ⊎_elim,
-  subst,
-  arith,
-}
+use Rattle.std.proofs.Common.{Bool, List, Some, ap, arith, false, inl, inr, refl, subst, sym, true}
+use Rattle.std.proofs.Common.{ℕ, ⊎_elim, ◌∙◌, ◌∷◌, ◌≡◌, ◌≢◌, ◌⊎◌}
 use Rattle.std.specs.Prelude.{option_map}
 use Rattle.gb_base.specs.declared.end.Side.TheVariants as side
 use Rattle.gb_base.specs.declared.peers.Link.{Link}
-use Rattle.gb_invariants.proofs.Awaiting.{AwaitsFewer, not-both, sent-before, sent-made}
-use Rattle.gb_invariants.proofs.Labels.{asked_on, asked_on-number}
-use Rattle.gb_invariants.proofs.ItemChanges.{asked_on-self}
-use Rattle.gb_invariants.proofs.Numbers.{found-number}
-use Rattle.gb_invariants.specs.Facts.{OutcomesFit}
-use Rattle.gb_laws.proofs.Closings.{ClosesFewer, IsClosing, LeavesOpen}
-use Rattle.gb_laws.proofs.LinkedFrom.{Linked}
-use Rattle.gb_laws.proofs.Links.{IsDeaf}
-use Rattle.gb_laws.proofs.Shutting.{is_shut, shut-first, shut_in, shut_of}
 use Rattle.gb_machine.proofs.Lists.{nth-past}
-use Rattle.gb_machine.specs.Bus.{
-  Bus,
-  Connection,
-  next_number,
-  Request,
-  connection_of,
-  has_number,
-  request_of,
-}
-use Rattle.gb_machine.specs.Host.{Host}
-use Rattle.gb_machine.specs.LawsBus.{is_awaited}
-use Rattle.gb_machine.specs.Lists.{at_first}
-use Rattle.gb_machine.specs.Members.{IsIn}
-use Rattle.gb_machine.specs.Sending.{Draft, sent}
-use Rattle.gb_machine.specs.Turns.{Act}
+use Rattle.gb_machine.specs.Bus.{Bus, Connection, Request, connection_of, next_number, request_of}
+use Rattle.gb_machine.specs.{Host.Host, LawsBus.is_awaited, Members.IsIn, Sending.Draft}
+use Rattle.gb_machine.specs.{Sending.sent, Turns.Act}
+use Rattle.gb_invariants.proofs.Awaiting.{AwaitsFewer, none-some, not-both, sent-before, sent-made}
+use Rattle.gb_invariants.proofs.{ItemChanges.asked_on-self, Labels.asked_on, Labels.asked_on-number}
+use Rattle.gb_invariants.proofs.{Numbers.found-number}
+use Rattle.gb_invariants.specs.Facts.{OutcomesFit}
+use Rattle.gb_laws.proofs.LinkCloses.{ClosesFewer, IsClosing, LeavesOpen}
+use Rattle.gb_laws.proofs.LinkSides.{is_shut, shut-first, shut_of}
+use Rattle.gb_laws.proofs.{LinkFrom.Linked, Links.IsDeaf}
 
 -- connection k is live, its side of the application processor isn't closed, and it isn't given up
 -- before it is
@@ -67,37 +33,27 @@ pub record Opens (b : Bus) (h : Host) (acts : List Act) : Type 0 where
 -- ---- what doesn't ask
 
 -- where no more is awaited, and sides stay as they are
-pub opens-fewer : (b after : Bus) (h : Host) (acts : List Act) → AwaitsFewer b after
+pub opens-fewer : {b after : Bus} {h : Host} {acts : List Act} → AwaitsFewer b after
     → ((n : ℕ) → shut_of n after ≡ shut_of n b) → Opens b h acts → Opens after h acts
-opens-fewer b after h acts fewer same f = record {
+opens-fewer {b} fewer same f = record {
   upon = λ n r made w ap_side.
       let u = f.upon n r (ap (λ rs. request_of n (record b { requests = rs })) (sym fewer.same)
-      ∙ made)
-      (fewer.before n w) ap_side in
+      ∙ made) (fewer.before n w) ap_side in
       record { open_ = same r.connection ∙ u.open_; stays = u.stays };
   closing = λ n x. ⊎_elim (λ shut. inl (λ e. shut (sym (same n) ∙ e))) (λ i. inr i) (f.closing n x);
 }
 
--- where one connection changes
-pub opens-first : (b after : Bus) (h : Host) (acts : List Act) (k : ℕ) (f : Connection → Connection)
-    → AwaitsFewer b after → after.connections ≡ at_first (has_number k) f b.connections
-    → ((c : Connection) → (f c).number ≡ c.number) → ((c : Connection) → (f c).shut ≡ c.shut)
-    → Opens b h acts → Opens after h acts
-opens-first b after h acts k f fewer is number shut =
-    opens-fewer b after h acts fewer
-    (λ n. ap (shut_in n) is ∙ shut-first k f b.connections number shut n)
-
 -- where the application processor changes
-pub opens-host : (b : Bus) (h g : Host) (acts : List Act) → ClosesFewer h g → Opens b h acts
+pub opens-host : {b : Bus} {h g : Host} {acts : List Act} → ClosesFewer h g → Opens b h acts
     → Opens b g acts
-opens-host b h g acts fewer f =
+opens-host fewer f =
     record { upon = f.upon; closing = λ n x. f.closing n (fewer n x) }
 
 -- where an act is done that closes no side and gives up nothing
-pub opens-act : (b : Bus) (h : Host) (x : Act) (rest : List Act)
+pub opens-act : {b : Bus} {h : Host} (x : Act) {rest : List Act}
     → ((n : ℕ) → LeavesOpen n rest → LeavesOpen n (x ∷ rest)) → ((n : ℕ) → Act.Shut n ≡ x → ⊥)
     → Opens b h (x ∷ rest) → Opens b h rest
-opens-act b h x rest leaves other f = record {
+opens-act x leaves other f = record {
   upon = λ n r made w ap_side.
       let u = f.upon n r made w ap_side in
       record { open_ = u.open_; stays = λ y. u.stays (leaves r.connection y) };
@@ -108,10 +64,10 @@ opens-act b h x rest leaves other f = record {
 -- ---- a request is made
 
 -- and is upon a connection, where the application processor makes it
-pub opens-sent : (d : Draft) (label : ℕ) (b : Bus) (h : Host) (acts : List Act) → OutcomesFit b
+pub opens-sent : (d : Draft) (label : ℕ) {b : Bus} {h : Host} {acts : List Act} → OutcomesFit b
     → (d.side ≡ side.Ap → IsUpon d.connection b acts) → Opens b h acts
     → Opens (sent d label b) h acts
-opens-sent d label b h acts fits own f = record {
+opens-sent d label {b} {acts} fits own f = record {
   upon = λ n r made w ap_side. ⊎_elim
       (λ old. moved (f.upon n r old (was n r old (sent-before d label b n fits w)) ap_side))
       (λ new. subst (λ (q : Request). IsUpon q.connection (sent d label b) acts) (sym new.1)
@@ -131,17 +87,12 @@ opens-sent d label b h acts fits own f = record {
         → (is_awaited n b ≡ true) ⊎ ((n ≡ next_number b) × (d.oneway ≡ false))
         → is_awaited n b ≡ true
     was n r made (inl w) = w
-    was n r made (inr new) = absurd (none-some r (sym (nth-past (next_number b) b.requests
-        (omega arith))
-        ∙ ap (λ k. request_of k b) (sym new.0) ∙ made))
-      where
-        none-some : (r : Request) → None ≡ Some r → ⊥
-        none-some r e = absurd cc
+    was n r made (inr new) = absurd (none-some (sym (nth-past (next_number b) b.requests
+        (omega arith)) ∙ ap (λ k. request_of k b) (sym new.0) ∙ made))
 
 -- a connection that isn't closed
 pub open-found : (k : ℕ) (b : Bus) (c : Connection) → connection_of k b ≡ Some c → (c.shut ≡ true
-    → ⊥)
-    → shut_of k b ≡ Some false
+    → ⊥) → shut_of k b ≡ Some false
 open-found k b c found other = ap (option_map is_shut) found ∙ ap Some (by c.shut refl)
   where
     by : (t : Bool) → c.shut ≡ t → t ≡ false
@@ -149,15 +100,15 @@ open-found k b c found other = ap (option_map is_shut) found ∙ ap Some (by c.s
     by true e = absurd (other e)
 
 -- the supervisory controller's, and that of a link where something is taken
-pub open-svc : (b : Bus) (h : Host) (acts : List Act) (k : ℕ) (c : Connection) → Linked b h acts
+pub open-svc : {b : Bus} {h : Host} {acts : List Act} (k : ℕ) (c : Connection) → Linked b h acts
     → connection_of k b ≡ Some c → k ≡ 1 → c.shut ≡ true → ⊥
-open-svc b h acts k c links found one shut =
+open-svc {b} k c links found one shut =
     let f = found-number k b c found in
     not-both c.shut shut (links.svc c f.0 (f.1 ∙ one)).shut
 
-pub open-link : (b : Bus) (h : Host) (acts : List Act) (k : ℕ) (c : Connection) (l : Link)
+pub open-link : {b : Bus} {h : Host} {acts : List Act} (k : ℕ) (c : Connection) (l : Link)
     → Linked b h acts → connection_of k b ≡ Some c → IsIn l h.links → k ≡ l.connection
     → (IsDeaf l → ⊥) → c.shut ≡ true → ⊥
-open-link b h acts k c l links found live on hears shut =
+open-link {b} k c l links found live on hears shut =
     let f = found-number k b c found in
     hears (links.host.links.deaf l c live f.0 (f.1 ∙ on) shut)

@@ -1,61 +1,23 @@
 -- Requests that are late stay open until they are given up.
-use Rattle.std.proofs.Common.{
-  ◌≡◌,
-  ◌≤◌,
-  ◌<◌,
-  ℕ,
-  ◌+◌,
-  Bool,
-  true,
-  false,
-  cond,
-  Some,
-  None,
-  List,
-  [],
-  ◌∷◌,
-  refl,
-  ap,
-  ◌∙◌,
-  inl,
-  inr,
-  arith,
-}
+use Rattle.std.proofs.Common.{Bool, List, None, Some, ap, arith, cond, false, inl, inr, refl, true}
+use Rattle.std.proofs.Common.{ℕ, [], ◌+◌, ◌<◌, ◌∙◌, ◌∷◌, ◌≡◌, ◌≤◌}
 use Rattle.std.proofs.lemmas.Bool.Decides.{nat_tests}
 use Rattle.std.specs.Prelude.{nat_le}
 use Rattle.gb_base.specs.declared.event.Event.TheVariants as event
 use Rattle.gb_base.specs.declared.outcome.Outcome.TheVariants as outcome
+use Rattle.gb_machine.proofs.{Lists.nth-within, Opened.machine_opened}
+use Rattle.gb_machine.specs.Bus.{Bus, Request, is_open, next_number, outcome_of, request_of}
+use Rattle.gb_machine.specs.Requests.{gave_up, is_due, open_requests}
+use Rattle.gb_machine.specs.{GivingUp.gives_up, GivingUp.later_by, Lists.lookup, Lists.nth}
+use Rattle.gb_machine.specs.{Members.Each, Members.IsIn, Runs.Moment, Sending.Draft, Sending.sent}
+use Rattle.gb_machine.specs.{State.State, Turns.HostEvent}
 use Rattle.gb_invariants.proofs.Awaiting.{is-open, opened, sent-request}
 use Rattle.gb_invariants.proofs.Outcomes.{in-open_requests, lookup-past}
-use Rattle.gb_laws.proofs.Acting.{goes-notices}
-use Rattle.gb_laws.proofs.Awaited.{awaited-rest}
-use Rattle.gb_laws.proofs.ActLaws.{ActLaw, IsActing}
-use Rattle.gb_laws.proofs.Points.{
-  Change,
-  acts_asked,
-  acts_failed,
-  acts_left,
-  acts_opened,
-  acts_shut,
-  acts_told,
-  asks,
-  changed,
-  tells,
-  turns,
-}
 use Rattle.gb_laws.proofs.PointParts.{IsLate, IsShutFor, Point, disconnected, removed}
-use Rattle.gb_machine.proofs.Lists.{nth-within}
-use Rattle.gb_machine.proofs.Opened.{machine_opened}
-use Rattle.gb_machine.specs.Bus.{Bus, Request, is_open, next_number, outcome_of, request_of}
-use Rattle.gb_machine.specs.GivingUp.{gives_up, later_by}
-use Rattle.gb_machine.specs.HostActs.{with_awaited}
-use Rattle.gb_machine.specs.Lists.{lookup, nth}
-use Rattle.gb_machine.specs.Members.{Each, IsIn}
-use Rattle.gb_machine.specs.Requests.{gave_up, is_due, open_requests}
-use Rattle.gb_machine.specs.Runs.{Moment}
-use Rattle.gb_machine.specs.Sending.{Draft, sent}
-use Rattle.gb_machine.specs.State.{State}
-use Rattle.gb_machine.specs.Turns.{HostEvent}
+use Rattle.gb_laws.proofs.Points.{Change, acts_asked, acts_failed, acts_left, acts_opened}
+use Rattle.gb_laws.proofs.Points.{acts_shut, acts_told, asks, changed, tells, turns}
+use Rattle.gb_laws.proofs.{Awaited.awaited-rest, StepActLaws.ActLaw, StepActLaws.IsActing}
+use Rattle.gb_laws.proofs.{StepActs.goes-notices}
 
 -- ---- requests that are late stay open until they are given up
 
@@ -97,10 +59,9 @@ overdue-sent m d label k s h = record {
 }
 
 -- where requests, outcomes and the time stay
-overdue-same : (m : Moment) (k : ℕ) (s t : State) → t.bus.requests ≡ s.bus.requests
-    → t.bus.outcomes ≡ s.bus.outcomes → t.now ≡ s.now
-    → IsOverdue m k s → IsOverdue m k t
-overdue-same m k s t requests outcomes now h = record {
+overdue-same : (m : Moment) (k : ℕ) {s t : State} → t.bus.requests ≡ s.bus.requests
+    → t.bus.outcomes ≡ s.bus.outcomes → t.now ≡ s.now → IsOverdue m k s → IsOverdue m k t
+overdue-same m k {s} {t} requests outcomes now h = record {
   unended =
       let o = opened k s.bus h.unended in
       is-open k t.bus o.0 (ap (nth k) requests ∙ o.1) (ap (lookup k) outcomes ∙ o.2);
@@ -118,18 +79,18 @@ overdue-kept : (m : Moment) (k : ℕ) (a : Point) (x : Change m a) → IsActing 
 overdue-kept m k a (tells e quiet) is h = h
 overdue-kept m k a (asks d c label free live drawn who) is h = overdue-sent m d label k a.state h
 overdue-kept m k a (turns e free untouched none cause) is h =
-    overdue-same m k a.state _ refl refl refl h
+    overdue-same m k refl refl refl h
 overdue-kept m k a (acts_told e rest at quiet) is h = h
 overdue-kept m k a (acts_shut j rest free at cause) is h =
     absurd (no-shut m j h.late.millis h.late.event cause)
 overdue-kept m k a (acts_left j rest free untouched at) is h =
-    overdue-same m k a.state _ refl refl refl h
-overdue-kept m k a (acts_opened w q rest free at) is h = overdue-same m k a.state _ refl refl refl h
+    overdue-same m k refl refl refl h
+overdue-kept m k a (acts_opened w q rest free at) is h = overdue-same m k refl refl refl h
 overdue-kept m k a (acts_asked q n rest at) is h =
-    let r = awaited-rest q.purpose n a.state in
-    overdue-same m k a.state (with_awaited q.purpose n a.state)
+    let r = awaited-rest q.purpose n in
+    overdue-same m k
     (ap (λ (b : Bus). b.requests) r.bus) (ap (λ (b : Bus). b.outcomes) r.bus) r.now h
-overdue-kept m k a (acts_failed q rest at quiet) is h = overdue-same m k a.state _ refl refl refl h
+overdue-kept m k a (acts_failed q rest at quiet) is h = overdue-same m k refl refl refl h
 overdue-kept m k a _ is h = absurd is
 
 abbrev overdue : (m : Moment) (k : ℕ) → ActLaw m
@@ -141,8 +102,7 @@ overdue-after : (m : Moment) (n k : ℕ) (s : State) → n < k → IsOverdue m k
 unfolding machine_opened
 overdue-after m n k s less h =
     goes-notices m (overdue m k) (HostEvent.Ended n outcome.Timeout)
-    (record s { bus = gave_up n outcome.Timeout s.bus }) (λ r p e. absurd cc) tt []
-    (record {
+    (record s { bus = gave_up n outcome.Timeout s.bus }) (λ r p e. absurd cc) tt [] (record {
       unended =
           let o = opened k s.bus h.unended in
           is-open k (gave_up n outcome.Timeout s.bus) o.0 o.1

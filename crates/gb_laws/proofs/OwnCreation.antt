@@ -1,25 +1,7 @@
 -- A connection is wired by the request that was made for it, while a module is plugged at its
 -- interface, which is routed.
-use Rattle.std.proofs.Common.{
-  List,
-  None,
-  Option,
-  Some,
-  [],
-  ap,
-  arith,
-  false,
-  inl,
-  refl,
-  subst,
-  sym,
-  true,
-  ℕ,
-  ⊎_elim,
-  ◌∙◌,
-  ◌∷◌,
-  ◌≡◌,
-}
+use Rattle.std.proofs.Common.{List, None, Option, Some, ap, arith, false, inl, refl, subst, sym}
+use Rattle.std.proofs.Common.{true, ℕ, ⊎_elim, [], ◌∙◌, ◌∷◌, ◌≡◌}
 use Rattle.std.specs.List.{find}
 use Rattle.std.specs.Prelude.{Ok, nat_lt, ◌==◌}
 use Rattle.gb_base.specs.declared.end.End.TheVariants as end
@@ -27,44 +9,23 @@ use Rattle.gb_base.specs.declared.end.Side.TheVariants as side
 use Rattle.gb_base.specs.declared.event.Event.TheVariants as event
 use Rattle.gb_base.specs.declared.peers.Link.{Link}
 use Rattle.gb_formats.specs.SvcRecords.{SvcAsk, read_svc_ask}
-use Rattle.gb_invariants.proofs.Awaiting.{not-both, same-some}
-use Rattle.gb_invariants.proofs.Lists.{found-in, in-at_first}
-use Rattle.gb_invariants.proofs.Numbers.{found-by_number}
-use Rattle.gb_invariants.proofs.Outcomes.{is-same, same-number}
-use Rattle.gb_invariants.proofs.Selves.{SameSelf, front-self, put-self}
-use Rattle.gb_laws.proofs.CreateServed.{create-read}
-use Rattle.gb_laws.proofs.Creating.{IsBetween, is_create}
-use Rattle.gb_laws.proofs.CreatingFacts.{CreatesFit}
-use Rattle.gb_laws.proofs.LinkLists.{find-none, found-at}
-use Rattle.gb_laws.proofs.Links.{IsKnown, leaving, linked, supervisory}
-use Rattle.gb_laws.proofs.Places.{place-is}
-use Rattle.gb_laws.proofs.PointParts.{Point, resting}
-use Rattle.gb_laws.proofs.Points.{IsAfterReply, IsCreated, IsLive, replied_to, unreplied}
-use Rattle.gb_laws.proofs.QuietBuses.{svc-found}
-use Rattle.gb_laws.proofs.QuietServed.{IsServed, serving}
-use Rattle.gb_laws.proofs.Remembering.{nothing-asked}
-use Rattle.gb_laws.proofs.StaleRuns.{StaleTo}
-use Rattle.gb_laws.proofs.WiredWell.{at-most}
-use Rattle.gb_machine.specs.Bus.{
-  Ask,
-  Bus,
-  Connection,
-  Request,
-  connection_of,
-  end_of,
-  has_number,
-  request_of,
-}
-use Rattle.gb_machine.specs.Delivery.{popped, without_front}
-use Rattle.gb_machine.specs.Host.{is_link}
-use Rattle.gb_machine.specs.Incoming.{reply_item}
-use Rattle.gb_machine.specs.Lists.{at_first, behind_first}
-use Rattle.gb_machine.specs.Members.{IsIn}
-use Rattle.gb_machine.specs.Modules.{is_plugged}
-use Rattle.gb_machine.specs.Ports.{is_powered, level_of}
-use Rattle.gb_machine.specs.Runs.{Moment}
-use Rattle.gb_machine.specs.Sending.{put}
+use Rattle.gb_machine.specs.Bus.{Ask, Bus, Connection, Request, connection_of, end_of, has_number}
+use Rattle.gb_machine.specs.Bus.{request_of}
 use Rattle.gb_machine.specs.SvcQueues.{items_in, speaks_of_connection, svc_items}
+use Rattle.gb_machine.specs.{Delivery.popped, Delivery.without_front, Host.is_link}
+use Rattle.gb_machine.specs.{Incoming.reply_item, Lists.at_first, Lists.behind_first, Members.IsIn}
+use Rattle.gb_machine.specs.{Modules.is_plugged, Ports.is_powered, Ports.level_of, Runs.Moment}
+use Rattle.gb_machine.specs.{Sending.put}
+use Rattle.gb_invariants.proofs.Awaiting.{none-some, not-both, same-some}
+use Rattle.gb_invariants.proofs.Selves.{SameSelf, front-self, put-self, svc-no-module}
+use Rattle.gb_invariants.proofs.{Found.find-none, Lists.found-in, Lists.in-at_first}
+use Rattle.gb_invariants.proofs.{Numbers.found-by_number, Outcomes.is-same, Outcomes.same-number}
+use Rattle.gb_laws.proofs.Links.{IsKnown, leaving, linked, supervisory}
+use Rattle.gb_laws.proofs.Points.{IsAfterReply, IsCreated, IsLive, replied_to, unreplied}
+use Rattle.gb_laws.proofs.{Creating.IsBetween, Creating.is_create, CreatingFacts.CreatesFit}
+use Rattle.gb_laws.proofs.{LinkLists.found-at, Places.place-is, PointParts.Point}
+use Rattle.gb_laws.proofs.{QuietBuses.svc-found, QuietServed.IsServed, QuietServed.serving}
+use Rattle.gb_laws.proofs.{ServedCreate.create-read, StaleRuns.StaleTo, WiredWell.at-most}
 
 -- At a moment the supervisory controller serves the request that was made to create connection k,
 -- which is live, to an interface that is routed and where a module is plugged.
@@ -95,8 +56,7 @@ abbrev WasThere : Connection → List Connection → Type 0
 WasThere c cs = (x : Connection) × IsIn x cs × SameSelf x c
 
 there-first : (k : ℕ) (f : Connection → Connection) (cs : List Connection) (c : Connection)
-    → ((x : Connection) → SameSelf x (f x)) → IsIn c (at_first (has_number k) f cs)
-    → WasThere c cs
+    → ((x : Connection) → SameSelf x (f x)) → IsIn c (at_first (has_number k) f cs) → WasThere c cs
 there-first k f cs c same i = ⊎_elim
     (λ o. (c, o, record { number = refl; clean = refl; shut = refl; ap = refl; peer = refl }))
     (λ w. (w.0, w.1, subst (SameSelf w.0) (sym w.3) (same w.0)))
@@ -171,7 +131,7 @@ module _ (m : Moment) (start : StaleTo m.told m.before)
     asked : (request_of served.number m.before.bus ≡ Some served.request)
         × (served.request.connection ≡ 1) × (served.request.side ≡ side.Ap)
     asked =
-        let c = svc-found (resting m.told m.before) start.since.links.0 start.since.links.3 in
+        let c = svc-found start.since.links.0 start.since.links.3 in
         let o = start.since.links.0.bus.items.own c.0 side.Far (Ask served.number) c.3
         (subst (λ o. IsIn (Ask served.number) (items_in side.Far o)) c.1
         (subst (λ xs. IsIn (Ask served.number) xs) (sym served.front) (inl refl))) in
@@ -183,13 +143,12 @@ module _ (m : Moment) (start : StaleTo m.told m.before)
 
     -- it is remembered
     remembered : (j : ℕ) × IsIn (served.number, j) m.before.past.made_for
-    remembered = ⊎_elim (λ none. absurd (nothing-asked (none.0, served.number) none.1)) (λ p. p)
+    remembered = ⊎_elim (λ none. absurd (none-some none.1)) (λ p. p)
         (fit.own served.number served.request asked.0 asked.1 asked.2 (ap is_create reads.is))
 
     module _ (high : nat_lt (level_of live.intf a.state.ports) 6 ≡ false) where
       routed : level_of live.intf m.before.ports ≡ 6
-      routed = at-most (level_of live.intf m.before.ports)
-          (start.quiet.wired.wired.bound live.intf)
+      routed = at-most (level_of live.intf m.before.ports) (start.quiet.wired.wired.bound live.intf)
           (ap (λ ps. nat_lt (level_of live.intf ps) 6) (sym made.serving.ports) ∙ high)
 
       -- for a connection that is known, since its interface is routed
@@ -240,11 +199,8 @@ module _ (m : Moment) (start : StaleTo m.told m.before)
           cport-same i j x y e = cc
 
           by : IsKnown was.0 m.before.host.links [] → remembered.0 ≡ k
-          by (supervisory one) = absurd (other (sym (start.since.links.1.svc was.0 was.1 one).peer
-              ∙ peer))
-            where
-              other : end.Svc ≡ end.Module live.intf live.cport → ⊥
-              other e = absurd cc
+          by (supervisory one) = absurd (svc-no-module (sym (start.since.links.1.svc was.0 was.1
+              one).peer ∙ peer))
           by (leaving i) = absurd i
           by (linked l i of) =
               let intf = intf-same l.intf live.intf l.cport live.cport (sym of.peer ∙ peer) in
@@ -253,8 +209,7 @@ module _ (m : Moment) (start : StaleTo m.told m.before)
               let first = found-at m.before.host.links known.0 rise known.1 in
               let second = found-at m.before.host.links l rise i in
               let one = same-some known.0 l (sym first
-              ∙ ap (λ n. find (is_link n known.0.cport) m.before.host.links)
-              (sym ends.2 ∙ sym intf)
+              ∙ ap (λ n. find (is_link n known.0.cport) m.before.host.links) (sym ends.2 ∙ sym intf)
               ∙ ap (λ n. find (is_link l.intf n) m.before.host.links) (sym ends.3 ∙ sym cport)
               ∙ second) in
               sym known.2 ∙ ap (λ (y : Link). y.connection) one ∙ sym of.number
@@ -269,8 +224,7 @@ module _ (m : Moment) (start : StaleTo m.told m.before)
         cport = live.cport;
         is = made.serving.event ∙ ap event.Deliver (sym (place-is made.serving.at
             m.before.bus.connections made.serving.place made.serving.named).is
-            ∙ ap (λ s. end_of s made.serving.place.connection) made.serving.far
-            ∙ made.serving.svc);
+            ∙ ap (λ s. end_of s made.serving.place.connection) made.serving.far ∙ made.serving.svc);
         front = served.front;
         made = served.made;
         tc = reads.tc;

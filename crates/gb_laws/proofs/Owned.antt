@@ -1,118 +1,40 @@
 -- Each item is of its own connection, at every point.
-use Rattle.std.proofs.Common.{
-  ◌≡◌,
-  ◌⊎◌,
-  ℕ,
-  true,
-  false,
-  Option,
-  Some,
-  None,
-  [],
-  ◌∷◌,
-  ◌++◌,
-  length,
-  map,
-  refl,
-  sym,
-  ap,
-  ◌∙◌,
-  inl,
-  inr,
-  ⊎_elim,
-  subst,
-  append-nil,
-  arith,
-}
-use Rattle.std.specs.Prelude.{◌==◌, not}
-use Rattle.gb_base.specs.declared.end.End.TheVariants as end
+use Rattle.std.proofs.Common.{None, Option, Some, ap, append-nil, arith, false, inl, inr, length}
+use Rattle.std.proofs.Common.{map, refl, subst, sym, true, ℕ, ⊎_elim, [], ◌++◌, ◌∙◌, ◌∷◌, ◌≡◌, ◌⊎◌}
+use Rattle.std.specs.Prelude.{not, ◌==◌}
 use Rattle.gb_base.specs.declared.end.Side.{Side}
+use Rattle.gb_base.specs.declared.end.End.TheVariants as end
 use Rattle.gb_base.specs.declared.end.Side.TheVariants as side
-use Rattle.gb_base.specs.declared.entry.ConnState.TheVariants as state
 use Rattle.gb_base.specs.declared.entry.Entry.{Entry}
+use Rattle.gb_base.specs.declared.entry.ConnState.TheVariants as state
 use Rattle.gb_base.specs.declared.entry.Entry.TheVariants as entry
-use Rattle.gb_invariants.proofs.Apart.{SameEnds}
-use Rattle.gb_invariants.proofs.Awaiting.{sent-new, sent-request}
-use Rattle.gb_invariants.proofs.ItemChanges.{asked_on-self, first-in}
-use Rattle.gb_invariants.proofs.Labels.{asked_on}
-use Rattle.gb_invariants.proofs.Lists.{in-pushed, in-without}
-use Rattle.gb_invariants.proofs.Numbers.{found-number, in-changed, same-connection}
-use Rattle.gb_invariants.proofs.Selves.{
-  SameSelf,
-  both-self,
-  drawn-queue,
-  front-queue,
-  front-self,
-  put-queue,
-  put-self,
-}
-use Rattle.gb_invariants.specs.Facts.{Loose}
-use Rattle.gb_laws.proofs.Awaited.{awaited-rest}
-use Rattle.gb_laws.proofs.BasisParts.{loose_of, taken-is}
-use Rattle.gb_laws.proofs.Loosening.{fewer-held, fewer-taken, fewer-without, held-at}
-use Rattle.gb_laws.proofs.Onward.{drawn-wired}
-use Rattle.gb_laws.proofs.OwnReplies.{own-reply}
-use Rattle.gb_laws.proofs.Owning.{
-  IsLooseOf,
-  OwnTold,
-  ends-of,
-  ends-same,
-  own-changed,
-  own-more,
-  own-new,
-  own-still,
-  own-with,
-}
-use Rattle.gb_laws.proofs.Places.{IsPlace, module-far, place-is}
-use Rattle.gb_laws.proofs.Points.{
-  Change,
-  acts_asked,
-  acts_failed,
-  acts_left,
-  acts_opened,
-  acts_shut,
-  acts_told,
-  answers,
-  asks,
-  changed,
-  drops,
-  forgets,
-  gives_up,
-  holds,
-  injects,
-  names,
-  replies,
-  takes,
-  takes_held,
-  tells,
-  unwires,
-  wires,
-}
-use Rattle.gb_laws.proofs.PointParts.{Basis, Hand, Point, asked_told, loose, loose_hand, loose_held}
-use Rattle.gb_laws.proofs.Since.{IsOpened, opened-more, opening-opened}
-use Rattle.gb_machine.specs.Bus.{
-  Ask,
-  Bus,
-  Connection,
-  Item,
-  Raw,
-  connection_of,
-  end_of,
-  has_number,
-  next_number,
-  other_side,
-  queue,
-  request_of,
-}
+use Rattle.gb_machine.specs.Bus.{Ask, Bus, Connection, Item, Raw, connection_of, end_of, has_number}
+use Rattle.gb_machine.specs.Bus.{next_number, other_side, queue, request_of}
 use Rattle.gb_machine.specs.Delivery.{popped, replied, without_front}
-use Rattle.gb_machine.specs.Holding.{held_on}
-use Rattle.gb_machine.specs.Incoming.{reply_entry, reply_item}
-use Rattle.gb_machine.specs.LawsHotPlug.{IsOwnItem, told_since}
-use Rattle.gb_machine.specs.Lists.{nth, without}
-use Rattle.gb_machine.specs.Members.{IsIn}
-use Rattle.gb_machine.specs.Runs.{Moment}
 use Rattle.gb_machine.specs.Sending.{Draft, drawn, is_wired, put, queued, sent}
 use Rattle.gb_machine.specs.Wiring.{attached, injected, new_connection, next_connection}
+use Rattle.gb_machine.specs.{Holding.held_on, Incoming.reply_entry, Incoming.reply_item}
+use Rattle.gb_machine.specs.{LawsHotPlug.IsOwnItem, LawsHotPlug.told_since, Lists.nth}
+use Rattle.gb_machine.specs.{Lists.without, Members.IsIn, Runs.Moment}
+use Rattle.gb_invariants.proofs.Numbers.{found-number, in-changed, same-connection}
+use Rattle.gb_invariants.proofs.Selves.{SameSelf, both-self, drawn-body, drawn-queue, front-queue}
+use Rattle.gb_invariants.proofs.Selves.{front-self, put-queue, put-self}
+use Rattle.gb_invariants.proofs.{Apart.SameEnds, Awaiting.sent-new, Awaiting.sent-request}
+use Rattle.gb_invariants.proofs.{ItemChanges.asked_on-self, ItemChanges.first-in, Labels.asked_on}
+use Rattle.gb_invariants.proofs.{Lists.in-pushed, Lists.in-without}
+use Rattle.gb_invariants.specs.Facts.{Loose}
+use Rattle.gb_laws.proofs.Loosening.{fewer-held, fewer-taken, fewer-without, held-at}
+use Rattle.gb_laws.proofs.Owning.{IsLooseOf, OwnTold, ends-of, ends-same, own-changed, own-more}
+use Rattle.gb_laws.proofs.Owning.{own-new, own-still, own-with}
+use Rattle.gb_laws.proofs.Places.{IsPlace, module-far, place-is}
+use Rattle.gb_laws.proofs.PointParts.{Basis, Hand, Point, asked_told, loose, loose_hand, loose_held}
+use Rattle.gb_laws.proofs.Points.{Change, acts_asked, acts_failed, acts_left, acts_opened}
+use Rattle.gb_laws.proofs.Points.{acts_shut, acts_told, answers, asks, changed, drops, forgets}
+use Rattle.gb_laws.proofs.Points.{gives_up, holds, injects, names, replies, takes, takes_held}
+use Rattle.gb_laws.proofs.Points.{tells, unwires, wires}
+use Rattle.gb_laws.proofs.Since.{IsOpened, opened-more, opening-opened}
+use Rattle.gb_laws.proofs.{Awaited.awaited-rest, BasisParts.loose_of, BasisParts.taken-is}
+use Rattle.gb_laws.proofs.{OwnReplies.own-reply}
 
 -- what isn't in hand
 free-loose : (a : Point) (l : Loose) → a.hand ≡ None → IsIn l (map loose_held a.state.held)
@@ -138,11 +60,10 @@ own-asked : (a after : Point) (d : Draft) (c : Connection) (label : ℕ) → Bas
     → after.told ≡ a.told ++ asked_told d c label a.state.bus
     → after.state.bus ≡ sent d label a.state.bus → IsLooseOf a after → OwnTold a → OwnTold after
 own-asked a after d c label basis found told bus fewer h =
-    own-with a after (asked_told d c label a.state.bus) d.connection (asked_on d label a.state.bus)
+    own-with (asked_told d c label a.state.bus) d.connection (asked_on d label a.state.bus)
     basis.bus.numbers told
     (λ n r made. ap (request_of n) bus ∙ sent-request d label a.state.bus n r made)
-    (ap (λ (b : Bus). b.connections) bus)
-    (λ x. ends-of x (asked_on d label a.state.bus x) (asked_on-self d label a.state.bus x)) items
+    (ap (λ (b : Bus). b.connections) bus) (λ x. ends-of (asked_on-self d label a.state.bus x)) items
     (λ l i. inl (fewer l i)) h
   where
     there : (IsIn c a.state.bus.connections) × (c.number ≡ d.connection)
@@ -160,14 +81,12 @@ own-asked a after d c label basis found told bus fewer h =
         ⊎_elim (λ old. inl (subst (λ is. IsIn item is) (drawn-queue at d label x) old))
         (λ new. inr (subst (λ t. IsOwnItem t after.state.bus y at item) (sym told)
         (subst (λ s. IsOwnItem (a.told ++ asked_told d c label a.state.bus) after.state.bus y s
-        item)
-        (sym new.0)
+        item) (sym new.0)
         (subst (λ z. IsOwnItem (a.told ++ asked_told d c label a.state.bus) after.state.bus y
-        (other_side d.side) z) (sym new.1)
-        (own-new a.told a.state.bus after.state.bus d c y label
-        (subst (λ z. SameEnds z y) (sym same) (ends-of x y self)) (self.number ∙ on)
+        (other_side d.side) z) (sym new.1) (own-new a.told a.state.bus after.state.bus d c y label
+        (subst (λ z. SameEnds z y) (sym same) (ends-of self)) (self.number ∙ on)
         (ap (λ o. not (is_wired o)) found ∙ ap (λ (z : Connection). not z.wired) same
-        ∙ ap not (sym (drawn-wired d label x) ∙ new.2))
+        ∙ ap not (sym ((drawn-body d label x).wired) ∙ new.2))
         (ap (request_of (next_number a.state.bus)) bus ∙ sent-new d label a.state.bus))))))
         (put-queue at (other_side d.side) (Ask (next_number a.state.bus)) item (drawn d label x) i)
 
@@ -189,7 +108,7 @@ cleared-queue c side.Far x i = absurd i
 pub own-kept : (m : Moment) (a : Point) (x : Change m a) → Basis a → OwnTold a
     → OwnTold (changed m a x)
 own-kept m a (tells e quiet) basis h =
-    own-still a _ (e ∷ []) refl (λ k r made. made) refl (λ l i. i) h
+    own-still (e ∷ []) refl (λ k r made. made) refl (λ l i. i) h
 own-kept m a (asks d c label free live is who) basis h =
     own-asked a _ d c label basis live refl refl (λ l i. i) h
 own-kept m a (names name d c label free live is host) basis h =
@@ -197,29 +116,24 @@ own-kept m a (names name d c label free live is host) basis h =
 own-kept m a (takes at p item free start is named front) basis h =
     let live = subst (λ s. IsIn p.connection s.bus.connections) (sym start)
     (place-is at m.before.bus.connections p named).live in
-    own-with a (changed m a (takes at p item free start is named front)) [] p.connection.number
+    own-with [] p.connection.number
     (without_front p.side) basis.bus.numbers refl (λ k r made. made) refl
-    (λ c. ends-of c (without_front p.side c) (front-self p.side c))
-    (λ c s x there on i. inl (front-queue s p.side x c i))
-    (λ l i. ⊎_elim
-    (λ e. inr (λ c alive on. subst (λ (y : Loose). IsOwnItem (a.told ++ [])
+    (λ c. ends-of (front-self p.side c)) (λ c s x there on i. inl (front-queue s p.side x c i))
+    (λ l i. ⊎_elim (λ e. inr (λ c alive on. subst (λ (y : Loose). IsOwnItem (a.told ++ [])
     (popped p.connection.number p.side a.state.bus) c y.side y.item) (sym e)
     (taken c alive live (on ∙ ap (λ (y : Loose). y.connection) e))))
     (λ j. inl (free-loose a l free j)) i) h
   where
     taken : (c : Connection) → IsIn c (popped p.connection.number p.side a.state.bus).connections
-        → IsIn p.connection a.state.bus.connections
-        → c.number ≡ p.connection.number
+        → IsIn p.connection a.state.bus.connections → c.number ≡ p.connection.number
         → IsOwnItem (a.told ++ []) (popped p.connection.number p.side a.state.bus) c p.side item
     taken c alive live on =
         ⊎_elim (λ o. absurd (o.1 on))
         (λ w. let is = same-connection a.state.bus.connections w.0 p.connection
         basis.bus.numbers.rise w.1 live w.2 in
-        own-more a.told [] a.state.bus (popped p.connection.number p.side a.state.bus) p.connection
-        c p.side item
+        own-more a.told [] a.state.bus (popped p.connection.number p.side a.state.bus) c p.side item
         (subst (λ y. SameEnds p.connection y) (ap (without_front p.side) (sym is) ∙ sym w.3)
-        (ends-of p.connection (without_front p.side p.connection) (front-self p.side p.connection)))
-        (λ k r made. made)
+        (ends-of (front-self p.side p.connection))) (λ k r made. made)
         (h.waiting p.connection p.side item live (first-in (queue p.side p.connection) item front)))
         (in-changed a.state.bus.connections p.connection.number (without_front p.side) c
         basis.bus.numbers.rise alive)
@@ -229,25 +143,20 @@ own-kept m a (takes_held i c place p x free start is at held) basis h =
     let far = module-far i c p.side p.connection
     (place-is (end.Module i c) m.before.bus.connections p at).is in
     let on = (held-at p.connection.number place a.state.held x there).1 in
-    own-still a (changed m a (takes_held i c place p x free start is at held)) [] refl
-    (λ k r made. made) refl
+    own-still [] refl (λ k r made. made) refl
     (λ l j. free-loose a l free ((fewer-taken p.connection.number place a.state.held x
     (record { connection = p.connection.number; side = p.side; item = x.item }) there
     (taken-is p.connection.number x.connection p.side x.item on far)).within l j)) h
-own-kept m a drops basis h = own-still a (record a { hand = None }) [] (sym (append-nil a.told))
+own-kept m a drops basis h = own-still [] (sym (append-nil a.told))
     (λ k r made. made) refl (dropped-loose a) h
 own-kept m a (holds x is far) basis h =
-    own-still a (changed m a (holds x is far)) [] refl (λ k r made. made) refl
-    (λ l i. held-loose a x l is ((fewer-held (loose_of x)
+    own-still [] refl (λ k r made. made) refl (λ l i. held-loose a x l is ((fewer-held (loose_of x)
     (record { connection = x.connection.number; item = x.item }) a.state.held
     (taken-is x.connection.number x.connection.number x.side x.item refl far)).within l i)) h
 own-kept m a (replies x q r is made twoway) basis h =
-    own-with a (changed m a (replies x q r is made twoway))
-    (reply_entry x.side x.connection q r ∷ []) x.connection.number
-    (put (other_side x.side) (reply_item q r))
-    basis.bus.numbers refl (λ k r made. made) refl
-    (λ c. ends-of c (put (other_side x.side) (reply_item q r) c)
-    (put-self (other_side x.side) (reply_item q r) c))
+    own-with (reply_entry x.side x.connection q r ∷ []) x.connection.number
+    (put (other_side x.side) (reply_item q r)) basis.bus.numbers refl (λ k r made. made) refl
+    (λ c. ends-of (put-self (other_side x.side) (reply_item q r) c))
     items (λ l i. inl (dropped-loose a l i)) h
   where
     items : (c : Connection) (s : Side) (item : Item) → IsIn c a.state.bus.connections
@@ -270,35 +179,29 @@ own-kept m a (replies x q r is made twoway) basis h =
         (replied x.connection.number (other_side x.side) (reply_item q r) a.state.bus)
         (put (other_side x.side) (reply_item q r) c) (other_side x.side) y) (sym new.1)
         (own-reply a.told a.state.bus (replied x.connection.number (other_side x.side)
-        (reply_item q r) a.state.bus) x.connection c
-        (put (other_side x.side) (reply_item q r) c) x.side x.item q r
-        (ends-of x.connection (put (other_side x.side) (reply_item q r) c)
+        (reply_item q r) a.state.bus) c x.side x.item q r (ends-of
         (both-self x.connection c (put (other_side x.side) (reply_item q r) c) ends put_ends))
         (sym put_ends.number) (λ k r made. made) made
         (h.hanging c (loose_of x) live (held-loose a x (loose_of x) is (inl refl)) on)))))
         (put-queue s (other_side x.side) (reply_item q r) item c i)
 own-kept m a (answers x n result payload is says which) basis h =
-    own-still a _ (_ ∷ []) refl (λ k r made. made) refl (dropped-loose a) h
+    own-still (_ ∷ []) refl (λ k r made. made) refl (dropped-loose a) h
 own-kept m a (forgets x n is which) basis h =
-    own-still a _ [] refl (λ k r made. made) refl (dropped-loose a) h
+    own-still [] refl (λ k r made. made) refl (dropped-loose a) h
 own-kept m a (gives_up n how free unended cause) basis h =
-    own-still a _ (_ ∷ []) refl (λ k r made. made) refl (λ l i. i) h
+    own-still (_ ∷ []) refl (λ k r made. made) refl (λ l i. i) h
 own-kept m a (wires k free untouched live powered) basis h =
-    own-with a _ [] k (λ c. record c { wired = true }) basis.bus.numbers refl (λ k r made. made)
-    refl
+    own-with [] k (λ c. record c { wired = true }) basis.bus.numbers refl (λ k r made. made) refl
     (λ c. record { number = refl; ap = refl; peer = refl })
     (λ c s x there on i. inl (wired-queue c s x i)) (λ l i. inl i) h
 own-kept m a (unwires k free before live) basis h =
-    own-with a _ _ k (λ c. record c { wired = false; to_ap = []; to_far = [] }) basis.bus.numbers
-    refl (λ k r made. made) refl
-    (λ c. record { number = refl; ap = refl; peer = refl })
-    (λ c s x there on i. inl (cleared-queue c s x i))
-    (λ l i. inl (free-loose a l free
-    ((fewer-without k a.state.held).within l
-    (subst (λ o. IsIn l (loose_hand o
+    own-with _ k (λ c. record c { wired = false; to_ap = []; to_far = [] }) basis.bus.numbers
+    refl (λ k r made. made) refl (λ c. record { number = refl; ap = refl; peer = refl })
+    (λ c s x there on i. inl (cleared-queue c s x i)) (λ l i. inl (free-loose a l free
+    ((fewer-without k a.state.held).within l (subst (λ o. IsIn l (loose_hand o
     (map loose_held (without (λ y. y.connection == k) a.state.held)))) free i)))) h
 own-kept m a (injects i c p bytes free named) basis h =
-    own-with a (changed m a (injects i c p bytes free named)) (raw ∷ []) p.connection.number
+    own-with (raw ∷ []) p.connection.number
     (λ x. queued side.Ap (Raw bytes) (record x { clean = false })) basis.bus.numbers refl
     (λ k r made. made) refl
     (λ x. record { number = refl; ap = refl; peer = refl }) items (λ l j. inl j) h
@@ -310,8 +213,7 @@ own-kept m a (injects i c p bytes free named) basis h =
     place = place-is (end.Module i c) a.state.bus.connections p named
 
     peer : p.connection.peer ≡ end.Module i c
-    peer = sym (ap (λ s. end_of s p.connection)
-        (module-far i c p.side p.connection
+    peer = sym (ap (λ s. end_of s p.connection) (module-far i c p.side p.connection
         (place-is (end.Module i c) a.state.bus.connections p named).is))
         ∙ (place-is (end.Module i c) a.state.bus.connections p named).is
 
@@ -332,23 +234,21 @@ own-kept m a (injects i c p bytes free named) basis h =
     items x side.Ap item live on j =
         let same = same-connection a.state.bus.connections x p.connection basis.bus.numbers.rise
         live place.live on in
-        ⊎_elim (λ old. inl old)
-        (λ e. inr (subst (λ y. IsOwnItem (a.told ++ raw ∷ [])
+        ⊎_elim (λ old. inl old) (λ e. inr (subst (λ y. IsOwnItem (a.told ++ raw ∷ [])
         (injected p.connection.number bytes a.state.bus)
         (queued side.Ap (Raw bytes) (record x { clean = false })) side.Ap y) (sym e) (
           refl,
           subst (λ (y : Connection). IsIn (entry.Raw y.peer (end.Ap y.ap) (length bytes) bytes)
               (told_since y.number (a.told ++ raw ∷ []))) (sym same) told_here,
-        )))
-        (in-pushed item x.to_ap (Raw bytes) j)
+        ))) (in-pushed item x.to_ap (Raw bytes) j)
 own-kept m a (acts_told e rest is quiet) basis h =
-    own-still a _ (e ∷ []) refl (λ k r made. made) refl (λ l i. i) h
+    own-still (e ∷ []) refl (λ k r made. made) refl (λ l i. i) h
 own-kept m a (acts_shut k rest free is cause) basis h =
-    own-with a _ _ k (λ c. record c { shut = true }) basis.bus.numbers refl (λ k r made. made) refl
+    own-with _ k (λ c. record c { shut = true }) basis.bus.numbers refl (λ k r made. made) refl
     (λ c. record { number = refl; ap = refl; peer = refl })
     (λ c s x there on i. inl (shut-queue c s x i)) (λ l i. inl i) h
 own-kept m a (acts_left k rest free untouched is) basis h =
-    own-changed a _ [] refl (λ k r made. made) (λ c live. record {
+    own-changed a [] refl (λ k r made. made) (λ c live. record {
       was = c;
       live = (in-without (has_number k) a.state.bus.connections c live).0;
       self = record { number = refl; ap = refl; peer = refl };
@@ -356,12 +256,12 @@ own-kept m a (acts_left k rest free untouched is) basis h =
     }) (λ l i. inl i) h
 own-kept m a (acts_opened w q rest free is) basis h = record {
   waiting = λ c s x live i. ⊎_elim
-      (λ old. own-more a.told (opening ∷ []) a.state.bus after c c s x (ends-same c)
+      (λ old. own-more a.told (opening ∷ []) a.state.bus after c s x (ends-same c)
       (λ k r made. made) (h.waiting c s x old i))
       (λ e. absurd (none s x (subst (λ y. IsIn x (queue s y)) e i)))
       (in-pushed c a.state.bus.connections new live);
   hanging = λ c l live i on. ⊎_elim
-      (λ old. own-more a.told (opening ∷ []) a.state.bus after c c l.side l.item (ends-same c)
+      (λ old. own-more a.told (opening ∷ []) a.state.bus after c l.side l.item (ends-same c)
       (λ k r made. made) (h.hanging c l old i on))
       (λ e. let low = basis.bus.items.made_loose l i in absurd
       (omega (arith, low, on, ap (λ (y : Connection). y.number) e)))
@@ -389,11 +289,11 @@ own-kept m a (acts_opened w q rest free is) basis h = record {
     none side.Ap x i = i
     none side.Far x i = i
 own-kept m a (acts_asked q n rest is) basis h =
-    let r = awaited-rest q.purpose n a.state in
-    own-still a _ [] refl (λ k x made. ap (request_of k) r.bus ∙ made)
+    let r = awaited-rest q.purpose n in
+    own-still [] refl (λ k x made. ap (request_of k) r.bus ∙ made)
     (ap (λ (b : Bus). b.connections) r.bus)
     (λ l i. subst (λ hs. IsIn l (loose_hand a.hand (map loose_held hs))) r.held i) h
 own-kept m a (acts_failed q rest is quiet) basis h =
-    own-still a _ _ refl (λ k r made. made) refl (λ l i. i) h
+    own-still _ refl (λ k r made. made) refl (λ l i. i) h
 own-kept m a _ basis h =
-    own-still a _ [] refl (λ k r made. made) refl (λ l i. i) h
+    own-still [] refl (λ k r made. made) refl (λ l i. i) h

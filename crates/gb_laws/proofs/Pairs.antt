@@ -1,48 +1,20 @@
 -- What is known of the requests that are remembered for connections.
-use Rattle.std.proofs.Common.{
-  ◌≡◌,
-  ◌⊎◌,
-  ◌≤◌,
-  ◌<◌,
-  ℕ,
-  ◌+◌,
-  true,
-  false,
-  Option,
-  Some,
-  None,
-  List,
-  refl,
-  sym,
-  ap,
-  ◌∙◌,
-  inl,
-  ⊎_elim,
-  subst,
-  arith,
-}
+use Rattle.std.proofs.Common.{List, None, Option, Some, ap, arith, false, inl, refl, subst, sym}
+use Rattle.std.proofs.Common.{true, ℕ, ⊎_elim, ◌+◌, ◌<◌, ◌∙◌, ◌≡◌, ◌≤◌, ◌⊎◌}
 use Rattle.gb_base.specs.declared.end.Side.TheVariants as side
 use Rattle.gb_base.specs.declared.peers.Link.{Link}
 use Rattle.gb_base.specs.declared.steps.SequenceStep.{SequenceStep}
 use Rattle.gb_base.specs.declared.steps.SequenceStep.TheVariants as steps
 use Rattle.gb_formats.specs.SvcRecords.{read_svc_ask}
-use Rattle.gb_invariants.proofs.Awaiting.{same-some}
-use Rattle.gb_invariants.proofs.Outcomes.{same-number}
-use Rattle.gb_laws.proofs.LinkLists.{in-first}
-use Rattle.gb_laws.proofs.LinkSources.{LinksFrom}
-use Rattle.gb_laws.proofs.Owning.{KeepsRequests}
 use Rattle.gb_machine.specs.Bus.{Bus, Request, request_of}
 use Rattle.gb_machine.specs.Host.{Host, is_link, with_link}
-use Rattle.gb_machine.specs.Members.{IsIn}
-use Rattle.gb_machine.specs.SequenceSteps.{
-  Target,
-  asks_control,
-  is_for_connection,
-  kind_of,
-  payload_of,
-}
-use Rattle.gb_machine.specs.SvcQueues.{is_for_link, speaks_of_connection}
-use Rattle.gb_machine.specs.Turns.{Asking}
+use Rattle.gb_machine.specs.SequenceSteps.{Target, asks_control, is_for_connection, kind_of}
+use Rattle.gb_machine.specs.SequenceSteps.{payload_of}
+use Rattle.gb_machine.specs.{Members.IsIn, SvcQueues.is_for_link, SvcQueues.speaks_of_connection}
+use Rattle.gb_machine.specs.{Turns.Asking}
+use Rattle.gb_invariants.proofs.{Awaiting.none-some, Awaiting.same-some, BusChanges.KeepsRequests}
+use Rattle.gb_invariants.proofs.{Found.in-first, Outcomes.same-number}
+use Rattle.gb_laws.proofs.LinkSources.{LinksFrom}
 
 -- request n was made by the application processor to the supervisory controller, for a reply
 pub record IsSvcRequest (n : ℕ) (b : Bus) : Type 0 where
@@ -98,18 +70,13 @@ pub come-link : (h : Host) (i c : ℕ) (f : Link → Link)
     → ((l : Link) → (f l).connection ≡ l.connection)
     → ((l : Link) → (f l).intf ≡ l.intf) → ((l : Link) → (f l).awaits ≡ l.awaits)
     → ComeFrom h (with_link i c f h)
-come-link h i c f connection intf waits l j = ⊎_elim
-    (λ o. (l, o, refl, refl, inl refl))
-    (λ v. (
-      v.0,
-      v.1,
-      sym (ap (λ (x : Link). x.connection) v.3 ∙ connection v.0),
-      sym (ap (λ (x : Link). x.intf) v.3 ∙ intf v.0),
-      inl (ap (λ (x : Link). x.awaits) v.3 ∙ waits v.0),
-    )) (in-first (is_link i c) f h.links l j)
-
-pub none-some : (w : ℕ × SequenceStep) → None ≡ Some w → ⊥
-none-some w e = absurd cc
+come-link h i c f connection intf waits l j = ⊎_elim (λ o. (l, o, refl, refl, inl refl)) (λ v. (
+  v.0,
+  v.1,
+  sym (ap (λ (x : Link). x.connection) v.3 ∙ connection v.0),
+  sym (ap (λ (x : Link). x.intf) v.3 ∙ intf v.0),
+  inl (ap (λ (x : Link). x.awaits) v.3 ∙ waits v.0),
+)) (in-first (is_link i c) f h.links l j)
 
 -- ---- where no more is remembered
 
@@ -138,7 +105,7 @@ pairs-on b after h g pairs asked now keeps more come asking f = record {
       let old = f.bound x.0 x.1 w (sym same ∙ e) in record {
         last = λ n j. old.last n (subst (λ k. IsIn (n, k) pairs) (sym x.2) j);
         own = λ s. subst (λ k. IsIn (w.0, k) pairs) x.2 (old.own s);
-      }) (λ none. absurd (none-some w (sym none ∙ e))) x.4;
+      }) (λ none. absurd (none-some (sym none ∙ e))) x.4;
   asks = asking;
 }
 
@@ -162,38 +129,15 @@ come-same h l i = (l, i, refl, refl, inl refl)
 
 -- the request of a step that creates or destroys a connection speaks of its interface
 pub speaks-of : (i : ℕ) (step : SequenceStep) (t : Target) → is_for_connection step ≡ true
-    → speaks_of_connection i (read_svc_ask (kind_of step) (payload_of step t)) ≡ true
-    → t.intf ≡ i
+    → speaks_of_connection i (read_svc_ask (kind_of step) (payload_of step t)) ≡ true → t.intf ≡ i
 speaks-of i steps.CreateControl t s h = omega (arith, same-number (t.intf + 0) i h)
 speaks-of i steps.CreateConnection t s h = omega (arith, same-number (t.intf + 0) i h)
 speaks-of i steps.DestroyConnection t s h = omega (arith, same-number (t.intf + 0) i h)
-speaks-of i steps.EnableVsys t s h = absurd cc
-speaks-of i steps.EnableRefclk t s h = absurd cc
-speaks-of i steps.EnableUnipro t s h = absurd cc
-speaks-of i steps.Activate t s h = absurd cc
-speaks-of i steps.GiveDevice t s h = absurd cc
-speaks-of i steps.CreateRoute t s h = absurd cc
-speaks-of i steps.AskVersion t s h = absurd cc
-speaks-of i steps.AskSize t s h = absurd cc
-speaks-of i steps.AskManifest t s h = absurd cc
-speaks-of i steps.TellConnected t s h = absurd cc
-speaks-of i steps.TellDisconnecting t s h = absurd cc
-speaks-of i steps.TellDisconnected t s h = absurd cc
+speaks-of i _ t s h = absurd cc
 
 -- and goes to the supervisory controller
 pub asks-svc : (step : SequenceStep) → is_for_connection step ≡ true → asks_control step ≡ false
 asks-svc steps.CreateControl s = refl
 asks-svc steps.CreateConnection s = refl
 asks-svc steps.DestroyConnection s = refl
-asks-svc steps.EnableVsys s = absurd cc
-asks-svc steps.EnableRefclk s = absurd cc
-asks-svc steps.EnableUnipro s = absurd cc
-asks-svc steps.Activate s = absurd cc
-asks-svc steps.GiveDevice s = absurd cc
-asks-svc steps.CreateRoute s = absurd cc
-asks-svc steps.AskVersion s = absurd cc
-asks-svc steps.AskSize s = absurd cc
-asks-svc steps.AskManifest s = absurd cc
-asks-svc steps.TellConnected s = absurd cc
-asks-svc steps.TellDisconnecting s = absurd cc
-asks-svc steps.TellDisconnected s = absurd cc
+asks-svc _ s = absurd cc

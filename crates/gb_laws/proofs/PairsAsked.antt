@@ -1,48 +1,23 @@
 -- What is known of remembered requests stays where a sequence comes to wait for one.
-use Rattle.std.proofs.Common.{
-  ◌≡◌,
-  ◌⊎◌,
-  ℕ,
-  Bool,
-  true,
-  false,
-  cond,
-  Option,
-  Some,
-  None,
-  List,
-  [],
-  ◌∷◌,
-  ◌++◌,
-  refl,
-  sym,
-  ap,
-  ◌∙◌,
-  inl,
-  inr,
-  ⊎_elim,
-  subst,
-  arith,
-}
-use Rattle.std.specs.Prelude.{option_map}
+use Rattle.std.proofs.Common.{Bool, List, None, Option, Some, ap, arith, cond, false, inl, inr}
+use Rattle.std.proofs.Common.{refl, subst, sym, true, ℕ, ⊎_elim, [], ◌++◌, ◌∙◌, ◌∷◌, ◌≡◌, ◌⊎◌}
 use Rattle.std.specs.List.{find}
+use Rattle.std.specs.Prelude.{option_map}
 use Rattle.gb_base.specs.declared.peers.Link.{Link}
 use Rattle.gb_base.specs.declared.steps.SequenceStep.{SequenceStep}
 use Rattle.gb_formats.specs.SvcRecords.{read_svc_ask}
-use Rattle.gb_invariants.proofs.Awaiting.{not-both, same-some}
-use Rattle.gb_invariants.proofs.Lists.{found-in, in-behind, in-front, in-pushed}
-use Rattle.gb_laws.proofs.LinkActs.{awaits-fits}
-use Rattle.gb_laws.proofs.LinkLists.{find-changed, found-at, in-first, link-is, one-link}
-use Rattle.gb_laws.proofs.Links.{HostFits, IsDue, IsDueBy, IsFormed}
-use Rattle.gb_laws.proofs.Remembering.{nothing-asked}
 use Rattle.gb_machine.specs.Bus.{Bus, Request, request_of}
 use Rattle.gb_machine.specs.Host.{Host, is_link, link_at, with_interface, with_link}
-use Rattle.gb_machine.specs.Members.{IsIn}
 use Rattle.gb_machine.specs.SequenceSteps.{is_enumeration, is_for_connection, kind_of, payload_of}
-use Rattle.gb_machine.specs.SvcQueues.{is_for_link, speaks_of_connection}
-use Rattle.gb_machine.specs.Turns.{Asking}
-use Rattle.gb_machine.specs.Waits.{awaits}
-use Rattle.gb_laws.proofs.Pairs.{IsAskedAs, IsSvcRequest, PairsFit, asks-svc, none-some, speaks-of}
+use Rattle.gb_machine.specs.{Members.IsIn, SvcQueues.is_for_link, SvcQueues.speaks_of_connection}
+use Rattle.gb_machine.specs.{Turns.Asking, Waits.awaits}
+use Rattle.gb_invariants.proofs.Awaiting.{none-some, not-both, same-some}
+use Rattle.gb_invariants.proofs.Lists.{found-in, in-behind, in-front, in-pushed}
+use Rattle.gb_invariants.proofs.Found.{find-changed, in-first}
+use Rattle.gb_laws.proofs.LinkLists.{found-at, link-is, one-link}
+use Rattle.gb_laws.proofs.Links.{HostFits, IsDue, IsDueBy, IsFormed}
+use Rattle.gb_laws.proofs.Pairs.{IsAskedAs, IsSvcRequest, PairsFit, asks-svc, speaks-of}
+use Rattle.gb_laws.proofs.LinkActs.{awaits-fits}
 
 -- what is remembered then
 abbrev pub pairs_then : Bool → Option Link → ℕ → List (ℕ × ℕ) → List (ℕ × ℕ)
@@ -60,7 +35,7 @@ module _ (b : Bus) (h : Host) (pairs : List (ℕ × ℕ)) (q : Asking) (n : ℕ)
   asked = f.asks q n refl
 
   then : HostFits b (awaits q.purpose n h)
-  then = (awaits-fits b q.purpose n h fits due).0
+  then = (awaits-fits q.purpose n fits due).0
 
   -- each connection is one that was known, and waits for the same, or is that of the purpose
   known : (l : Link) → IsIn l (awaits q.purpose n h).links → IsIn l h.links
@@ -71,8 +46,7 @@ module _ (b : Bus) (h : Host) (pairs : List (ℕ × ℕ)) (q : Asking) (n : ℕ)
       by : (t : Bool) → is_enumeration q.purpose.step ≡ t
           → IsIn l (cond t (with_interface q.purpose.intf
           (λ x. record x { awaits = Some (n, q.purpose.step) }) h)
-          (with_link q.purpose.intf q.purpose.cport set h)).links
-          → IsIn l h.links
+          (with_link q.purpose.intf q.purpose.cport set h)).links → IsIn l h.links
           ⊎ ((x : Link) × IsIn x h.links × (link_at q.purpose.intf q.purpose.cport h ≡ Some x)
           × (l ≡ set x) × (is_enumeration q.purpose.step ≡ false))
       by true e i = inl i
@@ -89,13 +63,12 @@ module _ (b : Bus) (h : Host) (pairs : List (ℕ × ℕ)) (q : Asking) (n : ℕ)
 
   come : (l : Link) → IsIn l (awaits q.purpose n h).links
       → (x : Link) × IsIn x h.links × (x.connection ≡ l.connection) × (x.intf ≡ l.intf)
-  come l i = ⊎_elim (λ o. (l, o, refl, refl))
-      (λ v. (
-        v.0,
-        v.1,
-        sym (ap (λ (x : Link). x.connection) v.3),
-        sym (ap (λ (x : Link). x.intf) v.3),
-      )) (known l i)
+  come l i = ⊎_elim (λ o. (l, o, refl, refl)) (λ v. (
+    v.0,
+    v.1,
+    sym (ap (λ (x : Link). x.connection) v.3),
+    sym (ap (λ (x : Link). x.intf) v.3),
+  )) (known l i)
 
   -- a connection of the purpose waits for nothing before
   unwaiting : (l : Link) → IsIn l h.links → l.intf ≡ q.purpose.intf → l.cport ≡ q.purpose.cport
@@ -109,11 +82,10 @@ module _ (b : Bus) (h : Host) (pairs : List (ℕ × ℕ)) (q : Asking) (n : ℕ)
 
       by : (t : Bool) → IsDueBy t q.purpose.step q.purpose h → ⊥
       by true d = (fits.links.waiting l i w e).0 (cport ∙ d.cport)
-      by false d = none-some w (sym (d.idle l found) ∙ e)
+      by false d = none-some (sym (d.idle l found) ∙ e)
 
   -- nothing is remembered of it
-  unremembered : (t : Bool) → is_for_connection q.purpose.step ≡ t
-      → (t ≡ true → (l : Link)
+  unremembered : (t : Bool) → is_for_connection q.purpose.step ≡ t → (t ≡ true → (l : Link)
       → link_at q.purpose.intf q.purpose.cport (awaits q.purpose n h) ≡ Some l → ⊥)
       → PairsFit b (awaits q.purpose n h) pairs None
   unremembered t e none = record {
@@ -129,7 +101,7 @@ module _ (b : Bus) (h : Host) (pairs : List (ℕ × ℕ)) (q : Asking) (n : ℕ)
           own = λ s. absurd (none (sym e ∙ ap (λ (y : ℕ × SequenceStep). is_for_connection y.1) same
               ∙ s) (set v.0) (found-then v.0 v.2 v.4));
         }) (known l live);
-    asks = λ p k g. absurd (nothing-asked (p, k) g);
+    asks = λ p k g. absurd (none-some g);
   }
     where
       found-then : (x : Link) → link_at q.purpose.intf q.purpose.cport h ≡ Some x
@@ -156,46 +128,37 @@ module _ (b : Bus) (h : Host) (pairs : List (ℕ × ℕ)) (q : Asking) (n : ℕ)
           by_ap = asked.by_ap;
           twoway = asked.twoway;
         })) (in-pushed (j, k) pairs (n, l.connection) i);
-    given = λ j k i. ⊎_elim (λ o. f.given j k o)
-        (λ e. let x = come l (target-link l at).0 in
+    given = λ j k i. ⊎_elim (λ o. f.given j k o) (λ e. let x = come l (target-link l at).0 in
         let low = (fits.links.numbered x.0 x.1).given in
         omega (arith, low, x.2, ap (λ (p : ℕ × ℕ). p.1) e))
         (in-pushed (j, k) pairs (n, l.connection) i);
-    of = λ j i y r live p made is. ⊎_elim
-        (λ o. let x = come y live in
+    of = λ j i y r live p made is. ⊎_elim (λ o. let x = come y live in
         sym x.3 ∙ f.of j i x.0 r x.1 (subst (λ c. IsIn (j, c) pairs) (sym x.2) o) made is)
-        (λ e. same-link y live (ap (λ (z : ℕ × ℕ). z.1) e)
-        ∙ (target-link l at).1 ∙ sym formed.intf
+        (λ e. same-link y live (ap (λ (z : ℕ × ℕ). z.1) e) ∙ (target-link l at).1 ∙ sym formed.intf
         ∙ speaks-of i q.purpose.step formed.target s
         (speaks j i r (ap (λ (z : ℕ × ℕ). z.0) e) made is))
         (in-pushed (j, y.connection) pairs (n, l.connection) p);
-    bound = λ y live w g. ⊎_elim
-        (λ o. let old = f.bound y o w g in record {
-          last = λ k j. ⊎_elim (λ m. old.last k m)
-              (λ e. absurd (here y live (ap (λ (z : ℕ × ℕ). z.1) e) o w g))
-              (in-pushed (k, y.connection) pairs (n, l.connection) j);
-          own = λ u. in-front (w.0, y.connection) pairs ((n, l.connection) ∷ []) (old.own u);
-        })
-        (λ v. let same = same-some (n, q.purpose.step) w
+    bound = λ y live w g. ⊎_elim (λ o. let old = f.bound y o w g in record {
+      last = λ k j. ⊎_elim (λ m. old.last k m)
+          (λ e. absurd (here y live (ap (λ (z : ℕ × ℕ). z.1) e) o w g))
+          (in-pushed (k, y.connection) pairs (n, l.connection) j);
+      own = λ u. in-front (w.0, y.connection) pairs ((n, l.connection) ∷ []) (old.own u);
+    }) (λ v. let same = same-some (n, q.purpose.step) w
         (sym (ap (λ (x : Link). x.awaits) v.3) ∙ g) in record {
-          last = λ k j. ⊎_elim
-              (λ m. let less = asked.behind k y.connection m in
-              omega (arith, less, ap (λ (z : ℕ × SequenceStep). z.0) same))
-              (λ e. omega (
+          last = λ k j. ⊎_elim (λ m. let less = asked.behind k y.connection m in
+              omega (arith, less, ap (λ (z : ℕ × SequenceStep). z.0) same)) (λ e. omega (
                 arith,
                 ap (λ (z : ℕ × ℕ). z.0) e,
                 ap (λ (z : ℕ × SequenceStep). z.0) same,
-              ))
-              (in-pushed (k, y.connection) pairs (n, l.connection) j);
+              )) (in-pushed (k, y.connection) pairs (n, l.connection) j);
           own = λ u. in-behind (w.0, y.connection) pairs ((n, l.connection) ∷ [])
               (inl (pair w.0 y.connection (ap (λ (z : ℕ × SequenceStep). z.0) same)
               (number y v.0 v.2 v.4 v.3)));
         }) (known y live);
-    asks = λ p k g. absurd (nothing-asked (p, k) g);
+    asks = λ p k g. absurd (none-some g);
   }
     where
-      pair : (j k : ℕ) → n ≡ j → k ≡ l.connection
-          → ◌≡◌ {A = ℕ × ℕ} (j, k) (n, l.connection)
+      pair : (j k : ℕ) → n ≡ j → k ≡ l.connection → ◌≡◌ {A = ℕ × ℕ} (j, k) (n, l.connection)
       pair j k e g = ap (λ x. (x, k)) (sym e) ∙ ap (λ x. (n, x)) g
 
       same-link : (y : Link) → IsIn y (awaits q.purpose n h).links → y.connection ≡ l.connection
@@ -237,8 +200,5 @@ module _ (b : Bus) (h : Host) (pairs : List (ℕ × ℕ)) (q : Asking) (n : ℕ)
       → PairsFit b (awaits q.purpose n h) (pairs_then t o n pairs) None
   pairs-asked true (Some l) s at = remembered l at s
   pairs-asked true None s at =
-      unremembered true s (λ e l g. nothing l (sym at ∙ g))
-    where
-      nothing : (l : Link) → None ≡ Some l → ⊥
-      nothing l e = absurd cc
+      unremembered true s (λ e l g. none-some (sym at ∙ g))
   pairs-asked false o s at = unremembered false s (λ e l g. not-both false e refl)

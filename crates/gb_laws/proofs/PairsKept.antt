@@ -1,75 +1,25 @@
 -- What is known of remembered requests is kept by each single change.
-use Rattle.std.proofs.Common.{
-  ◌≡◌,
-  ℕ,
-  Bool,
-  true,
-  false,
-  cond,
-  Option,
-  Some,
-  None,
-  refl,
-  sym,
-  ap,
-  ◌∙◌,
-  ⊎_elim,
-  subst,
-  arith,
-}
+use Rattle.std.proofs.Common.{Bool, None, Option, Some, ap, arith, cond, false, refl, subst, sym}
+use Rattle.std.proofs.Common.{true, ℕ, ⊎_elim, ◌∙◌, ◌≡◌}
 use Rattle.gb_base.specs.declared.peers.Link.{Link}
-use Rattle.gb_invariants.proofs.Awaiting.{same-some, sent-new}
-use Rattle.gb_invariants.proofs.Lists.{in-pushed}
-use Rattle.gb_laws.proofs.Answering.{keeps-requests}
-use Rattle.gb_laws.proofs.Awaited.{awaited-rest}
-use Rattle.gb_laws.proofs.LinkActs.{ServedHost, as_before, awaited-host, host-served, with_more}
-use Rattle.gb_laws.proofs.LinkBuses.{new_link}
-use Rattle.gb_laws.proofs.LinkSources.{from-turn, from-unsent}
-use Rattle.gb_laws.proofs.Linking.{LinkedAt}
-use Rattle.gb_laws.proofs.Links.{ArePending}
-use Rattle.gb_laws.proofs.PointParts.{Point}
-use Rattle.gb_laws.proofs.Points.{
-  Change,
-  IsAskedBy,
-  acts_asked,
-  acts_failed,
-  acts_opened,
-  asks,
-  awaited_by,
-  by_far,
-  by_host,
-  changed,
-  names,
-  serves,
-  spends,
-  turns,
-}
-use Rattle.gb_laws.proofs.Remembering.{RemembersAt}
-use Rattle.gb_machine.specs.Bus.{next_number}
-use Rattle.gb_machine.specs.Failures.{unsent}
-use Rattle.gb_machine.specs.Host.{link_at, with_link}
 use Rattle.gb_machine.specs.HostActs.{host_draft, made_for, with_awaited}
-use Rattle.gb_machine.specs.HostServing.{host_serves, with_credits}
-use Rattle.gb_machine.specs.HostTurns.{host_turn}
-use Rattle.gb_machine.specs.LineActions.{spent}
-use Rattle.gb_machine.specs.Runs.{Moment}
 use Rattle.gb_machine.specs.Sending.{Draft, requested, sent}
-use Rattle.gb_machine.specs.SequenceSteps.{is_for_connection}
-use Rattle.gb_machine.specs.Turns.{Asking}
-use Rattle.gb_machine.specs.Waits.{awaits}
-use Rattle.gb_machine.specs.Wiring.{next_connection}
-use Rattle.gb_laws.proofs.Pairs.{
-  ComeFrom,
-  IsAskedAs,
-  PairsFit,
-  asked-more,
-  come-from,
-  come-link,
-  come-same,
-  none-some,
-  pairs-on,
-}
-use Rattle.gb_laws.proofs.PairsAsked.{pairs-asked, pairs_then}
+use Rattle.gb_machine.specs.{Bus.next_number, Failures.unsent, Host.link_at, Host.with_link}
+use Rattle.gb_machine.specs.{HostServing.host_serves, HostServing.with_credits, HostTurns.host_turn}
+use Rattle.gb_machine.specs.{LineActions.spent, Runs.Moment, SequenceSteps.is_for_connection}
+use Rattle.gb_machine.specs.{Turns.Asking, Waits.awaits, Wiring.next_connection}
+use Rattle.gb_invariants.proofs.Awaiting.{none-some, same-some, sent-new}
+use Rattle.gb_invariants.proofs.Lists.{in-pushed}
+use Rattle.gb_laws.proofs.LinkActs.{ServedHost, as_before, awaited-host, host-served, with_more}
+use Rattle.gb_laws.proofs.Pairs.{ComeFrom, IsAskedAs, PairsFit, asked-more, come-from, come-link}
+use Rattle.gb_laws.proofs.Pairs.{come-same, pairs-on}
+use Rattle.gb_laws.proofs.Points.{Change, IsAskedBy, acts_asked, acts_failed, acts_opened, asks}
+use Rattle.gb_laws.proofs.Points.{awaited_by, by_far, by_host, changed, names, serves, spends}
+use Rattle.gb_laws.proofs.Points.{turns}
+use Rattle.gb_laws.proofs.{Awaited.awaited-rest, ChangeBuses.keeps-requests, LinkBuses.new_link}
+use Rattle.gb_laws.proofs.{LinkKept.LinkedAt, LinkSources.from-turn, LinkSources.from-unsent}
+use Rattle.gb_laws.proofs.{Links.ArePending, PairsAsked.pairs-asked, PairsAsked.pairs_then}
+use Rattle.gb_laws.proofs.{PointParts.Point, Remembering.RemembersAt}
 
 -- ---- each single change
 
@@ -126,7 +76,7 @@ pairs-kept m a (acts_opened w q rest free is) links r f = record {
       absurd (omega (arith, low, ap (λ (y : Link). y.connection) e)))
       (in-pushed l a.state.host.links (new_link (next_connection a.state.bus) w) live);
   bound = λ l live v e. ⊎_elim (λ o. f.bound l o v e)
-      (λ g. absurd (none-some v (sym (ap (λ (y : Link). y.awaits) g) ∙ e)))
+      (λ g. absurd (none-some (sym (ap (λ (y : Link). y.awaits) g) ∙ e)))
       (in-pushed l a.state.host.links (new_link (next_connection a.state.bus) w) live);
   asks = λ p n e. asked-more p n a.state.bus (changed m a (acts_opened w q rest free is)).state.bus
       a.state.past.made_for (λ k x made. made) (f.asks p n e);
@@ -134,10 +84,9 @@ pairs-kept m a (acts_opened w q rest free is) links r f = record {
 pairs-kept m a (acts_asked q n rest is) links r f =
     subst (λ b. PairsFit b (with_awaited q.purpose n a.state).host
     (with_awaited q.purpose n a.state).past.made_for None)
-    (sym (awaited-rest q.purpose n a.state).bus)
+    (sym (awaited-rest q.purpose n {s = a.state}).bus)
     (subst (λ g. PairsFit a.state.bus g (with_awaited q.purpose n a.state).past.made_for None)
-    (sym (awaited-host q.purpose n a.state))
-    (by (is_for_connection q.purpose.step)
+    (sym (awaited-host q.purpose n a.state)) (by (is_for_connection q.purpose.step)
     (link_at q.purpose.intf q.purpose.cport (awaits q.purpose n a.state.host))
     (pairs-asked a.state.bus a.state.host a.state.past.made_for q n links.host
     (subst (ArePending a.state.host) is.0 links.pending).0.0
@@ -146,8 +95,7 @@ pairs-kept m a (acts_asked q n rest is) links r f =
     (is_for_connection q.purpose.step)
     (link_at q.purpose.intf q.purpose.cport (awaits q.purpose n a.state.host)) refl refl)))
   where
-    by : (t : Bool) (o : Option Link)
-        → PairsFit a.state.bus (awaits q.purpose n a.state.host)
+    by : (t : Bool) (o : Option Link) → PairsFit a.state.bus (awaits q.purpose n a.state.host)
         (pairs_then t o n a.state.past.made_for) None
         → PairsFit a.state.bus (awaits q.purpose n a.state.host) (cond t
         (made_for n o (record a.state { host = awaits q.purpose n a.state.host }))
@@ -163,7 +111,7 @@ pairs-kept m a (acts_failed q rest is quiet) links r f =
 pairs-kept m a (serves k kind payload none) links r f =
     pairs-on a.state.bus a.state.bus a.state.host (host_serves k kind payload a.state.host).host
     a.state.past.made_for a.asked a.asked (λ n x made. made) (omega arith)
-    (by (host-served k kind payload a.state.host)) f.asks f
+    (by (host-served k kind payload {h = a.state.host})) f.asks f
   where
     by : ServedHost a.state.host (host_serves k kind payload a.state.host)
         → ComeFrom a.state.host (host_serves k kind payload a.state.host).host

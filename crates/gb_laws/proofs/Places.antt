@@ -1,59 +1,19 @@
 -- Places of ends, and connections that stay live.
-use Rattle.std.proofs.Common.{
-  ◌≡◌,
-  ◌⊎◌,
-  ℕ,
-  Bool,
-  true,
-  false,
-  cond,
-  Option,
-  Some,
-  None,
-  List,
-  [],
-  ◌∷◌,
-  ◌++◌,
-  refl,
-  sym,
-  ap,
-  ◌∙◌,
-  inl,
-  inr,
-  ⊎_elim,
-  subst,
-}
-use Rattle.std.specs.Prelude.{◌==◌, ◌&&◌, option_map}
+use Rattle.std.proofs.Common.{Bool, List, None, Option, Some, ap, cond, false, inl, inr, refl}
+use Rattle.std.proofs.Common.{subst, sym, true, ℕ, ⊎_elim, [], ◌++◌, ◌∙◌, ◌∷◌, ◌≡◌}
 use Rattle.std.specs.List.{list_any}
-use Rattle.gb_base.specs.declared.end.End.{End}
+use Rattle.std.specs.Prelude.{option_map, ◌&&◌, ◌==◌}
+use Rattle.gb_base.specs.declared.end.{End.End, Side.Side}
 use Rattle.gb_base.specs.declared.end.End.TheVariants as end
-use Rattle.gb_base.specs.declared.end.Side.{Side}
 use Rattle.gb_base.specs.declared.end.Side.TheVariants as side
-use Rattle.gb_invariants.proofs.Awaiting.{same-some}
-use Rattle.gb_invariants.proofs.Outcomes.{both-true, same-number}
-use Rattle.gb_invariants.proofs.Lists.{in-at_first, in-pushed}
+use Rattle.gb_machine.specs.Bus.{Bus, Connection, Item, Place, end_of, has_number, or_else}
+use Rattle.gb_machine.specs.Bus.{other_side, place_of, same_end, side_at}
+use Rattle.gb_machine.specs.{Delivery.replied, Holding.marked, Incoming.Incoming}
+use Rattle.gb_machine.specs.{Incoming.reply_item, Members.IsIn, Refusals.module_place, Sending.put}
+use Rattle.gb_machine.specs.{Sending.queued, State.State}
+use Rattle.gb_invariants.proofs.Lists.{at_first-back, in-at_first, in-pushed}
+use Rattle.gb_invariants.proofs.{Awaiting.same-some, Outcomes.both-true, Outcomes.same-number}
 use Rattle.gb_laws.proofs.Points.{AreMarked, IsAfterReply, IsLive, replied_to, unreplied}
-use Rattle.gb_machine.specs.Bus.{
-  Bus,
-  Connection,
-  Item,
-  Place,
-  end_of,
-  has_number,
-  or_else,
-  other_side,
-  place_of,
-  same_end,
-  side_at,
-}
-use Rattle.gb_machine.specs.Holding.{marked}
-use Rattle.gb_machine.specs.Incoming.{Incoming, reply_item}
-use Rattle.gb_machine.specs.Delivery.{replied}
-use Rattle.gb_machine.specs.Lists.{at_first}
-use Rattle.gb_machine.specs.Members.{IsIn}
-use Rattle.gb_machine.specs.Refusals.{module_place}
-use Rattle.gb_machine.specs.Sending.{put, queued}
-use Rattle.gb_machine.specs.State.{State}
 
 -- ends that test as one are one
 pub same_end-is : (a b : End) → same_end a b ≡ true → a ≡ b
@@ -102,8 +62,7 @@ place-is at (c ∷ cs) p h = by (side_at at c) refl h (place-is at cs p)
   where
     by : (o : Option Side) → side_at at c ≡ o
         → or_else (option_map (λ s. record { connection = c; side = s }) o) (place_of at cs) ≡ Some
-        p
-        → (place_of at cs ≡ Some p → IsPlace at cs p) → IsPlace at (c ∷ cs) p
+        p → (place_of at cs ≡ Some p → IsPlace at cs p) → IsPlace at (c ∷ cs) p
     by None e h rec = let r = rec h in record { live = inr r.live; wired = r.wired; is = r.is }
     by (Some s) e h rec =
         let k = side-is at c s e in
@@ -118,24 +77,6 @@ module-far i c side.Ap x h = absurd cc
 
 -- ---- a connection that changes stays live
 
-pub at_first-back : {A : Type 0} (test : A → Bool) (change : A → A) (xs : List A) (x : A)
-    → IsIn x xs
-    → IsIn x (at_first test change xs) ⊎ IsIn (change x) (at_first test change xs)
-at_first-back test change [] x i = absurd i
-at_first-back test change (y ∷ ys) x (inl e) = by (test y)
-  where
-    by : (b : Bool) → IsIn x (cond b (change y ∷ ys) (y ∷ at_first test change ys))
-        ⊎ IsIn (change x) (cond b (change y ∷ ys) (y ∷ at_first test change ys))
-    by true = inr (inl (ap change e))
-    by false = inl (inl e)
-at_first-back test change (y ∷ ys) x (inr j) = by (test y) (at_first-back test change ys x j)
-  where
-    by : (b : Bool) → IsIn x (at_first test change ys) ⊎ IsIn (change x) (at_first test change ys)
-        → IsIn x (cond b (change y ∷ ys) (y ∷ at_first test change ys))
-        ⊎ IsIn (change x) (cond b (change y ∷ ys) (y ∷ at_first test change ys))
-    by true h = inl (inr j)
-    by false h = ⊎_elim (λ a. inl (inr a)) (λ b. inr (inr b)) h
-
 -- connections stay live, wired or not, with their ends
 abbrev pub LivesOn : Bus → Bus → Type 0
 LivesOn b after = (k : ℕ) (t : Bool) (l : IsLive k t b) → (n : IsLive k t after)
@@ -148,8 +89,7 @@ lives-replied k at item b n t h =
     still (put at item h.connection) i s.0 s.1 s.2 s.3)
     (at_first-back (has_number k) (put at item) b.connections h.connection h.live)
   where
-    same : (c : Connection) (s : Side) (w : Bool)
-        → ((cond w (queued s item c) c).number ≡ c.number)
+    same : (c : Connection) (s : Side) (w : Bool) → ((cond w (queued s item c) c).number ≡ c.number)
         × ((cond w (queued s item c) c).wired ≡ c.wired)
         × ((cond w (queued s item c) c).peer ≡ c.peer) × ((cond w (queued s item c) c).ap ≡ c.ap)
     same c side.Ap true = (refl, refl, refl, refl)
@@ -183,17 +123,14 @@ ComesFrom b after = (c : Connection) → IsIn c after.connections
 
 comes-replied : (k : ℕ) (at : Side) (item : Item) (b : Bus) → ComesFrom b (replied k at item b)
 comes-replied k at item b c live =
-    ⊎_elim (λ o. (c, o, refl, refl))
-    (λ w. let s = same w.0 at w.0.wired in (
+    ⊎_elim (λ o. (c, o, refl, refl)) (λ w. let s = same w.0 at w.0.wired in (
       w.0,
       w.1,
       sym (ap (λ (x : Connection). x.wired) w.3 ∙ s.0),
       sym (ap (λ (x : Connection). x.peer) w.3 ∙ s.1),
-    ))
-    (in-at_first (has_number k) (put at item) b.connections c live)
+    )) (in-at_first (has_number k) (put at item) b.connections c live)
   where
-    same : (x : Connection) (s : Side) (w : Bool)
-        → ((cond w (queued s item x) x).wired ≡ x.wired)
+    same : (x : Connection) (s : Side) (w : Bool) → ((cond w (queued s item x) x).wired ≡ x.wired)
         × ((cond w (queued s item x) x).peer ≡ x.peer)
     same x side.Ap true = (refl, refl)
     same x side.Far true = (refl, refl)
@@ -202,14 +139,14 @@ comes-replied k at item b c live =
 -- once what was taken was replied to, or not
 pub lives-after : {k : ℕ} {at : Side} {q : Incoming} {b after : Bus} → IsAfterReply k at q b after
     → LivesOn b after
-lives-after {k} {at} {q} {b} (unreplied e) =
+lives-after {b} (unreplied e) =
     subst (LivesOn b) (sym e) (λ n t l. (l, refl, refl, refl))
 lives-after {k} {at} {q} {b} (replied_to r e) =
     subst (LivesOn b) (sym e) (lives-replied k (other_side at) (reply_item q r) b)
 
 pub comes-after : {k : ℕ} {at : Side} {q : Incoming} {b after : Bus} → IsAfterReply k at q b after
     → ComesFrom b after
-comes-after {k} {at} {q} {b} (unreplied e) =
+comes-after {b} (unreplied e) =
     subst (ComesFrom b) (sym e) (λ c live. (c, live, refl, refl))
 comes-after {k} {at} {q} {b} (replied_to r e) =
     subst (ComesFrom b) (sym e) (comes-replied k (other_side at) (reply_item q r) b)
@@ -233,5 +170,4 @@ place-marked i c s p e = by (list_any (λ j. j == p.connection.number) s.holds)
           sym same,
           sym (ap (λ x. end_of x p.connection) (module-far i c p.side p.connection place.is))
               ∙ place.is,
-        ))
-        (in-pushed k s.holds p.connection.number n)
+        )) (in-pushed k s.holds p.connection.number n)

@@ -1,64 +1,30 @@
 -- Points within the step of an event, what is told, and what causes what.
-use Rattle.std.specs.Prelude.{
-  ◌≡◌,
-  ◌≤◌,
-  ℕ,
-  Bool,
-  true,
-  false,
-  Option,
-  Some,
-  None,
-  List,
-  [],
-  ◌∷◌,
-  ◌++◌,
-  map,
-}
-use Rattle.gb_base.specs.declared.peers.Link.{Link}
+use Rattle.std.specs.Prelude.{Bool, List, None, Option, Some, false, map, true, ℕ, [], ◌++◌, ◌∷◌}
+use Rattle.std.specs.Prelude.{◌≡◌, ◌≤◌}
 use Rattle.gb_base.specs.declared.bridge.Reading.TheVariants as reading
-use Rattle.gb_base.specs.declared.end.End.{End}
+use Rattle.gb_base.specs.declared.end.{End.End, Side.Side}
 use Rattle.gb_base.specs.declared.end.End.TheVariants as end
-use Rattle.gb_base.specs.declared.end.Side.{Side}
 use Rattle.gb_base.specs.declared.end.Side.TheVariants as side
-use Rattle.gb_base.specs.declared.entry.ConnState.TheVariants as state
 use Rattle.gb_base.specs.declared.entry.Entry.{Entry}
+use Rattle.gb_base.specs.declared.entry.ConnState.TheVariants as state
 use Rattle.gb_base.specs.declared.entry.Entry.TheVariants as entry
 use Rattle.gb_base.specs.declared.event.Event.{Event}
 use Rattle.gb_base.specs.declared.event.Event.TheVariants as event
 use Rattle.gb_base.specs.declared.name.Name.{Name}
 use Rattle.gb_base.specs.declared.outcome.Outcome.{Outcome}
 use Rattle.gb_base.specs.declared.outcome.Outcome.TheVariants as outcome
+use Rattle.gb_base.specs.declared.peers.Link.{Link}
+use Rattle.gb_machine.specs.Bus.{Bus, Connection, Item, Place, Request, next_number, other_side}
+use Rattle.gb_machine.specs.Bus.{place_of, queue, request_of}
+use Rattle.gb_machine.specs.Incoming.{Incoming, reply_item, request_in}
+use Rattle.gb_machine.specs.Turns.{Act, Asking, HostEvent}
+use Rattle.gb_machine.specs.{Asking.asked, Delivery.popped, Delivery.replied, Host.Host}
+use Rattle.gb_machine.specs.{Host.link_at, HostServing.host_serves, HostTurns.links_of}
+use Rattle.gb_machine.specs.{LawsBus.NameRequests, Lists.first, Members.Each, Members.IsIn}
+use Rattle.gb_machine.specs.{Names.named, Refusals.refusal, Runs.Moment, Sending.Draft}
+use Rattle.gb_machine.specs.{Serving.Answer, State.Held, State.State}
 use Rattle.gb_invariants.proofs.Selves.{SameSelf}
 use Rattle.gb_invariants.specs.Facts.{BusFits, Loose}
-use Rattle.gb_machine.specs.Asking.{asked}
-use Rattle.gb_machine.specs.Bus.{
-  Bus,
-  Connection,
-  Item,
-  Place,
-  Request,
-  next_number,
-  other_side,
-  place_of,
-  queue,
-  request_of,
-}
-use Rattle.gb_machine.specs.Delivery.{popped, replied}
-use Rattle.gb_machine.specs.Host.{Host, link_at}
-use Rattle.gb_machine.specs.HostServing.{host_serves}
-use Rattle.gb_machine.specs.HostTurns.{links_of}
-use Rattle.gb_machine.specs.Incoming.{Incoming, reply_item, request_in}
-use Rattle.gb_machine.specs.LawsBus.{NameRequests}
-use Rattle.gb_machine.specs.Lists.{first}
-use Rattle.gb_machine.specs.Members.{Each, IsIn}
-use Rattle.gb_machine.specs.Names.{named}
-use Rattle.gb_machine.specs.Refusals.{refusal}
-use Rattle.gb_machine.specs.Runs.{Moment}
-use Rattle.gb_machine.specs.Sending.{Draft}
-use Rattle.gb_machine.specs.Serving.{Answer}
-use Rattle.gb_machine.specs.State.{Held, State}
-use Rattle.gb_machine.specs.Turns.{Act, Asking, HostEvent}
 
 -- ---- points
 
@@ -262,11 +228,9 @@ IsGivenUpFor m s _ n = ⊥
 -- disconnected, or is one of an interface whose removal is handled
 pub data IsShutFor (m : Moment) (k : ℕ) : Type 0 where
   disconnected : (i c : ℕ) (l : Link) → m.event ≡ event.Disconnect i c
-      → link_at i c m.before.host ≡ Some l
-      → l.connection ≡ k → IsShutFor m k
+      → link_at i c m.before.host ≡ Some l → l.connection ≡ k → IsShutFor m k
   removed : (i : ℕ) (l : Link) → IsNoticed m (HostEvent.Removed i)
-      → IsIn l (links_of i m.before.host)
-      → l.connection ≡ k → IsShutFor m k
+      → IsIn l (links_of i m.before.host) → l.connection ≡ k → IsShutFor m k
 
 -- ---- events
 

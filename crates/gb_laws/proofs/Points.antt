@@ -1,113 +1,47 @@
 -- The single changes that lead from one point within the step of an event to the next.
-use Rattle.std.specs.Prelude.{
-  ◌≡◌,
-  ◌⊎◌,
-  ◌≢◌,
-  ◌≤◌,
-  ℕ,
-  ◌+◌,
-  nat_lt,
-  Bool,
-  true,
-  false,
-  Option,
-  Some,
-  None,
-  List,
-  [],
-  ◌∷◌,
-  map,
-  length,
-}
-use Rattle.gb_base.specs.declared.peers.Link.{Link}
+use Rattle.std.specs.Prelude.{Bool, List, None, Option, Some, false, length, map, nat_lt, true, ℕ}
+use Rattle.std.specs.Prelude.{[], ◌+◌, ◌∷◌, ◌≡◌, ◌≢◌, ◌≤◌, ◌⊎◌}
 use Rattle.gb_base.specs.declared.bridge.BridgeAsk.{BridgeAsk}
 use Rattle.gb_base.specs.declared.bridge.Reading.TheVariants as reading
 use Rattle.gb_base.specs.declared.end.End.{End}
 use Rattle.gb_base.specs.declared.end.End.TheVariants as end
 use Rattle.gb_base.specs.declared.end.Side.TheVariants as side
-use Rattle.gb_base.specs.declared.entry.ConnState.TheVariants as state
 use Rattle.gb_base.specs.declared.entry.Entry.{Entry}
+use Rattle.gb_base.specs.declared.entry.ConnState.TheVariants as state
 use Rattle.gb_base.specs.declared.entry.Entry.TheVariants as entry
 use Rattle.gb_base.specs.declared.event.Event.TheVariants as event
 use Rattle.gb_base.specs.declared.name.Name.{Name}
 use Rattle.gb_base.specs.declared.outcome.Outcome.{Outcome}
 use Rattle.gb_base.specs.declared.outcome.Outcome.TheVariants as outcome
+use Rattle.gb_base.specs.declared.peers.Link.{Link}
+use Rattle.gb_formats.specs.SvcRecords.{read_svc_ask}
 use Rattle.gb_machine.specs.Arriving.{reading_for, state_takes, with_held}
-use Rattle.gb_machine.specs.Bus.{
-  Bus,
-  Connection,
-  Item,
-  Place,
-  Reply,
-  connection_of,
-  is_open,
-  next_number,
-  other_side,
-  place_of,
-  queue,
-  request_of,
-}
+use Rattle.gb_machine.specs.Bus.{Bus, Connection, Item, Place, Reply, connection_of, is_open}
+use Rattle.gb_machine.specs.Bus.{next_number, other_side, place_of, queue, request_of}
 use Rattle.gb_machine.specs.Delivery.{answered, ended, forgotten, popped, replied}
-use Rattle.gb_machine.specs.Failures.{unsent}
-use Rattle.gb_machine.specs.Holding.{held_on}
-use Rattle.gb_machine.specs.Host.{with_link}
 use Rattle.gb_machine.specs.HostActs.{host_draft, with_awaited, with_made}
-use Rattle.gb_machine.specs.HostServing.{host_serves}
-use Rattle.gb_machine.specs.HostTurns.{host_turn}
 use Rattle.gb_machine.specs.Incoming.{Incoming, reply_entry, reply_item, request_in}
-use Rattle.gb_machine.specs.LineActions.{spent, with_fewer}
-use Rattle.gb_machine.specs.LawsBus.{is_awaited}
-use Rattle.gb_machine.specs.Lists.{first, nth}
-use Rattle.gb_machine.specs.Members.{EachTwo, IsIn}
-use Rattle.gb_machine.specs.Modules.{is_plugged}
-use Rattle.gb_machine.specs.Ports.{is_powered, level_of, unrouted}
 use Rattle.gb_machine.specs.Names.{bound, freed, named}
+use Rattle.gb_machine.specs.Ports.{is_powered, level_of, unrouted}
 use Rattle.gb_machine.specs.Refusals.{is_reserved, longest_manifest, module_place}
 use Rattle.gb_machine.specs.Requests.{gave_up, given_up_with, open_on, open_with}
-use Rattle.gb_machine.specs.Runs.{Moment}
 use Rattle.gb_machine.specs.Sending.{Draft, label_for, sent}
-use Rattle.gb_machine.specs.Serving.{Answer}
 use Rattle.gb_machine.specs.State.{Held, Plugged, Port, State}
-use Rattle.gb_formats.specs.SvcRecords.{read_svc_ask}
-use Rattle.gb_machine.specs.SvcQueues.{removes}
 use Rattle.gb_machine.specs.SvcTable.{Create, Unroute, svc_step}
 use Rattle.gb_machine.specs.Turns.{Act, Asking, HostEvent, Making}
 use Rattle.gb_machine.specs.Wires.{disconnected_told, with_unwired, with_wired}
 use Rattle.gb_machine.specs.Wiring.{detached, injected, is_wired_to, next_connection, shut_down}
-pub use Rattle.gb_laws.proofs.PointParts.{
-  AreQuiet,
-  Basis,
-  Hand,
-  IsCancelled,
-  IsAfterReply,
-  IsBridge,
-  IsCaused,
-  IsGivenUpFor,
-  IsLate,
-  IsNoticed,
-  IsOfSvc,
-  IsServed,
-  IsServing,
-  IsShutFor,
-  IsStill,
-  Point,
-  Untouched,
-  Unwired,
-  Wired,
-  Wires,
-  asked_told,
-  is_quiet,
-  is_silent,
-  loose,
-  loose_hand,
-  loose_held,
-  on,
-  on_bus,
-  replied_to,
-  resting,
-  sent_told,
-  unreplied,
-}
+use Rattle.gb_machine.specs.{Failures.unsent, Holding.held_on, Host.with_link}
+use Rattle.gb_machine.specs.{HostServing.host_serves, HostTurns.host_turn, LawsBus.is_awaited}
+use Rattle.gb_machine.specs.{LineActions.spent, LineActions.with_fewer, Lists.first, Lists.nth}
+use Rattle.gb_machine.specs.{Members.EachTwo, Members.IsIn, Modules.is_plugged, Runs.Moment}
+use Rattle.gb_machine.specs.{Serving.Answer, SvcQueues.removes}
+pub use Rattle.gb_laws.proofs.PointParts.{AreQuiet, Basis, Hand, IsAfterReply, IsBridge}
+pub use Rattle.gb_laws.proofs.PointParts.{IsCancelled, IsCaused, IsGivenUpFor, IsLate, IsNoticed}
+pub use Rattle.gb_laws.proofs.PointParts.{IsOfSvc, IsServed, IsServing, IsShutFor, IsStill, Point}
+pub use Rattle.gb_laws.proofs.PointParts.{Untouched, Unwired, Wired, Wires, asked_told, is_quiet}
+pub use Rattle.gb_laws.proofs.PointParts.{is_silent, loose, loose_hand, loose_held, on, on_bus}
+pub use Rattle.gb_laws.proofs.PointParts.{replied_to, resting, sent_told, unreplied}
 
 -- ---- single changes
 
@@ -130,8 +64,7 @@ pub record IsLive (k : ℕ) (wire : Bool) (b : Bus) : Type 0 where
 -- open one of its identifier.
 pub data Answers (h : Hand) (n : ℕ) (b : Bus) : Type 0 where
   by_number : (result : ℕ) (payload : List ℕ) → h.item ≡ Reply n result payload
-      → h.connection.clean ≡ true
-      → is_open n b ≡ true → Answers h n b
+      → h.connection.clean ≡ true → is_open n b ≡ true → Answers h n b
   by_label : (label : ℕ) → h.connection.clean ≡ false
       → open_with h.connection.number h.side label b ≡ Some n → Answers h n b
 
@@ -255,27 +188,23 @@ pub data Change (m : Moment) (a : Point) : Type 0 where
   names : (name : Name) (d : Draft) (c : Connection) (label : ℕ) → a.hand ≡ None
       → connection_of d.connection a.state.bus ≡ Some c
       → label_for d a.state.bus ≡ Some label → (d.side ≡ side.Ap) × IsPlain a.state d
-      × (a.pending ≡ [])
-      → Change m a
+      × (a.pending ≡ []) → Change m a
   -- a name gets a request that another has, or is free
   binds : (x y : Name) (n : ℕ) → named x a.state.names ≡ Some n → Change m a
   frees : (name : Name) → Change m a
   -- the front item toward an end is taken, or a held item
   takes : (at : End) (p : Place) (item : Item) → a.hand ≡ None → a.state ≡ m.before
-      → m.event ≡ event.Deliver at
-      → place_of at m.before.bus.connections ≡ Some p
+      → m.event ≡ event.Deliver at → place_of at m.before.bus.connections ≡ Some p
       → first (queue p.side p.connection) ≡ Some item → Change m a
   takes_held : (i c place : ℕ) (p : Place) (h : Held) → a.hand ≡ None → a.state ≡ m.before
-      → m.event ≡ event.Answer i c place
-      → module_place i c m.before ≡ Some p
+      → m.event ≡ event.Answer i c place → module_place i c m.before ≡ Some p
       → nth place (held_on p.connection.number m.before.held) ≡ Some h → Change m a
   -- what is being handled is let go, or held, or replied to, or answers a request, or one is
   -- forgotten
   drops : Change m a
   holds : (h : Hand) → a.hand ≡ Some h → h.side ≡ side.Far → Change m a
   replies : (h : Hand) (q : Incoming) (r : Answer) → a.hand ≡ Some h
-      → request_in h.item a.state.bus ≡ Some q
-      → q.oneway ≡ false → Change m a
+      → request_in h.item a.state.bus ≡ Some q → q.oneway ≡ false → Change m a
   answers : (h : Hand) (n result : ℕ) (payload : List ℕ) → a.hand ≡ Some h → Says h n result payload
       → Answers h n a.state.bus → Change m a
   forgets : (h : Hand) (n : ℕ) → a.hand ≡ Some h → Forgets h n a.state.bus → Change m a
@@ -286,8 +215,7 @@ pub data Change (m : Moment) (a : Point) : Type 0 where
   wires : (k : ℕ) → a.hand ≡ None → a.wires ≡ Untouched → (live : IsLive k false a.state.bus)
       → (is_powered live.intf a.state.ports ≡ true)
       × (nat_lt (level_of live.intf a.state.ports) 6 ≡ false)
-      × IsCreated m a.state live.connection live.intf live.cport
-      → Change m a
+      × IsCreated m a.state live.connection live.intf live.cport → Change m a
   unwires : (k : ℕ) → a.hand ≡ None → a.wires ≢ Wired → IsLive k true a.state.bus → Change m a
   -- bytes are injected
   injects : (i c : ℕ) (p : Place) (bytes : List ℕ) → a.hand ≡ None
@@ -394,3 +322,12 @@ pub record Law (m : Moment) : Type 1 where
   pub holds : Point → Type 0
   pub basis : (a : Point) → holds a → Basis a
   pub kept : (a : Point) (x : Change m a) → holds a → holds (changed m a x)
+
+-- A law upon another.
+abbrev pub upon : {m : Moment} (law : Law m) (P : Point → Type 0)
+    → ((a : Point) (x : Change m a) → law.holds a → P a → P (changed m a x)) → Law m
+upon law P kept = record {
+  holds = λ a. law.holds a × P a;
+  basis = λ a h. law.basis a h.0;
+  kept = λ a x h. (law.kept a x h.0, kept a x h.0 h.1);
+}

@@ -1,54 +1,20 @@
 -- While a removal of an interface waits toward the application processor, its power level is at
 -- most 1: what holds of its enumeration at each point of a step.
-use Rattle.std.proofs.Common.{
-  ◌≡◌,
-  ◌⊎◌,
-  ◌≤◌,
-  ℕ,
-  Bool,
-  true,
-  false,
-  Some,
-  None,
-  List,
-  [],
-  ◌∷◌,
-  ◌++◌,
-  refl,
-  sym,
-  ap,
-  ◌∙◌,
-  inl,
-  inr,
-  ⊎_elim,
-  subst,
-  arith,
-}
-use Rattle.gb_base.specs.declared.steps.SequenceStep.{SequenceStep}
-use Rattle.gb_base.specs.declared.peers.Interface.{Interface}
-use Rattle.gb_base.specs.declared.steps.SequenceStep.TheVariants as steps
+use Rattle.std.proofs.Common.{Bool, List, None, Some, ap, arith, false, inl, inr, refl, subst, sym}
+use Rattle.std.proofs.Common.{true, ℕ, ⊎_elim, [], ◌++◌, ◌∙◌, ◌∷◌, ◌≡◌, ◌≤◌, ◌⊎◌}
 use Rattle.gb_base.specs.declared.end.Side.TheVariants as side
-use Rattle.gb_laws.proofs.AskedWaits.{AsksIn, WaitsFewer, is_power_step}
-use Rattle.gb_laws.proofs.Enums.{
-  AreStarts,
-  IsClean,
-  clean-more,
-  enums,
-  enums-more,
-  enums_of,
-  removed-more,
-  removed_in,
-}
-use Rattle.gb_laws.proofs.Framing.{asked-toward}
-use Rattle.gb_laws.proofs.Owning.{KeepsRequests}
-use Rattle.gb_laws.proofs.PointParts.{Basis, Hand, Point}
+use Rattle.gb_base.specs.declared.peers.Interface.{Interface}
+use Rattle.gb_base.specs.declared.steps.SequenceStep.{SequenceStep}
+use Rattle.gb_base.specs.declared.steps.SequenceStep.TheVariants as steps
 use Rattle.gb_machine.specs.Bus.{Bus, Request, request_of}
-use Rattle.gb_machine.specs.LawsBus.{is_awaited}
-use Rattle.gb_machine.specs.Lists.{behind_first}
-use Rattle.gb_machine.specs.Members.{IsIn}
-use Rattle.gb_machine.specs.Ports.{level_of}
-use Rattle.gb_machine.specs.SvcQueues.{is_reply_to, svc_items}
-use Rattle.gb_machine.specs.Turns.{Asking}
+use Rattle.gb_machine.specs.{LawsBus.is_awaited, Lists.behind_first, Members.IsIn, Ports.level_of}
+use Rattle.gb_machine.specs.{SvcQueues.is_reply_to, SvcQueues.svc_items, Turns.Asking}
+use Rattle.gb_invariants.proofs.BusChanges.{KeepsRequests}
+use Rattle.gb_laws.proofs.AskedWaits.{AsksIn, WaitsFewer, is_power_step}
+use Rattle.gb_laws.proofs.Enums.{AreStarts, IsClean, clean-more, enums, enums-more, enums_of}
+use Rattle.gb_laws.proofs.Enums.{removed-more, removed_in}
+use Rattle.gb_laws.proofs.PointParts.{Basis, Hand, Point}
+use Rattle.gb_laws.proofs.MarkFrame.{asked-toward}
 
 -- ---- what is said
 
@@ -99,8 +65,7 @@ pub record IsQuiet (i : ℕ) (a : Point) : Type 0 where
   pub waits : (x : Interface) → IsIn x a.state.host.interfaces → x.intf ≡ i
       → (w : ℕ × SequenceStep) → x.awaits ≡ Some w → is_power_step w.1 ≡ true → WaitsOn i w.0 a
   pub due : a.asked ≡ None → (q : Asking) → AsksIn q a.pending → q.purpose.intf ≡ i
-      → is_power_step q.purpose.step ≡ true
-      → (q.purpose.step ≡ steps.EnableVsys) ⊎ IsCalm i a
+      → is_power_step q.purpose.step ≡ true → (q.purpose.step ≡ steps.EnableVsys) ⊎ IsCalm i a
   pub made : (q : Asking) (n : ℕ) → a.asked ≡ Some (q, n) → q.purpose.intf ≡ i
       → is_power_step q.purpose.step ≡ true → WaitsOn i n a
 
@@ -200,10 +165,10 @@ calm-still i a b v h = (
 )
 
 -- Where what is said stays, no interface waits for more, and nothing more is to be asked.
-pub quiet-still : (i : ℕ) (a b : Point) → SameView i a b → WaitsFewer a.state.host b.state.host
+pub quiet-still : {i : ℕ} {a b : Point} → SameView i a b → WaitsFewer a.state.host b.state.host
     → b.asked ≡ a.asked → ((q : Asking) → AsksIn q b.pending → AsksIn q a.pending)
     → IsQuiet i a → IsQuiet i b
-quiet-still i a b v fewer asked pending h = record {
+quiet-still {i} {a} {b} v fewer asked pending h = record {
   low = low-still i a b v h.low;
   waits = λ x j at w e s. let was = fewer x j w e in
       waits-still i w.0 a b v (h.waits was.was was.known (was.intf ∙ at) w (was.awaits ∙ e) s);
@@ -227,10 +192,10 @@ enums-same i a after basis keeps far =
     ∙ enums-more i a.state.bus after (svc_items side.Far a.state.bus) keeps
     (asked-toward side.Far a basis)
 
-pub removed-same : (i : ℕ) (a : Point) (after : Bus) → Basis a → KeepsRequests a.state.bus after
+pub removed-same : (i : ℕ) {a : Point} (after : Bus) → Basis a → KeepsRequests a.state.bus after
     → svc_items side.Ap after ≡ svc_items side.Ap a.state.bus
     → is_removed i after ≡ is_removed i a.state.bus
-removed-same i a after basis keeps same =
+removed-same i {a} after basis keeps same =
     ap (removed_in i after) same
     ∙ removed-more i a.state.bus after (svc_items side.Ap a.state.bus) keeps
     (asked-toward side.Ap a basis)
@@ -260,14 +225,12 @@ unanswered-same i n a b basis keeps same hand awaited u = record {
 }
 
 -- The view stays where the queues and the power do.
-pub view-same : (i : ℕ) (a b : Point) → Basis a → SameQueues a.state.bus b.state.bus
+pub view-same : {i : ℕ} {a b : Point} → Basis a → SameQueues a.state.bus b.state.bus
     → level_of i b.state.ports ≡ level_of i a.state.ports
-    → ((n : ℕ) → IsUnanswered i n a → (h : Hand) → b.hand ≡ Some h
-    → is_reply_to n h.item ≡ false)
+    → ((n : ℕ) → IsUnanswered i n a → (h : Hand) → b.hand ≡ Some h → is_reply_to n h.item ≡ false)
     → ((n : ℕ) → IsUnanswered i n a → is_awaited n b.state.bus ≡ true) → SameView i a b
-view-same i a b basis q level hand awaited = record {
+view-same {i} {a} {b} basis q level hand awaited = record {
   enums = inl (enums-same i a b.state.bus basis q.keeps q.far);
-  power = stays level
-      (λ r. sym (removed-same i a b.state.bus basis q.keeps q.ap) ∙ r)
+  power = stays level (λ r. sym (removed-same i b.state.bus basis q.keeps q.ap) ∙ r)
       (λ n r u. unanswered-same i n a b basis q.keeps q.ap (hand n u) (awaited n u) u);
 }

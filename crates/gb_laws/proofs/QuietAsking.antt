@@ -1,75 +1,30 @@
 -- What is said of an enumeration while a removal waits is kept where a request of a sequence is
 -- made.
-use Rattle.std.proofs.Common.{
-  ◌≡◌,
-  ◌≢◌,
-  ◌⊎◌,
-  ◌≤◌,
-  ℕ,
-  Bool,
-  true,
-  false,
-  cond,
-  Some,
-  None,
-  List,
-  [],
-  ◌∷◌,
-  ◌++◌,
-  refl,
-  sym,
-  ap,
-  ◌∙◌,
-  inl,
-  ⊎_elim,
-  subst,
-  append-nil,
-  arith,
-}
+use Rattle.std.proofs.Common.{Bool, List, None, Some, ap, append-nil, arith, cond, false, inl, refl}
+use Rattle.std.proofs.Common.{subst, sym, true, ℕ, ⊎_elim, [], ◌++◌, ◌∙◌, ◌∷◌, ◌≡◌, ◌≢◌, ◌≤◌, ◌⊎◌}
 use Rattle.std.specs.Prelude.{not}
-use Rattle.gb_base.specs.declared.steps.Purpose.{Purpose}
-use Rattle.gb_base.specs.declared.steps.SequenceStep.{SequenceStep}
-use Rattle.gb_base.specs.declared.peers.Interface.{Interface}
-use Rattle.gb_base.specs.declared.steps.SequenceStep.TheVariants as steps
 use Rattle.gb_base.specs.declared.end.Side.TheVariants as side
+use Rattle.gb_base.specs.declared.peers.Interface.{Interface}
+use Rattle.gb_base.specs.declared.steps.{Purpose.Purpose, SequenceStep.SequenceStep}
+use Rattle.gb_base.specs.declared.steps.SequenceStep.TheVariants as steps
 use Rattle.gb_formats.specs.SvcRecords.{read_svc_ask}
-use Rattle.gb_invariants.proofs.Awaiting.{not-both, same-some, sent-request}
-use Rattle.gb_invariants.proofs.Lists.{each-append}
-use Rattle.gb_invariants.proofs.Outcomes.{both-true}
-use Rattle.gb_laws.proofs.AskedWaits.{AsksIn, asks_in, is_power_step}
-use Rattle.gb_laws.proofs.EnumRequests.{formed-enumerates, power-enumerates}
-use Rattle.gb_laws.proofs.Enums.{AreStarts, enums}
-use Rattle.gb_laws.proofs.Linking.{LinkedAt}
-use Rattle.gb_laws.proofs.Links.{ArePending, IsDue, IsDueBy, IsFormed}
-use Rattle.gb_laws.proofs.Owning.{KeepsRequests}
-use Rattle.gb_laws.proofs.PointParts.{Basis, Point}
-use Rattle.gb_laws.proofs.Quiet.{
-  IsCalm,
-  IsHot,
-  IsLast,
-  IsQuiet,
-  SameView,
-  WaitsOn,
-  last-pushed,
-  low-still,
-  removed-same,
-  starts-pushed,
-  waits-still,
-}
-use Rattle.gb_laws.proofs.QuietBuses.{asked-put, enums-asked, new-unanswered}
-use Rattle.gb_laws.proofs.QuietKept.{view-asked, view-plain}
-use Rattle.gb_laws.proofs.There.{There}
 use Rattle.gb_machine.specs.Bus.{Request, next_number, request_of}
-use Rattle.gb_machine.specs.Host.{Host}
-use Rattle.gb_machine.specs.HostActs.{host_draft}
-use Rattle.gb_machine.specs.Lists.{behind_first}
-use Rattle.gb_machine.specs.Members.{IsIn}
-use Rattle.gb_machine.specs.Ports.{level_of}
 use Rattle.gb_machine.specs.Sending.{Draft, requested, sent}
 use Rattle.gb_machine.specs.SequenceSteps.{asks_control, is_enumeration, kind_of}
-use Rattle.gb_machine.specs.State.{State}
-use Rattle.gb_machine.specs.SvcQueues.{enumerates, svc_items}
-use Rattle.gb_machine.specs.Turns.{Act, Asking}
+use Rattle.gb_machine.specs.{Host.Host, HostActs.host_draft, Lists.behind_first, Members.IsIn}
+use Rattle.gb_machine.specs.{Ports.level_of, State.State, SvcQueues.enumerates, SvcQueues.svc_items}
+use Rattle.gb_machine.specs.{Turns.Act, Turns.Asking}
+use Rattle.gb_invariants.proofs.Awaiting.{none-some, not-both, same-some, sent-request}
+use Rattle.gb_invariants.proofs.{BusChanges.KeepsRequests, Lists.each-append, Outcomes.both-true}
+use Rattle.gb_laws.proofs.AskedWaits.{AsksIn, asks_in, is_power_step}
+use Rattle.gb_laws.proofs.Links.{ArePending, IsDue, IsDueBy, IsFormed}
+use Rattle.gb_laws.proofs.Quiet.{IsCalm, IsHot, IsLast, IsQuiet, SameView, WaitsOn, last-pushed}
+use Rattle.gb_laws.proofs.Quiet.{low-still, removed-same, starts-pushed, waits-still}
+use Rattle.gb_laws.proofs.QuietBuses.{asked-put, enums-asked, new-unanswered}
+use Rattle.gb_laws.proofs.{EnumRequests.formed-enumerates, EnumRequests.power-enumerates}
+use Rattle.gb_laws.proofs.{Enums.AreStarts, Enums.enums, LinkKept.LinkedAt, PointParts.Basis}
+use Rattle.gb_laws.proofs.{PointParts.Point, QuietKept.view-asked, QuietKept.view-plain}
+use Rattle.gb_laws.proofs.{SvcThere.There}
 
 -- ---- requests
 
@@ -84,13 +39,13 @@ idle-power step p h s due x j at = by (is_enumeration step) refl due
         (both-true (is_enumeration step) (not (asks_control step)) s).0 e)
 
 -- the request of a pending act is made
-pub quiet-asked : (i : ℕ) (a b : Point) (q : Asking) (rest : List Act) (label : ℕ) → Basis a
-    → LinkedAt a → There a.state.bus → a.pending ≡ Act.Ask q ∷ rest → a.hand ≡ None
+pub quiet-asked : (i : ℕ) (a : Point) {b : Point} (q : Asking) (rest : List Act) (label : ℕ) → Basis
+    a → LinkedAt a → There a.state.bus → a.pending ≡ Act.Ask q ∷ rest → a.hand ≡ None
     → a.asked ≡ None
     → b.state ≡ record a.state { bus = sent (host_draft q a.state.now) label a.state.bus }
     → b.hand ≡ a.hand → b.asked ≡ Some (q, next_number a.state.bus) → b.pending ≡ a.pending
     → IsQuiet i a → IsQuiet i b
-quiet-asked i a b q rest label basis links there pending free none state hand asked same h =
+quiet-asked i a {b} q rest label basis links there pending free none state hand asked same h =
     by (asks_control q.purpose.step) refl
   where
     d : Draft
@@ -158,7 +113,7 @@ quiet-asked i a b q rest label basis links there pending free none state hand as
 
     ap_same : q.on ≡ 1 → svc_items side.Ap b.state.bus ≡ svc_items side.Ap a.state.bus
     ap_same on = ap (svc_items side.Ap) bus
-        ∙ (asked-put a (host_draft q a.state.now) label basis there on).from
+        ∙ (asked-put (host_draft q a.state.now) label basis there on).from
 
     keeps : KeepsRequests a.state.bus b.state.bus
     keeps n r made = ap (request_of n) bus
@@ -166,7 +121,7 @@ quiet-asked i a b q rest label basis links there pending free none state hand as
 
     hot-before : q.on ≡ 1 → IsHot i b → IsHot i a
     hot-before on hot = (
-      sym (removed-same i a b.state.bus basis keeps (ap_same on)) ∙ hot.0,
+      sym (removed-same i b.state.bus basis keeps (ap_same on)) ∙ hot.0,
       sym level ∙ hot.1,
     )
 
@@ -181,7 +136,7 @@ quiet-asked i a b q rest label basis links there pending free none state hand as
             (formed.kind ∙ ap kind_of start))
             (λ calm. subst (λ es. AreStarts (behind_first (es ++ e ∷ []))) (sym calm.0) tt) may);
         low = λ r. subst (λ n. n ≤ 1) (sym level) (h.low.low
-            (sym (removed-same i a b.state.bus basis keeps (ap_same on)) ∙ r));
+            (sym (removed-same i b.state.bus basis keeps (ap_same on)) ∙ r));
         starts = λ hot. subst AreStarts (sym pushed) (⊎_elim
             (λ start. each-append (λ (x : ℕ × Request). x.1.kind ≡ 0x21) (enums i a.state.bus)
             (e ∷ []) (h.low.starts (hot-before on hot)) (formed.kind ∙ ap kind_of start, tt))
@@ -201,15 +156,11 @@ quiet-asked i a b q rest label basis links there pending free none state hand as
         e : ℕ × Request
         e = (next_number a.state.bus, requested (host_draft q a.state.now) label)
 
-        pushed : enums i b.state.bus
-            ≡ enums i a.state.bus
+        pushed : enums i b.state.bus ≡ enums i a.state.bus
             ++ (next_number a.state.bus, requested (host_draft q a.state.now) label) ∷ []
         pushed = enumerated on ∙ ap (λ t. enums i a.state.bus ++ (cond t
             ((next_number a.state.bus, requested (host_draft q a.state.now) label) ∷ []) [] ++ []))
             is
-
-        none-some : {w : ℕ × SequenceStep} → None ≡ Some w → ⊥
-        none-some f = absurd cc
 
     asks : AsksIn q a.pending
     asks = subst (AsksIn q) (sym pending) (asks_in (inl refl))
@@ -224,8 +175,7 @@ quiet-asked i a b q rest label basis links there pending free none state hand as
         (λ calm. new on (subst (IsLast (next_number a.state.bus))
         (sym (enumerated on ∙ ap (λ t. enums i a.state.bus ++ (cond t
         ((next_number a.state.bus, requested (host_draft q a.state.now) label) ∷ []) [] ++ [])) is
-        ∙ append-nil (enums i a.state.bus) ∙ calm.0)) tt))
-        (h.due none q asks at s)
+        ∙ append-nil (enums i a.state.bus) ∙ calm.0)) tt)) (h.due none q asks at s)
 
     enumeration : q.on ≡ 1 → asks_control q.purpose.step ≡ false → (t : Bool)
         → enumerates i (read_svc_ask q.kind q.payload) ≡ t → IsQuiet i b
@@ -233,13 +183,11 @@ quiet-asked i a b q rest label basis links there pending free none state hand as
         let f = formed-enumerates i q formed e is in
         power on f.0 f.1 is (h.due none q asks f.1 f.0)
     enumeration on e false is =
-        let v = view-plain i a b (host_draft q a.state.now) label basis there bus level hand on refl
+        let v = view-plain i a (host_draft q a.state.now) label basis there bus level hand on refl
         is in
         still v (λ at s. plain on v at s is)
 
     by : (t : Bool) → asks_control q.purpose.step ≡ t → IsQuiet i b
-    by true e = still
-        (view-asked i a b (host_draft q a.state.now) label basis bus level hand
-        (two-one q.on (formed.control e)))
-        (λ at s. absurd (control true e refl s))
+    by true e = still (view-asked i a (host_draft q a.state.now) label basis bus level hand
+        (two-one q.on (formed.control e))) (λ at s. absurd (control true e refl s))
     by false e = enumeration (formed.on e) e (enumerates i (read_svc_ask q.kind q.payload)) refl

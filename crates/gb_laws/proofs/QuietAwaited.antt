@@ -1,49 +1,20 @@
 -- What an enumeration waits for, where its request ended.
-use Rattle.std.proofs.Common.{
-  ◌≡◌,
-  ℕ,
-  Bool,
-  true,
-  false,
-  cond,
-  Option,
-  Some,
-  None,
-  List,
-  [],
-  ◌∷◌,
-  refl,
-  sym,
-  ap,
-  ◌∙◌,
-  inl,
-  inr,
-  subst,
-}
+use Rattle.std.proofs.Common.{Bool, List, None, Option, Some, ap, cond, false, inl, inr, refl}
+use Rattle.std.proofs.Common.{subst, sym, true, ℕ, [], ◌∙◌, ◌∷◌, ◌≡◌}
 use Rattle.std.specs.Prelude.{◌==◌}
-use Rattle.gb_base.specs.declared.steps.Purpose.{Purpose}
-use Rattle.gb_base.specs.declared.steps.SequenceStep.{SequenceStep}
-use Rattle.gb_base.specs.declared.peers.Interface.{Interface}
-use Rattle.gb_base.specs.declared.peers.Link.{Link}
-use Rattle.gb_base.specs.declared.steps.SequenceStep.TheVariants as steps
 use Rattle.gb_base.specs.declared.end.Side.TheVariants as side
-use Rattle.gb_invariants.proofs.Awaiting.{not-both, same-some}
-use Rattle.gb_invariants.proofs.Outcomes.{same-number}
-use Rattle.gb_laws.proofs.AskedWaits.{is_power_step}
-use Rattle.gb_laws.proofs.Enums.{enum-waits, enums}
-use Rattle.gb_laws.proofs.Linking.{LinkedAt}
-use Rattle.gb_laws.proofs.Links.{IsWaiting, IsAtStep}
-use Rattle.gb_laws.proofs.PointParts.{Basis, Point}
-use Rattle.gb_laws.proofs.Quiet.{IsLast, last-in}
-use Rattle.gb_laws.proofs.QuietBuses.{svc-found}
-use Rattle.gb_laws.proofs.There.{There}
+use Rattle.gb_base.specs.declared.peers.{Interface.Interface, Link.Link}
+use Rattle.gb_base.specs.declared.steps.{Purpose.Purpose, SequenceStep.SequenceStep}
+use Rattle.gb_base.specs.declared.steps.SequenceStep.TheVariants as steps
 use Rattle.gb_machine.specs.Bus.{Ask, Request, or_else}
-use Rattle.gb_machine.specs.Host.{Host}
-use Rattle.gb_machine.specs.LawsBus.{is_awaited}
-use Rattle.gb_machine.specs.Members.{IsIn}
-use Rattle.gb_machine.specs.SequenceSteps.{purpose}
-use Rattle.gb_machine.specs.SvcQueues.{items_in, svc_items}
 use Rattle.gb_machine.specs.Waits.{awaited, interface_waits, link_waits, purpose_in}
+use Rattle.gb_machine.specs.{Host.Host, LawsBus.is_awaited, Members.IsIn, SequenceSteps.purpose}
+use Rattle.gb_machine.specs.{SvcQueues.items_in, SvcQueues.svc_items}
+use Rattle.gb_invariants.proofs.{Awaiting.not-both, Awaiting.same-some, Outcomes.same-number}
+use Rattle.gb_laws.proofs.{AskedWaits.is_power_step, Enums.enum-waits, Enums.enums}
+use Rattle.gb_laws.proofs.{LinkKept.LinkedAt, Links.IsAtStep, Links.IsWaiting, PointParts.Basis}
+use Rattle.gb_laws.proofs.{PointParts.Point, Quiet.IsLast, Quiet.last-in, QuietBuses.svc-found}
+use Rattle.gb_laws.proofs.{SvcThere.There}
 
 -- ---- what waits to be served is awaited
 
@@ -56,7 +27,7 @@ none-over i n a basis links there over last = by (enums i a.state.bus) refl last
     by [] e h = refl
     by (x ∷ es) e h =
         let r = last-in n x es h in
-        let c = svc-found a basis there in
+        let c = svc-found basis there in
         let w = enum-waits i a.state.bus (svc_items side.Far a.state.bus) (n, r.0)
         (subst (λ z. IsIn (n, r.0) z) (sym e) r.1) in
         let waits = subst (λ o. IsIn (Ask n) (items_in side.Far o)) c.1 w.0 in

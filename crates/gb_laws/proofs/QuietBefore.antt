@@ -1,91 +1,37 @@
 -- While a removal waits, only starts of the enumeration of its interface wait, and no answer that
 -- it waits for comes before the removal.
-use Rattle.std.proofs.Common.{
-  ◌≡◌,
-  ◌≢◌,
-  ℕ,
-  Bool,
-  true,
-  false,
-  cond,
-  Option,
-  Some,
-  None,
-  List,
-  [],
-  ◌∷◌,
-  refl,
-  sym,
-  ap,
-  ◌∙◌,
-  subst,
-}
-use Rattle.std.specs.Prelude.{◌&&◌, ◌||◌, not}
+use Rattle.std.proofs.Common.{Bool, List, None, Option, Some, ap, cond, false, refl, subst, sym}
+use Rattle.std.proofs.Common.{true, ℕ, [], ◌∙◌, ◌∷◌, ◌≡◌, ◌≢◌}
 use Rattle.std.specs.List.{list_any}
+use Rattle.std.specs.Prelude.{not, ◌&&◌, ◌||◌}
 use Rattle.gb_base.specs.declared.end.Side.TheVariants as side
 use Rattle.gb_base.specs.declared.entry.Entry.{Entry}
 use Rattle.gb_base.specs.declared.peers.Interface.{Interface}
 use Rattle.gb_base.specs.declared.steps.SequenceStep.{SequenceStep}
-use Rattle.gb_invariants.proofs.Awaiting.{same-some}
-use Rattle.gb_invariants.proofs.Outcomes.{same-number}
+use Rattle.gb_machine.specs.Bus.{Ask, Bus, Item, Raw, RawReply, Reply, Request, request_of}
+use Rattle.gb_machine.specs.LawsSvc.{IsQuiet, IsStart, awaits_removal, before_last}
+use Rattle.gb_machine.specs.SvcQueues.{is_ask_that, is_removal, is_reply_to, items_in, request_onto}
+use Rattle.gb_machine.specs.SvcQueues.{svc_items}
+use Rattle.gb_machine.specs.{Members.Each, Members.IsIn, Ports.level_of}
+use Rattle.gb_machine.specs.{SequenceSteps.asks_control, State.State}
+use Rattle.gb_invariants.proofs.{Awaiting.same-some, Outcomes.same-number}
 use Rattle.gb_laws.proofs.AwaitsOwn.{OwnTo, own-throughout, waiting-interface}
-use Rattle.gb_laws.proofs.Enums.{
-  IsClean,
-  clean-none,
-  enums,
-  enums-requests,
-  item_removes,
-  removed_in,
-  request_removes,
-  starts-requests,
-}
-use Rattle.gb_laws.proofs.PointParts.{resting}
-use Rattle.gb_laws.proofs.QuietBuses.{svc-found}
+use Rattle.gb_laws.proofs.Enums.{IsClean, clean-none, enums, enums-requests, item_removes}
+use Rattle.gb_laws.proofs.Enums.{removed_in, request_removes, starts-requests}
 use Rattle.gb_laws.proofs.QuietRuns.{QuietTo, quiet-throughout, removal-waits}
-use Rattle.gb_laws.proofs.Runs.{HoldsByMoments}
-use Rattle.gb_machine.specs.Bus.{
-  Ask,
-  Bus,
-  Item,
-  Raw,
-  RawReply,
-  Reply,
-  Request,
-  request_of,
-}
-use Rattle.gb_machine.specs.LawsSvc.{
-  IsQuiet,
-  IsStart,
-  awaits_removal,
-  before_last,
-}
-use Rattle.gb_machine.specs.Members.{Each, IsIn}
-use Rattle.gb_machine.specs.Ports.{level_of}
-use Rattle.gb_machine.specs.Runs.{state_by, told_by}
-use Rattle.gb_machine.specs.SequenceSteps.{asks_control}
-use Rattle.gb_machine.specs.State.{State}
-use Rattle.gb_machine.specs.SvcQueues.{
-  is_ask_that,
-  is_removal,
-  is_reply_to,
-  items_in,
-  request_onto,
-  svc_items,
-}
+use Rattle.gb_laws.proofs.{QuietBuses.svc-found, Runs.HoldsByMoments}
 
 -- ---- answers in front of a removal
 
 -- an item is a removal
-removal-item : (i : ℕ) (b : Bus) (x : Item)
-    → is_ask_that (is_removal i) b x ≡ item_removes i b x
+removal-item : (i : ℕ) (b : Bus) (x : Item) → is_ask_that (is_removal i) b x ≡ item_removes i b x
 removal-item i b (Ask n) = by (request_of n b)
   where
     unmarked : (t : Bool) → (t || false) ≡ t
     unmarked true = refl
     unmarked false = refl
 
-    by : (o : Option Request)
-        → list_any (is_removal i) (request_onto o []) ≡ request_removes i o
+    by : (o : Option Request) → list_any (is_removal i) (request_onto o []) ≡ request_removes i o
     by None = refl
     by (Some r) = unmarked (is_removal i r)
 removal-item i b (Reply n result payload) = refl
@@ -96,8 +42,7 @@ removal-among : (i : ℕ) (b : Bus) (xs : List Item)
     → list_any (is_ask_that (is_removal i) b) xs ≡ removed_in i b xs
 removal-among i b [] = refl
 removal-among i b (x ∷ xs) = ap (λ t. t || list_any (is_ask_that (is_removal i) b) xs)
-    (removal-item i b x)
-    ∙ ap (λ t. item_removes i b x || t) (removal-among i b xs)
+    (removal-item i b x) ∙ ap (λ t. item_removes i b x || t) (removal-among i b xs)
 
 -- none of those in front of the last removal is a reply to request n
 clean-before : (n i : ℕ) (b : Bus) (xs : List Item) → IsClean n i b xs
@@ -115,11 +60,10 @@ clean-before n i b (x ∷ xs) h =
 
 -- ---- the law
 
-quiet-before : (told : List Entry) (s : State) → QuietTo told s → OwnTo told s → IsQuiet told s
-quiet-before told s h own = record {
+quiet-before : {told : List Entry} {s : State} → QuietTo told s → OwnTo told s → IsQuiet told s
+quiet-before {s} h own = record {
   low = λ i r. (h.quiet i).low.low (removed i r);
-  starts = λ i r one. subst (Each IsStart)
-      (sym (enums-requests i s.bus (svc_items side.Far s.bus)))
+  starts = λ i r one. subst (Each IsStart) (sym (enums-requests i s.bus (svc_items side.Far s.bus)))
       (starts-requests (enums i s.bus) ((h.quiet i).low.starts (removed i r, one)));
   unanswered = λ i n step r one e. clean-before n i s.bus (svc_items side.Ap s.bus)
       (clean i n step r one (waiting-interface i s.host (n, step) e) (asks_control step) refl);
@@ -135,20 +79,17 @@ quiet-before told s h own = record {
     none n r made other x i false e = refl
     none n r made other (Reply k result payload) i true e =
         let links = own.links in
-        let c = svc-found (resting told s) links.0 links.3 in
+        let c = svc-found links.0 links.3 in
         let of = links.0.bus.items.own c.0 side.Ap (Reply k result payload) c.3
         (subst (λ o. IsIn (Reply k result payload) (items_in side.Ap o)) c.1 i) in
         absurd (other (ap (λ (q : Request). q.connection) (same-some r of.0
-        (sym made ∙ ap (λ m. request_of m s.bus) (sym (same-number k n e)) ∙ of.1))
-        ∙ of.2 ∙ c.4))
+        (sym made ∙ ap (λ m. request_of m s.bus) (sym (same-number k n e)) ∙ of.1)) ∙ of.2 ∙ c.4))
     none n r made other (Ask k) i true e = absurd cc
     none n r made other (Raw bytes) i true e = absurd cc
     none n r made other (RawReply label kind result payload) i true e = absurd cc
 
-    clean : (i n : ℕ) (step : SequenceStep) → awaits_removal i s.bus ≡ true
-        → level_of i s.ports ≡ 1
-        → (x : Interface) × IsIn x s.host.interfaces × (x.intf ≡ i)
-        × (x.awaits ≡ Some (n, step))
+    clean : (i n : ℕ) (step : SequenceStep) → awaits_removal i s.bus ≡ true → level_of i s.ports ≡ 1
+        → (x : Interface) × IsIn x s.host.interfaces × (x.intf ≡ i) × (x.awaits ≡ Some (n, step))
         → (t : Bool) → asks_control step ≡ t → IsClean n i s.bus (svc_items side.Ap s.bus)
     clean i n step r one x true e =
         let w = own.own.waits x.0 x.1 (n, step) x.3 in
@@ -162,5 +103,4 @@ quiet-before told s h own = record {
 
 -- Before a removal it is quiet.
 pub quiet-before_moments : HoldsByMoments IsQuiet
-quiet-before_moments es are = quiet-before (told_by es) (state_by es) (quiet-throughout es are)
-    (own-throughout es are)
+quiet-before_moments es are = quiet-before (quiet-throughout es are) (own-throughout es are)

@@ -1,80 +1,35 @@
 -- What is said of an enumeration goes over what becomes of the bus.
-use Rattle.std.proofs.Common.{
-  ◌≡◌,
-  ◌≢◌,
-  ℕ,
-  Bool,
-  true,
-  false,
-  cond,
-  Some,
-  None,
-  [],
-  ◌∷◌,
-  ◌++◌,
-  refl,
-  sym,
-  ap,
-  ◌∙◌,
-  subst,
-  arith,
-}
-use Rattle.std.specs.Prelude.{◌==◌}
+use Rattle.std.proofs.Common.{Bool, None, Some, ap, arith, cond, false, refl, subst, sym, true, ℕ}
+use Rattle.std.proofs.Common.{[], ◌++◌, ◌∙◌, ◌∷◌, ◌≡◌, ◌≢◌}
 use Rattle.std.specs.List.{find}
+use Rattle.std.specs.Prelude.{◌==◌}
 use Rattle.gb_base.specs.declared.end.Side.{Side}
 use Rattle.gb_base.specs.declared.end.Side.TheVariants as side
-use Rattle.gb_invariants.proofs.Awaiting.{sent-awaited, sent-new, sent-request}
-use Rattle.gb_invariants.proofs.Labels.{asked_on, asked_on-number}
-use Rattle.gb_invariants.proofs.Numbers.{found-by_number}
-use Rattle.gb_invariants.proofs.Outcomes.{same-number}
-use Rattle.gb_invariants.proofs.Selves.{drawn-queue, front-self, put-self}
-use Rattle.gb_invariants.specs.Facts.{IsOwn}
-use Rattle.gb_laws.proofs.Enums.{
-  IsClean,
-  clean-none,
-  enum_of,
-  enums,
-  enums-append,
-  enums-more,
-  enums_of,
-}
-use Rattle.gb_laws.proofs.Framing.{asked-toward}
-use Rattle.gb_laws.proofs.Onward.{drawn-wired}
-use Rattle.gb_laws.proofs.Owning.{KeepsRequests}
-use Rattle.gb_laws.proofs.PointParts.{Basis, Hand, Point}
-use Rattle.gb_laws.proofs.Quiet.{IsUnanswered, SameQueues}
-use Rattle.gb_laws.proofs.SvcItems.{items-first, items-one}
-use Rattle.gb_laws.proofs.There.{There}
 use Rattle.gb_machine.proofs.Lists.{nth-within}
-use Rattle.gb_machine.specs.Bus.{
-  Ask,
-  Bus,
-  Connection,
-  Item,
-  Raw,
-  RawReply,
-  Reply,
-  Request,
-  connection_of,
-  has_number,
-  next_number,
-  other_side,
-  queue,
-  request_of,
-}
+use Rattle.gb_machine.specs.Bus.{Ask, Bus, Connection, Item, Raw, RawReply, Reply, Request}
+use Rattle.gb_machine.specs.Bus.{connection_of, has_number, next_number, other_side, queue}
+use Rattle.gb_machine.specs.Bus.{request_of}
 use Rattle.gb_machine.specs.Delivery.{popped, replied, without_front}
-use Rattle.gb_machine.specs.LawsBus.{is_awaited}
-use Rattle.gb_machine.specs.Lists.{at_first, behind_first}
-use Rattle.gb_machine.specs.Members.{IsIn}
 use Rattle.gb_machine.specs.Sending.{Draft, drawn, put, requested, sent}
 use Rattle.gb_machine.specs.SvcQueues.{is_reply_to, items_in, svc_items}
+use Rattle.gb_machine.specs.{LawsBus.is_awaited, Lists.at_first, Lists.behind_first, Members.IsIn}
+use Rattle.gb_invariants.proofs.Awaiting.{none-some, sent-awaited, sent-new, sent-request}
+use Rattle.gb_invariants.proofs.Selves.{drawn-body, drawn-queue, front-self, put-self}
+use Rattle.gb_invariants.proofs.{BusChanges.KeepsRequests, Labels.asked_on, Labels.asked_on-number}
+use Rattle.gb_invariants.proofs.{Numbers.found-by_number, Outcomes.same-number}
+use Rattle.gb_invariants.specs.Facts.{IsOwn}
+use Rattle.gb_laws.proofs.Enums.{IsClean, clean-none, enum_of, enums, enums-append, enums-more}
+use Rattle.gb_laws.proofs.Enums.{enums_of}
+use Rattle.gb_laws.proofs.{MarkFrame.asked-toward, PointParts.Basis, PointParts.Point}
+use Rattle.gb_laws.proofs.{Quiet.IsUnanswered, Quiet.SameQueues, SvcItems.items-first}
+use Rattle.gb_laws.proofs.{SvcItems.items-one, SvcThere.There}
 
 -- ---- the supervisory controller's connection
 
-pub svc-found : (a : Point) → Basis a → There a.state.bus
+pub svc-found : {a : Point} → Basis a → There a.state.bus
     → (c : Connection) × (connection_of 1 a.state.bus ≡ Some c) × (c.wired ≡ true)
     × IsIn c a.state.bus.connections × (c.number ≡ 1)
-svc-found a basis there = (
+svc-found {a} basis there = (
   there.connection,
   subst (λ k. connection_of k a.state.bus ≡ Some there.connection) there.number
       (found-by_number a.state.bus.connections there.connection basis.bus.numbers.rise there.live),
@@ -96,21 +51,6 @@ queues-other b after k f same keeps number other = record {
     stay : (at : Side) → svc_items at after ≡ svc_items at b
     stay at = ap (λ cs. items_in at (find (has_number 1) cs)) same
         ∙ items-first at k f b.connections number (λ c j on one. absurd (other (sym on ∙ one)))
-
--- or its queues stay
-pub queues-kept : (b after : Bus) (k : ℕ) (f : Connection → Connection)
-    → after.connections ≡ at_first (has_number k) f b.connections → KeepsRequests b after
-    → ((c : Connection) → (f c).number ≡ c.number)
-    → ((at : Side) (c : Connection) → queue at (f c) ≡ queue at c) → SameQueues b after
-queues-kept b after k f same keeps number queues = record {
-  keeps = keeps;
-  far = stay side.Far;
-  ap = stay side.Ap;
-}
-  where
-    stay : (at : Side) → svc_items at after ≡ svc_items at b
-    stay at = ap (λ cs. items_in at (find (has_number 1) cs)) same
-        ∙ items-first at k f b.connections number (λ c j on one. queues at c)
 
 -- ---- an item is put
 
@@ -148,12 +88,11 @@ put-svc s x b after c k f found one same number queues = record {
         ∙ items-one at f b c found number
 
 -- a request is made on it
-pub asked-put : (a : Point) (d : Draft) (label : ℕ) → Basis a → There a.state.bus
-    → d.connection ≡ 1
+pub asked-put : {a : Point} (d : Draft) (label : ℕ) → Basis a → There a.state.bus → d.connection ≡ 1
     → IsPut (other_side d.side) (Ask (next_number a.state.bus)) a.state.bus
     (sent d label a.state.bus)
-asked-put a d label basis there one =
-    let c = svc-found a basis there in
+asked-put {a} d label basis there one =
+    let c = svc-found basis there in
     put-svc (other_side d.side) (Ask (next_number a.state.bus)) a.state.bus
     (sent d label a.state.bus) c.0 d.connection (asked_on d label a.state.bus) c.1 one refl
     (asked_on-number d label a.state.bus) (queues c.0 c.2)
@@ -165,7 +104,7 @@ asked-put a d label basis there one =
         ≡ queue (other_side (other_side d.side)) c)
     queues c wired =
         let p = put-queues side.Ap (other_side d.side) (Ask (next_number a.state.bus))
-        (drawn d label c) (drawn-wired d label c ∙ wired) in (
+        (drawn d label c) ((drawn-body d label c).wired ∙ wired) in (
           p.0 ∙ ap (λ is. is ++ Ask (next_number a.state.bus) ∷ [])
               (drawn-queue (other_side d.side) d label c),
           p.1 ∙ drawn-queue (other_side (other_side d.side)) d label c,
@@ -175,7 +114,7 @@ asked-put a d label basis there one =
 pub replied-put : (a : Point) (s : Side) (x : Item) (k : ℕ) → Basis a → There a.state.bus
     → k ≡ 1 → IsPut s x a.state.bus (replied k s x a.state.bus)
 replied-put a s x k basis there one =
-    let c = svc-found a basis there in
+    let c = svc-found basis there in
     put-svc s x a.state.bus (replied k s x a.state.bus) c.0 k (put s x) c.1 one refl
     (λ y. (put-self s x y).number) (put-queues s s x c.0 c.2)
 
@@ -188,11 +127,10 @@ next-unmade b r e = omega (arith, nth-within (next_number b) b.requests r e)
 pub next-unreplied : (a : Point) → Basis a → There a.state.bus → (x : Item)
     → IsIn x (svc_items side.Ap a.state.bus) → is_reply_to (next_number a.state.bus) x ≡ false
 next-unreplied a basis there x i =
-    let c = svc-found a basis there in
-    by x (basis.bus.items.own c.0 side.Ap x c.3
-    (subst (λ o. IsIn x (items_in side.Ap o)) c.1 i))
+    let c = svc-found basis there in
+    by x (basis.bus.items.own c.0 side.Ap x c.3 (subst (λ o. IsIn x (items_in side.Ap o)) c.1 i))
   where
-    by : (y : Item) → IsOwn a.state.bus (svc-found a basis there).0.number side.Ap y
+    by : (y : Item) → IsOwn a.state.bus (svc-found basis there).0.number side.Ap y
         → is_reply_to (next_number a.state.bus) y ≡ false
     by (Ask m) own = refl
     by (Raw bytes) own = refl
@@ -213,7 +151,7 @@ new-unanswered i a b d label basis there free hand bus one by_ap twoway = record
   clean = subst (λ is. IsClean (next_number a.state.bus) i b.state.bus is) (sym ap_same)
       (clean-none (next_number a.state.bus) i b.state.bus (svc_items side.Ap a.state.bus)
       (next-unreplied a basis there));
-  hand = λ h e. absurd (none-some h (sym free ∙ sym hand ∙ e));
+  hand = λ h e. absurd (none-some (sym free ∙ sym hand ∙ e));
   request = requested d label;
   made = ap (request_of (next_number a.state.bus)) bus ∙ sent-new d label a.state.bus;
   on = one;
@@ -222,12 +160,9 @@ new-unanswered i a b d label basis there free hand bus one by_ap twoway = record
       (sent-awaited d label a.state.bus basis.bus.outcomes twoway);
 }
   where
-    none-some : (h : Hand) → None ≡ Some h → ⊥
-    none-some h e = absurd cc
-
     ap_same : svc_items side.Ap b.state.bus ≡ svc_items side.Ap a.state.bus
     ap_same = ap (svc_items side.Ap) bus
-        ∙ toward d.side by_ap (asked-put a d label basis there one).from
+        ∙ toward d.side by_ap (asked-put d label basis there one).from
       where
         toward : (s : Side) → s ≡ side.Ap
             → svc_items (other_side (other_side s)) (sent d label a.state.bus)
@@ -238,11 +173,10 @@ new-unanswered i a b d label basis there free hand bus one by_ap twoway = record
 
 -- the requests of an enumeration, where one more is asked
 pub enums-asked : (i : ℕ) (a : Point) (d : Draft) (label : ℕ) → Basis a → There a.state.bus
-    → d.connection ≡ 1 → d.side ≡ side.Ap
-    → enums i (sent d label a.state.bus)
+    → d.connection ≡ 1 → d.side ≡ side.Ap → enums i (sent d label a.state.bus)
     ≡ enums i a.state.bus ++ (enum_of i (next_number a.state.bus) (Some (requested d label)) ++ [])
 enums-asked i a d label basis there one by_ap =
-    ap (enums_of i after) (toward d.side by_ap (asked-put a d label basis there one).toward)
+    ap (enums_of i after) (toward d.side by_ap (asked-put d label basis there one).toward)
     ∙ enums-append i after (svc_items side.Far a.state.bus) (Ask (next_number a.state.bus) ∷ [])
     ∙ ap (λ es. es ++ enums_of i after (Ask (next_number a.state.bus) ∷ []))
     (enums-more i a.state.bus after (svc_items side.Far a.state.bus)
@@ -253,8 +187,7 @@ enums-asked i a d label basis there one by_ap =
     after : Bus
     after = sent d label a.state.bus
 
-    toward : (s : Side) → s ≡ side.Ap
-        → svc_items (other_side s) (sent d label a.state.bus)
+    toward : (s : Side) → s ≡ side.Ap → svc_items (other_side s) (sent d label a.state.bus)
         ≡ svc_items (other_side s) a.state.bus ++ Ask (next_number a.state.bus) ∷ []
         → svc_items side.Far (sent d label a.state.bus)
         ≡ svc_items side.Far a.state.bus ++ Ask (next_number a.state.bus) ∷ []
@@ -267,7 +200,7 @@ popped-queues : (a : Point) (s : Side) (k : ℕ) → Basis a → There a.state.b
     → (svc_items s (popped k s a.state.bus) ≡ behind_first (svc_items s a.state.bus))
     × (svc_items (other_side s) (popped k s a.state.bus) ≡ svc_items (other_side s) a.state.bus)
 popped-queues a s k basis there one =
-    let c = svc-found a basis there in (
+    let c = svc-found basis there in (
       whole s c.0 c.1 ∙ front s c.0 ∙ ap (λ o. behind_first (items_in s o)) (sym c.1),
       whole (other_side s) c.0 c.1 ∙ rest s c.0 ∙ ap (items_in (other_side s)) (sym c.1),
     )

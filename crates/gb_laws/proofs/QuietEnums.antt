@@ -1,48 +1,16 @@
 -- What the supervisory controller makes of power where it serves a request of an enumeration.
-use Rattle.std.proofs.Common.{
-  ◌≡◌,
-  ◌⊎◌,
-  ◌≤◌,
-  ℕ,
-  Bool,
-  true,
-  false,
-  cond,
-  List,
-  [],
-  refl,
-  sym,
-  ap,
-  ◌∙◌,
-  inl,
-  inr,
-  arith,
-}
+use Rattle.std.proofs.Common.{Bool, List, ap, arith, cond, false, inl, inr, refl, sym, true, ℕ, []}
+use Rattle.std.proofs.Common.{◌∙◌, ◌≡◌, ◌≤◌, ◌⊎◌}
 use Rattle.std.proofs.lemmas.Bool.Decides.{nat_tests}
-use Rattle.std.specs.Prelude.{Result, Ok, Err, ◌==◌, ◌||◌, nat_lt, not}
-use Rattle.gb_formats.specs.Records.{PayloadFault}
+use Rattle.std.specs.Prelude.{Err, Ok, Result, nat_lt, not, ◌==◌, ◌||◌}
 use Rattle.gb_formats.specs.SvcRecords.{SvcAsk, read_svc_ask, read_svc_ask_of_ap, svc_ask_kind}
-use Rattle.gb_invariants.proofs.Awaiting.{not-both}
-use Rattle.gb_invariants.proofs.Outcomes.{is-same, same-number}
-use Rattle.gb_laws.proofs.Levels.{starts}
-use Rattle.gb_laws.proofs.SvcKinds.{svc-kind}
-use Rattle.gb_machine.specs.Ports.{level_of, with_device}
+use Rattle.gb_formats.specs.Records.{PayloadFault}
 use Rattle.gb_machine.specs.Serving.{invalid, nonexistent, success}
-use Rattle.gb_machine.specs.State.{Port}
-use Rattle.gb_machine.specs.SvcQueues.{enumerates}
-use Rattle.gb_machine.specs.SvcTable.{
-  Answered,
-  Create,
-  Destroy,
-  Unroute,
-  climbs,
-  is_no_device,
-  svc_asked,
-  svc_read,
-  svc_refuses,
-  svc_stays,
-  svc_step,
-}
+use Rattle.gb_machine.specs.SvcTable.{Answered, Create, Destroy, Unroute, climbs, is_no_device}
+use Rattle.gb_machine.specs.SvcTable.{svc_asked, svc_read, svc_refuses, svc_stays, svc_step}
+use Rattle.gb_machine.specs.{Ports.level_of, Ports.with_device, State.Port, SvcQueues.enumerates}
+use Rattle.gb_invariants.proofs.{Awaiting.not-both, Outcomes.is-same, Outcomes.same-number}
+use Rattle.gb_laws.proofs.{Levels.starts, SvcKinds.svc-kind}
 
 -- ---- an enumeration's request is served
 
@@ -116,8 +84,7 @@ asked-six ports (SvcAsk.RouteDestroy a i) j h = by (a == 1) (level_of i ports ==
 
     by : (t u : Bool) → (level_of i ports == 6) ≡ u
         → (cond (not t || not u) (svc_refuses ports nonexistent)
-        (svc_stays ports (Unroute i))).served
-        ≡ Unroute j
+        (svc_stays ports (Unroute i))).served ≡ Unroute j
         → (level_of j ports ≡ 6) × ((cond (not t || not u) (svc_refuses ports nonexistent)
         (svc_stays ports (Unroute i))).ports ≡ ports)
     by true true e f = (

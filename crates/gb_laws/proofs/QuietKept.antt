@@ -1,145 +1,82 @@
 -- What is said of an enumeration while a removal waits stays where the bus does, and where requests
 -- are made.
-use Rattle.std.proofs.Common.{
-  ◌≡◌,
-  ◌≢◌,
-  ℕ,
-  Bool,
-  true,
-  false,
-  cond,
-  Some,
-  None,
-  List,
-  [],
-  ◌∷◌,
-  ◌++◌,
-  refl,
-  sym,
-  ap,
-  ◌∙◌,
-  inl,
-  subst,
-  append-nil,
-}
+use Rattle.std.proofs.Common.{Bool, List, None, Some, ap, append-nil, cond, false, inl, refl, subst}
+use Rattle.std.proofs.Common.{sym, true, ℕ, [], ◌++◌, ◌∙◌, ◌∷◌, ◌≡◌, ◌≢◌}
 use Rattle.std.specs.Prelude.{◌==◌}
-use Rattle.gb_base.specs.declared.end.End.TheVariants as end
 use Rattle.gb_base.specs.declared.end.Side.{Side}
+use Rattle.gb_base.specs.declared.end.End.TheVariants as end
 use Rattle.gb_base.specs.declared.end.Side.TheVariants as side
 use Rattle.gb_formats.specs.SvcRecords.{read_svc_ask}
-use Rattle.gb_invariants.proofs.Awaiting.{not-both, sent-after, sent-new, sent-request}
-use Rattle.gb_invariants.proofs.Labels.{asked_on, asked_on-number}
-use Rattle.gb_invariants.proofs.Numbers.{found-number}
-use Rattle.gb_invariants.proofs.Outcomes.{same-number}
-use Rattle.gb_laws.proofs.Enums.{
-  IsClean,
-  clean-more,
-  clean-unasked,
-  enums,
-  item_removes,
-  removed-more,
-  removed-unasked,
-  removed_in,
-  request_removes,
-}
-use Rattle.gb_laws.proofs.Framing.{asked-toward}
-use Rattle.gb_laws.proofs.Linking.{LinkedAt}
-use Rattle.gb_laws.proofs.Owning.{KeepsRequests}
-use Rattle.gb_laws.proofs.Points.{IsFarAsking, by_module, by_svc}
-use Rattle.gb_laws.proofs.PointParts.{Basis, Hand, Point}
-use Rattle.gb_laws.proofs.Quiet.{
-  IsUnanswered,
-  SameQueues,
-  SameView,
-  enums-same,
-  off,
-  removed-same,
-  stays,
-  unanswered-same,
-  view-same,
-}
-use Rattle.gb_laws.proofs.QuietBuses.{IsPut, asked-put, enums-asked, queues-other}
-use Rattle.gb_laws.proofs.There.{There}
-use Rattle.gb_machine.specs.Bus.{
-  Ask,
-  Bus,
-  Connection,
-  Item,
-  connection_of,
-  next_number,
-  other_side,
-  request_of,
-}
-use Rattle.gb_machine.specs.LawsBus.{is_awaited}
-use Rattle.gb_machine.specs.Ports.{level_of}
-use Rattle.gb_machine.specs.Runs.{Moment}
+use Rattle.gb_machine.specs.Bus.{Ask, Bus, Connection, Item, connection_of, next_number, other_side}
+use Rattle.gb_machine.specs.Bus.{request_of}
 use Rattle.gb_machine.specs.Sending.{Draft, requested, sent}
 use Rattle.gb_machine.specs.SvcQueues.{is_enumeration_request, is_reply_to, removes, svc_items}
+use Rattle.gb_machine.specs.{LawsBus.is_awaited, Ports.level_of, Runs.Moment}
+use Rattle.gb_invariants.proofs.Awaiting.{none-some, not-both, sent-after, sent-new, sent-request}
+use Rattle.gb_invariants.proofs.{BusChanges.KeepsRequests, Labels.asked_on, Labels.asked_on-number}
+use Rattle.gb_invariants.proofs.{Numbers.found-number, Outcomes.same-number, Selves.module-no-svc}
+use Rattle.gb_laws.proofs.Enums.{IsClean, clean-more, clean-unasked, enums, item_removes}
+use Rattle.gb_laws.proofs.Enums.{removed-more, removed-unasked, removed_in, request_removes}
+use Rattle.gb_laws.proofs.PointParts.{Basis, Hand, Point}
+use Rattle.gb_laws.proofs.Points.{IsFarAsking, by_module, by_svc}
+use Rattle.gb_laws.proofs.Quiet.{IsUnanswered, SameQueues, SameView, enums-same, off, removed-same}
+use Rattle.gb_laws.proofs.Quiet.{stays, unanswered-same, view-same}
+use Rattle.gb_laws.proofs.QuietBuses.{IsPut, asked-put, enums-asked, queues-other}
+use Rattle.gb_laws.proofs.{LinkKept.LinkedAt, MarkFrame.asked-toward, SvcThere.There}
 
 -- ---- the bus stays
 
-pub queues-refl : (b : Bus) → SameQueues b b
-queues-refl b = record { keeps = λ n r made. made; far = refl; ap = refl }
+pub queues-refl : {b : Bus} → SameQueues b b
+queues-refl = record { keeps = λ n r made. made; far = refl; ap = refl }
 
 -- where the bus and the levels stay, and what is being handled is no other
-pub view-rest : (i : ℕ) (a b : Point) → Basis a → b.state.bus ≡ a.state.bus
+pub view-rest : {i : ℕ} {a b : Point} → Basis a → b.state.bus ≡ a.state.bus
     → level_of i b.state.ports ≡ level_of i a.state.ports
     → ((h : Hand) → b.hand ≡ Some h → a.hand ≡ Some h) → SameView i a b
-view-rest i a b basis bus level hand =
-    view-same i a b basis (subst (SameQueues a.state.bus) (sym bus) (queues-refl a.state.bus)) level
-    (λ n u h e. u.hand h (hand h e))
-    (λ n u. subst (λ x. is_awaited n x ≡ true) (sym bus) u.awaited)
+view-rest {a} basis bus level hand =
+    view-same basis (subst (SameQueues a.state.bus) (sym bus) (queues-refl)) level
+    (λ n u h e. u.hand h (hand h e)) (λ n u. subst (λ x. is_awaited n x ≡ true) (sym bus) u.awaited)
 
 -- nothing is being handled then
 pub none-hand : (b : Point) → b.hand ≡ None → (P : Hand → Type 0) → (h : Hand)
     → b.hand ≡ Some h → P h
-none-hand b none P h e = absurd (other (sym none ∙ e))
-  where
-    other : None ≡ Some h → ⊥
-    other f = absurd cc
+none-hand b none P h e = absurd (none-some (sym none ∙ e))
 
 -- ---- requests are made
 
 -- on a connection of a module
-pub view-asked : (i : ℕ) (a b : Point) (d : Draft) (label : ℕ) → Basis a
+pub view-asked : (i : ℕ) (a : Point) {b : Point} (d : Draft) (label : ℕ) → Basis a
     → b.state.bus ≡ sent d label a.state.bus
     → level_of i b.state.ports ≡ level_of i a.state.ports → b.hand ≡ a.hand
     → d.connection ≢ 1 → SameView i a b
-view-asked i a b d label basis bus level hand other =
-    view-same i a b basis (subst (SameQueues a.state.bus) (sym bus)
+view-asked i a d label basis bus level hand other =
+    view-same basis (subst (SameQueues a.state.bus) (sym bus)
     (queues-other a.state.bus (sent d label a.state.bus) d.connection
     (asked_on d label a.state.bus) refl (sent-request d label a.state.bus)
-    (asked_on-number d label a.state.bus) other)) level
-    (λ n u h e. u.hand h (sym hand ∙ e))
+    (asked_on-number d label a.state.bus) other)) level (λ n u h e. u.hand h (sym hand ∙ e))
     (λ n u. subst (λ x. is_awaited n x ≡ true) (sym bus)
     (sent-after d label a.state.bus n u.awaited))
 
 -- a module's connection isn't the supervisory controller's
 pub not-svc : (a : Point) (d : Draft) (c : Connection) (j p : ℕ) → LinkedAt a
-    → connection_of d.connection a.state.bus ≡ Some c → c.peer ≡ end.Module j p
-    → d.connection ≢ 1
+    → connection_of d.connection a.state.bus ≡ Some c → c.peer ≡ end.Module j p → d.connection ≢ 1
 not-svc a d c j p links found peer one =
     let f = found-number d.connection a.state.bus c found in
-    other (sym peer ∙ (links.svc c f.0 (f.1 ∙ one)).peer)
-  where
-    other : end.Module j p ≡ end.Svc → ⊥
-    other e = absurd cc
+    module-no-svc (sym peer ∙ (links.svc c f.0 (f.1 ∙ one)).peer)
 
 -- the application processor asks, on the supervisory controller's connection, what is no request of
 -- the enumeration
-pub view-plain : (i : ℕ) (a b : Point) (d : Draft) (label : ℕ) → Basis a → There a.state.bus
-    → b.state.bus ≡ sent d label a.state.bus
+pub view-plain : (i : ℕ) (a : Point) {b : Point} (d : Draft) (label : ℕ) → Basis a → There
+    a.state.bus → b.state.bus ≡ sent d label a.state.bus
     → level_of i b.state.ports ≡ level_of i a.state.ports → b.hand ≡ a.hand
     → d.connection ≡ 1 → d.side ≡ side.Ap
     → is_enumeration_request i (requested d label) ≡ false → SameView i a b
-view-plain i a b d label basis there bus level hand one by_ap none = record {
+view-plain i a {b} d label basis there bus level hand one by_ap none = record {
   enums = inl (subst (λ x. enums i x ≡ enums i a.state.bus) (sym bus)
-      (enums-asked i a d label basis there one by_ap
-      ∙ ap (λ t. enums i a.state.bus
+      (enums-asked i a d label basis there one by_ap ∙ ap (λ t. enums i a.state.bus
       ++ (cond t ((next_number a.state.bus, requested d label) ∷ []) [] ++ []))
       none ∙ append-nil (enums i a.state.bus)));
-  power = stays level
-      (λ r. sym (removed-same i a b.state.bus basis keeps same) ∙ r)
+  power = stays level (λ r. sym (removed-same i b.state.bus basis keeps same) ∙ r)
       (λ n r u. unanswered-same i n a b basis keeps same (λ h e. u.hand h (sym hand ∙ e))
       (subst (λ x. is_awaited n x ≡ true) (sym bus)
       (sent-after d label a.state.bus n u.awaited)) u);
@@ -156,15 +93,13 @@ view-plain i a b d label basis there bus level hand one by_ap none = record {
     toward side.Far e f = absurd cc
 
     same : svc_items side.Ap b.state.bus ≡ svc_items side.Ap a.state.bus
-    same = ap (svc_items side.Ap) bus
-        ∙ toward d.side by_ap (asked-put a d label basis there one).from
+    same = ap (svc_items side.Ap) bus ∙ toward d.side by_ap (asked-put d label basis there one).from
 
 -- an item that is no removal is put toward the application processor
 pub view-put_ap : (i : ℕ) (a b : Point) (x : Item) → Basis a → KeepsRequests a.state.bus b.state.bus
     → svc_items side.Ap b.state.bus ≡ svc_items side.Ap a.state.bus ++ x ∷ []
     → svc_items side.Far b.state.bus ≡ svc_items side.Far a.state.bus
-    → item_removes i b.state.bus x ≡ false
-    → level_of i b.state.ports ≡ level_of i a.state.ports
+    → item_removes i b.state.bus x ≡ false → level_of i b.state.ports ≡ level_of i a.state.ports
     → ((n : ℕ) → IsUnanswered i n a → (h : Hand) → b.hand ≡ Some h → is_reply_to n h.item ≡ false)
     → ((n : ℕ) → IsUnanswered i n a → is_awaited n b.state.bus ≡ true) → SameView i a b
 view-put_ap i a b x basis keeps put_ap far none level hand awaited = record {
@@ -172,8 +107,7 @@ view-put_ap i a b x basis keeps put_ap far none level hand awaited = record {
   power = stays level
       (λ r. sym (removed-more i a.state.bus b.state.bus before keeps (asked-toward side.Ap a basis))
       ∙ sym (removed-unasked i b.state.bus before x none)
-      ∙ ap (removed_in i b.state.bus) (sym put_ap) ∙ r)
-      (λ n r u. record {
+      ∙ ap (removed_in i b.state.bus) (sym put_ap) ∙ r) (λ n r u. record {
         clean = subst (IsClean n i b.state.bus) (sym put_ap)
             (clean-unasked n i b.state.bus before x none
             (clean-more n i a.state.bus b.state.bus before keeps
@@ -191,15 +125,14 @@ view-put_ap i a b x basis keeps put_ap far none level hand awaited = record {
     before = svc_items side.Ap a.state.bus
 
 -- a far side asks
-pub view-far : (m : Moment) (i : ℕ) (a b : Point) (d : Draft) (c : Connection) (label : ℕ)
-    → Basis a → LinkedAt a → There a.state.bus
-    → connection_of d.connection a.state.bus ≡ Some c
+pub view-far : (m : Moment) (i : ℕ) (a : Point) {b : Point} (d : Draft) (c : Connection) (label : ℕ)
+    → Basis a → LinkedAt a → There a.state.bus → connection_of d.connection a.state.bus ≡ Some c
     → b.state.bus ≡ sent d label a.state.bus → b.state.ports ≡ a.state.ports → b.hand ≡ a.hand
     → IsFarAsking m a.state c d → SameView i a b
-view-far m i a b d c label basis links there found bus ports hand (by_module j p peer far) =
-    view-asked i a b d label basis bus (ap (level_of i) ports) hand
+view-far m i a d c label basis links there found bus ports hand (by_module j p peer far) =
+    view-asked i a d label basis bus (ap (level_of i) ports) hand
     (not-svc a d c j p links found peer)
-view-far m i a b d c label basis links there found bus ports hand (by_svc of far zero) =
+view-far m i a {b} d c label basis links there found bus ports hand (by_svc of far zero) =
     by (d.connection == 1) refl
   where
     keeps : KeepsRequests a.state.bus b.state.bus
@@ -216,23 +149,21 @@ view-far m i a b d c label basis links there found bus ports hand (by_svc of far
     other k e f = not-both (k == 1) (ap (λ n. n == 1) f) e
 
     by : (t : Bool) → (d.connection == 1) ≡ t → SameView i a b
-    by false e = view-asked i a b d label basis bus (ap (level_of i) ports) hand
+    by false e = view-asked i a d label basis bus (ap (level_of i) ports) hand
         (other d.connection e)
     by true e = removal (removes i (read_svc_ask d.kind d.payload)) refl
       where
         p : IsPut side.Ap (Ask (next_number a.state.bus)) a.state.bus (sent d label a.state.bus)
-        p = toward d.side far (asked-put a d label basis there (same-number d.connection 1 e))
+        p = toward d.side far (asked-put d label basis there (same-number d.connection 1 e))
 
         far_same : svc_items side.Far b.state.bus ≡ svc_items side.Far a.state.bus
-        far_same = ap (svc_items side.Far) bus
-            ∙ (toward d.side far
-            (asked-put a d label basis there (same-number d.connection 1 e))).from
+        far_same = ap (svc_items side.Far) bus ∙ (toward d.side far
+            (asked-put d label basis there (same-number d.connection 1 e))).from
 
         ap_put : svc_items side.Ap b.state.bus
             ≡ svc_items side.Ap a.state.bus ++ Ask (next_number a.state.bus) ∷ []
-        ap_put = ap (svc_items side.Ap) bus
-            ∙ (toward d.side far
-            (asked-put a d label basis there (same-number d.connection 1 e))).toward
+        ap_put = ap (svc_items side.Ap) bus ∙ (toward d.side far
+            (asked-put d label basis there (same-number d.connection 1 e))).toward
 
         removal : (t : Bool) → removes i (read_svc_ask d.kind d.payload) ≡ t → SameView i a b
         removal true f = record {
@@ -240,8 +171,7 @@ view-far m i a b d c label basis links there found bus ports hand (by_svc of far
           power = off (ap (level_of i) ports ∙ zero i f);
         }
         removal false f = view-put_ap i a b (Ask (next_number a.state.bus)) basis keeps ap_put
-            far_same
-            (ap (request_removes i) (ap (request_of (next_number a.state.bus)) bus
+            far_same (ap (request_removes i) (ap (request_of (next_number a.state.bus)) bus
             ∙ sent-new d label a.state.bus) ∙ f)
             (ap (level_of i) ports) (λ n u h e. u.hand h (sym hand ∙ e))
             (λ n u. subst (λ x. is_awaited n x ≡ true) (sym bus)

@@ -1,91 +1,32 @@
 -- What is said of an enumeration while a removal waits is kept where power levels change.
-use Rattle.std.proofs.Common.{
-  ◌≡◌,
-  ◌≤◌,
-  ℕ,
-  Bool,
-  true,
-  false,
-  cond,
-  Some,
-  None,
-  List,
-  [],
-  ◌∷◌,
-  ◌++◌,
-  refl,
-  sym,
-  ap,
-  ◌∙◌,
-  inl,
-  ⊎_elim,
-  subst,
-  arith,
-}
+use Rattle.std.proofs.Common.{Bool, List, None, ap, arith, cond, false, inl, refl, subst, sym, true}
+use Rattle.std.proofs.Common.{ℕ, ⊎_elim, [], ◌++◌, ◌∙◌, ◌∷◌, ◌≡◌, ◌≤◌}
 use Rattle.std.specs.Prelude.{Ok, ◌==◌}
 use Rattle.gb_base.specs.declared.end.Side.TheVariants as side
 use Rattle.gb_formats.specs.SvcRecords.{read_svc_ask}
-use Rattle.gb_invariants.proofs.Awaiting.{not-both, same-some}
-use Rattle.gb_invariants.proofs.Counts.{times-some, total-some}
-use Rattle.gb_invariants.proofs.Outcomes.{is-same, same-number}
-use Rattle.gb_invariants.specs.Facts.{times_on}
-use Rattle.gb_laws.proofs.AskedWaits.{AsksIn, no-asks}
-use Rattle.gb_laws.proofs.Enums.{
-  AreStarts,
-  IsClean,
-  clean-none,
-  enum_of,
-  enum-waits,
-  enums,
-  enums_of,
-}
-use Rattle.gb_laws.proofs.LinkedFrom.{Linked}
-use Rattle.gb_laws.proofs.Levels.{
-  StepOn,
-  by_record,
-  nothing_changes,
-  other-port,
-  starts,
-  step-levels,
-}
-use Rattle.gb_laws.proofs.Points.{IsIdle, IsServing, PortsFrom, as_before, loses_route, served}
-use Rattle.gb_laws.proofs.PointParts.{Basis, Point, resting}
-use Rattle.gb_laws.proofs.Quiet.{
-  IsLast,
-  IsQuiet,
-  IsUnanswered,
-  SameView,
-  is_removed,
-  last-behind,
-  last-in,
-  none,
-  off,
-  quiet-still,
-  starts-behind,
-}
-use Rattle.gb_laws.proofs.QuietBuses.{svc-found}
-use Rattle.gb_laws.proofs.QuietKept.{none-hand, view-rest}
-use Rattle.gb_laws.proofs.There.{There}
 use Rattle.gb_machine.specs.Bus.{Ask, Connection, Item, Raw, RawReply, Reply, Request, request_of}
-use Rattle.gb_machine.specs.Host.{Host}
-use Rattle.gb_machine.specs.Incoming.{Incoming}
-use Rattle.gb_machine.specs.LawsBus.{is_awaited, is_item_of}
-use Rattle.gb_machine.specs.Lists.{behind_first}
-use Rattle.gb_machine.specs.Members.{IsIn}
 use Rattle.gb_machine.specs.Ports.{level_in, level_of, unrouted}
-use Rattle.gb_machine.specs.Runs.{Moment}
-use Rattle.gb_machine.specs.State.{Port}
-use Rattle.gb_machine.specs.SvcQueues.{
-  enumerates,
-  is_enumeration_request,
-  is_reply_to,
-  items_in,
-  svc_items,
-}
-use Rattle.gb_machine.specs.SvcTable.{Unroute, svc_step}
-use Rattle.gb_machine.specs.Turns.{Asking}
-use Rattle.gb_laws.proofs.QuietServed.{IsServed, serving}
+use Rattle.gb_machine.specs.SvcQueues.{enumerates, is_enumeration_request, is_reply_to, items_in}
+use Rattle.gb_machine.specs.SvcQueues.{svc_items}
+use Rattle.gb_machine.specs.{Host.Host, Incoming.Incoming, LawsBus.is_awaited, LawsBus.is_item_of}
+use Rattle.gb_machine.specs.{Lists.behind_first, Members.IsIn, Runs.Moment, State.Port}
+use Rattle.gb_machine.specs.{SvcTable.Unroute, SvcTable.svc_step}
+use Rattle.gb_invariants.proofs.Awaiting.{none-some, not-both, same-some}
+use Rattle.gb_invariants.proofs.{Counts.times-some, Counts.total-some, Outcomes.is-same}
+use Rattle.gb_invariants.proofs.{Outcomes.same-number}
+use Rattle.gb_invariants.specs.Facts.{times_on}
+use Rattle.gb_laws.proofs.Enums.{AreStarts, IsClean, clean-none, enum-waits, enum_of, enums}
+use Rattle.gb_laws.proofs.Enums.{enums_of}
+use Rattle.gb_laws.proofs.Levels.{StepOn, by_record, nothing_changes, other-port, starts}
+use Rattle.gb_laws.proofs.Levels.{step-levels}
+use Rattle.gb_laws.proofs.PointParts.{Basis, Point, resting}
+use Rattle.gb_laws.proofs.Points.{IsIdle, IsServing, PortsFrom, as_before, loses_route, served}
+use Rattle.gb_laws.proofs.Quiet.{IsLast, IsQuiet, IsUnanswered, SameView, is_removed, last-behind}
+use Rattle.gb_laws.proofs.Quiet.{last-in, none, off, quiet-still, starts-behind}
 use Rattle.gb_laws.proofs.QuietEnums.{at-most_one, start-kind, unrouted-six}
+use Rattle.gb_laws.proofs.{AskedWaits.AsksIn, AskedWaits.no-asks, LinkFrom.Linked}
+use Rattle.gb_laws.proofs.{QuietBuses.svc-found, QuietKept.none-hand, QuietKept.view-rest}
+use Rattle.gb_laws.proofs.{QuietServed.IsServed, QuietServed.serving, SvcThere.There}
 
 module _ (m : Moment) (i : ℕ) (basis : Basis (resting m.told m.before))
     (links : Linked m.before.bus m.before.host []) (there : There m.before.bus)
@@ -94,10 +35,9 @@ module _ (m : Moment) (i : ℕ) (basis : Basis (resting m.told m.before))
   unreplied-yet : (n : ℕ) (r : Request) → IsIn (n, r) (enums i m.before.bus) → (x : Item)
       → IsIn x (svc_items side.Ap m.before.bus) → is_reply_to n x ≡ false
   unreplied-yet n r j x k =
-      let c = svc-found (resting m.told m.before) basis there in
+      let c = svc-found basis there in
       let w = enum-waits i m.before.bus (svc_items side.Far m.before.bus) (n, r) j in
-      by x c.0 c.3
-      (subst (λ o. IsIn (Ask n) (items_in side.Far o)) c.1 w.0)
+      by x c.0 c.3 (subst (λ o. IsIn (Ask n) (items_in side.Far o)) c.1 w.0)
       (subst (λ o. IsIn x (items_in side.Ap o)) c.1 k)
     where
       by : (y : Item) (c : Connection) → IsIn c m.before.bus.connections
@@ -130,20 +70,16 @@ module _ (m : Moment) (i : ℕ) (basis : Basis (resting m.told m.before))
     waits = λ x j at v e s.
         let was = start.waits x (subst (λ (g : Host). IsIn x g.interfaces) host j) at v e s in
         let last = subst (IsLast v.0) whole was.last in record {
-          last = subst (IsLast v.0) (sym rest) (last-behind v.0
-              ((w.number, w.request)
+          last = subst (IsLast v.0) (sym rest) (last-behind v.0 ((w.number, w.request)
               ∷ enums_of i m.before.bus (behind_first (svc_items side.Far m.before.bus))) last);
           quiet = λ hot. unanswered v.0 last;
         };
-    due = λ e r j at s. absurd (no-asks r (subst (AsksIn r) pending j));
+    due = λ e r j at s. absurd (no-asks (subst (AsksIn r) pending j));
     made = λ r n e at s. absurd (none-some (sym asked ∙ e));
   }
     where
       later : List (ℕ × Request)
       later = enums_of i m.before.bus (behind_first (svc_items side.Far m.before.bus))
-
-      none-some : {x : Asking × ℕ} → None ≡ Some x → ⊥
-      none-some e = absurd cc
 
       rest : enums i b.state.bus
           ≡ enums_of i m.before.bus (behind_first (svc_items side.Far m.before.bus))
@@ -151,8 +87,7 @@ module _ (m : Moment) (i : ℕ) (basis : Basis (resting m.told m.before))
 
       whole : enums i m.before.bus ≡ (w.number, w.request)
           ∷ enums_of i m.before.bus (behind_first (svc_items side.Far m.before.bus))
-      whole = ap (enums_of i m.before.bus) w.front
-          ∙ ap (λ o. enum_of i w.number o
+      whole = ap (enums_of i m.before.bus) w.front ∙ ap (λ o. enum_of i w.number o
           ++ enums_of i m.before.bus (behind_first (svc_items side.Far m.before.bus))) w.made
           ∙ ap (λ t. cond t ((w.number, w.request) ∷ []) []
           ++ enums_of i m.before.bus (behind_first (svc_items side.Far m.before.bus))) is
@@ -168,7 +103,7 @@ module _ (m : Moment) (i : ℕ) (basis : Basis (resting m.told m.before))
           (enums_of i m.before.bus (behind_first (svc_items side.Far m.before.bus))) last in
           let member = subst (λ es. IsIn (n, r.0) es) (sym whole) r.1 in
           let waits = enum-waits i m.before.bus (svc_items side.Far m.before.bus) (n, r.0) member in
-          let c = svc-found (resting m.told m.before) basis there in
+          let c = svc-found basis there in
           let queued = subst (λ o. IsIn (Ask n) (items_in side.Far o)) c.1 waits.0 in
           let own = basis.bus.items.own c.0 side.Far (Ask n) c.3 queued in
           let same = same-some own.0 r.0 (sym own.1 ∙ waits.1) in
@@ -188,24 +123,22 @@ module _ (m : Moment) (i : ℕ) (basis : Basis (resting m.told m.before))
 
   -- ---- all changes of levels
 
-  pub quiet-ports : (a b : Point) (ports : List Port) → Basis a → PortsFrom m a.state ports
-      → IsIdle a → b.state.bus ≡ a.state.bus → b.state.host ≡ a.state.host
+  pub quiet-ports : (a : Point) {b : Point} (ports : List Port) → Basis a → PortsFrom m a.state
+      ports → IsIdle a → b.state.bus ≡ a.state.bus → b.state.host ≡ a.state.host
       → b.state.ports ≡ ports → b.hand ≡ a.hand → b.pending ≡ a.pending → b.asked ≡ a.asked
       → IsQuiet i a → IsQuiet i b
-  quiet-ports a b ports here from idle bus host now hand pending asked h = by from
+  quiet-ports a {b} ports here from idle bus host now hand pending asked h = by from
     where
       still : SameView i a b → IsQuiet i b
-      still v = quiet-still i a b v
-          (λ x j w e. record {
-            was = x;
-            known = subst (λ (g : Host). IsIn x g.interfaces) host j;
-            intf = refl;
-            awaits = refl;
-          }) asked (λ q j. subst (AsksIn q) pending j) h
+      still v = quiet-still v (λ x j w e. record {
+        was = x;
+        known = subst (λ (g : Host). IsIn x g.interfaces) host j;
+        intf = refl;
+        awaits = refl;
+      }) asked (λ q j. subst (AsksIn q) pending j) h
 
       level-same : level_of i ports ≡ level_of i a.state.ports → IsQuiet i b
-      level-same e = still (view-rest i a b here bus (ap (level_of i) now ∙ e)
-          (λ x f. sym hand ∙ f))
+      level-same e = still (view-rest here bus (ap (level_of i) now ∙ e) (λ x f. sym hand ∙ f))
 
       no-power : level_of i ports ≡ 0 → IsQuiet i b
       no-power e = still (record {
@@ -230,8 +163,7 @@ module _ (m : Moment) (i : ℕ) (basis : Basis (resting m.told m.before))
           s : IsServed m a q
           s = serving m basis links there a q w
 
-          becomes : level_of i ports
-              ≡ level_of i (svc_step m.before.ports q.kind q.payload).ports
+          becomes : level_of i ports ≡ level_of i (svc_step m.before.ports q.kind q.payload).ports
           becomes = ap (level_of i) e ∙ ap (level_of i) f
 
           is-enumeration : enumerates i (Ok ask) ≡ true
@@ -241,8 +173,7 @@ module _ (m : Moment) (i : ℕ) (basis : Basis (resting m.told m.before))
               (serving m basis links there a q w).request.payload))
               (serving m basis links there a q w).kind
               ∙ ap (λ x. enumerates i (read_svc_ask q.kind x))
-              (serving m basis links there a q w).payload
-              ∙ ap (enumerates i) read ∙ g
+              (serving m basis links there a q w).payload ∙ ap (enumerates i) read ∙ g
 
           first-kind : enumerates i (Ok ask) ≡ true → AreStarts (enums i m.before.bus)
               → q.kind ≡ 0x21
@@ -252,8 +183,7 @@ module _ (m : Moment) (i : ℕ) (basis : Basis (resting m.told m.before))
               (serving m basis links there a q w).front
               ∙ ap (λ o. enum_of i (serving m basis links there a q w).number o
               ++ enums_of i m.before.bus (behind_first (svc_items side.Far m.before.bus)))
-              (serving m basis links there a q w).made
-              ∙ ap (λ t. cond t ((
+              (serving m basis links there a q w).made ∙ ap (λ t. cond t ((
                 (serving m basis links there a q w).number,
                 (serving m basis links there a q w).request,
               ) ∷ []) []
@@ -266,10 +196,8 @@ module _ (m : Moment) (i : ℕ) (basis : Basis (resting m.told m.before))
           later : enumerates i (Ok ask) ≡ true → starts i ask ≡ false
               → (t : Bool) → is_removed i m.before.bus ≡ t → IsQuiet i b
           later g u false r = no-removal (λ k. not-both (is_removed i m.before.bus) (removed k) r)
-          later g u true r = ⊎_elim
-              (λ zero. no-power (becomes ∙ l.zero zero u))
-              (λ one. absurd (not-both (starts i ask)
-              (start-kind i q.kind q.payload ask read g
+          later g u true r = ⊎_elim (λ zero. no-power (becomes ∙ l.zero zero u))
+              (λ one. absurd (not-both (starts i ask) (start-kind i q.kind q.payload ask read g
               (first-kind g (start.low.starts (r, one)))) u))
               (at-most_one (level_of i m.before.ports) (start.low.low r))
 
@@ -307,5 +235,5 @@ module _ (m : Moment) (i : ℕ) (basis : Basis (resting m.told m.before))
       by : PortsFrom m a.state ports → IsQuiet i b
       by (as_before e) = level-same (ap (level_of i) e)
       by (served q w e) = step q w (svc_step m.before.ports q.kind q.payload).ports e refl
-          (step-levels i m.before.ports q.kind q.payload)
+          (step-levels i m.before.ports)
       by (loses_route q j w is e unwired) = lost q j w is e (i == j) refl

@@ -1,66 +1,29 @@
 -- What is said of an enumeration while a removal waits stays where a reply is made, a request is
 -- answered, and a side ends.
-use Rattle.std.proofs.Common.{
-  ◌≡◌,
-  ◌≢◌,
-  ℕ,
-  Bool,
-  true,
-  false,
-  Option,
-  Some,
-  None,
-  List,
-  [],
-  refl,
-  sym,
-  ap,
-  ◌∙◌,
-  inl,
-  subst,
-}
-use Rattle.std.specs.Prelude.{◌==◌, ◌&&◌}
+use Rattle.std.proofs.Common.{Bool, List, None, Option, Some, ap, false, inl, refl, subst, sym}
+use Rattle.std.proofs.Common.{true, ℕ, [], ◌∙◌, ◌≡◌, ◌≢◌}
+use Rattle.std.specs.Prelude.{◌&&◌, ◌==◌}
 use Rattle.gb_base.specs.declared.end.Side.{Side}
 use Rattle.gb_base.specs.declared.end.Side.TheVariants as side
 use Rattle.gb_base.specs.declared.outcome.Outcome.{Outcome}
-use Rattle.gb_invariants.proofs.Awaiting.{
-  ended-after,
-  forgotten-after,
-  is_of-is,
-  not-both,
-  same-some,
-  side_ended-after,
-}
-use Rattle.gb_invariants.proofs.Drawing.{given_up_with-is, open_with-in_use}
-use Rattle.gb_invariants.proofs.Outcomes.{both-true, is-same, same-number}
-use Rattle.gb_invariants.proofs.Selves.{put-self}
-use Rattle.gb_laws.proofs.Enums.{enums, enums-unasked, enums_of, item_enum, item_removes}
-use Rattle.gb_laws.proofs.Linking.{LinkedAt}
-use Rattle.gb_laws.proofs.Owning.{KeepsRequests}
-use Rattle.gb_laws.proofs.Points.{Answers, Forgets, by_label, by_number}
-use Rattle.gb_laws.proofs.PointParts.{Basis, Hand, Point}
-use Rattle.gb_laws.proofs.Quiet.{
-  IsUnanswered,
-  SameQueues,
-  SameView,
-  removed-same,
-  stays,
-  unanswered-same,
-  view-same,
-}
-use Rattle.gb_laws.proofs.QuietBuses.{queues-other, replied-put}
-use Rattle.gb_laws.proofs.There.{There}
 use Rattle.gb_machine.specs.Bus.{Bus, Reply, Request, request_of}
 use Rattle.gb_machine.specs.Delivery.{ended, forgotten, replied}
-use Rattle.gb_machine.specs.Incoming.{Incoming, reply_item}
-use Rattle.gb_machine.specs.LawsBus.{is_awaited}
-use Rattle.gb_machine.specs.Ports.{level_of}
 use Rattle.gb_machine.specs.Requests.{has_label, is_of, same_side}
-use Rattle.gb_machine.specs.Sending.{put}
-use Rattle.gb_machine.specs.Serving.{Answer}
-use Rattle.gb_machine.specs.Wiring.{side_ended}
-use Rattle.gb_machine.specs.SvcQueues.{is_reply_to, svc_items}
-use Rattle.gb_laws.proofs.QuietKept.{none-hand, view-put_ap}
+use Rattle.gb_machine.specs.{Incoming.Incoming, Incoming.reply_item, LawsBus.is_awaited}
+use Rattle.gb_machine.specs.{Ports.level_of, Sending.put, Serving.Answer, SvcQueues.is_reply_to}
+use Rattle.gb_machine.specs.{SvcQueues.svc_items, Wiring.side_ended}
+use Rattle.gb_invariants.proofs.Awaiting.{ended-after, forgotten-after, is_of-is, not-both}
+use Rattle.gb_invariants.proofs.Awaiting.{same-some, side_ended-after}
+use Rattle.gb_invariants.proofs.Outcomes.{both-true, is-same, same-number}
+use Rattle.gb_invariants.proofs.{BusChanges.KeepsRequests, Drawing.given_up_with-is}
+use Rattle.gb_invariants.proofs.{Drawing.open_with-in_use, Selves.put-self}
+use Rattle.gb_laws.proofs.Enums.{enums, enums-unasked, enums_of, item_enum, item_removes}
+use Rattle.gb_laws.proofs.PointParts.{Basis, Hand, Point}
+use Rattle.gb_laws.proofs.Points.{Answers, Forgets, by_label, by_number}
+use Rattle.gb_laws.proofs.Quiet.{IsUnanswered, SameQueues, SameView, removed-same, stays}
+use Rattle.gb_laws.proofs.Quiet.{unanswered-same, view-same}
+use Rattle.gb_laws.proofs.{LinkKept.LinkedAt, QuietBuses.queues-other, QuietBuses.replied-put}
+use Rattle.gb_laws.proofs.{QuietKept.none-hand, QuietKept.view-put_ap, SvcThere.There}
 
 -- ---- replies
 
@@ -79,10 +42,10 @@ reply-no-removal i b q r = by q.number
     by None = refl
     by (Some n) = refl
 
-pub view-replied : (i : ℕ) (a b : Point) (k : ℕ) (s : Side) (q : Incoming) (r : Answer) → Basis a
-    → There a.state.bus → b.state.bus ≡ replied k s (reply_item q r) a.state.bus
+pub view-replied : (i : ℕ) (a : Point) {b : Point} (k : ℕ) (s : Side) (q : Incoming) (r : Answer) →
+    Basis a → There a.state.bus → b.state.bus ≡ replied k s (reply_item q r) a.state.bus
     → level_of i b.state.ports ≡ level_of i a.state.ports → b.hand ≡ None → SameView i a b
-view-replied i a b k s q r basis there bus level free = by (k == 1) refl s refl
+view-replied i a {b} k s q r basis there bus level free = by (k == 1) refl s refl
   where
     keeps : KeepsRequests a.state.bus b.state.bus
     keeps n x made = ap (request_of n) bus ∙ made
@@ -96,7 +59,7 @@ view-replied i a b k s q r basis there bus level free = by (k == 1) refl s refl
 
     by : (t : Bool) → (k == 1) ≡ t → (z : Side) → s ≡ z → SameView i a b
     by false e z is =
-        view-same i a b basis (subst (SameQueues a.state.bus) (sym bus)
+        view-same basis (subst (SameQueues a.state.bus) (sym bus)
         (queues-other a.state.bus (replied k s (reply_item q r) a.state.bus) k
         (put s (reply_item q r)) refl (λ n x made. made)
         (λ y. (put-self s (reply_item q r) y).number)
@@ -116,8 +79,7 @@ view-replied i a b k s q r basis there bus level free = by (k == 1) refl s refl
           enums = inl (ap (enums i) now ∙ ap (enums_of i a.state.bus) p.toward
               ∙ enums-unasked i a.state.bus (svc_items side.Far a.state.bus) (reply_item q r)
               (reply-no-enum i a.state.bus q r));
-          power = stays level
-              (λ t. sym (removed-same i a b.state.bus basis keeps same) ∙ t)
+          power = stays level (λ t. sym (removed-same i b.state.bus basis keeps same) ∙ t)
               (λ n t u. unanswered-same i n a b basis keeps same (hand n u) (awaited n u) u);
         }
 
@@ -148,11 +110,11 @@ other-label i n q a x r basis links u is dirty made on same =
     not-both x.connection.clean
     (sym still.self.clean ∙ (links.svc still.now still.live (still.self.number ∙ one)).clean) dirty
 
-pub view-answers : (i : ℕ) (a b : Point) (x : Hand) (q : ℕ) (how : Outcome) → Basis a → LinkedAt a
-    → a.hand ≡ Some x → Answers x q a.state.bus → b.state.bus ≡ ended q how a.state.bus
+pub view-answers : (i : ℕ) (a : Point) {b : Point} (x : Hand) (q : ℕ) (how : Outcome) → Basis a →
+    LinkedAt a → a.hand ≡ Some x → Answers x q a.state.bus → b.state.bus ≡ ended q how a.state.bus
     → level_of i b.state.ports ≡ level_of i a.state.ports → b.hand ≡ None → SameView i a b
-view-answers i a b x q how basis links is which bus level free =
-    view-same i a b basis (subst (SameQueues a.state.bus) (sym bus)
+view-answers i a {b} x q how basis links is which bus level free =
+    view-same basis (subst (SameQueues a.state.bus) (sym bus)
     (record { keeps = λ n r made. made; far = refl; ap = refl })) level
     (λ n u h e. none-hand b free (λ y. is_reply_to n y.item ≡ false) h e)
     (λ n u. subst (λ y. is_awaited n y ≡ true) (sym bus)
@@ -165,11 +127,11 @@ view-answers i a b x q how basis links is which bus level free =
         let o = open_with-in_use x.connection.number x.side label a.state.bus q found in
         other-label i n q a x o.0 basis links u is dirty o.1 (on-connection o.0 x label o.2) same
 
-pub view-forgets : (i : ℕ) (a b : Point) (x : Hand) (q : ℕ) → Basis a → LinkedAt a
+pub view-forgets : (i : ℕ) (a : Point) {b : Point} (x : Hand) (q : ℕ) → Basis a → LinkedAt a
     → a.hand ≡ Some x → Forgets x q a.state.bus → b.state.bus ≡ forgotten q a.state.bus
     → level_of i b.state.ports ≡ level_of i a.state.ports → b.hand ≡ None → SameView i a b
-view-forgets i a b x q basis links is which bus level free =
-    view-same i a b basis (subst (SameQueues a.state.bus) (sym bus)
+view-forgets i a {b} x q basis links is which bus level free =
+    view-same basis (subst (SameQueues a.state.bus) (sym bus)
     (record { keeps = λ n r made. made; far = refl; ap = refl })) level
     (λ n u h e. none-hand b free (λ y. is_reply_to n y.item ≡ false) h e)
     (λ n u. subst (λ y. is_awaited n y ≡ true) (sym bus)
@@ -186,14 +148,14 @@ view-forgets i a b x q basis links is which bus level free =
 -- ---- a side ends
 
 -- on another connection
-pub view-side : (i : ℕ) (a b : Point) (k : ℕ) (at : Side) (mid : Bus) → Basis a
+pub view-side : (i : ℕ) (a : Point) {b : Point} (k : ℕ) (at : Side) (mid : Bus) → Basis a
     → SameQueues a.state.bus b.state.bus
     → ((n : ℕ) → is_awaited n a.state.bus ≡ true → is_awaited n mid ≡ true)
     → ((n : ℕ) (r : Request) → request_of n a.state.bus ≡ Some r → request_of n mid ≡ Some r)
     → b.state.bus ≡ side_ended k at mid → k ≢ 1
     → level_of i b.state.ports ≡ level_of i a.state.ports → b.hand ≡ a.hand → SameView i a b
-view-side i a b k at mid basis queues to made bus other level hand =
-    view-same i a b basis queues level (λ n u h e. u.hand h (sym hand ∙ e))
+view-side i a k at mid basis queues to made bus other level hand =
+    view-same basis queues level (λ n u h e. u.hand h (sym hand ∙ e))
     (λ n u. subst (λ y. is_awaited n y ≡ true) (sym bus)
     (side_ended-after k at mid n u.request (made n u.request u.made)
     (apart n u (u.request.connection == k) refl) (to n u.awaited)))

@@ -1,72 +1,29 @@
 -- While a removal of an interface waits, its power level is at most 1 and nothing of it is wired.
-use Rattle.std.proofs.Common.{
-  ◌≡◌,
-  ◌≤◌,
-  ℕ,
-  Bool,
-  true,
-  false,
-  Option,
-  Some,
-  None,
-  List,
-  [],
-  ◌∷◌,
-  ◌++◌,
-  refl,
-  sym,
-  ap,
-  ◌∙◌,
-  subst,
-  arith,
-}
-use Rattle.std.specs.Prelude.{◌&&◌, ◌||◌}
+use Rattle.std.proofs.Common.{Bool, List, None, Option, Some, ap, arith, false, refl, subst, sym}
+use Rattle.std.proofs.Common.{true, ℕ, [], ◌++◌, ◌∙◌, ◌∷◌, ◌≡◌, ◌≤◌}
 use Rattle.std.specs.List.{list_any}
+use Rattle.std.specs.Prelude.{◌&&◌, ◌||◌}
 use Rattle.gb_base.specs.declared.end.End.{End}
 use Rattle.gb_base.specs.declared.end.End.TheVariants as end
 use Rattle.gb_base.specs.declared.end.Side.TheVariants as side
 use Rattle.gb_base.specs.declared.entry.Entry.{Entry}
-use Rattle.gb_invariants.proofs.Awaiting.{not-both, same-some}
-use Rattle.gb_invariants.proofs.Lists.{each-from}
-use Rattle.gb_invariants.proofs.Outcomes.{same-number}
-use Rattle.gb_laws.proofs.AskedWaits.{no-asks, same-waits}
-use Rattle.gb_laws.proofs.Enums.{item_removes, removed_in, request_removes}
-use Rattle.gb_laws.proofs.LinkRuns.{start-absent, there_law}
-use Rattle.gb_laws.proofs.Linking.{LinkedAt}
-use Rattle.gb_laws.proofs.Points.{Law}
-use Rattle.gb_laws.proofs.PointParts.{Basis, resting}
-use Rattle.gb_laws.proofs.Quiet.{IsQuiet, quiet-still}
-use Rattle.gb_laws.proofs.QuietKept.{view-rest}
-use Rattle.gb_laws.proofs.QuietLaw.{quiet-kept}
-use Rattle.gb_laws.proofs.Runs.{HoldsAtMoments, HoldsByMoments, Keeps, at_each, throughout, weaker}
-use Rattle.gb_laws.proofs.Steps.{over-step}
-use Rattle.gb_laws.proofs.There.{There}
-use Rattle.gb_laws.proofs.WiredRuns.{WiredTo, wired-over, wired-throughout}
-use Rattle.gb_machine.specs.Bus.{
-  Ask,
-  Bus,
-  Connection,
-  Item,
-  Raw,
-  RawReply,
-  Reply,
-  Request,
-  request_of,
-}
+use Rattle.gb_machine.specs.Bus.{Ask, Bus, Connection, Item, Request}
+use Rattle.gb_machine.specs.Bus.{request_of}
 use Rattle.gb_machine.specs.LawsSvc.{FindsUnwired, LeavesNothing, awaits_removal}
-use Rattle.gb_machine.specs.Lists.{first}
-use Rattle.gb_machine.specs.Members.{IsIn}
-use Rattle.gb_machine.specs.Ports.{level_of}
 use Rattle.gb_machine.specs.Runs.{IsMoment, Moment, after, told_at}
-use Rattle.gb_machine.specs.State.{State, first_state}
-use Rattle.gb_machine.specs.SvcQueues.{
-  HandlesRemoval,
-  is_removal,
-  request_onto,
-  requests_among,
-  svc_items,
-}
-use Rattle.gb_machine.specs.Wiring.{is_at, is_wired_to}
+use Rattle.gb_machine.specs.SvcQueues.{HandlesRemoval, is_removal, request_onto, requests_among}
+use Rattle.gb_machine.specs.SvcQueues.{svc_items}
+use Rattle.gb_machine.specs.{Lists.first, Members.IsIn, Ports.level_of, State.State}
+use Rattle.gb_machine.specs.{State.first_state, Wiring.is_at, Wiring.is_wired_to}
+use Rattle.gb_invariants.proofs.{Awaiting.not-both, Awaiting.same-some, Lists.each-from}
+use Rattle.gb_invariants.proofs.{Outcomes.same-number}
+use Rattle.gb_laws.proofs.Enums.{item_removes, removed_in, request_removes}
+use Rattle.gb_laws.proofs.Runs.{HoldsAtMoments, HoldsByMoments, Keeps, at_each, throughout, weaker}
+use Rattle.gb_laws.proofs.WiredRuns.{WiredTo, wired-over, wired-throughout}
+use Rattle.gb_laws.proofs.{AskedWaits.no-asks, AskedWaits.same-waits, LinkRuns.start-absent}
+use Rattle.gb_laws.proofs.{LinkRuns.there_law, PointParts.resting, Points.Law, Points.upon}
+use Rattle.gb_laws.proofs.{Quiet.IsQuiet, Quiet.quiet-still, QuietKept.view-rest}
+use Rattle.gb_laws.proofs.{QuietLaw.quiet-kept, Steps.over-step}
 
 -- ---- throughout
 
@@ -77,24 +34,15 @@ pub record QuietTo (told : List Entry) (s : State) : Type 0 where
 
 module _ (m : Moment) (start : QuietTo m.told m.before) where
   abbrev quiet_law : ℕ → Law m
-  quiet_law i = record {
-    holds = λ a. ((Basis a × LinkedAt a) × There a.state.bus) × IsQuiet i a;
-    basis = λ a h. h.0.0.0;
-    kept = λ a x h. (
-      (there_law m (start-absent m start.wired.links)).kept a x h.0,
-      quiet-kept m i start.wired.links.0 start.wired.links.1 start.wired.links.3 (start.quiet i)
-          a x h.0.0.0 h.0.0.1 h.0.1 h.1,
-    );
-  }
+  quiet_law i = upon (there_law m (start-absent m start.wired.links)) (IsQuiet i)
+      (λ a x g h. quiet-kept m i start.wired.links.0 start.wired.links.1 start.wired.links.3
+      (start.quiet i) a x g.0.0 g.0.1 g.1 h)
 
   quiet-over : IsMoment m.event → (i : ℕ) → IsQuiet i (resting (m.told ++ told_at m) (after m))
   quiet-over one i =
       let l = start.wired.links in
       let r = over-step m (quiet_law i) one (((l.0, l.1), l.3), start.quiet i) in
-      quiet-still i (record (resting (m.told ++ told_at m) (after m)) { wires = r.0 })
-      (resting (m.told ++ told_at m) (after m))
-      (view-rest i (record (resting (m.told ++ told_at m) (after m)) { wires = r.0 })
-      (resting (m.told ++ told_at m) (after m)) r.1.0.0.0 refl refl (λ h e. e))
+      quiet-still (view-rest r.1.0.0.0 refl refl (λ h e. e))
       (same-waits (after m).host) refl (λ q j. j) r.1.1
 
 quiet-first : (i : ℕ) → IsQuiet i (resting [] first_state)
@@ -105,7 +53,7 @@ quiet-first i = record {
     starts = λ hot. tt;
   };
   waits = λ x j. absurd j;
-  due = λ e q j. absurd (no-asks q j);
+  due = λ e q j. absurd (no-asks j);
   made = λ q n e. absurd cc;
 }
 
@@ -134,9 +82,7 @@ removal-waits i b (x ∷ xs) = by x (removal-waits i b xs)
         → list_any (is_removal i) (requests_among b (y ∷ xs))
         ≡ item_removes i b y || removed_in i b xs
     by (Ask n) h = asked (request_of n b) h
-    by (Reply n result payload) h = h
-    by (Raw bytes) h = h
-    by (RawReply label kind result payload) h = h
+    by _ h = h
 
 pub leaves : (told : List Entry) (s : State) → QuietTo told s → LeavesNothing told s
 leaves told s h = record {

@@ -1,50 +1,25 @@
 -- What a moment makes of the queues at which the supervisory controller serves a request.
-use Rattle.std.proofs.Common.{◌≡◌, ℕ, Some, List, [], ◌∷◌, ◌++◌, refl, sym, ap, ◌∙◌, subst}
+use Rattle.std.proofs.Common.{List, Some, ap, refl, subst, sym, ℕ, [], ◌++◌, ◌∙◌, ◌∷◌, ◌≡◌}
 use Rattle.std.specs.Prelude.{option_map}
 use Rattle.gb_base.specs.declared.end.End.TheVariants as end
 use Rattle.gb_base.specs.declared.end.Side.TheVariants as side
-use Rattle.gb_invariants.proofs.Awaiting.{same-some}
-use Rattle.gb_invariants.proofs.ItemChanges.{first-in}
-use Rattle.gb_invariants.proofs.Numbers.{found-by_number}
-use Rattle.gb_invariants.proofs.Selves.{put-self}
-use Rattle.gb_laws.proofs.Enums.{
-  IsClean,
-  clean-unasked,
-  enums,
-  enums_of,
-  removed-unasked,
-  removed_in,
-}
-use Rattle.gb_laws.proofs.LinkedFrom.{Linked}
-use Rattle.gb_laws.proofs.Links.{IsKnown, leaving, linked, supervisory}
-use Rattle.gb_laws.proofs.LinkLists.{find-changed}
-use Rattle.gb_laws.proofs.Noticing.{numbered-ask}
-use Rattle.gb_laws.proofs.Places.{place-is}
-use Rattle.gb_laws.proofs.Points.{IsAfterReply, IsServing, replied_to, unreplied}
-use Rattle.gb_laws.proofs.PointParts.{Basis, Point, resting}
-use Rattle.gb_laws.proofs.Quiet.{is_removed}
-use Rattle.gb_laws.proofs.QuietBuses.{IsPut, popped-far, put-queues, put-svc}
-use Rattle.gb_laws.proofs.QuietReplies.{reply-no-removal}
-use Rattle.gb_laws.proofs.There.{There}
-use Rattle.gb_machine.specs.Bus.{
-  Ask,
-  Connection,
-  Item,
-  Request,
-  connection_of,
-  has_number,
-  queue,
-  request_of,
-}
+use Rattle.gb_machine.specs.Bus.{Ask, Connection, Item, Request, connection_of, has_number, queue}
+use Rattle.gb_machine.specs.Bus.{request_of}
 use Rattle.gb_machine.specs.Delivery.{popped, replied, without_front}
 use Rattle.gb_machine.specs.Incoming.{Incoming, incoming, reply_item}
-use Rattle.gb_machine.specs.LawsBus.{is_awaited}
-use Rattle.gb_machine.specs.Lists.{behind_first, first}
-use Rattle.gb_machine.specs.Members.{IsIn}
-use Rattle.gb_machine.specs.Runs.{Moment}
-use Rattle.gb_machine.specs.Sending.{put as put_item}
-use Rattle.gb_machine.specs.Serving.{Answer}
-use Rattle.gb_machine.specs.SvcQueues.{items_in, svc_items}
+use Rattle.gb_machine.specs.{LawsBus.is_awaited, Lists.behind_first, Lists.first, Members.IsIn}
+use Rattle.gb_machine.specs.{Runs.Moment, Sending.put as put_item, Serving.Answer}
+use Rattle.gb_machine.specs.{SvcQueues.items_in, SvcQueues.svc_items}
+use Rattle.gb_invariants.proofs.{Awaiting.same-some, Found.find-changed, ItemChanges.first-in}
+use Rattle.gb_invariants.proofs.{Numbers.found-by_number, Selves.module-no-svc, Selves.put-self}
+use Rattle.gb_laws.proofs.Enums.{IsClean, clean-unasked, enums, enums_of, removed-unasked}
+use Rattle.gb_laws.proofs.Enums.{removed_in}
+use Rattle.gb_laws.proofs.Links.{IsKnown, leaving, linked, supervisory}
+use Rattle.gb_laws.proofs.PointParts.{Basis, Point, resting}
+use Rattle.gb_laws.proofs.Points.{IsAfterReply, IsServing, replied_to, unreplied}
+use Rattle.gb_laws.proofs.QuietBuses.{IsPut, popped-far, put-queues, put-svc}
+use Rattle.gb_laws.proofs.{LinkFrom.Linked, MarkNotices.numbered-ask, Places.place-is}
+use Rattle.gb_laws.proofs.{Quiet.is_removed, QuietReplies.reply-no-removal, SvcThere.There}
 
 -- ---- what is served
 
@@ -70,16 +45,12 @@ pub record IsServed (m : Moment) (a : Point) (q : Incoming) : Type 0 where
 module _ (m : Moment) (basis : Basis (resting m.told m.before))
     (links : Linked m.before.bus m.before.host []) (there : There m.before.bus) where
   -- the connection whose far end is the supervisory controller has number 1
-  svc-number : (c : Connection) → IsIn c m.before.bus.connections → c.peer ≡ end.Svc
-      → c.number ≡ 1
+  svc-number : (c : Connection) → IsIn c m.before.bus.connections → c.peer ≡ end.Svc → c.number ≡ 1
   svc-number c live peer = by (links.known c live)
     where
       by : IsKnown c m.before.host.links [] → c.number ≡ 1
       by (supervisory one) = one
-      by (linked l i of) = absurd (other (sym of.peer ∙ peer))
-        where
-          other : end.Module l.intf l.cport ≡ end.Svc → ⊥
-          other e = absurd cc
+      by (linked l i of) = absurd (module-no-svc (sym of.peer ∙ peer))
       by (leaving i) = absurd i
 
   pub serving : (a : Point) (q : Incoming) → IsServing m a.state q → IsServed m a q
@@ -136,8 +107,7 @@ module _ (m : Moment) (basis : Basis (resting m.told m.before))
       found_then =
           ap (λ k. connection_of 1 (popped k side.Far m.before.bus)) one
           ∙ find-changed (has_number 1) (without_front side.Far) m.before.bus.connections
-          (λ x. refl)
-          ∙ ap (option_map (without_front side.Far)) found
+          (λ x. refl) ∙ ap (option_map (without_front side.Far)) found
 
       -- the reply is put behind
       put : (r : Answer) → IsPut side.Ap (reply_item q r)
@@ -161,8 +131,7 @@ module _ (m : Moment) (basis : Basis (resting m.told m.before))
       far (replied_to r e) = ap (svc_items side.Far) e ∙ (put r).from ∙ taken.0
 
       rest : (i : ℕ) → IsAfterReply w.place.connection.number side.Far q
-          (popped w.place.connection.number side.Far m.before.bus) a.state.bus
-          → enums i a.state.bus
+          (popped w.place.connection.number side.Far m.before.bus) a.state.bus → enums i a.state.bus
           ≡ enums_of i m.before.bus (behind_first (svc_items side.Far m.before.bus))
       rest i (unreplied e) = ap (enums i) e ∙ ap (enums_of i m.before.bus) taken.0
       rest i (replied_to r e) = ap (enums i) e
@@ -172,8 +141,7 @@ module _ (m : Moment) (basis : Basis (resting m.told m.before))
           (popped w.place.connection.number side.Far m.before.bus) a.state.bus
           → is_removed i a.state.bus ≡ is_removed i m.before.bus
       removed i (unreplied e) = ap (is_removed i) e ∙ ap (removed_in i m.before.bus) taken.1
-      removed i (replied_to r e) = ap (is_removed i) e
-          ∙ ap (removed_in i m.before.bus)
+      removed i (replied_to r e) = ap (is_removed i) e ∙ ap (removed_in i m.before.bus)
           ((put r).toward ∙ ap (λ is. is ++ reply_item q r ∷ []) taken.1)
           ∙ removed-unasked i m.before.bus (svc_items side.Ap m.before.bus) (reply_item q r)
           (reply-no-removal i m.before.bus q r)

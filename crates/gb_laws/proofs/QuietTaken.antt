@@ -1,68 +1,24 @@
 -- What is said of an enumeration while a removal waits stays where an item is taken.
-use Rattle.std.proofs.Common.{
-  ◌≡◌,
-  ◌≢◌,
-  ◌⊎◌,
-  ℕ,
-  Bool,
-  true,
-  false,
-  Some,
-  List,
-  [],
-  ◌∷◌,
-  refl,
-  sym,
-  ap,
-  ◌∙◌,
-  inl,
-  inr,
-  ⊎_elim,
-  subst,
-}
+use Rattle.std.proofs.Common.{Bool, List, Some, ap, false, inl, inr, refl, subst, sym, true, ℕ}
+use Rattle.std.proofs.Common.{⊎_elim, [], ◌∙◌, ◌∷◌, ◌≡◌, ◌≢◌, ◌⊎◌}
 use Rattle.std.specs.Prelude.{◌==◌, ◌||◌}
 use Rattle.gb_base.specs.declared.end.Side.{Side}
 use Rattle.gb_base.specs.declared.end.Side.TheVariants as side
-use Rattle.gb_invariants.proofs.Awaiting.{not-both, same-some}
-use Rattle.gb_invariants.proofs.ItemChanges.{first-in}
-use Rattle.gb_invariants.proofs.Numbers.{found-by_number}
-use Rattle.gb_invariants.proofs.Outcomes.{same-number}
-use Rattle.gb_invariants.proofs.Selves.{front-self}
+use Rattle.gb_machine.specs.Bus.{Connection, Item, Reply, Request}
+use Rattle.gb_machine.specs.Bus.{connection_of, queue, request_of}
+use Rattle.gb_machine.specs.SvcQueues.{is_reply_to, items_in, svc_items}
+use Rattle.gb_machine.specs.{Delivery.popped, Delivery.without_front, LawsBus.is_awaited}
+use Rattle.gb_machine.specs.{Lists.behind_first, Lists.first, Members.IsIn, Ports.level_of}
+use Rattle.gb_invariants.proofs.{Awaiting.not-both, Awaiting.same-some, BusChanges.KeepsRequests}
+use Rattle.gb_invariants.proofs.{ItemChanges.first-in, Numbers.found-by_number}
+use Rattle.gb_invariants.proofs.{Outcomes.same-number, Selves.far-no-ap, Selves.front-self}
 use Rattle.gb_invariants.specs.Facts.{IsOwn}
 use Rattle.gb_laws.proofs.Enums.{IsClean, enums, enums-taken, enums_of, item_removes, removed_in}
-use Rattle.gb_laws.proofs.Owning.{KeepsRequests}
 use Rattle.gb_laws.proofs.PointParts.{Basis, Hand, Point}
-use Rattle.gb_laws.proofs.Quiet.{
-  IsUnanswered,
-  SameQueues,
-  SameView,
-  is_removed,
-  removed-same,
-  stays,
-  unanswered-same,
-  view-same,
-}
+use Rattle.gb_laws.proofs.Quiet.{IsUnanswered, SameQueues, SameView, is_removed, removed-same}
+use Rattle.gb_laws.proofs.Quiet.{stays, unanswered-same, view-same}
 use Rattle.gb_laws.proofs.QuietBuses.{popped-ap, popped-far, queues-other}
-use Rattle.gb_laws.proofs.There.{There}
-use Rattle.gb_machine.specs.Bus.{
-  Ask,
-  Connection,
-  Item,
-  Raw,
-  RawReply,
-  Reply,
-  Request,
-  connection_of,
-  queue,
-  request_of,
-}
-use Rattle.gb_machine.specs.Delivery.{popped, without_front}
-use Rattle.gb_machine.specs.LawsBus.{is_awaited}
-use Rattle.gb_machine.specs.Lists.{behind_first, first}
-use Rattle.gb_machine.specs.Members.{IsIn}
-use Rattle.gb_machine.specs.Ports.{level_of}
-use Rattle.gb_machine.specs.SvcQueues.{is_reply_to, items_in, svc_items}
-use Rattle.gb_laws.proofs.QuietKept.{queues-refl}
+use Rattle.gb_laws.proofs.{QuietKept.queues-refl, SvcThere.There}
 
 -- ---- an item is taken
 
@@ -70,29 +26,25 @@ use Rattle.gb_laws.proofs.QuietKept.{queues-refl}
 -- the application processor awaits on the supervisory controller's connection
 not-reply : (i n : ℕ) (a : Point) (k : ℕ) (s : Side) (x : Item) → IsUnanswered i n a
     → IsOwn a.state.bus k s x → (k ≢ 1) ⊎ (s ≡ side.Far) → is_reply_to n x ≡ false
-not-reply i n a k s (Ask q) u own other = refl
-not-reply i n a k s (Raw bytes) u own other = refl
-not-reply i n a k s (RawReply label kind result payload) u own other = refl
 not-reply i n a k s (Reply q result payload) u own other = by (q == n) refl
   where
-    apart : side.Far ≡ side.Ap → ⊥
-    apart e = absurd cc
-
     by : (t : Bool) → (q == n) ≡ t → t ≡ false
     by false e = refl
     by true e =
         let same = same-some own.0 u.request (sym own.1
         ∙ ap (λ z. request_of z a.state.bus) (same-number q n e) ∙ u.made) in
         absurd (⊎_elim (λ ne. ne (sym own.2 ∙ ap (λ (r : Request). r.connection) same ∙ u.on))
-        (λ far. apart (sym far ∙ sym own.3 ∙ ap (λ (r : Request). r.side) same ∙ u.by_ap)) other)
+        (λ far. far-no-ap (sym far ∙ sym own.3 ∙ ap (λ (r : Request). r.side) same ∙ u.by_ap))
+        other)
+not-reply i n a k s _ u own other = refl
 
 -- the front item of a connection
-pub view-taken : (i : ℕ) (a b : Point) (c : Connection) (s : Side) (x : Item) → Basis a
+pub view-taken : (i : ℕ) (a : Point) {b : Point} (c : Connection) (s : Side) (x : Item) → Basis a
     → There a.state.bus → IsIn c a.state.bus.connections → first (queue s c) ≡ Some x
     → b.state.bus ≡ popped c.number s a.state.bus
     → level_of i b.state.ports ≡ level_of i a.state.ports
     → b.hand ≡ Some (record { connection = c; side = s; item = x }) → SameView i a b
-view-taken i a b c s x basis there live front bus level hand = by (c.number == 1) refl s refl
+view-taken i a {b} c s x basis there live front bus level hand = by (c.number == 1) refl s refl
   where
     own : IsOwn a.state.bus c.number s x
     own = basis.bus.items.own c s x live (first-in (queue s c) x front)
@@ -124,13 +76,12 @@ view-taken i a b c s x basis there live front bus level hand = by (c.number == 1
 
     by : (t : Bool) → (c.number == 1) ≡ t → (z : Side) → s ≡ z → SameView i a b
     by false e z is =
-        view-same i a b basis (subst (SameQueues a.state.bus) (sym bus)
+        view-same basis (subst (SameQueues a.state.bus) (sym bus)
         (queues-other a.state.bus (popped c.number s a.state.bus) c.number (without_front s) refl
         (λ n r made. made) (λ y. (front-self s y).number)
         (λ one. not-both (c.number == 1) (ap (λ k. k == 1) one) e))) level
         (λ n u. in-hand n (not-reply i n a c.number s x u own
-        (inl (λ one. not-both (c.number == 1) (ap (λ k. k == 1) one) e))))
-        awaited
+        (inl (λ one. not-both (c.number == 1) (ap (λ k. k == 1) one) e)))) awaited
     by true e side.Far is =
         let p = popped-far a c.number basis there (same-number c.number 1 e) in
         let now : b.state.bus ≡ popped c.number side.Far a.state.bus =
@@ -138,16 +89,14 @@ view-taken i a b c s x basis there live front bus level hand = by (c.number == 1
         let same = ap (svc_items side.Ap) now ∙ p.1 in record {
           enums = ⊎_elim (λ f. inl (taken now p.0 ∙ f)) (λ f. inr (taken now p.0 ∙ f))
               (enums-taken i a.state.bus (svc_items side.Far a.state.bus));
-          power = stays level
-              (λ r. sym (removed-same i a b.state.bus basis keeps same) ∙ r)
+          power = stays level (λ r. sym (removed-same i b.state.bus basis keeps same) ∙ r)
               (λ n r u. unanswered-same i n a b basis keeps same
               (in-hand n (not-reply i n a c.number s x u own (inr is))) (awaited n u) u);
         }
       where
         taken : b.state.bus ≡ popped c.number side.Far a.state.bus
             → svc_items side.Far (popped c.number side.Far a.state.bus)
-            ≡ behind_first (svc_items side.Far a.state.bus)
-            → enums i b.state.bus
+            ≡ behind_first (svc_items side.Far a.state.bus) → enums i b.state.bus
             ≡ enums_of i a.state.bus (behind_first (svc_items side.Far a.state.bus))
         taken now f = ap (enums i) now ∙ ap (enums_of i a.state.bus) f
     by true e side.Ap is =
@@ -158,9 +107,7 @@ view-taken i a b c s x basis there live front bus level hand = by (c.number == 1
         let later : svc_items side.Ap b.state.bus ≡ behind_first (svc_items side.Ap a.state.bus) =
         ap (svc_items side.Ap) now ∙ p.0 in record {
           enums = inl (ap (enums i) now ∙ ap (enums_of i a.state.bus) p.1);
-          power = stays level
-              (λ r. removed now later w r)
-              (λ n r u. clean now later w n r u);
+          power = stays level (λ r. removed now later w r) (λ n r u. clean now later w n r u);
         }
       where
         still : b.state.bus ≡ popped c.number side.Ap a.state.bus → (xs : List Item)
@@ -203,12 +150,12 @@ view-taken i a b c s x basis there live front bus level hand = by (c.number == 1
             }
 
 -- a held item
-pub view-held : (i : ℕ) (a b : Point) (c : Connection) (s : Side) (x : Item) → Basis a
+pub view-held : (i : ℕ) (a : Point) {b : Point} (c : Connection) (s : Side) (x : Item) → Basis a
     → IsOwn a.state.bus c.number s x → s ≡ side.Far → b.state.bus ≡ a.state.bus
     → level_of i b.state.ports ≡ level_of i a.state.ports
     → b.hand ≡ Some (record { connection = c; side = s; item = x }) → SameView i a b
-view-held i a b c s x basis own far bus level hand =
-    view-same i a b basis (subst (SameQueues a.state.bus) (sym bus) (queues-refl a.state.bus)) level
+view-held i a c s x basis own far bus level hand =
+    view-same basis (subst (SameQueues a.state.bus) (sym bus) (queues-refl)) level
     (λ n u h e. ap (λ (y : Hand). is_reply_to n y.item)
     (sym (same-some (record { connection = c; side = s; item = x }) h (sym hand ∙ e)))
     ∙ not-reply i n a c.number s x u own (inr far))

@@ -1,70 +1,26 @@
 -- What is said of an enumeration while a removal waits is kept by what the application processor
 -- does: its turns, what its sequences wait for, and where no identifier is left.
-use Rattle.std.proofs.Common.{
-  ◌≡◌,
-  ℕ,
-  Bool,
-  true,
-  false,
-  cond,
-  Some,
-  None,
-  List,
-  [],
-  refl,
-  sym,
-  ap,
-  ◌∙◌,
-  inl,
-  inr,
-  ⊎_elim,
-  subst,
-}
-use Rattle.gb_base.specs.declared.steps.SequenceStep.{SequenceStep}
+use Rattle.std.proofs.Common.{Bool, List, None, Some, ap, cond, false, inl, inr, refl, subst, sym}
+use Rattle.std.proofs.Common.{true, ℕ, ⊎_elim, [], ◌∙◌, ◌≡◌}
 use Rattle.gb_base.specs.declared.peers.Interface.{Interface}
-use Rattle.gb_invariants.proofs.Awaiting.{not-both, same-some}
-use Rattle.gb_invariants.proofs.Lists.{in-at_first}
-use Rattle.gb_invariants.proofs.Outcomes.{same-number}
-use Rattle.gb_laws.proofs.Asked.{
-  asks-connects,
-  asks-disconnects,
-  asks-ended,
-  asks-inserted,
-  asks-removed,
-  waits-unsent,
-}
-use Rattle.gb_laws.proofs.AskedSteps.{TurnAsks}
-use Rattle.gb_laws.proofs.AskedWaits.{AsksIn, asks-more, is_power_step, no-asks}
-use Rattle.gb_laws.proofs.Awaited.{awaited-rest}
-use Rattle.gb_laws.proofs.LinkActs.{awaited-host}
-use Rattle.gb_laws.proofs.Linking.{LinkedAt}
-use Rattle.gb_laws.proofs.Points.{IsAsking, IsOver, asking, opening}
-use Rattle.gb_laws.proofs.PointParts.{Basis, Point}
-use Rattle.gb_laws.proofs.Quiet.{
-  IsCalm,
-  IsQuiet,
-  SameView,
-  WaitsOn,
-  calm-still,
-  low-still,
-  quiet-still,
-  waits-still,
-}
-use Rattle.gb_laws.proofs.QuietKept.{view-rest}
-use Rattle.gb_laws.proofs.There.{There}
-use Rattle.gb_machine.specs.Failures.{unsent}
+use Rattle.gb_base.specs.declared.steps.SequenceStep.{SequenceStep}
 use Rattle.gb_machine.specs.Host.{Host, is_intf, with_interface, with_link}
-use Rattle.gb_machine.specs.HostActs.{with_awaited}
-use Rattle.gb_machine.specs.HostTurns.{host_turn}
-use Rattle.gb_machine.specs.LawsBus.{is_awaited}
-use Rattle.gb_machine.specs.Members.{IsIn}
-use Rattle.gb_machine.specs.Ports.{level_of}
-use Rattle.gb_machine.specs.Runs.{Moment}
-use Rattle.gb_machine.specs.SequenceSteps.{is_enumeration}
-use Rattle.gb_machine.specs.State.{State}
 use Rattle.gb_machine.specs.Turns.{Act, Asking, HostEvent, Turn}
-use Rattle.gb_machine.specs.Waits.{awaited}
-use Rattle.gb_laws.proofs.QuietAwaited.{none-over, waited-by}
+use Rattle.gb_machine.specs.{Failures.unsent, HostActs.with_awaited, HostTurns.host_turn}
+use Rattle.gb_machine.specs.{LawsBus.is_awaited, Members.IsIn, Ports.level_of, Runs.Moment}
+use Rattle.gb_machine.specs.{SequenceSteps.is_enumeration, State.State, Waits.awaited}
+use Rattle.gb_invariants.proofs.Awaiting.{none-some, not-both, same-some}
+use Rattle.gb_invariants.proofs.{Lists.in-at_first, Outcomes.same-number}
+use Rattle.gb_laws.proofs.Asked.{asks-connects, asks-disconnects, asks-ended, asks-inserted}
+use Rattle.gb_laws.proofs.Asked.{asks-removed, waits-unsent}
+use Rattle.gb_laws.proofs.AskedWaits.{AsksIn, asks-more, is_power_step, no-asks}
+use Rattle.gb_laws.proofs.Points.{IsAsking, IsOver, asking, opening}
+use Rattle.gb_laws.proofs.Quiet.{IsCalm, IsQuiet, SameView, WaitsOn, calm-still, low-still}
+use Rattle.gb_laws.proofs.Quiet.{quiet-still, waits-still}
+use Rattle.gb_laws.proofs.{AskedSteps.TurnAsks, Awaited.awaited-rest, LinkActs.awaited-host}
+use Rattle.gb_laws.proofs.{LinkKept.LinkedAt, PointParts.Basis, PointParts.Point}
+use Rattle.gb_laws.proofs.{QuietAwaited.none-over, QuietAwaited.waited-by, QuietKept.view-rest}
+use Rattle.gb_laws.proofs.{SvcThere.There}
 
 -- ---- turns
 
@@ -89,45 +45,38 @@ turn-asks m i (HostEvent.Ended n how) a basis links there over h =
     ))
 
 -- where the application processor takes notice of something
-pub quiet-turned : (i : ℕ) (a b : Point) (t : Turn) → Basis a
+pub quiet-turned : (i : ℕ) (a : Point) {b : Point} {t : Turn} → Basis a
     → TurnAsks i (IsCalm i a) a.state.host t
     → b.state.bus ≡ a.state.bus → b.state.ports ≡ a.state.ports → b.hand ≡ a.hand
     → b.asked ≡ a.asked → b.state.host ≡ t.host → b.pending ≡ t.acts → IsQuiet i a → IsQuiet i b
-quiet-turned i a b t basis asks bus ports hand asked host pending h =
-    let v = view-rest i a b basis bus (ap (level_of i) ports) (λ x e. sym hand ∙ e) in record {
+quiet-turned i a {b} basis asks bus ports hand asked host pending h =
+    let v = view-rest basis bus (ap (level_of i) ports) (λ x e. sym hand ∙ e) in record {
       low = low-still i a b v h.low;
       waits = λ x j at w e s.
           let was = asks.waits x (subst (λ (g : Host). IsIn x g.interfaces) host j) w e in
-          waits-still i w.0 a b v
-          (h.waits was.was was.known (was.intf ∙ at) w (was.awaits ∙ e) s);
+          waits-still i w.0 a b v (h.waits was.was was.known (was.intf ∙ at) w (was.awaits ∙ e) s);
       due = λ e q j at s. ⊎_elim (λ k. inl k) (λ c. inr (calm-still i a b v c))
           (asks.asks q (subst (AsksIn q) pending j) at s);
       made = λ q n e at s. waits-still i n a b v (h.made q n (sym asked ∙ e) at s);
     }
 
 -- where a sequence waits for the request that was made
-pub quiet-awaited : (i : ℕ) (a b : Point) (q : Asking) (n : ℕ) → Basis a
+pub quiet-awaited : (i : ℕ) (a : Point) {b : Point} (q : Asking) (n : ℕ) → Basis a
     → a.asked ≡ Some (q, n) → b.state ≡ with_awaited q.purpose n a.state → b.hand ≡ a.hand
     → b.asked ≡ None → b.pending ≡ [] → IsQuiet i a → IsQuiet i b
-quiet-awaited i a b q n basis asked state hand none pending h = record {
+quiet-awaited i a {b} q n basis asked state hand none pending h = record {
   low = low-still i a b v h.low;
-  waits = λ x j at w e s. waits-still i w.0 a b v
-      (by (is_enumeration q.purpose.step) refl x
+  waits = λ x j at w e s. waits-still i w.0 a b v (by (is_enumeration q.purpose.step) refl x
       (subst (λ (g : Host). IsIn x g.interfaces)
       (ap (λ (t : State). t.host) state ∙ awaited-host q.purpose n a.state) j) at w e s);
-  due = λ e r j at s. absurd (no-asks r (subst (AsksIn r) pending j));
+  due = λ e r j at s. absurd (no-asks (subst (AsksIn r) pending j));
   made = λ r k e at s. absurd (none-some (sym none ∙ e));
 }
   where
-    none-some : {w : Asking × ℕ} → None ≡ Some w → ⊥
-    none-some e = absurd cc
-
     v : SameView i a b
-    v = view-rest i a b basis
-        (ap (λ (t : State). t.bus) state ∙ (awaited-rest q.purpose n a.state).bus)
+    v = view-rest basis (ap (λ (t : State). t.bus) state ∙ (awaited-rest q.purpose n).bus)
         (ap (λ (t : State). level_of i t.ports) state
-        ∙ ap (level_of i) (awaited-rest q.purpose n a.state).ports)
-        (λ x e. sym hand ∙ e)
+        ∙ ap (level_of i) (awaited-rest q.purpose n).ports) (λ x e. sym hand ∙ e)
 
     by : (t : Bool) → is_enumeration q.purpose.step ≡ t → (x : Interface)
         → IsIn x (cond t (with_interface q.purpose.intf
@@ -137,13 +86,9 @@ quiet-awaited i a b q n basis asked state hand none pending h = record {
         → x.intf ≡ i → (w : ℕ × SequenceStep) → x.awaits ≡ Some w → is_power_step w.1 ≡ true
         → WaitsOn i w.0 a
     by false e x j at w f s = h.waits x j at w f s
-    by true e x j at w f s = ⊎_elim
-        (λ o. h.waits x o at w f s)
-        (λ u.
-        let is = same-some (n, q.purpose.step) w
-        (sym (ap (λ (y : Interface). y.awaits) u.3) ∙ f) in
-        subst (λ (y : ℕ × SequenceStep). WaitsOn i y.0 a) is
-        (h.made q n asked
+    by true e x j at w f s = ⊎_elim (λ o. h.waits x o at w f s) (λ u.
+        let is = same-some (n, q.purpose.step) w (sym (ap (λ (y : Interface). y.awaits) u.3) ∙ f) in
+        subst (λ (y : ℕ × SequenceStep). WaitsOn i y.0 a) is (h.made q n asked
         (sym (same-number u.0.intf q.purpose.intf u.2)
         ∙ sym (ap (λ (y : Interface). y.intf) u.3) ∙ at)
         (ap (λ (y : ℕ × SequenceStep). is_power_step y.1) is ∙ s)))
@@ -153,18 +98,17 @@ quiet-awaited i a b q n basis asked state hand none pending h = record {
 
 -- ---- no identifier is left
 
-pub quiet-failed : (i : ℕ) (a b : Point) (q : Asking) (rest : List Act) → Basis a
+pub quiet-failed : (i : ℕ) (a : Point) {b : Point} (q : Asking) (rest : List Act) → Basis a
     → IsAsking q a.pending rest
     → b.state ≡ record a.state { host = (unsent q.purpose a.state.host).host }
     → b.hand ≡ a.hand → b.asked ≡ a.asked → b.pending ≡ rest → IsQuiet i a → IsQuiet i b
-quiet-failed i a b q rest basis is state hand asked pending h =
-    quiet-still i a b
-    (view-rest i a b basis (ap (λ (t : State). t.bus) state)
+quiet-failed i a q rest basis is state hand asked pending h =
+    quiet-still (view-rest basis (ap (λ (t : State). t.bus) state)
     (ap (λ (t : State). level_of i t.ports) state) (λ x e. sym hand ∙ e))
     (λ x j w e. waits-unsent i (IsCalm i a) q.purpose a.state.host x
     (subst (λ (t : State). IsIn x t.host.interfaces) state j) w e)
     asked (λ r j. by is r (subst (AsksIn r) pending j)) h
   where
     by : IsAsking q a.pending rest → (r : Asking) → AsksIn r rest → AsksIn r a.pending
-    by (asking e) r j = subst (AsksIn r) (sym e) (asks-more r (Act.Ask q) rest j)
-    by (opening w e) r j = subst (AsksIn r) (sym e) (asks-more r (Act.Open w q) rest j)
+    by (asking e) r j = subst (AsksIn r) (sym e) (asks-more r (Act.Ask q) j)
+    by (opening w e) r j = subst (AsksIn r) (sym e) (asks-more r (Act.Open w q) j)

@@ -1,35 +1,22 @@
 -- What holds of every state that a run of valid events leads to.
-use Rattle.std.proofs.Common.{◌≡◌, Some, None, [], ◌∷◌, ◌++◌, refl, ap, ◌∙◌, subst}
-use Rattle.gb_base.specs.declared.end.End.{End}
+use Rattle.std.proofs.Common.{None, Some, ap, refl, subst, [], ◌++◌, ◌∙◌, ◌∷◌, ◌≡◌}
+use Rattle.gb_base.specs.declared.end.{End.End, Side.Side}
 use Rattle.gb_base.specs.declared.end.End.TheVariants as end
-use Rattle.gb_base.specs.declared.end.Side.{Side}
 use Rattle.gb_base.specs.declared.end.Side.TheVariants as side
 use Rattle.gb_base.specs.declared.event.Event.{Event}
 use Rattle.gb_base.specs.declared.event.Event.TheVariants as event
 use Rattle.gb_formats.specs.ValidEvents.{IsEnd, IsValid}
-use Rattle.gb_invariants.proofs.Lists.{each-append}
-use Rattle.gb_laws.proofs.AllRuns.{of-all, of-state}
-use Rattle.gb_laws.proofs.LinkedFrom.{Linked}
-use Rattle.gb_laws.proofs.LinkRuns.{LinkedTo, linked-throughout}
-use Rattle.gb_laws.proofs.ManifestRuns.{short-throughout}
-use Rattle.gb_laws.proofs.Points.{AreShort}
-use Rattle.gb_laws.proofs.Runs.{HoldsByMoments, weaker}
-use Rattle.gb_laws.proofs.SettleQueues.{first-waits}
-use Rattle.gb_laws.proofs.Settles.{IsSettleable, last-append}
-use Rattle.gb_laws.proofs.Settling.{settleable-by_moments}
-use Rattle.gb_laws.proofs.Single.{names-by_moments}
-use Rattle.gb_laws.proofs.There.{There}
 use Rattle.gb_machine.proofs.Steps.{step-deliver}
-use Rattle.gb_machine.specs.Actions.{Told}
-use Rattle.gb_machine.specs.Arriving.{delivers}
-use Rattle.gb_machine.specs.Bus.{Connection, end_of}
-use Rattle.gb_machine.specs.Events.{step}
-use Rattle.gb_machine.specs.LawsBus.{NameRequests}
-use Rattle.gb_machine.specs.Members.{IsIn}
-use Rattle.gb_machine.specs.Reached.{OfARun}
-use Rattle.gb_machine.specs.Refusals.{refusal}
-use Rattle.gb_machine.specs.State.{State, first_state}
-use Rattle.gb_machine.specs.Waiting.{first_waiting}
+use Rattle.gb_machine.specs.{Actions.Told, Arriving.delivers, Bus.Connection, Bus.end_of}
+use Rattle.gb_machine.specs.{Events.step, LawsBus.NameRequests, Members.IsIn, Reached.OfARun}
+use Rattle.gb_machine.specs.{Refusals.refusal, State.State, State.first_state}
+use Rattle.gb_machine.specs.{Waiting.first_waiting}
+use Rattle.gb_invariants.proofs.Lists.{each-append}
+use Rattle.gb_laws.proofs.{AllRuns.of-all, AllRuns.of-state, LinkFrom.Linked, LinkRuns.LinkedTo}
+use Rattle.gb_laws.proofs.{LinkRuns.linked-throughout, ManifestRuns.short-throughout}
+use Rattle.gb_laws.proofs.{Points.AreShort, Runs.HoldsByMoments, Runs.weaker}
+use Rattle.gb_laws.proofs.{SettleQueues.first-waits, Settles.IsSettleable, Settles.last-append}
+use Rattle.gb_laws.proofs.{Settling.settleable-by_moments, Single.names-by_moments, SvcThere.There}
 
 -- ---- which states are reached
 
@@ -66,17 +53,16 @@ reached-names = reached-has NameRequests names-by_moments
 -- The bus keeps its facts, the application processor's connections go with it, and insertions and
 -- removals come in turn.
 pub reached-told : (s : State) → OfARun s → LinkedTo [] s
-reached-told = reached-has (LinkedTo [])
-    (weaker LinkedTo (λ told s. LinkedTo [] s) (λ told s h. (
-      record {
-        bus = h.0.bus;
-        names = h.0.names;
-        hand = h.0.hand;
-      },
-      h.1,
-      h.2,
-      h.3,
-    )) linked-throughout)
+reached-told = reached-has (LinkedTo []) (weaker LinkedTo (λ told s. LinkedTo [] s) (λ told s h. (
+  record {
+    bus = h.0.bus;
+    names = h.0.names;
+    hand = h.0.hand;
+  },
+  h.1,
+  h.2,
+  h.3,
+)) linked-throughout)
 
 -- The application processor's connections go with the bus.
 pub reached-linked : (s : State) → OfARun s → Linked s.bus s.host []

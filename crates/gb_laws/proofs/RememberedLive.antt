@@ -1,117 +1,40 @@
 -- A request is remembered for a connection that is live when it is made, and stays live for the
 -- rest of the step.
-use Rattle.std.proofs.Common.{
-  ◌≡◌,
-  ◌⊎◌,
-  ◌≤◌,
-  ◌<◌,
-  ℕ,
-  ◌+◌,
-  Bool,
-  true,
-  false,
-  cond,
-  Option,
-  Some,
-  None,
-  List,
-  [],
-  ◌∷◌,
-  ◌++◌,
-  length,
-  length-append,
-  refl,
-  sym,
-  ap,
-  ◌∙◌,
-  inl,
-  inr,
-  ⊎_elim,
-  subst,
-  arith,
-}
+use Rattle.std.proofs.Common.{Bool, List, None, Option, Some, ap, arith, cond, false, inl, inr}
+use Rattle.std.proofs.Common.{length, length-append, refl, subst, sym, true, ℕ, ⊎_elim, [], ◌++◌}
+use Rattle.std.proofs.Common.{◌+◌, ◌<◌, ◌∙◌, ◌∷◌, ◌≡◌, ◌≤◌, ◌⊎◌}
 use Rattle.std.specs.Prelude.{is_some}
 use Rattle.gb_base.specs.declared.entry.Entry.{Entry}
 use Rattle.gb_base.specs.declared.outcome.Outcome.{Outcome}
 use Rattle.gb_base.specs.declared.outcome.Outcome.TheVariants as outcome
 use Rattle.gb_base.specs.declared.peers.Link.{Link}
 use Rattle.gb_base.specs.declared.steps.Purpose.{Purpose}
-use Rattle.gb_invariants.proofs.Awaiting.{same-some}
-use Rattle.gb_invariants.proofs.Lists.{each-from, found-in, in-front, in-pushed}
-use Rattle.gb_invariants.proofs.Numbers.{found-by_number}
-use Rattle.gb_invariants.specs.Facts.{NumbersRise}
-use Rattle.gb_laws.proofs.Awaited.{awaited-rest}
-use Rattle.gb_laws.proofs.LinkActs.{
-  ServedHost,
-  as_before,
-  awaited-host,
-  awaits-fits,
-  host-served,
-  none-leaves,
-  unsent-due,
-  unsent-making,
-  with_more,
-}
-use Rattle.gb_laws.proofs.LinkBuses.{new_link}
-use Rattle.gb_laws.proofs.LinkedFrom.{Linked}
-use Rattle.gb_laws.proofs.LinkHosts.{Stay, same-link, stay-changed, stay-same}
-use Rattle.gb_laws.proofs.LinkLaw.{link_law}
-use Rattle.gb_laws.proofs.LinkLives.{AreAlive, alive-kept}
-use Rattle.gb_laws.proofs.LinkRuns.{LinkedTo, linked-over, linked-throughout, start-absent}
-use Rattle.gb_laws.proofs.Linking.{InsertsAbsent, LinkedAt, same-links, turn-fits}
-use Rattle.gb_laws.proofs.Links.{ArePending, IsFollowed, leaves, stays}
-use Rattle.gb_laws.proofs.PointParts.{Basis, IsCaused, Point}
-use Rattle.gb_laws.proofs.Points.{
-  Change,
-  IsAskedBy,
-  IsAsking,
-  IsOver,
-  Law,
-  acts_asked,
-  acts_failed,
-  acts_opened,
-  answers,
-  asking,
-  asks,
-  awaited_by,
-  by_far,
-  by_host,
-  changed,
-  names,
-  opening,
-  serves,
-  spends,
-  takes,
-  turns,
-  unwires,
-}
-use Rattle.gb_laws.proofs.Remembering.{
-  RemembersAt,
-  RemembersTo,
-  nothing-asked,
-  remembers-first,
-  remembers-kept,
-  remembers-over,
-}
-use Rattle.gb_laws.proofs.Runs.{HoldsAtMoments, HoldsByMoments, at_each, throughout}
-use Rattle.gb_laws.proofs.Steps.{over-step}
 use Rattle.gb_machine.specs.Bus.{Bus, Request, connection_of}
-use Rattle.gb_machine.specs.Failures.{step_fails, unsent}
 use Rattle.gb_machine.specs.Host.{Host, is_link, link_at}
-use Rattle.gb_machine.specs.HostActs.{made_for, with_awaited}
-use Rattle.gb_machine.specs.HostServing.{host_serves, with_credits}
-use Rattle.gb_machine.specs.HostTurns.{ended_for, host_turn}
-use Rattle.gb_machine.specs.LawsHotPlug.{RememberedWhileLive}
-use Rattle.gb_machine.specs.LineActions.{spent}
-use Rattle.gb_machine.specs.Members.{IsIn}
 use Rattle.gb_machine.specs.Runs.{IsMoment, Moment, after, told_at}
-use Rattle.gb_machine.specs.Sending.{requested}
-use Rattle.gb_machine.specs.SequenceSteps.{is_for_connection}
-use Rattle.gb_machine.specs.Sequences.{payload_in, step_answered}
-use Rattle.gb_machine.specs.State.{State}
 use Rattle.gb_machine.specs.Turns.{Act, Asking, HostEvent}
 use Rattle.gb_machine.specs.Waits.{awaited, awaits, awaits_nothing}
-use Rattle.gb_machine.specs.Wiring.{next_connection}
+use Rattle.gb_machine.specs.{Failures.step_fails, HostActs.made_for, HostActs.with_awaited}
+use Rattle.gb_machine.specs.{HostTurns.ended_for, HostTurns.host_turn}
+use Rattle.gb_machine.specs.{LawsHotPlug.RememberedWhileLive, Members.IsIn, Sending.requested}
+use Rattle.gb_machine.specs.{SequenceSteps.is_for_connection, Sequences.payload_in}
+use Rattle.gb_machine.specs.{Sequences.step_answered, State.State, Wiring.next_connection}
+use Rattle.gb_invariants.proofs.Lists.{each-from, found-in, in-front, in-pushed}
+use Rattle.gb_invariants.proofs.{Awaiting.none-some, Awaiting.same-some, Numbers.found-by_number}
+use Rattle.gb_invariants.specs.Facts.{NumbersRise}
+use Rattle.gb_laws.proofs.LinkActs.{awaited-host, awaits-fits, none-leaves}
+use Rattle.gb_laws.proofs.LinkKept.{InsertsAbsent, LinkedAt, same-links, turn-fits}
+use Rattle.gb_laws.proofs.LinkRuns.{LinkedTo, linked-over, linked-throughout, start-absent}
+use Rattle.gb_laws.proofs.Links.{ArePending, IsFollowed, leaves, stays}
+use Rattle.gb_laws.proofs.PointParts.{Basis, IsCaused, Point}
+use Rattle.gb_laws.proofs.Points.{Change, IsAskedBy, IsOver, Law, acts_asked, acts_opened, asks}
+use Rattle.gb_laws.proofs.Points.{awaited_by, by_far, by_host, changed, names, turns}
+use Rattle.gb_laws.proofs.Remembering.{RemembersAt, RemembersTo, remembers-first, remembers-kept}
+use Rattle.gb_laws.proofs.Remembering.{remembers-over}
+use Rattle.gb_laws.proofs.Runs.{HoldsAtMoments, HoldsByMoments, at_each, throughout}
+use Rattle.gb_laws.proofs.{Awaited.awaited-rest, ChangeHosts.stay-kept, LinkBuses.new_link}
+use Rattle.gb_laws.proofs.{LinkFrom.Linked, LinkHosts.Stay, LinkHosts.same-link, LinkLaw.link_law}
+use Rattle.gb_laws.proofs.{LinkLives.AreAlive, LinkLives.alive-kept, Steps.over-step}
 
 -- the application processor knows connection k
 pub record IsLinked (k : ℕ) (h : Host) : Type 0 where
@@ -129,8 +52,8 @@ pub record RemembersSince (m : Moment) (a : Point) : Type 0 where
 
 -- ---- connections stay known
 
-linked-stay : (k : ℕ) (h g : Host) → Stay h.links g.links → IsLinked k h → IsLinked k g
-linked-stay k h g stay x =
+linked-stay : (k : ℕ) {h g : Host} → Stay h.links g.links → IsLinked k h → IsLinked k g
+linked-stay k stay x =
     let y = stay x.link x.known in
     record { link = y.0; known = y.1; number = y.2.connection ∙ x.number }
 
@@ -159,10 +82,10 @@ stays-known m (HostEvent.Ended n how) b h k over j = by how over j
     by outcome.Sent over i = absurd (failed outcome.Sent (awaited n h) refl i)
 
 -- where a request is new, a turn keeps its connection known
-linked-turned : (m : Moment) → InsertsAbsent m → (e : HostEvent) (b : Bus) (h : Host) (n k : ℕ)
+linked-turned : (m : Moment) → InsertsAbsent m → (e : HostEvent) {b : Bus} {h : Host} (n k : ℕ)
     → Linked b h [] → IsCaused m e h → IsOver m e b → length m.before.bus.requests < n
     → n ≤ length b.requests → IsLinked k h → IsLinked k (host_turn e h).host
-linked-turned m absent e b h n k links cause over new made x =
+linked-turned m absent e {b} {h} n k links cause over new made x =
     by ((turn-fits m b e h absent cause links.host).followed x.link
     (subst (λ ls. IsIn x.link ls) (sym (same-links e h)) x.known))
   where
@@ -177,40 +100,37 @@ linked-turned m absent e b h n k links cause over new made x =
 -- ---- each single change
 
 -- as many requests, and the same is remembered
-since-stay : (m : Moment) (a b : Point) → b.state.bus.requests ≡ a.state.bus.requests
+since-stay : (m : Moment) (a : Point) {b : Point} → b.state.bus.requests ≡ a.state.bus.requests
     → b.state.past.made_for ≡ a.state.past.made_for → b.asked ≡ a.asked
     → Stay a.state.host.links b.state.host.links → RemembersSince m a → RemembersSince m b
-since-stay m a b requests past asked stay h = record {
+since-stay m a requests past asked stay h = record {
   more = subst (λ rs. length m.before.bus.requests ≤ length rs) (sym requests) h.more;
   asked = λ q n e. h.asked q n (sym asked ∙ e);
-  new = λ n k i. ⊎_elim (λ o. inl o)
-      (λ w. inr (w.0, linked-stay k a.state.host b.state.host stay w.1))
+  new = λ n k i. ⊎_elim (λ o. inl o) (λ w. inr (w.0, linked-stay k stay w.1))
       (h.new n k (subst (λ ps. IsIn (n, k) ps) past i));
 }
 
 -- a request more
-since-sent : (m : Moment) (a b : Point) (r : Request)
+since-sent : (m : Moment) (a : Point) {b : Point} (r : Request)
     → b.state.bus.requests ≡ a.state.bus.requests ++ r ∷ []
     → b.state.past.made_for ≡ a.state.past.made_for → b.state.host ≡ a.state.host
     → ((q : Asking) (n : ℕ) → b.asked ≡ Some (q, n)
     → (a.asked ≡ Some (q, n)) ⊎ (n ≡ length a.state.bus.requests + 1))
     → RemembersSince m a → RemembersSince m b
-since-sent m a b r requests past host asked h = record {
+since-sent m a r requests past host asked h = record {
   more = let old = h.more in
       let count = ap length requests ∙ length-append a.state.bus.requests (r ∷ []) in
       omega (arith, old, count);
   asked = λ q n e. ⊎_elim (λ o. h.asked q n o) (λ f. let old = h.more in omega (arith, old, f))
       (asked q n e);
-  new = λ n k i. ⊎_elim (λ o. inl o)
-      (λ w. inr (w.0, subst (IsLinked k) (sym host) w.1))
+  new = λ n k i. ⊎_elim (λ o. inl o) (λ w. inr (w.0, subst (IsLinked k) (sym host) w.1))
       (h.new n k (subst (λ ps. IsIn (n, k) ps) past i));
 }
 
 pub since-kept : (m : Moment) → InsertsAbsent m → (a : Point) (x : Change m a) → Basis a
     → LinkedAt a → RemembersAt a → RemembersSince m a → RemembersSince m (changed m a x)
 since-kept m absent a (asks d c label free live drawn who) basis links r h =
-    since-sent m a (changed m a (asks d c label free live drawn who)) (requested d label) refl refl
-    refl (λ q n e. by who q n e) h
+    since-sent m a (requested d label) refl refl refl (λ q n e. by who q n e) h
   where
     by : (w : IsAskedBy m a c d) (q : Asking) (n : ℕ) → awaited_by m a c d w ≡ Some (q, n)
         → (a.asked ≡ Some (q, n)) ⊎ (n ≡ length a.state.bus.requests + 1)
@@ -219,32 +139,29 @@ since-kept m absent a (asks d c label free live drawn who) basis links r h =
         (same-some (p, length a.state.bus.requests + 1) (q, n) e)))
     by (by_far far on) q n e = inl e
 since-kept m absent a (names name d c label free live drawn host) basis links r h =
-    since-sent m a (changed m a (names name d c label free live drawn host)) (requested d label)
-    refl refl refl (λ q n e. inl e) h
+    since-sent m a (requested d label) refl refl refl (λ q n e. inl e) h
 since-kept m absent a (turns e free untouched none cause) basis links r h = record {
   more = h.more;
   asked = h.asked;
   new = λ n k i. ⊎_elim (λ o. inl o) (λ w. inr (
     w.0,
-    linked-turned m absent e a.state.bus a.state.host n k
+    linked-turned m absent e n k
         (subst (Linked a.state.bus a.state.host) none links) cause untouched.1 w.0 (r.below n k i)
         w.1,
   )) (h.new n k i);
 }
 since-kept m absent a (acts_opened w q rest free is) basis links r h =
-    since-stay m a (changed m a (acts_opened w q rest free is)) refl refl refl
-    (λ l i. (
+    since-stay m a refl refl refl (λ l i. (
       l,
       in-front l a.state.host.links (new_link (next_connection a.state.bus) w ∷ []) i,
       same-link l,
     )) h
 since-kept m absent a (acts_asked q n rest is) basis links r h = record {
   more = subst (λ (b : Bus). length m.before.bus.requests ≤ length b.requests)
-      (sym (awaited-rest q.purpose n a.state).bus) h.more;
-  asked = λ p k e. absurd (nothing-asked (p, k) e);
+      (sym (awaited-rest q.purpose n).bus) h.more;
+  asked = λ p k e. absurd (none-some e);
   new = subst (λ g. (j k : ℕ) → IsIn (j, k) (with_awaited q.purpose n a.state).past.made_for
-      → IsIn (j, k) m.before.past.made_for
-      ⊎ ((length m.before.bus.requests < j) × IsLinked k g))
+      → IsIn (j, k) m.before.past.made_for ⊎ ((length m.before.bus.requests < j) × IsLinked k g))
       (sym (awaited-host q.purpose n a.state))
       (by (is_for_connection q.purpose.step) (link_at q.purpose.intf q.purpose.cport g) refl);
 }
@@ -253,18 +170,15 @@ since-kept m absent a (acts_asked q n rest is) basis links r h = record {
     g = awaits q.purpose n a.state.host
 
     stay : Stay a.state.host.links (awaits q.purpose n a.state.host).links
-    stay = (awaits-fits a.state.bus q.purpose n a.state.host links.host
+    stay = (awaits-fits q.purpose n links.host
         (subst (ArePending a.state.host) is.0 links.pending).0.0).1.stay
 
     News : List (ℕ × ℕ) → Type 0
     News pairs = (j k : ℕ) → IsIn (j, k) pairs → IsIn (j, k) m.before.past.made_for
-        ⊎ ((length m.before.bus.requests < j)
-        × IsLinked k (awaits q.purpose n a.state.host))
+        ⊎ ((length m.before.bus.requests < j) × IsLinked k (awaits q.purpose n a.state.host))
 
     old : News a.state.past.made_for
-    old j k i = ⊎_elim (λ o. inl o)
-        (λ w. inr (w.0, linked-stay k a.state.host (awaits q.purpose n a.state.host) stay w.1))
-        (h.new j k i)
+    old j k i = ⊎_elim (λ o. inl o) (λ w. inr (w.0, linked-stay k stay w.1)) (h.new j k i)
 
     by : (t : Bool) (o : Option Link)
         → link_at q.purpose.intf q.purpose.cport (awaits q.purpose n a.state.host) ≡ o
@@ -282,49 +196,8 @@ since-kept m absent a (acts_asked q n rest is) basis links r h = record {
       },
     )) (in-pushed (j, k) a.state.past.made_for (n, l.connection) i)
     by false o e = old
-since-kept m absent a (acts_failed q rest is quiet) basis links r h =
-    since-stay m a (changed m a (acts_failed q rest is quiet)) refl refl refl (by is) h
-  where
-    by : IsAsking q a.pending rest
-        → Stay a.state.host.links (unsent q.purpose a.state.host).host.links
-    by (asking e) = (unsent-due a.state.bus q.purpose.step q.purpose a.state.host links.host
-        (subst (ArePending a.state.host) e links.pending).0.0).1.stay
-    by (opening w e) =
-        (unsent-making a.state.bus w q.purpose.step q.purpose a.state.host links.host
-        (subst (ArePending a.state.host) e links.pending).0.0.step).1.stay
-since-kept m absent a (serves k kind payload none) basis links r h =
-    since-stay m a (changed m a (serves k kind payload none)) refl refl refl
-    (by (host-served k kind payload a.state.host)) h
-  where
-    by : ServedHost a.state.host (host_serves k kind payload a.state.host)
-        → Stay a.state.host.links (host_serves k kind payload a.state.host).host.links
-    by (as_before e) = subst (λ (g : Host). Stay a.state.host.links g.links) (sym e)
-        (stay-same a.state.host.links)
-    by (with_more i c total e) = subst (λ (g : Host). Stay a.state.host.links g.links) (sym e)
-        (stay-changed a.state.host.links i c (with_credits total) (λ l. record {
-          connection = refl;
-          ap = refl;
-          intf = refl;
-          cport = refl;
-          protocol = refl;
-        }))
-since-kept m absent a (spends i c what none) basis links r h =
-    since-stay m a (changed m a (spends i c what none)) refl refl refl
-    (stay-changed a.state.host.links i c (spent what) (λ l. record {
-      connection = refl;
-      ap = refl;
-      intf = refl;
-      cport = refl;
-      protocol = refl;
-    })) h
-since-kept m absent a (takes at p item free start is named front) basis links r h =
-    record { more = h.more; asked = h.asked; new = h.new }
-since-kept m absent a (unwires k free before live) basis links r h =
-    record { more = h.more; asked = h.asked; new = h.new }
-since-kept m absent a (answers x n result payload is says which) basis links r h =
-    record { more = h.more; asked = h.asked; new = h.new }
-since-kept m absent a _ basis links r h =
-    record { more = h.more; asked = h.asked; new = h.new }
+since-kept m absent a x basis links r h =
+    since-stay m a refl refl refl (stay-kept m a x tt links) h
 
 -- ---- the law
 
@@ -356,7 +229,7 @@ since-over m one h =
       (((h.links.0, h.links.1), h.there), h.remembers.1),
       record {
         more = omega arith;
-        asked = λ q n e. absurd (nothing-asked (q, n) e);
+        asked = λ q n e. absurd (none-some e);
         new = λ n k i. inl i;
       },
     )).1 in (

@@ -1,63 +1,22 @@
 -- What laws alone speak of is never forgotten, and each request is remembered for one connection.
-use Rattle.std.proofs.Common.{
-  ◌≡◌,
-  ◌≤◌,
-  ℕ,
-  ◌+◌,
-  Bool,
-  true,
-  false,
-  cond,
-  Option,
-  Some,
-  None,
-  List,
-  [],
-  ◌∷◌,
-  ◌++◌,
-  length,
-  length-append,
-  refl,
-  sym,
-  ap,
-  ◌∙◌,
-  ⊎_elim,
-  subst,
-  arith,
-}
+use Rattle.std.proofs.Common.{Bool, List, None, Option, Some, ap, arith, cond, false, length}
+use Rattle.std.proofs.Common.{length-append, refl, subst, sym, true, ℕ, ⊎_elim, [], ◌++◌, ◌+◌, ◌∙◌}
+use Rattle.std.proofs.Common.{◌∷◌, ◌≡◌, ◌≤◌}
 use Rattle.gb_base.specs.declared.entry.Entry.{Entry}
 use Rattle.gb_base.specs.declared.peers.Link.{Link}
 use Rattle.gb_base.specs.declared.steps.Purpose.{Purpose}
-use Rattle.gb_invariants.proofs.Awaiting.{same-some}
+use Rattle.gb_machine.specs.{Bus.Request, Host.link_at, HostActs.made_for, HostActs.with_awaited}
+use Rattle.gb_machine.specs.{LawsHotPlug.NoneForgotten, LawsHotPlug.RememberedForOne, Members.IsIn}
+use Rattle.gb_machine.specs.{Runs.Moment, Runs.after, Sending.requested}
+use Rattle.gb_machine.specs.{SequenceSteps.is_for_connection, State.State, State.first_state}
+use Rattle.gb_machine.specs.{Turns.Asking, Waits.awaits}
 use Rattle.gb_invariants.proofs.Lists.{each-from, in-front, in-pushed}
-use Rattle.gb_laws.proofs.Basics.{Based, basis-first, basis-kept, basis-throughout, rested}
-use Rattle.gb_laws.proofs.PointParts.{Basis, Point}
-use Rattle.gb_laws.proofs.Points.{
-  Change,
-  IsAskedBy,
-  Law,
-  awaited_by,
-  acts_asked,
-  asks,
-  by_far,
-  by_host,
-  changed,
-  names,
-  wires,
-}
+use Rattle.gb_invariants.proofs.Awaiting.{none-some, same-some}
+use Rattle.gb_laws.proofs.Basics.{Based, basis, basis-first, basis-throughout, rested}
+use Rattle.gb_laws.proofs.Points.{Change, IsAskedBy, Law, acts_asked, asks, awaited_by, by_far}
+use Rattle.gb_laws.proofs.Points.{by_host, changed, names, upon, wires}
 use Rattle.gb_laws.proofs.Runs.{HoldsAtMoments, HoldsByMoments, Keeps, at_each, throughout, weaker}
-use Rattle.gb_laws.proofs.Steps.{over-step}
-use Rattle.gb_machine.specs.Bus.{Request}
-use Rattle.gb_machine.specs.Host.{link_at}
-use Rattle.gb_machine.specs.HostActs.{made_for, with_awaited}
-use Rattle.gb_machine.specs.LawsHotPlug.{NoneForgotten, RememberedForOne}
-use Rattle.gb_machine.specs.Members.{IsIn}
-use Rattle.gb_machine.specs.Runs.{Moment, after}
-use Rattle.gb_machine.specs.Sending.{requested}
-use Rattle.gb_machine.specs.SequenceSteps.{is_for_connection}
-use Rattle.gb_machine.specs.State.{State, first_state}
-use Rattle.gb_machine.specs.Turns.{Asking}
-use Rattle.gb_machine.specs.Waits.{awaits}
+use Rattle.gb_laws.proofs.{PointParts.Point, Steps.over-step}
 
 -- ---- what was wired
 
@@ -86,11 +45,8 @@ wired-stays m a (acts_asked q n rest is) h =
 wired-stays m a _ h = h
 
 abbrev pub stays_law : (m : Moment) → Law m
-stays_law m = record {
-  holds = λ a. Basis a × StaysWired m a.state;
-  basis = λ a h. h.0;
-  kept = λ a x h. (basis-kept m a x h.0, wired-stays m a x h.1);
-}
+stays_law m =
+    upon (basis m) (λ a. StaysWired m a.state) (λ a x g h. wired-stays m a x h)
 
 -- Which connections were ever wired is never forgotten.
 pub none-forgotten_at : HoldsAtMoments NoneForgotten
@@ -112,18 +68,18 @@ abbrev pub RemembersAt : Point → Type 0
 RemembersAt a = Remembers (length a.state.bus.requests) a.state.past.made_for a.asked
 
 -- a request more
-remembers-more : (count : ℕ) (pairs : List (ℕ × ℕ)) (asked : Option (Asking × ℕ))
+remembers-more : {count : ℕ} {pairs : List (ℕ × ℕ)} {asked : Option (Asking × ℕ)}
     → Remembers count pairs asked → Remembers (count + 1) pairs asked
-remembers-more count pairs asked h = record {
+remembers-more h = record {
   below = λ n k i. let low = h.below n k i in omega (arith, low);
   one = h.one;
   fresh = λ q n e. let f = h.fresh q n e in (let low = f.0 in omega (arith, low), f.1);
 }
 
 -- for which a sequence is to wait
-remembers-asked : (count : ℕ) (pairs : List (ℕ × ℕ)) (asked : Option (Asking × ℕ)) (q : Asking)
+remembers-asked : {count : ℕ} {pairs : List (ℕ × ℕ)} (asked : Option (Asking × ℕ)) (q : Asking)
     → Remembers count pairs asked → Remembers (count + 1) pairs (Some (q, count + 1))
-remembers-asked count pairs asked q h = record {
+remembers-asked {count} asked q h = record {
   below = λ n k i. let low = h.below n k i in omega (arith, low);
   one = h.one;
   fresh = λ x n e.
@@ -131,62 +87,53 @@ remembers-asked count pairs asked q h = record {
       (omega (arith, is), λ k i. let low = h.below n k i in absurd (omega (arith, low, is)));
 }
 
-pub nothing-asked : (w : Asking × ℕ) → None ≡ Some w → ⊥
-nothing-asked w e = absurd cc
-
 -- none is waited for any more
-remembers-rest : (count : ℕ) (pairs : List (ℕ × ℕ)) (asked : Option (Asking × ℕ))
+remembers-rest : {count : ℕ} {pairs : List (ℕ × ℕ)} {asked : Option (Asking × ℕ)}
     → Remembers count pairs asked → Remembers count pairs None
-remembers-rest count pairs asked h = record {
+remembers-rest h = record {
   below = h.below;
   one = h.one;
-  fresh = λ q n e. absurd (nothing-asked (q, n) e);
+  fresh = λ q n e. absurd (none-some e);
 }
 
 -- a request is remembered
-remembers-pair : (count : ℕ) (pairs : List (ℕ × ℕ)) (asked : Option (Asking × ℕ)) (q : Asking)
+remembers-pair : {count : ℕ} {pairs : List (ℕ × ℕ)} (asked : Option (Asking × ℕ)) (q : Asking)
     (n k : ℕ) → asked ≡ Some (q, n) → Remembers count pairs asked
     → Remembers count (pairs ++ (n, k) ∷ []) None
-remembers-pair count pairs asked q n k is h = record {
+remembers-pair {pairs} asked q n k is h = record {
   below = λ m j i. ⊎_elim (λ o. h.below m j o)
       (λ e. let low = (h.fresh q n is).0 in omega (arith, low, ap (λ (w : ℕ × ℕ). w.0) e))
       (in-pushed (m, j) pairs (n, k) i);
-  one = λ m j i a b. ⊎_elim
-      (λ o. ⊎_elim (λ o'. h.one m j i o o')
-      (λ e. absurd ((h.fresh q n is).1 j
+  one = λ m j i a b. ⊎_elim (λ o. ⊎_elim (λ o'. h.one m j i o o') (λ e. absurd ((h.fresh q n is).1 j
       (subst (λ x. IsIn (x, j) pairs) (ap (λ (w : ℕ × ℕ). w.0) e) o)))
-      (in-pushed (m, i) pairs (n, k) b))
-      (λ e. ⊎_elim
-      (λ o'. absurd ((h.fresh q n is).1 i
+      (in-pushed (m, i) pairs (n, k) b)) (λ e. ⊎_elim (λ o'. absurd ((h.fresh q n is).1 i
       (subst (λ x. IsIn (x, i) pairs) (ap (λ (w : ℕ × ℕ). w.0) e) o')))
       (λ e'. ap (λ (w : ℕ × ℕ). w.1) e ∙ sym (ap (λ (w : ℕ × ℕ). w.1) e'))
       (in-pushed (m, i) pairs (n, k) b)) (in-pushed (m, j) pairs (n, k) a);
-  fresh = λ x j e. absurd (nothing-asked (x, j) e);
+  fresh = λ x j e. absurd (none-some e);
 }
 
 -- ---- each single change
 
-remembers-sent : (asked : Option (Asking × ℕ)) (pairs : List (ℕ × ℕ)) (rs : List Request)
+remembers-sent : {asked : Option (Asking × ℕ)} {pairs : List (ℕ × ℕ)} (rs : List Request)
     (r : Request) → Remembers (length rs + 1) pairs asked
     → Remembers (length (rs ++ r ∷ [])) pairs asked
-remembers-sent asked pairs rs r h =
+remembers-sent {asked} {pairs} rs r h =
     subst (λ n. Remembers n pairs asked) (sym (length-append rs (r ∷ []))) h
 
 pub remembers-kept : (m : Moment) (a : Point) (x : Change m a) → RemembersAt a
     → RemembersAt (changed m a x)
 remembers-kept m a (asks d c label free live drawn who) h =
-    remembers-sent (awaited_by m a c d who) a.state.past.made_for a.state.bus.requests
-    (requested d label) (by who)
+    remembers-sent a.state.bus.requests (requested d label) (by who)
   where
     by : (w : IsAskedBy m a c d)
         → Remembers (length a.state.bus.requests + 1) a.state.past.made_for (awaited_by m a c d w)
     by (by_host q rest is draft none) =
-        remembers-asked (length a.state.bus.requests) a.state.past.made_for a.asked q h
+        remembers-asked a.asked q h
     by (by_far far on) =
-        remembers-more (length a.state.bus.requests) a.state.past.made_for a.asked h
+        remembers-more h
 remembers-kept m a (names name d c label free live drawn host) h =
-    remembers-sent a.asked a.state.past.made_for a.state.bus.requests (requested d label)
-    (remembers-more (length a.state.bus.requests) a.state.past.made_for a.asked h)
+    remembers-sent a.state.bus.requests (requested d label) (remembers-more h)
 remembers-kept m a (acts_asked q n rest is) h =
     by (is_for_connection q.purpose.step)
     (link_at q.purpose.intf q.purpose.cport (awaits q.purpose n a.state.host))
@@ -197,19 +144,14 @@ remembers-kept m a (acts_asked q n rest is) h =
     by : (t : Bool) (o : Option Link) → Kept (cond t
         (made_for n o (record a.state { host = awaits q.purpose n a.state.host }))
         (record a.state { host = awaits q.purpose n a.state.host }))
-    by true None = remembers-rest (length a.state.bus.requests) a.state.past.made_for a.asked h
+    by true None = remembers-rest h
     by true (Some l) =
-        remembers-pair (length a.state.bus.requests) a.state.past.made_for a.asked q n l.connection
-        is.1 h
-    by false o = remembers-rest (length a.state.bus.requests) a.state.past.made_for a.asked h
+        remembers-pair a.asked q n l.connection is.1 h
+    by false o = remembers-rest h
 remembers-kept m a _ h = h
 
 abbrev pub remembers_law : (m : Moment) → Law m
-remembers_law m = record {
-  holds = λ a. Basis a × RemembersAt a;
-  basis = λ a h. h.0;
-  kept = λ a x h. (basis-kept m a x h.0, remembers-kept m a x h.1);
-}
+remembers_law m = upon (basis m) RemembersAt (λ a x g h. remembers-kept m a x h)
 
 abbrev pub RemembersTo : List Entry → State → Type 0
 RemembersTo told s =
@@ -221,7 +163,7 @@ remembers-first = (
   record {
     below = λ n k i. absurd i;
     one = λ n k j i. absurd i;
-    fresh = λ q n e. absurd (nothing-asked (q, n) e);
+    fresh = λ q n e. absurd (none-some e);
   },
 )
 

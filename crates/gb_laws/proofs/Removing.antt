@@ -1,81 +1,34 @@
 -- Once the removal of an interface is handled, it is absent.
-use Rattle.gb_laws.proofs.LinkLists.{none-of}
-use Rattle.std.proofs.Common.{
-  ◌≡◌,
-  ℕ,
-  Bool,
-  true,
-  false,
-  cond,
-  Option,
-  Some,
-  None,
-  List,
-  [],
-  ◌∷◌,
-  ◌++◌,
-  refl,
-  sym,
-  ap,
-  ◌∙◌,
-  subst,
-}
-use Rattle.std.specs.Prelude.{Result, Ok, Err}
-use Rattle.gb_base.specs.declared.end.End.{End}
-use Rattle.gb_base.specs.declared.end.Side.{Side}
+use Rattle.std.proofs.Common.{Bool, List, None, Option, Some, ap, cond, false, refl, subst, sym}
+use Rattle.std.proofs.Common.{true, ℕ, [], ◌++◌, ◌∙◌, ◌∷◌, ◌≡◌}
+use Rattle.std.specs.Prelude.{Err, Ok, Result}
+use Rattle.gb_base.specs.declared.end.{End.End, Side.Side}
 use Rattle.gb_base.specs.declared.end.Side.TheVariants as side
 use Rattle.gb_base.specs.declared.entry.Entry.{Entry}
 use Rattle.gb_base.specs.declared.entry.Entry.TheVariants as entry
 use Rattle.gb_base.specs.declared.entry.IntfStage.TheVariants as stage
 use Rattle.gb_base.specs.declared.event.Event.TheVariants as event
 use Rattle.gb_base.specs.declared.peers.Link.{Link}
-use Rattle.gb_formats.specs.Records.{PayloadFault}
-use Rattle.gb_formats.specs.SvcRecords.{SvcAsk, read_svc_ask_of_svc}
-use Rattle.gb_invariants.proofs.Awaiting.{not-both, same-some}
-use Rattle.gb_laws.proofs.Noticing.{unnoticed}
-use Rattle.gb_laws.proofs.Places.{place-is}
-use Rattle.gb_machine.proofs.Opened.{machine_opened}
+use Rattle.gb_formats.specs.{Records.PayloadFault, SvcRecords.SvcAsk}
+use Rattle.gb_formats.specs.{SvcRecords.read_svc_ask_of_svc}
+use Rattle.gb_machine.proofs.{Opened.machine_opened, Steps.deliver-allowed}
 use Rattle.gb_machine.specs.Actions.{each, given, on_bus, tell, ◌▸◌}
-use Rattle.gb_machine.specs.Arriving.{
-  arrives,
-  asked_at,
-  delivers_at,
-  dropped,
-  handles,
-  link_takes,
-  takes,
-}
-use Rattle.gb_machine.specs.Bus.{
-  Ask,
-  Connection,
-  Item,
-  Place,
-  Request,
-  end_of,
-  place_of,
-  queue,
-  request_of,
-}
-use Rattle.gb_machine.specs.Delivery.{popped}
-use Rattle.gb_machine.specs.Events.{decided, step}
+use Rattle.gb_machine.specs.Arriving.{arrives, asked_at, delivers_at, dropped, handles, link_takes}
+use Rattle.gb_machine.specs.Arriving.{takes}
+use Rattle.gb_machine.specs.Bus.{Ask, Connection, Item, Place, Request, end_of, place_of, queue}
+use Rattle.gb_machine.specs.Bus.{request_of}
 use Rattle.gb_machine.specs.Host.{Host, interface_of, is_intf, link_of}
-use Rattle.gb_machine.specs.HostActs.{acts}
-use Rattle.gb_machine.specs.HostServing.{
-  HostServed,
-  host_notices,
-  host_serves,
-  notified_by,
-  served_on,
-}
+use Rattle.gb_machine.specs.HostServing.{HostServed, host_notices, host_serves, notified_by}
+use Rattle.gb_machine.specs.HostServing.{served_on}
 use Rattle.gb_machine.specs.HostTurns.{links_left, links_of, without_interface}
-use Rattle.gb_machine.specs.Incoming.{Incoming, incoming}
-use Rattle.gb_machine.proofs.Steps.{deliver-allowed}
-use Rattle.gb_machine.specs.Lists.{first}
-use Rattle.gb_machine.specs.Refusals.{is_end_unplugged, refusal}
 use Rattle.gb_machine.specs.Responding.{host_served, replies, responds, serves_oneway}
-use Rattle.gb_machine.specs.Runs.{Moment, after}
-use Rattle.gb_machine.specs.State.{State}
-use Rattle.gb_machine.specs.Turns.{Act, HostEvent}
+use Rattle.gb_machine.specs.{Delivery.popped, Events.decided, Events.step, HostActs.acts}
+use Rattle.gb_machine.specs.{Incoming.Incoming, Incoming.incoming, Lists.first}
+use Rattle.gb_machine.specs.{Refusals.is_end_unplugged, Refusals.refusal, Runs.Moment, Runs.after}
+use Rattle.gb_machine.specs.{State.State, Turns.Act, Turns.HostEvent}
+use Rattle.gb_invariants.proofs.Awaiting.{none-some, not-both, same-some}
+use Rattle.gb_invariants.proofs.Found.{none-of}
+use Rattle.gb_laws.proofs.{MarkNotices.unnoticed, Places.place-is}
 
 -- ---- what is noticed is answered with success
 
@@ -84,9 +37,6 @@ serves-notice : (k kind : ℕ) (payload : List ℕ) (h : Host) (e : HostEvent)
     → host_serves k kind payload h ≡ host_notices e h
 serves-notice k kind payload h e n = by (link_of k h) n
   where
-    none-some : None ≡ Some e → ⊥
-    none-some f = absurd cc
-
     read : (r : Result SvcAsk PayloadFault) → (notified_by r h).notices ≡ Some e
         → notified_by r h ≡ host_notices e h
     read (Err fault) f = absurd (none-some f)
@@ -144,9 +94,6 @@ removed-handles c n i r s none made served = by (takes side.Ap c s) (ap link_tak
         → (given o (λ r. asked_at side.Ap c (Ask n) (incoming n r))
         s).state.host ≡ without_interface i s.host
     arrived None e = absurd (none-some e)
-      where
-        none-some : None ≡ Some r → ⊥
-        none-some f = absurd cc
     arrived (Some x) e =
         subst (λ y. (asked_at side.Ap c (Ask n) (incoming n y) s).state.host ≡ without_interface i
         s.host) (sym (same-some x r e))
@@ -178,8 +125,7 @@ pub ap-free : (m : Moment) (at : End) (p : Place) (item : Item)
     → place_of at m.before.bus.connections ≡ Some p → p.side ≡ side.Ap
     → first (queue p.side p.connection) ≡ Some item → refusal m.before (event.Deliver at) ≡ None
 ap-free m at p item named ap_side front =
-    deliver-allowed m.before at p item
-    (subst (λ e. is_end_unplugged e m.before ≡ false)
+    deliver-allowed m.before at p item (subst (λ e. is_end_unplugged e m.before ≡ false)
     (sym (ap (λ s. end_of s p.connection) ap_side)
     ∙ (place-is at m.before.bus.connections p named).is) refl) named front
 
@@ -187,11 +133,9 @@ ap-free m at p item named ap_side front =
 pub removed-absent : (m : Moment) (at : End) (p : Place) (n i : ℕ) (r : Request)
     → m.event ≡ event.Deliver at → place_of at m.before.bus.connections ≡ Some p
     → p.side ≡ side.Ap → first (queue p.side p.connection) ≡ Some (Ask n)
-    → request_of n m.before.bus ≡ Some r
-    → link_of p.connection.number m.before.host ≡ None
+    → request_of n m.before.bus ≡ Some r → link_of p.connection.number m.before.host ≡ None
     → (host_serves p.connection.number r.kind r.payload m.before.host).notices ≡ Some
-    (HostEvent.Removed i)
-    → interface_of i (after m).host ≡ None
+    (HostEvent.Removed i) → interface_of i (after m).host ≡ None
 removed-absent m at p n i r is named ap_side front made none notices =
     ap (λ (s : State). interface_of i s.host)
     (delivered-state m at p (Ask n) is named front (ap-free m at p (Ask n) named ap_side front))
@@ -200,11 +144,9 @@ removed-absent m at p n i r is named ap_side front made none notices =
     s1 : State
     s1 = record m.before { bus = popped p.connection.number p.side m.before.bus }
 
-    by : (s : Side) → s ≡ side.Ap
-        → (handles s p.connection (Ask n)
-        (record m.before {
-          bus = popped p.connection.number p.side m.before.bus;
-        })).state.host ≡ without_interface i m.before.host
+    by : (s : Side) → s ≡ side.Ap → (handles s p.connection (Ask n) (record m.before {
+      bus = popped p.connection.number p.side m.before.bus;
+    })).state.host ≡ without_interface i m.before.host
     by side.Ap e = removed-handles p.connection n i r
         (record m.before { bus = popped p.connection.number p.side m.before.bus }) none made
         (serves-notice p.connection.number r.kind r.payload m.before.host (HostEvent.Removed i)

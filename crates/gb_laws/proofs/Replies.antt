@@ -1,39 +1,27 @@
 -- A reply that waits on a clean connection is awaited, and the application processor takes nothing
 -- where its side is closed.
-use Rattle.std.proofs.Common.{◌≡◌, true, false, Some, List, [], sym, ap, ◌∙◌, subst}
+use Rattle.std.proofs.Common.{List, Some, ap, false, subst, sym, true, [], ◌∙◌, ◌≡◌}
 use Rattle.gb_base.specs.declared.end.Side.TheVariants as side
 use Rattle.gb_base.specs.declared.entry.Entry.{Entry}
-use Rattle.gb_invariants.proofs.Awaiting.{not-both}
-use Rattle.gb_invariants.proofs.Lists.{each-from}
-use Rattle.gb_invariants.specs.Facts.{IsAnswerable}
-use Rattle.gb_laws.proofs.LinkedFrom.{Linked}
-use Rattle.gb_laws.proofs.LinkLists.{found-link}
-use Rattle.gb_laws.proofs.LinkRuns.{LinkedTo, linked-throughout}
-use Rattle.gb_laws.proofs.Links.{IsKnown, leaving, linked, supervisory}
-use Rattle.gb_laws.proofs.Runs.{HoldsByMoments, weaker}
-use Rattle.gb_machine.specs.Arriving.{link_takes, takes}
-use Rattle.gb_machine.specs.Bus.{Ask, Bus, Connection, Item, Raw, RawReply, Reply}
-use Rattle.gb_machine.specs.Host.{link_of}
+use Rattle.gb_machine.specs.Bus.{Bus, Connection, Item, Reply}
 use Rattle.gb_machine.specs.LawsBus.{AreAwaited, HaveAwaited, IsAwaited}
-use Rattle.gb_machine.specs.Members.{IsIn}
-use Rattle.gb_machine.specs.State.{State}
+use Rattle.gb_machine.specs.{Arriving.link_takes, Arriving.takes, Host.link_of, Members.IsIn}
+use Rattle.gb_machine.specs.{State.State}
+use Rattle.gb_invariants.proofs.{Awaiting.not-both, Lists.each-from, Selves.far-no-ap}
+use Rattle.gb_invariants.specs.Facts.{IsAnswerable}
+use Rattle.gb_laws.proofs.Links.{IsKnown, leaving, linked, supervisory}
+use Rattle.gb_laws.proofs.{LinkFrom.Linked, LinkLists.found-link, LinkRuns.LinkedTo}
+use Rattle.gb_laws.proofs.{LinkRuns.linked-throughout, Runs.HoldsByMoments, Runs.weaker}
 
 awaited-ap : (b : Bus) (c : Connection) (item : Item) → IsAnswerable b c side.Ap item
     → c.clean ≡ true → c.shut ≡ false → IsAwaited b item
 awaited-ap b c (Reply n result payload) h clean open_ = h.due clean (λ e. open_)
-awaited-ap b c (Ask n) h clean open_ = tt
-awaited-ap b c (Raw bytes) h clean open_ = tt
-awaited-ap b c (RawReply label kind result payload) h clean open_ = tt
+awaited-ap b c _ h clean open_ = tt
 
 awaited-far : (b : Bus) (c : Connection) (item : Item) → IsAnswerable b c side.Far item
     → c.clean ≡ true → IsAwaited b item
-awaited-far b c (Reply n result payload) h clean = h.due clean (λ e. absurd (other e))
-  where
-    other : side.Far ≡ side.Ap → ⊥
-    other e = absurd cc
-awaited-far b c (Ask n) h clean = tt
-awaited-far b c (Raw bytes) h clean = tt
-awaited-far b c (RawReply label kind result payload) h clean = tt
+awaited-far b c (Reply n result payload) h clean = h.due clean (λ e. absurd (far-no-ap e))
+awaited-far b c _ h clean = tt
 
 -- a side that is closed takes nothing
 shut-deaf : (s : State) (c : Connection) → Linked s.bus s.host [] → IsIn c s.bus.connections

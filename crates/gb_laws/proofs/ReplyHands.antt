@@ -1,92 +1,28 @@
 -- What is asked and what was replied, where an item is in hand.
-use Rattle.std.proofs.Common.{
-  ◌≡◌,
-  ◌≤◌,
-  ℕ,
-  ◌+◌,
-  Bool,
-  true,
-  false,
-  cond,
-  Option,
-  Some,
-  None,
-  List,
-  [],
-  ◌∷◌,
-  ◌++◌,
-  map,
-  refl,
-  sym,
-  ap,
-  ◌∙◌,
-  subst,
-  arith,
-}
-use Rattle.std.specs.Prelude.{Result, Ok, Err, ◌==◌, option_map}
+use Rattle.std.proofs.Common.{Bool, List, None, Option, Some, ap, arith, cond, false, map, refl}
+use Rattle.std.proofs.Common.{subst, sym, true, ℕ, [], ◌++◌, ◌+◌, ◌∙◌, ◌∷◌, ◌≡◌, ◌≤◌}
+use Rattle.std.specs.Prelude.{Err, Ok, Result, option_map, ◌==◌}
 use Rattle.gb_base.specs.declared.end.Side.{Side}
 use Rattle.gb_base.specs.declared.entry.Entry.{Entry}
 use Rattle.gb_base.specs.declared.entry.Entry.TheVariants as entry
 use Rattle.gb_base.specs.declared.fault.RawFault.{RawFault}
-use Rattle.gb_formats.specs.Message.{Message}
-use Rattle.gb_formats.specs.Wire.{raw_message}
-use Rattle.gb_invariants.proofs.Awaiting.{same-some, sent-request}
-use Rattle.gb_invariants.proofs.Counts.{
-  in-weaker,
-  one,
-  replied-counts,
-  sent-counts,
-  times-append,
-  times-cons,
-}
-use Rattle.gb_invariants.proofs.OneItem.{none-unmade}
-use Rattle.gb_invariants.proofs.Outcomes.{same-number}
-use Rattle.gb_invariants.specs.Facts.{Loose, times_in}
-use Rattle.gb_laws.proofs.BasisParts.{loose_of}
-use Rattle.gb_laws.proofs.Points.{changed, replies}
-use Rattle.gb_laws.proofs.PointParts.{
-  AreQuiet,
-  Basis,
-  Hand,
-  Point,
-  asked_told,
-  is_quiet,
-  loose,
-  loose_hand,
-  loose_held,
-  sent_told,
-}
+use Rattle.gb_formats.specs.{Message.Message, Wire.raw_message}
 use Rattle.gb_machine.proofs.Lists.{nth-past}
-use Rattle.gb_machine.specs.Bus.{
-  Ask,
-  Bus,
-  Connection,
-  Item,
-  Raw,
-  RawReply,
-  Reply,
-  Request,
-  next_number,
-  other_side,
-  request_of,
-}
-use Rattle.gb_machine.specs.Incoming.{
-  Incoming,
-  incoming,
-  incoming_raw,
-  is_request,
-  raw_request,
-  reply_entry,
-  reply_item,
-  request_in,
-}
-use Rattle.gb_machine.specs.LawsBus.{is_item_of}
-use Rattle.gb_machine.specs.LawsEnds.{is_reply_of}
-use Rattle.gb_machine.specs.Members.{Each, times}
-use Rattle.gb_machine.specs.Runs.{Moment}
-use Rattle.gb_machine.specs.Sending.{Draft, sent}
-use Rattle.gb_machine.specs.Serving.{Answer}
-use Rattle.gb_machine.specs.SvcQueues.{is_ask}
+use Rattle.gb_machine.specs.Bus.{Ask, Bus, Connection, Item, Raw, RawReply, Reply, Request}
+use Rattle.gb_machine.specs.Bus.{next_number, other_side, request_of}
+use Rattle.gb_machine.specs.Incoming.{Incoming, incoming, incoming_raw, is_request, raw_request}
+use Rattle.gb_machine.specs.Incoming.{reply_entry, reply_item, request_in}
+use Rattle.gb_machine.specs.{LawsBus.is_item_of, LawsEnds.is_reply_of, Members.Each, Members.times}
+use Rattle.gb_machine.specs.{Runs.Moment, Sending.Draft, Sending.sent, Serving.Answer}
+use Rattle.gb_machine.specs.{SvcQueues.is_ask}
+use Rattle.gb_invariants.proofs.Awaiting.{none-some, same-some, sent-request}
+use Rattle.gb_invariants.proofs.Counts.{in-weaker, one, replied-counts, sent-counts, times-append}
+use Rattle.gb_invariants.proofs.Counts.{times-cons}
+use Rattle.gb_invariants.proofs.{OneItem.none-unmade, Outcomes.same-number}
+use Rattle.gb_invariants.specs.Facts.{Loose, times_in}
+use Rattle.gb_laws.proofs.PointParts.{AreQuiet, Basis, Hand, Point, asked_told, is_quiet, loose}
+use Rattle.gb_laws.proofs.PointParts.{loose_hand, loose_held, sent_told}
+use Rattle.gb_laws.proofs.{BasisParts.loose_of, Points.changed, Points.replies}
 
 -- ---- what is asked, and what was replied
 
@@ -138,17 +74,12 @@ once-fewer a after es told quiet stays fewer h = record {
       where
         by : (o : Option Request) → request_of n a.state.bus ≡ o → request_of n a.state.bus ≡ None
         by None e = e
-        by (Some r) e = absurd (clash (sym none ∙ stays n r e))
-          where
-            clash : None ≡ Some r → ⊥
-            clash f = absurd cc
+        by (Some r) e = absurd (none-some (sym none ∙ stays n r e))
 
 -- an item that asks a request has its number
 asks-item : (n : ℕ) (item : Item) → is_ask n item ≡ true → is_item_of n item ≡ true
 asks-item n (Ask k) h = h
-asks-item n (Reply k result payload) h = absurd cc
-asks-item n (Raw bytes) h = absurd cc
-asks-item n (RawReply label kind result payload) h = absurd cc
+asks-item n _ h = absurd cc
 
 -- where a request is made
 pub once-asked : (a : Point) (after : Point) (d : Draft) (c : Connection) (label : ℕ) → Basis a
@@ -171,8 +102,7 @@ once-asked a after d c label basis hand held bus told h = record { once = once; 
 
     is : (n : ℕ) → asked_times n after ≡ times_in (is_ask n) (loose a) (sent d label a.state.bus)
     is n = ap (λ x. times_in (is_ask n) (loose_hand after.hand (map loose_held after.state.held)) x)
-        bus
-        ∙ ap (λ x. times_in (is_ask n) (loose_hand after.hand (map loose_held x))
+        bus ∙ ap (λ x. times_in (is_ask n) (loose_hand after.hand (map loose_held x))
         (sent d label a.state.bus)) held
         ∙ ap (λ x. times_in (is_ask n) (loose_hand x (map loose_held a.state.held))
         (sent d label a.state.bus)) (sym hand)
@@ -182,11 +112,8 @@ once-asked a after d c label basis hand held bus told h = record { once = once; 
       where
         by : (o : Option Request) → request_of n a.state.bus ≡ o → request_of n a.state.bus ≡ None
         by None e = e
-        by (Some r) e = absurd (clash (sym none ∙ ap (request_of n) bus
+        by (Some r) e = absurd (none-some (sym none ∙ ap (request_of n) bus
             ∙ sent-request d label a.state.bus n r e))
-          where
-            clash : None ≡ Some r → ⊥
-            clash f = absurd cc
 
     made : (n : ℕ) → request_of n after.state.bus ≡ None → times (is_reply_of n) after.told ≡ 0
     made n none = same n ∙ h.made n (old n none)
@@ -232,9 +159,9 @@ pub record RepliesTo (n : ℕ) (item reply : Item) (told : Entry) (b : Bus) : Ty
   pub made : request_of n b ≡ None → one (is_ask n) item ≡ 0
 
 replies-to : (n : ℕ) (at : Side) (c : Connection) (item : Item) (q : Incoming) (r : Answer)
-    (b : Bus) → request_in item b ≡ Some q
+    {b : Bus} → request_in item b ≡ Some q
     → RepliesTo n item (reply_item q r) (reply_entry at c q r) b
-replies-to n at c (Ask k) q r b made = by (request_of k b) refl made
+replies-to n at c (Ask k) q r {b} made = by (request_of k b) refl made
   where
     by : (o : Option Request) → request_of k b ≡ o → option_map (incoming k) o ≡ Some q
         → RepliesTo n (Ask k) (reply_item q r) (reply_entry at c q r) b
@@ -249,12 +176,9 @@ replies-to n at c (Ask k) q r b made = by (request_of k b) refl made
       where
         unmade : request_of n b ≡ None → (t : Bool) → (k == n) ≡ t → one (is_ask n) (Ask k) ≡ 0
         unmade none false g = ap (λ t. cond t (0 + 1) 0) g
-        unmade none true g = absurd (clash
+        unmade none true g = absurd (none-some
             (sym none ∙ ap (λ j. request_of j b) (sym (same-number k n g)) ∙ e))
-          where
-            clash : None ≡ Some x → ⊥
-            clash i = absurd cc
-replies-to n at c (Raw bytes) q r b made = by (raw_message bytes) made
+replies-to n at c (Raw bytes) q r {b} made = by (raw_message bytes) made
   where
     by : (o : Result Message RawFault) → raw_request o ≡ Some q
         → RepliesTo n (Raw bytes) (reply_item q r) (reply_entry at c q r) b
@@ -268,8 +192,8 @@ replies-to n at c (Raw bytes) q r b made = by (raw_message bytes) made
             subst (λ z. RepliesTo n (Raw bytes) (reply_item z r) (reply_entry at c z r) b)
             (same-some (incoming_raw x) q f)
             (record { asks_none = refl; tells = refl; made = λ none. refl })
-replies-to n at c (Reply k result payload) q r b made = absurd cc
-replies-to n at c (RawReply label kind result payload) q r b made = absurd cc
+replies-to n at c (Reply k result payload) q r made = absurd cc
+replies-to n at c (RawReply label kind result payload) q r made = absurd cc
 
 -- what is asked where something is in hand
 asked-in-hand : (a : Point) (x : Hand) (n : ℕ) → a.hand ≡ Some x
@@ -286,14 +210,14 @@ pub once-replied : (m : Moment) (a : Point) (x : Hand) (q : Incoming) (r : Answe
     → RepliesOnce (changed m a (replies x q r is made twoway))
 once-replied m a x q r is made twoway h = record {
   once = λ n.
-      let t = replies-to n x.side x.connection x.item q r a.state.bus made in
+      let t = replies-to n x.side x.connection x.item q r made in
       let less = replied-counts (is_ask n) (map loose_held a.state.held) x.connection.number
       (other_side x.side) (reply_item q r) a.state.bus in
       let c = h.once n in
       let told = times-append (is_reply_of n) a.told (reply_entry x.side x.connection q r ∷ []) in
       omega (arith, less, t.asks_none, t.tells, c, asked-in-hand a x n is, told);
   made = λ n none.
-      let t = replies-to n x.side x.connection x.item q r a.state.bus made in
+      let t = replies-to n x.side x.connection x.item q r made in
       let z = h.made n none in
       let told = times-append (is_reply_of n) a.told (reply_entry x.side x.connection q r ∷ []) in
       omega (arith, t.tells, t.made none, z, told);

@@ -1,103 +1,32 @@
 -- Each request is replied to once at most: it is asked in one item, or its reply was told.
-use Rattle.std.proofs.Common.{
-  ◌≡◌,
-  ◌≤◌,
-  ℕ,
-  true,
-  false,
-  Option,
-  Some,
-  None,
-  List,
-  [],
-  ◌∷◌,
-  map,
-  refl,
-  sym,
-  ap,
-  ◌∙◌,
-  subst,
-  append-nil,
-  arith,
-}
+use Rattle.std.proofs.Common.{List, None, Option, Some, ap, append-nil, arith, false, map, refl}
+use Rattle.std.proofs.Common.{subst, sym, true, ℕ, [], ◌∙◌, ◌∷◌, ◌≡◌, ◌≤◌}
 use Rattle.std.specs.Prelude.{◌==◌}
+use Rattle.gb_base.specs.declared.end.End.TheVariants as end
 use Rattle.gb_base.specs.declared.end.Side.TheVariants as side
 use Rattle.gb_base.specs.declared.entry.Entry.{Entry}
-use Rattle.gb_invariants.proofs.Counts.{
-  attached-counts,
-  changed-counts,
-  detached-counts,
-  injected-counts,
-  popped-counts,
-  times-cons,
-}
+use Rattle.gb_machine.specs.{Bus.request_of, Holding.held_on, HostActs.with_awaited}
+use Rattle.gb_machine.specs.{LawsEnds.EndOnce, Lists.nth, Lists.without, Members.Each, Members.IsIn}
+use Rattle.gb_machine.specs.{Requests.open_on, Runs.Moment, State.State, SvcQueues.is_ask}
+use Rattle.gb_machine.specs.{Wires.disconnected_told, Wiring.unwired}
+use Rattle.gb_invariants.proofs.Counts.{attached-counts, changed-counts, detached-counts}
+use Rattle.gb_invariants.proofs.Counts.{injected-counts, popped-counts, times-cons}
 use Rattle.gb_invariants.proofs.Numbers.{found-by_number}
 use Rattle.gb_invariants.specs.Facts.{Loose, times_in}
-use Rattle.gb_laws.proofs.Awaited.{awaited-rest}
-use Rattle.gb_laws.proofs.Basics.{basis-first, basis-kept, rested}
-use Rattle.gb_laws.proofs.BasisParts.{loose_of, taken-is}
-use Rattle.gb_laws.proofs.Ended.{ends-throughout}
-use Rattle.gb_laws.proofs.Loosening.{
-  Fewer,
-  fewer-held,
-  fewer-tail,
-  fewer-taken,
-  fewer-without,
-  held-at,
-}
-use Rattle.gb_laws.proofs.Places.{module-far, place-is}
-use Rattle.gb_laws.proofs.Points.{
-  Change,
-  Law,
-  acts_asked,
-  acts_failed,
-  acts_left,
-  acts_opened,
-  acts_shut,
-  acts_told,
-  answers,
-  asks,
-  changed,
-  drops,
-  forgets,
-  gives_up,
-  holds,
-  injects,
-  names,
-  replies,
-  takes,
-  takes_held,
-  tells,
-  unwires,
-  wires,
-}
+use Rattle.gb_laws.proofs.Basics.{basis, basis-first, rested}
+use Rattle.gb_laws.proofs.Loosening.{Fewer, fewer-held, fewer-tail, fewer-taken, fewer-without}
+use Rattle.gb_laws.proofs.Loosening.{held-at}
 use Rattle.gb_laws.proofs.PointParts.{Basis, Hand, Point, loose, loose_hand, loose_held, resting}
-use Rattle.gb_laws.proofs.Runs.{HoldsByMoments, throughout}
-use Rattle.gb_laws.proofs.Steps.{over-step}
-use Rattle.gb_laws.proofs.Silent.{silent-quiet}
-use Rattle.gb_machine.specs.Bus.{request_of}
-use Rattle.gb_base.specs.declared.end.End.TheVariants as end
-use Rattle.gb_machine.specs.Holding.{held_on}
-use Rattle.gb_machine.specs.HostActs.{with_awaited}
-use Rattle.gb_machine.specs.LawsEnds.{EndOnce}
-use Rattle.gb_machine.specs.Lists.{nth, without}
-use Rattle.gb_machine.specs.Requests.{open_on}
-use Rattle.gb_machine.specs.Wires.{disconnected_told}
-use Rattle.gb_machine.specs.Wiring.{unwired}
-use Rattle.gb_machine.specs.Members.{Each, IsIn}
-use Rattle.gb_machine.specs.Runs.{Moment}
-use Rattle.gb_machine.specs.State.{State}
-use Rattle.gb_machine.specs.SvcQueues.{is_ask}
-use Rattle.gb_laws.proofs.ReplyHands.{
-  IsNoReply,
-  RepliesOnce,
-  asked_times,
-  once-asked,
-  once-fewer,
-  once-replied,
-  quiet-no-replies,
-  quiet-no-reply,
-}
+use Rattle.gb_laws.proofs.Points.{Change, Law, acts_asked, acts_failed, acts_left, acts_opened}
+use Rattle.gb_laws.proofs.Points.{acts_shut, acts_told, answers, asks, changed, drops, forgets}
+use Rattle.gb_laws.proofs.Points.{gives_up, holds, injects, names, replies, takes, takes_held}
+use Rattle.gb_laws.proofs.Points.{tells, unwires, upon, wires}
+use Rattle.gb_laws.proofs.ReplyHands.{IsNoReply, RepliesOnce, asked_times, once-asked, once-fewer}
+use Rattle.gb_laws.proofs.ReplyHands.{once-replied, quiet-no-replies, quiet-no-reply}
+use Rattle.gb_laws.proofs.{Awaited.awaited-rest, BasisParts.loose_of, BasisParts.taken-is}
+use Rattle.gb_laws.proofs.{Ended.ends-throughout, Places.module-far, Places.place-is}
+use Rattle.gb_laws.proofs.{Runs.HoldsByMoments, Runs.throughout, Silent.silent-quiet}
+use Rattle.gb_laws.proofs.{Steps.over-step}
 
 -- ---- the law of points
 
@@ -116,8 +45,7 @@ fewer-hand : (a : Point) (x : Hand) → a.hand ≡ Some x
     → Fewer (map loose_held a.state.held) (loose a)
 fewer-hand a x is =
     subst (λ o. Fewer (map loose_held a.state.held) (loose_hand o (map loose_held a.state.held)))
-    (sym is)
-    (fewer-tail (loose_of x) (map loose_held a.state.held))
+    (sym is) (fewer-tail (loose_of x))
 
 fewer-dropped : (a : Point) → Fewer (map loose_held a.state.held) (loose a)
 fewer-dropped a = by a.hand refl
@@ -126,12 +54,6 @@ fewer-dropped a = by a.hand refl
     by None e = subst (λ o. Fewer (map loose_held a.state.held)
         (loose_hand o (map loose_held a.state.held))) (sym e) (fewer-same _)
     by (Some x) e = fewer-hand a x e
-
--- what isn't in hand
-fewer-free : (a : Point) (later : List Loose) → a.hand ≡ None
-    → Fewer later (map loose_held a.state.held) → Fewer later (loose a)
-fewer-free a later free f =
-    subst (λ o. Fewer later (loose_hand o (map loose_held a.state.held))) (sym free) f
 
 ended-no-replies : (ns : List ℕ) → Each IsNoReply (map disconnected_told ns)
 ended-no-replies [] = tt
@@ -223,7 +145,7 @@ once-kept m a (acts_opened w q rest free is) basis h =
     (λ n. let same = attached-counts (is_ask n) (loose a) a.state.bus w.ap w.intf w.cport w.protocol
     in omega (arith, same)) h
 once-kept m a (acts_asked q k rest is) basis h =
-    let r = awaited-rest q.purpose k a.state in
+    let r = awaited-rest q.purpose k in
     once-fewer a _ [] refl tt (λ n x made. ap (request_of n) r.bus ∙ made)
     (λ n. let same = ap (λ b. times_in (is_ask n)
     (loose_hand a.hand (map loose_held (with_awaited q.purpose k a.state).held)) b) r.bus in
@@ -238,11 +160,7 @@ once-kept m a _ basis h =
 -- ---- the law
 
 abbrev once_law : (m : Moment) → Law m
-once_law m = record {
-  holds = λ a. Basis a × RepliesOnce a;
-  basis = λ a h. h.0;
-  kept = λ a x h. (basis-kept m a x h.0, once-kept m a x h.0 h.1);
-}
+once_law m = upon (basis m) RepliesOnce (λ a x g h. once-kept m a x g h)
 
 -- the basis, and that each request is replied to once
 abbrev pub OnceAt : List Entry → State → Type 0

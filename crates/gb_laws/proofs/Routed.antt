@@ -1,15 +1,11 @@
 -- What is wired is routed.
-use Rattle.std.proofs.Common.{◌≡◌, ◌≢◌, true, [], sym, subst}
+use Rattle.std.proofs.Common.{subst, sym, true, [], ◌≡◌, ◌≢◌}
+use Rattle.gb_machine.specs.{Bus.Connection, LawsSvc.AreRouted, LawsSvc.IsRouted, Members.IsIn}
+use Rattle.gb_machine.specs.{State.State}
 use Rattle.gb_invariants.proofs.Lists.{each-from}
-use Rattle.gb_laws.proofs.LinkedFrom.{Linked}
 use Rattle.gb_laws.proofs.Links.{IsKnown, leaving, linked, supervisory}
-use Rattle.gb_laws.proofs.Runs.{HoldsByMoments, weaker}
-use Rattle.gb_laws.proofs.WiredRuns.{WiredTo, wired-throughout}
-use Rattle.gb_laws.proofs.WiredWell.{WiredFit}
-use Rattle.gb_machine.specs.Bus.{Connection}
-use Rattle.gb_machine.specs.LawsSvc.{AreRouted, IsRouted}
-use Rattle.gb_machine.specs.Members.{IsIn}
-use Rattle.gb_machine.specs.State.{State}
+use Rattle.gb_laws.proofs.{LinkFrom.Linked, Runs.HoldsByMoments, Runs.weaker, WiredRuns.WiredTo}
+use Rattle.gb_laws.proofs.{WiredRuns.wired-throughout, WiredWell.WiredFit}
 
 routed-at : (s : State) → Linked s.bus s.host [] → WiredFit s → (c : Connection)
     → IsIn c s.bus.connections → c.wired ≡ true → c.number ≢ 1 → IsRouted s c.peer

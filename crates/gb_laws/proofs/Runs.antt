@@ -1,18 +1,10 @@
 -- From one moment to all runs of moments.
-use Rattle.std.proofs.Common.{List, [], ◌∷◌, ◌++◌, sym, subst, append-nil, append_assoc}
+use Rattle.std.proofs.Common.{List, append-nil, append_assoc, subst, sym, [], ◌++◌, ◌∷◌}
 use Rattle.gb_base.specs.declared.entry.Entry.{Entry}
 use Rattle.gb_base.specs.declared.event.Event.{Event}
 use Rattle.gb_machine.specs.Events.{last_state, step, trace_from}
-use Rattle.gb_machine.specs.Runs.{
-  AreMoments,
-  IsMoment,
-  Moment,
-  after,
-  state_by,
-  told_at,
-  told_by,
-  told_in,
-}
+use Rattle.gb_machine.specs.Runs.{AreMoments, IsMoment, Moment, after, state_by, told_at, told_by}
+use Rattle.gb_machine.specs.Runs.{told_in}
 use Rattle.gb_machine.specs.State.{State, first_state}
 
 -- A fact of what was told and of the state holds after every run of moments.
@@ -50,8 +42,7 @@ pub throughout : (Fact : List Entry → State → Type 0) → Fact [] first_stat
 throughout Fact start keeps es are = from Fact keeps es [] first_state are start
 
 -- What follows at a moment from a fact that holds throughout holds at each moment.
-pub at_each : (Fact : List Entry → State → Type 0) (Says : Moment → Type 0)
-    → HoldsByMoments Fact
+pub at_each : (Fact : List Entry → State → Type 0) (Says : Moment → Type 0) → HoldsByMoments Fact
     → ((m : Moment) → IsMoment m.event → Fact m.told m.before → Says m) → HoldsAtMoments Says
 at_each Fact Says holds says es e are one = says (moment es e) one (holds es are)
 

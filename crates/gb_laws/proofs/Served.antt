@@ -1,29 +1,18 @@
 -- What the application processor may serve: it takes notice of an insertion or a removal and stays
 -- as it is, or of nothing, and what it tells is quiet.
-use Rattle.std.proofs.Common.{◌≡◌, ℕ, Bool, true, false, cond, Option, Some, None, List, refl}
-use Rattle.std.specs.Prelude.{Result, Ok, Err, ◌==◌}
+use Rattle.std.proofs.Common.{Bool, List, None, Option, Some, cond, false, refl, true, ℕ, ◌≡◌}
+use Rattle.std.specs.Prelude.{Err, Ok, Result, ◌==◌}
 use Rattle.gb_base.specs.declared.entry.Entry.{Entry}
 use Rattle.gb_base.specs.declared.peers.Link.{Link}
-use Rattle.gb_formats.specs.GpioRecords.{GpioAsk, read_gpio_ask_of_module}
-use Rattle.gb_formats.specs.Records.{PayloadFault}
-use Rattle.gb_formats.specs.SvcRecords.{SvcAsk, read_svc_ask_of_svc}
-use Rattle.gb_formats.specs.UartDevice.{credits_added}
-use Rattle.gb_formats.specs.UartRecords.{UartAsk, read_uart_ask_of_module}
+use Rattle.gb_formats.specs.{GpioRecords.GpioAsk, GpioRecords.read_gpio_ask_of_module}
+use Rattle.gb_formats.specs.{Records.PayloadFault, SvcRecords.SvcAsk}
+use Rattle.gb_formats.specs.{SvcRecords.read_svc_ask_of_svc, UartDevice.credits_added}
+use Rattle.gb_formats.specs.{UartRecords.UartAsk, UartRecords.read_uart_ask_of_module}
+use Rattle.gb_machine.specs.HostServing.{HostServed, credited, host_refuses, host_serves}
+use Rattle.gb_machine.specs.HostServing.{interrupted, notified_by, served_on}
+use Rattle.gb_machine.specs.HostServing.{uart_notified_by}
+use Rattle.gb_machine.specs.{Host.Host, Host.link_of, Turns.HostEvent}
 use Rattle.gb_laws.proofs.PointParts.{is_silent}
-use Rattle.gb_machine.specs.Host.{Host, link_of}
-use Rattle.gb_machine.specs.HostServing.{
-  HostServed,
-  credited,
-  host_refuses,
-  host_serves,
-  interrupted,
-  notified_by,
-  served_on,
-  serves_gpio,
-  serves_uart,
-  uart_notified_by,
-}
-use Rattle.gb_machine.specs.Turns.{HostEvent}
 
 -- what is told, if anything, is quiet
 abbrev pub IsQuietly : Option Entry → Type 0
@@ -39,10 +28,10 @@ pub data ServedAs (h : Host) (r : HostServed) : Type 0 where
       → ServedAs h r
 
 -- one of two
-served-if : (h : Host) (b : Bool) (x y : HostServed) → ServedAs h x → ServedAs h y
+served-if : (h : Host) (b : Bool) {x y : HostServed} → ServedAs h x → ServedAs h y
     → ServedAs h (cond b x y)
-served-if h true x y p q = p
-served-if h false x y p q = q
+served-if h true p q = p
+served-if h false p q = q
 
 refused : (h : Host) (result : ℕ) → ServedAs h (host_refuses result h)
 refused h result = plainly tt refl
@@ -51,9 +40,7 @@ served-svc : (h : Host) (r : Result SvcAsk PayloadFault) → ServedAs h (notifie
 served-svc h (Err fault) = refused h _
 served-svc h (Ok (SvcAsk.ModuleInserted i count flags)) = inserting i refl refl refl
 served-svc h (Ok (SvcAsk.ModuleRemoved i)) = removing i refl refl refl
-served-svc h (Ok (SvcAsk.ProtocolVersion major minor)) = plainly tt refl
-served-svc h (Ok (SvcAsk.Hello endo intf)) = plainly tt refl
-served-svc h (Ok _) = plainly tt refl
+served-svc h _ = plainly tt refl
 
 served-gpio : (h : Host) (l : Link) (r : Result GpioAsk PayloadFault)
     → ServedAs h (interrupted l r h)
@@ -80,7 +67,6 @@ served k kind payload h = by (link_of k h)
     by : (o : Option Link) → ServedAs h (served_on o kind payload h)
     by None = served-svc h (read_svc_ask_of_svc kind payload)
     by (Some l) =
-        served-if h (l.protocol == 0x02) (serves_gpio l kind payload h) _
-        (served-gpio h l (read_gpio_ask_of_module kind payload))
-        (served-if h (l.protocol == 0x04) (serves_uart l kind payload h) (host_refuses _ h)
+        served-if h (l.protocol == 0x02) (served-gpio h l (read_gpio_ask_of_module kind payload))
+        (served-if h (l.protocol == 0x04)
         (served-uart h l (read_uart_ask_of_module kind payload)) (refused h _))

@@ -1,27 +1,22 @@
 -- The connection that a request to the supervisory controller speaks of.
-use Rattle.std.proofs.Common.{◌≡◌, ℕ, Bool, false, Some, List, refl}
+use Rattle.std.proofs.Common.{Bool, List, Some, false, refl, ℕ, ◌≡◌}
 use Rattle.std.specs.Prelude.{◌==◌}
 use Rattle.gb_base.specs.declared.end.End.{End}
 use Rattle.gb_base.specs.declared.end.End.TheVariants as end
-use Rattle.gb_invariants.proofs.Lists.{found-in}
-use Rattle.gb_invariants.proofs.Outcomes.{both-true, same-number}
-use Rattle.gb_laws.proofs.Places.{same_end-is}
-use Rattle.gb_laws.proofs.Points.{IsLive, IsServing, PortsFrom}
 use Rattle.gb_machine.specs.Bus.{Bus, Connection, connection_of, same_end}
-use Rattle.gb_machine.specs.Incoming.{Incoming}
-use Rattle.gb_machine.specs.Members.{IsIn}
-use Rattle.gb_machine.specs.Ports.{unrouted}
-use Rattle.gb_machine.specs.Runs.{Moment}
-use Rattle.gb_machine.specs.State.{Port, State}
 use Rattle.gb_machine.specs.SvcTable.{Answered, Create, Destroy, SvcServed, Unroute, svc_step}
 use Rattle.gb_machine.specs.Wiring.{is_wired_to, joining, joins}
+use Rattle.gb_machine.specs.{Incoming.Incoming, Members.IsIn, Ports.unrouted, Runs.Moment}
+use Rattle.gb_machine.specs.{State.Port, State.State}
+use Rattle.gb_invariants.proofs.{Lists.found-in, Outcomes.both-true, Outcomes.same-number}
+use Rattle.gb_laws.proofs.Points.{IsLive, IsServing, PortsFrom}
+use Rattle.gb_laws.proofs.Places.{same_end-is}
 
 -- ---- the connection that a request to the supervisory controller speaks of
 
 -- it is live, and at a module
 pub joining-live : (a i c : ℕ) (b : Bus) (x : Connection) (t : Bool) → joining a i c b ≡ Some x
-    → x.wired ≡ t
-    → (l : IsLive x.number t b) × (l.intf ≡ i) × (l.cport ≡ c) × (l.connection.ap ≡ a)
+    → x.wired ≡ t → (l : IsLive x.number t b) × (l.intf ≡ i) × (l.cport ≡ c) × (l.connection.ap ≡ a)
 joining-live a i c b x t h w =
     let f = found-in (joins a i c) b.connections x h in
     let p = both-true (x.ap == a) (same_end x.peer (end.Module i c)) f.1 in (

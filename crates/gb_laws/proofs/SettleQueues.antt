@@ -1,64 +1,22 @@
 -- The first end at which something waits is one at which a delivery isn't refused.
-use Rattle.std.proofs.Common.{
-  ◌≡◌,
-  ◌≢◌,
-  ℕ,
-  Bool,
-  true,
-  false,
-  cond,
-  Some,
-  None,
-  List,
-  [],
-  ◌∷◌,
-  ◌++◌,
-  refl,
-  sym,
-  ap,
-  ◌∙◌,
-  inl,
-  inr,
-  ⊎_elim,
-  subst,
-}
-use Rattle.std.specs.Prelude.{◌==◌, ◌&&◌, option_map}
-use Rattle.gb_base.specs.declared.end.End.{End}
+use Rattle.std.proofs.Common.{Bool, List, None, Some, ap, cond, false, inl, inr, refl, subst, sym}
+use Rattle.std.proofs.Common.{true, ℕ, ⊎_elim, [], ◌++◌, ◌∙◌, ◌∷◌, ◌≡◌, ◌≢◌}
+use Rattle.std.specs.Prelude.{option_map, ◌&&◌, ◌==◌}
+use Rattle.gb_base.specs.declared.end.{End.End, Side.Side}
 use Rattle.gb_base.specs.declared.end.End.TheVariants as end
-use Rattle.gb_base.specs.declared.end.Side.{Side}
 use Rattle.gb_base.specs.declared.end.Side.TheVariants as side
 use Rattle.gb_base.specs.declared.event.Event.TheVariants as event
-use Rattle.gb_invariants.proofs.Awaiting.{not-both, same-some}
-use Rattle.gb_invariants.proofs.Lists.{each-in, in-append}
-use Rattle.gb_invariants.proofs.Outcomes.{is-same, same-number}
-use Rattle.gb_laws.proofs.LinkLists.{in-ordered}
-use Rattle.gb_laws.proofs.Places.{same_end-is}
 use Rattle.gb_machine.proofs.Steps.{deliver-allowed}
-use Rattle.gb_machine.specs.Bus.{
-  Connection,
-  Item,
-  Place,
-  end_of,
-  or_else,
-  place_of,
-  queue,
-  same_end,
-  side_at,
-}
-use Rattle.gb_machine.specs.LawsBus.{AreApart}
-use Rattle.gb_machine.specs.Lists.{first, sorted}
-use Rattle.gb_machine.specs.Members.{EachTwo, IsIn}
-use Rattle.gb_machine.specs.Refusals.{is_end_unplugged, refusal}
-use Rattle.gb_machine.specs.State.{State}
-use Rattle.gb_machine.specs.Waiting.{
-  Queue,
-  first_waiting,
-  queue_before,
-  queues,
-  queues_in,
-  queues_of,
-  unless_empty,
-}
+use Rattle.gb_machine.specs.Bus.{Connection, Item, Place, end_of, or_else, place_of, queue}
+use Rattle.gb_machine.specs.Bus.{same_end, side_at}
+use Rattle.gb_machine.specs.Waiting.{Queue, first_waiting, queue_before, queues, queues_in}
+use Rattle.gb_machine.specs.Waiting.{queues_of, unless_empty}
+use Rattle.gb_machine.specs.{LawsBus.AreApart, Lists.first, Lists.sorted, Members.EachTwo}
+use Rattle.gb_machine.specs.{Members.IsIn, Refusals.is_end_unplugged, Refusals.refusal, State.State}
+use Rattle.gb_invariants.proofs.{Awaiting.not-both, Awaiting.same-some, Found.in-ordered}
+use Rattle.gb_invariants.proofs.{Lists.each-in, Lists.in-append, Outcomes.is-same}
+use Rattle.gb_invariants.proofs.{Outcomes.same-number}
+use Rattle.gb_laws.proofs.Places.{same_end-is}
 
 -- a far end isn't the application processor
 abbrev pub IsFarEnd : End → Type 0
@@ -92,8 +50,7 @@ of-connection c cs q i = by c.wired refl i
         (cond t (unless_empty (end.Ap c.ap) c.to_ap ++ unless_empty c.peer c.to_far) [])
         → IsQueueOf q (c ∷ cs)
     by false e j = absurd j
-    by true e j = ⊎_elim
-        (λ k. let u = unless-of (end.Ap c.ap) c.to_ap q k in
+    by true e j = ⊎_elim (λ k. let u = unless-of (end.Ap c.ap) c.to_ap q k in
         record {
           connection = c;
           side = side.Ap;
@@ -102,19 +59,16 @@ of-connection c cs q i = by c.wired refl i
           at = u.0;
           item = u.1.0;
           front = u.1.1;
-        })
-        (λ k. let u = unless-of c.peer c.to_far q k in
+        }) (λ k. let u = unless-of c.peer c.to_far q k in
         record {
           connection = c;
           side = side.Far;
           live = inl refl;
           wired = e;
           at = u.0;
-          item =
-              u.1.0;
+          item = u.1.0;
           front = u.1.1;
-        })
-        (in-append q (unless_empty (end.Ap c.ap) c.to_ap) (unless_empty c.peer c.to_far) j)
+        }) (in-append q (unless_empty (end.Ap c.ap) c.to_ap) (unless_empty c.peer c.to_far) j)
 
 queue-of : (cs : List Connection) (q : Queue) → IsIn q (queues_in cs) → IsQueueOf q cs
 queue-of [] q i = absurd i
@@ -127,8 +81,7 @@ queue-of (c ∷ cs) q i = ⊎_elim (λ k. of-connection c cs q k)
       at = r.at;
       item = r.item;
       front = r.front;
-    })
-    (in-append q (queues_of c) (queues_in cs) i)
+    }) (in-append q (queues_of c) (queues_in cs) i)
 
 in-sorted : (qs : List Queue) (q : Queue) → IsIn q (sorted queue_before qs) → IsIn q qs
 in-sorted [] q i = i
@@ -185,8 +138,7 @@ own-side c side.Far wired far =
     ap (λ t. cond (t && same_end c.peer (end.Ap c.ap)) (Some side.Ap)
     (cond (t && same_end c.peer c.peer) (Some side.Far) None)) wired
     ∙ ap (λ t. cond t (Some side.Ap) (cond (same_end c.peer c.peer) (Some side.Far) None))
-    (far-not-ap c.peer c.ap far)
-    ∙ ap (λ t. cond t (Some side.Far) None) (end-self c.peer)
+    (far-not-ap c.peer c.ap far) ∙ ap (λ t. cond t (Some side.Far) None) (end-self c.peer)
 
 -- no side of another connection is there
 no-side : (at : End) (x : Connection) → same_end at (end.Ap x.ap) ≡ false
@@ -268,9 +220,7 @@ first-waits s at h e =
     ended c side.Far live wired = h.plugged c live wired
 
     free : (c : Connection) (d : Side) → IsIn c s.bus.connections → c.wired ≡ true → (x : Item)
-        → first (queue d c) ≡ Some x
-        → refusal s (event.Deliver (end_of d c)) ≡ None
+        → first (queue d c) ≡ Some x → refusal s (event.Deliver (end_of d c)) ≡ None
     free c d live wired x front =
         deliver-allowed s (end_of d c) (record { connection = c; side = d }) x
-        (ended c d live wired)
-        (place-found s.bus.connections c d h.apart h.far live wired) front
+        (ended c d live wired) (place-found s.bus.connections c d h.apart h.far live wired) front

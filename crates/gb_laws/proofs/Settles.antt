@@ -1,65 +1,27 @@
 -- A settle is its deliveries, where in each state of a run of moments nothing that waits is
 -- refused.
-use Rattle.std.proofs.Common.{
-  ◌≡◌,
-  ℕ,
-  zero,
-  suc,
-  ◌+◌,
-  Bool,
-  true,
-  false,
-  cond,
-  Option,
-  Some,
-  None,
-  List,
-  [],
-  ◌∷◌,
-  ◌++◌,
-  refl,
-  sym,
-  ap,
-  ◌∙◌,
-  subst,
-  append_assoc,
-  append-nil,
-}
-use Rattle.gb_base.specs.declared.end.End.{End}
+use Rattle.std.proofs.Common.{Bool, List, None, Option, Some, ap, append-nil, append_assoc, cond}
+use Rattle.std.proofs.Common.{false, refl, subst, suc, sym, true, zero, ℕ, [], ◌++◌, ◌+◌, ◌∙◌, ◌∷◌}
+use Rattle.std.proofs.Common.{◌≡◌}
+use Rattle.gb_base.specs.declared.end.{End.End, Side.Side}
 use Rattle.gb_base.specs.declared.end.End.TheVariants as end
-use Rattle.gb_base.specs.declared.end.Side.{Side}
 use Rattle.gb_base.specs.declared.end.Side.TheVariants as side
 use Rattle.gb_base.specs.declared.entry.Entry.{Entry}
 use Rattle.gb_base.specs.declared.entry.Entry.TheVariants as entry
 use Rattle.gb_base.specs.declared.event.Event.{Event}
 use Rattle.gb_base.specs.declared.event.Event.TheVariants as event
 use Rattle.gb_formats.specs.ValidEvents.{IsEnd, IsValid}
-use Rattle.gb_invariants.proofs.Lists.{each-append}
-use Rattle.gb_laws.proofs.SettleQueues.{IsDeliverable, first-waits}
 use Rattle.gb_machine.proofs.Opened.{machine_opened}
-use Rattle.gb_machine.specs.Arriving.{delivers}
-use Rattle.gb_machine.specs.Bus.{Connection, end_of}
 use Rattle.gb_machine.specs.Events.{decided, last_state, step, trace_from}
-use Rattle.gb_machine.specs.Members.{IsIn}
-use Rattle.gb_machine.specs.Refusals.{refusal}
-use Rattle.gb_machine.specs.Runs.{
-  AreMoments,
-  AreValid,
-  IsMoment,
-  SettlesAreDeliveries,
-  deliveries,
-  delivery_then,
-  happenings,
-  is_happening,
-  moments_of,
-  state_by,
-  told_in,
-  unsettled,
-}
-use Rattle.gb_machine.specs.Settling.{settles_at, settles_from}
-use Rattle.gb_machine.specs.State.{State, first_state}
-use Rattle.gb_machine.specs.Waiting.{first_waiting}
-use Rattle.gb_laws.proofs.Runs.{HoldsByMoments}
+use Rattle.gb_machine.specs.Runs.{AreMoments, AreValid, IsMoment, SettlesAreDeliveries, deliveries}
+use Rattle.gb_machine.specs.Runs.{delivery_then, happenings, is_happening, moments_of, state_by}
+use Rattle.gb_machine.specs.Runs.{told_in, unsettled}
+use Rattle.gb_machine.specs.{Arriving.delivers, Bus.Connection, Bus.end_of, Members.IsIn}
+use Rattle.gb_machine.specs.{Refusals.refusal, Settling.settles_at, Settling.settles_from}
+use Rattle.gb_machine.specs.{State.State, State.first_state, Waiting.first_waiting}
+use Rattle.gb_invariants.proofs.Lists.{each-append}
+use Rattle.gb_laws.proofs.{Runs.HoldsByMoments, SettleQueues.IsDeliverable}
+use Rattle.gb_laws.proofs.{SettleQueues.first-waits}
 
 -- What a state has where each delivery of what waits is a valid event that isn't refused.
 pub record IsSettleable (s : State) : Type 0 where
@@ -127,20 +89,19 @@ delivered s at free = (
 )
 
 -- a moment does what it does
-itself : (e : Event) (s : State) → IsMoment e
+itself : (e : Event) {s : State} → IsMoment e
     → DoesAs (e ∷ []) s (step s e).state (step s e).entries
-itself e s one = record {
+itself e {s} one = record {
   moments = (one, tt);
   state = refl;
-  happens = ap happenings
-      (append-nil (step s e).entries);
+  happens = ap happenings (append-nil (step s e).entries);
 }
 
 -- a run behind another leads to what that leads to
-reach-all : (es : List Event) (s : State) → AreMoments es → Reached s
+reach-all : (es : List Event) {s : State} → AreMoments es → Reached s
     → Reached (last_state s (trace_from s es))
-reach-all [] s all r = r
-reach-all (e ∷ es) s all r = reach-all es (step s e).state all.1 (reach s e all.0 r)
+reach-all [] all r = r
+reach-all (e ∷ es) {s} all r = reach-all es all.1 (reach s e all.0 r)
 
 module _ (all : HoldsByMoments (λ told s. IsSettleable s)) where
   settleable : (s : State) → Reached s → IsSettleable s
@@ -192,36 +153,36 @@ module _ (all : HoldsByMoments (λ told s. IsSettleable s)) where
   one-does (event.Settle most) s valid r =
       let d = settle-does most 0 s r in
       record { moments = d.moments; state = d.state; happens = d.happens }
-  one-does event.Boot s valid r = itself event.Boot s valid
-  one-does (event.Insert i kind) s valid r = itself (event.Insert i kind) s valid
-  one-does (event.InsertRaw i manifest) s valid r = itself (event.InsertRaw i manifest) s valid
-  one-does (event.Pull i) s valid r = itself (event.Pull i) s valid
-  one-does (event.Connect i c) s valid r = itself (event.Connect i c) s valid
-  one-does (event.Disconnect i c) s valid r = itself (event.Disconnect i c) s valid
+  one-does event.Boot s valid r = itself event.Boot valid
+  one-does (event.Insert i kind) s valid r = itself (event.Insert i kind) valid
+  one-does (event.InsertRaw i manifest) s valid r = itself (event.InsertRaw i manifest) valid
+  one-does (event.Pull i) s valid r = itself (event.Pull i) valid
+  one-does (event.Connect i c) s valid r = itself (event.Connect i c) valid
+  one-does (event.Disconnect i c) s valid r = itself (event.Disconnect i c) valid
   one-does (event.Send name to kind payload timeout) s valid r =
-      itself (event.Send name to kind payload timeout) s valid
-  one-does (event.Bridge name i c what) s valid r = itself (event.Bridge name i c what) s valid
-  one-does (event.Level i c line value) s valid r = itself (event.Level i c line value) s valid
+      itself (event.Send name to kind payload timeout) valid
+  one-does (event.Bridge name i c what) s valid r = itself (event.Bridge name i c what) valid
+  one-does (event.Level i c line value) s valid r = itself (event.Level i c line value) valid
   one-does (event.SerialState i c control) s valid r =
-      itself (event.SerialState i c control) s valid
-  one-does (event.Deliver to) s valid r = itself (event.Deliver to) s valid
-  one-does (event.Hold i c) s valid r = itself (event.Hold i c) s valid
-  one-does (event.Answer i c place) s valid r = itself (event.Answer i c place) s valid
-  one-does (event.Cancel name) s valid r = itself (event.Cancel name) s valid
-  one-does (event.Copy x y) s valid r = itself (event.Copy x y) s valid
-  one-does (event.Forget name) s valid r = itself (event.Forget name) s valid
-  one-does (event.Tick millis) s valid r = itself (event.Tick millis) s valid
-  one-does (event.Inject i c bytes) s valid r = itself (event.Inject i c bytes) s valid
-  one-does event.Show s valid r = itself event.Show s valid
+      itself (event.SerialState i c control) valid
+  one-does (event.Deliver to) s valid r = itself (event.Deliver to) valid
+  one-does (event.Hold i c) s valid r = itself (event.Hold i c) valid
+  one-does (event.Answer i c place) s valid r = itself (event.Answer i c place) valid
+  one-does (event.Cancel name) s valid r = itself (event.Cancel name) valid
+  one-does (event.Copy x y) s valid r = itself (event.Copy x y) valid
+  one-does (event.Forget name) s valid r = itself (event.Forget name) valid
+  one-does (event.Tick millis) s valid r = itself (event.Tick millis) valid
+  one-does (event.Inject i c bytes) s valid r = itself (event.Inject i c bytes) valid
+  one-does event.Show s valid r = itself event.Show valid
 
-  run-does : (es : List Event) (s : State) → AreValid es → Reached s
+  run-does : (es : List Event) {s : State} → AreValid es → Reached s
       → DoesAs (unsettled s es) s (last_state s (trace_from s es)) (told_in (trace_from s es))
-  run-does [] s valid r = record { moments = tt; state = refl; happens = refl }
-  run-does (e ∷ es) s valid r =
+  run-does [] valid r = record { moments = tt; state = refl; happens = refl }
+  run-does (e ∷ es) {s} valid r =
       let d = one-does e s valid.0 r in
       let t = (step s e).state in
-      let rest = run-does es t valid.1
-      (subst Reached d.state (reach-all (moments_of e s) s d.moments r)) in record {
+      let rest = run-does es valid.1
+      (subst Reached d.state (reach-all (moments_of e s) d.moments r)) in record {
         moments = each-append IsMoment (moments_of e s) (unsettled t es) d.moments rest.moments;
         state = last-append (moments_of e s) (unsettled t es) s
             ∙ ap (λ u. last_state u (trace_from u (unsettled t es))) d.state ∙ rest.state;
@@ -238,5 +199,5 @@ module _ (all : HoldsByMoments (λ told s. IsSettleable s)) where
   -- moments.
   pub settles-if_settleable : SettlesAreDeliveries
   settles-if_settleable es valid =
-      let d = run-does es first_state valid (record { run = []; moments = tt; is = refl }) in
+      let d = run-does es valid (record { run = []; moments = tt; is = refl }) in
       record { moments = d.moments; state = d.state; told = d.happens }

@@ -1,21 +1,14 @@
 -- Every settle is its deliveries.
-use Rattle.std.proofs.Common.{◌≡◌, ◌≤◌, true, false, not, [], sym, ap, ◌∙◌, subst, arith}
+use Rattle.std.proofs.Common.{ap, arith, false, not, subst, sym, true, [], ◌∙◌, ◌≡◌, ◌≤◌}
 use Rattle.std.specs.Prelude.{not}
 use Rattle.gb_formats.specs.ValidEvents.{IsEnd}
-use Rattle.gb_laws.proofs.Endpoints.{apart-throughout}
-use Rattle.gb_laws.proofs.LinkedFrom.{Linked}
+use Rattle.gb_machine.specs.{Bus.Connection, LawsBus.AreApart, Members.EachTwo, Members.IsIn}
+use Rattle.gb_machine.specs.{Refusals.is_end_unplugged, Runs.SettlesAreDeliveries, State.State}
 use Rattle.gb_laws.proofs.Links.{IsKnown, leaving, linked, supervisory}
-use Rattle.gb_laws.proofs.Runs.{HoldsByMoments}
-use Rattle.gb_laws.proofs.SettleQueues.{IsFarEnd}
-use Rattle.gb_laws.proofs.Settles.{IsSettleable, settles-if_settleable}
-use Rattle.gb_laws.proofs.WiredRuns.{wired-throughout}
-use Rattle.gb_laws.proofs.WiredWell.{WiredFit}
-use Rattle.gb_machine.specs.Bus.{Connection}
-use Rattle.gb_machine.specs.LawsBus.{AreApart}
-use Rattle.gb_machine.specs.Members.{EachTwo, IsIn}
-use Rattle.gb_machine.specs.Refusals.{is_end_unplugged}
-use Rattle.gb_machine.specs.Runs.{SettlesAreDeliveries}
-use Rattle.gb_machine.specs.State.{State}
+use Rattle.gb_laws.proofs.{Endpoints.apart-throughout, LinkFrom.Linked, Runs.HoldsByMoments}
+use Rattle.gb_laws.proofs.{SettleQueues.IsFarEnd, Settles.IsSettleable}
+use Rattle.gb_laws.proofs.{Settles.settles-if_settleable, WiredRuns.wired-throughout}
+use Rattle.gb_laws.proofs.{WiredWell.WiredFit}
 
 -- what is known of the ends of a connection
 pub record EndsKnown (s : State) (c : Connection) : Type 0 where
@@ -55,8 +48,7 @@ settleable s apart links well = record {
   };
   ends = λ c live wired. (
     (ends-known s c links well live).ap,
-    (ends-known s c links well live).peer
-        wired,
+    (ends-known s c links well live).peer wired,
   );
 }
 

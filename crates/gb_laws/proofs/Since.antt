@@ -1,29 +1,12 @@
 -- What was told since a connection was opened.
-use Rattle.std.proofs.Common.{
-  ◌≡◌,
-  ℕ,
-  Bool,
-  true,
-  false,
-  cond,
-  List,
-  [],
-  ◌∷◌,
-  ◌++◌,
-  refl,
-  sym,
-  ap,
-  subst,
-  append_assoc,
-}
+use Rattle.std.proofs.Common.{Bool, List, ap, append_assoc, cond, false, refl, subst, sym, true, ℕ}
+use Rattle.std.proofs.Common.{[], ◌++◌, ◌∷◌, ◌≡◌}
 use Rattle.std.specs.Prelude.{◌==◌}
-use Rattle.gb_base.specs.declared.entry.ConnState.TheVariants as state
 use Rattle.gb_base.specs.declared.entry.Entry.{Entry}
+use Rattle.gb_base.specs.declared.entry.ConnState.TheVariants as state
 use Rattle.gb_base.specs.declared.entry.Entry.TheVariants as entry
-use Rattle.gb_invariants.proofs.Lists.{in-behind, in-front}
-use Rattle.gb_invariants.proofs.Outcomes.{is-same}
-use Rattle.gb_machine.specs.LawsHotPlug.{told_since}
-use Rattle.gb_machine.specs.Members.{IsIn}
+use Rattle.gb_machine.specs.{LawsHotPlug.told_since, Members.IsIn}
+use Rattle.gb_invariants.proofs.{Lists.in-behind, Lists.in-front, Outcomes.is-same}
 
 -- what an entry does to what was told since connection k was opened
 data Since (k : ℕ) (e : Entry) : Type 0 where

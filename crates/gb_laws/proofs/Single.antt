@@ -1,49 +1,19 @@
 -- Identifiers differ, each number is in one item, names name requests, and the counts add up.
-use Rattle.std.proofs.Common.{
-  ◌≡◌,
-  ◌≤◌,
-  ℕ,
-  ◌+◌,
-  Bool,
-  true,
-  false,
-  cond,
-  Option,
-  Some,
-  None,
-  List,
-  [],
-  ◌∷◌,
-  ◌++◌,
-  length,
-  map,
-  refl,
-  arith,
-}
+use Rattle.std.proofs.Common.{Bool, List, None, Option, Some, arith, cond, false, length, map, refl}
+use Rattle.std.proofs.Common.{true, ℕ, [], ◌++◌, ◌+◌, ◌∷◌, ◌≡◌, ◌≤◌}
 use Rattle.gb_base.specs.declared.outcome.Outcome.{Outcome}
 use Rattle.gb_base.specs.declared.outcome.Outcome.TheVariants as outcome
+use Rattle.gb_machine.specs.Bus.{Bus, Item, Request, outcome_of}
+use Rattle.gb_machine.specs.LawsBus.{HaveNamed, HaveOneItem, HaveOwnLabels, is_item_of}
+use Rattle.gb_machine.specs.Summary.{CountsAddUp, is_answered, is_cancelled, is_disconnected}
+use Rattle.gb_machine.specs.Summary.{is_sent, is_timed_out, is_unended, standing_from}
+use Rattle.gb_machine.specs.{Events.last_state, Events.trace, Holding.held_on, Holding.is_held_on}
+use Rattle.gb_machine.specs.{Members.times, State.Held, State.first_state}
 use Rattle.gb_invariants.proofs.Counts.{times-append, times-cons, total-some}
 use Rattle.gb_invariants.proofs.Lists.{each-from}
 use Rattle.gb_invariants.specs.Facts.{Loose, times_on}
-use Rattle.gb_laws.proofs.Basics.{Based, basis-throughout}
-use Rattle.gb_laws.proofs.PointParts.{loose_held}
-use Rattle.gb_laws.proofs.Runs.{HoldsByMoments, weaker}
-use Rattle.gb_machine.specs.Bus.{Bus, Item, Request, outcome_of}
-use Rattle.gb_machine.specs.Events.{last_state, trace}
-use Rattle.gb_machine.specs.Holding.{held_on, is_held_on}
-use Rattle.gb_machine.specs.LawsBus.{HaveNamed, HaveOneItem, HaveOwnLabels, is_item_of}
-use Rattle.gb_machine.specs.Members.{times}
-use Rattle.gb_machine.specs.State.{Held, first_state}
-use Rattle.gb_machine.specs.Summary.{
-  CountsAddUp,
-  is_answered,
-  is_cancelled,
-  is_disconnected,
-  is_sent,
-  is_timed_out,
-  is_unended,
-  standing_from,
-}
+use Rattle.gb_laws.proofs.{Basics.Based, Basics.basis-throughout, PointParts.loose_held}
+use Rattle.gb_laws.proofs.{Runs.HoldsByMoments, Runs.weaker}
 
 -- Identifiers that are in use differ.
 pub labels-by_moments : HoldsByMoments HaveOwnLabels
@@ -73,8 +43,7 @@ held-counted test k (h ∷ hs) = by (is_held_on k h) (held-counted test k hs)
     by false r = omega (
       arith,
       r,
-      times-cons (λ (l : Loose). test l.item) (loose_held h)
-          (map loose_held hs),
+      times-cons (λ (l : Loose). test l.item) (loose_held h) (map loose_held hs),
     )
 
 -- On a clean connection each number is in one item at most; so it is on others.

@@ -1,59 +1,23 @@
 -- What the facts on requests for connections that are known no more stand on.
-use Rattle.std.proofs.Common.{
-  ap,
-  arith,
-  length,
-  length-append,
-  refl,
-  subst,
-  sym,
-  ℕ,
-  ◌++◌,
-  ◌∙◌,
-  ◌∷◌,
-  ◌≡◌,
-  [],
-  ⊎_elim,
-}
+use Rattle.std.proofs.Common.{ap, arith, length, length-append, refl, subst, sym, ℕ, ⊎_elim, []}
+use Rattle.std.proofs.Common.{◌++◌, ◌∙◌, ◌∷◌, ◌≡◌}
 use Rattle.gb_base.specs.declared.end.End.{End}
-use Rattle.gb_base.specs.declared.end.Side.TheVariants as side
 use Rattle.gb_base.specs.declared.event.Event.TheVariants as event
-use Rattle.gb_invariants.proofs.Awaiting.{same-some}
-use Rattle.gb_laws.proofs.Answering.{keeps-requests}
-use Rattle.gb_laws.proofs.Awaited.{awaited-rest}
-use Rattle.gb_laws.proofs.AwaitsOwn.{WaitsOwn, own-kept}
-use Rattle.gb_laws.proofs.Enums.{AreStarts, enums}
-use Rattle.gb_laws.proofs.LinkRuns.{there_law}
-use Rattle.gb_laws.proofs.Linking.{InsertsAbsent, LinkedAt}
-use Rattle.gb_laws.proofs.Owning.{KeepsRequests}
-use Rattle.gb_laws.proofs.PairsKept.{PairsAt, pairs-kept}
-use Rattle.gb_laws.proofs.PointParts.{Basis, IsNoticed, Point}
-use Rattle.gb_laws.proofs.Points.{
-  Change,
-  IsOfSvc,
-  IsServing,
-  PortsFrom,
-  acts_asked,
-  as_before,
-  asks,
-  changed,
-  loses_route,
-  names,
-  others,
-  served,
-}
-use Rattle.gb_laws.proofs.RememberedLive.{RemembersSince, since-kept}
-use Rattle.gb_laws.proofs.Remembering.{RemembersAt, remembers-kept}
-use Rattle.gb_laws.proofs.Stale.{starts-moved}
-use Rattle.gb_laws.proofs.SvcMoves.{FarMoves, far-moves}
-use Rattle.gb_laws.proofs.SvcOrder.{SvcOrder, order-kept}
-use Rattle.gb_laws.proofs.There.{There}
 use Rattle.gb_machine.specs.Bus.{Bus, Place, Request, place_of}
-use Rattle.gb_machine.specs.Incoming.{Incoming}
-use Rattle.gb_machine.specs.Ports.{level_of}
-use Rattle.gb_machine.specs.Runs.{Moment}
-use Rattle.gb_machine.specs.Sending.{requested}
-use Rattle.gb_machine.specs.Turns.{HostEvent}
+use Rattle.gb_machine.specs.{Incoming.Incoming, Ports.level_of, Runs.Moment, Sending.requested}
+use Rattle.gb_machine.specs.{Turns.HostEvent}
+use Rattle.gb_invariants.proofs.{Awaiting.same-some, BusChanges.KeepsRequests, Selves.ap-no-far}
+use Rattle.gb_laws.proofs.PointParts.{Basis, IsNoticed, Point}
+use Rattle.gb_laws.proofs.Points.{Change, IsOfSvc, IsServing, PortsFrom, acts_asked, as_before}
+use Rattle.gb_laws.proofs.Points.{asks, changed, loses_route, names, others, served}
+use Rattle.gb_laws.proofs.{Awaited.awaited-rest, AwaitsOwn.WaitsOwn, AwaitsOwn.own-kept}
+use Rattle.gb_laws.proofs.{ChangeBuses.keeps-requests, Enums.AreStarts, Enums.enums}
+use Rattle.gb_laws.proofs.{LinkKept.InsertsAbsent, LinkKept.LinkedAt, LinkRuns.there_law}
+use Rattle.gb_laws.proofs.{PairsKept.PairsAt, PairsKept.pairs-kept, RememberedLive.RemembersSince}
+use Rattle.gb_laws.proofs.{RememberedLive.since-kept, Remembering.RemembersAt}
+use Rattle.gb_laws.proofs.{Remembering.remembers-kept, Stale.starts-moved, SvcMoves.FarMoves}
+use Rattle.gb_laws.proofs.{SvcMoves.far-moves, SvcOrder.SvcOrder, SvcOrder.order-kept}
+use Rattle.gb_laws.proofs.{SvcThere.There}
 
 -- what is known at a point, whatever is stale
 pub record StaleBase (m : Moment) (a : Point) : Type 0 where
@@ -76,8 +40,7 @@ base-kept m absent a x h =
       remembers = remembers-kept m a x h.remembers;
       since = since-kept m absent a x h.basis h.links h.remembers h.since;
       pairs = pairs-kept m a x h.links h.remembers h.pairs;
-      order = order-kept a (changed m a x).state.bus h.basis
-          (far-moves m a x h.basis h.links h.there) h.order;
+      order = order-kept a h.basis (far-moves m x h.basis h.links h.there) h.order;
       own = own-kept m a x h.links h.own;
     }
 
@@ -96,8 +59,7 @@ noticed-on : (m : Moment) (i : ℕ) (a b : Point) → Basis a → FarMoves a.sta
     → b.state.ports ≡ a.state.ports → NoticedStill m i a → NoticedStill m i b
 noticed-on m i a b basis moves keeps same ports h e n = (
   ap (level_of i) ports ∙ (h e n).0,
-  λ made all. starts-moved i a b.state.bus basis moves keeps same
-      ((h e n).1 (sym same ∙ made) all),
+  λ made all. starts-moved i a basis moves keeps same ((h e n).1 (sym same ∙ made) all),
 )
 
 -- one was made
@@ -123,10 +85,9 @@ noticed-kept m i a (names name d c label free live drawn host) f h =
     (requested d label) f.since refl refl h
 noticed-kept m i a (acts_asked q n rest is) f h =
     noticed-on m i a (changed m a (acts_asked q n rest is)) f.basis
-    (far-moves m a (acts_asked q n rest is) f.basis f.links f.there)
+    (far-moves m (acts_asked q n rest is) f.basis f.links f.there)
     (keeps-requests m a (acts_asked q n rest is))
-    (ap (λ (b : Bus). b.requests) (awaited-rest q.purpose n a.state).bus)
-    (awaited-rest q.purpose n a.state).ports h
+    (ap (λ (b : Bus). b.requests) (awaited-rest q.purpose n).bus) (awaited-rest q.purpose n).ports h
 noticed-kept m i a (others booted marks ports modules same) f h = λ e n.
     (⊎_elim (λ s. still e n s.1) (λ of. absurd (other n of.0)) same ∙ (h e n).0, (h e n).1)
   where
@@ -138,13 +99,10 @@ noticed-kept m i a (others booted marks ports modules same) f h = λ e n.
         let same = same-deliver n.at w.at (sym n.event ∙ w.event) in
         let place = same-some n.place w.place (sym n.named
         ∙ ap (λ e. place_of e m.before.bus.connections) same ∙ w.named) in
-        sides (sym n.side ∙ ap (λ (p : Place). p.side) place ∙ w.far)
+        ap-no-far (sym n.side ∙ ap (λ (p : Place). p.side) place ∙ w.far)
       where
         same-deliver : (x y : End) → event.Deliver x ≡ event.Deliver y → x ≡ y
         same-deliver x y e = cc
-
-        sides : side.Ap ≡ side.Far → ⊥
-        sides e = absurd cc
 
     still : (e : HostEvent) → IsNoticed m e → PortsFrom m a.state ports
         → level_of i ports ≡ level_of i a.state.ports
@@ -152,5 +110,5 @@ noticed-kept m i a (others booted marks ports modules same) f h = λ e n.
     still e n (served q w same) = absurd (apart n w)
     still e n (loses_route q j w is same none) = absurd (apart n w)
 noticed-kept m i a x f h =
-    noticed-on m i a (changed m a x) f.basis (far-moves m a x f.basis f.links f.there)
+    noticed-on m i a (changed m a x) f.basis (far-moves m x f.basis f.links f.there)
     (keeps-requests m a x) refl refl h

@@ -1,105 +1,48 @@
 -- While a request waits for a connection that is known no more, the power level of its interface is
 -- at most 1: where requests are made, and where a sequence waits for one.
-use Rattle.std.proofs.Common.{
-  Bool,
-  List,
-  None,
-  Option,
-  Some,
-  ap,
-  arith,
-  cond,
-  false,
-  inl,
-  refl,
-  subst,
-  sym,
-  true,
-  ℕ,
-  ◌<◌,
-  ◌∙◌,
-  ◌∷◌,
-  ◌≡◌,
-  ◌≤◌,
-  ⊎_elim,
-}
+use Rattle.std.proofs.Common.{Bool, List, None, Option, Some, ap, arith, cond, false, inl, refl}
+use Rattle.std.proofs.Common.{subst, sym, true, ℕ, ⊎_elim, ◌<◌, ◌∙◌, ◌∷◌, ◌≡◌, ◌≤◌}
 use Rattle.gb_base.specs.declared.end.Side.TheVariants as side
-use Rattle.gb_base.specs.declared.peers.Interface.{Interface}
-use Rattle.gb_base.specs.declared.peers.Link.{Link}
+use Rattle.gb_base.specs.declared.peers.{Interface.Interface, Link.Link}
 use Rattle.gb_base.specs.declared.steps.SequenceStep.{SequenceStep}
-use Rattle.gb_invariants.proofs.Awaiting.{same-some, sent-request}
-use Rattle.gb_invariants.proofs.Lists.{found-in, in-at_first, in-pushed}
-use Rattle.gb_laws.proofs.Answering.{keeps-requests}
-use Rattle.gb_laws.proofs.AskedWaits.{
-  AsksIn,
-  WaitsFewer,
-  asks_in,
-  is_power_step,
-  no-asks,
-  same-waits,
-}
-use Rattle.gb_laws.proofs.Awaited.{awaited-rest}
-use Rattle.gb_laws.proofs.EnumRequests.{formed-enumerates}
-use Rattle.gb_laws.proofs.Enums.{AreStarts, enums}
-use Rattle.gb_laws.proofs.LinkActs.{awaited-host, awaits-fits}
-use Rattle.gb_laws.proofs.LinkHosts.{Stay, stay-same}
-use Rattle.gb_laws.proofs.Links.{ArePending, IsFormed}
-use Rattle.gb_laws.proofs.Owning.{KeepsRequests}
-use Rattle.gb_laws.proofs.PointParts.{Point}
-use Rattle.gb_laws.proofs.Points.{acts_asked, changed}
-use Rattle.gb_laws.proofs.Stale.{
-  IsCool,
-  IsStale,
-  StaleAt,
-  cool-still,
-  due-still,
-  stale-back,
-  starts-moved,
-  starts-sent,
-}
-use Rattle.gb_laws.proofs.StaleBase.{StaleBase}
-use Rattle.gb_laws.proofs.SvcMoves.{FarMoves, far-moves, far-sent}
-use Rattle.gb_machine.specs.Bus.{next_number, request_of}
 use Rattle.gb_machine.specs.Host.{Host, is_intf, is_link, link_at, with_interface, with_link}
-use Rattle.gb_machine.specs.HostActs.{host_draft, made_for}
-use Rattle.gb_machine.specs.Members.{IsIn}
-use Rattle.gb_machine.specs.Ports.{level_of}
-use Rattle.gb_machine.specs.Runs.{Moment}
 use Rattle.gb_machine.specs.Sending.{Draft, requested, sent}
 use Rattle.gb_machine.specs.SequenceSteps.{asks_control, is_enumeration, is_for_connection, kind_of}
-use Rattle.gb_machine.specs.State.{Past, State}
-use Rattle.gb_machine.specs.SvcQueues.{is_enumeration_request}
-use Rattle.gb_machine.specs.Turns.{Act, Asking}
-use Rattle.gb_machine.specs.Waits.{awaits}
+use Rattle.gb_machine.specs.{Bus.next_number, Bus.request_of, HostActs.host_draft}
+use Rattle.gb_machine.specs.{HostActs.made_for, Members.IsIn, Ports.level_of, Runs.Moment}
+use Rattle.gb_machine.specs.{State.Past, State.State, SvcQueues.is_enumeration_request, Turns.Act}
+use Rattle.gb_machine.specs.{Turns.Asking, Waits.awaits}
+use Rattle.gb_invariants.proofs.Lists.{found-in, in-at_first, in-pushed}
+use Rattle.gb_invariants.proofs.{Awaiting.same-some, Awaiting.sent-request}
+use Rattle.gb_invariants.proofs.{BusChanges.KeepsRequests}
+use Rattle.gb_laws.proofs.AskedWaits.{AsksIn, WaitsFewer, asks_in, is_power_step, no-asks}
+use Rattle.gb_laws.proofs.AskedWaits.{same-waits}
+use Rattle.gb_laws.proofs.Stale.{IsCool, IsStale, StaleAt, cool-still, due-still, stale-back}
+use Rattle.gb_laws.proofs.Stale.{starts-moved, starts-sent}
+use Rattle.gb_laws.proofs.SvcMoves.{FarMoves, far-moves, far-sent}
+use Rattle.gb_laws.proofs.{Awaited.awaited-rest, ChangeBuses.keeps-requests}
+use Rattle.gb_laws.proofs.{EnumRequests.formed-enumerates, Enums.AreStarts, Enums.enums}
+use Rattle.gb_laws.proofs.{LinkActs.awaited-host, LinkActs.awaits-fits, LinkHosts.Stay}
+use Rattle.gb_laws.proofs.{LinkHosts.stay-same, Links.ArePending, Links.IsFormed, PointParts.Point}
+use Rattle.gb_laws.proofs.{Points.acts_asked, Points.changed, StaleBase.StaleBase}
 
 -- where a change makes no request and the application processor waits for no more
 
-pub cool-on : (m : Moment) (i : ℕ) (a b : Point) → StaleBase m a → FarMoves a.state.bus b.state.bus
+pub cool-on : (m : Moment) (i : ℕ) (a : Point) {b : Point} → StaleBase m a → FarMoves a.state.bus
+    b.state.bus
     → KeepsRequests a.state.bus b.state.bus → b.state.bus.requests ≡ a.state.bus.requests
     → b.state.past.made_for ≡ a.state.past.made_for → b.state.ports ≡ a.state.ports
     → Stay a.state.host.links b.state.host.links → WaitsFewer a.state.host b.state.host
     → b.asked ≡ a.asked → ((q : Asking) → AsksIn q b.pending → AsksIn q a.pending)
     → IsCool i a → IsCool i b
-cool-on m i a b f moves keeps same past ports stay fewer asked pending h =
-    cool-still i a b back (ap (level_of i) ports)
-    (λ n s. starts-moved i a b.state.bus f.basis moves keeps same) fewer
+cool-on m i a {b} f moves keeps same past ports stay fewer asked pending h =
+    cool-still i a back (ap (level_of i) ports)
+    (λ n s. starts-moved i a f.basis moves keeps same) fewer
     (due-still i a b back asked pending h) h
   where
     back : (n : ℕ) → StaleAt i n b → StaleAt i n a
     back n = stale-back i n a b moves f.remembers f.pairs keeps
         (λ k j u. subst (λ ps. IsIn (n, k) ps) past j) stay
-
--- or only the bus does
-pub cool-bus : (m : Moment) (i : ℕ) (a b : Point) → StaleBase m a → FarMoves a.state.bus b.state.bus
-    → KeepsRequests a.state.bus b.state.bus → b.state.bus.requests ≡ a.state.bus.requests
-    → b.state.past.made_for ≡ a.state.past.made_for → b.state.ports ≡ a.state.ports
-    → b.state.host ≡ a.state.host → b.asked ≡ a.asked
-    → ((q : Asking) → AsksIn q b.pending → AsksIn q a.pending) → IsCool i a → IsCool i b
-cool-bus m i a b f moves keeps same past ports host asked pending h =
-    cool-on m i a b f moves keeps same past ports
-    (subst (λ (g : Host). Stay a.state.host.links g.links) (sym host)
-    (stay-same a.state.host.links))
-    (subst (WaitsFewer a.state.host) (sym host) (same-waits a.state.host)) asked pending h
 
 module _ (m : Moment) (i : ℕ) where
   -- ---- requests
@@ -127,15 +70,14 @@ module _ (m : Moment) (i : ℕ) where
       after = record a.state { bus = sent (host_draft q a.state.now) label a.state.bus }
 
       moves : FarMoves a.state.bus (sent (host_draft q a.state.now) label a.state.bus)
-      moves = far-sent a (host_draft q a.state.now) label f.basis f.there
+      moves = far-sent {a = a} (host_draft q a.state.now) label f.basis f.there
 
       back : (n : ℕ) → StaleAt i n b → StaleAt i n a
-      back n s = stale-back i n a
-          (record a {
-            state = record a.state {
-              bus = sent (host_draft q a.state.now) label a.state.bus;
-            };
-          }) moves f.remembers f.pairs
+      back n s = stale-back i n a (record a {
+        state = record a.state {
+          bus = sent (host_draft q a.state.now) label a.state.bus;
+        };
+      }) moves f.remembers f.pairs
           (sent-request (host_draft q a.state.now) label a.state.bus) (λ k j u. j)
           (stay-same a.state.host.links)
           (subst (λ (t : State). IsStale i n t.bus t.host t.past.made_for) state s)
@@ -156,24 +98,23 @@ module _ (m : Moment) (i : ℕ) where
               (h.due none q (subst (AsksIn q) (sym pending) (asks_in (inl refl))) p.1 p.0)
 
   -- some other request is made
-  pub cool-sent : (a b : Point) (d : Draft) (label : ℕ) → StaleBase m a
+  pub cool-sent : (a : Point) {b : Point} (d : Draft) (label : ℕ) → StaleBase m a
       → b.state.bus ≡ sent d label a.state.bus → b.state.host ≡ a.state.host
       → b.state.past ≡ a.state.past → b.state.ports ≡ a.state.ports
-      → b.asked ≡ a.asked → b.pending ≡ a.pending
-      → (d.connection ≡ 1 → d.side ≡ side.Ap
+      → b.asked ≡ a.asked → b.pending ≡ a.pending → (d.connection ≡ 1 → d.side ≡ side.Ap
       → is_enumeration_request i (requested d label) ≡ true → d.kind ≡ 0x21)
       → IsCool i a → IsCool i b
-  cool-sent a b d label f bus host past ports asked pending other h =
-      cool-still i a b back (ap (level_of i) ports)
+  cool-sent a {b} d label f bus host past ports asked pending other h =
+      cool-still i a back (ap (level_of i) ports)
       (λ n s all. subst (λ x. AreStarts (enums i x)) (sym bus)
-      (starts-sent i a d label f.basis f.there (far-sent a d label f.basis f.there)
+      (starts-sent i a d label f.basis f.there (far-sent d label f.basis f.there)
       (sent-request d label a.state.bus) other all))
       (subst (WaitsFewer a.state.host) (sym host) (same-waits a.state.host))
       (due-still i a b back asked (λ q j. subst (AsksIn q) pending j) h) h
     where
       back : (n : ℕ) → StaleAt i n b → StaleAt i n a
       back n = stale-back i n a b
-          (subst (FarMoves a.state.bus) (sym bus) (far-sent a d label f.basis f.there))
+          (subst (FarMoves a.state.bus) (sym bus) (far-sent d label f.basis f.there))
           f.remembers f.pairs
           (λ k r made. ap (request_of k) bus ∙ sent-request d label a.state.bus k r made)
           (λ k j u. subst (λ (p : Past). IsIn (n, k) p.made_for) past j)
@@ -187,24 +128,23 @@ module _ (m : Moment) (i : ℕ) where
       → IsCool i a → IsCool i (changed m a (acts_asked q n rest is))
   cool-awaited a q n rest is f h = record {
     low = λ k s. subst (λ ps. level_of i ps ≤ 1)
-        (sym (awaited-rest q.purpose n a.state).ports) (h.low k (back k s));
+        (sym (awaited-rest q.purpose n).ports) (h.low k (back k s));
     starts = λ k s one. subst (λ x. AreStarts (enums i x))
-        (sym (awaited-rest q.purpose n a.state).bus) (h.starts k (back k s)
-        (sym (ap (level_of i) (awaited-rest q.purpose n a.state).ports) ∙ one));
+        (sym (awaited-rest q.purpose n).bus) (h.starts k (back k s)
+        (sym (ap (level_of i) (awaited-rest q.purpose n).ports) ∙ one));
     waits = λ x j at w e p k s. by (is_enumeration q.purpose.step) x
         (subst (λ (g : Host). IsIn x g.interfaces) (awaited-host q.purpose n a.state) j) at w e p k
         (back k s);
-    due = λ e r j. absurd (no-asks r (subst (AsksIn r)
+    due = λ e r j. absurd (no-asks (subst (AsksIn r)
         (subst (ArePending a.state.host) is.0 f.links.pending).0.1 j));
   }
     where
       stay : Stay a.state.host.links (awaits q.purpose n a.state.host).links
-      stay = (awaits-fits a.state.bus q.purpose n a.state.host f.links.host
+      stay = (awaits-fits {b = a.state.bus} q.purpose n {h = a.state.host} f.links.host
           (subst (ArePending a.state.host) is.0 f.links.pending).0.0).1.stay
 
       Unknown : ℕ → Type 0
-      Unknown c = (l : Link) → IsIn l (awaits q.purpose n a.state.host).links → l.connection ≡ c
-          → ⊥
+      Unknown c = (l : Link) → IsIn l (awaits q.purpose n a.state.host).links → l.connection ≡ c → ⊥
 
       old : (k c : ℕ) (t : Bool) (o : Option Link)
           → link_at q.purpose.intf q.purpose.cport (awaits q.purpose n a.state.host) ≡ o
@@ -221,7 +161,7 @@ module _ (m : Moment) (i : ℕ) where
 
       back : (k : ℕ) → StaleAt i k (changed m a (acts_asked q n rest is)) → StaleAt i k a
       back k = stale-back i k a (changed m a (acts_asked q n rest is))
-          (far-moves m a (acts_asked q n rest is) f.basis f.links f.there) f.remembers f.pairs
+          (far-moves m {a = a} (acts_asked q n rest is) f.basis f.links f.there) f.remembers f.pairs
           (keeps-requests m a (acts_asked q n rest is))
           (λ c j u. old k c (is_for_connection q.purpose.step)
           (link_at q.purpose.intf q.purpose.cport (awaits q.purpose n a.state.host)) refl j
@@ -237,8 +177,7 @@ module _ (m : Moment) (i : ℕ) where
           → x.intf ≡ i → (w : ℕ × SequenceStep) → x.awaits ≡ Some w
           → is_power_step w.1 ≡ true → (k : ℕ) → StaleAt i k a → k < w.0
       by false x j at w e p k s = h.waits x j at w e p k s
-      by true x j at w e p k s = ⊎_elim (λ o. h.waits x o at w e p k s)
-          (λ u.
+      by true x j at w e p k s = ⊎_elim (λ o. h.waits x o at w e p k s) (λ u.
           let same = same-some (n, q.purpose.step) w
           (sym (ap (λ (y : Interface). y.awaits) u.3) ∙ e) in
           let less = (f.pairs.asks q n is.1).behind k s.connection s.pair in

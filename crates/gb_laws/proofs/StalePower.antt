@@ -1,67 +1,29 @@
 -- While a request waits for a connection that is known no more, the power level of its interface is
 -- at most 1: where levels change.
-use Rattle.std.proofs.Common.{
-  Bool,
-  List,
-  None,
-  [],
-  ap,
-  arith,
-  cond,
-  false,
-  inr,
-  refl,
-  subst,
-  sym,
-  true,
-  ℕ,
-  ⊎_elim,
-  ◌++◌,
-  ◌∙◌,
-  ◌∷◌,
-  ◌≡◌,
-  ◌≤◌,
-  ◌⊎◌,
-}
+use Rattle.std.proofs.Common.{Bool, List, None, ap, arith, cond, false, inr, refl, subst, sym, true}
+use Rattle.std.proofs.Common.{ℕ, ⊎_elim, [], ◌++◌, ◌∙◌, ◌∷◌, ◌≡◌, ◌≤◌, ◌⊎◌}
 use Rattle.std.specs.Prelude.{Ok, ◌==◌}
 use Rattle.gb_base.specs.declared.end.Side.TheVariants as side
+use Rattle.gb_base.specs.declared.peers.Link.{Link}
+use Rattle.gb_base.specs.declared.steps.SequenceStep.TheVariants as steps
 use Rattle.gb_formats.specs.SvcRecords.{read_svc_ask}
-use Rattle.gb_invariants.proofs.Awaiting.{not-both}
-use Rattle.gb_invariants.proofs.Outcomes.{same-number}
+use Rattle.gb_machine.proofs.Lists.{nth-within}
+use Rattle.gb_machine.specs.Ports.{level_in, level_of, unrouted}
+use Rattle.gb_machine.specs.{Bus.Ask, Bus.Item, Host.Host, Incoming.Incoming, Lists.behind_first}
+use Rattle.gb_machine.specs.{Members.IsIn, Runs.Moment, State.Past, State.Port}
+use Rattle.gb_machine.specs.{SvcQueues.enumerates, SvcQueues.svc_items, SvcTable.Unroute}
+use Rattle.gb_machine.specs.{SvcTable.svc_step, Turns.Asking}
+use Rattle.gb_invariants.proofs.{Awaiting.not-both, Outcomes.same-number}
 use Rattle.gb_laws.proofs.AskedWaits.{AsksIn, WaitsFewer, is_power_step, same-waits}
 use Rattle.gb_laws.proofs.Enums.{AreStarts, enum_of, enums, enums_of}
-use Rattle.gb_laws.proofs.Levels.{
-  StepOn,
-  by_record,
-  nothing_changes,
-  other-port,
-  starts,
-  step-levels,
-}
-use Rattle.gb_laws.proofs.LinkedFrom.{Linked}
+use Rattle.gb_laws.proofs.Levels.{StepOn, by_record, nothing_changes, other-port, starts}
+use Rattle.gb_laws.proofs.Levels.{step-levels}
 use Rattle.gb_laws.proofs.PointParts.{Basis, Point, resting}
 use Rattle.gb_laws.proofs.Points.{IsIdle, IsServing, PortsFrom, as_before, loses_route, served}
 use Rattle.gb_laws.proofs.QuietEnums.{at-most_one, start-kind, unrouted-six}
-use Rattle.gb_laws.proofs.QuietServed.{serving}
-use Rattle.gb_laws.proofs.RememberedLive.{RemembersSince}
-use Rattle.gb_laws.proofs.Pairs.{PairsFit}
 use Rattle.gb_laws.proofs.Stale.{HasNoStale, IsCool, IsStale, StaleAt, cool-still, due-still}
-use Rattle.gb_laws.proofs.There.{There}
-use Rattle.gb_machine.specs.Bus.{Ask, Item}
-use Rattle.gb_machine.specs.Incoming.{Incoming}
-use Rattle.gb_machine.specs.Lists.{behind_first}
-use Rattle.gb_machine.specs.Members.{IsIn}
-use Rattle.gb_machine.specs.Ports.{level_in, level_of, unrouted}
-use Rattle.gb_machine.specs.Runs.{Moment}
-use Rattle.gb_machine.specs.State.{Past, Port}
-use Rattle.gb_machine.specs.SvcQueues.{enumerates, svc_items}
-use Rattle.gb_machine.specs.SvcTable.{Unroute, svc_step}
-use Rattle.gb_machine.specs.Turns.{Asking}
-use Rattle.gb_base.specs.declared.peers.Link.{Link}
-use Rattle.gb_base.specs.declared.steps.SequenceStep.TheVariants as steps
-use Rattle.gb_machine.proofs.Lists.{nth-within}
-use Rattle.gb_laws.proofs.Framing.{asked-toward}
-use Rattle.gb_machine.specs.Host.{Host}
+use Rattle.gb_laws.proofs.{LinkFrom.Linked, MarkFrame.asked-toward, Pairs.PairsFit}
+use Rattle.gb_laws.proofs.{QuietServed.serving, RememberedLive.RemembersSince, SvcThere.There}
 
 module _ (m : Moment) (i : ℕ) (basis : Basis (resting m.told m.before))
     (links : Linked m.before.bus m.before.host []) (there : There m.before.bus)
@@ -84,22 +46,20 @@ module _ (m : Moment) (i : ℕ) (basis : Basis (resting m.told m.before))
         request = s.request;
         made = sym (v.requests n) ∙ s.made;
         speaks = s.speaks;
-      })
-      (λ new. let made = asked-toward side.Far (resting m.told m.before) basis n queued in
+      }) (λ new. let made = asked-toward side.Far (resting m.told m.before) basis n queued in
       let within = nth-within n m.before.bus.requests made.0 made.1 in
-      let above = new.0 in absurd (omega (arith, within, above)))
-      (since.new n s.connection s.pair)
+      let above = new.0 in absurd (omega (arith, within, above))) (since.new n s.connection s.pair)
     where
       in-behind : (xs : List Item) (x : Item) → IsIn x (behind_first xs) → IsIn x xs
       in-behind [] x j = absurd j
       in-behind (y ∷ ys) x j = inr j
 
   -- where levels change
-  pub cool-ports : (a b : Point) (ports : List Port) → PortsFrom m a.state ports → IsIdle a
-      → RemembersSince m a → b.state.bus ≡ a.state.bus → b.state.host ≡ a.state.host
+  pub cool-ports : (a : Point) {b : Point} (ports : List Port) → PortsFrom m a.state ports → IsIdle
+      a → RemembersSince m a → b.state.bus ≡ a.state.bus → b.state.host ≡ a.state.host
       → b.state.past ≡ a.state.past → b.state.ports ≡ ports → b.pending ≡ a.pending
       → b.asked ≡ a.asked → IsCool i a → IsCool i b
-  cool-ports a b ports from idle since bus host past now pending asked h = by from
+  cool-ports a {b} ports from idle since bus host past now pending asked h = by from
     where
       back : (n : ℕ) → StaleAt i n b → StaleAt i n a
       back n s = subst (λ ps. IsStale i n a.state.bus a.state.host ps)
@@ -116,7 +76,7 @@ module _ (m : Moment) (i : ℕ) (basis : Basis (resting m.told m.before))
       due = due-still i a b back asked (λ q j. subst (AsksIn q) pending j) h
 
       level-same : level_of i ports ≡ level_of i a.state.ports → IsCool i b
-      level-same e = cool-still i a b back (ap (level_of i) now ∙ e)
+      level-same e = cool-still i a back (ap (level_of i) now ∙ e)
           (λ n s x. subst (λ y. AreStarts (enums i y)) (sym bus) x) fewer due h
 
       -- where the level is known for what is stale
@@ -139,19 +99,16 @@ module _ (m : Moment) (i : ℕ) (basis : Basis (resting m.told m.before))
           level-same (ap (level_of i) e ∙ g ∙ sym (ap (level_of i) w.ports))
       step q w e (by_record ask read l) = enumerating (enumerates i (Ok ask)) refl
         where
-          whole : enumerates i (Ok ask) ≡ true → enums i m.before.bus
-              ≡ (
-                (serving m basis links there a q w).number,
-                (serving m basis links there a q w).request,
-              )
-              ∷ enums_of i m.before.bus (behind_first (svc_items side.Far m.before.bus))
+          whole : enumerates i (Ok ask) ≡ true → enums i m.before.bus ≡ (
+            (serving m basis links there a q w).number,
+            (serving m basis links there a q w).request,
+          ) ∷ enums_of i m.before.bus (behind_first (svc_items side.Far m.before.bus))
           whole g =
               let v = serving m basis links there a q w in
               let is = ap (λ k. enumerates i (read_svc_ask k v.request.payload)) v.kind
               ∙ ap (λ x. enumerates i (read_svc_ask q.kind x)) v.payload
               ∙ ap (enumerates i) read ∙ g in
-              ap (enums_of i m.before.bus) v.front
-              ∙ ap (λ o. enum_of i v.number o
+              ap (enums_of i m.before.bus) v.front ∙ ap (λ o. enum_of i v.number o
               ++ enums_of i m.before.bus (behind_first (svc_items side.Far m.before.bus))) v.made
               ∙ ap (λ t. cond t ((v.number, v.request) ∷ []) []
               ++ enums_of i m.before.bus (behind_first (svc_items side.Far m.before.bus))) is
@@ -160,8 +117,7 @@ module _ (m : Moment) (i : ℕ) (basis : Basis (resting m.told m.before))
           tail g = subst AreStarts (sym ((serving m basis links there a q w).rest i))
               (subst (λ es. AreStarts (behind_first es)) (whole g) restarts)
 
-          became : level_of i ports
-              ≡ level_of i (svc_step m.before.ports q.kind q.payload).ports
+          became : level_of i ports ≡ level_of i (svc_step m.before.ports q.kind q.payload).ports
           became = ap (level_of i) e
 
           none-one : (n : ℕ) → n ≡ 0 → n ≡ 1 → ⊥
@@ -178,9 +134,7 @@ module _ (m : Moment) (i : ℕ) (basis : Basis (resting m.told m.before))
               ⊎_elim (λ zero. let none = became ∙ l.zero zero u in (
                 subst (λ k. k ≤ 1) (sym none) (omega arith),
                 λ one. absurd (none-one (level_of i ports) none one),
-              ))
-              (λ one. absurd (not-both (starts i ask)
-              (start-kind i q.kind q.payload ask read g
+              )) (λ one. absurd (not-both (starts i ask) (start-kind i q.kind q.payload ask read g
               (sym (serving m basis links there a q w).kind
               ∙ (subst AreStarts (whole g) (start.starts n was one)).0)) u))
               (at-most_one (level_of i m.before.ports) (start.low n was)))
@@ -211,5 +165,5 @@ module _ (m : Moment) (i : ℕ) (basis : Basis (resting m.told m.before))
 
       by : PortsFrom m a.state ports → IsCool i b
       by (as_before e) = level-same (ap (level_of i) e)
-      by (served q w e) = step q w e (step-levels i m.before.ports q.kind q.payload)
+      by (served q w e) = step q w e (step-levels i m.before.ports)
       by (loses_route q j w is e unwired) = lost q j w is e (i == j) refl

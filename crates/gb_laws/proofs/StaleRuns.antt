@@ -1,41 +1,18 @@
 -- Requests for connections that are gone find their interface without a route, in each state of a
 -- run.
-use Rattle.std.proofs.Common.{
-  ◌≡◌,
-  ℕ,
-  Some,
-  None,
-  List,
-  [],
-  ◌++◌,
-  inl,
-  refl,
-  sym,
-  ◌∙◌,
-  subst,
-  arith,
-}
+use Rattle.std.proofs.Common.{List, None, Some, arith, inl, refl, subst, sym, ℕ, [], ◌++◌, ◌∙◌, ◌≡◌}
 use Rattle.gb_base.specs.declared.entry.Entry.{Entry}
-use Rattle.gb_invariants.proofs.Numbers.{found-by_number}
-use Rattle.gb_laws.proofs.AskedWaits.{no-asks}
+use Rattle.gb_machine.specs.Runs.{IsMoment, Moment, after, told_at}
+use Rattle.gb_machine.specs.{Bus.connection_of, LawsSvc.StaleIsLow, State.State}
+use Rattle.gb_invariants.proofs.{Awaiting.none-some, Numbers.found-by_number}
 use Rattle.gb_laws.proofs.AwaitsOwn.{OwnTo, own-over, own-throughout}
-use Rattle.gb_laws.proofs.LinkRuns.{start-absent}
-use Rattle.gb_laws.proofs.Pairs.{PairsFit}
-use Rattle.gb_laws.proofs.PointParts.{Wires, resting}
-use Rattle.gb_laws.proofs.Points.{Law}
 use Rattle.gb_laws.proofs.QuietRuns.{QuietTo, quiet-moment, quiet-throughout}
 use Rattle.gb_laws.proofs.RememberedLive.{SinceTo, since-over, since-throughout}
-use Rattle.gb_laws.proofs.Remembering.{nothing-asked}
 use Rattle.gb_laws.proofs.Runs.{HoldsByMoments, throughout, weaker}
-use Rattle.gb_laws.proofs.Stale.{IsCool}
 use Rattle.gb_laws.proofs.StaleBase.{NoticedStill, StaleBase, base-kept, noticed-kept}
-use Rattle.gb_laws.proofs.StaleLaw.{cool-kept}
-use Rattle.gb_laws.proofs.Steps.{over-step}
-use Rattle.gb_laws.proofs.SvcOrder.{SvcOrder}
-use Rattle.gb_machine.specs.Bus.{Connection, connection_of}
-use Rattle.gb_machine.specs.LawsSvc.{StaleIsLow}
-use Rattle.gb_machine.specs.Runs.{IsMoment, Moment, after, told_at}
-use Rattle.gb_machine.specs.State.{State}
+use Rattle.gb_laws.proofs.{AskedWaits.no-asks, LinkRuns.start-absent, Pairs.PairsFit}
+use Rattle.gb_laws.proofs.{PointParts.Wires, PointParts.resting, Points.Law, Stale.IsCool}
+use Rattle.gb_laws.proofs.{StaleLaw.cool-kept, Steps.over-step, SvcOrder.SvcOrder}
 
 -- with what it stands on
 pub record StaleTo (told : List Entry) (s : State) : Type 0 where
@@ -54,7 +31,7 @@ start-base m h = record {
   remembers = h.since.remembers.1;
   since = record {
     more = omega arith;
-    asked = λ q n e. absurd (nothing-asked (q, n) e);
+    asked = λ q n e. absurd (none-some e);
     new = λ n k i. inl i;
   };
   pairs = h.pairs;
@@ -103,7 +80,7 @@ stale-throughout = throughout StaleTo (record {
     given = λ n k i. absurd i;
     of = λ n i l r live. absurd live;
     bound = λ l live. absurd live;
-    asks = λ q n e. absurd (nothing-asked (q, n) e);
+    asks = λ q n e. absurd (none-some e);
   };
   order = record {
     rise = tt;
@@ -113,7 +90,7 @@ stale-throughout = throughout StaleTo (record {
     low = λ n s. absurd s.pair;
     starts = λ n s. absurd s.pair;
     waits = λ x j. absurd j;
-    due = λ e q j. absurd (no-asks q j);
+    due = λ e q j. absurd (no-asks j);
   };
 }) (λ m one h. stale-over m h one)
 
@@ -134,9 +111,6 @@ stale-low told s h i n k r waits pair gone made speaks =
       speaks = speaks;
     }) in
     omega (arith, low)
-  where
-    none-some : {c : Connection} → None ≡ Some c → ⊥
-    none-some e = absurd cc
 
 -- What waits for a connection that is gone finds its interface without a route.
 pub stale-low_by_moments : HoldsByMoments StaleIsLow

@@ -1,76 +1,35 @@
 -- While a request waits for a connection that is known no more, the power level of its interface is
 -- at most 1: where the application processor takes notice of something.
-use Rattle.std.proofs.Common.{
-  Bool,
-  List,
-  None,
-  Option,
-  Some,
-  ap,
-  arith,
-  false,
-  inl,
-  inr,
-  refl,
-  subst,
-  sym,
-  true,
-  ℕ,
-  ◌∙◌,
-  ◌≡◌,
-  ◌≤◌,
-  ◌⊎◌,
-  [],
-  ⊎_elim,
-}
+use Rattle.std.proofs.Common.{Bool, List, None, Option, Some, ap, arith, false, inl, inr, refl}
+use Rattle.std.proofs.Common.{subst, sym, true, ℕ, ⊎_elim, [], ◌∙◌, ◌≡◌, ◌≤◌, ◌⊎◌}
 use Rattle.std.specs.List.{find}
 use Rattle.std.specs.Prelude.{not, ◌==◌}
 use Rattle.gb_base.specs.declared.end.Side.TheVariants as side
 use Rattle.gb_base.specs.declared.outcome.Outcome.{Outcome}
 use Rattle.gb_base.specs.declared.outcome.Outcome.TheVariants as outcome
-use Rattle.gb_base.specs.declared.peers.Interface.{Interface}
-use Rattle.gb_base.specs.declared.peers.Link.{Link}
+use Rattle.gb_base.specs.declared.peers.{Interface.Interface, Link.Link}
 use Rattle.gb_base.specs.declared.steps.Purpose.{Purpose}
 use Rattle.gb_base.specs.declared.steps.SequenceStep.TheVariants as steps
-use Rattle.gb_invariants.proofs.Awaiting.{not-both}
-use Rattle.gb_invariants.proofs.Lists.{found-in, in-without}
+use Rattle.gb_machine.specs.{Bus.Ask, Bus.request_of, Host.is_intf, HostTurns.host_turn}
+use Rattle.gb_machine.specs.{HostTurns.without_interface, Members.IsIn, Ports.level_of, Runs.Moment}
+use Rattle.gb_machine.specs.{SequenceSteps.asks_control, SequenceSteps.is_enumeration, State.State}
+use Rattle.gb_machine.specs.{SvcQueues.svc_items, Turns.Asking, Turns.HostEvent, Waits.awaited}
 use Rattle.gb_invariants.proofs.Outcomes.{both-true, is-same, same-number}
-use Rattle.gb_laws.proofs.Asked.{
-  asks-connects,
-  asks-disconnects,
-  asks-ended,
-  asks-inserted,
-  asks-removed,
-}
-use Rattle.gb_laws.proofs.AskedSteps.{TurnAsks}
-use Rattle.gb_laws.proofs.AskedWaits.{AsksIn, is_power_step}
-use Rattle.gb_laws.proofs.AwaitsOwn.{turn-waits}
-use Rattle.gb_laws.proofs.Enums.{AreStarts, enums}
-use Rattle.gb_laws.proofs.Leaving.{WhyLeft, removed, why-left, closed}
-use Rattle.gb_laws.proofs.LinkedFrom.{Linked}
-use Rattle.gb_laws.proofs.LinkLists.{find-none, one-link}
-use Rattle.gb_laws.proofs.Linking.{InsertsAbsent, same-links, turn-fits}
+use Rattle.gb_invariants.proofs.{Awaiting.not-both, Found.find-none, Lists.found-in}
+use Rattle.gb_invariants.proofs.{Lists.in-without}
+use Rattle.gb_laws.proofs.Asked.{asks-connects, asks-disconnects, asks-ended, asks-inserted}
+use Rattle.gb_laws.proofs.Asked.{asks-removed}
+use Rattle.gb_laws.proofs.LinkKept.{InsertsAbsent, same-links, turn-fits}
+use Rattle.gb_laws.proofs.LinkLeaves.{WhyLeft, closed, removed, why-left}
 use Rattle.gb_laws.proofs.Links.{IsFollowed, leaves, stays}
-use Rattle.gb_laws.proofs.Noticing.{told-by_svc}
 use Rattle.gb_laws.proofs.PointParts.{IsCaused, IsNoticed, Point, resting}
-use Rattle.gb_laws.proofs.Points.{IsOver}
-use Rattle.gb_laws.proofs.Quiet.{IsQuiet, is_removed}
-use Rattle.gb_laws.proofs.QuietAwaited.{waited-by}
-use Rattle.gb_laws.proofs.QuietRuns.{removal-waits, waits-before}
 use Rattle.gb_laws.proofs.Stale.{HasNoStale, IsCool, StaleAt}
-use Rattle.gb_laws.proofs.StaleBase.{NoticedStill, StaleBase}
-use Rattle.gb_laws.proofs.SvcOrder.{none-earlier}
-use Rattle.gb_machine.specs.Bus.{Ask, request_of}
-use Rattle.gb_machine.specs.Host.{is_intf}
-use Rattle.gb_machine.specs.HostTurns.{host_turn, without_interface}
-use Rattle.gb_machine.specs.Members.{IsIn}
-use Rattle.gb_machine.specs.Ports.{level_of}
-use Rattle.gb_machine.specs.Runs.{Moment}
-use Rattle.gb_machine.specs.SequenceSteps.{asks_control, is_enumeration}
-use Rattle.gb_machine.specs.State.{State}
-use Rattle.gb_machine.specs.SvcQueues.{svc_items}
-use Rattle.gb_machine.specs.Turns.{Asking, HostEvent}
-use Rattle.gb_machine.specs.Waits.{awaited}
+use Rattle.gb_laws.proofs.{AskedSteps.TurnAsks, AskedWaits.AsksIn, AskedWaits.is_power_step}
+use Rattle.gb_laws.proofs.{AwaitsOwn.turn-waits, Enums.AreStarts, Enums.enums, LinkFrom.Linked}
+use Rattle.gb_laws.proofs.{LinkLists.one-link, MarkNotices.told-by_svc, Points.IsOver}
+use Rattle.gb_laws.proofs.{Quiet.IsQuiet, Quiet.is_removed, QuietAwaited.waited-by}
+use Rattle.gb_laws.proofs.{QuietRuns.removal-waits, QuietRuns.waits-before, StaleBase.NoticedStill}
+use Rattle.gb_laws.proofs.{StaleBase.StaleBase, SvcOrder.none-earlier}
 
 module _ (m : Moment) (absent : InsertsAbsent m) (i : ℕ)
     (start : StaleBase m (resting m.told m.before))
@@ -78,18 +37,15 @@ module _ (m : Moment) (absent : InsertsAbsent m) (i : ℕ)
   pub cool-turned : (a : Point) (e : HostEvent) (b : Point) → StaleBase m a → NoticedStill m i a
       → a.pending ≡ [] → IsOver m e a.state.bus → IsCaused m e a.state.host
       → b.state ≡ record a.state { host = (host_turn e a.state.host).host }
-      → b.asked ≡ a.asked → b.pending ≡ (host_turn e a.state.host).acts
-      → IsCool i a → IsCool i b
+      → b.asked ≡ a.asked → b.pending ≡ (host_turn e a.state.host).acts → IsCool i a → IsCool i b
   cool-turned a e b f noticed none over cause state asked pending h = record {
     low = λ n s. ⊎_elim (λ o. subst (λ (t : State). level_of i t.ports ≤ 1) (sym state) (h.low n o))
         (λ gone. subst (λ (t : State). level_of i t.ports ≤ 1) (sym state)
-        (subst (λ k. k ≤ 1) (sym (still gone).0) (quiet.low.low (removed gone))))
-        (fate n s);
+        (subst (λ k. k ≤ 1) (sym (still gone).0) (quiet.low.low (removed gone)))) (fate n s);
     starts = λ n s one.
         let level = sym (ap (λ (t : State). level_of i t.ports) state) ∙ one in
         subst (λ (t : State). AreStarts (enums i t.bus)) (sym state)
-        (⊎_elim (λ o. h.starts n o level)
-        (λ gone. (still gone).1 (same gone)
+        (⊎_elim (λ o. h.starts n o level) (λ gone. (still gone).1 (same gone)
         (quiet.low.starts (removed gone, sym (still gone).0 ∙ level))) (fate n s));
     waits = λ x j at w g p n s.
         let k = subst (λ (t : State). IsIn x t.host.interfaces) state j in
@@ -203,8 +159,7 @@ module _ (m : Moment) (absent : InsertsAbsent m) (i : ℕ)
           → awaited n a.state.host ≡ Some p → (r : ℕ) (bytes : List ℕ)
           → how ≡ outcome.Answered r bytes → p.intf ≡ i → is_power_step p.step ≡ true
           → HasNoStale i b
-      calm n how is p g r bytes done at power j s = ⊎_elim
-          (λ o.
+      calm n how is p g r bytes done at power j s = ⊎_elim (λ o.
           let x = waited-by n a.state.host p links.host.links.waiting g power in
           let own = f.own.waits x.interface x.known (n, p.step) x.awaits in
           let svc = own.svc (unmarked (asks_control p.step)
@@ -219,8 +174,7 @@ module _ (m : Moment) (absent : InsertsAbsent m) (i : ℕ)
           unmarked true g = absurd cc
           unmarked false g = refl
 
-          ended-removed : (n : ℕ) (how : Outcome)
-              → HostEvent.Ended n how ≡ HostEvent.Removed i → ⊥
+          ended-removed : (n : ℕ) (how : Outcome) → HostEvent.Ended n how ≡ HostEvent.Removed i → ⊥
           ended-removed n how e = absurd cc
 
       asks : (y : HostEvent) → e ≡ y → (q : Asking)

@@ -1,50 +1,24 @@
 -- What is plugged stays so where a module changes.
-use Rattle.std.proofs.Common.{
-  ◌≡◌,
-  ◌⊎◌,
-  ℕ,
-  Bool,
-  true,
-  false,
-  cond,
-  Some,
-  None,
-  List,
-  [],
-  ◌∷◌,
-  refl,
-  sym,
-  ap,
-  ◌∙◌,
-  inl,
-  inr,
-  length,
-  ◌≤◌,
-}
-use Rattle.std.specs.Prelude.{◌==◌, ◌≢◌, is_some, option_map}
-use Rattle.gb_base.specs.declared.peers.Link.{Link}
-use Rattle.gb_base.specs.declared.end.End.TheVariants as end
-use Rattle.gb_formats.specs.Module.{Module}
-use Rattle.gb_laws.proofs.Going.{IsToModule}
-use Rattle.gb_invariants.proofs.Lists.{two-at_first}
-use Rattle.gb_invariants.proofs.Numbers.{found-number, same-connection}
-use Rattle.gb_invariants.specs.Facts.{IsBefore}
-use Rattle.gb_laws.proofs.Places.{module-far, place-is}
-use Rattle.gb_machine.specs.Members.{EachTwo}
+use Rattle.std.proofs.Common.{Bool, List, None, Some, ap, cond, false, inl, inr, length, refl, sym}
+use Rattle.std.proofs.Common.{true, ℕ, [], ◌∙◌, ◌∷◌, ◌≡◌, ◌≤◌, ◌⊎◌}
 use Rattle.std.specs.List.{find}
-use Rattle.gb_laws.proofs.Points.{SamePlugs}
-use Rattle.gb_machine.proofs.Conditions.{AreUnmet}
-use Rattle.gb_machine.specs.Bus.{Bus, end_of, place_of, Connection, Place}
-use Rattle.gb_machine.specs.Modules.{is_plugged, is_plugged_at, with_module}
-use Rattle.gb_laws.proofs.Manifests.{short-changed}
-use Rattle.gb_laws.proofs.Points.{AreShort}
+use Rattle.std.specs.Prelude.{is_some, option_map, ◌==◌, ◌≢◌}
+use Rattle.gb_base.specs.declared.end.End.TheVariants as end
 use Rattle.gb_base.specs.declared.entry.ConnState.{ConnState}
 use Rattle.gb_base.specs.declared.entry.ConnState.TheVariants as state
-use Rattle.gb_machine.specs.Arriving.{state_takes}
+use Rattle.gb_base.specs.declared.peers.Link.{Link}
+use Rattle.gb_formats.specs.Module.{Module}
+use Rattle.gb_machine.proofs.Conditions.{AreUnmet}
+use Rattle.gb_machine.specs.Bus.{Bus, Connection, Place, end_of, place_of}
 use Rattle.gb_machine.specs.HostRefusals.{is_closing, is_failed, is_unopened, link_conditions}
-use Rattle.gb_machine.specs.Refusals.{longest_manifest}
+use Rattle.gb_machine.specs.Modules.{is_plugged, is_plugged_at, with_module}
 use Rattle.gb_machine.specs.Ports.{level_in, level_of, port_of}
 use Rattle.gb_machine.specs.State.{Plugged, Port, State}
+use Rattle.gb_machine.specs.{Arriving.state_takes, Members.EachTwo, Refusals.longest_manifest}
+use Rattle.gb_invariants.proofs.{Lists.two-at_first, Numbers.found-number, Numbers.same-connection}
+use Rattle.gb_invariants.specs.Facts.{IsBefore}
+use Rattle.gb_laws.proofs.{Manifests.short-changed, Places.module-far, Places.place-is}
+use Rattle.gb_laws.proofs.{Points.AreShort, Points.SamePlugs, StepActions.IsToModule}
 
 -- ---- what stays plugged
 
@@ -66,8 +40,7 @@ module-plugs s i x fits = record {
   plugged = plugged s.modules;
   powered = λ j e. e;
   differ = λ h. two-at_first (λ (p q : Plugged). p.intf ≢ q.intf) (is_plugged_at i)
-      (λ p. record p { body = x }) s.modules
-      (λ p q r. r) (λ p q r. r) h;
+      (λ p. record p { body = x }) s.modules (λ p q r. r) (λ p q r. r) h;
   short = λ h. short-changed i x s.modules h (fits h);
 }
   where
@@ -83,8 +56,7 @@ module-plugs s i x fits = record {
         behind true h = refl
         behind false h = h
 
-        here : (t : Bool)
-            → is_some (option_map (λ (q : Plugged). q.body)
+        here : (t : Bool) → is_some (option_map (λ (q : Plugged). q.body)
             (cond t (Some (record p { body = x })) (find (is_plugged_at j) ps)))
             ≡ is_some (option_map (λ (q : Plugged). q.body)
             (cond t (Some p) (find (is_plugged_at j) ps)))
@@ -119,8 +91,7 @@ open-takes l met = by l.state met.0 met.1.0 met.1.1.0
 
 -- what is at a module's CPort is to a module
 pub place-module : (i c : ℕ) (b : Bus) (p : Place) → EachTwo IsBefore b.connections
-    → place_of (end.Module i c) b.connections ≡ Some p
-    → IsToModule p.connection.number b
+    → place_of (end.Module i c) b.connections ≡ Some p → IsToModule p.connection.number b
 place-module i c b p rise e x f =
     let q = place-is (end.Module i c) b.connections p e in
     let n = found-number p.connection.number b x f in

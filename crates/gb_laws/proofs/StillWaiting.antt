@@ -1,81 +1,30 @@
 -- What the application processor asked of the supervisory controller waits there until it is taken
 -- at a moment: at each point of a step it waits, or didn't before, or is what is taken then.
-use Rattle.std.proofs.Common.{
-  ◌≡◌,
-  ◌⊎◌,
-  ℕ,
-  Bool,
-  true,
-  false,
-  Some,
-  List,
-  [],
-  ◌∷◌,
-  ◌++◌,
-  inl,
-  inr,
-  refl,
-  sym,
-  ap,
-  ◌∙◌,
-  ⊎_elim,
-  subst,
-}
-use Rattle.std.specs.Prelude.{◌==◌}
+use Rattle.std.proofs.Common.{Bool, List, Some, ap, false, inl, inr, refl, subst, sym, true, ℕ}
+use Rattle.std.proofs.Common.{⊎_elim, [], ◌++◌, ◌∙◌, ◌∷◌, ◌≡◌, ◌⊎◌}
 use Rattle.std.specs.List.{list_any}
-use Rattle.gb_base.specs.declared.end.End.{End}
-use Rattle.gb_base.specs.declared.end.Side.{Side}
+use Rattle.std.specs.Prelude.{◌==◌}
+use Rattle.gb_base.specs.declared.end.{End.End, Side.Side}
 use Rattle.gb_base.specs.declared.end.Side.TheVariants as side
 use Rattle.gb_base.specs.declared.event.Event.TheVariants as event
-use Rattle.gb_invariants.proofs.Awaiting.{not-both, sent-made}
-use Rattle.gb_invariants.proofs.Lists.{in-behind, in-front}
-use Rattle.gb_invariants.proofs.Numbers.{found-by_number}
-use Rattle.gb_invariants.proofs.Outcomes.{is-same, same-number}
-use Rattle.gb_invariants.proofs.Selves.{front-self, put-self}
-use Rattle.gb_laws.proofs.Awaited.{awaited-rest}
-use Rattle.gb_laws.proofs.LinkLists.{any-in, none-any}
-use Rattle.gb_laws.proofs.Linking.{LinkedAt}
-use Rattle.gb_laws.proofs.Places.{place-is}
-use Rattle.gb_laws.proofs.PointParts.{Basis, Point}
+use Rattle.gb_machine.specs.Bus.{Ask, Bus, Item, Place, Request}
+use Rattle.gb_machine.specs.Bus.{connection_of, next_number, other_side, place_of, queue}
+use Rattle.gb_machine.specs.Bus.{request_of}
+use Rattle.gb_machine.specs.Delivery.{popped, replied, without_front}
+use Rattle.gb_machine.specs.Sending.{Draft, put, requested, sent}
+use Rattle.gb_machine.specs.SvcQueues.{is_ask, items_in, svc_items}
+use Rattle.gb_machine.specs.{Incoming.Incoming, Incoming.reply_item, Lists.behind_first}
+use Rattle.gb_machine.specs.{Lists.first, Members.IsIn, Runs.Moment, Serving.Answer, State.State}
+use Rattle.gb_invariants.proofs.{Awaiting.not-both, Awaiting.sent-made, Found.any-in}
+use Rattle.gb_invariants.proofs.{Found.none-any, Lists.in-behind, Lists.in-front}
+use Rattle.gb_invariants.proofs.{Numbers.found-by_number, Outcomes.is-same, Outcomes.same-number}
+use Rattle.gb_invariants.proofs.{Selves.front-self, Selves.put-self}
 use Rattle.gb_laws.proofs.Points.{Change, acts_asked, asks, changed, names, replies, takes}
 use Rattle.gb_laws.proofs.QuietBuses.{popped-ap, popped-far, queues-other, replied-put}
-use Rattle.gb_laws.proofs.Stale.{no-sent}
-use Rattle.gb_laws.proofs.SvcMoves.{
-  FarMoves,
-  asked,
-  elsewhere,
-  far-same,
-  far-sent,
-  puts,
-  stays,
-  taken,
-}
-use Rattle.gb_laws.proofs.There.{There}
-use Rattle.gb_machine.specs.Bus.{
-  Ask,
-  Bus,
-  Item,
-  Place,
-  Raw,
-  RawReply,
-  Reply,
-  Request,
-  connection_of,
-  next_number,
-  other_side,
-  place_of,
-  queue,
-  request_of,
-}
-use Rattle.gb_machine.specs.Delivery.{popped, replied, without_front}
-use Rattle.gb_machine.specs.Incoming.{Incoming, reply_item}
-use Rattle.gb_machine.specs.Lists.{behind_first, first}
-use Rattle.gb_machine.specs.Members.{IsIn}
-use Rattle.gb_machine.specs.Runs.{Moment}
-use Rattle.gb_machine.specs.Sending.{Draft, put, requested, sent}
-use Rattle.gb_machine.specs.Serving.{Answer}
-use Rattle.gb_machine.specs.State.{State}
-use Rattle.gb_machine.specs.SvcQueues.{is_ask, items_in, svc_items}
+use Rattle.gb_laws.proofs.SvcMoves.{FarMoves, asked, elsewhere, far-same, far-sent, puts, stays}
+use Rattle.gb_laws.proofs.SvcMoves.{taken}
+use Rattle.gb_laws.proofs.{Awaited.awaited-rest, LinkKept.LinkedAt, Places.place-is}
+use Rattle.gb_laws.proofs.{PointParts.Basis, PointParts.Point, Stale.no-sent, SvcThere.There}
 
 -- At a moment request n is taken toward the supervisory controller.
 pub record IsFront (m : Moment) (n : ℕ) : Type 0 where
@@ -109,15 +58,15 @@ keeps-put : (b after : Bus) (x : Item)
 keeps-put b after x more n i = subst (λ xs. IsIn (Ask n) xs) (sym more)
     (in-front (Ask n) (svc_items side.Far b) (x ∷ []) i)
 
-keeps-sent : (b : Bus) (d : Draft) (label : ℕ) → FarMoves b (sent d label b)
+keeps-sent : {b : Bus} (d : Draft) (label : ℕ) → FarMoves b (sent d label b)
     → FarKeeps b (sent d label b)
-keeps-sent b d label (stays requests far) = keeps-same b (sent d label b) far
-keeps-sent b d label (taken requests far) =
+keeps-sent {b} d label (stays requests far) = keeps-same b (sent d label b) far
+keeps-sent {b} d label (taken requests far) =
     absurd (no-sent b (sent d label b) d label requests refl)
-keeps-sent b d label (puts x unasked requests far) = keeps-put b (sent d label b) x far
-keeps-sent b d label (asked e label' is one own far) =
+keeps-sent {b} d label (puts x unasked requests far) = keeps-put b (sent d label b) x far
+keeps-sent {b} d label (asked e label' is one own far) =
     keeps-put b (sent d label b) (Ask (next_number b)) far
-keeps-sent b d label (elsewhere e label' is other far) = keeps-same b (sent d label b) far
+keeps-sent {b} d label (elsewhere e label' is other far) = keeps-same b (sent d label b) far
 
 keeps-replied : (a : Point) (k : ℕ) (s : Side) (q : Incoming) (r : Answer) → Basis a
     → There a.state.bus → FarKeeps a.state.bus (replied k s (reply_item q r) a.state.bus)
@@ -148,10 +97,8 @@ still-on m a b same keeps h n r made on own = ⊎_elim (λ i. inl (keeps n i)) (
 still-sent : (m : Moment) (a b : Point) (d : Draft) (label : ℕ)
     → b.state.bus ≡ sent d label a.state.bus
     → FarMoves a.state.bus (sent d label a.state.bus) → WaitsStill m a → WaitsStill m b
-still-sent m a b d label is moves h n r made on own = ⊎_elim
-    (λ old. ⊎_elim
-    (λ i. inl (onto (keeps-sent a.state.bus d label moves n i))) (λ w. inr w)
-    (h n r old on own))
+still-sent m a b d label is moves h n r made on own = ⊎_elim (λ old. ⊎_elim
+    (λ i. inl (onto (keeps-sent d label moves n i))) (λ w. inr w) (h n r old on own))
     (λ new. inl (onto (subst (λ k. IsIn (Ask k) (svc_items side.Far (sent d label a.state.bus)))
     (sym new.0) (waits (ap (λ (q : Request). q.connection) (sym new.1) ∙ on)
     (ap (λ (q : Request). q.side) (sym new.1) ∙ own) moves))))
@@ -161,8 +108,7 @@ still-sent m a b d label is moves h n r made on own = ⊎_elim
         → IsIn (Ask n) (svc_items side.Far b.state.bus)
     onto i = subst (λ (x : Bus). IsIn (Ask n) (svc_items side.Far x)) (sym is) i
 
-    waits : d.connection ≡ 1 → d.side ≡ side.Ap
-        → FarMoves a.state.bus (sent d label a.state.bus)
+    waits : d.connection ≡ 1 → d.side ≡ side.Ap → FarMoves a.state.bus (sent d label a.state.bus)
         → IsIn (Ask (next_number a.state.bus)) (svc_items side.Far (sent d label a.state.bus))
     waits one by_ap (stays requests far) =
         absurd (no-sent a.state.bus (sent d label a.state.bus) d label requests refl)
@@ -184,8 +130,7 @@ still-sent m a b d label is moves h n r made on own = ⊎_elim
             tail : q ∷ (rs ++ x ∷ []) ≡ q ∷ (rs ++ y ∷ []) → rs ++ x ∷ [] ≡ rs ++ y ∷ []
             tail g = cc
 
-        same-draft : (e : Draft) (label' : ℕ)
-            → sent d label a.state.bus ≡ sent e label' a.state.bus
+        same-draft : (e : Draft) (label' : ℕ) → sent d label a.state.bus ≡ sent e label' a.state.bus
             → (e.connection ≡ 1) × (e.side ≡ side.Ap)
         same-draft e label' g =
             let same = last a.state.bus.requests (requested d label) (requested e label')
@@ -197,8 +142,7 @@ still-sent m a b d label is moves h n r made on own = ⊎_elim
 -- an item is taken
 still-taken : (m : Moment) (a b : Point) (at : End) (p : Place) (item : Item) → Basis a
     → There a.state.bus → a.state ≡ m.before → m.event ≡ event.Deliver at
-    → place_of at m.before.bus.connections ≡ Some p
-    → first (queue p.side p.connection) ≡ Some item
+    → place_of at m.before.bus.connections ≡ Some p → first (queue p.side p.connection) ≡ Some item
     → b.state.bus ≡ popped p.connection.number p.side a.state.bus → WaitsStill m a → WaitsStill m b
 still-taken m a b at p item basis there start event named front is h n r made on own =
     ⊎_elim (λ i. waits i (p.connection.number == 1) refl p.side refl) (λ w. inr w)
@@ -208,8 +152,7 @@ still-taken m a b at p item basis there start event named front is h n r made on
     before = ap (λ (s : State). request_of n s.bus) (sym start) ∙ ap (request_of n) (sym is) ∙ made
 
     Waits : Type 0
-    Waits = IsIn (Ask n) (svc_items side.Far b.state.bus)
-        ⊎ ((request_of n m.before.bus ≡ Some r)
+    Waits = IsIn (Ask n) (svc_items side.Far b.state.bus) ⊎ ((request_of n m.before.bus ≡ Some r)
         × ((IsIn (Ask n) (svc_items side.Far m.before.bus) → ⊥) ⊎ IsFront m n))
 
     onto : (xs : List Item)
@@ -222,8 +165,7 @@ still-taken m a b at p item basis there start event named front is h n r made on
     same-queue : p.connection.number ≡ 1 → p.side ≡ side.Far
         → svc_items side.Far a.state.bus ≡ queue p.side p.connection
     same-queue one far =
-        ap (items_in side.Far)
-        (subst (λ k. connection_of k a.state.bus ≡ Some p.connection) one
+        ap (items_in side.Far) (subst (λ k. connection_of k a.state.bus ≡ Some p.connection) one
         (found-by_number a.state.bus.connections p.connection basis.bus.numbers.rise
         (subst (λ (s : State). IsIn p.connection s.bus.connections) (sym start)
         (place-is at m.before.bus.connections p named).live)))
@@ -261,8 +203,7 @@ still-taken m a b at p item basis there start event named front is h n r made on
         )
     waits i true e side.Ap f = inl (onto (svc_items side.Far a.state.bus)
         (ap (λ s. svc_items side.Far (popped p.connection.number s a.state.bus)) f
-        ∙ (popped-ap a p.connection.number basis there (same-number p.connection.number 1 e)).1)
-        i)
+        ∙ (popped-ap a p.connection.number basis there (same-number p.connection.number 1 e)).1) i)
     waits i false e s f = inl (onto (svc_items side.Far a.state.bus)
         (queues-other a.state.bus (popped p.connection.number p.side a.state.bus)
         p.connection.number (without_front p.side) refl (λ k q made. made)
@@ -275,10 +216,10 @@ pub still-kept : (m : Moment) (a : Point) (x : Change m a) → Basis a → Linke
     → There a.state.bus → WaitsStill m a → WaitsStill m (changed m a x)
 still-kept m a (asks d c label free live drawn who) basis links there h =
     still-sent m a (changed m a (asks d c label free live drawn who)) d label refl
-    (far-sent a d label basis there) h
+    (far-sent d label basis there) h
 still-kept m a (names name d c label free live drawn host) basis links there h =
     still-sent m a (changed m a (names name d c label free live drawn host)) d label refl
-    (far-sent a d label basis there) h
+    (far-sent d label basis there) h
 still-kept m a (takes at p item free start is named front) basis links there h =
     still-taken m a (changed m a (takes at p item free start is named front)) at p item basis there
     start is named front refl h
@@ -287,28 +228,24 @@ still-kept m a (replies x q r is made twoway) basis links there h =
     (keeps-replied a x.connection.number (other_side x.side) q r basis there) h
 still-kept m a (acts_asked q n rest is) basis links there h =
     still-on m a (changed m a (acts_asked q n rest is))
-    (ap (λ (b : Bus). b.requests) (awaited-rest q.purpose n a.state).bus)
+    (ap (λ (b : Bus). b.requests) (awaited-rest q.purpose n).bus)
     (keeps-same a.state.bus (changed m a (acts_asked q n rest is)).state.bus
-    (far-same m a (acts_asked q n rest is) tt basis links)) h
+    (far-same m a (acts_asked q n rest is) tt links)) h
 still-kept m a x basis links there h = still-on m a (changed m a x) refl
-    (keeps-same a.state.bus (changed m a x).state.bus (far-same m a x tt basis links)) h
+    (keeps-same a.state.bus (changed m a x).state.bus (far-same m a x tt links)) h
 
 is-ask : (n : ℕ) (y : Item) → is_ask n y ≡ true → y ≡ Ask n
 is-ask n (Ask k) f = ap Ask (same-number k n f)
-is-ask n (Reply k result payload) f = absurd cc
-is-ask n (Raw bytes) f = absurd cc
-is-ask n (RawReply label kind result payload) f = absurd cc
+is-ask n _ f = absurd cc
 
 -- it holds before the moment
 pub still-start : (m : Moment) → (n : ℕ) (r : Request) → request_of n m.before.bus ≡ Some r
-    → IsIn (Ask n) (svc_items side.Far m.before.bus)
-    ⊎ ((request_of n m.before.bus ≡ Some r)
+    → IsIn (Ask n) (svc_items side.Far m.before.bus) ⊎ ((request_of n m.before.bus ≡ Some r)
     × ((IsIn (Ask n) (svc_items side.Far m.before.bus) → ⊥) ⊎ IsFront m n))
 still-start m n r made = by (list_any (is_ask n) (svc_items side.Far m.before.bus)) refl
   where
     by : (t : Bool) → list_any (is_ask n) (svc_items side.Far m.before.bus) ≡ t
-        → IsIn (Ask n) (svc_items side.Far m.before.bus)
-        ⊎ ((request_of n m.before.bus ≡ Some r)
+        → IsIn (Ask n) (svc_items side.Far m.before.bus) ⊎ ((request_of n m.before.bus ≡ Some r)
         × ((IsIn (Ask n) (svc_items side.Far m.before.bus) → ⊥) ⊎ IsFront m n))
     by true e = let w = any-in (is_ask n) (svc_items side.Far m.before.bus) e in
         inl (subst (λ x. IsIn x (svc_items side.Far m.before.bus)) (is-ask n w.0 w.2) w.1)

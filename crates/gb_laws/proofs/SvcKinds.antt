@@ -1,40 +1,15 @@
 -- The type of a request of the SVC protocol is that of the record that its payload is.
-use Rattle.std.proofs.Common.{
-  ◌≡◌,
-  ℕ,
-  Bool,
-  true,
-  false,
-  cond,
-  Some,
-  List,
-  [],
-  ◌∷◌,
-  length,
-  refl,
-  sym,
-  ap,
-  ◌∙◌,
-  subst,
-}
-use Rattle.std.specs.Prelude.{Result, Ok, Err, ◌==◌, ◌+◌, min, sum}
+use Rattle.std.proofs.Common.{Bool, List, Some, ap, cond, false, length, refl, subst, sym, true, ℕ}
+use Rattle.std.proofs.Common.{[], ◌∙◌, ◌∷◌, ◌≡◌}
 use Rattle.std.specs.List.{find}
+use Rattle.std.specs.Prelude.{Err, Ok, Result, min, sum, ◌+◌, ◌==◌}
 use Rattle.gb_formats.specs.Records.{PayloadFault, Row, fields_of, read_row, read_table}
-use Rattle.gb_formats.specs.SvcRecords.{
-  SvcAsk,
-  read_svc_ask,
-  read_svc_ask_of_svc,
-  svc_ask_kind,
-  svc_asks,
-}
+use Rattle.gb_formats.specs.SvcRecords.{SvcAsk, read_svc_ask, read_svc_ask_of_svc, svc_ask_kind}
+use Rattle.gb_formats.specs.SvcRecords.{svc_asks}
+use Rattle.gb_machine.specs.{Bus.Request, Host.first_host, HostServing.notified_by, Members.Each}
+use Rattle.gb_machine.specs.{SvcQueues.is_removal, SvcQueues.removes, Turns.HostEvent}
 use Rattle.gb_invariants.proofs.Outcomes.{same-number}
 use Rattle.gb_laws.proofs.Marks.{notice_of}
-use Rattle.gb_machine.specs.Bus.{Request}
-use Rattle.gb_machine.specs.HostServing.{notified_by}
-use Rattle.gb_machine.specs.Host.{first_host}
-use Rattle.gb_machine.specs.Members.{Each}
-use Rattle.gb_machine.specs.SvcQueues.{is_removal, removes}
-use Rattle.gb_machine.specs.Turns.{HostEvent}
 
 -- the records of a row have its type
 abbrev HasKind : Row SvcAsk → Type 0
@@ -51,8 +26,7 @@ read-kind (row ∷ rows) have kind payload made h = by (row.kind == kind) refl
 
     read : (t : Bool) → row.kind ≡ kind
         → cond t (Ok (row.made (fields_of row.widths payload))) (Err (PayloadFault.Mismatch
-        (min (length payload) (sum row.widths + 1)))) ≡ Ok made
-        → svc_ask_kind made ≡ kind
+        (min (length payload) (sum row.widths + 1)))) ≡ Ok made → svc_ask_kind made ≡ kind
     read true e f = ap svc_ask_kind (sym (same-ok _ made f)) ∙ have.0 _ ∙ e
     read false e f = absurd cc
 

@@ -1,89 +1,29 @@
 -- What each single change does to the queue toward the supervisory controller.
-use Rattle.std.proofs.Common.{
-  ◌≡◌,
-  ◌≢◌,
-  ◌≤◌,
-  ℕ,
-  ◌+◌,
-  Bool,
-  true,
-  false,
-  Option,
-  Some,
-  None,
-  [],
-  ◌∷◌,
-  ◌++◌,
-  refl,
-  sym,
-  ap,
-  ◌∙◌,
-  subst,
-  arith,
-}
-use Rattle.std.proofs.lemmas.Bool.Decides.{nat_tests}
+use Rattle.std.proofs.Common.{Bool, None, Option, Some, ap, false, refl, sym, true, ℕ, [], ◌++◌}
+use Rattle.std.proofs.Common.{◌∙◌, ◌∷◌, ◌≡◌, ◌≢◌}
 use Rattle.std.specs.Prelude.{◌==◌}
-use Rattle.gb_base.specs.declared.end.End.TheVariants as end
 use Rattle.gb_base.specs.declared.end.Side.{Side}
+use Rattle.gb_base.specs.declared.end.End.TheVariants as end
 use Rattle.gb_base.specs.declared.end.Side.TheVariants as side
-use Rattle.gb_invariants.proofs.Awaiting.{not-both, sent-request}
-use Rattle.gb_invariants.proofs.Labels.{asked_on, asked_on-number}
-use Rattle.gb_invariants.proofs.Outcomes.{same-number}
-use Rattle.gb_invariants.proofs.Selves.{front-self, put-self}
-use Rattle.gb_laws.proofs.Awaited.{awaited-rest}
-use Rattle.gb_laws.proofs.Framing.{not-one}
-use Rattle.gb_laws.proofs.Linking.{LinkedAt}
-use Rattle.gb_laws.proofs.Links.{ArePending}
-use Rattle.gb_laws.proofs.Marks.{find-left, find-pushed}
-use Rattle.gb_laws.proofs.Places.{module-far, place-is}
-use Rattle.gb_laws.proofs.PointParts.{Basis, Point}
-use Rattle.gb_laws.proofs.Points.{
-  Change,
-  acts_asked,
-  acts_left,
-  acts_opened,
-  acts_shut,
-  asks,
-  changed,
-  injects,
-  names,
-  replies,
-  takes,
-  unwires,
-  wires,
-}
-use Rattle.gb_laws.proofs.QuietBuses.{
-  IsPut,
-  asked-put,
-  popped-ap,
-  popped-far,
-  queues-kept,
-  queues-other,
-  replied-put,
-}
-use Rattle.gb_laws.proofs.There.{There}
-use Rattle.gb_machine.specs.Bus.{
-  Ask,
-  Bus,
-  Connection,
-  Item,
-  Place,
-  Raw,
-  end_of,
-  has_number,
-  next_number,
-  other_side,
-  queue,
-}
+use Rattle.gb_machine.specs.Bus.{Ask, Bus, Connection, Item, Place, end_of, next_number, other_side}
+use Rattle.gb_machine.specs.Bus.{queue}
 use Rattle.gb_machine.specs.Delivery.{popped, replied, without_front}
-use Rattle.gb_machine.specs.Incoming.{Incoming, reply_item}
-use Rattle.gb_machine.specs.Lists.{behind_first}
-use Rattle.gb_machine.specs.Refusals.{module_place}
-use Rattle.gb_machine.specs.Runs.{Moment}
-use Rattle.gb_machine.specs.Sending.{Draft, put, queued, sent}
-use Rattle.gb_machine.specs.Serving.{Answer}
-use Rattle.gb_machine.specs.SvcQueues.{items_in, svc_items}
-use Rattle.gb_machine.specs.Wiring.{new_connection, next_connection}
+use Rattle.gb_machine.specs.Sending.{Draft, put, sent}
+use Rattle.gb_machine.specs.{Incoming.Incoming, Incoming.reply_item, Lists.behind_first}
+use Rattle.gb_machine.specs.{Members.IsIn, Refusals.module_place, Runs.Moment, Serving.Answer}
+use Rattle.gb_machine.specs.{SvcQueues.items_in, SvcQueues.svc_items}
+use Rattle.gb_invariants.proofs.BusChanges.{becomes, found-after, number_of}
+use Rattle.gb_invariants.proofs.Selves.{far-no-ap, front-self, module-no-svc, put-self}
+use Rattle.gb_invariants.proofs.{Awaiting.not-both, Awaiting.sent-request, Labels.asked_on}
+use Rattle.gb_invariants.proofs.{Labels.asked_on-number, Outcomes.same-number}
+use Rattle.gb_laws.proofs.ChangeBuses.{bus-is, bus_change, keeps-requests}
+use Rattle.gb_laws.proofs.Points.{Change, acts_asked, acts_shut, asks, changed, injects, names}
+use Rattle.gb_laws.proofs.Points.{replies, takes, unwires, wires}
+use Rattle.gb_laws.proofs.QuietBuses.{IsPut, asked-put, popped-ap, popped-far, queues-other}
+use Rattle.gb_laws.proofs.QuietBuses.{replied-put}
+use Rattle.gb_laws.proofs.SvcThere.{There, not-one, svc-new, svc-stays}
+use Rattle.gb_laws.proofs.{Awaited.awaited-rest, LinkKept.LinkedAt, Places.module-far}
+use Rattle.gb_laws.proofs.{Places.place-is, PointParts.Basis, PointParts.Point, Quiet.SameQueues}
 
 -- How requests and the queue toward the supervisory controller change.
 pub data FarMoves (b after : Bus) : Type 0 where
@@ -105,14 +45,13 @@ pub data FarMoves (b after : Bus) : Type 0 where
 
 -- ---- requests
 
-pub far-sent : (a : Point) (d : Draft) (label : ℕ) → Basis a → There a.state.bus
+pub far-sent : {a : Point} (d : Draft) (label : ℕ) → Basis a → There a.state.bus
     → FarMoves a.state.bus (sent d label a.state.bus)
-far-sent a d label basis there = by (d.connection == 1) refl d.side refl
+far-sent {a} d label basis there = by (d.connection == 1) refl d.side refl
   where
     toward : (s : Side) → s ≡ side.Ap
         → IsPut (other_side s) (Ask (next_number a.state.bus)) a.state.bus
-        (sent d label a.state.bus)
-        → svc_items side.Far (sent d label a.state.bus)
+        (sent d label a.state.bus) → svc_items side.Far (sent d label a.state.bus)
         ≡ svc_items side.Far a.state.bus ++ Ask (next_number a.state.bus) ∷ []
     toward side.Ap e p = p.toward
     toward side.Far e p = absurd cc
@@ -124,15 +63,12 @@ far-sent a d label basis there = by (d.connection == 1) refl d.side refl
     from side.Far e p = p.from
     from side.Ap e p = absurd cc
 
-    apart : side.Far ≡ side.Ap → ⊥
-    apart e = absurd cc
-
     by : (t : Bool) → (d.connection == 1) ≡ t → (s : Side) → d.side ≡ s
         → FarMoves a.state.bus (sent d label a.state.bus)
     by true e side.Ap f = asked d label refl (same-number d.connection 1 e) f
-        (toward d.side f (asked-put a d label basis there (same-number d.connection 1 e)))
-    by true e side.Far f = elsewhere d label refl (λ one g. apart (sym f ∙ g))
-        (from d.side f (asked-put a d label basis there (same-number d.connection 1 e)))
+        (toward d.side f (asked-put d label basis there (same-number d.connection 1 e)))
+    by true e side.Far f = elsewhere d label refl (λ one g. far-no-ap (sym f ∙ g))
+        (from d.side f (asked-put d label basis there (same-number d.connection 1 e)))
     by false e s f =
         let other = λ (one : d.connection ≡ 1).
         not-both (d.connection == 1) (ap (λ n. n == 1) one) e in
@@ -181,11 +117,9 @@ pub injected-other : (i c : ℕ) (a : Point) (p : Place) → LinkedAt a
     → module_place i c a.state ≡ Some p → p.connection.number ≢ 1
 injected-other i c a p links named one =
     let place = place-is (end.Module i c) a.state.bus.connections p named in
-    apart (sym (sym (ap (λ s. end_of s p.connection) (module-far i c p.side p.connection place.is))
+    module-no-svc (sym (sym (ap (λ s. end_of s p.connection)
+    (module-far i c p.side p.connection place.is))
     ∙ place.is) ∙ (links.svc p.connection place.live one).peer)
-  where
-    apart : end.Module i c ≡ end.Svc → ⊥
-    apart e = absurd cc
 
 -- ---- each single change
 
@@ -197,64 +131,52 @@ IsStill m a (takes at p item free start is named front) = ⊥
 IsStill m a (replies x q r is made twoway) = ⊥
 IsStill m a _ = Unit {0}
 
--- the queue stays then
-pub far-same : (m : Moment) (a : Point) (x : Change m a) → IsStill m a x → Basis a → LinkedAt a
-    → svc_items side.Far (changed m a x).state.bus ≡ svc_items side.Far a.state.bus
-far-same m a (asks d c label free live drawn who) still basis links = absurd still
-far-same m a (names name d c label free live drawn host) still basis links = absurd still
-far-same m a (takes at p item free start is named front) still basis links = absurd still
-far-same m a (replies x q r is made twoway) still basis links = absurd still
-far-same m a (wires k free untouched live powered) still basis links =
-    (queues-kept a.state.bus (changed m a (wires k free untouched live powered)).state.bus k
-    (λ c. record c { wired = true }) refl (λ n r made. made) (λ c. refl) queues).far
+-- the queues stay then
+pub queues-still : (m : Moment) (a : Point) (x : Change m a) → IsStill m a x → LinkedAt a
+    → SameQueues a.state.bus (changed m a x).state.bus
+queues-still m a x still links = record {
+  keeps = keeps-requests m a x;
+  far = stay side.Far;
+  ap = stay side.Ap;
+}
   where
-    queues : (at : Side) (c : Connection) → queue at (record c { wired = true }) ≡ queue at c
-    queues side.Ap c = refl
-    queues side.Far c = refl
-far-same m a (unwires k free cut live) still basis links =
-    (queues-other a.state.bus (changed m a (unwires k free cut live)).state.bus k
-    (λ c. record c { wired = false; to_ap = []; to_far = [] }) refl (λ n r made. made) (λ c. refl)
-    (not-one a k true links live)).far
-far-same m a (injects j c p bytes free named) still basis links =
-    (queues-other a.state.bus (changed m a (injects j c p bytes free named)).state.bus
-    p.connection.number (λ x. queued side.Ap (Raw bytes) (record x { clean = false })) refl
-    (λ n r made. made) (λ x. refl) (injected-other j c a p links named)).far
-far-same m a (acts_shut k rest free is cause) still basis links =
-    (queues-kept a.state.bus (changed m a (acts_shut k rest free is cause)).state.bus k
-    (λ c. record c { shut = true }) refl (λ n r made. made) (λ c. refl) queues).far
-  where
-    queues : (at : Side) (c : Connection) → queue at (record c { shut = true }) ≡ queue at c
-    queues side.Ap c = refl
-    queues side.Far c = refl
-far-same m a (acts_left k rest free untouched is) still basis links =
-    ap (items_in side.Far) (find-left (has_number 1) (has_number k)
-    a.state.bus.connections (λ c e. apart c.number e))
-  where
-    apart : (n : ℕ) → (n == 1) ≡ true → (n == k) ≡ false
-    apart n e = let low = (subst (ArePending a.state.host) is links.pending).0.0 in
-        grind (arith, nat_tests)
-far-same m a (acts_opened w q rest free is) still basis links =
-    ap (items_in side.Far) (find-pushed (has_number 1) a.state.bus.connections
-    (new_connection (next_connection a.state.bus) w.ap (end.Module w.intf w.cport) w.protocol)
-    (above a.state.bus.made links.made))
-  where
-    above : (n : ℕ) → 1 ≤ n → (n + 1 == 1) ≡ false
-    above n low = grind (arith, nat_tests)
-far-same m a (acts_asked q n rest is) still basis links =
-    ap (svc_items side.Far) (awaited-rest q.purpose n a.state).bus
-far-same m a _ still basis links = refl
+    keeps : (at : Side) (x : Change m a) → IsStill m a x → (c : Connection)
+        → IsIn c a.state.bus.connections → c.number ≡ number_of (bus_change x) → c.number ≡ 1
+        → queue at (becomes (bus_change x) a.state.bus c) ≡ queue at c
+    keeps at (asks d e label free live drawn who) still c j on one = absurd still
+    keeps at (names name d e label free live drawn host) still c j on one = absurd still
+    keeps at (takes to p item free start is named front) still c j on one = absurd still
+    keeps at (replies y q r is made twoway) still c j on one = absurd still
+    keeps side.Ap (wires k free untouched live powered) still c j on one = refl
+    keeps side.Far (wires k free untouched live powered) still c j on one = refl
+    keeps at (unwires k free cut live) still c j on one =
+        absurd (not-one a k true links live (sym on ∙ one))
+    keeps at (injects i p place bytes free named) still c j on one =
+        absurd (injected-other i p a place links named (sym on ∙ one))
+    keeps side.Ap (acts_shut k rest free is cause) still c j on one = refl
+    keeps side.Far (acts_shut k rest free is cause) still c j on one = refl
+    keeps at _ still c j on one = refl
 
-pub far-moves : (m : Moment) (a : Point) (x : Change m a) → Basis a → LinkedAt a
+    stay : (at : Side) → svc_items at (changed m a x).state.bus ≡ svc_items at a.state.bus
+    stay at = ap (svc_items at) (bus-is m a x)
+        ∙ found-after 1 (items_in at) (bus_change x) a.state.bus (svc-stays m a x links)
+        (svc-new m a x links) (keeps at x still)
+
+pub far-same : (m : Moment) (a : Point) (x : Change m a) → IsStill m a x → LinkedAt a
+    → svc_items side.Far (changed m a x).state.bus ≡ svc_items side.Far a.state.bus
+far-same m a x still links = (queues-still m a x still links).far
+
+pub far-moves : (m : Moment) {a : Point} (x : Change m a) → Basis a → LinkedAt a
     → There a.state.bus → FarMoves a.state.bus (changed m a x).state.bus
-far-moves m a (asks d c label free live drawn who) basis links there =
-    far-sent a d label basis there
-far-moves m a (names name d c label free live drawn host) basis links there =
-    far-sent a d label basis there
-far-moves m a (takes at p item free start is named front) basis links there =
+far-moves m (asks d c label free live drawn who) basis links there =
+    far-sent d label basis there
+far-moves m (names name d c label free live drawn host) basis links there =
+    far-sent d label basis there
+far-moves m {a} (takes at p item free start is named front) basis links there =
     far-popped a p.connection.number p.side basis there
-far-moves m a (replies x q r is made twoway) basis links there =
+far-moves m {a} (replies x q r is made twoway) basis links there =
     far-replied a x.connection.number (other_side x.side) q r basis there
-far-moves m a (acts_asked q n rest is) basis links there =
-    stays (ap (λ (b : Bus). b.requests) (awaited-rest q.purpose n a.state).bus)
-    (far-same m a (acts_asked q n rest is) tt basis links)
-far-moves m a x basis links there = stays refl (far-same m a x tt basis links)
+far-moves m {a} (acts_asked q n rest is) basis links there =
+    stays (ap (λ (b : Bus). b.requests) (awaited-rest q.purpose n).bus)
+    (far-same m a (acts_asked q n rest is) tt links)
+far-moves m {a} x basis links there = stays refl (far-same m a x tt links)

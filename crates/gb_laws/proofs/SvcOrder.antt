@@ -1,40 +1,17 @@
 -- What the application processor asks of the supervisory controller is served in the order in which
 -- it is asked.
-use Rattle.std.proofs.Common.{
-  ◌≡◌,
-  ◌≤◌,
-  ◌<◌,
-  ℕ,
-  false,
-  Some,
-  List,
-  [],
-  ◌∷◌,
-  ◌++◌,
-  sym,
-  ap,
-  ◌∙◌,
-  inl,
-  inr,
-  ⊎_elim,
-  subst,
-  arith,
-}
+use Rattle.std.proofs.Common.{List, Some, ap, arith, false, inl, inr, subst, sym, ℕ, ⊎_elim, []}
+use Rattle.std.proofs.Common.{◌++◌, ◌<◌, ◌∙◌, ◌∷◌, ◌≡◌, ◌≤◌}
 use Rattle.gb_base.specs.declared.end.Side.TheVariants as side
-use Rattle.gb_invariants.proofs.Awaiting.{not-both, sent-made}
-use Rattle.gb_invariants.proofs.Lists.{in-behind, in-front, in-pushed}
-use Rattle.gb_laws.proofs.Framing.{asked-toward}
-use Rattle.gb_laws.proofs.Linking.{LinkedAt}
-use Rattle.gb_laws.proofs.PointParts.{Basis, Point}
-use Rattle.gb_laws.proofs.QuietBuses.{svc-found}
-use Rattle.gb_laws.proofs.SvcMoves.{FarMoves, asked, elsewhere, puts, stays, taken}
-use Rattle.gb_laws.proofs.There.{There}
 use Rattle.gb_machine.proofs.Lists.{nth-within}
 use Rattle.gb_machine.specs.Bus.{Ask, Bus, Item, Request, next_number, request_of}
-use Rattle.gb_machine.specs.LawsBus.{is_awaited}
-use Rattle.gb_machine.specs.Lists.{behind_first, nth}
-use Rattle.gb_machine.specs.Members.{IsIn}
-use Rattle.gb_machine.specs.SvcQueues.{items_in, svc_items}
+use Rattle.gb_machine.specs.{LawsBus.is_awaited, Lists.behind_first, Lists.nth, Members.IsIn}
+use Rattle.gb_machine.specs.{SvcQueues.items_in, SvcQueues.svc_items}
+use Rattle.gb_invariants.proofs.Lists.{in-behind, in-front, in-pushed}
+use Rattle.gb_invariants.proofs.Awaiting.{not-both, sent-made}
+use Rattle.gb_laws.proofs.SvcMoves.{FarMoves, asked, elsewhere, puts, stays, taken}
+use Rattle.gb_laws.proofs.{LinkKept.LinkedAt, MarkFrame.asked-toward, PointParts.Basis}
+use Rattle.gb_laws.proofs.{PointParts.Point, QuietBuses.svc-found, SvcThere.There}
 
 -- the numbers of requests among items rise
 abbrev pub Rising : List Item → Type 0
@@ -81,15 +58,15 @@ same-ask n k e = cc
 
 -- ---- each change
 
-pub order-kept : (a : Point) (after : Bus) → Basis a → FarMoves a.state.bus after
+pub order-kept : (a : Point) {after : Bus} → Basis a → FarMoves a.state.bus after
     → SvcOrder a.state.bus → SvcOrder after
-order-kept a after basis (stays requests far) h = record {
+order-kept a basis (stays requests far) h = record {
   rise = subst Rising (sym far) h.rise;
   later = λ n k r made on own low i. subst (λ xs. IsIn (Ask n) xs) (sym far)
       (h.later n k r (sym (ap (λ rs. nth n rs) requests) ∙ made) on own low
       (subst (λ xs. IsIn (Ask k) xs) far i));
 }
-order-kept a after basis (taken requests far) h = record {
+order-kept a basis (taken requests far) h = record {
   rise = subst Rising (sym far) (rising-behind (svc_items side.Far a.state.bus) h.rise);
   later = λ n k r made on own low i.
       let j = subst (λ xs. IsIn (Ask k) xs) far i in
@@ -98,7 +75,7 @@ order-kept a after basis (taken requests far) h = record {
       (h.later n k r (sym (ap (λ rs. nth n rs) requests) ∙ made) on own low
       (in-behind_first (svc_items side.Far a.state.bus) (Ask k) j)));
 }
-order-kept a after basis (puts x unasked requests far) h = record {
+order-kept a basis (puts x unasked requests far) h = record {
   rise = subst Rising (sym far) (rising-pushed (svc_items side.Far a.state.bus) x
       (λ n k e i. absurd (unasked n e)) h.rise);
   later = λ n k r made on own low i. subst (λ xs. IsIn (Ask n) xs) (sym far)
@@ -108,11 +85,10 @@ order-kept a after basis (puts x unasked requests far) h = record {
       (in-pushed (Ask k) (svc_items side.Far a.state.bus) x
       (subst (λ xs. IsIn (Ask k) xs) far i)))));
 }
-order-kept a after basis (asked d label is one own_side far) h = record {
+order-kept a basis (asked d label is one own_side far) h = record {
   rise = subst Rising (sym far) (rising-pushed (svc_items side.Far a.state.bus)
       (Ask (next_number a.state.bus)) (λ n k e i. above n k (same-ask _ n e) i) h.rise);
-  later = λ n k r made on own low i. subst (λ xs. IsIn (Ask n) xs) (sym far)
-      (⊎_elim
+  later = λ n k r made on own low i. subst (λ xs. IsIn (Ask n) xs) (sym far) (⊎_elim
       (λ old. in-front (Ask n) (svc_items side.Far a.state.bus) (Ask (next_number a.state.bus) ∷ [])
       (h.later n k r old on own low (⊎_elim (λ o. o)
       (λ e. let high = same-ask k (next_number a.state.bus) e in
@@ -131,13 +107,11 @@ order-kept a after basis (asked d label is one own_side far) h = record {
         let made = asked-toward side.Far a basis k i in
         let within = nth-within k a.state.bus.requests made.0 made.1 in
         omega (arith, within, e)
-order-kept a after basis (elsewhere d label is other far) h = record {
+order-kept a basis (elsewhere d label is other far) h = record {
   rise = subst Rising (sym far) h.rise;
-  later = λ n k r made on own low i. subst (λ xs. IsIn (Ask n) xs) (sym far)
-      (⊎_elim
+  later = λ n k r made on own low i. subst (λ xs. IsIn (Ask n) xs) (sym far) (⊎_elim
       (λ old. h.later n k r old on own low (subst (λ xs. IsIn (Ask k) xs) far i))
-      (λ new. absurd (other
-      (ap (λ (q : Request). q.connection) (sym new.1) ∙ on)
+      (λ new. absurd (other (ap (λ (q : Request). q.connection) (sym new.1) ∙ on)
       (ap (λ (q : Request). q.side) (sym new.1) ∙ own)))
       (sent-made d label a.state.bus n r (ap (request_of n) (sym is) ∙ made)));
 }
@@ -150,7 +124,7 @@ pub none-earlier : (a : Point) → Basis a → LinkedAt a → There a.state.bus 
     → r.side ≡ side.Ap → r.oneway ≡ false → is_awaited n a.state.bus ≡ false → k ≤ n
     → IsIn (Ask k) (svc_items side.Far a.state.bus) → ⊥
 none-earlier a basis links there order n k r made on own twoway over low i =
-    let c = svc-found a basis there in
+    let c = svc-found basis there in
     let svc = links.svc c.0 c.3 c.4 in
     let waits = subst (λ o. IsIn (Ask n) (items_in side.Far o)) c.1
     (order.later n k r made on own low i) in

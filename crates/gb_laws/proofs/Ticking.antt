@@ -1,91 +1,42 @@
 -- A law of points goes over ticks and pulls.
-use Rattle.std.proofs.Common.{
-  ◌≡◌,
-  ◌⊎◌,
-  ◌<◌,
-  ◌≢◌,
-  ℕ,
-  ◌+◌,
-  Bool,
-  true,
-  false,
-  cond,
-  None,
-  List,
-  [],
-  ◌∷◌,
-  ◌++◌,
-  map,
-  refl,
-  sym,
-  ap,
-  ◌∙◌,
-  inl,
-  inr,
-  subst,
-  append-nil,
-  append_assoc,
-  arith,
-}
+use Rattle.std.proofs.Common.{Bool, List, None, ap, append-nil, append_assoc, arith, cond, false}
+use Rattle.std.proofs.Common.{inl, inr, map, refl, subst, sym, true, ℕ, [], ◌++◌, ◌+◌, ◌<◌, ◌∙◌}
+use Rattle.std.proofs.Common.{◌∷◌, ◌≡◌, ◌≢◌, ◌⊎◌}
 use Rattle.std.proofs.lemmas.Bool.Decides.{nat_tests}
-use Rattle.std.specs.Prelude.{◌==◌}
 use Rattle.std.specs.List.{filter}
+use Rattle.std.specs.Prelude.{◌==◌}
 use Rattle.gb_base.specs.declared.end.End.{End}
 use Rattle.gb_base.specs.declared.end.End.TheVariants as end
 use Rattle.gb_base.specs.declared.end.Side.TheVariants as side
 use Rattle.gb_base.specs.declared.entry.Entry.{Entry}
 use Rattle.gb_base.specs.declared.event.Event.TheVariants as event
 use Rattle.gb_base.specs.declared.outcome.Outcome.TheVariants as outcome
-use Rattle.gb_formats.specs.SvcRecords.{SvcAsk}
-use Rattle.gb_invariants.proofs.Awaiting.{not-both}
-use Rattle.gb_invariants.proofs.Lists.{two-filter, in-without}
-use Rattle.gb_invariants.proofs.Outcomes.{Rise, both-true, open_requests-rise, same-number}
-use Rattle.gb_invariants.specs.Facts.{IsBefore}
-use Rattle.gb_laws.proofs.Going.{At, goes-far_asks, goes-when}
-use Rattle.gb_laws.proofs.ActLaws.{acting}
-use Rattle.gb_laws.proofs.Points.{IsOfSvc, by_svc, IsLive, Law, others, passes, unwires as unwiring}
-use Rattle.gb_laws.proofs.PointParts.{Untouched, Unwired, Wired, Wires}
-use Rattle.gb_laws.proofs.ServingSvc.{Ends}
-use Rattle.gb_laws.proofs.Stepping.{rests-gives_up}
-use Rattle.gb_laws.proofs.SteppingPlugs.{Rests, rests-nothing, rests-▸}
-use Rattle.gb_machine.specs.Modules.{is_plugged_at}
+use Rattle.gb_formats.specs.SvcRecords.{SvcAsk, read_svc_ask, svc_ask_kind, svc_ask_payload}
 use Rattle.gb_machine.proofs.Opened.{machine_opened}
 use Rattle.gb_machine.specs.Actions.{Action, change, each, when, ◌▸◌}
 use Rattle.gb_machine.specs.Bus.{Bus, Connection, has_number}
 use Rattle.gb_machine.specs.GivingUp.{gives_up, later_by, ticks, times_out}
-use Rattle.gb_machine.specs.Lists.{at_first}
 use Rattle.gb_machine.specs.Members.{Each, EachTwo, IsIn}
-use Rattle.gb_machine.specs.OwnAsking.{svc_asks, svc_own}
 use Rattle.gb_machine.specs.Plugging.{pulls, wired_numbers, with_pulled}
-use Rattle.gb_machine.specs.Requests.{is_due, open_on}
-use Rattle.gb_machine.specs.Runs.{Moment}
-use Rattle.gb_machine.specs.State.{State}
-use Rattle.gb_machine.specs.Wires as wiring
-use Rattle.gb_machine.specs.Wiring.{is_at, is_wired_to, unwired}
-use Rattle.gb_laws.proofs.LinkLists.{none-of}
-use Rattle.gb_laws.proofs.Marks.{find-left}
-use Rattle.gb_formats.specs.SvcRecords.{read_svc_ask, svc_ask_kind, svc_ask_payload}
 use Rattle.gb_machine.specs.Ports.{is_port, level_in, level_of, unpowered}
-use Rattle.gb_machine.specs.State.{Port}
-use Rattle.gb_machine.specs.SvcQueues.{removes}
+use Rattle.gb_machine.specs.Wiring.{is_at, is_wired_to, unwired}
+use Rattle.gb_machine.specs.{Modules.is_plugged_at, OwnAsking.svc_asks, OwnAsking.svc_own}
+use Rattle.gb_machine.specs.{Requests.is_due, Requests.open_on, Runs.Moment, State.Port}
+use Rattle.gb_machine.specs.{State.State, SvcQueues.removes}
+use Rattle.gb_machine.specs.Wires as wiring
+use Rattle.gb_invariants.proofs.Lists.{at_first-stays, in-without, two-filter}
+use Rattle.gb_invariants.proofs.Outcomes.{Rise, both-true, open_requests-rise, same-number}
+use Rattle.gb_invariants.proofs.Found.{find-left, none-of}
+use Rattle.gb_invariants.specs.Facts.{IsBefore}
 use Rattle.gb_laws.proofs.Overdue.{IsOverdue, overdue-first, overdue-others}
+use Rattle.gb_laws.proofs.PointParts.{Untouched, Unwired, Wired, Wires}
+use Rattle.gb_laws.proofs.Points.{IsLive, IsOfSvc, Law, by_svc, others, passes, unwires as unwiring}
+use Rattle.gb_laws.proofs.StepActions.{At, goes-far_asks, goes-when}
+use Rattle.gb_laws.proofs.StepPlugs.{Rests, rests-nothing, rests-▸}
+use Rattle.gb_laws.proofs.{StepActLaws.acting, StepEvents.rests-gives_up, StepSvcServes.Ends}
 pub use Rattle.gb_laws.proofs.Overdue.{due_by}
 
 -- ---- a connection that isn't unwired stays live
-
-pub at_first-stays : {A : Type 0} (test : A → Bool) (change : A → A) (xs : List A) (x : A)
-    → IsIn x xs → test x ≡ false
-    → IsIn x (at_first test change xs)
-at_first-stays test change [] x i h = absurd i
-at_first-stays test change (y ∷ ys) x i h = by (test y) refl i (at_first-stays test change ys x)
-  where
-    by : (b : Bool) → test y ≡ b → IsIn x (y ∷ ys)
-        → (IsIn x ys → test x ≡ false → IsIn x (at_first test change ys))
-        → IsIn x (cond b (change y ∷ ys) (y ∷ at_first test change ys))
-    by true e (inl is) rec = absurd (not-both (test x) (ap test is ∙ e) h)
-    by true e (inr j) rec = inr j
-    by false e (inl is) rec = inl is
-    by false e (inr j) rec = inr (rec j h)
 
 live-unwired : (n k : ℕ) (t : Bool) (b : Bus) → n < k → IsLive k t b → IsLive k t (unwired n b)
 live-unwired n k t b less h = record {
@@ -239,12 +190,10 @@ module _ (m : Moment) (law : Law m) where
   unwires-each (n ∷ ns) s rise live told h =
       let ends = map wiring.disconnected_told (open_on n side.Far s.bus) in
       let rest = unwires-each ns (wiring.with_unwired n s) rise.1 (later ns rise.0 live.1)
-      (told ++ ends)
-      (record {
+      (told ++ ends) (record {
         wires = Unwired;
         is = λ e. absurd cc;
-        holds = law.kept _
-            (unwiring n refl h.is live.0) h.holds;
+        holds = law.kept _ (unwiring n refl h.is live.0) h.holds;
       }) in
       subst (λ es. Unwires es (each ns wiring.unwires (wiring.with_unwired n s)).state)
       (append_assoc told ends (each ns wiring.unwires (wiring.with_unwired n s)).entries) rest
@@ -272,8 +221,7 @@ module _ (m : Moment) (law : Law m) where
         wires = u.wires;
         is = u.is;
         holds = law.kept _ (others w.booted w.holds (with_pulled i w).ports
-            (with_pulled i w).modules
-            (inr (
+            (with_pulled i w).modules (inr (
               of,
               λ j. unpowered-off i j w.ports (j == i) refl,
               λ h p k. h p (in-without (is_plugged_at i) w.modules p k).0,
@@ -296,8 +244,7 @@ module _ (m : Moment) (law : Law m) where
   pub ends-pulls : IsOfSvc m.event → (i : ℕ) → Ends m law None (pulls i) m.before
   ends-pulls of i told at =
       let numbers = (law.basis _ at).bus.numbers in
-      let r = cuts-pulls of i m.before
-      (wired-rise (filter (is_wired_to i) m.before.bus.connections)
+      let r = cuts-pulls of i m.before (wired-rise (filter (is_wired_to i) m.before.bus.connections)
       (two-filter IsBefore (is_wired_to i) m.before.bus.connections numbers.rise))
       told (record { wires = Untouched; is = λ e. absurd cc; holds = at }) in
       (r.wires, r.holds)

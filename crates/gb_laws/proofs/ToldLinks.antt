@@ -1,90 +1,28 @@
 -- What was told of a connection is of one that was made, and names its far end.
-use Rattle.std.proofs.Common.{
-  ◌≡◌,
-  ◌≤◌,
-  ℕ,
-  Bool,
-  true,
-  false,
-  List,
-  [],
-  ◌∷◌,
-  ◌++◌,
-  map,
-  refl,
-  sym,
-  ap,
-  ◌∙◌,
-  inl,
-  inr,
-  ⊎_elim,
-  subst,
-  arith,
-}
+use Rattle.std.proofs.Common.{Bool, List, ap, arith, false, inl, inr, map, refl, subst, sym, true}
+use Rattle.std.proofs.Common.{ℕ, ⊎_elim, [], ◌++◌, ◌∙◌, ◌∷◌, ◌≡◌, ◌≤◌}
 use Rattle.gb_base.specs.declared.end.End.TheVariants as end
+use Rattle.gb_base.specs.declared.end.Side.TheVariants as side
 use Rattle.gb_base.specs.declared.entry.Entry.{Entry}
 use Rattle.gb_base.specs.declared.entry.Entry.TheVariants as entry
-use Rattle.gb_base.specs.declared.end.Side.TheVariants as side
 use Rattle.gb_base.specs.declared.peers.Link.{Link}
-use Rattle.gb_invariants.proofs.Labels.{asked_on, asked_on-number}
-use Rattle.gb_invariants.proofs.ItemChanges.{asked_on-self}
-use Rattle.gb_invariants.proofs.Lists.{
-  each-append,
-  each-in,
-  each-weaker,
-  in-at_first,
-  in-pushed,
-  in-without,
-}
-use Rattle.gb_invariants.proofs.Selves.{front-self, put-self}
+use Rattle.gb_machine.specs.Bus.{Bus, Connection, next_number}
+use Rattle.gb_machine.specs.{Failures.unsent, Host.Host, HostTurns.host_turn, Members.Each}
+use Rattle.gb_machine.specs.{Members.IsIn, Requests.open_on, Runs.Moment, Sending.sent, Turns.Act}
+use Rattle.gb_machine.specs.{Wires.disconnected_told, Wiring.shut_down, Wiring.unwired}
+use Rattle.gb_invariants.proofs.BusChanges.{BusChange, Was, bus_after, came, sends, stayed, was}
+use Rattle.gb_invariants.proofs.BusChanges.{went}
+use Rattle.gb_invariants.proofs.Lists.{each-append, each-in, each-weaker, in-pushed}
+use Rattle.gb_invariants.proofs.Wires.{made-number}
 use Rattle.gb_invariants.specs.Facts.{IsMade}
-use Rattle.gb_laws.proofs.Awaited.{awaited-rest}
-use Rattle.gb_laws.proofs.LinkedFrom.{Linked}
-use Rattle.gb_laws.proofs.LinkLists.{one-link}
 use Rattle.gb_laws.proofs.LinkTells.{ActsTell, TellsLink, turns-tell, unsent-told}
-use Rattle.gb_laws.proofs.Linking.{LinkedAt}
 use Rattle.gb_laws.proofs.Links.{ArePending, IsKnown, leaving, linked, supervisory}
 use Rattle.gb_laws.proofs.PointParts.{Basis, Point, is_silent, sent_told}
-use Rattle.gb_laws.proofs.Points.{
-  Change,
-  IsAsking,
-  acts_asked,
-  acts_failed,
-  acts_left,
-  acts_opened,
-  acts_shut,
-  acts_told,
-  answers,
-  asking,
-  asks,
-  changed,
-  drops,
-  forgets,
-  gives_up,
-  injects,
-  names,
-  opening,
-  replies,
-  takes,
-  tells,
-  turns,
-  unwires,
-  wires,
-}
-use Rattle.gb_machine.specs.Bus.{Bus, Connection, Raw, has_number, next_number, other_side}
-use Rattle.gb_machine.specs.Delivery.{without_front}
-use Rattle.gb_machine.specs.Failures.{unsent}
-use Rattle.gb_machine.specs.Host.{Host}
-use Rattle.gb_machine.specs.HostTurns.{host_turn}
-use Rattle.gb_machine.specs.Incoming.{reply_item}
-use Rattle.gb_machine.specs.Lists.{at_first}
-use Rattle.gb_machine.specs.Members.{Each, IsIn}
-use Rattle.gb_machine.specs.Requests.{open_on}
-use Rattle.gb_machine.specs.Runs.{Moment}
-use Rattle.gb_machine.specs.Sending.{put, queued, sent}
-use Rattle.gb_machine.specs.Turns.{Act}
-use Rattle.gb_machine.specs.Wiring.{shut_down, unwired}
-use Rattle.gb_machine.specs.Wires.{disconnected_told}
+use Rattle.gb_laws.proofs.Points.{Change, IsAsking, acts_asked, acts_failed, acts_left, acts_opened}
+use Rattle.gb_laws.proofs.Points.{acts_shut, acts_told, answers, asking, asks, changed, drops}
+use Rattle.gb_laws.proofs.Points.{gives_up, injects, names, opening, replies, tells, turns, unwires}
+use Rattle.gb_laws.proofs.{ChangeBuses.bus_change, ChangeBuses.by-bus, LinkFrom.Linked}
+use Rattle.gb_laws.proofs.{LinkKept.LinkedAt, LinkLists.one-link}
 
 -- an entry on a connection is of one that was made, and where that is live it names its far end
 abbrev pub Matches : Bus → Entry → Type 0
@@ -114,55 +52,46 @@ pub record KeepsPeers (b after : Bus) : Type 0 where
   pub peers : (x : Connection) → IsIn x after.connections → x.number ≤ b.made
       → (y : Connection) × IsIn y b.connections × (y.number ≡ x.number) × (x.peer ≡ y.peer)
 
-matches-kept : (b after : Bus) → KeepsPeers b after → (e : Entry) → Matches b e → Matches after e
-matches-kept b after keeps (entry.Connection k ap i c state) h = (
+matches-kept : (b : Bus) {after : Bus} → KeepsPeers b after → (e : Entry) → Matches b e → Matches
+    after e
+matches-kept b keeps (entry.Connection k ap i c state) h = (
   let low = h.0 in let more = keeps.made in omega (arith, low, more),
   λ x live on.
       let y = keeps.peers x live (let low = h.0 in omega (arith, low, on)) in
       y.3 ∙ h.1 y.0 y.1 (y.2 ∙ on),
 )
-matches-kept b after keeps _ h = tt
+matches-kept b keeps _ h = tt
 
-acts-kept : (b after : Bus) → KeepsPeers b after → (acts : List Act) → ActsMatch b acts
+acts-kept : {b after : Bus} → KeepsPeers b after → (acts : List Act) → ActsMatch b acts
     → ActsMatch after acts
-acts-kept b after keeps [] h = tt
-acts-kept b after keeps (Act.Tell e ∷ rest) h =
-    (matches-kept b after keeps e h.0, acts-kept b after keeps rest h.1)
-acts-kept b after keeps (Act.Ask q ∷ rest) h = acts-kept b after keeps rest h
-acts-kept b after keeps (Act.Open w q ∷ rest) h = acts-kept b after keeps rest h
-acts-kept b after keeps (Act.Shut k ∷ rest) h = acts-kept b after keeps rest h
-acts-kept b after keeps (Act.Leave k ∷ rest) h = acts-kept b after keeps rest h
+acts-kept keeps [] h = tt
+acts-kept {b} keeps (Act.Tell e ∷ rest) h =
+    (matches-kept b keeps e h.0, acts-kept keeps rest h.1)
+acts-kept keeps (Act.Ask q ∷ rest) h = acts-kept keeps rest h
+acts-kept keeps (Act.Open w q ∷ rest) h = acts-kept keeps rest h
+acts-kept keeps (Act.Shut k ∷ rest) h = acts-kept keeps rest h
+acts-kept keeps (Act.Leave k ∷ rest) h = acts-kept keeps rest h
 
-told-kept : (b after : Bus) (told es : List Entry) (acts : List Act) → KeepsPeers b after
+told-kept : {b after : Bus} (told es : List Entry) (acts : List Act) → KeepsPeers b after
     → Each (Matches after) es → ToldIn b told acts → ToldIn after (told ++ es) acts
-told-kept b after told es acts keeps more h = record {
+told-kept {b} {after} told es acts keeps more h = record {
   told = each-append (Matches after) told es
-      (each-weaker (Matches b) (Matches after) told (matches-kept b after keeps) h.told) more;
-  acts = acts-kept b after keeps acts h.acts;
+      (each-weaker (Matches b) (Matches after) told (matches-kept b keeps) h.told) more;
+  acts = acts-kept keeps acts h.acts;
 }
 
-peers-same : (b after : Bus) → after.made ≡ b.made → after.connections ≡ b.connections
-    → KeepsPeers b after
-peers-same b after made same = record {
-  made = omega (arith, made);
-  peers = λ x live low. (x, subst (λ cs. IsIn x cs) same live, refl, refl);
-}
+peers-after : (x : BusChange) {b : Bus} → KeepsPeers b (bus_after x b)
+peers-after x {b} = record { made = more x; peers = λ c live low. by c low (was x b c live) }
+  where
+    more : (x : BusChange) → b.made ≤ (bus_after x b).made
+    more (sends d label) = omega arith
+    more _ = omega arith
 
-peers-first : (b after : Bus) (k : ℕ) (f : Connection → Connection) → after.made ≡ b.made
-    → after.connections ≡ at_first (has_number k) f b.connections
-    → ((c : Connection) → (f c).number ≡ c.number) → ((c : Connection) → (f c).peer ≡ c.peer)
-    → KeepsPeers b after
-peers-first b after k f made same number peer = record {
-  made = omega (arith, made);
-  peers = λ x live low. ⊎_elim (λ o. (x, o, refl, refl))
-      (λ w. (
-        w.0,
-        w.1,
-        sym (number w.0) ∙ ap (λ (y : Connection). y.number) (sym w.3),
-        ap (λ (y : Connection). y.peer) w.3 ∙ peer w.0,
-      ))
-      (in-at_first (has_number k) f b.connections x (subst (λ cs. IsIn x cs) same live));
-}
+    by : (c : Connection) → c.number ≤ b.made → Was x b c
+        → (y : Connection) × IsIn y b.connections × (y.number ≡ c.number) × (c.peer ≡ y.peer)
+    by c low (stayed o) = (c, o, refl, refl)
+    by c low (went d o at is g) = (d, o, sym g.ends.number, g.ends.peer)
+    by c low (came e) = absurd (omega (arith, low, made-number x b c e))
 
 -- ---- what is told
 
@@ -192,8 +121,7 @@ link-matches b h acts f none (entry.Connection k own i c state) t = (
         absurd (omega (arith, two, one, on, t.2))
     by x on (leaving j) = absurd (none x.number j)
     by x on (linked l j of) =
-        let same = one-link h.links l t.0 f.host.links.rise j t.1
-        (sym of.number ∙ on ∙ sym t.2) in
+        let same = one-link h.links l t.0 f.host.links.rise j t.1 (sym of.number ∙ on ∙ sym t.2) in
         of.peer ∙ ap (λ (y : Link). end.Module y.intf y.cport) same
         ∙ ap (λ n. end.Module n t.0.cport) t.3 ∙ ap (end.Module i) t.4
 link-matches b h acts f none _ t = tt
@@ -213,103 +141,62 @@ abbrev pub ToldAt : Point → Type 0
 ToldAt a = ToldIn a.state.bus a.told a.pending
 
 -- the bus changes, and something is told that matches
-told-by : (a : Point) (after : Bus) (es : List Entry) → KeepsPeers a.state.bus after
-    → Each (Matches after) es → ToldAt a → ToldIn after (a.told ++ es) a.pending
-told-by a after es keeps more h = told-kept a.state.bus after a.told es a.pending keeps more h
+told-by : (m : Moment) (a : Point) (x : Change m a) (es : List Entry)
+    → Each (Matches (changed m a x).state.bus) es → ToldAt a
+    → ToldIn (changed m a x).state.bus (a.told ++ es) a.pending
+told-by m a x es more h = told-kept a.told es a.pending
+    (by-bus (KeepsPeers a.state.bus) x (peers-after (bus_change x))) more h
 
-still : (a : Point) → KeepsPeers a.state.bus a.state.bus
-still a = peers-same a.state.bus a.state.bus refl refl
+-- then an act is done
+told-act : (m : Moment) (a : Point) (x : Change m a) (es : List Entry) (y : Act) (rest : List Act)
+    → a.pending ≡ y ∷ rest → Each (Matches (changed m a x).state.bus) es → ToldAt a
+    → Each (Matches (changed m a x).state.bus) (a.told ++ es)
+    × ActsMatch (changed m a x).state.bus (y ∷ rest)
+told-act m a x es y rest is more h = let now = told-by m a x es more h in
+    (now.told, subst (ActsMatch (changed m a x).state.bus) is now.acts)
 
 pub told-links_kept : (m : Moment) (a : Point) (x : Change m a) → Basis a → LinkedAt a → ToldAt a
     → ToldAt (changed m a x)
 told-links_kept m a (tells e silent) basis links h =
-    told-by a a.state.bus (e ∷ []) (still a) (silent-matches a.state.bus e silent, tt) h
+    told-by m a (tells e silent) (e ∷ []) (silent-matches a.state.bus e silent, tt) h
 told-links_kept m a (asks d c label free live drawn who) basis links h =
-    told-by a _ _ (peers-first a.state.bus
-    (changed m a (asks d c label free live drawn who)).state.bus d.connection
-    (asked_on d label a.state.bus) refl refl (asked_on-number d label a.state.bus)
-    (λ x. (asked_on-self d label a.state.bus x).peer))
+    told-by m a (asks d c label free live drawn who) _
     (tt, sent-matches (sent d label a.state.bus) d.oneway (next_number a.state.bus)) h
 told-links_kept m a (names name d c label free live drawn host) basis links h =
-    told-by a _ _ (peers-first a.state.bus
-    (changed m a (names name d c label free live drawn host)).state.bus d.connection
-    (asked_on d label a.state.bus) refl refl (asked_on-number d label a.state.bus)
-    (λ x. (asked_on-self d label a.state.bus x).peer))
+    told-by m a (names name d c label free live drawn host) _
     (tt, sent-matches (sent d label a.state.bus) d.oneway (next_number a.state.bus)) h
-told-links_kept m a (takes at p item free start is named front) basis links h =
-    told-by a _ [] (peers-first a.state.bus
-    (changed m a (takes at p item free start is named front)).state.bus p.connection.number
-    (without_front p.side) refl refl (λ c. (front-self p.side c).number)
-    (λ c. (front-self p.side c).peer)) tt h
 told-links_kept m a drops basis links h = record { told = h.told; acts = h.acts }
 told-links_kept m a (replies x q r is made twoway) basis links h =
-    told-by a _ _ (peers-first a.state.bus
-    (changed m a (replies x q r is made twoway)).state.bus x.connection.number
-    (put (other_side x.side) (reply_item q r)) refl refl
-    (λ c. (put-self (other_side x.side) (reply_item q r) c).number)
-    (λ c. (put-self (other_side x.side) (reply_item q r) c).peer)) (tt, tt) h
+    told-by m a (replies x q r is made twoway) (_ ∷ []) (tt, tt) h
 told-links_kept m a (answers x n result payload is says which) basis links h =
-    told-by a _ _ (peers-same a.state.bus
-    (changed m a (answers x n result payload is says which)).state.bus refl refl) (tt, tt) h
-told-links_kept m a (forgets x n is which) basis links h =
-    told-by a _ [] (peers-same a.state.bus (changed m a (forgets x n is which)).state.bus refl refl)
-    tt h
+    told-by m a (answers x n result payload is says which) (_ ∷ []) (tt, tt) h
 told-links_kept m a (gives_up n how free unended cause) basis links h =
-    told-by a _ _ (peers-same a.state.bus
-    (changed m a (gives_up n how free unended cause)).state.bus refl refl) (tt, tt) h
-told-links_kept m a (wires k free untouched live powered) basis links h =
-    told-by a _ [] (peers-first a.state.bus
-    (changed m a (wires k free untouched live powered)).state.bus k
-    (λ c. record c { wired = true }) refl refl (λ c. refl) (λ c. refl)) tt h
+    told-by m a (gives_up n how free unended cause) (_ ∷ []) (tt, tt) h
 told-links_kept m a (unwires k free before live) basis links h =
-    told-by a _ _ (peers-first a.state.bus (changed m a (unwires k free before live)).state.bus k
-    (λ c. record c { wired = false; to_ap = []; to_far = [] }) refl refl (λ c. refl) (λ c. refl))
+    told-by m a (unwires k free before live) _
     (ends-match (unwired k a.state.bus) (open_on k side.Far a.state.bus)) h
 told-links_kept m a (injects i c p bytes free named) basis links h =
-    told-by a _ _ (peers-first a.state.bus
-    (changed m a (injects i c p bytes free named)).state.bus p.connection.number
-    (λ x. queued side.Ap (Raw bytes) (record x { clean = false })) refl refl (λ x. refl)
-    (λ x. refl))
-    (tt, tt) h
-told-links_kept m a (turns e free untouched none cause) basis links h =
-    let now = told-by a a.state.bus [] (still a) tt h in record {
-      told = now.told;
-      acts = links-match a.state.bus a.state.host
-          (link-matches a.state.bus a.state.host []
-          (subst (Linked a.state.bus a.state.host) none links) (λ k i. i))
-          (host_turn e a.state.host).acts (turns-tell e a.state.host);
-    }
+    told-by m a (injects i c p bytes free named) (_ ∷ []) (tt, tt) h
+told-links_kept m a (turns e free untouched none cause) basis links h = record {
+  told = (told-by m a (turns e free untouched none cause) [] tt h).told;
+  acts = links-match a.state.bus a.state.host (link-matches a.state.bus a.state.host []
+      (subst (Linked a.state.bus a.state.host) none links) (λ k i. i))
+      (host_turn e a.state.host).acts (turns-tell e a.state.host);
+}
 told-links_kept m a (acts_told e rest is quiet) basis links h =
     let pending = subst (ActsMatch a.state.bus) is h.acts in record {
       told = each-append (Matches a.state.bus) a.told (e ∷ []) h.told (pending.0, tt);
       acts = pending.1;
     }
 told-links_kept m a (acts_shut k rest free is cause) basis links h =
-    let now = told-by a _ _ (peers-first a.state.bus
-    (changed m a (acts_shut k rest free is cause)).state.bus k (λ c. record c { shut = true })
-    refl refl (λ c. refl) (λ c. refl))
-    (ends-match (shut_down k a.state.bus) (open_on k side.Ap a.state.bus)) h in record {
-      told = now.told;
-      acts = subst (ActsMatch (changed m a (acts_shut k rest free is cause)).state.bus) is now.acts;
-    }
+    let t = told-act m a (acts_shut k rest free is cause) _ (Act.Shut k) rest is
+    (ends-match (shut_down k a.state.bus) (open_on k side.Ap a.state.bus)) h in
+    record { told = t.0; acts = t.1 }
 told-links_kept m a (acts_left k rest free untouched is) basis links h =
-    let now = told-by a (changed m a (acts_left k rest free untouched is)).state.bus [] (record {
-      made = omega arith;
-      peers = λ x live low.
-          (x, (in-without (has_number k) a.state.bus.connections x live).0, refl, refl);
-    }) tt h in record {
-      told = now.told;
-      acts = subst (ActsMatch (changed m a (acts_left k rest free untouched is)).state.bus) is
-          now.acts;
-    }
+    let t = told-act m a (acts_left k rest free untouched is) [] (Act.Leave k) rest is tt h in
+    record { told = t.0; acts = t.1 }
 told-links_kept m a (acts_opened w q rest free is) basis links h =
-    let after = (changed m a (acts_opened w q rest free is)).state.bus in
-    let now = told-by a after (_ ∷ []) (record {
-      made = omega arith;
-      peers = λ x live low. ⊎_elim (λ o. (x, o, refl, refl))
-          (λ e. absurd (omega (arith, low, ap (λ (y : Connection). y.number) e)))
-          (in-pushed x a.state.bus.connections _ live);
-    }) (
+    let t = told-act m a (acts_opened w q rest free is) (_ ∷ []) (Act.Open w q) rest is (
       (
         omega arith,
         λ x live on. ⊎_elim
@@ -319,16 +206,10 @@ told-links_kept m a (acts_opened w q rest free is) basis links h =
       ),
       tt,
     ) h in
-    record {
-      told = now.told;
-      acts = subst (ActsMatch (changed m a (acts_opened w q rest free is)).state.bus) is now.acts;
-    }
+    record { told = t.0; acts = t.1 }
 told-links_kept m a (acts_asked q n rest is) basis links h =
-    subst (λ b. ToldIn b (a.told ++ []) rest) (sym (awaited-rest q.purpose n a.state).bus)
-    (let now = told-by a a.state.bus [] (still a) tt h in record {
-      told = now.told;
-      acts = subst (ActsMatch a.state.bus) is.0 now.acts;
-    })
+    let t = told-act m a (acts_asked q n rest is) [] (Act.Ask q) rest is.0 tt h in
+    record { told = t.0; acts = t.1 }
 told-links_kept m a (acts_failed q rest is quiet) basis links h = record {
   told = each-append (Matches a.state.bus) a.told (unsent q.purpose a.state.host).told h.told
       (each-weaker (TellsLink a.state.host) (Matches a.state.bus)
@@ -354,5 +235,4 @@ told-links_kept m a (acts_failed q rest is quiet) basis links h = record {
     left : IsAsking q a.pending rest → ActsMatch a.state.bus rest
     left (asking e) = subst (ActsMatch a.state.bus) e h.acts
     left (opening w e) = subst (ActsMatch a.state.bus) e h.acts
-told-links_kept m a _ basis links h =
-    told-by a a.state.bus [] (still a) tt h
+told-links_kept m a x basis links h = told-by m a x [] tt h

@@ -1,36 +1,23 @@
 -- No open request of the application processor is on a connection that ever named an interface that
 -- is absent.
-use Rattle.std.proofs.Common.{◌≡◌, true, false, List, [], refl, ap, ◌∙◌}
+use Rattle.std.proofs.Common.{List, ap, false, refl, true, [], ◌∙◌, ◌≡◌}
 use Rattle.gb_base.specs.declared.entry.Entry.{Entry}
 use Rattle.gb_base.specs.declared.entry.Entry.TheVariants as entry
-use Rattle.gb_invariants.proofs.Awaiting.{not-both}
-use Rattle.gb_invariants.proofs.Lists.{each-in}
-use Rattle.gb_invariants.proofs.Numbers.{found-number}
-use Rattle.gb_invariants.proofs.Outcomes.{is-same}
-use Rattle.gb_laws.proofs.Absent.{unconnected}
-use Rattle.gb_laws.proofs.AllRuns.{SeesHappenings}
-use Rattle.gb_laws.proofs.Happened.{happened-told, told-happened}
-use Rattle.gb_laws.specs.OwnSide.{AbsentHasNoOpenOfAp}
-use Rattle.gb_laws.proofs.LinkLaw.{link_law}
-use Rattle.gb_laws.proofs.LinkRuns.{LinkedTo, linked-over, linked-throughout, start-absent}
-use Rattle.gb_laws.proofs.Linking.{InsertsAbsent, LinkedAt}
-use Rattle.gb_laws.proofs.OpenRuns.{open-live_in, opens-throughout}
-use Rattle.gb_laws.proofs.PointParts.{Basis}
-use Rattle.gb_laws.proofs.Points.{Law}
-use Rattle.gb_laws.proofs.Runs.{HoldsByMoments, throughout}
-use Rattle.gb_laws.proofs.Steps.{over-step}
-use Rattle.gb_laws.proofs.ToldLinks.{Matches, ToldAt, ToldIn, told-links_kept}
-use Rattle.gb_machine.specs.Bus.{is_open}
 use Rattle.gb_machine.specs.Runs.{Moment, state_by, told_by}
-use Rattle.gb_machine.specs.State.{State}
-use Rattle.gb_machine.specs.Wiring.{is_at}
+use Rattle.gb_machine.specs.{Bus.is_open, State.State, Wiring.is_at}
+use Rattle.gb_invariants.proofs.{Awaiting.not-both, Lists.each-in, Numbers.found-number}
+use Rattle.gb_invariants.proofs.{Outcomes.is-same}
+use Rattle.gb_laws.proofs.LinkRuns.{LinkedTo, linked-over, linked-throughout, start-absent}
+use Rattle.gb_laws.proofs.ToldLinks.{Matches, ToldAt, ToldIn, told-links_kept}
+use Rattle.gb_laws.proofs.{Absent.unconnected, AllRuns.SeesHappenings, Happened.happened-told}
+use Rattle.gb_laws.proofs.{Happened.told-happened, LinkKept.InsertsAbsent, LinkLaw.link_law}
+use Rattle.gb_laws.proofs.{OpenRuns.open-live_in, OpenRuns.opens-throughout, Points.Law}
+use Rattle.gb_laws.proofs.{Points.upon, Runs.HoldsByMoments, Runs.throughout, Steps.over-step}
+use Rattle.gb_laws.specs.OwnSide.{AbsentHasNoOpenOfAp}
 
 abbrev pub told_law : (m : Moment) → InsertsAbsent m → Law m
-told_law m absent = record {
-  holds = λ a. (Basis a × LinkedAt a) × ToldAt a;
-  basis = λ a h. h.0.0;
-  kept = λ a x h. ((link_law m absent).kept a x h.0, told-links_kept m a x h.0.0 h.0.1 h.1);
-}
+told_law m absent =
+    upon (link_law m absent) ToldAt (λ a x g h. told-links_kept m a x g.0 g.1 h)
 
 pub record ToldTo (told : List Entry) (s : State) : Type 0 where
   pub links : LinkedTo told s

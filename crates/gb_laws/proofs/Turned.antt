@@ -1,57 +1,30 @@
 -- The facts of the application processor's connections behind each of its turns, before the acts of
 -- the turn are done.
-use Rattle.std.proofs.Common.{
-  ◌≡◌,
-  ◌≤◌,
-  ℕ,
-  Option,
-  Some,
-  None,
-  List,
-  [],
-  ◌∷◌,
-  refl,
-  sym,
-  ap,
-  ◌∙◌,
-  subst,
-}
-use Rattle.std.specs.Prelude.{Result, Ok, Err, option_map}
+use Rattle.std.proofs.Common.{List, None, Option, Some, ap, refl, subst, sym, ℕ, [], ◌∙◌, ◌∷◌, ◌≡◌}
+use Rattle.std.proofs.Common.{◌≤◌}
+use Rattle.std.specs.Prelude.{Err, Ok, Result, option_map}
+use Rattle.gb_base.specs.declared.refusal.Refusal.TheVariants as why
 use Rattle.gb_base.specs.declared.end.End.{End}
 use Rattle.gb_base.specs.declared.end.Side.TheVariants as side
 use Rattle.gb_base.specs.declared.event.Event.TheVariants as event
 use Rattle.gb_base.specs.declared.outcome.Outcome.{Outcome}
 use Rattle.gb_base.specs.declared.peers.Link.{Link}
-use Rattle.gb_formats.specs.Records.{PayloadFault}
 use Rattle.gb_formats.specs.SvcRecords.{SvcAsk, read_svc_ask, read_svc_ask_of_svc}
-use Rattle.gb_laws.proofs.LinkedFrom.{Linked}
-use Rattle.gb_laws.proofs.LinkClosing.{fits-disconnects}
-use Rattle.gb_laws.proofs.LinkRuns.{start-absent}
-use Rattle.gb_laws.proofs.LinkTurns.{fits-connects, fits-inserted, fits-removed}
-use Rattle.gb_laws.proofs.LinkEnds.{fits-ended}
-use Rattle.gb_laws.proofs.Linking.{linked-fits}
-use Rattle.gb_laws.proofs.Noticing.{Tells, told-svc, unnoticed}
-use Rattle.gb_laws.proofs.Reached.{reached-told}
+use Rattle.gb_formats.specs.Records.{PayloadFault}
 use Rattle.gb_machine.proofs.Conditions.{free, front-unmet}
 use Rattle.gb_machine.specs.Bus.{Ask, Bus, Place, Request, place_of, queue, request_of}
 use Rattle.gb_machine.specs.Host.{Host, control_of, interface_of, link_of}
-use Rattle.gb_machine.specs.HostRefusals.{connect_conditions, disconnect_conditions}
-use Rattle.gb_machine.specs.HostServing.{
-  HostServed,
-  host_serves,
-  notified_by,
-  served_on,
-  serves_svc,
-}
-use Rattle.gb_machine.specs.HostTurns.{host_turn}
-use Rattle.gb_machine.specs.Incoming.{incoming}
-use Rattle.gb_machine.specs.Labels.{no_label}
-use Rattle.gb_machine.specs.Lists.{first, holds_of}
-use Rattle.gb_machine.specs.Reached.{OfARun}
-use Rattle.gb_machine.specs.Refusals.{has_no_label, refusal}
-use Rattle.gb_machine.specs.Runs.{Moment}
-use Rattle.gb_machine.specs.State.{State}
-use Rattle.gb_machine.specs.Turns.{HostEvent}
+use Rattle.gb_machine.specs.HostServing.{HostServed, host_serves, notified_by, served_on}
+use Rattle.gb_machine.specs.HostServing.{serves_svc}
+use Rattle.gb_machine.specs.{HostRefusals.connect_conditions, HostRefusals.disconnect_conditions}
+use Rattle.gb_machine.specs.{HostTurns.host_turn, Incoming.incoming, Lists.first}
+use Rattle.gb_machine.specs.{Lists.holds_of, Reached.OfARun, Refusals.has_no_label}
+use Rattle.gb_machine.specs.{Refusals.refusal, Runs.Moment, State.State, Turns.HostEvent}
+use Rattle.gb_invariants.proofs.Awaiting.{none-some}
+use Rattle.gb_laws.proofs.LinkTurns.{fits-connects, fits-inserted, fits-removed}
+use Rattle.gb_laws.proofs.MarkNotices.{Tells, told-svc, unnoticed}
+use Rattle.gb_laws.proofs.{LinkClosing.fits-disconnects, LinkEnds.fits-ended, LinkFrom.Linked}
+use Rattle.gb_laws.proofs.{LinkKept.linked-fits, LinkRuns.start-absent, Reached.reached-told}
 
 -- The facts go with the acts of a turn.
 abbrev pub TurnsTo : Bus → Host → HostEvent → Type 0
@@ -75,18 +48,16 @@ turned-inserted {b} {h} i absent f = linked-fits refl (fits-inserted b i h f.hos
 -- a connect isn't refused
 pub turned-connects : (s : State) (i c : ℕ) → refusal s (event.Connect i c) ≡ None → c ≤ 4095
     → Linked s.bus s.host [] → TurnsTo s.bus s.host (HostEvent.Connect i c)
-turned-connects s i c allowed within f = linked-fits refl
-    (fits-connects s.bus i c s.host f.host
-    (front-unmet (connect_conditions i c s.host) ((has_no_label 1 side.Ap s, no_label) ∷ [])
+turned-connects s i c allowed within f = linked-fits refl (fits-connects s.bus i c s.host f.host
+    (front-unmet (connect_conditions i c s.host) ((has_no_label 1 side.Ap s, why.NoLabel) ∷ [])
     (free s (event.Connect i c) allowed)) within) f
 
 -- a disconnect isn't refused
 pub turned-disconnects : (s : State) (i c : ℕ) → refusal s (event.Disconnect i c) ≡ None
     → Linked s.bus s.host [] → TurnsTo s.bus s.host (HostEvent.Disconnect i c)
-turned-disconnects s i c allowed f = linked-fits refl
-    (fits-disconnects s.bus i c s.host f.host
+turned-disconnects s i c allowed f = linked-fits refl (fits-disconnects s.bus i c s.host f.host
     (front-unmet (disconnect_conditions i c s.host)
-    ((holds_of (λ k. has_no_label k side.Ap s) (control_of i s.host), no_label) ∷ [])
+    ((holds_of (λ k. has_no_label k side.Ap s) (control_of i s.host), why.NoLabel) ∷ [])
     (free s (event.Disconnect i c) allowed))) f
 
 -- ---- requests of the supervisory controller
@@ -107,9 +78,6 @@ notice-plain : (k kind : ℕ) (payload : List ℕ) (h : Host) (e : HostEvent)
 notice-plain k kind payload h e told =
     ap (λ o. served_on o kind payload h) (by (link_of k h) refl told)
   where
-    none-some : None ≡ Some e → ⊥
-    none-some g = absurd cc
-
     by : (o : Option Link) → link_of k h ≡ o → (served_on o kind payload h).notices ≡ Some e
         → o ≡ None
     by None is f = refl
@@ -157,8 +125,7 @@ pub turned-noticed : (s : State) (at : End) (p : Place) (n : ℕ) (r : Request) 
 turned-noticed s at p n r e {b} run notes f =
     subst (λ h. TurnsTo b h e)
     (sym (noticed-host p.connection.number r.kind r.payload s.host e notes.notices))
-    (by e notes (told-svc e r.kind r.payload s.host
-    (ap (λ (t : HostServed). t.notices)
+    (by e notes (told-svc e r.kind r.payload s.host (ap (λ (t : HostServed). t.notices)
     (sym (notice-plain p.connection.number r.kind r.payload s.host e notes.notices))
     ∙ notes.notices)))
   where

@@ -1,47 +1,16 @@
 -- Each connection is remembered as wired once at most: its request was served then, and no other is
 -- made for it.
-use Rattle.std.proofs.Common.{
-  Bool,
-  List,
-  None,
-  Some,
-  [],
-  ap,
-  arith,
-  cond,
-  false,
-  inl,
-  inr,
-  length,
-  refl,
-  subst,
-  sym,
-  true,
-  ℕ,
-  ⊎_elim,
-  ◌+◌,
-  ◌++◌,
-  ◌∙◌,
-  ◌∷◌,
-  ◌≡◌,
-  ◌≤◌,
-}
+use Rattle.std.proofs.Common.{Bool, List, None, Some, ap, arith, cond, false, inl, inr, length}
+use Rattle.std.proofs.Common.{refl, subst, sym, true, ℕ, ⊎_elim, [], ◌++◌, ◌+◌, ◌∙◌, ◌∷◌, ◌≡◌, ◌≤◌}
 use Rattle.std.specs.Prelude.{◌==◌}
 use Rattle.gb_base.specs.declared.end.Side.TheVariants as side
-use Rattle.gb_invariants.proofs.Lists.{in-pushed}
-use Rattle.gb_invariants.proofs.Outcomes.{same-number}
-use Rattle.gb_laws.proofs.Creating.{creates_one, is_create}
-use Rattle.gb_laws.proofs.CreatingFacts.{creates-one, CreatesFit}
-use Rattle.gb_laws.proofs.OwnCreation.{IsCreation}
-use Rattle.gb_laws.proofs.Owning.{KeepsRequests}
-use Rattle.gb_laws.proofs.Stale.{waited}
-use Rattle.gb_laws.proofs.SvcMoves.{FarMoves}
-use Rattle.gb_laws.proofs.SvcOrder.{Rising}
 use Rattle.gb_machine.specs.Bus.{Ask, Bus, Item, Request, request_of}
-use Rattle.gb_machine.specs.Lists.{behind_first}
-use Rattle.gb_machine.specs.Members.{IsIn, times}
-use Rattle.gb_machine.specs.Runs.{Moment}
-use Rattle.gb_machine.specs.SvcQueues.{svc_items}
+use Rattle.gb_machine.specs.{Lists.behind_first, Members.IsIn, Members.times, Runs.Moment}
+use Rattle.gb_machine.specs.{SvcQueues.svc_items}
+use Rattle.gb_invariants.proofs.{BusChanges.KeepsRequests, Lists.in-pushed, Outcomes.same-number}
+use Rattle.gb_laws.proofs.{Creating.creates_one, Creating.is_create, CreatingFacts.CreatesFit}
+use Rattle.gb_laws.proofs.{CreatingFacts.creates-one, OwnCreation.IsCreation, Stale.waited}
+use Rattle.gb_laws.proofs.{SvcMoves.FarMoves, SvcOrder.Rising}
 
 -- The request to create connection k was made and doesn't wait any more.
 pub record IsSpent (k : ℕ) (b : Bus) (pairs : List (ℕ × ℕ)) : Type 0 where
@@ -86,18 +55,18 @@ times-more k x (y ∷ ys) = by (y == k) (times-more k x ys)
 
 -- ---- the queue moves
 
-pub wirings-on : (b after : Bus) (pairs now : List (ℕ × ℕ)) (wired : List ℕ) → FarMoves b after
+pub wirings-on : {b after : Bus} {pairs now : List (ℕ × ℕ)} {wired : List ℕ} → FarMoves b after
     → KeepsRequests b after → ((n k : ℕ) → IsIn (n, k) pairs → n ≤ length b.requests)
     → ((n k : ℕ) → IsIn (n, k) pairs → IsIn (n, k) now)
     → WiringsFit b pairs wired → WiringsFit after now wired
-wirings-on b after pairs now wired moves keeps below more h = record {
+wirings-on moves keeps below more h = record {
   spent = λ k i. let x = h.spent k i in record {
     number = x.number;
     request = x.request;
     pair = more x.number k x.pair;
     made = keeps x.number x.request x.made;
     creates = x.creates;
-    served = λ j. x.served (waited b after x.number moves (below x.number k x.pair) j);
+    served = λ j. x.served (waited x.number moves (below x.number k x.pair) j);
   };
   once = h.once;
 }
@@ -125,30 +94,27 @@ module _ (m : Moment) (k : ℕ) (c : IsCreation m k)
   taken i =
       let less = (subst Rising c.front rise).0 c.number c.number refl i in omega (arith, less)
 
-  pub wirings-more : (b : Bus) → svc_items side.Far b
+  pub wirings-more : {b : Bus} → svc_items side.Far b
       ≡ behind_first (svc_items side.Far m.before.bus)
       → ((n : ℕ) → request_of n b ≡ request_of n m.before.bus)
       → WiringsFit b m.before.past.made_for (m.before.past.wired ++ k ∷ [])
-  wirings-more b far requests = record {
-    spent = λ j i. ⊎_elim
-        (λ old. let x = h.spent j old in record {
-          number = x.number;
-          request = x.request;
-          pair = x.pair;
-          made = requests x.number ∙ x.made;
-          creates = x.creates;
-          served = λ w. x.served (in-behind (svc_items side.Far m.before.bus) (Ask x.number)
-              (subst (λ xs. IsIn (Ask x.number) xs) far w));
-        })
-        (λ e. record {
-          number = c.number;
-          request = c.request;
-          pair = subst (λ n. IsIn (c.number, n) m.before.past.made_for) (sym e) c.own;
-          made = requests c.number ∙ c.made;
-          creates = ap is_create c.creates;
-          served = λ w. taken (subst (λ xs. IsIn (Ask c.number) xs) far w);
-        })
-        (in-pushed j m.before.past.wired k i);
+  wirings-more far requests = record {
+    spent = λ j i. ⊎_elim (λ old. let x = h.spent j old in record {
+      number = x.number;
+      request = x.request;
+      pair = x.pair;
+      made = requests x.number ∙ x.made;
+      creates = x.creates;
+      served = λ w. x.served (in-behind (svc_items side.Far m.before.bus) (Ask x.number)
+          (subst (λ xs. IsIn (Ask x.number) xs) far w));
+    }) (λ e. record {
+      number = c.number;
+      request = c.request;
+      pair = subst (λ n. IsIn (c.number, n) m.before.past.made_for) (sym e) c.own;
+      made = requests c.number ∙ c.made;
+      creates = ap is_create c.creates;
+      served = λ w. taken (subst (λ xs. IsIn (Ask c.number) xs) far w);
+    }) (in-pushed j m.before.past.wired k i);
     once = λ j. by j (k == j) refl;
   }
     where

@@ -1,70 +1,31 @@
 -- Each connection is wired once at most, and by its own request, in each run.
-use Rattle.std.proofs.Common.{
-  Bool,
-  List,
-  None,
-  Option,
-  Some,
-  [],
-  ap,
-  arith,
-  cond,
-  false,
-  inl,
-  inr,
-  refl,
-  subst,
-  suc,
-  sym,
-  true,
-  zero,
-  ℕ,
-  ⊎_elim,
-  ◌++◌,
-  ◌∙◌,
-  ◌∷◌,
-  ◌≡◌,
-  ◌≢◌,
-  ◌⊎◌,
-}
+use Rattle.std.proofs.Common.{Bool, List, None, Option, Some, ap, arith, cond, false, inl, inr}
+use Rattle.std.proofs.Common.{refl, subst, suc, sym, true, zero, ℕ, ⊎_elim, [], ◌++◌, ◌∙◌, ◌∷◌, ◌≡◌}
+use Rattle.std.proofs.Common.{◌≢◌, ◌⊎◌}
 use Rattle.gb_base.specs.declared.entry.Entry.{Entry}
 use Rattle.gb_base.specs.declared.peers.Link.{Link}
-use Rattle.gb_invariants.proofs.Awaiting.{not-both, same-some}
-use Rattle.gb_invariants.proofs.Lists.{each-from, in-front}
-use Rattle.gb_invariants.proofs.Numbers.{found-by_number, found-number}
-use Rattle.gb_laws.proofs.Answering.{keeps-requests}
-use Rattle.gb_laws.proofs.CreatingFacts.{CreatesFit}
-use Rattle.gb_laws.proofs.CreatingKept.{CreatesAll, creates-kept}
-use Rattle.gb_laws.proofs.LinkRuns.{start-absent}
-use Rattle.gb_laws.proofs.OwnCreation.{IsCreation, creation-at}
+use Rattle.gb_machine.specs.Bus.{Connection, Request, connection_of}
+use Rattle.gb_machine.specs.LawsHotPlug.{IsOwnCreation, WiredByItsRequest, WiredOnce}
+use Rattle.gb_machine.specs.Runs.{IsMoment, Moment, after, told_at}
+use Rattle.gb_machine.specs.{Host.link_at, HostActs.made_for, Lists.first, Lists.nth, Members.IsIn}
+use Rattle.gb_machine.specs.{Sending.is_wired, SequenceSteps.is_for_connection, State.Past}
+use Rattle.gb_machine.specs.{State.State, Waits.awaits}
+use Rattle.gb_invariants.proofs.{Awaiting.not-both, Awaiting.same-some, Lists.each-from}
+use Rattle.gb_invariants.proofs.{Lists.in-front, Numbers.found-by_number, Numbers.found-number}
+use Rattle.gb_invariants.proofs.{Wires.WiredAreSo, Wires.wires_of}
 use Rattle.gb_laws.proofs.PointParts.{Point, Wires, resting}
 use Rattle.gb_laws.proofs.Points.{Change, Law, acts_asked, changed, wires}
-use Rattle.gb_laws.proofs.QuietServed.{IsServed, serving}
-use Rattle.gb_laws.proofs.Remembering.{waiting-wired}
 use Rattle.gb_laws.proofs.Runs.{HoldsAtMoments, HoldsByMoments, at_each, throughout, weaker}
-use Rattle.gb_laws.proofs.StaleBase.{StaleBase, base-kept}
 use Rattle.gb_laws.proofs.StaleRuns.{StaleTo, stale-over, stale-throughout, start-base}
-use Rattle.gb_laws.proofs.Steps.{over-step}
-use Rattle.gb_laws.proofs.SvcMoves.{far-moves}
-use Rattle.gb_laws.proofs.WiredOnce.{
-  WiringsFit,
-  none-before,
-  wirings-more,
-  wirings-on,
-}
+use Rattle.gb_laws.proofs.WiredOnce.{WiringsFit, none-before, wirings-more, wirings-on}
 use Rattle.gb_laws.proofs.WiredRemembered.{AreRemembered, remembered-first, remembered-kept}
-use Rattle.gb_laws.proofs.WiredSo.{WiredAreSo, so-kept, wired_by}
-use Rattle.gb_machine.specs.Bus.{Connection, Request, connection_of}
-use Rattle.gb_machine.specs.Host.{link_at}
-use Rattle.gb_machine.specs.HostActs.{made_for}
-use Rattle.gb_machine.specs.LawsHotPlug.{IsOwnCreation, WiredByItsRequest, WiredOnce}
-use Rattle.gb_machine.specs.Lists.{first, nth}
-use Rattle.gb_machine.specs.Members.{IsIn}
-use Rattle.gb_machine.specs.Runs.{IsMoment, Moment, after, told_at}
-use Rattle.gb_machine.specs.Sending.{is_wired}
-use Rattle.gb_machine.specs.SequenceSteps.{is_for_connection}
-use Rattle.gb_machine.specs.State.{Past, State}
-use Rattle.gb_machine.specs.Waits.{awaits}
+use Rattle.gb_laws.proofs.WiredRemembered.{so-kept}
+use Rattle.gb_laws.proofs.{ChangeBuses.bus_change, ChangeBuses.keeps-requests}
+use Rattle.gb_laws.proofs.{CreatingFacts.CreatesFit, CreatingKept.CreatesAll}
+use Rattle.gb_laws.proofs.{CreatingKept.creates-kept, LinkRuns.start-absent, OwnCreation.IsCreation}
+use Rattle.gb_laws.proofs.{OwnCreation.creation-at, QuietServed.IsServed, QuietServed.serving}
+use Rattle.gb_laws.proofs.{Remembering.waiting-wired, StaleBase.StaleBase, StaleBase.base-kept}
+use Rattle.gb_laws.proofs.{Steps.over-step, SvcMoves.far-moves}
 
 -- ---- what is remembered
 
@@ -110,15 +71,12 @@ module _ (m : Moment) (start : WiringTo m.told m.before) where
   pub wirings-kept : (a : Point) (x : Change m a) → StaleBase m a → WiringsAt a
       → WiringsAt (changed m a x)
   wirings-kept a (wires k free untouched live powered) f h =
-      wirings-on a.state.bus (changed m a (wires k free untouched live powered)).state.bus
-      a.state.past.made_for a.state.past.made_for (a.state.past.wired ++ k ∷ [])
-      (far-moves m a (wires k free untouched live powered) f.basis f.links f.there)
+      wirings-on (far-moves m (wires k free untouched live powered) f.basis f.links f.there)
       (keeps-requests m a (wires k free untouched live powered)) f.remembers.below (λ n j i. i)
       (subst (λ (p : Past). WiringsFit a.state.bus p.made_for (p.wired ++ k ∷ []))
-      (sym powered.2.serving.past)
-      (wirings-more m k
+      (sym powered.2.serving.past) (wirings-more m k
       (creation-at m start.stale start.creates a k live powered.0 powered.1 powered.2)
-      start.creates start.stale.order.rise start.wirings a.state.bus served.far served.requests))
+      start.creates start.stale.order.rise start.wirings served.far served.requests))
     where
       served : IsServed m a powered.2.incoming
       served = serving m start.stale.since.links.0 start.stale.since.links.1
@@ -127,18 +85,15 @@ module _ (m : Moment) (start : WiringTo m.told m.before) where
       subst (WiringsFit (changed m a (acts_asked q n rest is)).state.bus
       (changed m a (acts_asked q n rest is)).state.past.made_for)
       (sym (waiting-wired q.purpose n a.state))
-      (wirings-on a.state.bus (changed m a (acts_asked q n rest is)).state.bus
-      a.state.past.made_for (changed m a (acts_asked q n rest is)).state.past.made_for
-      a.state.past.wired (far-moves m a (acts_asked q n rest is) f.basis f.links f.there)
+      (wirings-on (far-moves m (acts_asked q n rest is) f.basis f.links f.there)
       (keeps-requests m a (acts_asked q n rest is)) f.remembers.below
       (pairs-more m a (acts_asked q n rest is)) h)
   wirings-kept a x f h =
-      wirings-on a.state.bus (changed m a x).state.bus a.state.past.made_for
-      a.state.past.made_for a.state.past.wired (far-moves m a x f.basis f.links f.there)
+      wirings-on (far-moves m x f.basis f.links f.there)
       (keeps-requests m a x) f.remembers.below (λ n k i. i) h
 
   -- what a change wires is wired by its own request
-  pub own-new : (a : Point) (x : Change m a) (k : ℕ) → wired_by m a x ≡ Some k → IsOwn m k
+  pub own-new : (a : Point) (x : Change m a) (k : ℕ) → wires_of (bus_change x) ≡ Some k → IsOwn m k
   own-new a (wires k free untouched live powered) n e = inr (subst (IsCreation m) (same-some k n e)
       (creation-at m start.stale start.creates a k live powered.0 powered.1 powered.2))
   own-new a _ n e = absurd cc

@@ -1,21 +1,17 @@
 -- What is wired is remembered to have been.
-use Rattle.std.proofs.Common.{List, Some, ap, inl, subst, sym, true, ℕ, ◌∷◌, ◌≡◌, ◌≢◌, []}
+use Rattle.std.proofs.Common.{List, Some, ap, inl, subst, sym, true, ℕ, [], ◌∷◌, ◌≡◌, ◌≢◌}
 use Rattle.gb_base.specs.declared.entry.Entry.{Entry}
-use Rattle.gb_invariants.proofs.Awaiting.{same-some}
+use Rattle.gb_machine.specs.{Bus.Connection, Members.IsIn, Runs.Moment, State.State}
+use Rattle.gb_machine.specs.{State.first_state}
 use Rattle.gb_invariants.proofs.Lists.{each-from, in-behind, in-front}
-use Rattle.gb_laws.proofs.Basics.{Based, basis-first, basis-kept, rested}
-use Rattle.gb_laws.proofs.LinkLaw.{is-svc}
-use Rattle.gb_laws.proofs.PointParts.{Basis, Point}
-use Rattle.gb_laws.proofs.Points.{Change, Law, acts_asked, changed, wires}
-use Rattle.gb_laws.proofs.Remembering.{waiting-wired}
+use Rattle.gb_invariants.proofs.Wires.{WiredAreSo, so-after, wires_of}
+use Rattle.gb_invariants.proofs.Awaiting.{same-some}
+use Rattle.gb_laws.proofs.Basics.{Based, basis, basis-first, rested}
+use Rattle.gb_laws.proofs.Points.{Change, Law, acts_asked, changed, upon, wires}
 use Rattle.gb_laws.proofs.Runs.{HoldsByMoments, throughout, weaker}
-use Rattle.gb_laws.proofs.Steps.{over-step}
-use Rattle.gb_laws.proofs.WiredSo.{so-kept, wired_by}
+use Rattle.gb_laws.proofs.{ChangeBuses.bus_change, ChangeBuses.by-bus, LinkLaw.is-svc}
+use Rattle.gb_laws.proofs.{PointParts.Point, Remembering.waiting-wired, Steps.over-step}
 use Rattle.gb_laws.specs.OwnWires.{WiredIsRemembered}
-use Rattle.gb_machine.specs.Bus.{Connection}
-use Rattle.gb_machine.specs.Members.{IsIn}
-use Rattle.gb_machine.specs.Runs.{Moment}
-use Rattle.gb_machine.specs.State.{State, first_state}
 
 abbrev pub AreRemembered : List Connection → List ℕ → Type 0
 AreRemembered cs wired =
@@ -32,8 +28,16 @@ wired-more m a (acts_asked q k rest is) n i =
     subst (λ ks. IsIn n ks) (sym (waiting-wired q.purpose k a.state)) i
 wired-more m a _ n i = i
 
+-- What is so of each connection that is wired, by its number, stays so where it is so of one that
+-- becomes wired.
+pub so-kept : (So : ℕ → Type 0) (m : Moment) (a : Point) (x : Change m a)
+    → ((k : ℕ) → wires_of (bus_change x) ≡ Some k → So k) → WiredAreSo So a.state.bus.connections
+    → WiredAreSo So (changed m a x).state.bus.connections
+so-kept So m a x new h = by-bus (λ b. WiredAreSo So b.connections) x
+    (so-after So (bus_change x) a.state.bus new h)
+
 -- and what a change wires is
-wired-new : (m : Moment) (a : Point) (x : Change m a) (n : ℕ) → wired_by m a x ≡ Some n
+wired-new : (m : Moment) (a : Point) (x : Change m a) (n : ℕ) → wires_of (bus_change x) ≡ Some n
     → IsIn n (changed m a x).state.past.wired
 wired-new m a (wires k free untouched live powered) n e =
     in-behind n a.state.past.wired (k ∷ []) (inl (sym (same-some k n e)))
@@ -50,11 +54,9 @@ remembered-kept m a x h =
 -- ---- throughout
 
 abbrev remembered_law : (m : Moment) → Law m
-remembered_law m = record {
-  holds = λ a. Basis a × AreRemembered a.state.bus.connections a.state.past.wired;
-  basis = λ a h. h.0;
-  kept = λ a x h. (basis-kept m a x h.0, remembered-kept m a x h.1);
-}
+remembered_law m = upon (basis m)
+    (λ a. AreRemembered a.state.bus.connections a.state.past.wired)
+    (λ a x g h. remembered-kept m a x h)
 
 abbrev RememberedTo : List Entry → State → Type 0
 RememberedTo told s = Based told s × AreRemembered s.bus.connections s.past.wired

@@ -1,105 +1,53 @@
 -- Where a connection is wired its module is plugged and its interface routed, throughout.
-use Rattle.gb_laws.proofs.LinkLists.{none-of}
-use Rattle.std.proofs.Common.{
-  ◌≡◌,
-  ◌≢◌,
-  ◌≤◌,
-  arith,
-  ℕ,
-  Bool,
-  true,
-  false,
-  cond,
-  Option,
-  Some,
-  None,
-  List,
-  [],
-  ◌∷◌,
-  map,
-  refl,
-  sym,
-  ap,
-  ◌∙◌,
-  inl,
-  inr,
-  ⊎_elim,
-  subst,
-}
-use Rattle.std.specs.Prelude.{◌==◌, ◌&&◌, is_some, option_map}
+use Rattle.std.proofs.Common.{Bool, List, None, Option, Some, ap, arith, cond, false, inl, inr, map}
+use Rattle.std.proofs.Common.{refl, subst, sym, true, ℕ, ⊎_elim, [], ◌∙◌, ◌∷◌, ◌≡◌, ◌≢◌, ◌≤◌}
 use Rattle.std.specs.List.{filter, find}
+use Rattle.std.specs.Prelude.{is_some, option_map, ◌&&◌, ◌==◌}
 use Rattle.gb_base.specs.declared.end.End.TheVariants as end
 use Rattle.gb_base.specs.declared.entry.Entry.{Entry}
 use Rattle.gb_base.specs.declared.event.Event.{Event}
 use Rattle.gb_base.specs.declared.event.Event.TheVariants as event
 use Rattle.gb_base.specs.declared.refusal.Refusal.{Refusal}
 use Rattle.gb_formats.specs.Module.{Module, module_of_kind, module_raw}
-use Rattle.gb_formats.specs.SvcRecords.{SvcAsk}
-use Rattle.gb_formats.specs.ValidEvents.{IsIntf}
-use Rattle.gb_invariants.proofs.Awaiting.{not-both}
-use Rattle.gb_invariants.proofs.Lists.{filter-in, two-at_first}
-use Rattle.gb_invariants.proofs.Numbers.{in-changed}
-use Rattle.gb_invariants.proofs.Outcomes.{is-same, same-number}
-use Rattle.gb_invariants.specs.Facts.{IsBefore}
-use Rattle.gb_laws.proofs.Basics.{basis-kept}
-use Rattle.gb_laws.proofs.Framing.{asked-items}
-use Rattle.gb_laws.proofs.LinkRuns.{LinkedTo, linked-over, linked-throughout}
-use Rattle.gb_laws.proofs.Marking.{refused-state}
-use Rattle.gb_laws.proofs.Marks.{find-left}
-use Rattle.gb_laws.proofs.Plugs.{plugged-at, plugged-other}
-use Rattle.gb_laws.proofs.Points.{IsOfSvc, Law}
-use Rattle.gb_laws.proofs.PointParts.{Basis, resting}
-use Rattle.gb_laws.proofs.Pulling.{pulled-other, svc-asked, unwires-svc, wired-others}
-use Rattle.gb_laws.proofs.Runs.{HoldsByMoments, Keeps, throughout}
-use Rattle.gb_laws.proofs.Steps.{over-step}
-use Rattle.gb_laws.proofs.Telling.{AfterAsk, QueueIsAsked, after-ask}
-use Rattle.gb_laws.proofs.WiredWell.{WiredFit, fit-bus, wired-kept}
-use Rattle.gb_machine.proofs.Conditions.{free as unmet}
-use Rattle.gb_machine.proofs.Opened.{machine_opened}
-use Rattle.gb_machine.specs.Actions.{each, when}
-use Rattle.gb_machine.specs.Bus.{Connection, has_number}
-use Rattle.gb_machine.specs.Events.{decided, step}
-use Rattle.gb_machine.specs.Members.{EachTwo, IsIn}
+use Rattle.gb_formats.specs.{SvcRecords.SvcAsk, ValidEvents.IsIntf}
+use Rattle.gb_machine.proofs.{Conditions.free as unmet, Opened.machine_opened}
 use Rattle.gb_machine.specs.Modules.{is_plugged, is_plugged_at, plugged, unplugged}
-use Rattle.gb_machine.specs.OwnAsking.{svc_asks}
-use Rattle.gb_machine.specs.Plugging.{
-  boots,
-  plugs,
-  pulls,
-  tells_inserted,
-  wired_numbers,
-  with_plugged,
-  with_pulled,
-}
-use Rattle.gb_machine.specs.Ports.{
-  is_port,
-  is_powered,
-  level_in,
-  level_of,
-  port_of,
-  powered,
-  unpowered,
-}
-use Rattle.gb_machine.specs.Refusals.{refusal}
+use Rattle.gb_machine.specs.Plugging.{boots, plugs, pulls, tells_inserted, wired_numbers}
+use Rattle.gb_machine.specs.Plugging.{with_plugged, with_pulled}
+use Rattle.gb_machine.specs.Ports.{is_port, is_powered, level_in, level_of, port_of, powered}
+use Rattle.gb_machine.specs.Ports.{unpowered}
 use Rattle.gb_machine.specs.Runs.{IsMoment, Moment, after}
 use Rattle.gb_machine.specs.State.{Plugged, Port, State, first_state}
-use Rattle.gb_machine.specs.Turns.{HostEvent}
-use Rattle.gb_machine.specs.Wires.{unwires, with_unwired}
-use Rattle.gb_machine.specs.Wiring.{is_at, is_wired_to}
+use Rattle.gb_machine.specs.{Actions.each, Actions.when, Bus.Connection, Bus.has_number}
+use Rattle.gb_machine.specs.{Events.decided, Events.step, Members.EachTwo, Members.IsIn}
+use Rattle.gb_machine.specs.{OwnAsking.svc_asks, Refusals.refusal, Turns.HostEvent, Wires.unwires}
+use Rattle.gb_machine.specs.{Wires.with_unwired, Wiring.is_at, Wiring.is_wired_to}
+use Rattle.gb_invariants.proofs.{Awaiting.not-both, Found.find-left, Found.none-of, Lists.filter-in}
+use Rattle.gb_invariants.proofs.{Lists.two-at_first, Numbers.in-changed, Outcomes.is-same}
+use Rattle.gb_invariants.proofs.{Outcomes.same-number, Selves.svc-no-module}
+use Rattle.gb_invariants.specs.Facts.{IsBefore}
+use Rattle.gb_laws.proofs.LinkRuns.{LinkedTo, linked-over, linked-throughout}
+use Rattle.gb_laws.proofs.MarkPulls.{pulled-other, svc-asked, unwires-svc, wired-others}
+use Rattle.gb_laws.proofs.MarkTells.{AfterAsk, QueueIsAsked, after-ask}
+use Rattle.gb_laws.proofs.Points.{IsOfSvc, Law, upon}
+use Rattle.gb_laws.proofs.Runs.{HoldsByMoments, Keeps, throughout}
+use Rattle.gb_laws.proofs.WiredWell.{WiredFit, fit-bus, wired-kept}
+use Rattle.gb_laws.proofs.{Basics.basis, MarkFrame.asked-items, MarkMoments.refused-state}
+use Rattle.gb_laws.proofs.{MarkPlugs.plugged-at, MarkPlugs.plugged-other, PointParts.resting}
+use Rattle.gb_laws.proofs.{Steps.over-step}
 
 -- ---- the supervisory controller asks
 
-fit-ask : (s t : State) (o : Option HostEvent) → AfterAsk s t o → WiredFit s → WiredFit t
-fit-ask s t o a h = fit-bus s t a.wired a.modules a.ports h
+fit-ask : {s t : State} (o : Option HostEvent) → AfterAsk s t o → WiredFit s → WiredFit t
+fit-ask {s} o a h = fit-bus s a.wired a.modules a.ports h
 
-fit-tells : (ps : List Plugged) (s : State) → QueueIsAsked s.bus → WiredFit s
+fit-tells : (ps : List Plugged) {s : State} → QueueIsAsked s.bus → WiredFit s
     → WiredFit (each ps (λ p. tells_inserted p.intf) s).state
 unfolding machine_opened
-fit-tells [] s asked h = h
-fit-tells (p ∷ ps) s asked h =
-    let a = after-ask (SvcAsk.ModuleInserted p.intf 1 0) s asked in
-    fit-tells ps (tells_inserted p.intf s).state a.asked
-    (fit-ask s (tells_inserted p.intf s).state _ a h)
+fit-tells [] asked h = h
+fit-tells (p ∷ ps) asked h =
+    let a = after-ask (SvcAsk.ModuleInserted p.intf 1 0) asked in
+    fit-tells ps a.asked (fit-ask _ a h)
 
 fit-boots : (s : State) → QueueIsAsked s.bus → WiredFit s → WiredFit (boots s).state
 unfolding machine_opened
@@ -107,10 +55,9 @@ fit-boots s asked h =
     let s0 = record s { booted = true } in
     let s1 = (svc_asks (SvcAsk.ProtocolVersion 0 1) s0).state in
     let s2 = (svc_asks (SvcAsk.Hello 1 1) s1).state in
-    let a1 = after-ask (SvcAsk.ProtocolVersion 0 1) s0 asked in
-    let a2 = after-ask (SvcAsk.Hello 1 1) s1 a1.asked in
-    fit-tells s.modules s2 a2.asked
-    (fit-ask s1 s2 _ a2 (fit-ask s0 s1 _ a1 (record {
+    let a1 = after-ask (SvcAsk.ProtocolVersion 0 1) asked in
+    let a2 = after-ask (SvcAsk.Hello 1 1) a1.asked in
+    fit-tells s.modules a2.asked (fit-ask _ a2 (fit-ask _ a1 (record {
       wired = h.wired;
       powered = h.powered;
       range = h.range;
@@ -169,14 +116,13 @@ fit-plugged i x s valid free h = record {
     by_range j false f e =
         h.range j (sym (plugged-other j (record { intf = i; body = x }) s.modules f) ∙ e)
 
-fit-plugs : (i : ℕ) (x : Module) (s : State) → IsIntf i → is_plugged i s.modules ≡ false
+fit-plugs : (i : ℕ) (x : Module) {s : State} → IsIntf i → is_plugged i s.modules ≡ false
     → QueueIsAsked s.bus → WiredFit s → WiredFit (plugs i x s).state
 unfolding machine_opened
-fit-plugs i x s valid free asked h = by s.booted
+fit-plugs i x {s} valid free asked h = by s.booted
   where
     by : (t : Bool) → WiredFit (when t (tells_inserted i) (with_plugged i x s)).state
-    by true = fit-ask (with_plugged i x s) _ _
-        (after-ask (SvcAsk.ModuleInserted i 1 0) (with_plugged i x s) asked)
+    by true = fit-ask _ (after-ask (SvcAsk.ModuleInserted i 1 0) asked)
         (fit-plugged i x s valid free h)
     by false = fit-plugged i x s valid free h
 
@@ -220,8 +166,7 @@ fit-pulled i s rise h s1 is modules ports = record {
   routed = λ c live wired j p at.
       let w = cut-from (wired_numbers i s.bus) s c rise
       (subst (λ t. IsIn c t.bus.connections) is live) wired in
-      ap (λ ps. level_of j (unpowered i ps)) ports
-      ∙ by_route c j p w.0 wired at w.1 (i == j) refl;
+      ap (λ ps. level_of j (unpowered i ps)) ports ∙ by_route c j p w.0 wired at w.1 (i == j) refl;
 }
   where
     past : (j : ℕ) → (i == j) ≡ false → (p : Port) (t : Bool) → (p.intf == i) ≡ t → p.intf ≡ j
@@ -294,17 +239,15 @@ fit-pulls i told s start asked h = by s.booted
     s1 = (each (wired_numbers i s.bus) unwires s).state
 
     cut : WiredFit (with_pulled i (each (wired_numbers i s.bus) unwires s).state)
-    cut = let c = unwires-svc (wired_numbers i s.bus) s (wired-others i s start.1) in
+    cut = let c = unwires-svc (wired_numbers i s.bus) (wired-others i s start.1) in
         fit-pulled i s start.0.bus.numbers.rise h _ refl c.modules c.ports
 
     queue : QueueIsAsked (with_pulled i (each (wired_numbers i s.bus) unwires s).state).bus
-    queue = svc-asked s (each (wired_numbers i s.bus) unwires s).state
-        (unwires-svc (wired_numbers i s.bus) s (wired-others i s start.1)) asked
+    queue = svc-asked s (unwires-svc (wired_numbers i s.bus) (wired-others i s start.1)) asked
 
     by : (t : Bool) → WiredFit (when t (svc_asks (SvcAsk.ModuleRemoved i))
         (with_pulled i (each (wired_numbers i s.bus) unwires s).state)).state
-    by true = fit-ask _ _ _ (after-ask (SvcAsk.ModuleRemoved i)
-        (with_pulled i (each (wired_numbers i s.bus) unwires s).state) queue) cut
+    by true = fit-ask _ (after-ask (SvcAsk.ModuleRemoved i) queue) cut
     by false = cut
 
 -- ---- each moment
@@ -316,19 +259,15 @@ pub record WiredTo (told : List Entry) (s : State) : Type 0 where
 
 module _ (m : Moment) (one : IsMoment m.event) (start : WiredTo m.told m.before) where
   abbrev wired_law : (IsOfSvc m.event → ⊥) → Law m
-  wired_law other = record {
-    holds = λ a. Basis a × WiredFit a.state;
-    basis = λ a h. h.0;
-    kept = λ a x h. (basis-kept m a x h.0, wired-kept m other a x h.0 h.1);
-  }
+  wired_law other =
+      upon (basis m) (λ a. WiredFit a.state) (λ a x g h. wired-kept m other a x g h)
 
   fit-still : (e : Event) → m.event ≡ e → (IsOfSvc e → ⊥) → WiredFit (after m)
   fit-still e is other = (over-step m (wired_law (λ of. other (subst IsOfSvc is of))) one
       (start.links.0, start.wired)).1.1
 
   fit-asking : (e : Event) → m.event ≡ e
-      → (refusal m.before e ≡ None → WiredFit (decided None e m.before).state)
-      → WiredFit (after m)
+      → (refusal m.before e ≡ None → WiredFit (decided None e m.before).state) → WiredFit (after m)
   unfolding machine_opened
   fit-asking e is done = by (refusal m.before e) refl
     where
@@ -344,11 +283,10 @@ module _ (m : Moment) (one : IsMoment m.event) (start : WiredTo m.told m.before)
   fit-kept event.Boot is at = fit-asking event.Boot is
       (λ free. fit-boots m.before (asked-items (resting m.told m.before) start.links.0) start.wired)
   fit-kept (event.Insert i kind) is at = fit-asking (event.Insert i kind) is
-      (λ free. fit-plugs i (module_of_kind kind) m.before at
-      (unmet m.before (event.Insert i kind) free).0
+      (λ free. fit-plugs i (module_of_kind kind) at (unmet m.before (event.Insert i kind) free).0
       (asked-items (resting m.told m.before) start.links.0) start.wired)
   fit-kept (event.InsertRaw i manifest) is at = fit-asking (event.InsertRaw i manifest) is
-      (λ free. fit-plugs i (module_raw manifest) m.before at
+      (λ free. fit-plugs i (module_raw manifest) at
       (unmet m.before (event.InsertRaw i manifest) free).0
       (asked-items (resting m.told m.before) start.links.0) start.wired)
   fit-kept (event.Pull i) is at = fit-asking (event.Pull i) is
@@ -376,16 +314,15 @@ module _ (m : Moment) (one : IsMoment m.event) (start : WiredTo m.told m.before)
 wired-first : WiredFit first_state
 wired-first = record {
   wired = λ c i wired j p at. ⊎_elim
-      (λ e. absurd (svc-peer j p (sym (ap (λ (x : Connection). x.peer) e) ∙ at))) (λ n. absurd n) i;
+      (λ e. absurd (svc-no-module (sym (ap (λ (x : Connection). x.peer) e) ∙ at))) (λ n. absurd n)
+      i;
   powered = λ i e. absurd (not-both false e refl);
   range = λ i e. absurd (not-both false e refl);
   bound = λ i. omega arith;
   routed = λ c i wired j p at. ⊎_elim
-      (λ e. absurd (svc-peer j p (sym (ap (λ (x : Connection). x.peer) e) ∙ at))) (λ n. absurd n) i;
+      (λ e. absurd (svc-no-module (sym (ap (λ (x : Connection). x.peer) e) ∙ at))) (λ n. absurd n)
+      i;
 }
-  where
-    svc-peer : (j p : ℕ) → end.Svc ≡ end.Module j p → ⊥
-    svc-peer j p e = absurd cc
 
 pub wired-over : Keeps WiredTo
 wired-over m one h = record {

@@ -2,3 +2,4 @@ pub mod NoneLeft
 pub mod OwnSide
 pub mod OwnWaits
 pub mod OwnWires
+pub mod Tickets

@@ -10,6 +10,7 @@ ghost use Rattle.gb_laws.specs.OwnSide.{
 };
 ghost use Rattle.gb_laws.specs.OwnWaits.{AwaitsOwnRequest, ServedLeavesNone};
 ghost use Rattle.gb_laws.specs.OwnWires.{WiredIsRemembered};
+ghost use Rattle.gb_laws.specs.Tickets.{EndsAsTold, LinesAsk, TwowayIsNeverSent, TwowayStays};
 ghost use Rattle.gb_machine.specs.Laws.{FactsOfRuns, LawsOfRuns};
 ghost use Rattle.gb_machine.specs.LawsBus.{
   EndpointsDiffer,
@@ -257,6 +258,24 @@ pub fn counts_add_up()
 /// done or settled.
 pub fn settles_are_deliveries()
     ensures { SettlesAreDeliveries }
+{}
+
+/// A request that was made stays so, and never ends as Sent where it isn't unidirectional.
+pub fn requests_stay()
+    ensures stay { TwowayStays }
+    ensures unsent { TwowayIsNeverSent }
+{}
+
+/// After an event the outcome of a request that isn't unidirectional is the one that it had, or
+/// else the one that the event's entries tell.
+pub fn ends_as_told()
+    ensures { EndsAsTold }
+{}
+
+/// Each send and bridge line that isn't refused asks a request: it is told, has a number above all
+/// earlier ones, and is open.
+pub fn lines_ask()
+    ensures { LinesAsk }
 {}
 
 /// The laws of runs, together.

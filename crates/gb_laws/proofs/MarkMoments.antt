@@ -1,0 +1,207 @@
+-- Insertions and removals come in turn: what a moment at which the supervisory controller doesn't
+-- ask makes of the marks.
+use Rattle.std.proofs.Common.{Bool, List, None, Option, Some, ap, false, inl, refl, subst, sym}
+use Rattle.std.proofs.Common.{true, ℕ, ⊎_elim, [], ◌++◌, ◌∙◌, ◌∷◌, ◌≡◌}
+use Rattle.std.specs.Prelude.{is_some, ◌==◌}
+use Rattle.gb_base.specs.declared.end.End.{End}
+use Rattle.gb_base.specs.declared.event.Event.TheVariants as event
+use Rattle.gb_base.specs.declared.peers.Interface.{Interface}
+use Rattle.gb_base.specs.declared.refusal.Refusal.{Refusal}
+use Rattle.gb_machine.proofs.{Conditions.waits, Opened.machine_opened}
+use Rattle.gb_machine.specs.Bus.{Item, Place, place_of, queue}
+use Rattle.gb_machine.specs.Host.{Host, interface_of, is_intf}
+use Rattle.gb_machine.specs.Runs.{IsMoment, Moment, after}
+use Rattle.gb_machine.specs.{Delivery.popped, Events.decided, Lists.first, Modules.is_plugged}
+use Rattle.gb_machine.specs.{Refusals.refusal, State.State, Turns.HostEvent}
+use Rattle.gb_invariants.proofs.{Awaiting.not-both, Found.find-none, Lists.found-in}
+use Rattle.gb_invariants.proofs.{Outcomes.is-same, Outcomes.same-number}
+use Rattle.gb_laws.proofs.MarkFrame.{FrameAt, frame-kept, popped_at, taken_bus}
+use Rattle.gb_laws.proofs.MarkTakes.{Taken, delivery-taken, insertion, none_taken, removal}
+use Rattle.gb_laws.proofs.Marks.{MarksFit, Reads, marks, reads-less}
+use Rattle.gb_laws.proofs.PointParts.{Basis, IsNoticed, Point, resting}
+use Rattle.gb_laws.proofs.Points.{IsOfSvc, Law, takes, upon}
+use Rattle.gb_laws.proofs.{Basics.basis-kept, LinkFrom.Linked, LinkKept.InsertsAbsent}
+use Rattle.gb_laws.proofs.{LinkKept.linked-kept, LinkLaw.link_law, Links.IsPresent}
+use Rattle.gb_laws.proofs.{Removing.delivered-state, StepDelivers.ends-taken, Steps.over-step}
+
+-- ---- known interfaces
+
+pub present-some : {i : ℕ} (h : Host) → IsPresent i h.interfaces → is_some (interface_of i h) ≡ true
+present-some {i} h p = by (interface_of i h) refl
+  where
+    by : (o : Option Interface) → interface_of i h ≡ o → is_some o ≡ true
+    by (Some x) e = refl
+    by None e = absurd (not-both (is_intf i p.interface) (ap (λ n. n == i) p.is ∙ is-same i)
+        (find-none (is_intf i) h.interfaces p.interface e p.known))
+
+pub some-present : (i : ℕ) (h : Host) → is_some (interface_of i h) ≡ true → IsPresent i h.interfaces
+some-present i h e = by (interface_of i h) refl e
+  where
+    by : (o : Option Interface) → interface_of i h ≡ o → is_some o ≡ true → IsPresent i h.interfaces
+    by (Some x) f g = let k = found-in (is_intf i) h.interfaces x f in
+        record { interface = x; known = k.0; is = same-number x.intf i k.1 }
+    by None f g = absurd (not-both false g refl)
+
+pub some-none : (i : ℕ) (h : Host) → is_some (interface_of i h) ≡ false → interface_of i h ≡ None
+some-none i h e = by (interface_of i h) e
+  where
+    by : (o : Option Interface) → is_some o ≡ false → o ≡ None
+    by None f = refl
+    by (Some x) f = absurd (not-both true refl f)
+
+-- ---- what a moment makes of the marks
+
+known-before : (m : Moment) (i : ℕ) → FrameAt m (resting [] (after m))
+    → (IsNoticed m (HostEvent.Inserted i) → ⊥)
+    → is_some (interface_of i (after m).host) ≡ true → is_some (interface_of i m.before.host) ≡ true
+known-before m i frame unnoted e =
+    let p = some-present i (after m).host e in
+    ⊎_elim (λ k. present-some m.before.host
+    (subst (λ n. IsPresent n m.before.host.interfaces) p.is k))
+    (λ n. absurd (unnoted (subst (λ k. IsNoticed m (HostEvent.Inserted k)) p.is n)))
+    (frame.known p.interface p.known)
+
+marks-from : (m : Moment) → MarksFit m.before → FrameAt m (resting [] (after m))
+    → ((i : ℕ) → Taken m i (marks i m.before.bus) (marks i (taken_bus m.event m.before.bus)))
+    → MarksFit (after m)
+marks-from m start frame taken = record {
+  reads = λ i. subst (λ ms. Reads (is_some (interface_of i (after m).host)) ms
+      (is_plugged i (after m).modules)) (sym (frame.same i))
+      (subst (Reads (is_some (interface_of i (after m).host))
+      (marks i (taken_bus m.event m.before.bus))) (sym (frame.plugged i)) (reads i (taken i)));
+  unstarted = λ e i. quiet i (start.unstarted (sym frame.started ∙ e) i) (taken i);
+  differ = frame.differ;
+}
+  where
+    reads : (i : ℕ) → Taken m i (marks i m.before.bus) (marks i (taken_bus m.event m.before.bus))
+        → Reads (is_some (interface_of i (after m).host)) (marks i (taken_bus m.event m.before.bus))
+        (is_plugged i m.before.modules)
+    reads i (none_taken e unnoted) =
+        reads-less _ (marks i (taken_bus m.event m.before.bus)) _ (known-before m i frame unnoted)
+        (subst (λ ms. Reads (is_some (interface_of i m.before.host)) ms
+        (is_plugged i m.before.modules)) e (start.reads i))
+    reads i (insertion e) =
+        reads-less _ (marks i (taken_bus m.event m.before.bus)) _ (λ k. refl)
+        (subst (λ ms. Reads (is_some (interface_of i m.before.host)) ms
+        (is_plugged i m.before.modules)) e (start.reads i)).1
+    reads i (removal e absent unnoted) =
+        reads-less _ (marks i (taken_bus m.event m.before.bus)) _ (λ k. sym (ap is_some absent) ∙ k)
+        (subst (λ ms. Reads (is_some (interface_of i m.before.host)) ms
+        (is_plugged i m.before.modules)) e (start.reads i))
+
+    nothing-taken : (x : Bool) (ms : List Bool) → [] ≡ x ∷ ms → ⊥
+    nothing-taken x ms e = absurd cc
+
+    quiet : (i : ℕ) → (marks i m.before.bus ≡ []) × (interface_of i m.before.host ≡ None)
+        → Taken m i (marks i m.before.bus) (marks i (taken_bus m.event m.before.bus))
+        → (marks i (after m).bus ≡ []) × (interface_of i (after m).host ≡ None)
+    quiet i q (none_taken e unnoted) = (
+      frame.same i ∙ sym e ∙ q.0,
+      some-none i (after m).host (by (is_some (interface_of i (after m).host)) refl),
+    )
+      where
+        by : (t : Bool) → is_some (interface_of i (after m).host) ≡ t → t ≡ false
+        by false f = refl
+        by true f = absurd (not-both (is_some (interface_of i m.before.host))
+            (known-before m i frame unnoted f) (ap is_some q.1))
+    quiet i q (insertion e) = absurd (nothing-taken true _ (sym q.0 ∙ e))
+    quiet i q (removal e absent unnoted) = absurd (nothing-taken false _ (sym q.0 ∙ e))
+
+-- ---- an interface whose insertion is handled is absent
+
+pub inserts-absent : (m : Moment) → Basis (resting m.told m.before)
+    → Linked m.before.bus m.before.host [] → MarksFit m.before → InsertsAbsent m
+inserts-absent m basis links start i n =
+    by (delivery-taken m basis links n.at n.place n.item i n.named n.event n.front)
+  where
+    by : Taken m i (marks i m.before.bus)
+        (marks i (popped n.place.connection.number n.place.side m.before.bus))
+        → interface_of i m.before.host ≡ None
+    by (none_taken e unnoted) = absurd (unnoted n)
+    by (removal e absent unnoted) = absurd (unnoted n)
+    by (insertion e) = some-none i m.before.host
+        (subst (λ ms. Reads (is_some (interface_of i m.before.host)) ms
+        (is_plugged i m.before.modules)) e (start.reads i)).0
+
+-- ---- moments
+
+-- nothing changes at an event that is refused
+pub refused-state : (m : Moment) (why : Refusal) → refusal m.before m.event ≡ Some why
+    → after m ≡ m.before
+unfolding machine_opened
+refused-state m why e = ap (λ o. (decided o m.event m.before).state) e
+
+module _ (m : Moment) (one : IsMoment m.event) (basis : Basis (resting m.told m.before))
+    (links : Linked m.before.bus m.before.host [])
+    (start : MarksFit m.before) (other : IsOfSvc m.event → ⊥) where
+  absent : InsertsAbsent m
+  absent = inserts-absent m basis links start
+
+  abbrev frame_law : Law m
+  frame_law = upon (link_law m (inserts-absent m basis links start)) (FrameAt m)
+      (λ a x g h. frame-kept m (inserts-absent m basis links start) other a x g.0 g.1 h)
+
+  reframe : (a : Point) (s : State) → a.state ≡ s → FrameAt m a → FrameAt m (resting [] s)
+  reframe a s e h = subst (λ t. FrameAt m (resting [] t)) e (record {
+    same = h.same;
+    known = h.known;
+    started = h.started;
+    plugged = h.plugged;
+    differ = h.differ;
+  })
+
+  before-frame : ((i : ℕ) → marks i m.before.bus ≡ marks i (taken_bus m.event m.before.bus))
+      → FrameAt m (resting m.told m.before)
+  before-frame same = record {
+    same = same;
+    known = λ x i. inl (record { interface = x; known = i; is = refl });
+    started = refl;
+    plugged = λ i. refl;
+    differ = start.differ;
+  }
+
+  -- an event at which nothing is delivered
+  pub marks-still : taken_bus m.event m.before.bus ≡ m.before.bus
+      → ((at : End) → m.event ≡ event.Deliver at → ⊥) → MarksFit (after m)
+  marks-still still undelivered =
+      let r = over-step m frame_law one
+      ((basis, links), before-frame (λ i. ap (marks i) (sym still))) in
+      marks-from m start (reframe _ (after m) refl r.1.1)
+      (λ i. none_taken (ap (marks i) (sym still)) (λ n. undelivered n.at n.event))
+
+  -- a delivery
+  pub marks-delivered : (at : End) → m.event ≡ event.Deliver at → MarksFit (after m)
+  marks-delivered at is = by (refusal m.before m.event) refl
+    where
+      item_at : (p : Place) → place_of at m.before.bus.connections ≡ Some p → (item : Item)
+          → first (queue p.side p.connection) ≡ Some item
+          → refusal m.before (event.Deliver at) ≡ None → MarksFit (after m)
+      item_at p named item front free =
+          let taken : taken_bus m.event m.before.bus ≡ popped p.connection.number p.side
+          m.before.bus =
+          ap (λ e. taken_bus e m.before.bus) is ∙ ap (λ o. popped_at o m.before.bus) named in
+          let change = takes at p item refl refl is named front in
+          let r = ends-taken m frame_law at p item is named front (m.told ++ []) (
+            (
+              basis-kept (resting m.told m.before) change basis,
+              linked-kept m absent change basis links,
+            ),
+            record {
+              same = λ i. ap (marks i) (sym taken);
+              known = λ x i. inl (record { interface = x; known = i; is = refl });
+              started = refl;
+              plugged = λ i. refl;
+              differ = start.differ;
+            },
+          ) in
+          marks-from m start (reframe _ (after m)
+          (sym (delivered-state m at p item is named front free)) r.1.1)
+          (λ i. subst (λ b. Taken m i (marks i m.before.bus) (marks i b)) (sym taken)
+          (delivery-taken m basis links at p item i named is front))
+
+      by : (o : Option Refusal) → refusal m.before m.event ≡ o → MarksFit (after m)
+      by (Some why) e = subst MarksFit (sym (refused-state m why e)) start
+      by None e =
+          let allowed = ap (refusal m.before) (sym is) ∙ e in
+          let w = waits m.before at allowed in
+          item_at w.place w.named w.item w.front allowed
