@@ -1,4 +1,5 @@
 mod Changing
 mod Dues
 mod Keeping
+pub mod Listing
 mod Maps

@@ -1,4 +1,5 @@
 pub mod Calls
 pub mod Finding
+pub mod Listed
 pub mod Operations
 pub mod Tables

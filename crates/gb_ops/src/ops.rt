@@ -11,11 +11,12 @@ ghost use Rattle.gb_ops.specs.Calls.{
   no_operations,
 };
 ghost use Rattle.gb_ops.specs.Finding.{FindsDue};
+ghost use Rattle.gb_ops.specs.Listed.{IsLate, IsOpen, Lists};
 ghost use Rattle.gb_ops.specs.Operations.{holder_of, next_label, pending_at};
 
 use crate::tables::Tables;
 use crate::{BeginFault, Holder, Matched};
-use gb_base::OutOfMemory;
+use gb_base::{Numbers, OutOfMemory};
 use gb_labels::Labels;
 use std::alloc::Global;
 use std::marker::Model;
@@ -113,6 +114,22 @@ impl Ops {
         };
         self.tables.mark(pending.label);
         true
+    }
+
+    /// The numbers of the open requests, in order.
+    pub fn unended(&self, alloc: Global) -> Result<Numbers, OutOfMemory>
+        ensures { IfOk result (λ ns. Lists (IsOpen self.now) ns) }
+    {
+        let numbers = self.tables.unended(alloc)?;
+        Ok(numbers)
+    }
+
+    /// The numbers of the requests that were given up and not answered yet, in order.
+    pub fn late(&self, alloc: Global) -> Result<Numbers, OutOfMemory>
+        ensures { IfOk result (λ ns. Lists (IsLate self.now) ns) }
+    {
+        let numbers = self.tables.late(alloc)?;
+        Ok(numbers)
     }
 
     /// The open request with the least number whose deadline came. Where none has, it looks at the

@@ -1,9 +1,12 @@
 //! Requests by identifier, by number and by deadline.
 
-ghost use Rattle.std.specs.Prelude.{◌≡◌, None, OnErr, OnOk, false, is_some};
+ghost use Rattle.std.specs.Prelude.{◌≡◌, None, [], IfOk, OnErr, OnOk, false, is_some};
 ghost use Rattle.std.specs.BTreeMap.{IsOrdered};
+ghost use Rattle.std.specs.List.Sorted.{IsStrictlySortedBy};
+ghost use Rattle.std.specs.Map.{keys_of};
 ghost use Rattle.std.specs.Ordering.{nat_cmp};
 ghost use Rattle.gb_ops.specs.Finding.{FindsDue, FindsLeast, NoneDue, due_in};
+ghost use Rattle.gb_ops.specs.Listed.{late_among};
 ghost use Rattle.gb_ops.specs.Tables.{
   Adds,
   AllCovered,
@@ -19,7 +22,7 @@ ghost use Rattle.gb_ops.specs.Tables.{
 };
 
 use crate::{Holder, Pending};
-use gb_base::OutOfMemory;
+use gb_base::{Numbers, OutOfMemory};
 use std::alloc::Global;
 use std::collections::{BTreeMap, BTreeSet};
 
@@ -137,6 +140,37 @@ impl Tables {
     {
         let (number, _) = self.pending.first_key_value()?;
         Some(*number)
+    }
+
+    /// The numbers of the open requests, in order.
+    pub fn unended(&self, alloc: Global) -> Result<Numbers, OutOfMemory>
+        ensures numbers { IfOk result (λ ns. ns ≡ keys_of self.now.pending.entries) }
+        ensures ordered { IsOrdered nat_cmp self.now.pending }
+    {
+        let mut numbers = Numbers::new(alloc);
+        for (number, _) in &self.pending {
+            numbers.push(*number)?;
+        }
+        Ok(numbers)
+    }
+
+    /// The numbers of the requests that were given up and have an identifier, in order.
+    pub fn late(&self, alloc: Global) -> Result<Numbers, OutOfMemory>
+        ensures numbers { IfOk result (λ ns. ns ≡ late_among [] self.now.holders.entries) }
+        ensures sorted { IfOk result (λ ns. IsStrictlySortedBy nat_cmp ns) }
+        ensures ordered { IsOrdered nat_cmp self.now.holders }
+    {
+        let mut found = BTreeSet::new(alloc);
+        for (_, holder) in &self.holders {
+            if holder.given_up {
+                found.insert(holder.number)?;
+            }
+        }
+        let mut numbers = Numbers::new(alloc);
+        for number in &found {
+            numbers.push(*number)?;
+        }
+        Ok(numbers)
     }
 
     /// The open request with the least number whose deadline came.

@@ -1,6 +1,7 @@
-//! Requests are begun, answered, given up, expire and are closed.
+//! Requests are begun, answered, given up and listed, expire and are closed.
 
 use crate::{BeginFault, Matched, Ops};
+use gb_base::{Numbers, OutOfMemory};
 use std::process::Abort;
 
 /// What a call answered.
@@ -95,4 +96,27 @@ fn given_up_identifiers_stay_in_use(rt: HostRuntime) {
     );
     begins(&rt, &mut ops, 65_536, 2);
     assert_eq!(rt; ops.begin(65_537, 0), Err(BeginFault::NoLabel));
+}
+
+/// These are the numbers.
+fn lists(rt: &impl Abort, told: Result<Numbers, OutOfMemory>, want: &[u64]) {
+    let numbers = told.expect(rt, "memory");
+    assert_eq!(rt; numbers.items(), want);
+}
+
+/// Requests 9 and 3 are given up, and 7 is open.
+const LEFT: &[(Act, Seen)] = &[
+    (Act::Begin(9, 0), Seen::Begun(1)),
+    (Act::Begin(3, 0), Seen::Begun(2)),
+    (Act::Begin(7, 0), Seen::Begun(3)),
+    (Act::GiveUp(9), Seen::GaveUp(true)),
+    (Act::GiveUp(3), Seen::GaveUp(true)),
+];
+
+#[test]
+fn requests_are_listed_in_order(rt: HostRuntime) {
+    let mut ops = Ops::new(rt.alloc()).expect(&rt, "memory");
+    plays(&rt, &mut ops, LEFT);
+    lists(&rt, ops.unended(rt.alloc()), &[7]);
+    lists(&rt, ops.late(rt.alloc()), &[3, 9]);
 }
