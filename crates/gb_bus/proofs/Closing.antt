@@ -1,5 +1,7 @@
 -- What slots say once a side of a connection is closed.
-use Rattle.std.proofs.Common.{◌≡◌, ℕ, Bool, true, false, cond, eqb, ◌&&◌, ◌||◌, Option, Some, None, option_and_then, is_none, is_some, List, [], ◌∷◌, refl, sym, ap, ◌∙◌, inl, inr, arith, nat_lt, ◌<◌}
+use Rattle.std.proofs.Common.{◌≡◌, ℕ, Bool, true, false, cond, eqb, ◌&&◌, ◌||◌, Option, Some, None}
+use Rattle.std.proofs.Common.{option_and_then, is_none, is_some, List, [], ◌∷◌, refl, sym, ap, ◌∙◌}
+use Rattle.std.proofs.Common.{inl, inr, arith, nat_lt, ◌<◌}
 use Rattle.gb_base.specs.declared.end.Side.{Side}
 use Rattle.gb_base.specs.declared.outcome.Outcome.{Outcome}
 use Rattle.gb_base.specs.declared.outcome.Outcome.TheVariants as outcome
@@ -8,20 +10,25 @@ use Rattle.gb_bus.proofs.Endings.{not-open, same-test}
 use Rattle.gb_bus.proofs.Listed.{those-are}
 use Rattle.gb_bus.specs.Counting.{Tells, one_ended}
 use Rattle.gb_bus.specs.Listing.{AreThose, Rises, count, stands_in}
-use Rattle.gb_bus.specs.Slots.{AreOpen, Kept, all_disconnected, closes, is_late_on, is_on, is_open_on, is_open_slot, slot_at}
+use Rattle.gb_bus.specs.Slots.{AreOpen, Kept, all_disconnected, closes, is_late_on, is_on}
+use Rattle.gb_bus.specs.Slots.{is_open_on, is_open_slot, slot_at}
 use Rattle.gb_bus.specs.Stands.{kept, kept_of, slot_of}
 use Rattle.gb_bus.specs.declared.slots.Slot.{Slot}
 use Rattle.gb_bus.specs.declared.tally.Tally.{Tally}
-use Rattle.gb_invariants.proofs.Awaiting.{is-open, not-both, same-some, side_ended-after, side_ended-before}
+use Rattle.gb_invariants.proofs.Awaiting.{is-open, not-both, same-some, side_ended-after}
+use Rattle.gb_invariants.proofs.Awaiting.{side_ended-before}
 use Rattle.gb_invariants.proofs.Lists.{in-without}
-use Rattle.gb_invariants.proofs.Outcomes.{any-in, in-any, in-open_requests, lookup-past, lookup-past-all, open_requests-in, open_requests-rise, pair-there}
+use Rattle.gb_invariants.proofs.Outcomes.{any-in, in-any, in-open_requests, lookup-past}
+use Rattle.gb_invariants.proofs.Outcomes.{lookup-past-all, open_requests-in, open_requests-rise}
+use Rattle.gb_invariants.proofs.Outcomes.{pair-there}
 use Rattle.gb_machine.specs.Bus as machine
 use Rattle.gb_machine.specs.Bus.{Request, is_open, outcome_of, request_of}
 use Rattle.gb_machine.specs.Delivery.{ended}
 use Rattle.gb_machine.specs.LawsBus.{is_awaited}
 use Rattle.gb_machine.specs.Lists.{lookup, without}
 use Rattle.gb_machine.specs.Members.{Each, IsIn}
-use Rattle.gb_machine.specs.Requests.{is_given_up, is_of, made_passes, open_on, open_requests, passes}
+use Rattle.gb_machine.specs.Requests.{is_given_up, is_of, made_passes, open_on, open_requests}
+use Rattle.gb_machine.specs.Requests.{passes}
 use Rattle.gb_machine.specs.Wiring.{all_ended, side_ended}
 
 -- ---- how they end
@@ -111,7 +118,7 @@ slot-of-made names b n r f made =
     ap (λ o. f (kept_of n (is_awaited n b) (count n names) (outcome_of n b) o)) made
 
 -- the slots of open requests of a side are of those
-open-on-is : (names : List ℕ) (b : machine.Bus) (k n : ℕ) (at : Side)
+pub open-on-is : (names : List ℕ) (b : machine.Bus) (k n : ℕ) (at : Side)
     → is_open_on k at (slot_of names n b) ≡ true → IsIn n (open_on k at b)
 open-on-is names b k n at h = by (request_of n b) (λ i. request_of n b)
   where
@@ -141,7 +148,7 @@ open-on-is names b k n at h = by (request_of n b) (λ i. request_of n b)
         (is_awaited n b || nat_lt 0 (count n names))
         (sym (slot-of-made names b n r (is_open_on k at) e) ∙ h)
 
-is-open-on : (names : List ℕ) (b : machine.Bus) (k n : ℕ) (at : Side) (r : Request)
+pub is-open-on : (names : List ℕ) (b : machine.Bus) (k n : ℕ) (at : Side) (r : Request)
     → request_of n b ≡ Some r → is_of k at r ≡ true → outcome_of n b ≡ None
     → is_open_on k at (slot_of names n b) ≡ true
 is-open-on names b k n at r made own free =

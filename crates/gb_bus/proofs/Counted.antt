@@ -1,5 +1,7 @@
 -- The counts are those of the machine's requests, and stay so.
-use Rattle.std.proofs.Common.{◌≡◌, ◌≢◌, ◌≤◌, ◌<◌, ℕ, zero, suc, ◌+◌, ◌-◌, Bool, true, false, cond, Option, Some, None, List, [], ◌∷◌, ◌++◌, length, refl, sym, ap, ◌∙◌, ◌⊎◌, inl, inr, arith, length-append, subst}
+use Rattle.std.proofs.Common.{◌≡◌, ◌≢◌, ◌≤◌, ◌<◌, ℕ, zero, suc, ◌+◌, ◌-◌, Bool, true, false, cond}
+use Rattle.std.proofs.Common.{Option, Some, None, List, [], ◌∷◌, ◌++◌, length, refl, sym, ap, ◌∙◌}
+use Rattle.std.proofs.Common.{◌⊎◌, inl, inr, arith, length-append, subst}
 use Rattle.std.proofs.lemmas.Bool.{cases_eq}
 use Rattle.std.specs.List.{slice_get}
 use Rattle.gb_base.specs.declared.outcome.Outcome.{Outcome}
@@ -9,7 +11,8 @@ use Rattle.gb_bus.specs.declared.tally.Tally.{Tally}
 use Rattle.gb_invariants.proofs.Awaiting.{opened}
 use Rattle.gb_machine.specs.Bus as machine
 use Rattle.gb_machine.specs.Bus.{Request, is_open, outcome_of, request_of}
-use Rattle.gb_machine.specs.Summary.{is_answered, is_cancelled, is_disconnected, is_sent, is_timed_out, is_unended, standing, standing_from}
+use Rattle.gb_machine.specs.Summary.{is_answered, is_cancelled, is_disconnected, is_sent}
+use Rattle.gb_machine.specs.Summary.{is_timed_out, is_unended, standing, standing_from}
 
 -- ---- how many stand so
 

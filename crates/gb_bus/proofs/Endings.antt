@@ -1,5 +1,7 @@
 -- What the slots say of a request, and once it ended.
-use Rattle.std.proofs.Common.{◌≡◌, ◌≢◌, ◌<◌, ◌⊎◌, ℕ, Bool, true, false, cond, ◌&&◌, ◌||◌, not, is_none, is_some, Option, Some, None, option_and_then, List, [], ◌∷◌, refl, sym, ap, ◌∙◌, eqb, arith, subst, nat_lt}
+use Rattle.std.proofs.Common.{◌≡◌, ◌≢◌, ◌<◌, ◌⊎◌, ℕ, Bool, true, false, cond, ◌&&◌, ◌||◌, not}
+use Rattle.std.proofs.Common.{is_none, is_some, Option, Some, None, option_and_then, List, [], ◌∷◌}
+use Rattle.std.proofs.Common.{refl, sym, ap, ◌∙◌, eqb, arith, subst, nat_lt}
 use Rattle.std.proofs.lemmas.Bool.Decides.{nat_tests}
 use Rattle.std.specs.List.{filter, list_any}
 use Rattle.gb_base.specs.declared.outcome.Outcome.{Outcome}
@@ -7,12 +9,15 @@ use Rattle.gb_bus.proofs.Counted.{tells-ended, tells-same}
 use Rattle.gb_bus.proofs.SlotLaws.{here-ends, here-forgets, here-gives_up, tell_moved}
 use Rattle.gb_bus.specs.Counting.{Tells, one_ended}
 use Rattle.gb_bus.specs.Listing.{count}
-use Rattle.gb_bus.specs.Slots.{Kept, MovesAt, ended_at, ends_so, forgets, gives_up_so, is_open_slot, open_place, slot_at}
+use Rattle.gb_bus.specs.Slots.{Kept, MovesAt, ended_at, ends_so, forgets, gives_up_so, is_open_slot}
+use Rattle.gb_bus.specs.Slots.{open_place, slot_at}
 use Rattle.gb_bus.specs.Stands.{KeepSides, Shows, StandForAll, kept, kept_of, slot_of}
 use Rattle.gb_bus.specs.Taking.{open_kind}
 use Rattle.gb_bus.specs.declared.bus.Bus.{Bus}
 use Rattle.gb_bus.specs.Connection.{Connection}
-use Rattle.gb_invariants.proofs.Awaiting.{ended-after, ended-before, forgotten-after, forgotten-before, gave_up-after, gave_up-before, is-open, not-both, opened}
+use Rattle.gb_invariants.proofs.Awaiting.{ended-after, ended-before, forgotten-after}
+use Rattle.gb_invariants.proofs.Awaiting.{forgotten-before, gave_up-after, gave_up-before, is-open}
+use Rattle.gb_invariants.proofs.Awaiting.{not-both, opened}
 use Rattle.gb_invariants.proofs.Lists.{in-filter}
 use Rattle.gb_invariants.proofs.Outcomes.{any-in, is-same, lookup-past, pair-there}
 use Rattle.gb_invariants.specs.Facts.{OutcomesFit}

@@ -1,5 +1,7 @@
 -- The least of the requests that are due times out.
-use Rattle.std.proofs.Common.{◌≡◌, ℕ, Bool, true, false, ◌&&◌, ◌||◌, nat_lt, cond, Option, Some, None, Result, Ok, Err, List, [], ◌∷◌, inl, inr, sym, ap, ◌∙◌, refl, subst}
+use Rattle.std.proofs.Common.{◌≡◌, ℕ, Bool, true, false, ◌&&◌, ◌||◌, nat_lt, cond, Option, Some}
+use Rattle.std.proofs.Common.{None, Result, Ok, Err, List, [], ◌∷◌, inl, inr, sym, ap, ◌∙◌, refl}
+use Rattle.std.proofs.Common.{subst}
 use Rattle.gb_base.specs.declared.outcome.Outcome.{Outcome}
 use Rattle.gb_base.specs.declared.outcome.Outcome.TheVariants as outcome
 use Rattle.gb_bus.proofs.Closing.{slot-of-made}

@@ -1,5 +1,7 @@
 -- How the index of live connections is kept by each change.
-use Rattle.std.proofs.Common.{◌≡◌, ◌≢◌, ℕ, Bool, true, false, cond, ◌⊎◌, inl, inr, ⊎_elim, Option, Some, None, List, [], ◌∷◌, ◌++◌, refl, sym, ap, ◌∙◌, subst, is_some, IsSome, eqb, ◌&&◌}
+use Rattle.std.proofs.Common.{◌≡◌, ◌≢◌, ℕ, Bool, true, false, cond, ◌⊎◌, inl, inr, ⊎_elim, Option}
+use Rattle.std.proofs.Common.{Some, None, List, [], ◌∷◌, ◌++◌, refl, sym, ap, ◌∙◌, subst, is_some}
+use Rattle.std.proofs.Common.{IsSome, eqb, ◌&&◌}
 use Rattle.std.proofs.lemmas.Bool.{cases_eq, eq-eqb, true≢false}
 use Rattle.std.proofs.lemmas.Map.{keys-set_value}
 use Rattle.std.specs.BTreeMap.{BTreeMap, IsOrdered, get, is_at}

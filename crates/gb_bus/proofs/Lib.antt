@@ -1,3 +1,5 @@
+pub mod ByLabel
+pub mod ByNumber
 pub mod Cancels
 pub mod Changing
 pub mod Closing
@@ -9,12 +11,14 @@ pub mod Entries
 pub mod Expiring
 pub mod Finding
 pub mod Fronts
+pub mod Injects
 pub mod Keeping
 pub mod Listed
 pub mod Looks
 pub mod Loosening
 pub mod Moves
 pub mod Named
+pub mod Opening
 pub mod Placing
 pub mod Queues
 pub mod Replies
@@ -23,6 +27,7 @@ pub mod Sends
 pub mod SideChanges
 pub mod SideLists
 pub mod SideMoves
+pub mod SideNumbers
 pub mod SideParts
 pub mod SideSends
 pub mod SideStates
@@ -35,6 +40,7 @@ pub mod SlotLists
 pub mod SlotMaps
 pub mod SlotNew
 pub mod Standing
+pub mod Taken
 pub mod Tellings
 pub mod Told
 pub mod Wires

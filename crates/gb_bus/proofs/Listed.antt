@@ -1,5 +1,6 @@
 -- Lists in order that have the same members are the same.
-use Rattle.std.proofs.Common.{◌≡◌, ◌<◌, ℕ, Bool, true, List, [], ◌∷◌, refl, sym, ap, ◌∙◌, inl, inr, arith}
+use Rattle.std.proofs.Common.{◌≡◌, ◌<◌, ℕ, Bool, true, List, [], ◌∷◌, refl, sym, ap, ◌∙◌, inl, inr}
+use Rattle.std.proofs.Common.{arith}
 use Rattle.gb_bus.specs.Listing.{AreThose, Rises}
 use Rattle.gb_invariants.proofs.Outcomes.{any-in, in-any}
 use Rattle.gb_machine.specs.Members.{Each, IsIn}

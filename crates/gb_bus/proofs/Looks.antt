@@ -1,5 +1,7 @@
 -- What is looked up is what the machine's bus has.
-use Rattle.std.proofs.Common.{◌≡◌, ℕ, Bool, true, false, cond, map, eqb, ◌&&◌, ◌||◌, Option, Some, None, option_and_then, option_map, List, [], ◌∷◌, ◌++◌, length, refl, sym, ap, ◌∙◌, suc, append_assoc}
+use Rattle.std.proofs.Common.{◌≡◌, ℕ, Bool, true, false, cond, map, eqb, ◌&&◌, ◌||◌, Option, Some}
+use Rattle.std.proofs.Common.{None, option_and_then, option_map, List, [], ◌∷◌, ◌++◌, length, refl}
+use Rattle.std.proofs.Common.{sym, ap, ◌∙◌, suc, append_assoc}
 use Rattle.std.specs.List.{filter, find, list_any}
 use Rattle.gb_base.specs.declared.end.End.{End}
 use Rattle.gb_base.specs.declared.end.End.TheVariants as end
@@ -10,8 +12,10 @@ use Rattle.gb_bus.proofs.Sides.{next-side}
 use Rattle.gb_bus.proofs.Standing.{Agree, StandsForFound, found, found-number, same-of}
 use Rattle.gb_bus.specs.Ends.{earlier, earlier_of}
 use Rattle.gb_bus.specs.Parts as parts
-use Rattle.gb_bus.specs.Parts.{earliest_in, earliest_of, ends_in, is_none_left, joins, next_in, next_of, numbered, ops_of, place_at, queue_of}
-use Rattle.gb_bus.specs.Stands.{Around, Shows, StandForAll, Stands, StandsForConnection, StandsForQueue}
+use Rattle.gb_bus.specs.Parts.{earliest_in, earliest_of, ends_in, is_none_left, joins, next_in}
+use Rattle.gb_bus.specs.Parts.{next_of, numbered, ops_of, place_at, queue_of}
+use Rattle.gb_bus.specs.Stands.{Around, Shows, StandForAll, Stands, StandsForConnection}
+use Rattle.gb_bus.specs.Stands.{StandsForQueue}
 use Rattle.gb_bus.specs.Wiring.{count_at, ends_of, number_of}
 use Rattle.gb_bus.specs.declared.bus.Bus.{Bus}
 use Rattle.gb_bus.specs.Connection.{Connection}
@@ -22,7 +26,8 @@ use Rattle.gb_machine.specs.Bus.{Place, Request, connection_of, place_of, queue,
 use Rattle.gb_machine.specs.Labels.{cyclic_label, next_label}
 use Rattle.gb_machine.specs.Lists.{first, in_order, sorted}
 use Rattle.gb_machine.specs.Sending.{is_wired}
-use Rattle.gb_machine.specs.Waiting.{Queue, first_waiting, queue_before, queues_in, queues_of, unless_empty}
+use Rattle.gb_machine.specs.Waiting.{Queue, first_waiting, queue_before, queues_in, queues_of}
+use Rattle.gb_machine.specs.Waiting.{unless_empty}
 use Rattle.gb_machine.specs.Wiring as wiring
 
 -- ---- which connection joins two ends

@@ -4,7 +4,8 @@ use Rattle.gb_base.specs.declared.end.Side.{Side}
 use Rattle.gb_base.specs.declared.end.Side.TheVariants as side
 use Rattle.gb_bus.proofs.Queues.{queue_more, queue_push}
 use Rattle.gb_bus.proofs.Standing.{Together}
-use Rattle.gb_bus.specs.Parts.{cleared, closed, ops_of, put, queue_of, with_ops, with_queue, with_wire, without_front}
+use Rattle.gb_bus.specs.Parts.{cleared, closed, ops_of, put, queue_of, soiled, with_ops, with_queue}
+use Rattle.gb_bus.specs.Parts.{with_wire, without_front}
 use Rattle.gb_bus.specs.Stands.{StandsForConnection, StandsForItem, StandsForQueue}
 use Rattle.gb_bus.specs.Connection.{Connection}
 use Rattle.gb_bus.specs.declared.queue.Item.{Item}
@@ -25,7 +26,7 @@ queue-stands rs side.Far x c h = h.to_far
 -- what a connection stands for, field by field in the order of the record
 stands-by : (rs : List Request) (x : Connection) (c : machine.Connection)
     → x.number ≡ c.number → x.ap ≡ c.ap → x.peer ≡ c.peer → x.protocol ≡ c.protocol
-    → x.wired ≡ c.wired → c.clean ≡ true → x.shut ≡ c.shut
+    → x.wired ≡ c.wired → x.clean ≡ c.clean → x.shut ≡ c.shut
     → StandsForQueue rs x.to_ap c.to_ap → StandsForQueue rs x.to_far c.to_far
     → StandsForConnection rs x c
 stands-by rs x c number ap peer protocol wired clean shut to_ap to_far = record {
@@ -120,6 +121,12 @@ closed-stands rs x c h =
     stands-by rs _ _ h.number h.ap h.peer h.protocol h.wired h.clean refl h.to_ap
     h.to_far
 
+-- or is unclean from now on
+pub soiled-stands : (rs : List Request) → Together rs rs soiled (λ c. record c { clean = false })
+soiled-stands rs x c h =
+    stands-by rs _ _ h.number h.ap h.peer h.protocol h.wired refl h.shut h.to_ap
+    h.to_far
+
 -- it is the same
 pub same-stands : (rs : List Request) → Together rs rs (λ x. x) (λ c. c)
 same-stands rs x c h = h
@@ -141,6 +148,15 @@ pub wire-last : (at : Side) (c : machine.Connection)
     → last_label at (record c { wired = true }) ≡ last_label at c
 wire-last side.Ap c = refl
 wire-last side.Far c = refl
+
+pub soiled-ops : (at : Side) (x : Connection) → ops_of at (soiled x) ≡ ops_of at x
+soiled-ops side.Ap x = refl
+soiled-ops side.Far x = refl
+
+pub soiled-last : (at : Side) (c : machine.Connection)
+    → last_label at (record c { clean = false }) ≡ last_label at c
+soiled-last side.Ap c = refl
+soiled-last side.Far c = refl
 
 queue-ops : (s at : Side) (is : List Item) (x : Connection)
     → ops_of s (with_queue at is x) ≡ ops_of s x

@@ -1,10 +1,13 @@
 -- What names do, and what is told of a request that something asks for.
-use Rattle.std.proofs.Common.{◌≡◌, ◌≢◌, ◌≤◌, ◌<◌, ℕ, ◌+◌, ◌-◌, Bool, true, false, cond, Option, Some, None, option_and_then, is_some, List, [], ◌∷◌, length, eqb, refl, sym, ap, ◌∙◌, arith, subst}
+use Rattle.std.proofs.Common.{◌≡◌, ◌≢◌, ◌≤◌, ◌<◌, ℕ, ◌+◌, ◌-◌, Bool, true, false, cond, Option}
+use Rattle.std.proofs.Common.{Some, None, option_and_then, is_some, List, [], ◌∷◌, length, eqb}
+use Rattle.std.proofs.Common.{refl, sym, ap, ◌∙◌, arith, subst}
 use Rattle.std.proofs.lemmas.Bool.Decides.{nat_tests}
 use Rattle.gb_bus.proofs.SlotLaws.{here-named, here-unnamed, tell_moved}
 use Rattle.gb_bus.specs.Counting.{Tells}
 use Rattle.gb_bus.specs.Listing.{count}
-use Rattle.gb_bus.specs.Naming.{KeepsAs, asked_for, is_asked_for, with_name, without_name, without_one}
+use Rattle.gb_bus.specs.Naming.{KeepsAs, asked_for, is_asked_for, with_name, without_name}
+use Rattle.gb_bus.specs.Naming.{without_one}
 use Rattle.gb_bus.specs.Slots.{Kept, MovesAt, gets_name, loses_name, most_names}
 use Rattle.gb_bus.specs.Stands.{AreMade, Around, Stands, around_of, kept, kept_of, slot_of}
 use Rattle.gb_bus.specs.declared.bus.Bus.{Bus}

@@ -1,5 +1,7 @@
 -- Which connection an end names, and which one joins two ends.
-use Rattle.std.proofs.Common.{◌≡◌, ◌≢◌, ℕ, Bool, true, false, cond, not, ◌&&◌, eqb, inl, inr, Option, Some, None, option_map, List, [], ◌∷◌, ◌++◌, refl, sym, ap, ◌∙◌, subst}
+use Rattle.std.proofs.Common.{◌≡◌, ◌≢◌, ℕ, Bool, true, false, cond, not, ◌&&◌, eqb, inl, inr}
+use Rattle.std.proofs.Common.{Option, Some, None, option_map, List, [], ◌∷◌, ◌++◌, refl, sym, ap}
+use Rattle.std.proofs.Common.{◌∙◌, subst}
 use Rattle.std.proofs.lemmas.Bool.{eqb-true, ne_eqb, and_left}
 use Rattle.std.specs.BTreeMap.{get}
 use Rattle.std.specs.List.{find}
@@ -8,7 +10,8 @@ use Rattle.gb_base.specs.declared.end.End.{End}
 use Rattle.gb_base.specs.declared.end.End.TheVariants as end
 use Rattle.gb_base.specs.declared.end.Side.{Side}
 use Rattle.gb_base.specs.declared.end.Side.TheVariants as side
-use Rattle.gb_bus.proofs.Entries.{EachEntry, both, each-back, each-entry, each-front, find-none, find-split, nowhere, same-some, some-none, split}
+use Rattle.gb_bus.proofs.Entries.{EachEntry, both, each-back, each-entry, each-front, find-none}
+use Rattle.gb_bus.proofs.Entries.{find-split, nowhere, same-some, some-none, split}
 use Rattle.gb_bus.proofs.Keeping.{Ends, Live, Queues, number-of-end}
 use Rattle.gb_bus.specs.Index.{IsEndOf, IsIndexed, Kept}
 use Rattle.gb_bus.specs.Parts.{joins, place_at, side_at}

@@ -28,12 +28,10 @@ item_more rs r (code.Reply number label result payload) (machine.Reply n v bytes
       result_is = h.result_is;
       payload_is = h.payload_is;
     }
-item_more rs r (code.Ask number label kind payload) (machine.Reply n v bytes) h = absurd h
-item_more rs r (code.Ask number label kind payload) (machine.Raw bytes) h = absurd h
-item_more rs r (code.Ask number label kind payload) (machine.RawReply l k v bytes) h = absurd h
-item_more rs r (code.Reply number label result payload) (machine.Ask n) h = absurd h
-item_more rs r (code.Reply number label result payload) (machine.Raw bytes) h = absurd h
-item_more rs r (code.Reply number label result payload) (machine.RawReply l k v bytes) h = absurd h
+item_more rs r (code.Raw label kind result payload) (machine.Raw bytes) h = h
+item_more rs r (code.BadRaw fault) (machine.Raw bytes) h = h
+item_more rs r (code.RawReply label result payload) (machine.RawReply l k v bytes) h = h
+item_more rs r _ _ h = absurd h
 
 -- a queue too
 pub queue_more : (rs : List Request) (r : Request) (is : List Item) (ms : List machine.Item)

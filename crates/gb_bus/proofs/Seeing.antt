@@ -1,5 +1,7 @@
 -- What is seen of the live connections after each call.
-use Rattle.std.proofs.Common.{◌≡◌, ◌≢◌, ◌<◌, ℕ, Bool, true, false, cond, inl, inr, Option, Some, None, option_map, option_and_then, Result, Ok, Err, OnErr, OnOk, is_err, IsSome, List, [], ◌∷◌, ◌++◌, refl, sym, ap, ◌∙◌, subst, arith}
+use Rattle.std.proofs.Common.{◌≡◌, ◌≢◌, ◌<◌, ℕ, Bool, true, false, cond, inl, inr, Option, Some}
+use Rattle.std.proofs.Common.{None, option_map, option_and_then, Result, Ok, Err, OnErr, OnOk}
+use Rattle.std.proofs.Common.{is_err, IsSome, List, [], ◌∷◌, ◌++◌, refl, sym, ap, ◌∙◌, subst, arith}
 use Rattle.std.proofs.lemmas.Bool.{true≢false}
 use Rattle.std.proofs.lemmas.Map.Steps.{set_value_same}
 use Rattle.std.specs.BTreeMap.{get, insert_entry, is_at}
@@ -10,13 +12,20 @@ use Rattle.gb_base.specs.declared.end.End.{End}
 use Rattle.gb_base.specs.declared.end.End.TheVariants as end
 use Rattle.gb_base.specs.declared.end.Side.{Side}
 use Rattle.gb_base.specs.declared.end.Side.TheVariants as side
-use Rattle.gb_bus.proofs.Entries.{at, both, changes, each-back, each-front, each-entry, find-seen, first-nowhere, insert-last, nowhere, remove-split, same-seen, seen-append, split, without-nowhere, without-split, EachEntry}
-use Rattle.gb_bus.proofs.Keeping.{Ends, Live, Queues, kept-cleared, kept-same, kept-set, kept-stays, kept-takes, kept-wired, not-one, seen-others, seen-same, stays-elsewhere, two-ends}
+use Rattle.gb_bus.proofs.Entries.{at, both, changes, each-back, each-front, each-entry, find-seen}
+use Rattle.gb_bus.proofs.Entries.{first-nowhere, insert-last, nowhere, remove-split, same-seen}
+use Rattle.gb_bus.proofs.Entries.{seen-append, split, without-nowhere, without-split, EachEntry}
+use Rattle.gb_bus.proofs.Keeping.{Ends, Live, Queues, kept-cleared, kept-same, kept-set, kept-stays}
+use Rattle.gb_bus.proofs.Keeping.{kept-takes, kept-wired, not-one, seen-others, seen-same}
+use Rattle.gb_bus.proofs.Keeping.{stays-elsewhere, two-ends}
 use Rattle.gb_bus.specs.Connection.{Connection}
 use Rattle.gb_bus.specs.Index.{ChangesBy, IsIndexed, Kept, Leaves}
-use Rattle.gb_bus.specs.Parts.{TakesFrontAs, cleared, closed, end_at, front_in, next_of, new_connection, numbered, ops_of, put, queue_of, with_ops, with_queue, with_wire, without_front}
+use Rattle.gb_bus.specs.Parts.{TakesFrontAs, cleared, closed, end_at, front_in, new_connection}
+use Rattle.gb_bus.specs.Parts.{next_of, numbered, ops_of, put, queue_of, soiled, with_ops}
+use Rattle.gb_bus.specs.Parts.{with_queue, with_wire, without_front}
 use Rattle.gb_bus.specs.Seen.{all_seen, alone, items_of, seen, waits_at}
-use Rattle.gb_bus.specs.Sides.{BeginsIn, BeginsOn, ChangesSide, GivesUpIn, GivesUpOn, GivesUpWhere, HasEndsOf, IsNotOf, MatchesAs, MatchesIn, MatchesOn, OnSide}
+use Rattle.gb_bus.specs.Sides.{BeginsIn, BeginsOn, ChangesSide, GivesUpIn, GivesUpOn, GivesUpWhere}
+use Rattle.gb_bus.specs.Sides.{HasEndsOf, IsNotOf, MatchesAs, MatchesIn, MatchesOn, OnSide}
 use Rattle.gb_bus.specs.declared.connection.Connection as code
 use Rattle.gb_bus.specs.declared.queue.Item.{Item}
 use Rattle.gb_machine.specs.Lists.{at_first, behind_first, first, without}
@@ -43,7 +52,7 @@ pub queue-number : (q : Queues) (j k : ℕ) (x : code.Connection) (s : Side)
 queue-number q j k x side.Ap = refl
 queue-number q j k x side.Far = refl
 
-ops-seen : (q : Queues) (k : ℕ) (x : code.Connection) (s : Side)
+pub ops-seen : (q : Queues) (k : ℕ) (x : code.Connection) (s : Side)
     → ops_of s (alone 0 x) ≡ ops_of s (seen q k x)
 ops-seen q k x side.Ap = refl
 ops-seen q k x side.Far = refl
@@ -68,7 +77,7 @@ on-ok (Err x) P b e t h = absurd (true≢false (sym e ∙ t))
 -- ---- one connection changes, and no queue does
 
 -- a connection by its number, with what waits at its ends
-abbrev filled : Queues → ℕ → Connection → Connection
+abbrev pub filled : Queues → ℕ → Connection → Connection
 filled q k c = record c {
   number = k;
   to_ap = waits_at q c.wired (end.Ap c.ap);
@@ -112,27 +121,31 @@ pub nothing-changes : (live : Live) (q : Queues) (xs : List Connection) (k : ℕ
 nothing-changes live q xs k f view none =
     subst (λ ys. ys ≡ at_first (numbered k) f ys) view (changes-none live live q k f none refl)
 
--- ---- the side of the application processor is closed
+-- ---- something else changes than ends and what waits there
 
-pub shuts : (live live' : Live) (ends : Ends) (q : Queues) (k : ℕ) → Kept live ends q
-    → ChangesBy live live' k (λ x y. y ≡ closed x)
-    → (get nat_cmp live k ≡ None → Leaves live live')
-    → all_seen q live'.entries ≡ at_first (numbered k) closed (all_seen q live.entries)
-shuts live live' ends q k kept there none = by (get nat_cmp live k) refl
+pub marks : (live live' : Live) (ends : Ends) (q : Queues) (k : ℕ) (f : Connection → Connection)
+    → ((x : code.Connection) → filled q k (f (alone 0 x)) ≡ f (seen q k x)) → Kept live ends q
+    → ChangesBy live live' k (λ x y. y ≡ f x) → (get nat_cmp live k ≡ None → Leaves live live')
+    → all_seen q live'.entries ≡ at_first (numbered k) f (all_seen q live.entries)
+marks live live' ends q k f fills kept there none = by (get nat_cmp live k) refl
   where
     by : (o : Option code.Connection) → get nat_cmp live k ≡ o
-        → all_seen q live'.entries ≡ at_first (numbered k) closed (all_seen q live.entries)
-    by None e = changes-none live live' q k closed e (none e)
+        → all_seen q live'.entries ≡ at_first (numbered k) f (all_seen q live.entries)
+    by None e = changes-none live live' q k f e (none e)
     by (Some x) e =
         let w = there x e in
-        changes-one live live' ends q k x w.after closed kept e w.now (ap (filled q k) w.did)
+        changes-one live live' ends q k x w.after f kept e w.now
+        (ap (filled q k) w.did ∙ fills x)
 
-pub closed-ends : (x y : Connection) → y ≡ closed x → HasEndsOf x y
-closed-ends x y e = record {
-  near = ap (λ (c : Connection). c.ap) e;
-  far = ap (λ (c : Connection). c.peer) e;
-  wire = ap (λ (c : Connection). c.wired) e;
-}
+pub marked-ends : (f : Connection → Connection) → ((x : Connection) → HasEndsOf x (f x))
+    → (x y : Connection) → y ≡ f x → HasEndsOf x y
+marked-ends f same x y e = subst (HasEndsOf x) (sym e) (same x)
+
+pub closed-ends : (x : Connection) → HasEndsOf x (closed x)
+closed-ends x = record { near = refl; far = refl; wire = refl }
+
+pub soiled-ends : (x : Connection) → HasEndsOf x (soiled x)
+soiled-ends x = record { near = refl; far = refl; wire = refl }
 
 -- ---- the requests of a side change
 
@@ -218,22 +231,22 @@ same-side : (s : Side) (c : Connection) → with_ops s (ops_of s c) c ≡ c
 same-side side.Ap c = refl
 same-side side.Far c = refl
 
-pub matches : (live live' : Live) (ends : Ends) (q : Queues) (k : ℕ) (s : Side) (n label : ℕ)
-    (r : Matched) → Kept live ends q
-    → ChangesBy live live' k (λ x y. MatchesOn x y s n label r)
+pub matches : (live live' : Live) (ends : Ends) (q : Queues) (k : ℕ) (s : Side)
+    (number : Option ℕ) (label : ℕ) (r : Matched) → Kept live ends q
+    → ChangesBy live live' k (λ x y. MatchesOn x y s number label r)
     → (get nat_cmp live k ≡ None → Leaves live live')
     → (get nat_cmp live k ≡ None → r ≡ matched.Unknown)
-    → MatchesIn (all_seen q live.entries) (all_seen q live'.entries) k s n label r
-matches live live' ends q k s n label r kept there none fails =
+    → MatchesIn (all_seen q live.entries) (all_seen q live'.entries) k s number label r
+matches live live' ends q k s number label r kept there none fails =
     by (get nat_cmp live k) refl r there fails
   where
     Not : Option Connection → Type 0
-    Not o = IsNotOf n (option_and_then (λ (c : Connection). holder_of (ops_of s c) label) o)
+    Not o = IsNotOf number (option_and_then (λ (c : Connection). holder_of (ops_of s c) label) o)
 
     by : (o : Option code.Connection) → get nat_cmp live k ≡ o → (m : Matched)
-        → ChangesBy live live' k (λ x y. MatchesOn x y s n label m)
+        → ChangesBy live live' k (λ x y. MatchesOn x y s number label m)
         → (get nat_cmp live k ≡ None → m ≡ matched.Unknown)
-        → MatchesIn (all_seen q live.entries) (all_seen q live'.entries) k s n label m
+        → MatchesIn (all_seen q live.entries) (all_seen q live'.entries) k s number label m
     by None e (matched.Open j) h f = absurd (cc (f e))
     by None e (matched.Late j) h f = absurd (cc (f e))
     by None e matched.Unknown h f = (
@@ -243,15 +256,15 @@ matches live live' ends q k s n label r kept there none fails =
     by (Some x) e (matched.Open j) h f =
         let w = h x e in
         side-changes live live' ends q k s x w.after
-        (λ v u. MatchesAs v u n label (matched.Open j)) kept e w.now w.did
+        (λ v u. MatchesAs v u number label (matched.Open j)) kept e w.now w.did
     by (Some x) e (matched.Late j) h f =
         let w = h x e in
         side-changes live live' ends q k s x w.after
-        (λ v u. MatchesAs v u n label (matched.Late j)) kept e w.now w.did
+        (λ v u. MatchesAs v u number label (matched.Late j)) kept e w.now w.did
     by (Some x) e matched.Unknown h f =
         let w = h x e in (
           subst Not (sym (finds live q (all_seen q live.entries) k (Some x) refl e))
-              (subst (λ ops. IsNotOf n (holder_of ops label)) (ops-seen q k x s) w.did.0.0),
+              (subst (λ ops. IsNotOf number (holder_of ops label)) (ops-seen q k x s) w.did.0.0),
           put-back live live' ends q k x w.after kept e w.now
               (w.did.1 ∙ ap (λ ops. with_ops s ops (alone 0 x)) w.did.0.1
               ∙ same-side s (alone 0 x)),

@@ -1,5 +1,8 @@
 -- A send stands for the machine's.
-use Rattle.std.proofs.Common.{◌≡◌, ◌≤◌, ◌<◌, ℕ, ◌+◌, ◌==◌, Bool, true, false, not, cond, Option, Some, None, Result, Ok, Err, option_and_then, List, [], ◌∷◌, ◌++◌, length, eqb, is_some, refl, sym, ap, ◌∙◌, ◌⊎◌, ⊎_elim, inl, arith, subst, add-one}
+use Rattle.std.proofs.Common.{◌≡◌, ◌≤◌, ◌<◌, ℕ, ◌+◌, ◌==◌, Bool, true, false, not, cond, Option}
+use Rattle.std.proofs.Common.{Some, None, Result, Ok, Err, option_and_then, List, [], ◌∷◌, ◌++◌}
+use Rattle.std.proofs.Common.{length, eqb, is_some, refl, sym, ap, ◌∙◌, ◌⊎◌, ⊎_elim, inl, arith}
+use Rattle.std.proofs.Common.{subst, add-one}
 use Rattle.std.specs.List.{find}
 use Rattle.gb_base.specs.declared.end.Side.{Side}
 use Rattle.gb_base.specs.declared.outcome.Outcome.{Outcome}
@@ -20,7 +23,8 @@ use Rattle.gb_bus.specs.Moving.{LabelsAs}
 use Rattle.gb_bus.specs.Parts.{next_of, numbered, put, with_ops}
 use Rattle.gb_bus.specs.Sending.{Sends, SendsAs, SendsNone}
 use Rattle.gb_bus.specs.Slots.{Kept, MakesAs}
-use Rattle.gb_bus.specs.Stands.{AreMade, Around, KeepSides, Shows, StandForAll, Stands, StandsForItem, kept}
+use Rattle.gb_bus.specs.Stands.{AreMade, Around, KeepSides, Shows, StandForAll, Stands}
+use Rattle.gb_bus.specs.Stands.{StandsForItem, kept}
 use Rattle.gb_bus.specs.declared.answers.SendFault.{SendFault}
 use Rattle.gb_bus.specs.declared.answers.SendFault.TheVariants as fault
 use Rattle.gb_bus.specs.declared.bus.Bus.{Bus}
@@ -29,19 +33,22 @@ use Rattle.gb_bus.specs.declared.queue.Item.{Item}
 use Rattle.gb_bus.specs.declared.queue.Item.TheVariants as code
 use Rattle.gb_bus.specs.declared.slots.Slot.{Slot}
 use Rattle.gb_invariants.proofs.Apart.{apart-changed}
-use Rattle.gb_invariants.proofs.Awaiting.{not-both, sent-after, sent-awaited, sent-before, sent-request, unasked, unended}
+use Rattle.gb_invariants.proofs.Awaiting.{not-both, sent-after, sent-awaited, sent-before}
+use Rattle.gb_invariants.proofs.Awaiting.{sent-request, unasked, unended}
 use Rattle.gb_invariants.proofs.Changes.{sent-keeps}
 use Rattle.gb_invariants.proofs.Selves.{drawn-self, put-self}
 use Rattle.gb_invariants.proofs.Outcomes.{same-number}
 use Rattle.gb_invariants.specs.Facts.{OutcomesFit}
 use Rattle.gb_machine.proofs.Lists.{nth-past, nth-push}
 use Rattle.gb_machine.specs.Bus as machine
-use Rattle.gb_machine.specs.Bus.{Request, connection_of, has_number, next_number, other_side, outcome_of, request_of}
+use Rattle.gb_machine.specs.Bus.{Request, connection_of, has_number, next_number, other_side}
+use Rattle.gb_machine.specs.Bus.{outcome_of, request_of}
 use Rattle.gb_machine.specs.Labels.{with_last_label}
 use Rattle.gb_machine.specs.LawsBus.{is_awaited}
 use Rattle.gb_machine.specs.Lists.{at_first, lookup, nth}
 use Rattle.gb_machine.specs.Sending as sending
-use Rattle.gb_machine.specs.Sending.{Draft, draft, drawn, is_lost, is_wired, label_for, requested, sent, sent_at_once}
+use Rattle.gb_machine.specs.Sending.{Draft, draft, drawn, is_lost, is_wired, label_for, requested}
+use Rattle.gb_machine.specs.Sending.{sent, sent_at_once}
 
 -- ---- outcomes
 

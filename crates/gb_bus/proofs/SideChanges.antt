@@ -1,12 +1,16 @@
 -- What one side of a connection keeps stays what the machine has, where a request of it changes.
-use Rattle.std.proofs.Common.{◌≡◌, ◌⊎◌, ℕ, Bool, true, false, ◌&&◌, ◌||◌, Option, Some, None, is_some, is_none, refl, sym, ap, ◌∙◌, inl, inr}
+use Rattle.std.proofs.Common.{◌≡◌, ◌⊎◌, ℕ, Bool, true, false, ◌&&◌, ◌||◌, Option, Some, None}
+use Rattle.std.proofs.Common.{is_some, is_none, refl, sym, ap, ◌∙◌, inl, inr}
 use Rattle.std.proofs.lemmas.Bool.{cases_eq}
 use Rattle.gb_base.specs.declared.end.Side.{Side}
 use Rattle.gb_base.specs.declared.outcome.Outcome.{Outcome}
 use Rattle.gb_bus.proofs.SideLists.{not-none}
-use Rattle.gb_bus.proofs.SideStates.{IsPending, Tells, asked, closed-over, keeps-by, mark-forgotten, mark-gave_up, mark-gone, mark-new, open-awaited, tells}
+use Rattle.gb_bus.proofs.SideStates.{IsPending, Tells, asked, closed-over, keeps-by, mark-forgotten}
+use Rattle.gb_bus.proofs.SideStates.{mark-gave_up, mark-gone, mark-new, open-awaited, tells}
 use Rattle.gb_bus.specs.Stands.{IsHolder, KeepsSide, holding}
-use Rattle.gb_invariants.proofs.Awaiting.{ended-after, ended-before, forgotten-after, forgotten-before, gave_up-after, gave_up-before, not-both, same-some}
+use Rattle.gb_invariants.proofs.Awaiting.{ended-after, ended-before, forgotten-after}
+use Rattle.gb_invariants.proofs.Awaiting.{forgotten-before, gave_up-after, gave_up-before, not-both}
+use Rattle.gb_invariants.proofs.Awaiting.{same-some}
 use Rattle.gb_invariants.proofs.Outcomes.{lookup-past, pair-there}
 use Rattle.gb_invariants.specs.Facts.{OutcomesFit}
 use Rattle.gb_machine.specs.Bus.{Bus, Request, is_open, outcome_of, request_of}

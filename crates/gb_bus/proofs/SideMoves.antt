@@ -1,5 +1,6 @@
 -- The sides of connections where one side changes, and all others are the same.
-use Rattle.std.proofs.Common.{◌≡◌, ◌⊎◌, ℕ, Bool, true, false, Some, List, refl, sym, ap, ◌∙◌, inl, inr, subst}
+use Rattle.std.proofs.Common.{◌≡◌, ◌⊎◌, ℕ, Bool, true, false, Some, List, refl, sym, ap, ◌∙◌, inl}
+use Rattle.std.proofs.Common.{inr, subst}
 use Rattle.std.proofs.lemmas.Bool.{cases_eq}
 use Rattle.gb_base.specs.declared.end.Side.{Side}
 use Rattle.gb_base.specs.declared.end.Side.TheVariants as side

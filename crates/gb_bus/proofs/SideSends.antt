@@ -1,17 +1,23 @@
 -- What the sides of connections keep stays what the machine has, where a request is made.
-use Rattle.std.proofs.Common.{◌≡◌, ◌⊎◌, ℕ, Bool, true, false, cond, ◌&&◌, ◌||◌, Option, Some, None, is_some, is_none, option_and_then, ◌∷◌, refl, sym, ap, ◌∙◌, inl, inr, arith}
+use Rattle.std.proofs.Common.{◌≡◌, ◌⊎◌, ℕ, Bool, true, false, cond, ◌&&◌, ◌||◌, Option, Some, None}
+use Rattle.std.proofs.Common.{is_some, is_none, option_and_then, ◌∷◌, refl, sym, ap, ◌∙◌, inl, inr}
+use Rattle.std.proofs.Common.{arith}
 use Rattle.std.proofs.lemmas.Bool.{cases_eq}
 use Rattle.gb_base.specs.declared.end.Side.{Side}
 use Rattle.gb_base.specs.declared.outcome.Outcome.TheVariants as outcome
 use Rattle.gb_bus.proofs.SideStates.{IsPending, SameSide, Tells, asked, keeps-by, tells}
 use Rattle.gb_bus.specs.Stands.{IsHolder, KeepsSide, holding}
-use Rattle.gb_invariants.proofs.Awaiting.{is-of, is_of-is, not-both, same-some, sent-after, sent-awaited, sent-before, sent-made, sent-new, sent-request, unasked, unended}
+use Rattle.gb_invariants.proofs.Awaiting.{is-of, is_of-is, not-both, same-some, sent-after}
+use Rattle.gb_invariants.proofs.Awaiting.{sent-awaited, sent-before, sent-made, sent-new}
+use Rattle.gb_invariants.proofs.Awaiting.{sent-request, unasked, unended}
 use Rattle.gb_invariants.proofs.Drawing.{awaited-used, drawn-is-free, used-in_use}
 use Rattle.gb_invariants.proofs.Outcomes.{lookup-past}
 use Rattle.gb_invariants.specs.Facts.{OutcomesFit}
 use Rattle.gb_machine.proofs.Lists.{nth-within}
-use Rattle.gb_machine.specs.Bus.{Bus, Connection, Request, connection_of, is_open, next_number, outcome_of, request_of}
-use Rattle.gb_machine.specs.Labels.{cyclic_label, free_label, greatest_label, label_after, last_label}
+use Rattle.gb_machine.specs.Bus.{Bus, Connection, Request, connection_of, is_open, next_number}
+use Rattle.gb_machine.specs.Bus.{outcome_of, request_of}
+use Rattle.gb_machine.specs.Labels.{cyclic_label, free_label, greatest_label, label_after}
+use Rattle.gb_machine.specs.Labels.{last_label}
 use Rattle.gb_machine.specs.LawsBus.{is_awaited}
 use Rattle.gb_machine.specs.Lists.{lookup}
 use Rattle.gb_machine.specs.Requests.{is_given_up, is_of, is_used}

@@ -1,5 +1,7 @@
 -- What the operations of one side tell, and for which states they tell the same.
-use Rattle.std.proofs.Common.{◌≡◌, ◌⊎◌, ℕ, Bool, true, false, not, cond, eqb, ◌&&◌, ◌||◌, Option, Some, None, is_some, is_none, List, [], ◌∷◌, ◌++◌, refl, sym, ap, ◌∙◌, inl, inr}
+use Rattle.std.proofs.Common.{◌≡◌, ◌⊎◌, ℕ, Bool, true, false, not, cond, eqb, ◌&&◌, ◌||◌, Option}
+use Rattle.std.proofs.Common.{Some, None, is_some, is_none, List, [], ◌∷◌, ◌++◌, refl, sym, ap, ◌∙◌}
+use Rattle.std.proofs.Common.{inl, inr}
 use Rattle.std.proofs.lemmas.Map.Views.{any-filter_same}
 use Rattle.std.specs.List.{list_any}
 use Rattle.gb_base.specs.declared.end.Side.{Side}
@@ -8,7 +10,9 @@ use Rattle.gb_base.specs.declared.outcome.Outcome.TheVariants as outcome
 use Rattle.gb_bus.proofs.SideLists.{not-none}
 use Rattle.gb_bus.specs.Stands.{IsHolder, KeepsSide, holding, pending_by, pending_of}
 use Rattle.gb_invariants.proofs.Awaiting.{not-both, same-some}
-use Rattle.gb_invariants.proofs.Outcomes.{both-true, in-open_requests, is-same, lookup-past, lookup-past-all, open_requests-in, pair-there, same-number, there-all}
+use Rattle.gb_invariants.proofs.Outcomes.{both-true, in-open_requests, is-same, lookup-past}
+use Rattle.gb_invariants.proofs.Outcomes.{lookup-past-all, open_requests-in, pair-there}
+use Rattle.gb_invariants.proofs.Outcomes.{same-number, there-all}
 use Rattle.gb_machine.specs.Bus.{Bus, Request, is_open, outcome_of, request_of}
 use Rattle.gb_machine.specs.Delivery.{ended, forgotten}
 use Rattle.gb_machine.specs.LawsBus.{is_awaited}

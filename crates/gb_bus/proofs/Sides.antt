@@ -1,36 +1,44 @@
 -- What is kept of the sides of connections stays what the machine has, at each change.
-use Rattle.std.proofs.Common.{◌≡◌, ℕ, ◌==◌, Bool, true, false, Option, Some, None, List, [], ◌∷◌, ◌++◌, refl, sym, ap, ◌∙◌, inl, inr, subst, arith}
+use Rattle.std.proofs.Common.{◌≡◌, ℕ, ◌==◌, Bool, true, false, not, Option, Some, None, List, []}
+use Rattle.std.proofs.Common.{◌∷◌, ◌++◌, refl, sym, ap, ◌∙◌, inl, inr, subst, arith}
 use Rattle.gb_base.specs.declared.end.End.TheVariants as end
 use Rattle.gb_base.specs.declared.end.Side.{Side}
 use Rattle.gb_base.specs.declared.end.Side.TheVariants as side
 use Rattle.gb_base.specs.declared.outcome.Outcome.{Outcome}
 use Rattle.gb_bus.proofs.Finding.{no-twin, twin}
-use Rattle.gb_bus.proofs.SideChanges.{marked-over, side-closes, side-ends, side-forgets, side-gives_up}
+use Rattle.gb_bus.proofs.SideChanges.{marked-over, side-closes, side-ends, side-forgets}
+use Rattle.gb_bus.proofs.SideChanges.{side-gives_up}
 use Rattle.gb_bus.proofs.SideLists.{find-behind, find-front, find-left, find-one, not-none}
-use Rattle.gb_bus.proofs.SideMoves.{before, changed, changes-side, combine, elsewhere, moved, same-requests, unchanged}
+use Rattle.gb_bus.proofs.SideMoves.{before, changed, changes-side, combine, elsewhere, moved}
+use Rattle.gb_bus.proofs.SideMoves.{same-requests, unchanged}
 use Rattle.gb_bus.proofs.Changing.{twice}
 use Rattle.gb_bus.proofs.Moves.{ops-number, put-number, put-ops}
-use Rattle.gb_bus.proofs.SideParts.{asking, asking-number, asking-oneway, asking-other, asking-own, new-last, new-ops, with_ops-other, with_ops-own}
+use Rattle.gb_bus.proofs.SideParts.{asking, asking-number, asking-oneway, asking-other, asking-own}
+use Rattle.gb_bus.proofs.SideParts.{new-last, new-ops, with_ops-other, with_ops-own}
 use Rattle.gb_bus.proofs.SideSends.{next-is, same-sent, side-begins}
-use Rattle.gb_bus.proofs.SideStates.{is-pending, keeps-by, keeps-same, same-closed, same-ended, same-forgotten, same-gave_up, same-side}
+use Rattle.gb_bus.proofs.SideStates.{is-pending, keeps-by, keeps-same, same-closed, same-ended}
+use Rattle.gb_bus.proofs.SideStates.{same-forgotten, same-gave_up, same-side}
 use Rattle.gb_bus.specs.Parts.{new_connection, numbered, ops_of, put, with_ops}
 use Rattle.gb_bus.specs.Sides.{ChangesSide, IsNotOf}
 use Rattle.gb_bus.specs.Stands.{KeepSides, KeepsSide, StandForAll}
 use Rattle.gb_bus.specs.Connection.{Connection}
 use Rattle.gb_bus.specs.declared.queue.Item.{Item}
-use Rattle.gb_invariants.proofs.Awaiting.{is_of-is, same-some}
+use Rattle.gb_invariants.proofs.Awaiting.{is_of-is, not-both, same-some}
+use Rattle.gb_invariants.proofs.Outcomes.{is-same}
 use Rattle.gb_invariants.specs.Facts.{BusFits, Loose, NumbersRise}
 use Rattle.std.specs.List.{find}
 use Rattle.gb_machine.specs.LawsBus.{is_awaited}
 use Rattle.gb_machine.specs.Bus as machine
-use Rattle.gb_machine.specs.Bus.{Ask, Request, connection_of, has_number, is_open, next_number, other_side, request_of}
+use Rattle.gb_machine.specs.Bus.{Ask, Request, connection_of, has_number, is_open, next_number}
+use Rattle.gb_machine.specs.Bus.{other_side, request_of}
 use Rattle.gb_machine.specs.Delivery.{ended, forgotten}
 use Rattle.gb_machine.specs.Labels.{cyclic_label, last_label}
 use Rattle.gb_machine.specs.Lists.{at_first, without}
 use Rattle.gb_machine.specs.Requests.{gave_up, is_of}
 use Rattle.gb_machine.specs.Sending.{Draft, sent}
 use Rattle.gb_machine.specs.Wiring as wiring
-use Rattle.gb_machine.specs.Wiring.{attached, detached, next_connection, side_ended, with_connection}
+use Rattle.gb_machine.specs.Wiring.{attached, detached, next_connection, side_ended}
+use Rattle.gb_machine.specs.Wiring.{with_connection}
 use Rattle.gb_ops.specs.Calls.{Begins, Ends, Forgets, GivesUp, emptied, no_operations}
 use Rattle.gb_ops.specs.Operations.{Operations, holder_of, next_label}
 use Rattle.gb_ops.specs.declared.entries.Holder.{Holder}
@@ -317,12 +325,17 @@ match-late loose xs ys b k at n label stand fits changes keeps =
 pub match-none : (xs : List Connection) (b : machine.Bus) (k : ℕ) (at : Side) (n : ℕ) (r : Request)
     (x : Connection)
     → StandForAll b.requests xs b.connections → request_of n b ≡ Some r → is_of k at r ≡ true
-    → find (numbered k) xs ≡ Some x → IsNotOf n (holder_of (ops_of at x) r.label)
+    → find (numbered k) xs ≡ Some x → IsNotOf (Some n) (holder_of (ops_of at x) r.label)
     → KeepSides xs b → is_awaited n b ≡ false
 match-none xs b k at n r x stand made own found other keeps = by (is_awaited n b) refl
   where
+    not-true : (t : Bool) → not t ≡ true → t ≡ false
+    not-true false e = refl
+    not-true true e = absurd cc
+
     by : (t : Bool) → is_awaited n b ≡ t → t ≡ false
     by false e = refl
     by true e =
-        absurd (subst (IsNotOf n)
-        ((before xs b k at x stand found keeps).keeps.held n r made own e) other refl)
+        absurd (not-both (n == n) (is-same n) (not-true (n == n)
+        (subst (IsNotOf (Some n))
+        ((before xs b k at x stand found keeps).keeps.held n r made own e) other)))

@@ -5,7 +5,6 @@ use Rattle.std.proofs.Common.{Greater, eqb, leb, refl, sym, ap, subst, ◌∙◌
 use Rattle.std.proofs.lemmas.Bool.{and_left, and_parts, and_right, both_ways, cases_lt, eq-eqb}
 use Rattle.std.proofs.lemmas.Bool.{eqb-true, false_from_ne_true, leb-false, leb-true}
 use Rattle.std.proofs.lemmas.Bool.{lt-leb, ne_eqb, or_cases, or_from, or_left, or_parts, or_right}
-use Rattle.std.proofs.lemmas.Bool.Decides.{nat_tests}
 use Rattle.std.proofs.lemmas.Map.Keys.{le_from_not_gt, sorted_head, sorted_tail}
 use Rattle.std.specs.Option.{is_none}
 use Rattle.std.specs.BTreeMap.{BTreeMap, is_at}
@@ -21,8 +20,8 @@ use Rattle.gb_bus.specs.Keeping.{IsKept, by_deadline, kept_in, lesser_of, waits_
 use Rattle.gb_bus.specs.Slots.{Kept, is_due, slot_at}
 use Rattle.gb_bus.specs.declared.slots.Slot.{Slot}
 use Rattle.gb_bus.specs.declared.tally.Tally.{Tally}
-use Rattle.gb_machine.specs.Members.{Each}
-use Rattle.gb_bus.specs.Listing.{AreThose, FindsLeast, Rises, stands_in}
+use Rattle.gb_bus.specs.Listing.{AreThose, FindsLeast, stands_in}
+use Rattle.gb_ops.proofs.Listing.{equal-key, rising, same-key}
 
 -- the numbers whose deadline came, put among these
 abbrev pub due-keys : ℕ → List ℕ → List (ℕ × ℕ) → List ℕ
@@ -79,9 +78,6 @@ none-past now n k (y ∷ ks) late all =
     (and_left (leb y.0 now) (eqb y.1 n) (lt-leb y.0 now past)) (none-past now n k ks late all.1)
 
 -- ---- the numbers that are put among others
-
-same-key : (m x : ℕ) → nat_cmp m x ≡ Equal → m ≡ x
-same-key m x e = grind (arith, nat_tests)
 
 stands-put : (n m : ℕ) (ns : List ℕ) → stands_in n (insert_key nat_cmp ns m)
     ≡ (eqb m n || stands_in n ns)
@@ -267,9 +263,6 @@ both-equal Less b e = absurd (cc e)
 both-equal Equal b e = (refl, e)
 both-equal Greater b e = absurd (cc e)
 
-equal-key : (a b : ℕ) → is_eq (nat_cmp a b) ≡ true → a ≡ b
-equal-key a b e = grind (arith, nat_tests)
-
 has-due : (now n c : ℕ) (ks : List (ℕ × ℕ)) → leb c now ≡ true
     → list_any (is_at (by_deadline (c, n))) ks ≡ true → any-due now n ks ≡ true
 has-due now n c [] came e = absurd (cc e)
@@ -311,19 +304,6 @@ due-as-slot now n ks (Some slot) h = by slot.outcome (leb slot.deadline now) ref
         (λ same. let past = leb-false slot.deadline now late in
         absurd (omega (arith, past, low, same)))))
         ∙ sym (ap (λ b. b && is_none slot.outcome) late)
-
--- ---- in order
-
-all-above : (k : ℕ) (ks : List ℕ) → AllByRecursion (λ y. nat_cmp k y ≡ Less) ks
-    → Each (λ m. k < m) ks
-all-above k [] all = tt
-all-above k (m ∷ ks) all =
-    (let e = all.0 in let low : k < m = grind (arith, nat_tests) in low, all-above k ks all.1)
-
-rising : (ks : List ℕ) → IsStrictlySortedBy nat_cmp ks → Rises ks
-rising [] s = tt
-rising (k ∷ ks) s =
-    (all-above k ks (sorted_head nat_cmp k ks s), rising ks (sorted_tail nat_cmp k ks s))
 
 -- ---- what the slots say
 

@@ -1,9 +1,12 @@
 -- What the slots of requests go on to say.
-use Rattle.std.proofs.Common.{◌≡◌, ◌≢◌, ◌<◌, ◌≤◌, ℕ, suc, ◌+◌, ◌-◌, Bool, true, false, cond, ◌||◌, Option, Some, None, option_and_then, List, [], ◌∷◌, ◌++◌, length, refl, sym, ap, ◌∙◌, ⊎_elim, arith, length-append, subst, eqb, nat_lt}
+use Rattle.std.proofs.Common.{◌≡◌, ◌≢◌, ◌<◌, ◌≤◌, ℕ, suc, ◌+◌, ◌-◌, Bool, true, false, cond, ◌||◌}
+use Rattle.std.proofs.Common.{Option, Some, None, option_and_then, List, [], ◌∷◌, ◌++◌, length}
+use Rattle.std.proofs.Common.{refl, sym, ap, ◌∙◌, ⊎_elim, arith, length-append, subst, eqb, nat_lt}
 use Rattle.std.proofs.lemmas.Bool.{cases_eq, cases_lt}
 use Rattle.std.proofs.lemmas.Bool.Decides.{nat_tests}
 use Rattle.gb_base.specs.declared.outcome.Outcome.{Outcome}
-use Rattle.gb_bus.specs.Slots.{ChangesAt, Kept, ends_so, forgets, gets_name, gives_up_so, loses_name, most_names, one_more, slot_at}
+use Rattle.gb_bus.specs.Slots.{ChangesAt, Kept, ends_so, forgets, gets_name, gives_up_so}
+use Rattle.gb_bus.specs.Slots.{loses_name, most_names, one_more, slot_at}
 use Rattle.gb_bus.specs.Stands.{kept, kept_of}
 use Rattle.gb_bus.specs.declared.slots.Slot.{Slot}
 use Rattle.gb_invariants.proofs.Outcomes.{same-number}

@@ -1,5 +1,6 @@
 -- What connections stand for once one changes, and which is found.
-use Rattle.std.proofs.Common.{◌≡◌, ℕ, Bool, true, false, cond, Option, Some, None, List, [], ◌∷◌, ◌++◌, ap, eqb, not}
+use Rattle.std.proofs.Common.{◌≡◌, ℕ, Bool, true, false, cond, Option, Some, None, List, [], ◌∷◌}
+use Rattle.std.proofs.Common.{◌++◌, ap, eqb, not}
 use Rattle.std.specs.List.{find}
 use Rattle.gb_bus.specs.Parts.{numbered}
 use Rattle.gb_bus.specs.Stands.{StandForAll, StandsForConnection}

@@ -1,10 +1,12 @@
 -- What is told is what the machine's bus has.
-use Rattle.std.proofs.Common.{◌≡◌, ℕ, suc, eqb, Bool, true, false, cond, map, List, [], ◌∷◌, ◌++◌, length, refl, sym, ap, ◌∙◌, append_assoc, arith}
+use Rattle.std.proofs.Common.{◌≡◌, ℕ, suc, eqb, Bool, true, false, cond, map, List, [], ◌∷◌, ◌++◌}
+use Rattle.std.proofs.Common.{length, refl, sym, ap, ◌∙◌, append_assoc, arith}
 use Rattle.std.proofs.lemmas.Bool.Decides.{nat_tests}
 use Rattle.gb_base.specs.declared.end.End.{End}
 use Rattle.gb_base.specs.declared.end.End.TheVariants as end
 use Rattle.gb_bus.specs.Stands.{Around, StandForAll, Stands, StandsForConnection, StandsForQueue}
-use Rattle.gb_bus.specs.Telling.{known_as, known_of, waiting_before, waiting_in, waiting_of, with_end, with_ends}
+use Rattle.gb_bus.specs.Telling.{known_as, known_of, waiting_before, waiting_in, waiting_of}
+use Rattle.gb_bus.specs.Telling.{with_end, with_ends}
 use Rattle.gb_bus.specs.declared.bus.Bus.{Bus}
 use Rattle.gb_bus.specs.Connection.{Connection}
 use Rattle.gb_bus.specs.declared.queue.Item.{Item}
@@ -14,7 +16,8 @@ use Rattle.gb_machine.proofs.Ordering.{in_order-map}
 use Rattle.gb_machine.specs.Bus as machine
 use Rattle.gb_machine.specs.Bus.{Request}
 use Rattle.gb_machine.specs.Lists.{in_order, sorted}
-use Rattle.gb_machine.specs.Waiting.{Queue, queue_before, queues, queues_in, queues_of, unless_empty}
+use Rattle.gb_machine.specs.Waiting.{Queue, queue_before, queues, queues_in, queues_of}
+use Rattle.gb_machine.specs.Waiting.{unless_empty}
 
 -- ---- connections
 

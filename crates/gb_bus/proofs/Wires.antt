@@ -1,24 +1,28 @@
 -- Connections that are made, wired, unwired, closed and removed stand for the machine's.
-use Rattle.std.proofs.Common.{◌≡◌, ◌≤◌, ℕ, ◌+◌, ◌==◌, not, true, false, eqb, List, [], ◌∷◌, ◌++◌, refl, sym, ap, ◌∙◌, subst, arith}
+use Rattle.std.proofs.Common.{◌≡◌, ◌≤◌, ℕ, ◌+◌, ◌==◌, not, true, false, eqb, List, [], ◌∷◌, ◌++◌}
+use Rattle.std.proofs.Common.{refl, sym, ap, ◌∙◌, subst, arith}
 use Rattle.gb_base.specs.declared.end.End.TheVariants as end
 use Rattle.gb_base.specs.declared.end.Side.{Side}
 use Rattle.gb_base.specs.declared.end.Side.TheVariants as side
 use Rattle.gb_bus.proofs.Changing.{twice}
 use Rattle.gb_bus.proofs.Closing.{are-open, opened-on, tell_closed, tells-side}
 use Rattle.gb_bus.proofs.Counted.{tells-same}
-use Rattle.gb_bus.proofs.Moves.{cleared-stands, closed-stands, same-stands, wire-last, wire-ops, wired-stands}
+use Rattle.gb_bus.proofs.Moves.{cleared-stands, closed-stands, same-stands, wire-last, wire-ops}
+use Rattle.gb_bus.proofs.Moves.{wired-stands}
 use Rattle.gb_bus.proofs.Sides.{sides-attached, sides-changed, sides-closed, sides-detached}
 use Rattle.gb_bus.proofs.Standing.{changed, one-more, removed}
 use Rattle.gb_bus.specs.Counting.{Tells}
 use Rattle.gb_bus.specs.Listing.{AreThose}
-use Rattle.gb_bus.specs.Parts.{cleared, closed, new_connection, numbered, ops_of, with_ops, with_wire}
+use Rattle.gb_bus.specs.Parts.{cleared, closed, new_connection, numbered, ops_of, with_ops}
+use Rattle.gb_bus.specs.Parts.{with_wire}
 use Rattle.gb_bus.specs.Slots.{Closes, Kept, all_disconnected, is_late_on, is_open_on, slot_at}
 use Rattle.gb_bus.specs.Stands.{Around, KeepSides, Keeps, Shows, StandForAll, Stands}
 use Rattle.gb_bus.specs.Wiring.{Attaches, EndsAs, IsOther, MayAttach, elsewhere}
 use Rattle.gb_bus.specs.declared.bus.Bus.{Bus}
 use Rattle.gb_bus.specs.Connection.{Connection}
 use Rattle.gb_invariants.proofs.Apart.{apart-attached, apart-changed, apart-detached}
-use Rattle.gb_invariants.proofs.Changes.{attached-keeps, detached-keeps, shut-keeps, unwired-keeps, wired-keeps}
+use Rattle.gb_invariants.proofs.Changes.{attached-keeps, detached-keeps, shut-keeps, unwired-keeps}
+use Rattle.gb_invariants.proofs.Changes.{wired-keeps}
 use Rattle.gb_invariants.proofs.Awaiting.{not-both}
 use Rattle.gb_invariants.proofs.Counts.{times-filter}
 use Rattle.gb_invariants.proofs.Lists.{each-from, each-in, in-without}
@@ -31,7 +35,8 @@ use Rattle.gb_machine.specs.LawsBus.{AreApart, is_item_of}
 use Rattle.gb_machine.specs.Lists.{at_first, without}
 use Rattle.gb_machine.specs.Members.{Each, IsIn}
 use Rattle.gb_machine.specs.Wiring as wiring
-use Rattle.gb_machine.specs.Wiring.{attached, detached, next_connection, shut_down, side_ended, unwired, wired, with_connection}
+use Rattle.gb_machine.specs.Wiring.{attached, detached, next_connection, shut_down, side_ended}
+use Rattle.gb_machine.specs.Wiring.{unwired, wired, with_connection}
 use Rattle.gb_ops.specs.Calls.{emptied}
 
 -- only connections change

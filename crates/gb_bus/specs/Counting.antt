@@ -4,7 +4,8 @@ use Rattle.gb_base.specs.declared.outcome.Outcome.{Outcome}
 use Rattle.gb_base.specs.declared.outcome.Outcome.TheVariants as outcome
 use Rattle.gb_bus.specs.declared.tally.Tally.{Tally}
 use Rattle.gb_machine.specs.Bus as machine
-use Rattle.gb_machine.specs.Summary.{is_answered, is_cancelled, is_disconnected, is_sent, is_timed_out, is_unended, standing}
+use Rattle.gb_machine.specs.Summary.{is_answered, is_cancelled, is_disconnected, is_sent}
+use Rattle.gb_machine.specs.Summary.{is_timed_out, is_unended, standing}
 
 -- no request
 abbrev pub no_requests : Tally

@@ -1,7 +1,10 @@
--- What a bus answers to a delivery and a reply.
-use Rattle.std.specs.Prelude.{◌≡◌, ℕ, Bool, true, false, Option, Some, None, Result, Ok, Err, List, [], ◌∷◌, ◌++◌, ⊤}
+-- What a bus answers to a delivery and a reply, and where raw bytes are injected.
+use Rattle.std.specs.Prelude.{◌≡◌, ◌⊎◌, ℕ, Bool, true, false, if◌then◌else◌, Option, Some, None}
+use Rattle.std.specs.Prelude.{option_map, Result, Ok, Err, List, [], ◌∷◌, ◌++◌, ⊤}
 use Rattle.gb_base.specs.declared.end.End.{End}
 use Rattle.gb_base.specs.declared.end.Side.{Side}
+use Rattle.gb_base.specs.declared.entry.Entry.TheVariants as entry
+use Rattle.gb_base.specs.declared.fault.RawFault.{RawFault}
 use Rattle.gb_base.specs.declared.outcome.Outcome.TheVariants as outcome
 use Rattle.gb_bus.specs.Stands.{Around, Stands, around_of}
 use Rattle.gb_bus.specs.declared.answers.Arrival.{Arrival}
@@ -11,21 +14,30 @@ use Rattle.gb_bus.specs.declared.answers.Asked.{Asked}
 use Rattle.gb_bus.specs.declared.answers.DeliverFault.{DeliverFault}
 use Rattle.gb_bus.specs.declared.answers.DeliverFault.TheVariants as fault
 use Rattle.gb_bus.specs.declared.bus.Bus.{Bus}
+use Rattle.gb_formats.specs.Message.{Message}
+use Rattle.gb_formats.specs.Wire.{raw_message}
 use Rattle.gb_invariants.specs.Facts.{Loose}
+use Rattle.gb_machine.specs.Arriving.{dropped}
 use Rattle.gb_machine.specs.Bus as machine
-use Rattle.gb_machine.specs.Bus.{Place, Request, is_open, other_side, place_of, queue, request_of}
+use Rattle.gb_machine.specs.Bus.{Place, Request, connection_of, is_open, other_side, place_of}
+use Rattle.gb_machine.specs.Bus.{queue, request_of}
 use Rattle.gb_machine.specs.Delivery.{answered, ended, forgotten, popped, replied}
+use Rattle.gb_machine.specs.Incoming.{Incoming, is_request, reply_item, request_in}
 use Rattle.gb_machine.specs.Lists.{first}
+use Rattle.gb_machine.specs.Requests.{given_up_with, open_with}
+use Rattle.gb_machine.specs.Sending.{is_wired}
+use Rattle.gb_machine.specs.Serving.{answer}
+use Rattle.gb_machine.specs.Wiring.{injected}
 
 -- the bus without the front item toward a place
 abbrev pub taken_at : Place → machine.Bus → machine.Bus
 taken_at p b = popped p.connection.number p.side b
 
 -- what names a request is right
-pub record Names (asked : Asked) (n : ℕ) (r : Request) : Type 0 where
-  pub number : asked.number ≡ Some n
-  pub label : asked.label ≡ r.label
-  pub kind : asked.kind ≡ r.kind
+pub record Names (asked : Asked) (q : Incoming) : Type 0 where
+  pub number : asked.number ≡ q.number
+  pub label : asked.label ≡ q.label
+  pub kind : asked.kind ≡ q.kind
 
 -- An item that was taken from a queue, toward a side of a connection.
 abbrev pub taken_from : ℕ → Side → machine.Item → Loose
@@ -35,52 +47,120 @@ taken_from k at item = record { connection = k; side = at; item = item }
 abbrev pub with_item : Loose → Around → Around
 with_item i around = record around { items = i ∷ around.items }
 
+-- ---- requests
+
 -- A request is delivered. It is in no queue until it is answered or let go.
 pub record ArrivesAsk (around : Around) (new : Bus) (p : Place) (b : machine.Bus)
     (item : machine.Item) (asked : Asked) (payload : List ℕ) : Type 0 where
-  pub number : ℕ
-  pub request : Request
-  pub item_is : item ≡ machine.Ask number
-  pub made : request_of number b ≡ Some request
-  pub names : Names asked number request
+  pub request : Incoming
+  pub is : request_in item b ≡ Some request
+  pub names : Names asked request
   pub payload_is : payload ≡ request.payload
-  pub stands : Stands
-      (with_item (taken_from p.connection.number p.side (machine.Ask number)) around) new
+  pub stands : Stands (with_item (taken_from p.connection.number p.side item) around) new
       (taken_at p b)
 
--- an answer ended its request
+-- ---- answers, by number
+
+-- an answer on a clean connection ended its request
 pub record ArrivesAnswer (around : Around) (new : Bus) (p : Place) (b : machine.Bus)
     (item : machine.Item) (number kind result : ℕ) (payload : List ℕ) : Type 0 where
   pub bytes : List ℕ
   pub request : Request
   pub item_is : item ≡ machine.Reply number result bytes
+  pub clean : p.connection.clean ≡ true
   pub still_open : is_open number b ≡ true
   pub made : request_of number b ≡ Some request
   pub kind_is : kind ≡ request.kind
   pub outcome_is : answered result bytes ≡ outcome.Answered result payload
   pub stands : Stands around new (ended number (answered result bytes) (taken_at p b))
 
--- an answer came to a request that had ended
+-- an answer on a clean connection came to a request that had ended
 pub record ArrivesLate (around : Around) (new : Bus) (p : Place) (b : machine.Bus)
     (item : machine.Item) (number : ℕ) : Type 0 where
   pub result : ℕ
   pub bytes : List ℕ
   pub item_is : item ≡ machine.Reply number result bytes
+  pub clean : p.connection.clean ≡ true
   pub closed : is_open number b ≡ false
   pub stands : Stands around new (forgotten number (taken_at p b))
 
--- what is told of an item that is dropped: its number, and whether it is a response
-abbrev pub IsDropped : machine.Item → Option ℕ → Bool → Type 0
-IsDropped (machine.Ask n) number reply = (number ≡ Some n) × (reply ≡ false)
-IsDropped (machine.Reply n result bytes) number reply = (number ≡ Some n) × (reply ≡ true)
-IsDropped (machine.Raw bytes) number reply = number ≡ None
-IsDropped (machine.RawReply label kind result bytes) number reply = number ≡ None
+-- ---- answers, by identifier
+
+-- a response that belongs to the request which has its identifier
+pub record Response : Type 0 where
+  pub label : ℕ
+  pub result : ℕ
+  pub payload : List ℕ
+
+abbrev pub response : ℕ → ℕ → List ℕ → Response
+response label result payload = record { label = label; result = result; payload = payload }
+
+-- raw bytes as a response
+abbrev pub raw_response : Result Message RawFault → Option Response
+raw_response (Err fault) = None
+raw_response (Ok m) = if is_request m then None else Some (response m.id m.result m.payload)
+
+-- The response that goes by its identifier alone: raw bytes, the reply to a request that came as
+-- raw bytes, and on an unclean connection any other.
+abbrev pub response_in : Bool → machine.Item → machine.Bus → Option Response
+response_in clean (machine.Ask n) b = None
+response_in clean (machine.Reply n result payload) b =
+    if clean then None
+    else option_map (λ r. response r.label result payload) (request_of n b)
+response_in clean (machine.Raw bytes) b = raw_response (raw_message bytes)
+response_in clean (machine.RawReply label kind result payload) b =
+    Some (response label result payload)
+
+-- a response ended the open request that has its identifier
+pub record ArrivesLabelled (around : Around) (new : Bus) (p : Place) (b : machine.Bus)
+    (item : machine.Item) (number kind result : ℕ) (payload : List ℕ) : Type 0 where
+  pub came : Response
+  pub request : Request
+  pub is : response_in p.connection.clean item b ≡ Some came
+  pub found : open_with p.connection.number p.side came.label (taken_at p b) ≡ Some number
+  pub made : request_of number b ≡ Some request
+  pub kind_is : kind ≡ request.kind
+  pub outcome_is : answered came.result came.payload ≡ outcome.Answered result payload
+  pub stands : Stands around new (ended number (answered came.result came.payload) (taken_at p b))
+
+-- a response has the identifier of a request that was given up, which is free now
+pub record ArrivesLateLabel (around : Around) (new : Bus) (p : Place) (b : machine.Bus)
+    (item : machine.Item) (label : ℕ) : Type 0 where
+  pub came : Response
+  pub number : ℕ
+  pub is : response_in p.connection.clean item b ≡ Some came
+  pub label_is : label ≡ came.label
+  pub unopened : open_with p.connection.number p.side label (taken_at p b) ≡ None
+  pub found : given_up_with p.connection.number p.side label (taken_at p b) ≡ Some number
+  pub stands : Stands around new (forgotten number (taken_at p b))
+
+-- a response has an identifier that isn't in use
+pub record ArrivesUnknown (around : Around) (new : Bus) (p : Place) (b : machine.Bus)
+    (item : machine.Item) (label : ℕ) : Type 0 where
+  pub came : Response
+  pub is : response_in p.connection.clean item b ≡ Some came
+  pub label_is : label ≡ came.label
+  pub unopened : open_with p.connection.number p.side label (taken_at p b) ≡ None
+  pub kept : given_up_with p.connection.number p.side label (taken_at p b) ≡ None
+  pub stands : Stands around new (taken_at p b)
+
+-- ---- what is let go
+
+-- raw bytes aren't one whole message
+pub record ArrivesBadRaw (around : Around) (new : Bus) (p : Place) (b : machine.Bus)
+    (item : machine.Item) (fault : RawFault) : Type 0 where
+  pub bytes : List ℕ
+  pub item_is : item ≡ machine.Raw bytes
+  pub fault_is : raw_message bytes ≡ Err fault
+  pub stands : Stands around new (taken_at p b)
 
 -- an item is dropped
 pub record ArrivesDropped (around : Around) (new : Bus) (p : Place) (b : machine.Bus)
     (item : machine.Item) (number : Option ℕ) (reply : Bool) : Type 0 where
-  pub told : IsDropped item number reply
+  pub told : entry.Dropped number reply ≡ dropped item
   pub stands : Stands around new (taken_at p b)
+
+-- ---- all of them
 
 -- what a delivery brings, by cases on it; the end takes it or not
 abbrev pub Brings : Around → Bus → Bool → Place → machine.Bus → machine.Item → Arrival
@@ -88,9 +168,17 @@ abbrev pub Brings : Around → Bus → Bool → Place → machine.Bus → machin
 Brings around new takes p b item (arrival.Ask asked payload) =
     (takes ≡ true) × ArrivesAsk around new p b item asked payload
 Brings around new takes p b item (arrival.Ended number kind result payload) =
-    (takes ≡ true) × ArrivesAnswer around new p b item number kind result payload
+    (takes ≡ true)
+    × (ArrivesAnswer around new p b item number kind result payload
+    ⊎ ArrivesLabelled around new p b item number kind result payload)
 Brings around new takes p b item (arrival.Late number) =
     (takes ≡ true) × ArrivesLate around new p b item number
+Brings around new takes p b item (arrival.LateLabel label) =
+    (takes ≡ true) × ArrivesLateLabel around new p b item label
+Brings around new takes p b item (arrival.UnknownLabel label) =
+    (takes ≡ true) × ArrivesUnknown around new p b item label
+Brings around new takes p b item (arrival.BadRaw fault) =
+    (takes ≡ true) × ArrivesBadRaw around new p b item fault
 Brings around new takes p b item (arrival.Dropped number reply) =
     (takes ≡ false) × ArrivesDropped around new p b item number reply
 
@@ -126,12 +214,14 @@ DeliversAs around new at takes b (Err fault.NoConnection) = DeliversNowhere arou
 DeliversAs around new at takes b (Err fault.QueueEmpty) = DeliversNothing around new at b
 DeliversAs around new at takes b (Err (fault.Memory m)) = ⊤
 
--- What a reply answers: request n, made with the identifier and type that `asked` has, and not
--- unidirectional.
-pub record MayReply (asked : Asked) (b : machine.Bus) (n : ℕ) : Type 0 where
-  pub request : Request
-  pub made : request_of n b ≡ Some request
-  pub names : Names asked n request
+-- ---- replies
+
+-- What a reply answers: the request that an item is, with the number, the identifier and the type
+-- that `asked` has, and not unidirectional.
+pub record MayReply (asked : Asked) (b : machine.Bus) (item : machine.Item) : Type 0 where
+  pub request : Incoming
+  pub is : request_in item b ≡ Some request
+  pub names : Names asked request
   pub twoway : request.oneway ≡ false
 
 -- A request that was taken at a side of a connection is answered: it is among the items that are in
@@ -139,8 +229,21 @@ pub record MayReply (asked : Asked) (b : machine.Bus) (n : ℕ) : Type 0 where
 -- the connection isn't wired.
 abbrev pub RepliesAs : Bus → Bus → ℕ → Side → Asked → ℕ → List ℕ → Type 0
 RepliesAs old new k at asked code payload =
-    (names : List ℕ) (before after : List Loose) (b : machine.Bus) (n : ℕ)
-    → Stands (around_of (before ++ taken_from k at (machine.Ask n) ∷ after) names) old b
-    → MayReply asked b n
+    (names : List ℕ) (before after : List Loose) (b : machine.Bus) (item : machine.Item)
+    → Stands (around_of (before ++ taken_from k at item ∷ after) names) old b
+    → (may : MayReply asked b item)
     → Stands (around_of (before ++ after) names) new
-    (replied k (other_side at) (machine.Reply n code payload) b)
+    (replied k (other_side at) (reply_item may.request (answer code payload)) b)
+
+-- ---- raw bytes
+
+-- how many raw bytes are injected at most
+abbrev pub longest_raw : ℕ
+longest_raw = 2048
+
+-- Raw bytes are injected on a wired connection: they wait toward the application processor, and the
+-- connection is unclean from then on.
+abbrev pub InjectsAs : Bus → Bus → ℕ → List ℕ → Type 0
+InjectsAs old new k bytes =
+    (around : Around) (b : machine.Bus) → Stands around old b
+    → is_wired (connection_of k b) ≡ true → Stands around new (injected k bytes b)

@@ -9,6 +9,7 @@ pub mod Listing
 pub mod Moving
 pub mod Naming
 pub mod Parts
+pub mod Raw
 pub mod Seen
 pub mod Sending
 pub mod Sides

@@ -1,8 +1,9 @@
 -- What the parts of a bus's calls do to it.
-use Rattle.std.specs.Prelude.{◌≡◌, ℕ, Bool, true, false, Option, Some, None, Result, Ok, Err, List, ⊤}
+use Rattle.std.specs.Prelude.{◌≡◌, ℕ, nat_lt, Bool, true, false, Option, Some, None, Result, Ok}
+use Rattle.std.specs.Prelude.{Err, List, ⊤}
 use Rattle.gb_base.specs.declared.end.Side.{Side}
 use Rattle.gb_base.specs.declared.outcome.Outcome.TheVariants as outcome
-use Rattle.gb_bus.specs.Parts.{next_in}
+use Rattle.gb_bus.specs.Parts.{is_unclean, next_in}
 use Rattle.gb_bus.specs.Sides.{BeginsIn, MatchesIn}
 use Rattle.gb_bus.specs.Slots.{MovesAt, ended_at, ends_so, forgets, slot_at}
 use Rattle.gb_bus.specs.Taking.{dropped, open_kind, shown}
@@ -72,7 +73,7 @@ EndsAs old new number kind code payload (Err e) = IsMemory e
 pub record Answered (old new : Bus) (k : ℕ) (at : Side) (number label code : ℕ)
     (payload : List ℕ) (a : Arrival) : Type 0 where
   pub matched : Matched
-  pub matches : MatchesIn old.connections new.connections k at number label matched
+  pub matches : MatchesIn old.connections new.connections k at (Some number) label matched
   pub answers : Answers old new number code payload matched
       (open_kind (slot_at old.slots number)) a
 
@@ -82,16 +83,73 @@ AnswersAs old new k at number label code payload (Ok a) =
     Answered old new k at number label code payload a
 AnswersAs old new k at number label code payload (Err e) = IsMemory e
 
+-- What a response with an identifier does to the bus, where the identifier is in use for an open
+-- request: it ends that, which is open by its slot too.
+abbrev pub Opens : Bus → Bus → ℕ → ℕ → ℕ → List ℕ → Option ℕ → Arrival → Type 0
+Opens old new label number code payload (Some kind) a =
+    (a ≡ arrival.Ended number kind code (shown code payload))
+    × ChangesRequest old new number (ends_so (outcome.Answered code (shown code payload)))
+    (ended_at number (outcome.Answered code (shown code payload)) old.slots)
+Opens old new label number code payload None a = a ≡ arrival.UnknownLabel label
+
+abbrev pub OpenedAs : Bus → Bus → ℕ → ℕ → ℕ → List ℕ → Result Arrival DeliverFault → Type 0
+OpenedAs old new number label code payload (Ok a) =
+    Opens old new label number code payload (open_kind (slot_at old.slots number)) a
+    × (new ≡ record old { slots = new.slots })
+OpenedAs old new number label code payload (Err e) = IsMemory e
+
+-- What it does, by what its identifier is in use for.
+abbrev pub Labels : Bus → Bus → ℕ → ℕ → List ℕ → Matched → Arrival → Type 0
+Labels old new label code payload (matched.Open n) a =
+    Opens old new label n code payload (open_kind (slot_at old.slots n)) a
+Labels old new label code payload (matched.Late n) a =
+    (a ≡ arrival.LateLabel label) × ChangesRequest old new n forgets old.slots.tally
+Labels old new label code payload matched.Unknown a =
+    (a ≡ arrival.UnknownLabel label) × (new ≡ with_connections new.connections old)
+
+-- a response with an identifier came at a side of a connection
+pub record Labelled (old new : Bus) (k : ℕ) (at : Side) (label code : ℕ) (payload : List ℕ)
+    (a : Arrival) : Type 0 where
+  pub matched : Matched
+  pub matches : MatchesIn old.connections new.connections k at None label matched
+  pub answers : Labels old new label code payload matched a
+
+abbrev pub LabelledAs : Bus → Bus → ℕ → Side → ℕ → ℕ → List ℕ → Result Arrival DeliverFault
+    → Type 0
+LabelledAs old new k at label code payload (Ok a) = Labelled old new k at label code payload a
+LabelledAs old new k at label code payload (Err e) = IsMemory e
+
+-- a response to request number came, on a connection that is unclean or isn't
+abbrev pub RepliesTo : Bool → Bus → Bus → ℕ → Side → ℕ → ℕ → ℕ → List ℕ
+    → Result Arrival DeliverFault → Type 0
+RepliesTo true old new k at number label code payload r =
+    LabelledAs old new k at label code payload r
+RepliesTo false old new k at number label code payload r =
+    AnswersAs old new k at number label code payload r
+
 -- what names a request that was delivered
-abbrev pub naming : ℕ → ℕ → ℕ → Asked
-naming number label kind = record { number = Some number; label = label; kind = kind }
+abbrev pub naming : Option ℕ → ℕ → ℕ → Asked
+naming number label kind = record { number = number; label = label; kind = kind }
+
+-- a message came as raw bytes, a request or not
+abbrev pub RawTakesAs : Bool → Bus → Bus → ℕ → Side → ℕ → ℕ → ℕ → List ℕ
+    → Result Arrival DeliverFault → Type 0
+RawTakesAs true old new k at label kind code payload r =
+    (r ≡ Ok (arrival.Ask (naming None label kind) payload)) × (new ≡ old)
+RawTakesAs false old new k at label kind code payload r =
+    LabelledAs old new k at label code payload r
 
 -- what a message brings to a side of a connection that takes it
 abbrev pub TakesAs : Bus → Bus → ℕ → Side → Item → Result Arrival DeliverFault → Type 0
 TakesAs old new k at (item.Ask number label kind payload) r =
-    (r ≡ Ok (arrival.Ask (naming number label kind) payload)) × (new ≡ old)
+    (r ≡ Ok (arrival.Ask (naming (Some number) label kind) payload)) × (new ≡ old)
 TakesAs old new k at (item.Reply number label code payload) r =
-    AnswersAs old new k at number label code payload r
+    RepliesTo (is_unclean k old.connections) old new k at number label code payload r
+TakesAs old new k at (item.Raw label kind code payload) r =
+    RawTakesAs (nat_lt kind 128) old new k at label kind code payload r
+TakesAs old new k at (item.BadRaw fault) r = (r ≡ Ok (arrival.BadRaw fault)) × (new ≡ old)
+TakesAs old new k at (item.RawReply label code payload) r =
+    LabelledAs old new k at label code payload r
 
 -- what a message brings to a side of a connection that takes it, or doesn't
 abbrev pub HandlesAs : Bus → Bus → ℕ → Side → Bool → Item → Result Arrival DeliverFault → Type 0

@@ -1,5 +1,6 @@
 -- What a bus tells of a request that is kept, and what names do.
-use Rattle.std.specs.Prelude.{ℕ, ◌==◌, ◌<◌, nat_lt, Bool, ◌||◌, if◌then◌else◌, Option, None, is_some, List, [], ◌∷◌, length}
+use Rattle.std.specs.Prelude.{ℕ, ◌==◌, ◌<◌, nat_lt, Bool, ◌||◌, if◌then◌else◌, Option, None}
+use Rattle.std.specs.Prelude.{is_some, List, [], ◌∷◌, length}
 use Rattle.gb_base.specs.declared.outcome.Outcome.{Outcome}
 use Rattle.gb_bus.specs.Listing.{count}
 use Rattle.gb_bus.specs.Slots.{most_names}

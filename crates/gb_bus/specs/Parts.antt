@@ -1,5 +1,6 @@
 -- The connections of a bus, and what changes them.
-use Rattle.std.specs.Prelude.{◌≡◌, ℕ, ◌==◌, Bool, true, false, not, ◌&&◌, if◌then◌else◌, Option, Some, None, option_and_then, option_map, List, [], ◌∷◌, ◌++◌, find}
+use Rattle.std.specs.Prelude.{◌≡◌, ℕ, ◌==◌, Bool, true, false, not, ◌&&◌, if◌then◌else◌, Option}
+use Rattle.std.specs.Prelude.{Some, None, option_and_then, option_map, List, [], ◌∷◌, ◌++◌, find}
 use Rattle.gb_base.specs.declared.end.End.{End}
 use Rattle.gb_base.specs.declared.end.End.TheVariants as end
 use Rattle.gb_base.specs.declared.end.Side.{Side}
@@ -23,6 +24,7 @@ new_connection k a peer protocol = record {
   peer = peer;
   protocol = protocol;
   wired = false;
+  clean = true;
   shut = false;
   ap_ops = no_operations;
   far_ops = no_operations;
@@ -40,6 +42,10 @@ svc = with_wire (new_connection 1 0 end.Svc 0x14)
 -- the side of the application processor is closed, and all its identifiers are free
 abbrev pub closed : Connection → Connection
 closed c = record c { shut = true; ap_ops = emptied c.ap_ops }
+
+-- raw bytes were injected
+abbrev pub soiled : Connection → Connection
+soiled c = record c { clean = false }
 
 -- it isn't wired, nothing waits, and all identifiers of the far side are free
 abbrev pub cleared : Connection → Connection
@@ -127,6 +133,14 @@ earliest_in (c ∷ cs) = earliest_of c (earliest_in cs)
 -- the identifier that a side of a connection draws next
 abbrev pub next_in : ℕ → Side → List Connection → Option ℕ
 next_in k at cs = option_and_then (next_of at) (find (numbered k) cs)
+
+-- whether a connection is there on which raw bytes were injected
+abbrev pub is_soiled : Option Connection → Bool
+is_soiled None = false
+is_soiled (Some c) = not c.clean
+
+abbrev pub is_unclean : ℕ → List Connection → Bool
+is_unclean k cs = is_soiled (find (numbered k) cs)
 
 -- the front message toward a side of a connection
 abbrev pub front_in : ℕ → Side → List Connection → Option Item

@@ -25,6 +25,7 @@ seen queues k x = record {
   peer = x.peer;
   protocol = x.protocol;
   wired = x.wired;
+  clean = x.clean;
   shut = x.shut;
   ap_ops = x.ap_ops;
   far_ops = x.far_ops;

@@ -1,5 +1,6 @@
 -- The requests of one side of a connection whose identifiers are in use, and what changes them.
-use Rattle.std.specs.Prelude.{◌≡◌, ◌≢◌, ◌⊎◌, ℕ, Option, Some, None, option_and_then, Result, Ok, Err, List, ⊤, find}
+use Rattle.std.specs.Prelude.{◌≡◌, ◌⊎◌, ℕ, ◌==◌, Bool, true, false, not, Option, Some, None}
+use Rattle.std.specs.Prelude.{option_and_then, Result, Ok, Err, List, ⊤, find}
 use Rattle.gb_base.specs.declared.end.Side.{Side}
 use Rattle.gb_bus.specs.Parts.{next_in, numbered, ops_of, with_ops}
 use Rattle.gb_bus.specs.Connection.{Connection}
@@ -14,17 +15,25 @@ use Rattle.gb_ops.specs.declared.entries.Matched.TheVariants as matched
 
 -- ---- one side
 
--- an identifier isn't in use for request n
-abbrev pub IsNotOf : ℕ → Option Holder → Type 0
-IsNotOf n None = Unit {0}
-IsNotOf n (Some h) = h.number ≢ n
+-- whether request n isn't the one that is asked for, if one is
+abbrev pub is_other : Option ℕ → ℕ → Bool
+is_other None n = false
+is_other (Some asked) n = not (asked == n)
 
--- What an answer to request n with an identifier comes to: it is open, or was given up, or the
--- identifier isn't in use for it. Then nothing changes.
-abbrev pub MatchesAs : Operations → Operations → ℕ → ℕ → Matched → Type 0
-MatchesAs old new n label (matched.Open m) = (m ≡ n) × Ends old new label n
-MatchesAs old new n label (matched.Late m) = (m ≡ n) × Forgets old new label n
-MatchesAs old new n label matched.Unknown = IsNotOf n (holder_of old label) × (new ≡ old)
+-- an identifier isn't in use, or not for the request that is asked for
+abbrev pub IsNotOf : Option ℕ → Option Holder → Type 0
+IsNotOf number None = Unit {0}
+IsNotOf number (Some h) = is_other number h.number ≡ true
+
+-- What an answer with an identifier comes to, to one request or to whichever has the identifier:
+-- the request is open, or was given up, or the identifier isn't in use for it. Then nothing
+-- changes.
+abbrev pub MatchesAs : Operations → Operations → Option ℕ → ℕ → Matched → Type 0
+MatchesAs old new number label (matched.Open m) =
+    (is_other number m ≡ false) × Ends old new label m
+MatchesAs old new number label (matched.Late m) =
+    (is_other number m ≡ false) × Forgets old new label m
+MatchesAs old new number label matched.Unknown = IsNotOf number (holder_of old label) × (new ≡ old)
 
 -- Request n is given up, or wasn't open.
 abbrev pub GivesUpWhere : Operations → Operations → ℕ → Type 0
@@ -50,8 +59,8 @@ pub record HasEndsOf (old new : Connection) : Type 0 where
   pub far : new.peer ≡ old.peer
   pub wire : new.wired ≡ old.wired
 
-abbrev pub MatchesOn : Connection → Connection → Side → ℕ → ℕ → Matched → Type 0
-MatchesOn old new at n label m = OnSide old new at (λ x y. MatchesAs x y n label m)
+abbrev pub MatchesOn : Connection → Connection → Side → Option ℕ → ℕ → Matched → Type 0
+MatchesOn old new at number label m = OnSide old new at (λ x y. MatchesAs x y number label m)
 
 abbrev pub GivesUpOn : Connection → Connection → Side → ℕ → Type 0
 GivesUpOn old new at n = OnSide old new at (λ x y. GivesUpWhere x y n)
@@ -82,13 +91,14 @@ ChangesAs old new k at R =
     ChangesSide old new k at R ⊎ ((find (numbered k) old ≡ None) × (new ≡ old))
 
 -- By cases on the answer.
-abbrev pub MatchesIn : List Connection → List Connection → ℕ → Side → ℕ → ℕ → Matched → Type 0
-MatchesIn old new k at n label (matched.Open m) =
-    ChangesSide old new k at (λ x y. MatchesAs x y n label (matched.Open m))
-MatchesIn old new k at n label (matched.Late m) =
-    ChangesSide old new k at (λ x y. MatchesAs x y n label (matched.Late m))
-MatchesIn old new k at n label matched.Unknown =
-    IsNotOf n (option_and_then (λ c. holder_of (ops_of at c) label) (find (numbered k) old))
+abbrev pub MatchesIn : List Connection → List Connection → ℕ → Side → Option ℕ → ℕ → Matched
+    → Type 0
+MatchesIn old new k at number label (matched.Open m) =
+    ChangesSide old new k at (λ x y. MatchesAs x y number label (matched.Open m))
+MatchesIn old new k at number label (matched.Late m) =
+    ChangesSide old new k at (λ x y. MatchesAs x y number label (matched.Late m))
+MatchesIn old new k at number label matched.Unknown =
+    IsNotOf number (option_and_then (λ c. holder_of (ops_of at c) label) (find (numbered k) old))
     × (new ≡ old)
 
 abbrev pub GivesUpIn : List Connection → List Connection → ℕ → Side → ℕ → Type 0

@@ -1,5 +1,6 @@
 -- What the value of a bus stands for.
-use Rattle.std.specs.Prelude.{◌≡◌, ℕ, Bool, true, ◌&&◌, if◌then◌else◌, Option, Some, None, is_some, List, [], ◌∷◌, find}
+use Rattle.std.specs.Prelude.{◌≡◌, ℕ, Bool, true, ◌&&◌, if◌then◌else◌, Option, Some, None, is_some}
+use Rattle.std.specs.Prelude.{Ok, Err, List, [], ◌∷◌, find}
 use Rattle.gb_base.specs.declared.end.Side.{Side}
 use Rattle.gb_base.specs.declared.outcome.Outcome.{Outcome}
 use Rattle.gb_bus.specs.Counting.{Tells}
@@ -11,6 +12,8 @@ use Rattle.gb_bus.specs.Connection.{Connection}
 use Rattle.gb_bus.specs.declared.queue.Item.{Item}
 use Rattle.gb_bus.specs.declared.queue.Item.TheVariants as code
 use Rattle.gb_bus.specs.declared.slots.Slot.{Slot}
+use Rattle.gb_formats.specs.Message.{Message}
+use Rattle.gb_formats.specs.Wire.{raw_message}
 use Rattle.gb_invariants.specs.Facts.{BusFits, Loose}
 use Rattle.gb_machine.specs.Bus as machine
 use Rattle.gb_machine.specs.Bus.{Request, connection_of, is_open, outcome_of, request_of}
@@ -45,18 +48,30 @@ pub record StandsForReply (requests : List Request) (number label result : ℕ) 
   pub result_is : result ≡ r
   pub payload_is : payload ≡ bytes
 
--- a message in a queue stands for an item of the machine
+-- a message as its parts
+abbrev pub message : ℕ → ℕ → ℕ → List ℕ → Message
+message label kind result payload =
+    record { id = label; kind = kind; result = result; payload = payload }
+
+-- the reply to a request that came as raw bytes has the identifier of that one
+pub record StandsForRawReply (label result : ℕ) (payload : List ℕ) (l r : ℕ) (bytes : List ℕ) : Type
+    0 where
+  pub label_is : label ≡ l
+  pub result_is : result ≡ r
+  pub payload_is : payload ≡ bytes
+
+-- A message in a queue stands for an item of the machine. Raw bytes are decoded already.
 abbrev pub StandsForItem : List Request → Item → machine.Item → Type 0
 StandsForItem requests (code.Ask number label kind payload) (machine.Ask n) =
     StandsForAsk requests number label kind payload n
 StandsForItem requests (code.Reply number label result payload) (machine.Reply n r bytes) =
     StandsForReply requests number label result payload n r bytes
-StandsForItem requests (code.Ask number label kind payload) (machine.Reply n r bytes) = ⊥
-StandsForItem requests (code.Ask number label kind payload) (machine.Raw bytes) = ⊥
-StandsForItem requests (code.Ask number label kind payload) (machine.RawReply l k r bytes) = ⊥
-StandsForItem requests (code.Reply number label result payload) (machine.Ask n) = ⊥
-StandsForItem requests (code.Reply number label result payload) (machine.Raw bytes) = ⊥
-StandsForItem requests (code.Reply number label result payload) (machine.RawReply l k r bytes) = ⊥
+StandsForItem requests (code.Raw label kind result payload) (machine.Raw bytes) =
+    raw_message bytes ≡ Ok (message label kind result payload)
+StandsForItem requests (code.BadRaw fault) (machine.Raw bytes) = raw_message bytes ≡ Err fault
+StandsForItem requests (code.RawReply label result payload) (machine.RawReply l k r bytes) =
+    StandsForRawReply label result payload l r bytes
+StandsForItem requests _ _ = ⊥
 
 -- the messages of a queue stand for the machine's in order
 abbrev pub StandsForQueue : List Request → List Item → List machine.Item → Type 0
@@ -68,7 +83,7 @@ StandsForQueue requests (i ∷ is) [] = ⊥
 
 -- ---- connections
 
--- A connection stands for one of the machine, which is clean: nothing was injected.
+-- A connection stands for one of the machine.
 pub record StandsForConnection (requests : List Request) (x : Connection)
     (c : machine.Connection) : Type 0 where
   pub number : x.number ≡ c.number
@@ -76,7 +91,7 @@ pub record StandsForConnection (requests : List Request) (x : Connection)
   pub peer : x.peer ≡ c.peer
   pub protocol : x.protocol ≡ c.protocol
   pub wired : x.wired ≡ c.wired
-  pub clean : c.clean ≡ true
+  pub clean : x.clean ≡ c.clean
   pub shut : x.shut ≡ c.shut
   pub to_ap : StandsForQueue requests x.to_ap c.to_ap
   pub to_far : StandsForQueue requests x.to_far c.to_far

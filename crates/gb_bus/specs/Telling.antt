@@ -1,5 +1,5 @@
 -- What a bus tells of its connections and of what waits.
-use Rattle.std.specs.Prelude.{ℕ, ◌==◌, Bool, true, if◌then◌else◌, List, [], ◌∷◌, length}
+use Rattle.std.specs.Prelude.{ℕ, ◌==◌, Bool, if◌then◌else◌, List, [], ◌∷◌, length}
 use Rattle.gb_base.specs.declared.end.End.{End}
 use Rattle.gb_base.specs.declared.end.End.TheVariants as end
 use Rattle.gb_bus.specs.Connection.{Connection}
@@ -18,7 +18,7 @@ known_as x = record {
   ap = x.ap;
   peer = x.peer;
   protocol = x.protocol;
-  clean = true;
+  clean = x.clean;
 }
 
 -- what there is to tell of a connection of the machine

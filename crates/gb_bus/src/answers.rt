@@ -4,7 +4,7 @@ ghost use Rattle.std.specs.Prelude.{◌≡◌};
 ghost use Rattle.gb_bus.specs.declared.answers.DeliverFault.TheVariants as deliver;
 ghost use Rattle.gb_bus.specs.declared.answers.SendFault.TheVariants as send;
 
-use gb_base::{Bytes, OutOfMemory, Side};
+use gb_base::{Bytes, OutOfMemory, RawFault, Side};
 
 /// A request that was made.
 #[derive(Clone, Copy, Debug, PartialEq, Eq)]
@@ -69,9 +69,26 @@ pub enum Arrival {
         /// The request.
         number: u64,
     },
+    /// A response whose identifier is that of a request which was given up. It came on an unclean
+    /// connection, or as raw bytes.
+    LateLabel {
+        /// The identifier. It is free now.
+        label: u16,
+    },
+    /// A response whose identifier no request of the end has. It came on an unclean connection, or
+    /// as raw bytes.
+    UnknownLabel {
+        /// The identifier.
+        label: u16,
+    },
+    /// Raw bytes that aren't one whole message.
+    BadRaw {
+        /// Why not.
+        fault: RawFault,
+    },
     /// A message that the end doesn't take.
     Dropped {
-        /// The request.
+        /// The request, None where the message came as raw bytes or answers such a one.
         number: Option<u64>,
         /// It is a response.
         reply: bool,

@@ -1,13 +1,14 @@
 //! The bus: messages.
 
-ghost use Rattle.std.specs.Prelude.{◌≡◌, None, [], OnOk, OnErr, IfOk, IsErrOf};
+ghost use Rattle.std.specs.Prelude.{◌≡◌, None, nat_lt, [], OnOk, OnErr, IfOk, IsErrOf};
 ghost use Rattle.gb_machine.specs.Bus as machine;
 ghost use Rattle.gb_machine.specs.Bus.{first_bus};
 ghost use Rattle.gb_machine.specs.Requests.{is_due, open_requests};
 ghost use Rattle.gb_base.specs.declared.outcome.Outcome.TheVariants as outcome;
 ghost use Rattle.gb_machine.specs.Sending.{draft};
 ghost use Rattle.gb_bus.specs.Slots.{open_place, slot_at};
-ghost use Rattle.gb_bus.specs.Taking.{dropped, open_kind};
+ghost use Rattle.gb_bus.specs.Parts.{is_unclean};
+ghost use Rattle.gb_bus.specs.Taking.{dropped, open_kind, reply_item};
 
 use crate::connections::Connections;
 use crate::ends::other_side;
@@ -17,6 +18,9 @@ use crate::{AlreadyEnded, Arrival, Arrived, Asked, DeliverFault, SendFault, Sent
 use gb_base::{Bytes, End, Numbers, OutOfMemory, Outcome, Side, TryCopy};
 use gb_ops::{BeginFault, Matched};
 use std::alloc::Global;
+
+/// The least type of a response.
+const FIRST_RESPONSE: u8 = 0x80;
 
 /// Connections, requests and queues. Connection 1 is that of the supervisory controller. A call
 /// that names a connection which isn't live changes no connection.
@@ -31,7 +35,17 @@ pub struct Bus {
 impl Bus {
     ghost use Rattle.gb_bus.specs.Cancelling.{ExpiresAs, GivesUpAs};
     ghost use Rattle.gb_bus.specs.Delivering.{DeliversAs, RepliesAs};
-    ghost use Rattle.gb_bus.specs.Moving.{AnswersAs, EndsAs, HandlesAs, LabelsAs, TakesAs};
+    ghost use Rattle.gb_bus.specs.Moving.{
+      AnswersAs,
+      EndsAs,
+      HandlesAs,
+      LabelledAs,
+      LabelsAs,
+      TakesAs,
+      OpenedAs,
+      RawTakesAs,
+      RepliesTo,
+    };
     ghost use Rattle.gb_bus.specs.Sending.{SendsAs};
     ghost use Rattle.gb_bus.specs.Stands.{Around, Stands, around_of};
 
@@ -118,8 +132,7 @@ impl Bus {
     }
 
     /// Answers a request that was delivered at `side` of a connection: the reply goes toward the
-    /// side that asked, and is lost where the connection isn't wired. A request without a number
-    /// gets none, and the bus is as before.
+    /// side that asked, and is lost where the connection isn't wired.
     pub fn reply(
         &mut self,
         k: u64,
@@ -130,18 +143,9 @@ impl Bus {
     ) -> Result<(), OutOfMemory>
         ensures step { OnOk result
             (RepliesAs self.old self.new k side asked.now code payload.now) }
-        ensures unnumbered { asked.now.number ≡ None → self.new ≡ self.old }
     {
-        let Some(number) = asked.number else {
-            return Ok(());
-        };
         let payload = Bytes::from_slice(self.alloc, payload)?;
-        let answer = Item::Reply {
-            number,
-            label: asked.label,
-            result: code,
-            payload,
-        };
+        let answer = reply_item(asked, code, payload);
         self.connections.push(k, other_side(side), answer)?;
         Ok(())
     }
@@ -263,7 +267,105 @@ impl Bus {
                 label,
                 result: code,
                 payload,
-            } => self.answer(k, side, number, label, code, payload),
+            } => self.response(k, side, number, label, code, payload),
+            Item::Raw {
+                label,
+                kind,
+                result: code,
+                payload,
+            } => self.raw(k, side, label, kind, code, payload),
+            Item::BadRaw { fault } => Ok(Arrival::BadRaw { fault }),
+            Item::RawReply {
+                label,
+                result: code,
+                payload,
+            } => self.labelled(k, side, label, code, payload),
+        }
+    }
+
+    /// What a message that came as raw bytes brings: a request, or a response that goes by its
+    /// identifier.
+    fn raw(
+        &mut self,
+        k: u64,
+        side: Side,
+        label: u16,
+        kind: u8,
+        code: u8,
+        payload: Bytes,
+    ) -> Result<Arrival, DeliverFault>
+        ensures { RawTakesAs (nat_lt kind 128) self.old self.new k side label kind code payload
+            result }
+    {
+        if kind >= FIRST_RESPONSE {
+            return self.labelled(k, side, label, code, payload);
+        }
+        Ok(Arrival::Ask {
+            asked: Asked {
+                number: None,
+                label,
+                kind,
+            },
+            payload,
+        })
+    }
+
+    /// What a response to request n brings. It goes by its number on a clean connection, and by its
+    /// identifier on an unclean one.
+    fn response(
+        &mut self,
+        k: u64,
+        side: Side,
+        number: u64,
+        label: u16,
+        code: u8,
+        payload: Bytes,
+    ) -> Result<Arrival, DeliverFault>
+        ensures { RepliesTo (is_unclean k self.old.connections) self.old self.new k side number
+            label code payload result }
+    {
+        if self.connections.is_unclean(k) {
+            self.labelled(k, side, label, code, payload)
+        } else {
+            self.answer(k, side, number, label, code, payload)
+        }
+    }
+
+    /// What a response brings that goes by its identifier alone. It belongs to the request which
+    /// the identifier is in use for, and the identifier is free then.
+    fn labelled(
+        &mut self,
+        k: u64,
+        side: Side,
+        label: u16,
+        code: u8,
+        payload: Bytes,
+    ) -> Result<Arrival, DeliverFault>
+        ensures { LabelledAs self.old self.new k side label code payload result }
+    {
+        match self.connections.matched(k, side, None, label) {
+            Matched::Open(number) => self.opened(number, label, code, payload),
+            Matched::Late(number) => {
+                self.slots.forget(number);
+                Ok(Arrival::LateLabel { label })
+            }
+            Matched::Unknown => Ok(Arrival::UnknownLabel { label }),
+        }
+    }
+
+    /// A request is answered that is open, since its identifier is in use so.
+    fn opened(
+        &mut self,
+        number: u64,
+        label: u16,
+        code: u8,
+        payload: Bytes,
+    ) -> Result<Arrival, DeliverFault>
+        ensures { OpenedAs self.old self.new number label code payload result }
+    {
+        match self.open_kind(number) {
+            Some(kind) => self.ended(number, kind, code, payload),
+            None => Ok(Arrival::UnknownLabel { label }),
         }
     }
 
@@ -282,7 +384,7 @@ impl Bus {
         ensures { AnswersAs self.old self.new k side number label code payload result }
     {
         match (
-            self.connections.matched(k, side, number, label),
+            self.connections.matched(k, side, Some(number), label),
             self.open_kind(number),
         ) {
             (Matched::Open(_), Some(kind)) => self.ended(number, kind, code, payload),
@@ -342,6 +444,26 @@ impl Bus {
     }
 }
 
+/// The reply to a request, as it waits in a queue.
+fn reply_item(asked: &Asked, code: u8, payload: Bytes) -> Item
+    ensures { result ≡ reply_item asked.now code payload }
+{
+    let label = asked.label;
+    match asked.number {
+        Some(number) => Item::Reply {
+            number,
+            label,
+            result: code,
+            payload,
+        },
+        None => Item::RawReply {
+            label,
+            result: code,
+            payload,
+        },
+    }
+}
+
 /// What is told of a message that is dropped.
 fn dropped(item: Item) -> Arrival
     ensures { result ≡ dropped item }
@@ -353,6 +475,14 @@ fn dropped(item: Item) -> Arrival
         },
         Item::Reply { number, .. } => Arrival::Dropped {
             number: Some(number),
+            reply: true,
+        },
+        Item::Raw { .. } | Item::BadRaw { .. } => Arrival::Dropped {
+            number: None,
+            reply: false,
+        },
+        Item::RawReply { .. } => Arrival::Dropped {
+            number: None,
             reply: true,
         },
     }

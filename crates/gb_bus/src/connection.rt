@@ -9,11 +9,14 @@ ghost use Rattle.gb_bus.specs.Parts.{
   joins,
   new_connection,
   next_of,
+  ops_of,
   side_at,
+  soiled,
   with_wire,
 };
 ghost use Rattle.gb_bus.specs.Seen.{alone};
 ghost use Rattle.gb_bus.specs.Sides.{BeginsOn, HasEndsOf, GivesUpOn, MatchesAs, MatchesOn};
+ghost use Rattle.gb_bus.specs.Sides.{is_other};
 ghost use Rattle.gb_bus.specs.Telling.{known_as};
 
 use crate::Known;
@@ -32,6 +35,8 @@ pub struct Connection {
     pub protocol: u8,
     /// It is wired.
     pub wired: bool,
+    /// No raw bytes were injected.
+    pub clean: bool,
     /// The side of the application processor is closed.
     pub shut: bool,
     /// The requests of the application processor's side whose identifiers are in use.
@@ -50,6 +55,7 @@ impl Connection {
             peer,
             protocol,
             wired: false,
+            clean: true,
             shut: false,
             ap_ops: Ops::new(alloc)?,
             far_ops: Ops::new(alloc)?,
@@ -71,6 +77,16 @@ impl Connection {
         ensures { result ≡ joins ap peer (alone 0 self.now) }
     {
         self.ap == ap && self.peer == peer
+    }
+
+    /// The requests of a side whose identifiers are in use.
+    pub fn ops(&self, side: Side) -> &Ops
+        ensures { result.now ≡ ops_of side (alone 0 self.now) }
+    {
+        match side {
+            Side::Ap => &self.ap_ops,
+            Side::Far => &self.far_ops,
+        }
     }
 
     /// All identifiers of a side are in use.
@@ -95,15 +111,15 @@ impl Connection {
         }
     }
 
-    /// What an answer to request n with an identifier comes to on a side. The identifier is free
-    /// then. Unknown comes where the identifier isn't in use for request n: that was over when
-    /// its side was closed.
-    pub fn matched(&mut self, side: Side, n: u64, label: u16) -> Matched
-        ensures { MatchesOn (alone 0 self.old) (alone 0 self.new) side n label result }
+    /// What an answer with an identifier comes to on a side: to request `number`, or to whichever
+    /// has the identifier. The identifier is free then. Unknown comes where the identifier isn't in
+    /// use, or not for that request, which was over when its side was closed.
+    pub fn matched(&mut self, side: Side, number: Option<u64>, label: u16) -> Matched
+        ensures { MatchesOn (alone 0 self.old) (alone 0 self.new) side number label result }
     {
         match side {
-            Side::Ap => matched(&mut self.ap_ops, n, label),
-            Side::Far => matched(&mut self.far_ops, n, label),
+            Side::Ap => matched(&mut self.ap_ops, number, label),
+            Side::Far => matched(&mut self.far_ops, number, label),
         }
     }
 
@@ -122,6 +138,13 @@ impl Connection {
         ensures { alone 0 self.new ≡ with_wire (alone 0 self.old) }
     {
         self.wired = true;
+    }
+
+    /// Raw bytes were injected.
+    pub fn soil(&mut self)
+        ensures { alone 0 self.new ≡ soiled (alone 0 self.old) }
+    {
+        self.clean = false;
     }
 
     /// It isn't wired any more, and all identifiers of the far side are free.
@@ -175,17 +198,30 @@ impl Connection {
             ap: self.ap,
             peer: self.peer,
             protocol: self.protocol,
-            clean: true,
+            clean: self.clean,
         }
     }
 }
 
-/// What an answer to request n with an identifier comes to on one side.
-fn matched(ops: &mut Ops, n: u64, label: u16) -> Matched
-    ensures { MatchesAs ops.old ops.new n label result }
+/// What an answer with an identifier comes to on one side.
+fn matched(ops: &mut Ops, number: Option<u64>, label: u16) -> Matched
+    ensures { MatchesAs ops.old ops.new number label result }
 {
-    match ops.holder(label) {
-        Some(holder) if holder.number == n => ops.reply(label),
-        _ => Matched::Unknown,
+    let Some(holder) = ops.holder(label) else {
+        return Matched::Unknown;
+    };
+    if is_other(number, holder.number) {
+        return Matched::Unknown;
+    }
+    ops.reply(label)
+}
+
+/// A request isn't the one that is asked for.
+fn is_other(number: Option<u64>, n: u64) -> bool
+    ensures { result ≡ is_other number n }
+{
+    match number {
+        Some(asked) => asked != n,
+        None => false,
     }
 }

@@ -10,6 +10,7 @@ ghost use Rattle.std.specs.Prelude.{
   is_none,
   length,
   map,
+  option_copied,
   option_map,
   find,
 };
@@ -21,14 +22,17 @@ ghost use Rattle.gb_bus.specs.Parts.{
   cleared,
   closed,
   ends_in,
+  is_unclean,
   is_wired_to,
   joins,
   new_connection,
   next_in,
   numbered,
+  ops_of,
   place_at,
   put,
   queue_of,
+  soiled,
   svc,
   with_wire,
 };
@@ -39,7 +43,7 @@ use crate::queue::Item;
 use crate::telling::add_end;
 use crate::{Known, Waiting, live};
 use gb_base::{End, Numbers, OutOfMemory, Sequence, Side};
-use gb_ops::{BeginFault, Matched};
+use gb_ops::{BeginFault, Matched, Ops};
 use gb_switch::{Place, Queues};
 use std::alloc::Global;
 use std::collections::BTreeMap;
@@ -131,12 +135,31 @@ impl Connections {
         Some(self.live.get(&k)?.wired)
     }
 
+    /// Raw bytes were injected on the live connection with a number.
+    pub fn is_unclean(&self, k: u64) -> bool
+        ensures { result ≡ is_unclean k self.now }
+    {
+        match self.live.get(&k) {
+            Some(connection) => !connection.clean,
+            None => false,
+        }
+    }
+
     /// The ends of the live connection with a number.
     pub fn ends(&self, k: u64) -> Option<(u16, End)>
         ensures { result ≡ option_map ends_in (find (numbered k) self.now) }
     {
         let connection = self.live.get(&k)?;
         Some((connection.ap, connection.peer))
+    }
+
+    /// The requests of a side of the live connection with a number whose identifiers are in use.
+    pub fn ops(&self, k: u64, side: Side) -> Option<&Ops>
+        ensures { option_copied result
+            ≡ option_map (ops_of side) (find (numbered k) self.now) }
+    {
+        let connection = self.live.get(&k)?;
+        Some(connection.ops(side))
     }
 
     /// No identifier is left on a side of a connection, or it isn't live.
@@ -270,6 +293,13 @@ impl Connections {
         live::shut(&mut self.live, k);
     }
 
+    /// Raw bytes were injected on a connection.
+    pub fn soil(&mut self, k: u64)
+        ensures { self.new ≡ at_first (numbered k) soiled self.old }
+    {
+        live::soil(&mut self.live, k);
+    }
+
     /// A connection is there no more.
     pub fn remove(&mut self, k: u64)
         ensures { self.new ≡ without (numbered k) self.old }
@@ -291,12 +321,13 @@ impl Connections {
         live::begin(&mut self.live, k, side, n, deadline)
     }
 
-    /// What an answer to request n with an identifier comes to on a side of a connection. The
-    /// identifier is free then. Unknown comes where it isn't in use for request n there.
-    pub fn matched(&mut self, k: u64, side: Side, n: u64, label: u16) -> Matched
-        ensures { MatchesIn self.old self.new k side n label result }
+    /// What an answer with an identifier comes to on a side of a connection: to request `number`,
+    /// or to whichever has the identifier. The identifier is free then. Unknown comes where it
+    /// isn't in use there, or not for that request.
+    pub fn matched(&mut self, k: u64, side: Side, number: Option<u64>, label: u16) -> Matched
+        ensures { MatchesIn self.old self.new k side number label result }
     {
-        live::matched(&mut self.live, k, side, n, label)
+        live::matched(&mut self.live, k, side, number, label)
     }
 
     /// Request n of a side of a connection is given up, where it is open. Its identifier stays in

@@ -9,6 +9,7 @@ mod ends;
 mod live;
 mod naming;
 mod queue;
+mod raw;
 mod slots;
 mod tally;
 mod telling;

@@ -4,7 +4,7 @@ ghost use Rattle.std.specs.Prelude.{◌≡◌, ◌<◌, ℕ, None, true, Err, Is
 ghost use Rattle.std.specs.BTreeMap.{get};
 ghost use Rattle.std.specs.Ordering.{nat_cmp};
 ghost use Rattle.gb_bus.specs.Index.{ChangesBy, Leaves};
-ghost use Rattle.gb_bus.specs.Parts.{cleared, closed, with_wire};
+ghost use Rattle.gb_bus.specs.Parts.{cleared, closed, soiled, with_wire};
 ghost use Rattle.gb_bus.specs.Sides.{BeginsOn, GivesUpOn, HasEndsOf, MatchesOn};
 ghost use Rattle.gb_ops.specs.declared.entries.BeginFault.TheVariants as fault;
 ghost use Rattle.gb_ops.specs.declared.entries.Matched.TheVariants as matching;
@@ -31,6 +31,16 @@ pub fn wire(live: &mut BTreeMap<u64, Connection>, k: u64)
 {
     if let Some(connection) = live.get_mut(&k) {
         connection.wire();
+    }
+}
+
+/// Raw bytes were injected on a connection.
+pub fn soil(live: &mut BTreeMap<u64, Connection>, k: u64)
+    ensures there { ChangesBy live.old live.new k (λ x y. y ≡ soiled x) }
+    ensures nowhere { get nat_cmp live.old k ≡ None → Leaves live.old live.new }
+{
+    if let Some(connection) = live.get_mut(&k) {
+        connection.soil();
     }
 }
 
@@ -74,20 +84,21 @@ pub fn begin(
     }
 }
 
-/// What an answer to request n with an identifier comes to on a side of a connection.
+/// What an answer with an identifier comes to on a side of a connection: to request `number`, or to
+/// whichever has the identifier.
 pub fn matched(
     live: &mut BTreeMap<u64, Connection>,
     k: u64,
     side: Side,
-    n: u64,
+    number: Option<u64>,
     label: u16,
 ) -> Matched
-    ensures there { ChangesBy live.old live.new k (λ x y. MatchesOn x y side n label result) }
+    ensures there { ChangesBy live.old live.new k (λ x y. MatchesOn x y side number label result) }
     ensures nowhere { get nat_cmp live.old k ≡ None → Leaves live.old live.new }
     ensures none { get nat_cmp live.old k ≡ None → result ≡ matching.Unknown }
 {
     match live.get_mut(&k) {
-        Some(connection) => connection.matched(side, n, label),
+        Some(connection) => connection.matched(side, number, label),
         None => Matched::Unknown,
     }
 }

@@ -1,6 +1,6 @@
 //! What waits in queues.
 
-use gb_base::Bytes;
+use gb_base::{Bytes, RawFault};
 
 /// A message in a queue. It carries all that its delivery needs.
 #[derive(Drop)]
@@ -21,6 +21,31 @@ pub enum Item {
         /// The request.
         number: u64,
         /// Its identifier.
+        label: u16,
+        /// The result byte.
+        result: u8,
+        /// The payload.
+        payload: Bytes,
+    },
+    /// Raw bytes that are one whole message.
+    Raw {
+        /// The identifier.
+        label: u16,
+        /// The type. That of a response is at least 80 (hex).
+        kind: u8,
+        /// The result byte, 0 in a request.
+        result: u8,
+        /// The payload.
+        payload: Bytes,
+    },
+    /// Raw bytes that aren't one whole message.
+    BadRaw {
+        /// Why not.
+        fault: RawFault,
+    },
+    /// The reply to a request that came as raw bytes.
+    RawReply {
+        /// The identifier of the request.
         label: u16,
         /// The result byte.
         result: u8,

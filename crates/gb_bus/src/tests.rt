@@ -1,7 +1,7 @@
 //! Rows of the bus: what is done, and what comes of it. The expected values are worked by hand.
 
 use crate::{AlreadyEnded, Arrival, Arrived, Asked, Bus, DeliverFault, SendFault};
-use gb_base::{End, Numbers, Outcome, Side};
+use gb_base::{End, Numbers, Outcome, RawFault, Side, WireFault};
 use std::alloc::Global;
 use std::process::Abort;
 use std::test::Fail;
@@ -27,6 +27,10 @@ enum Act {
     Deliver(End, bool),
     /// A reply with the payload 9 to a request with this number and identifier, and its result.
     Reply(u64, Side, u64, u16, u8),
+    /// The same to a request that came as raw bytes.
+    RawReply(u64, Side, u16, u8),
+    /// These bytes are injected.
+    Inject(u64, &'static [u8]),
     Cancel(u64),
     Expire(u64),
     ExpireOne(u64),
@@ -52,6 +56,9 @@ enum Seen {
     Ask(u64, Option<u64>, u16, Option<u8>),
     Ended(u64, u64, u8, Option<u8>),
     Late(u64),
+    LateLabel(u16),
+    UnknownLabel(u16),
+    Bad(RawFault),
     Dropped(Option<u64>, bool),
     NoConnection,
     QueueEmpty,
@@ -98,6 +105,9 @@ fn brought(connection: u64, item: &Arrival) -> Seen {
             payload.items().first().copied(),
         ),
         Arrival::Late { number } => Seen::Late(*number),
+        Arrival::LateLabel { label } => Seen::LateLabel(*label),
+        Arrival::UnknownLabel { label } => Seen::UnknownLabel(*label),
+        Arrival::BadRaw { fault } => Seen::Bad(*fault),
         Arrival::Dropped { number, reply } => Seen::Dropped(*number, *reply),
     }
 }
@@ -113,6 +123,14 @@ fn delivers(bus: &mut Bus, at: End, takes: bool) -> Seen {
 
 fn replies(rt: &impl Abort, bus: &mut Bus, k: u64, side: Side, asked: Asked, code: u8) -> Seen {
     bus.reply(k, side, &asked, code, &[9]).expect(rt, "memory");
+    Seen::Done
+}
+
+fn injects(rt: &impl Abort, bus: &mut Bus, k: u64, bytes: &[u8]) -> Seen {
+    if bytes.len() > 2_048 {
+        return Seen::NoMemory;
+    }
+    bus.inject(k, bytes).expect(rt, "memory");
     Seen::Done
 }
 
@@ -192,6 +210,15 @@ fn comes_of(rt: &impl Abort, alloc: Global, bus: &mut Bus, act: Act) -> Seen {
             };
             replies(rt, bus, k, side, asked, code)
         }
+        Act::RawReply(k, side, label, code) => {
+            let asked = Asked {
+                number: None,
+                label,
+                kind: PING,
+            };
+            replies(rt, bus, k, side, asked, code)
+        }
+        Act::Inject(k, bytes) => injects(rt, bus, k, bytes),
         Act::Cancel(n) => gives_up(bus.cancel(n)),
         Act::Expire(n) => gives_up(bus.expire(n)),
         Act::ExpireOne(now) => bus.expire_one(now).map_or(Seen::Nothing, Seen::Count),
@@ -378,6 +405,89 @@ const CLOSING: &[(Act, Seen)] = &[
 fn connections_close(rt: HostRuntime) {
     let mut bus = two_modules(&rt, rt.alloc());
     plays(&rt, rt.alloc(), &mut bus, CLOSING);
+}
+
+/// Requests 1, 2 and 3 are asked on connection 5, and 4 on connection 4, where nothing is injected.
+/// Request 2 was answered before, and its answer goes by its identifier too. Bytes that aren't one
+/// message are named, a response is matched by its identifier whatever its type is, and a request
+/// is answered with its identifier.
+const INJECTED: &[(Act, Seen)] = &[
+    (Act::Send(5, Side::Ap, false), Seen::Sent(1, 1, false)),
+    (Act::Send(5, Side::Ap, false), Seen::Sent(2, 2, false)),
+    (Act::Send(5, Side::Ap, false), Seen::Sent(3, 3, false)),
+    (Act::Send(4, Side::Ap, false), Seen::Sent(4, 1, false)),
+    (Act::Deliver(LIGHT, true), Seen::Ask(5, Some(1), 1, Some(5))),
+    (Act::Deliver(LIGHT, true), Seen::Ask(5, Some(2), 2, Some(5))),
+    (Act::Reply(5, Side::Far, 2, 2, 0), Seen::Done),
+    (Act::Cancel(3), Seen::Done),
+    (Act::Inject(5, &[8, 0, 1]), Seen::Done),
+    (Act::Inject(5, &[7, 0, 1, 0, 0x83, 0, 0, 0]), Seen::Done),
+    (Act::Inject(5, &[8, 0, 1, 0, 2, 4, 0, 0]), Seen::Done),
+    (
+        Act::Inject(5, &[8, 0, 1, 0, 0x83, 0, 0, 0, 8, 0]),
+        Seen::Done,
+    ),
+    (Act::Inject(5, &[9, 0, 1, 0, 0xff, 0, 0, 0, 6]), Seen::Done),
+    (Act::Inject(5, &[9, 0, 3, 0, 0x80, 0, 0, 0, 6]), Seen::Done),
+    (Act::Inject(5, &[8, 0, 3, 0, 0x80, 0, 0, 0]), Seen::Done),
+    (Act::Inject(5, &[9, 0, 7, 0, 0x7f, 0, 0, 0, 6]), Seen::Done),
+    (Act::Waiting(End::Ap(1)), Seen::Count(9)),
+    (
+        Act::Deliver(End::Ap(1), true),
+        Seen::Ended(5, 2, 0, Some(9)),
+    ),
+    (
+        Act::Deliver(End::Ap(1), true),
+        Seen::Bad(RawFault::Wire(WireFault::Short { need: 8 })),
+    ),
+    (
+        Act::Deliver(End::Ap(1), true),
+        Seen::Bad(RawFault::Wire(WireFault::SizeBelowEight { size: 7 })),
+    ),
+    (
+        Act::Deliver(End::Ap(1), true),
+        Seen::Bad(RawFault::Wire(WireFault::RequestResult { result: 4 })),
+    ),
+    (
+        Act::Deliver(End::Ap(1), true),
+        Seen::Bad(RawFault::Extra { count: 2 }),
+    ),
+    (
+        Act::Deliver(End::Ap(1), true),
+        Seen::Ended(5, 1, 0, Some(6)),
+    ),
+    (Act::Deliver(End::Ap(1), true), Seen::LateLabel(3)),
+    (Act::Deliver(End::Ap(1), true), Seen::UnknownLabel(3)),
+    (
+        Act::Deliver(End::Ap(1), true),
+        Seen::Ask(5, None, 7, Some(6)),
+    ),
+    (Act::RawReply(5, Side::Ap, 7, 6), Seen::Done),
+    (Act::Deliver(LIGHT, true), Seen::Ask(5, Some(3), 3, Some(5))),
+    (Act::Deliver(LIGHT, true), Seen::UnknownLabel(7)),
+    (Act::Reply(5, Side::Far, 1, 1, 0), Seen::Done),
+    (Act::Inject(5, &[8, 0, 1, 0, 0x83, 0, 0, 0]), Seen::Done),
+    (Act::Deliver(End::Ap(1), true), Seen::UnknownLabel(1)),
+    (Act::Deliver(End::Ap(1), false), Seen::Dropped(None, false)),
+    (Act::Deliver(FAN, true), Seen::Ask(4, Some(4), 1, Some(5))),
+    (Act::Cancel(4), Seen::Done),
+    (Act::Reply(4, Side::Far, 4, 1, 0), Seen::Done),
+    (Act::Deliver(End::Ap(2), true), Seen::Late(4)),
+];
+
+/// Connections 5 and 4 are unclean or aren't.
+fn is_unclean(rt: &impl Abort, bus: &Bus) {
+    let told = bus.connections().expect(rt, "memory");
+    for known in told.items() {
+        assert_eq!(rt; known.clean, known.number != 5);
+    }
+}
+
+#[test]
+fn bytes_are_injected(rt: HostRuntime) {
+    let mut bus = two_modules(&rt, rt.alloc());
+    plays(&rt, rt.alloc(), &mut bus, INJECTED);
+    is_unclean(&rt, &bus);
 }
 
 /// On a connection that is gone nothing is made.

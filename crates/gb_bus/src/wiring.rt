@@ -22,6 +22,8 @@ use crate::Bus;
 use gb_base::{End, Numbers, OutOfMemory, Side};
 
 impl Bus {
+    ghost use Rattle.gb_bus.specs.Listing.{AreThose};
+    ghost use Rattle.gb_bus.specs.Slots.{is_late_on, is_open_on, slot_at};
     ghost use Rattle.gb_bus.specs.Stands.{Around, Stands};
     ghost use Rattle.gb_bus.specs.Wiring.{
       AttachesAs,
@@ -76,8 +78,8 @@ impl Bus {
             → EndsAs (elsewhere k around) self.new k side.Far b (unwired k b) ended.old ended.new) }
         ensures unchanged { OnErr result ((self.new ≡ self.old) × (ended.new ≡ ended.old)) }
     {
-        let unended = self.slots.open_on(self.alloc, k, Side::Far)?;
-        let late = self.slots.late_on(self.alloc, k, Side::Far)?;
+        let unended = self.unended(k, Side::Far)?;
+        let late = self.late(k, Side::Far)?;
         ended.extend(unended.items())?;
         self.connections.unwire(k);
         self.slots.close(unended.items(), late.items());
@@ -92,12 +94,38 @@ impl Bus {
             → EndsAs around self.new k side.Ap b (shut_down k b) ended.old ended.new) }
         ensures unchanged { OnErr result ((self.new ≡ self.old) × (ended.new ≡ ended.old)) }
     {
-        let unended = self.slots.open_on(self.alloc, k, Side::Ap)?;
-        let late = self.slots.late_on(self.alloc, k, Side::Ap)?;
+        let unended = self.unended(k, Side::Ap)?;
+        let late = self.late(k, Side::Ap)?;
         ended.extend(unended.items())?;
         self.connections.shut(k);
         self.slots.close(unended.items(), late.items());
         Ok(())
+    }
+
+    /// The open requests of a side of a connection, in order of number. Where it isn't live they
+    /// are looked for among all that are kept.
+    fn unended(&self, k: u64, side: Side) -> Result<Numbers, OutOfMemory>
+        ensures { IfOk result (λ ns. (around : Around) (b : machine.Bus)
+            → Stands around self.now b
+            → AreThose (λ n. is_open_on k side (slot_at self.now.slots n)) ns) }
+    {
+        match self.connections.ops(k, side) {
+            Some(ops) => ops.unended(self.alloc),
+            None => self.slots.open_on(self.alloc, k, side),
+        }
+    }
+
+    /// The requests of a side of a connection that were given up and not answered yet, in order of
+    /// number. Where it isn't live they are looked for among all that are kept.
+    fn late(&self, k: u64, side: Side) -> Result<Numbers, OutOfMemory>
+        ensures { IfOk result (λ ns. (around : Around) (b : machine.Bus)
+            → Stands around self.now b
+            → AreThose (λ n. is_late_on k side (slot_at self.now.slots n)) ns) }
+    {
+        match self.connections.ops(k, side) {
+            Some(ops) => ops.late(self.alloc),
+            None => self.slots.late_on(self.alloc, k, side),
+        }
     }
 
     /// A connection is there no more.

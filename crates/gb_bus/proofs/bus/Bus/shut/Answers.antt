@@ -9,7 +9,7 @@ returns c = record {
   step = λ around b s. shuts around c.args.self.now _ b c.args.k c.args.ended.now
       c.extend.new.self c.in_ok-unended.unended c.in_ok-late.late s
       (ap (λ cs. record c.args.self.now { connections = cs; slots = c.close.new.self })
-      c.shut.ensures) c.in_ok-unended.ensures c.in_ok-late.ensures
+      c.shut.ensures) (c.in_ok-unended.ensures around b s) (c.in_ok-late.ensures around b s)
       (subst (λ ns. Closes ns c.in_ok-late.late c.args.self.now.slots c.close.new.self)
       c.items-2.ensures
       (subst (λ ns. Closes c.items-2.result.now ns c.args.self.now.slots c.close.new.self)
