@@ -1,5 +1,7 @@
 -- The acts of the application processor are done as the machine does them.
-use Rattle.std.proofs.Common.{◌≡◌, ℕ, ◌+◌, ◌==◌, Bool, true, false, not, cond, Option, Some, None, is_none, IsSome, option_map, option_and_then, List, [], ◌∷◌, ◌++◌, map, append-nil, refl, sym, ap, ◌∙◌, subst}
+use Rattle.std.proofs.Common.{◌≡◌, ℕ, ◌+◌, ◌==◌, Bool, true, false, not, cond, Option, Some, None}
+use Rattle.std.proofs.Common.{is_none, IsSome, option_map, option_and_then, List, [], ◌∷◌, ◌++◌}
+use Rattle.std.proofs.Common.{map, append-nil, refl, sym, ap, ◌∙◌, subst}
 use Rattle.gb_base.specs.declared.end.Side.TheVariants as side
 use Rattle.gb_base.specs.declared.entry.ConnState.TheVariants as state
 use Rattle.gb_base.specs.declared.entry.Entry.{Entry}
@@ -25,7 +27,8 @@ use Rattle.gb_machine.specs.Bus.{Connection, Request, connection_of, next_number
 use Rattle.gb_machine.specs.Failures.{unsent}
 use Rattle.gb_machine.specs.Host as machine_host
 use Rattle.gb_machine.specs.Host.{link_at, with_new_link}
-use Rattle.gb_machine.specs.HostActs.{asked_with, fails, host_asks, host_draft, made_for, with_awaited, with_made}
+use Rattle.gb_machine.specs.HostActs.{asked_with, fails, host_asks, host_draft, made_for}
+use Rattle.gb_machine.specs.HostActs.{with_awaited, with_made}
 use Rattle.gb_machine.specs.Labels.{cyclic_label, next_label}
 use Rattle.gb_machine.specs.Lists.{without}
 use Rattle.gb_machine.specs.Requests.{open_on}

@@ -1,5 +1,7 @@
 -- The application processor serves a request as the machine does.
-use Rattle.std.proofs.Common.{◌≡◌, ◌≤◌, ℕ, ◌==◌, Bool, true, false, cond, Option, Some, None, option_map, Result, Ok, Err, List, [], ◌∷◌, ◌++◌, length, append-nil, refl, sym, ap, ◌∙◌, subst, arith}
+use Rattle.std.proofs.Common.{◌≡◌, ◌≤◌, ℕ, ◌==◌, Bool, true, false, cond, Option, Some, None}
+use Rattle.std.proofs.Common.{option_map, Result, Ok, Err, List, [], ◌∷◌, ◌++◌, length, append-nil}
+use Rattle.std.proofs.Common.{refl, sym, ap, ◌∙◌, subst, arith}
 use Rattle.gb_base.specs.declared.end.End.{End}
 use Rattle.gb_base.specs.declared.end.Side.TheVariants as side
 use Rattle.gb_base.specs.declared.entry.Entry.{Entry}
@@ -20,19 +22,24 @@ use Rattle.gb_invariants.specs.Facts.{Loose}
 use Rattle.gb_machine.proofs.Opened.{machine_opened}
 use Rattle.gb_machine.proofs.Steps.{told}
 use Rattle.gb_machine.specs.Actions.{Action, given, tell, ◌▸◌}
-use Rattle.gb_machine.specs.Bus.{Ask, Connection, Request}
+use Rattle.gb_machine.specs.Bus.{Connection, Item}
 use Rattle.gb_machine.specs.Delivery.{replied}
 use Rattle.gb_machine.specs.Host.{Host, link_of}
 use Rattle.gb_machine.specs.HostActs.{notices}
-use Rattle.gb_machine.specs.HostServing.{HostServed, credited, host_refuses, host_serves, interrupted, notified_by, served_on, serves_gpio, serves_uart, uart_notified_by}
-use Rattle.gb_machine.specs.Incoming.{Incoming, incoming, reply_item}
+use Rattle.gb_machine.specs.HostServing.{HostServed, credited, host_refuses, host_serves}
+use Rattle.gb_machine.specs.HostServing.{interrupted, notified_by, served_on, serves_gpio}
+use Rattle.gb_machine.specs.HostServing.{serves_uart, uart_notified_by}
+use Rattle.gb_machine.specs.Incoming.{Incoming, reply_item}
 use Rattle.gb_machine.specs.Responding.{host_behind, host_served, replies, responds, serves}
+use Rattle.gb_machine.specs.Responding.{serves_oneway}
 use Rattle.gb_machine.specs.Serving.{Answer, answer, success}
 use Rattle.gb_machine.specs.State.{State}
 use Rattle.gb_machine.specs.Turns.{HostEvent}
-use Rattle.gb_system.proofs.Doings.{does-as, does-given, does-given_none, does-is, does-tell, does-then}
+use Rattle.gb_system.proofs.Doings.{does-as, does-given, does-given_none, does-is, does-tell}
+use Rattle.gb_system.proofs.Doings.{does-then}
+use Rattle.gb_system.proofs.Heard.{may-reply, request-sound}
+use Rattle.gb_system.proofs.Replies.{responds-twoway}
 use Rattle.gb_system.proofs.Standing.{let-gone, rehosted}
-use Rattle.gb_system.proofs.SvcServes.{may-reply}
 use Rattle.gb_system.specs.Acting.{MayTurn}
 use Rattle.gb_system.specs.Doing.{Does}
 use Rattle.gb_system.specs.Drafts.{IsUpon}
@@ -125,29 +132,19 @@ changed-first : (c : Connection) (q : Incoming) (a : Answer) (h : HostServed) (s
 unfolding machine_opened
 changed-first c q a h s = refl
 
--- the answer of a request that gets a reply
-responds-twoway : (c : Connection) (n : ℕ) (r : Request) (h : HostServed) (s : State)
-    → responds side.Ap c (record (incoming n r) { oneway = false }) (host_served h) s
-    ≡ (replies side.Ap c (incoming n r) h.answer ▸ host_behind h) s
-unfolding machine_opened
-responds-twoway c n r h s = refl
-
 serves-responds : (c : Connection) (q : Incoming) (s : State)
     → serves side.Ap c q s ≡ responds side.Ap c q (host_served (serving c q s)) s
 unfolding machine_opened
 serves-responds c q s = refl
 
 -- a request that gets a reply
-pub ap-replies : (c : Connection) (n : ℕ) (r : Request) (s : State) → r.oneway ≡ false
-    → (replies side.Ap c (incoming n r) (serving c (incoming n r) s).answer
-    ▸ behind_ap (serving c (incoming n r) s))
-    (with_served (serving c (incoming n r) s) s)
-    ≡ serves side.Ap c (incoming n r) s
-ap-replies c n r s twoway =
-    let q = incoming n r in
+pub ap-replies : (c : Connection) (q : Incoming) (s : State) → q.oneway ≡ false
+    → (replies side.Ap c q (serving c q s).answer ▸ behind_ap (serving c q s))
+    (with_served (serving c q s) s)
+    ≡ serves side.Ap c q s
+ap-replies c q s twoway =
     let h = serving c q s in
-    changed-first c q h.answer h s ∙ sym (responds-twoway c n r h s)
-    ∙ sym (ap (λ b. responds side.Ap c (record q { oneway = b }) (host_served h) s) twoway)
+    changed-first c q h.answer h s ∙ sym (responds-twoway side.Ap c q (host_served h) s twoway)
     ∙ sym (serves-responds c q s)
 
 -- one that gets none
@@ -157,8 +154,9 @@ oneway-is : (c : Connection) (q : Incoming) (s : State) (t : Bool) → q.oneway 
     ≡ cond t (host_served (serving c q s)).behind (tell (entry.Ignored q.kind)) s
 unfolding machine_opened
 oneway-is c q s t oneway is =
-    ap (λ b. responds side.Ap c (record q { oneway = b }) (host_served (serving c q s)) s) oneway
-    ∙ ap (λ b. cond b (host_served (serving c q s)).behind (tell (entry.Ignored q.kind)) s) is
+    let r = host_served (serving c q s) in
+    ap (λ b. (cond b (serves_oneway q r) (replies side.Ap c q r.answer ▸ r.behind)) s) oneway
+    ∙ ap (λ b. cond b r.behind (tell (entry.Ignored q.kind)) s) is
 
 -- it is done
 pub ap-done : (c : Connection) (q : Incoming) (s : State) → q.oneway ≡ true
@@ -197,18 +195,19 @@ may-then o m e s is may =
 
 -- the identifier says whether a reply is wanted
 label-says : {x : Parties} {s : State} {at : End} {k : ℕ} {asked : Asked} {payload : List ℕ}
-    {c : Connection} {n : ℕ} {loose : List Loose} (d : IsDelivered at k asked payload s c n)
+    {c : Connection} {item : Item} {loose : List Loose}
+    (d : IsDelivered at k asked payload s c item)
     → PartsStand loose x s → (asked.label == 0) ≡ d.request.oneway
-label-says {n = n} d st =
-    ap (λ l. l == 0) d.names.label ∙ (st.sound n d.request d.made).label
+label-says {s = s} {item = item} d st =
+    ap (λ l. l == 0) d.names.label ∙ (request-sound s.bus item d.request st.sound d.is).label
 
 -- what the code's application processor answered is what the machine's does
 is-served : {s : State} {at : End} {k : ℕ} {asked : Asked} {payload : List ℕ}
-    {c : Connection} {n : ℕ} (served : code_served.HostServed) (y : code_host.Host)
-    (d : IsDelivered at k asked payload s c n)
+    {c : Connection} {item : Item} (served : code_served.HostServed) (y : code_host.Host)
+    (d : IsDelivered at k asked payload s c item)
     → host_serves k asked.kind payload s.host ≡ served_of served y
-    → serving c (incoming n d.request) s ≡ served_of served y
-is-served {s} {at} {k} {asked} {payload} {c} {n} served y d h =
+    → serving c d.request s ≡ served_of served y
+is-served {s} {at} {k} {asked} {payload} {c} {item} served y d h =
     ap (λ j. host_serves j d.request.kind d.request.payload s.host)
     d.upon.number
     ∙ ap (λ m. host_serves k m d.request.payload s.host) (sym d.names.kind)
@@ -231,20 +230,21 @@ after_by c q h s t = record s {
 
 -- a request that gets no reply is refused, and nothing changes
 pub ap-refused : {x : Parties} {s : State} {a b : List Entry} {at : End} {k : ℕ} {asked : Asked}
-    {payload : List ℕ} {c : Connection} {n : ℕ} (served : code_served.HostServed)
-    (y : code_host.Host) (d : IsDelivered at k asked payload s c n)
-    → PartsStand (only k side.Ap n) x s
+    {payload : List ℕ} {c : Connection} {item : Item} (served : code_served.HostServed)
+    (y : code_host.Host) (d : IsDelivered at k asked payload s c item)
+    → PartsStand (only k side.Ap item) x s
     → host_serves k asked.kind payload s.host ≡ served_of served y
     → (asked.label == 0) ≡ true → (served.result == success) ≡ false
     → b ≡ a ++ entry.Ignored asked.kind ∷ []
-    → Does (record x { host = y }) (serves side.Ap c (incoming n d.request)) s a b
-ap-refused {x} {s} {a} {b} {at} {k} {asked} {payload} {c} {n} served y d st h none refused pushed =
-    let q = incoming n d.request in
+    → Does (record x { host = y }) (serves side.Ap c d.request) s a b
+ap-refused {x} {s} {a} {b} {at} {k} {asked} {payload} {c} {item} served y d st h none refused
+    pushed =
+    let q = d.request in
     let is = is-served served y d h in
     let bad : ((serving c q s).answer.result == success) ≡ false =
     ap (λ (v : HostServed). v.answer.result == success) is ∙ refused in
     let same = (serves-fair c.number q.kind q.payload s.host).keeps bad in
-    let whole = let-gone (taken_from k side.Ap (Ask n)) [] st in
+    let whole = let-gone (taken_from k side.Ap item) [] st in
     does-is s (entry.Ignored q.kind ∷ [])
     (ap-ignores c q s (sym (label-says d st) ∙ none) bad)
     (pushed ∙ ap (λ m. a ++ entry.Ignored m ∷ []) d.names.kind)
@@ -252,23 +252,24 @@ ap-refused {x} {s} {a} {b} {at} {k} {asked} {payload} {c} {n} served y d st h no
 
 -- it is done
 pub ap-oneway : {x z : Parties} {s : State} {a b : List Entry} {at : End} {k : ℕ} {asked : Asked}
-    {payload : List ℕ} {c : Connection} {n : ℕ} (served : code_served.HostServed)
-    (y : code_host.Host) (d : IsDelivered at k asked payload s c n)
-    → PartsStand (only k side.Ap n) x s
+    {payload : List ℕ} {c : Connection} {item : Item} (served : code_served.HostServed)
+    (y : code_host.Host) (d : IsDelivered at k asked payload s c item)
+    → PartsStand (only k side.Ap item) x s
     → host_serves k asked.kind payload s.host ≡ served_of served y
     → (asked.label == 0) ≡ true → (served.result == success) ≡ true
-    → MayServe side.Ap c (incoming n d.request) s
+    → MayServe side.Ap c d.request s
     → ((t : State) → PartsStand [] (record x { host = y }) t
     → MayNotice (option_map event_of served.«then») t
     → Does z (given served.tell tell ▸ given (option_map event_of served.«then») notices) t a b)
-    → Does z (serves side.Ap c (incoming n d.request)) s a b
-ap-oneway {x} {z} {s} {a} {b} {at} {k} {asked} {payload} {c} {n} served y d st h none fine may goes =
-    let q = incoming n d.request in
+    → Does z (serves side.Ap c d.request) s a b
+ap-oneway {x} {z} {s} {a} {b} {at} {k} {asked} {payload} {c} {item} served y d st h none fine may
+    goes =
+    let q = d.request in
     let is = is-served served y d h in
     let oneway : q.oneway ≡ true = sym (label-says d st) ∙ none in
     let good : ((serving c q s).answer.result == success) ≡ true =
     ap (λ (v : HostServed). v.answer.result == success) is ∙ fine in
-    let whole = let-gone (taken_from k side.Ap (Ask n)) [] st in
+    let whole = let-gone (taken_from k side.Ap item) [] st in
     let stands = served-stands c q served y is whole in
     let may_now : MayNotice (serving c q s).notices (with_served (serving c q s) s) =
     subst (λ t. MayNotice (serving c q s).notices (after_by c q (serving c q s) s t)) oneway may in
@@ -284,20 +285,21 @@ replied-state c q h s = refl
 
 -- a request that gets a reply
 pub ap-twoway : {x y z : Parties} {s : State} {a b e : List Entry} {at : End} {k : ℕ}
-    {asked : Asked} {payload : List ℕ} {c : Connection} {n : ℕ} (served : code_served.HostServed)
-    (w : code_host.Host) (d : IsDelivered at k asked payload s c n)
-    → PartsStand (only k side.Ap n) x s
+    {asked : Asked} {payload : List ℕ} {c : Connection} {item : Item}
+    (served : code_served.HostServed) (w : code_host.Host)
+    (d : IsDelivered at k asked payload s c item)
+    → PartsStand (only k side.Ap item) x s
     → host_serves k asked.kind payload s.host ≡ served_of served w
-    → (asked.label == 0) ≡ false → MayServe side.Ap c (incoming n d.request) s
-    → ((t : State) → PartsStand (only k side.Ap n) (record x { host = w }) t
-    → IsUpon k t.bus c → (may : MayReply asked t.bus n)
-    → Does y (replies side.Ap c (incoming n may.request) (answer served.result served.payload)) t a b)
+    → (asked.label == 0) ≡ false → MayServe side.Ap c d.request s
+    → ((t : State) → PartsStand (only k side.Ap item) (record x { host = w }) t
+    → IsUpon k t.bus c → (may : MayReply asked t.bus item)
+    → Does y (replies side.Ap c may.request (answer served.result served.payload)) t a b)
     → ((t : State) → PartsStand [] y t → MayNotice (option_map event_of served.«then») t
     → Does z (given served.tell tell ▸ given (option_map event_of served.«then») notices) t b e)
-    → Does z (serves side.Ap c (incoming n d.request)) s a e
-ap-twoway {x} {y} {z} {s} {a} {b} {e} {at} {k} {asked} {payload} {c} {n} served w d st h some may
+    → Does z (serves side.Ap c d.request) s a e
+ap-twoway {x} {y} {z} {s} {a} {b} {e} {at} {k} {asked} {payload} {c} {item} served w d st h some may
     answers goes =
-    let q = incoming n d.request in
+    let q = d.request in
     let is = is-served served w d h in
     let twoway : d.request.oneway ≡ false = sym (label-says d st) ∙ some in
     let t = with_served (serving c q s) s in
@@ -308,9 +310,10 @@ ap-twoway {x} {y} {z} {s} {a} {b} {e} {at} {k} {asked} {payload} {c} {n} served 
     let mid = (replies side.Ap c q (serving c q s).answer t).state in
     let may_now : MayNotice (serving c q s).notices mid =
     subst (MayNotice (serving c q s).notices) (sym (replied-state c q (serving c q s) s))
-    (subst (λ u. MayNotice (serving c q s).notices (after_by c q (serving c q s) s u)) twoway may) in
+    (subst (λ u. MayNotice (serving c q s).notices (after_by c q (serving c q s) s u)) twoway
+    may) in
     let went = goes mid answered_so.stand
     (subst (λ (v : HostServed). MayNotice v.notices mid) is may_now) in
-    does-as (ap-replies c n d.request s twoway)
+    does-as (ap-replies c q s twoway)
     (does-then answered_so
     (subst (λ (v : HostServed). Does z (behind_ap v) mid b e) (sym is) went))

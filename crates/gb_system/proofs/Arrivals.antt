@@ -1,5 +1,7 @@
 -- What is delivered at an end is handled as the machine does.
-use Rattle.std.proofs.Common.{◌≡◌, ℕ, ◌==◌, Bool, true, false, Option, Some, None, is_none, if◌then◌else◌, List, [], ◌∷◌, ◌++◌, inl, inr, refl, sym, ap, ◌∙◌, subst}
+use Rattle.std.proofs.Common.{◌≡◌, ℕ, ◌==◌, ◌⊎◌, inl, inr, Bool, true, false, Option, Some, None}
+use Rattle.std.proofs.Common.{is_none, if◌then◌else◌, List, [], ◌∷◌, ◌++◌, refl, sym, ap, ◌∙◌}
+use Rattle.std.proofs.Common.{subst}
 use Rattle.gb_base.specs.declared.bridge.Reading.{Reading}
 use Rattle.gb_base.specs.declared.bridge.Reading.TheVariants as reading
 use Rattle.gb_base.specs.declared.end.End.{End}
@@ -8,13 +10,15 @@ use Rattle.gb_base.specs.declared.end.Side.TheVariants as side
 use Rattle.gb_base.specs.declared.entry.Entry.{Entry}
 use Rattle.gb_base.specs.declared.entry.Entry.TheVariants as entry
 use Rattle.gb_base.specs.declared.event.Event.TheVariants as event
+use Rattle.gb_base.specs.declared.fault.RawFault.{RawFault}
 use Rattle.gb_base.specs.declared.outcome.Outcome.{Outcome}
 use Rattle.gb_base.specs.declared.outcome.Outcome.TheVariants as outcome
 use Rattle.gb_base.specs.declared.refusal.Refusal.TheVariants as why
-use Rattle.gb_bus.specs.Delivering.{ArrivesAnswer, ArrivesDropped, ArrivesLate, IsDropped, DeliversNothing, DeliversNowhere}
+use Rattle.gb_bus.specs.Delivering.{ArrivesAnswer, ArrivesBadRaw, ArrivesDropped, ArrivesLabelled}
+use Rattle.gb_bus.specs.Delivering.{ArrivesLate, ArrivesLateLabel, ArrivesUnknown, DeliversNothing}
+use Rattle.gb_bus.specs.Delivering.{DeliversNowhere}
 use Rattle.gb_bus.specs.Stands as bus
 use Rattle.gb_bus.specs.declared.bus.Bus.{Bus}
-use Rattle.gb_bus.specs.Connection as bus_code
 use Rattle.gb_invariants.proofs.Numbers.{found-by_number}
 use Rattle.gb_laws.proofs.LinkBuses.{Linked}
 use Rattle.gb_laws.proofs.Links.{IsKnown, leaving, linked, supervisory}
@@ -22,10 +26,13 @@ use Rattle.gb_laws.proofs.LinkChanges.{linked-ended, linked-popped}
 use Rattle.gb_laws.proofs.Places.{place-is}
 use Rattle.gb_laws.proofs.Reached.{reached-linked}
 use Rattle.gb_machine.proofs.Opened.{machine_opened}
-use Rattle.gb_machine.proofs.Steps.{deliver-allowed, delivers-by_number, delivers-drops, delivers-late, with_bus}
+use Rattle.gb_machine.proofs.Steps.{deliver-allowed, delivers-by_number, delivers-drops}
+use Rattle.gb_machine.proofs.Steps.{delivers-late, with_bus}
 use Rattle.gb_machine.specs.Actions.{tell, ◌▸◌}
-use Rattle.gb_machine.specs.Arriving.{delivers, dropped, reading_at, reading_for, takes, ends, ends_answered, forgets}
-use Rattle.gb_machine.specs.Bus.{Ask, Connection, Item, Place, Request, connection_of, end_of, is_open, place_of, queue, request_of, Raw, RawReply, Reply}
+use Rattle.gb_machine.specs.Arriving.{delivers, dropped, reading_at, reading_for, takes, ends}
+use Rattle.gb_machine.specs.Arriving.{ends_answered, forgets}
+use Rattle.gb_machine.specs.Bus.{Connection, Item, Place, Reply, Request, connection_of, end_of}
+use Rattle.gb_machine.specs.Bus.{is_open, place_of, queue, request_of}
 use Rattle.gb_machine.specs.Delivery.{answered, ended, forgotten, popped}
 use Rattle.gb_machine.specs.HostActs.{follows}
 use Rattle.gb_machine.specs.Lists.{first, first_met, holds_of, Condition}
@@ -34,12 +41,13 @@ use Rattle.gb_machine.specs.Refusals.{has_nothing, is_end_unplugged, refusal}
 use Rattle.gb_machine.specs.State.{State}
 use Rattle.gb_formats.specs.Bridges.{reading_of}
 use Rattle.gb_machine.specs.Turns.{HostEvent}
-use Rattle.gb_invariants.specs.Facts.{is_numbered}
 use Rattle.gb_system.proofs.Turning.{may-end}
 use Rattle.gb_system.specs.Acting.{MayTurn}
 use Rattle.gb_host.specs.Bridging.{reading_on}
 use Rattle.gb_machine.specs.Host.{Host, link_of}
 use Rattle.gb_system.proofs.AnswerReadings.{reads-as}
+use Rattle.gb_system.proofs.RawArrivals.{by_label-late, by_label-opens, by_label-unknown}
+use Rattle.gb_system.proofs.RawArrivals.{delivers-bad, taken_state}
 use Rattle.gb_system.proofs.Doings.{does-as, does-is}
 use Rattle.gb_system.proofs.Standing.{rebussed}
 use Rattle.gb_system.specs.Arriving.{ArrivesAs, ReadsOn}
@@ -55,7 +63,6 @@ pub record IsThere (s : State) (at : End) (p : Place) : Type 0 where
   pub live : IsIn p.connection s.bus.connections
   pub side : side_of at ≡ p.side
   pub is : end_of p.side p.connection ≡ at
-  pub clean : p.connection.clean ≡ true
   pub found : connection_of p.connection.number s.bus ≡ Some p.connection
 
 -- far ends are the supervisory controller and modules
@@ -68,14 +75,6 @@ far-side c s f live = by (f.known c live)
     by (linked l i of) = ap side_of of.peer
     by (leaving i) = absurd i
 
-clean-in : (rs : List Request) (xs : List bus_code.Connection) (cs : List Connection) (c : Connection)
-    → bus.StandForAll rs xs cs → IsIn c cs → c.clean ≡ true
-clean-in rs [] [] c h i = absurd i
-clean-in rs (x ∷ xs) (d ∷ ds) c h (inl e) = subst (λ (k : Connection). k.clean ≡ true) (sym e) h.0.clean
-clean-in rs (x ∷ xs) (d ∷ ds) c h (inr i) = clean-in rs xs ds c h.1 i
-clean-in rs [] (d ∷ ds) c h i = absurd h
-clean-in rs (x ∷ xs) [] c h i = absurd i
-
 pub is-there : (x : Parties) (s : State) (at : End) (p : Place) → PartiesStand x s
     → place_of at s.bus.connections ≡ Some p → IsThere s at p
 is-there x s at p st named =
@@ -84,8 +83,6 @@ is-there x s at p st named =
       live = w.live;
       side = ap side_of (sym w.is) ∙ by p.side w.live;
       is = w.is;
-      clean = clean-in s.bus.requests x.bus.connections s.bus.connections p.connection
-          st.parts.bus.shows.connections w.live;
       found = found-by_number s.bus.connections p.connection st.parts.bus.facts.fits.numbers.rise
           w.live;
     }
@@ -140,10 +137,6 @@ nothing-here s at y st there h = record {
 
 -- ---- what was taken
 
--- the state once the front message was taken
-abbrev pub taken_state : State → Place → State
-taken_state s p = with_bus (popped p.connection.number p.side s.bus) s
-
 -- a delivery isn't refused where something waits
 pub allowed-here : (s : State) (at : End) (p : Place) (item : Item) → false ≡ is_end_unplugged at s
     → place_of at s.bus.connections ≡ Some p → first (queue p.side p.connection) ≡ Some item
@@ -167,65 +160,119 @@ reading-same side.Ap c kind result bytes payload same =
     by true = refl
     by false = refl
 
--- the machine's delivery of it
-answer-is : (s : State) (at : End) (p : Place) (n result : ℕ) (bytes : List ℕ) (r : Request)
-    → place_of at s.bus.connections ≡ Some p
-    → first (queue p.side p.connection) ≡ Some (Reply n result bytes)
-    → takes p.side p.connection s ≡ true → p.connection.clean ≡ true → is_open n s.bus ≡ true
-    → request_of n s.bus ≡ Some r
-    → delivers at s
-    ≡ (tell (entry.Ended n (answered result bytes)
-    (reading_at p.side p.connection r.kind result bytes)) ▸ follows n (answered result bytes))
-    (with_bus (ended n (answered result bytes) (popped p.connection.number p.side s.bus)) s)
-unfolding machine_opened
-answer-is s at p n result bytes r named front taken clean unanswered made =
-    let t = taken_state s p in
-    delivers-by_number s at p n result bytes named front taken clean
-    ∙ ap (λ b. (if b then ends_answered p.side p.connection n result bytes
-    else forgets n (entry.Late n)) t) unanswered
-    ∙ ap (λ o. ends n (answered result bytes)
-    (reading_for p.side p.connection result bytes o) t) made
+-- An answer with a result and a payload ended request n, as the machine's delivery does.
+record IsEnded (s : State) (at : End) (y : Bus) (p : Place) (n kind result : ℕ) (payload : List ℕ)
+    : Type 0 where
+  code : ℕ
+  bytes : List ℕ
+  request : Request
+  made : request_of n s.bus ≡ Some request
+  kind_is : kind ≡ request.kind
+  outcome_is : answered code bytes ≡ outcome.Answered result payload
+  stands : bus.Stands (around_bus [] s) y
+      (ended n (answered code bytes) (popped p.connection.number p.side s.bus))
+  is : delivers at s ≡ ends_answered p.side p.connection n code bytes (taken_state s p)
 
-pub answer-here : {x z : Parties} {a b : List Entry} (s : State) (at : End) (y : Bus) (p : Place)
-    (item : Item) (n kind result : ℕ) (payload : List ℕ) (read : Reading)
-    → PartiesStand x s → false ≡ is_end_unplugged at s → place_of at s.bus.connections ≡ Some p
-    → first (queue p.side p.connection) ≡ Some item → takes p.side p.connection s ≡ true
-    → ArrivesAnswer (around_bus [] s) y p s.bus item n kind result payload
-    → ((t : State) → PartsStand [] (record x { bus = y }) t
+ends-is : (s : State) (p : Place) (n code : ℕ) (bytes : List ℕ) (r : Request)
+    → request_of n s.bus ≡ Some r
+    → ends_answered p.side p.connection n code bytes (taken_state s p)
+    ≡ (tell (entry.Ended n (answered code bytes)
+    (reading_at p.side p.connection r.kind code bytes)) ▸ follows n (answered code bytes))
+    (with_bus (ended n (answered code bytes) (popped p.connection.number p.side s.bus)) s)
+unfolding machine_opened
+ends-is s p n code bytes r made =
+    ap (λ o. ends n (answered code bytes) (reading_for p.side p.connection code bytes o)
+    (taken_state s p)) made
+
+-- What comes of it is told, and what waited for it goes on or fails.
+abbrev pub EndsThere : State → End → Bus → Place → Parties → Parties → ℕ → ℕ → ℕ → List ℕ → Reading
+    → List Entry → List Entry → Type 0
+EndsThere s at y p x z n kind result payload read a b =
+    ((t : State) → PartsStand [] (record x { bus = y }) t
     → t.host ≡ s.host → read ≡ reading_at (side_of at) p.connection kind result payload)
     → ((t : State) → PartsStand [] (record x { bus = y }) t
     → MayTurn (HostEvent.Ended n (outcome.Answered result payload)) t
     → Does z (tell (entry.Ended n (outcome.Answered result payload) read)
     ▸ follows n (outcome.Answered result payload)) t a b)
     → ArrivesAs z s at a b None
-answer-here {x} {z} {a} {b} s at y p item n kind result payload read st there named front taken h
-    reads ends =
+
+ended-here : {x z : Parties} {a b : List Entry} (s : State) (at : End) (y : Bus) (p : Place)
+    (item : Item) (n kind result : ℕ) (payload : List ℕ) (read : Reading)
+    → PartiesStand x s → false ≡ is_end_unplugged at s → place_of at s.bus.connections ≡ Some p
+    → first (queue p.side p.connection) ≡ Some item
+    → IsEnded s at y p n kind result payload
+    → EndsThere s at y p x z n kind result payload read a b
+ended-here {x} {z} {a} {b} s at y p item n kind result payload read st there named front h reads
+    ends =
     let w = is-there x s at p st named in
-    let how = answered result h.bytes in
+    let how = answered h.code h.bytes in
     let t = with_bus (ended n how (popped p.connection.number p.side s.bus)) s in
-    let stand = rebussed [] y t.bus st.parts h.stands refl
-    in
+    let stand = rebussed [] y t.bus st.parts h.stands refl in
     let may = may-end t n how (linked-ended n how
     (linked-popped p.connection.number p.side (reached-linked s st.run))) in
-    let same : payload ≡ (if result == 0 then h.bytes else []) =
-    let both : outcome.Answered result (if result == 0 then h.bytes else [])
-    ≡ outcome.Answered result payload = h.outcome_is in cc in
-    let says : read ≡ reading_at p.side p.connection h.request.kind result h.bytes =
+    let both : outcome.Answered h.code (if h.code == 0 then h.bytes else [])
+    ≡ outcome.Answered result payload = h.outcome_is in
+    let code_is : result ≡ h.code = cc in
+    let same : payload ≡ (if h.code == 0 then h.bytes else []) = cc in
+    let says : read ≡ reading_at p.side p.connection h.request.kind h.code h.bytes =
     reads t stand refl
     ∙ ap (λ d. reading_at d p.connection kind result payload) w.side
     ∙ ap (λ k. reading_at p.side p.connection k result payload) h.kind_is
-    ∙ reading-same p.side p.connection h.request.kind result h.bytes payload same in
+    ∙ ap (λ r. reading_at p.side p.connection h.request.kind r payload) code_is
+    ∙ reading-same p.side p.connection h.request.kind h.code h.bytes payload same in
     let done = ends t stand (subst (λ (o : Outcome). MayTurn (HostEvent.Ended n o) t) h.outcome_is
     may) in (
       allowed-here s at p item there named front,
       does-as (ap (λ (o : Outcome). (tell (entry.Ended n o read) ▸ follows n o) t)
           (sym h.outcome_is)
           ∙ ap (λ v. (tell (entry.Ended n how v) ▸ follows n how) t) says
-          ∙ sym (answer-is s at p n result h.bytes h.request named (front ∙ ap Some h.item_is) taken
-          w.clean h.still_open h.made)) done,
+          ∙ sym (h.is ∙ ends-is s p n h.code h.bytes h.request h.made)) done,
     )
 
--- ---- an answer that is late, and what is dropped
+-- by its number, on a clean connection
+answer-is : (s : State) (at : End) (p : Place) (n result : ℕ) (bytes : List ℕ)
+    → place_of at s.bus.connections ≡ Some p
+    → first (queue p.side p.connection) ≡ Some (Reply n result bytes)
+    → takes p.side p.connection s ≡ true → p.connection.clean ≡ true → is_open n s.bus ≡ true
+    → delivers at s ≡ ends_answered p.side p.connection n result bytes (taken_state s p)
+unfolding machine_opened
+answer-is s at p n result bytes named front taken clean unanswered =
+    delivers-by_number s at p n result bytes named front taken clean
+    ∙ ap (λ b. (if b then ends_answered p.side p.connection n result bytes
+    else forgets n (entry.Late n)) (taken_state s p)) unanswered
+
+pub answer-here : {x z : Parties} {a b : List Entry} (s : State) (at : End) (y : Bus) (p : Place)
+    (item : Item) (n kind result : ℕ) (payload : List ℕ) (read : Reading)
+    → PartiesStand x s → false ≡ is_end_unplugged at s → place_of at s.bus.connections ≡ Some p
+    → first (queue p.side p.connection) ≡ Some item → takes p.side p.connection s ≡ true
+    → ArrivesAnswer (around_bus [] s) y p s.bus item n kind result payload
+    ⊎ ArrivesLabelled (around_bus [] s) y p s.bus item n kind result payload
+    → EndsThere s at y p x z n kind result payload read a b
+answer-here s at y p item n kind result payload read st there named front taken (inl h) =
+    ended-here s at y p item n kind result payload read st there named front (record {
+      code = result;
+      bytes = h.bytes;
+      request = h.request;
+      made = h.made;
+      kind_is = h.kind_is;
+      outcome_is = h.outcome_is;
+      stands = h.stands;
+      is = answer-is s at p n result h.bytes named (front ∙ ap Some h.item_is) taken h.clean
+          h.still_open;
+    })
+answer-here s at y p item n kind result payload read st there named front taken (inr h) =
+    ended-here s at y p item n kind result payload read st there named front (record {
+      code = h.came.result;
+      bytes = h.came.payload;
+      request = h.request;
+      made = h.made;
+      kind_is = h.kind_is;
+      outcome_is = h.outcome_is;
+      stands = h.stands;
+      is = by_label-opens s at p item h.came n named front taken h.is h.found;
+    })
+
+-- ---- an answer that is late or unknown, bytes that are bad, and what is dropped
 
 pub late-here : {x : Parties} {a b : List Entry} (s : State) (at : End) (y : Bus) (p : Place)
     (item : Item) (n : ℕ) → PartiesStand x s → false ≡ is_end_unplugged at s
@@ -233,28 +280,55 @@ pub late-here : {x : Parties} {a b : List Entry} (s : State) (at : End) (y : Bus
     → takes p.side p.connection s ≡ true → ArrivesLate (around_bus [] s) y p s.bus item n
     → b ≡ a ++ entry.Late n ∷ [] → ArrivesAs (record x { bus = y }) s at a b None
 late-here {x} s at y p item n st there named front taken h pushed =
-    let w = is-there x s at p st named in
     let after = forgotten n (popped p.connection.number p.side s.bus) in (
       allowed-here s at p item there named front,
       does-is (with_bus after s) (entry.Late n ∷ [])
-          (delivers-late s at p n h.result h.bytes named (front ∙ ap Some h.item_is) taken w.clean
+          (delivers-late s at p n h.result h.bytes named (front ∙ ap Some h.item_is) taken h.clean
           h.closed) pushed
           (rebussed [] y after st.parts h.stands refl),
     )
 
--- the entry of what is dropped: it has a number on a clean connection
-dropped-is : (item : Item) (number : Option ℕ) (reply : Bool) → is_numbered item ≡ true
-    → IsDropped item number reply → entry.Dropped number reply ≡ dropped item
-dropped-is (Ask n) number reply h d =
-    ap (λ o. entry.Dropped o reply) d.0 ∙ ap (entry.Dropped (Some n)) d.1
-dropped-is (Reply n result bytes) number reply h d =
-    ap (λ o. entry.Dropped o reply) d.0 ∙ ap (entry.Dropped (Some n)) d.1
-dropped-is (Raw bytes) number reply h d = absurd cc
-dropped-is (RawReply label kind result bytes) number reply h d = absurd cc
+pub late_label-here : {x : Parties} {a b : List Entry} (s : State) (at : End) (y : Bus) (p : Place)
+    (item : Item) (label : ℕ) → PartiesStand x s → false ≡ is_end_unplugged at s
+    → place_of at s.bus.connections ≡ Some p → first (queue p.side p.connection) ≡ Some item
+    → takes p.side p.connection s ≡ true
+    → ArrivesLateLabel (around_bus [] s) y p s.bus item label
+    → b ≡ a ++ entry.LateLabel label ∷ [] → ArrivesAs (record x { bus = y }) s at a b None
+late_label-here {x} s at y p item label st there named front taken h pushed =
+    let after = forgotten h.number (popped p.connection.number p.side s.bus) in (
+      allowed-here s at p item there named front,
+      does-is (with_bus after s) (entry.LateLabel label ∷ [])
+          (by_label-late s at p item h.came label h.number named front taken h.is h.label_is
+          h.unopened h.found) pushed
+          (rebussed [] y after st.parts h.stands refl),
+    )
 
-front-in : (is : List Item) (item : Item) → first is ≡ Some item → IsIn item is
-front-in [] item h = absurd cc
-front-in (i ∷ is) item h = inl (let e : item ≡ i = cc in e)
+pub unknown-here : {x : Parties} {a b : List Entry} (s : State) (at : End) (y : Bus) (p : Place)
+    (item : Item) (label : ℕ) → PartiesStand x s → false ≡ is_end_unplugged at s
+    → place_of at s.bus.connections ≡ Some p → first (queue p.side p.connection) ≡ Some item
+    → takes p.side p.connection s ≡ true
+    → ArrivesUnknown (around_bus [] s) y p s.bus item label
+    → b ≡ a ++ entry.UnknownLabel label ∷ [] → ArrivesAs (record x { bus = y }) s at a b None
+unknown-here {x} s at y p item label st there named front taken h pushed = (
+  allowed-here s at p item there named front,
+  does-is (taken_state s p) (entry.UnknownLabel label ∷ [])
+      (by_label-unknown s at p item h.came label named front taken h.is h.label_is h.unopened
+      h.kept) pushed
+      (rebussed [] y (popped p.connection.number p.side s.bus) st.parts h.stands refl),
+)
+
+pub bad-here : {x : Parties} {a b : List Entry} (s : State) (at : End) (y : Bus) (p : Place)
+    (item : Item) (fault : RawFault) → PartiesStand x s → false ≡ is_end_unplugged at s
+    → place_of at s.bus.connections ≡ Some p → first (queue p.side p.connection) ≡ Some item
+    → takes p.side p.connection s ≡ true
+    → ArrivesBadRaw (around_bus [] s) y p s.bus item fault
+    → b ≡ a ++ entry.BadRaw fault ∷ [] → ArrivesAs (record x { bus = y }) s at a b None
+bad-here {x} s at y p item fault st there named front taken h pushed = (
+  allowed-here s at p item there named front,
+  does-is (taken_state s p) (entry.BadRaw fault ∷ [])
+      (delivers-bad s at p h.bytes fault named (front ∙ ap Some h.item_is) taken h.fault_is) pushed
+      (rebussed [] y (popped p.connection.number p.side s.bus) st.parts h.stands refl),
+)
 
 pub dropped-here : {x : Parties} {a b : List Entry} (s : State) (at : End) (y : Bus) (p : Place)
     (item : Item) (number : Option ℕ) (reply : Bool) → PartiesStand x s
@@ -263,17 +337,13 @@ pub dropped-here : {x : Parties} {a b : List Entry} (s : State) (at : End) (y : 
     → takes p.side p.connection s ≡ false
     → ArrivesDropped (around_bus [] s) y p s.bus item number reply
     → b ≡ a ++ entry.Dropped number reply ∷ [] → ArrivesAs (record x { bus = y }) s at a b None
-dropped-here {x} {a} s at y p item number reply st there named front untaken h pushed =
-    let w = is-there x s at p st named in
-    let after = popped p.connection.number p.side s.bus in
-    let numbered = (st.parts.bus.facts.fits.items.answerable p.connection p.side item w.live
-    (front-in (queue p.side p.connection) item front)).numbered w.clean in (
-      allowed-here s at p item there named front,
-      does-is (with_bus after s) (dropped item ∷ [])
-          (delivers-drops s at p item named front untaken)
-          (pushed ∙ ap (λ e. a ++ e ∷ []) (dropped-is item number reply numbered h.told))
-          (rebussed [] y after st.parts h.stands refl),
-    )
+dropped-here {x} {a} s at y p item number reply st there named front untaken h pushed = (
+  allowed-here s at p item there named front,
+  does-is (taken_state s p) (dropped item ∷ [])
+      (delivers-drops s at p item named front untaken)
+      (pushed ∙ ap (λ e. a ++ e ∷ []) h.told)
+      (rebussed [] y (popped p.connection.number p.side s.bus) st.parts h.stands refl),
+)
 
 -- ---- what answers say
 

@@ -1,5 +1,6 @@
 -- A request that is delivered is held or served as the machine does.
-use Rattle.std.proofs.Common.{◌≡◌, ℕ, Bool, true, false, Option, Some, None, if◌then◌else◌, option_map, List, [], refl, sym, ap, ◌∙◌, subst}
+use Rattle.std.proofs.Common.{◌≡◌, ℕ, Bool, true, false, Option, Some, None, if◌then◌else◌}
+use Rattle.std.proofs.Common.{option_map, Result, Ok, Err, List, [], refl, sym, ap, ◌∙◌, subst}
 use Rattle.gb_base.specs.declared.end.End.{End}
 use Rattle.gb_base.specs.declared.end.Side.{Side}
 use Rattle.gb_base.specs.declared.end.Side.TheVariants as side
@@ -8,18 +9,25 @@ use Rattle.gb_bus.specs.Delivering.{ArrivesAsk}
 use Rattle.gb_bus.specs.Wiring.{ends_of}
 use Rattle.gb_bus.specs.declared.answers.Asked.{Asked}
 use Rattle.gb_bus.specs.declared.bus.Bus.{Bus}
+use Rattle.gb_base.specs.declared.fault.RawFault.{RawFault}
+use Rattle.gb_formats.specs.Message.{Message}
+use Rattle.gb_formats.specs.Wire.{raw_message}
+use Rattle.gb_invariants.proofs.Awaiting.{same-some}
+use Rattle.gb_laws.proofs.FarItems.{far-numbered}
 use Rattle.gb_laws.proofs.LinkBuses.{Linked}
 use Rattle.gb_laws.proofs.LinkChanges.{linked-popped, linked-replied}
-use Rattle.gb_laws.proofs.LinkLists.{find-changed}
+use Rattle.gb_invariants.proofs.Found.{find-changed}
 use Rattle.gb_laws.proofs.Reached.{reached-linked}
 use Rattle.gb_machine.proofs.Opened.{machine_opened}
 use Rattle.gb_machine.proofs.Steps.{delivers-arrives}
 use Rattle.gb_machine.specs.Actions.{given}
-use Rattle.gb_machine.specs.Arriving.{asked_at, delivers, takes}
+use Rattle.gb_machine.specs.Arriving.{arrives, asked_at, by_label, raw_taken, takes}
 use Rattle.gb_machine.specs.Bus as machine
-use Rattle.gb_machine.specs.Bus.{Ask, Connection, Item, Place, Request, connection_of, end_of, has_number, is_open, place_of, queue, request_of, Raw, RawReply, Reply}
+use Rattle.gb_machine.specs.Bus.{Ask, Connection, Item, Place, Raw, RawReply, Reply, Request}
+use Rattle.gb_machine.specs.Bus.{connection_of, end_of, has_number, place_of, queue, request_of}
 use Rattle.gb_machine.specs.Delivery.{popped, replied, without_front}
-use Rattle.gb_machine.specs.Incoming.{incoming, reply_item}
+use Rattle.gb_machine.specs.Incoming.{Incoming, incoming, incoming_raw, is_request, raw_request}
+use Rattle.gb_machine.specs.Incoming.{reply_item, request_in}
 use Rattle.gb_machine.specs.Lists.{first}
 use Rattle.gb_machine.specs.Refusals.{is_end_unplugged}
 use Rattle.gb_machine.specs.State.{State}
@@ -35,7 +43,8 @@ use Rattle.gb_system.specs.Holding.{AsksAt}
 use Rattle.gb_system.specs.Serving.{IsDelivered, MayServe, only, side_of, MayNotice, after_serving}
 use Rattle.gb_system.specs.Stands.{PartiesStand, PartsStand, around_bus}
 use Rattle.gb_system.specs.declared.parties.Parties.{Parties}
-use Rattle.gb_system.proofs.Arrivals.{allowed-here, is-there, taken_state}
+use Rattle.gb_system.proofs.Arrivals.{allowed-here, is-there}
+use Rattle.gb_system.proofs.RawArrivals.{taken_state}
 
 -- ---- a request
 
@@ -62,13 +71,13 @@ upon-taken s p found = record {
     ends side.Far = refl
 
 -- what is noticed at it is possible
-may-serve : (s : State) (at : End) (p : Place) (n : ℕ) (r : Request) → OfARun s
-    → place_of at s.bus.connections ≡ Some p → first (queue p.side p.connection) ≡ Some (Ask n)
-    → request_of n s.bus ≡ Some r → MayServe p.side p.connection (incoming n r) (taken_state s p)
-may-serve s at p n r run named front made = by p.side refl
+may-serve : (s : State) (at : End) (p : Place) (item : Item) (q : Incoming) → OfARun s
+    → place_of at s.bus.connections ≡ Some p → first (queue p.side p.connection) ≡ Some item
+    → request_in item s.bus ≡ Some q → MayServe p.side p.connection q (taken_state s p)
+may-serve s at p item q run named front is = by p.side refl
   where
     served : HostServed
-    served = host_serves p.connection.number r.kind r.payload s.host
+    served = host_serves p.connection.number q.kind q.payload s.host
 
     popped_bus : machine.Bus
     popped_bus = popped p.connection.number p.side s.bus
@@ -77,35 +86,57 @@ may-serve s at p n r run named front made = by p.side refl
     still = linked-popped p.connection.number p.side (reached-linked s run)
 
     linked_by : (t : Bool) → Linked (if t then popped_bus
-        else replied p.connection.number side.Far (reply_item (incoming n r) served.answer)
-        popped_bus) s.host []
+        else replied p.connection.number side.Far (reply_item q served.answer) popped_bus) s.host []
     linked_by true = still
-    linked_by false = linked-replied p.connection.number side.Far
-        (reply_item (incoming n r) served.answer) still
+    linked_by false =
+        linked-replied p.connection.number side.Far (reply_item q served.answer) still
 
     noticed : (o : Option HostEvent) → p.side ≡ side.Ap → served.notices ≡ o
-        → MayNotice o (after_serving p.connection (incoming n r) served (taken_state s p))
+        → MayNotice o (after_serving p.connection q served (taken_state s p))
     noticed None at_ap e = tt
-    noticed (Some e) at_ap is = may-note s at p n r e run
-        (record { named = named; side = at_ap; front = front; made = made; notices = is })
-        (linked_by r.oneway)
+    noticed (Some e) at_ap notices = may-note s at p item q e run
+        (record { named = named; side = at_ap; front = front; made = is; notices = notices })
+        (linked_by q.oneway)
 
-    by : (t : Side) → p.side ≡ t → MayServe t p.connection (incoming n r) (taken_state s p)
+    by : (t : Side) → p.side ≡ t → MayServe t p.connection q (taken_state s p)
     by side.Far e = tt
     by side.Ap e = noticed served.notices e refl
 
+-- a request is the same once it was taken from its queue
+request-taken : (p : Place) (item : Item) (s : State)
+    → request_in item (taken_state s p).bus ≡ request_in item s.bus
+request-taken p (Ask n) s = refl
+request-taken p (Reply n result payload) s = refl
+request-taken p (Raw bytes) s = refl
+request-taken p (RawReply label kind result payload) s = refl
+
 -- it is held or served once it was taken
-delivers-asks : (s : State) (at : End) (p : Place) (n : ℕ) (r : Request)
-    → place_of at s.bus.connections ≡ Some p
-    → first (queue p.side p.connection) ≡ Some (Ask n)
-    → takes p.side p.connection s ≡ true → request_of n s.bus ≡ Some r
-    → delivers at s
-    ≡ asked_at p.side p.connection (Ask n) (incoming n r) (taken_state s p)
+arrives-asks : (at : Side) (c : Connection) (item : Item) (q : Incoming) (t : State)
+    → request_in item t.bus ≡ Some q → arrives at c item t ≡ asked_at at c item q t
 unfolding machine_opened
-delivers-asks s at p n r named front taken made =
-    delivers-arrives s at p (Ask n) named front taken
-    ∙ ap (λ o. given o (λ (m : Request).
-    asked_at p.side p.connection (Ask n) (incoming n m)) (taken_state s p)) made
+arrives-asks at c (Ask n) q t is = by (request_of n t.bus) is
+  where
+    by : (o : Option Request) → option_map (incoming n) o ≡ Some q
+        → given o (λ (r : Request). asked_at at c (Ask n) (incoming n r)) t
+        ≡ asked_at at c (Ask n) q t
+    by None e = absurd cc
+    by (Some r) e = ap (λ w. asked_at at c (Ask n) w t) (same-some (incoming n r) q e)
+arrives-asks at c (Raw bytes) q t is = by (raw_message bytes) is
+  where
+    by_kind : (m : Message) (u : Bool)
+        → (if u then Some (incoming_raw m) else None) ≡ Some q
+        → (if u then asked_at at c (Raw bytes) (incoming_raw m)
+        else by_label at c m.id m.result m.payload) t
+        ≡ asked_at at c (Raw bytes) q t
+    by_kind m true e = ap (λ w. asked_at at c (Raw bytes) w t) (same-some (incoming_raw m) q e)
+    by_kind m false e = absurd cc
+
+    by : (r : Result Message RawFault) → raw_request r ≡ Some q
+        → raw_taken at c (Raw bytes) r t ≡ asked_at at c (Raw bytes) q t
+    by (Err fault) e = absurd cc
+    by (Ok m) e = by_kind m (is_request m) e
+arrives-asks at c (Reply n result payload) q t is = absurd cc
+arrives-asks at c (RawReply label kind result payload) q t is = absurd cc
 
 pub ask-here : {x z : Parties} {a b : List Entry} (s : State) (at : End) (y : Bus) (p : Place)
     (k : ℕ) (item : Item) (asked : Asked) (payload bytes : List ℕ)
@@ -115,32 +146,34 @@ pub ask-here : {x z : Parties} {a b : List Entry} (s : State) (at : End) (y : Bu
     → ArrivesAsk (around_bus [] s) y p s.bus item asked payload
     → AsksAt at (record x { bus = y }) z k asked bytes a b
     → ArrivesAs z s at a b None
-ask-here {x} {z} {a} {b} s at y p k item asked payload bytes st there named front taken number same h
-    serve =
+ask-here {x} {z} {a} {b} s at y p k item asked payload bytes st there named front taken number
+    same h serve =
     let w = is-there x s at p st named in
     let t = taken_state s p in
     let c = p.connection in
-    let q = incoming h.number h.request in
-    let front_is = front ∙ ap Some h.item_is in
-    let stand : PartsStand (only c.number p.side h.number) (record x { bus = y }) t =
-    rebussed (only c.number p.side h.number) y t.bus st.parts h.stands
+    let q = h.request in
+    let is = request-taken p item s ∙ h.is in
+    let stand : PartsStand (only c.number p.side item) (record x { bus = y }) t =
+    rebussed (only c.number p.side item) y t.bus st.parts h.stands
     refl in
-    let delivered : IsDelivered at k asked bytes t c h.number = record {
-      request = h.request;
-      made = h.made;
+    let delivered : IsDelivered at k asked bytes t c item = record {
+      request = q;
+      is = is;
       names = h.names;
       payload_is = same ∙ h.payload_is;
       upon = subst (λ j. IsUpon j t.bus c) (sym number) (upon-taken s p w.found);
       there = ap (λ d. end_of d c) w.side ∙ w.is;
+      numbered = λ far. far-numbered s c item q st.run w.live
+          (ap (λ d. first (queue d c)) (sym far ∙ w.side) ∙ front) h.is;
     } in
-    let done = serve t c h.number delivered
-    (subst (λ j. PartsStand (only j (side_of at) h.number) (record x { bus = y }) t) (sym number)
-    (subst (λ d. PartsStand (only c.number d h.number) (record x { bus = y }) t) (sym w.side)
-    stand))
+    let done = serve t c item delivered
+    (subst (λ j. PartsStand (only j (side_of at) item) (record x { bus = y }) t) (sym number)
+    (subst (λ d. PartsStand (only c.number d item) (record x { bus = y }) t) (sym w.side) stand))
     (subst (λ d. MayServe d c q t) (sym w.side)
-    (may-serve s at p h.number h.request st.run named front_is h.made)) in (
+    (may-serve s at p item q st.run named front h.is)) in (
       allowed-here s at p item there named front,
-      does-as (ap (λ d. asked_at d c (Ask h.number) q t) w.side
-          ∙ sym (delivers-asks s at p h.number h.request named front_is taken h.made))
+      does-as (ap (λ d. asked_at d c item q t) w.side
+          ∙ sym (delivers-arrives s at p item named front taken
+          ∙ arrives-asks p.side c item q t is))
           done,
     )

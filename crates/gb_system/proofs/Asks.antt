@@ -1,5 +1,7 @@
 -- A request is made as the machine makes it.
-use Rattle.std.proofs.Common.{◌≡◌, ◌≤◌, ◌==◌, ℕ, ◌+◌, Bool, true, false, cond, Option, Some, None, option_map, option_and_then, List, [], ◌∷◌, ◌++◌, append_assoc, refl, sym, ap, ◌∙◌, subst, arith}
+use Rattle.std.proofs.Common.{◌≡◌, ◌≤◌, ◌==◌, ℕ, ◌+◌, Bool, true, false, cond, Option, Some, None}
+use Rattle.std.proofs.Common.{option_map, option_and_then, List, [], ◌∷◌, ◌++◌, append_assoc, refl}
+use Rattle.std.proofs.Common.{sym, ap, ◌∙◌, subst, arith}
 use Rattle.std.proofs.lemmas.Bool.Decides.{nat_tests}
 use Rattle.gb_base.specs.declared.bridge.Reading.TheVariants as reading
 use Rattle.gb_base.specs.declared.end.End.{End}
@@ -95,14 +97,16 @@ asks-twoway : (d : Draft) (c : Connection) (label : ℕ) (s : State) → d.onewa
     → asks_with d c label s ≡ told (after_ask d label s) (asked d c label s.bus ∷ [])
 unfolding machine_opened
 asks-twoway d c label s e =
-    ap (λ t. (on_bus (sent d label) ▸ tell (asked d c label s.bus) ▸ when t (tell (sent_told s))) s) e
+    ap (λ t. (on_bus (sent d label) ▸ tell (asked d c label s.bus)
+    ▸ when t (tell (sent_told s))) s) e
 
 asks-oneway : (d : Draft) (c : Connection) (label : ℕ) (s : State) → d.oneway ≡ true
     → asks_with d c label s
     ≡ told (after_ask d label s) (asked d c label s.bus ∷ sent_told s ∷ [])
 unfolding machine_opened
 asks-oneway d c label s e =
-    ap (λ t. (on_bus (sent d label) ▸ tell (asked d c label s.bus) ▸ when t (tell (sent_told s))) s) e
+    ap (λ t. (on_bus (sent d label) ▸ tell (asked d c label s.bus)
+    ▸ when t (tell (sent_told s))) s) e
 
 -- the identifier that is drawn is none where no response comes, and else some
 label-sound : (d : Draft) (b : machine.Bus) (label : ℕ) → label_for d b ≡ Some label
@@ -212,7 +216,8 @@ ask-made {x} {s} {a} {b} y d ends r st askable twoway has sends appended =
       held = held-stand-more s.bus.requests (requested d r.label) x.held s.held st.held;
     }) in
     let k = does-given (on_connection d s) c on.live
-    (does-given (λ label. asks_with d c label) r.label on.drawn (by c on.same stands d.oneway refl)) in
+    (does-given (λ label. asks_with d c label) r.label on.drawn
+    (by c on.same stands d.oneway refl)) in
     record { told_is = k.told_is; stand = k.stand }
   where
     same_told : (c : Connection) → ends ≡ ends_of c

@@ -1,5 +1,6 @@
 -- The names that are bound, in their order.
-use Rattle.std.proofs.Common.{◌≡◌, ℕ, Bool, true, false, cond, not, Some, None, List, [], ◌∷◌, ◌++◌, Equal, Greater, Less, refl, sym, ap, ◌∙◌}
+use Rattle.std.proofs.Common.{◌≡◌, ℕ, Bool, true, false, cond, not, Some, None, List, [], ◌∷◌, ◌++◌}
+use Rattle.std.proofs.Common.{Equal, Greater, Less, refl, sym, ap, ◌∙◌}
 use Rattle.std.specs.Ordering.{is_eq, is_lt, ordering_reverse}
 use Rattle.std.specs.declared.cmp.Ordering.{Ordering}
 use Rattle.gb_base.specs.declared.name.Name.{Name}

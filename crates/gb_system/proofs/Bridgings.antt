@@ -17,7 +17,7 @@ use Rattle.gb_laws.proofs.Reached.{reached-linked}
 use Rattle.gb_machine.proofs.Conditions.{front-unmet, unmet, unrefused}
 use Rattle.gb_machine.specs.Host.{Host, is_link, link_at, link_of}
 use Rattle.gb_machine.specs.HostRefusals.{bridge_conditions, send_conditions}
-use Rattle.gb_machine.specs.Labels.{next_label, no_label}
+use Rattle.gb_machine.specs.Labels.{next_label}
 use Rattle.gb_machine.specs.Lists.{Condition, conditions_of, first_met}
 use Rattle.gb_machine.specs.Names.{is_bound, named}
 use Rattle.gb_machine.specs.Refusals.{has_no_label, line_conditions}
@@ -34,7 +34,7 @@ use Rattle.gb_system.specs.declared.parties.Parties.{Parties}
 abbrev on_link : State → BridgeAsk → Option Link → List Condition
 on_link s what o =
     conditions_of (λ l. bridge_conditions l what
-    ++ (has_no_label l.connection side.Ap s, no_label) ∷ []) o
+    ++ (has_no_label l.connection side.Ap s, why.NoLabel) ∷ []) o
 
 -- those behind the name's
 abbrev on_end : State → ℕ → ℕ → BridgeAsk → List Condition
@@ -115,11 +115,11 @@ pub bridge-unfit : (x : Parties) (s : State) (name : Name) (i c k : ℕ) (what :
     → SendsAs (first_met (send_conditions i c s.host)) (link_at i c s.host) (Ok k)
     → BridgesThere s.host k what old new (Err why)
     → BridgesTo s name i c what old new (Err why)
-bridge-unfit x s name i c k what old new why st free way refuses =
+bridge-unfit x s name i c k what old new how st free way refuses =
     let l = is-link s x i c k st way.1 in
     on-link x s name i c what l.link st free way.0 l.there
     ∙ met-early (bridge_conditions l.link what)
-    ((has_no_label l.link.connection side.Ap s, no_label) ∷ []) why (refuses l.link l.of_number)
+    ((has_no_label l.link.connection side.Ap s, why.NoLabel) ∷ []) how (refuses l.link l.of_number)
 
 -- then the identifiers decide
 by-label : (x : Parties) (s : State) (name : Name) (i c k : ℕ) (what : BridgeAsk)
@@ -128,14 +128,14 @@ by-label : (x : Parties) (s : State) (name : Name) (i c k : ℕ) (what : BridgeA
     → SendsAs (first_met (send_conditions i c s.host)) (link_at i c s.host) (Ok k)
     → BridgesThere s.host k what old new (Ok b)
     → spent ≡ is_none (next_label k side.Ap s.bus)
-    → first_met (line_conditions s name i c what) ≡ cond spent (Some no_label) None
+    → first_met (line_conditions s name i c what) ≡ cond spent (Some why.NoLabel) None
 by-label x s name i c k what old new b spent st free way writes is =
     let l = is-link s x i c k st way.1 in
     on-link x s name i c what l.link st free way.0 l.there
     ∙ met-late (bridge_conditions l.link what)
-    ((has_no_label l.link.connection side.Ap s, no_label) ∷ []) (writes l.link l.of_number).0
-    ∙ ap (λ j. cond (is_none (next_label j side.Ap s.bus)) (Some no_label) None) l.number
-    ∙ ap (λ t. cond t (Some no_label) None) (sym is)
+    ((has_no_label l.link.connection side.Ap s, why.NoLabel) ∷ []) (writes l.link l.of_number).0
+    ∙ ap (λ j. cond (is_none (next_label j side.Ap s.bus)) (Some why.NoLabel) None) l.number
+    ∙ ap (λ t. cond t (Some why.NoLabel) None) (sym is)
 
 -- no identifier is left
 pub bridge-spent : (x : Parties) (s : State) (name : Name) (i c k : ℕ) (what : BridgeAsk)
@@ -147,7 +147,7 @@ pub bridge-spent : (x : Parties) (s : State) (name : Name) (i c k : ℕ) (what :
     → BridgesTo s name i c what old new (Err why.NoLabel)
 bridge-spent x s name i c k what old new b spent st free way writes is it =
     by-label x s name i c k what old new b spent st free way writes is
-    ∙ ap (λ t. cond t (Some no_label) None) it
+    ∙ ap (λ t. cond t (Some why.NoLabel) None) it
 
 -- the line becomes a request
 pub bridge-goes : (x : Parties) (s : State) (name : Name) (i c k : ℕ) (what : BridgeAsk)
@@ -160,7 +160,7 @@ pub bridge-goes : (x : Parties) (s : State) (name : Name) (i c k : ℕ) (what : 
 bridge-goes x s name i c k what old new b spent st free way writes is it =
     let l = is-link s x i c k st way.1 in record {
       allowed = by-label x s name i c k what old new b spent st free way writes is
-          ∙ ap (λ t. cond t (Some no_label) None) it;
+          ∙ ap (λ t. cond t (Some why.NoLabel) None) it;
       link = l.link;
       there = l.there;
       number = l.number;
@@ -180,7 +180,7 @@ line-met s name i c what l there allowed =
     front = (is_bound name s, why.Occupied) ∷ send_conditions i c s.host
 
     last : List Condition
-    last = (has_no_label l.connection side.Ap s, no_label) ∷ []
+    last = (has_no_label l.connection side.Ap s, why.NoLabel) ∷ []
 
     met : first_met (on_link s what (Some l)) ≡ None
     met =

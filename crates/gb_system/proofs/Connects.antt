@@ -1,5 +1,6 @@
 -- A connect and a disconnect are refused or done as the machine does.
-use Rattle.std.proofs.Common.{◌≡◌, ℕ, Bool, true, false, Some, None, is_none, Ok, List, [], ◌∷◌, sym, ap, ◌∙◌}
+use Rattle.std.proofs.Common.{◌≡◌, ℕ, Bool, true, false, Some, None, is_none, Ok, List, [], ◌∷◌}
+use Rattle.std.proofs.Common.{sym, ap, ◌∙◌}
 use Rattle.gb_base.specs.declared.end.Side.TheVariants as side
 use Rattle.gb_base.specs.declared.entry.Entry.{Entry}
 use Rattle.gb_base.specs.declared.entry.Entry.TheVariants as entry
@@ -11,7 +12,7 @@ use Rattle.gb_machine.proofs.Opened.{machine_opened}
 use Rattle.gb_machine.specs.Host.{control_of}
 use Rattle.gb_machine.specs.HostActs.{notices}
 use Rattle.gb_machine.specs.HostRefusals.{connect_conditions, disconnect_conditions}
-use Rattle.gb_machine.specs.Labels.{next_label, no_label}
+use Rattle.gb_machine.specs.Labels.{next_label}
 use Rattle.gb_machine.specs.Lists.{Condition, first_met, holds_of}
 use Rattle.gb_machine.specs.Refusals.{has_no_label, refusal}
 use Rattle.gb_machine.specs.State.{State}
@@ -28,7 +29,7 @@ use Rattle.gb_system.specs.declared.parties.Parties.{Parties}
 
 -- that no identifier is left for a request to the supervisory controller
 abbrev last_condition : State → List Condition
-last_condition s = (has_no_label 1 side.Ap s, no_label) ∷ []
+last_condition s = (has_no_label 1 side.Ap s, why.NoLabel) ∷ []
 
 -- the application processor refuses
 pub connect-refused : (x : Parties) (s : State) (i c : ℕ) (why : Refusal) (es : List Entry)
@@ -42,10 +43,10 @@ connect-refused x s i c why es st refused is =
 connect-last : (s : State) (i c : ℕ) (spent : Bool)
     → first_met (connect_conditions i c s.host) ≡ None
     → spent ≡ is_none (next_label 1 side.Ap s.bus)
-    → refusal s (event.Connect i c) ≡ first_met ((spent, no_label) ∷ [])
+    → refusal s (event.Connect i c) ≡ first_met ((spent, why.NoLabel) ∷ [])
 connect-last s i c spent free is =
     met-late (connect_conditions i c s.host) (last_condition s) free
-    ∙ ap (λ b. first_met ((b, no_label) ∷ [])) (sym is)
+    ∙ ap (λ b. first_met ((b, why.NoLabel) ∷ [])) (sym is)
 
 -- no identifier is left
 pub connect-spent : (x : Parties) (s : State) (i c : ℕ) (spent : Bool) (es : List Entry)
@@ -54,7 +55,7 @@ pub connect-spent : (x : Parties) (s : State) (i c : ℕ) (spent : Bool) (es : L
     → es ≡ entry.Refused why.NoLabel ∷ [] → PartsStep x s (event.Connect i c) (Ok es)
 connect-spent x s i c spent es st free by so is =
     lands-refused x s (event.Connect i c) why.NoLabel es
-    (connect-last s i c spent free by ∙ ap (λ b. first_met ((b, no_label) ∷ [])) so) is st.parts
+    (connect-last s i c spent free by ∙ ap (λ b. first_met ((b, why.NoLabel) ∷ [])) so) is st.parts
 
 -- it is done
 pub connect-done : (x y : Parties) (s : State) (i c : ℕ) (spent : Bool) (before es : List Entry)
@@ -67,7 +68,7 @@ pub connect-done : (x y : Parties) (s : State) (i c : ℕ) (spent : Bool) (befor
 unfolding machine_opened
 connect-done x y s i c spent before es valid st free by so begun noticed =
     let allowed : refusal s (event.Connect i c) ≡ None =
-    connect-last s i c spent free by ∙ ap (λ b. first_met ((b, no_label) ∷ [])) so in
+    connect-last s i c spent free by ∙ ap (λ b. first_met ((b, why.NoLabel) ∷ [])) so in
     lands y s (event.Connect i c) before es allowed begun
     (noticed s st.parts (may-connect s i c st.run allowed valid))
 
@@ -78,7 +79,7 @@ abbrev control_spent : State → ℕ → Bool
 control_spent s i = holds_of (λ k. has_no_label k side.Ap s) (control_of i s.host)
 
 abbrev control_condition : State → ℕ → List Condition
-control_condition s i = (control_spent s i, no_label) ∷ []
+control_condition s i = (control_spent s i, why.NoLabel) ∷ []
 
 -- the application processor refuses
 pub disconnect-refused : (x : Parties) (s : State) (i c : ℕ) (why : Refusal) (es : List Entry)
@@ -91,10 +92,10 @@ disconnect-refused x s i c why es st refused is =
 -- what is left of the refusals
 disconnect-last : (s : State) (i c : ℕ) (spent : Bool)
     → first_met (disconnect_conditions i c s.host) ≡ None → spent ≡ control_spent s i
-    → refusal s (event.Disconnect i c) ≡ first_met ((spent, no_label) ∷ [])
+    → refusal s (event.Disconnect i c) ≡ first_met ((spent, why.NoLabel) ∷ [])
 disconnect-last s i c spent free is =
     met-late (disconnect_conditions i c s.host) (control_condition s i) free
-    ∙ ap (λ b. first_met ((b, no_label) ∷ [])) (sym is)
+    ∙ ap (λ b. first_met ((b, why.NoLabel) ∷ [])) (sym is)
 
 -- no identifier is left on the connection to Control
 pub disconnect-spent : (x : Parties) (s : State) (i c : ℕ) (spent : Bool) (es : List Entry)
@@ -104,7 +105,7 @@ pub disconnect-spent : (x : Parties) (s : State) (i c : ℕ) (spent : Bool) (es 
 disconnect-spent x s i c spent es st free by so is =
     lands-refused x s (event.Disconnect i c) why.NoLabel es
     (disconnect-last s i c spent free by
-    ∙ ap (λ b. first_met ((b, no_label) ∷ [])) so) is st.parts
+    ∙ ap (λ b. first_met ((b, why.NoLabel) ∷ [])) so) is st.parts
 
 -- it is done
 pub disconnect-done : (x y : Parties) (s : State) (i c : ℕ) (spent : Bool)
@@ -117,6 +118,6 @@ pub disconnect-done : (x y : Parties) (s : State) (i c : ℕ) (spent : Bool)
 unfolding machine_opened
 disconnect-done x y s i c spent before es st free by so begun noticed =
     let allowed : refusal s (event.Disconnect i c) ≡ None =
-    disconnect-last s i c spent free by ∙ ap (λ b. first_met ((b, no_label) ∷ [])) so in
+    disconnect-last s i c spent free by ∙ ap (λ b. first_met ((b, why.NoLabel) ∷ [])) so in
     lands y s (event.Disconnect i c) before es allowed begun
     (noticed s st.parts (may-disconnect s i c st.run allowed))

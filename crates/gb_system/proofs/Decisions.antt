@@ -1,5 +1,6 @@
 -- What the supervisory controller decides is what the machine's does.
-use Rattle.std.proofs.Common.{◌≡◌, ℕ, true, false, if◌then◌else◌, Option, Some, None, option_map, List, [], refl, sym, ap, ◌∙◌, subst}
+use Rattle.std.proofs.Common.{◌≡◌, ℕ, true, false, if◌then◌else◌, Option, Some, None, option_map}
+use Rattle.std.proofs.Common.{List, [], refl, sym, ap, ◌∙◌, subst}
 use Rattle.std.specs.List.{list_any}
 use Rattle.gb_invariants.proofs.Lists.{found-in}
 use Rattle.gb_invariants.proofs.Numbers.{found-by_number}
@@ -8,7 +9,8 @@ use Rattle.gb_machine.proofs.Opened.{machine_opened}
 use Rattle.gb_machine.specs.Actions.{nothing}
 use Rattle.gb_machine.specs.Bus.{Connection, connection_of}
 use Rattle.gb_machine.specs.Ports.{unrouted}
-use Rattle.gb_machine.specs.Responding.{creates, destroys, responds_plainly, responds_with, svc_decided, svc_stepped, unroutes, with_ports}
+use Rattle.gb_machine.specs.Responding.{creates, destroys, responds_plainly, responds_with}
+use Rattle.gb_machine.specs.Responding.{svc_decided, svc_stepped, unroutes, with_ports}
 use Rattle.gb_machine.specs.Sending.{is_wired}
 use Rattle.gb_machine.specs.Serving.{answer, invalid, nonexistent, plainly, success}
 use Rattle.gb_machine.specs.State.{Port, State}

@@ -1,8 +1,10 @@
 -- Actions that are put together, as the parties do them.
-use Rattle.std.proofs.Common.{◌≡◌, Bool, true, false, Option, Some, None, List, [], ◌∷◌, ◌++◌, append-nil, append_assoc, sym, ap, ◌∙◌, subst}
+use Rattle.std.proofs.Common.{◌≡◌, Bool, true, false, Option, Some, None, List, [], ◌∷◌, ◌++◌}
+use Rattle.std.proofs.Common.{append-nil, append_assoc, sym, ap, ◌∙◌, subst}
 use Rattle.gb_base.specs.declared.entry.Entry.{Entry}
 use Rattle.gb_machine.proofs.Opened.{machine_opened}
-use Rattle.gb_machine.specs.Actions.{Action, Told, by_state, change, given, nothing, on_bus, on_host, tell, tell_all, when, ◌▸◌}
+use Rattle.gb_machine.specs.Actions.{Action, Told, by_state, change, given, nothing, on_bus}
+use Rattle.gb_machine.specs.Actions.{on_host, tell, tell_all, when, ◌▸◌}
 use Rattle.gb_machine.specs.Bus.{Bus}
 use Rattle.gb_machine.specs.Host.{Host}
 use Rattle.gb_machine.specs.State.{State}

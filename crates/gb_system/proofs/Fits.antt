@@ -1,5 +1,8 @@
 -- What modules answer and ask fits into messages.
-use Rattle.std.proofs.Common.{◌≡◌, ◌≤◌, ◌+◌, ◌/◌, ℕ, zero, suc, ◌==◌, nat_le, nat_lt, Bool, true, false, cond, ◌||◌, Option, Some, None, Result, Ok, Err, List, [], ◌∷◌, ◌++◌, length, length-append, take, drop, replicate, sum_by, refl, ap, subst, arith}
+use Rattle.std.proofs.Common.{◌≡◌, ◌≤◌, ◌+◌, ◌/◌, ℕ, zero, suc, ◌==◌, nat_le, nat_lt, Bool, true}
+use Rattle.std.proofs.Common.{false, cond, ◌||◌, Option, Some, None, Result, Ok, Err, List, [], ◌∷◌}
+use Rattle.std.proofs.Common.{◌++◌, length, length-append, take, drop, replicate, sum_by, refl, ap}
+use Rattle.std.proofs.Common.{subst, arith}
 use Rattle.std.proofs.lemmas.Bool.Decides.{nat_tests}
 use Rattle.std.proofs.lemmas.List.{length-replicate, length-take}
 use Rattle.std.proofs.lemmas.List.Sums.{sum_by-cons}
@@ -9,21 +12,37 @@ use Rattle.gb_base.specs.declared.served.OwnAsk.{OwnAsk}
 use Rattle.gb_base.specs.declared.served.Served.{Served}
 use Rattle.gb_formats.specs.Bytes.{le16}
 use Rattle.gb_formats.specs.ControlRecords.{ControlAsk, read_control_ask}
-use Rattle.gb_formats.specs.ControlResponder.{control_asked, control_read, is_off, is_quiet, made_quiet, turn_step, turned_off, turned_on}
+use Rattle.gb_formats.specs.ControlResponder.{control_asked, control_read, is_off, is_quiet}
+use Rattle.gb_formats.specs.ControlResponder.{made_quiet, turn_step, turned_off, turned_on}
 use Rattle.gb_formats.specs.Devices.{Device, Stir, device_step, device_stir, irq_asks}
 use Rattle.gb_formats.specs.Devices as devices
-use Rattle.gb_formats.specs.GpioDevice.{AtLine, GpioLine, activate, at_line, deactivate, direction_of, direction_out, gpio_asked, gpio_level_set, gpio_read, if_active, line_of, line_step, set_irq, set_value, value_of}
+use Rattle.gb_formats.specs.GpioDevice.{AtLine, GpioLine, activate, at_line, deactivate}
+use Rattle.gb_formats.specs.GpioDevice.{direction_of, direction_out, gpio_asked, gpio_level_set}
+use Rattle.gb_formats.specs.GpioDevice.{gpio_read, if_active, line_of, line_step, set_irq}
+use Rattle.gb_formats.specs.GpioDevice.{set_value, value_of}
 use Rattle.gb_formats.specs.GpioDevice as gpio
-use Rattle.gb_formats.specs.GpioRecords.{GpioAsk, GpioReply, gpio_reply_payload, read_gpio_ask_of_ap}
-use Rattle.gb_formats.specs.I2cDevice.{I2cDevice, after_op, has_strange_flags, i2c_asked, i2c_read, i2c_transfer_step, is_elsewhere, next_place, op_read_bytes, ops_run, read_from}
-use Rattle.gb_formats.specs.I2cRecords.{I2cAsk, TransferOp, op_read_size, op_size, op_written_size, ops_at, read_i2c_ask}
-use Rattle.gb_formats.specs.Module.{CportState, Module, ModulePort, Off, On, Quiet, if_on, is_on, port_at}
-use Rattle.gb_formats.specs.ModuleSteps.{module_serve, module_stir, port_served, port_stir, port_stirred, served_in}
+use Rattle.gb_formats.specs.GpioRecords.{GpioAsk, GpioReply, gpio_reply_payload}
+use Rattle.gb_formats.specs.GpioRecords.{read_gpio_ask_of_ap}
+use Rattle.gb_formats.specs.I2cDevice.{I2cDevice, after_op, has_strange_flags, i2c_asked, i2c_read}
+use Rattle.gb_formats.specs.I2cDevice.{i2c_transfer_step, is_elsewhere, next_place, op_read_bytes}
+use Rattle.gb_formats.specs.I2cDevice.{ops_run, read_from}
+use Rattle.gb_formats.specs.I2cRecords.{I2cAsk, TransferOp, op_read_size, op_size, op_written_size}
+use Rattle.gb_formats.specs.I2cRecords.{ops_at, read_i2c_ask}
+use Rattle.gb_formats.specs.Module.{CportState, Module, ModulePort, Off, On, Quiet, if_on, is_on}
+use Rattle.gb_formats.specs.Module.{port_at}
+use Rattle.gb_formats.specs.ModuleSteps.{module_serve, module_stir, port_served, port_stir}
+use Rattle.gb_formats.specs.ModuleSteps.{port_stirred, served_in}
 use Rattle.gb_formats.specs.Records.{PayloadFault}
-use Rattle.gb_formats.specs.Results.{Step, Stirred, invalid, most_payload, nonexistent, overflow, protocol_bad, refuses}
-use Rattle.gb_formats.specs.SpiDevice.{echo, entries_run, entry_read_bytes, entry_written_bytes, is_strange, last_of, master, spi_asked, spi_read, spi_transfer_step}
-use Rattle.gb_formats.specs.SpiRecords.{SpiAsk, TransferEntry, entries_at, entry_read_size, entry_size, entry_writes, entry_written_size, read_spi_ask, spi_reply_payload}
-use Rattle.gb_formats.specs.UartDevice.{echo_asks, is_coding, most_sent, send_answer, uart_asked, uart_read}
+use Rattle.gb_formats.specs.Results.{Step, Stirred, invalid, most_payload, nonexistent, overflow}
+use Rattle.gb_formats.specs.Results.{protocol_bad, refuses}
+use Rattle.gb_formats.specs.SpiDevice.{echo, entries_run, entry_read_bytes, entry_written_bytes}
+use Rattle.gb_formats.specs.SpiDevice.{is_strange, last_of, master, spi_asked, spi_read}
+use Rattle.gb_formats.specs.SpiDevice.{spi_transfer_step}
+use Rattle.gb_formats.specs.SpiRecords.{SpiAsk, TransferEntry, entries_at, entry_read_size}
+use Rattle.gb_formats.specs.SpiRecords.{entry_size, entry_writes, entry_written_size, read_spi_ask}
+use Rattle.gb_formats.specs.SpiRecords.{spi_reply_payload}
+use Rattle.gb_formats.specs.UartDevice.{echo_asks, is_coding, most_sent, send_answer, uart_asked}
+use Rattle.gb_formats.specs.UartDevice.{uart_read}
 use Rattle.gb_formats.specs.UartRecords.{UartAsk, read_uart_ask_of_ap, uart_ask_payload}
 use Rattle.gb_invariants.proofs.Awaiting.{same-some}
 use Rattle.gb_system.specs.Acting.{AreAskable}
@@ -336,8 +355,8 @@ module_fits m c kind payload h = by (c == 0)
 
 -- ---- what comes from outside
 
-device-asks : (device : Device) (stir : Stir) (t : Stirred Device) → device_stir device stir ≡ Some t
-    → AreAskable t.asks
+device-asks : (device : Device) (stir : Stir) (t : Stirred Device)
+    → device_stir device stir ≡ Some t → AreAskable t.asks
 device-asks (devices.Gpio lines) (devices.Level which new) t is =
     subst (λ (d : Stirred Device). AreAskable d.asks) (same-some _ t is)
     (irq-asks (gpio_level_set lines which new).irq)

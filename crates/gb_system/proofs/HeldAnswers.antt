@@ -1,5 +1,7 @@
 -- Lines that answer requests that are held do what the machine does.
-use Rattle.std.proofs.Common.{◌≡◌, ◌≤◌, ◌<◌, ◌-◌, ℕ, zero, suc, nat_lt, Bool, true, false, is_none, Some, None, Ok, Err, option_map, List, [], ◌∷◌, length, map, sym, ap, ◌∙◌, subst, arith}
+use Rattle.std.proofs.Common.{◌≡◌, ◌≤◌, ◌<◌, ◌-◌, ℕ, zero, suc, nat_lt, true, false, Some, None, Ok}
+use Rattle.std.proofs.Common.{Err, option_map, List, [], ◌∷◌, length, map, sym, ap, ◌∙◌, subst}
+use Rattle.std.proofs.Common.{arith}
 use Rattle.std.proofs.lemmas.Bool.Decides.{nat_tests}
 use Rattle.std.proofs.lemmas.List.{map-append}
 use Rattle.std.specs.List.{remove}
@@ -16,24 +18,27 @@ use Rattle.gb_bus.specs.Stands as bus
 use Rattle.gb_bus.specs.Wiring.{ends_of}
 use Rattle.gb_machine.proofs.Lists.{nth-within}
 use Rattle.gb_machine.proofs.Opened.{machine_opened}
-use Rattle.gb_machine.specs.Actions.{change, given, ◌▸◌}
-use Rattle.gb_machine.specs.Bus.{Ask, Place, connection_of, end_of, place_of}
+use Rattle.gb_machine.specs.Actions.{given}
+use Rattle.gb_invariants.specs.Facts.{is_numbered}
+use Rattle.gb_machine.specs.Bus.{Item, Place, connection_of, end_of, place_of}
 use Rattle.gb_machine.specs.Events.{does}
 use Rattle.gb_machine.specs.Holding.{held_on}
+use Rattle.gb_machine.specs.Incoming.{incoming, request_in}
 use Rattle.gb_machine.specs.LineActions.{answers_at, answers_held, serves_held, with_fewer}
 use Rattle.gb_machine.specs.Lists.{Condition, first_met, holds_of, nth}
-use Rattle.gb_machine.specs.Refusals.{holds_fewer, is_unplugged, module_place, refusal, wired_conditions}
+use Rattle.gb_machine.specs.Refusals.{holds_fewer, module_place, refusal, wired_conditions}
 use Rattle.gb_machine.specs.State.{Held, State}
 use Rattle.gb_system.proofs.Arrivals.{is-there}
 use Rattle.gb_system.proofs.Doings.{does-by_state, does-given}
 use Rattle.gb_system.proofs.Holdings.{IsTaken, stand-fewer, stand-taken}
 use Rattle.gb_system.proofs.Landing.{lands, lands-refused}
-use Rattle.gb_system.proofs.Ways.{met-late}
+use Rattle.gb_system.proofs.Ways.{met-early, met-late}
 use Rattle.gb_system.specs.Doing.{Does}
 use Rattle.gb_system.specs.Held.{HoldsAs, Takes, TakesNone, held_at}
 use Rattle.gb_system.specs.Holding.{WiredAs}
 use Rattle.gb_system.specs.Serving.{IsDelivered, only}
-use Rattle.gb_system.specs.Stands.{PartiesStand, PartsStand, PartsStep, StandForHeld, held_item, names_of}
+use Rattle.gb_system.specs.Stands.{PartiesStand, PartsStand, PartsStep, StandForHeld, held_item}
+use Rattle.gb_system.specs.Stands.{names_of}
 use Rattle.gb_system.specs.declared.held.HeldRequest.{HeldRequest}
 use Rattle.gb_system.specs.declared.held.HeldRequests.{HeldRequests}
 use Rattle.gb_system.specs.declared.parties.Parties.{Parties}
@@ -55,15 +60,7 @@ pub answer-refused : (x : Parties) (s : State) (i c place : ℕ) (reason : Refus
     → es ≡ entry.Refused reason ∷ [] → PartsStep x s (event.Answer i c place) (Ok es)
 answer-refused x s i c place reason es st wired is =
     lands-refused x s (event.Answer i c place) reason es
-    (by (is_unplugged i s) (is_none (module_place i c s)) wired) is st.parts
-  where
-    by : (a b : Bool)
-        → first_met ((a, why.NoInterface) ∷ (b, why.NoConnection) ∷ []) ≡ Some reason
-        → first_met ((a, why.NoInterface) ∷ (b, why.NoConnection)
-        ∷ answer_conditions s i c place) ≡ Some reason
-    by true b e = e
-    by false true e = e
-    by false false e = absurd cc
+    (met-early (wired_conditions s i c) (answer_conditions s i c place) reason wired) is st.parts
 
 -- where fewer are held
 fewer-held : (s : State) (i c k place : ℕ) → (w : IsAt s i c k)
@@ -132,30 +129,29 @@ fewer-stand {x} {s} held k i h st t = let f = t.around in record {
   held = t.rest;
 }
 
-does-answers : {y : Parties} (s : State) (i c place n : ℕ) (p : Place) (h : Held)
+does-answers : {y : Parties} (s : State) (i c place : ℕ) (p : Place) (h : Held)
     {a b : List Entry} → module_place i c s ≡ Some p
-    → nth place (held_on p.connection.number s.held) ≡ Some h → h.item ≡ Ask n
-    → Does y (serves_held p (Ask n)) (with_fewer p.connection.number place s) a b
+    → nth place (held_on p.connection.number s.held) ≡ Some h
+    → Does y (serves_held p h.item) (with_fewer p.connection.number place s) a b
     → Does y (does (event.Answer i c place)) s a b
 unfolding machine_opened
-does-answers {y} s i c place n p h {a} {b} named there item d =
+does-answers s i c place p h named there d =
     does-by_state (λ t. given (module_place i c t) (answers_at place))
     (does-given (answers_at place) p named
     (does-by_state (λ t. given (nth place (held_on p.connection.number t.held))
     (answers_held p place))
     (does-given (answers_held p place) h there
-    (subst (λ it. Does y (change (with_fewer p.connection.number place) ▸ serves_held p it) s a b)
-    (sym item) (record { told_is = d.told_is; stand = d.stand })))))
+    (record { told_is = d.told_is; stand = d.stand }))))
 
 -- it is answered
 pub answer-done : (x z : Parties) (held : HeldRequests) (s : State) (i c k place : ℕ)
     (h : HeldRequest) (before es : List Entry) → 1 ≤ place → PartiesStand x s
     → WiredAs s i c (Ok k) → Takes x.held held k place h → before ≡ entry.Done ∷ []
-    → ((u : State) (p : Place) (n : ℕ)
-    → IsDelivered (end.Module i c) k h.asked h.payload u p.connection n
-    → PartsStand (only k side.Far n) (record x { held = held }) u
+    → ((u : State) (p : Place) (item : Item)
+    → IsDelivered (end.Module i c) k h.asked h.payload u p.connection item
+    → PartsStand (only k side.Far item) (record x { held = held }) u
     → place_of (end.Module i c) u.bus.connections ≡ Some p → side.Far ≡ p.side
-    → p.side ≡ side.Far → Does z (serves_held p (Ask n)) u before es)
+    → p.side ≡ side.Far → Does z (serves_held p item) u before es)
     → PartsStep z s (event.Answer i c place) (Ok es)
 answer-done x z held s i c k zero h before es one st wired t begun serve =
     absurd (omega (arith, one))
@@ -170,13 +166,12 @@ answer-done x z held s i c k (suc m) h before es one st wired t begun serve =
     let is = f.stands in
     let u = with_fewer k (suc m) s in
     let stand : PartsStand (held_item f.one ∷ []) y u = fewer-stand held k m h st.parts f in
-    let taken : held_item f.one ≡ taken_from k side.Far (Ask is.number) =
-    ap (λ j. taken_from j side.Far f.one.item) f.on
-    ∙ ap (taken_from k side.Far) is.item_is in
-    let delivered : IsDelivered at k h.asked h.payload u p.connection is.number =
+    let taken : held_item f.one ≡ taken_from k side.Far f.one.item =
+    ap (λ j. taken_from j side.Far f.one.item) f.on in
+    let delivered : IsDelivered at k h.asked h.payload u p.connection f.one.item =
     record {
-      request = is.request;
-      made = is.made;
+      request = incoming is.number is.request;
+      is = ap (λ it. request_in it s.bus) is.item_is ∙ ap (option_map (incoming is.number)) is.made;
       names = is.names;
       payload_is = is.payload_is;
       upon = record {
@@ -185,6 +180,7 @@ answer-done x z held s i c k (suc m) h before es one st wired t begun serve =
             ∙ ap (option_map ends_of) there.found;
       };
       there = ap (λ d. end_of d p.connection) there.side ∙ there.is;
+      numbered = λ far. ap is_numbered is.item_is;
     } in
     let few : nat_lt (length (held_on k s.held)) (suc m) ≡ false =
     not-less (length (held_on k s.held)) (suc m)
@@ -192,11 +188,11 @@ answer-done x z held s i c k (suc m) h before es one st wired t begun serve =
     lands z s (event.Answer i c (suc m)) before es
     (late-refusal s i c (suc m) wired.0
     ∙ ap (λ b. first_met ((b, why.NotHeld) ∷ [])) (fewer-held s i c k (suc m) w ∙ few)) begun
-    (does-answers s i c (suc m) is.number p f.one w.named
-    (ap (λ j. nth (suc m) (held_on j s.held)) w.number ∙ f.there) is.item_is
-    (subst (λ j. Does z (serves_held p (Ask is.number)) (with_fewer j (suc m) s) before es)
+    (does-answers s i c (suc m) p f.one w.named
+    (ap (λ j. nth (suc m) (held_on j s.held)) w.number ∙ f.there)
+    (subst (λ j. Does z (serves_held p f.one.item) (with_fewer j (suc m) s) before es)
     (sym w.number)
-    (serve u p is.number delivered
+    (serve u p f.one.item delivered
     (subst (λ l. PartsStand (l ∷ []) y u) taken stand) w.named there.side (sym there.side))))
   where
     one-less : (n : ℕ) → suc n - 1 ≡ n

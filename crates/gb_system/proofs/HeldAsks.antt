@@ -1,5 +1,7 @@
 -- Lines that hold requests, and requests that are held and served, do what the machine does.
-use Rattle.std.proofs.Common.{◌≡◌, ℕ, Bool, true, false, cond, is_none, Option, Some, None, Ok, Err, option_map, List, [], ◌∷◌, ◌++◌, append-nil, refl, sym, ap, ◌∙◌, subst}
+use Rattle.std.proofs.Common.{◌≡◌, ℕ, Bool, true, false, cond, is_none, Option, Some, None, Ok, Err}
+use Rattle.std.proofs.Common.{option_map, List, [], ◌∷◌, ◌++◌, append-nil, refl, sym, ap, ◌∙◌}
+use Rattle.std.proofs.Common.{subst}
 use Rattle.std.proofs.lemmas.List.{map-append}
 use Rattle.gb_base.specs.declared.end.End.{End}
 use Rattle.gb_base.specs.declared.end.End.TheVariants as end
@@ -17,16 +19,18 @@ use Rattle.gb_bus.specs.Wiring.{number_of}
 use Rattle.gb_bus.specs.declared.answers.Asked.{Asked}
 use Rattle.gb_machine.proofs.Opened.{machine_opened}
 use Rattle.gb_machine.specs.Actions.{change, given, tell}
-use Rattle.gb_machine.specs.Arriving.{asked_at, is_held, keeps, takes, with_held}
-use Rattle.gb_machine.specs.Bus.{Ask, Connection, Place, Request}
+use Rattle.gb_machine.specs.Arriving.{asked_at, dropped, is_held, keeps, takes, with_held}
+use Rattle.gb_machine.specs.Bus.{Connection, Item, Place}
 use Rattle.gb_machine.specs.Events.{does}
 use Rattle.gb_machine.specs.Incoming.{Incoming, incoming, request_in}
 use Rattle.gb_machine.specs.LineActions.{serves_held, with_hold}
-use Rattle.gb_machine.specs.Lists.{Condition, first_met, nth}
+use Rattle.gb_machine.specs.Lists.{Condition, first_met}
 use Rattle.gb_machine.specs.Refusals.{is_unplugged, module_place}
 use Rattle.gb_machine.specs.Responding.{serves}
 use Rattle.gb_machine.specs.State.{State}
-use Rattle.gb_system.proofs.Doings.{does-as, does-by_state, does-change, does-given, does-is, does-tell}
+use Rattle.gb_system.proofs.Doings.{does-as, does-by_state, does-change, does-given, does-is}
+use Rattle.gb_system.proofs.Doings.{does-tell}
+use Rattle.gb_system.proofs.Heard.{made-as, request-dropped}
 use Rattle.gb_system.proofs.HoldMarks.{marked-alike}
 use Rattle.gb_system.proofs.Holdings.{stand-pushed}
 use Rattle.gb_system.proofs.Landing.{lands, lands-refused}
@@ -35,7 +39,8 @@ use Rattle.gb_system.specs.Doing.{Does}
 use Rattle.gb_system.specs.Held.{HoldsAs, MarksAs, held_at}
 use Rattle.gb_system.specs.Holding.{WiredAs}
 use Rattle.gb_system.specs.Serving.{IsDelivered, MayServe, only, side_of}
-use Rattle.gb_system.specs.Stands.{PartiesStand, PartsStand, PartsStep, StandsForHeld, held_item, held_items, names_of}
+use Rattle.gb_system.specs.Stands.{PartiesStand, PartsStand, PartsStep, StandsForHeld, held_item}
+use Rattle.gb_system.specs.Stands.{held_items, names_of}
 use Rattle.gb_system.specs.declared.held.HeldRequest.{HeldRequest}
 use Rattle.gb_system.specs.declared.held.HeldRequests.{HeldRequests}
 use Rattle.gb_system.specs.declared.parties.Parties.{Parties}
@@ -149,46 +154,48 @@ held-far (end.Ap a) c s h = absurd cc
 held-far end.Svc c s h = refl
 held-far (end.Module i p) c s h = refl
 
-asked-by : (at : Side) (c : Connection) (n : ℕ) (q : Incoming) (s : State) (t : Bool)
+asked-by : (at : Side) (c : Connection) (item : Item) (q : Incoming) (s : State) (t : Bool)
     → is_held at c s ≡ t
-    → asked_at at c (Ask n) q s ≡ (cond t (keeps c (Ask n) q) (serves at c q)) s
+    → asked_at at c item q s ≡ (cond t (keeps c item q) (serves at c q)) s
 unfolding machine_opened
-asked-by at c n q s t h = ap (λ b. (cond b (keeps c (Ask n) q) (serves at c q)) s) h
+asked-by at c item q s t h = ap (λ b. (cond b (keeps c item q) (serves at c q)) s) h
 
 -- what is delivered, by other names
 abbrev pub delivered-as : {at : End} {k : ℕ} {asked : Asked} {payload : List ℕ} {s : State}
-    {c : Connection} {n : ℕ} (bytes : List ℕ) → bytes ≡ payload
-    → IsDelivered at k asked payload s c n → IsDelivered at k asked bytes s c n
+    {c : Connection} {item : Item} (bytes : List ℕ) → bytes ≡ payload
+    → IsDelivered at k asked payload s c item → IsDelivered at k asked bytes s c item
 delivered-as bytes same d = record {
   request = d.request;
-  made = d.made;
+  is = d.is;
   names = d.names;
   payload_is = same ∙ d.payload_is;
   upon = d.upon;
   there = d.there;
+  numbered = d.numbered;
 }
 
 -- it is served elsewhere
-pub unheld : {y : Parties} {s : State} {a b : List Entry} (at : Side) (c : Connection) (n : ℕ)
-    (q : Incoming) → false ≡ is_held at c s → Does y (serves at c q) s a b
-    → Does y (asked_at at c (Ask n) q) s a b
-unheld {y} {s} at c n q free d = does-as (sym (asked-by at c n q s false (sym free))) d
+pub unheld : {y : Parties} {s : State} {a b : List Entry} (at : Side) (c : Connection)
+    (item : Item) (q : Incoming) → false ≡ is_held at c s → Does y (serves at c q) s a b
+    → Does y (asked_at at c item q) s a b
+unheld {y} {s} at c item q free d = does-as (sym (asked-by at c item q s false (sym free))) d
 
-keeps-is : (c : Connection) (n : ℕ) (q : Incoming) (s : State) → keeps c (Ask n) q s
-    ≡ record { state = with_held c.number (Ask n) s; entries = entry.Held q.number ∷ [] }
+keeps-is : (c : Connection) (item : Item) (q : Incoming) (s : State) → keeps c item q s
+    ≡ record { state = with_held c.number item s; entries = entry.Held q.number ∷ [] }
 unfolding machine_opened
-keeps-is c n q s = refl
+keeps-is c item q s = refl
 
 -- the parties stand for one more that is held
-pub keep-stand : {x : Parties} {s : State} (held : HeldRequests) (k n : ℕ) (h : HeldRequest)
-    → PartsStand (only k side.Far n) x s → HoldsAs x.held held k (held_at x.held k ++ h ∷ [])
-    → StandsForHeld s.bus.requests h (record { connection = k; item = Ask n })
-    → PartsStand [] (record x { held = held }) (with_held k (Ask n) s)
-keep-stand {x} {s} held k n h st holds one = record {
+pub keep-stand : {x : Parties} {s : State} (held : HeldRequests) (k : ℕ) (item : Item)
+    (h : HeldRequest) → PartsStand (only k side.Far item) x s
+    → HoldsAs x.held held k (held_at x.held k ++ h ∷ [])
+    → StandsForHeld s.bus.requests h (record { connection = k; item = item })
+    → PartsStand [] (record x { held = held }) (with_held k item s)
+keep-stand {x} {s} held k item h st holds one = record {
   bus = subst (λ ls. bus.Stands (bus.around_of ls (names_of s)) x.bus s.bus)
       (sym (map-append held_item s.held _))
-      (stands-between (names_of s) (held_items s) (taken_from k side.Far (Ask n)) [] x.bus s.bus
-      (subst (λ ls. bus.Stands (bus.around_of (taken_from k side.Far (Ask n) ∷ ls) (names_of s))
+      (stands-between (names_of s) (held_items s) (taken_from k side.Far item) [] x.bus s.bus
+      (subst (λ ls. bus.Stands (bus.around_of (taken_from k side.Far item ∷ ls) (names_of s))
       x.bus s.bus) (sym (append-nil (held_items s))) st.bus));
   ports = st.ports;
   modules = st.modules;
@@ -200,78 +207,81 @@ keep-stand {x} {s} held k n h st holds one = record {
   short = st.short;
   time = st.time;
   holds = st.holds;
-  held = stand-pushed s.held k h (record { connection = k; item = Ask n }) st.held holds refl one;
+  held = stand-pushed s.held k h (record { connection = k; item = item }) st.held holds refl one;
 }
 
 pub kept-done : {x : Parties} {s : State} {a b : List Entry} (held : HeldRequests) (at : End)
-    (k : ℕ) (asked : Asked) (payload : List ℕ) (c : Connection) (n : ℕ) (h : HeldRequest)
-    → (d : IsDelivered at k asked payload s c n) → PartsStand (only k (side_of at) n) x s
+    (k : ℕ) (asked : Asked) (payload : List ℕ) (c : Connection) (item : Item) (h : HeldRequest)
+    → (d : IsDelivered at k asked payload s c item) → PartsStand (only k (side_of at) item) x s
     → true ≡ is_held (side_of at) c s
     → h ≡ record { asked = asked; payload = payload }
     → HoldsAs x.held held k (held_at x.held k ++ h ∷ [])
     → b ≡ a ++ entry.Held asked.number ∷ []
-    → Does (record x { held = held }) (asked_at (side_of at) c (Ask n) (incoming n d.request)) s a b
-kept-done {x} {s} {a} {b} held at k asked payload c n h d st marked is holds pushed =
+    → Does (record x { held = held }) (asked_at (side_of at) c item d.request) s a b
+kept-done {x} {s} {a} {b} held at k asked payload c item h d st marked is holds pushed =
     let y = record x { held = held } in
-    let q = incoming n d.request in
-    let number = d.upon.number in
+    let q = d.request in
     let far = held-far at c s (sym marked) in
-    let one : StandsForHeld s.bus.requests h (record { connection = k; item = Ask n }) = record {
-      number = n;
-      request = d.request;
-      item_is = refl;
-      made = d.made;
-      names = subst (λ (r : HeldRequest). Names r.asked n d.request) (sym is) d.names;
-      payload_is = ap (λ (r : HeldRequest). r.payload) is ∙ d.payload_is;
+    let w = made-as d far in
+    let one : StandsForHeld s.bus.requests h (record { connection = k; item = item }) = record {
+      number = w.number;
+      request = w.request;
+      item_is = w.item_is;
+      made = w.made;
+      names = subst (λ (r : HeldRequest). Names r.asked (incoming w.number w.request)) (sym is)
+          (subst (Names asked) (sym w.is) d.names);
+      payload_is = ap (λ (r : HeldRequest). r.payload) is ∙ d.payload_is
+          ∙ ap (λ (p : Incoming). p.payload) (sym w.is);
     } in
-    let stand = keep-stand held k n h
-    (subst (λ t. PartsStand (only k t n) x s) far st) holds one in
-    does-is (with_held c.number (Ask n) s) (entry.Held (Some n) ∷ [])
-    (asked-by (side_of at) c n q s true (sym marked) ∙ keeps-is c n q s)
+    let stand = keep-stand held k item h
+    (subst (λ t. PartsStand (only k t item) x s) far st) holds one in
+    does-is (with_held c.number item s) (entry.Held q.number ∷ [])
+    (asked-by (side_of at) c item q s true (sym marked) ∙ keeps-is c item q s)
     (pushed ∙ ap (λ o. a ++ entry.Held o ∷ []) d.names.number)
-    (subst (λ j. PartsStand [] y (with_held j (Ask n) s)) (sym number) stand)
+    (subst (λ j. PartsStand [] y (with_held j item s)) (sym d.upon.number) stand)
 
 -- ---- one that is held is served or dropped
 
-serves-by : (p : Place) (n : ℕ) (r : Request) (s : State) → takes p.side p.connection s ≡ true
-    → nth n s.bus.requests ≡ Some r
-    → serves_held p (Ask n) s ≡ serves p.side p.connection (incoming n r) s
+serves-by : (p : Place) (item : Item) (q : Incoming) (s : State)
+    → takes p.side p.connection s ≡ true → request_in item s.bus ≡ Some q
+    → serves_held p item s ≡ serves p.side p.connection q s
 unfolding machine_opened
-serves-by p n r s taken made =
-    ap (λ b. (cond b (given (request_in (Ask n) s.bus) (serves p.side p.connection))
-    (tell (entry.Dropped (Some n) false))) s) taken
-    ∙ ap (λ o. given (option_map (incoming n) o) (serves p.side p.connection) s) made
+serves-by p item q s taken is =
+    ap (λ b. (cond b (given (request_in item s.bus) (serves p.side p.connection))
+    (tell (dropped item))) s) taken
+    ∙ ap (λ o. given o (serves p.side p.connection) s) is
 
-drops-by : (p : Place) (n : ℕ) (s : State) → takes p.side p.connection s ≡ false
-    → serves_held p (Ask n) s ≡ tell (entry.Dropped (Some n) false) s
+drops-by : (p : Place) (item : Item) (s : State) → takes p.side p.connection s ≡ false
+    → serves_held p item s ≡ tell (dropped item) s
 unfolding machine_opened
-drops-by p n s untaken =
-    ap (λ b. (cond b (given (request_in (Ask n) s.bus) (serves p.side p.connection))
-    (tell (entry.Dropped (Some n) false))) s) untaken
+drops-by p item s untaken =
+    ap (λ b. (cond b (given (request_in item s.bus) (serves p.side p.connection))
+    (tell (dropped item))) s) untaken
 
 pub held-dropped : {x : Parties} {s : State} {a b : List Entry} (at : End) (k : ℕ) (asked : Asked)
-    (payload : List ℕ) (p : Place) (n : ℕ)
-    → (d : IsDelivered at k asked payload s p.connection n)
-    → PartsStand (only k (side_of at) n) x s → false ≡ takes p.side p.connection s
-    → b ≡ a ++ entry.Dropped asked.number false ∷ [] → Does x (serves_held p (Ask n)) s a b
-held-dropped {x} {s} {a} at k asked payload p n d st untaken pushed =
-    does-as {f = tell (entry.Dropped (Some n) false)} (sym (drops-by p n s (sym untaken)))
-    (does-tell (entry.Dropped (Some n) false)
-    (let-gone (taken_from k (side_of at) (Ask n)) [] st)
-    (pushed ∙ ap (λ o. a ++ entry.Dropped o false ∷ []) d.names.number))
+    (payload : List ℕ) (p : Place) (item : Item)
+    → (d : IsDelivered at k asked payload s p.connection item)
+    → PartsStand (only k (side_of at) item) x s → false ≡ takes p.side p.connection s
+    → b ≡ a ++ entry.Dropped asked.number false ∷ [] → Does x (serves_held p item) s a b
+held-dropped {x} {s} {a} at k asked payload p item d st untaken pushed =
+    does-as {f = tell (dropped item)} (sym (drops-by p item s (sym untaken)))
+    (does-tell (dropped item)
+    (let-gone (taken_from k (side_of at) item) [] st)
+    (pushed ∙ ap (λ o. a ++ entry.Dropped o false ∷ []) d.names.number
+    ∙ ap (λ e. a ++ e ∷ []) (sym (request-dropped s.bus item d.request d.is))))
 
 pub held-served : {x y : Parties} {s : State} {a b : List Entry} (at : End) (k : ℕ) (asked : Asked)
-    (payload bytes : List ℕ) (p : Place) (n : ℕ)
-    → (d : IsDelivered at k asked payload s p.connection n)
-    → PartsStand (only k (side_of at) n) x s → side_of at ≡ p.side → p.side ≡ side.Far
+    (payload bytes : List ℕ) (p : Place) (item : Item)
+    → (d : IsDelivered at k asked payload s p.connection item)
+    → PartsStand (only k (side_of at) item) x s → side_of at ≡ p.side → p.side ≡ side.Far
     → true ≡ takes p.side p.connection s → bytes ≡ payload
-    → ((e : IsDelivered at k asked bytes s p.connection n)
-    → MayServe (side_of at) p.connection (incoming n e.request) s
-    → Does y (serves (side_of at) p.connection (incoming n e.request)) s a b)
-    → Does y (serves_held p (Ask n)) s a b
-held-served {x} {y} {s} {a} {b} at k asked payload bytes p n d st there far taken same serve =
-    let q = incoming n d.request in
+    → ((e : IsDelivered at k asked bytes s p.connection item)
+    → MayServe (side_of at) p.connection e.request s
+    → Does y (serves (side_of at) p.connection e.request) s a b)
+    → Does y (serves_held p item) s a b
+held-served {x} {y} {s} {a} {b} at k asked payload bytes p item d st there far taken same serve =
+    let q = d.request in
     does-as (ap (λ t. serves t p.connection q s) there
-    ∙ sym (serves-by p n d.request s (sym taken) d.made))
+    ∙ sym (serves-by p item q s (sym taken) d.is))
     (serve (delivered-as bytes same d)
     (subst (λ t. MayServe t p.connection q s) (sym (there ∙ far)) tt))

@@ -1,5 +1,7 @@
 -- Requests are held, taken and lost, connection by connection.
-use Rattle.std.proofs.Common.{◌≡◌, ◌≢◌, ◌<◌, ℕ, zero, suc, ◌-◌, ◌==◌, Bool, true, false, cond, not, ◌⊎◌, inl, inr, Some, List, [], ◌∷◌, ◌++◌, length, append-nil, refl, sym, ap, ◌∙◌, subst, arith}
+use Rattle.std.proofs.Common.{◌≡◌, ◌≢◌, ◌<◌, ℕ, zero, suc, ◌-◌, ◌==◌, Bool, true, false, cond, not}
+use Rattle.std.proofs.Common.{◌⊎◌, inl, inr, Some, List, [], ◌∷◌, ◌++◌, length, append-nil, refl}
+use Rattle.std.proofs.Common.{sym, ap, ◌∙◌, subst, arith}
 use Rattle.std.proofs.lemmas.Bool.{cases_eq}
 use Rattle.std.proofs.lemmas.Bool.Decides.{nat_tests}
 use Rattle.std.proofs.lemmas.List.Elements.{filter-append}

@@ -1,40 +1,45 @@
 -- Modules are plugged as the machine does.
-use Rattle.std.proofs.Common.{◌≡◌, ℕ, Bool, true, false, Option, Some, None, is_some, option_copied, Bor, Ok, List, [], ◌∷◌, refl, sym, ap, ◌∙◌, arith}
+use Rattle.std.proofs.Common.{◌≡◌, ◌≤◌, ℕ, nat_lt, Bool, true, false, Option, Some, None, is_some}
+use Rattle.std.proofs.Common.{option_copied, Bor, Ok, List, [], ◌∷◌, length, refl, sym, ap, ◌∙◌}
+use Rattle.std.proofs.Common.{subst, arith}
+use Rattle.std.proofs.lemmas.Bool.Decides.{nat_tests}
 use Rattle.gb_base.specs.declared.end.Side.TheVariants as side
 use Rattle.gb_base.specs.declared.entry.Entry.{Entry}
 use Rattle.gb_base.specs.declared.entry.Entry.TheVariants as entry
+use Rattle.gb_base.specs.declared.event.Event.{Event}
 use Rattle.gb_base.specs.declared.event.Event.TheVariants as event
 use Rattle.gb_base.specs.declared.event.Kind.{Kind}
 use Rattle.gb_base.specs.declared.refusal.Refusal.TheVariants as why
-use Rattle.gb_base.specs.declared.refusal.Refusal.{Refusal}
-use Rattle.gb_formats.specs.Module.{Module, module_of_kind}
+use Rattle.gb_formats.specs.Module.{Module, module_of_kind, module_raw}
+use Rattle.gb_formats.specs.Results.{most_payload}
 use Rattle.gb_invariants.proofs.Awaiting.{not-both}
 use Rattle.gb_invariants.proofs.Lists.{each-from, each-in}
-use Rattle.gb_laws.proofs.Manifests.{kind-short, short-plugged}
+use Rattle.gb_laws.proofs.Manifests.{kind-short, raw-short, short-plugged}
 use Rattle.gb_laws.proofs.Reached.{reached-has}
 use Rattle.gb_laws.proofs.Runs.{weaker}
 use Rattle.gb_laws.proofs.WiredRuns.{WiredTo, wired-throughout}
 use Rattle.gb_laws.proofs.WiredWell.{WiredFit}
+use Rattle.gb_machine.proofs.Conditions.{unmet}
 use Rattle.gb_machine.proofs.Opened.{machine_opened}
 use Rattle.gb_machine.specs.Actions.{change, when, ◌▸◌}
 use Rattle.gb_machine.specs.Events.{does}
-use Rattle.gb_machine.specs.Labels.{no_label}
-use Rattle.gb_machine.specs.Lists.{first_met}
+use Rattle.gb_machine.specs.Lists.{Condition, first_met}
 use Rattle.gb_machine.specs.Modules.{is_plugged, module_at, plugged}
 use Rattle.gb_machine.specs.OwnAsking.{far_asks}
-use Rattle.gb_machine.specs.Plugging.{tells_inserted, with_plugged}
+use Rattle.gb_machine.specs.Plugging.{plugs, tells_inserted, with_plugged}
 use Rattle.gb_machine.specs.Ports.{is_powered, powered}
 use Rattle.gb_machine.specs.Reached.{OfARun}
-use Rattle.gb_machine.specs.Refusals.{has_no_label, refusal}
+use Rattle.gb_machine.specs.Refusals.{has_no_label, insert_conditions, longest_manifest, refusal}
 use Rattle.gb_machine.specs.State.{Plugged, State}
 use Rattle.gb_switch.specs.Stands as switch
 use Rattle.gb_switch.specs.declared.ladder.Ladder.{Ladder}
-use Rattle.gb_system.proofs.Doings.{does-by_state, does-change, does-then, does-unless, does-when}
-use Rattle.gb_system.proofs.Landing.{lands, lands-refused}
+use Rattle.gb_system.proofs.Doings.{does-as, does-by_state, does-change, does-then, does-unless}
+use Rattle.gb_system.proofs.Doings.{does-when}
+use Rattle.gb_system.proofs.Landing.{lands}
 use Rattle.gb_system.specs.Acting.{IsAskable}
 use Rattle.gb_system.specs.Doing.{Does}
 use Rattle.gb_system.specs.Drafts.{own_ask}
-use Rattle.gb_system.specs.Stands.{IsShort, PartiesStand, PartsStand, PartsStep}
+use Rattle.gb_system.specs.Stands.{IsShort, PartsStand, PartsStep}
 use Rattle.gb_system.specs.declared.parties.Parties.{Parties}
 
 -- ---- what runs know
@@ -78,102 +83,110 @@ does-tells_inserted i d = record { told_is = d.told_is; stand = d.stand }
 
 -- ---- inserts
 
--- why an insert is refused
-abbrev insert_refusal : Bool → Bool → Option Refusal
-insert_refusal occupied spent =
-    first_met ((occupied, why.Occupied) ∷ (spent, no_label) ∷ [])
-
-refusal-is : (s : State) (i : ℕ) (kind : Kind)
-    → refusal s (event.Insert i kind)
-    ≡ insert_refusal (is_plugged i s.modules) (has_no_label 1 side.Far s)
-refusal-is s i kind = refl
+-- the conditions that refuse an insert, as they are tried
+abbrev insert_conditions_by : Bool → Bool → Bool → List Condition
+insert_conditions_by occupied large spent =
+    (occupied, why.Occupied) ∷ (large, why.TooLarge) ∷ (spent, why.NoLabel) ∷ []
 
 -- a module is there
-pub insert-occupied : (x : Parties) (s : State) (i : ℕ) (kind : Kind) (es : List Entry)
-    → PartiesStand x s → is_plugged i s.modules ≡ true → es ≡ entry.Refused why.Occupied ∷ []
-    → PartsStep x s (event.Insert i kind) (Ok es)
-insert-occupied x s i kind es st there is =
-    lands-refused x s (event.Insert i kind) why.Occupied es
-    (refusal-is s i kind ∙ ap (λ b. insert_refusal b (has_no_label 1 side.Far s)) there) is
-    st.parts
+pub insert-occupied : (s : State) (i : ℕ) (manifest : List ℕ) → is_plugged i s.modules ≡ true
+    → Some why.Occupied ≡ first_met (insert_conditions s i manifest)
+insert-occupied s i manifest there =
+    sym (ap (λ b. first_met (insert_conditions_by b
+    (nat_lt longest_manifest (length manifest)) (has_no_label 1 side.Far s))) there)
 
--- no identifier is left
-pub insert-spent : (x : Parties) (s : State) (i : ℕ) (kind : Kind) (es : List Entry)
-    → PartiesStand x s → is_plugged i s.modules ≡ false → has_no_label 1 side.Far s ≡ true
-    → es ≡ entry.Refused why.NoLabel ∷ []
-    → PartsStep x s (event.Insert i kind) (Ok es)
-insert-spent x s i kind es st there spent is =
-    lands-refused x s (event.Insert i kind) why.NoLabel es
-    (refusal-is s i kind ∙ ap (λ b. insert_refusal b (has_no_label 1 side.Far s)) there
-    ∙ ap (insert_refusal false) spent) is st.parts
+-- an identifier is left or not
+pub insert-fits : (s : State) (i size : ℕ) (manifest : List ℕ) → is_plugged i s.modules ≡ false
+    → length manifest ≡ size → size ≤ longest_manifest
+    → first_met (insert_conditions s i manifest)
+    ≡ first_met ((has_no_label 1 side.Far s, why.NoLabel) ∷ [])
+insert-fits s i size manifest there same fits =
+    ap (λ b. first_met (insert_conditions_by b
+    (nat_lt longest_manifest (length manifest)) (has_no_label 1 side.Far s))) there
+    ∙ ap (λ b. first_met (insert_conditions_by false b (has_no_label 1 side.Far s)))
+    (not-less longest_manifest (length manifest) (omega (arith, same, fits)))
+  where
+    not-less : (a b : ℕ) → b ≤ a → nat_lt a b ≡ false
+    not-less a b most = grind (arith, nat_tests, most)
 
--- the state with the module
-abbrev with_kind : ℕ → Kind → State → State
-with_kind i kind s = with_plugged i (module_of_kind kind) s
-
--- the parties stand for it
-pub plugged-stand : (x : Parties) (s : State) (i : ℕ) (kind : Kind) (modules : List Plugged)
-    (m : Module) (l : Ladder) → PartsStand [] x s → modules ≡ plugged i m x.modules
-    → m ≡ module_of_kind kind → switch.Stands l (powered i s.ports)
-    → PartsStand [] (record x { modules = modules; ladder = l }) (with_kind i kind s)
-plugged-stand x s i kind modules m l st is kind_is ports = record {
+-- the parties stand for the state with the module
+pub plugged-stand : (x : Parties) (s : State) (i : ℕ) (modules : List Plugged) (m : Module)
+    (l : Ladder) → PartsStand [] x s → modules ≡ plugged i m x.modules
+    → length m.manifest ≤ most_payload → switch.Stands l (powered i s.ports)
+    → PartsStand [] (record x { modules = modules; ladder = l }) (with_plugged i m s)
+plugged-stand x s i modules m l st is short ports = record {
   bus = st.bus;
   ports = ports;
-  modules = ap (plugged i (module_of_kind kind)) st.modules
-      ∙ ap (λ w. plugged i w x.modules) (sym kind_is) ∙ sym is;
+  modules = ap (plugged i m) st.modules ∙ sym is;
   host = st.host;
   names = st.names;
   apart = st.apart;
   booted = st.booted;
   sound = st.sound;
-  short = each-from IsShort (plugged i (module_of_kind kind) s.modules)
-      (short-plugged i (module_of_kind kind) s.modules
-      (λ p k. each-in IsShort s.modules p st.short k) (kind-short kind));
+  short = each-from IsShort (plugged i m s.modules)
+      (short-plugged i m s.modules (λ p k. each-in IsShort s.modules p st.short k) short);
   time = st.time;
   holds = st.holds;
   held = st.held;
 }
 
--- what an insert does, where the supervisory controller has started
-does-told : (x y : Parties) (s : State) (i : ℕ) (kind : Kind) {a b : List Entry}
-    → s.booted ≡ true → PartsStand [] x (with_kind i kind s)
-    → Does y (tells_inserted i) (with_kind i kind s) a b
-    → Does y (does (event.Insert i kind)) s a b
+-- it is plugged, where the supervisory controller has started
+pub plugs-told : {x y : Parties} {s : State} {a b : List Entry} (i : ℕ) (m : Module)
+    → PartsStand [] x (with_plugged i m s) → x.booted ≡ true
+    → ((t : State) → PartsStand [] x t → Does y (tells_inserted i) t a b)
+    → Does y (plugs i m) s a b
 unfolding machine_opened
-does-told x y s i kind booted st d =
-    does-by_state (λ t. change (with_kind i kind) ▸ when t.booted (tells_inserted i))
-    (does-then (does-change (with_kind i kind) st) (does-when (tells_inserted i) booted d))
+plugs-told {s = s} i m st booted d =
+    does-by_state (λ t. change (with_plugged i m) ▸ when t.booted (tells_inserted i))
+    (does-then (does-change (with_plugged i m) st)
+    (does-when (tells_inserted i) (st.booted ∙ booted) (d (with_plugged i m s) st)))
 
 -- and where it hasn't
-does-untold : (x : Parties) (s : State) (i : ℕ) (kind : Kind) {a : List Entry}
-    → s.booted ≡ false → PartsStand [] x (with_kind i kind s)
-    → Does x (does (event.Insert i kind)) s a a
+pub plugs-untold : {x : Parties} {s : State} {a : List Entry} (i : ℕ) (m : Module)
+    → PartsStand [] x (with_plugged i m s) → x.booted ≡ false → Does x (plugs i m) s a a
 unfolding machine_opened
-does-untold x s i kind booted st =
-    does-by_state (λ t. change (with_kind i kind) ▸ when t.booted (tells_inserted i))
-    (does-then (does-change (with_kind i kind) st) (does-unless (tells_inserted i) booted st))
+plugs-untold i m st booted =
+    does-by_state (λ t. change (with_plugged i m) ▸ when t.booted (tells_inserted i))
+    (does-then (does-change (with_plugged i m) st)
+    (does-unless (tells_inserted i) (st.booted ∙ booted) st))
 
--- it isn't refused
-insert-allowed : (s : State) (i : ℕ) (kind : Kind) → is_plugged i s.modules ≡ false
-    → has_no_label 1 side.Far s ≡ false → refusal s (event.Insert i kind) ≡ None
-insert-allowed s i kind there spent =
-    refusal-is s i kind ∙ ap (λ b. insert_refusal b (has_no_label 1 side.Far s)) there
-    ∙ ap (insert_refusal false) spent
+-- An insert that isn't refused is done: by its event a module is plugged.
+inserted : (y : Parties) (s : State) (i : ℕ) (manifest : List ℕ) (m : Module) (e : Event)
+    (before es : List Entry) → OfARun s → does e s ≡ plugs i m s
+    → refusal s e ≡ first_met (insert_conditions s i manifest)
+    → None ≡ first_met (insert_conditions s i manifest) → length m.manifest ≤ most_payload
+    → before ≡ entry.Done ∷ []
+    → (is_powered i s.ports ≡ false → length m.manifest ≤ most_payload
+    → Does y (plugs i m) s before es)
+    → PartsStep y s e (Ok es)
+inserted y s i manifest m e before es run same by allowed short begun d =
+    lands y s e before es (by ∙ sym allowed) begun
+    (does-as (sym same) (d (unpowered-there s i run
+    (unmet (insert_conditions s i manifest) (sym allowed)).0) short))
 
--- an insert is done
-pub insert-told : (x y : Parties) (s : State) (i : ℕ) (kind : Kind) (before es : List Entry)
-    → is_plugged i s.modules ≡ false → has_no_label 1 side.Far s ≡ false
-    → PartsStand [] x (with_kind i kind s) → x.booted ≡ true → before ≡ entry.Done ∷ []
-    → ((t : State) → PartsStand [] x t → Does y (tells_inserted i) t before es)
+-- by its kind
+pub inserted-kind : (y : Parties) (s : State) (i : ℕ) (kind : Kind) (m : Module)
+    (before es : List Entry) → OfARun s → m ≡ module_of_kind kind
+    → None ≡ first_met (insert_conditions s i []) → before ≡ entry.Done ∷ []
+    → (is_powered i s.ports ≡ false → length m.manifest ≤ most_payload
+    → Does y (plugs i m) s before es)
     → PartsStep y s (event.Insert i kind) (Ok es)
-insert-told x y s i kind before es there spent st booted begun d =
-    lands y s (event.Insert i kind) before es (insert-allowed s i kind there spent) begun
-    (does-told x y s i kind (st.booted ∙ booted) st (d (with_kind i kind s) st))
+unfolding machine_opened
+inserted-kind y s i kind m before es run is allowed begun d =
+    inserted y s i [] m (event.Insert i kind) before es run
+    (ap (λ w. plugs i w s) (sym is)) refl allowed
+    (subst (λ (w : Module). length w.manifest ≤ most_payload) (sym is) (kind-short kind)) begun d
 
-pub insert-untold : (x : Parties) (s : State) (i : ℕ) (kind : Kind) (es : List Entry)
-    → is_plugged i s.modules ≡ false → has_no_label 1 side.Far s ≡ false
-    → PartsStand [] x (with_kind i kind s) → x.booted ≡ false → es ≡ entry.Done ∷ []
-    → PartsStep x s (event.Insert i kind) (Ok es)
-insert-untold x s i kind es there spent st booted begun =
-    lands x s (event.Insert i kind) es es (insert-allowed s i kind there spent) begun
-    (does-untold x s i kind (st.booted ∙ booted) st)
+-- by its manifest
+pub inserted-raw : (y : Parties) (s : State) (i : ℕ) (manifest : List ℕ) (m : Module)
+    (before es : List Entry) → OfARun s → m ≡ module_raw manifest
+    → None ≡ first_met (insert_conditions s i manifest) → before ≡ entry.Done ∷ []
+    → (is_powered i s.ports ≡ false → length m.manifest ≤ most_payload
+    → Does y (plugs i m) s before es)
+    → PartsStep y s (event.InsertRaw i manifest) (Ok es)
+unfolding machine_opened
+inserted-raw y s i manifest m before es run is allowed begun d =
+    inserted y s i manifest m (event.InsertRaw i manifest) before es run
+    (ap (λ w. plugs i w s) (sym is)) refl allowed
+    (subst (λ (w : Module). length w.manifest ≤ most_payload) (sym is)
+    (raw-short s i manifest (sym allowed))) begun d

@@ -13,10 +13,12 @@ pub mod Decisions
 pub mod Doings
 pub mod Endings
 pub mod Fits
+pub mod Heard
 pub mod HeldAnswers
 pub mod HeldAsks
 pub mod HoldMarks
 pub mod Holdings
+pub mod Injections
 pub mod Inserts
 pub mod Landing
 pub mod Midways
@@ -27,6 +29,7 @@ pub mod NamedRequests
 pub mod Notices
 pub mod Plugged
 pub mod Pulls
+pub mod RawArrivals
 pub mod Replies
 pub mod RequestOutcomes
 pub mod Sends

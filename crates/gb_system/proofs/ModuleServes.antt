@@ -1,5 +1,6 @@
 -- A request is served at a module as the machine does.
-use Rattle.std.proofs.Common.{◌≡◌, ◌≤◌, ℕ, Bool, true, false, cond, Option, Some, None, List, [], ◌∷◌, length, option_map, refl, sym, ap, ◌∙◌, subst, arith}
+use Rattle.std.proofs.Common.{◌≡◌, ◌≤◌, ℕ, Bool, true, false, cond, Option, Some, None, List, []}
+use Rattle.std.proofs.Common.{◌∷◌, length, option_map, refl, sym, ap, ◌∙◌, subst, arith}
 use Rattle.std.specs.Prelude.{find, Ok}
 use Rattle.gb_base.specs.declared.end.End.TheVariants as end
 use Rattle.gb_base.specs.declared.end.Side.TheVariants as side
@@ -14,16 +15,18 @@ use Rattle.gb_formats.specs.Results.{Step, most_payload, nonexistent}
 use Rattle.gb_invariants.specs.Facts.{Loose}
 use Rattle.gb_machine.proofs.Opened.{machine_opened}
 use Rattle.gb_machine.specs.Actions.{◌▸◌}
-use Rattle.gb_machine.specs.Bus.{Connection, Request}
-use Rattle.gb_machine.specs.Incoming.{incoming}
+use Rattle.gb_machine.specs.Bus.{Connection, Item}
+use Rattle.gb_machine.specs.Incoming.{Incoming}
 use Rattle.gb_machine.specs.Members.{Each}
 use Rattle.gb_machine.specs.Modules.{is_plugged_at, module_at, with_module}
 use Rattle.gb_machine.specs.OwnAsking.{far_asks_all}
-use Rattle.gb_machine.specs.Responding.{far_response, module_response, module_stepped, replies, responds, responds_plainly, serves}
+use Rattle.gb_machine.specs.Responding.{far_response, module_response, module_stepped, replies}
+use Rattle.gb_machine.specs.Responding.{responds, responds_plainly, serves}
 use Rattle.gb_machine.specs.Serving.{answer, plainly}
 use Rattle.gb_machine.specs.State.{Plugged, State}
 use Rattle.gb_system.proofs.Doings.{does-as, does-then}
 use Rattle.gb_system.proofs.Fits.{module_fits}
+use Rattle.gb_system.proofs.Replies.{responds-twoway}
 use Rattle.gb_system.specs.Acting.{AreAskable}
 use Rattle.gb_system.specs.Doing.{Does}
 use Rattle.gb_system.specs.Drafts.{IsUpon}
@@ -84,33 +87,29 @@ stands-with ms mods same short h = record {
   held = h.held;
 }
 
-serves-one : (s : State) (c : Connection) (i cport n : ℕ) (r : Request) (m : Module)
-    → c.peer ≡ end.Module i cport → r.oneway ≡ false → module_at i s.modules ≡ Some m
-    → (replies side.Far c (incoming n r)
-    (answer (module_serve m cport r.kind r.payload).served.result
-    (module_serve m cport r.kind r.payload).served.payload)
-    ▸ far_asks_all c.number (module_serve m cport r.kind r.payload).served.asks)
-    (with_modules (with_module i (module_serve m cport r.kind r.payload).after s.modules) s)
-    ≡ serves side.Far c (incoming n r) s
+serves-one : (s : State) (c : Connection) (i cport : ℕ) (q : Incoming) (m : Module)
+    → c.peer ≡ end.Module i cport → q.oneway ≡ false → module_at i s.modules ≡ Some m
+    → (replies side.Far c q
+    (answer (module_serve m cport q.kind q.payload).served.result
+    (module_serve m cport q.kind q.payload).served.payload)
+    ▸ far_asks_all c.number (module_serve m cport q.kind q.payload).served.asks)
+    (with_modules (with_module i (module_serve m cport q.kind q.payload).after s.modules) s)
+    ≡ serves side.Far c q s
 unfolding machine_opened
-serves-one s c i cport n r m peer twoway there =
-    let q = incoming n r in
-    let stepped = module_stepped c.number i (module_serve m cport r.kind r.payload) in
+serves-one s c i cport q m peer twoway there =
+    let stepped = module_stepped c.number i (module_serve m cport q.kind q.payload) in
     sym (ap (λ p. responds side.Far c q (far_response p c.number q s) s) peer
     ∙ ap (λ o. responds side.Far c q (module_response c.number i cport q o) s) there
-    ∙ ap (λ b. responds side.Far c (record q { oneway = b }) stepped s) twoway)
+    ∙ responds-twoway side.Far c q stepped s twoway)
 
-serves-none : (s : State) (c : Connection) (i cport n : ℕ) (r : Request)
-    → c.peer ≡ end.Module i cport → r.oneway ≡ false → module_at i s.modules ≡ None
-    → replies side.Far c (incoming n r) (plainly nonexistent) s
-    ≡ serves side.Far c (incoming n r) s
+serves-none : (s : State) (c : Connection) (i cport : ℕ) (q : Incoming)
+    → c.peer ≡ end.Module i cport → q.oneway ≡ false → module_at i s.modules ≡ None
+    → replies side.Far c q (plainly nonexistent) s ≡ serves side.Far c q s
 unfolding machine_opened
-serves-none s c i cport n r peer twoway there =
-    let q = incoming n r in
+serves-none s c i cport q peer twoway there =
     sym (ap (λ p. responds side.Far c q (far_response p c.number q s) s) peer
     ∙ ap (λ o. responds side.Far c q (module_response c.number i cport q o) s) there
-    ∙ ap (λ b. responds side.Far c (record q { oneway = b }) (responds_plainly nonexistent) s)
-    twoway)
+    ∙ responds-twoway side.Far c q (responds_plainly nonexistent) s twoway)
 
 -- ---- as the parties do it
 
@@ -118,10 +117,10 @@ serves-none s c i cport n r peer twoway there =
 abbrev pub AnswersThere : ℕ → Asked → ℕ → List ℕ → Parties → Parties → List Entry → List Entry
     → Type 0
 AnswersThere k asked code payload x y before told =
-    (s : State) (c : Connection) (n : ℕ)
-    → PartsStand (only k side.Far n) x s → IsUpon k s.bus c
-    → (may : MayReply asked s.bus n) → length payload ≤ most_payload
-    → Does y (replies side.Far c (incoming n may.request) (answer code payload)) s before told
+    (s : State) (c : Connection) (item : Item)
+    → PartsStand (only k side.Far item) x s → IsUpon k s.bus c
+    → (may : MayReply asked s.bus item) → length payload ≤ most_payload
+    → Does y (replies side.Far c may.request (answer code payload)) s before told
 
 -- the clause of requests of its own
 abbrev pub AsksThere : ℕ → List OwnAsk → Parties → Parties → List Entry → List Entry → Type 0
@@ -133,11 +132,11 @@ AsksThere k asks x y before told =
 abbrev pub ServesAtModule : ℕ → ℕ → ℕ → Asked → List ℕ → Parties → Parties → List Entry
     → List Entry → Type 0
 ServesAtModule k i cport asked payload x y before told =
-    (s : State) (c : Connection) (n : ℕ)
-    → PartsStand (only k side.Far n) x s → IsUpon k s.bus c
-    → c.peer ≡ end.Module i cport → (may : MayReply asked s.bus n)
+    (s : State) (c : Connection) (item : Item)
+    → PartsStand (only k side.Far item) x s → IsUpon k s.bus c
+    → c.peer ≡ end.Module i cport → (may : MayReply asked s.bus item)
     → payload ≡ may.request.payload
-    → Does y (serves side.Far c (incoming n may.request)) s before told
+    → Does y (serves side.Far c may.request) s before told
 
 -- where a module is plugged
 pub serves-some : (k i cport : ℕ) (asked : Asked) (payload : List ℕ) (x y z : Parties)
@@ -147,27 +146,27 @@ pub serves-some : (k i cport : ℕ) (asked : Asked) (payload : List ℕ) (x y z 
     → AnswersThere k asked served.result served.payload (record x { modules = mods }) y a b
     → AsksThere k served.asks y z b d
     → ServesAtModule k i cport asked payload x z a d
-serves-some k i cport asked payload x y z mods served a b d steps answers asks s c n stand live
+serves-some k i cport asked payload x y z mods served a b d steps answers asks s c item stand live
     peer may is = by (module_at i x.modules) refl steps
   where
-    r : Request
-    r = may.request
+    q : Incoming
+    q = may.request
 
     number : c.number ≡ k
     number = live.number
 
     by : (o : Option Module) → module_at i x.modules ≡ o
         → ServesThere i cport asked.kind payload o x.modules mods (Ok (Some served))
-        → Does z (serves side.Far c (incoming n r)) s a d
+        → Does z (serves side.Far c q) s a d
     by None there t = absurd (let e : Some served ≡ None = t.0 in cc)
     by (Some m) there t =
-        let step : Step Module = module_serve m cport r.kind r.payload in
+        let step : Step Module = module_serve m cport q.kind q.payload in
         let same : module_serve m cport asked.kind payload ≡ step =
         ap (λ kind. module_serve m cport kind payload) may.names.kind
-        ∙ ap (module_serve m cport r.kind) is in
+        ∙ ap (module_serve m cport q.kind) is in
         let found : module_at i s.modules ≡ Some m =
         ap (module_at i) stand.modules ∙ there in
-        let fits = module_fits m cport r.kind r.payload
+        let fits = module_fits m cport q.kind q.payload
         (short-at i s.modules m stand.short found) in
         let served_is : served ≡ step.served =
         (let e : Some served ≡ Some (module_serve m cport asked.kind payload).served = t.0 in
@@ -187,15 +186,15 @@ serves-some k i cport asked payload x y z mods served a b d steps answers asks s
         fits.served.payload in
         let askable = subst (λ (v : Served). AreAskable v.asks) (sym served_is)
         fits.served.asks in
-        let first = answers t1 c n stand1 live may fit in
+        let first = answers t1 c item stand1 live may fit in
         let second = asks _ first.stand askable in
         does-as
-        (ap (λ (v : Served). (replies side.Far c (incoming n r) (answer v.result v.payload)
+        (ap (λ (v : Served). (replies side.Far c q (answer v.result v.payload)
         ▸ far_asks_all k v.asks) t1) served_is
-        ∙ ap (λ j. (replies side.Far c (incoming n r)
+        ∙ ap (λ j. (replies side.Far c q
         (answer step.served.result step.served.payload)
         ▸ far_asks_all j step.served.asks) t1) (sym number)
-        ∙ serves-one s c i cport n r m peer may.twoway found)
+        ∙ serves-one s c i cport q m peer may.twoway found)
         (does-then first second)
 
 -- where none is plugged
@@ -204,19 +203,19 @@ pub serves-nowhere : (k i cport : ℕ) (asked : Asked) (payload : List ℕ) (x z
     → ServesThere i cport asked.kind payload (module_at i x.modules) x.modules mods (Ok None)
     → AnswersThere k asked nonexistent [] (record x { modules = mods }) z a d
     → ServesAtModule k i cport asked payload x z a d
-serves-nowhere k i cport asked payload x z mods a d steps answers s c n stand live peer may is =
+serves-nowhere k i cport asked payload x z mods a d steps answers s c item stand live peer may is =
     by (module_at i x.modules) refl steps
   where
-    r : Request
-    r = may.request
+    q : Incoming
+    q = may.request
 
     by : (o : Option Module) → module_at i x.modules ≡ o
         → ServesThere i cport asked.kind payload o x.modules mods (Ok None)
-        → Does z (serves side.Far c (incoming n r)) s a d
+        → Does z (serves side.Far c q) s a d
     by (Some m) there t =
         absurd (let e : None ≡ Some (module_serve m cport asked.kind payload).served = t.0 in cc)
     by None there t =
         let found : module_at i s.modules ≡ None = ap (module_at i) stand.modules ∙ there in
         let stand1 = stands-with s.modules mods (stand.modules ∙ sym t.1) stand.short stand in
-        does-as (serves-none s c i cport n r peer may.twoway found)
-        (answers s c n stand1 live may (omega arith))
+        does-as (serves-none s c i cport q peer may.twoway found)
+        (answers s c item stand1 live may (omega arith))

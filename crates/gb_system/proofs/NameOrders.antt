@@ -1,5 +1,6 @@
 -- The order of names, and what an ordered map of names has.
-use Rattle.std.proofs.Common.{◌≡◌, ℕ, Bool, true, false, cond, not, ◌&&◌, ◌||◌, ltb, eqb, Some, None, List, [], ◌∷◌, Equal, Greater, Less, refl, sym, ap, ◌∙◌}
+use Rattle.std.proofs.Common.{◌≡◌, ℕ, Bool, true, false, cond, not, ◌&&◌, ◌||◌, ltb, eqb, Some}
+use Rattle.std.proofs.Common.{None, List, [], ◌∷◌, Equal, Greater, Less, refl, sym, ap, ◌∙◌}
 use Rattle.std.proofs.lemmas.Map.Keys.{sorted_head, sorted_tail}
 use Rattle.std.specs.BTreeMap.{insert_entry, is_at}
 use Rattle.std.specs.Cmp.{Equal-is}

@@ -1,5 +1,7 @@
 -- The request of a name is cancelled, and names are copied and freed, as the machine does.
-use Rattle.std.proofs.Common.{◌≡◌, ℕ, Bool, true, false, cond, not, Option, Some, None, is_some, is_none, ◌&&◌, Ok, List, [], ◌∷◌, ◌++◌, map, length, ◌<◌, refl, sym, ap, ◌∙◌, subst}
+use Rattle.std.proofs.Common.{◌≡◌, ℕ, Bool, true, false, cond, not, Option, Some, None, is_some}
+use Rattle.std.proofs.Common.{is_none, ◌&&◌, Ok, List, [], ◌∷◌, ◌++◌, map, length, ◌<◌, refl, sym}
+use Rattle.std.proofs.Common.{ap, ◌∙◌, subst}
 use Rattle.gb_base.specs.declared.bridge.Reading.TheVariants as reading
 use Rattle.gb_base.specs.declared.entry.Entry.{Entry}
 use Rattle.gb_base.specs.declared.entry.Entry.TheVariants as entry
@@ -30,7 +32,8 @@ use Rattle.gb_machine.specs.Names.{bound, freed, named, same_name}
 use Rattle.gb_machine.specs.Requests.{gave_up}
 use Rattle.gb_machine.specs.State.{State}
 use Rattle.gb_machine.specs.Turns.{HostEvent}
-use Rattle.gb_system.proofs.BoundNames.{apart-bound, apart-freed, named-sorted, sorted-bound, sorted-freed}
+use Rattle.gb_system.proofs.BoundNames.{apart-bound, apart-freed, named-sorted, sorted-bound}
+use Rattle.gb_system.proofs.BoundNames.{sorted-freed}
 use Rattle.gb_system.proofs.Doings.{does-by_state, does-change, does-given}
 use Rattle.gb_system.proofs.Landing.{lands, lands-refused}
 use Rattle.gb_system.proofs.NameCounts.{count-bound, count-freed, length-sorted, made-bound}
@@ -41,7 +44,8 @@ use Rattle.gb_system.specs.Acting.{MayTurn}
 use Rattle.gb_system.specs.Doing.{Does}
 use Rattle.gb_system.specs.NameOrder.{AreApart}
 use Rattle.gb_system.specs.Showing.{pair_before}
-use Rattle.gb_system.specs.Stands.{PartiesStand, PartsStand, PartsStep, around_bus, held_items, names_of}
+use Rattle.gb_system.specs.Stands.{PartiesStand, PartsStand, PartsStep, around_bus, held_items}
+use Rattle.gb_system.specs.Stands.{names_of}
 use Rattle.gb_system.specs.Ticking.{given_up}
 use Rattle.gb_system.specs.declared.parties.Parties.{Parties}
 

@@ -1,5 +1,6 @@
 -- Modules that are plugged, by their places.
-use Rattle.std.proofs.Common.{◌≡◌, ℕ, Bool, true, false, cond, Option, Some, None, List, [], ◌∷◌, option_map, suc, get_or, set, refl, sym, ap, ◌∙◌, subst}
+use Rattle.std.proofs.Common.{◌≡◌, ℕ, Bool, true, false, cond, Option, Some, None, List, [], ◌∷◌}
+use Rattle.std.proofs.Common.{option_map, suc, get_or, set, refl, sym, ap, ◌∙◌, subst}
 use Rattle.std.specs.Prelude.{nat_lt, Ok}
 use Rattle.std.specs.List.{insert, position_from}
 use Rattle.gb_base.specs.declared.served.Served.{Served}

@@ -1,5 +1,7 @@
 -- Modules are pulled as the machine does.
-use Rattle.std.proofs.Common.{◌≡◌, ◌≤◌, ◌+◌, ℕ, Bool, true, false, not, Option, None, Ok, List, [], ◌∷◌, length, drop, drop_of_length-le, refl, sym, ap, ◌∙◌, subst, arith}
+use Rattle.std.proofs.Common.{◌≡◌, ◌≤◌, ◌+◌, ℕ, Bool, true, false, not, Option, None, Ok, List, []}
+use Rattle.std.proofs.Common.{◌∷◌, length, drop, drop_of_length-le, refl, sym, ap, ◌∙◌, subst}
+use Rattle.std.proofs.Common.{arith}
 use Rattle.gb_base.specs.declared.end.Side.TheVariants as side
 use Rattle.gb_base.specs.declared.entry.Entry.{Entry}
 use Rattle.gb_base.specs.declared.entry.Entry.TheVariants as entry
@@ -11,7 +13,6 @@ use Rattle.gb_invariants.proofs.Lists.{each-filter}
 use Rattle.gb_machine.proofs.Opened.{machine_opened}
 use Rattle.gb_machine.specs.Actions.{Action, change, each, nothing, when, ◌▸◌}
 use Rattle.gb_machine.specs.Events.{does}
-use Rattle.gb_machine.specs.Labels.{no_label}
 use Rattle.gb_machine.specs.Lists.{first_met}
 use Rattle.gb_machine.specs.Modules.{is_plugged, is_plugged_at, unplugged}
 use Rattle.gb_machine.specs.OwnAsking.{far_asks, svc_asks}
@@ -24,7 +25,8 @@ use Rattle.gb_switch.specs.Stands as switch
 use Rattle.gb_switch.specs.declared.ladder.Ladder.{Ladder}
 use Rattle.gb_system.proofs.Doings.{does-by_state, does-change, does-then, does-unless, does-when}
 use Rattle.gb_system.proofs.Landing.{lands, lands-refused}
-use Rattle.gb_system.proofs.Midways.{Midway, each-cons, each-nil, midway-as, midway-end, midway-more}
+use Rattle.gb_system.proofs.Midways.{Midway, each-cons, each-nil, midway-as, midway-end}
+use Rattle.gb_system.proofs.Midways.{midway-more}
 use Rattle.gb_system.specs.Acting.{IsAskable}
 use Rattle.gb_system.specs.Doing.{Does}
 use Rattle.gb_system.specs.Drafts.{own_ask}
@@ -56,7 +58,7 @@ midway-all f xs i past m =
 -- why a pull is refused
 abbrev pull_refusal : Bool → Bool → Option Refusal
 pull_refusal there spent =
-    first_met ((not there, why.NoInterface) ∷ (spent, no_label) ∷ [])
+    first_met ((not there, why.NoInterface) ∷ (spent, why.NoLabel) ∷ [])
 
 refusal-is : (s : State) (i : ℕ) → refusal s (event.Pull i)
     ≡ pull_refusal (is_plugged i s.modules) (has_no_label 1 side.Far s)

@@ -1,5 +1,7 @@
 -- A request of a script goes on a connection, or is refused, as the machine does.
-use Rattle.std.proofs.Common.{◌≡◌, ◌≤◌, ◌<◌, ℕ, ◌+◌, nat_lt, true, false, cond, ◌||◌, Option, Some, None, IsSome, is_some, option_map, option_and_then, Ok, Err, List, [], ◌∷◌, ◌++◌, length, refl, sym, ap, ◌∙◌, subst, arith}
+use Rattle.std.proofs.Common.{◌≡◌, ◌≤◌, ◌<◌, ℕ, ◌+◌, nat_lt, true, false, cond, ◌||◌, Option, Some}
+use Rattle.std.proofs.Common.{None, IsSome, is_some, option_map, option_and_then, Ok, Err, List, []}
+use Rattle.std.proofs.Common.{◌∷◌, ◌++◌, length, refl, sym, ap, ◌∙◌, subst, arith}
 use Rattle.std.proofs.lemmas.Bool.Decides.{nat_tests}
 use Rattle.gb_base.specs.declared.end.End.{End}
 use Rattle.gb_base.specs.declared.end.End.TheVariants as end
@@ -27,7 +29,7 @@ use Rattle.gb_machine.specs.Asking.{asks, asks_with}
 use Rattle.gb_machine.specs.Bus.{Bus, Connection, connection_of, next_number, request_of}
 use Rattle.gb_machine.specs.Host.{link_at}
 use Rattle.gb_machine.specs.HostRefusals.{is_kept, send_conditions}
-use Rattle.gb_machine.specs.Labels.{cyclic_label, next_label, no_label}
+use Rattle.gb_machine.specs.Labels.{cyclic_label, next_label}
 use Rattle.gb_machine.specs.LineActions.{ap_draft, sends, sends_on}
 use Rattle.gb_machine.specs.Lists.{Condition, conditions_of, first_met}
 use Rattle.gb_machine.specs.Names.{bound, is_bound, named}
@@ -241,7 +243,7 @@ fits s name (end.Module i c) kind payload k far g = by (link_at i c s.host) g.wa
     on_link link =
         conditions_of (λ l. (is_kept l kind, why.Unsupported)
         ∷ (is_long_payload payload, why.TooLarge)
-        ∷ (has_no_label l.connection side.Ap s, no_label) ∷ []) link
+        ∷ (has_no_label l.connection side.Ap s, why.NoLabel) ∷ []) link
 
     by : (link : Option Link) → option_map (λ (l : Link). l.connection) link ≡ Some k
         → first_met (on_link link) ≡ None → length payload ≤ 2040

@@ -1,5 +1,6 @@
 -- A settle is stepped as the machine does.
-use Rattle.std.proofs.Common.{◌≡◌, ◌<◌, ℕ, suc, ◌+◌, ◌-◌, Option, Some, None, Ok, List, [], ◌∷◌, ◌++◌, append_assoc, refl, sym, ap, ◌∙◌, arith, subst}
+use Rattle.std.proofs.Common.{◌≡◌, ◌<◌, ℕ, suc, ◌+◌, ◌-◌, Option, Some, None, Ok, List, [], ◌∷◌}
+use Rattle.std.proofs.Common.{◌++◌, append_assoc, refl, sym, ap, ◌∙◌, arith, subst}
 use Rattle.gb_base.specs.declared.end.End.{End}
 use Rattle.gb_base.specs.declared.entry.Entry.{Entry}
 use Rattle.gb_base.specs.declared.entry.Entry.TheVariants as entry

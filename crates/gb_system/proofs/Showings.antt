@@ -1,5 +1,6 @@
 -- What is shown is what the machine shows.
-use Rattle.std.proofs.Common.{◌≡◌, ℕ, ◌+◌, ◌<◌, Option, Some, None, Ok, option_map, List, [], ◌∷◌, ◌++◌, map, length, get_or, drop, append_assoc, refl, sym, ap, ◌∙◌}
+use Rattle.std.proofs.Common.{◌≡◌, ℕ, ◌+◌, ◌<◌, Option, Some, None, Ok, option_map, List, [], ◌∷◌}
+use Rattle.std.proofs.Common.{◌++◌, map, length, get_or, drop, append_assoc, refl, sym, ap, ◌∙◌}
 use Rattle.gb_base.specs.declared.entry.ConnState.{ConnState}
 use Rattle.gb_base.specs.declared.entry.ConnState.TheVariants as state
 use Rattle.gb_base.specs.declared.entry.Entry.{Entry}
@@ -17,7 +18,8 @@ use Rattle.gb_machine.specs.Actions.{tell_all}
 use Rattle.gb_machine.specs.Bus.{Connection}
 use Rattle.gb_machine.specs.Host.{Host}
 use Rattle.gb_machine.specs.Names.{names_in_order}
-use Rattle.gb_machine.specs.Show.{connection_shown, interface_shown, name_shown, queue_shown, shown, state_of}
+use Rattle.gb_machine.specs.Show.{connection_shown, interface_shown, name_shown, queue_shown, shown}
+use Rattle.gb_machine.specs.Show.{state_of}
 use Rattle.gb_machine.specs.State.{State}
 use Rattle.gb_machine.specs.Waiting.{Queue, queues}
 use Rattle.gb_system.proofs.Doings.{does-by_state, does-tell_all}

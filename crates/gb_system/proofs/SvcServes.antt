@@ -1,21 +1,20 @@
 -- The supervisory controller serves a request as the machine does.
-use Rattle.std.proofs.Common.{◌≡◌, ℕ, false, List, [], ◌∷◌, append-nil, inl, refl, sym, ap, ◌∙◌}
-use Rattle.gb_base.specs.declared.end.End.{End}
+use Rattle.std.proofs.Common.{◌≡◌, ℕ, false, List, [], ◌∷◌, append-nil, refl, sym, ap, ◌∙◌}
 use Rattle.gb_base.specs.declared.end.End.TheVariants as end
 use Rattle.gb_base.specs.declared.end.Side.TheVariants as side
 use Rattle.gb_base.specs.declared.entry.Entry.{Entry}
-use Rattle.gb_bus.specs.Delivering.{MayReply, taken_from}
+use Rattle.gb_bus.specs.Delivering.{MayReply}
 use Rattle.gb_bus.specs.Stands as bus
 use Rattle.gb_bus.specs.declared.answers.Asked.{Asked}
 use Rattle.gb_bus.specs.declared.bus.Bus.{Bus}
-use Rattle.gb_invariants.proofs.Awaiting.{same-some}
 use Rattle.gb_machine.proofs.Opened.{machine_opened}
 use Rattle.gb_machine.proofs.Steps.{told, with_bus}
 use Rattle.gb_machine.specs.Actions.{Action, Told, nothing, ◌▸◌}
-use Rattle.gb_machine.specs.Bus.{Ask, Connection, Request}
+use Rattle.gb_machine.specs.Bus.{Connection, Item}
 use Rattle.gb_machine.specs.Delivery.{replied}
-use Rattle.gb_machine.specs.Incoming.{Incoming, incoming, reply_entry, reply_item}
-use Rattle.gb_machine.specs.Responding.{Response, far_response, replies, responds, serves, svc_stepped}
+use Rattle.gb_machine.specs.Incoming.{Incoming, reply_entry, reply_item}
+use Rattle.gb_machine.specs.Responding.{Response, far_response, replies, responds, serves}
+use Rattle.gb_machine.specs.Responding.{svc_stepped}
 use Rattle.gb_machine.specs.Serving.{Answer}
 use Rattle.gb_machine.specs.State.{Port, State}
 use Rattle.gb_machine.specs.SvcTable.{svc_step}
@@ -23,6 +22,8 @@ use Rattle.gb_machine.specs.Wires.{unwires, wires, with_wired}
 use Rattle.gb_machine.specs.Wiring.{wired}
 use Rattle.gb_switch.specs.declared.ladder.Ladder.{Ladder}
 use Rattle.gb_system.proofs.Doings.{does-as, does-is, does-then}
+use Rattle.gb_system.proofs.Heard.{far-reply, may-reply}
+use Rattle.gb_system.proofs.Replies.{responds-twoway}
 use Rattle.gb_system.proofs.Standing.{rebussed, relevelled, repast}
 use Rattle.gb_system.specs.Deciding.{Decides, DoesBehind, DoesThis, action_of, answer_of}
 use Rattle.gb_system.specs.Doing.{Does}
@@ -49,38 +50,15 @@ wire-done {x} {s} {a} y k st stands =
 
 -- ---- a request of the application processor
 
--- it gets a reply
-pub far-reply : {x : Parties} {s : State} {at : End} {k : ℕ} {asked : Asked} {payload : List ℕ}
-    {c : Connection} {n : ℕ} (d : IsDelivered at k asked payload s c n)
-    → PartsStand (only k side.Far n) x s → d.request.oneway ≡ false
-far-reply {s = s} {k = k} {n = n} d st =
-    let own = st.bus.facts.fits.items.own_loose (taken_from k side.Far (Ask n)) (inl refl) in
-    let same = same-some own.0 d.request (sym own.1 ∙ d.made) in
-    (st.sound n d.request d.made).twoway
-    (ap (λ (r : Request). r.side) (sym same) ∙ own.3)
-
--- so it may be replied to
-abbrev pub may-reply : {s : State} {at : End} {k : ℕ} {asked : Asked} {payload : List ℕ}
-    {c : Connection} {n : ℕ} (d : IsDelivered at k asked payload s c n)
-    → d.request.oneway ≡ false → MayReply asked s.bus n
-may-reply d twoway = record {
-  request = d.request;
-  made = d.made;
-  names = d.names;
-  twoway = twoway;
-}
-
 -- the machine's answer, and what comes after it
-serves-is : (c : Connection) (n : ℕ) (r : Request) (s : State) (resp : Response)
-    → c.peer ≡ end.Svc → r.oneway ≡ false
-    → svc_stepped (svc_step s.ports r.kind r.payload) s ≡ resp
-    → serves side.Far c (incoming n r) s
-    ≡ (replies side.Far c (incoming n r) resp.answer ▸ resp.behind) s
+serves-is : (c : Connection) (q : Incoming) (s : State) (resp : Response)
+    → c.peer ≡ end.Svc → q.oneway ≡ false
+    → svc_stepped (svc_step s.ports q.kind q.payload) s ≡ resp
+    → serves side.Far c q s ≡ (replies side.Far c q resp.answer ▸ resp.behind) s
 unfolding machine_opened
-serves-is c n r s resp peer twoway is =
-    ap (λ p. responds side.Far c (incoming n r) (far_response p c.number (incoming n r) s) s) peer
-    ∙ ap (λ o. responds side.Far c (incoming n r) o s) is
-    ∙ ap (λ b. responds side.Far c (record (incoming n r) { oneway = b }) resp s) twoway
+serves-is c q s resp peer twoway is =
+    ap (λ p. responds side.Far c q (far_response p c.number q s) s) peer
+    ∙ ap (λ o. responds side.Far c q o s) is ∙ responds-twoway side.Far c q resp s twoway
 
 -- the levels may change before the reply or after it
 levels-is : (c : Connection) (q : Incoming) (a : Answer) (ports : List Port) (s : State)
@@ -103,50 +81,49 @@ levels-after c q a does ports s is =
     (is (with_bus (replied c.number side.Ap (reply_item q a) s.bus) s) refl)
 
 pub svc-served : {x y z : Parties} {s : State} {a b e : List Entry} (l : Ladder) (k : ℕ)
-    (asked : Asked) (payload : List ℕ) (c : Connection) (n : ℕ) (dec : Decision)
-    → (d : IsDelivered end.Svc k asked payload s c n) → PartsStand (only k side.Far n) x s
+    (asked : Asked) (payload : List ℕ) (c : Connection) (item : Item) (dec : Decision)
+    → (d : IsDelivered end.Svc k asked payload s c item) → PartsStand (only k side.Far item) x s
     → Decides l s (svc_stepped (svc_step s.ports asked.kind payload) s) dec
-    → ((t : State) → PartsStand (only k side.Far n) (record x { ladder = l }) t
-    → IsUpon k t.bus c → (may : MayReply asked t.bus n)
-    → Does y (replies side.Far c (incoming n may.request) (answer_of dec)) t a b)
+    → ((t : State) → PartsStand (only k side.Far item) (record x { ladder = l }) t
+    → IsUpon k t.bus c → (may : MayReply asked t.bus item)
+    → Does y (replies side.Far c may.request (answer_of dec)) t a b)
     → ((t : State) → PartsStand [] y t → Does z (action_of dec.behind) t b e)
-    → Does z (serves side.Far c (incoming n d.request)) s a e
-svc-served {x} {y} {z} {s} {a} {b} {e} l k asked payload c n dec d st decides answers follows =
-    let r = d.request in
-    let twoway = far-reply d st in
-    let stepped = ap (λ m. svc_stepped (svc_step s.ports m r.payload) s) (sym d.names.kind)
+    → Does z (serves side.Far c d.request) s a e
+svc-served {x} {y} {z} {s} {a} {b} {e} l k asked payload c item dec d st decides answers follows =
+    let q = d.request in
+    let stepped = ap (λ m. svc_stepped (svc_step s.ports m q.payload) s) (sym d.names.kind)
     ∙ ap (λ p. svc_stepped (svc_step s.ports asked.kind p) s) (sym d.payload_is) in
     let resp = svc_stepped (svc_step s.ports asked.kind payload) s in
-    let q = incoming n r in
     let same : (replies side.Far c q (answer_of dec) ▸ resp.behind) s
     ≡ serves side.Far c q s =
     ap (λ w. (replies side.Far c q w ▸ resp.behind) s) (sym decides.answer)
-    ∙ sym (serves-is c n r s resp d.there twoway stepped) in
+    ∙ sym (serves-is c q s resp d.there (far-reply d refl st) stepped) in
     does-as same (by dec.behind decides.behind follows)
   where
     by_this : (this : Action)
         → DoesThis l s (svc_stepped (svc_step s.ports asked.kind payload) s).behind this
         → ((t : State) → PartsStand [] y t → Does z this t b e)
-        → Does z (replies side.Far c (incoming n d.request) (answer_of dec)
+        → Does z (replies side.Far c d.request (answer_of dec)
         ▸ (svc_stepped (svc_step s.ports asked.kind payload) s).behind) s a e
     by_this this w then =
-        let q = incoming n d.request in
+        let q = d.request in
         let answered_so = answers s (relevelled l s.ports st w.stands) d.upon
-        (may-reply d (far-reply d st)) in
+        (may-reply d (far-reply d refl st)) in
         does-as (ap (λ (g : Action). (replies side.Far c q (answer_of dec) ▸ g) s) (sym w.is))
         (does-then answered_so
         (then (replies side.Far c q (answer_of dec) s).state answered_so.stand))
 
-    by : (w : Behind) → DoesBehind l s (svc_stepped (svc_step s.ports asked.kind payload) s).behind w
+    by : (w : Behind)
+        → DoesBehind l s (svc_stepped (svc_step s.ports asked.kind payload) s).behind w
         → ((t : State) → PartsStand [] y t → Does z (action_of w) t b e)
-        → Does z (replies side.Far c (incoming n d.request) (answer_of dec)
+        → Does z (replies side.Far c d.request (answer_of dec)
         ▸ (svc_stepped (svc_step s.ports asked.kind payload) s).behind) s a e
     by behind.Nothing w then =
-        let q = incoming n d.request in
+        let q = d.request in
         let t = record s { ports = w.ports } in
         let does = (svc_stepped (svc_step s.ports asked.kind payload) s).behind in
         let answered_so = answers t (relevelled l w.ports st w.stands) d.upon
-        (may-reply d (far-reply d st)) in
+        (may-reply d (far-reply d refl st)) in
         does-as (levels-is c q (answer_of dec) w.ports s
         ∙ sym (levels-after c q (answer_of dec) does w.ports s w.is))
         (does-then answered_so

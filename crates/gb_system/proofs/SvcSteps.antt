@@ -1,12 +1,15 @@
 -- What the table of the supervisory controller leaves to connections changes no interface.
-use Rattle.std.proofs.Common.{◌≡◌, ℕ, ◌==◌, Bool, true, false, not, ◌||◌, cond, Result, Ok, Err, List, [], ◌∷◌, refl, arith}
+use Rattle.std.proofs.Common.{◌≡◌, ℕ, ◌==◌, Bool, true, false, not, ◌||◌, cond, Result, Ok, Err}
+use Rattle.std.proofs.Common.{List, [], ◌∷◌, refl, arith}
 use Rattle.std.specs.Prelude.{nat_lt, nat_le}
 use Rattle.std.proofs.lemmas.Bool.Decides.{nat_tests}
 use Rattle.gb_formats.specs.Records.{PayloadFault}
 use Rattle.gb_formats.specs.SvcRecords.{SvcAsk, read_svc_ask_of_ap}
 use Rattle.gb_machine.specs.Ports.{is_powered, level_of}
 use Rattle.gb_machine.specs.State.{Port}
-use Rattle.gb_machine.specs.SvcTable.{SvcServed, SvcStep, climbs, creation, destruction, device_given, is_no_device, is_route, svc_asked, svc_read, svc_refuses, svc_stays, svc_step, unrouting}
+use Rattle.gb_machine.specs.SvcTable.{SvcServed, SvcStep, climbs, creation, destruction}
+use Rattle.gb_machine.specs.SvcTable.{device_given, is_no_device, is_route, svc_asked, svc_read}
+use Rattle.gb_machine.specs.SvcTable.{svc_refuses, svc_stays, svc_step, unrouting}
 
 -- what is left to connections, at these interfaces
 abbrev pub Leaves : List Port → List Port → SvcServed → Type 0

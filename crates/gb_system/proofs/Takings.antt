@@ -1,5 +1,6 @@
 -- An end takes what is delivered there as the machine says.
-use Rattle.std.proofs.Common.{◌≡◌, ℕ, Bool, true, Option, Some, None, List, option_map, sym, ap, ◌∙◌, subst}
+use Rattle.std.proofs.Common.{◌≡◌, ℕ, Bool, true, Option, Some, None, List, option_map, sym, ap}
+use Rattle.std.proofs.Common.{◌∙◌, subst}
 use Rattle.gb_base.specs.declared.end.End.{End}
 use Rattle.gb_base.specs.declared.end.End.TheVariants as end
 use Rattle.gb_base.specs.declared.end.Side.{Side}
@@ -16,7 +17,8 @@ use Rattle.gb_bus.specs.Stands.{Around}
 use Rattle.gb_laws.proofs.Places.{place-is}
 use Rattle.gb_machine.specs.Arriving.{link_takes, takes}
 use Rattle.gb_machine.specs.Bus as machine
-use Rattle.gb_machine.specs.Bus.{Connection, Place, connection_of, end_of, or_else, place_of, same_end, side_at}
+use Rattle.gb_machine.specs.Bus.{Connection, Place, connection_of, end_of, or_else, place_of}
+use Rattle.gb_machine.specs.Bus.{same_end, side_at}
 use Rattle.gb_machine.specs.Host as machine_host
 use Rattle.gb_machine.specs.Host.{link_of}
 use Rattle.gb_machine.specs.Modules.{far_takes, module_at, module_takes}

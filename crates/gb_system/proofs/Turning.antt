@@ -1,6 +1,7 @@
 -- What the application processor does of its own is possible, since its connections go with the
 -- bus.
-use Rattle.std.proofs.Common.{◌≡◌, ◌≤◌, ◌<◌, ℕ, false, None, List, [], ◌∷◌, length, refl, sym, ap, ◌∙◌, inl, inr, subst, arith}
+use Rattle.std.proofs.Common.{◌≡◌, ◌≤◌, ◌<◌, ℕ, false, Some, None, option_map, List, [], ◌∷◌}
+use Rattle.std.proofs.Common.{length, refl, sym, ap, ◌∙◌, inl, inr, subst, arith}
 use Rattle.gb_base.specs.declared.end.End.{End}
 use Rattle.gb_base.specs.declared.end.End.TheVariants as end
 use Rattle.gb_base.specs.declared.event.Event.TheVariants as event
@@ -10,17 +11,25 @@ use Rattle.gb_base.specs.declared.steps.SequenceStep.TheVariants as steps
 use Rattle.gb_bus.specs.Wiring.{IsOther}
 use Rattle.gb_formats.specs.Results.{most_payload}
 use Rattle.gb_formats.specs.ValidEvents.{IsValid}
+use Rattle.gb_base.specs.declared.end.Side.TheVariants as side
+use Rattle.gb_invariants.proofs.Awaiting.{same-some}
 use Rattle.gb_invariants.proofs.Lists.{each-from}
 use Rattle.gb_laws.proofs.LinkBuses.{Linked, linked-left, linked-rest, linked-shut}
-use Rattle.gb_laws.proofs.Links.{IsFormed, IsFree, IsKnown, IsMaking, connection, control, leaving, linked, supervisory}
-use Rattle.gb_laws.proofs.Reached.{reached-linked}
-use Rattle.gb_laws.proofs.Turned.{Notes, turned-connects, turned-disconnects, turned-ended, turned-noticed}
-use Rattle.gb_machine.specs.Bus.{Bus, Connection, Place, Request, same_end}
+use Rattle.gb_laws.proofs.Links.{IsFormed, IsFree, IsKnown, IsMaking, connection, control, leaving}
+use Rattle.gb_laws.proofs.Links.{linked, supervisory}
+use Rattle.gb_laws.proofs.MarkNotices.{SvcFront, svc-front}
+use Rattle.gb_laws.proofs.PointParts.{IsNoticed}
+use Rattle.gb_laws.proofs.Reached.{reached-linked, reached-told}
+use Rattle.gb_laws.proofs.Turned.{turned-connects, turned-disconnects, turned-ended, turned-noticed}
+use Rattle.gb_machine.specs.Bus.{Bus, Connection, Item, Place, place_of, queue, same_end}
 use Rattle.gb_machine.specs.Host.{Host}
 use Rattle.gb_machine.specs.HostServing.{host_serves}
+use Rattle.gb_machine.specs.Incoming.{Incoming, incoming, request_in}
+use Rattle.gb_machine.specs.Lists.{first}
 use Rattle.gb_machine.specs.Members.{IsIn}
 use Rattle.gb_machine.specs.Reached.{OfARun}
 use Rattle.gb_machine.specs.Refusals.{refusal}
+use Rattle.gb_machine.specs.Runs.{Moment}
 use Rattle.gb_machine.specs.SequenceSteps.{Target, asks_control, kind_of, payload_of}
 use Rattle.gb_machine.specs.State.{State}
 use Rattle.gb_machine.specs.Turns.{Act, Asking, HostEvent, Making}
@@ -125,11 +134,58 @@ may-disconnect s i c run allowed =
 
 -- ---- requests of the supervisory controller
 
--- What a request makes the application processor take notice of, where the bus keeps the facts of
--- connections.
-pub may-note : (s : State) (at : End) (p : Place) (n : ℕ) (r : Request) (e : HostEvent) {b : Bus}
-    → OfARun s → Notes s at p n r e → Linked b s.host [] → MayTurn e (record s {
+-- A request that stands in front makes the application processor take notice of something.
+pub record IsNoted (s : State) (at : End) (p : Place) (item : Item) (q : Incoming) (e : HostEvent)
+    : Type 0 where
+  pub named : place_of at s.bus.connections ≡ Some p
+  pub side : p.side ≡ side.Ap
+  pub front : first (queue p.side p.connection) ≡ Some item
+  pub made : request_in item s.bus ≡ Some q
+  pub notices : (host_serves p.connection.number q.kind q.payload s.host).notices ≡ Some e
+
+-- That is possible, where the bus keeps the facts of connections: the request is one that the
+-- supervisory controller made.
+pub may-note : (s : State) (at : End) (p : Place) (item : Item) (q : Incoming) (e : HostEvent)
+    {b : Bus} → OfARun s → IsNoted s at p item q e → Linked b s.host [] → MayTurn e (record s {
       bus = b;
-      host = (host_serves p.connection.number r.kind r.payload s.host).host;
+      host = (host_serves p.connection.number q.kind q.payload s.host).host;
     })
-may-note s at p n r e run notes f = possible _ (turned-noticed s at p n r e run notes f)
+may-note s at p item q e {b} run noted f =
+    subst (λ (w : Incoming). MayTurn e (record s {
+      bus = b;
+      host = (host_serves p.connection.number w.kind w.payload s.host).host;
+    })) same
+    (possible _ (turned-noticed s at p w.number w.request e run (record {
+      named = noted.named;
+      side = noted.side;
+      front = noted.front ∙ ap Some w.item;
+      made = w.made;
+      notices = subst (λ (v : Incoming).
+          (host_serves p.connection.number v.kind v.payload s.host).notices ≡ Some e) (sym same)
+          noted.notices;
+    }) f))
+  where
+    m : Moment
+    m = record { told = []; event = event.Deliver at; before = s }
+
+    n : IsNoticed m e
+    n = record {
+      at = at;
+      place = p;
+      item = item;
+      request = q;
+      event = refl;
+      named = noted.named;
+      side = noted.side;
+      front = noted.front;
+      made = noted.made;
+      notices = noted.notices;
+    }
+
+    w : SvcFront m e n
+    w = svc-front m e n (reached-told s run).0 (reached-linked s run)
+
+    same : incoming w.number w.request ≡ q
+    same = same-some (incoming w.number w.request) q
+        (ap (option_map (incoming w.number)) (sym w.made)
+        ∙ ap (λ i. request_in i s.bus) (sym w.item) ∙ noted.made)

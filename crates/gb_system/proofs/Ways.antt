@@ -1,5 +1,7 @@
 -- On which connection a request of a script goes, and when it is refused.
-use Rattle.std.proofs.Common.{◌≡◌, ◌≤◌, ◌<◌, ℕ, Bool, true, false, cond, Option, Some, None, is_some, is_none, IsSome, option_map, Ok, Err, List, [], ◌∷◌, ◌++◌, append_assoc, length, refl, sym, ap, ◌∙◌, arith}
+use Rattle.std.proofs.Common.{◌≡◌, ◌≤◌, ◌<◌, ℕ, Bool, true, false, cond, Option, Some, None}
+use Rattle.std.proofs.Common.{is_some, is_none, IsSome, option_map, Ok, Err, List, [], ◌∷◌, ◌++◌}
+use Rattle.std.proofs.Common.{append_assoc, length, refl, sym, ap, ◌∙◌, arith}
 use Rattle.std.specs.Bool.{⊤}
 use Rattle.std.proofs.lemmas.Bool.Decides.{nat_tests}
 use Rattle.gb_base.specs.declared.end.End.{End}
@@ -12,7 +14,7 @@ use Rattle.gb_base.specs.declared.refusal.Refusal.TheVariants as why
 use Rattle.gb_machine.specs.Bus.{Bus}
 use Rattle.gb_machine.specs.Host.{Host, link_at}
 use Rattle.gb_machine.specs.HostRefusals.{is_kept, send_conditions}
-use Rattle.gb_machine.specs.Labels.{next_label, no_label}
+use Rattle.gb_machine.specs.Labels.{next_label}
 use Rattle.gb_machine.specs.Lists.{Condition, conditions_of, first_met, holds_of}
 use Rattle.gb_machine.specs.Names.{is_bound, named}
 use Rattle.gb_machine.specs.Refusals.{is_long_payload, send_to_conditions}
@@ -74,7 +76,7 @@ leads i c kind k h free way is = (
 -- what is left of the conditions, behind those of the way: by the connection
 abbrev rest_on : List ℕ → Bus → ℕ → List Condition
 rest_on payload b k =
-    (is_long_payload payload, why.TooLarge) ∷ (is_none (next_label k side.Ap b), no_label) ∷ []
+    (is_long_payload payload, why.TooLarge) ∷ (is_none (next_label k side.Ap b), why.NoLabel) ∷ []
 
 -- by the end
 abbrev rest_to : State → End → List ℕ → List Condition
@@ -182,10 +184,10 @@ short-is payload h = grind (arith, nat_tests, h)
 -- a payload that isn't leaves the identifier
 late-label : (payload : List ℕ) (b : Bus) (k : ℕ) → length payload ≤ 2040
     → first_met (rest_on payload b k)
-    ≡ first_met ((is_none (next_label k side.Ap b), no_label) ∷ [])
+    ≡ first_met ((is_none (next_label k side.Ap b), why.NoLabel) ∷ [])
 late-label payload b k short =
     ap (λ t. first_met ((t, why.TooLarge)
-    ∷ (is_none (next_label k side.Ap b), no_label) ∷ [])) (short-is payload short)
+    ∷ (is_none (next_label k side.Ap b), why.NoLabel) ∷ [])) (short-is payload short)
 
 long-is : (payload : List ℕ) → 2040 < length payload → is_long_payload payload ≡ true
 long-is payload h = grind (arith, nat_tests, h)
@@ -199,7 +201,7 @@ goes-long x s name to kind payload k st free is long =
     goes-by s name to kind payload why.TooLarge (λ out.
     late-way x s name to kind payload k st free is out
     ∙ ap (λ t. first_met ((t, why.TooLarge)
-    ∷ (is_none (next_label k side.Ap s.bus), no_label) ∷ [])) (long-is payload long))
+    ∷ (is_none (next_label k side.Ap s.bus), why.NoLabel) ∷ [])) (long-is payload long))
 
 -- no identifier is left
 pub goes-spent : (x : Parties) (s : State) (name : Name) (to : End) (kind : ℕ) (payload : List ℕ)
@@ -210,7 +212,7 @@ pub goes-spent : (x : Parties) (s : State) (name : Name) (to : End) (kind : ℕ)
 goes-spent x s name to kind payload k spent st free is short by it =
     goes-by s name to kind payload why.NoLabel (λ out.
     late-way x s name to kind payload k st free is out ∙ late-label payload s.bus k short
-    ∙ ap (λ t. first_met ((t, no_label) ∷ [])) (sym by ∙ it))
+    ∙ ap (λ t. first_met ((t, why.NoLabel) ∷ [])) (sym by ∙ it))
 
 -- what is there
 pub is-there : {A : Type 0} (o : Option A) → is_none o ≡ false → IsSome o
@@ -236,7 +238,7 @@ pub goes : (x : Parties) (s : State) (name : Name) (to : End) (kind : ℕ) (payl
 goes x s name to kind payload k spent st free is short by it =
     goes-out s name to kind payload k (λ out. (
       late-way x s name to kind payload k st free is out ∙ late-label payload s.bus k short
-          ∙ ap (λ t. first_met ((t, no_label) ∷ [])) (sym by ∙ it),
+          ∙ ap (λ t. first_met ((t, why.NoLabel) ∷ [])) (sym by ∙ it),
       is.1,
       is-there (next_label k side.Ap s.bus) (sym by ∙ it),
     ))

@@ -1,5 +1,6 @@
 -- Hold marks, and the requests that are held.
-use Rattle.std.specs.Prelude.{◌≡◌, ◌≢◌, ◌<◌, ℕ, ◌-◌, ◌==◌, Bool, Option, Some, None, List, [], length}
+use Rattle.std.specs.Prelude.{◌≡◌, ◌≢◌, ◌<◌, ℕ, ◌-◌, ◌==◌, Bool, Option, Some, None, List, []}
+use Rattle.std.specs.Prelude.{length}
 use Rattle.std.specs.BTreeMap.{get}
 use Rattle.std.specs.List.{list_any, remove}
 use Rattle.std.specs.Ordering.{nat_cmp}

@@ -3,7 +3,8 @@ use Rattle.std.specs.Prelude.{◌≡◌, ⊤, ℕ, None, Some, List, [], ◌∷�
 use Rattle.std.specs.Cmp.{IsEquivalence, IsPartialOrder, IsTotalOrder, and_equiv, both_tied}
 use Rattle.std.specs.Cmp.{nat_cmp_total, nat_eq_equiv, on_equiv, on_total}
 use Rattle.std.specs.Cmp.{partial_order_from_agreeing_total, then_total, unsigned_ties}
-use Rattle.std.specs.Cmp.Lexicographic.{nat_list_cmp_total, nat_list_eq_equiv, slice_cmp, texts_ties}
+use Rattle.std.specs.Cmp.Lexicographic.{nat_list_cmp_total, nat_list_eq_equiv, slice_cmp}
+use Rattle.std.specs.Cmp.Lexicographic.{texts_ties}
 use Rattle.std.specs.Ordering.{eq_by_cmp, nat_cmp, ordering_then}
 use Rattle.std.specs.declared.cmp.Ordering.{Ordering}
 use Rattle.gb_base.specs.declared.name.Name.{Name}

@@ -1,5 +1,6 @@
 -- On which connection a request of a script goes, or why it isn't sent.
-use Rattle.std.specs.Prelude.{◌≡◌, ⊤, ℕ, true, Some, None, option_map, IsSome, Result, Ok, Err, List, [], ◌∷◌, ◌++◌}
+use Rattle.std.specs.Prelude.{◌≡◌, ⊤, ℕ, true, Some, None, option_map, IsSome, Result, Ok, Err}
+use Rattle.std.specs.Prelude.{List, [], ◌∷◌, ◌++◌}
 use Rattle.gb_base.specs.declared.end.End.{End}
 use Rattle.gb_base.specs.declared.end.End.TheVariants as end
 use Rattle.gb_base.specs.declared.end.Side.TheVariants as side

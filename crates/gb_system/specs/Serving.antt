@@ -1,5 +1,5 @@
 -- What becomes of a request that is delivered.
-use Rattle.std.specs.Prelude.{◌≡◌, ℕ, Option, Some, None, if◌then◌else◌, ⊤, List, [], ◌∷◌}
+use Rattle.std.specs.Prelude.{◌≡◌, ℕ, true, Option, Some, None, if◌then◌else◌, ⊤, List, [], ◌∷◌}
 use Rattle.gb_base.specs.declared.end.End.{End}
 use Rattle.gb_base.specs.declared.end.End.TheVariants as end
 use Rattle.gb_base.specs.declared.end.Side.{Side}
@@ -7,11 +7,11 @@ use Rattle.gb_base.specs.declared.end.Side.TheVariants as side
 use Rattle.gb_base.specs.declared.entry.Entry.{Entry}
 use Rattle.gb_bus.specs.Delivering.{Names, taken_from}
 use Rattle.gb_bus.specs.declared.answers.Asked.{Asked}
-use Rattle.gb_invariants.specs.Facts.{Loose}
-use Rattle.gb_machine.specs.Bus.{Ask, Connection, Request, end_of, request_of}
+use Rattle.gb_invariants.specs.Facts.{Loose, is_numbered}
+use Rattle.gb_machine.specs.Bus.{Connection, Item, end_of}
 use Rattle.gb_machine.specs.Delivery.{replied}
 use Rattle.gb_machine.specs.HostServing.{HostServed, host_serves}
-use Rattle.gb_machine.specs.Incoming.{Incoming, incoming, reply_item}
+use Rattle.gb_machine.specs.Incoming.{Incoming, reply_item, request_in}
 use Rattle.gb_machine.specs.Responding.{serves}
 use Rattle.gb_machine.specs.State.{State}
 use Rattle.gb_machine.specs.Turns.{HostEvent}
@@ -27,19 +27,21 @@ side_of (end.Ap a) = side.Ap
 side_of end.Svc = side.Far
 side_of (end.Module i c) = side.Far
 
--- a request that was taken at a side of a connection, as the one item that is in no queue
-abbrev pub only : ℕ → Side → ℕ → List Loose
-only k at n = taken_from k at (Ask n) ∷ []
+-- what was taken at a side of a connection, as the one item that is in no queue
+abbrev pub only : ℕ → Side → Item → List Loose
+only k at item = taken_from k at item ∷ []
 
--- Request n was delivered at an end, on connection k, and is to be served.
+-- A request was delivered at an end, on connection k, by this item, and is to be served. What comes
+-- to a far end has a number: raw bytes only come to the application processor.
 pub record IsDelivered (at : End) (k : ℕ) (asked : Asked) (payload : List ℕ) (s : State)
-    (c : Connection) (n : ℕ) : Type 0 where
-  pub request : Request
-  pub made : request_of n s.bus ≡ Some request
-  pub names : Names asked n request
+    (c : Connection) (item : Item) : Type 0 where
+  pub request : Incoming
+  pub is : request_in item s.bus ≡ Some request
+  pub names : Names asked request
   pub payload_is : payload ≡ request.payload
   pub upon : IsUpon k s.bus c
   pub there : end_of (side_of at) c ≡ at
+  pub numbered : side_of at ≡ side.Far → is_numbered item ≡ true
 
 -- the state once the application processor served a request, before it takes notice of anything
 abbrev pub after_serving : Connection → Incoming → HostServed → State → State
@@ -62,12 +64,13 @@ MayServe side.Ap c q s =
     MayNotice served.notices (after_serving c q served s)
 
 -- A request that was delivered at an end is served as the machine does.
-abbrev pub ServesAt : End → Parties → Parties → ℕ → Asked → List ℕ → List Entry → List Entry → Type 0
+abbrev pub ServesAt : End → Parties → Parties → ℕ → Asked → List ℕ → List Entry → List Entry
+    → Type 0
 ServesAt at old new k asked payload before told =
-    (s : State) (c : Connection) (n : ℕ) → (d : IsDelivered at k asked payload s c n)
-    → PartsStand (only k (side_of at) n) old s
-    → MayServe (side_of at) c (incoming n d.request) s
-    → Does new (serves (side_of at) c (incoming n d.request)) s before told
+    (s : State) (c : Connection) (item : Item) → (d : IsDelivered at k asked payload s c item)
+    → PartsStand (only k (side_of at) item) old s
+    → MayServe (side_of at) c d.request s
+    → Does new (serves (side_of at) c d.request) s before told
 
 -- an entry, where there is one
 abbrev pub told_of : Option Entry → List Entry

@@ -1,5 +1,6 @@
 -- What the value of a system stands for.
-use Rattle.std.specs.Prelude.{◌≡◌, ℕ, ◌==◌, ◌≤◌, ◌<◌, Bool, false, Some, Result, Ok, Err, ⊤, List, [], ◌∷◌, ◌++◌, length, map}
+use Rattle.std.specs.Prelude.{◌≡◌, ℕ, ◌==◌, ◌≤◌, ◌<◌, Bool, false, Some, Result, Ok, Err, ⊤, List}
+use Rattle.std.specs.Prelude.{[], ◌∷◌, ◌++◌, length, map}
 use Rattle.gb_base.specs.declared.end.Side.TheVariants as side
 use Rattle.gb_base.specs.declared.entry.Entry.{Entry}
 use Rattle.gb_base.specs.declared.errors.OutOfMemory.{OutOfMemory}
@@ -13,6 +14,7 @@ use Rattle.gb_machine.specs.Bus as machine
 use Rattle.gb_machine.specs.Bus.{Request, request_of}
 use Rattle.gb_machine.specs.Events.{step}
 use Rattle.gb_machine.specs.Holding.{held_on}
+use Rattle.gb_machine.specs.Incoming.{incoming}
 use Rattle.gb_machine.specs.Lists.{nth}
 use Rattle.gb_machine.specs.Members.{Each}
 use Rattle.gb_machine.specs.Names.{names_in_order}
@@ -50,7 +52,7 @@ pub record StandsForHeld (requests : List Request) (x : HeldRequest) (h : Held) 
   pub request : Request
   pub item_is : h.item ≡ machine.Ask number
   pub made : nth number requests ≡ Some request
-  pub names : Names x.asked number request
+  pub names : Names x.asked (incoming number request)
   pub payload_is : x.payload ≡ request.payload
 
 -- held requests stand for the machine's in order
@@ -64,8 +66,8 @@ StandForHeld requests (x ∷ xs) [] = ⊥
 abbrev pub HeldStand : List Request → HeldRequests → List Held → Type 0
 HeldStand requests x hs = (k : ℕ) → StandForHeld requests (held_at x k) (held_on k hs)
 
--- A request has a type that a request can have, has an identifier exactly where it gets a reply, and
--- gets one where the application processor made it.
+-- A request has a type that a request can have, has an identifier exactly where it gets a reply,
+-- and gets one where the application processor made it.
 pub record IsSound (r : Request) : Type 0 where
   pub kind : r.kind < 128
   pub label : (r.label == 0) ≡ r.oneway

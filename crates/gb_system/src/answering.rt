@@ -1,15 +1,15 @@
 //! Requests that are delivered, and their answers.
 
-ghost use Rattle.std.specs.Prelude.{◌≡◌, ◌≤◌, ◌<◌, ◌∷◌, [], ℕ, IfOk, OnOk, length};
-ghost use Rattle.gb_bus.specs.Delivering.{MayReply, taken_from};
+ghost use Rattle.std.specs.Prelude.{◌≡◌, ◌≤◌, ◌<◌, IfOk, OnOk, length};
+ghost use Rattle.gb_bus.specs.Delivering.{MayReply};
 ghost use Rattle.gb_formats.specs.Results.{most_payload};
-ghost use Rattle.gb_machine.specs.Bus as machine;
-ghost use Rattle.gb_machine.specs.Incoming.{incoming};
+ghost use Rattle.gb_machine.specs.Bus.{Connection, Item};
 ghost use Rattle.gb_machine.specs.Responding.{replies};
 ghost use Rattle.gb_machine.specs.Serving.{answer};
 ghost use Rattle.gb_machine.specs.State.{State};
 ghost use Rattle.gb_system.specs.Doing.{Does};
 ghost use Rattle.gb_system.specs.Drafts.{IsUpon, reply_told};
+ghost use Rattle.gb_system.specs.Serving.{only};
 ghost use Rattle.gb_system.specs.Stands.{PartsStand};
 
 use crate::asking::{end_at, other_side};
@@ -30,12 +30,11 @@ impl Parties {
         payload: &[u8],
         told: &mut Entries,
     ) -> Result<(), OutOfMemory>
-        ensures step { OnOk result ((s : State) (c : machine.Connection) (n : ℕ)
-            → PartsStand (taken_from connection side (machine.Ask n) ∷ []) self.old s
-            → IsUpon connection s.bus c
-            → (may : MayReply asked.now s.bus n) → length payload.now ≤ most_payload
-            → Does self.new (replies side c (incoming n may.request) (answer code payload.now))
-            s told.old told.new) }
+        ensures step { OnOk result ((s : State) (c : Connection) (item : Item)
+            → PartsStand (only connection side item) self.old s → IsUpon connection s.bus c
+            → (may : MayReply asked.now s.bus item) → length payload.now ≤ most_payload
+            → Does self.new (replies side c may.request (answer code payload.now)) s told.old
+            told.new) }
     {
         let Some(ends) = self.bus.ends(connection) else {
             return Ok(());

@@ -80,6 +80,9 @@ impl Parties {
                 self.end(number, outcome, reading, told)?;
             }
             Arrival::Late { number } => told.push(Entry::Late { number })?,
+            Arrival::LateLabel { label } => told.push(Entry::LateLabel { label })?,
+            Arrival::UnknownLabel { label } => told.push(Entry::UnknownLabel { label })?,
+            Arrival::BadRaw { fault } => told.push(Entry::BadRaw { fault })?,
             Arrival::Dropped { number, reply } => told.push(Entry::Dropped { number, reply })?,
         }
         Ok(None)

@@ -110,7 +110,7 @@ impl Parties {
     }
 
     /// The wired connection at a module's CPort, or why a line that needs one is refused.
-    fn wired_at(&self, intf: u8, cport: u16) -> Result<u64, Refusal>
+    pub fn wired_at(&self, intf: u8, cport: u16) -> Result<u64, Refusal>
         ensures { (s : State) → PartsStand [] self.now s → WiredAs s intf cport result }
     {
         if self.modules.at(intf).is_none() {

@@ -12,6 +12,7 @@ mod ending;
 mod entries;
 mod held;
 mod holding;
+mod injecting;
 mod key;
 mod marks;
 mod message;

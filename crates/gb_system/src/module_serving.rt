@@ -1,11 +1,10 @@
 //! Requests that modules serve.
 
-ghost use Rattle.std.specs.Prelude.{◌≡◌, ℕ, OnOk};
+ghost use Rattle.std.specs.Prelude.{◌≡◌, OnOk};
 ghost use Rattle.gb_base.specs.declared.end.End.TheVariants as end;
 ghost use Rattle.gb_base.specs.declared.end.Side.TheVariants as side;
 ghost use Rattle.gb_bus.specs.Delivering.{MayReply};
-ghost use Rattle.gb_machine.specs.Bus.{Connection};
-ghost use Rattle.gb_machine.specs.Incoming.{incoming};
+ghost use Rattle.gb_machine.specs.Bus.{Connection, Item};
 ghost use Rattle.gb_machine.specs.Responding.{serves};
 ghost use Rattle.gb_machine.specs.State.{State};
 ghost use Rattle.gb_system.specs.Doing.{Does};
@@ -30,11 +29,11 @@ impl Parties {
         payload: &[u8],
         told: &mut Entries,
     ) -> Result<(), OutOfMemory>
-        ensures step { OnOk result ((s : State) (c : Connection) (n : ℕ)
-            → PartsStand (only connection side.Far n) self.old s
+        ensures step { OnOk result ((s : State) (c : Connection) (item : Item)
+            → PartsStand (only connection side.Far item) self.old s
             → IsUpon connection s.bus c → c.peer ≡ end.Module intf cport
-            → (may : MayReply asked.now s.bus n) → payload.now ≡ may.request.payload
-            → Does self.new (serves side.Far c (incoming n may.request)) s told.old told.new) }
+            → (may : MayReply asked.now s.bus item) → payload.now ≡ may.request.payload
+            → Does self.new (serves side.Far c may.request) s told.old told.new) }
     {
         let Some(served) = self.modules.serve(intf, cport, asked.kind, payload)? else {
             self.answer(connection, Side::Far, asked, NONEXISTENT, &[], told)?;

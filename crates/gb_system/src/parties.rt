@@ -1,7 +1,6 @@
 //! The parties and the bus between them.
 
-ghost use Rattle.std.specs.Prelude.{◌≡◌, [], IfOk, true};
-ghost use Rattle.gb_formats.specs.Built.{is_built};
+ghost use Rattle.std.specs.Prelude.{[], IfOk};
 ghost use Rattle.gb_formats.specs.ValidEvents.{IsValid};
 ghost use Rattle.gb_machine.specs.State.{State, first_state};
 
@@ -59,14 +58,14 @@ impl Parties {
 
     /// Steps one event.
     pub fn event(&mut self, e: &Event) -> Result<Entries, OutOfMemory>
-        requires built { is_built e.now ≡ true }
-        requires valid { IsValid e.now }
+        requires { IsValid e.now }
         ensures step { (s : State) → PartiesStand self.old s
             → PartsStep self.new s e.now result }
     {
         match e {
             Event::Boot => self.boot(),
             Event::Insert { intf, kind } => self.insert(*intf, *kind),
+            Event::InsertRaw { intf, manifest } => self.insert_raw(*intf, manifest.items()),
             Event::Pull { intf } => self.pull(*intf),
             Event::Connect { intf, cport } => self.connect(*intf, *cport),
             Event::Disconnect { intf, cport } => self.disconnect(*intf, *cport),
@@ -109,8 +108,8 @@ impl Parties {
             Event::Cancel { name } => self.cancel(name),
             Event::Copy { from, to } => self.copy_name(from, to),
             Event::Forget { name } => self.forget_name(name),
+            Event::Inject { intf, cport, bytes } => self.inject(*intf, *cport, bytes.items()),
             Event::Show => self.show(),
-            _ => unreachable!(),
         }
     }
 }

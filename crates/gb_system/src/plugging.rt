@@ -1,10 +1,14 @@
 //! The start of the supervisory controller, and modules that come and go.
 
-ghost use Rattle.std.specs.Prelude.{◌≡◌, [], false, OnOk};
+ghost use Rattle.std.specs.Prelude.{◌≡◌, ◌≤◌, ℕ, List, [], false, length, IfNone, OnOk};
 ghost use Rattle.gb_base.specs.declared.event.Event.TheVariants as event;
+ghost use Rattle.gb_formats.specs.Results.{most_payload};
 ghost use Rattle.gb_formats.specs.ValidEvents.{IsIntf};
+ghost use Rattle.gb_machine.specs.Lists.{first_met};
 ghost use Rattle.gb_machine.specs.OwnAsking.{far_asks};
-ghost use Rattle.gb_machine.specs.Plugging.{tells_inserted};
+ghost use Rattle.gb_machine.specs.Plugging.{plugs, tells_inserted};
+ghost use Rattle.gb_machine.specs.Ports.{is_powered};
+ghost use Rattle.gb_machine.specs.Refusals.{insert_conditions};
 ghost use Rattle.gb_machine.specs.State.{State};
 ghost use Rattle.gb_system.specs.Acting.{IsAskable};
 ghost use Rattle.gb_system.specs.Doing.{Does};
@@ -12,6 +16,7 @@ ghost use Rattle.gb_system.specs.Drafts.{own_ask};
 ghost use Rattle.gb_system.specs.Stands.{PartiesStand, PartsStand, PartsStep};
 
 use crate::entries::{begun, refused};
+use crate::message::LONGEST_PAYLOAD;
 use crate::parties::Parties;
 use crate::svc::SVC;
 use gb_base::{Entries, Kind, OutOfMemory, Refusal, Side};
@@ -44,18 +49,27 @@ impl Parties {
         ensures step { (s : State) → PartiesStand self.old s
             → PartsStep self.new s (event.Insert intf kind) result }
     {
-        if self.modules.at(intf).is_some() {
-            return Ok(refused(self.alloc, Refusal::Occupied)?);
-        }
-        if self.bus.spent(SVC, Side::Far) {
-            return Ok(refused(self.alloc, Refusal::NoLabel)?);
+        if let Some(why) = self.insert_refusal(intf, 0) {
+            return Ok(refused(self.alloc, why)?);
         }
         let mut told = begun(self.alloc)?;
-        self.modules.plug(intf, Module::of_kind(self.alloc, kind)?)?;
-        self.ladder.plug(intf);
-        if self.booted {
-            self.tell_inserted(intf, &mut told)?;
+        let module = Module::of_kind(self.alloc, kind)?;
+        self.plug(intf, module, &mut told)?;
+        Ok(told)
+    }
+
+    /// A module with these bytes as its manifest is plugged at an interface, 2 to 31.
+    pub fn insert_raw(&mut self, intf: u8, manifest: &[u8]) -> Result<Entries, OutOfMemory>
+        requires { IsIntf intf }
+        ensures step { (s : State) → PartiesStand self.old s
+            → PartsStep self.new s (event.InsertRaw intf manifest.now) result }
+    {
+        if let Some(why) = self.insert_refusal(intf, manifest.len()) {
+            return Ok(refused(self.alloc, why)?);
         }
+        let mut told = begun(self.alloc)?;
+        let module = Module::raw(self.alloc, manifest)?;
+        self.plug(intf, module, &mut told)?;
         Ok(told)
     }
 
@@ -82,6 +96,41 @@ impl Parties {
             self.svc_ask(0x20, &[intf], &mut told)?;
         }
         Ok(told)
+    }
+
+    /// Why no module whose manifest has so many bytes can be plugged at an interface.
+    fn insert_refusal(&self, intf: u8, size: usize) -> Option<Refusal>
+        ensures is { (s : State) (manifest : List ℕ) → PartsStand [] self.now s
+            → length manifest ≡ size → result ≡ first_met (insert_conditions s intf manifest) }
+        ensures fits { IfNone result (size ≤ most_payload) }
+    {
+        if self.modules.at(intf).is_some() {
+            return Some(Refusal::Occupied);
+        }
+        if size > LONGEST_PAYLOAD {
+            return Some(Refusal::TooLarge);
+        }
+        if self.bus.spent(SVC, Side::Far) {
+            return Some(Refusal::NoLabel);
+        }
+        None
+    }
+
+    /// A module is plugged at an interface without power, and MODULE_INSERTED goes once the
+    /// supervisory controller has started.
+    fn plug(&mut self, intf: u8, body: Module, told: &mut Entries) -> Result<(), OutOfMemory>
+        requires { IsIntf intf }
+        ensures step { OnOk result ((s : State) → PartsStand [] self.old s
+            → is_powered intf s.ports ≡ false → length body.manifest ≤ most_payload
+            → Does self.new (plugs intf body) s told.old told.new) }
+    {
+        self.modules.plug(intf, body)?;
+        self.ladder.plug(intf);
+        if !self.booted {
+            return Ok(());
+        }
+        self.tell_inserted(intf, told)?;
+        Ok(())
     }
 
     /// MODULE_INSERTED of one module at an interface.

@@ -5,9 +5,8 @@ ghost use Rattle.gb_base.specs.declared.end.End.TheVariants as end;
 ghost use Rattle.gb_base.specs.declared.end.Side.TheVariants as side;
 ghost use Rattle.gb_host.specs.Serving.{event_of};
 ghost use Rattle.gb_machine.specs.Actions.{given, tell, ◌▸◌};
-ghost use Rattle.gb_machine.specs.Bus.{Connection};
+ghost use Rattle.gb_machine.specs.Bus.{Connection, Item};
 ghost use Rattle.gb_machine.specs.HostActs.{notices};
-ghost use Rattle.gb_machine.specs.Incoming.{incoming};
 ghost use Rattle.gb_machine.specs.Responding.{serves};
 ghost use Rattle.gb_machine.specs.State.{State};
 ghost use Rattle.gb_system.specs.Deciding.{action_of};
@@ -61,10 +60,10 @@ impl Parties {
         payload: &[u8],
         told: &mut Entries,
     ) -> Result<(), OutOfMemory>
-        ensures step { OnOk result ((s : State) (c : Connection) (n : ℕ)
-            → (d : IsDelivered end.Svc connection asked.now payload.now s c n)
-            → PartsStand (only connection side.Far n) self.old s
-            → Does self.new (serves side.Far c (incoming n d.request)) s told.old told.new) }
+        ensures step { OnOk result ((s : State) (c : Connection) (item : Item)
+            → (d : IsDelivered end.Svc connection asked.now payload.now s c item)
+            → PartsStand (only connection side.Far item) self.old s
+            → Does self.new (serves side.Far c d.request) s told.old told.new) }
     {
         let decision = decide(&self.bus, &mut self.ladder, asked.kind, payload);
         let answer = decision.payload.as_slice();
@@ -95,11 +94,11 @@ impl Parties {
         payload: &[u8],
         told: &mut Entries,
     ) -> Result<(), OutOfMemory>
-        ensures step { OnOk result ((s : State) (c : Connection) (n a : ℕ)
-            → (d : IsDelivered (end.Ap a) connection asked.now payload.now s c n)
-            → PartsStand (only connection side.Ap n) self.old s
-            → MayServe side.Ap c (incoming n d.request) s
-            → Does self.new (serves side.Ap c (incoming n d.request)) s told.old told.new) }
+        ensures step { OnOk result ((s : State) (c : Connection) (item : Item) (a : ℕ)
+            → (d : IsDelivered (end.Ap a) connection asked.now payload.now s c item)
+            → PartsStand (only connection side.Ap item) self.old s
+            → MayServe side.Ap c d.request s
+            → Does self.new (serves side.Ap c d.request) s told.old told.new) }
     {
         let HostServed {
             result: code,

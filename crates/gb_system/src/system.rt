@@ -3,7 +3,6 @@
 ghost use Rattle.std.specs.Prelude.{◌≡◌, ◌+◌, ◌<◌, if◌then◌else◌, true, false};
 ghost use Rattle.std.specs.Prelude.{IfOk, is_ok, is_err, option_copied, option_map};
 ghost use Rattle.gb_bus.specs.Counting.{Tells};
-ghost use Rattle.gb_formats.specs.Built.{is_built};
 ghost use Rattle.gb_formats.specs.ValidEvents.{IsValid};
 ghost use Rattle.gb_machine.specs.State.{State, first_state};
 ghost use Rattle.gb_system.specs.Outcomes.{outcome_in};
@@ -40,7 +39,6 @@ impl System {
     /// Steps one event, and answers what it brings about: first `Entry::Done` or `Entry::Refused`.
     /// Once no memory was found, every later step answers that.
     pub fn step(&mut self, e: &Event) -> Result<Entries, OutOfMemory>
-        requires built { is_built e.now ≡ true }
         requires valid { IsValid e.now }
         requires room { taken_of self.old < 4294967295 }
         ensures step { (s : State) → Stands self.old s → StepsAs self.new s e.now result }

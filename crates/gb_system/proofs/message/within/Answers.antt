@@ -13,6 +13,7 @@ least n m e = omega (arith, e)
 pub slice_bounds-result-end : goal.slice_bounds-result-end
 slice_bounds-result-end c = sym (cut 2040 c.args.payload.now c.if-payload-gt-LONGEST_PAYLOAD.true)
 
-pub returns-then-payload-gt-LONGEST_PAYLOAD-clause-most : goal.returns-then-payload-gt-LONGEST_PAYLOAD-clause-most
+pub returns-then-payload-gt-LONGEST_PAYLOAD-clause-most
+    : goal.returns-then-payload-gt-LONGEST_PAYLOAD-clause-most
 returns-then-payload-gt-LONGEST_PAYLOAD-clause-most c =
     least _ 2040 (cut 2040 c.args.payload.now c.if-payload-gt-LONGEST_PAYLOAD.true)

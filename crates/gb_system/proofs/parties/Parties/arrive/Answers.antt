@@ -2,7 +2,9 @@
 use Rattle.std.proofs.Common.{[], ℕ, List, refl, sym, ap, ◌∙◌, subst}
 use Rattle.gb_bus.specs.Delivering.{Brings}
 use Rattle.gb_bus.specs.declared.answers.Arrival.{Arrival}
-use Rattle.gb_system.proofs.Arrivals.{answer-here, dropped-here, is-there, late-here, nothing-here, nowhere-here, reads-on, unplugged-here}
+use Rattle.gb_system.proofs.Arrivals.{answer-here, bad-here, dropped-here, is-there, late-here}
+use Rattle.gb_system.proofs.Arrivals.{late_label-here, nothing-here, nowhere-here, reads-on}
+use Rattle.gb_system.proofs.Arrivals.{unknown-here, unplugged-here}
 use Rattle.gb_machine.specs.Arriving.{reading_at}
 use Rattle.gb_system.proofs.AskArrivals.{ask-here}
 use Rattle.gb_system.specs.Serving.{side_of}
@@ -41,8 +43,8 @@ returns-in_ok-ask_at-in-Ask c = record {
       let a = subst (λ (w : Arrival). Brings (around_bus [] s) c.deliver.new.self
       c.takes-takes.result
       d.place s.bus d.item w) c.in-Ask.is d.brings in
-      ask-here s c.args.at c.deliver.new.self d.place c.in-Ok.arrived.connection d.item c.in-Ask.asked
-      c.in-Ask.payload c.in-Ask.payload st
+      ask-here s c.args.at c.deliver.new.self d.place c.in-Ok.arrived.connection d.item
+      c.in-Ask.asked c.in-Ask.payload c.in-Ask.payload st
       (sym c.if-is_unplugged.false ∙ c.is_unplugged.ensures [] s st.parts) d.named d.front
       (sym (c.takes-takes.ensures [] s d.place st.parts d.named
       (is-there c.args.self.now s c.args.at d.place st d.named).side) ∙ a.0) d.connection refl a.1
@@ -80,6 +82,48 @@ returns-in_ok-push-in-Late c = record {
       (sym (c.takes-takes.ensures [] s d.place st.parts d.named
       (is-there c.args.self.now s c.args.at d.place st d.named).side) ∙ a.0) a.1
       c.in_ok-push-in-Late.ensures.ok;
+}
+
+pub returns-in_ok-push-in-LateLabel : goal.returns-in_ok-push-in-LateLabel
+returns-in_ok-push-in-LateLabel c = record {
+  step = λ s st.
+      let d = c.in-Ok.ensures.step (around_bus [] s) s.bus st.parts.bus in
+      let a = subst (λ (w : Arrival). Brings (around_bus [] s) c.deliver.new.self
+      c.takes-takes.result
+      d.place s.bus d.item w) c.in-LateLabel.is d.brings in
+      late_label-here s c.args.at c.deliver.new.self d.place d.item c.in-LateLabel.label st
+      (sym c.if-is_unplugged.false ∙ c.is_unplugged.ensures [] s st.parts) d.named d.front
+      (sym (c.takes-takes.ensures [] s d.place st.parts d.named
+      (is-there c.args.self.now s c.args.at d.place st d.named).side) ∙ a.0) a.1
+      c.in_ok-push-in-LateLabel.ensures.ok;
+}
+
+pub returns-in_ok-push-in-UnknownLabel : goal.returns-in_ok-push-in-UnknownLabel
+returns-in_ok-push-in-UnknownLabel c = record {
+  step = λ s st.
+      let d = c.in-Ok.ensures.step (around_bus [] s) s.bus st.parts.bus in
+      let a = subst (λ (w : Arrival). Brings (around_bus [] s) c.deliver.new.self
+      c.takes-takes.result
+      d.place s.bus d.item w) c.in-UnknownLabel.is d.brings in
+      unknown-here s c.args.at c.deliver.new.self d.place d.item c.in-UnknownLabel.label st
+      (sym c.if-is_unplugged.false ∙ c.is_unplugged.ensures [] s st.parts) d.named d.front
+      (sym (c.takes-takes.ensures [] s d.place st.parts d.named
+      (is-there c.args.self.now s c.args.at d.place st d.named).side) ∙ a.0) a.1
+      c.in_ok-push-in-UnknownLabel.ensures.ok;
+}
+
+pub returns-in_ok-push-in-BadRaw : goal.returns-in_ok-push-in-BadRaw
+returns-in_ok-push-in-BadRaw c = record {
+  step = λ s st.
+      let d = c.in-Ok.ensures.step (around_bus [] s) s.bus st.parts.bus in
+      let a = subst (λ (w : Arrival). Brings (around_bus [] s) c.deliver.new.self
+      c.takes-takes.result
+      d.place s.bus d.item w) c.in-BadRaw.is d.brings in
+      bad-here s c.args.at c.deliver.new.self d.place d.item c.in-BadRaw.fault st
+      (sym c.if-is_unplugged.false ∙ c.is_unplugged.ensures [] s st.parts) d.named d.front
+      (sym (c.takes-takes.ensures [] s d.place st.parts d.named
+      (is-there c.args.self.now s c.args.at d.place st d.named).side) ∙ a.0) a.1
+      c.in_ok-push-in-BadRaw.ensures.ok;
 }
 
 pub returns-in_ok-push-in-Dropped : goal.returns-in_ok-push-in-Dropped

@@ -2,7 +2,8 @@
 use Rattle.std.proofs.Common.{[], Some, option_map, refl, sym, ap, ◌∙◌}
 use Rattle.gb_bus.specs.Wiring.{ends_of}
 use Rattle.gb_machine.specs.Bus.{next_number}
-use Rattle.gb_system.proofs.Asks.{ask-made, ask-nowhere, ask-unlabelled, number-nowhere, told-oneway, told-twoway}
+use Rattle.gb_system.proofs.Asks.{ask-made, ask-nowhere, ask-unlabelled, number-nowhere}
+use Rattle.gb_system.proofs.Asks.{told-oneway, told-twoway}
 use Rattle.gb_system.proofs.Standing.{rebussed}
 use Rattle.gb_system.specs.Drafts.{draft_of}
 use Rattle.gb_system.specs.Stands.{around_bus}

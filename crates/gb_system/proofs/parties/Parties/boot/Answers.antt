@@ -1,7 +1,8 @@
 -- A start is refused or done as the machine does.
 use Rattle.std.proofs.Common.{List, sym, subst}
 use Rattle.gb_base.specs.declared.entry.Entry.{Entry}
-use Rattle.gb_system.proofs.Boots.{IsBooting, boot-again, boot-done, boot-first, boot-more, boot-there}
+use Rattle.gb_system.proofs.Boots.{IsBooting, boot-again, boot-done, boot-first, boot-more}
+use Rattle.gb_system.proofs.Boots.{boot-there}
 use Rattle.gb_system.specs.declared.parties.Parties.{Parties}
 use Rattle.gb_system.proofs.parties.Parties.boot.Goals.{in-Some+in_ok-tell_inserted, in_default}
 use Rattle.gb_system.proofs.parties.Parties.boot.Goals as goal

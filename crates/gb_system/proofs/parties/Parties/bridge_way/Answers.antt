@@ -1,7 +1,8 @@
 -- A bridge line is refused on its connection, or becomes a request there.
 use Rattle.std.proofs.Common.{[], Err, sym, ap, ◌∙◌, subst}
 use Rattle.std.proofs.lemmas.Result.{err_from_is_err_and}
-use Rattle.gb_system.proofs.Bridgings.{bridge-goes, bridge-nowhere, bridge-occupied, bridge-spent, bridge-unfit}
+use Rattle.gb_system.proofs.Bridgings.{bridge-goes, bridge-nowhere, bridge-occupied, bridge-spent}
+use Rattle.gb_system.proofs.Bridgings.{bridge-unfit}
 use Rattle.gb_system.specs.Bridging.{BridgesTo}
 use Rattle.gb_system.specs.Stands.{around_bus}
 use Rattle.gb_system.proofs.parties.Parties.bridge_way.Goals as goal

@@ -17,7 +17,8 @@ loop-ask-preserved c = λ s st askable.
     let m = c.loop-ask.invariant s st askable in
     let own = c.ask-item.result in
     let rest = drop (c.loop-ask.ask-index + 1) c.args.own.now in
-    let next = drop-next c.args.own.now c.loop-ask.ask-index own c.loop-ask-test.true c.ask-item.is in
+    let next = drop-next c.args.own.now c.loop-ask.ask-index own c.loop-ask-test.true
+    c.ask-item.is in
     let left = subst AreAskable next m.1 in (
       midway-more (far_asks c.args.connection own) (far_asks_all c.args.connection rest)
           (midway-as _ (ap (far_asks_all c.args.connection) next

@@ -13,7 +13,8 @@ returns-in_ok-notice c = record {
       let is = ap (option_map event_of) c.in-Some.is in
       does-then told (does-given notices (event_of c.in-Some.event) is
       (c.in_ok-notice.ensures.step _ told.stand
-      (may-then c.args.entry (option_map event_of c.args.event) (event_of c.in-Some.event) s is may)));
+      (may-then c.args.entry (option_map event_of c.args.event) (event_of c.in-Some.event) s is
+      may)));
 }
 
 pub returns-in_default : goal.returns-in_default

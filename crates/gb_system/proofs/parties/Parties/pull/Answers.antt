@@ -7,7 +7,8 @@ use Rattle.gb_machine.specs.Wires.{unwires}
 use Rattle.gb_system.proofs.Inserts.{plugged-is}
 use Rattle.gb_system.proofs.Landing.{step-as}
 use Rattle.gb_system.proofs.Midways.{drop-next, midway-first}
-use Rattle.gb_system.proofs.Pulls.{Pulling, midway-all, midway-next, pull-nothing, pull-spent, pull-told, pull-untold}
+use Rattle.gb_system.proofs.Pulls.{Pulling, midway-all, midway-next, pull-nothing, pull-spent}
+use Rattle.gb_system.proofs.Pulls.{pull-told, pull-untold}
 use Rattle.gb_system.specs.Doing.{Does}
 use Rattle.gb_system.specs.Stands.{around_bus}
 use Rattle.gb_system.proofs.parties.Parties.pull.Goals.{then-self+in_ok-svc_ask, else-self}

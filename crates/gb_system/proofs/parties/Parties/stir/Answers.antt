@@ -43,9 +43,9 @@ returns c = record {
       elim c.match-named.branch [
         | in-Some+in_ok-far_ask_all w ↦
             step-as s (event_of_stir c.args.intf c.args.cport c.args.what) w.self-is w.told-is
-            (stir-wired c.args.self.now w.far_ask_all.new.self s c.args.intf c.args.cport c.args.what
-            c.stir.new.self c.in-Ok-Some.own c.named.result w.in-Some.connection c.in_ok-told.told
-            w.far_ask_all.new.told st stirred c.in_ok-told.ensures
+            (stir-wired c.args.self.now w.far_ask_all.new.self s c.args.intf c.args.cport
+            c.args.what c.stir.new.self c.in-Ok-Some.own c.named.result w.in-Some.connection
+            c.in_ok-told.told w.far_ask_all.new.told st stirred c.in_ok-told.ensures
             (λ t stand. c.named.ensures (around_bus [] t) t.bus stand.bus) w.in-Some.is
             (λ t stand askable.
             subst (λ own. Does w.far_ask_all.new.self (far_asks_all w.in-Some.connection own) t

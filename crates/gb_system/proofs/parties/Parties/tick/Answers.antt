@@ -5,7 +5,8 @@ use Rattle.gb_base.specs.declared.outcome.Outcome.TheVariants as outcome
 use Rattle.gb_machine.specs.GivingUp.{gives_up}
 use Rattle.gb_system.proofs.Midways.{drop-next}
 use Rattle.gb_system.proofs.Pulls.{midway-all}
-use Rattle.gb_system.proofs.Ticks.{due-are, later-stand, mid-at, mid-first, mid-may, mid-next, tick-done}
+use Rattle.gb_system.proofs.Ticks.{due-are, later-stand, mid-at, mid-first, mid-may, mid-next}
+use Rattle.gb_system.proofs.Ticks.{tick-done}
 use Rattle.gb_system.specs.Stands.{around_bus}
 use Rattle.gb_system.proofs.parties.Parties.tick.Goals as goal
 

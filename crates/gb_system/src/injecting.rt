@@ -1,0 +1,41 @@
+//! Raw bytes, which a script puts in place of a module's messages.
+
+ghost use Rattle.std.specs.Prelude.{◌≡◌};
+ghost use Rattle.gb_base.specs.declared.event.Event.TheVariants as event;
+ghost use Rattle.gb_machine.specs.State.{State};
+ghost use Rattle.gb_system.specs.Stands.{PartiesStand, PartsStep};
+
+use crate::entries::{begun, refused};
+use crate::parties::Parties;
+use gb_base::{Bytes, End, Entries, Entry, OutOfMemory, Refusal};
+
+/// The most raw bytes that are injected at once: as many as the longest message has.
+const MOST_RAW: usize = 2048;
+
+impl Parties {
+    /// Raw bytes go from a module's CPort to the application processor.
+    pub fn inject(&mut self, intf: u8, cport: u16, bytes: &[u8]) -> Result<Entries, OutOfMemory>
+        ensures step { (s : State) → PartiesStand self.old s
+            → PartsStep self.new s (event.Inject intf cport bytes.now) result }
+    {
+        let connection = match self.wired_at(intf, cport) {
+            Ok(connection) => connection,
+            Err(why) => return Ok(refused(self.alloc, why)?),
+        };
+        if bytes.len() > MOST_RAW {
+            return Ok(refused(self.alloc, Refusal::TooLarge)?);
+        }
+        let mut told = begun(self.alloc)?;
+        let Some(ends) = self.bus.ends(connection) else {
+            return Ok(told);
+        };
+        self.bus.inject(connection, bytes)?;
+        told.push(Entry::Raw {
+            from: End::Module { intf, cport },
+            to: End::Ap(ends.0),
+            size: bytes.len() as u16,
+            bytes: Bytes::from_slice(self.alloc, bytes)?,
+        })?;
+        Ok(told)
+    }
+}
