@@ -1,23 +1,21 @@
 -- Two passes are made one, and it is settled which of them has seen more.
 use Rattle.std.proofs.Common.{◌≡◌, ◌≢◌, ℕ, ◌+◌, ◌<◌, ◌≤◌, ◌⊎◌, inl, inr, ⊎_elim, Bool, true}
-use Rattle.std.proofs.Common.{false}
-use Rattle.std.proofs.Common.{List, length, set, refl, ap}
-use Rattle.std.proofs.Common.{arith}
-use Rattle.std.proofs.Common.{None}
+use Rattle.std.proofs.Common.{false, List, [], ◌∷◌, length, length-append, set, refl, sym, ap}
+use Rattle.std.proofs.Common.{◌∙◌, arith, Some, None}
 use Rattle.std.proofs.lemmas.Bool.Decides.{Decides-ltb, not_from_Decides}
-use Rattle.std.specs.Prelude.{◌||◌, if◌then◌else◌, nat_lt, slice_index}
+use Rattle.std.specs.Prelude.{◌||◌, if◌then◌else◌, nat_lt, slice_index, slice_set}
 use mathlib.Core.List.{IsPrefix}
 use mathlib.Core.Option as core
 use lib.ListN.{get_elem?}
 use Rattle.atomic_table.proofs.Lists.{at_set}
-use Rattle.atomic_table.specs.Table.{Allows, Joins, keeps, step}
+use Rattle.atomic_table.specs.Table.{Allows, Joins, State, keeps, step}
 use Rattle.gb_base.specs.declared.journal.JournalEntry.{JournalEntry}
-use Rattle.gb_desk.proofs.Keeping.{Changes, changed, each_set}
+use Rattle.gb_desk.proofs.Holding.{held_append, in_append}
+use Rattle.gb_desk.proofs.Keeping.{Changes, changed, each_set, first_word}
 use Rattle.gb_desk.proofs.Prefixes.{prefix_self, prefix_shorter}
 use Rattle.gb_desk.proofs.Totals.{times_append, total_at, total_set, total_two}
-use Rattle.gb_desk.specs.Rules.{Fits, Kept, all_parts, one_at, one_if, parts_of, spent}
-use Rattle.gb_desk.specs.Rules.{times_in}
-use Rattle.gb_desk.specs.Rules.{told_in, total, turns_of}
+use Rattle.gb_desk.specs.Rules.{Fits, Kept, all_parts, held_in, home_of, one_at, one_if}
+use Rattle.gb_desk.specs.Rules.{parts_of, spent, times_in, told_in, total, turns_of}
 use Rattle.gb_desk.specs.Steps.{Knows, Settles, both, longer, settled}
 use Rattle.gb_desk.specs.declared.stored.Stored.{Stored}
 use Rattle.gb_desk.specs.declared.view.View.{View}
@@ -33,6 +31,12 @@ fits_both first x v w part f g = record {
   seen = f.seen;
   beside = g.seen;
   told = told_both v.told w.told (x.broken ≡ true) f.told g.told;
+  tickets = λ t i. ⊎_elim (f.tickets t) (g.tickets t) (in_append t v.tickets w.tickets i);
+  enough =
+      let long = length-append v.tickets w.tickets in
+      let one = f.enough in
+      let other = g.enough in omega arith;
+  clear = f.clear;
   first = λ _. f.first part;
   out = f.out;
   idle = λ none. absurd (omega arith);
@@ -43,6 +47,9 @@ fits_spent first x = record {
   seen = (x.journal, refl);
   beside = (x.journal, refl);
   told = λ is. absurd (cc is);
+  tickets = λ t i. absurd i;
+  enough = omega arith;
+  clear = λ i is. absurd (cc is);
   first = λ part. absurd (omega arith);
   out = λ y is. absurd (cc is);
   idle = λ _. refl;
@@ -84,9 +91,35 @@ joined_told views id other v w apart at before there some_one =
     (let a : told_in v ≡ 0 = t.0 in let b : told_in w ≡ 0 = t.1 in omega arith))
     (one_of_two v.told w.told)
 
+-- what others found clear is so still, where two hold their tickets together
+joined_clear : (first : System) (s : State Stored View) (id other : ℕ) (v w : View)
+    (k : Kept first s) → v.clear ≡ None → other ≢ id → get_elem? s.views id ≡ core.some v
+    → get_elem? (set s.views id (both v w)) other ≡ core.some w
+    → (j : ℕ) (z : View) (i : ℕ)
+    → get_elem? (set (set s.views id (both v w)) other spent) j ≡ core.some z
+    → z.clear ≡ Some i
+    → (i < 256) × (total (held_in i) (set (set s.views id (both v w)) other spent) ≡ 0)
+joined_clear first s id other v w k unclear apart at there j z i where_ is =
+    let u = both v w in
+    let sum = total_join (held_in i) s.views id other v w u refl at there in
+    let both_held = held_append i v.tickets w.tickets in
+    ⊎_elim
+    (λ (t : (j ≡ other) × (spent ≡ z)).
+    absurd (let none = ap (λ (y : View). y.clear) t.1 in cc (none, is)))
+    (λ (t : (j ≢ other) × (get_elem? (set s.views id u) j ≡ core.some z)).
+    ⊎_elim
+    (λ (e : (j ≡ id) × (u ≡ z)).
+    absurd (let none = ap (λ (y : View). y.clear) e.1 in cc (none, unclear, is)))
+    (λ (e : (j ≢ id) × (get_elem? s.views j ≡ core.some z)).
+    (let was = k.clear j z i e.1 is in
+    (was.0, (let zero = was.1 in omega arith))))
+    (at_set s.views id j u z t.1))
+    (at_set (set s.views id u) other j spent z where_)
+
 pub joins : (first : System) (id : ℕ) (v : View) (other : ℕ) (w : View) → v.out ≡ None
-    → w.out ≡ None → 0 < v.parts → Joins (Kept first) id v other w (both v w) spent
-joins first id v other w out out' part s k at apart there =
+    → w.out ≡ None → v.clear ≡ None → 0 < v.parts
+    → Joins (Kept first) id v other w (both v w) spent
+joins first id v other w out out' unclear part s k at apart there =
     let x = k.current in
     let u = both v w in
     let before = there_before s.views id other u w apart there in
@@ -108,6 +141,11 @@ joins first id v other w out out' part s k at apart there =
           (fits_both first x v w part f g))
           (λ j z apart' there' fits. fits)
           (fits_spent first x);
+      counts = λ i within. (
+          let is = total_join (held_in i) s.views id other v w u refl at there in
+          let both_held = held_append i v.tickets w.tickets in
+          let was = k.counts i within in omega arith);
+      clear = joined_clear first s id other v w k unclear apart at there;
       parts =
           let is = total_join parts_of s.views id other v w u refl at there in
           let was = k.parts in omega arith;
@@ -141,21 +179,31 @@ fits_settled first x v part f = record {
   seen = (is_longer v.seen v.beside x.journal f.seen f.beside).2;
   beside = (x.journal, refl);
   told = f.told;
+  tickets = f.tickets;
+  enough = f.enough;
+  clear = f.clear;
   first = f.first;
   out = f.out;
   idle = λ none. absurd (omega arith);
 }
 
 pub settle : (slots : ℕ) (first : System) (id : ℕ) (me : Knows) → 0 < me.0.parts
+    → me.0.clear ≡ None
     → Allows (Kept first) slots id me 0 (λ n. n) (Settles (step slots 0 0 0 core.none) me)
-settle slots first id me part s k len at small =
+settle slots first id me part unclear s k len at small =
     let v = me.0 in
     let x = k.current in
     let f = k.each id v at in
-    let c : Changes first s id v (settled v) x x (slice_index s.words 0) = record {
+    let n = slice_index s.words 0 in
+    let words = first_word s.words n k.words in
+    let c : Changes first s id v (settled v) x x (slice_set s.words 0 n) = record {
       at = at;
-      word = k.word;
-      turns = refl;
+      size = words.size;
+      word = (let now = words.first in let was = k.word in omega arith);
+      turns = (let now = words.first in omega arith);
+      counts = λ i within. ap (λ m. m + held_in i v) (words.rest i);
+      holds = inl (λ i none. none);
+      clear = λ i is. absurd (cc (unclear, is));
       sound = k.sound;
       fits = fits_settled first x v part f;
       others = λ j u apart there fits. fits;
@@ -169,6 +217,7 @@ settle slots first id me part s k len at small =
       settled v,
       keeps,
       tt,
-      changed first s id v (settled v) x (slice_index s.words 0) s.homes k c k.home,
+      changed first s id v (settled v) x (slice_set s.words 0 n) s.homes k c
+          (k.home ∙ ap (λ m. home_of m x ∷ []) (sym words.first)),
       (refl, found.0, found.1, most),
     )

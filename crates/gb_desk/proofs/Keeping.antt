@@ -1,26 +1,32 @@
 -- The rule holds after a step that changes one pass.
-use Rattle.std.proofs.Common.{◌≡◌, ◌≢◌, ℕ, ◌+◌, ◌<◌, ◌≤◌, ◌⊎◌, ⊎_elim, true, List}
-use Rattle.std.proofs.Common.{[], ◌∷◌}
-use Rattle.std.proofs.Common.{length, set, refl, subst, arith}
+use Rattle.std.proofs.Common.{◌≡◌, ◌≢◌, ℕ, ◌+◌, ◌<◌, ◌≤◌, ◌⊎◌, ⊎_elim, true, List, Some}
+use Rattle.std.proofs.Common.{[], ◌∷◌, length, set, refl, ap, ◌∙◌, subst, arith}
 use Rattle.std.specs.Prelude.{slice_index, slice_set}
 use mathlib.Core.Option.{Option, some}
 use lib.ListN.{get_elem?}
 use Rattle.atomic_table.proofs.Lists.{at_set}
 use Rattle.atomic_table.specs.Table.{State}
-use Rattle.gb_desk.proofs.Totals.{total_set, total_at}
-use Rattle.gb_desk.specs.Rules.{Fits, Kept, Sound, home_of, once_below, parts_of, times}
-use Rattle.gb_desk.specs.Rules.{times_in}
-use Rattle.gb_desk.specs.Rules.{told_in, total, turns_of}
+use Rattle.gb_desk.proofs.Totals.{total_set, total_at, total_two}
+use Rattle.gb_desk.proofs.Words.{word_other, word_same, words_as_long}
+use Rattle.gb_desk.specs.Rules.{Fits, Kept, Sound, held_in, home_of, once_below, parts_of}
+use Rattle.gb_desk.specs.Rules.{times_in, told_in, total, turns_of}
+use Rattle.gb_desk.specs.Slots.{times}
 use Rattle.gb_desk.specs.declared.stored.Stored.{Stored}
 use Rattle.gb_desk.specs.declared.view.View.{View}
 use Rattle.gb_system.specs.declared.system.System.{System}
 
--- What a step changes: one pass, what is shared, and the word.
+-- What a step changes: one pass, what is shared, and the words.
 pub record Changes (first : System) (s : State Stored View) (id : ℕ) (v w : View) (x y : Stored)
-    (n : ℕ) : Type 0 where
+    (words : List ℕ) : Type 0 where
   pub at : get_elem? s.views id ≡ some v
-  pub word : n ≤ 1
-  pub turns : n + turns_of v ≡ slice_index s.words 0 + turns_of w
+  pub size : length words ≡ 257
+  pub word : slice_index words 0 ≤ 1
+  pub turns : slice_index words 0 + turns_of v ≡ slice_index s.words 0 + turns_of w
+  pub counts : (i : ℕ) → i < 256
+      → slice_index words (i + 1) + held_in i v ≡ slice_index s.words (i + 1) + held_in i w
+  pub holds : ((i : ℕ) → held_in i v ≡ 0 → held_in i w ≡ 0) ⊎ (0 < turns_of v)
+  pub clear : (i : ℕ) → w.clear ≡ Some i
+      → (i < 256) × (total (held_in i) s.views ≡ 0) × (held_in i w ≡ 0)
   pub sound : Sound first y
   pub fits : Fits first y w
   pub others : (j : ℕ) (u : View) → j ≢ id → get_elem? s.views j ≡ some u → Fits first x u
@@ -29,14 +35,6 @@ pub record Changes (first : System) (s : State Stored View) (id : ℕ) (v w : Vi
   pub places : (m : ℕ) → times m w.mine + once_below m (length x.journal)
       ≡ times m v.mine + once_below m (length y.journal)
   pub told : y.broken ≡ true → (w.told ≡ true) ⊎ ((x.broken ≡ true) × (w.told ≡ v.told))
-
-word_set : (words : List ℕ) (n : ℕ) → length words ≡ 1 → slice_index (slice_set words 0 n) 0 ≡ n
-word_set [] n one = absurd (omega arith)
-word_set (w ∷ words) n one = refl
-
-words_set : (words : List ℕ) (n : ℕ) → length words ≡ 1 → length (slice_set words 0 n) ≡ 1
-words_set [] n one = absurd (omega arith)
-words_set (w ∷ words) n one = one
 
 -- what is so of each pass, where one changes
 pub each_set : (first : System) (x y : Stored) (views : List View) (id : ℕ) (w : View)
@@ -68,33 +66,101 @@ told_now s id v w x at was how =
     let same : told_in w ≡ told_in v = rw (is.1) refl in omega arith))
     how
 
-pub changed : (first : System) (s : State Stored View) (id : ℕ) (v w : View) (y : Stored) (n : ℕ)
-    (homes : List (Option Stored)) (k : Kept first s) → Changes first s id v w k.current y n
-    → homes ≡ home_of n y ∷ []
-    → Kept first (record { words = slice_set s.words 0 n; homes = homes; views = set s.views id w })
-changed first s id v w y n homes k c home =
-    let now = word_set s.words n k.words in
-    record {
-      current = y;
-      words = words_set s.words n k.words;
-      word = rw now c.word;
-      turns =
-          let sum = total_set turns_of s.views id v w c.at in
-          let was = k.turns in
-          let is = c.turns in
-          omega arith;
-      home = rw now home;
-      sound = c.sound;
-      each = each_set first k.current y s.views id w k.each c.others c.fits;
-      parts =
-          let sum = total_set parts_of s.views id v w c.at in
-          let was = k.parts in
-          let same = c.parts in
-          omega arith;
-      places = λ m. (
-          let sum = total_set (times_in m) s.views id v w c.at in
-          let was = k.places m in
-          let is = c.places m in
-          omega arith);
-      told = λ broken. told_now s id v w k.current c.at k.told (c.told broken);
-    }
+-- what another pass found clear is so still
+clear_other : (first : System) (s : State Stored View) (id : ℕ) (v w : View) (y : Stored)
+    (words : List ℕ) (k : Kept first s) → Changes first s id v w k.current y words
+    → (j : ℕ) (u : View) (i : ℕ) → j ≢ id → get_elem? s.views j ≡ some u → u.clear ≡ Some i
+    → (i < 256) × (total (held_in i) (set s.views id w) ≡ 0)
+clear_other first s id v w y words k c j u i apart there is =
+    let was = k.clear j u i there is in
+    let sum = total_set (held_in i) s.views id v w c.at in
+    let least = total_at (held_in i) s.views id v c.at in
+    ⊎_elim
+    (λ (keeps : (i : ℕ) → held_in i v ≡ 0 → held_in i w ≡ 0).
+    (was.0, (let none = keeps i (omega arith) in omega arith)))
+    (λ (mine : 0 < turns_of v).
+    (let its = (k.each j u there).clear i is in
+    let two = total_two turns_of s.views id j v u apart c.at there in
+    let all = k.turns in
+    let most = k.word in absurd (omega arith)))
+    c.holds
+
+clear_now : (first : System) (s : State Stored View) (id : ℕ) (v w : View) (y : Stored)
+    (words : List ℕ) (k : Kept first s) → Changes first s id v w k.current y words
+    → (j : ℕ) (u : View) (i : ℕ) → get_elem? (set s.views id w) j ≡ some u → u.clear ≡ Some i
+    → (i < 256) × (total (held_in i) (set s.views id w) ≡ 0)
+clear_now first s id v w y words k c j u i there is =
+    ⊎_elim
+    (λ (t : (j ≡ id) × (w ≡ u)).
+    (let own = c.clear i (ap (λ (z : View). z.clear) t.1 ∙ is) in
+    let sum = total_set (held_in i) s.views id v w c.at in
+    (own.0, (let none = own.1 in let here = own.2 in omega arith))))
+    (λ (t : (j ≢ id) × (get_elem? s.views j ≡ some u)).
+    clear_other first s id v w y words k c j u i t.0 t.1 is)
+    (at_set s.views id j w u there)
+
+pub changed : (first : System) (s : State Stored View) (id : ℕ) (v w : View) (y : Stored)
+    (words : List ℕ) (homes : List (Option Stored)) (k : Kept first s)
+    → Changes first s id v w k.current y words → homes ≡ home_of (slice_index words 0) y ∷ []
+    → Kept first (record { words = words; homes = homes; views = set s.views id w })
+changed first s id v w y words homes k c home = record {
+  current = y;
+  words = c.size;
+  word = c.word;
+  turns =
+      let sum = total_set turns_of s.views id v w c.at in
+      let was = k.turns in
+      let is = c.turns in
+      omega arith;
+  home = home;
+  sound = c.sound;
+  each = each_set first k.current y s.views id w k.each c.others c.fits;
+  counts = λ i within. (
+      let sum = total_set (held_in i) s.views id v w c.at in
+      let was = k.counts i within in
+      let is = c.counts i within in
+      omega arith);
+  clear = clear_now first s id v w y words k c;
+  parts =
+      let sum = total_set parts_of s.views id v w c.at in
+      let was = k.parts in
+      let same = c.parts in
+      omega arith;
+  places = λ m. (
+      let sum = total_set (times_in m) s.views id v w c.at in
+      let was = k.places m in
+      let is = c.places m in
+      omega arith);
+  told = λ broken. told_now s id v w k.current c.at k.told (c.told broken);
+}
+
+-- ---- the words
+
+-- What a step changes of the words: the first alone.
+pub record FirstWord (words was : List ℕ) (n : ℕ) : Type 0 where
+  pub size : length words ≡ 257
+  pub first : slice_index words 0 ≡ n
+  pub rest : (i : ℕ) → slice_index words (i + 1) ≡ slice_index was (i + 1)
+
+pub first_word : (was : List ℕ) (n : ℕ) → length was ≡ 257 → FirstWord (slice_set was 0 n) was n
+first_word was n size = record {
+  size = words_as_long was 0 n ∙ size;
+  first = word_same was 0 n (omega arith);
+  rest = λ i. word_other was 0 (i + 1) n (λ same. omega arith);
+}
+
+-- What a step changes of the words: one count.
+pub record OneCount (words was : List ℕ) (at n : ℕ) : Type 0 where
+  pub size : length words ≡ 257
+  pub first : slice_index words 0 ≡ slice_index was 0
+  pub here : slice_index words (at + 1) ≡ n
+  pub rest : (i : ℕ) → i ≢ at → slice_index words (i + 1) ≡ slice_index was (i + 1)
+
+pub one_count : (was : List ℕ) (at n : ℕ) → length was ≡ 257 → at < 256
+    → OneCount (slice_set was (at + 1) n) was at n
+one_count was at n size within = record {
+  size = words_as_long was (at + 1) n ∙ size;
+  first = word_other was (at + 1) 0 n (λ same. omega arith);
+  here = word_same was (at + 1) n (omega arith);
+  rest = λ i apart. word_other was (at + 1) (i + 1) n (λ same. apart (omega arith));
+}

@@ -1,9 +1,11 @@
 -- The numbers of all passes together.
-use Rattle.std.proofs.Common.{◌≡◌, ◌≢◌, ℕ, zero, suc, ◌+◌, ◌≤◌, List, [], ◌∷◌, ◌++◌, set}
-use Rattle.std.proofs.Common.{refl, sym, ap, ◌∙◌, arith, length, length-append}
+use Rattle.std.proofs.Common.{◌≡◌, ◌≢◌, ℕ, zero, suc, ◌+◌, ◌<◌, ◌≤◌, ⊎_elim, List, [], ◌∷◌, ◌++◌}
+use Rattle.std.proofs.Common.{set, refl, sym, ap, ◌∙◌, arith, length, length-append}
+use Rattle.std.proofs.lemmas.Bool.{cases_lt}
 use mathlib.Core.Option.{some, some-injective, some-ne-none}
 use lib.ListN.{get_elem?}
-use Rattle.gb_desk.specs.Rules.{hit, once_below, parts_of, spent, times, total}
+use Rattle.gb_desk.specs.Rules.{once_below, parts_of, spent, total}
+use Rattle.gb_desk.specs.Slots.{hit, times}
 use Rattle.gb_desk.specs.declared.view.View.{View}
 
 pub total_set : (f : View → ℕ) (views : List View) (j : ℕ) (v w : View)
@@ -82,3 +84,22 @@ once_longer n xs x =
     let long : length (xs ++ x ∷ []) ≡ suc (length xs) =
     length-append xs (x ∷ []) ∙ (let one : length (x ∷ []) ≡ 1 = refl in omega arith) in
     ap (once_below n) long
+
+-- where all together have some, one has
+pub total_some : (f : View → ℕ) (views : List View) → 0 < total f views
+    → (j : ℕ) × (v : View) × (get_elem? views j ≡ some v) × (0 < f v)
+total_some f [] more = absurd (omega arith)
+total_some f (x ∷ xs) more =
+    ⊎_elim
+    (λ (here : 0 < f x). (0, x, refl, here))
+    (λ (later : f x ≤ 0).
+    (let rec = total_some f xs (omega arith) in (suc rec.0, rec.1, rec.2, rec.3)))
+    (cases_lt 0 (f x))
+
+-- what is no more for each is no more for all
+pub total_most : (f g : View → ℕ) (views : List View)
+    → ((j : ℕ) (v : View) → get_elem? views j ≡ some v → f v ≤ g v) → total f views ≤ total g views
+total_most f g [] each = omega arith
+total_most f g (x ∷ xs) each =
+    let here = each 0 x refl in
+    let later = total_most f g xs (λ j v at. each (suc j) v at) in omega arith

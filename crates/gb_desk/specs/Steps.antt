@@ -7,7 +7,12 @@ use Rattle.atomic_table.specs.Table.{Me, Step}
 use Rattle.gb_base.specs.declared.journal.JournalEntry.{JournalEntry}
 use Rattle.gb_desk.specs.declared.stored.Stored.{Stored}
 use Rattle.gb_desk.specs.declared.view.View.{View}
-use Rattle.gb_desk.specs.Rules.{Sound, all_parts, once_below, times}
+use Rattle.gb_desk.specs.Rules.{IsOfSlot, Sound, all_parts, once_below}
+use Rattle.gb_desk.specs.Slots.{slot_at, times}
+use Rattle.gb_desk.specs.Tickets.{HasTicket, fewer, held, ticket}
+use Rattle.gb_desk.specs.declared.slots.Slot.{Slot}
+use Rattle.gb_desk.specs.declared.ticket.Ticket.{Ticket}
+use Rattle.gb_machine.specs.Members.{IsIn}
 use Rattle.gb_system.specs.declared.system.System.{System}
 
 -- what a pass knows, with the slot that it holds
@@ -20,9 +25,13 @@ Knows = Me Stored View
 abbrev pub met : View → View
 met v = record v { met = v.met + 1 }
 
+-- a pass that holds the turn, and has found these requests to have tickets
+abbrev pub using : View → Stored → List ℕ → View
+using v x numbers = record v { out = Some x; used = numbers }
+
 -- a pass that holds the turn
 abbrev pub taking : View → Stored → View
-taking v x = record v { out = Some x }
+taking v x = using v x []
 
 -- The turn was got, and what is shared with it.
 pub record Took (v : View) (after : Knows) : Type 0 where
@@ -33,6 +42,7 @@ pub record Took (v : View) (after : Knows) : Type 0 where
   pub sound : Sound first shared
   pub seen : IsPrefix v.seen shared.journal
   pub told : v.told ≡ true → shared.broken ≡ true
+  pub tickets : (t : Ticket) → IsIn t v.tickets → IsOfSlot shared.slots t
 
 -- The turn was held by another pass, so this one hasn't all parts.
 pub record Met (v : View) (after : Knows) : Type 0 where
@@ -55,8 +65,18 @@ gave v x y = record v {
   seen = y.journal;
   mine = mine_after v.mine (length x.journal) (length y.journal);
   told = y.broken;
+  clear = None;
   out = None;
 }
+
+-- a pass that took x and gave it back
+abbrev pub left : View → Stored → View
+left v x = record v { seen = x.journal; clear = None; out = None }
+
+-- the turn is given back, and nothing was changed in it
+abbrev pub Leaves : Step Stored → Knows → ℕ → Knows → Type 0
+Leaves st me n me' = (x : Stored) → me.0.out ≡ Some x → me.1 ≡ (0, x) ∷ []
+    → me' ≡ (left me.0 x, [])
 
 -- no place stands twice, and each is one of the history that was seen
 abbrev pub ArePlaces : View → Type 0
@@ -67,6 +87,56 @@ abbrev pub Gives : Step Stored → Knows → ℕ → Knows → Type 0
 Gives st me n me' = (x y : Stored) → me.0.out ≡ Some x → me.1 ≡ (0, y) ∷ []
     → (me' ≡ (gave me.0 x y, [])) × ArePlaces me'.0
 
+-- ---- the counts of tickets
+
+-- a pass that found a slot to have no ticket
+abbrev pub clearing : ℕ → View → View
+clearing i v = record v { clear = Some i }
+
+-- No ticket of the slot was found.
+pub record IsClear (i : ℕ) (me me' : Knows) : Type 0 where
+  pub none : held i me.0.tickets ≡ 0
+  pub is : me' ≡ (clearing i me.0, me.1)
+
+-- Tickets of the slot were found. Where the pass has all parts, they are its own.
+pub record IsHeld (i : ℕ) (x : Stored) (me me' : Knows) : Type 0 where
+  pub slot : Slot
+  pub there : slot_at i x.slots ≡ Some slot
+  pub is : me' ≡ (record me.0 { used = slot.number ∷ me.0.used }, me.1)
+  pub own : me.0.parts ≡ all_parts → HasTicket me.0.tickets slot.number
+
+-- the count of a slot is read in a turn
+abbrev pub Looks : Step Stored → Knows → ℕ → Knows → Type 0
+Looks st me n me' = (i : ℕ) (x : Stored) → st.word ≡ i + 1 → me.0.out ≡ Some x
+    → (n ≡ 0 → IsClear i me me') × (n ≢ 0 → IsHeld i x me me')
+
+-- a pass that took x, and did an event that asked request n, which gets slot i
+abbrev pub opening : ℕ → ℕ → View → Stored → Stored → View
+opening i n v x y = record v {
+  seen = y.journal;
+  mine = mine_after v.mine (length x.journal) (length y.journal);
+  told = y.broken;
+  tickets = ticket i n ∷ v.tickets;
+  clear = None;
+  out = Some y;
+}
+
+-- the first ticket of a request is made in a turn
+abbrev pub Opens : Step Stored → Knows → ℕ → Knows → Type 0
+Opens st me n me' = (i : ℕ) (x y : Stored) (z : Slot) → st.word ≡ i + 1 → me.0.out ≡ Some x
+    → me.1 ≡ (0, y) ∷ [] → slot_at i y.slots ≡ Some z
+    → me' ≡ (opening i z.number me.0 x y, me.1)
+
+-- one more ticket of a request
+abbrev pub Retains : Step Stored → Knows → ℕ → Knows → Type 0
+Retains st me n me' = (t : Ticket) → st.word ≡ t.slot + 1 → IsIn t me.0.tickets
+    → me' ≡ (record me.0 { tickets = t ∷ me.0.tickets }, me.1)
+
+-- one ticket of a request less
+abbrev pub Releases : Step Stored → Knows → ℕ → Knows → Type 0
+Releases st me n me' = (t : Ticket) → st.word ≡ t.slot + 1 → IsIn t me.0.tickets
+    → me' ≡ (record me.0 { tickets = fewer t me.0.tickets }, me.1)
+
 -- ---- passes are cut and put together
 
 -- a pass without some of its parts
@@ -75,7 +145,7 @@ stays k v = record v { parts = v.parts - k; cuts = v.cuts + 1 }
 
 -- a pass that was cut off, with these parts
 abbrev pub goes : ℕ → View → View
-goes k v = record v { mine = []; parts = k; met = 0; cuts = 0 }
+goes k v = record v { mine = []; parts = k; met = 0; cuts = 0; tickets = []; used = [] }
 
 abbrev pub longer : List JournalEntry → List JournalEntry → List JournalEntry
 longer xs ys = if nat_lt (length xs) (length ys) then ys else xs
@@ -87,6 +157,7 @@ both v w = record v {
   mine = v.mine ++ w.mine;
   parts = v.parts + w.parts;
   told = v.told || w.told;
+  tickets = v.tickets ++ w.tickets;
 }
 
 -- a pass that knows which of two beginnings of the history is the longer one

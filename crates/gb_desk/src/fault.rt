@@ -2,7 +2,8 @@
 
 use gb_base::OutOfMemory;
 
-/// Why a call on a desk did nothing. They are tried in this order.
+/// Why a call on a desk did nothing. They are tried in this order, but that want of memory, once it
+/// was met, comes right behind `Busy`.
 #[derive(Clone, Copy, Debug, PartialEq, Eq)]
 pub enum DeskFault {
     /// Another caller had the turn. Nobody waits: try again.
@@ -10,7 +11,19 @@ pub enum DeskFault {
     /// The history is as long as it can get: 4,294,967,295 events, with those that the system had
     /// taken before.
     JournalSpent,
+    /// The pass holds as many tickets as it has parts.
+    PassSpent,
+    /// Each of the 256 slots has a request that is open or has a ticket.
+    Full,
     /// No memory was found, now or in an earlier call. Every later call that gets the turn answers
     /// this.
     Memory(OutOfMemory),
 }
+
+/// Another caller had the turn. Nobody waits: try again.
+#[derive(Clone, Copy, Debug, PartialEq, Eq)]
+pub struct Busy;
+
+/// The pass holds as many tickets as it has parts.
+#[derive(Clone, Copy, Debug, PartialEq, Eq)]
+pub struct PassSpent;

@@ -5,13 +5,17 @@ mod desk;
 mod fault;
 mod pass;
 mod seat;
+mod slots;
 mod stored;
 #[cfg(test)]
 mod tests;
 #[cfg(test)]
 mod thread_tests;
+mod ticket;
 mod view;
 
 pub use desk::Desk;
-pub use fault::DeskFault;
+pub use fault::{Busy, DeskFault, PassSpent};
 pub use pass::Pass;
+pub use slots::Told;
+pub use ticket::{Opened, Ticket};

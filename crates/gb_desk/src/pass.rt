@@ -1,23 +1,26 @@
 //! The passes of a desk.
 
-ghost use Rattle.std.specs.Prelude.{◌≡◌};
+ghost use Rattle.std.specs.Prelude.{◌≡◌, length};
 ghost use Rattle.gb_desk.specs.Calls.{IsFree};
 
 use crate::stored::Stored;
 use crate::view::View;
 use atomic_table::Seat;
 
-/// The right to use a desk, in parts. A pass with all 4,294,967,295 parts is alone. It has no
-/// `Drop`: join it into another one, or close the desk with it.
+/// The right to use a desk, in parts. A pass with all 4,294,967,295 parts is alone. It holds no more
+/// tickets than it has parts. It has no `Drop`: join it into another one, or close the desk with it.
 pub struct Pass {
     pub(crate) seat: Seat<Stored, View>,
     pub(crate) parts: u32,
+    pub(crate) tickets: u32,
     ghost free: { IsFree seat.me },
     ghost counted: { seat.me.0.parts ≡ parts },
+    ghost held: { length seat.me.0.tickets ≡ tickets },
 }
 
 impl Pass {
     ghost use Rattle.gb_desk.specs.Passes.{known};
+    ghost use Rattle.std.specs.Prelude.{◌<◌, ◌≤◌, MatchBool};
 
     /// How many parts it has.
     pub fn parts(&self) -> u32
@@ -26,10 +29,18 @@ impl Pass {
         self.parts
     }
 
-    /// How many tickets it holds: none, as a desk gives none yet.
+    /// How many tickets it holds.
     pub fn tickets(&self) -> u32
-        ensures { result ≡ 0 }
+        ensures { result ≡ length (known self.now).tickets }
     {
-        0
+        self.tickets
+    }
+
+    // Whether it has no part left for a ticket.
+    pub(crate) fn is_spent(&self) -> bool
+        ensures { MatchBool result ((known self.now).parts ≤ length (known self.now).tickets)
+            (length (known self.now).tickets < (known self.now).parts) }
+    {
+        self.tickets >= self.parts
     }
 }

@@ -1,22 +1,24 @@
 //! One thread with several passes. The counts of entries are worked by hand.
 
-ghost use Rattle.std.specs.Prelude.{◌≡◌, true};
-ghost use Rattle.gb_desk.specs.Passes.{IsOf, known};
-ghost use Rattle.gb_formats.specs.Built.{is_built};
-ghost use Rattle.gb_formats.specs.ValidEvents.{IsValid};
+ghost use Rattle.std.specs.Prelude.{◌≡◌, [], ◌∷◌, false, true, Some};
+ghost use Rattle.gb_desk.specs.Passes.{IsAsBefore, IsOf, known};
+ghost use Rattle.gb_formats.specs.ValidEvents.{IsName, IsValid};
+ghost use Rattle.gb_laws.specs.Tickets.{asks};
+ghost use Rattle.gb_machine.specs.Members.{IsIn};
 
-use crate::{Desk, Pass};
-use gb_base::{End, Event, Journal};
+use crate::{Desk, DeskFault, Opened, Pass, Ticket, Told};
+use gb_base::{Bytes, End, Event, Journal, Name, Word};
 use gb_system::System;
+use std::alloc::Global;
 use std::process::Abort;
 
 /// An event is done, and so many entries come of it.
 fn done(rt: &impl Abort, desk: &Desk, pass: &mut Pass, by: u8, e: &Event, entries: usize)
     requires own { IsOf desk.now pass.old }
-    requires built { is_built e.now ≡ true }
     requires valid { IsValid e.now }
+    requires plain { asks e.now ≡ false }
     ensures own { IsOf desk.now pass.new }
-    ensures parts { (known pass.new).parts ≡ (known pass.old).parts }
+    ensures keeps { IsAsBefore (known pass.old) (known pass.new) }
 {
     match desk.call(pass, by, e) {
         Ok(told) => assert_eq!(rt; told.items().len(), entries),
@@ -58,4 +60,164 @@ fn passes_share_one_history(rt: HostRuntime) {
     assert_eq!(rt; tag(&journal, 0), 1);
     assert_eq!(rt; tag(&journal, 1), 2);
     assert_eq!(rt; tag(&journal, 2), 1);
+}
+
+/// A name, `x` or `y` of one of 256 callers.
+fn name(rt: &impl Abort, who: u8, word: &[u8]) -> Name
+    ensures { IsName result }
+{
+    Name {
+        who,
+        word: Word::from_bytes(word).expect(rt, "a word"),
+    }
+}
+
+/// A ping of the supervisory controller.
+fn ping(alloc: Global, name: Name) -> Event
+    requires { IsName name }
+    ensures valid { IsValid result }
+    ensures asking { asks result ≡ true }
+{
+    Event::Send {
+        name,
+        to: End::Svc,
+        kind: 0x13,
+        payload: Bytes::new(alloc),
+        timeout: 1000,
+    }
+}
+
+/// The ticket that came with an answer.
+fn ticket(rt: &impl Abort, opened: Opened) -> Ticket
+    ensures { opened.ticket ≡ Some result }
+{
+    let Opened { entries: _, ticket } = opened;
+    match ticket {
+        Some(ticket) => ticket,
+        None => panic!(rt; "no ticket"),
+    }
+}
+
+/// A ping with a name is opened.
+fn opens(rt: &impl Abort, alloc: Global, desk: &Desk, pass: &mut Pass, name: Name) -> Ticket
+    requires own { IsOf desk.now pass.old }
+    requires named { IsName name }
+    ensures own { IsOf desk.now pass.new }
+    ensures tickets { (known pass.new).tickets ≡ result ∷ (known pass.old).tickets }
+{
+    match desk.open_request(pass, 1, &ping(alloc, name)) {
+        Ok(opened) => ticket(rt, opened),
+        Err(_) => panic!(rt; "not opened"),
+    }
+}
+
+/// All slots are taken.
+fn is_full(rt: &impl Abort, alloc: Global, desk: &Desk, pass: &mut Pass)
+    requires own { IsOf desk.now pass.old }
+    ensures own { IsOf desk.now pass.new }
+    ensures keeps { IsAsBefore (known pass.old) (known pass.new) }
+{
+    match desk.open_request(pass, 1, &ping(alloc, name(rt, 0, b"y"))) {
+        Ok(opened) => {
+            let Ticket { slot: _, number: _ } = ticket(rt, opened);
+            panic!(rt; "opened")
+        }
+        Err(DeskFault::Full) => {}
+        Err(_) => panic!(rt; "another fault"),
+    }
+}
+
+/// A request is cancelled by its name.
+fn cancels(rt: &impl Abort, desk: &Desk, pass: &mut Pass, name: Name)
+    requires own { IsOf desk.now pass.old }
+    requires named { IsName name }
+    ensures own { IsOf desk.now pass.new }
+    ensures keeps { IsAsBefore (known pass.old) (known pass.new) }
+{
+    done(rt, desk, pass, 1, &Event::Cancel { name }, 2);
+}
+
+/// So it is told of a request.
+fn tells(rt: &impl Abort, desk: &Desk, pass: &mut Pass, t: &Ticket, want: Option<Told>)
+    requires own { IsOf desk.now pass.old }
+    requires held { IsIn t.now (known pass.old).tickets }
+    ensures own { IsOf desk.now pass.new }
+    ensures keeps { IsAsBefore (known pass.old) (known pass.new) }
+{
+    match desk.outcome(pass, t) {
+        Ok(told) => assert!(rt; told == want),
+        Err(_) => panic!(rt; "busy"),
+    }
+}
+
+/// The desk goes with tickets that nobody gives back.
+fn abandon(desk: Desk, pass: Pass)
+    requires own { IsOf desk pass }
+{
+    let Desk { table } = desk;
+    let Pass {
+        seat,
+        parts: _,
+        tickets: _,
+    } = pass;
+    let mut closed = table.close_with(seat);
+    closed.take(0);
+    closed.free();
+}
+
+/// Pings of so many callers are opened, and their tickets are kept.
+fn fills(rt: &impl Abort, alloc: Global, desk: &Desk, pass: &mut Pass, one: &Ticket, two: &Ticket)
+    requires own { IsOf desk.now pass.old }
+    requires first { IsIn one.now (known pass.old).tickets }
+    requires second { IsIn two.now (known pass.old).tickets }
+    ensures own { IsOf desk.now pass.new }
+    ensures first { IsIn one.now (known pass.new).tickets }
+    ensures second { IsIn two.now (known pass.new).tickets }
+{
+    for who in 2..=255 {
+        let Ticket { slot: _, number: _ } = opens(rt, alloc, desk, pass, name(rt, who, b"x"));
+    }
+}
+
+/// All slots are taken, also once the first request ended. The second is open until it is
+/// cancelled.
+fn stays_full(rt: &impl Abort, alloc: Global, desk: &Desk, pass: &mut Pass, two: &Ticket)
+    requires own { IsOf desk.now pass.old }
+    requires second { IsIn two.now (known pass.old).tickets }
+    ensures own { IsOf desk.now pass.new }
+    ensures keeps { IsAsBefore (known pass.old) (known pass.new) }
+{
+    is_full(rt, alloc, desk, pass);
+    cancels(rt, desk, pass, name(rt, 0, b"x"));
+    is_full(rt, alloc, desk, pass);
+    tells(rt, desk, pass, two, None);
+    cancels(rt, desk, pass, name(rt, 1, b"x"));
+    tells(rt, desk, pass, two, Some(Told::Cancelled));
+}
+
+/// A slot is used again once its ticket is given back.
+fn used_again(rt: &impl Abort, alloc: Global, desk: &Desk, pass: &mut Pass, one: Ticket)
+    requires own { IsOf desk.now pass.old }
+    requires first { IsIn one (known pass.old).tickets }
+    ensures own { IsOf desk.now pass.new }
+{
+    desk.release(pass, one);
+    let Ticket { slot: _, number } = opens(rt, alloc, desk, pass, name(rt, 0, b"y"));
+    assert_eq!(rt; number, 257);
+}
+
+#[test]
+fn slots_are_filled_and_used_again(rt: HostRuntime) {
+    let alloc = rt.alloc();
+    let system = System::new(alloc).expect(&rt, "memory");
+    let (desk, mut pass) = Desk::new(alloc, system).expect(&rt, "memory");
+    let one = opens(&rt, alloc, &desk, &mut pass, name(&rt, 0, b"x"));
+    let two = opens(&rt, alloc, &desk, &mut pass, name(&rt, 1, b"x"));
+    fills(&rt, alloc, &desk, &mut pass, &one, &two);
+    assert_eq!(rt; pass.tickets(), 256);
+    stays_full(&rt, alloc, &desk, &mut pass, &two);
+    used_again(&rt, alloc, &desk, &mut pass, one);
+    let Ticket { slot: _, number } = two;
+    assert_eq!(rt; number, 2);
+    abandon(desk, pass);
 }

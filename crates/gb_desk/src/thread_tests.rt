@@ -1,9 +1,9 @@
 //! Several threads with hundreds of events each, over one desk.
 
-ghost use Rattle.std.specs.Prelude.{◌≡◌, ◌<◌, ◌≤◌, true};
-ghost use Rattle.gb_desk.specs.Passes.{IsOf, known};
-ghost use Rattle.gb_formats.specs.Built.{is_built};
+ghost use Rattle.std.specs.Prelude.{◌≡◌, ◌<◌, ◌≤◌, [], false};
+ghost use Rattle.gb_desk.specs.Passes.{IsAsBefore, IsOf, known};
 ghost use Rattle.gb_formats.specs.ValidEvents.{IsValid};
+ghost use Rattle.gb_laws.specs.Tickets.{asks};
 
 use crate::{Desk, DeskFault, Pass};
 use gb_base::{End, Event, Journal, Kind};
@@ -20,8 +20,8 @@ const TRIES: u32 = 100_000_000;
 
 /// What the threads do, over and over.
 fn event(at: u32) -> Event
-    ensures built { is_built result ≡ true }
     ensures valid { IsValid result }
+    ensures plain { asks result ≡ false }
 {
     match at % 6 {
         0 => Event::Boot,
@@ -39,10 +39,10 @@ fn event(at: u32) -> Event
 /// Tries an event until it gets the turn.
 fn tried(desk: &Desk, pass: &mut Pass, by: u8, e: &Event)
     requires own { IsOf desk.now pass.old }
-    requires built { is_built e.now ≡ true }
     requires valid { IsValid e.now }
+    requires plain { asks e.now ≡ false }
     ensures own { IsOf desk.now pass.new }
-    ensures parts { (known pass.new).parts ≡ (known pass.old).parts }
+    ensures keeps { IsAsBefore (known pass.old) (known pass.new) }
 {
     for _ in 0..TRIES {
         match desk.call(pass, by, e) {
@@ -56,7 +56,7 @@ fn tried(desk: &Desk, pass: &mut Pass, by: u8, e: &Event)
 fn work(desk: &Desk, pass: &mut Pass, by: u8)
     requires own { IsOf desk.now pass.old }
     ensures own { IsOf desk.now pass.new }
-    ensures parts { (known pass.new).parts ≡ (known pass.old).parts }
+    ensures keeps { IsAsBefore (known pass.old) (known pass.new) }
 {
     for at in 0..EVENTS {
         tried(desk, pass, by, &event(at));
@@ -70,20 +70,20 @@ fn two<R: Threads + Sync>(rt: &R, desk: &Desk, one: &mut Pass, other: &mut Pass,
     requires its { IsOf desk.now other.old }
     ensures own { IsOf desk.now one.new }
     ensures its { IsOf desk.now other.new }
-    ensures parts { (known one.new).parts ≡ (known one.old).parts }
-    ensures rest { (known other.new).parts ≡ (known other.old).parts }
+    ensures keeps { IsAsBefore (known one.old) (known one.new) }
+    ensures rest { IsAsBefore (known other.old) (known other.new) }
 {
     join_mut(
         rt,
         &mut ||
             requires { IsOf desk.now one.now }
             ensures { IsOf desk.entry.now one.exit.now
-                × ((known one.exit.now).parts ≡ (known one.entry.now).parts) }
+                × IsAsBefore (known one.entry.now) (known one.exit.now) }
         { work(desk, one, by) },
         &mut ||
             requires { IsOf desk.now other.now × (by ≤ 100) }
             ensures { IsOf desk.entry.now other.exit.now
-                × ((known other.exit.now).parts ≡ (known other.entry.now).parts) }
+                × IsAsBefore (known other.entry.now) (known other.exit.now) }
         { work(desk, other, by + 1) },
     );
 }
@@ -93,8 +93,9 @@ fn halved<R: Threads + Sync>(rt: &R, desk: &Desk, pass: &mut Pass, by: u8)
     requires tags { by ≤ 100 }
     requires own { IsOf desk.now pass.old }
     requires some { 1 < (known pass.old).parts }
+    requires none { (known pass.old).tickets ≡ [] }
     ensures own { IsOf desk.now pass.new }
-    ensures parts { (known pass.new).parts ≡ (known pass.old).parts }
+    ensures keeps { IsAsBefore (known pass.old) (known pass.new) }
 {
     let mut other = desk.split(pass, 1);
     two(rt, desk, pass, &mut other, by);
@@ -107,22 +108,25 @@ fn four<R: Threads + Sync>(rt: &R, desk: &Desk, one: &mut Pass, other: &mut Pass
     requires own { IsOf desk.now one.old }
     requires its { IsOf desk.now other.old }
     requires some { (1 < (known one.old).parts) × (1 < (known other.old).parts) }
+    requires none { ((known one.old).tickets ≡ []) × ((known other.old).tickets ≡ []) }
     ensures own { IsOf desk.now one.new }
     ensures its { IsOf desk.now other.new }
-    ensures parts { (known one.new).parts ≡ (known one.old).parts }
-    ensures rest { (known other.new).parts ≡ (known other.old).parts }
+    ensures keeps { IsAsBefore (known one.old) (known one.new) }
+    ensures rest { IsAsBefore (known other.old) (known other.new) }
 {
     join_mut(
         rt,
         &mut ||
-            requires { IsOf desk.now one.now × (1 < (known one.now).parts) × (by ≤ 98) }
+            requires { IsOf desk.now one.now × (1 < (known one.now).parts)
+                × ((known one.now).tickets ≡ []) × (by ≤ 98) }
             ensures { IsOf desk.entry.now one.exit.now
-                × ((known one.exit.now).parts ≡ (known one.entry.now).parts) }
+                × IsAsBefore (known one.entry.now) (known one.exit.now) }
         { halved(rt, desk, one, by) },
         &mut ||
-            requires { IsOf desk.now other.now × (1 < (known other.now).parts) × (by ≤ 98) }
+            requires { IsOf desk.now other.now × (1 < (known other.now).parts)
+                × ((known other.now).tickets ≡ []) × (by ≤ 98) }
             ensures { IsOf desk.entry.now other.exit.now
-                × ((known other.exit.now).parts ≡ (known other.entry.now).parts) }
+                × IsAsBefore (known other.entry.now) (known other.exit.now) }
         { halved(rt, desk, other, by + 2) },
     );
 }
@@ -132,8 +136,9 @@ fn quartered<R: Threads + Sync>(rt: &R, desk: &Desk, pass: &mut Pass, by: u8)
     requires tags { by ≤ 98 }
     requires own { IsOf desk.now pass.old }
     requires some { 3 < (known pass.old).parts }
+    requires none { (known pass.old).tickets ≡ [] }
     ensures own { IsOf desk.now pass.new }
-    ensures parts { (known pass.new).parts ≡ (known pass.old).parts }
+    ensures keeps { IsAsBefore (known pass.old) (known pass.new) }
 {
     let mut other = desk.split(pass, 2);
     four(rt, desk, pass, &mut other, by);
@@ -145,22 +150,25 @@ fn eight<R: Threads + Sync>(rt: &R, desk: &Desk, one: &mut Pass, other: &mut Pas
     requires own { IsOf desk.now one.old }
     requires its { IsOf desk.now other.old }
     requires some { (3 < (known one.old).parts) × (3 < (known other.old).parts) }
+    requires none { ((known one.old).tickets ≡ []) × ((known other.old).tickets ≡ []) }
     ensures own { IsOf desk.now one.new }
     ensures its { IsOf desk.now other.new }
-    ensures parts { (known one.new).parts ≡ (known one.old).parts }
-    ensures rest { (known other.new).parts ≡ (known other.old).parts }
+    ensures keeps { IsAsBefore (known one.old) (known one.new) }
+    ensures rest { IsAsBefore (known other.old) (known other.new) }
 {
     join_mut(
         rt,
         &mut ||
-            requires { IsOf desk.now one.now × (3 < (known one.now).parts) }
+            requires { IsOf desk.now one.now × (3 < (known one.now).parts)
+                × ((known one.now).tickets ≡ []) }
             ensures { IsOf desk.entry.now one.exit.now
-                × ((known one.exit.now).parts ≡ (known one.entry.now).parts) }
+                × IsAsBefore (known one.entry.now) (known one.exit.now) }
         { quartered(rt, desk, one, 0) },
         &mut ||
-            requires { IsOf desk.now other.now × (3 < (known other.now).parts) }
+            requires { IsOf desk.now other.now × (3 < (known other.now).parts)
+                × ((known other.now).tickets ≡ []) }
             ensures { IsOf desk.entry.now other.exit.now
-                × ((known other.exit.now).parts ≡ (known other.entry.now).parts) }
+                × IsAsBefore (known other.entry.now) (known other.exit.now) }
         { quartered(rt, desk, other, 4) },
     );
 }

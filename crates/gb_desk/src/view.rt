@@ -1,9 +1,11 @@
 //! What a pass knows, the rule of the desk, and what each step tells. No value of a view is made.
 
 use crate::stored::Stored;
+use crate::ticket::Ticket;
 use atomic_table::{Join, Play, Split, TableRule};
 use gb_base::{Journal, Numbers};
 use gb_system::System;
+use std::collections::LinkedList;
 use std::marker::{Brand, PhantomData};
 use std::snapshot::Snapshot;
 
@@ -23,6 +25,12 @@ pub struct View {
     pub cuts: u64,
     /// Whether it knows that an event found no memory.
     pub told: bool,
+    /// The tickets that it holds.
+    pub tickets: LinkedList<Ticket>,
+    /// The requests of which it found tickets in its last turn.
+    pub used: Numbers,
+    /// While it holds the turn, a slot of which it found no ticket.
+    pub clear: Option<u64>,
     /// The system with which the desk was made.
     pub first: Option<System>,
     /// While it holds the turn, what it took.
@@ -57,6 +65,51 @@ impl Play<Stored, View> for Give {
     ghost use Rattle.gb_desk.specs.Steps.{Gives};
 
     ghost then = { Gives };
+}
+
+/// The turn is given back, and nothing was changed in it.
+pub struct Leave;
+
+impl Play<Stored, View> for Leave {
+    ghost use Rattle.gb_desk.specs.Steps.{Leaves};
+
+    ghost then = { Leaves };
+}
+
+/// In a turn the count of a slot's tickets is read.
+pub struct Look;
+
+impl Play<Stored, View> for Look {
+    ghost use Rattle.gb_desk.specs.Steps.{Looks};
+
+    ghost then = { Looks };
+}
+
+/// In a turn the first ticket of a request is made.
+pub struct First;
+
+impl Play<Stored, View> for First {
+    ghost use Rattle.gb_desk.specs.Steps.{Opens};
+
+    ghost then = { Opens };
+}
+
+/// One more ticket of a request is made.
+pub struct Retain;
+
+impl Play<Stored, View> for Retain {
+    ghost use Rattle.gb_desk.specs.Steps.{Retains};
+
+    ghost then = { Retains };
+}
+
+/// A ticket is given back.
+pub struct Release;
+
+impl Play<Stored, View> for Release {
+    ghost use Rattle.gb_desk.specs.Steps.{Releases};
+
+    ghost then = { Releases };
 }
 
 /// Of what two passes had seen the longer stays.

@@ -13,5 +13,6 @@ split_seat-requires g c =
       c.requires.own,
       (let one = c.requires.size.0 in omega arith),
       subst (λ n. Splits (Kept first) id v (stays n v) (goes n v)) c.requires.picked
-          (splits first id v c.args.parts c.requires.free.out c.requires.some.0 c.requires.some.1),
+          (splits first id v c.args.parts c.requires.free.out c.requires.free.clear
+          c.requires.some.0 c.requires.some.1 c.requires.some.2),
     )

@@ -1,0 +1,180 @@
+//! The slots of a desk: which requests have tickets, and how each of them ended.
+
+ghost use Rattle.std.specs.Prelude.{◌≡◌, ◌<◌, length, map, option_map, replicate, slice_set};
+ghost use Rattle.std.specs.Prelude.{MatchBool, None, Some};
+ghost use Rattle.gb_desk.specs.Slots.{IsEnded, IsOpen, all_noted, noted, slot_at};
+ghost use Rattle.gb_desk.specs.Slots.{told_by, told_of};
+ghost use Rattle.gb_desk.specs.declared.slots.Slot.{Slot};
+ghost use Rattle.gb_laws.specs.Tickets.{asked_in, end_in};
+
+use gb_base::{Entry, Outcome};
+use std::marker::Model;
+
+/// How many requests can be open or have tickets at once.
+pub const SLOTS: usize = 256;
+
+/// How a request ended.
+#[derive(Clone, Copy, Debug, PartialEq, Eq)]
+pub enum Told {
+    /// Its responder answered.
+    Answered {
+        /// The result byte of the response.
+        result: u8,
+    },
+    /// It was cancelled.
+    Cancelled,
+    /// Its deadline came.
+    Timeout,
+    /// Its connection was closed.
+    Disconnected,
+}
+
+/// A request that has a slot.
+#[derive(Clone, Copy)]
+pub struct Slot {
+    /// Its number.
+    pub number: u64,
+    /// How it ended, None while it is open.
+    pub told: Option<Told>,
+}
+
+/// What is told of an outcome: nothing of one that only a unidirectional request has.
+fn outcome_told(outcome: &Outcome) -> Option<Told>
+    ensures { result ≡ told_of outcome.now }
+{
+    match outcome {
+        Outcome::Answered { result, .. } => Some(Told::Answered { result: *result }),
+        Outcome::Cancelled => Some(Told::Cancelled),
+        Outcome::Timeout => Some(Told::Timeout),
+        Outcome::Disconnected => Some(Told::Disconnected),
+        Outcome::Sent => None,
+    }
+}
+
+/// How entries tell that a request ended.
+fn end_told(entries: &[Entry], number: u64) -> Option<Told>
+    ensures { result ≡ told_by (end_in number entries.now) }
+{
+    for entry in entries {
+        if let Entry::Ended {
+            number: ended,
+            outcome,
+            ..
+        } = entry
+        {
+            if *ended == number {
+                return outcome_told(outcome);
+            }
+        }
+    }
+    None
+}
+
+/// The number of the first request whose making entries tell.
+pub fn first_asked(entries: &[Entry]) -> Option<u64>
+    ensures { result ≡ asked_in entries.now }
+{
+    for entry in entries {
+        if let Entry::Asked { number, .. } = entry {
+            return Some(*number);
+        }
+    }
+    None
+}
+
+/// A slot once these entries were told.
+fn once_told(slot: Option<Slot>, entries: &[Entry]) -> Option<Slot>
+    ensures { result ≡ option_map (noted entries.now) slot }
+{
+    let Some(Slot { number, told }) = slot else {
+        return None;
+    };
+    let told = match told {
+        Some(told) => Some(told),
+        None => end_told(entries, number),
+    };
+    Some(Slot { number, told })
+}
+
+/// All of these slots once these entries were told.
+fn note_all(slots: &mut [Option<Slot>], entries: &[Entry])
+    ensures { slots.new ≡ all_noted entries.now slots.old }
+{
+    for at in 0..slots.len() {
+        slots[at] = once_told(slots[at], entries);
+    }
+}
+
+/// The slots of a desk. A contract sees them as a list of 256, None where no request had the slot.
+#[derive(Drop)]
+pub struct Slots {
+    items: [Option<Slot>; SLOTS],
+}
+
+impl Model for Slots {
+    ghost use Rattle.std.specs.Prelude.{◌≡◌, List, Option, length};
+    ghost use Rattle.gb_desk.specs.declared.slots.Slot.{Slot};
+
+    ghost Value = { List (Option Slot) };
+
+    ghost view = { λ s. s.items };
+
+    ghost invariant = { λ s. length s.items ≡ 256 };
+}
+
+impl Slots {
+    /// No request had a slot yet.
+    pub fn new() -> Slots
+        ensures { result ≡ replicate 256 None }
+    {
+        Slots {
+            items: [None; SLOTS],
+        }
+    }
+
+    /// What a slot has.
+    pub fn at(&self, slot: usize) -> Option<Slot>
+        ensures { result ≡ slot_at slot self.now }
+    {
+        match self.items.get(slot) {
+            Some(found) => *found,
+            None => None,
+        }
+    }
+
+    /// Whether a slot may be given to a request, where it has no ticket.
+    pub fn is_ended(&self, slot: usize) -> bool
+        ensures { MatchBool result (IsEnded (slot_at slot self.now))
+            (IsOpen (slot_at slot self.now)) }
+    {
+        match self.at(slot) {
+            Some(request) => request.told.is_some(),
+            None => true,
+        }
+    }
+
+    /// How the request of a slot ended, None where it is open.
+    pub fn told(&self, slot: usize) -> Option<Told>
+        ensures { (x : Slot) → slot_at slot self.now ≡ Some x → result ≡ x.told }
+    {
+        match self.at(slot) {
+            Some(request) => request.told,
+            None => None,
+        }
+    }
+
+    /// A request gets a slot.
+    pub fn put(&mut self, slot: usize, request: Slot)
+        requires { slot < 256 }
+        ensures { self.new ≡ slice_set self.old slot (Some request) }
+    {
+        self.items[slot] = Some(request);
+    }
+
+    /// These entries are told.
+    pub fn note(&mut self, entries: &[Entry])
+        ensures { self.new ≡ all_noted entries.now self.old }
+    {
+        note_all(&mut self.items, entries);
+    }
+}
