@@ -1,47 +1,19 @@
 -- Running a made script comes to what the machine does.
-use Rattle.std.proofs.Common.{◌≡◌, ◌≤◌, ℕ, zero, suc, ◌+◌, ◌-◌, Bool, true, false, cond, List, refl, subst, ap, ◌∙◌, arith}
-use Rattle.std.specs.Prelude.{◌==◌, nat_le, if◌then◌else◌}
-use Rattle.gb_base.specs.declared.event.Event.{Event}
+use Rattle.std.proofs.Common.{◌≡◌, ◌≤◌, ℕ, zero, suc, ◌+◌, ◌-◌, Bool, true, false, cond, List, refl}
+use Rattle.std.proofs.Common.{subst, ap, ◌∙◌, arith}
 use Rattle.gb_formats.proofs.MadeValid.{made-valid}
-use Rattle.gb_formats.specs.Built.{is_built}
-use Rattle.gb_formats.specs.Made.{last_named, made, made_by, made_intf, made_row, made_value}
+use Rattle.gb_formats.specs.Made.{made}
 use Rattle.gb_machine.specs.Actions.{Told}
 use Rattle.gb_machine.specs.Events.{last_state, step, trace, trace_from}
 use Rattle.gb_machine.specs.Runs.{AreValid}
 use Rattle.gb_machine.specs.State.{State, first_state}
-use Rattle.gb_machine.specs.Summary.{counts, counts_at, is_refused, made_events, made_from, refused_in}
+use Rattle.gb_machine.specs.Summary.{counts, counts_at, is_refused, made_events, made_from}
+use Rattle.gb_machine.specs.Summary.{refused_in}
 use Rattle.gb_system.specs.Stands as system
 use Rattle.gbus.specs.Driving.{Goes}
 use Rattle.gbus.specs.declared.drive.Driven.{Driven}
 
 -- ---- the events of a made script
-
--- one of two events
-built-if : (b : Bool) (x y : Event) → is_built x ≡ true → is_built y ≡ true
-    → is_built (if b then x else y) ≡ true
-built-if true x y h k = h
-built-if false x y h k = k
-
-made_by-built : (k named row i v : ℕ) → is_built (made_by k named row i v) ≡ true
-made_by-built k named row i v =
-    built-if (nat_le row 1) _ _ refl
-    (built-if (row == 2) _ _ refl
-    (built-if (row == 3) _ _ refl
-    (built-if (row == 4) _ _ refl
-    (built-if (row == 5) _ _ refl
-    (built-if (row == 6) _ _ refl refl)))))
-
--- Each line of the made script is an event that is built.
-pub made-built : (seed k : ℕ) → is_built (made seed k) ≡ true
-made-built seed k =
-    built-if (nat_le k 4) _ _ refl
-    (built-if (k == 5) _ _ refl
-    (built-if (k == 6) _ _ refl
-    (built-if (nat_le k 22) _ _ refl
-    (built-if (k == 23) _ _ refl
-    (built-if (nat_le k 20023) _ _
-    (made_by-built (k - 23) (last_named seed (k - 23 - 1)) (made_row seed (k - 23))
-    (made_intf seed (k - 23)) (made_value seed (k - 23))) refl)))))
 
 made_from-valid : (seed left k : ℕ) → 1 ≤ k → k + left ≤ 20025 → AreValid (made_from seed k left)
 unfolding made_from

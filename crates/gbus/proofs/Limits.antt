@@ -1,5 +1,7 @@
 -- What was read of an input, and what is run and written of it.
-use Rattle.std.proofs.Common.{◌≡◌, ℕ, ◌<◌, ◌≤◌, Bool, true, false, cond, Option, Some, None, List, [], ◌++◌, length, take, append-nil, append_assoc, length-append, drop, length-drop, refl, sym, subst, ap, ◌∙◌, arith}
+use Rattle.std.proofs.Common.{◌≡◌, ℕ, ◌<◌, ◌≤◌, Bool, true, false, cond, Option, Some, None, List}
+use Rattle.std.proofs.Common.{[], ◌++◌, length, take, append-nil, append_assoc, length-append, drop}
+use Rattle.std.proofs.Common.{length-drop, refl, sym, subst, ap, ◌∙◌, arith}
 use Rattle.std.specs.Prelude.{IfSome}
 use Rattle.std.specs.Io.KnownBytes.{Consumes}
 use Rattle.std.proofs.lemmas.Bool.Decides.{nat_tests}
@@ -27,9 +29,11 @@ whole_read (Some text) (Some rest) bytes w =
     (same, subst (λ t. length t ≤ longest_input) (sym same) w.within)
 
 -- the front of a text
-pub cut_at : (n : ℕ) (front others rest : List ℕ) → length front ≡ n → take n ((front ++ others) ++ rest) ≡ front
+pub cut_at : (n : ℕ) (front others rest : List ℕ) → length front ≡ n
+    → take n ((front ++ others) ++ rest) ≡ front
 cut_at n front others rest full =
-    ap (λ k. take k ((front ++ others) ++ rest)) (sym full) ∙ ap (take (length front)) (append_assoc front others rest)
+    ap (λ k. take k ((front ++ others) ++ rest)) (sym full)
+    ∙ ap (take (length front)) (append_assoc front others rest)
     ∙ take-append_seam front (others ++ rest)
 
 -- a text that is too long
@@ -42,19 +46,26 @@ pub long_read : (left after : Option (List ℕ)) (front : List ℕ) → IsLong l
 long_read None after front w = tt
 long_read (Some text) None front w = absurd w.bytes_are
 long_read (Some text) (Some rest) front w =
-    subst (λ t. (front ≡ take longest_input t) × (longest_input < length t)) (sym w.bytes_are)
-    (sym (cut_at longest_input front w.others rest w.full), beyond front w.others rest w.full w.more)
+    subst (λ t. (front ≡ take longest_input t) × (longest_input < length t)) (sym w.bytes_are) (
+      sym (cut_at longest_input front w.others rest w.full),
+      beyond front w.others rest w.full
+          w.more,
+    )
 
 -- what was read beyond the limit, once it is cut there
-pub cut_long : (left after : Option (List ℕ)) (bytes front : List ℕ) → Consumes left after bytes → longest_input < length bytes
+pub cut_long : (left after : Option (List ℕ)) (bytes front : List ℕ) → Consumes left after bytes
+    → longest_input < length bytes
     → front ≡ take longest_input bytes → IsLong left after front
 cut_long left after bytes front read more is = cut_long_at longest_input refl
   where
     cut_long_at : (n : ℕ) → n ≡ longest_input → IsLong left after front
     cut_long_at n e = record {
       others = drop n bytes;
-      bytes_are = subst (Consumes left after) (sym (take-append-drop n bytes) ∙ ap (λ f. f ++ drop n bytes) (ap (λ k. take k bytes) e ∙ sym is)) read;
-      full = ap length (is ∙ ap (λ k. take k bytes) (sym e)) ∙ length-take-le n bytes (omega arith) ∙ e;
+      bytes_are = subst (Consumes left after)
+          (sym (take-append-drop n bytes)
+          ∙ ap (λ f. f ++ drop n bytes) (ap (λ k. take k bytes) e ∙ sym is)) read;
+      full = ap length (is ∙ ap (λ k. take k bytes) (sym e)) ∙ length-take-le n bytes (omega arith)
+          ∙ e;
       more = omega (arith, length-drop n bytes);
     }
 
@@ -67,7 +78,8 @@ pub beyond_is : (text : List ℕ) → longest_input < length text → is_too_lon
 beyond_is text h = grind (arith, nat_tests)
 
 -- What is written for an input is the output of its bytes.
-pub text_is : (dump : Bool) (i : Input) (text : List ℕ) → IsRead i text → output (Check dump) text ≡ checked_text dump i
+pub text_is : (dump : Bool) (i : Input) (text : List ℕ) → IsRead i text
+    → output (Check dump) text ≡ checked_text dump i
 text_is dump (input.Whole bytes) text h =
     ap (λ b. cond b [] (manifest_text dump (check_answer text))) (within_is text h.1)
     ∙ ap (λ t. manifest_text dump (check_answer t)) h.0
@@ -75,7 +87,8 @@ text_is dump (input.TooLong front) text h =
     ap (λ b. cond b [] (manifest_text dump (check_answer text))) (beyond_is text h.1)
 
 -- How the program ends is the verdict on them.
-pub status_is : (dump : Bool) (i : Input) (text : List ℕ) → IsRead i text → verdict (Check dump) text ≡ checked_status i
+pub status_is : (dump : Bool) (i : Input) (text : List ℕ) → IsRead i text
+    → verdict (Check dump) text ≡ checked_status i
 status_is dump (input.Whole bytes) text h =
     ap (λ b. cond b status.TooLong (manifest_verdict (check_answer text))) (within_is text h.1)
     ∙ ap (λ t. manifest_verdict (check_answer t)) h.0

@@ -1,10 +1,10 @@
 -- What a run promises, by what was read, answered and written.
-use Rattle.std.proofs.Common.{◌≡◌, ℕ, Bool, true, false, Option, Some, None, Result, Ok, Err, List, sym, subst, ◌∙◌, inl}
+use Rattle.std.proofs.Common.{◌≡◌, ℕ, Bool, true, false, Option, Some, None, Result, Ok, Err, List}
+use Rattle.std.proofs.Common.{sym, subst, ◌∙◌, inl}
 use Rattle.std.specs.Prelude.{IfSome}
 use Rattle.std.specs.Io.KnownBytes.{Appends, IsAtEnd}
 use Rattle.gb_base.specs.declared.status.Status.{Status}
 use Rattle.gb_base.specs.declared.status.Status.TheVariants as status
-use Rattle.gb_formats.specs.Built.{is_built}
 use Rattle.gb_formats.specs.Manifest.{Manifest, check_answer}
 use Rattle.gb_formats.specs.ManifestRules.{Refused}
 use Rattle.gb_laws.proofs.Single.{counts-add-up}
@@ -120,7 +120,7 @@ pub of_run : (job : Option Job) (left : Option (List ℕ)) → IsOfRun job left
 of_run None left = tt
 of_run (Some (Run hex)) None = tt
 of_run (Some (Check dump)) None = tt
-of_run (Some (Run hex)) (Some text) = reports-traced is_built hex (script_within text)
+of_run (Some (Run hex)) (Some text) = reports-traced hex (script_within text)
 of_run (Some (Check dump)) (Some text) = tt
 of_run (Some (Drive seed)) left =
     λ text. (made_events-valid seed, counts-add-up (made_events seed))

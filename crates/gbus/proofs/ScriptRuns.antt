@@ -1,15 +1,18 @@
 -- What a run of a script promises, by its status.
-use Rattle.std.proofs.Common.{◌≡◌, ℕ, Bool, true, false, Option, Some, None, List, refl, sym, ap, ◌∙◌, subst, inl, inr}
+use Rattle.std.proofs.Common.{◌≡◌, ℕ, Bool, true, false, Option, Some, None, List, refl, sym, ap}
+use Rattle.std.proofs.Common.{◌∙◌, subst, inl, inr}
 use Rattle.std.specs.Io.KnownBytes.{IsAtEnd}
 use Rattle.gb_base.specs.Faults.{Rose}
 use Rattle.gb_base.specs.declared.status.Status.{Status}
 use Rattle.gb_base.specs.declared.status.Status.TheVariants as status
 use Rattle.gbus.specs.Program.{IsVerdict, Job, Run, is_run, reads}
 use Rattle.gbus.specs.Runs.{IfRun, IsAnswered, IsComplete, IsWithin}
-use Rattle.gbus.specs.Scripts.{FaultRose, IsCutOff, IsFrontOfReport, IsRefusedAt, ScriptEnds, StopsShort}
+use Rattle.gbus.specs.Scripts.{FaultRose, IsCutOff, IsFrontOfReport, IsRefusedAt, ScriptEnds}
+use Rattle.gbus.specs.Scripts.{StopsShort}
 
 -- a status that is the verdict
-pub script-answered : (hex : Bool) (left now taken after : Option (List ℕ)) (s : Status) → ScriptEnds hex left now taken after s
+pub script-answered : (hex : Bool) (left now taken after : Option (List ℕ)) (s : Status)
+    → ScriptEnds hex left now taken after s
     → IsVerdict s → IsAnswered (Some (Run hex)) left taken after s
 script-answered hex left now taken after status.Success h v = h.0
 script-answered hex left now taken after status.Refused h v = h.0
@@ -20,47 +23,64 @@ script-answered hex left now taken after status.WriteFault h v = absurd v
 script-answered hex left now taken after status.NoMemory h v = absurd v
 
 -- each status by itself
-pub script-end : (hex : Bool) (left now taken after : Option (List ℕ)) (s : Status) → ScriptEnds hex left now taken after s
+pub script-end : (hex : Bool) (left now taken after : Option (List ℕ)) (s : Status)
+    → ScriptEnds hex left now taken after s
     → s ≡ status.Success → IsAtEnd now
 script-end hex left now taken after s h e = (subst (ScriptEnds hex left now taken after) e h).1
 
-pub script-cut : (hex : Bool) (left now taken after : Option (List ℕ)) (s : Status) → ScriptEnds hex left now taken after s
+pub script-cut : (hex : Bool) (left now taken after : Option (List ℕ)) (s : Status)
+    → ScriptEnds hex left now taken after s
     → s ≡ status.ReadFault → IsCutOff hex left now taken after
 script-cut hex left now taken after s h e = subst (ScriptEnds hex left now taken after) e h
 
-pub script-short : (hex : Bool) (left now taken after : Option (List ℕ)) (s : Status) → ScriptEnds hex left now taken after s
+pub script-short : (hex : Bool) (left now taken after : Option (List ℕ)) (s : Status)
+    → ScriptEnds hex left now taken after s
     → s ≡ status.WriteFault → StopsShort hex left now taken after
 script-short hex left now taken after s h e = subst (ScriptEnds hex left now taken after) e h
 
-pub script-refused : (hex : Bool) (left now taken after : Option (List ℕ)) (s : Status) → ScriptEnds hex left now taken after s
+pub script-refused : (hex : Bool) (left now taken after : Option (List ℕ)) (s : Status)
+    → ScriptEnds hex left now taken after s
     → s ≡ status.Refused → IsRefusedAt left now
 script-refused hex left now taken after s h e = (subst (ScriptEnds hex left now taken after) e h).1
 
-pub script-usage : (hex : Bool) (left now taken after : Option (List ℕ)) (s : Status) → ScriptEnds hex left now taken after s
+pub script-usage : (hex : Bool) (left now taken after : Option (List ℕ)) (s : Status)
+    → ScriptEnds hex left now taken after s
     → s ≡ status.Usage → ⊥
 script-usage hex left now taken after s h e = subst (ScriptEnds hex left now taken after) e h
 
 -- faults
-pub script-read : (reads reads_after writes writes_after : ℕ) (s : Status) → FaultRose reads reads_after writes writes_after s
+pub script-read : (reads reads_after writes writes_after : ℕ) (s : Status)
+    → FaultRose reads reads_after writes writes_after s
     → s ≡ status.ReadFault → Rose reads reads_after
-script-read reads reads_after writes writes_after s h e = subst (FaultRose reads reads_after writes writes_after) e h
+script-read reads reads_after writes writes_after s h e =
+    subst (FaultRose reads reads_after writes writes_after) e h
 
-pub script-write : (reads reads_after writes writes_after : ℕ) (s : Status) → FaultRose reads reads_after writes writes_after s
+pub script-write : (reads reads_after writes writes_after : ℕ) (s : Status)
+    → FaultRose reads reads_after writes writes_after s
     → s ≡ status.WriteFault → Rose writes writes_after
-script-write reads reads_after writes writes_after s h e = subst (FaultRose reads reads_after writes writes_after) e h
+script-write reads reads_after writes writes_after s h e =
+    subst (FaultRose reads reads_after writes writes_after) e h
 
 -- where no count rose
-pub script-complete : (hex : Bool) (left now taken after : Option (List ℕ)) (reads reads_after writes writes_after : ℕ) (s : Status)
+pub script-complete : (hex : Bool) (left now taken after : Option (List ℕ))
+    (reads reads_after writes writes_after : ℕ) (s : Status)
     → ScriptEnds hex left now taken after s → FaultRose reads reads_after writes writes_after s
     → IsComplete (Some (Run hex)) left reads reads_after writes writes_after s
 script-complete hex None now taken after reads reads_after writes writes_after s h f = tt
-script-complete hex (Some t) now taken after reads reads_after writes writes_after status.Success h f = λ r w. inl h.0.0
-script-complete hex (Some t) now taken after reads reads_after writes writes_after status.Refused h f = λ r w. inl h.0.0
-script-complete hex (Some t) now taken after reads reads_after writes writes_after status.TooLong h f = λ r w. inl h.0
-script-complete hex (Some t) now taken after reads reads_after writes writes_after status.NoMemory h f = λ r w. inr refl
-script-complete hex (Some t) now taken after reads reads_after writes writes_after status.ReadFault h f = λ r w. absurd (r f)
-script-complete hex (Some t) now taken after reads reads_after writes writes_after status.WriteFault h f = λ r w. absurd (w f)
-script-complete hex (Some t) now taken after reads reads_after writes writes_after status.Usage h f = absurd h
+script-complete hex (Some t) now taken after reads reads_after writes writes_after
+    status.Success h f = λ r w. inl h.0.0
+script-complete hex (Some t) now taken after reads reads_after writes writes_after
+    status.Refused h f = λ r w. inl h.0.0
+script-complete hex (Some t) now taken after reads reads_after writes writes_after
+    status.TooLong h f = λ r w. inl h.0
+script-complete hex (Some t) now taken after reads reads_after writes writes_after
+    status.NoMemory h f = λ r w. inr refl
+script-complete hex (Some t) now taken after reads reads_after writes writes_after
+    status.ReadFault h f = λ r w. absurd (r f)
+script-complete hex (Some t) now taken after reads reads_after writes writes_after
+    status.WriteFault h f = λ r w. absurd (w f)
+script-complete hex (Some t) now taken after reads reads_after writes writes_after
+    status.Usage h f = absurd h
 
 -- ---- what the words ask for being known
 

@@ -1,5 +1,6 @@
 -- What the program writes and how it ends, by its words and its input.
-use Rattle.std.specs.Prelude.{ℕ, nat_lt, Bool, true, false, ◌&&◌, if◌then◌else◌, Option, Some, None, option_map, List, [], ◌∷◌, length, take, codes}
+use Rattle.std.specs.Prelude.{ℕ, nat_lt, Bool, true, false, ◌&&◌, if◌then◌else◌, Option, Some, None}
+use Rattle.std.specs.Prelude.{option_map, List, [], ◌∷◌, length, take, codes}
 use Rattle.std.specs.Str.{bytes_eq}
 use Rattle.gb_base.specs.declared.status.Status.{Status}
 use Rattle.gb_base.specs.declared.status.Status.TheVariants as status
@@ -8,7 +9,6 @@ use Rattle.gb_formats.specs.Manifest.{check_answer}
 use Rattle.gb_formats.specs.WordValues.{number_word}
 use Rattle.gb_machine.specs.Report.{has_bad_line, report}
 use Rattle.gb_machine.specs.Summary.{summary}
-use Rattle.gb_formats.specs.Built.{is_built}
 use Rattle.gb_script.specs.Readers.{longest_input}
 use Rattle.gb_script.specs.Reading.{ended_lines}
 use Rattle.gbus.specs.Manifests.{manifest_text, manifest_verdict}
@@ -74,7 +74,7 @@ is_run None = false
 -- manifest says. Of a manifest that is too long nothing is. The summary of a made script is the
 -- same whatever the input is.
 abbrev pub output : Job → List ℕ → List ℕ
-output (Run hex) text = report is_built hex (script_within text)
+output (Run hex) text = report hex (script_within text)
 output (Check dump) text = if is_too_long text then [] else manifest_text dump (check_answer text)
 output (Drive seed) text = summary seed
 
@@ -86,7 +86,7 @@ script_status has_bad too_long =
 -- How the program ends where nothing fails and memory is found.
 abbrev pub verdict : Job → List ℕ → Status
 verdict (Run hex) text =
-    script_status (has_bad_line is_built (lines (script_within text))) (is_too_long text)
+    script_status (has_bad_line (lines (script_within text))) (is_too_long text)
 verdict (Check dump) text =
     if is_too_long text then status.TooLong else manifest_verdict (check_answer text)
 verdict (Drive seed) text = status.Success

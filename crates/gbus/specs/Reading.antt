@@ -1,5 +1,6 @@
 -- What reading all of an input answers.
-use Rattle.std.specs.Prelude.{◌≡◌, ◌<◌, ◌≤◌, ℕ, Option, Result, Ok, Err, ⊤, List, ◌++◌, length, take}
+use Rattle.std.specs.Prelude.{◌≡◌, ◌<◌, ◌≤◌, ℕ, Option, Result, Ok, Err, ⊤, List, ◌++◌, length}
+use Rattle.std.specs.Prelude.{take}
 use Rattle.std.specs.Io.KnownBytes.{Consumes, IsAtEnd}
 use Rattle.gb_base.specs.Faults.{Rose}
 use Rattle.gb_script.specs.Readers.{longest_input}

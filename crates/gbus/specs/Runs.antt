@@ -1,10 +1,10 @@
 -- What a run of the program promises.
-use Rattle.std.specs.Prelude.{◌≡◌, ℕ, Bool, ◌⊎◌, Option, Some, None, Result, Ok, Err, ⊤, List, IfSome}
+use Rattle.std.specs.Prelude.{◌≡◌, ℕ, Bool, ◌⊎◌, Option, Some, None, Result, Ok, Err, ⊤, List}
+use Rattle.std.specs.Prelude.{IfSome}
 use Rattle.std.specs.Io.KnownBytes.{Appends}
 use Rattle.gb_base.specs.Faults.{Rose}
 use Rattle.gb_base.specs.declared.status.Status.{Status}
 use Rattle.gb_base.specs.declared.status.Status.TheVariants as status
-use Rattle.gb_formats.specs.Built.{is_built}
 use Rattle.gb_machine.specs.Runs.{AreValid}
 use Rattle.gb_machine.specs.ScriptRuns.{IsTraced}
 use Rattle.gb_machine.specs.Events.{trace}
@@ -55,7 +55,7 @@ IsComplete job left reads reads_after writes writes_after s =
 -- of a made script is that of the trace of its events: these are valid too, and each request is
 -- counted once.
 abbrev pub TracesBy : Job → List ℕ → Type 0
-TracesBy (Run hex) text = IsTraced is_built hex (script_within text)
+TracesBy (Run hex) text = IsTraced hex (script_within text)
 TracesBy (Check dump) text = ⊤
 TracesBy (Drive seed) text =
     AreValid (made_events seed) × IsSum (counts (trace (made_events seed)))

@@ -1,12 +1,12 @@
 -- What the run of a script promises, by how it ends.
-use Rattle.std.specs.Prelude.{◌≡◌, ◌<◌, ◌≤◌, ◌+◌, ℕ, Bool, true, false, is_err, Option, Some, None, ⊤, List, [], ◌∷◌, ◌++◌, length, IfSome}
+use Rattle.std.specs.Prelude.{◌≡◌, ◌<◌, ◌≤◌, ◌+◌, ℕ, Bool, true, false, is_err, Option, Some, None}
+use Rattle.std.specs.Prelude.{⊤, List, [], ◌∷◌, ◌++◌, length, IfSome}
 use Rattle.std.specs.Io.KnownBytes.{Appends, Consumes, IsAtEnd}
 use Rattle.gb_base.specs.Faults.{Rose}
 use Rattle.gb_base.specs.declared.status.Status.{Status}
 use Rattle.gb_base.specs.declared.status.Status.TheVariants as status
-use Rattle.gb_formats.specs.Built.{is_built}
 use Rattle.gb_formats.specs.Lines.{lines}
-use Rattle.gb_formats.specs.Script.{said}
+use Rattle.gb_formats.specs.Script.{judged}
 use Rattle.gb_machine.specs.Report.{has_bad_line, report, report_from}
 use Rattle.gb_machine.specs.State.{first_state}
 use Rattle.gb_script.specs.Readers.{longest_input}
@@ -19,7 +19,7 @@ use Rattle.gbus.specs.Writing.{TakesFront}
 
 -- what is reported of lines from the first state on
 abbrev pub report_of : Bool → List (List ℕ) → List ℕ
-report_of hex ls = report_from is_built hex 1 first_state ls
+report_of hex ls = report_from hex 1 first_state ls
 
 -- The bytes that were read are those of the earlier lines and of this one, and at most 4,096 more.
 pub record ReadsTo (left left_after : Option (List ℕ)) (earlier : List (List ℕ)) (line : List ℕ)
@@ -36,11 +36,11 @@ pub record IsCutOff (hex : Bool) (left left_after taken after : Option (List ℕ
   pub bytes : List ℕ
   pub read : Consumes left left_after bytes
   pub within : length bytes ≤ longest_input
-  pub wrote : Appends taken after (report is_built hex (ended_lines bytes))
-  pub good : has_bad_line is_built (lines (ended_lines bytes)) ≡ false
+  pub wrote : Appends taken after (report hex (ended_lines bytes))
+  pub good : has_bad_line (lines (ended_lines bytes)) ≡ false
 
--- The sink failed: it took the report of the earlier lines, and not all of that of this line, behind
--- which at most 4,096 bytes were read.
+-- The sink failed: it took the report of the earlier lines, and not all of that of this line. At most
+-- 4,096 bytes behind it were read.
 pub record StopsShort (hex : Bool) (left left_after taken after : Option (List ℕ)) : Type 0 where
   pub earlier : List (List ℕ)
   pub line : List ℕ
@@ -56,8 +56,8 @@ pub record IsRefusedAt (left left_after : Option (List ℕ)) : Type 0 where
   pub earlier : List (List ℕ)
   pub line : List ℕ
   pub reads : ReadsTo left left_after earlier line
-  pub good : has_bad_line is_built earlier ≡ false
-  pub bad : is_err (said is_built 0 line) ≡ true
+  pub good : has_bad_line earlier ≡ false
+  pub bad : is_err (judged 0 line) ≡ true
 
 -- the status is the verdict on the script, and its report was written
 abbrev pub IsReported : Bool → (left taken after : Option (List ℕ)) → Status → Type 0

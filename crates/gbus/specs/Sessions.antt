@@ -3,11 +3,10 @@ use Rattle.std.specs.Prelude.{◌≡◌, ℕ, false, is_err, Result, Ok, Err, �
 use Rattle.gb_base.specs.declared.errors.OutOfMemory.{OutOfMemory}
 use Rattle.gb_base.specs.declared.fault.LineReason.{LineReason}
 use Rattle.gb_formats.specs.Grammar.{Said}
-use Rattle.gb_formats.specs.Script.{said}
+use Rattle.gb_formats.specs.Script.{judged}
 use Rattle.gb_formats.specs.Texts.{refusal_line_text}
 use Rattle.gb_machine.specs.Report.{reported}
 use Rattle.gb_machine.specs.State.{State}
-use Rattle.gb_formats.specs.Built.{is_built}
 use Rattle.gb_system.specs.Stands as system
 use Rattle.gbus.specs.declared.session.Session.{Session}
 use Rattle.gbus.specs.declared.session.Turn.{Turn}
@@ -15,7 +14,7 @@ use Rattle.gbus.specs.declared.session.Turn.TheVariants as turn
 
 -- what a line says
 abbrev pub line_says : List ℕ → Said
-line_says line = said is_built 0 line
+line_says line = judged 0 line
 
 -- a line was run from this state: its text is written, and then what comes later
 pub record GoesOn (old new : Session) (says : Said) (s : State) : Type 0 where

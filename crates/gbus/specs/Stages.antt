@@ -2,7 +2,6 @@
 use Rattle.std.specs.Prelude.{◌≡◌, ◌+◌, ℕ, Bool, false, Option, Some, None, List, [], ◌∷◌, ◌++◌}
 use Rattle.std.specs.Io.KnownBytes.{Appends}
 use Rattle.gb_base.specs.declared.status.Status.{Status}
-use Rattle.gb_formats.specs.Built.{is_built}
 use Rattle.gb_machine.specs.Report.{has_bad_line, report_from}
 use Rattle.gb_machine.specs.State.{State}
 use Rattle.gb_script.specs.Readers.{Reads, number_of}
@@ -19,8 +18,8 @@ pub record IsBehind (x : Session) (hex : Bool) (taken after : Option (List ℕ))
   pub same : x.hex ≡ hex
   pub wrote : Appends taken after (report_of hex given)
   pub goes : (ls : List (List ℕ)) → report_of hex (given ++ ls)
-      ≡ report_of hex given ++ report_from is_built hex (x.number + 1) state ls
-  pub good : has_bad_line is_built given ≡ false
+      ≡ report_of hex given ++ report_from hex (x.number + 1) state ls
+  pub good : has_bad_line given ≡ false
 
 -- These lines were read, and run.
 pub record Stage (x : Script) (hex : Bool) (left left_after taken after : Option (List ℕ))

@@ -1,7 +1,6 @@
 //! Runs the script that is made from a number.
 
-ghost use Rattle.std.specs.Prelude.{◌≡◌, ◌+◌, ◌<◌, ◌≤◌, true, IfOk, OnOk};
-ghost use Rattle.gb_formats.specs.Built.{is_built};
+ghost use Rattle.std.specs.Prelude.{◌≡◌, ◌+◌, ◌<◌, ◌≤◌, IfOk, OnOk};
 ghost use Rattle.gb_formats.specs.ValidEvents.{IsValid};
 ghost use Rattle.gb_machine.specs.Events.{trace};
 ghost use Rattle.gb_machine.specs.State.{State, first_state};
@@ -43,7 +42,6 @@ impl Driven {
 
     /// Steps the next event.
     fn take(&mut self, e: &Event) -> Result<(), OutOfMemory>
-        requires built { is_built e.now ≡ true }
         requires valid { IsValid e.now }
         requires room { taken_of self.old.system < 4294967295 }
         requires few { self.old.refused ≤ taken_of self.old.system }

@@ -49,9 +49,9 @@ fn scripts_are_reported(rt: HostRuntime) -> Result<(), Fail> {
             b"line 1 ok\nline 2 refused NoInterface\n",
         ),
         (
-            b"# none\n\ninject 2 1 -",
+            b"# none\n\ninject 2 1 0",
             Status::Refused,
-            b"line 3: not built\n",
+            b"line 3: bad word 4\n",
         ),
         (b"boot now", Status::Refused, b"line 1: extra word 2\n"),
     ];
@@ -213,7 +213,7 @@ fn each_line_is_reported_before_the_next_is_read(rt: HostRuntime) -> Result<(), 
     Ok(())
 }
 
-/// What a line brings about, which is in the grammar and built.
+/// What a line brings about, which is in the grammar.
 fn steps(rt: &impl Abort, alloc: Global, system: &mut System, line: &[u8]) -> Entries {
     assert!(rt; system.taken() < 4_294_967_295);
     match event(alloc, line, 0) {

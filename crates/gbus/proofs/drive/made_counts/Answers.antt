@@ -1,19 +1,13 @@
 -- Each event is one that the machine may be given, and the system goes on as it does.
-use Rattle.std.proofs.Common.{◌≡◌, true, ◌+◌, ◌-◌, subst, sym, ap, ◌∙◌, arith}
+use Rattle.std.proofs.Common.{◌+◌, ◌-◌, subst, sym, ap, ◌∙◌, arith}
 use Rattle.gb_base.specs.declared.event.Event.{Event}
 use Rattle.gb_formats.proofs.MadeValid.{made-valid}
-use Rattle.gb_formats.specs.Built.{is_built}
 use Rattle.gb_formats.specs.Made.{made}
 use Rattle.gb_formats.specs.ValidEvents.{IsValid}
 use Rattle.gb_machine.specs.Events.{step}
-use Rattle.gbus.proofs.Driving.{all-counted, made-built, next-stage}
+use Rattle.gbus.proofs.Driving.{all-counted, next-stage}
 use Rattle.gbus.proofs.drive.made_counts.Goals as goal
 use Rattle.gbus.specs.Driving.{Goes}
-
-pub take-requires-clause-built : goal.take-requires-clause-built
-take-requires-clause-built c =
-    subst (λ (e : Event). is_built e ≡ true) (sym c.in_ok-event.ensures)
-    (made-built c.args.seed (c.loop-place.place + 1))
 
 pub take-requires-clause-valid : goal.take-requires-clause-valid
 take-requires-clause-valid c =

@@ -3,8 +3,10 @@ use Rattle.gbus.proofs.Limits.{cut_long, long_read}
 use Rattle.gbus.proofs.input.read_all.Goals as goal
 
 pub returns-clause-bytes : goal.returns-clause-bytes
-returns-clause-bytes g c = cut_long _ _ _ _ c.loop-piece.invariant.read (omega arith) c.truncate.ensures.items
+returns-clause-bytes g c =
+    cut_long _ _ _ _ c.loop-piece.invariant.read (omega arith) c.truncate.ensures.items
 
 pub returns-clause-input : goal.returns-clause-input
 returns-clause-input g c =
-    long_read _ _ _ (cut_long _ _ _ _ c.loop-piece.invariant.read (omega arith) c.truncate.ensures.items)
+    long_read _ _ _ (cut_long _ _ _ _ c.loop-piece.invariant.read
+    (omega arith) c.truncate.ensures.items)

@@ -11,7 +11,9 @@ loop-rest-preserved g c =
     let rest = c.loop-rest.rest.now in
     record {
       front = inv.front ++ take n rest;
-      whole = inv.whole ∙ ap (λ r. inv.front ++ r) (sym (take-append-drop n rest) ∙ ap (λ r. take n rest ++ r) (sym c.split_at.ensures.back)) ∙ sym (append_assoc inv.front (take n rest) c.split_at.result.1.now);
+      whole = inv.whole ∙ ap (λ r. inv.front ++ r)
+          (sym (take-append-drop n rest) ∙ ap (λ r. take n rest ++ r) (sym c.split_at.ensures.back))
+          ∙ sym (append_assoc inv.front (take n rest) c.split_at.result.1.now);
       taken = appends_more _ _ _ inv.front (take n rest) inv.taken c.in_ok-n.ensures.bytes;
       later = omega (arith, c.write.ensures.later);
     }

@@ -1,8 +1,11 @@
 -- What was read, answered and written, together.
 use Rattle.std.proofs.Common.{Some, option_map, sym, ap, ◌∙◌}
 use Rattle.gbus.proofs.Fronts.{all_taken, part_taken}
-use Rattle.gbus.proofs.Runs.{answered, complete, no-read-fault, no-usage, no-write-fault, of_run, some-job, unwritten, within}
-use Rattle.gbus.proofs.ScriptRuns.{run-answered, run-complete, run-cut, run-is, run-reads, run-refused, run-short, run-within, script-end, script-read, script-usage, script-write}
+use Rattle.gbus.proofs.Runs.{answered, complete, no-read-fault, no-usage, no-write-fault, of_run}
+use Rattle.gbus.proofs.Runs.{some-job, unwritten, within}
+use Rattle.gbus.proofs.ScriptRuns.{run-answered, run-complete, run-cut, run-is, run-reads}
+use Rattle.gbus.proofs.ScriptRuns.{run-refused, run-short, run-within, script-end, script-read}
+use Rattle.gbus.proofs.ScriptRuns.{script-usage, script-write}
 use Rattle.gbus.proofs.run.run.Goals as goal
 use Rattle.gbus.specs.Jobs.{job_seen, task_seen}
 use Rattle.gbus.specs.Program.{Run, reads}
@@ -150,7 +153,8 @@ pub returns-in-Run-clause-prefix : goal.returns-in-Run-clause-prefix
 returns-in-Run-clause-prefix g c =
     run-within _ c.in-Run.hex _ _ _
     (sym (ap (λ j. Some (job_seen j)) c.in-Run.is)
-    ∙ sym (ap (option_map job_seen) c.in-Some.is) ∙ c.job_of.ensures.job) c.run_script.ensures.prefix
+    ∙ sym (ap (option_map job_seen) c.in-Some.is) ∙ c.job_of.ensures.job)
+    c.run_script.ensures.prefix
 
 pub returns-in-Run-clause-read : goal.returns-in-Run-clause-read
 returns-in-Run-clause-read g c =
@@ -188,7 +192,8 @@ pub returns-in-Run-clause-complete : goal.returns-in-Run-clause-complete
 returns-in-Run-clause-complete g c =
     run-complete _ c.in-Run.hex _ _ _ _ _ _ _ _ _
     (sym (ap (λ j. Some (job_seen j)) c.in-Run.is)
-    ∙ sym (ap (option_map job_seen) c.in-Some.is) ∙ c.job_of.ensures.job) c.run_script.ensures.ends c.run_script.ensures.faults
+    ∙ sym (ap (option_map job_seen) c.in-Some.is) ∙ c.job_of.ensures.job) c.run_script.ensures.ends
+    c.run_script.ensures.faults
 
 pub returns-in-Run-clause-usage : goal.returns-in-Run-clause-usage
 returns-in-Run-clause-usage g c = (

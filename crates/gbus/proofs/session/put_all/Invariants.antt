@@ -5,4 +5,5 @@ use Rattle.gbus.proofs.session.put_all.Given as goal
 
 abbrev pub invariant-loop-entry : goal.invariant-loop-entry
 invariant-loop-entry l =
-    l.out ++ entries_text l.line l.hex (drop l.entry-index l.items) ≡ l.initial.out ++ entries_text l.line l.hex l.items
+    l.out ++ entries_text l.line l.hex (drop l.entry-index l.items) ≡ l.initial.out
+    ++ entries_text l.line l.hex l.items

@@ -9,7 +9,8 @@ returns c = λ left taken.
     record {
       given = [];
       state = first_state;
-      behind = first_behind c.in_ok-new-2.field-0 c.args.hex taken c.in_ok-new-2.ensures.stands c.in_ok-new-2.ensures.number c.in_ok-new-2.ensures.hex;
+      behind = first_behind c.in_ok-new-2.field-0 c.args.hex taken c.in_ok-new-2.ensures.stands
+          c.in_ok-new-2.ensures.number c.in_ok-new-2.ensures.hex;
       reads = read;
       number = read.number ∙ sym c.in_ok-new-2.ensures.number;
     }

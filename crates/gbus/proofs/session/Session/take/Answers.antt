@@ -1,7 +1,6 @@
 -- A line that is run does what the machine does.
 use Rattle.std.proofs.Common.{◌++◌, ◌≡◌, Ok, Err, List, ℕ, ap, sym, subst, ◌∙◌}
-use Rattle.gb_formats.proofs.JudgedValid.{said-built, said-valid}
-use Rattle.gb_formats.specs.Built.{is_built}
+use Rattle.gb_formats.proofs.JudgedValid.{judged-valid}
 use Rattle.gb_formats.specs.Texts.{entries_text, refusal_line_text}
 use Rattle.gb_script.specs.Tells.{Tells}
 use Rattle.gb_script.specs.declared.fault.LineFault.{LineFault}
@@ -9,33 +8,38 @@ use Rattle.gbus.proofs.Turns.{goes_on, passes, short_line}
 use Rattle.gbus.specs.Sessions.{line_says}
 use Rattle.gbus.proofs.session.Session.take.Goals as goal
 
-pub step-requires-clause-built : goal.step-requires-clause-built
-step-requires-clause-built c =
-    said-built is_built 0 c.args.line.bytes.now c.in-Ok-Some.e (c.in-Ok-Some.ensures ∙ ap Ok c.in-Ok-Some.field-0-is)
-
 pub step-requires-clause-valid : goal.step-requires-clause-valid
 step-requires-clause-valid c =
-    said-valid is_built 0 c.args.line.bytes.now c.in-Ok-Some.e (c.in-Ok-Some.ensures ∙ ap Ok c.in-Ok-Some.field-0-is)
+    judged-valid 0 c.args.line.bytes.now c.in-Ok-Some.e
+    (c.in-Ok-Some.ensures ∙ ap Ok c.in-Ok-Some.field-0-is)
 
 pub returns-in-Ok-None-clause-turn : goal.returns-in-Ok-None-clause-turn
 returns-in-Ok-None-clause-turn c = λ s whole st is.
     passes c.args.self.now _ (line_says whole) s
-    (ap line_says (sym (short_line c.args.line.bytes.now c.args.line.long whole is c.if-line.false)) ∙ c.in-Ok-None.ensures ∙ ap Ok c.in-Ok-None.field-0-is)
+    (ap line_says (sym (short_line c.args.line.bytes.now c.args.line.long whole is c.if-line.false))
+    ∙ c.in-Ok-None.ensures ∙ ap Ok c.in-Ok-None.field-0-is)
     st c.new.ensures
 
 pub returns-in_ok-put_all-in-Ok-Some-clause-turn :
     goal.returns-in_ok-put_all-in-Ok-Some-clause-turn
 returns-in_ok-put_all-in-Ok-Some-clause-turn c = λ s whole st is.
     goes_on c.args.self.now _ (line_says whole) s c.in-Ok-Some.e c.in_ok-entries-in-Ok-Some.entries
-    (ap line_says (sym (short_line c.args.line.bytes.now c.args.line.long whole is c.if-line.false)) ∙ c.in-Ok-Some.ensures ∙ ap Ok c.in-Ok-Some.field-0-is)
+    (ap line_says (sym (short_line c.args.line.bytes.now c.args.line.long whole is c.if-line.false))
+    ∙ c.in-Ok-Some.ensures ∙ ap Ok c.in-Ok-Some.field-0-is)
     (c.in_ok-entries-in-Ok-Some.ensures.step s st)
-    (c.in_ok-put_all-in-Ok-Some.ensures ∙ ap (λ t. t ++ entries_text c.args.line.number c.args.self.now.hex c.in_ok-entries-in-Ok-Some.entries) c.new.ensures)
+    (c.in_ok-put_all-in-Ok-Some.ensures
+    ∙ ap (λ t. t ++ entries_text c.args.line.number c.args.self.now.hex
+    c.in_ok-entries-in-Ok-Some.entries) c.new.ensures)
 
 pub returns-in_ok-put_refusal-in-Err-Bad-clause-turn :
     goal.returns-in_ok-put_refusal-in-Err-Bad-clause-turn
 returns-in_ok-put_refusal-in-Err-Bad-clause-turn c = λ s whole st is. record {
   why = c.in-Err-Bad.why;
-  said_is = ap line_says (sym (short_line c.args.line.bytes.now c.args.line.long whole is c.if-line.false))
-      ∙ subst (λ (f : LineFault). Tells (Err f) (line_says c.args.line.bytes.now)) c.in-Err-Bad.field-0-is c.in-Err-Bad.ensures;
-  text = c.in_ok-put_refusal-in-Err-Bad.ensures.ok ∙ ap (λ t. t ++ refusal_line_text c.args.line.number c.in-Err-Bad.why) c.new.ensures;
+  said_is =
+      ap line_says (sym (short_line c.args.line.bytes.now c.args.line.long whole is
+      c.if-line.false))
+      ∙ subst (λ (f : LineFault). Tells (Err f) (line_says c.args.line.bytes.now))
+      c.in-Err-Bad.field-0-is c.in-Err-Bad.ensures;
+  text = c.in_ok-put_refusal-in-Err-Bad.ensures.ok
+      ∙ ap (λ t. t ++ refusal_line_text c.args.line.number c.in-Err-Bad.why) c.new.ensures;
 }
