@@ -1,6 +1,7 @@
 //! A source and a sink in memory that fail at given calls, for tests of what stands on them.
 
-ghost use Rattle.std.specs.Prelude.{◌≡◌, ◌↔◌, ◌<◌, ◌≤◌, [], ◌++◌, Some, IsTrue, IfOk, OnErr, IsErr, IsErrOf, length, take, drop};
+ghost use Rattle.std.specs.Prelude.{◌≡◌, ◌↔◌, ◌<◌, ◌≤◌, [], ◌++◌, Some, IsTrue, IfOk, OnErr, IsErr};
+ghost use Rattle.std.specs.Prelude.{IsErrOf, length, take, drop};
 ghost use Rattle.std.specs.Io.{ReadsAtMost, WritesAtMost};
 ghost use Rattle.std.specs.Io.KnownBytes.{ReadConsumes, WriteAppends};
 ghost use Rattle.gb_base.specs.Faults.{Rose};

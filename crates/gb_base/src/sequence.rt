@@ -85,6 +85,13 @@ impl<T: Copy> Sequence<T> {
 }
 
 impl Sequence<u8> {
+    /// The list that a vector of bytes is. It takes no memory.
+    pub fn from_vec(bytes: Vec<u8>) -> Bytes
+        ensures { result ≡ bytes.items }
+    {
+        Sequence { members: bytes }
+    }
+
     /// The list with these bytes.
     pub fn from_slice(alloc: Global, bytes: &[u8]) -> Result<Bytes, OutOfMemory>
         ensures { IfOk result (λ b. b ≡ bytes.now) }

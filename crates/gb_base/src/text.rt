@@ -40,6 +40,13 @@ impl Text {
         self.bytes.as_slice()
     }
 
+    /// No bytes from now on. The memory stays.
+    pub fn clear(&mut self)
+        ensures { self.new ≡ [] }
+    {
+        self.bytes.clear();
+    }
+
     /// Adds a byte at the end. After a refusal the text is as before.
     pub fn push(&mut self, byte: u8) -> Result<(), OutOfMemory>
         requires { byte < 128 }

@@ -5,6 +5,7 @@ use Rattle.std.specs.Str.{bytes_eq}
 use Rattle.gb_base.specs.declared.event.Event.{Event}
 use Rattle.gb_base.specs.declared.event.Event.TheVariants as event
 use Rattle.gb_formats.specs.Grammar.{Said, is_comment, by_first, asked_for}
+use Rattle.gb_formats.specs.Said.{Rest}
 use Rattle.gb_formats.specs.Script.{longest_line, bad_place, unless_bad, judged}
 use Rattle.gb_formats.specs.ValidEvents.{IsValid}
 use Rattle.gb_formats.specs.Words.{words}
@@ -16,10 +17,10 @@ use Rattle.gb_formats.proofs.SaidValid.{injecting-valid}
 use Rattle.gb_formats.proofs.SaidValidBridges.{gpio_form-valid, i2c_form-valid, spi_form-valid}
 use Rattle.gb_formats.proofs.SaidValidBridges.{uart_form-valid}
 
-pub by_first-valid : (who : ℕ) (w : List ℕ) (ws : List (List ℕ)) → SaysValid (by_first who w ws)
+pub by_first-valid : (who : ℕ) (w : List ℕ) (ws : Rest) → SaysValid (by_first who w ws)
 by_first-valid who w ws =
     if-valid (is_comment w) _ _ tt
-    (if-valid (bytes_eq w (codes "boot")) _ _ (at_end-valid 2 ws event.Boot tt)
+    (if-valid (bytes_eq w (codes "boot")) _ _ (at_end-valid ws event.Boot tt)
     (if-valid (bytes_eq w (codes "insert")) _ _ (inserting-valid ws)
     (if-valid (bytes_eq w (codes "pull")) _ _ (of_intf-valid event.Pull ws (λ i p. p))
     (if-valid (bytes_eq w (codes "connect")) _ _
@@ -36,7 +37,7 @@ by_first-valid who w ws =
     (if-valid (bytes_eq w (codes "drop")) _ _ (of_name-valid who event.Forget ws (λ x p. p))
     (if-valid (bytes_eq w (codes "tick")) _ _ (ticking-valid ws)
     (if-valid (bytes_eq w (codes "inject")) _ _ (injecting-valid ws)
-    (if-valid (bytes_eq w (codes "show")) _ _ (at_end-valid 2 ws event.Show tt)
+    (if-valid (bytes_eq w (codes "show")) _ _ (at_end-valid ws event.Show tt)
     (if-valid (bytes_eq w (codes "gpio")) _ _ (gpio_form-valid who ws)
     (if-valid (bytes_eq w (codes "i2c")) _ _ (i2c_form-valid who ws)
     (if-valid (bytes_eq w (codes "spi")) _ _ (spi_form-valid who ws)
@@ -44,7 +45,7 @@ by_first-valid who w ws =
 
 pub asked_for-valid : (who : ℕ) (ws : List (List ℕ)) → SaysValid (asked_for who ws)
 asked_for-valid who [] = tt
-asked_for-valid who (w ∷ ws) = by_first-valid who w ws
+asked_for-valid who (w ∷ ws) = by_first-valid who w (2, ws)
 
 pub judged-says_valid : (who : ℕ) (line : List ℕ) → SaysValid (judged who line)
 judged-says_valid who line =

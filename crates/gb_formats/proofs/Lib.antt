@@ -1,9 +1,7 @@
 pub mod Ascii
-pub mod Forms
 pub mod Hex
 pub mod JudgedValid
 pub mod MadeValid
-pub mod Plain
 pub mod SaidValid
 pub mod SaidValidBridges
 pub mod Samples

@@ -1,6 +1,6 @@
 -- The forms of the script for bridged protocols: `gpio`, `i2c`, `spi` and `uart`.
 use Rattle.std.specs.Prelude.{ℕ, ◌==◌, Bool, ◌&&◌, if◌then◌else◌, Option, Some, None, option_map}
-use Rattle.std.specs.Prelude.{option_and_then, Err, List, [], ◌∷◌, take, drop, slice_index, codes}
+use Rattle.std.specs.Prelude.{option_and_then, List, [], take, drop, slice_index, codes}
 use Rattle.std.specs.Str.{bytes_eq}
 use Rattle.gb_base.specs.declared.bridge.BridgeAsk.{BridgeAsk}
 use Rattle.gb_base.specs.declared.bridge.BridgeAsk.TheVariants as ask
@@ -10,8 +10,8 @@ use Rattle.gb_base.specs.declared.bridge.SpiOp.{SpiOp}
 use Rattle.gb_base.specs.declared.bridge.SpiOp.TheVariants as spi
 use Rattle.gb_base.specs.declared.event.Event.{Event}
 use Rattle.gb_base.specs.declared.event.Event.TheVariants as event
-use Rattle.gb_base.specs.declared.fault.LineReason.TheVariants as bad
-use Rattle.gb_formats.specs.Said.{Said, next_word, next_cport, at_end, each_word}
+use Rattle.gb_formats.specs.Said.{Said, Rest, next_word, by_word, bad_word, next_cport, at_end}
+use Rattle.gb_formats.specs.Said.{each_word}
 use Rattle.gb_formats.specs.WordValues.{name_word, u8_word, u16_word, u32_word, pin_word}
 use Rattle.gb_formats.specs.WordValues.{level_word, hex_word, type_word}
 
@@ -19,62 +19,56 @@ use Rattle.gb_formats.specs.WordValues.{level_word, hex_word, type_word}
 abbrev pub begins_with_at : List ℕ → Bool
 begins_with_at w = slice_index w 0 == 64
 
--- `@x I C`, and then what is asked, from word 5 on
-abbrev pub bridging : ℕ → List (List ℕ) → ((BridgeAsk → Event) → List (List ℕ) → Said) → Said
+-- `@x I C`, and then what is asked
+abbrev pub bridging : ℕ → Rest → ((BridgeAsk → Event) → Rest → Said) → Said
 bridging who ws asking =
-    next_word (name_word who) 2 ws (λ x ws. next_cport 3 ws (λ i c ws.
+    next_word (name_word who) ws (λ x ws. next_cport ws (λ i c ws.
     asking (λ what. event.Bridge x i c what) ws))
 
 -- ---- gpio
 
 -- a GPIO request with a line
-abbrev pub gpio_line : (BridgeAsk → Event) → ℕ → List (List ℕ) → Said
-gpio_line make kind ws = next_word u8_word 6 ws (λ l ws. at_end 7 ws (make (ask.Gpio kind l 0)))
+abbrev pub gpio_line : (BridgeAsk → Event) → ℕ → Rest → Said
+gpio_line make kind ws = next_word u8_word ws (λ l ws. at_end ws (make (ask.Gpio kind l 0)))
 
 -- a GPIO request with a line and a value
-abbrev pub gpio_value : (BridgeAsk → Event) → ℕ → (List ℕ → Option ℕ) → List (List ℕ) → Said
+abbrev pub gpio_value : (BridgeAsk → Event) → ℕ → (List ℕ → Option ℕ) → Rest → Said
 gpio_value make kind value_word ws =
-    next_word u8_word 6 ws (λ l ws. next_word value_word 7 ws (λ v ws.
-    at_end 8 ws (make (ask.Gpio kind l v))))
+    next_word u8_word ws (λ l ws. next_word value_word ws (λ v ws.
+    at_end ws (make (ask.Gpio kind l v))))
 
--- a GPIO request by the word that names its type
-abbrev pub gpio_named : (BridgeAsk → Event) → List ℕ → List (List ℕ) → Said
-gpio_named make w ws =
-    if bytes_eq w (codes "count") then at_end 6 ws (make (ask.Gpio 0x02 0 0))
-    else if bytes_eq w (codes "activate") then gpio_line make 0x03 ws
-    else if bytes_eq w (codes "deactivate") then gpio_line make 0x04 ws
-    else if bytes_eq w (codes "direction") then gpio_line make 0x05 ws
-    else if bytes_eq w (codes "in") then gpio_line make 0x06 ws
-    else if bytes_eq w (codes "out") then gpio_value make 0x07 u8_word ws
-    else if bytes_eq w (codes "get") then gpio_line make 0x08 ws
-    else if bytes_eq w (codes "set") then gpio_value make 0x09 u8_word ws
-    else if bytes_eq w (codes "debounce") then gpio_value make 0x0a u16_word ws
-    else if bytes_eq w (codes "irq") then gpio_value make 0x0b u8_word ws
-    else if bytes_eq w (codes "mask") then gpio_line make 0x0c ws
-    else if bytes_eq w (codes "unmask") then gpio_line make 0x0d ws
-    else Err (bad.BadWord 5)
-
--- what a GPIO line asks, from word 5 on
-abbrev pub gpio_asking : (BridgeAsk → Event) → List (List ℕ) → Said
-gpio_asking make [] = Err (bad.MissingWord 5)
-gpio_asking make (w ∷ ws) = gpio_named make w ws
+-- what a GPIO line asks, by the word that names the type of the request
+abbrev pub gpio_asking : (BridgeAsk → Event) → Rest → Said
+gpio_asking make ws = by_word ws (λ w rest.
+    if bytes_eq w (codes "count") then at_end rest (make (ask.Gpio 0x02 0 0))
+    else if bytes_eq w (codes "activate") then gpio_line make 0x03 rest
+    else if bytes_eq w (codes "deactivate") then gpio_line make 0x04 rest
+    else if bytes_eq w (codes "direction") then gpio_line make 0x05 rest
+    else if bytes_eq w (codes "in") then gpio_line make 0x06 rest
+    else if bytes_eq w (codes "out") then gpio_value make 0x07 u8_word rest
+    else if bytes_eq w (codes "get") then gpio_line make 0x08 rest
+    else if bytes_eq w (codes "set") then gpio_value make 0x09 u8_word rest
+    else if bytes_eq w (codes "debounce") then gpio_value make 0x0a u16_word rest
+    else if bytes_eq w (codes "irq") then gpio_value make 0x0b u8_word rest
+    else if bytes_eq w (codes "mask") then gpio_line make 0x0c rest
+    else if bytes_eq w (codes "unmask") then gpio_line make 0x0d rest
+    else bad_word ws)
 
 -- The word that must stand there, and no other.
 abbrev pub literal_word : List ℕ → List ℕ → Option (List ℕ)
 literal_word this w = if bytes_eq w this then Some w else None
 
 -- `I C level L V`
-abbrev pub gpio_level : List (List ℕ) → Said
+abbrev pub gpio_level : Rest → Said
 gpio_level ws =
-    next_cport 2 ws (λ i c ws. next_word (literal_word (codes "level")) 4 ws (λ w ws.
-    next_word pin_word 5 ws (λ l ws. next_word level_word 6 ws (λ v ws.
-    at_end 7 ws (event.Level i c l v)))))
+    next_cport ws (λ i c ws. next_word (literal_word (codes "level")) ws (λ w ws.
+    next_word pin_word ws (λ l ws. next_word level_word ws (λ v ws.
+    at_end ws (event.Level i c l v)))))
 
--- `gpio`: the form with a name where word 2 begins with `@`
-abbrev pub gpio_form : ℕ → List (List ℕ) → Said
-gpio_form who [] = Err (bad.MissingWord 2)
-gpio_form who (w ∷ ws) =
-    if begins_with_at w then bridging who (w ∷ ws) gpio_asking else gpio_level (w ∷ ws)
+-- `gpio`: the form with a name where the next word begins with `@`
+abbrev pub gpio_form : ℕ → Rest → Said
+gpio_form who ws = by_word ws (λ w rest.
+    if begins_with_at w then bridging who ws gpio_asking else gpio_level ws)
 
 -- ---- i2c
 
@@ -105,16 +99,15 @@ i2c_op_word w =
     else None
 
 -- `functionality`, or `transfer` and any number of ops
-abbrev pub i2c_asking : (BridgeAsk → Event) → List (List ℕ) → Said
-i2c_asking make [] = Err (bad.MissingWord 5)
-i2c_asking make (w ∷ ws) =
-    if bytes_eq w (codes "functionality") then at_end 6 ws (make ask.I2cFunctionality)
+abbrev pub i2c_asking : (BridgeAsk → Event) → Rest → Said
+i2c_asking make ws = by_word ws (λ w rest.
+    if bytes_eq w (codes "functionality") then at_end rest (make ask.I2cFunctionality)
     else if bytes_eq w (codes "transfer")
-    then each_word i2c_op_word (λ ops. make (ask.I2cTransfer ops)) [] 6 ws
-    else Err (bad.BadWord 5)
+    then each_word i2c_op_word (λ ops. make (ask.I2cTransfer ops)) [] rest
+    else bad_word ws)
 
 -- `i2c @x I C` and what is asked
-abbrev pub i2c_form : ℕ → List (List ℕ) → Said
+abbrev pub i2c_form : ℕ → Rest → Said
 i2c_form who ws = bridging who ws i2c_asking
 
 -- ---- spi
@@ -129,62 +122,55 @@ spi_op_word w =
     else None
 
 -- `transfer S M` and any number of entries
-abbrev pub spi_transfer : (BridgeAsk → Event) → List (List ℕ) → Said
+abbrev pub spi_transfer : (BridgeAsk → Event) → Rest → Said
 spi_transfer make ws =
-    next_word u8_word 6 ws (λ s ws. next_word u8_word 7 ws (λ m ws.
-    each_word spi_op_word (λ ops. make (ask.SpiTransfer s m ops)) [] 8 ws))
+    next_word u8_word ws (λ s ws. next_word u8_word ws (λ m ws.
+    each_word spi_op_word (λ ops. make (ask.SpiTransfer s m ops)) [] ws))
 
 -- `config`, `device S`, or `transfer S M` and any number of entries
-abbrev pub spi_asking : (BridgeAsk → Event) → List (List ℕ) → Said
-spi_asking make [] = Err (bad.MissingWord 5)
-spi_asking make (w ∷ ws) =
-    if bytes_eq w (codes "config") then at_end 6 ws (make ask.SpiConfig)
+abbrev pub spi_asking : (BridgeAsk → Event) → Rest → Said
+spi_asking make ws = by_word ws (λ w rest.
+    if bytes_eq w (codes "config") then at_end rest (make ask.SpiConfig)
     else if bytes_eq w (codes "device")
-    then next_word u8_word 6 ws (λ s ws. at_end 7 ws (make (ask.SpiDevice s)))
-    else if bytes_eq w (codes "transfer") then spi_transfer make ws
-    else Err (bad.BadWord 5)
+    then next_word u8_word rest (λ s ws. at_end ws (make (ask.SpiDevice s)))
+    else if bytes_eq w (codes "transfer") then spi_transfer make rest
+    else bad_word ws)
 
 -- `spi @x I C` and what is asked
-abbrev pub spi_form : ℕ → List (List ℕ) → Said
+abbrev pub spi_form : ℕ → Rest → Said
 spi_form who ws = bridging who ws spi_asking
 
 -- ---- uart
 
 -- `coding RATE F P B W`
-abbrev pub uart_coding : (BridgeAsk → Event) → List (List ℕ) → Said
+abbrev pub uart_coding : (BridgeAsk → Event) → Rest → Said
 uart_coding make ws =
-    next_word u32_word 6 ws (λ rate ws. next_word u8_word 7 ws (λ f ws.
-    next_word u8_word 8 ws (λ p ws. next_word u8_word 9 ws (λ b ws.
-    next_word u8_word 10 ws (λ w ws. at_end 11 ws (make (ask.UartCoding rate f p b w)))))))
+    next_word u32_word ws (λ rate ws. next_word u8_word ws (λ f ws.
+    next_word u8_word ws (λ p ws. next_word u8_word ws (λ b ws.
+    next_word u8_word ws (λ w ws. at_end ws (make (ask.UartCoding rate f p b w)))))))
 
 -- a UART request of one byte
-abbrev pub uart_byte : (BridgeAsk → Event) → ℕ → List (List ℕ) → Said
-uart_byte make kind ws = next_word u8_word 6 ws (λ v ws. at_end 7 ws (make (ask.UartByte kind v)))
+abbrev pub uart_byte : (BridgeAsk → Event) → ℕ → Rest → Said
+uart_byte make kind ws = next_word u8_word ws (λ v ws. at_end ws (make (ask.UartByte kind v)))
 
--- a UART request by the word that names its type
-abbrev pub uart_named : (BridgeAsk → Event) → List ℕ → List (List ℕ) → Said
-uart_named make w ws =
+-- what a UART line asks, by the word that names the type of the request
+abbrev pub uart_asking : (BridgeAsk → Event) → Rest → Said
+uart_asking make ws = by_word ws (λ w rest.
     if bytes_eq w (codes "send")
-    then next_word hex_word 6 ws (λ bytes ws. at_end 7 ws (make (ask.UartSend bytes)))
-    else if bytes_eq w (codes "coding") then uart_coding make ws
-    else if bytes_eq w (codes "control") then uart_byte make 0x05 ws
-    else if bytes_eq w (codes "break") then uart_byte make 0x06 ws
-    else if bytes_eq w (codes "flush") then uart_byte make 0x09 ws
-    else Err (bad.BadWord 5)
-
--- what a UART line asks, from word 5 on
-abbrev pub uart_asking : (BridgeAsk → Event) → List (List ℕ) → Said
-uart_asking make [] = Err (bad.MissingWord 5)
-uart_asking make (w ∷ ws) = uart_named make w ws
+    then next_word hex_word rest (λ bytes ws. at_end ws (make (ask.UartSend bytes)))
+    else if bytes_eq w (codes "coding") then uart_coding make rest
+    else if bytes_eq w (codes "control") then uart_byte make 0x05 rest
+    else if bytes_eq w (codes "break") then uart_byte make 0x06 rest
+    else if bytes_eq w (codes "flush") then uart_byte make 0x09 rest
+    else bad_word ws)
 
 -- `I C state V`
-abbrev pub uart_state : List (List ℕ) → Said
+abbrev pub uart_state : Rest → Said
 uart_state ws =
-    next_cport 2 ws (λ i c ws. next_word (literal_word (codes "state")) 4 ws (λ w ws.
-    next_word u8_word 5 ws (λ v ws. at_end 6 ws (event.SerialState i c v))))
+    next_cport ws (λ i c ws. next_word (literal_word (codes "state")) ws (λ w ws.
+    next_word u8_word ws (λ v ws. at_end ws (event.SerialState i c v))))
 
--- `uart`: the form with a name where word 2 begins with `@`
-abbrev pub uart_form : ℕ → List (List ℕ) → Said
-uart_form who [] = Err (bad.MissingWord 2)
-uart_form who (w ∷ ws) =
-    if begins_with_at w then bridging who (w ∷ ws) uart_asking else uart_state (w ∷ ws)
+-- `uart`: the form with a name where the next word begins with `@`
+abbrev pub uart_form : ℕ → Rest → Said
+uart_form who ws = by_word ws (λ w rest.
+    if begins_with_at w then bridging who ws uart_asking else uart_state ws)

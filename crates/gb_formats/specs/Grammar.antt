@@ -8,7 +8,7 @@ use Rattle.gb_base.specs.declared.event.Event.TheVariants as event
 use Rattle.gb_base.specs.declared.fault.LineReason.TheVariants as bad
 use Rattle.gb_base.specs.declared.name.Name.{Name}
 use Rattle.gb_formats.specs.BridgeForms.{gpio_form, i2c_form, spi_form, uart_form}
-use Rattle.gb_formats.specs.Said.{next_word, next_cport, at_end}
+use Rattle.gb_formats.specs.Said.{Rest, next_word, by_word, next_cport, at_end}
 use Rattle.gb_formats.specs.WordValues.{name_word, intf_word, cport_word, count_word, from_one_word}
 use Rattle.gb_formats.specs.WordValues.{hex_word, type_word, kind_word}
 pub use Rattle.gb_formats.specs.Said.{Said}
@@ -33,108 +33,103 @@ ping_event who name = event.Send (name_of who name) end.Svc ping [] default_time
 -- ---- interfaces and connections
 
 -- `insert I KIND`, or `insert I raw HEX`
-abbrev pub inserting_what : ℕ → List (List ℕ) → Said
-inserting_what i [] = Err (bad.MissingWord 3)
-inserting_what i (w ∷ ws) =
+abbrev pub inserting_what : ℕ → Rest → Said
+inserting_what i ws = by_word ws (λ w rest.
     if bytes_eq w (codes "raw")
-    then next_word hex_word 4 ws (λ bytes ws. at_end 5 ws (event.InsertRaw i bytes))
-    else next_word kind_word 3 (w ∷ ws) (λ kind ws. at_end 4 ws (event.Insert i kind))
+    then next_word hex_word rest (λ bytes ws. at_end ws (event.InsertRaw i bytes))
+    else next_word kind_word ws (λ kind ws. at_end ws (event.Insert i kind)))
 
 -- `insert I` and what is inserted
-abbrev pub inserting : List (List ℕ) → Said
-inserting ws = next_word intf_word 2 ws (λ i ws. inserting_what i ws)
+abbrev pub inserting : Rest → Said
+inserting ws = next_word intf_word ws (λ i ws. inserting_what i ws)
 
 -- a word and `I`
-abbrev pub of_intf : (ℕ → Event) → List (List ℕ) → Said
-of_intf make ws = next_word intf_word 2 ws (λ i ws. at_end 3 ws (make i))
+abbrev pub of_intf : (ℕ → Event) → Rest → Said
+of_intf make ws = next_word intf_word ws (λ i ws. at_end ws (make i))
 
 -- a word and `I C`
-abbrev pub of_cport : (ℕ → ℕ → Event) → List (List ℕ) → Said
-of_cport make ws = next_cport 2 ws (λ i c ws. at_end 4 ws (make i c))
+abbrev pub of_cport : (ℕ → ℕ → Event) → Rest → Said
+of_cport make ws = next_cport ws (λ i c ws. at_end ws (make i c))
 
 -- ---- requests
 
--- A `send` may end with `timeout MS`, which would begin at this place.
-abbrev pub timed : ℕ → List (List ℕ) → (ℕ → Event) → Said
-timed place [] make = Ok (Some (make default_timeout))
-timed place (w ∷ ws) make =
+-- a `send` may end with `timeout MS`
+abbrev pub timed : Rest → (ℕ → Event) → Said
+timed (place, []) make = Ok (Some (make default_timeout))
+timed (place, w ∷ ws) make =
     if bytes_eq w (codes "timeout")
-    then next_word from_one_word (place + 1) ws (λ ms ws. at_end (place + 2) ws (make ms))
+    then next_word from_one_word (place + 1, ws) (λ ms ws. at_end ws (make ms))
     else Err (bad.BadWord place)
 
 -- `send @x svc ping`, or `send @x svc TYPE HEX`
-abbrev pub sending_svc : Name → List (List ℕ) → Said
-sending_svc x [] = Err (bad.MissingWord 4)
-sending_svc x (w ∷ ws) =
-    if bytes_eq w (codes "ping") then timed 5 ws (λ ms. event.Send x end.Svc ping [] ms)
-    else next_word type_word 4 (w ∷ ws) (λ kind ws. next_word hex_word 5 ws (λ payload ws.
-    timed 6 ws (λ ms. event.Send x end.Svc kind payload ms)))
+abbrev pub sending_svc : Name → Rest → Said
+sending_svc x ws = by_word ws (λ w rest.
+    if bytes_eq w (codes "ping") then timed rest (λ ms. event.Send x end.Svc ping [] ms)
+    else next_word type_word ws (λ kind ws. next_word hex_word ws (λ payload ws.
+    timed ws (λ ms. event.Send x end.Svc kind payload ms))))
 
 -- `send @x I C TYPE HEX`
-abbrev pub sending_module : Name → List (List ℕ) → Said
+abbrev pub sending_module : Name → Rest → Said
 sending_module x ws =
-    next_cport 3 ws (λ i c ws. next_word type_word 5 ws (λ kind ws.
-    next_word hex_word 6 ws (λ payload ws.
-    timed 7 ws (λ ms. event.Send x (end.Module i c) kind payload ms))))
+    next_cport ws (λ i c ws. next_word type_word ws (λ kind ws. next_word hex_word ws (λ payload ws.
+    timed ws (λ ms. event.Send x (end.Module i c) kind payload ms))))
 
 -- the word behind the name decides to whom
-abbrev pub sending_to : Name → List (List ℕ) → Said
-sending_to x [] = Err (bad.MissingWord 3)
-sending_to x (to ∷ ws) =
-    if bytes_eq to (codes "svc") then sending_svc x ws else sending_module x (to ∷ ws)
+abbrev pub sending_to : Name → Rest → Said
+sending_to x ws = by_word ws (λ to rest.
+    if bytes_eq to (codes "svc") then sending_svc x rest else sending_module x ws)
 
 -- `send @x` and to whom
-abbrev pub sending : ℕ → List (List ℕ) → Said
-sending who ws = next_word (name_word who) 2 ws (λ x ws. sending_to x ws)
+abbrev pub sending : ℕ → Rest → Said
+sending who ws = next_word (name_word who) ws (λ x ws. sending_to x ws)
 
 -- `cancel @x` and `drop @x`
-abbrev pub of_name : ℕ → (Name → Event) → List (List ℕ) → Said
-of_name who make ws = next_word (name_word who) 2 ws (λ x ws. at_end 3 ws (make x))
+abbrev pub of_name : ℕ → (Name → Event) → Rest → Said
+of_name who make ws = next_word (name_word who) ws (λ x ws. at_end ws (make x))
 
 -- `copy @x @y`
-abbrev pub copying : ℕ → List (List ℕ) → Said
+abbrev pub copying : ℕ → Rest → Said
 copying who ws =
-    next_word (name_word who) 2 ws (λ x ws. next_word (name_word who) 3 ws (λ y ws.
-    at_end 4 ws (event.Copy x y)))
+    next_word (name_word who) ws (λ x ws. next_word (name_word who) ws (λ y ws.
+    at_end ws (event.Copy x y)))
 
 -- ---- deliveries
 
 -- `deliver svc`, `deliver ap A`, or `deliver I C`
-abbrev pub delivering : List (List ℕ) → Said
-delivering [] = Err (bad.MissingWord 2)
-delivering (at ∷ ws) =
-    if bytes_eq at (codes "svc") then at_end 3 ws (event.Deliver end.Svc)
+abbrev pub delivering : Rest → Said
+delivering ws = by_word ws (λ at rest.
+    if bytes_eq at (codes "svc") then at_end rest (event.Deliver end.Svc)
     else if bytes_eq at (codes "ap")
-    then next_word cport_word 3 ws (λ a ws. at_end 4 ws (event.Deliver (end.Ap a)))
-    else of_cport (λ i c. event.Deliver (end.Module i c)) (at ∷ ws)
+    then next_word cport_word rest (λ a ws. at_end ws (event.Deliver (end.Ap a)))
+    else of_cport (λ i c. event.Deliver (end.Module i c)) ws)
 
 -- `settle N`
-abbrev pub settling : List (List ℕ) → Said
-settling ws = next_word count_word 2 ws (λ n ws. at_end 3 ws (event.Settle n))
+abbrev pub settling : Rest → Said
+settling ws = next_word count_word ws (λ n ws. at_end ws (event.Settle n))
 
 -- `answer I C K`
-abbrev pub answering : List (List ℕ) → Said
+abbrev pub answering : Rest → Said
 answering ws =
-    next_cport 2 ws (λ i c ws. next_word from_one_word 4 ws (λ k ws.
-    at_end 5 ws (event.Answer i c k)))
+    next_cport ws (λ i c ws. next_word from_one_word ws (λ k ws.
+    at_end ws (event.Answer i c k)))
 
 -- `tick MS`
-abbrev pub ticking : List (List ℕ) → Said
-ticking ws = next_word from_one_word 2 ws (λ ms ws. at_end 3 ws (event.Tick ms))
+abbrev pub ticking : Rest → Said
+ticking ws = next_word from_one_word ws (λ ms ws. at_end ws (event.Tick ms))
 
 -- `inject I C HEX`
-abbrev pub injecting : List (List ℕ) → Said
+abbrev pub injecting : Rest → Said
 injecting ws =
-    next_cport 2 ws (λ i c ws. next_word hex_word 4 ws (λ bytes ws.
-    at_end 5 ws (event.Inject i c bytes)))
+    next_cport ws (λ i c ws. next_word hex_word ws (λ bytes ws.
+    at_end ws (event.Inject i c bytes)))
 
 -- ---- all forms
 
 -- what a line asks for by its first word
-abbrev pub by_first : ℕ → List ℕ → List (List ℕ) → Said
+abbrev pub by_first : ℕ → List ℕ → Rest → Said
 by_first who w ws =
     if is_comment w then Ok None
-    else if bytes_eq w (codes "boot") then at_end 2 ws event.Boot
+    else if bytes_eq w (codes "boot") then at_end ws event.Boot
     else if bytes_eq w (codes "insert") then inserting ws
     else if bytes_eq w (codes "pull") then of_intf event.Pull ws
     else if bytes_eq w (codes "connect") then of_cport event.Connect ws
@@ -149,7 +144,7 @@ by_first who w ws =
     else if bytes_eq w (codes "drop") then of_name who event.Forget ws
     else if bytes_eq w (codes "tick") then ticking ws
     else if bytes_eq w (codes "inject") then injecting ws
-    else if bytes_eq w (codes "show") then at_end 2 ws event.Show
+    else if bytes_eq w (codes "show") then at_end ws event.Show
     else if bytes_eq w (codes "gpio") then gpio_form who ws
     else if bytes_eq w (codes "i2c") then i2c_form who ws
     else if bytes_eq w (codes "spi") then spi_form who ws
@@ -159,4 +154,4 @@ by_first who w ws =
 -- what the words of a line ask for; `who` is the requester
 abbrev pub asked_for : ℕ → List (List ℕ) → Said
 asked_for who [] = Ok None
-asked_for who (w ∷ ws) = by_first who w ws
+asked_for who (w ∷ ws) = by_first who w (2, ws)

@@ -1,14 +1,9 @@
 -- Laws of the words on lists.
 use Rattle.std.proofs.Common.{◌≡◌, ℕ, zero, suc, ◌-◌, ◌<◌, ◌≤◌, Some, None, List, [], ◌∷◌, ◌++◌}
-use Rattle.std.proofs.Common.{length, refl, ap, ◌∙◌, arith}
+use Rattle.std.proofs.Common.{length, refl, ◌∙◌, arith}
 use Rattle.std.proofs.lemmas.Option.{slice_get_past, slice_get_within}
 use Rattle.std.specs.List.{slice_get}
 use Rattle.gb_machine.specs.Lists.{nth}
-
--- counted from 0
-pub nth-from : {A : Type 0} → (n : ℕ) (xs : List A) → 0 < n → nth n xs ≡ slice_get xs (n - 1)
-nth-from zero xs h = absurd (omega arith)
-nth-from (suc k) xs h = let e : k ≡ suc k - 1 = omega arith in ap (slice_get xs) e
 
 slice_get-push-below : {A : Type 0} → (xs : List A) (y : A) (k : ℕ) → k < length xs
     → slice_get (xs ++ y ∷ []) k ≡ slice_get xs k

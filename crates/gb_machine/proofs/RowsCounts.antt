@@ -10,7 +10,8 @@ use Rattle.gb_machine.specs.Summary.{counts}
 
 -- a ping is answered, one cancelled, one times out and one is open; two events are refused
 pub counted : summary_text 10 (counts (trace (
-    ping_event 0 (codes "@a") ∷ ping_event 0 (codes "@a") ∷ event.Deliver end.Svc ∷ event.Deliver (end.Ap 0)
+    ping_event 0 (codes "@a") ∷ ping_event 0 (codes "@a") ∷ event.Deliver end.Svc
+    ∷ event.Deliver (end.Ap 0)
     ∷ ping_event 0 (codes "@b") ∷ event.Cancel (name_of 0 (codes "@b")) ∷ ping_event 0 (codes "@c")
     ∷ event.Tick 1000 ∷ ping_event 0 (codes "@d") ∷ event.Pull 2 ∷ [])))
     ≡ text (codes "lines 10 refused 2 requests 4 answered 1 cancelled 1 timeout 1 disconnected 0 sent 0 open 1" ∷ [])

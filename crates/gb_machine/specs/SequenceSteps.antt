@@ -25,24 +25,6 @@ pub record Target : Type 0 where
   pub ap : ℕ  -- the CPort of the application processor
   pub device : ℕ  -- the device id of the interface
 
--- The place of a step, counted from 0.
-abbrev pub place_of_step : SequenceStep → ℕ
-place_of_step steps.EnableVsys = 0
-place_of_step steps.EnableRefclk = 1
-place_of_step steps.EnableUnipro = 2
-place_of_step steps.Activate = 3
-place_of_step steps.GiveDevice = 4
-place_of_step steps.CreateRoute = 5
-place_of_step steps.CreateControl = 6
-place_of_step steps.AskVersion = 7
-place_of_step steps.AskSize = 8
-place_of_step steps.AskManifest = 9
-place_of_step steps.CreateConnection = 10
-place_of_step steps.TellConnected = 11
-place_of_step steps.TellDisconnecting = 12
-place_of_step steps.TellDisconnected = 13
-place_of_step steps.DestroyConnection = 14
-
 -- The type of a step's request.
 abbrev pub kind_of : SequenceStep → ℕ
 kind_of steps.EnableVsys = 0x21

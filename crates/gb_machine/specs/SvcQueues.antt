@@ -80,10 +80,6 @@ abbrev pub creates : ℕ → Result SvcAsk PayloadFault → Bool
 creates i (Ok (SvcAsk.ConnCreate i1 c1 j c tc flags)) = j == i
 creates i _ = false
 
--- A request creates a connection of an interface.
-abbrev pub is_creation : ℕ → Request → Bool
-is_creation i r = creates i (read_svc_ask r.kind r.payload)
-
 -- A connection request of an interface: one that creates a connection other than Control, or
 -- destroys one.
 abbrev pub is_connection_request : ℕ → Request → Bool

@@ -9,4 +9,6 @@ use Rattle.gb_base.proofs.name.is_name.Goals as goal
 pub returns-then-bytes-le-LONGEST : goal.returns-then-bytes-le-LONGEST
 returns-then-bytes-le-LONGEST c =
     let w = c.args.bytes.now in
-    all_from_yields_List is_name_byte _ _ _ c.all.ensures.ran (YieldsList-from_slice w cc) (λ x b q k. search (rules, tests)) ∙ sym (is_name-fits w (grind (arith, nat_tests)) (omega arith))
+    all_from_yields_List is_name_byte _ _ _ c.all.ensures.ran (YieldsList-from_slice w cc)
+    (λ x b q k. search (rules, tests))
+    ∙ sym (is_name-fits w (grind (arith, nat_tests)) (omega arith))

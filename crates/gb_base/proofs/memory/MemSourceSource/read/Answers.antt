@@ -9,4 +9,5 @@ returns-clause-bytes c =
     let counted = c.copy_front-count.ensures in
     let left = ap (λ (i : MemInput). i.left) c.self.view_is in
     let some = c.self.invariant in
-    read_consumes _ s.bytes c.args.buf.now _ _ s.at _ _ c.items-2.ensures left (λ _. omega (arith, some.1)) counted.count counted.copied
+    read_consumes _ s.bytes c.args.buf.now _ _ s.at _ _ c.items-2.ensures left
+    (λ _. omega (arith, some.1)) counted.count counted.copied
