@@ -29,9 +29,9 @@ use Rattle.gb_invariants.proofs.{Awaiting.none-some, Found.in-ordered, Lists.in-
 use Rattle.gb_laws.proofs.AskedSteps.{TurnAsks, asks-asked, asks-checked, asks-failed, asks-fails}
 use Rattle.gb_laws.proofs.AskedSteps.{asks-left, asks-link, asks-opened, asks-stage, asks-telling}
 use Rattle.gb_laws.proofs.AskedSteps.{asks-through, asks-told, waits-stage}
-use Rattle.gb_laws.proofs.AskedWaits.{AsksIn, WaitsFewer, asks-tell, asks_in, is_power_step}
-use Rattle.gb_laws.proofs.AskedWaits.{no-asks, opens_in, same-waits, then-waits, waits-interface}
-use Rattle.gb_laws.proofs.AskedWaits.{waits-purpose}
+use Rattle.gb_laws.proofs.AskedWaits.{AsksIn, WaitsFewer, asks-shut, asks-tell, asks_in}
+use Rattle.gb_laws.proofs.AskedWaits.{is_power_step, no-asks, opens_in, payload-answered}
+use Rattle.gb_laws.proofs.AskedWaits.{same-waits, then-waits, waits-interface, waits-purpose}
 
 module _ (i : ℕ) (Calm : Type 0) where
   -- what follows a step that was answered, where `Calm` holds if it was a step of interface i that
@@ -108,15 +108,7 @@ module _ (i : ℕ) (Calm : Type 0) where
   asks-ended None how h calm = asks-failed i Calm h [] (same-waits h)
   asks-ended (Some p) how h calm =
       asks-through i Calm (waits-purpose p h) (asks-answered (payload_in how) p
-      (λ payload e. let a = answered how e in calm p refl a.0 a.1 a.2))
-    where
-      answered : (how : Outcome) {payload : List ℕ} → payload_in how ≡ Some payload
-          → (result : ℕ) × (bytes : List ℕ) × (how ≡ outcome.Answered result bytes)
-      answered (outcome.Answered result bytes) e = (result, bytes, refl)
-      answered outcome.Cancelled e = absurd cc
-      answered outcome.Timeout e = absurd cc
-      answered outcome.Disconnected e = absurd cc
-      answered outcome.Sent e = absurd cc
+      (λ payload e. let a = payload-answered how e in calm p refl a.0 a.1 a.2))
 
   -- ---- what else is noticed
 
@@ -179,16 +171,9 @@ module _ (i : ℕ) (Calm : Type 0) where
       by (Some l) =
           let r = asks-asked i Calm (purpose j c steps.TellDisconnecting) (λ e f. absurd cc) in
           record {
-            asks = λ q k. r.asks q (asks-tell _ (shut q k));
+            asks = λ q k. r.asks q (asks-tell _ (asks-shut l.connection k));
             waits = r.waits;
           }
-        where
-          shut : {rest : List Act} (q : Asking) → AsksIn q (Act.Shut l.connection ∷ rest)
-              → AsksIn q rest
-          shut q (asks_in (inl e)) = absurd cc
-          shut q (asks_in (inr m)) = asks_in m
-          shut q (opens_in w (inl e)) = absurd cc
-          shut q (opens_in w (inr m)) = opens_in w m
 
   -- ---- no identifier is left
 

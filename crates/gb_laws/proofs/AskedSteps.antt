@@ -16,7 +16,8 @@ use Rattle.gb_machine.specs.Sequences.{opened_told, step_asked, way_of}
 use Rattle.gb_machine.specs.Turns.{Act, Asking, Making, Turn, failed_turn}
 use Rattle.gb_machine.specs.Host.{Host, staged}
 use Rattle.gb_laws.proofs.AskedWaits.{AsksIn, WaitsFewer, asks-tell, asks_in, is_power_step}
-use Rattle.gb_laws.proofs.AskedWaits.{opens_in, same-waits, then-waits, told-asks, waits-interface}
+use Rattle.gb_laws.proofs.AskedWaits.{left-asks, opens_in, same-waits, then-waits, told-asks}
+use Rattle.gb_laws.proofs.AskedWaits.{waits-interface}
 
 -- ---- turns
 
@@ -127,13 +128,4 @@ module _ (i : ℕ) (Calm : Type 0) where
   pub asks-left : (o : Option Link) (h g : Host) → WaitsFewer h g
       → TurnAsks i Calm h (link_left o g)
   asks-left None h g f = asks-failed g [] f
-  asks-left (Some l) h g f = record { asks = λ q j. absurd (none q j); waits = f }
-    where
-      none : (q : Asking)
-          → AsksIn q (Act.Leave l.connection ∷ Act.Tell (link_told state.Closed l) ∷ []) → ⊥
-      none q (asks_in (inl e)) = absurd cc
-      none q (asks_in (inr (inl e))) = absurd cc
-      none q (asks_in (inr (inr j))) = j
-      none q (opens_in w (inl e)) = absurd cc
-      none q (opens_in w (inr (inl e))) = absurd cc
-      none q (opens_in w (inr (inr j))) = j
+  asks-left (Some l) h g f = record { asks = λ q j. absurd (left-asks l.connection _ j); waits = f }

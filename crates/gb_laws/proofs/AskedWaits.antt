@@ -3,9 +3,12 @@ use Rattle.std.proofs.Common.{Bool, List, None, Some, ap, cond, false, inl, inr,
 use Rattle.std.proofs.Common.{true, ℕ, ⊎_elim, [], ◌∙◌, ◌∷◌, ◌≡◌}
 use Rattle.std.specs.Prelude.{not, ◌&&◌}
 use Rattle.gb_base.specs.declared.entry.Entry.{Entry}
+use Rattle.gb_base.specs.declared.outcome.Outcome.{Outcome}
+use Rattle.gb_base.specs.declared.outcome.Outcome.TheVariants as outcome
 use Rattle.gb_base.specs.declared.peers.Interface.{Interface}
 use Rattle.gb_base.specs.declared.steps.{Purpose.Purpose, SequenceStep.SequenceStep}
 use Rattle.gb_machine.specs.Host.{Host, is_intf, with_interface, with_link}
+use Rattle.gb_machine.specs.Sequences.{payload_in}
 use Rattle.gb_machine.specs.Turns.{Act, Asking, Making}
 use Rattle.gb_machine.specs.{Members.IsIn, SequenceSteps.asks_control, SequenceSteps.is_enumeration}
 use Rattle.gb_machine.specs.{Waits.awaits_nothing}
@@ -37,9 +40,34 @@ asks-tell e (asks_in (inr i)) = asks_in i
 asks-tell e (opens_in w (inl f)) = absurd cc
 asks-tell e (opens_in w (inr i)) = opens_in w i
 
+-- a connection that is closed asks for nothing by itself
+pub asks-shut : {q : Asking} (k : ℕ) {acts : List Act} → AsksIn q (Act.Shut k ∷ acts)
+    → AsksIn q acts
+asks-shut k (asks_in (inl f)) = absurd cc
+asks-shut k (asks_in (inr i)) = asks_in i
+asks-shut k (opens_in w (inl f)) = absurd cc
+asks-shut k (opens_in w (inr i)) = opens_in w i
+
+-- one that is gone, and told so, asks for nothing
+pub left-asks : {q : Asking} (k : ℕ) (e : Entry)
+    → AsksIn q (Act.Leave k ∷ Act.Tell e ∷ []) → ⊥
+left-asks k e (asks_in (inl f)) = absurd cc
+left-asks k e (asks_in (inr i)) = no-asks (asks-tell e (asks_in i))
+left-asks k e (opens_in w (inl f)) = absurd cc
+left-asks k e (opens_in w (inr i)) = no-asks (asks-tell e (opens_in w i))
+
 pub told-asks : (q : Asking) (es : List Entry) → AsksIn q (map Act.Tell es) → ⊥
 told-asks q [] h = no-asks h
 told-asks q (e ∷ es) h = told-asks q es (asks-tell e h)
+
+-- only an answer brings a payload
+pub payload-answered : (how : Outcome) {payload : List ℕ} → payload_in how ≡ Some payload
+    → (result : ℕ) × (bytes : List ℕ) × (how ≡ outcome.Answered result bytes)
+payload-answered (outcome.Answered result bytes) e = (result, bytes, refl)
+payload-answered outcome.Cancelled e = absurd cc
+payload-answered outcome.Timeout e = absurd cc
+payload-answered outcome.Disconnected e = absurd cc
+payload-answered outcome.Sent e = absurd cc
 
 -- ---- what is waited for
 

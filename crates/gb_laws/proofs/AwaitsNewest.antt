@@ -1,6 +1,6 @@
 -- What the enumeration of an interface waits for is the newest of its requests to the supervisory
 -- controller.
-use Rattle.std.proofs.Common.{Bool, List, None, Some, ap, arith, cond, false, inl, inr, refl, subst}
+use Rattle.std.proofs.Common.{Bool, List, None, Some, ap, arith, false, inl, inr, refl, subst}
 use Rattle.std.proofs.Common.{sym, true, ℕ, ⊎_elim, [], ◌∙◌, ◌∷◌, ◌≡◌, ◌≤◌}
 use Rattle.std.specs.Prelude.{◌&&◌}
 use Rattle.gb_base.specs.declared.entry.Entry.{Entry}
@@ -8,13 +8,11 @@ use Rattle.gb_base.specs.declared.peers.Interface.{Interface}
 use Rattle.gb_base.specs.declared.steps.SequenceStep.{SequenceStep}
 use Rattle.gb_machine.proofs.Lists.{nth-within}
 use Rattle.gb_machine.specs.Bus.{Bus, Request, next_number, request_of}
-use Rattle.gb_machine.specs.Host.{Host, is_intf, with_interface, with_link}
 use Rattle.gb_machine.specs.Sending.{Draft, requested, sent}
 use Rattle.gb_machine.specs.{HostActs.host_draft, LawsSvc.IsEnumeration, Members.IsIn}
 use Rattle.gb_machine.specs.{Refusals.is_reserved, Runs.Moment, SequenceSteps.asks_control}
 use Rattle.gb_machine.specs.{SequenceSteps.is_enumeration, State.State, Turns.Act, Turns.Asking}
 use Rattle.gb_invariants.proofs.Awaiting.{none-some, not-both, same-some, sent-made}
-use Rattle.gb_invariants.proofs.{Lists.in-at_first, Outcomes.same-number}
 use Rattle.gb_laws.proofs.LinkRuns.{LinkedTo, linked-over, linked-throughout, start-absent}
 use Rattle.gb_laws.proofs.Links.{ArePending, IsDue, IsDueBy, IsFormed}
 use Rattle.gb_laws.proofs.Points.{Change, IsAskedBy, IsPlain, Law, acts_asked, asks, by_far}
@@ -24,7 +22,7 @@ use Rattle.gb_laws.proofs.{AskedWaits.WaitsFewer, AskedWaits.same-waits, Awaited
 use Rattle.gb_laws.proofs.{AwaitsOwn.turn-waits, AwaitsOwn.waiting-interface}
 use Rattle.gb_laws.proofs.{ChangeHosts.waits-kept, CreatingKept.far-side}
 use Rattle.gb_laws.proofs.{EnumRequests.enumeration-reserved, EnumRequests.formed-enumerates}
-use Rattle.gb_laws.proofs.{LinkActs.awaited-host, LinkKept.InsertsAbsent, LinkKept.LinkedAt}
+use Rattle.gb_laws.proofs.{LinkActs.awaited-interface, LinkKept.InsertsAbsent, LinkKept.LinkedAt}
 use Rattle.gb_laws.proofs.{LinkLaw.link_law, PointParts.Point, PointParts.resting, Steps.over-step}
 use Rattle.gb_laws.specs.OwnWaits.{AwaitsNewest}
 
@@ -146,28 +144,12 @@ newest-kept m a (turns e free untouched none cause) links h =
     newest-still (λ i n r made of. made) (turn-waits e a.state.host) refl h
 newest-kept m a (acts_asked q n rest is) links h = record {
   waits = λ x j w e on. subst (IsNewest x.intf w.0) (sym (awaited-rest q.purpose n).bus)
-      (by (is_enumeration q.purpose.step) refl x
-      (subst (λ (g : Host). IsIn x g.interfaces) (awaited-host q.purpose n a.state) j) w e on);
+      (⊎_elim (λ o. h.waits x o w e on)
+      (λ u. subst (λ (y : ℕ × SequenceStep). IsNewest x.intf y.0 a.state.bus) u.1
+      (subst (λ k. IsNewest k n a.state.bus) u.0 (h.asked q n is.1 u.2)))
+      (awaited-interface q.purpose n a.state x w j e));
   asked = λ p k e. absurd (none-some e);
 }
-  where
-    by : (t : Bool) → is_enumeration q.purpose.step ≡ t → (x : Interface)
-        → IsIn x (cond t (with_interface q.purpose.intf
-        (λ y. record y { awaits = Some (n, q.purpose.step) }) a.state.host)
-        (with_link q.purpose.intf q.purpose.cport
-        (λ l. record l { awaits = Some (n, q.purpose.step) }) a.state.host)).interfaces
-        → (w : ℕ × SequenceStep) → x.awaits ≡ Some w → asks_control w.1 ≡ false
-        → IsNewest x.intf w.0 a.state.bus
-    by false e x j w f on = h.waits x j w f on
-    by true e x j w f on = ⊎_elim (λ o. h.waits x o w f on) (λ u.
-        let same = same-some (n, q.purpose.step) w
-        (sym (ap (λ (y : Interface). y.awaits) u.3) ∙ f) in
-        subst (λ (y : ℕ × SequenceStep). IsNewest x.intf y.0 a.state.bus) same
-        (subst (λ k. IsNewest k n a.state.bus) (sym (same-number u.0.intf q.purpose.intf u.2)
-        ∙ sym (ap (λ (y : Interface). y.intf) u.3)) (h.asked q n is.1 e)))
-        (in-at_first (is_intf q.purpose.intf)
-        (λ (y : Interface). record y { awaits = Some (n, q.purpose.step) }) a.state.host.interfaces
-        x j)
 newest-kept m a x links h =
     newest-still (λ i n r made of. made) (waits-kept m a x tt) refl h
 

@@ -1,13 +1,13 @@
 -- What the enumeration of an interface waits for was asked for it: of the supervisory controller by
 -- one of its requests, or on another connection.
-use Rattle.std.proofs.Common.{Bool, List, None, Option, Some, ap, arith, cond, false, refl, subst}
+use Rattle.std.proofs.Common.{Bool, List, None, Option, Some, ap, arith, false, refl, subst}
 use Rattle.std.proofs.Common.{sym, true, ℕ, ⊎_elim, [], ◌∙◌, ◌∷◌, ◌≡◌, ◌≢◌}
 use Rattle.std.specs.Prelude.{not, option_and_then, ◌&&◌}
 use Rattle.gb_base.specs.declared.entry.Entry.{Entry}
 use Rattle.gb_base.specs.declared.peers.Interface.{Interface}
 use Rattle.gb_base.specs.declared.steps.SequenceStep.{SequenceStep}
 use Rattle.gb_machine.specs.Bus.{Bus, Request, next_number, request_of}
-use Rattle.gb_machine.specs.Host.{Host, interface_of, is_intf, with_interface, with_link}
+use Rattle.gb_machine.specs.Host.{Host, interface_of, is_intf}
 use Rattle.gb_machine.specs.Sending.{Draft, requested, sent}
 use Rattle.gb_machine.specs.Turns.{Act, Asking, HostEvent}
 use Rattle.gb_machine.specs.{HostActs.host_draft, HostTurns.host_turn, LawsSvc.IsEnumeration}
@@ -15,7 +15,7 @@ use Rattle.gb_machine.specs.{Members.IsIn, Runs.Moment, SequenceSteps.asks_contr
 use Rattle.gb_machine.specs.{SequenceSteps.is_enumeration, State.State, Waits.awaited}
 use Rattle.gb_machine.specs.LawsSvc as svc
 use Rattle.gb_invariants.proofs.Awaiting.{none-some, same-some, sent-new}
-use Rattle.gb_invariants.proofs.{BusChanges.KeepsRequests, Lists.found-in, Lists.in-at_first}
+use Rattle.gb_invariants.proofs.{BusChanges.KeepsRequests, Lists.found-in}
 use Rattle.gb_invariants.proofs.{Outcomes.same-number}
 use Rattle.gb_laws.proofs.Asked.{asks-connects, asks-disconnects, asks-ended, asks-inserted}
 use Rattle.gb_laws.proofs.Asked.{asks-removed}
@@ -26,7 +26,7 @@ use Rattle.gb_laws.proofs.Points.{Change, IsAskedBy, Law, acts_asked, asks, awai
 use Rattle.gb_laws.proofs.Points.{by_host, changed, turns, upon}
 use Rattle.gb_laws.proofs.Runs.{HoldsByMoments, Keeps, throughout, weaker}
 use Rattle.gb_laws.proofs.{ChangeBuses.keeps-requests, ChangeHosts.waits-kept}
-use Rattle.gb_laws.proofs.{EnumRequests.power-enumerates, LinkActs.awaited-host}
+use Rattle.gb_laws.proofs.{EnumRequests.power-enumerates, LinkActs.awaited-interface}
 use Rattle.gb_laws.proofs.{LinkKept.InsertsAbsent, LinkKept.LinkedAt, LinkLaw.link_law}
 use Rattle.gb_laws.proofs.{PointParts.Point, PointParts.resting, Steps.over-step}
 use Rattle.gb_laws.specs.OwnWaits.{AwaitsOwnRequest}
@@ -138,28 +138,12 @@ own-kept m a (turns e free untouched none cause) links h =
     (turn-waits e a.state.host) h.asked h
 own-kept m a (acts_asked q n rest is) links h = record {
   waits = λ x j w e. wait-more (keeps-requests m a (acts_asked q n rest is))
-      (by (is_enumeration q.purpose.step) refl x
-      (subst (λ (g : Host). IsIn x g.interfaces) (awaited-host q.purpose n a.state) j) w e);
+      (⊎_elim (λ o. h.waits x o w e)
+      (λ u. subst (λ (y : ℕ × SequenceStep). IsOwnWait x.intf y.0 y.1 a.state.bus) u.1
+      (subst (λ k. IsOwnWait k n q.purpose.step a.state.bus) u.0 (h.asked q n is.1 u.2)))
+      (awaited-interface q.purpose n a.state x w j e));
   asked = λ p k e. absurd (none-some e);
 }
-  where
-    by : (t : Bool) → is_enumeration q.purpose.step ≡ t → (x : Interface)
-        → IsIn x (cond t (with_interface q.purpose.intf
-        (λ y. record y { awaits = Some (n, q.purpose.step) }) a.state.host)
-        (with_link q.purpose.intf q.purpose.cport
-        (λ l. record l { awaits = Some (n, q.purpose.step) }) a.state.host)).interfaces
-        → (w : ℕ × SequenceStep) → x.awaits ≡ Some w → IsOwnWait x.intf w.0 w.1 a.state.bus
-    by false e x j w f = h.waits x j w f
-    by true e x j w f = ⊎_elim (λ o. h.waits x o w f) (λ u.
-        let same = same-some (n, q.purpose.step) w
-        (sym (ap (λ (y : Interface). y.awaits) u.3) ∙ f) in
-        subst (λ (y : ℕ × SequenceStep). IsOwnWait x.intf y.0 y.1 a.state.bus) same
-        (subst (λ k. IsOwnWait k n q.purpose.step a.state.bus)
-        (sym (same-number u.0.intf q.purpose.intf u.2)
-        ∙ sym (ap (λ (y : Interface). y.intf) u.3)) (h.asked q n is.1 e)))
-        (in-at_first (is_intf q.purpose.intf)
-        (λ (y : Interface). record y { awaits = Some (n, q.purpose.step) }) a.state.host.interfaces
-        x j)
 own-kept m a x links h = own-still a (changed m a x) (keeps-requests m a x) (waits-kept m a x tt)
     (λ q n e s. wait-more (keeps-requests m a x) (h.asked q n e s)) h
 

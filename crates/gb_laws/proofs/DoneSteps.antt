@@ -21,7 +21,7 @@ use Rattle.gb_machine.specs.Sequences.{size_in, size_known, step_answered, step_
 use Rattle.gb_machine.specs.Sequences.{way_of}
 use Rattle.gb_machine.specs.Turns.{Act, Asking, Making, Turn, failed_turn}
 use Rattle.gb_invariants.proofs.Lists.{at_first-back, in-at_first}
-use Rattle.gb_laws.proofs.AskedWaits.{AsksIn, asks-tell, asks_in, no-asks, opens_in, told-asks}
+use Rattle.gb_laws.proofs.AskedWaits.{AsksIn, asks-tell, asks_in, left-asks, opens_in, told-asks}
 use Rattle.gb_laws.proofs.DoneStays.{IsUndone, KeepsDone, keeps-changed, keeps-failed, keeps-fails}
 use Rattle.gb_laws.proofs.DoneStays.{keeps-same, keeps-then}
 use Rattle.gb_laws.proofs.EnumDone.{IsDone, done-interface}
@@ -184,14 +184,7 @@ module _ (i : ℕ) where
   done-left : (o : Option Link) (h : Host) {g : Host} → KeepsDone i h g → TurnDone i h
       (link_left o g)
   done-left None h f = done-failed [] f
-  done-left (Some l) h f = record { keeps = f; asks = λ q j. absurd (none q j) }
-    where
-      none : (q : Asking)
-          → AsksIn q (Act.Leave l.connection ∷ Act.Tell (link_told state.Closed l) ∷ []) → ⊥
-      none q (asks_in (inl e)) = absurd cc
-      none q (asks_in (inr j)) = no-asks (asks-tell _ (asks_in j))
-      none q (opens_in w (inl e)) = absurd cc
-      none q (opens_in w (inr j)) = no-asks (asks-tell _ (opens_in w j))
+  done-left (Some l) h f = record { keeps = f; asks = λ q j. absurd (left-asks l.connection _ j) }
 
   done-done : (step : SequenceStep) (p : Purpose) (payload : List ℕ) (h : Host)
       → IsTimely i step p h → TurnDone i h (step_done step p payload h)

@@ -1,6 +1,6 @@
 -- A turn of the application processor asks for connections of interfaces that are enumerated alone.
-use Rattle.std.proofs.Common.{List, None, Option, Some, ap, arith, false, inl, inr, refl, sym, ℕ}
-use Rattle.std.proofs.Common.{⊎_elim, [], ◌∙◌, ◌∷◌, ◌≡◌}
+use Rattle.std.proofs.Common.{None, Option, Some, ap, arith, false, refl, sym, ℕ}
+use Rattle.std.proofs.Common.{⊎_elim, [], ◌∙◌, ◌≡◌}
 use Rattle.std.proofs.lemmas.Bool.Decides.{nat_tests}
 use Rattle.std.specs.Prelude.{not, option_and_then, ◌==◌}
 use Rattle.gb_base.specs.declared.entry.ConnState.TheVariants as state
@@ -15,10 +15,10 @@ use Rattle.gb_machine.specs.Host.{Host, cport_of, free_cport, in_state, interfac
 use Rattle.gb_machine.specs.Host.{is_intf, link_at, new_interface, with_link, with_new_interface}
 use Rattle.gb_machine.specs.HostTurns.{connects, connects_on, disconnects, ended_for, host_turn}
 use Rattle.gb_machine.specs.HostTurns.{links_of}
-use Rattle.gb_machine.specs.Turns.{Act, Asking, HostEvent}
+use Rattle.gb_machine.specs.Turns.{HostEvent}
 use Rattle.gb_machine.specs.{SequenceSteps.purpose, Sequences.payload_in}
 use Rattle.gb_invariants.proofs.{Found.in-ordered, Lists.filter-in, Lists.in-without}
-use Rattle.gb_laws.proofs.AskedWaits.{AsksIn, asks-tell, asks_in, no-asks, opens_in}
+use Rattle.gb_laws.proofs.AskedWaits.{asks-shut, asks-tell, no-asks}
 use Rattle.gb_laws.proofs.DoneStays.{keeps-same, keeps-then, keeps-waiting}
 use Rattle.gb_laws.proofs.DoneSteps.{IsTimely, TurnDone, done-answered, done-failed, done-link}
 use Rattle.gb_laws.proofs.DoneSteps.{done-on, done-opened, done-telling, done-through}
@@ -91,15 +91,8 @@ module _ (i : ℕ) where
           let g = with_link j c (in_state state.Closing) h in
           let r = done-link i (purpose j c steps.TellDisconnecting) g refl (done l refl) in record {
             keeps = keeps-then i h (keeps-same i h g refl) r.keeps;
-            asks = λ q k. r.asks q (asks-tell _ (shut q k));
+            asks = λ q k. r.asks q (asks-tell _ (asks-shut l.connection k));
           }
-        where
-          shut : {rest : List Act} (q : Asking) → AsksIn q (Act.Shut l.connection ∷ rest)
-              → AsksIn q rest
-          shut q (asks_in (inl e)) = absurd cc
-          shut q (asks_in (inr m)) = asks_in m
-          shut q (opens_in w (inl e)) = absurd cc
-          shut q (opens_in w (inr m)) = opens_in w m
 
   -- another interface is removed
   pub done-removed : (j : ℕ) {h : Host} → (j == i) ≡ false

@@ -11,13 +11,13 @@ use Rattle.gb_base.specs.declared.peers.Link.{Link}
 use Rattle.gb_machine.specs.Bus.{Bus, Connection, Request, next_number, request_of}
 use Rattle.gb_machine.specs.{Host.link_of, LawsEnds.IsDisconnect, LawsEnds.IsRemovalOf}
 use Rattle.gb_machine.specs.{Members.Each, Members.IsIn, Requests.is_of, Requests.open_on}
-use Rattle.gb_machine.specs.{Runs.Moment, Runs.after, Sending.Draft, SvcQueues.is_removal}
+use Rattle.gb_machine.specs.{Runs.Moment, Runs.after, Sending.Draft, SvcQueues.HandlesRemoval}
 use Rattle.gb_machine.specs.{Wires.disconnected_told}
 use Rattle.gb_invariants.proofs.{Awaiting.is_of-is, Lists.found-in, Lists.in-filter}
 use Rattle.gb_invariants.proofs.{Outcomes.in-open_requests, Outcomes.same-number}
 use Rattle.gb_laws.proofs.PointParts.{AreQuiet, IsGivenUpFor, IsShutFor, Point, Unwired, asked_told}
 use Rattle.gb_laws.proofs.PointParts.{disconnected, is_quiet, removed, sent_told}
-use Rattle.gb_laws.proofs.{LinkLists.found-link, LinkRuns.LinkedTo, MarkNotices.told-by_svc}
+use Rattle.gb_laws.proofs.{LinkLists.found-link, LinkRuns.LinkedTo, MarkNotices.removal-handled}
 use Rattle.gb_laws.proofs.{Onward.IsOnward}
 
 -- ---- what causes an end
@@ -146,22 +146,14 @@ shut-cause m k start (disconnected i c l is at own) = (
   inl (i, c, l, is, at, own),
 )
 shut-cause m k start (removed i l noticed live own) =
-    let f = in-filter (λ (x : Link). x.intf == i) m.before.host.links l live in
-    let t = told-by_svc m _ start.0 start.1 noticed in (
+    let f = in-filter (λ (x : Link). x.intf == i) m.before.host.links l live in (
       λ e. let two = (start.1.host.links.numbered l f.0).from_two in absurd
           (omega (arith, two, own, e)),
       inr (
         l,
         subst (λ n. link_of n m.before.host ≡ Some l) own
             (found-link m.before.host.links l start.1.host.links.rise f.0),
-        record {
-          number = t.number;
-          request = t.request;
-          is = t.is;
-          front = t.front;
-          made = t.made;
-          passes = subst (λ j. is_removal j t.request ≡ true) (sym (same-number l.intf i f.1))
-              t.tells;
-        },
+        subst (λ j. HandlesRemoval j m) (sym (same-number l.intf i f.1))
+            (removal-handled i m start.0 start.1 noticed),
       ),
     )

@@ -12,13 +12,14 @@ use Rattle.gb_machine.specs.SvcQueues.{is_enumeration_request, svc_items, svc_re
 use Rattle.gb_machine.specs.{Bus.Bus, HostActs.host_draft, HostActs.with_awaited}
 use Rattle.gb_machine.specs.{HostServing.host_serves, LawsSvc.HasNoEnumeration, Members.IsIn}
 use Rattle.gb_machine.specs.{Sending.Draft, Sending.sent, SequenceSteps.is_enumeration, State.State}
-use Rattle.gb_invariants.proofs.{Awaiting.same-some, Lists.found-in, Lists.in-at_first}
+use Rattle.gb_invariants.proofs.{Lists.found-in, Lists.in-at_first}
 use Rattle.gb_invariants.proofs.{Outcomes.same-number}
 use Rattle.gb_laws.proofs.AskedWaits.{AsksIn, asks_in, no-asks, same-waits}
 use Rattle.gb_laws.proofs.EnumNone.{IsNone, none-same, none-sent}
 use Rattle.gb_laws.proofs.EnumSettled.{IsSettled, May, settled-asked, settled-still, settled-turned}
 use Rattle.gb_laws.proofs.Enums.{enum-waits, enums, enums-requests}
-use Rattle.gb_laws.proofs.LinkActs.{ServedHost, as_before, awaited-host, host-served, with_more}
+use Rattle.gb_laws.proofs.LinkActs.{ServedHost, as_before, awaited-host, awaited-interface}
+use Rattle.gb_laws.proofs.LinkActs.{host-served, with_more}
 use Rattle.gb_laws.proofs.PointParts.{Basis, Point, Wires, resting}
 use Rattle.gb_laws.proofs.Points.{Change, IsAskedBy, Law, acts_asked, acts_failed, asks, by_far}
 use Rattle.gb_laws.proofs.Points.{by_host, changed, names, serves, turns, upon}
@@ -57,8 +58,10 @@ settled-kept m absent i a (turns e free untouched none cause) basis links there 
     there untouched.1 cause quiet refl refl h
 settled-kept m absent i a (acts_asked q n rest is) basis links there quiet h = record {
   done = λ d. onto (h.done (back d));
-  waits = λ x j at w e. then w.1 (by (is_enumeration q.purpose.step) refl x
-      (subst (λ (g : Host). IsIn x g.interfaces) (awaited-host q.purpose n a.state) j) at w e);
+  waits = λ x j at w e. then w.1 (⊎_elim (λ o. h.waits x o at w e)
+      (λ u. subst (λ (y : ℕ × SequenceStep). May i a.state.host.interfaces a.state.bus y.1) u.1
+      (h.due q (subst (AsksIn q) (sym is.0) (asks_in (inl refl))) (u.0 ∙ at) u.2))
+      (awaited-interface q.purpose n a.state x w j e));
   due = λ r j. absurd (no-asks (subst (AsksIn r)
       (subst (ArePending a.state.host) is.0 links.pending).0.1 j));
 }
@@ -92,24 +95,6 @@ settled-kept m absent i a (acts_asked q n rest is) basis links there quiet h = r
         → May i (with_awaited q.purpose n a.state).host.interfaces
         (with_awaited q.purpose n a.state).bus step
     then step may = (λ d. may.0 (back d), λ c. onto (may.1 c))
-
-    by : (t : Bool) → is_enumeration q.purpose.step ≡ t → (x : Interface)
-        → IsIn x (cond t (with_interface q.purpose.intf
-        (λ y. record y { awaits = Some (n, q.purpose.step) }) a.state.host)
-        (with_link q.purpose.intf q.purpose.cport
-        (λ l. record l { awaits = Some (n, q.purpose.step) }) a.state.host)).interfaces
-        → x.intf ≡ i → (w : ℕ × SequenceStep) → x.awaits ≡ Some w
-        → May i a.state.host.interfaces a.state.bus w.1
-    by false e x j at w f = h.waits x j at w f
-    by true e x j at w f = ⊎_elim (λ o. h.waits x o at w f) (λ u.
-        let same = same-some (n, q.purpose.step) w
-        (sym (ap (λ (y : Interface). y.awaits) u.3) ∙ f) in
-        subst (λ (y : ℕ × SequenceStep). May i a.state.host.interfaces a.state.bus y.1) same
-        (h.due q (subst (AsksIn q) (sym is.0) (asks_in (inl refl)))
-        (sym (same-number u.0.intf q.purpose.intf u.2)
-        ∙ ap (λ (y : Interface). y.intf) (sym u.3) ∙ at) e)) (in-at_first (is_intf q.purpose.intf)
-        (λ (y : Interface). record y { awaits = Some (n, q.purpose.step) }) a.state.host.interfaces
-        x j)
 settled-kept m absent i a (acts_failed q rest is still) basis links there quiet h =
     settled-still (λ k. k) (done-unsent i q.purpose a.state.host)
     (waits-kept m a (acts_failed q rest is still) tt)

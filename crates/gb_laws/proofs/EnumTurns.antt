@@ -29,7 +29,8 @@ use Rattle.gb_machine.specs.Turns.{Act, Asking, HostEvent, Making, Turn, failed_
 use Rattle.gb_machine.specs.Waits.{awaits_nothing}
 use Rattle.gb_invariants.proofs.{Found.in-ordered, Lists.in-at_first, Lists.in-without}
 use Rattle.gb_invariants.proofs.{Outcomes.same-number}
-use Rattle.gb_laws.proofs.AskedWaits.{AsksIn, asks-tell, asks_in, no-asks, opens_in, told-asks}
+use Rattle.gb_laws.proofs.AskedWaits.{AsksIn, asks-shut, asks-tell, asks_in, left-asks, no-asks}
+use Rattle.gb_laws.proofs.AskedWaits.{opens_in, payload-answered, told-asks}
 use Rattle.gb_laws.proofs.EnumDone.{FewerDone, IsDone, done-fails, done-interface, done-nothing}
 use Rattle.gb_laws.proofs.EnumDone.{done-stage}
 use Rattle.gb_laws.proofs.{Asked.asks-none, LinkHosts.resting-changed, Links.IsResting}
@@ -149,16 +150,7 @@ module _ (i : ℕ) (May : SequenceStep → Type 0) (Calm : Type 0) where
   enums-left : (o : Option Link) (h g : Host) → FewerDone i h g → Enums h (link_left o g)
   enums-left None h g f = enums-failed h g [] f
   enums-left (Some l) h g f =
-      record { asks = λ q j. absurd (none q j); done = λ d. inl (f d) }
-    where
-      none : (q : Asking)
-          → AsksIn q (Act.Leave l.connection ∷ Act.Tell (link_told state.Closed l) ∷ []) → ⊥
-      none q (asks_in (inl e)) = absurd cc
-      none q (asks_in (inr (inl e))) = absurd cc
-      none q (asks_in (inr (inr j))) = j
-      none q (opens_in w (inl e)) = absurd cc
-      none q (opens_in w (inr (inl e))) = absurd cc
-      none q (opens_in w (inr (inr j))) = j
+      record { asks = λ q j. absurd (left-asks l.connection _ j); done = λ d. inl (f d) }
 
   -- what follows a step that was answered
   abbrev Answered : SequenceStep → Purpose → Host → Type 0
@@ -247,15 +239,7 @@ module _ (i : ℕ) (May : SequenceStep → Type 0) (Calm : Type 0) where
   enums-ended (Some p) how h calm =
       enums-through h (awaits_nothing p h) _ (done-nothing i p h)
       (enums-answered (payload_in how) p (awaits_nothing p h)
-      (λ payload e. let a = answered how e in calm p refl a.0 a.1 a.2))
-    where
-      answered : (how : Outcome) {payload : List ℕ} → payload_in how ≡ Some payload
-          → (result : ℕ) × (bytes : List ℕ) × (how ≡ outcome.Answered result bytes)
-      answered (outcome.Answered result bytes) e = (result, bytes, refl)
-      answered outcome.Cancelled e = absurd cc
-      answered outcome.Timeout e = absurd cc
-      answered outcome.Disconnected e = absurd cc
-      answered outcome.Sent e = absurd cc
+      (λ payload e. let a = payload-answered how e in calm p refl a.0 a.1 a.2))
 
   -- ---- what else is noticed
 
@@ -306,14 +290,8 @@ module _ (i : ℕ) (May : SequenceStep → Type 0) (Calm : Type 0) where
       by (Some l) =
           let r = enums-asked (purpose j c steps.TellDisconnecting)
           (with_link j c (in_state state.Closing) h) (λ e f. absurd cc) in record {
-            asks = λ q k. r.asks q (asks-tell _ (shut q k));
+            asks = λ q k. r.asks q (asks-tell _ (asks-shut l.connection k));
             done = λ d. ⊎_elim (λ o. inl o)
-                (λ v. inr (v.0, λ q k. v.1 q (asks-tell _ (shut q k)), v.2)) (r.done d);
+                (λ v. inr (v.0, λ q k. v.1 q (asks-tell _ (asks-shut l.connection k)), v.2))
+                (r.done d);
           }
-        where
-          shut : {rest : List Act} (q : Asking) → AsksIn q (Act.Shut l.connection ∷ rest)
-              → AsksIn q rest
-          shut q (asks_in (inl e)) = absurd cc
-          shut q (asks_in (inr m)) = asks_in m
-          shut q (opens_in w (inl e)) = absurd cc
-          shut q (opens_in w (inr m)) = opens_in w m

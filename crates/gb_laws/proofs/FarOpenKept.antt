@@ -9,15 +9,15 @@ use Rattle.gb_machine.specs.Bus.{Bus, Connection, Request, connection_of, reques
 use Rattle.gb_machine.specs.Host.{Host, is_link, with_interface, with_link}
 use Rattle.gb_machine.specs.SequenceSteps.{Target, is_enumeration, kind_of, payload_of}
 use Rattle.gb_machine.specs.{Failures.unsent, HostActs.with_awaited, HostServing.host_serves}
-use Rattle.gb_machine.specs.{HostServing.with_credits, HostTurns.host_turn, LineActions.spent}
+use Rattle.gb_machine.specs.{HostTurns.host_turn, LineActions.spent}
 use Rattle.gb_machine.specs.{Members.IsIn, Runs.Moment, Sending.Draft}
 use Rattle.gb_invariants.proofs.{Awaiting.none-some, Awaiting.same-some, BusChanges.KeepsRequests}
 use Rattle.gb_invariants.proofs.{Lists.in-at_first, Lists.in-pushed, Numbers.found-by_number}
 use Rattle.gb_invariants.proofs.{Numbers.found-number, Selves.ap-no-far, Wires.AreOn}
 use Rattle.gb_laws.proofs.ChangeBuses.{bus_change, by-bus, keeps-requests}
 use Rattle.gb_laws.proofs.FarOpen.{FarFits, IsFarWell, far-after}
-use Rattle.gb_laws.proofs.LinkActs.{ServedHost, as_before, awaited-host, host-served, with_more}
-use Rattle.gb_laws.proofs.Pairs.{ComeFrom, come-from, come-link, come-same}
+use Rattle.gb_laws.proofs.LinkActs.{awaited-host}
+use Rattle.gb_laws.proofs.Pairs.{ComeFrom, come-from, come-link, come-same, come-served}
 use Rattle.gb_laws.proofs.Points.{Change, IsAskedBy, acts_asked, acts_failed, acts_left}
 use Rattle.gb_laws.proofs.Points.{acts_opened, asks, by_far, by_host, changed, gives_up, names}
 use Rattle.gb_laws.proofs.Points.{serves, spends, turns}
@@ -103,13 +103,7 @@ kinds-kept m a (acts_failed q rest is quiet) links pairs h =
     (from-unsent q.purpose.step q.purpose a.state.host)) h
 kinds-kept m a (serves k kind payload none) links pairs h =
     kinds-on a.state.bus a.state.bus a.state.host (host_serves k kind payload a.state.host).host
-    (λ n r made. made) (by (host-served k kind payload)) h
-  where
-    by : ServedHost a.state.host (host_serves k kind payload a.state.host)
-        → ComeFrom a.state.host (host_serves k kind payload a.state.host).host
-    by (as_before e) = subst (ComeFrom a.state.host) (sym e) (come-same a.state.host)
-    by (with_more i c total e) = subst (ComeFrom a.state.host) (sym e)
-        (come-link a.state.host i c (with_credits total) (λ l. refl) (λ l. refl) (λ l. refl))
+    (λ n r made. made) (come-served k kind payload a.state.host) h
 kinds-kept m a (spends i c what none) links pairs h =
     kinds-on a.state.bus a.state.bus a.state.host (with_link i c (spent what) a.state.host)
     (λ n r made. made)

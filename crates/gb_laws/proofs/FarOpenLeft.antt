@@ -22,7 +22,7 @@ use Rattle.gb_laws.proofs.Points.{Change, IsAsking, IsOver, acts_asked, acts_fai
 use Rattle.gb_laws.proofs.Points.{acts_opened, acts_shut, acts_told, asking, changed, opening}
 use Rattle.gb_laws.proofs.Points.{turns, unwires, wires}
 use Rattle.gb_laws.proofs.{Creating.destroys_one, Creating.is_destroy, FarOpenKept.HasStep}
-use Rattle.gb_laws.proofs.{FarOpenKept.WaitsKinds, LinkLists.one-link, MarkNotices.told-by_svc}
+use Rattle.gb_laws.proofs.{FarOpenKept.WaitsKinds, LinkLists.one-link, MarkNotices.removal-handled}
 use Rattle.gb_laws.proofs.{QuietRuns.leaves, QuietRuns.waits-before, StaleBase.StaleBase}
 use Rattle.gb_laws.proofs.{StillWaiting.IsFront, SvcOrder.none-earlier, WiredRemembered.so-kept}
 
@@ -70,17 +70,10 @@ module _ (m : Moment) (start : GoneTo m.told m.before) where
     where
       none : is_wired_to i w.connection ≡ false
       none =
-          let t = told-by_svc m (HostEvent.Removed i) start.wiring.stale.since.links.0
-          start.wiring.stale.since.links.1 n in
+          let links = start.wiring.stale.since.links in
           each-in (λ c. is_wired_to i c ≡ false) m.before.bus.connections w.connection
-          ((leaves m.told m.before start.wiring.stale.quiet).unwired i (waits-before i m (record {
-            number = t.number;
-            request = t.request;
-            is = t.is;
-            front = t.front;
-            made = t.made;
-            passes = t.tells;
-          }))) w.live
+          ((leaves m.told m.before start.wiring.stale.quiet).unwired i (waits-before i m
+          (removal-handled i m links.0 links.1 n))) w.live
 
       by : IsKnown w.connection m.before.host.links [] → ⊥
       by (supervisory one) =

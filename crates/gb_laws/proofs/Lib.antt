@@ -59,7 +59,6 @@ pub mod LinkChanges
 pub mod LinkKept
 pub mod LinkLaw
 pub mod LinkLives
-pub mod LinkDone
 pub mod LinkRuns
 pub mod LinkSources
 pub mod LinkTells
@@ -183,7 +182,6 @@ pub mod Causes
 pub mod Absent
 pub mod Routed
 pub mod Manifests
-pub mod ManifestRuns
 pub mod CreditsKept
 pub mod CreditsLines
 pub mod CreditsMoved

@@ -1,10 +1,10 @@
 -- The facts of the application processor's connections go over its acts, and over what it serves.
 use Rattle.std.proofs.Common.{Bool, List, None, Option, Some, ap, cond, false, inl, inr, map, refl}
-use Rattle.std.proofs.Common.{subst, sym, true, ℕ, [], ◌∙◌, ◌∷◌, ◌≡◌}
+use Rattle.std.proofs.Common.{subst, sym, true, ℕ, ⊎_elim, [], ◌∙◌, ◌∷◌, ◌≡◌, ◌⊎◌}
 use Rattle.std.specs.Prelude.{Err, Ok, Result, ◌==◌}
 use Rattle.gb_base.specs.declared.end.End.TheVariants as end
 use Rattle.gb_base.specs.declared.entry.Entry.{Entry}
-use Rattle.gb_base.specs.declared.peers.Link.{Link}
+use Rattle.gb_base.specs.declared.peers.{Interface.Interface, Link.Link}
 use Rattle.gb_base.specs.declared.steps.{Purpose.Purpose, SequenceStep.SequenceStep}
 use Rattle.gb_base.specs.declared.steps.SequenceStep.TheVariants as steps
 use Rattle.gb_formats.specs.{GpioRecords.GpioAsk, GpioRecords.read_gpio_ask_of_module}
@@ -12,14 +12,16 @@ use Rattle.gb_formats.specs.{Records.PayloadFault, SvcRecords.SvcAsk}
 use Rattle.gb_formats.specs.{SvcRecords.read_svc_ask_of_svc, UartDevice.credits_added}
 use Rattle.gb_formats.specs.{UartRecords.UartAsk, UartRecords.read_uart_ask_of_module}
 use Rattle.gb_machine.specs.Failures.{interface_fails, step_fails, unsent, unsent_fails}
-use Rattle.gb_machine.specs.Host.{Host, is_link, link_at, link_of, with_interface, with_link}
+use Rattle.gb_machine.specs.Host.{Host, is_intf, is_link, link_at, link_of, with_interface}
+use Rattle.gb_machine.specs.Host.{with_link}
 use Rattle.gb_machine.specs.HostServing.{HostServed, credited, host_serves, interrupted}
 use Rattle.gb_machine.specs.HostServing.{notified_by, served_on, uart_notified_by, with_credits}
 use Rattle.gb_machine.specs.Turns.{Act, Asking, Failing, Making, failed_turn}
 use Rattle.gb_machine.specs.{Bus.Bus, Bus.Connection, HostActs.made_for, HostActs.with_awaited}
 use Rattle.gb_machine.specs.{Members.IsIn, SequenceSteps.is_enumeration}
 use Rattle.gb_machine.specs.{SequenceSteps.is_for_connection, State.State, Waits.awaits}
-use Rattle.gb_invariants.proofs.{Awaiting.same-some, Lists.found-in, Outcomes.same-number}
+use Rattle.gb_invariants.proofs.{Awaiting.same-some, Lists.found-in, Lists.in-at_first}
+use Rattle.gb_invariants.proofs.{Outcomes.same-number}
 use Rattle.gb_laws.proofs.LinkFails.{fits-failed, fits-interface_fails, fits-through}
 use Rattle.gb_laws.proofs.LinkHosts.{Onto, Stay, awaits-link, credits-link, host-interface}
 use Rattle.gb_laws.proofs.LinkHosts.{host-link, onto-interface, onto-link, onto-same, stay-changed}
@@ -122,6 +124,29 @@ awaited-host p n s = by (is_for_connection p.step) (link_at p.intf p.cport (awai
         (record s { host = awaits p n s.host })).host ≡ awaits p n s.host
     by true o = made o
     by false o = refl
+
+-- an interface then waits for what it waited for, or for this request
+pub awaited-interface : (p : Purpose) (n : ℕ) (s : State) (x : Interface) (w : ℕ × SequenceStep)
+    → IsIn x (with_awaited p n s).host.interfaces → x.awaits ≡ Some w
+    → IsIn x s.host.interfaces
+    ⊎ ((p.intf ≡ x.intf) × ((n, p.step) ≡ w) × (is_enumeration p.step ≡ true))
+awaited-interface p n s x w i e =
+    by (is_enumeration p.step) refl
+    (subst (λ (h : Host). IsIn x h.interfaces) (awaited-host p n s) i)
+  where
+    by : (t : Bool) → is_enumeration p.step ≡ t
+        → IsIn x (cond t
+        (with_interface p.intf (λ y. record y { awaits = Some (n, p.step) }) s.host)
+        (with_link p.intf p.cport (λ l. record l { awaits = Some (n, p.step) }) s.host)).interfaces
+        → IsIn x s.host.interfaces
+        ⊎ ((p.intf ≡ x.intf) × ((n, p.step) ≡ w) × (is_enumeration p.step ≡ true))
+    by false t j = inl j
+    by true t j = ⊎_elim inl (λ u. inr (
+      sym (same-number u.0.intf p.intf u.2) ∙ sym (ap (λ (y : Interface). y.intf) u.3),
+      same-some (n, p.step) w (sym (ap (λ (y : Interface). y.awaits) u.3) ∙ e),
+      t,
+    )) (in-at_first (is_intf p.intf) (λ (y : Interface). record y { awaits = Some (n, p.step) })
+        s.host.interfaces x j)
 
 pub linked-asked : (q : Asking) (n : ℕ) (rest : List Act) (s : State)
     → Linked s.bus s.host (Act.Ask q ∷ rest)
@@ -290,7 +315,6 @@ awaited-plugs p n {s} = by (is_for_connection p.step) (link_at p.intf p.cport (a
       plugged = λ i. refl;
       powered = λ i e. e;
       differ = λ h. h;
-      short = λ h. h;
     }
 
     by : (t : Bool) (o : Option Link)

@@ -5,7 +5,7 @@ use Rattle.gb_base.specs.declared.end.Side.{Side}
 use Rattle.gb_base.specs.declared.outcome.Outcome.{Outcome}
 use Rattle.gb_machine.specs.Bus.{Bus, Connection, Item}
 use Rattle.gb_machine.specs.Delivery.{ended, popped, replied}
-use Rattle.gb_machine.specs.{Host.Host, Members.IsIn, Requests.gave_up, Sending.Draft, Sending.sent}
+use Rattle.gb_machine.specs.{Host.Host, Members.IsIn, Requests.gave_up}
 use Rattle.gb_machine.specs.{Turns.Act}
 use Rattle.gb_invariants.proofs.BusChanges.{BusChange, Was, bus_after, came, clean_by, ends}
 use Rattle.gb_invariants.proofs.BusChanges.{gives_up, injects, leaves, made_by, number_of, opens}
@@ -58,11 +58,6 @@ linked-after {b} {h} {acts} x well f =
       },
     )
     by c (came e) = absurd (none-made x b c well e)
-
--- a request is made
-pub linked-sent : {b : Bus} {h : Host} {acts : List Act} (d : Draft) (label : ℕ) → Linked b h acts
-    → Linked (sent d label b) h acts
-linked-sent d label f = linked-after (sends d label) tt f
 
 -- an item is taken
 pub linked-popped : {b : Bus} {h : Host} {acts : List Act} (k : ℕ) (at : Side) → Linked b h acts

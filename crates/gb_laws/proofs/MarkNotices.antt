@@ -18,7 +18,7 @@ use Rattle.gb_machine.specs.HostServing.{HostServed, credited, host_refuses, int
 use Rattle.gb_machine.specs.HostServing.{notified_by, served_on, serves_gpio, serves_svc}
 use Rattle.gb_machine.specs.HostServing.{serves_uart, uart_notified_by}
 use Rattle.gb_machine.specs.Incoming.{Incoming, incoming, request_in}
-use Rattle.gb_machine.specs.SvcQueues.{inserts, items_in, removes, svc_items}
+use Rattle.gb_machine.specs.SvcQueues.{HandlesRemoval, inserts, items_in, removes, svc_items}
 use Rattle.gb_machine.specs.{Lists.first, Runs.Moment, Turns.HostEvent}
 use Rattle.gb_invariants.proofs.Awaiting.{none-some, not-both, same-some}
 use Rattle.gb_invariants.proofs.{Found.find-none, ItemChanges.first-in, Numbers.found-by_number}
@@ -208,4 +208,18 @@ told-by_svc m e basis links n =
           ∙ n.front ∙ ap Some f.item;
       made = f.made;
       tells = told-svc e f.request.kind f.request.payload first_host f.notice;
+    }
+
+-- a removal that is noticed is handled at that moment
+pub removal-handled : (i : ℕ) (m : Moment) → Basis (resting m.told m.before)
+    → Linked m.before.bus m.before.host [] → IsNoticed m (HostEvent.Removed i)
+    → HandlesRemoval i m
+removal-handled i m basis links n =
+    let t = told-by_svc m (HostEvent.Removed i) basis links n in record {
+      number = t.number;
+      request = t.request;
+      is = t.is;
+      front = t.front;
+      made = t.made;
+      passes = t.tells;
     }

@@ -4,17 +4,8 @@ use Rattle.std.proofs.Common.{List, []}
 use Rattle.gb_base.specs.declared.entry.Entry.{Entry}
 use Rattle.gb_machine.specs.{Reached.OfARun, Runs.Moment, State.State}
 use Rattle.gb_laws.proofs.LinkRuns.{LinkedTo, start-absent, there_law}
-use Rattle.gb_laws.proofs.Points.{Basis, Change, Law, Point, changed, resting}
+use Rattle.gb_laws.proofs.Points.{Basis, Law, Point, resting}
 use Rattle.gb_laws.proofs.{LinkKept.LinkedAt, Reached.reached-told, SvcThere.There}
-
--- A point comes after another within a step: each law that holds there holds here.
-abbrev pub ComesAfter : (m : Moment) → Point → Point → Type 1
-ComesAfter m a b = (law : Law m) → law.holds a → law.holds b
-
--- So does the point after one more single change.
-pub one-change : (m : Moment) (a b : Point) (x : Change m b) → ComesAfter m a b
-    → ComesAfter m a (changed m b x)
-one-change m a b x after law h = law.kept b x (after law h)
 
 -- what is known at rest, whatever was told
 pub rests : (told : List Entry) (s : State) → LinkedTo [] s → LinkedTo told s
@@ -44,9 +35,3 @@ known-resting m run =
 pub known-held : (m : Moment) (run : OfARun m.before) (b : Point) → (known_law m run).holds b
     → KnownAt b
 known-held m run b now = record { basis = now.0.0; links = now.0.1; there = now.1 }
-
--- It is known at each point that comes after a state of a run.
-pub known-midway : (m : Moment) (b : Point) → OfARun m.before
-    → ComesAfter m (resting m.told m.before) b → KnownAt b
-known-midway m b run after =
-    known-held m run b (after (known_law m run) (known-resting m run))

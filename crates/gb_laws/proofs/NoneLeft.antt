@@ -1,8 +1,7 @@
 -- Where no identifier comes next, all of the cycle are in use.
-use Rattle.std.proofs.Common.{Bool, None, Some, ap, arith, cond, false, ltb, option_and_then, refl}
+use Rattle.std.proofs.Common.{Bool, None, Some, ap, arith, cond, false, option_and_then, refl}
 use Rattle.std.proofs.Common.{suc, sym, true, zero, ℕ, ⊎_elim, ◌+◌, ◌-◌, ◌<◌, ◌∙◌, ◌≡◌, ◌≤◌}
 use Rattle.std.proofs.lemmas.Bool.{cases_lt}
-use Rattle.std.proofs.lemmas.Bool.Decides.{nat_tests}
 use Rattle.gb_machine.proofs.Labels.{label_after-less, label_after-within}
 use Rattle.gb_machine.specs.Labels.{cyclic_label, free_label, greatest_label, label_after}
 use Rattle.gb_machine.specs.Labels.{last_label, next_label}

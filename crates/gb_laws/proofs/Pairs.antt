@@ -8,12 +8,14 @@ use Rattle.gb_base.specs.declared.steps.SequenceStep.TheVariants as steps
 use Rattle.gb_formats.specs.SvcRecords.{read_svc_ask}
 use Rattle.gb_machine.specs.Bus.{Bus, Request, request_of}
 use Rattle.gb_machine.specs.Host.{Host, is_link, with_link}
+use Rattle.gb_machine.specs.HostServing.{host_serves, with_credits}
 use Rattle.gb_machine.specs.SequenceSteps.{Target, asks_control, is_for_connection, kind_of}
 use Rattle.gb_machine.specs.SequenceSteps.{payload_of}
 use Rattle.gb_machine.specs.{Members.IsIn, SvcQueues.is_for_link, SvcQueues.speaks_of_connection}
 use Rattle.gb_machine.specs.{Turns.Asking}
 use Rattle.gb_invariants.proofs.{Awaiting.none-some, Awaiting.same-some, BusChanges.KeepsRequests}
 use Rattle.gb_invariants.proofs.{Found.in-first, Outcomes.same-number}
+use Rattle.gb_laws.proofs.LinkActs.{ServedHost, as_before, host-served, with_more}
 use Rattle.gb_laws.proofs.LinkSources.{LinksFrom}
 
 -- request n was made by the application processor to the supervisory controller, for a reply
@@ -124,6 +126,17 @@ asked-more q n b after pairs keeps x = record {
 
 pub come-same : (h : Host) → ComeFrom h h
 come-same h l i = (l, i, refl, refl, inl refl)
+
+-- a request that the application processor serves changes at most the credits of a link
+pub come-served : (k kind : ℕ) (payload : List ℕ) (h : Host)
+    → ComeFrom h (host_serves k kind payload h).host
+come-served k kind payload h = by (host-served k kind payload)
+  where
+    by : ServedHost h (host_serves k kind payload h)
+        → ComeFrom h (host_serves k kind payload h).host
+    by (as_before e) = subst (ComeFrom h) (sym e) (come-same h)
+    by (with_more i c total e) = subst (ComeFrom h) (sym e)
+        (come-link h i c (with_credits total) (λ l. refl) (λ l. refl) (λ l. refl))
 
 -- ---- a sequence waits
 

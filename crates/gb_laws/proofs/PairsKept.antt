@@ -5,14 +5,14 @@ use Rattle.gb_base.specs.declared.peers.Link.{Link}
 use Rattle.gb_machine.specs.HostActs.{host_draft, made_for, with_awaited}
 use Rattle.gb_machine.specs.Sending.{Draft, requested, sent}
 use Rattle.gb_machine.specs.{Bus.next_number, Failures.unsent, Host.link_at, Host.with_link}
-use Rattle.gb_machine.specs.{HostServing.host_serves, HostServing.with_credits, HostTurns.host_turn}
+use Rattle.gb_machine.specs.{HostServing.host_serves, HostTurns.host_turn}
 use Rattle.gb_machine.specs.{LineActions.spent, Runs.Moment, SequenceSteps.is_for_connection}
 use Rattle.gb_machine.specs.{Turns.Asking, Waits.awaits, Wiring.next_connection}
 use Rattle.gb_invariants.proofs.Awaiting.{none-some, same-some, sent-new}
 use Rattle.gb_invariants.proofs.Lists.{in-pushed}
-use Rattle.gb_laws.proofs.LinkActs.{ServedHost, as_before, awaited-host, host-served, with_more}
-use Rattle.gb_laws.proofs.Pairs.{ComeFrom, IsAskedAs, PairsFit, asked-more, come-from, come-link}
-use Rattle.gb_laws.proofs.Pairs.{come-same, pairs-on}
+use Rattle.gb_laws.proofs.LinkActs.{awaited-host}
+use Rattle.gb_laws.proofs.Pairs.{IsAskedAs, PairsFit, asked-more, come-from, come-link}
+use Rattle.gb_laws.proofs.Pairs.{come-same, come-served, pairs-on}
 use Rattle.gb_laws.proofs.Points.{Change, IsAskedBy, acts_asked, acts_failed, acts_opened, asks}
 use Rattle.gb_laws.proofs.Points.{awaited_by, by_far, by_host, changed, names, serves, spends}
 use Rattle.gb_laws.proofs.Points.{turns}
@@ -111,13 +111,7 @@ pairs-kept m a (acts_failed q rest is quiet) links r f =
 pairs-kept m a (serves k kind payload none) links r f =
     pairs-on a.state.bus a.state.bus a.state.host (host_serves k kind payload a.state.host).host
     a.state.past.made_for a.asked a.asked (λ n x made. made) (omega arith)
-    (by (host-served k kind payload {h = a.state.host})) f.asks f
-  where
-    by : ServedHost a.state.host (host_serves k kind payload a.state.host)
-        → ComeFrom a.state.host (host_serves k kind payload a.state.host).host
-    by (as_before e) = subst (ComeFrom a.state.host) (sym e) (come-same a.state.host)
-    by (with_more i c total e) = subst (ComeFrom a.state.host) (sym e)
-        (come-link a.state.host i c (with_credits total) (λ l. refl) (λ l. refl) (λ l. refl))
+    (come-served k kind payload a.state.host) f.asks f
 pairs-kept m a (spends i c what none) links r f =
     pairs-on a.state.bus a.state.bus a.state.host (with_link i c (spent what) a.state.host)
     a.state.past.made_for a.asked a.asked (λ n x made. made) (omega arith)

@@ -1,6 +1,6 @@
 -- The single changes that lead from one point within the step of an event to the next.
 use Rattle.std.specs.Prelude.{Bool, List, None, Option, Some, false, length, map, nat_lt, true, ℕ}
-use Rattle.std.specs.Prelude.{[], ◌+◌, ◌∷◌, ◌≡◌, ◌≢◌, ◌≤◌, ◌⊎◌}
+use Rattle.std.specs.Prelude.{[], ◌+◌, ◌∷◌, ◌≡◌, ◌≢◌, ◌⊎◌}
 use Rattle.gb_base.specs.declared.bridge.BridgeAsk.{BridgeAsk}
 use Rattle.gb_base.specs.declared.bridge.Reading.TheVariants as reading
 use Rattle.gb_base.specs.declared.end.End.{End}
@@ -23,7 +23,7 @@ use Rattle.gb_machine.specs.HostActs.{host_draft, with_awaited, with_made}
 use Rattle.gb_machine.specs.Incoming.{Incoming, reply_entry, reply_item, request_in}
 use Rattle.gb_machine.specs.Names.{bound, freed, named}
 use Rattle.gb_machine.specs.Ports.{is_powered, level_of, unrouted}
-use Rattle.gb_machine.specs.Refusals.{is_reserved, longest_manifest, module_place}
+use Rattle.gb_machine.specs.Refusals.{is_reserved, module_place}
 use Rattle.gb_machine.specs.Requests.{gave_up, given_up_with, open_on, open_with}
 use Rattle.gb_machine.specs.Sending.{Draft, label_for, sent}
 use Rattle.gb_machine.specs.State.{Held, Plugged, Port, State}
@@ -120,10 +120,6 @@ IsPlain s d = ((is_reserved d.kind ≡ false) × (d.connection ≡ 1))
     ⊎ ((l : Link) × IsIn l s.host.links × (d.connection ≡ l.connection)
     × (state_takes l.state ≡ true))
 
--- the manifests of modules fit into a message
-abbrev pub AreShort : List Plugged → Type 0
-AreShort ms = (p : Plugged) → IsIn p ms → length p.body.manifest ≤ longest_manifest
-
 -- what is plugged stays, and so does whether the supervisory controller has started
 pub record SamePlugs (s : State) (booted : Bool) (ports : List Port) (modules : List Plugged) : Type
     0 where
@@ -132,7 +128,6 @@ pub record SamePlugs (s : State) (booted : Bool) (ports : List Port) (modules : 
   pub powered : (i : ℕ) → is_powered i ports ≡ true → is_powered i s.ports ≡ true
   pub differ : EachTwo (λ (p q : Plugged). p.intf ≢ q.intf) s.modules
       → EachTwo (λ (p q : Plugged). p.intf ≢ q.intf) modules
-  pub short : AreShort s.modules → AreShort modules
 
 -- Where power levels come from: they stay, or are those of a step of the supervisory controller's
 -- table, or an interface without a wired connection loses its route.
@@ -174,8 +169,7 @@ abbrev pub IsElse : Moment → Point → Bool → List ℕ → List Port → Lis
 IsElse m a booted marks ports modules =
     (SamePlugs a.state booted ports modules × PortsFrom m a.state ports × IsIdle a
     × AreMarked a.state marks)
-    ⊎ (IsOfSvc m.event × PowersOff a.state ports × (AreShort a.state.modules → AreShort modules)
-    × AreMarked a.state marks)
+    ⊎ (IsOfSvc m.event × PowersOff a.state ports × AreMarked a.state marks)
 
 -- A single change at a point.
 pub data Change (m : Moment) (a : Point) : Type 0 where

@@ -110,6 +110,20 @@ asked-put {a} d label basis there one =
           p.1 ∙ drawn-queue (other_side (other_side d.side)) d label c,
         )
 
+-- where the application processor asks, what waits toward it stays
+pub asked-ap : {a : Point} (d : Draft) (label : ℕ) → Basis a → There a.state.bus
+    → d.connection ≡ 1 → d.side ≡ side.Ap
+    → svc_items side.Ap (sent d label a.state.bus) ≡ svc_items side.Ap a.state.bus
+asked-ap {a} d label basis there one by_ap =
+    toward d.side by_ap (asked-put d label basis there one).from
+  where
+    toward : (s : Side) → s ≡ side.Ap
+        → svc_items (other_side (other_side s)) (sent d label a.state.bus)
+        ≡ svc_items (other_side (other_side s)) a.state.bus
+        → svc_items side.Ap (sent d label a.state.bus) ≡ svc_items side.Ap a.state.bus
+    toward side.Ap e f = f
+    toward side.Far e f = absurd cc
+
 -- a reply is made on it
 pub replied-put : (a : Point) (s : Side) (x : Item) (k : ℕ) → Basis a → There a.state.bus
     → k ≡ 1 → IsPut s x a.state.bus (replied k s x a.state.bus)
@@ -161,15 +175,7 @@ new-unanswered i a b d label basis there free hand bus one by_ap twoway = record
 }
   where
     ap_same : svc_items side.Ap b.state.bus ≡ svc_items side.Ap a.state.bus
-    ap_same = ap (svc_items side.Ap) bus
-        ∙ toward d.side by_ap (asked-put d label basis there one).from
-      where
-        toward : (s : Side) → s ≡ side.Ap
-            → svc_items (other_side (other_side s)) (sent d label a.state.bus)
-            ≡ svc_items (other_side (other_side s)) a.state.bus
-            → svc_items side.Ap (sent d label a.state.bus) ≡ svc_items side.Ap a.state.bus
-        toward side.Ap e f = f
-        toward side.Far e f = absurd cc
+    ap_same = ap (svc_items side.Ap) bus ∙ asked-ap d label basis there one by_ap
 
 -- the requests of an enumeration, where one more is asked
 pub enums-asked : (i : ℕ) (a : Point) (d : Draft) (label : ℕ) → Basis a → There a.state.bus

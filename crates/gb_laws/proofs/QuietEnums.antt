@@ -8,9 +8,10 @@ use Rattle.gb_formats.specs.Records.{PayloadFault}
 use Rattle.gb_machine.specs.Serving.{invalid, nonexistent, success}
 use Rattle.gb_machine.specs.SvcTable.{Answered, Create, Destroy, Unroute, climbs, is_no_device}
 use Rattle.gb_machine.specs.SvcTable.{svc_asked, svc_read, svc_refuses, svc_stays, svc_step}
-use Rattle.gb_machine.specs.{Ports.level_of, Ports.with_device, State.Port, SvcQueues.enumerates}
+use Rattle.gb_machine.specs.Ports.{level_in, level_of, unrouted, with_device}
+use Rattle.gb_machine.specs.{State.Port, SvcQueues.enumerates}
 use Rattle.gb_invariants.proofs.{Awaiting.not-both, Outcomes.is-same, Outcomes.same-number}
-use Rattle.gb_laws.proofs.{Levels.starts, SvcKinds.svc-kind}
+use Rattle.gb_laws.proofs.{Levels.other-port, Levels.starts, SvcKinds.svc-kind}
 
 -- ---- an enumeration's request is served
 
@@ -108,6 +109,25 @@ unrouted-six ports kind payload j = by (read_svc_ask_of_ap kind payload)
         → (level_of j ports ≡ 6) × ((svc_read ports r).ports ≡ ports)
     by (Ok ask) h = asked-six ports ask j h
     by (Err fault) h = absurd cc
+
+-- the loss of a route leaves the levels of other interfaces
+pub unrouted-other : (ports : List Port) (kind : ℕ) (payload : List ℕ) (i j : ℕ)
+    → (svc_step ports kind payload).served ≡ Unroute j → (i == j) ≡ false
+    → level_of i (unrouted j (svc_step ports kind payload).ports) ≡ level_of i ports
+unrouted-other ports kind payload i j is other =
+    ap level_in (other-port i j (λ (p : Port). record p { level = 5 })
+    (svc_step ports kind payload).ports (λ p. refl) other)
+    ∙ ap (level_of i) (unrouted-six ports kind payload j is).1
+
+-- an interface of a low level has no route that could go
+pub unrouted-low : (ports : List Port) (kind : ℕ) (payload : List ℕ) (i j : ℕ)
+    → (svc_step ports kind payload).served ≡ Unroute j → (i == j) ≡ true
+    → level_of i ports ≤ 1 → ⊥
+unrouted-low ports kind payload i j is same = six (level_of i ports)
+    (ap (λ n. level_of n ports) (same-number i j same) ∙ (unrouted-six ports kind payload j is).0)
+  where
+    six : (n : ℕ) → n ≡ 6 → n ≤ 1 → ⊥
+    six n e low = omega (arith, low, e)
 
 pub at-most_one : (n : ℕ) → n ≤ 1 → (n ≡ 0) ⊎ (n ≡ 1)
 at-most_one n h = by (n == 0) refl

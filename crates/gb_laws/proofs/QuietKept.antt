@@ -21,7 +21,7 @@ use Rattle.gb_laws.proofs.PointParts.{Basis, Hand, Point}
 use Rattle.gb_laws.proofs.Points.{IsFarAsking, by_module, by_svc}
 use Rattle.gb_laws.proofs.Quiet.{IsUnanswered, SameQueues, SameView, enums-same, off, removed-same}
 use Rattle.gb_laws.proofs.Quiet.{stays, unanswered-same, view-same}
-use Rattle.gb_laws.proofs.QuietBuses.{IsPut, asked-put, enums-asked, queues-other}
+use Rattle.gb_laws.proofs.QuietBuses.{IsPut, asked-ap, asked-put, enums-asked, queues-other}
 use Rattle.gb_laws.proofs.{LinkKept.LinkedAt, MarkFrame.asked-toward, SvcThere.There}
 
 -- ---- the bus stays
@@ -85,15 +85,8 @@ view-plain i a {b} d label basis there bus level hand one by_ap none = record {
     keeps : KeepsRequests a.state.bus b.state.bus
     keeps n r made = ap (request_of n) bus ∙ sent-request d label a.state.bus n r made
 
-    toward : (s : Side) → s ≡ side.Ap
-        → svc_items (other_side (other_side s)) (sent d label a.state.bus)
-        ≡ svc_items (other_side (other_side s)) a.state.bus
-        → svc_items side.Ap (sent d label a.state.bus) ≡ svc_items side.Ap a.state.bus
-    toward side.Ap e f = f
-    toward side.Far e f = absurd cc
-
     same : svc_items side.Ap b.state.bus ≡ svc_items side.Ap a.state.bus
-    same = ap (svc_items side.Ap) bus ∙ toward d.side by_ap (asked-put d label basis there one).from
+    same = ap (svc_items side.Ap) bus ∙ asked-ap d label basis there one by_ap
 
 -- an item that is no removal is put toward the application processor
 pub view-put_ap : (i : ℕ) (a b : Point) (x : Item) → Basis a → KeepsRequests a.state.bus b.state.bus

@@ -5,7 +5,7 @@ use Rattle.std.specs.Prelude.{Ok, ◌==◌}
 use Rattle.gb_base.specs.declared.end.Side.TheVariants as side
 use Rattle.gb_formats.specs.SvcRecords.{read_svc_ask}
 use Rattle.gb_machine.specs.Bus.{Ask, Connection, Item, Raw, RawReply, Reply, Request, request_of}
-use Rattle.gb_machine.specs.Ports.{level_in, level_of, unrouted}
+use Rattle.gb_machine.specs.Ports.{level_of, unrouted}
 use Rattle.gb_machine.specs.SvcQueues.{enumerates, is_enumeration_request, is_reply_to, items_in}
 use Rattle.gb_machine.specs.SvcQueues.{svc_items}
 use Rattle.gb_machine.specs.{Host.Host, Incoming.Incoming, LawsBus.is_awaited, LawsBus.is_item_of}
@@ -13,17 +13,16 @@ use Rattle.gb_machine.specs.{Lists.behind_first, Members.IsIn, Runs.Moment, Stat
 use Rattle.gb_machine.specs.{SvcTable.Unroute, SvcTable.svc_step}
 use Rattle.gb_invariants.proofs.Awaiting.{none-some, not-both, same-some}
 use Rattle.gb_invariants.proofs.{Counts.times-some, Counts.total-some, Outcomes.is-same}
-use Rattle.gb_invariants.proofs.{Outcomes.same-number}
 use Rattle.gb_invariants.specs.Facts.{times_on}
 use Rattle.gb_laws.proofs.Enums.{AreStarts, IsClean, clean-none, enum-waits, enum_of, enums}
 use Rattle.gb_laws.proofs.Enums.{enums_of}
-use Rattle.gb_laws.proofs.Levels.{StepOn, by_record, nothing_changes, other-port, starts}
+use Rattle.gb_laws.proofs.Levels.{StepOn, by_record, nothing_changes, starts}
 use Rattle.gb_laws.proofs.Levels.{step-levels}
 use Rattle.gb_laws.proofs.PointParts.{Basis, Point, resting}
 use Rattle.gb_laws.proofs.Points.{IsIdle, IsServing, PortsFrom, as_before, loses_route, served}
 use Rattle.gb_laws.proofs.Quiet.{IsLast, IsQuiet, IsUnanswered, SameView, is_removed, last-behind}
 use Rattle.gb_laws.proofs.Quiet.{last-in, none, off, quiet-still, starts-behind}
-use Rattle.gb_laws.proofs.QuietEnums.{at-most_one, start-kind, unrouted-six}
+use Rattle.gb_laws.proofs.QuietEnums.{at-most_one, start-kind, unrouted-low, unrouted-other}
 use Rattle.gb_laws.proofs.{AskedWaits.AsksIn, AskedWaits.no-asks, LinkFrom.Linked}
 use Rattle.gb_laws.proofs.{QuietBuses.svc-found, QuietKept.none-hand, QuietKept.view-rest}
 use Rattle.gb_laws.proofs.{QuietServed.IsServed, QuietServed.serving, SvcThere.There}
@@ -217,20 +216,12 @@ module _ (m : Moment) (i : ℕ) (basis : Basis (resting m.told m.before))
           → (svc_step m.before.ports q.kind q.payload).served ≡ Unroute j
           → ports ≡ unrouted j (svc_step m.before.ports q.kind q.payload).ports
           → (t : Bool) → (i == j) ≡ t → IsQuiet i b
-      lost q j w is e false f =
-          let u = unrouted-six m.before.ports q.kind q.payload j is in
-          level-same (ap (level_of i) e
-          ∙ ap level_in (other-port i j (λ (p : Port). record p { level = 5 })
-          (svc_step m.before.ports q.kind q.payload).ports (λ p. refl) f)
-          ∙ ap (level_of i) u.1 ∙ sym (ap (level_of i) w.ports))
+      lost q j w is e false f = level-same (ap (level_of i) e
+          ∙ unrouted-other m.before.ports q.kind q.payload i j is f
+          ∙ sym (ap (level_of i) w.ports))
       lost q j w is e true f =
-          let u = unrouted-six m.before.ports q.kind q.payload j is in
-          no-removal (λ r. six (level_of i m.before.ports)
-          (start.low.low (sym ((serving m basis links there a q w).removed i) ∙ r))
-          (ap (λ n. level_of n m.before.ports) (same-number i j f) ∙ u.0))
-        where
-          six : (n : ℕ) → n ≤ 1 → n ≡ 6 → ⊥
-          six n low e = omega (arith, low, e)
+          no-removal (λ r. unrouted-low m.before.ports q.kind q.payload i j is f
+          (start.low.low (sym ((serving m basis links there a q w).removed i) ∙ r)))
 
       by : PortsFrom m a.state ports → IsQuiet i b
       by (as_before e) = level-same (ap (level_of i) e)

@@ -1,23 +1,21 @@
 -- What is said of an enumeration while a removal waits is kept by what the application processor
 -- does: its turns, what its sequences wait for, and where no identifier is left.
-use Rattle.std.proofs.Common.{Bool, List, None, Some, ap, cond, false, inl, inr, refl, subst, sym}
-use Rattle.std.proofs.Common.{true, ℕ, ⊎_elim, [], ◌∙◌, ◌≡◌}
-use Rattle.gb_base.specs.declared.peers.Interface.{Interface}
+use Rattle.std.proofs.Common.{List, None, Some, ap, inl, inr, subst, sym}
+use Rattle.std.proofs.Common.{ℕ, ⊎_elim, [], ◌∙◌, ◌≡◌}
 use Rattle.gb_base.specs.declared.steps.SequenceStep.{SequenceStep}
-use Rattle.gb_machine.specs.Host.{Host, is_intf, with_interface, with_link}
+use Rattle.gb_machine.specs.Host.{Host}
 use Rattle.gb_machine.specs.Turns.{Act, Asking, HostEvent, Turn}
 use Rattle.gb_machine.specs.{Failures.unsent, HostActs.with_awaited, HostTurns.host_turn}
 use Rattle.gb_machine.specs.{LawsBus.is_awaited, Members.IsIn, Ports.level_of, Runs.Moment}
-use Rattle.gb_machine.specs.{SequenceSteps.is_enumeration, State.State, Waits.awaited}
-use Rattle.gb_invariants.proofs.Awaiting.{none-some, not-both, same-some}
-use Rattle.gb_invariants.proofs.{Lists.in-at_first, Outcomes.same-number}
+use Rattle.gb_machine.specs.{State.State, Waits.awaited}
+use Rattle.gb_invariants.proofs.Awaiting.{none-some, not-both}
 use Rattle.gb_laws.proofs.Asked.{asks-connects, asks-disconnects, asks-ended, asks-inserted}
 use Rattle.gb_laws.proofs.Asked.{asks-removed, waits-unsent}
 use Rattle.gb_laws.proofs.AskedWaits.{AsksIn, asks-more, is_power_step, no-asks}
 use Rattle.gb_laws.proofs.Points.{IsAsking, IsOver, asking, opening}
 use Rattle.gb_laws.proofs.Quiet.{IsCalm, IsQuiet, SameView, WaitsOn, calm-still, low-still}
 use Rattle.gb_laws.proofs.Quiet.{quiet-still, waits-still}
-use Rattle.gb_laws.proofs.{AskedSteps.TurnAsks, Awaited.awaited-rest, LinkActs.awaited-host}
+use Rattle.gb_laws.proofs.{AskedSteps.TurnAsks, Awaited.awaited-rest, LinkActs.awaited-interface}
 use Rattle.gb_laws.proofs.{LinkKept.LinkedAt, PointParts.Basis, PointParts.Point}
 use Rattle.gb_laws.proofs.{QuietAwaited.none-over, QuietAwaited.waited-by, QuietKept.view-rest}
 use Rattle.gb_laws.proofs.{SvcThere.There}
@@ -66,9 +64,11 @@ pub quiet-awaited : (i : ℕ) (a : Point) {b : Point} (q : Asking) (n : ℕ) →
     → b.asked ≡ None → b.pending ≡ [] → IsQuiet i a → IsQuiet i b
 quiet-awaited i a {b} q n basis asked state hand none pending h = record {
   low = low-still i a b v h.low;
-  waits = λ x j at w e s. waits-still i w.0 a b v (by (is_enumeration q.purpose.step) refl x
-      (subst (λ (g : Host). IsIn x g.interfaces)
-      (ap (λ (t : State). t.host) state ∙ awaited-host q.purpose n a.state) j) at w e s);
+  waits = λ x j at w e s. waits-still i w.0 a b v (⊎_elim (λ o. h.waits x o at w e s)
+      (λ u. subst (λ (y : ℕ × SequenceStep). WaitsOn i y.0 a) u.1 (h.made q n asked (u.0 ∙ at)
+      (ap (λ (y : ℕ × SequenceStep). is_power_step y.1) u.1 ∙ s)))
+      (awaited-interface q.purpose n a.state x w
+      (subst (λ (t : State). IsIn x t.host.interfaces) state j) e));
   due = λ e r j at s. absurd (no-asks (subst (AsksIn r) pending j));
   made = λ r k e at s. absurd (none-some (sym none ∙ e));
 }
@@ -77,24 +77,6 @@ quiet-awaited i a {b} q n basis asked state hand none pending h = record {
     v = view-rest basis (ap (λ (t : State). t.bus) state ∙ (awaited-rest q.purpose n).bus)
         (ap (λ (t : State). level_of i t.ports) state
         ∙ ap (level_of i) (awaited-rest q.purpose n).ports) (λ x e. sym hand ∙ e)
-
-    by : (t : Bool) → is_enumeration q.purpose.step ≡ t → (x : Interface)
-        → IsIn x (cond t (with_interface q.purpose.intf
-        (λ y. record y { awaits = Some (n, q.purpose.step) }) a.state.host)
-        (with_link q.purpose.intf q.purpose.cport
-        (λ l. record l { awaits = Some (n, q.purpose.step) }) a.state.host)).interfaces
-        → x.intf ≡ i → (w : ℕ × SequenceStep) → x.awaits ≡ Some w → is_power_step w.1 ≡ true
-        → WaitsOn i w.0 a
-    by false e x j at w f s = h.waits x j at w f s
-    by true e x j at w f s = ⊎_elim (λ o. h.waits x o at w f s) (λ u.
-        let is = same-some (n, q.purpose.step) w (sym (ap (λ (y : Interface). y.awaits) u.3) ∙ f) in
-        subst (λ (y : ℕ × SequenceStep). WaitsOn i y.0 a) is (h.made q n asked
-        (sym (same-number u.0.intf q.purpose.intf u.2)
-        ∙ sym (ap (λ (y : Interface). y.intf) u.3) ∙ at)
-        (ap (λ (y : ℕ × SequenceStep). is_power_step y.1) is ∙ s)))
-        (in-at_first (is_intf q.purpose.intf)
-        (λ (y : Interface). record y { awaits = Some (n, q.purpose.step) }) a.state.host.interfaces
-        x j)
 
 -- ---- no identifier is left
 

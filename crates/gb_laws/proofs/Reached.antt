@@ -1,5 +1,5 @@
 -- What holds of every state that a run of valid events leads to.
-use Rattle.std.proofs.Common.{None, Some, ap, refl, subst, [], ◌++◌, ◌∙◌, ◌∷◌, ◌≡◌}
+use Rattle.std.proofs.Common.{None, Some, ap, subst, [], ◌++◌, ◌∙◌, ◌∷◌, ◌≡◌}
 use Rattle.gb_base.specs.declared.end.{End.End, Side.Side}
 use Rattle.gb_base.specs.declared.end.End.TheVariants as end
 use Rattle.gb_base.specs.declared.end.Side.TheVariants as side
@@ -8,20 +8,17 @@ use Rattle.gb_base.specs.declared.event.Event.TheVariants as event
 use Rattle.gb_formats.specs.ValidEvents.{IsEnd, IsValid}
 use Rattle.gb_machine.proofs.Steps.{step-deliver}
 use Rattle.gb_machine.specs.{Actions.Told, Arriving.delivers, Bus.Connection, Bus.end_of}
-use Rattle.gb_machine.specs.{Events.step, LawsBus.NameRequests, Members.IsIn, Reached.OfARun}
+use Rattle.gb_machine.specs.{Events.step, LawsBus.NameRequests, Reached.OfARun}
 use Rattle.gb_machine.specs.{Refusals.refusal, State.State, State.first_state}
 use Rattle.gb_machine.specs.{Waiting.first_waiting}
 use Rattle.gb_invariants.proofs.Lists.{each-append}
 use Rattle.gb_laws.proofs.{AllRuns.of-all, AllRuns.of-state, LinkFrom.Linked, LinkRuns.LinkedTo}
-use Rattle.gb_laws.proofs.{LinkRuns.linked-throughout, ManifestRuns.short-throughout}
-use Rattle.gb_laws.proofs.{Points.AreShort, Runs.HoldsByMoments, Runs.weaker}
+use Rattle.gb_laws.proofs.{LinkRuns.linked-throughout}
+use Rattle.gb_laws.proofs.{Runs.HoldsByMoments, Runs.weaker}
 use Rattle.gb_laws.proofs.{SettleQueues.first-waits, Settles.IsSettleable, Settles.last-append}
-use Rattle.gb_laws.proofs.{Settling.settleable-by_moments, Single.names-by_moments, SvcThere.There}
+use Rattle.gb_laws.proofs.{Settling.settleable-by_moments, Single.names-by_moments}
 
 -- ---- which states are reached
-
-pub reached-first : OfARun first_state
-reached-first = record { events = []; valid = tt; is = refl }
 
 -- by one more event
 pub reached-step : (s : State) (e : Event) → IsValid e → OfARun s → OfARun (step s e).state
@@ -67,18 +64,6 @@ reached-told = reached-has (LinkedTo []) (weaker LinkedTo (λ told s. LinkedTo [
 -- The application processor's connections go with the bus.
 pub reached-linked : (s : State) → OfARun s → Linked s.bus s.host []
 reached-linked s r = (reached-told s r).1
-
--- The supervisory controller's connection is there and wired, and speaks its protocol.
-pub reached-there : (s : State) → OfARun s → There s.bus
-reached-there s r = (reached-told s r).3
-
-pub reached-speaks : (s : State) → OfARun s → (c : Connection) → IsIn c s.bus.connections
-    → c.number ≡ 1 → c.protocol ≡ 0x14
-reached-speaks s r c live one = ((reached-linked s r).svc c live one).protocol
-
--- The manifest of each module that is plugged fits into a message.
-pub reached-short : (s : State) → OfARun s → AreShort s.modules
-reached-short = reached-has (λ s. AreShort s.modules) short-throughout
 
 -- Where something waits first is an end, and a delivery there isn't refused.
 pub record IsDue (s : State) (at : End) : Type 0 where

@@ -1,28 +1,29 @@
 -- While a request waits for a connection that is known no more, the power level of its interface is
 -- at most 1: where requests are made, and where a sequence waits for one.
 use Rattle.std.proofs.Common.{Bool, List, None, Option, Some, ap, arith, cond, false, inl, refl}
-use Rattle.std.proofs.Common.{subst, sym, true, ℕ, ⊎_elim, ◌<◌, ◌∙◌, ◌∷◌, ◌≡◌, ◌≤◌}
+use Rattle.std.proofs.Common.{subst, sym, true, ℕ, ⊎_elim, ◌∙◌, ◌∷◌, ◌≡◌, ◌≤◌}
 use Rattle.gb_base.specs.declared.end.Side.TheVariants as side
-use Rattle.gb_base.specs.declared.peers.{Interface.Interface, Link.Link}
+use Rattle.gb_base.specs.declared.peers.{Link.Link}
 use Rattle.gb_base.specs.declared.steps.SequenceStep.{SequenceStep}
-use Rattle.gb_machine.specs.Host.{Host, is_intf, is_link, link_at, with_interface, with_link}
+use Rattle.gb_machine.specs.Host.{Host, is_link, link_at}
 use Rattle.gb_machine.specs.Sending.{Draft, requested, sent}
-use Rattle.gb_machine.specs.SequenceSteps.{asks_control, is_enumeration, is_for_connection, kind_of}
+use Rattle.gb_machine.specs.SequenceSteps.{asks_control, is_for_connection, kind_of}
 use Rattle.gb_machine.specs.{Bus.next_number, Bus.request_of, HostActs.host_draft}
 use Rattle.gb_machine.specs.{HostActs.made_for, Members.IsIn, Ports.level_of, Runs.Moment}
 use Rattle.gb_machine.specs.{State.Past, State.State, SvcQueues.is_enumeration_request, Turns.Act}
 use Rattle.gb_machine.specs.{Turns.Asking, Waits.awaits}
-use Rattle.gb_invariants.proofs.Lists.{found-in, in-at_first, in-pushed}
-use Rattle.gb_invariants.proofs.{Awaiting.same-some, Awaiting.sent-request}
+use Rattle.gb_invariants.proofs.Lists.{found-in, in-pushed}
+use Rattle.gb_invariants.proofs.{Awaiting.sent-request}
 use Rattle.gb_invariants.proofs.{BusChanges.KeepsRequests}
-use Rattle.gb_laws.proofs.AskedWaits.{AsksIn, WaitsFewer, asks_in, is_power_step, no-asks}
+use Rattle.gb_laws.proofs.AskedWaits.{AsksIn, WaitsFewer, asks_in, no-asks}
 use Rattle.gb_laws.proofs.AskedWaits.{same-waits}
 use Rattle.gb_laws.proofs.Stale.{IsCool, IsStale, StaleAt, cool-still, due-still, stale-back}
 use Rattle.gb_laws.proofs.Stale.{starts-moved, starts-sent}
 use Rattle.gb_laws.proofs.SvcMoves.{FarMoves, far-moves, far-sent}
 use Rattle.gb_laws.proofs.{Awaited.awaited-rest, ChangeBuses.keeps-requests}
 use Rattle.gb_laws.proofs.{EnumRequests.formed-enumerates, Enums.AreStarts, Enums.enums}
-use Rattle.gb_laws.proofs.{LinkActs.awaited-host, LinkActs.awaits-fits, LinkHosts.Stay}
+use Rattle.gb_laws.proofs.LinkActs.{awaited-host, awaited-interface, awaits-fits}
+use Rattle.gb_laws.proofs.LinkHosts.{Stay}
 use Rattle.gb_laws.proofs.{LinkHosts.stay-same, Links.ArePending, Links.IsFormed, PointParts.Point}
 use Rattle.gb_laws.proofs.{Points.acts_asked, Points.changed, StaleBase.StaleBase}
 
@@ -132,9 +133,11 @@ module _ (m : Moment) (i : ℕ) where
     starts = λ k s one. subst (λ x. AreStarts (enums i x))
         (sym (awaited-rest q.purpose n).bus) (h.starts k (back k s)
         (sym (ap (level_of i) (awaited-rest q.purpose n).ports) ∙ one));
-    waits = λ x j at w e p k s. by (is_enumeration q.purpose.step) x
-        (subst (λ (g : Host). IsIn x g.interfaces) (awaited-host q.purpose n a.state) j) at w e p k
-        (back k s);
+    waits = λ x j at w e p k s. ⊎_elim (λ o. h.waits x o at w e p k (back k s)) (λ u.
+        let older = back k s in
+        let less = (f.pairs.asks q n is.1).behind k older.connection older.pair in
+        omega (arith, less, ap (λ (y : ℕ × SequenceStep). y.0) u.1))
+        (awaited-interface q.purpose n a.state x w j e);
     due = λ e r j. absurd (no-asks (subst (AsksIn r)
         (subst (ArePending a.state.host) is.0 f.links.pending).0.1 j));
   }
@@ -169,19 +172,3 @@ module _ (m : Moment) (i : ℕ) where
           (awaited-host q.purpose n a.state) u))
           (subst (λ (g : Host). Stay a.state.host.links g.links)
           (sym (awaited-host q.purpose n a.state)) stay)
-
-      by : (t : Bool) (x : Interface) → IsIn x (cond t (with_interface q.purpose.intf
-          (λ y. record y { awaits = Some (n, q.purpose.step) }) a.state.host)
-          (with_link q.purpose.intf q.purpose.cport
-          (λ l. record l { awaits = Some (n, q.purpose.step) }) a.state.host)).interfaces
-          → x.intf ≡ i → (w : ℕ × SequenceStep) → x.awaits ≡ Some w
-          → is_power_step w.1 ≡ true → (k : ℕ) → StaleAt i k a → k < w.0
-      by false x j at w e p k s = h.waits x j at w e p k s
-      by true x j at w e p k s = ⊎_elim (λ o. h.waits x o at w e p k s) (λ u.
-          let same = same-some (n, q.purpose.step) w
-          (sym (ap (λ (y : Interface). y.awaits) u.3) ∙ e) in
-          let less = (f.pairs.asks q n is.1).behind k s.connection s.pair in
-          omega (arith, less, ap (λ (y : ℕ × SequenceStep). y.0) same))
-          (in-at_first (is_intf q.purpose.intf)
-          (λ (y : Interface). record y { awaits = Some (n, q.purpose.step) })
-          a.state.host.interfaces x j)

@@ -8,19 +8,19 @@ use Rattle.gb_base.specs.declared.peers.Link.{Link}
 use Rattle.gb_base.specs.declared.steps.SequenceStep.TheVariants as steps
 use Rattle.gb_formats.specs.SvcRecords.{read_svc_ask}
 use Rattle.gb_machine.proofs.Lists.{nth-within}
-use Rattle.gb_machine.specs.Ports.{level_in, level_of, unrouted}
+use Rattle.gb_machine.specs.Ports.{level_of, unrouted}
 use Rattle.gb_machine.specs.{Bus.Ask, Bus.Item, Host.Host, Incoming.Incoming, Lists.behind_first}
 use Rattle.gb_machine.specs.{Members.IsIn, Runs.Moment, State.Past, State.Port}
 use Rattle.gb_machine.specs.{SvcQueues.enumerates, SvcQueues.svc_items, SvcTable.Unroute}
 use Rattle.gb_machine.specs.{SvcTable.svc_step, Turns.Asking}
-use Rattle.gb_invariants.proofs.{Awaiting.not-both, Outcomes.same-number}
+use Rattle.gb_invariants.proofs.{Awaiting.not-both}
 use Rattle.gb_laws.proofs.AskedWaits.{AsksIn, WaitsFewer, is_power_step, same-waits}
 use Rattle.gb_laws.proofs.Enums.{AreStarts, enum_of, enums, enums_of}
-use Rattle.gb_laws.proofs.Levels.{StepOn, by_record, nothing_changes, other-port, starts}
+use Rattle.gb_laws.proofs.Levels.{StepOn, by_record, nothing_changes, starts}
 use Rattle.gb_laws.proofs.Levels.{step-levels}
 use Rattle.gb_laws.proofs.PointParts.{Basis, Point, resting}
 use Rattle.gb_laws.proofs.Points.{IsIdle, IsServing, PortsFrom, as_before, loses_route, served}
-use Rattle.gb_laws.proofs.QuietEnums.{at-most_one, start-kind, unrouted-six}
+use Rattle.gb_laws.proofs.QuietEnums.{at-most_one, start-kind, unrouted-low, unrouted-other}
 use Rattle.gb_laws.proofs.Stale.{HasNoStale, IsCool, IsStale, StaleAt, cool-still, due-still}
 use Rattle.gb_laws.proofs.{LinkFrom.Linked, MarkFrame.asked-toward, Pairs.PairsFit}
 use Rattle.gb_laws.proofs.{QuietServed.serving, RememberedLive.RemembersSince, SvcThere.There}
@@ -148,20 +148,12 @@ module _ (m : Moment) (i : ℕ) (basis : Basis (resting m.told m.before))
           → (svc_step m.before.ports q.kind q.payload).served ≡ Unroute j
           → ports ≡ unrouted j (svc_step m.before.ports q.kind q.payload).ports
           → (t : Bool) → (i == j) ≡ t → IsCool i b
-      lost q j w is e false f =
-          let u = unrouted-six m.before.ports q.kind q.payload j is in
-          level-same (ap (level_of i) e
-          ∙ ap level_in (other-port i j (λ (p : Port). record p { level = 5 })
-          (svc_step m.before.ports q.kind q.payload).ports (λ p. refl) f)
-          ∙ ap (level_of i) u.1 ∙ sym (ap (level_of i) w.ports))
+      lost q j w is e false f = level-same (ap (level_of i) e
+          ∙ unrouted-other m.before.ports q.kind q.payload i j is f
+          ∙ sym (ap (level_of i) w.ports))
       lost q j w is e true f =
-          let u = unrouted-six m.before.ports q.kind q.payload j is in
-          level-low (λ n s. absurd (six (level_of i m.before.ports)
-          (start.low n (before-stale a q w since n s))
-          (ap (λ k. level_of k m.before.ports) (same-number i j f) ∙ u.0)))
-        where
-          six : (n : ℕ) → n ≤ 1 → n ≡ 6 → ⊥
-          six n low e = omega (arith, low, e)
+          level-low (λ n s. absurd (unrouted-low m.before.ports q.kind q.payload i j is f
+          (start.low n (before-stale a q w since n s))))
 
       by : PortsFrom m a.state ports → IsCool i b
       by (as_before e) = level-same (ap (level_of i) e)

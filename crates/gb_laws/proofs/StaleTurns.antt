@@ -26,7 +26,7 @@ use Rattle.gb_laws.proofs.PointParts.{IsCaused, IsNoticed, Point, resting}
 use Rattle.gb_laws.proofs.Stale.{HasNoStale, IsCool, StaleAt}
 use Rattle.gb_laws.proofs.{AskedSteps.TurnAsks, AskedWaits.AsksIn, AskedWaits.is_power_step}
 use Rattle.gb_laws.proofs.{AwaitsOwn.turn-waits, Enums.AreStarts, Enums.enums, LinkFrom.Linked}
-use Rattle.gb_laws.proofs.{LinkLists.one-link, MarkNotices.told-by_svc, Points.IsOver}
+use Rattle.gb_laws.proofs.{LinkLists.one-link, MarkNotices.removal-handled, Points.IsOver}
 use Rattle.gb_laws.proofs.{Quiet.IsQuiet, Quiet.is_removed, QuietAwaited.waited-by}
 use Rattle.gb_laws.proofs.{QuietRuns.removal-waits, QuietRuns.waits-before, StaleBase.NoticedStill}
 use Rattle.gb_laws.proofs.{StaleBase.StaleBase, SvcOrder.none-earlier}
@@ -138,16 +138,9 @@ module _ (m : Moment) (absent : InsertsAbsent m) (i : ℕ)
 
       removed : e ≡ HostEvent.Removed i → is_removed i m.before.bus ≡ true
       removed gone =
-          let t = told-by_svc m (HostEvent.Removed i) start.basis start.links (told gone) in
           sym (removal-waits i m.before.bus (svc_items side.Ap m.before.bus))
-          ∙ waits-before i m (record {
-            number = t.number;
-            request = t.request;
-            is = t.is;
-            front = t.front;
-            made = t.made;
-            passes = t.tells;
-          })
+          ∙ waits-before i m
+          (removal-handled i m start.basis start.links (told gone))
 
       absent-then : (x : Interface) → x.intf ≡ i
           → IsIn x (without_interface i a.state.host).interfaces → ⊥

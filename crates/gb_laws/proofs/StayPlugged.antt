@@ -1,6 +1,6 @@
 -- What is plugged stays so where a module changes.
-use Rattle.std.proofs.Common.{Bool, List, None, Some, ap, cond, false, inl, inr, length, refl, sym}
-use Rattle.std.proofs.Common.{true, ℕ, [], ◌∙◌, ◌∷◌, ◌≡◌, ◌≤◌, ◌⊎◌}
+use Rattle.std.proofs.Common.{Bool, List, None, Some, ap, cond, false, inl, inr, refl, sym}
+use Rattle.std.proofs.Common.{true, ℕ, [], ◌∙◌, ◌∷◌, ◌≡◌, ◌⊎◌}
 use Rattle.std.specs.List.{find}
 use Rattle.std.specs.Prelude.{is_some, option_map, ◌==◌, ◌≢◌}
 use Rattle.gb_base.specs.declared.end.End.TheVariants as end
@@ -14,11 +14,11 @@ use Rattle.gb_machine.specs.HostRefusals.{is_closing, is_failed, is_unopened, li
 use Rattle.gb_machine.specs.Modules.{is_plugged, is_plugged_at, with_module}
 use Rattle.gb_machine.specs.Ports.{level_in, level_of, port_of}
 use Rattle.gb_machine.specs.State.{Plugged, Port, State}
-use Rattle.gb_machine.specs.{Arriving.state_takes, Members.EachTwo, Refusals.longest_manifest}
+use Rattle.gb_machine.specs.{Arriving.state_takes, Members.EachTwo}
 use Rattle.gb_invariants.proofs.{Lists.two-at_first, Numbers.found-number, Numbers.same-connection}
 use Rattle.gb_invariants.specs.Facts.{IsBefore}
-use Rattle.gb_laws.proofs.{Manifests.short-changed, Places.module-far, Places.place-is}
-use Rattle.gb_laws.proofs.{Points.AreShort, Points.SamePlugs, StepActions.IsToModule}
+use Rattle.gb_laws.proofs.{Places.module-far, Places.place-is}
+use Rattle.gb_laws.proofs.{Points.SamePlugs, StepActions.IsToModule}
 
 -- ---- what stays plugged
 
@@ -28,20 +28,17 @@ same-plugs s = record {
   plugged = λ i. refl;
   powered = λ i e. e;
   differ = λ h. h;
-  short = λ h. h;
 }
 
 -- where a module changes
 pub module-plugs : (s : State) (i : ℕ) (x : Module)
-    → (AreShort s.modules → length x.manifest ≤ longest_manifest)
     → SamePlugs s s.booted s.ports (with_module i x s.modules)
-module-plugs s i x fits = record {
+module-plugs s i x = record {
   started = refl;
   plugged = plugged s.modules;
   powered = λ j e. e;
   differ = λ h. two-at_first (λ (p q : Plugged). p.intf ≢ q.intf) (is_plugged_at i)
       (λ p. record p { body = x }) s.modules (λ p q r. r) (λ p q r. r) h;
-  short = λ h. short-changed i x s.modules h (fits h);
 }
   where
     plugged : (ms : List Plugged) (j : ℕ) → is_plugged j (with_module i x ms) ≡ is_plugged j ms

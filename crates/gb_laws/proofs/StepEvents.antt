@@ -1,6 +1,6 @@
 -- A law of points goes over the step of each event.
-use Rattle.std.proofs.Common.{List, None, Option, Some, ap, false, inl, inr, length, map, refl}
-use Rattle.std.proofs.Common.{subst, sym, true, ℕ, ⊎_elim, [], ◌++◌, ◌+◌, ◌∙◌, ◌∷◌, ◌≡◌, ◌≤◌}
+use Rattle.std.proofs.Common.{List, None, Option, Some, ap, false, inl, inr, map, refl}
+use Rattle.std.proofs.Common.{subst, sym, true, ℕ, ⊎_elim, [], ◌++◌, ◌+◌, ◌∙◌, ◌∷◌, ◌≡◌}
 use Rattle.std.specs.Prelude.{Err, Ok, Result, is_none, is_some, option_and_then}
 use Rattle.gb_base.specs.declared.bridge.BridgeAsk.{BridgeAsk}
 use Rattle.gb_base.specs.declared.bridge.Reading.TheVariants as reading
@@ -28,7 +28,7 @@ use Rattle.gb_machine.specs.Labels.{cyclic_label, next_label}
 use Rattle.gb_machine.specs.LineActions.{ap_draft, bridge_sent, bridges, copies, holds, injects}
 use Rattle.gb_machine.specs.LineActions.{injects_at, sends, sends_on, spent, stirred, stirs}
 use Rattle.gb_machine.specs.LineActions.{with_hold}
-use Rattle.gb_machine.specs.Refusals.{has_no_label, is_long_payload, longest_manifest, module_place}
+use Rattle.gb_machine.specs.Refusals.{has_no_label, is_long_payload, module_place}
 use Rattle.gb_machine.specs.Refusals.{refusal}
 use Rattle.gb_machine.specs.{Arriving.state_takes, Asking.asks_with, Events.shows, GivingUp.cancels}
 use Rattle.gb_machine.specs.{GivingUp.gives_up, Holding.marked, HostActs.follows}
@@ -39,13 +39,13 @@ use Rattle.gb_machine.specs.{Show.shown, State.State, Turns.HostEvent}
 use Rattle.gb_invariants.proofs.{Awaiting.is-open, Awaiting.not-both, Lists.at_first-back}
 use Rattle.gb_invariants.proofs.{Lists.found-in}
 use Rattle.gb_laws.proofs.PointParts.{AreSilent, IsGivenUpFor, Untouched}
-use Rattle.gb_laws.proofs.Points.{AreShort, IsBridge, IsPlain, Law, as_before, binds}
+use Rattle.gb_laws.proofs.Points.{IsBridge, IsPlain, Law, as_before, binds}
 use Rattle.gb_laws.proofs.Points.{gives_up as giving_up, injects as injecting, names, others}
 use Rattle.gb_laws.proofs.Points.{spends}
 use Rattle.gb_laws.proofs.StayPlugged.{module-plugs, open-takes, place-module, same-plugs}
 use Rattle.gb_laws.proofs.StepActions.{At, goes-far_asks_all, goes-tell_all}
 use Rattle.gb_laws.proofs.StepPlugs.{Rests, rests-nothing, rests-▸}
-use Rattle.gb_laws.proofs.{Manifests.short-at, Manifests.stir-manifest, Naming.made-named}
+use Rattle.gb_laws.proofs.{Naming.made-named}
 use Rattle.gb_laws.proofs.{Places.place-marked, StepActLaws.acting, StepActs.goes-notices}
 
 module _ (m : Moment) (law : Law m) where
@@ -164,17 +164,15 @@ module _ (m : Moment) (law : Law m) where
           goes-far_asks_all m (acting m law) [] Untouched p.connection.number t.asks w
           (place-module i c w.bus p (law.basis _ at).bus.numbers.rise e) told at
 
-      stirred_by : (o : Option (Stirred Module)) → ((t : Stirred Module) → o ≡ Some t
-          → AreShort s.modules → length t.after.manifest ≤ longest_manifest)
-          → Rests m law (given o (stirred i c)) s
-      stirred_by None short = rests-nothing m law s
-      stirred_by (Some t) short =
+      stirred_by : (o : Option (Stirred Module)) → Rests m law (given o (stirred i c)) s
+      stirred_by None = rests-nothing m law s
+      stirred_by (Some t) =
           rests-▸ m law (change (λ w. record w { modules = with_module i t.after w.modules }))
           (by_state (λ w. given (module_place i c w)
           (λ p. far_asks_all p.connection.number t.asks))) s
           (λ told at. law.kept _ (others s.booted s.holds s.ports (with_module i t.after s.modules)
           (inl (
-            module-plugs s i t.after (short t refl),
+            module-plugs s i t.after,
             as_before refl,
             record { hand = refl; pending = refl; asked = refl },
             λ k n. inl n,
@@ -186,8 +184,6 @@ module _ (m : Moment) (law : Law m) where
           → Rests m law (given o (λ x. given (module_stir x c stir) (stirred i c))) s
       at_module None e = rests-nothing m law s
       at_module (Some x) e = stirred_by (module_stir x c stir)
-          (λ t is h. subst (λ bytes. length bytes ≤ longest_manifest)
-          (sym (stir-manifest x c stir t is)) (short-at i s.modules x e h))
 
   pub rests-holds : (i c : ℕ) (s : State) → Rests m law (holds i c) s
   unfolding machine_opened

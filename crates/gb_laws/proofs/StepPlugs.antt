@@ -1,16 +1,16 @@
 -- A law of points goes over the start of the supervisory controller, and modules that come and go.
-use Rattle.std.proofs.Common.{Bool, List, None, inl, inr, length, refl, true, ℕ, [], ◌∷◌, ◌≡◌, ◌≤◌}
+use Rattle.std.proofs.Common.{Bool, List, None, inl, inr, refl, true, ℕ, [], ◌∷◌, ◌≡◌}
 use Rattle.std.specs.Prelude.{◌==◌}
 use Rattle.gb_formats.specs.SvcRecords.{SvcAsk, read_svc_ask, svc_ask_kind, svc_ask_payload}
 use Rattle.gb_formats.specs.Module.{Module}
 use Rattle.gb_machine.proofs.Opened.{machine_opened}
 use Rattle.gb_machine.specs.Actions.{Action, change, each, nothing, when, ◌▸◌}
 use Rattle.gb_machine.specs.Plugging.{boots, plugs, tells_inserted, with_plugged}
-use Rattle.gb_machine.specs.{OwnAsking.svc_asks, OwnAsking.svc_own, Refusals.longest_manifest}
+use Rattle.gb_machine.specs.{OwnAsking.svc_asks, OwnAsking.svc_own}
 use Rattle.gb_machine.specs.{Runs.Moment, State.Plugged, State.State, SvcQueues.removes}
 use Rattle.gb_laws.proofs.Points.{IsOfSvc, Law, by_svc, others}
 use Rattle.gb_laws.proofs.StepActions.{Goes, goes-far_asks, goes-nothing, goes-when, goes-▸}
-use Rattle.gb_laws.proofs.{Manifests.short-plugged, PointParts.Untouched, StayPlugged.powered-off}
+use Rattle.gb_laws.proofs.{PointParts.Untouched, StayPlugged.powered-off}
 use Rattle.gb_laws.proofs.{StepActLaws.acting}
 
 -- ---- the shape of steps that leave wires alone
@@ -61,20 +61,18 @@ module _ (m : Moment) (law : Law m) where
       (svc_asks (SvcAsk.Hello 1 1)) s
       (rests-▸ (change (λ t. record t { booted = true })) (svc_asks (SvcAsk.ProtocolVersion 0 1)) s
       (λ told at. law.kept _ (others true s.holds s.ports s.modules
-      (inr (of, λ i. inl refl, λ h. h, λ k i. inl i))) at)
+      (inr (of, λ i. inl refl, λ k i. inl i))) at)
       (rests-svc of (SvcAsk.ProtocolVersion 0 1) _ (λ j h. absurd cc)))
       (rests-svc of (SvcAsk.Hello 1 1) _ (λ j h. absurd cc))) (rests-inserted_all of s.modules _)
 
-  pub rests-plugs : IsOfSvc m.event → (i : ℕ) (x : Module) (s : State)
-      → length x.manifest ≤ longest_manifest → Rests (plugs i x) s
+  pub rests-plugs : IsOfSvc m.event → (i : ℕ) (x : Module) (s : State) → Rests (plugs i x) s
   unfolding machine_opened
-  rests-plugs of i x s fits =
+  rests-plugs of i x s =
       rests-▸ (change (with_plugged i x)) (when s.booted (tells_inserted i)) s
       (λ told at. law.kept _ (others s.booted s.holds (with_plugged i x s).ports
       (with_plugged i x s).modules (inr (
         of,
         λ j. powered-off i j s.ports (i == j),
-        λ h. short-plugged i x s.modules h fits,
         λ k n. inl n,
       ))) at) (rests-when s.booted (tells_inserted i) (with_plugged i x s)
       (rests-svc of (SvcAsk.ModuleInserted i 1 0) (with_plugged i x s) (λ j h. absurd cc)))

@@ -1,6 +1,6 @@
 -- A law of points goes over what a served request brings about.
-use Rattle.std.proofs.Common.{List, None, Option, Some, ap, inl, length, refl, subst, sym, ℕ, []}
-use Rattle.std.proofs.Common.{◌++◌, ◌∙◌, ◌≡◌, ◌≤◌}
+use Rattle.std.proofs.Common.{List, None, Option, Some, ap, inl, refl, subst, sym, ℕ, []}
+use Rattle.std.proofs.Common.{◌++◌, ◌∙◌, ◌≡◌}
 use Rattle.gb_base.specs.declared.end.{End.End, Side.Side}
 use Rattle.gb_base.specs.declared.end.End.TheVariants as end
 use Rattle.gb_base.specs.declared.end.Side.TheVariants as side
@@ -15,12 +15,12 @@ use Rattle.gb_machine.specs.{Bus.Bus, Bus.Connection, Host.Host, HostActs.notice
 use Rattle.gb_machine.specs.{HostServing.HostServed, HostServing.host_serves, Incoming.Incoming}
 use Rattle.gb_machine.specs.{Lists.first, Modules.module_at, Modules.with_module}
 use Rattle.gb_machine.specs.{OwnAsking.far_asks_all, Ports.is_powered, Ports.unrouted}
-use Rattle.gb_machine.specs.{Refusals.longest_manifest, Runs.Moment, State.State, Turns.HostEvent}
+use Rattle.gb_machine.specs.{Runs.Moment, State.State, Turns.HostEvent}
 use Rattle.gb_invariants.proofs.Awaiting.{none-some, same-some}
 use Rattle.gb_laws.proofs.Delivered.{IsTaken, noticed, served-at, serving-of}
 use Rattle.gb_laws.proofs.Places.{ComesFrom, LivesOn, comes-after, lives-after}
 use Rattle.gb_laws.proofs.PointParts.{IsCaused, IsNoticed, IsServed, Untouched}
-use Rattle.gb_laws.proofs.Points.{AreShort, IsAfterReply, IsOver, IsServing, Law, as_before}
+use Rattle.gb_laws.proofs.Points.{IsAfterReply, IsOver, IsServing, Law, as_before}
 use Rattle.gb_laws.proofs.Points.{loses_route, others, replied_to, served, serves, unreplied}
 use Rattle.gb_laws.proofs.Powering.{IsReady, step-powered, step-ready}
 use Rattle.gb_laws.proofs.Served.{IsQuietly, ServedAs, inserting, plainly, removing}
@@ -29,23 +29,22 @@ use Rattle.gb_laws.proofs.ServedOn.{Comes, HasPeer, IsAsBefore}
 use Rattle.gb_laws.proofs.StepActions.{At, Goes, IsToModule, goes-far_asks_all, goes-nothing}
 use Rattle.gb_laws.proofs.StepActions.{goes-tell, goes-▸}
 use Rattle.gb_laws.proofs.StepSvcServes.{Ends, ends-decided, ends-going, ends-nothing}
-use Rattle.gb_laws.proofs.{Manifests.serve-manifest, Manifests.short-at, StayPlugged.module-plugs}
+use Rattle.gb_laws.proofs.{StayPlugged.module-plugs}
 use Rattle.gb_laws.proofs.{StepActLaws.acting, StepActs.goes-notices}
 
 module _ (m : Moment) (law : Law m) where
   -- ---- modules
 
   ends-module : (k i : ℕ) (step : Step Module) (s : State)
-      → (AreShort s.modules → length step.after.manifest ≤ longest_manifest)
       → IsToModule k s.bus → Ends m law None (module_stepped k i step).behind s
   unfolding machine_opened
-  ends-module k i step s short to =
+  ends-module k i step s to =
       ends-going m law (module_stepped k i step).behind (goes-▸ m (acting m law)
       (change (λ t. record t { modules = with_module i step.after t.modules }))
       (far_asks_all k step.served.asks)
       (λ told at. law.kept _ (others s.booted s.holds s.ports (with_module i step.after s.modules)
       (inl (
-        module-plugs s i step.after short,
+        module-plugs s i step.after,
         as_before refl,
         record { hand = refl; pending = refl; asked = refl },
         λ k i. inl i,
@@ -56,9 +55,8 @@ module _ (m : Moment) (law : Law m) where
       → module_at i s.modules ≡ o → IsToModule k s.bus
       → Ends m law None (module_response k i c q o).behind s
   ends-at_module k i c q None s e to = ends-nothing m law
-  ends-at_module k i c q (Some x) s e to = ends-module k i (module_serve x c q.kind q.payload) s
-      (λ h. subst (λ bytes. length bytes ≤ longest_manifest)
-      (sym (serve-manifest x c q.kind q.payload)) (short-at i s.modules x e h)) to
+  ends-at_module k i c q (Some x) s e to =
+      ends-module k i (module_serve x c q.kind q.payload) s to
 
   -- ---- the far side
 

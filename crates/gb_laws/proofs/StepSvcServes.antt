@@ -47,7 +47,6 @@ module _ (m : Moment) (law : Law m) where
         plugged = λ i. refl;
         powered = powered;
         differ = λ h. h;
-        short = λ h. h;
       },
       from,
       record { hand = refl; pending = refl; asked = refl },

@@ -14,7 +14,7 @@ use Rattle.gb_laws.proofs.PointParts.{Untouched, Wires, resting}
 use Rattle.gb_laws.proofs.Points.{IsBridge, IsOfSvc, Law, frees, tells}
 use Rattle.gb_laws.proofs.StepEvents.{rests-bridges, rests-cancels, rests-copies, rests-holds}
 use Rattle.gb_laws.proofs.StepEvents.{rests-injects, rests-sends, rests-shows, rests-stirs}
-use Rattle.gb_laws.proofs.{Manifests.kind-short, Manifests.raw-short, StepActLaws.acting}
+use Rattle.gb_laws.proofs.{StepActLaws.acting}
 use Rattle.gb_laws.proofs.{StepActions.At, StepActs.goes-notices, StepDelivers.ends-answers}
 use Rattle.gb_laws.proofs.{StepDelivers.ends-delivers, StepPlugs.rests-boots, StepPlugs.rests-plugs}
 use Rattle.gb_laws.proofs.{StepSvcServes.Ends, StepSvcServes.ends-going, Ticking.ends-pulls}
@@ -28,12 +28,10 @@ module _ (m : Moment) (law : Law m) where
   ends-does event.Boot is one free = ends-going m law (does event.Boot)
       (rests-boots m law (subst IsOfSvc (sym is) tt) m.before)
   ends-does (event.Insert i kind) is one free = ends-going m law (does (event.Insert i kind))
-      (rests-plugs m law (subst IsOfSvc (sym is) tt) i (module_of_kind kind) m.before
-      (kind-short kind))
+      (rests-plugs m law (subst IsOfSvc (sym is) tt) i (module_of_kind kind) m.before)
   ends-does (event.InsertRaw i manifest) is one free = ends-going m law
       (does (event.InsertRaw i manifest))
-      (rests-plugs m law (subst IsOfSvc (sym is) tt) i (module_raw manifest) m.before
-      (raw-short m.before i manifest free))
+      (rests-plugs m law (subst IsOfSvc (sym is) tt) i (module_raw manifest) m.before)
   ends-does (event.Pull i) is one free = ends-pulls m law (subst IsOfSvc (sym is) tt) i
   ends-does (event.Connect i c) is one free =
       ends-going m law (does (event.Connect i c))

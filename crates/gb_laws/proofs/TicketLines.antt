@@ -1,7 +1,7 @@
 -- Each send and bridge line that isn't refused asks a request.
-use Rattle.std.proofs.Common.{◌≡◌, ℕ, ◌+◌, true, false, Option, Some, None, List, ◌∷◌, [], ◌++◌}
+use Rattle.std.proofs.Common.{◌≡◌, ℕ, ◌+◌, false, Option, Some, None, List, ◌∷◌, [], ◌++◌}
 use Rattle.std.proofs.Common.{refl, sym, ap, ◌∙◌, subst}
-use Rattle.std.specs.Prelude.{is_none, option_and_then, Result, Ok, Err}
+use Rattle.std.specs.Prelude.{is_none, option_and_then, Ok}
 use Rattle.gb_base.specs.declared.bridge.BridgeAsk.{BridgeAsk}
 use Rattle.gb_base.specs.declared.end.End.{End}
 use Rattle.gb_base.specs.declared.end.End.TheVariants as end
@@ -13,7 +13,7 @@ use Rattle.gb_base.specs.declared.peers.Link.{Link}
 use Rattle.gb_base.specs.declared.refusal.Refusal.TheVariants as why
 use Rattle.gb_formats.specs.Bridges.{ask_request, bridge_answer}
 use Rattle.gb_formats.specs.Grammar.{default_timeout}
-use Rattle.gb_formats.specs.ValidEvents.{IsFar, IsValid}
+use Rattle.gb_formats.specs.ValidEvents.{IsFar}
 use Rattle.gb_invariants.proofs.Awaiting.{not-both, sent-new, unended}
 use Rattle.gb_invariants.specs.Facts.{OutcomesFit}
 use Rattle.gb_laws.proofs.CreditsLines.{answered-by}
@@ -21,18 +21,17 @@ use Rattle.gb_laws.proofs.Reached.{reached-told}
 use Rattle.gb_laws.specs.Tickets.{Asks, IsTwoway, LinesAsk, asked_in}
 use Rattle.gb_machine.proofs.Conditions.{AreUnmet, free}
 use Rattle.gb_machine.proofs.Opened.{machine_opened}
-use Rattle.gb_machine.proofs.Steps.{behind_done, step-does}
-use Rattle.gb_machine.specs.Actions.{Action, Told, given}
+use Rattle.gb_machine.proofs.Steps.{step-does}
+use Rattle.gb_machine.specs.Actions.{Told, given}
 use Rattle.gb_machine.specs.Asking.{asks_with}
 use Rattle.gb_machine.specs.Bus.{Connection, connection_of, next_number, outcome_of}
-use Rattle.gb_machine.specs.Events.{does, step}
+use Rattle.gb_machine.specs.Events.{does}
 use Rattle.gb_machine.specs.Host.{link_at, with_link}
 use Rattle.gb_machine.specs.HostRefusals.{bridge_conditions, is_kept}
 use Rattle.gb_machine.specs.Labels.{cyclic_label, next_label}
 use Rattle.gb_machine.specs.LineActions.{ap_draft, bridge_sent, bridges, sends, sends_on, spent}
 use Rattle.gb_machine.specs.Lists.{conditions_of}
 use Rattle.gb_machine.specs.Names.{bound}
-use Rattle.gb_machine.specs.Reached.{OfARun}
 use Rattle.gb_machine.specs.Refusals.{conditions, has_no_label, is_long_payload, refusal}
 use Rattle.gb_machine.specs.Sending.{Draft, requested}
 use Rattle.gb_machine.specs.State.{State}

@@ -22,7 +22,7 @@ use Rattle.gb_laws.proofs.Points.{gives_up, names, unwires}
 use Rattle.gb_laws.proofs.Reached.{reached-delivery, reached-has, reached-told, reached-waiting}
 use Rattle.gb_laws.proofs.Runs.{HoldsByMoments, throughout, weaker}
 use Rattle.gb_laws.proofs.Steps.{over-step}
-use Rattle.gb_laws.specs.Tickets.{IsTwoway, TwowayIsNeverSent, TwowayStays}
+use Rattle.gb_laws.specs.Tickets.{TwowayIsNeverSent, TwowayStays}
 use Rattle.gb_machine.proofs.Steps.{settles-end, settles-none, settles-on, step-deliver}
 use Rattle.gb_machine.proofs.Steps.{step-settle}
 use Rattle.gb_machine.specs.Actions.{Told}
@@ -32,8 +32,8 @@ use Rattle.gb_machine.specs.Events.{step}
 use Rattle.gb_machine.specs.Lists.{lookup}
 use Rattle.gb_machine.specs.Reached.{OfARun}
 use Rattle.gb_machine.specs.Requests.{open_on}
-use Rattle.gb_machine.specs.Runs.{IsMoment, Moment, after}
-use Rattle.gb_machine.specs.Sending.{Draft, requested, sent, sent_at_once}
+use Rattle.gb_machine.specs.Runs.{IsMoment, Moment}
+use Rattle.gb_machine.specs.Sending.{Draft, requested, sent}
 use Rattle.gb_machine.specs.Settling.{settles_from}
 use Rattle.gb_machine.specs.State.{State}
 use Rattle.gb_machine.specs.Waiting.{first_waiting}

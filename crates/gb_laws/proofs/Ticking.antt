@@ -20,11 +20,11 @@ use Rattle.gb_machine.specs.Members.{Each, EachTwo, IsIn}
 use Rattle.gb_machine.specs.Plugging.{pulls, wired_numbers, with_pulled}
 use Rattle.gb_machine.specs.Ports.{is_port, level_in, level_of, unpowered}
 use Rattle.gb_machine.specs.Wiring.{is_at, is_wired_to, unwired}
-use Rattle.gb_machine.specs.{Modules.is_plugged_at, OwnAsking.svc_asks, OwnAsking.svc_own}
+use Rattle.gb_machine.specs.{OwnAsking.svc_asks, OwnAsking.svc_own}
 use Rattle.gb_machine.specs.{Requests.is_due, Requests.open_on, Runs.Moment, State.Port}
 use Rattle.gb_machine.specs.{State.State, SvcQueues.removes}
 use Rattle.gb_machine.specs.Wires as wiring
-use Rattle.gb_invariants.proofs.Lists.{at_first-stays, in-without, two-filter}
+use Rattle.gb_invariants.proofs.Lists.{at_first-stays, two-filter}
 use Rattle.gb_invariants.proofs.Outcomes.{Rise, both-true, open_requests-rise, same-number}
 use Rattle.gb_invariants.proofs.Found.{find-left, none-of}
 use Rattle.gb_invariants.specs.Facts.{IsBefore}
@@ -224,7 +224,6 @@ module _ (m : Moment) (law : Law m) where
             (with_pulled i w).modules (inr (
               of,
               λ j. unpowered-off i j w.ports (j == i) refl,
-              λ h p k. h p (in-without (is_plugged_at i) w.modules p k).0,
               λ k n. inl n,
             ))) u.holds;
       }
