@@ -1,6 +1,8 @@
 -- The tables of the GPIO protocol have its records.
 use Rattle.std.proofs.Common.{◌≢◌, None, rules}
-use Rattle.gb_formats.specs.GpioRecords.{GpioAsk, gpio_asks, gpio_ask_kind, gpio_ask_payload, GpioReply, gpio_replies, gpio_reply_kind, gpio_reply_payload}
+use Rattle.gb_formats.specs.GpioRecords.{GpioAsk, gpio_asks, gpio_ask_kind, gpio_ask_payload}
+use Rattle.gb_formats.specs.GpioRecords.{GpioReply, gpio_replies, gpio_reply_kind}
+use Rattle.gb_formats.specs.GpioRecords.{gpio_reply_payload}
 use Rattle.gb_formats.specs.Records.{row_of}
 use Rattle.gb_payload.proofs.Tables.{AreSpelt}
 

@@ -1,5 +1,7 @@
 -- Numbers that are read from bytes depend on those bytes alone.
-use Rattle.std.proofs.Common.{◌≡◌, ◌<◌, ◌≤◌, ◌+◌, ◌*◌, ◌/◌, ◌%◌, ℕ, zero, suc, List, [], ◌∷◌, ◌++◌, length, take, drop, replicate, get_or, refl, arith, sym, ap, ap₂, ◌∙◌, get_or-drop, get_or-take}
+use Rattle.std.proofs.Common.{◌≡◌, ◌<◌, ◌≤◌, ◌+◌, ◌*◌, ◌/◌, ◌%◌, ℕ, zero, suc, List, [], ◌∷◌, ◌++◌}
+use Rattle.std.proofs.Common.{length, take, drop, replicate, get_or, refl, arith, sym, ap, ap₂, ◌∙◌}
+use Rattle.std.proofs.Common.{get_or-drop, get_or-take}
 use Rattle.byteorder.specs.Endian.{little_bytes, little_from, little_number}
 
 -- the first so many bytes are the same, where an absent one counts as 0
@@ -36,23 +38,31 @@ agree_less m n xs ys h a i l = a i (omega arith)
 
 -- what follows the first bytes
 pub agree_drop : (k n : ℕ) (xs ys : List ℕ) → Agree (k + n) xs ys → Agree n (drop k xs) (drop k ys)
-agree_drop k n xs ys a i h = get_or-drop k xs i 0 ∙ a (k + i) (omega arith) ∙ sym (get_or-drop k ys i 0)
+agree_drop k n xs ys a i h =
+    get_or-drop k xs i 0 ∙ a (k + i) (omega arith) ∙ sym (get_or-drop k ys i 0)
 
-from_same : (i n : ℕ) (xs ys : List ℕ) → Agree (i + n) xs ys → little_from i n xs ≡ little_from i n ys
+from_same : (i n : ℕ) (xs ys : List ℕ)
+    → Agree (i + n) xs ys → little_from i n xs ≡ little_from i n ys
 from_same i zero xs ys a = refl
-from_same i (suc n) xs ys a = ap₂ (λ (x rest : ℕ). x + 256 * rest) (a i (omega arith)) (from_same (suc i) n xs ys (λ j h. a j (omega arith)))
+from_same i (suc n) xs ys a =
+    ap₂ (λ (x rest : ℕ). x + 256 * rest) (a i (omega arith))
+    (from_same (suc i) n xs ys (λ j h. a j (omega arith)))
 
 -- a number
 pub number_same : (n : ℕ) (xs ys : List ℕ) → Agree n xs ys → little_number n xs ≡ little_number n ys
 number_same n xs ys a = from_same 0 n xs ys (λ i h. a i (omega arith))
 
 -- a number behind the first bytes
-pub number_same_at : (k n : ℕ) (xs ys : List ℕ) → Agree (k + n) xs ys → little_number n (drop k xs) ≡ little_number n (drop k ys)
+pub number_same_at : (k n : ℕ) (xs ys : List ℕ)
+    → Agree (k + n) xs ys → little_number n (drop k xs) ≡ little_number n (drop k ys)
 number_same_at k n xs ys a = number_same n (drop k xs) (drop k ys) (agree_drop k n xs ys a)
 
 -- a number in the first bytes
-pub number_in_front : (k n : ℕ) (bytes first : List ℕ) → first ≡ take (k + n) bytes → little_number n (drop k first) ≡ little_number n (drop k bytes)
-number_in_front k n bytes first e = ap (λ (xs : List ℕ). little_number n (drop k xs)) e ∙ number_same_at k n (take (k + n) bytes) bytes (agree_take (k + n) bytes)
+pub number_in_front : (k n : ℕ) (bytes first : List ℕ)
+    → first ≡ take (k + n) bytes → little_number n (drop k first) ≡ little_number n (drop k bytes)
+number_in_front k n bytes first e =
+    ap (λ (xs : List ℕ). little_number n (drop k xs)) e
+    ∙ number_same_at k n (take (k + n) bytes) bytes (agree_take (k + n) bytes)
 
 -- ---- numbers that are written
 

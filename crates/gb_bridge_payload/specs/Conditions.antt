@@ -2,7 +2,8 @@
 -- the ops or the entries say.
 use Rattle.std.specs.Prelude.{◌≡◌, ◌<◌, ◌*◌, ◌/◌, ⊤, ℕ, List, length, sum_by}
 use Rattle.gb_formats.specs.I2cRecords.{I2cAsk, op_size, op_written_size, ops_at}
-use Rattle.gb_formats.specs.SpiRecords.{SpiAsk, SpiReply, entries_at, entry_size, entry_written_size, name_size}
+use Rattle.gb_formats.specs.SpiRecords.{SpiAsk, SpiReply, entries_at, entry_size}
+use Rattle.gb_formats.specs.SpiRecords.{entry_written_size, name_size}
 use Rattle.gb_formats.specs.UartRecords.{UartAsk}
 
 -- ops of 6 bytes each, and as many bytes as they write

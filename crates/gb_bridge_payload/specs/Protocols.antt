@@ -1,9 +1,15 @@
 -- The records of each direction of the protocols.
 use Rattle.gb_payload.specs.Meaning.{Format}
-use Rattle.gb_formats.specs.GpioRecords.{GpioAsk, gpio_ask_kind, gpio_ask_payload, read_gpio_ask, GpioReply, gpio_reply_kind, gpio_reply_payload, read_gpio_reply}
-use Rattle.gb_formats.specs.I2cRecords.{I2cAsk, i2c_ask_kind, i2c_ask_payload, read_i2c_ask, I2cReply, i2c_reply_kind, i2c_reply_payload, read_i2c_reply}
-use Rattle.gb_formats.specs.SpiRecords.{SpiAsk, spi_ask_kind, spi_ask_payload, read_spi_ask, SpiReply, spi_reply_kind, spi_reply_payload, read_spi_reply}
-use Rattle.gb_formats.specs.UartRecords.{UartAsk, uart_ask_kind, uart_ask_payload, read_uart_ask, UartReply, uart_reply_kind, uart_reply_payload, read_uart_reply}
+use Rattle.gb_formats.specs.GpioRecords.{GpioAsk, gpio_ask_kind, gpio_ask_payload, read_gpio_ask}
+use Rattle.gb_formats.specs.GpioRecords.{GpioReply, gpio_reply_kind, gpio_reply_payload}
+use Rattle.gb_formats.specs.GpioRecords.{read_gpio_reply}
+use Rattle.gb_formats.specs.I2cRecords.{I2cAsk, i2c_ask_kind, i2c_ask_payload, read_i2c_ask}
+use Rattle.gb_formats.specs.I2cRecords.{I2cReply, i2c_reply_kind, i2c_reply_payload, read_i2c_reply}
+use Rattle.gb_formats.specs.SpiRecords.{SpiAsk, spi_ask_kind, spi_ask_payload, read_spi_ask}
+use Rattle.gb_formats.specs.SpiRecords.{SpiReply, spi_reply_kind, spi_reply_payload, read_spi_reply}
+use Rattle.gb_formats.specs.UartRecords.{UartAsk, uart_ask_kind, uart_ask_payload, read_uart_ask}
+use Rattle.gb_formats.specs.UartRecords.{UartReply, uart_reply_kind, uart_reply_payload}
+use Rattle.gb_formats.specs.UartRecords.{read_uart_reply}
 
 -- requests of the GPIO protocol
 abbrev pub gpio_asks : Format GpioAsk

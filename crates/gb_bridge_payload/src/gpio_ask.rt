@@ -1,7 +1,8 @@
 //! Requests of the GPIO protocol.
 
 ghost use Rattle.std.specs.Prelude.{◌≡◌, IfOk, take};
-ghost use Rattle.gb_formats.specs.GpioRecords.{gpio_ask_kind, gpio_ask_payload, read_gpio_ask, read_gpio_ask_of_ap, read_gpio_ask_of_module};
+ghost use Rattle.gb_formats.specs.GpioRecords.{gpio_ask_kind, gpio_ask_payload, read_gpio_ask};
+ghost use Rattle.gb_formats.specs.GpioRecords.{read_gpio_ask_of_ap, read_gpio_ask_of_module};
 ghost use Rattle.gb_bridge_payload.specs.Protocols.{gpio_asks};
 ghost use Rattle.gb_bridge_payload.specs.Views.{gpio_ask_of};
 ghost use Rattle.gb_payload.specs.Answers.{Answers};

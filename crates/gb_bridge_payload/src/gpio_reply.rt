@@ -1,7 +1,8 @@
 //! Responses of the GPIO protocol.
 
 ghost use Rattle.std.specs.Prelude.{◌≡◌, IfOk, take};
-ghost use Rattle.gb_formats.specs.GpioRecords.{read_gpio_reply, gpio_reply_kind, gpio_reply_payload};
+ghost use Rattle.gb_formats.specs.GpioRecords.{read_gpio_reply, gpio_reply_kind};
+ghost use Rattle.gb_formats.specs.GpioRecords.{gpio_reply_payload};
 ghost use Rattle.gb_bridge_payload.specs.Protocols.{gpio_replies};
 ghost use Rattle.gb_bridge_payload.specs.Views.{gpio_reply_of};
 ghost use Rattle.gb_payload.specs.Answers.{Answers};

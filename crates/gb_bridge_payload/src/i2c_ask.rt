@@ -2,7 +2,8 @@
 
 ghost use Rattle.std.specs.Prelude.{◌≡◌, IfOk, take};
 ghost use Rattle.byteorder.specs.Endian.{little_number};
-ghost use Rattle.gb_formats.specs.I2cRecords.{read_i2c_ask, read_i2c_transfer, i2c_ask_kind, i2c_ask_payload};
+ghost use Rattle.gb_formats.specs.I2cRecords.{read_i2c_ask, read_i2c_transfer, i2c_ask_kind};
+ghost use Rattle.gb_formats.specs.I2cRecords.{i2c_ask_payload};
 ghost use Rattle.gb_bridge_payload.specs.Conditions.{IsI2cAsk};
 ghost use Rattle.gb_bridge_payload.specs.Protocols.{i2c_asks};
 ghost use Rattle.gb_bridge_payload.specs.Views.{i2c_ask_of};

@@ -2,7 +2,8 @@
 
 ghost use Rattle.std.specs.Prelude.{◌≡◌, IfOk, drop, take};
 ghost use Rattle.byteorder.specs.Endian.{little_number};
-ghost use Rattle.gb_formats.specs.SpiRecords.{read_spi_ask, read_spi_transfer, spi_ask_kind, spi_ask_payload};
+ghost use Rattle.gb_formats.specs.SpiRecords.{read_spi_ask, read_spi_transfer, spi_ask_kind};
+ghost use Rattle.gb_formats.specs.SpiRecords.{spi_ask_payload};
 ghost use Rattle.gb_bridge_payload.specs.Conditions.{IsSpiAsk};
 ghost use Rattle.gb_bridge_payload.specs.Protocols.{spi_asks};
 ghost use Rattle.gb_bridge_payload.specs.Views.{spi_ask_of};

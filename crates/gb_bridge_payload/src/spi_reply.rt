@@ -1,7 +1,8 @@
 //! Responses of the SPI protocol.
 
 ghost use Rattle.std.specs.Prelude.{◌≡◌, IfOk, take};
-ghost use Rattle.gb_formats.specs.SpiRecords.{read_device, read_spi_reply, spi_reply_kind, spi_reply_payload};
+ghost use Rattle.gb_formats.specs.SpiRecords.{read_device, read_spi_reply, spi_reply_kind};
+ghost use Rattle.gb_formats.specs.SpiRecords.{spi_reply_payload};
 ghost use Rattle.gb_bridge_payload.specs.Conditions.{IsSpiReply};
 ghost use Rattle.gb_bridge_payload.specs.Protocols.{spi_replies};
 ghost use Rattle.gb_bridge_payload.specs.Views.{spi_reply_of};

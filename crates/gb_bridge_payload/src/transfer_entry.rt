@@ -2,7 +2,8 @@
 
 ghost use Rattle.std.specs.Prelude.{◌≡◌, ◌≤◌, ◌*◌, drop, length, sum_by};
 ghost use Rattle.gb_bridge_payload.specs.Views.{entry_of};
-ghost use Rattle.gb_formats.specs.SpiRecords.{entries_at, entry_at, entry_read_size, entry_reads, entry_size, entry_writes, entry_written_size};
+ghost use Rattle.gb_formats.specs.SpiRecords.{entries_at, entry_at, entry_read_size, entry_reads};
+ghost use Rattle.gb_formats.specs.SpiRecords.{entry_size, entry_writes, entry_written_size};
 
 use byteorder::{ByteOrder, LittleEndian};
 

@@ -2,7 +2,8 @@
 
 ghost use Rattle.std.specs.Prelude.{◌≡◌, ◌≤◌, ◌*◌, drop, length, sum_by};
 ghost use Rattle.gb_bridge_payload.specs.Views.{op_of};
-ghost use Rattle.gb_formats.specs.I2cRecords.{op_at, op_read_size, op_reads, op_size, op_written_size, ops_at};
+ghost use Rattle.gb_formats.specs.I2cRecords.{op_at, op_read_size, op_reads, op_size};
+ghost use Rattle.gb_formats.specs.I2cRecords.{op_written_size, ops_at};
 
 use byteorder::{ByteOrder, LittleEndian};
 

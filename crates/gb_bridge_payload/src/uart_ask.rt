@@ -1,7 +1,9 @@
 //! Requests of the UART protocol.
 
 ghost use Rattle.std.specs.Prelude.{◌≡◌, IfOk, take};
-ghost use Rattle.gb_formats.specs.UartRecords.{read_receive, read_send, read_uart_ask, read_uart_ask_of_ap, read_uart_ask_of_module, uart_ask_kind, uart_ask_payload};
+ghost use Rattle.gb_formats.specs.UartRecords.{read_receive, read_send, read_uart_ask};
+ghost use Rattle.gb_formats.specs.UartRecords.{read_uart_ask_of_ap, read_uart_ask_of_module};
+ghost use Rattle.gb_formats.specs.UartRecords.{uart_ask_kind, uart_ask_payload};
 ghost use Rattle.gb_bridge_payload.specs.Conditions.{IsUartAsk};
 ghost use Rattle.gb_bridge_payload.specs.Protocols.{uart_asks};
 ghost use Rattle.gb_bridge_payload.specs.Views.{uart_ask_of};

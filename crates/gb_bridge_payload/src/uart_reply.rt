@@ -1,7 +1,8 @@
 //! Responses of the UART protocol.
 
 ghost use Rattle.std.specs.Prelude.{◌≡◌, IfOk, take};
-ghost use Rattle.gb_formats.specs.UartRecords.{read_uart_reply, uart_reply_kind, uart_reply_payload};
+ghost use Rattle.gb_formats.specs.UartRecords.{read_uart_reply, uart_reply_kind};
+ghost use Rattle.gb_formats.specs.UartRecords.{uart_reply_payload};
 ghost use Rattle.gb_bridge_payload.specs.Protocols.{uart_replies};
 ghost use Rattle.gb_bridge_payload.specs.Views.{uart_reply_of};
 ghost use Rattle.gb_payload.specs.Answers.{Answers};

@@ -3,7 +3,8 @@
 ghost use Rattle.std.specs.Prelude.{◌≡◌, ◌≤◌, IfOk, IsOkAnd};
 ghost use Rattle.gb_bridge_payload.specs.Serving.{ServesAs};
 ghost use Rattle.gb_bridge_payload.specs.Views.{gpio_ask_of, gpio_reply_of};
-ghost use Rattle.gb_formats.specs.GpioDevice.{first_gpio, gpio_asked, gpio_level_set, gpio_step, restarted_gpio};
+ghost use Rattle.gb_formats.specs.GpioDevice.{first_gpio, gpio_asked, gpio_level_set, gpio_step};
+ghost use Rattle.gb_formats.specs.GpioDevice.{restarted_gpio};
 ghost use Rattle.gb_formats.specs.GpioRecords.{gpio_reply_payload};
 ghost use Rattle.gb_formats.specs.Results.{answer_of};
 ghost use Rattle.gb_gpio.specs.Views.{lines_of};
@@ -38,8 +39,8 @@ impl Model for Device {
 }
 
 impl Device {
-    /// A device in its first state: each line is inactive, in and masked, and all else is 0. It takes
-    /// memory for its answers from `alloc`, and none yet.
+    /// A device in its first state: each line is inactive, in and masked, and all else is 0. It
+    /// takes memory for its answers from `alloc`, and none yet.
     pub fn new(alloc: Global) -> Result<Device, OutOfMemory>
         ensures { IsOkAnd result (λ device. device ≡ first_gpio) }
     {

@@ -1,7 +1,8 @@
 //! A line.
 
 ghost use Rattle.std.specs.Prelude.{◌≡◌, true};
-ghost use Rattle.gb_formats.specs.GpioDevice.{direction_of, direction_out, first_line, is_irq, restarted_line, set_irq, set_value, value_of};
+ghost use Rattle.gb_formats.specs.GpioDevice.{direction_of, direction_out, first_line, is_irq};
+ghost use Rattle.gb_formats.specs.GpioDevice.{restarted_line, set_irq, set_value, value_of};
 ghost use Rattle.gb_gpio.specs.Views.{at_line_of, gpio_line_of};
 
 use crate::irq::Irq;

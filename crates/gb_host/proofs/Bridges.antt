@@ -1,5 +1,7 @@
 -- Bridge lines on connections.
-use Rattle.std.proofs.Common.{◌≡◌, ◌<◌, ◌≤◌, ◌-◌, ◌==◌, ℕ, Bool, true, false, not, cond, nat_le, is_none, Option, Some, None, Ok, Err, List, [], ◌∷◌, refl, sym, ap, ◌∙◌, arith}
+use Rattle.std.proofs.Common.{◌≡◌, ◌<◌, ◌≤◌, ◌-◌, ◌==◌, ℕ, Bool, true, false, not, cond, nat_le}
+use Rattle.std.proofs.Common.{is_none, Option, Some, None, Ok, Err, List, [], ◌∷◌, refl, sym, ap}
+use Rattle.std.proofs.Common.{◌∙◌, arith}
 use Rattle.std.proofs.lemmas.Bool.Decides.{nat_tests}
 use Rattle.std.specs.List.{find}
 use Rattle.gb_base.specs.declared.bridge.BridgeAsk.{BridgeAsk}
@@ -16,16 +18,16 @@ use Rattle.gb_machine.specs.Host.{is_link, link_of, with_link}
 use Rattle.gb_machine.specs.LineActions.{spent}
 use Rattle.gb_machine.specs.Lists.{at_first, first_met}
 
-pub unsupported-is : (a b c : Bool) (request : Request) → cond a (cond b (Err TooLarge) (Ok
-    request)) (Err Unsupported) ≡ Err Unsupported
+pub unsupported-is : (a b c : Bool) (request : Request)
+    → cond a (cond b (Err TooLarge) (Ok request)) (Err Unsupported) ≡ Err Unsupported
     → first_met ((not a, why.Unsupported) ∷ (b, why.TooLarge) ∷ (c, why.NoCredit) ∷ [])
     ≡ Some why.Unsupported
 unsupported-is true true c request h = absurd cc
 unsupported-is true false c request h = absurd cc
 unsupported-is false b c request h = refl
 
-pub too_large-is : (a b c : Bool) (request : Request) → cond a (cond b (Err TooLarge) (Ok request))
-    (Err Unsupported) ≡ Err TooLarge
+pub too_large-is : (a b c : Bool) (request : Request)
+    → cond a (cond b (Err TooLarge) (Ok request)) (Err Unsupported) ≡ Err TooLarge
     → first_met ((not a, why.Unsupported) ∷ (b, why.TooLarge) ∷ (c, why.NoCredit) ∷ [])
     ≡ Some why.TooLarge
 too_large-is true true c request h = refl
@@ -33,10 +35,11 @@ too_large-is true false c request h = absurd cc
 too_large-is false b c request h = absurd cc
 
 -- a request that is written
-pub written-is : (a b c : Bool) (request r : Request) → cond a (cond b (Err TooLarge) (Ok request))
-    (Err Unsupported) ≡ Ok r
-    → (request ≡ r) × (first_met ((not a, why.Unsupported) ∷ (b, why.TooLarge) ∷ (c, why.NoCredit)
-    ∷ []) ≡ cond c (Some why.NoCredit) None)
+pub written-is : (a b c : Bool) (request r : Request)
+    → cond a (cond b (Err TooLarge) (Ok request)) (Err Unsupported) ≡ Ok r
+    → (request ≡ r)
+    × (first_met ((not a, why.Unsupported) ∷ (b, why.TooLarge) ∷ (c, why.NoCredit) ∷ [])
+    ≡ cond c (Some why.NoCredit) None)
 written-is true true c request r h = absurd cc
 written-is true false c request r h = (cc, refl)
 written-is false b c request r h = absurd cc
@@ -64,12 +67,10 @@ takes-credits x h what k o link l n items s e is there taken new =
     ap (λ g. with_link l.intf l.cport (spent what) g) s
     ∙ ap (λ (m : Link). record {
       interfaces = x.interfaces;
-      links = at_first (is_link m.intf
-          m.cport) (with_fewer (credits_taken what)) links;
+      links = at_first (is_link m.intf m.cport) (with_fewer (credits_taken what)) links;
     }) same
     ∙ ap (λ m. record {
       interfaces = x.interfaces;
-      links = at_first (is_link link.intf link.cport)
-          (with_fewer m) links;
+      links = at_first (is_link link.intf link.cport) (with_fewer m) links;
     }) (sym taken)
     ∙ ap (λ ls. record { interfaces = x.interfaces; links = ls }) (sym new)

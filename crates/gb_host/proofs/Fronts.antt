@@ -1,5 +1,6 @@
 -- Acts in front of those of a turn.
-use Rattle.std.proofs.Common.{◌≡◌, Result, Ok, Err, List, [], ◌∷◌, ◌++◌, refl, sym, ap, ◌∙◌, append_assoc, subst}
+use Rattle.std.proofs.Common.{◌≡◌, Result, Ok, Err, List, [], ◌∷◌, ◌++◌, refl, sym, ap, ◌∙◌}
+use Rattle.std.proofs.Common.{append_assoc, subst}
 use Rattle.gb_base.specs.declared.entry.Entry.{Entry}
 use Rattle.gb_base.specs.declared.errors.OutOfMemory.{OutOfMemory}
 use Rattle.gb_base.specs.declared.peers.Link.{Link}
@@ -8,7 +9,7 @@ use Rattle.gb_host.specs.declared.acts.Act.{Act}
 use Rattle.gb_host.specs.declared.host.Host.{Host}
 use Rattle.gb_machine.specs.HostTurns.{links_left}
 use Rattle.gb_machine.specs.Turns as turns
-use Rattle.gb_machine.specs.Turns.{Turn, telling, turn}
+use Rattle.gb_machine.specs.Turns.{Turn}
 
 -- the acts of two lists
 pub spelled-both : (xs ys : List turns.Act) → spelled (xs ++ ys) ≡ spelled xs ++ spelled ys

@@ -1,5 +1,6 @@
 -- A manifest that is refused.
-use Rattle.std.proofs.Common.{◌≡◌, ℕ, Option, Some, None, option_map, Result, Ok, Err, List, sym, ap, ◌∙◌}
+use Rattle.std.proofs.Common.{◌≡◌, ℕ, Option, Some, None, option_map, Result, Ok, Err, List, sym}
+use Rattle.std.proofs.Common.{ap, ◌∙◌}
 use Rattle.gb_base.specs.declared.entry.Entry.TheVariants as entry
 use Rattle.gb_base.specs.declared.steps.Purpose.{Purpose}
 use Rattle.gb_formats.specs.Manifest.{Manifest}
@@ -18,10 +19,10 @@ pub refused-checked : (answer : Result Manifest rules.Refused) (o : Option Refus
     → telling (entry.Manifest p.intf why.at why.reason) (failed_turn (interface_fails p h))
     ≡ manifest_checked answer p bytes h
 refused-checked (Ok m) o why p bytes h e is =
-    let both : Some (refused_of why) ≡ None = sym (ap (λ w. option_map refused_of w) is)
-    ∙ e in absurd cc
+    let both : Some (refused_of why) ≡ None = sym (ap (λ w. option_map refused_of w) is) ∙ e in
+    absurd cc
 refused-checked (Err w) o why p bytes h e is =
     let both : Some (refused_of why) ≡ Some w = sym (ap (λ v. option_map refused_of v) is) ∙ e in
     let same : refused_of why ≡ w = cc in
-    ap (λ (v : rules.Refused). telling (entry.Manifest p.intf v.at v.reason) (failed_turn
-    (interface_fails p h))) same
+    ap (λ (v : rules.Refused).
+    telling (entry.Manifest p.intf v.at v.reason) (failed_turn (interface_fails p h))) same

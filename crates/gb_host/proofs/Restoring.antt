@@ -1,5 +1,6 @@
 -- What was changed first is put back.
-use Rattle.std.proofs.Common.{◌≡◌, ℕ, Bool, true, false, cond, Option, Some, None, List, [], ◌∷◌, refl, sym, ap, ◌∙◌}
+use Rattle.std.proofs.Common.{◌≡◌, ℕ, Bool, true, false, cond, Option, Some, None, List, [], ◌∷◌}
+use Rattle.std.proofs.Common.{refl, sym, ap, ◌∙◌}
 use Rattle.std.specs.List.{find}
 use Rattle.gb_base.specs.declared.peers.Interface.{Interface}
 use Rattle.gb_host.specs.Changes.{changed}
@@ -9,9 +10,9 @@ use Rattle.gb_machine.specs.Host.{is_intf}
 use Rattle.gb_machine.specs.Lists.{at_first}
 
 -- the first that passes a test is changed, and then changed to what it was
-pub restored : {A : Type 0} (test : A → Bool) (f g : A → A) (xs : List A) → ((x : A)
-    → test (f x) ≡ test x)
-    → ((x : A) → find test xs ≡ Some x → g (f x) ≡ x) → at_first test g (at_first test f xs) ≡ xs
+pub restored : {A : Type 0} (test : A → Bool) (f g : A → A) (xs : List A)
+    → ((x : A) → test (f x) ≡ test x) → ((x : A) → find test xs ≡ Some x → g (f x) ≡ x)
+    → at_first test g (at_first test f xs) ≡ xs
 restored test f g [] same back = refl
 restored {A} test f g (x ∷ xs) same back = by (test x) refl (restored test f g xs same)
   where
@@ -35,9 +36,9 @@ none-back test f g xs o same e is =
     restored test f g xs same (λ x h. let both : Some x ≡ None = sym h ∙ sym e ∙ is in absurd cc)
 
 -- where one passes
-pub one-back : {A : Type 0} (test : A → Bool) (f g : A → A) (xs : List A) (o : Option A) (d : A) →
-    ((x : A) → test (f x) ≡ test x)
-    → o ≡ find test xs → o ≡ Some d → g (f d) ≡ d → at_first test g (at_first test f xs) ≡ xs
+pub one-back : {A : Type 0} (test : A → Bool) (f g : A → A) (xs : List A) (o : Option A) (d : A)
+    → ((x : A) → test (f x) ≡ test x) → o ≡ find test xs → o ≡ Some d → g (f d) ≡ d
+    → at_first test g (at_first test f xs) ≡ xs
 one-back test f g xs o d same e is back =
     restored test f g xs same (λ x h.
     let both : Some d ≡ Some x = sym is ∙ e ∙ h in
@@ -50,9 +51,9 @@ changed-keeps i (change.HasDevice b) x = refl
 changed-keeps i (change.Size n) x = refl
 
 -- an interface is put back, where there is one
-pub changed-back : (i : ℕ) (c b : Change) (xs : List Interface) (o : Option Interface) (d :
-    Interface) → o ≡ find (is_intf i) xs → o ≡ Some d
-    → changed b (changed c d) ≡ d → at_first (is_intf i) (changed b) (at_first (is_intf i) (changed
-    c) xs) ≡ xs
-changed-back i c b xs o d e is back = one-back (is_intf i) (changed c) (changed b) xs o d
-    (changed-keeps i c) e is back
+pub changed-back : (i : ℕ) (c b : Change) (xs : List Interface) (o : Option Interface)
+    (d : Interface)
+    → o ≡ find (is_intf i) xs → o ≡ Some d → changed b (changed c d) ≡ d
+    → at_first (is_intf i) (changed b) (at_first (is_intf i) (changed c) xs) ≡ xs
+changed-back i c b xs o d e is back =
+    one-back (is_intf i) (changed c) (changed b) xs o d (changed-keeps i c) e is back

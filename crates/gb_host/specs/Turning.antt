@@ -10,7 +10,7 @@ use Rattle.gb_host.specs.declared.host.Host.{Host}
 use Rattle.gb_machine.specs.Failures.{link_told}
 use Rattle.gb_machine.specs.Host as machine
 use Rattle.gb_machine.specs.Turns as turns
-use Rattle.gb_machine.specs.Turns.{Asking, Making, Turn}
+use Rattle.gb_machine.specs.Turns.{Asking, Turn}
 
 -- a request that is made
 abbrev pub asks : Asking → Act

@@ -3,7 +3,8 @@
 ghost use Rattle.std.specs.Prelude.{◌≡◌, ◌∷◌, ◌++◌, [], IfOk, find};
 ghost use Rattle.gb_host.specs.Asking.{target_of};
 ghost use Rattle.gb_machine.specs.Host.{in_state, interface_of, with_interface, with_link, link_at};
-ghost use Rattle.gb_machine.specs.Sequences.{ap_in, asking, device_in, goes_on, opens, step_asked, target, way_of};
+ghost use Rattle.gb_machine.specs.Sequences.{ap_in, asking, device_in, goes_on, opens, step_asked};
+ghost use Rattle.gb_machine.specs.Sequences.{target, way_of};
 
 use crate::failing::to_step;
 use crate::host::Pending;

@@ -9,7 +9,9 @@ ghost use Rattle.gb_machine.specs.Failures.{interface_fails};
 ghost use Rattle.gb_machine.specs.Host.{free_cport, free_device, interface_of, with_interface};
 ghost use Rattle.gb_machine.specs.HostTurns.{host_inserted};
 ghost use Rattle.gb_machine.specs.SequenceSteps.{at_step};
-ghost use Rattle.gb_machine.specs.Sequences.{begins_control, begins_device, control_opened, device_given, enumerated, manifest_checked, manifest_told, size_known, size_told};
+ghost use Rattle.gb_machine.specs.Sequences.{begins_control, begins_device, control_opened};
+ghost use Rattle.gb_machine.specs.Sequences.{device_given, enumerated, manifest_checked};
+ghost use Rattle.gb_machine.specs.Sequences.{manifest_told, size_known, size_told};
 ghost use Rattle.gb_machine.specs.Turns as turns;
 ghost use Rattle.gb_machine.specs.Turns.{failed_turn, telling, turn};
 

@@ -1,9 +1,11 @@
 //! The interfaces that modules were inserted at.
 
-ghost use Rattle.std.specs.Prelude.{◌≡◌, ◌<◌, ◌≤◌, nat_lt, [], None, IfSome, OnErr, OnOk, find, insert, length, option_copied};
+ghost use Rattle.std.specs.Prelude.{◌≡◌, ◌<◌, ◌≤◌, nat_lt, [], None, IfSome, OnErr, OnOk, find};
+ghost use Rattle.std.specs.Prelude.{insert, length, option_copied};
 ghost use Rattle.std.specs.List.{list_any, position_from};
 ghost use Rattle.gb_host.specs.declared.interfaces.Change.TheVariants as change;
-ghost use Rattle.gb_machine.specs.Host.{has_device_id, intf_before, is_device, is_intf, new_interface, staged};
+ghost use Rattle.gb_machine.specs.Host.{has_device_id, intf_before, is_device, is_intf};
+ghost use Rattle.gb_machine.specs.Host.{new_interface, staged};
 ghost use Rattle.gb_machine.specs.Lists.{at_first, first_free, in_order, without};
 ghost use Rattle.gb_machine.specs.Sequences.{enumerated};
 ghost use Rattle.gb_machine.specs.Waits.{interface_waits};

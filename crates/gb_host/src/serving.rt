@@ -6,7 +6,10 @@ ghost use Rattle.gb_bridge_payload.specs.Views.{gpio_ask_of, uart_ask_of};
 ghost use Rattle.gb_formats.specs.Results as formats;
 ghost use Rattle.gb_formats.specs.UartDevice.{credits_added};
 ghost use Rattle.gb_machine.specs.Host as machine;
-ghost use Rattle.gb_machine.specs.HostServing.{credited, host_answers, host_notices, host_refuses, host_serves, host_tells, host_version, interrupted, notified, served_on, serves_gpio, serves_svc, serves_uart, uart_notified};
+ghost use Rattle.gb_machine.specs.HostServing.{credited, host_answers, host_notices, host_refuses};
+ghost use Rattle.gb_machine.specs.HostServing.{host_serves, host_tells, host_version, interrupted};
+ghost use Rattle.gb_machine.specs.HostServing.{notified, served_on, serves_gpio, serves_svc};
+ghost use Rattle.gb_machine.specs.HostServing.{serves_uart, uart_notified};
 ghost use Rattle.gb_payload.specs.Answers.{fault_of};
 ghost use Rattle.gb_payload.specs.Views.{svc_ask_of};
 

@@ -1,5 +1,6 @@
 -- What the ops of a transfer are refused for.
-use Rattle.std.specs.Prelude.{◌≡◌, ℕ, nat_lt, if◌then◌else◌, Option, Some, None, Result, Ok, Err, List, sum_by}
+use Rattle.std.specs.Prelude.{◌≡◌, ℕ, nat_lt, if◌then◌else◌, Option, Some, None, Result, Ok, Err}
+use Rattle.std.specs.Prelude.{List, sum_by}
 use Rattle.std.specs.List.{list_any}
 use Rattle.gb_formats.specs.I2cDevice.{has_strange_flags, is_elsewhere}
 use Rattle.gb_formats.specs.I2cRecords.{TransferOp, op_read_size}

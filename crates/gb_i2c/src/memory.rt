@@ -1,7 +1,8 @@
 //! The memory and its pointer.
 
 ghost use Rattle.std.specs.Prelude.{◌≡◌, ◌++◌, OnOk};
-ghost use Rattle.gb_formats.specs.I2cDevice.{after_byte, after_read, after_write, first_i2c, read_from};
+ghost use Rattle.gb_formats.specs.I2cDevice.{after_byte, after_read, after_write, first_i2c};
+ghost use Rattle.gb_formats.specs.I2cDevice.{read_from};
 
 use gb_base::{Bytes, OutOfMemory};
 use std::marker::Model;

@@ -1,5 +1,6 @@
 -- Descriptors that were passed, and those that a walk has before it.
-use Rattle.std.proofs.Common.{◌≡◌, List, [], ◌∷◌, ◌++◌, Result, Ok, Err, refl, sym, ap, ◌∙◌, append_assoc, append-nil}
+use Rattle.std.proofs.Common.{◌≡◌, List, [], ◌∷◌, ◌++◌, Result, Ok, Err, refl, sym, ap, ◌∙◌}
+use Rattle.std.proofs.Common.{append_assoc}
 use Rattle.gb_formats.specs.Manifest.{in_front}
 use Rattle.gb_formats.specs.ManifestRules.{Placed, Refused}
 
@@ -12,18 +13,12 @@ pub behind-none : (walk : Result (List Placed) Refused) → walk ≡ behind [] w
 behind-none (Ok ds) = refl
 behind-none (Err why) = refl
 
-pub behind-more : (before : List Placed) (d : Placed) (walk : Result (List Placed) Refused) → behind before (in_front d walk) ≡ behind (before ++ d ∷ []) walk
+pub behind-more : (before : List Placed) (d : Placed) (walk : Result (List Placed) Refused)
+    → behind before (in_front d walk) ≡ behind (before ++ d ∷ []) walk
 behind-more before d (Ok ds) = ap (λ xs. Ok xs) (sym (append_assoc before (d ∷ []) ds))
 behind-more before d (Err why) = refl
 
 -- one descriptor was passed
-pub behind_passed : (before : List Placed) (d : Placed) (all old new : Result (List Placed) Refused) → all ≡ behind before old → old ≡ in_front d new → all ≡ behind (before ++ d ∷ []) new
+pub behind_passed : (before : List Placed) (d : Placed) (all old new : Result (List Placed) Refused)
+    → all ≡ behind before old → old ≡ in_front d new → all ≡ behind (before ++ d ∷ []) new
 behind_passed before d all old new e p = e ∙ ap (λ r. behind before r) p ∙ behind-more before d new
-
--- all were passed
-pub behind_end : (before : List Placed) (all old : Result (List Placed) Refused) → all ≡ behind before old → old ≡ Ok [] → all ≡ Ok before
-behind_end before all old e p = e ∙ ap (λ r. behind before r) p ∙ ap (λ xs. Ok xs) (append-nil before)
-
--- the next is refused
-pub behind_refused : (before : List Placed) (why : Refused) (all old : Result (List Placed) Refused) → all ≡ behind before old → old ≡ Err why → all ≡ Err why
-behind_refused before why all old e p = e ∙ ap (λ r. behind before r) p

@@ -1,6 +1,10 @@
 -- What the code keeps of the descriptors that it has met.
 use Rattle.std.specs.Prelude.{◌≡◌, ◌<◌, ℕ, None, List, []}
-use Rattle.gb_formats.specs.ManifestRules.{Placed, first_breach, has, is_interface, is_string, is_bundle, is_cport, second_interface, string_zero, string_twice, bundle_twice, cport_above, cport_twice, wrong_control, without_bundle, without_vendor, without_product}
+use Rattle.gb_formats.specs.ManifestRules.{Placed, first_breach, has, is_interface, is_string}
+use Rattle.gb_formats.specs.ManifestRules.{is_bundle, is_cport, second_interface, string_zero}
+use Rattle.gb_formats.specs.ManifestRules.{string_twice, bundle_twice, cport_above, cport_twice}
+use Rattle.gb_formats.specs.ManifestRules.{wrong_control, without_bundle, without_vendor}
+use Rattle.gb_formats.specs.ManifestRules.{without_product}
 use Rattle.gb_manifest.specs.Declarations.{is_met}
 use Rattle.gb_manifest.specs.declared.declared.MetInterfaces.{MetInterfaces}
 use Rattle.gb_manifest.specs.declared.declared.MetStrings.{MetStrings}

@@ -1,5 +1,6 @@
 -- Walks over bytes that are to be descriptors.
-use Rattle.std.specs.Prelude.{◌≡◌, ◌<◌, ◌≤◌, ℕ, Option, Some, None, Result, Ok, Err, List, [], length, map}
+use Rattle.std.specs.Prelude.{◌≡◌, ◌<◌, ◌≤◌, ℕ, Option, Some, None, Result, Ok, Err, List, []}
+use Rattle.std.specs.Prelude.{length, map}
 use Rattle.gb_formats.specs.Descriptors.{size_at, least_size_at}
 use Rattle.gb_formats.specs.Descriptors as formats
 use Rattle.gb_formats.specs.Manifest.{descriptor_refusal, descriptors_from, in_front}

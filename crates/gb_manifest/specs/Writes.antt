@@ -1,11 +1,13 @@
 -- What writing a spec answers.
-use Rattle.std.specs.Prelude.{◌≡◌, ◌<◌, ◌≤◌, ℕ, ⊤, Option, Some, None, Result, Ok, Err, List, [], ◌∷◌, ◌++◌, length, map}
+use Rattle.std.specs.Prelude.{◌≡◌, ◌<◌, ◌≤◌, ℕ, ⊤, Option, Some, None, Result, Ok, Err, List, []}
+use Rattle.std.specs.Prelude.{◌∷◌, ◌++◌, length, map}
 use Rattle.gb_formats.specs.Descriptors as descriptors
 use Rattle.gb_formats.specs.Descriptors.{IdFits}
 use Rattle.gb_formats.specs.Manifest as manifest
 use Rattle.gb_formats.specs.ManifestRules.{Placed}
 use Rattle.gb_formats.specs.ManifestSpec as formats
-use Rattle.gb_formats.specs.ManifestSpec.{string_descriptor, bundle_descriptor, cport_descriptor, plain_size, spec_descriptors}
+use Rattle.gb_formats.specs.ManifestSpec.{string_descriptor, bundle_descriptor, cport_descriptor}
+use Rattle.gb_formats.specs.ManifestSpec.{plain_size, spec_descriptors}
 use Rattle.gb_manifest.specs.Declarations.{place}
 use Rattle.gb_manifest.specs.Values.{descriptor_of}
 use Rattle.gb_manifest.specs.declared.descriptor.Descriptor.{Descriptor}

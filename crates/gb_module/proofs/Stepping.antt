@@ -1,12 +1,13 @@
 -- What one CPort does is what the module does.
-use Rattle.std.proofs.Common.{◌≡◌, ℕ, Bool, true, false, cond, Option, Some, None, option_map, Result, Ok, Err, List, set, refl, sym, ap, ◌∙◌, subst}
+use Rattle.std.proofs.Common.{◌≡◌, ℕ, Bool, true, false, cond, Option, Some, None, option_map}
+use Rattle.std.proofs.Common.{Result, Ok, Err, List, set, refl, sym, ap, ◌∙◌, subst}
 use Rattle.std.specs.List.{find}
 use Rattle.gb_base.specs.declared.errors.OutOfMemory.{OutOfMemory}
 use Rattle.gb_base.specs.declared.served.OwnAsk.{OwnAsk}
 use Rattle.gb_base.specs.declared.served.Served.{Served}
 use Rattle.gb_bridge_payload.specs.Serving.{ServesAs}
 use Rattle.gb_formats.specs.ControlResponder.{turn_step}
-use Rattle.gb_formats.specs.Devices.{Device, device_step, device_stir}
+use Rattle.gb_formats.specs.Devices.{Device, device_stir}
 use Rattle.gb_formats.specs.Devices as devices
 use Rattle.gb_formats.specs.Module.{Module, ModulePort, if_on, is_port, with_port}
 use Rattle.gb_formats.specs.ModuleSteps.{port_served, port_stirred}

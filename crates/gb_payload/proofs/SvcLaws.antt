@@ -1,7 +1,8 @@
 -- The tables of the SVC protocol have its records.
 use Rattle.std.proofs.Common.{◌≢◌, None, rules}
 use Rattle.gb_formats.specs.Records.{row_of}
-use Rattle.gb_formats.specs.SvcRecords.{SvcAsk, svc_asks, svc_ask_kind, svc_ask_payload, SvcReply, svc_replies, svc_reply_kind, svc_reply_payload}
+use Rattle.gb_formats.specs.SvcRecords.{SvcAsk, svc_asks, svc_ask_kind, svc_ask_payload, SvcReply}
+use Rattle.gb_formats.specs.SvcRecords.{svc_replies, svc_reply_kind, svc_reply_payload}
 use Rattle.gb_payload.proofs.Tables.{AreSpelt}
 
 -- the rows of requests

@@ -1,13 +1,13 @@
--- What reading and writing mean, in words that don't go by the tables: the type and the payload of a
--- record, and what can become of the beginning of a payload.
+-- What reading and writing mean, in words that don't go by the tables: the type and the payload of
+-- a record, and what can become of the beginning of a payload.
 use Rattle.std.specs.Prelude.{◌≡◌, ◌≢◌, ◌<◌, ◌≤◌, ℕ, Result, Ok, Err, List, ◌++◌, length, take}
 use Rattle.gb_base.specs.Bytes.{AreBytes}
 use Rattle.gb_formats.specs.Records as formats
 use Rattle.gb_payload.specs.declared.fault.PayloadFault.{PayloadFault}
 use Rattle.gb_payload.specs.declared.fault.PayloadFault.TheVariants as fault
 
--- The records of one direction of a protocol: which one a payload of a type is, and the type and the
--- payload of each.
+-- The records of one direction of a protocol: which one a payload of a type is, and the type and
+-- the payload of each.
 pub record Format (A : Type 0) : Type 0 where
   pub read : ℕ → List ℕ → Result A formats.PayloadFault
   pub kind : A → ℕ

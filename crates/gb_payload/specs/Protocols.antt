@@ -1,6 +1,9 @@
 -- The records of each direction of the protocols.
-use Rattle.gb_formats.specs.ControlRecords.{ControlAsk, control_ask_kind, control_ask_payload, read_control_ask, ControlReply, control_reply_kind, control_reply_payload, read_control_reply}
-use Rattle.gb_formats.specs.SvcRecords.{SvcAsk, svc_ask_kind, svc_ask_payload, read_svc_ask, SvcReply, svc_reply_kind, svc_reply_payload, read_svc_reply}
+use Rattle.gb_formats.specs.ControlRecords.{ControlAsk, control_ask_kind, control_ask_payload}
+use Rattle.gb_formats.specs.ControlRecords.{read_control_ask, ControlReply, control_reply_kind}
+use Rattle.gb_formats.specs.ControlRecords.{control_reply_payload, read_control_reply}
+use Rattle.gb_formats.specs.SvcRecords.{SvcAsk, svc_ask_kind, svc_ask_payload, read_svc_ask}
+use Rattle.gb_formats.specs.SvcRecords.{SvcReply, svc_reply_kind, svc_reply_payload, read_svc_reply}
 use Rattle.gb_payload.specs.Meaning.{Format}
 
 -- requests of the SVC protocol

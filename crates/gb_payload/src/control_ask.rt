@@ -1,7 +1,8 @@
 //! Requests of the Control protocol.
 
 ghost use Rattle.std.specs.Prelude.{◌≡◌, IfOk, take};
-ghost use Rattle.gb_formats.specs.ControlRecords.{read_control_ask, control_ask_kind, control_ask_payload};
+ghost use Rattle.gb_formats.specs.ControlRecords.{read_control_ask, control_ask_kind};
+ghost use Rattle.gb_formats.specs.ControlRecords.{control_ask_payload};
 ghost use Rattle.gb_payload.specs.Answers.{Answers};
 ghost use Rattle.gb_payload.specs.Fields.{Puts};
 ghost use Rattle.gb_payload.specs.Meaning.{IsRead, Means};
@@ -59,7 +60,8 @@ impl ControlAsk {
     /// Writes the payload to the front of `out`, and answers its length. NoRoom exactly where `out`
     /// is shorter, and `out` is then unchanged.
     pub fn write(&self, out: &mut [u8]) -> Result<usize, NoRoom>
-        ensures bytes { Puts (control_ask_payload (control_ask_of self.now)) out.old out.new result }
+        ensures bytes { Puts (control_ask_payload (control_ask_of self.now)) out.old out.new
+            result }
         ensures again { IfOk result
             (λ n. IsRead control_asks (control_ask_of self.now) (take n out.new)) }
     {

@@ -1,7 +1,8 @@
 //! Responses of the Control protocol.
 
 ghost use Rattle.std.specs.Prelude.{◌≡◌, IfOk, take};
-ghost use Rattle.gb_formats.specs.ControlRecords.{read_control_reply, control_reply_kind, control_reply_payload};
+ghost use Rattle.gb_formats.specs.ControlRecords.{read_control_reply, control_reply_kind};
+ghost use Rattle.gb_formats.specs.ControlRecords.{control_reply_payload};
 ghost use Rattle.gb_payload.specs.Answers.{Answers};
 ghost use Rattle.gb_payload.specs.Fields.{Puts};
 ghost use Rattle.gb_payload.specs.Meaning.{IsRead, Means};

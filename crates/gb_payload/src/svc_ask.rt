@@ -3,7 +3,8 @@
 ghost use Rattle.std.specs.Prelude.{◌≡◌, true, IfOk, take};
 ghost use Rattle.gb_formats.specs.Records.{is_own, row_of};
 ghost use Rattle.gb_formats.specs.SvcRecords as records;
-ghost use Rattle.gb_formats.specs.SvcRecords.{read_svc_ask, read_svc_ask_of_ap, read_svc_ask_of_svc, svc_ask_kind, svc_ask_payload};
+ghost use Rattle.gb_formats.specs.SvcRecords.{read_svc_ask, read_svc_ask_of_ap};
+ghost use Rattle.gb_formats.specs.SvcRecords.{read_svc_ask_of_svc, svc_ask_kind, svc_ask_payload};
 ghost use Rattle.gb_payload.specs.Answers.{Answers};
 ghost use Rattle.gb_payload.specs.Fields.{Puts};
 ghost use Rattle.gb_payload.specs.Groups.{is_link};
@@ -147,8 +148,8 @@ impl SvcAsk {
         row(kind, payload)
     }
 
-    /// Reads the payload of a type of which the supervisory controller makes the requests. The other
-    /// types are unknown.
+    /// Reads the payload of a type of which the supervisory controller makes the requests. The
+    /// other types are unknown.
     pub fn read_of_svc(kind: u8, payload: &[u8]) -> Result<SvcAsk, PayloadFault>
         ensures { Answers svc_ask_of (read_svc_ask_of_svc kind payload.now) result }
     {

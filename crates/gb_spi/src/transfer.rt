@@ -1,10 +1,12 @@
 //! What the entries of a transfer ask, and what they read.
 
-ghost use Rattle.std.specs.Prelude.{◌≡◌, ◌≤◌, ◌++◌, [], ◌+◌, IfOk, OnOk, nat_le, length, take, drop, sum_by};
+ghost use Rattle.std.specs.Prelude.{◌≡◌, ◌≤◌, ◌++◌, [], ◌+◌, IfOk, OnOk, nat_le, length, take};
+ghost use Rattle.std.specs.Prelude.{drop, sum_by};
 ghost use Rattle.std.specs.List.{list_any};
 ghost use Rattle.gb_bridge_payload.specs.Views.{entry_of};
 ghost use Rattle.gb_formats.specs.Results.{most_payload, tells};
-ghost use Rattle.gb_formats.specs.SpiDevice.{entries_run, entry_read_bytes, entry_written_bytes, is_strange, last_of};
+ghost use Rattle.gb_formats.specs.SpiDevice.{entries_run, entry_read_bytes, entry_written_bytes};
+ghost use Rattle.gb_formats.specs.SpiDevice.{is_strange, last_of};
 ghost use Rattle.gb_formats.specs.SpiRecords.{entry_read_size, entry_written_size};
 ghost use Rattle.gb_spi.specs.Sizes.{entries_in};
 

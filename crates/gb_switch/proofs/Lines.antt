@@ -1,5 +1,7 @@
 -- What the maps of queues come to at each call.
-use Rattle.std.proofs.Common.{◌≡◌, ◌≢◌, Bool, true, false, cond, ◌⊎◌, inl, inr, Option, Some, None, option_map, is_some, List, [], ◌∷◌, ◌++◌, length, Result, Ok, Err, OnErr, OnOk, refl, sym, ap, ◌∙◌, ⊎_elim, ◌<◌, arith}
+use Rattle.std.proofs.Common.{◌≡◌, ◌≢◌, Bool, true, false, cond, ◌⊎◌, inl, inr, Option, Some, None}
+use Rattle.std.proofs.Common.{option_map, is_some, List, [], ◌∷◌, ◌++◌, length, Result, Ok, Err}
+use Rattle.std.proofs.Common.{OnErr, OnOk, refl, sym, ap, ◌∙◌, ⊎_elim, ◌<◌, arith}
 use Rattle.std.proofs.lemmas.Bool.{true≢false}
 use Rattle.std.specs.BTreeMap.{BTreeMap, get, is_at}
 use Rattle.std.specs.BTreeSet.{BTreeSet, IsLowerBound, btree_set_len, contains}
@@ -9,10 +11,12 @@ use Rattle.std.specs.Ordering.{is_eq, is_gt}
 use Rattle.std.specs.declared.collections.VecDeque.{VecDeque}
 use Rattle.gb_base.specs.declared.end.End.{End}
 use Rattle.gb_machine.specs.Waiting.{end_before}
-use Rattle.gb_switch.proofs.Places.{end-place, place-end, place-other, place-own, place-same, places-apart, settled-before}
+use Rattle.gb_switch.proofs.Places.{end-place, place-end, place-other, place-own, place-same}
+use Rattle.gb_switch.proofs.Places.{places-apart, settled-before}
 use Rattle.gb_switch.specs.Lines.{Agrees, by_place, has_items, line_in, lines_of}
 use Rattle.gb_switch.specs.Places.{end_of, place_of}
-use Rattle.gb_switch.specs.Queues.{Appends, Creates, Destroys, IsFirst, Puts, StaysSame, TakesAs, items_at}
+use Rattle.gb_switch.specs.Queues.{Appends, Creates, Destroys, IsFirst, Puts, StaysSame, TakesAs}
+use Rattle.gb_switch.specs.Queues.{items_at}
 use Rattle.gb_switch.specs.declared.place.Place.{Place}
 
 -- what contracts see at an end is what the map has at its place

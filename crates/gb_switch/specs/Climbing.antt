@@ -1,5 +1,6 @@
 -- What a ladder answers to a climb and to the loss of a route.
-use Rattle.std.specs.Prelude.{◌≡◌, ◌≢◌, ◌<◌, ◌≤◌, ℕ, Bool, true, false, ⊤, Option, Some, None, option_and_then, Result, Ok, Err, List, [], ◌∷◌}
+use Rattle.std.specs.Prelude.{◌≡◌, ◌≢◌, ◌<◌, ◌≤◌, ℕ, Bool, true, false, ⊤, Option, Some, None}
+use Rattle.std.specs.Prelude.{option_and_then, Result, Ok, Err, List, [], ◌∷◌}
 use Rattle.gb_formats.specs.SvcRecords.{SvcAsk}
 use Rattle.gb_machine.specs.Host.{is_device}
 use Rattle.gb_machine.specs.Ports.{level_of, unrouted}

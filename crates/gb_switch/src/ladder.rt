@@ -1,6 +1,7 @@
 //! The power levels and device ids of interfaces.
 
-ghost use Rattle.std.specs.Prelude.{◌≡◌, ◌<◌, ◌≤◌, ◌==◌, nat_lt, not, ℕ, [], List, IsErr, false, option_and_then};
+ghost use Rattle.std.specs.Prelude.{◌≡◌, ◌<◌, ◌≤◌, ◌==◌, nat_lt, not, ℕ, [], List, IsErr, false};
+ghost use Rattle.std.specs.Prelude.{option_and_then};
 ghost use Rattle.gb_machine.specs.Host.{is_device};
 ghost use Rattle.gb_machine.specs.Ports.{is_powered, level_of, powered, unpowered};
 ghost use Rattle.gb_machine.specs.State as machine;

@@ -1,5 +1,6 @@
 -- What an answer of decoding says of the bytes.
-use Rattle.std.proofs.Common.{◌≡◌, ℕ, ◌≤◌, List, length, take, Result, Ok, Err, sym, ap, ◌∙◌, IfOk, IsOkAnd}
+use Rattle.std.proofs.Common.{◌≡◌, ℕ, ◌≤◌, List, length, take, Result, Ok, Err, sym, ap, ◌∙◌, IfOk}
+use Rattle.std.proofs.Common.{IsOkAnd}
 use Rattle.gb_base.specs.Bytes.{AreBytes}
 use Rattle.gb_base.specs.declared.fault.WireFault.{WireFault}
 use Rattle.gb_formats.specs.Message as formats
@@ -10,12 +11,16 @@ use Rattle.gb_wire.specs.declared.message.Message.{Message}
 use Rattle.gb_wire.proofs.Spellings.{decoded-spells, spelled-decodes}
 
 -- what is answered is spelled by the first bytes
-pub answer-spells : (r : Result (Message × ℕ) WireFault) (bytes : List ℕ) → AreBytes bytes → answer_of r ≡ decode_answer bytes → IfOk r (λ found. (found.1 ≤ length bytes) × Spells (take found.1 bytes) (message_of found.0))
-answer-spells (Ok found) bytes fits e = decoded-spells bytes (message_of found.0) found.1 fits (sym e)
+pub answer-spells : (r : Result (Message × ℕ) WireFault) (bytes : List ℕ) → AreBytes bytes
+    → answer_of r ≡ decode_answer bytes
+    → IfOk r (λ found. (found.1 ≤ length bytes) × Spells (take found.1 bytes) (message_of found.0))
+answer-spells (Ok found) bytes fits e =
+    decoded-spells bytes (message_of found.0) found.1 fits (sym e)
 answer-spells (Err fault) bytes fits e = tt
 
 -- an answer that is this message and size
-same-answer : (r : Result (Message × ℕ) WireFault) (m : formats.Message) (n : ℕ) → answer_of r ≡ Ok (m, n) → IsOkAnd r (λ found. (message_of found.0 ≡ m) × (found.1 ≡ n))
+same-answer : (r : Result (Message × ℕ) WireFault) (m : formats.Message) (n : ℕ)
+    → answer_of r ≡ Ok (m, n) → IsOkAnd r (λ found. (message_of found.0 ≡ m) × (found.1 ≡ n))
 same-answer (Ok found) m n e = (ap first e, ap second e)
   where
     first : Result (formats.Message × ℕ) WireFault → formats.Message
@@ -28,5 +33,7 @@ same-answer (Ok found) m n e = (ap first e, ap second e)
 same-answer (Err fault) m n e = cc
 
 -- what the first bytes spell is answered
-pub answer-only : (r : Result (Message × ℕ) WireFault) (bytes : List ℕ) → answer_of r ≡ decode_answer bytes → (m : formats.Message) (n : ℕ) → n ≤ length bytes → Spells (take n bytes) m → IsOkAnd r (λ found. (message_of found.0 ≡ m) × (found.1 ≡ n))
+pub answer-only : (r : Result (Message × ℕ) WireFault) (bytes : List ℕ)
+    → answer_of r ≡ decode_answer bytes → (m : formats.Message) (n : ℕ) → n ≤ length bytes
+    → Spells (take n bytes) m → IsOkAnd r (λ found. (message_of found.0 ≡ m) × (found.1 ≡ n))
 answer-only r bytes e m n l s = same-answer r m n (e ∙ spelled-decodes bytes m n l s)

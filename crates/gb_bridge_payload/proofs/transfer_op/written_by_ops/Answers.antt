@@ -6,4 +6,7 @@ use Rattle.gb_bridge_payload.proofs.transfer_op.written_by_ops.Goals as goal
 
 pub loop-preserved : goal.loop-preserved
 loop-preserved c =
-    counted_more op_size op_weight ops_weight 65535 c.args.count c.loop.counter c.loop.size c.written_size.result c.args.ops.now c.loop.rest.now _ are_ops (search rules) c.first.ensures.rest (c.written_size.ensures ∙ ap op_written_size c.first.ensures.op) (search rules) c.loop.invariant
+    counted_more op_size op_weight ops_weight 65535 c.args.count c.loop.counter c.loop.size
+    c.written_size.result c.args.ops.now c.loop.rest.now _ are_ops (search rules)
+    c.first.ensures.rest (c.written_size.ensures ∙ ap op_written_size c.first.ensures.op)
+    (search rules) c.loop.invariant

@@ -4,4 +4,5 @@ use Rattle.gb_bridge_payload.proofs.writing.put_behind.Goals as goal
 
 pub returns-clause-bytes : goal.returns-clause-bytes
 returns-clause-bytes c = λ front base e f.
-    fronted_more front (spelled c.args.fields.now) base c.args.out.now c.put.new.out c.args.at e c.requires c.in-Ok.ensures.2 f
+    fronted_more front (spelled c.args.fields.now) base c.args.out.now c.put.new.out c.args.at e
+    c.requires c.in-Ok.ensures.2 f

@@ -8,8 +8,11 @@ use Rattle.gb_i2c.proofs.bridging.transfer.Given as goal
 
 abbrev pub invariant-loop-op : goal.invariant-loop-op
 invariant-loop-op l =
-    Putting (i2c_ask_payload (i2c_transfer l.ops)) (concat (map i2c_op_bytes (drop l.op-index l.ops)) ++ concat (map i2c_written l.ops)) l.at l.fn.out l.out
+    Putting (i2c_ask_payload (i2c_transfer l.ops))
+    (concat (map i2c_op_bytes (drop l.op-index l.ops)) ++ concat (map i2c_written l.ops)) l.at
+    l.fn.out l.out
 
 abbrev pub invariant-loop-op-2 : goal.invariant-loop-op-2
 invariant-loop-op-2 l =
-    Putting (i2c_ask_payload (i2c_transfer l.ops)) (concat (map i2c_written (drop l.op-index l.ops))) l.at l.fn.out l.out
+    Putting (i2c_ask_payload (i2c_transfer l.ops))
+    (concat (map i2c_written (drop l.op-index l.ops))) l.at l.fn.out l.out

@@ -5,4 +5,8 @@ use Rattle.gb_i2c.proofs.transfer.run.Goals as goal
 
 pub loop-preserved : goal.loop-preserved
 loop-preserved c =
-    runs_more c.args.count c.loop.counter c.args.memory.now c.loop.memory c.apply.new.memory c.args.ops.now c.args.bytes.now c.args.answer.now c.loop.ops.now c.loop.bytes.now c.loop.answer c.first.result.1.now c.split_at.result.1.now c.apply.new.answer c.split_at.result.0.now (op_of c.first.result.0) c.loop-test.true c.first.ensures.op c.first.ensures.rest (search rules) (search rules) c.in_ok-apply.ensures.memory c.in_ok-apply.ensures.answer c.loop.invariant
+    runs_more c.args.count c.loop.counter c.args.memory.now c.loop.memory c.apply.new.memory
+    c.args.ops.now c.args.bytes.now c.args.answer.now c.loop.ops.now c.loop.bytes.now c.loop.answer
+    c.first.result.1.now c.split_at.result.1.now c.apply.new.answer c.split_at.result.0.now
+    (op_of c.first.result.0) c.loop-test.true c.first.ensures.op c.first.ensures.rest (search rules)
+    (search rules) c.in_ok-apply.ensures.memory c.in_ok-apply.ensures.answer c.loop.invariant

@@ -8,31 +8,42 @@ use Rattle.gb_manifest.proofs.checks.checked.Goals as goal
 
 pub returns-in_err-declared : goal.returns-in_err-declared
 returns-in_err-declared c =
-    let walk_is = ap (λ xs. walk_from 4 xs) (sym c.split_at.ensures.back) ∙ sym c.new-walk.ensures in
-    let p = err_from_is_err_and c.from_residual-in_err-declared.result c.from_residual-in_err-declared.ensures.1 in
-    rw (p.1, p.2) (answer_descriptor c.args.bytes.now _ c.in_ok-size.ensures.sound (walk_is ∙ c.in_err-declared.ensures))
+    let walk_is =
+    ap (λ xs. walk_from 4 xs) (sym c.split_at.ensures.back) ∙ sym c.new-walk.ensures in
+    let p = err_from_is_err_and c.from_residual-in_err-declared.result
+    c.from_residual-in_err-declared.ensures.1 in
+    rw (p.1, p.2)
+    (answer_descriptor c.args.bytes.now _ c.in_ok-size.ensures.sound
+    (walk_is ∙ c.in_err-declared.ensures))
 
 pub returns-in-Some : goal.returns-in-Some
 returns-in-Some c =
-    let walk_is = ap (λ xs. walk_from 4 xs) (sym c.split_at.ensures.back) ∙ sym c.new-walk.ensures in
+    let walk_is =
+    ap (λ xs. walk_from 4 xs) (sym c.split_at.ensures.back) ∙ sym c.new-walk.ensures in
     let header = c.in_ok-size.ensures in
     let declares = c.in_ok-declared.ensures in
     let all = declares.all in
     let undeclared = c.undeclared-undeclared.ensures all declares.whole declares.declared_are in
     let ruled = c.rules_refusal.ensures all declares.declared_are undeclared in
-    let found : option_map refused_of c.rules_refusal.result ≡ Some (refused_of c.in-Some.refused) = ap (λ r. option_map refused_of r) c.in-Some.is in
-    let broken : rules_refusal (length c.args.bytes.now) all ≡ Some (refused_of c.in-Some.refused) = ap (λ n. rules_refusal n all) (sym header.size_is) ∙ sym ruled ∙ found in
+    let found : option_map refused_of c.rules_refusal.result ≡ Some (refused_of c.in-Some.refused) =
+    ap (λ r. option_map refused_of r) c.in-Some.is in
+    let broken : rules_refusal (length c.args.bytes.now) all ≡ Some (refused_of c.in-Some.refused) =
+    ap (λ n. rules_refusal n all) (sym header.size_is) ∙ sym ruled ∙ found in
     answer_rules c.args.bytes.now all _ header.sound (walk_is ∙ declares.whole) broken
 
 pub returns-in-None : goal.returns-in-None
 returns-in-None c =
-    let walk_is = ap (λ xs. walk_from 4 xs) (sym c.split_at.ensures.back) ∙ sym c.new-walk.ensures in
+    let walk_is =
+    ap (λ xs. walk_from 4 xs) (sym c.split_at.ensures.back) ∙ sym c.new-walk.ensures in
     let header = c.in_ok-size.ensures in
     let declares = c.in_ok-declared.ensures in
     let all = declares.all in
     let undeclared = c.undeclared-undeclared.ensures all declares.whole declares.declared_are in
     let ruled = c.rules_refusal.ensures all declares.declared_are undeclared in
-    let found : option_map refused_of c.rules_refusal.result ≡ None = ap (λ r. option_map refused_of r) c.in-None.is in
-    let broken : rules_refusal (length c.args.bytes.now) all ≡ None = ap (λ n. rules_refusal n all) (sym header.size_is) ∙ sym ruled ∙ found in
+    let found : option_map refused_of c.rules_refusal.result ≡ None =
+    ap (λ r. option_map refused_of r) c.in-None.is in
+    let broken : rules_refusal (length c.args.bytes.now) all ≡ None =
+    ap (λ n. rules_refusal n all) (sym header.size_is) ∙ sym ruled ∙ found in
     answer_rules c.args.bytes.now all _ header.sound (walk_is ∙ declares.whole) broken
-    ∙ manifest_is _ _ _ _ _ header.size_is (c.new.ensures ∙ ap descriptors_in declares.whole) c.new-in-None.ensures
+    ∙ manifest_is _ _ _ _ _ header.size_is (c.new.ensures ∙ ap descriptors_in declares.whole)
+    c.new-in-None.ensures

@@ -5,4 +5,5 @@ use Rattle.gb_manifest.proofs.rules.first_of.Given as goal
 
 abbrev pub invariant-loop-reason : goal.invariant-loop-reason
 invariant-loop-reason l =
-    first_of (map (λ b. breach b.0 b.1) l.breaches) ≡ first_of (map (λ b. breach b.0 b.1) (drop l.reason-index l.breaches))
+    first_of (map (λ b. breach b.0 b.1) l.breaches)
+    ≡ first_of (map (λ b. breach b.0 b.1) (drop l.reason-index l.breaches))

@@ -12,5 +12,8 @@ loop-d-preserved c =
     record {
       before = inv.before ++ descriptor_of c.in-Some.d ∷ [];
       all = taken _ _ _ _ _ inv.all c.in-Some.ensures.first;
-      known = subst (λ (ps : List Placed). AreDeclared c.take.new.self ps) (unplaced-more inv.before (descriptor_of c.in-Some.d)) (c.take.ensures (unplaced inv.before) inv.known);
+      known =
+          subst (λ (ps : List Placed). AreDeclared c.take.new.self ps)
+          (unplaced-more inv.before (descriptor_of c.in-Some.d))
+          (c.take.ensures (unplaced inv.before) inv.known);
     }

@@ -6,4 +6,5 @@ use Rattle.gb_manifest.proofs.writing.long_string.Given as goal
 
 abbrev pub invariant-loop-s : goal.invariant-loop-s
 invariant-loop-s l =
-    long_string (map string_spec l.strings) ≡ long_string (map string_spec (drop l.s-index l.strings))
+    long_string (map string_spec l.strings)
+    ≡ long_string (map string_spec (drop l.s-index l.strings))

@@ -13,8 +13,12 @@ loop-d-init c =
     record {
       before = [];
       all = sym c.of-left.ensures;
-      bytes = header_bytes _ _ _ c.args.size c.args.spec.now.minor c.new-bytes.ensures c.write_u16.ensures c.in_ok-append.ensures;
-      short = subst AllShort (sym c.of-left.ensures) (tt, all_short spec.strings spec.bundles spec.cports c.requires.short);
+      bytes =
+          header_bytes _ _ _ c.args.size c.args.spec.now.minor c.new-bytes.ensures
+          c.write_u16.ensures c.in_ok-append.ensures;
+      short =
+          subst AllShort (sym c.of-left.ensures)
+          (tt, all_short spec.strings spec.bundles spec.cports c.requires.short);
     }
 
 pub put_descriptor-requires : goal.put_descriptor-requires
@@ -26,7 +30,10 @@ loop-d-preserved c =
     record {
       before = inv.before ++ descriptor_of c.in-Some.d ∷ [];
       all = taken _ _ _ _ _ inv.all c.in-Some.ensures.first;
-      bytes = c.in_ok-put_descriptor.ensures ∙ ap (λ (l : List ℕ). l ++ plain_descriptor (descriptor_of c.in-Some.d)) inv.bytes
-          ∙ ap (λ (l : List ℕ). le16 c.args.size ++ (0 ∷ c.args.spec.now.minor ∷ l)) (sym (plain_all-more inv.before (descriptor_of c.in-Some.d)));
+      bytes =
+          c.in_ok-put_descriptor.ensures
+          ∙ ap (λ (l : List ℕ). l ++ plain_descriptor (descriptor_of c.in-Some.d)) inv.bytes
+          ∙ ap (λ (l : List ℕ). le16 c.args.size ++ (0 ∷ c.args.spec.now.minor ∷ l))
+          (sym (plain_all-more inv.before (descriptor_of c.in-Some.d)));
       short = (subst AllShort c.in-Some.ensures.first inv.short).1;
     }

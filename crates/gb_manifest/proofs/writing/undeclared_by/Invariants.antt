@@ -11,7 +11,8 @@ abbrev pub invariant-loop-d : goal.invariant-loop-d
 invariant-loop-d l = record {
   before : List Descriptor;
   all : spec_descriptors (spec_of l.spec) ≡ before ++ listed_of l.left;
-  known : (all : List Placed) → AreDeclared l.declared all → AreUndeclared l.undeclared all (unplaced before);
+  known : (all : List Placed)
+      → AreDeclared l.declared all → AreUndeclared l.undeclared all (unplaced before);
 }
 
 abbrev pub decreases-loop-d : goal.decreases-loop-d

@@ -14,7 +14,8 @@ pub returns-in_default-size-clause-answer : goal.returns-in_default-size-clause-
 returns-in_default-size-clause-answer c =
     let short : long_string (spec_of c.args.spec.now).strings ≡ None =
     ap (λ ss. long_string (map string_spec ss)) (sym c.items.ensures) ∙ sym c.in_default.ensures in
-    write_too_long (spec_of c.args.spec.now) short (sym c.in_default-broken_rule.ensures) c.in_default-size.ensures
+    write_too_long (spec_of c.args.spec.now) short (sym c.in_default-broken_rule.ensures)
+    c.in_default-size.ensures
 
 pub returns-clause-answer : goal.returns-clause-answer
 returns-clause-answer c =
@@ -23,7 +24,8 @@ returns-clause-answer c =
     ap (λ ss. long_string (map string_spec ss)) (sym c.items.ensures) ∙ sym c.in_default.ensures in
     let has = c.in-Some-size.ensures in
     let fits : plain_size spec ≤ 65535 = omega (arith, has.size_is, has.within) in
-    write_plain spec short (sym c.in_default-broken_rule.ensures) fits ∙ ap (λ l. Ok l) (sym c.in_ok-bytes.ensures)
+    write_plain spec short (sym c.in_default-broken_rule.ensures) fits
+    ∙ ap (λ l. Ok l) (sym c.in_ok-bytes.ensures)
 
 pub returns-clause-back : goal.returns-clause-back
 returns-clause-back c =

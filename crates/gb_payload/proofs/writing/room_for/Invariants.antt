@@ -5,4 +5,5 @@ use Rattle.gb_payload.proofs.writing.room_for.Given as goal
 
 abbrev pub invariant-loop-field : goal.invariant-loop-field
 invariant-loop-field l =
-    (l.left ≤ l.room) × (l.room + length (spelled (drop l.field-index l.fields)) ≡ l.left + length (spelled l.fields))
+    (l.left ≤ l.room)
+    × (l.room + length (spelled (drop l.field-index l.fields)) ≡ l.left + length (spelled l.fields))

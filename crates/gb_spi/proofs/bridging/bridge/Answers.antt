@@ -2,7 +2,8 @@ use Rattle.std.proofs.Common.{[], ◌∷◌, refl}
 use Rattle.gb_spi.proofs.bridging.bridge.Goals as goal
 
 pub returns-in-SpiConfig : goal.returns-in-SpiConfig
-returns-in-SpiConfig c = rw c.in-SpiConfig.is ((2, []), refl, record { kind = refl; len = refl; bytes = refl })
+returns-in-SpiConfig c =
+    rw c.in-SpiConfig.is ((2, []), refl, record { kind = refl; len = refl; bytes = refl })
 
 pub returns-in_ok-put-in-SpiDevice : goal.returns-in_ok-put-in-SpiDevice
 returns-in_ok-put-in-SpiDevice c =

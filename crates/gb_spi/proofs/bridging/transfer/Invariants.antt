@@ -8,8 +8,11 @@ use Rattle.gb_spi.proofs.bridging.transfer.Given as goal
 
 abbrev pub invariant-loop-op : goal.invariant-loop-op
 invariant-loop-op l =
-    Putting (spi_ask_payload (spi_transfer l.select l.mode l.ops)) (concat (map spi_op_bytes (drop l.op-index l.ops)) ++ concat (map spi_written l.ops)) l.at l.fn.out l.out
+    Putting (spi_ask_payload (spi_transfer l.select l.mode l.ops))
+    (concat (map spi_op_bytes (drop l.op-index l.ops)) ++ concat (map spi_written l.ops)) l.at
+    l.fn.out l.out
 
 abbrev pub invariant-loop-op-2 : goal.invariant-loop-op-2
 invariant-loop-op-2 l =
-    Putting (spi_ask_payload (spi_transfer l.select l.mode l.ops)) (concat (map spi_written (drop l.op-index l.ops))) l.at l.fn.out l.out
+    Putting (spi_ask_payload (spi_transfer l.select l.mode l.ops))
+    (concat (map spi_written (drop l.op-index l.ops))) l.at l.fn.out l.out

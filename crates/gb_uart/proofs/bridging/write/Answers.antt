@@ -5,4 +5,6 @@ use Rattle.gb_uart.proofs.bridging.write.Goals as goal
 
 pub returns : goal.returns
 returns c =
-    rw c.kind.ensures (fits _ c.in_ok-len.len (uart_ask_payload (uart_ask_of c.args.ask)) _ _ c.requires.room c.in_ok-len.ensures.bytes)
+    rw c.kind.ensures
+    (fits _ c.in_ok-len.len (uart_ask_payload (uart_ask_of c.args.ask)) _ _ c.requires.room
+    c.in_ok-len.ensures.bytes)

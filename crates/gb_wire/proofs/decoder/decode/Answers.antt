@@ -4,7 +4,8 @@ use Rattle.gb_wire.proofs.decoder.decode.Goals as goal
 
 pub returns-clause-found : goal.returns-clause-found
 returns-clause-found c =
-    answer-spells c.front_message.result c.args.bytes.now (λ k. omega (arith, c.type_inv.bytes k)) c.front_message.ensures
+    answer-spells c.front_message.result c.args.bytes.now (λ k. omega (arith, c.type_inv.bytes k))
+    c.front_message.ensures
 
 pub returns-clause-only : goal.returns-clause-only
 returns-clause-only c =

@@ -5,4 +5,5 @@ use Rattle.gb_bridge_payload.proofs.i2c_ask.I2cAsk.read.Goals as goal
 
 pub returns-clause-means : goal.returns-clause-means
 returns-clause-means c =
-    i2c_ask_means i2c_ask_of c.args.kind c.args.payload.now (λ i. omega (arith, c.type_inv.payload i)) (λ bytes. refl) c.row.result c.row.ensures.answer
+    i2c_ask_means i2c_ask_of c.args.kind c.args.payload.now
+    (λ i. omega (arith, c.type_inv.payload i)) (λ bytes. refl) c.row.result c.row.ensures.answer

@@ -7,4 +7,5 @@ use Rattle.gb_bridge_payload.proofs.i2c_ask.I2cAsk.write.Goals as goal
 
 pub returns-in-Transfer-clause-again : goal.returns-in-Transfer-clause-again
 returns-in-Transfer-clause-again c =
-    is_read i2c_asks (i2c_ask_of c.args.self.now) c.args.out.now c.put-in-Transfer.new.out c.put-in-Transfer.result (i2c_ask_again (i2c_ask_of c.args.self.now) c.requires) (search rules)
+    is_read i2c_asks (i2c_ask_of c.args.self.now) c.args.out.now c.put-in-Transfer.new.out
+    c.put-in-Transfer.result (i2c_ask_again (i2c_ask_of c.args.self.now) c.requires) (search rules)

@@ -5,4 +5,5 @@ use Rattle.gb_bridge_payload.proofs.spi_ask.SpiAsk.read.Goals as goal
 
 pub returns-clause-means : goal.returns-clause-means
 returns-clause-means c =
-    spi_ask_means spi_ask_of c.args.kind c.args.payload.now (λ i. omega (arith, c.type_inv.payload i)) (λ bytes. refl) c.row.result c.row.ensures
+    spi_ask_means spi_ask_of c.args.kind c.args.payload.now
+    (λ i. omega (arith, c.type_inv.payload i)) (λ bytes. refl) c.row.result c.row.ensures

@@ -9,4 +9,5 @@ returns-clause-lines c =
 pub returns-clause-irq : goal.returns-clause-irq
 returns-clause-irq c =
     c.then_some.ensures
-    ∙ rw c.interrupts.ensures (interrupted c.self.inside.lines _ c.args.line c.args.value _ c.self.view_is (omega arith))
+    ∙ rw c.interrupts.ensures
+    (interrupted c.self.inside.lines _ c.args.line c.args.value _ c.self.view_is (omega arith))

@@ -6,8 +6,11 @@ use Rattle.gb_gpio.proofs.device.Device.serve_ask.Goals as goal
 
 pub bounds-self-inside-which : goal.bounds-self-inside-which
 bounds-self-inside-which c =
-    let within = rw c.in-Ok-Changes.field-0-is at c.in-Ok-Changes.ensures.within in omega (arith, within)
+    let within = rw c.in-Ok-Changes.field-0-is at c.in-Ok-Changes.ensures.within in
+    omega (arith, within)
 
 pub returns-in-Ok-Changes : goal.returns-in-Ok-Changes
 returns-in-Ok-Changes c =
-    changed c.self.inside.lines _ (λ lines. gpio_asked lines (gpio_ask_of c.args.ask)) c.in-Ok-Changes.field-0 c.in-Ok-Changes.which c.in-Ok-Changes.line c.done.result c.self.view_is c.in-Ok-Changes.ensures.step c.in-Ok-Changes.field-0-is c.done.ensures
+    changed c.self.inside.lines _ (λ lines. gpio_asked lines (gpio_ask_of c.args.ask))
+    c.in-Ok-Changes.field-0 c.in-Ok-Changes.which c.in-Ok-Changes.line c.done.result c.self.view_is
+    c.in-Ok-Changes.ensures.step c.in-Ok-Changes.field-0-is c.done.ensures

@@ -1,4 +1,5 @@
-use Rattle.std.proofs.Common.{arith, refl, ap, sym, ◌∙◌, ◌∷◌, ◌++◌, [], ℕ, List, ◌≡◌, ◌+◌, length-set, add-one}
+use Rattle.std.proofs.Common.{arith, refl, ap, sym, ◌∙◌, ◌∷◌, ◌++◌, [], ℕ, List, ◌≡◌, ◌+◌}
+use Rattle.std.proofs.Common.{length-set, add-one}
 use Rattle.std.proofs.lemmas.List.{take_more_set}
 use Rattle.gb_formats.specs.I2cDevice.{counted_from}
 use Rattle.gb_i2c.proofs.Places.{counted_more, counted_none}

@@ -6,4 +6,5 @@ use Rattle.gb_manifest.proofs.declared.MetBundles.take.Goals as goal
 pub returns : goal.returns
 returns c before class h =
     bundle_taken _ _ before _ c.args.id class (omega arith)
-    (c.first_place-self.ensures ∙ ap (λ b. first_place c.args.self.now.twice b c.args.at) c.contains.ensures) c.add.ensures h
+    (c.first_place-self.ensures
+    ∙ ap (λ b. first_place c.args.self.now.twice b c.args.at) c.contains.ensures) c.add.ensures h

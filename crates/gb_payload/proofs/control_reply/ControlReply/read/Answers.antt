@@ -5,4 +5,5 @@ use Rattle.gb_payload.proofs.control_reply.ControlReply.read.Goals as goal
 
 pub returns-clause-means : goal.returns-clause-means
 returns-clause-means c =
-    control_reply_means control_reply_of c.args.kind c.args.payload.now (λ i. omega (arith, c.type_inv.payload i)) c.row.result c.row.ensures
+    control_reply_means control_reply_of c.args.kind c.args.payload.now
+    (λ i. omega (arith, c.type_inv.payload i)) c.row.result c.row.ensures

@@ -8,4 +8,6 @@ use Rattle.gb_payload.proofs.svc_reply.SvcReply.read.Goals as goal
 
 pub returns-clause-means : goal.returns-clause-means
 returns-clause-means c =
-    means_by_table svc_replies formats.svc_replies svc_reply_of c.args.kind c.args.payload.now (λ bytes. refl) svc_replies_spelt (λ made h. svc_replies_listed made) (λ i. omega (arith, c.type_inv.payload i)) c.row.result c.row.ensures
+    means_by_table svc_replies formats.svc_replies svc_reply_of c.args.kind c.args.payload.now
+    (λ bytes. refl) svc_replies_spelt (λ made h. svc_replies_listed made)
+    (λ i. omega (arith, c.type_inv.payload i)) c.row.result c.row.ensures

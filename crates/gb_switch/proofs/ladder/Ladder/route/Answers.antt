@@ -13,12 +13,18 @@ use Rattle.gb_switch.proofs.ladder.Ladder.route.Goals as goal
 pub returns-clause-step : goal.returns-clause-step
 returns-clause-step c = λ ports s.
     let there = c.in_ok-port.ensures.0 in
-    let high : 5 ≤ level_of c.args.intf ports = subst (λ m. 5 ≤ m) (sym (level_is c.args.self.now c.args.intf c.in_ok-port.port ports s there)) c.in_ok-port.ensures.1 in
+    let high : 5 ≤ level_of c.args.intf ports =
+    subst (λ m. 5 ≤ m) (sym (level_is c.args.self.now c.args.intf c.in_ok-port.port ports s there))
+    c.in_ok-port.ensures.1 in
     let has : is_device c.args.device (device_of c.args.intf ports) ≡ true =
-    ap (is_device c.args.device) (device_is c.args.self.now c.args.intf ports s ∙ ap (option_and_then (λ (p : Port). p.device)) there)
+    ap (is_device c.args.device)
+    (device_is c.args.self.now c.args.intf ports s
+    ∙ ap (option_and_then (λ (p : Port). p.device)) there)
     ∙ search rules in
-    let put : PutsAt c.args.self.now c.put.new.self c.args.intf (Some (raised_to level.Routed c.in_ok-port.port)) =
-    subst (λ q. PutsAt c.args.self.now c.put.new.self c.args.intf (Some q)) c.raised.ensures c.put.ensures in
+    let put : PutsAt c.args.self.now c.put.new.self c.args.intf
+    (Some (raised_to level.Routed c.in_ok-port.port)) =
+    subst (λ q. PutsAt c.args.self.now c.put.new.self c.args.intf (Some q)) c.raised.ensures
+    c.put.ensures in
     climbed c.put.new.self (is_route 1 1 c.args.intf c.args.device ports) c.args.intf 6 [] ports
     (a_route c.args.intf c.args.device ports high has)
     (risen c.args.self.now c.put.new.self c.args.intf level.Named level.Routed ports s

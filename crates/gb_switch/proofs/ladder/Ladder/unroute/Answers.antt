@@ -7,5 +7,7 @@ use Rattle.gb_switch.proofs.ladder.Ladder.unroute.Goals as goal
 
 pub returns-clause-step : goal.returns-clause-step
 returns-clause-step c = λ ports s.
-    let six : level_number c.in-Some.port.level ≡ 6 = eqb-true (level_number c.in-Some.port.level) 6 (search rules) in
-    unrouted_from c.args.self.now c.put.new.self c.args.intf c.in-Some.port _ ports s (sym c.in-Some.ensures) six c.put.ensures refl refl
+    let six : level_number c.in-Some.port.level ≡ 6 =
+    eqb-true (level_number c.in-Some.port.level) 6 (search rules) in
+    unrouted_from c.args.self.now c.put.new.self c.args.intf c.in-Some.port _ ports s
+    (sym c.in-Some.ensures) six c.put.ensures refl refl
