@@ -1,7 +1,10 @@
 -- What is kept of a line.
-use Rattle.std.proofs.Common.{◌≡◌, ◌≢◌, ℕ, ◌+◌, ◌-◌, ◌<◌, ◌≤◌, ◌==◌, nat_lt, Bool, true, false, cond, List, [], ◌∷◌, ◌++◌, length, set, get_or, take, length-append, refl, sym, ap, ◌∙◌, arith}
+use Rattle.std.proofs.Common.{◌≡◌, ◌≢◌, ℕ, ◌+◌, ◌-◌, ◌<◌, ◌≤◌, ◌==◌, nat_lt, Bool, true, false}
+use Rattle.std.proofs.Common.{cond, List, [], ◌∷◌, ◌++◌, length, set, get_or, take, length-append}
+use Rattle.std.proofs.Common.{refl, sym, ap, ◌∙◌, arith}
 use Rattle.std.specs.Prelude.{slice_index}
-use Rattle.std.proofs.lemmas.List.{get_or-take, length-take, length-take-le, take-take, take_more_set, take_all, take-append-le}
+use Rattle.std.proofs.lemmas.List.{get_or-take, length-take, length-take-le, take-take}
+use Rattle.std.proofs.lemmas.List.{take_more_set, take_all, take-append-le}
 use Rattle.std.proofs.lemmas.Bool.Decides.{nat_tests}
 use Rattle.gb_formats.specs.Lines.{without_cr}
 use Rattle.gb_script.specs.Fronts.{IsFront, IsText, is_long_text, longest_text}
@@ -26,11 +29,13 @@ push-in bytes raw size n b s l less kept =
 pub push-out : (bytes raw : List ℕ) (size n b : ℕ) → size ≡ length raw → length bytes ≡ n → n ≤ size
     → take size bytes ≡ take n raw → take (size + 1) bytes ≡ take n (raw ++ b ∷ [])
 push-out bytes raw size n b s l more kept =
-    take_all (size + 1) bytes (omega (arith, l, more)) ∙ sym (take_all size bytes (omega (arith, l, more)))
+    take_all (size + 1) bytes (omega (arith, l, more))
+    ∙ sym (take_all size bytes (omega (arith, l, more)))
     ∙ kept ∙ sym (take-append-le n raw (b ∷ []) (omega (arith, s, more)))
 
 -- a front of a line that is all of it
-pub all-kept : (bytes raw : List ℕ) (size n : ℕ) → size ≡ length raw → size ≤ n → take size bytes ≡ take n raw
+pub all-kept : (bytes raw : List ℕ) (size n : ℕ)
+    → size ≡ length raw → size ≤ n → take size bytes ≡ take n raw
     → take size bytes ≡ raw
 all-kept bytes raw size n s within kept = kept ∙ take_all n raw (omega (arith, s, within))
 
@@ -60,7 +65,8 @@ with-cr raw e = ap (λ b. cond (b == 13) (take (length raw - 1) raw) raw) e
 
 pub with-none : (raw : List ℕ) → slice_index raw (length raw - 1) ≢ 13 → without_cr raw ≡ raw
 with-none raw e =
-    ap (λ t. cond t (take (length raw - 1) raw) raw) (eqb-no (slice_index raw (length raw - 1)) 13 e)
+    ap (λ t. cond t (take (length raw - 1) raw) raw)
+    (eqb-no (slice_index raw (length raw - 1)) 13 e)
 
 -- the CR is dropped
 pub cr-dropped : (bytes raw : List ℕ) (size : ℕ) → size ≡ length raw → 0 < size → size ≤ 8193
@@ -73,7 +79,10 @@ cr-dropped bytes raw size s some within kept last =
     sym (take-take (size - 1) size bytes (omega arith))
     ∙ ap (take (size - 1)) (all-kept bytes raw size 8193 s within kept)
     ∙ ap (λ k. take k raw) (omega (arith, s)) ∙ sym cut in (
-      ap (nat_lt longest_text) (omega (arith, s) ∙ sym (length-take-le (length raw - 1) raw (omega arith)) ∙ ap length (sym cut)),
+      ap (nat_lt longest_text)
+          (omega (arith, s)
+          ∙ sym (length-take-le (length raw - 1) raw (omega arith))
+          ∙ ap length (sym cut)),
       ap (take longest_text) same,
     )
 
@@ -92,7 +101,8 @@ cr-beyond : (raw : List ℕ) (t : Bool) → 8193 < length raw
     → (true ≡ is_long_text (cond t (take (length raw - 1) raw) raw))
     × (take longest_text raw ≡ take longest_text (cond t (take (length raw - 1) raw) raw))
 cr-beyond raw true more = (
-  sym (less-is 8192 (length (take (length raw - 1) raw)) (omega (arith, length-take-le (length raw - 1) raw (omega arith)))),
+  sym (less-is 8192 (length (take (length raw - 1) raw))
+      (omega (arith, length-take-le (length raw - 1) raw (omega arith)))),
   sym (take-take 8192 (length raw - 1) raw (omega arith)),
 )
 cr-beyond raw false more = (sym (less-is 8192 (length raw) (omega arith)), refl)
@@ -102,8 +112,10 @@ pub beyond : (bytes raw : List ℕ) (size : ℕ) → size ≡ length raw → 819
     → (nat_lt longest_text size ≡ is_long_text (without_cr raw))
     × (take longest_text (take size bytes) ≡ take longest_text (without_cr raw))
 beyond bytes raw size s more kept =
-    let h = cr-beyond raw (slice_index raw (length raw - 1) == 13) (omega (arith, s)) in
-    (less-is 8192 size (omega arith) ∙ h.0, text-kept bytes raw size 8192 8193 (omega arith) kept ∙ h.1)
+    let h = cr-beyond raw (slice_index raw (length raw - 1) == 13) (omega (arith, s)) in (
+      less-is 8192 size (omega arith) ∙ h.0,
+      text-kept bytes raw size 8192 8193 (omega arith) kept ∙ h.1,
+    )
 
 -- ---- what is handed out
 

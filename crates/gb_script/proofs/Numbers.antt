@@ -1,5 +1,6 @@
 -- How a number is read, digit by digit.
-use Rattle.std.proofs.Common.{◌≡◌, ℕ, suc, ◌+◌, ◌-◌, ◌*◌, ◌<◌, ◌≤◌, List, [], ◌∷◌, length, get_or, drop, arith}
+use Rattle.std.proofs.Common.{◌≡◌, ℕ, suc, ◌+◌, ◌-◌, ◌*◌, ◌<◌, ◌≤◌, List, [], ◌∷◌, length, get_or}
+use Rattle.std.proofs.Common.{drop, arith}
 use Rattle.std.specs.Prelude.{None}
 use Rattle.std.proofs.Math.Seq.{drop-cons}
 use Rattle.std.proofs.lemmas.Bool.Decides.{nat_tests}
@@ -12,7 +13,9 @@ grows front (b ∷ bs) =
     let more = grows (front * 10 + (b - 48)) bs in omega arith
 
 -- a number whose front is too great is too great
-pub too_great : (least greatest front i : ℕ) (w : List ℕ) → i < length w → number_after front (drop i w) ≡ number_of w → greatest < front * 10 + (get_or w i 0 - 48) → number_word least greatest w ≡ None
+pub too_great : (least greatest front i : ℕ) (w : List ℕ) → i < length w
+    → number_after front (drop i w) ≡ number_of w → greatest < front * 10 + (get_or w i 0 - 48)
+    → number_word least greatest w ≡ None
 too_great least greatest front i w h read big =
     let next = rw (drop-cons w i 0) at read in
     let more = grows (front * 10 + (get_or w i 0 - 48)) (drop (suc i) w) in

@@ -1,38 +1,34 @@
 -- What is taken of a text, and its lines.
-use Rattle.std.proofs.Common.{◌≡◌, ◌≢◌, ℕ, ◌+◌, ◌==◌, ◌||◌, Bool, true, false, Option, Some, None, Err, List, [], ◌∷◌, ◌++◌, length, append_assoc, append-nil, sym, ap, ◌∙◌, subst, arith}
+use Rattle.std.proofs.Common.{◌≡◌, ◌≢◌, ℕ, ◌+◌, ◌==◌, ◌||◌, Bool, true, false, Option, Some, None}
+use Rattle.std.proofs.Common.{Err, List, [], ◌∷◌, ◌++◌, length, append_assoc, append-nil, sym, ap}
+use Rattle.std.proofs.Common.{◌∙◌, subst, arith}
 use Rattle.std.specs.List.{list_any}
 use Rattle.std.proofs.lemmas.Bool.Decides.{nat_tests}
-use Rattle.std.specs.Io.KnownBytes.{Consumes, IsAtEnd, prepend_known}
+use Rattle.std.specs.Io.KnownBytes.{Consumes, prepend_known}
 use Rattle.gb_script.specs.Reading.{HasNoLf, ReadsLine, Takes, Took, is_lf, to_come}
 use Rattle.gb_script.specs.declared.held.Held.{Held}
 use Rattle.gb_script.specs.declared.held.LineStop.{LineStop}
 use Rattle.gb_script.specs.declared.held.LineStop.TheVariants as stop
 
 -- first these bytes were taken, and then those
-pub consumes-more : (a b c : Option (List ℕ)) (xs ys : List ℕ) → Consumes a b xs → Consumes b c ys → Consumes a c (xs ++ ys)
+pub consumes-more : (a b c : Option (List ℕ)) (xs ys : List ℕ)
+    → Consumes a b xs → Consumes b c ys → Consumes a c (xs ++ ys)
 consumes-more None b c xs ys p q = tt
 consumes-more (Some x) None c xs ys p q = absurd p
 consumes-more (Some x) (Some y) None xs ys p q = absurd q
-consumes-more (Some x) (Some y) (Some z) xs ys p q = p ∙ ap (λ l. xs ++ l) q ∙ sym (append_assoc xs ys z)
+consumes-more (Some x) (Some y) (Some z) xs ys p q =
+    p ∙ ap (λ l. xs ++ l) q ∙ sym (append_assoc xs ys z)
 
 -- what is held is taken too
-pub consumes-held : (a b : Option (List ℕ)) (xs held : List ℕ) → Consumes a (prepend_known held b) xs → Consumes a b (xs ++ held)
+pub consumes-held : (a b : Option (List ℕ)) (xs held : List ℕ)
+    → Consumes a (prepend_known held b) xs → Consumes a b (xs ++ held)
 consumes-held None b xs held p = tt
 consumes-held (Some x) None xs held p = absurd p
 consumes-held (Some x) (Some y) xs held p = p ∙ sym (append_assoc xs held y)
 
--- where nothing is held
-pub consumes-bare : (a b : Option (List ℕ)) (xs held : List ℕ) → held ≡ [] → Consumes a b xs → Consumes a (prepend_known held b) xs
-consumes-bare None b xs held e p = tt
-consumes-bare (Some x) None xs held e p = absurd p
-consumes-bare (Some x) (Some y) xs held e p = p ∙ ap (λ h. xs ++ (h ++ y)) (sym e)
-
-pub end-bare : (b : Option (List ℕ)) (held : List ℕ) → held ≡ [] → IsAtEnd b → IsAtEnd (prepend_known held b)
-end-bare None held e p = tt
-end-bare (Some y) held e p = ap (λ h. h ++ y) e ∙ p
-
 -- one byte more, which is no LF
-plain-step : (t : Bool) (xs : List ℕ) (b : ℕ) → (HasNoLf xs → HasNoLf (xs ++ b ∷ [])) → t || list_any is_lf xs ≡ false
+plain-step : (t : Bool) (xs : List ℕ) (b : ℕ)
+    → (HasNoLf xs → HasNoLf (xs ++ b ∷ [])) → t || list_any is_lf xs ≡ false
     → t || list_any is_lf (xs ++ b ∷ []) ≡ false
 plain-step true xs b later h = h
 plain-step false xs b later h = later h
@@ -53,13 +49,16 @@ pub byte-taken : (old mid new : Held) (left between after : Option (List ℕ)) (
 byte-taken old mid new left between after raw b p t = consumes-more _ _ _ raw (b ∷ []) p t.taken
 
 -- no line came
-pub no-line : (old mid new : Held) (left between after : Option (List ℕ)) (raw : List ℕ) (e : LineStop) → HasNoLf raw
+pub no-line : (old mid new : Held) (left between after : Option (List ℕ)) (raw : List ℕ)
+    (e : LineStop)
+    → HasNoLf raw
     → Consumes (to_come old left) (to_come mid between) raw → length raw + mid.room ≡ old.room
     → Takes mid new between after (Err e) → ReadsLine old new left after (Err e)
 no-line old mid new left between after raw stop.ReadFault plain p room t = record {
   raw = raw;
   plain = plain;
-  taken = subst (Consumes (to_come old left) after) (append-nil raw) (consumes-more _ _ _ raw [] p t);
+  taken =
+      subst (Consumes (to_come old left) after) (append-nil raw) (consumes-more _ _ _ raw [] p t);
   within = omega (arith, room);
 }
 no-line old mid new left between after raw stop.TooLong plain p room t = record {

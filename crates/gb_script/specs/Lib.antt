@@ -1,4 +1,5 @@
 pub mod Fronts
+pub mod Making
 pub mod Parts
 pub mod Readers
 pub mod Reading

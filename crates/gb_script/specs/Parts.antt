@@ -12,38 +12,39 @@ use Rattle.gb_base.specs.declared.fault.LineReason.TheVariants as bad
 use Rattle.gb_base.specs.declared.name.Name.{Name}
 use Rattle.gb_formats.specs.BridgeForms.{gpio_form, i2c_form, i2c_op_word, spi_form, uart_form}
 use Rattle.gb_formats.specs.Grammar.{of_cport, timed}
-use Rattle.gb_formats.specs.Said.{Said, next_word, at_end, each_word}
-use Rattle.gb_formats.specs.WordValues.{hex_word, kind_word, cport_word, type_word, u8_word, u16_word}
+use Rattle.gb_formats.specs.Said.{Said, Rest, next_word, at_end, each_word}
+use Rattle.gb_formats.specs.WordValues.{hex_word, kind_word, cport_word, type_word, u8_word}
+use Rattle.gb_formats.specs.WordValues.{u16_word}
 
 -- `HEX` behind `insert I raw`
-abbrev pub inserting_raw : ℕ → List (List ℕ) → Said
-inserting_raw i ws = next_word hex_word 4 ws (λ bytes ws. at_end 5 ws (event.InsertRaw i bytes))
+abbrev pub inserting_raw : ℕ → Rest → Said
+inserting_raw i ws = next_word hex_word ws (λ bytes ws. at_end ws (event.InsertRaw i bytes))
 
 -- `KIND` behind `insert I`
-abbrev pub inserting_kind : ℕ → List (List ℕ) → Said
-inserting_kind i ws = next_word kind_word 3 ws (λ kind ws. at_end 4 ws (event.Insert i kind))
+abbrev pub inserting_kind : ℕ → Rest → Said
+inserting_kind i ws = next_word kind_word ws (λ kind ws. at_end ws (event.Insert i kind))
 
 -- `TYPE HEX` behind `send @x svc`
-abbrev pub sending_type : Name → List (List ℕ) → Said
+abbrev pub sending_type : Name → Rest → Said
 sending_type x ws =
-    next_word type_word 4 ws (λ kind ws. next_word hex_word 5 ws (λ payload ws.
-    timed 6 ws (λ ms. event.Send x end.Svc kind payload ms)))
+    next_word type_word ws (λ kind ws. next_word hex_word ws (λ payload ws.
+    timed ws (λ ms. event.Send x end.Svc kind payload ms)))
 
 -- `A` behind `deliver ap`
-abbrev pub delivering_ap : List (List ℕ) → Said
-delivering_ap ws = next_word cport_word 3 ws (λ a ws. at_end 4 ws (event.Deliver (end.Ap a)))
+abbrev pub delivering_ap : Rest → Said
+delivering_ap ws = next_word cport_word ws (λ a ws. at_end ws (event.Deliver (end.Ap a)))
 
 -- `I C` behind `deliver`
-abbrev pub delivering_module : List (List ℕ) → Said
+abbrev pub delivering_module : Rest → Said
 delivering_module ws = of_cport (λ i c. event.Deliver (end.Module i c)) ws
 
 -- the operations behind `transfer` of I2C
-abbrev pub i2c_transfer : (BridgeAsk → Event) → List (List ℕ) → Said
-i2c_transfer make ws = each_word i2c_op_word (λ ops. make (ask.I2cTransfer ops)) [] 6 ws
+abbrev pub i2c_transfer : (BridgeAsk → Event) → Rest → Said
+i2c_transfer make ws = each_word i2c_op_word (λ ops. make (ask.I2cTransfer ops)) [] ws
 
 -- `S` behind `device` of SPI
-abbrev pub spi_device : (BridgeAsk → Event) → List (List ℕ) → Said
-spi_device make ws = next_word u8_word 6 ws (λ s ws. at_end 7 ws (make (ask.SpiDevice s)))
+abbrev pub spi_device : (BridgeAsk → Event) → Rest → Said
+spi_device make ws = next_word u8_word ws (λ s ws. at_end ws (make (ask.SpiDevice s)))
 
 -- `r:LEN` of SPI
 abbrev pub spi_read_word : List ℕ → Option SpiOp
@@ -58,12 +59,12 @@ abbrev pub spi_both_word : List ℕ → Option SpiOp
 spi_both_word w = option_map spi.Both (hex_word (drop 2 w))
 
 -- `HEX` behind `send` of UART
-abbrev pub uart_data : (BridgeAsk → Event) → List (List ℕ) → Said
+abbrev pub uart_data : (BridgeAsk → Event) → Rest → Said
 uart_data make ws =
-    next_word hex_word 6 ws (λ bytes ws. at_end 7 ws (make (ask.UartSend bytes)))
+    next_word hex_word ws (λ bytes ws. at_end ws (make (ask.UartSend bytes)))
 
 -- what a line asks for by its first word, where that is no word of the bus
-abbrev pub by_protocol : ℕ → List ℕ → List (List ℕ) → Said
+abbrev pub by_protocol : ℕ → List ℕ → Rest → Said
 by_protocol who w ws =
     if bytes_eq w (codes "gpio") then gpio_form who ws
     else if bytes_eq w (codes "i2c") then i2c_form who ws

@@ -1,14 +1,13 @@
 //! What the forms of the bridged protocols share.
 
-ghost use Rattle.std.specs.Prelude.{◌≡◌, ◌<◌, List, ℕ, Err, length, IfOk, MatchResult};
+ghost use Rattle.std.specs.Prelude.{◌≡◌, Err, MatchResult};
 ghost use Rattle.gb_base.specs.declared.bridge.BridgeAsk.{BridgeAsk};
 ghost use Rattle.gb_base.specs.declared.event.Event.{Event};
 ghost use Rattle.gb_base.specs.declared.event.Event.TheVariants as event;
 ghost use Rattle.gb_formats.specs.BridgeForms.{begins_with_at, bridging};
-ghost use Rattle.gb_formats.specs.Said.{Said};
-ghost use Rattle.gb_formats.specs.Words.{words};
+ghost use Rattle.gb_formats.specs.Said.{Rest, Said};
 
-use crate::take::{cport, intf, name};
+use crate::rest::Rest;
 use gb_base::{LineReason, Name};
 
 /// Whether a word begins with `@`, as a name does.
@@ -18,18 +17,17 @@ pub fn begins_with_at(word: &[u8]) -> bool
     word.first() == Some(&b'@')
 }
 
-/// `@x I C`, and the line behind it, where what is asked begins as word 5.
-pub fn addressed(rest: &[u8], who: u8) -> Result<(Name, u8, u16, &[u8]), LineReason>
-    ensures meaning { MatchResult result
-        (λ f. (asking : (BridgeAsk → Event) → List (List ℕ) → Said)
-        → bridging who (words rest.now) asking
-        ≡ asking (λ ask. event.Bridge f.0 f.1 f.2 ask) (words f.3.now))
-        (λ why. (asking : (BridgeAsk → Event) → List (List ℕ) → Said)
-        → bridging who (words rest.now) asking ≡ Err why) }
-    ensures shorter { IfOk result (λ f. length f.3.now < length rest.now) }
+/// `@x I C`, and the words behind, which say what is asked.
+pub fn addressed<'a>(rest: &Rest<'a>, who: u8) -> Result<(Name, u8, u16, Rest<'a>), LineReason>
+    ensures { MatchResult result
+        (λ f. (asking : (BridgeAsk → Event) → Rest → Said)
+        → bridging who rest.now asking
+        ≡ asking (λ ask. event.Bridge f.0 f.1 f.2 ask) f.3)
+        (λ why. (asking : (BridgeAsk → Event) → Rest → Said)
+        → bridging who rest.now asking ≡ Err why) }
 {
-    let (name, rest) = name(rest, 2, who)?;
-    let (intf, rest) = intf(rest, 3)?;
-    let (cport, rest) = cport(rest, 4)?;
+    let (name, rest) = rest.name(who)?;
+    let (intf, rest) = rest.intf()?;
+    let (cport, rest) = rest.cport()?;
     Ok((name, intf, cport, rest))
 }

@@ -2,7 +2,6 @@
 
 ghost use Rattle.std.specs.Prelude.{◌≡◌};
 ghost use Rattle.gb_formats.specs.Grammar.{answering, delivering, injecting, settling, ticking};
-ghost use Rattle.gb_formats.specs.Words.{words};
 ghost use Rattle.gb_formats.specs.Said.{at_end};
 ghost use Rattle.gb_base.specs.declared.end.End.TheVariants as at;
 ghost use Rattle.gb_base.specs.declared.event.Event.TheVariants as event;
@@ -11,45 +10,45 @@ ghost use Rattle.gb_script.specs.Tells.{Says};
 
 use crate::LineFault;
 use crate::interfaces::only_cport;
-use crate::take::{bytes, count, cport, end, from_one, intf, next};
+use crate::rest::Rest;
 use crate::words::is;
 use gb_base::{End, Event};
 use std::alloc::Global;
 
 /// `deliver svc`, `deliver ap A`, or `deliver I C`.
-pub fn deliver(rest: &[u8]) -> Result<Event, LineFault>
-    ensures { Says result (delivering (words rest.now)) }
+pub fn deliver(rest: &Rest<'_>) -> Result<Event, LineFault>
+    ensures { Says result (delivering rest.now) }
 {
-    let (at, behind) = next(rest, 2)?;
+    let (at, behind) = rest.next()?;
     if is(at, "svc") {
-        deliver_svc(behind)
+        deliver_svc(&behind)
     } else if is(at, "ap") {
-        deliver_ap(behind)
+        deliver_ap(&behind)
     } else {
         deliver_module(rest)
     }
 }
 
 /// What stands behind `deliver svc`.
-fn deliver_svc(rest: &[u8]) -> Result<Event, LineFault>
-    ensures { Says result (at_end 3 (words rest.now) (event.Deliver at.Svc)) }
+fn deliver_svc(rest: &Rest<'_>) -> Result<Event, LineFault>
+    ensures { Says result (at_end rest.now (event.Deliver at.Svc)) }
 {
-    end(rest, 3)?;
+    rest.end()?;
     Ok(Event::Deliver { at: End::Svc })
 }
 
 /// `A` behind `deliver ap`.
-fn deliver_ap(rest: &[u8]) -> Result<Event, LineFault>
-    ensures { Says result (delivering_ap (words rest.now)) }
+fn deliver_ap(rest: &Rest<'_>) -> Result<Event, LineFault>
+    ensures { Says result (delivering_ap rest.now) }
 {
-    let (ap, rest) = cport(rest, 3)?;
-    end(rest, 4)?;
+    let (ap, rest) = rest.cport()?;
+    rest.end()?;
     Ok(Event::Deliver { at: End::Ap(ap) })
 }
 
 /// `I C` behind `deliver`.
-fn deliver_module(rest: &[u8]) -> Result<Event, LineFault>
-    ensures { Says result (delivering_module (words rest.now)) }
+fn deliver_module(rest: &Rest<'_>) -> Result<Event, LineFault>
+    ensures { Says result (delivering_module rest.now) }
 {
     let (intf, cport) = only_cport(rest)?;
     Ok(Event::Deliver {
@@ -58,41 +57,41 @@ fn deliver_module(rest: &[u8]) -> Result<Event, LineFault>
 }
 
 /// `settle N`.
-pub fn settle(rest: &[u8]) -> Result<Event, LineFault>
-    ensures { Says result (settling (words rest.now)) }
+pub fn settle(rest: &Rest<'_>) -> Result<Event, LineFault>
+    ensures { Says result (settling rest.now) }
 {
-    let (most, rest) = count(rest, 2)?;
-    end(rest, 3)?;
+    let (most, rest) = rest.count()?;
+    rest.end()?;
     Ok(Event::Settle { most })
 }
 
 /// `answer I C K`.
-pub fn answer(rest: &[u8]) -> Result<Event, LineFault>
-    ensures { Says result (answering (words rest.now)) }
+pub fn answer(rest: &Rest<'_>) -> Result<Event, LineFault>
+    ensures { Says result (answering rest.now) }
 {
-    let (intf, rest) = intf(rest, 2)?;
-    let (cport, rest) = cport(rest, 3)?;
-    let (place, rest) = from_one(rest, 4)?;
-    end(rest, 5)?;
+    let (intf, rest) = rest.intf()?;
+    let (cport, rest) = rest.cport()?;
+    let (place, rest) = rest.from_one()?;
+    rest.end()?;
     Ok(Event::Answer { intf, cport, place })
 }
 
 /// `tick MS`.
-pub fn tick(rest: &[u8]) -> Result<Event, LineFault>
-    ensures { Says result (ticking (words rest.now)) }
+pub fn tick(rest: &Rest<'_>) -> Result<Event, LineFault>
+    ensures { Says result (ticking rest.now) }
 {
-    let (millis, rest) = from_one(rest, 2)?;
-    end(rest, 3)?;
+    let (millis, rest) = rest.from_one()?;
+    rest.end()?;
     Ok(Event::Tick { millis })
 }
 
 /// `inject I C HEX`.
-pub fn inject(alloc: Global, rest: &[u8]) -> Result<Event, LineFault>
-    ensures { Says result (injecting (words rest.now)) }
+pub fn inject(alloc: Global, rest: &Rest<'_>) -> Result<Event, LineFault>
+    ensures { Says result (injecting rest.now) }
 {
-    let (intf, rest) = intf(rest, 2)?;
-    let (cport, rest) = cport(rest, 3)?;
-    let (bytes, rest) = bytes(alloc, rest, 4)?;
-    end(rest, 5)?;
+    let (intf, rest) = rest.intf()?;
+    let (cport, rest) = rest.cport()?;
+    let (bytes, rest) = rest.bytes(alloc)?;
+    rest.end()?;
     Ok(Event::Inject { intf, cport, bytes })
 }

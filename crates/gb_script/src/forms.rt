@@ -1,10 +1,9 @@
 //! The forms of lines, by the first word.
 
-ghost use Rattle.std.specs.Prelude.{◌≡◌, ◌≤◌, false, length};
+ghost use Rattle.std.specs.Prelude.{◌≡◌, false};
 ghost use Rattle.gb_formats.specs.Grammar.{by_first, is_comment};
 ghost use Rattle.gb_base.specs.declared.event.Event.TheVariants as event;
 ghost use Rattle.gb_formats.specs.Said.{at_end};
-ghost use Rattle.gb_formats.specs.Words.{words};
 ghost use Rattle.gb_script.specs.Parts.{by_protocol};
 ghost use Rattle.gb_script.specs.Tells.{Says};
 
@@ -14,18 +13,17 @@ use crate::gpio::gpio;
 use crate::i2c::i2c;
 use crate::interfaces::{connect, disconnect, hold, insert, pull};
 use crate::requests::{cancel, copy, forget, send};
+use crate::rest::Rest;
 use crate::spi::spi;
-use crate::take::end;
 use crate::uart::uart;
 use crate::words::is;
 use gb_base::{Event, LineReason};
 use std::alloc::Global;
 
 /// The event of a line with the first word `first` and the words of `rest` behind it.
-pub fn form(alloc: Global, first: &[u8], rest: &[u8], who: u8) -> Result<Event, LineFault>
-    requires short { length rest.now ≤ 8192 }
+pub fn form(alloc: Global, first: &[u8], rest: &Rest<'_>, who: u8) -> Result<Event, LineFault>
     requires words { is_comment first.now ≡ false }
-    ensures { Says result (by_first who first.now (words rest.now)) }
+    ensures { Says result (by_first who first.now rest.now) }
 {
     if is(first, "boot") {
         boot(rest)
@@ -65,9 +63,8 @@ pub fn form(alloc: Global, first: &[u8], rest: &[u8], who: u8) -> Result<Event, 
 }
 
 /// The event of a line for a bridged protocol.
-fn bridged(alloc: Global, first: &[u8], rest: &[u8], who: u8) -> Result<Event, LineFault>
-    requires { length rest.now ≤ 8192 }
-    ensures { Says result (by_protocol who first.now (words rest.now)) }
+fn bridged(alloc: Global, first: &[u8], rest: &Rest<'_>, who: u8) -> Result<Event, LineFault>
+    ensures { Says result (by_protocol who first.now rest.now) }
 {
     if is(first, "gpio") {
         gpio(rest, who)
@@ -83,17 +80,17 @@ fn bridged(alloc: Global, first: &[u8], rest: &[u8], who: u8) -> Result<Event, L
 }
 
 /// `boot`.
-fn boot(rest: &[u8]) -> Result<Event, LineFault>
-    ensures { Says result (at_end 2 (words rest.now) event.Boot) }
+fn boot(rest: &Rest<'_>) -> Result<Event, LineFault>
+    ensures { Says result (at_end rest.now event.Boot) }
 {
-    end(rest, 2)?;
+    rest.end()?;
     Ok(Event::Boot)
 }
 
 /// `show`.
-fn show(rest: &[u8]) -> Result<Event, LineFault>
-    ensures { Says result (at_end 2 (words rest.now) event.Show) }
+fn show(rest: &Rest<'_>) -> Result<Event, LineFault>
+    ensures { Says result (at_end rest.now event.Show) }
 {
-    end(rest, 2)?;
+    rest.end()?;
     Ok(Event::Show)
 }

@@ -1,25 +1,24 @@
 //! The forms on GPIO.
 
-ghost use Rattle.std.specs.Prelude.{◌≡◌, ◌≤◌};
+ghost use Rattle.std.specs.Prelude.{◌≡◌};
 ghost use Rattle.gb_formats.specs.BridgeForms.{bridging, gpio_asking, gpio_form, gpio_level};
 ghost use Rattle.gb_formats.specs.BridgeForms.{gpio_line, gpio_value};
 ghost use Rattle.gb_base.specs.declared.bridge.BridgeAsk.TheVariants as ask;
 ghost use Rattle.gb_formats.specs.Said.{at_end};
 ghost use Rattle.gb_formats.specs.WordValues.{u8_word, u16_word};
-ghost use Rattle.gb_formats.specs.Words.{words};
 ghost use Rattle.gb_script.specs.Tells.{AsksFor, Says};
 
 use crate::LineFault;
 use crate::bridges::{addressed, begins_with_at};
-use crate::take::{byte, cport, end, intf, level, literal, next, pin, two_bytes};
+use crate::rest::Rest;
 use crate::words::is;
-use gb_base::{BridgeAsk, Event, LineReason};
+use gb_base::{BridgeAsk, Event};
 
 /// `gpio @x I C` and what is asked, or `gpio I C level L V`.
-pub fn gpio(rest: &[u8], who: u8) -> Result<Event, LineFault>
-    ensures { Says result (gpio_form who (words rest.now)) }
+pub fn gpio(rest: &Rest<'_>, who: u8) -> Result<Event, LineFault>
+    ensures { Says result (gpio_form who rest.now) }
 {
-    let (word, _) = next(rest, 2)?;
+    let (word, _behind) = rest.next()?;
     if begins_with_at(word) {
         request(rest, who)
     } else {
@@ -28,11 +27,11 @@ pub fn gpio(rest: &[u8], who: u8) -> Result<Event, LineFault>
 }
 
 /// `@x I C` behind `gpio`, and what is asked.
-fn request(rest: &[u8], who: u8) -> Result<Event, LineFault>
-    ensures { Says result (bridging who (words rest.now) gpio_asking) }
+fn request(rest: &Rest<'_>, who: u8) -> Result<Event, LineFault>
+    ensures { Says result (bridging who rest.now gpio_asking) }
 {
     let (name, intf, cport, rest) = addressed(rest, who)?;
-    let ask = asked(rest)?;
+    let ask = asked(&rest)?;
     Ok(Event::Bridge {
         name,
         intf,
@@ -42,15 +41,15 @@ fn request(rest: &[u8], who: u8) -> Result<Event, LineFault>
 }
 
 /// `I C level L V` behind `gpio`.
-fn outside_level(rest: &[u8]) -> Result<Event, LineFault>
-    ensures { Says result (gpio_level (words rest.now)) }
+fn outside_level(rest: &Rest<'_>) -> Result<Event, LineFault>
+    ensures { Says result (gpio_level rest.now) }
 {
-    let (intf, rest) = intf(rest, 2)?;
-    let (cport, rest) = cport(rest, 3)?;
-    let rest = literal(rest, 4, "level")?;
-    let (line, rest) = pin(rest, 5)?;
-    let (value, rest) = level(rest, 6)?;
-    end(rest, 7)?;
+    let (intf, rest) = rest.intf()?;
+    let (cport, rest) = rest.cport()?;
+    let rest = rest.literal("level")?;
+    let (line, rest) = rest.pin()?;
+    let (value, rest) = rest.level()?;
+    rest.end()?;
     Ok(Event::Level {
         intf,
         cport,
@@ -60,44 +59,44 @@ fn outside_level(rest: &[u8]) -> Result<Event, LineFault>
 }
 
 /// What a GPIO line asks. The types are those of Linux's greybus_protocols.h.
-fn asked(rest: &[u8]) -> Result<BridgeAsk, LineFault>
-    ensures { AsksFor gpio_asking (words rest.now) result }
+fn asked(rest: &Rest<'_>) -> Result<BridgeAsk, LineFault>
+    ensures { AsksFor gpio_asking rest.now result }
 {
-    let (word, rest) = next(rest, 5)?;
+    let (word, behind) = rest.next()?;
     if is(word, "count") {
-        of_none(rest, 0x02)
+        of_none(&behind, 0x02)
     } else if is(word, "activate") {
-        of_line(rest, 0x03)
+        of_line(&behind, 0x03)
     } else if is(word, "deactivate") {
-        of_line(rest, 0x04)
+        of_line(&behind, 0x04)
     } else if is(word, "direction") {
-        of_line(rest, 0x05)
+        of_line(&behind, 0x05)
     } else if is(word, "in") {
-        of_line(rest, 0x06)
+        of_line(&behind, 0x06)
     } else if is(word, "out") {
-        of_byte(rest, 0x07)
+        of_byte(&behind, 0x07)
     } else if is(word, "get") {
-        of_line(rest, 0x08)
+        of_line(&behind, 0x08)
     } else if is(word, "set") {
-        of_byte(rest, 0x09)
+        of_byte(&behind, 0x09)
     } else if is(word, "debounce") {
-        of_two_bytes(rest, 0x0a)
+        of_two_bytes(&behind, 0x0a)
     } else if is(word, "irq") {
-        of_byte(rest, 0x0b)
+        of_byte(&behind, 0x0b)
     } else if is(word, "mask") {
-        of_line(rest, 0x0c)
+        of_line(&behind, 0x0c)
     } else if is(word, "unmask") {
-        of_line(rest, 0x0d)
+        of_line(&behind, 0x0d)
     } else {
-        Err(LineFault::Bad(LineReason::BadWord(5)))
+        Err(LineFault::Bad(rest.bad_word()))
     }
 }
 
 /// A request without a line.
-fn of_none(rest: &[u8], kind: u8) -> Result<BridgeAsk, LineFault>
-    ensures { AsksFor (λ make ws. at_end 6 ws (make (ask.Gpio kind 0 0))) (words rest.now) result }
+fn of_none(rest: &Rest<'_>, kind: u8) -> Result<BridgeAsk, LineFault>
+    ensures { AsksFor (λ make ws. at_end ws (make (ask.Gpio kind 0 0))) rest.now result }
 {
-    end(rest, 6)?;
+    rest.end()?;
     Ok(BridgeAsk::Gpio {
         kind,
         line: 0,
@@ -106,11 +105,11 @@ fn of_none(rest: &[u8], kind: u8) -> Result<BridgeAsk, LineFault>
 }
 
 /// `L`: a request with a line.
-fn of_line(rest: &[u8], kind: u8) -> Result<BridgeAsk, LineFault>
-    ensures { AsksFor (λ make. gpio_line make kind) (words rest.now) result }
+fn of_line(rest: &Rest<'_>, kind: u8) -> Result<BridgeAsk, LineFault>
+    ensures { AsksFor (λ make. gpio_line make kind) rest.now result }
 {
-    let (line, rest) = byte(rest, 6)?;
-    end(rest, 7)?;
+    let (line, rest) = rest.byte()?;
+    rest.end()?;
     Ok(BridgeAsk::Gpio {
         kind,
         line,
@@ -119,12 +118,12 @@ fn of_line(rest: &[u8], kind: u8) -> Result<BridgeAsk, LineFault>
 }
 
 /// `L V`: a request with a line and a value of one byte.
-fn of_byte(rest: &[u8], kind: u8) -> Result<BridgeAsk, LineFault>
-    ensures { AsksFor (λ make. gpio_value make kind u8_word) (words rest.now) result }
+fn of_byte(rest: &Rest<'_>, kind: u8) -> Result<BridgeAsk, LineFault>
+    ensures { AsksFor (λ make. gpio_value make kind u8_word) rest.now result }
 {
-    let (line, rest) = byte(rest, 6)?;
-    let (value, rest) = byte(rest, 7)?;
-    end(rest, 8)?;
+    let (line, rest) = rest.byte()?;
+    let (value, rest) = rest.byte()?;
+    rest.end()?;
     Ok(BridgeAsk::Gpio {
         kind,
         line,
@@ -133,11 +132,11 @@ fn of_byte(rest: &[u8], kind: u8) -> Result<BridgeAsk, LineFault>
 }
 
 /// `L U`: a request with a line and a value of two bytes.
-fn of_two_bytes(rest: &[u8], kind: u8) -> Result<BridgeAsk, LineFault>
-    ensures { AsksFor (λ make. gpio_value make kind u16_word) (words rest.now) result }
+fn of_two_bytes(rest: &Rest<'_>, kind: u8) -> Result<BridgeAsk, LineFault>
+    ensures { AsksFor (λ make. gpio_value make kind u16_word) rest.now result }
 {
-    let (line, rest) = byte(rest, 6)?;
-    let (value, rest) = two_bytes(rest, 7)?;
-    end(rest, 8)?;
+    let (line, rest) = rest.byte()?;
+    let (value, rest) = rest.two_bytes()?;
+    rest.end()?;
     Ok(BridgeAsk::Gpio { kind, line, value })
 }

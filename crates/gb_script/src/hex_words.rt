@@ -27,7 +27,7 @@ fn hex_digits(alloc: Global, word: &[u8]) -> Result<Option<Bytes>, OutOfMemory>
         return Ok(None);
     }
     match hex::decode(alloc, word) {
-        Ok(bytes) => Ok(Some(Bytes::from_slice(alloc, bytes.as_slice())?)),
+        Ok(bytes) => Ok(Some(Bytes::from_vec(bytes))),
         Err(FromHexError::OutOfMemory) => Err(OutOfMemory),
         Err(_) => Ok(None),
     }

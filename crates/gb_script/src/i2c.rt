@@ -5,7 +5,6 @@ ghost use Rattle.gb_base.specs.declared.bridge.BridgeAsk.TheVariants as ask;
 ghost use Rattle.gb_formats.specs.BridgeForms.{bridging, i2c_asking, i2c_form, i2c_op_word};
 ghost use Rattle.gb_formats.specs.BridgeForms.{i2c_read_word, i2c_write_word};
 ghost use Rattle.gb_formats.specs.Said.{at_end};
-ghost use Rattle.gb_formats.specs.Words.{words};
 ghost use Rattle.gb_script.specs.Parts.{i2c_transfer};
 ghost use Rattle.gb_script.specs.Tells.{AsksFor, Says};
 
@@ -13,19 +12,18 @@ use crate::LineFault;
 use crate::bridges::addressed;
 use crate::hex_words::{hex_word, type_word};
 use crate::ops::{OpWord, operations};
-use crate::take::{end, next};
+use crate::rest::Rest;
 use crate::values::number_word;
 use crate::words::is;
-use gb_base::{BridgeAsk, Event, I2cOp, LineReason, OutOfMemory};
+use gb_base::{BridgeAsk, Event, I2cOp, OutOfMemory};
 use std::alloc::Global;
 
 /// `i2c @x I C` and what is asked.
-pub fn i2c(alloc: Global, rest: &[u8], who: u8) -> Result<Event, LineFault>
-    requires { length rest.now ≤ 8192 }
-    ensures { Says result (i2c_form who (words rest.now)) }
+pub fn i2c(alloc: Global, rest: &Rest<'_>, who: u8) -> Result<Event, LineFault>
+    ensures { Says result (i2c_form who rest.now) }
 {
     let (name, intf, cport, rest) = addressed(rest, who)?;
-    let ask = asked(alloc, rest)?;
+    let ask = asked(alloc, &rest)?;
     Ok(Event::Bridge {
         name,
         intf,
@@ -35,34 +33,32 @@ pub fn i2c(alloc: Global, rest: &[u8], who: u8) -> Result<Event, LineFault>
 }
 
 /// What an I2C line asks.
-fn asked(alloc: Global, rest: &[u8]) -> Result<BridgeAsk, LineFault>
-    requires { length rest.now ≤ 8192 }
-    ensures { AsksFor i2c_asking (words rest.now) result }
+fn asked(alloc: Global, rest: &Rest<'_>) -> Result<BridgeAsk, LineFault>
+    ensures { AsksFor i2c_asking rest.now result }
 {
-    let (word, rest) = next(rest, 5)?;
+    let (word, behind) = rest.next()?;
     if is(word, "functionality") {
-        functionality(rest)
+        functionality(&behind)
     } else if is(word, "transfer") {
-        transfer(alloc, rest)
+        transfer(alloc, behind)
     } else {
-        Err(LineFault::Bad(LineReason::BadWord(5)))
+        Err(LineFault::Bad(rest.bad_word()))
     }
 }
 
 /// What stands behind `functionality`.
-fn functionality(rest: &[u8]) -> Result<BridgeAsk, LineFault>
-    ensures { AsksFor (λ make ws. at_end 6 ws (make ask.I2cFunctionality)) (words rest.now) result }
+fn functionality(rest: &Rest<'_>) -> Result<BridgeAsk, LineFault>
+    ensures { AsksFor (λ make ws. at_end ws (make ask.I2cFunctionality)) rest.now result }
 {
-    end(rest, 6)?;
+    rest.end()?;
     Ok(BridgeAsk::I2cFunctionality)
 }
 
 /// Any number of operations behind `transfer`.
-fn transfer(alloc: Global, rest: &[u8]) -> Result<BridgeAsk, LineFault>
-    requires { length rest.now ≤ 8192 }
-    ensures { AsksFor i2c_transfer (words rest.now) result }
+fn transfer(alloc: Global, rest: Rest<'_>) -> Result<BridgeAsk, LineFault>
+    ensures { AsksFor i2c_transfer rest.entry result }
 {
-    let ops = operations(alloc, rest, 6)?;
+    let ops = operations(alloc, rest)?;
     Ok(BridgeAsk::I2cTransfer { ops })
 }
 

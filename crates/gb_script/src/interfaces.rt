@@ -6,87 +6,86 @@ ghost use Rattle.gb_base.specs.declared.event.Event.TheVariants as event;
 ghost use Rattle.gb_formats.specs.Grammar.{inserting, of_cport, of_intf};
 ghost use Rattle.gb_script.specs.Parts.{inserting_kind, inserting_raw};
 ghost use Rattle.gb_formats.specs.Said.{Said};
-ghost use Rattle.gb_formats.specs.Words.{words};
 ghost use Rattle.gb_script.specs.Tells.{Says};
 
 use crate::LineFault;
-use crate::take::{bytes, cport, end, intf, kind, next};
+use crate::rest::Rest;
 use crate::words::is;
 use gb_base::{Event, LineReason};
 use std::alloc::Global;
 
 /// `insert I KIND`, or `insert I raw HEX`.
-pub fn insert(alloc: Global, rest: &[u8]) -> Result<Event, LineFault>
-    ensures { Says result (inserting (words rest.now)) }
+pub fn insert(alloc: Global, rest: &Rest<'_>) -> Result<Event, LineFault>
+    ensures { Says result (inserting rest.now) }
 {
-    let (intf, rest) = intf(rest, 2)?;
-    let (word, behind) = next(rest, 3)?;
+    let (intf, rest) = rest.intf()?;
+    let (word, behind) = rest.next()?;
     if is(word, "raw") {
-        insert_raw(alloc, intf, behind)
+        insert_raw(alloc, intf, &behind)
     } else {
-        insert_kind(intf, rest)
+        insert_kind(intf, &rest)
     }
 }
 
 /// `HEX` behind `insert I raw`.
-fn insert_raw(alloc: Global, intf: u8, rest: &[u8]) -> Result<Event, LineFault>
-    ensures { Says result (inserting_raw intf (words rest.now)) }
+fn insert_raw(alloc: Global, intf: u8, rest: &Rest<'_>) -> Result<Event, LineFault>
+    ensures { Says result (inserting_raw intf rest.now) }
 {
-    let (manifest, rest) = bytes(alloc, rest, 4)?;
-    end(rest, 5)?;
+    let (manifest, rest) = rest.bytes(alloc)?;
+    rest.end()?;
     Ok(Event::InsertRaw { intf, manifest })
 }
 
 /// `KIND` behind `insert I`.
-fn insert_kind(intf: u8, rest: &[u8]) -> Result<Event, LineFault>
-    ensures { Says result (inserting_kind intf (words rest.now)) }
+fn insert_kind(intf: u8, rest: &Rest<'_>) -> Result<Event, LineFault>
+    ensures { Says result (inserting_kind intf rest.now) }
 {
-    let (kind, rest) = kind(rest, 3)?;
-    end(rest, 4)?;
+    let (kind, rest) = rest.kind()?;
+    rest.end()?;
     Ok(Event::Insert { intf, kind })
 }
 
 /// `pull I`.
-pub fn pull(rest: &[u8]) -> Result<Event, LineFault>
-    ensures { Says result (of_intf event.Pull (words rest.now)) }
+pub fn pull(rest: &Rest<'_>) -> Result<Event, LineFault>
+    ensures { Says result (of_intf event.Pull rest.now) }
 {
-    let (intf, rest) = intf(rest, 2)?;
-    end(rest, 3)?;
+    let (intf, rest) = rest.intf()?;
+    rest.end()?;
     Ok(Event::Pull { intf })
 }
 
 /// `connect I C`.
-pub fn connect(rest: &[u8]) -> Result<Event, LineFault>
-    ensures { Says result (of_cport event.Connect (words rest.now)) }
+pub fn connect(rest: &Rest<'_>) -> Result<Event, LineFault>
+    ensures { Says result (of_cport event.Connect rest.now) }
 {
     let (intf, cport) = only_cport(rest)?;
     Ok(Event::Connect { intf, cport })
 }
 
 /// `disconnect I C`.
-pub fn disconnect(rest: &[u8]) -> Result<Event, LineFault>
-    ensures { Says result (of_cport event.Disconnect (words rest.now)) }
+pub fn disconnect(rest: &Rest<'_>) -> Result<Event, LineFault>
+    ensures { Says result (of_cport event.Disconnect rest.now) }
 {
     let (intf, cport) = only_cport(rest)?;
     Ok(Event::Disconnect { intf, cport })
 }
 
 /// `hold I C`.
-pub fn hold(rest: &[u8]) -> Result<Event, LineFault>
-    ensures { Says result (of_cport event.Hold (words rest.now)) }
+pub fn hold(rest: &Rest<'_>) -> Result<Event, LineFault>
+    ensures { Says result (of_cport event.Hold rest.now) }
 {
     let (intf, cport) = only_cport(rest)?;
     Ok(Event::Hold { intf, cport })
 }
 
 /// `I C` as the only words behind the first.
-pub fn only_cport(rest: &[u8]) -> Result<(u8, u16), LineReason>
+pub fn only_cport(rest: &Rest<'_>) -> Result<(u8, u16), LineReason>
     ensures { MatchResult result
-        (λ f. (make : ℕ → ℕ → Event) → of_cport make (words rest.now) ≡ Ok (Some (make f.0 f.1)))
-        (λ why. (make : ℕ → ℕ → Event) → of_cport make (words rest.now) ≡ Err why) }
+        (λ f. (make : ℕ → ℕ → Event) → of_cport make rest.now ≡ Ok (Some (make f.0 f.1)))
+        (λ why. (make : ℕ → ℕ → Event) → of_cport make rest.now ≡ Err why) }
 {
-    let (intf, rest) = intf(rest, 2)?;
-    let (cport, rest) = cport(rest, 3)?;
-    end(rest, 4)?;
+    let (intf, rest) = rest.intf()?;
+    let (cport, rest) = rest.cport()?;
+    rest.end()?;
     Ok((intf, cport))
 }

@@ -1,6 +1,7 @@
 //! Reads a script line by line.
 
-ghost use Rattle.std.specs.Prelude.{◌≡◌, ◌≤◌, ◌+◌, [], length, ℕ, List, Option, Some, None, Err, IfOk, IfSome, IsErrOf, MatchResult, ⊤};
+ghost use Rattle.std.specs.Prelude.{◌≡◌, ◌≤◌, ◌+◌, [], length, ℕ, List, Option, Some, None, Err};
+ghost use Rattle.std.specs.Prelude.{IfOk, IfSome, IsErrOf, MatchResult, ⊤};
 ghost use Rattle.gb_base.specs.Faults.{Rose};
 
 use crate::held::{Held, LineStop};
@@ -40,7 +41,8 @@ pub struct LineReader {
 }
 
 impl LineReader {
-    ghost use Rattle.gb_script.specs.Readers.{CountsOn, IsLineOf, Lends, Reads, ReadsOn, number_of, stop_of, stopped};
+    ghost use Rattle.gb_script.specs.Readers.{CountsOn, IsLineOf, Lends, Reads, ReadsOn, number_of};
+    ghost use Rattle.gb_script.specs.Readers.{stop_of, stopped};
     ghost use Rattle.gb_script.specs.declared.line_reader.Progress.TheVariants as progress;
 
     /// Before the first line. All memory is taken here.

@@ -1,18 +1,20 @@
 //! The script that is made from a number, its seed.
 
-ghost use Rattle.std.specs.Prelude.{◌≡◌, ◌<◌, ◌≤◌, ◌+◌, ◌*◌, ◌/◌, ◌%◌, [], ◌∷◌, IfOk};
-ghost use Rattle.gb_base.specs.declared.bridge.BridgeAsk.TheVariants as ask;
-ghost use Rattle.gb_base.specs.declared.bridge.I2cOp.TheVariants as i2c;
+ghost use Rattle.std.specs.Prelude.{◌≡◌, ◌<◌, ◌≤◌, ◌+◌, ◌-◌, ◌*◌, ◌/◌, ◌%◌, ℕ, IfOk, OnErr, OnOk};
 ghost use Rattle.gb_base.specs.declared.event.Event.TheVariants as event;
-ghost use Rattle.gb_formats.specs.I2cDevice.{i2c_address};
-ghost use Rattle.gb_formats.specs.Made.{last_named, made, made_by, made_drawn, made_lines};
-ghost use Rattle.gb_formats.specs.Made.{made_name, made_number};
+ghost use Rattle.gb_formats.specs.Made.{made, made_drawn, made_lines};
+ghost use Rattle.gb_script.specs.Making.{AreDrawn, further};
 
-use gb_base::{BridgeAsk, Bytes, End, Event, I2cOp, I2cOps, Kind, Name, OutOfMemory, Word};
+use crate::made_table::{by_row, row};
+use gb_base::{Event, Kind, OutOfMemory};
 use std::alloc::Global;
+use std::marker::Model;
 
 /// How many lines the script has.
 pub const MADE_LINES: u32 = 20_024;
+
+/// How many lines stand before those that are drawn.
+const FIRST_LINES: u32 = 23;
 
 /// The generator multiplies its number by this.
 const FACTOR: u64 = 1_103_515_245;
@@ -23,9 +25,6 @@ const ADDEND: u64 = 12_345;
 /// The generator's numbers are below this.
 const MODULUS: u64 = 2_147_483_648;
 
-/// The address of the memory of the I2C adapter.
-const I2C_ADDRESS: u8 = 0x50;
-
 /// At most so many deliveries for a settle that is to deliver all.
 const ALL: u16 = 60_000;
 
@@ -33,31 +32,150 @@ const ALL: u16 = 60_000;
 /// `k` from 1 to 20,024.
 ///
 /// The script plugs four modules, connects their CPorts, and then has lines that are drawn. A call
-/// draws from the seed on, so it takes longer for a line further back. It fails only where no
-/// memory is found.
+/// draws from the seed on, so it takes longer for a line further back: a `Maker` gives all events
+/// in order. It fails only where no memory is found.
 pub fn made(alloc: Global, seed: u32, k: u32) -> Result<Event, OutOfMemory>
     requires seed { seed ≤ 2147483647 }
     requires first { 1 ≤ k }
     requires last { k ≤ made_lines }
     ensures { IfOk result (λ e. e ≡ made seed k) }
 {
-    if k <= 4 {
-        Ok(Event::Insert {
-            intf: (k + 1) as u8,
-            kind: Kind::Bridge,
-        })
-    } else if k == 5 {
-        Ok(Event::Boot)
-    } else if k == 6 {
-        Ok(Event::Settle { most: ALL })
-    } else if k <= 22 {
-        Ok(connect(k - 7))
-    } else if k == 23 {
-        Ok(Event::Settle { most: ALL })
-    } else if k < MADE_LINES {
-        drawn(alloc, seed, k - 23)
-    } else {
-        Ok(Event::Settle { most: ALL })
+    let mut maker = Maker::new(seed);
+    for _ in 1..k {
+        maker.pass();
+    }
+    maker.next(alloc)
+}
+
+/// The events of a made script, one after the other.
+#[derive(Drop)]
+pub struct Maker {
+    seed: u32,
+    /// How many events were given.
+    given: u32,
+    generator: Generator,
+}
+
+impl Model for Maker {
+    ghost use Rattle.std.specs.Prelude.{◌-◌};
+    ghost use Rattle.gb_script.specs.Making.{AreDrawn, Making};
+
+    ghost Value = { Making };
+
+    ghost view = { λ m. record { seed = m.seed; given = m.given } };
+
+    ghost invariant = { λ m.
+        AreDrawn m.seed (m.given - 23) m.generator.number m.generator.named };
+}
+
+impl Maker {
+    /// Before the first event. The seed is at most 2,147,483,647.
+    pub fn new(seed: u32) -> Maker
+        requires { seed ≤ 2147483647 }
+        ensures seed { result.seed ≡ seed }
+        ensures given { result.given ≡ 0 }
+    {
+        let generator = Generator {
+            number: u64::from(seed),
+            named: 0,
+        };
+        Maker {
+            seed,
+            given: 0,
+            generator,
+        }
+    }
+
+    /// The next event. It fails only where no memory is found, and then the maker is as before.
+    pub fn next(&mut self, alloc: Global) -> Result<Event, OutOfMemory>
+        requires { self.old.given < made_lines }
+        ensures event { IfOk result (λ e. e ≡ made self.old.seed (self.old.given + 1)) }
+        ensures ok { OnOk result (self.new ≡ further self.old) }
+        ensures err { OnErr result (self.new ≡ self.old) }
+    {
+        let event = self.coming(alloc)?;
+        self.pass();
+        Ok(event)
+    }
+
+    /// The event that comes next.
+    fn coming(&self, alloc: Global) -> Result<Event, OutOfMemory>
+        requires { self.now.given < made_lines }
+        ensures { IfOk result (λ e. e ≡ made self.now.seed (self.now.given + 1)) }
+    {
+        let k = self.given + 1;
+        if k <= 4 {
+            Ok(Event::Insert {
+                intf: (k + 1) as u8,
+                kind: Kind::Bridge,
+            })
+        } else if k == 5 {
+            Ok(Event::Boot)
+        } else if k == 6 {
+            Ok(Event::Settle { most: ALL })
+        } else if k <= 22 {
+            Ok(connect(k - 7))
+        } else if k == FIRST_LINES {
+            Ok(Event::Settle { most: ALL })
+        } else if k < MADE_LINES {
+            self.generator.drawn(alloc, k - FIRST_LINES)
+        } else {
+            Ok(Event::Settle { most: ALL })
+        }
+    }
+
+    /// Passes over the next event.
+    fn pass(&mut self)
+        requires { self.old.given < made_lines }
+        ensures { self.new ≡ further self.old }
+    {
+        self.given += 1;
+        self.generator = self.generator.behind(self.given);
+    }
+}
+
+/// A state of the generator.
+#[derive(Clone, Copy)]
+struct Generator {
+    /// Its number.
+    number: u64,
+    /// The last line drawn that names a request, 0 where there is none.
+    named: u32,
+}
+
+impl Generator {
+    /// Line `k` of those that are drawn, 1 to 20,000, by the generator behind the line before it.
+    fn drawn(self, alloc: Global, k: u32) -> Result<Event, OutOfMemory>
+        requires small { self.number < 2147483648 }
+        requires named { self.named ≤ 20000 }
+        requires first { 1 ≤ k }
+        requires last { k ≤ 20000 }
+        ensures { (seed : ℕ) → AreDrawn seed (k - 1) self.number self.named
+            → IfOk result (λ e. e ≡ made_drawn seed k) }
+    {
+        by_row(alloc, k, self.named, draw(next(self.number)))
+    }
+
+    /// Behind line `k` of the script, from that before it.
+    fn behind(self, k: u32) -> Generator
+        requires { self.number < 2147483648 }
+        ensures { (seed : ℕ) → AreDrawn seed (k - 24) self.number self.named
+            → AreDrawn seed (k - 23) result.number result.named }
+    {
+        if k <= FIRST_LINES {
+            return self;
+        }
+        let number = next(self.number);
+        if row(draw(number)) > 3 {
+            return Generator {
+                number,
+                named: self.named,
+            };
+        }
+        Generator {
+            number,
+            named: k - FIRST_LINES,
+        }
     }
 }
 
@@ -70,44 +188,6 @@ fn connect(place: u32) -> Event
         intf: (2 + place / 4) as u8,
         cport: (1 + place % 4) as u16,
     }
-}
-
-/// Line `k` of those that are drawn, 1 to 20,000.
-fn drawn(alloc: Global, seed: u32, k: u32) -> Result<Event, OutOfMemory>
-    requires seed { seed ≤ 2147483647 }
-    requires first { 1 ≤ k }
-    requires last { k ≤ 20000 }
-    ensures { IfOk result (λ e. e ≡ made_drawn seed k) }
-{
-    let Generator { number, named } = after(seed, k - 1);
-    by_row(alloc, k, named, draw(next(number)))
-}
-
-/// A state of the generator.
-struct Generator {
-    /// Its number.
-    number: u64,
-    /// The last line drawn that names a request, 0 where there is none.
-    named: u32,
-}
-
-/// The generator behind `count` lines.
-fn after(seed: u32, count: u32) -> Generator
-    requires { seed ≤ 2147483647 }
-    ensures number { result.number ≡ made_number seed count }
-    ensures bound { result.number < 2147483648 }
-    ensures named { result.named ≡ last_named seed count }
-    ensures most { result.named ≤ count }
-{
-    let mut number = u64::from(seed);
-    let mut named = 0;
-    for place in 0..count {
-        number = next(number);
-        if row(draw(number)) <= 3 {
-            named = place + 1;
-        }
-    }
-    Generator { number, named }
 }
 
 /// The generator's number behind this one.
@@ -124,123 +204,4 @@ fn draw(number: u64) -> u64
     ensures { result ≡ number / 65536 }
 {
     number / 65536
-}
-
-/// The row of the table of lines, 0 to 7.
-fn row(draw: u64) -> u64
-    ensures { result ≡ draw % 8 }
-{
-    draw % 8
-}
-
-/// The interface of a line, 2 to 5.
-fn intf(draw: u64) -> u8
-    ensures { result ≡ 2 + draw / 8 % 4 }
-{
-    (2 + draw / 8 % 4) as u8
-}
-
-/// The value of a line, 0 to 7.
-fn value(draw: u64) -> u8
-    ensures { result ≡ draw / 32 % 8 }
-{
-    (draw / 32 % 8) as u8
-}
-
-/// Line `k` of the table, by what is drawn for it. Line `named` is the last before it that names a
-/// request.
-fn by_row(alloc: Global, k: u32, named: u32, draw: u64) -> Result<Event, OutOfMemory>
-    requires line { k ≤ 20000 }
-    requires named { named ≤ 20000 }
-    ensures { IfOk result
-        (λ e. e ≡ made_by k named (draw % 8) (2 + draw / 8 % 4) (draw / 32 % 8)) }
-{
-    let (row, intf, value) = (row(draw), intf(draw), value(draw));
-    if row <= 1 {
-        activate(alloc, k, intf, value)
-    } else if row == 2 {
-        transfer(alloc, k, intf, value)
-    } else if row == 3 {
-        send(alloc, k, intf, value)
-    } else if row == 4 {
-        Ok(Event::Settle { most: 5 })
-    } else if row == 5 {
-        let name = name(alloc, named)?;
-        Ok(Event::Cancel { name })
-    } else if row == 6 {
-        Ok(Event::Tick { millis: 200 })
-    } else {
-        let at = End::Module { intf, cport: 1 };
-        Ok(Event::Deliver { at })
-    }
-}
-
-/// `gpio @nk I 1 activate v`.
-fn activate(alloc: Global, k: u32, intf: u8, value: u8) -> Result<Event, OutOfMemory>
-    requires { k ≤ 20000 }
-    ensures { IfOk result (λ e. e ≡ event.Bridge (made_name k) intf 1 (ask.Gpio 0x03 value 0)) }
-{
-    let name = name(alloc, k)?;
-    let ask = BridgeAsk::Gpio {
-        kind: 0x03,
-        line: value,
-        value: 0,
-    };
-    Ok(Event::Bridge {
-        name,
-        intf,
-        cport: 1,
-        ask,
-    })
-}
-
-/// `i2c @nk I 2 transfer w:50:0v r:50:4`.
-fn transfer(alloc: Global, k: u32, intf: u8, value: u8) -> Result<Event, OutOfMemory>
-    requires { k ≤ 20000 }
-    ensures { IfOk result (λ e. e ≡ event.Bridge (made_name k) intf 2
-        (ask.I2cTransfer (i2c.Put i2c_address (value ∷ []) ∷ i2c.Get i2c_address 4 ∷ []))) }
-{
-    let name = name(alloc, k)?;
-    let mut ops = I2cOps::new(alloc);
-    ops.push(I2cOp::Put {
-        addr: I2C_ADDRESS,
-        bytes: Bytes::from_slice(alloc, &[value])?,
-    })?;
-    ops.push(I2cOp::Get {
-        addr: I2C_ADDRESS,
-        len: 4,
-    })?;
-    Ok(Event::Bridge {
-        name,
-        intf,
-        cport: 2,
-        ask: BridgeAsk::I2cTransfer { ops },
-    })
-}
-
-/// `uart @nk I 4 send 0v`.
-fn send(alloc: Global, k: u32, intf: u8, value: u8) -> Result<Event, OutOfMemory>
-    requires { k ≤ 20000 }
-    ensures { IfOk result (λ e. e ≡ event.Bridge (made_name k) intf 4 (ask.UartSend (value ∷ []))) }
-{
-    let name = name(alloc, k)?;
-    let bytes = Bytes::from_slice(alloc, &[value])?;
-    Ok(Event::Bridge {
-        name,
-        intf,
-        cport: 4,
-        ask: BridgeAsk::UartSend { bytes },
-    })
-}
-
-/// `nk`: `n` and the number of a line.
-fn name(alloc: Global, k: u32) -> Result<Name, OutOfMemory>
-    requires { k ≤ 20000 }
-    ensures { IfOk result (λ n. n ≡ made_name k) }
-{
-    let text = format!(in alloc; "n{k}")?;
-    let Some(word) = Word::from_bytes(text.as_bytes()) else {
-        unreachable!()
-    };
-    Ok(Name { who: 0, word })
 }

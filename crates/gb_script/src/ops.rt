@@ -1,12 +1,11 @@
 //! Words that are the operations of a transfer.
 
-ghost use Rattle.std.specs.Prelude.{◌≡◌, ◌≤◌, ℕ, List, Option, IfOk, length};
-ghost use Rattle.gb_formats.specs.Words.{words};
+ghost use Rattle.std.specs.Prelude.{◌≡◌, ℕ, List, Option, IfOk};
 ghost use Rattle.gb_script.specs.Tells.{EachWord};
 
 use crate::LineFault;
-use crate::words::first_word;
-use gb_base::{LineReason, OutOfMemory, Sequence};
+use crate::rest::Rest;
+use gb_base::{OutOfMemory, Sequence};
 use std::alloc::Global;
 
 /// An operation of a transfer, as a word spells it.
@@ -19,26 +18,18 @@ pub trait OpWord: Drop {
         ensures { IfOk result (λ o. o ≡ meaning word.now) };
 }
 
-/// The operations that all words of a line spell, the first of which has this place.
-pub fn operations<T: OpWord>(
-    alloc: Global,
-    line: &[u8],
-    first_place: u32,
-) -> Result<Sequence<T>, LineFault>
-    requires short { length line.now ≤ 8192 }
-    requires front { first_place ≤ 8 }
-    ensures { EachWord T.meaning first_place (words line.now) result }
+/// The operations that all words that are left spell.
+pub fn operations<T: OpWord>(alloc: Global, rest: Rest<'_>) -> Result<Sequence<T>, LineFault>
+    ensures { EachWord T.meaning rest.entry result }
 {
     let mut operations = Sequence::new(alloc);
-    let mut rest = line;
-    let mut place = first_place;
-    while let Some((word, behind)) = first_word(rest) {
+    let mut rest = rest;
+    while let Some((word, behind)) = rest.split_first() {
         let Some(operation) = T::read(alloc, word)? else {
-            return Err(LineFault::Bad(LineReason::BadWord(place)));
+            return Err(LineFault::Bad(rest.bad_word()));
         };
         operations.push(operation)?;
         rest = behind;
-        place += 1;
     }
     Ok(operations)
 }

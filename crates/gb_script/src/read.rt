@@ -6,6 +6,7 @@ ghost use Rattle.gb_script.specs.Tells.{Tells};
 use crate::LineFault;
 use crate::forms::form;
 use crate::plain::plain;
+use crate::rest::Rest;
 use crate::words::first_word;
 use gb_base::Event;
 use std::alloc::Global;
@@ -21,5 +22,6 @@ pub fn event(alloc: Global, line: &[u8], who: u8) -> Result<Option<Event>, LineF
     if first.first() == Some(&b'#') {
         return Ok(None);
     }
-    Ok(Some(form(alloc, first, rest, who)?))
+    let rest = Rest::behind_first(rest);
+    Ok(Some(form(alloc, first, &rest, who)?))
 }

@@ -4,7 +4,6 @@ ghost use Rattle.std.specs.Prelude.{◌≡◌, ◌≤◌, IfOk, length};
 ghost use Rattle.gb_base.specs.declared.bridge.BridgeAsk.TheVariants as ask;
 ghost use Rattle.gb_formats.specs.BridgeForms.{spi_asking, spi_form, spi_op_word, spi_transfer};
 ghost use Rattle.gb_formats.specs.Said.{at_end};
-ghost use Rattle.gb_formats.specs.Words.{words};
 ghost use Rattle.gb_script.specs.Parts.{spi_both_word, spi_device, spi_read_word, spi_write_word};
 ghost use Rattle.gb_script.specs.Tells.{AsksFor, Says};
 
@@ -12,19 +11,18 @@ use crate::LineFault;
 use crate::bridges::addressed;
 use crate::hex_words::hex_word;
 use crate::ops::{OpWord, operations};
-use crate::take::{byte, end, next};
+use crate::rest::Rest;
 use crate::values::number_word;
 use crate::words::is;
-use gb_base::{BridgeAsk, Event, LineReason, OutOfMemory, SpiOp};
+use gb_base::{BridgeAsk, Event, OutOfMemory, SpiOp};
 use std::alloc::Global;
 
 /// `spi @x I C` and what is asked.
-pub fn spi(alloc: Global, rest: &[u8], who: u8) -> Result<Event, LineFault>
-    requires { length rest.now ≤ 8192 }
-    ensures { Says result (spi_form who (words rest.now)) }
+pub fn spi(alloc: Global, rest: &Rest<'_>, who: u8) -> Result<Event, LineFault>
+    ensures { Says result (spi_form who rest.now) }
 {
     let (name, intf, cport, rest) = addressed(rest, who)?;
-    let ask = asked(alloc, rest)?;
+    let ask = asked(alloc, &rest)?;
     Ok(Event::Bridge {
         name,
         intf,
@@ -34,47 +32,45 @@ pub fn spi(alloc: Global, rest: &[u8], who: u8) -> Result<Event, LineFault>
 }
 
 /// What an SPI line asks.
-fn asked(alloc: Global, rest: &[u8]) -> Result<BridgeAsk, LineFault>
-    requires { length rest.now ≤ 8192 }
-    ensures { AsksFor spi_asking (words rest.now) result }
+fn asked(alloc: Global, rest: &Rest<'_>) -> Result<BridgeAsk, LineFault>
+    ensures { AsksFor spi_asking rest.now result }
 {
-    let (word, rest) = next(rest, 5)?;
+    let (word, behind) = rest.next()?;
     if is(word, "config") {
-        config(rest)
+        config(&behind)
     } else if is(word, "device") {
-        device(rest)
+        device(&behind)
     } else if is(word, "transfer") {
-        transfer(alloc, rest)
+        transfer(alloc, &behind)
     } else {
-        Err(LineFault::Bad(LineReason::BadWord(5)))
+        Err(LineFault::Bad(rest.bad_word()))
     }
 }
 
 /// What stands behind `config`.
-fn config(rest: &[u8]) -> Result<BridgeAsk, LineFault>
-    ensures { AsksFor (λ make ws. at_end 6 ws (make ask.SpiConfig)) (words rest.now) result }
+fn config(rest: &Rest<'_>) -> Result<BridgeAsk, LineFault>
+    ensures { AsksFor (λ make ws. at_end ws (make ask.SpiConfig)) rest.now result }
 {
-    end(rest, 6)?;
+    rest.end()?;
     Ok(BridgeAsk::SpiConfig)
 }
 
 /// `S` behind `device`.
-fn device(rest: &[u8]) -> Result<BridgeAsk, LineFault>
-    ensures { AsksFor spi_device (words rest.now) result }
+fn device(rest: &Rest<'_>) -> Result<BridgeAsk, LineFault>
+    ensures { AsksFor spi_device rest.now result }
 {
-    let (select, rest) = byte(rest, 6)?;
-    end(rest, 7)?;
+    let (select, rest) = rest.byte()?;
+    rest.end()?;
     Ok(BridgeAsk::SpiDevice { select })
 }
 
 /// `S M` and any number of entries behind `transfer`.
-fn transfer(alloc: Global, rest: &[u8]) -> Result<BridgeAsk, LineFault>
-    requires { length rest.now ≤ 8192 }
-    ensures { AsksFor spi_transfer (words rest.now) result }
+fn transfer(alloc: Global, rest: &Rest<'_>) -> Result<BridgeAsk, LineFault>
+    ensures { AsksFor spi_transfer rest.now result }
 {
-    let (select, rest) = byte(rest, 6)?;
-    let (mode, rest) = byte(rest, 7)?;
-    let ops = operations(alloc, rest, 8)?;
+    let (select, rest) = rest.byte()?;
+    let (mode, rest) = rest.byte()?;
+    let ops = operations(alloc, rest)?;
     Ok(BridgeAsk::SpiTransfer { select, mode, ops })
 }
 

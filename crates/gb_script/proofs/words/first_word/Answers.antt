@@ -13,10 +13,14 @@ loop-i-preserved c =
     elim c.if-b-eq32.branch [
       | then-b-eq32+else-start-i w ↦ record {
         front = omega arith;
-        read = HasRead-space line start i next w.start-is (omega arith) c.loop-i-test.true w.if-b-eq32.true read;
+        read =
+            HasRead-space line start i next w.start-is (omega arith) c.loop-i-test.true
+            w.if-b-eq32.true read;
       }
       | else-b-eq32 w ↦ record {
         front = omega arith;
-        read = HasRead-byte line start i next w.start-is c.loop-i.invariant.front c.loop-i-test.true w.if-b-eq32.false read;
+        read =
+            HasRead-byte line start i next w.start-is c.loop-i.invariant.front c.loop-i-test.true
+            w.if-b-eq32.false read;
       }
     ]

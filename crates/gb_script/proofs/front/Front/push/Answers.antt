@@ -9,10 +9,14 @@ returns c = λ raw h.
     elim c.if-self-lt-KEPT.branch [
       | then-self-lt-KEPT w ↦ rw w.self-is (record {
         size_is = rw (length-append raw (c.args.b ∷ [])) (omega (arith, h.size_is));
-        kept = push-in f.bytes.items raw f.size 8193 c.args.b h.size_is f.kept w.if-self-lt-KEPT.true h.kept;
+        kept =
+            push-in f.bytes.items raw f.size 8193 c.args.b h.size_is f.kept w.if-self-lt-KEPT.true
+            h.kept;
       })
       | else-self-lt-KEPT w ↦ rw w.self-is (record {
         size_is = rw (length-append raw (c.args.b ∷ [])) (omega (arith, h.size_is));
-        kept = push-out f.bytes.items raw f.size 8193 c.args.b h.size_is f.kept w.if-self-lt-KEPT.false h.kept;
+        kept =
+            push-out f.bytes.items raw f.size 8193 c.args.b h.size_is f.kept w.if-self-lt-KEPT.false
+            h.kept;
       })
     ]

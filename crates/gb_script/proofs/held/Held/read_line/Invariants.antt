@@ -9,7 +9,8 @@ abbrev pub invariant-loop-b : goal.invariant-loop-b
 invariant-loop-b g l = record {
   raw : List ℕ;
   plain : HasNoLf raw;
-  taken : Consumes (to_come l.initial.self (g.S.Source.left l.initial.source)) (to_come l.self (g.S.Source.left l.source)) raw;
+  taken : Consumes (to_come l.initial.self (g.S.Source.left l.initial.source))
+      (to_come l.self (g.S.Source.left l.source)) raw;
   front : IsFront l.self.front raw;
   room : length raw + l.self.room ≡ l.initial.self.room;
   within : l.initial.self.room ≤ 1048576;
