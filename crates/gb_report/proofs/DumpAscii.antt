@@ -1,5 +1,6 @@
 -- The texts of the dump are ASCII.
-use Rattle.std.proofs.Common.{◌≡◌, ℕ, suc, ◌<◌, Bool, true, false, if◌then◌else◌, List, [], ◌∷◌, ◌++◌, refl, sym, codes, nat_lt, IsAscii, ◌∙◌, ◌&&◌, arith}
+use Rattle.std.proofs.Common.{◌≡◌, ℕ, suc, ◌<◌, Bool, true, false, if◌then◌else◌, List, [], ◌∷◌}
+use Rattle.std.proofs.Common.{◌++◌, refl, sym, codes, nat_lt, IsAscii, ◌∙◌, ◌&&◌, arith}
 use Rattle.std.specs.Fmt.{decimal}
 use Rattle.std.specs.List.{list_all}
 use Rattle.std.proofs.lemmas.Bool.Decides.{nat_tests}
@@ -9,7 +10,8 @@ use Rattle.gb_base.specs.declared.entry.Entry.TheVariants as entry
 use Rattle.gb_base.specs.declared.fault.Reason.{Reason}
 use Rattle.gb_formats.specs.Bytes.{byte_text, joined}
 use Rattle.gb_formats.specs.Descriptors.{Descriptor}
-use Rattle.gb_formats.specs.Dump.{check_text, descriptor_line, manifest_line, refused_text, stands_as_is, string_byte_text, string_text}
+use Rattle.gb_formats.specs.Dump.{check_text, descriptor_line, manifest_line, refused_text}
+use Rattle.gb_formats.specs.Dump.{stands_as_is, string_byte_text, string_text}
 use Rattle.gb_formats.specs.Manifest.{Manifest}
 use Rattle.gb_formats.specs.ManifestRules.{Refused}
 use Rattle.gb_formats.specs.Reasons.{reason_text}
@@ -41,8 +43,10 @@ front : (xs ys : List ℕ) → is_ascii (xs ++ ys) ≡ true → is_ascii xs ≡ 
 front xs ys h = left (is_ascii xs) (is_ascii ys) (sym (cat xs ys) ∙ h)
 
 -- what the report has for entries that show no text
-line_is : (e : Entry) → ((text : List ℕ) → e ≡ entry.Shown text → ⊥) → is_ascii (entry_text 0 false e) ≡ true
-line_is e h = tested (entry_text 0 false e) (IsAscii-entry_text 0 false e (λ text is. absurd (h text is)))
+line_is : (e : Entry) → ((text : List ℕ) → e ≡ entry.Shown text → ⊥)
+    → is_ascii (entry_text 0 false e) ≡ true
+line_is e h = tested (entry_text 0 false e)
+    (IsAscii-entry_text 0 false e (λ text is. absurd (h text is)))
 
 pub dec : (n : ℕ) → is_ascii (decimal n) ≡ true
 dec n = front (decimal n) (10 ∷ []) (line_is (entry.Settled n) (λ text is. cc))
@@ -59,8 +63,11 @@ behind xs ys h = right (is_ascii xs) (is_ascii ys) (sym (cat xs ys) ∙ h)
 
 because : (why : Reason) → is_ascii (reason_text why) ≡ true
 because why =
-    let whole = front (entry_line 0 false (entry.Manifest 0 0 why)) (10 ∷ []) (line_is (entry.Manifest 0 0 why) (λ text is. cc)) in
-    behind (decimal 0) (codes " " ++ reason_text why) (behind (decimal 0) (codes " refused " ++ (decimal 0 ++ (codes " " ++ reason_text why))) whole)
+    let whole = front (entry_line 0 false (entry.Manifest 0 0 why)) (10 ∷ [])
+    (line_is (entry.Manifest 0 0 why) (λ text is. cc)) in
+    behind (decimal 0) (codes " " ++ reason_text why)
+    (behind (decimal 0)
+    (codes " refused " ++ (decimal 0 ++ (codes " " ++ reason_text why))) whole)
 
 -- a byte of a string
 escaped : (b : ℕ) → is_ascii (codes "\\x" ++ byte_text b) ≡ true
@@ -69,13 +76,16 @@ escaped b = cat (codes "\\x") (byte_text b) ∙ byte b
 pub IsAscii-escaped : (b : ℕ) → IsAscii (codes "\\x" ++ byte_text b)
 IsAscii-escaped b = seen (codes "\\x" ++ byte_text b) (escaped b)
 
-shown : (b : ℕ) (t : Bool) → stands_as_is b ≡ t → is_ascii (if t then b ∷ [] else codes "\\x" ++ byte_text b) ≡ true
+shown : (b : ℕ) (t : Bool) → stands_as_is b ≡ t
+    → is_ascii (if t then b ∷ [] else codes "\\x" ++ byte_text b) ≡ true
 shown b true h = grind (arith, nat_tests)
 shown b false h = escaped b
 
 string : (bs : List ℕ) → is_ascii (string_text bs) ≡ true
 string [] = refl
-string (b ∷ bs) = cat (string_byte_text b) (string_text bs) ∙ rw (shown b (stands_as_is b) refl, string bs) refl
+string (b ∷ bs) =
+    cat (string_byte_text b) (string_text bs)
+    ∙ rw (shown b (stands_as_is b) refl, string bs) refl
 
 line : (d : Descriptor) → is_ascii (descriptor_line d) ≡ true
 line (Descriptor.Interface v p f) = simp (cat, dec, byte)
@@ -90,10 +100,13 @@ pub IsAscii-descriptor_line : (d : Descriptor) → IsAscii (ended (descriptor_li
 IsAscii-descriptor_line d = end_of_line (descriptor_line d) (line d)
 
 pub IsAscii-check_text : (m : Manifest) → IsAscii (check_text m)
-IsAscii-check_text m = end_of_line (joined (codes "manifest ok " ∷ decimal m.size ∷ [])) (dec m.size)
+IsAscii-check_text m =
+    end_of_line (joined (codes "manifest ok " ∷ decimal m.size ∷ [])) (dec m.size)
 
 pub IsAscii-refused_text : (why : Refused) → IsAscii (refused_text why)
-IsAscii-refused_text why = end_of_line (joined (codes "refused " ∷ decimal why.at ∷ codes " " ∷ reason_text why.reason ∷ [])) (simp (cat, dec, because))
+IsAscii-refused_text why = end_of_line
+    (joined (codes "refused " ∷ decimal why.at ∷ codes " " ∷ reason_text why.reason ∷ []))
+    (simp (cat, dec, because))
 
 pub IsAscii-manifest_line : (m : Manifest) → IsAscii (ended (manifest_line m))
 IsAscii-manifest_line m = end_of_line (manifest_line m) (simp (cat, dec))

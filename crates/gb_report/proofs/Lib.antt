@@ -1,3 +1,4 @@
+pub mod DigitsText
 pub mod DumpAscii
 pub mod DumpText
 pub mod SummaryAscii

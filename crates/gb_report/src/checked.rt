@@ -4,6 +4,7 @@ ghost use Rattle.std.specs.Prelude.{◌≡◌, ◌++◌, OnOk, OnErr};
 ghost use Rattle.gb_formats.specs.Dump.{check_text, refused_text};
 ghost use Rattle.gb_manifest.specs.Values.{refused_of};
 
+use crate::lines::{line_of, put_line};
 use crate::names::reason_name;
 use gb_base::{OutOfMemory, Text};
 use gb_manifest::{Manifest, Refused};
@@ -15,9 +16,8 @@ pub fn put_accepted(alloc: Global, m: &Manifest<'_>, out: &mut Text) -> Result<(
     ensures err { OnErr result (out.new ≡ out.old) }
 {
     let size = m.size();
-    let line = format!(in alloc; "manifest ok {size}")?;
-    let ended = format!(in alloc; "{line}\n")?;
-    out.append(&ended)
+    let line = line_of(alloc, format_args!("manifest ok {size}"))?;
+    put_line(line, out)
 }
 
 /// Appends `refused`, the place and the reason. After a refusal `out` is as before.
@@ -26,7 +26,6 @@ pub fn put_refused(alloc: Global, why: &Refused, out: &mut Text) -> Result<(), O
     ensures err { OnErr result (out.new ≡ out.old) }
 {
     let (at, reason) = (why.at, reason_name(why.reason));
-    let line = format!(in alloc; "refused {at} {reason}")?;
-    let ended = format!(in alloc; "{line}\n")?;
-    out.append(&ended)
+    let line = line_of(alloc, format_args!("refused {at} {reason}"))?;
+    put_line(line, out)
 }

@@ -6,6 +6,7 @@ ghost use Rattle.gb_formats.specs.Dump.{descriptor_line, dump_text, manifest_lin
 ghost use Rattle.gb_formats.specs.Dump.{stands_as_is, string_byte_text, string_text};
 ghost use Rattle.gb_manifest.specs.Values.{descriptor_of};
 
+use crate::lines::{line_of, put_line};
 use crate::parts::Hex;
 use gb_base::{OutOfMemory, Text};
 use gb_manifest::{Descriptor, Manifest};
@@ -28,13 +29,14 @@ fn dump_of(alloc: Global, m: &Manifest<'_>) -> Result<Text, OutOfMemory>
 {
     let mut text = Text::new(alloc);
     let (minor, size) = (m.minor(), m.size());
-    let line = format!(in alloc; "manifest version 0.{minor} size {size}")?;
-    let ended = format!(in alloc; "{line}\n")?;
-    text.append(&ended)?;
+    let line = line_of(
+        alloc,
+        format_args!("manifest version 0.{minor} size {size}"),
+    )?;
+    put_line(line, &mut text)?;
     for d in m.descriptors() {
         let line = line_of_descriptor(alloc, &d)?;
-        let ended = format!(in alloc; "{line}\n")?;
-        text.append(&ended)?;
+        put_line(line, &mut text)?;
     }
     Ok(text)
 }
@@ -50,18 +52,19 @@ fn line_of_descriptor(alloc: Global, d: &Descriptor<'_>) -> Result<String, OutOf
             features,
         } => {
             let features = Hex(*features);
-            Ok(format!(in alloc;
-                "interface vendor {vendor} product {product} features {features}"
-            )?)
+            line_of(
+                alloc,
+                format_args!("interface vendor {vendor} product {product} features {features}"),
+            )
         }
         Descriptor::Words { id, bytes } => {
             let quoted = quoted(alloc, bytes)?;
             let text = str::from_utf8(quoted.items()).unwrap();
-            Ok(format!(in alloc; "string {id} \"{text}\"")?)
+            line_of(alloc, format_args!("string {id} \"{text}\""))
         }
         Descriptor::Bundle { id, class } => {
             let class = Hex(*class);
-            Ok(format!(in alloc; "bundle {id} class {class}")?)
+            line_of(alloc, format_args!("bundle {id} class {class}"))
         }
         Descriptor::Cport {
             id,
@@ -69,7 +72,10 @@ fn line_of_descriptor(alloc: Global, d: &Descriptor<'_>) -> Result<String, OutOf
             protocol,
         } => {
             let protocol = Hex(*protocol);
-            Ok(format!(in alloc; "cport {id} bundle {bundle} protocol {protocol}")?)
+            line_of(
+                alloc,
+                format_args!("cport {id} bundle {bundle} protocol {protocol}"),
+            )
         }
     }
 }

@@ -5,22 +5,23 @@ ghost use Rattle.std.specs.String.{string_bytes};
 ghost use Rattle.gb_formats.specs.Texts.{entry_line};
 ghost use Rattle.gb_report.specs.Groups.{is_device, is_link, is_message, is_raw, is_request};
 
+use crate::lines::line_of;
 use crate::names::{lost_mark, reason_name, refusal_name, stage_name, state_name};
-use crate::parts::{Dropped, Hex, Item, Raw, Said, Way, hex_of, outcome_of, size_of};
+use crate::parts::{Dropped, Hex, Item, Raw, Said, Way, digits_of, ending_of, size_of};
 use gb_base::{Entry, OutOfMemory};
 use std::alloc::Global;
 use std::str;
 
 /// The line of an entry, without its end.
-pub fn line_of(alloc: Global, entry: &Entry, line: u32, hex: bool) -> Result<String, OutOfMemory>
+pub fn entry_line(alloc: Global, entry: &Entry, line: u32, hex: bool) -> Result<String, OutOfMemory>
     ensures text { IfOk result (λ s. string_bytes s ≡ entry_line line hex entry.now) }
     ensures ascii { OnOk result ((shown : List ℕ) → entry.now ≡ Entry.Shown shown → IsAscii shown) }
 {
     match entry {
-        Entry::Done => Ok(format!(in alloc; "line {line} ok")?),
+        Entry::Done => line_of(alloc, format_args!("line {line} ok")),
         Entry::Refused { why } => {
             let why = refusal_name(*why);
-            Ok(format!(in alloc; "line {line} refused {why}")?)
+            line_of(alloc, format_args!("line {line} refused {why}"))
         }
         Entry::Asked { .. } | Entry::Replied { .. } => message_line(alloc, entry, hex),
         Entry::Held { .. }
@@ -37,10 +38,10 @@ pub fn line_of(alloc: Global, entry: &Entry, line: u32, hex: bool) -> Result<Str
         }
         Entry::Irq { .. } | Entry::Received { .. } | Entry::Serial { .. } | Entry::Credits { .. } =>
             { device_line(alloc, entry) }
-        Entry::Settled { count } => Ok(format!(in alloc; "settled {count}")?),
+        Entry::Settled { count } => line_of(alloc, format_args!("settled {count}")),
         Entry::Shown { text } => {
             let text = str::from_utf8(text.items()).unwrap();
-            Ok(format!(in alloc; "{text}")?)
+            line_of(alloc, format_args!("{text}"))
         }
     }
 }
@@ -63,7 +64,10 @@ fn message_line(alloc: Global, entry: &Entry, hex: bool) -> Result<String, OutOf
             let (way, kind) = (Way(*from, *to), Hex(*kind));
             let size = size_of(alloc, hex, *size, bytes)?;
             let lost = lost_mark(*lost);
-            Ok(format!(in alloc; "ask #{number} {way} type {kind} size {size}{lost}")?)
+            line_of(
+                alloc,
+                format_args!("ask #{number} {way} type {kind} size {size}{lost}"),
+            )
         }
         Entry::Replied {
             number,
@@ -75,7 +79,10 @@ fn message_line(alloc: Global, entry: &Entry, hex: bool) -> Result<String, OutOf
         } => {
             let (item, way, code) = (Item(*number), Way(*from, *to), Hex(*code));
             let size = size_of(alloc, hex, *size, bytes)?;
-            Ok(format!(in alloc; "reply {item} {way} result {code} size {size}")?)
+            line_of(
+                alloc,
+                format_args!("reply {item} {way} result {code} size {size}"),
+            )
         }
         _ => unreachable!(),
     }
@@ -90,25 +97,25 @@ fn request_line(alloc: Global, entry: &Entry) -> Result<String, OutOfMemory>
     match entry {
         Entry::Held { number } => {
             let item = Item(*number);
-            Ok(format!(in alloc; "held {item}")?)
+            line_of(alloc, format_args!("held {item}"))
         }
         Entry::Ended {
             number,
             outcome,
             reading,
         } => {
-            let outcome = outcome_of(alloc, outcome)?;
+            let how = ending_of(alloc, outcome)?;
             let said = Said(*reading);
-            Ok(format!(in alloc; "end #{number} {outcome}{said}")?)
+            line_of(alloc, format_args!("end #{number} {how}{said}"))
         }
-        Entry::Late { number } => Ok(format!(in alloc; "late #{number}")?),
+        Entry::Late { number } => line_of(alloc, format_args!("late #{number}")),
         Entry::Dropped { number, reply } => {
             let dropped = Dropped(*number, *reply);
-            Ok(format!(in alloc; "drop {dropped}")?)
+            line_of(alloc, format_args!("drop {dropped}"))
         }
         Entry::Ignored { kind } => {
             let kind = Hex(*kind);
-            Ok(format!(in alloc; "ignored type {kind}")?)
+            line_of(alloc, format_args!("ignored type {kind}"))
         }
         _ => unreachable!(),
     }
@@ -128,14 +135,14 @@ fn raw_line(alloc: Global, entry: &Entry, hex: bool) -> Result<String, OutOfMemo
         } => {
             let way = Way(*from, *to);
             let size = size_of(alloc, hex, *size, bytes)?;
-            Ok(format!(in alloc; "raw {way} size {size}")?)
+            line_of(alloc, format_args!("raw {way} size {size}"))
         }
         Entry::BadRaw { fault } => {
             let fault = Raw(*fault);
-            Ok(format!(in alloc; "bad raw {fault}")?)
+            line_of(alloc, format_args!("bad raw {fault}"))
         }
-        Entry::LateLabel { label } => Ok(format!(in alloc; "late label {label}")?),
-        Entry::UnknownLabel { label } => Ok(format!(in alloc; "unknown label {label}")?),
+        Entry::LateLabel { label } => line_of(alloc, format_args!("late label {label}")),
+        Entry::UnknownLabel { label } => line_of(alloc, format_args!("unknown label {label}")),
         _ => unreachable!(),
     }
 }
@@ -149,11 +156,11 @@ fn link_line(alloc: Global, entry: &Entry) -> Result<String, OutOfMemory>
     match entry {
         Entry::Interface { intf, stage } => {
             let stage = stage_name(*stage);
-            Ok(format!(in alloc; "interface {intf} {stage}")?)
+            line_of(alloc, format_args!("interface {intf} {stage}"))
         }
         Entry::Manifest { intf, at, reason } => {
             let reason = reason_name(*reason);
-            Ok(format!(in alloc; "manifest {intf} refused {at} {reason}")?)
+            line_of(alloc, format_args!("manifest {intf} refused {at} {reason}"))
         }
         Entry::Connection {
             number,
@@ -163,7 +170,10 @@ fn link_line(alloc: Global, entry: &Entry) -> Result<String, OutOfMemory>
             state,
         } => {
             let state = state_name(*state);
-            Ok(format!(in alloc; "connection {number} ap {ap} {intf} {cport} {state}")?)
+            line_of(
+                alloc,
+                format_args!("connection {number} ap {ap} {intf} {cport} {state}"),
+            )
         }
         _ => unreachable!(),
     }
@@ -176,18 +186,21 @@ fn device_line(alloc: Global, entry: &Entry) -> Result<String, OutOfMemory>
         → IfOk result (λ s. string_bytes s ≡ entry_line line hex entry.now) }
 {
     match entry {
-        Entry::Irq { intf, cport, line } => Ok(format!(in alloc; "irq {intf} {cport} {line}")?),
+        Entry::Irq { intf, cport, line } => line_of(
+            alloc,
+            format_args!("irq {intf} {cport} {line}"),
+        ),
         Entry::Received { intf, cport, bytes } => {
-            let digits = hex_of(alloc, bytes.items())?;
-            Ok(format!(in alloc; "uart {intf} {cport} received {digits}")?)
+            let digits = digits_of(alloc, bytes.items())?;
+            line_of(alloc, format_args!("uart {intf} {cport} received {digits}"))
         }
         Entry::Serial {
             intf,
             cport,
             control,
-        } => Ok(format!(in alloc; "serial {intf} {cport} {control}")?),
+        } => line_of(alloc, format_args!("serial {intf} {cport} {control}")),
         Entry::Credits { intf, cport, total } => {
-            Ok(format!(in alloc; "credits {intf} {cport} {total}")?)
+            line_of(alloc, format_args!("credits {intf} {cport} {total}"))
         }
         _ => unreachable!(),
     }

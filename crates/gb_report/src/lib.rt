@@ -4,6 +4,7 @@
 mod checked;
 mod dump;
 mod entry;
+mod lines;
 mod names;
 mod parts;
 mod report;

@@ -1,9 +1,9 @@
 //! The parts of lines that several kinds of entry share.
 
 ghost use Rattle.std.specs.Prelude.{◌≡◌, IfOk};
-ghost use Rattle.std.specs.String.{string_bytes};
 ghost use Rattle.gb_formats.specs.Bytes.{hex_text};
 ghost use Rattle.gb_formats.specs.Texts.{answer_text, outcome_text, size_text};
+ghost use Rattle.gb_report.specs.Shown.{shown_digits, shown_ending, shown_size};
 
 use gb_base::{Bytes, End, LineReason, OutOfMemory, Outcome, RawFault, Reading, WireFault};
 use std::alloc::Global;
@@ -175,56 +175,114 @@ impl fmt::Display for Bad {
     }
 }
 
-/// Bytes as lower case hex digits, `-` where there are none.
-pub fn hex_of(alloc: Global, bytes: &[u8]) -> Result<String, OutOfMemory>
-    ensures { IfOk result (λ s. string_bytes s ≡ hex_text bytes.now) }
-{
-    if bytes.is_empty() {
-        Ok(format!(in alloc; "-")?)
-    } else {
-        Ok(hex::encode(alloc, bytes)?)
+/// Lower case hex digits of bytes, shown as `-` where there are none.
+#[derive(Drop)]
+pub struct Digits(pub String);
+
+impl fmt::Display for Digits {
+    ghost use Rattle.std.specs.Prelude.{Some};
+    ghost use Rattle.gb_report.specs.Shown.{shown_digits};
+
+    ghost output = { λ d. Some (shown_digits d) };
+
+    fn fmt<W: fmt::Write>(&self, f: &mut fmt::Formatter<W>) -> fmt::Result {
+        if self.0.is_empty() {
+            write!(f, "-")
+        } else {
+            write!(f, "{}", self.0)
+        }
     }
 }
 
-/// The size of a message, and its bytes where `hex` is wanted.
-pub fn size_of(alloc: Global, hex: bool, size: u16, bytes: &Bytes) -> Result<String, OutOfMemory>
-    ensures { IfOk result (λ s. string_bytes s ≡ size_text hex size bytes.now) }
+/// The size of a message, alone or in front of the digits of its bytes.
+#[derive(Drop)]
+pub enum Size {
+    Alone(u16),
+    Before(u16, Digits),
+}
+
+impl fmt::Display for Size {
+    ghost use Rattle.std.specs.Prelude.{Some};
+    ghost use Rattle.gb_report.specs.Shown.{shown_size};
+
+    ghost output = { λ s. Some (shown_size s) };
+
+    fn fmt<W: fmt::Write>(&self, f: &mut fmt::Formatter<W>) -> fmt::Result {
+        match self {
+            Size::Alone(size) => write!(f, "{size}"),
+            Size::Before(size, digits) => write!(f, "{size} {digits}"),
+        }
+    }
+}
+
+/// How a request ended, with the digits of its answer.
+#[derive(Drop)]
+pub enum Ending {
+    Answered(u8, Digits),
+    Cancelled,
+    Timeout,
+    Disconnected,
+    Sent,
+}
+
+impl fmt::Display for Ending {
+    ghost use Rattle.std.specs.Prelude.{Some};
+    ghost use Rattle.gb_report.specs.Shown.{shown_ending};
+
+    ghost output = { λ e. Some (shown_ending e) };
+
+    fn fmt<W: fmt::Write>(&self, f: &mut fmt::Formatter<W>) -> fmt::Result {
+        match self {
+            Ending::Answered(code, digits) => write!(f, "answered {} {digits}", Hex(*code)),
+            Ending::Cancelled => write!(f, "cancelled"),
+            Ending::Timeout => write!(f, "timeout"),
+            Ending::Disconnected => write!(f, "disconnected"),
+            Ending::Sent => write!(f, "sent"),
+        }
+    }
+}
+
+/// The digits of bytes.
+pub fn digits_of(alloc: Global, bytes: &[u8]) -> Result<Digits, OutOfMemory>
+    ensures { IfOk result (λ d. shown_digits d ≡ hex_text bytes.now) }
+{
+    Ok(Digits(hex::encode(alloc, bytes)?))
+}
+
+/// The size of a message, with its bytes where `hex` is wanted.
+pub fn size_of(alloc: Global, hex: bool, size: u16, bytes: &Bytes) -> Result<Size, OutOfMemory>
+    ensures { IfOk result (λ s. shown_size s ≡ size_text hex size bytes.now) }
 {
     if hex {
-        let digits = hex_of(alloc, bytes.items())?;
-        Ok(format!(in alloc; "{size} {digits}")?)
+        Ok(Size::Before(size, digits_of(alloc, bytes.items())?))
     } else {
-        Ok(format!(in alloc; "{size}")?)
+        Ok(Size::Alone(size))
     }
 }
 
-/// The payload of an answer, which counts only where the result is 0.
-fn answer_of(alloc: Global, code: u8, payload: &Bytes) -> Result<String, OutOfMemory>
-    ensures { IfOk result (λ s. string_bytes s ≡ answer_text code payload.now) }
+/// The digits of an answer, whose payload counts only where the result is 0.
+fn answer_of(alloc: Global, code: u8, payload: &Bytes) -> Result<Digits, OutOfMemory>
+    ensures { IfOk result (λ d. shown_digits d ≡ answer_text code payload.now) }
 {
     if code == 0 {
-        hex_of(alloc, payload.items())
+        digits_of(alloc, payload.items())
     } else {
-        Ok(format!(in alloc; "-")?)
+        Ok(Digits(String::new(alloc)))
     }
 }
 
-/// How a request ended.
-pub fn outcome_of(alloc: Global, outcome: &Outcome) -> Result<String, OutOfMemory>
-    ensures { IfOk result (λ s. string_bytes s ≡ outcome_text outcome.now) }
+/// How a request ended, as it is shown.
+pub fn ending_of(alloc: Global, outcome: &Outcome) -> Result<Ending, OutOfMemory>
+    ensures { IfOk result (λ e. shown_ending e ≡ outcome_text outcome.now) }
 {
     match outcome {
         Outcome::Answered {
             result: code,
             payload,
-        } => {
-            let answer = answer_of(alloc, *code, payload)?;
-            let code = Hex(*code);
-            Ok(format!(in alloc; "answered {code} {answer}")?)
-        }
-        Outcome::Cancelled => Ok(format!(in alloc; "cancelled")?),
-        Outcome::Timeout => Ok(format!(in alloc; "timeout")?),
-        Outcome::Disconnected => Ok(format!(in alloc; "disconnected")?),
-        Outcome::Sent => Ok(format!(in alloc; "sent")?),
+        } => Ok(Ending::Answered(*code, answer_of(alloc, *code, payload)?)),
+        Outcome::Cancelled => Ok(Ending::Cancelled),
+        Outcome::Timeout => Ok(Ending::Timeout),
+        Outcome::Disconnected => Ok(Ending::Disconnected),
+        Outcome::Sent => Ok(Ending::Sent),
     }
 }

@@ -3,7 +3,8 @@
 ghost use Rattle.std.specs.Prelude.{◌≡◌, ◌++◌, OnOk, OnErr};
 ghost use Rattle.gb_formats.specs.Texts.{entry_text, refusal_line_text};
 
-use crate::entry::line_of;
+use crate::entry::entry_line;
+use crate::lines::{line_of, put_line};
 use crate::parts::Bad;
 use gb_base::{Entry, LineReason, OutOfMemory, Text};
 use std::alloc::Global;
@@ -20,9 +21,8 @@ pub fn put(
     ensures ok { OnOk result (out.new ≡ out.old ++ entry_text line hex entry.now) }
     ensures err { OnErr result (out.new ≡ out.old) }
 {
-    let line = line_of(alloc, entry, line, hex)?;
-    let ended = format!(in alloc; "{line}\n")?;
-    out.append(&ended)
+    let line = entry_line(alloc, entry, line, hex)?;
+    put_line(line, out)
 }
 
 /// Appends the text that names a bad line. After a refusal `out` is as before.
@@ -36,7 +36,6 @@ pub fn put_refusal(
     ensures err { OnErr result (out.new ≡ out.old) }
 {
     let why = Bad(*why);
-    let line = format!(in alloc; "line {line}: {why}")?;
-    let ended = format!(in alloc; "{line}\n")?;
-    out.append(&ended)
+    let line = line_of(alloc, format_args!("line {line}: {why}"))?;
+    put_line(line, out)
 }

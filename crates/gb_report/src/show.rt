@@ -13,6 +13,7 @@ ghost use Rattle.gb_formats.specs.ShowTexts.{
   unclean_text,
 };
 
+use crate::lines::line_of;
 use crate::names::{stage_name, state_name};
 use crate::parts::{Hex, Place};
 use gb_base::{ConnState, End, IntfStage, Name, OutOfMemory, Outcome, Text};
@@ -61,7 +62,7 @@ impl fmt::Display for Requester {
 pub fn now_line(alloc: Global, now: u64) -> Result<Text, OutOfMemory>
     ensures { IfOk result (λ t. t ≡ now_line now) }
 {
-    let line = format!(in alloc; "now {now}")?;
+    let line = line_of(alloc, format_args!("now {now}"))?;
     text_of(alloc, &line)
 }
 
@@ -75,7 +76,7 @@ pub fn interface_line(
     ensures { IfOk result (λ t. t ≡ interface_line intf stage device) }
 {
     let (stage, device) = (stage_name(stage), Device(device));
-    let line = format!(in alloc; "interface {intf} {stage}{device}")?;
+    let line = line_of(alloc, format_args!("interface {intf} {stage}{device}"))?;
     text_of(alloc, &line)
 }
 
@@ -94,8 +95,9 @@ pub fn connection_line(
 {
     let (peer, protocol) = (Place(peer), Hex(protocol));
     let (state, unclean) = (state_name(state), unclean_mark(clean));
-    let line = format!(in alloc;
-        "connection {number} ap {ap} {peer} protocol {protocol} {state}{unclean}"
+    let line = line_of(
+        alloc,
+        format_args!("connection {number} ap {ap} {peer} protocol {protocol} {state}{unclean}"),
     )?;
     text_of(alloc, &line)
 }
@@ -105,7 +107,7 @@ pub fn queue_line(alloc: Global, at: End, count: u64) -> Result<Text, OutOfMemor
     ensures { IfOk result (λ t. t ≡ queue_line at count) }
 {
     let at = Place(at);
-    let line = format!(in alloc; "queue {at} {count}")?;
+    let line = line_of(alloc, format_args!("queue {at} {count}"))?;
     text_of(alloc, &line)
 }
 
@@ -120,7 +122,7 @@ pub fn name_line(
 {
     let requester = Requester(name.who);
     let naming = naming_of(alloc, name.word.text(), number, how)?;
-    let line = format!(in alloc; "name {requester}{naming}")?;
+    let line = line_of(alloc, format_args!("name {requester}{naming}"))?;
     text_of(alloc, &line)
 }
 

@@ -4,6 +4,7 @@ ghost use Rattle.std.specs.Prelude.{◌≡◌, ◌++◌, OnOk, OnErr};
 ghost use Rattle.gb_formats.specs.ShowTexts.{summary_text};
 ghost use Rattle.gb_report.specs.Counted.{counts_of};
 
+use crate::lines::{line_of, put_line};
 use gb_base::{OutOfMemory, Text};
 use std::alloc::Global;
 
@@ -50,13 +51,16 @@ pub fn put_summary(
         sent,
         left_open,
     } = *counts;
-    let rest = format!(in alloc;
-        " timeout {timeout} disconnected {disconnected} sent {sent} open {left_open}"
+    let rest = line_of(
+        alloc,
+        format_args!(" timeout {timeout} disconnected {disconnected} sent {sent} open {left_open}"),
     )?;
-    let line = format!(in alloc;
-        "lines {lines} refused {refused} requests {requests} answered {answered} \
-        cancelled {cancelled}{rest}"
+    let line = line_of(
+        alloc,
+        format_args!(
+            "lines {lines} refused {refused} requests {requests} answered {answered} \
+            cancelled {cancelled}{rest}"
+        ),
     )?;
-    let ended = format!(in alloc; "{line}\n")?;
-    out.append(&ended)
+    put_line(line, out)
 }
