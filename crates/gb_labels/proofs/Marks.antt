@@ -1,13 +1,13 @@
 -- Marks in words.
-use Rattle.std.proofs.Common.{◌≡◌, ◌≢◌, ◌<◌, ◌≤◌, ℕ, ◌+◌, ◌*◌, ◌/◌, ◌%◌, ◌^◌, ◌==◌, true, false}
-use Rattle.std.proofs.Common.{◌⊎◌, inl, inr, eqb, List, length, slice_index, slice_set, bit_and}
-use Rattle.std.proofs.Common.{bit_or, get_or-set_same, get_or-set_other, slice_index_or, replicate}
-use Rattle.std.proofs.Common.{leb, refl, sym, ap, ◌∙◌, subst, arith, w64}
-use Rattle.std.proofs.lemmas.Bool.Decides.{eqb_tells, leb_tells}
-use Rattle.std.proofs.lemmas.List.{get_or-replicate, get_or_past, get_or_read, length-replicate}
-use Rattle.std.proofs.lemmas.Nat.{div-add-mod', div_below, mod_below}
+use Rattle.std.proofs.Common.{◌≡◌, ◌≢◌, ◌<◌, ℕ, ◌+◌, ◌*◌, ◌/◌, ◌%◌, ◌^◌, ◌==◌, true, false, ◌⊎◌}
+use Rattle.std.proofs.Common.{inl, inr, eqb, List, length, slice_index, slice_set, bit_and, bit_or}
+use Rattle.std.proofs.Common.{get_or-set_same, get_or-set_other, slice_index_or, refl, sym, ap, ◌∙◌}
+use Rattle.std.proofs.Common.{subst, arith, w64}
+use Rattle.std.proofs.lemmas.Bool.Decides.{eqb_tells}
+use Rattle.std.proofs.lemmas.List.{get_or_read}
+use Rattle.std.proofs.lemmas.Nat.{div-add-mod', mod_below}
 use Rattle.std.proofs.lemmas.Nat.Bits.{bit_at_clear_other, bit_at_clear_same, bit_at_set_other}
-use Rattle.std.proofs.lemmas.Nat.Bits.{bit_at_set_same, bit_at-zero}
+use Rattle.std.proofs.lemmas.Nat.Bits.{bit_at_set_same}
 use Rattle.std.specs.Int.{bit_at, bit_not}
 use Rattle.gb_labels.specs.Drawing.{Frees, Marks, Takes}
 use Rattle.gb_labels.specs.LabelSet.{LabelSet, is_marked}
@@ -61,98 +61,61 @@ mark_others words label new value other h w ne = by (eqb_tells (other / 64) (lab
         ap (λ n. bit_at n (other % 64) == 1)
         (get_or-set_other words (label / 64) (other / 64) new 0 p.1)
 
+-- words have what others have, and 0 where those have none
+abbrev Continue : List ℕ → List ℕ → Type 0
+Continue words old = (i : ℕ) → slice_index words i ≡ slice_index old i
+
+-- so that their marks are the same
+same_marks : (words old : List ℕ) (label : ℕ) → Continue words old
+    → is_marked words label ≡ is_marked old label
+same_marks words old label same = ap (λ w. bit_at w (label % 64) == 1) (same (label / 64))
+
 -- the marks when the word of an identifier is written
-pub written : (words : List ℕ) (last drawn label place word new value : ℕ) → place ≡ label / 64
-    → length words ≡ 1024 → label < 65536 → word ≡ slice_index_or words place word
-    → Writes word new (label % 64) value
-    → Marks (record { words = words; last = last })
-    (record { words = slice_set words place new; last = drawn }) label
+pub written : (old : LabelSet) (words : List ℕ) (drawn label place word new value : ℕ)
+    → Continue words old.words → place ≡ label / 64 → place < length words
+    → word ≡ slice_index_or words place word → Writes word new (label % 64) value
+    → Marks old (record { words = slice_set words place new; last = drawn }) label
     (value == 1)
-written words last drawn label place word new value at fits small read w =
-    let within : label / 64 < length words =
-    omega (arith, fits, div_below label 64 1024 (omega arith) small) in
+written old words drawn label place word new value same at within read w =
+    let inside : label / 64 < length words = omega (arith, at, within) in
     let is : word ≡ slice_index words (label / 64) =
-    get_or_read words (label / 64) word within
+    get_or_read words (label / 64) word inside
     (read ∙ ap (λ i. slice_index_or words i word) at) 0 in
     let writes = subst (λ x. Writes x new (label % 64) value) is w in
     record {
       here = ap (λ i. is_marked (slice_set words i new) label) at
-          ∙ mark_here words label new value within writes;
+          ∙ mark_here words label new value inside writes;
       others = λ other ne. ap (λ i. is_marked (slice_set words i new) other) at
-          ∙ mark_others words label new value other within writes ne;
+          ∙ mark_others words label new value other inside writes ne
+          ∙ same_marks words old.words other same;
     }
 
--- words of zeros have no marks
-pub unmarked : (words : List ℕ) (label : ℕ) → ((i : ℕ) → slice_index words i ≡ 0)
-    → is_marked words label ≡ false
-unmarked words label h =
-    ap (λ n. bit_at n (label % 64) == 1) (h (label / 64))
-    ∙ ap (λ n. n == 1) (bit_at-zero (label % 64))
-
 -- An identifier's mark is set, and it is the last one drawn.
-pub takes : (old : LabelSet) (words : List ℕ) (last label place word : ℕ)
-    → record { words = words; last = last } ≡ old → place ≡ label / 64 → length words ≡ 1024
-    → label < 65536
+pub takes : (old : LabelSet) (words : List ℕ) (label place word : ℕ)
+    → Continue words old.words → place ≡ label / 64 → place < length words
     → word ≡ slice_index_or words place word
     → Takes old
     (record {
       words = slice_set words place (bit_or word (1 * 2 ^ (label % 64) % 2 ^ 64));
-      last =
-          label;
-    }) label
-takes old words last label place word view at fits small read =
-    subst
-    (λ o. Takes o
-    (record {
-      words =
-          slice_set words place (bit_or word (1 * 2 ^ (label % 64) % 2 ^ 64));
       last = label;
-    })
-    label)
-    view (record {
-      marks = written words last label label place word _ 1 at fits small read
-          (sets word (label % 64) (mod_below label 64 (omega arith)));
-      last = refl;
-    })
+    }) label
+takes old words label place word same at within read = record {
+  marks = written old words label label place word _ 1 same at within read
+      (sets word (label % 64) (mod_below label 64 (omega arith)));
+  last = refl;
+}
 
 -- An identifier's mark is cleared.
 pub frees : (old : LabelSet) (words : List ℕ) (last label place word : ℕ)
-    → record { words = words; last = last } ≡ old → place ≡ label / 64 → length words ≡ 1024
-    → label < 65536
+    → Continue words old.words → last ≡ old.last → place ≡ label / 64 → place < length words
     → word ≡ slice_index_or words place word
     → Frees old
     (record {
-      words =
-          slice_set words place (bit_and word (bit_not w64 (1 * 2 ^ (label % 64) % 2 ^ 64)));
-      last =
-          last;
-    })
-    label
-frees old words last label place word view at fits small read =
-    subst
-    (λ o. Frees o
-    (record {
-      words =
-          slice_set words place
-          (bit_and word (bit_not w64 (1 * 2 ^ (label % 64) % 2 ^ 64)));
+      words = slice_set words place (bit_and word (bit_not w64 (1 * 2 ^ (label % 64) % 2 ^ 64)));
       last = last;
-    }) label)
-    view (record {
-      marks = written words last last label place word _ 0 at fits small read
-          (clears word (label % 64) (mod_below label 64 (omega arith)));
-      last = refl;
-    })
-
--- so many words of zeros
-pub none_marked : (words : List ℕ) → words ≡ replicate 1024 0 → (label : ℕ)
-    → is_marked words label ≡ false
-none_marked words e label = unmarked words label (λ i. ap (λ ws. slice_index ws i) e ∙ zeros 1024 i)
-  where
-    zeros : (n i : ℕ) → slice_index (replicate n 0) i ≡ 0
-    zeros n i = by (leb_tells n i)
-      where
-        by : ((leb n i ≡ true) × (n ≤ i)) ⊎ ((leb n i ≡ false) × (i < n))
-            → slice_index (replicate n 0) i ≡ 0
-        by (inl p) =
-            get_or_past (replicate n 0) i 0 (omega (arith, length-replicate {A = ℕ} n 0, p.1))
-        by (inr p) = get_or-replicate n i 0 0 p.1
+    }) label
+frees old words last label place word same stays at within read = record {
+  marks = written old words last label place word _ 0 same at within read
+      (clears word (label % 64) (mod_below label 64 (omega arith)));
+  last = stays;
+}

@@ -4,7 +4,7 @@ use Rattle.std.specs.Int.{bit_at}
 use Rattle.gb_machine.specs.Labels.{free_label, greatest_label, label_after}
 
 -- The identifiers in use on one side of a connection, as bits in words of 64, and the last one that
--- was drawn, 0 before the first.
+-- was drawn, 0 before the first. A word that isn't there has no bit set.
 pub record LabelSet : Type 0 where
   pub words : List ℕ
   pub last : ℕ

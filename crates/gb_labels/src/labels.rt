@@ -1,6 +1,6 @@
 //! The identifiers in use on one side of a connection.
 
-ghost use Rattle.std.specs.Prelude.{◌≡◌, ◌↔◌, ◌≤◌, IfOk, IsErr, IsOk, OnErr};
+ghost use Rattle.std.specs.Prelude.{◌≡◌, ◌↔◌, ◌<◌, ℕ, IfOk, IsErr, length, slice_index};
 ghost use Rattle.gb_machine.specs.Labels.{label_after};
 ghost use Rattle.gb_labels.specs.Drawing.{
   AllInUse,
@@ -20,7 +20,7 @@ use gb_base::OutOfMemory;
 use std::alloc::Global;
 use std::marker::Model;
 
-/// How many words of 64 marks there are.
+/// The most words of 64 marks.
 const WORDS: usize = 1024;
 
 /// The greatest identifier.
@@ -31,7 +31,7 @@ const GREATEST_LABEL: u16 = 65_535;
 pub struct NoLabel;
 
 /// The identifiers in use on one side of a connection, of 1 to 65,535, and the last one that was
-/// drawn. It takes 8,192 bytes.
+/// drawn. It takes 8,192 bytes, of which those up to the greatest mark so far are written.
 #[derive(Debug, Drop)]
 pub struct Labels {
     words: Vec<u64>,
@@ -39,14 +39,15 @@ pub struct Labels {
 }
 
 impl Model for Labels {
-    ghost use Rattle.std.specs.Prelude.{◌≡◌, length};
+    ghost use Rattle.std.specs.Prelude.{◌≤◌, length};
+    ghost use Rattle.std.specs.Vec.{vec_capacity};
     ghost use Rattle.gb_labels.specs.LabelSet.{LabelSet};
 
     ghost Value = { LabelSet };
 
     ghost view = { λ l. record { words = l.words.items; last = l.last } };
 
-    ghost invariant = { λ l. length l.words.items ≡ 1024 };
+    ghost invariant = { λ l. (length l.words.items ≤ 1024) × (1024 ≤ vec_capacity l.words) };
 }
 
 impl Labels {
@@ -55,7 +56,7 @@ impl Labels {
         ensures { IfOk result IsFirst }
     {
         Ok(Labels {
-            words: vec![in alloc; 0u64; WORDS]?,
+            words: Vec::with_capacity(alloc, WORDS)?,
             last: 0,
         })
     }
@@ -87,40 +88,64 @@ impl Labels {
         Err(NoLabel)
     }
 
-    /// This identifier is in use from now on, and is the last one drawn.
+    /// This identifier is in use from now on, and is the last one drawn. It takes no memory.
     pub fn take(&mut self, label: u16)
         ensures { Takes self.old self.new label }
     {
-        self.words[usize::from(label / 64)] |= 1u64 << (label % 64);
+        let place = usize::from(label / 64);
+        self.reach(place);
+        self.words[place] |= 1u64 << (label % 64);
         self.last = label;
+    }
+
+    /// There are words up to this one. Those that weren't there have no mark.
+    fn reach(&mut self, place: usize)
+        requires { place < 1024 }
+        ensures there { place < length self.new.words }
+        ensures same { (i : ℕ) → slice_index self.new.words i ≡ slice_index self.old.words i }
+        ensures last { self.new.last ≡ self.old.last }
+    {
+        if self.words.len() <= place {
+            self.words.resize(place + 1, 0).unwrap();
+        }
     }
 
     /// An identifier is in use no more.
     pub fn free(&mut self, label: u16)
         ensures { Frees self.old self.new label }
     {
-        self.words[usize::from(label / 64)] &= !(1u64 << (label % 64));
+        let place = usize::from(label / 64);
+        if place < self.words.len() {
+            self.words[place] &= !(1u64 << (label % 64));
+        }
     }
 
-    /// No identifier is in use any more. The last one drawn stays.
+    /// No identifier is in use any more. The last one drawn stays. Words that aren't there cost
+    /// nothing.
     pub fn free_all(&mut self)
         ensures { FreesAll self.old self.new }
     {
-        for word in self.words.iter_mut() {
-            *word = 0;
-        }
+        self.words.clear();
     }
 
     /// The least identifier from `start` on that isn't in use.
     fn first_free(&self, start: u16) -> Option<u16>
         ensures { FindsFree (is_in_use self.now) start result }
     {
+        let first = usize::from(start) / 64;
+        let end = self.words.len();
+        if end <= first {
+            return Some(start);
+        }
         let mut from = u32::from(start) % BITS;
-        for i in usize::from(start) / 64..WORDS {
+        for i in first..end {
             if let Some(bit) = first_unset(self.words[i], from) {
                 return Some((i * 64 + bit as usize) as u16);
             }
             from = 0;
+        }
+        if end < WORDS {
+            return Some((end * 64) as u16);
         }
         None
     }
