@@ -4,9 +4,10 @@ use Rattle.std.proofs.Common.{option_and_then, List, refl, sym, ap, ◌∙◌, i
 use Rattle.gb_base.specs.declared.end.Side.{Side}
 use Rattle.gb_bus.proofs.Endings.{Said, over, said, still}
 use Rattle.gb_bus.proofs.Loosening.{fits-without}
+use Rattle.gb_bus.proofs.Moves.{shown-changed}
 use Rattle.gb_bus.proofs.SideMoves.{before}
 use Rattle.gb_bus.proofs.Sides.{match-late, match-open, sides-ended, sides-forgotten}
-use Rattle.gb_bus.proofs.Taken.{Taken, loose_at, settled, stand-changed, stands-ended}
+use Rattle.gb_bus.proofs.Taken.{Taken, loose_at, settled, stands-ended}
 use Rattle.gb_bus.proofs.Taken.{stands-forgotten, unclean-none}
 use Rattle.gb_bus.specs.Connection.{Connection}
 use Rattle.gb_bus.specs.Delivering.{Brings, Response, response, response_in, taken_at}
@@ -266,7 +267,7 @@ labelled around y z b p item label code payload m a t unclean is = by m
             kind_is = refl;
             outcome_is = refl;
             stands = stands-ended around y z b p item n how t unanswered
-                (stand-changed b.requests y.connections z.connections after.connections k p.side
+                (shown-changed b.requests y.connections z.connections after.connections k p.side
                 (λ u x. Ends u x label n) t.shows.connections d)
                 (sides-ended around.items y.connections z.connections after k p.side n label how
                 t.shows.connections fits d t.shows.sides)
@@ -298,7 +299,7 @@ labelled around y z b p item label code payload m a t unclean is = by m
             unopened = f.0;
             found = f.1;
             stands = stands-forgotten around y z b p item n t closed
-                (stand-changed b.requests y.connections z.connections after.connections k p.side
+                (shown-changed b.requests y.connections z.connections after.connections k p.side
                 (λ u x. Forgets u x label n) t.shows.connections d)
                 (sides-forgotten around.items y.connections z.connections after k p.side n label
                 t.shows.connections fits d t.shows.sides)

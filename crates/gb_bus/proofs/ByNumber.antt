@@ -6,15 +6,17 @@ use Rattle.gb_base.specs.declared.end.Side.{Side}
 use Rattle.gb_bus.proofs.Cancels.{is-own}
 use Rattle.gb_bus.proofs.Endings.{Said, nothing-forgotten, over, said, still}
 use Rattle.gb_bus.proofs.Loosening.{fits-without}
+use Rattle.gb_bus.proofs.Moves.{shown-changed}
 use Rattle.gb_bus.proofs.Sides.{match-late, match-none, match-open, sides-ended, sides-forgotten}
-use Rattle.gb_bus.proofs.Taken.{Taken, loose_at, stand-changed, stands-ended, stands-forgotten}
+use Rattle.gb_bus.proofs.Standing.{AreShown}
+use Rattle.gb_bus.proofs.Taken.{Taken, loose_at, stands-ended, stands-forgotten}
 use Rattle.gb_bus.specs.Connection.{Connection}
 use Rattle.gb_bus.specs.Delivering.{Brings, taken_at}
-use Rattle.gb_bus.specs.Moving.{Answered, Answers, ChangesRequest}
+use Rattle.gb_bus.specs.Moving.{Answers, ChangesRequest}
 use Rattle.gb_bus.specs.Parts.{numbered, ops_of}
 use Rattle.gb_bus.specs.Sides.{ChangesSide, IsNotOf, MatchesIn, is_other}
 use Rattle.gb_bus.specs.Slots.{ended_at, ends_so, forgets, slot_at}
-use Rattle.gb_bus.specs.Stands.{Around, KeepSides, StandForAll, StandsForReply, slot_of}
+use Rattle.gb_bus.specs.Stands.{Around, KeepSides, slot_of}
 use Rattle.gb_bus.specs.Taking.{open_kind, shown}
 use Rattle.gb_bus.specs.declared.answers.Arrival.{Arrival}
 use Rattle.gb_bus.specs.declared.answers.Arrival.TheVariants as arrival
@@ -98,7 +100,7 @@ answers-open around y z b p n label r bytes q a t clean made unanswered changes 
         kind_is = refl;
         outcome_is = refl;
         stands = stands-ended around y z b p item n how t unanswered
-            (stand-changed b.requests y.connections z.connections (taken_at p b).connections k
+            (shown-changed b.requests y.connections z.connections (taken_at p b).connections k
             p.side (λ u v. Ends u v label n) t.shows.connections changes)
             (sides-ended around.items y.connections z.connections (taken_at p b) k p.side n label
             how t.shows.connections (fits-without (loose_at p item) around.items (taken_at p b)
@@ -113,11 +115,11 @@ answers-late : (around : Around) (y z : Bus) (b : machine.Bus) (p : Place) (n r 
     (bytes : List ℕ) (a : Arrival)
     → Taken around y p b (machine.Reply n r bytes) → p.connection.clean ≡ true
     → is_open n b ≡ false
-    → StandForAll b.requests z.connections (taken_at p b).connections
+    → AreShown b.requests z.connections (taken_at p b).connections
     → KeepSides z.connections (forgotten n (taken_at p b))
     → a ≡ arrival.Late n → ChangesRequest y z n forgets y.slots.tally
     → Brings around z true p b (machine.Reply n r bytes) a
-answers-late around y z b p n r bytes a t clean closed stand sides is_late after =
+answers-late around y z b p n r bytes a t clean closed seen sides is_late after =
     let item = machine.Reply n r bytes in
     let answer : Brings around z true p b item (arrival.Late n) = (
       refl,
@@ -127,7 +129,7 @@ answers-late around y z b p n r bytes a t clean closed stand sides is_late after
         item_is = refl;
         clean = clean;
         closed = closed;
-        stands = stands-forgotten around y z b p item n t closed stand sides
+        stands = stands-forgotten around y z b p item n t closed seen sides
             (none-answers around y p b n r bytes t) after;
       },
     ) in
@@ -164,7 +166,7 @@ unawaited around y b p n label r bytes q t made label_is other =
         subst (λ j. is_of j at q ≡ true) e (subst (λ s. is_of q.connection s q ≡ true) f (is-own q))
 
 -- an answer ends its request where that is open
-answers : (around : Around) (y z : Bus) (b : machine.Bus) (p : Place) (n label r : ℕ)
+pub answers : (around : Around) (y z : Bus) (b : machine.Bus) (p : Place) (n label r : ℕ)
     (bytes : List ℕ) (q : Request) (m : Matched) (a : Arrival)
     → Taken around y p b (machine.Reply n r bytes) → p.connection.clean ≡ true
     → request_of n b ≡ Some q → q.label ≡ label
@@ -206,7 +208,7 @@ answers around y z b p n label r bytes q m a t clean made label_is = by m (said 
         let changes = of-asked y.connections z.connections k p.side n j
         (λ i u x. Forgets u x label i) d in
         answers-late around y z b p n r bytes a t clean closed
-        (stand-changed b.requests y.connections z.connections (taken_at p b).connections k p.side
+        (shown-changed b.requests y.connections z.connections (taken_at p b).connections k p.side
         (λ u x. Forgets u x label n) t.shows.connections changes)
         (sides-forgotten around.items y.connections z.connections (taken_at p b) k p.side n label
         t.shows.connections
@@ -220,28 +222,8 @@ answers around y z b p n label r bytes q m a t clean made label_is = by m (said 
         let free = neither (is_open n b) (is_given_up n b)
         (unawaited around y b p n label r bytes q t made label_is d.0) in
         answers-late around y z b p n r bytes a t clean closed
-        (subst (λ (ys : List Connection). StandForAll b.requests ys (taken_at p b).connections)
+        (subst (λ (ys : List Connection). AreShown b.requests ys (taken_at p b).connections)
         (sym d.1) t.shows.connections)
         (subst (λ (ys : List Connection). KeepSides ys (forgotten n (taken_at p b))) (sym d.1)
         (subst (λ (v : machine.Bus). KeepSides y.connections v)
         (sym (nothing-forgotten (taken_at p b) n free.1)) t.shows.sides)) w.0 w.1
-
--- a reply that stands for the machine's is answered so
-pub answers-reply : (around : Around) (y z : Bus) (b : machine.Bus) (p : Place)
-    (number label code : ℕ) (payload bytes : List ℕ) (n r : ℕ) (a : Arrival)
-    → Taken around y p b (machine.Reply n r bytes) → p.connection.clean ≡ true
-    → StandsForReply b.requests number label code payload n r bytes
-    → Answered y z p.connection.number p.side number label code payload a
-    → Brings around z true p b (machine.Reply n r bytes) a
-answers-reply around y z b p number label code payload bytes n r a t clean st h =
-    subst (λ m. Says m code payload → Goal) (sym st.number_is)
-    (subst (λ v. Says n v payload → Goal) (sym st.result_is)
-    (subst (λ (v : List ℕ). Says n r v → Goal) (sym st.payload_is)
-    (λ w. answers around y z b p n label r bytes st.request w.matched a t clean st.made st.label_is
-    w.matches w.answers))) h
-  where
-    Goal : Type 0
-    Goal = Brings around z true p b (machine.Reply n r bytes) a
-
-    Says : ℕ → ℕ → List ℕ → Type 0
-    Says m c v = Answered y z p.connection.number p.side m label c v a

@@ -6,14 +6,14 @@ use Rattle.gb_base.specs.declared.end.Side.TheVariants as side
 use Rattle.gb_base.specs.declared.outcome.Outcome.{Outcome}
 use Rattle.gb_bus.proofs.Endings.{Said, over, said, shows-gave_up, still}
 use Rattle.gb_bus.proofs.Finding.{twin}
-use Rattle.gb_bus.proofs.Moves.{ops-stand}
+use Rattle.gb_bus.proofs.Moves.{ops-seen}
 use Rattle.gb_bus.proofs.Sides.{sides-gave_up, sides-gave_up_elsewhere}
-use Rattle.gb_bus.proofs.Standing.{stays-for}
+use Rattle.gb_bus.proofs.Standing.{AreShown, stays-for}
 use Rattle.gb_bus.specs.Cancelling.{GivesUp}
 use Rattle.gb_bus.specs.Parts.{ops_of}
 use Rattle.gb_bus.specs.Sides.{GivesUpIn, GivesUpWhere}
 use Rattle.gb_bus.specs.Slots.{Kept, MovesAt, ended_at, gives_up_so, open_place, slot_at}
-use Rattle.gb_bus.specs.Stands.{Around, KeepSides, StandForAll, Stands, pending_by, pending_of}
+use Rattle.gb_bus.specs.Stands.{Around, KeepSides, Stands, pending_by, pending_of}
 use Rattle.gb_bus.specs.declared.bus.Bus.{Bus}
 use Rattle.gb_bus.specs.Connection.{Connection}
 use Rattle.gb_invariants.proofs.Awaiting.{same-some}
@@ -46,7 +46,7 @@ is-pending b n r made unended none =
 
 -- the connections once an open request is given up
 record After (xs : List Connection) (b : machine.Bus) (n : ℕ) (how : Outcome) : Type 0 where
-  stand : StandForAll b.requests xs b.connections
+  shown : AreShown b.requests xs b.connections
   sides : KeepSides xs (gave_up n how b)
 
 after : (around : Around) (x : Bus) (b : machine.Bus) (cs : List Connection) (n : ℕ)
@@ -55,14 +55,14 @@ after : (around : Around) (x : Bus) (b : machine.Bus) (cs : List Connection) (n 
     → GivesUpIn x.connections cs r.connection r.side n → After cs b n how
 after around x b cs n how r s made unended (inl d) = by d.did
   where
-    stand : StandForAll b.requests cs b.connections
-    stand = subst (λ (ys : List Connection). StandForAll b.requests ys b.connections) (sym d.rest)
+    shown : AreShown b.requests cs b.connections
+    shown = subst (λ (ys : List Connection). AreShown b.requests ys b.connections) (sym d.rest)
         (stays-for b.requests r.connection _ x.connections b.connections
-        (ops-stand b.requests r.side d.after) s.shows.connections)
+        (ops-seen r.side d.after) s.shows.connections)
 
     by : GivesUpWhere (ops_of r.side d.connection) d.after n → After cs b n how
     by (inl g) = record {
-      stand = stand;
+      shown = shown;
       sides = sides-gave_up around.items x.connections cs b r.connection r.side n how
           s.shows.connections s.facts.fits (record {
             connection = d.connection;
@@ -78,7 +78,7 @@ after around x b cs n how r s made unended (inl d) = by d.did
         let keeps = s.shows.sides r.connection r.side d.connection t.connection d.found t.live in
         absurd (is-pending b n r made unended (sym (keeps.pending n) ∙ g.0))
 after around x b cs n how r s made unended (inr e) = record {
-  stand = subst (λ (ys : List Connection). StandForAll b.requests ys b.connections) (sym e.1)
+  shown = subst (λ (ys : List Connection). AreShown b.requests ys b.connections) (sym e.1)
       s.shows.connections;
   sides = subst (λ (ys : List Connection). KeepSides ys (gave_up n how b)) (sym e.1)
       (sides-gave_up_elsewhere x.connections b n how r made unended e.0 s.shows.sides);
@@ -110,7 +110,7 @@ gives_up around x b n how k at cs y s is changes moves = by (said around.names b
         record {
           unended = unended;
           stands = record {
-            shows = shows-gave_up around.names x b n how cs y unended a.stand a.sides moves
+            shows = shows-gave_up around.names x b n how cs y unended a.shown a.sides moves
                 s.shows;
             named = s.named;
             facts = record {

@@ -7,11 +7,12 @@ use Rattle.std.specs.List.{filter, list_any}
 use Rattle.gb_base.specs.declared.outcome.Outcome.{Outcome}
 use Rattle.gb_bus.proofs.Counted.{tells-ended, tells-same}
 use Rattle.gb_bus.proofs.SlotLaws.{here-ends, here-forgets, here-gives_up, tell_moved}
+use Rattle.gb_bus.proofs.Standing.{AreShown}
 use Rattle.gb_bus.specs.Counting.{Tells, one_ended}
 use Rattle.gb_bus.specs.Listing.{count}
 use Rattle.gb_bus.specs.Slots.{Kept, MovesAt, ended_at, ends_so, forgets, gives_up_so, is_open_slot}
 use Rattle.gb_bus.specs.Slots.{open_place, slot_at}
-use Rattle.gb_bus.specs.Stands.{KeepSides, Shows, StandForAll, kept, kept_of, slot_of}
+use Rattle.gb_bus.specs.Stands.{KeepSides, Shows, kept, kept_of, slot_of}
 use Rattle.gb_bus.specs.Taking.{open_kind}
 use Rattle.gb_bus.specs.declared.bus.Bus.{Bus}
 use Rattle.gb_bus.specs.Connection.{Connection}
@@ -145,12 +146,12 @@ counts-are names x y b n how unended is counts =
 -- a request ended, and with it what its side keeps
 pub shows-ended : (names : List ℕ) (x : Bus) (b : machine.Bus) (n : ℕ) (how : Outcome)
     (xs : List Connection) (y : Kept) → OutcomesFit b → is_open n b ≡ true
-    → StandForAll b.requests xs b.connections → KeepSides xs (ended n how b)
+    → AreShown b.requests xs b.connections → KeepSides xs (ended n how b)
     → MovesAt n (ends_so how) (ended_at n how x.slots) x.slots y → Shows names x b
     → Shows names (record x { connections = xs; slots = y }) (ended n how b)
-shows-ended names x b n how xs y fits unended stand sides moves s = record {
+shows-ended names x b n how xs y fits unended shown sides moves s = record {
   made = s.made;
-  connections = stand;
+  connections = shown;
   sides = sides;
   slots = tell_moved x.slots y n (ends_so how) names names b.requests (λ m. is_awaited m b)
       (λ m. is_awaited m (ended n how b)) (λ m. outcome_of m b)
@@ -172,12 +173,12 @@ shows-ended names x b n how xs y fits unended stand sides moves s = record {
 -- or was given up
 pub shows-gave_up : (names : List ℕ) (x : Bus) (b : machine.Bus) (n : ℕ) (how : Outcome)
     (xs : List Connection) (y : Kept) → is_open n b ≡ true
-    → StandForAll b.requests xs b.connections → KeepSides xs (gave_up n how b)
+    → AreShown b.requests xs b.connections → KeepSides xs (gave_up n how b)
     → MovesAt n (gives_up_so how) (ended_at n how x.slots) x.slots y → Shows names x b
     → Shows names (record x { connections = xs; slots = y }) (gave_up n how b)
-shows-gave_up names x b n how xs y unended stand sides moves s = record {
+shows-gave_up names x b n how xs y unended shown sides moves s = record {
   made = s.made;
-  connections = stand;
+  connections = shown;
   sides = sides;
   slots = tell_moved x.slots y n (gives_up_so how) names names b.requests (λ m. is_awaited m b)
       (λ m. is_awaited m (gave_up n how b)) (λ m. outcome_of m b)
@@ -199,12 +200,12 @@ shows-gave_up names x b n how xs y unended stand sides moves s = record {
 -- or was forgotten, having ended
 pub shows-forgotten : (names : List ℕ) (x : Bus) (b : machine.Bus) (n : ℕ) (xs : List Connection)
     (y : Kept) → is_open n b ≡ false
-    → StandForAll b.requests xs b.connections → KeepSides xs (forgotten n b)
+    → AreShown b.requests xs b.connections → KeepSides xs (forgotten n b)
     → MovesAt n forgets x.slots.tally x.slots y → Shows names x b
     → Shows names (record x { connections = xs; slots = y }) (forgotten n b)
-shows-forgotten names x b n xs y over stand sides moves s = record {
+shows-forgotten names x b n xs y over shown sides moves s = record {
   made = s.made;
-  connections = stand;
+  connections = shown;
   sides = sides;
   slots = tell_moved x.slots y n forgets names names b.requests (λ m. is_awaited m b)
       (λ m. is_awaited m (forgotten n b)) (λ m. outcome_of m b)

@@ -1,43 +1,30 @@
 -- Injected bytes wait as the machine's do.
-use Rattle.std.proofs.Common.{◌≡◌, ℕ, Bool, true, false, cond, Some, Result, Ok, Err, List, [], ◌∷◌}
+use Rattle.std.proofs.Common.{◌≡◌, ℕ, Bool, true, false, cond, Some, List, [], ◌∷◌}
 use Rattle.std.proofs.Common.{refl, sym, ap, ◌∙◌, subst}
 use Rattle.std.specs.List.{find}
 use Rattle.gb_base.specs.declared.end.Side.{Side}
 use Rattle.gb_base.specs.declared.end.Side.TheVariants as side
-use Rattle.gb_base.specs.declared.fault.RawFault.{RawFault}
 use Rattle.gb_bus.proofs.Changing.{twice}
-use Rattle.gb_bus.proofs.Moves.{put-number, put-ops, put-stands, same-stands, soiled-ops}
-use Rattle.gb_bus.proofs.Moves.{soiled-stands}
+use Rattle.gb_bus.proofs.Moves.{put-shown, put-number, put-ops, put-seen, soiled-ops}
 use Rattle.gb_bus.proofs.Sides.{sides-changed}
-use Rattle.gb_bus.proofs.Standing.{changed}
+use Rattle.gb_bus.proofs.Standing.{AreShown, ShownAs, changed}
 use Rattle.gb_bus.proofs.Wires.{shows-connections}
 use Rattle.gb_bus.specs.Connection as code
 use Rattle.gb_bus.specs.Parts.{numbered, put, soiled}
 use Rattle.gb_bus.specs.Raw.{raw_item}
-use Rattle.gb_bus.specs.Stands.{Around, StandForAll, Stands, StandsForConnection, StandsForItem}
+use Rattle.gb_bus.specs.Stands.{Around, Stands}
 use Rattle.gb_bus.specs.declared.bus.Bus.{Bus}
 use Rattle.gb_bus.specs.declared.queue.Item.{Item}
-use Rattle.gb_formats.specs.Message.{Message}
 use Rattle.gb_formats.specs.Wire.{raw_message}
 use Rattle.gb_invariants.proofs.Apart.{apart-changed}
 use Rattle.gb_invariants.proofs.Changes.{injected-keeps}
 use Rattle.gb_machine.specs.Bus as machine
-use Rattle.gb_machine.specs.Bus.{Connection, Request, connection_of, has_number, queue}
+use Rattle.gb_machine.specs.Bus.{Connection, connection_of, has_number}
 use Rattle.gb_machine.specs.Labels.{last_label}
 use Rattle.gb_machine.specs.Lists.{at_first}
 use Rattle.gb_machine.specs.Sending as sending
 use Rattle.gb_machine.specs.Sending.{is_wired, queued}
 use Rattle.gb_machine.specs.Wiring.{injected}
-
--- raw bytes as they wait stand for the machine's
-raw-stands : (rs : List Request) (bytes : List ℕ)
-    → StandsForItem rs (raw_item (raw_message bytes)) (machine.Raw bytes)
-raw-stands rs bytes = by (raw_message bytes) refl
-  where
-    by : (w : Result Message RawFault) → raw_message bytes ≡ w
-        → StandsForItem rs (raw_item w) (machine.Raw bytes)
-    by (Ok m) e = e
-    by (Err fault) e = e
 
 -- a change of the first that passes is another where both do the same to it
 same-first : {A : Type 0} (test : A → Bool) (f g : A → A) (xs : List A)
@@ -66,10 +53,10 @@ injects around x y b k bytes moved s live =
     subst (λ (w : Bus). Stands around w (injected k bytes b)) (sym (moved ∙ once)) (record {
       shows = shows-connections around.names x b (at_first (numbered k) f x.connections)
           (injected k bytes b).connections
-          (subst (λ cs. StandForAll b.requests (at_first (numbered k) f x.connections) cs)
+          (subst (λ cs. AreShown b.requests (at_first (numbered k) f x.connections) cs)
           same-queues
-          (changed b.requests b.requests k f h x.connections b.connections together
-          (same-stands b.requests) s.shows.connections))
+          (changed b.requests k f h f x.connections b.connections
+          (λ v. put-seen side.Ap i (soiled v)) made s.shows.connections))
           (sides-changed x.connections b k f g
           (λ v. put-number side.Ap i (soiled v)) (λ c. refl)
           (λ at v. put-ops side.Ap i at (soiled v) ∙ soiled-ops at v) lasts s.shows.sides) s.shows;
@@ -104,11 +91,8 @@ injects around x y b k bytes moved s live =
         ap (λ xs. record x { connections = xs })
         (twice (numbered k) (put side.Ap i) soiled x.connections (λ v. refl))
 
-    together : (v : code.Connection) (c : Connection) → StandsForConnection b.requests v c
-        → StandsForConnection b.requests (f v) (h c)
-    together v c e =
-        put-stands b.requests side.Ap i m (raw-stands b.requests bytes) (soiled v)
-        (record c { clean = false }) (soiled-stands b.requests v c e)
+    made : ShownAs b.requests h f
+    made c = put-shown b.requests side.Ap m (record c { clean = false })
 
     is-live : (c : Connection) → find (has_number k) b.connections ≡ Some c → c.wired ≡ true
     is-live c e = sym (ap is_wired e) ∙ live

@@ -10,12 +10,14 @@ pub mod Endings
 pub mod Entries
 pub mod Expiring
 pub mod Finding
-pub mod Fronts
 pub mod Injects
 pub mod Keeping
+pub mod KeepingLive
+pub mod KeepingWires
 pub mod Listed
 pub mod Looks
 pub mod Loosening
+pub mod Mapped
 pub mod Moves
 pub mod Named
 pub mod Opening
@@ -23,6 +25,10 @@ pub mod Placing
 pub mod Queues
 pub mod Replies
 pub mod Seeing
+pub mod SeeingLive
+pub mod SeeingQueues
+pub mod SeeingSides
+pub mod SeeingWires
 pub mod Sends
 pub mod SideChanges
 pub mod SideLists

@@ -1,28 +1,30 @@
 -- What is looked up is what the machine's bus has.
-use Rattle.std.proofs.Common.{◌≡◌, ℕ, Bool, true, false, cond, map, eqb, ◌&&◌, ◌||◌, Option, Some}
+use Rattle.std.proofs.Common.{◌≡◌, ℕ, Bool, true, false, cond, map, Option, Some}
 use Rattle.std.proofs.Common.{None, option_and_then, option_map, List, [], ◌∷◌, ◌++◌, length, refl}
-use Rattle.std.proofs.Common.{sym, ap, ◌∙◌, suc, append_assoc}
+use Rattle.std.proofs.Common.{sym, ap, ◌∙◌, append_assoc}
+use Rattle.std.proofs.lemmas.List.{length-map}
+use Rattle.std.proofs.lemmas.Simd.{map-map}
 use Rattle.std.specs.List.{filter, find, list_any}
 use Rattle.gb_base.specs.declared.end.End.{End}
 use Rattle.gb_base.specs.declared.end.End.TheVariants as end
 use Rattle.gb_base.specs.declared.end.Side.{Side}
 use Rattle.gb_bus.proofs.Finding.{place-is, placed, told}
-use Rattle.gb_bus.proofs.Moves.{queue-stands}
+use Rattle.gb_bus.proofs.Mapped.{any-map, filter-map, find-map}
+use Rattle.gb_bus.proofs.Queues.{queue-is}
 use Rattle.gb_bus.proofs.Sides.{next-side}
-use Rattle.gb_bus.proofs.Standing.{Agree, StandsForFound, found, found-number, same-of}
+use Rattle.gb_bus.proofs.Standing.{AreShown, IsFound, found-number, same-of}
 use Rattle.gb_bus.specs.Ends.{earlier, earlier_of}
 use Rattle.gb_bus.specs.Parts as parts
 use Rattle.gb_bus.specs.Parts.{earliest_in, earliest_of, ends_in, is_none_left, joins, next_in}
 use Rattle.gb_bus.specs.Parts.{next_of, numbered, ops_of, place_at, queue_of}
-use Rattle.gb_bus.specs.Stands.{Around, Shows, StandForAll, Stands, StandsForConnection}
-use Rattle.gb_bus.specs.Stands.{StandsForQueue}
+use Rattle.gb_bus.specs.Shown.{connection_in, item_in, without_ops}
+use Rattle.gb_bus.specs.Stands.{Around, Shows, Stands}
 use Rattle.gb_bus.specs.Wiring.{count_at, ends_of, number_of}
 use Rattle.gb_bus.specs.declared.bus.Bus.{Bus}
 use Rattle.gb_bus.specs.Connection.{Connection}
-use Rattle.gb_bus.specs.declared.queue.Item.{Item}
 use Rattle.gb_invariants.proofs.Awaiting.{same-some}
 use Rattle.gb_machine.specs.Bus as machine
-use Rattle.gb_machine.specs.Bus.{Place, Request, connection_of, place_of, queue, same_end}
+use Rattle.gb_machine.specs.Bus.{Place, Request, connection_of, place_of, queue}
 use Rattle.gb_machine.specs.Labels.{cyclic_label, next_label}
 use Rattle.gb_machine.specs.Lists.{first, in_order, sorted}
 use Rattle.gb_machine.specs.Sending.{is_wired}
@@ -32,12 +34,6 @@ use Rattle.gb_machine.specs.Wiring as wiring
 
 -- ---- which connection joins two ends
 
-joins-agree : (rs : List Request) (a i c : ℕ)
-    → Agree rs (joins a (end.Module i c)) (wiring.joins a i c)
-joins-agree rs a i c x m h =
-    ap (λ n. eqb n a && same_end x.peer (end.Module i c)) h.ap
-    ∙ ap (λ p. eqb m.ap a && same_end p (end.Module i c)) h.peer
-
 pub lives : (around : Around) (x : Bus) (b : machine.Bus) (a i c : ℕ) → Stands around x b
     → option_map (λ (y : Connection). y.number) (find (joins a (end.Module i c)) x.connections)
     ≡ option_map (λ (m : machine.Connection). m.number) (wiring.joining a i c b)
@@ -45,10 +41,10 @@ lives around x b a i c s =
     same-of b.requests (option_map (λ (y : Connection). y.number))
     (option_map (λ (m : machine.Connection). m.number))
     (find (joins a (end.Module i c)) x.connections) (wiring.joining a i c b) refl
-    (λ y m h. ap Some h.number)
-    (found b.requests (joins a (end.Module i c)) (wiring.joins a i c) x.connections b.connections
-    (joins-agree b.requests a i c)
-    s.shows.connections)
+    (λ y m h. ap (λ (v : Connection). Some v.number) h)
+    (sym (find-map without_ops (joins a (end.Module i c)) x.connections)
+    ∙ ap (find (joins a (end.Module i c))) s.shows.connections
+    ∙ find-map (connection_in b.requests) (joins a (end.Module i c)) b.connections)
 
 -- ---- identifiers
 
@@ -60,22 +56,14 @@ next-is x b k at s =
     (found-number b.requests k x.connections b.connections s.connections)
   where
     by : (o : Option Connection) (p : Option machine.Connection)
-        → find (numbered k) x.connections ≡ o → connection_of k b ≡ p
-        → StandsForFound b.requests o p
+        → find (numbered k) x.connections ≡ o → connection_of k b ≡ p → IsFound b.requests o p
         → option_and_then (next_of at) o ≡ option_and_then (cyclic_label k at b) p
     by None None e f h = refl
     by (Some y) (Some c) e f h = next-side k at (ops_of at y) c b (s.sides k at y c e f)
-    by None (Some c) e f h = absurd h
-    by (Some y) None e f h = absurd h
+    by None (Some c) e f h = absurd cc
+    by (Some y) None e f h = absurd cc
 
 -- ---- how many wait
-
-pub length-is : (rs : List Request) (is : List Item) (ms : List machine.Item)
-    → StandsForQueue rs is ms → length is ≡ length ms
-length-is rs [] [] h = refl
-length-is rs (i ∷ is) (m ∷ ms) h = ap suc (length-is rs is ms h.1)
-length-is rs [] (m ∷ ms) h = absurd h
-length-is rs (i ∷ is) [] h = absurd h
 
 -- where the end is named
 pub waits : (around : Around) (x : Bus) (b : machine.Bus) (at : End) (k : ℕ) (to : Side)
@@ -86,8 +74,8 @@ waits around x b at k to found s named looks =
     let w = placed around x b at k to s named in
     let same : w.found ≡ found = same-some w.found found (sym w.looks ∙ looks) in
     ap (λ c. Some (length (queue_of to c))) (sym same)
-    ∙ ap Some (length-is b.requests (queue_of to w.found) (queue to w.connection)
-    (queue-stands b.requests to w.found w.connection w.stands))
+    ∙ ap (λ is. Some (length is)) (queue-is b.requests to w.found w.connection w.shown)
+    ∙ ap Some (length-map (queue to w.connection) (item_in b.requests))
     ∙ sym (ap (option_map count_at) w.named)
 
 -- how many wait toward a side of the connection that the end names
@@ -134,67 +122,59 @@ head-more q qs = by (sorted queue_before qs)
         two false = refl
 
 -- one more queue, unless it is empty
-head-unless : (rs : List Request) (at : End) (is : List Item) (ms : List machine.Item)
-    (qs : List Queue) → StandsForQueue rs is ms
-    → head (unless_empty at ms ++ qs) ≡ earlier (is_none_left is) at (head qs)
-head-unless rs at [] [] qs h = refl
-head-unless rs at (i ∷ is) (m ∷ ms) qs h =
-    head-more (record { at = at; count = length (m ∷ ms) }) qs
-head-unless rs at [] (m ∷ ms) qs h = absurd h
-head-unless rs at (i ∷ is) [] qs h = absurd h
+head-unless : (rs : List Request) (at : End) (ms : List machine.Item) (qs : List Queue)
+    → head (unless_empty at ms ++ qs) ≡ earlier (is_none_left (map (item_in rs) ms)) at (head qs)
+head-unless rs at [] qs = refl
+head-unless rs at (m ∷ ms) qs = head-more (record { at = at; count = length (m ∷ ms) }) qs
 
 -- the queues of one more connection
-head-of : (rs : List Request) (x : Connection) (c : machine.Connection) (qs : List Queue)
-    → StandsForConnection rs x c
-    → head (queues_of c ++ qs) ≡ earliest_of x (head qs)
-head-of rs x c qs h = by x.wired c.wired h.wired
+head-of : (rs : List Request) (c : machine.Connection) (qs : List Queue)
+    → earliest_of (connection_in rs c) (head qs) ≡ head (queues_of c ++ qs)
+head-of rs c qs = by c.wired
   where
-    both : head ((unless_empty (end.Ap c.ap) c.to_ap ++ unless_empty c.peer c.to_far) ++ qs)
-        ≡ earlier (is_none_left x.to_ap) (end.Ap x.ap)
-        (earlier (is_none_left x.to_far) x.peer (head qs))
-    both =
-        ap head (append_assoc (unless_empty (end.Ap c.ap) c.to_ap) (unless_empty c.peer c.to_far)
-        qs)
-        ∙ head-unless rs (end.Ap c.ap) x.to_ap c.to_ap (unless_empty c.peer c.to_far ++ qs) h.to_ap
-        ∙ ap (earlier (is_none_left x.to_ap) (end.Ap c.ap))
-        (head-unless rs c.peer x.to_far c.to_far qs h.to_far)
-        ∙ ap (λ a. earlier (is_none_left x.to_ap) (end.Ap a)
-        (earlier (is_none_left x.to_far) c.peer (head qs))) (sym h.ap)
-        ∙ ap (λ p. earlier (is_none_left x.to_ap) (end.Ap x.ap)
-        (earlier (is_none_left x.to_far) p (head qs))) (sym h.peer)
+    near : List Queue
+    near = unless_empty (end.Ap c.ap) c.to_ap
 
-    by : (a b : Bool) → a ≡ b
-        → head (cond b (unless_empty (end.Ap c.ap) c.to_ap ++ unless_empty c.peer c.to_far) [] ++
-        qs)
-        ≡ cond a (earlier (is_none_left x.to_ap) (end.Ap x.ap)
-        (earlier (is_none_left x.to_far) x.peer (head qs))) (head qs)
-    by true true e = both
-    by false false e = refl
-    by true false e = absurd cc
-    by false true e = absurd cc
+    far : List Queue
+    far = unless_empty c.peer c.to_far
 
-first-is : (rs : List Request) (xs : List Connection) (cs : List machine.Connection)
-    → StandForAll rs xs cs
-    → earliest_in xs ≡ head (queues_in cs)
-first-is rs [] [] h = refl
-first-is rs (x ∷ xs) (c ∷ cs) h = ap (earliest_of x) (first-is rs xs cs h.1)
-    ∙ sym (head-of rs x c (queues_in cs) h.0)
-first-is rs [] (c ∷ cs) h = absurd h
-first-is rs (x ∷ xs) [] h = absurd h
+    by : (w : Bool)
+        → cond w (earlier (is_none_left (map (item_in rs) c.to_ap)) (end.Ap c.ap)
+        (earlier (is_none_left (map (item_in rs) c.to_far)) c.peer (head qs))) (head qs)
+        ≡ head (cond w (near ++ far) [] ++ qs)
+    by true =
+        ap (earlier (is_none_left (map (item_in rs) c.to_ap)) (end.Ap c.ap))
+        (sym (head-unless rs c.peer c.to_far qs))
+        ∙ sym (head-unless rs (end.Ap c.ap) c.to_ap (far ++ qs))
+        ∙ ap head (sym (append_assoc near far qs))
+    by false = refl
+
+first-seen : (xs : List Connection) → earliest_in (map without_ops xs) ≡ earliest_in xs
+first-seen [] = refl
+first-seen (x ∷ xs) = ap (earliest_of x) (first-seen xs)
+
+first-shown : (rs : List Request) (cs : List machine.Connection)
+    → earliest_in (map (connection_in rs) cs) ≡ head (queues_in cs)
+first-shown rs [] = refl
+first-shown rs (c ∷ cs) =
+    ap (earliest_of (connection_in rs c)) (first-shown rs cs) ∙ head-of rs c (queues_in cs)
 
 pub firsts : (around : Around) (x : Bus) (b : machine.Bus) → Stands around x b
     → earliest_in x.connections ≡ first_waiting b
-firsts around x b s = first-is b.requests x.connections b.connections s.shows.connections
+firsts around x b s =
+    sym (first-seen x.connections)
+    ∙ ap earliest_in s.shows.connections
+    ∙ first-shown b.requests b.connections
 
 -- ---- wires
 
 -- whether a connection is there and wired
 pub wired-is : (x : Bus) (b : machine.Bus) (k : ℕ)
-    → StandForAll b.requests x.connections b.connections
+    → AreShown b.requests x.connections b.connections
     → parts.is_wired (find (numbered k) x.connections) ≡ is_wired (connection_of k b)
 wired-is x b k h =
     same-of b.requests parts.is_wired is_wired (find (numbered k) x.connections) (connection_of k b)
-    refl (λ y c s. s.wired)
+    refl (λ y c s. ap (λ (v : Connection). v.wired) s)
     (found-number b.requests k x.connections b.connections h)
 
 -- a connection that is found, by whether it is wired
@@ -215,30 +195,27 @@ found-none (Some c) e = absurd cc
 
 -- whether some connection is wired to an interface
 pub wired-to-is : (rs : List Request) (i : ℕ) (xs : List Connection) (cs : List machine.Connection)
-    → StandForAll rs xs cs
+    → AreShown rs xs cs
     → list_any (parts.is_wired_to i) xs ≡ list_any (wiring.is_wired_to i) cs
-wired-to-is rs i [] [] h = refl
-wired-to-is rs i (x ∷ xs) (c ∷ cs) h =
-    ap (λ w. w && wiring.is_at i x.peer || list_any (parts.is_wired_to i) xs) h.0.wired
-    ∙ ap (λ p. c.wired && wiring.is_at i p || list_any (parts.is_wired_to i) xs) h.0.peer
-    ∙ ap (λ t. c.wired && wiring.is_at i c.peer || t) (wired-to-is rs i xs cs h.1)
-wired-to-is rs i [] (c ∷ cs) h = absurd h
-wired-to-is rs i (x ∷ xs) [] h = absurd h
+wired-to-is rs i xs cs s =
+    sym (any-map without_ops (parts.is_wired_to i) xs)
+    ∙ ap (list_any (parts.is_wired_to i)) s
+    ∙ any-map (connection_in rs) (parts.is_wired_to i) cs
 
 -- ---- which ends a connection has, and which connection an end names
 
 pub ends-is : (x : Bus) (b : machine.Bus) (k : ℕ)
-    → StandForAll b.requests x.connections b.connections
+    → AreShown b.requests x.connections b.connections
     → option_map ends_in (find (numbered k) x.connections)
     ≡ option_map ends_of (connection_of k b)
 ends-is x b k h =
     same-of b.requests (option_map ends_in) (option_map ends_of) (find (numbered k) x.connections)
     (connection_of k b)
-    refl (λ y c s. ap (λ a. Some (a, y.peer)) s.ap ∙ ap (λ e. Some (c.ap, e)) s.peer)
+    refl (λ y c s. ap (λ (v : Connection). Some (ends_in v)) s)
     (found-number b.requests k x.connections b.connections h)
 
 pub named-is : (x : Bus) (b : machine.Bus) (at : End)
-    → StandForAll b.requests x.connections b.connections
+    → AreShown b.requests x.connections b.connections
     → option_map (λ p. p.0) (place_at at x.connections)
     ≡ option_map number_of (place_of at b.connections)
 named-is x b at h =
@@ -251,29 +228,17 @@ named-is x b at h =
 
 -- the numbers of those that are wired to an interface
 pub wired_numbers-is : (rs : List Request) (i : ℕ) (xs : List Connection)
-    (cs : List machine.Connection) → StandForAll rs xs cs
+    (cs : List machine.Connection) → AreShown rs xs cs
     → map (λ x. x.number) (filter (parts.is_wired_to i) xs)
     ≡ map (λ c. c.number) (filter (wiring.is_wired_to i) cs)
-wired_numbers-is rs i [] [] h = refl
-wired_numbers-is rs i (x ∷ xs) (c ∷ cs) h =
-    by (parts.is_wired_to i x) (wiring.is_wired_to i c)
-    (ap (λ w. w && wiring.is_at i x.peer) h.0.wired
-    ∙ ap (λ p. c.wired && wiring.is_at i p) h.0.peer)
-    (wired_numbers-is rs i xs cs h.1)
+wired_numbers-is rs i xs cs s =
+    sym (numbers without_ops xs)
+    ∙ ap (λ ys. map (λ (y : Connection). y.number) (filter (parts.is_wired_to i) ys)) s
+    ∙ numbers (connection_in rs) cs
   where
-    code : List Connection
-    code = filter (parts.is_wired_to i) xs
-
-    live : List machine.Connection
-    live = filter (wiring.is_wired_to i) cs
-
-    by : (t u : Bool) → t ≡ u → map (λ x. x.number) code ≡ map (λ c. c.number) live
-        → map (λ x. x.number) (cond t (x ∷ code) code)
-        ≡ map (λ c. c.number) (cond u (c ∷ live) live)
-    by true true e rest = ap (λ n. n ∷ map (λ x. x.number) code) h.0.number
-        ∙ ap (λ ns. c.number ∷ ns) rest
-    by false false e rest = rest
-    by true false e rest = absurd cc
-    by false true e rest = absurd cc
-wired_numbers-is rs i [] (c ∷ cs) h = absurd h
-wired_numbers-is rs i (x ∷ xs) [] h = absurd h
+    numbers : {A : Type 0} (h : A → Connection) (ys : List A)
+        → map (λ (y : Connection). y.number) (filter (parts.is_wired_to i) (map h ys))
+        ≡ map (λ y. (h y).number) (filter (λ y. parts.is_wired_to i (h y)) ys)
+    numbers h ys =
+        ap (map (λ (y : Connection). y.number)) (filter-map h (parts.is_wired_to i) ys)
+        ∙ map-map (λ (y : Connection). y.number) h (filter (λ y. parts.is_wired_to i (h y)) ys)

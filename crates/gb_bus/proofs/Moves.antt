@@ -1,142 +1,100 @@
--- What a connection stands for once it changes.
-use Rattle.std.proofs.Common.{◌≡◌, ℕ, Bool, true, false, cond, List, [], ◌∷◌, ◌++◌, refl}
+-- What changes of a connection come to in what is seen of it, and what stays.
+use Rattle.std.proofs.Common.{◌≡◌, ℕ, Bool, true, false, cond, List, [], ◌∷◌, ◌++◌, map, refl}
+use Rattle.std.proofs.Common.{ap, ◌∙◌}
+use Rattle.std.proofs.lemmas.List.{map-append}
 use Rattle.gb_base.specs.declared.end.Side.{Side}
 use Rattle.gb_base.specs.declared.end.Side.TheVariants as side
-use Rattle.gb_bus.proofs.Queues.{queue_more, queue_push}
-use Rattle.gb_bus.proofs.Standing.{Together}
-use Rattle.gb_bus.specs.Parts.{cleared, closed, ops_of, put, queue_of, soiled, with_ops, with_queue}
-use Rattle.gb_bus.specs.Parts.{with_wire, without_front}
-use Rattle.gb_bus.specs.Stands.{StandsForConnection, StandsForItem, StandsForQueue}
+use Rattle.gb_bus.proofs.Standing.{AreShown, ShownAs, SeenAs, changed, stays-for}
 use Rattle.gb_bus.specs.Connection.{Connection}
+use Rattle.gb_bus.specs.Parts.{numbered, ops_of, put, queue_of, soiled, with_ops, with_queue}
+use Rattle.gb_bus.specs.Parts.{with_wire, without_front}
+use Rattle.gb_bus.specs.Shown.{connection_in, item_in, without_ops}
+use Rattle.gb_bus.specs.Sides.{ChangesSide}
 use Rattle.gb_bus.specs.declared.queue.Item.{Item}
 use Rattle.gb_machine.specs.Bus as machine
-use Rattle.gb_machine.specs.Bus.{Request, queue}
+use Rattle.gb_machine.specs.Bus.{Request, has_number, queue}
 use Rattle.gb_machine.specs.Delivery as delivery
 use Rattle.gb_machine.specs.Labels.{last_label, with_last_label}
-use Rattle.gb_machine.specs.Lists.{behind_first}
+use Rattle.gb_machine.specs.Lists.{at_first, behind_first}
 use Rattle.gb_machine.specs.Sending as sending
 use Rattle.gb_ops.specs.Operations.{Operations}
 
-pub queue-stands : (rs : List Request) (at : Side) (x : Connection) (c : machine.Connection)
-    → StandsForConnection rs x c
-    → StandsForQueue rs (queue_of at x) (queue at c)
-queue-stands rs side.Ap x c h = h.to_ap
-queue-stands rs side.Far x c h = h.to_far
-
--- what a connection stands for, field by field in the order of the record
-stands-by : (rs : List Request) (x : Connection) (c : machine.Connection)
-    → x.number ≡ c.number → x.ap ≡ c.ap → x.peer ≡ c.peer → x.protocol ≡ c.protocol
-    → x.wired ≡ c.wired → x.clean ≡ c.clean → x.shut ≡ c.shut
-    → StandsForQueue rs x.to_ap c.to_ap → StandsForQueue rs x.to_far c.to_far
-    → StandsForConnection rs x c
-stands-by rs x c number ap peer protocol wired clean shut to_ap to_far = record {
-  number = number;
-  ap = ap;
-  peer = peer;
-  protocol = protocol;
-  wired = wired;
-  clean = clean;
-  shut = shut;
-  to_ap = to_ap;
-  to_far = to_far;
-}
-
--- a queue is another
-pub with_queue-stands : (rs : List Request) (at : Side) (is : List Item) (ms : List machine.Item)
-    (x : Connection) (c : machine.Connection)
-    → StandsForQueue rs is ms → StandsForConnection rs x c
-    → StandsForConnection rs (with_queue at is x) (machine.with_queue at ms c)
-with_queue-stands rs side.Ap is ms x c q h =
-    stands-by rs _ _ h.number h.ap h.peer h.protocol h.wired h.clean h.shut q
-    h.to_far
-with_queue-stands rs side.Far is ms x c q h =
-    stands-by rs _ _ h.number h.ap h.peer h.protocol h.wired h.clean h.shut
-    h.to_ap q
-
--- an identifier is drawn
-pub drawn-stands : (rs : List Request) (at : Side) (ops : Operations) (label : ℕ)
-    → Together rs rs (with_ops at ops) (with_last_label at label)
-drawn-stands rs side.Ap ops label x c h =
-    stands-by rs _ _ h.number h.ap h.peer h.protocol h.wired h.clean h.shut h.to_ap h.to_far
-drawn-stands rs side.Far ops label x c h =
-    stands-by rs _ _ h.number h.ap h.peer h.protocol h.wired h.clean h.shut h.to_ap h.to_far
+-- ---- what is seen
 
 -- the requests of a side are others
-pub ops-stand : (rs : List Request) (at : Side) (ops : Operations)
-    → Together rs rs (with_ops at ops) (λ c. c)
-ops-stand rs side.Ap ops x c h =
-    stands-by rs _ _ h.number h.ap h.peer h.protocol h.wired h.clean h.shut h.to_ap h.to_far
-ops-stand rs side.Far ops x c h =
-    stands-by rs _ _ h.number h.ap h.peer h.protocol h.wired h.clean h.shut h.to_ap h.to_far
+pub ops-seen : (at : Side) (ops : Operations) → SeenAs (with_ops at ops) (λ x. x)
+ops-seen side.Ap ops x = refl
+ops-seen side.Far ops x = refl
+
+-- then the connections are the machine's still
+pub shown-changed : (rs : List Request) (xs ys : List Connection) (cs : List machine.Connection)
+    (k : ℕ) (at : Side) (R : Operations → Operations → Type 0)
+    → AreShown rs xs cs → ChangesSide xs ys k at R → AreShown rs ys cs
+shown-changed rs xs ys cs k at R s d =
+    ap (map without_ops) d.rest
+    ∙ stays-for rs k (with_ops at d.after) xs cs (ops-seen at d.after) s
+
+-- an identifier is drawn
+pub drawn-shown : (rs : List Request) (at : Side) (label : ℕ)
+    → ShownAs rs (with_last_label at label) (λ x. x)
+drawn-shown rs side.Ap label c = refl
+drawn-shown rs side.Far label c = refl
 
 -- a message goes to the end of a queue, unless the connection isn't wired
-pub put-stands : (rs : List Request) (at : Side) (i : Item) (m : machine.Item)
-    → StandsForItem rs i m
-    → Together rs rs (put at i) (sending.put at m)
-put-stands rs at i m item x c h = by x.wired c.wired h.wired
+pub put-seen : (at : Side) (i : Item) → SeenAs (put at i) (put at i)
+put-seen at i x = by x.wired at
   where
-    queued : StandsForConnection rs (with_queue at (queue_of at x ++ i ∷ []) x)
-        (machine.with_queue at (queue at c ++ m ∷ []) c)
-    queued =
-        with_queue-stands rs at (queue_of at x ++ i ∷ []) (queue at c ++ m ∷ []) x c
-        (queue_push rs (queue_of at x) (queue at c) i m (queue-stands rs at x c h) item) h
+    by : (w : Bool) (to : Side)
+        → without_ops (cond w (with_queue to (queue_of to x ++ i ∷ []) x) x)
+        ≡ cond w (with_queue to (queue_of to (without_ops x) ++ i ∷ []) (without_ops x))
+        (without_ops x)
+    by true side.Ap = refl
+    by true side.Far = refl
+    by false to = refl
 
-    by : (a b : Bool) → a ≡ b
-        → StandsForConnection rs (cond a (with_queue at (queue_of at x ++ i ∷ []) x) x)
-        (cond b (machine.with_queue at (queue at c ++ m ∷ []) c) c)
-    by true true e = queued
-    by false false e = h
-    by true false e = absurd cc
-    by false true e = absurd cc
+pub put-shown : (rs : List Request) (at : Side) (m : machine.Item)
+    → ShownAs rs (sending.put at m) (put at (item_in rs m))
+put-shown rs at m c = by c.wired at
+  where
+    by : (w : Bool) (to : Side)
+        → connection_in rs (cond w (machine.with_queue to (queue to c ++ m ∷ []) c) c)
+        ≡ cond w (with_queue to (queue_of to (connection_in rs c) ++ item_in rs m ∷ [])
+        (connection_in rs c)) (connection_in rs c)
+    by true side.Ap =
+        ap (λ is. record (connection_in rs c) { to_ap = is })
+        (map-append (item_in rs) c.to_ap (m ∷ []))
+    by true side.Far =
+        ap (λ is. record (connection_in rs c) { to_far = is })
+        (map-append (item_in rs) c.to_far (m ∷ []))
+    by false to = refl
+
+pub shown-put : (rs : List Request) (k : ℕ) (at : Side) (i : Item) (m : machine.Item)
+    (g : machine.Connection → machine.Connection) (xs : List Connection)
+    (cs : List machine.Connection)
+    → i ≡ item_in rs m → ShownAs rs g (put at (item_in rs m)) → AreShown rs xs cs
+    → AreShown rs (at_first (numbered k) (put at i) xs) (at_first (has_number k) g cs)
+shown-put rs k at i m g xs cs is made s =
+    changed rs k (put at i) g (put at (item_in rs m)) xs cs
+    (λ x. put-seen at i x ∙ ap (λ j. put at j (without_ops x)) is) made s
 
 -- the front message of a queue is taken
-pub front-stands : (rs : List Request) (at : Side)
-    → Together rs rs (without_front at) (delivery.without_front at)
-front-stands rs at x c h =
-    with_queue-stands rs at (behind_first (queue_of at x)) (behind_first (queue at c)) x c
-    (behind rs (queue_of at x) (queue at c) (queue-stands rs at x c h)) h
-  where
-    behind : (rs : List Request) (is : List Item) (ms : List machine.Item) → StandsForQueue rs is ms
-        → StandsForQueue rs (behind_first is) (behind_first ms)
-    behind rs [] [] q = q
-    behind rs (i ∷ is) (m ∷ ms) q = q.1
-    behind rs [] (m ∷ ms) q = absurd q
-    behind rs (i ∷ is) [] q = absurd q
+behind : (rs : List Request) (ms : List machine.Item)
+    → map (item_in rs) (behind_first ms) ≡ behind_first (map (item_in rs) ms)
+behind rs [] = refl
+behind rs (m ∷ ms) = refl
 
--- a connection is wired
-pub wired-stands : (rs : List Request) → Together rs rs with_wire (λ c. record c { wired = true })
-wired-stands rs x c h =
-    stands-by rs _ _ h.number h.ap h.peer h.protocol refl h.clean h.shut h.to_ap
-    h.to_far
+pub front-seen : (at : Side) → SeenAs (without_front at) (without_front at)
+front-seen side.Ap x = refl
+front-seen side.Far x = refl
 
--- or isn't any more
-pub cleared-stands : (rs : List Request)
-    → Together rs rs cleared (λ c. record c { wired = false; to_ap = []; to_far = [] })
-cleared-stands rs x c h =
-    stands-by rs _ _ h.number h.ap h.peer h.protocol refl h.clean h.shut tt tt
-
--- or is closed
-pub closed-stands : (rs : List Request) → Together rs rs closed (λ c. record c { shut = true })
-closed-stands rs x c h =
-    stands-by rs _ _ h.number h.ap h.peer h.protocol h.wired h.clean refl h.to_ap
-    h.to_far
-
--- or is unclean from now on
-pub soiled-stands : (rs : List Request) → Together rs rs soiled (λ c. record c { clean = false })
-soiled-stands rs x c h =
-    stands-by rs _ _ h.number h.ap h.peer h.protocol h.wired refl h.shut h.to_ap
-    h.to_far
-
--- it is the same
-pub same-stands : (rs : List Request) → Together rs rs (λ x. x) (λ c. c)
-same-stands rs x c h = h
-
--- and is so where one more request was made
-pub more-stands : (rs : List Request) (r : Request) → Together rs (rs ++ r ∷ []) (λ x. x) (λ c. c)
-more-stands rs r x c h =
-    stands-by (rs ++ r ∷ []) _ _ h.number h.ap h.peer h.protocol h.wired h.clean h.shut
-    (queue_more rs r x.to_ap c.to_ap h.to_ap)
-    (queue_more rs r x.to_far c.to_far h.to_far)
+pub front-shown : (rs : List Request) (at : Side)
+    → ShownAs rs (delivery.without_front at) (without_front at)
+front-shown rs side.Ap c =
+    ap (λ is. record (connection_in rs c) { to_ap = is })
+    (behind rs c.to_ap)
+front-shown rs side.Far c =
+    ap (λ is. record (connection_in rs c) { to_far = is })
+    (behind rs c.to_far)
 
 -- ---- what stays of the sides
 
@@ -152,11 +110,6 @@ wire-last side.Far c = refl
 pub soiled-ops : (at : Side) (x : Connection) → ops_of at (soiled x) ≡ ops_of at x
 soiled-ops side.Ap x = refl
 soiled-ops side.Far x = refl
-
-pub soiled-last : (at : Side) (c : machine.Connection)
-    → last_label at (record c { clean = false }) ≡ last_label at c
-soiled-last side.Ap c = refl
-soiled-last side.Far c = refl
 
 queue-ops : (s at : Side) (is : List Item) (x : Connection)
     → ops_of s (with_queue at is x) ≡ ops_of s x

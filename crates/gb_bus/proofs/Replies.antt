@@ -1,20 +1,22 @@
 -- A reply stands for the machine's.
 use Rattle.std.proofs.Common.{◌≡◌, ◌≤◌, ℕ, ◌+◌, Bool, true, false, cond, Option, Some, None, Result}
 use Rattle.std.proofs.Common.{Ok, Err, option_map, List, ◌∷◌, ◌++◌, refl, inr, subst, arith, sym}
+use Rattle.std.proofs.Common.{ap, ◌∙◌}
 use Rattle.gb_base.specs.declared.end.Side.{Side}
 use Rattle.gb_base.specs.declared.fault.RawFault.{RawFault}
 use Rattle.gb_bus.proofs.Loosening.{fits-first}
-use Rattle.gb_bus.proofs.Moves.{put-last, put-number, put-ops, put-stands, same-stands}
+use Rattle.gb_bus.proofs.Moves.{put-last, put-shown, put-number, put-ops, shown-put}
 use Rattle.gb_bus.proofs.Sides.{sides-changed}
-use Rattle.gb_bus.proofs.Standing.{changed}
 use Rattle.gb_bus.proofs.Wires.{shows-connections}
 use Rattle.gb_bus.specs.Delivering.{MayReply, Names, taken_from}
 use Rattle.gb_bus.specs.Parts.{numbered, put}
-use Rattle.gb_bus.specs.Stands.{Stands, StandsForItem, around_of}
+use Rattle.gb_bus.specs.Shown.{item_in, reply_in}
+use Rattle.gb_bus.specs.Stands.{Stands, around_of}
 use Rattle.gb_bus.specs.Taking.{reply_by, reply_item}
 use Rattle.gb_bus.specs.declared.answers.Asked.{Asked}
 use Rattle.gb_bus.specs.declared.bus.Bus.{Bus}
 use Rattle.gb_bus.specs.declared.queue.Item.{Item}
+use Rattle.gb_bus.specs.declared.queue.Item.TheVariants as code
 use Rattle.gb_formats.specs.Message.{Message}
 use Rattle.gb_formats.specs.Wire.{raw_message}
 use Rattle.gb_invariants.proofs.Apart.{apart-changed}
@@ -39,7 +41,7 @@ use Rattle.gb_machine.specs.Serving.{answer}
 -- an item that was taken is replied to
 record Replied (k : ℕ) (at : Side) (rest : List Loose) (item : machine.Item) (i : Item)
     (m : machine.Item) (b : machine.Bus) : Type 0 where
-  stands : StandsForItem b.requests i m
+  is : i ≡ item_in b.requests m
   new : (c : Connection) → IsIn c b.connections → c.number ≡ k → IsNew b c (other_side at) m
   counts : (n : ℕ) → times_in (is_item_of n) rest b + one (is_item_of n) m
       ≤ times_in (is_item_of n) (taken_from k at item ∷ rest) b
@@ -61,9 +63,8 @@ replies-with x y k at i m item names before after b moved s how =
       shows = shows-connections names x b
           (at_first (numbered k) (put (other_side at) i) x.connections)
           (replied k (other_side at) m b).connections
-          (changed b.requests b.requests k (put (other_side at) i)
-          (sending.put (other_side at) m) x.connections b.connections
-          (put-stands b.requests (other_side at) i m r.stands) (same-stands b.requests)
+          (shown-put b.requests k (other_side at) i m (sending.put (other_side at) m)
+          x.connections b.connections r.is (put-shown b.requests (other_side at) m)
           s.shows.connections)
           (sides-changed x.connections b k (put (other_side at) i)
           (sending.put (other_side at) m) (put-number (other_side at) i)
@@ -87,14 +88,8 @@ to-request : (k : ℕ) (at : Side) (rest : List Loose) (n label result : ℕ) (p
     → Replied k at rest (machine.Ask n) (reply_by (Some n) label result payload)
     (machine.Reply n result payload) b
 to-request k at rest n label result payload r b made twoway label_is fits = record {
-  stands = record {
-    request = r;
-    made = made;
-    number_is = refl;
-    label_is = sym label_is;
-    result_is = refl;
-    payload_is = refl;
-  };
+  is = ap (λ l. code.Reply n l result payload) label_is
+      ∙ sym (ap (reply_in n result payload) made);
   new = reply-new rest b k n result payload at r made twoway fits;
   counts = λ j. let t = times-cons (λ (l : Loose). is_item_of j l.item)
       (taken_from k at (machine.Ask n)) rest in omega (arith, t);
@@ -107,7 +102,7 @@ to-raw : (k : ℕ) (at : Side) (rest : List Loose) (bytes : List ℕ) (m : Messa
     → Replied k at rest (machine.Raw bytes) (reply_by None label result payload)
     (machine.RawReply m.id m.kind result payload) b
 to-raw k at rest bytes m label result payload b label_is fits = record {
-  stands = record { label_is = label_is; result_is = refl; payload_is = refl };
+  is = ap (λ l. code.RawReply l result payload) label_is;
   new = raw-new rest b k m.id m.kind result bytes payload at fits;
   counts = λ j. let t = times-cons (λ (l : Loose). is_item_of j l.item)
       (taken_from k at (machine.Raw bytes)) rest in omega (arith, t);

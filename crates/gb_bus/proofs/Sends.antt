@@ -1,5 +1,5 @@
 -- A send stands for the machine's.
-use Rattle.std.proofs.Common.{◌≡◌, ◌≤◌, ◌<◌, ℕ, ◌+◌, ◌==◌, Bool, true, false, not, cond, Option}
+use Rattle.std.proofs.Common.{◌≡◌, ◌≤◌, ◌<◌, ℕ, ◌+◌, Bool, true, false, not, cond, Option}
 use Rattle.std.proofs.Common.{Some, None, Result, Ok, Err, option_and_then, List, [], ◌∷◌, ◌++◌}
 use Rattle.std.proofs.Common.{length, eqb, is_some, refl, sym, ap, ◌∙◌, ◌⊎◌, ⊎_elim, inl, arith}
 use Rattle.std.proofs.Common.{subst, add-one}
@@ -7,24 +7,24 @@ use Rattle.std.specs.List.{find}
 use Rattle.gb_base.specs.declared.end.Side.{Side}
 use Rattle.gb_base.specs.declared.outcome.Outcome.{Outcome}
 use Rattle.gb_base.specs.declared.outcome.Outcome.TheVariants as outcome
-use Rattle.gb_bus.proofs.Changing.{twice}
 use Rattle.gb_bus.proofs.Counted.{tells-made}
 use Rattle.gb_bus.proofs.Endings.{lookup-other, lookup-same, same-test}
 use Rattle.gb_bus.proofs.Finding.{no-twin, twin}
 use Rattle.gb_bus.proofs.Looks.{next-is}
-use Rattle.gb_bus.proofs.Moves.{drawn-stands, more-stands, ops-number, put-stands}
+use Rattle.gb_bus.proofs.Moves.{drawn-shown, put-shown, shown-put, shown-changed}
+use Rattle.gb_bus.proofs.Queues.{connections-more}
 use Rattle.gb_bus.proofs.Sides.{sides-sent, sides-sent_oneway}
 use Rattle.gb_bus.proofs.SlotLaws.{Tell, tell_more, tell_sent}
-use Rattle.gb_bus.proofs.Standing.{changed}
+use Rattle.gb_bus.proofs.Standing.{AreShown}
 use Rattle.gb_bus.specs.Counting.{Tells, with_one}
 use Rattle.gb_bus.specs.Ends.{first_outcome}
 use Rattle.gb_bus.specs.Listing.{count}
 use Rattle.gb_bus.specs.Moving.{LabelsAs}
-use Rattle.gb_bus.specs.Parts.{next_of, numbered, put, with_ops}
+use Rattle.gb_bus.specs.Parts.{next_of, numbered, put}
 use Rattle.gb_bus.specs.Sending.{Sends, SendsAs, SendsNone}
 use Rattle.gb_bus.specs.Slots.{Kept, MakesAs}
-use Rattle.gb_bus.specs.Stands.{AreMade, Around, KeepSides, Shows, StandForAll, Stands}
-use Rattle.gb_bus.specs.Stands.{StandsForItem, kept}
+use Rattle.gb_bus.specs.Shown.{ask_in, item_in}
+use Rattle.gb_bus.specs.Stands.{AreMade, Around, KeepSides, Shows, Stands, kept}
 use Rattle.gb_bus.specs.declared.answers.SendFault.{SendFault}
 use Rattle.gb_bus.specs.declared.answers.SendFault.TheVariants as fault
 use Rattle.gb_bus.specs.declared.bus.Bus.{Bus}
@@ -49,6 +49,7 @@ use Rattle.gb_machine.specs.Lists.{at_first, lookup, nth}
 use Rattle.gb_machine.specs.Sending as sending
 use Rattle.gb_machine.specs.Sending.{Draft, draft, drawn, is_lost, is_wired, label_for, requested}
 use Rattle.gb_machine.specs.Sending.{sent, sent_at_once}
+use Rattle.gb_ops.specs.Calls.{Begins}
 
 -- ---- outcomes
 
@@ -78,12 +79,18 @@ record Drawn (x y : Bus) (b : machine.Bus) (d : Draft) (label : ℕ) (i : Item)
   connections : List Connection
   label_is : label_for d b ≡ Some label
   after : y ≡ record x { connections = connections }
-  stand : StandForAll (b.requests ++ requested d label ∷ [])
+  shown : AreShown (b.requests ++ requested d label ∷ [])
       (at_first (numbered d.connection) (put (other_side d.side) i) connections)
       (at_first (has_number d.connection) (λ c. sending.put (other_side d.side) m (drawn d label c))
       b.connections)
   sides : KeepSides (at_first (numbered d.connection) (put (other_side d.side) i) connections)
       (sent d label b)
+
+-- one request more changes nothing that is seen
+shown-more : (around : Around) (x : Bus) (b : machine.Bus) (r : Request) → Stands around x b
+    → AreShown (b.requests ++ r ∷ []) x.connections b.connections
+shown-more around x b r s =
+    s.shows.connections ∙ sym (connections-more around.items b r s.facts.fits.items)
 
 -- an answer with an identifier
 same-label : (l m : ℕ) (r : Result ℕ SendFault) → r ≡ Ok l → r ≡ Ok m → l ≡ m
@@ -92,7 +99,7 @@ same-label l m r e f = cc
 draws : (around : Around) (x y : Bus) (b : machine.Bus) (k : ℕ) (at : Side) (kind : ℕ)
     (payload : List ℕ) (deadline : ℕ) (oneway : Bool) (label : ℕ) (i : Item)
     → Stands around x b
-    → StandsForItem (b.requests ++ requested (draft k at kind payload deadline oneway) label ∷ []) i
+    → i ≡ item_in (b.requests ++ requested (draft k at kind payload deadline oneway) label ∷ [])
     (machine.Ask (next_number b))
     → LabelsAs x y k at (next_number b) deadline oneway (Ok label)
     → Drawn x y b (draft k at kind payload deadline oneway) label i (machine.Ask (next_number b))
@@ -104,17 +111,15 @@ draws around x y b k at kind payload deadline true label i s item h =
       connections = x.connections;
       label_is = ap Some (sym (same-label label 0 (Ok label) refl h.0));
       after = h.1;
-      stand = changed b.requests (b.requests ++ r ∷ []) k (put (other_side at) i)
-          (sending.put (other_side at) m) x.connections b.connections
-          (λ v c t. put-stands (b.requests ++ r ∷ []) (other_side at) i m item v c
-          (more-stands b.requests r v c t))
-          (more-stands b.requests r) s.shows.connections;
+      shown = shown-put (b.requests ++ r ∷ []) k (other_side at) i m
+          (sending.put (other_side at) m) x.connections b.connections item
+          (put-shown (b.requests ++ r ∷ []) (other_side at) m) (shown-more around x b r s);
       sides = sides-sent_oneway around.items x.connections b d label i s.facts.fits refl
           s.shows.sides;
     }
 draws around x y b k at kind payload deadline false label i s item h =
     let d = draft k at kind payload deadline false in
-    let r = requested d label in
+    let rs = b.requests ++ requested d label ∷ [] in
     let m = machine.Ask (next_number b) in
     let w = h.0 in
     record {
@@ -122,42 +127,27 @@ draws around x y b k at kind payload deadline false label i s item h =
       label_is = sym (next-is x b k at s.shows)
           ∙ ap (option_and_then (next_of at)) w.found ∙ w.did.next;
       after = h.1;
-      stand = subst (λ (cs : List Connection). StandForAll (b.requests ++ r ∷ [])
-          (at_first (numbered k) (put (other_side at) i) cs)
-          (at_first (has_number k)
-          (λ c. sending.put (other_side at) m (with_last_label at label c)) b.connections))
-          (sym w.rest)
-          (subst (λ (cs : List Connection). StandForAll (b.requests ++ r ∷ []) cs
-          (at_first (has_number k)
-          (λ c. sending.put (other_side at) m (with_last_label at label c)) b.connections))
-          (sym (twice (numbered k) (put (other_side at) i) (with_ops at w.after) x.connections
-          (λ v. ap (λ n. n == k) (ops-number at w.after v))))
-          (changed b.requests (b.requests ++ r ∷ []) k
-          (λ v. put (other_side at) i (with_ops at w.after v))
-          (λ c. sending.put (other_side at) m (with_last_label at label c)) x.connections
-          b.connections
-          (λ v c t. put-stands (b.requests ++ r ∷ []) (other_side at) i m item
-          (with_ops at w.after v) (with_last_label at label c)
-          (drawn-stands (b.requests ++ r ∷ []) at w.after label v c
-          (more-stands b.requests r v c t)))
-          (more-stands b.requests r) s.shows.connections));
+      shown = shown-put rs k (other_side at) i m
+          (λ c. sending.put (other_side at) m (with_last_label at label c)) y.connections
+          b.connections item
+          (λ c. put-shown rs (other_side at) m (with_last_label at label c)
+          ∙ ap (put (other_side at) (item_in rs m)) (drawn-shown rs at label c))
+          (shown-changed rs x.connections y.connections b.connections k at
+          (λ u v. Begins u v (next_number b) deadline label)
+          (shown-more around x b (requested d label) s) w);
       sides = sides-sent around.items x.connections y.connections b d label i s.shows.connections
           s.facts.fits refl w s.shows.sides;
     }
 
--- the new message stands for the new request
+-- the new message is that of the new request
 new_item : (b : machine.Bus) (d : Draft) (label number : ℕ) → number ≡ next_number b
-    → StandsForItem (b.requests ++ requested d label ∷ []) (code.Ask number label d.kind d.payload)
-    (machine.Ask (next_number b))
-new_item b d label number e = record {
-  request = requested d label;
-  made = ap (λ m. nth m (b.requests ++ requested d label ∷ [])) (add-one (length b.requests))
-      ∙ nth-push b.requests (requested d label);
-  same = e;
-  label_is = refl;
-  kind_is = refl;
-  payload_is = refl;
-}
+    → code.Ask number label d.kind d.payload
+    ≡ item_in (b.requests ++ requested d label ∷ []) (machine.Ask (next_number b))
+new_item b d label number e =
+    ap (λ n. code.Ask n label d.kind d.payload) e
+    ∙ sym (ap (ask_in (next_number b))
+    (ap (λ m. nth m (b.requests ++ requested d label ∷ [])) (add-one (length b.requests))
+    ∙ nth-push b.requests (requested d label)))
 
 -- ---- the answer
 
@@ -272,7 +262,7 @@ counted-sent around x b d label slot y s t oneway makes =
 shows-sent : (around : Around) (x : Bus) (b : machine.Bus) (d : Draft) (label number : ℕ)
     (cs : List Connection) (slot : Slot) (y : Kept) → Stands around x b → number ≡ next_number b
     → slot ≡ kept number true 0 None (requested d label) → MakesAs d.oneway slot x.slots y
-    → StandForAll (b.requests ++ requested d label ∷ [])
+    → AreShown (b.requests ++ requested d label ∷ [])
     (at_first (numbered d.connection)
     (put (other_side d.side) (code.Ask number label d.kind d.payload)) cs)
     (sent d label b).connections
@@ -280,9 +270,9 @@ shows-sent : (around : Around) (x : Bus) (b : machine.Bus) (d : Draft) (label nu
     (put (other_side d.side) (code.Ask number label d.kind d.payload)) cs) (sent d label b)
     → Shows around.names (sending_on d label number y (record x { connections = cs }))
     (sent d label b)
-shows-sent around x b d label number cs slot y s place is makes stand sides = record {
+shows-sent around x b d label number cs slot y s place is makes shown sides = record {
   made = s.shows.made;
-  connections = stand;
+  connections = shown;
   sides = sides;
   slots = kept-sent around x b d label number slot y s place is d.oneway refl makes;
   tally = counted-sent around x b d label slot y s d.oneway refl makes;
@@ -342,11 +332,12 @@ sends_on around x y z b k at kind payload deadline oneway label number lost foun
     record {
       label = ap (option_and_then (λ o. label_for d b)) c.live ∙ w.label_is;
       number = place;
-      lost = is_lost ∙ ap not (c.stands.wired ∙ sym (ap is_wired c.live));
+      lost = is_lost
+          ∙ ap not (ap (λ (v : Connection). v.wired) c.shown ∙ sym (ap is_wired c.live));
       stands = subst (λ (u : Bus). Stands around u (sent d label b))
           (sym (after ∙ ap (sending_on d label number v) w.after)) (record {
             shows = shows-sent around x b d label number w.connections slot v s place is makes
-                w.stand w.sides;
+                w.shown w.sides;
             named = still-made around.names b (sent d label b) (sent-request d label b) s.named;
             facts = record {
               fits = sent-keeps around.items d label c.connection b c.live w.label_is

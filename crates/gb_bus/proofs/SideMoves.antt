@@ -9,9 +9,10 @@ use Rattle.gb_bus.proofs.SideLists.{Was, here, past, was}
 use Rattle.gb_bus.proofs.Moves.{ops-number}
 use Rattle.gb_bus.proofs.SideParts.{with_ops-other, with_ops-own}
 use Rattle.gb_bus.proofs.SideStates.{SameSide, keeps-same, same-side}
+use Rattle.gb_bus.proofs.Standing.{AreShown}
 use Rattle.gb_bus.specs.Parts.{numbered, ops_of, with_ops}
 use Rattle.gb_bus.specs.Sides.{ChangesSide}
-use Rattle.gb_bus.specs.Stands.{KeepSides, KeepsSide, StandForAll}
+use Rattle.gb_bus.specs.Stands.{KeepSides, KeepsSide}
 use Rattle.gb_bus.specs.Connection.{Connection}
 use Rattle.gb_invariants.proofs.Awaiting.{is_of-is, same-some}
 use Rattle.std.specs.List.{find}
@@ -126,10 +127,10 @@ pub record Before (xs : List Connection) (b : machine.Bus) (k : ℕ) (at : Side)
   pub keeps : KeepsSide k at o (last_label at connection) b
 
 pub before : (xs : List Connection) (b : machine.Bus) (k : ℕ) (at : Side) (x : Connection)
-    → StandForAll b.requests xs b.connections → find (numbered k) xs ≡ Some x → KeepSides xs b
+    → AreShown b.requests xs b.connections → find (numbered k) xs ≡ Some x → KeepSides xs b
     → Before xs b k at (ops_of at x)
-before xs b k at x stand found keeps =
-    let t = twin b.requests k xs b.connections x stand found in record {
+before xs b k at x shown found keeps =
+    let t = twin b.requests k xs b.connections x shown found in record {
       connection = t.connection;
       live = t.live;
       keeps = keeps k at x t.connection found t.live;

@@ -18,9 +18,10 @@ use Rattle.gb_bus.proofs.SideParts.{new-last, new-ops, with_ops-other, with_ops-
 use Rattle.gb_bus.proofs.SideSends.{next-is, same-sent, side-begins}
 use Rattle.gb_bus.proofs.SideStates.{is-pending, keeps-by, keeps-same, same-closed, same-ended}
 use Rattle.gb_bus.proofs.SideStates.{same-forgotten, same-gave_up, same-side}
+use Rattle.gb_bus.proofs.Standing.{AreShown}
 use Rattle.gb_bus.specs.Parts.{new_connection, numbered, ops_of, put, with_ops}
 use Rattle.gb_bus.specs.Sides.{ChangesSide, IsNotOf}
-use Rattle.gb_bus.specs.Stands.{KeepSides, KeepsSide, StandForAll}
+use Rattle.gb_bus.specs.Stands.{KeepSides, KeepsSide}
 use Rattle.gb_bus.specs.Connection.{Connection}
 use Rattle.gb_bus.specs.declared.queue.Item.{Item}
 use Rattle.gb_invariants.proofs.Awaiting.{is_of-is, not-both, same-some}
@@ -72,10 +73,10 @@ sides-changed xs b k f g number same ops last keeps =
 
 -- a connection is made, on which nothing was asked
 pub sides-attached : (xs : List Connection) (b : machine.Bus) (a i c protocol : ℕ)
-    → StandForAll b.requests xs b.connections → NumbersRise b → KeepSides xs b
+    → AreShown b.requests xs b.connections → NumbersRise b → KeepSides xs b
     → KeepSides (xs ++ new_connection (next_connection b) a (end.Module i c) protocol ∷ [])
     (attached a i c protocol b)
-sides-attached xs b a i c protocol stand numbers keeps = λ j at x d found live.
+sides-attached xs b a i c protocol shown numbers keeps = λ j at x d found live.
     by j at x d found live (find (numbered j) xs) refl
   where
     after : machine.Bus
@@ -108,7 +109,7 @@ sides-attached xs b a i c protocol stand numbers keeps = λ j at x d found live.
         → (o : Option Connection) → find (numbered j) xs ≡ o
         → KeepsSide j at (ops_of at x) (last_label at d) after
     by j at x d found live (Some y) e =
-        let t = twin b.requests j xs b.connections y stand e in
+        let t = twin b.requests j xs b.connections y shown e in
         moved j j at at (ops_of at y) (ops_of at x) (last_label at t.connection) (last_label at d)
         after refl refl
         (ap (ops_of at)
@@ -125,7 +126,7 @@ sides-attached xs b a i c protocol stand numbers keeps = λ j at x d found live.
         (sym (find-behind (numbered j) xs (new ∷ []) e) ∙ found) in
         let q = find-one (λ (y : machine.Connection). y.number) j opposite d
         (sym (find-behind (has_number j) b.connections (opposite ∷ [])
-        (no-twin b.requests j xs b.connections stand e)) ∙ live) in
+        (no-twin b.requests j xs b.connections shown e)) ∙ live) in
         moved j j at at no_operations (ops_of at x) 0 (last_label at d) after refl refl
         (new-ops at (next_connection b) a (end.Module i c) protocol ∙ ap (ops_of at) p.0)
         (new-last at (next_connection b) a (end.Module i c) protocol ∙ ap (last_label at) q.0)
@@ -145,12 +146,12 @@ sides-detached xs b k keeps = λ j at x c found live.
 -- A request with an identifier: it is the last that was drawn on its side then.
 pub sides-sent : (loose : List Loose) (xs ys : List Connection) (b : machine.Bus) (d : Draft)
     (label : ℕ) (i : Item)
-    → StandForAll b.requests xs b.connections → BusFits loose b → d.oneway ≡ false
+    → AreShown b.requests xs b.connections → BusFits loose b → d.oneway ≡ false
     → ChangesSide xs ys d.connection d.side
     (λ x y. Begins x y (next_number b) d.deadline label)
     → KeepSides xs b
     → KeepSides (at_first (numbered d.connection) (put (other_side d.side) i) ys) (sent d label b)
-sides-sent loose xs ys b d label i stand fits twoway changes keeps =
+sides-sent loose xs ys b d label i shown fits twoway changes keeps =
     subst (λ zs. KeepSides zs (sent d label b)) (sym both)
     (combine xs b (sent d label b) d.connection d.side f (asking d label (Ask (next_number b)))
     (λ x. put-number (other_side d.side) i (with_ops d.side changes.after x)
@@ -221,11 +222,11 @@ sides-sent_oneway loose xs b d label i fits oneway keeps =
 -- an open request is answered
 pub sides-ended : (loose : List Loose) (xs ys : List Connection) (b : machine.Bus) (k : ℕ)
     (at : Side) (n label : ℕ) (how : Outcome)
-    → StandForAll b.requests xs b.connections → BusFits loose b
+    → AreShown b.requests xs b.connections → BusFits loose b
     → ChangesSide xs ys k at (λ x y. Ends x y label n)
     → KeepSides xs b → KeepSides ys (ended n how b)
-sides-ended loose xs ys b k at n label how stand fits changes keeps =
-    let own = before xs b k at changes.connection stand changes.found keeps in
+sides-ended loose xs ys b k at n label how shown fits changes keeps =
+    let own = before xs b k at changes.connection shown changes.found keeps in
     let h = own.keeps.used label (record { number = n; given_up = false }) changes.did.held in
     changes-side xs ys b (ended n how b) k at (λ x y. Ends x y label n) refl changes
     (λ last kept.
@@ -237,11 +238,11 @@ sides-ended loose xs ys b k at n label how stand fits changes keeps =
 -- one that was given up is answered
 pub sides-forgotten : (loose : List Loose) (xs ys : List Connection) (b : machine.Bus) (k : ℕ)
     (at : Side) (n label : ℕ)
-    → StandForAll b.requests xs b.connections → BusFits loose b
+    → AreShown b.requests xs b.connections → BusFits loose b
     → ChangesSide xs ys k at (λ x y. Forgets x y label n)
     → KeepSides xs b → KeepSides ys (forgotten n b)
-sides-forgotten loose xs ys b k at n label stand fits changes keeps =
-    let own = before xs b k at changes.connection stand changes.found keeps in
+sides-forgotten loose xs ys b k at n label shown fits changes keeps =
+    let own = before xs b k at changes.connection shown changes.found keeps in
     let h = own.keeps.used label (record { number = n; given_up = true }) changes.did.held in
     changes-side xs ys b (forgotten n b) k at (λ x y. Forgets x y label n) refl changes
     (λ last kept.
@@ -253,11 +254,11 @@ sides-forgotten loose xs ys b k at n label stand fits changes keeps =
 -- one is given up
 pub sides-gave_up : (loose : List Loose) (xs ys : List Connection) (b : machine.Bus) (k : ℕ)
     (at : Side) (n : ℕ) (how : Outcome)
-    → StandForAll b.requests xs b.connections → BusFits loose b
+    → AreShown b.requests xs b.connections → BusFits loose b
     → ChangesSide xs ys k at (λ x y. GivesUp x y n)
     → KeepSides xs b → KeepSides ys (gave_up n how b)
-sides-gave_up loose xs ys b k at n how stand fits changes keeps =
-    let own = before xs b k at changes.connection stand changes.found keeps in
+sides-gave_up loose xs ys b k at n how shown fits changes keeps =
+    let own = before xs b k at changes.connection shown changes.found keeps in
     let h = is-pending k at n changes.did.found b
     (sym (own.keeps.pending n) ∙ changes.did.there) in
     changes-side xs ys b (gave_up n how b) k at (λ x y. GivesUp x y n) refl changes
@@ -305,29 +306,29 @@ sides-closed xs b k at keeps =
 
 -- an identifier that is in use for an open request
 pub match-open : (xs ys : List Connection) (b : machine.Bus) (k : ℕ) (at : Side) (n label : ℕ)
-    → StandForAll b.requests xs b.connections
+    → AreShown b.requests xs b.connections
     → ChangesSide xs ys k at (λ x y. Ends x y label n) → KeepSides xs b → is_open n b ≡ true
-match-open xs ys b k at n label stand changes keeps =
-    let own = before xs b k at changes.connection stand changes.found keeps in
+match-open xs ys b k at n label shown changes keeps =
+    let own = before xs b k at changes.connection shown changes.found keeps in
     (is-pending k at n changes.did.found b (sym (own.keeps.pending n) ∙ changes.did.there)).unended
 
 -- for one that was given up
 pub match-late : (loose : List Loose) (xs ys : List Connection) (b : machine.Bus) (k : ℕ)
     (at : Side) (n label : ℕ)
-    → StandForAll b.requests xs b.connections → BusFits loose b
+    → AreShown b.requests xs b.connections → BusFits loose b
     → ChangesSide xs ys k at (λ x y. Forgets x y label n) → KeepSides xs b → is_open n b ≡ false
-match-late loose xs ys b k at n label stand fits changes keeps =
-    let own = before xs b k at changes.connection stand changes.found keeps in
+match-late loose xs ys b k at n label shown fits changes keeps =
+    let own = before xs b k at changes.connection shown changes.found keeps in
     let h = own.keeps.used label (record { number = n; given_up = true }) changes.did.held in
     marked-over n b fits.outcomes (sym (ap (λ (g : Holder). g.given_up) h.is))
 
 -- for another one, or none: then the request isn't awaited
 pub match-none : (xs : List Connection) (b : machine.Bus) (k : ℕ) (at : Side) (n : ℕ) (r : Request)
     (x : Connection)
-    → StandForAll b.requests xs b.connections → request_of n b ≡ Some r → is_of k at r ≡ true
+    → AreShown b.requests xs b.connections → request_of n b ≡ Some r → is_of k at r ≡ true
     → find (numbered k) xs ≡ Some x → IsNotOf (Some n) (holder_of (ops_of at x) r.label)
     → KeepSides xs b → is_awaited n b ≡ false
-match-none xs b k at n r x stand made own found other keeps = by (is_awaited n b) refl
+match-none xs b k at n r x shown made own found other keeps = by (is_awaited n b) refl
   where
     not-true : (t : Bool) → not t ≡ true → t ≡ false
     not-true false e = refl
@@ -338,4 +339,4 @@ match-none xs b k at n r x stand made own found other keeps = by (is_awaited n b
     by true e =
         absurd (not-both (n == n) (is-same n) (not-true (n == n)
         (subst (IsNotOf (Some n))
-        ((before xs b k at x stand found keeps).keeps.held n r made own e) other)))
+        ((before xs b k at x shown found keeps).keeps.held n r made own e) other)))

@@ -10,7 +10,7 @@ use Rattle.std.specs.Map.{lookup}
 use Rattle.std.specs.BTreeSet.{BTreeSet, contains}
 use Rattle.std.specs.Ordering.{nat_cmp}
 use Rattle.slab.specs.Slab as slab
-use Rattle.slab.specs.Slab.{Slab, Updates, with_value}
+use Rattle.slab.specs.Slab.{Slab, Updates}
 use Rattle.gb_bus.proofs.SlotMaps.{FindsAt, Retimed, Updated, added, added-placed}
 use Rattle.gb_bus.proofs.SlotMaps.{each-number}
 use Rattle.gb_bus.proofs.SlotMaps.{found, found-at, none-some, other-number}

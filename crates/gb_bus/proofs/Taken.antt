@@ -8,19 +8,16 @@ use Rattle.gb_base.specs.declared.outcome.Outcome.{Outcome}
 use Rattle.gb_bus.proofs.Endings.{shows-ended, shows-forgotten}
 use Rattle.gb_bus.proofs.Finding.{twin}
 use Rattle.gb_bus.proofs.Loosening.{fits-without}
-use Rattle.gb_bus.proofs.Moves.{front-last, front-ops, front-stands, ops-stand, queue-number}
-use Rattle.gb_bus.proofs.Moves.{same-stands}
+use Rattle.gb_bus.proofs.Moves.{front-last, front-shown, front-ops, front-seen, queue-number}
 use Rattle.gb_bus.proofs.Sides.{sides-changed}
-use Rattle.gb_bus.proofs.Standing.{changed, stays-for}
+use Rattle.gb_bus.proofs.Standing.{AreShown, IsShown, changed}
 use Rattle.gb_bus.proofs.Wires.{shows-connections}
 use Rattle.gb_bus.specs.Connection.{Connection}
 use Rattle.gb_bus.specs.Delivering.{taken_at, taken_from}
 use Rattle.gb_bus.specs.Moving.{ChangesRequest}
-use Rattle.gb_bus.specs.Parts.{is_soiled, is_unclean, numbered, queue_of, with_ops, without_front}
-use Rattle.gb_bus.specs.Sides.{ChangesSide}
+use Rattle.gb_bus.specs.Parts.{is_soiled, is_unclean, numbered, queue_of, without_front}
 use Rattle.gb_bus.specs.Slots.{ended_at, ends_so, forgets}
-use Rattle.gb_bus.specs.Stands.{AreMade, Around, KeepSides, Shows, StandForAll, Stands}
-use Rattle.gb_bus.specs.Stands.{StandsForConnection}
+use Rattle.gb_bus.specs.Stands.{AreMade, Around, KeepSides, Shows, Stands}
 use Rattle.gb_bus.specs.declared.bus.Bus.{Bus}
 use Rattle.gb_invariants.proofs.Apart.{apart-changed}
 use Rattle.gb_invariants.proofs.Awaiting.{not-both, same-some}
@@ -31,14 +28,13 @@ use Rattle.gb_invariants.proofs.Numbers.{found-number}
 use Rattle.gb_invariants.proofs.Selves.{front-self}
 use Rattle.gb_invariants.specs.Facts.{BusFits, Loose, is_numbered}
 use Rattle.gb_machine.specs.Bus as machine
-use Rattle.gb_machine.specs.Bus.{Place, Request, connection_of, has_number, is_open, queue}
+use Rattle.gb_machine.specs.Bus.{Place, Request, is_open, queue}
 use Rattle.gb_machine.specs.Bus.{request_of}
 use Rattle.gb_machine.specs.Delivery as delivery
 use Rattle.gb_machine.specs.Delivery.{ended, forgotten}
 use Rattle.gb_machine.specs.LawsBus.{AreApart}
 use Rattle.gb_machine.specs.Lists.{at_first, behind_first, first}
 use Rattle.gb_machine.specs.Members.{EachTwo, IsIn}
-use Rattle.gb_ops.specs.Operations.{Operations}
 
 -- the item that was taken, out of the queues
 abbrev pub loose_at : Place → machine.Item → Loose
@@ -65,29 +61,21 @@ settled around y p b item t = record {
       { fits = fits-without (loose_at p item) around.items (taken_at p b) t.fits; apart = t.apart };
 }
 
--- what the connections come to once a side of one changes
-pub stand-changed : (rs : List Request) (xs ys : List Connection) (cs : List machine.Connection)
-    (k : ℕ) (at : Side) (R : Operations → Operations → Type 0)
-    → StandForAll rs xs cs → ChangesSide xs ys k at R → StandForAll rs ys cs
-stand-changed rs xs ys cs k at R s d =
-    subst (λ (zs : List Connection). StandForAll rs zs cs) (sym d.rest)
-    (stays-for rs k (with_ops at d.after) xs cs (ops-stand rs at d.after) s)
-
 -- the bus once an open request is answered by the item
 pub stands-ended : (around : Around) (y z : Bus) (b : machine.Bus) (p : Place)
     (item : machine.Item) (n : ℕ) (how : Outcome)
     → Taken around y p b item → is_open n b ≡ true
-    → StandForAll b.requests z.connections (taken_at p b).connections
+    → AreShown b.requests z.connections (taken_at p b).connections
     → KeepSides z.connections (ended n how (taken_at p b))
     → NoneAnswers around.items (taken_at p b) n
     → ChangesRequest y z n (ends_so how) (ended_at n how y.slots)
     → Stands around z (ended n how (taken_at p b))
-stands-ended around y z b p item n how t unended stand sides none after =
+stands-ended around y z b p item n how t unended shown sides none after =
     let fits = fits-without (loose_at p item) around.items (taken_at p b) t.fits in
     let stays : Stands around (record y { connections = z.connections; slots = z.slots })
     (ended n how (taken_at p b)) = record {
       shows = shows-ended around.names y (taken_at p b) n how z.connections z.slots fits.outcomes
-          unended stand sides after.moves t.shows;
+          unended shown sides after.moves t.shows;
       named = t.named;
       facts = record {
         fits = ended-keeps around.items around.items n how (taken_at p b) unended (λ l i. i)
@@ -101,16 +89,16 @@ stands-ended around y z b p item n how t unended stand sides none after =
 pub stands-forgotten : (around : Around) (y z : Bus) (b : machine.Bus) (p : Place)
     (item : machine.Item) (n : ℕ)
     → Taken around y p b item → is_open n b ≡ false
-    → StandForAll b.requests z.connections (taken_at p b).connections
+    → AreShown b.requests z.connections (taken_at p b).connections
     → KeepSides z.connections (forgotten n (taken_at p b))
     → NoneAnswers around.items (taken_at p b) n
     → ChangesRequest y z n forgets y.slots.tally
     → Stands around z (forgotten n (taken_at p b))
-stands-forgotten around y z b p item n t closed stand sides none after =
+stands-forgotten around y z b p item n t closed shown sides none after =
     let fits = fits-without (loose_at p item) around.items (taken_at p b) t.fits in
     let stays : Stands around (record y { connections = z.connections; slots = z.slots })
     (forgotten n (taken_at p b)) = record {
-      shows = shows-forgotten around.names y (taken_at p b) n z.connections z.slots closed stand
+      shows = shows-forgotten around.names y (taken_at p b) n z.connections z.slots closed shown
           sides after.moves t.shows;
       named = t.named;
       facts = record {
@@ -144,7 +132,7 @@ unnumbered-unclean around y p b item t numberless = by p.connection.clean refl
         let f = found-number k (taken_at p b) two.connection two.live in
         let a = t.fits.items.answerable_loose two.connection (loose_at p item) f.0 (inl refl) f.1 in
         absurd (not-both (is_numbered item)
-        (a.numbered (sym two.stands.clean ∙ t.clean ∙ e)) numberless)
+        (a.numbered (sym (ap (λ (v : Connection). v.clean) two.shown) ∙ t.clean ∙ e)) numberless)
 
 -- nothing that was taken answers a request of an unclean connection
 pub unclean-none : (around : Around) (y : Bus) (p : Place) (b : machine.Bus) (item : machine.Item)
@@ -158,7 +146,7 @@ unclean-none around y p b item n r t unclean made on =
     let f = found-number k (taken_at p b) two.connection two.live in
     unclean-answers around.items (taken_at p b) n r two.connection
     (fits-without (loose_at p item) around.items (taken_at p b) t.fits) made f.0 (on ∙ sym f.1)
-    (sym two.stands.clean ∙ t.clean ∙ unclean)
+    (sym (ap (λ (v : Connection). v.clean) two.shown) ∙ t.clean ∙ unclean)
 
 -- ---- the item is taken
 
@@ -185,21 +173,21 @@ pub taken : (around : Around) (x y : Bus) (b : machine.Bus) (p : Place) (item : 
     → Stands around x b → IsIn p.connection b.connections
     → first (queue p.side p.connection) ≡ Some item
     → find (numbered p.connection.number) x.connections ≡ Some found
-    → StandsForConnection b.requests found p.connection
+    → IsShown b.requests found p.connection
     → y ≡ record x {
       connections = at_first (numbered p.connection.number) (without_front p.side)
           x.connections;
     } → Taken around y p b item
-taken around x y b p item found s live front looks stands e =
+taken around x y b p item found s live front looks shown e =
     let k = p.connection.number in
     let rest = λ (v : Connection). behind_first (queue_of p.side v) in
     subst (λ (w : Bus). Taken around w p b item) (sym e) (record {
       shows = shows-connections around.names x b
           (at_first (numbered k) (without_front p.side) x.connections)
           (taken_at p b).connections
-          (changed b.requests b.requests k (without_front p.side)
-          (delivery.without_front p.side) x.connections b.connections
-          (front-stands b.requests p.side) (same-stands b.requests) s.shows.connections)
+          (changed b.requests k (without_front p.side) (delivery.without_front p.side)
+          (without_front p.side) x.connections b.connections (front-seen p.side)
+          (front-shown b.requests p.side) s.shows.connections)
           (sides-changed x.connections b k (without_front p.side) (delivery.without_front p.side)
           (λ v. queue-number p.side (rest v) v) (λ c. (front-self p.side c).number)
           (front-ops p.side) (front-last p.side) s.shows.sides) s.shows;
@@ -211,7 +199,7 @@ taken around x y b p item found s live front looks stands e =
       found = without_front p.side found;
       there = found-changed k (without_front p.side) x.connections found
           (λ v. queue-number p.side (rest v) v) looks;
-      clean = front-clean p.side found ∙ stands.clean;
+      clean = front-clean p.side found ∙ ap (λ (v : Connection). v.clean) shown;
     })
   where
     front-clean : (at : Side) (v : Connection) → (without_front at v).clean ≡ v.clean

@@ -7,16 +7,15 @@ use Rattle.gb_base.specs.declared.end.Side.TheVariants as side
 use Rattle.gb_bus.proofs.Changing.{twice}
 use Rattle.gb_bus.proofs.Closing.{are-open, opened-on, tell_closed, tells-side}
 use Rattle.gb_bus.proofs.Counted.{tells-same}
-use Rattle.gb_bus.proofs.Moves.{cleared-stands, closed-stands, same-stands, wire-last, wire-ops}
-use Rattle.gb_bus.proofs.Moves.{wired-stands}
+use Rattle.gb_bus.proofs.Moves.{wire-last, wire-ops}
 use Rattle.gb_bus.proofs.Sides.{sides-attached, sides-changed, sides-closed, sides-detached}
-use Rattle.gb_bus.proofs.Standing.{changed, one-more, removed}
+use Rattle.gb_bus.proofs.Standing.{AreShown, changed, one-more, removed}
 use Rattle.gb_bus.specs.Counting.{Tells}
 use Rattle.gb_bus.specs.Listing.{AreThose}
 use Rattle.gb_bus.specs.Parts.{cleared, closed, new_connection, numbered, ops_of, with_ops}
 use Rattle.gb_bus.specs.Parts.{with_wire}
 use Rattle.gb_bus.specs.Slots.{Closes, Kept, all_disconnected, is_late_on, is_open_on, slot_at}
-use Rattle.gb_bus.specs.Stands.{Around, KeepSides, Keeps, Shows, StandForAll, Stands}
+use Rattle.gb_bus.specs.Stands.{Around, KeepSides, Keeps, Shows, Stands}
 use Rattle.gb_bus.specs.Wiring.{Attaches, EndsAs, IsOther, MayAttach, elsewhere}
 use Rattle.gb_bus.specs.declared.bus.Bus.{Bus}
 use Rattle.gb_bus.specs.Connection.{Connection}
@@ -29,7 +28,6 @@ use Rattle.gb_invariants.proofs.Lists.{each-from, each-in, in-without}
 use Rattle.gb_invariants.proofs.Outcomes.{is-same}
 use Rattle.gb_invariants.specs.Facts.{IsMade, Loose, times_in}
 use Rattle.gb_machine.specs.Bus as machine
-use Rattle.gb_machine.specs.Bus.{Request, outcome_of}
 use Rattle.gb_machine.specs.Labels.{last_label}
 use Rattle.gb_machine.specs.LawsBus.{AreApart, is_item_of}
 use Rattle.gb_machine.specs.Lists.{at_first, without}
@@ -42,7 +40,7 @@ use Rattle.gb_ops.specs.Calls.{emptied}
 -- only connections change
 pub shows-connections : (names : List ℕ) (x : Bus) (b : machine.Bus) (xs : List Connection)
     (cs : List machine.Connection)
-    → StandForAll b.requests xs cs → KeepSides xs (record b { connections = cs }) → Shows names x b
+    → AreShown b.requests xs cs → KeepSides xs (record b { connections = cs }) → Shows names x b
     → Shows names (record x { connections = xs }) (record b { connections = cs })
 shows-connections names x b xs cs h sides s = record {
   made = s.made;
@@ -59,9 +57,8 @@ wires around x y b k s e =
     subst (λ (w : Bus). Stands around w (wired k b)) (sym e) (record {
       shows = shows-connections around.names x b (at_first (numbered k) with_wire x.connections)
           (wired k b).connections
-          (changed b.requests b.requests k with_wire (λ c. record c { wired = true }) x.connections
-          b.connections
-          (wired-stands b.requests) (same-stands b.requests) s.shows.connections)
+          (changed b.requests k with_wire (λ c. record c { wired = true }) with_wire x.connections
+          b.connections (λ v. refl) (λ c. refl) s.shows.connections)
           (sides-changed x.connections b k with_wire (λ c. record c { wired = true }) (λ v. refl)
           (λ c. refl) wire-ops wire-last s.shows.sides) s.shows;
       named = s.named;
@@ -125,17 +122,7 @@ attaches around x y b a i c protocol k s may number e =
           connections = one-more b.requests (new_connection k a (end.Module i c) protocol)
               (wiring.new_connection (next_connection b) a (end.Module i c) protocol) x.connections
               b.connections
-              (record {
-                number = next;
-                ap = refl;
-                peer = refl;
-                protocol = refl;
-                wired = refl;
-                clean = refl;
-                shut = refl;
-                to_ap = tt;
-                to_far = tt;
-              }) s.shows.connections;
+              (ap (λ n. new_connection n a (end.Module i c) protocol) next) s.shows.connections;
           sides = subst (λ n. KeepSides
               (x.connections ++ new_connection n a (end.Module i c) protocol ∷ [])
               (attached a i c protocol b)) (sym next)
@@ -160,7 +147,7 @@ attaches around x y b a i c protocol k s may number e =
 -- connections change, and a side of one ends
 shows-closed : (names : List ℕ) (x : Bus) (b : machine.Bus) (k : ℕ) (at : Side)
     (xs : List Connection) (cs : List machine.Connection) (unended late : List ℕ) (y : Kept)
-    → StandForAll b.requests xs cs → KeepSides xs (side_ended k at (record b { connections = cs }))
+    → AreShown b.requests xs cs → KeepSides xs (side_ended k at (record b { connections = cs }))
     → AreThose (λ n. is_open_on k at (slot_at x.slots n)) unended
     → AreThose (λ n. is_late_on k at (slot_at x.slots n)) late
     → Closes unended late x.slots y → Shows names x b
@@ -256,8 +243,8 @@ unwires around x y b k was later unended late s e opens lates closes after = rec
     shows = shows-closed around.names x b k side.Far
         (at_first (numbered k) cleared x.connections)
         (with_connection k cut_off b).connections unended late y.slots
-        (changed b.requests b.requests k cleared cut_off x.connections b.connections
-        (cleared-stands b.requests) (same-stands b.requests) s.shows.connections)
+        (changed b.requests k cleared cut_off cut x.connections b.connections (λ v. refl)
+        (λ c. refl) s.shows.connections)
         (sides-over x.connections b k side.Far cut cleared cut_off (λ v. refl) (λ c. refl) cut-ops
         cut-last refl s.shows.sides) opens lates closes s.shows;
     named = s.named;
@@ -289,9 +276,8 @@ shuts around x y b k was later unended late s e opens lates closes after = recor
   stands = subst (λ (w : Bus). Stands around w (shut_down k b)) (sym e) (record {
     shows = shows-closed around.names x b k side.Ap (at_first (numbered k) closed x.connections)
         (with_connection k (λ c. record c { shut = true }) b).connections unended late y.slots
-        (changed b.requests b.requests k closed (λ c. record c { shut = true }) x.connections
-        b.connections
-        (closed-stands b.requests) (same-stands b.requests) s.shows.connections)
+        (changed b.requests k closed (λ c. record c { shut = true }) (λ v. record v { shut = true })
+        x.connections b.connections (λ v. refl) (λ c. refl) s.shows.connections)
         (sides-over x.connections b k side.Ap (λ v. record v { shut = true }) closed
         (λ c. record c { shut = true }) (λ v. refl) (λ c. refl) shut-ops shut-last refl
         s.shows.sides) opens lates closes s.shows;

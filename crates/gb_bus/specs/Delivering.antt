@@ -237,10 +237,6 @@ RepliesAs old new k at asked code payload =
 
 -- ---- raw bytes
 
--- how many raw bytes are injected at most
-abbrev pub longest_raw : ℕ
-longest_raw = 2048
-
 -- Raw bytes are injected on a wired connection: they wait toward the application processor, and the
 -- connection is unclean from then on.
 abbrev pub InjectsAs : Bus → Bus → ℕ → List ℕ → Type 0

@@ -12,6 +12,7 @@ pub mod Parts
 pub mod Raw
 pub mod Seen
 pub mod Sending
+pub mod Shown
 pub mod Sides
 pub mod Slots
 pub mod Stands

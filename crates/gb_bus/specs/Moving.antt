@@ -84,13 +84,15 @@ AnswersAs old new k at number label code payload (Ok a) =
 AnswersAs old new k at number label code payload (Err e) = IsMemory e
 
 -- What a response with an identifier does to the bus, where the identifier is in use for an open
--- request: it ends that, which is open by its slot too.
+-- request: it ends that. Wherever the bus stands the request is open by its slot too, so the case
+-- None doesn't happen.
 abbrev pub Opens : Bus → Bus → ℕ → ℕ → ℕ → List ℕ → Option ℕ → Arrival → Type 0
 Opens old new label number code payload (Some kind) a =
     (a ≡ arrival.Ended number kind code (shown code payload))
     × ChangesRequest old new number (ends_so (outcome.Answered code (shown code payload)))
     (ended_at number (outcome.Answered code (shown code payload)) old.slots)
-Opens old new label number code payload None a = a ≡ arrival.UnknownLabel label
+Opens old new label number code payload None a =
+    (a ≡ arrival.UnknownLabel label) × (new ≡ with_connections new.connections old)
 
 abbrev pub OpenedAs : Bus → Bus → ℕ → ℕ → ℕ → List ℕ → Result Arrival DeliverFault → Type 0
 OpenedAs old new number label code payload (Ok a) =

@@ -1,108 +1,26 @@
 -- What the value of a bus stands for.
 use Rattle.std.specs.Prelude.{◌≡◌, ℕ, Bool, true, ◌&&◌, if◌then◌else◌, Option, Some, None, is_some}
-use Rattle.std.specs.Prelude.{Ok, Err, List, [], ◌∷◌, find}
+use Rattle.std.specs.Prelude.{List, find, map}
 use Rattle.gb_base.specs.declared.end.Side.{Side}
 use Rattle.gb_base.specs.declared.outcome.Outcome.{Outcome}
 use Rattle.gb_bus.specs.Counting.{Tells}
 use Rattle.gb_bus.specs.Listing.{count}
 use Rattle.gb_bus.specs.Parts.{numbered, ops_of}
+use Rattle.gb_bus.specs.Shown.{connection_in, without_ops}
 use Rattle.gb_bus.specs.Slots.{slot_at, while_asked_for}
 use Rattle.gb_bus.specs.declared.bus.Bus.{Bus}
 use Rattle.gb_bus.specs.Connection.{Connection}
-use Rattle.gb_bus.specs.declared.queue.Item.{Item}
-use Rattle.gb_bus.specs.declared.queue.Item.TheVariants as code
 use Rattle.gb_bus.specs.declared.slots.Slot.{Slot}
-use Rattle.gb_formats.specs.Message.{Message}
-use Rattle.gb_formats.specs.Wire.{raw_message}
 use Rattle.gb_invariants.specs.Facts.{BusFits, Loose}
 use Rattle.gb_machine.specs.Bus as machine
 use Rattle.gb_machine.specs.Bus.{Request, connection_of, is_open, outcome_of, request_of}
 use Rattle.gb_machine.specs.Labels.{last_label}
 use Rattle.gb_machine.specs.LawsBus.{AreApart, is_awaited}
-use Rattle.gb_machine.specs.Lists.{nth}
 use Rattle.gb_machine.specs.Members.{Each, EachTwo}
 use Rattle.gb_machine.specs.Requests.{is_given_up, is_of}
 use Rattle.gb_ops.specs.Operations.{Operations, holder_of, pending_at}
 use Rattle.gb_ops.specs.declared.entries.Holder.{Holder}
 use Rattle.gb_ops.specs.declared.entries.Pending.{Pending}
-
--- ---- queues
-
--- a queued request is the one that was made under its number
-pub record StandsForAsk (requests : List Request) (number label kind : ℕ)
-    (payload : List ℕ) (n : ℕ) : Type 0 where
-  pub request : Request
-  pub made : nth n requests ≡ Some request
-  pub same : number ≡ n
-  pub label_is : request.label ≡ label
-  pub kind_is : request.kind ≡ kind
-  pub payload_is : request.payload ≡ payload
-
--- a queued reply is to the request that was made under its number
-pub record StandsForReply (requests : List Request) (number label result : ℕ) (payload : List ℕ)
-    (n r : ℕ) (bytes : List ℕ) : Type 0 where
-  pub request : Request
-  pub made : nth n requests ≡ Some request
-  pub number_is : number ≡ n
-  pub label_is : request.label ≡ label
-  pub result_is : result ≡ r
-  pub payload_is : payload ≡ bytes
-
--- a message as its parts
-abbrev pub message : ℕ → ℕ → ℕ → List ℕ → Message
-message label kind result payload =
-    record { id = label; kind = kind; result = result; payload = payload }
-
--- the reply to a request that came as raw bytes has the identifier of that one
-pub record StandsForRawReply (label result : ℕ) (payload : List ℕ) (l r : ℕ) (bytes : List ℕ) : Type
-    0 where
-  pub label_is : label ≡ l
-  pub result_is : result ≡ r
-  pub payload_is : payload ≡ bytes
-
--- A message in a queue stands for an item of the machine. Raw bytes are decoded already.
-abbrev pub StandsForItem : List Request → Item → machine.Item → Type 0
-StandsForItem requests (code.Ask number label kind payload) (machine.Ask n) =
-    StandsForAsk requests number label kind payload n
-StandsForItem requests (code.Reply number label result payload) (machine.Reply n r bytes) =
-    StandsForReply requests number label result payload n r bytes
-StandsForItem requests (code.Raw label kind result payload) (machine.Raw bytes) =
-    raw_message bytes ≡ Ok (message label kind result payload)
-StandsForItem requests (code.BadRaw fault) (machine.Raw bytes) = raw_message bytes ≡ Err fault
-StandsForItem requests (code.RawReply label result payload) (machine.RawReply l k r bytes) =
-    StandsForRawReply label result payload l r bytes
-StandsForItem requests _ _ = ⊥
-
--- the messages of a queue stand for the machine's in order
-abbrev pub StandsForQueue : List Request → List Item → List machine.Item → Type 0
-StandsForQueue requests [] [] = Unit {0}
-StandsForQueue requests (i ∷ is) (m ∷ ms) =
-    StandsForItem requests i m × StandsForQueue requests is ms
-StandsForQueue requests [] (m ∷ ms) = ⊥
-StandsForQueue requests (i ∷ is) [] = ⊥
-
--- ---- connections
-
--- A connection stands for one of the machine.
-pub record StandsForConnection (requests : List Request) (x : Connection)
-    (c : machine.Connection) : Type 0 where
-  pub number : x.number ≡ c.number
-  pub ap : x.ap ≡ c.ap
-  pub peer : x.peer ≡ c.peer
-  pub protocol : x.protocol ≡ c.protocol
-  pub wired : x.wired ≡ c.wired
-  pub clean : x.clean ≡ c.clean
-  pub shut : x.shut ≡ c.shut
-  pub to_ap : StandsForQueue requests x.to_ap c.to_ap
-  pub to_far : StandsForQueue requests x.to_far c.to_far
-
--- connections stand for the machine's in order
-abbrev pub StandForAll : List Request → List Connection → List machine.Connection → Type 0
-StandForAll requests [] [] = Unit {0}
-StandForAll requests (x ∷ xs) (c ∷ cs) =
-    StandsForConnection requests x c × StandForAll requests xs cs
-StandForAll requests [] (c ∷ cs) = ⊥
-StandForAll requests (x ∷ xs) [] = ⊥
 
 -- ---- requests
 
@@ -191,7 +109,7 @@ KeepSides xs b =
 -- what the value of a bus has is what the machine's bus has
 pub record Shows (names : List ℕ) (x : Bus) (b : machine.Bus) : Type 0 where
   pub made : x.made ≡ b.made
-  pub connections : StandForAll b.requests x.connections b.connections
+  pub connections : map without_ops x.connections ≡ map (connection_in b.requests) b.connections
   pub sides : KeepSides x.connections b
   pub slots : (n : ℕ) → slot_at x.slots n ≡ slot_of names n b
   pub tally : Tells x.slots.tally b

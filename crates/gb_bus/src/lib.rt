@@ -19,5 +19,6 @@ mod wiring;
 
 pub use answers::{About, AlreadyEnded, Arrival, Arrived, Asked, DeliverFault, SendFault, Sent};
 pub use bus::Bus;
+pub use raw::LONGEST_RAW;
 pub use tally::Tally;
 pub use telling::{Known, Waiting};

@@ -1,7 +1,6 @@
 //! The bus: raw bytes that a module injects.
 
 ghost use Rattle.std.specs.Prelude.{◌≡◌, ◌≤◌, IfOk, OnOk, length};
-ghost use Rattle.gb_bus.specs.Delivering.{longest_raw};
 ghost use Rattle.gb_bus.specs.Raw.{raw_item};
 ghost use Rattle.gb_formats.specs.Wire.{raw_message};
 
@@ -11,14 +10,17 @@ use gb_base::{Bytes, OutOfMemory, RawFault, Side};
 use gb_wire::decode;
 use std::alloc::Global;
 
+/// How many raw bytes are injected at once at most: as many as the longest message has.
+pub const LONGEST_RAW: usize = 2048;
+
 impl Bus {
     ghost use Rattle.gb_bus.specs.Delivering.{InjectsAs};
 
-    /// Injects at most 2,048 raw bytes on a wired connection. They wait toward the application
-    /// processor, as the message that they are or why they aren't one, and the connection is
-    /// unclean from then on. After want of memory nothing is said.
+    /// Injects at most `LONGEST_RAW` raw bytes on a wired connection. They wait toward the
+    /// application processor, as the message that they are or why they aren't one, and the
+    /// connection is unclean from then on. After want of memory nothing is said.
     pub fn inject(&mut self, k: u64, bytes: &[u8]) -> Result<(), OutOfMemory>
-        requires { length bytes.now ≤ longest_raw }
+        requires { length bytes.now ≤ LONGEST_RAW }
         ensures step { OnOk result (InjectsAs self.old self.new k bytes.now) }
     {
         let item = item(self.alloc, bytes)?;
@@ -30,7 +32,7 @@ impl Bus {
 
 /// Raw bytes as they wait in a queue.
 fn item(alloc: Global, bytes: &[u8]) -> Result<Item, OutOfMemory>
-    requires { length bytes.now ≤ longest_raw }
+    requires { length bytes.now ≤ LONGEST_RAW }
     ensures { IfOk result (λ i. i ≡ raw_item (raw_message bytes.now)) }
 {
     let (message, size) = match decode(bytes) {

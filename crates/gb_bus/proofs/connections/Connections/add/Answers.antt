@@ -2,9 +2,9 @@
 use Rattle.std.proofs.Common.{ap, sym, ◌∙◌}
 use Rattle.std.specs.BTreeMap.{get}
 use Rattle.gb_base.specs.declared.end.End.TheVariants as end
-use Rattle.gb_bus.proofs.Keeping.{index-others, kept-added, kept-ends, kept-more, kept-same}
-use Rattle.gb_bus.proofs.Keeping.{none-there, two-ends}
-use Rattle.gb_bus.proofs.Seeing.{adds, free-above}
+use Rattle.gb_bus.proofs.Keeping.{kept-same, two-ends}
+use Rattle.gb_bus.proofs.KeepingLive.{index-others, kept-added, kept-ends, kept-more, none-there}
+use Rattle.gb_bus.proofs.SeeingLive.{adds, free-above}
 use Rattle.gb_bus.specs.Connection.{Connection}
 use Rattle.gb_machine.specs.Bus.{same_end}
 use Rattle.gb_switch.specs.Lines.{by_place}

@@ -1,6 +1,7 @@
 -- The request begins on the connection with the number.
 use Rattle.std.proofs.Common.{subst}
-use Rattle.gb_bus.proofs.Seeing.{begins, keeps}
+use Rattle.gb_bus.proofs.Seeing.{keeps}
+use Rattle.gb_bus.proofs.SeeingSides.{begins}
 use Rattle.gb_bus.specs.Seen.{all_seen}
 use Rattle.gb_bus.specs.Sides.{BeginsIn, BeginsOn, HasEndsOf}
 use Rattle.gb_bus.proofs.connections.Connections.begin.Goals as goal

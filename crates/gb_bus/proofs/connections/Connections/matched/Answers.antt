@@ -1,6 +1,7 @@
 -- The answer is matched on the connection with the number.
 use Rattle.std.proofs.Common.{subst}
-use Rattle.gb_bus.proofs.Seeing.{keeps, matches, side-ends}
+use Rattle.gb_bus.proofs.Seeing.{keeps}
+use Rattle.gb_bus.proofs.SeeingSides.{matches, side-ends}
 use Rattle.gb_bus.specs.Seen.{all_seen}
 use Rattle.gb_bus.specs.Sides.{MatchesAs, MatchesIn, MatchesOn}
 use Rattle.gb_bus.proofs.connections.Connections.matched.Goals as goal

@@ -1,6 +1,6 @@
 -- The connection with the number loses its front message.
 use Rattle.std.proofs.Common.{refl, subst, sym}
-use Rattle.gb_bus.proofs.Seeing.{front-nowhere, front-unwired, kept-pops, pops}
+use Rattle.gb_bus.proofs.SeeingQueues.{front-nowhere, front-unwired, kept-pops, pops}
 use Rattle.gb_bus.specs.Parts.{TakesFrontAs}
 use Rattle.gb_bus.proofs.connections.Connections.pop.Goals as goal
 

@@ -1,7 +1,8 @@
 -- The connection with the number gets the message where it is wired.
 use Rattle.std.proofs.Common.{sym}
 use Rattle.gb_bus.proofs.Keeping.{kept-appends, kept-stays}
-use Rattle.gb_bus.proofs.Seeing.{nothing-changes, on-err, on-ok, pushes, put-unwired}
+use Rattle.gb_bus.proofs.Seeing.{nothing-changes}
+use Rattle.gb_bus.proofs.SeeingQueues.{on-err, on-ok, pushes, put-unwired}
 use Rattle.gb_bus.specs.Parts.{put}
 use Rattle.gb_switch.specs.Queues.{Appends, StaysSame, items_at}
 use Rattle.gb_bus.proofs.connections.Connections.push.Goals as goal

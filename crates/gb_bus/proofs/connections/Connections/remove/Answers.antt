@@ -1,7 +1,8 @@
 -- The connections that stay are those with another number.
 use Rattle.std.proofs.Common.{ap, sym, ◌∙◌}
-use Rattle.gb_bus.proofs.Keeping.{kept-removed, kept-same}
-use Rattle.gb_bus.proofs.Seeing.{removes, removes-none}
+use Rattle.gb_bus.proofs.Keeping.{kept-same}
+use Rattle.gb_bus.proofs.KeepingLive.{kept-removed}
+use Rattle.gb_bus.proofs.SeeingLive.{removes, removes-none}
 use Rattle.gb_bus.specs.Seen.{all_seen}
 use Rattle.gb_bus.proofs.connections.Connections.remove.Goals as goal
 

@@ -1,7 +1,8 @@
 -- The connection with the number is wired.
 use Rattle.std.proofs.Common.{sym}
 use Rattle.gb_bus.proofs.Keeping.{kept-stays}
-use Rattle.gb_bus.proofs.Seeing.{kept-wires, nothing-changes, wired-still, wires}
+use Rattle.gb_bus.proofs.Seeing.{nothing-changes}
+use Rattle.gb_bus.proofs.SeeingWires.{kept-wires, wired-still, wires}
 use Rattle.gb_bus.specs.Parts.{with_wire}
 use Rattle.gb_bus.proofs.connections.Connections.wire.Goals as goal
 
