@@ -1,15 +1,11 @@
 -- What an event that asks a request does in its turn to what its pass knows.
-use Rattle.std.proofs.Common.{◌≡◌, ◌≢◌, ℕ, ◌+◌, ◌<◌, ◌≤◌, inl, inr, ⊎_elim, Bool, true, false}
-use Rattle.std.proofs.Common.{List, [], ◌∷◌, ◌++◌, length, refl, sym, ap, ◌∙◌, subst, arith}
+use Rattle.std.proofs.Common.{◌≡◌, ℕ, ◌<◌, ◌≤◌, ⊎_elim, Bool, true, false}
+use Rattle.std.proofs.Common.{List, [], ◌∷◌, length, refl, sym, ap, ◌∙◌, subst, arith}
 use Rattle.std.proofs.Common.{Option, Some, None}
 use Rattle.std.specs.Prelude.{MatchBool, Result, Ok, Err, option_map, slice_set}
-use mathlib.Core.List.{IsPrefix}
 use mathlib.Core.Option as core
 use Rattle.atomic_table.specs.Table.{rest, step}
-use Rattle.gb_base.specs.declared.entry.Entry.{Entry}
 use Rattle.gb_base.specs.declared.event.Event.{Event}
-use Rattle.gb_base.specs.declared.journal.JournalEntry.{JournalEntry}
-use Rattle.gb_base.specs.declared.refusal.Refusal.{Refusal}
 use Rattle.gb_desk.proofs.Calling.{InHand, entered, legal_from, of_taken, same_else, saw_first}
 use Rattle.gb_desk.proofs.Calling.{told_then, untold}
 use Rattle.gb_desk.proofs.Entering.{asked_is, asks_none, follows_broken, follows_entered}
@@ -18,29 +14,27 @@ use Rattle.gb_desk.proofs.Entering.{sound_plain}
 use Rattle.gb_desk.proofs.Taking.{are_taken, behind, none_taken, started}
 use Rattle.gb_desk.proofs.Turning.{Follows, mine_same}
 use Rattle.gb_desk.specs.Calls.{AreTaken, AsksAs, EnteredWith, IsFree, IsTicketOf, OfState}
-use Rattle.gb_desk.specs.Calls.{SawFull, SawPassSpent, SawSpent, WasTold, tickets_given}
+use Rattle.gb_desk.specs.Calls.{SawFull, SawPassSpent, SawSpent, WasTold}
 use Rattle.gb_desk.specs.Calls.{with_ticket}
 use Rattle.gb_desk.specs.InTurn.{AskedInTurn, HasStarted, OpensAs, Searched, Start}
 use Rattle.gb_desk.specs.InTurn.{with_request}
-use Rattle.gb_desk.specs.Rules.{IsOfSlot, Sound, all_parts}
+use Rattle.gb_desk.specs.Rules.{Sound, all_parts}
 use Rattle.gb_desk.specs.Slots.{IsEnded, new_slot, slot_at}
 use Rattle.gb_desk.specs.Steps.{ArePlaces, Gives, Knows, Took, gave, mine_after, opening}
 use Rattle.gb_desk.specs.Steps.{taking}
 use Rattle.gb_desk.specs.Tickets.{HasTicket, ticket}
-use Rattle.gb_desk.specs.Turns.{Asked, Breaks, Enters, IsPassSpent, IsReady, IsSpent, with_new}
+use Rattle.gb_desk.specs.Turns.{Enters, IsPassSpent, IsReady, with_new}
 use Rattle.gb_desk.specs.declared.fault.DeskFault.{DeskFault}
 use Rattle.gb_desk.specs.declared.fault.DeskFault.TheVariants as fault
-use Rattle.gb_desk.specs.declared.slots.Slot.{Slot}
 use Rattle.gb_desk.specs.declared.stored.Stored.{Stored}
 use Rattle.gb_desk.specs.declared.ticket.Opened.{Opened}
 use Rattle.gb_desk.specs.declared.ticket.Ticket.{Ticket}
 use Rattle.gb_desk.specs.declared.view.View.{View}
 use Rattle.gb_formats.specs.ValidEvents.{IsValid}
 use Rattle.gb_laws.specs.Tickets.{asked_in, asks}
-use Rattle.gb_machine.specs.Journal.{after, events_of}
+use Rattle.gb_machine.specs.Journal.{after}
 use Rattle.gb_machine.specs.Members.{IsIn}
 use Rattle.gb_machine.specs.State as machine
-use Rattle.gb_system.specs.Stands.{Stands, taken_of}
 use Rattle.gb_system.specs.declared.system.System.{System}
 
 -- what a pass in its turn knows, with what it has read
@@ -353,25 +347,6 @@ parts_after v by e (Err fault.JournalSpent) w a = ap (λ z. z.parts) a.rest
 parts_after v by e (Err fault.PassSpent) w a = ap (λ z. z.parts) a.rest
 parts_after v by e (Err fault.Full) w a = ap (λ z. z.parts) a.rest
 parts_after v by e (Err (fault.Memory refused)) w a = ap (λ z. z.parts) a.rest
-
-one_or_none : (k : Option Ticket) (ts : List Ticket)
-    → length (with_ticket k ts) ≡ length ts + length (with_ticket k [])
-one_or_none None ts = omega arith
-one_or_none (Some t) ts = omega arith
-
-pub tickets_after : (v : View) (by : ℕ) (e : Event) (r : Result Opened DeskFault) (w : View)
-    → AsksAs v by e r w → length w.tickets ≡ length v.tickets + tickets_given r
-tickets_after v by e (Ok o) w a = ap length a.tickets ∙ one_or_none o.ticket v.tickets
-tickets_after v by e (Err fault.Busy) w a =
-    let same = ap (λ z. length z.tickets) a.rest in omega arith
-tickets_after v by e (Err fault.JournalSpent) w a =
-    let same = ap (λ z. length z.tickets) a.rest in omega arith
-tickets_after v by e (Err fault.PassSpent) w a =
-    let same = ap (λ z. length z.tickets) a.rest in omega arith
-tickets_after v by e (Err fault.Full) w a =
-    let same = ap (λ z. length z.tickets) a.rest in omega arith
-tickets_after v by e (Err (fault.Memory refused)) w a =
-    let same = ap (λ z. length z.tickets) a.rest in omega arith
 
 -- what is done in the turn is of what was taken
 pub opens_from : (v : View) (me me' : Knows) (spent : Bool) (by : ℕ) (e : Event)

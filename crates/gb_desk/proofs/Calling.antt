@@ -1,6 +1,6 @@
 -- What a call in its turn does to the history and to its pass.
-use Rattle.std.proofs.Common.{◌≡◌, ◌≢◌, ℕ, ◌+◌, ◌<◌, ◌≤◌, Bool, true, false, List, [], ◌∷◌}
-use Rattle.std.proofs.Common.{◌++◌, length, refl, sym, ap, ◌∙◌, subst, arith, Option, Some, None}
+use Rattle.std.proofs.Common.{◌≡◌, ℕ, ◌+◌, ◌<◌, ◌≤◌, true, false, List, [], ◌∷◌}
+use Rattle.std.proofs.Common.{length, refl, sym, ap, ◌∙◌, subst, arith, Option, Some, None}
 use Rattle.std.specs.Prelude.{Result, Ok, Err}
 use mathlib.Core.List.{IsPrefix}
 use mathlib.Core.Option as core
@@ -13,18 +13,16 @@ use Rattle.gb_desk.proofs.Entering.{longer_by_one, plain_none, sound_broken, sou
 use Rattle.gb_desk.proofs.Turning.{Follows, give, last_of, mine_more, mine_same, not_told}
 use Rattle.gb_desk.specs.Calls.{CallsAs, Entered, IsFree, IsLegalFrom, SawSpent}
 use Rattle.gb_desk.specs.Calls.{WasTold}
-use Rattle.gb_desk.specs.Rules.{IsOfSlot, Kept, Sound}
+use Rattle.gb_desk.specs.Rules.{Kept, Sound}
 use Rattle.gb_desk.specs.Steps.{ArePlaces, Gives, Knows, Took, gave, mine_after, taking}
-use Rattle.gb_desk.specs.Turns.{Breaks, Enters, IsSpent, TurnsAs, entry_of}
+use Rattle.gb_desk.specs.Turns.{Breaks, Enters, IsSpent, TurnsAs}
 use Rattle.gb_desk.specs.declared.fault.DeskFault.{DeskFault}
 use Rattle.gb_desk.specs.declared.fault.DeskFault.TheVariants as fault
 use Rattle.gb_desk.specs.declared.slots.Slot.{Slot}
 use Rattle.gb_desk.specs.declared.stored.Stored.{Stored}
-use Rattle.gb_desk.specs.declared.ticket.Ticket.{Ticket}
 use Rattle.gb_desk.specs.declared.view.View.{View}
 use Rattle.gb_formats.specs.ValidEvents.{IsValid}
 use Rattle.gb_laws.specs.Tickets.{asks}
-use Rattle.gb_machine.specs.Members.{IsIn}
 use Rattle.gb_system.specs.Stands.{Stands, taken_of}
 use Rattle.gb_system.specs.declared.system.System.{System}
 

@@ -1,13 +1,13 @@
 -- A pass is free again after each call.
-use Rattle.std.proofs.Common.{◌≡◌, ◌≢◌, ℕ, ◌+◌, ◌-◌, ◌<◌, ◌≤◌, inl, inr, ⊎_elim, Bool, true, false}
-use Rattle.std.proofs.Common.{List, [], ◌∷◌, ◌++◌, length, length-append, refl, sym, ap, subst}
-use Rattle.std.proofs.Common.{arith, Some, None}
+use Rattle.std.proofs.Common.{◌≡◌, ℕ, ◌+◌, ◌-◌, ◌<◌, ◌≤◌, ⊎_elim, Bool, true, false}
+use Rattle.std.proofs.Common.{List, ◌∷◌, length, length-append, refl, sym, subst}
+use Rattle.std.proofs.Common.{arith}
 use Rattle.std.specs.Prelude.{MatchBool}
 use mathlib.Core.Option as core
 use Rattle.atomic_table.specs.Table.{step}
 use Rattle.gb_desk.proofs.Holding.{fewer_in, fewer_long, in_append}
 use Rattle.gb_desk.specs.Calls.{IsFree}
-use Rattle.gb_desk.specs.Steps.{Knows, Met, Releases, Retains, Settles, both, met, settled}
+use Rattle.gb_desk.specs.Steps.{Knows, Met, Releases, Retains, Settles, both, settled}
 use Rattle.gb_desk.specs.Steps.{stays}
 use Rattle.gb_desk.specs.Tickets.{fewer}
 use Rattle.gb_desk.specs.declared.stored.Stored.{Stored}

@@ -1,12 +1,11 @@
 -- What is done in the turn of a request.
-use Rattle.std.proofs.Common.{◌≡◌, ℕ, ◌+◌, ◌%◌, ◌^◌, ◌<◌, ◌≤◌, Bool, true, false, List, [], ◌∷◌}
+use Rattle.std.proofs.Common.{◌≡◌, ℕ, ◌+◌, ◌%◌, ◌^◌, ◌<◌, Bool, true, false, List, [], ◌∷◌}
 use Rattle.std.proofs.Common.{length, refl, sym, ap, ◌∙◌, subst, arith, Option, Some, None}
-use Rattle.std.specs.Prelude.{MatchBool, Ok, Err, option_map, is_some}
+use Rattle.std.specs.Prelude.{Err, option_map, is_some}
 use mathlib.Core.Option as core
 use Rattle.atomic_table.specs.Table.{Allows, rest, step}
 use Rattle.gb_base.specs.declared.event.Event.{Event}
 use Rattle.gb_desk.proofs.Entering.{as_long, follows_new, sound_asked}
-use Rattle.gb_desk.proofs.Freeing.{has_part}
 use Rattle.gb_desk.proofs.Looking.{first_ticket}
 use Rattle.gb_desk.proofs.Searching.{lent_out}
 use Rattle.gb_desk.proofs.SlotLists.{slot_same}
@@ -15,18 +14,16 @@ use Rattle.gb_desk.specs.InTurn.{AskedInTurn, BreaksInTurn, Found, HasStarted, H
 use Rattle.gb_desk.specs.InTurn.{with_request}
 use Rattle.gb_desk.specs.Rules.{Kept, Sound}
 use Rattle.gb_desk.specs.Slots.{IsEnded, new_slot, slot_at}
-use Rattle.gb_desk.specs.Steps.{Knows, Opens, opening, taking}
+use Rattle.gb_desk.specs.Steps.{Knows, Opens, opening}
 use Rattle.gb_desk.specs.Tickets.{ticket}
 use Rattle.gb_desk.specs.Turns.{Asked, AsksAs, BarsAs, Breaks, IsReady, with_new}
 use Rattle.gb_desk.specs.declared.fault.DeskFault.{DeskFault}
 use Rattle.gb_desk.specs.declared.fault.DeskFault.TheVariants as fault
 use Rattle.gb_desk.specs.declared.stored.Stored.{Stored}
 use Rattle.gb_desk.specs.declared.ticket.Opened.{Opened}
-use Rattle.gb_desk.specs.declared.ticket.Ticket.{Ticket}
 use Rattle.gb_desk.specs.declared.view.View.{View}
 use Rattle.gb_formats.specs.ValidEvents.{IsValid}
 use Rattle.gb_laws.specs.Tickets.{asked_in, asks}
-use Rattle.gb_system.specs.Stands.{taken_of}
 use Rattle.gb_system.specs.declared.system.System.{System}
 
 -- a pass that was free and took the turn has it

@@ -1,5 +1,5 @@
 -- In a turn the counts of slots are read, and the first ticket of a request is made.
-use Rattle.std.proofs.Common.{◌≡◌, ◌≢◌, ℕ, zero, suc, ◌+◌, ◌%◌, ◌^◌, ◌<◌, ◌≤◌, inl, inr, ⊎_elim}
+use Rattle.std.proofs.Common.{◌≡◌, ◌≢◌, ℕ, zero, suc, ◌+◌, ◌%◌, ◌^◌, ◌<◌, inl, inr, ⊎_elim}
 use Rattle.std.proofs.Common.{Bool, true, false, List, [], ◌∷◌, length, refl, sym, ap, ◌∙◌, subst}
 use Rattle.std.proofs.Common.{arith, Some, None}
 use Rattle.std.proofs.lemmas.Bool.Decides.{nat_tests}
@@ -10,15 +10,14 @@ use Rattle.atomic_table.specs.Table.{Act, Allows, State, Valid, carried_after, k
 use Rattle.atomic_table.specs.Table.{stepped}
 use Rattle.gb_desk.proofs.Holding.{held_one, held_some, hit_other, hit_same}
 use Rattle.gb_desk.proofs.Keeping.{Changes, OneCount, changed, one_count}
-use Rattle.gb_desk.proofs.Prefixes.{prefix_self}
 use Rattle.gb_desk.proofs.Totals.{total_alone, total_at, total_some}
 use Rattle.gb_desk.proofs.Turning.{Follows, Holds, fits_gave, fits_other, holds, last_of, placed}
 use Rattle.gb_desk.proofs.Words.{one_up}
 use Rattle.gb_desk.specs.Rules.{Fits, IsOfSlot, Kept, Sound, all_parts, held_in, home_of}
 use Rattle.gb_desk.specs.Rules.{once_below, total, turns_of}
 use Rattle.gb_desk.specs.Slots.{hit, slot_at, times}
-use Rattle.gb_desk.specs.Steps.{IsClear, IsHeld, Knows, Looks, Opens, clearing, gave, opening}
-use Rattle.gb_desk.specs.Tickets.{HasTicket, held, ticket}
+use Rattle.gb_desk.specs.Steps.{IsClear, IsHeld, Knows, Looks, Opens, clearing, opening}
+use Rattle.gb_desk.specs.Tickets.{HasTicket, held}
 use Rattle.gb_desk.specs.declared.slots.Slot.{Slot}
 use Rattle.gb_desk.specs.declared.stored.Stored.{Stored}
 use Rattle.gb_desk.specs.declared.ticket.Ticket.{Ticket}

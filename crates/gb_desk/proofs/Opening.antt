@@ -1,6 +1,6 @@
 -- The rule holds of a new desk.
-use Rattle.std.proofs.Common.{◌≡◌, ℕ, zero, suc, ◌+◌, ◌<◌, ◌≤◌, false, List, [], ◌∷◌, length}
-use Rattle.std.proofs.Common.{refl, sym, ap, ◌∙◌, subst, arith, Option, Some, None}
+use Rattle.std.proofs.Common.{◌≡◌, ℕ, zero, suc, ◌+◌, ◌≤◌, false, List, [], ◌∷◌, length}
+use Rattle.std.proofs.Common.{refl, sym, ap, subst, arith, Option, Some, None}
 use Rattle.std.proofs.lemmas.List.{length-replicate}
 use Rattle.std.specs.Prelude.{replicate, slice_index}
 use mathlib.Core.Option.{some, some-injective, some-ne-none}

@@ -9,13 +9,13 @@ use lib.ListN.{get_elem?}
 use Rattle.atomic_table.specs.Table.{Allows, State, keeps, step}
 use Rattle.gb_desk.proofs.Holding.{fewer_held, fewer_in, fewer_long, held_most, held_one}
 use Rattle.gb_desk.proofs.Holding.{hit_other, hit_same}
-use Rattle.gb_desk.proofs.Keeping.{Changes, OneCount, changed, one_count}
+use Rattle.gb_desk.proofs.Keeping.{OneCount, changed, one_count}
 use Rattle.gb_desk.proofs.Totals.{total_at, total_most}
 use Rattle.gb_desk.proofs.Words.{one_down, one_up}
-use Rattle.gb_desk.specs.Rules.{Fits, IsOfSlot, Kept, Sound, all_parts, held_in, home_of}
-use Rattle.gb_desk.specs.Rules.{once_below, parts_of, total}
-use Rattle.gb_desk.specs.Slots.{hit, slot_at, times}
-use Rattle.gb_desk.specs.Steps.{Knows, Releases, Retains}
+use Rattle.gb_desk.specs.Rules.{IsOfSlot, Kept, held_in, home_of}
+use Rattle.gb_desk.specs.Rules.{parts_of}
+use Rattle.gb_desk.specs.Slots.{slot_at}
+use Rattle.gb_desk.specs.Steps.{Releases, Retains}
 use Rattle.gb_desk.specs.Tickets.{fewer, held}
 use Rattle.gb_desk.specs.declared.slots.Slot.{Slot}
 use Rattle.gb_desk.specs.declared.stored.Stored.{Stored}

@@ -7,7 +7,7 @@ use Rattle.std.specs.Prelude.{◌==◌, MatchBool}
 use mathlib.Core.Option as core
 use Rattle.atomic_table.specs.Table.{rest, step}
 use Rattle.gb_desk.proofs.Turning.{last_of}
-use Rattle.gb_desk.specs.InTurn.{FindsAs, Found, FreeAs, HasTurn, IsTaken, Searched}
+use Rattle.gb_desk.specs.InTurn.{Found, FreeAs, HasTurn, IsTaken, Searched}
 use Rattle.gb_desk.specs.Rules.{all_parts}
 use Rattle.gb_desk.specs.Slots.{IsEnded, IsOpen, slot_at}
 use Rattle.gb_desk.specs.Steps.{IsHeld, Knows, Looks, clearing}
@@ -15,7 +15,6 @@ use Rattle.gb_desk.specs.Tickets.{HasTicket, held}
 use Rattle.gb_desk.specs.declared.slots.Slot.{Slot}
 use Rattle.gb_desk.specs.declared.stored.Stored.{Stored}
 use Rattle.gb_desk.specs.declared.view.View.{View}
-use Rattle.gb_machine.specs.Members.{IsIn}
 
 -- what is lent is what was taken
 pub lent_is : (me : Knows) (x : Stored) (h : HasTurn me) → me.1 ≡ (0, x) ∷ rest me.1

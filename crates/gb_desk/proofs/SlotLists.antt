@@ -8,7 +8,7 @@ use Rattle.std.proofs.lemmas.Option.{slice_get_past}
 use Rattle.std.specs.Prelude.{◌==◌, if◌then◌else◌, option_map, slice_set}
 use Rattle.std.specs.List.{slice_get}
 use Rattle.gb_base.specs.declared.entry.Entry.{Entry}
-use Rattle.gb_desk.proofs.Holding.{hit_least, hit_other, hit_same}
+use Rattle.gb_desk.proofs.Holding.{hit_other}
 use Rattle.gb_desk.specs.Slots.{all_noted, hit, inner, noted, numbers_of, slot_at, times}
 use Rattle.gb_desk.specs.declared.slots.Slot.{Slot}
 use Rattle.gb_machine.specs.Members.{IsIn}

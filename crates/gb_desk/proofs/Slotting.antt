@@ -1,5 +1,5 @@
 -- Slots stand for the requests of a history also once an event was done.
-use Rattle.std.proofs.Common.{◌≡◌, ◌≢◌, ◌⊎◌, ℕ, ◌+◌, ◌<◌, ◌≤◌, inl, inr, ⊎_elim, Bool, true}
+use Rattle.std.proofs.Common.{◌≡◌, ◌≢◌, ◌⊎◌, ℕ, ◌+◌, ◌<◌, ◌≤◌, inl, ⊎_elim, Bool, true}
 use Rattle.std.proofs.Common.{false}
 use Rattle.std.proofs.lemmas.Bool.Decides.{nat_tests}
 use Rattle.std.proofs.Common.{Option, Some, None, List, [], ◌∷◌, ◌++◌, length, refl, sym, ap, ◌∙◌}
@@ -14,8 +14,8 @@ use Rattle.gb_desk.proofs.Holding.{hit_other, hit_same}
 use Rattle.gb_desk.proofs.SlotLists.{map_as_long, number_set, number_stays, numbers_noted}
 use Rattle.gb_desk.proofs.SlotLists.{slot_noted, slot_number, slot_other}
 use Rattle.gb_desk.proofs.SlotLists.{slot_same, times_none, times_set}
-use Rattle.gb_desk.specs.Slots.{IsEnded, SlotsStand, all_noted, listed, new_slot, noted, numbers_of}
-use Rattle.gb_desk.specs.Slots.{request_in, requests_in, slot_at, times, told_by, told_of}
+use Rattle.gb_desk.specs.Slots.{IsEnded, SlotsStand, all_noted, new_slot, noted, numbers_of}
+use Rattle.gb_desk.specs.Slots.{request_in, requests_in, slot_at, times, told_by}
 use Rattle.gb_desk.specs.declared.slots.Slot.{Slot}
 use Rattle.gb_desk.specs.declared.slots.Told.{Told}
 use Rattle.gb_formats.specs.ValidEvents.{IsValid}

@@ -1,21 +1,19 @@
 -- When all slots are taken, and when not.
-use Rattle.std.proofs.Common.{◌≡◌, ◌≢◌, ◌⊎◌, ℕ, ◌+◌, ◌<◌, ◌≤◌, inl, inr, ⊎_elim, true, List, []}
-use Rattle.std.proofs.Common.{◌∷◌, length, refl, sym, ap, ◌∙◌, subst, arith, Option, Some, None}
+use Rattle.std.proofs.Common.{◌≡◌, ◌≢◌, ◌⊎◌, ℕ, ◌<◌, inl, inr, ⊎_elim, List}
+use Rattle.std.proofs.Common.{length, sym, ap, ◌∙◌, subst, arith, Option, Some, None}
 use Rattle.std.specs.Prelude.{slice_set}
-use mathlib.Core.List.{IsPrefix}
 use Rattle.gb_desk.proofs.Holding.{held_one}
 use Rattle.gb_desk.proofs.SlotLists.{HasSlot, all_numbers, no_more, number_slot, number_stays}
 use Rattle.gb_desk.proofs.SlotLists.{numbers_fewer, slot_number, slot_other}
 use Rattle.gb_desk.proofs.Slotting.{open_untold}
 use Rattle.gb_desk.specs.Calls.{AreTaken, IsFree, OfState}
 use Rattle.gb_desk.specs.InTurn.{IsTaken, Start}
-use Rattle.gb_desk.specs.Rules.{IsOfSlot, Sound, all_parts}
-use Rattle.gb_desk.specs.Slots.{IsEnded, SlotsStand, numbers_of, requests_in, slot_at, times}
+use Rattle.gb_desk.specs.Rules.{IsOfSlot, all_parts}
+use Rattle.gb_desk.specs.Slots.{IsEnded, SlotsStand, numbers_of, requests_in, slot_at}
 use Rattle.gb_desk.specs.Slots.{told_by}
 use Rattle.gb_desk.specs.Steps.{Knows, Took}
 use Rattle.gb_desk.specs.Tickets.{HasTicket, held}
 use Rattle.gb_desk.specs.declared.slots.Slot.{Slot}
-use Rattle.gb_desk.specs.declared.slots.Told.{Told}
 use Rattle.gb_desk.specs.declared.stored.Stored.{Stored}
 use Rattle.gb_desk.specs.declared.ticket.Ticket.{Ticket}
 use Rattle.gb_desk.specs.declared.view.View.{View}

@@ -1,7 +1,6 @@
 -- What is told of a ticket's request.
-use Rattle.std.proofs.Common.{◌≡◌, ◌<◌, ℕ, List, [], ◌∷◌, refl, sym, ap, ◌∙◌, subst, Option}
+use Rattle.std.proofs.Common.{◌≡◌, ◌<◌, ℕ, List, [], ◌∷◌, refl, sym, ◌∙◌, subst, Option}
 use Rattle.std.proofs.Common.{Some, None}
-use Rattle.std.specs.Prelude.{Ok}
 use mathlib.Core.Option as core
 use Rattle.atomic_table.specs.Table.{Allows, rest, step}
 use Rattle.gb_desk.proofs.Calling.{giving, legal_from, taken_is}

@@ -1,11 +1,11 @@
 -- The numbers of all passes together.
 use Rattle.std.proofs.Common.{◌≡◌, ◌≢◌, ℕ, zero, suc, ◌+◌, ◌<◌, ◌≤◌, ⊎_elim, List, [], ◌∷◌, ◌++◌}
-use Rattle.std.proofs.Common.{set, refl, sym, ap, ◌∙◌, arith, length, length-append}
+use Rattle.std.proofs.Common.{set, refl, sym, ap, ◌∙◌, arith}
 use Rattle.std.proofs.lemmas.Bool.{cases_lt}
 use mathlib.Core.Option.{some, some-injective, some-ne-none}
 use lib.ListN.{get_elem?}
-use Rattle.gb_desk.specs.Rules.{once_below, parts_of, spent, total}
-use Rattle.gb_desk.specs.Slots.{hit, times}
+use Rattle.gb_desk.specs.Rules.{parts_of, spent, total}
+use Rattle.gb_desk.specs.Slots.{times}
 use Rattle.gb_desk.specs.declared.view.View.{View}
 
 pub total_set : (f : View → ℕ) (views : List View) (j : ℕ) (v w : View)
@@ -76,14 +76,6 @@ total_alone f views j v none at parts idle =
 pub times_append : (n : ℕ) (xs ys : List ℕ) → times n (xs ++ ys) ≡ times n xs + times n ys
 times_append n [] ys = omega arith
 times_append n (x ∷ xs) ys = let e = times_append n xs ys in omega arith
-
--- one place more
-pub once_longer : {A : Type 0} (n : ℕ) (xs : List A) (x : A)
-    → once_below n (length (xs ++ x ∷ [])) ≡ hit n (length xs) + once_below n (length xs)
-once_longer n xs x =
-    let long : length (xs ++ x ∷ []) ≡ suc (length xs) =
-    length-append xs (x ∷ []) ∙ (let one : length (x ∷ []) ≡ 1 = refl in omega arith) in
-    ap (once_below n) long
 
 -- where all together have some, one has
 pub total_some : (f : View → ℕ) (views : List View) → 0 < total f views

@@ -7,8 +7,9 @@ use crate::stored::Stored;
 use crate::view::View;
 use atomic_table::Seat;
 
-/// The right to use a desk, in parts. A pass with all 4,294,967,295 parts is alone. It holds no more
-/// tickets than it has parts. It has no `Drop`: join it into another one, or close the desk with it.
+/// The right to use a desk, in parts. A pass with all 4,294,967,295 parts is alone. It holds no
+/// more tickets than it has parts. It has no `Drop`: join it into another one, or close the desk
+/// with it.
 pub struct Pass {
     pub(crate) seat: Seat<Stored, View>,
     pub(crate) parts: u32,

@@ -23,7 +23,7 @@ use Rattle.gb_machine.proofs.Steps.{told, with_bus}
 use Rattle.gb_machine.specs.Actions.{Told, change, given, on_bus, ◌▸◌}
 use Rattle.gb_machine.specs.Asking.{asks, asks_with}
 use Rattle.gb_machine.specs.Bus as machine
-use Rattle.gb_machine.specs.Bus.{Connection, Request, connection_of, next_number}
+use Rattle.gb_machine.specs.Bus.{Connection, connection_of, next_number}
 use Rattle.gb_machine.specs.Failures.{unsent}
 use Rattle.gb_machine.specs.Host as machine_host
 use Rattle.gb_machine.specs.Host.{link_at, with_new_link}

@@ -1,6 +1,6 @@
 -- A bridge line is told as refused, or its request is sent, as the machine does.
 use Rattle.std.proofs.Common.{◌≡◌, ◌≤◌, ◌<◌, ℕ, false, Some, None, IsSome}
-use Rattle.std.proofs.Common.{Ok, Err, List, [], ◌∷◌, ◌++◌, length, take, drop, sym, ap, ◌∙◌}
+use Rattle.std.proofs.Common.{Ok, Err, List, [], ◌∷◌, length, take, drop, sym, ap, ◌∙◌}
 use Rattle.std.proofs.Common.{option_map, nat_lt, subst, arith}
 use Rattle.std.specs.Prelude.{◌||◌}
 use Rattle.std.proofs.Math.Seq.{take-append_seam}
@@ -64,13 +64,6 @@ written-is : (request : Request) (old new : List ℕ) (b : Bridged) → WritesBr
 written-is request old new b w =
     ap (λ n. take n new) w.len ∙ ap (take (length request.1)) w.bytes
     ∙ take-append_seam request.1 (drop (length request.1) old)
-
--- what is written over the front of a buffer of its length is all of it
-pub whole : (xs ys zs : List ℕ) (n : ℕ) → zs ≡ take n (xs ++ drop (length xs) ys)
-    → length xs ≡ n → zs ≡ xs
-whole xs ys zs n is long =
-    is ∙ ap (λ m. take m (xs ++ drop (length xs) ys)) (sym long)
-    ∙ take-append_seam xs (drop (length xs) ys)
 
 is-short : (what : BridgeAsk) (l : Link) → first_met (bridge_conditions l what) ≡ None
     → length (ask_request what).1 ≤ most_payload

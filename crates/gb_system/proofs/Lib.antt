@@ -43,3 +43,4 @@ pub mod Takings
 pub mod Ticks
 pub mod Turning
 pub mod Ways
+pub mod WordNumbers

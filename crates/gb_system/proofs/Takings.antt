@@ -17,8 +17,7 @@ use Rattle.gb_bus.specs.Stands.{Around}
 use Rattle.gb_laws.proofs.Places.{place-is}
 use Rattle.gb_machine.specs.Arriving.{link_takes, takes}
 use Rattle.gb_machine.specs.Bus as machine
-use Rattle.gb_machine.specs.Bus.{Connection, Place, connection_of, end_of, or_else, place_of}
-use Rattle.gb_machine.specs.Bus.{same_end, side_at}
+use Rattle.gb_machine.specs.Bus.{Connection, Place, end_of, place_of}
 use Rattle.gb_machine.specs.Host as machine_host
 use Rattle.gb_machine.specs.Host.{link_of}
 use Rattle.gb_machine.specs.Modules.{far_takes, module_at, module_takes}

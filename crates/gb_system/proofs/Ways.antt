@@ -12,10 +12,10 @@ use Rattle.gb_base.specs.declared.peers.Link.{Link}
 use Rattle.gb_base.specs.declared.refusal.Refusal.{Refusal}
 use Rattle.gb_base.specs.declared.refusal.Refusal.TheVariants as why
 use Rattle.gb_machine.specs.Bus.{Bus}
-use Rattle.gb_machine.specs.Host.{Host, link_at}
+use Rattle.gb_machine.specs.Host.{link_at}
 use Rattle.gb_machine.specs.HostRefusals.{is_kept, send_conditions}
 use Rattle.gb_machine.specs.Labels.{next_label}
-use Rattle.gb_machine.specs.Lists.{Condition, conditions_of, first_met, holds_of}
+use Rattle.gb_machine.specs.Lists.{Condition, conditions_of, first_met}
 use Rattle.gb_machine.specs.Names.{is_bound, named}
 use Rattle.gb_machine.specs.Refusals.{is_long_payload, send_to_conditions}
 use Rattle.gb_machine.specs.State.{State}
@@ -54,22 +54,6 @@ met-late (c ∷ cs) ds h = by c.0 (met-late cs ds) h
 -- that a type is kept on a connection
 abbrev kept_conditions : ℕ → Option Link → List Condition
 kept_conditions kind link = conditions_of (λ l. (is_kept l kind, why.Unsupported) ∷ []) link
-
-kept-unmet : (kind : ℕ) (link : Option Link) → holds_of (λ l. is_kept l kind) link ≡ false
-    → first_met (kept_conditions kind link) ≡ None
-kept-unmet kind None h = refl
-kept-unmet kind (Some l) h = ap (λ b. first_met ((b, why.Unsupported) ∷ [])) h
-
--- a connection leads there
-pub leads : (i c kind k : ℕ) (h : Host) → first_met (send_conditions i c h) ≡ None
-    → option_map (λ (l : Link). l.connection) (link_at i c h) ≡ Some k
-    → holds_of (λ l. is_kept l kind) (link_at i c h) ≡ false
-    → LeadsAs h (end.Module i c) kind (Ok k)
-leads i c kind k h free way is = (
-  met-late (send_conditions i c h) (kept_conditions kind (link_at i c h)) free
-      ∙ kept-unmet kind (link_at i c h) is,
-  way,
-)
 
 -- ---- the way of a request
 

@@ -14,3 +14,4 @@ pub mod Serving
 pub mod Showing
 pub mod Stands
 pub mod Ticking
+pub mod WordNumber

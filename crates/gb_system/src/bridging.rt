@@ -39,8 +39,8 @@ impl Parties {
             → PartsStep self.new s (event.Bridge name.now intf cport ask.now) result }
     {
         let name = Key::of(name)?;
-        let mut room = vec![in self.alloc; 0u8; LONGEST_PAYLOAD]?;
-        let way = self.bridge_way(&name, intf, cport, ask, room.as_mut_slice());
+        let mut room = [0u8; LONGEST_PAYLOAD];
+        let way = self.bridge_way(&name, intf, cport, ask, &mut room);
         let Bridging {
             connection,
             request,
@@ -50,7 +50,7 @@ impl Parties {
         };
         let mut told = begun(self.alloc)?;
         self.host.sent(connection, ask);
-        let payload = front(room.as_slice(), request.len);
+        let payload = front(&room, request.len);
         self.send_on(
             name,
             connection,

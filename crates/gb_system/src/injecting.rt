@@ -8,9 +8,7 @@ ghost use Rattle.gb_system.specs.Stands.{PartiesStand, PartsStep};
 use crate::entries::{begun, refused};
 use crate::parties::Parties;
 use gb_base::{Bytes, End, Entries, Entry, OutOfMemory, Refusal};
-
-/// The most raw bytes that are injected at once: as many as the longest message has.
-const MOST_RAW: usize = 2048;
+use gb_bus::LONGEST_RAW;
 
 impl Parties {
     /// Raw bytes go from a module's CPort to the application processor.
@@ -22,7 +20,7 @@ impl Parties {
             Ok(connection) => connection,
             Err(why) => return Ok(refused(self.alloc, why)?),
         };
-        if bytes.len() > MOST_RAW {
+        if bytes.len() > LONGEST_RAW {
             return Ok(refused(self.alloc, Refusal::TooLarge)?);
         }
         let mut told = begun(self.alloc)?;

@@ -70,7 +70,7 @@ fn message_bytes(alloc: Global, m: &Message<'_>) -> Result<Bytes, OutOfMemory>
 {
     let mut bytes = vec![in alloc; 0u8; 8 + m.payload.len()]?;
     encode_into(m, &mut bytes).unwrap();
-    Ok(Bytes::from_slice(alloc, bytes.as_slice())?)
+    Ok(Bytes::from_vec(bytes))
 }
 
 /// A payload up to the length that a message has room for.

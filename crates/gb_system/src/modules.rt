@@ -116,8 +116,8 @@ impl Modules {
         Ok(Some(served))
     }
 
-    /// Stirs the device of a CPort of the module at an interface: None exactly where none is plugged
-    /// there. After each fault all are as before.
+    /// Stirs the device of a CPort of the module at an interface: None exactly where none is
+    /// plugged there. After each fault all are as before.
     pub fn stir(&mut self, intf: u8, cport: u16, what: Stir) -> Result<Option<OwnAsks>, StirFault>
         requires { IsStir what }
         ensures { StirsThere intf cport (stir_of what) (module_at intf self.old) self.old self.new

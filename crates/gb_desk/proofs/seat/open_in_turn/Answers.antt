@@ -1,5 +1,4 @@
 use Rattle.std.proofs.Common.{arith, ◌∙◌}
-use Rattle.atomic_table.specs.Table.{rest}
 use Rattle.gb_desk.proofs.Freeing.{has_part}
 use Rattle.gb_desk.proofs.InTurns.{asked_none, asked_some, barred, broke_by, found_held}
 use Rattle.gb_desk.proofs.InTurns.{lent_turn, makes_first, out_of, ready, started_held}

@@ -1,7 +1,7 @@
 -- A bridge line is told as refused, or its request is sent.
-use Rattle.std.proofs.Common.{Ok, ap, take, ◌∙◌, subst}
+use Rattle.std.proofs.Common.{Ok, subst, []}
 use Rattle.gb_base.specs.declared.event.Event.TheVariants as event
-use Rattle.gb_system.proofs.BridgeSends.{bridge-done, bridge-refused, whole}
+use Rattle.gb_system.proofs.BridgeSends.{bridge-done, bridge-refused}
 use Rattle.gb_system.specs.Stands.{PartsStep}
 use Rattle.gb_system.proofs.parties.Parties.bridge.Goals as goal
 
@@ -11,8 +11,8 @@ returns-in-Err c = record {
       subst (λ name. PartsStep c.args.self.now s (event.Bridge name c.args.intf c.args.cport
       c.args.ask.now) (Ok c.in_ok-refused-in-Err.field-0)) c.in_ok-name.ensures
       (bridge-refused c.args.self.now s c.in_ok-name.name c.args.intf c.args.cport c.args.ask.now
-      c.as_mut_slice.result.now c.bridge_way-way.new.room c.in-Err.why
-      c.in_ok-refused-in-Err.field-0 st (c.in-Err.ensures.step s st)
+      [] c.bridge_way-way.new.room c.in-Err.why c.in_ok-refused-in-Err.field-0 st
+      (c.in-Err.ensures.step s st)
       c.in_ok-refused-in-Err.ensures);
 }
 
@@ -22,11 +22,8 @@ returns c = record {
       subst (λ name. PartsStep c.send_on.new.self s (event.Bridge name c.args.intf c.args.cport
       c.args.ask.now) (Ok c.send_on.new.told)) c.in_ok-name.ensures
       (bridge-done c.args.self.now c.send_on.new.self c.sent.new.self s c.in_ok-name.name
-      c.args.intf c.args.cport c.args.ask.now c.as_mut_slice.result.now
-      c.bridge_way-way.new.room c.front-payload.result.now c.in-Ok.way c.in_ok-told.told
+      c.args.intf c.args.cport c.args.ask.now _ c.bridge_way-way.new.room
+      c.front-payload.result.now c.in-Ok.way c.in_ok-told.told
       c.send_on.new.told st (c.in-Ok.ensures.step s st) c.in_ok-told.ensures c.sent.ensures.step
-      (c.front-payload.ensures ∙ ap (take c.in-Ok.way.request.len) (whole c.bridge_way-way.new.room
-      c.in_ok-room.room.items c.as_slice.result.now c.in_ok-room.room.len c.as_slice.ensures.value
-      (c.bridge_way-way.auto.room ∙ c.as_mut_slice.ensures.len)))
-      c.in_ok-send_on.ensures.step);
+      c.front-payload.ensures c.in_ok-send_on.ensures.step);
 }

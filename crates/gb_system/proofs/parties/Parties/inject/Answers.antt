@@ -14,12 +14,12 @@ returns-in-Err c = record {
       c.in_ok-refused-in-Err.ensures;
 }
 
-pub returns-then-bytes-gt-MOST_RAW : goal.returns-then-bytes-gt-MOST_RAW
-returns-then-bytes-gt-MOST_RAW c = record {
+pub returns-then-bytes-gt-LONGEST_RAW : goal.returns-then-bytes-gt-LONGEST_RAW
+returns-then-bytes-gt-LONGEST_RAW c = record {
   step = λ s st.
       inject-large c.args.self.now s c.args.intf c.args.cport c.in-Ok.connection
       c.args.bytes.now c.in_ok-refused.field-0 st (c.in-Ok.ensures s st.parts)
-      c.if-bytes-gt-MOST_RAW.true c.in_ok-refused.ensures;
+      c.if-bytes-gt-LONGEST_RAW.true c.in_ok-refused.ensures;
 }
 
 pub returns-in_default : goal.returns-in_default
@@ -34,7 +34,7 @@ returns c = record {
   step = λ s st.
       inject-done c.args.self.now c.inject.new.self s c.args.intf c.args.cport
       c.in-Ok.connection c.args.bytes.now c.in-Some.ends c.in_ok-told.told c.push.new.self st
-      (c.in-Ok.ensures s st.parts) c.if-bytes-gt-MOST_RAW.false c.in_ok-inject.ensures.step
+      (c.in-Ok.ensures s st.parts) c.if-bytes-gt-LONGEST_RAW.false c.in_ok-inject.ensures.step
       (c.in-Some.ensures (around_bus [] s) s.bus st.parts.bus) c.in_ok-told.ensures
       (c.in_ok-push.ensures.ok ∙ ap (λ (b : List ℕ). c.in_ok-told.told
       ++ entry.Raw (end.Module c.args.intf c.args.cport) (end.Ap c.in-Some.ends.0)

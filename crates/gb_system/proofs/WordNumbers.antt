@@ -1,0 +1,121 @@
+-- Words are in the order of their numbers, where these differ.
+use Rattle.std.proofs.Common.{◌≡◌, ◌≢◌, ◌<◌, ◌≤◌, ℕ, zero, suc, ◌+◌, ◌-◌, ◌*◌, ◌^◌, true, false}
+use Rattle.std.proofs.Common.{◌⊎◌, inl, inr, leb, eqb, List, [], ◌∷◌, slice_index, Less, Equal}
+use Rattle.std.proofs.Common.{Greater, refl, sym, ap, ◌∙◌, arith}
+use Rattle.std.proofs.lemmas.Bool.Decides.{eqb_tells, leb_tells}
+use Rattle.std.specs.Cmp.{nat_cmp_is}
+use Rattle.std.specs.Cmp.Lexicographic.{nat_list_cmp_total, slice_cmp}
+use Rattle.std.specs.Ordering.{nat_cmp, ordering_reverse, ordering_then}
+use Rattle.gb_system.specs.WordNumber.{IsNumberOf, word_number}
+
+-- all items are bytes
+abbrev AreBytes : List ℕ → Type 0
+AreBytes word = (i : ℕ) → slice_index word i < 256
+
+-- two words have the same bytes below a place
+abbrev AreSame : List ℕ → List ℕ → ℕ → Type 0
+AreSame xs ys n = (j : ℕ) → j < n → slice_index xs j ≡ slice_index ys j
+
+-- where numbers are the same, so are the bytes
+same_bytes : (n : ℕ) (xs ys : List ℕ) → AreBytes xs → AreBytes ys
+    → word_number n xs ≡ word_number n ys → AreSame xs ys n
+unfolding word_number
+same_bytes zero xs ys bx by e = λ j less. absurd (omega (arith, less))
+same_bytes (suc n) xs ys bx by e = λ j less.
+    at j less (same_bytes n xs ys bx by (omega (arith, e, bx n, by n))) (eqb_tells j n)
+  where
+    at : (j : ℕ) → j < suc n → AreSame xs ys n
+        → ((eqb j n ≡ true) × (j ≡ n)) ⊎ ((eqb j n ≡ false) × (j ≢ n))
+        → slice_index xs j ≡ slice_index ys j
+    at j less rest (inl p) =
+        ap (slice_index xs) p.1 ∙ omega (arith, e, bx n, by n) ∙ ap (slice_index ys) (sym p.1)
+    at j less rest (inr p) = rest j (omega (arith, less, p.1))
+
+-- a byte of one word is less than that of another, and before it their bytes are the same
+record Differ (xs ys : List ℕ) : Type 0 where
+  at : ℕ
+  same : AreSame xs ys at
+  less : slice_index xs at < slice_index ys at
+
+-- where a number is less, so is a byte
+differ : (n : ℕ) (xs ys : List ℕ) → AreBytes xs → AreBytes ys
+    → word_number n xs < word_number n ys → Differ xs ys
+unfolding word_number
+differ zero xs ys bx by h = absurd (omega (arith, h))
+differ (suc n) xs ys bx by h =
+    at (differ n xs ys bx by) (leb_tells (word_number n ys) (word_number n xs))
+  where
+    at : (word_number n xs < word_number n ys → Differ xs ys)
+        → ((leb (word_number n ys) (word_number n xs) ≡ true)
+        × (word_number n ys ≤ word_number n xs))
+        ⊎ ((leb (word_number n ys) (word_number n xs) ≡ false)
+        × (word_number n xs < word_number n ys))
+        → Differ xs ys
+    at rest (inl p) = record {
+      at = n;
+      same = same_bytes n xs ys bx by (omega (arith, h, p.1, bx n, by n));
+      less = omega (arith, h, p.1, bx n, by n);
+    }
+    at rest (inr p) = rest p.1
+
+-- the word with the lesser byte comes first
+first : (n : ℕ) (xs ys : List ℕ) → AreSame xs ys n → slice_index xs n < slice_index ys n
+    → slice_cmp nat_cmp xs ys ≡ Less
+first n [] [] same less = absurd (omega (arith, less))
+first n [] (y ∷ ys) same less = refl
+first n (x ∷ xs) [] same less = absurd (omega (arith, less))
+first zero (x ∷ xs) (y ∷ ys) same less =
+    ap (λ o. ordering_then o (slice_cmp nat_cmp xs ys)) (sym (nat_cmp_is x y Less less))
+first (suc n) (x ∷ xs) (y ∷ ys) same less =
+    ap (λ o. ordering_then o (slice_cmp nat_cmp xs ys))
+    (sym (nat_cmp_is x y Equal (same 0 (omega arith))))
+    ∙ first n xs ys (λ j low. same (suc j) (omega (arith, low))) less
+
+-- The order of two words is that of their numbers, where these differ.
+pub by_numbers : (xs ys : List ℕ) (a b : ℕ) → IsNumberOf a xs → IsNumberOf b ys → a ≢ b
+    → nat_cmp a b ≡ slice_cmp nat_cmp xs ys
+by_numbers xs ys a b x y apart = at (leb_tells a b)
+  where
+    at : ((leb a b ≡ true) × (a ≤ b)) ⊎ ((leb a b ≡ false) × (b < a))
+        → nat_cmp a b ≡ slice_cmp nat_cmp xs ys
+    at (inl p) =
+        let d = differ 16 xs ys x.bytes y.bytes (omega (arith, x.is, y.is, p.1, apart)) in
+        sym (nat_cmp_is a b Less (omega (arith, p.1, apart))) ∙ sym (first d.at xs ys d.same d.less)
+    at (inr p) =
+        let d = differ 16 ys xs y.bytes x.bytes (omega (arith, x.is, y.is, p.1)) in
+        sym (nat_cmp_is a b Greater p.1)
+        ∙ ap ordering_reverse (sym (first d.at ys xs d.same d.less))
+        ∙ sym (nat_list_cmp_total.antisymm xs ys)
+
+-- ---- a number fits
+
+-- numbers of so many bytes are below this
+abbrev top : ℕ → ℕ
+top zero = 1
+top (suc n) = top n * 256
+
+below : (n : ℕ) (word : List ℕ) → AreBytes word → word_number n word < top n
+unfolding word_number
+below zero word b = omega arith
+below (suc n) word b = omega (arith, below n word b, b n)
+
+grows : (n k m : ℕ) → m ≡ k + n → top n ≤ top m
+grows n zero m e = let same : m ≡ n = omega (arith, e) in omega (arith, ap top same)
+grows n (suc k) zero e = absurd (omega (arith, e))
+grows n (suc k) (suc m) e = omega (arith, grows n k m (omega (arith, e)))
+
+-- so one with fewer than 16 bytes has room for one more
+pub fits : (n : ℕ) (word : List ℕ) → n < 16 → AreBytes word → word_number n word < 2 ^ 120
+fits n word h b =
+    omega (arith, below n word b, grows n (15 - n) 15 (omega (arith, h)))
+
+-- ---- a number is made
+
+-- one byte more
+pub step : (n number byte : ℕ) (word : List ℕ) → number ≡ word_number n word
+    → byte ≡ slice_index word n → number * 256 + byte ≡ word_number (n + 1) word
+unfolding word_number
+step n number byte word is at =
+    let more : number * 256 + byte ≡ word_number (suc n) word = omega (arith, is, at) in
+    let next : suc n ≡ n + 1 = omega arith in
+    more ∙ ap (λ m. word_number m word) next
