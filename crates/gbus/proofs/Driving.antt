@@ -1,5 +1,5 @@
 -- Running a made script comes to what the machine does.
-use Rattle.std.proofs.Common.{◌≡◌, ◌≤◌, ℕ, zero, suc, ◌+◌, ◌-◌, Bool, true, false, cond, List, refl}
+use Rattle.std.proofs.Common.{◌≡◌, ◌≤◌, ℕ, zero, suc, ◌+◌, Bool, true, false, cond, List}
 use Rattle.std.proofs.Common.{subst, ap, ◌∙◌, arith}
 use Rattle.gb_formats.proofs.MadeValid.{made-valid}
 use Rattle.gb_formats.specs.Made.{made}
@@ -9,6 +9,7 @@ use Rattle.gb_machine.specs.Runs.{AreValid}
 use Rattle.gb_machine.specs.State.{State, first_state}
 use Rattle.gb_machine.specs.Summary.{counts, counts_at, is_refused, made_events, made_from}
 use Rattle.gb_machine.specs.Summary.{refused_in}
+use Rattle.gb_script.specs.Making.{Making}
 use Rattle.gb_system.specs.Stands as system
 use Rattle.gbus.specs.Driving.{Goes}
 use Rattle.gbus.specs.declared.drive.Driven.{Driven}
@@ -27,6 +28,12 @@ made_from-valid seed (suc left) k low high = (
 pub made_events-valid : (seed : ℕ) → AreValid (made_events seed)
 made_events-valid seed = made_from-valid seed 20024 1 (omega arith) (omega arith)
 
+-- The event that a maker gives next is that of its place.
+pub made-next : (m : Making) (seed place : ℕ) → m.seed ≡ seed → m.given ≡ place
+    → made m.seed (m.given + 1) ≡ made seed (place + 1)
+made-next m seed place s g =
+    ap (λ x. made x (m.given + 1)) s ∙ ap (λ n. made seed (n + 1)) g
+
 -- ---- running it
 
 -- the trace of the events that are left
@@ -41,18 +48,6 @@ pub record Stage (x : Driven) (seed k left : ℕ) (state : State) : Type 0 where
       ≡ refused_in (trace (made_events seed))
   pub ends : last_state state (ahead seed k left state)
       ≡ last_state first_state (trace (made_events seed))
-
--- before the first event
-pub first-stage : (x : Driven) (seed : ℕ) → system.Stands x.system first_state → x.refused ≡ 0
-    → Stage x seed 1 20024 first_state
-first-stage x seed stands none = record {
-  stands = stands;
-  refused = more x.refused (refused_in (ahead seed 1 20024 first_state)) none;
-  ends = refl;
-}
-  where
-    more : (a b : ℕ) → a ≡ 0 → a + b ≡ b
-    more a b h = omega arith
 
 -- an event is counted where it was refused
 one-first : (t : Bool) (a n later : ℕ) → n ≡ cond t (a + 1) a

@@ -1,6 +1,6 @@
 -- What was read of an input, and what is run and written of it.
 use Rattle.std.proofs.Common.{◌≡◌, ℕ, ◌<◌, ◌≤◌, Bool, true, false, cond, Option, Some, None, List}
-use Rattle.std.proofs.Common.{[], ◌++◌, length, take, append-nil, append_assoc, length-append, drop}
+use Rattle.std.proofs.Common.{[], ◌++◌, length, take, append_assoc, length-append, drop}
 use Rattle.std.proofs.Common.{length-drop, refl, sym, subst, ap, ◌∙◌, arith}
 use Rattle.std.specs.Prelude.{IfSome}
 use Rattle.std.specs.Io.KnownBytes.{Consumes}
@@ -13,20 +13,11 @@ use Rattle.gb_script.specs.Readers.{longest_input}
 use Rattle.gbus.specs.Answers.{checked_status, checked_text}
 use Rattle.gbus.specs.Manifests.{manifest_text, manifest_verdict}
 use Rattle.gbus.specs.Program.{Check, is_too_long, output, verdict}
-use Rattle.gbus.specs.Reading.{IsLong, IsRead, IsWhole}
+use Rattle.gbus.specs.Reading.{IsLong, IsRead}
 use Rattle.gbus.specs.declared.input.Input.{Input}
 use Rattle.gbus.specs.declared.input.Input.TheVariants as input
 
 -- ---- reading
-
--- all bytes were read
-pub whole_read : (left after : Option (List ℕ)) (bytes : List ℕ) → IsWhole left after bytes
-    → IfSome left (λ text. (text ≡ bytes) × (length text ≤ longest_input))
-whole_read None after bytes w = tt
-whole_read (Some text) None bytes w = absurd w.bytes_are
-whole_read (Some text) (Some rest) bytes w =
-    let same : text ≡ bytes = w.bytes_are ∙ ap (λ r. bytes ++ r) w.at_end ∙ append-nil bytes in
-    (same, subst (λ t. length t ≤ longest_input) (sym same) w.within)
 
 -- the front of a text
 pub cut_at : (n : ℕ) (front others rest : List ℕ) → length front ≡ n

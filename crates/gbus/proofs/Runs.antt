@@ -1,8 +1,8 @@
 -- What a run promises, by what was read, answered and written.
-use Rattle.std.proofs.Common.{◌≡◌, ℕ, Bool, true, false, Option, Some, None, Result, Ok, Err, List}
+use Rattle.std.proofs.Common.{◌≡◌, ℕ, Bool, Option, Some, None, Result, Ok, Err, List}
 use Rattle.std.proofs.Common.{sym, subst, ◌∙◌, inl}
 use Rattle.std.specs.Prelude.{IfSome}
-use Rattle.std.specs.Io.KnownBytes.{Appends, IsAtEnd}
+use Rattle.std.specs.Io.KnownBytes.{Appends}
 use Rattle.gb_base.specs.declared.status.Status.{Status}
 use Rattle.gb_base.specs.declared.status.Status.TheVariants as status
 use Rattle.gb_formats.specs.Manifest.{Manifest, check_answer}
@@ -15,8 +15,8 @@ use Rattle.gbus.proofs.Fronts.{none_taken}
 use Rattle.gbus.proofs.Limits.{status_is, text_is}
 use Rattle.gbus.specs.Answers.{checked_status, checked_text}
 use Rattle.gbus.specs.Manifests.{manifest_verdict}
-use Rattle.gbus.specs.Program.{Check, Drive, IsVerdict, Job, Run, output, script_within, verdict}
-use Rattle.gbus.specs.Reading.{IsRead, ReadsAll}
+use Rattle.gbus.specs.Program.{Check, Drive, IsVerdict, Job, Run, output, script_within}
+use Rattle.gbus.specs.Reading.{IsRead}
 use Rattle.gbus.specs.Runs.{IsAnswerOf, IsAnswered, IsComplete, IsOfRun, IsWithin, OfInput}
 use Rattle.gbus.specs.Writing.{TakesFront}
 use Rattle.gbus.specs.declared.answer.Answer.{Answer}
@@ -67,17 +67,6 @@ pub some-job : (job : Option Job) (j : Job) → Some j ≡ job → job ≡ None 
 some-job job j is none = clash (is ∙ none)
   where
     clash : Some j ≡ None → ⊥
-    clash e = absurd cc
-
--- after a success the source is at its end
-pub check-end : (i : Input) (left after : Option (List ℕ)) (before faults : ℕ) (s : Status)
-    → ReadsAll left after before faults (Ok i) → s ≡ checked_status i
-    → s ≡ status.Success → IsAtEnd after
-check-end (input.Whole bytes) left after before faults s read ends good = read.at_end
-check-end (input.TooLong front) left after before faults s read ends good =
-    absurd (clash (sym ends ∙ good))
-  where
-    clash : status.TooLong ≡ status.Success → ⊥
     clash e = absurd cc
 
 -- ---- what is written

@@ -1,33 +1,31 @@
 -- What a script comes to, by what was read, run and written.
 use Rattle.std.proofs.Common.{◌≡◌, ℕ, ◌+◌, ◌-◌, ◌<◌, ◌≤◌, Bool, true, false, cond, Option, Some}
 use Rattle.std.proofs.Common.{None, List, [], ◌∷◌, ◌++◌, length, take, append_assoc, append-nil}
-use Rattle.std.proofs.Common.{length-append, refl, sym, ap, ◌∙◌, subst, Ok, arith}
-use Rattle.std.specs.Prelude.{IfSome, is_err}
-use Rattle.std.specs.List.{list_any}
-use Rattle.std.specs.Io.KnownBytes.{Appends, Consumes, IsAtEnd, prepend_known}
+use Rattle.std.proofs.Common.{refl, sym, ap, ◌∙◌, subst, Ok, arith}
+use Rattle.std.specs.Prelude.{is_err}
+use Rattle.std.specs.Io.KnownBytes.{Appends, IsAtEnd, prepend_known}
 use Rattle.std.proofs.Math.Seq.{take-append-add}
-use Rattle.gb_base.specs.Faults.{Rose}
 use Rattle.gb_base.specs.declared.status.Status.TheVariants as status
 use Rattle.gb_formats.specs.Lines.{lines}
-use Rattle.gb_machine.specs.Report.{has_bad_line, report}
+use Rattle.gb_machine.specs.Report.{has_bad_line}
 use Rattle.gb_machine.specs.State.{State}
 use Rattle.gb_script.proofs.Readings.{consumes-held}
 use Rattle.gb_script.proofs.TextLines.{ended-behind, lines-behind}
 use Rattle.gb_script.specs.Readers.{EndsAfter, FailsAfter, IsBeyondAfter, Reads, StandsAt, behind}
 use Rattle.gb_script.specs.Readers.{longest_input}
-use Rattle.gb_script.specs.Reading.{ended_lines, is_lf, to_come}
+use Rattle.gb_script.specs.Reading.{ended_lines, to_come}
 use Rattle.gb_script.specs.declared.line_reader.LineReader.{LineReader}
 use Rattle.gb_script.specs.declared.line_reader.Progress.{Progress}
 use Rattle.gb_script.specs.declared.line_reader.Progress.TheVariants as progress
-use Rattle.gbus.proofs.Fronts.{all_taken, appends_more}
+use Rattle.gbus.proofs.Fronts.{appends_more}
 use Rattle.gbus.proofs.Limits.{beyond, beyond_is, cut_at, within_is}
 use Rattle.gbus.proofs.Turns.{bad_among, goes_bad, goes_turn, wrote_turn}
-use Rattle.gbus.specs.Program.{Run, is_too_long, output, script_status, script_within, verdict}
+use Rattle.gbus.specs.Program.{Run, is_too_long, script_status, script_within, verdict}
 use Rattle.gbus.specs.Scripts.{IsCutOff, IsFrontOfReport, IsRefusedAt, IsReported, ReadsTo}
 use Rattle.gbus.specs.Scripts.{StopsShort, report_of}
 use Rattle.gbus.specs.Sessions.{Ends, TurnsAs, line_says}
 use Rattle.gbus.specs.Stages.{IsBehind}
-use Rattle.gbus.specs.Writing.{TakesFront, TakesPart}
+use Rattle.gbus.specs.Writing.{TakesPart}
 use Rattle.gbus.specs.declared.session.Session.{Session}
 use Rattle.gbus.specs.declared.session.Turn.{Turn}
 use Rattle.gbus.specs.declared.session.Turn.TheVariants as turn

@@ -1,5 +1,5 @@
 -- What the run of a script promises, by how it ends.
-use Rattle.std.specs.Prelude.{◌≡◌, ◌<◌, ◌≤◌, ◌+◌, ℕ, Bool, true, false, is_err, Option, Some, None}
+use Rattle.std.specs.Prelude.{◌≡◌, ◌<◌, ◌≤◌, ◌+◌, ℕ, Bool, true, false, is_err, Option}
 use Rattle.std.specs.Prelude.{⊤, List, [], ◌∷◌, ◌++◌, length, IfSome}
 use Rattle.std.specs.Io.KnownBytes.{Appends, Consumes, IsAtEnd}
 use Rattle.gb_base.specs.Faults.{Rose}
@@ -39,8 +39,8 @@ pub record IsCutOff (hex : Bool) (left left_after taken after : Option (List ℕ
   pub wrote : Appends taken after (report hex (ended_lines bytes))
   pub good : has_bad_line (lines (ended_lines bytes)) ≡ false
 
--- The sink failed: it took the report of the earlier lines, and not all of that of this line. At most
--- 4,096 bytes behind it were read.
+-- The sink failed: it took the report of the earlier lines, and not all of that of this line. At
+-- most 4,096 bytes behind it were read.
 pub record StopsShort (hex : Bool) (left left_after taken after : Option (List ℕ)) : Type 0 where
   pub earlier : List (List ℕ)
   pub line : List ℕ

@@ -1,5 +1,5 @@
 -- How far the run of a script has come.
-use Rattle.std.specs.Prelude.{◌≡◌, ◌+◌, ℕ, Bool, false, Option, Some, None, List, [], ◌∷◌, ◌++◌}
+use Rattle.std.specs.Prelude.{◌≡◌, ◌+◌, ℕ, Bool, false, Option, Some, None, List, ◌++◌}
 use Rattle.std.specs.Io.KnownBytes.{Appends}
 use Rattle.gb_base.specs.declared.status.Status.{Status}
 use Rattle.gb_machine.specs.Report.{has_bad_line, report_from}

@@ -12,7 +12,7 @@ use crate::answer::Answer;
 use gb_base::{Entries, Entry, Event, OutOfMemory, Status, Text};
 use gb_bus::Tally;
 use gb_report::{Counts, put_summary};
-use gb_script::{MADE_LINES, made};
+use gb_script::{MADE_LINES, Maker};
 use gb_system::System;
 use std::alloc::Global;
 
@@ -105,8 +105,9 @@ fn made_counts(alloc: Global, seed: u32) -> Result<Counts, OutOfMemory>
     ensures { IfOk result (λ c. counts_of c ≡ counts (trace (made_events seed))) }
 {
     let mut driven = Driven::new(alloc)?;
-    for place in 0..MADE_LINES {
-        let event = made(alloc, seed, place + 1)?;
+    let mut maker = Maker::new(seed);
+    for _ in 0..MADE_LINES {
+        let event = maker.next(alloc)?;
         driven.take(&event)?;
     }
     Ok(driven.counts())

@@ -49,13 +49,13 @@ pub fn run<R: Threads + Sync, S: Source, K: Sink, G: Gate>(
 
     // A fault comes only where the count of the source or of the sink rose.
     ensures read { result ≡ Status.ReadFault → Rose (S.faults source.old) (S.faults source.new) }
-    ensures unread { result ≡ Status.ReadFault → is_run (job_of (map string_bytes words.now)) ≡ false
-        → sink.new ≡ sink.old }
+    ensures unread { result ≡ Status.ReadFault
+        → is_run (job_of (map string_bytes words.now)) ≡ false → sink.new ≡ sink.old }
     ensures write { result ≡ Status.WriteFault → Rose (K.faults sink.old) (K.faults sink.new) }
 
-    // A script is run line by line. At ReadFault the report of the lines that ended within the bytes
-    // read was written, and none of these is bad. At WriteFault at most 4,096 bytes were read past
-    // the first line whose report wasn't wholly taken, and at Refused past the bad line.
+    // A script is run line by line. At ReadFault the report of the lines that ended within the
+    // bytes read was written, and none of these is bad. At WriteFault at most 4,096 bytes were read
+    // past the first line whose report wasn't wholly taken, and at Refused past the bad line.
     ensures cut_off { result ≡ Status.ReadFault → IfRun (job_of (map string_bytes words.now))
         (λ hex. IsCutOff hex (S.left source.old) (S.left source.new) (K.taken sink.old)
         (K.taken sink.new)) }

@@ -1,6 +1,7 @@
 //! Runs a script line by line.
 
-ghost use Rattle.std.specs.Prelude.{◌≡◌, ◌+◌, ◌≤◌, ℕ, List, [], ◌∷◌, ◌++◌, Bool, Option, Some, None, IfSome, IfOk};
+ghost use Rattle.std.specs.Prelude.{◌≡◌, ◌+◌, ◌≤◌, ℕ, List, [], ◌∷◌, ◌++◌, Bool, Option, Some};
+ghost use Rattle.std.specs.Prelude.{None, IfSome, IfOk};
 ghost use Rattle.gb_machine.specs.State.{State};
 ghost use Rattle.gb_script.specs.Readers.{Lends, Reads, number_of, stopped};
 ghost use Rattle.gbus.specs.Scripts.{FaultRose, IsFrontOfReport, ScriptEnds};
@@ -38,7 +39,8 @@ impl Script {
         ensures turns { (hex : Bool) → (left : Option (List ℕ)) → (taken : Option (List ℕ))
             → Stage self.old hex left (S.left source.old) taken (K.taken sink.old)
             → TurnsOut self.new hex left (S.left source.new) taken (K.taken sink.new) result }
-        ensures counts { result ≡ None → ((number_of self.new.reader ≡ number_of self.old.reader + 1)
+        ensures counts { result ≡ None
+            → ((number_of self.new.reader ≡ number_of self.old.reader + 1)
             × (number_of self.new.reader ≤ 1048576)) }
         ensures reads { S.faults source.old ≤ S.faults source.new }
         ensures writes { K.faults sink.old ≤ K.faults sink.new }

@@ -62,7 +62,7 @@ impl Session {
         ensures hex { OnOk result (self.new.hex ≡ self.old.hex) }
     {
         self.number = line.number;
-        self.text = Text::new(self.alloc);
+        self.text.clear();
         if line.long {
             put_refusal(self.alloc, self.number, &LineReason::Long, &mut self.text)?;
             return Ok(Turn::Refused);

@@ -1,4 +1,4 @@
-use Rattle.std.proofs.Common.{◌+◌, Bool, List, ℕ, Ok, subst, sym, ap, ◌∙◌}
+use Rattle.std.proofs.Common.{◌+◌, Bool, Ok, subst, ap, ◌∙◌}
 use Rattle.gb_script.specs.Readers.{CountsOn, ReadsOn, StopsAfter}
 use Rattle.gb_script.specs.declared.held.LineStop.{LineStop}
 use Rattle.gbus.proofs.Scripts.{behind-lines, cut-off, source-ended, succeeded, too-long}

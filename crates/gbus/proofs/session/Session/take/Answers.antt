@@ -1,5 +1,5 @@
 -- A line that is run does what the machine does.
-use Rattle.std.proofs.Common.{◌++◌, ◌≡◌, Ok, Err, List, ℕ, ap, sym, subst, ◌∙◌}
+use Rattle.std.proofs.Common.{◌++◌, Ok, Err, ap, sym, subst, ◌∙◌}
 use Rattle.gb_formats.proofs.JudgedValid.{judged-valid}
 use Rattle.gb_formats.specs.Texts.{entries_text, refusal_line_text}
 use Rattle.gb_script.specs.Tells.{Tells}
@@ -18,7 +18,7 @@ returns-in-Ok-None-clause-turn c = λ s whole st is.
     passes c.args.self.now _ (line_says whole) s
     (ap line_says (sym (short_line c.args.line.bytes.now c.args.line.long whole is c.if-line.false))
     ∙ c.in-Ok-None.ensures ∙ ap Ok c.in-Ok-None.field-0-is)
-    st c.new.ensures
+    st c.clear.ensures
 
 pub returns-in_ok-put_all-in-Ok-Some-clause-turn :
     goal.returns-in_ok-put_all-in-Ok-Some-clause-turn
@@ -29,7 +29,7 @@ returns-in_ok-put_all-in-Ok-Some-clause-turn c = λ s whole st is.
     (c.in_ok-entries-in-Ok-Some.ensures.step s st)
     (c.in_ok-put_all-in-Ok-Some.ensures
     ∙ ap (λ t. t ++ entries_text c.args.line.number c.args.self.now.hex
-    c.in_ok-entries-in-Ok-Some.entries) c.new.ensures)
+    c.in_ok-entries-in-Ok-Some.entries) c.clear.ensures)
 
 pub returns-in_ok-put_refusal-in-Err-Bad-clause-turn :
     goal.returns-in_ok-put_refusal-in-Err-Bad-clause-turn
@@ -41,5 +41,5 @@ returns-in_ok-put_refusal-in-Err-Bad-clause-turn c = λ s whole st is. record {
       ∙ subst (λ (f : LineFault). Tells (Err f) (line_says c.args.line.bytes.now))
       c.in-Err-Bad.field-0-is c.in-Err-Bad.ensures;
   text = c.in_ok-put_refusal-in-Err-Bad.ensures.ok
-      ∙ ap (λ t. t ++ refusal_line_text c.args.line.number c.in-Err-Bad.why) c.new.ensures;
+      ∙ ap (λ t. t ++ refusal_line_text c.args.line.number c.in-Err-Bad.why) c.clear.ensures;
 }
