@@ -8,8 +8,6 @@ mod effect;
 mod irq;
 mod line;
 mod readings;
-#[cfg(test)]
-mod tests;
 
 pub use bridging::bridge;
 pub use device::Device;

@@ -22,11 +22,7 @@ mod refusing;
 mod removing;
 mod replies;
 mod serving;
-#[cfg(test)]
-mod tests;
 mod turning;
-#[cfg(test)]
-mod turning_tests;
 mod waiting;
 
 pub use acts::{Act, Acts};

@@ -7,8 +7,6 @@ mod memory;
 mod ops;
 mod readings;
 mod survey;
-#[cfg(test)]
-mod tests;
 mod transfer;
 
 pub use bridging::bridge;

@@ -2,8 +2,6 @@
 #![tactic(auto)]
 
 mod labels;
-#[cfg(test)]
-mod tests;
 mod word;
 
 pub use labels::{Labels, NoLabel};

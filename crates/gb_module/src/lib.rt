@@ -12,8 +12,6 @@ mod ports;
 mod protocols;
 mod raw;
 mod stir;
-#[cfg(test)]
-mod tests;
 mod turn;
 
 pub use cport_state::CportState;

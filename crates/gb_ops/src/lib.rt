@@ -4,8 +4,6 @@
 mod entries;
 mod ops;
 mod tables;
-#[cfg(test)]
-mod tests;
 
 pub use entries::{BeginFault, Holder, Matched, Pending};
 pub use ops::Ops;

@@ -1,8 +1,6 @@
 //! Reads script lines.
 #![tactic(auto)]
 
-#[cfg(test)]
-mod bad_lines;
 mod bridges;
 mod deliveries;
 mod fault;
@@ -14,8 +12,6 @@ mod hex_words;
 mod i2c;
 mod interfaces;
 mod line_reader;
-#[cfg(test)]
-mod line_reader_tests;
 mod lines;
 mod made_script;
 mod made_table;
@@ -26,8 +22,6 @@ mod read;
 mod requests;
 mod rest;
 mod spi;
-#[cfg(test)]
-mod tests;
 mod uart;
 mod values;
 mod words;

@@ -6,8 +6,6 @@ mod device;
 mod entries;
 mod ops;
 mod readings;
-#[cfg(test)]
-mod tests;
 mod transfer;
 
 pub use bridging::bridge;

@@ -4,8 +4,6 @@
 mod answers;
 mod served;
 mod table;
-#[cfg(test)]
-mod tests;
 
 pub use served::SvcServed;
 pub use table::serve;

@@ -7,8 +7,6 @@ mod place;
 mod port;
 mod queues;
 mod rung;
-#[cfg(test)]
-mod tests;
 
 pub use ladder::Ladder;
 pub use place::Place;

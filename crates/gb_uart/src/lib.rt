@@ -5,8 +5,6 @@ mod bridging;
 mod credits;
 mod device;
 mod readings;
-#[cfg(test)]
-mod tests;
 
 pub use bridging::bridge;
 pub use credits::{Credits, NoCredit, TooMany};

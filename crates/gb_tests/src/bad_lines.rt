@@ -1,8 +1,8 @@
 //! Bad lines: for each form each reason at its first and last place.
 
-use crate::{LineFault, event};
 use gb_base::LineReason;
 use gb_base::LineReason::{BadByte, BadWord, ExtraWord, MissingWord};
+use gb_script::{LineFault, event};
 
 /// Bad lines of the bus, and why they are bad.
 const BUS: &[(&str, LineReason)] = &[

@@ -1,7 +1,7 @@
 //! Lines that are read one by one.
 
-use crate::{LineReader, LineStop};
 use gb_base::{Bytes, MemSource, Numbers};
+use gb_script::{LineReader, LineStop};
 use std::test::Fail;
 
 /// How many bytes of each letter stand in the text: a short line, one of 8,192 bytes with CR, one

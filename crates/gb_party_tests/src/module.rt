@@ -3,9 +3,9 @@
 ghost use Rattle.std.specs.Prelude.{◌≡◌, ◌≤◌, length};
 ghost use Rattle.gb_module.specs.Stirring.{IsStir};
 
-use crate::{CportState, Module, Stir, StirFault};
 use gb_base::{Bytes, Kind};
 use gb_manifest::check;
+use gb_module::{CportState, Module, Stir, StirFault};
 use std::alloc::Global;
 use std::process::Abort;
 

@@ -4,8 +4,8 @@ ghost use Rattle.std.specs.Prelude.{◌≡◌};
 ghost use Rattle.gb_base.specs.declared.bridge.BridgeAsk.TheVariants as ask;
 ghost use Rattle.gb_formats.specs.ValidEvents.{HasForm};
 
-use crate::{BridgeFault, Device, bridge, reading};
 use gb_base::{BridgeAsk, Bridged, Reading};
+use gb_gpio::{BridgeFault, Device, bridge, reading};
 use std::alloc::Global;
 use std::process::Abort;
 use std::test::Fail;

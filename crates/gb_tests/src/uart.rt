@@ -1,7 +1,7 @@
 //! Requests, bridge lines and credits, with the answers of the device's description.
 
-use crate::{BridgeFault, Credits, Device, NoCredit, TooMany, bridge, reading};
 use gb_base::{BridgeAsk, Bridged, Bytes, OwnAsk, Reading};
+use gb_uart::{BridgeFault, Credits, Device, NoCredit, TooMany, bridge, reading};
 use std::process::Abort;
 use std::test::Fail;
 

@@ -1,7 +1,7 @@
 //! Lines as the grammar has them.
 
-use crate::{LineFault, event, first_line, made};
 use gb_base::{BridgeAsk, End, Event, Kind, OutOfMemory};
+use gb_script::{LineFault, event, first_line, made};
 use std::test::Fail;
 
 #[test]

@@ -1,7 +1,7 @@
 //! Requests are begun, answered, given up and listed, expire and are closed.
 
-use crate::{BeginFault, Matched, Ops};
 use gb_base::{Numbers, OutOfMemory};
+use gb_ops::{BeginFault, Matched, Ops};
 use std::process::Abort;
 
 /// What a call answered.

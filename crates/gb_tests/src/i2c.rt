@@ -1,7 +1,7 @@
 //! Requests in order, with what the I2C device is to answer, and bridge lines and readings.
 
-use crate::{BridgeFault, Device, bridge, reading};
 use gb_base::{BridgeAsk, Bytes, I2cOp, I2cOps, OutOfMemory, Reading};
+use gb_i2c::{BridgeFault, Device, bridge, reading};
 use std::alloc::Global;
 use std::process::Abort;
 use std::test::Fail;

@@ -1,6 +1,6 @@
 //! Rows of the supervisory controller's table. The expected values are those of the table.
 
-use crate::{SvcServed, serve};
+use gb_svc::{SvcServed, serve};
 use gb_switch::Ladder;
 use std::process::Abort;
 

@@ -1,6 +1,6 @@
 //! Identifiers are drawn, freed and drawn again.
 
-use crate::Labels;
+use gb_labels::Labels;
 use std::process::Abort;
 
 /// Draws this identifier, or none.

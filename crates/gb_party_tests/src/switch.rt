@@ -1,7 +1,7 @@
 //! Rows of the power sequence, whose expected values are those of its table, and of queues.
 
-use crate::{Ladder, NotReady, NotRouted, Queues, Rung};
 use gb_base::End;
+use gb_switch::{Ladder, NotReady, NotRouted, Queues, Rung};
 use std::alloc::Global;
 use std::process::Abort;
 

@@ -1,7 +1,7 @@
 //! Requests and bridge lines, with the answers of the device's description.
 
-use crate::{BridgeFault, Device, bridge, reading};
 use gb_base::{BridgeAsk, Bridged, Bytes, Reading, SpiOp, SpiOps};
+use gb_spi::{BridgeFault, Device, bridge, reading};
 use std::process::Abort;
 use std::test::Fail;
 
