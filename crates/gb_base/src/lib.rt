@@ -25,8 +25,6 @@ mod source;
 mod standard;
 mod status;
 mod steps;
-#[cfg(test)]
-mod tests;
 mod text;
 
 pub use bridge::{BridgeAsk, Bridged, I2cOp, I2cOps, Reading, SpiOp, SpiOps};

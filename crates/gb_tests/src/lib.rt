@@ -1,9 +1,11 @@
-//! Tests of formats and devices, by their public calls alone: that memory is found, and that what
-//! was built does what the contracts say.
+//! Tests of shared types, formats and devices, by their public calls alone: that memory is found,
+//! and that what was built does what the contracts say.
 #![tactic(auto)]
 
 #[cfg(test)]
 mod bad_lines;
+#[cfg(test)]
+mod base;
 #[cfg(test)]
 mod bridge_payload;
 #[cfg(test)]

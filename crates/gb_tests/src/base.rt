@@ -1,4 +1,4 @@
-use crate::{
+use gb_base::{
     BridgeAsk, Bytes, End, Entry, Event, Failed, I2cOp, I2cOps, MemSink, MemSource, Name, NoRoom,
     Numbers, Outcome, OwnAsk, OwnAsks, PlainSink, PlainSource, Served, Sink, Source, SpiOp, SpiOps,
     StdSink, StdSource, Text, TryCopy, Word, WriteStop,
