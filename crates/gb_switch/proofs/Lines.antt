@@ -1,9 +1,10 @@
 -- What the maps of queues come to at each call.
 use Rattle.std.proofs.Common.{◌≡◌, ◌≢◌, Bool, true, false, cond, ◌⊎◌, inl, inr, Option, Some, None}
-use Rattle.std.proofs.Common.{option_map, is_some, List, [], ◌∷◌, ◌++◌, length, Result, Ok, Err}
-use Rattle.std.proofs.Common.{OnErr, OnOk, refl, sym, ap, ◌∙◌, ⊎_elim, ◌<◌, arith}
+use Rattle.std.proofs.Common.{option_map, IsSome, is_some, List, [], ◌∷◌, ◌++◌, length, Result}
+use Rattle.std.proofs.Common.{Ok, Err}
+use Rattle.std.proofs.Common.{OnErr, OnOk, refl, sym, ap, ◌∙◌, ⊎_elim, subst, ◌<◌, arith}
 use Rattle.std.proofs.lemmas.Bool.{true≢false}
-use Rattle.std.specs.BTreeMap.{BTreeMap, get, is_at}
+use Rattle.std.specs.BTreeMap.{BTreeMap, WritesThrough, get, is_at}
 use Rattle.std.specs.BTreeSet.{BTreeSet, IsLowerBound, btree_set_len, contains}
 use Rattle.std.specs.List.{list_any}
 use Rattle.std.specs.Map.{lookup}
@@ -13,10 +14,10 @@ use Rattle.gb_base.specs.declared.end.End.{End}
 use Rattle.gb_machine.specs.Waiting.{end_before}
 use Rattle.gb_switch.proofs.Places.{end-place, place-end, place-other, place-own, place-same}
 use Rattle.gb_switch.proofs.Places.{places-apart, settled-before}
-use Rattle.gb_switch.specs.Lines.{Agrees, by_place, has_items, line_in, lines_of}
+use Rattle.gb_switch.specs.Lines.{Agrees, Marks, by_place, has_items, line_in, lines_of}
 use Rattle.gb_switch.specs.Places.{end_of, place_of}
-use Rattle.gb_switch.specs.Queues.{Appends, Creates, Destroys, IsFirst, Puts, StaysSame, TakesAs}
-use Rattle.gb_switch.specs.Queues.{items_at}
+use Rattle.gb_switch.specs.Queues.{Appends, Creates, Destroys, IsFirst, Puts, StaysSame, Takes}
+use Rattle.gb_switch.specs.Queues.{TakesAs, items_at}
 use Rattle.gb_switch.specs.declared.place.Place.{Place}
 
 -- what contracts see at an end is what the map has at its place
@@ -155,6 +156,61 @@ restored m n o p v none u t q =
     (λ ne. updated-others n o p None t q ne ∙ updated-others m n p (Some v) u q ne)
     (is-place q p)
 
+-- ---- a queue is written where it stands
+
+-- a queue was at a place, and this one is there now
+record Written {T Z : Type 0} (m n : BTreeMap Place (VecDeque T Z)) (p : Place)
+    (v w : VecDeque T Z) : Type 0 where
+  pub was : line_in m p ≡ Some v.items
+  pub puts : Puts (line_in m) (line_in n) p (Some w.items)
+
+written : {T Z : Type 0} (m n : BTreeMap Place (VecDeque T Z)) (p : Place)
+    (v w : VecDeque T Z) → Some v ≡ get by_place m p → WritesThrough by_place (by_place p) m w n
+    → Written m n p v w
+written {T} {Z} m n p v w there through = record {
+  was = sym (ap (option_map (λ q. q.items)) there);
+  puts = record {
+    here = updated-here m n p (Some w) change;
+    others = updated-others m n p (Some w) change;
+  };
+}
+  where
+    change : Updated m n p (Some w)
+    change = (through.3 (subst (λ (o : Option (VecDeque T Z)). IsSome o) there refl)).0
+
+-- its place is marked as it is now
+pub agrees-written : {T Z : Type 0} (m n : BTreeMap Place (VecDeque T Z))
+    (before after : BTreeSet Place) (p : Place) (v w : VecDeque T Z)
+    → Some v ≡ get by_place m p → WritesThrough by_place (by_place p) m w n
+    → Marks before after p (has_items (Some w.items)) → Agrees m before → Agrees n after
+agrees-written m n before after p v w there through marks a q =
+    let x = written m n p v w there through in
+    ⊎_elim
+    (λ e.
+    ap (contains by_place after) e ∙ marks.here
+    ∙ sym (ap has_items (ap (line_in n) e ∙ x.puts.here)))
+    (λ ne. marks.others q ne ∙ a q ∙ sym (ap has_items (x.puts.others q ne)))
+    (is-place q p)
+
+-- the same waits there
+same-written : {T Z : Type 0} (m n : BTreeMap Place (VecDeque T Z)) (p : Place)
+    (v w : VecDeque T Z) → Written m n p v w → w.items ≡ v.items
+    → (q : Place) → line_in n q ≡ line_in m q
+same-written m n p v w x same q =
+    ⊎_elim
+    (λ e. ap (line_in n) e ∙ x.puts.here ∙ ap Some same ∙ sym (ap (line_in m) e ∙ x.was))
+    (x.puts.others q)
+    (is-place q p)
+
+-- nothing waits where a queue has no items
+idle : {T Z : Type 0} (m : BTreeMap Place (VecDeque T Z)) (p : Place) (v : VecDeque T Z)
+    → line_in m p ≡ Some v.items → length v.items ≡ 0 → has_items (line_in m p) ≡ false
+idle {T} m p v was none = ap has_items was ∙ by v.items none
+  where
+    by : (xs : List T) → length xs ≡ 0 → has_items (Some xs) ≡ false
+    by [] e = refl
+    by (x ∷ xs) e = absurd (omega arith)
+
 -- ---- from places to ends
 
 pub stays : {T Z : Type 0} (x y : List (Place × List T)) (m n : BTreeMap Place (VecDeque T Z))
@@ -191,44 +247,80 @@ destroys x y z a b u t = record {
   others = λ at ne_a ne_b. t.others at ne_b ∙ u.others at ne_a;
 }
 
-pub appends : {T Z : Type 0} (x y : List (Place × List T)) (m n : BTreeMap Place (VecDeque T Z))
-    (at : End) (p : Place) (item : T)
-    → lines_of m.entries ≡ x → lines_of n.entries ≡ y → p ≡ place_of at
-    → Appends (line_in m) (line_in n) p item → Appends (items_at x) (items_at y) at item
-appends x y m n at p item is-x is-y is-p w = record {
-  before = w.before;
-  was = items-line x m is-x at ∙ ap (line_in m) (sym is-p) ∙ w.was;
-  puts = puts x y m n at p (Some (w.before ++ item ∷ [])) is-x is-y is-p w.puts;
-}
-
 pub appends-as : {T Z E : Type 0} (x y : List (Place × List T))
-    (m n : BTreeMap Place (VecDeque T Z)) (at : End) (p : Place) (item : T) (r : Result Unit E)
+    (m n : BTreeMap Place (VecDeque T Z)) (at : End) (p : Place) (v w : VecDeque T Z) (item : T)
+    (r : Result Unit E)
     → lines_of m.entries ≡ x → lines_of n.entries ≡ y → p ≡ place_of at
-    → OnOk r (Appends (line_in m) (line_in n) p item)
+    → Some v ≡ get by_place m p → WritesThrough by_place (by_place p) m w n
+    → OnOk r (w.items ≡ v.items ++ item ∷ [])
     → OnOk r (Appends (items_at x) (items_at y) at item)
-appends-as x y m n at p item (Ok u) is-x is-y is-p w = appends x y m n at p item is-x is-y is-p w
-appends-as x y m n at p item (Err e) is-x is-y is-p w = tt
+appends-as x y m n at p v w item (Ok u) is-x is-y is-p there through is =
+    let z = written m n p v w there through in
+    record {
+      before = v.items;
+      was = items-line x m is-x at ∙ ap (line_in m) (sym is-p) ∙ z.was;
+      puts =
+          puts x y m n at p (Some (v.items ++ item ∷ [])) is-x is-y is-p
+          (subst (λ l. Puts (line_in m) (line_in n) p (Some l)) is z.puts);
+    }
+appends-as x y m n at p v w item (Err e) is-x is-y is-p there through is = tt
 
 pub stays-as : {T Z E : Type 0} (x y : List (Place × List T))
-    (m n : BTreeMap Place (VecDeque T Z)) (r : Result Unit E)
+    (m n : BTreeMap Place (VecDeque T Z)) (p : Place) (v w : VecDeque T Z) (r : Result Unit E)
     → lines_of m.entries ≡ x → lines_of n.entries ≡ y
-    → OnErr r ((p : Place) → line_in n p ≡ line_in m p) → OnErr r (StaysSame x y)
-stays-as x y m n (Ok u) is-x is-y same = tt
-stays-as x y m n (Err e) is-x is-y same = stays x y m n is-x is-y same
+    → Some v ≡ get by_place m p → WritesThrough by_place (by_place p) m w n
+    → OnErr r (w.items ≡ v.items) → OnErr r (StaysSame x y)
+stays-as x y m n p v w (Ok u) is-x is-y there through same = tt
+stays-as x y m n p v w (Err e) is-x is-y there through same =
+    stays x y m n is-x is-y (same-written m n p v w (written m n p v w there through) same)
 
-pub takes-as : {T Z : Type 0} (x y : List (Place × List T)) (m n : BTreeMap Place (VecDeque T Z))
-    (at : End) (p : Place) (r : Option T)
+pub takes : {T Z : Type 0} (x y : List (Place × List T)) (m n : BTreeMap Place (VecDeque T Z))
+    (at : End) (p : Place) (v w : VecDeque T Z) (item : T)
+    → lines_of m.entries ≡ x → p ≡ place_of at
+    → Some v ≡ get by_place m p → WritesThrough by_place (by_place p) m w n
+    → v.items ≡ item ∷ w.items
+    → lines_of n.entries ≡ y → Takes (items_at x) (items_at y) at item
+takes x y m n at p v w item is-x is-p there through is is-y =
+    let z = written m n p v w there through in
+    record {
+      behind = w.items;
+      was = items-line x m is-x at ∙ ap (line_in m) (sym is-p) ∙ z.was ∙ ap Some is;
+      puts = puts x y m n at p (Some w.items) is-x is-y is-p z.puts;
+    }
+
+-- nothing waited at an end, and all is as it was
+takes-nothing : {T Z : Type 0} (x y : List (Place × List T))
+    (m n : BTreeMap Place (VecDeque T Z)) (at : End) (p : Place) (r : Option T)
     → lines_of m.entries ≡ x → lines_of n.entries ≡ y → p ≡ place_of at
-    → TakesAs (line_in m) (line_in n) p r → TakesAs (items_at x) (items_at y) at r
-takes-as x y m n at p None is-x is-y is-p w = (
-  ap has_items (items-line x m is-x at ∙ ap (line_in m) (sym is-p)) ∙ w.0,
-  λ other. stays x y m n is-x is-y w.1 other,
-)
-takes-as x y m n at p (Some item) is-x is-y is-p w = record {
-  behind = w.behind;
-  was = items-line x m is-x at ∙ ap (line_in m) (sym is-p) ∙ w.was;
-  puts = puts x y m n at p (Some w.behind) is-x is-y is-p w.puts;
-}
+    → has_items (line_in m p) ≡ false → ((q : Place) → line_in n q ≡ line_in m q) → r ≡ None
+    → TakesAs (items_at x) (items_at y) at r
+takes-nothing x y m n at p r is-x is-y is-p none same is =
+    subst (TakesAs (items_at x) (items_at y) at) (sym is) (
+      ap has_items (items-line x m is-x at ∙ ap (line_in m) (sym is-p)) ∙ none,
+      stays x y m n is-x is-y same,
+    )
+
+-- no queue was there
+pub takes-nowhere : {T Z : Type 0} (x y : List (Place × List T))
+    (m n : BTreeMap Place (VecDeque T Z)) (at : End) (p : Place) (r : Option T)
+    → lines_of m.entries ≡ x → lines_of n.entries ≡ y → p ≡ place_of at
+    → None ≡ get by_place m p → n ≡ m → r ≡ None → TakesAs (items_at x) (items_at y) at r
+takes-nowhere {T} {Z} x y m n at p r is-x is-y is-p there same is =
+    takes-nothing x y m n at p r is-x is-y is-p
+    (ap (λ (o : Option (VecDeque T Z)). has_items (option_map (λ q. q.items) o)) (sym there))
+    (λ q. ap (λ k. line_in k q) same) is
+
+-- or an empty one was
+pub takes-none : {T Z : Type 0} (x y : List (Place × List T))
+    (m n : BTreeMap Place (VecDeque T Z)) (at : End) (p : Place) (v w : VecDeque T Z)
+    (r : Option T)
+    → lines_of m.entries ≡ x → lines_of n.entries ≡ y → p ≡ place_of at
+    → Some v ≡ get by_place m p → WritesThrough by_place (by_place p) m w n
+    → length v.items ≡ 0 → v.items ≡ w.items → r ≡ None → TakesAs (items_at x) (items_at y) at r
+takes-none x y m n at p v w r is-x is-y is-p there through none same is =
+    let z = written m n p v w there through in
+    takes-nothing x y m n at p r is-x is-y is-p (idle m p v z.was none)
+    (same-written m n p v w z (sym same)) is
 
 -- ---- the first end where an item waits
 

@@ -2,21 +2,20 @@
 
 ghost use Rattle.std.specs.Prelude.{
   ◌≡◌,
-  ◌≢◌,
   Option,
   Some,
   None,
   [],
   ◌∷◌,
+  ◌++◌,
   IfErr,
   OnErr,
   OnOk,
-  not,
   length,
-  option_and_then,
   option_map,
 };
 ghost use Rattle.gb_switch.specs.declared.place.Place.{Place};
+ghost use Rattle.std.specs.BTreeSet.{contains};
 ghost use Rattle.gb_switch.specs.Queues.{
   Appends,
   Creates,
@@ -27,7 +26,7 @@ ghost use Rattle.gb_switch.specs.Queues.{
   TakesAs,
   items_at,
 };
-ghost use Rattle.gb_switch.specs.Lines.{has_items, line_in};
+ghost use Rattle.gb_switch.specs.Lines.{Marks, by_place, has_items};
 
 use crate::Place;
 use gb_base::{End, OutOfMemory};
@@ -115,14 +114,10 @@ impl<T: Drop> Queues<T> {
         ensures unchanged { OnErr result (StaysSame self.old self.new) }
     {
         let place = Place::of(at);
-        if self.waiting.insert(place).is_err() {
+        let Some(queue) = self.queues.get_mut(&place) else {
             return Err(item);
-        }
-        let pushed = append(&mut self.queues, place, item);
-        if is_idle(&self.queues, place) {
-            self.waiting.remove(&place);
-        }
-        pushed
+        };
+        append(queue, &mut self.waiting, place, item)
     }
 
     /// Takes the front item of an end's queue. None comes where there is none.
@@ -130,11 +125,12 @@ impl<T: Drop> Queues<T> {
         ensures { TakesAs (items_at self.old) (items_at self.new) at result }
     {
         let place = Place::of(at);
-        let front = take_front(&mut self.queues, place);
-        if is_idle(&self.queues, place) {
+        let queue = self.queues.get_mut(&place)?;
+        let front = queue.pop_front()?;
+        if queue.is_empty() {
             self.waiting.remove(&place);
         }
-        front
+        Some(front)
     }
 
     /// How many items wait in an end's queue. None comes where it has no queue.
@@ -154,40 +150,30 @@ impl<T: Drop> Queues<T> {
     }
 }
 
-/// Adds an item at the end of the queue at a place. For want of memory, and where there is no
-/// queue, the item is handed back, and all is as before.
+/// Adds an item at the end of the queue at a place, which is marked where it was empty. For want of
+/// memory the item is handed back, and all is as before.
 fn append<T: Drop>(
-    queues: &mut BTreeMap<Place, VecDeque<T>>,
+    queue: &mut VecDeque<T>,
+    waiting: &mut BTreeSet<Place>,
     place: Place,
     item: T,
 ) -> Result<(), T>
-    ensures pushed { OnOk result (Appends (line_in queues.old) (line_in queues.new) place item) }
+    requires { contains by_place waiting.old place ≡ has_items (Some queue.old.items) }
+    ensures pushed { OnOk result (queue.new.items ≡ queue.old.items ++ item ∷ []) }
     ensures back { IfErr result (λ x. x ≡ item) }
-    ensures unchanged { OnErr result
-        ((p : Place) → line_in queues.new p ≡ line_in queues.old p) }
+    ensures unchanged { OnErr result (queue.new.items ≡ queue.old.items) }
+    ensures marked { Marks waiting.old waiting.new place (has_items (Some queue.new.items)) }
 {
-    let Some(queue) = queues.get_mut(&place) else {
+    if queue.is_empty() && waiting.insert(place).is_err() {
         return Err(item);
-    };
+    }
     match queue.push_back(item) {
         Ok(()) => Ok(()),
-        Err(refused) => Err(refused.value),
-    }
-}
-
-/// Takes the front item of the queue at a place.
-fn take_front<T: Drop>(queues: &mut BTreeMap<Place, VecDeque<T>>, place: Place) -> Option<T>
-    ensures { TakesAs (line_in queues.old) (line_in queues.new) place result }
-{
-    queues.get_mut(&place)?.pop_front()
-}
-
-/// No item is in the queue at a place.
-fn is_idle<T>(queues: &BTreeMap<Place, VecDeque<T>>, place: Place) -> bool
-    ensures { result ≡ not (has_items (line_in queues.now place)) }
-{
-    match queues.get(&place) {
-        Some(queue) => queue.is_empty(),
-        None => true,
+        Err(refused) => {
+            if queue.is_empty() {
+                waiting.remove(&place);
+            }
+            Err(refused.value)
+        }
     }
 }

@@ -1,20 +1,26 @@
 -- An item stands behind what waited, or is handed back.
 use Rattle.std.proofs.Common.{refl}
-use Rattle.gb_switch.proofs.Lines.{appends-as, stays-as}
+use Rattle.gb_switch.proofs.Lines.{agrees-written, appends-as, stays-as}
 use Rattle.gb_switch.proofs.queues.Queues.push.Goals as goal
 
-pub returns-then-is_idle-clause-unchanged : goal.returns-then-is_idle-clause-unchanged
-returns-then-is_idle-clause-unchanged g c =
-    stays-as c.args.self.now _ c.self.inside.queues c.append-pushed.new.queues
-    c.append-pushed.result c.self.view_is refl c.append-pushed.ensures.unchanged
+pub invariant_of-self-2 : goal.invariant_of-self-2
+invariant_of-self-2 g c =
+    agrees-written c.self.inside.queues (c.get_mut.follows.lender c.append.new.queue)
+    c.self.inside.waiting c.append.new.waiting c.of-place.result c.in-Some.queue.now
+    c.append.new.queue c.in-Some.ensures.value (c.get_mut.follows.holds c.append.new.queue)
+    c.append.ensures.marked c.self.invariant
 
-pub returns-else-is_idle-clause-pushed : goal.returns-else-is_idle-clause-pushed
-returns-else-is_idle-clause-pushed g c =
-    appends-as c.args.self.now _ c.self.inside.queues c.append-pushed.new.queues c.args.at
-    c.of-place.result c.args.item c.append-pushed.result c.self.view_is refl c.of-place.ensures
-    c.append-pushed.ensures.pushed
+pub returns-clause-pushed : goal.returns-clause-pushed
+returns-clause-pushed g c =
+    appends-as c.args.self.now _ c.self.inside.queues
+    (c.get_mut.follows.lender c.append.new.queue) c.args.at c.of-place.result
+    c.in-Some.queue.now c.append.new.queue c.args.item c.append.result c.self.view_is refl
+    c.of-place.ensures c.in-Some.ensures.value (c.get_mut.follows.holds c.append.new.queue)
+    c.append.ensures.pushed
 
-pub returns-else-is_idle-clause-unchanged : goal.returns-else-is_idle-clause-unchanged
-returns-else-is_idle-clause-unchanged g c =
-    stays-as c.args.self.now _ c.self.inside.queues c.append-pushed.new.queues
-    c.append-pushed.result c.self.view_is refl c.append-pushed.ensures.unchanged
+pub returns-clause-unchanged : goal.returns-clause-unchanged
+returns-clause-unchanged g c =
+    stays-as c.args.self.now _ c.self.inside.queues
+    (c.get_mut.follows.lender c.append.new.queue) c.of-place.result c.in-Some.queue.now
+    c.append.new.queue c.append.result c.self.view_is refl c.in-Some.ensures.value
+    (c.get_mut.follows.holds c.append.new.queue) c.append.ensures.unchanged
