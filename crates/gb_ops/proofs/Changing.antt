@@ -1,9 +1,7 @@
 -- What the maps and the identifiers come to at each call.
 use Rattle.std.proofs.Common.{◌≡◌, ℕ, Bool, false, Option, Some, None, is_some}
-use Rattle.std.proofs.Common.{option_map, refl}
-use Rattle.std.proofs.Common.{sym, ap, ◌∙◌, subst}
+use Rattle.std.proofs.Common.{option_map, refl, sym, ap, ◌∙◌, subst, arith}
 use Rattle.std.specs.BTreeMap.{BTreeMap, get, is_at}
-use Rattle.std.specs.BTreeSet.{contains}
 use Rattle.std.specs.Map.{lookup}
 use Rattle.std.specs.Ordering.{nat_cmp}
 use Rattle.gb_labels.specs.Drawing.{Frees, IsNext, Takes}
@@ -14,8 +12,7 @@ use Rattle.gb_ops.proofs.Maps.{same_some}
 use Rattle.gb_ops.specs.Calls.{Begins, Closes, Ends}
 use Rattle.gb_ops.specs.Finding.{IsLeast}
 use Rattle.gb_ops.specs.Operations.{Operations, Puts, next_label}
-use Rattle.gb_ops.specs.Tables.{Enters, Kept, Leaves, LeavesAs, MarksAs, ReleasesAs, TimesOthers}
-use Rattle.gb_ops.specs.Tables.{by_deadline}
+use Rattle.gb_ops.specs.Tables.{AllCovered, Enters, Kept, Leaves, LeavesAs, MarksAs, ReleasesAs}
 use Rattle.gb_ops.specs.Tables.{gave_up, holder_in, pending_in}
 use Rattle.gb_ops.specs.declared.entries.Holder.{Holder}
 use Rattle.gb_ops.specs.declared.entries.Pending.{Pending}
@@ -64,7 +61,7 @@ pub record Departs (t u : Tables) (n : ℕ) (p : Pending) (w : Option Holder) : 
   pub there : pending_in t n ≡ Some p
   pub pending : Puts (pending_in t) (pending_in u) n None
   pub holder : Puts (holder_in t) (holder_in u) p.label w
-  pub times : TimesOthers t u n
+  pub covered : AllCovered t → AllCovered u
 
 -- the same through maps with the same entries
 puts_from : {X : Type 0} (f : ℕ → Option X) (m n : BTreeMap ℕ X) (k : ℕ) (w : Option X)
@@ -83,14 +80,12 @@ puts_to f m n k w same p = record {
   others = λ q ne. p.others q ne ∙ ap (λ es. lookup (is_at (nat_cmp q)) es) same;
 }
 
-times_from : (t m u : Tables) (n : ℕ) → u.deadlines ≡ m.deadlines → TimesOthers t m n
-    → TimesOthers t u n
-times_from t m u n same times =
-    λ d k ne. ap (λ s. contains by_deadline s (d, k)) same ∙ times d k ne
-
-times_to : (t m u : Tables) (n : ℕ) → m.deadlines ≡ t.deadlines → TimesOthers m u n
-    → TimesOthers t u n
-times_to t m u n same times = λ d k ne. times d k ne ∙ ap (λ s. contains by_deadline s (d, k)) same
+-- the soonest stays, and what is open
+covered_same : (m u : Tables) → u.pending ≡ m.pending → u.soonest ≡ m.soonest
+    → AllCovered m → AllCovered u
+covered_same m u pending soonest k n p h =
+    let after = k n p (sym (ap (λ b. get nat_cmp b n) pending) ∙ h) in
+    omega (arith, after, soonest)
 
 pub marked : (labels : LabelSet) (t m u : Tables) (n : ℕ) (p : Pending) → Kept labels t
     → Leaves t m n p
@@ -106,7 +101,7 @@ marked labels t m u n p k l w = record {
         (ap (λ es. lookup (is_at (nat_cmp p.label)) es) l.holders ∙ k.held n p l.there);
     others = λ q ne. w.holder.others q ne ∙ ap (λ es. lookup (is_at (nat_cmp q)) es) l.holders;
   };
-  times = times_from t m u n w.deadlines l.times;
+  covered = λ k. covered_same m u w.pending w.soonest (l.covered k);
 }
 
 pub released : (t m u : Tables) (n : ℕ) (p : Pending) (r : Option Holder) → Leaves t m n p
@@ -116,7 +111,7 @@ released t m u n p r l w = record {
   pending = puts_from (pending_in t) m.pending u.pending n None
       (ap (λ b. b.entries) w.pending) l.pending;
   holder = puts_to (holder_in u) t.holders m.holders p.label None l.holders w.holder;
-  times = times_from t m u n w.deadlines l.times;
+  covered = λ k. covered_same m u w.pending w.soonest (l.covered k);
 }
 
 pub given_up_kept : (labels : LabelSet) (t u : Tables) (n : ℕ) (p : Pending) → Kept labels t
@@ -124,7 +119,7 @@ pub given_up_kept : (labels : LabelSet) (t u : Tables) (n : ℕ) (p : Pending) �
 given_up_kept labels t u n p k d =
     left labels labels t u n p (Some (late_holder n)) k d.there d.pending d.holder over
     (record { here = k.used p.label ∙ ap is_some (k.held n p d.there); others = λ q ne. refl })
-    d.times
+    d.covered
   where
     over : (m : ℕ) → Some (late_holder n) ≡ Some (open_holder m) → ⊥
     over m e = let clash = ap (λ x. x.given_up) (same_some (late_holder n) (open_holder m) e) in
@@ -134,7 +129,7 @@ pub ended_kept : (labels after : LabelSet) (t u : Tables) (n : ℕ) (p : Pending
     → Departs t u n p None → Frees labels after p.label → Kept after u
 ended_kept labels after t u n p k d f =
     left labels after t u n p None k d.there d.pending d.holder
-    (λ m e. absurd (cc e)) f.marks d.times
+    (λ m e. absurd (cc e)) f.marks d.covered
 
 pub ends : (labels after : LabelSet) (t u : Tables) (x : Operations) (label n : ℕ) (p : Pending)
     → Kept labels t
@@ -218,7 +213,7 @@ answered labels t m u label h r k w shut l =
         holder =
             subst (λ x. Puts (holder_in t) (holder_in u) x None) (sym is.label_is)
             (puts_from (holder_in t) m.holders u.holders label None away.holders w.holder);
-        times = times_to t m u h.number w.deadlines away.times;
+        covered = λ k. away.covered (covered_same t m w.pending w.soonest k);
       };
     }
 

@@ -1,20 +1,18 @@
 -- The least request whose deadline came.
 use Rattle.std.proofs.Common.{◌≡◌, ◌≢◌, ◌<◌, ◌≤◌, ℕ, Bool, true, false, cond, ◌⊎◌, inl, inr, Option}
 use Rattle.std.proofs.Common.{Some}
-use Rattle.std.proofs.Common.{None, List, [], ◌∷◌, length, sym, ap, ◌∙◌, arith, leb}
+use Rattle.std.proofs.Common.{None, List, [], ◌∷◌, sym, ap, ◌∙◌, arith, leb}
 use Rattle.std.proofs.lemmas.Bool.{cases_eq}
 use Rattle.std.proofs.lemmas.Bool.Decides.{nat_tests}
-use Rattle.std.proofs.lemmas.Map.Keys.{le_from_not_gt, sorted_head, sorted_tail}
+use Rattle.std.proofs.lemmas.Map.Keys.{sorted_head, sorted_tail}
 use Rattle.std.specs.BTreeMap.{is_at}
-use Rattle.std.specs.List.{AllByRecursion, list_any}
+use Rattle.std.specs.List.{AllByRecursion}
 use Rattle.std.specs.List.Sorted.{IsStrictlySortedBy}
 use Rattle.std.specs.Map.{keys_of, lookup}
-use Rattle.std.proofs.Common.{Equal, Greater, Less}
-use Rattle.std.specs.declared.cmp.Ordering.{Ordering}
-use Rattle.std.specs.Ordering.{is_gt, nat_cmp, ordering_then}
+use Rattle.std.proofs.Common.{Less}
+use Rattle.std.specs.Ordering.{nat_cmp}
 use Rattle.gb_ops.proofs.Maps.{key_other, key_same, same_some}
 use Rattle.gb_ops.specs.Finding.{FindsDue, IsLeastDue, due_in}
-use Rattle.gb_ops.specs.Tables.{by_deadline}
 use Rattle.gb_ops.specs.declared.entries.Pending.{Pending}
 
 -- what entries have at a number
@@ -101,23 +99,3 @@ finds_due now (e ∷ es) s =
     by false is rec all =
         skips now e es (let late : now < e.1.deadline = grind (arith, nat_tests) in late) all
         (due_in now es) rec
-
--- ---- the least deadline
-
-first_not_gt : (a b : Ordering) → is_gt (ordering_then a b) ≡ false → is_gt a ≡ false
-first_not_gt Less b h = λ i. false
-first_not_gt Equal b h = λ i. false
-first_not_gt Greater b h = h
-
--- no deadline is before the least
-pub later : (d n c m now : ℕ) → is_gt (by_deadline (d, n) (c, m)) ≡ false → leb d now ≡ false
-    → now < c
-later d n c m now h none =
-    let up = le_from_not_gt d c (first_not_gt (nat_cmp d c) (nat_cmp n m) h) in
-    let past : now < d = grind (arith, nat_tests) in
-    omega (arith, up, past)
-
-pub none_timed : {K : Type 0} (test : K → Bool) (ks : List K) → (0 < length ks → ⊥)
-    → list_any test ks ≡ false
-none_timed test [] h = λ i. false
-none_timed test (k ∷ ks) h = absurd (h (omega arith))

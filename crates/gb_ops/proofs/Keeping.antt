@@ -1,13 +1,12 @@
 -- What is kept stays so at each change.
-use Rattle.std.proofs.Common.{◌≡◌, ◌≢◌, ℕ, Bool, true, false, ◌⊎◌, inl, inr, Option, Some, None}
-use Rattle.std.proofs.Common.{is_some}
-use Rattle.std.proofs.Common.{option_map, sym, ap, ◌∙◌}
+use Rattle.std.proofs.Common.{◌≡◌, ℕ, Bool, true, false, ◌⊎◌, inl, inr, Option, Some, None}
+use Rattle.std.proofs.Common.{is_some, option_map, sym, ap, ◌∙◌}
 use Rattle.std.proofs.lemmas.Bool.{cases_eq}
 use Rattle.gb_labels.specs.Drawing.{Marks, Takes}
 use Rattle.gb_labels.specs.LabelSet.{LabelSet, is_in_use}
 use Rattle.gb_ops.proofs.Maps.{same_some}
 use Rattle.gb_ops.specs.Operations.{Puts}
-use Rattle.gb_ops.specs.Tables.{Enters, Kept, TimesOthers, holder_in, is_timed, pending_in}
+use Rattle.gb_ops.specs.Tables.{AllCovered, Enters, Kept, holder_in, pending_in}
 use Rattle.gb_ops.specs.declared.entries.Holder.{Holder}
 use Rattle.gb_ops.specs.declared.entries.Pending.{Pending}
 use Rattle.gb_ops.specs.declared.tables.Tables.{Tables}
@@ -39,13 +38,6 @@ holder_number : (l m n : ℕ) (t : Tables) → holder_in t l ≡ Some (open_hold
 holder_number l m n t a b =
     ap (λ h. h.number) (same_some (open_holder m) (open_holder n) (sym a ∙ b))
 
--- deadlines stand when one request changes that isn't among the open ones afterwards
-covered_after : (t u : Tables) (n : ℕ)
-    → ((m : ℕ) (p : Pending) → pending_in t m ≡ Some p → is_timed t p.deadline m ≡ true)
-    → TimesOthers t u n → (m : ℕ) (p : Pending) → m ≢ n → pending_in t m ≡ Some p
-    → is_timed u p.deadline m ≡ true
-covered_after t u n kept times m p ne h = times p.deadline m ne ∙ kept m p h
-
 -- A request is begun.
 pub begun : (old new : LabelSet) (t u : Tables) (label n d : ℕ) → Kept old t
     → holder_in t label ≡ None
@@ -54,7 +46,7 @@ begun old new t u label n d k unheld unknown e w = record {
   used = used_after old new t u label true _ (λ i. true) k.used w.marks e.holder;
   held = λ m p h. held m p h (cases_eq m n);
   opened = λ l m h. opened l m h (cases_eq l label);
-  covered = λ m p h. covered m p h (cases_eq m n);
+  covered = e.covered k.covered;
 }
   where
     entered : Pending
@@ -87,26 +79,18 @@ begun old new t u label n d k unheld unknown e w = record {
         (cc (before, ap (option_map (λ p. p.label)) (ap (pending_in t) is ∙ unknown)))))
         ∙ before
 
-    covered : (m : ℕ) (p : Pending) → pending_in u m ≡ Some p → (m ≡ n) ⊎ (m ≡ n → ⊥)
-        → is_timed u p.deadline m ≡ true
-    covered m p h (inl is) =
-        ap (λ x. is_timed u x.deadline m) (sym (is_entered m p h is)) ∙ ap (is_timed u d) is
-        ∙ e.timed
-    covered m p h (inr ne) =
-        covered_after t u n k.covered e.times m p ne (sym (e.pending.others m ne) ∙ h)
-
 -- An open request is open no more, and its identifier is given something else that isn't an open
 -- request, or nothing.
 pub left : (old new : LabelSet) (t u : Tables) (n : ℕ) (p : Pending) (w : Option Holder)
     → Kept old t
     → pending_in t n ≡ Some p → Puts (pending_in t) (pending_in u) n None
     → Puts (holder_in t) (holder_in u) p.label w → ((m : ℕ) → w ≡ Some (open_holder m) → ⊥)
-    → Marks old new p.label (is_some w) → TimesOthers t u n → Kept new u
-left old new t u n p w k there pending holder over marks times = record {
+    → Marks old new p.label (is_some w) → (AllCovered t → AllCovered u) → Kept new u
+left old new t u n p w k there pending holder over marks covered = record {
   used = used_after old new t u p.label (is_some w) w (λ i. is_some w) k.used marks holder;
   held = λ m q h. held m q h (cases_eq m n);
   opened = λ l m h. opened l m h (cases_eq l p.label);
-  covered = λ m q h. covered m q h (cases_eq m n);
+  covered = covered k.covered;
 }
   where
     gone : (m : ℕ) (q : Pending) → pending_in u m ≡ Some q → m ≡ n → ⊥
@@ -133,39 +117,3 @@ left old new t u n p w k there pending holder over marks times = record {
         (ap (option_map (λ q. q.label)) (sym there ∙ ap (pending_in t) (sym is))
         ∙ before)))))
         ∙ before
-
-    covered : (m : ℕ) (q : Pending) → pending_in u m ≡ Some q → (m ≡ n) ⊎ (m ≡ n → ⊥)
-        → is_timed u q.deadline m ≡ true
-    covered m q h (inl is) = absurd (gone m q h is)
-    covered m q h (inr ne) =
-        covered_after t u n k.covered times m q ne (sym (pending.others m ne) ∙ h)
-
--- A request that was given up is forgotten.
-pub forgotten : (old new : LabelSet) (t u : Tables) (label n : ℕ) → Kept old t
-    → holder_in t label ≡ Some (late_holder n)
-    → Puts (holder_in t) (holder_in u) label None → u.pending ≡ t.pending
-    → u.deadlines ≡ t.deadlines
-    → Marks old new label false → Kept new u
-forgotten old new t u label n k late holder pending deadlines marks = record {
-  used = used_after old new t u label false None (λ i. false) k.used marks holder;
-  held = λ m p h.
-      let before = k.held m p (sym (same m) ∙ h) in
-      holder.others p.label (λ is. apart m (sym before ∙ ap (holder_in t) is ∙ late)) ∙ before;
-  opened = λ l m h. opened l m h (cases_eq l label);
-  covered = λ m p h.
-      ap (λ s. is_timed (record u { deadlines = s }) p.deadline m) deadlines
-      ∙ k.covered m p (sym (same m) ∙ h);
-}
-  where
-    apart : (m : ℕ) → Some (open_holder m) ≡ Some (late_holder n) → ⊥
-    apart m e = let clash = ap (λ x. x.given_up) (same_some (open_holder m) (late_holder n) e) in
-        absurd (cc clash)
-
-    same : (m : ℕ) → pending_in u m ≡ pending_in t m
-    same m = ap (λ s. pending_in (record u { pending = s }) m) pending
-
-    opened : (l m : ℕ) → holder_in u l ≡ Some (open_holder m) → (l ≡ label) ⊎ (l ≡ label → ⊥)
-        → option_map (λ q. q.label) (pending_in u m) ≡ Some l
-    opened l m h (inl is) = absurd (cc (h, ap (holder_in u) is, holder.here))
-    opened l m h (inr ne) =
-        ap (option_map (λ q. q.label)) (same m) ∙ k.opened l m (sym (holder.others l ne) ∙ h)

@@ -1,18 +1,13 @@
--- Changes at one key of an ordered map, and of the deadlines.
-use Rattle.std.proofs.Common.{◌≡◌, ◌≢◌, ℕ, Bool, true, false, cond, ◌⊎◌, inl, inr, Option, Some}
-use Rattle.std.proofs.Common.{None}
+-- Changes at one key of an ordered map.
+use Rattle.std.proofs.Common.{◌≡◌, ◌≢◌, ℕ, true, false, cond, ◌⊎◌, inl, inr, Option, Some, None}
 use Rattle.std.proofs.Common.{sym, ap, ◌∙◌, arith, unwrap_or}
 use Rattle.std.proofs.lemmas.Bool.{cases_eq}
 use Rattle.std.proofs.lemmas.Bool.Decides.{nat_tests}
 use Rattle.std.proofs.lemmas.Cmp.{nat_cmp_total}
 use Rattle.std.proofs.lemmas.Map.Lookups.{btree_map_from_get, exact_unsigned}
 use Rattle.std.specs.BTreeMap.{BTreeMap, IsOrdered, get, is_at}
-use Rattle.std.specs.BTreeSet.{BTreeSet, contains}
-use Rattle.std.proofs.Common.{Equal, Greater, Less}
-use Rattle.std.specs.declared.cmp.Ordering.{Ordering}
-use Rattle.std.specs.Ordering.{is_eq, nat_cmp, ordering_then}
+use Rattle.std.specs.Ordering.{is_eq, nat_cmp}
 use Rattle.gb_ops.specs.Operations.{Puts}
-use Rattle.gb_ops.specs.Tables.{by_deadline}
 
 pub same_some : {A : Type 0} (x y : A) → Some x ≡ Some y → x ≡ y
 same_some x y e = ap (λ o. unwrap_or o x) e
@@ -27,7 +22,7 @@ key_other a b e = grind (arith, nat_tests)
 abbrev pub Updated : {X : Type 0} → BTreeMap ℕ X → BTreeMap ℕ X → ℕ → Option X → Type 0
 Updated m n k w = (q : ℕ) → get nat_cmp n q ≡ cond (is_at (nat_cmp k) q) w (get nat_cmp m q)
 
-pub puts : {X : Type 0} (m n : BTreeMap ℕ X) (k : ℕ) (w : Option X) → Updated m n k w
+puts : {X : Type 0} (m n : BTreeMap ℕ X) (k : ℕ) (w : Option X) → Updated m n k w
     → Puts (λ q. get nat_cmp m q) (λ q. get nat_cmp n q) k w
 puts m n k w u = record {
   here = u k ∙ ap (λ t. cond t w (get nat_cmp m k)) (key_same k k (λ i. k));
@@ -50,34 +45,3 @@ restored m between n k w absent u v s t =
             ap (λ x. get nat_cmp n x) e ∙ (puts between n k None v).here ∙ sym absent
             ∙ ap (λ x. get nat_cmp m x) (sym e)
         by (inr ne) = (puts between n k None v).others q ne ∙ (puts m between k w u).others q ne
-
--- a deadline with another number is another
-second_other : (a b : Ordering) → is_eq b ≡ false → is_eq (ordering_then a b) ≡ false
-second_other Less b e = λ i. false
-second_other Equal b e = e
-second_other Greater b e = λ i. false
-
-both_same : (a b : Ordering) → is_eq a ≡ true → is_eq b ≡ true → is_eq (ordering_then a b) ≡ true
-both_same Less b d e = d
-both_same Equal b d e = e
-both_same Greater b d e = d
-
--- what the deadlines have after a change at one
-abbrev pub Retimed : BTreeSet (ℕ × ℕ) → BTreeSet (ℕ × ℕ) → ℕ → ℕ → Bool → Type 0
-Retimed s t d n w =
-    (q : ℕ × ℕ)
-    → contains by_deadline t q ≡ cond (is_at (by_deadline (d, n)) q) w
-    (contains by_deadline s q)
-
-pub time_here : (s t : BTreeSet (ℕ × ℕ)) (d n : ℕ) (w : Bool) → Retimed s t d n w
-    → contains by_deadline t (d, n) ≡ w
-time_here s t d n w u =
-    u (d, n) ∙ ap (λ b. cond b w (contains by_deadline s (d, n)))
-    (both_same (nat_cmp d d) (nat_cmp n n) (key_same d d (λ i. d)) (key_same n n (λ i. n)))
-
-pub time_others : (s t : BTreeSet (ℕ × ℕ)) (d n : ℕ) (w : Bool) → Retimed s t d n w → (c m : ℕ)
-    → m ≢ n
-    → contains by_deadline t (c, m) ≡ contains by_deadline s (c, m)
-time_others s t d n w u c m ne =
-    u (c, m) ∙ ap (λ b. cond b w (contains by_deadline s (c, m)))
-    (second_other (nat_cmp d c) (nat_cmp n m) (key_other n m (λ e. ne (sym e))))

@@ -1,10 +1,8 @@
 -- What the ordered maps keep, and what their calls do.
-use Rattle.std.specs.Prelude.{◌≡◌, ◌≢◌, ℕ, Bool, true, false, Option, Some, None, is_some}
+use Rattle.std.specs.Prelude.{◌≡◌, ◌≤◌, ℕ, true, false, Option, Some, None, is_some}
 use Rattle.std.specs.Prelude.{option_map, IsNone, []}
 use Rattle.std.specs.BTreeMap.{get}
-use Rattle.std.specs.BTreeSet.{contains}
-use Rattle.std.specs.Ordering.{nat_cmp, ordering_then}
-use Rattle.std.specs.declared.cmp.Ordering.{Ordering}
+use Rattle.std.specs.Ordering.{nat_cmp}
 use Rattle.gb_labels.specs.LabelSet.{LabelSet, is_in_use}
 use Rattle.gb_ops.specs.Operations.{Puts}
 use Rattle.gb_ops.specs.declared.entries.Holder.{Holder}
@@ -19,26 +17,14 @@ holder_in t label = get nat_cmp t.holders label
 abbrev pub pending_in : Tables → ℕ → Option Pending
 pending_in t n = get nat_cmp t.pending n
 
--- the order of deadlines with their numbers
-abbrev pub by_deadline : ℕ × ℕ → ℕ × ℕ → Ordering
-by_deadline x y = ordering_then (nat_cmp x.0 y.0) (nat_cmp x.1 y.1)
-
--- a deadline stands with a number
-abbrev pub is_timed : Tables → ℕ → ℕ → Bool
-is_timed t deadline n = contains by_deadline t.deadlines (deadline, n)
-
 -- nothing is kept
 pub record IsEmpty (t : Tables) : Type 0 where
   pub holders : t.holders.entries ≡ []
   pub pending : t.pending.entries ≡ []
 
--- the deadline of each open request stands with its number
+-- no deadline of an open request is before the soonest that is kept
 abbrev pub AllCovered : Tables → Type 0
-AllCovered t = (n : ℕ) (p : Pending) → pending_in t n ≡ Some p → is_timed t p.deadline n ≡ true
-
--- the deadlines of all but one stand as they stood
-abbrev pub TimesOthers : Tables → Tables → ℕ → Type 0
-TimesOthers old new n = (d m : ℕ) → m ≢ n → is_timed new d m ≡ is_timed old d m
+AllCovered t = (n : ℕ) (p : Pending) → pending_in t n ≡ Some p → t.soonest ≤ p.deadline
 
 -- a request is open
 pub record Enters (old new : Tables) (label n deadline : ℕ) : Type 0 where
@@ -46,41 +32,26 @@ pub record Enters (old new : Tables) (label n deadline : ℕ) : Type 0 where
       (Some (record { number = n; given_up = false }))
   pub pending : Puts (pending_in old) (pending_in new) n
       (Some (record { label = label; deadline = deadline }))
-  pub timed : is_timed new deadline n ≡ true
-  pub times : TimesOthers old new n
-
--- a request has its number and its identifier
-pub record Adds (old new : Tables) (label n deadline : ℕ) : Type 0 where
-  pub holder : Puts (holder_in old) (holder_in new) label
-      (Some (record { number = n; given_up = false }))
-  pub pending : Puts (pending_in old) (pending_in new) n
-      (Some (record { label = label; deadline = deadline }))
-  pub deadlines : new.deadlines ≡ old.deadlines
+  pub covered : AllCovered old → AllCovered new
 
 -- all is as it was
 pub record IsUnchanged (old new : Tables) : Type 0 where
   pub holders : new.holders.entries ≡ old.holders.entries
   pub pending : new.pending.entries ≡ old.pending.entries
-  pub deadlines : new.deadlines ≡ old.deadlines
-
--- all is as it was, but for the deadlines of a request that isn't open
-pub record StaysSame (old new : Tables) (n : ℕ) : Type 0 where
-  pub holders : new.holders.entries ≡ old.holders.entries
-  pub pending : new.pending.entries ≡ old.pending.entries
-  pub times : TimesOthers old new n
+  pub soonest : new.soonest ≡ old.soonest
 
 -- an open request is open no more
 pub record Leaves (old new : Tables) (n : ℕ) (p : Pending) : Type 0 where
   pub there : pending_in old n ≡ Some p
   pub pending : Puts (pending_in old) (pending_in new) n None
   pub holders : new.holders.entries ≡ old.holders.entries
-  pub times : TimesOthers old new n
+  pub covered : AllCovered old → AllCovered new
 
 -- or it wasn't open
 abbrev pub LeavesAs : Tables → Tables → ℕ → Option Pending → Type 0
 LeavesAs old new n (Some p) = Leaves old new n p
 LeavesAs old new n None = (pending_in old n ≡ None) × (new.pending.entries ≡ old.pending.entries)
-    × (new.holders.entries ≡ old.holders.entries) × (new.deadlines ≡ old.deadlines)
+    × (new.holders.entries ≡ old.holders.entries) × (new.soonest ≡ old.soonest)
 
 -- nothing has an identifier any more
 pub record ReleasesAs (old new : Tables) (label : ℕ) (result : Option Holder) : Type 0 where
@@ -88,7 +59,7 @@ pub record ReleasesAs (old new : Tables) (label : ℕ) (result : Option Holder) 
   pub holder : Puts (holder_in old) (holder_in new) label None
   pub same : IsNone result → new.holders.entries ≡ old.holders.entries
   pub pending : new.pending ≡ old.pending
-  pub deadlines : new.deadlines ≡ old.deadlines
+  pub soonest : new.soonest ≡ old.soonest
 
 -- what an identifier is in use for, given up
 abbrev pub gave_up : Holder → Holder
@@ -98,12 +69,13 @@ gave_up h = record h { given_up = true }
 pub record MarksAs (old new : Tables) (label : ℕ) : Type 0 where
   pub holder : Puts (holder_in old) (holder_in new) label (option_map gave_up (holder_in old label))
   pub pending : new.pending ≡ old.pending
-  pub deadlines : new.deadlines ≡ old.deadlines
+  pub soonest : new.soonest ≡ old.soonest
 
 -- ---- what holds of them always
 
 -- Identifiers are in use as they are marked; an open request has its identifier, and an identifier
--- that is in use for an open request is that one's; the deadline of each open request stands.
+-- that is in use for an open request is that one's; no deadline of an open request is before the
+-- soonest.
 pub record Kept (labels : LabelSet) (t : Tables) : Type 0 where
   pub used : (label : ℕ) → is_in_use labels label ≡ is_some (holder_in t label)
   pub held : (n : ℕ) (p : Pending) → pending_in t n ≡ Some p

@@ -132,9 +132,9 @@ impl Ops {
         Ok(numbers)
     }
 
-    /// The open request with the least number whose deadline came. Where none has, it looks at the
-    /// least deadline alone; else it goes over the open requests in order of number up to the first
-    /// whose deadline came.
+    /// The open request with the least number whose deadline came. It answers at once where no
+    /// deadline has come of those that were begun since none was open; else it goes over the open
+    /// requests in order of number, up to the first whose deadline came, or over all.
     pub fn first_due(&self, now: u64) -> Option<u64>
         ensures { FindsDue (pending_at self.now) now result }
     {

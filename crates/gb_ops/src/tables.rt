@@ -1,14 +1,13 @@
-//! Requests by identifier, by number and by deadline.
+//! Requests by identifier and by number.
 
-ghost use Rattle.std.specs.Prelude.{◌≡◌, None, [], IfOk, OnErr, OnOk, false, is_some};
+ghost use Rattle.std.specs.Prelude.{◌≡◌, None, [], IfOk, OnErr, OnOk, is_some};
 ghost use Rattle.std.specs.BTreeMap.{IsOrdered};
 ghost use Rattle.std.specs.List.Sorted.{IsStrictlySortedBy};
 ghost use Rattle.std.specs.Map.{keys_of};
 ghost use Rattle.std.specs.Ordering.{nat_cmp};
-ghost use Rattle.gb_ops.specs.Finding.{FindsDue, FindsLeast, NoneDue, due_in};
+ghost use Rattle.gb_ops.specs.Finding.{FindsDue, FindsLeast, due_in};
 ghost use Rattle.gb_ops.specs.Listed.{late_among};
 ghost use Rattle.gb_ops.specs.Tables.{
-  Adds,
   AllCovered,
   Enters,
   IsEmpty,
@@ -16,7 +15,6 @@ ghost use Rattle.gb_ops.specs.Tables.{
   LeavesAs,
   MarksAs,
   ReleasesAs,
-  StaysSame,
   holder_in,
   pending_in,
 };
@@ -33,8 +31,8 @@ pub struct Tables {
     pub holders: BTreeMap<u16, Holder>,
     /// By number, those that are open.
     pub pending: BTreeMap<u64, Pending>,
-    /// The deadlines of those that are open, with their numbers.
-    pub deadlines: BTreeSet<(u64, u64)>,
+    /// No deadline of those that are open is before it, in milliseconds.
+    pub soonest: u64,
 }
 
 impl Tables {
@@ -45,31 +43,14 @@ impl Tables {
         Tables {
             holders: BTreeMap::new(alloc),
             pending: BTreeMap::new(alloc),
-            deadlines: BTreeSet::new(alloc),
+            soonest: u64::MAX,
         }
     }
 
-    /// A request is open. It wasn't before. After want
-    /// of memory all is as before.
+    /// A request is open. It wasn't before. After want of memory all is as before.
     pub fn enter(&mut self, label: u16, n: u64, deadline: u64) -> Result<(), OutOfMemory>
         requires { pending_in self.old n ≡ None }
         ensures entered { OnOk result (Enters self.old self.new label n deadline) }
-        ensures unchanged { OnErr result (StaysSame self.old self.new n) }
-    {
-        self.deadlines.insert((deadline, n))?;
-        match self.add(label, n, deadline) {
-            Ok(()) => Ok(()),
-            Err(refused) => {
-                self.deadlines.remove(&(deadline, n));
-                Err(refused)
-            }
-        }
-    }
-
-    /// A request has its number and its identifier. After want of memory all is as before.
-    fn add(&mut self, label: u16, n: u64, deadline: u64) -> Result<(), OutOfMemory>
-        requires { pending_in self.old n ≡ None }
-        ensures added { OnOk result (Adds self.old self.new label n deadline) }
         ensures unchanged { OnErr result (IsUnchanged self.old self.new) }
     {
         self.pending.insert(n, Pending { label, deadline })?;
@@ -77,13 +58,12 @@ impl Tables {
             number: n,
             given_up: false,
         };
-        match self.holders.insert(label, holder) {
-            Ok(_) => Ok(()),
-            Err(_) => {
-                self.pending.remove(&n);
-                Err(OutOfMemory)
-            }
+        if self.holders.insert(label, holder).is_err() {
+            self.pending.remove(&n);
+            return Err(OutOfMemory);
         }
+        self.soonest = self.soonest.min(deadline);
+        Ok(())
     }
 
     /// A request is open no more. None comes where it wasn't.
@@ -91,7 +71,9 @@ impl Tables {
         ensures { LeavesAs self.old self.new n result }
     {
         let pending = self.pending.remove(&n)?;
-        self.deadlines.remove(&(pending.deadline, n));
+        if self.pending.is_empty() {
+            self.soonest = u64::MAX;
+        }
         Some(pending)
     }
 
@@ -108,7 +90,7 @@ impl Tables {
     {
         self.holders.clear();
         self.pending.clear();
-        self.deadlines.clear();
+        self.soonest = u64::MAX;
     }
 
     /// A request is open.
@@ -177,20 +159,10 @@ impl Tables {
     pub fn first_due(&self, now: u64) -> Option<u64>
         ensures { AllCovered self.now → FindsDue (pending_in self.now) now result }
     {
-        if !self.is_any_due(now) {
+        if now < self.soonest {
             return None;
         }
         self.first_by(now)
-    }
-
-    /// The least deadline came.
-    fn is_any_due(&self, now: u64) -> bool
-        ensures { AllCovered self.now → result ≡ false → NoneDue (pending_in self.now) now }
-    {
-        match self.deadlines.first() {
-            Some(soonest) => soonest.0 <= now,
-            None => false,
-        }
     }
 
     /// The first in order of number whose deadline came.
