@@ -25,9 +25,13 @@ pub record Kept : Type 0 where
 abbrev pub under : List (Option Slot) → ℕ → Option Slot
 under slots key = slice_index_or slots key None
 
+-- the key of a request's slot, None where nothing is kept of it
+abbrev pub key_at : Kept → ℕ → Option ℕ
+key_at x n = lookup (is_at (nat_cmp n)) x.places
+
 -- what is kept of a request, None where nothing is
 abbrev pub slot_at : Kept → ℕ → Option Slot
-slot_at x n = option_and_then (under x.slots) (lookup (is_at (nat_cmp n)) x.places)
+slot_at x n = option_and_then (under x.slots) (key_at x n)
 
 -- ---- one slot
 

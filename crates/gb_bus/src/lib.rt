@@ -6,6 +6,7 @@ mod bus;
 mod connection;
 mod connections;
 mod ends;
+mod listing;
 mod live;
 mod naming;
 mod queue;

@@ -9,14 +9,13 @@ ghost use Rattle.std.specs.Prelude.{
   true,
   false,
   IfOk,
+  IfSome,
   OnOk,
+  is_some,
   option_copied,
 };
 ghost use Rattle.gb_bus.specs.Counting.{no_requests};
-ghost use Rattle.std.specs.BTreeMap.{IsOrdered};
-ghost use Rattle.std.specs.Ordering.{nat_cmp};
-ghost use Rattle.slab.specs.Slab.{get};
-ghost use Rattle.gb_bus.specs.Keeping.{is_let_go, lesser_of, numbers_where};
+ghost use Rattle.gb_bus.specs.Keeping.{is_let_go, lesser_of};
 ghost use Rattle.gb_bus.specs.Slots.{
   Closes,
   MakesAs,
@@ -32,6 +31,7 @@ ghost use Rattle.gb_bus.specs.Slots.{
   is_late_on,
   is_open_on,
   is_open_slot,
+  key_at,
   loses_name,
   one_more,
   slot_at,
@@ -39,6 +39,7 @@ ghost use Rattle.gb_bus.specs.Slots.{
 ghost use Rattle.gb_bus.specs.Listing.{AreThose, FindsLeast};
 
 use crate::Tally;
+use crate::listing::{late_among, open_among};
 use gb_base::{Numbers, OutOfMemory, Outcome, Side};
 use slab::Slab;
 use std::alloc::Global;
@@ -181,8 +182,8 @@ impl Slots {
     pub fn end(&mut self, n: u64, how: Outcome)
         ensures { MovesAt n (ends_so how) (ended_at n how self.old) self.old self.new }
     {
-        if self.finish(n, how) {
-            self.forget(n);
+        if let Some(key) = self.finish(n, how) {
+            self.free(n, key);
         }
     }
 
@@ -193,34 +194,43 @@ impl Slots {
         self.finish(n, how);
     }
 
-    /// Request n ends so, where it is open, and its identifier stays in use. It was open.
-    fn finish(&mut self, n: u64, how: Outcome) -> bool
-        ensures was_open { result ≡ is_open_slot (slot_at self.old n) }
+    /// Request n ends so, where it is open, and its identifier stays in use. The key of its slot is
+    /// answered then.
+    fn finish(&mut self, n: u64, how: Outcome) -> Option<usize>
+        ensures was_open { is_some result ≡ is_open_slot (slot_at self.old n) }
+        ensures key { IfSome result (λ key. key_at self.new n ≡ Some key) }
         ensures moves { MovesAt n (gives_up_so how) (ended_at n how self.old) self.old self.new }
     {
         let Some(key) = self.places.get(&n).copied() else {
-            return false;
+            return None;
         };
         let Some(slot) = self.slots.get_mut(key) else {
-            return false;
+            return None;
         };
         if slot.outcome.is_some() {
-            return false;
+            return None;
         }
         let deadline = slot.deadline;
         self.deadlines.remove(&(deadline, n));
         self.tally.end(&how);
         slot.outcome = Some(how);
-        true
+        Some(key)
     }
 
     /// The identifier of request n is free, where n has ended.
     pub fn forget(&mut self, n: u64)
         ensures { MovesAt n forgets self.old.tally self.old self.new }
     {
-        let Some(key) = self.places.get(&n).copied() else {
-            return;
-        };
+        if let Some(key) = self.places.get(&n).copied() {
+            self.free(n, key);
+        }
+    }
+
+    /// The identifier of request n is free, whose slot has this key, where n has ended.
+    fn free(&mut self, n: u64, key: usize)
+        requires { key_at self.old n ≡ Some key }
+        ensures { MovesAt n forgets self.old.tally self.old self.new }
+    {
         let Some(slot) = self.slots.get_mut(key) else {
             return;
         };
@@ -229,7 +239,7 @@ impl Slots {
         }
         slot.awaited = false;
         if !slot.is_asked_for() {
-            self.let_go(n);
+            self.let_go(n, key);
         }
     }
 
@@ -258,7 +268,7 @@ impl Slots {
         };
         slot.names = slot.names.saturating_sub(1);
         if !slot.is_asked_for() {
-            self.let_go(n);
+            self.let_go(n, key);
         }
     }
 
@@ -279,14 +289,13 @@ impl Slots {
         Ok(numbers)
     }
 
-    /// Request n, which isn't open, isn't kept any more.
-    fn let_go(&mut self, n: u64)
-        requires { is_open_slot (slot_at self.old n) ≡ false }
+    /// Request n, whose slot has this key, isn't kept any more. It isn't open.
+    fn let_go(&mut self, n: u64, key: usize)
+        requires key { key_at self.old n ≡ Some key }
+        requires over { is_open_slot (slot_at self.old n) ≡ false }
         ensures { MovesAt n is_let_go self.old.tally self.old self.new }
     {
-        let Some(key) = self.places.remove(&n) else {
-            return;
-        };
+        self.places.remove(&n);
         self.slots.try_remove(key);
     }
 
@@ -349,71 +358,5 @@ fn lesser(n: u64, least: Option<u64>) -> Option<u64>
     match least {
         Some(m) if m <= n => Some(m),
         _ => Some(n),
-    }
-}
-
-/// The open requests of a side of a connection among those that have a place, in order of number.
-fn open_among(
-    alloc: Global,
-    slots: &Slab<Slot>,
-    places: &BTreeMap<u64, usize>,
-    k: u64,
-    side: Side,
-) -> Result<Numbers, OutOfMemory>
-    ensures numbers { IfOk result
-        (λ ns. ns
-        ≡ numbers_where (λ key. is_open_on k side (get slots.now key)) places.now.entries) }
-    ensures ordered { IsOrdered nat_cmp places.now }
-{
-    let mut numbers = Numbers::new(alloc);
-    for (number, key) in places {
-        if is_open_at(slots, *key, k, side) {
-            numbers.push(*number)?;
-        }
-    }
-    Ok(numbers)
-}
-
-/// Those that have ended and whose identifiers are in use.
-fn late_among(
-    alloc: Global,
-    slots: &Slab<Slot>,
-    places: &BTreeMap<u64, usize>,
-    k: u64,
-    side: Side,
-) -> Result<Numbers, OutOfMemory>
-    ensures numbers { IfOk result
-        (λ ns. ns
-        ≡ numbers_where (λ key. is_late_on k side (get slots.now key)) places.now.entries) }
-    ensures ordered { IsOrdered nat_cmp places.now }
-{
-    let mut numbers = Numbers::new(alloc);
-    for (number, key) in places {
-        if is_late_at(slots, *key, k, side) {
-            numbers.push(*number)?;
-        }
-    }
-    Ok(numbers)
-}
-
-/// The slot under a key is that of an open request of a side of a connection.
-fn is_open_at(slots: &Slab<Slot>, key: usize, k: u64, side: Side) -> bool
-    ensures { result ≡ is_open_on k side (get slots.now key) }
-{
-    match slots.get(key) {
-        Some(slot) => slot.connection == k && slot.side == side && slot.outcome.is_none(),
-        None => false,
-    }
-}
-
-/// Or of one that has ended, and whose identifier is in use.
-fn is_late_at(slots: &Slab<Slot>, key: usize, k: u64, side: Side) -> bool
-    ensures { result ≡ is_late_on k side (get slots.now key) }
-{
-    match slots.get(key) {
-        Some(slot) => {
-            slot.connection == k && slot.side == side && slot.outcome.is_some() && slot.awaited
-        }
-        None => false,
     }
 }

@@ -1,20 +1,20 @@
 -- The number has no place, and the slot is gone.
-use Rattle.std.proofs.Common.{ap, sym, ◌∙◌}
+use Rattle.std.proofs.Common.{ap, ◌∙◌}
 use Rattle.gb_bus.proofs.SlotKept.{gone-kept, gone-moves}
 use Rattle.gb_bus.proofs.slots.Slots.let_go.Goals as goal
-use Rattle.gb_bus.specs.Slots.{is_open_slot, slot_at}
+use Rattle.gb_bus.specs.Slots.{is_open_slot, key_at, slot_at}
 
-pub invariant_of-self-2 : goal.invariant_of-self-2
-invariant_of-self-2 c =
+pub invariant_of-self : goal.invariant_of-self
+invariant_of-self c =
     gone-kept c.self.inside.slots c.try_remove.new.self c.self.inside.places c.remove.new.self
-    c.self.inside.deadlines c.self.inside.tally c.args.n c.in-Some.key c.self.invariant
-    (sym c.remove.ensures.value ∙ c.in-Some.is) c.try_remove.ensures.updates
+    c.self.inside.deadlines c.self.inside.tally c.args.n c.args.key c.self.invariant
+    (ap (λ x. key_at x c.args.n) c.self.view_is ∙ c.requires.key) c.try_remove.ensures.updates
     c.remove.ensures.updates.0
-    (ap (λ x. is_open_slot (slot_at x c.args.n)) c.self.view_is ∙ c.requires)
+    (ap (λ x. is_open_slot (slot_at x c.args.n)) c.self.view_is ∙ c.requires.over)
 
 pub returns : goal.returns
 returns c =
     gone-moves c.self.inside.slots c.try_remove.new.self c.self.inside.places c.remove.new.self
-    c.self.inside.deadlines c.self.inside.tally c.args.n c.in-Some.key c.self.invariant
-    (sym c.remove.ensures.value ∙ c.in-Some.is) c.try_remove.ensures.updates
+    c.self.inside.deadlines c.self.inside.tally c.args.n c.args.key c.self.invariant
+    (ap (λ x. key_at x c.args.n) c.self.view_is ∙ c.requires.key) c.try_remove.ensures.updates
     c.remove.ensures.updates.0 c.args.self.now c.self.view_is

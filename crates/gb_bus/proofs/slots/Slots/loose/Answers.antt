@@ -28,8 +28,8 @@ invariant_of-self-else-not-is_asked_for c =
     c.self.inside.tally c.args.n c.in-Some.key c.in-Some-get_mut.slot.now _ c.self.invariant there
     refl refl refl (λ o a. a)
 
-pub let_go-requires : goal.let_go-requires
-let_go-requires c =
+pub let_go-requires-clause-over : goal.let_go-requires-clause-over
+let_go-requires-clause-over c =
     let there : IsThere c.self.inside.slots c.self.inside.places c.args.n c.in-Some.key
     c.in-Some-get_mut.slot.now = record {
       place = sym (c.copied.ensures ∙ c.get.ensures.value) ∙ c.in-Some.is;
