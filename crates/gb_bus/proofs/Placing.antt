@@ -14,7 +14,7 @@ use Rattle.gb_bus.proofs.Entries.{EachEntry, both, each-back, each-entry, each-f
 use Rattle.gb_bus.proofs.Entries.{find-split, nowhere, same-some, some-none, split}
 use Rattle.gb_bus.proofs.Keeping.{Ends, Live, Queues, number-of-end}
 use Rattle.gb_bus.specs.Index.{IsEndOf, IsIndexed, Kept}
-use Rattle.gb_bus.specs.Parts.{joins, place_at, side_at}
+use Rattle.gb_bus.specs.Parts.{end_at, joins, place_at, side_at}
 use Rattle.gb_bus.specs.Seen.{all_seen, alone, seen}
 use Rattle.gb_bus.specs.declared.connection.Connection as code
 use Rattle.gb_machine.specs.Bus.{or_else, same_end}
@@ -143,6 +143,61 @@ places live ends q at n x k is there =
     (each-back (λ j z. j ≢ n → side_at at (seen q j z) ≡ None) p.front ((n, x) ∷ p.back)
     all).1 in
     ap (λ es. place_at at (all_seen q es)) p.is ∙ place-split q at p.front p.back n x front back
+
+-- a connection that has a side for an end is wired, and the end is its own there
+side-own : (at : End) (x : code.Connection) (s : Side) → side_at at (alone 0 x) ≡ Some s
+    → (x.wired ≡ true) × (at ≡ end_at s (alone 0 x))
+side-own at x s is =
+    by x.wired refl (same_end at (end.Ap x.ap)) refl (same_end at x.peer) refl s is
+  where
+    by : (w : Bool) → x.wired ≡ w → (a : Bool) → same_end at (end.Ap x.ap) ≡ a
+        → (f : Bool) → same_end at x.peer ≡ f → (t : Side)
+        → cond (not w) None (cond a (Some side.Ap) (cond f (Some side.Far) None)) ≡ Some t
+        → (x.wired ≡ true) × (at ≡ end_at t (alone 0 x))
+    by false w a near f far t e = absurd (cc e)
+    by true w true near f far side.Ap e = (w, end-is at (end.Ap x.ap) near)
+    by true w true near f far side.Far e = absurd (cc e)
+    by true w false near true far side.Ap e = absurd (cc e)
+    by true w false near true far side.Far e = (w, end-is at x.peer far)
+    by true w false near false far t e = absurd (cc e)
+
+-- an end is at a side of the live connection with a number, which is wired
+pub record IsPlaced (live : Live) (at : End) (k : ℕ) (s : Side) : Type 0 where
+  pub connection : code.Connection
+  pub there : get nat_cmp live k ≡ Some connection
+  pub wired : connection.wired ≡ true
+  pub own : at ≡ end_at s (alone 0 connection)
+
+pub placed : (live : Live) (ends : Ends) (q : Queues) (at : End) (k : ℕ) (s : Side)
+    → Kept live ends q → place_at at (all_seen q live.entries) ≡ Some (k, s)
+    → IsPlaced live at k s
+placed live ends q at k s kept e = by (get by_place ends (place_of at)) refl
+  where
+    its-side : (n : ℕ) (x : code.Connection) → get nat_cmp live n ≡ Some x → (o : Option Side)
+        → side_at at (alone 0 x) ≡ o → option_map {U = ℕ × Side} (λ t. (n, t)) o ≡ Some (k, s)
+        → IsPlaced live at k s
+    its-side n x found None is f = absurd (cc f)
+    its-side n x found (Some t) is f =
+        let both = same-some (n, t) (k, s) f in
+        let own = side-own at x t is in
+        record {
+          connection = x;
+          there = ap (get nat_cmp live) (sym (ap (λ p. p.0) both)) ∙ found;
+          wired = own.0;
+          own = own.1 ∙ ap (λ z. end_at z (alone 0 x)) (ap (λ p. p.1) both);
+        }
+
+    numbered : (n : ℕ) → get by_place ends (place_of at) ≡ Some n → (o : Option code.Connection)
+        → get nat_cmp live n ≡ o → IsPlaced live at k s
+    numbered n is None dead =
+        absurd (some-none (k, s) (sym e ∙ places-dead live ends q at n kept is dead))
+    numbered n is (Some x) found =
+        its-side n x found (side_at at (alone 0 x)) refl
+        (sym (places live ends q at n x kept is found) ∙ e)
+
+    by : (o : Option ℕ) → get by_place ends (place_of at) ≡ o → IsPlaced live at k s
+    by None none = absurd (some-none (k, s) (sym e ∙ places-nowhere live ends q at kept none))
+    by (Some n) is = numbered n is (get nat_cmp live n) refl
 
 -- ---- the connection that joins two ends
 

@@ -112,21 +112,6 @@ front-is : (live : Live) (q : Queues) (xs : List Connection) (k : ℕ) (x : code
 front-is live q xs k x s view found =
     ap (option_and_then (λ c. first (queue_of s c))) (finds live q xs k (Some x) view found)
 
--- of one that isn't there, or isn't wired
-pub front-nowhere : (live : Live) (q : Queues) (xs : List Connection) (k : ℕ) (s : Side)
-    → all_seen q live.entries ≡ xs → get nat_cmp live k ≡ None → front_in k s xs ≡ None
-front-nowhere live q xs k s view none =
-    ap (option_and_then (λ c. first (queue_of s c))) (finds live q xs k None view none)
-
-pub front-unwired : (live : Live) (q : Queues) (xs : List Connection) (k : ℕ)
-    (x : code.Connection) (s : Side) → all_seen q live.entries ≡ xs
-    → get nat_cmp live k ≡ Some x → x.wired ≡ false → front_in k s xs ≡ None
-front-unwired live q xs k x s view found loose = front-is live q xs k x s view found ∙ by s
-  where
-    by : (t : Side) → first (queue_of t (seen q k x)) ≡ None
-    by side.Ap = ap (λ b. first (cond b (items_of (items_at q (end.Ap x.ap))) [])) loose
-    by side.Far = ap (λ b. first (cond b (items_of (items_at q x.peer)) [])) loose
-
 nothing-first : (o : Option (List Item)) → has_items o ≡ false → first (items_of o) ≡ None
 nothing-first None e = refl
 nothing-first (Some []) e = refl

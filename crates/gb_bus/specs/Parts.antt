@@ -152,6 +152,11 @@ TakesFrontAs old new k at None = (front_in k at old ≡ None) × (new ≡ old)
 TakesFrontAs old new k at (Some item) =
     (front_in k at old ≡ Some item) × (new ≡ at_first (numbered k) (without_front at) old)
 
+-- the same by the end, where a wired connection names it
+abbrev pub PopsAs : List Connection → List Connection → End → Option Item → Type 0
+PopsAs old new at result =
+    (k : ℕ) (s : Side) → place_at at old ≡ Some (k, s) → TakesFrontAs old new k s result
+
 -- whether a connection is there and wired
 abbrev pub is_wired : Option Connection → Bool
 is_wired None = false

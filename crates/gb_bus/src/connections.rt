@@ -15,9 +15,8 @@ ghost use Rattle.std.specs.Prelude.{
   find,
 };
 ghost use Rattle.std.specs.List.{filter, list_any};
-ghost use Rattle.gb_bus.specs.Seen.{seen};
 ghost use Rattle.gb_machine.specs.Lists.{at_first, without};
-ghost use Rattle.gb_bus.specs.Telling.{known_as, waiting_in, with_ends};
+ghost use Rattle.gb_bus.specs.Telling.{known_as, waiting_in};
 ghost use Rattle.gb_bus.specs.Parts.{
   cleared,
   closed,
@@ -39,8 +38,7 @@ ghost use Rattle.gb_bus.specs.Parts.{
 
 use crate::connection::Connection;
 use crate::ends::is_same;
-use crate::queue::Item;
-use crate::telling::add_end;
+use crate::queue::{Item, add_ends, count};
 use crate::{Known, Waiting, live};
 use gb_base::{End, Numbers, OutOfMemory, Sequence, Side};
 use gb_ops::{BeginFault, Matched, Ops};
@@ -78,7 +76,7 @@ impl Model for Connections {
 }
 
 impl Connections {
-    ghost use Rattle.gb_bus.specs.Parts.{TakesFrontAs, earliest_in, is_wired};
+    ghost use Rattle.gb_bus.specs.Parts.{PopsAs, earliest_in};
     ghost use Rattle.gb_bus.specs.Sides.{BeginsIn, GivesUpIn, MatchesIn};
 
     /// The connection of the supervisory controller alone, open for ever.
@@ -356,52 +354,10 @@ impl Connections {
         Ok(())
     }
 
-    /// Takes the front message toward a side of a connection.
-    pub fn pop(&mut self, k: u64, side: Side) -> Option<Item>
-        ensures { TakesFrontAs self.old self.new k side result }
+    /// Takes the front message toward an end that a wired connection names.
+    pub fn pop(&mut self, at: End) -> Option<Item>
+        ensures { PopsAs self.old self.new at result }
     {
-        let connection = self.live.get(&k)?;
-        if !connection.wired {
-            return None;
-        }
-        self.queues.pop(connection.end(side))
+        self.queues.pop(at)
     }
-}
-
-/// How many messages wait toward a side of a connection.
-fn count(queues: &Queues<Item>, connection: &Connection, side: Side) -> u64
-    ensures { result ≡ length (queue_of side (seen queues.now 0 connection.now)) }
-{
-    if !connection.wired {
-        return 0;
-    }
-    match queues.len(connection.end(side)) {
-        Some(count) => count,
-        None => 0,
-    }
-}
-
-/// Adds those of the ends of a connection at which something waits, where they belong in the order
-/// in which queues are settled.
-fn add_ends(
-    queues: &Queues<Item>,
-    connection: &Connection,
-    ordered: &mut Sequence<Waiting>,
-) -> Result<(), OutOfMemory>
-    ensures { OnOk result
-        (ordered.new ≡ with_ends (seen queues.now 0 connection.now) ordered.old) }
-{
-    if !connection.wired {
-        return Ok(());
-    }
-    add_end(
-        connection.peer,
-        count(queues, connection, Side::Far),
-        ordered,
-    )?;
-    add_end(
-        End::Ap(connection.ap),
-        count(queues, connection, Side::Ap),
-        ordered,
-    )
 }

@@ -1,6 +1,15 @@
 //! What waits in queues.
 
-use gb_base::{Bytes, RawFault};
+ghost use Rattle.std.specs.Prelude.{◌≡◌, OnOk, length};
+ghost use Rattle.gb_bus.specs.Parts.{queue_of};
+ghost use Rattle.gb_bus.specs.Seen.{seen};
+ghost use Rattle.gb_bus.specs.Telling.{with_ends};
+
+use crate::Waiting;
+use crate::connection::Connection;
+use crate::telling::add_end;
+use gb_base::{Bytes, End, OutOfMemory, RawFault, Sequence, Side};
+use gb_switch::Queues;
 
 /// A message in a queue. It carries all that its delivery needs.
 #[derive(Drop)]
@@ -52,4 +61,42 @@ pub enum Item {
         /// The payload.
         payload: Bytes,
     },
+}
+
+/// How many messages wait toward a side of a connection.
+pub fn count(queues: &Queues<Item>, connection: &Connection, side: Side) -> u64
+    ensures { result ≡ length (queue_of side (seen queues.now 0 connection.now)) }
+{
+    if !connection.wired {
+        return 0;
+    }
+    match queues.len(connection.end(side)) {
+        Some(count) => count,
+        None => 0,
+    }
+}
+
+/// Adds those of the ends of a connection at which something waits, where they belong in the order
+/// in which queues are settled.
+pub fn add_ends(
+    queues: &Queues<Item>,
+    connection: &Connection,
+    ordered: &mut Sequence<Waiting>,
+) -> Result<(), OutOfMemory>
+    ensures { OnOk result
+        (ordered.new ≡ with_ends (seen queues.now 0 connection.now) ordered.old) }
+{
+    if !connection.wired {
+        return Ok(());
+    }
+    add_end(
+        connection.peer,
+        count(queues, connection, Side::Far),
+        ordered,
+    )?;
+    add_end(
+        End::Ap(connection.ap),
+        count(queues, connection, Side::Ap),
+        ordered,
+    )
 }

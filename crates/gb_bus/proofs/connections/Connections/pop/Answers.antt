@@ -1,36 +1,20 @@
--- The connection with the number loses its front message.
-use Rattle.std.proofs.Common.{refl, subst, sym}
-use Rattle.gb_bus.proofs.SeeingQueues.{front-nowhere, front-unwired, kept-pops, pops}
-use Rattle.gb_bus.specs.Parts.{TakesFrontAs}
+-- The connection that names the end loses its front message.
+use Rattle.std.proofs.Common.{ap, ◌∙◌}
+use Rattle.gb_bus.proofs.Placing.{placed}
+use Rattle.gb_bus.proofs.SeeingQueues.{kept-pops, pops}
+use Rattle.gb_bus.specs.Parts.{place_at}
 use Rattle.gb_bus.proofs.connections.Connections.pop.Goals as goal
-
-pub returns-in_err-connection : goal.returns-in_err-connection
-returns-in_err-connection c =
-    subst (TakesFrontAs c.args.self.now c.args.self.now c.args.k c.args.side)
-    (sym c.from_residual.ensures) (
-      front-nowhere c.self.inside.live c.self.inside.queues c.args.self.now c.args.k c.args.side
-          c.self.view_is (sym c.in_err-connection.ensures.value),
-      refl,
-    )
-
-pub returns-then-not-connection : goal.returns-then-not-connection
-returns-then-not-connection c = (
-  front-unwired c.self.inside.live c.self.inside.queues c.args.self.now c.args.k
-      c.in_ok-connection.connection.now c.args.side c.self.view_is
-      (sym c.in_ok-connection.ensures.value)
-      c.if-not-connection.true,
-  refl,
-)
 
 pub invariant_of-self : goal.invariant_of-self
 invariant_of-self c =
     kept-pops c.self.inside.live c.self.inside.ends c.self.inside.queues c.pop.new.self
-    c.end.result c.pop.result c.pop.ensures c.self.invariant
+    c.args.at c.pop.result c.pop.ensures c.self.invariant
 
 pub returns : goal.returns
-returns c =
+returns c = λ k s named.
+    let p =
+    placed c.self.inside.live c.self.inside.ends c.self.inside.queues c.args.at k s
+    c.self.invariant (ap (place_at c.args.at) c.self.view_is ∙ named) in
     pops c.self.inside.live c.self.inside.ends c.self.inside.queues c.pop.new.self c.args.self.now
-    c.args.k c.in_ok-connection.connection.now c.args.side c.end.result c.pop.result
-    c.self.invariant c.self.view_is (sym c.in_ok-connection.ensures.value)
-    c.if-not-connection.false c.end.ensures
+    k p.connection s c.args.at c.pop.result c.self.invariant c.self.view_is p.there p.wired p.own
     c.pop.ensures
