@@ -1,0 +1,131 @@
+//! The bus: requests and replies are sent.
+
+ghost use Rattle.std.specs.Prelude.{◌≡◌, OnOk, IsErrOf};
+ghost use Rattle.gb_machine.specs.Bus as machine;
+ghost use Rattle.gb_machine.specs.Sending.{draft};
+ghost use Rattle.gb_bus.specs.Taking.{reply_item};
+
+use crate::ends::other_side;
+use crate::queue::Item;
+use crate::slots::Slot;
+use crate::{Asked, Bus, SendFault, Sent};
+use gb_base::{Bytes, OutOfMemory, Side};
+use gb_ops::BeginFault;
+
+impl Bus {
+    ghost use Rattle.gb_bus.specs.Delivering.{RepliesAs};
+    ghost use Rattle.gb_bus.specs.Moving.{LabelsAs};
+    ghost use Rattle.gb_bus.specs.Sending.{SendsAs};
+    ghost use Rattle.gb_bus.specs.Stands.{Around, Stands};
+
+    /// Makes a request on connection k. `deadline` is in milliseconds. A unidirectional request has
+    /// identifier 0, and has ended as sent at once. NoLabel comes where the connection isn't live,
+    /// and for another request where all identifiers of the side are in use. After want of memory
+    /// nothing is said. It also comes where no number is left.
+    pub fn send(
+        &mut self,
+        k: u64,
+        side: Side,
+        kind: u8,
+        payload: &[u8],
+        deadline: u64,
+        oneway: bool,
+    ) -> Result<Sent, SendFault>
+        ensures step { (around : Around) (b : machine.Bus) → Stands around self.old b
+            → SendsAs around self.new (draft k side kind payload.now deadline oneway) b result }
+        ensures unchanged { IsErrOf result SendFault.NoLabel → self.new ≡ self.old }
+    {
+        let Some(wired) = self.connections.wired(k) else {
+            return Err(SendFault::NoLabel);
+        };
+        let lost = !wired;
+        let Some(number) = self.slots.count().checked_add(1) else {
+            return Err(SendFault::Memory(OutOfMemory));
+        };
+        let label = self.label_for(k, side, number, deadline, oneway)?;
+        let slot = Slot {
+            number,
+            connection: k,
+            side,
+            kind,
+            deadline,
+            outcome: None,
+            awaited: true,
+            names: 0,
+        };
+        self.slots.add(slot, oneway)?;
+        let payload = Bytes::from_slice(self.alloc, payload)?;
+        let item = Item::Ask {
+            number,
+            label,
+            kind,
+            payload,
+        };
+        self.connections.push(k, other_side(side), item)?;
+        Ok(Sent {
+            number,
+            label,
+            lost,
+        })
+    }
+
+    /// The identifier of request n of a side: 0 where it is unidirectional.
+    fn label_for(
+        &mut self,
+        k: u64,
+        side: Side,
+        n: u64,
+        deadline: u64,
+        oneway: bool,
+    ) -> Result<u16, SendFault>
+        ensures { LabelsAs self.old self.new k side n deadline oneway result }
+    {
+        if oneway {
+            return Ok(0);
+        }
+        match self.connections.begin(k, side, n, deadline) {
+            Ok(label) => Ok(label),
+            Err(BeginFault::NoLabel) => Err(SendFault::NoLabel),
+            Err(BeginFault::Memory(refused)) => Err(SendFault::Memory(refused)),
+        }
+    }
+
+    /// Answers a request that was delivered at `side` of a connection: the reply goes toward the
+    /// side that asked, and is lost where the connection isn't wired.
+    pub fn reply(
+        &mut self,
+        k: u64,
+        side: Side,
+        asked: &Asked,
+        code: u8,
+        payload: &[u8],
+    ) -> Result<(), OutOfMemory>
+        ensures step { OnOk result
+            (RepliesAs self.old self.new k side asked.now code payload.now) }
+    {
+        let payload = Bytes::from_slice(self.alloc, payload)?;
+        let answer = reply_item(asked, code, payload);
+        self.connections.push(k, other_side(side), answer)?;
+        Ok(())
+    }
+}
+
+/// The reply to a request, as it waits in a queue.
+fn reply_item(asked: &Asked, code: u8, payload: Bytes) -> Item
+    ensures { result ≡ reply_item asked.now code payload }
+{
+    let label = asked.label;
+    match asked.number {
+        Some(number) => Item::Reply {
+            number,
+            label,
+            result: code,
+            payload,
+        },
+        None => Item::RawReply {
+            label,
+            result: code,
+            payload,
+        },
+    }
+}
