@@ -1,13 +1,15 @@
 //! Several threads with hundreds of events each, over one desk.
 
-ghost use Rattle.std.specs.Prelude.{◌≡◌, ◌<◌, ◌≤◌, [], false};
+ghost use Rattle.std.specs.Prelude.{◌≡◌, ◌<◌, [], false};
+ghost use Rattle.std.specs.Thread.{IsSync};
 ghost use Rattle.gb_desk.specs.Passes.{IsAsBefore, IsOf, known};
 ghost use Rattle.gb_formats.specs.ValidEvents.{IsValid};
 ghost use Rattle.gb_laws.specs.Tickets.{asks};
 
+use crate::tests::{history, opened};
 use crate::{Desk, DeskFault, Pass};
 use gb_base::{End, Event, Journal, Kind};
-use gb_system::System;
+use std::alloc::Global;
 use std::process::Abort;
 use std::thread;
 use std::thread::{Threads, join_mut};
@@ -63,114 +65,36 @@ fn work(desk: &Desk, pass: &mut Pass, by: u8)
     }
 }
 
-/// Two threads at once, with this tag and the next.
-fn two<R: Threads + Sync>(rt: &R, desk: &Desk, one: &mut Pass, other: &mut Pass, by: u8)
-    requires tags { by ≤ 100 }
-    requires own { IsOf desk.now one.old }
-    requires its { IsOf desk.now other.old }
-    ensures own { IsOf desk.now one.new }
-    ensures its { IsOf desk.now other.new }
-    ensures keeps { IsAsBefore (known one.old) (known one.new) }
-    ensures rest { IsAsBefore (known other.old) (known other.new) }
-{
-    join_mut(
-        rt,
-        &mut ||
-            requires { IsOf desk.now one.now }
-            ensures { IsOf desk.entry.now one.exit.now
-                × IsAsBefore (known one.entry.now) (known one.exit.now) }
-        { work(desk, one, by) },
-        &mut ||
-            requires { IsOf desk.now other.now × (by ≤ 100) }
-            ensures { IsOf desk.entry.now other.exit.now
-                × IsAsBefore (known other.entry.now) (known other.exit.now) }
-        { work(desk, other, by + 1) },
-    );
-}
-
-/// Two threads at once, on the parts of one pass.
-fn halved<R: Threads + Sync>(rt: &R, desk: &Desk, pass: &mut Pass, by: u8)
-    requires tags { by ≤ 100 }
+/// A thread for each tag up to this one, all at once, on the parts of one pass.
+fn all_at_once<R: Threads + Sync>(rt: &R, desk: &Desk, pass: &mut Pass, last: u8)
     requires own { IsOf desk.now pass.old }
-    requires some { 1 < (known pass.old).parts }
+    requires parts { last < (known pass.old).parts }
     requires none { (known pass.old).tickets ≡ [] }
     ensures own { IsOf desk.now pass.new }
     ensures keeps { IsAsBefore (known pass.old) (known pass.new) }
 {
+    if last == 0 {
+        work(desk, pass, 0);
+        return;
+    }
+    let below = last - 1;
     let mut other = desk.split(pass, 1);
-    two(rt, desk, pass, &mut other, by);
-    desk.join(pass, other);
-}
-
-/// Four threads at once.
-fn four<R: Threads + Sync>(rt: &R, desk: &Desk, one: &mut Pass, other: &mut Pass, by: u8)
-    requires tags { by ≤ 98 }
-    requires own { IsOf desk.now one.old }
-    requires its { IsOf desk.now other.old }
-    requires some { (1 < (known one.old).parts) × (1 < (known other.old).parts) }
-    requires none { ((known one.old).tickets ≡ []) × ((known other.old).tickets ≡ []) }
-    ensures own { IsOf desk.now one.new }
-    ensures its { IsOf desk.now other.new }
-    ensures keeps { IsAsBefore (known one.old) (known one.new) }
-    ensures rest { IsAsBefore (known other.old) (known other.new) }
-{
+    let beside = &mut other;
     join_mut(
         rt,
         &mut ||
-            requires { IsOf desk.now one.now × (1 < (known one.now).parts)
-                × ((known one.now).tickets ≡ []) × (by ≤ 98) }
-            ensures { IsOf desk.entry.now one.exit.now
-                × IsAsBefore (known one.entry.now) (known one.exit.now) }
-        { halved(rt, desk, one, by) },
+            requires { IsOf desk.now beside.now }
+            ensures { IsOf desk.entry.now beside.exit.now
+                × IsAsBefore (known beside.entry.now) (known beside.exit.now) }
+        { work(desk, beside, last) },
         &mut ||
-            requires { IsOf desk.now other.now × (1 < (known other.now).parts)
-                × ((known other.now).tickets ≡ []) × (by ≤ 98) }
-            ensures { IsOf desk.entry.now other.exit.now
-                × IsAsBefore (known other.entry.now) (known other.exit.now) }
-        { halved(rt, desk, other, by + 2) },
+            requires { IsSync R.row × IsOf desk.now pass.now × (below < (known pass.now).parts)
+                × ((known pass.now).tickets ≡ []) }
+            ensures { IsOf desk.entry.now pass.exit.now
+                × IsAsBefore (known pass.entry.now) (known pass.exit.now) }
+        { all_at_once(rt, desk, pass, below) },
     );
-}
-
-/// Four threads at once, on the parts of one pass.
-fn quartered<R: Threads + Sync>(rt: &R, desk: &Desk, pass: &mut Pass, by: u8)
-    requires tags { by ≤ 98 }
-    requires own { IsOf desk.now pass.old }
-    requires some { 3 < (known pass.old).parts }
-    requires none { (known pass.old).tickets ≡ [] }
-    ensures own { IsOf desk.now pass.new }
-    ensures keeps { IsAsBefore (known pass.old) (known pass.new) }
-{
-    let mut other = desk.split(pass, 2);
-    four(rt, desk, pass, &mut other, by);
     desk.join(pass, other);
-}
-
-/// Eight threads at once.
-fn eight<R: Threads + Sync>(rt: &R, desk: &Desk, one: &mut Pass, other: &mut Pass)
-    requires own { IsOf desk.now one.old }
-    requires its { IsOf desk.now other.old }
-    requires some { (3 < (known one.old).parts) × (3 < (known other.old).parts) }
-    requires none { ((known one.old).tickets ≡ []) × ((known other.old).tickets ≡ []) }
-    ensures own { IsOf desk.now one.new }
-    ensures its { IsOf desk.now other.new }
-    ensures keeps { IsAsBefore (known one.old) (known one.new) }
-    ensures rest { IsAsBefore (known other.old) (known other.new) }
-{
-    join_mut(
-        rt,
-        &mut ||
-            requires { IsOf desk.now one.now × (3 < (known one.now).parts)
-                × ((known one.now).tickets ≡ []) }
-            ensures { IsOf desk.entry.now one.exit.now
-                × IsAsBefore (known one.entry.now) (known one.exit.now) }
-        { quartered(rt, desk, one, 0) },
-        &mut ||
-            requires { IsOf desk.now other.now × (3 < (known other.now).parts)
-                × ((known other.now).tickets ≡ []) }
-            ensures { IsOf desk.entry.now other.exit.now
-                × IsAsBefore (known other.entry.now) (known other.exit.now) }
-        { quartered(rt, desk, other, 4) },
-    );
 }
 
 /// How many entries of the history have this tag.
@@ -178,32 +102,22 @@ fn count(journal: &Journal, by: u8) -> usize {
     journal.items().iter().filter(|e| e.by == by).count()
 }
 
-/// What each of so many threads did is there, and nothing else.
-fn all_there(rt: &impl Abort, threads: u8, system: &System, journal: &Journal) {
-    assert_eq!(rt; system.taken(), 300 * u64::from(threads));
-    for by in 0..threads {
-        assert_eq!(rt; count(journal, by), 300);
+/// What the thread of each tag up to this one did is there, and nothing else.
+fn all_there(rt: &impl Abort, last: u8, journal: &Journal) {
+    assert!(rt; journal.items().len() == 300 * (usize::from(last) + 1));
+    for by in 0..=last {
+        assert!(rt; count(journal, by) == 300);
     }
 }
 
-#[test]
-fn two_threads_share_one_history(rt: HostRuntime) {
-    let alloc = rt.alloc();
-    let system = System::new(alloc).expect(&rt, "memory");
-    let (desk, mut pass) = Desk::new(alloc, system).expect(&rt, "memory");
-    halved(&rt, &desk, &mut pass, 0);
-    let (system, journal) = desk.close(pass);
-    all_there(&rt, 2, &system, &journal);
+fn share<R: Threads + Sync + Abort>(rt: &R, alloc: Global, last: u8) {
+    let (desk, mut pass) = opened(rt, alloc);
+    all_at_once(rt, &desk, &mut pass, last);
+    all_there(rt, last, &history(rt, desk, pass));
 }
 
 #[test]
-fn eight_threads_share_one_history(rt: HostRuntime) {
-    let alloc = rt.alloc();
-    let system = System::new(alloc).expect(&rt, "memory");
-    let (desk, mut pass) = Desk::new(alloc, system).expect(&rt, "memory");
-    let mut other = desk.split(&mut pass, 4);
-    eight(&rt, &desk, &mut pass, &mut other);
-    desk.join(&mut pass, other);
-    let (system, journal) = desk.close(pass);
-    all_there(&rt, 8, &system, &journal);
+fn two_and_eight_threads_share_one_history(rt: HostRuntime) {
+    share(&rt, rt.alloc(), 1);
+    share(&rt, rt.alloc(), 7);
 }

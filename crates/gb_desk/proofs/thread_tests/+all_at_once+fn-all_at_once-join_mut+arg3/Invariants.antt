@@ -1,0 +1,7 @@
+use Rattle.gb_desk.proofs.thread_tests.+all_at_once+fn-all_at_once-join_mut+arg3.Given as goal
+
+abbrev pub decreases-all_at_once : goal.decreases-all_at_once
+decreases-all_at_once g l = l.last
+
+abbrev pub decreases-join_mut+arg3 : goal.decreases-join_mut+arg3
+decreases-join_mut+arg3 g l = l.below
