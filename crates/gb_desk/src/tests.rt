@@ -32,7 +32,10 @@ fn done(rt: &impl Abort, desk: &Desk, pass: &mut Pass, by: u8, e: &Event, entrie
     ensures keeps { IsAsBefore (known pass.old) (known pass.new) }
 {
     match desk.call(pass, by, e) {
-        Ok(told) => assert!(rt; told.items().len() == entries),
+        Ok(told) => {
+            assert!(rt; told.items().len() == entries);
+            drop(told);
+        }
         Err(_) => assert!(rt; false),
     }
 }
@@ -62,6 +65,7 @@ pub fn history(rt: &impl Abort, desk: Desk, pass: Pass) -> Journal
 {
     let (system, journal) = desk.close(pass);
     assert!(rt; system.taken() == journal.items().len() as u64);
+    drop(system);
     journal
 }
 

@@ -32,6 +32,7 @@ pub mod Pulls
 pub mod RawArrivals
 pub mod Replies
 pub mod RequestOutcomes
+pub mod RowsDeciding
 pub mod Sends
 pub mod Settles
 pub mod Showings

@@ -30,8 +30,6 @@ mod stirring;
 mod svc;
 mod system;
 mod taking;
-#[cfg(test)]
-mod tests;
 mod ticking;
 
 pub use system::System;

@@ -4,8 +4,6 @@
 mod answer;
 mod drive;
 mod input;
-#[cfg(test)]
-mod manifest_tests;
 mod manifests;
 mod output;
 mod run;
