@@ -4,167 +4,174 @@ ghost use Rattle.std.specs.Prelude.{◌≡◌};
 ghost use Rattle.gb_base.specs.declared.bridge.BridgeAsk.TheVariants as ask;
 ghost use Rattle.gb_formats.specs.ValidEvents.{HasForm};
 
-use gb_base::{BridgeAsk, Bridged, Reading};
+use crate::checks::{Row, is_answered, is_asked, is_not_asked};
+use gb_base::{BridgeAsk, Reading};
 use gb_gpio::{BridgeFault, Device, bridge, reading};
 use std::alloc::Global;
 use std::process::Abort;
-use std::test::Fail;
 
-/// A request: its type and payload, and what is answered: the result byte and the payload.
-type Row<'a> = (u8, &'a [u8], u8, &'a [u8]);
+/// Requests that are served, and those that line 3 refuses as it stands.
+const SERVED: [Row<'_>; 24] = [
+    (0x02, &[], 0x00, &[7]),
+    (0x03, &[3], 0x00, &[]),
+    (0x05, &[3], 0x00, &[1]),
+    (0x08, &[3], 0x00, &[0]),
+    (0x09, &[3, 1], 0x06, &[]),
+    (0x07, &[3, 2], 0x06, &[]),
+    (0x05, &[3], 0x00, &[1]),
+    (0x07, &[3, 1], 0x00, &[]),
+    (0x05, &[3], 0x00, &[0]),
+    (0x08, &[3], 0x00, &[1]),
+    (0x09, &[3, 2], 0x06, &[]),
+    (0x08, &[3], 0x00, &[1]),
+    (0x09, &[3, 0], 0x00, &[]),
+    (0x08, &[3], 0x00, &[0]),
+    (0x0a, &[3, 0xe8, 0x03], 0x00, &[]),
+    (0x0b, &[3, 8], 0x00, &[]),
+    (0x0b, &[3, 5], 0x06, &[]),
+    (0x0c, &[3], 0x00, &[]),
+    (0x0d, &[3], 0x00, &[]),
+    (0x06, &[3], 0x00, &[]),
+    (0x05, &[3], 0x00, &[1]),
+    (0x04, &[3], 0x00, &[]),
+    (0x05, &[3], 0x06, &[]),
+    (0x03, &[7], 0x00, &[]),
+];
+
+/// Requests that are refused, and those that line 0 takes then.
+const REFUSED: [Row<'_>; 27] = [
+    (0x00, &[], 0x04, &[]),
+    (0x01, &[0, 1], 0x04, &[]),
+    (0x0f, &[0], 0x04, &[]),
+    (0x0e, &[0], 0x04, &[]),
+    (0x0e, &[], 0x04, &[]),
+    (0x02, &[0], 0x06, &[]),
+    (0x03, &[], 0x06, &[]),
+    (0x03, &[8, 0], 0x06, &[]),
+    (0x0a, &[8, 0], 0x06, &[]),
+    (0x03, &[8], 0x08, &[]),
+    (0x04, &[255], 0x08, &[]),
+    (0x05, &[8], 0x08, &[]),
+    (0x07, &[8, 2], 0x08, &[]),
+    (0x09, &[8, 0], 0x08, &[]),
+    (0x0b, &[8, 9], 0x08, &[]),
+    (0x0d, &[8], 0x08, &[]),
+    (0x05, &[0], 0x06, &[]),
+    (0x06, &[0], 0x06, &[]),
+    (0x07, &[0, 0], 0x06, &[]),
+    (0x08, &[0], 0x06, &[]),
+    (0x09, &[0, 0], 0x06, &[]),
+    (0x0a, &[0, 0, 0], 0x06, &[]),
+    (0x0b, &[0, 0], 0x06, &[]),
+    (0x0c, &[0], 0x06, &[]),
+    (0x0d, &[0], 0x06, &[]),
+    (0x04, &[0], 0x00, &[]),
+    (0x03, &[0], 0x00, &[]),
+];
 
 /// The device answers these requests so, one after the other.
-fn answers(rt: &impl Abort, device: &mut Device, rows: &[Row]) -> Result<(), Fail> {
-    for (at, (kind, payload, code, told)) in rows.iter().enumerate() {
-        let served = device.serve(*kind, payload)?;
-        assert_eq!(rt; served.result, *code, "row {at}, type {kind}");
-        assert_eq!(rt; served.payload.items(), *told, "row {at}, type {kind}");
-        assert!(rt; served.asks.items().is_empty());
+fn serves(rt: &impl Abort, device: &mut Device, rows: &[Row<'_>]) {
+    for row in rows.iter() {
+        let served = device.serve(row.0, row.1).expect(rt, "memory");
+        is_answered(rt, &served, row);
     }
-    Ok(())
+}
+
+/// A device as it is first.
+fn first(rt: &impl Abort, alloc: Global) -> Device {
+    Device::new(alloc).expect(rt, "memory")
 }
 
 #[test]
-fn requests_are_served(rt: HostRuntime) -> Result<(), Fail> {
-    let rows: [Row; 24] = [
-        (0x02, &[], 0x00, &[7]),
-        (0x03, &[3], 0x00, &[]),
-        (0x05, &[3], 0x00, &[1]),
-        (0x08, &[3], 0x00, &[0]),
-        (0x09, &[3, 1], 0x06, &[]),
-        (0x07, &[3, 2], 0x06, &[]),
-        (0x05, &[3], 0x00, &[1]),
-        (0x07, &[3, 1], 0x00, &[]),
-        (0x05, &[3], 0x00, &[0]),
-        (0x08, &[3], 0x00, &[1]),
-        (0x09, &[3, 2], 0x06, &[]),
-        (0x08, &[3], 0x00, &[1]),
-        (0x09, &[3, 0], 0x00, &[]),
-        (0x08, &[3], 0x00, &[0]),
-        (0x0a, &[3, 0xe8, 0x03], 0x00, &[]),
-        (0x0b, &[3, 8], 0x00, &[]),
-        (0x0b, &[3, 5], 0x06, &[]),
-        (0x0c, &[3], 0x00, &[]),
-        (0x0d, &[3], 0x00, &[]),
-        (0x06, &[3], 0x00, &[]),
-        (0x05, &[3], 0x00, &[1]),
-        (0x04, &[3], 0x00, &[]),
-        (0x05, &[3], 0x06, &[]),
-        (0x03, &[7], 0x00, &[]),
-    ];
-    answers(&rt, &mut Device::new(rt.alloc())?, &rows)
-}
-
-#[test]
-fn requests_are_refused(rt: HostRuntime) -> Result<(), Fail> {
-    let rows: [Row; 27] = [
-        (0x00, &[], 0x04, &[]),
-        (0x01, &[0, 1], 0x04, &[]),
-        (0x0f, &[0], 0x04, &[]),
-        (0x0e, &[0], 0x04, &[]),
-        (0x0e, &[], 0x04, &[]),
-        (0x02, &[0], 0x06, &[]),
-        (0x03, &[], 0x06, &[]),
-        (0x03, &[8, 0], 0x06, &[]),
-        (0x0a, &[8, 0], 0x06, &[]),
-        (0x03, &[8], 0x08, &[]),
-        (0x04, &[255], 0x08, &[]),
-        (0x05, &[8], 0x08, &[]),
-        (0x07, &[8, 2], 0x08, &[]),
-        (0x09, &[8, 0], 0x08, &[]),
-        (0x0b, &[8, 9], 0x08, &[]),
-        (0x0d, &[8], 0x08, &[]),
-        (0x05, &[0], 0x06, &[]),
-        (0x06, &[0], 0x06, &[]),
-        (0x07, &[0, 0], 0x06, &[]),
-        (0x08, &[0], 0x06, &[]),
-        (0x09, &[0, 0], 0x06, &[]),
-        (0x0a, &[0, 0, 0], 0x06, &[]),
-        (0x0b, &[0, 0], 0x06, &[]),
-        (0x0c, &[0], 0x06, &[]),
-        (0x0d, &[0], 0x06, &[]),
-        (0x04, &[0], 0x00, &[]),
-        (0x03, &[0], 0x00, &[]),
-    ];
-    answers(&rt, &mut Device::new(rt.alloc())?, &rows)
+fn requests_are_answered(rt: HostRuntime) {
+    serves(&rt, &mut first(&rt, rt.alloc()), &SERVED);
+    serves(&rt, &mut first(&rt, rt.alloc()), &REFUSED);
 }
 
 /// A device whose line 3 is active and unmasked, and has this interrupt type.
-fn watched(rt: &impl Abort, alloc: Global, irq: u8) -> Result<Device, Fail> {
-    let mut device = Device::new(alloc)?;
-    let rows: [Row; 3] = [
+fn watched(rt: &impl Abort, alloc: Global, irq: u8) -> Device {
+    let mut device = first(rt, alloc);
+    let rows: [Row<'_>; 3] = [
         (0x03, &[3], 0x00, &[]),
         (0x0b, &[3, irq], 0x00, &[]),
         (0x0d, &[3], 0x00, &[]),
     ];
-    answers(rt, &mut device, &rows)?;
-    Ok(device)
+    serves(rt, &mut device, &rows);
+    device
 }
 
+/// Interrupt types, and which of the levels 0, 1, 1, 0 and 0 are interrupts then, from level 0.
+const IRQS: [(u8, [bool; 5]); 6] = [
+    (0, [false, false, false, false, false]),
+    (1, [false, true, false, false, false]),
+    (2, [false, false, false, true, false]),
+    (3, [false, true, false, true, false]),
+    (4, [false, true, true, false, false]),
+    (8, [true, false, false, true, true]),
+];
+
 #[test]
-fn levels_are_interrupts(rt: HostRuntime) -> Result<(), Fail> {
-    // The levels 0, 1, 1, 0 and 0 are set, one after the other, from 0.
-    let table: [(u8, [bool; 5]); 6] = [
-        (0, [false, false, false, false, false]),
-        (1, [false, true, false, false, false]),
-        (2, [false, false, false, true, false]),
-        (3, [false, true, false, true, false]),
-        (4, [false, true, true, false, false]),
-        (8, [true, false, false, true, true]),
-    ];
-    for (irq, fires) in table.iter() {
-        let mut device = watched(&rt, rt.alloc(), *irq)?;
+fn levels_are_interrupts(rt: HostRuntime) {
+    for (irq, fires) in IRQS.iter() {
+        let mut device = watched(&rt, rt.alloc(), *irq);
         for (value, fired) in [0, 1, 1, 0, 0].iter().zip(fires) {
             let line = device.level(3, *value);
-            assert_eq!(rt; line.is_some(), *fired, "type {irq}, level {value}");
-            assert!(rt; line.is_none() || line == Some(3));
+            assert!(rt; line == fired.then_some(3), "type {irq}, level {value}");
         }
     }
-    Ok(())
+}
+
+const MASKED: [Row<'_>; 1] = [(0x0c, &[3], 0x00, &[])];
+
+/// Line 3 is unmasked, and out.
+const OUT: [Row<'_>; 3] = [
+    (0x0d, &[3], 0x00, &[]),
+    (0x07, &[3, 0], 0x00, &[]),
+    (0x08, &[3], 0x00, &[0]),
+];
+
+/// Line 3 is in, and its level is the one from outside.
+const IN: [Row<'_>; 2] = [(0x06, &[3], 0x00, &[]), (0x08, &[3], 0x00, &[1])];
+
+const INACTIVE: [Row<'_>; 1] = [(0x04, &[3], 0x00, &[])];
+
+const ACTIVE: [Row<'_>; 2] = [(0x03, &[3], 0x00, &[]), (0x08, &[3], 0x00, &[1])];
+
+/// After these requests level 1 of line 3 is an interrupt, or isn't.
+fn interrupts(rt: &impl Abort, device: &mut Device, rows: &[Row<'_>], fired: bool) {
+    serves(rt, device, rows);
+    assert!(rt; device.level(3, 1) == fired.then_some(3));
 }
 
 #[test]
-fn some_levels_are_no_interrupts(rt: HostRuntime) -> Result<(), Fail> {
-    let mut device = watched(&rt, rt.alloc(), 4)?;
-    assert_eq!(rt; device.level(2, 1), None);
-    answers(&rt, &mut device, &[(0x0c, &[3], 0x00, &[])])?;
-    assert_eq!(rt; device.level(3, 1), None);
+fn some_levels_are_no_interrupts(rt: HostRuntime) {
+    let mut device = watched(&rt, rt.alloc(), 4);
+    assert!(rt; device.level(2, 1).is_none());
+    interrupts(&rt, &mut device, &MASKED, false);
     // The interrupt type stays while a line is out and in again, and so does its mask.
-    let rows: [Row; 3] = [
-        (0x0d, &[3], 0x00, &[]),
-        (0x07, &[3, 0], 0x00, &[]),
-        (0x08, &[3], 0x00, &[0]),
-    ];
-    answers(&rt, &mut device, &rows)?;
-    assert_eq!(rt; device.level(3, 1), None);
-    answers(
-        &rt,
-        &mut device,
-        &[(0x06, &[3], 0x00, &[]), (0x08, &[3], 0x00, &[1])],
-    )?;
-    assert_eq!(rt; device.level(3, 1), Some(3));
+    interrupts(&rt, &mut device, &OUT, false);
+    interrupts(&rt, &mut device, &IN, true);
     // The level stays over DEACTIVATE, and nothing else does.
-    answers(&rt, &mut device, &[(0x04, &[3], 0x00, &[])])?;
-    assert_eq!(rt; device.level(3, 1), None);
-    answers(
-        &rt,
-        &mut device,
-        &[(0x03, &[3], 0x00, &[]), (0x08, &[3], 0x00, &[1])],
-    )?;
-    assert_eq!(rt; device.level(3, 1), None);
-    Ok(())
+    interrupts(&rt, &mut device, &INACTIVE, false);
+    interrupts(&rt, &mut device, &ACTIVE, false);
 }
 
-/// A GPIO request of a bridge line becomes this request.
+/// A bridge line becomes this request.
 fn becomes(rt: &impl Abort, ask: &BridgeAsk, kind: u8, payload: &[u8])
     requires { HasForm ask.now }
 {
-    let mut out = [0xaa; 2040];
-    let len = payload.len();
-    assert_eq!(rt; bridge(ask, &mut out), Ok(Bridged { kind, len }));
-    let (front, back) = out.split_at(len.min(2040));
-    assert_eq!(rt; front, payload, "type {kind}");
-    assert!(rt; back.iter().all(|byte| *byte == 0xaa));
+    let mut out = [0xff; 2040];
+    let bridged = bridge(ask, &mut out);
+    is_asked(rt, bridged, &out, kind, payload);
+}
+
+/// A bridge line becomes no request.
+fn becomes_none(rt: &impl Abort, ask: &BridgeAsk)
+    requires { HasForm ask.now }
+{
+    let mut out = [0xff; 2040];
+    let bridged = bridge(ask, &mut out);
+    is_not_asked(rt, bridged, &out, BridgeFault::Unsupported);
 }
 
 /// A GPIO request of a bridge line.
@@ -189,41 +196,36 @@ fn bridge_lines_become_requests(rt: HostRuntime) {
 
 #[test]
 fn other_bridge_lines_are_unsupported(rt: HostRuntime) {
-    let asks = [
-        BridgeAsk::I2cFunctionality,
-        BridgeAsk::SpiConfig,
-        BridgeAsk::SpiDevice { select: 0 },
-        BridgeAsk::UartByte { kind: 5, value: 0 },
-    ];
-    for ask in asks.iter() {
-        let mut out = [0xaa; 2040];
-        assert_eq!(rt; bridge(ask, &mut out), Err(BridgeFault::Unsupported));
-        assert!(rt; out.iter().all(|byte| *byte == 0xaa));
-    }
+    becomes_none(&rt, &BridgeAsk::I2cFunctionality);
+    becomes_none(&rt, &BridgeAsk::SpiConfig);
+    becomes_none(&rt, &BridgeAsk::SpiDevice { select: 0 });
+    becomes_none(&rt, &BridgeAsk::UartByte { kind: 5, value: 0 });
 }
+
+/// Payloads of responses, and what they say.
+const READINGS: [(u8, &[u8], Reading); 17] = [
+    (0x02, &[7], Reading::Number(8)),
+    (0x02, &[255], Reading::Number(256)),
+    (0x02, &[], Reading::Bad),
+    (0x02, &[7, 0], Reading::Bad),
+    (0x05, &[0], Reading::Out),
+    (0x05, &[1], Reading::In),
+    (0x05, &[2], Reading::Bad),
+    (0x05, &[], Reading::Bad),
+    (0x08, &[0], Reading::Number(0)),
+    (0x08, &[1], Reading::Number(1)),
+    (0x08, &[2], Reading::Bad),
+    (0x08, &[1, 1], Reading::Bad),
+    (0x03, &[], Reading::Nothing),
+    (0x03, &[9], Reading::Nothing),
+    (0x07, &[], Reading::Nothing),
+    (0x01, &[], Reading::Nothing),
+    (0x7f, &[1], Reading::Nothing),
+];
 
 #[test]
 fn answers_are_read(rt: HostRuntime) {
-    let table: [(u8, &[u8], Reading); 17] = [
-        (0x02, &[7], Reading::Number(8)),
-        (0x02, &[255], Reading::Number(256)),
-        (0x02, &[], Reading::Bad),
-        (0x02, &[7, 0], Reading::Bad),
-        (0x05, &[0], Reading::Out),
-        (0x05, &[1], Reading::In),
-        (0x05, &[2], Reading::Bad),
-        (0x05, &[], Reading::Bad),
-        (0x08, &[0], Reading::Number(0)),
-        (0x08, &[1], Reading::Number(1)),
-        (0x08, &[2], Reading::Bad),
-        (0x08, &[1, 1], Reading::Bad),
-        (0x03, &[], Reading::Nothing),
-        (0x03, &[9], Reading::Nothing),
-        (0x07, &[], Reading::Nothing),
-        (0x01, &[], Reading::Nothing),
-        (0x7f, &[1], Reading::Nothing),
-    ];
-    for (kind, payload, said) in table.iter() {
-        assert_eq!(rt; reading(*kind, payload), *said, "type {kind}");
+    for (kind, payload, says) in READINGS.iter() {
+        assert!(rt; reading(*kind, payload) == *says, "type {kind}");
     }
 }

@@ -9,6 +9,8 @@ mod base;
 #[cfg(test)]
 mod bridge_payload;
 #[cfg(test)]
+mod checks;
+#[cfg(test)]
 mod gpio;
 #[cfg(test)]
 mod i2c;

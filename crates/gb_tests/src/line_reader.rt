@@ -2,7 +2,8 @@
 
 use gb_base::{Bytes, MemSource, Numbers};
 use gb_script::{LineReader, LineStop};
-use std::test::Fail;
+use std::alloc::Global;
+use std::process::Abort;
 
 /// How many bytes of each letter stand in the text: a short line, one of 8,192 bytes with CR, one
 /// of 8,193 bytes without, and a last one that doesn't end.
@@ -28,42 +29,71 @@ const LINES: [(usize, bool); 5] = [
     (7, false),
 ];
 
-#[test]
-fn lines_are_read_across_reads(rt: HostRuntime) -> Result<(), Fail> {
-    for step in [1, 7, 4_095, 4_096, 5_000] {
-        let mut text = Bytes::new(rt.alloc());
-        for (byte, times) in TEXT {
-            for _ in 0..times {
-                text.push(byte)?;
-            }
+/// The text.
+fn text(rt: &impl Abort, alloc: Global) -> Bytes {
+    let mut text = Bytes::new(alloc);
+    for (byte, times) in TEXT.iter() {
+        for _ in 0..*times {
+            text.push(*byte).expect(rt, "memory");
         }
+    }
+    text
+}
+
+/// The next line is of this length, and long or not.
+fn comes(
+    rt: &impl Abort,
+    reader: &mut LineReader,
+    source: &mut MemSource,
+    length: usize,
+    long: bool,
+) {
+    assert!(rt; reader.next(source) == Ok(true));
+    let line = reader.line();
+    assert!(rt; line.bytes.len() == length);
+    assert!(rt; line.long == long);
+}
+
+#[test]
+fn lines_are_read_across_reads(rt: HostRuntime) {
+    for step in [1, 7, 4_095, 4_096, 5_000] {
+        let text = text(&rt, rt.alloc());
         let mut source = MemSource::new(text, step, Numbers::new(rt.alloc()));
-        let mut reader = LineReader::new(rt.alloc())?;
-        for (length, long) in LINES {
-            assert!(rt; reader.next(&mut source) == Ok(true));
-            let line = reader.line();
-            assert!(rt; line.bytes.len() == length);
-            assert!(rt; line.long == long);
+        let mut reader = LineReader::new(rt.alloc()).expect(&rt, "memory");
+        for (length, long) in LINES.iter() {
+            comes(&rt, &mut reader, &mut source, *length, *long);
         }
         assert!(rt; reader.line().number == 5);
         assert!(rt; reader.next(&mut source) == Ok(false));
     }
-    Ok(())
+}
+
+/// A source whose second read fails.
+fn failing(rt: &impl Abort, alloc: Global, text: &[u8]) -> MemSource {
+    let mut failing = Numbers::new(alloc);
+    failing.push(2).expect(rt, "memory");
+    let text = Bytes::from_slice(alloc, text).expect(rt, "memory");
+    MemSource::new(text, 10, failing)
+}
+
+/// The next line has these bytes.
+fn reads(rt: &impl Abort, reader: &mut LineReader, source: &mut MemSource, bytes: &[u8]) {
+    assert!(rt; reader.next(source) == Ok(true));
+    assert!(rt; reader.line().bytes == bytes);
+}
+
+/// The next line can't be read.
+fn stops(rt: &impl Abort, reader: &mut LineReader, source: &mut MemSource) {
+    assert!(rt; reader.next(source) == Err(LineStop::ReadFault));
 }
 
 #[test]
-fn nothing_is_read_while_a_line_is_held(rt: HostRuntime) -> Result<(), Fail> {
-    let mut failing = Numbers::new(rt.alloc());
-    failing.push(2)?;
-    let text = Bytes::from_slice(rt.alloc(), b"one\r\ntwo\nthree\n")?;
-    let mut source = MemSource::new(text, 10, failing);
-    let mut reader = LineReader::new(rt.alloc())?;
-    for wanted in [b"one", b"two"] {
-        assert!(rt; reader.next(&mut source) == Ok(true));
-        assert!(rt; reader.line().bytes == wanted.as_slice());
-    }
-    assert!(rt; reader.next(&mut source) == Err(LineStop::ReadFault));
-    assert!(rt; reader.next(&mut source) == Err(LineStop::ReadFault));
+fn nothing_is_read_while_a_line_is_held(rt: HostRuntime) {
+    let mut source = failing(&rt, rt.alloc(), b"one\r\ntwo\nthree\n");
+    let mut reader = LineReader::new(rt.alloc()).expect(&rt, "memory");
+    reads(&rt, &mut reader, &mut source, b"one");
+    reads(&rt, &mut reader, &mut source, b"two");
+    stops(&rt, &mut reader, &mut source);
+    stops(&rt, &mut reader, &mut source);
     assert!(rt; source.left() == b"hree\n".as_slice());
-    Ok(())
 }

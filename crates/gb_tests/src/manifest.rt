@@ -61,7 +61,7 @@ fn gpio_spec(rt: &impl Abort, alloc: Global, bundle: u8) -> ManifestSpec {
 fn writes_specs(rt: HostRuntime) {
     let spec = gpio_spec(&rt, rt.alloc(), 1);
     let bytes = write(rt.alloc(), &spec).expect(&rt, "a manifest");
-    assert_eq!(rt; bytes.items(), GPIO.as_slice());
+    assert!(rt; bytes.items() == GPIO.as_slice());
 }
 
 #[test]
@@ -87,11 +87,11 @@ fn is_refused(rt: &impl Abort, alloc: Global, spec: &ManifestSpec, why: WriteFau
 fn reads_manifests(rt: HostRuntime) {
     assert!(rt; check(&GPIO[..71]).is_err());
     let m = check(&GPIO).expect(&rt, "the GPIO manifest is one");
-    assert_eq!(rt; (m.minor(), m.size()), (1, 72));
+    assert!(rt; (m.minor(), m.size()) == (1, 72));
     let found = m.cport(1).map(|cport| (cport.bundle, cport.protocol));
-    assert_eq!(rt; found, Some((1, 2)));
+    assert!(rt; found == Some((1, 2)));
     assert!(rt; m.cport(2).is_none());
-    assert_eq!(rt; m.descriptors().count(), 7);
+    assert!(rt; m.descriptors().count() == 7);
 }
 
 #[test]
@@ -99,5 +99,5 @@ fn types_begin_at_one(rt: HostRuntime) {
     let mut bytes = GPIO;
     bytes[6] = 0;
     let (at, reason) = (6, Reason::DescriptorType);
-    assert_eq!(rt; check(&bytes).err(), Some(Refused { at, reason }));
+    assert!(rt; check(&bytes).err() == Some(Refused { at, reason }));
 }

@@ -1,49 +1,43 @@
 //! A record of each enum, both ways.
 
+use crate::checks::is_front;
 use gb_payload::{ControlAsk, ControlReply, Field, Fields, SvcAsk, SvcReply, put};
 use std::process::Abort;
-
-/// These bytes were written, and nothing behind them.
-fn is_written(rt: &impl Abort, out: &[u8], size: usize, bytes: &[u8]) {
-    assert_eq!(rt; size, bytes.len());
-    assert!(rt; out.starts_with(bytes));
-    assert!(rt; out.iter().skip(bytes.len()).all(|byte| *byte == 0xff));
-}
 
 /// A request of the SVC's protocol has this type and payload.
 fn is_svc_ask(rt: &impl Abort, ask: SvcAsk, kind: u8, bytes: &[u8]) {
     let mut out = [0xff; 9];
-    assert_eq!(rt; SvcAsk::read(kind, bytes), Ok(ask));
-    assert_eq!(rt; ask.kind(), kind);
-    let size = ask.write(&mut out).expect(rt, "room");
-    is_written(rt, &out, size, bytes);
+    assert!(rt; SvcAsk::read(kind, bytes) == Ok(ask));
+    assert!(rt; ask.kind() == kind);
+    assert!(rt; ask.write(&mut out) == Ok(bytes.len()));
+    is_front(rt, &out, bytes);
 }
 
 /// A response of the SVC's protocol has this type and payload.
 fn is_svc_reply(rt: &impl Abort, reply: SvcReply, kind: u8, bytes: &[u8]) {
     let mut out = [0xff; 9];
-    assert_eq!(rt; SvcReply::read(kind, bytes), Ok(reply));
-    assert_eq!(rt; reply.kind(), kind);
-    let size = reply.write(&mut out).expect(rt, "room");
-    is_written(rt, &out, size, bytes);
+    assert!(rt; SvcReply::read(kind, bytes) == Ok(reply));
+    assert!(rt; reply.kind() == kind);
+    assert!(rt; reply.write(&mut out) == Ok(bytes.len()));
+    is_front(rt, &out, bytes);
 }
 
 /// A request of the Control protocol has this type and payload.
 fn is_control_ask(rt: &impl Abort, ask: ControlAsk, kind: u8, bytes: &[u8]) {
     let mut out = [0xff; 9];
-    assert_eq!(rt; ControlAsk::read(kind, bytes), Ok(ask));
-    assert_eq!(rt; ask.kind(), kind);
-    let size = ask.write(&mut out).expect(rt, "room");
-    is_written(rt, &out, size, bytes);
+    assert!(rt; ControlAsk::read(kind, bytes) == Ok(ask));
+    assert!(rt; ask.kind() == kind);
+    assert!(rt; ask.write(&mut out) == Ok(bytes.len()));
+    is_front(rt, &out, bytes);
 }
 
 /// A response of the Control protocol has this type and payload.
 fn is_control_reply(rt: &impl Abort, reply: ControlReply<'_>, kind: u8, bytes: &[u8]) {
     let mut out = [0xff; 9];
-    assert_eq!(rt; ControlReply::read(kind, bytes), Ok(reply));
-    assert_eq!(rt; reply.kind(), kind);
-    let size = reply.write(&mut out).expect(rt, "room");
-    is_written(rt, &out, size, bytes);
+    assert!(rt; ControlReply::read(kind, bytes) == Ok(reply));
+    assert!(rt; reply.kind() == kind);
+    assert!(rt; reply.write(&mut out) == Ok(bytes.len()));
+    is_front(rt, &out, bytes);
 }
 
 #[test]
@@ -78,12 +72,9 @@ fn fields_of_each_width(rt: HostRuntime) {
         Field::U8(7),
         Field::Bytes(b"ab"),
     ];
-    assert_eq!(rt; put(&fields, &mut out), Ok(9));
-    assert_eq!(rt; out, *b"\x04\x03\x02\x01\x06\x05\x07ab");
+    assert!(rt; put(&fields, &mut out) == Ok(9));
+    assert!(rt; out == *b"\x04\x03\x02\x01\x06\x05\x07ab");
     let mut read = Fields::of(&out, 9).expect(&rt, "nine bytes");
-    assert_eq!(rt;
-        (read.u32(), read.u16(), read.u8()),
-        (0x0102_0304, 0x0506, 7)
-    );
-    assert_eq!(rt; read.rest(), b"ab".as_slice());
+    assert!(rt; (read.u32(), read.u16(), read.u8()) == (0x0102_0304, 0x0506, 7));
+    assert!(rt; read.rest() == b"ab".as_slice());
 }

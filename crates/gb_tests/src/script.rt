@@ -1,113 +1,150 @@
 //! Lines as the grammar has them.
 
-use gb_base::{BridgeAsk, End, Event, Kind, OutOfMemory};
-use gb_script::{LineFault, event, first_line, made};
-use std::test::Fail;
+use gb_base::{BridgeAsk, End, Event, Kind, Name, OutOfMemory};
+use gb_script::{event, first_line, made};
+use std::alloc::Global;
+use std::process::Abort;
 
 #[test]
-fn cuts_lines(rt: HostRuntime) -> Result<(), Fail> {
+fn cuts_lines(rt: HostRuntime) {
     let mut rest = b"show\r\n\nboot".as_slice();
     for wanted in [b"show".as_slice(), b"", b"boot"] {
-        let (line, behind) = first_line(rest).ok_or("no line")?;
-        assert_eq!(rt; line, wanted);
+        let (line, behind) = first_line(rest).expect(&rt, "a line");
+        assert!(rt; line == wanted);
         rest = behind;
     }
     assert!(rt; first_line(rest).is_none());
-    Ok(())
+}
+
+/// A line of requester 3 is an event of which this holds.
+fn says<F: Fn(&Event) -> bool>(rt: &impl Abort, alloc: Global, line: &[u8], holds: F)
+    requires { F.IsAlwaysCallable holds }
+{
+    let said = event(alloc, line, 3);
+    assert!(rt; matches!(&said, Ok(Some(event)) if holds(event)));
+}
+
+/// Whether this is the name of requester 3 with this word.
+fn is_named(name: &Name, word: &[u8]) -> bool {
+    name.who == 3 && name.word.bytes() == word
+}
+
+/// A line delivers at this end.
+fn delivers(rt: &impl Abort, alloc: Global, line: &[u8], end: End) {
+    says(
+        rt,
+        alloc,
+        line,
+        |event| matches!(event, Event::Deliver { at } if *at == end),
+    );
 }
 
 #[test]
-fn reads_lines(rt: HostRuntime) {
+fn reads_ends(rt: HostRuntime) {
     let alloc = rt.alloc();
-    let comment = event(alloc, b" # deliver svc", 0);
-    assert!(rt; matches!(comment, Ok(None)));
-    let svc = event(alloc, b"deliver  svc ", 0);
-    assert!(rt; matches!(svc, Ok(Some(Event::Deliver { at: End::Svc }))));
-    let ap = event(alloc, b"deliver ap 0", 0);
-    assert!(rt; matches!(ap, Ok(Some(Event::Deliver { at: End::Ap(0) }))));
-    let ping = event(alloc, b"send @x1 svc ping", 3);
-    assert!(rt; is_ping(&ping));
+    assert!(rt; matches!(event(alloc, b" # deliver svc", 0), Ok(None)));
+    delivers(&rt, alloc, b"deliver  svc ", End::Svc);
+    delivers(&rt, alloc, b"deliver ap 0", End::Ap(0));
+    delivers(&rt, alloc, b"deliver ap 4095", End::Ap(4095));
+    delivers(
+        &rt,
+        alloc,
+        b"deliver 2 1",
+        End::Module { intf: 2, cport: 1 },
+    );
+}
+
+/// A line asks the SVC for a request with this name, type, payload and timeout.
+fn asks(rt: &impl Abort, alloc: Global, line: &[u8], want: (&[u8], u8, &[u8], u32)) {
+    says(rt, alloc, line, |event| match event {
+        Event::Send {
+            name,
+            to: End::Svc,
+            kind,
+            payload,
+            timeout,
+        } => { name.who == 3 && (name.word.bytes(), *kind, payload.items(), *timeout) == want }
+        _ => false,
+    });
 }
 
 #[test]
-fn reads_requests_and_cancels(rt: HostRuntime) {
+fn reads_requests(rt: HostRuntime) {
     let alloc = rt.alloc();
-    let last = event(alloc, b"send @abcdefghij012345 svc 7f 0Ab1", 0);
-    assert!(rt; is_ask(&last, 0x7f, &[0x0a, 0xb1], 1000));
-    let empty = event(alloc, b"send @x svc 07 - timeout 4294967295", 0);
-    assert!(rt; is_ask(&empty, 0x07, &[], u32::MAX));
-    let cancel = event(alloc, b" cancel  @z9", 2);
-    assert!(rt; is_cancel(&cancel));
+    asks(&rt, alloc, b"send @x1 svc ping", (b"x1", 0x13, b"", 1000));
+    let longest = b"send @abcdefghij012345 svc 7f 0Ab1";
+    asks(
+        &rt,
+        alloc,
+        longest,
+        (b"abcdefghij012345", 0x7f, b"\x0a\xb1", 1000),
+    );
+    let latest = b"send @x svc 07 - timeout 4294967295";
+    asks(&rt, alloc, latest, (b"x", 0x07, b"", u32::MAX));
 }
 
 #[test]
-fn reads_settles_and_names(rt: HostRuntime) {
+fn reads_names(rt: HostRuntime) {
     let alloc = rt.alloc();
-    let settle = event(alloc, b"settle 65535", 0);
-    assert!(rt; matches!(settle, Ok(Some(Event::Settle { most: 65535 }))));
-    let ap = event(alloc, b"deliver ap 4095", 0);
-    assert!(rt; matches!(ap, Ok(Some(Event::Deliver { at: End::Ap(4095) }))));
-    let copy = event(alloc, b"copy @a @b", 0);
-    assert!(rt; is_copy(&copy));
-    let free = event(alloc, b"drop @a", 0);
-    assert!(rt; matches!(free, Ok(Some(Event::Forget { .. }))));
-    let module = event(alloc, b"deliver 2 1", 0);
-    let end = End::Module { intf: 2, cport: 1 };
-    assert!(rt; matches!(module, Ok(Some(Event::Deliver { at })) if at == end));
+    says(&rt, alloc, b" cancel  @z9", |event| {
+        matches!(event, Event::Cancel { name } if is_named(name, b"z9"))
+    });
+    says(&rt, alloc, b"copy @a @b", |event| {
+        matches!(event, Event::Copy { from, to } if is_named(from, b"a") && is_named(to, b"b"))
+    });
+    says(&rt, alloc, b"drop @a", |event| {
+        matches!(event, Event::Forget { name } if is_named(name, b"a"))
+    });
 }
 
-/// Whether a line copied `a` to `b`.
-fn is_copy(said: &Result<Option<Event>, LineFault>) -> bool {
-    match said {
-        Ok(Some(Event::Copy { from, to })) => {
-            from.word.bytes() == b"a".as_slice() && to.word.bytes() == b"b".as_slice()
-        }
-        _ => false,
-    }
+#[test]
+fn reads_times_and_places(rt: HostRuntime) {
+    let alloc = rt.alloc();
+    says(
+        &rt,
+        alloc,
+        b"settle 65535",
+        |event| matches!(event, Event::Settle { most: 65535 }),
+    );
+    says(&rt, alloc, b"tick 4294967295", |event| {
+        matches!(event, Event::Tick { millis: u32::MAX })
+    });
+    says(&rt, alloc, b"hold 31 4095", |event| {
+        matches!(
+            event,
+            Event::Hold {
+                intf: 31,
+                cport: 4095
+            }
+        )
+    });
+    says(&rt, alloc, b"answer 2 1 4294967295", |event| {
+        matches!(
+            event,
+            Event::Answer {
+                intf: 2,
+                cport: 1,
+                place: u32::MAX
+            }
+        )
+    });
 }
 
-/// Whether a line cancelled requester 2's `z9`.
-fn is_cancel(said: &Result<Option<Event>, LineFault>) -> bool {
-    match said {
-        Ok(Some(Event::Cancel { name })) => name.who == 2 && name.word.bytes() == b"z9".as_slice(),
+#[test]
+fn reads_raw_bytes(rt: HostRuntime) {
+    let alloc = rt.alloc();
+    says(&rt, alloc, b"insert 2 raw 0aFf", |event| match event {
+        Event::InsertRaw { intf: 2, manifest } => manifest.items() == b"\x0a\xff".as_slice(),
         _ => false,
-    }
-}
-
-/// Whether a line asked for a request of this type, with this payload and timeout.
-fn is_ask(said: &Result<Option<Event>, LineFault>, wanted: u8, bytes: &[u8], most: u32) -> bool {
-    match said {
-        Ok(
-            Some(
-                Event::Send {
-                    to: End::Svc,
-                    kind,
-                    payload,
-                    timeout,
-                    ..
-                },
-            ),
-        ) => *kind == wanted && *timeout == most && payload.items() == bytes,
+    });
+    says(&rt, alloc, b"inject 2 1 -", |event| match event {
+        Event::Inject {
+            intf: 2,
+            cport: 1,
+            bytes,
+        } => bytes.items().is_empty(),
         _ => false,
-    }
-}
-
-/// Whether a line asked requester 3's ping `x1`.
-fn is_ping(said: &Result<Option<Event>, LineFault>) -> bool {
-    match said {
-        Ok(
-            Some(
-                Event::Send {
-                    name,
-                    to: End::Svc,
-                    kind: 0x13,
-                    payload,
-                    timeout: 1000,
-                },
-            ),
-        ) => name.who == 3 && name.word.bytes() == b"x1".as_slice() && payload.items().is_empty(),
-        _ => false,
-    }
+    });
 }
 
 /// A line for each form of a bridge line, and of what devices have from outside.
@@ -141,115 +178,60 @@ const BRIDGED: &[&str] = &[
 ];
 
 #[test]
-fn reads_raw_bytes(rt: HostRuntime) {
-    let module = event(rt.alloc(), b"insert 2 raw 0aFf", 0);
-    assert!(rt; has_raw_bytes(&module, &[0x0a, 0xff]));
-    let none = event(rt.alloc(), b"inject 2 1 -", 0);
-    assert!(rt; has_raw_bytes(&none, &[]));
-}
-
-/// Whether a line has these bytes for interface 2, or for its CPort 1.
-fn has_raw_bytes(said: &Result<Option<Event>, LineFault>, wanted: &[u8]) -> bool {
-    match said {
-        Ok(Some(Event::InsertRaw { intf: 2, manifest })) => manifest.items() == wanted,
-        Ok(
-            Some(
-                Event::Inject {
-                    intf: 2,
-                    cport: 1,
-                    bytes,
-                },
-            ),
-        ) => bytes.items() == wanted,
-        _ => false,
-    }
-}
-
-#[test]
-fn reads_times_and_places(rt: HostRuntime) {
-    let alloc = rt.alloc();
-    let tick = event(alloc, b"tick 4294967295", 0);
-    assert!(rt;
-        matches!(
-            tick,
-            Ok(Some(Event::Tick {
-                millis: 4_294_967_295
-            }))
-        )
-    );
-    let hold = event(alloc, b"hold 31 4095", 0);
-    assert!(rt;
-        matches!(
-            hold,
-            Ok(Some(Event::Hold {
-                intf: 31,
-                cport: 4095
-            }))
-        )
-    );
-    let answer = event(alloc, b"answer 2 1 4294967295", 0);
-    assert!(rt;
-        matches!(
-            answer,
-            Ok(Some(Event::Answer {
-                intf: 2,
-                cport: 1,
-                place: 4_294_967_295
-            }))
-        )
-    );
-}
-
-#[test]
 fn reads_bridge_lines(rt: HostRuntime) {
     for line in BRIDGED {
-        let said = event(rt.alloc(), line.as_bytes(), 0);
-        assert!(rt; is_bridged(&said), "{line}");
+        says(&rt, rt.alloc(), line.as_bytes(), is_bridged);
     }
 }
 
 /// Whether a line was a bridge line, or something from outside.
-fn is_bridged(said: &Result<Option<Event>, LineFault>) -> bool {
+fn is_bridged(event: &Event) -> bool {
     matches!(
-        said,
-        Ok(Some(Event::Bridge { .. } | Event::Level { .. } | Event::SerialState { .. }))
+        event,
+        Event::Bridge { .. } | Event::Level { .. } | Event::SerialState { .. }
     )
+}
+
+/// A line that was made is an event of which this holds.
+fn makes<F: Fn(&Event) -> bool>(rt: &impl Abort, made: Result<Event, OutOfMemory>, holds: F)
+    requires { F.IsAlwaysCallable holds }
+{
+    assert!(rt; matches!(&made, Ok(event) if holds(event)));
 }
 
 #[test]
 fn makes_lines_from_a_seed(rt: HostRuntime) {
     let alloc = rt.alloc();
-    let first = made(alloc, 1, 1);
-    assert!(rt;
+    makes(&rt, made(alloc, 1, 1), |event| {
         matches!(
-            first,
-            Ok(Event::Insert {
+            event,
+            Event::Insert {
                 intf: 2,
                 kind: Kind::Bridge
-            })
+            }
         )
+    });
+    makes(
+        &rt,
+        made(alloc, 1, 24),
+        |event| matches!(event, Event::Tick { millis: 200 }),
     );
-    let tick = made(alloc, 1, 24);
-    assert!(rt; matches!(tick, Ok(Event::Tick { millis: 200 })));
-    let gpio = made(alloc, 1, 26);
-    assert!(rt; is_activate(&gpio));
+    makes(&rt, made(alloc, 1, 26), is_activate);
 }
 
-/// Whether a line is `gpio @n3 2 1 activate 4`.
-fn is_activate(said: &Result<Event, OutOfMemory>) -> bool {
-    match said {
-        Ok(
-            Event::Bridge {
-                name,
-                intf: 2,
-                cport: 1,
-                ask: BridgeAsk::Gpio {
-                    kind: 0x03,
-                    line: 4,
-                    value: 0,
-                },
+/// Whether this is `gpio @n3 2 1 activate 4`.
+fn is_activate(event: &Event) -> bool {
+    match event {
+        Event::Bridge {
+            name,
+            intf: 2,
+            cport: 1,
+            ask: BridgeAsk::Gpio {
+                kind: 0x03,
+                line: 4,
+                value: 0,
             },
-        ) => name.who == 0 && name.word.bytes() == b"n3".as_slice(),
+        } => name.who == 0 && name.word.bytes() == b"n3".as_slice(),
         _ => false,
     }
 }

@@ -2,6 +2,7 @@
 
 ghost use Rattle.std.specs.Prelude.{◌≡◌, ◌<◌, ◌≤◌, length};
 
+use crate::checks::is_front;
 use gb_base::{NoRoom, WireFault};
 use gb_wire::{FeedFault, Feeder, Message, decode, encode_into};
 use std::process::Abort;
@@ -28,33 +29,29 @@ fn is_spelled(rt: &impl Abort, message: &Message<'_>, bytes: &[u8])
     requires request { message.now.kind < 128 → message.now.result ≡ 0 }
 {
     let mut out = [0xff; 10];
-    assert_eq!(rt; encode_into(message, &mut out), Ok(bytes.len()));
-    assert!(rt; out.starts_with(bytes));
-    assert!(rt; out.iter().skip(bytes.len()).all(|byte| *byte == 0xff));
+    assert!(rt; encode_into(message, &mut out) == Ok(bytes.len()));
+    is_front(rt, &out, bytes);
     let (read, size) = decode(bytes).expect(rt, "these bytes are a message");
     is_same(rt, &read, message);
-    assert_eq!(rt; size, bytes.len());
+    assert!(rt; size == bytes.len());
 }
 
 /// Two messages are the same.
 fn is_same(rt: &impl Abort, read: &Message<'_>, want: &Message<'_>) {
-    assert_eq!(rt;
-        (read.id, read.kind, read.result),
-        (want.id, want.kind, want.result)
-    );
-    assert_eq!(rt; read.payload, want.payload);
+    assert!(rt; (read.id, read.kind, read.result) == (want.id, want.kind, want.result));
+    assert!(rt; read.payload == want.payload);
 }
 
 /// These bytes are no message.
 fn is_none(rt: &impl Abort, bytes: &[u8], fault: WireFault) {
-    assert_eq!(rt; decode(bytes).err(), Some(fault));
+    assert!(rt; decode(bytes).err() == Some(fault));
 }
 
 #[test]
 fn spells_messages(rt: HostRuntime) {
     is_spelled(&rt, &PING, b"\x08\0\x01\0\x13\0\0\0");
     is_spelled(&rt, &ANSWER, b"\x09\0\x34\x12\x85\x09\0\0\x07");
-    assert_eq!(rt; encode_into(&ANSWER, &mut [0xff; 8]), Err(NoRoom));
+    assert!(rt; encode_into(&ANSWER, &mut [0xff; 8]) == Err(NoRoom));
 }
 
 #[test]
@@ -78,10 +75,10 @@ const STREAM: &[u8] =
 /// With this piece these messages are whole.
 fn feeds(rt: &impl Abort, feeder: &mut Feeder, piece: &[u8], wanted: &[Message<'_>]) {
     let messages = feeder.feed(piece).expect(rt, "no fault, and memory");
-    assert_eq!(rt; messages.items().len(), wanted.len());
+    assert!(rt; messages.items().len() == wanted.len());
     for (m, want) in messages.items().iter().zip(wanted) {
-        assert_eq!(rt; (m.id, m.kind, m.result), (want.id, want.kind, want.result));
-        assert_eq!(rt; m.payload.items(), want.payload);
+        assert!(rt; (m.id, m.kind, m.result) == (want.id, want.kind, want.result));
+        assert!(rt; m.payload.items() == want.payload);
     }
 }
 
