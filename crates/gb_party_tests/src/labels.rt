@@ -5,7 +5,7 @@ use std::process::Abort;
 
 /// Draws this identifier, or none.
 fn draws(rt: &impl Abort, labels: &mut Labels, want: Option<u16>) {
-    assert_eq!(rt; labels.draw().ok(), want);
+    assert!(rt; labels.draw().ok() == want);
 }
 
 #[test]

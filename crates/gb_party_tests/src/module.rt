@@ -15,10 +15,11 @@ type Row<'a> = (u16, u8, &'a [u8], u8, &'a [u8]);
 
 /// The module answers these requests so, one after the other, and makes no requests of its own.
 fn serves(rt: &impl Abort, module: &mut Module, rows: &[Row]) {
-    for (at, (cport, kind, payload, code, told)) in rows.iter().enumerate() {
-        let served = module.serve(*cport, *kind, payload).expect(rt, "memory");
-        assert_eq!(rt; served.result, *code, "row {at}, type {kind}");
-        assert_eq!(rt; served.payload.items(), *told, "row {at}, type {kind}");
+    for (at, row) in rows.iter().enumerate() {
+        let (cport, kind, payload, code, told) = *row;
+        let served = module.serve(cport, kind, payload).expect(rt, "memory");
+        let answer = (served.result, served.payload.items());
+        assert!(rt; answer == (code, told), "row {at}");
         assert!(rt; served.asks.items().is_empty());
     }
 }
@@ -30,10 +31,10 @@ fn asks(rt: &impl Abort, module: &mut Module, cport: u16, what: Stir, want: (usi
 {
     let asks = module.stir(cport, what).expect(rt, "memory");
     let (count, kind, payload) = want;
-    assert_eq!(rt; asks.items().len(), count);
+    assert!(rt; asks.items().len() == count);
     if let Some(ask) = asks.items().first() {
-        assert_eq!(rt; ask.kind, kind);
-        assert_eq!(rt; ask.payload.items(), payload);
+        assert!(rt; ask.kind == kind);
+        assert!(rt; ask.payload.items() == payload);
     }
 }
 
@@ -82,40 +83,42 @@ fn kinds_have_their_manifests(rt: HostRuntime) {
     tells(&rt, rt.alloc(), Kind::Bridge, 96, bridge);
 }
 
+/// Requests of the Control protocol, and at CPort 1 where it is connected, and at CPort 2.
+const CONTROL: [Row; 29] = [
+    (0, 0x01, &[0, 1], 0x00, &[0, 1]),
+    (0, 0x01, &[7, 9], 0x00, &[0, 1]),
+    (0, 0x01, &[0], 0x06, &[]),
+    (0, 0x02, &[], 0x04, &[]),
+    (0, 0x03, &[], 0x00, &[72, 0]),
+    (0, 0x03, &[0], 0x06, &[]),
+    (0, 0x04, &[0], 0x06, &[]),
+    (0, 0x05, &[0, 0], 0x08, &[]),
+    (0, 0x05, &[2, 0], 0x08, &[]),
+    (0, 0x05, &[1], 0x06, &[]),
+    (0, 0x06, &[2, 0], 0x08, &[]),
+    (0, 0x06, &[1, 0], 0x06, &[]),
+    (0, 0x0c, &[1, 0], 0x06, &[]),
+    (0, 0x05, &[1, 0], 0x00, &[]),
+    (1, 0x03, &[3], 0x00, &[]),
+    (0, 0x05, &[1, 0], 0x06, &[]),
+    (0, 0x06, &[1, 0], 0x06, &[]),
+    (0, 0x0c, &[1, 0], 0x00, &[]),
+    (1, 0x05, &[3], 0x00, &[1]),
+    (0, 0x05, &[1, 0], 0x06, &[]),
+    (0, 0x0c, &[1, 0], 0x06, &[]),
+    (0, 0x0c, &[2, 0], 0x08, &[]),
+    (0, 0x06, &[1, 0], 0x00, &[]),
+    (0, 0x0c, &[1, 0], 0x06, &[]),
+    (0, 0x05, &[1, 0], 0x00, &[]),
+    (1, 0x05, &[3], 0x06, &[]),
+    (0, 0x07, &[], 0x04, &[]),
+    (0, 0x0d, &[1, 0], 0x04, &[]),
+    (2, 0x02, &[], 0x04, &[]),
+];
+
 #[test]
 fn control_answers(rt: HostRuntime) {
-    let rows: [Row; 29] = [
-        (0, 0x01, &[0, 1], 0x00, &[0, 1]),
-        (0, 0x01, &[7, 9], 0x00, &[0, 1]),
-        (0, 0x01, &[0], 0x06, &[]),
-        (0, 0x02, &[], 0x04, &[]),
-        (0, 0x03, &[], 0x00, &[72, 0]),
-        (0, 0x03, &[0], 0x06, &[]),
-        (0, 0x04, &[0], 0x06, &[]),
-        (0, 0x05, &[0, 0], 0x08, &[]),
-        (0, 0x05, &[2, 0], 0x08, &[]),
-        (0, 0x05, &[1], 0x06, &[]),
-        (0, 0x06, &[2, 0], 0x08, &[]),
-        (0, 0x06, &[1, 0], 0x06, &[]),
-        (0, 0x0c, &[1, 0], 0x06, &[]),
-        (0, 0x05, &[1, 0], 0x00, &[]),
-        (1, 0x03, &[3], 0x00, &[]),
-        (0, 0x05, &[1, 0], 0x06, &[]),
-        (0, 0x06, &[1, 0], 0x06, &[]),
-        (0, 0x0c, &[1, 0], 0x00, &[]),
-        (1, 0x05, &[3], 0x00, &[1]),
-        (0, 0x05, &[1, 0], 0x06, &[]),
-        (0, 0x0c, &[1, 0], 0x06, &[]),
-        (0, 0x0c, &[2, 0], 0x08, &[]),
-        (0, 0x06, &[1, 0], 0x00, &[]),
-        (0, 0x0c, &[1, 0], 0x06, &[]),
-        (0, 0x05, &[1, 0], 0x00, &[]),
-        (1, 0x05, &[3], 0x06, &[]),
-        (0, 0x07, &[], 0x04, &[]),
-        (0, 0x0d, &[1, 0], 0x04, &[]),
-        (2, 0x02, &[], 0x04, &[]),
-    ];
-    serves(&rt, &mut made(&rt, rt.alloc(), Kind::Gpio), &rows);
+    serves(&rt, &mut made(&rt, rt.alloc(), Kind::Gpio), &CONTROL);
 }
 
 #[test]
@@ -124,23 +127,23 @@ fn a_quiet_cport_makes_no_requests(rt: HostRuntime) {
     let fall = Stir::Level { line: 3, value: 0 };
     let state = Stir::Serial { control: 2 };
     let mut module = made(&rt, rt.alloc(), Kind::Bridge);
-    assert_eq!(&rt; module.state(1), CportState::Off);
+    assert!(&rt; module.state(1) == CportState::Off);
     asks(&rt, &mut module, 1, rise, (0, 0, &[]));
     asks(&rt, &mut module, 4, state, (0, 0, &[]));
     has_none(&rt, &mut module, 1, state);
     has_none(&rt, &mut module, 2, rise);
     has_none(&rt, &mut module, 9, state);
     serves(&rt, &mut module, &CONNECTED);
-    assert_eq!(&rt; module.state(1), CportState::On);
+    assert!(&rt; module.state(1) == CportState::On);
     asks(&rt, &mut module, 1, fall, (0, 0, &[]));
     asks(&rt, &mut module, 1, rise, (1, 0x0e, &[3]));
     asks(&rt, &mut module, 4, state, (1, 0x07, &[2]));
     let echoed = module
         .serve(4, 0x02, &[2, 0, 0x61, 0x62])
         .expect(&rt, "memory");
-    assert_eq!(&rt; echoed.asks.items().len(), 2);
+    assert!(&rt; echoed.asks.items().len() == 2);
     serves(&rt, &mut module, &DISCONNECTING);
-    assert_eq!(&rt; module.state(4), CportState::Quiet);
+    assert!(&rt; module.state(4) == CportState::Quiet);
     asks(&rt, &mut module, 1, fall, (0, 0, &[]));
     asks(&rt, &mut module, 1, rise, (0, 0, &[]));
     asks(&rt, &mut module, 4, state, (0, 0, &[]));
@@ -167,28 +170,35 @@ const CONNECTED: [Row; 6] = [
 /// CPorts 1 and 4 will be disconnected.
 const DISCONNECTING: [Row; 2] = [(0, 0x0c, &[1, 0], 0x00, &[]), (0, 0x0c, &[4, 0], 0x00, &[])];
 
+/// A manifest whose CPorts 5 and 9 are UARTs; CPort 3 has another protocol, and 12 is of bundle 0.
+const MANIFEST: &[u8] = b"\x44\0\0\x01\x08\0\x01\0\0\0\0\0\
+    \x08\0\x03\0\0\0\0\0\x08\0\x03\0\x01\x0a\0\0\
+    \x08\0\x04\0\0\0\0\0\x08\0\x04\0\x05\0\x01\x04\x08\0\x04\0\x03\0\x01\x10\
+    \x08\0\x04\0\x09\0\x01\x04\x08\0\x04\0\x0c\0\0\x02";
+
+/// Requests at a module of this manifest.
+const OF_MANIFEST: [Row; 8] = [
+    (0, 0x03, &[], 0x00, &[68, 0]),
+    (0, 0x04, &[], 0x00, MANIFEST),
+    (0, 0x05, &[3, 0], 0x08, &[]),
+    (0, 0x05, &[12, 0], 0x08, &[]),
+    (0, 0x05, &[9, 0], 0x00, &[]),
+    (9, 0x05, &[4], 0x06, &[]),
+    (0, 0x05, &[5, 0], 0x00, &[]),
+    (5, 0x05, &[3], 0x00, &[]),
+];
+
+/// Requests at a module whose bytes are no manifest.
+const OF_NONE: [Row; 3] = [
+    (0, 0x03, &[], 0x00, &[2, 0]),
+    (0, 0x04, &[], 0x00, &[3, 0]),
+    (0, 0x05, &[1, 0], 0x08, &[]),
+];
+
 #[test]
 fn raw_manifests_make_modules(rt: HostRuntime) {
-    let manifest = b"\x44\0\0\x01\x08\0\x01\0\0\0\0\0\x08\0\x03\0\0\0\0\0\x08\0\x03\0\x01\x0a\0\0\
-        \x08\0\x04\0\0\0\0\0\x08\0\x04\0\x05\0\x01\x04\x08\0\x04\0\x03\0\x01\x10\
-        \x08\0\x04\0\x09\0\x01\x04\x08\0\x04\0\x0c\0\0\x02";
-    let rows: [Row; 8] = [
-        (0, 0x03, &[], 0x00, &[68, 0]),
-        (0, 0x04, &[], 0x00, manifest),
-        (0, 0x05, &[3, 0], 0x08, &[]),
-        (0, 0x05, &[12, 0], 0x08, &[]),
-        (0, 0x05, &[9, 0], 0x00, &[]),
-        (9, 0x05, &[4], 0x06, &[]),
-        (0, 0x05, &[5, 0], 0x00, &[]),
-        (5, 0x05, &[3], 0x00, &[]),
-    ];
-    let mut module = Module::raw(rt.alloc(), manifest).expect(&rt, "memory");
-    serves(&rt, &mut module, &rows);
-    let refused: [Row; 3] = [
-        (0, 0x03, &[], 0x00, &[2, 0]),
-        (0, 0x04, &[], 0x00, &[3, 0]),
-        (0, 0x05, &[1, 0], 0x08, &[]),
-    ];
+    let mut module = Module::raw(rt.alloc(), MANIFEST).expect(&rt, "memory");
+    serves(&rt, &mut module, &OF_MANIFEST);
     let mut module = Module::raw(rt.alloc(), &[3, 0]).expect(&rt, "memory");
-    serves(&rt, &mut module, &refused);
+    serves(&rt, &mut module, &OF_NONE);
 }

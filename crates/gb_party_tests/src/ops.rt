@@ -5,7 +5,7 @@ use gb_ops::{BeginFault, Matched, Ops};
 use std::process::Abort;
 
 /// What a call answered.
-#[derive(Clone, Copy, Debug, PartialEq, Eq)]
+#[derive(Clone, Copy, PartialEq, Eq)]
 enum Seen {
     Begun(u16),
     Refused,
@@ -39,7 +39,7 @@ fn comes_of(ops: &mut Ops, act: Act) -> Seen {
 
 fn plays(rt: &impl Abort, ops: &mut Ops, rows: &[(Act, Seen)]) {
     for (act, want) in rows {
-        assert_eq!(rt; comes_of(ops, *act), *want, "{act:?}");
+        assert!(rt; comes_of(ops, *act) == *want, "{act:?}");
     }
 }
 
@@ -78,7 +78,7 @@ fn requests_end(rt: HostRuntime) {
 
 /// Begins n, and its identifier is this one.
 fn begins(rt: &impl Abort, ops: &mut Ops, n: u64, label: u16) {
-    assert_eq!(rt; ops.begin(n, n), Ok(label));
+    assert!(rt; ops.begin(n, n) == Ok(label));
 }
 
 #[test]
@@ -87,7 +87,7 @@ fn given_up_identifiers_stay_in_use(rt: HostRuntime) {
     for label in 1..=65_535u16 {
         begins(&rt, &mut ops, u64::from(label), label);
     }
-    assert_eq!(rt; ops.begin(65_536, 0), Err(BeginFault::NoLabel));
+    assert!(rt; ops.begin(65_536, 0) == Err(BeginFault::NoLabel));
     plays(&rt, &mut ops, &[(Act::GiveUp(1), Seen::GaveUp(true))]);
     plays(
         &rt,
@@ -95,13 +95,13 @@ fn given_up_identifiers_stay_in_use(rt: HostRuntime) {
         &[(Act::Reply(2), Seen::Found(Matched::Open(2)))],
     );
     begins(&rt, &mut ops, 65_536, 2);
-    assert_eq!(rt; ops.begin(65_537, 0), Err(BeginFault::NoLabel));
+    assert!(rt; ops.begin(65_537, 0) == Err(BeginFault::NoLabel));
 }
 
 /// These are the numbers.
 fn lists(rt: &impl Abort, told: Result<Numbers, OutOfMemory>, want: &[u64]) {
     let numbers = told.expect(rt, "memory");
-    assert_eq!(rt; numbers.items(), want);
+    assert!(rt; numbers.items() == want);
 }
 
 /// Requests 9 and 3 are given up, and 7 is open.

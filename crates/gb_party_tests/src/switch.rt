@@ -26,44 +26,53 @@ fn at_level(rt: &impl Abort, level: usize) -> Ladder {
     let mut ladder = Ladder::new();
     ladder.plug(2);
     for rung in RUNGS.iter().take(level) {
-        assert_eq!(rt; ladder.climb(2, *rung), DONE, "up to {rung:?}");
+        assert!(rt; ladder.climb(2, *rung) == DONE);
     }
     ladder
 }
 
+/// What each rung is answered at the levels from 0 to 6.
+const ANSWERS: [(Rung, [Result<(), NotReady>; 7]); 9] = [
+    (Rung::Vsys, [DONE, DONE, DONE, DONE, DONE, DONE, DONE]),
+    (Rung::Refclk, [BELOW, DONE, DONE, DONE, DONE, DONE, DONE]),
+    (Rung::Unipro, [BELOW, BELOW, DONE, DONE, DONE, DONE, DONE]),
+    (Rung::Active, [BELOW, BELOW, BELOW, DONE, DONE, DONE, DONE]),
+    (
+        Rung::Device(3),
+        [BELOW, BELOW, BELOW, BELOW, DONE, DONE, TAKEN],
+    ),
+    (
+        Rung::Device(1),
+        [BELOW, BELOW, BELOW, BELOW, TAKEN, TAKEN, TAKEN],
+    ),
+    (
+        Rung::Device(32),
+        [BELOW, BELOW, BELOW, BELOW, TAKEN, TAKEN, TAKEN],
+    ),
+    (
+        Rung::Route(2),
+        [BELOW, BELOW, BELOW, BELOW, BELOW, DONE, DONE],
+    ),
+    (
+        Rung::Route(3),
+        [BELOW, BELOW, BELOW, BELOW, BELOW, BELOW, BELOW],
+    ),
+];
+
+/// At this level of interface 2 a rung is answered so.
+fn climbs(rt: &impl Abort, level: usize, rung: Rung, answer: Result<(), NotReady>) {
+    let mut ladder = at_level(rt, level);
+    assert!(rt;
+        ladder.climb(2, rung) == answer,
+        "{rung:?} at level {level}"
+    );
+}
+
 #[test]
 fn each_rung_at_each_level(rt: HostRuntime) {
-    let rows = [
-        (Rung::Vsys, [DONE; 7]),
-        (Rung::Refclk, [BELOW, DONE, DONE, DONE, DONE, DONE, DONE]),
-        (Rung::Unipro, [BELOW, BELOW, DONE, DONE, DONE, DONE, DONE]),
-        (Rung::Active, [BELOW, BELOW, BELOW, DONE, DONE, DONE, DONE]),
-        (
-            Rung::Device(3),
-            [BELOW, BELOW, BELOW, BELOW, DONE, DONE, TAKEN],
-        ),
-        (
-            Rung::Device(1),
-            [BELOW, BELOW, BELOW, BELOW, TAKEN, TAKEN, TAKEN],
-        ),
-        (
-            Rung::Device(32),
-            [BELOW, BELOW, BELOW, BELOW, TAKEN, TAKEN, TAKEN],
-        ),
-        (
-            Rung::Route(2),
-            [BELOW, BELOW, BELOW, BELOW, BELOW, DONE, DONE],
-        ),
-        (Rung::Route(3), [BELOW; 7]),
-    ];
-    for (rung, answers) in rows.iter() {
+    for (rung, answers) in ANSWERS.iter() {
         for (level, answer) in answers.iter().enumerate() {
-            let mut ladder = at_level(&rt, level);
-            assert_eq!(rt;
-                ladder.climb(2, *rung),
-                *answer,
-                "{rung:?} at level {level}"
-            );
+            climbs(&rt, level, *rung, *answer);
         }
     }
 }
@@ -71,7 +80,7 @@ fn each_rung_at_each_level(rt: HostRuntime) {
 #[test]
 fn a_lower_rung_leaves_the_level(rt: HostRuntime) {
     let mut ladder = at_level(&rt, 6);
-    assert_eq!(rt; ladder.climb(2, Rung::Vsys), DONE);
+    assert!(rt; ladder.climb(2, Rung::Vsys) == DONE);
     assert!(rt; ladder.routed(2), "it has its route still");
 }
 
@@ -80,23 +89,22 @@ fn a_device_id_is_of_one_interface(rt: HostRuntime) {
     let mut ladder = at_level(&rt, 5);
     ladder.plug(31);
     for rung in RUNGS.iter().take(4) {
-        assert_eq!(rt; ladder.climb(31, *rung), DONE, "up to {rung:?}");
+        assert!(rt; ladder.climb(31, *rung) == DONE);
     }
-    assert_eq!(rt; ladder.climb(31, Rung::Device(2)), TAKEN);
-    assert_eq!(rt; ladder.climb(2, Rung::Device(2)), DONE, "its own");
+    assert!(rt; ladder.climb(31, Rung::Device(2)) == TAKEN);
+    assert!(rt; ladder.climb(2, Rung::Device(2)) == DONE, "its own");
     ladder.pull(2);
-    assert_eq!(rt; ladder.climb(31, Rung::Device(2)), DONE, "it is free");
+    assert!(rt; ladder.climb(31, Rung::Device(2)) == DONE, "it is free");
 }
 
 #[test]
 fn a_route_is_lost(rt: HostRuntime) {
     let mut ladder = at_level(&rt, 6);
-    assert_eq!(rt; ladder.unroute(2), Ok(()));
+    assert!(rt; ladder.unroute(2) == Ok(()));
     assert!(rt; !ladder.routed(2), "it has no route");
-    assert_eq!(rt; ladder.unroute(2), Err(NotRouted));
-    assert_eq!(rt;
-        ladder.climb(2, Rung::Route(2)),
-        DONE,
+    assert!(rt; ladder.unroute(2) == Err(NotRouted));
+    assert!(rt;
+        ladder.climb(2, Rung::Route(2)) == DONE,
         "device id 2 is kept"
     );
 }
@@ -105,20 +113,25 @@ fn a_route_is_lost(rt: HostRuntime) {
 fn a_plugged_module_is_off(rt: HostRuntime) {
     let mut ladder = at_level(&rt, 6);
     ladder.pull(2);
-    assert_eq!(rt; ladder.climb(2, Rung::Vsys), BELOW, "nothing is plugged");
+    assert!(rt; ladder.climb(2, Rung::Vsys) == BELOW, "nothing is plugged");
     ladder.plug(2);
-    assert_eq!(rt; ladder.climb(2, Rung::Refclk), BELOW, "its power is off");
+    assert!(rt; ladder.climb(2, Rung::Refclk) == BELOW, "its power is off");
+}
+
+/// Nothing is plugged at an interface.
+fn is_empty(rt: &impl Abort, ladder: &mut Ladder, intf: u8) {
+    for rung in RUNGS.iter() {
+        assert!(rt; ladder.climb(intf, *rung) == BELOW, "at {intf}");
+    }
+    assert!(rt; ladder.unroute(intf) == Err(NotRouted), "at {intf}");
+    assert!(rt; !ladder.routed(intf), "at {intf}");
 }
 
 #[test]
 fn nothing_is_plugged_elsewhere(rt: HostRuntime) {
     let mut ladder = at_level(&rt, 6);
     for intf in [0, 1, 3, 31, 32, 40, 255] {
-        for rung in RUNGS.iter() {
-            assert_eq!(rt; ladder.climb(intf, *rung), BELOW, "{rung:?} at {intf}");
-        }
-        assert_eq!(rt; ladder.unroute(intf), Err(NotRouted), "at {intf}");
-        assert!(rt; !ladder.routed(intf), "at {intf}");
+        is_empty(&rt, &mut ladder, intf);
     }
 }
 
@@ -147,11 +160,11 @@ fn fill(rt: &impl Abort, queues: &mut Queues<u8>, ends: &[End]) {
 /// These are the ends where an item waits, in order, and each has no more than that.
 fn empties(rt: &impl Abort, queues: &mut Queues<u8>, order: &[End]) {
     for at in order.iter() {
-        assert_eq!(rt; queues.first(), Some(*at));
-        assert_eq!(rt; queues.len(*at), Some(1));
-        assert_eq!(rt; queues.pop(*at), Some(5));
+        assert!(rt; queues.first() == Some(*at));
+        assert!(rt; queues.len(*at) == Some(1));
+        assert!(rt; queues.pop(*at) == Some(5));
     }
-    assert_eq!(rt; queues.first(), None);
+    assert!(rt; queues.first() == None);
 }
 
 #[test]
@@ -168,7 +181,7 @@ fn a_queue_is_gone_with_its_items(rt: HostRuntime) {
     let mut queues = three_connections(&rt, rt.alloc());
     fill(&rt, &mut queues, &[NEAR, NEAR, FAR]);
     queues.destroy(End::Ap(300), NEAR);
-    assert_eq!(rt; queues.len(NEAR), None);
-    assert_eq!(rt; queues.pop(NEAR), None);
+    assert!(rt; queues.len(NEAR) == None);
+    assert!(rt; queues.pop(NEAR) == None);
     empties(&rt, &mut queues, &[FAR]);
 }

@@ -209,31 +209,40 @@ fn does(play: &mut Play, act: &Act) {
     }
 }
 
-/// The text of what is done at an event.
-fn told(rt: &impl Abort, alloc: Global, play: &mut Play, what: What<'_>) -> String {
+/// The text of an act is put at the end.
+fn put(rt: &impl Abort, alloc: Global, act: &Act, text: &mut String) {
+    let words = act_text(rt, alloc, act);
+    text.push_str(words.as_str()).expect(rt, "memory");
+}
+
+/// What is done at an event, and its text is put at the end.
+fn takes(rt: &impl Abort, alloc: Global, play: &mut Play, what: What<'_>, text: &mut String) {
     let event = event(rt, alloc, play.request, what);
     let acts = play.host.on(event).expect(rt, "memory");
-    let mut text = String::new(alloc);
     for act in acts.items() {
         does(play, act);
-        let words = act_text(rt, alloc, act);
-        text.push_str(words.as_str()).expect(rt, "memory");
+        put(rt, alloc, act, text);
     }
-    text
 }
 
 /// At an event this is done.
 fn plays(rt: &impl Abort, alloc: Global, play: &mut Play, what: What<'_>, want: &str) {
-    let text = told(rt, alloc, play, what);
+    let mut text = String::new(alloc);
+    takes(rt, alloc, play, what, &mut text);
     assert_eq!(rt; text.as_str(), want);
+}
+
+/// So many steps are gone.
+fn goes(rt: &impl Abort, alloc: Global, play: &mut Play, steps: usize) {
+    for (what, want) in STEPS.iter().take(steps) {
+        plays(rt, alloc, play, *what, want);
+    }
 }
 
 /// After so many steps this is done at an event.
 fn plays_after(rt: &impl Abort, alloc: Global, steps: usize, what: What<'_>, want: &str) {
     let mut play = first_play(rt, alloc);
-    for (what, want) in STEPS.iter().take(steps) {
-        plays(rt, alloc, &mut play, *what, want);
-    }
+    goes(rt, alloc, &mut play, steps);
     plays(rt, alloc, &mut play, what, want);
 }
 
