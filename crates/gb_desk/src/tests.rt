@@ -77,17 +77,17 @@ fn tag(journal: &Journal, at: usize) -> u8 {
     }
 }
 
-/// The history has three entries, with these tags.
-fn are_tagged(rt: &impl Abort, journal: &Journal, tags: [u8; 3]) {
+/// The events of two passes are in the order in which they were done.
+fn are_in_turn(rt: &impl Abort, journal: &Journal) {
     assert!(rt; journal.items().len() == 3);
-    assert!(rt; [tag(journal, 0), tag(journal, 1), tag(journal, 2)] == tags);
+    assert!(rt; tag(journal, 0) == 1 && tag(journal, 1) == 2 && tag(journal, 2) == 1);
 }
 
 #[test]
 fn passes_share_one_history(rt: HostRuntime) {
     let (desk, mut pass) = opened(&rt, rt.alloc());
     share(&rt, &desk, &mut pass);
-    are_tagged(&rt, &history(&rt, desk, pass), [1, 2, 1]);
+    are_in_turn(&rt, &history(&rt, desk, pass));
 }
 
 /// A name, `x` or `y` of one of 256 callers.
@@ -189,7 +189,7 @@ fn abandon(desk: Desk, pass: Pass)
         tickets: _,
     } = pass;
     let mut closed = table.close_with(seat);
-    closed.take(0);
+    drop(closed.take(0));
     closed.free();
 }
 
