@@ -39,7 +39,7 @@ fn at_level(rt: &impl Abort, level: usize) -> Ladder {
 }
 
 /// Levels, and how a request is answered there. Each step wants the one before.
-const ROWS: [(usize, Row); 31] = [
+const ROWS: &[(usize, Row)] = &[
     (0, (0x23, &[2], 0x08, &[])),
     (1, (0x25, &[2], 0x08, &[])),
     (2, (0x27, &[2], 0x08, &[])),
@@ -73,11 +73,16 @@ const ROWS: [(usize, Row); 31] = [
     (6, (0x20, &[2], 0x04, &[])),
 ];
 
+/// At a level a request is answered so.
+fn answers_at(rt: &impl Abort, row: &(usize, Row)) {
+    let mut ladder = at_level(rt, row.0);
+    answers(rt, &mut ladder, &row.1);
+}
+
 #[test]
 fn requests_are_answered(rt: HostRuntime) {
-    for (level, row) in ROWS.iter() {
-        let mut ladder = at_level(&rt, *level);
-        answers(&rt, &mut ladder, row);
+    for row in ROWS {
+        answers_at(&rt, row);
     }
 }
 
