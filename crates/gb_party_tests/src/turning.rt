@@ -42,7 +42,7 @@ const NEWER: &[u8] = b"\x48\0\x01\x01\
 \x08\0\x04\0\x01\0\x01\x02";
 
 /// An enumeration, a connection that is made and closed, and a removal.
-const STEPS: [(What, &str); 19] = [
+const STEPS: &[(What, &str)] = &[
     (In(2), "intf 2 enumerating;ask 1 33 [2];"),
     (Answer(0, &[0]), "ask 1 35 [2];"),
     (Answer(0, &[0]), "ask 1 37 [2];"),
@@ -71,7 +71,7 @@ const STEPS: [(What, &str); 19] = [
 ];
 
 /// After so many steps, what comes in place of the next, and what is done then.
-const OTHERWISE: [(usize, What, &str); 19] = [
+const OTHERWISE: &[(usize, What, &str)] = &[
     (1, Answer(0, &[1]), "intf 2 failed;"),
     (1, Late, "intf 2 failed;"),
     (2, Answer(6, &[]), "intf 2 failed;"),
@@ -234,26 +234,26 @@ fn plays(rt: &impl Abort, alloc: Global, play: &mut Play, what: What<'_>, want: 
 
 /// So many steps are gone.
 fn goes(rt: &impl Abort, alloc: Global, play: &mut Play, steps: usize) {
-    for (what, want) in STEPS.iter().take(steps) {
-        plays(rt, alloc, play, *what, want);
+    for row in STEPS.iter().take(steps) {
+        plays(rt, alloc, play, row.0, row.1);
     }
 }
 
 /// After so many steps this is done at an event.
-fn plays_after(rt: &impl Abort, alloc: Global, steps: usize, what: What<'_>, want: &str) {
+fn plays_after(rt: &impl Abort, alloc: Global, row: &(usize, What, &str)) {
     let mut play = first_play(rt, alloc);
-    goes(rt, alloc, &mut play, steps);
-    plays(rt, alloc, &mut play, what, want);
+    goes(rt, alloc, &mut play, row.0);
+    plays(rt, alloc, &mut play, row.1, row.2);
 }
 
 #[test]
 fn sequences_go_step_by_step(rt: HostRuntime) {
-    plays_after(&rt, rt.alloc(), STEPS.len(), Late, "");
+    plays_after(&rt, rt.alloc(), &(STEPS.len(), Late, ""));
 }
 
 #[test]
 fn steps_go_otherwise(rt: HostRuntime) {
-    for (steps, what, want) in OTHERWISE.iter() {
-        plays_after(&rt, rt.alloc(), *steps, *what, want);
+    for row in OTHERWISE {
+        plays_after(&rt, rt.alloc(), row);
     }
 }
