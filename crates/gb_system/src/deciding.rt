@@ -31,7 +31,7 @@ pub struct Decision {
 }
 
 /// What is done after a reply of the supervisory controller.
-#[derive(Clone, Copy, Debug, PartialEq, Eq)]
+#[derive(Clone, Copy)]
 pub enum Behind {
     /// Nothing more.
     Nothing,
