@@ -3,7 +3,7 @@
 ghost use Rattle.std.specs.Prelude.{◌≡◌, ℕ, Bool, true, List, IfOk, OnOk, IsAscii};
 ghost use Rattle.std.specs.String.{string_bytes};
 ghost use Rattle.gb_formats.specs.Texts.{entry_line};
-ghost use Rattle.gb_report.specs.Groups.{is_device, is_link, is_message, is_raw, is_request};
+ghost use Rattle.gb_base.specs.Groups.{is_device, is_link, is_message, is_raw, is_request};
 
 use crate::lines::line_of;
 use crate::names::{lost_mark, reason_name, refusal_name, stage_name, state_name};

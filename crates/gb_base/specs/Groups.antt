@@ -1,4 +1,4 @@
--- The kinds of entries, by what their lines tell.
+-- The kinds of entries, by what they tell.
 use Rattle.std.specs.Prelude.{Bool, true, false}
 use Rattle.gb_base.specs.declared.entry.Entry.{Entry}
 use Rattle.gb_base.specs.declared.entry.Entry.TheVariants as entry
