@@ -1,11 +1,12 @@
 -- What is taken of a text, and its lines.
 use Rattle.std.proofs.Common.{◌≡◌, ◌≢◌, ℕ, ◌+◌, ◌==◌, ◌||◌, Bool, true, false, Option, Some, None}
-use Rattle.std.proofs.Common.{Err, List, [], ◌∷◌, ◌++◌, length, append_assoc, append-nil, sym, ap}
-use Rattle.std.proofs.Common.{◌∙◌, subst, arith}
+use Rattle.std.proofs.Common.{Result, Ok, Err, List, [], ◌∷◌, ◌++◌, length, append_assoc}
+use Rattle.std.proofs.Common.{append-nil, sym, ap, ◌∙◌, subst, arith}
 use Rattle.std.specs.List.{list_any}
 use Rattle.std.proofs.lemmas.Bool.Decides.{nat_tests}
 use Rattle.std.specs.Io.KnownBytes.{Consumes, prepend_known}
-use Rattle.gb_script.specs.Reading.{HasNoLf, ReadsLine, Takes, Took, is_lf, to_come}
+use Rattle.gb_script.specs.Reading.{HasNoLf, ReadsLine, Takes, TakesHeld, Took, has_lf, is_lf}
+use Rattle.gb_script.specs.Reading.{to_come}
 use Rattle.gb_script.specs.declared.held.Held.{Held}
 use Rattle.gb_script.specs.declared.held.LineStop.{LineStop}
 use Rattle.gb_script.specs.declared.held.LineStop.TheVariants as stop
@@ -39,6 +40,23 @@ plain-more (x ∷ xs) b h e = plain-step (is_lf x) xs b (λ g. plain-more xs b g
 
 pub eqb-no : (a b : ℕ) → a ≢ b → (a == b) ≡ false
 eqb-no a b h = grind (arith, nat_tests)
+
+-- where an LF is held nothing is read
+pub held-kept : {A : Type 0} (held held_after : List ℕ) (s t : A)
+    (r : Result (Option ℕ) LineStop)
+    → has_lf held ≡ true → TakesHeld held held_after s t r → t ≡ s
+held-kept [] after s t r h taken = absurd cc
+held-kept (b ∷ bs) after s t r h taken = taken.1
+
+-- and it is still held behind a byte that is none
+pub held-still : {A : Type 0} (held held_after : List ℕ) (s t : A) (b : ℕ)
+    → has_lf held ≡ true → TakesHeld {E = LineStop} held held_after s t (Ok (Some b))
+    → b == 10 ≡ false → has_lf held_after ≡ true
+held-still [] after s t b h taken plain = absurd cc
+held-still (c ∷ bs) after s t b h taken plain =
+    let same : b ≡ c = cc in
+    ap has_lf taken.0
+    ∙ sym (ap (λ t. t || has_lf bs) (ap is_lf (sym same) ∙ plain)) ∙ h
 
 -- ---- the line
 

@@ -4,7 +4,7 @@ use Rattle.std.specs.Prelude.{Ok, Err, List, [], ◌∷◌, ◌++◌, length, ta
 use Rattle.std.specs.Io.KnownBytes.{Consumes, IsAtEnd}
 use Rattle.gb_formats.specs.Lines.{lines}
 use Rattle.gb_script.specs.Fronts.{IsText, is_long_text}
-use Rattle.gb_script.specs.Reading.{ended_lines, to_come}
+use Rattle.gb_script.specs.Reading.{ended_lines, has_lf, to_come}
 use Rattle.gb_script.specs.declared.held.LineStop.{LineStop}
 use Rattle.gb_script.specs.declared.held.LineStop.TheVariants as stop
 use Rattle.gb_script.specs.declared.line_reader.LineReader.{LineReader}
@@ -35,6 +35,10 @@ IsLineOf bytes long line = (bytes ≡ take 8192 line) × (long ≡ is_long_text 
 -- the bytes that were read and are behind the last line that was handed out
 abbrev pub behind : LineReader → List ℕ
 behind x = x.held.piece
+
+-- a further line that has ended is held
+abbrev pub holds_line : LineReader → Bool
+holds_line x = has_lf (behind x)
 
 -- why no line is handed out any more
 abbrev pub stop_of : Progress → Option LineStop

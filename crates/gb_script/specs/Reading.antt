@@ -1,6 +1,7 @@
 -- What a reader has handed out of a text, and what it holds.
 use Rattle.std.specs.Prelude.{◌≡◌, ◌<◌, ◌≤◌, ◌+◌, ◌==◌, ℕ, Bool, true, false, Option, Some, None}
 use Rattle.std.specs.Prelude.{Result, Ok, Err, List, [], ◌∷◌, ◌++◌, length, if◌then◌else◌}
+use Rattle.std.specs.Prelude.{⊤, IfOk}
 use Rattle.std.specs.List.{list_any}
 use Rattle.std.specs.Io.KnownBytes.{Consumes, IsAtEnd, prepend_known}
 use Rattle.gb_base.specs.declared.errors.Failed.{Failed}
@@ -13,9 +14,12 @@ use Rattle.gb_script.specs.declared.held.LineStop.TheVariants as stop
 abbrev pub is_lf : ℕ → Bool
 is_lf b = b == 10
 
+abbrev pub has_lf : List ℕ → Bool
+has_lf bytes = list_any is_lf bytes
+
 -- no LF is among these bytes
 abbrev pub HasNoLf : List ℕ → Type 0
-HasNoLf bytes = list_any is_lf bytes ≡ false
+HasNoLf bytes = has_lf bytes ≡ false
 
 -- the lines of a text that end with LF: all up to the last LF
 abbrev pub ended_lines : List ℕ → List ℕ
@@ -35,6 +39,13 @@ NextByte held held_after left after (Ok None) =
     Consumes (prepend_known held left) after [] × IsAtEnd after × (held_after ≡ [])
 NextByte held held_after left after (Err failed) =
     Consumes (prepend_known held left) after [] × (held_after ≡ [])
+
+-- A byte that is held is the next one, and it is taken without a read.
+abbrev pub TakesHeld : {A E : Type 0} (held held_after : List ℕ) (source source_after : A)
+    → Result (Option ℕ) E → Type 0
+TakesHeld [] after source source_after r = ⊤
+TakesHeld (b ∷ bs) after source source_after r =
+    (after ≡ bs) × (source_after ≡ source) × IfOk r (λ o. o ≡ Some b)
 
 -- the bytes that are to come: those held, and those that the source has left
 abbrev pub to_come : Held → Option (List ℕ) → Option (List ℕ)

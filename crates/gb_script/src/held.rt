@@ -1,6 +1,6 @@
 //! The bytes that a reader of lines holds.
 
-ghost use Rattle.std.specs.Prelude.{◌≡◌, ◌≤◌, [], length, IfOk, IsErrOf};
+ghost use Rattle.std.specs.Prelude.{◌≡◌, ◌≤◌, [], length, true, IfOk, IsErrOf};
 ghost use Rattle.gb_base.specs.Faults.{Rose};
 
 use crate::front::Front;
@@ -42,7 +42,7 @@ pub struct Held {
 
 impl Held {
     ghost use Rattle.gb_script.specs.Fronts.{IsFront};
-    ghost use Rattle.gb_script.specs.Reading.{ReadsLine, Takes};
+    ghost use Rattle.gb_script.specs.Reading.{ReadsLine, Takes, TakesHeld, has_lf};
 
     /// Before the first read.
     pub fn new(alloc: Global) -> Result<Held, OutOfMemory>
@@ -60,6 +60,7 @@ impl Held {
     fn byte<S: Source>(&mut self, source: &mut S) -> Result<Option<u8>, LineStop>
         requires { length self.old.piece ≤ 4096 }
         ensures takes { Takes self.old self.new (S.left source.old) (S.left source.new) result }
+        ensures held { TakesHeld self.old.piece self.new.piece source.old source.new result }
         ensures few { length self.new.piece ≤ 4096 }
         ensures less { self.new.room ≤ self.old.room }
         ensures later { S.faults source.old ≤ S.faults source.new }
@@ -76,11 +77,13 @@ impl Held {
         Ok(Some(b))
     }
 
-    /// Takes the next line. True where it ended with LF, and false where the source did.
+    /// Takes the next line. True where it ended with LF, and false where the source did. Nothing is
+    /// read where an LF is held.
     pub fn read_line<S: Source>(&mut self, source: &mut S) -> Result<bool, LineStop>
         requires few { length self.old.piece ≤ 4096 }
         requires room { self.old.room ≤ 1048576 }
         ensures line { ReadsLine self.old self.new (S.left source.old) (S.left source.new) result }
+        ensures held { has_lf self.old.piece ≡ true → source.new ≡ source.old }
         ensures few { length self.new.piece ≤ 4096 }
         ensures less { self.new.room ≤ self.old.room }
         ensures later { S.faults source.old ≤ S.faults source.new }

@@ -1,7 +1,7 @@
 //! Reads a script line by line.
 
 ghost use Rattle.std.specs.Prelude.{◌≡◌, ◌≤◌, ◌+◌, [], length, ℕ, List, Option, Some, None, Err};
-ghost use Rattle.std.specs.Prelude.{IfOk, IfSome, IsErrOf, MatchResult, ⊤};
+ghost use Rattle.std.specs.Prelude.{IfOk, IfSome, IsErrOf, MatchResult, ⊤, true};
 ghost use Rattle.gb_base.specs.Faults.{Rose};
 
 use crate::held::{Held, LineStop};
@@ -42,7 +42,7 @@ pub struct LineReader {
 
 impl LineReader {
     ghost use Rattle.gb_script.specs.Readers.{CountsOn, IsLineOf, Lends, Reads, ReadsOn, number_of};
-    ghost use Rattle.gb_script.specs.Readers.{stop_of, stopped};
+    ghost use Rattle.gb_script.specs.Readers.{holds_line, stop_of, stopped};
     ghost use Rattle.gb_script.specs.declared.line_reader.Progress.TheVariants as progress;
 
     /// Before the first line. All memory is taken here.
@@ -70,6 +70,7 @@ impl LineReader {
         ensures stops { MatchResult result (λ _. ⊤) (λ s. stopped self.new ≡ Some s) }
         ensures same { IfSome (stopped self.old)
             (λ s. (result ≡ Err s) × (self.new ≡ self.old) × (source.new ≡ source.old)) }
+        ensures held { holds_line self.old ≡ true → source.new ≡ source.old }
     {
         match self.progress {
             Progress::Going => self.go_on(source),
@@ -89,6 +90,7 @@ impl LineReader {
         ensures cause { IsErrOf result LineStop.ReadFault
             → Rose (S.faults source.old) (S.faults source.new) }
         ensures stops { MatchResult result (λ _. ⊤) (λ s. stopped self.new ≡ Some s) }
+        ensures held { holds_line self.old ≡ true → source.new ≡ source.old }
     {
         match self.held.read_line(source) {
             Ok(true) => {
@@ -109,6 +111,13 @@ impl LineReader {
                 Err(stop)
             }
         }
+    }
+
+    /// A further line that has ended is held, so that `next` doesn't read.
+    pub fn has_line(&self) -> bool
+        ensures { result ≡ holds_line self.now }
+    {
+        self.held.piece.has_lf()
     }
 
     /// The line that was read last.

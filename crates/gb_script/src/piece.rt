@@ -32,7 +32,7 @@ impl Model for Piece {
 }
 
 impl Piece {
-    ghost use Rattle.gb_script.specs.Reading.{NextByte};
+    ghost use Rattle.gb_script.specs.Reading.{NextByte, TakesHeld, has_lf};
 
     /// Before the first read.
     pub fn new(alloc: Global) -> Result<Piece, OutOfMemory>
@@ -51,6 +51,7 @@ impl Piece {
     /// Takes the next byte, which it reads where none is left. None at the end of the source.
     pub fn next<S: Source>(&mut self, source: &mut S) -> Result<Option<u8>, Failed>
         ensures byte { NextByte self.old self.new (S.left source.old) (S.left source.new) result }
+        ensures held { TakesHeld self.old self.new source.old source.new result }
         ensures few { length self.old ≤ 4096 → length self.new ≤ 4096 }
         ensures later { S.faults source.old ≤ S.faults source.new }
         ensures cause { OnErr result (Rose (S.faults source.old) (S.faults source.new)) }
@@ -60,6 +61,13 @@ impl Piece {
         }
         self.read(source)?;
         Ok(self.take())
+    }
+
+    /// Whether an LF is left.
+    pub fn has_lf(&self) -> bool
+        ensures { result ≡ has_lf self.now }
+    {
+        self.bytes[self.start..self.end].contains(&b'\n')
     }
 
     /// Takes the next byte. None where none is left.

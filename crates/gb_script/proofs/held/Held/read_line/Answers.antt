@@ -1,8 +1,9 @@
-use Rattle.std.proofs.Common.{◌∷◌, ◌++◌, [], ℕ, Option, Ok, Err, Result, Bool, subst, sym, ap, ◌∙◌}
-use Rattle.std.proofs.Common.{length-append, arith}
+use Rattle.std.proofs.Common.{◌∷◌, ◌++◌, [], ℕ, Option, Some, Ok, Err, Result, Bool, subst, sym, ap}
+use Rattle.std.proofs.Common.{◌∙◌, length-append, arith}
 use Rattle.std.proofs.lemmas.Result.{err_from_is_err_and}
-use Rattle.gb_script.proofs.Readings.{byte-taken, eqb-no, no-line, plain-more}
-use Rattle.gb_script.specs.Reading.{ReadsLine, Takes, to_come}
+use Rattle.gb_script.proofs.Readings.{byte-taken, eqb-no, held-kept, held-still, no-line}
+use Rattle.gb_script.proofs.Readings.{plain-more}
+use Rattle.gb_script.specs.Reading.{ReadsLine, Takes, TakesHeld, to_come}
 use Rattle.gb_script.specs.declared.held.LineStop.{LineStop}
 use Rattle.std.specs.Io.KnownBytes.{Consumes}
 use Rattle.gb_script.proofs.held.Held.read_line.Goals as goal
@@ -51,6 +52,18 @@ loop-b-preserved g c =
       front = c.push.ensures inv.raw (rw took.front inv.front);
       room = rw (length-append inv.raw (c.in-Some.b ∷ [])) (omega (arith, inv.room, took.room));
       within = inv.within;
+      held =
+          λ h.
+          let now = inv.held h in
+          let byte = subst (λ (o : Option ℕ). TakesHeld {E = LineStop} c.loop-b.self.piece
+          c.byte.new.self.piece c.loop-b.source c.byte.new.source (Ok o)) c.in-Some.is
+          c.in_ok-b.ensures.held in (
+            held-kept c.loop-b.self.piece c.byte.new.self.piece c.loop-b.source
+                c.byte.new.source (Ok (Some c.in-Some.b)) now.1 byte ∙ now.0,
+            held-still c.loop-b.self.piece c.byte.new.self.piece c.loop-b.source
+                c.byte.new.source c.in-Some.b now.1 byte
+                (eqb-no c.in-Some.b 10 c.if-b-eq10.false),
+          );
       few = c.byte.ensures.few;
       later = omega (arith, inv.later, c.byte.ensures.later);
     }

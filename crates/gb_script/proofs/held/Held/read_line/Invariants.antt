@@ -1,8 +1,8 @@
 -- The bytes that came are the front of the line.
-use Rattle.std.proofs.Common.{◌≡◌, ◌≤◌, ◌+◌, List, ℕ, length}
+use Rattle.std.proofs.Common.{◌≡◌, ◌≤◌, ◌+◌, List, ℕ, length, true}
 use Rattle.std.specs.Io.KnownBytes.{Consumes}
 use Rattle.gb_script.specs.Fronts.{IsFront}
-use Rattle.gb_script.specs.Reading.{HasNoLf, to_come}
+use Rattle.gb_script.specs.Reading.{HasNoLf, has_lf, to_come}
 use Rattle.gb_script.proofs.held.Held.read_line.Given as goal
 
 abbrev pub invariant-loop-b : goal.invariant-loop-b
@@ -14,6 +14,8 @@ invariant-loop-b g l = record {
   front : IsFront l.self.front raw;
   room : length raw + l.self.room ≡ l.initial.self.room;
   within : l.initial.self.room ≤ 1048576;
+  held : has_lf l.initial.self.piece ≡ true
+      → (l.source ≡ l.initial.source) × (has_lf l.self.piece ≡ true);
   few : length l.self.piece ≤ 4096;
   later : g.S.Source.faults l.initial.source ≤ g.S.Source.faults l.source;
 }
