@@ -1,6 +1,7 @@
 //! Cuts a line into words.
 
-ghost use Rattle.std.specs.Prelude.{◌≡◌, ◌<◌, [], ◌∷◌, length, IfSome, MatchOption};
+ghost use Rattle.std.specs.Prelude.{◌≡◌, ◌≢◌, ◌<◌, [], ◌∷◌, length, slice_index, IfSome};
+ghost use Rattle.std.specs.Prelude.{MatchOption};
 ghost use Rattle.std.specs.Str.{bytes_eq};
 ghost use Rattle.gb_formats.specs.Words.{words};
 
@@ -10,20 +11,27 @@ pub fn first_word(line: &[u8]) -> Option<(&[u8], &[u8])>
         (λ f. words line.now ≡ f.0.now ∷ words f.1.now) }
     ensures shorter { IfSome result (λ f. length f.1.now < length line.now) }
 {
-    let mut start = 0;
     for (i, b) in line.iter().enumerate() {
-        if *b == b' ' {
-            if start < i {
-                return Some((&line[start..i], &line[i + 1..]));
-            }
-            start = i + 1;
+        if *b != b' ' {
+            return Some(cut(&line[i..]));
         }
     }
-    if start < line.len() {
-        Some((&line[start..], &[]))
-    } else {
-        None
+    None
+}
+
+/// The word that a line begins with, and the line behind it.
+fn cut(line: &[u8]) -> (&[u8], &[u8])
+    requires some { 0 < length line.now }
+    requires begins { slice_index line.now 0 ≢ 32 }
+    ensures cut { words line.now ≡ result.0.now ∷ words result.1.now }
+    ensures shorter { length result.1.now < length line.now }
+{
+    for (i, b) in line.iter().enumerate() {
+        if *b == b' ' {
+            return (&line[..i], &line[i + 1..]);
+        }
     }
+    (line, &[])
 }
 
 /// Whether a word is this one.
