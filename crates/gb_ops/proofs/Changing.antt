@@ -1,9 +1,10 @@
 -- What the maps and the identifiers come to at each call.
-use Rattle.std.proofs.Common.{◌≡◌, ℕ, Bool, false, Option, Some, None, is_some}
+use Rattle.std.proofs.Common.{◌≡◌, ℕ, Bool, false, Option, Some, None, is_some, List}
 use Rattle.std.proofs.Common.{option_map, refl, sym, ap, ◌∙◌, subst, arith}
-use Rattle.std.specs.BTreeMap.{BTreeMap, get, is_at}
+use Rattle.std.specs.BTreeMap.{get, is_at}
 use Rattle.std.specs.Map.{lookup}
 use Rattle.std.specs.Ordering.{nat_cmp}
+use Rattle.std.specs.Prelude.{nat_eq}
 use Rattle.gb_labels.specs.Drawing.{Frees, IsNext, Takes}
 use Rattle.gb_labels.specs.LabelSet.{LabelSet, next_of}
 use Rattle.gb_machine.specs.Labels.{free_label, greatest_label, label_after}
@@ -63,21 +64,25 @@ pub record Departs (t u : Tables) (n : ℕ) (p : Pending) (w : Option Holder) : 
   pub holder : Puts (holder_in t) (holder_in u) p.label w
   pub covered : AllCovered t → AllCovered u
 
+-- how an open request is found by its number
+abbrev by_number : ℕ → ℕ → Bool
+by_number n = is_at (nat_cmp n)
+
 -- the same through maps with the same entries
-puts_from : {X : Type 0} (f : ℕ → Option X) (m n : BTreeMap ℕ X) (k : ℕ) (w : Option X)
-    → n.entries ≡ m.entries
-    → Puts f (λ q. get nat_cmp m q) k w → Puts f (λ q. get nat_cmp n q) k w
-puts_from f m n k w same p = record {
-  here = ap (λ es. lookup (is_at (nat_cmp k)) es) same ∙ p.here;
-  others = λ q ne. ap (λ es. lookup (is_at (nat_cmp q)) es) same ∙ p.others q ne;
+puts_from : {X : Type 0} (at : ℕ → ℕ → Bool) (f : ℕ → Option X) (es fs : List (ℕ × X)) (k : ℕ)
+    (w : Option X) → fs ≡ es
+    → Puts f (λ q. lookup (at q) es) k w → Puts f (λ q. lookup (at q) fs) k w
+puts_from at f es fs k w same p = record {
+  here = ap (lookup (at k)) same ∙ p.here;
+  others = λ q ne. ap (lookup (at q)) same ∙ p.others q ne;
 }
 
-puts_to : {X : Type 0} (f : ℕ → Option X) (m n : BTreeMap ℕ X) (k : ℕ) (w : Option X)
-    → n.entries ≡ m.entries
-    → Puts (λ q. get nat_cmp n q) f k w → Puts (λ q. get nat_cmp m q) f k w
-puts_to f m n k w same p = record {
+puts_to : {X : Type 0} (at : ℕ → ℕ → Bool) (f : ℕ → Option X) (es fs : List (ℕ × X)) (k : ℕ)
+    (w : Option X) → fs ≡ es
+    → Puts (λ q. lookup (at q) fs) f k w → Puts (λ q. lookup (at q) es) f k w
+puts_to at f es fs k w same p = record {
   here = p.here;
-  others = λ q ne. p.others q ne ∙ ap (λ es. lookup (is_at (nat_cmp q)) es) same;
+  others = λ q ne. p.others q ne ∙ ap (lookup (at q)) same;
 }
 
 -- the soonest stays, and what is open
@@ -92,14 +97,13 @@ pub marked : (labels : LabelSet) (t m u : Tables) (n : ℕ) (p : Pending) → Ke
     → MarksAs m u p.label → Departs t u n p (Some (late_holder n))
 marked labels t m u n p k l w = record {
   there = l.there;
-  pending = puts_from (pending_in t) m.pending u.pending n None
+  pending = puts_from by_number (pending_in t) m.pending.entries u.pending.entries n None
       (ap (λ b. b.entries) w.pending) l.pending;
   holder = record {
     here =
         w.holder.here
-        ∙ ap (option_map gave_up)
-        (ap (λ es. lookup (is_at (nat_cmp p.label)) es) l.holders ∙ k.held n p l.there);
-    others = λ q ne. w.holder.others q ne ∙ ap (λ es. lookup (is_at (nat_cmp q)) es) l.holders;
+        ∙ ap (option_map gave_up) (ap (lookup (nat_eq p.label)) l.holders ∙ k.held n p l.there);
+    others = λ q ne. w.holder.others q ne ∙ ap (lookup (nat_eq q)) l.holders;
   };
   covered = λ k. covered_same m u w.pending w.soonest (l.covered k);
 }
@@ -108,9 +112,10 @@ pub released : (t m u : Tables) (n : ℕ) (p : Pending) (r : Option Holder) → 
     → ReleasesAs m u p.label r → Departs t u n p None
 released t m u n p r l w = record {
   there = l.there;
-  pending = puts_from (pending_in t) m.pending u.pending n None
+  pending = puts_from by_number (pending_in t) m.pending.entries u.pending.entries n None
       (ap (λ b. b.entries) w.pending) l.pending;
-  holder = puts_to (holder_in u) t.holders m.holders p.label None l.holders w.holder;
+  holder = puts_to nat_eq (holder_in u) t.holders.entries m.holders.entries p.label None
+      l.holders w.holder;
   covered = λ k. covered_same m u w.pending w.soonest (l.covered k);
 }
 
@@ -203,16 +208,18 @@ answered labels t m u label h r k w shut l =
     let same = ap (λ b. b.entries) w.pending in
     let away =
     leaves_it m u h.number is.found r
-    (ap (λ es. lookup (is_at (nat_cmp h.number)) es) same ∙ is.there) l in
+    (ap (lookup (by_number h.number)) same ∙ is.there) l in
     record {
       found = is.found;
       label_is = is.label_is;
       departs = record {
         there = is.there;
-        pending = puts_to (pending_in u) t.pending m.pending h.number None same away.pending;
+        pending = puts_to by_number (pending_in u) t.pending.entries m.pending.entries h.number
+            None same away.pending;
         holder =
             subst (λ x. Puts (holder_in t) (holder_in u) x None) (sym is.label_is)
-            (puts_from (holder_in t) m.holders u.holders label None away.holders w.holder);
+            (puts_from nat_eq (holder_in t) m.holders.entries u.holders.entries label None
+            away.holders w.holder);
         covered = λ k. away.covered (covered_same t m w.pending w.soonest k);
       };
     }

@@ -1,18 +1,19 @@
 -- Numbers in order, and whose they are.
 use Rattle.std.proofs.Common.{◌≡◌, ◌<◌, ℕ, Bool, true, false, cond, ◌⊎◌, inl, inr, ⊎_elim, Some}
 use Rattle.std.proofs.Common.{List, [], ◌∷◌, Less, Equal, Greater, refl, sym, ap, subst, ◌∙◌, arith}
+use Rattle.std.proofs.lemmas.Bool.{eq-eqb}
 use Rattle.std.proofs.lemmas.Bool.Decides.{nat_tests}
-use Rattle.std.proofs.lemmas.Map.Keys.{sorted_head, sorted_tail}
-use Rattle.std.specs.Prelude.{IsSome}
+use Rattle.std.proofs.lemmas.Map.Keys.{IsDistinct-head, IsDistinct-tail, sorted_head, sorted_tail}
+use Rattle.std.specs.Prelude.{IsSome, nat_eq}
 use Rattle.std.specs.BTreeMap.{is_at}
 use Rattle.std.specs.BTreeSet.{insert_key}
-use Rattle.std.specs.List.{AllByRecursion}
+use Rattle.std.specs.List.{AllByRecursion, IsDistinct}
 use Rattle.std.specs.List.Sorted.{IsStrictlySortedBy}
 use Rattle.std.specs.Map.{keys_of, lookup}
 use Rattle.std.specs.Ordering.{is_eq, match_ordering, nat_cmp}
 use Rattle.std.specs.declared.cmp.Ordering.{Ordering}
 use Rattle.gb_machine.specs.Members.{Each, EachTwo, IsIn}
-use Rattle.gb_ops.proofs.Maps.{key_other, key_same, same_some}
+use Rattle.gb_ops.proofs.Maps.{key_same, same_some}
 use Rattle.gb_ops.specs.Listed.{IsLate, IsOpen, Lists, late_among, put_late}
 use Rattle.gb_ops.specs.Operations.{Operations}
 use Rattle.gb_ops.specs.declared.entries.Holder.{Holder}
@@ -71,36 +72,34 @@ record Stands {X : Type 0} (n : ℕ) (x : X) (es : List (ℕ × X)) : Type 0 whe
   is : entry.1 ≡ x
 
 stands-at : {X : Type 0} (n : ℕ) (x : X) (es : List (ℕ × X))
-    → lookup (is_at (nat_cmp n)) es ≡ Some x → Stands n x es
+    → lookup (nat_eq n) es ≡ Some x → Stands n x es
 stands-at n x [] h = absurd cc
-stands-at n x (e ∷ es) h = by (is_eq (nat_cmp n e.0)) h (stands-at n x es)
+stands-at n x (e ∷ es) h = by (nat_eq n e.0) h (stands-at n x es)
   where
-    by : (t : Bool) → cond t (Some e.1) (lookup (is_at (nat_cmp n)) es) ≡ Some x
-        → (lookup (is_at (nat_cmp n)) es ≡ Some x → Stands n x es) → Stands n x (e ∷ es)
+    by : (t : Bool) → cond t (Some e.1) (lookup (nat_eq n) es) ≡ Some x
+        → (lookup (nat_eq n) es ≡ Some x → Stands n x es) → Stands n x (e ∷ es)
     by true f later = record { entry = e; there = inl refl; is = same_some e.1 x f }
     by false f later =
         let s = later f in record { entry = s.entry; there = inr s.there; is = s.is }
 
-above : {X : Type 0} (k : ℕ) (e : ℕ × X) (es : List (ℕ × X))
-    → AllByRecursion (λ y. nat_cmp k y ≡ Less) (keys_of es) → IsIn e es → k < e.0
-above k e [] all i = absurd i
-above k e (f ∷ es) all (inl is) =
-    let less = all.0 in
-    let low : k < f.0 = grind (arith, nat_tests) in subst (λ x. k < x) (ap (λ x. x.0) (sym is)) low
-above k e (f ∷ es) all (inr i) = above k e es all.1 i
+apart : {X : Type 0} (k : ℕ) (e : ℕ × X) (es : List (ℕ × X))
+    → AllByRecursion (λ y. nat_eq k y ≡ false) (keys_of es) → IsIn e es → nat_eq e.0 k ≡ false
+apart k e [] all i = absurd i
+apart k e (f ∷ es) all (inl is) =
+    let not_k = all.0 in
+    ap (λ x. nat_eq x.0 k) is ∙ (let ne : nat_eq f.0 k ≡ false = grind (arith, nat_tests) in ne)
+apart k e (f ∷ es) all (inr i) = apart k e es all.1 i
 
-at-stands : {X : Type 0} (e : ℕ × X) (es : List (ℕ × X)) → IsStrictlySortedBy nat_cmp (keys_of es)
-    → IsIn e es → lookup (is_at (nat_cmp e.0)) es ≡ Some e.1
+at-stands : {X : Type 0} (e : ℕ × X) (es : List (ℕ × X)) → IsDistinct nat_eq (keys_of es)
+    → IsIn e es → lookup (nat_eq e.0) es ≡ Some e.1
 at-stands e [] s i = absurd i
 at-stands e (f ∷ es) s (inl is) =
-    ap (λ t. cond t (Some f.1) (lookup (is_at (nat_cmp e.0)) es))
-    (key_same e.0 f.0 (ap (λ x. x.0) is))
+    ap (λ t. cond t (Some f.1) (lookup (nat_eq e.0) es)) (eq-eqb e.0 f.0 (ap (λ x. x.0) is))
     ∙ ap (λ x. Some x.1) (sym is)
 at-stands e (f ∷ es) s (inr i) =
-    let up = above f.0 e es (sorted_head nat_cmp f.0 (keys_of es) s) i in
-    ap (λ t. cond t (Some f.1) (lookup (is_at (nat_cmp e.0)) es))
-    (key_other e.0 f.0 (λ is. absurd (omega (arith, up, is))))
-    ∙ at-stands e es (sorted_tail nat_cmp f.0 (keys_of es) s) i
+    ap (λ t. cond t (Some f.1) (lookup (nat_eq e.0) es))
+    (apart f.0 e es (IsDistinct-head nat_eq f.0 (keys_of es) s) i)
+    ∙ at-stands e es (IsDistinct-tail nat_eq f.0 (keys_of es) s) i
 
 -- ---- the open ones
 
@@ -205,18 +204,18 @@ among-only n ns (e ∷ es) i = ⊎_elim
 -- The numbers of the requests that were given up are those that the identifiers have.
 pub late-are : (x : Operations) (es : List (ℕ × Holder)) (ns : List ℕ) → es ≡ x.holders
     → ns ≡ late_among [] es → IsStrictlySortedBy nat_cmp ns
-    → IsStrictlySortedBy nat_cmp (keys_of es) → Lists (IsLate x) ns
-late-are x es ns same is sorted s = record {
+    → IsDistinct nat_eq (keys_of es) → Lists (IsLate x) ns
+late-are x es ns same is sorted distinct = record {
   rise = rising ns sorted;
   all = λ n late.
       let w = stands-at late.label (record { number = n; given_up = true }) es
-      (ap (lookup (is_at (nat_cmp late.label))) same ∙ late.held) in
+      (ap (lookup (nat_eq late.label)) same ∙ late.held) in
       subst (IsIn n) (sym is) (among-all n [] w.entry es w.there w.is);
   only = λ n i. ⊎_elim (λ none. absurd none)
       (λ w. record {
         label = w.entry.0;
-        held = ap (lookup (is_at (nat_cmp w.entry.0))) (sym same)
-            ∙ at-stands w.entry es s w.there ∙ ap Some w.is;
+        held = ap (lookup (nat_eq w.entry.0)) (sym same)
+            ∙ at-stands w.entry es distinct w.there ∙ ap Some w.is;
       })
       (among-only n [] es (subst (IsIn n) is i));
 }

@@ -1,5 +1,5 @@
 -- The requests of one side of a connection whose identifiers are in use.
-use Rattle.std.specs.Prelude.{◌≡◌, ◌≢◌, ℕ, Bool, Option, List, is_some}
+use Rattle.std.specs.Prelude.{◌≡◌, ◌≢◌, ℕ, Bool, Option, List, is_some, nat_eq}
 use Rattle.std.specs.BTreeMap.{is_at}
 use Rattle.std.specs.Map.{lookup}
 use Rattle.std.specs.Ordering.{nat_cmp}
@@ -7,8 +7,8 @@ use Rattle.gb_machine.specs.Labels.{free_label, greatest_label, label_after}
 use Rattle.gb_ops.specs.declared.entries.Holder.{Holder}
 use Rattle.gb_ops.specs.declared.entries.Pending.{Pending}
 
--- What each identifier is in use for, in order of identifier, the open requests, in order of
--- number, and the last identifier that was drawn, 0 before the first.
+-- What each identifier is in use for, the open requests, in order of number, and the last
+-- identifier that was drawn, 0 before the first.
 pub record Operations : Type 0 where
   pub holders : List (ℕ × Holder)
   pub pending : List (ℕ × Pending)
@@ -16,7 +16,7 @@ pub record Operations : Type 0 where
 
 -- what an identifier is in use for, None where it isn't in use
 abbrev pub holder_of : Operations → ℕ → Option Holder
-holder_of x label = lookup (is_at (nat_cmp label)) x.holders
+holder_of x label = lookup (nat_eq label) x.holders
 
 -- an open request by its number, None where it isn't open
 abbrev pub pending_at : Operations → ℕ → Option Pending

@@ -1,7 +1,8 @@
--- What the ordered maps keep, and what their calls do.
+-- What the maps keep, and what their calls do.
 use Rattle.std.specs.Prelude.{◌≡◌, ◌≤◌, ℕ, true, false, Option, Some, None, is_some}
-use Rattle.std.specs.Prelude.{option_map, IsNone, []}
+use Rattle.std.specs.Prelude.{nat_eq, option_map, IsNone, []}
 use Rattle.std.specs.BTreeMap.{get}
+use Rattle.std.specs.HashMap as hash
 use Rattle.std.specs.Ordering.{nat_cmp}
 use Rattle.gb_labels.specs.LabelSet.{LabelSet, is_in_use}
 use Rattle.gb_ops.specs.Operations.{Puts}
@@ -11,7 +12,7 @@ use Rattle.gb_ops.specs.declared.tables.Tables.{Tables}
 
 -- what an identifier is in use for
 abbrev pub holder_in : Tables → ℕ → Option Holder
-holder_in t label = get nat_cmp t.holders label
+holder_in t label = hash.get nat_eq t.holders label
 
 -- an open request by its number
 abbrev pub pending_in : Tables → ℕ → Option Pending

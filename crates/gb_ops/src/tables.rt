@@ -1,7 +1,8 @@
 //! Requests by identifier and by number.
 
-ghost use Rattle.std.specs.Prelude.{◌≡◌, None, [], IfOk, OnErr, OnOk, is_some};
+ghost use Rattle.std.specs.Prelude.{◌≡◌, None, [], IfOk, OnErr, OnOk, is_some, nat_eq};
 ghost use Rattle.std.specs.BTreeMap.{IsOrdered};
+ghost use Rattle.std.specs.HashMap.{IsUnique};
 ghost use Rattle.std.specs.List.Sorted.{IsStrictlySortedBy};
 ghost use Rattle.std.specs.Map.{keys_of};
 ghost use Rattle.std.specs.Ordering.{nat_cmp};
@@ -22,14 +23,14 @@ ghost use Rattle.gb_ops.specs.Tables.{
 use crate::{Holder, Pending};
 use gb_base::{Numbers, OutOfMemory};
 use std::alloc::Global;
-use std::collections::{BTreeMap, BTreeSet};
+use std::collections::{BTreeMap, BTreeSet, HashMap};
 
-/// The requests of one side of a connection, in ordered maps.
+/// The requests of one side of a connection, in maps.
 #[derive(Drop)]
 pub struct Tables {
     /// By identifier, those that are open and those that were given up.
-    pub holders: BTreeMap<u16, Holder>,
-    /// By number, those that are open.
+    pub holders: HashMap<u16, Holder>,
+    /// By number, those that are open, in order.
     pub pending: BTreeMap<u64, Pending>,
     /// No deadline of those that are open is before it, in milliseconds.
     pub soonest: u64,
@@ -41,7 +42,7 @@ impl Tables {
         ensures { IsEmpty result }
     {
         Tables {
-            holders: BTreeMap::new(alloc),
+            holders: HashMap::new(alloc),
             pending: BTreeMap::new(alloc),
             soonest: u64::MAX,
         }
@@ -140,7 +141,7 @@ impl Tables {
     pub fn late(&self, alloc: Global) -> Result<Numbers, OutOfMemory>
         ensures numbers { IfOk result (λ ns. ns ≡ late_among [] self.now.holders.entries) }
         ensures sorted { IfOk result (λ ns. IsStrictlySortedBy nat_cmp ns) }
-        ensures ordered { IsOrdered nat_cmp self.now.holders }
+        ensures unique { IsUnique nat_eq self.now.holders }
     {
         let mut found = BTreeSet::new(alloc);
         for (_, holder) in &self.holders {

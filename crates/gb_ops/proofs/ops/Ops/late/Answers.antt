@@ -7,4 +7,4 @@ pub returns : goal.returns
 returns c =
     late-are c.args.self.now c.self.inside.tables.holders.entries c.in_ok-numbers.numbers
     (ap (λ x. x.holders) c.self.view_is) c.in_ok-numbers.ensures.numbers
-    c.in_ok-numbers.ensures.sorted c.in_ok-numbers.ensures.ordered
+    c.in_ok-numbers.ensures.sorted c.in_ok-numbers.ensures.unique
