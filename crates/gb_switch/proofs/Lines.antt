@@ -12,16 +12,14 @@ use Rattle.std.specs.Ordering.{is_eq, is_gt}
 use Rattle.std.specs.declared.collections.VecDeque.{VecDeque}
 use Rattle.gb_base.specs.declared.end.End.{End}
 use Rattle.gb_machine.specs.Waiting.{end_before}
-use Rattle.gb_switch.proofs.Places.{end-place, place-end, place-other, place-own, place-same}
-use Rattle.gb_switch.proofs.Places.{places-apart, settled-before}
-use Rattle.gb_switch.specs.Lines.{Agrees, Marks, by_place, has_items, line_in, lines_of}
-use Rattle.gb_switch.specs.Places.{end_of, place_of}
+use Rattle.gb_switch.proofs.Places.{cmp-other, cmp-own, cmp-same, settled-before}
+use Rattle.gb_switch.specs.Lines.{Agrees, Marks, has_items, line_in, lines_of}
+use Rattle.gb_switch.specs.Places.{end_cmp}
 use Rattle.gb_switch.specs.Queues.{Appends, Creates, Destroys, IsFirst, Puts, StaysSame, Takes}
 use Rattle.gb_switch.specs.Queues.{TakesAs, items_at}
-use Rattle.gb_switch.specs.declared.place.Place.{Place}
 
--- what contracts see at an end is what the map has at its place
-lookup-lines : {T Z : Type 0} (test : Place → Bool) (es : List (Place × VecDeque T Z))
+-- what contracts see at an end is what the map has there
+lookup-lines : {T Z : Type 0} (test : End → Bool) (es : List (End × VecDeque T Z))
     → lookup test (lines_of es) ≡ option_map (λ q. q.items) (lookup test es)
 lookup-lines test [] = refl
 lookup-lines {T} {Z} test (e ∷ es) = by (lookup-lines test es) (test e.0)
@@ -32,61 +30,55 @@ lookup-lines {T} {Z} test (e ∷ es) = by (lookup-lines test es) (test e.0)
     by later true = refl
     by later false = later
 
-pub items-line : {T Z : Type 0} (x : List (Place × List T)) (m : BTreeMap Place (VecDeque T Z))
-    → lines_of m.entries ≡ x → (at : End) → items_at x at ≡ line_in m (place_of at)
+pub items-line : {T Z : Type 0} (x : List (End × List T)) (m : BTreeMap End (VecDeque T Z))
+    → lines_of m.entries ≡ x → (at : End) → items_at x at ≡ line_in m at
 items-line x m is at =
-    ap (λ es. lookup (is_at (by_place (place_of at))) es) (sym is)
-    ∙ lookup-lines (is_at (by_place (place_of at))) m.entries
+    ap (λ es. lookup (is_at (end_cmp at)) es) (sym is)
+    ∙ lookup-lines (is_at (end_cmp at)) m.entries
 
--- what an ordered map has after a change at one place
-abbrev pub Updated : {X : Type 0} → BTreeMap Place X → BTreeMap Place X → Place → Option X → Type 0
-Updated m n k w = (q : Place) → get by_place n q ≡ cond (is_at (by_place k) q) w (get by_place m q)
+-- what an ordered map has after a change at one end
+abbrev pub Updated : {X : Type 0} → BTreeMap End X → BTreeMap End X → End → Option X → Type 0
+Updated m n k w = (q : End) → get end_cmp n q ≡ cond (is_at (end_cmp k) q) w (get end_cmp m q)
 
-pub updated-here : {T Z : Type 0} (m n : BTreeMap Place (VecDeque T Z)) (k : Place)
+pub updated-here : {T Z : Type 0} (m n : BTreeMap End (VecDeque T Z)) (k : End)
     (w : Option (VecDeque T Z)) → Updated m n k w → line_in n k ≡ option_map (λ q. q.items) w
 updated-here m n k w u =
-    ap (option_map (λ q. q.items)) (u k ∙ ap (λ t. cond t w (get by_place m k)) (place-own k))
+    ap (option_map (λ q. q.items)) (u k ∙ ap (λ t. cond t w (get end_cmp m k)) (cmp-own k))
 
-pub updated-others : {T Z : Type 0} (m n : BTreeMap Place (VecDeque T Z)) (k : Place)
-    (w : Option (VecDeque T Z)) → Updated m n k w → (q : Place) → q ≢ k → line_in n q ≡ line_in m q
+pub updated-others : {T Z : Type 0} (m n : BTreeMap End (VecDeque T Z)) (k : End)
+    (w : Option (VecDeque T Z)) → Updated m n k w → (q : End) → q ≢ k → line_in n q ≡ line_in m q
 updated-others m n k w u q ne =
     ap (option_map (λ q. q.items))
-    (u q ∙ ap (λ t. cond t w (get by_place m q)) (place-other k q (λ e. ne (sym e))))
+    (u q ∙ ap (λ t. cond t w (get end_cmp m q)) (cmp-other k q (λ e. ne (sym e))))
 
 -- the same from a map with the same entries
-pub updated-from : {X : Type 0} (m n o : BTreeMap Place X) (k : Place) (w : Option X)
+pub updated-from : {X : Type 0} (m n o : BTreeMap End X) (k : End) (w : Option X)
     → n.entries ≡ m.entries → Updated n o k w → Updated m o k w
 updated-from m n o k w same u q =
-    u q ∙ ap (λ es. cond (is_at (by_place k) q) w (lookup (is_at (by_place q)) es)) same
+    u q ∙ ap (λ es. cond (is_at (end_cmp k) q) w (lookup (is_at (end_cmp q)) es)) same
 
--- a place is the one that was changed, or another
-pub is-place : (p q : Place) → (p ≡ q) ⊎ (p ≢ q)
-is-place p q = by (is_eq (by_place p q)) refl
+-- an end is the one that was changed, or another
+pub is-end : (a b : End) → (a ≡ b) ⊎ (a ≢ b)
+is-end a b = by (is_eq (end_cmp a b)) refl
   where
-    by : (b : Bool) → is_eq (by_place p q) ≡ b → (p ≡ q) ⊎ (p ≢ q)
-    by true e = inl (place-same p q e)
+    by : (t : Bool) → is_eq (end_cmp a b) ≡ t → (a ≡ b) ⊎ (a ≢ b)
+    by true e = inl (cmp-same a b e)
     by false e =
         inr (λ same. true≢false
-        (sym (place-own p) ∙ ap (λ r. is_eq (by_place p r)) same ∙ e))
+        (sym (cmp-own a) ∙ ap (λ r. is_eq (end_cmp a r)) same ∙ e))
 
-pub is-end : (a b : End) → (a ≡ b) ⊎ (a ≢ b)
-is-end a b =
-    ⊎_elim (λ e. inl (sym (end-place a) ∙ ap end_of e ∙ end-place b))
-    (λ ne. inr (λ e. ne (ap place_of e)))
-    (is-place (place_of a) (place_of b))
-
--- nothing waits at a place where nothing waited, after a change to nothing
-pub idle-after : {T Z : Type 0} (m n : BTreeMap Place (VecDeque T Z)) (k : Place)
+-- nothing waits at an end where nothing waited, after a change to nothing
+pub idle-after : {T Z : Type 0} (m n : BTreeMap End (VecDeque T Z)) (k : End)
     (w : Option (VecDeque T Z)) → Updated m n k w → has_items (option_map (λ q. q.items) w) ≡ false
-    → (q : Place) → has_items (line_in m q) ≡ false → has_items (line_in n q) ≡ false
+    → (q : End) → has_items (line_in m q) ≡ false → has_items (line_in n q) ≡ false
 idle-after m n k w u none q before =
     ⊎_elim
     (λ e. ap (λ p. has_items (line_in n p)) e ∙ ap has_items (updated-here m n k w u) ∙ none)
     (λ ne. ap has_items (updated-others m n k w u q ne) ∙ before)
-    (is-place q k)
+    (is-end q k)
 
-pub agrees-idle : {T Z : Type 0} (m n : BTreeMap Place (VecDeque T Z)) (waiting : BTreeSet Place)
-    (k : Place) (w : Option (VecDeque T Z)) → Updated m n k w
+pub agrees-idle : {T Z : Type 0} (m n : BTreeMap End (VecDeque T Z)) (waiting : BTreeSet End)
+    (k : End) (w : Option (VecDeque T Z)) → Updated m n k w
     → has_items (option_map (λ q. q.items) w) ≡ false → has_items (line_in m k) ≡ false
     → Agrees m waiting → Agrees n waiting
 agrees-idle m n waiting k w u none before a p =
@@ -95,12 +87,12 @@ agrees-idle m n waiting k w u none before a p =
     ap (λ q. has_items (line_in m q)) e ∙ before ∙ sym none
     ∙ sym (ap has_items (updated-here m n k w u)) ∙ sym (ap (λ q. has_items (line_in n q)) e))
     (λ ne. sym (ap has_items (updated-others m n k w u p ne)))
-    (is-place p k)
+    (is-end p k)
 
 -- no queue is there where a map has none
-pub no-line : {T Z : Type 0} (m : BTreeMap Place (VecDeque T Z)) (k : Place) (b : Bool)
-    → b ≡ is_some (get by_place m k) → b ≡ false → line_in m k ≡ None
-no-line {T} {Z} m k b there none = by (get by_place m k) (sym there ∙ none)
+pub no-line : {T Z : Type 0} (m : BTreeMap End (VecDeque T Z)) (k : End) (b : Bool)
+    → b ≡ is_some (get end_cmp m k) → b ≡ false → line_in m k ≡ None
+no-line {T} {Z} m k b there none = by (get end_cmp m k) (sym there ∙ none)
   where
     by : (o : Option (VecDeque T Z)) → is_some o ≡ false → option_map (λ q. q.items) o ≡ None
     by None e = refl
@@ -108,22 +100,21 @@ no-line {T} {Z} m k b there none = by (get by_place m k) (sym there ∙ none)
 
 -- ---- two queues are made
 
-pub creates : {T Z : Type 0} (x y : List (Place × List T)) (m n o : BTreeMap Place (VecDeque T Z))
-    (a b : End) (p q : Place) (v w : VecDeque T Z)
-    → lines_of m.entries ≡ x → lines_of o.entries ≡ y → p ≡ place_of a → q ≡ place_of b
+pub creates : {T Z : Type 0} (x y : List (End × List T)) (m n o : BTreeMap End (VecDeque T Z))
+    (a b : End) (p q : End) (v w : VecDeque T Z)
+    → lines_of m.entries ≡ x → lines_of o.entries ≡ y → p ≡ a → q ≡ b
     → line_in m p ≡ None → line_in m q ≡ None
     → Updated m n p (Some v) → Updated n o q (Some w) → v.items ≡ [] → w.items ≡ []
     → Creates x y a b
 creates x y m n o a b p q v w is-x is-y is-p is-q none-p none-q u t empty-v empty-w = record {
   free_a = items-line x m is-x a ∙ ap (line_in m) (sym is-p) ∙ none-p;
   free_b = items-line x m is-x b ∙ ap (line_in m) (sym is-q) ∙ none-q;
-  at_a = items-line y o is-y a ∙ ap (line_in o) (sym is-p) ∙ at_p (is-place p q);
+  at_a = items-line y o is-y a ∙ ap (line_in o) (sym is-p) ∙ at_p (is-end p q);
   at_b = items-line y o is-y b ∙ ap (line_in o) (sym is-q) ∙ at_q;
   others = λ at ne_a ne_b.
       items-line y o is-y at
-      ∙ updated-others n o q (Some w) t (place_of at)
-      (λ e. places-apart at b ne_b (e ∙ is-q))
-      ∙ updated-others m n p (Some v) u (place_of at) (λ e. places-apart at a ne_a (e ∙ is-p))
+      ∙ updated-others n o q (Some w) t at (λ e. ne_b (e ∙ is-q))
+      ∙ updated-others m n p (Some v) u at (λ e. ne_a (e ∙ is-p))
       ∙ sym (items-line x m is-x at);
 }
   where
@@ -135,8 +126,8 @@ creates x y m n o a b p q v w is-x is-y is-p is-q none-p none-q u t empty-v empt
     at_p (inr ne) =
         updated-others n o q (Some w) t p ne ∙ updated-here m n p (Some v) u ∙ ap Some empty-v
 
-pub creates-agrees : {T Z : Type 0} (m n o : BTreeMap Place (VecDeque T Z))
-    (waiting : BTreeSet Place) (p q : Place) (v w : VecDeque T Z)
+pub creates-agrees : {T Z : Type 0} (m n o : BTreeMap End (VecDeque T Z))
+    (waiting : BTreeSet End) (p q : End) (v w : VecDeque T Z)
     → line_in m p ≡ None → line_in m q ≡ None
     → Updated m n p (Some v) → Updated n o q (Some w) → v.items ≡ [] → w.items ≡ []
     → Agrees m waiting → Agrees o waiting
@@ -147,25 +138,25 @@ creates-agrees m n o waiting p q v w none-p none-q u t empty-v empty-w a =
     (ap has_items none-p) a)
 
 -- a queue was made and taken away
-pub restored : {T Z : Type 0} (m n o : BTreeMap Place (VecDeque T Z)) (p : Place)
+pub restored : {T Z : Type 0} (m n o : BTreeMap End (VecDeque T Z)) (p : End)
     (v : VecDeque T Z) → line_in m p ≡ None → Updated m n p (Some v) → Updated n o p None
-    → (q : Place) → line_in o q ≡ line_in m q
+    → (q : End) → line_in o q ≡ line_in m q
 restored m n o p v none u t q =
     ⊎_elim
     (λ e. ap (line_in o) e ∙ updated-here n o p None t ∙ sym none ∙ sym (ap (line_in m) e))
     (λ ne. updated-others n o p None t q ne ∙ updated-others m n p (Some v) u q ne)
-    (is-place q p)
+    (is-end q p)
 
 -- ---- a queue is written where it stands
 
--- a queue was at a place, and this one is there now
-record Written {T Z : Type 0} (m n : BTreeMap Place (VecDeque T Z)) (p : Place)
+-- a queue was at an end, and this one is there now
+record Written {T Z : Type 0} (m n : BTreeMap End (VecDeque T Z)) (p : End)
     (v w : VecDeque T Z) : Type 0 where
   pub was : line_in m p ≡ Some v.items
   pub puts : Puts (line_in m) (line_in n) p (Some w.items)
 
-written : {T Z : Type 0} (m n : BTreeMap Place (VecDeque T Z)) (p : Place)
-    (v w : VecDeque T Z) → Some v ≡ get by_place m p → WritesThrough by_place (by_place p) m w n
+written : {T Z : Type 0} (m n : BTreeMap End (VecDeque T Z)) (p : End)
+    (v w : VecDeque T Z) → Some v ≡ get end_cmp m p → WritesThrough end_cmp (end_cmp p) m w n
     → Written m n p v w
 written {T} {Z} m n p v w there through = record {
   was = sym (ap (option_map (λ q. q.items)) there);
@@ -178,32 +169,32 @@ written {T} {Z} m n p v w there through = record {
     change : Updated m n p (Some w)
     change = (through.3 (subst (λ (o : Option (VecDeque T Z)). IsSome o) there refl)).0
 
--- its place is marked as it is now
-pub agrees-written : {T Z : Type 0} (m n : BTreeMap Place (VecDeque T Z))
-    (before after : BTreeSet Place) (p : Place) (v w : VecDeque T Z)
-    → Some v ≡ get by_place m p → WritesThrough by_place (by_place p) m w n
+-- its end is marked as it is now
+pub agrees-written : {T Z : Type 0} (m n : BTreeMap End (VecDeque T Z))
+    (before after : BTreeSet End) (p : End) (v w : VecDeque T Z)
+    → Some v ≡ get end_cmp m p → WritesThrough end_cmp (end_cmp p) m w n
     → Marks before after p (has_items (Some w.items)) → Agrees m before → Agrees n after
 agrees-written m n before after p v w there through marks a q =
     let x = written m n p v w there through in
     ⊎_elim
     (λ e.
-    ap (contains by_place after) e ∙ marks.here
+    ap (contains end_cmp after) e ∙ marks.here
     ∙ sym (ap has_items (ap (line_in n) e ∙ x.puts.here)))
     (λ ne. marks.others q ne ∙ a q ∙ sym (ap has_items (x.puts.others q ne)))
-    (is-place q p)
+    (is-end q p)
 
 -- the same waits there
-same-written : {T Z : Type 0} (m n : BTreeMap Place (VecDeque T Z)) (p : Place)
+same-written : {T Z : Type 0} (m n : BTreeMap End (VecDeque T Z)) (p : End)
     (v w : VecDeque T Z) → Written m n p v w → w.items ≡ v.items
-    → (q : Place) → line_in n q ≡ line_in m q
+    → (q : End) → line_in n q ≡ line_in m q
 same-written m n p v w x same q =
     ⊎_elim
     (λ e. ap (line_in n) e ∙ x.puts.here ∙ ap Some same ∙ sym (ap (line_in m) e ∙ x.was))
     (x.puts.others q)
-    (is-place q p)
+    (is-end q p)
 
 -- nothing waits where a queue has no items
-idle : {T Z : Type 0} (m : BTreeMap Place (VecDeque T Z)) (p : Place) (v : VecDeque T Z)
+idle : {T Z : Type 0} (m : BTreeMap End (VecDeque T Z)) (p : End) (v : VecDeque T Z)
     → line_in m p ≡ Some v.items → length v.items ≡ 0 → has_items (line_in m p) ≡ false
 idle {T} m p v was none = ap has_items was ∙ by v.items none
   where
@@ -211,34 +202,34 @@ idle {T} m p v was none = ap has_items was ∙ by v.items none
     by [] e = refl
     by (x ∷ xs) e = absurd (omega arith)
 
--- ---- from places to ends
+-- ---- from what maps have to what contracts see
 
-pub stays : {T Z : Type 0} (x y : List (Place × List T)) (m n : BTreeMap Place (VecDeque T Z))
+pub stays : {T Z : Type 0} (x y : List (End × List T)) (m n : BTreeMap End (VecDeque T Z))
     → lines_of m.entries ≡ x → lines_of n.entries ≡ y
-    → ((p : Place) → line_in n p ≡ line_in m p) → StaysSame x y
+    → ((p : End) → line_in n p ≡ line_in m p) → StaysSame x y
 stays x y m n is-x is-y same at =
-    items-line y n is-y at ∙ same (place_of at) ∙ sym (items-line x m is-x at)
+    items-line y n is-y at ∙ same at ∙ sym (items-line x m is-x at)
 
-pub puts : {T Z : Type 0} (x y : List (Place × List T)) (m n : BTreeMap Place (VecDeque T Z))
-    (at : End) (p : Place) (v : Option (List T))
-    → lines_of m.entries ≡ x → lines_of n.entries ≡ y → p ≡ place_of at
+pub puts : {T Z : Type 0} (x y : List (End × List T)) (m n : BTreeMap End (VecDeque T Z))
+    (at p : End) (v : Option (List T))
+    → lines_of m.entries ≡ x → lines_of n.entries ≡ y → p ≡ at
     → Puts (line_in m) (line_in n) p v → Puts (items_at x) (items_at y) at v
 puts x y m n at p v is-x is-y is-p w = record {
   here = items-line y n is-y at ∙ ap (line_in n) (sym is-p) ∙ w.here;
   others = λ other ne.
       items-line y n is-y other
-      ∙ w.others (place_of other) (λ e. places-apart other at ne (e ∙ is-p))
+      ∙ w.others other (λ e. ne (e ∙ is-p))
       ∙ sym (items-line x m is-x other);
 }
 
-pub removes : {T Z : Type 0} (x y : List (Place × List T)) (m n : BTreeMap Place (VecDeque T Z))
-    (at : End) (p : Place) → lines_of m.entries ≡ x → lines_of n.entries ≡ y → p ≡ place_of at
+pub removes : {T Z : Type 0} (x y : List (End × List T)) (m n : BTreeMap End (VecDeque T Z))
+    (at p : End) → lines_of m.entries ≡ x → lines_of n.entries ≡ y → p ≡ at
     → Updated m n p None → Puts (items_at x) (items_at y) at None
 removes x y m n at p is-x is-y is-p u =
     puts x y m n at p None is-x is-y is-p
     (record { here = updated-here m n p None u; others = updated-others m n p None u })
 
-pub destroys : {T : Type 0} (x y z : List (Place × List T)) (a b : End)
+pub destroys : {T : Type 0} (x y z : List (End × List T)) (a b : End)
     → Puts (items_at x) (items_at y) a None → Puts (items_at y) (items_at z) b None
     → Destroys x z a b
 destroys x y z a b u t = record {
@@ -247,11 +238,11 @@ destroys x y z a b u t = record {
   others = λ at ne_a ne_b. t.others at ne_b ∙ u.others at ne_a;
 }
 
-pub appends-as : {T Z E : Type 0} (x y : List (Place × List T))
-    (m n : BTreeMap Place (VecDeque T Z)) (at : End) (p : Place) (v w : VecDeque T Z) (item : T)
+pub appends-as : {T Z E : Type 0} (x y : List (End × List T))
+    (m n : BTreeMap End (VecDeque T Z)) (at p : End) (v w : VecDeque T Z) (item : T)
     (r : Result Unit E)
-    → lines_of m.entries ≡ x → lines_of n.entries ≡ y → p ≡ place_of at
-    → Some v ≡ get by_place m p → WritesThrough by_place (by_place p) m w n
+    → lines_of m.entries ≡ x → lines_of n.entries ≡ y → p ≡ at
+    → Some v ≡ get end_cmp m p → WritesThrough end_cmp (end_cmp p) m w n
     → OnOk r (w.items ≡ v.items ++ item ∷ [])
     → OnOk r (Appends (items_at x) (items_at y) at item)
 appends-as x y m n at p v w item (Ok u) is-x is-y is-p there through is =
@@ -265,19 +256,19 @@ appends-as x y m n at p v w item (Ok u) is-x is-y is-p there through is =
     }
 appends-as x y m n at p v w item (Err e) is-x is-y is-p there through is = tt
 
-pub stays-as : {T Z E : Type 0} (x y : List (Place × List T))
-    (m n : BTreeMap Place (VecDeque T Z)) (p : Place) (v w : VecDeque T Z) (r : Result Unit E)
+pub stays-as : {T Z E : Type 0} (x y : List (End × List T))
+    (m n : BTreeMap End (VecDeque T Z)) (p : End) (v w : VecDeque T Z) (r : Result Unit E)
     → lines_of m.entries ≡ x → lines_of n.entries ≡ y
-    → Some v ≡ get by_place m p → WritesThrough by_place (by_place p) m w n
+    → Some v ≡ get end_cmp m p → WritesThrough end_cmp (end_cmp p) m w n
     → OnErr r (w.items ≡ v.items) → OnErr r (StaysSame x y)
 stays-as x y m n p v w (Ok u) is-x is-y there through same = tt
 stays-as x y m n p v w (Err e) is-x is-y there through same =
     stays x y m n is-x is-y (same-written m n p v w (written m n p v w there through) same)
 
-pub takes : {T Z : Type 0} (x y : List (Place × List T)) (m n : BTreeMap Place (VecDeque T Z))
-    (at : End) (p : Place) (v w : VecDeque T Z) (item : T)
-    → lines_of m.entries ≡ x → p ≡ place_of at
-    → Some v ≡ get by_place m p → WritesThrough by_place (by_place p) m w n
+pub takes : {T Z : Type 0} (x y : List (End × List T)) (m n : BTreeMap End (VecDeque T Z))
+    (at p : End) (v w : VecDeque T Z) (item : T)
+    → lines_of m.entries ≡ x → p ≡ at
+    → Some v ≡ get end_cmp m p → WritesThrough end_cmp (end_cmp p) m w n
     → v.items ≡ item ∷ w.items
     → lines_of n.entries ≡ y → Takes (items_at x) (items_at y) at item
 takes x y m n at p v w item is-x is-p there through is is-y =
@@ -289,10 +280,10 @@ takes x y m n at p v w item is-x is-p there through is is-y =
     }
 
 -- nothing waited at an end, and all is as it was
-takes-nothing : {T Z : Type 0} (x y : List (Place × List T))
-    (m n : BTreeMap Place (VecDeque T Z)) (at : End) (p : Place) (r : Option T)
-    → lines_of m.entries ≡ x → lines_of n.entries ≡ y → p ≡ place_of at
-    → has_items (line_in m p) ≡ false → ((q : Place) → line_in n q ≡ line_in m q) → r ≡ None
+takes-nothing : {T Z : Type 0} (x y : List (End × List T))
+    (m n : BTreeMap End (VecDeque T Z)) (at p : End) (r : Option T)
+    → lines_of m.entries ≡ x → lines_of n.entries ≡ y → p ≡ at
+    → has_items (line_in m p) ≡ false → ((q : End) → line_in n q ≡ line_in m q) → r ≡ None
     → TakesAs (items_at x) (items_at y) at r
 takes-nothing x y m n at p r is-x is-y is-p none same is =
     subst (TakesAs (items_at x) (items_at y) at) (sym is) (
@@ -301,21 +292,21 @@ takes-nothing x y m n at p r is-x is-y is-p none same is =
     )
 
 -- no queue was there
-pub takes-nowhere : {T Z : Type 0} (x y : List (Place × List T))
-    (m n : BTreeMap Place (VecDeque T Z)) (at : End) (p : Place) (r : Option T)
-    → lines_of m.entries ≡ x → lines_of n.entries ≡ y → p ≡ place_of at
-    → None ≡ get by_place m p → n ≡ m → r ≡ None → TakesAs (items_at x) (items_at y) at r
+pub takes-nowhere : {T Z : Type 0} (x y : List (End × List T))
+    (m n : BTreeMap End (VecDeque T Z)) (at p : End) (r : Option T)
+    → lines_of m.entries ≡ x → lines_of n.entries ≡ y → p ≡ at
+    → None ≡ get end_cmp m p → n ≡ m → r ≡ None → TakesAs (items_at x) (items_at y) at r
 takes-nowhere {T} {Z} x y m n at p r is-x is-y is-p there same is =
     takes-nothing x y m n at p r is-x is-y is-p
     (ap (λ (o : Option (VecDeque T Z)). has_items (option_map (λ q. q.items) o)) (sym there))
     (λ q. ap (λ k. line_in k q) same) is
 
 -- or an empty one was
-pub takes-none : {T Z : Type 0} (x y : List (Place × List T))
-    (m n : BTreeMap Place (VecDeque T Z)) (at : End) (p : Place) (v w : VecDeque T Z)
+pub takes-none : {T Z : Type 0} (x y : List (End × List T))
+    (m n : BTreeMap End (VecDeque T Z)) (at p : End) (v w : VecDeque T Z)
     (r : Option T)
-    → lines_of m.entries ≡ x → lines_of n.entries ≡ y → p ≡ place_of at
-    → Some v ≡ get by_place m p → WritesThrough by_place (by_place p) m w n
+    → lines_of m.entries ≡ x → lines_of n.entries ≡ y → p ≡ at
+    → Some v ≡ get end_cmp m p → WritesThrough end_cmp (end_cmp p) m w n
     → length v.items ≡ 0 → v.items ≡ w.items → r ≡ None → TakesAs (items_at x) (items_at y) at r
 takes-none x y m n at p v w r is-x is-y is-p there through none same is =
     let z = written m n p v w there through in
@@ -324,38 +315,34 @@ takes-none x y m n at p v w r is-x is-y is-p there through none same is =
 
 -- ---- the first end where an item waits
 
-empty-keys : (ks : List Place) (test : Place → Bool) → (0 < length ks → ⊥)
+empty-keys : (ks : List End) (test : End → Bool) → (0 < length ks → ⊥)
     → list_any test ks ≡ false
 empty-keys [] test h = refl
 empty-keys (k ∷ ks) test h = absurd (h (omega arith))
 
-pub finds-none : {T Z : Type 0} (x : List (Place × List T)) (m : BTreeMap Place (VecDeque T Z))
-    (waiting : BTreeSet Place) → lines_of m.entries ≡ x → Agrees m waiting
+pub finds-none : {T Z : Type 0} (x : List (End × List T)) (m : BTreeMap End (VecDeque T Z))
+    (waiting : BTreeSet End) → lines_of m.entries ≡ x → Agrees m waiting
     → (0 < btree_set_len waiting → ⊥) → (at : End) → has_items (items_at x at) ≡ false
 finds-none x m waiting is-x a empty at =
-    ap has_items (items-line x m is-x at) ∙ sym (a (place_of at))
-    ∙ empty-keys waiting.keys (is_at (by_place (place_of at))) empty
+    ap has_items (items-line x m is-x at) ∙ sym (a at)
+    ∙ empty-keys waiting.keys (is_at (end_cmp at)) empty
 
-pub finds : {T Z : Type 0} (x : List (Place × List T)) (m : BTreeMap Place (VecDeque T Z))
-    (waiting : BTreeSet Place) (k : Place) (at : End) → lines_of m.entries ≡ x → Agrees m waiting
-    → at ≡ end_of k → contains by_place waiting k ≡ true → IsLowerBound by_place waiting k
+pub finds : {T Z : Type 0} (x : List (End × List T)) (m : BTreeMap End (VecDeque T Z))
+    (waiting : BTreeSet End) (k at : End) → lines_of m.entries ≡ x → Agrees m waiting
+    → at ≡ k → contains end_cmp waiting k ≡ true → IsLowerBound end_cmp waiting k
     → IsFirst (items_at x) at
 finds x m waiting k at is-x a is there least = record {
-  waits = queue-of at ∙ ap (λ p. has_items (line_in m p)) is-k ∙ sym (a k) ∙ there;
+  waits = queue-of at ∙ ap (λ p. has_items (line_in m p)) is ∙ sym (a k) ∙ there;
   before = λ other earlier. by other earlier (has_items (items_at x other)) refl;
 }
   where
-    queue-of : (e : End) → has_items (items_at x e) ≡ has_items (line_in m (place_of e))
+    queue-of : (e : End) → has_items (items_at x e) ≡ has_items (line_in m e)
     queue-of e = ap has_items (items-line x m is-x e)
-
-    is-k : place_of at ≡ k
-    is-k = ap place_of is ∙ place-end k
 
     by : (other : End) → end_before other at ≡ true → (b : Bool)
         → has_items (items_at x other) ≡ b → has_items (items_at x other) ≡ false
     by other earlier false e = e
     by other earlier true e =
         absurd (true≢false
-        (sym (ap (λ p. is_gt (by_place p (place_of other))) (sym is-k)
-        ∙ settled-before other at earlier)
-        ∙ least (place_of other) (a (place_of other) ∙ sym (queue-of other) ∙ e)))
+        (sym (ap (λ p. is_gt (end_cmp p other)) (sym is) ∙ settled-before other at earlier)
+        ∙ least other (a other ∙ sym (queue-of other) ∙ e)))

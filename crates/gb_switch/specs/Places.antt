@@ -1,17 +1,42 @@
--- The places of ends in the order in which queues are settled.
+-- The order in which queues are settled, and the numbers by which it is kept.
+use Rattle.std.specs.Prelude.{◌≡◌, ◌<◌, ℕ, ◌+◌, ◌-◌, ◌*◌, ◌/◌, ◌%◌, ◌==◌, nat_lt, if◌then◌else◌}
+use Rattle.std.specs.Prelude.{List, [], ◌∷◌}
+use Rattle.std.specs.Cmp.{IsTotalOrder}
+use Rattle.std.specs.Cmp.Lexicographic.{on_texts, slice_cmp}
+use Rattle.std.specs.Ordering.{nat_cmp}
+use Rattle.std.specs.declared.cmp.Ordering.{Ordering}
 use Rattle.gb_base.specs.declared.end.End.{End}
 use Rattle.gb_base.specs.declared.end.End.TheVariants as end
-use Rattle.gb_switch.specs.declared.place.Place.{Place}
-use Rattle.gb_switch.specs.declared.place.Place.TheVariants as place
 
--- the place of an end
-abbrev pub place_of : End → Place
-place_of end.Svc = place.Svc
-place_of (end.Ap a) = place.Ap a
-place_of (end.Module i c) = place.Module i c
+-- an end by its kind, and then its numbers
+abbrev pub key_of : End → List ℕ
+key_of end.Svc = 0 ∷ []
+key_of (end.Ap a) = 1 ∷ a ∷ []
+key_of (end.Module i c) = 2 ∷ i ∷ c ∷ []
 
--- the end that has a place
-abbrev pub end_of : Place → End
-end_of place.Svc = end.Svc
-end_of (place.Ap a) = end.Ap a
-end_of (place.Module i c) = end.Module i c
+-- The order of ends: the supervisory controller, then the CPorts of the application processor, then
+-- those of modules.
+abbrev pub end_cmp : End → End → Ordering
+end_cmp a b = slice_cmp nat_cmp (key_of a) (key_of b)
+
+-- that is a total order
+pub end_total : IsTotalOrder end_cmp
+end_total = on_texts key_of
+
+-- the number of an end
+abbrev pub code_of : End → ℕ
+code_of end.Svc = 0
+code_of (end.Ap a) = 1 + a
+code_of (end.Module i c) = 65537 + i * 65536 + c
+
+-- the end that has a number
+abbrev pub end_of : ℕ → End
+end_of n =
+    if n == 0 then end.Svc
+    else if nat_lt n 65537 then end.Ap (n - 1)
+    else end.Module ((n - 65537) / 65536) ((n - 65537) % 65536)
+
+-- it is the number of that end, whose interface is below 256
+pub record IsCode (n : ℕ) : Type 0 where
+  pub own : code_of (end_of n) ≡ n
+  pub below : n < 65537 + 256 * 65536

@@ -4,13 +4,12 @@ use Rattle.std.specs.BTreeMap.{is_at}
 use Rattle.std.specs.Map.{lookup}
 use Rattle.gb_base.specs.declared.end.End.{End}
 use Rattle.gb_machine.specs.Waiting.{end_before}
-use Rattle.gb_switch.specs.Lines.{by_place, has_items}
-use Rattle.gb_switch.specs.Places.{place_of}
-use Rattle.gb_switch.specs.declared.place.Place.{Place}
+use Rattle.gb_switch.specs.Lines.{has_items}
+use Rattle.gb_switch.specs.Places.{end_cmp}
 
 -- What waits in an end's queue, the front first. None where the end has no queue.
-abbrev pub items_at : {T : Type 0} → List (Place × List T) → End → Option (List T)
-items_at queues at = lookup (is_at (by_place (place_of at))) queues
+abbrev pub items_at : {T : Type 0} → List (End × List T) → End → Option (List T)
+items_at queues at = lookup (is_at (end_cmp at)) queues
 
 -- a finite map has this at a key, and at each other key what it had
 pub record Puts {K X : Type 0} (old new : K → Option X) (key : K) (value : Option X) : Type
@@ -19,11 +18,11 @@ pub record Puts {K X : Type 0} (old new : K → Option X) (key : K) (value : Opt
   pub others : (other : K) → other ≢ key → new other ≡ old other
 
 -- each end has what it had
-abbrev pub StaysSame : {T : Type 0} → List (Place × List T) → List (Place × List T) → Type 0
+abbrev pub StaysSame : {T : Type 0} → List (End × List T) → List (End × List T) → Type 0
 StaysSame old new = (at : End) → items_at new at ≡ items_at old at
 
 -- two ends that had no queue have an empty one each
-pub record Creates {T : Type 0} (old new : List (Place × List T)) (a b : End) : Type 0 where
+pub record Creates {T : Type 0} (old new : List (End × List T)) (a b : End) : Type 0 where
   pub free_a : items_at old a ≡ None
   pub free_b : items_at old b ≡ None
   pub at_a : items_at new a ≡ Some []
@@ -31,7 +30,7 @@ pub record Creates {T : Type 0} (old new : List (Place × List T)) (a b : End) :
   pub others : (at : End) → at ≢ a → at ≢ b → items_at new at ≡ items_at old at
 
 -- two ends have no queue any more
-pub record Destroys {T : Type 0} (old new : List (Place × List T)) (a b : End) : Type 0 where
+pub record Destroys {T : Type 0} (old new : List (End × List T)) (a b : End) : Type 0 where
   pub at_a : items_at new a ≡ None
   pub at_b : items_at new b ≡ None
   pub others : (at : End) → at ≢ a → at ≢ b → items_at new at ≡ items_at old at

@@ -14,7 +14,6 @@ ghost use Rattle.std.specs.Prelude.{
   length,
   option_map,
 };
-ghost use Rattle.gb_switch.specs.declared.place.Place.{Place};
 ghost use Rattle.std.specs.BTreeSet.{contains};
 ghost use Rattle.gb_switch.specs.Queues.{
   Appends,
@@ -26,7 +25,8 @@ ghost use Rattle.gb_switch.specs.Queues.{
   TakesAs,
   items_at,
 };
-ghost use Rattle.gb_switch.specs.Lines.{Marks, by_place, has_items};
+ghost use Rattle.gb_switch.specs.Lines.{Marks, has_items};
+ghost use Rattle.gb_switch.specs.Places.{end_cmp};
 
 use crate::Place;
 use gb_base::{End, OutOfMemory};
@@ -46,9 +46,9 @@ pub struct Queues<T> {
 
 impl<T> Model for Queues<T> {
     ghost use Rattle.std.specs.Prelude.{List};
-    ghost use Rattle.gb_switch.specs.declared.place.Place.{Place};
+    ghost use Rattle.gb_base.specs.declared.end.End.{End};
 
-    ghost Value = { List (Place × List T) };
+    ghost Value = { List (End × List T) };
 
     ghost use Rattle.gb_switch.specs.Lines.{Agrees, lines_of};
 
@@ -158,7 +158,7 @@ fn append<T: Drop>(
     place: Place,
     item: T,
 ) -> Result<(), T>
-    requires { contains by_place waiting.old place ≡ has_items (Some queue.old.items) }
+    requires { contains end_cmp waiting.old place ≡ has_items (Some queue.old.items) }
     ensures pushed { OnOk result (queue.new.items ≡ queue.old.items ++ item ∷ []) }
     ensures back { IfErr result (λ x. x ≡ item) }
     ensures unchanged { OnErr result (queue.new.items ≡ queue.old.items) }
