@@ -10,13 +10,13 @@ use Rattle.std.specs.List.{AllByRecursion, find}
 use Rattle.std.specs.List.Sorted.{IsStrictlySortedBy}
 use Rattle.std.specs.Map.{keys_of, lookup, remove_entry, set_value}
 use Rattle.std.specs.Ordering.{match_ordering, nat_cmp}
+use Rattle.gb_base.specs.declared.end.End.{End}
 use Rattle.gb_bus.specs.Connection.{Connection}
 use Rattle.gb_bus.specs.Parts.{numbered}
 use Rattle.gb_bus.specs.Seen.{all_seen, seen}
 use Rattle.gb_bus.specs.declared.connection.Connection as code
 use Rattle.gb_bus.specs.declared.queue.Item.{Item}
 use Rattle.gb_machine.specs.Lists.{at_first, without}
-use Rattle.gb_switch.specs.declared.place.Place.{Place}
 
 -- ---- entries by their numbers
 
@@ -214,18 +214,18 @@ set-others n k (e ∷ es) y ne = by (cases_eq n e.0) (set-others n k es y ne)
 
 -- ---- what is seen
 
-pub seen-append : (q : List (Place × List Item)) (xs ys : List (ℕ × code.Connection))
+pub seen-append : (q : List (End × List Item)) (xs ys : List (ℕ × code.Connection))
     → all_seen q (xs ++ ys) ≡ all_seen q xs ++ all_seen q ys
 seen-append q [] ys = refl
 seen-append q (e ∷ xs) ys = ap (λ cs. seen q e.0 e.1 ∷ cs) (seen-append q xs ys)
 
-pub same-seen : (q r : List (Place × List Item)) (es : List (ℕ × code.Connection))
+pub same-seen : (q r : List (End × List Item)) (es : List (ℕ × code.Connection))
     → EachEntry (λ k x. seen r k x ≡ seen q k x) es → all_seen r es ≡ all_seen q es
 same-seen q r [] h = refl
 same-seen q r (e ∷ es) h =
     ap (λ c. c ∷ all_seen r es) h.0 ∙ ap (λ cs. seen q e.0 e.1 ∷ cs) (same-seen q r es h.1)
 
-pub first-split : (q : List (Place × List Item)) (front : List (ℕ × code.Connection)) (n : ℕ)
+pub first-split : (q : List (End × List Item)) (front : List (ℕ × code.Connection)) (n : ℕ)
     (f : Connection → Connection) (c : Connection) (cs : List Connection)
     → NoKey n front → c.number ≡ n
     → at_first (numbered n) f (all_seen q front ++ c ∷ cs) ≡ all_seen q front ++ f c ∷ cs
@@ -236,7 +236,7 @@ first-split q (e ∷ front) n f c cs h is =
     (seen q e.0 e.1 ∷ at_first (numbered n) f (all_seen q front ++ c ∷ cs))) (ne_eqb e.0 n h.0)
     ∙ ap (λ ys. seen q e.0 e.1 ∷ ys) (first-split q front n f c cs h.1 is)
 
-pub first-nowhere : (q : List (Place × List Item)) (es : List (ℕ × code.Connection)) (n : ℕ)
+pub first-nowhere : (q : List (End × List Item)) (es : List (ℕ × code.Connection)) (n : ℕ)
     (f : Connection → Connection) → NoKey n es
     → at_first (numbered n) f (all_seen q es) ≡ all_seen q es
 first-nowhere q [] n f h = refl
@@ -245,7 +245,7 @@ first-nowhere q (e ∷ es) n f h =
     (seen q e.0 e.1 ∷ at_first (numbered n) f (all_seen q es))) (ne_eqb e.0 n h.0)
     ∙ ap (λ ys. seen q e.0 e.1 ∷ ys) (first-nowhere q es n f h.1)
 
-pub without-nowhere : (q : List (Place × List Item)) (es : List (ℕ × code.Connection)) (n : ℕ)
+pub without-nowhere : (q : List (End × List Item)) (es : List (ℕ × code.Connection)) (n : ℕ)
     → NoKey n es → without (numbered n) (all_seen q es) ≡ all_seen q es
 without-nowhere q [] n h = refl
 without-nowhere q (e ∷ es) n h =
@@ -253,7 +253,7 @@ without-nowhere q (e ∷ es) n h =
     (without (numbered n) (all_seen q es))) (ne_eqb e.0 n h.0)
     ∙ ap (λ ys. seen q e.0 e.1 ∷ ys) (without-nowhere q es n h.1)
 
-pub without-split : (q : List (Place × List Item)) (front back : List (ℕ × code.Connection))
+pub without-split : (q : List (End × List Item)) (front back : List (ℕ × code.Connection))
     (n : ℕ) (x : code.Connection) → NoKey n front → NoKey n back
     → without (numbered n) (all_seen q (front ++ (n, x) ∷ back)) ≡ all_seen q (front ++ back)
 without-split q [] back n x h b =
@@ -267,7 +267,7 @@ without-split q (e ∷ front) back n x h b =
     ∙ ap (λ ys. seen q e.0 e.1 ∷ ys) (without-split q front back n x h.1 b)
 
 -- the connection with a number
-pub find-seen : (q : List (Place × List Item)) (es : List (ℕ × code.Connection)) (n : ℕ)
+pub find-seen : (q : List (End × List Item)) (es : List (ℕ × code.Connection)) (n : ℕ)
     → find (numbered n) (all_seen q es) ≡ option_map (seen q n) (lookup (at n) es)
 find-seen q [] n = refl
 find-seen q (e ∷ es) n = by (cases_eq n e.0) (find-seen q es n)
@@ -290,7 +290,7 @@ find-seen q (e ∷ es) n = by (cases_eq n e.0) (find-seen q es n)
         (at-other n e.0 ne))
 
 -- a test that none passes but the one with a number
-pub find-none : (q : List (Place × List Item)) (test : Connection → Bool)
+pub find-none : (q : List (End × List Item)) (test : Connection → Bool)
     (es : List (ℕ × code.Connection)) → EachEntry (λ k x. test (seen q k x) ≡ false) es
     → find test (all_seen q es) ≡ None
 find-none q test [] h = refl
@@ -298,7 +298,7 @@ find-none q test (e ∷ es) h =
     ap (λ b. cond b (Some (seen q e.0 e.1)) (find test (all_seen q es))) h.0
     ∙ find-none q test es h.1
 
-pub find-split : (q : List (Place × List Item)) (test : Connection → Bool)
+pub find-split : (q : List (End × List Item)) (test : Connection → Bool)
     (front back : List (ℕ × code.Connection)) (n : ℕ) (x : code.Connection)
     → EachEntry (λ k z. test (seen q k z) ≡ false) front
     → EachEntry (λ k z. test (seen q k z) ≡ false) back
@@ -313,7 +313,7 @@ find-split q test (e ∷ front) back n x h b =
 -- ---- one changes
 
 -- The connection with a number changes, and what is seen of the others stays.
-pub changes : (q r : List (Place × List Item)) (es fs : List (ℕ × code.Connection)) (n : ℕ)
+pub changes : (q r : List (End × List Item)) (es fs : List (ℕ × code.Connection)) (n : ℕ)
     (x y : code.Connection) (f : Connection → Connection)
     → IsStrictlySortedBy nat_cmp (keys_of es) → lookup (at n) es ≡ Some x
     → fs ≡ set_value (at n) es y → seen r n y ≡ f (seen q n x)

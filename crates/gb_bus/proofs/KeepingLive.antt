@@ -14,11 +14,9 @@ use Rattle.gb_bus.specs.Index.{HasQueues, IsEndOf, IsIndexed, Kept}
 use Rattle.gb_bus.specs.declared.connection.Connection as code
 use Rattle.gb_machine.specs.Bus.{same_end}
 use Rattle.gb_switch.proofs.Lines.{Updated}
-use Rattle.gb_switch.proofs.Places.{place-other, place-own, places-apart}
-use Rattle.gb_switch.specs.Lines.{by_place}
-use Rattle.gb_switch.specs.Places.{place_of}
+use Rattle.gb_switch.proofs.Places.{cmp-other, cmp-own}
+use Rattle.gb_switch.specs.Places.{end_cmp}
 use Rattle.gb_switch.specs.Queues.{Destroys}
-use Rattle.gb_switch.specs.declared.place.Place.{Place}
 
 -- ---- a connection is removed
 
@@ -35,19 +33,19 @@ pub changed-here : (m n : Live) (k : ℕ) (w : Option code.Connection) → Chang
     → get nat_cmp n k ≡ w
 changed-here m n k w u = u k ∙ ap (λ b. cond b w (get nat_cmp m k)) (at-same k k refl)
 
-pub index-others : (m n : Ends) (p q : Place) (w : Option ℕ) → Updated m n p w → q ≢ p
-    → get by_place n q ≡ get by_place m q
+pub index-others : (m n : Ends) (p q : End) (w : Option ℕ) → Updated m n p w → q ≢ p
+    → get end_cmp n q ≡ get end_cmp m q
 index-others m n p q w u ne =
-    u q ∙ ap (λ b. cond b w (get by_place m q)) (place-other p q (λ e. ne (sym e)))
+    u q ∙ ap (λ b. cond b w (get end_cmp m q)) (cmp-other p q (λ e. ne (sym e)))
 
-pub index-here : (m n : Ends) (p : Place) (w : Option ℕ) → Updated m n p w
-    → get by_place n p ≡ w
-index-here m n p w u = u p ∙ ap (λ b. cond b w (get by_place m p)) (place-own p)
+pub index-here : (m n : Ends) (p : End) (w : Option ℕ) → Updated m n p w
+    → get end_cmp n p ≡ w
+index-here m n p w u = u p ∙ ap (λ b. cond b w (get end_cmp m p)) (cmp-own p)
 
 pub kept-removed : (live live' : Live) (e0 e1 e2 : Ends) (q r : Queues) (n : ℕ)
-    (x : code.Connection) (near far : Place)
+    (x : code.Connection) (near far : End)
     → get nat_cmp live n ≡ Some x → Changed live live' n None → IsOrdered nat_cmp live'
-    → near ≡ place_of (end.Ap x.ap) → far ≡ place_of x.peer
+    → near ≡ end.Ap x.ap → far ≡ x.peer
     → Updated e0 e1 near None → Updated e1 e2 far None
     → Destroys q r (end.Ap x.ap) x.peer → Kept live e0 q → Kept live' e2 r
 kept-removed live live' e0 e1 e2 q r n x near far found gone s is_near is_far u t lost k = record {
@@ -80,36 +78,35 @@ kept-removed live live' e0 e1 e2 q r n x near far found gone s is_near is_far u 
 }
   where
     still : (j : ℕ) (z : code.Connection) → j ≢ n → get nat_cmp live j ≡ Some z → (a : End)
-        → IsEndOf a z → get by_place e2 (place_of a) ≡ get by_place e0 (place_of a)
+        → IsEndOf a z → get end_cmp e2 a ≡ get end_cmp e0 a
     still j z ne was a own =
-        index-others e1 e2 far (place_of a) None t
-        (λ e. places-apart a x.peer
-        (ends-apart live e0 j n z x a x.peer k.indexed was found ne own (inr refl)) (e ∙ is_far))
-        ∙ index-others e0 e1 near (place_of a) None u
-        (λ e. places-apart a (end.Ap x.ap)
-        (ends-apart live e0 j n z x a (end.Ap x.ap) k.indexed was found ne own (inl refl))
+        index-others e1 e2 far a None t
+        (λ e. ends-apart live e0 j n z x a x.peer k.indexed was found ne own (inr refl)
+        (e ∙ is_far))
+        ∙ index-others e0 e1 near a None u
+        (λ e. ends-apart live e0 j n z x a (end.Ap x.ap) k.indexed was found ne own (inl refl)
         (e ∙ is_near))
 
 -- ---- a connection is added
 
 -- an end that none has gets a number
-pub indexed-more : (live : Live) (m n : Ends) (p : Place) (v : ℕ) → get by_place m p ≡ None
+pub indexed-more : (live : Live) (m n : Ends) (p : End) (v : ℕ) → get end_cmp m p ≡ None
     → Updated m n p (Some v) → AreIndexed live m → AreIndexed live n
 indexed-more live m n p v free u i k x there =
     let w = i k x there in
     record {
-      near = still (place_of (end.Ap x.ap)) k w.near;
-      far = still (place_of x.peer) k w.far;
+      near = still (end.Ap x.ap) k w.near;
+      far = still x.peer k w.far;
       two = w.two;
     }
   where
-    still : (s : Place) (j : ℕ) → get by_place m s ≡ Some j → get by_place n s ≡ Some j
+    still : (s : End) (j : ℕ) → get end_cmp m s ≡ Some j → get end_cmp n s ≡ Some j
     still s j has =
         index-others m n p s (Some v) u
-        (λ e. some-none j (sym has ∙ ap (λ t. get by_place m t) e ∙ free)) ∙ has
+        (λ e. some-none j (sym has ∙ ap (λ t. get end_cmp m t) e ∙ free)) ∙ has
 
-pub kept-more : (live : Live) (m n : Ends) (q : Queues) (p : Place) (v : ℕ)
-    → get by_place m p ≡ None → Updated m n p (Some v) → Kept live m q → Kept live n q
+pub kept-more : (live : Live) (m n : Ends) (q : Queues) (p : End) (v : ℕ)
+    → get end_cmp m p ≡ None → Updated m n p (Some v) → Kept live m q → Kept live n q
 kept-more live m n q p v free u k = record {
   ordered = k.ordered;
   indexed = indexed-more live m n p v free u k.indexed;
@@ -125,8 +122,8 @@ kept-ends live m n q same k = record {
   indexed = λ j x there.
       let i = k.indexed j x there in
       record {
-        near = ap (lookup (is_at (by_place (place_of (end.Ap x.ap))))) same ∙ i.near;
-        far = ap (lookup (is_at (by_place (place_of x.peer)))) same ∙ i.far;
+        near = ap (lookup (is_at (end_cmp (end.Ap x.ap)))) same ∙ i.near;
+        far = ap (lookup (is_at (end_cmp x.peer))) same ∙ i.far;
         two = i.two;
       };
   owned = k.owned;
@@ -139,11 +136,11 @@ none-there None b e f = refl
 none-there (Some a) b e f = absurd (true≢false (sym e ∙ f))
 
 pub kept-added : (live live' : Live) (e0 e1 e2 : Ends) (q : Queues) (n : ℕ)
-    (x : code.Connection) (near far : Place)
+    (x : code.Connection) (near far : End)
     → get nat_cmp live n ≡ None → Changed live live' n (Some x) → IsOrdered nat_cmp live'
-    → near ≡ place_of (end.Ap x.ap) → far ≡ place_of x.peer
+    → near ≡ end.Ap x.ap → far ≡ x.peer
     → same_end (end.Ap x.ap) x.peer ≡ false → x.wired ≡ false
-    → get by_place e0 near ≡ None → get by_place e0 far ≡ None
+    → get end_cmp e0 near ≡ None → get end_cmp e0 far ≡ None
     → Updated e0 e1 near (Some n) → Updated e1 e2 far (Some n)
     → Kept live e0 q → Kept live' e2 q
 kept-added live live' e0 e1 e2 q n x near far free more s is_near is_far two loose free_near
@@ -174,15 +171,14 @@ kept-added live live' e0 e1 e2 q n x near far free more s is_near is_far two loo
         k.queued j z (sym (changed-others live live' n j (Some x) more ne) ∙ there) w
 
     apart : near ≢ far
-    apart e = places-apart (end.Ap x.ap) x.peer (two-ends (end.Ap x.ap) x.peer two)
-        (sym is_near ∙ e ∙ is_far)
+    apart e = two-ends (end.Ap x.ap) x.peer two (sym is_near ∙ e ∙ is_far)
 
     own : IsIndexed e2 n x
     own = record {
-      near = ap (λ p. get by_place e2 p) (sym is_near)
+      near = ap (λ p. get end_cmp e2 p) (sym is_near)
           ∙ index-others e1 e2 far near (Some n) t apart
           ∙ index-here e0 e1 near (Some n) u;
-      far = ap (λ p. get by_place e2 p) (sym is_far) ∙ index-here e1 e2 far (Some n) t;
+      far = ap (λ p. get end_cmp e2 p) (sym is_far) ∙ index-here e1 e2 far (Some n) t;
       two = two;
     }
 

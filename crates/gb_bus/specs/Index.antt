@@ -10,19 +10,17 @@ use Rattle.gb_bus.specs.Seen.{alone}
 use Rattle.gb_bus.specs.declared.connection.Connection as code
 use Rattle.gb_bus.specs.declared.queue.Item.{Item}
 use Rattle.gb_machine.specs.Bus.{same_end}
-use Rattle.gb_switch.specs.Lines.{by_place}
-use Rattle.gb_switch.specs.Places.{place_of}
+use Rattle.gb_switch.specs.Places.{end_cmp}
 use Rattle.gb_switch.specs.Queues.{items_at}
-use Rattle.gb_switch.specs.declared.place.Place.{Place}
 
 -- an end is one of a connection's
 abbrev pub IsEndOf : End → code.Connection → Type 0
 IsEndOf at x = (at ≡ end.Ap x.ap) ⊎ (at ≡ x.peer)
 
 -- Both ends of a connection have its number, and are two.
-pub record IsIndexed (ends : BTreeMap Place ℕ) (k : ℕ) (x : code.Connection) : Type 0 where
-  pub near : get by_place ends (place_of (end.Ap x.ap)) ≡ Some k
-  pub far : get by_place ends (place_of x.peer) ≡ Some k
+pub record IsIndexed (ends : BTreeMap End ℕ) (k : ℕ) (x : code.Connection) : Type 0 where
+  pub near : get end_cmp ends (end.Ap x.ap) ≡ Some k
+  pub far : get end_cmp ends x.peer ≡ Some k
   pub two : same_end (end.Ap x.ap) x.peer ≡ false
 
 -- an end is one of a live connection that is wired
@@ -34,13 +32,13 @@ pub record IsOwned (live : BTreeMap ℕ code.Connection) (at : End) : Type 0 whe
   pub own : IsEndOf at connection
 
 -- there is a queue at each end of a connection
-pub record HasQueues (queues : List (Place × List Item)) (x : code.Connection) : Type 0 where
+pub record HasQueues (queues : List (End × List Item)) (x : code.Connection) : Type 0 where
   pub near : IsSome (items_at queues (end.Ap x.ap))
   pub far : IsSome (items_at queues x.peer)
 
 -- Ends are those of one live connection each. Queues are those of the ends of wired ones.
-pub record Kept (live : BTreeMap ℕ code.Connection) (ends : BTreeMap Place ℕ)
-    (queues : List (Place × List Item)) : Type 0 where
+pub record Kept (live : BTreeMap ℕ code.Connection) (ends : BTreeMap End ℕ)
+    (queues : List (End × List Item)) : Type 0 where
   pub ordered : IsOrdered nat_cmp live
   pub indexed : (k : ℕ) (x : code.Connection) → get nat_cmp live k ≡ Some x → IsIndexed ends k x
   pub owned : (at : End) (items : List Item) → items_at queues at ≡ Some items → IsOwned live at

@@ -6,7 +6,6 @@ use Rattle.gb_bus.specs.Connection.{Connection}
 use Rattle.gb_bus.specs.declared.connection.Connection as code
 use Rattle.gb_bus.specs.declared.queue.Item.{Item}
 use Rattle.gb_switch.specs.Queues.{items_at}
-use Rattle.gb_switch.specs.declared.place.Place.{Place}
 
 -- the items of a queue, none where there is no queue
 abbrev pub items_of : Option (List Item) → List Item
@@ -14,11 +13,11 @@ items_of None = []
 items_of (Some items) = items
 
 -- what waits at an end of a connection, by whether it is wired
-abbrev pub waits_at : List (Place × List Item) → Bool → End → List Item
+abbrev pub waits_at : List (End × List Item) → Bool → End → List Item
 waits_at queues wired at = if wired then items_of (items_at queues at) else []
 
 -- a connection by its number, with what waits at its ends
-abbrev pub seen : List (Place × List Item) → ℕ → code.Connection → Connection
+abbrev pub seen : List (End × List Item) → ℕ → code.Connection → Connection
 seen queues k x = record {
   number = k;
   ap = x.ap;
@@ -34,7 +33,7 @@ seen queues k x = record {
 }
 
 -- all of them, in order of number
-abbrev pub all_seen : List (Place × List Item) → List (ℕ × code.Connection) → List Connection
+abbrev pub all_seen : List (End × List Item) → List (ℕ × code.Connection) → List Connection
 all_seen queues [] = []
 all_seen queues (e ∷ es) = seen queues e.0 e.1 ∷ all_seen queues es
 

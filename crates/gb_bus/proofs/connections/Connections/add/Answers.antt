@@ -7,9 +7,7 @@ use Rattle.gb_bus.proofs.KeepingLive.{index-others, kept-added, kept-ends, kept-
 use Rattle.gb_bus.proofs.SeeingLive.{adds, free-above}
 use Rattle.gb_bus.specs.Connection.{Connection}
 use Rattle.gb_machine.specs.Bus.{same_end}
-use Rattle.gb_switch.specs.Lines.{by_place}
-use Rattle.gb_switch.specs.Places.{place_of}
-use Rattle.gb_switch.proofs.Places.{places-apart}
+use Rattle.gb_switch.specs.Places.{end_cmp}
 use Rattle.gb_bus.proofs.connections.Connections.add.Goals as goal
 
 pub invariant_of-self : goal.invariant_of-self
@@ -23,7 +21,7 @@ invariant_of-self-in_err-insert-2 c =
     c.in_err-insert-2.ensures.err
     (kept-more c.self.inside.live c.self.inside.ends c.insert.new.self c.self.inside.queues
     c.of-near.result c.args.number
-    (none-there (get by_place c.self.inside.ends c.of-near.result) c.contains_key.result
+    (none-there (get end_cmp c.self.inside.ends c.of-near.result) c.contains_key.result
     c.contains_key.ensures c.if-contains_key.false)
     c.in_ok-insert.ensures.updates.0 c.self.invariant)
 
@@ -35,16 +33,16 @@ invariant_of-self-in_err-insert-3 c =
     c.of-far.result c.args.number
     (index-others c.self.inside.ends c.insert.new.self c.of-near.result c.of-far.result _
     c.in_ok-insert.ensures.updates.0
-    (λ e. places-apart (end.Ap c.args.ap) c.args.peer
-    (two-ends (end.Ap c.args.ap) c.args.peer (sym c.is_same.ensures ∙ c.if-is_same.false))
+    (λ e. two-ends (end.Ap c.args.ap) c.args.peer
+    (sym c.is_same.ensures ∙ c.if-is_same.false)
     (sym c.of-near.ensures ∙ sym e ∙ c.of-far.ensures))
-    ∙ none-there (get by_place c.self.inside.ends c.of-far.result)
+    ∙ none-there (get end_cmp c.self.inside.ends c.of-far.result)
     c.contains_key-else-contains_key.result
     c.contains_key-else-contains_key.ensures c.if-contains_key-2.false)
     c.in_ok-insert-2.ensures.updates.0
     (kept-more c.self.inside.live c.self.inside.ends c.insert.new.self c.self.inside.queues
     c.of-near.result c.args.number
-    (none-there (get by_place c.self.inside.ends c.of-near.result) c.contains_key.result
+    (none-there (get end_cmp c.self.inside.ends c.of-near.result) c.contains_key.result
     c.contains_key.ensures c.if-contains_key.false)
     c.in_ok-insert.ensures.updates.0 c.self.invariant))
 
@@ -58,14 +56,14 @@ invariant_of-self-2 c =
     (free-above c.self.inside.live c.args.number c.is_above.result c.is_above.ensures.above
     c.if-not-is_above.false)
     c.in_ok-insert-3.ensures.updates.0 c.in_ok-insert-3.ensures.ordered
-    (c.of-near.ensures ∙ ap (λ a. place_of (end.Ap a)) (sym near))
-    (c.of-far.ensures ∙ ap place_of (sym far))
+    (c.of-near.ensures ∙ ap end.Ap (sym near))
+    (c.of-far.ensures ∙ sym far)
     (ap (λ a. same_end (end.Ap a) c.in_ok-connection.connection.peer) near
     ∙ ap (same_end (end.Ap c.args.ap)) far ∙ sym c.is_same.ensures ∙ c.if-is_same.false)
     (ap (λ (x : Connection). x.wired) c.in_ok-connection.ensures)
-    (none-there (get by_place c.self.inside.ends c.of-near.result) c.contains_key.result
+    (none-there (get end_cmp c.self.inside.ends c.of-near.result) c.contains_key.result
     c.contains_key.ensures c.if-contains_key.false)
-    (none-there (get by_place c.self.inside.ends c.of-far.result)
+    (none-there (get end_cmp c.self.inside.ends c.of-far.result)
     c.contains_key-else-contains_key.result
     c.contains_key-else-contains_key.ensures c.if-contains_key-2.false)
     c.in_ok-insert.ensures.updates.0 c.in_ok-insert-2.ensures.updates.0 c.self.invariant
