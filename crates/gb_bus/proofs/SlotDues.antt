@@ -7,7 +7,7 @@ use Rattle.std.proofs.lemmas.Bool.{eqb-true, false_from_ne_true, leb-false, leb-
 use Rattle.std.proofs.lemmas.Bool.{lt-leb, ne_eqb, or_cases, or_from, or_left, or_parts, or_right}
 use Rattle.std.proofs.lemmas.Map.Keys.{le_from_not_gt, sorted_head, sorted_tail}
 use Rattle.std.specs.Option.{is_none}
-use Rattle.std.specs.BTreeMap.{BTreeMap, is_at}
+use Rattle.std.specs.BTreeMap.{is_at}
 use Rattle.std.specs.BTreeSet.{BTreeSet, insert_key}
 use Rattle.std.specs.List.{AllByRecursion, list_any}
 use Rattle.std.specs.List.Sorted.{IsStrictlySortedBy}
@@ -16,7 +16,8 @@ use Rattle.std.specs.declared.cmp.Ordering.{Ordering}
 use Rattle.slab.specs.Slab.{Slab}
 use Rattle.gb_base.specs.declared.outcome.Outcome.{Outcome}
 use Rattle.gb_bus.proofs.SlotMaps.{both-same, found, key-same}
-use Rattle.gb_bus.specs.Keeping.{IsKept, by_deadline, kept_in, lesser_of, waits_until}
+use Rattle.gb_bus.specs.Keeping.{IsKept, Places, by_deadline, kept_in, lesser_of}
+use Rattle.gb_bus.specs.Keeping.{waits_until}
 use Rattle.gb_bus.specs.Slots.{Kept, is_due, slot_at}
 use Rattle.gb_bus.specs.declared.slots.Slot.{Slot}
 use Rattle.gb_bus.specs.declared.tally.Tally.{Tally}
@@ -79,7 +80,7 @@ none-past now n k (y ∷ ks) late all =
 
 -- ---- the numbers that are put among others
 
-stands-put : (n m : ℕ) (ns : List ℕ) → stands_in n (insert_key nat_cmp ns m)
+pub stands-put : (n m : ℕ) (ns : List ℕ) → stands_in n (insert_key nat_cmp ns m)
     ≡ (eqb m n || stands_in n ns)
 stands-put n m [] = refl
 stands-put n m (x ∷ ns) = by (nat_cmp m x) refl (stands-put n m ns)
@@ -307,7 +308,7 @@ due-as-slot now n ks (Some slot) h = by slot.outcome (leb slot.deadline now) ref
 
 -- ---- what the slots say
 
-module _ (s : Slab Slot) (p : BTreeMap ℕ ℕ) (d : BTreeSet (ℕ × ℕ)) (t : Tally) (now : ℕ)
+module _ (s : Slab Slot) (p : Places) (d : BTreeSet (ℕ × ℕ)) (t : Tally) (now : ℕ)
     (x : Kept) (k : IsKept s p d t) (view : kept_in s p t ≡ x)
     (sorted : IsStrictlySortedBy by_deadline d.keys) where
   due-so : (n : ℕ) → any-due now n d.keys ≡ is_due now (slot_at x n)

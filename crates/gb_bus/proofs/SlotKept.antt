@@ -4,10 +4,8 @@ use Rattle.std.proofs.Common.{Option, Some, None, eqb, length}
 use Rattle.std.proofs.Common.{nat_lt, refl, sym, ap, subst, ◌∙◌, arith}
 use Rattle.std.proofs.lemmas.Bool.{both_ways, or_parts}
 use Rattle.std.specs.Option.{is_none, option_and_then}
-use Rattle.std.specs.BTreeMap as map
-use Rattle.std.specs.BTreeMap.{BTreeMap}
 use Rattle.std.specs.BTreeSet.{BTreeSet, contains}
-use Rattle.std.specs.Ordering.{nat_cmp}
+use Rattle.std.specs.HashMap as map
 use Rattle.slab.specs.Slab as slab
 use Rattle.slab.specs.Slab.{Slab, Updates, with_value}
 use Rattle.slab.proofs.SlabLemmas.{Updates-with_value}
@@ -18,7 +16,8 @@ use Rattle.gb_bus.proofs.SlotMaps.{changed, changed-placed, each-number, finds-h
 use Rattle.gb_bus.proofs.SlotMaps.{found, found-at, gone, gone-placed, none-some, other-number}
 use Rattle.gb_bus.proofs.SlotMaps.{same-number, same_some, time-here, time-others}
 use Rattle.gb_bus.specs.Counting.{counted_once, one_ended}
-use Rattle.gb_bus.specs.Keeping.{IsKept, by_deadline, is_let_go, kept_in, waits_until}
+use Rattle.gb_bus.specs.Keeping.{IsKept, Places, by_deadline, is_let_go, kept_in}
+use Rattle.gb_bus.specs.Keeping.{waits_until}
 use Rattle.gb_bus.specs.Slots.{ChangesAt, Kept, MovesAt, is_asked_for, is_open_slot}
 use Rattle.gb_bus.specs.declared.slots.Slot.{Slot}
 use Rattle.gb_bus.specs.declared.tally.Tally.{Tally}
@@ -30,7 +29,7 @@ TimesAt n o d d2 =
     → contains by_deadline d2 (deadline, m)
     ≡ cond (eqb m n) (waits_until deadline o) (contains by_deadline d (deadline, m))
 
-pub all-placed : (s : Slab Slot) (p : BTreeMap ℕ ℕ) (d : BTreeSet (ℕ × ℕ)) (t : Tally)
+pub all-placed : (s : Slab Slot) (p : Places) (d : BTreeSet (ℕ × ℕ)) (t : Tally)
     → IsKept s p d t → AllPlaced s p
 all-placed s p d t k = record { placed = k.placed; occupied = k.occupied }
 
@@ -39,7 +38,7 @@ pub record IsFit (n : ℕ) (o : Option Slot) (t : Tally) : Type 0 where
   pub asked : (slot : Slot) → o ≡ Some slot → slot.outcome ≡ None → slot.awaited ≡ true
   pub made : (slot : Slot) → o ≡ Some slot → n ≤ t.requests
 
-pub kept-from : (s s2 : Slab Slot) (p p2 : BTreeMap ℕ ℕ) (d d2 : BTreeSet (ℕ × ℕ)) (t t2 : Tally)
+pub kept-from : (s s2 : Slab Slot) (p p2 : Places) (d d2 : BTreeSet (ℕ × ℕ)) (t t2 : Tally)
     (n : ℕ) (o : Option Slot) → IsKept s p d t → AllPlaced s2 p2
     → FindsAt n o (found s p) (found s2 p2) → TimesAt n o d d2 → IsFit n o t2
     → t.requests ≤ t2.requests → counted_once t2 ≡ t2.requests → t2.left_open ≡ length d2.keys
@@ -75,15 +74,15 @@ kept-from s s2 p p2 d d2 t t2 n o k a f times fit more counted waiting = record 
 -- ---- a slot is there
 
 -- a number has this place, and this slot stands there
-pub record IsThere (s : Slab Slot) (p : BTreeMap ℕ ℕ) (n key : ℕ) (slot : Slot) : Type 0 where
-  pub place : map.get nat_cmp p n ≡ Some key
+pub record IsThere (s : Slab Slot) (p : Places) (n key : ℕ) (slot : Slot) : Type 0 where
+  pub place : map.get eqb p n ≡ Some key
   pub stands : slab.get s key ≡ Some slot
 
-is-found : (s : Slab Slot) (p : BTreeMap ℕ ℕ) (n key : ℕ) (slot : Slot) → IsThere s p n key slot
+is-found : (s : Slab Slot) (p : Places) (n key : ℕ) (slot : Slot) → IsThere s p n key slot
     → found s p n ≡ Some slot
 is-found s p n key slot i = found-at s p n key (Some slot) i.place i.stands
 
-its-number : (s : Slab Slot) (p : BTreeMap ℕ ℕ) (n key : ℕ) (slot : Slot) → AllPlaced s p
+its-number : (s : Slab Slot) (p : Places) (n key : ℕ) (slot : Slot) → AllPlaced s p
     → IsThere s p n key slot → slot.number ≡ n
 its-number s p n key slot a i =
     let own = a.placed n key i.place in
@@ -125,7 +124,7 @@ moved n o change f g at is =
     (λ m ne. at m ∙ ap (λ b. cond b o (f m)) (other-number m n ne)
     ∙ sym (ap (λ b. cond b (option_and_then change (f m)) (f m)) (other-number m n ne)))
 
-module _ (s : Slab Slot) (p : BTreeMap ℕ ℕ) (d : BTreeSet (ℕ × ℕ)) (t : Tally) (n key : ℕ)
+module _ (s : Slab Slot) (p : Places) (d : BTreeSet (ℕ × ℕ)) (t : Tally) (n key : ℕ)
     (slot slot2 : Slot) (k : IsKept s p d t) (i : IsThere s p n key slot)
     (number : slot2.number ≡ slot.number) where
   changes : FindsAt n (Some slot2) (found s p) (found (with_value s key slot2) p)
@@ -257,8 +256,8 @@ module _ (s : Slab Slot) (p : BTreeMap ℕ ℕ) (d : BTreeSet (ℕ × ℕ)) (t :
 
 -- ---- a slot is let go of
 
-module _ (s s2 : Slab Slot) (p p2 : BTreeMap ℕ ℕ) (d : BTreeSet (ℕ × ℕ)) (t : Tally)
-    (n key : ℕ) (k : IsKept s p d t) (place : map.get nat_cmp p n ≡ Some key)
+module _ (s s2 : Slab Slot) (p p2 : Places) (d : BTreeSet (ℕ × ℕ)) (t : Tally)
+    (n key : ℕ) (k : IsKept s p d t) (place : map.get eqb p n ≡ Some key)
     (u : Updates s s2 key None) (w : Updated p p2 n None) where
   pub gone-kept : is_open_slot (found s p n) ≡ false → IsKept s2 p2 d t
   gone-kept over =

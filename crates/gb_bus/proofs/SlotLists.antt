@@ -1,91 +1,82 @@
--- The numbers that an ordered map of places lists.
-use Rattle.std.proofs.Common.{◌≡◌, ◌≢◌, ◌<◌, ℕ, Bool, true, false, cond, ◌||◌, ◌⊎◌, inl, inr}
-use Rattle.std.proofs.Common.{Option, Some, None, option_and_then, List, [], ◌∷◌, refl, sym, ap}
-use Rattle.std.proofs.Common.{◌∙◌, arith, eqb, Less, subst}
+-- The numbers that a map of places lists.
+use Rattle.std.proofs.Common.{◌≡◌, ◌≢◌, ℕ, Bool, true, false, cond, ◌||◌, ◌⊎◌, inl, inr, Option}
+use Rattle.std.proofs.Common.{Some, None, option_and_then, List, [], ◌∷◌, eqb, refl, sym, ap, ◌∙◌}
 use Rattle.std.proofs.lemmas.Bool.{cases_eq}
-use Rattle.std.proofs.lemmas.Bool.Decides.{nat_tests}
-use Rattle.std.proofs.lemmas.Map.Keys.{sorted_head, sorted_tail}
-use Rattle.std.specs.BTreeMap.{is_at}
-use Rattle.std.specs.List.{AllByRecursion}
+use Rattle.std.proofs.lemmas.Map.{lookup-none}
+use Rattle.std.proofs.lemmas.Map.Entries.{none_past_head}
+use Rattle.std.proofs.lemmas.Map.Keys.{IsDistinct-tail}
+use Rattle.std.specs.BTreeSet.{insert_key}
+use Rattle.std.specs.Cmp.{nat_eq_equiv}
+use Rattle.std.specs.List.{IsDistinct}
 use Rattle.std.specs.List.Sorted.{IsStrictlySortedBy}
 use Rattle.std.specs.Map.{keys_of, lookup}
 use Rattle.std.specs.Ordering.{nat_cmp}
-use Rattle.gb_bus.proofs.SlotMaps.{key-other, key-same, other-number, same-number}
-use Rattle.gb_bus.specs.Keeping.{numbers_where}
-use Rattle.gb_bus.specs.Listing.{AreThose, Rises, stands_in}
+use Rattle.gb_bus.proofs.SlotDues.{stands-put}
+use Rattle.gb_bus.proofs.SlotMaps.{other-number, same-number}
+use Rattle.gb_bus.specs.Keeping.{numbers_where, put_where}
+use Rattle.gb_bus.specs.Listing.{AreThose, stands_in}
 use Rattle.gb_bus.specs.Slots.{Kept, slot_at, under}
 use Rattle.gb_bus.specs.declared.slots.Slot.{Slot}
-use Rattle.gb_machine.specs.Members.{Each}
+use Rattle.gb_ops.proofs.Listing.{rising}
 
 abbrev at : List (ℕ × ℕ) → ℕ → Option ℕ
-at es n = lookup (is_at (nat_cmp n)) es
+at es n = lookup (eqb n) es
 
 -- what is found passes a test
 abbrev passes : (ℕ → Bool) → Option ℕ → Bool
 passes test None = false
 passes test (Some key) = test key
 
--- those that are listed are above what all keys are above
-all-above : (k : ℕ) (test : ℕ → Bool) (es : List (ℕ × ℕ))
-    → AllByRecursion (λ y. nat_cmp k y ≡ Less) (keys_of es)
-    → Each (λ m. k < m) (numbers_where test es)
-all-above k test [] all = tt
-all-above k test (e ∷ es) all = by (test e.1) (all-above k test es all.1)
+-- past the entry of a number there is no other of it
+none-past : (n : ℕ) (e : ℕ × ℕ) (es : List (ℕ × ℕ)) → IsDistinct eqb (keys_of (e ∷ es))
+    → n ≡ e.0 → at es n ≡ None
+none-past n e es d is =
+    lookup-none (eqb n) es (none_past_head nat_eq_equiv n e es d (same-number n e.0 is))
+
+-- those that are listed are those that were there and those whose keys pass
+stands-where : (test : ℕ → Bool) (n : ℕ) (ns : List ℕ) (es : List (ℕ × ℕ))
+    → IsDistinct eqb (keys_of es)
+    → stands_in n (numbers_where test ns es) ≡ (stands_in n ns || passes test (at es n))
+stands-where test n ns [] d = last (stands_in n ns)
   where
-    by : (t : Bool) → Each (λ m. k < m) (numbers_where test es)
-        → Each (λ m. k < m) (cond t (e.0 ∷ numbers_where test es) (numbers_where test es))
-    by true later =
-        (let c = all.0 in let low : k < e.0 = grind (arith, nat_tests) in low, later)
-    by false later = later
-
--- what all are above isn't among them
-not-among : (k : ℕ) (ns : List ℕ) → Each (λ m. k < m) ns → stands_in k ns ≡ false
-not-among k [] all = refl
-not-among k (m ∷ ns) all =
-    let low = all.0 in
-    ap (λ t. t || stands_in k ns)
-    (let e : eqb m k ≡ false = grind (arith, nat_tests, low) in e)
-    ∙ not-among k ns all.1
-
-pub listed : (test : ℕ → Bool) (es : List (ℕ × ℕ)) → IsStrictlySortedBy nat_cmp (keys_of es)
-    → AreThose (λ n. passes test (at es n)) (numbers_where test es)
-listed test [] s = record { rises = tt; each = λ n. refl }
-listed test (e ∷ es) s =
-    let all = all-above e.0 test es (sorted_head nat_cmp e.0 (keys_of es) s) in
-    let rest = listed test es (sorted_tail nat_cmp e.0 (keys_of es) s) in
-    record {
-      rises = rise (test e.1) all rest.rises;
-      each = λ n. each n all (rest.each n) (cases_eq n e.0);
-    }
+    last : (a : Bool) → a ≡ (a || false)
+    last true = refl
+    last false = refl
+stands-where test n ns (e ∷ es) d =
+    stands-where test n (put_where test ns e) es (IsDistinct-tail eqb e.0 (keys_of es) d)
+    ∙ by (cases_eq n e.0)
   where
-    later : List ℕ
-    later = numbers_where test es
+    second : (a : Bool) → true ≡ (a || true)
+    second true = refl
+    second false = refl
 
-    rise : (t : Bool) → Each (λ m. e.0 < m) later → Rises later
-        → Rises (cond t (e.0 ∷ later) later)
-    rise true all r = (all, r)
-    rise false all r = r
+    here : (t : Bool) → n ≡ e.0
+        → (stands_in n (cond t (insert_key nat_cmp ns e.0) ns) || false) ≡ (stands_in n ns || t)
+    here true is =
+        ap (λ b. b || false)
+        (stands-put n e.0 ns ∙ ap (λ b. b || stands_in n ns) (same-number e.0 n (sym is)))
+        ∙ second (stands_in n ns)
+    here false is = refl
 
-    here : (t : Bool) → Each (λ m. e.0 < m) later
-        → stands_in e.0 (cond t (e.0 ∷ later) later) ≡ t
-    here true all = ap (λ u. u || stands_in e.0 later) (same-number e.0 e.0 refl)
-    here false all = not-among e.0 later all
+    there : (t : Bool) → n ≢ e.0
+        → stands_in n (cond t (insert_key nat_cmp ns e.0) ns) ≡ stands_in n ns
+    there true ne =
+        stands-put n e.0 ns
+        ∙ ap (λ b. b || stands_in n ns) (other-number e.0 n (λ is. ne (sym is)))
+    there false ne = refl
 
-    there : (n : ℕ) (t : Bool) → n ≢ e.0
-        → stands_in n (cond t (e.0 ∷ later) later) ≡ stands_in n later
-    there n true ne =
-        ap (λ u. u || stands_in n later) (other-number e.0 n (λ is. ne (sym is)))
-    there n false ne = refl
-
-    each : (n : ℕ) → Each (λ m. e.0 < m) later → stands_in n later ≡ passes test (at es n)
-        → (n ≡ e.0) ⊎ (n ≡ e.0 → ⊥)
-        → stands_in n (cond (test e.1) (e.0 ∷ later) later) ≡ passes test (at (e ∷ es) n)
-    each n all rest (inl is) =
-        ap (λ k. stands_in k (cond (test e.1) (e.0 ∷ later) later)) is ∙ here (test e.1) all
-        ∙ sym (ap (λ t. passes test (cond t (Some e.1) (at es n))) (key-same n e.0 is))
-    each n all rest (inr ne) =
-        there n (test e.1) ne ∙ rest
-        ∙ sym (ap (λ t. passes test (cond t (Some e.1) (at es n))) (key-other n e.0 ne))
+    by : (n ≡ e.0) ⊎ (n ≡ e.0 → ⊥)
+        → (stands_in n (put_where test ns e) || passes test (at es n))
+        ≡ (stands_in n ns || passes test (at (e ∷ es) n))
+    by (inl is) =
+        ap (λ o. stands_in n (put_where test ns e) || passes test o) (none-past n e es d is)
+        ∙ here (test e.1) is
+        ∙ sym (ap (λ t. stands_in n ns || passes test (cond t (Some e.1) (at es n)))
+        (same-number n e.0 is))
+    by (inr ne) =
+        ap (λ b. b || passes test (at es n)) (there (test e.1) ne)
+        ∙ sym (ap (λ t. stands_in n ns || passes test (cond t (Some e.1) (at es n)))
+        (other-number n e.0 ne))
 
 -- a test of the slot under what is found
 under-found : (f : Option Slot → Bool) (u : ℕ → Option Slot) (o : Option ℕ) → f None ≡ false
@@ -95,13 +86,12 @@ under-found f u (Some key) none = refl
 
 -- The numbers whose slots pass a test, in order.
 pub slots-listed : (x : Kept) (f : Option Slot → Bool) (ns : List ℕ) → f None ≡ false
-    → IsStrictlySortedBy nat_cmp (keys_of x.places)
-    → ns ≡ numbers_where (λ key. f (under x.slots key)) x.places
+    → IsDistinct eqb (keys_of x.places) → IsStrictlySortedBy nat_cmp ns
+    → ns ≡ numbers_where (λ key. f (under x.slots key)) [] x.places
     → AreThose (λ n. f (slot_at x n)) ns
-slots-listed x f ns none sorted is =
-    let h = listed (λ key. f (under x.slots key)) x.places sorted in
-    record {
-      rises = subst Rises (sym is) h.rises;
-      each = λ n. ap (stands_in n) is ∙ h.each n
-          ∙ sym (under-found f (under x.slots) (at x.places n) none);
-    }
+slots-listed x f ns none unique sorted is = record {
+  rises = rising ns sorted;
+  each = λ n. ap (stands_in n) is
+      ∙ stands-where (λ key. f (under x.slots key)) n [] x.places unique
+      ∙ sym (under-found f (under x.slots) (at x.places n) none);
+}

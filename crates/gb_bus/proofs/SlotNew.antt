@@ -4,11 +4,9 @@ use Rattle.std.proofs.Common.{Option, Some, None, Result, Ok, Err, eqb, length, 
 use Rattle.std.proofs.Common.{refl, sym, ap, ◌∙◌, arith}
 use Rattle.std.specs.Option.{is_none, option_and_then}
 use Rattle.std.specs.Result.{OnErr, OnOk, is_err}
-use Rattle.std.specs.BTreeMap as map
-use Rattle.std.specs.BTreeMap.{BTreeMap, is_at}
-use Rattle.std.specs.Map.{lookup}
 use Rattle.std.specs.BTreeSet.{BTreeSet, contains}
-use Rattle.std.specs.Ordering.{nat_cmp}
+use Rattle.std.specs.HashMap as map
+use Rattle.std.specs.Map.{lookup}
 use Rattle.slab.specs.Slab as slab
 use Rattle.slab.specs.Slab.{Slab, Updates}
 use Rattle.gb_bus.proofs.SlotMaps.{FindsAt, Retimed, Updated, added, added-placed}
@@ -17,7 +15,7 @@ use Rattle.gb_bus.proofs.SlotMaps.{found, found-at, none-some, other-number}
 use Rattle.gb_bus.proofs.SlotMaps.{same-number, same_some, time-here, time-others}
 use Rattle.gb_bus.proofs.SlotKept.{TimesAt, all-placed, kept-from}
 use Rattle.gb_bus.specs.Counting.{counted_once, with_one}
-use Rattle.gb_bus.specs.Keeping.{IsKept, by_deadline, kept_in, waits_until}
+use Rattle.gb_bus.specs.Keeping.{IsKept, Places, by_deadline, kept_in, waits_until}
 use Rattle.gb_bus.specs.Slots.{Opens}
 use Rattle.gb_bus.specs.declared.slots.Slot.{Slot}
 use Rattle.gb_bus.specs.declared.tally.Tally.{Tally}
@@ -28,7 +26,7 @@ abbrev weight : Bool → ℕ
 weight b = cond b 1 0
 
 -- all is as it was
-pub same-kept : (s s2 : Slab Slot) (p p2 : BTreeMap ℕ ℕ) (d d2 : BTreeSet (ℕ × ℕ)) (t : Tally)
+pub same-kept : (s s2 : Slab Slot) (p p2 : Places) (d d2 : BTreeSet (ℕ × ℕ)) (t : Tally)
     → s2.slots ≡ s.slots → p2.entries ≡ p.entries
     → ((q : ℕ × ℕ) → contains by_deadline d2 q ≡ contains by_deadline d q)
     → length d2.keys ≡ length d.keys → IsKept s p d t → IsKept s2 p2 d2 t
@@ -43,19 +41,19 @@ same-kept s s2 p p2 d d2 t slots places times count k = record {
   waiting = k.waiting ∙ sym count;
 }
   where
-    place : (n : ℕ) → map.get nat_cmp p2 n ≡ map.get nat_cmp p n
-    place n = ap (lookup (is_at (nat_cmp n))) places
+    place : (n : ℕ) → map.get eqb p2 n ≡ map.get eqb p n
+    place n = ap (lookup (eqb n)) places
 
     under : (key : ℕ) → slab.get s2 key ≡ slab.get s key
     under key = ap (λ xs. slice_index_or xs key None) slots
 
     same : (n : ℕ) → found s2 p2 n ≡ found s p n
     same n =
-        ap (λ xs. option_and_then (λ key. slice_index_or xs key None) (map.get nat_cmp p2 n))
+        ap (λ xs. option_and_then (λ key. slice_index_or xs key None) (map.get eqb p2 n))
         slots
         ∙ ap (option_and_then (slab.get s)) (place n)
 
-module _ (s : Slab Slot) (p : BTreeMap ℕ ℕ) (d : BTreeSet (ℕ × ℕ)) (t : Tally) (slot : Slot)
+module _ (s : Slab Slot) (p : Places) (d : BTreeSet (ℕ × ℕ)) (t : Tally) (slot : Slot)
     (k : IsKept s p d t) (newest : slot.number ≡ t.requests + 1) where
   -- nothing is kept of a request that wasn't made
   pub unmade : found s p slot.number ≡ None
@@ -65,10 +63,10 @@ module _ (s : Slab Slot) (p : BTreeMap ℕ ℕ) (d : BTreeSet (ℕ × ℕ)) (t :
       by None e = refl
       by (Some x) e = let low = k.made slot.number x e in absurd (omega (arith, low, newest))
 
-  unplaced : map.get nat_cmp p slot.number ≡ None
-  unplaced = by (map.get nat_cmp p slot.number) refl
+  unplaced : map.get eqb p slot.number ≡ None
+  unplaced = by (map.get eqb p slot.number) refl
     where
-      by : (o : Option ℕ) → map.get nat_cmp p slot.number ≡ o → o ≡ None
+      by : (o : Option ℕ) → map.get eqb p slot.number ≡ o → o ≡ None
       by None e = refl
       by (Some key) e =
           let old = k.placed slot.number key e in
@@ -79,7 +77,7 @@ module _ (s : Slab Slot) (p : BTreeMap ℕ ℕ) (d : BTreeSet (ℕ × ℕ)) (t :
   untimed-new c = k.timed c slot.number ∙ ap (waits_until c) unmade
 
   -- a deadline that was put is taken away again
-  pub restored : (s2 : Slab Slot) (p2 : BTreeMap ℕ ℕ) (d2 d3 : BTreeSet (ℕ × ℕ)) (a b : Bool)
+  pub restored : (s2 : Slab Slot) (p2 : Places) (d2 d3 : BTreeSet (ℕ × ℕ)) (a b : Bool)
       → s2.slots ≡ s.slots → p2.entries ≡ p.entries
       → Retimed d d2 slot.deadline slot.number true
       → Retimed d2 d3 slot.deadline slot.number false
@@ -115,7 +113,7 @@ module _ (s : Slab Slot) (p : BTreeMap ℕ ℕ) (d : BTreeSet (ℕ × ℕ)) (t :
           (same-number slot.deadline slot.deadline refl)) in
           omega (arith, more, less, one, other)
 
-  module _ (s2 : Slab Slot) (p2 : BTreeMap ℕ ℕ) (key : ℕ) (free : slab.get s key ≡ None)
+  module _ (s2 : Slab Slot) (p2 : Places) (key : ℕ) (free : slab.get s key ≡ None)
       (u : Updates s s2 key (Some slot)) (w : Updated p p2 slot.number (Some key)) where
     opens : FindsAt slot.number (Some slot) (found s p) (found s2 p2)
     opens = added s s2 p p2 slot.number key slot (all-placed s p d t k) free u w

@@ -1,11 +1,13 @@
 -- How slots are kept: under keys, which are found by number.
-use Rattle.std.specs.Prelude.{◌≡◌, ◌≤◌, ℕ, ◌==◌, nat_le, Bool, true, false, ◌&&◌, if◌then◌else◌}
-use Rattle.std.specs.Prelude.{is_none, Option, Some, None, List, [], ◌∷◌, length}
-use Rattle.std.specs.BTreeMap as map
-use Rattle.std.specs.BTreeMap.{BTreeMap}
-use Rattle.std.specs.BTreeSet.{BTreeSet, contains}
+use Rattle.std.specs.Prelude.{◌≡◌, ◌≤◌, ℕ, ◌==◌, nat_eq, nat_le, Bool, true, false, ◌&&◌}
+use Rattle.std.specs.Prelude.{if◌then◌else◌, is_none, Option, Some, None, List, [], ◌∷◌, length}
+use Rattle.std.specs.BTreeSet.{BTreeSet, contains, insert_key}
+use Rattle.std.specs.HashMap as map
+use Rattle.std.specs.HashMap.{HashMap}
 use Rattle.std.specs.Ordering.{nat_cmp, ordering_then}
 use Rattle.std.specs.declared.cmp.Ordering.{Ordering}
+use Rattle.std.specs.declared.hash.BuildHasherDefault.{BuildHasherDefault}
+use Rattle.std.specs.declared.hash.FoldHasher.{FoldHasher}
 use Rattle.slab.specs.Slab as slab
 use Rattle.slab.specs.Slab.{Slab}
 use Rattle.gb_bus.specs.Counting.{counted_once}
@@ -17,8 +19,12 @@ use Rattle.gb_bus.specs.declared.tally.Tally.{Tally}
 abbrev pub by_deadline : ℕ × ℕ → ℕ × ℕ → Ordering
 by_deadline x y = ordering_then (nat_cmp x.0 y.0) (nat_cmp x.1 y.1)
 
+-- keys by number
+abbrev pub Places : Type 0
+Places = HashMap ℕ ℕ (BuildHasherDefault FoldHasher)
+
 -- what is kept
-abbrev pub kept_in : Slab Slot → BTreeMap ℕ ℕ → Tally → Kept
+abbrev pub kept_in : Slab Slot → Places → Tally → Kept
 kept_in slots places tally =
     record { slots = slots.slots; places = places.entries; tally = tally }
 
@@ -27,11 +33,14 @@ abbrev pub waits_until : ℕ → Option Slot → Bool
 waits_until deadline None = false
 waits_until deadline (Some slot) = slot.deadline == deadline && is_none slot.outcome
 
--- the numbers whose keys pass a test
-abbrev pub numbers_where : (ℕ → Bool) → List (ℕ × ℕ) → List ℕ
-numbers_where test [] = []
-numbers_where test (p ∷ ps) =
-    let later = numbers_where test ps in if test p.1 then p.0 ∷ later else later
+-- a number whose key passes a test, among others in order
+abbrev pub put_where : (ℕ → Bool) → List ℕ → ℕ × ℕ → List ℕ
+put_where test ns p = if test p.1 then insert_key nat_cmp ns p.0 else ns
+
+-- the numbers whose keys pass, among others in order
+abbrev pub numbers_where : (ℕ → Bool) → List ℕ → List (ℕ × ℕ) → List ℕ
+numbers_where test ns [] = ns
+numbers_where test ns (p ∷ ps) = numbers_where test (put_where test ns p) ps
 
 -- nothing is kept of a request any more
 abbrev pub is_let_go : Slot → Option Slot
@@ -45,12 +54,12 @@ lesser_of n (Some m) = if nat_le m n then m else n
 -- Each number that has a place has a slot there, which is its own; each slot stands at the place of
 -- its number; a deadline stands with a number where that is of an open request; the identifier of
 -- an open request is in use; and each request that was made is counted once.
-pub record IsKept (slots : Slab Slot) (places : BTreeMap ℕ ℕ) (deadlines : BTreeSet (ℕ × ℕ))
+pub record IsKept (slots : Slab Slot) (places : Places) (deadlines : BTreeSet (ℕ × ℕ))
     (tally : Tally) : Type 0 where
-  pub placed : (n key : ℕ) → map.get nat_cmp places n ≡ Some key
+  pub placed : (n key : ℕ) → map.get nat_eq places n ≡ Some key
       → (slot : Slot) × (slab.get slots key ≡ Some slot) × (slot.number ≡ n)
   pub occupied : (key : ℕ) (slot : Slot) → slab.get slots key ≡ Some slot
-      → map.get nat_cmp places slot.number ≡ Some key
+      → map.get nat_eq places slot.number ≡ Some key
   pub timed : (deadline n : ℕ) → contains by_deadline deadlines (deadline, n)
       ≡ waits_until deadline (slot_at (kept_in slots places tally) n)
   pub asked : (n : ℕ) (slot : Slot) → slot_at (kept_in slots places tally) n ≡ Some slot

@@ -1,15 +1,15 @@
 -- The slots of requests: which requests are kept, and what changes that.
 use Rattle.std.specs.Prelude.{◌≡◌, ℕ, ◌+◌, ◌-◌, ◌==◌, nat_lt, nat_le, Bool, true, false, ◌&&◌, ◌||◌}
-use Rattle.std.specs.Prelude.{is_none, is_some, if◌then◌else◌, Option, Some, None, option_and_then}
-use Rattle.std.specs.Prelude.{List, [], ◌∷◌, slice_index_or}
-use Rattle.std.specs.BTreeMap.{is_at}
+use Rattle.std.specs.Prelude.{nat_eq, is_none, is_some, if◌then◌else◌, Option, Some, None}
+use Rattle.std.specs.Prelude.{option_and_then, List, [], ◌∷◌, slice_index_or}
 use Rattle.std.specs.Map.{lookup}
-use Rattle.std.specs.Ordering.{nat_cmp}
 use Rattle.gb_base.specs.declared.end.Side.{Side}
 use Rattle.gb_base.specs.declared.outcome.Outcome.{Outcome}
 use Rattle.gb_base.specs.declared.outcome.Outcome.TheVariants as outcome
 use Rattle.gb_bus.specs.Counting.{one_ended, with_one}
 use Rattle.gb_bus.specs.Listing.{Rises, stands_in}
+use Rattle.gb_bus.specs.declared.listing.Listed.{Listed}
+use Rattle.gb_bus.specs.declared.listing.Listed.TheVariants as listed
 use Rattle.gb_bus.specs.declared.slots.Slot.{Slot}
 use Rattle.gb_bus.specs.declared.tally.Tally.{Tally}
 use Rattle.gb_machine.specs.Members.{Each}
@@ -27,7 +27,7 @@ under slots key = slice_index_or slots key None
 
 -- the key of a request's slot, None where nothing is kept of it
 abbrev pub key_at : Kept → ℕ → Option ℕ
-key_at x n = lookup (is_at (nat_cmp n)) x.places
+key_at x n = lookup (nat_eq n) x.places
 
 -- what is kept of a request, None where nothing is
 abbrev pub slot_at : Kept → ℕ → Option Slot
@@ -163,6 +163,11 @@ is_open_on k at (Some slot) = is_on k at slot && is_none slot.outcome
 abbrev pub is_late_on : ℕ → Side → Option Slot → Bool
 is_late_on k at None = false
 is_late_on k at (Some slot) = is_on k at slot && (is_some slot.outcome && slot.awaited)
+
+-- or of one of those that are listed
+abbrev pub is_listed_on : Listed → ℕ → Side → Option Slot → Bool
+is_listed_on listed.Open k at o = is_open_on k at o
+is_listed_on listed.Late k at o = is_late_on k at o
 
 -- the connection and the side of an open request, by what is kept of it
 abbrev pub open_place : Option Slot → Option (ℕ × Side)

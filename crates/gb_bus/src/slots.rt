@@ -39,11 +39,11 @@ ghost use Rattle.gb_bus.specs.Slots.{
 ghost use Rattle.gb_bus.specs.Listing.{AreThose, FindsLeast};
 
 use crate::Tally;
-use crate::listing::{late_among, open_among};
+use crate::listing::{Listed, in_order, listed_among};
 use gb_base::{Numbers, OutOfMemory, Outcome, Side};
 use slab::Slab;
 use std::alloc::Global;
-use std::collections::{BTreeMap, BTreeSet};
+use std::collections::{BTreeSet, HashMap};
 use std::marker::Model;
 
 /// What is kept of a request while something asks for it.
@@ -89,7 +89,7 @@ impl Slot {
 pub struct Slots {
     slots: Slab<Slot>,
     /// The keys of the slots by number.
-    places: BTreeMap<u64, usize>,
+    places: HashMap<u64, usize>,
     /// The deadlines of the open requests, with their numbers.
     deadlines: BTreeSet<(u64, u64)>,
     tally: Tally,
@@ -114,7 +114,7 @@ impl Slots {
     {
         Slots {
             slots: Slab::new(alloc),
-            places: BTreeMap::new(alloc),
+            places: HashMap::new(alloc),
             deadlines: BTreeSet::new(alloc),
             tally: Tally::none(),
         }
@@ -276,7 +276,7 @@ impl Slots {
     pub fn open_on(&self, alloc: Global, k: u64, side: Side) -> Result<Numbers, OutOfMemory>
         ensures { IfOk result (λ ns. AreThose (λ n. is_open_on k side (slot_at self.now n)) ns) }
     {
-        let numbers = open_among(alloc, &self.slots, &self.places, k, side)?;
+        let numbers = listed_among(alloc, &self.slots, &self.places, k, side, Listed::Open)?;
         Ok(numbers)
     }
 
@@ -285,7 +285,7 @@ impl Slots {
     pub fn late_on(&self, alloc: Global, k: u64, side: Side) -> Result<Numbers, OutOfMemory>
         ensures { IfOk result (λ ns. AreThose (λ n. is_late_on k side (slot_at self.now n)) ns) }
     {
-        let numbers = late_among(alloc, &self.slots, &self.places, k, side)?;
+        let numbers = listed_among(alloc, &self.slots, &self.places, k, side, Listed::Late)?;
         Ok(numbers)
     }
 
@@ -323,10 +323,7 @@ impl Slots {
             }
             found.insert(*number)?;
         }
-        let mut due = Numbers::new(alloc);
-        for number in &found {
-            due.push(*number)?;
-        }
+        let due = in_order(alloc, &found)?;
         Ok(due)
     }
 

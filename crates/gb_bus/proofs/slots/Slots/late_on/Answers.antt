@@ -1,4 +1,4 @@
--- The numbers that the places list are those of the side.
+-- The numbers that are listed are those of the side.
 use Rattle.std.proofs.Common.{refl, subst}
 use Rattle.gb_bus.proofs.SlotLists.{slots-listed}
 use Rattle.gb_bus.specs.Keeping.{kept_in}
@@ -13,4 +13,4 @@ returns c =
     AreThose (λ n. is_late_on c.args.k c.args.side (slot_at x n)) c.in_ok-numbers.numbers)
     c.self.view_is
     (slots-listed (kept_in c.self.inside.slots c.self.inside.places c.self.inside.tally)
-    (is_late_on c.args.k c.args.side) c.in_ok-numbers.numbers refl e.ordered e.numbers)
+    (is_late_on c.args.k c.args.side) c.in_ok-numbers.numbers refl e.unique e.sorted e.numbers)
