@@ -1,5 +1,6 @@
 pub mod Driving
 pub mod Fronts
+pub mod Gathering
 pub mod Limits
 pub mod Runs
 pub mod ScriptRuns

@@ -1,12 +1,11 @@
 -- A line that is run goes on as the report does.
 use Rattle.std.proofs.Common.{◌≡◌, ℕ, ◌+◌, ◌≤◌, nat_lt, length, arith, Bool, true, false, ◌||◌}
-use Rattle.std.proofs.Common.{Option, Some, None, Ok, List, [], ◌∷◌, ◌++◌, append_assoc}
-use Rattle.std.proofs.Common.{append-nil, refl, sym, ap, ◌∙◌, subst}
+use Rattle.std.proofs.Common.{Some, None, Ok, List, [], ◌∷◌, ◌++◌, append_assoc}
+use Rattle.std.proofs.Common.{append-nil, refl, sym, ap, ◌∙◌}
 use Rattle.gb_base.specs.declared.entry.Entry.{Entry}
 use Rattle.gb_base.specs.declared.event.Event.{Event}
 use Rattle.gb_formats.specs.Grammar.{Said}
 use Rattle.gb_formats.specs.Texts.{entries_text}
-use Rattle.std.specs.Io.KnownBytes.{Appends}
 use Rattle.std.specs.Result.{is_err}
 use Rattle.std.proofs.lemmas.Bool.Decides.{nat_tests}
 use Rattle.std.proofs.lemmas.List.{take_all}
@@ -16,7 +15,6 @@ use Rattle.gb_formats.specs.Script.{judged}
 use Rattle.gb_machine.specs.Report.{has_bad_line, report_from, reported}
 use Rattle.gb_machine.specs.State.{State, first_state}
 use Rattle.gb_system.specs.Stands as system
-use Rattle.gbus.proofs.Fronts.{appends_more, nothing_more}
 use Rattle.gbus.specs.Scripts.{report_of}
 use Rattle.gbus.specs.Sessions.{Ends, GoesOn, TurnsAs, line_says}
 use Rattle.gbus.specs.Stages.{IsBehind}
@@ -83,7 +81,7 @@ line_bad old new hex line ls s h number =
     ∙ sym h.text
 
 -- nothing is reported of no lines
-report_none : (hex : Bool) (n : ℕ) (s : State) → report_from hex n s [] ≡ []
+pub report_none : (hex : Bool) (n : ℕ) (s : State) → report_from hex n s [] ≡ []
 unfolding report_from
 report_none hex n s = refl
 
@@ -133,87 +131,64 @@ bad_among given line ls bad =
 -- ---- behind a line
 
 -- what is reported of lines, of which this one is run
-pub goes_line : (old new : Session) (hex : Bool) (taken after : Option (List ℕ))
-    (given : List (List ℕ)) (line : List ℕ) (s : State)
-    → IsBehind old hex taken after given s → (h : GoesOn old new (line_says line) s)
+pub goes_line : (old new : Session) (hex : Bool) (given : List (List ℕ)) (line : List ℕ) (s : State)
+    → IsBehind old hex given s → (h : GoesOn old new (line_says line) s)
     → new.number ≡ old.number + 1
     → (ls : List (List ℕ)) → report_of hex (given ++ line ∷ ls) ≡ (report_of hex given ++ new.text)
     ++ report_from hex (new.number + 1) h.after ls
-goes_line old new hex taken after given line s b h number ls =
+goes_line old new hex given line s b h number ls =
     b.goes (line ∷ ls) ∙ ap (λ t. report_of hex given ++ t)
     (line_next old new hex line ls s h b.same number)
     ∙ sym (append_assoc (report_of hex given) new.text
     (report_from hex (new.number + 1) h.after ls))
 
 -- of which this one is the first bad one
-pub goes_bad : (old new : Session) (hex : Bool) (taken after : Option (List ℕ))
-    (given : List (List ℕ)) (line : List ℕ) (s : State)
-    → IsBehind old hex taken after given s → Ends old new (line_says line)
+pub goes_bad : (old new : Session) (hex : Bool) (given : List (List ℕ)) (line : List ℕ) (s : State)
+    → IsBehind old hex given s → Ends old new (line_says line)
     → new.number ≡ old.number + 1
     → (ls : List (List ℕ)) → report_of hex (given ++ line ∷ ls) ≡ report_of hex given ++ new.text
-goes_bad old new hex taken after given line s b h number ls =
+goes_bad old new hex given line s b h number ls =
     b.goes (line ∷ ls) ∙ ap (λ t. report_of hex given ++ t)
     (line_bad old new hex line ls s h number)
 
--- what is reported of lines up to one, and what behind it
-pub goes_turn : (old new : Session) (hex : Bool) (taken after : Option (List ℕ))
-    (given : List (List ℕ)) (line : List ℕ) (s : State) (turn : Turn)
-    → IsBehind old hex taken after given s → TurnsAs old new line s (Ok turn)
-    → new.number ≡ old.number + 1
-    → (ls : List (List ℕ)) → (tail : List ℕ)
-    × (report_of hex (given ++ line ∷ ls) ≡ (report_of hex given ++ new.text) ++ tail)
-goes_turn old new hex taken after given line s turn.Next b h number ls = (
-  report_from hex (new.number + 1) h.after ls,
-  goes_line old new hex taken after given line s b h
-      number ls,
-)
-goes_turn old new hex taken after given line s turn.Refused b h number ls = (
-  [],
-  goes_bad old new hex taken after given line s b h number ls
-      ∙ sym (append-nil (report_of hex given ++ new.text)),
-)
-
 -- the report of the lines up to this one
-pub wrote_turn : (old new : Session) (hex : Bool) (taken after : Option (List ℕ))
-    (given : List (List ℕ)) (line : List ℕ) (s : State) (turn : Turn)
-    → IsBehind old hex taken after given s → TurnsAs old new line s (Ok turn)
+pub wrote_turn : (old new : Session) (hex : Bool) (given : List (List ℕ)) (line : List ℕ)
+    (s : State) (turn : Turn)
+    → IsBehind old hex given s → TurnsAs old new line s (Ok turn)
     → new.number ≡ old.number + 1
     → report_of hex (given ++ line ∷ []) ≡ report_of hex given ++ new.text
-wrote_turn old new hex taken after given line s turn.Next b h number =
-    goes_line old new hex taken after given line s b h number []
+wrote_turn old new hex given line s turn.Next b h number =
+    goes_line old new hex given line s b h number []
     ∙ ap (λ t. (report_of hex given ++ new.text) ++ t) (report_none hex (new.number + 1) h.after)
     ∙ append-nil (report_of hex given ++ new.text)
-wrote_turn old new hex taken after given line s turn.Refused b h number =
-    goes_bad old new hex taken after given line s b h number []
+wrote_turn old new hex given line s turn.Refused b h number =
+    goes_bad old new hex given line s b h number []
 
--- a line was run, and its report written
-pub next_behind : (old new : Session) (hex : Bool) (taken after later : Option (List ℕ))
-    (given : List (List ℕ)) (line : List ℕ) (s : State)
-    → IsBehind old hex taken after given s → (h : GoesOn old new (line_says line) s)
+-- a line was run
+pub next_behind : (old new : Session) (hex : Bool) (given : List (List ℕ)) (line : List ℕ)
+    (s : State)
+    → IsBehind old hex given s → (h : GoesOn old new (line_says line) s)
     → new.number ≡ old.number + 1 → new.hex ≡ old.hex
-    → Appends after later new.text → IsBehind new hex taken later (given ++ line ∷ []) h.after
-next_behind old new hex taken after later given line s b h number same wrote =
-    let up_to = wrote_turn old new hex taken after given line s turn.Next b h number in
+    → IsBehind new hex (given ++ line ∷ []) h.after
+next_behind old new hex given line s b h number same =
+    let up_to = wrote_turn old new hex given line s turn.Next b h number in
     record {
       stands = h.stands;
       same = same ∙ b.same;
-      wrote = subst (Appends taken later) (sym up_to)
-          (appends_more taken after later (report_of hex given) new.text b.wrote wrote);
       goes =
           λ ls. ap (report_of hex) (append_assoc given (line ∷ []) ls)
-          ∙ goes_line old new hex taken after given line s b h number ls
+          ∙ goes_line old new hex given line s b h number ls
           ∙ ap (λ t. t ++ report_from hex (new.number + 1) h.after ls) (sym up_to);
       good = good_more given line b.good h.good;
     }
 
 -- before the first line
-pub first_behind : (x : Session) (hex : Bool) (taken : Option (List ℕ))
+pub first_behind : (x : Session) (hex : Bool)
     → system.Stands x.system first_state → x.number ≡ 0 → x.hex ≡ hex
-    → IsBehind x hex taken taken [] first_state
-first_behind x hex taken stands number same = record {
+    → IsBehind x hex [] first_state
+first_behind x hex stands number same = record {
   stands = stands;
   same = same;
-  wrote = subst (Appends taken taken) (sym (report_none hex 1 first_state)) (nothing_more taken);
   goes =
       λ ls. sym (ap (λ t. t ++ report_from hex (x.number + 1) first_state ls)
       (report_none hex 1 first_state)

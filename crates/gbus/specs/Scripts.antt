@@ -1,5 +1,5 @@
 -- What the run of a script promises, by how it ends.
-use Rattle.std.specs.Prelude.{◌≡◌, ◌<◌, ◌≤◌, ◌+◌, ℕ, Bool, true, false, is_err, Option}
+use Rattle.std.specs.Prelude.{◌≡◌, ◌<◌, ◌≤◌, ℕ, Bool, true, false, is_err, Option}
 use Rattle.std.specs.Prelude.{⊤, List, [], ◌∷◌, ◌++◌, length, IfSome}
 use Rattle.std.specs.Io.KnownBytes.{Appends, Consumes, IsAtEnd}
 use Rattle.gb_base.specs.Faults.{Rose}

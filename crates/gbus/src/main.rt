@@ -3,6 +3,7 @@
 
 mod answer;
 mod drive;
+mod gathered;
 mod input;
 mod manifests;
 mod output;

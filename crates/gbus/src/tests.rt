@@ -82,11 +82,13 @@ fn faults_are_told(rt: HostRuntime) {
 }
 
 #[test]
-fn each_line_is_reported_before_the_next_is_read(rt: HostRuntime) {
+fn what_was_read_is_reported_before_more_is_read(rt: HostRuntime) {
     let first = &PING_REPORT[..43];
     let bad = b"line 1: bad word 1\n";
-    let rows: [Row; 3] = [
+    let rows: [Row; 5] = [
         (PING, 17, 2, 0, Status::ReadFault, first, 25),
+        (PING, 42, 2, 2, Status::ReadFault, PING_REPORT, 0),
+        (PING, 42, 0, 1, Status::WriteFault, b"", 0),
         (b"sned\n", 5, 2, 0, Status::Refused, bad, 0),
         (PING, 17, 0, 1, Status::WriteFault, b"", 25),
     ];
