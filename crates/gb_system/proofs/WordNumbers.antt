@@ -104,18 +104,30 @@ grows n zero m e = let same : m ≡ n = omega (arith, e) in omega (arith, ap top
 grows n (suc k) zero e = absurd (omega (arith, e))
 grows n (suc k) (suc m) e = omega (arith, grows n k m (omega (arith, e)))
 
--- so one with fewer than 16 bytes has room for one more
-pub fits : (n : ℕ) (word : List ℕ) → n < 16 → AreBytes word → word_number n word < 2 ^ 120
-fits n word h b =
-    omega (arith, below n word b, grows n (15 - n) 15 (omega (arith, h)))
+-- a byte in front
+led : (who : ℕ) (word : List ℕ) → who < 256 → AreBytes word → AreBytes (who ∷ word)
+led who word low bytes zero = low
+led who word low bytes (suc i) = bytes i
+
+-- so one with fewer than 15 bytes of a word has room for one more
+pub fits : (n who : ℕ) (word : List ℕ) → n < 15 → who < 256 → AreBytes word
+    → word_number (suc n) (who ∷ word) < 2 ^ 120
+fits n who word h low bytes =
+    omega (
+      arith,
+      below (suc n) (who ∷ word) (led who word low bytes),
+      grows (suc n) (14 - n) 15 (omega (arith, h)),
+    )
 
 -- ---- a number is made
 
 -- one byte more
-pub step : (n number byte : ℕ) (word : List ℕ) → number ≡ word_number n word
-    → byte ≡ slice_index word n → number * 256 + byte ≡ word_number (n + 1) word
+pub step : (n number byte who : ℕ) (word : List ℕ) → number ≡ word_number (suc n) (who ∷ word)
+    → byte ≡ slice_index word n
+    → number * 256 + byte ≡ word_number (suc (n + 1)) (who ∷ word)
 unfolding word_number
-step n number byte word is at =
-    let more : number * 256 + byte ≡ word_number (suc n) word = omega (arith, is, at) in
+step n number byte who word is at =
+    let more : number * 256 + byte ≡ word_number (suc (suc n)) (who ∷ word) =
+    omega (arith, is, at) in
     let next : suc n ≡ n + 1 = omega arith in
-    more ∙ ap (λ m. word_number m word) next
+    more ∙ ap (λ m. word_number (suc m) (who ∷ word)) next

@@ -1,9 +1,7 @@
 //! Names in their order.
 
-ghost use Rattle.std.specs.Prelude.{◌≡◌, IfOk, Some, refl, slice_index};
+ghost use Rattle.std.specs.Prelude.{◌≡◌, ◌∷◌, IfOk, Some, refl, slice_index};
 ghost use Rattle.std.specs.Cmp as order;
-ghost use Rattle.std.specs.Cmp.Lexicographic.{slice_cmp};
-ghost use Rattle.std.specs.Ordering.{nat_cmp};
 ghost use Rattle.gb_machine.specs.Names.{same_name};
 ghost use Rattle.gb_system.specs.NameOrder.{name_cmp, name_equiv, name_order, name_ties};
 ghost use Rattle.gb_system.specs.NameOrder.{name_total};
@@ -13,19 +11,21 @@ use gb_base::{Name, OutOfMemory, TryCopy};
 use std::cmp::Ordering;
 use std::marker::Model;
 
-/// How many bytes of a word its number has.
-const BYTES: usize = 16;
+/// How many bytes of a word are in a key's number, behind the requester's.
+const BYTES: usize = 15;
 
 /// A name in the order of names: by requester, then by the bytes of its word. A contract sees the
 /// name.
 #[derive(Drop)]
 pub struct Key {
     name: Name,
-    /// The bytes of the word as one number, so that most words are compared in one step.
+    /// The requester and the first bytes of the word as one number, so that most names are compared
+    /// in one step.
     number: u128,
 }
 
 impl Model for Key {
+    ghost use Rattle.std.specs.Prelude.{◌∷◌};
     ghost use Rattle.gb_base.specs.declared.name.Name.{Name};
     ghost use Rattle.gb_system.specs.WordNumber.{IsNumberOf};
 
@@ -33,7 +33,7 @@ impl Model for Key {
 
     ghost view = { λ k. k.name };
 
-    ghost invariant = { λ k. IsNumberOf k.number k.name.word };
+    ghost invariant = { λ k. IsNumberOf k.number (k.name.who ∷ k.name.word) };
 }
 
 impl Key {
@@ -42,7 +42,7 @@ impl Key {
         ensures { IfOk result (λ k. k ≡ name.now) }
     {
         let name = name.copy()?;
-        let number = number_of(name.word.bytes());
+        let number = number_of(name.who, name.word.bytes());
         Ok(Key { name, number })
     }
 
@@ -53,24 +53,26 @@ impl Key {
         &self.name
     }
 
-    /// How the words of two names compare.
-    fn cmp_words(&self, other: &Key) -> Ordering
-        ensures { result ≡ slice_cmp nat_cmp self.now.word other.now.word }
+    /// How two names compare.
+    fn cmp_names(&self, other: &Key) -> Ordering
+        ensures { result ≡ name_cmp self.now other.now }
     {
         if self.number != other.number {
             return self.number.cmp(&other.number);
         }
-        self.name.word.text().cmp(other.name.word.text())
+        let (a, b) = (&self.name, &other.name);
+        a.who.cmp(&b.who).then(a.word.text().cmp(b.word.text()))
     }
 }
 
-/// The first 16 bytes as one number, the first of them most significant, with zeros past the end.
-fn number_of(bytes: &[u8]) -> u128
-    ensures { IsNumberOf result bytes.now }
+/// A requester and the first 15 bytes of a word as one number, the requester most significant, then
+/// the first byte, with zeros past the end.
+fn number_of(who: u8, word: &[u8]) -> u128
+    ensures { IsNumberOf result (who ∷ word.now) }
 {
-    let mut number = 0;
+    let mut number = u128::from(who);
     for i in 0..BYTES {
-        number = number * 256 + u128::from(byte_at(bytes, i));
+        number = number * 256 + u128::from(byte_at(word, i));
     }
     number
 }
@@ -116,9 +118,6 @@ impl Ord for Key {
     ghost matches_eq = { name_ties };
 
     fn cmp(&self, other: &Key) -> Ordering {
-        self.name
-            .who
-            .cmp(&other.name.who)
-            .then(self.cmp_words(other))
+        self.cmp_names(other)
     }
 }
