@@ -1,10 +1,12 @@
 -- What is kept of a line.
 use Rattle.std.proofs.Common.{◌≡◌, ◌≢◌, ℕ, ◌+◌, ◌-◌, ◌<◌, ◌≤◌, ◌==◌, nat_lt, Bool, true, false}
-use Rattle.std.proofs.Common.{cond, List, [], ◌∷◌, ◌++◌, length, set, get_or, take, length-append}
+use Rattle.std.proofs.Common.{cond, List, [], ◌∷◌, ◌++◌, length, get_or, take, length-append, min}
+use Rattle.std.proofs.Common.{append-nil}
 use Rattle.std.proofs.Common.{refl, sym, ap, ◌∙◌, arith}
 use Rattle.std.specs.Prelude.{slice_index}
 use Rattle.std.proofs.lemmas.List.{get_or-take, length-take, length-take-le, take-take}
-use Rattle.std.proofs.lemmas.List.{take_more_set, take_all, take-append-le}
+use Rattle.std.proofs.lemmas.List.{take_all, take_at, take-append-le}
+use Rattle.std.proofs.Math.Seq.{take-append-add}
 use Rattle.std.proofs.lemmas.Bool.Decides.{nat_tests}
 use Rattle.gb_formats.specs.Lines.{without_cr}
 use Rattle.gb_script.specs.Fronts.{IsFront, IsText, is_long_text, longest_text}
@@ -17,27 +19,60 @@ eqb-no a b h = grind (arith, nat_tests)
 less-is : (a b : ℕ) → a < b → nat_lt a b ≡ true
 less-is a b h = grind (arith, nat_tests)
 
--- a byte that is kept
-pub push-in : (bytes raw : List ℕ) (size n b : ℕ) → size ≡ length raw → length bytes ≡ n → size < n
-    → take size bytes ≡ take n raw → take (size + 1) (set bytes size b) ≡ take n (raw ++ b ∷ [])
-push-in bytes raw size n b s l less kept =
-    take_more_set bytes size b (omega (arith, l, less))
-    ∙ ap (λ t. t ++ b ∷ []) (kept ∙ take_all n raw (omega (arith, s, less)))
-    ∙ sym (take_all n (raw ++ b ∷ []) (rw (length-append raw (b ∷ [])) (omega (arith, s, less))))
-
--- a byte that isn't
-pub push-out : (bytes raw : List ℕ) (size n b : ℕ) → size ≡ length raw → length bytes ≡ n → n ≤ size
-    → take size bytes ≡ take n raw → take (size + 1) bytes ≡ take n (raw ++ b ∷ [])
-push-out bytes raw size n b s l more kept =
-    take_all (size + 1) bytes (omega (arith, l, more))
-    ∙ sym (take_all size bytes (omega (arith, l, more)))
-    ∙ kept ∙ sym (take-append-le n raw (b ∷ []) (omega (arith, s, more)))
-
 -- a front of a line that is all of it
 pub all-kept : (bytes raw : List ℕ) (size n : ℕ)
     → size ≡ length raw → size ≤ n → take size bytes ≡ take n raw
     → take size bytes ≡ raw
 all-kept bytes raw size n s within kept = kept ∙ take_all n raw (omega (arith, s, within))
+
+-- as many of these bytes as fit, before what is left of the buffer
+fitting : (more rest : List ℕ) (m : ℕ) → min (length more) m + length rest ≡ m
+    → take (length more) (take (min (length more) m) more ++ rest) ≡ take m more
+fitting more [] m fills =
+    ap (take (length more)) (append-nil (take (min (length more) m) more))
+    ∙ take_all (length more) (take (min (length more) m) more)
+    (omega (arith, length-take (min (length more) m) more))
+    ∙ ap (λ k. take k more) (omega (arith, fills))
+fitting more (r ∷ rs) m fills =
+    let all : length more ≤ m = omega (arith, fills) in
+    ap (λ k. take (length more) (k ++ r ∷ rs))
+    (take_all (min (length more) m) more (omega (arith, fills)))
+    ∙ take_at more (r ∷ rs) (length more) refl
+    ∙ sym (take_all m more all)
+
+-- bytes of which some are kept: `rest` and `tail` are what was in the buffer before
+pub append-in : (bytes raw more rest tail : List ℕ) (size n len : ℕ) → size ≡ length raw → len ≡ n
+    → size < n → take size bytes ≡ take n raw
+    → min (length more) (n - size) + length rest + size ≡ n
+    → take (size + length more) (take len
+    ((take size bytes ++ (take (min (length more) (n - size)) more ++ rest)) ++ tail))
+    ≡ take n (raw ++ more)
+append-in bytes raw more rest tail size n len s l less kept fills =
+    let copied = take (min (length more) (n - size)) more in
+    let front : take size bytes ≡ raw =
+    all-kept bytes raw size n s (omega (arith, less)) kept in
+    let long : length (raw ++ (copied ++ rest)) ≡ len =
+    rw (
+      length-append raw (copied ++ rest),
+      length-append copied rest,
+      length-take (min (length more) (n - size)) more,
+    ) (omega (arith, s, l, less, fills)) in
+    ap (λ k. take (size + length more) (take len ((k ++ (copied ++ rest)) ++ tail))) front
+    ∙ ap (take (size + length more)) (take_at (raw ++ (copied ++ rest)) tail len long)
+    ∙ ap (λ k. take (k + length more) (raw ++ (copied ++ rest))) s
+    ∙ take-append-add raw (copied ++ rest) (length more)
+    ∙ ap (λ k. raw ++ k) (fitting more rest (n - size) (omega (arith, fills, less)))
+    ∙ sym (take-append-add raw more (n - size))
+    ∙ ap (λ k. take k (raw ++ more)) (omega (arith, s, less))
+
+-- bytes that aren't
+pub append-out : (bytes raw more : List ℕ) (size n : ℕ) → size ≡ length raw → length bytes ≡ n
+    → n ≤ size → take size bytes ≡ take n raw
+    → take (size + length more) bytes ≡ take n (raw ++ more)
+append-out bytes raw more size n s l out kept =
+    take_all (size + length more) bytes (omega (arith, l, out))
+    ∙ sym (take_all size bytes (omega (arith, l, out)))
+    ∙ kept ∙ sym (take-append-le n raw more (omega (arith, s, out)))
 
 -- what is handed out of all that came
 text-kept : (bytes raw : List ℕ) (size m n : ℕ) → m ≤ n → take size bytes ≡ take n raw

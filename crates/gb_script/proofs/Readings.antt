@@ -1,12 +1,18 @@
 -- What is taken of a text, and its lines.
-use Rattle.std.proofs.Common.{◌≡◌, ◌≢◌, ℕ, ◌+◌, ◌==◌, ◌||◌, Bool, true, false, Option, Some, None}
-use Rattle.std.proofs.Common.{Result, Ok, Err, List, [], ◌∷◌, ◌++◌, length, append_assoc}
-use Rattle.std.proofs.Common.{append-nil, sym, ap, ◌∙◌, subst, arith}
-use Rattle.std.specs.List.{list_any}
-use Rattle.std.proofs.lemmas.Bool.Decides.{nat_tests}
+use Rattle.std.proofs.Common.{◌≡◌, ℕ, zero, suc, ◌+◌, ◌<◌, ◌==◌, ◌||◌, Bool, true, false, Option}
+use Rattle.std.proofs.Common.{Some, None, Result, Ok, Err, List, [], ◌∷◌, ◌++◌, length, take, drop}
+use Rattle.std.proofs.Common.{slice_index}
+use Rattle.std.proofs.Common.{append_assoc, append-nil, length-append, length-drop, refl, sym, ap}
+use Rattle.std.proofs.Common.{◌∙◌, subst, arith, take_all}
+use Rattle.std.specs.Prelude.{MatchOption, is_some}
 use Rattle.std.specs.Io.KnownBytes.{Consumes, prepend_known}
-use Rattle.gb_script.specs.Reading.{HasNoLf, ReadsLine, Takes, TakesHeld, Took, has_lf, is_lf}
-use Rattle.gb_script.specs.Reading.{to_come}
+use Rattle.std.proofs.lemmas.Bool.{eqb-true, false_from_ne_true}
+use Rattle.std.proofs.lemmas.List.{length-take, take-append-drop, take-take, take_more}
+use Rattle.std.proofs.lemmas.List.Folds.{list_any-append, list_any_at}
+use Rattle.memchr.specs.Find.{IsFirstByte, Nowhere, Passes, is_byte}
+use Rattle.gb_script.specs.Fronts.{IsFront}
+use Rattle.gb_script.specs.Reading.{EndsAt, Fills, HasNoLf, IsBeyond, IsEnded, Took, has_lf}
+use Rattle.gb_script.specs.Reading.{ReadsLine, is_lf, to_come}
 use Rattle.gb_script.specs.declared.held.Held.{Held}
 use Rattle.gb_script.specs.declared.held.LineStop.{LineStop}
 use Rattle.gb_script.specs.declared.held.LineStop.TheVariants as stop
@@ -27,63 +33,142 @@ consumes-held None b xs held p = tt
 consumes-held (Some x) None xs held p = absurd p
 consumes-held (Some x) (Some y) xs held p = p ∙ sym (append_assoc xs held y)
 
--- one byte more, which is no LF
-plain-step : (t : Bool) (xs : List ℕ) (b : ℕ)
-    → (HasNoLf xs → HasNoLf (xs ++ b ∷ [])) → t || list_any is_lf xs ≡ false
-    → t || list_any is_lf (xs ++ b ∷ []) ≡ false
-plain-step true xs b later h = h
-plain-step false xs b later h = later h
+-- first these bytes were taken, and then none
+pub consumes-none : (a b c : Option (List ℕ)) (xs : List ℕ)
+    → Consumes a b xs → Consumes b c [] → Consumes a c xs
+consumes-none a b c xs p q = subst (Consumes a c) (append-nil xs) (consumes-more a b c xs [] p q)
 
-pub plain-more : (raw : List ℕ) (b : ℕ) → HasNoLf raw → (b == 10) ≡ false → HasNoLf (raw ++ b ∷ [])
-plain-more [] b h e = ap (λ t. t || false) e
-plain-more (x ∷ xs) b h e = plain-step (is_lf x) xs b (λ g. plain-more xs b g e) h
+-- first these bytes were taken, and then the source was read where none was held
+pub consumes-filled : (a left after : Option (List ℕ)) (xs held held_after : List ℕ) (more : Bool)
+    → Consumes a (prepend_known held left) xs → Fills held held_after left after (Ok more)
+    → Consumes a (prepend_known held_after after) xs
+consumes-filled a left after xs held held_after true p f = consumes-none a _ _ xs p f.0
+consumes-filled a left after xs held held_after false p f = consumes-none a _ _ xs p f.0
 
-pub eqb-no : (a b : ℕ) → a ≢ b → (a == b) ≡ false
-eqb-no a b h = grind (arith, nat_tests)
+-- so many of those held are taken too
+consumes-some : (a b : Option (List ℕ)) (xs held : List ℕ) (n : ℕ)
+    → Consumes a (prepend_known held b) xs
+    → Consumes a (prepend_known (drop n held) b) (xs ++ take n held)
+consumes-some None b xs held n p = tt
+consumes-some (Some x) None xs held n p = absurd p
+consumes-some (Some x) (Some y) xs held n p =
+    p ∙ ap (λ l. xs ++ (l ++ y)) (sym (take-append-drop n held))
+    ∙ ap (λ l. xs ++ l) (append_assoc (take n held) (drop n held) y)
+    ∙ sym (append_assoc xs (take n held) (drop n held ++ y))
 
--- where an LF is held nothing is read
-pub held-kept : {A : Type 0} (held held_after : List ℕ) (s t : A)
-    (r : Result (Option ℕ) LineStop)
-    → has_lf held ≡ true → TakesHeld held held_after s t r → t ≡ s
-held-kept [] after s t r h taken = absurd cc
-held-kept (b ∷ bs) after s t r h taken = taken.1
+-- ---- bytes without LF
 
--- and it is still held behind a byte that is none
-pub held-still : {A : Type 0} (held held_after : List ℕ) (s t : A) (b : ℕ)
-    → has_lf held ≡ true → TakesHeld {E = LineStop} held held_after s t (Ok (Some b))
-    → b == 10 ≡ false → has_lf held_after ≡ true
-held-still [] after s t b h taken plain = absurd cc
-held-still (c ∷ bs) after s t b h taken plain =
-    let same : b ≡ c = cc in
-    ap has_lf taken.0
-    ∙ sym (ap (λ t. t || has_lf bs) (ap is_lf (sym same) ∙ plain)) ∙ h
+either-no : (s t : Bool) → s || t ≡ false → s ≡ false
+either-no true t e = e
+either-no false t e = refl
+
+pub plain-both : (xs ys : List ℕ) → HasNoLf xs → HasNoLf ys → HasNoLf (xs ++ ys)
+plain-both xs ys p q = list_any-append is_lf xs ys ∙ ap (λ t. t || has_lf ys) p ∙ q
+
+pub plain-front : (n : ℕ) (xs : List ℕ) → HasNoLf xs → HasNoLf (take n xs)
+plain-front n xs p =
+    either-no (has_lf (take n xs)) (has_lf (drop n xs))
+    (sym (list_any-append is_lf (take n xs) (drop n xs))
+    ∙ ap has_lf (take-append-drop n xs)
+    ∙ p)
+
+plain-before : (bytes : List ℕ) (n : ℕ) → Nowhere (Passes (is_byte 10) bytes) 0 n
+    → HasNoLf (take n bytes)
+plain-before bytes zero h = refl
+plain-before [] (suc n) h = refl
+plain-before (b ∷ bs) (suc n) h =
+    ap (λ t. t || has_lf (take n bs))
+    (false_from_ne_true (b == 10) (h 0 (omega arith) (omega arith)))
+    ∙ plain-before bs n (λ k low high. h (suc k) (omega arith) (omega (arith, high)))
+
+-- what a search for LF finds
+pub lf-search : (bytes : List ℕ) (r : Option ℕ) → IsFirstByte (is_byte 10) bytes r
+    → MatchOption r (HasNoLf bytes) (λ n. EndsAt bytes n)
+lf-search bytes None h =
+    subst HasNoLf (take_all (length bytes) bytes (omega arith))
+    (plain-before bytes (length bytes) h)
+lf-search bytes (Some n) h = record {
+  within = h.0.high;
+  plain = plain-before bytes n h.0.before;
+  lf = eqb-true (slice_index bytes n) 10 h.1;
+}
+
+pub lf-held : (bytes : List ℕ) (n : ℕ) → EndsAt bytes n → has_lf bytes ≡ true
+lf-held bytes n e = list_any_at is_lf bytes n 0 e.within (ap is_lf e.lf)
+
+pub lf-told : (bytes : List ℕ) (r : Option ℕ)
+    → MatchOption r (HasNoLf bytes) (λ n. EndsAt bytes n) → is_some r ≡ has_lf bytes
+lf-told bytes None h = sym h
+lf-told bytes (Some n) h = sym (lf-held bytes n h)
 
 -- ---- the line
 
--- a byte that was taken
-pub byte-taken : (old mid new : Held) (left between after : Option (List ℕ)) (raw : List ℕ) (b : ℕ)
-    → Consumes (to_come old left) (to_come mid between) raw → Took mid new between after b
-    → Consumes (to_come old left) (to_come new after) (raw ++ b ∷ [])
-byte-taken old mid new left between after raw b p t = consumes-more _ _ _ raw (b ∷ []) p t.taken
+-- a reader of lines whose held bytes are now these
+abbrev pub refilled : Held → List ℕ → Held
+refilled at piece = record { piece = piece; front = at.front; room = at.room }
 
--- no line came
-pub no-line : (old mid new : Held) (left between after : Option (List ℕ)) (raw : List ℕ)
-    (e : LineStop)
-    → HasNoLf raw
-    → Consumes (to_come old left) (to_come mid between) raw → length raw + mid.room ≡ old.room
-    → Takes mid new between after (Err e) → ReadsLine old new left after (Err e)
-no-line old mid new left between after raw stop.ReadFault plain p room t = record {
-  raw = raw;
-  plain = plain;
-  taken =
-      subst (Consumes (to_come old left) after) (append-nil raw) (consumes-more _ _ _ raw [] p t);
-  within = omega (arith, room);
-}
-no-line old mid new left between after raw stop.TooLong plain p room t = record {
-  raw = raw;
-  plain = plain;
-  beyond = t.beyond;
-  taken = consumes-more _ _ _ raw t.beyond p t.taken;
-  full = omega (arith, room, t.room);
-  more = t.more;
-}
+-- `at` has all that came of the line so far, and then holds `piece`
+module _ (old at : Held) (piece : List ℕ) (left between after : Option (List ℕ)) (more : Bool)
+    (raw : List ℕ) (plain : HasNoLf raw)
+    (came : Consumes (to_come old left) (to_come at between) raw)
+    (room : length raw + at.room ≡ old.room)
+    (fills : Fills at.piece piece between after (Ok more)) where
+  filled : Consumes (to_come old left) (prepend_known piece after) raw
+  filled = consumes-filled (to_come old left) between after raw at.piece piece more came fills
+
+  pub took-on : (new : Held) (n count : ℕ) → Took (refilled at piece) new n count
+      → Consumes (to_come old left) (to_come new after) (raw ++ take count piece)
+  took-on new n count took =
+      subst (λ (p : List ℕ). Consumes (to_come old left) (prepend_known p after)
+      (raw ++ take count piece)) (sym took.taken)
+      (consumes-some (to_come old left) after raw piece count filled)
+
+  -- its LF is held
+  pub line-ended : (new : Held) (n : ℕ) → IsFront at.front raw → EndsAt piece n
+      → Took (refilled at piece) new n (n + 1) → IsEnded old new left after
+  line-ended new n front e took = record {
+    raw = raw ++ take n piece;
+    plain = plain-both raw (take n piece) plain e.plain;
+    taken =
+        subst (Consumes (to_come old left) (to_come new after))
+        (ap (λ l. raw ++ l)
+        (take_more piece n 0 e.within ∙ ap (λ b. take n piece ++ b ∷ []) e.lf)
+        ∙ sym (append_assoc raw (take n piece) (10 ∷ [])))
+        (took-on new n (n + 1) took);
+    front = took.front raw front;
+    room =
+        rw (length-append raw (take n piece), length-take n piece)
+        (omega (arith, room, took.room, e.within));
+  }
+
+  -- the limit is within what is held
+  pub line-beyond : HasNoLf (take at.room piece) → at.room < length piece
+      → IsBeyond old left after
+  line-beyond none more = record {
+    raw = raw ++ take at.room piece;
+    plain = plain-both raw (take at.room piece) plain none;
+    beyond = drop at.room piece;
+    taken =
+        consumes-held (to_come old left) after (raw ++ take at.room piece)
+        (drop at.room piece)
+        (consumes-some (to_come old left) after raw piece at.room filled);
+    full =
+        rw (length-append raw (take at.room piece), length-take at.room piece)
+        (omega (arith, room, more));
+    more = rw (length-drop at.room piece) (omega (arith, more));
+  }
+
+  pub ended-beyond : (n : ℕ) → EndsAt piece n → at.room < n + 1 → IsBeyond old left after
+  ended-beyond n e beyond =
+      line-beyond (subst HasNoLf (take-take at.room n piece (omega (arith, beyond)))
+      (plain-front at.room (take n piece) e.plain)) (omega (arith, beyond, e.within))
+
+  pub plain-beyond : HasNoLf piece → at.room < length piece → IsBeyond old left after
+  plain-beyond none more = line-beyond (plain-front at.room piece none) more
+
+-- more bytes came than may
+pub beyond-told : (old new : Held) (left after : Option (List ℕ)) (r : Result Bool LineStop)
+    (e : LineStop) → r ≡ Err e → e ≡ stop.TooLong → IsBeyond old left after
+    → ReadsLine old new left after r
+beyond-told old new left after r e told long h =
+    subst (ReadsLine old new left after) (sym (told ∙ ap (λ (s : LineStop). Err s) long)) h

@@ -1,7 +1,7 @@
 -- What a reader has handed out of a text, and what it holds.
-use Rattle.std.specs.Prelude.{◌≡◌, ◌<◌, ◌≤◌, ◌+◌, ◌==◌, ℕ, Bool, true, false, Option, Some, None}
-use Rattle.std.specs.Prelude.{Result, Ok, Err, List, [], ◌∷◌, ◌++◌, length, if◌then◌else◌}
-use Rattle.std.specs.Prelude.{⊤, IfOk}
+use Rattle.std.specs.Prelude.{◌≡◌, ◌<◌, ◌≤◌, ◌+◌, ◌==◌, ℕ, Bool, true, false, Option}
+use Rattle.std.specs.Prelude.{Result, Ok, Err, List, [], ◌∷◌, ◌++◌, length, take, drop}
+use Rattle.std.specs.Prelude.{if◌then◌else◌, slice_index}
 use Rattle.std.specs.List.{list_any}
 use Rattle.std.specs.Io.KnownBytes.{Consumes, IsAtEnd, prepend_known}
 use Rattle.gb_base.specs.declared.errors.Failed.{Failed}
@@ -27,57 +27,34 @@ ended_lines [] = []
 ended_lines (b ∷ bs) =
     let later = ended_lines bs in if list_any is_lf (b ∷ bs) then b ∷ later else []
 
--- ---- one byte
+-- so many bytes stand before the first LF
+pub record EndsAt (bytes : List ℕ) (n : ℕ) : Type 0 where
+  pub within : n < length bytes
+  pub plain : HasNoLf (take n bytes)
+  pub lf : slice_index bytes n ≡ 10
 
--- By cases on the answer; `held` are the bytes that were read and not taken, `left` what the source
--- has left, each before and after.
-abbrev pub NextByte : (held held_after : List ℕ) (left left_after : Option (List ℕ))
-    → Result (Option ℕ) Failed → Type 0
-NextByte held held_after left after (Ok (Some b)) =
-    Consumes (prepend_known held left) (prepend_known held_after after) (b ∷ [])
-NextByte held held_after left after (Ok None) =
-    Consumes (prepend_known held left) after [] × IsAtEnd after × (held_after ≡ [])
-NextByte held held_after left after (Err failed) =
-    Consumes (prepend_known held left) after [] × (held_after ≡ [])
+-- ---- the bytes of a read
 
--- A byte that is held is the next one, and it is taken without a read.
-abbrev pub TakesHeld : {A E : Type 0} (held held_after : List ℕ) (source source_after : A)
-    → Result (Option ℕ) E → Type 0
-TakesHeld [] after source source_after r = ⊤
-TakesHeld (b ∷ bs) after source source_after r =
-    (after ≡ bs) × (source_after ≡ source) × IfOk r (λ o. o ≡ Some b)
+-- By cases on the answer, whether bytes are held then; `held` are the bytes that were read and not
+-- taken, `left` what the source has left, each before and after.
+abbrev pub Fills : (held held_after : List ℕ) (left left_after : Option (List ℕ))
+    → Result Bool Failed → Type 0
+Fills held held_after left after (Ok true) =
+    Consumes (prepend_known held left) (prepend_known held_after after) [] × (0 < length held_after)
+Fills held held_after left after (Ok false) =
+    Consumes (prepend_known held left) (prepend_known held_after after) [] × IsAtEnd after
+    × (held_after ≡ [])
+Fills held held_after left after (Err failed) = Consumes (prepend_known held left) after []
 
 -- the bytes that are to come: those held, and those that the source has left
 abbrev pub to_come : Held → Option (List ℕ) → Option (List ℕ)
 to_come h left = prepend_known h.piece left
 
--- a byte within the limit was taken
-pub record Took (old new : Held) (left left_after : Option (List ℕ)) (b : ℕ) : Type 0 where
-  pub taken : Consumes (to_come old left) (to_come new left_after) (b ∷ [])
-  pub room : old.room ≡ new.room + 1
-  pub front : new.front ≡ old.front
-
--- no byte is to come
-pub record CameToEnd (old new : Held) (left left_after : Option (List ℕ)) : Type 0 where
-  pub taken : Consumes (to_come old left) left_after []
-  pub at_end : IsAtEnd left_after
-  pub empty : new.piece ≡ []
-  pub room : new.room ≡ old.room
-  pub front : new.front ≡ old.front
-
--- a byte beyond the limit came
-pub record WentBeyond (old : Held) (left left_after : Option (List ℕ)) : Type 0 where
-  pub beyond : List ℕ
-  pub taken : Consumes (to_come old left) left_after beyond
-  pub more : 0 < length beyond
-  pub room : old.room ≡ 0
-
-abbrev pub Takes : (old new : Held) (left left_after : Option (List ℕ))
-    → Result (Option ℕ) LineStop → Type 0
-Takes old new left after (Ok (Some b)) = Took old new left after b
-Takes old new left after (Ok None) = CameToEnd old new left after
-Takes old new left after (Err stop.ReadFault) = Consumes (to_come old left) after []
-Takes old new left after (Err stop.TooLong) = WentBeyond old left after
+-- so many bytes within the limit were taken, and the first n of them are of the line
+pub record Took (old new : Held) (n count : ℕ) : Type 0 where
+  pub taken : new.piece ≡ drop count old.piece
+  pub front : (raw : List ℕ) → IsFront old.front raw → IsFront new.front (raw ++ take n old.piece)
+  pub room : count + new.room ≡ old.room
 
 -- ---- one line
 

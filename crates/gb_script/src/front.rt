@@ -1,6 +1,6 @@
 //! The front of a line that is being read.
 
-ghost use Rattle.std.specs.Prelude.{◌≡◌, ◌<◌, [], ◌∷◌, ◌++◌, ℕ, List, IfOk, ◌==◌, length, take};
+ghost use Rattle.std.specs.Prelude.{◌≡◌, ◌≤◌, [], ◌+◌, ◌++◌, ℕ, List, IfOk, ◌==◌, length, take};
 ghost use Rattle.gb_formats.specs.Lines.{without_cr};
 
 use gb_base::OutOfMemory;
@@ -40,15 +40,16 @@ impl Front {
         self.size = 0;
     }
 
-    /// The next byte of the line.
-    pub fn push(&mut self, b: u8)
-        requires { self.old.size < 1048576 }
-        ensures { (raw : List ℕ) → IsFront self.old raw → IsFront self.new (raw ++ b ∷ []) }
+    /// The next bytes of the line.
+    pub fn append(&mut self, more: &[u8])
+        requires { self.old.size + length more.now ≤ 1048576 }
+        ensures { (raw : List ℕ) → IsFront self.old raw → IsFront self.new (raw ++ more.now) }
     {
         if self.size < KEPT {
-            self.bytes[self.size] = b;
+            let count = more.len().min(KEPT - self.size);
+            self.bytes[self.size..self.size + count].copy_from_slice(&more[..count]);
         }
-        self.size += 1;
+        self.size += more.len();
     }
 
     /// Drops a CR at the end.

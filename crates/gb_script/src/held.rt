@@ -1,6 +1,7 @@
 //! The bytes that a reader of lines holds.
 
-ghost use Rattle.std.specs.Prelude.{◌≡◌, ◌≤◌, [], length, true, IfOk, IsErrOf};
+ghost use Rattle.std.specs.Prelude.{◌≡◌, ◌<◌, ◌≤◌, ◌+◌, [], length, true, IfOk, IsErrOf};
+ghost use Rattle.std.specs.Prelude.{MatchResult};
 ghost use Rattle.gb_base.specs.Faults.{Rose};
 
 use crate::front::Front;
@@ -41,8 +42,7 @@ pub struct Held {
 }
 
 impl Held {
-    ghost use Rattle.gb_script.specs.Fronts.{IsFront};
-    ghost use Rattle.gb_script.specs.Reading.{ReadsLine, Takes, TakesHeld, has_lf};
+    ghost use Rattle.gb_script.specs.Reading.{ReadsLine, Took, has_lf};
 
     /// Before the first read.
     pub fn new(alloc: Global) -> Result<Held, OutOfMemory>
@@ -54,27 +54,6 @@ impl Held {
             front: Front::new(alloc)?,
             room: LONGEST_INPUT,
         })
-    }
-
-    /// Takes the next byte. None at the end of the source.
-    fn byte<S: Source>(&mut self, source: &mut S) -> Result<Option<u8>, LineStop>
-        requires { length self.old.piece ≤ 4096 }
-        ensures takes { Takes self.old self.new (S.left source.old) (S.left source.new) result }
-        ensures held { TakesHeld self.old.piece self.new.piece source.old source.new result }
-        ensures few { length self.new.piece ≤ 4096 }
-        ensures less { self.new.room ≤ self.old.room }
-        ensures later { S.faults source.old ≤ S.faults source.new }
-        ensures cause { IsErrOf result LineStop.ReadFault
-            → Rose (S.faults source.old) (S.faults source.new) }
-    {
-        let Some(b) = self.piece.next(source)? else {
-            return Ok(None);
-        };
-        if self.room == 0 {
-            return Err(LineStop::TooLong);
-        }
-        self.room -= 1;
-        Ok(Some(b))
     }
 
     /// Takes the next line. True where it ended with LF, and false where the source did. Nothing is
@@ -91,12 +70,30 @@ impl Held {
             → Rose (S.faults source.old) (S.faults source.new) }
     {
         self.front.clear();
-        while let Some(b) = self.byte(source)? {
-            if b == b'\n' {
+        while self.piece.fill(source)? {
+            if let Some(n) = self.piece.before_lf() {
+                self.take(n, n + 1)?;
                 return Ok(true);
             }
-            self.front.push(b);
+            let n = self.piece.left().len();
+            self.take(n, n)?;
         }
         Ok(false)
+    }
+
+    /// Takes the next `count` bytes, whose first `n` are of the line.
+    fn take(&mut self, n: usize, count: usize) -> Result<(), LineStop>
+        requires count { (n ≤ count) × (count ≤ length self.old.piece) }
+        requires room { self.old.front.size + self.old.room ≤ 1048576 }
+        ensures { MatchResult result (λ _. Took self.old self.new n count)
+            (λ e. (e ≡ LineStop.TooLong) × (self.new ≡ self.old) × (self.old.room < count)) }
+    {
+        if count > self.room {
+            return Err(LineStop::TooLong);
+        }
+        self.room -= count;
+        self.front.append(&self.piece.left()[..n]);
+        self.piece.consume(count);
+        Ok(())
     }
 }

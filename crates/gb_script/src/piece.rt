@@ -1,11 +1,10 @@
 //! The bytes of one read.
 
-ghost use Rattle.std.specs.Prelude.{◌≡◌, ◌≤◌, [], ◌∷◌, length, IfOk, OnErr, MatchOption};
-ghost use Rattle.std.specs.Prelude.{MatchResult};
-ghost use Rattle.std.specs.Io.KnownBytes.{Consumes, IsAtEnd, Keeps};
+ghost use Rattle.std.specs.Prelude.{◌≡◌, ◌≤◌, [], length, drop, true, IfOk, OnErr, MatchOption};
 ghost use Rattle.gb_base.specs.Faults.{Rose};
 
 use gb_base::{Failed, OutOfMemory, Source};
+use memchr::memchr;
 use std::alloc::Global;
 use std::marker::Model;
 
@@ -32,7 +31,7 @@ impl Model for Piece {
 }
 
 impl Piece {
-    ghost use Rattle.gb_script.specs.Reading.{NextByte, TakesHeld, has_lf};
+    ghost use Rattle.gb_script.specs.Reading.{EndsAt, Fills, HasNoLf, has_lf};
 
     /// Before the first read.
     pub fn new(alloc: Global) -> Result<Piece, OutOfMemory>
@@ -48,56 +47,51 @@ impl Piece {
         })
     }
 
-    /// Takes the next byte, which it reads where none is left. None at the end of the source.
-    pub fn next<S: Source>(&mut self, source: &mut S) -> Result<Option<u8>, Failed>
-        ensures byte { NextByte self.old self.new (S.left source.old) (S.left source.new) result }
-        ensures held { TakesHeld self.old self.new source.old source.new result }
+    /// Reads where no byte is left. True where bytes are left then, and false at the end of the
+    /// source.
+    pub fn fill<S: Source>(&mut self, source: &mut S) -> Result<bool, Failed>
+        ensures bytes { Fills self.old self.new (S.left source.old) (S.left source.new) result }
+        ensures held { has_lf self.old ≡ true → (self.new ≡ self.old) × (source.new ≡ source.old) }
         ensures few { length self.old ≤ 4096 → length self.new ≤ 4096 }
         ensures later { S.faults source.old ≤ S.faults source.new }
         ensures cause { OnErr result (Rose (S.faults source.old) (S.faults source.new)) }
     {
-        if let Some(b) = self.take() {
-            return Ok(Some(b));
+        if self.start < self.end {
+            return Ok(true);
         }
-        self.read(source)?;
-        Ok(self.take())
+        self.start = 0;
+        self.end = 0;
+        let n = source.read(self.bytes.as_mut_slice())?;
+        self.end = n;
+        Ok(n > 0)
+    }
+
+    /// The bytes that are left.
+    pub fn left(&self) -> &[u8]
+        ensures { result.now ≡ self.now }
+    {
+        &self.bytes[self.start..self.end]
+    }
+
+    /// How many bytes are left before the first LF. None where no LF is left.
+    pub fn before_lf(&self) -> Option<usize>
+        ensures { MatchOption result (HasNoLf self.now) (λ n. EndsAt self.now n) }
+    {
+        memchr(b'\n', self.left())
     }
 
     /// Whether an LF is left.
     pub fn has_lf(&self) -> bool
         ensures { result ≡ has_lf self.now }
     {
-        self.bytes[self.start..self.end].contains(&b'\n')
+        self.before_lf().is_some()
     }
 
-    /// Takes the next byte. None where none is left.
-    fn take(&mut self) -> Option<u8>
-        ensures { MatchOption result ((self.old ≡ []) × (self.new ≡ []))
-            (λ b. self.old ≡ b ∷ self.new) }
+    /// Takes the next `count` bytes.
+    pub fn consume(&mut self, count: usize)
+        requires { count ≤ length self.old }
+        ensures { self.new ≡ drop count self.old }
     {
-        if self.start == self.end {
-            return None;
-        }
-        let b = self.bytes[self.start];
-        self.start += 1;
-        Some(b)
-    }
-
-    /// Reads once, where no byte is left.
-    fn read<S: Source>(&mut self, source: &mut S) -> Result<(), Failed>
-        requires { self.old ≡ [] }
-        ensures bytes { MatchResult result
-            (λ _. Consumes (S.left source.old) (S.left source.new) self.new
-            × (self.new ≡ [] → IsAtEnd (S.left source.new)))
-            (λ _. Keeps (S.left source.old) (S.left source.new) × (self.new ≡ [])) }
-        ensures few { length self.new ≤ 4096 }
-        ensures later { S.faults source.old ≤ S.faults source.new }
-        ensures cause { OnErr result (Rose (S.faults source.old) (S.faults source.new)) }
-    {
-        self.start = 0;
-        self.end = 0;
-        let n = source.read(self.bytes.as_mut_slice())?;
-        self.end = n;
-        Ok(())
+        self.start += count;
     }
 }

@@ -1,69 +1,82 @@
-use Rattle.std.proofs.Common.{◌∷◌, ◌++◌, [], ℕ, Option, Some, Ok, Err, Result, Bool, subst, sym, ap}
-use Rattle.std.proofs.Common.{◌∙◌, length-append, arith}
+use Rattle.std.proofs.Common.{◌<◌, ◌++◌, ℕ, List, length, take, length-append, length-drop, subst}
+use Rattle.std.proofs.Common.{sym, ap, ◌∙◌, arith}
+use Rattle.std.proofs.lemmas.Bool.{true≢false}
+use Rattle.std.proofs.lemmas.List.{length-take}
 use Rattle.std.proofs.lemmas.Result.{err_from_is_err_and}
-use Rattle.gb_script.proofs.Readings.{byte-taken, eqb-no, held-kept, held-still, no-line}
-use Rattle.gb_script.proofs.Readings.{plain-more}
-use Rattle.gb_script.specs.Reading.{ReadsLine, Takes, TakesHeld, to_come}
-use Rattle.gb_script.specs.declared.held.LineStop.{LineStop}
-use Rattle.std.specs.Io.KnownBytes.{Consumes}
+use Rattle.gb_script.proofs.Readings.{beyond-told, ended-beyond, line-ended, plain-beyond}
+use Rattle.gb_script.proofs.Readings.{plain-both, plain-front, refilled, took-on}
+use Rattle.gb_script.specs.Reading.{Took, has_lf}
 use Rattle.gb_script.proofs.held.Held.read_line.Goals as goal
 
-pub returns-in_err-b-clause-line : goal.returns-in_err-b-clause-line
-returns-in_err-b-clause-line g c =
-    let inv = c.loop-b.invariant in
-    let p = err_from_is_err_and c.from_residual.result c.from_residual.ensures.1 in
-    subst (λ (r : Result Bool LineStop). ReadsLine c.args.self.now c.byte.new.self
-    (g.S.Source.left c.args.source.now) (g.S.Source.left c.byte.new.source) r)
-    (sym (p.1 ∙ ap (λ (e : LineStop). Err e) p.2))
-    (no-line c.args.self.now c.loop-b.self c.byte.new.self _ (g.S.Source.left c.loop-b.source) _
-    inv.raw c.in_err-b.field-0.0 inv.plain inv.taken inv.room c.in_err-b.ensures.takes)
+pub returns-in_err-take-clause-line : goal.returns-in_err-take-clause-line
+returns-in_err-take-clause-line g c =
+    let inv = c.loop-self.invariant in
+    let p = err_from_is_err_and c.from_residual-in_err-take.result
+    c.from_residual-in_err-take.ensures.1 in
+    beyond-told c.args.self.now c.take.new.self (g.S.Source.left c.args.source.now)
+    (g.S.Source.left c.fill.new.source) c.from_residual-in_err-take.result p.0 p.1
+    (p.2 ∙ c.in_err-take.ensures.0)
+    (ended-beyond c.args.self.now c.loop-self.self c.fill.new.self
+    (g.S.Source.left c.args.source.now) (g.S.Source.left c.loop-self.source)
+    (g.S.Source.left c.fill.new.source) c.in_ok-fill.field-0 inv.raw inv.plain inv.taken inv.room
+    c.in_ok-fill.ensures.bytes c.in-Some.n c.in-Some.ensures
+    c.in_err-take.ensures.2)
 
-pub returns-then-b-eq10-clause-line : goal.returns-then-b-eq10-clause-line
-returns-then-b-eq10-clause-line g c =
-    let inv = c.loop-b.invariant in
-    let took = subst (λ (o : Option ℕ). Takes c.loop-b.self c.byte.new.self
-    (g.S.Source.left c.loop-b.source) (g.S.Source.left c.byte.new.source) (Ok o))
-    c.in-Some.is c.in_ok-b.ensures.takes in
-    record {
-      raw = inv.raw;
-      plain = inv.plain;
-      taken =
-          subst (λ (b : ℕ). Consumes (to_come c.args.self.now (g.S.Source.left c.args.source.now))
-          (to_come c.byte.new.self (g.S.Source.left c.byte.new.source)) (inv.raw ++ b ∷ []))
-          c.if-b-eq10.true
-          (byte-taken c.args.self.now c.loop-b.self c.byte.new.self _
-          (g.S.Source.left c.loop-b.source) _ inv.raw c.in-Some.b inv.taken took);
-      front = rw took.front inv.front;
-      room = omega (arith, inv.room, took.room);
-    }
+pub returns-in-Some-clause-line : goal.returns-in-Some-clause-line
+returns-in-Some-clause-line g c =
+    let inv = c.loop-self.invariant in
+    line-ended c.args.self.now c.loop-self.self c.fill.new.self
+    (g.S.Source.left c.args.source.now) (g.S.Source.left c.loop-self.source)
+    (g.S.Source.left c.fill.new.source) c.in_ok-fill.field-0 inv.raw inv.plain inv.taken inv.room
+    c.in_ok-fill.ensures.bytes c.take.new.self c.in-Some.n inv.front
+    c.in-Some.ensures c.in_ok-take.ensures
 
-pub loop-b-preserved : goal.loop-b-preserved
-loop-b-preserved g c =
-    let inv = c.loop-b.invariant in
-    let took = subst (λ (o : Option ℕ). Takes c.loop-b.self c.byte.new.self
-    (g.S.Source.left c.loop-b.source) (g.S.Source.left c.byte.new.source) (Ok o))
-    c.in-Some.is c.in_ok-b.ensures.takes in
+pub returns-in_err-take-2-clause-line : goal.returns-in_err-take-2-clause-line
+returns-in_err-take-2-clause-line g c =
+    let inv = c.loop-self.invariant in
+    let p = err_from_is_err_and c.from_residual-in_err-take-2.result
+    c.from_residual-in_err-take-2.ensures.1 in
+    beyond-told c.args.self.now c.take-in-loop-self.new.self (g.S.Source.left c.args.source.now)
+    (g.S.Source.left c.fill.new.source) c.from_residual-in_err-take-2.result p.0 p.1
+    (p.2 ∙ c.in_err-take-2.ensures.0)
+    (plain-beyond c.args.self.now c.loop-self.self c.fill.new.self
+    (g.S.Source.left c.args.source.now) (g.S.Source.left c.loop-self.source)
+    (g.S.Source.left c.fill.new.source) c.in_ok-fill.field-0 inv.raw inv.plain inv.taken inv.room
+    c.in_ok-fill.ensures.bytes c.in_default.ensures
+    (subst (λ (l : List ℕ). c.loop-self.self.room < length l) c.left-n.ensures
+    c.in_err-take-2.ensures.2))
+
+pub loop-self-preserved : goal.loop-self-preserved
+loop-self-preserved g c =
+    let inv = c.loop-self.invariant in
+    let piece = c.fill.new.self in
+    let n : ℕ = length c.left-n.result.now in
+    let took : Took (refilled c.loop-self.self piece) c.take-in-loop-self.new.self n n =
+    c.in_ok-take-2.ensures in
     record {
-      raw = inv.raw ++ c.in-Some.b ∷ [];
-      plain = plain-more inv.raw c.in-Some.b inv.plain (eqb-no c.in-Some.b 10 c.if-b-eq10.false);
+      raw = inv.raw ++ take n piece;
+      plain =
+          plain-both inv.raw (take n piece) inv.plain (plain-front n piece c.in_default.ensures);
       taken =
-          byte-taken c.args.self.now c.loop-b.self c.byte.new.self _
-          (g.S.Source.left c.loop-b.source) _ inv.raw c.in-Some.b inv.taken took;
-      front = c.push.ensures inv.raw (rw took.front inv.front);
-      room = rw (length-append inv.raw (c.in-Some.b ∷ [])) (omega (arith, inv.room, took.room));
+          took-on c.args.self.now c.loop-self.self c.fill.new.self
+          (g.S.Source.left c.args.source.now) (g.S.Source.left c.loop-self.source)
+          (g.S.Source.left c.fill.new.source) c.in_ok-fill.field-0 inv.raw inv.plain inv.taken
+          inv.room c.in_ok-fill.ensures.bytes c.take-in-loop-self.new.self n n took;
+      front = took.front inv.raw inv.front;
+      room =
+          rw (length-append inv.raw (take n piece), length-take n piece)
+          (omega (arith, inv.room, took.room, ap length c.left-n.ensures));
       within = inv.within;
       held =
           λ h.
-          let now = inv.held h in
-          let byte = subst (λ (o : Option ℕ). TakesHeld {E = LineStop} c.loop-b.self.piece
-          c.byte.new.self.piece c.loop-b.source c.byte.new.source (Ok o)) c.in-Some.is
-          c.in_ok-b.ensures.held in (
-            held-kept c.loop-b.self.piece c.byte.new.self.piece c.loop-b.source
-                c.byte.new.source (Ok (Some c.in-Some.b)) now.1 byte ∙ now.0,
-            held-still c.loop-b.self.piece c.byte.new.self.piece c.loop-b.source
-                c.byte.new.source c.in-Some.b now.1 byte
-                (eqb-no c.in-Some.b 10 c.if-b-eq10.false),
+          let kept = c.fill.ensures.held (inv.held h).1 in
+          absurd (true≢false (sym (ap has_lf kept.0 ∙ (inv.held h).1) ∙ c.in_default.ensures));
+      few =
+          omega (
+            arith,
+            ap length took.taken,
+            length-drop n piece,
+            c.fill.ensures.few inv.few,
           );
-      few = c.byte.ensures.few;
-      later = omega (arith, inv.later, c.byte.ensures.later);
+      later = omega (arith, inv.later, c.fill.ensures.later);
     }

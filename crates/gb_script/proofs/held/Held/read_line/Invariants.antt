@@ -5,8 +5,8 @@ use Rattle.gb_script.specs.Fronts.{IsFront}
 use Rattle.gb_script.specs.Reading.{HasNoLf, has_lf, to_come}
 use Rattle.gb_script.proofs.held.Held.read_line.Given as goal
 
-abbrev pub invariant-loop-b : goal.invariant-loop-b
-invariant-loop-b g l = record {
+abbrev pub invariant-loop-self : goal.invariant-loop-self
+invariant-loop-self g l = record {
   raw : List ℕ;
   plain : HasNoLf raw;
   taken : Consumes (to_come l.initial.self (g.S.Source.left l.initial.source))
@@ -20,5 +20,5 @@ invariant-loop-b g l = record {
   later : g.S.Source.faults l.initial.source ≤ g.S.Source.faults l.source;
 }
 
-abbrev pub decreases-loop-b : goal.decreases-loop-b
-decreases-loop-b g l = l.self.room
+abbrev pub decreases-loop-self : goal.decreases-loop-self
+decreases-loop-self g l = l.self.room
