@@ -8,6 +8,7 @@ ghost use Rattle.gb_base.specs.Name.{is_name, is_name_byte};
 use crate::{OutOfMemory, TryCopy};
 use arrayvec::ArrayString;
 use std::marker::Model;
+use std::str;
 
 /// The most bytes of a name.
 const LONGEST: usize = 16;
@@ -36,10 +37,8 @@ impl Word {
         if !is_name(bytes) {
             return None;
         }
-        let mut text = ArrayString::new();
-        for b in bytes {
-            text.push(char::from(*b));
-        }
+        let text = str::from_utf8(bytes).unwrap();
+        let text = ArrayString::from(text).unwrap();
         Some(Word { text })
     }
 

@@ -116,7 +116,7 @@ impl TryCopy for u64 {
 
 impl<T: TryCopy> TryCopy for Sequence<T> {
     fn copy(&self) -> Result<Sequence<T>, OutOfMemory> {
-        let mut members = Vec::new(*self.members.allocator());
+        let mut members = Vec::with_capacity(*self.members.allocator(), self.members.len())?;
         for member in &self.members {
             members.push(member.copy()?)?;
         }
