@@ -1,11 +1,35 @@
--- The digits of bytes, as they are shown.
-use Rattle.std.proofs.Common.{◌≡◌, ℕ, List, [], ◌∷◌, refl}
-use Rattle.hex.specs.Hex.{encode_lower, encode_with}
-use Rattle.gb_formats.specs.Bytes.{hex_text}
-use Rattle.gb_report.specs.Shown.{or_dash}
+-- Bytes as hex digits, one byte after the other.
+use Rattle.std.proofs.Common.{◌≡◌, ℕ, ◌+◌, ◌<◌, ◌≤◌, ◌/◌, ◌%◌, List, [], ◌∷◌, ◌++◌, length, drop}
+use Rattle.std.proofs.Common.{refl, append_assoc, append-nil, slice_index}
+use Rattle.std.proofs.lemmas.List.{drop_all}
+use Rattle.hex.specs.Hex.{encode_lower, encode_with, lower_digits}
+use Rattle.hex.proofs.Pairs.{encode_with-drop}
+use Rattle.gb_formats.specs.Bytes.{byte_text}
 
--- no digits are shown for no bytes alone
-pub hex_text-is : (bytes : List ℕ) → or_dash (encode_lower bytes) ≡ hex_text bytes
+byte_digits : (b : ℕ) → byte_text b
+    ≡ slice_index lower_digits (b / 16) ∷ slice_index lower_digits (b % 16) ∷ []
 unfolding encode_with
-hex_text-is [] = refl
-hex_text-is (b ∷ bs) = refl
+byte_digits b = refl
+
+-- both digits of a byte were appended
+pub byte_appended : (old line new : List ℕ) (high low b : ℕ)
+    → high ≡ slice_index lower_digits (b / 16) → low ≡ slice_index lower_digits (b % 16)
+    → line ≡ old ++ high ∷ [] → new ≡ line ++ low ∷ [] → new ≡ old ++ byte_text b
+byte_appended old line new high low b h l first second =
+    rw (second, first, append_assoc, h, l, byte_digits b) refl
+
+-- the digits of one byte more were appended
+pub byte_more : (old line new bytes : List ℕ) (i : ℕ) → i < length bytes
+    → new ≡ line ++ byte_text (slice_index bytes i)
+    → line ++ encode_lower (drop i bytes) ≡ old ++ encode_lower bytes
+    → new ++ encode_lower (drop (i + 1) bytes) ≡ old ++ encode_lower bytes
+byte_more old line new bytes i h n whole =
+    rw (n, append_assoc, byte_digits (slice_index bytes i))
+    (rw (encode_with-drop lower_digits bytes i h) at whole)
+
+-- the digits of all bytes were appended
+pub bytes_done : (old line bytes : List ℕ) (i : ℕ) → length bytes ≤ i
+    → line ++ encode_lower (drop i bytes) ≡ old ++ encode_lower bytes
+    → line ≡ old ++ encode_lower bytes
+unfolding encode_with
+bytes_done old line bytes i h whole = rw (drop_all i bytes h, append-nil) at whole

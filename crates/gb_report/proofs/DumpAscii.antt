@@ -10,8 +10,8 @@ use Rattle.gb_base.specs.declared.entry.Entry.TheVariants as entry
 use Rattle.gb_base.specs.declared.fault.Reason.{Reason}
 use Rattle.gb_formats.specs.Bytes.{byte_text, joined}
 use Rattle.gb_formats.specs.Descriptors.{Descriptor}
-use Rattle.gb_formats.specs.Dump.{check_text, descriptor_line, manifest_line, refused_text}
-use Rattle.gb_formats.specs.Dump.{stands_as_is, string_byte_text, string_text}
+use Rattle.gb_formats.specs.Dump.{check_text, descriptor_line, descriptors_text, dump_text}
+use Rattle.gb_formats.specs.Dump.{refused_text, stands_as_is, string_byte_text, string_text}
 use Rattle.gb_formats.specs.Manifest.{Manifest}
 use Rattle.gb_formats.specs.ManifestRules.{Refused}
 use Rattle.gb_formats.specs.Reasons.{reason_text}
@@ -73,9 +73,6 @@ because why =
 escaped : (b : ℕ) → is_ascii (codes "\\x" ++ byte_text b) ≡ true
 escaped b = cat (codes "\\x") (byte_text b) ∙ byte b
 
-pub IsAscii-escaped : (b : ℕ) → IsAscii (codes "\\x" ++ byte_text b)
-IsAscii-escaped b = seen (codes "\\x" ++ byte_text b) (escaped b)
-
 shown : (b : ℕ) (t : Bool) → stands_as_is b ≡ t
     → is_ascii (if t then b ∷ [] else codes "\\x" ++ byte_text b) ≡ true
 shown b true h = grind (arith, nat_tests)
@@ -96,8 +93,12 @@ line (Descriptor.Cport id bundle protocol) = simp (cat, dec, byte)
 end_of_line : (l : List ℕ) → is_ascii l ≡ true → IsAscii (ended l)
 end_of_line l h = seen (ended l) (cat l (10 ∷ []) ∙ rw h refl)
 
-pub IsAscii-descriptor_line : (d : Descriptor) → IsAscii (ended (descriptor_line d))
-IsAscii-descriptor_line d = end_of_line (descriptor_line d) (line d)
+descriptors : (ds : List Descriptor) → is_ascii (descriptors_text ds) ≡ true
+descriptors [] = refl
+descriptors (d ∷ ds) = simp (cat, line, descriptors ds)
+
+pub IsAscii-dump_text : (m : Manifest) → IsAscii (dump_text m)
+IsAscii-dump_text m = seen (dump_text m) (simp (cat, dec, descriptors))
 
 pub IsAscii-check_text : (m : Manifest) → IsAscii (check_text m)
 IsAscii-check_text m =
@@ -107,6 +108,3 @@ pub IsAscii-refused_text : (why : Refused) → IsAscii (refused_text why)
 IsAscii-refused_text why = end_of_line
     (joined (codes "refused " ∷ decimal why.at ∷ codes " " ∷ reason_text why.reason ∷ []))
     (simp (cat, dec, because))
-
-pub IsAscii-manifest_line : (m : Manifest) → IsAscii (ended (manifest_line m))
-IsAscii-manifest_line m = end_of_line (manifest_line m) (simp (cat, dec))

@@ -6,6 +6,7 @@ ghost use Rattle.gb_manifest.specs.Values.{refused_of};
 
 use crate::lines::{line_of, put_line};
 use crate::names::reason_name;
+use crate::part::parts;
 use gb_base::{OutOfMemory, Text};
 use gb_manifest::{Manifest, Refused};
 use std::alloc::Global;
@@ -15,8 +16,7 @@ pub fn put_accepted(alloc: Global, m: &Manifest<'_>, out: &mut Text) -> Result<(
     ensures ok { OnOk result (out.new ≡ out.old ++ check_text m.now) }
     ensures err { OnErr result (out.new ≡ out.old) }
 {
-    let size = m.size();
-    let line = line_of(alloc, format_args!("manifest ok {size}"))?;
+    let line = line_of(alloc, &parts!("manifest ok ", m.size()))?;
     put_line(line, out)
 }
 
@@ -25,7 +25,7 @@ pub fn put_refused(alloc: Global, why: &Refused, out: &mut Text) -> Result<(), O
     ensures ok { OnOk result (out.new ≡ out.old ++ refused_text (refused_of why.now)) }
     ensures err { OnErr result (out.new ≡ out.old) }
 {
-    let (at, reason) = (why.at, reason_name(why.reason));
-    let line = line_of(alloc, format_args!("refused {at} {reason}"))?;
+    let reason = reason_name(why.reason);
+    let line = line_of(alloc, &parts!("refused ", why.at, " ", reason))?;
     put_line(line, out)
 }

@@ -2,16 +2,15 @@
 
 ghost use Rattle.std.specs.Prelude.{◌≡◌, ◌++◌, IfOk, OnOk, OnErr};
 ghost use Rattle.std.specs.String.{string_bytes};
-ghost use Rattle.gb_formats.specs.Dump.{descriptor_line, dump_text, manifest_line};
-ghost use Rattle.gb_formats.specs.Dump.{stands_as_is, string_byte_text, string_text};
-ghost use Rattle.gb_manifest.specs.Values.{descriptor_of};
+ghost use Rattle.gb_formats.specs.Dump.{dump_text, manifest_line, stands_as_is};
+ghost use Rattle.gb_formats.specs.Dump.{string_byte_text, string_text};
 
-use crate::lines::{line_of, put_line};
-use crate::parts::Hex;
+use crate::digits::Hex;
+use crate::lines::empty_line;
+use crate::part::{Part, append_ascii, parts};
 use gb_base::{OutOfMemory, Text};
 use gb_manifest::{Descriptor, Manifest};
 use std::alloc::Global;
-use std::str;
 
 /// Appends the line of a manifest and those of its descriptors. After a refusal `out` is as before.
 pub fn put_dump(alloc: Global, m: &Manifest<'_>, out: &mut Text) -> Result<(), OutOfMemory>
@@ -19,88 +18,100 @@ pub fn put_dump(alloc: Global, m: &Manifest<'_>, out: &mut Text) -> Result<(), O
     ensures err { OnErr result (out.new ≡ out.old) }
 {
     let dump = dump_of(alloc, m)?;
-    let dump = str::from_utf8(dump.items()).unwrap();
-    out.append(dump)
+    out.append(&dump)
 }
 
 /// The dump of a manifest.
-fn dump_of(alloc: Global, m: &Manifest<'_>) -> Result<Text, OutOfMemory>
-    ensures { IfOk result (λ t. t ≡ dump_text m.now) }
+fn dump_of(alloc: Global, m: &Manifest<'_>) -> Result<String, OutOfMemory>
+    ensures { IfOk result (λ s. string_bytes s ≡ dump_text m.now) }
 {
-    let mut text = Text::new(alloc);
-    let (minor, size) = (m.minor(), m.size());
-    let line = line_of(
-        alloc,
-        format_args!("manifest version 0.{minor} size {size}"),
-    )?;
-    put_line(line, &mut text)?;
+    let mut dump = empty_line(alloc)?;
+    parts!("manifest version 0.", m.minor(), " size ", m.size(), "\n").append_to(&mut dump)?;
     for d in m.descriptors() {
-        let line = line_of_descriptor(alloc, &d)?;
-        put_line(line, &mut text)?;
+        parts!(d, "\n").append_to(&mut dump)?;
     }
-    Ok(text)
+    Ok(dump)
 }
 
-/// The line of a descriptor, without its end.
-fn line_of_descriptor(alloc: Global, d: &Descriptor<'_>) -> Result<String, OutOfMemory>
-    ensures { IfOk result (λ s. string_bytes s ≡ descriptor_line (descriptor_of d.now)) }
-{
-    match d {
-        Descriptor::Interface {
-            vendor,
-            product,
-            features,
-        } => {
-            let features = Hex(*features);
-            line_of(
-                alloc,
-                format_args!("interface vendor {vendor} product {product} features {features}"),
+/// A descriptor, shown as its line without its end.
+impl<'a> Part for Descriptor<'a> {
+    ghost use Rattle.gb_formats.specs.Dump.{descriptor_line};
+    ghost use Rattle.gb_manifest.specs.Values.{descriptor_of};
+
+    ghost text = { λ d. descriptor_line (descriptor_of d) };
+
+    fn append_to(&self, line: &mut String) -> Result<(), OutOfMemory> {
+        match self {
+            Descriptor::Interface {
+                vendor,
+                product,
+                features,
+            } => parts!(
+                "interface vendor ",
+                vendor,
+                " product ",
+                product,
+                " features ",
+                Hex(*features)
             )
-        }
-        Descriptor::Words { id, bytes } => {
-            let quoted = quoted(alloc, bytes)?;
-            let text = str::from_utf8(quoted.items()).unwrap();
-            line_of(alloc, format_args!("string {id} \"{text}\""))
-        }
-        Descriptor::Bundle { id, class } => {
-            let class = Hex(*class);
-            line_of(alloc, format_args!("bundle {id} class {class}"))
-        }
-        Descriptor::Cport {
-            id,
-            bundle,
-            protocol,
-        } => {
-            let protocol = Hex(*protocol);
-            line_of(
-                alloc,
-                format_args!("cport {id} bundle {bundle} protocol {protocol}"),
+            .append_to(line),
+            Descriptor::Words { id, bytes } => {
+                parts!("string ", id, " \"", Quoted(*bytes), "\"").append_to(line)
+            }
+            Descriptor::Bundle { id, class } => {
+                parts!("bundle ", id, " class ", Hex(*class)).append_to(line)
+            }
+            Descriptor::Cport {
+                id,
+                bundle,
+                protocol,
+            } => parts!(
+                "cport ",
+                id,
+                " bundle ",
+                bundle,
+                " protocol ",
+                Hex(*protocol)
             )
+            .append_to(line),
         }
     }
 }
 
 /// The bytes of a string, each that is no plain letter as `\xNN`.
-fn quoted(alloc: Global, bytes: &[u8]) -> Result<Text, OutOfMemory>
-    ensures { IfOk result (λ t. t ≡ string_text bytes.now) }
-{
-    let mut text = Text::new(alloc);
-    for byte in bytes {
-        put_byte(alloc, *byte, &mut text)?;
+#[derive(Clone, Copy)]
+struct Quoted<'a>(&'a [u8]);
+
+impl<'a> Part for Quoted<'a> {
+    ghost use Rattle.gb_formats.specs.Dump.{string_text};
+
+    ghost text = { λ q. string_text q.0.now };
+
+    fn append_to(&self, line: &mut String) -> Result<(), OutOfMemory> {
+        append_quoted(self.0, line)
     }
-    Ok(text)
+}
+
+/// Appends the bytes of a string.
+fn append_quoted(bytes: &[u8], line: &mut String) -> Result<(), OutOfMemory>
+    ensures { OnOk result (string_bytes line.new ≡ string_bytes line.old ++ string_text bytes.now) }
+{
+    for byte in bytes {
+        append_byte(*byte, line)?;
+    }
+    Ok(())
 }
 
 /// Appends a byte of a string.
-fn put_byte(alloc: Global, byte: u8, out: &mut Text) -> Result<(), OutOfMemory>
-    ensures { OnOk result (out.new ≡ out.old ++ string_byte_text byte) }
+fn append_byte(byte: u8, line: &mut String) -> Result<(), OutOfMemory>
+    ensures { OnOk result
+        (string_bytes line.new ≡ string_bytes line.old ++ string_byte_text byte) }
 {
     if is_plain(byte) {
-        return out.push(byte);
+        append_ascii(byte, line)
+    } else {
+        parts!("\\x", Hex(byte)).append_to(line)
     }
-    let byte = Hex(byte);
-    let escaped = format!(in alloc; "\\x{byte}")?;
-    out.append(&escaped)
 }
 
 /// A byte that stands as it is: 20 to 7e other than `"` and `\`.

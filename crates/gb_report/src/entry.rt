@@ -1,13 +1,15 @@
 //! The line of each entry.
 
-ghost use Rattle.std.specs.Prelude.{◌≡◌, ℕ, Bool, true, List, IfOk, OnOk, IsAscii};
+ghost use Rattle.std.specs.Prelude.{◌≡◌, ◌++◌, ℕ, Bool, true, List, IfOk, OnOk, IsAscii};
 ghost use Rattle.std.specs.String.{string_bytes};
 ghost use Rattle.gb_formats.specs.Texts.{entry_line};
 ghost use Rattle.gb_base.specs.Groups.{is_device, is_link, is_message, is_raw, is_request};
 
-use crate::lines::line_of;
+use crate::digits::{Digits, Hex};
+use crate::lines::empty_line;
 use crate::names::{lost_mark, reason_name, refusal_name, stage_name, state_name};
-use crate::parts::{Dropped, Hex, Item, Raw, Said, Way, digits_of, ending_of, size_of};
+use crate::part::{Part, parts};
+use crate::parts::{Dropped, Item, Size, Way};
 use gb_base::{Entry, OutOfMemory};
 use std::alloc::Global;
 use std::str;
@@ -17,39 +19,50 @@ pub fn entry_line(alloc: Global, entry: &Entry, line: u32, hex: bool) -> Result<
     ensures text { IfOk result (λ s. string_bytes s ≡ entry_line line hex entry.now) }
     ensures ascii { OnOk result ((shown : List ℕ) → entry.now ≡ Entry.Shown shown → IsAscii shown) }
 {
+    let mut text = empty_line(alloc)?;
+    append_entry(entry, line, hex, &mut text)?;
+    Ok(text)
+}
+
+/// Appends the line of an entry.
+fn append_entry(entry: &Entry, line: u32, hex: bool, out: &mut String) -> Result<(), OutOfMemory>
+    ensures text { OnOk result
+        (string_bytes out.new ≡ string_bytes out.old ++ entry_line line hex entry.now) }
+    ensures ascii { OnOk result ((shown : List ℕ) → entry.now ≡ Entry.Shown shown → IsAscii shown) }
+{
     match entry {
-        Entry::Done => line_of(alloc, format_args!("line {line} ok")),
+        Entry::Done => parts!("line ", line, " ok").append_to(out),
         Entry::Refused { why } => {
-            let why = refusal_name(*why);
-            line_of(alloc, format_args!("line {line} refused {why}"))
+            parts!("line ", line, " refused ", refusal_name(*why)).append_to(out)
         }
-        Entry::Asked { .. } | Entry::Replied { .. } => message_line(alloc, entry, hex),
+        Entry::Asked { .. } | Entry::Replied { .. } => append_message(entry, hex, out),
         Entry::Held { .. }
         | Entry::Ended { .. }
         | Entry::Late { .. }
         | Entry::Dropped { .. }
-        | Entry::Ignored { .. } => request_line(alloc, entry),
+        | Entry::Ignored { .. } => append_request(entry, out),
         Entry::Raw { .. }
         | Entry::BadRaw { .. }
         | Entry::LateLabel { .. }
-        | Entry::UnknownLabel { .. } => raw_line(alloc, entry, hex),
+        | Entry::UnknownLabel { .. } => append_raw(entry, hex, out),
         Entry::Interface { .. } | Entry::Manifest { .. } | Entry::Connection { .. } => {
-            link_line(alloc, entry)
+            append_link(entry, out)
         }
         Entry::Irq { .. } | Entry::Received { .. } | Entry::Serial { .. } | Entry::Credits { .. } =>
-            { device_line(alloc, entry) }
-        Entry::Settled { count } => line_of(alloc, format_args!("settled {count}")),
+            { append_device(entry, out) }
+        Entry::Settled { count } => parts!("settled ", count).append_to(out),
         Entry::Shown { text } => {
             let text = str::from_utf8(text.items()).unwrap();
-            line_of(alloc, format_args!("{text}"))
+            text.append_to(out)
         }
     }
 }
 
-/// The line of a message that is put in a queue.
-fn message_line(alloc: Global, entry: &Entry, hex: bool) -> Result<String, OutOfMemory>
+/// Appends the line of a message that is put in a queue.
+fn append_message(entry: &Entry, hex: bool, out: &mut String) -> Result<(), OutOfMemory>
     requires { is_message entry.now ≡ true }
-    ensures { (line : ℕ) → IfOk result (λ s. string_bytes s ≡ entry_line line hex entry.now) }
+    ensures { (line : ℕ) → OnOk result
+        (string_bytes out.new ≡ string_bytes out.old ++ entry_line line hex entry.now) }
 {
     match entry {
         Entry::Asked {
@@ -61,13 +74,24 @@ fn message_line(alloc: Global, entry: &Entry, hex: bool) -> Result<String, OutOf
             bytes,
             lost,
         } => {
-            let (way, kind) = (Way(*from, *to), Hex(*kind));
-            let size = size_of(alloc, hex, *size, bytes)?;
-            let lost = lost_mark(*lost);
-            line_of(
-                alloc,
-                format_args!("ask #{number} {way} type {kind} size {size}{lost}"),
+            let way = Way(*from, *to);
+            let size = Size {
+                hex,
+                size: *size,
+                bytes,
+            };
+            parts!(
+                "ask #",
+                number,
+                " ",
+                way,
+                " type ",
+                Hex(*kind),
+                " size ",
+                size,
+                lost_mark(*lost)
             )
+            .append_to(out)
         }
         Entry::Replied {
             number,
@@ -77,54 +101,55 @@ fn message_line(alloc: Global, entry: &Entry, hex: bool) -> Result<String, OutOf
             size,
             bytes,
         } => {
-            let (item, way, code) = (Item(*number), Way(*from, *to), Hex(*code));
-            let size = size_of(alloc, hex, *size, bytes)?;
-            line_of(
-                alloc,
-                format_args!("reply {item} {way} result {code} size {size}"),
+            let (item, way) = (Item(*number), Way(*from, *to));
+            let size = Size {
+                hex,
+                size: *size,
+                bytes,
+            };
+            parts!(
+                "reply ",
+                item,
+                " ",
+                way,
+                " result ",
+                Hex(*code),
+                " size ",
+                size
             )
+            .append_to(out)
         }
         _ => unreachable!(),
     }
 }
 
-/// The line that tells what became of a request.
-fn request_line(alloc: Global, entry: &Entry) -> Result<String, OutOfMemory>
+/// Appends the line that tells what became of a request.
+fn append_request(entry: &Entry, out: &mut String) -> Result<(), OutOfMemory>
     requires { is_request entry.now ≡ true }
-    ensures { (line : ℕ) (hex : Bool)
-        → IfOk result (λ s. string_bytes s ≡ entry_line line hex entry.now) }
+    ensures { (line : ℕ) (hex : Bool) → OnOk result
+        (string_bytes out.new ≡ string_bytes out.old ++ entry_line line hex entry.now) }
 {
     match entry {
-        Entry::Held { number } => {
-            let item = Item(*number);
-            line_of(alloc, format_args!("held {item}"))
-        }
+        Entry::Held { number } => parts!("held ", Item(*number)).append_to(out),
         Entry::Ended {
             number,
             outcome,
             reading,
-        } => {
-            let how = ending_of(alloc, outcome)?;
-            let said = Said(*reading);
-            line_of(alloc, format_args!("end #{number} {how}{said}"))
-        }
-        Entry::Late { number } => line_of(alloc, format_args!("late #{number}")),
+        } => parts!("end #", number, " ", outcome, reading).append_to(out),
+        Entry::Late { number } => parts!("late #", number).append_to(out),
         Entry::Dropped { number, reply } => {
-            let dropped = Dropped(*number, *reply);
-            line_of(alloc, format_args!("drop {dropped}"))
+            parts!("drop ", Dropped(*number, *reply)).append_to(out)
         }
-        Entry::Ignored { kind } => {
-            let kind = Hex(*kind);
-            line_of(alloc, format_args!("ignored type {kind}"))
-        }
+        Entry::Ignored { kind } => parts!("ignored type ", Hex(*kind)).append_to(out),
         _ => unreachable!(),
     }
 }
 
-/// The line of injected bytes, or of what comes of them.
-fn raw_line(alloc: Global, entry: &Entry, hex: bool) -> Result<String, OutOfMemory>
+/// Appends the line of injected bytes, or of what comes of them.
+fn append_raw(entry: &Entry, hex: bool, out: &mut String) -> Result<(), OutOfMemory>
     requires { is_raw entry.now ≡ true }
-    ensures { (line : ℕ) → IfOk result (λ s. string_bytes s ≡ entry_line line hex entry.now) }
+    ensures { (line : ℕ) → OnOk result
+        (string_bytes out.new ≡ string_bytes out.old ++ entry_line line hex entry.now) }
 {
     match entry {
         Entry::Raw {
@@ -134,33 +159,40 @@ fn raw_line(alloc: Global, entry: &Entry, hex: bool) -> Result<String, OutOfMemo
             bytes,
         } => {
             let way = Way(*from, *to);
-            let size = size_of(alloc, hex, *size, bytes)?;
-            line_of(alloc, format_args!("raw {way} size {size}"))
+            let size = Size {
+                hex,
+                size: *size,
+                bytes,
+            };
+            parts!("raw ", way, " size ", size).append_to(out)
         }
-        Entry::BadRaw { fault } => {
-            let fault = Raw(*fault);
-            line_of(alloc, format_args!("bad raw {fault}"))
-        }
-        Entry::LateLabel { label } => line_of(alloc, format_args!("late label {label}")),
-        Entry::UnknownLabel { label } => line_of(alloc, format_args!("unknown label {label}")),
+        Entry::BadRaw { fault } => parts!("bad raw ", fault).append_to(out),
+        Entry::LateLabel { label } => parts!("late label ", label).append_to(out),
+        Entry::UnknownLabel { label } => parts!("unknown label ", label).append_to(out),
         _ => unreachable!(),
     }
 }
 
-/// The line of an interface or a connection.
-fn link_line(alloc: Global, entry: &Entry) -> Result<String, OutOfMemory>
+/// Appends the line of an interface or a connection.
+fn append_link(entry: &Entry, out: &mut String) -> Result<(), OutOfMemory>
     requires { is_link entry.now ≡ true }
-    ensures { (line : ℕ) (hex : Bool)
-        → IfOk result (λ s. string_bytes s ≡ entry_line line hex entry.now) }
+    ensures { (line : ℕ) (hex : Bool) → OnOk result
+        (string_bytes out.new ≡ string_bytes out.old ++ entry_line line hex entry.now) }
 {
     match entry {
         Entry::Interface { intf, stage } => {
-            let stage = stage_name(*stage);
-            line_of(alloc, format_args!("interface {intf} {stage}"))
+            parts!("interface ", intf, " ", stage_name(*stage)).append_to(out)
         }
         Entry::Manifest { intf, at, reason } => {
-            let reason = reason_name(*reason);
-            line_of(alloc, format_args!("manifest {intf} refused {at} {reason}"))
+            parts!(
+                "manifest ",
+                intf,
+                " refused ",
+                at,
+                " ",
+                reason_name(*reason)
+            )
+            .append_to(out)
         }
         Entry::Connection {
             number,
@@ -170,37 +202,52 @@ fn link_line(alloc: Global, entry: &Entry) -> Result<String, OutOfMemory>
             state,
         } => {
             let state = state_name(*state);
-            line_of(
-                alloc,
-                format_args!("connection {number} ap {ap} {intf} {cport} {state}"),
+            parts!(
+                "connection ",
+                number,
+                " ap ",
+                ap,
+                " ",
+                intf,
+                " ",
+                cport,
+                " ",
+                state
             )
+            .append_to(out)
         }
         _ => unreachable!(),
     }
 }
 
-/// The line of what a bridged device told.
-fn device_line(alloc: Global, entry: &Entry) -> Result<String, OutOfMemory>
+/// Appends the line of what a bridged device told.
+fn append_device(entry: &Entry, out: &mut String) -> Result<(), OutOfMemory>
     requires { is_device entry.now ≡ true }
-    ensures { (line : ℕ) (hex : Bool)
-        → IfOk result (λ s. string_bytes s ≡ entry_line line hex entry.now) }
+    ensures { (line : ℕ) (hex : Bool) → OnOk result
+        (string_bytes out.new ≡ string_bytes out.old ++ entry_line line hex entry.now) }
 {
     match entry {
-        Entry::Irq { intf, cport, line } => line_of(
-            alloc,
-            format_args!("irq {intf} {cport} {line}"),
-        ),
+        Entry::Irq { intf, cport, line } => {
+            parts!("irq ", intf, " ", cport, " ", line).append_to(out)
+        }
         Entry::Received { intf, cport, bytes } => {
-            let digits = digits_of(alloc, bytes.items())?;
-            line_of(alloc, format_args!("uart {intf} {cport} received {digits}"))
+            parts!(
+                "uart ",
+                intf,
+                " ",
+                cport,
+                " received ",
+                Digits(bytes.items())
+            )
+            .append_to(out)
         }
         Entry::Serial {
             intf,
             cport,
             control,
-        } => line_of(alloc, format_args!("serial {intf} {cport} {control}")),
+        } => parts!("serial ", intf, " ", cport, " ", control).append_to(out),
         Entry::Credits { intf, cport, total } => {
-            line_of(alloc, format_args!("credits {intf} {cport} {total}"))
+            parts!("credits ", intf, " ", cport, " ", total).append_to(out)
         }
         _ => unreachable!(),
     }

@@ -2,10 +2,12 @@
 #![tactic(auto)]
 
 mod checked;
+mod digits;
 mod dump;
 mod entry;
 mod lines;
 mod names;
+mod part;
 mod parts;
 mod report;
 mod show;

@@ -1,22 +1,29 @@
-//! A line of the report: what it shows, and its place in the text.
+//! A line of the report: its parts, and its place in the text.
 
-ghost use Rattle.std.specs.Prelude.{◌≡◌, ◌++◌, IfOk, IfSome, IsAscii, OnErr, OnOk};
+ghost use Rattle.std.specs.Prelude.{◌≡◌, ◌++◌, [], IfOk, IsAscii, OnErr, OnOk};
 ghost use Rattle.std.specs.String.{string_bytes};
 ghost use Rattle.gb_formats.specs.Texts.{ended};
 
+use crate::part::Part;
 use gb_base::{OutOfMemory, Text};
 use std::alloc::Global;
-use std::fmt::Display;
 
 /// Room for a usual line with its end, so that it takes memory once.
 const ROOM: usize = 96;
 
-/// The line of what is shown, without its end.
-pub fn line_of<D: Display + Drop>(alloc: Global, shown: D) -> Result<String, OutOfMemory>
-    ensures { IfOk result (λ s. IfSome (D.output shown) (λ bs. string_bytes s ≡ bs)) }
+/// A line with nothing in it, and room for a usual one.
+pub fn empty_line(alloc: Global) -> Result<String, OutOfMemory>
+    ensures { IfOk result (λ s. string_bytes s ≡ []) }
 {
-    let mut line = String::with_capacity(alloc, ROOM)?;
-    line.write(shown)?;
+    Ok(String::with_capacity(alloc, ROOM)?)
+}
+
+/// The line of some parts, without its end.
+pub fn line_of<P: Part>(alloc: Global, parts: &P) -> Result<String, OutOfMemory>
+    ensures { IfOk result (λ s. string_bytes s ≡ P.text parts.now) }
+{
+    let mut line = empty_line(alloc)?;
+    parts.append_to(&mut line)?;
     Ok(line)
 }
 

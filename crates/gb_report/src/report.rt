@@ -5,7 +5,7 @@ ghost use Rattle.gb_formats.specs.Texts.{entry_text, refusal_line_text};
 
 use crate::entry::entry_line;
 use crate::lines::{line_of, put_line};
-use crate::parts::Bad;
+use crate::part::parts;
 use gb_base::{Entry, LineReason, OutOfMemory, Text};
 use std::alloc::Global;
 
@@ -35,7 +35,6 @@ pub fn put_refusal(
     ensures ok { OnOk result (out.new ≡ out.old ++ refusal_line_text line why.now) }
     ensures err { OnErr result (out.new ≡ out.old) }
 {
-    let why = Bad(*why);
-    let line = line_of(alloc, format_args!("line {line}: {why}"))?;
+    let line = line_of(alloc, &parts!("line ", line, ": ", why))?;
     put_line(line, out)
 }

@@ -1,39 +1,35 @@
 //! The lines of `show`, each without its end.
 
 ghost use Rattle.std.specs.Prelude.{◌≡◌, IfOk, IsAscii, option_copied};
-ghost use Rattle.std.specs.String.{string_bytes};
 ghost use Rattle.gb_formats.specs.ShowTexts.{
   connection_line,
   interface_line,
   name_line,
-  naming_text,
   now_line,
   queue_line,
-  standing_text,
   unclean_text,
 };
 
+use crate::digits::Hex;
 use crate::lines::line_of;
 use crate::names::{stage_name, state_name};
-use crate::parts::{Hex, Place};
+use crate::part::{Part, parts};
 use gb_base::{ConnState, End, IntfStage, Name, OutOfMemory, Outcome, Text};
 use std::alloc::Global;
-use std::fmt;
 
 /// A device id, shown behind the interface that has it.
 #[derive(Clone, Copy)]
 struct Device(Option<u8>);
 
-impl fmt::Display for Device {
-    ghost use Rattle.std.specs.Prelude.{Some};
+impl Part for Device {
     ghost use Rattle.gb_formats.specs.ShowTexts.{device_text};
 
-    ghost output = { λ d. Some (device_text d.0) };
+    ghost text = { λ d. device_text d.0 };
 
-    fn fmt<W: fmt::Write>(&self, f: &mut fmt::Formatter<W>) -> fmt::Result {
+    fn append_to(&self, line: &mut String) -> Result<(), OutOfMemory> {
         match self.0 {
             None => Ok(()),
-            Some(id) => write!(f, " device {id}"),
+            Some(id) => parts!(" device ", id).append_to(line),
         }
     }
 }
@@ -42,18 +38,41 @@ impl fmt::Display for Device {
 #[derive(Clone, Copy)]
 struct Requester(u8);
 
-impl fmt::Display for Requester {
-    ghost use Rattle.std.specs.Prelude.{Some};
+impl Part for Requester {
     ghost use Rattle.gb_formats.specs.ShowTexts.{requester_text};
 
-    ghost output = { λ r. Some (requester_text r.0) };
+    ghost text = { λ r. requester_text r.0 };
 
-    fn fmt<W: fmt::Write>(&self, f: &mut fmt::Formatter<W>) -> fmt::Result {
+    fn append_to(&self, line: &mut String) -> Result<(), OutOfMemory> {
         let who = self.0;
         if who == 0 {
             Ok(())
         } else {
-            write!(f, "{who} ")
+            parts!(who, " ").append_to(line)
+        }
+    }
+}
+
+/// How a request stands, without the payload of its answer, and as `open` where it hasn't ended.
+#[derive(Clone, Copy)]
+struct Standing<'a>(Option<&'a Outcome>);
+
+impl<'a> Part for Standing<'a> {
+    ghost use Rattle.std.specs.Prelude.{option_copied};
+    ghost use Rattle.gb_formats.specs.ShowTexts.{standing_text};
+
+    ghost text = { λ s. standing_text (option_copied s.0) };
+
+    fn append_to(&self, line: &mut String) -> Result<(), OutOfMemory> {
+        match self.0 {
+            None => "open".append_to(line),
+            Some(Outcome::Answered { result: code, .. }) => {
+                parts!("answered ", Hex(*code)).append_to(line)
+            }
+            Some(Outcome::Cancelled) => "cancelled".append_to(line),
+            Some(Outcome::Timeout) => "timeout".append_to(line),
+            Some(Outcome::Disconnected) => "disconnected".append_to(line),
+            Some(Outcome::Sent) => "sent".append_to(line),
         }
     }
 }
@@ -62,7 +81,7 @@ impl fmt::Display for Requester {
 pub fn now_line(alloc: Global, now: u64) -> Result<Text, OutOfMemory>
     ensures { IfOk result (λ t. t ≡ now_line now) }
 {
-    let line = line_of(alloc, format_args!("now {now}"))?;
+    let line = line_of(alloc, &parts!("now ", now))?;
     text_of(alloc, &line)
 }
 
@@ -76,7 +95,7 @@ pub fn interface_line(
     ensures { IfOk result (λ t. t ≡ interface_line intf stage device) }
 {
     let (stage, device) = (stage_name(stage), Device(device));
-    let line = line_of(alloc, format_args!("interface {intf} {stage}{device}"))?;
+    let line = line_of(alloc, &parts!("interface ", intf, " ", stage, device))?;
     text_of(alloc, &line)
 }
 
@@ -93,11 +112,23 @@ pub fn connection_line(
 ) -> Result<Text, OutOfMemory>
     ensures { IfOk result (λ t. t ≡ connection_line number ap peer protocol state clean) }
 {
-    let (peer, protocol) = (Place(peer), Hex(protocol));
+    let protocol = Hex(protocol);
     let (state, unclean) = (state_name(state), unclean_mark(clean));
     let line = line_of(
         alloc,
-        format_args!("connection {number} ap {ap} {peer} protocol {protocol} {state}{unclean}"),
+        &parts!(
+            "connection ",
+            number,
+            " ap ",
+            ap,
+            " ",
+            peer,
+            " protocol ",
+            protocol,
+            " ",
+            state,
+            unclean
+        ),
     )?;
     text_of(alloc, &line)
 }
@@ -106,8 +137,7 @@ pub fn connection_line(
 pub fn queue_line(alloc: Global, at: End, count: u64) -> Result<Text, OutOfMemory>
     ensures { IfOk result (λ t. t ≡ queue_line at count) }
 {
-    let at = Place(at);
-    let line = line_of(alloc, format_args!("queue {at} {count}"))?;
+    let line = line_of(alloc, &parts!("queue ", at, " ", count))?;
     text_of(alloc, &line)
 }
 
@@ -120,41 +150,21 @@ pub fn name_line(
 ) -> Result<Text, OutOfMemory>
     ensures { IfOk result (λ t. t ≡ name_line name.now number (option_copied how.entry)) }
 {
-    let requester = Requester(name.who);
-    let naming = naming_of(alloc, name.word.text(), number, how)?;
-    let line = line_of(alloc, format_args!("name {requester}{naming}"))?;
+    let (requester, word) = (Requester(name.who), name.word.text());
+    let line = line_of(
+        alloc,
+        &parts!(
+            "name ",
+            requester,
+            "@",
+            word,
+            " #",
+            number,
+            " ",
+            Standing(how)
+        ),
+    )?;
     text_of(alloc, &line)
-}
-
-/// The word of a name, the number of its request, and how that ended.
-fn naming_of(
-    alloc: Global,
-    word: &str,
-    number: u64,
-    how: Option<&Outcome>,
-) -> Result<String, OutOfMemory>
-    ensures { IfOk result
-        (λ s. string_bytes s ≡ naming_text word.now number (option_copied how.entry)) }
-{
-    let how = standing_of(alloc, how)?;
-    Ok(format!(in alloc; "@{word} #{number} {how}")?)
-}
-
-/// How a request ended, without the payload of its answer.
-fn standing_of(alloc: Global, how: Option<&Outcome>) -> Result<String, OutOfMemory>
-    ensures { IfOk result (λ s. string_bytes s ≡ standing_text (option_copied how.entry)) }
-{
-    match how {
-        None => Ok(format!(in alloc; "open")?),
-        Some(Outcome::Answered { result: code, .. }) => {
-            let code = Hex(*code);
-            Ok(format!(in alloc; "answered {code}")?)
-        }
-        Some(Outcome::Cancelled) => Ok(format!(in alloc; "cancelled")?),
-        Some(Outcome::Timeout) => Ok(format!(in alloc; "timeout")?),
-        Some(Outcome::Disconnected) => Ok(format!(in alloc; "disconnected")?),
-        Some(Outcome::Sent) => Ok(format!(in alloc; "sent")?),
-    }
 }
 
 /// What is behind a connection on which bytes were injected.

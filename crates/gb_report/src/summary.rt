@@ -5,6 +5,7 @@ ghost use Rattle.gb_formats.specs.ShowTexts.{summary_text};
 ghost use Rattle.gb_report.specs.Counted.{counts_of};
 
 use crate::lines::{line_of, put_line};
+use crate::part::parts;
 use gb_base::{OutOfMemory, Text};
 use std::alloc::Global;
 
@@ -41,25 +42,27 @@ pub fn put_summary(
     ensures ok { OnOk result (out.new ≡ out.old ++ summary_text lines (counts_of counts.now)) }
     ensures err { OnErr result (out.new ≡ out.old) }
 {
-    let Counts {
-        refused,
-        requests,
-        answered,
-        cancelled,
-        timeout,
-        disconnected,
-        sent,
-        left_open,
-    } = *counts;
-    let rest = line_of(
-        alloc,
-        format_args!(" timeout {timeout} disconnected {disconnected} sent {sent} open {left_open}"),
-    )?;
     let line = line_of(
         alloc,
-        format_args!(
-            "lines {lines} refused {refused} requests {requests} answered {answered} \
-            cancelled {cancelled}{rest}"
+        &parts!(
+            "lines ",
+            lines,
+            " refused ",
+            counts.refused,
+            " requests ",
+            counts.requests,
+            " answered ",
+            counts.answered,
+            " cancelled ",
+            counts.cancelled,
+            " timeout ",
+            counts.timeout,
+            " disconnected ",
+            counts.disconnected,
+            " sent ",
+            counts.sent,
+            " open ",
+            counts.left_open
         ),
     )?;
     put_line(line, out)

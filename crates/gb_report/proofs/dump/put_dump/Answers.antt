@@ -1,7 +1,9 @@
-use Rattle.std.proofs.Common.{arith}
-use Rattle.std.proofs.lemmas.Str.{IsUtf8-from_ascii}
+use Rattle.std.proofs.Common.{◌≡◌, subst, IsAscii, sym, rules}
+use Rattle.gb_formats.specs.Dump.{dump_text}
+use Rattle.gb_report.proofs.DumpAscii.{IsAscii-dump_text}
 use Rattle.gb_report.proofs.dump.put_dump.Goals as goal
 
-pub unwrap-dump-requires : goal.unwrap-dump-requires
-unwrap-dump-requires c =
-    grind (arith, IsUtf8-from_ascii _ c.items.ensures.ascii, c.from_utf8.ensures.cases)
+pub append-requires : goal.append-requires
+append-requires c =
+    let text : c.deref.result.now ≡ dump_text c.args.m.now = search rules in
+    subst IsAscii (sym text) (IsAscii-dump_text c.args.m.now)

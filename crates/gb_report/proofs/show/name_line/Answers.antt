@@ -11,4 +11,4 @@ text_of-requires c =
     = search rules in
     subst IsAscii (sym text)
     (IsAscii-name_line c.args.name.now c.args.number (option_copied c.args.how)
-    c.text.ensures.ascii)
+    c.text-word.ensures.ascii)

@@ -1,0 +1,119 @@
+//! What a line is made of: parts that append themselves to it, one behind the other.
+
+ghost use Rattle.std.specs.Prelude.{◌≡◌, ◌<◌, [], ◌∷◌, ◌++◌, ℕ, List, OnOk};
+ghost use Rattle.std.specs.Fmt.{decimal};
+ghost use Rattle.std.specs.String.{string_bytes};
+
+use gb_base::OutOfMemory;
+
+/// A part of a line.
+pub trait Part {
+    /// What it adds to a line.
+    ghost text: { Self → List ℕ };
+
+    /// Appends the part to a line.
+    fn append_to(&self, line: &mut String) -> Result<(), OutOfMemory>
+        ensures { OnOk result (string_bytes line.new ≡ string_bytes line.old ++ text self.now) };
+}
+
+/// Parts in a row, as pairs of the first one and the others.
+macro_rules! parts {
+    ($part:expr) => { $part };
+    ($part:expr, $($rest:expr),+) => { ($part, parts!($($rest),+)) };
+}
+
+pub(crate) use parts;
+
+impl<A: Part, B: Part> Part for (A, B) {
+    ghost use Rattle.std.specs.Prelude.{◌++◌};
+
+    ghost text = { λ p. A.text p.0 ++ B.text p.1 };
+
+    #[inline]
+    fn append_to(&self, line: &mut String) -> Result<(), OutOfMemory> {
+        self.0.append_to(line)?;
+        self.1.append_to(line)
+    }
+}
+
+impl<P: Part> Part for &P {
+    ghost text = { λ p. P.text p.now };
+
+    #[inline]
+    fn append_to(&self, line: &mut String) -> Result<(), OutOfMemory> {
+        (**self).append_to(line)
+    }
+}
+
+impl Part for &str {
+    ghost text = { λ s. s.now };
+
+    #[inline]
+    fn append_to(&self, line: &mut String) -> Result<(), OutOfMemory> {
+        line.push_str(*self)?;
+        Ok(())
+    }
+}
+
+impl Part for u8 {
+    ghost use Rattle.std.specs.Fmt.{decimal};
+
+    ghost text = { decimal };
+
+    #[inline]
+    fn append_to(&self, line: &mut String) -> Result<(), OutOfMemory> {
+        append_decimal(*self as u64, line)
+    }
+}
+
+impl Part for u16 {
+    ghost use Rattle.std.specs.Fmt.{decimal};
+
+    ghost text = { decimal };
+
+    #[inline]
+    fn append_to(&self, line: &mut String) -> Result<(), OutOfMemory> {
+        append_decimal(*self as u64, line)
+    }
+}
+
+impl Part for u32 {
+    ghost use Rattle.std.specs.Fmt.{decimal};
+
+    ghost text = { decimal };
+
+    #[inline]
+    fn append_to(&self, line: &mut String) -> Result<(), OutOfMemory> {
+        append_decimal(*self as u64, line)
+    }
+}
+
+impl Part for u64 {
+    ghost use Rattle.std.specs.Fmt.{decimal};
+
+    ghost text = { decimal };
+
+    #[inline]
+    fn append_to(&self, line: &mut String) -> Result<(), OutOfMemory> {
+        append_decimal(*self, line)
+    }
+}
+
+/// Appends a number in decimal digits.
+fn append_decimal(number: u64, line: &mut String) -> Result<(), OutOfMemory>
+    ensures { OnOk result (string_bytes line.new ≡ string_bytes line.old ++ decimal number) }
+{
+    let mut buffer = itoa::Buffer::new();
+    line.push_str(buffer.format(number))?;
+    Ok(())
+}
+
+/// Appends an ASCII byte.
+#[inline]
+pub fn append_ascii(byte: u8, line: &mut String) -> Result<(), OutOfMemory>
+    requires { byte < 128 }
+    ensures { OnOk result (string_bytes line.new ≡ string_bytes line.old ++ byte ∷ []) }
+{
+    line.push(byte as char)?;
+    Ok(())
+}
