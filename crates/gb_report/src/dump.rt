@@ -2,8 +2,7 @@
 
 ghost use Rattle.std.specs.Prelude.{◌≡◌, ◌++◌, IfOk, OnOk, OnErr};
 ghost use Rattle.std.specs.String.{string_bytes};
-ghost use Rattle.gb_formats.specs.Dump.{dump_text, manifest_line, stands_as_is};
-ghost use Rattle.gb_formats.specs.Dump.{string_byte_text, string_text};
+ghost use Rattle.gb_formats.specs.Dump.{dump_text, stands_as_is, string_byte_text, string_text};
 
 use crate::digits::Hex;
 use crate::lines::empty_line;
