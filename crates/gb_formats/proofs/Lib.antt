@@ -1,5 +1,4 @@
 pub mod Ascii
-pub mod Hex
 pub mod JudgedValid
 pub mod MadeValid
 pub mod SaidValid
