@@ -1,5 +1,6 @@
 pub mod Bytes
 pub mod Faults
 pub mod Groups
+pub mod Marks
 pub mod Memory
 pub mod Name

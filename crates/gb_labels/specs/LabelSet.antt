@@ -1,6 +1,6 @@
 -- A set of identifiers with the last one that was drawn.
-use Rattle.std.specs.Prelude.{ℕ, ◌/◌, ◌%◌, ◌==◌, Bool, Option, List, slice_index}
-use Rattle.std.specs.Int.{bit_at}
+use Rattle.std.specs.Prelude.{ℕ, Bool, Option, List}
+use Rattle.gb_base.specs.Marks.{is_marked}
 use Rattle.gb_machine.specs.Labels.{free_label, greatest_label, label_after}
 
 -- The identifiers in use on one side of a connection, as bits in words of 64, and the last one that
@@ -8,10 +8,6 @@ use Rattle.gb_machine.specs.Labels.{free_label, greatest_label, label_after}
 pub record LabelSet : Type 0 where
   pub words : List ℕ
   pub last : ℕ
-
--- an identifier's bit is set
-abbrev pub is_marked : List ℕ → ℕ → Bool
-is_marked words label = bit_at (slice_index words (label / 64)) (label % 64) == 1
 
 -- An identifier is in use.
 abbrev pub is_in_use : LabelSet → ℕ → Bool

@@ -5,6 +5,7 @@ pub mod Fronts
 pub mod Gathered
 pub mod Law
 pub mod Listing
+pub mod Marks
 pub mod Places
 pub mod PlainBytes
 pub mod Spelt

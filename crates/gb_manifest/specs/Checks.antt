@@ -33,6 +33,6 @@ pub record Declares (walk : Result (List Placed) rules.Refused) (x : Declared) :
   pub declared_are : AreDeclared x all
 
 -- By cases on the answer: what the walk's descriptors declare, or the walk's refusal.
-abbrev pub Gathers : Result (List Placed) rules.Refused → Result Declared Refused → Type 0
-Gathers walk (Ok x) = Declares walk x
-Gathers walk (Err why) = walk ≡ Err (refused_of why)
+abbrev pub Gathers : Result (List Placed) rules.Refused → Declared → Result Unit Refused → Type 0
+Gathers walk x (Ok done) = Declares walk x
+Gathers walk x (Err why) = walk ≡ Err (refused_of why)

@@ -1,12 +1,13 @@
 -- Marks and places.
-use Rattle.std.specs.Prelude.{ℕ, Bool, false, if◌then◌else◌, Option, Some, None, List, get_or}
+use Rattle.std.specs.Prelude.{ℕ, Bool, if◌then◌else◌, Option, Some, None, List}
 use Rattle.std.specs.Option.{option_or}
+use Rattle.gb_base.specs.Marks.{is_marked}
 use Rattle.gb_formats.specs.Descriptors.{Descriptor}
 use Rattle.gb_formats.specs.ManifestRules.{Placed}
 
 -- whether an identifier has a mark
-abbrev pub is_met : List Bool → ℕ → Bool
-is_met marks id = get_or marks id false
+abbrev pub is_met : List ℕ → ℕ → Bool
+is_met marks id = is_marked marks id
 
 -- the place of the first breach: the earlier one, else this place where the rule is broken here
 abbrev pub first_place : Option ℕ → Bool → ℕ → Option ℕ

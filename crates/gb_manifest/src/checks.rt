@@ -1,6 +1,6 @@
 //! Which bytes are a manifest.
 
-ghost use Rattle.std.specs.Prelude.{◌≡◌, ◌↔◌, None, Ok, List, IfOk, IsOkAnd};
+ghost use Rattle.std.specs.Prelude.{◌≡◌, ◌↔◌, None, Ok, List, [], IfOk, IsOkAnd};
 ghost use Rattle.gb_formats.specs.Manifest as formats;
 ghost use Rattle.gb_formats.specs.Manifest.{IsManifest, check_answer, refusal};
 ghost use Rattle.gb_formats.specs.ManifestRules.{Placed};
@@ -46,7 +46,8 @@ fn checked(bytes: &[u8]) -> Result<Manifest<'_>, Refused>
     let size = header(bytes)?;
     let (_, rest) = bytes.split_at(HEADER);
     let walk = Walk::new(HEADER as u32, rest);
-    let declared = gather(walk)?;
+    let mut declared = Declared::new();
+    gather(walk, &mut declared)?;
     let undeclared = undeclared(walk, &declared);
     match rules_refusal(size as u32, &declared, &undeclared) {
         Some(refused) => Err(refused),
@@ -72,15 +73,15 @@ fn header(bytes: &[u8]) -> Result<u16, Refused>
 }
 
 /// What the descriptors of a walk declare, or the refusal of the first that isn't one.
-fn gather(walk: Walk<'_>) -> Result<Declared, Refused>
-    ensures { Gathers (walk_of walk.entry) result }
+fn gather(walk: Walk<'_>, declared: &mut Declared) -> Result<(), Refused>
+    requires { AreDeclared declared.old [] }
+    ensures { Gathers (walk_of walk.entry) declared.new result }
 {
     let mut walk = walk;
-    let mut declared = Declared::new();
     while let Some((at, d)) = walk.next()? {
         declared.take(at, &d);
     }
-    Ok(declared)
+    Ok(())
 }
 
 /// What the descriptors of a walk speak of, where they declare this.

@@ -13,14 +13,14 @@ use crate::breach::first_place;
 use crate::descriptor::Descriptor;
 use crate::ids::Ids;
 
-/// How many ids a byte has.
-const BYTE_IDS: usize = 256;
+/// How many words of 64 marks the ids of a byte have.
+const BYTE_WORDS: usize = 4;
 
 /// The greatest id of a CPort.
 const GREATEST_CPORT: usize = 4_095;
 
-/// How many ids CPorts may have.
-const CPORT_IDS: usize = 4_096;
+/// How many words of 64 marks the ids of CPorts have.
+const CPORT_WORDS: usize = 64;
 
 /// The protocol of Control.
 const CONTROL: u8 = 0;
@@ -37,7 +37,7 @@ pub struct MetInterfaces {
 /// The strings.
 #[derive(Drop)]
 pub struct MetStrings {
-    met: Ids<BYTE_IDS>,
+    met: Ids<BYTE_WORDS>,
     /// The place of the first with id 0.
     pub zero: Option<u32>,
     /// The place of the first whose id an earlier one has.
@@ -47,7 +47,7 @@ pub struct MetStrings {
 /// The bundles.
 #[derive(Drop)]
 pub struct MetBundles {
-    met: Ids<BYTE_IDS>,
+    met: Ids<BYTE_WORDS>,
     /// The place of the first whose id an earlier one has.
     pub twice: Option<u32>,
 }
@@ -55,7 +55,7 @@ pub struct MetBundles {
 /// The CPorts. Ids above the greatest are not kept.
 #[derive(Drop)]
 pub struct MetCports {
-    met: Ids<CPORT_IDS>,
+    met: Ids<CPORT_WORDS>,
     /// The place of the first whose id is above the greatest.
     pub above: Option<u32>,
     /// The place of the first whose id an earlier one has, where no id is above the greatest.

@@ -6,22 +6,22 @@ use Rattle.gb_manifest.specs.Walks.{descriptors_in, walk_from}
 use Rattle.gb_manifest.proofs.Checked.{answer_descriptor, answer_rules, manifest_is}
 use Rattle.gb_manifest.proofs.checks.checked.Goals as goal
 
-pub returns-in_err-declared : goal.returns-in_err-declared
-returns-in_err-declared c =
+pub returns-in_err-gather : goal.returns-in_err-gather
+returns-in_err-gather c =
     let walk_is =
     ap (λ xs. walk_from 4 xs) (sym c.split_at.ensures.back) ∙ sym c.new-walk.ensures in
-    let p = err_from_is_err_and c.from_residual-in_err-declared.result
-    c.from_residual-in_err-declared.ensures.1 in
+    let p = err_from_is_err_and c.from_residual-in_err-gather.result
+    c.from_residual-in_err-gather.ensures.1 in
     rw (p.1, p.2)
     (answer_descriptor c.args.bytes.now _ c.in_ok-size.ensures.sound
-    (walk_is ∙ c.in_err-declared.ensures))
+    (walk_is ∙ c.in_err-gather.ensures))
 
 pub returns-in-Some : goal.returns-in-Some
 returns-in-Some c =
     let walk_is =
     ap (λ xs. walk_from 4 xs) (sym c.split_at.ensures.back) ∙ sym c.new-walk.ensures in
     let header = c.in_ok-size.ensures in
-    let declares = c.in_ok-declared.ensures in
+    let declares = c.in_ok-gather.ensures in
     let all = declares.all in
     let undeclared = c.undeclared-undeclared.ensures all declares.whole declares.declared_are in
     let ruled = c.rules_refusal.ensures all declares.declared_are undeclared in
@@ -36,7 +36,7 @@ returns-in-None c =
     let walk_is =
     ap (λ xs. walk_from 4 xs) (sym c.split_at.ensures.back) ∙ sym c.new-walk.ensures in
     let header = c.in_ok-size.ensures in
-    let declares = c.in_ok-declared.ensures in
+    let declares = c.in_ok-gather.ensures in
     let all = declares.all in
     let undeclared = c.undeclared-undeclared.ensures all declares.whole declares.declared_are in
     let ruled = c.rules_refusal.ensures all declares.declared_are undeclared in

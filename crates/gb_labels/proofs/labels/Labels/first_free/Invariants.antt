@@ -1,7 +1,7 @@
 -- All identifiers from the first one on up to where it looks next are in use.
 use Rattle.std.proofs.Common.{◌≤◌, ◌+◌, ◌*◌, ◌<◌}
 use Rattle.gb_labels.specs.Drawing.{AreUsed}
-use Rattle.gb_labels.specs.LabelSet.{is_marked}
+use Rattle.gb_base.specs.Marks.{is_marked}
 use Rattle.gb_labels.proofs.labels.Labels.first_free.Given as goal
 
 abbrev pub invariant-loop-i : goal.invariant-loop-i
