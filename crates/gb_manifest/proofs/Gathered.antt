@@ -1,6 +1,6 @@
 -- Descriptors that were passed, and those that a walk has before it.
 use Rattle.std.proofs.Common.{◌≡◌, List, [], ◌∷◌, ◌++◌, Result, Ok, Err, refl, sym, ap, ◌∙◌}
-use Rattle.std.proofs.Common.{append_assoc}
+use Rattle.std.proofs.Common.{append_assoc, append-nil}
 use Rattle.gb_formats.specs.Manifest.{in_front}
 use Rattle.gb_formats.specs.ManifestRules.{Placed, Refused}
 
@@ -22,3 +22,9 @@ behind-more before d (Err why) = refl
 pub behind_passed : (before : List Placed) (d : Placed) (all old new : Result (List Placed) Refused)
     → all ≡ behind before old → old ≡ in_front d new → all ≡ behind (before ++ d ∷ []) new
 behind_passed before d all old new e p = e ∙ ap (λ r. behind before r) p ∙ behind-more before d new
+
+-- all were passed
+pub behind_ended : (before : List Placed) (all walk : Result (List Placed) Refused)
+    → all ≡ behind before walk → walk ≡ Ok [] → all ≡ Ok before
+behind_ended before all walk e ended =
+    e ∙ ap (λ r. behind before r) ended ∙ ap (λ xs. Ok xs) (append-nil before)

@@ -1,11 +1,16 @@
 -- A walk, one descriptor at a time.
 use Rattle.std.proofs.Common.{◌≡◌, ◌≢◌, ℕ, zero, suc, ◌+◌, ◌-◌, ◌≤◌, List, [], ◌∷◌, length, drop}
-use Rattle.std.proofs.Common.{Some, None, Ok, Err, refl, ap, ◌∙◌, arith}
+use Rattle.std.proofs.Common.{Option, Some, None, Result, Ok, Err, refl, ap, ◌∙◌, arith}
+use Rattle.std.specs.Result.{IsOk, is_ok}
 use Rattle.gb_formats.specs.Descriptors.{descriptor_at, size_at}
 use Rattle.gb_formats.specs.Manifest.{descriptor_refusal, descriptors_from, descriptor_then}
 use Rattle.gb_formats.specs.Manifest.{in_front}
-use Rattle.gb_formats.specs.ManifestRules.{Refused}
-use Rattle.gb_manifest.specs.Walks.{walk_from}
+use Rattle.gb_formats.specs.ManifestRules.{Placed, Refused}
+use Rattle.gb_manifest.specs.Walks.{FrontIs, IsSized, SizesNext, walk_from}
+use Rattle.gb_manifest.specs.Values.{refused_of}
+use Rattle.gb_manifest.specs.declared.refusal.Refused as code
+use Rattle.gb_manifest.specs.declared.walk.Walk.{Walk}
+use Rattle.gb_manifest.proofs.Spelt.{sound}
 
 -- bytes are passed over one by one or all at once
 pub descriptors_from-skip : (skip at : ℕ) (bytes : List ℕ)
@@ -56,3 +61,32 @@ length-none (x ∷ xs) e = absurd (omega (arith, e))
 
 pub length-some : (xs : List ℕ) → length xs ≢ 0 → xs ≢ []
 length-some xs h e = h (ap length e)
+
+-- what a walk that meets no refusal has at its front
+pub front_sound : (at : ℕ) (bytes : List ℕ) → bytes ≢ [] → IsOk (walk_from at bytes)
+    → FrontIs at bytes (size_at bytes)
+front_sound at bytes some ok =
+    let none = by (descriptor_refusal at bytes) refl in
+    let front = sound at bytes none in record {
+      sound = none;
+      size_is = refl;
+      eight = front.eight;
+      least = front.least;
+      within = front.within;
+    }
+  where
+    by : (r : Option Refused) → descriptor_refusal at bytes ≡ r → r ≡ None
+    by None e = refl
+    by (Some why) e = absurd (cc (ap is_ok (walk_from-refused at bytes why some e), ok))
+
+-- it meets none behind that either
+pub rest_sound : (d : Placed) (old new : Result (List Placed) Refused) → old ≡ in_front d new
+    → IsOk old → IsOk new
+rest_sound d old (Ok ds) e ok = refl
+rest_sound d old (Err why) e ok = absurd (cc (e, ok))
+
+-- the size of the descriptor at the front, or the walk's refusal
+pub sizes_next : (w : Walk) (r : Result ℕ code.Refused) → length w.rest.now ≢ 0
+    → IsSized w.at w.rest.now r → SizesNext w r
+sizes_next w (Ok size) some h = h
+sizes_next w (Err why) some h = walk_from-refused _ _ (refused_of why) (length-some _ some) h

@@ -41,11 +41,15 @@ pub record Passes (old new : Walk) (d : ℕ × Descriptor) : Type 0 where
   pub passed : walk_of old ≡ in_front (placed_of d) (walk_of new)
   pub shorter : length new.rest.now < length old.rest.now
 
--- By cases on the answer: the walk had this descriptor in front, or none, or a refusal.
-abbrev pub GoesOn : Walk → Walk → Result (Option (ℕ × Descriptor)) Refused → Type 0
-GoesOn old new (Ok (Some d)) = Passes old new d
-GoesOn old new (Ok None) = (walk_of old ≡ Ok []) × (new ≡ old)
-GoesOn old new (Err why) = (walk_of old ≡ Err (refused_of why)) × (new ≡ old)
+-- By cases on the answer: the size of the descriptor at the front, or the walk's refusal.
+abbrev pub SizesNext : Walk → Result ℕ Refused → Type 0
+SizesNext w (Ok size) = FrontIs w.at w.rest.now size
+SizesNext w (Err why) = walk_of w ≡ Err (refused_of why)
+
+-- By cases on the answer: the walk had this descriptor in front, or none.
+abbrev pub GoesOn : Walk → Walk → Option (ℕ × Descriptor) → Type 0
+GoesOn old new (Some d) = Passes old new d
+GoesOn old new None = (walk_of old ≡ Ok []) × (new ≡ old)
 
 -- the descriptors of a walk that meets no refusal
 abbrev pub descriptors_in : Result (List Placed) rules.Refused → List formats.Descriptor

@@ -1,6 +1,6 @@
 //! Which bytes are a manifest.
 
-ghost use Rattle.std.specs.Prelude.{◌≡◌, ◌↔◌, None, Ok, List, [], IfOk, IsOkAnd};
+ghost use Rattle.std.specs.Prelude.{◌≡◌, ◌↔◌, None, Ok, List, [], IfOk, IsOk, IsOkAnd};
 ghost use Rattle.gb_formats.specs.Manifest as formats;
 ghost use Rattle.gb_formats.specs.Manifest.{IsManifest, check_answer, refusal};
 ghost use Rattle.gb_formats.specs.ManifestRules.{Placed};
@@ -78,7 +78,9 @@ fn gather(walk: Walk<'_>, declared: &mut Declared) -> Result<(), Refused>
     ensures { Gathers (walk_of walk.entry) declared.new result }
 {
     let mut walk = walk;
-    while let Some((at, d)) = walk.next()? {
+    while !walk.is_done() {
+        let size = walk.size()?;
+        let (at, d) = walk.pass(size);
         declared.take(at, &d);
     }
     Ok(())
@@ -86,12 +88,13 @@ fn gather(walk: Walk<'_>, declared: &mut Declared) -> Result<(), Refused>
 
 /// What the descriptors of a walk speak of, where they declare this.
 fn undeclared(walk: Walk<'_>, declared: &Declared) -> Undeclared
+    requires { IsOk (walk_of walk) }
     ensures { (all : List Placed) → walk_of walk.entry ≡ Ok all → AreDeclared declared.now all
         → AreUndeclared result all all }
 {
     let mut walk = walk;
     let mut undeclared = Undeclared::new();
-    while let Ok(Some((at, d))) = walk.next() {
+    while let Some((at, d)) = walk.next() {
         undeclared.take(declared, at, &d);
     }
     undeclared

@@ -54,9 +54,8 @@ impl<'a> Iterator for Descriptors<'a> {
 
     fn next(&mut self) -> Option<Descriptor<'a>> {
         match self.walk.next() {
-            Ok(Some((_, d))) => Some(d),
-            Ok(None) => None,
-            Err(_) => unreachable!(),
+            Some((_, d)) => Some(d),
+            None => None,
         }
     }
 }

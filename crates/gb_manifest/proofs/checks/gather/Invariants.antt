@@ -6,12 +6,12 @@ use Rattle.gb_manifest.specs.Walks.{walk_of}
 use Rattle.gb_manifest.proofs.Gathered.{behind}
 use Rattle.gb_manifest.proofs.checks.gather.Given as goal
 
-abbrev pub invariant-loop-at : goal.invariant-loop-at
-invariant-loop-at l = record {
+abbrev pub invariant-loop-walk : goal.invariant-loop-walk
+invariant-loop-walk l = record {
   before : List Placed;
   walked : walk_of l.fn.walk ≡ behind before (walk_of l.walk);
   known : AreDeclared l.declared before;
 }
 
-abbrev pub decreases-loop-at : goal.decreases-loop-at
-decreases-loop-at l = length l.walk.rest.now
+abbrev pub decreases-loop-walk : goal.decreases-loop-walk
+decreases-loop-walk l = length l.walk.rest.now

@@ -7,15 +7,16 @@ pub loop-at-init : goal.loop-at-init
 loop-at-init c = record {
   before = [];
   walked = behind-none _;
+  sound = c.requires;
   known = λ all h. c.new-undeclared.ensures all;
 }
 
 pub loop-at-preserved : goal.loop-at-preserved
 loop-at-preserved c =
     let inv = c.loop-at.invariant in
-    let passed = rw c.in-Ok-Some.field-0-is at c.in-Ok-Some.ensures in
     record {
-      before = inv.before ++ placed_of (c.in-Ok-Some.at, c.in-Ok-Some.d) ∷ [];
-      walked = behind_passed _ _ _ _ _ inv.walked passed.passed;
+      before = inv.before ++ placed_of (c.in-Some.at, c.in-Some.d) ∷ [];
+      walked = behind_passed _ _ _ _ _ inv.walked c.in-Some.ensures.next.passed;
+      sound = c.in-Some.ensures.sound;
       known = λ all h. c.take.ensures all inv.before h (inv.known all h);
     }
