@@ -9,26 +9,24 @@ use Rattle.std.specs.Ordering.{is_eq, is_gt, nat_cmp, ordering_then}
 use Rattle.gb_base.specs.declared.end.End.{End}
 use Rattle.gb_base.specs.declared.end.End.TheVariants as end
 use Rattle.gb_machine.specs.Waiting.{end_before}
-use Rattle.gb_switch.specs.Places.{end_cmp, end_total, key_of}
+use Rattle.gb_switch.specs.Places.{end_cmp, end_total, key_of, same_key}
 
 -- ---- ends that compare equal
 
-same-key : (a b : End) → key_of a ≡ key_of b → a ≡ b
-same-key end.Svc end.Svc e = refl
-same-key end.Svc (end.Ap b) e = absurd (cc e)
-same-key end.Svc (end.Module j d) e = absurd (cc e)
-same-key (end.Ap a) end.Svc e = absurd (cc e)
-same-key (end.Ap a) (end.Ap b) e = cc e
-same-key (end.Ap a) (end.Module j d) e = absurd (cc e)
-same-key (end.Module i c) end.Svc e = absurd (cc e)
-same-key (end.Module i c) (end.Ap b) e = absurd (cc e)
-same-key (end.Module i c) (end.Module j d) e = cc e
+one-key : (a b : End) → key_of a ≡ key_of b → a ≡ b
+one-key end.Svc end.Svc e = refl
+one-key end.Svc (end.Ap b) e = absurd (cc e)
+one-key end.Svc (end.Module j d) e = absurd (cc e)
+one-key (end.Ap a) end.Svc e = absurd (cc e)
+one-key (end.Ap a) (end.Ap b) e = cc e
+one-key (end.Ap a) (end.Module j d) e = absurd (cc e)
+one-key (end.Module i c) end.Svc e = absurd (cc e)
+one-key (end.Module i c) (end.Ap b) e = absurd (cc e)
+one-key (end.Module i c) (end.Module j d) e = cc e
 
 -- ends that compare equal are one
 pub cmp-same : (a b : End) → is_eq (end_cmp a b) ≡ true → a ≡ b
-cmp-same a b e =
-    same-key a b (slice_cmp-IsAntisymmetric nat_cmp-IsAntisymmetric (key_of a) (key_of b)
-    ((Equal-is (end_cmp a b)).0 e))
+cmp-same a b e = one-key a b (same_key a b e)
 
 pub cmp-own : (a : End) → is_eq (end_cmp a a) ≡ true
 cmp-own a = ap is_eq (tied_itself end_total a)

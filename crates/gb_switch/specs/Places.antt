@@ -1,9 +1,11 @@
 -- The order in which queues are settled, and the numbers by which it is kept.
 use Rattle.std.specs.Prelude.{◌≡◌, ◌<◌, ℕ, ◌+◌, ◌-◌, ◌*◌, ◌/◌, ◌%◌, ◌==◌, nat_lt, if◌then◌else◌}
-use Rattle.std.specs.Prelude.{List, [], ◌∷◌}
-use Rattle.std.specs.Cmp.{IsTotalOrder}
+use Rattle.std.proofs.Common.{ap, refl, sym, ◌∙◌}
+use Rattle.std.specs.Prelude.{List, [], ◌∷◌, slice_index, true}
+use Rattle.std.specs.Cmp.{Equal-is, IsTotalOrder}
 use Rattle.std.specs.Cmp.Lexicographic.{on_texts, slice_cmp}
-use Rattle.std.specs.Ordering.{nat_cmp}
+use Rattle.std.specs.FinMap.{nat_cmp-IsAntisymmetric, slice_cmp-IsAntisymmetric}
+use Rattle.std.specs.Ordering.{eq_by_cmp, nat_cmp}
 use Rattle.std.specs.declared.cmp.Ordering.{Ordering}
 use Rattle.gb_base.specs.declared.end.End.{End}
 use Rattle.gb_base.specs.declared.end.End.TheVariants as end
@@ -40,3 +42,25 @@ end_of n =
 pub record IsCode (n : ℕ) : Type 0 where
   pub own : code_of (end_of n) ≡ n
   pub below : n < 65537 + 256 * 65536
+
+-- ends that compare equal have one key
+pub same_key : (a b : End) → eq_by_cmp end_cmp a b ≡ true → key_of a ≡ key_of b
+same_key a b e =
+    slice_cmp-IsAntisymmetric nat_cmp-IsAntisymmetric (key_of a) (key_of b)
+    ((Equal-is (end_cmp a b)).0 e)
+
+-- the number of the end that has a key
+abbrev code_by : List ℕ → ℕ
+code_by key =
+    if slice_index key 0 == 0 then 0
+    else if slice_index key 0 == 1 then 1 + slice_index key 1
+    else 65537 + slice_index key 1 * 65536 + slice_index key 2
+
+by_key : (at : End) → code_of at ≡ code_by (key_of at)
+by_key end.Svc = refl
+by_key (end.Ap a) = refl
+by_key (end.Module i c) = refl
+
+-- and so one number
+pub same_code : (a b : End) → eq_by_cmp end_cmp a b ≡ true → code_of a ≡ code_of b
+same_code a b e = by_key a ∙ ap code_by (same_key a b e) ∙ sym (by_key b)

@@ -1,12 +1,15 @@
 //! Ends in the order in which queues are settled.
 
+ghost use Rattle.std.proofs.Common.{ap};
 ghost use Rattle.std.specs.Prelude.{◌≡◌, Some, refl};
 ghost use Rattle.std.specs.Cmp as order;
+ghost use Rattle.std.specs.Hash as fed;
 ghost use Rattle.std.specs.Ordering.{eq_by_cmp};
-ghost use Rattle.gb_switch.specs.Places.{end_cmp, end_total};
+ghost use Rattle.gb_switch.specs.Places.{code_of, end_cmp, end_total, same_code};
 
 use gb_base::End;
 use std::cmp::Ordering;
+use std::hash::{Hash, Hasher};
 use std::marker::Model;
 
 /// The number of CPort 0 at interface 0, behind those of the application processor.
@@ -85,6 +88,17 @@ impl PartialEq for Place {
 
 impl Eq for Place {
     ghost laws = { order.eq_by_cmp_equiv end_total };
+}
+
+impl Hash for Place {
+    ghost hash_input = { λ at. fed.u32 (code_of at) };
+
+    ghost respects_eq = { λ a b e. ap fed.u32 (same_code a b e) };
+
+    #[inline]
+    fn hash<H: Hasher>(&self, state: &mut H) {
+        self.code.hash(state);
+    }
 }
 
 impl PartialOrd for Place {
