@@ -16,8 +16,8 @@ pub fn put_accepted(alloc: Global, m: &Manifest<'_>, out: &mut Text) -> Result<(
     ensures ok { OnOk result (out.new ≡ out.old ++ check_text m.now) }
     ensures err { OnErr result (out.new ≡ out.old) }
 {
-    let line = line_of(alloc, &parts!("manifest ok ", m.size()))?;
-    put_line(line, out)
+    let mut line = line_of(alloc, &parts!("manifest ok ", m.size()))?;
+    put_line(&mut line, out)
 }
 
 /// Appends `refused`, the place and the reason. After a refusal `out` is as before.
@@ -26,6 +26,6 @@ pub fn put_refused(alloc: Global, why: &Refused, out: &mut Text) -> Result<(), O
     ensures err { OnErr result (out.new ≡ out.old) }
 {
     let reason = reason_name(why.reason);
-    let line = line_of(alloc, &parts!("refused ", why.at, " ", reason))?;
-    put_line(line, out)
+    let mut line = line_of(alloc, &parts!("refused ", why.at, " ", reason))?;
+    put_line(&mut line, out)
 }

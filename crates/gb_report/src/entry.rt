@@ -1,31 +1,24 @@
 //! The line of each entry.
 
-ghost use Rattle.std.specs.Prelude.{◌≡◌, ◌++◌, ℕ, Bool, true, List, IfOk, OnOk, IsAscii};
+ghost use Rattle.std.specs.Prelude.{◌≡◌, ◌++◌, ℕ, Bool, true, List, OnOk, IsAscii};
 ghost use Rattle.std.specs.String.{string_bytes};
 ghost use Rattle.gb_formats.specs.Texts.{entry_line};
 ghost use Rattle.gb_base.specs.Groups.{is_device, is_link, is_message, is_raw, is_request};
 
 use crate::digits::{Digits, Hex};
-use crate::lines::empty_line;
 use crate::names::{lost_mark, reason_name, refusal_name, stage_name, state_name};
 use crate::part::{Part, parts};
 use crate::parts::{Dropped, Item, Size, Way};
 use gb_base::{Entry, OutOfMemory};
-use std::alloc::Global;
 use std::str;
 
-/// The line of an entry, without its end.
-pub fn entry_line(alloc: Global, entry: &Entry, line: u32, hex: bool) -> Result<String, OutOfMemory>
-    ensures text { IfOk result (λ s. string_bytes s ≡ entry_line line hex entry.now) }
-    ensures ascii { OnOk result ((shown : List ℕ) → entry.now ≡ Entry.Shown shown → IsAscii shown) }
-{
-    let mut text = empty_line(alloc)?;
-    append_entry(entry, line, hex, &mut text)?;
-    Ok(text)
-}
-
-/// Appends the line of an entry.
-fn append_entry(entry: &Entry, line: u32, hex: bool, out: &mut String) -> Result<(), OutOfMemory>
+/// Appends the line of an entry, without its end.
+pub fn append_entry(
+    entry: &Entry,
+    line: u32,
+    hex: bool,
+    out: &mut String,
+) -> Result<(), OutOfMemory>
     ensures text { OnOk result
         (string_bytes out.new ≡ string_bytes out.old ++ entry_line line hex entry.now) }
     ensures ascii { OnOk result ((shown : List ℕ) → entry.now ≡ Entry.Shown shown → IsAscii shown) }

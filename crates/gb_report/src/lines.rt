@@ -27,13 +27,12 @@ pub fn line_of<P: Part>(alloc: Global, parts: &P) -> Result<String, OutOfMemory>
     Ok(line)
 }
 
-/// Appends a line and its end. After a refusal `out` is as before.
-pub fn put_line(line: String, out: &mut Text) -> Result<(), OutOfMemory>
-    requires { IsAscii (ended (string_bytes line)) }
-    ensures ok { OnOk result (out.new ≡ out.old ++ ended (string_bytes line)) }
+/// Appends a line and its end, which `line` then has too. After a refusal `out` is as before.
+pub fn put_line(line: &mut String, out: &mut Text) -> Result<(), OutOfMemory>
+    requires { IsAscii (ended (string_bytes line.old)) }
+    ensures ok { OnOk result (out.new ≡ out.old ++ ended (string_bytes line.old)) }
     ensures err { OnErr result (out.new ≡ out.old) }
 {
-    let mut line = line;
     line.push('\n')?;
-    out.append(&line)
+    out.append(line)
 }

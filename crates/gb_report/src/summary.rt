@@ -42,7 +42,7 @@ pub fn put_summary(
     ensures ok { OnOk result (out.new ≡ out.old ++ summary_text lines (counts_of counts.now)) }
     ensures err { OnErr result (out.new ≡ out.old) }
 {
-    let line = line_of(
+    let mut line = line_of(
         alloc,
         &parts!(
             "lines ",
@@ -65,5 +65,5 @@ pub fn put_summary(
             counts.left_open
         ),
     )?;
-    put_line(line, out)
+    put_line(&mut line, out)
 }
