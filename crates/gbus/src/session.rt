@@ -1,13 +1,12 @@
 //! A script that is being run.
 
-ghost use Rattle.std.specs.Prelude.{◌≡◌, ◌+◌, ◌<◌, ◌≤◌, ℕ, List, [], ◌++◌, IfOk, OnOk};
-ghost use Rattle.gb_formats.specs.Texts.{entries_text};
+ghost use Rattle.std.specs.Prelude.{◌≡◌, ◌+◌, ◌<◌, ◌≤◌, ℕ, List, [], IfOk, OnOk};
 ghost use Rattle.gb_machine.specs.State.{State, first_state};
 ghost use Rattle.gb_script.specs.Readers.{IsLineOf};
 ghost use Rattle.gb_system.specs.Stands.{taken_of};
 
-use gb_base::{Entries, LineReason, OutOfMemory, Text};
-use gb_report::{put, put_refusal};
+use gb_base::{LineReason, OutOfMemory, Text};
+use gb_report::{put_all, put_refusal};
 use gb_script::{Line, LineFault, event};
 use gb_system::System;
 use std::alloc::Global;
@@ -71,7 +70,13 @@ impl Session {
             Ok(None) => Ok(Turn::Next),
             Ok(Some(e)) => {
                 let entries = self.system.step(&e)?;
-                put_all(self.alloc, &entries, self.number, self.hex, &mut self.text)?;
+                put_all(
+                    self.alloc,
+                    entries.items(),
+                    self.number,
+                    self.hex,
+                    &mut self.text,
+                )?;
                 Ok(Turn::Next)
             }
             Err(LineFault::Bad(why)) => {
@@ -88,21 +93,4 @@ impl Session {
     {
         self.text.items()
     }
-}
-
-/// Appends the texts of entries.
-fn put_all(
-    alloc: Global,
-    entries: &Entries,
-    line: u32,
-    hex: bool,
-    out: &mut Text,
-) -> Result<(), OutOfMemory>
-    ensures { OnOk result (out.new ≡ out.old ++ entries_text line hex entries.now) }
-{
-    let items = entries.items();
-    for entry in items {
-        put(alloc, entry, line, hex, out)?;
-    }
-    Ok(())
 }

@@ -28,8 +28,9 @@ returns-in_ok-put_all-in-Ok-Some-clause-turn c = λ s whole st is.
     ∙ c.in-Ok-Some.ensures ∙ ap Ok c.in-Ok-Some.field-0-is)
     (c.in_ok-entries-in-Ok-Some.ensures.step s st)
     (c.in_ok-put_all-in-Ok-Some.ensures
-    ∙ ap (λ t. t ++ entries_text c.args.line.number c.args.self.now.hex
-    c.in_ok-entries-in-Ok-Some.entries) c.clear.ensures)
+    ∙ ap (λ t. t ++ entries_text c.args.line.number c.args.self.now.hex c.items.result.now)
+    c.clear.ensures
+    ∙ ap (entries_text c.args.line.number c.args.self.now.hex) c.items.ensures)
 
 pub returns-in_ok-put_refusal-in-Err-Bad-clause-turn :
     goal.returns-in_ok-put_refusal-in-Err-Bad-clause-turn

@@ -1,9 +1,0 @@
--- The text so far and the texts of the entries that are left are the whole.
-use Rattle.std.proofs.Common.{◌≡◌, ◌++◌, drop}
-use Rattle.gb_formats.specs.Texts.{entries_text}
-use Rattle.gbus.proofs.session.put_all.Given as goal
-
-abbrev pub invariant-loop-entry : goal.invariant-loop-entry
-invariant-loop-entry l =
-    l.out ++ entries_text l.line l.hex (drop l.entry-index l.items) ≡ l.initial.out
-    ++ entries_text l.line l.hex l.items
