@@ -6,7 +6,9 @@ ghost use Rattle.gb_system.specs.Held.{HoldsAs, TakesAs, held_at};
 use gb_base::{Bytes, OutOfMemory};
 use gb_bus::Asked;
 use std::alloc::Global;
+use std::boxed::Box;
 use std::collections::{BTreeMap, VecDeque};
+use std::marker::Model;
 
 /// A request that was delivered to a module's CPort, and waits to be answered.
 #[derive(Drop)]
@@ -17,12 +19,27 @@ pub struct HeldRequest {
     pub payload: Bytes,
 }
 
+/// A request in a queue of which the middle is taken: what moves up then is small. A contract sees
+/// the request.
+#[derive(Drop)]
+struct Boxed {
+    request: Box<HeldRequest>,
+}
+
+impl Model for Boxed {
+    ghost use Rattle.gb_system.specs.declared.held.HeldRequest.{HeldRequest};
+
+    ghost Value = { HeldRequest };
+
+    ghost view = { λ b. b.request.value };
+}
+
 /// The requests that wait to be answered: those of each connection in the order in which they were
 /// delivered.
 #[derive(Drop)]
 pub struct HeldRequests {
     alloc: Global,
-    held: BTreeMap<u64, VecDeque<HeldRequest>>,
+    held: BTreeMap<u64, VecDeque<Boxed>>,
 }
 
 impl HeldRequests {
@@ -42,12 +59,14 @@ impl HeldRequests {
     pub fn push(&mut self, k: u64, request: HeldRequest) -> Result<(), OutOfMemory>
         ensures { OnOk result (HoldsAs self.old self.new k (held_at self.old k ++ request ∷ [])) }
     {
+        let request = Box::new(self.alloc, request)?;
+        let boxed = Boxed { request };
         if let Some(requests) = self.held.get_mut(&k) {
-            requests.push_back(request)?;
+            requests.push_back(boxed)?;
             return Ok(());
         }
         let mut first = VecDeque::new(self.alloc);
-        first.push_back(request)?;
+        first.push_back(boxed)?;
         self.held.insert(k, first)?;
         Ok(())
     }
@@ -59,7 +78,8 @@ impl HeldRequests {
         ensures { TakesAs self.old self.new k place result }
     {
         let requests = self.held.get_mut(&k)?;
-        requests.remove((place - 1) as usize)
+        let boxed = requests.remove((place - 1) as usize)?;
+        Some(Box::into_inner(boxed.request))
     }
 
     /// What is held on a connection is lost.
