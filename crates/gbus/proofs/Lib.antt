@@ -1,4 +1,5 @@
 pub mod Driving
+pub mod Endings
 pub mod Fronts
 pub mod Gathering
 pub mod Limits
