@@ -4,16 +4,17 @@ use Rattle.std.proofs.Common.{option_map, IsSome, is_some, List, [], ◌∷◌, 
 use Rattle.std.proofs.Common.{Ok, Err}
 use Rattle.std.proofs.Common.{OnErr, OnOk, refl, sym, ap, ◌∙◌, ⊎_elim, subst, ◌<◌, arith}
 use Rattle.std.proofs.lemmas.Bool.{true≢false}
-use Rattle.std.specs.BTreeMap.{BTreeMap, WritesThrough, get, is_at}
+use Rattle.std.specs.BTreeMap.{is_at}
 use Rattle.std.specs.BTreeSet.{BTreeSet, IsLowerBound, btree_set_len, contains}
+use Rattle.std.specs.HashMap.{WritesThrough}
 use Rattle.std.specs.List.{list_any}
 use Rattle.std.specs.Map.{lookup}
-use Rattle.std.specs.Ordering.{is_eq, is_gt}
+use Rattle.std.specs.Ordering.{eq_by_cmp, is_eq, is_gt}
 use Rattle.std.specs.declared.collections.VecDeque.{VecDeque}
 use Rattle.gb_base.specs.declared.end.End.{End}
 use Rattle.gb_machine.specs.Waiting.{end_before}
 use Rattle.gb_switch.proofs.Places.{cmp-other, cmp-own, cmp-same, settled-before}
-use Rattle.gb_switch.specs.Lines.{Agrees, Marks, has_items, line_in, lines_of}
+use Rattle.gb_switch.specs.Lines.{Agrees, Marks, QueueMap, has_items, line_in, lines_of, queue_in}
 use Rattle.gb_switch.specs.Places.{end_cmp}
 use Rattle.gb_switch.specs.Queues.{Appends, Creates, Destroys, IsFirst, Puts, StaysSame, Takes}
 use Rattle.gb_switch.specs.Queues.{TakesAs, items_at}
@@ -30,30 +31,31 @@ lookup-lines {T} {Z} test (e ∷ es) = by (lookup-lines test es) (test e.0)
     by later true = refl
     by later false = later
 
-pub items-line : {T Z : Type 0} (x : List (End × List T)) (m : BTreeMap End (VecDeque T Z))
+pub items-line : {T Z : Type 0} (x : List (End × List T)) (m : QueueMap T Z)
     → lines_of m.entries ≡ x → (at : End) → items_at x at ≡ line_in m at
 items-line x m is at =
     ap (λ es. lookup (is_at (end_cmp at)) es) (sym is)
     ∙ lookup-lines (is_at (end_cmp at)) m.entries
 
--- what an ordered map has after a change at one end
-abbrev pub Updated : {X : Type 0} → BTreeMap End X → BTreeMap End X → End → Option X → Type 0
-Updated m n k w = (q : End) → get end_cmp n q ≡ cond (is_at (end_cmp k) q) w (get end_cmp m q)
+-- what a map has after a change at one end
+abbrev pub Updated : {T Z : Type 0} → QueueMap T Z → QueueMap T Z → End
+    → Option (VecDeque T Z) → Type 0
+Updated m n k w = (q : End) → queue_in n q ≡ cond (is_at (end_cmp k) q) w (queue_in m q)
 
-pub updated-here : {T Z : Type 0} (m n : BTreeMap End (VecDeque T Z)) (k : End)
+pub updated-here : {T Z : Type 0} (m n : QueueMap T Z) (k : End)
     (w : Option (VecDeque T Z)) → Updated m n k w → line_in n k ≡ option_map (λ q. q.items) w
 updated-here m n k w u =
-    ap (option_map (λ q. q.items)) (u k ∙ ap (λ t. cond t w (get end_cmp m k)) (cmp-own k))
+    ap (option_map (λ q. q.items)) (u k ∙ ap (λ t. cond t w (queue_in m k)) (cmp-own k))
 
-pub updated-others : {T Z : Type 0} (m n : BTreeMap End (VecDeque T Z)) (k : End)
+pub updated-others : {T Z : Type 0} (m n : QueueMap T Z) (k : End)
     (w : Option (VecDeque T Z)) → Updated m n k w → (q : End) → q ≢ k → line_in n q ≡ line_in m q
 updated-others m n k w u q ne =
     ap (option_map (λ q. q.items))
-    (u q ∙ ap (λ t. cond t w (get end_cmp m q)) (cmp-other k q (λ e. ne (sym e))))
+    (u q ∙ ap (λ t. cond t w (queue_in m q)) (cmp-other k q (λ e. ne (sym e))))
 
 -- the same from a map with the same entries
-pub updated-from : {X : Type 0} (m n o : BTreeMap End X) (k : End) (w : Option X)
-    → n.entries ≡ m.entries → Updated n o k w → Updated m o k w
+pub updated-from : {T Z : Type 0} (m n o : QueueMap T Z) (k : End)
+    (w : Option (VecDeque T Z)) → n.entries ≡ m.entries → Updated n o k w → Updated m o k w
 updated-from m n o k w same u q =
     u q ∙ ap (λ es. cond (is_at (end_cmp k) q) w (lookup (is_at (end_cmp q)) es)) same
 
@@ -68,7 +70,7 @@ is-end a b = by (is_eq (end_cmp a b)) refl
         (sym (cmp-own a) ∙ ap (λ r. is_eq (end_cmp a r)) same ∙ e))
 
 -- nothing waits at an end where nothing waited, after a change to nothing
-pub idle-after : {T Z : Type 0} (m n : BTreeMap End (VecDeque T Z)) (k : End)
+pub idle-after : {T Z : Type 0} (m n : QueueMap T Z) (k : End)
     (w : Option (VecDeque T Z)) → Updated m n k w → has_items (option_map (λ q. q.items) w) ≡ false
     → (q : End) → has_items (line_in m q) ≡ false → has_items (line_in n q) ≡ false
 idle-after m n k w u none q before =
@@ -77,7 +79,7 @@ idle-after m n k w u none q before =
     (λ ne. ap has_items (updated-others m n k w u q ne) ∙ before)
     (is-end q k)
 
-pub agrees-idle : {T Z : Type 0} (m n : BTreeMap End (VecDeque T Z)) (waiting : BTreeSet End)
+pub agrees-idle : {T Z : Type 0} (m n : QueueMap T Z) (waiting : BTreeSet End)
     (k : End) (w : Option (VecDeque T Z)) → Updated m n k w
     → has_items (option_map (λ q. q.items) w) ≡ false → has_items (line_in m k) ≡ false
     → Agrees m waiting → Agrees n waiting
@@ -90,9 +92,9 @@ agrees-idle m n waiting k w u none before a p =
     (is-end p k)
 
 -- no queue is there where a map has none
-pub no-line : {T Z : Type 0} (m : BTreeMap End (VecDeque T Z)) (k : End) (b : Bool)
-    → b ≡ is_some (get end_cmp m k) → b ≡ false → line_in m k ≡ None
-no-line {T} {Z} m k b there none = by (get end_cmp m k) (sym there ∙ none)
+pub no-line : {T Z : Type 0} (m : QueueMap T Z) (k : End) (b : Bool)
+    → b ≡ is_some (queue_in m k) → b ≡ false → line_in m k ≡ None
+no-line {T} {Z} m k b there none = by (queue_in m k) (sym there ∙ none)
   where
     by : (o : Option (VecDeque T Z)) → is_some o ≡ false → option_map (λ q. q.items) o ≡ None
     by None e = refl
@@ -100,7 +102,7 @@ no-line {T} {Z} m k b there none = by (get end_cmp m k) (sym there ∙ none)
 
 -- ---- two queues are made
 
-pub creates : {T Z : Type 0} (x y : List (End × List T)) (m n o : BTreeMap End (VecDeque T Z))
+pub creates : {T Z : Type 0} (x y : List (End × List T)) (m n o : QueueMap T Z)
     (a b : End) (p q : End) (v w : VecDeque T Z)
     → lines_of m.entries ≡ x → lines_of o.entries ≡ y → p ≡ a → q ≡ b
     → line_in m p ≡ None → line_in m q ≡ None
@@ -126,7 +128,7 @@ creates x y m n o a b p q v w is-x is-y is-p is-q none-p none-q u t empty-v empt
     at_p (inr ne) =
         updated-others n o q (Some w) t p ne ∙ updated-here m n p (Some v) u ∙ ap Some empty-v
 
-pub creates-agrees : {T Z : Type 0} (m n o : BTreeMap End (VecDeque T Z))
+pub creates-agrees : {T Z : Type 0} (m n o : QueueMap T Z)
     (waiting : BTreeSet End) (p q : End) (v w : VecDeque T Z)
     → line_in m p ≡ None → line_in m q ≡ None
     → Updated m n p (Some v) → Updated n o q (Some w) → v.items ≡ [] → w.items ≡ []
@@ -138,7 +140,7 @@ creates-agrees m n o waiting p q v w none-p none-q u t empty-v empty-w a =
     (ap has_items none-p) a)
 
 -- a queue was made and taken away
-pub restored : {T Z : Type 0} (m n o : BTreeMap End (VecDeque T Z)) (p : End)
+pub restored : {T Z : Type 0} (m n o : QueueMap T Z) (p : End)
     (v : VecDeque T Z) → line_in m p ≡ None → Updated m n p (Some v) → Updated n o p None
     → (q : End) → line_in o q ≡ line_in m q
 restored m n o p v none u t q =
@@ -149,14 +151,18 @@ restored m n o p v none u t q =
 
 -- ---- a queue is written where it stands
 
+-- this queue stands where one was lent
+abbrev pub Rewritten : {T Z : Type 0} → QueueMap T Z → QueueMap T Z → End → VecDeque T Z → Type 0
+Rewritten m n p w = WritesThrough (eq_by_cmp end_cmp) (eq_by_cmp end_cmp p) m w n
+
 -- a queue was at an end, and this one is there now
-record Written {T Z : Type 0} (m n : BTreeMap End (VecDeque T Z)) (p : End)
+record Written {T Z : Type 0} (m n : QueueMap T Z) (p : End)
     (v w : VecDeque T Z) : Type 0 where
   pub was : line_in m p ≡ Some v.items
   pub puts : Puts (line_in m) (line_in n) p (Some w.items)
 
-written : {T Z : Type 0} (m n : BTreeMap End (VecDeque T Z)) (p : End)
-    (v w : VecDeque T Z) → Some v ≡ get end_cmp m p → WritesThrough end_cmp (end_cmp p) m w n
+written : {T Z : Type 0} (m n : QueueMap T Z) (p : End)
+    (v w : VecDeque T Z) → Some v ≡ queue_in m p → Rewritten m n p w
     → Written m n p v w
 written {T} {Z} m n p v w there through = record {
   was = sym (ap (option_map (λ q. q.items)) there);
@@ -170,9 +176,9 @@ written {T} {Z} m n p v w there through = record {
     change = (through.3 (subst (λ (o : Option (VecDeque T Z)). IsSome o) there refl)).0
 
 -- its end is marked as it is now
-pub agrees-written : {T Z : Type 0} (m n : BTreeMap End (VecDeque T Z))
+pub agrees-written : {T Z : Type 0} (m n : QueueMap T Z)
     (before after : BTreeSet End) (p : End) (v w : VecDeque T Z)
-    → Some v ≡ get end_cmp m p → WritesThrough end_cmp (end_cmp p) m w n
+    → Some v ≡ queue_in m p → Rewritten m n p w
     → Marks before after p (has_items (Some w.items)) → Agrees m before → Agrees n after
 agrees-written m n before after p v w there through marks a q =
     let x = written m n p v w there through in
@@ -184,7 +190,7 @@ agrees-written m n before after p v w there through marks a q =
     (is-end q p)
 
 -- the same waits there
-same-written : {T Z : Type 0} (m n : BTreeMap End (VecDeque T Z)) (p : End)
+same-written : {T Z : Type 0} (m n : QueueMap T Z) (p : End)
     (v w : VecDeque T Z) → Written m n p v w → w.items ≡ v.items
     → (q : End) → line_in n q ≡ line_in m q
 same-written m n p v w x same q =
@@ -194,7 +200,7 @@ same-written m n p v w x same q =
     (is-end q p)
 
 -- nothing waits where a queue has no items
-idle : {T Z : Type 0} (m : BTreeMap End (VecDeque T Z)) (p : End) (v : VecDeque T Z)
+idle : {T Z : Type 0} (m : QueueMap T Z) (p : End) (v : VecDeque T Z)
     → line_in m p ≡ Some v.items → length v.items ≡ 0 → has_items (line_in m p) ≡ false
 idle {T} m p v was none = ap has_items was ∙ by v.items none
   where
@@ -204,13 +210,13 @@ idle {T} m p v was none = ap has_items was ∙ by v.items none
 
 -- ---- from what maps have to what contracts see
 
-pub stays : {T Z : Type 0} (x y : List (End × List T)) (m n : BTreeMap End (VecDeque T Z))
+pub stays : {T Z : Type 0} (x y : List (End × List T)) (m n : QueueMap T Z)
     → lines_of m.entries ≡ x → lines_of n.entries ≡ y
     → ((p : End) → line_in n p ≡ line_in m p) → StaysSame x y
 stays x y m n is-x is-y same at =
     items-line y n is-y at ∙ same at ∙ sym (items-line x m is-x at)
 
-pub puts : {T Z : Type 0} (x y : List (End × List T)) (m n : BTreeMap End (VecDeque T Z))
+pub puts : {T Z : Type 0} (x y : List (End × List T)) (m n : QueueMap T Z)
     (at p : End) (v : Option (List T))
     → lines_of m.entries ≡ x → lines_of n.entries ≡ y → p ≡ at
     → Puts (line_in m) (line_in n) p v → Puts (items_at x) (items_at y) at v
@@ -222,7 +228,7 @@ puts x y m n at p v is-x is-y is-p w = record {
       ∙ sym (items-line x m is-x other);
 }
 
-pub removes : {T Z : Type 0} (x y : List (End × List T)) (m n : BTreeMap End (VecDeque T Z))
+pub removes : {T Z : Type 0} (x y : List (End × List T)) (m n : QueueMap T Z)
     (at p : End) → lines_of m.entries ≡ x → lines_of n.entries ≡ y → p ≡ at
     → Updated m n p None → Puts (items_at x) (items_at y) at None
 removes x y m n at p is-x is-y is-p u =
@@ -239,10 +245,10 @@ destroys x y z a b u t = record {
 }
 
 pub appends-as : {T Z E : Type 0} (x y : List (End × List T))
-    (m n : BTreeMap End (VecDeque T Z)) (at p : End) (v w : VecDeque T Z) (item : T)
+    (m n : QueueMap T Z) (at p : End) (v w : VecDeque T Z) (item : T)
     (r : Result Unit E)
     → lines_of m.entries ≡ x → lines_of n.entries ≡ y → p ≡ at
-    → Some v ≡ get end_cmp m p → WritesThrough end_cmp (end_cmp p) m w n
+    → Some v ≡ queue_in m p → Rewritten m n p w
     → OnOk r (w.items ≡ v.items ++ item ∷ [])
     → OnOk r (Appends (items_at x) (items_at y) at item)
 appends-as x y m n at p v w item (Ok u) is-x is-y is-p there through is =
@@ -257,18 +263,18 @@ appends-as x y m n at p v w item (Ok u) is-x is-y is-p there through is =
 appends-as x y m n at p v w item (Err e) is-x is-y is-p there through is = tt
 
 pub stays-as : {T Z E : Type 0} (x y : List (End × List T))
-    (m n : BTreeMap End (VecDeque T Z)) (p : End) (v w : VecDeque T Z) (r : Result Unit E)
+    (m n : QueueMap T Z) (p : End) (v w : VecDeque T Z) (r : Result Unit E)
     → lines_of m.entries ≡ x → lines_of n.entries ≡ y
-    → Some v ≡ get end_cmp m p → WritesThrough end_cmp (end_cmp p) m w n
+    → Some v ≡ queue_in m p → Rewritten m n p w
     → OnErr r (w.items ≡ v.items) → OnErr r (StaysSame x y)
 stays-as x y m n p v w (Ok u) is-x is-y there through same = tt
 stays-as x y m n p v w (Err e) is-x is-y there through same =
     stays x y m n is-x is-y (same-written m n p v w (written m n p v w there through) same)
 
-pub takes : {T Z : Type 0} (x y : List (End × List T)) (m n : BTreeMap End (VecDeque T Z))
+pub takes : {T Z : Type 0} (x y : List (End × List T)) (m n : QueueMap T Z)
     (at p : End) (v w : VecDeque T Z) (item : T)
     → lines_of m.entries ≡ x → p ≡ at
-    → Some v ≡ get end_cmp m p → WritesThrough end_cmp (end_cmp p) m w n
+    → Some v ≡ queue_in m p → Rewritten m n p w
     → v.items ≡ item ∷ w.items
     → lines_of n.entries ≡ y → Takes (items_at x) (items_at y) at item
 takes x y m n at p v w item is-x is-p there through is is-y =
@@ -281,7 +287,7 @@ takes x y m n at p v w item is-x is-p there through is is-y =
 
 -- nothing waited at an end, and all is as it was
 takes-nothing : {T Z : Type 0} (x y : List (End × List T))
-    (m n : BTreeMap End (VecDeque T Z)) (at p : End) (r : Option T)
+    (m n : QueueMap T Z) (at p : End) (r : Option T)
     → lines_of m.entries ≡ x → lines_of n.entries ≡ y → p ≡ at
     → has_items (line_in m p) ≡ false → ((q : End) → line_in n q ≡ line_in m q) → r ≡ None
     → TakesAs (items_at x) (items_at y) at r
@@ -293,9 +299,9 @@ takes-nothing x y m n at p r is-x is-y is-p none same is =
 
 -- no queue was there
 pub takes-nowhere : {T Z : Type 0} (x y : List (End × List T))
-    (m n : BTreeMap End (VecDeque T Z)) (at p : End) (r : Option T)
+    (m n : QueueMap T Z) (at p : End) (r : Option T)
     → lines_of m.entries ≡ x → lines_of n.entries ≡ y → p ≡ at
-    → None ≡ get end_cmp m p → n ≡ m → r ≡ None → TakesAs (items_at x) (items_at y) at r
+    → None ≡ queue_in m p → n ≡ m → r ≡ None → TakesAs (items_at x) (items_at y) at r
 takes-nowhere {T} {Z} x y m n at p r is-x is-y is-p there same is =
     takes-nothing x y m n at p r is-x is-y is-p
     (ap (λ (o : Option (VecDeque T Z)). has_items (option_map (λ q. q.items) o)) (sym there))
@@ -303,10 +309,10 @@ takes-nowhere {T} {Z} x y m n at p r is-x is-y is-p there same is =
 
 -- or an empty one was
 pub takes-none : {T Z : Type 0} (x y : List (End × List T))
-    (m n : BTreeMap End (VecDeque T Z)) (at p : End) (v w : VecDeque T Z)
+    (m n : QueueMap T Z) (at p : End) (v w : VecDeque T Z)
     (r : Option T)
     → lines_of m.entries ≡ x → lines_of n.entries ≡ y → p ≡ at
-    → Some v ≡ get end_cmp m p → WritesThrough end_cmp (end_cmp p) m w n
+    → Some v ≡ queue_in m p → Rewritten m n p w
     → length v.items ≡ 0 → v.items ≡ w.items → r ≡ None → TakesAs (items_at x) (items_at y) at r
 takes-none x y m n at p v w r is-x is-y is-p there through none same is =
     let z = written m n p v w there through in
@@ -320,14 +326,14 @@ empty-keys : (ks : List End) (test : End → Bool) → (0 < length ks → ⊥)
 empty-keys [] test h = refl
 empty-keys (k ∷ ks) test h = absurd (h (omega arith))
 
-pub finds-none : {T Z : Type 0} (x : List (End × List T)) (m : BTreeMap End (VecDeque T Z))
+pub finds-none : {T Z : Type 0} (x : List (End × List T)) (m : QueueMap T Z)
     (waiting : BTreeSet End) → lines_of m.entries ≡ x → Agrees m waiting
     → (0 < btree_set_len waiting → ⊥) → (at : End) → has_items (items_at x at) ≡ false
 finds-none x m waiting is-x a empty at =
     ap has_items (items-line x m is-x at) ∙ sym (a at)
     ∙ empty-keys waiting.keys (is_at (end_cmp at)) empty
 
-pub finds : {T Z : Type 0} (x : List (End × List T)) (m : BTreeMap End (VecDeque T Z))
+pub finds : {T Z : Type 0} (x : List (End × List T)) (m : QueueMap T Z)
     (waiting : BTreeSet End) (k at : End) → lines_of m.entries ≡ x → Agrees m waiting
     → at ≡ k → contains end_cmp waiting k ≡ true → IsLowerBound end_cmp waiting k
     → IsFirst (items_at x) at

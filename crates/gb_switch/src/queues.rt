@@ -31,16 +31,16 @@ ghost use Rattle.gb_switch.specs.Places.{end_cmp};
 use crate::Place;
 use gb_base::{End, OutOfMemory};
 use std::alloc::Global;
-use std::collections::{BTreeMap, BTreeSet, VecDeque};
+use std::collections::{BTreeSet, HashMap, VecDeque};
 use std::marker::Model;
 
 /// One list of items for each end that has a queue.
 #[derive(Drop)]
 pub struct Queues<T> {
     alloc: Global,
-    /// The queues, in the order in which they are settled.
-    queues: BTreeMap<Place, VecDeque<T>>,
-    /// Those that aren't empty.
+    /// The queues by their ends.
+    queues: HashMap<Place, VecDeque<T>>,
+    /// The ends of those that aren't empty, in the order in which they are settled.
     waiting: BTreeSet<Place>,
 }
 
@@ -64,7 +64,7 @@ impl<T: Drop> Queues<T> {
     {
         Queues {
             alloc,
-            queues: BTreeMap::new(alloc),
+            queues: HashMap::new(alloc),
             waiting: BTreeSet::new(alloc),
         }
     }
