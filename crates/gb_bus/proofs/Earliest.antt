@@ -8,10 +8,10 @@ use Rattle.std.specs.Map.{lookup}
 use Rattle.gb_base.specs.declared.end.End.{End}
 use Rattle.gb_base.specs.declared.end.End.TheVariants as end
 use Rattle.gb_bus.proofs.Entries.{at, same-some, some-none}
-use Rattle.gb_bus.proofs.Keeping.{Ends, Live, Queues}
+use Rattle.gb_bus.proofs.Keeping.{Live, Queues}
 use Rattle.gb_bus.specs.Connection.{Connection}
 use Rattle.gb_bus.specs.Ends.{earlier}
-use Rattle.gb_bus.specs.Index.{IsEndOf, Kept}
+use Rattle.gb_bus.specs.Index.{Ends, IsEndOf, Kept}
 use Rattle.gb_bus.specs.Parts.{earliest_in, earliest_of, is_none_left}
 use Rattle.gb_bus.specs.Seen.{all_seen, items_of, seen}
 use Rattle.gb_bus.specs.declared.connection.Connection as code

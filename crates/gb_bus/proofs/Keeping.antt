@@ -12,21 +12,17 @@ use Rattle.gb_base.specs.declared.end.End.TheVariants as end
 use Rattle.gb_base.specs.declared.end.Side.{Side}
 use Rattle.gb_base.specs.declared.end.Side.TheVariants as side
 use Rattle.gb_bus.proofs.Entries.{same-some, set-here, set-others}
-use Rattle.gb_bus.specs.Index.{HasQueues, IsEndOf, IsIndexed, IsOwned, Kept}
+use Rattle.gb_bus.specs.Index.{Ends, HasQueues, IsEndOf, IsIndexed, IsOwned, Kept, number_at}
 use Rattle.gb_bus.specs.Parts.{end_at}
 use Rattle.gb_bus.specs.Seen.{alone, items_of, seen}
 use Rattle.gb_bus.specs.declared.connection.Connection as code
 use Rattle.gb_bus.specs.declared.queue.Item.{Item}
 use Rattle.gb_machine.specs.Bus.{same_end}
 use Rattle.gb_switch.proofs.Lines.{is-end}
-use Rattle.gb_switch.specs.Places.{end_cmp}
 use Rattle.gb_switch.specs.Queues.{Appends, Creates, Puts, Takes, items_at}
 
 abbrev pub Live : Type 0
 Live = BTreeMap ℕ code.Connection
-
-abbrev pub Ends : Type 0
-Ends = BTreeMap End ℕ
 
 abbrev pub Queues : Type 0
 Queues = List (End × List Item)
@@ -47,11 +43,11 @@ AreQueued live q =
 -- ---- ends are those of one connection
 
 pub number-of-end : (ends : Ends) (k : ℕ) (x : code.Connection) (at : End) → IsIndexed ends k x
-    → IsEndOf at x → get end_cmp ends at ≡ Some k
+    → IsEndOf at x → number_at ends at ≡ Some k
 number-of-end ends k x at i own =
     ⊎_elim
-    (λ e. ap (get end_cmp ends) e ∙ i.near)
-    (λ e. ap (get end_cmp ends) e ∙ i.far)
+    (λ e. ap (number_at ends) e ∙ i.near)
+    (λ e. ap (number_at ends) e ∙ i.far)
     own
 
 pub ends-apart : (live : Live) (ends : Ends) (k n : ℕ) (z x : code.Connection) (a e : End)
@@ -60,7 +56,7 @@ pub ends-apart : (live : Live) (ends : Ends) (k n : ℕ) (z x : code.Connection)
 ends-apart live ends k n z x a e i there found ne of_z of_x same =
     ne (same-some k n
     (sym (number-of-end ends k z a (i k z there) of_z)
-    ∙ ap (get end_cmp ends) same
+    ∙ ap (number_at ends) same
     ∙ number-of-end ends n x e (i n x found) of_x))
 
 end-own : (e : End) → same_end e e ≡ true
@@ -143,8 +139,8 @@ indexed-set live live' ends n x y found set ap_is peer_is i k z there =
   where
     own : IsIndexed ends n y
     own = record {
-      near = ap (λ a. get end_cmp ends (end.Ap a)) ap_is ∙ (i n x found).near;
-      far = ap (get end_cmp ends) peer_is ∙ (i n x found).far;
+      near = ap (λ a. number_at ends (end.Ap a)) ap_is ∙ (i n x found).near;
+      far = ap (number_at ends) peer_is ∙ (i n x found).far;
       two = ap (λ a. same_end (end.Ap a) y.peer) ap_is ∙ ap (same_end (end.Ap x.ap)) peer_is
           ∙ (i n x found).two;
     }

@@ -4,16 +4,15 @@ use Rattle.std.proofs.Common.{None, refl, sym, ap, ◌∙◌, subst, is_some}
 use Rattle.std.proofs.lemmas.Bool.{cases_eq, true≢false}
 use Rattle.std.specs.BTreeMap.{IsOrdered, get, is_at}
 use Rattle.std.specs.Map.{lookup}
-use Rattle.std.specs.Ordering.{nat_cmp}
+use Rattle.std.specs.Ordering.{eq_by_cmp, nat_cmp}
 use Rattle.gb_base.specs.declared.end.End.{End}
 use Rattle.gb_base.specs.declared.end.End.TheVariants as end
 use Rattle.gb_bus.proofs.Entries.{at-other, at-same, same-some, some-none}
-use Rattle.gb_bus.proofs.Keeping.{AreIndexed, Ends, Live, Queues, ends-apart, two-ends}
+use Rattle.gb_bus.proofs.Keeping.{AreIndexed, Live, Queues, ends-apart, two-ends}
 use Rattle.gb_bus.proofs.KeepingWires.{owner-elsewhere, queued-elsewhere}
-use Rattle.gb_bus.specs.Index.{HasQueues, IsEndOf, IsIndexed, Kept}
+use Rattle.gb_bus.specs.Index.{Ends, HasQueues, IsEndOf, IsIndexed, Kept, number_at}
 use Rattle.gb_bus.specs.declared.connection.Connection as code
 use Rattle.gb_machine.specs.Bus.{same_end}
-use Rattle.gb_switch.proofs.Lines.{Updated}
 use Rattle.gb_switch.proofs.Places.{cmp-other, cmp-own}
 use Rattle.gb_switch.specs.Places.{end_cmp}
 use Rattle.gb_switch.specs.Queues.{Destroys}
@@ -33,14 +32,19 @@ pub changed-here : (m n : Live) (k : ℕ) (w : Option code.Connection) → Chang
     → get nat_cmp n k ≡ w
 changed-here m n k w u = u k ∙ ap (λ b. cond b w (get nat_cmp m k)) (at-same k k refl)
 
+-- what numbers by end are after a change at one
+abbrev pub Updated : Ends → Ends → End → Option ℕ → Type 0
+Updated m n p w =
+    (q : End) → number_at n q ≡ cond (eq_by_cmp end_cmp p q) w (number_at m q)
+
 pub index-others : (m n : Ends) (p q : End) (w : Option ℕ) → Updated m n p w → q ≢ p
-    → get end_cmp n q ≡ get end_cmp m q
+    → number_at n q ≡ number_at m q
 index-others m n p q w u ne =
-    u q ∙ ap (λ b. cond b w (get end_cmp m q)) (cmp-other p q (λ e. ne (sym e)))
+    u q ∙ ap (λ b. cond b w (number_at m q)) (cmp-other p q (λ e. ne (sym e)))
 
 pub index-here : (m n : Ends) (p : End) (w : Option ℕ) → Updated m n p w
-    → get end_cmp n p ≡ w
-index-here m n p w u = u p ∙ ap (λ b. cond b w (get end_cmp m p)) (cmp-own p)
+    → number_at n p ≡ w
+index-here m n p w u = u p ∙ ap (λ b. cond b w (number_at m p)) (cmp-own p)
 
 pub kept-removed : (live live' : Live) (e0 e1 e2 : Ends) (q r : Queues) (n : ℕ)
     (x : code.Connection) (near far : End)
@@ -78,7 +82,7 @@ kept-removed live live' e0 e1 e2 q r n x near far found gone s is_near is_far u 
 }
   where
     still : (j : ℕ) (z : code.Connection) → j ≢ n → get nat_cmp live j ≡ Some z → (a : End)
-        → IsEndOf a z → get end_cmp e2 a ≡ get end_cmp e0 a
+        → IsEndOf a z → number_at e2 a ≡ number_at e0 a
     still j z ne was a own =
         index-others e1 e2 far a None t
         (λ e. ends-apart live e0 j n z x a x.peer k.indexed was found ne own (inr refl)
@@ -90,7 +94,7 @@ kept-removed live live' e0 e1 e2 q r n x near far found gone s is_near is_far u 
 -- ---- a connection is added
 
 -- an end that none has gets a number
-pub indexed-more : (live : Live) (m n : Ends) (p : End) (v : ℕ) → get end_cmp m p ≡ None
+pub indexed-more : (live : Live) (m n : Ends) (p : End) (v : ℕ) → number_at m p ≡ None
     → Updated m n p (Some v) → AreIndexed live m → AreIndexed live n
 indexed-more live m n p v free u i k x there =
     let w = i k x there in
@@ -100,13 +104,13 @@ indexed-more live m n p v free u i k x there =
       two = w.two;
     }
   where
-    still : (s : End) (j : ℕ) → get end_cmp m s ≡ Some j → get end_cmp n s ≡ Some j
+    still : (s : End) (j : ℕ) → number_at m s ≡ Some j → number_at n s ≡ Some j
     still s j has =
         index-others m n p s (Some v) u
-        (λ e. some-none j (sym has ∙ ap (λ t. get end_cmp m t) e ∙ free)) ∙ has
+        (λ e. some-none j (sym has ∙ ap (λ t. number_at m t) e ∙ free)) ∙ has
 
 pub kept-more : (live : Live) (m n : Ends) (q : Queues) (p : End) (v : ℕ)
-    → get end_cmp m p ≡ None → Updated m n p (Some v) → Kept live m q → Kept live n q
+    → number_at m p ≡ None → Updated m n p (Some v) → Kept live m q → Kept live n q
 kept-more live m n q p v free u k = record {
   ordered = k.ordered;
   indexed = indexed-more live m n p v free u k.indexed;
@@ -122,8 +126,8 @@ kept-ends live m n q same k = record {
   indexed = λ j x there.
       let i = k.indexed j x there in
       record {
-        near = ap (lookup (is_at (end_cmp (end.Ap x.ap)))) same ∙ i.near;
-        far = ap (lookup (is_at (end_cmp x.peer))) same ∙ i.far;
+        near = ap (lookup (eq_by_cmp end_cmp (end.Ap x.ap))) same ∙ i.near;
+        far = ap (lookup (eq_by_cmp end_cmp x.peer)) same ∙ i.far;
         two = i.two;
       };
   owned = k.owned;
@@ -140,7 +144,7 @@ pub kept-added : (live live' : Live) (e0 e1 e2 : Ends) (q : Queues) (n : ℕ)
     → get nat_cmp live n ≡ None → Changed live live' n (Some x) → IsOrdered nat_cmp live'
     → near ≡ end.Ap x.ap → far ≡ x.peer
     → same_end (end.Ap x.ap) x.peer ≡ false → x.wired ≡ false
-    → get end_cmp e0 near ≡ None → get end_cmp e0 far ≡ None
+    → number_at e0 near ≡ None → number_at e0 far ≡ None
     → Updated e0 e1 near (Some n) → Updated e1 e2 far (Some n)
     → Kept live e0 q → Kept live' e2 q
 kept-added live live' e0 e1 e2 q n x near far free more s is_near is_far two loose free_near
@@ -175,10 +179,10 @@ kept-added live live' e0 e1 e2 q n x near far free more s is_near is_far two loo
 
     own : IsIndexed e2 n x
     own = record {
-      near = ap (λ p. get end_cmp e2 p) (sym is_near)
+      near = ap (λ p. number_at e2 p) (sym is_near)
           ∙ index-others e1 e2 far near (Some n) t apart
           ∙ index-here e0 e1 near (Some n) u;
-      far = ap (λ p. get end_cmp e2 p) (sym is_far) ∙ index-here e1 e2 far (Some n) t;
+      far = ap (λ p. number_at e2 p) (sym is_far) ∙ index-here e1 e2 far (Some n) t;
       two = two;
     }
 

@@ -8,9 +8,9 @@ use Rattle.std.specs.Ordering.{nat_cmp}
 use Rattle.gb_base.specs.declared.end.End.{End}
 use Rattle.gb_base.specs.declared.end.End.TheVariants as end
 use Rattle.gb_bus.proofs.Entries.{same-some, set-here, set-others, some-none}
-use Rattle.gb_bus.proofs.Keeping.{AreOwned, Ends, Live, Queues, end-of-set, ends-apart, indexed-set}
+use Rattle.gb_bus.proofs.Keeping.{AreOwned, Live, Queues, end-of-set, ends-apart, indexed-set}
 use Rattle.gb_bus.proofs.Keeping.{ordered-set, owned-set, queued-set, stay-created, stay-queued}
-use Rattle.gb_bus.specs.Index.{HasQueues, IsEndOf, IsOwned, Kept}
+use Rattle.gb_bus.specs.Index.{Ends, HasQueues, IsEndOf, IsOwned, Kept}
 use Rattle.gb_bus.specs.declared.connection.Connection as code
 use Rattle.gb_bus.specs.declared.queue.Item.{Item}
 use Rattle.gb_switch.proofs.Lines.{is-end}

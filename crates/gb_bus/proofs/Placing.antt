@@ -12,13 +12,12 @@ use Rattle.gb_base.specs.declared.end.Side.{Side}
 use Rattle.gb_base.specs.declared.end.Side.TheVariants as side
 use Rattle.gb_bus.proofs.Entries.{EachEntry, both, each-back, each-entry, each-front, find-none}
 use Rattle.gb_bus.proofs.Entries.{find-split, nowhere, same-some, some-none, split}
-use Rattle.gb_bus.proofs.Keeping.{Ends, Live, Queues, number-of-end}
-use Rattle.gb_bus.specs.Index.{IsEndOf, IsIndexed, Kept}
+use Rattle.gb_bus.proofs.Keeping.{Live, Queues, number-of-end}
+use Rattle.gb_bus.specs.Index.{Ends, IsEndOf, IsIndexed, Kept, number_at}
 use Rattle.gb_bus.specs.Parts.{end_at, joins, place_at, side_at}
 use Rattle.gb_bus.specs.Seen.{all_seen, alone, seen}
 use Rattle.gb_bus.specs.declared.connection.Connection as code
 use Rattle.gb_machine.specs.Bus.{or_else, same_end}
-use Rattle.gb_switch.specs.Places.{end_cmp}
 
 -- ends that compare equal are one
 end-is : (a b : End) → same_end a b ≡ true → a ≡ b
@@ -93,7 +92,7 @@ place-split q at (e ∷ front) back n x h b =
 
 -- a connection whose number an end hasn't got hasn't the end
 not-its : (ends : Ends) (k : ℕ) (x : code.Connection) (at : End) (o : Option ℕ)
-    → get end_cmp ends at ≡ o → (o ≡ Some k → ⊥) → IsIndexed ends k x
+    → number_at ends at ≡ o → (o ≡ Some k → ⊥) → IsIndexed ends k x
     → IsEndOf at x → ⊥
 not-its ends k x at o is ne i own = ne (sym is ∙ number-of-end ends k x at i own)
 
@@ -101,7 +100,7 @@ not-its ends k x at o is ne i own = ne (sym is ∙ number-of-end ends k x at i o
 
 -- the end has no number
 pub places-nowhere : (live : Live) (ends : Ends) (q : Queues) (at : End) → Kept live ends q
-    → get end_cmp ends at ≡ None → place_at at (all_seen q live.entries) ≡ None
+    → number_at ends at ≡ None → place_at at (all_seen q live.entries) ≡ None
 places-nowhere live ends q at k none =
     place-none q at live.entries
     (each-entry (λ n x. side_at at (seen q n x) ≡ None) live.entries k.ordered
@@ -110,7 +109,7 @@ places-nowhere live ends q at k none =
 
 -- others than the one with its number haven't it
 others-no-side : (live : Live) (ends : Ends) (q : Queues) (at : End) (n : ℕ) → Kept live ends q
-    → get end_cmp ends at ≡ Some n
+    → number_at ends at ≡ Some n
     → EachEntry (λ j z. j ≢ n → side_at at (seen q j z) ≡ None) live.entries
 others-no-side live ends q at n k is =
     each-entry (λ j z. j ≢ n → side_at at (seen q j z) ≡ None) live.entries k.ordered
@@ -119,7 +118,7 @@ others-no-side live ends q at n k is =
 
 -- the end has a number that no live connection has
 pub places-dead : (live : Live) (ends : Ends) (q : Queues) (at : End) (n : ℕ) → Kept live ends q
-    → get end_cmp ends at ≡ Some n → get nat_cmp live n ≡ None
+    → number_at ends at ≡ Some n → get nat_cmp live n ≡ None
     → place_at at (all_seen q live.entries) ≡ None
 places-dead live ends q at n k is dead =
     place-none q at live.entries
@@ -128,7 +127,7 @@ places-dead live ends q at n k is dead =
 
 -- it has that of a live one
 pub places : (live : Live) (ends : Ends) (q : Queues) (at : End) (n : ℕ) (x : code.Connection)
-    → Kept live ends q → get end_cmp ends at ≡ Some n → get nat_cmp live n ≡ Some x
+    → Kept live ends q → number_at ends at ≡ Some n → get nat_cmp live n ≡ Some x
     → place_at at (all_seen q live.entries)
     ≡ option_map (λ s. (n, s)) (side_at at (alone 0 x))
 places live ends q at n x k is there =
@@ -170,7 +169,7 @@ pub record IsPlaced (live : Live) (at : End) (k : ℕ) (s : Side) : Type 0 where
 pub placed : (live : Live) (ends : Ends) (q : Queues) (at : End) (k : ℕ) (s : Side)
     → Kept live ends q → place_at at (all_seen q live.entries) ≡ Some (k, s)
     → IsPlaced live at k s
-placed live ends q at k s kept e = by (get end_cmp ends at) refl
+placed live ends q at k s kept e = by (number_at ends at) refl
   where
     its-side : (n : ℕ) (x : code.Connection) → get nat_cmp live n ≡ Some x → (o : Option Side)
         → side_at at (alone 0 x) ≡ o → option_map {U = ℕ × Side} (λ t. (n, t)) o ≡ Some (k, s)
@@ -186,7 +185,7 @@ placed live ends q at k s kept e = by (get end_cmp ends at) refl
           own = own.1 ∙ ap (λ z. end_at z (alone 0 x)) (ap (λ p. p.1) both);
         }
 
-    numbered : (n : ℕ) → get end_cmp ends at ≡ Some n → (o : Option code.Connection)
+    numbered : (n : ℕ) → number_at ends at ≡ Some n → (o : Option code.Connection)
         → get nat_cmp live n ≡ o → IsPlaced live at k s
     numbered n is None dead =
         absurd (some-none (k, s) (sym e ∙ places-dead live ends q at n kept is dead))
@@ -194,7 +193,7 @@ placed live ends q at k s kept e = by (get end_cmp ends at) refl
         its-side n x found (side_at at (alone 0 x)) refl
         (sym (places live ends q at n x kept is found) ∙ e)
 
-    by : (o : Option ℕ) → get end_cmp ends at ≡ o → IsPlaced live at k s
+    by : (o : Option ℕ) → number_at ends at ≡ o → IsPlaced live at k s
     by None none = absurd (some-none (k, s) (sym e ∙ places-nowhere live ends q at kept none))
     by (Some n) is = numbered n is (get nat_cmp live n) refl
 
@@ -208,7 +207,7 @@ no-join q k x a peer never =
     (ne_eqb x.ap a (λ e. never (inl (ap end.Ap (sym e)))))
 
 pub joins-nowhere : (live : Live) (ends : Ends) (q : Queues) (a : ℕ) (peer : End)
-    → Kept live ends q → get end_cmp ends (end.Ap a) ≡ None
+    → Kept live ends q → number_at ends (end.Ap a) ≡ None
     → find (joins a peer) (all_seen q live.entries) ≡ None
 joins-nowhere live ends q a peer k none =
     find-none q (joins a peer) live.entries
@@ -217,7 +216,7 @@ joins-nowhere live ends q a peer k none =
     (not-its ends n x (end.Ap a) None none (λ e. some-none n (sym e)) (k.indexed n x there))))
 
 others-join : (live : Live) (ends : Ends) (q : Queues) (a : ℕ) (peer : End) (n : ℕ)
-    → Kept live ends q → get end_cmp ends (end.Ap a) ≡ Some n
+    → Kept live ends q → number_at ends (end.Ap a) ≡ Some n
     → EachEntry (λ j z. j ≢ n → joins a peer (seen q j z) ≡ false) live.entries
 others-join live ends q a peer n k is =
     each-entry (λ j z. j ≢ n → joins a peer (seen q j z) ≡ false) live.entries k.ordered
@@ -226,7 +225,7 @@ others-join live ends q a peer n k is =
     (k.indexed j z there)))
 
 pub joins-dead : (live : Live) (ends : Ends) (q : Queues) (a : ℕ) (peer : End) (n : ℕ)
-    → Kept live ends q → get end_cmp ends (end.Ap a) ≡ Some n
+    → Kept live ends q → number_at ends (end.Ap a) ≡ Some n
     → get nat_cmp live n ≡ None → find (joins a peer) (all_seen q live.entries) ≡ None
 joins-dead live ends q a peer n k is dead =
     find-none q (joins a peer) live.entries
@@ -235,7 +234,7 @@ joins-dead live ends q a peer n k is dead =
 
 pub joins-there : (live : Live) (ends : Ends) (q : Queues) (a : ℕ) (peer : End) (n : ℕ)
     (x : code.Connection) → Kept live ends q
-    → get end_cmp ends (end.Ap a) ≡ Some n → get nat_cmp live n ≡ Some x
+    → number_at ends (end.Ap a) ≡ Some n → get nat_cmp live n ≡ Some x
     → find (joins a peer) (all_seen q live.entries)
     ≡ cond (joins a peer (seen q n x)) (Some (seen q n x)) None
 joins-there live ends q a peer n x k is there =

@@ -9,9 +9,9 @@ use Rattle.gb_base.specs.declared.end.End.TheVariants as end
 use Rattle.gb_base.specs.declared.end.Side.{Side}
 use Rattle.gb_base.specs.declared.end.Side.TheVariants as side
 use Rattle.gb_bus.proofs.Entries.{changes, find-seen, first-nowhere, nowhere}
-use Rattle.gb_bus.proofs.Keeping.{Ends, Live, Queues, kept-same, kept-set}
+use Rattle.gb_bus.proofs.Keeping.{Live, Queues, kept-same, kept-set}
 use Rattle.gb_bus.specs.Connection.{Connection}
-use Rattle.gb_bus.specs.Index.{ChangesBy, Kept, Leaves}
+use Rattle.gb_bus.specs.Index.{ChangesBy, Ends, Kept, Leaves}
 use Rattle.gb_bus.specs.Parts.{closed, next_of, numbered, ops_of, queue_of, soiled}
 use Rattle.gb_bus.specs.Seen.{all_seen, alone, seen, waits_at}
 use Rattle.gb_bus.specs.Sides.{HasEndsOf}

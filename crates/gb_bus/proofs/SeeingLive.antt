@@ -9,11 +9,11 @@ use Rattle.gb_base.specs.declared.end.End.TheVariants as end
 use Rattle.gb_bus.proofs.Entries.{both, each-back, each-front, each-entry, insert-last, nowhere}
 use Rattle.gb_bus.proofs.Entries.{remove-split, same-seen, seen-append, split, without-nowhere}
 use Rattle.gb_bus.proofs.Entries.{without-split, EachEntry}
-use Rattle.gb_bus.proofs.Keeping.{Ends, Live, Queues, seen-others}
+use Rattle.gb_bus.proofs.Keeping.{Live, Queues, seen-others}
 use Rattle.gb_bus.proofs.KeepingWires.{stays-elsewhere}
 use Rattle.gb_bus.proofs.Seeing.{filled}
 use Rattle.gb_bus.specs.Connection.{Connection}
-use Rattle.gb_bus.specs.Index.{Kept}
+use Rattle.gb_bus.specs.Index.{Ends, Kept}
 use Rattle.gb_bus.specs.Parts.{new_connection, numbered}
 use Rattle.gb_bus.specs.Seen.{all_seen, alone, seen}
 use Rattle.gb_bus.specs.declared.connection.Connection as code

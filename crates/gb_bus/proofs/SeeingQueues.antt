@@ -11,11 +11,11 @@ use Rattle.gb_base.specs.declared.end.End.TheVariants as end
 use Rattle.gb_base.specs.declared.end.Side.{Side}
 use Rattle.gb_base.specs.declared.end.Side.TheVariants as side
 use Rattle.gb_bus.proofs.Entries.{changes, each-entry, same-seen}
-use Rattle.gb_bus.proofs.Keeping.{Ends, Live, Queues, kept-stays, kept-takes, not-one, seen-others}
+use Rattle.gb_bus.proofs.Keeping.{Live, Queues, kept-stays, kept-takes, not-one, seen-others}
 use Rattle.gb_bus.proofs.Keeping.{seen-same, two-ends}
 use Rattle.gb_bus.proofs.Seeing.{changes-one, finds}
 use Rattle.gb_bus.specs.Connection.{Connection}
-use Rattle.gb_bus.specs.Index.{IsIndexed, Kept}
+use Rattle.gb_bus.specs.Index.{Ends, IsIndexed, Kept}
 use Rattle.gb_bus.specs.Parts.{TakesFrontAs, end_at, front_in, numbered, put, queue_of, with_queue}
 use Rattle.gb_bus.specs.Parts.{without_front}
 use Rattle.gb_bus.specs.Seen.{all_seen, alone, items_of, seen}

@@ -7,10 +7,10 @@ use Rattle.std.specs.Map.{set_value}
 use Rattle.std.specs.Ordering.{nat_cmp}
 use Rattle.gb_base.specs.declared.end.Side.{Side}
 use Rattle.gb_base.specs.declared.end.Side.TheVariants as side
-use Rattle.gb_bus.proofs.Keeping.{Ends, Live, Queues}
+use Rattle.gb_bus.proofs.Keeping.{Live, Queues}
 use Rattle.gb_bus.proofs.Seeing.{changes-one, filled, finds, next-seen, ops-seen}
 use Rattle.gb_bus.specs.Connection.{Connection}
-use Rattle.gb_bus.specs.Index.{ChangesBy, Kept, Leaves}
+use Rattle.gb_bus.specs.Index.{ChangesBy, Ends, Kept, Leaves}
 use Rattle.gb_bus.specs.Parts.{next_of, numbered, ops_of, with_ops}
 use Rattle.gb_bus.specs.Seen.{all_seen, alone, seen}
 use Rattle.gb_bus.specs.Sides.{BeginsIn, BeginsOn, ChangesSide, GivesUpIn, GivesUpOn, GivesUpWhere}

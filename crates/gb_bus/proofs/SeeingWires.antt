@@ -6,11 +6,11 @@ use Rattle.std.specs.BTreeMap.{get, is_at}
 use Rattle.std.specs.Ordering.{nat_cmp}
 use Rattle.gb_base.specs.declared.end.End.TheVariants as end
 use Rattle.gb_bus.proofs.Entries.{changes}
-use Rattle.gb_bus.proofs.Keeping.{Ends, Live, Queues, seen-others}
+use Rattle.gb_bus.proofs.Keeping.{Live, Queues, seen-others}
 use Rattle.gb_bus.proofs.KeepingWires.{kept-cleared, kept-wired, stays-elsewhere}
 use Rattle.gb_bus.proofs.Seeing.{changes-one, filled}
 use Rattle.gb_bus.specs.Connection.{Connection}
-use Rattle.gb_bus.specs.Index.{ChangesBy, Kept}
+use Rattle.gb_bus.specs.Index.{ChangesBy, Ends, Kept}
 use Rattle.gb_bus.specs.Parts.{cleared, numbered, with_wire}
 use Rattle.gb_bus.specs.Seen.{all_seen, items_of, seen}
 use Rattle.gb_bus.specs.declared.connection.Connection as code

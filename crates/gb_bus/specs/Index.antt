@@ -1,8 +1,12 @@
 -- How live connections are kept: by number, the numbers by end, and what waits by end.
-use Rattle.std.specs.Prelude.{◌≡◌, ◌⊎◌, ℕ, true, false, Some, IsSome, List}
+use Rattle.std.specs.Prelude.{◌≡◌, ◌⊎◌, ℕ, true, false, Option, Some, IsSome, List}
 use Rattle.std.specs.BTreeMap.{BTreeMap, IsOrdered, get, is_at}
+use Rattle.std.specs.HashMap as map
+use Rattle.std.specs.HashMap.{HashMap}
 use Rattle.std.specs.Map.{set_value}
-use Rattle.std.specs.Ordering.{nat_cmp}
+use Rattle.std.specs.Ordering.{eq_by_cmp, nat_cmp}
+use Rattle.std.specs.declared.hash.BuildHasherDefault.{BuildHasherDefault}
+use Rattle.std.specs.declared.hash.FoldHasher.{FoldHasher}
 use Rattle.gb_base.specs.declared.end.End.{End}
 use Rattle.gb_base.specs.declared.end.End.TheVariants as end
 use Rattle.gb_bus.specs.Connection.{Connection}
@@ -13,14 +17,22 @@ use Rattle.gb_machine.specs.Bus.{same_end}
 use Rattle.gb_switch.specs.Places.{end_cmp}
 use Rattle.gb_switch.specs.Queues.{items_at}
 
+-- the numbers of connections by end
+abbrev pub Ends : Type 0
+Ends = HashMap End ℕ (BuildHasherDefault FoldHasher)
+
+-- the number of the connection that has an end
+abbrev pub number_at : Ends → End → Option ℕ
+number_at ends at = map.get (eq_by_cmp end_cmp) ends at
+
 -- an end is one of a connection's
 abbrev pub IsEndOf : End → code.Connection → Type 0
 IsEndOf at x = (at ≡ end.Ap x.ap) ⊎ (at ≡ x.peer)
 
 -- Both ends of a connection have its number, and are two.
-pub record IsIndexed (ends : BTreeMap End ℕ) (k : ℕ) (x : code.Connection) : Type 0 where
-  pub near : get end_cmp ends (end.Ap x.ap) ≡ Some k
-  pub far : get end_cmp ends x.peer ≡ Some k
+pub record IsIndexed (ends : Ends) (k : ℕ) (x : code.Connection) : Type 0 where
+  pub near : number_at ends (end.Ap x.ap) ≡ Some k
+  pub far : number_at ends x.peer ≡ Some k
   pub two : same_end (end.Ap x.ap) x.peer ≡ false
 
 -- an end is one of a live connection that is wired
@@ -37,7 +49,7 @@ pub record HasQueues (queues : List (End × List Item)) (x : code.Connection) : 
   pub far : IsSome (items_at queues x.peer)
 
 -- Ends are those of one live connection each. Queues are those of the ends of wired ones.
-pub record Kept (live : BTreeMap ℕ code.Connection) (ends : BTreeMap End ℕ)
+pub record Kept (live : BTreeMap ℕ code.Connection) (ends : Ends)
     (queues : List (End × List Item)) : Type 0 where
   pub ordered : IsOrdered nat_cmp live
   pub indexed : (k : ℕ) (x : code.Connection) → get nat_cmp live k ≡ Some x → IsIndexed ends k x

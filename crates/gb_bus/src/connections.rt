@@ -44,7 +44,7 @@ use gb_base::{End, Numbers, OutOfMemory, Sequence, Side};
 use gb_ops::{BeginFault, Matched, Ops};
 use gb_switch::{Place, Queues};
 use std::alloc::Global;
-use std::collections::BTreeMap;
+use std::collections::{BTreeMap, HashMap};
 use std::marker::Model;
 
 /// The protocol of the supervisory controller.
@@ -56,7 +56,7 @@ pub struct Connections {
     /// By number.
     live: BTreeMap<u64, Connection>,
     /// The number of the one that has an end.
-    ends: BTreeMap<Place, u64>,
+    ends: HashMap<Place, u64>,
     /// What waits at the ends of those that are wired.
     queues: Queues<Item>,
 }
@@ -95,7 +95,7 @@ impl Connections {
     {
         Connections {
             live: BTreeMap::new(alloc),
-            ends: BTreeMap::new(alloc),
+            ends: HashMap::new(alloc),
             queues: Queues::new(alloc),
         }
     }

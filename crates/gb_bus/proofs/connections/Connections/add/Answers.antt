@@ -1,13 +1,12 @@
 -- The connection stands behind all others, and both its ends have its number.
 use Rattle.std.proofs.Common.{ap, sym, ◌∙◌}
-use Rattle.std.specs.BTreeMap.{get}
 use Rattle.gb_base.specs.declared.end.End.TheVariants as end
 use Rattle.gb_bus.proofs.Keeping.{kept-same, two-ends}
 use Rattle.gb_bus.proofs.KeepingLive.{index-others, kept-added, kept-ends, kept-more, none-there}
 use Rattle.gb_bus.proofs.SeeingLive.{adds, free-above}
 use Rattle.gb_bus.specs.Connection.{Connection}
+use Rattle.gb_bus.specs.Index.{number_at}
 use Rattle.gb_machine.specs.Bus.{same_end}
-use Rattle.gb_switch.specs.Places.{end_cmp}
 use Rattle.gb_bus.proofs.connections.Connections.add.Goals as goal
 
 pub invariant_of-self : goal.invariant_of-self
@@ -21,7 +20,7 @@ invariant_of-self-in_err-insert-2 c =
     c.in_err-insert-2.ensures.err
     (kept-more c.self.inside.live c.self.inside.ends c.insert.new.self c.self.inside.queues
     c.of-near.result c.args.number
-    (none-there (get end_cmp c.self.inside.ends c.of-near.result) c.contains_key.result
+    (none-there (number_at c.self.inside.ends c.of-near.result) c.contains_key.result
     c.contains_key.ensures c.if-contains_key.false)
     c.in_ok-insert.ensures.updates.0 c.self.invariant)
 
@@ -36,13 +35,13 @@ invariant_of-self-in_err-insert-3 c =
     (λ e. two-ends (end.Ap c.args.ap) c.args.peer
     (sym c.is_same.ensures ∙ c.if-is_same.false)
     (sym c.of-near.ensures ∙ sym e ∙ c.of-far.ensures))
-    ∙ none-there (get end_cmp c.self.inside.ends c.of-far.result)
+    ∙ none-there (number_at c.self.inside.ends c.of-far.result)
     c.contains_key-else-contains_key.result
     c.contains_key-else-contains_key.ensures c.if-contains_key-2.false)
     c.in_ok-insert-2.ensures.updates.0
     (kept-more c.self.inside.live c.self.inside.ends c.insert.new.self c.self.inside.queues
     c.of-near.result c.args.number
-    (none-there (get end_cmp c.self.inside.ends c.of-near.result) c.contains_key.result
+    (none-there (number_at c.self.inside.ends c.of-near.result) c.contains_key.result
     c.contains_key.ensures c.if-contains_key.false)
     c.in_ok-insert.ensures.updates.0 c.self.invariant))
 
@@ -61,9 +60,9 @@ invariant_of-self-2 c =
     (ap (λ a. same_end (end.Ap a) c.in_ok-connection.connection.peer) near
     ∙ ap (same_end (end.Ap c.args.ap)) far ∙ sym c.is_same.ensures ∙ c.if-is_same.false)
     (ap (λ (x : Connection). x.wired) c.in_ok-connection.ensures)
-    (none-there (get end_cmp c.self.inside.ends c.of-near.result) c.contains_key.result
+    (none-there (number_at c.self.inside.ends c.of-near.result) c.contains_key.result
     c.contains_key.ensures c.if-contains_key.false)
-    (none-there (get end_cmp c.self.inside.ends c.of-far.result)
+    (none-there (number_at c.self.inside.ends c.of-far.result)
     c.contains_key-else-contains_key.result
     c.contains_key-else-contains_key.ensures c.if-contains_key-2.false)
     c.in_ok-insert.ensures.updates.0 c.in_ok-insert-2.ensures.updates.0 c.self.invariant

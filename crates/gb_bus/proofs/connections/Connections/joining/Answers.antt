@@ -1,12 +1,11 @@
 -- The connection that has the CPort of the application processor, where it has the far end.
 use Rattle.std.proofs.Common.{None, Some, ap, cond, option_map, sym, ◌∙◌}
-use Rattle.std.specs.BTreeMap.{get}
 use Rattle.std.specs.List.{find}
 use Rattle.gb_bus.proofs.Placing.{joins-dead, joins-nowhere, joins-there}
 use Rattle.gb_bus.specs.Connection.{Connection}
+use Rattle.gb_bus.specs.Index.{number_at}
 use Rattle.gb_bus.specs.Parts.{joins}
 use Rattle.gb_bus.specs.Seen.{seen}
-use Rattle.gb_switch.specs.Places.{end_cmp}
 use Rattle.gb_bus.proofs.connections.Connections.joining.Goals as goal
 
 pub returns-in_err-number : goal.returns-in_err-number
@@ -16,7 +15,7 @@ returns-in_err-number c =
     (ap (find (joins c.args.ap c.args.peer)) (sym c.self.view_is)
     ∙ joins-nowhere c.self.inside.live c.self.inside.ends c.self.inside.queues c.args.ap
     c.args.peer c.self.invariant
-    (ap (get end_cmp c.self.inside.ends) (sym c.of.ensures) ∙ sym c.in_err-number.ensures.value)))
+    (ap (number_at c.self.inside.ends) (sym c.of.ensures) ∙ sym c.in_err-number.ensures.value)))
 
 pub returns-in_err-connection : goal.returns-in_err-connection
 returns-in_err-connection c =
@@ -25,7 +24,7 @@ returns-in_err-connection c =
     (ap (find (joins c.args.ap c.args.peer)) (sym c.self.view_is)
     ∙ joins-dead c.self.inside.live c.self.inside.ends c.self.inside.queues c.args.ap
     c.args.peer c.in_ok-number.field-0.now c.self.invariant
-    (ap (get end_cmp c.self.inside.ends) (sym c.of.ensures) ∙ sym c.in_ok-number.ensures.value)
+    (ap (number_at c.self.inside.ends) (sym c.of.ensures) ∙ sym c.in_ok-number.ensures.value)
     (sym c.in_err-connection.ensures.value)))
 
 pub returns-then-joins : goal.returns-then-joins
@@ -34,7 +33,7 @@ returns-then-joins c =
     (ap (find (joins c.args.ap c.args.peer)) (sym c.self.view_is)
     ∙ joins-there c.self.inside.live c.self.inside.ends c.self.inside.queues c.args.ap
     c.args.peer c.in_ok-number.field-0.now c.in_ok-connection.connection.now c.self.invariant
-    (ap (get end_cmp c.self.inside.ends) (sym c.of.ensures) ∙ sym c.in_ok-number.ensures.value)
+    (ap (number_at c.self.inside.ends) (sym c.of.ensures) ∙ sym c.in_ok-number.ensures.value)
     (sym c.in_ok-connection.ensures.value)
     ∙ ap (λ b. cond b (Some (seen c.self.inside.queues c.in_ok-number.field-0.now
     c.in_ok-connection.connection.now)) None) (sym c.joins.ensures ∙ c.if-joins.true)))
@@ -45,7 +44,7 @@ returns-else-joins c =
     (ap (find (joins c.args.ap c.args.peer)) (sym c.self.view_is)
     ∙ joins-there c.self.inside.live c.self.inside.ends c.self.inside.queues c.args.ap
     c.args.peer c.in_ok-number.field-0.now c.in_ok-connection.connection.now c.self.invariant
-    (ap (get end_cmp c.self.inside.ends) (sym c.of.ensures) ∙ sym c.in_ok-number.ensures.value)
+    (ap (number_at c.self.inside.ends) (sym c.of.ensures) ∙ sym c.in_ok-number.ensures.value)
     (sym c.in_ok-connection.ensures.value)
     ∙ ap (λ b. cond b (Some (seen c.self.inside.queues c.in_ok-number.field-0.now
     c.in_ok-connection.connection.now)) None) (sym c.joins.ensures ∙ c.if-joins.false)))

@@ -1,9 +1,8 @@
 -- The connection that has the end, where it is wired.
 use Rattle.std.proofs.Common.{ap, option_map, sym, ◌∙◌}
-use Rattle.std.specs.BTreeMap.{get}
 use Rattle.gb_bus.proofs.Placing.{places, places-dead, places-nowhere}
+use Rattle.gb_bus.specs.Index.{number_at}
 use Rattle.gb_bus.specs.Parts.{place_at}
-use Rattle.gb_switch.specs.Places.{end_cmp}
 use Rattle.gb_bus.proofs.connections.Connections.place.Goals as goal
 
 pub returns-in_err-number : goal.returns-in_err-number
@@ -11,7 +10,7 @@ returns-in_err-number c =
     c.from_residual.ensures
     ∙ sym (places-nowhere c.self.inside.live c.self.inside.ends c.self.inside.queues c.args.at
     c.self.invariant
-    (ap (get end_cmp c.self.inside.ends) (sym c.of.ensures) ∙ sym c.in_err-number.ensures.value))
+    (ap (number_at c.self.inside.ends) (sym c.of.ensures) ∙ sym c.in_err-number.ensures.value))
     ∙ ap (place_at c.args.at) c.self.view_is
 
 pub returns-in_err-get : goal.returns-in_err-get
@@ -19,7 +18,7 @@ returns-in_err-get c =
     c.from_residual-in_err-get.ensures
     ∙ sym (places-dead c.self.inside.live c.self.inside.ends c.self.inside.queues c.args.at
     c.in_ok-number.field-0.now c.self.invariant
-    (ap (get end_cmp c.self.inside.ends) (sym c.of.ensures) ∙ sym c.in_ok-number.ensures.value)
+    (ap (number_at c.self.inside.ends) (sym c.of.ensures) ∙ sym c.in_ok-number.ensures.value)
     (sym c.in_err-get.ensures.value))
     ∙ ap (place_at c.args.at) c.self.view_is
 
@@ -30,7 +29,7 @@ returns-in_err-side c =
     (sym c.in_err-side.was ∙ c.side_at.ensures)
     ∙ sym (places c.self.inside.live c.self.inside.ends c.self.inside.queues c.args.at
     c.in_ok-number.field-0.now c.in_ok-get.field-0.now c.self.invariant
-    (ap (get end_cmp c.self.inside.ends) (sym c.of.ensures) ∙ sym c.in_ok-number.ensures.value)
+    (ap (number_at c.self.inside.ends) (sym c.of.ensures) ∙ sym c.in_ok-number.ensures.value)
     (sym c.in_ok-get.ensures.value))
     ∙ ap (place_at c.args.at) c.self.view_is
 
@@ -40,6 +39,6 @@ returns c =
     (sym c.in_ok-side.was ∙ c.side_at.ensures)
     ∙ sym (places c.self.inside.live c.self.inside.ends c.self.inside.queues c.args.at
     c.in_ok-number.field-0.now c.in_ok-get.field-0.now c.self.invariant
-    (ap (get end_cmp c.self.inside.ends) (sym c.of.ensures) ∙ sym c.in_ok-number.ensures.value)
+    (ap (number_at c.self.inside.ends) (sym c.of.ensures) ∙ sym c.in_ok-number.ensures.value)
     (sym c.in_ok-get.ensures.value))
     ∙ ap (place_at c.args.at) c.self.view_is
