@@ -11,10 +11,11 @@ use Rattle.gb_bus.proofs.Keeping.{Live, Queues}
 use Rattle.gb_bus.proofs.Seeing.{changes-one, filled, finds, next-seen, ops-seen}
 use Rattle.gb_bus.specs.Connection.{Connection}
 use Rattle.gb_bus.specs.Index.{ChangesBy, Ends, Kept, Leaves}
-use Rattle.gb_bus.specs.Parts.{next_of, numbered, ops_of, with_ops}
+use Rattle.gb_bus.specs.Parts.{is_soiled, is_unclean, next_of, numbered, ops_of, with_ops}
 use Rattle.gb_bus.specs.Seen.{all_seen, alone, seen}
 use Rattle.gb_bus.specs.Sides.{BeginsIn, BeginsOn, ChangesSide, GivesUpIn, GivesUpOn, GivesUpWhere}
 use Rattle.gb_bus.specs.Sides.{HasEndsOf, IsNotOf, MatchesAs, MatchesIn, MatchesOn, OnSide}
+use Rattle.gb_bus.specs.Sides.{RespondsIn, RespondsOn, asked_of}
 use Rattle.gb_bus.specs.declared.connection.Connection as code
 use Rattle.gb_machine.specs.Lists.{at_first}
 use Rattle.gb_ops.specs.Calls.{Begins}
@@ -144,6 +145,27 @@ matches live live' ends q k s number label r kept there none fails =
               (w.did.1 ∙ ap (λ ops. with_ops s ops (alone 0 x)) w.did.0.1
               ∙ same-side s (alone 0 x)),
         )
+
+-- a response goes by its number or by its identifier alone
+pub responds : (live live' : Live) (ends : Ends) (q : Queues) (k : ℕ) (s : Side)
+    (number label : ℕ) (r : Bool × Matched) → Kept live ends q
+    → ChangesBy live live' k (λ x y. RespondsOn x y s number label r)
+    → (get nat_cmp live k ≡ None → Leaves live live')
+    → (get nat_cmp live k ≡ None → r ≡ (false, matched.Unknown))
+    → RespondsIn (all_seen q live.entries) (all_seen q live'.entries) k s number label r
+responds live live' ends q k s number label r kept there none fails = (
+  by (get nat_cmp live k) refl,
+  matches live live' ends q k s (asked_of r.0 number) label r.1 kept
+      (λ x e. let w = there x e in record { after = w.after; did = w.did.1; now = w.now })
+      none (λ e. ap (λ p. p.1) (fails e)),
+)
+  where
+    by : (o : Option code.Connection) → get nat_cmp live k ≡ o
+        → r.0 ≡ is_unclean k (all_seen q live.entries)
+    by None e = ap (λ p. p.0) (fails e)
+        ∙ sym (ap is_soiled (finds live q (all_seen q live.entries) k None refl e))
+    by (Some x) e = (there x e).did.0
+        ∙ sym (ap is_soiled (finds live q (all_seen q live.entries) k (Some x) refl e))
 
 pub gives-up : (live live' : Live) (ends : Ends) (q : Queues) (k : ℕ) (s : Side) (n : ℕ)
     → Kept live ends q → ChangesBy live live' k (λ x y. GivesUpOn x y s n)

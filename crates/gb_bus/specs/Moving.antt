@@ -69,6 +69,15 @@ EndsAs old new number kind code payload (Ok a) =
     (ended_at number (outcome.Answered code (shown code payload)) old.slots) old.slots new.slots
 EndsAs old new number kind code payload (Err e) = IsMemory e
 
+-- what an answer to a request with a number does once its identifier is free
+abbrev pub AnswersTo : Option ℕ → Bus → Bus → ℕ → ℕ → List ℕ → Matched
+    → Result Arrival DeliverFault → Type 0
+AnswersTo (Some kind) old new number code payload (matched.Open m) r =
+    EndsAs old new number kind code payload r
+AnswersTo kind old new number code payload m r =
+    (r ≡ Ok (arrival.Late number)) × (new ≡ record old { slots = new.slots })
+    × MovesAt number forgets old.slots.tally old.slots new.slots
+
 -- an answer to a request with a number and an identifier came at a side of a connection
 pub record Answered (old new : Bus) (k : ℕ) (at : Side) (number label code : ℕ)
     (payload : List ℕ) (a : Arrival) : Type 0 where
@@ -99,6 +108,15 @@ OpenedAs old new number label code payload (Ok a) =
     Opens old new label number code payload (open_kind (slot_at old.slots number)) a
     × (new ≡ record old { slots = new.slots })
 OpenedAs old new number label code payload (Err e) = IsMemory e
+
+-- what it does, by what its identifier was in use for, once that is free
+abbrev pub LabelsTo : Bus → Bus → ℕ → ℕ → List ℕ → Matched → Result Arrival DeliverFault → Type 0
+LabelsTo old new label code payload (matched.Open n) r = OpenedAs old new n label code payload r
+LabelsTo old new label code payload (matched.Late n) r =
+    (r ≡ Ok (arrival.LateLabel label)) × (new ≡ record old { slots = new.slots })
+    × MovesAt n forgets old.slots.tally old.slots new.slots
+LabelsTo old new label code payload matched.Unknown r =
+    (r ≡ Ok (arrival.UnknownLabel label)) × (new ≡ old)
 
 -- What it does, by what its identifier is in use for.
 abbrev pub Labels : Bus → Bus → ℕ → ℕ → List ℕ → Matched → Arrival → Type 0

@@ -1,8 +1,8 @@
 -- The requests of one side of a connection whose identifiers are in use, and what changes them.
 use Rattle.std.specs.Prelude.{◌≡◌, ◌⊎◌, ℕ, ◌==◌, Bool, true, false, not, Option, Some, None}
-use Rattle.std.specs.Prelude.{option_and_then, Result, Ok, Err, List, ⊤, find}
+use Rattle.std.specs.Prelude.{if◌then◌else◌, option_and_then, Result, Ok, Err, List, ⊤, find}
 use Rattle.gb_base.specs.declared.end.Side.{Side}
-use Rattle.gb_bus.specs.Parts.{next_in, numbered, ops_of, with_ops}
+use Rattle.gb_bus.specs.Parts.{is_unclean, next_in, numbered, ops_of, with_ops}
 use Rattle.gb_bus.specs.Connection.{Connection}
 use Rattle.gb_machine.specs.Lists.{at_first}
 use Rattle.gb_ops.specs.Calls.{Begins, Ends, Forgets, GivesUp}
@@ -62,6 +62,16 @@ pub record HasEndsOf (old new : Connection) : Type 0 where
 abbrev pub MatchesOn : Connection → Connection → Side → Option ℕ → ℕ → Matched → Type 0
 MatchesOn old new at number label m = OnSide old new at (λ x y. MatchesAs x y number label m)
 
+-- the request that a response is for: the one with its number, or on an unclean connection
+-- whichever has its identifier
+abbrev pub asked_of : Bool → ℕ → Option ℕ
+asked_of unclean number = if unclean then None else Some number
+
+-- a response to a request with a number, with whether the connection is unclean
+abbrev pub RespondsOn : Connection → Connection → Side → ℕ → ℕ → Bool × Matched → Type 0
+RespondsOn old new at number label r =
+    (r.0 ≡ not old.clean) × MatchesOn old new at (asked_of r.0 number) label r.1
+
 abbrev pub GivesUpOn : Connection → Connection → Side → ℕ → Type 0
 GivesUpOn old new at n = OnSide old new at (λ x y. GivesUpWhere x y n)
 
@@ -100,6 +110,11 @@ MatchesIn old new k at number label (matched.Late m) =
 MatchesIn old new k at number label matched.Unknown =
     IsNotOf number (option_and_then (λ c. holder_of (ops_of at c) label) (find (numbered k) old))
     × (new ≡ old)
+
+abbrev pub RespondsIn : List Connection → List Connection → ℕ → Side → ℕ → ℕ → Bool × Matched
+    → Type 0
+RespondsIn old new k at number label r =
+    (r.0 ≡ is_unclean k old) × MatchesIn old new k at (asked_of r.0 number) label r.1
 
 abbrev pub GivesUpIn : List Connection → List Connection → ℕ → Side → ℕ → Type 0
 GivesUpIn old new k at n = ChangesAs old new k at (λ x y. GivesUpWhere x y n)

@@ -16,7 +16,7 @@ ghost use Rattle.gb_bus.specs.Parts.{
 };
 ghost use Rattle.gb_bus.specs.Seen.{alone};
 ghost use Rattle.gb_bus.specs.Sides.{BeginsOn, HasEndsOf, GivesUpOn, MatchesAs, MatchesOn};
-ghost use Rattle.gb_bus.specs.Sides.{is_other};
+ghost use Rattle.gb_bus.specs.Sides.{RespondsOn, is_other};
 ghost use Rattle.gb_bus.specs.Telling.{known_as};
 
 use crate::Known;
@@ -80,6 +80,7 @@ impl Connection {
     }
 
     /// The requests of a side whose identifiers are in use.
+    #[inline]
     pub fn ops(&self, side: Side) -> &Ops
         ensures { result.now ≡ ops_of side (alone 0 self.now) }
     {
@@ -90,6 +91,7 @@ impl Connection {
     }
 
     /// All identifiers of a side are in use.
+    #[inline]
     pub fn is_spent(&self, side: Side) -> bool
         ensures { result ≡ is_none (next_of side (alone 0 self.now)) }
     {
@@ -101,6 +103,7 @@ impl Connection {
 
     /// Request n of a side is open from now on, and its identifier is answered. After NoLabel all
     /// is as before.
+    #[inline]
     pub fn begin(&mut self, side: Side, n: u64, deadline: u64) -> Result<u16, BeginFault>
         ensures begun { BeginsOn (alone 0 self.old) (alone 0 self.new) side n deadline result }
         ensures ends { HasEndsOf (alone 0 self.old) (alone 0 self.new) }
@@ -114,12 +117,26 @@ impl Connection {
     /// What an answer with an identifier comes to on a side: to request `number`, or to whichever
     /// has the identifier. The identifier is free then. Unknown comes where the identifier isn't in
     /// use, or not for that request, which was over when its side was closed.
+    #[inline]
     pub fn matched(&mut self, side: Side, number: Option<u64>, label: u16) -> Matched
         ensures { MatchesOn (alone 0 self.old) (alone 0 self.new) side number label result }
     {
         match side {
             Side::Ap => matched(&mut self.ap_ops, number, label),
             Side::Far => matched(&mut self.far_ops, number, label),
+        }
+    }
+
+    /// What a response to request `number` comes to on a side, and before that whether raw bytes
+    /// were injected: then it goes by its identifier alone.
+    #[inline]
+    pub fn responded(&mut self, side: Side, number: u64, label: u16) -> (bool, Matched)
+        ensures { RespondsOn (alone 0 self.old) (alone 0 self.new) side number label result }
+    {
+        if self.clean {
+            (false, self.matched(side, Some(number), label))
+        } else {
+            (true, self.matched(side, None, label))
         }
     }
 
@@ -164,6 +181,7 @@ impl Connection {
     }
 
     /// The end at a side.
+    #[inline]
     pub fn end(&self, side: Side) -> End
         ensures { result ≡ end_at side (alone 0 self.now) }
     {
@@ -174,6 +192,7 @@ impl Connection {
     }
 
     /// The side at which an end stands, None where it isn't wired or has no such end.
+    #[inline]
     pub fn side_at(&self, at: End) -> Option<Side>
         ensures { result ≡ side_at at (alone 0 self.now) }
     {
@@ -204,6 +223,7 @@ impl Connection {
 }
 
 /// What an answer with an identifier comes to on one side.
+#[inline]
 fn matched(ops: &mut Ops, number: Option<u64>, label: u16) -> Matched
     ensures { MatchesAs ops.old ops.new number label result }
 {
@@ -217,6 +237,7 @@ fn matched(ops: &mut Ops, number: Option<u64>, label: u16) -> Matched
 }
 
 /// A request isn't the one that is asked for.
+#[inline]
 fn is_other(number: Option<u64>, n: u64) -> bool
     ensures { result ≡ is_other number n }
 {

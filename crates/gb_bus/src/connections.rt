@@ -21,7 +21,6 @@ ghost use Rattle.gb_bus.specs.Parts.{
   cleared,
   closed,
   ends_in,
-  is_unclean,
   is_wired_to,
   joins,
   new_connection,
@@ -77,7 +76,7 @@ impl Model for Connections {
 
 impl Connections {
     ghost use Rattle.gb_bus.specs.Parts.{PopsAs, earliest_in};
-    ghost use Rattle.gb_bus.specs.Sides.{BeginsIn, GivesUpIn, MatchesIn};
+    ghost use Rattle.gb_bus.specs.Sides.{BeginsIn, GivesUpIn, MatchesIn, RespondsIn};
 
     /// The connection of the supervisory controller alone, open for ever.
     pub fn new(alloc: Global) -> Result<Connections, OutOfMemory>
@@ -127,23 +126,15 @@ impl Connections {
     }
 
     /// Whether the live connection with a number is wired. None comes where it isn't live.
+    #[inline]
     pub fn wired(&self, k: u64) -> Option<bool>
         ensures { result ≡ option_map (λ c. c.wired) (find (numbered k) self.now) }
     {
         Some(self.live.get(&k)?.wired)
     }
 
-    /// Raw bytes were injected on the live connection with a number.
-    pub fn is_unclean(&self, k: u64) -> bool
-        ensures { result ≡ is_unclean k self.now }
-    {
-        match self.live.get(&k) {
-            Some(connection) => !connection.clean,
-            None => false,
-        }
-    }
-
     /// The ends of the live connection with a number.
+    #[inline]
     pub fn ends(&self, k: u64) -> Option<(u16, End)>
         ensures { result ≡ option_map ends_in (find (numbered k) self.now) }
     {
@@ -161,6 +152,7 @@ impl Connections {
     }
 
     /// No identifier is left on a side of a connection, or it isn't live.
+    #[inline]
     pub fn is_spent(&self, k: u64, side: Side) -> bool
         ensures { result ≡ is_none (next_in k side self.now) }
     {
@@ -219,6 +211,7 @@ impl Connections {
     }
 
     /// The wired connection that names an end, and the side at which the end stands.
+    #[inline]
     pub fn place(&self, at: End) -> Option<(u64, Side)>
         ensures { result ≡ place_at at self.now }
     {
@@ -313,6 +306,7 @@ impl Connections {
 
     /// Request n of a side of a connection is open from now on, and its identifier is answered.
     /// NoLabel comes where the connection isn't live too. Nothing changes then.
+    #[inline]
     pub fn begin(&mut self, k: u64, side: Side, n: u64, deadline: u64) -> Result<u16, BeginFault>
         ensures { BeginsIn self.old self.new k side n deadline result }
     {
@@ -322,10 +316,21 @@ impl Connections {
     /// What an answer with an identifier comes to on a side of a connection: to request `number`,
     /// or to whichever has the identifier. The identifier is free then. Unknown comes where it
     /// isn't in use there, or not for that request.
+    #[inline]
     pub fn matched(&mut self, k: u64, side: Side, number: Option<u64>, label: u16) -> Matched
         ensures { MatchesIn self.old self.new k side number label result }
     {
         live::matched(&mut self.live, k, side, number, label)
+    }
+
+    /// What a response to request `number` comes to on a side of a connection, and before that
+    /// whether the connection is unclean: then it goes by its identifier alone. The identifier is
+    /// free then.
+    #[inline]
+    pub fn responded(&mut self, k: u64, side: Side, number: u64, label: u16) -> (bool, Matched)
+        ensures { RespondsIn self.old self.new k side number label result }
+    {
+        live::responded(&mut self.live, k, side, number, label)
     }
 
     /// Request n of a side of a connection is given up, where it is open. Its identifier stays in
@@ -338,6 +343,7 @@ impl Connections {
 
     /// Adds a message to the queue toward a side of a connection. It is lost where the connection
     /// isn't wired.
+    #[inline]
     pub fn push(&mut self, k: u64, side: Side, item: Item) -> Result<(), OutOfMemory>
         ensures { OnOk result (self.new ≡ at_first (numbered k) (put side item) self.old) }
     {
@@ -355,6 +361,7 @@ impl Connections {
     }
 
     /// Takes the front message toward an end that a wired connection names.
+    #[inline]
     pub fn pop(&mut self, at: End) -> Option<Item>
         ensures { PopsAs self.old self.new at result }
     {

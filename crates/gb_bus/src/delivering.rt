@@ -17,10 +17,11 @@ const FIRST_RESPONSE: u8 = 0x80;
 impl Bus {
     ghost use Rattle.gb_bus.specs.Delivering.{DeliversAs};
     ghost use Rattle.gb_bus.specs.Moving.{
-      AnswersAs,
+      AnswersTo,
       EndsAs,
       HandlesAs,
       LabelledAs,
+      LabelsTo,
       OpenedAs,
       RawTakesAs,
       RepliesTo,
@@ -48,6 +49,7 @@ impl Bus {
     }
 
     /// What a message brings to a side of a connection, which takes it or drops it.
+    #[inline]
     fn handled(
         &mut self,
         k: u64,
@@ -65,6 +67,7 @@ impl Bus {
     }
 
     /// What a message brings to a side of a connection that takes it.
+    #[inline]
     fn arrival(&mut self, k: u64, side: Side, item: Item) -> Result<Arrival, DeliverFault>
         ensures { TakesAs self.old self.new k side item result }
     {
@@ -105,6 +108,7 @@ impl Bus {
 
     /// What a message that came as raw bytes brings: a request, or a response that goes by its
     /// identifier.
+    #[inline]
     fn raw(
         &mut self,
         k: u64,
@@ -132,6 +136,7 @@ impl Bus {
 
     /// What a response to request n brings. It goes by its number on a clean connection, and by its
     /// identifier on an unclean one.
+    #[inline]
     fn response(
         &mut self,
         k: u64,
@@ -144,15 +149,17 @@ impl Bus {
         ensures { RepliesTo (is_unclean k self.old.connections) self.old self.new k side number
             label code payload result }
     {
-        if self.connections.is_unclean(k) {
-            self.labelled(k, side, label, code, payload)
+        let (unclean, matched) = self.connections.responded(k, side, number, label);
+        if unclean {
+            self.by_label(matched, label, code, payload)
         } else {
-            self.answer(k, side, number, label, code, payload)
+            self.by_number(matched, number, code, payload)
         }
     }
 
     /// What a response brings that goes by its identifier alone. It belongs to the request which
     /// the identifier is in use for, and the identifier is free then.
+    #[inline]
     fn labelled(
         &mut self,
         k: u64,
@@ -163,7 +170,22 @@ impl Bus {
     ) -> Result<Arrival, DeliverFault>
         ensures { LabelledAs self.old self.new k side label code payload result }
     {
-        match self.connections.matched(k, side, None, label) {
+        let matched = self.connections.matched(k, side, None, label);
+        self.by_label(matched, label, code, payload)
+    }
+
+    /// What a response brings by what its identifier was in use for.
+    #[inline]
+    fn by_label(
+        &mut self,
+        matched: Matched,
+        label: u16,
+        code: u8,
+        payload: Bytes,
+    ) -> Result<Arrival, DeliverFault>
+        ensures { LabelsTo self.old self.new label code payload matched result }
+    {
+        match matched {
             Matched::Open(number) => self.opened(number, label, code, payload),
             Matched::Late(number) => {
                 self.slots.forget(number);
@@ -174,6 +196,7 @@ impl Bus {
     }
 
     /// A request is answered that is open, since its identifier is in use so.
+    #[inline]
     fn opened(
         &mut self,
         number: u64,
@@ -189,24 +212,21 @@ impl Bus {
         }
     }
 
-    /// What an answer brings. It belongs to the request that its identifier is in use for, and the
-    /// identifier is free then. It ends its request where that is open, or else is late. It is late
-    /// too where its request was over when its side was closed.
-    fn answer(
+    /// What the answer to a request brings, by what its identifier was in use for. It ends its
+    /// request where that is open, or else is late. It is late too where its request was over when
+    /// its side was closed.
+    #[inline]
+    fn by_number(
         &mut self,
-        k: u64,
-        side: Side,
+        matched: Matched,
         number: u64,
-        label: u16,
         code: u8,
         payload: Bytes,
     ) -> Result<Arrival, DeliverFault>
-        ensures { AnswersAs self.old self.new k side number label code payload result }
+        ensures { AnswersTo (open_kind (slot_at self.old.slots number)) self.old self.new number
+            code payload matched result }
     {
-        match (
-            self.connections.matched(k, side, Some(number), label),
-            self.open_kind(number),
-        ) {
+        match (matched, self.open_kind(number)) {
             (Matched::Open(_), Some(kind)) => self.ended(number, kind, code, payload),
             _ => {
                 self.slots.forget(number);
@@ -216,6 +236,7 @@ impl Bus {
     }
 
     /// An open request is answered.
+    #[inline]
     fn ended(
         &mut self,
         number: u64,
@@ -244,6 +265,7 @@ impl Bus {
     }
 
     /// The type of request n, None where n isn't open.
+    #[inline]
     fn open_kind(&self, n: u64) -> Option<u8>
         ensures { result ≡ open_kind (slot_at self.now.slots n) }
     {
@@ -255,6 +277,7 @@ impl Bus {
 }
 
 /// What is told of a message that is dropped.
+#[inline]
 fn dropped(item: Item) -> Arrival
     ensures { result ≡ dropped item }
 {

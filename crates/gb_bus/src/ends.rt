@@ -7,6 +7,7 @@ ghost use Rattle.gb_machine.specs.Waiting.{end_before};
 use gb_base::{End, Side};
 
 /// The other side of a connection.
+#[inline]
 pub fn other_side(side: Side) -> Side
     ensures { result ≡ other_side side }
 {

@@ -1,11 +1,11 @@
 //! What changes of one live connection, by its number.
 
-ghost use Rattle.std.specs.Prelude.{◌≡◌, ◌<◌, ℕ, None, true, Err, IsSome};
+ghost use Rattle.std.specs.Prelude.{◌≡◌, ◌<◌, ℕ, None, true, false, Err, IsSome};
 ghost use Rattle.std.specs.BTreeMap.{get};
 ghost use Rattle.std.specs.Ordering.{nat_cmp};
 ghost use Rattle.gb_bus.specs.Index.{ChangesBy, Leaves};
 ghost use Rattle.gb_bus.specs.Parts.{cleared, closed, soiled, with_wire};
-ghost use Rattle.gb_bus.specs.Sides.{BeginsOn, GivesUpOn, HasEndsOf, MatchesOn};
+ghost use Rattle.gb_bus.specs.Sides.{BeginsOn, GivesUpOn, HasEndsOf, MatchesOn, RespondsOn};
 ghost use Rattle.gb_ops.specs.declared.entries.BeginFault.TheVariants as fault;
 ghost use Rattle.gb_ops.specs.declared.entries.Matched.TheVariants as matching;
 
@@ -66,6 +66,7 @@ pub fn shut(live: &mut BTreeMap<u64, Connection>, k: u64)
 
 /// Request n of a side of a connection is open from now on, and its identifier is answered.
 /// NoLabel comes where the connection isn't live too.
+#[inline]
 pub fn begin(
     live: &mut BTreeMap<u64, Connection>,
     k: u64,
@@ -86,6 +87,7 @@ pub fn begin(
 
 /// What an answer with an identifier comes to on a side of a connection: to request `number`, or to
 /// whichever has the identifier.
+#[inline]
 pub fn matched(
     live: &mut BTreeMap<u64, Connection>,
     k: u64,
@@ -100,6 +102,26 @@ pub fn matched(
     match live.get_mut(&k) {
         Some(connection) => connection.matched(side, number, label),
         None => Matched::Unknown,
+    }
+}
+
+/// What a response to request `number` comes to on a side of a connection, and before that whether
+/// raw bytes were injected on it: then it goes by its identifier alone.
+#[inline]
+pub fn responded(
+    live: &mut BTreeMap<u64, Connection>,
+    k: u64,
+    side: Side,
+    number: u64,
+    label: u16,
+) -> (bool, Matched)
+    ensures there { ChangesBy live.old live.new k (λ x y. RespondsOn x y side number label result) }
+    ensures nowhere { get nat_cmp live.old k ≡ None → Leaves live.old live.new }
+    ensures none { get nat_cmp live.old k ≡ None → result ≡ (false, matching.Unknown) }
+{
+    match live.get_mut(&k) {
+        Some(connection) => connection.responded(side, number, label),
+        None => (false, Matched::Unknown),
     }
 }
 

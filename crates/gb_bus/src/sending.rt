@@ -70,6 +70,7 @@ impl Bus {
     }
 
     /// The identifier of request n of a side: 0 where it is unidirectional.
+    #[inline]
     fn label_for(
         &mut self,
         k: u64,
@@ -111,6 +112,7 @@ impl Bus {
 }
 
 /// The reply to a request, as it waits in a queue.
+#[inline]
 fn reply_item(asked: &Asked, code: u8, payload: Bytes) -> Item
     ensures { result ≡ reply_item asked.now code payload }
 {

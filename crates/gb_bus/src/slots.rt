@@ -69,6 +69,7 @@ pub struct Slot {
 
 impl Slot {
     /// Its identifier is in use, or it has a name.
+    #[inline]
     fn is_asked_for(&self) -> bool
         ensures { result ≡ is_asked_for self.now }
     {
@@ -121,6 +122,7 @@ impl Slots {
     }
 
     /// How many requests were made.
+    #[inline]
     pub fn count(&self) -> u64
         ensures { result ≡ self.now.tally.requests }
     {
@@ -135,6 +137,7 @@ impl Slots {
     }
 
     /// The slot of request n, None where it isn't kept.
+    #[inline]
     pub fn get(&self, n: u64) -> Option<&Slot>
         ensures { option_copied result ≡ slot_at self.now n }
     {
@@ -144,6 +147,7 @@ impl Slots {
 
     /// Counts a new request. One that isn't unidirectional is open, and is kept. After want of
     /// memory nothing is said.
+    #[inline]
     pub fn add(&mut self, slot: Slot, oneway: bool) -> Result<(), OutOfMemory>
         requires number { slot.number ≡ self.old.tally.requests + 1 }
         requires unended { slot.outcome ≡ None }
@@ -179,6 +183,7 @@ impl Slots {
     }
 
     /// Request n ends so, where it is open.
+    #[inline]
     pub fn end(&mut self, n: u64, how: Outcome)
         ensures { MovesAt n (ends_so how) (ended_at n how self.old) self.old self.new }
     {
@@ -218,6 +223,7 @@ impl Slots {
     }
 
     /// The identifier of request n is free, where n has ended.
+    #[inline]
     pub fn forget(&mut self, n: u64)
         ensures { MovesAt n forgets self.old.tally self.old self.new }
     {
@@ -227,6 +233,7 @@ impl Slots {
     }
 
     /// The identifier of request n is free, whose slot has this key, where n has ended.
+    #[inline]
     fn free(&mut self, n: u64, key: usize)
         requires { key_at self.old n ≡ Some key }
         ensures { MovesAt n forgets self.old.tally self.old self.new }
