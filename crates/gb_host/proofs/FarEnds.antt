@@ -1,25 +1,22 @@
 -- The numbers at far ends, as connections come and go.
 use Rattle.std.proofs.Common.{◌≡◌, ◌==◌, ◌&&◌, ℕ, Bool, true, false, cond, not, None, Some, Result}
-use Rattle.std.proofs.Common.{Ok, Err, List, [], ◌∷◌, ◌++◌, refl, sym, ap, ◌∙◌, arith, subst}
+use Rattle.std.proofs.Common.{Ok, Err, List, [], ◌∷◌, ◌++◌, ◌<◌, ◌/◌, nat_eq, refl, sym, ap, ◌∙◌, arith}
+use Rattle.std.proofs.Common.{subst}
 use Rattle.std.proofs.lemmas.Bool.Decides.{nat_tests}
 use Rattle.std.proofs.lemmas.Map.Entries.{lookup-filter-keys}
-use Rattle.std.specs.BTreeMap.{Updates, UpdatesBy, get, is_at}
+use Rattle.std.specs.HashMap.{Updates, UpdatesBy, get}
 use Rattle.std.specs.List.{filter, find}
 use Rattle.std.specs.Map.{lookup}
 use Rattle.std.specs.Option.{is_some}
 use Rattle.std.specs.Result.{OnOk, is_ok}
 use Rattle.gb_base.specs.declared.peers.Link.{Link}
 use Rattle.gb_host.proofs.Named.{find-new, find-other, find-there, find-without, number_of}
-use Rattle.gb_host.proofs.Named.{same-end}
+use Rattle.gb_host.proofs.Named.{equals, intf-of-end, same-end}
 use Rattle.gb_host.proofs.Rising.{and-both}
-use Rattle.gb_host.specs.Named.{AreNamed, end_cmp}
+use Rattle.gb_host.specs.Named.{AreNamed, end_number}
 use Rattle.gb_host.specs.declared.ends.Ends.{Ends}
 use Rattle.gb_machine.specs.Host.{is_link}
 use Rattle.gb_machine.specs.Lists.{without}
-
--- a number that equals another
-equals : (a b : ℕ) → (a == b) ≡ true → a ≡ b
-equals a b h = grind (arith, nat_tests)
 
 swapped : (a b : ℕ) → (a == b) ≡ (b == a)
 swapped a b = by (a == b) (b == a) refl refl
@@ -36,54 +33,59 @@ on-ok (Ok x) p h = p
 on-ok (Err e) p h = absurd cc
 
 -- a connection comes, where there is one at its far end
-pub ends-there : (x : Ends) (ls : List Link) (l : Link)
-    → is_some (get end_cmp x.numbers (l.intf, l.cport)) ≡ true → AreNamed x ls
+pub ends-there : (x : Ends) (ls : List Link) (l : Link) (k : ℕ) → l.cport < 65536
+    → k ≡ end_number l.intf l.cport → is_some (get nat_eq x.numbers k) ≡ true → AreNamed x ls
     → AreNamed x (ls ++ l ∷ [])
-ends-there x ls l there named i c = by (is_link i c l) refl
+ends-there x ls l k low is there named i c fits = by (is_link i c l) refl
   where
-    by : (b : Bool) → is_link i c l ≡ b
-        → get end_cmp x.numbers (i, c) ≡ number_of (find (is_link i c) (ls ++ l ∷ []))
+    by : (b : Bool) → is_link i c l ≡ b → get nat_eq x.numbers (end_number i c)
+        ≡ number_of (find (is_link i c) (ls ++ l ∷ []))
     by true e =
         let both = and-both (l.intf == i) (l.cport == c) e in
         let some : is_some (number_of (find (is_link l.intf l.cport) ls)) ≡ true =
-        ap is_some (sym (named l.intf l.cport)) ∙ there in
+        ap is_some (sym (named l.intf l.cport low))
+        ∙ ap (λ n. is_some (get nat_eq x.numbers n)) (sym is) ∙ there in
         let at : is_some (number_of (find (is_link i c) ls)) ≡ true =
         subst (λ n. is_some (number_of (find (is_link n c) ls)) ≡ true) (equals l.intf i both.0)
         (subst (λ n. is_some (number_of (find (is_link l.intf n) ls)) ≡ true) (equals l.cport c
-        both.1) some) in named i c ∙ sym (find-there (is_link i c) ls l at)
-    by false e = named i c ∙ sym (find-other (is_link i c) ls l e)
+        both.1) some) in named i c fits ∙ sym (find-there (is_link i c) ls l at)
+    by false e = named i c fits ∙ sym (find-other (is_link i c) ls l e)
 
 -- a connection comes, where there is none at its far end
-pub ends-new : (x y : Ends) (ls : List Link) (l : Link)
-    → is_some (get end_cmp x.numbers (l.intf, l.cport)) ≡ false
-    → Updates end_cmp x.numbers y.numbers (l.intf, l.cport) (Some l.connection)
+pub ends-new : (x y : Ends) (ls : List Link) (l : Link) (k : ℕ) → l.cport < 65536
+    → k ≡ end_number l.intf l.cport → is_some (get nat_eq x.numbers k) ≡ false
+    → Updates nat_eq x.numbers y.numbers k (Some l.connection)
     → AreNamed x ls → AreNamed y (ls ++ l ∷ [])
-ends-new x y ls l none up named i c =
-    up.0 (i, c)
-    ∙ ap (λ b. cond b (Some l.connection) (get end_cmp x.numbers (i, c))) (same-end l.intf l.cport
-    i c) ∙ by (is_link i c l) refl
+ends-new x y ls l k low is none up named i c fits =
+    up.0 (end_number i c)
+    ∙ ap (λ n. cond (nat_eq n (end_number i c)) (Some l.connection)
+    (get nat_eq x.numbers (end_number i c))) is
+    ∙ ap (λ b. cond b (Some l.connection) (get nat_eq x.numbers (end_number i c)))
+    (same-end l.intf l.cport i c low fits) ∙ by (is_link i c l) refl
   where
     by : (b : Bool) → is_link i c l ≡ b
-        → cond b (Some l.connection) (get end_cmp x.numbers (i, c))
+        → cond b (Some l.connection) (get nat_eq x.numbers (end_number i c))
         ≡ number_of (find (is_link i c) (ls ++ l ∷ []))
     by true e =
         let both = and-both (l.intf == i) (l.cport == c) e in
         let absent : is_some (number_of (find (is_link l.intf l.cport) ls)) ≡ false =
-        ap is_some (sym (named l.intf l.cport)) ∙ none in
+        ap is_some (sym (named l.intf l.cport low))
+        ∙ ap (λ n. is_some (get nat_eq x.numbers n)) (sym is) ∙ none in
         let at : is_some (number_of (find (is_link i c) ls)) ≡ false =
         subst (λ n. is_some (number_of (find (is_link n c) ls)) ≡ false) (equals l.intf i both.0)
         (subst (λ n. is_some (number_of (find (is_link l.intf n) ls)) ≡ false) (equals l.cport c
         both.1) absent) in sym (find-new (is_link i c) ls l at e)
-    by false e = named i c ∙ sym (find-other (is_link i c) ls l e)
+    by false e = named i c fits ∙ sym (find-other (is_link i c) ls l e)
 
 -- those at a far end leave
-pub ends-left : (x y : Ends) (i c : ℕ) (ls : List Link)
-    → UpdatesBy end_cmp (end_cmp (i, c)) x.numbers y.numbers None → AreNamed x ls
+pub ends-left : (x y : Ends) (i c k : ℕ) (ls : List Link) → c < 65536 → k ≡ end_number i c
+    → UpdatesBy nat_eq (nat_eq k) x.numbers y.numbers None → AreNamed x ls
     → AreNamed y (without (is_link i c) ls)
-ends-left x y i c ls up named j d =
-    up.0 (j, d)
-    ∙ ap (λ b. cond b None (get end_cmp x.numbers (j, d))) (same-end i c j d)
-    ∙ ap (λ o. cond (i == j && c == d) None o) (named j d)
+ends-left x y i c k ls low is up named j d fits =
+    up.0 (end_number j d)
+    ∙ ap (λ n. cond (nat_eq n (end_number j d)) None (get nat_eq x.numbers (end_number j d))) is
+    ∙ ap (λ b. cond b None (get nat_eq x.numbers (end_number j d))) (same-end i c j d low fits)
+    ∙ ap (λ o. cond (i == j && c == d) None o) (named j d fits)
     ∙ by (i == j && c == d)
     ∙ sym (ap number_of (find-without (is_link i c) (is_link j d) (i == j && c == d) stays ls))
   where
@@ -101,20 +103,20 @@ ends-left x y i c ls up named j d =
 
 -- those at an interface leave
 pub ends-without : (x y : Ends) (i : ℕ) (ls : List Link)
-    → y.numbers.entries ≡ filter (λ e. not (e.0.0 == i)) x.numbers.entries → AreNamed x ls
+    → y.numbers.entries ≡ filter (λ e. not (e.0 / 65536 == i)) x.numbers.entries → AreNamed x ls
     → AreNamed y (without (λ l. l.intf == i) ls)
-ends-without x y i ls kept named j d =
-    ap (λ es. lookup (is_at (end_cmp (j, d))) es) kept
-    ∙ lookup-filter-keys (is_at (end_cmp (j, d))) (λ k. not (k.0 == i)) (not (j == i)) keys
+ends-without x y i ls kept named j d fits =
+    ap (λ es. lookup (nat_eq (end_number j d)) es) kept
+    ∙ lookup-filter-keys (nat_eq (end_number j d)) (λ k. not (k / 65536 == i)) (not (j == i)) keys
     x.numbers.entries
-    ∙ ap (λ o. cond (not (j == i)) o None) (named j d)
+    ∙ ap (λ o. cond (not (j == i)) o None) (named j d fits)
     ∙ by (j == i)
     ∙ sym (ap number_of (find-without (λ l. l.intf == i) (is_link j d) (j == i) stays ls))
   where
-    keys : (k : ℕ × ℕ) → is_at (end_cmp (j, d)) k ≡ true → not (k.0 == i) ≡ not (j == i)
+    keys : (k : ℕ) → nat_eq (end_number j d) k ≡ true → not (k / 65536 == i) ≡ not (j == i)
     keys k h =
-        let both = and-both (j == k.0) (d == k.1) (sym (same-end j d k.0 k.1) ∙ h) in
-        ap (λ n. not (n == i)) (sym (equals j k.0 both.0))
+        ap (λ n. not (n / 65536 == i)) (sym (equals (end_number j d) k h))
+        ∙ ap (λ n. not (n == i)) (intf-of-end j d fits)
 
     by : (b : Bool) → cond (not b) (number_of (find (is_link j d) ls)) None
         ≡ number_of (cond b None (find (is_link j d) ls))

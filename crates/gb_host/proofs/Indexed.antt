@@ -45,8 +45,8 @@ pub indexed-kept : (cports : Cports) (ends : Ends) (known : Bool) (old new : ℕ
 indexed-kept cports ends known old new test c ls ms e indexed within quiet = record {
   marks = marks-kept cports test (link_changed c) ls ms (ap-stays c) indexed.marks e;
   rises = λ says. rises-kept test (link_changed c) ls ms (number-stays c) e (indexed.rises says);
-  named = λ says i p.
-      indexed.named says i p
+  named = λ says i p fits.
+      indexed.named says i p fits
       ∙ sym (find-kept test (is_link i p) (link_changed c) (end-stays i p c) (number-stays c) ls)
       ∙ ap (λ ns. number_of (find (is_link i p) ns)) (sym e);
   within = within;

@@ -1,18 +1,22 @@
 -- Connections by their far ends.
 use Rattle.std.proofs.Common.{◌≡◌, ◌==◌, ◌+◌, ◌<◌, ℕ, zero, suc, Bool, true, false, ◌&&◌, cond, not}
-use Rattle.std.proofs.Common.{nat_lt, Option, Some, None, List, [], ◌∷◌, ◌++◌, length, get_or, refl}
-use Rattle.std.proofs.Common.{sym, ap, ◌∙◌, arith}
+use Rattle.std.proofs.Common.{nat_eq, Option, Some, None, List, [], ◌∷◌, ◌++◌, length, get_or, refl}
+use Rattle.std.proofs.Common.{◌*◌, ◌/◌, sym, ap, ◌∙◌, arith}
 use Rattle.std.proofs.lemmas.Bool.Decides.{nat_tests}
 use Rattle.std.proofs.lemmas.List.Folds.{find-append}
 use Rattle.std.specs.List.{find, position_from}
 use Rattle.std.specs.Option.{is_some, option_map, option_or}
-use Rattle.std.specs.Ordering.{is_eq, nat_cmp, ordering_then}
-use Rattle.std.specs.declared.cmp.Ordering.{Ordering}
-use Rattle.std.specs.declared.cmp.Ordering.TheVariants.{Less, Equal, Greater}
 use Rattle.gb_base.specs.declared.peers.Link.{Link}
 use Rattle.gb_host.specs.Indexes.{Rises}
-use Rattle.gb_host.specs.Named.{end_cmp}
+use Rattle.gb_host.specs.Named.{end_number}
 use Rattle.gb_machine.specs.Lists.{at_first, without}
+
+-- a number that equals another
+pub equals : (a b : ℕ) → (a == b) ≡ true → a ≡ b
+equals a b h = grind (arith, nat_tests)
+
+alike : (a b : ℕ) → a ≡ b → (a == b) ≡ true
+alike a b h = grind (arith, nat_tests)
 
 -- the number of a connection, where there is one
 abbrev pub number_of : Option Link → Option ℕ
@@ -20,27 +24,32 @@ number_of o = option_map (λ l. l.connection) o
 
 -- ---- far ends
 
-both-equal : (o p : Ordering) → is_eq (ordering_then o p) ≡ (is_eq o && is_eq p)
-both-equal Less p = refl
-both-equal Equal p = refl
-both-equal Greater p = refl
-
-equal-numbers : (a i : ℕ) → is_eq (nat_cmp a i) ≡ (a == i)
-equal-numbers a i = by (nat_lt a i) (a == i) refl refl
+-- far ends are the same number where both numbers are
+pub same-end : (a b i c : ℕ) → b < 65536 → c < 65536
+    → nat_eq (end_number a b) (end_number i c) ≡ (a == i && b == c)
+same-end a b i c low least =
+    by (nat_eq (end_number a b) (end_number i c)) (a == i) (b == c) refl refl refl
   where
-    by : (b e : Bool) → nat_lt a i ≡ b → (a == i) ≡ e → is_eq (cond b Less (cond e Equal Greater))
-        ≡ e
-    by true true h k = absurd (grind (arith, nat_tests))
-    by true false h k = refl
-    by false true h k = refl
-    by false false h k = refl
+    by : (t u v : Bool) → nat_eq (end_number a b) (end_number i c) ≡ t → (a == i) ≡ u
+        → (b == c) ≡ v → t ≡ (u && v)
+    by true true v e f g =
+        let one : a * 65536 + b ≡ i * 65536 + c = equals (end_number a b) (end_number i c) e in
+        let two : a ≡ i = equals a i f in
+        let is : b ≡ c = omega (arith, one, two) in sym (sym g ∙ alike b c is)
+    by true false v e f g =
+        let one : a * 65536 + b ≡ i * 65536 + c = equals (end_number a b) (end_number i c) e in
+        let is : a ≡ i = omega (arith, one, low, least) in sym (alike a i is) ∙ f
+    by false true true e f g =
+        let two : a ≡ i = equals a i f in
+        let three : b ≡ c = equals b c g in
+        let is : end_number a b ≡ end_number i c = omega (arith, two, three) in
+        sym e ∙ alike (end_number a b) (end_number i c) is
+    by false true false e f g = refl
+    by false false v e f g = refl
 
--- far ends are compared as equal where both numbers are
-pub same-end : (a b i c : ℕ) → is_eq (end_cmp (a, b) (i, c)) ≡ (a == i && b == c)
-same-end a b i c =
-    both-equal (nat_cmp a i) (nat_cmp b c)
-    ∙ ap (λ e. e && is_eq (nat_cmp b c)) (equal-numbers a i)
-    ∙ ap (λ e. (a == i) && e) (equal-numbers b c)
+-- the interface of a far end
+pub intf-of-end : (i c : ℕ) → c < 65536 → end_number i c / 65536 ≡ i
+intf-of-end i c fits = omega (arith, fits)
 
 -- ---- the first at a far end
 

@@ -1,18 +1,22 @@
 //! The connections by their far ends.
 
-ghost use Rattle.std.specs.Prelude.{◌≡◌, ◌==◌, ◌∷◌, [], ◌++◌, true, List, find, option_map};
+ghost use Rattle.std.specs.Prelude.{◌≡◌, ◌==◌, ◌<◌, ◌∷◌, [], ◌++◌, true, List, find, option_map};
 ghost use Rattle.gb_base.specs.declared.peers.Link.{Link};
+ghost use Rattle.gb_host.specs.Named.{end_number};
 ghost use Rattle.gb_machine.specs.Host.{is_link};
 ghost use Rattle.gb_machine.specs.Lists.{without};
 
 use gb_base::Link;
 use std::alloc::Global;
-use std::collections::BTreeMap;
+use std::collections::HashMap;
 
-/// The number of the first connection at each far end: an interface and its CPort.
+/// How many numbers a CPort can have.
+const CPORTS: u32 = 65_536;
+
+/// The number of the first connection at each far end: an interface and its CPort, as one number.
 #[derive(Drop)]
 pub struct Ends {
-    numbers: BTreeMap<(u8, u16), u64>,
+    numbers: HashMap<u32, u64>,
 }
 
 impl Ends {
@@ -23,7 +27,7 @@ impl Ends {
         ensures { AreNamed result [] }
     {
         Ends {
-            numbers: BTreeMap::new(alloc),
+            numbers: HashMap::new(alloc),
         }
     }
 
@@ -32,7 +36,7 @@ impl Ends {
         ensures { (ls : List Link) → AreNamed self.now ls
             → result ≡ option_map (λ l. l.connection) (find (is_link intf cport) ls) }
     {
-        self.numbers.get(&(intf, cport)).copied()
+        self.numbers.get(&far_end(intf, cport)).copied()
     }
 
     /// A connection more is at its far end, where memory is found.
@@ -40,7 +44,7 @@ impl Ends {
         ensures { (ls : List Link) → AreNamed self.old ls → result ≡ true
             → AreNamed self.new (ls ++ link ∷ []) }
     {
-        let end = (link.intf, link.cport);
+        let end = far_end(link.intf, link.cport);
         if self.numbers.contains_key(&end) {
             return true;
         }
@@ -52,7 +56,7 @@ impl Ends {
         ensures { (ls : List Link) → AreNamed self.old ls
             → AreNamed self.new (without (is_link intf cport) ls) }
     {
-        self.numbers.remove(&(intf, cport));
+        self.numbers.remove(&far_end(intf, cport));
     }
 
     /// No connection is at an interface any more.
@@ -60,6 +64,16 @@ impl Ends {
         ensures { (ls : List Link) → AreNamed self.old ls
             → AreNamed self.new (without (λ l. l.intf == intf) ls) }
     {
-        self.numbers.retain(|end, _| end.0 != intf);
+        let intf = u32::from(intf);
+        self.numbers.retain(|end, _| *end / CPORTS != intf);
     }
+}
+
+/// A CPort of an interface, as one number.
+#[inline]
+fn far_end(intf: u8, cport: u16) -> u32
+    ensures number { result ≡ end_number intf cport }
+    ensures fits { cport < 65536 }
+{
+    u32::from(intf) * CPORTS + u32::from(cport)
 }

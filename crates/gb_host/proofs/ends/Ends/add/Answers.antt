@@ -6,11 +6,13 @@ use Rattle.gb_host.proofs.ends.Ends.add.Goals as goal
 pub returns-then-contains_key : goal.returns-then-contains_key
 returns-then-contains_key c = λ ls named says.
     let there : c.contains_key.result ≡ true = search in
-    ends-there c.args.self.now ls c.args.link (sym c.contains_key.ensures ∙ there) named
+    ends-there c.args.self.now ls c.args.link c.far_end-end.result c.far_end-end.ensures.fits
+    c.far_end-end.ensures.number (sym c.contains_key.ensures ∙ there) named
 
 pub returns : goal.returns
 returns c = λ ls named says.
     let none : c.contains_key.result ≡ false = search in
     ends-new c.args.self.now (record { numbers = c.insert.new.self }) ls c.args.link
+    c.far_end-end.result c.far_end-end.ensures.fits c.far_end-end.ensures.number
     (sym c.contains_key.ensures ∙ none)
     (on-ok c.insert.result c.insert.ensures.updates (sym c.is_ok.ensures.value ∙ says)) named
