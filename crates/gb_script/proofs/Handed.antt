@@ -7,7 +7,8 @@ use Rattle.std.specs.Io.KnownBytes.{Consumes, IsAtEnd}
 use Rattle.gb_formats.specs.Lines.{lines, without_cr}
 use Rattle.gb_script.proofs.Readings.{consumes-more}
 use Rattle.gb_script.proofs.TextLines.{ended-lf, ended-plain, last-line, lines-behind, one-line}
-use Rattle.gb_script.specs.Reading.{HasNoLf, ReadsLine, ended_lines, to_come}
+use Rattle.gb_script.specs.Pieces.{HasNoLf, ended_lines}
+use Rattle.gb_script.specs.Reading.{ReadsLine, to_come}
 use Rattle.gb_script.specs.Readers.{EndsAfter, Gives, Lends, Reads, StandsAt, StopsAfter, behind}
 use Rattle.gb_script.specs.declared.held.Held.{Held}
 use Rattle.gb_script.specs.declared.held.LineStop.{LineStop}

@@ -4,15 +4,15 @@ use Rattle.std.proofs.Common.{Some, None, Result, Ok, Err, List, [], ◌∷◌, 
 use Rattle.std.proofs.Common.{slice_index}
 use Rattle.std.proofs.Common.{append_assoc, append-nil, length-append, length-drop, refl, sym, ap}
 use Rattle.std.proofs.Common.{◌∙◌, subst, arith, take_all}
-use Rattle.std.specs.Prelude.{MatchOption, is_some}
+use Rattle.std.specs.Prelude.{is_some}
 use Rattle.std.specs.Io.KnownBytes.{Consumes, prepend_known}
 use Rattle.std.proofs.lemmas.Bool.{eqb-true, false_from_ne_true}
 use Rattle.std.proofs.lemmas.List.{length-take, take-append-drop, take-take, take_more}
 use Rattle.std.proofs.lemmas.List.Folds.{list_any-append, list_any_at}
 use Rattle.memchr.specs.Find.{IsFirstByte, Nowhere, Passes, is_byte}
 use Rattle.gb_script.specs.Fronts.{IsFront}
-use Rattle.gb_script.specs.Reading.{EndsAt, Fills, HasNoLf, IsBeyond, IsEnded, Took, has_lf}
-use Rattle.gb_script.specs.Reading.{ReadsLine, is_lf, to_come}
+use Rattle.gb_script.specs.Pieces.{EndsAt, Fills, HasNoLf, TellsLf, has_lf, is_lf}
+use Rattle.gb_script.specs.Reading.{IsBeyond, IsEnded, ReadsLine, Took, to_come}
 use Rattle.gb_script.specs.declared.held.Held.{Held}
 use Rattle.gb_script.specs.declared.held.LineStop.{LineStop}
 use Rattle.gb_script.specs.declared.held.LineStop.TheVariants as stop
@@ -83,7 +83,7 @@ plain-before (b ∷ bs) (suc n) h =
 
 -- what a search for LF finds
 pub lf-search : (bytes : List ℕ) (r : Option ℕ) → IsFirstByte (is_byte 10) bytes r
-    → MatchOption r (HasNoLf bytes) (λ n. EndsAt bytes n)
+    → TellsLf r bytes
 lf-search bytes None h =
     subst HasNoLf (take_all (length bytes) bytes (omega arith))
     (plain-before bytes (length bytes) h)
@@ -96,8 +96,7 @@ lf-search bytes (Some n) h = record {
 pub lf-held : (bytes : List ℕ) (n : ℕ) → EndsAt bytes n → has_lf bytes ≡ true
 lf-held bytes n e = list_any_at is_lf bytes n 0 e.within (ap is_lf e.lf)
 
-pub lf-told : (bytes : List ℕ) (r : Option ℕ)
-    → MatchOption r (HasNoLf bytes) (λ n. EndsAt bytes n) → is_some r ≡ has_lf bytes
+pub lf-told : (bytes : List ℕ) (r : Option ℕ) → TellsLf r bytes → is_some r ≡ has_lf bytes
 lf-told bytes None h = sym h
 lf-told bytes (Some n) h = sym (lf-held bytes n h)
 

@@ -4,7 +4,8 @@ use Rattle.std.specs.Prelude.{Ok, Err, List, [], ◌∷◌, ◌++◌, length, ta
 use Rattle.std.specs.Io.KnownBytes.{Consumes, IsAtEnd}
 use Rattle.gb_formats.specs.Lines.{lines}
 use Rattle.gb_script.specs.Fronts.{IsText, is_long_text}
-use Rattle.gb_script.specs.Reading.{ended_lines, has_lf, to_come}
+use Rattle.gb_script.specs.Pieces.{ended_lines, has_lf}
+use Rattle.gb_script.specs.Reading.{to_come}
 use Rattle.gb_script.specs.declared.held.LineStop.{LineStop}
 use Rattle.gb_script.specs.declared.held.LineStop.TheVariants as stop
 use Rattle.gb_script.specs.declared.line_reader.LineReader.{LineReader}

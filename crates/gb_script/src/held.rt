@@ -42,7 +42,8 @@ pub struct Held {
 }
 
 impl Held {
-    ghost use Rattle.gb_script.specs.Reading.{ReadsLine, Took, has_lf};
+    ghost use Rattle.gb_script.specs.Pieces.{has_lf};
+    ghost use Rattle.gb_script.specs.Reading.{ReadsLine, Took};
 
     /// Before the first read.
     pub fn new(alloc: Global) -> Result<Held, OutOfMemory>

@@ -1,7 +1,8 @@
 //! The bytes of one read.
 
-ghost use Rattle.std.specs.Prelude.{◌≡◌, ◌≤◌, [], length, drop, true, IfOk, OnErr, MatchOption};
+ghost use Rattle.std.specs.Prelude.{◌≡◌, ◌≤◌, [], length, drop, true, IfOk, OnErr};
 ghost use Rattle.gb_base.specs.Faults.{Rose};
+ghost use Rattle.gb_script.specs.Pieces.{TellsLf};
 
 use gb_base::{Failed, OutOfMemory, Source};
 use memchr::memchr;
@@ -17,21 +18,24 @@ pub struct Piece {
     bytes: Vec<u8>,
     start: usize,
     end: usize,
+    /// How many bytes are left before the first LF, None where no LF is left.
+    lf: Option<usize>,
 }
 
 impl Model for Piece {
     ghost use Rattle.std.specs.Prelude.{◌≡◌, ◌≤◌, ℕ, List, length, take, drop};
+    ghost use Rattle.gb_script.specs.Pieces.{TellsLf};
 
     ghost Value = { List ℕ };
 
     ghost view = { λ p. drop p.start (take p.end p.bytes.items) };
 
     ghost invariant = { λ p. (p.start ≤ p.end) × (p.end ≤ 4096)
-        × (length p.bytes.items ≡ 4096) };
+        × (length p.bytes.items ≡ 4096) × TellsLf p.lf (drop p.start (take p.end p.bytes.items)) };
 }
 
 impl Piece {
-    ghost use Rattle.gb_script.specs.Reading.{EndsAt, Fills, HasNoLf, has_lf};
+    ghost use Rattle.gb_script.specs.Pieces.{Fills, has_lf};
 
     /// Before the first read.
     pub fn new(alloc: Global) -> Result<Piece, OutOfMemory>
@@ -44,6 +48,7 @@ impl Piece {
             bytes,
             start: 0,
             end: 0,
+            lf: None,
         })
     }
 
@@ -61,8 +66,10 @@ impl Piece {
         }
         self.start = 0;
         self.end = 0;
+        self.lf = None;
         let n = source.read(self.bytes.as_mut_slice())?;
         self.end = n;
+        self.lf = first_lf(&self.bytes[..n]);
         Ok(n > 0)
     }
 
@@ -75,16 +82,16 @@ impl Piece {
 
     /// How many bytes are left before the first LF. None where no LF is left.
     pub fn before_lf(&self) -> Option<usize>
-        ensures { MatchOption result (HasNoLf self.now) (λ n. EndsAt self.now n) }
+        ensures { TellsLf result self.now }
     {
-        memchr(b'\n', self.left())
+        self.lf
     }
 
     /// Whether an LF is left.
     pub fn has_lf(&self) -> bool
         ensures { result ≡ has_lf self.now }
     {
-        self.before_lf().is_some()
+        self.lf.is_some()
     }
 
     /// Takes the next `count` bytes.
@@ -93,5 +100,13 @@ impl Piece {
         ensures { self.new ≡ drop count self.old }
     {
         self.start += count;
+        self.lf = first_lf(&self.bytes[self.start..self.end]);
     }
+}
+
+/// How many bytes are before the first LF. None where there is no LF.
+fn first_lf(bytes: &[u8]) -> Option<usize>
+    ensures { TellsLf result bytes.now }
+{
+    memchr(b'\n', bytes)
 }

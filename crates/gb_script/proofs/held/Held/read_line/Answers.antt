@@ -5,7 +5,8 @@ use Rattle.std.proofs.lemmas.List.{length-take}
 use Rattle.std.proofs.lemmas.Result.{err_from_is_err_and}
 use Rattle.gb_script.proofs.Readings.{beyond-told, ended-beyond, line-ended, plain-beyond}
 use Rattle.gb_script.proofs.Readings.{plain-both, plain-front, refilled, took-on}
-use Rattle.gb_script.specs.Reading.{Took, has_lf}
+use Rattle.gb_script.specs.Pieces.{has_lf}
+use Rattle.gb_script.specs.Reading.{Took}
 use Rattle.gb_script.proofs.held.Held.read_line.Goals as goal
 
 pub returns-in_err-take-clause-line : goal.returns-in_err-take-clause-line

@@ -2,7 +2,8 @@
 use Rattle.std.proofs.Common.{◌≡◌, ◌≤◌, ◌+◌, List, ℕ, length, true}
 use Rattle.std.specs.Io.KnownBytes.{Consumes}
 use Rattle.gb_script.specs.Fronts.{IsFront}
-use Rattle.gb_script.specs.Reading.{HasNoLf, has_lf, to_come}
+use Rattle.gb_script.specs.Pieces.{HasNoLf, has_lf}
+use Rattle.gb_script.specs.Reading.{to_come}
 use Rattle.gb_script.proofs.held.Held.read_line.Given as goal
 
 abbrev pub invariant-loop-self : goal.invariant-loop-self
