@@ -1,0 +1,20 @@
+-- The parties before the first event stand for the first state.
+use Rattle.std.proofs.Common.{refl, sym, ap, rules}
+use Rattle.gb_system.specs.Held.{is_marked}
+use Rattle.gb_system.proofs.parties.Parties.new.Goals as goal
+
+pub returns : goal.returns
+returns c = record {
+  bus = c.in_ok-new.ensures;
+  ports = c.new-2.ensures;
+  modules = sym c.new-3.ensures;
+  host = c.in_ok-new-2.ensures;
+  names = sym c.new-5.ensures;
+  apart = search rules;
+  booted = refl;
+  sound = search rules;
+  short = search rules;
+  time = refl;
+  holds = λ k. ap (is_marked k) (sym c.new-6.ensures);
+  held = search rules;
+}
