@@ -74,3 +74,21 @@ takes-credits x h what k o link l n items s e is there taken new =
       links = at_first (is_link link.intf link.cport) (with_fewer m) links;
     }) (sym taken)
     ∙ ap (λ ls. record { interfaces = x.interfaces; links = ls }) (sym new)
+
+-- a line that takes no credits leaves connections as they are
+same-credits : (test : Link → Bool) (what : BridgeAsk) (ls : List Link) → credits_taken what ≡ 0
+    → at_first test (spent what) ls ≡ ls
+same-credits test what [] none = refl
+same-credits test what (l ∷ ls) none = by (test l) (same-credits test what ls none)
+  where
+    by : (b : Bool) → at_first test (spent what) ls ≡ ls
+        → cond b (spent what l ∷ ls) (l ∷ at_first test (spent what) ls) ≡ l ∷ ls
+    by true later =
+        let e : l.credits - credits_taken what ≡ l.credits = omega (arith, none) in
+        ap (λ n. record l { credits = n } ∷ ls) e
+    by false later = ap (λ ms. l ∷ ms) later
+
+pub takes-none : (x : Host) (h : machine.Host) (what : BridgeAsk) (l : Link) → Stands x h
+    → credits_taken what ≡ 0 → Stands x (with_link l.intf l.cport (spent what) h)
+takes-none x h what l s none =
+    ap (λ ls. record h { links = ls }) (same-credits (is_link l.intf l.cport) what h.links none) ∙ s

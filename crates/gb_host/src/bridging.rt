@@ -54,8 +54,12 @@ impl Host {
             → link_of connection h ≡ Some l
             → Stands self.new (with_link l.intf l.cport (spent ask.now) h) }
     {
+        let taken = credits(ask);
+        if taken == 0 {
+            return;
+        }
         if let Some(link) = self.links.of(connection) {
-            self.links.spend(link.intf, link.cport, credits(ask));
+            self.links.spend(link.intf, link.cport, taken);
         }
     }
 
