@@ -142,6 +142,18 @@ at-point k ls i d point within is = first-of k ls 0 i d within
     (λ j h. let test : ltb (get_or ls j d).connection k ≡ true = point.0 j d (omega arith) h in
     grind (arith, nat_tests)) is ∙ ap Some (omega arith)
 
+-- the one at a place has the number, where numbers rise
+pub rises-at : (k : ℕ) (live ls : List Link) (i : ℕ) (d : Link) → live ≡ ls
+    → i < length live → (get_or live i d).connection ≡ k → Rises ls
+    → position_from (λ l. l.connection == k) 0 ls ≡ Some i
+rises-at k live ls i d same inside says rises =
+    let within : i < length ls = subst (λ ms. i < length ms) same inside in
+    let is : (get_or ls i d).connection ≡ k =
+    subst (λ ms. (get_or ms i d).connection ≡ k) same says in
+    first-of k ls 0 i d within
+    (λ j h. let before = rises j i d h within in omega (arith, before, is)) is
+    ∙ ap Some (omega arith)
+
 -- none has the number, where the one at the place hasn't
 pub past-point : (k : ℕ) (ls : List Link) (i : ℕ) (e : Link) → Rises ls → IsPoint k ls i
     → i < length ls

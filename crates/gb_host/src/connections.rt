@@ -67,6 +67,7 @@ impl Connections {
     }
 
     /// The connection to a CPort of an interface.
+    #[inline]
     pub fn at(&self, intf: u8, cport: u16) -> Option<Link>
         ensures { result ≡ find (is_link intf cport) self.now.live.items }
     {
@@ -75,6 +76,7 @@ impl Connections {
     }
 
     /// The connection with a number.
+    #[inline]
     pub fn of(&self, connection: u64) -> Option<Link>
         ensures { result ≡ find (λ l. l.connection == connection) self.now.live.items }
     {
@@ -93,6 +95,7 @@ impl Connections {
     }
 
     /// The purpose of a request that a connect or close waits for.
+    #[inline]
     pub fn waiting(&self, number: u64) -> Option<Purpose>
         ensures { result ≡ link_waits number self.now.live.items }
     {
@@ -100,6 +103,7 @@ impl Connections {
     }
 
     /// What the connect or close of a connection waits for.
+    #[inline]
     pub fn awaits(&self, intf: u8, cport: u16) -> Option<(u64, SequenceStep)>
         ensures { at_first (is_link intf cport) (link_awaits result)
             (at_first (is_link intf cport) (link_awaits None) self.now.live.items)
@@ -112,6 +116,7 @@ impl Connections {
     }
 
     /// The state of a connection that another state is about to replace.
+    #[inline]
     pub fn state(&self, intf: u8, cport: u16, to: ConnState) -> ConnState
         ensures { at_first (is_link intf cport) (in_state result)
             (at_first (is_link intf cport) (in_state to) self.now.live.items)
@@ -209,6 +214,7 @@ impl Connections {
     }
 
     /// Where the connection to a CPort of an interface stands.
+    #[inline]
     fn place(&self, intf: u8, cport: u16) -> Option<usize>
         ensures first { result ≡ position_from (is_link intf cport) 0 self.now.live.items }
         ensures within { IfSome result (λ i. i < length self.now.live.items) }
@@ -223,6 +229,7 @@ impl Connections {
 
 /// A place before which none waits, where none did before the other, once this connection stands at
 /// its place.
+#[inline]
 fn idle_with(idle: usize, place: usize, link: Link) -> usize
     ensures most { result ≤ idle }
     ensures idle { (ls : List Link) → idle ≤ length ls → AreIdle idle ls

@@ -32,6 +32,7 @@ impl Ends {
     }
 
     /// The number of the first connection to a CPort of an interface.
+    #[inline]
     pub fn number(&self, intf: u8, cport: u16) -> Option<u64>
         ensures { (ls : List Link) → AreNamed self.now ls
             → result ≡ option_map (λ l. l.connection) (find (is_link intf cport) ls) }

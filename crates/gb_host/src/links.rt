@@ -1,6 +1,6 @@
 //! The connections to modules.
 
-ghost use Rattle.std.specs.Prelude.{◌≡◌, ◌==◌, ◌<◌, ◌≤◌, ◌∷◌, [], ◌++◌, true, false, IfSome, OnOk};
+ghost use Rattle.std.specs.Prelude.{◌≡◌, ◌==◌, ◌<◌, ◌≤◌, ◌∷◌, [], ◌++◌, true, false, IfSome, OnOk, Some};
 ghost use Rattle.std.specs.Prelude.{drop, find, get_or, length, set};
 ghost use Rattle.std.specs.List.{position_from};
 ghost use Rattle.gb_machine.specs.Host.{is_link};
@@ -28,6 +28,7 @@ impl LinkChange {
     ghost use Rattle.gb_host.specs.Changes.{link_changed};
 
     /// The connection with the change.
+    #[inline]
     pub fn of(self, link: Link) -> Link
         ensures { result ≡ link_changed self link }
     {
@@ -70,6 +71,7 @@ impl Links {
     }
 
     /// The connection at a place.
+    #[inline]
     pub fn get(&self, place: usize) -> Link
         requires { place < length self.now.live.items }
         ensures { result ≡ get_or self.now.live.items place result }
@@ -88,6 +90,7 @@ impl Links {
     }
 
     /// The connection with a number, where the numbers rise. Few connections are looked at.
+    #[inline]
     pub fn of_rising(&self, connection: u64) -> Option<Link>
         ensures { Rises self.now.live.items
             → result ≡ find (λ l. l.connection == connection) self.now.live.items }
@@ -97,8 +100,40 @@ impl Links {
     }
 
     /// Where the connection with a number stands, where the numbers rise. Few connections are
-    /// looked at.
+    /// looked at, and one alone where no number from the first to it is missing.
+    #[inline]
     pub fn place_rising(&self, connection: u64) -> Option<usize>
+        ensures first { Rises self.now.live.items → result
+            ≡ position_from (λ l. l.connection == connection) 0 self.now.live.items }
+        ensures within { IfSome result (λ i. i < length self.now.live.items) }
+    {
+        match self.place_counted(connection) {
+            Some(place) => Some(place),
+            None => self.place_sought(connection),
+        }
+    }
+
+    /// Where the connection with a number stands, where the numbers rise and none is missing from
+    /// the first to it. Else None.
+    #[inline]
+    fn place_counted(&self, connection: u64) -> Option<usize>
+        ensures first { Rises self.now.live.items → IfSome result (λ i.
+            position_from (λ l. l.connection == connection) 0 self.now.live.items ≡ Some i) }
+        ensures within { IfSome result (λ i. i < length self.now.live.items) }
+    {
+        let live = self.live.as_slice();
+        if live.is_empty() {
+            return None;
+        }
+        let place = connection.saturating_sub(live[0].connection) as usize;
+        if place < live.len() && live[place].connection == connection {
+            return Some(place);
+        }
+        None
+    }
+
+    /// Where the connection with a number stands, where the numbers rise, by halving.
+    fn place_sought(&self, connection: u64) -> Option<usize>
         ensures first { Rises self.now.live.items → result
             ≡ position_from (λ l. l.connection == connection) 0 self.now.live.items }
         ensures within { IfSome result (λ i. i < length self.now.live.items) }
@@ -205,6 +240,7 @@ impl Links {
     }
 
     /// There is another connection at a place.
+    #[inline]
     pub fn put(&mut self, place: usize, link: Link)
         requires { place < length self.old.live.items }
         ensures { self.new.live.items ≡ set self.old.live.items place link }

@@ -103,6 +103,7 @@ impl Host {
     }
 
     /// The connection to a CPort of an interface, or why nothing is sent on it.
+    #[inline]
     fn open_at(&self, intf: u8, cport: u16) -> Result<u64, Refusal>
         ensures step { (h : machine.Host) → Stands self.now h
             → SendsAs (first_met (link_conditions (link_at intf cport h))) (link_at intf cport h)

@@ -80,6 +80,7 @@ impl Host {
 }
 
 /// A step belongs to an enumeration. The others belong to a connection.
+#[inline]
 fn is_enumeration(step: SequenceStep) -> bool
     ensures { result ≡ is_enumeration step }
 {
@@ -94,6 +95,7 @@ fn is_enumeration(step: SequenceStep) -> bool
 }
 
 /// The purpose of a request, where what a sequence waits for is this request.
+#[inline]
 pub(crate) fn purpose_in(
     number: u64,
     intf: u8,

@@ -4,7 +4,7 @@ use Rattle.std.proofs.lemmas.List.Sorted.{IsPartitionPoint-from_clause, IsPartit
 use Rattle.gb_base.specs.declared.peers.Link.{Link}
 use Rattle.gb_host.proofs.Rising.{IsPoint, at-point, behind-all, climbs, past-point}
 use Rattle.gb_host.specs.Indexes.{Rises}
-use Rattle.gb_host.proofs.links.Links.place_rising.Goals as goal
+use Rattle.gb_host.proofs.links.Links.place_sought.Goals as goal
 
 pub returns-then-place-len-clause-first : goal.returns-then-place-len-clause-first
 returns-then-place-len-clause-first c = λ rises.
