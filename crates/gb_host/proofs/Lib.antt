@@ -10,5 +10,6 @@ pub mod Manifests
 pub mod Marks
 pub mod Named
 pub mod Ordering
+pub mod Quiet
 pub mod Restoring
 pub mod Rising

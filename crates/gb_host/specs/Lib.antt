@@ -4,6 +4,7 @@ pub mod Changes
 pub mod Indexes
 pub mod Marks
 pub mod Named
+pub mod Quiet
 pub mod Refusing
 pub mod Serving
 pub mod Stands

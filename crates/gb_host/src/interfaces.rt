@@ -1,9 +1,10 @@
 //! The interfaces that modules were inserted at.
 
-ghost use Rattle.std.specs.Prelude.{◌≡◌, ◌<◌, ◌≤◌, nat_lt, [], None, IfSome, OnErr, OnOk, find};
+ghost use Rattle.std.specs.Prelude.{◌≡◌, ◌<◌, ◌≤◌, nat_lt, [], None, IfSome, OnErr, OnOk, find, true};
 ghost use Rattle.std.specs.Prelude.{insert, length, option_copied};
 ghost use Rattle.std.specs.List.{list_any, position_from};
 ghost use Rattle.gb_host.specs.declared.interfaces.Change.TheVariants as change;
+ghost use Rattle.gb_host.specs.Quiet.{AreQuiet};
 ghost use Rattle.gb_machine.specs.Host.{has_device_id, intf_before, is_device, is_intf};
 ghost use Rattle.gb_machine.specs.Host.{new_interface, staged};
 ghost use Rattle.gb_machine.specs.Lists.{at_first, first_free, in_order, without};
@@ -32,19 +33,25 @@ pub enum Change {
     Size(u16),
 }
 
-/// The interfaces that modules were inserted at, in order of number: thirty at most.
+/// The interfaces that modules were inserted at, in order of number: thirty at most. A contract
+/// sees them alone. Where it is kept that no enumeration waits, none is looked at for one.
 #[derive(Drop)]
 pub struct Interfaces {
     known: Vec<Interface>,
+    quiet: bool,
 }
 
 impl Model for Interfaces {
-    ghost use Rattle.std.specs.Prelude.{List};
+    ghost use Rattle.std.specs.Prelude.{◌≡◌, true, List};
     ghost use Rattle.gb_base.specs.declared.peers.Interface.{Interface};
 
     ghost Value = { List Interface };
 
+    ghost use Rattle.gb_host.specs.Quiet.{AreQuiet};
+
     ghost view = { λ x. x.known.items };
+
+    ghost invariant = { λ x. x.quiet ≡ true → AreQuiet x.known.items };
 }
 
 impl Interfaces {
@@ -57,6 +64,7 @@ impl Interfaces {
     {
         Interfaces {
             known: Vec::new(alloc),
+            quiet: true,
         }
     }
 
@@ -80,7 +88,18 @@ impl Interfaces {
     }
 
     /// The purpose of a request that an enumeration waits for.
+    #[inline]
     pub fn waiting(&self, number: u64) -> Option<Purpose>
+        ensures { result ≡ interface_waits number self.now }
+    {
+        if self.quiet {
+            return None;
+        }
+        self.sought(number)
+    }
+
+    /// The purpose of a request that an enumeration waits for, looked for one by one.
+    fn sought(&self, number: u64) -> Option<Purpose>
         ensures { result ≡ interface_waits number self.now }
     {
         for interface in &self.known {
@@ -220,6 +239,7 @@ impl Interfaces {
     {
         if let Some(i) = self.index(intf) {
             self.known[i].awaits = awaits;
+            self.quiet = are_quiet(self.known.as_slice());
         }
     }
 
@@ -272,6 +292,18 @@ impl Interfaces {
         }
         None
     }
+}
+
+/// No enumeration of these interfaces waits.
+fn are_quiet(known: &[Interface]) -> bool
+    ensures { result ≡ true → AreQuiet known.now }
+{
+    for interface in known {
+        if interface.awaits.is_some() {
+            return false;
+        }
+    }
+    true
 }
 
 /// A device id is this one.

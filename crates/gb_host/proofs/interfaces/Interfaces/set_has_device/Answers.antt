@@ -4,6 +4,7 @@ use Rattle.gb_host.proofs.Changing.{none-changes, one-changes}
 use Rattle.gb_machine.specs.Host.{is_intf}
 use Rattle.gb_host.specs.Changes.{changed}
 use Rattle.gb_host.specs.declared.interfaces.Change.TheVariants as change
+use Rattle.gb_host.proofs.Quiet.{quiet-set}
 use Rattle.gb_host.proofs.interfaces.Interfaces.set_has_device.Goals as goal
 
 pub returns-in-Some : goal.returns-in-Some
@@ -16,3 +17,8 @@ returns-in-Some c =
 pub returns-in_default : goal.returns-in_default
 returns-in_default c = none-changes (is_intf c.args.intf) c.args.self.now c.index.result (changed
     (change.HasDevice c.args.has_device)) c.index.ensures.first c.in_default.is
+
+pub invariant_of-self : goal.invariant_of-self
+invariant_of-self c = λ says.
+    quiet-set c.self.inside.known.items c.in-Some.i c.index_mut.result.now _
+    c.index_mut.ensures.value refl (c.self.invariant says)

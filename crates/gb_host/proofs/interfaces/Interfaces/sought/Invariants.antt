@@ -1,7 +1,7 @@
 -- The purpose is that which the ones not looked at yet give.
 use Rattle.std.proofs.Common.{◌≡◌, drop}
 use Rattle.gb_machine.specs.Waits.{interface_waits}
-use Rattle.gb_host.proofs.interfaces.Interfaces.waiting.Given as goal
+use Rattle.gb_host.proofs.interfaces.Interfaces.sought.Given as goal
 
 abbrev pub invariant-loop-interface : goal.invariant-loop-interface
 invariant-loop-interface l =
