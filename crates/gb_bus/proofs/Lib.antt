@@ -1,3 +1,4 @@
+pub mod Asking
 pub mod ByLabel
 pub mod ByNumber
 pub mod Cancels

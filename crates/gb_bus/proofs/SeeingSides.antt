@@ -1,6 +1,6 @@
 -- What is seen of the live connections where the requests of a side change.
 use Rattle.std.proofs.Common.{◌≡◌, ℕ, Bool, true, false, cond, inl, inr, Option, Some, None}
-use Rattle.std.proofs.Common.{option_and_then, Result, Ok, Err, List, [], ◌∷◌, refl, sym, ap, ◌∙◌}
+use Rattle.std.proofs.Common.{option_and_then, List, [], ◌∷◌, refl, sym, ap, ◌∙◌}
 use Rattle.std.proofs.Common.{subst}
 use Rattle.std.specs.BTreeMap.{get, is_at}
 use Rattle.std.specs.Map.{set_value}
@@ -8,20 +8,17 @@ use Rattle.std.specs.Ordering.{nat_cmp}
 use Rattle.gb_base.specs.declared.end.Side.{Side}
 use Rattle.gb_base.specs.declared.end.Side.TheVariants as side
 use Rattle.gb_bus.proofs.Keeping.{Live, Queues}
-use Rattle.gb_bus.proofs.Seeing.{changes-one, filled, finds, next-seen, ops-seen}
+use Rattle.gb_bus.proofs.Seeing.{changes-one, filled, finds, ops-seen}
 use Rattle.gb_bus.specs.Connection.{Connection}
 use Rattle.gb_bus.specs.Index.{ChangesBy, Ends, Kept, Leaves}
-use Rattle.gb_bus.specs.Parts.{is_soiled, is_unclean, next_of, numbered, ops_of, with_ops}
+use Rattle.gb_bus.specs.Parts.{is_soiled, is_unclean, numbered, ops_of, with_ops}
 use Rattle.gb_bus.specs.Seen.{all_seen, alone, seen}
-use Rattle.gb_bus.specs.Sides.{BeginsIn, BeginsOn, ChangesSide, GivesUpIn, GivesUpOn, GivesUpWhere}
+use Rattle.gb_bus.specs.Sides.{ChangesSide, GivesUpIn, GivesUpOn, GivesUpWhere}
 use Rattle.gb_bus.specs.Sides.{HasEndsOf, IsNotOf, MatchesAs, MatchesIn, MatchesOn, OnSide}
 use Rattle.gb_bus.specs.Sides.{RespondsIn, RespondsOn, asked_of}
 use Rattle.gb_bus.specs.declared.connection.Connection as code
 use Rattle.gb_machine.specs.Lists.{at_first}
-use Rattle.gb_ops.specs.Calls.{Begins}
 use Rattle.gb_ops.specs.Operations.{Operations, holder_of}
-use Rattle.gb_ops.specs.declared.entries.BeginFault.{BeginFault}
-use Rattle.gb_ops.specs.declared.entries.BeginFault.TheVariants as fault
 use Rattle.gb_ops.specs.declared.entries.Matched.{Matched}
 use Rattle.gb_ops.specs.declared.entries.Matched.TheVariants as matched
 
@@ -63,45 +60,13 @@ first-same test (x ∷ xs) = by (test x) (first-same test xs)
     by true later = refl
     by false later = ap (λ ys. x ∷ ys) later
 
-put-back : (live live' : Live) (ends : Ends) (q : Queues) (k : ℕ) (x y : code.Connection)
+pub put-back : (live live' : Live) (ends : Ends) (q : Queues) (k : ℕ) (x y : code.Connection)
     → Kept live ends q → get nat_cmp live k ≡ Some x
     → live'.entries ≡ set_value (is_at (nat_cmp k)) live.entries y → alone 0 y ≡ alone 0 x
     → all_seen q live'.entries ≡ all_seen q live.entries
 put-back live live' ends q k x y kept found now same =
     changes-one live live' ends q k x y (λ c. c) kept found now (ap (filled q k) same)
     ∙ first-same (numbered k) (all_seen q live.entries)
-
-pub begins : (live live' : Live) (ends : Ends) (q : Queues) (k : ℕ) (s : Side) (n deadline : ℕ)
-    (r : Result ℕ BeginFault) → Kept live ends q
-    → ChangesBy live live' k (λ x y. BeginsOn x y s n deadline r × HasEndsOf x y)
-    → (get nat_cmp live k ≡ None → Leaves live live')
-    → (get nat_cmp live k ≡ None → r ≡ Err fault.NoLabel)
-    → BeginsIn (all_seen q live.entries) (all_seen q live'.entries) k s n deadline r
-begins live live' ends q k s n deadline r kept there none fails =
-    by (get nat_cmp live k) refl r there fails
-  where
-    by : (o : Option code.Connection) → get nat_cmp live k ≡ o → (t : Result ℕ BeginFault)
-        → ChangesBy live live' k (λ x y. BeginsOn x y s n deadline t × HasEndsOf x y)
-        → (get nat_cmp live k ≡ None → t ≡ Err fault.NoLabel)
-        → BeginsIn (all_seen q live.entries) (all_seen q live'.entries) k s n deadline t
-    by None e (Ok label) h f = absurd (cc (f e))
-    by None e (Err (fault.Memory m)) h f = tt
-    by None e (Err fault.NoLabel) h f = (
-      ap (option_and_then (next_of s)) (finds live q (all_seen q live.entries) k None refl e),
-      ap (all_seen q) (none e),
-    )
-    by (Some x) e (Ok label) h f =
-        let w = h x e in
-        side-changes live live' ends q k s x w.after (λ v u. Begins v u n deadline label) kept e
-        w.now w.did.0
-    by (Some x) e (Err (fault.Memory m)) h f = tt
-    by (Some x) e (Err fault.NoLabel) h f =
-        let w = h x e in (
-          ap (option_and_then (next_of s))
-              (finds live q (all_seen q live.entries) k (Some x) refl e)
-              ∙ sym (next-seen q k x s) ∙ w.did.0.0,
-          put-back live live' ends q k x w.after kept e w.now w.did.0.1,
-        )
 
 same-side : (s : Side) (c : Connection) → with_ops s (ops_of s c) c ≡ c
 same-side side.Ap c = refl

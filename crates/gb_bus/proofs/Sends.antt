@@ -1,6 +1,6 @@
 -- A send stands for the machine's.
 use Rattle.std.proofs.Common.{◌≡◌, ◌≤◌, ◌<◌, ℕ, ◌+◌, Bool, true, false, not, cond, Option}
-use Rattle.std.proofs.Common.{Some, None, Result, Ok, Err, option_and_then, List, [], ◌∷◌, ◌++◌}
+use Rattle.std.proofs.Common.{Some, None, Err, option_and_then, List, [], ◌∷◌, ◌++◌}
 use Rattle.std.proofs.Common.{length, eqb, is_some, refl, sym, ap, ◌∙◌, ◌⊎◌, ⊎_elim, inl, arith}
 use Rattle.std.proofs.Common.{subst, add-one}
 use Rattle.std.specs.List.{find}
@@ -19,9 +19,9 @@ use Rattle.gb_bus.proofs.Standing.{AreShown}
 use Rattle.gb_bus.specs.Counting.{Tells, with_one}
 use Rattle.gb_bus.specs.Ends.{first_outcome}
 use Rattle.gb_bus.specs.Listing.{count}
-use Rattle.gb_bus.specs.Moving.{LabelsAs}
 use Rattle.gb_bus.specs.Parts.{next_of, numbered, put}
 use Rattle.gb_bus.specs.Sending.{Sends, SendsAs, SendsNone}
+use Rattle.gb_bus.specs.Sides.{Asks, AsksIn, IsSpentIn, LabelsIn}
 use Rattle.gb_bus.specs.Slots.{Kept, MakesAs}
 use Rattle.gb_bus.specs.Shown.{ask_in, item_in}
 use Rattle.gb_bus.specs.Stands.{AreMade, Around, KeepSides, Shows, Stands, kept}
@@ -73,17 +73,15 @@ sent_own d outs m free = by d.oneway
 
 -- ---- connections
 
--- what a send that draws this identifier leaves of the bus
-record Drawn (x y : Bus) (b : machine.Bus) (d : Draft) (label : ℕ) (i : Item)
+-- what the connections are once a request has this identifier
+record Drawn (ys : List Connection) (b : machine.Bus) (d : Draft) (label : ℕ) (i : Item)
     (m : machine.Item) : Type 0 where
-  connections : List Connection
   label_is : label_for d b ≡ Some label
-  after : y ≡ record x { connections = connections }
   shown : AreShown (b.requests ++ requested d label ∷ [])
-      (at_first (numbered d.connection) (put (other_side d.side) i) connections)
+      (at_first (numbered d.connection) (put (other_side d.side) i) ys)
       (at_first (has_number d.connection) (λ c. sending.put (other_side d.side) m (drawn d label c))
       b.connections)
-  sides : KeepSides (at_first (numbered d.connection) (put (other_side d.side) i) connections)
+  sides : KeepSides (at_first (numbered d.connection) (put (other_side d.side) i) ys)
       (sent d label b)
 
 -- one request more changes nothing that is seen
@@ -92,50 +90,41 @@ shown-more : (around : Around) (x : Bus) (b : machine.Bus) (r : Request) → Sta
 shown-more around x b r s =
     s.shows.connections ∙ sym (connections-more around.items b r s.facts.fits.items)
 
--- an answer with an identifier
-same-label : (l m : ℕ) (r : Result ℕ SendFault) → r ≡ Ok l → r ≡ Ok m → l ≡ m
-same-label l m r e f = cc
-
-draws : (around : Around) (x y : Bus) (b : machine.Bus) (k : ℕ) (at : Side) (kind : ℕ)
-    (payload : List ℕ) (deadline : ℕ) (oneway : Bool) (label : ℕ) (i : Item)
+draws : (around : Around) (x : Bus) (ys : List Connection) (b : machine.Bus) (k : ℕ) (at : Side)
+    (kind : ℕ) (payload : List ℕ) (deadline : ℕ) (oneway : Bool) (label : ℕ) (i : Item)
     → Stands around x b
     → i ≡ item_in (b.requests ++ requested (draft k at kind payload deadline oneway) label ∷ [])
     (machine.Ask (next_number b))
-    → LabelsAs x y k at (next_number b) deadline oneway (Ok label)
-    → Drawn x y b (draft k at kind payload deadline oneway) label i (machine.Ask (next_number b))
-draws around x y b k at kind payload deadline true label i s item h =
+    → LabelsIn x.connections ys k at (next_number b) deadline oneway label
+    → Drawn ys b (draft k at kind payload deadline oneway) label i (machine.Ask (next_number b))
+draws around x ys b k at kind payload deadline true label i s item h =
     let d = draft k at kind payload deadline true in
     let r = requested d label in
     let m = machine.Ask (next_number b) in
-    record {
-      connections = x.connections;
-      label_is = ap Some (sym (same-label label 0 (Ok label) refl h.0));
-      after = h.1;
+    subst (λ zs. Drawn zs b d label i m) (sym h.1) (record {
+      label_is = ap Some (sym h.0);
       shown = shown-put (b.requests ++ r ∷ []) k (other_side at) i m
           (sending.put (other_side at) m) x.connections b.connections item
           (put-shown (b.requests ++ r ∷ []) (other_side at) m) (shown-more around x b r s);
       sides = sides-sent_oneway around.items x.connections b d label i s.facts.fits refl
           s.shows.sides;
-    }
-draws around x y b k at kind payload deadline false label i s item h =
+    })
+draws around x ys b k at kind payload deadline false label i s item w =
     let d = draft k at kind payload deadline false in
     let rs = b.requests ++ requested d label ∷ [] in
     let m = machine.Ask (next_number b) in
-    let w = h.0 in
     record {
-      connections = y.connections;
       label_is = sym (next-is x b k at s.shows)
           ∙ ap (option_and_then (next_of at)) w.found ∙ w.did.next;
-      after = h.1;
       shown = shown-put rs k (other_side at) i m
-          (λ c. sending.put (other_side at) m (with_last_label at label c)) y.connections
+          (λ c. sending.put (other_side at) m (with_last_label at label c)) ys
           b.connections item
           (λ c. put-shown rs (other_side at) m (with_last_label at label c)
           ∙ ap (put (other_side at) (item_in rs m)) (drawn-shown rs at label c))
-          (shown-changed rs x.connections y.connections b.connections k at
+          (shown-changed rs x.connections ys b.connections k at
           (λ u v. Begins u v (next_number b) deadline label)
           (shown-more around x b (requested d label) s) w);
-      sides = sides-sent around.items x.connections y.connections b d label i s.shows.connections
+      sides = sides-sent around.items x.connections ys b d label i s.shows.connections
           s.facts.fits refl w s.shows.sides;
     }
 
@@ -158,12 +147,6 @@ sending_on d label number y x = record x {
       (put (other_side d.side) (code.Ask number label d.kind d.payload)) x.connections;
   slots = y;
 }
-
--- drawing an identifier changes no slot
-pub same-slots : (x y : Bus) (k : ℕ) (at : Side) (n deadline : ℕ) (oneway : Bool) (label : ℕ)
-    → LabelsAs x y k at n deadline oneway (Ok label) → y.slots ≡ x.slots
-same-slots x y k at n deadline true label h = ap (λ (v : Bus). v.slots) h.1
-same-slots x y k at n deadline false label h = ap (λ (v : Bus). v.slots) h.1
 
 -- no name names the next request yet
 unnamed : (names : List ℕ) (b : machine.Bus) → AreMade names b → count (next_number b) names ≡ 0
@@ -278,55 +261,58 @@ shows-sent around x b d label number cs slot y s place is makes shown sides = re
   tally = counted-sent around x b d label slot y s d.oneway refl makes;
 }
 
--- The answer where the connection isn't live.
-pub sends_nowhere : (around : Around) (x : Bus) (b : machine.Bus) (d : Draft) → Stands around x b
-    → find (numbered d.connection) x.connections ≡ None → SendsNone around x d b
-sends_nowhere around x b d s none = record {
-  label = ap (option_and_then (λ c. label_for d b))
-      (no-twin b.requests d.connection x.connections b.connections s.shows.connections none);
-  stands = s;
-}
-
 -- where no identifier is had there is none on the connection
 none_on : (o : Option machine.Connection) → option_and_then (λ c. let n : Option ℕ = None in n) o
     ≡ None
 none_on None = refl
 none_on (Some c) = refl
 
--- The answer where no identifier was had.
-pub sends_none : (around : Around) (x y : Bus) (b : machine.Bus) (k : ℕ) (at : Side) (kind n : ℕ)
-    (payload : List ℕ) (deadline : ℕ) (oneway : Bool) (e : SendFault)
-    → Stands around x b → LabelsAs x y k at n deadline oneway (Err e)
-    → SendsAs around y (draft k at kind payload deadline oneway) b (Err e)
-sends_none around x y b k at kind n payload deadline true fault.NoLabel s h =
-    absurd (clash h.0)
-  where
-    clash : {A E : Type 0} {e : E} {v : A} → Err e ≡ Ok v → ⊥
-    clash e = absurd cc
-sends_none around x y b k at kind n payload deadline oneway (fault.Memory m) s h = tt
-sends_none around x y b k at kind n payload deadline false fault.NoLabel s h = record {
+-- The answer where no identifier was had, or the connection isn't live.
+spent : (around : Around) (x : Bus) (b : machine.Bus) (k : ℕ) (at : Side) (kind : ℕ)
+    (payload : List ℕ) (deadline : ℕ) (oneway : Bool) → Stands around x b
+    → IsSpentIn oneway k at x.connections
+    → SendsNone around x (draft k at kind payload deadline oneway) b
+spent around x b k at kind payload deadline true s none = record {
+  label = ap (option_and_then (λ c. label_for (draft k at kind payload deadline true) b))
+      (no-twin b.requests k x.connections b.connections s.shows.connections none);
+  stands = s;
+}
+spent around x b k at kind payload deadline false s none = record {
   label = ap (λ o. option_and_then (λ c. o) (connection_of k b))
-      (sym (next-is x b k at s.shows) ∙ h.0) ∙ none_on (connection_of k b);
-  stands = subst (λ (v : Bus). Stands around v b) (sym h.1) s;
+      (sym (next-is x b k at s.shows) ∙ none) ∙ none_on (connection_of k b);
+  stands = s;
 }
 
+pub sends_none : (around : Around) (x : Bus) (cs : List Connection) (b : machine.Bus) (k : ℕ)
+    (at : Side) (n kind : ℕ) (payload bytes : List ℕ) (deadline : ℕ) (oneway : Bool)
+    (e : SendFault) → Stands around x b
+    → AsksIn x.connections cs k at n kind bytes deadline oneway (Err e)
+    → SendsAs around (record x { connections = cs }) (draft k at kind payload deadline oneway) b
+    (Err e)
+sends_none around x cs b k at n kind payload bytes deadline oneway fault.NoLabel s h =
+    subst (λ ys. SendsNone around (record x { connections = ys })
+    (draft k at kind payload deadline oneway) b) (sym h.1)
+    (spent around x b k at kind payload deadline oneway s h.0)
+sends_none around x cs b k at n kind payload bytes deadline oneway (fault.Memory m) s h = tt
+
 -- the answer where what waits and what is kept are given at once
-sends_on : (around : Around) (x y z : Bus) (b : machine.Bus) (k : ℕ) (at : Side) (kind : ℕ)
-    (payload : List ℕ) (deadline : ℕ) (oneway : Bool)
+sends_on : (around : Around) (x : Bus) (ys : List Connection) (z : Bus) (b : machine.Bus) (k : ℕ)
+    (at : Side) (kind : ℕ) (payload : List ℕ) (deadline : ℕ) (oneway : Bool)
     (label number : ℕ) (lost : Bool) (found : Connection) (slot : Slot) (w : Kept)
     → Stands around x b → number ≡ next_number b
-    → LabelsAs x y k at (next_number b) deadline oneway (Ok label)
+    → LabelsIn x.connections ys k at (next_number b) deadline oneway label
     → find (numbered k) x.connections ≡ Some found → lost ≡ not found.wired
     → slot ≡ kept number true 0 None (requested (draft k at kind payload deadline oneway) label)
     → MakesAs oneway slot x.slots w
-    → z ≡ sending_on (draft k at kind payload deadline oneway) label number w y
+    → z ≡ sending_on (draft k at kind payload deadline oneway) label number w
+    (record x { connections = ys })
     → Sends around z (draft k at kind payload deadline oneway) b
     (record { number = number; label = label; lost = lost })
-sends_on around x y z b k at kind payload deadline oneway label number lost found slot v s place h
+sends_on around x ys z b k at kind payload deadline oneway label number lost found slot v s place h
     looks is_lost is makes after =
     let d = draft k at kind payload deadline oneway in
     let c = twin b.requests k x.connections b.connections found s.shows.connections looks in
-    let w = draws around x y b k at kind payload deadline oneway label
+    let w = draws around x ys b k at kind payload deadline oneway label
     (code.Ask number label kind payload) s (new_item b d label number place) h in
     let ask = machine.Ask (next_number b) in
     record {
@@ -334,53 +320,41 @@ sends_on around x y z b k at kind payload deadline oneway label number lost foun
       number = place;
       lost = is_lost
           ∙ ap not (ap (λ (v : Connection). v.wired) c.shown ∙ sym (ap is_wired c.live));
-      stands = subst (λ (u : Bus). Stands around u (sent d label b))
-          (sym (after ∙ ap (sending_on d label number v) w.after)) (record {
-            shows = shows-sent around x b d label number w.connections slot v s place is makes
-                w.shown w.sides;
-            named = still-made around.names b (sent d label b) (sent-request d label b) s.named;
-            facts = record {
-              fits = sent-keeps around.items d label c.connection b c.live w.label_is
-                  s.facts.fits;
-              apart = apart-changed b k (λ v. sending.put (other_side at) ask (drawn d label v))
-                  (λ v.
-                  let p = put-self (other_side at) ask (drawn d label v) in
-                  let q = drawn-self d label v in
-                  record { number = p.number ∙ q.number; ap = p.ap ∙ q.ap; peer = p.peer ∙ q.peer })
-                  s.facts.apart;
-            };
-          });
+      stands = subst (λ (u : Bus). Stands around u (sent d label b)) (sym after) (record {
+        shows = shows-sent around x b d label number ys slot v s place is makes w.shown w.sides;
+        named = still-made around.names b (sent d label b) (sent-request d label b) s.named;
+        facts = record {
+          fits = sent-keeps around.items d label c.connection b c.live w.label_is
+              s.facts.fits;
+          apart = apart-changed b k (λ v. sending.put (other_side at) ask (drawn d label v))
+              (λ v.
+              let p = put-self (other_side at) ask (drawn d label v) in
+              let q = drawn-self d label v in
+              record { number = p.number ∙ q.number; ap = p.ap ∙ q.ap; peer = p.peer ∙ q.peer })
+              s.facts.apart;
+        };
+      });
     }
 
 -- The answer of a send that draws an identifier, or needs none. What waits and what is kept are
 -- given by their parts.
-pub sends : (around : Around) (x y : Bus) (b : machine.Bus) (k : ℕ) (at to : Side) (kind : ℕ)
+pub sends : (around : Around) (x : Bus) (b : machine.Bus) (k : ℕ) (at : Side) (kind : ℕ)
     (payload bytes : List ℕ) (deadline : ℕ) (oneway : Bool)
-    (label number : ℕ) (lost : Bool) (found : Connection) (slot : Slot)
-    (cs : List Connection) (w : Kept)
-    → Stands around x b → number ≡ x.slots.tally.requests + 1
-    → LabelsAs x y k at number deadline oneway (Ok label)
-    → find (numbered k) x.connections ≡ Some found → lost ≡ not found.wired
-    → to ≡ other_side at → bytes ≡ payload
+    (label number : ℕ) (lost : Bool) (slot : Slot) (cs : List Connection) (w : Kept)
+    → Stands around x b → number ≡ x.slots.tally.requests + 1 → bytes ≡ payload
+    → Asks x.connections cs k at number kind bytes deadline oneway label lost
     → slot ≡ kept number true 0 None (requested (draft k at kind payload deadline oneway) label)
-    → cs ≡ at_first (numbered k) (put to (code.Ask number label kind bytes)) y.connections
-    → MakesAs oneway slot y.slots w → y.slots ≡ x.slots
-    → Sends around (record y { connections = cs; slots = w })
+    → MakesAs oneway slot x.slots w
+    → Sends around (record x { connections = cs; slots = w })
     (draft k at kind payload deadline oneway) b
     (record { number = number; label = label; lost = lost })
-sends around x y b k at to kind payload bytes deadline oneway label number lost found slot cs w s
-    count h looks is_lost to_is bytes_is is goes makes same =
+sends around x b k at kind payload bytes deadline oneway label number lost slot cs w s
+    count bytes_is asks is makes =
     let place : number ≡ next_number b = count ∙ ap (λ l. l + 1) s.shows.tally.requests in
-    sends_on around x y (record y { connections = cs; slots = w }) b k at kind payload deadline
-    oneway label number lost found slot w s place
-    (subst (λ n. LabelsAs x y k at n deadline oneway (Ok label)) place h) looks is_lost is
-    (subst (λ v. MakesAs oneway slot v w) same makes) after
-  where
-    after : record y { connections = cs; slots = w }
-        ≡ sending_on (draft k at kind payload deadline oneway) label number w y
-    after =
-        ap (λ l. record y { connections = l; slots = w })
-        (goes ∙ ap (λ t. at_first (numbered k) (put t (code.Ask number label kind bytes))
-        y.connections) to_is
-        ∙ ap (λ v. at_first (numbered k) (put (other_side at) (code.Ask number label kind v))
-        y.connections) bytes_is)
+    sends_on around x asks.begun (record x { connections = cs; slots = w }) b k at kind payload
+    deadline oneway label number lost asks.connection slot w s place
+    (subst (λ n. LabelsIn x.connections asks.begun k at n deadline oneway label) place asks.labels)
+    asks.found asks.lost_is is makes
+    (ap (λ l. record x { connections = l; slots = w })
+    (asks.waits ∙ ap (λ v. at_first (numbered k) (put (other_side at)
+    (code.Ask number label kind v)) asks.begun) bytes_is))

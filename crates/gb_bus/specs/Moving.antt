@@ -1,10 +1,10 @@
 -- What the parts of a bus's calls do to it.
 use Rattle.std.specs.Prelude.{◌≡◌, ℕ, nat_lt, Bool, true, false, Option, Some, None, Result, Ok}
-use Rattle.std.specs.Prelude.{Err, List, ⊤}
+use Rattle.std.specs.Prelude.{Err, List}
 use Rattle.gb_base.specs.declared.end.Side.{Side}
 use Rattle.gb_base.specs.declared.outcome.Outcome.TheVariants as outcome
-use Rattle.gb_bus.specs.Parts.{is_unclean, next_in}
-use Rattle.gb_bus.specs.Sides.{BeginsIn, MatchesIn}
+use Rattle.gb_bus.specs.Parts.{is_unclean}
+use Rattle.gb_bus.specs.Sides.{MatchesIn}
 use Rattle.gb_bus.specs.Slots.{MovesAt, ended_at, ends_so, forgets, slot_at}
 use Rattle.gb_bus.specs.Taking.{dropped, open_kind, shown}
 use Rattle.gb_bus.specs.declared.answers.Arrival.{Arrival}
@@ -12,8 +12,6 @@ use Rattle.gb_bus.specs.declared.answers.Arrival.TheVariants as arrival
 use Rattle.gb_bus.specs.declared.answers.Asked.{Asked}
 use Rattle.gb_bus.specs.declared.answers.DeliverFault.{DeliverFault}
 use Rattle.gb_bus.specs.declared.answers.DeliverFault.TheVariants as deliver
-use Rattle.gb_bus.specs.declared.answers.SendFault.{SendFault}
-use Rattle.gb_bus.specs.declared.answers.SendFault.TheVariants as send
 use Rattle.gb_bus.specs.declared.bus.Bus.{Bus}
 use Rattle.gb_bus.specs.Connection.{Connection}
 use Rattle.gb_bus.specs.declared.queue.Item.{Item}
@@ -26,17 +24,6 @@ use Rattle.gb_ops.specs.declared.entries.Matched.TheVariants as matched
 -- the bus with these connections
 abbrev pub with_connections : List Connection → Bus → Bus
 with_connections cs x = record x { connections = cs }
-
--- The identifier of request n of a side: 0 where it is unidirectional. By cases on the answer.
--- After want of memory nothing is said.
-abbrev pub LabelsAs : Bus → Bus → ℕ → Side → ℕ → ℕ → Bool → Result ℕ SendFault → Type 0
-LabelsAs old new k at n deadline true r = (r ≡ Ok 0) × (new ≡ old)
-LabelsAs old new k at n deadline false (Ok label) =
-    BeginsIn old.connections new.connections k at n deadline (Ok label)
-    × (new ≡ with_connections new.connections old)
-LabelsAs old new k at n deadline false (Err send.NoLabel) =
-    (next_in k at old.connections ≡ None) × (new ≡ old)
-LabelsAs old new k at n deadline false (Err (send.Memory m)) = ⊤
 
 -- what is kept of a request changes, and the connections may
 pub record ChangesRequest (old new : Bus) (n : ℕ) (change : Slot → Option Slot)

@@ -1,9 +1,14 @@
 -- The requests of one side of a connection whose identifiers are in use, and what changes them.
 use Rattle.std.specs.Prelude.{◌≡◌, ◌⊎◌, ℕ, ◌==◌, Bool, true, false, not, Option, Some, None}
 use Rattle.std.specs.Prelude.{if◌then◌else◌, option_and_then, Result, Ok, Err, List, ⊤, find}
+use Rattle.gb_base.specs.declared.end.End.{End}
 use Rattle.gb_base.specs.declared.end.Side.{Side}
-use Rattle.gb_bus.specs.Parts.{is_unclean, next_in, numbered, ops_of, with_ops}
+use Rattle.gb_bus.specs.Parts.{end_at, is_unclean, next_in, numbered, ops_of, put, with_ops}
 use Rattle.gb_bus.specs.Connection.{Connection}
+use Rattle.gb_bus.specs.declared.answers.SendFault.{SendFault}
+use Rattle.gb_bus.specs.declared.answers.SendFault.TheVariants as send
+use Rattle.gb_bus.specs.declared.queue.Item.TheVariants as item
+use Rattle.gb_machine.specs.Bus.{other_side}
 use Rattle.gb_machine.specs.Lists.{at_first}
 use Rattle.gb_ops.specs.Calls.{Begins, Ends, Forgets, GivesUp}
 use Rattle.gb_ops.specs.Operations.{Operations, holder_of, next_label, pending_at}
@@ -53,6 +58,27 @@ BeginsOn old new at n deadline (Err begin.NoLabel) =
     (next_label (ops_of at old) ≡ None) × (new ≡ old)
 BeginsOn old new at n deadline (Err (begin.Memory m)) = ⊤
 
+-- The identifier of request n of a side: 0 where it is unidirectional. By cases on the answer.
+-- After want of memory nothing is said.
+abbrev pub LabelsOn : Connection → Connection → Side → ℕ → ℕ → Bool → Result ℕ SendFault → Type 0
+LabelsOn old new at n deadline true r = (r ≡ Ok 0) × (new ≡ old)
+LabelsOn old new at n deadline false (Ok label) =
+    OnSide old new at (λ x y. Begins x y n deadline label)
+LabelsOn old new at n deadline false (Err send.NoLabel) =
+    (next_label (ops_of at old) ≡ None) × (new ≡ old)
+LabelsOn old new at n deadline false (Err (send.Memory m)) = ⊤
+
+-- the end at a side of a connection that is wired
+abbrev pub toward : Side → Connection → Option End
+toward at c = if c.wired then Some (end_at at c) else None
+
+-- the identifier, and the end toward which the request goes
+abbrev pub AsksOn : Connection → Connection → Side → ℕ → ℕ → Bool
+    → Result (ℕ × Option End) SendFault → Type 0
+AsksOn old new at n deadline oneway (Ok a) =
+    LabelsOn old new at n deadline oneway (Ok a.0) × (a.1 ≡ toward (other_side at) new)
+AsksOn old new at n deadline oneway (Err e) = LabelsOn old new at n deadline oneway (Err e)
+
 -- a connection has the ends of one, and is wired where that is
 pub record HasEndsOf (old new : Connection) : Type 0 where
   pub near : new.ap ≡ old.ap
@@ -86,13 +112,37 @@ pub record ChangesSide (old new : List Connection) (k : ℕ) (at : Side)
   pub did : R (ops_of at connection) after
   pub rest : new ≡ at_first (numbered k) (with_ops at after) old
 
--- By cases on the answer. After want of memory nothing is said.
-abbrev pub BeginsIn : List Connection → List Connection → ℕ → Side → ℕ → ℕ
-    → Result ℕ BeginFault → Type 0
-BeginsIn old new k at n deadline (Ok label) =
+-- request n of a side has this identifier: 0 where it is unidirectional
+abbrev pub LabelsIn : List Connection → List Connection → ℕ → Side → ℕ → ℕ → Bool → ℕ → Type 0
+LabelsIn old new k at n deadline true label = (label ≡ 0) × (new ≡ old)
+LabelsIn old new k at n deadline false label =
     ChangesSide old new k at (λ x y. Begins x y n deadline label)
-BeginsIn old new k at n deadline (Err begin.NoLabel) = (next_in k at old ≡ None) × (new ≡ old)
-BeginsIn old new k at n deadline (Err (begin.Memory m)) = ⊤
+
+-- A request gets no identifier. One that is unidirectional gets none where its connection isn't
+-- live.
+abbrev pub IsSpentIn : Bool → ℕ → Side → List Connection → Type 0
+IsSpentIn true k at cs = find (numbered k) cs ≡ None
+IsSpentIn false k at cs = next_in k at cs ≡ None
+
+-- a request has an identifier, and waits toward the other side, or is lost
+pub record Asks (old new : List Connection) (k : ℕ) (at : Side) (n kind : ℕ) (payload : List ℕ)
+    (deadline : ℕ) (oneway : Bool) (label : ℕ) (lost : Bool) : Type 0 where
+  pub connection : Connection
+  pub found : find (numbered k) old ≡ Some connection
+  pub lost_is : lost ≡ not connection.wired
+  pub begun : List Connection
+  pub labels : LabelsIn old begun k at n deadline oneway label
+  pub waits : new
+      ≡ at_first (numbered k) (put (other_side at) (item.Ask n label kind payload)) begun
+
+-- By cases on the answer. After want of memory nothing is said.
+abbrev pub AsksIn : List Connection → List Connection → ℕ → Side → ℕ → ℕ → List ℕ → ℕ → Bool
+    → Result (ℕ × Bool) SendFault → Type 0
+AsksIn old new k at n kind payload deadline oneway (Ok a) =
+    Asks old new k at n kind payload deadline oneway a.0 a.1
+AsksIn old new k at n kind payload deadline oneway (Err send.NoLabel) =
+    IsSpentIn oneway k at old × (new ≡ old)
+AsksIn old new k at n kind payload deadline oneway (Err (send.Memory m)) = ⊤
 
 -- a side changes so, or the connection isn't live and nothing changes
 abbrev pub ChangesAs : List Connection → List Connection → ℕ → Side

@@ -15,11 +15,12 @@ ghost use Rattle.gb_bus.specs.Parts.{
   with_wire,
 };
 ghost use Rattle.gb_bus.specs.Seen.{alone};
-ghost use Rattle.gb_bus.specs.Sides.{BeginsOn, HasEndsOf, GivesUpOn, MatchesAs, MatchesOn};
-ghost use Rattle.gb_bus.specs.Sides.{RespondsOn, is_other};
+ghost use Rattle.gb_bus.specs.Sides.{AsksOn, BeginsOn, HasEndsOf, GivesUpOn, LabelsOn};
+ghost use Rattle.gb_bus.specs.Sides.{MatchesAs, MatchesOn, RespondsOn, is_other, toward};
 ghost use Rattle.gb_bus.specs.Telling.{known_as};
 
-use crate::Known;
+use crate::ends::other_side;
+use crate::{Known, SendFault};
 use gb_base::{End, OutOfMemory, Side};
 use gb_ops::{BeginFault, Matched, Ops};
 use std::alloc::Global;
@@ -104,13 +105,66 @@ impl Connection {
     /// Request n of a side is open from now on, and its identifier is answered. After NoLabel all
     /// is as before.
     #[inline]
-    pub fn begin(&mut self, side: Side, n: u64, deadline: u64) -> Result<u16, BeginFault>
+    fn begin(&mut self, side: Side, n: u64, deadline: u64) -> Result<u16, BeginFault>
         ensures begun { BeginsOn (alone 0 self.old) (alone 0 self.new) side n deadline result }
         ensures ends { HasEndsOf (alone 0 self.old) (alone 0 self.new) }
     {
         match side {
             Side::Ap => self.ap_ops.begin(n, deadline),
             Side::Far => self.far_ops.begin(n, deadline),
+        }
+    }
+
+    /// The identifier of request n of a side, which is open from now on: 0 where it is
+    /// unidirectional. After NoLabel all is as before.
+    #[inline]
+    fn label_for(
+        &mut self,
+        side: Side,
+        n: u64,
+        deadline: u64,
+        oneway: bool,
+    ) -> Result<u16, SendFault>
+        ensures labels { LabelsOn (alone 0 self.old) (alone 0 self.new) side n deadline oneway
+            result }
+        ensures ends { HasEndsOf (alone 0 self.old) (alone 0 self.new) }
+    {
+        if oneway {
+            return Ok(0);
+        }
+        match self.begin(side, n, deadline) {
+            Ok(label) => Ok(label),
+            Err(BeginFault::NoLabel) => Err(SendFault::NoLabel),
+            Err(BeginFault::Memory(refused)) => Err(SendFault::Memory(refused)),
+        }
+    }
+
+    /// The same, with the end toward which the request goes. None stands for it where the
+    /// connection isn't wired.
+    #[inline]
+    pub fn ask(
+        &mut self,
+        side: Side,
+        n: u64,
+        deadline: u64,
+        oneway: bool,
+    ) -> Result<(u16, Option<End>), SendFault>
+        ensures asked { AsksOn (alone 0 self.old) (alone 0 self.new) side n deadline oneway result }
+        ensures ends { HasEndsOf (alone 0 self.old) (alone 0 self.new) }
+    {
+        let label = self.label_for(side, n, deadline, oneway)?;
+        Ok((label, self.toward(other_side(side))))
+    }
+
+    /// The end at a side, None where it isn't wired.
+    #[inline]
+    fn toward(&self, side: Side) -> Option<End>
+        ensures { result ≡ toward side (alone 0 self.now) }
+    {
+        if self.wired {
+            Some(self.end(side))
+        } else {
+            None
         }
     }
 

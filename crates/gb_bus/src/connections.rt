@@ -38,9 +38,9 @@ ghost use Rattle.gb_bus.specs.Parts.{
 use crate::connection::Connection;
 use crate::ends::is_same;
 use crate::queue::{Item, add_ends, count};
-use crate::{Known, Waiting, live};
-use gb_base::{End, Numbers, OutOfMemory, Sequence, Side};
-use gb_ops::{BeginFault, Matched, Ops};
+use crate::{Known, SendFault, Waiting, live};
+use gb_base::{Bytes, End, Numbers, OutOfMemory, Sequence, Side};
+use gb_ops::{Matched, Ops};
 use gb_switch::{Place, Queues};
 use std::alloc::Global;
 use std::collections::{BTreeMap, HashMap};
@@ -76,7 +76,7 @@ impl Model for Connections {
 
 impl Connections {
     ghost use Rattle.gb_bus.specs.Parts.{PopsAs, earliest_in};
-    ghost use Rattle.gb_bus.specs.Sides.{BeginsIn, GivesUpIn, MatchesIn, RespondsIn};
+    ghost use Rattle.gb_bus.specs.Sides.{AsksIn, GivesUpIn, MatchesIn, RespondsIn};
 
     /// The connection of the supervisory controller alone, open for ever.
     pub fn new(alloc: Global) -> Result<Connections, OutOfMemory>
@@ -304,13 +304,38 @@ impl Connections {
         self.queues.destroy(near, connection.peer);
     }
 
-    /// Request n of a side of a connection is open from now on, and its identifier is answered.
-    /// NoLabel comes where the connection isn't live too. Nothing changes then.
+    /// A request of a side of a connection is open from now on, unless it is unidirectional, and
+    /// waits toward the other side. Its identifier is answered, and whether it is lost, since the
+    /// connection isn't wired. NoLabel comes where the connection isn't live too. Nothing changes
+    /// then.
     #[inline]
-    pub fn begin(&mut self, k: u64, side: Side, n: u64, deadline: u64) -> Result<u16, BeginFault>
-        ensures { BeginsIn self.old self.new k side n deadline result }
+    pub fn ask(
+        &mut self,
+        k: u64,
+        side: Side,
+        number: u64,
+        kind: u8,
+        payload: Bytes,
+        deadline: u64,
+        oneway: bool,
+    ) -> Result<(u16, bool), SendFault>
+        ensures { AsksIn self.old self.new k side number kind payload deadline oneway result }
     {
-        live::begin(&mut self.live, k, side, n, deadline)
+        let (label, end) = live::ask(&mut self.live, k, side, number, deadline, oneway)?;
+        let Some(end) = end else {
+            return Ok((label, true));
+        };
+        let item = Item::Ask {
+            number,
+            label,
+            kind,
+            payload,
+        };
+        let pushed = self.queues.push(end, item);
+        if pushed.is_err() {
+            return Err(SendFault::Memory(OutOfMemory));
+        }
+        Ok((label, false))
     }
 
     /// What an answer with an identifier comes to on a side of a connection: to request `number`,

@@ -5,13 +5,14 @@ ghost use Rattle.std.specs.BTreeMap.{get};
 ghost use Rattle.std.specs.Ordering.{nat_cmp};
 ghost use Rattle.gb_bus.specs.Index.{ChangesBy, Leaves};
 ghost use Rattle.gb_bus.specs.Parts.{cleared, closed, soiled, with_wire};
-ghost use Rattle.gb_bus.specs.Sides.{BeginsOn, GivesUpOn, HasEndsOf, MatchesOn, RespondsOn};
-ghost use Rattle.gb_ops.specs.declared.entries.BeginFault.TheVariants as fault;
+ghost use Rattle.gb_bus.specs.Sides.{AsksOn, GivesUpOn, HasEndsOf, MatchesOn, RespondsOn};
+ghost use Rattle.gb_bus.specs.declared.answers.SendFault.TheVariants as fault;
 ghost use Rattle.gb_ops.specs.declared.entries.Matched.TheVariants as matching;
 
+use crate::SendFault;
 use crate::connection::Connection;
-use gb_base::Side;
-use gb_ops::{BeginFault, Matched};
+use gb_base::{End, Side};
+use gb_ops::Matched;
 use std::collections::BTreeMap;
 
 /// A number is greater than those of all live connections.
@@ -64,24 +65,25 @@ pub fn shut(live: &mut BTreeMap<u64, Connection>, k: u64)
     }
 }
 
-/// Request n of a side of a connection is open from now on, and its identifier is answered.
-/// NoLabel comes where the connection isn't live too.
+/// The identifier of request n of a side of a connection, which is open from now on, and the end
+/// toward which it goes. NoLabel comes where the connection isn't live too.
 #[inline]
-pub fn begin(
+pub fn ask(
     live: &mut BTreeMap<u64, Connection>,
     k: u64,
     side: Side,
     n: u64,
     deadline: u64,
-) -> Result<u16, BeginFault>
+    oneway: bool,
+) -> Result<(u16, Option<End>), SendFault>
     ensures there { ChangesBy live.old live.new k
-        (λ x y. BeginsOn x y side n deadline result × HasEndsOf x y) }
+        (λ x y. AsksOn x y side n deadline oneway result × HasEndsOf x y) }
     ensures nowhere { get nat_cmp live.old k ≡ None → Leaves live.old live.new }
     ensures none { get nat_cmp live.old k ≡ None → result ≡ Err fault.NoLabel }
 {
     match live.get_mut(&k) {
-        Some(connection) => connection.begin(side, n, deadline),
-        None => Err(BeginFault::NoLabel),
+        Some(connection) => connection.ask(side, n, deadline, oneway),
+        None => Err(SendFault::NoLabel),
     }
 }
 

@@ -10,11 +10,9 @@ use crate::queue::Item;
 use crate::slots::Slot;
 use crate::{Asked, Bus, SendFault, Sent};
 use gb_base::{Bytes, OutOfMemory, Side};
-use gb_ops::BeginFault;
 
 impl Bus {
     ghost use Rattle.gb_bus.specs.Delivering.{RepliesAs};
-    ghost use Rattle.gb_bus.specs.Moving.{LabelsAs};
     ghost use Rattle.gb_bus.specs.Sending.{SendsAs};
     ghost use Rattle.gb_bus.specs.Stands.{Around, Stands};
 
@@ -35,14 +33,13 @@ impl Bus {
             → SendsAs around self.new (draft k side kind payload.now deadline oneway) b result }
         ensures unchanged { IsErrOf result SendFault.NoLabel → self.new ≡ self.old }
     {
-        let Some(wired) = self.connections.wired(k) else {
-            return Err(SendFault::NoLabel);
-        };
-        let lost = !wired;
         let Some(number) = self.slots.count().checked_add(1) else {
             return Err(SendFault::Memory(OutOfMemory));
         };
-        let label = self.label_for(k, side, number, deadline, oneway)?;
+        let payload = Bytes::from_slice(self.alloc, payload)?;
+        let (label, lost) = self
+            .connections
+            .ask(k, side, number, kind, payload, deadline, oneway)?;
         let slot = Slot {
             number,
             connection: k,
@@ -54,41 +51,11 @@ impl Bus {
             names: 0,
         };
         self.slots.add(slot, oneway)?;
-        let payload = Bytes::from_slice(self.alloc, payload)?;
-        let item = Item::Ask {
-            number,
-            label,
-            kind,
-            payload,
-        };
-        self.connections.push(k, other_side(side), item)?;
         Ok(Sent {
             number,
             label,
             lost,
         })
-    }
-
-    /// The identifier of request n of a side: 0 where it is unidirectional.
-    #[inline]
-    fn label_for(
-        &mut self,
-        k: u64,
-        side: Side,
-        n: u64,
-        deadline: u64,
-        oneway: bool,
-    ) -> Result<u16, SendFault>
-        ensures { LabelsAs self.old self.new k side n deadline oneway result }
-    {
-        if oneway {
-            return Ok(0);
-        }
-        match self.connections.begin(k, side, n, deadline) {
-            Ok(label) => Ok(label),
-            Err(BeginFault::NoLabel) => Err(SendFault::NoLabel),
-            Err(BeginFault::Memory(refused)) => Err(SendFault::Memory(refused)),
-        }
     }
 
     /// Answers a request that was delivered at `side` of a connection: the reply goes toward the

@@ -1,0 +1,172 @@
+-- What is seen of the live connections where a request is made on one.
+use Rattle.std.proofs.Common.{◌≡◌, ℕ, Bool, true, false, cond, not, Option, Some, None}
+use Rattle.std.proofs.Common.{option_and_then, Result, Ok, Err, List, refl, sym, ap, ◌∙◌}
+use Rattle.std.proofs.Common.{subst}
+use Rattle.std.specs.BTreeMap.{get, is_at}
+use Rattle.std.specs.Map.{lookup, set_value}
+use Rattle.std.specs.Ordering.{nat_cmp}
+use Rattle.gb_base.specs.declared.end.End.{End}
+use Rattle.gb_base.specs.declared.end.Side.{Side}
+use Rattle.gb_bus.proofs.Entries.{same-some, set-here, some-none}
+use Rattle.gb_bus.proofs.Keeping.{Live, Queues, kept-set}
+use Rattle.gb_bus.proofs.Seeing.{finds, next-seen}
+use Rattle.gb_bus.proofs.SeeingQueues.{pushes, put-unwired}
+use Rattle.gb_bus.proofs.SeeingSides.{put-back, side-changes}
+use Rattle.gb_bus.specs.Connection.{Connection}
+use Rattle.gb_bus.specs.Index.{ChangesBy, Ends, Kept, Leaves}
+use Rattle.gb_bus.specs.Parts.{end_at, next_of}
+use Rattle.gb_bus.specs.Seen.{all_seen, alone, seen}
+use Rattle.gb_bus.specs.Sides.{Asks, AsksIn, AsksOn, HasEndsOf, LabelsIn, LabelsOn, toward}
+use Rattle.gb_bus.specs.declared.answers.SendFault.{SendFault}
+use Rattle.gb_bus.specs.declared.answers.SendFault.TheVariants as fault
+use Rattle.gb_bus.specs.declared.connection.Connection as code
+use Rattle.gb_bus.specs.declared.queue.Item.TheVariants as item
+use Rattle.gb_machine.specs.Bus.{other_side}
+use Rattle.gb_ops.specs.Calls.{Begins}
+use Rattle.gb_switch.specs.Queues.{Appends, items_at}
+
+same-ok : {A E : Type 0} (a b : A) (r : Result A E) → r ≡ Ok a → r ≡ Ok b → a ≡ b
+same-ok a b r e f = cc
+
+-- the identifier of the request
+labels : (live live' : Live) (ends : Ends) (q : Queues) (k : ℕ) (s : Side) (n deadline : ℕ)
+    (oneway : Bool) (label : ℕ) (x y : code.Connection) → Kept live ends q
+    → get nat_cmp live k ≡ Some x → live'.entries ≡ set_value (is_at (nat_cmp k)) live.entries y
+    → LabelsOn (alone 0 x) (alone 0 y) s n deadline oneway (Ok label)
+    → LabelsIn (all_seen q live.entries) (all_seen q live'.entries) k s n deadline oneway label
+labels live live' ends q k s n deadline true label x y kept found now h =
+    (same-ok label 0 (Ok label) refl h.0, put-back live live' ends q k x y kept found now h.1)
+labels live live' ends q k s n deadline false label x y kept found now h =
+    side-changes live live' ends q k s x y (λ v u. Begins v u n deadline label) kept found now h
+
+-- ---- no identifier was had
+
+pub asks-none : (live live' : Live) (ends : Ends) (q : Queues) (k : ℕ) (s : Side) (n kind : ℕ)
+    (payload : List ℕ) (deadline : ℕ) (oneway : Bool) (e : SendFault) → Kept live ends q
+    → ChangesBy live live' k (λ x y. AsksOn x y s n deadline oneway (Err e) × HasEndsOf x y)
+    → (get nat_cmp live k ≡ None → Leaves live live')
+    → AsksIn (all_seen q live.entries) (all_seen q live'.entries) k s n kind payload deadline oneway
+    (Err e)
+asks-none live live' ends q k s n kind payload deadline oneway (fault.Memory m) kept there none =
+    tt
+asks-none live live' ends q k s n kind payload deadline oneway fault.NoLabel kept there none =
+    by (get nat_cmp live k) refl oneway there
+  where
+    by : (o : Option code.Connection) → get nat_cmp live k ≡ o → (b : Bool)
+        → ChangesBy live live' k (λ x y. AsksOn x y s n deadline b (Err fault.NoLabel)
+        × HasEndsOf x y)
+        → AsksIn (all_seen q live.entries) (all_seen q live'.entries) k s n kind payload deadline b
+        (Err fault.NoLabel)
+    by None e true h =
+        (finds live q (all_seen q live.entries) k None refl e, ap (all_seen q) (none e))
+    by None e false h = (
+      ap (option_and_then (next_of s)) (finds live q (all_seen q live.entries) k None refl e),
+      ap (all_seen q) (none e),
+    )
+    by (Some x) e true h = absurd (cc ((h x e).did.0.0))
+    by (Some x) e false h =
+        let w = h x e in (
+          ap (option_and_then (next_of s))
+              (finds live q (all_seen q live.entries) k (Some x) refl e)
+              ∙ sym (next-seen q k x s) ∙ w.did.0.0,
+          put-back live live' ends q k x w.after kept e w.now w.did.0.1,
+        )
+
+-- ---- the request is made
+
+-- what the connection was and is
+record Made (live live' : Live) (ends : Ends) (q : Queues) (k : ℕ) (s : Side) (n deadline : ℕ)
+    (oneway : Bool) (a : ℕ × Option End) : Type 0 where
+  before : code.Connection
+  after : code.Connection
+  found : get nat_cmp live k ≡ Some before
+  there : get nat_cmp live' k ≡ Some after
+  wire : after.wired ≡ before.wired
+  stays : Kept live' ends q
+  labels_are : LabelsIn (all_seen q live.entries) (all_seen q live'.entries) k s n deadline oneway
+      a.0
+  goes : a.1 ≡ toward (other_side s) (alone 0 after)
+
+made : (live live' : Live) (ends : Ends) (q : Queues) (k : ℕ) (s : Side) (n deadline : ℕ)
+    (oneway : Bool) (a : ℕ × Option End) → Kept live ends q
+    → ChangesBy live live' k (λ x y. AsksOn x y s n deadline oneway (Ok a) × HasEndsOf x y)
+    → (get nat_cmp live k ≡ None → Ok a ≡ Err fault.NoLabel)
+    → Made live live' ends q k s n deadline oneway a
+made live live' ends q k s n deadline oneway a kept there fails = by (get nat_cmp live k) refl
+  where
+    by : (o : Option code.Connection) → get nat_cmp live k ≡ o
+        → Made live live' ends q k s n deadline oneway a
+    by None e = absurd (cc (fails e))
+    by (Some x) e =
+        let w = there x e in
+        record {
+          before = x;
+          after = w.after;
+          found = e;
+          there = ap (lookup (is_at (nat_cmp k))) w.now ∙ set-here k live.entries x w.after e;
+          wire = w.did.1.wire;
+          stays = kept-set live live' ends q k x w.after e w.now w.did.1.near w.did.1.far
+              w.did.1.wire kept;
+          labels_are = labels live live' ends q k s n deadline oneway a.0 x w.after kept e w.now
+              w.did.0.0;
+          goes = w.did.0.1;
+        }
+
+nowhere : (c : Connection) (s : Side) → toward s c ≡ None → c.wired ≡ false
+nowhere c s e = by c.wired e
+  where
+    by : (w : Bool) → cond w (Some (end_at s c)) None ≡ None → w ≡ false
+    by true f = absurd (some-none (end_at s c) f)
+    by false f = refl
+
+somewhere : (c : Connection) (s : Side) (at : End) → toward s c ≡ Some at
+    → (c.wired ≡ true) × (at ≡ end_at s c)
+somewhere c s at e = by c.wired e
+  where
+    by : (w : Bool) → cond w (Some (end_at s c)) None ≡ Some at → (w ≡ true) × (at ≡ end_at s c)
+    by true f = (refl, sym (same-some (end_at s c) at f))
+    by false f = absurd (cc f)
+
+-- it is lost
+pub asks-lost : (live live' : Live) (ends : Ends) (q : Queues) (xs : List Connection) (k : ℕ)
+    (s : Side) (n kind : ℕ) (payload : List ℕ) (deadline : ℕ) (oneway : Bool)
+    (a : ℕ × Option End) → Kept live ends q → all_seen q live.entries ≡ xs
+    → ChangesBy live live' k (λ x y. AsksOn x y s n deadline oneway (Ok a) × HasEndsOf x y)
+    → (get nat_cmp live k ≡ None → Ok a ≡ Err fault.NoLabel) → a.1 ≡ None
+    → Asks xs (all_seen q live'.entries) k s n kind payload deadline oneway a.0 true
+asks-lost live live' ends q xs k s n kind payload deadline oneway a kept view there fails none =
+    let m = made live live' ends q k s n deadline oneway a kept there fails in
+    let loose = nowhere (alone 0 m.after) (other_side s) (sym m.goes ∙ none) in
+    subst (λ ys. Asks ys (all_seen q live'.entries) k s n kind payload deadline oneway a.0 true)
+    view (record {
+      connection = seen q k m.before;
+      found = finds live q (all_seen q live.entries) k (Some m.before) refl m.found;
+      lost_is = sym (ap not (sym m.wire ∙ loose));
+      begun = all_seen q live'.entries;
+      labels = m.labels_are;
+      waits = put-unwired live' ends q (all_seen q live'.entries) k m.after (other_side s)
+          (item.Ask n a.0 kind payload) m.stays refl m.there loose;
+    })
+
+-- it waits
+pub asks-waits : (live live' : Live) (ends : Ends) (q r : Queues) (xs : List Connection) (k : ℕ)
+    (s : Side) (n kind : ℕ) (payload : List ℕ) (deadline : ℕ) (oneway : Bool)
+    (a : ℕ × Option End) (at : End) → Kept live ends q → all_seen q live.entries ≡ xs
+    → ChangesBy live live' k (λ x y. AsksOn x y s n deadline oneway (Ok a) × HasEndsOf x y)
+    → (get nat_cmp live k ≡ None → Ok a ≡ Err fault.NoLabel) → a.1 ≡ Some at
+    → Appends (items_at q) (items_at r) at (item.Ask n a.0 kind payload)
+    → Asks xs (all_seen r live'.entries) k s n kind payload deadline oneway a.0 false
+asks-waits live live' ends q r xs k s n kind payload deadline oneway a at kept view there fails is
+    puts =
+    let m = made live live' ends q k s n deadline oneway a kept there fails in
+    let w = somewhere (alone 0 m.after) (other_side s) at (sym m.goes ∙ is) in
+    subst (λ ys. Asks ys (all_seen r live'.entries) k s n kind payload deadline oneway a.0 false)
+    view (record {
+      connection = seen q k m.before;
+      found = finds live q (all_seen q live.entries) k (Some m.before) refl m.found;
+      lost_is = sym (ap not (sym m.wire ∙ w.0));
+      begun = all_seen q live'.entries;
+      labels = m.labels_are;
+      waits = pushes live' ends q r (all_seen q live'.entries) k m.after (other_side s) at
+          (item.Ask n a.0 kind payload) m.stays refl m.there w.0 w.1 puts;
+    })
