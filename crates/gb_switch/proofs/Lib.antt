@@ -5,3 +5,4 @@ pub mod Others
 pub mod Places
 pub mod Ports
 pub mod Slots
+pub mod WaitingEnds

@@ -2,22 +2,21 @@
 use Rattle.std.proofs.Common.{◌≡◌, ◌≢◌, Bool, true, false, cond, ◌⊎◌, inl, inr, Option, Some, None}
 use Rattle.std.proofs.Common.{option_map, IsSome, is_some, List, [], ◌∷◌, ◌++◌, length, Result}
 use Rattle.std.proofs.Common.{Ok, Err}
-use Rattle.std.proofs.Common.{OnErr, OnOk, refl, sym, ap, ◌∙◌, ⊎_elim, subst, ◌<◌, arith}
+use Rattle.std.proofs.Common.{OnErr, OnOk, refl, sym, ap, ◌∙◌, ⊎_elim, subst, arith}
 use Rattle.std.proofs.lemmas.Bool.{true≢false}
 use Rattle.std.specs.BTreeMap.{is_at}
-use Rattle.std.specs.BTreeSet.{BTreeSet, IsLowerBound, btree_set_len, contains}
 use Rattle.std.specs.HashMap.{WritesThrough}
-use Rattle.std.specs.List.{list_any}
 use Rattle.std.specs.Map.{lookup}
 use Rattle.std.specs.Ordering.{eq_by_cmp, is_eq, is_gt}
 use Rattle.std.specs.declared.collections.VecDeque.{VecDeque}
 use Rattle.gb_base.specs.declared.end.End.{End}
 use Rattle.gb_machine.specs.Waiting.{end_before}
 use Rattle.gb_switch.proofs.Places.{cmp-other, cmp-own, cmp-same, settled-before}
-use Rattle.gb_switch.specs.Lines.{Agrees, Marks, QueueMap, has_items, line_in, lines_of, queue_in}
+use Rattle.gb_switch.specs.Lines.{Agrees, QueueMap, has_items, line_in, lines_of, queue_in}
 use Rattle.gb_switch.specs.Places.{end_cmp}
 use Rattle.gb_switch.specs.Queues.{Appends, Creates, Destroys, IsFirst, Puts, StaysSame, Takes}
 use Rattle.gb_switch.specs.Queues.{TakesAs, items_at}
+use Rattle.gb_switch.specs.WaitingEnds.{IsLeast, Marks, is_in}
 
 -- what contracts see at an end is what the map has there
 lookup-lines : {T Z : Type 0} (test : End → Bool) (es : List (End × VecDeque T Z))
@@ -79,7 +78,7 @@ idle-after m n k w u none q before =
     (λ ne. ap has_items (updated-others m n k w u q ne) ∙ before)
     (is-end q k)
 
-pub agrees-idle : {T Z : Type 0} (m n : QueueMap T Z) (waiting : BTreeSet End)
+pub agrees-idle : {T Z : Type 0} (m n : QueueMap T Z) (waiting : List End)
     (k : End) (w : Option (VecDeque T Z)) → Updated m n k w
     → has_items (option_map (λ q. q.items) w) ≡ false → has_items (line_in m k) ≡ false
     → Agrees m waiting → Agrees n waiting
@@ -129,7 +128,7 @@ creates x y m n o a b p q v w is-x is-y is-p is-q none-p none-q u t empty-v empt
         updated-others n o q (Some w) t p ne ∙ updated-here m n p (Some v) u ∙ ap Some empty-v
 
 pub creates-agrees : {T Z : Type 0} (m n o : QueueMap T Z)
-    (waiting : BTreeSet End) (p q : End) (v w : VecDeque T Z)
+    (waiting : List End) (p q : End) (v w : VecDeque T Z)
     → line_in m p ≡ None → line_in m q ≡ None
     → Updated m n p (Some v) → Updated n o q (Some w) → v.items ≡ [] → w.items ≡ []
     → Agrees m waiting → Agrees o waiting
@@ -177,14 +176,14 @@ written {T} {Z} m n p v w there through = record {
 
 -- its end is marked as it is now
 pub agrees-written : {T Z : Type 0} (m n : QueueMap T Z)
-    (before after : BTreeSet End) (p : End) (v w : VecDeque T Z)
+    (before after : List End) (p : End) (v w : VecDeque T Z)
     → Some v ≡ queue_in m p → Rewritten m n p w
     → Marks before after p (has_items (Some w.items)) → Agrees m before → Agrees n after
 agrees-written m n before after p v w there through marks a q =
     let x = written m n p v w there through in
     ⊎_elim
     (λ e.
-    ap (contains end_cmp after) e ∙ marks.here
+    ap (is_in after) e ∙ marks.here
     ∙ sym (ap has_items (ap (line_in n) e ∙ x.puts.here)))
     (λ ne. marks.others q ne ∙ a q ∙ sym (ap has_items (x.puts.others q ne)))
     (is-end q p)
@@ -321,24 +320,17 @@ takes-none x y m n at p v w r is-x is-y is-p there through none same is =
 
 -- ---- the first end where an item waits
 
-empty-keys : (ks : List End) (test : End → Bool) → (0 < length ks → ⊥)
-    → list_any test ks ≡ false
-empty-keys [] test h = refl
-empty-keys (k ∷ ks) test h = absurd (h (omega arith))
-
 pub finds-none : {T Z : Type 0} (x : List (End × List T)) (m : QueueMap T Z)
-    (waiting : BTreeSet End) → lines_of m.entries ≡ x → Agrees m waiting
-    → (0 < btree_set_len waiting → ⊥) → (at : End) → has_items (items_at x at) ≡ false
-finds-none x m waiting is-x a empty at =
-    ap has_items (items-line x m is-x at) ∙ sym (a at)
-    ∙ empty-keys waiting.keys (is_at (end_cmp at)) empty
+    (waiting : List End) → lines_of m.entries ≡ x → Agrees m waiting
+    → IsLeast waiting None → (at : End) → has_items (items_at x at) ≡ false
+finds-none x m waiting is-x a none at =
+    ap has_items (items-line x m is-x at) ∙ sym (a at) ∙ none at
 
 pub finds : {T Z : Type 0} (x : List (End × List T)) (m : QueueMap T Z)
-    (waiting : BTreeSet End) (k at : End) → lines_of m.entries ≡ x → Agrees m waiting
-    → at ≡ k → contains end_cmp waiting k ≡ true → IsLowerBound end_cmp waiting k
-    → IsFirst (items_at x) at
-finds x m waiting k at is-x a is there least = record {
-  waits = queue-of at ∙ ap (λ p. has_items (line_in m p)) is ∙ sym (a k) ∙ there;
+    (waiting : List End) (k at : End) → lines_of m.entries ≡ x → Agrees m waiting
+    → at ≡ k → IsLeast waiting (Some k) → IsFirst (items_at x) at
+finds x m waiting k at is-x a is least = record {
+  waits = queue-of at ∙ ap (λ p. has_items (line_in m p)) is ∙ sym (a k) ∙ least.0;
   before = λ other earlier. by other earlier (has_items (items_at x other)) refl;
 }
   where
@@ -351,4 +343,4 @@ finds x m waiting k at is-x a is there least = record {
     by other earlier true e =
         absurd (true≢false
         (sym (ap (λ p. is_gt (end_cmp p other)) (sym is) ∙ settled-before other at earlier)
-        ∙ least other (a other ∙ sym (queue-of other) ∙ e)))
+        ∙ least.1 other (a other ∙ sym (queue-of other) ∙ e)))

@@ -29,7 +29,7 @@ cmp-same a b e = one-key a b (same_key a b e)
 pub cmp-own : (a : End) → is_eq (end_cmp a a) ≡ true
 cmp-own a = ap is_eq (tied_itself end_total a)
 
-by-false : (b : Bool) → (b ≡ true → ⊥) → b ≡ false
+pub by-false : (b : Bool) → (b ≡ true → ⊥) → b ≡ false
 by-false true never = absurd (never refl)
 by-false false never = refl
 

@@ -4,3 +4,4 @@ pub mod Lines
 pub mod Places
 pub mod Queues
 pub mod Stands
+pub mod WaitingEnds

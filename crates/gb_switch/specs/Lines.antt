@@ -1,7 +1,6 @@
 -- The maps that keep queues by their ends.
-use Rattle.std.specs.Prelude.{◌≡◌, ◌≢◌, Bool, true, false, Option, Some, None, option_map, List}
+use Rattle.std.specs.Prelude.{◌≡◌, Bool, true, false, Option, Some, None, option_map, List}
 use Rattle.std.specs.Prelude.{[], ◌∷◌}
-use Rattle.std.specs.BTreeSet.{BTreeSet, contains}
 use Rattle.std.specs.HashMap.{HashMap, get}
 use Rattle.std.specs.Ordering.{eq_by_cmp}
 use Rattle.std.specs.declared.collections.VecDeque.{VecDeque}
@@ -9,6 +8,7 @@ use Rattle.std.specs.declared.hash.BuildHasherDefault.{BuildHasherDefault}
 use Rattle.std.specs.declared.hash.FoldHasher.{FoldHasher}
 use Rattle.gb_base.specs.declared.end.End.{End}
 use Rattle.gb_switch.specs.Places.{end_cmp}
+use Rattle.gb_switch.specs.WaitingEnds.{is_in}
 
 -- some item is in a queue
 abbrev pub has_items : {T : Type 0} → Option (List T) → Bool
@@ -33,13 +33,6 @@ lines_of (e ∷ es) = (e.0, e.1.items) ∷ lines_of es
 abbrev pub line_in : {T Z : Type 0} → QueueMap T Z → End → Option (List T)
 line_in queues at = option_map (λ q. q.items) (queue_in queues at)
 
--- an end is marked or not, and the others as before
-pub record Marks (old new : BTreeSet End) (at : End) (mark : Bool) : Type 0 where
-  pub here : contains end_cmp new at ≡ mark
-  pub others : (other : End) → other ≢ at
-      → contains end_cmp new other ≡ contains end_cmp old other
-
 -- those that aren't empty are marked
-abbrev pub Agrees : {T Z : Type 0} → QueueMap T Z → BTreeSet End → Type 0
-Agrees queues waiting =
-    (at : End) → contains end_cmp waiting at ≡ has_items (line_in queues at)
+abbrev pub Agrees : {T Z : Type 0} → QueueMap T Z → List End → Type 0
+Agrees queues waiting = (at : End) → is_in waiting at ≡ has_items (line_in queues at)

@@ -7,6 +7,7 @@ mod place;
 mod port;
 mod queues;
 mod rung;
+mod waiting;
 
 pub use ladder::Ladder;
 pub use place::Place;

@@ -14,7 +14,6 @@ ghost use Rattle.std.specs.Prelude.{
   length,
   option_map,
 };
-ghost use Rattle.std.specs.BTreeSet.{contains};
 ghost use Rattle.gb_switch.specs.Queues.{
   Appends,
   Creates,
@@ -25,13 +24,14 @@ ghost use Rattle.gb_switch.specs.Queues.{
   TakesAs,
   items_at,
 };
-ghost use Rattle.gb_switch.specs.Lines.{Marks, has_items};
-ghost use Rattle.gb_switch.specs.Places.{end_cmp};
+ghost use Rattle.gb_switch.specs.Lines.{has_items};
+ghost use Rattle.gb_switch.specs.WaitingEnds.{Marks, is_in};
 
 use crate::Place;
+use crate::waiting::Waiting;
 use gb_base::{End, OutOfMemory};
 use std::alloc::Global;
-use std::collections::{BTreeSet, HashMap, VecDeque};
+use std::collections::{HashMap, VecDeque};
 use std::marker::Model;
 
 /// One list of items for each end that has a queue.
@@ -41,7 +41,7 @@ pub struct Queues<T> {
     /// The queues by their ends.
     queues: HashMap<Place, VecDeque<T>>,
     /// The ends of those that aren't empty, in the order in which they are settled.
-    waiting: BTreeSet<Place>,
+    waiting: Waiting,
 }
 
 impl<T> Model for Queues<T> {
@@ -65,7 +65,7 @@ impl<T: Drop> Queues<T> {
         Queues {
             alloc,
             queues: HashMap::new(alloc),
-            waiting: BTreeSet::new(alloc),
+            waiting: Waiting::new(alloc),
         }
     }
 
@@ -103,7 +103,7 @@ impl<T: Drop> Queues<T> {
     {
         let place = Place::of(at);
         self.queues.remove(&place);
-        self.waiting.remove(&place);
+        self.waiting.remove(place);
     }
 
     /// Adds an item at the end of an end's queue. For want of memory, and where the end has no
@@ -128,7 +128,7 @@ impl<T: Drop> Queues<T> {
         let queue = self.queues.get_mut(&place)?;
         let front = queue.pop_front()?;
         if queue.is_empty() {
-            self.waiting.remove(&place);
+            self.waiting.remove(place);
         }
         Some(front)
     }
@@ -154,24 +154,24 @@ impl<T: Drop> Queues<T> {
 /// memory the item is handed back, and all is as before.
 fn append<T: Drop>(
     queue: &mut VecDeque<T>,
-    waiting: &mut BTreeSet<Place>,
+    waiting: &mut Waiting,
     place: Place,
     item: T,
 ) -> Result<(), T>
-    requires { contains end_cmp waiting.old place ≡ has_items (Some queue.old.items) }
+    requires { is_in waiting.old place ≡ has_items (Some queue.old.items) }
     ensures pushed { OnOk result (queue.new.items ≡ queue.old.items ++ item ∷ []) }
     ensures back { IfErr result (λ x. x ≡ item) }
     ensures unchanged { OnErr result (queue.new.items ≡ queue.old.items) }
     ensures marked { Marks waiting.old waiting.new place (has_items (Some queue.new.items)) }
 {
-    if queue.is_empty() && waiting.insert(place).is_err() {
+    if queue.is_empty() && waiting.add(place).is_err() {
         return Err(item);
     }
     match queue.push_back(item) {
         Ok(()) => Ok(()),
         Err(refused) => {
             if queue.is_empty() {
-                waiting.remove(&place);
+                waiting.remove(place);
             }
             Err(refused.value)
         }

@@ -8,10 +8,9 @@ pub returns-in_err-place : goal.returns-in_err-place
 returns-in_err-place g c =
     subst (FindsFirst (items_at c.args.self.now)) (sym c.from_residual.ensures)
     (finds-none c.args.self.now c.self.inside.queues c.self.inside.waiting c.self.view_is
-    c.self.invariant (λ some. let no = c.in_err-place.ensures.variant.1 some in absurd (cc no)))
+    c.self.invariant c.in_err-place.ensures)
 
 pub returns : goal.returns
 returns g c =
-    finds c.args.self.now c.self.inside.queues c.self.inside.waiting c.in_ok-place.place.now
-    c.end.result c.self.view_is c.self.invariant c.end.ensures c.in_ok-place.ensures.member
-    c.in_ok-place.ensures.least
+    finds c.args.self.now c.self.inside.queues c.self.inside.waiting c.in_ok-place.place
+    c.end.result c.self.view_is c.self.invariant c.end.ensures c.in_ok-place.ensures

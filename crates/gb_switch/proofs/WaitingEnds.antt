@@ -1,0 +1,45 @@
+-- What becomes of the ends where an item waits when the least is removed.
+use Rattle.std.proofs.Common.{◌≡◌, true, false, Option, Some, None, IfSome, IfNone, List, ◌∷◌}
+use Rattle.std.proofs.Common.{◌||◌, Equal, sym, ap, subst}
+use Rattle.std.proofs.lemmas.Bool.{true≢false}
+use Rattle.std.proofs.lemmas.Cmp.{tied_itself}
+use Rattle.std.specs.Option.{option_eq}
+use Rattle.std.specs.Ordering.{eq_by_cmp}
+use Rattle.gb_base.specs.declared.end.End.{End}
+use Rattle.gb_switch.proofs.Places.{by-false, cmp-other, cmp-same}
+use Rattle.gb_switch.specs.Places.{end_cmp, end_total}
+use Rattle.gb_switch.specs.WaitingEnds.{IsBelow, Marks, ends_of, is_in}
+
+is-first : (o : Option End) (p : End) → option_eq (eq_by_cmp end_cmp) o (Some p) ≡ true
+    → o ≡ Some p
+is-first None p e = absurd (true≢false (sym e))
+is-first (Some first) p e = ap Some (cmp-same first p e)
+
+-- the next one comes from the others
+rest-of : (r : Option End) (old new : List End) → IfSome r (λ k. old ≡ k ∷ new)
+    → IfNone r (new ≡ old) → ends_of r new ≡ old
+rest-of None old new some none = none
+rest-of (Some k) old new some none = sym some
+
+-- the others alone are left
+leaves-others : (p : End) (others : List End) → IsBelow (Some p) others
+    → Marks (p ∷ others) others p false
+leaves-others p others below = record {
+  here =
+      by-false (is_in others p)
+      (λ there.
+      let less = below p there in
+      let tied : end_cmp p p ≡ Equal = tied_itself end_total p in
+      absurd (cc (less, tied)));
+  others = λ q ne. sym (ap (λ b. b || is_in others q) (cmp-other q p ne));
+}
+
+pub removes-first : (o r : Option End) (p : End) (old new : List End)
+    → option_eq (eq_by_cmp end_cmp) o (Some p) ≡ true
+    → IfSome r (λ k. old ≡ k ∷ new) → IfNone r (new ≡ old) → IsBelow o old
+    → Marks (ends_of o old) (ends_of r new) p false
+removes-first o r p old new same some none below =
+    let is = is-first o p same in
+    subst (λ x. Marks (ends_of x old) (ends_of r new) p false) (sym is)
+    (subst (λ ends. Marks (p ∷ old) ends p false) (sym (rest-of r old new some none))
+    (leaves-others p old (subst (λ x. IsBelow x old) is below)))
