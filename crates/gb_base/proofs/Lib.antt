@@ -1,5 +1,5 @@
-pub mod Bytes
 pub mod Calls
 pub mod Fronts
+pub mod LittleEndian
 pub mod Marks
 pub mod Names

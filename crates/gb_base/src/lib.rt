@@ -2,6 +2,7 @@
 #![tactic(auto)]
 
 mod bridge;
+mod bytes;
 mod end;
 mod entry;
 mod entry_copy;
@@ -28,6 +29,7 @@ mod steps;
 mod text;
 
 pub use bridge::{BridgeAsk, Bridged, I2cOp, I2cOps, Reading, SpiOp, SpiOps};
+pub use bytes::Bytes;
 pub use end::{End, Side};
 pub use entry::{ConnState, Entries, Entry, IntfStage};
 pub use errors::{Failed, NoRoom, OutOfMemory};
@@ -42,7 +44,7 @@ pub use outcome::Outcome;
 pub use peers::{Interface, Link};
 pub use plain::{PlainSink, PlainSource};
 pub use refusal::Refusal;
-pub use sequence::{Bytes, Numbers, Sequence, TryCopy};
+pub use sequence::{Numbers, Sequence, TryCopy};
 pub use served::{OwnAsk, OwnAsks, Served};
 pub use sink::{Sink, WriteStop};
 pub use source::Source;

@@ -19,9 +19,6 @@ pub struct Sequence<T> {
     members: Vec<T>,
 }
 
-/// The bytes of a message, a payload or a manifest.
-pub type Bytes = Sequence<u8>;
-
 /// Numbers of requests.
 pub type Numbers = Sequence<u64>;
 
@@ -81,30 +78,6 @@ impl<T: Copy> Sequence<T> {
     {
         self.members.extend_from_slice(members)?;
         Ok(())
-    }
-}
-
-impl Sequence<u8> {
-    /// The list that a vector of bytes is. It takes no memory.
-    pub fn from_vec(bytes: Vec<u8>) -> Bytes
-        ensures { result ≡ bytes.items }
-    {
-        Sequence { members: bytes }
-    }
-
-    /// The list with these bytes.
-    pub fn from_slice(alloc: Global, bytes: &[u8]) -> Result<Bytes, OutOfMemory>
-        ensures { IfOk result (λ b. b ≡ bytes.now) }
-    {
-        Ok(Sequence {
-            members: Vec::from_slice(alloc, bytes)?,
-        })
-    }
-}
-
-impl TryCopy for u8 {
-    fn copy(&self) -> Result<u8, OutOfMemory> {
-        Ok(*self)
     }
 }
 

@@ -7,7 +7,7 @@ use Rattle.std.proofs.lemmas.List.{take_at, drop_at}
 use Rattle.std.proofs.lemmas.List.Sums.{sum_by-cons}
 use Rattle.byteorder.specs.Endian.{little_number}
 use Rattle.gb_base.specs.Bytes.{AreBytes}
-use Rattle.gb_base.proofs.Bytes.{little_bytes-number2}
+use Rattle.gb_base.proofs.LittleEndian.{little_bytes-number2}
 use Rattle.gb_formats.specs.Bytes.{le16}
 use Rattle.gb_formats.specs.I2cRecords.{I2cAsk, i2c_asks, i2c_ask_kind, i2c_ask_payload}
 use Rattle.gb_formats.specs.I2cRecords.{read_i2c_ask, read_i2c_transfer, i2c_transfer_size}

@@ -7,7 +7,7 @@ use Rattle.std.proofs.lemmas.List.{take_at, drop_at}
 use Rattle.std.proofs.lemmas.List.Sums.{sum_by-cons}
 use Rattle.byteorder.specs.Endian.{little_number}
 use Rattle.gb_base.specs.Bytes.{AreBytes}
-use Rattle.gb_base.proofs.Bytes.{little_bytes-number2, little_bytes-number4}
+use Rattle.gb_base.proofs.LittleEndian.{little_bytes-number2, little_bytes-number4}
 use Rattle.gb_formats.specs.Bytes.{le16}
 use Rattle.gb_formats.specs.Records.{PayloadFault, le32, read_table, row_of}
 use Rattle.gb_formats.specs.SpiRecords.{SpiAsk, spi_asks, spi_ask_kind, spi_ask_payload}

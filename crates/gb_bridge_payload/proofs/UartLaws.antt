@@ -5,7 +5,7 @@ use Rattle.std.proofs.Common.{◌∙◌}
 use Rattle.std.proofs.lemmas.Bool.{cases_lt}
 use Rattle.byteorder.specs.Endian.{little_number}
 use Rattle.gb_base.specs.Bytes.{AreBytes}
-use Rattle.gb_base.proofs.Bytes.{little_bytes-number2}
+use Rattle.gb_base.proofs.LittleEndian.{little_bytes-number2}
 use Rattle.gb_formats.specs.Bytes.{le16}
 use Rattle.gb_formats.specs.Records.{read_table, row_of}
 use Rattle.gb_formats.specs.UartRecords.{UartAsk, uart_asks, uart_ask_kind, uart_ask_payload}

@@ -6,7 +6,7 @@ use Rattle.std.specs.Prelude.{slice_index}
 use Rattle.std.proofs.Math.Seq.{take-add, take-append_seam}
 use Rattle.std.proofs.lemmas.List.{length-take-le}
 use Rattle.gb_base.specs.Bytes.{AreBytes}
-use Rattle.gb_base.proofs.Bytes.{little_bytes-number2}
+use Rattle.gb_base.proofs.LittleEndian.{little_bytes-number2}
 use Rattle.gb_formats.specs.Bytes.{le16}
 use Rattle.gb_formats.specs.Descriptors.{Descriptor, IdFits, IsDescriptor, body_of, descriptor_at}
 use Rattle.gb_formats.specs.Descriptors.{least_size, least_size_at, size_at, type_at, type_of}

@@ -8,7 +8,7 @@ use Rattle.std.proofs.Math.Seq.{drop-append_seam}
 use Rattle.std.proofs.lemmas.Bool.Decides.{nat_tests}
 use Rattle.std.proofs.lemmas.List.{length-take-le, take-append-drop}
 use Rattle.gb_base.specs.Bytes.{AreBytes}
-use Rattle.gb_base.proofs.Bytes.{little_bytes-number2}
+use Rattle.gb_base.proofs.LittleEndian.{little_bytes-number2}
 use Rattle.gb_formats.specs.Bytes.{le16}
 use Rattle.gb_formats.specs.Descriptors.{descriptor_at, size_at}
 use Rattle.gb_formats.specs.Manifest.{Manifest, AreDescriptors, IsManifest, check_answer}

@@ -7,7 +7,7 @@ use Rattle.std.proofs.lemmas.Bool.Decides.{nat_tests}
 use Rattle.std.proofs.lemmas.List.Sums.{sum_by-cons}
 use Rattle.byteorder.specs.Endian.{little_bytes, little_number}
 use Rattle.gb_base.specs.Bytes.{AreBytes}
-use Rattle.gb_base.proofs.Bytes.{little_bytes-number2_front, little_bytes-number4_front}
+use Rattle.gb_base.proofs.LittleEndian.{little_bytes-number2_front, little_bytes-number4_front}
 use Rattle.gb_formats.specs.Records.{fields_of}
 
 -- the bytes of a number of so many bytes; one byte is itself

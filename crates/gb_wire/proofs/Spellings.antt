@@ -5,7 +5,7 @@ use Rattle.std.proofs.Common.{take-append-drop, length-take-le, length-append, l
 use Rattle.std.proofs.lemmas.Bool.Decides.{nat_tests}
 use Rattle.std.proofs.lemmas.List.{take_at, drop_at, drop_more}
 use Rattle.std.proofs.Math.Seq.{take-add}
-use Rattle.gb_base.proofs.Bytes.{little_bytes-number2}
+use Rattle.gb_base.proofs.LittleEndian.{little_bytes-number2}
 use Rattle.byteorder.specs.Endian.{little_number}
 use Rattle.gb_base.specs.Bytes.{AreBytes}
 use Rattle.gb_base.specs.declared.fault.WireFault.{WireFault}

@@ -1,4 +1,4 @@
-use Rattle.gb_base.proofs.Bytes.{little_bytes-number4, little_bytes-number4_front}
+use Rattle.gb_base.proofs.LittleEndian.{little_bytes-number4, little_bytes-number4_front}
 use Rattle.gb_base.proofs.numbers.bytes_of_four.Goals as goal
 
 pub returns : goal.returns

@@ -1,0 +1,85 @@
+//! Bytes, which lie in the value itself while they are few.
+
+ghost use Rattle.std.specs.Prelude.{◌≡◌, [], ◌∷◌, ◌++◌, OnOk, OnErr, IfOk};
+
+use crate::{OutOfMemory, TryCopy};
+use smallvec::SmallVec;
+use std::alloc::Global;
+use std::marker::Model;
+
+/// The bytes of a message, a payload or a manifest. Up to 16 take no memory of their own. They keep
+/// the allocator that they were made with.
+#[derive(Drop)]
+pub struct Bytes {
+    bytes: SmallVec<u8, 16>,
+}
+
+impl Model for Bytes {
+    ghost use Rattle.std.specs.Prelude.{ℕ, List};
+
+    ghost Value = { List ℕ };
+
+    ghost view = { λ b. b.bytes.items };
+}
+
+impl Bytes {
+    /// No bytes.
+    pub fn new(alloc: Global) -> Bytes
+        ensures { result ≡ [] }
+    {
+        Bytes {
+            bytes: SmallVec::new(alloc),
+        }
+    }
+
+    /// The bytes that a vector has. It takes no memory.
+    pub fn from_vec(bytes: Vec<u8>) -> Bytes
+        ensures { result ≡ bytes.items }
+    {
+        Bytes {
+            bytes: SmallVec::from_vec(bytes),
+        }
+    }
+
+    /// These bytes.
+    pub fn from_slice(alloc: Global, bytes: &[u8]) -> Result<Bytes, OutOfMemory>
+        ensures { IfOk result (λ b. b ≡ bytes.now) }
+    {
+        Ok(Bytes {
+            bytes: SmallVec::from_slice(alloc, bytes)?,
+        })
+    }
+
+    /// The bytes in order.
+    pub fn items(&self) -> &[u8]
+        ensures { result.now ≡ self.now }
+    {
+        self.bytes.as_slice()
+    }
+
+    /// Adds a byte at the end. After a refusal the bytes are as before.
+    pub fn push(&mut self, byte: u8) -> Result<(), OutOfMemory>
+        ensures ok { OnOk result (self.new ≡ self.old ++ byte ∷ []) }
+        ensures err { OnErr result (self.new ≡ self.old) }
+    {
+        self.bytes.push(byte)?;
+        Ok(())
+    }
+
+    /// Adds these bytes at the end. After a refusal the bytes are as before.
+    pub fn extend(&mut self, more: &[u8]) -> Result<(), OutOfMemory>
+        ensures ok { OnOk result (self.new ≡ self.old ++ more.now) }
+        ensures err { OnErr result (self.new ≡ self.old) }
+    {
+        self.bytes.extend_from_slice(more)?;
+        Ok(())
+    }
+}
+
+impl TryCopy for Bytes {
+    fn copy(&self) -> Result<Bytes, OutOfMemory> {
+        Ok(Bytes {
+            bytes: SmallVec::from_slice(*self.bytes.allocator(), self.bytes.as_slice())?,
+        })
+    }
+}
