@@ -11,6 +11,9 @@ use std::alloc::Global;
 /// The most bytes that a payload has on a simulated link.
 pub const LONGEST_PAYLOAD: usize = 2040;
 
+/// The most bytes that a payload has in a message that takes no memory of its own.
+const SHORT_PAYLOAD: usize = 8;
+
 /// The size of a message with a payload of at most 2,040 bytes.
 pub fn size_of(payload: &[u8]) -> u16
     ensures { length payload.now ≤ 2040 → result ≡ message_size payload.now }
@@ -68,9 +71,23 @@ fn message_bytes(alloc: Global, m: &Message<'_>) -> Result<Bytes, OutOfMemory>
     requires request { m.now.kind < 128 → m.now.result ≡ 0 }
     ensures { IfOk result (λ b. b ≡ spelling (message_of m.now)) }
 {
+    if m.payload.len() <= SHORT_PAYLOAD {
+        return short_message(alloc, m);
+    }
     let mut bytes = vec![in alloc; 0u8; 8 + m.payload.len()]?;
     encode_into(m, &mut bytes).unwrap();
     Ok(Bytes::from_vec(bytes))
+}
+
+/// The canonical spelling of a message that has at most 16 bytes.
+fn short_message(alloc: Global, m: &Message<'_>) -> Result<Bytes, OutOfMemory>
+    requires short { length m.now.payload.now ≤ 8 }
+    requires request { m.now.kind < 128 → m.now.result ≡ 0 }
+    ensures { IfOk result (λ b. b ≡ spelling (message_of m.now)) }
+{
+    let mut bytes = [0u8; 8 + SHORT_PAYLOAD];
+    let size = encode_into(m, &mut bytes).unwrap();
+    Ok(Bytes::from_slice(alloc, &bytes[..size])?)
 }
 
 /// A payload up to the length that a message has room for.
