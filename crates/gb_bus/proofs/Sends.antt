@@ -284,16 +284,16 @@ spent around x b k at kind payload deadline false s none = record {
 }
 
 pub sends_none : (around : Around) (x : Bus) (cs : List Connection) (b : machine.Bus) (k : ℕ)
-    (at : Side) (n kind : ℕ) (payload bytes : List ℕ) (deadline : ℕ) (oneway : Bool)
+    (at : Side) (n kind : ℕ) (payload : List ℕ) (deadline : ℕ) (oneway : Bool)
     (e : SendFault) → Stands around x b
-    → AsksIn x.connections cs k at n kind bytes deadline oneway (Err e)
+    → AsksIn x.connections cs k at n kind payload deadline oneway (Err e)
     → SendsAs around (record x { connections = cs }) (draft k at kind payload deadline oneway) b
     (Err e)
-sends_none around x cs b k at n kind payload bytes deadline oneway fault.NoLabel s h =
+sends_none around x cs b k at n kind payload deadline oneway fault.NoLabel s h =
     subst (λ ys. SendsNone around (record x { connections = ys })
     (draft k at kind payload deadline oneway) b) (sym h.1)
     (spent around x b k at kind payload deadline oneway s h.0)
-sends_none around x cs b k at n kind payload bytes deadline oneway (fault.Memory m) s h = tt
+sends_none around x cs b k at n kind payload deadline oneway (fault.Memory m) s h = tt
 
 -- the answer where what waits and what is kept are given at once
 sends_on : (around : Around) (x : Bus) (ys : List Connection) (z : Bus) (b : machine.Bus) (k : ℕ)
@@ -339,22 +339,20 @@ sends_on around x ys z b k at kind payload deadline oneway label number lost fou
 -- The answer of a send that draws an identifier, or needs none. What waits and what is kept are
 -- given by their parts.
 pub sends : (around : Around) (x : Bus) (b : machine.Bus) (k : ℕ) (at : Side) (kind : ℕ)
-    (payload bytes : List ℕ) (deadline : ℕ) (oneway : Bool)
+    (payload : List ℕ) (deadline : ℕ) (oneway : Bool)
     (label number : ℕ) (lost : Bool) (slot : Slot) (cs : List Connection) (w : Kept)
-    → Stands around x b → number ≡ x.slots.tally.requests + 1 → bytes ≡ payload
-    → Asks x.connections cs k at number kind bytes deadline oneway label lost
+    → Stands around x b → number ≡ x.slots.tally.requests + 1
+    → Asks x.connections cs k at number kind payload deadline oneway label lost
     → slot ≡ kept number true 0 None (requested (draft k at kind payload deadline oneway) label)
     → MakesAs oneway slot x.slots w
     → Sends around (record x { connections = cs; slots = w })
     (draft k at kind payload deadline oneway) b
     (record { number = number; label = label; lost = lost })
-sends around x b k at kind payload bytes deadline oneway label number lost slot cs w s
-    count bytes_is asks is makes =
+sends around x b k at kind payload deadline oneway label number lost slot cs w s
+    count asks is makes =
     let place : number ≡ next_number b = count ∙ ap (λ l. l + 1) s.shows.tally.requests in
     sends_on around x asks.begun (record x { connections = cs; slots = w }) b k at kind payload
     deadline oneway label number lost asks.connection slot w s place
     (subst (λ n. LabelsIn x.connections asks.begun k at n deadline oneway label) place asks.labels)
     asks.found asks.lost_is is makes
-    (ap (λ l. record x { connections = l; slots = w })
-    (asks.waits ∙ ap (λ v. at_first (numbered k) (put (other_side at)
-    (code.Ask number label kind v)) asks.begun) bytes_is))
+    (ap (λ l. record x { connections = l; slots = w }) asks.waits)

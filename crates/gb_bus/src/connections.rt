@@ -37,9 +37,9 @@ ghost use Rattle.gb_bus.specs.Parts.{
 
 use crate::connection::Connection;
 use crate::ends::is_same;
-use crate::queue::{Item, add_ends, count};
+use crate::queue::{Item, add_ends, ask_item, count};
 use crate::{Known, SendFault, Waiting, live};
-use gb_base::{Bytes, End, Numbers, OutOfMemory, Sequence, Side};
+use gb_base::{End, Numbers, OutOfMemory, Sequence, Side};
 use gb_ops::{Matched, Ops};
 use gb_switch::{Place, Queues};
 use std::alloc::Global;
@@ -311,26 +311,22 @@ impl Connections {
     #[inline]
     pub fn ask(
         &mut self,
+        alloc: Global,
         k: u64,
         side: Side,
         number: u64,
         kind: u8,
-        payload: Bytes,
+        payload: &[u8],
         deadline: u64,
         oneway: bool,
     ) -> Result<(u16, bool), SendFault>
-        ensures { AsksIn self.old self.new k side number kind payload deadline oneway result }
+        ensures { AsksIn self.old self.new k side number kind payload.now deadline oneway result }
     {
         let (label, end) = live::ask(&mut self.live, k, side, number, deadline, oneway)?;
         let Some(end) = end else {
             return Ok((label, true));
         };
-        let item = Item::Ask {
-            number,
-            label,
-            kind,
-            payload,
-        };
+        let item = ask_item(alloc, number, label, kind, payload)?;
         let pushed = self.queues.push(end, item);
         if pushed.is_err() {
             return Err(SendFault::Memory(OutOfMemory));

@@ -1,6 +1,6 @@
 //! What waits in queues.
 
-ghost use Rattle.std.specs.Prelude.{◌≡◌, OnOk, length};
+ghost use Rattle.std.specs.Prelude.{◌≡◌, IfOk, OnOk, length};
 ghost use Rattle.gb_bus.specs.Parts.{queue_of};
 ghost use Rattle.gb_bus.specs.Seen.{seen};
 ghost use Rattle.gb_bus.specs.Telling.{with_ends};
@@ -10,6 +10,7 @@ use crate::connection::Connection;
 use crate::telling::add_end;
 use gb_base::{Bytes, End, OutOfMemory, RawFault, Sequence, Side};
 use gb_switch::Queues;
+use std::alloc::Global;
 
 /// A message in a queue. It carries all that its delivery needs.
 #[derive(Drop)]
@@ -61,6 +62,25 @@ pub enum Item {
         /// The payload.
         payload: Bytes,
     },
+}
+
+/// A request as it waits in a queue.
+#[inline]
+pub fn ask_item(
+    alloc: Global,
+    number: u64,
+    label: u16,
+    kind: u8,
+    payload: &[u8],
+) -> Result<Item, OutOfMemory>
+    ensures { IfOk result (λ x. x ≡ Item.Ask number label kind payload.now) }
+{
+    Ok(Item::Ask {
+        number,
+        label,
+        kind,
+        payload: Bytes::from_slice(alloc, payload)?,
+    })
 }
 
 /// How many messages wait toward a side of a connection.

@@ -36,10 +36,10 @@ impl Bus {
         let Some(number) = self.slots.count().checked_add(1) else {
             return Err(SendFault::Memory(OutOfMemory));
         };
-        let payload = Bytes::from_slice(self.alloc, payload)?;
+        let alloc = self.alloc;
         let (label, lost) = self
             .connections
-            .ask(k, side, number, kind, payload, deadline, oneway)?;
+            .ask(alloc, k, side, number, kind, payload, deadline, oneway)?;
         let slot = Slot {
             number,
             connection: k,
