@@ -228,8 +228,7 @@ impl Interfaces {
     {
         if let Some(i) = self.index(intf) {
             let interface = &mut self.known[i];
-            interface.stage = IntfStage::Enumerated;
-            interface.manifest = manifest;
+            enumerate(interface, manifest);
         }
     }
 
@@ -292,6 +291,14 @@ impl Interfaces {
         }
         None
     }
+}
+
+/// An interface is enumerated with this manifest.
+fn enumerate(interface: &mut Interface, manifest: Bytes)
+    ensures { interface.new ≡ enumerated manifest interface.old }
+{
+    interface.stage = IntfStage::Enumerated;
+    interface.manifest = manifest;
 }
 
 /// No enumeration of these interfaces waits.
