@@ -14,7 +14,6 @@ module _ (x : Script) (hex : Bool) (left before now taken after : Option (List �
     (st : Stage x hex left before taken after)
     (same : holds_line x.reader ≡ true → now ≡ before)
     (none : holds_line x.reader ≡ false → x.gathered ≡ []) where
-
   -- nothing is gathered where the source was read
   pub gathers-read : Gathers hex left now taken after x.gathered (report_of hex st.given)
   gathers-read =
