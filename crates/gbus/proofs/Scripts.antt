@@ -13,7 +13,8 @@ use Rattle.gb_script.proofs.Readings.{consumes-held}
 use Rattle.gb_script.proofs.TextLines.{ended-behind, lines-behind}
 use Rattle.gb_script.specs.Readers.{EndsAfter, FailsAfter, IsBeyondAfter, Reads, StandsAt, behind}
 use Rattle.gb_script.specs.Readers.{longest_input, stop_of, stopped}
-use Rattle.gb_script.specs.Reading.{ended_lines, to_come}
+use Rattle.gb_script.specs.Pieces.{ended_lines}
+use Rattle.gb_script.specs.Reading.{to_come}
 use Rattle.gb_script.specs.declared.line_reader.LineReader.{LineReader}
 use Rattle.gb_script.specs.declared.line_reader.Progress.{Progress}
 use Rattle.gb_script.specs.declared.line_reader.Progress.TheVariants as progress

@@ -10,7 +10,7 @@ use Rattle.gb_formats.specs.WordValues.{number_word}
 use Rattle.gb_machine.specs.Report.{has_bad_line, report}
 use Rattle.gb_machine.specs.Summary.{summary}
 use Rattle.gb_script.specs.Readers.{longest_input}
-use Rattle.gb_script.specs.Reading.{ended_lines}
+use Rattle.gb_script.specs.Pieces.{ended_lines}
 use Rattle.gbus.specs.Manifests.{manifest_text, manifest_verdict}
 
 -- What the words ask for: the report of a script, with message bytes where hex is wanted; or the

@@ -10,7 +10,7 @@ use Rattle.gb_formats.specs.Script.{judged}
 use Rattle.gb_machine.specs.Report.{has_bad_line, report, report_from}
 use Rattle.gb_machine.specs.State.{first_state}
 use Rattle.gb_script.specs.Readers.{longest_input}
-use Rattle.gb_script.specs.Reading.{ended_lines}
+use Rattle.gb_script.specs.Pieces.{ended_lines}
 use Rattle.gbus.specs.Program.{Run, output, verdict}
 use Rattle.gbus.specs.Writing.{TakesFront}
 
