@@ -1,3 +1,4 @@
+use Rattle.std.proofs.Common.{arith}
 use Rattle.gbus.proofs.Gathering.{rose-since}
 use Rattle.gbus.proofs.Scripts.{going}
 use Rattle.gbus.proofs.script.run_script.Goals as goal
@@ -57,3 +58,18 @@ returns-in-Some-clause-faults g c =
     (g.S.Source.faults c.turn.new.source) (c.in-Some.ensures.faults
     (going c.write_before_read.new.self.reader (g.S.Source.left c.args.source.now)
     (g.S.Source.left c.loop-fault.source) stage.given stage.reads)))
+
+pub loop-fault-preserved : goal.loop-fault-preserved
+loop-fault-preserved g c =
+    let inv = c.loop-fault.invariant in
+    let left = g.S.Source.left c.args.source.now in
+    let taken = g.K.Sink.taken c.args.sink.now in
+    let stage = c.in_default-write_before_read.ensures.stage c.args.hex left
+    (g.S.Source.left c.loop-fault.source) taken inv.stage in
+    record {
+      stage = c.in_default-turn.ensures.turns c.args.hex left taken
+          (g.K.Sink.taken c.write_before_read.new.sink) stage
+          c.in_default-write_before_read.ensures.empty;
+      reads = omega (arith, inv.reads, c.turn.ensures.reads);
+      writes = omega (arith, inv.writes, c.write_before_read.ensures.writes);
+    }
