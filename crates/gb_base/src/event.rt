@@ -1,6 +1,6 @@
 //! The events of the bus, one for each line of a script.
 
-use crate::{BridgeAsk, Bytes, End, Name, OutOfMemory, TryCopy};
+use crate::{BridgeAsk, Bytes, End, Name};
 
 /// The kinds of module that a script can plug by name.
 #[derive(Clone, Copy, Debug, PartialEq, Eq)]
@@ -158,97 +158,4 @@ pub enum Event {
     },
     /// The state is shown.
     Show,
-}
-
-impl TryCopy for Event {
-    fn copy(&self) -> Result<Event, OutOfMemory> {
-        match self {
-            Event::Boot => Ok(Event::Boot),
-            Event::Insert { intf, kind } => Ok(Event::Insert {
-                intf: *intf,
-                kind: *kind,
-            }),
-            Event::InsertRaw { intf, manifest } => Ok(Event::InsertRaw {
-                intf: *intf,
-                manifest: manifest.copy()?,
-            }),
-            Event::Pull { intf } => Ok(Event::Pull { intf: *intf }),
-            Event::Connect { intf, cport } => Ok(Event::Connect {
-                intf: *intf,
-                cport: *cport,
-            }),
-            Event::Disconnect { intf, cport } => Ok(Event::Disconnect {
-                intf: *intf,
-                cport: *cport,
-            }),
-            Event::Send {
-                name,
-                to,
-                kind,
-                payload,
-                timeout,
-            } => Ok(Event::Send {
-                name: name.copy()?,
-                to: *to,
-                kind: *kind,
-                payload: payload.copy()?,
-                timeout: *timeout,
-            }),
-            Event::Bridge {
-                name,
-                intf,
-                cport,
-                ask,
-            } => Ok(Event::Bridge {
-                name: name.copy()?,
-                intf: *intf,
-                cport: *cport,
-                ask: ask.copy()?,
-            }),
-            Event::Level {
-                intf,
-                cport,
-                line,
-                value,
-            } => Ok(Event::Level {
-                intf: *intf,
-                cport: *cport,
-                line: *line,
-                value: *value,
-            }),
-            Event::SerialState {
-                intf,
-                cport,
-                control,
-            } => Ok(Event::SerialState {
-                intf: *intf,
-                cport: *cport,
-                control: *control,
-            }),
-            Event::Deliver { at } => Ok(Event::Deliver { at: *at }),
-            Event::Settle { most } => Ok(Event::Settle { most: *most }),
-            Event::Hold { intf, cport } => Ok(Event::Hold {
-                intf: *intf,
-                cport: *cport,
-            }),
-            Event::Answer { intf, cport, place } => Ok(Event::Answer {
-                intf: *intf,
-                cport: *cport,
-                place: *place,
-            }),
-            Event::Cancel { name } => Ok(Event::Cancel { name: name.copy()? }),
-            Event::Copy { from, to } => Ok(Event::Copy {
-                from: from.copy()?,
-                to: to.copy()?,
-            }),
-            Event::Forget { name } => Ok(Event::Forget { name: name.copy()? }),
-            Event::Tick { millis } => Ok(Event::Tick { millis: *millis }),
-            Event::Inject { intf, cport, bytes } => Ok(Event::Inject {
-                intf: *intf,
-                cport: *cport,
-                bytes: bytes.copy()?,
-            }),
-            Event::Show => Ok(Event::Show),
-        }
-    }
 }

@@ -8,6 +8,7 @@ mod entry;
 mod entry_copy;
 mod errors;
 mod event;
+mod event_copy;
 mod fault;
 mod front;
 mod gate;
