@@ -229,7 +229,7 @@ after_by c q h s t = record s {
 }
 
 -- a request that gets no reply is refused, and nothing changes
-pub ap-refused : {x : Parties} {s : State} {a b : List Entry} {at : End} {k : ℕ} {asked : Asked}
+ap-refused : {x : Parties} {s : State} {a b : List Entry} {at : End} {k : ℕ} {asked : Asked}
     {payload : List ℕ} {c : Connection} {item : Item} (served : code_served.HostServed)
     (y : code_host.Host) (d : IsDelivered at k asked payload s c item)
     → PartsStand (only k side.Ap item) x s
@@ -251,7 +251,7 @@ ap-refused {x} {s} {a} {b} {at} {k} {asked} {payload} {c} {item} served y d st h
     (rehosted y s.host whole (sym same ∙ ap (λ (v : HostServed). v.host) is))
 
 -- it is done
-pub ap-oneway : {x z : Parties} {s : State} {a b : List Entry} {at : End} {k : ℕ} {asked : Asked}
+ap-oneway : {x z : Parties} {s : State} {a b : List Entry} {at : End} {k : ℕ} {asked : Asked}
     {payload : List ℕ} {c : Connection} {item : Item} (served : code_served.HostServed)
     (y : code_host.Host) (d : IsDelivered at k asked payload s c item)
     → PartsStand (only k side.Ap item) x s
@@ -277,6 +277,28 @@ ap-oneway {x} {z} {s} {a} {b} {at} {k} {asked} {payload} {c} {item} served y d s
     ∙ ap-done c q s oneway good)
     (goes (with_served (serving c q s) s) stands
     (subst (λ (v : HostServed). MayNotice v.notices (with_served (serving c q s) s)) is may_now))
+
+-- either
+pub ap-heeds : {x z : Parties} {s : State} {a b : List Entry} {at : End} {k : ℕ} {asked : Asked}
+    {payload : List ℕ} {c : Connection} {item : Item} (served : code_served.HostServed)
+    (y : code_host.Host) (d : IsDelivered at k asked payload s c item)
+    → PartsStand (only k side.Ap item) x s
+    → host_serves k asked.kind payload s.host ≡ served_of served y
+    → (asked.label == 0) ≡ true → MayServe side.Ap c d.request s
+    → ((served.result == success) ≡ true → (t : State) → PartsStand [] (record x { host = y }) t
+    → MayNotice (option_map event_of served.«then») t
+    → Does z (given served.tell tell ▸ given (option_map event_of served.«then») notices) t a b)
+    → ((served.result == success) ≡ false
+    → (z ≡ record x { host = y }) × (b ≡ a ++ entry.Ignored asked.kind ∷ []))
+    → Does z (serves side.Ap c d.request) s a b
+ap-heeds {x} {z} {s} {a} {b} {c = c} served y d st h none may goes ignored =
+    by (served.result == success) refl
+  where
+    by : (t : Bool) → (served.result == success) ≡ t → Does z (serves side.Ap c d.request) s a b
+    by true fine = ap-oneway served y d st h none fine may (goes fine)
+    by false bad =
+        subst (λ w. Does w (serves side.Ap c d.request) s a b) (sym (ignored bad).0)
+        (ap-refused served y d st h none bad (ignored bad).1)
 
 replied-state : (c : Connection) (q : Incoming) (h : HostServed) (s : State)
     → (replies side.Ap c q h.answer (with_served h s)).state ≡ after_by c q h s false

@@ -71,10 +71,12 @@ impl Names {
         Ok(())
     }
 
-    /// Frees a name.
-    pub fn free(&mut self, name: &Key)
-        ensures { self.new ≡ without (λ p. same_name p.0 name.now) self.old }
+    /// Frees a name, and answers the request that it named, None where it is free.
+    pub fn free(&mut self, name: &Key) -> Option<u64>
+        ensures number { result ≡ named name.now self.old }
+        ensures freed { self.new ≡ without (λ p. same_name p.0 name.now) self.old }
+        ensures none { result ≡ None → self.new ≡ self.old }
     {
-        self.bound.remove(name);
+        self.bound.remove(name)
     }
 }

@@ -55,10 +55,9 @@ impl Parties {
             → PartsStep self.new s (event.Forget name.now) result }
     {
         let name = Key::of(name)?;
-        let Some(number) = self.names.get(&name) else {
+        let Some(number) = self.names.free(&name) else {
             return Ok(refused(self.alloc, Refusal::NoName)?);
         };
-        self.names.free(&name);
         self.bus.loose(number);
         Ok(begun(self.alloc)?)
     }

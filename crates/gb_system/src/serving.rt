@@ -1,8 +1,10 @@
 //! Requests that are served, each by the party at its end.
 
-ghost use Rattle.std.specs.Prelude.{◌≡◌, [], ◌++◌, ℕ, OnOk, option_map};
+ghost use Rattle.std.specs.Prelude.{◌≡◌, ◌==◌, [], ◌∷◌, ◌++◌, ℕ, OnOk, true, false, option_map};
 ghost use Rattle.gb_base.specs.declared.end.End.TheVariants as end;
 ghost use Rattle.gb_base.specs.declared.end.Side.TheVariants as side;
+ghost use Rattle.gb_base.specs.declared.entry.Entry.TheVariants as entry;
+ghost use Rattle.gb_formats.specs.Results.{success};
 ghost use Rattle.gb_host.specs.Serving.{event_of};
 ghost use Rattle.gb_machine.specs.Actions.{given, tell, ◌▸◌};
 ghost use Rattle.gb_machine.specs.Bus.{Connection, Item};
@@ -100,22 +102,32 @@ impl Parties {
             → MayServe side.Ap c d.request s
             → Does self.new (serves side.Ap c d.request) s told.old told.new) }
     {
-        let HostServed {
-            result: code,
-            payload: answer,
-            tell: entry,
-            then: event,
-        } = self.host.serve(connection, asked.kind, payload)?;
+        let served = self.host.serve(connection, asked.kind, payload)?;
         if asked.label == 0 {
-            if code != SUCCESS {
-                told.push(Entry::Ignored { kind: asked.kind })?;
-                return Ok(());
-            }
-            self.go_on(entry, event, told)?;
+            self.heed(asked.kind, served, told)?;
             return Ok(());
         }
-        self.answer(connection, Side::Ap, asked, code, answer.items(), told)?;
-        self.go_on(entry, event, told)?;
+        let answer = served.payload.items();
+        self.answer(connection, Side::Ap, asked, served.result, answer, told)?;
+        self.go_on(served.tell, served.then, told)?;
+        Ok(())
+    }
+
+    /// Goes on after a request that gets no reply, or ignores it where it is refused.
+    fn heed(&mut self, kind: u8, served: HostServed, told: &mut Entries) -> Result<(), OutOfMemory>
+        ensures step { (served.result == success) ≡ true → OnOk result ((s : State)
+            → PartsStand [] self.old s → MayNotice (option_map event_of served.«then») s
+            → Does self.new
+            (given served.tell tell ▸ given (option_map event_of served.«then») notices)
+            s told.old told.new) }
+        ensures ignored { (served.result == success) ≡ false → OnOk result
+            ((self.new ≡ self.old) × (told.new ≡ told.old ++ entry.Ignored kind ∷ [])) }
+    {
+        if served.result != SUCCESS {
+            told.push(Entry::Ignored { kind })?;
+            return Ok(());
+        }
+        self.go_on(served.tell, served.then, told)?;
         Ok(())
     }
 
