@@ -31,6 +31,15 @@ AreSpelt kind_of payload_of [] = Unit {0}
 AreSpelt kind_of payload_of (row ∷ rows) =
     IsSpelt kind_of payload_of row × AreSpelt kind_of payload_of rows
 
+-- what holds of a row, and then of the rows behind it
+infixr 5 ◌&◌
+pub ◌&◌ : {X Y : Type 0} → X → Y → X × Y
+x & y = (x, y)
+
+-- a row is there
+pub is_row : {A : Type 0} (row : Row A) → Some row ≢ None
+is_row row e = cc
+
 -- a row that is found is one of the table, and has the type
 pub record Found {A : Type 0} (kind_of : A → ℕ) (payload_of : A → List ℕ) (kind : ℕ) (row : Row A)
     : Type 0 where

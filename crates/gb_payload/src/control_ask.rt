@@ -18,7 +18,7 @@ use gb_base::NoRoom;
 
 /// A request of the Control protocol (Greybus Specification, "Control Protocol"), which the
 /// application processor makes of a module.
-#[derive(Clone, Copy, Debug, PartialEq, Eq)]
+#[derive(Clone, Copy, PartialEq, Eq)]
 pub enum ControlAsk {
     /// Offers a version of the protocol.
     Version {
@@ -67,11 +67,10 @@ impl ControlAsk {
     {
         match self {
             ControlAsk::Version { major, minor } => put(&[U8(*major), U8(*minor)], out),
-            ControlAsk::GetManifestSize => put(&[], out),
-            ControlAsk::GetManifest => put(&[], out),
-            ControlAsk::Connected { cport } => put(&[U16(*cport)], out),
-            ControlAsk::Disconnected { cport } => put(&[U16(*cport)], out),
-            ControlAsk::Disconnecting { cport } => put(&[U16(*cport)], out),
+            ControlAsk::GetManifestSize | ControlAsk::GetManifest => put(&[], out),
+            ControlAsk::Connected { cport }
+            | ControlAsk::Disconnected { cport }
+            | ControlAsk::Disconnecting { cport } => put(&[U16(*cport)], out),
         }
     }
 

@@ -17,7 +17,7 @@ use crate::{PayloadFault, put, read_record};
 use gb_base::NoRoom;
 
 /// A response of the Control protocol (Greybus Specification, "Control Protocol").
-#[derive(Clone, Copy, Debug, PartialEq, Eq)]
+#[derive(Clone, Copy, PartialEq, Eq)]
 pub enum ControlReply<'a> {
     /// The version that is taken.
     Version {
@@ -65,9 +65,8 @@ impl<'a> ControlReply<'a> {
             ControlReply::Version { major, minor } => put(&[U8(*major), U8(*minor)], out),
             ControlReply::GetManifestSize { size } => put(&[U16(*size)], out),
             ControlReply::GetManifest { bytes } => put(&[Bytes(bytes)], out),
-            ControlReply::Connected => put(&[], out),
-            ControlReply::Disconnected => put(&[], out),
-            ControlReply::Disconnecting => put(&[], out),
+            ControlReply::Connected | ControlReply::Disconnected | ControlReply::Disconnecting =>
+                put(&[], out),
         }
     }
 

@@ -1,15 +1,14 @@
 //! Reads the fields of a payload.
 
-ghost use Rattle.std.specs.Prelude.{◌≡◌, ◌≤◌, length, drop};
+ghost use Rattle.std.specs.Prelude.{◌≡◌, ◌≤◌, ◌+◌, length, drop, min};
 ghost use Rattle.byteorder.specs.Endian.{little_number};
-ghost use Rattle.gb_payload.specs.Answers.{HasSize};
+ghost use Rattle.gb_formats.specs.Records as formats;
+ghost use Rattle.gb_payload.specs.Answers.{HasSize, fault_of};
 
-use crate::PayloadFault;
-use byteorder::{ByteOrder, LittleEndian};
-use std::cmp::Ordering;
+use crate::{PayloadFault, first};
 
 /// The fields of a payload, read one after the other. Numbers have their lowest byte first.
-#[derive(Debug, Drop)]
+#[derive(Drop)]
 pub struct Fields<'a> {
     rest: &'a [u8],
 }
@@ -20,15 +19,10 @@ impl<'a> Fields<'a> {
     pub fn of(payload: &'a [u8], size: usize) -> Result<Fields<'a>, PayloadFault>
         ensures { HasSize size payload.now result }
     {
-        match payload.len().cmp(&size) {
-            Ordering::Less => Err(PayloadFault::Mismatch {
-                at: payload.len() as u64,
-            }),
-            Ordering::Equal => Ok(Fields { rest: payload }),
-            Ordering::Greater => Err(PayloadFault::Mismatch {
-                at: size as u64 + 1,
-            }),
+        if payload.len() != size {
+            return Err(mismatch(payload, size));
         }
+        Ok(Fields { rest: payload })
     }
 
     /// The next byte.
@@ -37,8 +31,8 @@ impl<'a> Fields<'a> {
         ensures value { result ≡ little_number 1 self.old.rest.now }
         ensures rest { self.new.rest.now ≡ drop 1 self.old.rest.now }
     {
-        let value = self.rest[0];
-        self.rest = &self.rest[1..];
+        let (value, rest) = first::u8(self.rest);
+        self.rest = rest;
         value
     }
 
@@ -48,8 +42,8 @@ impl<'a> Fields<'a> {
         ensures value { result ≡ little_number 2 self.old.rest.now }
         ensures rest { self.new.rest.now ≡ drop 2 self.old.rest.now }
     {
-        let value = LittleEndian::read_u16(self.rest);
-        self.rest = &self.rest[2..];
+        let (value, rest) = first::u16(self.rest);
+        self.rest = rest;
         value
     }
 
@@ -59,8 +53,8 @@ impl<'a> Fields<'a> {
         ensures value { result ≡ little_number 4 self.old.rest.now }
         ensures rest { self.new.rest.now ≡ drop 4 self.old.rest.now }
     {
-        let value = LittleEndian::read_u32(self.rest);
-        self.rest = &self.rest[4..];
+        let (value, rest) = first::u32(self.rest);
+        self.rest = rest;
         value
     }
 
@@ -72,15 +66,40 @@ impl<'a> Fields<'a> {
     }
 }
 
+/// The fault of a payload that hasn't the size of its record: a longer one is none from its first
+/// byte too many on, a shorter one at its end.
+pub fn mismatch(payload: &[u8], size: usize) -> PayloadFault
+    ensures { fault_of result ≡ formats.PayloadFault.Mismatch
+        (min (length payload.now) (size + 1)) }
+{
+    if payload.len() <= size {
+        return PayloadFault::Mismatch {
+            at: payload.len() as u64,
+        };
+    }
+    PayloadFault::Mismatch {
+        at: size as u64 + 1,
+    }
+}
+
 /// Reads a record of a payload, whose fields follow one another, each as wide as its type.
 #[macro_export]
 macro_rules! read_record {
-    ($payload:expr => $records:ident::$name:ident) => {{
-        $crate::Fields::of($payload, 0)?;
-        Ok($records::$name)
-    }};
+    ($payload:expr => $records:ident::$name:ident) => {
+        if $payload.is_empty() {
+            Ok($records::$name)
+        } else {
+            Err($crate::mismatch($payload, 0))
+        }
+    };
     ($payload:expr => $records:ident::$name:ident { $($field:ident: $width:ident),+ }) => {{
-        let mut fields = $crate::Fields::of($payload, 0 $(+ size_of::<$width>())+)?;
-        Ok($records::$name { $($field: fields.$width()),+ })
+        let size = 0 $(+ size_of::<$width>())+;
+        if $payload.len() == size {
+            let rest = $payload;
+            $(let ($field, rest) = $crate::first::$width(rest);)+
+            Ok($records::$name { $($field),+ })
+        } else {
+            Err($crate::mismatch($payload, size))
+        }
     }};
 }

@@ -23,7 +23,7 @@ use gb_base::NoRoom;
 
 /// A request of the SVC protocol (Greybus Specification, "SVC Protocol"): what the application
 /// processor asks of the supervisory controller, then what that one asks.
-#[derive(Clone, Copy, Debug, PartialEq, Eq)]
+#[derive(Clone, Copy, PartialEq, Eq)]
 pub enum SvcAsk {
     /// Gives an interface its device id.
     IntfDeviceId {
@@ -142,10 +142,21 @@ impl SvcAsk {
     pub fn read_of_ap(kind: u8, payload: &[u8]) -> Result<SvcAsk, PayloadFault>
         ensures { Answers svc_ask_of (read_svc_ask_of_ap kind payload.now) result }
     {
-        if is_of_svc(kind) {
-            return Err(PayloadFault::UnknownKind);
+        match kind {
+            INTF_DEVICE_ID => {
+                read_record!(payload => SvcAsk::IntfDeviceId { intf: u8, device: u8 })
+            }
+            CONN_CREATE => conn_create(payload),
+            CONN_DESTROY => conn_destroy(payload),
+            ROUTE_CREATE => route_create(payload),
+            ROUTE_DESTROY => read_record!(payload => SvcAsk::RouteDestroy { intf1: u8, intf2: u8 }),
+            PING => read_record!(payload => SvcAsk::Ping),
+            VSYS_ENABLE => read_record!(payload => SvcAsk::VsysEnable { intf: u8 }),
+            REFCLK_ENABLE => read_record!(payload => SvcAsk::RefclkEnable { intf: u8 }),
+            UNIPRO_ENABLE => read_record!(payload => SvcAsk::UniproEnable { intf: u8 }),
+            INTF_ACTIVATE => read_record!(payload => SvcAsk::IntfActivate { intf: u8 }),
+            _ => Err(PayloadFault::UnknownKind),
         }
-        row(kind, payload)
     }
 
     /// Reads the payload of a type of which the supervisory controller makes the requests. The
@@ -153,10 +164,17 @@ impl SvcAsk {
     pub fn read_of_svc(kind: u8, payload: &[u8]) -> Result<SvcAsk, PayloadFault>
         ensures { Answers svc_ask_of (read_svc_ask_of_svc kind payload.now) result }
     {
-        if !is_of_svc(kind) {
-            return Err(PayloadFault::UnknownKind);
+        match kind {
+            PROTOCOL_VERSION => {
+                read_record!(payload => SvcAsk::ProtocolVersion { major: u8, minor: u8 })
+            }
+            HELLO => read_record!(payload => SvcAsk::Hello { endo_id: u16, interface_id: u8 }),
+            MODULE_INSERTED => {
+                read_record!(payload => SvcAsk::ModuleInserted { primary: u8, count: u8, flags: u16 })
+            }
+            MODULE_REMOVED => read_record!(payload => SvcAsk::ModuleRemoved { primary: u8 }),
+            _ => Err(PayloadFault::UnknownKind),
         }
-        row(kind, payload)
     }
 
     /// Writes the payload to the front of `out`, and answers its length. NoRoom exactly where `out`
@@ -173,10 +191,10 @@ impl SvcAsk {
             | SvcAsk::RouteCreate { .. }
             | SvcAsk::RouteDestroy { .. } => write_link(self, out),
             SvcAsk::Ping => put(&[], out),
-            SvcAsk::VsysEnable { intf } => put(&[U8(*intf)], out),
-            SvcAsk::RefclkEnable { intf } => put(&[U8(*intf)], out),
-            SvcAsk::UniproEnable { intf } => put(&[U8(*intf)], out),
-            SvcAsk::IntfActivate { intf } => put(&[U8(*intf)], out),
+            SvcAsk::VsysEnable { intf }
+            | SvcAsk::RefclkEnable { intf }
+            | SvcAsk::UniproEnable { intf }
+            | SvcAsk::IntfActivate { intf } => put(&[U8(*intf)], out),
             SvcAsk::ProtocolVersion { major, minor } => put(&[U8(*major), U8(*minor)], out),
             SvcAsk::Hello {
                 endo_id,
@@ -270,31 +288,34 @@ fn write_link(ask: &SvcAsk, out: &mut [u8]) -> Result<usize, NoRoom>
 fn row(kind: u8, payload: &[u8]) -> Result<SvcAsk, PayloadFault>
     ensures { Answers svc_ask_of (read_svc_ask kind payload.now) result }
 {
-    match kind {
-        INTF_DEVICE_ID => read_record!(payload => SvcAsk::IntfDeviceId { intf: u8, device: u8 }),
-        CONN_CREATE => read_record!(payload => SvcAsk::ConnCreate {
-            intf1: u8, cport1: u16, intf2: u8, cport2: u16, tc: u8, flags: u8
-        }),
-        CONN_DESTROY => read_record!(payload => SvcAsk::ConnDestroy {
-            intf1: u8, cport1: u16, intf2: u8, cport2: u16
-        }),
-        ROUTE_CREATE => read_record!(payload => SvcAsk::RouteCreate {
-            intf1: u8, dev1: u8, intf2: u8, dev2: u8
-        }),
-        ROUTE_DESTROY => read_record!(payload => SvcAsk::RouteDestroy { intf1: u8, intf2: u8 }),
-        PING => read_record!(payload => SvcAsk::Ping),
-        VSYS_ENABLE => read_record!(payload => SvcAsk::VsysEnable { intf: u8 }),
-        REFCLK_ENABLE => read_record!(payload => SvcAsk::RefclkEnable { intf: u8 }),
-        UNIPRO_ENABLE => read_record!(payload => SvcAsk::UniproEnable { intf: u8 }),
-        INTF_ACTIVATE => read_record!(payload => SvcAsk::IntfActivate { intf: u8 }),
-        PROTOCOL_VERSION => read_record!(payload => SvcAsk::ProtocolVersion {
-            major: u8, minor: u8
-        }),
-        HELLO => read_record!(payload => SvcAsk::Hello { endo_id: u16, interface_id: u8 }),
-        MODULE_INSERTED => read_record!(payload => SvcAsk::ModuleInserted {
-            primary: u8, count: u8, flags: u16
-        }),
-        MODULE_REMOVED => read_record!(payload => SvcAsk::ModuleRemoved { primary: u8 }),
-        _ => Err(PayloadFault::UnknownKind),
+    if is_of_svc(kind) {
+        SvcAsk::read_of_svc(kind, payload)
+    } else {
+        SvcAsk::read_of_ap(kind, payload)
     }
+}
+
+/// Reads the payload of a request for a connection.
+fn conn_create(payload: &[u8]) -> Result<SvcAsk, PayloadFault>
+    ensures { Answers svc_ask_of (read_svc_ask 0x07 payload.now) result }
+{
+    read_record!(payload => SvcAsk::ConnCreate {
+        intf1: u8, cport1: u16, intf2: u8, cport2: u16, tc: u8, flags: u8
+    })
+}
+
+/// Reads the payload of a request to take a connection down.
+fn conn_destroy(payload: &[u8]) -> Result<SvcAsk, PayloadFault>
+    ensures { Answers svc_ask_of (read_svc_ask 0x08 payload.now) result }
+{
+    read_record!(payload => SvcAsk::ConnDestroy {
+        intf1: u8, cport1: u16, intf2: u8, cport2: u16
+    })
+}
+
+/// Reads the payload of a request for a route.
+fn route_create(payload: &[u8]) -> Result<SvcAsk, PayloadFault>
+    ensures { Answers svc_ask_of (read_svc_ask 0x0b payload.now) result }
+{
+    read_record!(payload => SvcAsk::RouteCreate { intf1: u8, dev1: u8, intf2: u8, dev2: u8 })
 }

@@ -1,6 +1,7 @@
 //! Responses of the SVC protocol.
 
 ghost use Rattle.std.specs.Prelude.{◌≡◌, IfOk, take};
+ghost use Rattle.gb_formats.specs.Records.{whole};
 ghost use Rattle.gb_formats.specs.SvcRecords.{read_svc_reply, svc_reply_kind, svc_reply_payload};
 ghost use Rattle.gb_payload.specs.Answers.{Answers};
 ghost use Rattle.gb_payload.specs.Fields.{Puts};
@@ -14,12 +15,12 @@ use crate::svc_kinds::{
     MODULE_REMOVED, PING, PROTOCOL_VERSION, REFCLK_ENABLE, ROUTE_CREATE, ROUTE_DESTROY,
     UNIPRO_ENABLE, VSYS_ENABLE,
 };
-use crate::{PayloadFault, put, read_record};
+use crate::{PayloadFault, mismatch, put, read_record};
 use gb_base::NoRoom;
 
 /// A response of the SVC protocol (Greybus Specification, "SVC Protocol"), in the order of the
 /// requests.
-#[derive(Clone, Copy, Debug, PartialEq, Eq)]
+#[derive(Clone, Copy, PartialEq, Eq)]
 pub enum SvcReply {
     /// The interface has its device id.
     IntfDeviceId,
@@ -87,20 +88,20 @@ impl SvcReply {
             (λ n. IsRead svc_replies (svc_reply_of self.now) (take n out.new)) }
     {
         match self {
-            SvcReply::IntfDeviceId => put(&[], out),
-            SvcReply::ConnCreate => put(&[], out),
-            SvcReply::ConnDestroy => put(&[], out),
-            SvcReply::RouteCreate => put(&[], out),
-            SvcReply::RouteDestroy => put(&[], out),
-            SvcReply::Ping => put(&[], out),
-            SvcReply::VsysEnable { result } => put(&[U8(*result)], out),
-            SvcReply::RefclkEnable { result } => put(&[U8(*result)], out),
-            SvcReply::UniproEnable { result } => put(&[U8(*result)], out),
+            SvcReply::VsysEnable { result }
+            | SvcReply::RefclkEnable { result }
+            | SvcReply::UniproEnable { result } => put(&[U8(*result)], out),
             SvcReply::IntfActivate { status, kind } => put(&[U8(*status), U8(*kind)], out),
             SvcReply::ProtocolVersion { major, minor } => put(&[U8(*major), U8(*minor)], out),
-            SvcReply::Hello => put(&[], out),
-            SvcReply::ModuleInserted => put(&[], out),
-            SvcReply::ModuleRemoved => put(&[], out),
+            SvcReply::IntfDeviceId
+            | SvcReply::ConnCreate
+            | SvcReply::ConnDestroy
+            | SvcReply::RouteCreate
+            | SvcReply::RouteDestroy
+            | SvcReply::Ping
+            | SvcReply::Hello
+            | SvcReply::ModuleInserted
+            | SvcReply::ModuleRemoved => put(&[], out),
         }
     }
 
@@ -132,12 +133,12 @@ fn row(kind: u8, payload: &[u8]) -> Result<SvcReply, PayloadFault>
     ensures { Answers svc_reply_of (read_svc_reply kind payload.now) result }
 {
     match kind {
-        INTF_DEVICE_ID => read_record!(payload => SvcReply::IntfDeviceId),
-        CONN_CREATE => read_record!(payload => SvcReply::ConnCreate),
-        CONN_DESTROY => read_record!(payload => SvcReply::ConnDestroy),
-        ROUTE_CREATE => read_record!(payload => SvcReply::RouteCreate),
-        ROUTE_DESTROY => read_record!(payload => SvcReply::RouteDestroy),
-        PING => read_record!(payload => SvcReply::Ping),
+        INTF_DEVICE_ID => empty(payload, SvcReply::IntfDeviceId),
+        CONN_CREATE => empty(payload, SvcReply::ConnCreate),
+        CONN_DESTROY => empty(payload, SvcReply::ConnDestroy),
+        ROUTE_CREATE => empty(payload, SvcReply::RouteCreate),
+        ROUTE_DESTROY => empty(payload, SvcReply::RouteDestroy),
+        PING => empty(payload, SvcReply::Ping),
         VSYS_ENABLE => read_record!(payload => SvcReply::VsysEnable { result: u8 }),
         REFCLK_ENABLE => read_record!(payload => SvcReply::RefclkEnable { result: u8 }),
         UNIPRO_ENABLE => read_record!(payload => SvcReply::UniproEnable { result: u8 }),
@@ -145,9 +146,20 @@ fn row(kind: u8, payload: &[u8]) -> Result<SvcReply, PayloadFault>
         PROTOCOL_VERSION => read_record!(payload => SvcReply::ProtocolVersion {
             major: u8, minor: u8
         }),
-        HELLO => read_record!(payload => SvcReply::Hello),
-        MODULE_INSERTED => read_record!(payload => SvcReply::ModuleInserted),
-        MODULE_REMOVED => read_record!(payload => SvcReply::ModuleRemoved),
+        HELLO => empty(payload, SvcReply::Hello),
+        MODULE_INSERTED => empty(payload, SvcReply::ModuleInserted),
+        MODULE_REMOVED => empty(payload, SvcReply::ModuleRemoved),
         _ => Err(PayloadFault::UnknownKind),
+    }
+}
+
+/// A response that has no fields, where the payload is empty.
+fn empty(payload: &[u8], reply: SvcReply) -> Result<SvcReply, PayloadFault>
+    ensures { Answers svc_reply_of (whole 0 payload.now (svc_reply_of reply)) result }
+{
+    if payload.is_empty() {
+        Ok(reply)
+    } else {
+        Err(mismatch(payload, 0))
     }
 }

@@ -7,7 +7,7 @@ use byteorder::{ByteOrder, LittleEndian};
 use gb_base::NoRoom;
 
 /// A field of a payload. Numbers have their lowest byte first.
-#[derive(Clone, Copy, Debug)]
+#[derive(Clone, Copy)]
 pub enum Field<'a> {
     /// A byte.
     U8(u8),
