@@ -18,7 +18,7 @@ use gb_payload::Field::{U8, U16};
 use gb_payload::{PayloadFault, put, read_record};
 
 /// A request of the GPIO protocol (Greybus Specification, "GPIO Protocol").
-#[derive(Clone, Copy, Debug, PartialEq, Eq)]
+#[derive(Clone, Copy, PartialEq, Eq)]
 pub enum GpioAsk {
     /// Asks how many lines there are.
     LineCount,
@@ -132,21 +132,21 @@ impl GpioAsk {
     {
         match self {
             GpioAsk::LineCount => put(&[], out),
-            GpioAsk::Activate { which } => put(&[U8(*which)], out),
-            GpioAsk::Deactivate { which } => put(&[U8(*which)], out),
-            GpioAsk::GetDirection { which } => put(&[U8(*which)], out),
-            GpioAsk::DirectionIn { which } => put(&[U8(*which)], out),
             GpioAsk::DirectionOut { which, value } => put(&[U8(*which), U8(*value)], out),
-            GpioAsk::GetValue { which } => put(&[U8(*which)], out),
             GpioAsk::SetValue { which, value } => put(&[U8(*which), U8(*value)], out),
             GpioAsk::SetDebounce {
                 which,
                 microseconds,
             } => put(&[U8(*which), U16(*microseconds)], out),
             GpioAsk::IrqType { which, kind } => put(&[U8(*which), U8(*kind)], out),
-            GpioAsk::IrqMask { which } => put(&[U8(*which)], out),
-            GpioAsk::IrqUnmask { which } => put(&[U8(*which)], out),
-            GpioAsk::IrqEvent { which } => put(&[U8(*which)], out),
+            GpioAsk::Activate { which }
+            | GpioAsk::Deactivate { which }
+            | GpioAsk::GetDirection { which }
+            | GpioAsk::DirectionIn { which }
+            | GpioAsk::GetValue { which }
+            | GpioAsk::IrqMask { which }
+            | GpioAsk::IrqUnmask { which }
+            | GpioAsk::IrqEvent { which } => put(&[U8(*which)], out),
         }
     }
 

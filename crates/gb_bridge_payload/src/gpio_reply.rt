@@ -3,6 +3,7 @@
 ghost use Rattle.std.specs.Prelude.{◌≡◌, IfOk, take};
 ghost use Rattle.gb_formats.specs.GpioRecords.{read_gpio_reply, gpio_reply_kind};
 ghost use Rattle.gb_formats.specs.GpioRecords.{gpio_reply_payload};
+ghost use Rattle.gb_formats.specs.Records.{whole};
 ghost use Rattle.gb_bridge_payload.specs.Protocols.{gpio_replies};
 ghost use Rattle.gb_bridge_payload.specs.Views.{gpio_reply_of};
 ghost use Rattle.gb_payload.specs.Answers.{Answers};
@@ -15,7 +16,7 @@ use crate::gpio_kinds::{
 };
 use gb_base::NoRoom;
 use gb_payload::Field::U8;
-use gb_payload::{PayloadFault, put, read_record};
+use gb_payload::{PayloadFault, mismatch, put, read_record};
 
 /// A response of the GPIO protocol (Greybus Specification, "GPIO Protocol"), in the order of the
 /// requests.
@@ -76,18 +77,18 @@ impl GpioReply {
     {
         match self {
             GpioReply::LineCount { last } => put(&[U8(*last)], out),
-            GpioReply::Activate => put(&[], out),
-            GpioReply::Deactivate => put(&[], out),
             GpioReply::GetDirection { direction } => put(&[U8(*direction)], out),
-            GpioReply::DirectionIn => put(&[], out),
-            GpioReply::DirectionOut => put(&[], out),
             GpioReply::GetValue { value } => put(&[U8(*value)], out),
-            GpioReply::SetValue => put(&[], out),
-            GpioReply::SetDebounce => put(&[], out),
-            GpioReply::IrqType => put(&[], out),
-            GpioReply::IrqMask => put(&[], out),
-            GpioReply::IrqUnmask => put(&[], out),
-            GpioReply::IrqEvent => put(&[], out),
+            GpioReply::Activate
+            | GpioReply::Deactivate
+            | GpioReply::DirectionIn
+            | GpioReply::DirectionOut
+            | GpioReply::SetValue
+            | GpioReply::SetDebounce
+            | GpioReply::IrqType
+            | GpioReply::IrqMask
+            | GpioReply::IrqUnmask
+            | GpioReply::IrqEvent => put(&[], out),
         }
     }
 
@@ -119,18 +120,29 @@ fn row(kind: u8, payload: &[u8]) -> Result<GpioReply, PayloadFault>
 {
     match kind {
         LINE_COUNT => read_record!(payload => GpioReply::LineCount { last: u8 }),
-        ACTIVATE => read_record!(payload => GpioReply::Activate),
-        DEACTIVATE => read_record!(payload => GpioReply::Deactivate),
+        ACTIVATE => empty(payload, GpioReply::Activate),
+        DEACTIVATE => empty(payload, GpioReply::Deactivate),
         GET_DIRECTION => read_record!(payload => GpioReply::GetDirection { direction: u8 }),
-        DIRECTION_IN => read_record!(payload => GpioReply::DirectionIn),
-        DIRECTION_OUT => read_record!(payload => GpioReply::DirectionOut),
+        DIRECTION_IN => empty(payload, GpioReply::DirectionIn),
+        DIRECTION_OUT => empty(payload, GpioReply::DirectionOut),
         GET_VALUE => read_record!(payload => GpioReply::GetValue { value: u8 }),
-        SET_VALUE => read_record!(payload => GpioReply::SetValue),
-        SET_DEBOUNCE => read_record!(payload => GpioReply::SetDebounce),
-        IRQ_TYPE => read_record!(payload => GpioReply::IrqType),
-        IRQ_MASK => read_record!(payload => GpioReply::IrqMask),
-        IRQ_UNMASK => read_record!(payload => GpioReply::IrqUnmask),
-        IRQ_EVENT => read_record!(payload => GpioReply::IrqEvent),
+        SET_VALUE => empty(payload, GpioReply::SetValue),
+        SET_DEBOUNCE => empty(payload, GpioReply::SetDebounce),
+        IRQ_TYPE => empty(payload, GpioReply::IrqType),
+        IRQ_MASK => empty(payload, GpioReply::IrqMask),
+        IRQ_UNMASK => empty(payload, GpioReply::IrqUnmask),
+        IRQ_EVENT => empty(payload, GpioReply::IrqEvent),
         _ => Err(PayloadFault::UnknownKind),
+    }
+}
+
+/// A response that has no fields, where the payload is empty.
+fn empty(payload: &[u8], reply: GpioReply) -> Result<GpioReply, PayloadFault>
+    ensures { Answers gpio_reply_of (whole 0 payload.now (gpio_reply_of reply)) result }
+{
+    if payload.is_empty() {
+        Ok(reply)
+    } else {
+        Err(mismatch(payload, 0))
     }
 }

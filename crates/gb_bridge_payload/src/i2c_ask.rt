@@ -20,7 +20,7 @@ use gb_payload::Field::{Bytes, U16};
 use gb_payload::{Fields, PayloadFault, put, read_record};
 
 /// A request of the I2C protocol (Greybus Specification, "I2C Protocol").
-#[derive(Clone, Copy, Debug, PartialEq, Eq)]
+#[derive(Clone, Copy, PartialEq, Eq)]
 pub enum I2cAsk<'a> {
     /// Asks what the adapter can do.
     Functionality,

@@ -14,7 +14,7 @@ use gb_payload::Field::{Bytes, U32};
 use gb_payload::{PayloadFault, put, read_record};
 
 /// A response of the I2C protocol (Greybus Specification, "I2C Protocol").
-#[derive(Clone, Copy, Debug, PartialEq, Eq)]
+#[derive(Clone, Copy, PartialEq, Eq)]
 pub enum I2cReply<'a> {
     /// What the adapter can do.
     Functionality {

@@ -20,7 +20,7 @@ use gb_payload::Field::{Bytes, U8, U16};
 use gb_payload::{Fields, PayloadFault, put, read_record};
 
 /// A request of the SPI protocol (Greybus Specification, "SPI Protocol").
-#[derive(Clone, Copy, Debug, PartialEq, Eq)]
+#[derive(Clone, Copy, PartialEq, Eq)]
 pub enum SpiAsk<'a> {
     /// Asks what the controller can do.
     MasterConfig,

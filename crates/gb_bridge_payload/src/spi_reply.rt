@@ -20,7 +20,7 @@ use gb_payload::{Fields, PayloadFault, put, read_record};
 const NAME_SIZE: usize = 32;
 
 /// A response of the SPI protocol (Greybus Specification, "SPI Protocol").
-#[derive(Clone, Copy, Debug, PartialEq, Eq)]
+#[derive(Clone, Copy, PartialEq, Eq)]
 pub enum SpiReply<'a> {
     /// What the controller can do.
     MasterConfig {

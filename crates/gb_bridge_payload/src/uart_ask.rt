@@ -22,7 +22,7 @@ use gb_payload::Field::{Bytes, U8, U16, U32};
 use gb_payload::{Fields, PayloadFault, put, read_record};
 
 /// A request of the UART protocol (Greybus Specification, "UART Protocol").
-#[derive(Clone, Copy, Debug, PartialEq, Eq)]
+#[derive(Clone, Copy, PartialEq, Eq)]
 pub enum UartAsk<'a> {
     /// Sends bytes.
     SendData {
@@ -130,9 +130,10 @@ impl<'a> UartAsk<'a> {
                 &[U32(*rate), U8(*format), U8(*parity), U8(*bits), U8(*flow)],
                 out,
             ),
-            UartAsk::SetControlLineState { control } => put(&[U8(*control)], out),
+            UartAsk::SetControlLineState { control } | UartAsk::SerialState { control } => {
+                put(&[U8(*control)], out)
+            }
             UartAsk::SendBreak { state } => put(&[U8(*state)], out),
-            UartAsk::SerialState { control } => put(&[U8(*control)], out),
             UartAsk::ReceiveCredits { count } => put(&[U16(*count)], out),
             UartAsk::FlushFifos { flags } => put(&[U8(*flags)], out),
         }

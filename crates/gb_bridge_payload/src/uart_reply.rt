@@ -1,6 +1,7 @@
 //! Responses of the UART protocol.
 
 ghost use Rattle.std.specs.Prelude.{◌≡◌, IfOk, take};
+ghost use Rattle.gb_formats.specs.Records.{whole};
 ghost use Rattle.gb_formats.specs.UartRecords.{read_uart_reply, uart_reply_kind};
 ghost use Rattle.gb_formats.specs.UartRecords.{uart_reply_payload};
 ghost use Rattle.gb_bridge_payload.specs.Protocols.{uart_replies};
@@ -14,11 +15,11 @@ use crate::uart_kinds::{
     SET_CONTROL_LINE_STATE, SET_LINE_CODING,
 };
 use gb_base::NoRoom;
-use gb_payload::{PayloadFault, put, read_record};
+use gb_payload::{PayloadFault, mismatch, put};
 
 /// A response of the UART protocol (Greybus Specification, "UART Protocol"), in the order of the
 /// requests. Each is empty.
-#[derive(Clone, Copy, Debug, PartialEq, Eq)]
+#[derive(Clone, Copy, PartialEq, Eq)]
 pub enum UartReply {
     /// The bytes are taken.
     SendData,
@@ -79,14 +80,25 @@ fn row(kind: u8, payload: &[u8]) -> Result<UartReply, PayloadFault>
     ensures { Answers uart_reply_of (read_uart_reply kind payload.now) result }
 {
     match kind {
-        SEND_DATA => read_record!(payload => UartReply::SendData),
-        RECEIVE_DATA => read_record!(payload => UartReply::ReceiveData),
-        SET_LINE_CODING => read_record!(payload => UartReply::SetLineCoding),
-        SET_CONTROL_LINE_STATE => read_record!(payload => UartReply::SetControlLineState),
-        SEND_BREAK => read_record!(payload => UartReply::SendBreak),
-        SERIAL_STATE => read_record!(payload => UartReply::SerialState),
-        RECEIVE_CREDITS => read_record!(payload => UartReply::ReceiveCredits),
-        FLUSH_FIFOS => read_record!(payload => UartReply::FlushFifos),
+        SEND_DATA => empty(payload, UartReply::SendData),
+        RECEIVE_DATA => empty(payload, UartReply::ReceiveData),
+        SET_LINE_CODING => empty(payload, UartReply::SetLineCoding),
+        SET_CONTROL_LINE_STATE => empty(payload, UartReply::SetControlLineState),
+        SEND_BREAK => empty(payload, UartReply::SendBreak),
+        SERIAL_STATE => empty(payload, UartReply::SerialState),
+        RECEIVE_CREDITS => empty(payload, UartReply::ReceiveCredits),
+        FLUSH_FIFOS => empty(payload, UartReply::FlushFifos),
         _ => Err(PayloadFault::UnknownKind),
+    }
+}
+
+/// A response, which has no fields, where the payload is empty.
+fn empty(payload: &[u8], reply: UartReply) -> Result<UartReply, PayloadFault>
+    ensures { Answers uart_reply_of (whole 0 payload.now (uart_reply_of reply)) result }
+{
+    if payload.is_empty() {
+        Ok(reply)
+    } else {
+        Err(mismatch(payload, 0))
     }
 }
