@@ -124,13 +124,20 @@ fn row(kind: u8, payload: &[u8]) -> Result<SpiReply<'_>, PayloadFault>
     ensures { Answers spi_reply_of (read_spi_reply kind payload.now) result }
 {
     match kind {
-        MASTER_CONFIG => read_record!(payload => SpiReply::MasterConfig {
-            mask: u32, least: u32, greatest: u32, mode: u16, flags: u16, selects: u8
-        }),
+        MASTER_CONFIG => master(payload),
         DEVICE_CONFIG => device(payload),
         TRANSFER => Ok(SpiReply::Transfer { data: payload }),
         _ => Err(PayloadFault::UnknownKind),
     }
+}
+
+/// What the master can do.
+fn master(payload: &[u8]) -> Result<SpiReply<'_>, PayloadFault>
+    ensures { Answers spi_reply_of (read_spi_reply 0x02 payload.now) result }
+{
+    read_record!(payload => SpiReply::MasterConfig {
+        mask: u32, least: u32, greatest: u32, mode: u16, flags: u16, selects: u8
+    })
 }
 
 /// What a device can do.
