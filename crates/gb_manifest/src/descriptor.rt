@@ -29,7 +29,7 @@ const LEAST: usize = 8;
 
 /// A manifest descriptor (Greybus Specification, "Manifest"; in Linux's greybus_manifest.h
 /// `greybus_descriptor`).
-#[derive(Clone, Copy, Debug)]
+#[derive(Clone, Copy)]
 pub enum Descriptor<'a> {
     /// The interface.
     Interface {

@@ -1,6 +1,6 @@
 //! The descriptors of a spec, in order.
 
-ghost use Rattle.std.specs.Prelude.{◌≡◌, None};
+ghost use Rattle.std.specs.Prelude.{◌≡◌, None, []};
 ghost use Rattle.gb_formats.specs.ManifestSpec.{spec_descriptors};
 ghost use Rattle.gb_formats.specs.Descriptors as formats;
 ghost use Rattle.gb_formats.specs.Descriptors.{IdFits};
@@ -62,6 +62,15 @@ impl<'a> Listed<'a> {
                 bytes: s.bytes.items(),
             });
         }
+        self.next_behind_strings()
+    }
+
+    /// The next descriptor behind the strings.
+    fn next_behind_strings(&mut self) -> Option<Descriptor<'a>>
+        requires interface { self.old.interface ≡ None }
+        requires strings { self.old.strings.now ≡ [] }
+        ensures { Takes (listed_of self.old) (listed_of self.new) result }
+    {
         if let Some((b, rest)) = self.bundles.split_first() {
             self.bundles = rest;
             return Some(Descriptor::Bundle {

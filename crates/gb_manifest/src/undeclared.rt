@@ -10,7 +10,7 @@ use crate::declared::{Declared, MetStrings};
 use crate::descriptor::Descriptor;
 
 /// The places of the first descriptors that speak of what isn't declared.
-#[derive(Clone, Copy, Debug)]
+#[derive(Clone, Copy)]
 pub struct Undeclared {
     /// The CPort whose bundle isn't declared.
     pub bundle: Option<u32>,
