@@ -11,7 +11,7 @@ use gb_base::NoRoom;
 pub(crate) const HEADER: usize = 8;
 
 /// An operation message (Greybus Specification, "Operation Messages").
-#[derive(Clone, Copy, Debug)]
+#[derive(Clone, Copy)]
 pub struct Message<'a> {
     /// The identifier, 0 in a unidirectional request.
     pub id: u16,
