@@ -169,9 +169,9 @@ impl SvcAsk {
                 read_record!(payload => SvcAsk::ProtocolVersion { major: u8, minor: u8 })
             }
             HELLO => read_record!(payload => SvcAsk::Hello { endo_id: u16, interface_id: u8 }),
-            MODULE_INSERTED => {
-                read_record!(payload => SvcAsk::ModuleInserted { primary: u8, count: u8, flags: u16 })
-            }
+            MODULE_INSERTED => read_record!(payload => SvcAsk::ModuleInserted {
+                primary: u8, count: u8, flags: u16
+            }),
             MODULE_REMOVED => read_record!(payload => SvcAsk::ModuleRemoved { primary: u8 }),
             _ => Err(PayloadFault::UnknownKind),
         }
