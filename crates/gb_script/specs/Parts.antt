@@ -6,6 +6,7 @@ use Rattle.gb_base.specs.declared.bridge.BridgeAsk.TheVariants as ask
 use Rattle.gb_base.specs.declared.bridge.SpiOp.{SpiOp}
 use Rattle.gb_base.specs.declared.bridge.SpiOp.TheVariants as spi
 use Rattle.gb_base.specs.declared.event.Event.{Event}
+use Rattle.gb_base.specs.declared.end.End.{End}
 use Rattle.gb_base.specs.declared.end.End.TheVariants as end
 use Rattle.gb_base.specs.declared.event.Event.TheVariants as event
 use Rattle.gb_base.specs.declared.fault.LineReason.TheVariants as bad
@@ -24,11 +25,11 @@ inserting_raw i ws = next_word hex_word ws (λ bytes ws. at_end ws (event.Insert
 abbrev pub inserting_kind : ℕ → Rest → Said
 inserting_kind i ws = next_word kind_word ws (λ kind ws. at_end ws (event.Insert i kind))
 
--- `TYPE HEX` behind `send @x svc`
-abbrev pub sending_type : Name → Rest → Said
-sending_type x ws =
+-- `TYPE HEX` behind to whom it is sent
+abbrev pub sending_type : Name → End → Rest → Said
+sending_type x to ws =
     next_word type_word ws (λ kind ws. next_word hex_word ws (λ payload ws.
-    timed ws (λ ms. event.Send x end.Svc kind payload ms)))
+    timed ws (λ ms. event.Send x to kind payload ms)))
 
 -- `A` behind `deliver ap`
 abbrev pub delivering_ap : Rest → Said

@@ -4,7 +4,7 @@ use Rattle.gb_base.specs.declared.bridge.BridgeAsk.{BridgeAsk}
 use Rattle.gb_base.specs.declared.event.Event.{Event}
 use Rattle.gb_base.specs.declared.fault.LineReason.{LineReason}
 use Rattle.gb_formats.specs.Grammar.{Said}
-use Rattle.gb_formats.specs.Said.{Rest, each_word, next_word}
+use Rattle.gb_formats.specs.Said.{Rest, at_end, each_word, next_cport, next_word}
 use Rattle.gb_script.specs.declared.fault.LineFault.{LineFault}
 use Rattle.gb_script.specs.declared.fault.LineFault.TheVariants as fault
 
@@ -23,6 +23,14 @@ GoesOn {A} meaning ws value rest =
 abbrev pub StopsWith : {A : Type 0} → (List ℕ → Option A) → Rest → LineReason → Type 0
 StopsWith {A} meaning ws why = (later : A → Rest → Said) → next_word meaning ws later ≡ Err why
 
+-- `I C` stands there: the line goes on with both and the words behind.
+abbrev pub GoesOnAt : Rest → ℕ → ℕ → Rest → Type 0
+GoesOnAt ws i c rest = (later : ℕ → ℕ → Rest → Said) → next_cport ws later ≡ later i c rest
+
+-- `I C` is missing or doesn't fit.
+abbrev pub StopsAt : Rest → LineReason → Type 0
+StopsAt ws why = (later : ℕ → ℕ → Rest → Said) → next_cport ws later ≡ Err why
+
 -- the first of the words that are left, and those behind it
 abbrev pub IsSplit : Rest → List ℕ → Rest → Type 0
 IsSplit ws w rest = (ws.1 ≡ w ∷ rest.1) × (rest.0 ≡ ws.0 + 1)
@@ -37,6 +45,11 @@ Says (Err (fault.Memory refused)) said = ⊤
 abbrev pub StopsBy : LineFault → (LineReason → Type 0) → Type 0
 StopsBy (fault.Bad why) is_reason = is_reason why
 StopsBy (fault.Memory refused) is_reason = ⊤
+
+-- The answer is the value where no word is left.
+abbrev pub EndsWith : {A : Type 0} → Rest → A → Result A LineFault → Type 0
+EndsWith ws value (Ok v) = (v ≡ value) × (ws.1 ≡ [])
+EndsWith ws value (Err fault) = StopsBy fault (λ why. (e : Event) → at_end ws e ≡ Err why)
 
 -- The answer is what the words of a bridged form ask, or why they are bad.
 abbrev pub AsksFor : ((BridgeAsk → Event) → Rest → Said) → Rest → Result BridgeAsk LineFault

@@ -27,7 +27,6 @@ pub fn addressed<'a>(rest: &Rest<'a>, who: u8) -> Result<(Name, u8, u16, Rest<'a
         → bridging who rest.now asking ≡ Err why) }
 {
     let (name, rest) = rest.name(who)?;
-    let (intf, rest) = rest.intf()?;
-    let (cport, rest) = rest.cport()?;
+    let (intf, cport, rest) = rest.intf_cport()?;
     Ok((name, intf, cport, rest))
 }

@@ -33,8 +33,7 @@ pub fn deliver(rest: &Rest<'_>) -> Result<Event, LineFault>
 fn deliver_svc(rest: &Rest<'_>) -> Result<Event, LineFault>
     ensures { Says result (at_end rest.now (event.Deliver at.Svc)) }
 {
-    rest.end()?;
-    Ok(Event::Deliver { at: End::Svc })
+    rest.ended(Event::Deliver { at: End::Svc })
 }
 
 /// `A` behind `deliver ap`.
@@ -42,8 +41,7 @@ fn deliver_ap(rest: &Rest<'_>) -> Result<Event, LineFault>
     ensures { Says result (delivering_ap rest.now) }
 {
     let (ap, rest) = rest.cport()?;
-    rest.end()?;
-    Ok(Event::Deliver { at: End::Ap(ap) })
+    rest.ended(Event::Deliver { at: End::Ap(ap) })
 }
 
 /// `I C` behind `deliver`.
@@ -61,19 +59,16 @@ pub fn settle(rest: &Rest<'_>) -> Result<Event, LineFault>
     ensures { Says result (settling rest.now) }
 {
     let (most, rest) = rest.count()?;
-    rest.end()?;
-    Ok(Event::Settle { most })
+    rest.ended(Event::Settle { most })
 }
 
 /// `answer I C K`.
 pub fn answer(rest: &Rest<'_>) -> Result<Event, LineFault>
     ensures { Says result (answering rest.now) }
 {
-    let (intf, rest) = rest.intf()?;
-    let (cport, rest) = rest.cport()?;
+    let (intf, cport, rest) = rest.intf_cport()?;
     let (place, rest) = rest.from_one()?;
-    rest.end()?;
-    Ok(Event::Answer { intf, cport, place })
+    rest.ended(Event::Answer { intf, cport, place })
 }
 
 /// `tick MS`.
@@ -81,17 +76,14 @@ pub fn tick(rest: &Rest<'_>) -> Result<Event, LineFault>
     ensures { Says result (ticking rest.now) }
 {
     let (millis, rest) = rest.from_one()?;
-    rest.end()?;
-    Ok(Event::Tick { millis })
+    rest.ended(Event::Tick { millis })
 }
 
 /// `inject I C HEX`.
 pub fn inject(alloc: Global, rest: &Rest<'_>) -> Result<Event, LineFault>
     ensures { Says result (injecting rest.now) }
 {
-    let (intf, rest) = rest.intf()?;
-    let (cport, rest) = rest.cport()?;
+    let (intf, cport, rest) = rest.intf_cport()?;
     let (bytes, rest) = rest.bytes(alloc)?;
-    rest.end()?;
-    Ok(Event::Inject { intf, cport, bytes })
+    rest.ended(Event::Inject { intf, cport, bytes })
 }

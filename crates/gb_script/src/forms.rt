@@ -83,14 +83,12 @@ fn bridged(alloc: Global, first: &[u8], rest: &Rest<'_>, who: u8) -> Result<Even
 fn boot(rest: &Rest<'_>) -> Result<Event, LineFault>
     ensures { Says result (at_end rest.now event.Boot) }
 {
-    rest.end()?;
-    Ok(Event::Boot)
+    rest.ended(Event::Boot)
 }
 
 /// `show`.
 fn show(rest: &Rest<'_>) -> Result<Event, LineFault>
     ensures { Says result (at_end rest.now event.Show) }
 {
-    rest.end()?;
-    Ok(Event::Show)
+    rest.ended(Event::Show)
 }

@@ -44,13 +44,11 @@ fn request(rest: &Rest<'_>, who: u8) -> Result<Event, LineFault>
 fn outside_level(rest: &Rest<'_>) -> Result<Event, LineFault>
     ensures { Says result (gpio_level rest.now) }
 {
-    let (intf, rest) = rest.intf()?;
-    let (cport, rest) = rest.cport()?;
+    let (intf, cport, rest) = rest.intf_cport()?;
     let rest = rest.literal("level")?;
     let (line, rest) = rest.pin()?;
     let (value, rest) = rest.level()?;
-    rest.end()?;
-    Ok(Event::Level {
+    rest.ended(Event::Level {
         intf,
         cport,
         line,
@@ -96,8 +94,7 @@ fn asked(rest: &Rest<'_>) -> Result<BridgeAsk, LineFault>
 fn of_none(rest: &Rest<'_>, kind: u8) -> Result<BridgeAsk, LineFault>
     ensures { AsksFor (λ make ws. at_end ws (make (ask.Gpio kind 0 0))) rest.now result }
 {
-    rest.end()?;
-    Ok(BridgeAsk::Gpio {
+    rest.ended(BridgeAsk::Gpio {
         kind,
         line: 0,
         value: 0,
@@ -109,8 +106,7 @@ fn of_line(rest: &Rest<'_>, kind: u8) -> Result<BridgeAsk, LineFault>
     ensures { AsksFor (λ make. gpio_line make kind) rest.now result }
 {
     let (line, rest) = rest.byte()?;
-    rest.end()?;
-    Ok(BridgeAsk::Gpio {
+    rest.ended(BridgeAsk::Gpio {
         kind,
         line,
         value: 0,
@@ -123,8 +119,7 @@ fn of_byte(rest: &Rest<'_>, kind: u8) -> Result<BridgeAsk, LineFault>
 {
     let (line, rest) = rest.byte()?;
     let (value, rest) = rest.byte()?;
-    rest.end()?;
-    Ok(BridgeAsk::Gpio {
+    rest.ended(BridgeAsk::Gpio {
         kind,
         line,
         value: u16::from(value),
@@ -137,6 +132,5 @@ fn of_two_bytes(rest: &Rest<'_>, kind: u8) -> Result<BridgeAsk, LineFault>
 {
     let (line, rest) = rest.byte()?;
     let (value, rest) = rest.two_bytes()?;
-    rest.end()?;
-    Ok(BridgeAsk::Gpio { kind, line, value })
+    rest.ended(BridgeAsk::Gpio { kind, line, value })
 }

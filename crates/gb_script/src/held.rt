@@ -13,7 +13,7 @@ use std::alloc::Global;
 const LONGEST_INPUT: usize = 1_048_576;
 
 /// Why no line is read.
-#[derive(Clone, Copy, Debug, PartialEq, Eq)]
+#[derive(Clone, Copy, PartialEq, Eq)]
 pub enum LineStop {
     /// The source failed.
     ReadFault,

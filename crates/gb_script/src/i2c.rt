@@ -50,8 +50,7 @@ fn asked(alloc: Global, rest: &Rest<'_>) -> Result<BridgeAsk, LineFault>
 fn functionality(rest: &Rest<'_>) -> Result<BridgeAsk, LineFault>
     ensures { AsksFor (λ make ws. at_end ws (make ask.I2cFunctionality)) rest.now result }
 {
-    rest.end()?;
-    Ok(BridgeAsk::I2cFunctionality)
+    rest.ended(BridgeAsk::I2cFunctionality)
 }
 
 /// Any number of operations behind `transfer`.

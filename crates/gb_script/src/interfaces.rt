@@ -6,12 +6,12 @@ ghost use Rattle.gb_base.specs.declared.event.Event.TheVariants as event;
 ghost use Rattle.gb_formats.specs.Grammar.{inserting, of_cport, of_intf};
 ghost use Rattle.gb_script.specs.Parts.{inserting_kind, inserting_raw};
 ghost use Rattle.gb_formats.specs.Said.{Said};
-ghost use Rattle.gb_script.specs.Tells.{Says};
+ghost use Rattle.gb_script.specs.Tells.{Says, StopsBy};
 
 use crate::LineFault;
 use crate::rest::Rest;
 use crate::words::is;
-use gb_base::{Event, LineReason};
+use gb_base::Event;
 use std::alloc::Global;
 
 /// `insert I KIND`, or `insert I raw HEX`.
@@ -32,8 +32,7 @@ fn insert_raw(alloc: Global, intf: u8, rest: &Rest<'_>) -> Result<Event, LineFau
     ensures { Says result (inserting_raw intf rest.now) }
 {
     let (manifest, rest) = rest.bytes(alloc)?;
-    rest.end()?;
-    Ok(Event::InsertRaw { intf, manifest })
+    rest.ended(Event::InsertRaw { intf, manifest })
 }
 
 /// `KIND` behind `insert I`.
@@ -41,8 +40,7 @@ fn insert_kind(intf: u8, rest: &Rest<'_>) -> Result<Event, LineFault>
     ensures { Says result (inserting_kind intf rest.now) }
 {
     let (kind, rest) = rest.kind()?;
-    rest.end()?;
-    Ok(Event::Insert { intf, kind })
+    rest.ended(Event::Insert { intf, kind })
 }
 
 /// `pull I`.
@@ -50,8 +48,7 @@ pub fn pull(rest: &Rest<'_>) -> Result<Event, LineFault>
     ensures { Says result (of_intf event.Pull rest.now) }
 {
     let (intf, rest) = rest.intf()?;
-    rest.end()?;
-    Ok(Event::Pull { intf })
+    rest.ended(Event::Pull { intf })
 }
 
 /// `connect I C`.
@@ -79,13 +76,12 @@ pub fn hold(rest: &Rest<'_>) -> Result<Event, LineFault>
 }
 
 /// `I C` as the only words behind the first.
-pub fn only_cport(rest: &Rest<'_>) -> Result<(u8, u16), LineReason>
+pub fn only_cport(rest: &Rest<'_>) -> Result<(u8, u16), LineFault>
     ensures { MatchResult result
         (λ f. (make : ℕ → ℕ → Event) → of_cport make rest.now ≡ Ok (Some (make f.0 f.1)))
-        (λ why. (make : ℕ → ℕ → Event) → of_cport make rest.now ≡ Err why) }
+        (λ fault. StopsBy fault
+        (λ why. (make : ℕ → ℕ → Event) → of_cport make rest.now ≡ Err why)) }
 {
-    let (intf, rest) = rest.intf()?;
-    let (cport, rest) = rest.cport()?;
-    rest.end()?;
-    Ok((intf, cport))
+    let (intf, cport, rest) = rest.intf_cport()?;
+    rest.ended((intf, cport))
 }

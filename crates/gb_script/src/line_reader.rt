@@ -20,7 +20,7 @@ pub struct Line<'b> {
 }
 
 /// How far a reader has come.
-#[derive(Clone, Copy, Debug, PartialEq, Eq)]
+#[derive(Clone, Copy)]
 pub enum Progress {
     /// Lines may be left.
     Going,

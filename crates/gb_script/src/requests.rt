@@ -8,12 +8,12 @@ ghost use Rattle.gb_base.specs.declared.name.Name.{Name};
 ghost use Rattle.gb_formats.specs.Grammar.{copying, of_name, ping, sending, sending_module};
 ghost use Rattle.gb_formats.specs.Grammar.{sending_svc, timed};
 ghost use Rattle.gb_script.specs.Parts.{sending_type};
-ghost use Rattle.gb_script.specs.Tells.{Says};
+ghost use Rattle.gb_script.specs.Tells.{Says, StopsBy};
 
 use crate::LineFault;
 use crate::rest::Rest;
 use crate::words::is;
-use gb_base::{Bytes, End, Event, LineReason, Name};
+use gb_base::{Bytes, End, Event, Name};
 use std::alloc::Global;
 
 /// Type PING of the SVC protocol.
@@ -43,7 +43,7 @@ fn send_svc(alloc: Global, name: Name, rest: &Rest<'_>) -> Result<Event, LineFau
     if is(what, "ping") {
         send_ping(alloc, name, &behind)
     } else {
-        send_type(alloc, name, rest)
+        send_type(alloc, name, End::Svc, rest)
     }
 }
 
@@ -61,16 +61,16 @@ fn send_ping(alloc: Global, name: Name, rest: &Rest<'_>) -> Result<Event, LineFa
     })
 }
 
-/// `TYPE HEX` behind `send @x svc`.
-fn send_type(alloc: Global, name: Name, rest: &Rest<'_>) -> Result<Event, LineFault>
-    ensures { Says result (sending_type name rest.now) }
+/// `TYPE HEX` behind to whom it is sent.
+fn send_type(alloc: Global, name: Name, to: End, rest: &Rest<'_>) -> Result<Event, LineFault>
+    ensures { Says result (sending_type name to rest.now) }
 {
     let (kind, rest) = rest.request_type()?;
     let (payload, rest) = rest.bytes(alloc)?;
     let timeout = timeout(&rest)?;
     Ok(Event::Send {
         name,
-        to: End::Svc,
+        to,
         kind,
         payload,
         timeout,
@@ -81,35 +81,24 @@ fn send_type(alloc: Global, name: Name, rest: &Rest<'_>) -> Result<Event, LineFa
 fn send_module(alloc: Global, name: Name, rest: &Rest<'_>) -> Result<Event, LineFault>
     ensures { Says result (sending_module name rest.now) }
 {
-    let (intf, rest) = rest.intf()?;
-    let (cport, rest) = rest.cport()?;
-    let (kind, rest) = rest.request_type()?;
-    let (payload, rest) = rest.bytes(alloc)?;
-    let timeout = timeout(&rest)?;
-    Ok(Event::Send {
-        name,
-        to: End::Module { intf, cport },
-        kind,
-        payload,
-        timeout,
-    })
+    let (intf, cport, rest) = rest.intf_cport()?;
+    send_type(alloc, name, End::Module { intf, cport }, &rest)
 }
 
 /// The timeout in milliseconds: `timeout MS`, or nothing.
-fn timeout(rest: &Rest<'_>) -> Result<u32, LineReason>
+fn timeout(rest: &Rest<'_>) -> Result<u32, LineFault>
     ensures { MatchResult result
         (λ ms. (make : ℕ → Event) → timed rest.now make ≡ Ok (Some (make ms)))
-        (λ why. (make : ℕ → Event) → timed rest.now make ≡ Err why) }
+        (λ fault. StopsBy fault (λ why. (make : ℕ → Event) → timed rest.now make ≡ Err why)) }
 {
     let Some((word, behind)) = rest.split_first() else {
         return Ok(DEFAULT_TIMEOUT);
     };
     if !is(word, "timeout") {
-        return Err(rest.bad_word());
+        return Err(LineFault::Bad(rest.bad_word()));
     }
     let (millis, rest) = behind.from_one()?;
-    rest.end()?;
-    Ok(millis)
+    rest.ended(millis)
 }
 
 /// `cancel @x`.
@@ -117,8 +106,7 @@ pub fn cancel(rest: &Rest<'_>, who: u8) -> Result<Event, LineFault>
     ensures { Says result (of_name who event.Cancel rest.now) }
 {
     let (name, rest) = rest.name(who)?;
-    rest.end()?;
-    Ok(Event::Cancel { name })
+    rest.ended(Event::Cancel { name })
 }
 
 /// `drop @x`.
@@ -126,8 +114,7 @@ pub fn forget(rest: &Rest<'_>, who: u8) -> Result<Event, LineFault>
     ensures { Says result (of_name who event.Forget rest.now) }
 {
     let (name, rest) = rest.name(who)?;
-    rest.end()?;
-    Ok(Event::Forget { name })
+    rest.ended(Event::Forget { name })
 }
 
 /// `copy @x @y`.
@@ -136,6 +123,5 @@ pub fn copy(rest: &Rest<'_>, who: u8) -> Result<Event, LineFault>
 {
     let (from, rest) = rest.name(who)?;
     let (to, rest) = rest.name(who)?;
-    rest.end()?;
-    Ok(Event::Copy { from, to })
+    rest.ended(Event::Copy { from, to })
 }

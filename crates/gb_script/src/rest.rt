@@ -10,7 +10,8 @@ ghost use Rattle.gb_formats.specs.WordValues.{hex_word, kind_word};
 ghost use Rattle.gb_formats.specs.WordValues.{level_word, name_word, number_word};
 ghost use Rattle.gb_formats.specs.WordValues.{pin_word, type_word, u8_word, u16_word, u32_word};
 ghost use Rattle.gb_formats.specs.Words.{words};
-ghost use Rattle.gb_script.specs.Tells.{GoesOn, IsSplit, StopsBy, StopsWith};
+ghost use Rattle.gb_script.specs.Tells.{EndsWith, GoesOn, GoesOnAt, IsSplit, StopsAt, StopsBy};
+ghost use Rattle.gb_script.specs.Tells.{StopsWith};
 
 use crate::LineFault;
 use crate::hex_words::{hex_word, type_word};
@@ -91,6 +92,14 @@ impl<'a> Rest<'a> {
         }
     }
 
+    /// The value, where no word is left.
+    pub fn ended<T: Drop>(&self, value: T) -> Result<T, LineFault>
+        ensures { EndsWith self.now value result }
+    {
+        self.end()?;
+        Ok(value)
+    }
+
     /// The word `word`, and no other.
     pub fn literal(&self, word: &str) -> Result<Rest<'a>, LineReason>
         ensures { MatchResult result
@@ -137,6 +146,17 @@ impl<'a> Rest<'a> {
     {
         let (number, rest) = self.number(0, 4095)?;
         Ok((number as u16, rest))
+    }
+
+    /// `I C`.
+    pub fn intf_cport(&self) -> Result<(u8, u16, Rest<'a>), LineReason>
+        ensures { MatchResult result
+            (λ f. GoesOnAt self.now f.0 f.1 f.2)
+            (λ why. StopsAt self.now why) }
+    {
+        let (intf, rest) = self.intf()?;
+        let (cport, rest) = rest.cport()?;
+        Ok((intf, cport, rest))
     }
 
     /// A number of one byte.

@@ -51,8 +51,7 @@ fn asked(alloc: Global, rest: &Rest<'_>) -> Result<BridgeAsk, LineFault>
 fn config(rest: &Rest<'_>) -> Result<BridgeAsk, LineFault>
     ensures { AsksFor (λ make ws. at_end ws (make ask.SpiConfig)) rest.now result }
 {
-    rest.end()?;
-    Ok(BridgeAsk::SpiConfig)
+    rest.ended(BridgeAsk::SpiConfig)
 }
 
 /// `S` behind `device`.
@@ -60,8 +59,7 @@ fn device(rest: &Rest<'_>) -> Result<BridgeAsk, LineFault>
     ensures { AsksFor spi_device rest.now result }
 {
     let (select, rest) = rest.byte()?;
-    rest.end()?;
-    Ok(BridgeAsk::SpiDevice { select })
+    rest.ended(BridgeAsk::SpiDevice { select })
 }
 
 /// `S M` and any number of entries behind `transfer`.

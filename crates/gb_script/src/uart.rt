@@ -43,12 +43,10 @@ fn request(alloc: Global, rest: &Rest<'_>, who: u8) -> Result<Event, LineFault>
 fn serial_state(rest: &Rest<'_>) -> Result<Event, LineFault>
     ensures { Says result (uart_state rest.now) }
 {
-    let (intf, rest) = rest.intf()?;
-    let (cport, rest) = rest.cport()?;
+    let (intf, cport, rest) = rest.intf_cport()?;
     let rest = rest.literal("state")?;
     let (control, rest) = rest.byte()?;
-    rest.end()?;
-    Ok(Event::SerialState {
+    rest.ended(Event::SerialState {
         intf,
         cport,
         control,
@@ -80,8 +78,7 @@ fn data(alloc: Global, rest: &Rest<'_>) -> Result<BridgeAsk, LineFault>
     ensures { AsksFor uart_data rest.now result }
 {
     let (bytes, rest) = rest.bytes(alloc)?;
-    rest.end()?;
-    Ok(BridgeAsk::UartSend { bytes })
+    rest.ended(BridgeAsk::UartSend { bytes })
 }
 
 /// `RATE F P B W` behind `coding`.
@@ -93,8 +90,7 @@ fn coding(rest: &Rest<'_>) -> Result<BridgeAsk, LineFault>
     let (parity, rest) = rest.byte()?;
     let (bits, rest) = rest.byte()?;
     let (flow, rest) = rest.byte()?;
-    rest.end()?;
-    Ok(BridgeAsk::UartCoding {
+    rest.ended(BridgeAsk::UartCoding {
         rate,
         format,
         parity,
@@ -108,6 +104,5 @@ fn of_byte(rest: &Rest<'_>, kind: u8) -> Result<BridgeAsk, LineFault>
     ensures { AsksFor (λ make. uart_byte make kind) rest.now result }
 {
     let (value, rest) = rest.byte()?;
-    rest.end()?;
-    Ok(BridgeAsk::UartByte { kind, value })
+    rest.ended(BridgeAsk::UartByte { kind, value })
 }
