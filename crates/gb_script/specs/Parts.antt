@@ -11,11 +11,14 @@ use Rattle.gb_base.specs.declared.end.End.TheVariants as end
 use Rattle.gb_base.specs.declared.event.Event.TheVariants as event
 use Rattle.gb_base.specs.declared.fault.LineReason.TheVariants as bad
 use Rattle.gb_base.specs.declared.name.Name.{Name}
-use Rattle.gb_formats.specs.BridgeForms.{gpio_form, i2c_form, i2c_op_word, spi_form, uart_form}
+use Rattle.gb_formats.specs.BridgeForms.{gpio_asking, gpio_form, i2c_asking, i2c_form, i2c_op_word}
+use Rattle.gb_formats.specs.BridgeForms.{spi_asking, spi_form, uart_asking, uart_form}
 use Rattle.gb_formats.specs.Grammar.{of_cport, timed}
 use Rattle.gb_formats.specs.Said.{Said, Rest, next_word, at_end, each_word}
 use Rattle.gb_formats.specs.WordValues.{hex_word, kind_word, cport_word, type_word, u8_word}
 use Rattle.gb_formats.specs.WordValues.{u16_word}
+use Rattle.gb_script.specs.declared.bridges.Protocol.{Protocol}
+use Rattle.gb_script.specs.declared.bridges.Protocol.TheVariants as protocol
 
 -- `HEX` behind `insert I raw`
 abbrev pub inserting_raw : ℕ → Rest → Said
@@ -63,6 +66,13 @@ spi_both_word w = option_map spi.Both (hex_word (drop 2 w))
 abbrev pub uart_data : (BridgeAsk → Event) → Rest → Said
 uart_data make ws =
     next_word hex_word ws (λ bytes ws. at_end ws (make (ask.UartSend bytes)))
+
+-- what the words ask by a bridged protocol
+abbrev pub asking_of : Protocol → (BridgeAsk → Event) → Rest → Said
+asking_of protocol.Gpio = gpio_asking
+asking_of protocol.I2c = i2c_asking
+asking_of protocol.Spi = spi_asking
+asking_of protocol.Uart = uart_asking
 
 -- what a line asks for by its first word, where that is no word of the bus
 abbrev pub by_protocol : ℕ → List ℕ → Rest → Said

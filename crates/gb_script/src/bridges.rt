@@ -1,14 +1,27 @@
 //! What the forms of the bridged protocols share.
 
-ghost use Rattle.std.specs.Prelude.{◌≡◌, Err, MatchResult};
-ghost use Rattle.gb_base.specs.declared.bridge.BridgeAsk.{BridgeAsk};
-ghost use Rattle.gb_base.specs.declared.event.Event.{Event};
-ghost use Rattle.gb_base.specs.declared.event.Event.TheVariants as event;
+ghost use Rattle.std.specs.Prelude.{◌≡◌};
 ghost use Rattle.gb_formats.specs.BridgeForms.{begins_with_at, bridging};
-ghost use Rattle.gb_formats.specs.Said.{Rest, Said};
+ghost use Rattle.gb_script.specs.Parts.{asking_of};
+ghost use Rattle.gb_script.specs.Tells.{AsksFor, Says};
 
 use crate::rest::Rest;
-use gb_base::{LineReason, Name};
+use crate::{LineFault, gpio, i2c, spi, uart};
+use gb_base::{BridgeAsk, Event};
+use std::alloc::Global;
+
+/// A bridged protocol.
+#[derive(Clone, Copy)]
+pub enum Protocol {
+    /// Lines of a GPIO device.
+    Gpio,
+    /// An I2C adapter.
+    I2c,
+    /// An SPI master.
+    Spi,
+    /// A serial port.
+    Uart,
+}
 
 /// Whether a word begins with `@`, as a name does.
 pub fn begins_with_at(word: &[u8]) -> bool
@@ -17,16 +30,34 @@ pub fn begins_with_at(word: &[u8]) -> bool
     word.first() == Some(&b'@')
 }
 
-/// `@x I C`, and the words behind, which say what is asked.
-pub fn addressed<'a>(rest: &Rest<'a>, who: u8) -> Result<(Name, u8, u16, Rest<'a>), LineReason>
-    ensures { MatchResult result
-        (λ f. (asking : (BridgeAsk → Event) → Rest → Said)
-        → bridging who rest.now asking
-        ≡ asking (λ ask. event.Bridge f.0 f.1 f.2 ask) f.3)
-        (λ why. (asking : (BridgeAsk → Event) → Rest → Said)
-        → bridging who rest.now asking ≡ Err why) }
+/// `@x I C`, and what is asked by the protocol.
+pub fn request(
+    alloc: Global,
+    rest: &Rest<'_>,
+    who: u8,
+    protocol: Protocol,
+) -> Result<Event, LineFault>
+    ensures { Says result (bridging who rest.now (asking_of protocol)) }
 {
     let (name, rest) = rest.name(who)?;
     let (intf, cport, rest) = rest.intf_cport()?;
-    Ok((name, intf, cport, rest))
+    let ask = asked(alloc, &rest, protocol)?;
+    Ok(Event::Bridge {
+        name,
+        intf,
+        cport,
+        ask,
+    })
+}
+
+/// What is asked by the protocol.
+fn asked(alloc: Global, rest: &Rest<'_>, protocol: Protocol) -> Result<BridgeAsk, LineFault>
+    ensures { AsksFor (asking_of protocol) rest.now result }
+{
+    match protocol {
+        Protocol::Gpio => gpio::asked(rest),
+        Protocol::I2c => i2c::asked(alloc, rest),
+        Protocol::Spi => spi::asked(alloc, rest),
+        Protocol::Uart => uart::asked(alloc, rest),
+    }
 }

@@ -8,13 +8,12 @@ ghost use Rattle.gb_script.specs.Parts.{by_protocol};
 ghost use Rattle.gb_script.specs.Tells.{Says};
 
 use crate::LineFault;
+use crate::bridges::{Protocol, request};
 use crate::deliveries::{answer, deliver, inject, settle, tick};
 use crate::gpio::gpio;
-use crate::i2c::i2c;
 use crate::interfaces::{connect, disconnect, hold, insert, pull};
 use crate::requests::{cancel, copy, forget, send};
 use crate::rest::Rest;
-use crate::spi::spi;
 use crate::uart::uart;
 use crate::words::is;
 use gb_base::{Event, LineReason};
@@ -67,11 +66,11 @@ fn bridged(alloc: Global, first: &[u8], rest: &Rest<'_>, who: u8) -> Result<Even
     ensures { Says result (by_protocol who first.now rest.now) }
 {
     if is(first, "gpio") {
-        gpio(rest, who)
+        gpio(alloc, rest, who)
     } else if is(first, "i2c") {
-        i2c(alloc, rest, who)
+        request(alloc, rest, who, Protocol::I2c)
     } else if is(first, "spi") {
-        spi(alloc, rest, who)
+        request(alloc, rest, who, Protocol::Spi)
     } else if is(first, "uart") {
         uart(alloc, rest, who)
     } else {

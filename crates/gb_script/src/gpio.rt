@@ -1,7 +1,7 @@
 //! The forms on GPIO.
 
 ghost use Rattle.std.specs.Prelude.{◌≡◌};
-ghost use Rattle.gb_formats.specs.BridgeForms.{bridging, gpio_asking, gpio_form, gpio_level};
+ghost use Rattle.gb_formats.specs.BridgeForms.{gpio_asking, gpio_form, gpio_level};
 ghost use Rattle.gb_formats.specs.BridgeForms.{gpio_line, gpio_value};
 ghost use Rattle.gb_base.specs.declared.bridge.BridgeAsk.TheVariants as ask;
 ghost use Rattle.gb_formats.specs.Said.{at_end};
@@ -9,35 +9,22 @@ ghost use Rattle.gb_formats.specs.WordValues.{u8_word, u16_word};
 ghost use Rattle.gb_script.specs.Tells.{AsksFor, Says};
 
 use crate::LineFault;
-use crate::bridges::{addressed, begins_with_at};
+use crate::bridges::{Protocol, begins_with_at, request};
 use crate::rest::Rest;
 use crate::words::is;
 use gb_base::{BridgeAsk, Event};
+use std::alloc::Global;
 
 /// `gpio @x I C` and what is asked, or `gpio I C level L V`.
-pub fn gpio(rest: &Rest<'_>, who: u8) -> Result<Event, LineFault>
+pub fn gpio(alloc: Global, rest: &Rest<'_>, who: u8) -> Result<Event, LineFault>
     ensures { Says result (gpio_form who rest.now) }
 {
     let (word, _behind) = rest.next()?;
     if begins_with_at(word) {
-        request(rest, who)
+        request(alloc, rest, who, Protocol::Gpio)
     } else {
         outside_level(rest)
     }
-}
-
-/// `@x I C` behind `gpio`, and what is asked.
-fn request(rest: &Rest<'_>, who: u8) -> Result<Event, LineFault>
-    ensures { Says result (bridging who rest.now gpio_asking) }
-{
-    let (name, intf, cport, rest) = addressed(rest, who)?;
-    let ask = asked(&rest)?;
-    Ok(Event::Bridge {
-        name,
-        intf,
-        cport,
-        ask,
-    })
 }
 
 /// `I C level L V` behind `gpio`.
@@ -57,7 +44,7 @@ fn outside_level(rest: &Rest<'_>) -> Result<Event, LineFault>
 }
 
 /// What a GPIO line asks. The types are those of Linux's greybus_protocols.h.
-fn asked(rest: &Rest<'_>) -> Result<BridgeAsk, LineFault>
+pub fn asked(rest: &Rest<'_>) -> Result<BridgeAsk, LineFault>
     ensures { AsksFor gpio_asking rest.now result }
 {
     let (word, behind) = rest.next()?;

@@ -2,38 +2,23 @@
 
 ghost use Rattle.std.specs.Prelude.{◌≡◌, ◌≤◌, IfOk, length};
 ghost use Rattle.gb_base.specs.declared.bridge.BridgeAsk.TheVariants as ask;
-ghost use Rattle.gb_formats.specs.BridgeForms.{bridging, i2c_asking, i2c_form, i2c_op_word};
+ghost use Rattle.gb_formats.specs.BridgeForms.{i2c_asking, i2c_op_word};
 ghost use Rattle.gb_formats.specs.BridgeForms.{i2c_read_word, i2c_write_word};
 ghost use Rattle.gb_formats.specs.Said.{at_end};
 ghost use Rattle.gb_script.specs.Parts.{i2c_transfer};
-ghost use Rattle.gb_script.specs.Tells.{AsksFor, Says};
+ghost use Rattle.gb_script.specs.Tells.{AsksFor};
 
 use crate::LineFault;
-use crate::bridges::addressed;
 use crate::hex_words::{hex_word, type_word};
 use crate::ops::{OpWord, operations};
 use crate::rest::Rest;
 use crate::values::number_word;
 use crate::words::is;
-use gb_base::{BridgeAsk, Event, I2cOp, OutOfMemory};
+use gb_base::{BridgeAsk, I2cOp, OutOfMemory};
 use std::alloc::Global;
 
-/// `i2c @x I C` and what is asked.
-pub fn i2c(alloc: Global, rest: &Rest<'_>, who: u8) -> Result<Event, LineFault>
-    ensures { Says result (i2c_form who rest.now) }
-{
-    let (name, intf, cport, rest) = addressed(rest, who)?;
-    let ask = asked(alloc, &rest)?;
-    Ok(Event::Bridge {
-        name,
-        intf,
-        cport,
-        ask,
-    })
-}
-
 /// What an I2C line asks.
-fn asked(alloc: Global, rest: &Rest<'_>) -> Result<BridgeAsk, LineFault>
+pub fn asked(alloc: Global, rest: &Rest<'_>) -> Result<BridgeAsk, LineFault>
     ensures { AsksFor i2c_asking rest.now result }
 {
     let (word, behind) = rest.next()?;

@@ -128,14 +128,33 @@ impl<'a> Rest<'a> {
         }
     }
 
+    /// A number of one byte from `least` to `greatest`.
+    fn u8_number(&self, least: u8, greatest: u8) -> Result<(u8, Rest<'a>), LineReason>
+        ensures { MatchResult result
+            (λ f. GoesOn (number_word least greatest) self.now f.0 f.1)
+            (λ why. StopsWith (number_word least greatest) self.now why) }
+    {
+        let (number, rest) = self.number(u32::from(least), u32::from(greatest))?;
+        Ok((number as u8, rest))
+    }
+
+    /// A number of two bytes from `least` to `greatest`.
+    fn u16_number(&self, least: u16, greatest: u16) -> Result<(u16, Rest<'a>), LineReason>
+        ensures { MatchResult result
+            (λ f. GoesOn (number_word least greatest) self.now f.0 f.1)
+            (λ why. StopsWith (number_word least greatest) self.now why) }
+    {
+        let (number, rest) = self.number(u32::from(least), u32::from(greatest))?;
+        Ok((number as u16, rest))
+    }
+
     /// I: an interface that a module can have, 2 to 31.
     pub fn intf(&self) -> Result<(u8, Rest<'a>), LineReason>
         ensures { MatchResult result
             (λ f. GoesOn intf_word self.now f.0 f.1)
             (λ why. StopsWith intf_word self.now why) }
     {
-        let (number, rest) = self.number(2, 31)?;
-        Ok((number as u8, rest))
+        self.u8_number(2, 31)
     }
 
     /// C or A: a CPort, 0 to 4,095.
@@ -144,8 +163,7 @@ impl<'a> Rest<'a> {
             (λ f. GoesOn cport_word self.now f.0 f.1)
             (λ why. StopsWith cport_word self.now why) }
     {
-        let (number, rest) = self.number(0, 4095)?;
-        Ok((number as u16, rest))
+        self.u16_number(0, 4095)
     }
 
     /// `I C`.
@@ -165,8 +183,7 @@ impl<'a> Rest<'a> {
             (λ f. GoesOn u8_word self.now f.0 f.1)
             (λ why. StopsWith u8_word self.now why) }
     {
-        let (number, rest) = self.number(0, 255)?;
-        Ok((number as u8, rest))
+        self.u8_number(0, 255)
     }
 
     /// A number of two bytes.
@@ -175,8 +192,7 @@ impl<'a> Rest<'a> {
             (λ f. GoesOn u16_word self.now f.0 f.1)
             (λ why. StopsWith u16_word self.now why) }
     {
-        let (number, rest) = self.number(0, 65535)?;
-        Ok((number as u16, rest))
+        self.u16_number(0, 65535)
     }
 
     /// A number of four bytes.
@@ -185,8 +201,7 @@ impl<'a> Rest<'a> {
             (λ f. GoesOn u32_word self.now f.0 f.1)
             (λ why. StopsWith u32_word self.now why) }
     {
-        let (number, rest) = self.number(0, u32::MAX)?;
-        Ok((number, rest))
+        self.number(0, u32::MAX)
     }
 
     /// MS or K: a number of four bytes that isn't 0.
@@ -195,8 +210,7 @@ impl<'a> Rest<'a> {
             (λ f. GoesOn from_one_word self.now f.0 f.1)
             (λ why. StopsWith from_one_word self.now why) }
     {
-        let (number, rest) = self.number(1, u32::MAX)?;
-        Ok((number, rest))
+        self.number(1, u32::MAX)
     }
 
     /// N: a number of two bytes that isn't 0.
@@ -205,8 +219,7 @@ impl<'a> Rest<'a> {
             (λ f. GoesOn count_word self.now f.0 f.1)
             (λ why. StopsWith count_word self.now why) }
     {
-        let (number, rest) = self.number(1, 65535)?;
-        Ok((number as u16, rest))
+        self.u16_number(1, 65535)
     }
 
     /// A line of the GPIO device, 0 to 7.
@@ -215,8 +228,7 @@ impl<'a> Rest<'a> {
             (λ f. GoesOn pin_word self.now f.0 f.1)
             (λ why. StopsWith pin_word self.now why) }
     {
-        let (number, rest) = self.number(0, 7)?;
-        Ok((number as u8, rest))
+        self.u8_number(0, 7)
     }
 
     /// The level of a GPIO line, 0 or 1.
@@ -225,8 +237,7 @@ impl<'a> Rest<'a> {
             (λ f. GoesOn level_word self.now f.0 f.1)
             (λ why. StopsWith level_word self.now why) }
     {
-        let (number, rest) = self.number(0, 1)?;
-        Ok((number as u8, rest))
+        self.u8_number(0, 1)
     }
 
     /// `@x`: a name of requester `who`.

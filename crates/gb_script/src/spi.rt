@@ -2,37 +2,22 @@
 
 ghost use Rattle.std.specs.Prelude.{◌≡◌, ◌≤◌, IfOk, length};
 ghost use Rattle.gb_base.specs.declared.bridge.BridgeAsk.TheVariants as ask;
-ghost use Rattle.gb_formats.specs.BridgeForms.{spi_asking, spi_form, spi_op_word, spi_transfer};
+ghost use Rattle.gb_formats.specs.BridgeForms.{spi_asking, spi_op_word, spi_transfer};
 ghost use Rattle.gb_formats.specs.Said.{at_end};
 ghost use Rattle.gb_script.specs.Parts.{spi_both_word, spi_device, spi_read_word, spi_write_word};
-ghost use Rattle.gb_script.specs.Tells.{AsksFor, Says};
+ghost use Rattle.gb_script.specs.Tells.{AsksFor};
 
 use crate::LineFault;
-use crate::bridges::addressed;
 use crate::hex_words::hex_word;
 use crate::ops::{OpWord, operations};
 use crate::rest::Rest;
 use crate::values::number_word;
 use crate::words::is;
-use gb_base::{BridgeAsk, Event, OutOfMemory, SpiOp};
+use gb_base::{BridgeAsk, OutOfMemory, SpiOp};
 use std::alloc::Global;
 
-/// `spi @x I C` and what is asked.
-pub fn spi(alloc: Global, rest: &Rest<'_>, who: u8) -> Result<Event, LineFault>
-    ensures { Says result (spi_form who rest.now) }
-{
-    let (name, intf, cport, rest) = addressed(rest, who)?;
-    let ask = asked(alloc, &rest)?;
-    Ok(Event::Bridge {
-        name,
-        intf,
-        cport,
-        ask,
-    })
-}
-
 /// What an SPI line asks.
-fn asked(alloc: Global, rest: &Rest<'_>) -> Result<BridgeAsk, LineFault>
+pub fn asked(alloc: Global, rest: &Rest<'_>) -> Result<BridgeAsk, LineFault>
     ensures { AsksFor spi_asking rest.now result }
 {
     let (word, behind) = rest.next()?;

@@ -1,13 +1,13 @@
 //! The forms on UART.
 
 ghost use Rattle.std.specs.Prelude.{◌≡◌};
-ghost use Rattle.gb_formats.specs.BridgeForms.{bridging, uart_asking, uart_byte, uart_coding};
+ghost use Rattle.gb_formats.specs.BridgeForms.{uart_asking, uart_byte, uart_coding};
 ghost use Rattle.gb_formats.specs.BridgeForms.{uart_form, uart_state};
 ghost use Rattle.gb_script.specs.Parts.{uart_data};
 ghost use Rattle.gb_script.specs.Tells.{AsksFor, Says};
 
 use crate::LineFault;
-use crate::bridges::{addressed, begins_with_at};
+use crate::bridges::{Protocol, begins_with_at, request};
 use crate::rest::Rest;
 use crate::words::is;
 use gb_base::{BridgeAsk, Event};
@@ -19,24 +19,10 @@ pub fn uart(alloc: Global, rest: &Rest<'_>, who: u8) -> Result<Event, LineFault>
 {
     let (word, _behind) = rest.next()?;
     if begins_with_at(word) {
-        request(alloc, rest, who)
+        request(alloc, rest, who, Protocol::Uart)
     } else {
         serial_state(rest)
     }
-}
-
-/// `@x I C` behind `uart`, and what is asked.
-fn request(alloc: Global, rest: &Rest<'_>, who: u8) -> Result<Event, LineFault>
-    ensures { Says result (bridging who rest.now uart_asking) }
-{
-    let (name, intf, cport, rest) = addressed(rest, who)?;
-    let ask = asked(alloc, &rest)?;
-    Ok(Event::Bridge {
-        name,
-        intf,
-        cport,
-        ask,
-    })
 }
 
 /// `I C state V` behind `uart`.
@@ -54,7 +40,7 @@ fn serial_state(rest: &Rest<'_>) -> Result<Event, LineFault>
 }
 
 /// What a UART line asks. The types are those of Linux's greybus_protocols.h.
-fn asked(alloc: Global, rest: &Rest<'_>) -> Result<BridgeAsk, LineFault>
+pub fn asked(alloc: Global, rest: &Rest<'_>) -> Result<BridgeAsk, LineFault>
     ensures { AsksFor uart_asking rest.now result }
 {
     let (word, behind) = rest.next()?;
