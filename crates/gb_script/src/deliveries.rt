@@ -2,9 +2,6 @@
 
 ghost use Rattle.std.specs.Prelude.{◌≡◌};
 ghost use Rattle.gb_formats.specs.Grammar.{answering, delivering, injecting, settling, ticking};
-ghost use Rattle.gb_formats.specs.Said.{at_end};
-ghost use Rattle.gb_base.specs.declared.end.End.TheVariants as at;
-ghost use Rattle.gb_base.specs.declared.event.Event.TheVariants as event;
 ghost use Rattle.gb_script.specs.Parts.{delivering_ap, delivering_module};
 ghost use Rattle.gb_script.specs.Tells.{Says};
 
@@ -21,19 +18,12 @@ pub fn deliver(rest: &Rest<'_>) -> Result<Event, LineFault>
 {
     let (at, behind) = rest.next()?;
     if is(at, "svc") {
-        deliver_svc(&behind)
+        behind.ended(Event::Deliver { at: End::Svc })
     } else if is(at, "ap") {
         deliver_ap(&behind)
     } else {
         deliver_module(rest)
     }
-}
-
-/// What stands behind `deliver svc`.
-fn deliver_svc(rest: &Rest<'_>) -> Result<Event, LineFault>
-    ensures { Says result (at_end rest.now (event.Deliver at.Svc)) }
-{
-    rest.ended(Event::Deliver { at: End::Svc })
 }
 
 /// `A` behind `deliver ap`.

@@ -2,8 +2,6 @@
 
 ghost use Rattle.std.specs.Prelude.{◌≡◌, false};
 ghost use Rattle.gb_formats.specs.Grammar.{by_first, is_comment};
-ghost use Rattle.gb_base.specs.declared.event.Event.TheVariants as event;
-ghost use Rattle.gb_formats.specs.Said.{at_end};
 ghost use Rattle.gb_script.specs.Parts.{by_protocol};
 ghost use Rattle.gb_script.specs.Tells.{Says};
 
@@ -25,7 +23,7 @@ pub fn form(alloc: Global, first: &[u8], rest: &Rest<'_>, who: u8) -> Result<Eve
     ensures { Says result (by_first who first.now rest.now) }
 {
     if is(first, "boot") {
-        boot(rest)
+        rest.ended(Event::Boot)
     } else if is(first, "insert") {
         insert(alloc, rest)
     } else if is(first, "pull") {
@@ -55,7 +53,7 @@ pub fn form(alloc: Global, first: &[u8], rest: &Rest<'_>, who: u8) -> Result<Eve
     } else if is(first, "inject") {
         inject(alloc, rest)
     } else if is(first, "show") {
-        show(rest)
+        rest.ended(Event::Show)
     } else {
         bridged(alloc, first, rest, who)
     }
@@ -76,18 +74,4 @@ fn bridged(alloc: Global, first: &[u8], rest: &Rest<'_>, who: u8) -> Result<Even
     } else {
         Err(LineFault::Bad(LineReason::BadWord(1)))
     }
-}
-
-/// `boot`.
-fn boot(rest: &Rest<'_>) -> Result<Event, LineFault>
-    ensures { Says result (at_end rest.now event.Boot) }
-{
-    rest.ended(Event::Boot)
-}
-
-/// `show`.
-fn show(rest: &Rest<'_>) -> Result<Event, LineFault>
-    ensures { Says result (at_end rest.now event.Show) }
-{
-    rest.ended(Event::Show)
 }

@@ -1,10 +1,8 @@
 //! The forms on I2C.
 
 ghost use Rattle.std.specs.Prelude.{◌≡◌, ◌≤◌, IfOk, length};
-ghost use Rattle.gb_base.specs.declared.bridge.BridgeAsk.TheVariants as ask;
 ghost use Rattle.gb_formats.specs.BridgeForms.{i2c_asking, i2c_op_word};
 ghost use Rattle.gb_formats.specs.BridgeForms.{i2c_read_word, i2c_write_word};
-ghost use Rattle.gb_formats.specs.Said.{at_end};
 ghost use Rattle.gb_script.specs.Parts.{i2c_transfer};
 ghost use Rattle.gb_script.specs.Tells.{AsksFor};
 
@@ -23,19 +21,12 @@ pub fn asked(alloc: Global, rest: &Rest<'_>) -> Result<BridgeAsk, LineFault>
 {
     let (word, behind) = rest.next()?;
     if is(word, "functionality") {
-        functionality(&behind)
+        behind.ended(BridgeAsk::I2cFunctionality)
     } else if is(word, "transfer") {
         transfer(alloc, behind)
     } else {
         Err(LineFault::Bad(rest.bad_word()))
     }
-}
-
-/// What stands behind `functionality`.
-fn functionality(rest: &Rest<'_>) -> Result<BridgeAsk, LineFault>
-    ensures { AsksFor (λ make ws. at_end ws (make ask.I2cFunctionality)) rest.now result }
-{
-    rest.ended(BridgeAsk::I2cFunctionality)
 }
 
 /// Any number of operations behind `transfer`.

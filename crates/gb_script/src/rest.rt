@@ -1,6 +1,7 @@
 //! The words of a line that are left, taken one by one.
 
-ghost use Rattle.std.specs.Prelude.{◌≡◌, ◌≤◌, [], length, IfOk, MatchOption, MatchResult};
+ghost use Rattle.std.specs.Prelude.{◌≡◌, ◌≤◌, [], length, Some, None, IfOk, MatchOption};
+ghost use Rattle.std.specs.Prelude.{MatchResult};
 ghost use Rattle.gb_base.specs.declared.event.Event.{Event};
 ghost use Rattle.gb_base.specs.declared.fault.LineReason.TheVariants as bad;
 ghost use Rattle.gb_formats.specs.BridgeForms.{literal_word};
@@ -93,6 +94,7 @@ impl<'a> Rest<'a> {
     }
 
     /// The value, where no word is left.
+    #[inline]
     pub fn ended<T: Drop>(&self, value: T) -> Result<T, LineFault>
         ensures { EndsWith self.now value result }
     {
@@ -114,6 +116,22 @@ impl<'a> Rest<'a> {
         }
     }
 
+    /// What the next word means, and the words behind it, or that the word is bad.
+    fn fits<T: Drop>(
+        &self,
+        meaning: Option<T>,
+        behind: Rest<'a>,
+    ) -> Result<(T, Rest<'a>), LineReason>
+        ensures { MatchResult result
+            (λ f. (meaning ≡ Some f.0) × (f.1 ≡ behind.entry))
+            (λ why. (meaning ≡ None) × (why ≡ bad.BadWord self.now.0)) }
+    {
+        match meaning {
+            Some(value) => Ok((value, behind)),
+            None => Err(self.bad_word()),
+        }
+    }
+
     /// A number from `least` to `greatest`.
     fn number(&self, least: u32, greatest: u32) -> Result<(u32, Rest<'a>), LineReason>
         ensures meaning { MatchResult result
@@ -122,10 +140,7 @@ impl<'a> Rest<'a> {
         ensures bound { IfOk result (λ f. f.0 ≤ greatest) }
     {
         let (word, rest) = self.next()?;
-        match number_word(word, least, greatest) {
-            Some(number) => Ok((number, rest)),
-            None => Err(self.bad_word()),
-        }
+        self.fits(number_word(word, least, greatest), rest)
     }
 
     /// A number of one byte from `least` to `greatest`.
@@ -247,10 +262,7 @@ impl<'a> Rest<'a> {
             (λ why. StopsWith (name_word who) self.now why) }
     {
         let (word, rest) = self.next()?;
-        match name_word(word, who) {
-            Some(name) => Ok((name, rest)),
-            None => Err(self.bad_word()),
-        }
+        self.fits(name_word(word, who), rest)
     }
 
     /// A kind of module.
@@ -260,10 +272,7 @@ impl<'a> Rest<'a> {
             (λ why. StopsWith kind_word self.now why) }
     {
         let (word, rest) = self.next()?;
-        match kind_word(word) {
-            Some(kind) => Ok((kind, rest)),
-            None => Err(self.bad_word()),
-        }
+        self.fits(kind_word(word), rest)
     }
 
     /// TYPE: the type of a request, 00 to 7f.
@@ -273,10 +282,7 @@ impl<'a> Rest<'a> {
             (λ why. StopsWith type_word self.now why) }
     {
         let (word, rest) = self.next()?;
-        match type_word(word) {
-            Some(kind) => Ok((kind, rest)),
-            None => Err(self.bad_word()),
-        }
+        self.fits(type_word(word), rest)
     }
 
     /// HEX: bytes.

@@ -1,9 +1,7 @@
 //! The forms on SPI.
 
 ghost use Rattle.std.specs.Prelude.{◌≡◌, ◌≤◌, IfOk, length};
-ghost use Rattle.gb_base.specs.declared.bridge.BridgeAsk.TheVariants as ask;
 ghost use Rattle.gb_formats.specs.BridgeForms.{spi_asking, spi_op_word, spi_transfer};
-ghost use Rattle.gb_formats.specs.Said.{at_end};
 ghost use Rattle.gb_script.specs.Parts.{spi_both_word, spi_device, spi_read_word, spi_write_word};
 ghost use Rattle.gb_script.specs.Tells.{AsksFor};
 
@@ -22,7 +20,7 @@ pub fn asked(alloc: Global, rest: &Rest<'_>) -> Result<BridgeAsk, LineFault>
 {
     let (word, behind) = rest.next()?;
     if is(word, "config") {
-        config(&behind)
+        behind.ended(BridgeAsk::SpiConfig)
     } else if is(word, "device") {
         device(&behind)
     } else if is(word, "transfer") {
@@ -30,13 +28,6 @@ pub fn asked(alloc: Global, rest: &Rest<'_>) -> Result<BridgeAsk, LineFault>
     } else {
         Err(LineFault::Bad(rest.bad_word()))
     }
-}
-
-/// What stands behind `config`.
-fn config(rest: &Rest<'_>) -> Result<BridgeAsk, LineFault>
-    ensures { AsksFor (λ make ws. at_end ws (make ask.SpiConfig)) rest.now result }
-{
-    rest.ended(BridgeAsk::SpiConfig)
 }
 
 /// `S` behind `device`.
