@@ -11,7 +11,7 @@ use std::alloc::Global;
 
 /// How many lines of a script were refused, how many requests were made, and how those stand at
 /// its end.
-#[derive(Clone, Copy, Debug, PartialEq, Eq)]
+#[derive(Clone, Copy)]
 pub struct Counts {
     /// Lines that were refused.
     pub refused: u64,

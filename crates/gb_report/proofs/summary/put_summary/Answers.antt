@@ -1,4 +1,4 @@
-use Rattle.std.proofs.Common.{◌≡◌, List, ℕ, ◌++◌, ap, ◌∙◌, subst, IsAscii, sym, rules}
+use Rattle.std.proofs.Common.{◌≡◌, List, ℕ, ◌++◌, ap, ◌∙◌, subst, IsAscii, sym}
 use Rattle.std.proofs.lemmas.Result.{on_ok_weaker}
 use Rattle.std.specs.String.{string_bytes}
 use Rattle.gb_formats.specs.ShowTexts.{summary_text}
@@ -11,13 +11,13 @@ pub put_line-requires : goal.put_line-requires
 put_line-requires c =
     let text : ended (string_bytes c.in_ok-line.line)
     ≡ summary_text c.args.lines (counts_of c.args.counts.now)
-    = search rules in
+    = ap ended c.in_ok-line.ensures in
     subst IsAscii (sym text) (IsAscii-summary_text c.args.lines (counts_of c.args.counts.now))
 
 pub returns-clause-ok : goal.returns-clause-ok
 returns-clause-ok c =
     let text : ended (string_bytes c.in_ok-line.line)
     ≡ summary_text c.args.lines (counts_of c.args.counts.now)
-    = search rules in
+    = ap ended c.in_ok-line.ensures in
     on_ok_weaker c.put_line.result (λ e. e ∙ ap (λ (l : List ℕ). c.args.out.now ++ l) text)
     c.put_line.ensures.ok
