@@ -21,3 +21,6 @@ returns-clause-ok c =
     = ap ended c.in_ok-line.ensures in
     on_ok_weaker c.put_line.result (λ e. e ∙ ap (λ (l : List ℕ). c.args.out.now ++ l) text)
     c.put_line.ensures.ok
+
+pub returns-clause-err : goal.returns-clause-err
+returns-clause-err c = c.put_line.ensures.err
