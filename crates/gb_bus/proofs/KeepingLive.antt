@@ -3,16 +3,15 @@ use Rattle.std.proofs.Common.{◌≡◌, ◌≢◌, ℕ, Bool, true, false, cond
 use Rattle.std.proofs.Common.{None, refl, sym, ap, ◌∙◌, subst, is_some}
 use Rattle.std.proofs.lemmas.Bool.{cases_eq, true≢false}
 use Rattle.std.specs.BTreeMap.{IsOrdered, get, is_at}
-use Rattle.std.specs.Map.{lookup}
 use Rattle.std.specs.Ordering.{eq_by_cmp, nat_cmp}
 use Rattle.gb_base.specs.declared.end.End.{End}
 use Rattle.gb_base.specs.declared.end.End.TheVariants as end
 use Rattle.gb_bus.proofs.Entries.{at-other, at-same, same-some, some-none}
-use Rattle.gb_bus.proofs.Keeping.{AreIndexed, Live, Queues, ends-apart, two-ends}
+use Rattle.gb_bus.proofs.Keeping.{Live, Queues, ends-apart}
 use Rattle.gb_bus.proofs.KeepingWires.{owner-elsewhere, queued-elsewhere}
-use Rattle.gb_bus.specs.Index.{Ends, HasQueues, IsEndOf, IsIndexed, Kept, number_at}
+use Rattle.gb_bus.specs.Index.{Ends, HasQueues, IsEndOf, IsIndexed, KeepsNumbers, Kept}
+use Rattle.gb_bus.specs.Index.{number_at}
 use Rattle.gb_bus.specs.declared.connection.Connection as code
-use Rattle.gb_machine.specs.Bus.{same_end}
 use Rattle.gb_switch.proofs.Places.{cmp-other, cmp-own}
 use Rattle.gb_switch.specs.Places.{end_cmp}
 use Rattle.gb_switch.specs.Queues.{Destroys}
@@ -93,41 +92,16 @@ kept-removed live live' e0 e1 e2 q r n x near far found gone s is_near is_far u 
 
 -- ---- a connection is added
 
--- an end that none has gets a number
-pub indexed-more : (live : Live) (m n : Ends) (p : End) (v : ℕ) → number_at m p ≡ None
-    → Updated m n p (Some v) → AreIndexed live m → AreIndexed live n
-indexed-more live m n p v free u i k x there =
-    let w = i k x there in
-    record {
-      near = still (end.Ap x.ap) k w.near;
-      far = still x.peer k w.far;
-      two = w.two;
-    }
-  where
-    still : (s : End) (j : ℕ) → number_at m s ≡ Some j → number_at n s ≡ Some j
-    still s j has =
-        index-others m n p s (Some v) u
-        (λ e. some-none j (sym has ∙ ap (λ t. number_at m t) e ∙ free)) ∙ has
-
-pub kept-more : (live : Live) (m n : Ends) (q : Queues) (p : End) (v : ℕ)
-    → number_at m p ≡ None → Updated m n p (Some v) → Kept live m q → Kept live n q
-kept-more live m n q p v free u k = record {
-  ordered = k.ordered;
-  indexed = indexed-more live m n p v free u k.indexed;
-  owned = k.owned;
-  queued = k.queued;
-}
-
--- the numbers of ends stay
-pub kept-ends : (live : Live) (m n : Ends) (q : Queues) → n.entries ≡ m.entries → Kept live m q
+-- the numbers that ends have stay
+pub kept-more : (live : Live) (m n : Ends) (q : Queues) → KeepsNumbers m n → Kept live m q
     → Kept live n q
-kept-ends live m n q same k = record {
+kept-more live m n q keeps k = record {
   ordered = k.ordered;
   indexed = λ j x there.
       let i = k.indexed j x there in
       record {
-        near = ap (lookup (eq_by_cmp end_cmp (end.Ap x.ap))) same ∙ i.near;
-        far = ap (lookup (eq_by_cmp end_cmp x.peer)) same ∙ i.far;
+        near = keeps (end.Ap x.ap) j i.near;
+        far = keeps x.peer j i.far;
         two = i.two;
       };
   owned = k.owned;
@@ -139,63 +113,70 @@ pub none-there : {A : Type 0} (o : Option A) (b : Bool) → b ≡ is_some o → 
 none-there None b e f = refl
 none-there (Some a) b e f = absurd (true≢false (sym e ∙ f))
 
-pub kept-added : (live live' : Live) (e0 e1 e2 : Ends) (q : Queues) (n : ℕ)
-    (x : code.Connection) (near far : End)
-    → get nat_cmp live n ≡ None → Changed live live' n (Some x) → IsOrdered nat_cmp live'
-    → near ≡ end.Ap x.ap → far ≡ x.peer
-    → same_end (end.Ap x.ap) x.peer ≡ false → x.wired ≡ false
-    → number_at e0 near ≡ None → number_at e0 far ≡ None
-    → Updated e0 e1 near (Some n) → Updated e1 e2 far (Some n)
-    → Kept live e0 q → Kept live' e2 q
-kept-added live live' e0 e1 e2 q n x near far free more s is_near is_far two loose free_near
-    free_far u t k = record {
-      ordered = s;
-      indexed = λ j z there. by j z there (cases_eq j n);
-      owned = λ a items there.
-          let o = k.owned a items there in
-          record {
-            number = o.number;
-            connection = o.connection;
-            there = changed-others live live' n o.number (Some x) more
-                (λ e. some-none o.connection (sym o.there ∙ ap (λ m. get nat_cmp live m) e ∙ free))
-                ∙ o.there;
-            wired = o.wired;
-            own = o.own;
-          };
-      queued = λ j z there w. have j z there w (cases_eq j n);
-    }
+-- an end that none has gets a number
+pub keeps-more : (m n : Ends) (p : End) (v : ℕ) → number_at m p ≡ None → Updated m n p (Some v)
+    → KeepsNumbers m n
+keeps-more m n p v free u at k has =
+    index-others m n p at (Some v) u
+    (λ e. some-none k (sym has ∙ ap (λ t. number_at m t) e ∙ free)) ∙ has
+
+-- then another that has none, or the same once more
+pub keeps-both : (m n o : Ends) (p r : End) (v : ℕ) → number_at m p ≡ None
+    → number_at m r ≡ None → Updated m n p (Some v) → Updated n o r (Some v) → KeepsNumbers m o
+keeps-both m n o p r v free free_too u t at k has =
+    index-others n o r at (Some v) t
+    (λ e. some-none k (sym has ∙ ap (λ z. number_at m z) e ∙ free_too))
+    ∙ keeps-more m n p v free u at k has
+
+pub first-has : (m n o : Ends) (p r : End) (v : ℕ) → Updated m n p (Some v)
+    → Updated n o r (Some v) → number_at o p ≡ Some v
+first-has m n o p r v u t =
+    t p
+    ∙ ap (λ x. cond (eq_by_cmp end_cmp r p) (Some v) x) (index-here m n p (Some v) u)
+    ∙ by (eq_by_cmp end_cmp r p)
   where
+    by : (b : Bool) → cond b (Some v) (Some v) ≡ Some v
+    by true = refl
+    by false = refl
+
+-- a connection is there whose ends have its number
+pub kept-added : (live live' : Live) (e : Ends) (q : Queues) (n : ℕ) (x : code.Connection)
+    → get nat_cmp live n ≡ None → Changed live live' n (Some x) → IsOrdered nat_cmp live'
+    → IsIndexed e n x → x.wired ≡ false → Kept live e q → Kept live' e q
+kept-added live live' e q n x free more s own loose k = record {
+  ordered = s;
+  indexed = λ j z there. by j z there (cases_eq j n);
+  owned = λ a items there.
+      let o = k.owned a items there in
+      record {
+        number = o.number;
+        connection = o.connection;
+        there = changed-others live live' n o.number (Some x) more
+            (λ e. some-none o.connection (sym o.there ∙ ap (λ m. get nat_cmp live m) e ∙ free))
+            ∙ o.there;
+        wired = o.wired;
+        own = o.own;
+      };
+  queued = λ j z there w. have j z there w (cases_eq j n);
+}
+  where
+    is-new : (j : ℕ) (z : code.Connection) → get nat_cmp live' j ≡ Some z → j ≡ n → x ≡ z
+    is-new j z there e =
+        same-some x z (sym (changed-here live live' n (Some x) more)
+        ∙ ap (λ m. get nat_cmp live' m) (sym e) ∙ there)
+
     have : (j : ℕ) (z : code.Connection) → get nat_cmp live' j ≡ Some z → z.wired ≡ true
         → (j ≡ n) ⊎ (j ≢ n) → HasQueues q z
     have j z there w (inl e) =
-        let same : x ≡ z = same-some x z (sym (changed-here live live' n (Some x) more)
-        ∙ ap (λ m. get nat_cmp live' m) (sym e) ∙ there) in
-        absurd (true≢false (sym w ∙ ap (λ (c : code.Connection). c.wired) (sym same) ∙ loose))
+        absurd (true≢false (sym w ∙ ap (λ (c : code.Connection). c.wired)
+        (sym (is-new j z there e)) ∙ loose))
     have j z there w (inr ne) =
         k.queued j z (sym (changed-others live live' n j (Some x) more ne) ∙ there) w
 
-    apart : near ≢ far
-    apart e = two-ends (end.Ap x.ap) x.peer two (sym is_near ∙ e ∙ is_far)
-
-    own : IsIndexed e2 n x
-    own = record {
-      near = ap (λ p. number_at e2 p) (sym is_near)
-          ∙ index-others e1 e2 far near (Some n) t apart
-          ∙ index-here e0 e1 near (Some n) u;
-      far = ap (λ p. number_at e2 p) (sym is_far) ∙ index-here e1 e2 far (Some n) t;
-      two = two;
-    }
-
-    still : AreIndexed live e2
-    still = indexed-more live e1 e2 far n
-        (index-others e0 e1 near far (Some n) u (λ e. apart (sym e)) ∙ free_far) t
-        (indexed-more live e0 e1 near n free_near u k.indexed)
-
     by : (j : ℕ) (z : code.Connection) → get nat_cmp live' j ≡ Some z → (j ≡ n) ⊎ (j ≢ n)
-        → IsIndexed e2 j z
-    by j z there (inl e) =
-        let same : x ≡ z = same-some x z (sym (changed-here live live' n (Some x) more)
-        ∙ ap (λ m. get nat_cmp live' m) (sym e) ∙ there) in
-        subst (λ c. IsIndexed e2 j c) same (subst (λ m. IsIndexed e2 m x) (sym e) own)
+        → IsIndexed e j z
+    by j z there (inl f) =
+        subst (λ c. IsIndexed e j c) (is-new j z there f)
+        (subst (λ m. IsIndexed e m x) (sym f) own)
     by j z there (inr ne) =
-        still j z (sym (changed-others live live' n j (Some x) more ne) ∙ there)
+        k.indexed j z (sym (changed-others live live' n j (Some x) more ne) ∙ there)

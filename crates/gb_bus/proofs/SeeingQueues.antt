@@ -11,14 +11,15 @@ use Rattle.gb_base.specs.declared.end.End.TheVariants as end
 use Rattle.gb_base.specs.declared.end.Side.{Side}
 use Rattle.gb_base.specs.declared.end.Side.TheVariants as side
 use Rattle.gb_bus.proofs.Entries.{changes, each-entry, same-seen}
-use Rattle.gb_bus.proofs.Keeping.{Live, Queues, kept-stays, kept-takes, not-one, seen-others}
-use Rattle.gb_bus.proofs.Keeping.{seen-same, two-ends}
-use Rattle.gb_bus.proofs.Seeing.{changes-one, finds}
+use Rattle.gb_bus.proofs.Keeping.{Live, Queues, kept-appends, kept-stays, kept-takes, not-one}
+use Rattle.gb_bus.proofs.Keeping.{seen-others, seen-same, two-ends}
+use Rattle.gb_bus.proofs.Seeing.{changes-one, finds, nothing-changes}
 use Rattle.gb_bus.specs.Connection.{Connection}
-use Rattle.gb_bus.specs.Index.{Ends, IsIndexed, Kept}
+use Rattle.gb_bus.specs.Index.{AddsAt, Ends, IsIndexed, Kept, end_toward}
 use Rattle.gb_bus.specs.Parts.{TakesFrontAs, end_at, front_in, numbered, put, queue_of, with_queue}
 use Rattle.gb_bus.specs.Parts.{without_front}
 use Rattle.gb_bus.specs.Seen.{all_seen, alone, items_of, seen}
+use Rattle.gb_bus.specs.Sides.{toward}
 use Rattle.gb_bus.specs.declared.connection.Connection as code
 use Rattle.gb_bus.specs.declared.queue.Item.{Item}
 use Rattle.gb_machine.specs.Lists.{at_first, behind_first, first}
@@ -145,3 +146,33 @@ pub kept-pops : (live : Live) (ends : Ends) (q r : Queues) (at : End) (result : 
     → TakesAs (items_at q) (items_at r) at result → Kept live ends q → Kept live ends r
 kept-pops live ends q r at None h kept = kept-stays live ends q r h.1 kept
 kept-pops live ends q r at (Some item) h kept = kept-takes live ends q r at item h kept
+
+-- ---- a message goes to an end, where there is one
+
+pub kept-adds : (live : Live) (ends : Ends) (q r : Queues) (o : Option End) (item : Item)
+    → AddsAt o item q r → Kept live ends q → Kept live ends r
+kept-adds live ends q r None item h kept = subst (Kept live ends) (sym h) kept
+kept-adds live ends q r (Some at) item h kept = kept-appends live ends q r at item h kept
+
+pub adds-toward : (live : Live) (ends : Ends) (q r : Queues) (xs : List Connection) (k : ℕ)
+    (s : Side) (item : Item) → Kept live ends q → all_seen q live.entries ≡ xs
+    → AddsAt (end_toward live k s) item q r
+    → all_seen r live.entries ≡ at_first (numbered k) (put s item) xs
+adds-toward live ends q r xs k s item kept view h = by (get nat_cmp live k) refl h
+  where
+    wired : (x : code.Connection) → get nat_cmp live k ≡ Some x → (w : Bool) → x.wired ≡ w
+        → AddsAt (cond w (Some (end_at s (alone 0 x))) None) item q r
+        → all_seen r live.entries ≡ at_first (numbered k) (put s item) xs
+    wired x found true w puts =
+        pushes live ends q r xs k x s (end_at s (alone 0 x)) item kept view found w refl puts
+    wired x found false w same =
+        ap (λ p. all_seen p live.entries) same ∙ view
+        ∙ put-unwired live ends q xs k x s item kept view found w
+
+    by : (o : Option code.Connection) → get nat_cmp live k ≡ o
+        → AddsAt (option_and_then (λ x. toward s (alone 0 x)) o) item q r
+        → all_seen r live.entries ≡ at_first (numbered k) (put s item) xs
+    by None e same =
+        ap (λ p. all_seen p live.entries) same ∙ view
+        ∙ nothing-changes live q xs k (put s item) view e
+    by (Some x) e puts = wired x e x.wired refl puts

@@ -1,6 +1,7 @@
 -- How live connections are kept: by number, the numbers by end, and what waits by end.
-use Rattle.std.specs.Prelude.{◌≡◌, ◌⊎◌, ℕ, true, false, Option, Some, IsSome, List}
-use Rattle.std.specs.BTreeMap.{BTreeMap, IsOrdered, get, is_at}
+use Rattle.std.specs.Prelude.{◌≡◌, ◌⊎◌, ℕ, true, false, Option, Some, None, IsSome, List}
+use Rattle.std.specs.Prelude.{if◌then◌else◌, option_and_then}
+use Rattle.std.specs.BTreeMap.{BTreeMap, IsOrdered, get, insert_entry, is_at}
 use Rattle.std.specs.HashMap as map
 use Rattle.std.specs.HashMap.{HashMap}
 use Rattle.std.specs.Map.{set_value}
@@ -9,13 +10,16 @@ use Rattle.std.specs.declared.hash.BuildHasherDefault.{BuildHasherDefault}
 use Rattle.std.specs.declared.hash.FoldHasher.{FoldHasher}
 use Rattle.gb_base.specs.declared.end.End.{End}
 use Rattle.gb_base.specs.declared.end.End.TheVariants as end
+use Rattle.gb_base.specs.declared.end.Side.{Side}
 use Rattle.gb_bus.specs.Connection.{Connection}
+use Rattle.gb_bus.specs.Parts.{new_connection}
 use Rattle.gb_bus.specs.Seen.{alone}
+use Rattle.gb_bus.specs.Sides.{toward}
 use Rattle.gb_bus.specs.declared.connection.Connection as code
 use Rattle.gb_bus.specs.declared.queue.Item.{Item}
 use Rattle.gb_machine.specs.Bus.{same_end}
 use Rattle.gb_switch.specs.Places.{end_cmp}
-use Rattle.gb_switch.specs.Queues.{items_at}
+use Rattle.gb_switch.specs.Queues.{Appends, items_at}
 
 -- the numbers of connections by end
 abbrev pub Ends : Type 0
@@ -24,6 +28,11 @@ Ends = HashMap End ℕ (BuildHasherDefault FoldHasher)
 -- the number of the connection that has an end
 abbrev pub number_at : Ends → End → Option ℕ
 number_at ends at = map.get (eq_by_cmp end_cmp) ends at
+
+-- each end that has a number keeps it
+abbrev pub KeepsNumbers : Ends → Ends → Type 0
+KeepsNumbers old new =
+    (at : End) (k : ℕ) → number_at old at ≡ Some k → number_at new at ≡ Some k
 
 -- an end is one of a connection's
 abbrev pub IsEndOf : End → code.Connection → Type 0
@@ -69,6 +78,25 @@ abbrev pub ChangesBy : BTreeMap ℕ code.Connection → BTreeMap ℕ code.Connec
     → (Connection → Connection → Type 0) → Type 0
 ChangesBy old new k R = (x : code.Connection) → get nat_cmp old k ≡ Some x → ChangesOf old new k R x
 
+-- a new connection has this number
+pub record IsAdded (old new : BTreeMap ℕ code.Connection) (number ap : ℕ) (peer : End)
+    (protocol : ℕ) : Type 0 where
+  pub connection : code.Connection
+  pub is : alone 0 connection ≡ new_connection 0 ap peer protocol
+  pub has : (k : ℕ) → get nat_cmp new k
+      ≡ (if is_at (nat_cmp number) k then Some connection else get nat_cmp old k)
+  pub ordered : IsOrdered nat_cmp new
+  pub entries : new.entries ≡ insert_entry nat_cmp old.entries number connection
+
 -- none changes
 abbrev pub Leaves : BTreeMap ℕ code.Connection → BTreeMap ℕ code.Connection → Type 0
 Leaves old new = new.entries ≡ old.entries
+
+-- the end at a side of the connection with a number, where that is wired
+abbrev pub end_toward : BTreeMap ℕ code.Connection → ℕ → Side → Option End
+end_toward live k at = option_and_then (λ x. toward at (alone 0 x)) (get nat_cmp live k)
+
+-- a message waits behind those at an end, or is lost where there is no end
+abbrev pub AddsAt : Option End → Item → List (End × List Item) → List (End × List Item) → Type 0
+AddsAt None item old new = new ≡ old
+AddsAt (Some at) item old new = Appends (items_at old) (items_at new) at item

@@ -158,7 +158,7 @@ impl Connection {
 
     /// The end at a side, None where it isn't wired.
     #[inline]
-    fn toward(&self, side: Side) -> Option<End>
+    pub fn toward(&self, side: Side) -> Option<End>
         ensures { result ≡ toward side (alone 0 self.now) }
     {
         if self.wired {

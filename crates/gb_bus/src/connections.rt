@@ -37,8 +37,8 @@ ghost use Rattle.gb_bus.specs.Parts.{
 
 use crate::connection::Connection;
 use crate::ends::is_same;
-use crate::queue::{Item, add_ends, ask_item, count};
-use crate::{Known, SendFault, Waiting, live};
+use crate::queue::{Item, add, add_ends, ask_item, count};
+use crate::{Known, SendFault, Waiting, end_numbers, live};
 use gb_base::{End, Numbers, OutOfMemory, Sequence, Side};
 use gb_ops::{Matched, Ops};
 use gb_switch::{Place, Queues};
@@ -111,17 +111,11 @@ impl Connections {
     ) -> Result<(), OutOfMemory>
         ensures { OnOk result (self.new ≡ self.old ++ new_connection number ap peer protocol ∷ []) }
     {
-        let (near, far) = (Place::of(End::Ap(ap)), Place::of(peer));
         if is_same(End::Ap(ap), peer) || !live::is_above(&self.live, number) {
             return Err(OutOfMemory);
         }
-        if self.ends.contains_key(&near) || self.ends.contains_key(&far) {
-            return Err(OutOfMemory);
-        }
-        let connection = Connection::new(alloc, ap, peer, protocol)?;
-        self.ends.insert(near, number)?;
-        self.ends.insert(far, number)?;
-        self.live.insert(number, connection)?;
+        end_numbers::set(&mut self.ends, End::Ap(ap), peer, number)?;
+        live::add(&mut self.live, alloc, number, ap, peer, protocol)?;
         Ok(())
     }
 
@@ -302,6 +296,7 @@ impl Connections {
         self.ends.remove(&Place::of(near));
         self.ends.remove(&Place::of(connection.peer));
         self.queues.destroy(near, connection.peer);
+        drop(connection);
     }
 
     /// A request of a side of a connection is open from now on, unless it is unidirectional, and
@@ -327,10 +322,7 @@ impl Connections {
             return Ok((label, true));
         };
         let item = ask_item(alloc, number, label, kind, payload)?;
-        let pushed = self.queues.push(end, item);
-        if pushed.is_err() {
-            return Err(SendFault::Memory(OutOfMemory));
-        }
+        add(&mut self.queues, Some(end), item)?;
         Ok((label, false))
     }
 
@@ -368,16 +360,8 @@ impl Connections {
     pub fn push(&mut self, k: u64, side: Side, item: Item) -> Result<(), OutOfMemory>
         ensures { OnOk result (self.new ≡ at_first (numbered k) (put side item) self.old) }
     {
-        let Some(connection) = self.live.get(&k) else {
-            return Ok(());
-        };
-        if !connection.wired {
-            return Ok(());
-        }
-        let pushed = self.queues.push(connection.end(side), item);
-        if pushed.is_err() {
-            return Err(OutOfMemory);
-        }
+        let end = live::toward(&self.live, k, side);
+        add(&mut self.queues, end, item)?;
         Ok(())
     }
 

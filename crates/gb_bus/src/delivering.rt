@@ -62,7 +62,9 @@ impl Bus {
         if takes {
             self.arrival(k, side, item)
         } else {
-            Ok(dropped(item))
+            let arrival = dropped(&item);
+            drop(item);
+            Ok(arrival)
         }
     }
 
@@ -278,16 +280,16 @@ impl Bus {
 
 /// What is told of a message that is dropped.
 #[inline]
-fn dropped(item: Item) -> Arrival
-    ensures { result ≡ dropped item }
+fn dropped(item: &Item) -> Arrival
+    ensures { result ≡ dropped item.now }
 {
     match item {
         Item::Ask { number, .. } => Arrival::Dropped {
-            number: Some(number),
+            number: Some(*number),
             reply: false,
         },
         Item::Reply { number, .. } => Arrival::Dropped {
-            number: Some(number),
+            number: Some(*number),
             reply: true,
         },
         Item::Raw { .. } | Item::BadRaw { .. } => Arrival::Dropped {

@@ -6,6 +6,7 @@ mod bus;
 mod connection;
 mod connections;
 mod delivering;
+mod end_numbers;
 mod ends;
 mod giving_up;
 mod listing;

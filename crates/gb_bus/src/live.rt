@@ -1,9 +1,9 @@
 //! What changes of one live connection, by its number.
 
-ghost use Rattle.std.specs.Prelude.{◌≡◌, ◌<◌, ℕ, None, true, false, Err, IsSome};
+ghost use Rattle.std.specs.Prelude.{◌≡◌, ◌<◌, ℕ, None, true, false, Err, IsSome, OnOk, OnErr};
 ghost use Rattle.std.specs.BTreeMap.{get};
 ghost use Rattle.std.specs.Ordering.{nat_cmp};
-ghost use Rattle.gb_bus.specs.Index.{ChangesBy, Leaves};
+ghost use Rattle.gb_bus.specs.Index.{ChangesBy, IsAdded, Leaves, end_toward};
 ghost use Rattle.gb_bus.specs.Parts.{cleared, closed, soiled, with_wire};
 ghost use Rattle.gb_bus.specs.Sides.{AsksOn, GivesUpOn, HasEndsOf, MatchesOn, RespondsOn};
 ghost use Rattle.gb_bus.specs.declared.answers.SendFault.TheVariants as fault;
@@ -11,8 +11,9 @@ ghost use Rattle.gb_ops.specs.declared.entries.Matched.TheVariants as matching;
 
 use crate::SendFault;
 use crate::connection::Connection;
-use gb_base::{End, Side};
+use gb_base::{End, OutOfMemory, Side};
 use gb_ops::Matched;
+use std::alloc::Global;
 use std::collections::BTreeMap;
 
 /// A number is greater than those of all live connections.
@@ -23,6 +24,31 @@ pub fn is_above(live: &BTreeMap<u64, Connection>, number: u64) -> bool
         Some((last, _)) => *last < number,
         None => true,
     }
+}
+
+/// Adds a connection that isn't wired, on which nothing was drawn.
+pub fn add(
+    live: &mut BTreeMap<u64, Connection>,
+    alloc: Global,
+    number: u64,
+    ap: u16,
+    peer: End,
+    protocol: u8,
+) -> Result<(), OutOfMemory>
+    ensures added { OnOk result (IsAdded live.old live.new number ap peer protocol) }
+    ensures unchanged { OnErr result (Leaves live.old live.new) }
+{
+    let connection = Connection::new(alloc, ap, peer, protocol)?;
+    drop(live.insert(number, connection)?);
+    Ok(())
+}
+
+/// The end at a side of a connection that is wired, None where it isn't live and wired.
+#[inline]
+pub fn toward(live: &BTreeMap<u64, Connection>, k: u64, side: Side) -> Option<End>
+    ensures { result ≡ end_toward live.now k side }
+{
+    live.get(&k)?.toward(side)
 }
 
 /// A connection is wired.

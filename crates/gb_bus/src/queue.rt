@@ -1,9 +1,11 @@
 //! What waits in queues.
 
-ghost use Rattle.std.specs.Prelude.{◌≡◌, IfOk, OnOk, length};
+ghost use Rattle.std.specs.Prelude.{◌≡◌, IfOk, OnOk, OnErr, length};
+ghost use Rattle.gb_bus.specs.Index.{AddsAt};
 ghost use Rattle.gb_bus.specs.Parts.{queue_of};
 ghost use Rattle.gb_bus.specs.Seen.{seen};
 ghost use Rattle.gb_bus.specs.Telling.{with_ends};
+ghost use Rattle.gb_switch.specs.Queues.{StaysSame};
 
 use crate::Waiting;
 use crate::connection::Connection;
@@ -81,6 +83,26 @@ pub fn ask_item(
         kind,
         payload: Bytes::from_slice(alloc, payload)?,
     })
+}
+
+/// Adds a message to the queue of an end. It is lost where there is no end. After want of memory
+/// it is lost too, and all else is as before.
+#[inline]
+pub fn add(queues: &mut Queues<Item>, at: Option<End>, item: Item) -> Result<(), OutOfMemory>
+    ensures added { OnOk result (AddsAt at item queues.old queues.new) }
+    ensures unchanged { OnErr result (StaysSame queues.old queues.new) }
+{
+    let Some(at) = at else {
+        drop(item);
+        return Ok(());
+    };
+    match queues.push(at, item) {
+        Ok(()) => Ok(()),
+        Err(item) => {
+            drop(item);
+            Err(OutOfMemory)
+        }
+    }
 }
 
 /// How many messages wait toward a side of a connection.

@@ -76,6 +76,14 @@ impl Slot {
         self.awaited || self.names > 0
     }
 
+    /// It is given up, and ends so. Its identifier stays in use.
+    #[inline]
+    fn give_up(&mut self, how: Outcome)
+        ensures { self.new ≡ record self.old { outcome = Some how } }
+    {
+        self.outcome = Some(how);
+    }
+
     /// It has one more name. Past the most it can count it stays.
     fn add_name(&mut self)
         ensures { self.new ≡ record self.old { names = one_more self.old.names } }
@@ -207,18 +215,21 @@ impl Slots {
         ensures moves { MovesAt n (gives_up_so how) (ended_at n how self.old) self.old self.new }
     {
         let Some(key) = self.places.get(&n).copied() else {
+            drop(how);
             return None;
         };
         let Some(slot) = self.slots.get_mut(key) else {
+            drop(how);
             return None;
         };
         if slot.outcome.is_some() {
+            drop(how);
             return None;
         }
         let deadline = slot.deadline;
         self.deadlines.remove(&(deadline, n));
         self.tally.end(&how);
-        slot.outcome = Some(how);
+        slot.give_up(how);
         Some(key)
     }
 

@@ -1,14 +1,12 @@
 -- The request is made on the connection with the number, and waits where that is wired.
-use Rattle.std.proofs.Common.{Err, OnOk, ap, subst, sym, ◌∙◌}
+use Rattle.std.proofs.Common.{Err, ap, subst, sym, ◌∙◌}
 use Rattle.std.proofs.lemmas.Result.{err_from_is_err_and}
 use Rattle.gb_bus.proofs.Asking.{asks-lost, asks-none, asks-waits}
 use Rattle.gb_bus.proofs.Keeping.{kept-appends, kept-stays}
 use Rattle.gb_bus.proofs.Seeing.{keeps}
-use Rattle.gb_bus.proofs.SeeingQueues.{on-err, on-ok}
 use Rattle.gb_bus.specs.Seen.{all_seen}
 use Rattle.gb_bus.specs.Sides.{AsksIn, AsksOn, HasEndsOf}
-use Rattle.gb_bus.specs.declared.queue.Item.TheVariants as item
-use Rattle.gb_switch.specs.Queues.{Appends, StaysSame, items_at}
+use Rattle.gb_switch.specs.Queues.{Appends, items_at}
 use Rattle.gb_bus.proofs.connections.Connections.ask.Goals as goal
 
 pub invariant_of-self : goal.invariant_of-self
@@ -53,11 +51,10 @@ invariant_of-self-in_err-item c =
     × HasEndsOf x y)
     (λ x y h. h.1) c.ask.ensures.there c.ask.ensures.nowhere c.self.invariant
 
-pub invariant_of-self-then-is_err : goal.invariant_of-self-then-is_err
-invariant_of-self-then-is_err c =
-    kept-stays c.ask.new.live c.self.inside.ends c.self.inside.queues c.push-pushed.new.self
-    (on-err c.push-pushed.result (StaysSame c.self.inside.queues c.push-pushed.new.self)
-    c.is_err.result c.is_err.ensures.value c.if-is_err.true c.push-pushed.ensures.unchanged)
+pub invariant_of-self-in_err-add : goal.invariant_of-self-in_err-add
+invariant_of-self-in_err-add c =
+    kept-stays c.ask.new.live c.self.inside.ends c.self.inside.queues c.add.new.queues
+    c.in_err-add.ensures.unchanged
     (keeps c.self.inside.live c.ask.new.live c.self.inside.ends c.self.inside.queues c.args.k
     (λ x y. AsksOn x y c.args.side c.args.number c.args.deadline c.args.oneway c.ask.result
     × HasEndsOf x y)
@@ -65,15 +62,8 @@ invariant_of-self-then-is_err c =
 
 pub invariant_of-self-2 : goal.invariant_of-self-2
 invariant_of-self-2 c =
-    let ask = item.Ask c.args.number c.in_ok-label.label c.args.kind c.args.payload.now in
-    kept-appends c.ask.new.live c.self.inside.ends c.self.inside.queues c.push-pushed.new.self
-    c.in-Some.end ask
-    (on-ok c.push-pushed.result
-    (Appends (items_at c.self.inside.queues) (items_at c.push-pushed.new.self) c.in-Some.end ask)
-    c.is_err.result c.is_err.ensures.value c.if-is_err.false
-    (subst (λ x. OnOk c.push-pushed.result
-    (Appends (items_at c.self.inside.queues) (items_at c.push-pushed.new.self) c.in-Some.end x))
-    c.in_ok-item.ensures c.push-pushed.ensures.pushed))
+    kept-appends c.ask.new.live c.self.inside.ends c.self.inside.queues c.add.new.queues
+    c.in-Some.end c.in_ok-item.item c.in_ok-add.ensures.added
     (keeps c.self.inside.live c.ask.new.live c.self.inside.ends c.self.inside.queues c.args.k
     (λ x y. AsksOn x y c.args.side c.args.number c.args.deadline c.args.oneway c.ask.result
     × HasEndsOf x y)
@@ -81,15 +71,10 @@ invariant_of-self-2 c =
 
 pub returns : goal.returns
 returns c =
-    let ask = item.Ask c.args.number c.in_ok-label.label c.args.kind c.args.payload.now in
     asks-waits c.self.inside.live c.ask.new.live c.self.inside.ends c.self.inside.queues
-    c.push-pushed.new.self c.args.self.now c.args.k c.args.side c.args.number c.args.kind
+    c.add.new.queues c.args.self.now c.args.k c.args.side c.args.number c.args.kind
     c.args.payload.now c.args.deadline c.args.oneway (c.in_ok-label.label, c.in_ok-label.end)
     c.in-Some.end c.self.invariant c.self.view_is c.in_ok-label.ensures.there
     c.in_ok-label.ensures.none c.in-Some.is
-    (on-ok c.push-pushed.result
-    (Appends (items_at c.self.inside.queues) (items_at c.push-pushed.new.self) c.in-Some.end ask)
-    c.is_err.result c.is_err.ensures.value c.if-is_err.false
-    (subst (λ x. OnOk c.push-pushed.result
-    (Appends (items_at c.self.inside.queues) (items_at c.push-pushed.new.self) c.in-Some.end x))
-    c.in_ok-item.ensures c.push-pushed.ensures.pushed))
+    (subst (λ x. Appends (items_at c.self.inside.queues) (items_at c.add.new.queues) c.in-Some.end
+    x) c.in_ok-item.ensures c.in_ok-add.ensures.added)

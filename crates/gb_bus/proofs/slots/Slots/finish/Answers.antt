@@ -27,5 +27,6 @@ invariant_of-self-2 c =
     let unended : c.in-Some-get_mut.slot.now.outcome ≡ None = search rules in
     ended-kept c.self.inside.slots c.self.inside.places c.self.inside.deadlines
     c.self.inside.tally c.args.n c.in-Some.key c.in-Some-get_mut.slot.now _ c.self.invariant there
-    refl c.remove.new.self unended c.args.how c.remove.result c.end.new.self refl
+    (ap (λ x. x.number) c.give_up.ensures) c.remove.new.self unended c.args.how c.remove.result
+    c.end.new.self (ap (λ x. x.outcome) c.give_up.ensures)
     c.remove.ensures.updates.0 c.remove.ensures.test c.remove.ensures.len c.end.ensures
