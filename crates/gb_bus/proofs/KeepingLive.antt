@@ -3,6 +3,7 @@ use Rattle.std.proofs.Common.{◌≡◌, ◌≢◌, ℕ, Bool, true, false, cond
 use Rattle.std.proofs.Common.{None, refl, sym, ap, ◌∙◌, subst, is_some}
 use Rattle.std.proofs.lemmas.Bool.{cases_eq, true≢false}
 use Rattle.std.specs.BTreeMap.{IsOrdered, get, is_at}
+use Rattle.std.specs.Map.{lookup}
 use Rattle.std.specs.Ordering.{eq_by_cmp, nat_cmp}
 use Rattle.gb_base.specs.declared.end.End.{End}
 use Rattle.gb_base.specs.declared.end.End.TheVariants as end
@@ -112,6 +113,9 @@ kept-more live m n q keeps k = record {
 pub none-there : {A : Type 0} (o : Option A) (b : Bool) → b ≡ is_some o → b ≡ false → o ≡ None
 none-there None b e f = refl
 none-there (Some a) b e f = absurd (true≢false (sym e ∙ f))
+
+pub same-numbers : (m n : Ends) → n.entries ≡ m.entries → KeepsNumbers m n
+same-numbers m n same at k has = ap (lookup (eq_by_cmp end_cmp at)) same ∙ has
 
 -- an end that none has gets a number
 pub keeps-more : (m n : Ends) (p : End) (v : ℕ) → number_at m p ≡ None → Updated m n p (Some v)

@@ -5,7 +5,7 @@ use Rattle.std.specs.List.{filter, list_any}
 use Rattle.gb_bus.proofs.Keeping.{Queues}
 use Rattle.gb_bus.specs.Parts.{is_wired_to}
 use Rattle.gb_bus.specs.Seen.{all_seen, seen}
-use Rattle.gb_bus.specs.Telling.{known_as, waiting_in, with_ends}
+use Rattle.gb_bus.specs.Telling.{known_as, waiting_in, waiting_over, with_ends}
 use Rattle.gb_bus.specs.declared.connection.Connection as code
 use Rattle.gb_bus.specs.declared.telling.Waiting.{Waiting}
 
@@ -37,10 +37,6 @@ all-known q [] = refl
 all-known q (e ∷ es) = ap (λ ks. known_as (seen q e.0 e.1) ∷ ks) (all-known q es)
 
 -- the ends of these are put in order, the last ones first
-abbrev pub waiting_over : Queues → List (ℕ × code.Connection) → List Waiting → List Waiting
-waiting_over q [] ws = ws
-waiting_over q (e ∷ es) ws = with_ends (seen q e.0 e.1) (waiting_over q es ws)
-
 pub waiting-all : (q : Queues) (es : List (ℕ × code.Connection))
     → waiting_over q es [] ≡ waiting_in (all_seen q es)
 waiting-all q [] = refl

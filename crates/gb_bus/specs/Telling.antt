@@ -3,6 +3,9 @@ use Rattle.std.specs.Prelude.{ℕ, ◌==◌, Bool, if◌then◌else◌, List, []
 use Rattle.gb_base.specs.declared.end.End.{End}
 use Rattle.gb_base.specs.declared.end.End.TheVariants as end
 use Rattle.gb_bus.specs.Connection.{Connection}
+use Rattle.gb_bus.specs.Seen.{seen}
+use Rattle.gb_bus.specs.declared.connection.Connection as code
+use Rattle.gb_bus.specs.declared.queue.Item.{Item}
 use Rattle.gb_bus.specs.declared.telling.Known.{Known}
 use Rattle.gb_bus.specs.declared.telling.Waiting.{Waiting}
 use Rattle.gb_machine.specs.Bus as machine
@@ -52,6 +55,12 @@ with_ends x ws =
     if x.wired
     then with_end (end.Ap x.ap) (length x.to_ap) (with_end x.peer (length x.to_far) ws)
     else ws
+
+-- the ends of live connections among others
+abbrev pub waiting_over : List (End × List Item) → List (ℕ × code.Connection) → List Waiting
+    → List Waiting
+waiting_over queues [] ws = ws
+waiting_over queues (e ∷ es) ws = with_ends (seen queues e.0 e.1) (waiting_over queues es ws)
 
 -- the ends at which something waits, in their order
 abbrev pub waiting_in : List Connection → List Waiting

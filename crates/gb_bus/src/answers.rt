@@ -7,7 +7,7 @@ ghost use Rattle.gb_bus.specs.declared.answers.SendFault.TheVariants as send;
 use gb_base::{Bytes, OutOfMemory, RawFault, Side};
 
 /// A request that was made.
-#[derive(Clone, Copy, Debug, PartialEq, Eq)]
+#[derive(Clone, Copy)]
 pub struct Sent {
     /// Its number, from 1.
     pub number: u64,
@@ -18,7 +18,7 @@ pub struct Sent {
 }
 
 /// Why a request isn't made.
-#[derive(Clone, Copy, Debug, PartialEq, Eq)]
+#[derive(Clone, Copy)]
 pub enum SendFault {
     /// No identifier is left on that side of the connection. The bus is as before.
     NoLabel,
@@ -96,7 +96,7 @@ pub enum Arrival {
 }
 
 /// A request that was delivered, as its answer has to name it.
-#[derive(Clone, Copy, Debug, PartialEq, Eq)]
+#[derive(Clone, Copy)]
 pub struct Asked {
     /// Its number, None where it came as raw bytes.
     pub number: Option<u64>,
@@ -107,7 +107,7 @@ pub struct Asked {
 }
 
 /// Where a request was made, and its type.
-#[derive(Clone, Copy, Debug, PartialEq, Eq)]
+#[derive(Clone, Copy)]
 pub struct About {
     /// The connection.
     pub connection: u64,
@@ -118,7 +118,7 @@ pub struct About {
 }
 
 /// Why nothing is delivered.
-#[derive(Clone, Copy, Debug, PartialEq, Eq)]
+#[derive(Clone, Copy)]
 pub enum DeliverFault {
     /// No wired connection names the end. The bus is as before.
     NoConnection,
@@ -137,5 +137,5 @@ impl From<OutOfMemory> for DeliverFault {
 }
 
 /// A request had ended before. The bus is as before.
-#[derive(Clone, Copy, Debug, PartialEq, Eq)]
+#[derive(Clone, Copy)]
 pub struct AlreadyEnded;

@@ -37,7 +37,7 @@ ghost use Rattle.gb_bus.specs.Parts.{
 
 use crate::connection::Connection;
 use crate::ends::is_same;
-use crate::queue::{Item, add, add_ends, ask_item, count};
+use crate::queue::{Item, add, add_all, ask_item, count};
 use crate::{Known, SendFault, Waiting, end_numbers, live};
 use gb_base::{End, Numbers, OutOfMemory, Sequence, Side};
 use gb_ops::{Matched, Ops};
@@ -237,9 +237,7 @@ impl Connections {
         ensures { IfOk result (λ ws. ws ≡ waiting_in self.now) }
     {
         let mut ordered = Sequence::new(alloc);
-        for (_, connection) in self.live.iter().rev() {
-            add_ends(&self.queues, connection, &mut ordered)?;
-        }
+        add_all(&self.queues, &self.live, &mut ordered)?;
         Ok(ordered)
     }
 

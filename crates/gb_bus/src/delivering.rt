@@ -251,6 +251,7 @@ impl Bus {
         let payload = if code == 0 {
             payload
         } else {
+            drop(payload);
             Bytes::new(self.alloc)
         };
         let outcome = Outcome::Answered {

@@ -4,7 +4,7 @@ ghost use Rattle.std.specs.Prelude.{◌≡◌, IfOk, OnOk, OnErr, length};
 ghost use Rattle.gb_bus.specs.Index.{AddsAt};
 ghost use Rattle.gb_bus.specs.Parts.{queue_of};
 ghost use Rattle.gb_bus.specs.Seen.{seen};
-ghost use Rattle.gb_bus.specs.Telling.{with_ends};
+ghost use Rattle.gb_bus.specs.Telling.{waiting_over, with_ends};
 ghost use Rattle.gb_switch.specs.Queues.{StaysSame};
 
 use crate::Waiting;
@@ -13,6 +13,7 @@ use crate::telling::add_end;
 use gb_base::{Bytes, End, OutOfMemory, RawFault, Sequence, Side};
 use gb_switch::Queues;
 use std::alloc::Global;
+use std::collections::BTreeMap;
 
 /// A message in a queue. It carries all that its delivery needs.
 #[derive(Drop)]
@@ -141,4 +142,20 @@ pub fn add_ends(
         count(queues, connection, Side::Ap),
         ordered,
     )
+}
+
+/// Adds the ends of all live connections at which something waits, where they belong in the order in
+/// which queues are settled.
+pub fn add_all(
+    queues: &Queues<Item>,
+    live: &BTreeMap<u64, Connection>,
+    ordered: &mut Sequence<Waiting>,
+) -> Result<(), OutOfMemory>
+    ensures { OnOk result
+        (ordered.new ≡ waiting_over queues.now live.now.entries ordered.old) }
+{
+    for (_, connection) in live.iter().rev() {
+        add_ends(queues, connection, ordered)?;
+    }
+    Ok(())
 }

@@ -164,6 +164,7 @@ impl Slots {
     {
         if oneway {
             self.tally.add(&Some(Outcome::Sent));
+            drop(slot);
             return Ok(());
         }
         self.open(slot)

@@ -9,7 +9,7 @@ use gb_base::Outcome;
 
 /// How many requests were made, and how many of these stand in each way. Each request is counted
 /// once behind the first field.
-#[derive(Clone, Copy, Debug, PartialEq, Eq)]
+#[derive(Clone, Copy)]
 pub struct Tally {
     /// Requests of both sides.
     pub requests: u64,

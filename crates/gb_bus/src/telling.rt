@@ -12,7 +12,7 @@ use crate::ends::is_before;
 use gb_base::{End, OutOfMemory, Sequence};
 
 /// A live connection, as it is told.
-#[derive(Clone, Copy, Debug, PartialEq, Eq)]
+#[derive(Clone, Copy)]
 pub struct Known {
     /// Its number, from 1.
     pub number: u64,
@@ -27,7 +27,7 @@ pub struct Known {
 }
 
 /// An end at which messages wait.
-#[derive(Clone, Copy, Debug, PartialEq, Eq)]
+#[derive(Clone, Copy)]
 pub struct Waiting {
     /// The end.
     pub at: End,
