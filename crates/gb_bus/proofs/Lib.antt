@@ -46,6 +46,7 @@ pub mod SlotLaws
 pub mod SlotLists
 pub mod SlotMaps
 pub mod SlotNew
+pub mod SlotOver
 pub mod Standing
 pub mod Taken
 pub mod Tellings

@@ -78,7 +78,7 @@ pub record IsThere (s : Slab Slot) (p : Places) (n key : ℕ) (slot : Slot) : Ty
   pub place : map.get eqb p n ≡ Some key
   pub stands : slab.get s key ≡ Some slot
 
-is-found : (s : Slab Slot) (p : Places) (n key : ℕ) (slot : Slot) → IsThere s p n key slot
+pub is-found : (s : Slab Slot) (p : Places) (n key : ℕ) (slot : Slot) → IsThere s p n key slot
     → found s p n ≡ Some slot
 is-found s p n key slot i = found-at s p n key (Some slot) i.place i.stands
 
