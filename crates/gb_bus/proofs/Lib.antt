@@ -11,6 +11,7 @@ pub mod Endings
 pub mod Entries
 pub mod Expiring
 pub mod Finding
+pub mod First
 pub mod Injects
 pub mod Keeping
 pub mod KeepingLive

@@ -1,7 +1,6 @@
 -- What is seen of the live connections where a queue changes.
 use Rattle.std.proofs.Common.{◌≡◌, ℕ, Bool, true, false, cond, Option, Some, None, option_and_then}
-use Rattle.std.proofs.Common.{Result, Ok, Err, OnErr, OnOk, is_err, List, [], ◌∷◌, ◌++◌, refl, sym}
-use Rattle.std.proofs.Common.{ap, ◌∙◌, subst}
+use Rattle.std.proofs.Common.{List, [], ◌∷◌, ◌++◌, refl, sym, ap, ◌∙◌, subst}
 use Rattle.std.proofs.lemmas.Bool.{true≢false}
 use Rattle.std.proofs.lemmas.Map.Steps.{set_value_same}
 use Rattle.std.specs.BTreeMap.{get, is_at}
@@ -25,18 +24,6 @@ use Rattle.gb_bus.specs.declared.queue.Item.{Item}
 use Rattle.gb_machine.specs.Lists.{at_first, behind_first, first}
 use Rattle.gb_switch.specs.Lines.{has_items}
 use Rattle.gb_switch.specs.Queues.{Appends, Puts, TakesAs, items_at}
-
--- ---- results
-
-pub on-err : {A E : Type 0} (r : Result A E) (P : Type 0) (b : Bool) → b ≡ is_err r → b ≡ true
-    → OnErr r P → P
-on-err (Ok a) P b e t h = absurd (true≢false (sym t ∙ e))
-on-err (Err x) P b e t h = h
-
-pub on-ok : {A E : Type 0} (r : Result A E) (P : Type 0) (b : Bool) → b ≡ is_err r → b ≡ false
-    → OnOk r P → P
-on-ok (Ok a) P b e t h = h
-on-ok (Err x) P b e t h = absurd (true≢false (sym e ∙ t))
 
 -- ---- queues
 

@@ -1,6 +1,6 @@
 -- What an end does to a request, by whether it is open.
-use Rattle.std.proofs.Common.{◌≡◌, ℕ, Bool, true, false, cond, Option, Some, None, eqb, refl, sym}
-use Rattle.std.proofs.Common.{ap, ◌∙◌, is_some}
+use Rattle.std.proofs.Common.{◌≡◌, ◌≢◌, ℕ, Bool, true, false, cond, Option, Some, None, eqb, refl}
+use Rattle.std.proofs.Common.{sym, ap, ◌∙◌, is_some, not}
 use Rattle.std.specs.BTreeSet.{BTreeSet}
 use Rattle.std.specs.HashMap as map
 use Rattle.std.specs.Option.{is_none, option_and_then}
@@ -32,6 +32,16 @@ open-there s p t n key slot x view there =
 pub none-where : (o : Option Outcome) (b : Bool) → b ≡ is_some o → b ≡ true → is_none o ≡ false
 none-where None b e f = absurd (cc (sym f ∙ e))
 none-where (Some x) b e f = refl
+
+pub none-by : (o : Option Outcome) (b : Bool) → is_some o ≡ not b → is_none o ≡ b
+none-by None true e = refl
+none-by None false e = absurd (cc e)
+none-by (Some x) true e = absurd (cc e)
+none-by (Some x) false e = refl
+
+pub some-where : (o : Option Outcome) (b : Bool) → is_some o ≡ not b → b ≡ false → o ≢ None
+some-where None b e f n = absurd (cc (ap is_none (sym n) ∙ none-by None b e ∙ f))
+some-where (Some x) b e f n = absurd (cc n)
 
 -- ---- what becomes of it
 

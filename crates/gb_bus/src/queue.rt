@@ -144,8 +144,8 @@ pub fn add_ends(
     )
 }
 
-/// Adds the ends of all live connections at which something waits, where they belong in the order in
-/// which queues are settled.
+/// Adds the ends of all live connections at which something waits, where they belong in the order
+/// in which queues are settled.
 pub fn add_all(
     queues: &Queues<Item>,
     live: &BTreeMap<u64, Connection>,

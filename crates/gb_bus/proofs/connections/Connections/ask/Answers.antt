@@ -40,8 +40,9 @@ invariant_of-self-in_default c =
 pub returns-in_default : goal.returns-in_default
 returns-in_default c =
     asks-lost c.self.inside.live c.ask.new.live c.self.inside.ends c.self.inside.queues
-    c.args.self.now c.args.k c.args.side c.args.number c.args.kind c.args.payload.now c.args.deadline
-    c.args.oneway (c.in_ok-label.label, c.in_ok-label.end) c.self.invariant c.self.view_is
+    c.args.self.now c.args.k c.args.side c.args.number c.args.kind c.args.payload.now
+    c.args.deadline c.args.oneway (c.in_ok-label.label, c.in_ok-label.end) c.self.invariant
+    c.self.view_is
     c.in_ok-label.ensures.there c.in_ok-label.ensures.none c.in_default.is
 
 pub invariant_of-self-in_err-item : goal.invariant_of-self-in_err-item
