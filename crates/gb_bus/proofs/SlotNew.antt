@@ -15,8 +15,8 @@ use Rattle.gb_bus.proofs.SlotMaps.{found, found-at, none-some, other-number}
 use Rattle.gb_bus.proofs.SlotMaps.{same-number, same_some, time-here, time-others}
 use Rattle.gb_bus.proofs.SlotKept.{TimesAt, all-placed, kept-from}
 use Rattle.gb_bus.specs.Counting.{counted_once, with_one}
-use Rattle.gb_bus.specs.Keeping.{IsKept, Places, by_deadline, kept_in, waits_until}
-use Rattle.gb_bus.specs.Slots.{Opens}
+use Rattle.gb_bus.specs.Keeping.{IsKept, Places, by_deadline, waits_until}
+use Rattle.gb_bus.specs.Slots.{Kept, MakesAs, key_at}
 use Rattle.gb_bus.specs.declared.slots.Slot.{Slot}
 use Rattle.gb_bus.specs.declared.tally.Tally.{Tally}
 
@@ -156,8 +156,11 @@ module _ (s : Slab Slot) (p : Places) (d : BTreeSet (ℕ × ℕ)) (t : Tally) (s
             ∙ sym (ap (λ b. cond b (waits_until c (Some slot)) (contains by_deadline d (c, m)))
             (other-number m slot.number ne)))
 
-    pub opened : Opens slot (kept_in s p t) (kept_in s2 p2 (with_one None t))
-    opened = record { at = opens; tally_is = refl }
+-- a request that isn't unidirectional is in the slot that came next
+pub placed : (oneway : Bool) (slot : Slot) (old new : Kept) → MakesAs oneway slot old new
+    → oneway ≡ false → key_at new slot.number ≡ Some old.next
+placed false slot old new made e = made.placed
+placed true slot old new made e = absurd (cc e)
 
 -- ---- results
 

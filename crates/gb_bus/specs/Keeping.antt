@@ -25,8 +25,12 @@ Places = HashMap ℕ ℕ (BuildHasherDefault FoldHasher)
 
 -- what is kept
 abbrev pub kept_in : Slab Slot → Places → Tally → Kept
-kept_in slots places tally =
-    record { slots = slots.slots; places = places.entries; tally = tally }
+kept_in slots places tally = record {
+  slots = slots.slots;
+  places = places.entries;
+  next = slots.vacant_key;
+  tally = tally;
+}
 
 -- a slot is that of an open request with this deadline
 abbrev pub waits_until : ℕ → Option Slot → Bool

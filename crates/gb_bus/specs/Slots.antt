@@ -15,10 +15,12 @@ use Rattle.gb_bus.specs.declared.tally.Tally.{Tally}
 use Rattle.gb_machine.specs.Members.{Each}
 use Rattle.gb_machine.specs.Requests.{same_side}
 
--- What is kept: slots by key, keys by number, and the counts of all requests that were made.
+-- What is kept: slots by key, keys by number, the key of the slot that the next request gets, and
+-- the counts of all requests that were made.
 pub record Kept : Type 0 where
   pub slots : List (Option Slot)
   pub places : List (ℕ × ℕ)
+  pub next : ℕ
   pub tally : Tally
 
 -- the slot under a key
@@ -98,9 +100,10 @@ pub record MovesAt (n : ℕ) (change : Slot → Option Slot) (tally : Tally) (ol
   pub at : ChangesAt n change old new
   pub tally_is : new.tally ≡ tally
 
--- an open request is kept, which wasn't
+-- an open request is kept, which wasn't, in the slot that came next
 pub record Opens (slot : Slot) (old new : Kept) : Type 0 where
   pub at : (m : ℕ) → slot_at new m ≡ (if m == slot.number then Some slot else slot_at old m)
+  pub placed : key_at new slot.number ≡ Some old.next
   pub tally_is : new.tally ≡ with_one None old.tally
 
 -- a unidirectional request is counted, and nothing is kept of it

@@ -1,8 +1,9 @@
 //! The bus: requests and replies are sent.
 
-ghost use Rattle.std.specs.Prelude.{◌≡◌, OnOk, IsErrOf};
+ghost use Rattle.std.specs.Prelude.{◌≡◌, Some, false, IfOk, OnOk, IsErrOf};
 ghost use Rattle.gb_machine.specs.Bus as machine;
 ghost use Rattle.gb_machine.specs.Sending.{draft};
+ghost use Rattle.gb_bus.specs.Slots.{key_at};
 ghost use Rattle.gb_bus.specs.Taking.{reply_item};
 
 use crate::ends::other_side;
@@ -32,6 +33,8 @@ impl Bus {
         ensures step { (around : Around) (b : machine.Bus) → Stands around self.old b
             → SendsAs around self.new (draft k side kind payload.now deadline oneway) b result }
         ensures unchanged { IsErrOf result SendFault.NoLabel → self.new ≡ self.old }
+        ensures placed { IfOk result (λ made. oneway ≡ false
+            → key_at self.new.slots made.number ≡ Some self.old.slots.next) }
     {
         let Some(number) = self.slots.count().checked_add(1) else {
             return Err(SendFault::Memory(OutOfMemory));

@@ -2,6 +2,7 @@
 
 ghost use Rattle.std.specs.Prelude.{
   ◌≡◌,
+  ◌≢◌,
   ◌+◌,
   ℕ,
   Some,
@@ -360,9 +361,11 @@ impl Slots {
         least
     }
 
-    /// The key of the next slot.
-    #[cfg(test)]
-    pub fn next_key(&self) -> usize {
+    /// The key of the slot that the next request gets. No request has it.
+    pub fn next_key(&self) -> usize
+        ensures next { result ≡ self.now.next }
+        ensures free { (n : ℕ) → key_at self.now n ≢ Some result }
+    {
         self.slots.vacant_key()
     }
 }

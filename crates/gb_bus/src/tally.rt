@@ -1,8 +1,9 @@
 //! How many requests there are, and how they stand.
 
-ghost use Rattle.std.specs.Prelude.{◌≡◌, ◌<◌, ◌≤◌};
+ghost use Rattle.std.specs.Prelude.{◌≡◌, ◌≢◌, ℕ, ◌<◌, ◌≤◌, Some};
 ghost use Rattle.gb_machine.specs.Bus as machine;
 ghost use Rattle.gb_bus.specs.Counting.{Tells, counted_once, no_requests, one_ended, with_one};
+ghost use Rattle.gb_bus.specs.Slots.{key_at};
 
 use crate::Bus;
 use gb_base::Outcome;
@@ -86,5 +87,14 @@ impl Bus {
             → Tells result b }
     {
         self.slots.tally()
+    }
+
+    /// The key of the slot that the next request gets. A slot is used again once nothing asks for
+    /// its request.
+    pub fn next_slot(&self) -> usize
+        ensures next { result ≡ self.now.slots.next }
+        ensures free { (n : ℕ) → key_at self.now.slots n ≢ Some result }
+    {
+        self.slots.next_key()
     }
 }

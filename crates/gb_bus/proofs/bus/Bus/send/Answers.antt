@@ -2,6 +2,7 @@
 use Rattle.std.proofs.Common.{Err, None, true, ap, refl, rules, subst, sym, ◌∙◌}
 use Rattle.std.proofs.lemmas.Result.{err_from_is_err_and}
 use Rattle.gb_bus.proofs.Sends.{sends, sends_none}
+use Rattle.gb_bus.proofs.SlotNew.{placed}
 use Rattle.gb_bus.specs.Sending.{SendsAs}
 use Rattle.gb_bus.specs.Stands.{kept}
 use Rattle.gb_machine.specs.Sending.{draft, requested}
@@ -26,3 +27,6 @@ returns-clause-step c = λ around b s.
     (kept c.in-Some.number true 0 None (requested (draft c.args.k c.args.side
     c.args.kind c.args.payload.now c.args.deadline c.args.oneway) c.in_ok-label.label)) _ _ s
     (search rules) c.in_ok-label.ensures refl c.in_ok-add.ensures
+
+pub returns-clause-placed : goal.returns-clause-placed
+returns-clause-placed c = λ once. placed c.args.oneway _ _ _ c.in_ok-add.ensures once
