@@ -1,20 +1,22 @@
 -- What the maps and the identifiers come to at each call.
-use Rattle.std.proofs.Common.{◌≡◌, ℕ, Bool, false, Option, Some, None, is_some, List}
+use Rattle.std.proofs.Common.{◌≡◌, ℕ, Bool, false, Option, Some, None, is_some, List, Result, Ok, Err}
 use Rattle.std.proofs.Common.{option_map, refl, sym, ap, ◌∙◌, subst, arith}
 use Rattle.std.specs.BTreeMap.{get, is_at}
 use Rattle.std.specs.Map.{lookup}
 use Rattle.std.specs.Ordering.{nat_cmp}
-use Rattle.std.specs.Prelude.{nat_eq}
-use Rattle.gb_labels.specs.Drawing.{Frees, IsNext, Takes}
+use Rattle.std.specs.Prelude.{is_none, nat_eq}
+use Rattle.std.specs.Result.{is_err}
+use Rattle.gb_labels.specs.Drawing.{Frees, IsNext, NextAs, Takes}
 use Rattle.gb_labels.specs.LabelSet.{LabelSet, next_of}
+use Rattle.gb_labels.specs.declared.labels.NoLabel.{NoLabel}
 use Rattle.gb_machine.specs.Labels.{free_label, greatest_label, label_after}
 use Rattle.gb_ops.proofs.Keeping.{begun, late_holder, left, open_holder}
 use Rattle.gb_ops.proofs.Maps.{same_some}
-use Rattle.gb_ops.specs.Calls.{Begins, Closes, Ends}
+use Rattle.gb_ops.specs.Calls.{Begins, Closes, Ends, Refuses}
 use Rattle.gb_ops.specs.Finding.{IsLeast}
 use Rattle.gb_ops.specs.Operations.{Operations, Puts, next_label}
-use Rattle.gb_ops.specs.Tables.{AllCovered, Enters, Kept, Leaves, LeavesAs, MarksAs, ReleasesAs}
-use Rattle.gb_ops.specs.Tables.{gave_up, holder_in, pending_in}
+use Rattle.gb_ops.specs.Tables.{AllCovered, Enters, IsUnchanged, Kept, Leaves, LeavesAs, MarksAs}
+use Rattle.gb_ops.specs.Tables.{ReleasesAs, gave_up, holder_in, pending_in}
 use Rattle.gb_ops.specs.declared.entries.Holder.{Holder}
 use Rattle.gb_ops.specs.declared.entries.Pending.{Pending}
 use Rattle.gb_ops.specs.declared.tables.Tables.{Tables}
@@ -29,9 +31,24 @@ next_same : (labels : LabelSet) (t : Tables) → Kept labels t
     → next_of labels ≡ next_label (view labels t)
 next_same labels t k = λ i. free_label (λ l. k.used l i) greatest_label (label_after labels.last)
 
+-- the identifier that is drawn next, as contracts see it
+pub next_seen : (labels : LabelSet) (t : Tables) (x : Operations) → Kept labels t → view labels t ≡ x
+    → next_of labels ≡ next_label x
+next_seen labels t x k is = next_same labels t k ∙ ap next_label is
+
+-- whether no identifier is left
+pub spent : (labels : LabelSet) (t : Tables) (x : Operations) (r : Result ℕ NoLabel)
+    → Kept labels t → view labels t ≡ x → NextAs labels r → is_err r ≡ is_none (next_label x)
+spent labels t x (Ok label) k is next = ap is_none (sym next.next ∙ next_seen labels t x k is)
+spent labels t x (Err why) k is none = ap is_none (sym none.next ∙ next_seen labels t x k is)
+
 none_from : {A : Type 0} (o : Option A) → is_some o ≡ false → o ≡ None
 none_from None e = λ i. None
 none_from (Some a) e = absurd (cc e)
+
+-- how an open request is found by its number
+abbrev by_number : ℕ → ℕ → Bool
+by_number n = is_at (nat_cmp n)
 
 -- ---- a request is begun
 
@@ -55,6 +72,40 @@ begun_kept labels after t u label n d b k next known shut e w =
     (none_from (holder_in t label) (sym (k.used label) ∙ next.unused))
     (none_from (pending_in t n) (sym known ∙ shut)) e w
 
+-- ---- no memory was found for a request
+
+pub refuses : (labels : LabelSet) (t u : Tables) (x : Operations) (label : ℕ) → Kept labels t
+    → view labels t ≡ x → IsNext labels label → IsUnchanged t u → Refuses x (view labels u)
+refuses labels t u x label k is next same = record {
+  label = label;
+  next = sym (next_seen labels t x k is) ∙ next.next;
+  same = holders ∙ pending ∙ is;
+}
+  where
+    holders : view labels u ≡ record (view labels t) { pending = u.pending.entries }
+    holders =
+        ap (λ (es : List (ℕ × Holder)). record (view labels u) { holders = es }) same.holders
+
+    pending : record (view labels t) { pending = u.pending.entries } ≡ view labels t
+    pending =
+        ap (λ (es : List (ℕ × Pending)). record (view labels t) { pending = es }) same.pending
+
+pub refused_kept : (labels : LabelSet) (t u : Tables) → Kept labels t → IsUnchanged t u
+    → Kept labels u
+refused_kept labels t u k same = record {
+  used = λ l. k.used l ∙ ap is_some (ap (lookup (nat_eq l)) (sym same.holders));
+  held = λ n p h.
+      ap (lookup (nat_eq p.label)) same.holders
+      ∙ k.held n p (ap (lookup (by_number n)) (sym same.pending) ∙ h);
+  opened = λ l n h.
+      ap (λ (es : List (ℕ × Pending)). option_map (λ p. p.label) (lookup (by_number n) es))
+      same.pending
+      ∙ k.opened l n (ap (lookup (nat_eq l)) (sym same.holders) ∙ h);
+  covered = λ n p h.
+      let least = k.covered n p (ap (lookup (by_number n)) (sym same.pending) ∙ h) in
+      omega (arith, least, same.soonest);
+}
+
 -- ---- an open request is over or given up
 
 -- an open request is open no more, and its identifier has this
@@ -63,10 +114,6 @@ pub record Departs (t u : Tables) (n : ℕ) (p : Pending) (w : Option Holder) : 
   pub pending : Puts (pending_in t) (pending_in u) n None
   pub holder : Puts (holder_in t) (holder_in u) p.label w
   pub covered : AllCovered t → AllCovered u
-
--- how an open request is found by its number
-abbrev by_number : ℕ → ℕ → Bool
-by_number n = is_at (nat_cmp n)
 
 -- the same through maps with the same entries
 puts_from : {X : Type 0} (at : ℕ → ℕ → Bool) (f : ℕ → Option X) (es fs : List (ℕ × X)) (k : ℕ)

@@ -3,7 +3,7 @@
 use gb_base::OutOfMemory;
 
 /// What an identifier is in use for.
-#[derive(Clone, Copy, Debug, PartialEq, Eq)]
+#[derive(Clone, Copy)]
 pub struct Holder {
     /// The number of its request.
     pub number: u64,
@@ -12,7 +12,7 @@ pub struct Holder {
 }
 
 /// An open request.
-#[derive(Clone, Copy, Debug, PartialEq, Eq)]
+#[derive(Clone, Copy)]
 pub struct Pending {
     /// Its identifier.
     pub label: u16,
@@ -21,7 +21,7 @@ pub struct Pending {
 }
 
 /// The request that an answer belongs to.
-#[derive(Clone, Copy, Debug, PartialEq, Eq)]
+#[derive(Clone, Copy, PartialEq, Eq)]
 pub enum Matched {
     /// The open request with this number.
     Open(u64),
@@ -32,7 +32,7 @@ pub enum Matched {
 }
 
 /// Why a request isn't begun.
-#[derive(Clone, Copy, Debug, PartialEq, Eq)]
+#[derive(Clone, Copy, PartialEq, Eq)]
 pub enum BeginFault {
     /// All 65,535 identifiers are in use.
     NoLabel,
