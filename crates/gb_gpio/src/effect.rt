@@ -4,7 +4,7 @@ use crate::line::Line;
 use gb_bridge_payload::GpioReply;
 
 /// What a request does that is served.
-#[derive(Clone, Copy, Debug, PartialEq, Eq)]
+#[derive(Clone, Copy)]
 pub enum Effect {
     /// The line of this number changes, and is then this one.
     Changes(u8, Line),

@@ -6,7 +6,7 @@ ghost use Rattle.gb_gpio.specs.Views.{irq_code};
 
 /// When a new level of a line is an interrupt (in Linux's greybus_protocols.h
 /// `GB_GPIO_IRQ_TYPE_..`).
-#[derive(Clone, Copy, Debug, PartialEq, Eq)]
+#[derive(Clone, Copy)]
 pub enum Irq {
     /// Never, 0.
     None,

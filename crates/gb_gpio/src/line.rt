@@ -9,7 +9,7 @@ use crate::irq::Irq;
 use gb_bridge_payload::INVALID;
 
 /// A line.
-#[derive(Clone, Copy, Debug, PartialEq, Eq)]
+#[derive(Clone, Copy)]
 pub struct Line {
     /// It can be used.
     pub active: bool,

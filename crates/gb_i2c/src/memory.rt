@@ -11,7 +11,7 @@ use std::marker::Model;
 const SIZE: usize = 256;
 
 /// A memory of 256 bytes with a pointer, as in an EEPROM with addresses of one byte.
-#[derive(Clone, Copy, Debug, PartialEq, Eq)]
+#[derive(Clone, Copy)]
 pub struct Memory {
     bytes: [u8; SIZE],
     pointer: u8,

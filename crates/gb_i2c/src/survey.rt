@@ -12,7 +12,7 @@ use gb_bridge_payload::{INVALID, MOST_PAYLOAD, NONEXISTENT, OVERFLOW, TransferOp
 const ADDRESS: u16 = 0x50;
 
 /// What is asked of the ops of a transfer.
-#[derive(Clone, Copy, Debug, PartialEq, Eq)]
+#[derive(Clone, Copy)]
 struct Survey {
     /// One has a flag word other than 0 and 1.
     strange: bool,

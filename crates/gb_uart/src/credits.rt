@@ -10,11 +10,11 @@ use std::marker::Model;
 const MOST_CREDITS: u16 = 4096;
 
 /// More bytes would be sent than there are credits. None were spent.
-#[derive(Clone, Copy, Debug, PartialEq, Eq)]
+#[derive(Clone, Copy, PartialEq, Eq)]
 pub struct NoCredit;
 
 /// The credits would pass 4,096. None were added.
-#[derive(Clone, Copy, Debug, PartialEq, Eq)]
+#[derive(Clone, Copy, PartialEq, Eq)]
 pub struct TooMany;
 
 /// How many bytes may still be sent to a UART before it gives more credits, 4,096 at most. It gives
