@@ -1,8 +1,9 @@
 -- Marks of the CPorts that connections have.
 use Rattle.std.proofs.Common.{◌≡◌, ◌==◌, ◌<◌, ◌≤◌, ◌+◌, ◌-◌, ◌||◌, ℕ, suc, Bool, true, false}
 use Rattle.std.proofs.Common.{cond, List, [], ◌∷◌, Some, None, get_or, refl, sym, ap, ◌∙◌}
-use Rattle.std.proofs.Common.{arith, subst}
+use Rattle.std.proofs.Common.{arith, length, replicate, subst}
 use Rattle.std.proofs.lemmas.Bool.Decides.{nat_tests}
+use Rattle.std.proofs.lemmas.List.{get_or-replicate, length-replicate}
 use Rattle.std.specs.List.{list_any}
 use Rattle.gb_base.specs.declared.peers.Link.{Link}
 use Rattle.gb_host.proofs.Free.{free-here, free-none, free-past}
@@ -79,3 +80,22 @@ pub least-none : (x : Cports) (ls : List Link) → Marks x ls → 4096 ≤ x.lea
 least-none x ls marks over =
     sym (least-past x ls (4096 - x.least) marks refl
     ∙ free-none (λ a. list_any (λ l. l.ap == a) ls) (4096 - x.least) x.least (omega (arith, over)))
+
+-- where none is marked, no connection has one
+pub marks-none : (x : Cports) (n : ℕ) → n ≡ 4096 → x.taken.items ≡ replicate n false
+    → x.least ≡ 1 → Marks x []
+marks-none x n all none least = record {
+  long = ap length none ∙ length-replicate n false ∙ all;
+  each = λ a below. unmarked a below;
+  least = record {
+    from-1 = omega (arith, least);
+    within = omega (arith, least);
+    before = λ a from below. absurd (omega (arith, from, below, least));
+    here = λ below. unmarked x.least below;
+  };
+}
+  where
+    unmarked : (a : ℕ) → a < 4096 → get_or x.taken.items a false ≡ false
+    unmarked a below =
+        ap (λ (marks : List Bool). get_or marks a false) none
+        ∙ get_or-replicate n a false false (omega (arith, below, all))

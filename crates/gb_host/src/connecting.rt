@@ -1,9 +1,14 @@
 //! Connecting a CPort, and closing a connection.
 
-ghost use Rattle.std.specs.Prelude.{◌≡◌, ◌++◌, IfOk, option_and_then, option_map};
+ghost use Rattle.std.specs.Prelude.{◌≡◌, ◌∷◌, ◌++◌, [], IfOk, OnOk, Some, option_and_then};
+ghost use Rattle.std.specs.Prelude.{option_map};
+ghost use Rattle.gb_base.specs.declared.entry.ConnState.TheVariants as state;
+ghost use Rattle.gb_host.specs.Turning.{left_acts, spelled};
+ghost use Rattle.gb_machine.specs.Failures as told;
 ghost use Rattle.gb_machine.specs.Host.{cport_of, interface_of, link_at};
 ghost use Rattle.gb_machine.specs.HostTurns.{host_connects, host_disconnects};
 ghost use Rattle.gb_machine.specs.Sequences.{link_closed, link_left, link_opened};
+ghost use Rattle.gb_machine.specs.Turns as turns;
 ghost use Rattle.gb_manifest.specs.Values.{view_of};
 
 use crate::failing::link_told;
@@ -14,7 +19,7 @@ use gb_manifest::CportView;
 
 impl Host {
     ghost use Rattle.gb_host.specs.Stands.{host_of};
-    ghost use Rattle.gb_host.specs.Turning.{TurnsAfter, left_acts, spelled};
+    ghost use Rattle.gb_host.specs.Turning.{TurnsAfter};
 
     /// The connect sequence of a CPort begins.
     pub(crate) fn connect(&mut self, acts: Acts, intf: u8, cport: u16) -> Result<Acts, OutOfMemory>
@@ -60,10 +65,7 @@ impl Host {
             return Ok(acts);
         };
         let mut acts = acts;
-        acts.push(Act::Shut {
-            connection: link.connection,
-        })?;
-        acts.push(link_told(link, ConnState::Closing))?;
+        begin_close(&mut acts, link)?;
         let purpose = Purpose {
             intf,
             cport,
@@ -103,10 +105,30 @@ impl Host {
             return Ok(acts);
         };
         let mut acts = acts;
-        acts.push(Act::Leave {
-            connection: link.connection,
-        })?;
-        acts.push(link_told(link, ConnState::Closed))?;
+        leave(&mut acts, link)?;
         Ok(acts)
     }
+}
+
+/// A connection is shut, and told to be closing.
+fn begin_close(acts: &mut Acts, link: Link) -> Result<(), OutOfMemory>
+    ensures { OnOk result (acts.new ≡ acts.old ++ spelled
+        (turns.Act.Shut link.connection ∷ turns.Act.Tell (told.link_told state.Closing link) ∷ [])) }
+{
+    acts.push(Act::Shut {
+        connection: link.connection,
+    })?;
+    acts.push(link_told(link, ConnState::Closing))?;
+    Ok(())
+}
+
+/// A connection is given up, and told to be closed.
+pub(crate) fn leave(acts: &mut Acts, link: Link) -> Result<(), OutOfMemory>
+    ensures { OnOk result (acts.new ≡ acts.old ++ spelled (left_acts (Some link))) }
+{
+    acts.push(Act::Leave {
+        connection: link.connection,
+    })?;
+    acts.push(link_told(link, ConnState::Closed))?;
+    Ok(())
 }

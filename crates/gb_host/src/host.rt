@@ -10,7 +10,7 @@ use gb_base::{ConnState, Interface, IntfStage, OutOfMemory};
 use std::alloc::Global;
 
 /// What the application processor tells of an interface.
-#[derive(Clone, Copy, Debug, PartialEq, Eq)]
+#[derive(Clone, Copy)]
 pub struct IntfView {
     /// Its stage.
     pub stage: IntfStage,
@@ -19,7 +19,7 @@ pub struct IntfView {
 }
 
 /// A connection that is to be made. Its number comes with `made`, and its far end with the purpose.
-#[derive(Clone, Copy, Debug, PartialEq, Eq)]
+#[derive(Clone, Copy)]
 pub struct Pending {
     /// The CPort of the application processor.
     pub ap: u16,

@@ -23,7 +23,7 @@ const LEAST_DEVICE: u8 = 2;
 const DEVICES_END: u8 = 32;
 
 /// A change of what is known of an interface.
-#[derive(Clone, Copy, Debug, PartialEq, Eq)]
+#[derive(Clone, Copy)]
 pub enum Change {
     /// It is to have a device id, or none.
     Device(Option<u8>),

@@ -12,7 +12,7 @@ use gb_base::{ConnState, Link, OutOfMemory, Purpose, SequenceStep};
 use std::alloc::Global;
 
 /// A change of a connection.
-#[derive(Clone, Copy, Debug, PartialEq, Eq)]
+#[derive(Clone, Copy)]
 pub enum LinkChange {
     /// It has a state from now on.
     State(ConnState),

@@ -22,7 +22,7 @@ use std::alloc::Global;
 const AP: u8 = 1;
 
 /// What the requests of a sequence speak of.
-#[derive(Clone, Copy, Debug, PartialEq, Eq)]
+#[derive(Clone, Copy)]
 pub struct Target {
     /// The interface, 2 to 31.
     pub intf: u8,

@@ -5,9 +5,10 @@ ghost use Rattle.std.specs.List.{filter};
 ghost use Rattle.gb_host.specs.Turning.{spelled};
 ghost use Rattle.gb_machine.specs.HostTurns.{host_removed, links_left, links_of};
 
-use crate::failing::{link_told, tell_interface};
+use crate::connecting::leave;
+use crate::failing::tell_interface;
 use crate::{Act, Acts, Host};
-use gb_base::{ConnState, IntfStage, Link, OutOfMemory};
+use gb_base::{IntfStage, Link, OutOfMemory};
 
 impl Host {
     ghost use Rattle.gb_host.specs.Stands.{host_of};
@@ -32,14 +33,14 @@ impl Host {
     {
         let mut acts = acts;
         for link in self.links.items() {
-            leave(&mut acts, *link, intf)?;
+            close(&mut acts, *link, intf)?;
         }
         Ok(acts)
     }
 }
 
 /// A connection is closed and given up, where it is one of the interface.
-fn leave(acts: &mut Acts, link: Link, intf: u8) -> Result<(), OutOfMemory>
+fn close(acts: &mut Acts, link: Link, intf: u8) -> Result<(), OutOfMemory>
     ensures { OnOk result (acts.new ≡ acts.old
         ++ spelled (links_left (filter (λ l. l.intf == intf) (link ∷ [])))) }
 {
@@ -49,9 +50,6 @@ fn leave(acts: &mut Acts, link: Link, intf: u8) -> Result<(), OutOfMemory>
     acts.push(Act::Shut {
         connection: link.connection,
     })?;
-    acts.push(Act::Leave {
-        connection: link.connection,
-    })?;
-    acts.push(link_told(link, ConnState::Closed))?;
+    leave(acts, link)?;
     Ok(())
 }

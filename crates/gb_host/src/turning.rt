@@ -1,6 +1,7 @@
 //! What the application processor does at what it takes notice of.
 
-ghost use Rattle.std.specs.Prelude.{◌≡◌, None};
+ghost use Rattle.std.specs.Prelude.{◌≡◌, ◌≢◌, None};
+ghost use Rattle.gb_base.specs.declared.steps.SequenceStep.TheVariants as steps;
 ghost use Rattle.gb_machine.specs.Host as machine;
 ghost use Rattle.gb_machine.specs.HostTurns.{host_ended, host_turn};
 ghost use Rattle.gb_machine.specs.Sequences.{payload_in, step_answered, step_done};
@@ -83,6 +84,23 @@ impl Host {
         ensures { TurnsAfter (step_done purpose.step purpose payload (host_of self.old)) acts
             self.old self.new result }
     {
+        if purpose.step == SequenceStep::AskManifest {
+            return self.manifest_told(acts, purpose, payload);
+        }
+        self.done_by_reading(acts, purpose, payload.items())
+    }
+
+    /// What follows a step whose answer is only read: any but that for the manifest, which is kept.
+    fn done_by_reading(
+        &mut self,
+        acts: Acts,
+        purpose: Purpose,
+        payload: &[u8],
+    ) -> Result<Acts, OutOfMemory>
+        requires { purpose.step ≢ steps.AskManifest }
+        ensures { TurnsAfter (step_done purpose.step purpose payload.now (host_of self.old)) acts
+            self.old self.new result }
+    {
         match purpose.step {
             SequenceStep::EnableVsys => self.go_on(acts, purpose, SequenceStep::EnableRefclk),
             SequenceStep::EnableRefclk => self.go_on(acts, purpose, SequenceStep::EnableUnipro),
@@ -92,8 +110,8 @@ impl Host {
             SequenceStep::CreateRoute => self.begin_control(acts, purpose),
             SequenceStep::CreateControl => self.control_opened(acts, purpose),
             SequenceStep::AskVersion => self.go_on(acts, purpose, SequenceStep::AskSize),
-            SequenceStep::AskSize => self.size_told(acts, purpose, payload.items()),
-            SequenceStep::AskManifest => self.manifest_told(acts, purpose, payload),
+            SequenceStep::AskSize => self.size_told(acts, purpose, payload),
+            SequenceStep::AskManifest => unreachable!(),
             SequenceStep::CreateConnection => {
                 self.go_on(acts, purpose, SequenceStep::TellConnected)
             }
