@@ -4,8 +4,9 @@ ghost use Rattle.std.specs.Prelude.{◌≡◌, ◌<◌, true, length, IfOk, IfEr
 ghost use Rattle.gb_bridge_payload.specs.Views.{gpio_ask_of};
 ghost use Rattle.gb_formats.specs.GpioDevice.{AtLine, GpioLine, at_line, gpio_asked, if_active};
 ghost use Rattle.gb_formats.specs.Results.{nonexistent, refuses};
-ghost use Rattle.gb_gpio.specs.Views.{IsWithin, gpio_line_of, lines_of, step_of};
+ghost use Rattle.gb_gpio.specs.Views.{IsWithin, change_of, gpio_line_of, lines_of, step_of};
 
+use crate::change::Change;
 use crate::effect::Effect::{self, Changes, Tells};
 use crate::line::Line;
 use gb_bridge_payload::{GpioAsk, GpioReply, INVALID, NONEXISTENT, PROTOCOL_BAD};
@@ -27,30 +28,33 @@ pub fn decide(lines: &[Line], ask: GpioAsk) -> Result<Effect, u8>
             let direction = active_at(lines, which)?.direction();
             Ok(Tells(GpioReply::GetDirection { direction }))
         }
-        GpioAsk::DirectionIn { which } => Ok(Changes(which, active_at(lines, which)?.turned_in())),
-        GpioAsk::DirectionOut { which, value } => {
-            Ok(Changes(which, active_at(lines, which)?.turned_out(value)?))
-        }
+        GpioAsk::DirectionIn { which } => change_at(lines, which, Change::In),
+        GpioAsk::DirectionOut { which, value } => change_at(lines, which, Change::Out(value)),
         GpioAsk::GetValue { which } => {
             let value = active_at(lines, which)?.seen();
             Ok(Tells(GpioReply::GetValue { value }))
         }
-        GpioAsk::SetValue { which, value } => {
-            Ok(Changes(which, active_at(lines, which)?.given(value)?))
-        }
+        GpioAsk::SetValue { which, value } => change_at(lines, which, Change::Value(value)),
         GpioAsk::SetDebounce {
             which,
             microseconds,
-        } => Ok(Changes(which, active_at(lines, which)?.debounced(microseconds))),
-        GpioAsk::IrqType { which, kind } => {
-            Ok(Changes(which, active_at(lines, which)?.interrupted_by(kind)?))
-        }
-        GpioAsk::IrqMask { which } => Ok(Changes(which, active_at(lines, which)?.with_mask(true))),
-        GpioAsk::IrqUnmask { which } => {
-            Ok(Changes(which, active_at(lines, which)?.with_mask(false)))
-        }
+        } => change_at(lines, which, Change::Debounce(microseconds)),
+        GpioAsk::IrqType { which, kind } => change_at(lines, which, Change::Irq(kind)),
+        GpioAsk::IrqMask { which } => change_at(lines, which, Change::Mask(true)),
+        GpioAsk::IrqUnmask { which } => change_at(lines, which, Change::Mask(false)),
         GpioAsk::IrqEvent { .. } => Err(PROTOCOL_BAD),
     }
+}
+
+/// What a change does at the line of this number, or the result of its refusal.
+fn change_at(lines: &[Line], which: u8, change: Change) -> Result<Effect, u8>
+    ensures step { at_line (lines_of lines.now) which (change_of change)
+        ≡ step_of (lines_of lines.now) result }
+    ensures within { IfOk result (λ effect. IsWithin effect (length lines.now)) }
+{
+    let found = active_at(lines, which)?;
+    let line = found.changed(change)?;
+    Ok(Changes(which, line))
 }
 
 /// The line of this number. NONEXISTENT above the last.

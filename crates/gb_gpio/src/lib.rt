@@ -2,6 +2,7 @@
 #![tactic(auto)]
 
 mod bridging;
+mod change;
 mod deciding;
 mod device;
 mod effect;

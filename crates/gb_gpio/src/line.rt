@@ -3,8 +3,9 @@
 ghost use Rattle.std.specs.Prelude.{◌≡◌, true};
 ghost use Rattle.gb_formats.specs.GpioDevice.{direction_of, direction_out, first_line, is_irq};
 ghost use Rattle.gb_formats.specs.GpioDevice.{restarted_line, set_irq, set_value, value_of};
-ghost use Rattle.gb_gpio.specs.Views.{at_line_of, gpio_line_of};
+ghost use Rattle.gb_gpio.specs.Views.{at_line_of, change_of, gpio_line_of};
 
+use crate::change::Change;
 use crate::irq::Irq;
 use gb_bridge_payload::INVALID;
 
@@ -65,6 +66,21 @@ impl Line {
         ensures { gpio_line_of result ≡ restarted_line (gpio_line_of self) }
     {
         Line::first(self.level)
+    }
+
+    /// The line after a change. INVALID where the change can't be made.
+    pub fn changed(self, change: Change) -> Result<Line, u8>
+        requires { self.active ≡ true }
+        ensures { change_of change (gpio_line_of self) ≡ at_line_of result }
+    {
+        match change {
+            Change::In => Ok(self.turned_in()),
+            Change::Out(value) => self.turned_out(value),
+            Change::Value(value) => self.given(value),
+            Change::Debounce(microseconds) => Ok(self.debounced(microseconds)),
+            Change::Irq(code) => self.interrupted_by(code),
+            Change::Mask(masked) => Ok(self.with_mask(masked)),
+        }
     }
 
     /// The line with its direction in.
