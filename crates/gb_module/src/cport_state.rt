@@ -1,7 +1,7 @@
 //! The states of a CPort.
 
 /// The state of a module's CPort (Greybus Specification, "Control Protocol").
-#[derive(Clone, Copy, Debug, PartialEq, Eq)]
+#[derive(Clone, Copy, PartialEq, Eq)]
 pub enum CportState {
     /// It isn't connected.
     Off,

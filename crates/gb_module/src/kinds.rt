@@ -1,8 +1,9 @@
 //! The manifests of the kinds.
 
-ghost use Rattle.std.specs.Prelude.{◌≡◌, ◌++◌, IfOk, OnOk, map};
+ghost use Rattle.std.specs.Prelude.{◌≡◌, ◌∷◌, [], ◌++◌, IfOk, OnOk, map};
 ghost use Rattle.gb_formats.specs.Kinds as formats;
-ghost use Rattle.gb_manifest.specs.Writes.{cport_spec, spec_of};
+ghost use Rattle.gb_formats.specs.Protocols.{bridged_class, control_class};
+ghost use Rattle.gb_manifest.specs.Writes.{bundle_spec, cport_spec, spec_of, string_spec};
 
 use crate::protocols::{BRIDGED_CLASS, CONTROL, CONTROL_CLASS, GPIO, I2C, SPI, UART};
 use gb_base::{Bytes, Kind, OutOfMemory};
@@ -28,15 +29,43 @@ pub fn manifest(alloc: Global, kind: Kind) -> Result<Bytes, OutOfMemory>
 fn spec(alloc: Global, kind: Kind) -> Result<ManifestSpec, OutOfMemory>
     ensures { IfOk result (λ spec. spec_of spec ≡ formats.kind_spec kind) }
 {
+    Ok(ManifestSpec {
+        minor: 1,
+        vendor: 1,
+        product: 2,
+        features: 0,
+        strings: strings(alloc, kind)?,
+        bundles: bundles(alloc)?,
+        cports: cports(alloc, kind)?,
+    })
+}
+
+/// String 1, the vendor, and string 2, the product.
+fn strings(alloc: Global, kind: Kind) -> Result<Strings, OutOfMemory>
+    ensures { IfOk result
+        (λ strings. map string_spec strings ≡ (formats.kind_spec kind).strings) }
+{
     let mut strings = Strings::new(alloc);
-    strings.push(StringSpec {
-        id: 1,
-        bytes: Bytes::from_slice(alloc, b"Greybus")?,
-    })?;
-    strings.push(StringSpec {
-        id: 2,
-        bytes: Bytes::from_slice(alloc, product(kind))?,
-    })?;
+    strings.push(string(alloc, 1, b"Greybus")?)?;
+    strings.push(string(alloc, 2, product(kind))?)?;
+    Ok(strings)
+}
+
+/// A string with an id.
+fn string(alloc: Global, id: u8, bytes: &[u8]) -> Result<StringSpec, OutOfMemory>
+    ensures { IfOk result (λ string. string_spec string ≡ formats.string_of id bytes.now) }
+{
+    Ok(StringSpec {
+        id,
+        bytes: Bytes::from_slice(alloc, bytes)?,
+    })
+}
+
+/// Bundle 0, for Control, and bundle 1.
+fn bundles(alloc: Global) -> Result<Bundles, OutOfMemory>
+    ensures { IfOk result (λ bundles. map bundle_spec bundles
+        ≡ formats.bundle_of 0 control_class ∷ formats.bundle_of 1 bridged_class ∷ []) }
+{
     let mut bundles = Bundles::new(alloc);
     bundles.extend(&[
         BundleSpec {
@@ -48,15 +77,7 @@ fn spec(alloc: Global, kind: Kind) -> Result<ManifestSpec, OutOfMemory>
             class: BRIDGED_CLASS,
         },
     ])?;
-    Ok(ManifestSpec {
-        minor: 1,
-        vendor: 1,
-        product: 2,
-        features: 0,
-        strings,
-        bundles,
-        cports: cports(alloc, kind)?,
-    })
+    Ok(bundles)
 }
 
 /// The product string of a kind.

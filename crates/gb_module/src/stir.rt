@@ -3,7 +3,7 @@
 use gb_base::OutOfMemory;
 
 /// What comes to a device of a module from outside.
-#[derive(Clone, Copy, Debug, PartialEq, Eq)]
+#[derive(Clone, Copy)]
 pub enum Stir {
     /// A GPIO line has another level.
     Level {
@@ -20,7 +20,7 @@ pub enum Stir {
 }
 
 /// Why a module isn't stirred.
-#[derive(Clone, Copy, Debug, PartialEq, Eq)]
+#[derive(Clone, Copy)]
 pub enum StirFault {
     /// The module has no such device at the CPort.
     NoCport,

@@ -1,7 +1,7 @@
 //! How the state of a CPort changes.
 
 /// A change of a CPort's state (Greybus Specification, "Control Protocol").
-#[derive(Clone, Copy, Debug, PartialEq, Eq)]
+#[derive(Clone, Copy)]
 pub enum Turn {
     /// From off to on, which puts its device in its first state.
     Connected,
