@@ -20,7 +20,7 @@ const GREATEST_DEVICE: u8 = 31;
 
 /// The power levels and device ids of interfaces. Modules are plugged at interfaces 2 to 31. At any
 /// other nothing is plugged.
-#[derive(Clone, Copy, Debug, PartialEq, Eq)]
+#[derive(Clone, Copy)]
 pub struct Ladder {
     ports: [Option<Port>; INTERFACES],
 }

@@ -21,7 +21,7 @@ const CPORTS: u32 = 65_536;
 /// An end, in the order in which queues are settled: the supervisory controller, then the CPorts of
 /// the application processor by number, then those of modules by interface and CPort. A contract
 /// sees the end.
-#[derive(Clone, Copy, Debug)]
+#[derive(Clone, Copy)]
 pub struct Place {
     /// 0 for the supervisory controller, 1 + A for CPort A of the application processor, and
     /// 65,537 + 65,536 I + C for CPort C at interface I, so that places are compared in one step.

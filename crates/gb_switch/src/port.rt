@@ -4,7 +4,7 @@ ghost use Rattle.std.specs.Prelude.{◌≡◌, ◌==◌};
 ghost use Rattle.gb_switch.specs.Levels.{level_number, raised_to};
 
 /// How far the power sequence of a plugged interface has come.
-#[derive(Clone, Copy, Debug, PartialEq, Eq)]
+#[derive(Clone, Copy)]
 pub enum Level {
     /// Its power is off.
     Off,
@@ -40,7 +40,7 @@ impl Level {
 }
 
 /// A plugged interface.
-#[derive(Clone, Copy, Debug, PartialEq, Eq)]
+#[derive(Clone, Copy)]
 pub struct Port {
     /// How far its power sequence has come.
     pub level: Level,

@@ -2,7 +2,7 @@
 
 /// A rung of the power sequence: what the application processor asks for an interface (Greybus
 /// Specification, "SVC Protocol"; in Linux's greybus_protocols.h `GB_SVC_TYPE_INTF_..`).
-#[derive(Clone, Copy, Debug, PartialEq, Eq)]
+#[derive(Clone, Copy, Debug)]
 pub enum Rung {
     /// Its power. Something has to be plugged.
     Vsys,
@@ -19,7 +19,7 @@ pub enum Rung {
 }
 
 /// Why an interface doesn't climb a rung.
-#[derive(Clone, Copy, Debug, PartialEq, Eq)]
+#[derive(Clone, Copy, PartialEq, Eq)]
 pub enum NotReady {
     /// What comes before the rung isn't done, or a route leads to a device id that the interface
     /// hasn't.
@@ -29,5 +29,5 @@ pub enum NotReady {
 }
 
 /// The interface has no route.
-#[derive(Clone, Copy, Debug, PartialEq, Eq)]
+#[derive(Clone, Copy, PartialEq, Eq)]
 pub struct NotRouted;
