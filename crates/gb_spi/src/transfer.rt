@@ -89,16 +89,29 @@ impl Progress {
         ensures read { OnOk result (self.new.read.items
             ≡ self.old.read.items ++ entry_read_bytes self.old.last (entry_of entry) bytes.now) }
     {
+        self.read_entry(entry, bytes)?;
+        let (written, later) = bytes.split_at(entry.written_size() as usize);
+        if let Some(last) = written.last() {
+            self.last = *last;
+        }
+        Ok(later)
+    }
+
+    /// Adds what an entry reads. `bytes` begin with those that it writes.
+    fn read_entry(&mut self, entry: TransferEntry, bytes: &[u8]) -> Result<(), OutOfMemory>
+        requires written { entry_written_size (entry_of entry) ≤ length bytes.now }
+        requires room { length self.old.read.items + entry_read_size (entry_of entry)
+            ≤ most_payload }
+        ensures last { self.new.last ≡ self.old.last }
+        ensures read { OnOk result (self.new.read.items
+            ≡ self.old.read.items ++ entry_read_bytes self.old.last (entry_of entry) bytes.now) }
+    {
         let size = entry.read_size() as usize;
         if entry.writes() {
             self.read.extend_from_slice(&bytes[..size])?;
         } else {
             self.read.resize(self.read.len() + size, self.last)?;
         }
-        let (written, later) = bytes.split_at(entry.written_size() as usize);
-        if let Some(last) = written.last() {
-            self.last = *last;
-        }
-        Ok(later)
+        Ok(())
     }
 }
