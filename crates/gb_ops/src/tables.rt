@@ -143,17 +143,24 @@ impl Tables {
         ensures sorted { IfOk result (λ ns. IsStrictlySortedBy nat_cmp ns) }
         ensures unique { IsUnique nat_eq self.now.holders }
     {
+        let found = self.given_up(alloc)?;
+        let numbers = listed(alloc, &found)?;
+        Ok(numbers)
+    }
+
+    /// The numbers of the requests that were given up and have an identifier.
+    fn given_up(&self, alloc: Global) -> Result<BTreeSet<u64>, OutOfMemory>
+        ensures found { IfOk result
+            (λ found. found.keys ≡ late_among [] self.now.holders.entries) }
+        ensures unique { IsUnique nat_eq self.now.holders }
+    {
         let mut found = BTreeSet::new(alloc);
         for (_, holder) in &self.holders {
             if holder.given_up {
                 found.insert(holder.number)?;
             }
         }
-        let mut numbers = Numbers::new(alloc);
-        for number in &found {
-            numbers.push(*number)?;
-        }
-        Ok(numbers)
+        Ok(found)
     }
 
     /// The open request with the least number whose deadline came.
@@ -178,4 +185,16 @@ impl Tables {
         }
         None
     }
+}
+
+/// The numbers of a set, in order.
+fn listed(alloc: Global, found: &BTreeSet<u64>) -> Result<Numbers, OutOfMemory>
+    ensures numbers { IfOk result (λ ns. ns ≡ found.now.keys) }
+    ensures sorted { IfOk result (λ ns. IsStrictlySortedBy nat_cmp ns) }
+{
+    let mut numbers = Numbers::new(alloc);
+    for number in found {
+        numbers.push(*number)?;
+    }
+    Ok(numbers)
 }
