@@ -1,6 +1,7 @@
 //! The CPorts of a manifest.
 
-ghost use Rattle.std.specs.Prelude.{◌≡◌, IfOk};
+ghost use Rattle.std.specs.Prelude.{◌≡◌, ◌∷◌, ◌++◌, IfOk, List, OnOk};
+ghost use Rattle.gb_formats.specs.Descriptors as descriptors;
 ghost use Rattle.gb_formats.specs.Manifest.{check_answer};
 ghost use Rattle.gb_formats.specs.Module.{ports_in, raw_ports};
 ghost use Rattle.gb_manifest.specs.Values.{descriptor_of};
@@ -31,11 +32,25 @@ fn ports_in(alloc: Global, descriptors: Descriptors<'_>) -> Result<Vec<Port>, Ou
 {
     let mut ports = Vec::new(alloc);
     for descriptor in descriptors {
-        if let Some(port) = port_of(alloc, &descriptor)? {
-            ports.push(port)?;
-        }
+        add_port(alloc, &descriptor, &mut ports)?;
     }
     Ok(ports)
+}
+
+/// The CPort that a descriptor declares is added, if that stands outside bundle 0 and has a device.
+fn add_port(
+    alloc: Global,
+    descriptor: &Descriptor<'_>,
+    ports: &mut Vec<Port>,
+) -> Result<(), OutOfMemory>
+    ensures { OnOk result ((later : List descriptors.Descriptor)
+        → ports.new.items ++ ports_in later
+        ≡ ports.old.items ++ ports_in (descriptor_of descriptor.now ∷ later)) }
+{
+    if let Some(port) = port_of(alloc, descriptor)? {
+        ports.push(port)?;
+    }
+    Ok(())
 }
 
 /// The CPort that a descriptor declares, if that stands outside bundle 0 and has a device.
