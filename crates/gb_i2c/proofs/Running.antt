@@ -1,12 +1,13 @@
 -- Ops, one after the other.
-use Rattle.std.proofs.Common.{◌≡◌, ◌<◌, ◌+◌, ◌-◌, ℕ, Bool, true, false, List, ◌∷◌, ◌++◌, length}
-use Rattle.std.proofs.Common.{take, drop, sum_by, refl, arith, ap, ap₂, sym, ◌∙◌, length-drop}
-use Rattle.std.proofs.Common.{length-take, take_all, if◌then◌else◌}
+use Rattle.std.proofs.Common.{◌≡◌, ◌<◌, ◌≤◌, ◌+◌, ◌-◌, ℕ, Bool, true, false, List, ◌∷◌, ◌++◌}
+use Rattle.std.proofs.Common.{length, take, drop, sum_by, refl, arith, ap, ap₂, sym, ◌∙◌}
+use Rattle.std.proofs.Common.{length-drop, length-take, take_all, if◌then◌else◌}
 use Rattle.std.proofs.lemmas.List.Sums.{sum_by-cons}
 use Rattle.gb_formats.specs.I2cDevice.{I2cDevice, after_op, after_read, after_write, op_read_bytes}
 use Rattle.gb_formats.specs.I2cDevice.{ops_run}
 use Rattle.gb_formats.specs.I2cRecords.{TransferOp, op_at, op_reads, op_size, op_written_size}
 use Rattle.gb_formats.specs.I2cRecords.{ops_at}
+use Rattle.gb_formats.specs.Results.{tells}
 use Rattle.gb_i2c.proofs.Surveys.{ops_next, ops_left}
 use Rattle.gb_i2c.specs.Counted.{AreCounted}
 
@@ -79,3 +80,12 @@ runs_more count counter device now later ops data_bytes old rest left new rest' 
           ∙ ap (ops_run now left new) (sym (ops_next count counter rest h))
           ∙ r.runs;
     }
+
+-- no op is left
+pub runs_all : (count counter : ℕ) (device now : I2cDevice)
+    (ops data_bytes old rest left new : List ℕ) → count ≤ counter
+    → Runs count counter device ops data_bytes old now rest left new
+    → ops_run device data_bytes old (ops_at count ops) ≡ tells now new
+runs_all count counter device now ops data_bytes old rest left new done r =
+    let none : count - counter ≡ 0 = omega (arith, done) in
+    sym r.runs ∙ ap (λ (n : ℕ). ops_run now left new (ops_at n rest)) none

@@ -1,7 +1,26 @@
-use Rattle.std.proofs.Common.{rules}
+use Rattle.std.proofs.Common.{arith, rules}
 use Rattle.gb_bridge_payload.specs.Views.{op_of}
-use Rattle.gb_i2c.proofs.Running.{runs_more}
+use Rattle.gb_i2c.proofs.Running.{enough, runs_all, runs_more}
 use Rattle.gb_i2c.proofs.transfer.run.Goals as goal
+
+pub first-requires : goal.first-requires
+first-requires c =
+    let counted = c.loop.invariant.counted.whole in omega (arith, counted, c.loop-test.true)
+
+pub split_at-requires : goal.split_at-requires
+split_at-requires c =
+    let room = enough c.args.count c.loop.counter c.loop.ops.now c.loop.bytes.now
+    (op_of c.first.result.0) c.loop-test.true c.first.ensures.op c.loop.invariant.counted in
+    omega (arith, room, c.written_size.ensures)
+
+pub apply-requires : goal.apply-requires
+apply-requires c = omega (arith, c.split_at.ensures.front_len, c.written_size.ensures)
+
+pub returns : goal.returns
+returns c =
+    runs_all c.args.count c.loop.counter c.args.memory.now c.loop.memory c.args.ops.now
+    c.args.bytes.now c.args.answer.now c.loop.ops.now c.loop.bytes.now c.loop.answer
+    c.loop-test.false c.loop.invariant
 
 pub loop-preserved : goal.loop-preserved
 loop-preserved c =
