@@ -112,8 +112,8 @@ impl Host {
 
 /// A connection is shut, and told to be closing.
 fn begin_close(acts: &mut Acts, link: Link) -> Result<(), OutOfMemory>
-    ensures { OnOk result (acts.new ≡ acts.old ++ spelled
-        (turns.Act.Shut link.connection ∷ turns.Act.Tell (told.link_told state.Closing link) ∷ [])) }
+    ensures { OnOk result (acts.new ≡ acts.old ++ spelled (turns.Act.Shut link.connection
+        ∷ turns.Act.Tell (told.link_told state.Closing link) ∷ [])) }
 {
     acts.push(Act::Shut {
         connection: link.connection,

@@ -20,7 +20,7 @@ pub enum Stir {
 }
 
 /// Why a module isn't stirred.
-#[derive(Clone, Copy)]
+#[derive(Clone, Copy, Debug)]
 pub enum StirFault {
     /// The module has no such device at the CPort.
     NoCport,

@@ -1,6 +1,6 @@
 -- What the maps and the identifiers come to at each call.
-use Rattle.std.proofs.Common.{◌≡◌, ℕ, Bool, false, Option, Some, None, is_some, List, Result, Ok, Err}
-use Rattle.std.proofs.Common.{option_map, refl, sym, ap, ◌∙◌, subst, arith}
+use Rattle.std.proofs.Common.{◌≡◌, ℕ, Bool, false, Option, Some, None, is_some, List, Result}
+use Rattle.std.proofs.Common.{Ok, Err, option_map, refl, sym, ap, ◌∙◌, subst, arith}
 use Rattle.std.specs.BTreeMap.{get, is_at}
 use Rattle.std.specs.Map.{lookup}
 use Rattle.std.specs.Ordering.{nat_cmp}
@@ -32,8 +32,8 @@ next_same : (labels : LabelSet) (t : Tables) → Kept labels t
 next_same labels t k = λ i. free_label (λ l. k.used l i) greatest_label (label_after labels.last)
 
 -- the identifier that is drawn next, as contracts see it
-pub next_seen : (labels : LabelSet) (t : Tables) (x : Operations) → Kept labels t → view labels t ≡ x
-    → next_of labels ≡ next_label x
+pub next_seen : (labels : LabelSet) (t : Tables) (x : Operations) → Kept labels t
+    → view labels t ≡ x → next_of labels ≡ next_label x
 next_seen labels t x k is = next_same labels t k ∙ ap next_label is
 
 -- whether no identifier is left
