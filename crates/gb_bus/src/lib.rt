@@ -18,8 +18,6 @@ mod sending;
 mod slots;
 mod tally;
 mod telling;
-#[cfg(test)]
-mod tests;
 mod wiring;
 
 pub use answers::{About, AlreadyEnded, Arrival, Arrived, Asked, DeliverFault, SendFault, Sent};

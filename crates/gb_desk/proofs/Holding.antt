@@ -68,6 +68,17 @@ same_ticket t u is =
 is_same : (t : Ticket) → (t.slot == t.slot && t.number == t.number) ≡ true
 is_same t = grind (arith, nat_tests)
 
+pub fewer_first : (t : Ticket) (ts : List Ticket) → fewer t (t ∷ ts) ≡ ts
+fewer_first t ts = ap (λ b. if b then ts else t ∷ fewer t ts) (is_same t)
+
+pub fewer_second : (t u : Ticket) (ts : List Ticket) → fewer t (u ∷ t ∷ ts) ≡ u ∷ ts
+fewer_second t u ts = by (u.slot == t.slot && u.number == t.number) refl
+  where
+    by : (b : Bool) → (u.slot == t.slot && u.number == t.number) ≡ b
+        → (if b then t ∷ ts else u ∷ fewer t (t ∷ ts)) ≡ u ∷ ts
+    by true is = ap (λ (k : Ticket). k ∷ ts) (same_ticket t u is)
+    by false is = ap (λ ks. u ∷ ks) (fewer_first t ts)
+
 pub fewer_in : (t u : Ticket) (ts : List Ticket) → IsIn u (fewer t ts) → IsIn u ts
 fewer_in t u [] i = i
 fewer_in t u (k ∷ ks) i = by (k.slot == t.slot && k.number == t.number) i (fewer_in t u ks)

@@ -7,10 +7,6 @@ mod pass;
 mod seat;
 mod slots;
 mod stored;
-#[cfg(test)]
-mod tests;
-#[cfg(test)]
-mod thread_tests;
 mod ticket;
 mod view;
 

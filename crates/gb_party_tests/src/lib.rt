@@ -1,7 +1,18 @@
-//! Tests of the parties and of what the bus is made of, by their public calls alone: that memory is
-//! found, and that what was built does what the contracts say.
+//! Tests of the parties, of the bus and what it is made of, and of the desk, by their public calls
+//! alone: that memory is found, that what was built does what the contracts say, and that threads
+//! share a desk at once.
 #![tactic(auto)]
 
+#[cfg(test)]
+mod bus;
+#[cfg(test)]
+mod bus_acts;
+#[cfg(test)]
+mod bus_injected;
+#[cfg(test)]
+mod desk;
+#[cfg(test)]
+mod desk_threads;
 #[cfg(test)]
 mod host;
 #[cfg(test)]

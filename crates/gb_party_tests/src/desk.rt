@@ -1,14 +1,15 @@
 //! One thread with several passes. The counts of entries are worked by hand.
 
-ghost use Rattle.std.specs.Prelude.{◌≡◌, ◌<◌, [], ◌∷◌, false, true, Some};
+ghost use Rattle.std.specs.Prelude.{◌≡◌, ◌<◌, List, [], ◌∷◌, false, true, Some};
 ghost use Rattle.gb_desk.specs.Passes.{IsAsBefore, IsOf, known};
 ghost use Rattle.gb_desk.specs.Rules.{all_parts};
+ghost use Rattle.gb_desk.specs.declared.ticket.Ticket.{Ticket};
 ghost use Rattle.gb_formats.specs.ValidEvents.{IsName, IsValid};
 ghost use Rattle.gb_laws.specs.Tickets.{asks};
 ghost use Rattle.gb_machine.specs.Members.{IsIn};
 
-use crate::{Desk, DeskFault, Opened, Pass, Ticket, Told};
 use gb_base::{Bytes, End, Event, Journal, Name, Word};
+use gb_desk::{Desk, DeskFault, Opened, Pass, Ticket, Told};
 use gb_system::System;
 use std::alloc::Global;
 use std::process::Abort;
@@ -131,12 +132,25 @@ fn opens(rt: &impl Abort, alloc: Global, desk: &Desk, pass: &mut Pass, name: Nam
     requires own { IsOf desk.now pass.old }
     requires named { IsName name }
     ensures own { IsOf desk.now pass.new }
+    ensures parts { (known pass.new).parts ≡ (known pass.old).parts }
     ensures tickets { (known pass.new).tickets ≡ result ∷ (known pass.old).tickets }
 {
     match desk.open_request(pass, 1, &ping(alloc, name)) {
         Ok(opened) => ticket(rt, opened),
         Err(_) => panic!(rt; "not opened"),
     }
+}
+
+/// The ticket that came last is given back.
+fn gives_back(desk: &Desk, pass: &mut Pass, t: Ticket)
+    requires own { IsOf desk.now pass.old }
+    requires held { IsIn t (known pass.old).tickets }
+    ensures own { IsOf desk.now pass.new }
+    ensures parts { (known pass.new).parts ≡ (known pass.old).parts }
+    ensures tickets { (ts : List Ticket) → (known pass.old).tickets ≡ t ∷ ts
+        → (known pass.new).tickets ≡ ts }
+{
+    desk.release(pass, t);
 }
 
 /// All slots are taken.
@@ -147,7 +161,7 @@ fn is_full(rt: &impl Abort, alloc: Global, desk: &Desk, pass: &mut Pass)
 {
     match desk.open_request(pass, 1, &ping(alloc, name(rt, 0, b"y"))) {
         Ok(opened) => {
-            let Ticket { slot: _, number: _ } = ticket(rt, opened);
+            gives_back(desk, pass, ticket(rt, opened));
             panic!(rt; "opened")
         }
         Err(DeskFault::Full) => {}
@@ -178,31 +192,6 @@ fn tells(rt: &impl Abort, desk: &Desk, pass: &mut Pass, t: &Ticket, want: Option
     }
 }
 
-/// The desk goes with tickets that nobody gives back.
-fn abandon(desk: Desk, pass: Pass)
-    requires own { IsOf desk pass }
-{
-    let Desk { table } = desk;
-    let Pass {
-        seat,
-        parts: _,
-        tickets: _,
-    } = pass;
-    let mut closed = table.close_with(seat);
-    drop(closed.take(0));
-    closed.free();
-}
-
-/// Pings of 254 callers are opened, and their tickets are kept.
-fn fills(rt: &impl Abort, alloc: Global, desk: &Desk, pass: &mut Pass)
-    requires own { IsOf desk.now pass.old }
-    ensures own { IsOf desk.now pass.new }
-{
-    for who in 2..=255 {
-        let Ticket { slot: _, number: _ } = opens(rt, alloc, desk, pass, name(rt, who, b"x"));
-    }
-}
-
 /// All slots are taken, also once the first request ended. The second is open until it is
 /// cancelled.
 fn stays_full(rt: &impl Abort, alloc: Global, desk: &Desk, pass: &mut Pass, two: &Ticket)
@@ -219,28 +208,55 @@ fn stays_full(rt: &impl Abort, alloc: Global, desk: &Desk, pass: &mut Pass, two:
     tells(rt, desk, pass, two, Some(Told::Cancelled));
 }
 
-/// A slot is used again once its ticket is given back.
+/// The slot of the ticket that came before the last is used again once it is given back.
 fn used_again(rt: &impl Abort, alloc: Global, desk: &Desk, pass: &mut Pass, one: Ticket)
     requires own { IsOf desk.now pass.old }
     requires first { IsIn one (known pass.old).tickets }
     ensures own { IsOf desk.now pass.new }
+    ensures parts { (known pass.new).parts ≡ (known pass.old).parts }
+    ensures tickets { (two : Ticket) (ts : List Ticket)
+        → (known pass.old).tickets ≡ two ∷ one ∷ ts → (known pass.new).tickets ≡ two ∷ ts }
 {
     desk.release(pass, one);
-    let Ticket { slot: _, number } = opens(rt, alloc, desk, pass, name(rt, 0, b"y"));
-    assert_eq!(rt; number, 257);
+    let next = opens(rt, alloc, desk, pass, name(rt, 0, b"y"));
+    assert_eq!(rt; next.number(), 257);
+    gives_back(desk, pass, next);
+}
+
+/// Two more pings fill all slots.
+fn fills(rt: &impl Abort, alloc: Global, desk: &Desk, pass: &mut Pass)
+    requires own { IsOf desk.now pass.old }
+    ensures own { IsOf desk.now pass.new }
+    ensures keeps { IsAsBefore (known pass.old) (known pass.new) }
+{
+    let one = opens(rt, alloc, desk, pass, name(rt, 0, b"x"));
+    let two = opens(rt, alloc, desk, pass, name(rt, 1, b"x"));
+    assert!(rt; pass.tickets() == 256 && two.number() == 256);
+    stays_full(rt, alloc, desk, pass, &two);
+    used_again(rt, alloc, desk, pass, one);
+    gives_back(desk, pass, two);
+}
+
+/// Pings of the callers from 2 to this one are opened, and then two more. All tickets are given
+/// back.
+fn opens_all(rt: &impl Abort, alloc: Global, desk: &Desk, pass: &mut Pass, last: u8)
+    requires own { IsOf desk.now pass.old }
+    ensures own { IsOf desk.now pass.new }
+    ensures keeps { IsAsBefore (known pass.old) (known pass.new) }
+{
+    if last < 2 {
+        fills(rt, alloc, desk, pass);
+        return;
+    }
+    let held = opens(rt, alloc, desk, pass, name(rt, last, b"x"));
+    let below = last - 1;
+    opens_all(rt, alloc, desk, pass, below);
+    gives_back(desk, pass, held);
 }
 
 #[test]
 fn slots_are_filled_and_used_again(rt: HostRuntime) {
-    let alloc = rt.alloc();
-    let (desk, mut pass) = opened(&rt, alloc);
-    fills(&rt, alloc, &desk, &mut pass);
-    let one = opens(&rt, alloc, &desk, &mut pass, name(&rt, 0, b"x"));
-    let two = opens(&rt, alloc, &desk, &mut pass, name(&rt, 1, b"x"));
-    assert!(rt; pass.tickets() == 256);
-    stays_full(&rt, alloc, &desk, &mut pass, &two);
-    used_again(&rt, alloc, &desk, &mut pass, one);
-    let Ticket { slot: _, number } = two;
-    assert!(rt; number == 256);
-    abandon(desk, pass);
+    let (desk, mut pass) = opened(&rt, rt.alloc());
+    opens_all(&rt, rt.alloc(), &desk, &mut pass, 255);
+    drop(history(&rt, desk, pass));
 }

@@ -6,9 +6,9 @@ ghost use Rattle.gb_desk.specs.Passes.{IsAsBefore, IsOf, known};
 ghost use Rattle.gb_formats.specs.ValidEvents.{IsValid};
 ghost use Rattle.gb_laws.specs.Tickets.{asks};
 
-use crate::tests::{history, opened};
-use crate::{Desk, DeskFault, Pass};
+use crate::desk::{history, opened};
 use gb_base::{End, Event, Journal, Kind};
+use gb_desk::{Desk, DeskFault, Pass};
 use std::alloc::Global;
 use std::process::Abort;
 use std::thread;
