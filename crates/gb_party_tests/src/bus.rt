@@ -185,10 +185,7 @@ fn a_cport_is_used_again(rt: HostRuntime) {
 /// Identifier n is drawn, and it isn't the last.
 fn draws(rt: &impl Abort, bus: &mut Bus, n: u16) {
     assert!(rt; !bus.spent(1, Side::Ap), "before {n}");
-    assert_eq!(rt;
-        sends(bus, 1, Side::Ap, false),
-        Seen::Sent(u64::from(n), n, false)
-    );
+    assert!(rt; sends(bus, 1, Side::Ap, false) == Seen::Sent(u64::from(n), n, false));
 }
 
 /// The application processor has none left, and the other side has. Identifier 1 is drawn again
@@ -233,10 +230,7 @@ fn pings(rt: &impl Abort, bus: &mut Bus, n: u64) {
         kind: PING,
     };
     replies(rt, bus, 1, Side::Far, asked, 0);
-    assert_eq!(rt;
-        delivers(bus, End::Ap(0), true),
-        Seen::Ended(1, n, 0, Some(9))
-    );
+    assert!(rt; delivers(bus, End::Ap(0), true) == Seen::Ended(1, n, 0, Some(9)));
 }
 
 #[test]
