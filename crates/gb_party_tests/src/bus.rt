@@ -8,7 +8,6 @@ use crate::bus_acts::{
 use gb_base::{End, Side};
 use gb_bus::{Asked, Bus};
 use std::process::Abort;
-use std::test::Fail;
 
 /// Requests that succeed, fail, are dropped, are unidirectional, time out, and are answered late.
 /// One that has ended is known as long as it has a name, or its answer hasn't come.
@@ -69,10 +68,9 @@ const REQUESTS: &[(Act, Seen)] = &[
 ];
 
 #[test]
-fn requests_end(rt: HostRuntime) -> Result<(), Fail> {
-    let mut bus = Bus::new(rt.alloc())?;
+fn requests_end(rt: HostRuntime) {
+    let mut bus = Bus::new(rt.alloc()).expect(&rt, "memory");
     plays(&rt, rt.alloc(), &mut bus, REQUESTS);
-    Ok(())
 }
 
 /// The queues in the order in which they are settled.
@@ -209,13 +207,12 @@ const SPENT: &[(Act, Seen)] = &[
 ];
 
 #[test]
-fn each_side_has_65535_identifiers(rt: HostRuntime) -> Result<(), Fail> {
-    let mut bus = Bus::new(rt.alloc())?;
+fn each_side_has_65535_identifiers(rt: HostRuntime) {
+    let mut bus = Bus::new(rt.alloc()).expect(&rt, "memory");
     for n in 1..=65_535u16 {
         draws(&rt, &mut bus, n);
     }
     plays(&rt, rt.alloc(), &mut bus, SPENT);
-    Ok(())
 }
 
 /// A ping is sent, served, answered and met.
@@ -234,11 +231,10 @@ fn pings(rt: &impl Abort, bus: &mut Bus, n: u64) {
 }
 
 #[test]
-fn a_slot_is_used_again(rt: HostRuntime) -> Result<(), Fail> {
-    let mut bus = Bus::new(rt.alloc())?;
+fn a_slot_is_used_again(rt: HostRuntime) {
+    let mut bus = Bus::new(rt.alloc()).expect(&rt, "memory");
     for n in 1..=100_000u64 {
         pings(&rt, &mut bus, n);
     }
     assert!(rt; bus.next_slot() <= 1);
-    Ok(())
 }

@@ -160,10 +160,7 @@ fn is_full(rt: &impl Abort, alloc: Global, desk: &Desk, pass: &mut Pass)
     ensures keeps { IsAsBefore (known pass.old) (known pass.new) }
 {
     match desk.open_request(pass, 1, &ping(alloc, name(rt, 0, b"y"))) {
-        Ok(opened) => {
-            gives_back(desk, pass, ticket(rt, opened));
-            panic!(rt; "opened")
-        }
+        Ok(_) => panic!(rt; "opened"),
         Err(DeskFault::Full) => {}
         Err(_) => panic!(rt; "another fault"),
     }
