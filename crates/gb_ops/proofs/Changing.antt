@@ -64,13 +64,12 @@ begins labels after t u x label n d k is next e w =
       last = w.last;
     })
 
-pub begun_kept : (labels after : LabelSet) (t u : Tables) (label n d : ℕ) (b : Bool) → Kept labels t
-    → IsNext labels label → b ≡ is_some (pending_in t n) → b ≡ false → Enters t u label n d
-    → Takes labels after label → Kept after u
-begun_kept labels after t u label n d b k next known shut e w =
+pub begun_kept : (labels after : LabelSet) (t u : Tables) (label n d : ℕ) → Kept labels t
+    → IsNext labels label → pending_in t n ≡ None → Enters t u label n d → Takes labels after label
+    → Kept after u
+begun_kept labels after t u label n d k next unknown e w =
     begun labels after t u label n d k
-    (none_from (holder_in t label) (sym (k.used label) ∙ next.unused))
-    (none_from (pending_in t n) (sym known ∙ shut)) e w
+    (none_from (holder_in t label) (sym (k.used label) ∙ next.unused)) unknown e w
 
 -- ---- no memory was found for a request
 

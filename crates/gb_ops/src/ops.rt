@@ -57,14 +57,14 @@ impl Ops {
 
     /// Request n is open from now on, and its identifier is answered: the next one. `deadline` is
     /// in milliseconds. After NoLabel and want of memory all is as before. Want of memory also
-    /// comes where n is open already.
+    /// comes where n isn't greater than the numbers of all open requests.
     pub fn begin(&mut self, n: u64, deadline: u64) -> Result<u16, BeginFault>
         ensures { BeginsAs self.old self.new n deadline result }
     {
         let Ok(label) = self.labels.next() else {
             return Err(BeginFault::NoLabel);
         };
-        if self.tables.is_pending(n) {
+        if self.tables.reaches(n) {
             return Err(BeginFault::Memory(OutOfMemory));
         }
         if let Err(refused) = self.tables.enter(label, n, deadline) {

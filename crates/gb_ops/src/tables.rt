@@ -1,6 +1,6 @@
 //! Requests by identifier and by number.
 
-ghost use Rattle.std.specs.Prelude.{◌≡◌, None, [], IfOk, OnErr, OnOk, is_some, nat_eq};
+ghost use Rattle.std.specs.Prelude.{◌≡◌, None, [], IfOk, OnErr, OnOk, nat_eq, false};
 ghost use Rattle.std.specs.BTreeMap.{IsOrdered};
 ghost use Rattle.std.specs.HashMap.{IsUnique};
 ghost use Rattle.std.specs.List.Sorted.{IsStrictlySortedBy};
@@ -94,11 +94,14 @@ impl Tables {
         self.soonest = u64::MAX;
     }
 
-    /// A request is open.
-    pub fn is_pending(&self, n: u64) -> bool
-        ensures { result ≡ is_some (pending_in self.now n) }
+    /// An open request has this number or a greater one.
+    pub fn reaches(&self, n: u64) -> bool
+        ensures { result ≡ false → pending_in self.now n ≡ None }
     {
-        self.pending.contains_key(&n)
+        match self.pending.last_key_value() {
+            Some((last, _)) => *last >= n,
+            None => false,
+        }
     }
 
     /// What an identifier is in use for.

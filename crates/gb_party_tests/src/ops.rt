@@ -104,12 +104,13 @@ fn lists(rt: &impl Abort, told: Result<Numbers, OutOfMemory>, want: &[u64]) {
     assert!(rt; numbers.items() == want);
 }
 
-/// Requests 9 and 3 are given up, and 7 is open.
+/// Requests 9 and 3 are given up, and 7 is open. A lesser number isn't begun while it is.
 const LEFT: &[(Act, Seen)] = &[
     (Act::Begin(9, 0), Seen::Begun(1)),
+    (Act::GiveUp(9), Seen::GaveUp(true)),
     (Act::Begin(3, 0), Seen::Begun(2)),
     (Act::Begin(7, 0), Seen::Begun(3)),
-    (Act::GiveUp(9), Seen::GaveUp(true)),
+    (Act::Begin(5, 0), Seen::Refused),
     (Act::GiveUp(3), Seen::GaveUp(true)),
 ];
 

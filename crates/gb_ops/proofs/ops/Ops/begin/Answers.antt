@@ -10,8 +10,8 @@ returns-in_default c = (
   refl,
 )
 
-pub returns-then-is_pending : goal.returns-then-is_pending
-returns-then-is_pending c = record {
+pub returns-then-reaches : goal.returns-then-reaches
+returns-then-reaches c = record {
   label = c.in-Ok.label;
   next =
       sym (next_seen c.self.inside.labels c.self.inside.tables c.args.self.now c.self.invariant
@@ -33,8 +33,8 @@ pub invariant_of-self-2 : goal.invariant_of-self-2
 invariant_of-self-2 c =
     begun_kept c.self.inside.labels c.take.new.self c.self.inside.tables c.enter.new.self
     c.in-Ok.label
-    c.args.n c.args.deadline c.is_pending.result c.self.invariant c.in-Ok.ensures.step
-    c.is_pending.ensures c.if-is_pending.false c.in_default-enter.ensures.entered c.take.ensures
+    c.args.n c.args.deadline c.self.invariant c.in-Ok.ensures.step
+    (c.reaches.ensures c.if-reaches.false) c.in_default-enter.ensures.entered c.take.ensures
 
 pub returns : goal.returns
 returns c =
