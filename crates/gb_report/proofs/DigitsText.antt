@@ -1,10 +1,18 @@
--- Bytes as hex digits, one byte after the other.
+-- Digits that are appended: those of a number below ten, and those of bytes in hex.
 use Rattle.std.proofs.Common.{◌≡◌, ℕ, ◌+◌, ◌<◌, ◌≤◌, ◌/◌, ◌%◌, List, [], ◌∷◌, ◌++◌, length, drop}
-use Rattle.std.proofs.Common.{refl, append_assoc, append-nil, slice_index}
+use Rattle.std.proofs.Common.{refl, sym, ap, ◌∙◌, append_assoc, append-nil, slice_index}
+use Rattle.std.proofs.lemmas.Fmt.{decimal_digit}
 use Rattle.std.proofs.lemmas.List.{drop_all}
+use Rattle.std.specs.Fmt.{decimal}
 use Rattle.hex.specs.Hex.{encode_lower, encode_with, lower_digits}
 use Rattle.hex.proofs.Pairs.{encode_with-drop}
 use Rattle.gb_formats.specs.Bytes.{byte_text}
+
+-- a number below ten was appended
+pub digit_appended : (old new : List ℕ) (digit n : ℕ) → n < 10 → digit ≡ 48 + n
+    → new ≡ old ++ digit ∷ [] → new ≡ old ++ decimal n
+digit_appended old new digit n h is added =
+    added ∙ ap (λ ds. old ++ ds) (ap (λ d. d ∷ []) is ∙ sym (decimal_digit n h))
 
 byte_digits : (b : ℕ) → byte_text b
     ≡ slice_index lower_digits (b / 16) ∷ slice_index lower_digits (b % 16) ∷ []

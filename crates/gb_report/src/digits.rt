@@ -43,7 +43,8 @@ impl<'a> Part for Digits<'a> {
 
 /// Appends bytes as two hex digits each.
 fn append_bytes(bytes: &[u8], line: &mut String) -> Result<(), OutOfMemory>
-    ensures { OnOk result (string_bytes line.new ≡ string_bytes line.old ++ encode_lower bytes.now) }
+    ensures { OnOk result
+        (string_bytes line.new ≡ string_bytes line.old ++ encode_lower bytes.now) }
 {
     for byte in bytes {
         append_byte(*byte, line)?;

@@ -15,6 +15,6 @@ mod summary;
 
 pub use checked::{put_accepted, put_refused};
 pub use dump::put_dump;
-pub use report::{put, put_all, put_refusal};
+pub use report::{append_all, append_refusal, put, put_refusal};
 pub use show::{connection_line, interface_line, name_line, now_line, queue_line};
 pub use summary::{Counts, put_summary};

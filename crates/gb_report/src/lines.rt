@@ -27,12 +27,20 @@ pub fn line_of<P: Part>(alloc: Global, parts: &P) -> Result<String, OutOfMemory>
     Ok(line)
 }
 
+/// Appends the end of a line.
+pub fn end_line(line: &mut String) -> Result<(), OutOfMemory>
+    ensures { OnOk result (string_bytes line.new ≡ ended (string_bytes line.old)) }
+{
+    line.push('\n')?;
+    Ok(())
+}
+
 /// Appends a line and its end, which `line` then has too. After a refusal `out` is as before.
 pub fn put_line(line: &mut String, out: &mut Text) -> Result<(), OutOfMemory>
     requires { IsAscii (ended (string_bytes line.old)) }
     ensures ok { OnOk result (out.new ≡ out.old ++ ended (string_bytes line.old)) }
     ensures err { OnErr result (out.new ≡ out.old) }
 {
-    line.push('\n')?;
+    end_line(line)?;
     out.append(line)
 }

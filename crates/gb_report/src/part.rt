@@ -103,6 +103,9 @@ impl Part for u64 {
 fn append_decimal(number: u64, line: &mut String) -> Result<(), OutOfMemory>
     ensures { OnOk result (string_bytes line.new ≡ string_bytes line.old ++ decimal number) }
 {
+    if number < 10 {
+        return append_ascii(b'0' + number as u8, line);
+    }
     let mut buffer = itoa::Buffer::new();
     line.push_str(buffer.format(number))?;
     Ok(())

@@ -1,11 +1,12 @@
 //! Appends lines to the report.
 
-ghost use Rattle.std.specs.Prelude.{◌≡◌, ◌++◌, OnOk, OnErr};
+ghost use Rattle.std.specs.Prelude.{◌≡◌, ◌++◌, ℕ, List, IsAscii, OnOk, OnErr};
+ghost use Rattle.std.specs.String.{string_bytes};
 ghost use Rattle.gb_formats.specs.Texts.{entries_text, entry_text, refusal_line_text};
 
 use crate::entry::append_entry;
-use crate::lines::{empty_line, line_of, put_line};
-use crate::part::parts;
+use crate::lines::{empty_line, end_line};
+use crate::part::{Part, parts};
 use gb_base::{Entry, LineReason, OutOfMemory, Text};
 use std::alloc::Global;
 
@@ -22,42 +23,8 @@ pub fn put(
     ensures err { OnErr result (out.new ≡ out.old) }
 {
     let mut text = empty_line(alloc)?;
-    put_entry(entry, line, hex, &mut text, out)
-}
-
-/// Appends the texts of entries in order, as `put` does. They share the memory of one line. After
-/// a refusal some of the first may stand in `out`.
-pub fn put_all(
-    alloc: Global,
-    entries: &[Entry],
-    line: u32,
-    hex: bool,
-    out: &mut Text,
-) -> Result<(), OutOfMemory>
-    ensures { OnOk result (out.new ≡ out.old ++ entries_text line hex entries.now) }
-{
-    let mut text = empty_line(alloc)?;
-    for entry in entries {
-        put_entry(entry, line, hex, &mut text, out)?;
-    }
-    Ok(())
-}
-
-/// Appends the text of an entry by way of `text`, whatever that holds. After a refusal `out` is as
-/// before.
-fn put_entry(
-    entry: &Entry,
-    line: u32,
-    hex: bool,
-    text: &mut String,
-    out: &mut Text,
-) -> Result<(), OutOfMemory>
-    ensures ok { OnOk result (out.new ≡ out.old ++ entry_text line hex entry.now) }
-    ensures err { OnErr result (out.new ≡ out.old) }
-{
-    text.clear();
-    append_entry(entry, line, hex, text)?;
-    put_line(text, out)
+    append_one(entry, line, hex, &mut text)?;
+    out.append(&text)
 }
 
 /// Appends the text that names a bad line. After a refusal `out` is as before.
@@ -70,6 +37,43 @@ pub fn put_refusal(
     ensures ok { OnOk result (out.new ≡ out.old ++ refusal_line_text line why.now) }
     ensures err { OnErr result (out.new ≡ out.old) }
 {
-    let mut line = line_of(alloc, &parts!("line ", line, ": ", why))?;
-    put_line(&mut line, out)
+    let mut text = empty_line(alloc)?;
+    append_refusal(line, why, &mut text)?;
+    out.append(&text)
+}
+
+/// Appends the texts of entries in order, as `put` does. After a refusal a front of them may stand
+/// in `out`.
+pub fn append_all(
+    entries: &[Entry],
+    line: u32,
+    hex: bool,
+    out: &mut String,
+) -> Result<(), OutOfMemory>
+    ensures { OnOk result
+        (string_bytes out.new ≡ string_bytes out.old ++ entries_text line hex entries.now) }
+{
+    for entry in entries {
+        append_one(entry, line, hex, out)?;
+    }
+    Ok(())
+}
+
+/// Appends the text of an entry, as `put` does. After a refusal a front of it may stand in `out`.
+fn append_one(entry: &Entry, line: u32, hex: bool, out: &mut String) -> Result<(), OutOfMemory>
+    ensures text { OnOk result
+        (string_bytes out.new ≡ string_bytes out.old ++ entry_text line hex entry.now) }
+    ensures ascii { OnOk result ((shown : List ℕ) → entry.now ≡ Entry.Shown shown → IsAscii shown) }
+{
+    append_entry(entry, line, hex, out)?;
+    end_line(out)
+}
+
+/// Appends the text that names a bad line. After a refusal a front of it may stand in `out`.
+pub fn append_refusal(line: u32, why: &LineReason, out: &mut String) -> Result<(), OutOfMemory>
+    ensures { OnOk result
+        (string_bytes out.new ≡ string_bytes out.old ++ refusal_line_text line why.now) }
+{
+    parts!("line ", line, ": ", why).append_to(out)?;
+    end_line(out)
 }

@@ -16,7 +16,7 @@ use Rattle.gb_machine.specs.Report.{has_bad_line, report_from, reported}
 use Rattle.gb_machine.specs.State.{State, first_state}
 use Rattle.gb_system.specs.Stands as system
 use Rattle.gbus.specs.Scripts.{report_of}
-use Rattle.gbus.specs.Sessions.{Ends, GoesOn, TurnsAs, line_says}
+use Rattle.gbus.specs.Sessions.{Ends, GoesOn, TurnsAs, line_says, written}
 use Rattle.gbus.specs.Stages.{IsBehind}
 use Rattle.gbus.specs.declared.session.Session.{Session}
 use Rattle.gbus.specs.declared.session.Turn.{Turn}
@@ -34,7 +34,7 @@ short_line bytes long whole is h =
 -- an event was stepped, and its entries were reported
 pub goes_on : (old new : Session) (says : Said) (s : State) (e : Event) (es : List Entry)
     → says ≡ Ok (Some e) → system.StepsAs new.system s e (Ok es)
-    → new.text ≡ entries_text new.number old.hex es
+    → written new ≡ entries_text new.number old.hex es
     → GoesOn old new says s
 goes_on old new says s e es is steps text = record {
   after = (step s e).state;
@@ -47,7 +47,7 @@ goes_on old new says s e es is steps text = record {
 
 -- a line without an event
 pub passes : (old new : Session) (says : Said) (s : State) → says ≡ Ok None
-    → system.Stands new.system s → new.text ≡ []
+    → system.Stands new.system s → written new ≡ []
     → GoesOn old new says s
 passes old new says s is stands text = record {
   after = s;
@@ -61,7 +61,7 @@ passes old new says s is stands text = record {
 line_next : (old new : Session) (hex : Bool) (line : List ℕ) (ls : List (List ℕ)) (s : State)
     (h : GoesOn old new (line_says line) s)
     → old.hex ≡ hex → new.number ≡ old.number + 1
-    → report_from hex (old.number + 1) s (line ∷ ls) ≡ new.text
+    → report_from hex (old.number + 1) s (line ∷ ls) ≡ written new
     ++ report_from hex (new.number + 1) h.after ls
 unfolding report_from
 line_next old new hex line ls s h same number =
@@ -73,7 +73,7 @@ line_next old new hex line ls s h same number =
 -- the report of a bad line
 line_bad : (old new : Session) (hex : Bool) (line : List ℕ) (ls : List (List ℕ)) (s : State)
     (h : Ends old new (line_says line))
-    → new.number ≡ old.number + 1 → report_from hex (old.number + 1) s (line ∷ ls) ≡ new.text
+    → new.number ≡ old.number + 1 → report_from hex (old.number + 1) s (line ∷ ls) ≡ written new
 unfolding report_from
 line_bad old new hex line ls s h number =
     ap (λ n. reported (line_says line) n hex s (λ t. report_from hex (n + 1) t ls)) (sym number)
@@ -134,19 +134,19 @@ bad_among given line ls bad =
 pub goes_line : (old new : Session) (hex : Bool) (given : List (List ℕ)) (line : List ℕ) (s : State)
     → IsBehind old hex given s → (h : GoesOn old new (line_says line) s)
     → new.number ≡ old.number + 1
-    → (ls : List (List ℕ)) → report_of hex (given ++ line ∷ ls) ≡ (report_of hex given ++ new.text)
-    ++ report_from hex (new.number + 1) h.after ls
+    → (ls : List (List ℕ)) → report_of hex (given ++ line ∷ ls)
+    ≡ (report_of hex given ++ written new) ++ report_from hex (new.number + 1) h.after ls
 goes_line old new hex given line s b h number ls =
     b.goes (line ∷ ls) ∙ ap (λ t. report_of hex given ++ t)
     (line_next old new hex line ls s h b.same number)
-    ∙ sym (append_assoc (report_of hex given) new.text
+    ∙ sym (append_assoc (report_of hex given) (written new)
     (report_from hex (new.number + 1) h.after ls))
 
 -- of which this one is the first bad one
 pub goes_bad : (old new : Session) (hex : Bool) (given : List (List ℕ)) (line : List ℕ) (s : State)
     → IsBehind old hex given s → Ends old new (line_says line)
     → new.number ≡ old.number + 1
-    → (ls : List (List ℕ)) → report_of hex (given ++ line ∷ ls) ≡ report_of hex given ++ new.text
+    → (ls : List (List ℕ)) → report_of hex (given ++ line ∷ ls) ≡ report_of hex given ++ written new
 goes_bad old new hex given line s b h number ls =
     b.goes (line ∷ ls) ∙ ap (λ t. report_of hex given ++ t)
     (line_bad old new hex line ls s h number)
@@ -156,11 +156,11 @@ pub wrote_turn : (old new : Session) (hex : Bool) (given : List (List ℕ)) (lin
     (s : State) (turn : Turn)
     → IsBehind old hex given s → TurnsAs old new line s (Ok turn)
     → new.number ≡ old.number + 1
-    → report_of hex (given ++ line ∷ []) ≡ report_of hex given ++ new.text
+    → report_of hex (given ++ line ∷ []) ≡ report_of hex given ++ written new
 wrote_turn old new hex given line s turn.Next b h number =
     goes_line old new hex given line s b h number []
-    ∙ ap (λ t. (report_of hex given ++ new.text) ++ t) (report_none hex (new.number + 1) h.after)
-    ∙ append-nil (report_of hex given ++ new.text)
+    ∙ ap (λ t. (report_of hex given ++ written new) ++ t) (report_none hex (new.number + 1) h.after)
+    ∙ append-nil (report_of hex given ++ written new)
 wrote_turn old new hex given line s turn.Refused b h number =
     goes_bad old new hex given line s b h number []
 

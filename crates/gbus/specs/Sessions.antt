@@ -1,5 +1,6 @@
 -- What a line does to a session.
 use Rattle.std.specs.Prelude.{◌≡◌, ℕ, false, is_err, Result, Ok, Err, ⊤, List, ◌++◌}
+use Rattle.std.specs.String.{string_bytes}
 use Rattle.gb_base.specs.declared.errors.OutOfMemory.{OutOfMemory}
 use Rattle.gb_base.specs.declared.fault.LineReason.{LineReason}
 use Rattle.gb_formats.specs.Grammar.{Said}
@@ -16,19 +17,23 @@ use Rattle.gbus.specs.declared.session.Turn.TheVariants as turn
 abbrev pub line_says : List ℕ → Said
 line_says line = judged 0 line
 
+-- the report of the last line
+abbrev pub written : Session → List ℕ
+written x = string_bytes x.text
+
 -- a line was run from this state: its text is written, and then what comes later
 pub record GoesOn (old new : Session) (says : Said) (s : State) : Type 0 where
   pub after : State
   pub stands : system.Stands new.system after
   pub whole : (later : State → List ℕ) →
-      reported says new.number old.hex s later ≡ new.text ++ later after
+      reported says new.number old.hex s later ≡ written new ++ later after
   pub good : is_err says ≡ false
 
 -- a line is bad, and the report names it
 pub record Ends (old new : Session) (says : Said) : Type 0 where
   pub why : LineReason
   pub said_is : says ≡ Err why
-  pub text : new.text ≡ refusal_line_text new.number why
+  pub text : written new ≡ refusal_line_text new.number why
 
 -- By cases on the answer. After want of memory nothing is said.
 abbrev pub TurnsBy : Session → Session → Said → State → Result Turn OutOfMemory → Type 0

@@ -5,8 +5,8 @@ ghost use Rattle.gb_machine.specs.State.{State, first_state};
 ghost use Rattle.gb_script.specs.Readers.{IsLineOf};
 ghost use Rattle.gb_system.specs.Stands.{taken_of};
 
-use gb_base::{LineReason, OutOfMemory, Text};
-use gb_report::{put_all, put_refusal};
+use gb_base::{LineReason, OutOfMemory};
+use gb_report::{append_all, append_refusal};
 use gb_script::{Line, LineFault, event};
 use gb_system::System;
 use std::alloc::Global;
@@ -17,7 +17,7 @@ pub struct Session {
     alloc: Global,
     hex: bool,
     system: System,
-    text: Text,
+    text: String,
     /// How many lines were run.
     number: u32,
     ghost counted: { taken_of system ≤ number },
@@ -34,7 +34,7 @@ pub enum Turn {
 
 impl Session {
     ghost use Rattle.gb_system.specs.Stands as system;
-    ghost use Rattle.gbus.specs.Sessions.{TurnsAs};
+    ghost use Rattle.gbus.specs.Sessions.{TurnsAs, written};
 
     /// Before the first line.
     pub fn new(alloc: Global, hex: bool) -> Result<Session, OutOfMemory>
@@ -46,7 +46,7 @@ impl Session {
             alloc,
             hex,
             system: System::new(alloc)?,
-            text: Text::new(alloc),
+            text: String::new(alloc),
             number: 0,
         })
     }
@@ -63,24 +63,18 @@ impl Session {
         self.number = line.number;
         self.text.clear();
         if line.long {
-            put_refusal(self.alloc, self.number, &LineReason::Long, &mut self.text)?;
+            append_refusal(self.number, &LineReason::Long, &mut self.text)?;
             return Ok(Turn::Refused);
         }
         match event(self.alloc, line.bytes, 0) {
             Ok(None) => Ok(Turn::Next),
             Ok(Some(e)) => {
                 let entries = self.system.step(&e)?;
-                put_all(
-                    self.alloc,
-                    entries.items(),
-                    self.number,
-                    self.hex,
-                    &mut self.text,
-                )?;
+                append_all(entries.items(), self.number, self.hex, &mut self.text)?;
                 Ok(Turn::Next)
             }
             Err(LineFault::Bad(why)) => {
-                put_refusal(self.alloc, self.number, &why, &mut self.text)?;
+                append_refusal(self.number, &why, &mut self.text)?;
                 Ok(Turn::Refused)
             }
             Err(LineFault::Memory(refused)) => Err(refused),
@@ -89,8 +83,8 @@ impl Session {
 
     /// The report of the last line.
     pub fn text(&self) -> &[u8]
-        ensures { result.now ≡ self.now.text }
+        ensures { result.now ≡ written self.now }
     {
-        self.text.items()
+        self.text.as_bytes()
     }
 }

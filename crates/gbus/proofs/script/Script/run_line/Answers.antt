@@ -4,7 +4,7 @@ use Rattle.gbus.proofs.Scripts.{before-line, reads-to, refused, refused-at, whol
 use Rattle.gbus.proofs.Turns.{next_behind, wrote_turn}
 use Rattle.gbus.proofs.script.Script.run_line.Goals as goal
 use Rattle.gbus.specs.Scripts.{report_of}
-use Rattle.gbus.specs.Sessions.{TurnsAs}
+use Rattle.gbus.specs.Sessions.{TurnsAs, written}
 use Rattle.gbus.specs.Stages.{Gathers}
 use Rattle.gbus.specs.declared.session.Turn.{Turn}
 
@@ -39,8 +39,8 @@ returns-in-Next-clause-turns c = λ hex left now taken after given line s b g le
       state = next.after;
       behind = next_behind old.session new hex given line s b next c.in-Ok.ensures.number
           c.in-Ok.ensures.hex;
-      gathers = gathers-more hex left now taken after old.gathered new.text c.add.new.self given
-          line g (reads-to old.reader left now given line r)
+      gathers = gathers-more hex left now taken after old.gathered (written new) c.add.new.self
+          given line g (reads-to old.reader left now given line r)
           (wrote_turn old.session new hex given line s c.in-Ok.turn b turns c.in-Ok.ensures.number)
           (c.in-Ok-add.ensures.ok ∙ ap (λ t. old.gathered ++ t) c.text.ensures);
       reads = r;
@@ -55,8 +55,8 @@ returns-in-Refused-clause-turns c = λ hex left now taken after given line s b g
     let bad = subst (λ (t : Turn). TurnsAs old.session new line s (Ok t)) c.in-Refused.is turns in
     record {
       whole = report_of hex (given ++ line ∷ []);
-      gathers = gathers-more hex left now taken after old.gathered new.text c.add.new.self given
-          line g (reads-to old.reader left now given line r)
+      gathers = gathers-more hex left now taken after old.gathered (written new) c.add.new.self
+          given line g (reads-to old.reader left now given line r)
           (wrote_turn old.session new hex given line s c.in-Ok.turn b turns c.in-Ok.ensures.number)
           (c.in-Ok-add.ensures.ok ∙ ap (λ t. old.gathered ++ t) c.text.ensures);
       within = whole-line old.reader old.session new hex left now given line s r b bad

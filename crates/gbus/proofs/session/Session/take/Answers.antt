@@ -18,29 +18,29 @@ returns-in-Ok-None-clause-turn c = λ s whole st is.
     passes c.args.self.now _ (line_says whole) s
     (ap line_says (sym (short_line c.args.line.bytes.now c.args.line.long whole is c.if-line.false))
     ∙ c.in-Ok-None.ensures ∙ ap Ok c.in-Ok-None.field-0-is)
-    st c.clear.ensures
+    st c.clear.ensures.bytes
 
-pub returns-in_ok-put_all-in-Ok-Some-clause-turn :
-    goal.returns-in_ok-put_all-in-Ok-Some-clause-turn
-returns-in_ok-put_all-in-Ok-Some-clause-turn c = λ s whole st is.
+pub returns-in_ok-append_all-in-Ok-Some-clause-turn :
+    goal.returns-in_ok-append_all-in-Ok-Some-clause-turn
+returns-in_ok-append_all-in-Ok-Some-clause-turn c = λ s whole st is.
     goes_on c.args.self.now _ (line_says whole) s c.in-Ok-Some.e c.in_ok-entries-in-Ok-Some.entries
     (ap line_says (sym (short_line c.args.line.bytes.now c.args.line.long whole is c.if-line.false))
     ∙ c.in-Ok-Some.ensures ∙ ap Ok c.in-Ok-Some.field-0-is)
     (c.in_ok-entries-in-Ok-Some.ensures.step s st)
-    (c.in_ok-put_all-in-Ok-Some.ensures
+    (c.in_ok-append_all-in-Ok-Some.ensures
     ∙ ap (λ t. t ++ entries_text c.args.line.number c.args.self.now.hex c.items.result.now)
-    c.clear.ensures
+    c.clear.ensures.bytes
     ∙ ap (entries_text c.args.line.number c.args.self.now.hex) c.items.ensures)
 
-pub returns-in_ok-put_refusal-in-Err-Bad-clause-turn :
-    goal.returns-in_ok-put_refusal-in-Err-Bad-clause-turn
-returns-in_ok-put_refusal-in-Err-Bad-clause-turn c = λ s whole st is. record {
+pub returns-in_ok-append_refusal-in-Err-Bad-clause-turn :
+    goal.returns-in_ok-append_refusal-in-Err-Bad-clause-turn
+returns-in_ok-append_refusal-in-Err-Bad-clause-turn c = λ s whole st is. record {
   why = c.in-Err-Bad.why;
   said_is =
       ap line_says (sym (short_line c.args.line.bytes.now c.args.line.long whole is
       c.if-line.false))
       ∙ subst (λ (f : LineFault). Tells (Err f) (line_says c.args.line.bytes.now))
       c.in-Err-Bad.field-0-is c.in-Err-Bad.ensures;
-  text = c.in_ok-put_refusal-in-Err-Bad.ensures.ok
-      ∙ ap (λ t. t ++ refusal_line_text c.args.line.number c.in-Err-Bad.why) c.clear.ensures;
+  text = c.in_ok-append_refusal-in-Err-Bad.ensures
+      ∙ ap (λ t. t ++ refusal_line_text c.args.line.number c.in-Err-Bad.why) c.clear.ensures.bytes;
 }
