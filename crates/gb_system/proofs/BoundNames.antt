@@ -13,7 +13,7 @@ use Rattle.gb_system.specs.Showing.{pair_before}
 
 -- ---- the order
 
-is-less : (o : Ordering) → is_lt o ≡ true → o ≡ Less
+pub is-less : (o : Ordering) → is_lt o ≡ true → o ≡ Less
 is-less Less e = refl
 is-less Equal e = absurd cc
 is-less Greater e = absurd cc
@@ -27,7 +27,7 @@ before-trans a b c first second =
     (is-less (name_cmp b c) (sym (name-less b c) ∙ second)))
 
 -- of two names one is before the other
-before-one : (a b : Name) → same_name a b ≡ false → name_before b a ≡ not (name_before a b)
+pub before-one : (a b : Name) → same_name a b ≡ false → name_before b a ≡ not (name_before a b)
 before-one a b other =
     name-less b a ∙ ap is_lt (name_total.antisymm b a)
     ∙ by (name_cmp a b) (sym (name_ties a b) ∙ other)
@@ -55,7 +55,7 @@ elsewhere name p ps free = by (same_name p.0 name) refl free
     by false is e = record { first = is; rest = e }
 
 -- what a name names where it went
-named-placed : (name : Name) (p : Name × ℕ) (ps : List (Name × ℕ)) → named p.0 ps ≡ None
+pub named-placed : (name : Name) (p : Name × ℕ) (ps : List (Name × ℕ)) → named p.0 ps ≡ None
     → named name (in_order pair_before p ps)
     ≡ cond (same_name p.0 name) (Some p.1) (named name ps)
 named-placed name p [] free = refl
@@ -168,35 +168,37 @@ sorted-bound name n (p ∷ ps) free =
     ap (in_order pair_before p) (sorted-bound name n ps e.rest)
     ∙ either-order (name, n) p (sorted pair_before ps) (name_equiv.symm name p.0 ∙ e.first)
 
+-- another name that is free is so still
+pub free-bound : (name : Name) (n : ℕ) (other : Name) (ps : List (Name × ℕ))
+    → same_name name other ≡ false → named other ps ≡ None
+    → named other (ps ++ (name, n) ∷ []) ≡ None
+free-bound name n other [] is none = ap (λ t. cond t (Some n) None) is
+free-bound name n other (p ∷ ps) is none =
+    let e = elsewhere other p ps none in
+    ap (λ t. cond t (Some p.1) (named other (ps ++ (name, n) ∷ []))) e.first
+    ∙ free-bound name n other ps is e.rest
+
 -- and the names differ still
 pub apart-bound : (name : Name) (n : ℕ) (ps : List (Name × ℕ)) → AreApart ps → named name ps ≡ None
     → AreApart (ps ++ (name, n) ∷ [])
 apart-bound name n [] apart free = (refl, tt)
 apart-bound name n (p ∷ ps) apart free =
     let e = elsewhere name p ps free in (
-      behind p.0 ps (name_equiv.symm name p.0 ∙ e.first) apart.0,
+      free-bound name n p.0 ps (name_equiv.symm name p.0 ∙ e.first) apart.0,
       apart-bound name n ps apart.1 e.rest,
     )
-  where
-    behind : (other : Name) (qs : List (Name × ℕ)) → same_name name other ≡ false
-        → named other qs ≡ None → named other (qs ++ (name, n) ∷ []) ≡ None
-    behind other [] is none = ap (λ t. cond t (Some n) None) is
-    behind other (q ∷ qs) is none =
-        let e = elsewhere other q qs none in
-        ap (λ t. cond t (Some q.1) (named other (qs ++ (name, n) ∷ []))) e.first
-        ∙ behind other qs is e.rest
 
 -- ---- a name is freed
 
 -- a name is before each of these
-abbrev IsBefore : Name × ℕ → Name × ℕ → Type 0
+abbrev pub IsBefore : Name × ℕ → Name × ℕ → Type 0
 IsBefore p q = pair_before p q ≡ true
 
 -- each is before those behind it
-abbrev Rise : List (Name × ℕ) → Type 0
+abbrev pub Rise : List (Name × ℕ) → Type 0
 Rise ps = EachTwo IsBefore ps
 
-each-behind : (p q : Name × ℕ) (ps : List (Name × ℕ)) → IsBefore p q → Each (IsBefore q) ps
+pub each-behind : (p q : Name × ℕ) (ps : List (Name × ℕ)) → IsBefore p q → Each (IsBefore q) ps
     → Each (IsBefore p) ps
 each-behind p q [] before all = tt
 each-behind p q (e ∷ es) before all =
@@ -212,7 +214,7 @@ each-placed P p (q ∷ qs) one all = by (pair_before p q) (each-placed P p qs on
     by true rec = (one, all)
     by false rec = (all.0, rec)
 
-rise-placed : (p : Name × ℕ) (ps : List (Name × ℕ)) → named p.0 ps ≡ None → Rise ps
+pub rise-placed : (p : Name × ℕ) (ps : List (Name × ℕ)) → named p.0 ps ≡ None → Rise ps
     → Rise (in_order pair_before p ps)
 rise-placed p [] free rise = (tt, tt)
 rise-placed p (q ∷ qs) free rise =
@@ -227,7 +229,7 @@ rise-placed p (q ∷ qs) free rise =
     by false is turn rec = (each-placed (IsBefore q) p qs (turn ∙ ap not is) rise.0, rec)
 
 -- names in order rise
-rise-sorted : (ps : List (Name × ℕ)) → AreApart ps → Rise (sorted pair_before ps)
+pub rise-sorted : (ps : List (Name × ℕ)) → AreApart ps → Rise (sorted pair_before ps)
 rise-sorted [] apart = tt
 rise-sorted (p ∷ ps) apart =
     rise-placed p (sorted pair_before ps) (named-sorted p.0 ps apart.1 ∙ apart.0)

@@ -13,6 +13,7 @@ pub mod Decisions
 pub mod Doings
 pub mod Endings
 pub mod Fits
+pub mod HashedNames
 pub mod Heard
 pub mod HeldAnswers
 pub mod HeldAsks

@@ -1,19 +1,14 @@
--- The order of names, and what an ordered map of names has.
-use Rattle.std.proofs.Common.{◌≡◌, ℕ, Bool, true, false, cond, not, ◌&&◌, ◌||◌, ltb, eqb, Some}
-use Rattle.std.proofs.Common.{None, List, [], ◌∷◌, Equal, Greater, Less, refl, sym, ap, ◌∙◌}
-use Rattle.std.proofs.lemmas.Map.Keys.{sorted_head, sorted_tail}
-use Rattle.std.specs.BTreeMap.{insert_entry, is_at}
-use Rattle.std.specs.Cmp.{Equal-is}
+-- The order of names, and where an ordered map puts one.
+use Rattle.std.proofs.Common.{◌≡◌, ℕ, Bool, true, false, cond, ◌&&◌, ◌||◌, ltb, eqb, Some, None}
+use Rattle.std.proofs.Common.{List, [], ◌∷◌, Equal, Greater, Less, refl, sym, ap, ◌∙◌}
+use Rattle.std.specs.BTreeMap.{insert_entry}
 use Rattle.std.specs.Cmp.Lexicographic.{slice_cmp}
-use Rattle.std.specs.List.{AllByRecursion}
-use Rattle.std.specs.List.Sorted.{IsStrictlySortedBy}
-use Rattle.std.specs.Map.{keys_of, lookup, remove_entry}
 use Rattle.std.specs.Ordering.{is_eq, is_lt, match_ordering, nat_cmp, ordering_then}
 use Rattle.std.specs.declared.cmp.Ordering.{Ordering}
 use Rattle.gb_base.specs.declared.name.Name.{Name}
-use Rattle.gb_machine.specs.Lists.{in_order, without}
+use Rattle.gb_machine.specs.Lists.{in_order}
 use Rattle.gb_machine.specs.Names.{name_before, named, same_name, word_before}
-use Rattle.gb_system.specs.NameOrder.{name_cmp, name_equiv, name_ties, name_total}
+use Rattle.gb_system.specs.NameOrder.{name_cmp, name_equiv, name_ties}
 use Rattle.gb_system.specs.Showing.{pair_before}
 
 -- ---- one order
@@ -45,15 +40,6 @@ name-less a b =
 
 -- ---- what a map has
 
--- what it has at a name is what the name names
-pub named-at : (name : Name) (ps : List (Name × ℕ))
-    → lookup (is_at (name_cmp name)) ps ≡ named name ps
-named-at name [] = refl
-named-at name (p ∷ ps) =
-    ap (λ t. cond t (Some p.1) (lookup (is_at (name_cmp name)) ps))
-    (sym (name_ties name p.0) ∙ name_equiv.symm name p.0)
-    ∙ ap (cond (same_name p.0 name) (Some p.1)) (named-at name ps)
-
 -- a name that isn't there goes to its place
 pub placed-name : (name : Name) (n : ℕ) (ps : List (Name × ℕ)) → named name ps ≡ None
     → insert_entry name_cmp ps name n ≡ in_order pair_before (name, n) ps
@@ -75,44 +61,3 @@ placed-name name n (p ∷ ps) free =
     by Greater before same e rec =
         ap (λ qs. p ∷ qs) (rec (sym (ap (λ t. cond t (Some p.1) (named name ps)) same) ∙ e))
         ∙ ap (λ t. cond t ((name, n) ∷ p ∷ ps) (p ∷ in_order pair_before (name, n) ps)) (sym before)
-
--- where a name is before all, none is that name
-none-same : (name one : Name) (ps : List (Name × ℕ)) → name_cmp one name ≡ Equal
-    → AllByRecursion (λ q. name_cmp one q ≡ Less) (keys_of ps)
-    → without (λ p. same_name p.0 name) ps ≡ ps
-none-same name one [] same all = refl
-none-same name one (p ∷ ps) same all =
-    ap (λ t. cond (not t) (p ∷ without (λ q. same_name q.0 name) ps)
-    (without (λ q. same_name q.0 name) ps))
-    (name_equiv.symm p.0 name ∙ name_ties name p.0
-    ∙ ap is_eq (sym (name_total.congr one name p.0 same) ∙ all.0))
-    ∙ ap (λ qs. p ∷ qs) (none-same name one ps same all.1)
-
--- a name that is taken away
-pub removed-name : (name : Name) (ps : List (Name × ℕ)) → IsStrictlySortedBy name_cmp (keys_of ps)
-    → remove_entry (is_at (name_cmp name)) ps ≡ without (λ p. same_name p.0 name) ps
-removed-name name [] rise = refl
-removed-name name (p ∷ ps) rise =
-    by (same_name p.0 name) refl (sorted_head name_cmp p.0 (keys_of ps) rise)
-    (removed-name name ps (sorted_tail name_cmp p.0 (keys_of ps) rise))
-  where
-    rest : List (Name × ℕ)
-    rest = without (λ q. same_name q.0 name) ps
-
-    at : same_name p.0 name ≡ is_at (name_cmp name) p.0
-    at = name_equiv.symm p.0 name ∙ name_ties name p.0
-
-    by : (t : Bool) → same_name p.0 name ≡ t
-        → AllByRecursion (λ q. name_cmp p.0 q ≡ Less) (keys_of ps)
-        → remove_entry (is_at (name_cmp name)) ps ≡ rest
-        → cond (is_at (name_cmp name) p.0) ps (p ∷ remove_entry (is_at (name_cmp name)) ps)
-        ≡ cond (not (same_name p.0 name)) (p ∷ rest) rest
-    by true is all rec =
-        ap (λ t. cond t ps (p ∷ remove_entry (is_at (name_cmp name)) ps)) (sym at ∙ is)
-        ∙ sym (none-same name p.0 ps
-        ((Equal-is (name_cmp p.0 name)).0 (sym (name_ties p.0 name) ∙ is)) all)
-        ∙ ap (λ t. cond (not t) (p ∷ rest) rest) (sym is)
-    by false is all rec =
-        ap (λ t. cond t ps (p ∷ remove_entry (is_at (name_cmp name)) ps)) (sym at ∙ is)
-        ∙ ap (λ qs. p ∷ qs) rec
-        ∙ ap (λ t. cond (not t) (p ∷ rest) rest) (sym is)

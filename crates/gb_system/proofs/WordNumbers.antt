@@ -1,12 +1,15 @@
--- Words are in the order of their numbers, where these differ.
-use Rattle.std.proofs.Common.{◌≡◌, ◌≢◌, ◌<◌, ◌≤◌, ℕ, zero, suc, ◌+◌, ◌-◌, ◌*◌, ◌^◌, true, false}
-use Rattle.std.proofs.Common.{◌⊎◌, inl, inr, leb, eqb, List, [], ◌∷◌, slice_index, Less, Equal}
-use Rattle.std.proofs.Common.{Greater, refl, sym, ap, ◌∙◌, arith}
+-- Words are in the order of their numbers, where these differ, and names with two numbers are two.
+use Rattle.std.proofs.Common.{◌≡◌, ◌≢◌, ◌<◌, ◌≤◌, ℕ, zero, suc, ◌+◌, ◌-◌, ◌*◌, ◌^◌, Bool, true}
+use Rattle.std.proofs.Common.{false, ◌⊎◌, inl, inr, leb, eqb, List, [], ◌∷◌, slice_index, Less}
+use Rattle.std.proofs.Common.{Equal, Greater, refl, sym, ap, ◌∙◌, arith}
 use Rattle.std.proofs.lemmas.Bool.Decides.{eqb_tells, leb_tells}
 use Rattle.std.specs.Cmp.{nat_cmp_is}
 use Rattle.std.specs.Cmp.Lexicographic.{nat_list_cmp_total, slice_cmp}
 use Rattle.std.specs.Ordering.{nat_cmp, ordering_reverse, ordering_then}
-use Rattle.gb_system.specs.WordNumber.{IsNumberOf, word_number}
+use Rattle.gb_base.specs.declared.name.Name.{Name}
+use Rattle.gb_machine.specs.Names.{same_name}
+use Rattle.gb_system.specs.NameOrder.{one_name}
+use Rattle.gb_system.specs.WordNumber.{IsNumberOf, name_number, word_number}
 
 -- all items are bytes
 abbrev AreBytes : List ℕ → Type 0
@@ -86,6 +89,15 @@ by_numbers xs ys a b x y apart = at (leb_tells a b)
         sym (nat_cmp_is a b Greater p.1)
         ∙ ap ordering_reverse (sym (first d.at ys xs d.same d.less))
         ∙ sym (nat_list_cmp_total.antisymm xs ys)
+
+-- Names with two numbers are two.
+pub two-names : (a b : Name) (m n : ℕ) → IsNumberOf m (a.who ∷ a.word)
+    → IsNumberOf n (b.who ∷ b.word) → m ≢ n → same_name a b ≡ false
+two-names a b m n x y apart = by (same_name a b) refl
+  where
+    by : (t : Bool) → same_name a b ≡ t → t ≡ false
+    by true is = absurd (apart (x.is ∙ ap name_number (one_name a b is) ∙ sym y.is))
+    by false is = refl
 
 -- ---- a number fits
 

@@ -1,11 +1,14 @@
--- The order of names, as ordered maps have it.
-use Rattle.std.specs.Prelude.{◌≡◌, ⊤, ℕ, None, Some, List, [], ◌∷◌, refl}
+-- The order of names, and when two are one.
+use Rattle.std.proofs.Common.{ap, eqb-true, ◌∙◌}
+use Rattle.std.specs.Prelude.{◌≡◌, ◌==◌, ⊤, ℕ, true, None, Some, List, [], ◌∷◌, refl}
 use Rattle.std.specs.Cmp.{IsEquivalence, IsPartialOrder, IsTotalOrder, and_equiv, both_tied}
+use Rattle.std.specs.Cmp.{first_so, second_so}
 use Rattle.std.specs.Cmp.{nat_cmp_total, nat_eq_equiv, on_equiv, on_total}
 use Rattle.std.specs.Cmp.{partial_order_from_agreeing_total, then_total, unsigned_ties}
-use Rattle.std.specs.Cmp.Lexicographic.{nat_list_cmp_total, nat_list_eq_equiv, slice_cmp}
-use Rattle.std.specs.Cmp.Lexicographic.{texts_ties}
+use Rattle.std.specs.Cmp.Lexicographic.{bytes_decides, nat_list_cmp_total, nat_list_eq_equiv}
+use Rattle.std.specs.Cmp.Lexicographic.{slice_cmp, texts_ties}
 use Rattle.std.specs.Ordering.{eq_by_cmp, nat_cmp, ordering_then}
+use Rattle.std.specs.Str.{bytes_eq}
 use Rattle.std.specs.declared.cmp.Ordering.{Ordering}
 use Rattle.gb_base.specs.declared.name.Name.{Name}
 use Rattle.gb_machine.specs.Names.{named, same_name}
@@ -33,6 +36,18 @@ name_order = partial_order_from_agreeing_total name_cmp name_total (λ a b. refl
 pub name_equiv : IsEquivalence same_name
 name_equiv =
     and_equiv (on_equiv (λ n. n.who) nat_eq_equiv) (on_equiv (λ n. n.word) nat_list_eq_equiv)
+
+-- a name by its requester and its word
+abbrev name_of : ℕ → List ℕ → Name
+name_of who word = record { who = who; word = word }
+
+-- names that are one are equal
+pub one_name : (a b : Name) → same_name a b ≡ true → a ≡ b
+one_name a b same =
+    ap (λ who. name_of who a.word)
+    (eqb-true a.who b.who (first_so (a.who == b.who) (bytes_eq a.word b.word) same))
+    ∙ ap (name_of b.who)
+    ((bytes_decides a.word b.word).0 (second_so (a.who == b.who) (bytes_eq a.word b.word) same))
 
 -- the names of pairs differ
 abbrev pub AreApart : List (Name × ℕ) → Type 0

@@ -1,14 +1,17 @@
 //! Names in their order.
 
+ghost use Rattle.std.proofs.Common.{ap};
 ghost use Rattle.std.specs.Prelude.{◌≡◌, ◌∷◌, IfOk, Some, refl, slice_index};
 ghost use Rattle.std.specs.Cmp as order;
+ghost use Rattle.std.specs.Hash as fed;
 ghost use Rattle.gb_machine.specs.Names.{same_name};
 ghost use Rattle.gb_system.specs.NameOrder.{name_cmp, name_equiv, name_order, name_ties};
-ghost use Rattle.gb_system.specs.NameOrder.{name_total};
-ghost use Rattle.gb_system.specs.WordNumber.{IsNumberOf};
+ghost use Rattle.gb_system.specs.NameOrder.{name_total, one_name};
+ghost use Rattle.gb_system.specs.WordNumber.{IsNumberOf, name_number};
 
 use gb_base::{Name, OutOfMemory, TryCopy};
 use std::cmp::Ordering;
+use std::hash::{Hash, Hasher};
 use std::marker::Model;
 
 /// How many bytes of a word are in a key's number, behind the requester's.
@@ -19,8 +22,8 @@ const BYTES: usize = 15;
 #[derive(Drop)]
 pub struct Key {
     name: Name,
-    /// The requester and the first bytes of the word as one number, so that most names are compared
-    /// in one step.
+    /// The requester and the first bytes of the word as one number, by which names are hashed, and
+    /// most are compared in one step.
     number: u128,
 }
 
@@ -51,6 +54,25 @@ impl Key {
         ensures { result.now ≡ self.now }
     {
         &self.name
+    }
+
+    /// The number.
+    #[inline]
+    fn number(&self) -> u128
+        ensures { result ≡ name_number self.now }
+    {
+        self.number
+    }
+
+    /// The two are one name.
+    #[inline]
+    fn is_same(&self, other: &Key) -> bool
+        ensures { result ≡ same_name self.now other.now }
+    {
+        if self.number != other.number {
+            return false;
+        }
+        self.name == other.name
     }
 
     /// How two names compare.
@@ -89,13 +111,25 @@ impl PartialEq for Key {
 
     ghost laws = { order.partial_equiv_from_equiv name_equiv };
 
+    #[inline]
     fn eq(&self, other: &Key) -> bool {
-        self.name == other.name
+        self.is_same(other)
     }
 }
 
 impl Eq for Key {
     ghost laws = { name_equiv };
+}
+
+impl Hash for Key {
+    ghost hash_input = { λ name. fed.u128 (name_number name) };
+
+    ghost respects_eq = { λ a b e. ap (λ name. fed.u128 (name_number name)) (one_name a b e) };
+
+    #[inline]
+    fn hash<H: Hasher>(&self, state: &mut H) {
+        self.number().hash(state);
+    }
 }
 
 impl PartialOrd for Key {

@@ -1,6 +1,6 @@
 //! The names of requests.
 
-ghost use Rattle.std.specs.Prelude.{◌≡◌, ◌<◌, None, [], OnOk, OnErr, length};
+ghost use Rattle.std.specs.Prelude.{◌≡◌, ◌<◌, None, [], IfOk, OnOk, OnErr, length};
 ghost use Rattle.gb_machine.specs.Lists.{in_order, without};
 ghost use Rattle.gb_machine.specs.Names.{named, same_name};
 ghost use Rattle.gb_system.specs.Showing.{pair_before};
@@ -8,28 +8,29 @@ ghost use Rattle.gb_system.specs.Showing.{pair_before};
 use crate::key::Key;
 use gb_base::OutOfMemory;
 use std::alloc::Global;
-use std::collections::BTreeMap;
-use std::collections::btree_map::Iter;
+use std::collections::{BTreeMap, HashMap};
 use std::marker::Model;
 
 /// The names that are bound, each with its request. A contract sees them in order of requester and
 /// word.
 #[derive(Drop)]
 pub struct Names {
-    bound: BTreeMap<Key, u64>,
+    bound: HashMap<Key, u64>,
 }
 
 impl Model for Names {
     ghost use Rattle.std.specs.Prelude.{ℕ, List};
-    ghost use Rattle.std.specs.BTreeMap.{IsOrdered};
+    ghost use Rattle.std.specs.HashMap.{IsUnique};
     ghost use Rattle.gb_base.specs.declared.name.Name.{Name};
-    ghost use Rattle.gb_system.specs.NameOrder.{name_cmp};
+    ghost use Rattle.gb_machine.specs.Lists.{sorted};
+    ghost use Rattle.gb_machine.specs.Names.{same_name};
+    ghost use Rattle.gb_system.specs.Showing.{pair_before};
 
     ghost Value = { List (Name × ℕ) };
 
-    ghost view = { λ n. n.bound.entries };
+    ghost view = { λ n. sorted pair_before n.bound.entries };
 
-    ghost invariant = { λ n. IsOrdered name_cmp n.bound };
+    ghost invariant = { λ n. IsUnique same_name n.bound };
 }
 
 impl Names {
@@ -38,15 +39,20 @@ impl Names {
         ensures { result ≡ [] }
     {
         Names {
-            bound: BTreeMap::new(alloc),
+            bound: HashMap::new(alloc),
         }
     }
 
-    /// The names in order, each with its request.
-    pub fn iter(&self) -> Iter<'_, Key, u64>
-        ensures { result ≡ self.now }
+    /// Copies of the names in order, each with its request.
+    pub fn in_order(&self, alloc: Global) -> Result<BTreeMap<Key, u64>, OutOfMemory>
+        ensures { IfOk result (λ names. names.entries ≡ self.now) }
     {
-        self.bound.iter()
+        let mut names = BTreeMap::new(alloc);
+        for (name, number) in &self.bound {
+            let name = Key::of(name.name())?;
+            names.insert(name, *number)?;
+        }
+        Ok(names)
     }
 
     /// The request that a name names, None where the name is free.

@@ -134,7 +134,8 @@ fn show_names(
         → AreTold around.names names.now b
         → told.new ≡ told.old ++ lines (map (name_shown b) names.now)) }
 {
-    for (name, number) in names.iter() {
+    let ordered = names.in_order(alloc)?;
+    for (name, number) in &ordered {
         let text = name_line(alloc, name.name(), *number, bus.outcome(*number))?;
         told.push(Entry::Shown { text })?;
     }
