@@ -1,6 +1,7 @@
 //! The interfaces that modules were inserted at.
 
-ghost use Rattle.std.specs.Prelude.{◌≡◌, ◌<◌, ◌≤◌, nat_lt, [], None, IfSome, OnErr, OnOk, find, true};
+ghost use Rattle.std.specs.Prelude.{◌≡◌, ◌<◌, ◌≤◌, nat_lt, [], None, IfSome, OnErr, OnOk};
+ghost use Rattle.std.specs.Prelude.{find, true};
 ghost use Rattle.std.specs.Prelude.{insert, length, option_copied};
 ghost use Rattle.std.specs.List.{list_any, position_from};
 ghost use Rattle.gb_host.specs.declared.interfaces.Change.TheVariants as change;

@@ -1,6 +1,7 @@
 //! The connections to modules.
 
-ghost use Rattle.std.specs.Prelude.{◌≡◌, ◌==◌, ◌<◌, ◌≤◌, ◌∷◌, [], ◌++◌, true, false, IfSome, OnOk, Some};
+ghost use Rattle.std.specs.Prelude.{◌≡◌, ◌==◌, ◌<◌, ◌≤◌, ◌∷◌, [], ◌++◌, true, false, IfSome};
+ghost use Rattle.std.specs.Prelude.{OnOk, Some};
 ghost use Rattle.std.specs.Prelude.{drop, find, get_or, length, set};
 ghost use Rattle.std.specs.List.{position_from};
 ghost use Rattle.gb_machine.specs.Host.{is_link};

@@ -1,5 +1,5 @@
 -- What the maps and the identifiers come to at each call.
-use Rattle.std.proofs.Common.{◌≡◌, ℕ, Bool, false, Option, Some, None, is_some, List, Result}
+use Rattle.std.proofs.Common.{◌≡◌, ◌≤◌, ℕ, Bool, false, Option, Some, None, is_some, List, Result}
 use Rattle.std.proofs.Common.{Ok, Err, option_map, refl, sym, ap, ◌∙◌, subst, arith}
 use Rattle.std.specs.BTreeMap.{get, is_at}
 use Rattle.std.specs.Map.{lookup}
@@ -54,10 +54,12 @@ by_number n = is_at (nat_cmp n)
 
 pub begins : (labels after : LabelSet) (t u : Tables) (x : Operations) (label n d : ℕ)
     → Kept labels t
-    → view labels t ≡ x → IsNext labels label → Enters t u label n d → Takes labels after label
+    → view labels t ≡ x → IsNext labels label → ((m : ℕ) → n ≤ m → pending_in t m ≡ None)
+    → Enters t u label n d → Takes labels after label
     → Begins x (view after u) n d label
-begins labels after t u x label n d k is next e w =
+begins labels after t u x label n d k is next above e w =
     subst (λ o. Begins o (view after u) n d label) is (record {
+      above = above;
       next = sym (next_same labels t k) ∙ next.next;
       holder = e.holder;
       pending = e.pending;
@@ -65,11 +67,12 @@ begins labels after t u x label n d k is next e w =
     })
 
 pub begun_kept : (labels after : LabelSet) (t u : Tables) (label n d : ℕ) → Kept labels t
-    → IsNext labels label → pending_in t n ≡ None → Enters t u label n d → Takes labels after label
+    → IsNext labels label → ((m : ℕ) → n ≤ m → pending_in t m ≡ None) → Enters t u label n d
+    → Takes labels after label
     → Kept after u
-begun_kept labels after t u label n d k next unknown e w =
+begun_kept labels after t u label n d k next above e w =
     begun labels after t u label n d k
-    (none_from (holder_in t label) (sym (k.used label) ∙ next.unused)) unknown e w
+    (none_from (holder_in t label) (sym (k.used label) ∙ next.unused)) (above n (omega arith)) e w
 
 -- ---- no memory was found for a request
 

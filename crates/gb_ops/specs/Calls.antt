@@ -1,5 +1,5 @@
 -- What the calls answer, and what is kept afterwards.
-use Rattle.std.specs.Prelude.{◌≡◌, ℕ, Bool, true, false, Option, Some, None, Result, Ok}
+use Rattle.std.specs.Prelude.{◌≡◌, ◌≤◌, ℕ, Bool, true, false, Option, Some, None, Result, Ok}
 use Rattle.std.specs.Prelude.{Err, []}
 use Rattle.gb_ops.specs.Finding.{IsLeast, IsLeastDue, NoneDue}
 use Rattle.gb_ops.specs.Operations.{Operations, Puts, holder_of, next_label, pending_at}
@@ -17,8 +17,9 @@ no_operations = record { holders = []; pending = []; last = 0 }
 abbrev pub emptied : Operations → Operations
 emptied x = record { holders = []; pending = []; last = x.last }
 
--- a request is open, and has the identifier that came next
+-- A request is open, and has the identifier that came next and a number above all open ones.
 pub record Begins (old new : Operations) (n deadline label : ℕ) : Type 0 where
+  pub above : (m : ℕ) → n ≤ m → pending_at old m ≡ None
   pub next : next_label old ≡ Some label
   pub holder : Puts (holder_of old) (holder_of new) label
       (Some (record { number = n; given_up = false }))

@@ -27,6 +27,12 @@ pub record IsEmpty (t : Tables) : Type 0 where
 abbrev pub AllCovered : Tables → Type 0
 AllCovered t = (n : ℕ) (p : Pending) → pending_in t n ≡ Some p → t.soonest ≤ p.deadline
 
+-- an open request has this number or a greater one
+pub record Reaches (t : Tables) (n : ℕ) : Type 0 where
+  pub number : ℕ
+  pub within : n ≤ number
+  pub there : is_some (pending_in t number) ≡ true
+
 -- a request is open
 pub record Enters (old new : Tables) (label n deadline : ℕ) : Type 0 where
   pub holder : Puts (holder_in old) (holder_in new) label

@@ -1,6 +1,6 @@
 //! Requests by identifier and by number.
 
-ghost use Rattle.std.specs.Prelude.{◌≡◌, None, [], IfOk, OnErr, OnOk, nat_eq, false};
+ghost use Rattle.std.specs.Prelude.{◌≡◌, ◌≤◌, ℕ, None, [], IfOk, OnErr, OnOk, nat_eq, true, false};
 ghost use Rattle.std.specs.BTreeMap.{IsOrdered};
 ghost use Rattle.std.specs.HashMap.{IsUnique};
 ghost use Rattle.std.specs.List.Sorted.{IsStrictlySortedBy};
@@ -15,6 +15,7 @@ ghost use Rattle.gb_ops.specs.Tables.{
   IsUnchanged,
   LeavesAs,
   MarksAs,
+  Reaches,
   ReleasesAs,
   holder_in,
   pending_in,
@@ -96,7 +97,8 @@ impl Tables {
 
     /// An open request has this number or a greater one.
     pub fn reaches(&self, n: u64) -> bool
-        ensures { result ≡ false → pending_in self.now n ≡ None }
+        ensures some { result ≡ true → Reaches self.now n }
+        ensures none { result ≡ false → (m : ℕ) → n ≤ m → pending_in self.now m ≡ None }
     {
         match self.pending.last_key_value() {
             Some((last, _)) => *last >= n,

@@ -7,4 +7,5 @@ use Rattle.gb_base.proofs.name.Word.from_bytes.Goals as goal
 pub unwrap-text-requires : goal.unwrap-text-requires
 unwrap-text-requires c =
     let is : is_name c.args.bytes.now ≡ true = sym c.is_name.ensures ∙ c.if-not-is_name.false in
-    grind (arith, IsUtf8-from_ascii _ (is_name-ascii c.args.bytes.now is), c.from_utf8.ensures.cases)
+    let ascii = is_name-ascii c.args.bytes.now is in
+    grind (arith, IsUtf8-from_ascii _ ascii, c.from_utf8.ensures.cases)

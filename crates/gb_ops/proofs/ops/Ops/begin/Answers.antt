@@ -34,11 +34,11 @@ invariant_of-self-2 c =
     begun_kept c.self.inside.labels c.take.new.self c.self.inside.tables c.enter.new.self
     c.in-Ok.label
     c.args.n c.args.deadline c.self.invariant c.in-Ok.ensures.step
-    (c.reaches.ensures c.if-reaches.false) c.in_default-enter.ensures.entered c.take.ensures
+    (c.reaches.ensures.none c.if-reaches.false) c.in_default-enter.ensures.entered c.take.ensures
 
 pub returns : goal.returns
 returns c =
     begins c.self.inside.labels c.take.new.self c.self.inside.tables c.enter.new.self
     c.args.self.now
     c.in-Ok.label c.args.n c.args.deadline c.self.invariant c.self.view_is c.in-Ok.ensures.step
-    c.in_default-enter.ensures.entered c.take.ensures
+    (c.reaches.ensures.none c.if-reaches.false) c.in_default-enter.ensures.entered c.take.ensures

@@ -1,5 +1,6 @@
 -- Bytes that are held are handed out again, and none are held where the source is read.
-use Rattle.std.proofs.Common.{◌≡◌, ◌≤◌, ◌<◌, ◌∙◌, ℕ, Bool, Option, Some, None, Result, Err, List, []}
+use Rattle.std.proofs.Common.{◌≡◌, ◌≤◌, ◌<◌, ◌∙◌, ℕ, Bool, Option, Some, None, Result, Err, List}
+use Rattle.std.proofs.Common.{[]}
 use Rattle.std.proofs.Common.{length, drop, take, length-drop, refl, sym, ap, subst, arith}
 use Rattle.std.proofs.KnownBytes.{Consumes-kept}
 use Rattle.std.proofs.lemmas.Bool.{true≢false}
