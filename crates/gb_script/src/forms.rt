@@ -23,40 +23,54 @@ pub fn form(alloc: Global, first: &[u8], rest: &Rest<'_>, who: u8) -> Result<Eve
     ensures { Says result (by_first who first.now rest.now) }
 {
     if is(first, "boot") {
-        rest.ended(Event::Boot)
-    } else if is(first, "insert") {
-        insert(alloc, rest)
-    } else if is(first, "pull") {
-        pull(rest)
-    } else if is(first, "connect") {
-        connect(rest)
-    } else if is(first, "disconnect") {
-        disconnect(rest)
-    } else if is(first, "send") {
-        send(alloc, rest, who)
-    } else if is(first, "deliver") {
-        deliver(rest)
-    } else if is(first, "settle") {
-        settle(rest)
-    } else if is(first, "hold") {
-        hold(rest)
-    } else if is(first, "answer") {
-        answer(rest)
-    } else if is(first, "cancel") {
-        cancel(rest, who)
-    } else if is(first, "copy") {
-        copy(rest, who)
-    } else if is(first, "drop") {
-        forget(rest, who)
-    } else if is(first, "tick") {
-        tick(rest)
-    } else if is(first, "inject") {
-        inject(alloc, rest)
-    } else if is(first, "show") {
-        rest.ended(Event::Show)
-    } else {
-        bridged(alloc, first, rest, who)
+        return rest.ended(Event::Boot);
     }
+    if is(first, "insert") {
+        return insert(alloc, rest);
+    }
+    if is(first, "pull") {
+        return pull(rest);
+    }
+    if is(first, "connect") {
+        return connect(rest);
+    }
+    if is(first, "disconnect") {
+        return disconnect(rest);
+    }
+    if is(first, "send") {
+        return send(alloc, rest, who);
+    }
+    if is(first, "deliver") {
+        return deliver(rest);
+    }
+    if is(first, "settle") {
+        return settle(rest);
+    }
+    if is(first, "hold") {
+        return hold(rest);
+    }
+    if is(first, "answer") {
+        return answer(rest);
+    }
+    if is(first, "cancel") {
+        return cancel(rest, who);
+    }
+    if is(first, "copy") {
+        return copy(rest, who);
+    }
+    if is(first, "drop") {
+        return forget(rest, who);
+    }
+    if is(first, "tick") {
+        return tick(rest);
+    }
+    if is(first, "inject") {
+        return inject(alloc, rest);
+    }
+    if is(first, "show") {
+        return rest.ended(Event::Show);
+    }
+    bridged(alloc, first, rest, who)
 }
 
 /// The event of a line for a bridged protocol.
@@ -64,14 +78,16 @@ fn bridged(alloc: Global, first: &[u8], rest: &Rest<'_>, who: u8) -> Result<Even
     ensures { Says result (by_protocol who first.now rest.now) }
 {
     if is(first, "gpio") {
-        gpio(alloc, rest, who)
-    } else if is(first, "i2c") {
-        request(alloc, rest, who, Protocol::I2c)
-    } else if is(first, "spi") {
-        request(alloc, rest, who, Protocol::Spi)
-    } else if is(first, "uart") {
-        uart(alloc, rest, who)
-    } else {
-        Err(LineFault::Bad(LineReason::BadWord(1)))
+        return gpio(alloc, rest, who);
     }
+    if is(first, "i2c") {
+        return request(alloc, rest, who, Protocol::I2c);
+    }
+    if is(first, "spi") {
+        return request(alloc, rest, who, Protocol::Spi);
+    }
+    if is(first, "uart") {
+        return uart(alloc, rest, who);
+    }
+    Err(LineFault::Bad(LineReason::BadWord(1)))
 }
