@@ -2,18 +2,18 @@
 use Rattle.std.proofs.Common.{◌≡◌, ℕ, Bool, true, false, cond, not, Option, Some, None}
 use Rattle.std.proofs.Common.{option_and_then, Result, Ok, Err, List, refl, sym, ap, ◌∙◌}
 use Rattle.std.proofs.Common.{subst}
-use Rattle.std.specs.BTreeMap.{get, is_at}
 use Rattle.std.specs.Map.{lookup, set_value}
-use Rattle.std.specs.Ordering.{nat_cmp}
+use Rattle.std.specs.Prelude.{nat_eq}
+use Rattle.indexmap.specs.IndexMap.{get}
 use Rattle.gb_base.specs.declared.end.End.{End}
 use Rattle.gb_base.specs.declared.end.Side.{Side}
 use Rattle.gb_bus.proofs.Entries.{same-some, set-here, some-none}
-use Rattle.gb_bus.proofs.Keeping.{Live, Queues, kept-set}
+use Rattle.gb_bus.proofs.Keeping.{Queues, kept-set}
 use Rattle.gb_bus.proofs.Seeing.{finds, next-seen}
 use Rattle.gb_bus.proofs.SeeingQueues.{pushes, put-unwired}
 use Rattle.gb_bus.proofs.SeeingSides.{put-back, side-changes}
 use Rattle.gb_bus.specs.Connection.{Connection}
-use Rattle.gb_bus.specs.Index.{ChangesBy, Ends, Kept, Leaves}
+use Rattle.gb_bus.specs.Index.{ChangesBy, Ends, Kept, Leaves, Live}
 use Rattle.gb_bus.specs.Parts.{end_at, next_of}
 use Rattle.gb_bus.specs.Seen.{all_seen, alone, seen}
 use Rattle.gb_bus.specs.Sides.{Asks, AsksIn, AsksOn, HasEndsOf, LabelsIn, LabelsOn, toward}
@@ -31,7 +31,7 @@ same-ok a b r e f = cc
 -- the identifier of the request
 labels : (live live' : Live) (ends : Ends) (q : Queues) (k : ℕ) (s : Side) (n deadline : ℕ)
     (oneway : Bool) (label : ℕ) (x y : code.Connection) → Kept live ends q
-    → get nat_cmp live k ≡ Some x → live'.entries ≡ set_value (is_at (nat_cmp k)) live.entries y
+    → get nat_eq live k ≡ Some x → live'.entries ≡ set_value (nat_eq k) live.entries y
     → LabelsOn (alone 0 x) (alone 0 y) s n deadline oneway (Ok label)
     → LabelsIn (all_seen q live.entries) (all_seen q live'.entries) k s n deadline oneway label
 labels live live' ends q k s n deadline true label x y kept found now h =
@@ -44,15 +44,15 @@ labels live live' ends q k s n deadline false label x y kept found now h =
 pub asks-none : (live live' : Live) (ends : Ends) (q : Queues) (k : ℕ) (s : Side) (n kind : ℕ)
     (payload : List ℕ) (deadline : ℕ) (oneway : Bool) (e : SendFault) → Kept live ends q
     → ChangesBy live live' k (λ x y. AsksOn x y s n deadline oneway (Err e) × HasEndsOf x y)
-    → (get nat_cmp live k ≡ None → Leaves live live')
+    → (get nat_eq live k ≡ None → Leaves live live')
     → AsksIn (all_seen q live.entries) (all_seen q live'.entries) k s n kind payload deadline oneway
     (Err e)
 asks-none live live' ends q k s n kind payload deadline oneway (fault.Memory m) kept there none =
     tt
 asks-none live live' ends q k s n kind payload deadline oneway fault.NoLabel kept there none =
-    by (get nat_cmp live k) refl oneway there
+    by (get nat_eq live k) refl oneway there
   where
-    by : (o : Option code.Connection) → get nat_cmp live k ≡ o → (b : Bool)
+    by : (o : Option code.Connection) → get nat_eq live k ≡ o → (b : Bool)
         → ChangesBy live live' k (λ x y. AsksOn x y s n deadline b (Err fault.NoLabel)
         × HasEndsOf x y)
         → AsksIn (all_seen q live.entries) (all_seen q live'.entries) k s n kind payload deadline b
@@ -79,8 +79,8 @@ record Made (live live' : Live) (ends : Ends) (q : Queues) (k : ℕ) (s : Side) 
     (oneway : Bool) (a : ℕ × Option End) : Type 0 where
   before : code.Connection
   after : code.Connection
-  found : get nat_cmp live k ≡ Some before
-  there : get nat_cmp live' k ≡ Some after
+  found : get nat_eq live k ≡ Some before
+  there : get nat_eq live' k ≡ Some after
   wire : after.wired ≡ before.wired
   stays : Kept live' ends q
   labels_are : LabelsIn (all_seen q live.entries) (all_seen q live'.entries) k s n deadline oneway
@@ -90,11 +90,11 @@ record Made (live live' : Live) (ends : Ends) (q : Queues) (k : ℕ) (s : Side) 
 made : (live live' : Live) (ends : Ends) (q : Queues) (k : ℕ) (s : Side) (n deadline : ℕ)
     (oneway : Bool) (a : ℕ × Option End) → Kept live ends q
     → ChangesBy live live' k (λ x y. AsksOn x y s n deadline oneway (Ok a) × HasEndsOf x y)
-    → (get nat_cmp live k ≡ None → Ok a ≡ Err fault.NoLabel)
+    → (get nat_eq live k ≡ None → Ok a ≡ Err fault.NoLabel)
     → Made live live' ends q k s n deadline oneway a
-made live live' ends q k s n deadline oneway a kept there fails = by (get nat_cmp live k) refl
+made live live' ends q k s n deadline oneway a kept there fails = by (get nat_eq live k) refl
   where
-    by : (o : Option code.Connection) → get nat_cmp live k ≡ o
+    by : (o : Option code.Connection) → get nat_eq live k ≡ o
         → Made live live' ends q k s n deadline oneway a
     by None e = absurd (cc (fails e))
     by (Some x) e =
@@ -103,7 +103,7 @@ made live live' ends q k s n deadline oneway a kept there fails = by (get nat_cm
           before = x;
           after = w.after;
           found = e;
-          there = ap (lookup (is_at (nat_cmp k))) w.now ∙ set-here k live.entries x w.after e;
+          there = ap (lookup (nat_eq k)) w.now ∙ set-here k live.entries x w.after e;
           wire = w.did.1.wire;
           stays = kept-set live live' ends q k x w.after e w.now w.did.1.near w.did.1.far
               w.did.1.wire kept;
@@ -132,7 +132,7 @@ pub asks-lost : (live live' : Live) (ends : Ends) (q : Queues) (xs : List Connec
     (s : Side) (n kind : ℕ) (payload : List ℕ) (deadline : ℕ) (oneway : Bool)
     (a : ℕ × Option End) → Kept live ends q → all_seen q live.entries ≡ xs
     → ChangesBy live live' k (λ x y. AsksOn x y s n deadline oneway (Ok a) × HasEndsOf x y)
-    → (get nat_cmp live k ≡ None → Ok a ≡ Err fault.NoLabel) → a.1 ≡ None
+    → (get nat_eq live k ≡ None → Ok a ≡ Err fault.NoLabel) → a.1 ≡ None
     → Asks xs (all_seen q live'.entries) k s n kind payload deadline oneway a.0 true
 asks-lost live live' ends q xs k s n kind payload deadline oneway a kept view there fails none =
     let m = made live live' ends q k s n deadline oneway a kept there fails in
@@ -153,7 +153,7 @@ pub asks-waits : (live live' : Live) (ends : Ends) (q r : Queues) (xs : List Con
     (s : Side) (n kind : ℕ) (payload : List ℕ) (deadline : ℕ) (oneway : Bool)
     (a : ℕ × Option End) (at : End) → Kept live ends q → all_seen q live.entries ≡ xs
     → ChangesBy live live' k (λ x y. AsksOn x y s n deadline oneway (Ok a) × HasEndsOf x y)
-    → (get nat_cmp live k ≡ None → Ok a ≡ Err fault.NoLabel) → a.1 ≡ Some at
+    → (get nat_eq live k ≡ None → Ok a ≡ Err fault.NoLabel) → a.1 ≡ Some at
     → Appends (items_at q) (items_at r) at (item.Ask n a.0 kind payload)
     → Asks xs (all_seen r live'.entries) k s n kind payload deadline oneway a.0 false
 asks-waits live live' ends q r xs k s n kind payload deadline oneway a at kept view there fails is

@@ -5,13 +5,14 @@ use Rattle.std.proofs.Common.{subst, arith, rules}
 use Rattle.std.proofs.lemmas.Bool.{true≢false}
 use Rattle.std.proofs.lemmas.Bool.Decides.{nat_tests}
 use Rattle.std.specs.Map.{lookup}
+use Rattle.std.specs.Prelude.{nat_eq}
 use Rattle.gb_base.specs.declared.end.End.{End}
 use Rattle.gb_base.specs.declared.end.End.TheVariants as end
-use Rattle.gb_bus.proofs.Entries.{at, same-some, some-none}
-use Rattle.gb_bus.proofs.Keeping.{Live, Queues}
+use Rattle.gb_bus.proofs.Entries.{same-some, some-none}
+use Rattle.gb_bus.proofs.Keeping.{Queues}
 use Rattle.gb_bus.specs.Connection.{Connection}
 use Rattle.gb_bus.specs.Ends.{earlier}
-use Rattle.gb_bus.specs.Index.{Ends, IsEndOf, Kept}
+use Rattle.gb_bus.specs.Index.{Ends, IsEndOf, Kept, Live}
 use Rattle.gb_bus.specs.Parts.{earliest_in, earliest_of, is_none_left}
 use Rattle.gb_bus.specs.Seen.{all_seen, items_of, seen}
 use Rattle.gb_bus.specs.declared.connection.Connection as code
@@ -229,12 +230,12 @@ has-on q k x a wired own has = (
 )
 
 among : (q : Queues) (es : List (ℕ × code.Connection)) (n : ℕ) (x : code.Connection) (a : End)
-    → lookup (at n) es ≡ Some x → ((k : ℕ) → WaitsOn (seen q k x) a) → WaitsIn (all_seen q es) a
+    → lookup (nat_eq n) es ≡ Some x → ((k : ℕ) → WaitsOn (seen q k x) a) → WaitsIn (all_seen q es) a
 among q [] n x a l w = absurd (some-none x (sym l))
-among q (e ∷ es) n x a l w = by (at n e.0) l (among q es n x a)
+among q (e ∷ es) n x a l w = by (nat_eq n e.0) l (among q es n x a)
   where
-    by : (b : Bool) → cond b (Some e.1) (lookup (at n) es) ≡ Some x
-        → (lookup (at n) es ≡ Some x → ((k : ℕ) → WaitsOn (seen q k x) a)
+    by : (b : Bool) → cond b (Some e.1) (lookup (nat_eq n) es) ≡ Some x
+        → (lookup (nat_eq n) es ≡ Some x → ((k : ℕ) → WaitsOn (seen q k x) a)
         → WaitsIn (all_seen q es) a)
         → WaitsIn (all_seen q (e ∷ es)) a
     by true m later = inl (subst (λ c. WaitsOn (seen q e.0 c) a) (sym (same-some e.1 x m)) (w e.0))

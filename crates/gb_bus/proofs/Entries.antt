@@ -1,15 +1,13 @@
--- The entries of an ordered map by their numbers, and what is seen of them.
-use Rattle.std.proofs.Common.{◌≡◌, ◌≢◌, ◌<◌, ℕ, Bool, true, false, cond, not, ◌⊎◌, inl, inr, Some}
+-- The entries of a map by their numbers, and what is seen of them.
+use Rattle.std.proofs.Common.{◌≡◌, ◌≢◌, ℕ, Bool, true, false, cond, not, ◌⊎◌, inl, inr, Some}
 use Rattle.std.proofs.Common.{None, option_map, List, [], ◌∷◌, ◌++◌, refl, sym, ap, ◌∙◌, subst}
-use Rattle.std.proofs.Common.{arith, Less, Greater, unwrap_or}
+use Rattle.std.proofs.Common.{arith, unwrap_or}
 use Rattle.std.proofs.lemmas.Bool.{cases_eq, eq-eqb, ne_eqb}
 use Rattle.std.proofs.lemmas.Bool.Decides.{nat_tests}
-use Rattle.std.proofs.lemmas.Map.Keys.{sorted_head, sorted_tail}
-use Rattle.std.specs.BTreeMap.{insert_entry, is_at}
-use Rattle.std.specs.List.{AllByRecursion, find}
-use Rattle.std.specs.List.Sorted.{IsStrictlySortedBy}
+use Rattle.std.proofs.lemmas.Map.Keys.{IsDistinct-head, IsDistinct-tail}
+use Rattle.std.specs.List.{AllByRecursion, IsDistinct, find}
 use Rattle.std.specs.Map.{keys_of, lookup, remove_entry, set_value}
-use Rattle.std.specs.Ordering.{match_ordering, nat_cmp}
+use Rattle.std.specs.Prelude.{nat_eq}
 use Rattle.gb_base.specs.declared.end.End.{End}
 use Rattle.gb_bus.specs.Connection.{Connection}
 use Rattle.gb_bus.specs.Parts.{numbered}
@@ -20,21 +18,14 @@ use Rattle.gb_machine.specs.Lists.{at_first, without}
 
 -- ---- entries by their numbers
 
--- the test for a number
-abbrev pub at : ℕ → ℕ → Bool
-at k = is_at (nat_cmp k)
-
-pub at-same : (k n : ℕ) → k ≡ n → at k n ≡ true
+pub at-same : (k n : ℕ) → k ≡ n → nat_eq k n ≡ true
 at-same k n e = grind (arith, nat_tests)
 
-pub at-other : (k n : ℕ) → k ≢ n → at k n ≡ false
+pub at-other : (k n : ℕ) → k ≢ n → nat_eq k n ≡ false
 at-other k n e = grind (arith, nat_tests)
 
-greater : (k n : ℕ) → k < n → nat_cmp n k ≡ Greater
-greater k n h = grind (arith, nat_tests)
-
-less-other : (k n : ℕ) → nat_cmp k n ≡ Less → n ≢ k
-less-other k n h = λ e. let same = at-same k n (sym e) in absurd (cc (same, h))
+different : (n k : ℕ) → nat_eq n k ≡ false → k ≢ n
+different n k f = λ e. let same = at-same n k (sym e) in absurd (cc (same, f))
 
 pub same-some : {A : Type 0} (x y : A) → Some x ≡ Some y → x ≡ y
 same-some x y e = ap (λ o. unwrap_or o x) e
@@ -73,46 +64,46 @@ NoKey n es = EachEntry (λ k x. k ≢ n) es
 
 -- the numbers behind are others
 others-behind : {X : Type 0} (n : ℕ) (es : List (ℕ × X))
-    → AllByRecursion (λ k. nat_cmp n k ≡ Less) (keys_of es) → NoKey n es
+    → AllByRecursion (λ k. nat_eq n k ≡ false) (keys_of es) → NoKey n es
 others-behind n [] h = tt
-others-behind n (e ∷ es) h = (less-other n e.0 h.0, others-behind n es h.1)
+others-behind n (e ∷ es) h = (different n e.0 h.0, others-behind n es h.1)
 
 pub lookup-nowhere : {X : Type 0} (n : ℕ) (es : List (ℕ × X)) → NoKey n es
-    → lookup (at n) es ≡ None
+    → lookup (nat_eq n) es ≡ None
 lookup-nowhere n [] h = refl
 lookup-nowhere n (e ∷ es) h =
-    ap (λ b. cond b (Some e.1) (lookup (at n) es)) (at-other n e.0 (λ q. h.0 (sym q)))
+    ap (λ b. cond b (Some e.1) (lookup (nat_eq n) es)) (at-other n e.0 (λ q. h.0 (sym q)))
     ∙ lookup-nowhere n es h.1
 
-pub nowhere : {X : Type 0} (n : ℕ) (es : List (ℕ × X)) → lookup (at n) es ≡ None → NoKey n es
+pub nowhere : {X : Type 0} (n : ℕ) (es : List (ℕ × X)) → lookup (nat_eq n) es ≡ None → NoKey n es
 nowhere n [] h = tt
 nowhere n (e ∷ es) h = by (cases_eq n e.0) (nowhere n es)
   where
-    by : (n ≡ e.0) ⊎ (n ≢ e.0) → (lookup (at n) es ≡ None → NoKey n es) → NoKey n (e ∷ es)
+    by : (n ≡ e.0) ⊎ (n ≢ e.0) → (lookup (nat_eq n) es ≡ None → NoKey n es) → NoKey n (e ∷ es)
     by (inl same) later =
         absurd (some-none e.1
-        (sym (ap (λ b. cond b (Some e.1) (lookup (at n) es)) (at-same n e.0 same)) ∙ h))
+        (sym (ap (λ b. cond b (Some e.1) (lookup (nat_eq n) es)) (at-same n e.0 same)) ∙ h))
     by (inr ne) later = (
       λ q. ne (sym q),
-      later (sym (ap (λ b. cond b (Some e.1) (lookup (at n) es)) (at-other n e.0 ne)) ∙ h),
+      later (sym (ap (λ b. cond b (Some e.1) (lookup (nat_eq n) es)) (at-other n e.0 ne)) ∙ h),
     )
 
 -- what is so of all that is found is so of each
 pub each-entry : {X : Type 0} (P : ℕ → X → Type 0) (es : List (ℕ × X))
-    → IsStrictlySortedBy nat_cmp (keys_of es)
-    → ((k : ℕ) (x : X) → lookup (at k) es ≡ Some x → P k x) → EachEntry P es
+    → IsDistinct nat_eq (keys_of es)
+    → ((k : ℕ) (x : X) → lookup (nat_eq k) es ≡ Some x → P k x) → EachEntry P es
 each-entry P [] s h = tt
 each-entry {X} P (e ∷ es) s h = (
-  h e.0 e.1 (ap (λ b. cond b (Some e.1) (lookup (at e.0) es)) (at-same e.0 e.0 refl)),
-  each-entry P es (sorted_tail nat_cmp e.0 (keys_of es) s) (λ k x l. h k x (behind k x l)),
+  h e.0 e.1 (ap (λ b. cond b (Some e.1) (lookup (nat_eq e.0) es)) (at-same e.0 e.0 refl)),
+  each-entry P es (IsDistinct-tail nat_eq e.0 (keys_of es) s) (λ k x l. h k x (behind k x l)),
 )
   where
-    behind : (k : ℕ) (x : X) → lookup (at k) es ≡ Some x → lookup (at k) (e ∷ es) ≡ Some x
+    behind : (k : ℕ) (x : X) → lookup (nat_eq k) es ≡ Some x → lookup (nat_eq k) (e ∷ es) ≡ Some x
     behind k x l =
-        ap (λ b. cond b (Some e.1) (lookup (at k) es))
-        (at-other k e.0 (λ same. some-none x (sym l ∙ ap (λ j. lookup (at j) es) same
+        ap (λ b. cond b (Some e.1) (lookup (nat_eq k) es))
+        (at-other k e.0 (λ same. some-none x (sym l ∙ ap (λ j. lookup (nat_eq j) es) same
         ∙ lookup-nowhere e.0 es
-        (others-behind e.0 es (sorted_head nat_cmp e.0 (keys_of es) s)))))
+        (others-behind e.0 es (IsDistinct-head nat_eq e.0 (keys_of es) s)))))
         ∙ l
 
 -- the entries in front of the one with a number, and those behind it
@@ -124,26 +115,26 @@ pub record Split {X : Type 0} (es : List (ℕ × X)) (n : ℕ) (x : X) : Type 0 
   pub behind : NoKey n back
 
 pub split : {X : Type 0} (es : List (ℕ × X)) (n : ℕ) (x : X)
-    → IsStrictlySortedBy nat_cmp (keys_of es) → lookup (at n) es ≡ Some x → Split es n x
+    → IsDistinct nat_eq (keys_of es) → lookup (nat_eq n) es ≡ Some x → Split es n x
 split [] n x s l = absurd (some-none x (sym l))
 split {X} (e ∷ es) n x s l =
-    by (cases_eq n e.0) (split es n x (sorted_tail nat_cmp e.0 (keys_of es) s))
+    by (cases_eq n e.0) (split es n x (IsDistinct-tail nat_eq e.0 (keys_of es) s))
   where
-    by : (n ≡ e.0) ⊎ (n ≢ e.0) → (lookup (at n) es ≡ Some x → Split es n x)
+    by : (n ≡ e.0) ⊎ (n ≢ e.0) → (lookup (nat_eq n) es ≡ Some x → Split es n x)
         → Split (e ∷ es) n x
     by (inl same) later =
         let value : e.1 ≡ x = same-some e.1 x
-        (sym (ap (λ b. cond b (Some e.1) (lookup (at n) es)) (at-same n e.0 same)) ∙ l) in
+        (sym (ap (λ b. cond b (Some e.1) (lookup (nat_eq n) es)) (at-same n e.0 same)) ∙ l) in
         record {
           front = [];
           back = es;
           is = ap (λ k. (k, e.1) ∷ es) (sym same) ∙ ap (λ v. (n, v) ∷ es) value;
           before = tt;
           behind = subst (λ k. NoKey k es) (sym same)
-              (others-behind e.0 es (sorted_head nat_cmp e.0 (keys_of es) s));
+              (others-behind e.0 es (IsDistinct-head nat_eq e.0 (keys_of es) s));
         }
     by (inr ne) later =
-        let r = later (sym (ap (λ b. cond b (Some e.1) (lookup (at n) es)) (at-other n e.0 ne))
+        let r = later (sym (ap (λ b. cond b (Some e.1) (lookup (nat_eq n) es)) (at-other n e.0 ne))
         ∙ l) in
         record {
           front = e ∷ r.front;
@@ -156,61 +147,53 @@ split {X} (e ∷ es) n x s l =
 -- ---- changes of entries
 
 pub set-split : {X : Type 0} (front back : List (ℕ × X)) (n : ℕ) (x y : X) → NoKey n front
-    → set_value (at n) (front ++ (n, x) ∷ back) y ≡ front ++ (n, y) ∷ back
+    → set_value (nat_eq n) (front ++ (n, x) ∷ back) y ≡ front ++ (n, y) ∷ back
 set-split [] back n x y h =
-    ap (λ b. cond b ((n, y) ∷ back) ((n, x) ∷ set_value (at n) back y)) (at-same n n refl)
+    ap (λ b. cond b ((n, y) ∷ back) ((n, x) ∷ set_value (nat_eq n) back y)) (at-same n n refl)
 set-split (e ∷ front) back n x y h =
     ap (λ b. cond b ((e.0, y) ∷ front ++ (n, x) ∷ back)
-    (e ∷ set_value (at n) (front ++ (n, x) ∷ back) y)) (at-other n e.0 (λ q. h.0 (sym q)))
+    (e ∷ set_value (nat_eq n) (front ++ (n, x) ∷ back) y)) (at-other n e.0 (λ q. h.0 (sym q)))
     ∙ ap (λ ys. e ∷ ys) (set-split front back n x y h.1)
 
 pub remove-split : {X : Type 0} (front back : List (ℕ × X)) (n : ℕ) (x : X) → NoKey n front
-    → remove_entry (at n) (front ++ (n, x) ∷ back) ≡ front ++ back
+    → remove_entry (nat_eq n) (front ++ (n, x) ∷ back) ≡ front ++ back
 remove-split [] back n x h =
-    ap (λ b. cond b back ((n, x) ∷ remove_entry (at n) back)) (at-same n n refl)
+    ap (λ b. cond b back ((n, x) ∷ remove_entry (nat_eq n) back)) (at-same n n refl)
 remove-split (e ∷ front) back n x h =
-    ap (λ b. cond b (front ++ (n, x) ∷ back) (e ∷ remove_entry (at n) (front ++ (n, x) ∷ back)))
+    ap (λ b. cond b (front ++ (n, x) ∷ back) (e ∷ remove_entry (nat_eq n) (front ++ (n, x) ∷ back)))
     (at-other n e.0 (λ q. h.0 (sym q)))
     ∙ ap (λ ys. e ∷ ys) (remove-split front back n x h.1)
 
-pub insert-last : {X : Type 0} (es : List (ℕ × X)) (n : ℕ) (x : X)
-    → EachEntry (λ k y. k < n) es → insert_entry nat_cmp es n x ≡ es ++ (n, x) ∷ []
-insert-last [] n x h = refl
-insert-last (e ∷ es) n x h =
-    ap (λ o. match_ordering o ((n, x) ∷ e ∷ es) ((e.0, x) ∷ es) (e ∷ insert_entry nat_cmp es n x))
-    (greater e.0 n h.0)
-    ∙ ap (λ ys. e ∷ ys) (insert-last es n x h.1)
-
-pub set-here : {X : Type 0} (n : ℕ) (es : List (ℕ × X)) (x y : X) → lookup (at n) es ≡ Some x
-    → lookup (at n) (set_value (at n) es y) ≡ Some y
+pub set-here : {X : Type 0} (n : ℕ) (es : List (ℕ × X)) (x y : X) → lookup (nat_eq n) es ≡ Some x
+    → lookup (nat_eq n) (set_value (nat_eq n) es y) ≡ Some y
 set-here n [] x y l = absurd (some-none x (sym l))
-set-here n (e ∷ es) x y l = by (at n e.0) refl l (set-here n es x y)
+set-here n (e ∷ es) x y l = by (nat_eq n e.0) refl l (set-here n es x y)
   where
-    by : (b : Bool) → at n e.0 ≡ b → cond b (Some e.1) (lookup (at n) es) ≡ Some x
-        → (lookup (at n) es ≡ Some x → lookup (at n) (set_value (at n) es y) ≡ Some y)
-        → lookup (at n) (cond b ((e.0, y) ∷ es) (e ∷ set_value (at n) es y)) ≡ Some y
-    by true t m later = ap (λ b. cond b (Some y) (lookup (at n) es)) t
+    by : (b : Bool) → nat_eq n e.0 ≡ b → cond b (Some e.1) (lookup (nat_eq n) es) ≡ Some x
+        → (lookup (nat_eq n) es ≡ Some x → lookup (nat_eq n) (set_value (nat_eq n) es y) ≡ Some y)
+        → lookup (nat_eq n) (cond b ((e.0, y) ∷ es) (e ∷ set_value (nat_eq n) es y)) ≡ Some y
+    by true t m later = ap (λ b. cond b (Some y) (lookup (nat_eq n) es)) t
     by false t m later =
-        ap (λ b. cond b (Some e.1) (lookup (at n) (set_value (at n) es y))) t ∙ later m
+        ap (λ b. cond b (Some e.1) (lookup (nat_eq n) (set_value (nat_eq n) es y))) t ∙ later m
 
 pub set-others : {X : Type 0} (n k : ℕ) (es : List (ℕ × X)) (y : X) → k ≢ n
-    → lookup (at k) (set_value (at n) es y) ≡ lookup (at k) es
+    → lookup (nat_eq k) (set_value (nat_eq n) es y) ≡ lookup (nat_eq k) es
 set-others n k [] y ne = refl
 set-others n k (e ∷ es) y ne = by (cases_eq n e.0) (set-others n k es y ne)
   where
     by : (n ≡ e.0) ⊎ (n ≢ e.0)
-        → lookup (at k) (set_value (at n) es y) ≡ lookup (at k) es
-        → lookup (at k) (set_value (at n) (e ∷ es) y) ≡ lookup (at k) (e ∷ es)
+        → lookup (nat_eq k) (set_value (nat_eq n) es y) ≡ lookup (nat_eq k) es
+        → lookup (nat_eq k) (set_value (nat_eq n) (e ∷ es) y) ≡ lookup (nat_eq k) (e ∷ es)
     by (inl same) later =
-        let skip : at k e.0 ≡ false = at-other k e.0 (λ q. ne (q ∙ sym same)) in
-        ap (λ b. lookup (at k) (cond b ((e.0, y) ∷ es) (e ∷ set_value (at n) es y)))
+        let skip : nat_eq k e.0 ≡ false = at-other k e.0 (λ q. ne (q ∙ sym same)) in
+        ap (λ b. lookup (nat_eq k) (cond b ((e.0, y) ∷ es) (e ∷ set_value (nat_eq n) es y)))
         (at-same n e.0 same)
-        ∙ ap (λ b. cond b (Some y) (lookup (at k) es)) skip
-        ∙ sym (ap (λ b. cond b (Some e.1) (lookup (at k) es)) skip)
+        ∙ ap (λ b. cond b (Some y) (lookup (nat_eq k) es)) skip
+        ∙ sym (ap (λ b. cond b (Some e.1) (lookup (nat_eq k) es)) skip)
     by (inr other) later =
-        ap (λ b. lookup (at k) (cond b ((e.0, y) ∷ es) (e ∷ set_value (at n) es y)))
+        ap (λ b. lookup (nat_eq k) (cond b ((e.0, y) ∷ es) (e ∷ set_value (nat_eq n) es y)))
         (at-other n e.0 other)
-        ∙ ap (λ o. cond (at k e.0) (Some e.1) o) later
+        ∙ ap (λ o. cond (nat_eq k e.0) (Some e.1) o) later
 
 -- ---- what is seen
 
@@ -268,25 +251,25 @@ without-split q (e ∷ front) back n x h b =
 
 -- the connection with a number
 pub find-seen : (q : List (End × List Item)) (es : List (ℕ × code.Connection)) (n : ℕ)
-    → find (numbered n) (all_seen q es) ≡ option_map (seen q n) (lookup (at n) es)
+    → find (numbered n) (all_seen q es) ≡ option_map (seen q n) (lookup (nat_eq n) es)
 find-seen q [] n = refl
 find-seen q (e ∷ es) n = by (cases_eq n e.0) (find-seen q es n)
   where
     by : (n ≡ e.0) ⊎ (n ≢ e.0)
-        → find (numbered n) (all_seen q es) ≡ option_map (seen q n) (lookup (at n) es)
+        → find (numbered n) (all_seen q es) ≡ option_map (seen q n) (lookup (nat_eq n) es)
         → find (numbered n) (all_seen q (e ∷ es))
-        ≡ option_map (seen q n) (lookup (at n) (e ∷ es))
+        ≡ option_map (seen q n) (lookup (nat_eq n) (e ∷ es))
     by (inl same) later =
         ap (λ b. cond b (Some (seen q e.0 e.1)) (find (numbered n) (all_seen q es)))
         (eq-eqb e.0 n (sym same))
         ∙ ap (λ k. Some (seen q k e.1)) (sym same)
-        ∙ sym (ap (λ b. option_map (seen q n) (cond b (Some e.1) (lookup (at n) es)))
+        ∙ sym (ap (λ b. option_map (seen q n) (cond b (Some e.1) (lookup (nat_eq n) es)))
         (at-same n e.0 same))
     by (inr ne) later =
         ap (λ b. cond b (Some (seen q e.0 e.1)) (find (numbered n) (all_seen q es)))
         (ne_eqb e.0 n (λ q. ne (sym q)))
         ∙ later
-        ∙ sym (ap (λ b. option_map (seen q n) (cond b (Some e.1) (lookup (at n) es)))
+        ∙ sym (ap (λ b. option_map (seen q n) (cond b (Some e.1) (lookup (nat_eq n) es)))
         (at-other n e.0 ne))
 
 -- a test that none passes but the one with a number
@@ -315,9 +298,9 @@ find-split q test (e ∷ front) back n x h b =
 -- The connection with a number changes, and what is seen of the others stays.
 pub changes : (q r : List (End × List Item)) (es fs : List (ℕ × code.Connection)) (n : ℕ)
     (x y : code.Connection) (f : Connection → Connection)
-    → IsStrictlySortedBy nat_cmp (keys_of es) → lookup (at n) es ≡ Some x
-    → fs ≡ set_value (at n) es y → seen r n y ≡ f (seen q n x)
-    → ((k : ℕ) (z : code.Connection) → lookup (at k) es ≡ Some z → k ≢ n
+    → IsDistinct nat_eq (keys_of es) → lookup (nat_eq n) es ≡ Some x
+    → fs ≡ set_value (nat_eq n) es y → seen r n y ≡ f (seen q n x)
+    → ((k : ℕ) (z : code.Connection) → lookup (nat_eq k) es ≡ Some z → k ≢ n
     → seen r k z ≡ seen q k z)
     → all_seen r fs ≡ at_first (numbered n) f (all_seen q es)
 changes q r es fs n x y f s l set one others =
@@ -329,7 +312,7 @@ changes q r es fs n x y f s l set one others =
     let back = both (λ k z. k ≢ n) (λ k z. seen r k z ≡ seen q k z) p.back p.behind
     (each-back (λ k z. k ≢ n → seen r k z ≡ seen q k z) p.front ((n, x) ∷ p.back) there).1 in
     ap (all_seen r)
-    (set ∙ ap (λ l. set_value (at n) l y) p.is ∙ set-split p.front p.back n x y p.before)
+    (set ∙ ap (λ l. set_value (nat_eq n) l y) p.is ∙ set-split p.front p.back n x y p.before)
     ∙ seen-append r p.front ((n, y) ∷ p.back)
     ∙ ap (λ cs. cs ++ seen r n y ∷ all_seen r p.back) (same-seen q r p.front front)
     ∙ ap (λ c. all_seen q p.front ++ c ∷ all_seen r p.back) one

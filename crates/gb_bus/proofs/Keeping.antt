@@ -3,16 +3,17 @@ use Rattle.std.proofs.Common.{◌≡◌, ◌≢◌, ℕ, true, false, cond, ◌�
 use Rattle.std.proofs.Common.{List, [], ◌∷◌, ◌++◌, refl, sym, ap, ◌∙◌, subst, IsSome, eqb, ◌&&◌}
 use Rattle.std.proofs.lemmas.Bool.{cases_eq, eq-eqb, true≢false}
 use Rattle.std.proofs.lemmas.Map.{keys-set_value}
-use Rattle.std.specs.BTreeMap.{BTreeMap, IsOrdered, get, is_at}
-use Rattle.std.specs.List.Sorted.{IsStrictlySortedBy}
+use Rattle.std.specs.List.{IsDistinct}
 use Rattle.std.specs.Map.{keys_of, lookup, set_value}
-use Rattle.std.specs.Ordering.{nat_cmp}
+use Rattle.std.specs.Prelude.{nat_eq}
+use Rattle.indexmap.specs.IndexMap.{IsUnique, get}
 use Rattle.gb_base.specs.declared.end.End.{End}
 use Rattle.gb_base.specs.declared.end.End.TheVariants as end
 use Rattle.gb_base.specs.declared.end.Side.{Side}
 use Rattle.gb_base.specs.declared.end.Side.TheVariants as side
 use Rattle.gb_bus.proofs.Entries.{same-some, set-here, set-others}
-use Rattle.gb_bus.specs.Index.{Ends, HasQueues, IsEndOf, IsIndexed, IsOwned, Kept, number_at}
+use Rattle.gb_bus.specs.Index.{Ends, HasQueues, IsEndOf, IsIndexed, IsOwned, Kept, Live}
+use Rattle.gb_bus.specs.Index.{number_at}
 use Rattle.gb_bus.specs.Parts.{end_at}
 use Rattle.gb_bus.specs.Seen.{alone, items_of, seen}
 use Rattle.gb_bus.specs.declared.connection.Connection as code
@@ -21,9 +22,6 @@ use Rattle.gb_machine.specs.Bus.{same_end}
 use Rattle.gb_switch.proofs.Lines.{is-end}
 use Rattle.gb_switch.specs.Queues.{Appends, Creates, Puts, Takes, items_at}
 
-abbrev pub Live : Type 0
-Live = BTreeMap ℕ code.Connection
-
 abbrev pub Queues : Type 0
 Queues = List (End × List Item)
 
@@ -31,14 +29,14 @@ Queues = List (End × List Item)
 
 abbrev pub AreIndexed : Live → Ends → Type 0
 AreIndexed live ends =
-    (k : ℕ) (x : code.Connection) → get nat_cmp live k ≡ Some x → IsIndexed ends k x
+    (k : ℕ) (x : code.Connection) → get nat_eq live k ≡ Some x → IsIndexed ends k x
 
 abbrev pub AreOwned : Live → Queues → Type 0
 AreOwned live q = (at : End) (items : List Item) → items_at q at ≡ Some items → IsOwned live at
 
 abbrev pub AreQueued : Live → Queues → Type 0
 AreQueued live q =
-    (k : ℕ) (x : code.Connection) → get nat_cmp live k ≡ Some x → x.wired ≡ true → HasQueues q x
+    (k : ℕ) (x : code.Connection) → get nat_eq live k ≡ Some x → x.wired ≡ true → HasQueues q x
 
 -- ---- ends are those of one connection
 
@@ -51,7 +49,7 @@ number-of-end ends k x at i own =
     own
 
 pub ends-apart : (live : Live) (ends : Ends) (k n : ℕ) (z x : code.Connection) (a e : End)
-    → AreIndexed live ends → get nat_cmp live k ≡ Some z → get nat_cmp live n ≡ Some x → k ≢ n
+    → AreIndexed live ends → get nat_eq live k ≡ Some z → get nat_eq live n ≡ Some x → k ≢ n
     → IsEndOf a z → IsEndOf e x → a ≢ e
 ends-apart live ends k n z x a e i there found ne of_z of_x same =
     ne (same-some k n
@@ -86,7 +84,7 @@ seen-same q r k z near far =
 
 -- the queues of other connections stay where those of one change
 pub seen-others : (live : Live) (ends : Ends) (q r : Queues) (k n : ℕ) (z x : code.Connection)
-    → AreIndexed live ends → get nat_cmp live k ≡ Some z → get nat_cmp live n ≡ Some x → k ≢ n
+    → AreIndexed live ends → get nat_eq live k ≡ Some z → get nat_eq live n ≡ Some x → k ≢ n
     → ((a : End) → (IsEndOf a x → ⊥) → items_at r a ≡ items_at q a)
     → seen r k z ≡ seen q k z
 seen-others live ends q r k n z x i there found ne stay =
@@ -106,33 +104,33 @@ not-one x a side.Far never e = never (inr e)
 -- ---- one connection changes, but not its ends
 
 pub get-set : (live live' : Live) (n k : ℕ) (x y z : code.Connection)
-    → get nat_cmp live n ≡ Some x → live'.entries ≡ set_value (is_at (nat_cmp n)) live.entries y
-    → get nat_cmp live' k ≡ Some z
-    → ((k ≡ n) × (z ≡ y)) ⊎ ((k ≢ n) × (get nat_cmp live k ≡ Some z))
+    → get nat_eq live n ≡ Some x → live'.entries ≡ set_value (nat_eq n) live.entries y
+    → get nat_eq live' k ≡ Some z
+    → ((k ≡ n) × (z ≡ y)) ⊎ ((k ≢ n) × (get nat_eq live k ≡ Some z))
 get-set live live' n k x y z found set there = by (cases_eq k n)
   where
-    value : get nat_cmp live' k
-        ≡ lookup (is_at (nat_cmp k)) (set_value (is_at (nat_cmp n)) live.entries y)
-    value = ap (lookup (is_at (nat_cmp k))) set
+    value : get nat_eq live' k
+        ≡ lookup (nat_eq k) (set_value (nat_eq n) live.entries y)
+    value = ap (lookup (nat_eq k)) set
 
-    by : (k ≡ n) ⊎ (k ≢ n) → ((k ≡ n) × (z ≡ y)) ⊎ ((k ≢ n) × (get nat_cmp live k ≡ Some z))
+    by : (k ≡ n) ⊎ (k ≢ n) → ((k ≡ n) × (z ≡ y)) ⊎ ((k ≢ n) × (get nat_eq live k ≡ Some z))
     by (inl e) = inl (
       e,
       same-some z y (sym there ∙ value
-          ∙ ap (λ j. lookup (is_at (nat_cmp j)) (set_value (is_at (nat_cmp n)) live.entries y)) e
+          ∙ ap (λ j. lookup (nat_eq j) (set_value (nat_eq n) live.entries y)) e
           ∙ set-here n live.entries x y found),
     )
     by (inr ne) = inr (ne, sym (set-others n k live.entries y ne) ∙ sym value ∙ there)
 
-pub ordered-set : (live live' : Live) (n : ℕ) (y : code.Connection)
-    → live'.entries ≡ set_value (is_at (nat_cmp n)) live.entries y
-    → IsOrdered nat_cmp live → IsOrdered nat_cmp live'
-ordered-set live live' n y set s =
-    subst (λ ks. IsStrictlySortedBy nat_cmp ks)
-    (sym (ap keys_of set ∙ keys-set_value (is_at (nat_cmp n)) live.entries y)) s
+pub unique-set : (live live' : Live) (n : ℕ) (y : code.Connection)
+    → live'.entries ≡ set_value (nat_eq n) live.entries y
+    → IsUnique nat_eq live → IsUnique nat_eq live'
+unique-set live live' n y set s =
+    subst (λ ks. IsDistinct nat_eq ks)
+    (sym (ap keys_of set ∙ keys-set_value (nat_eq n) live.entries y)) s
 
 pub indexed-set : (live live' : Live) (ends : Ends) (n : ℕ) (x y : code.Connection)
-    → get nat_cmp live n ≡ Some x → live'.entries ≡ set_value (is_at (nat_cmp n)) live.entries y
+    → get nat_eq live n ≡ Some x → live'.entries ≡ set_value (nat_eq n) live.entries y
     → y.ap ≡ x.ap → y.peer ≡ x.peer → AreIndexed live ends → AreIndexed live' ends
 indexed-set live live' ends n x y found set ap_is peer_is i k z there =
     by (get-set live live' n k x y z found set there)
@@ -145,7 +143,7 @@ indexed-set live live' ends n x y found set ap_is peer_is i k z there =
           ∙ (i n x found).two;
     }
 
-    by : ((k ≡ n) × (z ≡ y)) ⊎ ((k ≢ n) × (get nat_cmp live k ≡ Some z)) → IsIndexed ends k z
+    by : ((k ≡ n) × (z ≡ y)) ⊎ ((k ≢ n) × (get nat_eq live k ≡ Some z)) → IsIndexed ends k z
     by (inl e) = subst (λ c. IsIndexed ends k c) (sym e.1)
         (subst (λ j. IsIndexed ends j y) (sym e.0) own)
     by (inr e) = i k z e.1
@@ -157,7 +155,7 @@ end-of-set x y a ap_is peer_is own =
     ⊎_elim (λ e. inl (e ∙ ap end.Ap (sym ap_is))) (λ e. inr (e ∙ sym peer_is)) own
 
 pub owned-set : (live live' : Live) (n : ℕ) (x y : code.Connection) (a : End)
-    → get nat_cmp live n ≡ Some x → live'.entries ≡ set_value (is_at (nat_cmp n)) live.entries y
+    → get nat_eq live n ≡ Some x → live'.entries ≡ set_value (nat_eq n) live.entries y
     → y.ap ≡ x.ap → y.peer ≡ x.peer → (x.wired ≡ true → y.wired ≡ true)
     → IsOwned live a → IsOwned live' a
 owned-set live live' n x y a found set ap_is peer_is wires o = by (cases_eq o.number n)
@@ -165,18 +163,18 @@ owned-set live live' n x y a found set ap_is peer_is wires o = by (cases_eq o.nu
     by : (o.number ≡ n) ⊎ (o.number ≢ n) → IsOwned live' a
     by (inl e) =
         let same : o.connection ≡ x = same-some o.connection x
-        (sym o.there ∙ ap (λ k. get nat_cmp live k) e ∙ found) in
+        (sym o.there ∙ ap (λ k. get nat_eq live k) e ∙ found) in
         record {
           number = n;
           connection = y;
-          there = ap (lookup (is_at (nat_cmp n))) set ∙ set-here n live.entries x y found;
+          there = ap (lookup (nat_eq n)) set ∙ set-here n live.entries x y found;
           wired = wires (ap (λ (c : code.Connection). c.wired) (sym same) ∙ o.wired);
           own = end-of-set x y a ap_is peer_is (subst (IsEndOf a) same o.own);
         }
     by (inr ne) = record {
       number = o.number;
       connection = o.connection;
-      there = ap (lookup (is_at (nat_cmp o.number))) set ∙ set-others n o.number live.entries y ne
+      there = ap (lookup (nat_eq o.number)) set ∙ set-others n o.number live.entries y ne
           ∙ o.there;
       wired = o.wired;
       own = o.own;
@@ -184,15 +182,15 @@ owned-set live live' n x y a found set ap_is peer_is wires o = by (cases_eq o.nu
 
 -- queues are there still
 pub queued-set : (live live' : Live) (q : Queues) (n : ℕ) (x y : code.Connection)
-    → get nat_cmp live n ≡ Some x → live'.entries ≡ set_value (is_at (nat_cmp n)) live.entries y
+    → get nat_eq live n ≡ Some x → live'.entries ≡ set_value (nat_eq n) live.entries y
     → y.ap ≡ x.ap → y.peer ≡ x.peer → (y.wired ≡ true → HasQueues q x)
-    → ((k : ℕ) (z : code.Connection) → k ≢ n → get nat_cmp live k ≡ Some z → z.wired ≡ true
+    → ((k : ℕ) (z : code.Connection) → k ≢ n → get nat_eq live k ≡ Some z → z.wired ≡ true
     → HasQueues q z)
     → AreQueued live' q
 queued-set live live' q n x y found set ap_is peer_is own others k z there w =
     by (get-set live live' n k x y z found set there)
   where
-    by : ((k ≡ n) × (z ≡ y)) ⊎ ((k ≢ n) × (get nat_cmp live k ≡ Some z)) → HasQueues q z
+    by : ((k ≡ n) × (z ≡ y)) ⊎ ((k ≢ n) × (get nat_eq live k ≡ Some z)) → HasQueues q z
     by (inl e) =
         let h = own (ap (λ (c : code.Connection). c.wired) (sym e.1) ∙ w) in
         record {
@@ -205,11 +203,11 @@ queued-set live live' q n x y found set ap_is peer_is own others k z there w =
 
 -- but what waits, and not its wire
 pub kept-set : (live live' : Live) (ends : Ends) (q : Queues) (n : ℕ) (x y : code.Connection)
-    → get nat_cmp live n ≡ Some x → live'.entries ≡ set_value (is_at (nat_cmp n)) live.entries y
+    → get nat_eq live n ≡ Some x → live'.entries ≡ set_value (nat_eq n) live.entries y
     → y.ap ≡ x.ap → y.peer ≡ x.peer → y.wired ≡ x.wired
     → Kept live ends q → Kept live' ends q
 kept-set live live' ends q n x y found set ap_is peer_is wired k = record {
-  ordered = ordered-set live live' n y set k.ordered;
+  unique = unique-set live live' n y set k.unique;
   indexed = indexed-set live live' ends n x y found set ap_is peer_is k.indexed;
   owned = λ a items t.
       owned-set live live' n x y a found set ap_is peer_is (λ w. wired ∙ w) (k.owned a items t);
@@ -221,18 +219,18 @@ kept-set live live' ends q n x y found set ap_is peer_is wired k = record {
 pub kept-same : (live live' : Live) (ends : Ends) (q : Queues) → live'.entries ≡ live.entries
     → Kept live ends q → Kept live' ends q
 kept-same live live' ends q same k = record {
-  ordered = subst (λ es. IsStrictlySortedBy nat_cmp (keys_of es)) (sym same) k.ordered;
-  indexed = λ n x there. k.indexed n x (ap (lookup (is_at (nat_cmp n))) (sym same) ∙ there);
+  unique = subst (λ es. IsDistinct nat_eq (keys_of es)) (sym same) k.unique;
+  indexed = λ n x there. k.indexed n x (ap (lookup (nat_eq n)) (sym same) ∙ there);
   owned = λ a items t.
       let o = k.owned a items t in
       record {
         number = o.number;
         connection = o.connection;
-        there = ap (lookup (is_at (nat_cmp o.number))) same ∙ o.there;
+        there = ap (lookup (nat_eq o.number)) same ∙ o.there;
         wired = o.wired;
         own = o.own;
       };
-  queued = λ n x there w. k.queued n x (ap (lookup (is_at (nat_cmp n))) (sym same) ∙ there) w;
+  queued = λ n x there w. k.queued n x (ap (lookup (nat_eq n)) (sym same) ∙ there) w;
 }
 
 -- ---- queues change
@@ -250,7 +248,7 @@ pub kept-queues : (live : Live) (ends : Ends) (q r : Queues)
     → ((a : End) (items : List Item) → items_at r a ≡ Some items → IsOwned live a)
     → Stay q r → Kept live ends q → Kept live ends r
 kept-queues live ends q r owned stay k = record {
-  ordered = k.ordered;
+  unique = k.unique;
   indexed = k.indexed;
   owned = owned;
   queued = λ n x there w. stay-queued q r x stay (k.queued n x there w);

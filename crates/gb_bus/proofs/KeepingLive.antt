@@ -2,15 +2,16 @@
 use Rattle.std.proofs.Common.{◌≡◌, ◌≢◌, ℕ, Bool, true, false, cond, ◌⊎◌, inl, inr, Option, Some}
 use Rattle.std.proofs.Common.{None, refl, sym, ap, ◌∙◌, subst, is_some}
 use Rattle.std.proofs.lemmas.Bool.{cases_eq, true≢false}
-use Rattle.std.specs.BTreeMap.{IsOrdered, get, is_at}
 use Rattle.std.specs.Map.{lookup}
-use Rattle.std.specs.Ordering.{eq_by_cmp, nat_cmp}
+use Rattle.std.specs.Ordering.{eq_by_cmp}
+use Rattle.std.specs.Prelude.{nat_eq}
+use Rattle.indexmap.specs.IndexMap.{IsUnique, get}
 use Rattle.gb_base.specs.declared.end.End.{End}
 use Rattle.gb_base.specs.declared.end.End.TheVariants as end
 use Rattle.gb_bus.proofs.Entries.{at-other, at-same, same-some, some-none}
-use Rattle.gb_bus.proofs.Keeping.{Live, Queues, ends-apart}
+use Rattle.gb_bus.proofs.Keeping.{Queues, ends-apart}
 use Rattle.gb_bus.proofs.KeepingWires.{owner-elsewhere, queued-elsewhere}
-use Rattle.gb_bus.specs.Index.{Ends, HasQueues, IsEndOf, IsIndexed, KeepsNumbers, Kept}
+use Rattle.gb_bus.specs.Index.{Ends, HasQueues, IsEndOf, IsIndexed, KeepsNumbers, Kept, Live}
 use Rattle.gb_bus.specs.Index.{number_at}
 use Rattle.gb_bus.specs.declared.connection.Connection as code
 use Rattle.gb_switch.proofs.Places.{cmp-other, cmp-own}
@@ -21,16 +22,16 @@ use Rattle.gb_switch.specs.Queues.{Destroys}
 
 -- what a map of numbers has after a change at one
 abbrev pub Changed : Live → Live → ℕ → Option code.Connection → Type 0
-Changed m n k w = (j : ℕ) → get nat_cmp n j ≡ cond (is_at (nat_cmp k) j) w (get nat_cmp m j)
+Changed m n k w = (j : ℕ) → get nat_eq n j ≡ cond (nat_eq k j) w (get nat_eq m j)
 
 pub changed-others : (m n : Live) (k j : ℕ) (w : Option code.Connection) → Changed m n k w → j ≢ k
-    → get nat_cmp n j ≡ get nat_cmp m j
+    → get nat_eq n j ≡ get nat_eq m j
 changed-others m n k j w u ne =
-    u j ∙ ap (λ b. cond b w (get nat_cmp m j)) (at-other k j (λ e. ne (sym e)))
+    u j ∙ ap (λ b. cond b w (get nat_eq m j)) (at-other k j (λ e. ne (sym e)))
 
 pub changed-here : (m n : Live) (k : ℕ) (w : Option code.Connection) → Changed m n k w
-    → get nat_cmp n k ≡ w
-changed-here m n k w u = u k ∙ ap (λ b. cond b w (get nat_cmp m k)) (at-same k k refl)
+    → get nat_eq n k ≡ w
+changed-here m n k w u = u k ∙ ap (λ b. cond b w (get nat_eq m k)) (at-same k k refl)
 
 -- what numbers by end are after a change at one
 abbrev pub Updated : Ends → Ends → End → Option ℕ → Type 0
@@ -48,16 +49,16 @@ index-here m n p w u = u p ∙ ap (λ b. cond b w (number_at m p)) (cmp-own p)
 
 pub kept-removed : (live live' : Live) (e0 e1 e2 : Ends) (q r : Queues) (n : ℕ)
     (x : code.Connection) (near far : End)
-    → get nat_cmp live n ≡ Some x → Changed live live' n None → IsOrdered nat_cmp live'
+    → get nat_eq live n ≡ Some x → Changed live live' n None → IsUnique nat_eq live'
     → near ≡ end.Ap x.ap → far ≡ x.peer
     → Updated e0 e1 near None → Updated e1 e2 far None
     → Destroys q r (end.Ap x.ap) x.peer → Kept live e0 q → Kept live' e2 r
 kept-removed live live' e0 e1 e2 q r n x near far found gone s is_near is_far u t lost k = record {
-  ordered = s;
+  unique = s;
   indexed = λ j z there.
-      let ne : j ≢ n = λ e. some-none z (sym there ∙ ap (λ m. get nat_cmp live' m) e
+      let ne : j ≢ n = λ e. some-none z (sym there ∙ ap (λ m. get nat_eq live' m) e
       ∙ changed-here live live' n None gone) in
-      let was : get nat_cmp live j ≡ Some z = sym (changed-others live live' n j None gone ne)
+      let was : get nat_eq live j ≡ Some z = sym (changed-others live live' n j None gone ne)
       ∙ there in
       let i = k.indexed j z was in
       record {
@@ -75,13 +76,13 @@ kept-removed live live' e0 e1 e2 q r n x near far found gone s is_near is_far u 
         own = w.0.own;
       };
   queued = λ j z there w.
-      let ne : j ≢ n = λ e. some-none z (sym there ∙ ap (λ m. get nat_cmp live' m) e
+      let ne : j ≢ n = λ e. some-none z (sym there ∙ ap (λ m. get nat_eq live' m) e
       ∙ changed-here live live' n None gone) in
       queued-elsewhere live e0 q r n j x z k found lost ne
       (sym (changed-others live live' n j None gone ne) ∙ there) w;
 }
   where
-    still : (j : ℕ) (z : code.Connection) → j ≢ n → get nat_cmp live j ≡ Some z → (a : End)
+    still : (j : ℕ) (z : code.Connection) → j ≢ n → get nat_eq live j ≡ Some z → (a : End)
         → IsEndOf a z → number_at e2 a ≡ number_at e0 a
     still j z ne was a own =
         index-others e1 e2 far a None t
@@ -97,7 +98,7 @@ kept-removed live live' e0 e1 e2 q r n x near far found gone s is_near is_far u 
 pub kept-more : (live : Live) (m n : Ends) (q : Queues) → KeepsNumbers m n → Kept live m q
     → Kept live n q
 kept-more live m n q keeps k = record {
-  ordered = k.ordered;
+  unique = k.unique;
   indexed = λ j x there.
       let i = k.indexed j x there in
       record {
@@ -145,10 +146,10 @@ first-has m n o p r v u t =
 
 -- a connection is there whose ends have its number
 pub kept-added : (live live' : Live) (e : Ends) (q : Queues) (n : ℕ) (x : code.Connection)
-    → get nat_cmp live n ≡ None → Changed live live' n (Some x) → IsOrdered nat_cmp live'
+    → get nat_eq live n ≡ None → Changed live live' n (Some x) → IsUnique nat_eq live'
     → IsIndexed e n x → x.wired ≡ false → Kept live e q → Kept live' e q
 kept-added live live' e q n x free more s own loose k = record {
-  ordered = s;
+  unique = s;
   indexed = λ j z there. by j z there (cases_eq j n);
   owned = λ a items there.
       let o = k.owned a items there in
@@ -156,7 +157,7 @@ kept-added live live' e q n x free more s own loose k = record {
         number = o.number;
         connection = o.connection;
         there = changed-others live live' n o.number (Some x) more
-            (λ e. some-none o.connection (sym o.there ∙ ap (λ m. get nat_cmp live m) e ∙ free))
+            (λ e. some-none o.connection (sym o.there ∙ ap (λ m. get nat_eq live m) e ∙ free))
             ∙ o.there;
         wired = o.wired;
         own = o.own;
@@ -164,12 +165,12 @@ kept-added live live' e q n x free more s own loose k = record {
   queued = λ j z there w. have j z there w (cases_eq j n);
 }
   where
-    is-new : (j : ℕ) (z : code.Connection) → get nat_cmp live' j ≡ Some z → j ≡ n → x ≡ z
+    is-new : (j : ℕ) (z : code.Connection) → get nat_eq live' j ≡ Some z → j ≡ n → x ≡ z
     is-new j z there e =
         same-some x z (sym (changed-here live live' n (Some x) more)
-        ∙ ap (λ m. get nat_cmp live' m) (sym e) ∙ there)
+        ∙ ap (λ m. get nat_eq live' m) (sym e) ∙ there)
 
-    have : (j : ℕ) (z : code.Connection) → get nat_cmp live' j ≡ Some z → z.wired ≡ true
+    have : (j : ℕ) (z : code.Connection) → get nat_eq live' j ≡ Some z → z.wired ≡ true
         → (j ≡ n) ⊎ (j ≢ n) → HasQueues q z
     have j z there w (inl e) =
         absurd (true≢false (sym w ∙ ap (λ (c : code.Connection). c.wired)
@@ -177,7 +178,7 @@ kept-added live live' e q n x free more s own loose k = record {
     have j z there w (inr ne) =
         k.queued j z (sym (changed-others live live' n j (Some x) more ne) ∙ there) w
 
-    by : (j : ℕ) (z : code.Connection) → get nat_cmp live' j ≡ Some z → (j ≡ n) ⊎ (j ≢ n)
+    by : (j : ℕ) (z : code.Connection) → get nat_eq live' j ≡ Some z → (j ≡ n) ⊎ (j ≢ n)
         → IsIndexed e j z
     by j z there (inl f) =
         subst (λ c. IsIndexed e j c) (is-new j z there f)

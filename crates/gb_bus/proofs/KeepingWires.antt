@@ -2,15 +2,15 @@
 use Rattle.std.proofs.Common.{◌≡◌, ◌≢◌, ℕ, true, false, ◌⊎◌, inl, inr, ⊎_elim, Some, List, refl}
 use Rattle.std.proofs.Common.{sym, ap, ◌∙◌, subst, IsSome}
 use Rattle.std.proofs.lemmas.Bool.{true≢false}
-use Rattle.std.specs.BTreeMap.{get, is_at}
 use Rattle.std.specs.Map.{lookup, set_value}
-use Rattle.std.specs.Ordering.{nat_cmp}
+use Rattle.std.specs.Prelude.{nat_eq}
+use Rattle.indexmap.specs.IndexMap.{get}
 use Rattle.gb_base.specs.declared.end.End.{End}
 use Rattle.gb_base.specs.declared.end.End.TheVariants as end
 use Rattle.gb_bus.proofs.Entries.{same-some, set-here, set-others, some-none}
-use Rattle.gb_bus.proofs.Keeping.{AreOwned, Live, Queues, end-of-set, ends-apart, indexed-set}
-use Rattle.gb_bus.proofs.Keeping.{ordered-set, owned-set, queued-set, stay-created, stay-queued}
-use Rattle.gb_bus.specs.Index.{Ends, HasQueues, IsEndOf, IsOwned, Kept}
+use Rattle.gb_bus.proofs.Keeping.{AreOwned, Queues, end-of-set, ends-apart, indexed-set}
+use Rattle.gb_bus.proofs.Keeping.{unique-set, owned-set, queued-set, stay-created, stay-queued}
+use Rattle.gb_bus.specs.Index.{Ends, HasQueues, IsEndOf, IsOwned, Kept, Live}
 use Rattle.gb_bus.specs.declared.connection.Connection as code
 use Rattle.gb_bus.specs.declared.queue.Item.{Item}
 use Rattle.gb_switch.proofs.Lines.{is-end}
@@ -19,11 +19,11 @@ use Rattle.gb_switch.specs.Queues.{Creates, Destroys, items_at}
 -- ---- a connection is wired
 
 pub kept-wired : (live live' : Live) (ends : Ends) (q r : Queues) (n : ℕ) (x y : code.Connection)
-    → get nat_cmp live n ≡ Some x → live'.entries ≡ set_value (is_at (nat_cmp n)) live.entries y
+    → get nat_eq live n ≡ Some x → live'.entries ≡ set_value (nat_eq n) live.entries y
     → y.ap ≡ x.ap → y.peer ≡ x.peer → y.wired ≡ true
     → Creates q r (end.Ap x.ap) x.peer → Kept live ends q → Kept live' ends r
 kept-wired live live' ends q r n x y found set ap_is peer_is wired made k = record {
-  ordered = ordered-set live live' n y set k.ordered;
+  unique = unique-set live live' n y set k.unique;
   indexed = indexed-set live live' ends n x y found set ap_is peer_is k.indexed;
   owned = λ a items there. near a items there (is-end a (end.Ap x.ap));
   queued = queued-set live live' r n x y found set ap_is peer_is
@@ -39,7 +39,7 @@ kept-wired live live' ends q r n x y found set ap_is peer_is wired made k = reco
     own a is = record {
       number = n;
       connection = y;
-      there = ap (lookup (is_at (nat_cmp n))) set ∙ set-here n live.entries x y found;
+      there = ap (lookup (nat_eq n)) set ∙ set-here n live.entries x y found;
       wired = wired;
       own = end-of-set x y a ap_is peer_is is;
     }
@@ -73,7 +73,7 @@ stays-elsewhere q r x gone a never = gone.others a (λ e. never (inl e)) (λ e. 
 
 -- the owner of what is still there
 pub owner-elsewhere : (live : Live) (q r : Queues) (n : ℕ) (x : code.Connection) (a : End)
-    (items : List Item) → get nat_cmp live n ≡ Some x → AreOwned live q
+    (items : List Item) → get nat_eq live n ≡ Some x → AreOwned live q
     → Destroys q r (end.Ap x.ap) x.peer → items_at r a ≡ Some items
     → (o : IsOwned live a) × (o.number ≢ n)
 owner-elsewhere live q r n x a items found owned gone there =
@@ -81,13 +81,13 @@ owner-elsewhere live q r n x a items found owned gone there =
     let o = owned a items (sym (stays-elsewhere q r x gone a no) ∙ there) in (
       o,
       λ e. no (subst (IsEndOf a)
-          (same-some o.connection x (sym o.there ∙ ap (λ k. get nat_cmp live k) e ∙ found)) o.own),
+          (same-some o.connection x (sym o.there ∙ ap (λ k. get nat_eq live k) e ∙ found)) o.own),
     )
 
 -- the queues of others are there still
 pub queued-elsewhere : (live : Live) (ends : Ends) (q r : Queues) (n j : ℕ) (x z : code.Connection)
-    → Kept live ends q → get nat_cmp live n ≡ Some x → Destroys q r (end.Ap x.ap) x.peer
-    → j ≢ n → get nat_cmp live j ≡ Some z → z.wired ≡ true → HasQueues r z
+    → Kept live ends q → get nat_eq live n ≡ Some x → Destroys q r (end.Ap x.ap) x.peer
+    → j ≢ n → get nat_eq live j ≡ Some z → z.wired ≡ true → HasQueues r z
 queued-elsewhere live ends q r n j x z k found gone ne there w =
     let h = k.queued j z there w in
     record {
@@ -102,18 +102,18 @@ queued-elsewhere live ends q r n j x z k found gone ne there w =
 
 pub kept-cleared : (live live' : Live) (ends : Ends) (q r : Queues) (n : ℕ)
     (x y : code.Connection)
-    → get nat_cmp live n ≡ Some x → live'.entries ≡ set_value (is_at (nat_cmp n)) live.entries y
+    → get nat_eq live n ≡ Some x → live'.entries ≡ set_value (nat_eq n) live.entries y
     → y.ap ≡ x.ap → y.peer ≡ x.peer → y.wired ≡ false
     → Destroys q r (end.Ap x.ap) x.peer → Kept live ends q → Kept live' ends r
 kept-cleared live live' ends q r n x y found set ap_is peer_is loose gone k = record {
-  ordered = ordered-set live live' n y set k.ordered;
+  unique = unique-set live live' n y set k.unique;
   indexed = indexed-set live live' ends n x y found set ap_is peer_is k.indexed;
   owned = λ a items there.
       let w = owner-elsewhere live q r n x a items found k.owned gone there in
       record {
         number = w.0.number;
         connection = w.0.connection;
-        there = ap (lookup (is_at (nat_cmp w.0.number))) set
+        there = ap (lookup (nat_eq w.0.number)) set
             ∙ set-others n w.0.number live.entries y w.1 ∙ w.0.there;
         wired = w.0.wired;
         own = w.0.own;

@@ -3,17 +3,17 @@ use Rattle.std.proofs.Common.{◌≡◌, ◌≢◌, ℕ, Bool, true, false, cond
 use Rattle.std.proofs.Common.{Option, Some, None, option_map, List, [], ◌∷◌, ◌++◌, refl, sym, ap}
 use Rattle.std.proofs.Common.{◌∙◌, subst}
 use Rattle.std.proofs.lemmas.Bool.{eqb-true, ne_eqb, and_left}
-use Rattle.std.specs.BTreeMap.{get}
 use Rattle.std.specs.List.{find}
-use Rattle.std.specs.Ordering.{nat_cmp}
+use Rattle.std.specs.Prelude.{nat_eq}
+use Rattle.indexmap.specs.IndexMap.{get}
 use Rattle.gb_base.specs.declared.end.End.{End}
 use Rattle.gb_base.specs.declared.end.End.TheVariants as end
 use Rattle.gb_base.specs.declared.end.Side.{Side}
 use Rattle.gb_base.specs.declared.end.Side.TheVariants as side
 use Rattle.gb_bus.proofs.Entries.{EachEntry, both, each-back, each-entry, each-front, find-none}
 use Rattle.gb_bus.proofs.Entries.{find-split, nowhere, same-some, some-none, split}
-use Rattle.gb_bus.proofs.Keeping.{Live, Queues, number-of-end}
-use Rattle.gb_bus.specs.Index.{Ends, IsEndOf, IsIndexed, Kept, number_at}
+use Rattle.gb_bus.proofs.Keeping.{Queues, number-of-end}
+use Rattle.gb_bus.specs.Index.{Ends, IsEndOf, IsIndexed, Kept, Live, number_at}
 use Rattle.gb_bus.specs.Parts.{end_at, joins, place_at, side_at}
 use Rattle.gb_bus.specs.Seen.{all_seen, alone, seen}
 use Rattle.gb_bus.specs.declared.connection.Connection as code
@@ -103,7 +103,7 @@ pub places-nowhere : (live : Live) (ends : Ends) (q : Queues) (at : End) → Kep
     → number_at ends at ≡ None → place_at at (all_seen q live.entries) ≡ None
 places-nowhere live ends q at k none =
     place-none q at live.entries
-    (each-entry (λ n x. side_at at (seen q n x) ≡ None) live.entries k.ordered
+    (each-entry (λ n x. side_at at (seen q n x) ≡ None) live.entries k.unique
     (λ n x there. no-side q n x at
     (not-its ends n x at None none (λ e. some-none n (sym e)) (k.indexed n x there))))
 
@@ -112,13 +112,13 @@ others-no-side : (live : Live) (ends : Ends) (q : Queues) (at : End) (n : ℕ) �
     → number_at ends at ≡ Some n
     → EachEntry (λ j z. j ≢ n → side_at at (seen q j z) ≡ None) live.entries
 others-no-side live ends q at n k is =
-    each-entry (λ j z. j ≢ n → side_at at (seen q j z) ≡ None) live.entries k.ordered
+    each-entry (λ j z. j ≢ n → side_at at (seen q j z) ≡ None) live.entries k.unique
     (λ j z there ne. no-side q j z at
     (not-its ends j z at (Some n) is (λ e. ne (sym (same-some n j e))) (k.indexed j z there)))
 
 -- the end has a number that no live connection has
 pub places-dead : (live : Live) (ends : Ends) (q : Queues) (at : End) (n : ℕ) → Kept live ends q
-    → number_at ends at ≡ Some n → get nat_cmp live n ≡ None
+    → number_at ends at ≡ Some n → get nat_eq live n ≡ None
     → place_at at (all_seen q live.entries) ≡ None
 places-dead live ends q at n k is dead =
     place-none q at live.entries
@@ -127,11 +127,11 @@ places-dead live ends q at n k is dead =
 
 -- it has that of a live one
 pub places : (live : Live) (ends : Ends) (q : Queues) (at : End) (n : ℕ) (x : code.Connection)
-    → Kept live ends q → number_at ends at ≡ Some n → get nat_cmp live n ≡ Some x
+    → Kept live ends q → number_at ends at ≡ Some n → get nat_eq live n ≡ Some x
     → place_at at (all_seen q live.entries)
     ≡ option_map (λ s. (n, s)) (side_at at (alone 0 x))
 places live ends q at n x k is there =
-    let p = split live.entries n x k.ordered there in
+    let p = split live.entries n x k.unique there in
     let all = subst (EachEntry (λ j z. j ≢ n → side_at at (seen q j z) ≡ None)) p.is
     (others-no-side live ends q at n k is) in
     let front = both (λ j z. j ≢ n) (λ j z. side_at at (seen q j z) ≡ None) p.front p.before
@@ -162,7 +162,7 @@ side-own at x s is =
 -- an end is at a side of the live connection with a number, which is wired
 pub record IsPlaced (live : Live) (at : End) (k : ℕ) (s : Side) : Type 0 where
   pub connection : code.Connection
-  pub there : get nat_cmp live k ≡ Some connection
+  pub there : get nat_eq live k ≡ Some connection
   pub wired : connection.wired ≡ true
   pub own : at ≡ end_at s (alone 0 connection)
 
@@ -171,7 +171,7 @@ pub placed : (live : Live) (ends : Ends) (q : Queues) (at : End) (k : ℕ) (s : 
     → IsPlaced live at k s
 placed live ends q at k s kept e = by (number_at ends at) refl
   where
-    its-side : (n : ℕ) (x : code.Connection) → get nat_cmp live n ≡ Some x → (o : Option Side)
+    its-side : (n : ℕ) (x : code.Connection) → get nat_eq live n ≡ Some x → (o : Option Side)
         → side_at at (alone 0 x) ≡ o → option_map {U = ℕ × Side} (λ t. (n, t)) o ≡ Some (k, s)
         → IsPlaced live at k s
     its-side n x found None is f = absurd (cc f)
@@ -180,13 +180,13 @@ placed live ends q at k s kept e = by (number_at ends at) refl
         let own = side-own at x t is in
         record {
           connection = x;
-          there = ap (get nat_cmp live) (sym (ap (λ p. p.0) both)) ∙ found;
+          there = ap (get nat_eq live) (sym (ap (λ p. p.0) both)) ∙ found;
           wired = own.0;
           own = own.1 ∙ ap (λ z. end_at z (alone 0 x)) (ap (λ p. p.1) both);
         }
 
     numbered : (n : ℕ) → number_at ends at ≡ Some n → (o : Option code.Connection)
-        → get nat_cmp live n ≡ o → IsPlaced live at k s
+        → get nat_eq live n ≡ o → IsPlaced live at k s
     numbered n is None dead =
         absurd (some-none (k, s) (sym e ∙ places-dead live ends q at n kept is dead))
     numbered n is (Some x) found =
@@ -195,7 +195,7 @@ placed live ends q at k s kept e = by (number_at ends at) refl
 
     by : (o : Option ℕ) → number_at ends at ≡ o → IsPlaced live at k s
     by None none = absurd (some-none (k, s) (sym e ∙ places-nowhere live ends q at kept none))
-    by (Some n) is = numbered n is (get nat_cmp live n) refl
+    by (Some n) is = numbered n is (get nat_eq live n) refl
 
 -- ---- the connection that joins two ends
 
@@ -211,7 +211,7 @@ pub joins-nowhere : (live : Live) (ends : Ends) (q : Queues) (a : ℕ) (peer : E
     → find (joins a peer) (all_seen q live.entries) ≡ None
 joins-nowhere live ends q a peer k none =
     find-none q (joins a peer) live.entries
-    (each-entry (λ n x. joins a peer (seen q n x) ≡ false) live.entries k.ordered
+    (each-entry (λ n x. joins a peer (seen q n x) ≡ false) live.entries k.unique
     (λ n x there. no-join q n x a peer
     (not-its ends n x (end.Ap a) None none (λ e. some-none n (sym e)) (k.indexed n x there))))
 
@@ -219,14 +219,14 @@ others-join : (live : Live) (ends : Ends) (q : Queues) (a : ℕ) (peer : End) (n
     → Kept live ends q → number_at ends (end.Ap a) ≡ Some n
     → EachEntry (λ j z. j ≢ n → joins a peer (seen q j z) ≡ false) live.entries
 others-join live ends q a peer n k is =
-    each-entry (λ j z. j ≢ n → joins a peer (seen q j z) ≡ false) live.entries k.ordered
+    each-entry (λ j z. j ≢ n → joins a peer (seen q j z) ≡ false) live.entries k.unique
     (λ j z there ne. no-join q j z a peer
     (not-its ends j z (end.Ap a) (Some n) is (λ e. ne (sym (same-some n j e)))
     (k.indexed j z there)))
 
 pub joins-dead : (live : Live) (ends : Ends) (q : Queues) (a : ℕ) (peer : End) (n : ℕ)
     → Kept live ends q → number_at ends (end.Ap a) ≡ Some n
-    → get nat_cmp live n ≡ None → find (joins a peer) (all_seen q live.entries) ≡ None
+    → get nat_eq live n ≡ None → find (joins a peer) (all_seen q live.entries) ≡ None
 joins-dead live ends q a peer n k is dead =
     find-none q (joins a peer) live.entries
     (both (λ j z. j ≢ n) (λ j z. joins a peer (seen q j z) ≡ false) live.entries
@@ -234,11 +234,11 @@ joins-dead live ends q a peer n k is dead =
 
 pub joins-there : (live : Live) (ends : Ends) (q : Queues) (a : ℕ) (peer : End) (n : ℕ)
     (x : code.Connection) → Kept live ends q
-    → number_at ends (end.Ap a) ≡ Some n → get nat_cmp live n ≡ Some x
+    → number_at ends (end.Ap a) ≡ Some n → get nat_eq live n ≡ Some x
     → find (joins a peer) (all_seen q live.entries)
     ≡ cond (joins a peer (seen q n x)) (Some (seen q n x)) None
 joins-there live ends q a peer n x k is there =
-    let p = split live.entries n x k.ordered there in
+    let p = split live.entries n x k.unique there in
     let all = subst (EachEntry (λ j z. j ≢ n → joins a peer (seen q j z) ≡ false)) p.is
     (others-join live ends q a peer n k is) in
     let front = both (λ j z. j ≢ n) (λ j z. joins a peer (seen q j z) ≡ false) p.front p.before

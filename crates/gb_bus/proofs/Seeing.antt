@@ -1,17 +1,17 @@
 -- What is seen of the live connections where one of them changes.
 use Rattle.std.proofs.Common.{◌≡◌, ℕ, Option, Some, None, option_map, List, refl, sym, ap, ◌∙◌}
 use Rattle.std.proofs.Common.{subst}
-use Rattle.std.specs.BTreeMap.{get, is_at}
 use Rattle.std.specs.List.{find}
 use Rattle.std.specs.Map.{set_value}
-use Rattle.std.specs.Ordering.{nat_cmp}
+use Rattle.std.specs.Prelude.{nat_eq}
+use Rattle.indexmap.specs.IndexMap.{get}
 use Rattle.gb_base.specs.declared.end.End.TheVariants as end
 use Rattle.gb_base.specs.declared.end.Side.{Side}
 use Rattle.gb_base.specs.declared.end.Side.TheVariants as side
 use Rattle.gb_bus.proofs.Entries.{changes, find-seen, first-nowhere, nowhere}
-use Rattle.gb_bus.proofs.Keeping.{Live, Queues, kept-same, kept-set}
+use Rattle.gb_bus.proofs.Keeping.{Queues, kept-same, kept-set}
 use Rattle.gb_bus.specs.Connection.{Connection}
-use Rattle.gb_bus.specs.Index.{ChangesBy, Ends, Kept, Leaves}
+use Rattle.gb_bus.specs.Index.{ChangesBy, Ends, Kept, Leaves, Live}
 use Rattle.gb_bus.specs.Parts.{closed, next_of, numbered, ops_of, queue_of, soiled}
 use Rattle.gb_bus.specs.Seen.{all_seen, alone, seen, waits_at}
 use Rattle.gb_bus.specs.Sides.{HasEndsOf}
@@ -22,7 +22,7 @@ use Rattle.gb_machine.specs.Lists.{at_first}
 
 -- the connection with a number
 pub finds : (live : Live) (q : Queues) (xs : List Connection) (k : ℕ) (o : Option code.Connection)
-    → all_seen q live.entries ≡ xs → get nat_cmp live k ≡ o
+    → all_seen q live.entries ≡ xs → get nat_eq live k ≡ o
     → find (numbered k) xs ≡ option_map (seen q k) o
 finds live q xs k o view is =
     ap (find (numbered k)) (sym view) ∙ find-seen q live.entries k ∙ ap (option_map (seen q k)) is
@@ -56,10 +56,10 @@ filled q k c = record c {
 pub keeps : (live live' : Live) (ends : Ends) (q : Queues) (k : ℕ)
     (R : Connection → Connection → Type 0)
     → ((x y : Connection) → R x y → HasEndsOf x y) → ChangesBy live live' k R
-    → (get nat_cmp live k ≡ None → Leaves live live') → Kept live ends q → Kept live' ends q
-keeps live live' ends q k R same there none kept = by (get nat_cmp live k) refl
+    → (get nat_eq live k ≡ None → Leaves live live') → Kept live ends q → Kept live' ends q
+keeps live live' ends q k R same there none kept = by (get nat_eq live k) refl
   where
-    by : (o : Option code.Connection) → get nat_cmp live k ≡ o → Kept live' ends q
+    by : (o : Option code.Connection) → get nat_eq live k ≡ o → Kept live' ends q
     by None e = kept-same live live' ends q (none e) kept
     by (Some x) e =
         let w = there x e in
@@ -68,23 +68,23 @@ keeps live live' ends q k R same there none kept = by (get nat_cmp live k) refl
 
 -- what is seen, where one changes
 pub changes-one : (live live' : Live) (ends : Ends) (q : Queues) (k : ℕ) (x y : code.Connection)
-    (f : Connection → Connection) → Kept live ends q → get nat_cmp live k ≡ Some x
-    → live'.entries ≡ set_value (is_at (nat_cmp k)) live.entries y
+    (f : Connection → Connection) → Kept live ends q → get nat_eq live k ≡ Some x
+    → live'.entries ≡ set_value (nat_eq k) live.entries y
     → seen q k y ≡ f (seen q k x)
     → all_seen q live'.entries ≡ at_first (numbered k) f (all_seen q live.entries)
 changes-one live live' ends q k x y f kept found now one =
-    changes q q live.entries live'.entries k x y f kept.ordered found now one (λ j z t ne. refl)
+    changes q q live.entries live'.entries k x y f kept.unique found now one (λ j z t ne. refl)
 
 -- and where none does
 pub changes-none : (live live' : Live) (q : Queues) (k : ℕ) (f : Connection → Connection)
-    → get nat_cmp live k ≡ None → Leaves live live'
+    → get nat_eq live k ≡ None → Leaves live live'
     → all_seen q live'.entries ≡ at_first (numbered k) f (all_seen q live.entries)
 changes-none live live' q k f none same =
     ap (all_seen q) same
     ∙ sym (first-nowhere q live.entries k f (nowhere k live.entries none))
 
 pub nothing-changes : (live : Live) (q : Queues) (xs : List Connection) (k : ℕ)
-    (f : Connection → Connection) → all_seen q live.entries ≡ xs → get nat_cmp live k ≡ None
+    (f : Connection → Connection) → all_seen q live.entries ≡ xs → get nat_eq live k ≡ None
     → xs ≡ at_first (numbered k) f xs
 nothing-changes live q xs k f view none =
     subst (λ ys. ys ≡ at_first (numbered k) f ys) view (changes-none live live q k f none refl)
@@ -93,11 +93,11 @@ nothing-changes live q xs k f view none =
 
 pub marks : (live live' : Live) (ends : Ends) (q : Queues) (k : ℕ) (f : Connection → Connection)
     → ((x : code.Connection) → filled q k (f (alone 0 x)) ≡ f (seen q k x)) → Kept live ends q
-    → ChangesBy live live' k (λ x y. y ≡ f x) → (get nat_cmp live k ≡ None → Leaves live live')
+    → ChangesBy live live' k (λ x y. y ≡ f x) → (get nat_eq live k ≡ None → Leaves live live')
     → all_seen q live'.entries ≡ at_first (numbered k) f (all_seen q live.entries)
-marks live live' ends q k f fills kept there none = by (get nat_cmp live k) refl
+marks live live' ends q k f fills kept there none = by (get nat_eq live k) refl
   where
-    by : (o : Option code.Connection) → get nat_cmp live k ≡ o
+    by : (o : Option code.Connection) → get nat_eq live k ≡ o
         → all_seen q live'.entries ≡ at_first (numbered k) f (all_seen q live.entries)
     by None e = changes-none live live' q k f e (none e)
     by (Some x) e =

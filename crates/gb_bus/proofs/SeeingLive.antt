@@ -1,19 +1,20 @@
 -- What is seen of the live connections where one is added, or removed.
-use Rattle.std.proofs.Common.{◌≡◌, ◌≢◌, ◌<◌, ℕ, Bool, true, Option, Some, None, IsSome, List, []}
-use Rattle.std.proofs.Common.{◌∷◌, ◌++◌, refl, sym, ap, ◌∙◌, subst, arith}
-use Rattle.std.specs.BTreeMap.{get, insert_entry, is_at}
+use Rattle.std.proofs.Common.{◌≡◌, ◌≢◌, ℕ, Some, None, List, [], ◌∷◌, ◌++◌, sym, ap, ◌∙◌}
+use Rattle.std.proofs.Common.{subst}
 use Rattle.std.specs.Map.{remove_entry}
-use Rattle.std.specs.Ordering.{nat_cmp}
+use Rattle.std.specs.Prelude.{nat_eq}
+use Rattle.indexmap.proofs.CallerLemmas.{insert_entry-new}
+use Rattle.indexmap.specs.IndexMap.{get, insert_entry}
 use Rattle.gb_base.specs.declared.end.End.{End}
 use Rattle.gb_base.specs.declared.end.End.TheVariants as end
-use Rattle.gb_bus.proofs.Entries.{both, each-back, each-front, each-entry, insert-last, nowhere}
+use Rattle.gb_bus.proofs.Entries.{both, each-back, each-front, each-entry, nowhere}
 use Rattle.gb_bus.proofs.Entries.{remove-split, same-seen, seen-append, split, without-nowhere}
 use Rattle.gb_bus.proofs.Entries.{without-split, EachEntry}
-use Rattle.gb_bus.proofs.Keeping.{Live, Queues, seen-others}
+use Rattle.gb_bus.proofs.Keeping.{Queues, seen-others}
 use Rattle.gb_bus.proofs.KeepingWires.{stays-elsewhere}
 use Rattle.gb_bus.proofs.Seeing.{filled}
 use Rattle.gb_bus.specs.Connection.{Connection}
-use Rattle.gb_bus.specs.Index.{Ends, Kept}
+use Rattle.gb_bus.specs.Index.{Ends, Kept, Live}
 use Rattle.gb_bus.specs.Parts.{new_connection, numbered}
 use Rattle.gb_bus.specs.Seen.{all_seen, alone, seen}
 use Rattle.gb_bus.specs.declared.connection.Connection as code
@@ -24,15 +25,15 @@ use Rattle.gb_switch.specs.Queues.{Destroys}
 
 pub removes : (live live' : Live) (ends : Ends) (q r : Queues) (xs : List Connection) (k : ℕ)
     (x : code.Connection) → Kept live ends q → all_seen q live.entries ≡ xs
-    → get nat_cmp live k ≡ Some x → live'.entries ≡ remove_entry (is_at (nat_cmp k)) live.entries
+    → get nat_eq live k ≡ Some x → live'.entries ≡ remove_entry (nat_eq k) live.entries
     → Destroys q r (end.Ap x.ap) x.peer → all_seen r live'.entries ≡ without (numbered k) xs
 removes live live' ends q r xs k x kept view found gone lost =
-    let p = split live.entries k x kept.ordered found in
-    let all = each-entry (λ j z. j ≢ k → seen r j z ≡ seen q j z) live.entries kept.ordered
+    let p = split live.entries k x kept.unique found in
+    let all = each-entry (λ j z. j ≢ k → seen r j z ≡ seen q j z) live.entries kept.unique
     (λ j z t ne. seen-others live ends q r j k z x kept.indexed t found ne
     (stays-elsewhere q r x lost)) in
     ap (all_seen r)
-    (gone ∙ ap (remove_entry (is_at (nat_cmp k))) p.is ∙ remove-split p.front p.back k x p.before)
+    (gone ∙ ap (remove_entry (nat_eq k)) p.is ∙ remove-split p.front p.back k x p.before)
     ∙ same-but live q r k p.front p.back x p.before p.behind
     (subst (EachEntry (λ j z. j ≢ k → seen r j z ≡ seen q j z)) p.is all)
     ∙ sym (without-split q p.front p.back k x p.before p.behind)
@@ -56,35 +57,21 @@ removes live live' ends q r xs k x kept view found gone lost =
         ∙ sym (seen-append q front back)
 
 pub removes-none : (live : Live) (q : Queues) (xs : List Connection) (k : ℕ)
-    → all_seen q live.entries ≡ xs → get nat_cmp live k ≡ None → xs ≡ without (numbered k) xs
+    → all_seen q live.entries ≡ xs → get nat_eq live k ≡ None → xs ≡ without (numbered k) xs
 removes-none live q xs k view none =
     subst (λ ys. ys ≡ without (numbered k) ys) view
     (sym (without-nowhere q live.entries k (nowhere k live.entries none)))
 
 -- ---- a connection is added
 
-pub free-above : (live : Live) (n : ℕ) (b : Bool)
-    → (b ≡ true → (k : ℕ) → IsSome (get nat_cmp live k) → k < n) → b ≡ true
-    → get nat_cmp live n ≡ None
-free-above live n b above t = by (get nat_cmp live n) refl
-  where
-    by : (o : Option code.Connection) → get nat_cmp live n ≡ o → o ≡ None
-    by None e = refl
-    by (Some x) e =
-        let low = above t n (subst IsSome (sym e) refl) in absurd (omega (arith, low))
-
-pub adds : (live live' : Live) (ends : Ends) (q : Queues) (xs : List Connection) (n a : ℕ)
-    (peer : End) (protocol : ℕ) (x : code.Connection) (b : Bool) → Kept live ends q
-    → all_seen q live.entries ≡ xs
-    → (b ≡ true → (k : ℕ) → IsSome (get nat_cmp live k) → k < n) → b ≡ true
-    → live'.entries ≡ insert_entry nat_cmp live.entries n x
+pub adds : (live live' : Live) (q : Queues) (xs : List Connection) (n a : ℕ)
+    (peer : End) (protocol : ℕ) (x : code.Connection) → all_seen q live.entries ≡ xs
+    → get nat_eq live n ≡ None
+    → live'.entries ≡ insert_entry nat_eq live.entries n x
     → alone 0 x ≡ new_connection 0 a peer protocol
     → all_seen q live'.entries ≡ xs ++ new_connection n a peer protocol ∷ []
-adds live live' ends q xs n a peer protocol x b kept view above t more is =
-    ap (all_seen q)
-    (more ∙ insert-last live.entries n x
-    (each-entry (λ k y. k < n) live.entries kept.ordered
-    (λ k y there. above t k (subst IsSome (sym there) refl))))
+adds live live' q xs n a peer protocol x view free more is =
+    ap (all_seen q) (more ∙ insert_entry-new nat_eq live n x free)
     ∙ seen-append q live.entries ((n, x) ∷ [])
     ∙ ap (λ cs. cs ++ seen q n x ∷ []) view
     ∙ ap (λ c. xs ++ c ∷ []) (ap (filled q n) is)

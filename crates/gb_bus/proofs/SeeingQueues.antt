@@ -3,18 +3,18 @@ use Rattle.std.proofs.Common.{◌≡◌, ℕ, Bool, true, false, cond, Option, S
 use Rattle.std.proofs.Common.{List, [], ◌∷◌, ◌++◌, refl, sym, ap, ◌∙◌, subst}
 use Rattle.std.proofs.lemmas.Bool.{true≢false}
 use Rattle.std.proofs.lemmas.Map.Steps.{set_value_same}
-use Rattle.std.specs.BTreeMap.{get, is_at}
-use Rattle.std.specs.Ordering.{nat_cmp}
+use Rattle.std.specs.Prelude.{nat_eq}
+use Rattle.indexmap.specs.IndexMap.{get}
 use Rattle.gb_base.specs.declared.end.End.{End}
 use Rattle.gb_base.specs.declared.end.End.TheVariants as end
 use Rattle.gb_base.specs.declared.end.Side.{Side}
 use Rattle.gb_base.specs.declared.end.Side.TheVariants as side
 use Rattle.gb_bus.proofs.Entries.{changes, each-entry, same-seen}
-use Rattle.gb_bus.proofs.Keeping.{Live, Queues, kept-appends, kept-stays, kept-takes, not-one}
+use Rattle.gb_bus.proofs.Keeping.{Queues, kept-appends, kept-stays, kept-takes, not-one}
 use Rattle.gb_bus.proofs.Keeping.{seen-others, seen-same, two-ends}
 use Rattle.gb_bus.proofs.Seeing.{changes-one, finds, nothing-changes}
 use Rattle.gb_bus.specs.Connection.{Connection}
-use Rattle.gb_bus.specs.Index.{AddsAt, Ends, IsIndexed, Kept, end_toward}
+use Rattle.gb_bus.specs.Index.{AddsAt, Ends, IsIndexed, Kept, Live, end_toward}
 use Rattle.gb_bus.specs.Parts.{TakesFrontAs, end_at, front_in, numbered, put, queue_of, with_queue}
 use Rattle.gb_bus.specs.Parts.{without_front}
 use Rattle.gb_bus.specs.Seen.{all_seen, alone, items_of, seen}
@@ -30,12 +30,12 @@ use Rattle.gb_switch.specs.Queues.{Appends, Puts, TakesAs, items_at}
 -- an unwired connection has nothing in its queues, and takes nothing
 pub put-unwired : (live : Live) (ends : Ends) (q : Queues) (xs : List Connection) (k : ℕ)
     (x : code.Connection) (s : Side) (item : Item) → Kept live ends q
-    → all_seen q live.entries ≡ xs → get nat_cmp live k ≡ Some x → x.wired ≡ false
+    → all_seen q live.entries ≡ xs → get nat_eq live k ≡ Some x → x.wired ≡ false
     → xs ≡ at_first (numbered k) (put s item) xs
 put-unwired live ends q xs k x s item kept view found loose =
     subst (λ ys. ys ≡ at_first (numbered k) (put s item) ys) view
     (changes-one live live ends q k x x (put s item) kept found
-    (sym (set_value_same (is_at (nat_cmp k)) live.entries x found))
+    (sym (set_value_same (nat_eq k) live.entries x found))
     (sym (ap (λ b. cond b (with_queue s (queue_of s (seen q k x) ++ item ∷ []) (seen q k x))
     (seen q k x)) loose)))
 
@@ -68,20 +68,20 @@ seen-put q r ends k x side.Far items i w p =
 -- what is seen of all, where one end of one has this now
 puts-at : (live : Live) (ends : Ends) (q r : Queues) (k : ℕ) (x : code.Connection) (s : Side)
     (items : List Item) (f : Connection → Connection) → Kept live ends q
-    → get nat_cmp live k ≡ Some x → x.wired ≡ true
+    → get nat_eq live k ≡ Some x → x.wired ≡ true
     → Puts (items_at q) (items_at r) (end_at s (alone 0 x)) (Some items)
     → with_queue s items (seen q k x) ≡ f (seen q k x)
     → all_seen r live.entries ≡ at_first (numbered k) f (all_seen q live.entries)
 puts-at live ends q r k x s items f kept found w p same =
-    changes q r live.entries live.entries k x x f kept.ordered found
-    (sym (set_value_same (is_at (nat_cmp k)) live.entries x found))
+    changes q r live.entries live.entries k x x f kept.unique found
+    (sym (set_value_same (nat_eq k) live.entries x found))
     (seen-put q r ends k x s items (kept.indexed k x found) w p ∙ same)
     (λ j z there ne. seen-others live ends q r j k z x kept.indexed there found ne
     (λ a never. p.others a (not-one x a s never)))
 
 pub pushes : (live : Live) (ends : Ends) (q r : Queues) (xs : List Connection) (k : ℕ)
     (x : code.Connection) (s : Side) (at : End) (item : Item) → Kept live ends q
-    → all_seen q live.entries ≡ xs → get nat_cmp live k ≡ Some x → x.wired ≡ true
+    → all_seen q live.entries ≡ xs → get nat_eq live k ≡ Some x → x.wired ≡ true
     → at ≡ end_at s (alone 0 x) → Appends (items_at q) (items_at r) at item
     → all_seen r live.entries ≡ at_first (numbered k) (put s item) xs
 pushes live ends q r xs k x s at item kept view found w at_is h =
@@ -95,7 +95,7 @@ pushes live ends q r xs k x s at item kept view found w at_is h =
 
 -- the front message of a connection
 front-is : (live : Live) (q : Queues) (xs : List Connection) (k : ℕ) (x : code.Connection)
-    (s : Side) → all_seen q live.entries ≡ xs → get nat_cmp live k ≡ Some x
+    (s : Side) → all_seen q live.entries ≡ xs → get nat_eq live k ≡ Some x
     → front_in k s xs ≡ first (queue_of s (seen q k x))
 front-is live q xs k x s view found =
     ap (option_and_then (λ c. first (queue_of s c))) (finds live q xs k (Some x) view found)
@@ -107,7 +107,7 @@ nothing-first (Some (i ∷ is)) e = absurd (true≢false e)
 
 pub pops : (live : Live) (ends : Ends) (q r : Queues) (xs : List Connection) (k : ℕ)
     (x : code.Connection) (s : Side) (at : End) (result : Option Item) → Kept live ends q
-    → all_seen q live.entries ≡ xs → get nat_cmp live k ≡ Some x → x.wired ≡ true
+    → all_seen q live.entries ≡ xs → get nat_eq live k ≡ Some x → x.wired ≡ true
     → at ≡ end_at s (alone 0 x) → TakesAs (items_at q) (items_at r) at result
     → TakesFrontAs xs (all_seen r live.entries) k s result
 pops live ends q r xs k x s at None kept view found w at_is h = (
@@ -115,7 +115,7 @@ pops live ends q r xs k x s at None kept view found w at_is h = (
       ∙ nothing-first (items_at q (end_at s (alone 0 x)))
       (ap (λ a. has_items (items_at q a)) (sym at_is) ∙ h.0),
   same-seen q r live.entries
-      (each-entry (λ j z. seen r j z ≡ seen q j z) live.entries kept.ordered
+      (each-entry (λ j z. seen r j z ≡ seen q j z) live.entries kept.unique
       (λ j z there. seen-same q r j z (h.1 (end.Ap z.ap)) (h.1 z.peer)))
       ∙ view,
 )
@@ -145,9 +145,9 @@ pub adds-toward : (live : Live) (ends : Ends) (q r : Queues) (xs : List Connecti
     (s : Side) (item : Item) → Kept live ends q → all_seen q live.entries ≡ xs
     → AddsAt (end_toward live k s) item q r
     → all_seen r live.entries ≡ at_first (numbered k) (put s item) xs
-adds-toward live ends q r xs k s item kept view h = by (get nat_cmp live k) refl h
+adds-toward live ends q r xs k s item kept view h = by (get nat_eq live k) refl h
   where
-    wired : (x : code.Connection) → get nat_cmp live k ≡ Some x → (w : Bool) → x.wired ≡ w
+    wired : (x : code.Connection) → get nat_eq live k ≡ Some x → (w : Bool) → x.wired ≡ w
         → AddsAt (cond w (Some (end_at s (alone 0 x))) None) item q r
         → all_seen r live.entries ≡ at_first (numbered k) (put s item) xs
     wired x found true w puts =
@@ -156,7 +156,7 @@ adds-toward live ends q r xs k s item kept view h = by (get nat_cmp live k) refl
         ap (λ p. all_seen p live.entries) same ∙ view
         ∙ put-unwired live ends q xs k x s item kept view found w
 
-    by : (o : Option code.Connection) → get nat_cmp live k ≡ o
+    by : (o : Option code.Connection) → get nat_eq live k ≡ o
         → AddsAt (option_and_then (λ x. toward s (alone 0 x)) o) item q r
         → all_seen r live.entries ≡ at_first (numbered k) (put s item) xs
     by None e same =

@@ -2,15 +2,15 @@
 use Rattle.std.proofs.Common.{◌≡◌, ℕ, Bool, true, false, cond, inl, inr, Option, Some, None}
 use Rattle.std.proofs.Common.{option_and_then, List, [], ◌∷◌, refl, sym, ap, ◌∙◌}
 use Rattle.std.proofs.Common.{subst}
-use Rattle.std.specs.BTreeMap.{get, is_at}
 use Rattle.std.specs.Map.{set_value}
-use Rattle.std.specs.Ordering.{nat_cmp}
+use Rattle.std.specs.Prelude.{nat_eq}
+use Rattle.indexmap.specs.IndexMap.{get}
 use Rattle.gb_base.specs.declared.end.Side.{Side}
 use Rattle.gb_base.specs.declared.end.Side.TheVariants as side
-use Rattle.gb_bus.proofs.Keeping.{Live, Queues}
+use Rattle.gb_bus.proofs.Keeping.{Queues}
 use Rattle.gb_bus.proofs.Seeing.{changes-one, filled, finds, ops-seen}
 use Rattle.gb_bus.specs.Connection.{Connection}
-use Rattle.gb_bus.specs.Index.{ChangesBy, Ends, Kept, Leaves}
+use Rattle.gb_bus.specs.Index.{ChangesBy, Ends, Kept, Leaves, Live}
 use Rattle.gb_bus.specs.Parts.{is_soiled, is_unclean, numbered, ops_of, with_ops}
 use Rattle.gb_bus.specs.Seen.{all_seen, alone, seen}
 use Rattle.gb_bus.specs.Sides.{ChangesSide, GivesUpIn, GivesUpOn, GivesUpWhere}
@@ -37,8 +37,8 @@ filled-ops q k side.Far ops x = refl
 
 pub side-changes : (live live' : Live) (ends : Ends) (q : Queues) (k : ℕ) (s : Side)
     (x y : code.Connection) (R : Operations → Operations → Type 0) → Kept live ends q
-    → get nat_cmp live k ≡ Some x
-    → live'.entries ≡ set_value (is_at (nat_cmp k)) live.entries y
+    → get nat_eq live k ≡ Some x
+    → live'.entries ≡ set_value (nat_eq k) live.entries y
     → OnSide (alone 0 x) (alone 0 y) s R
     → ChangesSide (all_seen q live.entries) (all_seen q live'.entries) k s R
 side-changes live live' ends q k s x y R kept found now h = record {
@@ -61,8 +61,8 @@ first-same test (x ∷ xs) = by (test x) (first-same test xs)
     by false later = ap (λ ys. x ∷ ys) later
 
 pub put-back : (live live' : Live) (ends : Ends) (q : Queues) (k : ℕ) (x y : code.Connection)
-    → Kept live ends q → get nat_cmp live k ≡ Some x
-    → live'.entries ≡ set_value (is_at (nat_cmp k)) live.entries y → alone 0 y ≡ alone 0 x
+    → Kept live ends q → get nat_eq live k ≡ Some x
+    → live'.entries ≡ set_value (nat_eq k) live.entries y → alone 0 y ≡ alone 0 x
     → all_seen q live'.entries ≡ all_seen q live.entries
 put-back live live' ends q k x y kept found now same =
     changes-one live live' ends q k x y (λ c. c) kept found now (ap (filled q k) same)
@@ -75,18 +75,18 @@ same-side side.Far c = refl
 pub matches : (live live' : Live) (ends : Ends) (q : Queues) (k : ℕ) (s : Side)
     (number : Option ℕ) (label : ℕ) (r : Matched) → Kept live ends q
     → ChangesBy live live' k (λ x y. MatchesOn x y s number label r)
-    → (get nat_cmp live k ≡ None → Leaves live live')
-    → (get nat_cmp live k ≡ None → r ≡ matched.Unknown)
+    → (get nat_eq live k ≡ None → Leaves live live')
+    → (get nat_eq live k ≡ None → r ≡ matched.Unknown)
     → MatchesIn (all_seen q live.entries) (all_seen q live'.entries) k s number label r
 matches live live' ends q k s number label r kept there none fails =
-    by (get nat_cmp live k) refl r there fails
+    by (get nat_eq live k) refl r there fails
   where
     Not : Option Connection → Type 0
     Not o = IsNotOf number (option_and_then (λ (c : Connection). holder_of (ops_of s c) label) o)
 
-    by : (o : Option code.Connection) → get nat_cmp live k ≡ o → (m : Matched)
+    by : (o : Option code.Connection) → get nat_eq live k ≡ o → (m : Matched)
         → ChangesBy live live' k (λ x y. MatchesOn x y s number label m)
-        → (get nat_cmp live k ≡ None → m ≡ matched.Unknown)
+        → (get nat_eq live k ≡ None → m ≡ matched.Unknown)
         → MatchesIn (all_seen q live.entries) (all_seen q live'.entries) k s number label m
     by None e (matched.Open j) h f = absurd (cc (f e))
     by None e (matched.Late j) h f = absurd (cc (f e))
@@ -115,17 +115,17 @@ matches live live' ends q k s number label r kept there none fails =
 pub responds : (live live' : Live) (ends : Ends) (q : Queues) (k : ℕ) (s : Side)
     (number label : ℕ) (r : Bool × Matched) → Kept live ends q
     → ChangesBy live live' k (λ x y. RespondsOn x y s number label r)
-    → (get nat_cmp live k ≡ None → Leaves live live')
-    → (get nat_cmp live k ≡ None → r ≡ (false, matched.Unknown))
+    → (get nat_eq live k ≡ None → Leaves live live')
+    → (get nat_eq live k ≡ None → r ≡ (false, matched.Unknown))
     → RespondsIn (all_seen q live.entries) (all_seen q live'.entries) k s number label r
 responds live live' ends q k s number label r kept there none fails = (
-  by (get nat_cmp live k) refl,
+  by (get nat_eq live k) refl,
   matches live live' ends q k s (asked_of r.0 number) label r.1 kept
       (λ x e. let w = there x e in record { after = w.after; did = w.did.1; now = w.now })
       none (λ e. ap (λ p. p.1) (fails e)),
 )
   where
-    by : (o : Option code.Connection) → get nat_cmp live k ≡ o
+    by : (o : Option code.Connection) → get nat_eq live k ≡ o
         → r.0 ≡ is_unclean k (all_seen q live.entries)
     by None e = ap (λ p. p.0) (fails e)
         ∙ sym (ap is_soiled (finds live q (all_seen q live.entries) k None refl e))
@@ -134,11 +134,11 @@ responds live live' ends q k s number label r kept there none fails = (
 
 pub gives-up : (live live' : Live) (ends : Ends) (q : Queues) (k : ℕ) (s : Side) (n : ℕ)
     → Kept live ends q → ChangesBy live live' k (λ x y. GivesUpOn x y s n)
-    → (get nat_cmp live k ≡ None → Leaves live live')
+    → (get nat_eq live k ≡ None → Leaves live live')
     → GivesUpIn (all_seen q live.entries) (all_seen q live'.entries) k s n
-gives-up live live' ends q k s n kept there none = by (get nat_cmp live k) refl
+gives-up live live' ends q k s n kept there none = by (get nat_eq live k) refl
   where
-    by : (o : Option code.Connection) → get nat_cmp live k ≡ o
+    by : (o : Option code.Connection) → get nat_eq live k ≡ o
         → GivesUpIn (all_seen q live.entries) (all_seen q live'.entries) k s n
     by None e = inr (
       finds live q (all_seen q live.entries) k None refl e,

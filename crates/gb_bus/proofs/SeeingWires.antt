@@ -2,15 +2,15 @@
 use Rattle.std.proofs.Common.{◌≡◌, ℕ, true, false, cond, inl, inr, Some, List, [], sym, ap, ◌∙◌}
 use Rattle.std.proofs.Common.{subst}
 use Rattle.std.proofs.lemmas.Map.Steps.{set_value_same}
-use Rattle.std.specs.BTreeMap.{get, is_at}
-use Rattle.std.specs.Ordering.{nat_cmp}
+use Rattle.std.specs.Prelude.{nat_eq}
+use Rattle.indexmap.specs.IndexMap.{get}
 use Rattle.gb_base.specs.declared.end.End.TheVariants as end
 use Rattle.gb_bus.proofs.Entries.{changes}
-use Rattle.gb_bus.proofs.Keeping.{Live, Queues, seen-others}
+use Rattle.gb_bus.proofs.Keeping.{Queues, seen-others}
 use Rattle.gb_bus.proofs.KeepingWires.{kept-cleared, kept-wired, stays-elsewhere}
 use Rattle.gb_bus.proofs.Seeing.{changes-one, filled}
 use Rattle.gb_bus.specs.Connection.{Connection}
-use Rattle.gb_bus.specs.Index.{ChangesBy, Ends, Kept}
+use Rattle.gb_bus.specs.Index.{ChangesBy, Ends, Kept, Live}
 use Rattle.gb_bus.specs.Parts.{cleared, numbered, with_wire}
 use Rattle.gb_bus.specs.Seen.{all_seen, items_of, seen}
 use Rattle.gb_bus.specs.declared.connection.Connection as code
@@ -20,21 +20,21 @@ use Rattle.gb_switch.specs.Queues.{Creates, Destroys, items_at}
 -- a connection that is wired is wired
 pub wired-still : (live : Live) (ends : Ends) (q : Queues) (xs : List Connection) (k : ℕ)
     (x : code.Connection) → Kept live ends q → all_seen q live.entries ≡ xs
-    → get nat_cmp live k ≡ Some x → x.wired ≡ true → xs ≡ at_first (numbered k) with_wire xs
+    → get nat_eq live k ≡ Some x → x.wired ≡ true → xs ≡ at_first (numbered k) with_wire xs
 wired-still live ends q xs k x kept view found w =
     subst (λ ys. ys ≡ at_first (numbered k) with_wire ys) view
     (changes-one live live ends q k x x with_wire kept found
-    (sym (set_value_same (is_at (nat_cmp k)) live.entries x found))
+    (sym (set_value_same (nat_eq k) live.entries x found))
     (ap (λ b. record (seen q k x) { wired = b }) w))
 
 pub wires : (live live' : Live) (ends : Ends) (q r : Queues) (xs : List Connection) (k : ℕ)
     (x : code.Connection) → Kept live ends q → all_seen q live.entries ≡ xs
-    → get nat_cmp live k ≡ Some x → x.wired ≡ false → Creates q r (end.Ap x.ap) x.peer
+    → get nat_eq live k ≡ Some x → x.wired ≡ false → Creates q r (end.Ap x.ap) x.peer
     → ChangesBy live live' k (λ v w. w ≡ with_wire v)
     → all_seen r live'.entries ≡ at_first (numbered k) with_wire xs
 wires live live' ends q r xs k x kept view found loose made there =
     let w = there x found in
-    changes q r live.entries live'.entries k x w.after with_wire kept.ordered found w.now
+    changes q r live.entries live'.entries k x w.after with_wire kept.unique found w.now
     (ap (filled r k) w.did
     ∙ ap (λ o. record (seen q k x) {
       wired = true;
@@ -52,7 +52,7 @@ wires live live' ends q r xs k x kept view found loose made there =
     ∙ ap (at_first (numbered k) with_wire) view
 
 pub kept-wires : (live live' : Live) (ends : Ends) (q r : Queues) (k : ℕ)
-    (x : code.Connection) → Kept live ends q → get nat_cmp live k ≡ Some x
+    (x : code.Connection) → Kept live ends q → get nat_eq live k ≡ Some x
     → Creates q r (end.Ap x.ap) x.peer → ChangesBy live live' k (λ v w. w ≡ with_wire v)
     → Kept live' ends r
 kept-wires live live' ends q r k x kept found made there =
@@ -62,19 +62,19 @@ kept-wires live live' ends q r k x kept found made there =
 
 pub unwires : (live live' : Live) (ends : Ends) (q r : Queues) (xs : List Connection) (k : ℕ)
     (x : code.Connection) → Kept live ends q → all_seen q live.entries ≡ xs
-    → get nat_cmp live k ≡ Some x → Destroys q r (end.Ap x.ap) x.peer
+    → get nat_eq live k ≡ Some x → Destroys q r (end.Ap x.ap) x.peer
     → ChangesBy live live' k (λ v w. w ≡ cleared v)
     → all_seen r live'.entries ≡ at_first (numbered k) cleared xs
 unwires live live' ends q r xs k x kept view found gone there =
     let w = there x found in
-    changes q r live.entries live'.entries k x w.after cleared kept.ordered found w.now
+    changes q r live.entries live'.entries k x w.after cleared kept.unique found w.now
     (ap (filled r k) w.did)
     (λ j z t ne. seen-others live ends q r j k z x kept.indexed t found ne
     (stays-elsewhere q r x gone))
     ∙ ap (at_first (numbered k) cleared) view
 
 pub kept-unwires : (live live' : Live) (ends : Ends) (q r : Queues) (k : ℕ)
-    (x : code.Connection) → Kept live ends q → get nat_cmp live k ≡ Some x
+    (x : code.Connection) → Kept live ends q → get nat_eq live k ≡ Some x
     → Destroys q r (end.Ap x.ap) x.peer → ChangesBy live live' k (λ v w. w ≡ cleared v)
     → Kept live' ends r
 kept-unwires live live' ends q r k x kept found gone there =

@@ -1,13 +1,13 @@
 -- How live connections are kept: by number, the numbers by end, and what waits by end.
 use Rattle.std.specs.Prelude.{◌≡◌, ◌⊎◌, ℕ, true, false, Option, Some, None, IsSome, List}
-use Rattle.std.specs.Prelude.{if◌then◌else◌, option_and_then}
-use Rattle.std.specs.BTreeMap.{BTreeMap, IsOrdered, get, insert_entry, is_at}
+use Rattle.std.specs.Prelude.{if◌then◌else◌, nat_eq, option_and_then}
 use Rattle.std.specs.HashMap as map
 use Rattle.std.specs.HashMap.{HashMap}
 use Rattle.std.specs.Map.{set_value}
-use Rattle.std.specs.Ordering.{eq_by_cmp, nat_cmp}
+use Rattle.std.specs.Ordering.{eq_by_cmp}
 use Rattle.std.specs.declared.hash.BuildHasherDefault.{BuildHasherDefault}
 use Rattle.std.specs.declared.hash.FoldHasher.{FoldHasher}
+use Rattle.indexmap.specs.IndexMap.{IndexMap, IsUnique, get, insert_entry}
 use Rattle.gb_base.specs.declared.end.End.{End}
 use Rattle.gb_base.specs.declared.end.End.TheVariants as end
 use Rattle.gb_base.specs.declared.end.Side.{Side}
@@ -20,6 +20,10 @@ use Rattle.gb_bus.specs.declared.queue.Item.{Item}
 use Rattle.gb_machine.specs.Bus.{same_end}
 use Rattle.gb_switch.specs.Places.{end_cmp}
 use Rattle.gb_switch.specs.Queues.{Appends, items_at}
+
+-- the live connections by number
+abbrev pub Live : Type 0
+Live = IndexMap ℕ code.Connection (BuildHasherDefault FoldHasher)
 
 -- the numbers of connections by end
 abbrev pub Ends : Type 0
@@ -45,10 +49,10 @@ pub record IsIndexed (ends : Ends) (k : ℕ) (x : code.Connection) : Type 0 wher
   pub two : same_end (end.Ap x.ap) x.peer ≡ false
 
 -- an end is one of a live connection that is wired
-pub record IsOwned (live : BTreeMap ℕ code.Connection) (at : End) : Type 0 where
+pub record IsOwned (live : Live) (at : End) : Type 0 where
   pub number : ℕ
   pub connection : code.Connection
-  pub there : get nat_cmp live number ≡ Some connection
+  pub there : get nat_eq live number ≡ Some connection
   pub wired : connection.wired ≡ true
   pub own : IsEndOf at connection
 
@@ -58,43 +62,43 @@ pub record HasQueues (queues : List (End × List Item)) (x : code.Connection) : 
   pub far : IsSome (items_at queues x.peer)
 
 -- Ends are those of one live connection each. Queues are those of the ends of wired ones.
-pub record Kept (live : BTreeMap ℕ code.Connection) (ends : Ends)
+pub record Kept (live : Live) (ends : Ends)
     (queues : List (End × List Item)) : Type 0 where
-  pub ordered : IsOrdered nat_cmp live
-  pub indexed : (k : ℕ) (x : code.Connection) → get nat_cmp live k ≡ Some x → IsIndexed ends k x
+  pub unique : IsUnique nat_eq live
+  pub indexed : (k : ℕ) (x : code.Connection) → get nat_eq live k ≡ Some x → IsIndexed ends k x
   pub owned : (at : End) (items : List Item) → items_at queues at ≡ Some items → IsOwned live at
-  pub queued : (k : ℕ) (x : code.Connection) → get nat_cmp live k ≡ Some x → x.wired ≡ true
+  pub queued : (k : ℕ) (x : code.Connection) → get nat_eq live k ≡ Some x → x.wired ≡ true
       → HasQueues queues x
 
 -- the connection with a number was this, and changes so
-pub record ChangesOf (old new : BTreeMap ℕ code.Connection) (k : ℕ)
+pub record ChangesOf (old new : Live) (k : ℕ)
     (R : Connection → Connection → Type 0) (before : code.Connection) : Type 0 where
   pub after : code.Connection
   pub did : R (alone 0 before) (alone 0 after)
-  pub now : new.entries ≡ set_value (is_at (nat_cmp k)) old.entries after
+  pub now : new.entries ≡ set_value (nat_eq k) old.entries after
 
 -- The connection with a number changes so, but for its number and what waits, and no other does.
-abbrev pub ChangesBy : BTreeMap ℕ code.Connection → BTreeMap ℕ code.Connection → ℕ
+abbrev pub ChangesBy : Live → Live → ℕ
     → (Connection → Connection → Type 0) → Type 0
-ChangesBy old new k R = (x : code.Connection) → get nat_cmp old k ≡ Some x → ChangesOf old new k R x
+ChangesBy old new k R = (x : code.Connection) → get nat_eq old k ≡ Some x → ChangesOf old new k R x
 
 -- a new connection has this number
-pub record IsAdded (old new : BTreeMap ℕ code.Connection) (number ap : ℕ) (peer : End)
+pub record IsAdded (old new : Live) (number ap : ℕ) (peer : End)
     (protocol : ℕ) : Type 0 where
   pub connection : code.Connection
   pub is : alone 0 connection ≡ new_connection 0 ap peer protocol
-  pub has : (k : ℕ) → get nat_cmp new k
-      ≡ (if is_at (nat_cmp number) k then Some connection else get nat_cmp old k)
-  pub ordered : IsOrdered nat_cmp new
-  pub entries : new.entries ≡ insert_entry nat_cmp old.entries number connection
+  pub has : (k : ℕ) → get nat_eq new k
+      ≡ (if nat_eq number k then Some connection else get nat_eq old k)
+  pub unique : IsUnique nat_eq new
+  pub entries : new.entries ≡ insert_entry nat_eq old.entries number connection
 
 -- none changes
-abbrev pub Leaves : BTreeMap ℕ code.Connection → BTreeMap ℕ code.Connection → Type 0
+abbrev pub Leaves : Live → Live → Type 0
 Leaves old new = new.entries ≡ old.entries
 
 -- the end at a side of the connection with a number, where that is wired
-abbrev pub end_toward : BTreeMap ℕ code.Connection → ℕ → Side → Option End
-end_toward live k at = option_and_then (λ x. toward at (alone 0 x)) (get nat_cmp live k)
+abbrev pub end_toward : Live → ℕ → Side → Option End
+end_toward live k at = option_and_then (λ x. toward at (alone 0 x)) (get nat_eq live k)
 
 -- a message waits behind those at an end, or is lost where there is no end
 abbrev pub AddsAt : Option End → Item → List (End × List Item) → List (End × List Item) → Type 0

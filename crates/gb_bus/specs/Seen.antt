@@ -32,7 +32,7 @@ seen queues k x = record {
   to_far = waits_at queues x.wired x.peer;
 }
 
--- all of them, in order of number
+-- all of them, in the order in which they were made
 abbrev pub all_seen : List (End × List Item) → List (ℕ × code.Connection) → List Connection
 all_seen queues [] = []
 all_seen queues (e ∷ es) = seen queues e.0 e.1 ∷ all_seen queues es

@@ -42,18 +42,19 @@ use crate::{Known, SendFault, Waiting, end_numbers, live};
 use gb_base::{End, Numbers, OutOfMemory, Sequence, Side};
 use gb_ops::{Matched, Ops};
 use gb_switch::{Place, Queues};
+use indexmap::IndexMap;
 use std::alloc::Global;
-use std::collections::{BTreeMap, HashMap};
+use std::collections::HashMap;
 use std::marker::Model;
 
 /// The protocol of the supervisory controller.
 const SVC_PROTOCOL: u8 = 0x14;
 
-/// The live connections in order of number, with what waits on them.
+/// The live connections in the order in which they were made, with what waits on them.
 #[derive(Drop)]
 pub struct Connections {
     /// By number.
-    live: BTreeMap<u64, Connection>,
+    live: IndexMap<u64, Connection>,
     /// The number of the one that has an end.
     ends: HashMap<Place, u64>,
     /// What waits at the ends of those that are wired.
@@ -93,14 +94,14 @@ impl Connections {
         ensures { result ≡ [] }
     {
         Connections {
-            live: BTreeMap::new(alloc),
+            live: IndexMap::new(alloc),
             ends: HashMap::new(alloc),
             queues: Queues::new(alloc),
         }
     }
 
-    /// Adds a connection at the end. Want of memory also comes where its number isn't greater than
-    /// all others, and where one of its ends is that of another.
+    /// Adds a connection at the end. Want of memory also comes where its number or one of its ends
+    /// is that of another.
     pub fn add(
         &mut self,
         alloc: Global,
@@ -111,7 +112,7 @@ impl Connections {
     ) -> Result<(), OutOfMemory>
         ensures { OnOk result (self.new ≡ self.old ++ new_connection number ap peer protocol ∷ []) }
     {
-        if is_same(End::Ap(ap), peer) || !live::is_above(&self.live, number) {
+        if is_same(End::Ap(ap), peer) || self.live.contains_key(&number) {
             return Err(OutOfMemory);
         }
         end_numbers::set(&mut self.ends, End::Ap(ap), peer, number)?;
@@ -287,7 +288,7 @@ impl Connections {
     pub fn remove(&mut self, k: u64)
         ensures { self.new ≡ without (numbered k) self.old }
     {
-        let Some(connection) = self.live.remove(&k) else {
+        let Some(connection) = self.live.shift_remove(&k) else {
             return;
         };
         let near = End::Ap(connection.ap);

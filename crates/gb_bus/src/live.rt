@@ -1,8 +1,7 @@
 //! What changes of one live connection, by its number.
 
-ghost use Rattle.std.specs.Prelude.{◌≡◌, ◌<◌, ℕ, None, true, false, Err, IsSome, OnOk, OnErr};
-ghost use Rattle.std.specs.BTreeMap.{get};
-ghost use Rattle.std.specs.Ordering.{nat_cmp};
+ghost use Rattle.std.specs.Prelude.{◌≡◌, None, false, Err, OnOk, OnErr, nat_eq};
+ghost use Rattle.indexmap.specs.IndexMap.{get};
 ghost use Rattle.gb_bus.specs.Index.{ChangesBy, IsAdded, Leaves, end_toward};
 ghost use Rattle.gb_bus.specs.Parts.{cleared, closed, soiled, with_wire};
 ghost use Rattle.gb_bus.specs.Sides.{AsksOn, GivesUpOn, HasEndsOf, MatchesOn, RespondsOn};
@@ -13,22 +12,12 @@ use crate::SendFault;
 use crate::connection::Connection;
 use gb_base::{End, OutOfMemory, Side};
 use gb_ops::Matched;
+use indexmap::IndexMap;
 use std::alloc::Global;
-use std::collections::BTreeMap;
-
-/// A number is greater than those of all live connections.
-pub fn is_above(live: &BTreeMap<u64, Connection>, number: u64) -> bool
-    ensures above { result ≡ true → (k : ℕ) → IsSome (get nat_cmp live.now k) → k < number }
-{
-    match live.last_key_value() {
-        Some((last, _)) => *last < number,
-        None => true,
-    }
-}
 
 /// Adds a connection that isn't wired, on which nothing was drawn.
 pub fn add(
-    live: &mut BTreeMap<u64, Connection>,
+    live: &mut IndexMap<u64, Connection>,
     alloc: Global,
     number: u64,
     ap: u16,
@@ -45,16 +34,16 @@ pub fn add(
 
 /// The end at a side of a connection that is wired, None where it isn't live and wired.
 #[inline]
-pub fn toward(live: &BTreeMap<u64, Connection>, k: u64, side: Side) -> Option<End>
+pub fn toward(live: &IndexMap<u64, Connection>, k: u64, side: Side) -> Option<End>
     ensures { result ≡ end_toward live.now k side }
 {
     live.get(&k)?.toward(side)
 }
 
 /// A connection is wired.
-pub fn wire(live: &mut BTreeMap<u64, Connection>, k: u64)
+pub fn wire(live: &mut IndexMap<u64, Connection>, k: u64)
     ensures there { ChangesBy live.old live.new k (λ x y. y ≡ with_wire x) }
-    ensures nowhere { get nat_cmp live.old k ≡ None → Leaves live.old live.new }
+    ensures nowhere { get nat_eq live.old k ≡ None → Leaves live.old live.new }
 {
     if let Some(connection) = live.get_mut(&k) {
         connection.wire();
@@ -62,9 +51,9 @@ pub fn wire(live: &mut BTreeMap<u64, Connection>, k: u64)
 }
 
 /// Raw bytes were injected on a connection.
-pub fn soil(live: &mut BTreeMap<u64, Connection>, k: u64)
+pub fn soil(live: &mut IndexMap<u64, Connection>, k: u64)
     ensures there { ChangesBy live.old live.new k (λ x y. y ≡ soiled x) }
-    ensures nowhere { get nat_cmp live.old k ≡ None → Leaves live.old live.new }
+    ensures nowhere { get nat_eq live.old k ≡ None → Leaves live.old live.new }
 {
     if let Some(connection) = live.get_mut(&k) {
         connection.soil();
@@ -72,9 +61,9 @@ pub fn soil(live: &mut BTreeMap<u64, Connection>, k: u64)
 }
 
 /// A connection isn't wired any more, and all identifiers of its far side are free.
-pub fn clear(live: &mut BTreeMap<u64, Connection>, k: u64)
+pub fn clear(live: &mut IndexMap<u64, Connection>, k: u64)
     ensures there { ChangesBy live.old live.new k (λ x y. y ≡ cleared x) }
-    ensures nowhere { get nat_cmp live.old k ≡ None → Leaves live.old live.new }
+    ensures nowhere { get nat_eq live.old k ≡ None → Leaves live.old live.new }
 {
     if let Some(connection) = live.get_mut(&k) {
         connection.clear();
@@ -82,9 +71,9 @@ pub fn clear(live: &mut BTreeMap<u64, Connection>, k: u64)
 }
 
 /// The application processor's side of a connection is closed, and all its identifiers are free.
-pub fn shut(live: &mut BTreeMap<u64, Connection>, k: u64)
+pub fn shut(live: &mut IndexMap<u64, Connection>, k: u64)
     ensures there { ChangesBy live.old live.new k (λ x y. y ≡ closed x) }
-    ensures nowhere { get nat_cmp live.old k ≡ None → Leaves live.old live.new }
+    ensures nowhere { get nat_eq live.old k ≡ None → Leaves live.old live.new }
 {
     if let Some(connection) = live.get_mut(&k) {
         connection.shut();
@@ -95,7 +84,7 @@ pub fn shut(live: &mut BTreeMap<u64, Connection>, k: u64)
 /// toward which it goes. NoLabel comes where the connection isn't live too.
 #[inline]
 pub fn ask(
-    live: &mut BTreeMap<u64, Connection>,
+    live: &mut IndexMap<u64, Connection>,
     k: u64,
     side: Side,
     n: u64,
@@ -104,8 +93,8 @@ pub fn ask(
 ) -> Result<(u16, Option<End>), SendFault>
     ensures there { ChangesBy live.old live.new k
         (λ x y. AsksOn x y side n deadline oneway result × HasEndsOf x y) }
-    ensures nowhere { get nat_cmp live.old k ≡ None → Leaves live.old live.new }
-    ensures none { get nat_cmp live.old k ≡ None → result ≡ Err fault.NoLabel }
+    ensures nowhere { get nat_eq live.old k ≡ None → Leaves live.old live.new }
+    ensures none { get nat_eq live.old k ≡ None → result ≡ Err fault.NoLabel }
 {
     match live.get_mut(&k) {
         Some(connection) => connection.ask(side, n, deadline, oneway),
@@ -117,15 +106,15 @@ pub fn ask(
 /// whichever has the identifier.
 #[inline]
 pub fn matched(
-    live: &mut BTreeMap<u64, Connection>,
+    live: &mut IndexMap<u64, Connection>,
     k: u64,
     side: Side,
     number: Option<u64>,
     label: u16,
 ) -> Matched
     ensures there { ChangesBy live.old live.new k (λ x y. MatchesOn x y side number label result) }
-    ensures nowhere { get nat_cmp live.old k ≡ None → Leaves live.old live.new }
-    ensures none { get nat_cmp live.old k ≡ None → result ≡ matching.Unknown }
+    ensures nowhere { get nat_eq live.old k ≡ None → Leaves live.old live.new }
+    ensures none { get nat_eq live.old k ≡ None → result ≡ matching.Unknown }
 {
     match live.get_mut(&k) {
         Some(connection) => connection.matched(side, number, label),
@@ -137,15 +126,15 @@ pub fn matched(
 /// raw bytes were injected on it: then it goes by its identifier alone.
 #[inline]
 pub fn responded(
-    live: &mut BTreeMap<u64, Connection>,
+    live: &mut IndexMap<u64, Connection>,
     k: u64,
     side: Side,
     number: u64,
     label: u16,
 ) -> (bool, Matched)
     ensures there { ChangesBy live.old live.new k (λ x y. RespondsOn x y side number label result) }
-    ensures nowhere { get nat_cmp live.old k ≡ None → Leaves live.old live.new }
-    ensures none { get nat_cmp live.old k ≡ None → result ≡ (false, matching.Unknown) }
+    ensures nowhere { get nat_eq live.old k ≡ None → Leaves live.old live.new }
+    ensures none { get nat_eq live.old k ≡ None → result ≡ (false, matching.Unknown) }
 {
     match live.get_mut(&k) {
         Some(connection) => connection.responded(side, number, label),
@@ -154,9 +143,9 @@ pub fn responded(
 }
 
 /// Request n of a side of a connection is given up, where it is open.
-pub fn give_up(live: &mut BTreeMap<u64, Connection>, k: u64, side: Side, n: u64)
+pub fn give_up(live: &mut IndexMap<u64, Connection>, k: u64, side: Side, n: u64)
     ensures there { ChangesBy live.old live.new k (λ x y. GivesUpOn x y side n) }
-    ensures nowhere { get nat_cmp live.old k ≡ None → Leaves live.old live.new }
+    ensures nowhere { get nat_eq live.old k ≡ None → Leaves live.old live.new }
 {
     if let Some(connection) = live.get_mut(&k) {
         connection.give_up(side, n);

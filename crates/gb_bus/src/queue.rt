@@ -12,8 +12,8 @@ use crate::connection::Connection;
 use crate::telling::add_end;
 use gb_base::{Bytes, End, OutOfMemory, RawFault, Sequence, Side};
 use gb_switch::Queues;
+use indexmap::IndexMap;
 use std::alloc::Global;
-use std::collections::BTreeMap;
 
 /// A message in a queue. It carries all that its delivery needs.
 #[derive(Drop)]
@@ -148,7 +148,7 @@ pub fn add_ends(
 /// in which queues are settled.
 pub fn add_all(
     queues: &Queues<Item>,
-    live: &BTreeMap<u64, Connection>,
+    live: &IndexMap<u64, Connection>,
     ordered: &mut Sequence<Waiting>,
 ) -> Result<(), OutOfMemory>
     ensures { OnOk result

@@ -1,9 +1,11 @@
 -- The connection stands behind all others, and both its ends have its number.
 use Rattle.std.proofs.Common.{ap, sym, ◌∙◌}
+use Rattle.std.specs.Prelude.{nat_eq}
+use Rattle.indexmap.specs.IndexMap.{get}
 use Rattle.gb_base.specs.declared.end.End.TheVariants as end
 use Rattle.gb_bus.proofs.Keeping.{kept-same}
-use Rattle.gb_bus.proofs.KeepingLive.{kept-added, kept-more}
-use Rattle.gb_bus.proofs.SeeingLive.{adds, free-above}
+use Rattle.gb_bus.proofs.KeepingLive.{kept-added, kept-more, none-there}
+use Rattle.gb_bus.proofs.SeeingLive.{adds}
 use Rattle.gb_bus.specs.Connection.{Connection}
 use Rattle.gb_bus.specs.Index.{number_at}
 use Rattle.gb_machine.specs.Bus.{same_end}
@@ -28,9 +30,9 @@ invariant_of-self-2 c =
     let far = ap (λ (x : Connection). x.peer) a.is in
     kept-added c.self.inside.live c.add.new.live c.set.new.ends c.self.inside.queues
     c.args.number a.connection
-    (free-above c.self.inside.live c.args.number c.is_above.result c.is_above.ensures.above
-    c.if-not-is_above.false)
-    a.has a.ordered
+    (none-there (get nat_eq c.self.inside.live c.args.number) c.contains_key.result
+    c.contains_key.ensures c.if-contains_key.false)
+    a.has a.unique
     (record {
       near = ap (λ n. number_at c.set.new.ends (end.Ap n)) near ∙ c.in_ok-set.ensures.near;
       far = ap (number_at c.set.new.ends) far ∙ c.in_ok-set.ensures.far;
@@ -44,7 +46,8 @@ invariant_of-self-2 c =
 pub returns : goal.returns
 returns c =
     let a = c.in_ok-add.ensures.added in
-    adds c.self.inside.live c.add.new.live c.self.inside.ends c.self.inside.queues
-    c.args.self.now c.args.number c.args.ap c.args.peer c.args.protocol
-    a.connection c.is_above.result c.self.invariant c.self.view_is
-    c.is_above.ensures.above c.if-not-is_above.false a.entries a.is
+    adds c.self.inside.live c.add.new.live c.self.inside.queues c.args.self.now c.args.number
+    c.args.ap c.args.peer c.args.protocol a.connection c.self.view_is
+    (none-there (get nat_eq c.self.inside.live c.args.number) c.contains_key.result
+    c.contains_key.ensures c.if-contains_key.false)
+    a.entries a.is

@@ -8,7 +8,7 @@ use Rattle.gb_bus.proofs.connections.Connections.remove.Goals as goal
 
 pub invariant_of-self : goal.invariant_of-self
 invariant_of-self c =
-    kept-same c.self.inside.live c.remove.new.self c.self.inside.ends c.self.inside.queues
+    kept-same c.self.inside.live c.shift_remove.new.self c.self.inside.ends c.self.inside.queues
     c.in_default.ensures.unchanged c.self.invariant
 
 pub returns-in_default : goal.returns-in_default
@@ -20,14 +20,14 @@ returns-in_default c =
 
 pub invariant_of-self-2 : goal.invariant_of-self-2
 invariant_of-self-2 c =
-    kept-removed c.self.inside.live c.remove.new.self c.self.inside.ends c.remove-2.new.self
-    c.remove-3.new.self c.self.inside.queues c.destroy.new.self c.args.k c.in-Some.connection
+    kept-removed c.self.inside.live c.shift_remove.new.self c.self.inside.ends c.remove.new.self
+    c.remove-2.new.self c.self.inside.queues c.destroy.new.self c.args.k c.in-Some.connection
     c.of.result c.of-2.result (sym c.in-Some.ensures.value) c.in-Some.ensures.updates.0
-    c.in-Some.ensures.ordered c.of.ensures c.of-2.ensures c.remove-2.ensures.updates.0
-    c.remove-3.ensures.updates.0 c.destroy.ensures c.self.invariant
+    c.in-Some.ensures.unique c.of.ensures c.of-2.ensures c.remove.ensures.updates.0
+    c.remove-2.ensures.updates.0 c.destroy.ensures c.self.invariant
 
 pub returns : goal.returns
 returns c =
-    removes c.self.inside.live c.remove.new.self c.self.inside.ends c.self.inside.queues
+    removes c.self.inside.live c.shift_remove.new.self c.self.inside.ends c.self.inside.queues
     c.destroy.new.self c.args.self.now c.args.k c.in-Some.connection c.self.invariant
     c.self.view_is (sym c.in-Some.ensures.value) c.in-Some.ensures.entries c.destroy.ensures
