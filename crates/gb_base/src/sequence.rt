@@ -54,8 +54,16 @@ impl<T: Drop> Sequence<T> {
         ensures ok { OnOk result (self.new ≡ self.old ++ member ∷ []) }
         ensures err { OnErr result (self.new ≡ self.old) }
     {
-        self.members.push(member)?;
+        self.members.reserve(1)?;
+        self.members.push_reserved(member);
         Ok(())
+    }
+
+    /// No members from now on. The memory stays.
+    pub fn clear(&mut self)
+        ensures { self.new ≡ [] }
+    {
+        self.members.clear();
     }
 
     /// Adds a member in front of that at `place`, or at the end where `place` is the length. After
