@@ -1,7 +1,7 @@
 -- What the maps and the identifiers come to at each call.
 use Rattle.std.proofs.Common.{◌≡◌, ◌≤◌, ℕ, Bool, false, Option, Some, None, is_some, List, Result}
 use Rattle.std.proofs.Common.{Ok, Err, option_map, refl, sym, ap, ◌∙◌, subst, arith}
-use Rattle.std.specs.BTreeMap.{get, is_at}
+use Rattle.std.specs.BTreeMap.{is_at}
 use Rattle.std.specs.Map.{lookup}
 use Rattle.std.specs.Ordering.{nat_cmp}
 use Rattle.std.specs.Prelude.{is_none, nat_eq}
@@ -16,7 +16,7 @@ use Rattle.gb_ops.specs.Calls.{Begins, Closes, Ends, Refuses}
 use Rattle.gb_ops.specs.Finding.{IsLeast}
 use Rattle.gb_ops.specs.Operations.{Operations, Puts, next_label}
 use Rattle.gb_ops.specs.Tables.{AllCovered, Enters, IsUnchanged, Kept, Leaves, LeavesAs, MarksAs}
-use Rattle.gb_ops.specs.Tables.{ReleasesAs, gave_up, holder_in, pending_in}
+use Rattle.gb_ops.specs.Tables.{ReleasesAs, gave_up, holder_in, numbered, pending_in}
 use Rattle.gb_ops.specs.declared.entries.Holder.{Holder}
 use Rattle.gb_ops.specs.declared.entries.Pending.{Pending}
 use Rattle.gb_ops.specs.declared.tables.Tables.{Tables}
@@ -24,7 +24,11 @@ use Rattle.gb_ops.specs.declared.tables.Tables.{Tables}
 -- what contracts see
 abbrev pub view : LabelSet → Tables → Operations
 view labels t =
-    record { holders = t.holders.entries; pending = t.pending.entries; last = labels.last }
+    record {
+      holders = t.holders.entries;
+      pending = numbered t.pending.entries;
+      last = labels.last;
+    }
 
 -- the identifier that is drawn next is that of the rule
 next_same : (labels : LabelSet) (t : Tables) → Kept labels t
@@ -84,13 +88,14 @@ refuses labels t u x label k is next same = record {
   same = holders ∙ pending ∙ is;
 }
   where
-    holders : view labels u ≡ record (view labels t) { pending = u.pending.entries }
+    holders : view labels u ≡ record (view labels t) { pending = numbered u.pending.entries }
     holders =
         ap (λ (es : List (ℕ × Holder)). record (view labels u) { holders = es }) same.holders
 
-    pending : record (view labels t) { pending = u.pending.entries } ≡ view labels t
+    pending : record (view labels t) { pending = numbered u.pending.entries } ≡ view labels t
     pending =
-        ap (λ (es : List (ℕ × Pending)). record (view labels t) { pending = es }) same.pending
+        ap (λ (es : List (ℕ × Pending)). record (view labels t) { pending = es })
+        (ap numbered same.pending)
 
 pub refused_kept : (labels : LabelSet) (t u : Tables) → Kept labels t → IsUnchanged t u
     → Kept labels u
@@ -98,13 +103,13 @@ refused_kept labels t u k same = record {
   used = λ l. k.used l ∙ ap is_some (ap (lookup (nat_eq l)) (sym same.holders));
   held = λ n p h.
       ap (lookup (nat_eq p.label)) same.holders
-      ∙ k.held n p (ap (lookup (by_number n)) (sym same.pending) ∙ h);
+      ∙ k.held n p (ap (lookup (by_number n)) (sym (ap numbered same.pending)) ∙ h);
   opened = λ l n h.
       ap (λ (es : List (ℕ × Pending)). option_map (λ p. p.label) (lookup (by_number n) es))
-      same.pending
+      (ap numbered same.pending)
       ∙ k.opened l n (ap (lookup (nat_eq l)) (sym same.holders) ∙ h);
   covered = λ n p h.
-      let least = k.covered n p (ap (lookup (by_number n)) (sym same.pending) ∙ h) in
+      let least = k.covered n p (ap (lookup (by_number n)) (sym (ap numbered same.pending)) ∙ h) in
       omega (arith, least, same.soonest);
 }
 
@@ -138,7 +143,7 @@ puts_to at f es fs k w same p = record {
 covered_same : (m u : Tables) → u.pending ≡ m.pending → u.soonest ≡ m.soonest
     → AllCovered m → AllCovered u
 covered_same m u pending soonest k n p h =
-    let after = k n p (sym (ap (λ b. get nat_cmp b n) pending) ∙ h) in
+    let after = k n p (sym (ap (λ b. lookup (by_number n) (numbered b.entries)) pending) ∙ h) in
     omega (arith, after, soonest)
 
 pub marked : (labels : LabelSet) (t m u : Tables) (n : ℕ) (p : Pending) → Kept labels t
@@ -146,8 +151,8 @@ pub marked : (labels : LabelSet) (t m u : Tables) (n : ℕ) (p : Pending) → Ke
     → MarksAs m u p.label → Departs t u n p (Some (late_holder n))
 marked labels t m u n p k l w = record {
   there = l.there;
-  pending = puts_from by_number (pending_in t) m.pending.entries u.pending.entries n None
-      (ap (λ b. b.entries) w.pending) l.pending;
+  pending = puts_from by_number (pending_in t) (numbered m.pending.entries)
+      (numbered u.pending.entries) n None (ap (λ b. numbered b.entries) w.pending) l.pending;
   holder = record {
     here =
         w.holder.here
@@ -161,8 +166,8 @@ pub released : (t m u : Tables) (n : ℕ) (p : Pending) (r : Option Holder) → 
     → ReleasesAs m u p.label r → Departs t u n p None
 released t m u n p r l w = record {
   there = l.there;
-  pending = puts_from by_number (pending_in t) m.pending.entries u.pending.entries n None
-      (ap (λ b. b.entries) w.pending) l.pending;
+  pending = puts_from by_number (pending_in t) (numbered m.pending.entries)
+      (numbered u.pending.entries) n None (ap (λ b. numbered b.entries) w.pending) l.pending;
   holder = puts_to nat_eq (holder_in u) t.holders.entries m.holders.entries p.label None
       l.holders w.holder;
   covered = λ k. covered_same m u w.pending w.soonest (l.covered k);
@@ -254,7 +259,7 @@ pub answered : (labels : LabelSet) (t m u : Tables) (label : ℕ) (h : Holder) (
     → Answered t u label h.number
 answered labels t m u label h r k w shut l =
     let is = opened labels t label h k w.there shut in
-    let same = ap (λ b. b.entries) w.pending in
+    let same = ap (λ b. numbered b.entries) w.pending in
     let away =
     leaves_it m u h.number is.found r
     (ap (lookup (by_number h.number)) same ∙ is.there) l in
@@ -263,8 +268,8 @@ answered labels t m u label h r k w shut l =
       label_is = is.label_is;
       departs = record {
         there = is.there;
-        pending = puts_to by_number (pending_in u) t.pending.entries m.pending.entries h.number
-            None same away.pending;
+        pending = puts_to by_number (pending_in u) (numbered t.pending.entries)
+            (numbered m.pending.entries) h.number None same away.pending;
         holder =
             subst (λ x. Puts (holder_in t) (holder_in u) x None) (sym is.label_is)
             (puts_from nat_eq (holder_in t) m.holders.entries u.holders.entries label None

@@ -1,13 +1,19 @@
 -- Changes at one key of an ordered map.
-use Rattle.std.proofs.Common.{◌≡◌, ◌≢◌, ℕ, true, false, cond, ◌⊎◌, inl, inr, Option, Some, None}
-use Rattle.std.proofs.Common.{sym, ap, ◌∙◌, arith, unwrap_or}
+use Rattle.std.proofs.Common.{◌≡◌, ◌≢◌, ◌<◌, ◌≤◌, ℕ, min, true, false, cond, ◌⊎◌, inl, inr, Option}
+use Rattle.std.proofs.Common.{Some, None, is_some, List, [], ◌∷◌, length, refl, sym, ap, ◌∙◌, arith}
+use Rattle.std.proofs.Common.{unwrap_or, Equal}
 use Rattle.std.proofs.lemmas.Bool.{cases_eq}
 use Rattle.std.proofs.lemmas.Bool.Decides.{nat_tests}
-use Rattle.std.proofs.lemmas.Cmp.{nat_cmp_total}
+use Rattle.std.proofs.lemmas.Cmp.{back_total, nat_cmp_total, on_total}
 use Rattle.std.proofs.lemmas.Map.Lookups.{btree_map_from_get, exact_unsigned}
-use Rattle.std.specs.BTreeMap.{BTreeMap, IsOrdered, get, is_at}
+use Rattle.std.specs.BTreeMap.{BTreeMap, IsLowerBound, IsOrdered, IsUpperBound, get, is_at}
+use Rattle.std.specs.Cmp.{IsTotalOrder}
+use Rattle.std.specs.Map.{lookup}
 use Rattle.std.specs.Ordering.{is_eq, nat_cmp}
+use Rattle.std.specs.declared.cmp.Reverse.{Reverse}
 use Rattle.gb_ops.specs.Operations.{Puts}
+use Rattle.gb_ops.specs.Tables.{falling, numbered}
+use Rattle.gb_ops.specs.declared.entries.Pending.{Pending}
 
 pub same_some : {A : Type 0} (x y : A) → Some x ≡ Some y → x ≡ y
 same_some x y e = ap (λ o. unwrap_or o x) e
@@ -18,30 +24,114 @@ key_same a b e = grind (arith, nat_tests)
 pub key_other : (a b : ℕ) → a ≢ b → is_eq (nat_cmp a b) ≡ false
 key_other a b e = grind (arith, nat_tests)
 
--- what an ordered map has after a change at one key
-abbrev pub Updated : {X : Type 0} → BTreeMap ℕ X → BTreeMap ℕ X → ℕ → Option X → Type 0
-Updated m n k w = (q : ℕ) → get nat_cmp n q ≡ cond (is_at (nat_cmp k) q) w (get nat_cmp m q)
+key_back : (a b : ℕ) → is_eq (nat_cmp a b) ≡ is_eq (nat_cmp b a)
+key_back a b = grind (arith, nat_tests)
 
-puts : {X : Type 0} (m n : BTreeMap ℕ X) (k : ℕ) (w : Option X) → Updated m n k w
-    → Puts (λ q. get nat_cmp m q) (λ q. get nat_cmp n q) k w
+-- a number as a key
+abbrev pub key : ℕ → Reverse ℕ
+key n = record { 0 = n }
+
+-- what stands at a number
+abbrev pub at : List (Reverse ℕ × Pending) → ℕ → Option Pending
+at es n = lookup (is_at (nat_cmp n)) (numbered es)
+
+-- it is what the map has at the key
+pub seen : (es : List (Reverse ℕ × Pending)) (n : ℕ) → lookup (is_at (falling (key n))) es ≡ at es n
+seen [] n = refl
+seen (e ∷ es) n =
+    ap (λ t. cond t (Some e.1) (lookup (is_at (falling (key n))) es)) (key_back e.0.0 n)
+    ∙ ap (cond (is_eq (nat_cmp n e.0.0)) (Some e.1)) (seen es n)
+
+-- what the map has after a change at one key
+abbrev pub Updated : BTreeMap (Reverse ℕ) Pending → BTreeMap (Reverse ℕ) Pending → ℕ
+    → Option Pending → Type 0
+Updated m n k w =
+    (q : Reverse ℕ) → get falling n q ≡ cond (is_at (falling (key k)) q) w (get falling m q)
+
+pub puts : (m n : BTreeMap (Reverse ℕ) Pending) (k : ℕ) (w : Option Pending) → Updated m n k w
+    → Puts (at m.entries) (at n.entries) k w
 puts m n k w u = record {
-  here = u k ∙ ap (λ t. cond t w (get nat_cmp m k)) (key_same k k (λ i. k));
-  others = λ q ne. u q ∙ ap (λ t. cond t w (get nat_cmp m q)) (key_other k q (λ e. ne (sym e)));
+  here = sym (seen n.entries k) ∙ u (key k)
+      ∙ ap (λ t. cond t w (get falling m (key k))) (key_same k k refl);
+  others = λ q ne. sym (seen n.entries q) ∙ u (key q)
+      ∙ ap (λ t. cond t w (get falling m (key q))) (key_other q k ne)
+      ∙ seen m.entries q;
 }
 
--- a key that wasn't there was put and taken away
-pub restored : {X : Type 0} (m between n : BTreeMap ℕ X) (k : ℕ) (w : Option X)
-    → get nat_cmp m k ≡ None
-    → Updated m between k w → Updated between n k None → IsOrdered nat_cmp m → IsOrdered nat_cmp n
+falling_total : IsTotalOrder falling
+falling_total = back_total (on_total (λ (x : Reverse ℕ). x.0) nat_cmp_total)
+
+exact : (x y : Reverse ℕ) → falling x y ≡ Equal → x ≡ y
+exact x y e = ap key (sym (exact_unsigned y.0 x.0 e))
+
+-- a number that wasn't there was put and taken away
+pub restored : (m between n : BTreeMap (Reverse ℕ) Pending) (k : ℕ) (w : Option Pending)
+    → at m.entries k ≡ None
+    → Updated m between k w → Updated between n k None → IsOrdered falling m → IsOrdered falling n
     → n.entries ≡ m.entries
 restored m between n k w absent u v s t =
-    btree_map_from_get nat_cmp_total n m t s same exact_unsigned
+    btree_map_from_get falling_total n m t s (λ q. same q.0) exact
   where
-    same : (q : ℕ) → get nat_cmp n q ≡ get nat_cmp m q
-    same q = by (cases_eq q k)
+    same : (q : ℕ) → get falling n (key q) ≡ get falling m (key q)
+    same q = seen n.entries q ∙ by (cases_eq q k) ∙ sym (seen m.entries q)
       where
-        by : (q ≡ k) ⊎ (q ≡ k → ⊥) → get nat_cmp n q ≡ get nat_cmp m q
+        by : (q ≡ k) ⊎ (q ≡ k → ⊥) → at n.entries q ≡ at m.entries q
         by (inl e) =
-            ap (λ x. get nat_cmp n x) e ∙ (puts between n k None v).here ∙ sym absent
-            ∙ ap (λ x. get nat_cmp m x) (sym e)
+            ap (at n.entries) e ∙ (puts between n k None v).here ∙ sym absent
+            ∙ ap (at m.entries) (sym e)
         by (inr ne) = (puts between n k None v).others q ne ∙ (puts m between k w u).others q ne
+
+-- ---- the ends of the map
+
+none_from : (o : Option Pending) → ((p : Pending) → o ≡ Some p → ⊥) → o ≡ None
+none_from None never = refl
+none_from (Some p) never = absurd (never p refl)
+
+-- no open request is above the first
+pub top : (m : BTreeMap (Reverse ℕ) Pending) (k : Reverse ℕ) → IsLowerBound falling m k → (n : ℕ)
+    (p : Pending) → at m.entries n ≡ Some p → n ≤ k.0
+top m k low n p h =
+    let not_above = low (key n) (ap is_some (seen m.entries n ∙ h)) in
+    grind (arith, nat_tests)
+
+-- or below the last
+pub bottom : (m : BTreeMap (Reverse ℕ) Pending) (k : Reverse ℕ) → IsUpperBound falling m k
+    → (n : ℕ) (p : Pending) → at m.entries n ≡ Some p → k.0 ≤ n
+bottom m k up n p h =
+    let not_below = up (key n) (ap is_some (seen m.entries n ∙ h)) in
+    grind (arith, nat_tests)
+
+-- none is at numbers above the first
+pub none_above : (m : BTreeMap (Reverse ℕ) Pending) (k : Reverse ℕ) → IsLowerBound falling m k
+    → (n : ℕ) → k.0 < n → (q : ℕ) → n ≤ q → at m.entries q ≡ None
+none_above m k low n below q within =
+    none_from (at m.entries q) (λ p h. let over = top m k low q p h in absurd (omega arith))
+
+-- ---- deadlines
+
+-- no deadline of an open request is before the soonest
+abbrev pub Covers : ℕ → List (Reverse ℕ × Pending) → Type 0
+Covers soonest es = (n : ℕ) (p : Pending) → at es n ≡ Some p → soonest ≤ p.deadline
+
+pub covers_more : (es fs : List (Reverse ℕ × Pending)) (n old new : ℕ) (p : Pending)
+    → Puts (at es) (at fs) n (Some p) → new ≡ min old p.deadline → Covers old es → Covers new fs
+covers_more es fs n old new p w is k m q h = by (cases_eq m n)
+  where
+    by : (m ≡ n) ⊎ (m ≡ n → ⊥) → new ≤ q.deadline
+    by (inl here) =
+        let same = ap (λ x. x.deadline) (same_some p q (sym w.here ∙ ap (at fs) (sym here) ∙ h)) in
+        omega (arith, same, is)
+    by (inr ne) = let before = k m q (sym (w.others m ne) ∙ h) in omega (arith, before, is)
+
+pub covers_fewer : (es fs : List (Reverse ℕ × Pending)) (n soonest : ℕ)
+    → Puts (at es) (at fs) n None → Covers soonest es → Covers soonest fs
+covers_fewer es fs n soonest w k m q h = by (cases_eq m n)
+  where
+    by : (m ≡ n) ⊎ (m ≡ n → ⊥) → soonest ≤ q.deadline
+    by (inl here) = absurd (cc (w.here, ap (at fs) (sym here) ∙ h))
+    by (inr ne) = k m q (sym (w.others m ne) ∙ h)
+
+pub covers_none : (es : List (Reverse ℕ × Pending)) (soonest : ℕ) → length es ≡ 0
+    → Covers soonest es
+covers_none [] soonest empty = λ m q h. absurd cc
+covers_none (e ∷ es) soonest empty = absurd (omega (arith, empty))

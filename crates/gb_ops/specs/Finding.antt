@@ -1,13 +1,14 @@
 -- The least open request, and the least of those whose deadline came.
 use Rattle.std.specs.Prelude.{◌≡◌, ◌<◌, ◌≤◌, ℕ, nat_le, if◌then◌else◌, Option, Some, None, List, []}
 use Rattle.std.specs.Prelude.{◌∷◌}
+use Rattle.std.specs.Option.{option_or}
 use Rattle.gb_ops.specs.declared.entries.Pending.{Pending}
 
--- the first of a list whose deadline came
+-- the last of a list whose deadline came
 abbrev pub due_in : ℕ → List (ℕ × Pending) → Option ℕ
 due_in now [] = None
-due_in now (e ∷ es) = let later = due_in now es in
-    if nat_le e.1.deadline now then Some e.0 else later
+due_in now (e ∷ es) = option_or (due_in now es)
+    (if nat_le e.1.deadline now then Some e.0 else None)
 
 -- a request is open, and its deadline came
 pub record IsDue (pending : ℕ → Option Pending) (now n : ℕ) : Type 0 where

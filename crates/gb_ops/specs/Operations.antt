@@ -7,7 +7,7 @@ use Rattle.gb_machine.specs.Labels.{free_label, greatest_label, label_after}
 use Rattle.gb_ops.specs.declared.entries.Holder.{Holder}
 use Rattle.gb_ops.specs.declared.entries.Pending.{Pending}
 
--- What each identifier is in use for, the open requests, in order of number, and the last
+-- What each identifier is in use for, the open requests, the greatest number first, and the last
 -- identifier that was drawn, 0 before the first.
 pub record Operations : Type 0 where
   pub holders : List (ℕ × Holder)

@@ -1,9 +1,12 @@
 -- What the maps keep, and what their calls do.
 use Rattle.std.specs.Prelude.{◌≡◌, ◌≤◌, ℕ, true, false, Option, Some, None, is_some}
-use Rattle.std.specs.Prelude.{nat_eq, option_map, IsNone, []}
-use Rattle.std.specs.BTreeMap.{get}
+use Rattle.std.specs.Prelude.{nat_eq, option_map, IsNone, List, [], ◌∷◌, ◌++◌}
+use Rattle.std.specs.BTreeMap.{is_at}
 use Rattle.std.specs.HashMap as hash
+use Rattle.std.specs.Map.{lookup}
 use Rattle.std.specs.Ordering.{nat_cmp}
+use Rattle.std.specs.declared.cmp.Ordering.{Ordering}
+use Rattle.std.specs.declared.cmp.Reverse.{Reverse}
 use Rattle.gb_labels.specs.LabelSet.{LabelSet, is_in_use}
 use Rattle.gb_ops.specs.Operations.{Puts}
 use Rattle.gb_ops.specs.declared.entries.Holder.{Holder}
@@ -14,9 +17,23 @@ use Rattle.gb_ops.specs.declared.tables.Tables.{Tables}
 abbrev pub holder_in : Tables → ℕ → Option Holder
 holder_in t label = hash.get nat_eq t.holders label
 
+-- the order of the open requests: the greatest number first
+abbrev pub falling : Reverse ℕ → Reverse ℕ → Ordering
+falling x y = nat_cmp y.0 x.0
+
+-- the open requests with their numbers, in that order
+abbrev pub numbered : List (Reverse ℕ × Pending) → List (ℕ × Pending)
+numbered [] = []
+numbered (e ∷ es) = (e.0.0, e.1) ∷ numbered es
+
+-- their numbers from the least on
+abbrev pub rising_numbers : List (Reverse ℕ × Pending) → List ℕ
+rising_numbers [] = []
+rising_numbers (e ∷ es) = rising_numbers es ++ e.0.0 ∷ []
+
 -- an open request by its number
 abbrev pub pending_in : Tables → ℕ → Option Pending
-pending_in t n = get nat_cmp t.pending n
+pending_in t n = lookup (is_at (nat_cmp n)) (numbered t.pending.entries)
 
 -- nothing is kept
 pub record IsEmpty (t : Tables) : Type 0 where

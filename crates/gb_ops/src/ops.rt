@@ -31,13 +31,13 @@ pub struct Ops {
 
 impl Model for Ops {
     ghost use Rattle.gb_ops.specs.Operations.{Operations};
-    ghost use Rattle.gb_ops.specs.Tables.{Kept};
+    ghost use Rattle.gb_ops.specs.Tables.{Kept, numbered};
 
     ghost Value = { Operations };
 
     ghost view = { λ o. record {
       holders = o.tables.holders.entries;
-      pending = o.tables.pending.entries;
+      pending = numbered o.tables.pending.entries;
       last = o.labels.last;
     } };
 

@@ -4,7 +4,6 @@ ghost use Rattle.std.specs.Prelude.{◌≡◌, ◌≤◌, ℕ, None, [], IfOk, O
 ghost use Rattle.std.specs.BTreeMap.{IsOrdered};
 ghost use Rattle.std.specs.HashMap.{IsUnique};
 ghost use Rattle.std.specs.List.Sorted.{IsStrictlySortedBy};
-ghost use Rattle.std.specs.Map.{keys_of};
 ghost use Rattle.std.specs.Ordering.{nat_cmp};
 ghost use Rattle.gb_ops.specs.Finding.{FindsDue, FindsLeast, due_in};
 ghost use Rattle.gb_ops.specs.Listed.{late_among};
@@ -17,13 +16,17 @@ ghost use Rattle.gb_ops.specs.Tables.{
   MarksAs,
   Reaches,
   ReleasesAs,
+  falling,
   holder_in,
+  numbered,
   pending_in,
+  rising_numbers,
 };
 
 use crate::{Holder, Pending};
 use gb_base::{Numbers, OutOfMemory};
 use std::alloc::Global;
+use std::cmp::Reverse;
 use std::collections::{BTreeMap, BTreeSet, HashMap};
 
 /// The requests of one side of a connection, in maps.
@@ -31,8 +34,8 @@ use std::collections::{BTreeMap, BTreeSet, HashMap};
 pub struct Tables {
     /// By identifier, those that are open and those that were given up.
     pub holders: HashMap<u16, Holder>,
-    /// By number, those that are open, in order.
-    pub pending: BTreeMap<u64, Pending>,
+    /// By number, those that are open, the greatest number first: a new one stands at the front.
+    pub pending: BTreeMap<Reverse<u64>, Pending>,
     /// No deadline of those that are open is before it, in milliseconds.
     pub soonest: u64,
 }
@@ -55,13 +58,14 @@ impl Tables {
         ensures entered { OnOk result (Enters self.old self.new label n deadline) }
         ensures unchanged { OnErr result (IsUnchanged self.old self.new) }
     {
-        self.pending.insert(n, Pending { label, deadline })?;
+        self.pending
+            .insert(Reverse(n), Pending { label, deadline })?;
         let holder = Holder {
             number: n,
             given_up: false,
         };
         if self.holders.insert(label, holder).is_err() {
-            self.pending.remove(&n);
+            self.pending.remove(&Reverse(n));
             return Err(OutOfMemory);
         }
         self.soonest = self.soonest.min(deadline);
@@ -72,7 +76,7 @@ impl Tables {
     pub fn leave(&mut self, n: u64) -> Option<Pending>
         ensures { LeavesAs self.old self.new n result }
     {
-        let pending = self.pending.remove(&n)?;
+        let pending = self.pending.remove(&Reverse(n))?;
         if self.pending.is_empty() {
             self.soonest = u64::MAX;
         }
@@ -100,8 +104,8 @@ impl Tables {
         ensures some { result ≡ true → Reaches self.now n }
         ensures none { result ≡ false → (m : ℕ) → n ≤ m → pending_in self.now m ≡ None }
     {
-        match self.pending.last_key_value() {
-            Some((last, _)) => *last >= n,
+        match self.pending.first_key_value() {
+            Some((greatest, _)) => greatest.0 >= n,
             None => false,
         }
     }
@@ -126,18 +130,18 @@ impl Tables {
     pub fn first(&self) -> Option<u64>
         ensures { FindsLeast (pending_in self.now) result }
     {
-        let (number, _) = self.pending.first_key_value()?;
-        Some(*number)
+        let (number, _) = self.pending.last_key_value()?;
+        Some(number.0)
     }
 
     /// The numbers of the open requests, in order.
     pub fn unended(&self, alloc: Global) -> Result<Numbers, OutOfMemory>
-        ensures numbers { IfOk result (λ ns. ns ≡ keys_of self.now.pending.entries) }
-        ensures ordered { IsOrdered nat_cmp self.now.pending }
+        ensures numbers { IfOk result (λ ns. ns ≡ rising_numbers self.now.pending.entries) }
+        ensures ordered { IsOrdered falling self.now.pending }
     {
         let mut numbers = Numbers::new(alloc);
-        for (number, _) in &self.pending {
-            numbers.push(*number)?;
+        for (number, _) in self.pending.iter().rev() {
+            numbers.push(number.0)?;
         }
         Ok(numbers)
     }
@@ -180,12 +184,12 @@ impl Tables {
 
     /// The first in order of number whose deadline came.
     fn first_by(&self, now: u64) -> Option<u64>
-        ensures first { result ≡ due_in now self.now.pending.entries }
-        ensures ordered { IsOrdered nat_cmp self.now.pending }
+        ensures first { result ≡ due_in now (numbered self.now.pending.entries) }
+        ensures ordered { IsOrdered falling self.now.pending }
     {
-        for (number, pending) in &self.pending {
+        for (number, pending) in self.pending.iter().rev() {
             if pending.deadline <= now {
-                return Some(*number);
+                return Some(number.0);
             }
         }
         None

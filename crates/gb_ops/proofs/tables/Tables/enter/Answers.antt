@@ -1,6 +1,6 @@
 -- The number is taken away where no memory was found for the identifier.
 use Rattle.std.proofs.Common.{refl, rules}
-use Rattle.gb_ops.proofs.Maps.{restored}
+use Rattle.gb_ops.proofs.Maps.{covers_more, puts, restored}
 use Rattle.gb_ops.proofs.tables.Tables.enter.Goals as goal
 
 pub returns-then-is_err-clause-unchanged : goal.returns-then-is_err-clause-unchanged
@@ -12,3 +12,15 @@ returns-then-is_err-clause-unchanged c = record {
       c.remove.ensures.ordered;
   soonest = refl;
 }
+
+pub returns-clause-entered : goal.returns-clause-entered
+returns-clause-entered c =
+    let pending =
+    puts c.args.self.now.pending c.insert.new.self c.args.n _ c.in_ok-insert.ensures.updates.0 in
+    record {
+      holder = search rules;
+      pending = pending;
+      covered =
+          covers_more c.args.self.now.pending.entries c.insert.new.self.entries c.args.n _ _ _
+          pending c.min-self.ensures;
+    }

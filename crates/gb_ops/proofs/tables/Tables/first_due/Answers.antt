@@ -1,4 +1,4 @@
--- The first in order of number whose deadline came is the least.
+-- The last in falling order whose deadline came is the least.
 use Rattle.std.proofs.Common.{subst, sym}
 use Rattle.gb_ops.proofs.Dues.{finds_due}
 use Rattle.gb_ops.specs.Finding.{FindsDue}
