@@ -1,28 +1,37 @@
 -- The deadlines that came, in order, and whose they are.
 use Rattle.std.proofs.Common.{◌≡◌, ◌<◌, ◌≤◌, ℕ, Bool, true, false, ◌&&◌, ◌||◌, cond, ◌⊎◌}
-use Rattle.std.proofs.Common.{⊎_elim, inl, inr, Option, Some, None, List, [], ◌∷◌, Less, Equal}
-use Rattle.std.proofs.Common.{Greater, eqb, leb, refl, sym, ap, subst, ◌∙◌, arith}
+use Rattle.std.proofs.Common.{⊎_elim, inl, inr, Option, Some, None, List, [], ◌∷◌, ◌++◌, Less}
+use Rattle.std.proofs.Common.{Equal, Greater, eqb, leb, refl, sym, ap, subst, ◌∙◌, arith}
 use Rattle.std.proofs.lemmas.Bool.{and_left, and_parts, and_right, both_ways, cases_lt, eq-eqb}
-use Rattle.std.proofs.lemmas.Bool.{eqb-true, false_from_ne_true, leb-false, leb-true}
+use Rattle.std.proofs.lemmas.Bool.{eqb-true, false_from_ne_true, le-leb, leb-false, leb-true}
 use Rattle.std.proofs.lemmas.Bool.{lt-leb, ne_eqb, or_cases, or_from, or_left, or_parts, or_right}
+use Rattle.std.proofs.lemmas.Bool.Decides.{nat_tests}
+use Rattle.std.proofs.lemmas.List.Folds.{list_any-append}
 use Rattle.std.proofs.lemmas.Map.Keys.{le_from_not_gt, sorted_head, sorted_tail}
+use Rattle.std.proofs.ByRecursion.{All-push}
 use Rattle.std.specs.Option.{is_none}
 use Rattle.std.specs.BTreeMap.{is_at}
-use Rattle.std.specs.BTreeSet.{BTreeSet, insert_key}
+use Rattle.std.specs.BTreeSet.{insert_key}
 use Rattle.std.specs.List.{AllByRecursion, list_any}
 use Rattle.std.specs.List.Sorted.{IsStrictlySortedBy}
 use Rattle.std.specs.Ordering.{is_eq, is_gt, match_ordering, nat_cmp, ordering_then}
 use Rattle.std.specs.declared.cmp.Ordering.{Ordering}
+use Rattle.std.specs.declared.cmp.Reverse.{Reverse}
 use Rattle.slab.specs.Slab.{Slab}
 use Rattle.gb_base.specs.declared.outcome.Outcome.{Outcome}
-use Rattle.gb_bus.proofs.SlotMaps.{both-same, found, key-same}
-use Rattle.gb_bus.specs.Keeping.{IsKept, Places, by_deadline, kept_in, lesser_of}
-use Rattle.gb_bus.specs.Keeping.{waits_until}
+use Rattle.gb_bus.proofs.SlotMaps.{both-same, found, key-same, latest}
+use Rattle.gb_bus.specs.Keeping.{Deadlines, IsKept, Places, by_deadline, by_latest, kept_in}
+use Rattle.gb_bus.specs.Keeping.{lesser_of, waits_until}
 use Rattle.gb_bus.specs.Slots.{Kept, is_due, slot_at}
 use Rattle.gb_bus.specs.declared.slots.Slot.{Slot}
 use Rattle.gb_bus.specs.declared.tally.Tally.{Tally}
 use Rattle.gb_bus.specs.Listing.{AreThose, FindsLeast, stands_in}
 use Rattle.gb_ops.proofs.Listing.{equal-key, rising, same-key}
+
+-- the earliest first, of those that stand the latest first
+abbrev pub earliest-first : List (Reverse (ℕ × ℕ)) → List (ℕ × ℕ)
+earliest-first [] = []
+earliest-first (r ∷ rs) = earliest-first rs ++ r.0 ∷ []
 
 -- the numbers whose deadline came, put among these
 abbrev pub due-keys : ℕ → List ℕ → List (ℕ × ℕ) → List ℕ
@@ -36,26 +45,59 @@ least-from now least [] = least
 least-from now least (k ∷ ks) =
     let later = least-from now (Some (lesser_of k.1 least)) ks in cond (leb k.0 now) later least
 
--- they are at their end where none is left, or where the next didn't come
-pub due-ends : (now : ℕ) (ns : List ℕ) (ks : List (ℕ × ℕ)) → ks ≡ [] → ns ≡ due-keys now ns ks
-due-ends now ns ks e = sym (ap (due-keys now ns) e)
+-- the last comes first
+last-first : (rs : List (Reverse (ℕ × ℕ))) (r : Reverse (ℕ × ℕ))
+    → earliest-first (rs ++ r ∷ []) ≡ r.0 ∷ earliest-first rs
+last-first [] r = refl
+last-first (x ∷ rs) r = ap (λ ks. ks ++ x.0 ∷ []) (last-first rs r)
 
-pub due-stops : (now : ℕ) (ns : List ℕ) (all : List (ℕ × ℕ)) (k : ℕ × ℕ) (ks : List (ℕ × ℕ))
-    → all ≡ k ∷ ks → now < k.0 → ns ≡ due-keys now ns all
-due-stops now ns all k ks e late =
-    sym (ap (due-keys now ns) e
-    ∙ ap (λ t. cond t (due-keys now (insert_key nat_cmp ns k.1) ks) ns) (lt-leb k.0 now late))
+next-first : (all rs : List (Reverse (ℕ × ℕ))) (r : Reverse (ℕ × ℕ)) → all ≡ rs ++ r ∷ []
+    → earliest-first all ≡ r.0 ∷ earliest-first rs
+next-first all rs r e = ap earliest-first e ∙ last-first rs r
 
-pub least-ends : (now : ℕ) (least : Option ℕ) (ks : List (ℕ × ℕ)) → ks ≡ []
-    → least ≡ least-from now least ks
-least-ends now least ks e = sym (ap (least-from now least) e)
+-- they are at their end where none is left, or where the next didn't come, and go on where it came
+pub due-ends : (now : ℕ) (ns : List ℕ) (rs : List (Reverse (ℕ × ℕ))) → rs ≡ []
+    → ns ≡ due-keys now ns (earliest-first rs)
+due-ends now ns rs e = sym (ap (λ x. due-keys now ns (earliest-first x)) e)
 
-pub least-stops : (now : ℕ) (least : Option ℕ) (all : List (ℕ × ℕ)) (k : ℕ × ℕ)
-    (ks : List (ℕ × ℕ)) → all ≡ k ∷ ks → now < k.0 → least ≡ least-from now least all
-least-stops now least all k ks e late =
-    sym (ap (least-from now least) e
-    ∙ ap (λ t. cond t (least-from now (Some (lesser_of k.1 least)) ks) least)
-    (lt-leb k.0 now late))
+module _ (now : ℕ) (ns : List ℕ) (all rs : List (Reverse (ℕ × ℕ))) (r : Reverse (ℕ × ℕ))
+    (e : all ≡ rs ++ r ∷ []) where
+  due-by : (t : Bool) → leb r.0.0 now ≡ t
+      → due-keys now ns (earliest-first all)
+      ≡ cond t (due-keys now (insert_key nat_cmp ns r.0.1) (earliest-first rs)) ns
+  due-by t is =
+      ap (due-keys now ns) (next-first all rs r e)
+      ∙ ap (λ b. cond b (due-keys now (insert_key nat_cmp ns r.0.1) (earliest-first rs)) ns) is
+
+  pub due-stops : now < r.0.0 → ns ≡ due-keys now ns (earliest-first all)
+  due-stops late = sym (due-by false (lt-leb r.0.0 now late))
+
+  pub due-goes : r.0.0 ≤ now
+      → due-keys now (insert_key nat_cmp ns r.0.1) (earliest-first rs)
+      ≡ due-keys now ns (earliest-first all)
+  due-goes came = sym (due-by true (le-leb r.0.0 now came))
+
+pub least-ends : (now : ℕ) (least : Option ℕ) (rs : List (Reverse (ℕ × ℕ))) → rs ≡ []
+    → least ≡ least-from now least (earliest-first rs)
+least-ends now least rs e = sym (ap (λ x. least-from now least (earliest-first x)) e)
+
+module _ (now : ℕ) (least : Option ℕ) (all rs : List (Reverse (ℕ × ℕ))) (r : Reverse (ℕ × ℕ))
+    (e : all ≡ rs ++ r ∷ []) where
+  least-by : (t : Bool) → leb r.0.0 now ≡ t
+      → least-from now least (earliest-first all)
+      ≡ cond t (least-from now (Some (lesser_of r.0.1 least)) (earliest-first rs)) least
+  least-by t is =
+      ap (least-from now least) (next-first all rs r e)
+      ∙ ap (λ b. cond b (least-from now (Some (lesser_of r.0.1 least)) (earliest-first rs)) least)
+      is
+
+  pub least-stops : now < r.0.0 → least ≡ least-from now least (earliest-first all)
+  least-stops late = sym (least-by false (lt-leb r.0.0 now late))
+
+  pub least-goes : r.0.0 ≤ now
+      → least-from now (Some (lesser_of r.0.1 least)) (earliest-first rs)
+      ≡ least-from now least (earliest-first all)
+  least-goes came = sym (least-by true (le-leb r.0.0 now came))
 
 -- a deadline of a number came
 abbrev any-due : ℕ → ℕ → List (ℕ × ℕ) → Bool
@@ -306,26 +348,86 @@ due-as-slot now n ks (Some slot) h = by slot.outcome (leb slot.deadline now) ref
         absurd (omega (arith, past, low, same)))))
         ∙ sym (ap (λ b. b && is_none slot.outcome) late)
 
+-- ---- the earliest first
+
+sorted-push : (ks : List (ℕ × ℕ)) (k : ℕ × ℕ) → IsStrictlySortedBy by_deadline ks
+    → AllByRecursion (λ y. by_deadline y k ≡ Less) ks
+    → IsStrictlySortedBy by_deadline (ks ++ k ∷ [])
+unfolding IsStrictlySortedBy
+sorted-push [] k s all = (tt, tt)
+sorted-push (x ∷ ks) k s all = (
+  All-push (λ y. by_deadline x y ≡ Less) ks k s.0 all.0,
+  sorted-push ks k s.1 all.1,
+)
+
+all-before : (r : Reverse (ℕ × ℕ)) (rs : List (Reverse (ℕ × ℕ)))
+    → AllByRecursion (λ y. by_latest r y ≡ Less) rs
+    → AllByRecursion (λ y. by_deadline y r.0 ≡ Less) (earliest-first rs)
+all-before r [] all = tt
+all-before r (x ∷ rs) all =
+    All-push (λ y. by_deadline y r.0 ≡ Less) (earliest-first rs) x.0 (all-before r rs all.1) all.0
+
+rise : (rs : List (Reverse (ℕ × ℕ))) → IsStrictlySortedBy by_latest rs
+    → IsStrictlySortedBy by_deadline (earliest-first rs)
+unfolding IsStrictlySortedBy
+rise [] s = tt
+rise (r ∷ rs) s = sorted-push (earliest-first rs) r.0 (rise rs s.1) (all-before r rs s.0)
+
+both-eq : (a b : Ordering) → is_eq (ordering_then a b) ≡ (is_eq a && is_eq b)
+both-eq Less b = refl
+both-eq Equal b = refl
+both-eq Greater b = refl
+
+turned : (a b : ℕ) → is_eq (nat_cmp a b) ≡ is_eq (nat_cmp b a)
+turned a b = grind (arith, nat_tests)
+
+same-at : (x : ℕ × ℕ) (r : Reverse (ℕ × ℕ)) → is_at (by_deadline x) r.0 ≡ is_eq (by_deadline r.0 x)
+same-at x r =
+    both-eq (nat_cmp x.0 r.0.0) (nat_cmp x.1 r.0.1)
+    ∙ ap (λ b. b && is_eq (nat_cmp x.1 r.0.1)) (turned x.0 r.0.0)
+    ∙ ap (λ b. is_eq (nat_cmp r.0.0 x.0) && b) (turned x.1 r.0.1)
+    ∙ sym (both-eq (nat_cmp r.0.0 x.0) (nat_cmp r.0.1 x.1))
+
+same-any : (c n : ℕ) (rs : List (Reverse (ℕ × ℕ)))
+    → list_any (is_at (by_deadline (c, n))) (earliest-first rs)
+    ≡ list_any (is_at (by_latest (latest c n))) rs
+same-any c n [] = refl
+same-any c n (r ∷ rs) =
+    list_any-append (is_at (by_deadline (c, n))) (earliest-first rs) (r.0 ∷ [])
+    ∙ swap (list_any (is_at (by_deadline (c, n))) (earliest-first rs))
+    (is_at (by_deadline (c, n)) r.0)
+    ∙ ap (λ b. b || list_any (is_at (by_deadline (c, n))) (earliest-first rs)) (same-at (c, n) r)
+    ∙ ap (λ b. is_at (by_latest (latest c n)) r || b) (same-any c n rs)
+  where
+    swap : (a b : Bool) → (a || (b || false)) ≡ (b || a)
+    swap true true = refl
+    swap true false = refl
+    swap false true = refl
+    swap false false = refl
+
 -- ---- what the slots say
 
-module _ (s : Slab Slot) (p : Places) (d : BTreeSet (ℕ × ℕ)) (t : Tally) (now : ℕ)
+module _ (s : Slab Slot) (p : Places) (d : Deadlines) (t : Tally) (now : ℕ)
     (x : Kept) (k : IsKept s p d t) (view : kept_in s p t ≡ x)
-    (sorted : IsStrictlySortedBy by_deadline d.keys) where
-  due-so : (n : ℕ) → any-due now n d.keys ≡ is_due now (slot_at x n)
+    (sorted : IsStrictlySortedBy by_latest d.keys) where
+  abbrev ks : List (ℕ × ℕ)
+  ks = earliest-first d.keys
+
+  due-so : (n : ℕ) → any-due now n ks ≡ is_due now (slot_at x n)
   due-so n =
-      due-as-slot now n d.keys (found s p n) (λ c. k.timed c n)
+      due-as-slot now n ks (found s p n) (λ c. same-any c n d.keys ∙ k.timed c n)
       ∙ ap (λ y. is_due now (slot_at y n)) view
 
-  pub due-are : (ns : List ℕ) → IsStrictlySortedBy nat_cmp ns → ns ≡ due-keys now [] d.keys
+  pub due-are : (ns : List ℕ) → IsStrictlySortedBy nat_cmp ns → ns ≡ due-keys now [] ks
       → AreThose (λ n. is_due now (slot_at x n)) ns
   due-are ns rises is = record {
     rises = rising ns rises;
-    each = λ n. ap (stands_in n) is ∙ stands-due now n [] d.keys sorted ∙ due-so n;
+    each = λ n. ap (stands_in n) is ∙ stands-due now n [] ks (rise d.keys sorted) ∙ due-so n;
   }
 
-  pub first-is : (r : Option ℕ) → r ≡ least-from now None d.keys
+  pub first-is : (r : Option ℕ) → r ≡ least-from now None ks
       → FindsLeast (λ n. is_due now (slot_at x n)) r
   first-is r is =
       subst (FindsLeast (λ n. is_due now (slot_at x n))) (sym is)
-      (finds-same (λ n. any-due now n d.keys) (λ n. is_due now (slot_at x n)) due-so
-      (least-from now None d.keys) (least-due now None d.keys sorted))
+      (finds-same (λ n. any-due now n ks) (λ n. is_due now (slot_at x n)) due-so
+      (least-from now None ks) (least-due now None ks (rise d.keys sorted)))

@@ -4,7 +4,6 @@ use Rattle.std.proofs.Common.{Option, Some, None, eqb, length}
 use Rattle.std.proofs.Common.{nat_lt, refl, sym, ap, subst, ◌∙◌, arith}
 use Rattle.std.proofs.lemmas.Bool.{both_ways, or_parts}
 use Rattle.std.specs.Option.{is_none, option_and_then}
-use Rattle.std.specs.BTreeSet.{BTreeSet, contains}
 use Rattle.std.specs.HashMap as map
 use Rattle.slab.specs.Slab as slab
 use Rattle.slab.specs.Slab.{Slab, Updates, with_value}
@@ -16,20 +15,20 @@ use Rattle.gb_bus.proofs.SlotMaps.{changed, changed-placed, each-number, finds-h
 use Rattle.gb_bus.proofs.SlotMaps.{found, found-at, gone, gone-placed, none-some, other-number}
 use Rattle.gb_bus.proofs.SlotMaps.{same-number, same_some, time-here, time-others}
 use Rattle.gb_bus.specs.Counting.{counted_once, one_ended}
-use Rattle.gb_bus.specs.Keeping.{IsKept, Places, by_deadline, is_let_go, kept_in}
+use Rattle.gb_bus.specs.Keeping.{Deadlines, IsKept, Places, has_deadline, is_let_go, kept_in}
 use Rattle.gb_bus.specs.Keeping.{waits_until}
 use Rattle.gb_bus.specs.Slots.{ChangesAt, Kept, MovesAt, is_asked_for, is_open_slot}
 use Rattle.gb_bus.specs.declared.slots.Slot.{Slot}
 use Rattle.gb_bus.specs.declared.tally.Tally.{Tally}
 
 -- the deadlines of one number are those of this slot, and of the others those that were
-abbrev pub TimesAt : ℕ → Option Slot → BTreeSet (ℕ × ℕ) → BTreeSet (ℕ × ℕ) → Type 0
+abbrev pub TimesAt : ℕ → Option Slot → Deadlines → Deadlines → Type 0
 TimesAt n o d d2 =
     (deadline m : ℕ)
-    → contains by_deadline d2 (deadline, m)
-    ≡ cond (eqb m n) (waits_until deadline o) (contains by_deadline d (deadline, m))
+    → has_deadline d2 (deadline, m)
+    ≡ cond (eqb m n) (waits_until deadline o) (has_deadline d (deadline, m))
 
-pub all-placed : (s : Slab Slot) (p : Places) (d : BTreeSet (ℕ × ℕ)) (t : Tally)
+pub all-placed : (s : Slab Slot) (p : Places) (d : Deadlines) (t : Tally)
     → IsKept s p d t → AllPlaced s p
 all-placed s p d t k = record { placed = k.placed; occupied = k.occupied }
 
@@ -38,7 +37,7 @@ pub record IsFit (n : ℕ) (o : Option Slot) (t : Tally) : Type 0 where
   pub asked : (slot : Slot) → o ≡ Some slot → slot.outcome ≡ None → slot.awaited ≡ true
   pub made : (slot : Slot) → o ≡ Some slot → n ≤ t.requests
 
-pub kept-from : (s s2 : Slab Slot) (p p2 : Places) (d d2 : BTreeSet (ℕ × ℕ)) (t t2 : Tally)
+pub kept-from : (s s2 : Slab Slot) (p p2 : Places) (d d2 : Deadlines) (t t2 : Tally)
     (n : ℕ) (o : Option Slot) → IsKept s p d t → AllPlaced s2 p2
     → FindsAt n o (found s p) (found s2 p2) → TimesAt n o d d2 → IsFit n o t2
     → t.requests ≤ t2.requests → counted_once t2 ≡ t2.requests → t2.left_open ≡ length d2.keys
@@ -47,12 +46,12 @@ kept-from s s2 p p2 d d2 t t2 n o k a f times fit more counted waiting = record 
   placed = a.placed;
   occupied = a.occupied;
   timed = λ deadline. each-number n
-      (λ m. contains by_deadline d2 (deadline, m) ≡ waits_until deadline (found s2 p2 m))
-      (finds-here n (waits_until deadline o) (λ m. contains by_deadline d (deadline, m))
-      (λ m. contains by_deadline d2 (deadline, m)) (times deadline)
+      (λ m. has_deadline d2 (deadline, m) ≡ waits_until deadline (found s2 p2 m))
+      (finds-here n (waits_until deadline o) (λ m. has_deadline d (deadline, m))
+      (λ m. has_deadline d2 (deadline, m)) (times deadline)
       ∙ sym (ap (waits_until deadline) here))
-      (λ m ne. finds-other n (waits_until deadline o) (λ m. contains by_deadline d (deadline, m))
-      (λ m. contains by_deadline d2 (deadline, m)) (times deadline) m ne
+      (λ m ne. finds-other n (waits_until deadline o) (λ m. has_deadline d (deadline, m))
+      (λ m. has_deadline d2 (deadline, m)) (times deadline) m ne
       ∙ k.timed deadline m ∙ sym (ap (waits_until deadline) (others m ne)));
   asked = each-number n
       (λ m. (slot : Slot) → found s2 p2 m ≡ Some slot → slot.outcome ≡ None → slot.awaited ≡ true)
@@ -124,7 +123,7 @@ moved n o change f g at is =
     (λ m ne. at m ∙ ap (λ b. cond b o (f m)) (other-number m n ne)
     ∙ sym (ap (λ b. cond b (option_and_then change (f m)) (f m)) (other-number m n ne)))
 
-module _ (s : Slab Slot) (p : Places) (d : BTreeSet (ℕ × ℕ)) (t : Tally) (n key : ℕ)
+module _ (s : Slab Slot) (p : Places) (d : Deadlines) (t : Tally) (n key : ℕ)
     (slot slot2 : Slot) (k : IsKept s p d t) (i : IsThere s p n key slot)
     (number : slot2.number ≡ slot.number) where
   changes : FindsAt n (Some slot2) (found s p) (found (with_value s key slot2) p)
@@ -157,16 +156,16 @@ module _ (s : Slab Slot) (p : Places) (d : BTreeSet (ℕ × ℕ)) (t : Tally) (n
     where
       times : TimesAt n (Some slot2) d d
       times c = each-number n
-          (λ m. contains by_deadline d (c, m)
-          ≡ cond (eqb m n) (waits_until c (Some slot2)) (contains by_deadline d (c, m)))
+          (λ m. has_deadline d (c, m)
+          ≡ cond (eqb m n) (waits_until c (Some slot2)) (has_deadline d (c, m)))
           (k.timed c n ∙ ap (waits_until c) (is-found s p n key slot i)
           ∙ ap (λ x. eqb x c && is_none slot.outcome) (sym deadline)
           ∙ ap (λ x. eqb slot2.deadline c && is_none x) (sym outcome)
-          ∙ sym (ap (λ b. cond b (waits_until c (Some slot2)) (contains by_deadline d (c, n)))
+          ∙ sym (ap (λ b. cond b (waits_until c (Some slot2)) (has_deadline d (c, n)))
           (same-number n n refl)))
           (λ m ne. sym (finds-other n (waits_until c (Some slot2))
-          (λ q. contains by_deadline d (c, q))
-          (λ q. cond (eqb q n) (waits_until c (Some slot2)) (contains by_deadline d (c, q)))
+          (λ q. has_deadline d (c, q))
+          (λ q. cond (eqb q n) (waits_until c (Some slot2)) (has_deadline d (c, q)))
           (λ q. refl) m ne))
 
       asked : (x : Slot) → Some slot2 ≡ Some x → x.outcome ≡ None → x.awaited ≡ true
@@ -193,22 +192,22 @@ module _ (s : Slab Slot) (p : Places) (d : BTreeSet (ℕ × ℕ)) (t : Tally) (n
       by (Some x) e = refl
 
   -- where an open request ends, its deadline is let go of
-  module _ (d2 : BTreeSet (ℕ × ℕ)) (unended : slot.outcome ≡ None) where
-    pub is-timed : contains by_deadline d (slot.deadline, n) ≡ true
+  module _ (d2 : Deadlines) (unended : slot.outcome ≡ None) where
+    pub is-timed : has_deadline d (slot.deadline, n) ≡ true
     is-timed =
         k.timed slot.deadline n ∙ ap (waits_until slot.deadline) (is-found s p n key slot i)
         ∙ ap (λ b. b && is_none slot.outcome) (same-number slot.deadline slot.deadline refl)
         ∙ ap is_none unended
 
     -- one is open
-    pub some-open : (r : Bool) → r ≡ contains by_deadline d (slot.deadline, n)
+    pub some-open : (r : Bool) → r ≡ has_deadline d (slot.deadline, n)
         → length d2.keys + cond r 1 0 ≡ length d.keys → 1 ≤ t.left_open
     some-open r test count =
         let one = ap (λ b. length d2.keys + cond b 1 0) (test ∙ is-timed) in
         omega (arith, k.waiting, count, one)
 
     pub ended-kept : (how : Outcome) (r : Bool) (t2 : Tally) → slot2.outcome ≡ Some how
-        → Retimed d d2 slot.deadline n false → r ≡ contains by_deadline d (slot.deadline, n)
+        → Retimed d d2 slot.deadline n false → r ≡ has_deadline d (slot.deadline, n)
         → length d2.keys + cond r 1 0 ≡ length d.keys → t2 ≡ one_ended how t
         → IsKept (with_value s key slot2) p d2 t2
     ended-kept how r t2 over w test count is =
@@ -238,25 +237,25 @@ module _ (s : Slab Slot) (p : Places) (d : BTreeSet (ℕ × ℕ)) (t : Tally) (n
 
         times : TimesAt n (Some slot2) d d2
         times c = each-number n
-            (λ m. contains by_deadline d2 (c, m)
-            ≡ cond (eqb m n) (waits_until c (Some slot2)) (contains by_deadline d (c, m)))
+            (λ m. has_deadline d2 (c, m)
+            ≡ cond (eqb m n) (waits_until c (Some slot2)) (has_deadline d (c, m)))
             (time-here d d2 slot.deadline n false w c
             ∙ ap (cond (eqb slot.deadline c) false)
             (k.timed c n ∙ ap (waits_until c) (is-found s p n key slot i)
             ∙ ap (λ o. eqb slot.deadline c && is_none o) unended)
             ∙ both (eqb slot.deadline c) (eqb slot2.deadline c)
             ∙ sym (ap (λ o. eqb slot2.deadline c && is_none o) over)
-            ∙ sym (ap (λ b. cond b (waits_until c (Some slot2)) (contains by_deadline d (c, n)))
+            ∙ sym (ap (λ b. cond b (waits_until c (Some slot2)) (has_deadline d (c, n)))
             (same-number n n refl)))
             (λ m ne. time-others d d2 slot.deadline n false w c m ne
             ∙ sym (finds-other n (waits_until c (Some slot2))
-            (λ q. contains by_deadline d (c, q))
-            (λ q. cond (eqb q n) (waits_until c (Some slot2)) (contains by_deadline d (c, q)))
+            (λ q. has_deadline d (c, q))
+            (λ q. cond (eqb q n) (waits_until c (Some slot2)) (has_deadline d (c, q)))
             (λ q. refl) m ne))
 
 -- ---- a slot is let go of
 
-module _ (s s2 : Slab Slot) (p p2 : Places) (d : BTreeSet (ℕ × ℕ)) (t : Tally)
+module _ (s s2 : Slab Slot) (p p2 : Places) (d : Deadlines) (t : Tally)
     (n key : ℕ) (k : IsKept s p d t) (place : map.get eqb p n ≡ Some key)
     (u : Updates s s2 key None) (w : Updated p p2 n None) where
   pub gone-kept : is_open_slot (found s p n) ≡ false → IsKept s2 p2 d t
@@ -280,11 +279,10 @@ module _ (s s2 : Slab Slot) (p p2 : Places) (d : BTreeSet (ℕ × ℕ)) (t : Tal
 
       times : TimesAt n None d d
       times c = each-number n
-          (λ m. contains by_deadline d (c, m)
-          ≡ cond (eqb m n) false (contains by_deadline d (c, m)))
+          (λ m. has_deadline d (c, m) ≡ cond (eqb m n) false (has_deadline d (c, m)))
           (k.timed c n ∙ untimed c (found s p n) over
-          ∙ sym (ap (λ b. cond b false (contains by_deadline d (c, n))) (same-number n n refl)))
-          (λ m ne. sym (ap (λ b. cond b false (contains by_deadline d (c, m)))
+          ∙ sym (ap (λ b. cond b false (has_deadline d (c, n))) (same-number n n refl)))
+          (λ m ne. sym (ap (λ b. cond b false (has_deadline d (c, m)))
           (other-number m n ne)))
 
   pub gone-moves : (x : Kept) → kept_in s p t ≡ x → MovesAt n is_let_go x.tally x (kept_in s2 p2 t)

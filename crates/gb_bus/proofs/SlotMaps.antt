@@ -6,13 +6,14 @@ use Rattle.std.proofs.lemmas.Bool.{cases_eq}
 use Rattle.std.proofs.lemmas.Bool.Decides.{nat_tests}
 use Rattle.std.specs.Option.{option_and_then}
 use Rattle.std.specs.BTreeMap.{is_at}
-use Rattle.std.specs.BTreeSet.{BTreeSet, contains}
+use Rattle.std.specs.BTreeSet.{contains}
 use Rattle.std.specs.HashMap as map
 use Rattle.std.specs.Ordering.{is_eq, nat_cmp, ordering_then}
 use Rattle.std.specs.declared.cmp.Ordering.{Ordering}
+use Rattle.std.specs.declared.cmp.Reverse.{Reverse}
 use Rattle.slab.specs.Slab as slab
 use Rattle.slab.specs.Slab.{Slab, Updates}
-use Rattle.gb_bus.specs.Keeping.{Places, by_deadline}
+use Rattle.gb_bus.specs.Keeping.{Deadlines, Places, by_latest, has_deadline}
 use Rattle.gb_bus.specs.declared.slots.Slot.{Slot}
 
 pub same_some : {A : Type 0} (x y : A) → Some x ≡ Some y → x ≡ y
@@ -42,11 +43,15 @@ updated-other : (m n : Places) (k : ℕ) (w : Option ℕ) → Updated m n k w �
 updated-other m n k w u q ne =
     u q ∙ ap (λ t. cond t w (map.get eqb m q)) (other-number k q (λ e. ne (sym e)))
 
+-- a deadline with its number, where the latest stand first
+abbrev pub latest : ℕ → ℕ → Reverse (ℕ × ℕ)
+latest d n = record { 0 = (d, n) }
+
 -- what the deadlines have after a change at one
-abbrev pub Retimed : BTreeSet (ℕ × ℕ) → BTreeSet (ℕ × ℕ) → ℕ → ℕ → Bool → Type 0
+abbrev pub Retimed : Deadlines → Deadlines → ℕ → ℕ → Bool → Type 0
 Retimed s t d n w =
-    (q : ℕ × ℕ)
-    → contains by_deadline t q ≡ cond (is_at (by_deadline (d, n)) q) w (contains by_deadline s q)
+    (q : Reverse (ℕ × ℕ))
+    → contains by_latest t q ≡ cond (is_at (by_latest (latest d n)) q) w (contains by_latest s q)
 
 first-other : (a b : Ordering) → is_eq a ≡ false → is_eq (ordering_then a b) ≡ false
 first-other Less b e = refl
@@ -65,26 +70,27 @@ both-same Equal b d e = e
 both-same Greater b d e = d
 
 -- two deadlines of one number are one if they are the same
-pub time-test : (d c n : ℕ) → is_at (by_deadline (d, n)) (c, n) ≡ eqb d c
+pub time-test : (d c n : ℕ) → is_at (by_latest (latest d n)) (latest c n) ≡ eqb d c
 time-test d c n = by (cases_eq d c)
   where
-    by : (d ≡ c) ⊎ (d ≡ c → ⊥) → is_at (by_deadline (d, n)) (c, n) ≡ eqb d c
+    by : (d ≡ c) ⊎ (d ≡ c → ⊥) → is_at (by_latest (latest d n)) (latest c n) ≡ eqb d c
     by (inl e) =
-        both-same (nat_cmp d c) (nat_cmp n n) (key-same d c e) (key-same n n refl)
+        both-same (nat_cmp c d) (nat_cmp n n) (key-same c d (sym e)) (key-same n n refl)
         ∙ sym (same-number d c e)
     by (inr ne) =
-        first-other (nat_cmp d c) (nat_cmp n n) (key-other d c ne) ∙ sym (other-number d c ne)
+        first-other (nat_cmp c d) (nat_cmp n n) (key-other c d (λ e. ne (sym e)))
+        ∙ sym (other-number d c ne)
 
-pub time-here : (s t : BTreeSet (ℕ × ℕ)) (d n : ℕ) (w : Bool) → Retimed s t d n w → (c : ℕ)
-    → contains by_deadline t (c, n) ≡ cond (eqb d c) w (contains by_deadline s (c, n))
+pub time-here : (s t : Deadlines) (d n : ℕ) (w : Bool) → Retimed s t d n w → (c : ℕ)
+    → has_deadline t (c, n) ≡ cond (eqb d c) w (has_deadline s (c, n))
 time-here s t d n w u c =
-    u (c, n) ∙ ap (λ b. cond b w (contains by_deadline s (c, n))) (time-test d c n)
+    u (latest c n) ∙ ap (λ b. cond b w (has_deadline s (c, n))) (time-test d c n)
 
-pub time-others : (s t : BTreeSet (ℕ × ℕ)) (d n : ℕ) (w : Bool) → Retimed s t d n w → (c m : ℕ)
-    → m ≢ n → contains by_deadline t (c, m) ≡ contains by_deadline s (c, m)
+pub time-others : (s t : Deadlines) (d n : ℕ) (w : Bool) → Retimed s t d n w → (c m : ℕ)
+    → m ≢ n → has_deadline t (c, m) ≡ has_deadline s (c, m)
 time-others s t d n w u c m ne =
-    u (c, m) ∙ ap (λ b. cond b w (contains by_deadline s (c, m)))
-    (second-other (nat_cmp d c) (nat_cmp n m) (key-other n m (λ e. ne (sym e))))
+    u (latest c m) ∙ ap (λ b. cond b w (has_deadline s (c, m)))
+    (second-other (nat_cmp c d) (nat_cmp m n) (key-other m n ne))
 
 -- the slot of a number
 abbrev pub found : Slab Slot → Places → ℕ → Option Slot

@@ -4,7 +4,6 @@ use Rattle.std.proofs.Common.{Option, Some, None, Result, Ok, Err, eqb, length, 
 use Rattle.std.proofs.Common.{refl, sym, ap, ◌∙◌, arith}
 use Rattle.std.specs.Option.{is_none, option_and_then}
 use Rattle.std.specs.Result.{OnErr, OnOk, is_err}
-use Rattle.std.specs.BTreeSet.{BTreeSet, contains}
 use Rattle.std.specs.HashMap as map
 use Rattle.std.specs.Map.{lookup}
 use Rattle.slab.specs.Slab as slab
@@ -15,7 +14,7 @@ use Rattle.gb_bus.proofs.SlotMaps.{found, found-at, none-some, other-number}
 use Rattle.gb_bus.proofs.SlotMaps.{same-number, same_some, time-here, time-others}
 use Rattle.gb_bus.proofs.SlotKept.{TimesAt, all-placed, kept-from}
 use Rattle.gb_bus.specs.Counting.{counted_once, with_one}
-use Rattle.gb_bus.specs.Keeping.{IsKept, Places, by_deadline, waits_until}
+use Rattle.gb_bus.specs.Keeping.{Deadlines, IsKept, Places, has_deadline, waits_until}
 use Rattle.gb_bus.specs.Slots.{Kept, MakesAs, key_at}
 use Rattle.gb_bus.specs.declared.slots.Slot.{Slot}
 use Rattle.gb_bus.specs.declared.tally.Tally.{Tally}
@@ -26,9 +25,9 @@ abbrev weight : Bool → ℕ
 weight b = cond b 1 0
 
 -- all is as it was
-pub same-kept : (s s2 : Slab Slot) (p p2 : Places) (d d2 : BTreeSet (ℕ × ℕ)) (t : Tally)
+pub same-kept : (s s2 : Slab Slot) (p p2 : Places) (d d2 : Deadlines) (t : Tally)
     → s2.slots ≡ s.slots → p2.entries ≡ p.entries
-    → ((q : ℕ × ℕ) → contains by_deadline d2 q ≡ contains by_deadline d q)
+    → ((q : ℕ × ℕ) → has_deadline d2 q ≡ has_deadline d q)
     → length d2.keys ≡ length d.keys → IsKept s p d t → IsKept s2 p2 d2 t
 same-kept s s2 p p2 d d2 t slots places times count k = record {
   placed = λ n key e.
@@ -53,7 +52,7 @@ same-kept s s2 p p2 d d2 t slots places times count k = record {
         slots
         ∙ ap (option_and_then (slab.get s)) (place n)
 
-module _ (s : Slab Slot) (p : Places) (d : BTreeSet (ℕ × ℕ)) (t : Tally) (slot : Slot)
+module _ (s : Slab Slot) (p : Places) (d : Deadlines) (t : Tally) (slot : Slot)
     (k : IsKept s p d t) (newest : slot.number ≡ t.requests + 1) where
   -- nothing is kept of a request that wasn't made
   pub unmade : found s p slot.number ≡ None
@@ -73,17 +72,17 @@ module _ (s : Slab Slot) (p : Places) (d : BTreeSet (ℕ × ℕ)) (t : Tally) (s
           absurd (none-some old.0
           (sym unmade ∙ found-at s p slot.number key (Some old.0) e old.1))
 
-  pub untimed-new : (c : ℕ) → contains by_deadline d (c, slot.number) ≡ false
+  pub untimed-new : (c : ℕ) → has_deadline d (c, slot.number) ≡ false
   untimed-new c = k.timed c slot.number ∙ ap (waits_until c) unmade
 
   -- a deadline that was put is taken away again
-  pub restored : (s2 : Slab Slot) (p2 : Places) (d2 d3 : BTreeSet (ℕ × ℕ)) (a b : Bool)
+  pub restored : (s2 : Slab Slot) (p2 : Places) (d2 d3 : Deadlines) (a b : Bool)
       → s2.slots ≡ s.slots → p2.entries ≡ p.entries
       → Retimed d d2 slot.deadline slot.number true
       → Retimed d2 d3 slot.deadline slot.number false
-      → a ≡ not (contains by_deadline d (slot.deadline, slot.number))
+      → a ≡ not (has_deadline d (slot.deadline, slot.number))
       → length d2.keys ≡ length d.keys + cond a 1 0
-      → b ≡ contains by_deadline d2 (slot.deadline, slot.number)
+      → b ≡ has_deadline d2 (slot.deadline, slot.number)
       → length d3.keys + cond b 1 0 ≡ length d2.keys → IsKept s2 p2 d3 t
   restored s2 p2 d2 d3 a b slots places put away fresh more there less =
       same-kept s s2 p p2 d d3 t slots places times count k
@@ -91,12 +90,12 @@ module _ (s : Slab Slot) (p : Places) (d : BTreeSet (ℕ × ℕ)) (t : Tally) (s
       n : ℕ
       n = slot.number
 
-      times : (q : ℕ × ℕ) → contains by_deadline d3 q ≡ contains by_deadline d q
+      times : (q : ℕ × ℕ) → has_deadline d3 q ≡ has_deadline d q
       times q = each-number n
-          (λ m. contains by_deadline d3 (q.0, m) ≡ contains by_deadline d (q.0, m))
+          (λ m. has_deadline d3 (q.0, m) ≡ has_deadline d (q.0, m))
           (time-here d2 d3 slot.deadline n false away q.0
           ∙ ap (cond (eqb slot.deadline q.0) false) (time-here d d2 slot.deadline n true put q.0)
-          ∙ by (eqb slot.deadline q.0) (contains by_deadline d (q.0, n)) (untimed-new q.0))
+          ∙ by (eqb slot.deadline q.0) (has_deadline d (q.0, n)) (untimed-new q.0))
           (λ m ne. time-others d2 d3 slot.deadline n false away q.0 m ne
           ∙ time-others d d2 slot.deadline n true put q.0 m ne) q.1
         where
@@ -109,7 +108,7 @@ module _ (s : Slab Slot) (p : Places) (d : BTreeSet (ℕ × ℕ)) (t : Tally) (s
           let one = ap weight (fresh ∙ ap not (untimed-new slot.deadline)) in
           let other = ap weight
           (there ∙ time-here d d2 slot.deadline n true put slot.deadline
-          ∙ ap (λ x. cond x true (contains by_deadline d (slot.deadline, n)))
+          ∙ ap (λ x. cond x true (has_deadline d (slot.deadline, n)))
           (same-number slot.deadline slot.deadline refl)) in
           omega (arith, more, less, one, other)
 
@@ -118,9 +117,9 @@ module _ (s : Slab Slot) (p : Places) (d : BTreeSet (ℕ × ℕ)) (t : Tally) (s
     opens : FindsAt slot.number (Some slot) (found s p) (found s2 p2)
     opens = added s s2 p p2 slot.number key slot (all-placed s p d t k) free u w
 
-    pub opened-kept : (d2 : BTreeSet (ℕ × ℕ)) (a : Bool) (t2 : Tally) → slot.outcome ≡ None
+    pub opened-kept : (d2 : Deadlines) (a : Bool) (t2 : Tally) → slot.outcome ≡ None
         → slot.awaited ≡ true → Retimed d d2 slot.deadline slot.number true
-        → a ≡ not (contains by_deadline d (slot.deadline, slot.number))
+        → a ≡ not (has_deadline d (slot.deadline, slot.number))
         → length d2.keys ≡ length d.keys + cond a 1 0 → t2 ≡ with_one None t
         → IsKept s2 p2 d2 t2
     opened-kept d2 a t2 unended awaited put fresh more is =
@@ -144,16 +143,16 @@ module _ (s : Slab Slot) (p : Places) (d : BTreeSet (ℕ × ℕ)) (t : Tally) (s
 
         times : TimesAt slot.number (Some slot) d d2
         times c = each-number slot.number
-            (λ m. contains by_deadline d2 (c, m)
-            ≡ cond (eqb m slot.number) (waits_until c (Some slot)) (contains by_deadline d (c, m)))
+            (λ m. has_deadline d2 (c, m)
+            ≡ cond (eqb m slot.number) (waits_until c (Some slot)) (has_deadline d (c, m)))
             (time-here d d2 slot.deadline slot.number true put c
             ∙ ap (cond (eqb slot.deadline c) true) (untimed-new c)
             ∙ by (eqb slot.deadline c)
             ∙ sym (ap (λ o. eqb slot.deadline c && is_none o) unended)
             ∙ sym (ap (λ b. cond b (waits_until c (Some slot))
-            (contains by_deadline d (c, slot.number))) (same-number slot.number slot.number refl)))
+            (has_deadline d (c, slot.number))) (same-number slot.number slot.number refl)))
             (λ m ne. time-others d d2 slot.deadline slot.number true put c m ne
-            ∙ sym (ap (λ b. cond b (waits_until c (Some slot)) (contains by_deadline d (c, m)))
+            ∙ sym (ap (λ b. cond b (waits_until c (Some slot)) (has_deadline d (c, m)))
             (other-number m slot.number ne)))
 
 -- a request that isn't unidirectional is in the slot that came next

@@ -1,7 +1,6 @@
 -- What an end does to a request, by whether it is open.
 use Rattle.std.proofs.Common.{◌≡◌, ◌≢◌, ℕ, Bool, true, false, cond, Option, Some, None, eqb, refl}
 use Rattle.std.proofs.Common.{sym, ap, ◌∙◌, is_some, not}
-use Rattle.std.specs.BTreeSet.{BTreeSet}
 use Rattle.std.specs.HashMap as map
 use Rattle.std.specs.Option.{is_none, option_and_then}
 use Rattle.slab.specs.Slab as slab
@@ -10,7 +9,7 @@ use Rattle.gb_base.specs.declared.outcome.Outcome.{Outcome}
 use Rattle.gb_bus.proofs.SlotKept.{IsThere, changed-moves, is-found}
 use Rattle.gb_bus.proofs.SlotMaps.{each-number, other-number}
 use Rattle.gb_bus.specs.Counting.{one_ended}
-use Rattle.gb_bus.specs.Keeping.{IsKept, Places, kept_in}
+use Rattle.gb_bus.specs.Keeping.{Deadlines, IsKept, Places, kept_in}
 use Rattle.gb_bus.specs.Slots.{Kept, MovesAt, ended_at, gives_up_so, is_open_slot, slot_at}
 use Rattle.gb_bus.specs.declared.slots.Slot.{Slot}
 use Rattle.gb_bus.specs.declared.tally.Tally.{Tally}
@@ -69,7 +68,7 @@ stays-over n how x over = record {
     by true = stays (slot_at x n) over
     by false = refl
 
-module _ (s : Slab Slot) (p : Places) (d : BTreeSet (ℕ × ℕ)) (t : Tally) (n key : ℕ)
+module _ (s : Slab Slot) (p : Places) (d : Deadlines) (t : Tally) (n key : ℕ)
     (slot : Slot) (k : IsKept s p d t) (i : IsThere s p n key slot) (how : Outcome) (x : Kept)
     (view : kept_in s p t ≡ x) where
   -- so does its slot

@@ -6,6 +6,7 @@ use Rattle.std.specs.HashMap as map
 use Rattle.std.specs.HashMap.{HashMap}
 use Rattle.std.specs.Ordering.{nat_cmp, ordering_then}
 use Rattle.std.specs.declared.cmp.Ordering.{Ordering}
+use Rattle.std.specs.declared.cmp.Reverse.{Reverse}
 use Rattle.std.specs.declared.hash.BuildHasherDefault.{BuildHasherDefault}
 use Rattle.std.specs.declared.hash.FoldHasher.{FoldHasher}
 use Rattle.slab.specs.Slab as slab
@@ -18,6 +19,18 @@ use Rattle.gb_bus.specs.declared.tally.Tally.{Tally}
 -- the order of deadlines with their numbers
 abbrev pub by_deadline : ℕ × ℕ → ℕ × ℕ → Ordering
 by_deadline x y = ordering_then (nat_cmp x.0 y.0) (nat_cmp x.1 y.1)
+
+-- the latest first
+abbrev pub by_latest : Reverse (ℕ × ℕ) → Reverse (ℕ × ℕ) → Ordering
+by_latest x y = by_deadline y.0 x.0
+
+-- deadlines with their numbers
+abbrev pub Deadlines : Type 0
+Deadlines = BTreeSet (Reverse (ℕ × ℕ))
+
+-- a deadline stands there with a number
+abbrev pub has_deadline : Deadlines → ℕ × ℕ → Bool
+has_deadline deadlines x = contains by_latest deadlines (record { 0 = x })
 
 -- keys by number
 abbrev pub Places : Type 0
@@ -58,13 +71,13 @@ lesser_of n (Some m) = if nat_le m n then m else n
 -- Each number that has a place has a slot there, which is its own; each slot stands at the place of
 -- its number; a deadline stands with a number where that is of an open request; the identifier of
 -- an open request is in use; and each request that was made is counted once.
-pub record IsKept (slots : Slab Slot) (places : Places) (deadlines : BTreeSet (ℕ × ℕ))
+pub record IsKept (slots : Slab Slot) (places : Places) (deadlines : Deadlines)
     (tally : Tally) : Type 0 where
   pub placed : (n key : ℕ) → map.get nat_eq places n ≡ Some key
       → (slot : Slot) × (slab.get slots key ≡ Some slot) × (slot.number ≡ n)
   pub occupied : (key : ℕ) (slot : Slot) → slab.get slots key ≡ Some slot
       → map.get nat_eq places slot.number ≡ Some key
-  pub timed : (deadline n : ℕ) → contains by_deadline deadlines (deadline, n)
+  pub timed : (deadline n : ℕ) → has_deadline deadlines (deadline, n)
       ≡ waits_until deadline (slot_at (kept_in slots places tally) n)
   pub asked : (n : ℕ) (slot : Slot) → slot_at (kept_in slots places tally) n ≡ Some slot
       → slot.outcome ≡ None → slot.awaited ≡ true

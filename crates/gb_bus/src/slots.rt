@@ -44,6 +44,7 @@ use crate::listing::{Listed, in_order, listed_among};
 use gb_base::{Numbers, OutOfMemory, Outcome, Side};
 use slab::Slab;
 use std::alloc::Global;
+use std::cmp::Reverse;
 use std::collections::{BTreeSet, HashMap};
 use std::marker::Model;
 
@@ -100,8 +101,9 @@ pub struct Slots {
     slots: Slab<Slot>,
     /// The keys of the slots by number.
     places: HashMap<u64, usize>,
-    /// The deadlines of the open requests, with their numbers.
-    deadlines: BTreeSet<(u64, u64)>,
+    /// The deadlines of the open requests, with their numbers, the latest first: new ones are
+    /// mostly the latest.
+    deadlines: BTreeSet<Reverse<(u64, u64)>>,
     tally: Tally,
 }
 
@@ -181,10 +183,10 @@ impl Slots {
         let number = slot.number;
         let deadline = slot.deadline;
         self.slots.reserve(1)?;
-        self.deadlines.insert((deadline, number))?;
+        self.deadlines.insert(Reverse((deadline, number)))?;
         let key = self.slots.vacant_key();
         if self.places.insert(number, key).is_err() {
-            self.deadlines.remove(&(deadline, number));
+            self.deadlines.remove(&Reverse((deadline, number)));
             return Err(OutOfMemory);
         }
         self.slots.insert_reserved(slot);
@@ -229,7 +231,7 @@ impl Slots {
             return None;
         }
         let deadline = slot.deadline;
-        self.deadlines.remove(&(deadline, n));
+        self.deadlines.remove(&Reverse((deadline, n)));
         self.tally.end(&how);
         slot.give_up(how);
         Some(key)
@@ -337,7 +339,7 @@ impl Slots {
         ensures { IfOk result (λ ns. AreThose (λ n. is_due now (slot_at self.now n)) ns) }
     {
         let mut found = BTreeSet::new(alloc);
-        for (deadline, number) in &self.deadlines {
+        for Reverse((deadline, number)) in self.deadlines.iter().rev() {
             if *deadline > now {
                 break;
             }
@@ -352,7 +354,7 @@ impl Slots {
         ensures { FindsLeast (λ n. is_due now (slot_at self.now n)) result }
     {
         let mut least = None;
-        for (deadline, number) in &self.deadlines {
+        for Reverse((deadline, number)) in self.deadlines.iter().rev() {
             if *deadline > now {
                 break;
             }

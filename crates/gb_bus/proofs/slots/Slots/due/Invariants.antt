@@ -1,11 +1,11 @@
 -- The numbers found and the deadlines not looked at give all.
 use Rattle.std.proofs.Common.{◌≡◌, []}
-use Rattle.gb_bus.proofs.SlotDues.{due-keys}
+use Rattle.gb_bus.proofs.SlotDues.{due-keys, earliest-first}
 use Rattle.gb_bus.proofs.slots.Slots.due.Given as goal
 
 abbrev pub invariant-loop-deadline : goal.invariant-loop-deadline
 invariant-loop-deadline l =
     (goal.iterator-loop-deadline).can_next l.deadline-iterator
     × (goal.iterator-loop-deadline).is_finite l.deadline-iterator
-    × (due-keys l.now l.found.keys l.deadline-iterator
-    ≡ due-keys l.now [] l.initial.deadline-iterator)
+    × (due-keys l.now l.found.keys (earliest-first l.deadline-iterator.iter)
+    ≡ due-keys l.now [] (earliest-first l.initial.deadline-iterator.iter))
