@@ -37,7 +37,7 @@ ghost use Rattle.gb_bus.specs.Parts.{
 
 use crate::connection::Connection;
 use crate::ends::is_same;
-use crate::queue::{Item, add, add_all, ask_item, count};
+use crate::queue::{Item, add, add_all, add_or_lose, ask_item, count};
 use crate::{Known, SendFault, Waiting, end_numbers, live};
 use gb_base::{End, Numbers, OutOfMemory, Sequence, Side};
 use gb_ops::{Matched, Ops};
@@ -321,7 +321,7 @@ impl Connections {
             return Ok((label, true));
         };
         let item = ask_item(alloc, number, label, kind, payload)?;
-        add(&mut self.queues, Some(end), item)?;
+        add(&mut self.queues, end, item)?;
         Ok((label, false))
     }
 
@@ -360,7 +360,7 @@ impl Connections {
         ensures { OnOk result (self.new ≡ at_first (numbered k) (put side item) self.old) }
     {
         let end = live::toward(&self.live, k, side);
-        add(&mut self.queues, end, item)?;
+        add_or_lose(&mut self.queues, end, item)?;
         Ok(())
     }
 

@@ -5,7 +5,7 @@ ghost use Rattle.gb_bus.specs.Index.{AddsAt};
 ghost use Rattle.gb_bus.specs.Parts.{queue_of};
 ghost use Rattle.gb_bus.specs.Seen.{seen};
 ghost use Rattle.gb_bus.specs.Telling.{waiting_over, with_ends};
-ghost use Rattle.gb_switch.specs.Queues.{StaysSame};
+ghost use Rattle.gb_switch.specs.Queues.{Appends, StaysSame, items_at};
 
 use crate::Waiting;
 use crate::connection::Connection;
@@ -86,22 +86,37 @@ pub fn ask_item(
     })
 }
 
-/// Adds a message to the queue of an end. It is lost where there is no end. After want of memory
-/// it is lost too, and all else is as before.
+/// Adds a message to the queue of an end. After want of memory it is lost, and all else is as
+/// before.
 #[inline]
-pub fn add(queues: &mut Queues<Item>, at: Option<End>, item: Item) -> Result<(), OutOfMemory>
-    ensures added { OnOk result (AddsAt at item queues.old queues.new) }
+pub fn add(queues: &mut Queues<Item>, at: End, item: Item) -> Result<(), OutOfMemory>
+    ensures added { OnOk result (Appends (items_at queues.old) (items_at queues.new) at item) }
     ensures unchanged { OnErr result (StaysSame queues.old queues.new) }
 {
-    let Some(at) = at else {
-        drop(item);
-        return Ok(());
-    };
     match queues.push(at, item) {
         Ok(()) => Ok(()),
         Err(item) => {
             drop(item);
             Err(OutOfMemory)
+        }
+    }
+}
+
+/// Adds a message to the queue of an end, as `add` does. It is lost too where there is no end.
+#[inline]
+pub fn add_or_lose(
+    queues: &mut Queues<Item>,
+    at: Option<End>,
+    item: Item,
+) -> Result<(), OutOfMemory>
+    ensures added { OnOk result (AddsAt at item queues.old queues.new) }
+    ensures unchanged { OnErr result (StaysSame queues.old queues.new) }
+{
+    match at {
+        Some(at) => add(queues, at, item),
+        None => {
+            drop(item);
+            Ok(())
         }
     }
 }

@@ -7,17 +7,17 @@ use Rattle.gb_bus.proofs.connections.Connections.push.Goals as goal
 
 pub invariant_of-self : goal.invariant_of-self
 invariant_of-self c =
-    kept-stays c.self.inside.live c.self.inside.ends c.self.inside.queues c.add.new.queues
-    c.in_err-add.ensures.unchanged c.self.invariant
+    kept-stays c.self.inside.live c.self.inside.ends c.self.inside.queues c.add_or_lose.new.queues
+    c.in_err-add_or_lose.ensures.unchanged c.self.invariant
 
 pub invariant_of-self-2 : goal.invariant_of-self-2
 invariant_of-self-2 c =
-    kept-adds c.self.inside.live c.self.inside.ends c.self.inside.queues c.add.new.queues
-    c.toward-end.result c.args.item c.in_ok-add.ensures.added c.self.invariant
+    kept-adds c.self.inside.live c.self.inside.ends c.self.inside.queues c.add_or_lose.new.queues
+    c.toward-end.result c.args.item c.in_ok-add_or_lose.ensures.added c.self.invariant
 
 pub returns : goal.returns
 returns c =
-    adds-toward c.self.inside.live c.self.inside.ends c.self.inside.queues c.add.new.queues
+    adds-toward c.self.inside.live c.self.inside.ends c.self.inside.queues c.add_or_lose.new.queues
     c.args.self.now c.args.k c.args.side c.args.item c.self.invariant c.self.view_is
-    (subst (λ o. AddsAt o c.args.item c.self.inside.queues c.add.new.queues) c.toward-end.ensures
-    c.in_ok-add.ensures.added)
+    (subst (λ o. AddsAt o c.args.item c.self.inside.queues c.add_or_lose.new.queues)
+    c.toward-end.ensures c.in_ok-add_or_lose.ensures.added)
