@@ -4,7 +4,7 @@ use Rattle.gb_base.specs.declared.bridge.BridgeAsk.{BridgeAsk}
 use Rattle.gb_base.specs.declared.event.Event.{Event}
 use Rattle.gb_base.specs.declared.fault.LineReason.{LineReason}
 use Rattle.gb_formats.specs.Grammar.{Said}
-use Rattle.gb_formats.specs.Said.{Rest, at_end, each_word, next_cport, next_word}
+use Rattle.gb_formats.specs.Said.{Rest, each_word, next_cport, next_word}
 use Rattle.gb_script.specs.declared.fault.LineFault.{LineFault}
 use Rattle.gb_script.specs.declared.fault.LineFault.TheVariants as fault
 
@@ -45,11 +45,6 @@ Says (Err (fault.Memory refused)) said = ⊤
 abbrev pub StopsBy : LineFault → (LineReason → Type 0) → Type 0
 StopsBy (fault.Bad why) is_reason = is_reason why
 StopsBy (fault.Memory refused) is_reason = ⊤
-
--- The answer is the value where no word is left.
-abbrev pub EndsWith : {A : Type 0} → Rest → A → Result A LineFault → Type 0
-EndsWith ws value (Ok v) = (v ≡ value) × (ws.1 ≡ [])
-EndsWith ws value (Err fault) = StopsBy fault (λ why. (e : Event) → at_end ws e ≡ Err why)
 
 -- The answer is what the words of a bridged form ask, or why they are bad.
 abbrev pub AsksFor : ((BridgeAsk → Event) → Rest → Said) → Rest → Result BridgeAsk LineFault

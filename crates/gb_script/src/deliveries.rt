@@ -18,7 +18,8 @@ pub fn deliver(rest: &Rest<'_>) -> Result<Event, LineFault>
 {
     let (at, behind) = rest.next()?;
     if is(at, "svc") {
-        behind.ended(Event::Deliver { at: End::Svc })
+        behind.end()?;
+        Ok(Event::Deliver { at: End::Svc })
     } else if is(at, "ap") {
         deliver_ap(&behind)
     } else {
@@ -31,7 +32,8 @@ fn deliver_ap(rest: &Rest<'_>) -> Result<Event, LineFault>
     ensures { Says result (delivering_ap rest.now) }
 {
     let (ap, rest) = rest.cport()?;
-    rest.ended(Event::Deliver { at: End::Ap(ap) })
+    rest.end()?;
+    Ok(Event::Deliver { at: End::Ap(ap) })
 }
 
 /// `I C` behind `deliver`.
@@ -49,7 +51,8 @@ pub fn settle(rest: &Rest<'_>) -> Result<Event, LineFault>
     ensures { Says result (settling rest.now) }
 {
     let (most, rest) = rest.count()?;
-    rest.ended(Event::Settle { most })
+    rest.end()?;
+    Ok(Event::Settle { most })
 }
 
 /// `answer I C K`.
@@ -58,7 +61,8 @@ pub fn answer(rest: &Rest<'_>) -> Result<Event, LineFault>
 {
     let (intf, cport, rest) = rest.intf_cport()?;
     let (place, rest) = rest.from_one()?;
-    rest.ended(Event::Answer { intf, cport, place })
+    rest.end()?;
+    Ok(Event::Answer { intf, cport, place })
 }
 
 /// `tick MS`.
@@ -66,7 +70,8 @@ pub fn tick(rest: &Rest<'_>) -> Result<Event, LineFault>
     ensures { Says result (ticking rest.now) }
 {
     let (millis, rest) = rest.from_one()?;
-    rest.ended(Event::Tick { millis })
+    rest.end()?;
+    Ok(Event::Tick { millis })
 }
 
 /// `inject I C HEX`.
@@ -75,5 +80,6 @@ pub fn inject(alloc: Global, rest: &Rest<'_>) -> Result<Event, LineFault>
 {
     let (intf, cport, rest) = rest.intf_cport()?;
     let (bytes, rest) = rest.bytes(alloc)?;
-    rest.ended(Event::Inject { intf, cport, bytes })
+    rest.end()?;
+    Ok(Event::Inject { intf, cport, bytes })
 }

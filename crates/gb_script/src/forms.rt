@@ -23,7 +23,8 @@ pub fn form(alloc: Global, first: &[u8], rest: &Rest<'_>, who: u8) -> Result<Eve
     ensures { Says result (by_first who first.now rest.now) }
 {
     if is(first, "boot") {
-        return rest.ended(Event::Boot);
+        rest.end()?;
+        return Ok(Event::Boot);
     }
     if is(first, "insert") {
         return insert(alloc, rest);
@@ -68,7 +69,8 @@ pub fn form(alloc: Global, first: &[u8], rest: &Rest<'_>, who: u8) -> Result<Eve
         return inject(alloc, rest);
     }
     if is(first, "show") {
-        return rest.ended(Event::Show);
+        rest.end()?;
+        return Ok(Event::Show);
     }
     bridged(alloc, first, rest, who)
 }

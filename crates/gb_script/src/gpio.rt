@@ -35,7 +35,8 @@ fn outside_level(rest: &Rest<'_>) -> Result<Event, LineFault>
     let rest = rest.literal("level")?;
     let (line, rest) = rest.pin()?;
     let (value, rest) = rest.level()?;
-    rest.ended(Event::Level {
+    rest.end()?;
+    Ok(Event::Level {
         intf,
         cport,
         line,
@@ -81,7 +82,8 @@ pub fn asked(rest: &Rest<'_>) -> Result<BridgeAsk, LineFault>
 fn of_none(rest: &Rest<'_>, kind: u8) -> Result<BridgeAsk, LineFault>
     ensures { AsksFor (λ make ws. at_end ws (make (ask.Gpio kind 0 0))) rest.now result }
 {
-    rest.ended(BridgeAsk::Gpio {
+    rest.end()?;
+    Ok(BridgeAsk::Gpio {
         kind,
         line: 0,
         value: 0,
@@ -93,7 +95,8 @@ fn of_line(rest: &Rest<'_>, kind: u8) -> Result<BridgeAsk, LineFault>
     ensures { AsksFor (λ make. gpio_line make kind) rest.now result }
 {
     let (line, rest) = rest.byte()?;
-    rest.ended(BridgeAsk::Gpio {
+    rest.end()?;
+    Ok(BridgeAsk::Gpio {
         kind,
         line,
         value: 0,
@@ -106,7 +109,8 @@ fn of_byte(rest: &Rest<'_>, kind: u8) -> Result<BridgeAsk, LineFault>
 {
     let (line, rest) = rest.byte()?;
     let (value, rest) = rest.byte()?;
-    rest.ended(BridgeAsk::Gpio {
+    rest.end()?;
+    Ok(BridgeAsk::Gpio {
         kind,
         line,
         value: u16::from(value),
@@ -119,5 +123,6 @@ fn of_two_bytes(rest: &Rest<'_>, kind: u8) -> Result<BridgeAsk, LineFault>
 {
     let (line, rest) = rest.byte()?;
     let (value, rest) = rest.two_bytes()?;
-    rest.ended(BridgeAsk::Gpio { kind, line, value })
+    rest.end()?;
+    Ok(BridgeAsk::Gpio { kind, line, value })
 }

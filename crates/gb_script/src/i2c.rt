@@ -21,7 +21,8 @@ pub fn asked(alloc: Global, rest: &Rest<'_>) -> Result<BridgeAsk, LineFault>
 {
     let (word, behind) = rest.next()?;
     if is(word, "functionality") {
-        behind.ended(BridgeAsk::I2cFunctionality)
+        behind.end()?;
+        Ok(BridgeAsk::I2cFunctionality)
     } else if is(word, "transfer") {
         transfer(alloc, behind)
     } else {

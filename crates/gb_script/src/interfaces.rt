@@ -32,7 +32,8 @@ fn insert_raw(alloc: Global, intf: u8, rest: &Rest<'_>) -> Result<Event, LineFau
     ensures { Says result (inserting_raw intf rest.now) }
 {
     let (manifest, rest) = rest.bytes(alloc)?;
-    rest.ended(Event::InsertRaw { intf, manifest })
+    rest.end()?;
+    Ok(Event::InsertRaw { intf, manifest })
 }
 
 /// `KIND` behind `insert I`.
@@ -40,7 +41,8 @@ fn insert_kind(intf: u8, rest: &Rest<'_>) -> Result<Event, LineFault>
     ensures { Says result (inserting_kind intf rest.now) }
 {
     let (kind, rest) = rest.kind()?;
-    rest.ended(Event::Insert { intf, kind })
+    rest.end()?;
+    Ok(Event::Insert { intf, kind })
 }
 
 /// `pull I`.
@@ -48,7 +50,8 @@ pub fn pull(rest: &Rest<'_>) -> Result<Event, LineFault>
     ensures { Says result (of_intf event.Pull rest.now) }
 {
     let (intf, rest) = rest.intf()?;
-    rest.ended(Event::Pull { intf })
+    rest.end()?;
+    Ok(Event::Pull { intf })
 }
 
 /// `connect I C`.
@@ -83,5 +86,6 @@ pub fn only_cport(rest: &Rest<'_>) -> Result<(u8, u16), LineFault>
         (λ why. (make : ℕ → ℕ → Event) → of_cport make rest.now ≡ Err why)) }
 {
     let (intf, cport, rest) = rest.intf_cport()?;
-    rest.ended((intf, cport))
+    rest.end()?;
+    Ok((intf, cport))
 }

@@ -93,9 +93,11 @@ impl Maker {
         ensures ok { OnOk result (self.new ≡ further self.old) }
         ensures err { OnErr result (self.new ≡ self.old) }
     {
-        let event = self.coming(alloc)?;
-        self.pass();
-        Ok(event)
+        let event = self.coming(alloc);
+        if event.is_ok() {
+            self.pass();
+        }
+        event
     }
 
     /// The event that comes next.
@@ -105,23 +107,24 @@ impl Maker {
     {
         let k = self.given + 1;
         if k <= 4 {
-            Ok(Event::Insert {
+            return Ok(Event::Insert {
                 intf: (k + 1) as u8,
                 kind: Kind::Bridge,
-            })
-        } else if k == 5 {
-            Ok(Event::Boot)
-        } else if k == 6 {
-            Ok(Event::Settle { most: ALL })
-        } else if k <= 22 {
-            Ok(connect(k - 7))
-        } else if k == FIRST_LINES {
-            Ok(Event::Settle { most: ALL })
-        } else if k < MADE_LINES {
-            self.generator.drawn(alloc, k - FIRST_LINES)
-        } else {
-            Ok(Event::Settle { most: ALL })
+            });
         }
+        if k == 5 {
+            return Ok(Event::Boot);
+        }
+        if k == 6 {
+            return Ok(Event::Settle { most: ALL });
+        }
+        if k <= 22 {
+            return Ok(connect(k - 7));
+        }
+        if k == FIRST_LINES || k == MADE_LINES {
+            return Ok(Event::Settle { most: ALL });
+        }
+        self.generator.drawn(alloc, k - FIRST_LINES)
     }
 
     /// Passes over the next event.

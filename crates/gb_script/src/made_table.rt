@@ -44,22 +44,26 @@ pub fn by_row(alloc: Global, k: u32, named: u32, draw: u64) -> Result<Event, Out
 {
     let (row, intf, value) = (row(draw), intf(draw), value(draw));
     if row <= 1 {
-        activate(alloc, k, intf, value)
-    } else if row == 2 {
-        transfer(alloc, k, intf, value)
-    } else if row == 3 {
-        send(alloc, k, intf, value)
-    } else if row == 4 {
-        Ok(Event::Settle { most: 5 })
-    } else if row == 5 {
-        let name = name(alloc, named)?;
-        Ok(Event::Cancel { name })
-    } else if row == 6 {
-        Ok(Event::Tick { millis: 200 })
-    } else {
-        let at = End::Module { intf, cport: 1 };
-        Ok(Event::Deliver { at })
+        return activate(alloc, k, intf, value);
     }
+    if row == 2 {
+        return transfer(alloc, k, intf, value);
+    }
+    if row == 3 {
+        return send(alloc, k, intf, value);
+    }
+    if row == 4 {
+        return Ok(Event::Settle { most: 5 });
+    }
+    if row == 5 {
+        let name = name(alloc, named)?;
+        return Ok(Event::Cancel { name });
+    }
+    if row == 6 {
+        return Ok(Event::Tick { millis: 200 });
+    }
+    let at = End::Module { intf, cport: 1 };
+    Ok(Event::Deliver { at })
 }
 
 /// `gpio @nk I 1 activate v`.

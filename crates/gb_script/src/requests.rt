@@ -98,7 +98,8 @@ fn timeout(rest: &Rest<'_>) -> Result<u32, LineFault>
         return Err(LineFault::Bad(rest.bad_word()));
     }
     let (millis, rest) = behind.from_one()?;
-    rest.ended(millis)
+    rest.end()?;
+    Ok(millis)
 }
 
 /// `cancel @x`.
@@ -106,7 +107,8 @@ pub fn cancel(rest: &Rest<'_>, who: u8) -> Result<Event, LineFault>
     ensures { Says result (of_name who event.Cancel rest.now) }
 {
     let (name, rest) = rest.name(who)?;
-    rest.ended(Event::Cancel { name })
+    rest.end()?;
+    Ok(Event::Cancel { name })
 }
 
 /// `drop @x`.
@@ -114,7 +116,8 @@ pub fn forget(rest: &Rest<'_>, who: u8) -> Result<Event, LineFault>
     ensures { Says result (of_name who event.Forget rest.now) }
 {
     let (name, rest) = rest.name(who)?;
-    rest.ended(Event::Forget { name })
+    rest.end()?;
+    Ok(Event::Forget { name })
 }
 
 /// `copy @x @y`.
@@ -123,5 +126,6 @@ pub fn copy(rest: &Rest<'_>, who: u8) -> Result<Event, LineFault>
 {
     let (from, rest) = rest.name(who)?;
     let (to, rest) = rest.name(who)?;
-    rest.ended(Event::Copy { from, to })
+    rest.end()?;
+    Ok(Event::Copy { from, to })
 }

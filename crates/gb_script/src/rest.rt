@@ -11,8 +11,7 @@ ghost use Rattle.gb_formats.specs.WordValues.{hex_word, kind_word};
 ghost use Rattle.gb_formats.specs.WordValues.{level_word, name_word, number_word};
 ghost use Rattle.gb_formats.specs.WordValues.{pin_word, type_word, u8_word, u16_word, u32_word};
 ghost use Rattle.gb_formats.specs.Words.{words};
-ghost use Rattle.gb_script.specs.Tells.{EndsWith, GoesOn, GoesOnAt, IsSplit, StopsAt, StopsBy};
-ghost use Rattle.gb_script.specs.Tells.{StopsWith};
+ghost use Rattle.gb_script.specs.Tells.{GoesOn, GoesOnAt, IsSplit, StopsAt, StopsBy, StopsWith};
 
 use crate::LineFault;
 use crate::hex_words::{hex_word, type_word};
@@ -91,15 +90,6 @@ impl<'a> Rest<'a> {
             Some(_) => Err(LineReason::ExtraWord(self.place)),
             None => Ok(()),
         }
-    }
-
-    /// The value, where no word is left.
-    #[inline]
-    pub fn ended<T: Drop>(&self, value: T) -> Result<T, LineFault>
-        ensures { EndsWith self.now value result }
-    {
-        self.end()?;
-        Ok(value)
     }
 
     /// The word `word`, and no other.

@@ -20,7 +20,8 @@ pub fn asked(alloc: Global, rest: &Rest<'_>) -> Result<BridgeAsk, LineFault>
 {
     let (word, behind) = rest.next()?;
     if is(word, "config") {
-        behind.ended(BridgeAsk::SpiConfig)
+        behind.end()?;
+        Ok(BridgeAsk::SpiConfig)
     } else if is(word, "device") {
         device(&behind)
     } else if is(word, "transfer") {
@@ -35,7 +36,8 @@ fn device(rest: &Rest<'_>) -> Result<BridgeAsk, LineFault>
     ensures { AsksFor spi_device rest.now result }
 {
     let (select, rest) = rest.byte()?;
-    rest.ended(BridgeAsk::SpiDevice { select })
+    rest.end()?;
+    Ok(BridgeAsk::SpiDevice { select })
 }
 
 /// `S M` and any number of entries behind `transfer`.

@@ -32,7 +32,8 @@ fn serial_state(rest: &Rest<'_>) -> Result<Event, LineFault>
     let (intf, cport, rest) = rest.intf_cport()?;
     let rest = rest.literal("state")?;
     let (control, rest) = rest.byte()?;
-    rest.ended(Event::SerialState {
+    rest.end()?;
+    Ok(Event::SerialState {
         intf,
         cport,
         control,
@@ -64,7 +65,8 @@ fn data(alloc: Global, rest: &Rest<'_>) -> Result<BridgeAsk, LineFault>
     ensures { AsksFor uart_data rest.now result }
 {
     let (bytes, rest) = rest.bytes(alloc)?;
-    rest.ended(BridgeAsk::UartSend { bytes })
+    rest.end()?;
+    Ok(BridgeAsk::UartSend { bytes })
 }
 
 /// `RATE F P B W` behind `coding`.
@@ -76,7 +78,8 @@ fn coding(rest: &Rest<'_>) -> Result<BridgeAsk, LineFault>
     let (parity, rest) = rest.byte()?;
     let (bits, rest) = rest.byte()?;
     let (flow, rest) = rest.byte()?;
-    rest.ended(BridgeAsk::UartCoding {
+    rest.end()?;
+    Ok(BridgeAsk::UartCoding {
         rate,
         format,
         parity,
@@ -90,5 +93,6 @@ fn of_byte(rest: &Rest<'_>, kind: u8) -> Result<BridgeAsk, LineFault>
     ensures { AsksFor (λ make. uart_byte make kind) rest.now result }
 {
     let (value, rest) = rest.byte()?;
-    rest.ended(BridgeAsk::UartByte { kind, value })
+    rest.end()?;
+    Ok(BridgeAsk::UartByte { kind, value })
 }
