@@ -1,6 +1,6 @@
 -- The supervisory controller starts as the machine's does.
 use Rattle.std.proofs.Common.{◌≡◌, ◌≤◌, ◌<◌, ◌+◌, ℕ, zero, suc, Bool, true, false, Option, Some}
-use Rattle.std.proofs.Common.{None, Ok, List, [], ◌∷◌, length, slice_get, drop, add-one, refl, sym}
+use Rattle.std.proofs.Common.{None, List, [], ◌∷◌, length, slice_get, drop, add-one, refl, sym}
 use Rattle.std.proofs.Common.{ap, ◌∙◌, subst, arith}
 use Rattle.gb_base.specs.declared.end.Side.TheVariants as side
 use Rattle.gb_base.specs.declared.entry.Entry.{Entry}
@@ -200,14 +200,14 @@ boot-more x y s i n intf told more o m within is some told_so =
 
 -- it has started already
 pub boot-again : (x : Parties) (s : State) (es : List Entry) → PartiesStand x s
-    → x.booted ≡ true → es ≡ entry.Refused why.Occupied ∷ [] → PartsStep x s event.Boot (Ok es)
+    → x.booted ≡ true → es ≡ entry.Refused why.Occupied ∷ [] → PartsStep x s event.Boot es
 boot-again x s es st booted is =
     lands-refused x s event.Boot why.Occupied es
     (ap (λ b. first_met ((b, why.Occupied) ∷ [])) (st.parts.booted ∙ booted)) is st.parts
 
 -- all that is plugged is told
 pub boot-done : (x y : Parties) (s : State) (i n : ℕ) (told : List Entry) → PartiesStand x s
-    → x.booted ≡ false → IsBooting y s i n told → n ≤ i → PartsStep y s event.Boot (Ok told)
+    → x.booted ≡ false → IsBooting y s i n told → n ≤ i → PartsStep y s event.Boot told
 unfolding machine_opened greets
 boot-done x y s i n told st booted m past =
     let d = midway-all tells s.modules i (subst (λ k. k ≤ i) m.count past) m.midway in

@@ -78,7 +78,7 @@ is-short what l met = small (length (ask_request what).1) (unmet (bridge_conditi
 pub bridge-refused : (x : Parties) (s : State) (name : Name) (i c : ℕ) (what : BridgeAsk)
     (old new : List ℕ) (why : Refusal) (es : List Entry) → PartiesStand x s
     → BridgesTo s name i c what old new (Err why) → es ≡ entry.Refused why ∷ []
-    → PartsStep x s (event.Bridge name i c what) (Ok es)
+    → PartsStep x s (event.Bridge name i c what) es
 bridge-refused x s name i c what old new why es st is told =
     lands-refused x s (event.Bridge name i c what) why es is told st.parts
 
@@ -118,7 +118,7 @@ pub bridge-done : (x z : Parties) (h : code.Host) (s : State) (name : Name) (i c
     → host.Stands h (with_link l.intf l.cport (spent what) g))
     → payload ≡ take b.request.len new
     → SendsOn name b.connection b.request.kind payload (record x { host = h }) z before es
-    → PartsStep z s (event.Bridge name i c what) (Ok es)
+    → PartsStep z s (event.Bridge name i c what) es
 unfolding machine_opened
 bridge-done x z h s name i c what old new payload b before es st is begun spends front sends =
     lands z s (event.Bridge name i c what) before es is.allowed begun

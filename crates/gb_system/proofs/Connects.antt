@@ -1,5 +1,5 @@
 -- A connect and a disconnect are refused or done as the machine does.
-use Rattle.std.proofs.Common.{◌≡◌, ℕ, Bool, true, false, Some, None, is_none, Ok, List, [], ◌∷◌}
+use Rattle.std.proofs.Common.{◌≡◌, ℕ, Bool, true, false, Some, None, is_none, List, [], ◌∷◌}
 use Rattle.std.proofs.Common.{sym, ap, ◌∙◌}
 use Rattle.gb_base.specs.declared.end.Side.TheVariants as side
 use Rattle.gb_base.specs.declared.entry.Entry.{Entry}
@@ -34,7 +34,7 @@ last_condition s = (has_no_label 1 side.Ap s, why.NoLabel) ∷ []
 -- the application processor refuses
 pub connect-refused : (x : Parties) (s : State) (i c : ℕ) (why : Refusal) (es : List Entry)
     → PartiesStand x s → first_met (connect_conditions i c s.host) ≡ Some why
-    → es ≡ entry.Refused why ∷ [] → PartsStep x s (event.Connect i c) (Ok es)
+    → es ≡ entry.Refused why ∷ [] → PartsStep x s (event.Connect i c) es
 connect-refused x s i c why es st refused is =
     lands-refused x s (event.Connect i c) why es
     (met-early (connect_conditions i c s.host) (last_condition s) why refused) is st.parts
@@ -52,7 +52,7 @@ connect-last s i c spent free is =
 pub connect-spent : (x : Parties) (s : State) (i c : ℕ) (spent : Bool) (es : List Entry)
     → PartiesStand x s → first_met (connect_conditions i c s.host) ≡ None
     → spent ≡ is_none (next_label 1 side.Ap s.bus) → spent ≡ true
-    → es ≡ entry.Refused why.NoLabel ∷ [] → PartsStep x s (event.Connect i c) (Ok es)
+    → es ≡ entry.Refused why.NoLabel ∷ [] → PartsStep x s (event.Connect i c) es
 connect-spent x s i c spent es st free by so is =
     lands-refused x s (event.Connect i c) why.NoLabel es
     (connect-last s i c spent free by ∙ ap (λ b. first_met ((b, why.NoLabel) ∷ [])) so) is st.parts
@@ -64,7 +64,7 @@ pub connect-done : (x y : Parties) (s : State) (i c : ℕ) (spent : Bool) (befor
     → spent ≡ is_none (next_label 1 side.Ap s.bus) → spent ≡ false → before ≡ entry.Done ∷ []
     → ((t : State) → PartsStand [] x t → MayTurn (HostEvent.Connect i c) t
     → Does y (notices (HostEvent.Connect i c)) t before es)
-    → PartsStep y s (event.Connect i c) (Ok es)
+    → PartsStep y s (event.Connect i c) es
 unfolding machine_opened
 connect-done x y s i c spent before es valid st free by so begun noticed =
     let allowed : refusal s (event.Connect i c) ≡ None =
@@ -84,7 +84,7 @@ control_condition s i = (control_spent s i, why.NoLabel) ∷ []
 -- the application processor refuses
 pub disconnect-refused : (x : Parties) (s : State) (i c : ℕ) (why : Refusal) (es : List Entry)
     → PartiesStand x s → first_met (disconnect_conditions i c s.host) ≡ Some why
-    → es ≡ entry.Refused why ∷ [] → PartsStep x s (event.Disconnect i c) (Ok es)
+    → es ≡ entry.Refused why ∷ [] → PartsStep x s (event.Disconnect i c) es
 disconnect-refused x s i c why es st refused is =
     lands-refused x s (event.Disconnect i c) why es
     (met-early (disconnect_conditions i c s.host) (control_condition s i) why refused) is st.parts
@@ -101,7 +101,7 @@ disconnect-last s i c spent free is =
 pub disconnect-spent : (x : Parties) (s : State) (i c : ℕ) (spent : Bool) (es : List Entry)
     → PartiesStand x s → first_met (disconnect_conditions i c s.host) ≡ None
     → spent ≡ control_spent s i → spent ≡ true
-    → es ≡ entry.Refused why.NoLabel ∷ [] → PartsStep x s (event.Disconnect i c) (Ok es)
+    → es ≡ entry.Refused why.NoLabel ∷ [] → PartsStep x s (event.Disconnect i c) es
 disconnect-spent x s i c spent es st free by so is =
     lands-refused x s (event.Disconnect i c) why.NoLabel es
     (disconnect-last s i c spent free by
@@ -114,7 +114,7 @@ pub disconnect-done : (x y : Parties) (s : State) (i c : ℕ) (spent : Bool)
     → spent ≡ false → before ≡ entry.Done ∷ []
     → ((t : State) → PartsStand [] x t → MayTurn (HostEvent.Disconnect i c) t
     → Does y (notices (HostEvent.Disconnect i c)) t before es)
-    → PartsStep y s (event.Disconnect i c) (Ok es)
+    → PartsStep y s (event.Disconnect i c) es
 unfolding machine_opened
 disconnect-done x y s i c spent before es st free by so begun noticed =
     let allowed : refusal s (event.Disconnect i c) ≡ None =

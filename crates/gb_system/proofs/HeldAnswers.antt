@@ -57,7 +57,7 @@ late-refusal s i c place wired =
 -- where no wired connection is there
 pub answer-refused : (x : Parties) (s : State) (i c place : ℕ) (reason : Refusal)
     (es : List Entry) → PartiesStand x s → WiredAs s i c (Err reason)
-    → es ≡ entry.Refused reason ∷ [] → PartsStep x s (event.Answer i c place) (Ok es)
+    → es ≡ entry.Refused reason ∷ [] → PartsStep x s (event.Answer i c place) es
 answer-refused x s i c place reason es st wired is =
     lands-refused x s (event.Answer i c place) reason es
     (met-early (wired_conditions s i c) (answer_conditions s i c place) reason wired) is st.parts
@@ -92,7 +92,7 @@ held-alike {x} {s} held st same = record {
 pub answer-unheld : (x : Parties) (held : HeldRequests) (s : State) (i c k place : ℕ)
     (es : List Entry) → PartiesStand x s → WiredAs s i c (Ok k)
     → TakesNone x.held held k place → es ≡ entry.Refused why.NotHeld ∷ []
-    → PartsStep (record x { held = held }) s (event.Answer i c place) (Ok es)
+    → PartsStep (record x { held = held }) s (event.Answer i c place) es
 answer-unheld x held s i c k place es st wired none is =
     let w = is-at s i c k wired.1 in
     let few = stand-fewer s.bus.requests x.held s.held k place st.parts.held none.fewer in
@@ -152,7 +152,7 @@ pub answer-done : (x z : Parties) (held : HeldRequests) (s : State) (i c k place
     → PartsStand (only k side.Far item) (record x { held = held }) u
     → place_of (end.Module i c) u.bus.connections ≡ Some p → side.Far ≡ p.side
     → p.side ≡ side.Far → Does z (serves_held p item) u before es)
-    → PartsStep z s (event.Answer i c place) (Ok es)
+    → PartsStep z s (event.Answer i c place) es
 answer-done x z held s i c k zero h before es one st wired t begun serve =
     absurd (omega (arith, one))
 answer-done x z held s i c k (suc m) h before es one st wired t begun serve =

@@ -103,7 +103,7 @@ is-at s i c k is = by (module_place i c s) refl is
 
 pub hold-refused : (x : Parties) (s : State) (i c : ℕ) (reason : Refusal) (es : List Entry)
     → PartiesStand x s → WiredAs s i c (Err reason) → es ≡ entry.Refused reason ∷ []
-    → PartsStep x s (event.Hold i c) (Ok es)
+    → PartsStep x s (event.Hold i c) es
 hold-refused x s i c reason es st wired is =
     lands-refused x s (event.Hold i c) reason es wired is st.parts
 
@@ -136,7 +136,7 @@ does-holds s i c p named d =
 pub hold-done : (x : Parties) (holds : List ℕ) (s : State) (i c k : ℕ) (es : List Entry)
     → PartiesStand x s → WiredAs s i c (Ok k) → MarksAs x.holds holds k true
     → es ≡ entry.Done ∷ []
-    → PartsStep (record x { holds = holds }) s (event.Hold i c) (Ok es)
+    → PartsStep (record x { holds = holds }) s (event.Hold i c) es
 hold-done x holds s i c k es st wired marks is =
     let y = record x { holds = holds } in
     let w = is-at s i c k wired.1 in

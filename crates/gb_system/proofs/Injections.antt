@@ -47,7 +47,7 @@ size_conditions bytes = (nat_lt longest_message (length bytes), why.TooLarge) �
 
 pub inject-refused : (x : Parties) (s : State) (i c : ℕ) (bytes : List ℕ) (reason : Refusal)
     (es : List Entry) → PartiesStand x s → WiredAs s i c (Err reason)
-    → es ≡ entry.Refused reason ∷ [] → PartsStep x s (event.Inject i c bytes) (Ok es)
+    → es ≡ entry.Refused reason ∷ [] → PartsStep x s (event.Inject i c bytes) es
 inject-refused x s i c bytes reason es st wired is =
     lands-refused x s (event.Inject i c bytes) reason es
     (met-early (wired_conditions s i c) (size_conditions bytes) reason wired) is st.parts
@@ -61,7 +61,7 @@ late-refusal s i c bytes large wired is =
 
 pub inject-large : (x : Parties) (s : State) (i c k : ℕ) (bytes : List ℕ) (es : List Entry)
     → PartiesStand x s → WiredAs s i c (Ok k) → longest_message < length bytes
-    → es ≡ entry.Refused why.TooLarge ∷ [] → PartsStep x s (event.Inject i c bytes) (Ok es)
+    → es ≡ entry.Refused why.TooLarge ∷ [] → PartsStep x s (event.Inject i c bytes) es
 inject-large x s i c k bytes es st wired large is =
     lands-refused x s (event.Inject i c bytes) why.TooLarge es
     (late-refusal s i c bytes true wired.0 (is-less longest_message (length bytes) large)) is
@@ -120,7 +120,7 @@ pub inject-done : (x : Parties) (y : Bus) (s : State) (i c k : ℕ) (bytes : Lis
     → length bytes ≤ longest_message → InjectsAs x.bus y k bytes
     → Some ends ≡ option_map ends_of (connection_of k s.bus) → before ≡ entry.Done ∷ []
     → es ≡ before ++ entry.Raw (end.Module i c) (end.Ap ends.0) (length bytes) bytes ∷ []
-    → PartsStep (record x { bus = y }) s (event.Inject i c bytes) (Ok es)
+    → PartsStep (record x { bus = y }) s (event.Inject i c bytes) es
 inject-done x y s i c k bytes ends before es st wired fits injects has begun is =
     let w = wired-at x s i c k st wired in
     let p = w.place in

@@ -1,6 +1,6 @@
 -- Modules are plugged as the machine does.
 use Rattle.std.proofs.Common.{◌≡◌, ◌≤◌, ℕ, nat_lt, Bool, true, false, Option, Some, None, is_some}
-use Rattle.std.proofs.Common.{option_copied, Bor, Ok, List, [], ◌∷◌, length, refl, sym, ap, ◌∙◌}
+use Rattle.std.proofs.Common.{option_copied, Bor, List, [], ◌∷◌, length, refl, sym, ap, ◌∙◌}
 use Rattle.std.proofs.Common.{subst, arith}
 use Rattle.std.proofs.lemmas.Bool.Decides.{nat_tests}
 use Rattle.gb_base.specs.declared.end.Side.TheVariants as side
@@ -158,7 +158,7 @@ inserted : (y : Parties) (s : State) (i : ℕ) (manifest : List ℕ) (m : Module
     → before ≡ entry.Done ∷ []
     → (is_powered i s.ports ≡ false → length m.manifest ≤ most_payload
     → Does y (plugs i m) s before es)
-    → PartsStep y s e (Ok es)
+    → PartsStep y s e es
 inserted y s i manifest m e before es run same by allowed short begun d =
     lands y s e before es (by ∙ sym allowed) begun
     (does-as (sym same) (d (unpowered-there s i run
@@ -170,7 +170,7 @@ pub inserted-kind : (y : Parties) (s : State) (i : ℕ) (kind : Kind) (m : Modul
     → None ≡ first_met (insert_conditions s i []) → before ≡ entry.Done ∷ []
     → (is_powered i s.ports ≡ false → length m.manifest ≤ most_payload
     → Does y (plugs i m) s before es)
-    → PartsStep y s (event.Insert i kind) (Ok es)
+    → PartsStep y s (event.Insert i kind) es
 unfolding machine_opened
 inserted-kind y s i kind m before es run is allowed begun d =
     inserted y s i [] m (event.Insert i kind) before es run
@@ -183,7 +183,7 @@ pub inserted-raw : (y : Parties) (s : State) (i : ℕ) (manifest : List ℕ) (m 
     → None ≡ first_met (insert_conditions s i manifest) → before ≡ entry.Done ∷ []
     → (is_powered i s.ports ≡ false → length m.manifest ≤ most_payload
     → Does y (plugs i m) s before es)
-    → PartsStep y s (event.InsertRaw i manifest) (Ok es)
+    → PartsStep y s (event.InsertRaw i manifest) es
 unfolding machine_opened
 inserted-raw y s i manifest m before es run is allowed begun d =
     inserted y s i manifest m (event.InsertRaw i manifest) before es run

@@ -1,5 +1,5 @@
 -- What an action that was done, or a refusal, is as a step of the machine.
-use Rattle.std.proofs.Common.{◌≡◌, Some, None, Ok, List, [], ◌∷◌, sym, ap, ◌∙◌, subst}
+use Rattle.std.proofs.Common.{◌≡◌, Some, None, List, [], ◌∷◌, sym, ap, ◌∙◌, subst}
 use Rattle.gb_base.specs.declared.entry.Entry.{Entry}
 use Rattle.gb_base.specs.declared.entry.Entry.TheVariants as entry
 use Rattle.gb_base.specs.declared.event.Event.{Event}
@@ -15,7 +15,7 @@ use Rattle.gb_system.specs.declared.parties.Parties.{Parties}
 
 -- the machine's step leads to this
 landed : (y : Parties) (s : State) (e : Event) (t : Told) (es : List Entry)
-    → step s e ≡ t → es ≡ t.entries → PartsStand [] y t.state → PartsStep y s e (Ok es)
+    → step s e ≡ t → es ≡ t.entries → PartsStand [] y t.state → PartsStep y s e es
 landed y s e t es h is st = (
   is ∙ sym (ap (λ (w : Told). w.entries) h),
   subst (λ (w : Told). PartsStand [] y w.state) (sym h) st,
@@ -24,7 +24,7 @@ landed y s e t es h is st = (
 -- An event that isn't refused is done behind the line's answer.
 pub lands : (y : Parties) (s : State) (e : Event) (before es : List Entry)
     → refusal s e ≡ None → before ≡ entry.Done ∷ [] → Does y (does e) s before es
-    → PartsStep y s e (Ok es)
+    → PartsStep y s e es
 lands y s e before es allowed begun d =
     landed y s e (behind_done (does e s)) es (step-does s e allowed)
     (subst (λ (b : List Entry). Does y (does e) s b es) begun d).told_is d.stand
@@ -32,13 +32,13 @@ lands y s e before es allowed begun d =
 -- A refused event leaves the state.
 pub lands-refused : (y : Parties) (s : State) (e : Event) (why : Refusal) (es : List Entry)
     → refusal s e ≡ Some why → es ≡ entry.Refused why ∷ [] → PartsStand [] y s
-    → PartsStep y s e (Ok es)
+    → PartsStep y s e es
 lands-refused y s e why es h is st =
     landed y s e (told s (entry.Refused why ∷ [])) es (step-refused s e why h) is st
 
 -- what is told, and who stands for the state, by other names
 pub step-as : {x y : Parties} (s : State) (e : Event) {a b : List Entry} → x ≡ y → a ≡ b
-    → PartsStep y s e (Ok b) → PartsStep x s e (Ok a)
+    → PartsStep y s e b → PartsStep x s e a
 step-as {x} {y} s e {a} {b} same told_is h =
-    subst (λ (w : Parties). PartsStep w s e (Ok a)) (sym same)
-    (subst (λ (es : List Entry). PartsStep y s e (Ok es)) (sym told_is) h)
+    subst (λ (w : Parties). PartsStep w s e a) (sym same)
+    (subst (λ (es : List Entry). PartsStep y s e es) (sym told_is) h)

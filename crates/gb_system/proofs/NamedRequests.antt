@@ -1,6 +1,6 @@
 -- The request of a name is cancelled, and names are copied and freed, as the machine does.
 use Rattle.std.proofs.Common.{◌≡◌, ℕ, Bool, true, false, cond, not, Option, Some, None, is_some}
-use Rattle.std.proofs.Common.{is_none, ◌&&◌, Ok, List, [], ◌∷◌, ◌++◌, map, length, ◌<◌, refl, sym}
+use Rattle.std.proofs.Common.{is_none, ◌&&◌, List, [], ◌∷◌, ◌++◌, map, length, ◌<◌, refl, sym}
 use Rattle.std.proofs.Common.{ap, ◌∙◌, subst}
 use Rattle.gb_base.specs.declared.bridge.Reading.TheVariants as reading
 use Rattle.gb_base.specs.declared.entry.Entry.{Entry}
@@ -150,7 +150,7 @@ cancel_conditions s o =
 -- a name that names nothing
 pub cancel-unnamed : (x : Parties) (s : State) (name : Name) (es : List Entry)
     → PartiesStand x s → named name x.names ≡ None → es ≡ entry.Refused why.NoName ∷ []
-    → PartsStep x s (event.Cancel name) (Ok es)
+    → PartsStep x s (event.Cancel name) es
 cancel-unnamed x s name es st h is =
     lands-refused x s (event.Cancel name) why.NoName es
     (ap (λ o. first_met (cancel_conditions s o)) (named-is x s name st ∙ h)) is st.parts
@@ -184,7 +184,7 @@ named-made (p ∷ ps) name n b made h = by (named-made ps name n b made.1) (same
 pub cancel-ended : (x : Parties) (z : code.Bus) (s : State) (name : Name) (n : ℕ)
     (es : List Entry) → PartiesStand x s → named name x.names ≡ Some n
     → GivesUpNothing (around_bus [] s) z n s.bus → es ≡ entry.Refused why.AlreadyEnded ∷ []
-    → PartsStep (record x { bus = z }) s (event.Cancel name) (Ok es)
+    → PartsStep (record x { bus = z }) s (event.Cancel name) es
 cancel-ended x z s name n es st h cancels is =
     let names_it = named-is x s name st ∙ h in
     let made = named-made s.names name n s.bus (reached-names s st.run) names_it in
@@ -218,7 +218,7 @@ pub cancel-done : (x y : Parties) (z : code.Bus) (s : State) (name : Name) (n : 
     → MayTurn (HostEvent.Ended n outcome.Cancelled) (given_up n outcome.Cancelled s)
     → Does y (tell (entry.Ended n outcome.Cancelled reading.Nothing) ▸ follows n outcome.Cancelled)
     (given_up n outcome.Cancelled s) before es)
-    → PartsStep y s (event.Cancel name) (Ok es)
+    → PartsStep y s (event.Cancel name) es
 cancel-done x y z s name n before es st h cancels begun ends =
     let names_it = named-is x s name st ∙ h in
     let still = unended (request_of n s.bus) (outcome_of n s.bus) cancels.unended in
@@ -240,7 +240,7 @@ copy_refusal from to = first_met
 -- the name to be copied names nothing
 pub copy-unnamed : (x : Parties) (s : State) (from to : Name) (es : List Entry)
     → PartiesStand x s → named from x.names ≡ None → es ≡ entry.Refused why.NoName ∷ []
-    → PartsStep x s (event.Copy from to) (Ok es)
+    → PartsStep x s (event.Copy from to) es
 copy-unnamed x s from to es st h is =
     lands-refused x s (event.Copy from to) why.NoName es
     (ap (λ o. copy_refusal o (named to s.names)) (named-is x s from st ∙ h)) is st.parts
@@ -249,7 +249,7 @@ copy-unnamed x s from to es st h is =
 pub copy-occupied : (x : Parties) (s : State) (from to : Name) (n : ℕ) (es : List Entry)
     → PartiesStand x s → named from x.names ≡ Some n → is_some (named to x.names) ≡ true
     → es ≡ entry.Refused why.Occupied ∷ []
-    → PartsStep x s (event.Copy from to) (Ok es)
+    → PartsStep x s (event.Copy from to) es
 copy-occupied x s from to n es st h taken is =
     lands-refused x s (event.Copy from to) why.Occupied es
     (ap (λ o. copy_refusal o (named to s.names)) (named-is x s from st ∙ h)
@@ -270,7 +270,7 @@ pub copy-done : (x : Parties) (y : code.Bus) (names : List (Name × ℕ)) (s : S
     (from to : Name) (n : ℕ) (es : List Entry) → PartiesStand x s → named from x.names ≡ Some n
     → is_some (named to x.names) ≡ false
     → Binds x.names names to n → Keeps x.bus y n → es ≡ entry.Done ∷ []
-    → PartsStep (record x { bus = y; names = names }) s (event.Copy from to) (Ok es)
+    → PartsStep (record x { bus = y; names = names }) s (event.Copy from to) es
 copy-done x y names s from to n es st h free binds keeps is =
     let names_it = named-is x s from st ∙ h in
     let none = none-of (named to x.names) free in
@@ -288,7 +288,7 @@ copy-done x y names s from to n es st h free binds keeps is =
 -- the name names nothing
 pub forget-unnamed : (x : Parties) (s : State) (name : Name) (es : List Entry)
     → PartiesStand x s → named name x.names ≡ None → es ≡ entry.Refused why.NoName ∷ []
-    → PartsStep x s (event.Forget name) (Ok es)
+    → PartsStep x s (event.Forget name) es
 forget-unnamed x s name es st h is =
     lands-refused x s (event.Forget name) why.NoName es
     (ap (λ o. first_met ((not (is_some o), why.NoName) ∷ [])) (named-is x s name st ∙ h)) is
@@ -305,7 +305,7 @@ pub forget-done : (x : Parties) (y : code.Bus) (names : List (Name × ℕ)) (s :
     (name : Name) (n : ℕ) (es : List Entry) → PartiesStand x s → named name x.names ≡ Some n
     → names ≡ without (λ p. same_name p.0 name) x.names → Loosens x.bus y n
     → es ≡ entry.Done ∷ []
-    → PartsStep (record x { bus = y; names = names }) s (event.Forget name) (Ok es)
+    → PartsStep (record x { bus = y; names = names }) s (event.Forget name) es
 forget-done x y names s name n es st h same loosens is =
     lands (record x { bus = y; names = names }) s (event.Forget name) es es
     (ap (λ o. first_met ((not (is_some o), why.NoName) ∷ [])) (named-is x s name st ∙ h)) is

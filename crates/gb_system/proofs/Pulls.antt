@@ -1,5 +1,5 @@
 -- Modules are pulled as the machine does.
-use Rattle.std.proofs.Common.{◌≡◌, ◌≤◌, ◌+◌, ℕ, Bool, true, false, not, Option, None, Ok, List, []}
+use Rattle.std.proofs.Common.{◌≡◌, ◌≤◌, ◌+◌, ℕ, Bool, true, false, not, Option, None, List, []}
 use Rattle.std.proofs.Common.{◌∷◌, length, drop, drop_of_length-le, refl, sym, ap, ◌∙◌, subst}
 use Rattle.std.proofs.Common.{arith}
 use Rattle.gb_base.specs.declared.end.Side.TheVariants as side
@@ -23,7 +23,7 @@ use Rattle.gb_machine.specs.State.{Plugged, State}
 use Rattle.gb_machine.specs.Wires.{unwires, with_unwired}
 use Rattle.gb_switch.specs.Stands as switch
 use Rattle.gb_switch.specs.declared.ladder.Ladder.{Ladder}
-use Rattle.gb_system.proofs.Doings.{does-by_state, does-change, does-then, does-unless, does-when}
+use Rattle.gb_system.proofs.Doings.{does-by_state, does-change, does-then}
 use Rattle.gb_system.proofs.Landing.{lands, lands-refused}
 use Rattle.gb_system.proofs.Midways.{Midway, each-cons, each-nil, midway-as, midway-end}
 use Rattle.gb_system.proofs.Midways.{midway-more}
@@ -67,7 +67,7 @@ refusal-is s i = refl
 -- no module is there
 pub pull-nothing : (x : Parties) (s : State) (i : ℕ) (es : List Entry)
     → PartiesStand x s → is_plugged i s.modules ≡ false → es ≡ entry.Refused why.NoInterface ∷ []
-    → PartsStep x s (event.Pull i) (Ok es)
+    → PartsStep x s (event.Pull i) es
 pull-nothing x s i es st there is =
     lands-refused x s (event.Pull i) why.NoInterface es
     (refusal-is s i ∙ ap (λ b. pull_refusal b (has_no_label 1 side.Far s)) there) is st.parts
@@ -75,7 +75,7 @@ pull-nothing x s i es st there is =
 -- no identifier is left
 pub pull-spent : (x : Parties) (s : State) (i : ℕ) (es : List Entry)
     → PartiesStand x s → is_plugged i s.modules ≡ true → has_no_label 1 side.Far s ≡ true
-    → es ≡ entry.Refused why.NoLabel ∷ [] → PartsStep x s (event.Pull i) (Ok es)
+    → es ≡ entry.Refused why.NoLabel ∷ [] → PartsStep x s (event.Pull i) es
 pull-spent x s i es st there spent is =
     lands-refused x s (event.Pull i) why.NoLabel es
     (refusal-is s i ∙ ap (λ b. pull_refusal b (has_no_label 1 side.Far s)) there
@@ -125,37 +125,25 @@ pulls_at i s =
     each (wired_numbers i s.bus) unwires ▸ change (with_pulled i)
     ▸ when s.booted (svc_asks (SvcAsk.ModuleRemoved i))
 
--- where the supervisory controller has started
-does-told : (x y z : Parties) (s : State) (i : ℕ) {a b c : List Entry}
+-- it is done by its parts
+does-pulled : {x y z : Parties} {s : State} (i : ℕ) {a b c : List Entry}
     → Does x (each (wired_numbers i s.bus) unwires) s a b
     → PartsStand [] y (with_pulled i (after_unwiring (wired_numbers i s.bus) s))
-    → s.booted ≡ true
-    → Does z (svc_asks (SvcAsk.ModuleRemoved i))
+    → Does z (when s.booted (svc_asks (SvcAsk.ModuleRemoved i)))
     (with_pulled i (after_unwiring (wired_numbers i s.bus) s)) b c
     → Does z (does (event.Pull i)) s a c
 unfolding machine_opened
-does-told x y z s i d st booted e =
-    does-by_state (pulls_at i) (does-then (does-then d (does-change (with_pulled i) st))
-    (does-when (svc_asks (SvcAsk.ModuleRemoved i)) booted e))
-
--- and where it hasn't
-does-untold : (x y : Parties) (s : State) (i : ℕ) {a b : List Entry}
-    → Does x (each (wired_numbers i s.bus) unwires) s a b
-    → PartsStand [] y (with_pulled i (after_unwiring (wired_numbers i s.bus) s))
-    → s.booted ≡ false → Does y (does (event.Pull i)) s a b
-unfolding machine_opened
-does-untold x y s i d st booted =
-    does-by_state (pulls_at i) (does-then (does-then d (does-change (with_pulled i) st))
-    (does-unless (svc_asks (SvcAsk.ModuleRemoved i)) booted st))
+does-pulled {x} {y} {z} {s} i d st e =
+    does-by_state (pulls_at i) (does-then (does-then d (does-change (with_pulled i) st)) e)
 
 -- MODULE_REMOVED is what the supervisory controller asks
-does-removed : {x : Parties} {s : State} {a b : List Entry} (i : ℕ)
+pub does-removed : {x : Parties} {s : State} {a b : List Entry} (i : ℕ)
     → Does x (far_asks 1 (own_ask 0x20 (i ∷ []) false)) s a b
     → Does x (svc_asks (SvcAsk.ModuleRemoved i)) s a b
 unfolding machine_opened
 does-removed i d = record { told_is = d.told_is; stand = d.stand }
 
-removed-askable : (i : ℕ) → IsAskable 0x20 (i ∷ [])
+pub removed-askable : (i : ℕ) → IsAskable 0x20 (i ∷ [])
 removed-askable i = (omega arith, omega arith)
 
 -- A module is pulled: what is unwired are all connections of its interface.
@@ -179,25 +167,21 @@ pulling-stand {x} {y} {s} {i} p =
     (pulled-stand x (after_unwiring (wired_numbers i s.bus) s) i y.modules y.ladder
     p.unwired.stand p.modules p.ports)
 
--- whether the supervisory controller has started
-pulling-booted : {x y : Parties} {s : State} {i : ℕ} {before told : List Entry}
-    → Pulling x y s i before told → s.booted ≡ y.booted
-pulling-booted {x} {y} {s} {i} p =
-    sym (unwiring-booted (wired_numbers i s.bus) s) ∙ (pulling-stand p).booted
+-- whether the supervisory controller has started is no matter of the pull
+pulled-booted : (i : ℕ) (s : State)
+    → (with_pulled i (after_unwiring (wired_numbers i s.bus) s)).booted ≡ s.booted
+unfolding machine_opened
+pulled-booted i s = unwiring-booted (wired_numbers i s.bus) s
 
-pub pull-told : (x y z : Parties) (s : State) (i : ℕ) (before told es : List Entry)
-    → Pulling x y s i before told → y.booted ≡ true
-    → ((t : State) → PartsStand [] y t → IsAskable 0x20 (i ∷ [])
-    → Does z (far_asks 1 (own_ask 0x20 (i ∷ []) false)) t told es)
-    → PartsStep z s (event.Pull i) (Ok es)
-pull-told x y z s i before told es p booted asked =
+-- MODULE_REMOVED goes where the supervisory controller has started
+pub pull-done : (x y z : Parties) (s : State) (i : ℕ) (before told es : List Entry)
+    → Pulling x y s i before told
+    → ((t : State) → PartsStand [] y t
+    → Does z (when t.booted (svc_asks (SvcAsk.ModuleRemoved i))) t told es)
+    → PartsStep z s (event.Pull i) es
+pull-done x y z s i before told es p removed =
     let t = with_pulled i (after_unwiring (wired_numbers i s.bus) s) in
     lands z s (event.Pull i) before es (pull-allowed s i p.there p.spent) p.begun
-    (does-told x y z s i p.unwired (pulling-stand p) (pulling-booted p ∙ booted)
-    (does-removed i (asked t (pulling-stand p) (removed-askable i))))
-
-pub pull-untold : (x y : Parties) (s : State) (i : ℕ) (before told : List Entry)
-    → Pulling x y s i before told → y.booted ≡ false → PartsStep y s (event.Pull i) (Ok told)
-pull-untold x y s i before told p booted =
-    lands y s (event.Pull i) before told (pull-allowed s i p.there p.spent) p.begun
-    (does-untold x y s i p.unwired (pulling-stand p) (pulling-booted p ∙ booted))
+    (does-pulled i p.unwired (pulling-stand p)
+    (subst (λ b. Does z (when b (svc_asks (SvcAsk.ModuleRemoved i))) t told es)
+    (pulled-booted i s) (removed t (pulling-stand p))))

@@ -53,7 +53,7 @@ pub send-refused : (x : Parties) (s : State) (name : Name) (to : End) (kind : �
     (payload : List ℕ) (timeout : ℕ) (why : Refusal) (es : List Entry) → IsFar to
     → PartiesStand x s → GoesAs s name to kind payload (Err why)
     → es ≡ entry.Refused why ∷ []
-    → PartsStep x s (event.Send name to kind payload timeout) (Ok es)
+    → PartsStep x s (event.Send name to kind payload timeout) es
 send-refused x s name to kind payload timeout why es far st goes is =
     lands-refused x s (event.Send name to kind payload timeout) why es
     (by to far goes) is st.parts
@@ -297,7 +297,7 @@ pub send-done : (x y : Parties) (s : State) (name : Name) (to : End) (kind : ℕ
     → ((t : State) → PartsStand [] x t → named name t.names ≡ None → IsAskable kind payload
     → IsSome (next_label k side.Ap t.bus)
     → Does y (sends_on name k kind payload wait) t before es)
-    → PartsStep y s (event.Send name to kind payload timeout) (Ok es)
+    → PartsStep y s (event.Send name to kind payload timeout) es
 unfolding machine_opened
 send-done x y s name to kind payload timeout wait k before es valid same st goes_as begun sent =
     let far = valid.1 in

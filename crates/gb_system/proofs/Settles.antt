@@ -1,5 +1,5 @@
 -- A settle is stepped as the machine does.
-use Rattle.std.proofs.Common.{◌≡◌, ◌<◌, ℕ, suc, ◌+◌, ◌-◌, Option, Some, None, Ok, List, [], ◌∷◌}
+use Rattle.std.proofs.Common.{◌≡◌, ◌<◌, ℕ, suc, ◌+◌, ◌-◌, Option, Some, None, List, [], ◌∷◌}
 use Rattle.std.proofs.Common.{◌++◌, append_assoc, refl, sym, ap, ◌∙◌, arith, subst}
 use Rattle.gb_base.specs.declared.end.End.{End}
 use Rattle.gb_base.specs.declared.entry.Entry.{Entry}
@@ -83,7 +83,7 @@ ended : (y : Parties) (s : State) (most count : ℕ) (so_far more : List Entry)
     (m : IsMidway y s most count so_far) (n : ℕ)
     → settles_from (most - count) count m.state ≡ told m.state (entry.Settled n ∷ [])
     → more ≡ so_far ++ entry.Settled n ∷ []
-    → PartsStep y s (event.Settle most) (Ok more)
+    → PartsStep y s (event.Settle most) more
 ended y s most count so_far more m n rest is =
     let stepped : step s (event.Settle most)
     ≡ told m.state (entry.Done ∷ m.entries ++ entry.Settled n ∷ []) =
@@ -99,7 +99,7 @@ pub midway-none : (y : Parties) (s : State) (most count : ℕ) (so_far more : Li
     → count < most
     → (m : IsMidway y s most count so_far) → first_waiting m.state.bus ≡ None
     → more ≡ so_far ++ entry.Settled count ∷ []
-    → PartsStep y s (event.Settle most) (Ok more)
+    → PartsStep y s (event.Settle most) more
 midway-none y s most count so_far more low m waits is =
     let left : most - count ≡ suc (most - (count + 1)) = omega arith in
     ended y s most count so_far more m count
@@ -110,7 +110,7 @@ midway-none y s most count so_far more low m waits is =
 pub midway-end : (y : Parties) (s : State) (most count : ℕ) (so_far more : List Entry) → count
     ≡ most
     → IsMidway y s most count so_far → more ≡ so_far ++ entry.Settled most ∷ []
-    → PartsStep y s (event.Settle most) (Ok more)
+    → PartsStep y s (event.Settle most) more
 midway-end y s most count so_far more all m is =
     let left : most - count ≡ 0 = omega (arith, all) in
     ended y s most count so_far more m count

@@ -1,5 +1,5 @@
 -- What is shown is what the machine shows.
-use Rattle.std.proofs.Common.{◌≡◌, ℕ, ◌+◌, ◌<◌, Option, Some, None, Ok, option_map, List, [], ◌∷◌}
+use Rattle.std.proofs.Common.{◌≡◌, ℕ, ◌+◌, ◌<◌, Option, Some, None, option_map, List, [], ◌∷◌}
 use Rattle.std.proofs.Common.{◌++◌, map, length, get_or, drop, append_assoc, refl, sym, ap, ◌∙◌}
 use Rattle.gb_base.specs.declared.entry.ConnState.{ConnState}
 use Rattle.gb_base.specs.declared.entry.ConnState.TheVariants as state
@@ -111,7 +111,7 @@ behind-time s a b c d ea eb ec ed =
 
 -- the entries are the machine's, and nothing changed
 shown-as : (x : Parties) (s : State) (es : List Entry) → PartsStand [] x s
-    → es ≡ entry.Done ∷ shown s → PartsStep x s event.Show (Ok es)
+    → es ≡ entry.Done ∷ shown s → PartsStep x s event.Show es
 unfolding machine_opened
 shown-as x s es st is =
     lands x s event.Show (entry.Done ∷ []) es refl refl
@@ -127,7 +127,7 @@ pub shows : (x : Parties) (s : State) (e0 e1 e2 e3 e4 e5 : List Entry) (text : L
     → e5 ≡ e4 ++ lines (map (name_shown s.bus) x.names)
     → known ≡ s.host.interfaces → live ≡ map known_of s.bus.connections
     → waiting ≡ map waiting_of (queues s.bus)
-    → PartsStep x s event.Show (Ok e5)
+    → PartsStep x s event.Show e5
 shows x s e0 e1 e2 e3 e4 e5 text known live waiting st i0 it i1 i2 i3 i4 i5 ik il iw =
     shown-as x s e5 st
     (i5 ∙ ap (λ es. es ++ d) (i4 ∙ ap (λ es. es ++ c) (i3 ∙ ap (λ es. es ++ b)

@@ -135,12 +135,12 @@ pub stir-nowhere : (x : Parties) (s : State) (i c : ℕ) (what : code.Stir) (mod
     (es : List Entry) → PartiesStand x s
     → StirsThere i c (stir_of what) (module_at i x.modules) x.modules mods (Ok None)
     → es ≡ entry.Refused why.NoInterface ∷ []
-    → PartsStep (record x { modules = mods }) s (event_of_stir i c what) (Ok es)
+    → PartsStep (record x { modules = mods }) s (event_of_stir i c what) es
 stir-nowhere x s i c what mods es st h told = by (module_at i x.modules) refl h
   where
     by : (o : Option Module) → module_at i x.modules ≡ o
         → StirsThere i c (stir_of what) o x.modules mods (Ok None)
-        → PartsStep (record x { modules = mods }) s (event_of_stir i c what) (Ok es)
+        → PartsStep (record x { modules = mods }) s (event_of_stir i c what) es
     by None there t =
         lands-refused (record x { modules = mods }) s (event_of_stir i c what) why.NoInterface es
         (refusal-is x i c what s st
@@ -157,18 +157,18 @@ pub stir-unfit : (x : Parties) (s : State) (i c : ℕ) (what : code.Stir) (mods 
     (es : List Entry) → PartiesStand x s
     → StirsThere i c (stir_of what) (module_at i x.modules) x.modules mods (Err fault.NoCport)
     → es ≡ entry.Refused why.NoCport ∷ []
-    → PartsStep (record x { modules = mods }) s (event_of_stir i c what) (Ok es)
+    → PartsStep (record x { modules = mods }) s (event_of_stir i c what) es
 stir-unfit x s i c what mods es st h told = by (module_at i x.modules) refl h
   where
     by : (o : Option Module) → module_at i x.modules ≡ o
         → StirsThere i c (stir_of what) o x.modules mods (Err fault.NoCport)
-        → PartsStep (record x { modules = mods }) s (event_of_stir i c what) (Ok es)
+        → PartsStep (record x { modules = mods }) s (event_of_stir i c what) es
     by None there t = absurd (cc (t.0))
     by (Some m) there t = at (module_stir m c (stir_of what)) refl t
       where
         at : (o : Option (Stirred Module)) → module_stir m c (stir_of what) ≡ o
             → StirsAt i o x.modules mods (Err fault.NoCport)
-            → PartsStep (record x { modules = mods }) s (event_of_stir i c what) (Ok es)
+            → PartsStep (record x { modules = mods }) s (event_of_stir i c what) es
         at None none u =
             lands-refused (record x { modules = mods }) s (event_of_stir i c what) why.NoCport es
             (refusal-is x i c what s st
@@ -230,7 +230,7 @@ stir-done : (x y : Parties) (s : State) (i c : ℕ) (what : code.Stir) (mods : L
     → ((k : ℕ) (t : State) → o ≡ Some k → PartsStand [] (record x { modules = mods }) t
     → AreAskable own → Does y (far_asks_all k own) t before es)
     → (o ≡ None → (y ≡ record x { modules = mods }) × (es ≡ before))
-    → PartsStep y s (event_of_stir i c what) (Ok es)
+    → PartsStep y s (event_of_stir i c what) es
 stir-done x y s i c what mods own o before es st h begun names asks still =
     by (module_at i x.modules) refl h
   where
@@ -239,7 +239,7 @@ stir-done x y s i c what mods own o before es st h begun names asks still =
 
     by : (p : Option Module) → module_at i x.modules ≡ p
         → StirsThere i c (stir_of what) p x.modules mods (Ok (Some own))
-        → PartsStep y s e (Ok es)
+        → PartsStep y s e es
     by None there t = absurd (cc (t.0))
     by (Some m) there t = at (module_stir m c (stir_of what)) refl t
       where
@@ -247,7 +247,7 @@ stir-done x y s i c what mods own o before es st h begun names asks still =
         found = ap (module_at i) st.parts.modules ∙ there
 
         at : (v : Option (Stirred Module)) → module_stir m c (stir_of what) ≡ v
-            → StirsAt i v x.modules mods (Ok (Some own)) → PartsStep y s e (Ok es)
+            → StirsAt i v x.modules mods (Ok (Some own)) → PartsStep y s e es
         at None none u = absurd (cc (u.0))
         at (Some v) some u =
             lands y s e before es allowed begun
@@ -297,7 +297,7 @@ pub stir-wired : (x y : Parties) (s : State) (i c : ℕ) (what : code.Stir) (mod
     → o ≡ Some k
     → ((t : State) → PartsStand [] (record x { modules = mods }) t → AreAskable own
     → Does y (far_asks_all k own) t before es)
-    → PartsStep y s (event_of_stir i c what) (Ok es)
+    → PartsStep y s (event_of_stir i c what) es
 stir-wired x y s i c what mods own o k before es st h begun names at asks =
     stir-done x y s i c what mods own o before es st h begun names
     (λ j t is stand askable.
@@ -313,7 +313,7 @@ pub stir-unwired : (x : Parties) (s : State) (i c : ℕ) (what : code.Stir) (mod
     → ((t : State) → PartsStand [] (record x { modules = mods }) t
     → o ≡ option_map number_of (module_place i c t))
     → ((k : ℕ) → o ≡ Some k → ⊥)
-    → PartsStep (record x { modules = mods }) s (event_of_stir i c what) (Ok es)
+    → PartsStep (record x { modules = mods }) s (event_of_stir i c what) es
 stir-unwired x s i c what mods own o es st h begun names none =
     stir-done x (record x { modules = mods }) s i c what mods own o es es st h begun names
     (λ j t is. absurd (none j is)) (λ same. (refl, refl))

@@ -163,7 +163,7 @@ pub tick-done : (x y : Parties) (s : State) (millis : ℕ) (all : List ℕ) (bef
     → PartsStand [] x (later_by millis s) → all ≡ due_by (s.now + millis) s
     → before ≡ entry.Done ∷ []
     → Does y (each all (gives_up outcome.Timeout)) (later_by millis s) before es
-    → PartsStep y s (event.Tick millis) (Ok es)
+    → PartsStep y s (event.Tick millis) es
 tick-done x y s millis all before es st is begun d =
     lands y s (event.Tick millis) before es refl begun
     (does-ticks s millis st

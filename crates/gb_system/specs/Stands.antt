@@ -103,11 +103,8 @@ pub record PartiesStand (x : Parties) (s : State) : Type 0 where
   pub run : OfARun s
 
 -- The entries are the machine's, and the parties stand for the parts of the state after its step.
--- After want of memory nothing is said.
-abbrev pub PartsStep : Parties → State → Event → Result (List Entry) OutOfMemory → Type 0
-PartsStep new s e (Ok entries) =
-    (entries ≡ (step s e).entries) × PartsStand [] new (step s e).state
-PartsStep new s e (Err refused) = ⊤
+abbrev pub PartsStep : Parties → State → Event → List Entry → Type 0
+PartsStep new s e entries = (entries ≡ (step s e).entries) × PartsStand [] new (step s e).state
 
 -- ---- the system
 
@@ -123,7 +120,11 @@ has_failed x = x.failed
 abbrev pub Stands : System → State → Type 0
 Stands x s = PartiesStand x.parties s
 
+-- The entries are the machine's, and the system stands for the state after its step.
+abbrev pub StepsTo : System → State → Event → List Entry → Type 0
+StepsTo new s e entries = (entries ≡ (step s e).entries) × Stands new (step s e).state
+
 -- A step is the machine's. After want of memory nothing is said.
 abbrev pub StepsAs : System → State → Event → Result (List Entry) OutOfMemory → Type 0
-StepsAs new s e (Ok entries) = (entries ≡ (step s e).entries) × Stands new (step s e).state
+StepsAs new s e (Ok entries) = StepsTo new s e entries
 StepsAs new s e (Err refused) = ⊤

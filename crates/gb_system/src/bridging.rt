@@ -1,6 +1,6 @@
 //! Bridge lines: requests in the words of a protocol.
 
-ghost use Rattle.std.specs.Prelude.{◌≡◌, length, take};
+ghost use Rattle.std.specs.Prelude.{◌≡◌, length, take, OnOk};
 ghost use Rattle.gb_base.specs.declared.event.Event.TheVariants as event;
 ghost use Rattle.gb_formats.specs.Results.{most_payload};
 ghost use Rattle.gb_formats.specs.ValidEvents.{HasForm, IsValid};
@@ -9,9 +9,8 @@ ghost use Rattle.gb_system.specs.Bridging.{BridgesTo};
 ghost use Rattle.gb_system.specs.Stands.{PartiesStand, PartsStep};
 
 use crate::asking::DEFAULT_TIMEOUT;
-use crate::entries::{begun, refused};
+use crate::entries::{begin, refuse};
 use crate::key::Key;
-use crate::message::LONGEST_PAYLOAD;
 use crate::parties::Parties;
 use gb_base::{BridgeAsk, Bridged, Entries, Name, OutOfMemory, Refusal, Side};
 
@@ -26,40 +25,45 @@ pub struct Bridging {
 
 impl Parties {
     /// A bridge line becomes a request to a CPort of a module, and takes the credits of the bytes
-    /// that it sends to a UART.
+    /// that it sends to a UART. Its payload is made in `room`.
     pub fn bridge(
         &mut self,
         name: &Name,
         intf: u8,
         cport: u16,
         ask: &BridgeAsk,
-    ) -> Result<Entries, OutOfMemory>
-        requires { IsValid (event.Bridge name.now intf cport ask.now) }
-        ensures step { (s : State) → PartiesStand self.old s
-            → PartsStep self.new s (event.Bridge name.now intf cport ask.now) result }
+        room: &mut [u8],
+        told: &mut Entries,
+    ) -> Result<(), OutOfMemory>
+        requires valid { IsValid (event.Bridge name.now intf cport ask.now) }
+        requires room { length room.old ≡ most_payload }
+        ensures step { OnOk result ((s : State) → PartiesStand self.old s
+            → PartsStep self.new s (event.Bridge name.now intf cport ask.now) told.new) }
     {
         let name = Key::of(name)?;
-        let mut room = [0u8; LONGEST_PAYLOAD];
-        let way = self.bridge_way(&name, intf, cport, ask, &mut room);
+        let way = self.bridge_way(&name, intf, cport, ask, room);
         let Bridging {
             connection,
             request,
         } = match way {
             Ok(way) => way,
-            Err(why) => return Ok(refused(self.alloc, why)?),
+            Err(why) => {
+                refuse(told, why)?;
+                return Ok(());
+            }
         };
-        let mut told = begun(self.alloc)?;
+        begin(told)?;
         self.host.sent(connection, ask);
-        let payload = front(&room, request.len);
+        let payload = front(room, request.len);
         self.send_on(
             name,
             connection,
             request.kind,
             payload,
             DEFAULT_TIMEOUT,
-            &mut told,
+            told,
         )?;
-        Ok(told)
+        Ok(())
     }
 
     /// The request of a bridge line, with its payload at the front of `room`, or why it isn't sent.

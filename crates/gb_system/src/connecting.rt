@@ -1,6 +1,6 @@
 //! Connections that are opened and closed.
 
-ghost use Rattle.std.specs.Prelude.{◌≡◌, List};
+ghost use Rattle.std.specs.Prelude.{◌≡◌, List, OnOk};
 ghost use Rattle.gb_base.specs.declared.end.Side.TheVariants as side;
 ghost use Rattle.gb_base.specs.declared.event.Event.TheVariants as event;
 ghost use Rattle.gb_formats.specs.ValidEvents.{IsValid};
@@ -11,7 +11,7 @@ ghost use Rattle.gb_machine.specs.Refusals.{has_no_label};
 ghost use Rattle.gb_machine.specs.State.{State};
 ghost use Rattle.gb_system.specs.Stands.{PartiesStand, PartsStand, PartsStep};
 
-use crate::entries::{begun, refused};
+use crate::entries::{begin, refuse};
 use crate::parties::Parties;
 use crate::svc::SVC;
 use gb_base::{Entries, OutOfMemory, Refusal, Side};
@@ -19,37 +19,46 @@ use gb_host::HostEvent;
 
 impl Parties {
     /// The application processor connects a CPort of an interface.
-    pub fn connect(&mut self, intf: u8, cport: u16) -> Result<Entries, OutOfMemory>
+    pub fn connect(&mut self, intf: u8, cport: u16, told: &mut Entries) -> Result<(), OutOfMemory>
         requires { IsValid (event.Connect intf cport) }
-        ensures step { (s : State) → PartiesStand self.old s
-            → PartsStep self.new s (event.Connect intf cport) result }
+        ensures step { OnOk result ((s : State) → PartiesStand self.old s
+            → PartsStep self.new s (event.Connect intf cport) told.new) }
     {
         if let Err(why) = self.host.may_connect(intf, cport) {
-            return Ok(refused(self.alloc, why)?);
+            refuse(told, why)?;
+            return Ok(());
         }
         if self.bus.spent(SVC, Side::Ap) {
-            return Ok(refused(self.alloc, Refusal::NoLabel)?);
+            refuse(told, Refusal::NoLabel)?;
+            return Ok(());
         }
-        let mut told = begun(self.alloc)?;
-        self.notice(HostEvent::Connect { intf, cport }, &mut told)?;
-        Ok(told)
+        begin(told)?;
+        self.notice(HostEvent::Connect { intf, cport }, told)?;
+        Ok(())
     }
 
     /// The application processor closes the connection to a CPort of an interface.
-    pub fn disconnect(&mut self, intf: u8, cport: u16) -> Result<Entries, OutOfMemory>
+    pub fn disconnect(
+        &mut self,
+        intf: u8,
+        cport: u16,
+        told: &mut Entries,
+    ) -> Result<(), OutOfMemory>
         requires { IsValid (event.Disconnect intf cport) }
-        ensures step { (s : State) → PartiesStand self.old s
-            → PartsStep self.new s (event.Disconnect intf cport) result }
+        ensures step { OnOk result ((s : State) → PartiesStand self.old s
+            → PartsStep self.new s (event.Disconnect intf cport) told.new) }
     {
         if let Err(why) = self.host.may_disconnect(intf, cport) {
-            return Ok(refused(self.alloc, why)?);
+            refuse(told, why)?;
+            return Ok(());
         }
         if self.is_control_spent(intf) {
-            return Ok(refused(self.alloc, Refusal::NoLabel)?);
+            refuse(told, Refusal::NoLabel)?;
+            return Ok(());
         }
-        let mut told = begun(self.alloc)?;
-        self.notice(HostEvent::Disconnect { intf, cport }, &mut told)?;
-        Ok(told)
+        begin(told)?;
+        self.notice(HostEvent::Disconnect { intf, cport }, told)?;
+        Ok(())
     }
 
     /// The Control CPort of an interface is connected, and no identifier is left on its connection.

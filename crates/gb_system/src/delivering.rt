@@ -1,6 +1,6 @@
 //! Deliveries, and settles, which are deliveries in a fixed order.
 
-ghost use Rattle.std.specs.Prelude.{◌≡◌, ℕ, true, Some, IfOk, List};
+ghost use Rattle.std.specs.Prelude.{◌≡◌, ℕ, true, Some, IfOk, List, OnOk};
 ghost use Rattle.gb_base.specs.declared.event.Event.TheVariants as event;
 ghost use Rattle.gb_invariants.specs.Facts.{Loose};
 ghost use Rattle.gb_machine.specs.Bus.{Connection};
@@ -11,39 +11,42 @@ ghost use Rattle.gb_system.specs.Arriving.{ArrivesAs, ReadsOn};
 ghost use Rattle.gb_system.specs.Serving.{side_of};
 ghost use Rattle.gb_system.specs.Stands.{PartiesStand, PartsStand, PartsStep};
 
-use crate::entries::{begun, refused};
+use crate::entries::{begin, refuse};
 use crate::parties::Parties;
 use gb_base::{End, Entries, Entry, OutOfMemory, Outcome, Reading, Refusal};
 use gb_bus::{Arrival, Arrived, DeliverFault};
 
 impl Parties {
     /// Delivers the front message toward an end.
-    pub fn deliver(&mut self, at: End) -> Result<Entries, OutOfMemory>
-        ensures step { (s : State) → PartiesStand self.old s
-            → PartsStep self.new s (event.Deliver at) result }
+    pub fn deliver(&mut self, at: End, told: &mut Entries) -> Result<(), OutOfMemory>
+        ensures step { OnOk result ((s : State) → PartiesStand self.old s
+            → PartsStep self.new s (event.Deliver at) told.new) }
     {
-        let mut told = begun(self.alloc)?;
-        match self.arrive(at, &mut told)? {
-            None => Ok(told),
-            Some(why) => Ok(refused(self.alloc, why)?),
+        begin(told)?;
+        match self.arrive(at, told)? {
+            None => Ok(()),
+            Some(why) => {
+                refuse(told, why)?;
+                Ok(())
+            }
         }
     }
 
     /// Delivers at most so many messages, each toward the first end at which one waits.
-    pub fn settle(&mut self, most: u16) -> Result<Entries, OutOfMemory>
-        ensures step { (s : State) → PartiesStand self.old s
-            → PartsStep self.new s (event.Settle most) result }
+    pub fn settle(&mut self, most: u16, told: &mut Entries) -> Result<(), OutOfMemory>
+        ensures step { OnOk result ((s : State) → PartiesStand self.old s
+            → PartsStep self.new s (event.Settle most) told.new) }
     {
-        let mut told = begun(self.alloc)?;
+        begin(told)?;
         for count in 0..most {
             let Some(at) = self.bus.first() else {
                 told.push(Entry::Settled { count })?;
-                return Ok(told);
+                return Ok(());
             };
-            self.arrive(at, &mut told)?;
+            self.arrive(at, told)?;
         }
         told.push(Entry::Settled { count: most })?;
-        Ok(told)
+        Ok(())
     }
 
     /// Takes the front message toward an end, handles it, and tells what comes of it. Answers why

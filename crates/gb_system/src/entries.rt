@@ -1,25 +1,29 @@
 //! What an event answers first.
 
-ghost use Rattle.std.specs.Prelude.{◌≡◌, [], ◌∷◌, IfOk};
-ghost use Rattle.gb_base.specs.declared.entry.Entry.TheVariants as told;
+ghost use Rattle.std.specs.Prelude.{◌≡◌, [], ◌∷◌, OnOk};
+ghost use Rattle.gb_base.specs.declared.entry.Entry.TheVariants as entry;
 
 use gb_base::{Entries, Entry, OutOfMemory, Refusal};
-use std::alloc::Global;
 
-/// An event is done.
-pub fn begun(alloc: Global) -> Result<Entries, OutOfMemory>
-    ensures { IfOk result (λ es. es ≡ told.Done ∷ []) }
+/// An event is done. Nothing else is told so far.
+pub fn begin(told: &mut Entries) -> Result<(), OutOfMemory>
+    ensures { OnOk result (told.new ≡ entry.Done ∷ []) }
 {
-    let mut entries = Entries::new(alloc);
-    entries.push(Entry::Done)?;
-    Ok(entries)
+    tell_alone(Entry::Done, told)
 }
 
-/// An event is refused.
-pub fn refused(alloc: Global, why: Refusal) -> Result<Entries, OutOfMemory>
-    ensures { IfOk result (λ es. es ≡ told.Refused why ∷ []) }
+/// An event is refused, and nothing else is told.
+pub fn refuse(told: &mut Entries, why: Refusal) -> Result<(), OutOfMemory>
+    ensures { OnOk result (told.new ≡ entry.Refused why ∷ []) }
 {
-    let mut entries = Entries::new(alloc);
-    entries.push(Entry::Refused { why })?;
-    Ok(entries)
+    tell_alone(Entry::Refused { why }, told)
+}
+
+/// One entry is told, and nothing else.
+#[inline]
+fn tell_alone(one: Entry, told: &mut Entries) -> Result<(), OutOfMemory>
+    ensures { OnOk result (told.new ≡ one ∷ []) }
+{
+    told.clear();
+    told.push(one)
 }

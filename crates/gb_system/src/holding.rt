@@ -11,7 +11,7 @@ ghost use Rattle.gb_system.specs.Holding.{AsksAt, ServesHeldAt, WiredAs};
 ghost use Rattle.gb_system.specs.Serving.{side_of};
 ghost use Rattle.gb_system.specs.Stands.{PartiesStand, PartsStand, PartsStep};
 
-use crate::entries::{begun, refused};
+use crate::entries::{begin, refuse};
 use crate::held::HeldRequest;
 use crate::parties::Parties;
 use gb_base::{Bytes, End, Entries, Entry, OutOfMemory, Refusal};
@@ -19,35 +19,49 @@ use gb_bus::Asked;
 
 impl Parties {
     /// Requests that are delivered to a module's CPort are held from now on.
-    pub fn hold(&mut self, intf: u8, cport: u16) -> Result<Entries, OutOfMemory>
-        ensures step { (s : State) → PartiesStand self.old s
-            → PartsStep self.new s (event.Hold intf cport) result }
+    pub fn hold(&mut self, intf: u8, cport: u16, told: &mut Entries) -> Result<(), OutOfMemory>
+        ensures step { OnOk result ((s : State) → PartiesStand self.old s
+            → PartsStep self.new s (event.Hold intf cport) told.new) }
     {
         let connection = match self.wired_at(intf, cport) {
             Ok(connection) => connection,
-            Err(why) => return Ok(refused(self.alloc, why)?),
+            Err(why) => {
+                refuse(told, why)?;
+                return Ok(());
+            }
         };
         self.holds.add(connection)?;
-        Ok(begun(self.alloc)?)
+        begin(told)?;
+        Ok(())
     }
 
     /// Serves the request at a place, from 1, among those that are held at a module's CPort, the
     /// oldest being the first.
-    pub fn answer_held(&mut self, intf: u8, cport: u16, place: u32) -> Result<Entries, OutOfMemory>
+    pub fn answer_held(
+        &mut self,
+        intf: u8,
+        cport: u16,
+        place: u32,
+        told: &mut Entries,
+    ) -> Result<(), OutOfMemory>
         requires { IsValid (event.Answer intf cport place) }
-        ensures step { (s : State) → PartiesStand self.old s
-            → PartsStep self.new s (event.Answer intf cport place) result }
+        ensures step { OnOk result ((s : State) → PartiesStand self.old s
+            → PartsStep self.new s (event.Answer intf cport place) told.new) }
     {
         let connection = match self.wired_at(intf, cport) {
             Ok(connection) => connection,
-            Err(why) => return Ok(refused(self.alloc, why)?),
+            Err(why) => {
+                refuse(told, why)?;
+                return Ok(());
+            }
         };
         let Some(request) = self.held.take(connection, place) else {
-            return Ok(refused(self.alloc, Refusal::NotHeld)?);
+            refuse(told, Refusal::NotHeld)?;
+            return Ok(());
         };
-        let mut told = begun(self.alloc)?;
-        self.serve_held(connection, End::Module { intf, cport }, &request, &mut told)?;
-        Ok(told)
+        begin(told)?;
+        self.serve_held(connection, End::Module { intf, cport }, &request, told)?;
+        Ok(())
     }
 
     /// Holds a request that was delivered at an end where its connection has the hold mark, and

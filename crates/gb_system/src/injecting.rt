@@ -1,31 +1,41 @@
 //! Raw bytes, which a script puts in place of a module's messages.
 
-ghost use Rattle.std.specs.Prelude.{◌≡◌};
+ghost use Rattle.std.specs.Prelude.{◌≡◌, OnOk};
 ghost use Rattle.gb_base.specs.declared.event.Event.TheVariants as event;
 ghost use Rattle.gb_machine.specs.State.{State};
 ghost use Rattle.gb_system.specs.Stands.{PartiesStand, PartsStep};
 
-use crate::entries::{begun, refused};
+use crate::entries::{begin, refuse};
 use crate::parties::Parties;
 use gb_base::{Bytes, End, Entries, Entry, OutOfMemory, Refusal};
 use gb_bus::LONGEST_RAW;
 
 impl Parties {
     /// Raw bytes go from a module's CPort to the application processor.
-    pub fn inject(&mut self, intf: u8, cport: u16, bytes: &[u8]) -> Result<Entries, OutOfMemory>
-        ensures step { (s : State) → PartiesStand self.old s
-            → PartsStep self.new s (event.Inject intf cport bytes.now) result }
+    pub fn inject(
+        &mut self,
+        intf: u8,
+        cport: u16,
+        bytes: &[u8],
+        told: &mut Entries,
+    ) -> Result<(), OutOfMemory>
+        ensures step { OnOk result ((s : State) → PartiesStand self.old s
+            → PartsStep self.new s (event.Inject intf cport bytes.now) told.new) }
     {
         let connection = match self.wired_at(intf, cport) {
             Ok(connection) => connection,
-            Err(why) => return Ok(refused(self.alloc, why)?),
+            Err(why) => {
+                refuse(told, why)?;
+                return Ok(());
+            }
         };
         if bytes.len() > LONGEST_RAW {
-            return Ok(refused(self.alloc, Refusal::TooLarge)?);
+            refuse(told, Refusal::TooLarge)?;
+            return Ok(());
         }
-        let mut told = begun(self.alloc)?;
+        begin(told)?;
         let Some(ends) = self.bus.ends(connection) else {
-            return Ok(told);
+            return Ok(());
         };
         self.bus.inject(connection, bytes)?;
         told.push(Entry::Raw {
@@ -34,6 +44,6 @@ impl Parties {
             size: bytes.len() as u16,
             bytes: Bytes::from_slice(self.alloc, bytes)?,
         })?;
-        Ok(told)
+        Ok(())
     }
 }

@@ -66,6 +66,7 @@ pub fn response_bytes(
 }
 
 /// The canonical spelling of a message.
+#[inline]
 fn message_bytes(alloc: Global, m: &Message<'_>) -> Result<Bytes, OutOfMemory>
     requires fits { length m.now.payload.now ≤ 65527 }
     requires request { m.now.kind < 128 → m.now.result ≡ 0 }
@@ -80,6 +81,7 @@ fn message_bytes(alloc: Global, m: &Message<'_>) -> Result<Bytes, OutOfMemory>
 }
 
 /// The canonical spelling of a message that has at most 16 bytes.
+#[inline]
 fn short_message(alloc: Global, m: &Message<'_>) -> Result<Bytes, OutOfMemory>
     requires short { length m.now.payload.now ≤ 8 }
     requires request { m.now.kind < 128 → m.now.result ≡ 0 }

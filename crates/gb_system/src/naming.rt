@@ -1,11 +1,11 @@
 //! What is done to the request of a name, and to names.
 
-ghost use Rattle.std.specs.Prelude.{◌≡◌};
+ghost use Rattle.std.specs.Prelude.{◌≡◌, OnOk};
 ghost use Rattle.gb_base.specs.declared.event.Event.TheVariants as event;
 ghost use Rattle.gb_machine.specs.State.{State};
 ghost use Rattle.gb_system.specs.Stands.{PartiesStand, PartsStep};
 
-use crate::entries::{begun, refused};
+use crate::entries::{begin, refuse};
 use crate::key::Key;
 use crate::parties::Parties;
 use gb_base::{Entries, Name, OutOfMemory, Outcome, Reading, Refusal};
@@ -13,52 +13,66 @@ use gb_bus::AlreadyEnded;
 
 impl Parties {
     /// Gives up the request that a name names.
-    pub fn cancel(&mut self, name: &Name) -> Result<Entries, OutOfMemory>
-        ensures step { (s : State) → PartiesStand self.old s
-            → PartsStep self.new s (event.Cancel name.now) result }
+    pub fn cancel(&mut self, name: &Name, told: &mut Entries) -> Result<(), OutOfMemory>
+        ensures step { OnOk result ((s : State) → PartiesStand self.old s
+            → PartsStep self.new s (event.Cancel name.now) told.new) }
     {
         let name = Key::of(name)?;
         let Some(number) = self.names.get(&name) else {
-            return Ok(refused(self.alloc, Refusal::NoName)?);
+            refuse(told, Refusal::NoName)?;
+            return Ok(());
         };
         match self.bus.cancel(number) {
             Ok(()) => {
-                let mut told = begun(self.alloc)?;
-                self.end(number, Outcome::Cancelled, Reading::Nothing, &mut told)?;
-                Ok(told)
+                begin(told)?;
+                self.end(number, Outcome::Cancelled, Reading::Nothing, told)?;
+                Ok(())
             }
-            Err(AlreadyEnded) => Ok(refused(self.alloc, Refusal::AlreadyEnded)?),
+            Err(AlreadyEnded) => {
+                refuse(told, Refusal::AlreadyEnded)?;
+                Ok(())
+            }
         }
     }
 
     /// Gives the request of a name another name too.
-    pub fn copy_name(&mut self, from: &Name, to: &Name) -> Result<Entries, OutOfMemory>
-        ensures step { (s : State) → PartiesStand self.old s
-            → PartsStep self.new s (event.Copy from.now to.now) result }
+    pub fn copy_name(
+        &mut self,
+        from: &Name,
+        to: &Name,
+        told: &mut Entries,
+    ) -> Result<(), OutOfMemory>
+        ensures step { OnOk result ((s : State) → PartiesStand self.old s
+            → PartsStep self.new s (event.Copy from.now to.now) told.new) }
     {
         let from = Key::of(from)?;
         let to = Key::of(to)?;
         let Some(number) = self.names.get(&from) else {
-            return Ok(refused(self.alloc, Refusal::NoName)?);
+            refuse(told, Refusal::NoName)?;
+            return Ok(());
         };
         if self.names.get(&to).is_some() {
-            return Ok(refused(self.alloc, Refusal::Occupied)?);
+            refuse(told, Refusal::Occupied)?;
+            return Ok(());
         }
         self.names.bind(to, number)?;
         self.bus.keep(number);
-        Ok(begun(self.alloc)?)
+        begin(told)?;
+        Ok(())
     }
 
     /// Frees a name.
-    pub fn forget_name(&mut self, name: &Name) -> Result<Entries, OutOfMemory>
-        ensures step { (s : State) → PartiesStand self.old s
-            → PartsStep self.new s (event.Forget name.now) result }
+    pub fn forget_name(&mut self, name: &Name, told: &mut Entries) -> Result<(), OutOfMemory>
+        ensures step { OnOk result ((s : State) → PartiesStand self.old s
+            → PartsStep self.new s (event.Forget name.now) told.new) }
     {
         let name = Key::of(name)?;
         let Some(number) = self.names.free(&name) else {
-            return Ok(refused(self.alloc, Refusal::NoName)?);
+            refuse(told, Refusal::NoName)?;
+            return Ok(());
         };
         self.bus.loose(number);
-        Ok(begun(self.alloc)?)
+        begin(told)?;
+        Ok(())
     }
 }

@@ -1,6 +1,7 @@
 //! The parties and the bus between them.
 
-ghost use Rattle.std.specs.Prelude.{[], IfOk};
+ghost use Rattle.std.specs.Prelude.{◌≡◌, [], IfOk, OnOk, length};
+ghost use Rattle.gb_formats.specs.Results.{most_payload};
 ghost use Rattle.gb_formats.specs.ValidEvents.{IsValid};
 ghost use Rattle.gb_machine.specs.State.{State, first_state};
 
@@ -56,32 +57,39 @@ impl Parties {
         })
     }
 
-    /// Steps one event.
-    pub fn event(&mut self, e: &Event) -> Result<Entries, OutOfMemory>
-        requires { IsValid e.now }
-        ensures step { (s : State) → PartiesStand self.old s
-            → PartsStep self.new s e.now result }
+    /// Steps one event. What it brings about stands in `told` then, whatever stood there. `room`
+    /// has 2,040 bytes, whatever they are.
+    pub fn event(
+        &mut self,
+        e: &Event,
+        room: &mut [u8],
+        told: &mut Entries,
+    ) -> Result<(), OutOfMemory>
+        requires valid { IsValid e.now }
+        requires room { length room.old ≡ most_payload }
+        ensures step { OnOk result ((s : State) → PartiesStand self.old s
+            → PartsStep self.new s e.now told.new) }
     {
         match e {
-            Event::Boot => self.boot(),
-            Event::Insert { intf, kind } => self.insert(*intf, *kind),
-            Event::InsertRaw { intf, manifest } => self.insert_raw(*intf, manifest.items()),
-            Event::Pull { intf } => self.pull(*intf),
-            Event::Connect { intf, cport } => self.connect(*intf, *cport),
-            Event::Disconnect { intf, cport } => self.disconnect(*intf, *cport),
+            Event::Boot => self.boot(told),
+            Event::Insert { intf, kind } => self.insert(*intf, *kind, told),
+            Event::InsertRaw { intf, manifest } => self.insert_raw(*intf, manifest.items(), told),
+            Event::Pull { intf } => self.pull(*intf, told),
+            Event::Connect { intf, cport } => self.connect(*intf, *cport, told),
+            Event::Disconnect { intf, cport } => self.disconnect(*intf, *cport, told),
             Event::Send {
                 name,
                 to,
                 kind,
                 payload,
                 timeout,
-            } => self.send(name, *to, *kind, payload.items(), *timeout),
+            } => self.send(name, *to, *kind, payload.items(), *timeout, told),
             Event::Bridge {
                 name,
                 intf,
                 cport,
                 ask,
-            } => self.bridge(name, *intf, *cport, ask),
+            } => self.bridge(name, *intf, *cport, ask, room, told),
             Event::Level {
                 intf,
                 cport,
@@ -94,22 +102,23 @@ impl Parties {
                     line: *line,
                     value: *value,
                 },
+                told,
             ),
             Event::SerialState {
                 intf,
                 cport,
                 control,
-            } => self.stir(*intf, *cport, Stir::Serial { control: *control }),
-            Event::Deliver { at } => self.deliver(*at),
-            Event::Settle { most } => self.settle(*most),
-            Event::Hold { intf, cport } => self.hold(*intf, *cport),
-            Event::Answer { intf, cport, place } => self.answer_held(*intf, *cport, *place),
-            Event::Tick { millis } => self.tick(*millis),
-            Event::Cancel { name } => self.cancel(name),
-            Event::Copy { from, to } => self.copy_name(from, to),
-            Event::Forget { name } => self.forget_name(name),
-            Event::Inject { intf, cport, bytes } => self.inject(*intf, *cport, bytes.items()),
-            Event::Show => self.show(),
+            } => self.stir(*intf, *cport, Stir::Serial { control: *control }, told),
+            Event::Deliver { at } => self.deliver(*at, told),
+            Event::Settle { most } => self.settle(*most, told),
+            Event::Hold { intf, cport } => self.hold(*intf, *cport, told),
+            Event::Answer { intf, cport, place } => self.answer_held(*intf, *cport, *place, told),
+            Event::Tick { millis } => self.tick(*millis, told),
+            Event::Cancel { name } => self.cancel(name, told),
+            Event::Copy { from, to } => self.copy_name(from, to, told),
+            Event::Forget { name } => self.forget_name(name, told),
+            Event::Inject { intf, cport, bytes } => self.inject(*intf, *cport, bytes.items(), told),
+            Event::Show => self.show(told),
         }
     }
 }

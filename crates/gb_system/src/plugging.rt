@@ -3,9 +3,11 @@
 ghost use Rattle.std.specs.Prelude.{◌≡◌, ◌≤◌, ℕ, List, [], false, length, IfNone, OnOk};
 ghost use Rattle.gb_base.specs.declared.event.Event.TheVariants as event;
 ghost use Rattle.gb_formats.specs.Results.{most_payload};
+ghost use Rattle.gb_formats.specs.SvcRecords.{SvcAsk};
 ghost use Rattle.gb_formats.specs.ValidEvents.{IsIntf};
+ghost use Rattle.gb_machine.specs.Actions.{when};
 ghost use Rattle.gb_machine.specs.Lists.{first_met};
-ghost use Rattle.gb_machine.specs.OwnAsking.{far_asks};
+ghost use Rattle.gb_machine.specs.OwnAsking.{far_asks, svc_asks};
 ghost use Rattle.gb_machine.specs.Plugging.{plugs, tells_inserted};
 ghost use Rattle.gb_machine.specs.Ports.{is_powered};
 ghost use Rattle.gb_machine.specs.Refusals.{insert_conditions};
@@ -15,7 +17,7 @@ ghost use Rattle.gb_system.specs.Doing.{Does};
 ghost use Rattle.gb_system.specs.Drafts.{own_ask};
 ghost use Rattle.gb_system.specs.Stands.{PartiesStand, PartsStand, PartsStep};
 
-use crate::entries::{begun, refused};
+use crate::entries::{begin, refuse};
 use crate::message::LONGEST_PAYLOAD;
 use crate::parties::Parties;
 use crate::svc::SVC;
@@ -24,78 +26,86 @@ use gb_module::Module;
 
 impl Parties {
     /// The supervisory controller starts: it sends its version, HELLO, and what is plugged.
-    pub fn boot(&mut self) -> Result<Entries, OutOfMemory>
-        ensures step { (s : State) → PartiesStand self.old s
-            → PartsStep self.new s event.Boot result }
+    pub fn boot(&mut self, told: &mut Entries) -> Result<(), OutOfMemory>
+        ensures step { OnOk result ((s : State) → PartiesStand self.old s
+            → PartsStep self.new s event.Boot told.new) }
     {
         if self.booted {
-            return Ok(refused(self.alloc, Refusal::Occupied)?);
+            refuse(told, Refusal::Occupied)?;
+            return Ok(());
         }
-        let mut told = begun(self.alloc)?;
+        begin(told)?;
         self.booted = true;
-        self.svc_ask(0x01, &[0, 1], &mut told)?;
-        self.svc_ask(0x02, &[1, 0, 1], &mut told)?;
+        self.svc_ask(0x01, &[0, 1], told)?;
+        self.svc_ask(0x02, &[1, 0, 1], told)?;
         for i in 0..self.modules.count() {
             if let Some(intf) = self.modules.intf_at(i) {
-                self.tell_inserted(intf, &mut told)?;
+                self.tell_inserted(intf, told)?;
             }
         }
-        Ok(told)
+        Ok(())
     }
 
     /// A module of a kind is plugged at an interface, 2 to 31.
-    pub fn insert(&mut self, intf: u8, kind: Kind) -> Result<Entries, OutOfMemory>
+    pub fn insert(&mut self, intf: u8, kind: Kind, told: &mut Entries) -> Result<(), OutOfMemory>
         requires { IsIntf intf }
-        ensures step { (s : State) → PartiesStand self.old s
-            → PartsStep self.new s (event.Insert intf kind) result }
+        ensures step { OnOk result ((s : State) → PartiesStand self.old s
+            → PartsStep self.new s (event.Insert intf kind) told.new) }
     {
         if let Some(why) = self.insert_refusal(intf, 0) {
-            return Ok(refused(self.alloc, why)?);
+            refuse(told, why)?;
+            return Ok(());
         }
-        let mut told = begun(self.alloc)?;
+        begin(told)?;
         let module = Module::of_kind(self.alloc, kind)?;
-        self.plug(intf, module, &mut told)?;
-        Ok(told)
+        self.plug(intf, module, told)?;
+        Ok(())
     }
 
     /// A module with these bytes as its manifest is plugged at an interface, 2 to 31.
-    pub fn insert_raw(&mut self, intf: u8, manifest: &[u8]) -> Result<Entries, OutOfMemory>
+    pub fn insert_raw(
+        &mut self,
+        intf: u8,
+        manifest: &[u8],
+        told: &mut Entries,
+    ) -> Result<(), OutOfMemory>
         requires { IsIntf intf }
-        ensures step { (s : State) → PartiesStand self.old s
-            → PartsStep self.new s (event.InsertRaw intf manifest.now) result }
+        ensures step { OnOk result ((s : State) → PartiesStand self.old s
+            → PartsStep self.new s (event.InsertRaw intf manifest.now) told.new) }
     {
         if let Some(why) = self.insert_refusal(intf, manifest.len()) {
-            return Ok(refused(self.alloc, why)?);
+            refuse(told, why)?;
+            return Ok(());
         }
-        let mut told = begun(self.alloc)?;
+        begin(told)?;
         let module = Module::raw(self.alloc, manifest)?;
-        self.plug(intf, module, &mut told)?;
-        Ok(told)
+        self.plug(intf, module, told)?;
+        Ok(())
     }
 
     /// The module at an interface, 2 to 31, is pulled: its connections are unwired in order of
     /// number.
-    pub fn pull(&mut self, intf: u8) -> Result<Entries, OutOfMemory>
+    pub fn pull(&mut self, intf: u8, told: &mut Entries) -> Result<(), OutOfMemory>
         requires { IsIntf intf }
-        ensures step { (s : State) → PartiesStand self.old s
-            → PartsStep self.new s (event.Pull intf) result }
+        ensures step { OnOk result ((s : State) → PartiesStand self.old s
+            → PartsStep self.new s (event.Pull intf) told.new) }
     {
         if self.modules.at(intf).is_none() {
-            return Ok(refused(self.alloc, Refusal::NoInterface)?);
+            refuse(told, Refusal::NoInterface)?;
+            return Ok(());
         }
         if self.bus.spent(SVC, Side::Far) {
-            return Ok(refused(self.alloc, Refusal::NoLabel)?);
+            refuse(told, Refusal::NoLabel)?;
+            return Ok(());
         }
-        let mut told = begun(self.alloc)?;
+        begin(told)?;
         for connection in self.bus.wired_to(intf)?.items() {
-            self.unwire(*connection, &mut told)?;
+            self.unwire(*connection, told)?;
         }
         self.modules.unplug(intf);
         self.ladder.pull(intf);
-        if self.booted {
-            self.svc_ask(0x20, &[intf], &mut told)?;
-        }
-        Ok(told)
+        self.tell_removed(intf, told)?;
+        Ok(())
     }
 
     /// Why no module whose manifest has so many bytes can be plugged at an interface.
@@ -139,6 +149,17 @@ impl Parties {
             → Does self.new (tells_inserted intf) s told.old told.new) }
     {
         self.svc_ask(0x1f, &[intf, 1, 0, 0], told)?;
+        Ok(())
+    }
+
+    /// MODULE_REMOVED of an interface, once the supervisory controller has started.
+    fn tell_removed(&mut self, intf: u8, told: &mut Entries) -> Result<(), OutOfMemory>
+        ensures step { OnOk result ((s : State) → PartsStand [] self.old s → Does self.new
+            (when s.booted (svc_asks (SvcAsk.ModuleRemoved intf))) s told.old told.new) }
+    {
+        if self.booted {
+            self.svc_ask(0x20, &[intf], told)?;
+        }
         Ok(())
     }
 

@@ -14,7 +14,7 @@ ghost use Rattle.gb_system.specs.Sending.{GoesAs, LeadsAs};
 ghost use Rattle.gb_system.specs.Stands.{PartiesStand, PartsStand, PartsStep};
 
 use crate::asking::Draft;
-use crate::entries::{begun, refused};
+use crate::entries::{begin, refuse};
 use crate::key::Key;
 use crate::message::LONGEST_PAYLOAD;
 use crate::parties::Parties;
@@ -31,20 +31,24 @@ impl Parties {
         kind: u8,
         payload: &[u8],
         timeout: u32,
-    ) -> Result<Entries, OutOfMemory>
+        told: &mut Entries,
+    ) -> Result<(), OutOfMemory>
         requires { IsValid (event.Send name.now to kind payload.now timeout) }
-        ensures step { (s : State) → PartiesStand self.old s
-            → PartsStep self.new s (event.Send name.now to kind payload.now timeout) result }
+        ensures step { OnOk result ((s : State) → PartiesStand self.old s
+            → PartsStep self.new s (event.Send name.now to kind payload.now timeout) told.new) }
     {
         let name = Key::of(name)?;
         let connection = match self.way(&name, to, kind, payload) {
             Ok(connection) => connection,
-            Err(why) => return Ok(refused(self.alloc, why)?),
+            Err(why) => {
+                refuse(told, why)?;
+                return Ok(());
+            }
         };
-        let mut told = begun(self.alloc)?;
+        begin(told)?;
         let wait = u64::from(timeout);
-        self.send_on(name, connection, kind, payload, wait, &mut told)?;
-        Ok(told)
+        self.send_on(name, connection, kind, payload, wait, told)?;
+        Ok(())
     }
 
     /// The application processor sends a request on a connection, and the request gets a free

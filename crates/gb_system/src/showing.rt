@@ -11,7 +11,7 @@ ghost use Rattle.gb_machine.specs.State.{State};
 ghost use Rattle.gb_system.specs.Showing.{AreTold, known_shown, lines, waiting_shown};
 ghost use Rattle.gb_system.specs.Stands.{PartiesStand, PartsStep};
 
-use crate::entries::begun;
+use crate::entries::begin;
 use crate::names::Names;
 use crate::parties::Parties;
 use gb_base::{ConnState, Entries, Entry, Interface, OutOfMemory, Text};
@@ -23,20 +23,20 @@ use std::alloc::Global;
 impl Parties {
     /// Tells what there is, and changes nothing: the time, each interface that the application
     /// processor knows, each live connection, each queue that isn't empty, and each name.
-    pub fn show(&self) -> Result<Entries, OutOfMemory>
-        ensures step { (s : State) → PartiesStand self.now s
-            → PartsStep self.now s event.Show result }
+    pub fn show(&self, told: &mut Entries) -> Result<(), OutOfMemory>
+        ensures step { OnOk result ((s : State) → PartiesStand self.now s
+            → PartsStep self.now s event.Show told.new) }
     {
-        let mut told = begun(self.alloc)?;
+        begin(told)?;
         let text = now_line(self.alloc, self.time)?;
         told.push(Entry::Shown { text })?;
-        show_interfaces(self.alloc, self.host.interfaces(), &mut told)?;
+        show_interfaces(self.alloc, self.host.interfaces(), told)?;
         let known = self.bus.connections()?;
-        show_connections(self.alloc, &self.host, known.items(), &mut told)?;
+        show_connections(self.alloc, &self.host, known.items(), told)?;
         let waiting = self.bus.queues()?;
-        show_queues(self.alloc, waiting.items(), &mut told)?;
-        show_names(self.alloc, &self.bus, &self.names, &mut told)?;
-        Ok(told)
+        show_queues(self.alloc, waiting.items(), told)?;
+        show_names(self.alloc, &self.bus, &self.names, told)?;
+        Ok(())
     }
 }
 

@@ -1,12 +1,13 @@
 //! The system: the parties, stepped event by event until no memory is found.
 
 ghost use Rattle.std.specs.Prelude.{◌≡◌, ◌+◌, ◌<◌, if◌then◌else◌, true, false};
-ghost use Rattle.std.specs.Prelude.{IfOk, is_ok, is_err, option_copied, option_map};
+ghost use Rattle.std.specs.Prelude.{IfOk, OnOk, is_ok, is_err, length, option_copied, option_map};
 ghost use Rattle.gb_bus.specs.Counting.{Tells};
 ghost use Rattle.gb_formats.specs.ValidEvents.{IsValid};
 ghost use Rattle.gb_machine.specs.State.{State, first_state};
 ghost use Rattle.gb_system.specs.Outcomes.{outcome_in};
 
+use crate::message::LONGEST_PAYLOAD;
 use crate::parties::Parties;
 use gb_base::{Entries, Event, OutOfMemory, Outcome};
 use gb_bus::Tally;
@@ -16,12 +17,15 @@ use std::alloc::Global;
 #[derive(Drop)]
 pub struct System {
     parties: Parties,
+    /// Room for the payload of a bridge line.
+    room: Vec<u8>,
     taken: u64,
     failed: bool,
+    ghost wide: { length room.items ≡ 2040 },
 }
 
 impl System {
-    ghost use Rattle.gb_system.specs.Stands.{Stands, StepsAs, has_failed, taken_of};
+    ghost use Rattle.gb_system.specs.Stands.{Stands, StepsAs, StepsTo, has_failed, taken_of};
 
     /// The first state: nothing is plugged, and nothing was sent.
     pub fn new(alloc: Global) -> Result<System, OutOfMemory>
@@ -31,6 +35,7 @@ impl System {
     {
         Ok(System {
             parties: Parties::new(alloc)?,
+            room: vec![in alloc; 0; LONGEST_PAYLOAD]?,
             taken: 0,
             failed: false,
         })
@@ -47,13 +52,30 @@ impl System {
         ensures failed { has_failed self.new ≡ is_err result }
         ensures later { has_failed self.old ≡ true → is_err result ≡ true }
     {
+        let mut told = Entries::new(self.parties.alloc);
+        self.step_into(e, &mut told)?;
+        Ok(told)
+    }
+
+    /// Steps one event as `step` does. What it brings about stands in `told` then, whatever stood
+    /// there, and takes the memory of that first.
+    pub fn step_into(&mut self, e: &Event, told: &mut Entries) -> Result<(), OutOfMemory>
+        requires valid { IsValid e.now }
+        requires room { taken_of self.old < 4294967295 }
+        ensures step { OnOk result ((s : State) → Stands self.old s
+            → StepsTo self.new s e.now told.new) }
+        ensures taken { taken_of self.new
+            ≡ (if is_ok result then taken_of self.old + 1 else taken_of self.old) }
+        ensures failed { has_failed self.new ≡ is_err result }
+        ensures later { has_failed self.old ≡ true → is_err result ≡ true }
+    {
         if self.failed {
             return Err(OutOfMemory);
         }
-        match self.parties.event(e) {
-            Ok(entries) => {
+        match self.parties.event(e, self.room.as_mut_slice(), told) {
+            Ok(()) => {
                 self.taken += 1;
-                Ok(entries)
+                Ok(())
             }
             Err(refused) => {
                 self.failed = true;

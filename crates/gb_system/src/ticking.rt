@@ -9,23 +9,23 @@ ghost use Rattle.gb_system.specs.Doing.{Does};
 ghost use Rattle.gb_system.specs.Stands.{PartiesStand, PartsStand, PartsStep};
 ghost use Rattle.gb_system.specs.Ticking.{MayTimeOut};
 
-use crate::entries::begun;
+use crate::entries::begin;
 use crate::parties::Parties;
 use gb_base::{Entries, OutOfMemory, Outcome, Reading};
 
 impl Parties {
     /// Milliseconds pass: the open requests whose deadline came are given up, in order of number.
     /// Out of memory also comes where the time has no number of 64 bits.
-    pub fn tick(&mut self, millis: u32) -> Result<Entries, OutOfMemory>
-        ensures step { (s : State) → PartiesStand self.old s
-            → PartsStep self.new s (event.Tick millis) result }
+    pub fn tick(&mut self, millis: u32, told: &mut Entries) -> Result<(), OutOfMemory>
+        ensures step { OnOk result ((s : State) → PartiesStand self.old s
+            → PartsStep self.new s (event.Tick millis) told.new) }
     {
         self.time = self.deadline(u64::from(millis))?;
-        let mut told = begun(self.alloc)?;
+        begin(told)?;
         for number in self.bus.due(self.time)?.items() {
-            self.time_out(*number, &mut told)?;
+            self.time_out(*number, told)?;
         }
-        Ok(told)
+        Ok(())
     }
 
     /// The time at which a wait of so many milliseconds is over. Out of memory comes where that has

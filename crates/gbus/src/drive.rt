@@ -20,6 +20,8 @@ use std::alloc::Global;
 #[derive(Drop)]
 pub struct Driven {
     system: System,
+    /// What the last event brought about.
+    entries: Entries,
     /// How many events were refused.
     refused: u64,
 }
@@ -36,6 +38,7 @@ impl Driven {
     {
         Ok(Driven {
             system: System::new(alloc)?,
+            entries: Entries::new(alloc),
             refused: 0,
         })
     }
@@ -50,8 +53,8 @@ impl Driven {
         ensures taken { OnOk result (taken_of self.new.system ≡ taken_of self.old.system + 1) }
         ensures few { OnOk result (self.new.refused ≤ self.old.refused + 1) }
     {
-        let entries = self.system.step(e)?;
-        if is_refused(&entries) {
+        self.system.step_into(e, &mut self.entries)?;
+        if is_refused(&self.entries) {
             self.refused += 1;
         }
         Ok(())

@@ -5,7 +5,7 @@ ghost use Rattle.gb_machine.specs.State.{State, first_state};
 ghost use Rattle.gb_script.specs.Readers.{IsLineOf};
 ghost use Rattle.gb_system.specs.Stands.{taken_of};
 
-use gb_base::{LineReason, OutOfMemory};
+use gb_base::{Entries, LineReason, OutOfMemory};
 use gb_report::{append_all, append_refusal};
 use gb_script::{Line, LineFault, event};
 use gb_system::System;
@@ -17,6 +17,8 @@ pub struct Session {
     alloc: Global,
     hex: bool,
     system: System,
+    /// What the last event brought about.
+    entries: Entries,
     text: String,
     /// How many lines were run.
     number: u32,
@@ -46,6 +48,7 @@ impl Session {
             alloc,
             hex,
             system: System::new(alloc)?,
+            entries: Entries::new(alloc),
             text: String::new(alloc),
             number: 0,
         })
@@ -69,8 +72,8 @@ impl Session {
         match event(self.alloc, line.bytes, 0) {
             Ok(None) => Ok(Turn::Next),
             Ok(Some(e)) => {
-                let entries = self.system.step(&e)?;
-                append_all(entries.items(), self.number, self.hex, &mut self.text)?;
+                self.system.step_into(&e, &mut self.entries)?;
+                append_all(self.entries.items(), self.number, self.hex, &mut self.text)?;
                 Ok(Turn::Next)
             }
             Err(LineFault::Bad(why)) => {

@@ -10,14 +10,14 @@ use Rattle.gb_system.proofs.parties.Parties.boot.Goals as goal
 pub returns-then-self : goal.returns-then-self
 returns-then-self c = record {
   step = λ s st.
-      boot-again c.args.self.now s c.in_ok-refused.field-0 st c.if-self.true
-      c.in_ok-refused.ensures;
+      boot-again c.args.self.now s c.refuse.new.told st c.if-self.true
+      c.in_ok-refuse.ensures;
 }
 
 pub loop-i-init : goal.loop-i-init
 loop-i-init c = λ s st.
     boot-first c.args.self.now c.svc_ask.new.self c.svc_ask-2.new.self s c.count-i-end.result
-    c.in_ok-told.told c.svc_ask.new.told c.svc_ask-2.new.told st c.in_ok-told.ensures
+    c.begin.new.told c.svc_ask.new.told c.svc_ask-2.new.told st c.in_ok-begin.ensures
     c.in_ok-svc_ask.ensures.step c.in_ok-svc_ask-2.ensures.step c.count-i-end.ensures
 
 pub loop-i-preserved : goal.loop-i-preserved

@@ -9,26 +9,26 @@ use Rattle.gb_system.proofs.parties.Parties.cancel.Goals as goal
 pub returns-in_default : goal.returns-in_default
 returns-in_default c = record {
   step = λ s st.
-      cancel-unnamed c.args.self.now s c.args.name.now c.in_ok-refused.field-0 st
+      cancel-unnamed c.args.self.now s c.args.name.now c.refuse.new.told st
       (named-as c.args.self.now.names c.in_ok-name.ensures c.in_default.ensures)
-      c.in_ok-refused.ensures;
+      c.in_ok-refuse.ensures;
 }
 
 pub returns-in_ok-end-in-Ok : goal.returns-in_ok-end-in-Ok
 returns-in_ok-end-in-Ok c = record {
   step = λ s st.
       cancel-done c.args.self.now c.end.new.self c.cancel.new.self s c.args.name.now
-      c.in-Some.number c.in_ok-told-in-Ok.told c.end.new.told st
+      c.in-Some.number c.begin.new.told c.end.new.told st
       (named-as c.args.self.now.names c.in_ok-name.ensures c.in-Some.ensures)
-      (c.in-Ok.ensures.step (around_bus [] s) s.bus st.parts.bus) c.in_ok-told-in-Ok.ensures
+      (c.in-Ok.ensures.step (around_bus [] s) s.bus st.parts.bus) c.in_ok-begin-in-Ok.ensures
       (c.in_ok-end-in-Ok.ensures.step (given_up c.in-Some.number outcome.Cancelled s));
 }
 
-pub returns-in_ok-refused-in-Err : goal.returns-in_ok-refused-in-Err
-returns-in_ok-refused-in-Err c = record {
+pub returns-in_ok-refuse-in-Err : goal.returns-in_ok-refuse-in-Err
+returns-in_ok-refuse-in-Err c = record {
   step = λ s st.
       cancel-ended c.args.self.now c.cancel.new.self s c.args.name.now c.in-Some.number
-      c.in_ok-refused-in-Err.field-0 st
+      c.refuse-in-Err.new.told st
       (named-as c.args.self.now.names c.in_ok-name.ensures c.in-Some.ensures)
-      (c.in-Err.ensures.step (around_bus [] s) s.bus st.parts.bus) c.in_ok-refused-in-Err.ensures;
+      (c.in-Err.ensures.step (around_bus [] s) s.bus st.parts.bus) c.in_ok-refuse-in-Err.ensures;
 }

@@ -6,19 +6,19 @@ use Rattle.gb_system.proofs.parties.Parties.copy_name.Goals as goal
 pub returns-in_default : goal.returns-in_default
 returns-in_default c = record {
   step = λ s st.
-      copy-unnamed c.args.self.now s c.args.from.now c.args.to.now c.in_ok-refused.field-0 st
+      copy-unnamed c.args.self.now s c.args.from.now c.args.to.now c.refuse.new.told st
       (named-as c.args.self.now.names c.in_ok-from.ensures c.in_default.ensures)
-      c.in_ok-refused.ensures;
+      c.in_ok-refuse.ensures;
 }
 
 pub returns-then-is_some : goal.returns-then-is_some
 returns-then-is_some c = record {
   step = λ s st.
       copy-occupied c.args.self.now s c.args.from.now c.args.to.now c.in-Some.number
-      c.in_ok-refused-2.field-0 st
+      c.refuse-then-is_some.new.told st
       (named-as c.args.self.now.names c.in_ok-from.ensures c.in-Some.ensures)
       (cc (c.is_some.ensures, c.get-2.ensures, c.in_ok-to.ensures, c.if-is_some.true))
-      c.in_ok-refused-2.ensures;
+      c.in_ok-refuse-2.ensures;
 }
 
 pub returns : goal.returns
@@ -26,12 +26,12 @@ returns c = record {
   step = λ s st.
       copy-done c.args.self.now c.keep.new.self c.bind.new.self s
       c.args.from.now c.args.to.now
-      c.in-Some.number c.in_ok-begun.field-0 st
+      c.in-Some.number c.begin.new.told st
       (named-as c.args.self.now.names c.in_ok-from.ensures c.in-Some.ensures)
       (cc (c.is_some.ensures, c.get-2.ensures, c.in_ok-to.ensures, c.if-is_some.false))
       (subst (λ to. Binds c.args.self.now.names c.bind.new.self to c.in-Some.number)
       c.in_ok-to.ensures
       (record { bound = c.in_ok-bind.ensures.ok; room = c.in_ok-bind.ensures.room }))
       c.keep.ensures
-      c.in_ok-begun.ensures;
+      c.in_ok-begin.ensures;
 }

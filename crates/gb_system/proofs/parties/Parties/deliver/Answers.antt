@@ -11,16 +11,16 @@ pub returns-in-None : goal.returns-in-None
 returns-in-None c = record {
   step = λ s st.
       let a = subst (λ (o : Option Refusal). ArrivesAs c.arrive.new.self s c.args.at
-      c.in_ok-told.told c.arrive.new.told o) c.in-None.is (c.in_ok-arrive.ensures.step s st) in
-      lands c.arrive.new.self s (event.Deliver c.args.at) c.in_ok-told.told c.arrive.new.told a.0
-      c.in_ok-told.ensures (delivers-does c.args.at a.1);
+      c.begin.new.told c.arrive.new.told o) c.in-None.is (c.in_ok-arrive.ensures.step s st) in
+      lands c.arrive.new.self s (event.Deliver c.args.at) c.begin.new.told c.arrive.new.told a.0
+      c.in_ok-begin.ensures (delivers-does c.args.at a.1);
 }
 
-pub returns-in_ok-refused-in-Some : goal.returns-in_ok-refused-in-Some
-returns-in_ok-refused-in-Some c = record {
+pub returns-in_ok-refuse-in-Some : goal.returns-in_ok-refuse-in-Some
+returns-in_ok-refuse-in-Some c = record {
   step = λ s st.
       let a = subst (λ (o : Option Refusal). ArrivesAs c.arrive.new.self s c.args.at
-      c.in_ok-told.told c.arrive.new.told o) c.in-Some.is (c.in_ok-arrive.ensures.step s st) in
+      c.begin.new.told c.arrive.new.told o) c.in-Some.is (c.in_ok-arrive.ensures.step s st) in
       lands-refused c.arrive.new.self s (event.Deliver c.args.at) c.in-Some.why
-      c.in_ok-refused-in-Some.field-0 a.refused c.in_ok-refused-in-Some.ensures a.stand;
+      c.refuse.new.told a.refused c.in_ok-refuse-in-Some.ensures a.stand;
 }

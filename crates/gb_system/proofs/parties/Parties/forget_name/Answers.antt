@@ -1,5 +1,5 @@
 -- A name is freed, or not, as the machine does.
-use Rattle.std.proofs.Common.{refl, sym, ap, subst, ◌∙◌, Ok}
+use Rattle.std.proofs.Common.{refl, sym, ap, subst, ◌∙◌}
 use Rattle.gb_base.specs.declared.event.Event.TheVariants as event
 use Rattle.gb_machine.specs.Lists.{without}
 use Rattle.gb_machine.specs.Names.{same_name}
@@ -11,11 +11,11 @@ pub returns-in_default : goal.returns-in_default
 returns-in_default c = record {
   step = λ s st.
       subst (λ names. PartsStep (record c.args.self.now { names = names }) s
-      (event.Forget c.args.name.now) (Ok c.in_ok-refused.field-0))
+      (event.Forget c.args.name.now) c.refuse.new.told)
       (sym (c.in_default.ensures.none refl))
-      (forget-unnamed c.args.self.now s c.args.name.now c.in_ok-refused.field-0 st
+      (forget-unnamed c.args.self.now s c.args.name.now c.refuse.new.told st
       (named-as c.args.self.now.names c.in_ok-name.ensures c.in_default.ensures.number)
-      c.in_ok-refused.ensures);
+      c.in_ok-refuse.ensures);
 }
 
 pub returns : goal.returns
@@ -23,10 +23,10 @@ returns c = record {
   step = λ s st.
       forget-done c.args.self.now c.loose.new.self c.free.new.self s
       c.args.name.now c.in-Some.number
-      c.in_ok-begun.field-0 st
+      c.begin.new.told st
       (named-as c.args.self.now.names c.in_ok-name.ensures c.in-Some.ensures.number)
       (c.in-Some.ensures.freed
       ∙ ap (λ n. without (λ p. same_name p.0 n) c.args.self.now.names) c.in_ok-name.ensures)
       c.loose.ensures
-      c.in_ok-begun.ensures;
+      c.in_ok-begin.ensures;
 }

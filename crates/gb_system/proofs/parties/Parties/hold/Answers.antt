@@ -6,14 +6,14 @@ pub returns-in-Err : goal.returns-in-Err
 returns-in-Err c = record {
   step = λ s st.
       hold-refused c.args.self.now s c.args.intf c.args.cport c.in-Err.why
-      c.in_ok-refused-in-Err.field-0 st (c.in-Err.ensures s st.parts)
-      c.in_ok-refused-in-Err.ensures;
+      c.refuse.new.told st (c.in-Err.ensures s st.parts)
+      c.in_ok-refuse-in-Err.ensures;
 }
 
 pub returns : goal.returns
 returns c = record {
   step = λ s st.
       hold-done c.args.self.now c.add.new.self s c.args.intf c.args.cport c.in-Ok.connection
-      c.in_ok-begun.field-0 st (c.in-Ok.ensures s st.parts) c.in_ok-add.ensures
-      c.in_ok-begun.ensures;
+      c.begin.new.told st (c.in-Ok.ensures s st.parts) c.in_ok-add.ensures
+      c.in_ok-begin.ensures;
 }

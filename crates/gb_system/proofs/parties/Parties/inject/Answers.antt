@@ -10,16 +10,16 @@ pub returns-in-Err : goal.returns-in-Err
 returns-in-Err c = record {
   step = λ s st.
       inject-refused c.args.self.now s c.args.intf c.args.cport c.args.bytes.now c.in-Err.why
-      c.in_ok-refused-in-Err.field-0 st (c.in-Err.ensures s st.parts)
-      c.in_ok-refused-in-Err.ensures;
+      c.refuse.new.told st (c.in-Err.ensures s st.parts)
+      c.in_ok-refuse-in-Err.ensures;
 }
 
 pub returns-then-bytes-gt-LONGEST_RAW : goal.returns-then-bytes-gt-LONGEST_RAW
 returns-then-bytes-gt-LONGEST_RAW c = record {
   step = λ s st.
       inject-large c.args.self.now s c.args.intf c.args.cport c.in-Ok.connection
-      c.args.bytes.now c.in_ok-refused.field-0 st (c.in-Ok.ensures s st.parts)
-      c.if-bytes-gt-LONGEST_RAW.true c.in_ok-refused.ensures;
+      c.args.bytes.now c.refuse-then-bytes-gt-LONGEST_RAW.new.told st (c.in-Ok.ensures s st.parts)
+      c.if-bytes-gt-LONGEST_RAW.true c.in_ok-refuse.ensures;
 }
 
 pub returns-in_default : goal.returns-in_default
@@ -33,10 +33,10 @@ pub returns : goal.returns
 returns c = record {
   step = λ s st.
       inject-done c.args.self.now c.inject.new.self s c.args.intf c.args.cport
-      c.in-Ok.connection c.args.bytes.now c.in-Some.ends c.in_ok-told.told c.push.new.self st
+      c.in-Ok.connection c.args.bytes.now c.in-Some.ends c.begin.new.told c.push.new.self st
       (c.in-Ok.ensures s st.parts) c.if-bytes-gt-LONGEST_RAW.false c.in_ok-inject.ensures.step
-      (c.in-Some.ensures (around_bus [] s) s.bus st.parts.bus) c.in_ok-told.ensures
-      (c.in_ok-push.ensures.ok ∙ ap (λ (b : List ℕ). c.in_ok-told.told
+      (c.in-Some.ensures (around_bus [] s) s.bus st.parts.bus) c.in_ok-begin.ensures
+      (c.in_ok-push.ensures.ok ∙ ap (λ (b : List ℕ). c.begin.new.told
       ++ entry.Raw (end.Module c.args.intf c.args.cport) (end.Ap c.in-Some.ends.0)
       (length c.args.bytes.now) b ∷ []) c.in_ok-from_slice.ensures);
 }

@@ -9,16 +9,16 @@ pub returns-in-Some : goal.returns-in-Some
 returns-in-Some c = record {
   step = λ s st.
       lands-refused c.args.self.now s (event.Insert c.args.intf c.args.kind) c.in-Some.why
-      c.in_ok-refused.field-0
+      c.refuse.new.told
       (sym (sym c.in-Some.is ∙ c.insert_refusal.ensures.is s [] st.parts refl))
-      c.in_ok-refused.ensures st.parts;
+      c.in_ok-refuse.ensures st.parts;
 }
 
 pub returns : goal.returns
 returns c = record {
   step = λ s st.
       inserted-kind c.plug.new.self s c.args.intf c.args.kind c.in_ok-module.module
-      c.in_ok-told.told c.plug.new.told st.run c.in_ok-module.ensures
+      c.begin.new.told c.plug.new.told st.run c.in_ok-module.ensures
       (sym c.in_default.is ∙ c.insert_refusal.ensures.is s [] st.parts refl)
-      c.in_ok-told.ensures (c.in_ok-plug.ensures.step s st.parts);
+      c.in_ok-begin.ensures (c.in_ok-plug.ensures.step s st.parts);
 }

@@ -1,35 +1,32 @@
 -- A pull is refused or done as the machine does.
 use Rattle.std.proofs.Common.{[], not, slice_index_or, refl, sym, ap, ◌∙◌, subst}
 use Rattle.std.proofs.lemmas.Grind.{get_or_default_zero}
-use Rattle.gb_base.specs.declared.event.Event.TheVariants as event
 use Rattle.gb_machine.specs.Actions.{each}
 use Rattle.gb_machine.specs.Wires.{unwires}
 use Rattle.gb_system.proofs.Inserts.{plugged-is}
-use Rattle.gb_system.proofs.Landing.{step-as}
 use Rattle.gb_system.proofs.Midways.{drop-next, midway-first}
-use Rattle.gb_system.proofs.Pulls.{Pulling, midway-all, midway-next, pull-nothing, pull-spent}
-use Rattle.gb_system.proofs.Pulls.{pull-told, pull-untold}
+use Rattle.gb_system.proofs.Pulls.{Pulling, midway-all, midway-next, pull-done, pull-nothing}
+use Rattle.gb_system.proofs.Pulls.{pull-spent}
 use Rattle.gb_system.specs.Doing.{Does}
 use Rattle.gb_system.specs.Stands.{around_bus}
-use Rattle.gb_system.proofs.parties.Parties.pull.Goals.{then-self+in_ok-svc_ask, else-self}
 use Rattle.gb_system.proofs.parties.Parties.pull.Goals as goal
 
 pub returns-then-is_none : goal.returns-then-is_none
 returns-then-is_none c = record {
   step = λ s st.
-      pull-nothing c.args.self.now s c.args.intf c.in_ok-refused.field-0 st
+      pull-nothing c.args.self.now s c.args.intf c.refuse.new.told st
       (plugged-is c.args.self.now s c.args.intf c.at.result (not c.is_none.result) st.parts
-      c.at.ensures (sym c.is_none.ensures) ∙ ap not c.if-is_none.true) c.in_ok-refused.ensures;
+      c.at.ensures (sym c.is_none.ensures) ∙ ap not c.if-is_none.true) c.in_ok-refuse.ensures;
 }
 
 pub returns-then-spent : goal.returns-then-spent
 returns-then-spent c = record {
   step = λ s st.
-      pull-spent c.args.self.now s c.args.intf c.in_ok-refused-2.field-0 st
+      pull-spent c.args.self.now s c.args.intf c.refuse-then-spent.new.told st
       (plugged-is c.args.self.now s c.args.intf c.at.result (not c.is_none.result) st.parts
       c.at.ensures (sym c.is_none.ensures) ∙ ap not c.if-is_none.false)
       (sym (c.spent.ensures (around_bus [] s) s.bus st.parts.bus) ∙ c.if-spent.true)
-      c.in_ok-refused-2.ensures;
+      c.in_ok-refuse-2.ensures;
 }
 
 pub loop-connection-init : goal.loop-connection-init
@@ -55,26 +52,19 @@ returns c = record {
       let numbers = c.items-connection-items.result.now in
       let all = c.items-connection-items.ensures
       ∙ c.in_ok-wired_to.ensures (around_bus [] s) s.bus st.parts.bus in
-      let unwired = subst (λ ns. Does x (each ns unwires) s c.in_ok-told.told
+      let unwired = subst (λ ns. Does x (each ns unwires) s c.begin.new.told
       c.loop-connection.told) all (midway-all unwires numbers c.loop-connection.connection-index
       c.loop-connection-test.false (c.loop-connection.invariant s st)) in
-      let p : Pulling x y s c.args.intf c.in_ok-told.told c.loop-connection.told = record {
+      let p : Pulling x y s c.args.intf c.begin.new.told c.loop-connection.told = record {
         there = plugged-is c.args.self.now s c.args.intf c.at.result (not c.is_none.result) st.parts
             c.at.ensures (sym c.is_none.ensures) ∙ ap not c.if-is_none.false;
         spent = sym (c.spent.ensures (around_bus [] s) s.bus st.parts.bus) ∙ c.if-spent.false;
-        begun = c.in_ok-told.ensures;
+        begun = c.in_ok-begin.ensures;
         unwired = unwired;
         modules = c.unplug.ensures;
         ports = c.pull.ensures.step _ unwired.stand.ports;
         rest = refl;
       } in
-      elim c.if-self.branch [
-        | then-self+in_ok-svc_ask w ↦ step-as s (event.Pull c.args.intf) w.self-is w.told-is
-            (pull-told x y w.svc_ask.new.self s c.args.intf c.in_ok-told.told
-            c.loop-connection.told w.svc_ask.new.told p w.if-self.true
-            w.in_ok-svc_ask.ensures.step)
-        | else-self w ↦ step-as s (event.Pull c.args.intf) w.self-is w.told-is
-            (pull-untold x y s c.args.intf c.in_ok-told.told c.loop-connection.told p
-            w.if-self.false)
-      ];
+      pull-done x y c.tell_removed.new.self s c.args.intf c.begin.new.told
+      c.loop-connection.told c.tell_removed.new.told p c.in_ok-tell_removed.ensures.step;
 }

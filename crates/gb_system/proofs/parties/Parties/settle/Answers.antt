@@ -6,8 +6,8 @@ use Rattle.gb_system.specs.Stands.{around_bus}
 use Rattle.gb_system.proofs.parties.Parties.settle.Goals as goal
 
 pub loop-count-init : goal.loop-count-init
-loop-count-init c = λ s st. midway-first c.args.self.now s c.args.most c.in_ok-told.told st
-    c.in_ok-told.ensures
+loop-count-init c = λ s st. midway-first c.args.self.now s c.args.most c.begin.new.told st
+    c.in_ok-begin.ensures
 
 pub returns-in_default : goal.returns-in_default
 returns-in_default c = record {

@@ -16,22 +16,22 @@ pub returns-in-Ok-None : goal.returns-in-Ok-None
 returns-in-Ok-None c = record {
   step = λ s st.
       stir-nowhere c.args.self.now s c.args.intf c.args.cport c.args.what c.stir.new.self
-      c.in_ok-refused-in-Ok-None.field-0 st
+      c.refuse.new.told st
       (subst (λ o. StirsThere c.args.intf c.args.cport (stir_of c.args.what)
       (module_at c.args.intf c.args.self.now.modules) c.args.self.now.modules c.stir.new.self
       (Ok o)) c.in-Ok-None.field-0-is c.in-Ok-None.ensures)
-      c.in_ok-refused-in-Ok-None.ensures;
+      c.in_ok-refuse-in-Ok-None.ensures;
 }
 
 pub returns-in-Err-NoCport : goal.returns-in-Err-NoCport
 returns-in-Err-NoCport c = record {
   step = λ s st.
       stir-unfit c.args.self.now s c.args.intf c.args.cport c.args.what c.stir.new.self
-      c.in_ok-refused-in-Err-NoCport.field-0 st
+      c.refuse-in-Err-NoCport.new.told st
       (subst (λ why. StirsThere c.args.intf c.args.cport (stir_of c.args.what)
       (module_at c.args.intf c.args.self.now.modules) c.args.self.now.modules c.stir.new.self
       (Err why)) c.in-Err-NoCport.field-0-is c.in-Err-NoCport.ensures)
-      c.in_ok-refused-in-Err-NoCport.ensures;
+      c.in_ok-refuse-in-Err-NoCport.ensures;
 }
 
 pub returns : goal.returns
@@ -45,17 +45,17 @@ returns c = record {
             step-as s (event_of_stir c.args.intf c.args.cport c.args.what) w.self-is w.told-is
             (stir-wired c.args.self.now w.far_ask_all.new.self s c.args.intf c.args.cport
             c.args.what c.stir.new.self c.in-Ok-Some.own c.named.result w.in-Some.connection
-            c.in_ok-told.told w.far_ask_all.new.told st stirred c.in_ok-told.ensures
+            c.begin.new.told w.far_ask_all.new.told st stirred c.in_ok-begin.ensures
             (λ t stand. c.named.ensures (around_bus [] t) t.bus stand.bus) w.in-Some.is
             (λ t stand askable.
             subst (λ own. Does w.far_ask_all.new.self (far_asks_all w.in-Some.connection own) t
-            c.in_ok-told.told w.far_ask_all.new.told) w.items.ensures
+            c.begin.new.told w.far_ask_all.new.told) w.items.ensures
             (w.in_ok-far_ask_all.ensures.step t stand
             (subst AreAskable (sym w.items.ensures) askable))))
         | in_default w ↦
             step-as s (event_of_stir c.args.intf c.args.cport c.args.what) w.self-is w.told-is
             (stir-unwired c.args.self.now s c.args.intf c.args.cport c.args.what c.stir.new.self
-            c.in-Ok-Some.own c.named.result c.in_ok-told.told st stirred c.in_ok-told.ensures
+            c.in-Ok-Some.own c.named.result c.begin.new.told st stirred c.in_ok-begin.ensures
             (λ t stand. c.named.ensures (around_bus [] t) t.bus stand.bus)
             w.in_default.not-Some)
       ];

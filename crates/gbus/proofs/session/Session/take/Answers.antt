@@ -8,8 +8,8 @@ use Rattle.gbus.proofs.Turns.{goes_on, passes, short_line}
 use Rattle.gbus.specs.Sessions.{line_says}
 use Rattle.gbus.proofs.session.Session.take.Goals as goal
 
-pub step-requires-clause-valid : goal.step-requires-clause-valid
-step-requires-clause-valid c =
+pub step_into-requires-clause-valid : goal.step_into-requires-clause-valid
+step_into-requires-clause-valid c =
     judged-valid 0 c.args.line.bytes.now c.in-Ok-Some.e
     (c.in-Ok-Some.ensures ∙ ap Ok c.in-Ok-Some.field-0-is)
 
@@ -23,10 +23,10 @@ returns-in-Ok-None-clause-turn c = λ s whole st is.
 pub returns-in_ok-append_all-in-Ok-Some-clause-turn :
     goal.returns-in_ok-append_all-in-Ok-Some-clause-turn
 returns-in_ok-append_all-in-Ok-Some-clause-turn c = λ s whole st is.
-    goes_on c.args.self.now _ (line_says whole) s c.in-Ok-Some.e c.in_ok-entries-in-Ok-Some.entries
+    goes_on c.args.self.now _ (line_says whole) s c.in-Ok-Some.e c.step_into.new.told
     (ap line_says (sym (short_line c.args.line.bytes.now c.args.line.long whole is c.if-line.false))
     ∙ c.in-Ok-Some.ensures ∙ ap Ok c.in-Ok-Some.field-0-is)
-    (c.in_ok-entries-in-Ok-Some.ensures.step s st)
+    (c.in_ok-step_into-in-Ok-Some.ensures.step s st)
     (c.in_ok-append_all-in-Ok-Some.ensures
     ∙ ap (λ t. t ++ entries_text c.args.line.number c.args.self.now.hex c.items.result.now)
     c.clear.ensures.bytes

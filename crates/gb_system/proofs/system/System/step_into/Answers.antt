@@ -1,6 +1,6 @@
 -- A step of the parties is one more event of a run.
 use Rattle.gb_laws.proofs.Reached.{reached-step}
-use Rattle.gb_system.proofs.system.System.step.Goals as goal
+use Rattle.gb_system.proofs.system.System.step_into.Goals as goal
 
 pub returns-in-Ok-clause-step : goal.returns-in-Ok-clause-step
 returns-in-Ok-clause-step c = λ s st.
