@@ -4,7 +4,7 @@ use Rattle.std.proofs.Common.{List, [], ◌∷◌, length, refl, sym, ap, ◌∙
 use Rattle.std.proofs.Common.{Option, Some, None}
 use Rattle.std.specs.Prelude.{MatchBool, Result, Ok, Err, option_map, slice_set}
 use mathlib.Core.Option as core
-use Rattle.atomic_table.specs.Table.{rest, step}
+use Rattle.atomic_table.specs.Table.{step}
 use Rattle.gb_base.specs.declared.event.Event.{Event}
 use Rattle.gb_desk.proofs.Calling.{InHand, entered, legal_from, of_taken, same_else, saw_first}
 use Rattle.gb_desk.proofs.Calling.{told_then, untold}
@@ -32,9 +32,7 @@ use Rattle.gb_desk.specs.declared.ticket.Ticket.{Ticket}
 use Rattle.gb_desk.specs.declared.view.View.{View}
 use Rattle.gb_formats.specs.ValidEvents.{IsValid}
 use Rattle.gb_laws.specs.Tickets.{asked_in, asks}
-use Rattle.gb_machine.specs.Journal.{after}
 use Rattle.gb_machine.specs.Members.{IsIn}
-use Rattle.gb_machine.specs.State as machine
 use Rattle.gb_system.specs.declared.system.System.{System}
 
 -- what a pass in its turn knows, with what it has read
