@@ -55,18 +55,18 @@ pub struct Slot {
     pub number: u64,
     /// The connection on which it was made.
     pub connection: u64,
+    /// When it times out, in milliseconds.
+    pub deadline: u64,
+    /// How many names it has.
+    pub names: u64,
     /// The side that made it.
     pub side: Side,
     /// Its type.
     pub kind: u8,
-    /// When it times out, in milliseconds.
-    pub deadline: u64,
-    /// How it ended, None while it is open.
-    pub outcome: Option<Outcome>,
     /// Its identifier is in use: it is open, or it was given up and its answer hasn't come.
     pub awaited: bool,
-    /// How many names it has.
-    pub names: u64,
+    /// How it ended, None while it is open.
+    pub outcome: Option<Outcome>,
 }
 
 impl Slot {
