@@ -7,6 +7,7 @@ ghost use Rattle.gb_base.specs.declared.event.Event.TheVariants as event;
 ghost use Rattle.gb_formats.specs.I2cDevice.{i2c_address};
 ghost use Rattle.gb_formats.specs.Made.{made_by, made_name};
 
+use arrayvec::ArrayString;
 use gb_base::{BridgeAsk, Bytes, End, Event, I2cOp, I2cOps, Name, OutOfMemory, Word};
 use std::alloc::Global;
 
@@ -44,7 +45,7 @@ pub fn by_row(alloc: Global, k: u32, named: u32, draw: u64) -> Result<Event, Out
 {
     let (row, intf, value) = (row(draw), intf(draw), value(draw));
     if row <= 1 {
-        return activate(alloc, k, intf, value);
+        return Ok(activate(k, intf, value));
     }
     if row == 2 {
         return transfer(alloc, k, intf, value);
@@ -56,8 +57,7 @@ pub fn by_row(alloc: Global, k: u32, named: u32, draw: u64) -> Result<Event, Out
         return Ok(Event::Settle { most: 5 });
     }
     if row == 5 {
-        let name = name(alloc, named)?;
-        return Ok(Event::Cancel { name });
+        return Ok(Event::Cancel { name: name(named) });
     }
     if row == 6 {
         return Ok(Event::Tick { millis: 200 });
@@ -67,22 +67,20 @@ pub fn by_row(alloc: Global, k: u32, named: u32, draw: u64) -> Result<Event, Out
 }
 
 /// `gpio @nk I 1 activate v`.
-fn activate(alloc: Global, k: u32, intf: u8, value: u8) -> Result<Event, OutOfMemory>
+fn activate(k: u32, intf: u8, value: u8) -> Event
     requires { k ≤ 20000 }
-    ensures { IfOk result (λ e. e ≡ event.Bridge (made_name k) intf 1 (ask.Gpio 0x03 value 0)) }
+    ensures { result ≡ event.Bridge (made_name k) intf 1 (ask.Gpio 0x03 value 0) }
 {
-    let name = name(alloc, k)?;
-    let ask = BridgeAsk::Gpio {
-        kind: 0x03,
-        line: value,
-        value: 0,
-    };
-    Ok(Event::Bridge {
-        name,
+    Event::Bridge {
+        name: name(k),
         intf,
         cport: 1,
-        ask,
-    })
+        ask: BridgeAsk::Gpio {
+            kind: 0x03,
+            line: value,
+            value: 0,
+        },
+    }
 }
 
 /// `i2c @nk I 2 transfer w:50:0v r:50:4`.
@@ -91,7 +89,6 @@ fn transfer(alloc: Global, k: u32, intf: u8, value: u8) -> Result<Event, OutOfMe
     ensures { IfOk result (λ e. e ≡ event.Bridge (made_name k) intf 2
         (ask.I2cTransfer (i2c.Put i2c_address (value ∷ []) ∷ i2c.Get i2c_address 4 ∷ []))) }
 {
-    let name = name(alloc, k)?;
     let mut ops = I2cOps::new(alloc);
     ops.push(I2cOp::Put {
         addr: I2C_ADDRESS,
@@ -102,7 +99,7 @@ fn transfer(alloc: Global, k: u32, intf: u8, value: u8) -> Result<Event, OutOfMe
         len: 4,
     })?;
     Ok(Event::Bridge {
-        name,
+        name: name(k),
         intf,
         cport: 2,
         ask: BridgeAsk::I2cTransfer { ops },
@@ -114,10 +111,9 @@ fn send(alloc: Global, k: u32, intf: u8, value: u8) -> Result<Event, OutOfMemory
     requires { k ≤ 20000 }
     ensures { IfOk result (λ e. e ≡ event.Bridge (made_name k) intf 4 (ask.UartSend (value ∷ []))) }
 {
-    let name = name(alloc, k)?;
     let bytes = Bytes::from_slice(alloc, &[value])?;
     Ok(Event::Bridge {
-        name,
+        name: name(k),
         intf,
         cport: 4,
         ask: BridgeAsk::UartSend { bytes },
@@ -125,13 +121,16 @@ fn send(alloc: Global, k: u32, intf: u8, value: u8) -> Result<Event, OutOfMemory
 }
 
 /// `nk`: `n` and the number of a line.
-fn name(alloc: Global, k: u32) -> Result<Name, OutOfMemory>
+fn name(k: u32) -> Name
     requires { k ≤ 20000 }
-    ensures { IfOk result (λ n. n ≡ made_name k) }
+    ensures { result ≡ made_name k }
 {
-    let text = format!(in alloc; "n{k}")?;
-    let Some(word) = Word::from_bytes(text.as_bytes()) else {
+    let mut digits = itoa::Buffer::new();
+    let mut text = ArrayString::<16>::new();
+    text.push('n');
+    text.push_str(digits.format(k));
+    let Some(word) = Word::from_bytes(text.as_str().as_bytes()) else {
         unreachable!()
     };
-    Ok(Name { who: 0, word })
+    Name { who: 0, word }
 }
