@@ -1,0 +1,6 @@
+//! A map from numbers that stand close together.
+#![tactic(auto)]
+
+mod table;
+
+pub use table::Table;
