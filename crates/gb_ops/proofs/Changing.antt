@@ -14,7 +14,8 @@ use Rattle.gb_ops.proofs.Keeping.{begun, late_holder, left, open_holder}
 use Rattle.gb_ops.proofs.Maps.{same_some}
 use Rattle.gb_ops.specs.Calls.{Begins, Closes, Ends, Refuses}
 use Rattle.gb_ops.specs.Finding.{IsLeast}
-use Rattle.gb_ops.specs.Operations.{Operations, Puts, next_label}
+use Rattle.gb_ops.specs.Operations.{Operations, next_label}
+use Rattle.gb_table.specs.Table.{Puts}
 use Rattle.gb_ops.specs.Tables.{AllCovered, Enters, IsUnchanged, Kept, Leaves, LeavesAs, MarksAs}
 use Rattle.gb_ops.specs.Tables.{ReleasesAs, gave_up, holder_in, numbered, pending_in}
 use Rattle.gb_ops.specs.declared.entries.Holder.{Holder}
@@ -25,7 +26,7 @@ use Rattle.gb_ops.specs.declared.tables.Tables.{Tables}
 abbrev pub view : LabelSet → Tables → Operations
 view labels t =
     record {
-      holders = t.holders.entries;
+      holders = t.holders;
       pending = numbered t.pending.entries;
       last = labels.last;
     }
@@ -168,7 +169,7 @@ released t m u n p r l w = record {
   there = l.there;
   pending = puts_from by_number (pending_in t) (numbered m.pending.entries)
       (numbered u.pending.entries) n None (ap (λ b. numbered b.entries) w.pending) l.pending;
-  holder = puts_to nat_eq (holder_in u) t.holders.entries m.holders.entries p.label None
+  holder = puts_to nat_eq (holder_in u) t.holders m.holders p.label None
       l.holders w.holder;
   covered = λ k. covered_same m u w.pending w.soonest (l.covered k);
 }
@@ -272,7 +273,7 @@ answered labels t m u label h r k w shut l =
             (numbered m.pending.entries) h.number None same away.pending;
         holder =
             subst (λ x. Puts (holder_in t) (holder_in u) x None) (sym is.label_is)
-            (puts_from nat_eq (holder_in t) m.holders.entries u.holders.entries label None
+            (puts_from nat_eq (holder_in t) m.holders u.holders label None
             away.holders w.holder);
         covered = λ k. away.covered (covered_same t m w.pending w.soonest k);
       };

@@ -5,7 +5,7 @@ use Rattle.std.proofs.lemmas.Bool.{cases_eq}
 use Rattle.gb_labels.specs.Drawing.{Marks, Takes}
 use Rattle.gb_labels.specs.LabelSet.{LabelSet, is_in_use}
 use Rattle.gb_ops.proofs.Maps.{same_some}
-use Rattle.gb_ops.specs.Operations.{Puts}
+use Rattle.gb_table.specs.Table.{Puts}
 use Rattle.gb_ops.specs.Tables.{AllCovered, Enters, Kept, holder_in, pending_in}
 use Rattle.gb_ops.specs.declared.entries.Holder.{Holder}
 use Rattle.gb_ops.specs.declared.entries.Pending.{Pending}

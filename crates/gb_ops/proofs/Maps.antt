@@ -11,7 +11,7 @@ use Rattle.std.specs.Cmp.{IsTotalOrder}
 use Rattle.std.specs.Map.{lookup}
 use Rattle.std.specs.Ordering.{is_eq, nat_cmp}
 use Rattle.std.specs.declared.cmp.Reverse.{Reverse}
-use Rattle.gb_ops.specs.Operations.{Puts}
+use Rattle.gb_table.specs.Table.{Puts}
 use Rattle.gb_ops.specs.Tables.{falling, numbered}
 use Rattle.gb_ops.specs.declared.entries.Pending.{Pending}
 

@@ -2,7 +2,8 @@
 use Rattle.std.specs.Prelude.{◌≡◌, ◌≤◌, ℕ, Bool, true, false, Option, Some, None, Result, Ok}
 use Rattle.std.specs.Prelude.{Err, []}
 use Rattle.gb_ops.specs.Finding.{IsLeast, IsLeastDue, NoneDue}
-use Rattle.gb_ops.specs.Operations.{Operations, Puts, holder_of, next_label, pending_at}
+use Rattle.gb_ops.specs.Operations.{Operations, holder_of, next_label, pending_at}
+use Rattle.gb_table.specs.Table.{Puts}
 use Rattle.gb_ops.specs.declared.entries.BeginFault.{BeginFault}
 use Rattle.gb_ops.specs.declared.entries.BeginFault.TheVariants as begin
 use Rattle.gb_ops.specs.declared.entries.Matched.{Matched}

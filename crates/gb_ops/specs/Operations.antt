@@ -1,11 +1,12 @@
 -- The requests of one side of a connection whose identifiers are in use.
-use Rattle.std.specs.Prelude.{◌≡◌, ◌≢◌, ℕ, Bool, Option, List, is_some, nat_eq}
+use Rattle.std.specs.Prelude.{ℕ, Bool, Option, List, is_some}
 use Rattle.std.specs.BTreeMap.{is_at}
 use Rattle.std.specs.Map.{lookup}
 use Rattle.std.specs.Ordering.{nat_cmp}
 use Rattle.gb_machine.specs.Labels.{free_label, greatest_label, label_after}
 use Rattle.gb_ops.specs.declared.entries.Holder.{Holder}
 use Rattle.gb_ops.specs.declared.entries.Pending.{Pending}
+use Rattle.gb_table.specs.Table.{item_at}
 
 -- What each identifier is in use for, the open requests, the greatest number first, and the last
 -- identifier that was drawn, 0 before the first.
@@ -16,7 +17,7 @@ pub record Operations : Type 0 where
 
 -- what an identifier is in use for, None where it isn't in use
 abbrev pub holder_of : Operations → ℕ → Option Holder
-holder_of x label = lookup (nat_eq label) x.holders
+holder_of x label = item_at x.holders label
 
 -- an open request by its number, None where it isn't open
 abbrev pub pending_at : Operations → ℕ → Option Pending
@@ -30,8 +31,3 @@ is_held x label = is_some (holder_of x label)
 -- that isn't in use, None where all are.
 abbrev pub next_label : Operations → Option ℕ
 next_label x = free_label (is_held x) greatest_label (label_after x.last)
-
--- a finite map has this at a key, and at each other key what it had
-pub record Puts {X : Type 0} (old new : ℕ → Option X) (key : ℕ) (value : Option X) : Type 0 where
-  pub here : new key ≡ value
-  pub others : (other : ℕ) → other ≢ key → new other ≡ old other

@@ -2,20 +2,19 @@
 use Rattle.std.specs.Prelude.{◌≡◌, ◌≤◌, ℕ, true, false, Option, Some, None, is_some}
 use Rattle.std.specs.Prelude.{nat_eq, option_map, IsNone, List, [], ◌∷◌, ◌++◌}
 use Rattle.std.specs.BTreeMap.{is_at}
-use Rattle.std.specs.HashMap as hash
 use Rattle.std.specs.Map.{lookup}
 use Rattle.std.specs.Ordering.{nat_cmp}
 use Rattle.std.specs.declared.cmp.Ordering.{Ordering}
 use Rattle.std.specs.declared.cmp.Reverse.{Reverse}
 use Rattle.gb_labels.specs.LabelSet.{LabelSet, is_in_use}
-use Rattle.gb_ops.specs.Operations.{Puts}
 use Rattle.gb_ops.specs.declared.entries.Holder.{Holder}
 use Rattle.gb_ops.specs.declared.entries.Pending.{Pending}
 use Rattle.gb_ops.specs.declared.tables.Tables.{Tables}
+use Rattle.gb_table.specs.Table.{Puts, item_at}
 
 -- what an identifier is in use for
 abbrev pub holder_in : Tables → ℕ → Option Holder
-holder_in t label = hash.get nat_eq t.holders label
+holder_in t label = item_at t.holders label
 
 -- the order of the open requests: the greatest number first
 abbrev pub falling : Reverse ℕ → Reverse ℕ → Ordering
@@ -37,7 +36,7 @@ pending_in t n = lookup (is_at (nat_cmp n)) (numbered t.pending.entries)
 
 -- nothing is kept
 pub record IsEmpty (t : Tables) : Type 0 where
-  pub holders : t.holders.entries ≡ []
+  pub holders : t.holders ≡ []
   pub pending : t.pending.entries ≡ []
 
 -- no deadline of an open request is before the soonest that is kept
@@ -60,7 +59,7 @@ pub record Enters (old new : Tables) (label n deadline : ℕ) : Type 0 where
 
 -- all is as it was
 pub record IsUnchanged (old new : Tables) : Type 0 where
-  pub holders : new.holders.entries ≡ old.holders.entries
+  pub holders : new.holders ≡ old.holders
   pub pending : new.pending.entries ≡ old.pending.entries
   pub soonest : new.soonest ≡ old.soonest
 
@@ -68,20 +67,20 @@ pub record IsUnchanged (old new : Tables) : Type 0 where
 pub record Leaves (old new : Tables) (n : ℕ) (p : Pending) : Type 0 where
   pub there : pending_in old n ≡ Some p
   pub pending : Puts (pending_in old) (pending_in new) n None
-  pub holders : new.holders.entries ≡ old.holders.entries
+  pub holders : new.holders ≡ old.holders
   pub covered : AllCovered old → AllCovered new
 
 -- or it wasn't open
 abbrev pub LeavesAs : Tables → Tables → ℕ → Option Pending → Type 0
 LeavesAs old new n (Some p) = Leaves old new n p
 LeavesAs old new n None = (pending_in old n ≡ None) × (new.pending.entries ≡ old.pending.entries)
-    × (new.holders.entries ≡ old.holders.entries) × (new.soonest ≡ old.soonest)
+    × (new.holders ≡ old.holders) × (new.soonest ≡ old.soonest)
 
 -- nothing has an identifier any more
 pub record ReleasesAs (old new : Tables) (label : ℕ) (result : Option Holder) : Type 0 where
   pub there : result ≡ holder_in old label
   pub holder : Puts (holder_in old) (holder_in new) label None
-  pub same : IsNone result → new.holders.entries ≡ old.holders.entries
+  pub same : IsNone result → new.holders ≡ old.holders
   pub pending : new.pending ≡ old.pending
   pub soonest : new.soonest ≡ old.soonest
 

@@ -36,7 +36,7 @@ impl Model for Ops {
     ghost Value = { Operations };
 
     ghost view = { λ o. record {
-      holders = o.tables.holders.entries;
+      holders = o.tables.holders;
       pending = numbered o.tables.pending.entries;
       last = o.labels.last;
     } };

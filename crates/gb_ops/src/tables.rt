@@ -2,8 +2,9 @@
 
 ghost use Rattle.std.specs.Prelude.{◌≡◌, ◌≤◌, ℕ, None, [], IfOk, OnErr, OnOk, nat_eq, true, false};
 ghost use Rattle.std.specs.BTreeMap.{IsOrdered};
-ghost use Rattle.std.specs.HashMap.{IsUnique};
+ghost use Rattle.std.specs.List.{IsDistinct};
 ghost use Rattle.std.specs.List.Sorted.{IsStrictlySortedBy};
+ghost use Rattle.std.specs.Map.{keys_of};
 ghost use Rattle.std.specs.Ordering.{nat_cmp};
 ghost use Rattle.gb_ops.specs.Finding.{FindsDue, FindsLeast, due_in};
 ghost use Rattle.gb_ops.specs.Listed.{late_among};
@@ -25,15 +26,16 @@ ghost use Rattle.gb_ops.specs.Tables.{
 
 use crate::{Holder, Pending};
 use gb_base::{Numbers, OutOfMemory};
+use gb_table::Table;
 use std::alloc::Global;
 use std::cmp::Reverse;
-use std::collections::{BTreeMap, BTreeSet, HashMap};
+use std::collections::{BTreeMap, BTreeSet};
 
 /// The requests of one side of a connection, in maps.
 #[derive(Drop)]
 pub struct Tables {
     /// By identifier, those that are open and those that were given up.
-    pub holders: HashMap<u16, Holder>,
+    pub holders: Table<Holder>,
     /// By number, those that are open, the greatest number first: a new one stands at the front.
     pub pending: BTreeMap<Reverse<u64>, Pending>,
     /// No deadline of those that are open is before it, in milliseconds.
@@ -46,7 +48,7 @@ impl Tables {
         ensures { IsEmpty result }
     {
         Tables {
-            holders: HashMap::new(alloc),
+            holders: Table::new(alloc),
             pending: BTreeMap::new(alloc),
             soonest: u64::MAX,
         }
@@ -64,7 +66,7 @@ impl Tables {
             number: n,
             given_up: false,
         };
-        if self.holders.insert(label, holder).is_err() {
+        if self.holders.put(u64::from(label), holder).is_err() {
             self.pending.remove(&Reverse(n));
             return Err(OutOfMemory);
         }
@@ -87,7 +89,7 @@ impl Tables {
     pub fn release(&mut self, label: u16) -> Option<Holder>
         ensures { ReleasesAs self.old self.new label result }
     {
-        self.holders.remove(&label)
+        self.holders.take(u64::from(label))
     }
 
     /// Nothing is kept any more.
@@ -114,15 +116,20 @@ impl Tables {
     pub fn holder(&self, label: u16) -> Option<Holder>
         ensures { result ≡ holder_in self.now label }
     {
-        self.holders.get(&label).copied()
+        self.holders.get(u64::from(label))
     }
 
     /// The request that has an identifier was given up.
     pub fn mark(&mut self, label: u16)
         ensures { MarksAs self.old self.new label }
     {
-        if let Some(holder) = self.holders.get_mut(&label) {
-            holder.given_up = true;
+        let label = u64::from(label);
+        if let Some(holder) = self.holders.get(label) {
+            let given_up = Holder {
+                number: holder.number,
+                given_up: true,
+            };
+            self.holders.set(label, given_up);
         }
     }
 
@@ -148,9 +155,9 @@ impl Tables {
 
     /// The numbers of the requests that were given up and have an identifier, in order.
     pub fn late(&self, alloc: Global) -> Result<Numbers, OutOfMemory>
-        ensures numbers { IfOk result (λ ns. ns ≡ late_among [] self.now.holders.entries) }
+        ensures numbers { IfOk result (λ ns. ns ≡ late_among [] self.now.holders) }
         ensures sorted { IfOk result (λ ns. IsStrictlySortedBy nat_cmp ns) }
-        ensures unique { IsUnique nat_eq self.now.holders }
+        ensures unique { IfOk result (λ found. IsDistinct nat_eq (keys_of self.now.holders)) }
     {
         let found = self.given_up(alloc)?;
         let numbers = listed(alloc, &found)?;
@@ -160,11 +167,12 @@ impl Tables {
     /// The numbers of the requests that were given up and have an identifier.
     fn given_up(&self, alloc: Global) -> Result<BTreeSet<u64>, OutOfMemory>
         ensures found { IfOk result
-            (λ found. found.keys ≡ late_among [] self.now.holders.entries) }
-        ensures unique { IsUnique nat_eq self.now.holders }
+            (λ found. found.keys ≡ late_among [] self.now.holders) }
+        ensures unique { IfOk result (λ found. IsDistinct nat_eq (keys_of self.now.holders)) }
     {
         let mut found = BTreeSet::new(alloc);
-        for (_, holder) in &self.holders {
+        let holders = self.holders.entries(alloc)?;
+        for (_, holder) in holders.items() {
             if holder.given_up {
                 found.insert(holder.number)?;
             }

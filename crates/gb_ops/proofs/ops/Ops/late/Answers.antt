@@ -5,6 +5,6 @@ use Rattle.gb_ops.proofs.ops.Ops.late.Goals as goal
 
 pub returns : goal.returns
 returns c =
-    late-are c.args.self.now c.self.inside.tables.holders.entries c.in_ok-numbers.numbers
+    late-are c.args.self.now c.self.inside.tables.holders c.in_ok-numbers.numbers
     (ap (λ x. x.holders) c.self.view_is) c.in_ok-numbers.ensures.numbers
     c.in_ok-numbers.ensures.sorted c.in_ok-numbers.ensures.unique
