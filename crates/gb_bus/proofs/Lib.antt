@@ -17,6 +17,7 @@ pub mod Keeping
 pub mod KeepingLive
 pub mod KeepingWires
 pub mod Listed
+pub mod LivePlaces
 pub mod Looks
 pub mod Loosening
 pub mod Mapped

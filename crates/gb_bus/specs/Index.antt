@@ -1,6 +1,6 @@
 -- How live connections are kept: by number, the numbers by end, and what waits by end.
 use Rattle.std.specs.Prelude.{◌≡◌, ◌⊎◌, ℕ, true, false, Option, Some, None, IsSome, List}
-use Rattle.std.specs.Prelude.{if◌then◌else◌, nat_eq, option_and_then}
+use Rattle.std.specs.Prelude.{if◌then◌else◌, nat_eq, option_and_then, slice_get}
 use Rattle.std.specs.HashMap as map
 use Rattle.std.specs.HashMap.{HashMap}
 use Rattle.std.specs.Map.{set_value}
@@ -69,6 +69,17 @@ pub record Kept (live : Live) (ends : Ends)
   pub owned : (at : End) (items : List Item) → items_at queues at ≡ Some items → IsOwned live at
   pub queued : (k : ℕ) (x : code.Connection) → get nat_eq live k ≡ Some x → x.wired ≡ true
       → HasQueues queues x
+
+-- the connection with a number stands at a place
+pub record StandsAt (live : Live) (k at : ℕ) : Type 0 where
+  pub connection : code.Connection
+  pub there : slice_get live.entries at ≡ Some (k, connection)
+  pub is : get nat_eq live k ≡ Some connection
+
+-- The place where it stands is found, or it isn't live.
+abbrev pub IsPlaced : Live → ℕ → Option ℕ → Type 0
+IsPlaced live k (Some at) = StandsAt live k at
+IsPlaced live k None = get nat_eq live k ≡ None
 
 -- the connection with a number was this, and changes so
 pub record ChangesOf (old new : Live) (k : ℕ)

@@ -125,7 +125,7 @@ impl Connections {
     pub fn wired(&self, k: u64) -> Option<bool>
         ensures { result ≡ option_map (λ c. c.wired) (find (numbered k) self.now) }
     {
-        Some(self.live.get(&k)?.wired)
+        Some(live::get(&self.live, k)?.wired)
     }
 
     /// The ends of the live connection with a number.
@@ -133,7 +133,7 @@ impl Connections {
     pub fn ends(&self, k: u64) -> Option<(u16, End)>
         ensures { result ≡ option_map ends_in (find (numbered k) self.now) }
     {
-        let connection = self.live.get(&k)?;
+        let connection = live::get(&self.live, k)?;
         Some((connection.ap, connection.peer))
     }
 
@@ -142,7 +142,7 @@ impl Connections {
         ensures { option_copied result
             ≡ option_map (ops_of side) (find (numbered k) self.now) }
     {
-        let connection = self.live.get(&k)?;
+        let connection = live::get(&self.live, k)?;
         Some(connection.ops(side))
     }
 
@@ -151,7 +151,7 @@ impl Connections {
     pub fn is_spent(&self, k: u64, side: Side) -> bool
         ensures { result ≡ is_none (next_in k side self.now) }
     {
-        match self.live.get(&k) {
+        match live::get(&self.live, k) {
             Some(connection) => connection.is_spent(side),
             None => true,
         }
@@ -162,7 +162,7 @@ impl Connections {
         ensures { result
             ≡ option_map (λ c. length (queue_of side c)) (find (numbered k) self.now) }
     {
-        let connection = self.live.get(&k)?;
+        let connection = live::get(&self.live, k)?;
         Some(count(&self.queues, connection, side))
     }
 
@@ -171,7 +171,7 @@ impl Connections {
         ensures { result ≡ option_map (λ c. c.number) (find (joins ap peer) self.now) }
     {
         let number = *self.ends.get(&Place::of(End::Ap(ap)))?;
-        let connection = self.live.get(&number)?;
+        let connection = live::get(&self.live, number)?;
         if connection.joins(ap, peer) {
             Some(number)
         } else {
@@ -211,7 +211,7 @@ impl Connections {
         ensures { result ≡ place_at at self.now }
     {
         let number = *self.ends.get(&Place::of(at))?;
-        let side = self.live.get(&number)?.side_at(at)?;
+        let side = live::get(&self.live, number)?.side_at(at)?;
         Some((number, side))
     }
 
@@ -246,7 +246,7 @@ impl Connections {
     pub fn wire(&mut self, k: u64) -> Result<(), OutOfMemory>
         ensures { OnOk result (self.new ≡ at_first (numbered k) with_wire self.old) }
     {
-        let Some(connection) = self.live.get(&k) else {
+        let Some(connection) = live::get(&self.live, k) else {
             return Ok(());
         };
         if connection.wired {
@@ -262,7 +262,7 @@ impl Connections {
     pub fn unwire(&mut self, k: u64)
         ensures { self.new ≡ at_first (numbered k) cleared self.old }
     {
-        let Some(connection) = self.live.get(&k) else {
+        let Some(connection) = live::get(&self.live, k) else {
             return;
         };
         self.queues.destroy(End::Ap(connection.ap), connection.peer);

@@ -1,8 +1,8 @@
 //! What changes of one live connection, by its number.
 
-ghost use Rattle.std.specs.Prelude.{◌≡◌, None, false, Err, OnOk, OnErr, nat_eq};
+ghost use Rattle.std.specs.Prelude.{◌≡◌, None, false, true, Err, OnOk, OnErr, nat_eq, option_copied};
 ghost use Rattle.indexmap.specs.IndexMap.{get};
-ghost use Rattle.gb_bus.specs.Index.{ChangesBy, IsAdded, Leaves, end_toward};
+ghost use Rattle.gb_bus.specs.Index.{ChangesBy, IsAdded, IsPlaced, Leaves, StandsAt, end_toward};
 ghost use Rattle.gb_bus.specs.Parts.{cleared, closed, soiled, with_wire};
 ghost use Rattle.gb_bus.specs.Sides.{AsksOn, GivesUpOn, HasEndsOf, MatchesOn, RespondsOn};
 ghost use Rattle.gb_bus.specs.declared.answers.SendFault.TheVariants as fault;
@@ -32,12 +32,46 @@ pub fn add(
     Ok(())
 }
 
+/// The place of the connection with a number, None where it isn't live.
+#[inline]
+fn place(live: &IndexMap<u64, Connection>, k: u64) -> Option<usize>
+    ensures { IsPlaced live.now k result }
+{
+    let counted = k.wrapping_sub(1) as usize;
+    if stands_at(live, k, counted) {
+        return Some(counted);
+    }
+    let (at, _, _) = live.get_full(&k)?;
+    Some(at)
+}
+
+/// The connection with a number stands at a place: at its number, counted from 1, where none that
+/// was made before it is gone.
+#[inline]
+fn stands_at(live: &IndexMap<u64, Connection>, k: u64, at: usize) -> bool
+    ensures { result ≡ true → StandsAt live.now k at }
+{
+    match live.get_index(at) {
+        Some((number, _)) => *number == k,
+        None => false,
+    }
+}
+
+/// The connection with a number, None where it isn't live.
+#[inline]
+pub fn get(live: &IndexMap<u64, Connection>, k: u64) -> Option<&Connection>
+    ensures { option_copied result ≡ get nat_eq live.now k }
+{
+    let (_, connection) = live.get_index(place(live, k)?)?;
+    Some(connection)
+}
+
 /// The end at a side of a connection that is wired, None where it isn't live and wired.
 #[inline]
 pub fn toward(live: &IndexMap<u64, Connection>, k: u64, side: Side) -> Option<End>
     ensures { result ≡ end_toward live.now k side }
 {
-    live.get(&k)?.toward(side)
+    get(live, k)?.toward(side)
 }
 
 /// A connection is wired.
@@ -96,7 +130,10 @@ pub fn ask(
     ensures nowhere { get nat_eq live.old k ≡ None → Leaves live.old live.new }
     ensures none { get nat_eq live.old k ≡ None → result ≡ Err fault.NoLabel }
 {
-    match live.get_mut(&k) {
+    let Some(at) = place(live, k) else {
+        return Err(SendFault::NoLabel);
+    };
+    match live.get_index_mut(at) {
         Some(connection) => connection.ask(side, n, deadline, oneway),
         None => Err(SendFault::NoLabel),
     }
@@ -116,7 +153,10 @@ pub fn matched(
     ensures nowhere { get nat_eq live.old k ≡ None → Leaves live.old live.new }
     ensures none { get nat_eq live.old k ≡ None → result ≡ matching.Unknown }
 {
-    match live.get_mut(&k) {
+    let Some(at) = place(live, k) else {
+        return Matched::Unknown;
+    };
+    match live.get_index_mut(at) {
         Some(connection) => connection.matched(side, number, label),
         None => Matched::Unknown,
     }
@@ -136,7 +176,10 @@ pub fn responded(
     ensures nowhere { get nat_eq live.old k ≡ None → Leaves live.old live.new }
     ensures none { get nat_eq live.old k ≡ None → result ≡ (false, matching.Unknown) }
 {
-    match live.get_mut(&k) {
+    let Some(at) = place(live, k) else {
+        return (false, Matched::Unknown);
+    };
+    match live.get_index_mut(at) {
         Some(connection) => connection.responded(side, number, label),
         None => (false, Matched::Unknown),
     }
@@ -147,7 +190,10 @@ pub fn give_up(live: &mut IndexMap<u64, Connection>, k: u64, side: Side, n: u64)
     ensures there { ChangesBy live.old live.new k (λ x y. GivesUpOn x y side n) }
     ensures nowhere { get nat_eq live.old k ≡ None → Leaves live.old live.new }
 {
-    if let Some(connection) = live.get_mut(&k) {
+    let Some(at) = place(live, k) else {
+        return;
+    };
+    if let Some(connection) = live.get_index_mut(at) {
         connection.give_up(side, n);
     }
 }

@@ -10,10 +10,10 @@ returns-in-Some c =
     ∙ ap is_none (next-seen c.self.inside.queues c.args.k c.in-Some.connection.now c.args.side)
     ∙ sym (ap (λ o. is_none (option_and_then (next_of c.args.side) o))
     (finds c.self.inside.live c.self.inside.queues c.args.self.now c.args.k
-    (Some c.in-Some.connection.now) c.self.view_is (sym c.in-Some.ensures.value)))
+    (Some c.in-Some.connection.now) c.self.view_is (sym c.in-Some.ensures)))
 
 pub returns-in-None : goal.returns-in-None
 returns-in-None c =
     sym (ap (λ o. is_none (option_and_then (next_of c.args.side) o))
     (finds c.self.inside.live c.self.inside.queues c.args.self.now c.args.k None c.self.view_is
-    (sym c.in-None.ensures.value)))
+    (sym c.in-None.ensures)))

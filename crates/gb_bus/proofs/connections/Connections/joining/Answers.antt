@@ -25,7 +25,7 @@ returns-in_err-connection c =
     ∙ joins-dead c.self.inside.live c.self.inside.ends c.self.inside.queues c.args.ap
     c.args.peer c.in_ok-number.field-0.now c.self.invariant
     (ap (number_at c.self.inside.ends) (sym c.of.ensures) ∙ sym c.in_ok-number.ensures.value)
-    (sym c.in_err-connection.ensures.value)))
+    (sym c.in_err-connection.ensures)))
 
 pub returns-then-joins : goal.returns-then-joins
 returns-then-joins c =
@@ -34,7 +34,7 @@ returns-then-joins c =
     ∙ joins-there c.self.inside.live c.self.inside.ends c.self.inside.queues c.args.ap
     c.args.peer c.in_ok-number.field-0.now c.in_ok-connection.connection.now c.self.invariant
     (ap (number_at c.self.inside.ends) (sym c.of.ensures) ∙ sym c.in_ok-number.ensures.value)
-    (sym c.in_ok-connection.ensures.value)
+    (sym c.in_ok-connection.ensures)
     ∙ ap (λ b. cond b (Some (seen c.self.inside.queues c.in_ok-number.field-0.now
     c.in_ok-connection.connection.now)) None) (sym c.joins.ensures ∙ c.if-joins.true)))
 
@@ -45,6 +45,6 @@ returns-else-joins c =
     ∙ joins-there c.self.inside.live c.self.inside.ends c.self.inside.queues c.args.ap
     c.args.peer c.in_ok-number.field-0.now c.in_ok-connection.connection.now c.self.invariant
     (ap (number_at c.self.inside.ends) (sym c.of.ensures) ∙ sym c.in_ok-number.ensures.value)
-    (sym c.in_ok-connection.ensures.value)
+    (sym c.in_ok-connection.ensures)
     ∙ ap (λ b. cond b (Some (seen c.self.inside.queues c.in_ok-number.field-0.now
     c.in_ok-connection.connection.now)) None) (sym c.joins.ensures ∙ c.if-joins.false)))

@@ -9,7 +9,7 @@ returns-in_err-connection c =
     ap option_copied c.from_residual.ensures
     ∙ sym (ap (option_map (ops_of c.args.side))
     (finds c.self.inside.live c.self.inside.queues c.args.self.now c.args.k None c.self.view_is
-    (sym c.in_err-connection.ensures.value)))
+    (sym c.in_err-connection.ensures)))
 
 pub returns : goal.returns
 returns c =
@@ -18,4 +18,4 @@ returns c =
     ∙ sym (ap (option_map (ops_of c.args.side))
     (finds c.self.inside.live c.self.inside.queues c.args.self.now c.args.k
     (Some c.in_ok-connection.connection.now) c.self.view_is
-    (sym c.in_ok-connection.ensures.value)))
+    (sym c.in_ok-connection.ensures)))

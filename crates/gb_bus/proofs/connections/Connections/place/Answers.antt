@@ -19,7 +19,7 @@ returns-in_err-get c =
     ∙ sym (places-dead c.self.inside.live c.self.inside.ends c.self.inside.queues c.args.at
     c.in_ok-number.field-0.now c.self.invariant
     (ap (number_at c.self.inside.ends) (sym c.of.ensures) ∙ sym c.in_ok-number.ensures.value)
-    (sym c.in_err-get.ensures.value))
+    (sym c.in_err-get.ensures))
     ∙ ap (place_at c.args.at) c.self.view_is
 
 pub returns-in_err-side : goal.returns-in_err-side
@@ -30,7 +30,7 @@ returns-in_err-side c =
     ∙ sym (places c.self.inside.live c.self.inside.ends c.self.inside.queues c.args.at
     c.in_ok-number.field-0.now c.in_ok-get.field-0.now c.self.invariant
     (ap (number_at c.self.inside.ends) (sym c.of.ensures) ∙ sym c.in_ok-number.ensures.value)
-    (sym c.in_ok-get.ensures.value))
+    (sym c.in_ok-get.ensures))
     ∙ ap (place_at c.args.at) c.self.view_is
 
 pub returns : goal.returns
@@ -40,5 +40,5 @@ returns c =
     ∙ sym (places c.self.inside.live c.self.inside.ends c.self.inside.queues c.args.at
     c.in_ok-number.field-0.now c.in_ok-get.field-0.now c.self.invariant
     (ap (number_at c.self.inside.ends) (sym c.of.ensures) ∙ sym c.in_ok-number.ensures.value)
-    (sym c.in_ok-get.ensures.value))
+    (sym c.in_ok-get.ensures))
     ∙ ap (place_at c.args.at) c.self.view_is

@@ -9,12 +9,12 @@ use Rattle.gb_bus.proofs.connections.Connections.wire.Goals as goal
 pub returns-in_default : goal.returns-in_default
 returns-in_default c =
     nothing-changes c.self.inside.live c.self.inside.queues c.args.self.now c.args.k with_wire
-    c.self.view_is (sym c.in_default.ensures.value)
+    c.self.view_is (sym c.in_default.ensures)
 
 pub returns-then-connection : goal.returns-then-connection
 returns-then-connection c =
     wired-still c.self.inside.live c.self.inside.ends c.self.inside.queues c.args.self.now c.args.k
-    c.in-Some.connection.now c.self.invariant c.self.view_is (sym c.in-Some.ensures.value)
+    c.in-Some.connection.now c.self.invariant c.self.view_is (sym c.in-Some.ensures)
     c.if-connection.true
 
 pub invariant_of-self : goal.invariant_of-self
@@ -26,11 +26,11 @@ pub invariant_of-self-2 : goal.invariant_of-self-2
 invariant_of-self-2 c =
     kept-wires c.self.inside.live c.wire.new.live c.self.inside.ends c.self.inside.queues
     c.create.new.self c.args.k c.in-Some.connection.now c.self.invariant
-    (sym c.in-Some.ensures.value) c.in_ok-create.ensures.created c.wire.ensures.there
+    (sym c.in-Some.ensures) c.in_ok-create.ensures.created c.wire.ensures.there
 
 pub returns : goal.returns
 returns c =
     wires c.self.inside.live c.wire.new.live c.self.inside.ends c.self.inside.queues
     c.create.new.self c.args.self.now c.args.k c.in-Some.connection.now c.self.invariant
-    c.self.view_is (sym c.in-Some.ensures.value) c.if-connection.false
+    c.self.view_is (sym c.in-Some.ensures) c.if-connection.false
     c.in_ok-create.ensures.created c.wire.ensures.there

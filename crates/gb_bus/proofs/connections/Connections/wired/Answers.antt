@@ -9,10 +9,10 @@ returns-in_err-get c =
     c.from_residual.ensures
     ∙ sym (ap (option_map (λ (x : Connection). x.wired))
     (finds c.self.inside.live c.self.inside.queues c.args.self.now c.args.k None c.self.view_is
-    (sym c.in_err-get.ensures.value)))
+    (sym c.in_err-get.ensures)))
 
 pub returns : goal.returns
 returns c =
     sym (ap (option_map (λ (x : Connection). x.wired))
     (finds c.self.inside.live c.self.inside.queues c.args.self.now c.args.k
-    (Some c.in_ok-get.field-0.now) c.self.view_is (sym c.in_ok-get.ensures.value)))
+    (Some c.in_ok-get.field-0.now) c.self.view_is (sym c.in_ok-get.ensures)))
