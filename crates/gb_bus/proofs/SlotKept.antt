@@ -4,13 +4,12 @@ use Rattle.std.proofs.Common.{Option, Some, None, eqb, length}
 use Rattle.std.proofs.Common.{nat_lt, refl, sym, ap, subst, ◌∙◌, arith}
 use Rattle.std.proofs.lemmas.Bool.{both_ways, or_parts}
 use Rattle.std.specs.Option.{is_none, option_and_then}
-use Rattle.std.specs.HashMap as map
 use Rattle.slab.specs.Slab as slab
 use Rattle.slab.specs.Slab.{Slab, Updates, with_value}
 use Rattle.slab.proofs.SlabLemmas.{Updates-with_value}
 use Rattle.gb_base.specs.declared.outcome.Outcome.{Outcome}
 use Rattle.gb_base.specs.declared.outcome.Outcome.TheVariants as outcome
-use Rattle.gb_bus.proofs.SlotMaps.{AllPlaced, FindsAt, Retimed, Updated}
+use Rattle.gb_bus.proofs.SlotMaps.{AllPlaced, FindsAt, Retimed}
 use Rattle.gb_bus.proofs.SlotMaps.{changed, changed-placed, each-number, finds-here, finds-other}
 use Rattle.gb_bus.proofs.SlotMaps.{found, found-at, gone, gone-placed, none-some, other-number}
 use Rattle.gb_bus.proofs.SlotMaps.{same-number, same_some, time-here, time-others}
@@ -20,6 +19,7 @@ use Rattle.gb_bus.specs.Keeping.{waits_until}
 use Rattle.gb_bus.specs.Slots.{ChangesAt, Kept, MovesAt, is_asked_for, is_open_slot}
 use Rattle.gb_bus.specs.declared.slots.Slot.{Slot}
 use Rattle.gb_bus.specs.declared.tally.Tally.{Tally}
+use Rattle.gb_table.specs.Table.{Puts, item_at}
 
 -- the deadlines of one number are those of this slot, and of the others those that were
 abbrev pub TimesAt : ℕ → Option Slot → Deadlines → Deadlines → Type 0
@@ -74,7 +74,7 @@ kept-from s s2 p p2 d d2 t t2 n o k a f times fit more counted waiting = record 
 
 -- a number has this place, and this slot stands there
 pub record IsThere (s : Slab Slot) (p : Places) (n key : ℕ) (slot : Slot) : Type 0 where
-  pub place : map.get eqb p n ≡ Some key
+  pub place : item_at p n ≡ Some key
   pub stands : slab.get s key ≡ Some slot
 
 pub is-found : (s : Slab Slot) (p : Places) (n key : ℕ) (slot : Slot) → IsThere s p n key slot
@@ -256,8 +256,8 @@ module _ (s : Slab Slot) (p : Places) (d : Deadlines) (t : Tally) (n key : ℕ)
 -- ---- a slot is let go of
 
 module _ (s s2 : Slab Slot) (p p2 : Places) (d : Deadlines) (t : Tally)
-    (n key : ℕ) (k : IsKept s p d t) (place : map.get eqb p n ≡ Some key)
-    (u : Updates s s2 key None) (w : Updated p p2 n None) where
+    (n key : ℕ) (k : IsKept s p d t) (place : item_at p n ≡ Some key)
+    (u : Updates s s2 key None) (w : Puts (item_at p) (item_at p2) n None) where
   pub gone-kept : is_open_slot (found s p n) ≡ false → IsKept s2 p2 d t
   gone-kept over =
       kept-from s s2 p p2 d d t t n None k

@@ -9,7 +9,7 @@ use Rattle.std.specs.BTreeSet.{insert_key}
 use Rattle.std.specs.Cmp.{nat_eq_equiv}
 use Rattle.std.specs.List.{IsDistinct}
 use Rattle.std.specs.List.Sorted.{IsStrictlySortedBy}
-use Rattle.std.specs.Map.{keys_of, lookup}
+use Rattle.std.specs.Map.{keys_of}
 use Rattle.std.specs.Ordering.{nat_cmp}
 use Rattle.gb_bus.proofs.SlotDues.{stands-put}
 use Rattle.gb_bus.proofs.SlotMaps.{other-number, same-number}
@@ -18,9 +18,7 @@ use Rattle.gb_bus.specs.Listing.{AreThose, stands_in}
 use Rattle.gb_bus.specs.Slots.{Kept, slot_at, under}
 use Rattle.gb_bus.specs.declared.slots.Slot.{Slot}
 use Rattle.gb_ops.proofs.Listing.{rising}
-
-abbrev at : List (ℕ × ℕ) → ℕ → Option ℕ
-at es n = lookup (eqb n) es
+use Rattle.gb_table.specs.Table.{item_at}
 
 -- what is found passes a test
 abbrev passes : (ℕ → Bool) → Option ℕ → Bool
@@ -29,14 +27,14 @@ passes test (Some key) = test key
 
 -- past the entry of a number there is no other of it
 none-past : (n : ℕ) (e : ℕ × ℕ) (es : List (ℕ × ℕ)) → IsDistinct eqb (keys_of (e ∷ es))
-    → n ≡ e.0 → at es n ≡ None
+    → n ≡ e.0 → item_at es n ≡ None
 none-past n e es d is =
     lookup-none (eqb n) es (none_past_head nat_eq_equiv n e es d (same-number n e.0 is))
 
 -- those that are listed are those that were there and those whose keys pass
 stands-where : (test : ℕ → Bool) (n : ℕ) (ns : List ℕ) (es : List (ℕ × ℕ))
     → IsDistinct eqb (keys_of es)
-    → stands_in n (numbers_where test ns es) ≡ (stands_in n ns || passes test (at es n))
+    → stands_in n (numbers_where test ns es) ≡ (stands_in n ns || passes test (item_at es n))
 stands-where test n ns [] d = last (stands_in n ns)
   where
     last : (a : Bool) → a ≡ (a || false)
@@ -66,16 +64,16 @@ stands-where test n ns (e ∷ es) d =
     there false ne = refl
 
     by : (n ≡ e.0) ⊎ (n ≡ e.0 → ⊥)
-        → (stands_in n (put_where test ns e) || passes test (at es n))
-        ≡ (stands_in n ns || passes test (at (e ∷ es) n))
+        → (stands_in n (put_where test ns e) || passes test (item_at es n))
+        ≡ (stands_in n ns || passes test (item_at (e ∷ es) n))
     by (inl is) =
         ap (λ o. stands_in n (put_where test ns e) || passes test o) (none-past n e es d is)
         ∙ here (test e.1) is
-        ∙ sym (ap (λ t. stands_in n ns || passes test (cond t (Some e.1) (at es n)))
+        ∙ sym (ap (λ t. stands_in n ns || passes test (cond t (Some e.1) (item_at es n)))
         (same-number n e.0 is))
     by (inr ne) =
-        ap (λ b. b || passes test (at es n)) (there (test e.1) ne)
-        ∙ sym (ap (λ t. stands_in n ns || passes test (cond t (Some e.1) (at es n)))
+        ap (λ b. b || passes test (item_at es n)) (there (test e.1) ne)
+        ∙ sym (ap (λ t. stands_in n ns || passes test (cond t (Some e.1) (item_at es n)))
         (other-number n e.0 ne))
 
 -- a test of the slot under what is found
@@ -93,5 +91,5 @@ slots-listed x f ns none unique sorted is = record {
   rises = rising ns sorted;
   each = λ n. ap (stands_in n) is
       ∙ stands-where (λ key. f (under x.slots key)) n [] x.places unique
-      ∙ sym (under-found f (under x.slots) (at x.places n) none);
+      ∙ sym (under-found f (under x.slots) (item_at x.places n) none);
 }

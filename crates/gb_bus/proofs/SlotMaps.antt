@@ -7,7 +7,6 @@ use Rattle.std.proofs.lemmas.Bool.Decides.{nat_tests}
 use Rattle.std.specs.Option.{option_and_then}
 use Rattle.std.specs.BTreeMap.{is_at}
 use Rattle.std.specs.BTreeSet.{contains}
-use Rattle.std.specs.HashMap as map
 use Rattle.std.specs.Ordering.{is_eq, nat_cmp, ordering_then}
 use Rattle.std.specs.declared.cmp.Ordering.{Ordering}
 use Rattle.std.specs.declared.cmp.Reverse.{Reverse}
@@ -15,6 +14,7 @@ use Rattle.slab.specs.Slab as slab
 use Rattle.slab.specs.Slab.{Slab, Updates}
 use Rattle.gb_bus.specs.Keeping.{Deadlines, Places, by_latest, has_deadline}
 use Rattle.gb_bus.specs.declared.slots.Slot.{Slot}
+use Rattle.gb_table.specs.Table.{Puts, item_at}
 
 pub same_some : {A : Type 0} (x y : A) → Some x ≡ Some y → x ≡ y
 same_some x y e = ap (λ o. unwrap_or o x) e
@@ -30,18 +30,6 @@ same-number m n e = grind (arith, nat_tests)
 
 pub other-number : (m n : ℕ) → m ≢ n → eqb m n ≡ false
 other-number m n ne = grind (arith, nat_tests)
-
--- what places are after a change at one number
-abbrev pub Updated : Places → Places → ℕ → Option ℕ → Type 0
-Updated m n k w = (q : ℕ) → map.get eqb n q ≡ cond (eqb k q) w (map.get eqb m q)
-
-updated-here : (m n : Places) (k : ℕ) (w : Option ℕ) → Updated m n k w → map.get eqb n k ≡ w
-updated-here m n k w u = u k ∙ ap (λ t. cond t w (map.get eqb m k)) (same-number k k refl)
-
-updated-other : (m n : Places) (k : ℕ) (w : Option ℕ) → Updated m n k w → (q : ℕ) → q ≢ k
-    → map.get eqb n q ≡ map.get eqb m q
-updated-other m n k w u q ne =
-    u q ∙ ap (λ t. cond t w (map.get eqb m q)) (other-number k q (λ e. ne (sym e)))
 
 -- a deadline with its number, where the latest stand first
 abbrev pub latest : ℕ → ℕ → Reverse (ℕ × ℕ)
@@ -94,14 +82,14 @@ time-others s t d n w u c m ne =
 
 -- the slot of a number
 abbrev pub found : Slab Slot → Places → ℕ → Option Slot
-found s p n = option_and_then (slab.get s) (map.get eqb p n)
+found s p n = option_and_then (slab.get s) (item_at p n)
 
 -- a number that has a place has its own slot there, and a slot stands at the place of its number
 pub record AllPlaced (s : Slab Slot) (p : Places) : Type 0 where
-  pub placed : (n key : ℕ) → map.get eqb p n ≡ Some key
+  pub placed : (n key : ℕ) → item_at p n ≡ Some key
       → (slot : Slot) × (slab.get s key ≡ Some slot) × (slot.number ≡ n)
   pub occupied : (key : ℕ) (slot : Slot) → slab.get s key ≡ Some slot
-      → map.get eqb p slot.number ≡ Some key
+      → item_at p slot.number ≡ Some key
 
 -- of one number this is found, and of the others what was
 abbrev pub FindsAt : ℕ → Option Slot → (ℕ → Option Slot) → (ℕ → Option Slot) → Type 0
@@ -134,39 +122,39 @@ at-other m n a b c ne e = e ∙ ap (λ t. cond t a b) (sym (other-number m n ne)
 
 -- what is found where the place is known
 pub found-at : (s : Slab Slot) (p : Places) (n key : ℕ) (o : Option Slot)
-    → map.get eqb p n ≡ Some key → slab.get s key ≡ o → found s p n ≡ o
+    → item_at p n ≡ Some key → slab.get s key ≡ o → found s p n ≡ o
 found-at s p n key o place e = ap (option_and_then (slab.get s)) place ∙ e
 
 -- where the place of a number has what it had
 found-same : (s s2 : Slab Slot) (p p2 : Places) (m : ℕ)
-    → map.get eqb p2 m ≡ map.get eqb p m
-    → ((k : ℕ) → map.get eqb p m ≡ Some k → slab.get s2 k ≡ slab.get s k)
+    → item_at p2 m ≡ item_at p m
+    → ((k : ℕ) → item_at p m ≡ Some k → slab.get s2 k ≡ slab.get s k)
     → found s2 p2 m ≡ found s p m
 found-same s s2 p p2 m place same =
-    ap (option_and_then (slab.get s2)) place ∙ by (map.get eqb p m) refl
+    ap (option_and_then (slab.get s2)) place ∙ by (item_at p m) refl
   where
-    by : (o : Option ℕ) → map.get eqb p m ≡ o
+    by : (o : Option ℕ) → item_at p m ≡ o
         → option_and_then (slab.get s2) o ≡ option_and_then (slab.get s) o
     by None e = refl
     by (Some k) e = same k e
 
 -- two numbers have two places
 two-places : (s : Slab Slot) (p : Places) (m n k : ℕ) → AllPlaced s p
-    → map.get eqb p m ≡ Some k → map.get eqb p n ≡ Some k → m ≡ n
+    → item_at p m ≡ Some k → item_at p n ≡ Some k → m ≡ n
 two-places s p m n k a e f =
     let one = a.placed m k e in
     let two = a.placed n k f in
     sym one.2 ∙ ap (λ x. x.number) (same_some one.0 two.0 (sym one.1 ∙ two.1)) ∙ two.2
 
 other-place : (s : Slab Slot) (p : Places) (m n k key : ℕ) → AllPlaced s p
-    → map.get eqb p n ≡ Some key → m ≢ n → map.get eqb p m ≡ Some k → k ≢ key
+    → item_at p n ≡ Some key → m ≢ n → item_at p m ≡ Some k → k ≢ key
 other-place s p m n k key a place ne e =
     λ same. ne (two-places s p m n k a e (place ∙ ap Some (sym same)))
 
 -- ---- a slot changes
 
 pub changed : (s s2 : Slab Slot) (p : Places) (n key : ℕ) (slot : Slot) → AllPlaced s p
-    → map.get eqb p n ≡ Some key → Updates s s2 key (Some slot)
+    → item_at p n ≡ Some key → Updates s s2 key (Some slot)
     → FindsAt n (Some slot) (found s p) (found s2 p)
 changed s s2 p n key slot a place u =
     each-number n (λ m. found s2 p m ≡ cond (eqb m n) (Some slot) (found s p m))
@@ -177,14 +165,14 @@ changed s s2 p n key slot a place u =
     (λ k e. u.others k (other-place s p m n k key a place ne e))))
 
 pub changed-placed : (s s2 : Slab Slot) (p : Places) (n key : ℕ) (slot : Slot)
-    → AllPlaced s p → map.get eqb p n ≡ Some key → Updates s s2 key (Some slot)
+    → AllPlaced s p → item_at p n ≡ Some key → Updates s s2 key (Some slot)
     → slot.number ≡ n → AllPlaced s2 p
 changed-placed s s2 p n key slot a place u is = record {
   placed = λ m k e. by m k e (cases_eq k key);
   occupied = λ k x e. from k x e (cases_eq k key);
 }
   where
-    by : (m k : ℕ) → map.get eqb p m ≡ Some k → (k ≡ key) ⊎ (k ≡ key → ⊥)
+    by : (m k : ℕ) → item_at p m ≡ Some k → (k ≡ key) ⊎ (k ≡ key → ⊥)
         → (x : Slot) × (slab.get s2 k ≡ Some x) × (x.number ≡ m)
     by m k e (inl same) = (
       slot,
@@ -195,40 +183,40 @@ changed-placed s s2 p n key slot a place u is = record {
         let old = a.placed m k e in (old.0, u.others k ne ∙ old.1, old.2)
 
     from : (k : ℕ) (x : Slot) → slab.get s2 k ≡ Some x → (k ≡ key) ⊎ (k ≡ key → ⊥)
-        → map.get eqb p x.number ≡ Some k
+        → item_at p x.number ≡ Some k
     from k x e (inl same) =
         let it = same_some slot x (sym u.changed ∙ ap (slab.get s2) (sym same) ∙ e) in
-        ap (map.get eqb p) (ap (λ y. y.number) (sym it) ∙ is) ∙ place ∙ ap Some (sym same)
+        ap (item_at p) (ap (λ y. y.number) (sym it) ∙ is) ∙ place ∙ ap Some (sym same)
     from k x e (inr ne) = a.occupied k x (sym (u.others k ne) ∙ e)
 
 -- ---- a slot goes
 
 pub gone : (s s2 : Slab Slot) (p p2 : Places) (n key : ℕ) → AllPlaced s p
-    → map.get eqb p n ≡ Some key → Updates s s2 key None → Updated p p2 n None
+    → item_at p n ≡ Some key → Updates s s2 key None → Puts (item_at p) (item_at p2) n None
     → FindsAt n None (found s p) (found s2 p2)
 gone s s2 p p2 n key a place u w =
     each-number n (λ m. found s2 p2 m ≡ cond (eqb m n) None (found s p m))
     (at-same n None (found s p n) (found s2 p2 n)
-    (ap (option_and_then (slab.get s2)) (updated-here p p2 n None w)))
+    (ap (option_and_then (slab.get s2)) (w.here)))
     (λ m ne. at-other m n None (found s p m) (found s2 p2 m) ne
-    (found-same s s2 p p2 m (updated-other p p2 n None w m ne)
+    (found-same s s2 p p2 m (w.others m ne)
     (λ k e. u.others k (other-place s p m n k key a place ne e))))
 
 pub gone-placed : (s s2 : Slab Slot) (p p2 : Places) (n key : ℕ) → AllPlaced s p
-    → map.get eqb p n ≡ Some key → Updates s s2 key None → Updated p p2 n None
+    → item_at p n ≡ Some key → Updates s s2 key None → Puts (item_at p) (item_at p2) n None
     → AllPlaced s2 p2
 gone-placed s s2 p p2 n key a place u w = record {
   placed = λ m k e. by m k e (cases_eq m n);
   occupied = λ k x e. from k x e (cases_eq k key);
 }
   where
-    by : (m k : ℕ) → map.get eqb p2 m ≡ Some k → (m ≡ n) ⊎ (m ≡ n → ⊥)
+    by : (m k : ℕ) → item_at p2 m ≡ Some k → (m ≡ n) ⊎ (m ≡ n → ⊥)
         → (x : Slot) × (slab.get s2 k ≡ Some x) × (x.number ≡ m)
     by m k e (inl same) =
         absurd (none-some k
-        (sym (updated-here p p2 n None w) ∙ ap (map.get eqb p2) (sym same) ∙ e))
+        (sym (w.here) ∙ ap (item_at p2) (sym same) ∙ e))
     by m k e (inr ne) =
-        let there = sym (updated-other p p2 n None w m ne) ∙ e in
+        let there = sym (w.others m ne) ∙ e in
         let old = a.placed m k there in (
           old.0,
           u.others k (other-place s p m n k key a place ne there) ∙ old.1,
@@ -236,61 +224,61 @@ gone-placed s s2 p p2 n key a place u w = record {
         )
 
     from : (k : ℕ) (x : Slot) → slab.get s2 k ≡ Some x → (k ≡ key) ⊎ (k ≡ key → ⊥)
-        → map.get eqb p2 x.number ≡ Some k
+        → item_at p2 x.number ≡ Some k
     from k x e (inl same) =
         absurd (none-some x (sym u.changed ∙ ap (slab.get s2) (sym same) ∙ e))
     from k x e (inr ne) =
         let there = a.occupied k x (sym (u.others k ne) ∙ e) in
-        updated-other p p2 n None w x.number
-        (λ is. ne (same_some k key (sym there ∙ ap (map.get eqb p) is ∙ place))) ∙ there
+        w.others x.number
+        (λ is. ne (same_some k key (sym there ∙ ap (item_at p) is ∙ place))) ∙ there
 
 -- ---- a slot comes
 
 free-place : (s : Slab Slot) (p : Places) (m k key : ℕ) → AllPlaced s p
-    → slab.get s key ≡ None → map.get eqb p m ≡ Some k → k ≢ key
+    → slab.get s key ≡ None → item_at p m ≡ Some k → k ≢ key
 free-place s p m k key a free e =
     λ same. let old = a.placed m k e in
     absurd (none-some old.0 (sym free ∙ ap (slab.get s) (sym same) ∙ old.1))
 
 pub added : (s s2 : Slab Slot) (p p2 : Places) (n key : ℕ) (slot : Slot) → AllPlaced s p
-    → slab.get s key ≡ None → Updates s s2 key (Some slot) → Updated p p2 n (Some key)
+    → slab.get s key ≡ None → Updates s s2 key (Some slot) → Puts (item_at p) (item_at p2) n (Some key)
     → FindsAt n (Some slot) (found s p) (found s2 p2)
 added s s2 p p2 n key slot a free u w =
     each-number n (λ m. found s2 p2 m ≡ cond (eqb m n) (Some slot) (found s p m))
     (at-same n (Some slot) (found s p n) (found s2 p2 n)
-    (found-at s2 p2 n key (Some slot) (updated-here p p2 n (Some key) w) u.changed))
+    (found-at s2 p2 n key (Some slot) (w.here) u.changed))
     (λ m ne. at-other m n (Some slot) (found s p m) (found s2 p2 m) ne
-    (found-same s s2 p p2 m (updated-other p p2 n (Some key) w m ne)
+    (found-same s s2 p p2 m (w.others m ne)
     (λ k e. u.others k (free-place s p m k key a free e))))
 
 pub added-placed : (s s2 : Slab Slot) (p p2 : Places) (n key : ℕ) (slot : Slot)
-    → AllPlaced s p → map.get eqb p n ≡ None → slab.get s key ≡ None
-    → Updates s s2 key (Some slot) → Updated p p2 n (Some key) → slot.number ≡ n
+    → AllPlaced s p → item_at p n ≡ None → slab.get s key ≡ None
+    → Updates s s2 key (Some slot) → Puts (item_at p) (item_at p2) n (Some key) → slot.number ≡ n
     → AllPlaced s2 p2
 added-placed s s2 p p2 n key slot a absent free u w is = record {
   placed = λ m k e. by m k e (cases_eq m n);
   occupied = λ k x e. from k x e (cases_eq k key);
 }
   where
-    by : (m k : ℕ) → map.get eqb p2 m ≡ Some k → (m ≡ n) ⊎ (m ≡ n → ⊥)
+    by : (m k : ℕ) → item_at p2 m ≡ Some k → (m ≡ n) ⊎ (m ≡ n → ⊥)
         → (x : Slot) × (slab.get s2 k ≡ Some x) × (x.number ≡ m)
     by m k e (inl same) =
         let it = same_some key k
-        (sym (updated-here p p2 n (Some key) w) ∙ ap (map.get eqb p2) (sym same) ∙ e) in
+        (sym (w.here) ∙ ap (item_at p2) (sym same) ∙ e) in
         (slot, ap (slab.get s2) (sym it) ∙ u.changed, is ∙ sym same)
     by m k e (inr ne) =
-        let there = sym (updated-other p p2 n (Some key) w m ne) ∙ e in
+        let there = sym (w.others m ne) ∙ e in
         let old = a.placed m k there in
         (old.0, u.others k (free-place s p m k key a free there) ∙ old.1, old.2)
 
     from : (k : ℕ) (x : Slot) → slab.get s2 k ≡ Some x → (k ≡ key) ⊎ (k ≡ key → ⊥)
-        → map.get eqb p2 x.number ≡ Some k
+        → item_at p2 x.number ≡ Some k
     from k x e (inl same) =
         let it = same_some slot x (sym u.changed ∙ ap (slab.get s2) (sym same) ∙ e) in
-        ap (map.get eqb p2) (ap (λ y. y.number) (sym it) ∙ is)
-        ∙ updated-here p p2 n (Some key) w ∙ ap Some (sym same)
+        ap (item_at p2) (ap (λ y. y.number) (sym it) ∙ is)
+        ∙ w.here ∙ ap Some (sym same)
     from k x e (inr ne) =
         let there = a.occupied k x (sym (u.others k ne) ∙ e) in
-        updated-other p p2 n (Some key) w x.number
-        (λ num. absurd (none-some k (sym absent ∙ ap (map.get eqb p) (sym num) ∙ there)))
+        w.others x.number
+        (λ num. absurd (none-some k (sym absent ∙ ap (item_at p) (sym num) ∙ there)))
         ∙ there

@@ -4,11 +4,9 @@ use Rattle.std.proofs.Common.{Option, Some, None, Result, Ok, Err, eqb, length, 
 use Rattle.std.proofs.Common.{refl, sym, ap, ◌∙◌, arith}
 use Rattle.std.specs.Option.{is_none, option_and_then}
 use Rattle.std.specs.Result.{OnErr, OnOk, is_err}
-use Rattle.std.specs.HashMap as map
-use Rattle.std.specs.Map.{lookup}
 use Rattle.slab.specs.Slab as slab
 use Rattle.slab.specs.Slab.{Slab, Updates}
-use Rattle.gb_bus.proofs.SlotMaps.{FindsAt, Retimed, Updated, added, added-placed}
+use Rattle.gb_bus.proofs.SlotMaps.{FindsAt, Retimed, added, added-placed}
 use Rattle.gb_bus.proofs.SlotMaps.{each-number}
 use Rattle.gb_bus.proofs.SlotMaps.{found, found-at, none-some, other-number}
 use Rattle.gb_bus.proofs.SlotMaps.{same-number, same_some, time-here, time-others}
@@ -18,6 +16,7 @@ use Rattle.gb_bus.specs.Keeping.{Deadlines, IsKept, Places, has_deadline, waits_
 use Rattle.gb_bus.specs.Slots.{Kept, MakesAs, key_at}
 use Rattle.gb_bus.specs.declared.slots.Slot.{Slot}
 use Rattle.gb_bus.specs.declared.tally.Tally.{Tally}
+use Rattle.gb_table.specs.Table.{Puts, item_at}
 
 -- ---- a slot comes
 
@@ -26,7 +25,7 @@ weight b = cond b 1 0
 
 -- all is as it was
 pub same-kept : (s s2 : Slab Slot) (p p2 : Places) (d d2 : Deadlines) (t : Tally)
-    → s2.slots ≡ s.slots → p2.entries ≡ p.entries
+    → s2.slots ≡ s.slots → p2 ≡ p
     → ((q : ℕ × ℕ) → has_deadline d2 q ≡ has_deadline d q)
     → length d2.keys ≡ length d.keys → IsKept s p d t → IsKept s2 p2 d2 t
 same-kept s s2 p p2 d d2 t slots places times count k = record {
@@ -40,15 +39,15 @@ same-kept s s2 p p2 d d2 t slots places times count k = record {
   waiting = k.waiting ∙ sym count;
 }
   where
-    place : (n : ℕ) → map.get eqb p2 n ≡ map.get eqb p n
-    place n = ap (lookup (eqb n)) places
+    place : (n : ℕ) → item_at p2 n ≡ item_at p n
+    place n = ap (λ p. item_at p n) places
 
     under : (key : ℕ) → slab.get s2 key ≡ slab.get s key
     under key = ap (λ xs. slice_index_or xs key None) slots
 
     same : (n : ℕ) → found s2 p2 n ≡ found s p n
     same n =
-        ap (λ xs. option_and_then (λ key. slice_index_or xs key None) (map.get eqb p2 n))
+        ap (λ xs. option_and_then (λ key. slice_index_or xs key None) (item_at p2 n))
         slots
         ∙ ap (option_and_then (slab.get s)) (place n)
 
@@ -62,10 +61,10 @@ module _ (s : Slab Slot) (p : Places) (d : Deadlines) (t : Tally) (slot : Slot)
       by None e = refl
       by (Some x) e = let low = k.made slot.number x e in absurd (omega (arith, low, newest))
 
-  unplaced : map.get eqb p slot.number ≡ None
-  unplaced = by (map.get eqb p slot.number) refl
+  unplaced : item_at p slot.number ≡ None
+  unplaced = by (item_at p slot.number) refl
     where
-      by : (o : Option ℕ) → map.get eqb p slot.number ≡ o → o ≡ None
+      by : (o : Option ℕ) → item_at p slot.number ≡ o → o ≡ None
       by None e = refl
       by (Some key) e =
           let old = k.placed slot.number key e in
@@ -77,7 +76,7 @@ module _ (s : Slab Slot) (p : Places) (d : Deadlines) (t : Tally) (slot : Slot)
 
   -- a deadline that was put is taken away again
   pub restored : (s2 : Slab Slot) (p2 : Places) (d2 d3 : Deadlines) (a b : Bool)
-      → s2.slots ≡ s.slots → p2.entries ≡ p.entries
+      → s2.slots ≡ s.slots → p2 ≡ p
       → Retimed d d2 slot.deadline slot.number true
       → Retimed d2 d3 slot.deadline slot.number false
       → a ≡ not (has_deadline d (slot.deadline, slot.number))
@@ -113,7 +112,7 @@ module _ (s : Slab Slot) (p : Places) (d : Deadlines) (t : Tally) (slot : Slot)
           omega (arith, more, less, one, other)
 
   module _ (s2 : Slab Slot) (p2 : Places) (key : ℕ) (free : slab.get s key ≡ None)
-      (u : Updates s s2 key (Some slot)) (w : Updated p p2 slot.number (Some key)) where
+      (u : Updates s s2 key (Some slot)) (w : Puts (item_at p) (item_at p2) slot.number (Some key)) where
     opens : FindsAt slot.number (Some slot) (found s p) (found s2 p2)
     opens = added s s2 p p2 slot.number key slot (all-placed s p d t k) free u w
 

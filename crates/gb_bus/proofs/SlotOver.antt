@@ -1,7 +1,6 @@
 -- What an end does to a request, by whether it is open.
 use Rattle.std.proofs.Common.{◌≡◌, ◌≢◌, ℕ, Bool, true, false, cond, Option, Some, None, eqb, refl}
 use Rattle.std.proofs.Common.{sym, ap, ◌∙◌, is_some, not}
-use Rattle.std.specs.HashMap as map
 use Rattle.std.specs.Option.{is_none, option_and_then}
 use Rattle.slab.specs.Slab as slab
 use Rattle.slab.specs.Slab.{Slab, with_value}
@@ -13,11 +12,12 @@ use Rattle.gb_bus.specs.Keeping.{Deadlines, IsKept, Places, kept_in}
 use Rattle.gb_bus.specs.Slots.{Kept, MovesAt, ended_at, gives_up_so, is_open_slot, slot_at}
 use Rattle.gb_bus.specs.declared.slots.Slot.{Slot}
 use Rattle.gb_bus.specs.declared.tally.Tally.{Tally}
+use Rattle.gb_table.specs.Table.{item_at}
 
 -- ---- whether it is open
 
 pub over-nowhere : (s : Slab Slot) (p : Places) (t : Tally) (n : ℕ) (x : Kept)
-    → kept_in s p t ≡ x → map.get eqb p n ≡ None → is_open_slot (slot_at x n) ≡ false
+    → kept_in s p t ≡ x → item_at p n ≡ None → is_open_slot (slot_at x n) ≡ false
 over-nowhere s p t n x view none =
     ap (λ y. is_open_slot (slot_at y n)) (sym view)
     ∙ ap (λ o. is_open_slot (option_and_then (slab.get s) o)) none

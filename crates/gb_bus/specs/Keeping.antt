@@ -2,19 +2,16 @@
 use Rattle.std.specs.Prelude.{◌≡◌, ◌≤◌, ℕ, ◌==◌, nat_eq, nat_le, Bool, true, false, ◌&&◌}
 use Rattle.std.specs.Prelude.{if◌then◌else◌, is_none, Option, Some, None, List, [], ◌∷◌, length}
 use Rattle.std.specs.BTreeSet.{BTreeSet, contains, insert_key}
-use Rattle.std.specs.HashMap as map
-use Rattle.std.specs.HashMap.{HashMap}
 use Rattle.std.specs.Ordering.{nat_cmp, ordering_then}
 use Rattle.std.specs.declared.cmp.Ordering.{Ordering}
 use Rattle.std.specs.declared.cmp.Reverse.{Reverse}
-use Rattle.std.specs.declared.hash.BuildHasherDefault.{BuildHasherDefault}
-use Rattle.std.specs.declared.hash.FoldHasher.{FoldHasher}
 use Rattle.slab.specs.Slab as slab
 use Rattle.slab.specs.Slab.{Slab}
 use Rattle.gb_bus.specs.Counting.{counted_once}
 use Rattle.gb_bus.specs.Slots.{Kept, slot_at}
 use Rattle.gb_bus.specs.declared.slots.Slot.{Slot}
 use Rattle.gb_bus.specs.declared.tally.Tally.{Tally}
+use Rattle.gb_table.specs.Table.{item_at}
 
 -- the order of deadlines with their numbers
 abbrev pub by_deadline : ℕ × ℕ → ℕ × ℕ → Ordering
@@ -34,13 +31,13 @@ has_deadline deadlines x = contains by_latest deadlines (record { 0 = x })
 
 -- keys by number
 abbrev pub Places : Type 0
-Places = HashMap ℕ ℕ (BuildHasherDefault FoldHasher)
+Places = List (ℕ × ℕ)
 
 -- what is kept
 abbrev pub kept_in : Slab Slot → Places → Tally → Kept
 kept_in slots places tally = record {
   slots = slots.slots;
-  places = places.entries;
+  places = places;
   next = slots.vacant_key;
   tally = tally;
 }
@@ -73,10 +70,10 @@ lesser_of n (Some m) = if nat_le m n then m else n
 -- an open request is in use; and each request that was made is counted once.
 pub record IsKept (slots : Slab Slot) (places : Places) (deadlines : Deadlines)
     (tally : Tally) : Type 0 where
-  pub placed : (n key : ℕ) → map.get nat_eq places n ≡ Some key
+  pub placed : (n key : ℕ) → item_at places n ≡ Some key
       → (slot : Slot) × (slab.get slots key ≡ Some slot) × (slot.number ≡ n)
   pub occupied : (key : ℕ) (slot : Slot) → slab.get slots key ≡ Some slot
-      → map.get nat_eq places slot.number ≡ Some key
+      → item_at places slot.number ≡ Some key
   pub timed : (deadline n : ℕ) → has_deadline deadlines (deadline, n)
       ≡ waits_until deadline (slot_at (kept_in slots places tally) n)
   pub asked : (n : ℕ) (slot : Slot) → slot_at (kept_in slots places tally) n ≡ Some slot

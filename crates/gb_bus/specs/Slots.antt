@@ -1,8 +1,7 @@
 -- The slots of requests: which requests are kept, and what changes that.
 use Rattle.std.specs.Prelude.{◌≡◌, ℕ, ◌+◌, ◌-◌, ◌==◌, nat_lt, nat_le, Bool, true, false, ◌&&◌, ◌||◌}
-use Rattle.std.specs.Prelude.{nat_eq, is_none, is_some, if◌then◌else◌, Option, Some, None}
+use Rattle.std.specs.Prelude.{is_none, is_some, if◌then◌else◌, Option, Some, None}
 use Rattle.std.specs.Prelude.{option_and_then, List, [], ◌∷◌, slice_index_or}
-use Rattle.std.specs.Map.{lookup}
 use Rattle.gb_base.specs.declared.end.Side.{Side}
 use Rattle.gb_base.specs.declared.outcome.Outcome.{Outcome}
 use Rattle.gb_base.specs.declared.outcome.Outcome.TheVariants as outcome
@@ -14,6 +13,7 @@ use Rattle.gb_bus.specs.declared.slots.Slot.{Slot}
 use Rattle.gb_bus.specs.declared.tally.Tally.{Tally}
 use Rattle.gb_machine.specs.Members.{Each}
 use Rattle.gb_machine.specs.Requests.{same_side}
+use Rattle.gb_table.specs.Table.{item_at}
 
 -- What is kept: slots by key, keys by number, the key of the slot that the next request gets, and
 -- the counts of all requests that were made.
@@ -29,7 +29,7 @@ under slots key = slice_index_or slots key None
 
 -- the key of a request's slot, None where nothing is kept of it
 abbrev pub key_at : Kept → ℕ → Option ℕ
-key_at x n = lookup (nat_eq n) x.places
+key_at x n = item_at x.places n
 
 -- what is kept of a request, None where nothing is
 abbrev pub slot_at : Kept → ℕ → Option Slot

@@ -1,8 +1,9 @@
 //! The requests of a side of a connection, by what is kept of them.
 
 ghost use Rattle.std.specs.Prelude.{◌≡◌, [], IfOk, nat_eq};
-ghost use Rattle.std.specs.HashMap.{IsUnique};
+ghost use Rattle.std.specs.List.{IsDistinct};
 ghost use Rattle.std.specs.List.Sorted.{IsStrictlySortedBy};
+ghost use Rattle.std.specs.Map.{keys_of};
 ghost use Rattle.std.specs.Ordering.{nat_cmp};
 ghost use Rattle.slab.specs.Slab.{get};
 ghost use Rattle.gb_bus.specs.Keeping.{numbers_where};
@@ -10,9 +11,10 @@ ghost use Rattle.gb_bus.specs.Slots.{is_listed_on};
 
 use crate::slots::Slot;
 use gb_base::{Numbers, OutOfMemory, Side};
+use gb_table::Table;
 use slab::Slab;
 use std::alloc::Global;
-use std::collections::{BTreeSet, HashMap};
+use std::collections::BTreeSet;
 
 /// Which requests of a side are listed.
 #[derive(Clone, Copy)]
@@ -27,7 +29,7 @@ pub enum Listed {
 pub fn listed_among(
     alloc: Global,
     slots: &Slab<Slot>,
-    places: &HashMap<u64, usize>,
+    places: &Table<usize>,
     k: u64,
     side: Side,
     which: Listed,
@@ -35,12 +37,13 @@ pub fn listed_among(
     ensures numbers { IfOk result
         (λ ns. ns
         ≡ numbers_where (λ key. is_listed_on which k side (get slots.now key)) []
-        places.now.entries) }
+        places.now) }
     ensures sorted { IfOk result (λ ns. IsStrictlySortedBy nat_cmp ns) }
-    ensures unique { IsUnique nat_eq places.now }
+    ensures unique { IfOk result (λ ns. IsDistinct nat_eq (keys_of places.now)) }
 {
     let mut found = BTreeSet::new(alloc);
-    for (number, key) in places {
+    let entries = places.entries(alloc)?;
+    for (number, key) in entries.items() {
         if is_listed_at(slots, *key, k, side, which) {
             found.insert(*number)?;
         }

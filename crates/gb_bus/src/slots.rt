@@ -42,10 +42,11 @@ ghost use Rattle.gb_bus.specs.Listing.{AreThose, FindsLeast};
 use crate::Tally;
 use crate::listing::{Listed, in_order, listed_among};
 use gb_base::{Numbers, OutOfMemory, Outcome, Side};
+use gb_table::Table;
 use slab::Slab;
 use std::alloc::Global;
 use std::cmp::Reverse;
-use std::collections::{BTreeSet, HashMap};
+use std::collections::BTreeSet;
 use std::marker::Model;
 
 /// What is kept of a request while something asks for it.
@@ -100,7 +101,7 @@ impl Slot {
 pub struct Slots {
     slots: Slab<Slot>,
     /// The keys of the slots by number.
-    places: HashMap<u64, usize>,
+    places: Table<usize>,
     /// The deadlines of the open requests, with their numbers, the latest first: new ones are
     /// mostly the latest.
     deadlines: BTreeSet<Reverse<(u64, u64)>>,
@@ -126,7 +127,7 @@ impl Slots {
     {
         Slots {
             slots: Slab::new(alloc),
-            places: HashMap::new(alloc),
+            places: Table::new(alloc),
             deadlines: BTreeSet::new(alloc),
             tally: Tally::none(),
         }
@@ -152,7 +153,7 @@ impl Slots {
     pub fn get(&self, n: u64) -> Option<&Slot>
         ensures { option_copied result ≡ slot_at self.now n }
     {
-        let key = *self.places.get(&n)?;
+        let key = self.places.get(n)?;
         self.slots.get(key)
     }
 
@@ -185,7 +186,7 @@ impl Slots {
         self.slots.reserve(1)?;
         self.deadlines.insert(Reverse((deadline, number)))?;
         let key = self.slots.vacant_key();
-        if self.places.insert(number, key).is_err() {
+        if self.places.put(number, key).is_err() {
             self.deadlines.remove(&Reverse((deadline, number)));
             return Err(OutOfMemory);
         }
@@ -218,7 +219,7 @@ impl Slots {
         ensures key { IfSome result (λ key. key_at self.new n ≡ Some key) }
         ensures moves { MovesAt n (gives_up_so how) (ended_at n how self.old) self.old self.new }
     {
-        let Some(key) = self.places.get(&n).copied() else {
+        let Some(key) = self.places.get(n) else {
             drop(how);
             return None;
         };
@@ -242,7 +243,7 @@ impl Slots {
     pub fn forget(&mut self, n: u64)
         ensures { MovesAt n forgets self.old.tally self.old self.new }
     {
-        if let Some(key) = self.places.get(&n).copied() {
+        if let Some(key) = self.places.get(n) {
             self.free(n, key);
         }
     }
@@ -269,7 +270,7 @@ impl Slots {
     pub fn keep(&mut self, n: u64)
         ensures { MovesAt n gets_name self.old.tally self.old self.new }
     {
-        let Some(key) = self.places.get(&n).copied() else {
+        let Some(key) = self.places.get(n) else {
             return;
         };
         let Some(slot) = self.slots.get_mut(key) else {
@@ -282,7 +283,7 @@ impl Slots {
     pub fn loose(&mut self, n: u64)
         ensures { MovesAt n loses_name self.old.tally self.old self.new }
     {
-        let Some(key) = self.places.get(&n).copied() else {
+        let Some(key) = self.places.get(n) else {
             return;
         };
         let Some(slot) = self.slots.get_mut(key) else {
@@ -317,7 +318,7 @@ impl Slots {
         requires over { is_open_slot (slot_at self.old n) ≡ false }
         ensures { MovesAt n is_let_go self.old.tally self.old self.new }
     {
-        self.places.remove(&n);
+        self.places.take(n);
         self.slots.try_remove(key);
     }
 

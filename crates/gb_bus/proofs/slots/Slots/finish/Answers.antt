@@ -12,20 +12,20 @@ pub returns-in_default-clause-was_open : goal.returns-in_default-clause-was_open
 returns-in_default-clause-was_open c =
     sym (over-nowhere c.self.inside.slots c.self.inside.places c.self.inside.tally c.args.n
     c.args.self.now c.self.view_is
-    (sym (c.copied.ensures ∙ c.get.ensures.value) ∙ c.in_default.is))
+    (sym c.get.ensures ∙ c.in_default.is))
 
 pub returns-in_default-clause-moves : goal.returns-in_default-clause-moves
 returns-in_default-clause-moves c =
     stays-over c.args.n c.args.how c.args.self.now
     (over-nowhere c.self.inside.slots c.self.inside.places c.self.inside.tally c.args.n
     c.args.self.now c.self.view_is
-    (sym (c.copied.ensures ∙ c.get.ensures.value) ∙ c.in_default.is))
+    (sym c.get.ensures ∙ c.in_default.is))
 
 pub returns-then-is_some-clause-was_open : goal.returns-then-is_some-clause-was_open
 returns-then-is_some-clause-was_open c =
     let there : IsThere c.self.inside.slots c.self.inside.places c.args.n c.in-Some.key
     c.in-Some-get_mut.slot.now = record {
-      place = sym (c.copied.ensures ∙ c.get.ensures.value) ∙ c.in-Some.is;
+      place = sym c.get.ensures ∙ c.in-Some.is;
       stands = sym c.get_mut.ensures.value ∙ ap option_copied_mut c.in-Some-get_mut.is;
     } in
     sym (open-there c.self.inside.slots c.self.inside.places c.self.inside.tally c.args.n
@@ -37,7 +37,7 @@ pub returns-then-is_some-clause-moves : goal.returns-then-is_some-clause-moves
 returns-then-is_some-clause-moves c =
     let there : IsThere c.self.inside.slots c.self.inside.places c.args.n c.in-Some.key
     c.in-Some-get_mut.slot.now = record {
-      place = sym (c.copied.ensures ∙ c.get.ensures.value) ∙ c.in-Some.is;
+      place = sym c.get.ensures ∙ c.in-Some.is;
       stands = sym c.get_mut.ensures.value ∙ ap option_copied_mut c.in-Some-get_mut.is;
     } in
     moves-over c.self.inside.slots c.self.inside.places c.self.inside.deadlines
@@ -50,7 +50,7 @@ pub end-requires-clause-open : goal.end-requires-clause-open
 end-requires-clause-open c =
     let there : IsThere c.self.inside.slots c.self.inside.places c.args.n c.in-Some.key
     c.in-Some-get_mut.slot.now = record {
-      place = sym (c.copied.ensures ∙ c.get.ensures.value) ∙ c.in-Some.is;
+      place = sym c.get.ensures ∙ c.in-Some.is;
       stands = sym c.get_mut.ensures.value ∙ ap option_copied_mut c.in-Some-get_mut.is;
     } in
     let unended : c.in-Some-get_mut.slot.now.outcome ≡ None =
@@ -65,7 +65,7 @@ pub invariant_of-self-2 : goal.invariant_of-self-2
 invariant_of-self-2 c =
     let there : IsThere c.self.inside.slots c.self.inside.places c.args.n c.in-Some.key
     c.in-Some-get_mut.slot.now = record {
-      place = sym (c.copied.ensures ∙ c.get.ensures.value) ∙ c.in-Some.is;
+      place = sym c.get.ensures ∙ c.in-Some.is;
       stands = sym c.get_mut.ensures.value ∙ ap option_copied_mut c.in-Some-get_mut.is;
     } in
     let unended : c.in-Some-get_mut.slot.now.outcome ≡ None =
@@ -81,7 +81,7 @@ pub returns-clause-was_open : goal.returns-clause-was_open
 returns-clause-was_open c =
     let there : IsThere c.self.inside.slots c.self.inside.places c.args.n c.in-Some.key
     c.in-Some-get_mut.slot.now = record {
-      place = sym (c.copied.ensures ∙ c.get.ensures.value) ∙ c.in-Some.is;
+      place = sym c.get.ensures ∙ c.in-Some.is;
       stands = sym c.get_mut.ensures.value ∙ ap option_copied_mut c.in-Some-get_mut.is;
     } in
     let unended : c.in-Some-get_mut.slot.now.outcome ≡ None =
@@ -95,7 +95,7 @@ pub returns-clause-moves : goal.returns-clause-moves
 returns-clause-moves c =
     let there : IsThere c.self.inside.slots c.self.inside.places c.args.n c.in-Some.key
     c.in-Some-get_mut.slot.now = record {
-      place = sym (c.copied.ensures ∙ c.get.ensures.value) ∙ c.in-Some.is;
+      place = sym c.get.ensures ∙ c.in-Some.is;
       stands = sym c.get_mut.ensures.value ∙ ap option_copied_mut c.in-Some-get_mut.is;
     } in
     let unended : c.in-Some-get_mut.slot.now.outcome ≡ None =

@@ -9,7 +9,7 @@ pub invariant_of-self-2 : goal.invariant_of-self-2
 invariant_of-self-2 c =
     let there : IsThere c.self.inside.slots c.self.inside.places c.args.n c.in-Some.key
     c.in-Some-get_mut.slot.now = record {
-      place = sym (c.copied.ensures ∙ c.get.ensures.value) ∙ c.in-Some.is;
+      place = sym c.get.ensures ∙ c.in-Some.is;
       stands = sym c.get_mut.ensures.value ∙ ap option_copied_mut c.in-Some-get_mut.is;
     } in
     changed-kept c.self.inside.slots c.self.inside.places c.self.inside.deadlines
@@ -22,7 +22,7 @@ pub returns : goal.returns
 returns c =
     let there : IsThere c.self.inside.slots c.self.inside.places c.args.n c.in-Some.key
     c.in-Some-get_mut.slot.now = record {
-      place = sym (c.copied.ensures ∙ c.get.ensures.value) ∙ c.in-Some.is;
+      place = sym c.get.ensures ∙ c.in-Some.is;
       stands = sym c.get_mut.ensures.value ∙ ap option_copied_mut c.in-Some-get_mut.is;
     } in
     changed-moves c.self.inside.slots c.self.inside.places c.self.inside.deadlines

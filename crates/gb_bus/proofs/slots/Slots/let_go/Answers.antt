@@ -6,15 +6,15 @@ use Rattle.gb_bus.specs.Slots.{is_open_slot, key_at, slot_at}
 
 pub invariant_of-self : goal.invariant_of-self
 invariant_of-self c =
-    gone-kept c.self.inside.slots c.try_remove.new.self c.self.inside.places c.remove.new.self
+    gone-kept c.self.inside.slots c.try_remove.new.self c.self.inside.places c.take.new.self
     c.self.inside.deadlines c.self.inside.tally c.args.n c.args.key c.self.invariant
     (ap (λ x. key_at x c.args.n) c.self.view_is ∙ c.requires.key) c.try_remove.ensures.updates
-    c.remove.ensures.updates.0
+    c.take.ensures.taken
     (ap (λ x. is_open_slot (slot_at x c.args.n)) c.self.view_is ∙ c.requires.over)
 
 pub returns : goal.returns
 returns c =
-    gone-moves c.self.inside.slots c.try_remove.new.self c.self.inside.places c.remove.new.self
+    gone-moves c.self.inside.slots c.try_remove.new.self c.self.inside.places c.take.new.self
     c.self.inside.deadlines c.self.inside.tally c.args.n c.args.key c.self.invariant
     (ap (λ x. key_at x c.args.n) c.self.view_is ∙ c.requires.key) c.try_remove.ensures.updates
-    c.remove.ensures.updates.0 c.args.self.now c.self.view_is
+    c.take.ensures.taken c.args.self.now c.self.view_is

@@ -10,7 +10,7 @@ pub invariant_of-self-then-not-is_asked_for : goal.invariant_of-self-then-not-is
 invariant_of-self-then-not-is_asked_for c =
     let there : IsThere c.self.inside.slots c.self.inside.places c.args.n c.in-Some.key
     c.in-Some-get_mut.slot.now = record {
-      place = sym (c.copied.ensures ∙ c.get.ensures.value) ∙ c.in-Some.is;
+      place = sym c.get.ensures ∙ c.in-Some.is;
       stands = sym c.get_mut.ensures.value ∙ ap option_copied_mut c.in-Some-get_mut.is;
     } in
     changed-kept c.self.inside.slots c.self.inside.places c.self.inside.deadlines
@@ -21,7 +21,7 @@ pub invariant_of-self-else-not-is_asked_for : goal.invariant_of-self-else-not-is
 invariant_of-self-else-not-is_asked_for c =
     let there : IsThere c.self.inside.slots c.self.inside.places c.args.n c.in-Some.key
     c.in-Some-get_mut.slot.now = record {
-      place = sym (c.copied.ensures ∙ c.get.ensures.value) ∙ c.in-Some.is;
+      place = sym c.get.ensures ∙ c.in-Some.is;
       stands = sym c.get_mut.ensures.value ∙ ap option_copied_mut c.in-Some-get_mut.is;
     } in
     changed-kept c.self.inside.slots c.self.inside.places c.self.inside.deadlines
@@ -32,7 +32,7 @@ pub let_go-requires-clause-over : goal.let_go-requires-clause-over
 let_go-requires-clause-over c =
     let there : IsThere c.self.inside.slots c.self.inside.places c.args.n c.in-Some.key
     c.in-Some-get_mut.slot.now = record {
-      place = sym (c.copied.ensures ∙ c.get.ensures.value) ∙ c.in-Some.is;
+      place = sym c.get.ensures ∙ c.in-Some.is;
       stands = sym c.get_mut.ensures.value ∙ ap option_copied_mut c.in-Some-get_mut.is;
     } in
     let slot : Slot = record c.in-Some-get_mut.slot.now { names = c.saturating_sub-slot.result } in
@@ -45,7 +45,7 @@ pub returns-else-not-is_asked_for : goal.returns-else-not-is_asked_for
 returns-else-not-is_asked_for c =
     let there : IsThere c.self.inside.slots c.self.inside.places c.args.n c.in-Some.key
     c.in-Some-get_mut.slot.now = record {
-      place = sym (c.copied.ensures ∙ c.get.ensures.value) ∙ c.in-Some.is;
+      place = sym c.get.ensures ∙ c.in-Some.is;
       stands = sym c.get_mut.ensures.value ∙ ap option_copied_mut c.in-Some-get_mut.is;
     } in
     let slot : Slot = record c.in-Some-get_mut.slot.now { names = c.saturating_sub-slot.result } in

@@ -9,11 +9,11 @@ invariant_of-self-then-is_err c =
     restored c.self.inside.slots c.self.inside.places c.self.inside.deadlines c.self.inside.tally
     c.args.slot c.self.invariant
     (c.requires.number ∙ ap (λ x. x.tally.requests + 1) (sym c.self.view_is))
-    c.reserve.new.self c.insert-2.new.self c.insert.new.self c.remove.new.self
+    c.reserve.new.self c.put.new.self c.insert.new.self c.remove.new.self
     c.in_ok-insert.field-0 c.remove.result
     (ap (λ x. x.slots) c.reserve.ensures.rest_kept)
-    (at-err c.insert-2.result (sym c.is_err.ensures.value ∙ c.if-is_err.true)
-    c.insert-2.ensures.err)
+    (at-err c.put.result (sym c.is_err.ensures.value ∙ c.if-is_err.true)
+    c.put.ensures.unchanged)
     c.in_ok-insert.ensures.updates.0 c.remove.ensures.updates.0 c.in_ok-insert.ensures.added
     c.in_ok-insert.ensures.len c.remove.ensures.test c.remove.ensures.len
 
@@ -25,13 +25,12 @@ invariant_of-self-2 c =
     c.self.inside.deadlines c.self.inside.deadlines c.self.inside.tally
     (ap (λ x. x.slots) c.reserve.ensures.rest_kept) refl (λ q. refl) refl c.self.invariant)
     (c.requires.number ∙ ap (λ x. x.tally.requests + 1) (sym c.self.view_is))
-    c.insert_reserved.new.self c.insert-2.new.self c.vacant_key-key.result
+    c.insert_reserved.new.self c.put.new.self c.vacant_key-key.result
     c.vacant_key-key.ensures.vacant
     (subst (λ k. Updates c.reserve.new.self c.insert_reserved.new.self k (Some c.args.slot))
     (c.insert_reserved.ensures.key ∙ sym c.vacant_key-key.ensures.value)
     c.insert_reserved.ensures.updates)
-    (at-ok c.insert-2.result (sym c.is_err.ensures.value ∙ c.if-is_err.false)
-    c.insert-2.ensures.updates).0
+    (at-ok c.put.result (sym c.is_err.ensures.value ∙ c.if-is_err.false) c.put.ensures.put)
     c.insert.new.self c.in_ok-insert.field-0 c.add.new.self c.requires.unended
     c.requires.awaited c.in_ok-insert.ensures.updates.0 c.in_ok-insert.ensures.added
     c.in_ok-insert.ensures.len c.add.ensures
