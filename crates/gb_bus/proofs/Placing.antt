@@ -13,7 +13,7 @@ use Rattle.gb_base.specs.declared.end.Side.TheVariants as side
 use Rattle.gb_bus.proofs.Entries.{EachEntry, both, each-back, each-entry, each-front, find-none}
 use Rattle.gb_bus.proofs.Entries.{find-split, nowhere, same-some, some-none, split}
 use Rattle.gb_bus.proofs.Keeping.{Queues, number-of-end}
-use Rattle.gb_bus.specs.Index.{Ends, IsEndOf, IsIndexed, Kept, Live, number_at}
+use Rattle.gb_bus.specs.Index.{Ends, HasSide, IsEndOf, IsIndexed, Kept, Live, number_at}
 use Rattle.gb_bus.specs.Parts.{end_at, joins, place_at, side_at}
 use Rattle.gb_bus.specs.Seen.{all_seen, alone, seen}
 use Rattle.gb_bus.specs.declared.connection.Connection as code
@@ -158,6 +158,20 @@ side-own at x s is =
     by true w false near true far side.Ap e = absurd (cc e)
     by true w false near true far side.Far e = (w, end-is at x.peer far)
     by true w false near false far t e = absurd (cc e)
+
+own-end : (at : End) (x : code.Connection) (s : Side) → at ≡ end_at s (alone 0 x) → IsEndOf at x
+own-end at x side.Ap e = inl e
+own-end at x side.Far e = inr e
+
+-- a connection was found that has a side for the end
+pub places-counted : (live : Live) (ends : Ends) (q : Queues) (at : End) (k : ℕ) (s : Side)
+    → Kept live ends q → HasSide live k at s
+    → Some (k, s) ≡ place_at at (all_seen q live.entries)
+places-counted live ends q at k s kept h =
+    let x = h.connection in
+    sym (places live ends q at k x kept
+    (number-of-end ends k x at (kept.indexed k x h.there) (own-end at x s (side-own at x s h.is).1))
+    h.there ∙ ap (option_map (λ t. (k, t))) h.is)
 
 -- an end is at a side of the live connection with a number, which is wired
 pub record IsPlaced (live : Live) (at : End) (k : ℕ) (s : Side) : Type 0 where

@@ -12,7 +12,7 @@ use Rattle.gb_base.specs.declared.end.End.{End}
 use Rattle.gb_base.specs.declared.end.End.TheVariants as end
 use Rattle.gb_base.specs.declared.end.Side.{Side}
 use Rattle.gb_bus.specs.Connection.{Connection}
-use Rattle.gb_bus.specs.Parts.{new_connection}
+use Rattle.gb_bus.specs.Parts.{new_connection, side_at}
 use Rattle.gb_bus.specs.Seen.{alone}
 use Rattle.gb_bus.specs.Sides.{toward}
 use Rattle.gb_bus.specs.declared.connection.Connection as code
@@ -80,6 +80,12 @@ pub record StandsAt (live : Live) (k at : ℕ) : Type 0 where
 abbrev pub IsPlaced : Live → ℕ → Option ℕ → Type 0
 IsPlaced live k (Some at) = StandsAt live k at
 IsPlaced live k None = get nat_eq live k ≡ None
+
+-- the connection with a number is wired, and an end stands at this side of it
+pub record HasSide (live : Live) (k : ℕ) (at : End) (side : Side) : Type 0 where
+  pub connection : code.Connection
+  pub there : get nat_eq live k ≡ Some connection
+  pub is : side_at at (alone 0 connection) ≡ Some side
 
 -- the connection with a number was this, and changes so
 pub record ChangesOf (old new : Live) (k : ℕ)

@@ -210,6 +210,9 @@ impl Connections {
     pub fn place(&self, at: End) -> Option<(u64, Side)>
         ensures { result ≡ place_at at self.now }
     {
+        if let Some(found) = live::counted(&self.live, at) {
+            return Some(found);
+        }
         let number = *self.ends.get(&Place::of(at))?;
         let side = live::get(&self.live, number)?.side_at(at)?;
         Some((number, side))

@@ -1,8 +1,16 @@
 //! What changes of one live connection, by its number.
 
-ghost use Rattle.std.specs.Prelude.{◌≡◌, None, false, true, Err, OnOk, OnErr, nat_eq, option_copied};
+ghost use Rattle.std.specs.Prelude.{◌≡◌, None, false, true, Err, IfSome, OnOk, OnErr, nat_eq, option_copied};
 ghost use Rattle.indexmap.specs.IndexMap.{get};
-ghost use Rattle.gb_bus.specs.Index.{ChangesBy, IsAdded, IsPlaced, Leaves, StandsAt, end_toward};
+ghost use Rattle.gb_bus.specs.Index.{
+  ChangesBy,
+  HasSide,
+  IsAdded,
+  IsPlaced,
+  Leaves,
+  StandsAt,
+  end_toward,
+};
 ghost use Rattle.gb_bus.specs.Parts.{cleared, closed, soiled, with_wire};
 ghost use Rattle.gb_bus.specs.Sides.{AsksOn, GivesUpOn, HasEndsOf, MatchesOn, RespondsOn};
 ghost use Rattle.gb_bus.specs.declared.answers.SendFault.TheVariants as fault;
@@ -64,6 +72,23 @@ pub fn get(live: &IndexMap<u64, Connection>, k: u64) -> Option<&Connection>
 {
     let (_, connection) = live.get_index(place(live, k)?)?;
     Some(connection)
+}
+
+/// The connection that has an end, and the side at which the end stands, where it is wired and
+/// stands at the number that its CPort of the application processor has too. So it does where none
+/// that was made before it is gone. Nothing is said at None.
+#[inline]
+pub fn counted(live: &IndexMap<u64, Connection>, at: End) -> Option<(u64, Side)>
+    ensures { IfSome result (λ found. HasSide live.now found.0 at found.1) }
+{
+    let counted = match at {
+        End::Svc => 0,
+        End::Ap(ap) => usize::from(ap),
+        End::Module { .. } => return None,
+    };
+    let (number, connection) = live.get_index(counted)?;
+    let side = connection.side_at(at)?;
+    Some((*number, side))
 }
 
 /// The end at a side of a connection that is wired, None where it isn't live and wired.

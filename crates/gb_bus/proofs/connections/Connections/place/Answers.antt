@@ -1,9 +1,15 @@
 -- The connection that has the end, where it is wired.
 use Rattle.std.proofs.Common.{ap, option_map, sym, ◌∙◌}
-use Rattle.gb_bus.proofs.Placing.{places, places-dead, places-nowhere}
+use Rattle.gb_bus.proofs.Placing.{places, places-counted, places-dead, places-nowhere}
 use Rattle.gb_bus.specs.Index.{number_at}
 use Rattle.gb_bus.specs.Parts.{place_at}
 use Rattle.gb_bus.proofs.connections.Connections.place.Goals as goal
+
+pub returns-in-Some : goal.returns-in-Some
+returns-in-Some c =
+    places-counted c.self.inside.live c.self.inside.ends c.self.inside.queues c.args.at
+    c.in-Some.found.0 c.in-Some.found.1 c.self.invariant c.in-Some.ensures
+    ∙ ap (place_at c.args.at) c.self.view_is
 
 pub returns-in_err-number : goal.returns-in_err-number
 returns-in_err-number c =
