@@ -319,6 +319,7 @@ impl Slots {
         ensures { MovesAt n is_let_go self.old.tally self.old self.new }
     {
         self.places.take(n);
+        self.places.trim();
         self.slots.try_remove(key);
     }
 

@@ -27,9 +27,9 @@ use std::alloc::Global;
 use std::collections::VecDeque;
 use std::marker::Model;
 
-/// A map from numbers to items. It has a place for each number from the least that has an item to
-/// the greatest that had one, so these should stand close together. A contract sees the numbers
-/// that have an item, each with it, in order.
+/// A map from numbers to items. It has a place for each number from the least to the greatest that
+/// had an item since there was none, so these should stand close together. A contract sees the
+/// numbers that have an item, each with it, in order.
 #[derive(Drop)]
 pub struct Table<T> {
     /// The number of the first place.
@@ -110,8 +110,16 @@ impl<T: Copy> Table<T> {
         let place = (n - self.first) as usize;
         let item = item_in(&self.places, place)?;
         self.places[place] = None;
-        trim(&mut self.first, &mut self.places);
         Some(item)
+    }
+
+    /// Places before the least number that has an item are let go. The numbers that get an item
+    /// later should be greater than it: each lesser one brings back the places between.
+    #[inline]
+    pub fn trim(&mut self)
+        ensures { self.new ≡ self.old }
+    {
+        trim(&mut self.first, &mut self.places);
     }
 
     /// No number has an item any more. The memory stays.

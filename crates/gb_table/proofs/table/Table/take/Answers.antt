@@ -1,7 +1,7 @@
 -- Nothing stands at the place of a number from now on.
-use Rattle.std.proofs.Common.{ap, is_some, subst, sym, ◌∙◌, ◌-◌, None, arith}
+use Rattle.std.proofs.Common.{ap, is_some, sym, ◌∙◌, ◌-◌, None, arith}
 use Rattle.gb_table.proofs.Looking.{has-place, puts-at, seen-at, seen-below, stays}
-use Rattle.gb_table.specs.Table.{Puts, item_at}
+use Rattle.gb_table.specs.Table.{item_at}
 use Rattle.gb_table.proofs.table.Table.take.Goals as goal
 
 pub returns-then-n-self-clause-item : goal.returns-then-n-self-clause-item
@@ -41,9 +41,7 @@ returns-clause-item g c =
 
 pub returns-clause-taken : goal.returns-clause-taken
 returns-clause-taken g c =
-    subst (λ es. Puts (item_at c.args.self.now) (item_at es) c.args.n None)
-    (sym c.trim.ensures.same)
-    (puts-at c.self.inside.first c.args.n c.self.inside.places.items c.args.self.now None
+    puts-at c.self.inside.first c.args.n c.self.inside.places.items c.args.self.now None
     c.self.view_is (omega arith)
     (has-place c.self.inside.places.items (c.args.n - c.self.inside.first)
-    (ap is_some (sym c.item_in.ensures ∙ c.in_ok-item.was))))
+    (ap is_some (sym c.item_in.ensures ∙ c.in_ok-item.was)))
