@@ -241,7 +241,8 @@ free-place s p m k key a free e =
     absurd (none-some old.0 (sym free ∙ ap (slab.get s) (sym same) ∙ old.1))
 
 pub added : (s s2 : Slab Slot) (p p2 : Places) (n key : ℕ) (slot : Slot) → AllPlaced s p
-    → slab.get s key ≡ None → Updates s s2 key (Some slot) → Puts (item_at p) (item_at p2) n (Some key)
+    → slab.get s key ≡ None → Updates s s2 key (Some slot)
+    → Puts (item_at p) (item_at p2) n (Some key)
     → FindsAt n (Some slot) (found s p) (found s2 p2)
 added s s2 p p2 n key slot a free u w =
     each-number n (λ m. found s2 p2 m ≡ cond (eqb m n) (Some slot) (found s p m))

@@ -112,7 +112,8 @@ module _ (s : Slab Slot) (p : Places) (d : Deadlines) (t : Tally) (slot : Slot)
           omega (arith, more, less, one, other)
 
   module _ (s2 : Slab Slot) (p2 : Places) (key : ℕ) (free : slab.get s key ≡ None)
-      (u : Updates s s2 key (Some slot)) (w : Puts (item_at p) (item_at p2) slot.number (Some key)) where
+      (u : Updates s s2 key (Some slot))
+      (w : Puts (item_at p) (item_at p2) slot.number (Some key)) where
     opens : FindsAt slot.number (Some slot) (found s p) (found s2 p2)
     opens = added s s2 p p2 slot.number key slot (all-placed s p d t k) free u w
 

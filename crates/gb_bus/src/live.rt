@@ -1,6 +1,17 @@
 //! What changes of one live connection, by its number.
 
-ghost use Rattle.std.specs.Prelude.{◌≡◌, None, false, true, Err, IfSome, OnOk, OnErr, nat_eq, option_copied};
+ghost use Rattle.std.specs.Prelude.{
+  ◌≡◌,
+  None,
+  false,
+  true,
+  Err,
+  IfSome,
+  OnOk,
+  OnErr,
+  nat_eq,
+  option_copied,
+};
 ghost use Rattle.indexmap.specs.IndexMap.{get};
 ghost use Rattle.gb_bus.specs.Index.{
   ChangesBy,

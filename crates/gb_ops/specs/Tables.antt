@@ -1,6 +1,6 @@
 -- What the maps keep, and what their calls do.
 use Rattle.std.specs.Prelude.{◌≡◌, ◌≤◌, ℕ, true, false, Option, Some, None, is_some}
-use Rattle.std.specs.Prelude.{nat_eq, option_map, IsNone, List, [], ◌∷◌, ◌++◌}
+use Rattle.std.specs.Prelude.{option_map, IsNone, List, [], ◌∷◌, ◌++◌}
 use Rattle.std.specs.BTreeMap.{is_at}
 use Rattle.std.specs.Map.{lookup}
 use Rattle.std.specs.Ordering.{nat_cmp}

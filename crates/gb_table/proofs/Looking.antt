@@ -202,4 +202,6 @@ listed n i k places old new all next less is e =
 pub all-listed : {X : Type 0} (n i : ℕ) (places : List (Option X)) (es all : List (ℕ × X))
     → length places ≤ i → es ++ entries_from (n + i) (drop i places) ≡ all → es ≡ all
 all-listed n i places es all past e =
-    sym (append-nil es) ∙ ap (λ ps. es ++ entries_from (n + i) ps) (sym (drop_all i places past)) ∙ e
+    sym (append-nil es)
+    ∙ ap (λ ps. es ++ entries_from (n + i) ps) (sym (drop_all i places past))
+    ∙ e

@@ -8,7 +8,8 @@ returns-in-Some-get_index_mut-clause-there c =
     c.give_up.new.self c.in-Some.ensures c.in-Some-get_index_mut.ensures.unique
     c.in-Some-get_index_mut.ensures.value c.give_up.ensures
 
-pub returns-in_default-get_index_mut-clause-there : goal.returns-in_default-get_index_mut-clause-there
+pub returns-in_default-get_index_mut-clause-there
+    : goal.returns-in_default-get_index_mut-clause-there
 returns-in_default-get_index_mut-clause-there c = λ x is.
     absurd (never-none c.args.live.now c.args.k c.in-Some.at c.in-Some.ensures
     c.in_default-get_index_mut.ensures.value)

@@ -1,5 +1,4 @@
 -- The connection that was looked up stands at its index.
-use Rattle.std.proofs.Common.{sym}
 use Rattle.gb_bus.proofs.LivePlaces.{found-at}
 use Rattle.gb_bus.proofs.live.place.Goals as goal
 

@@ -1,5 +1,5 @@
 -- The place of a number is there once places were added.
-use Rattle.std.proofs.Common.{◌∙◌, Some, arith}
+use Rattle.std.proofs.Common.{◌∙◌, Some}
 use Rattle.gb_table.proofs.Looking.{puts-at}
 use Rattle.gb_table.proofs.table.Table.put.Goals as goal
 

@@ -1,6 +1,7 @@
 -- What stands at the place of a number is replaced.
 use Rattle.std.proofs.Common.{ap, is_some, sym, ◌∙◌, ◌-◌, arith}
-use Rattle.gb_table.proofs.Looking.{has-place, none-from, nowhere, replaces, seen-at, seen-below, stays}
+use Rattle.gb_table.proofs.Looking.{has-place, none-from, nowhere, replaces, seen-at}
+use Rattle.gb_table.proofs.Looking.{seen-below, stays}
 use Rattle.gb_table.specs.Table.{item_at}
 use Rattle.gb_table.proofs.table.Table.set.Goals as goal
 
