@@ -1,4 +1,4 @@
-//! What is decided of ends and requests without a bus.
+//! What is decided of ends and sides alone.
 
 ghost use Rattle.std.specs.Prelude.{◌≡◌};
 ghost use Rattle.gb_machine.specs.Bus.{other_side, same_end};

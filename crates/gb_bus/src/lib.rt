@@ -22,6 +22,7 @@ mod wiring;
 
 pub use answers::{About, AlreadyEnded, Arrival, Arrived, Asked, DeliverFault, SendFault, Sent};
 pub use bus::Bus;
+pub use ends::other_side;
 pub use raw::LONGEST_RAW;
 pub use tally::Tally;
 pub use telling::{Known, Waiting};
