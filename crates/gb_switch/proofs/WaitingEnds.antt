@@ -1,12 +1,14 @@
--- What becomes of the ends where an item waits when the least is removed.
-use Rattle.std.proofs.Common.{◌≡◌, true, false, Option, Some, None, IfSome, IfNone, List, ◌∷◌}
-use Rattle.std.proofs.Common.{◌||◌, Equal, sym, ap, subst}
+-- The ends where an item waits are in order, and what becomes of them when the least is removed.
+use Rattle.std.proofs.Common.{◌≡◌, Bool, true, false, Option, Some, None, IfSome, IfNone, List, [], ◌∷◌}
+use Rattle.std.proofs.Common.{◌||◌, Equal, Less, refl, sym, ap, subst}
 use Rattle.std.proofs.lemmas.Bool.{true≢false}
 use Rattle.std.proofs.lemmas.Cmp.{tied_itself}
+use Rattle.std.specs.List.{AllByRecursion}
+use Rattle.std.specs.List.Sorted.{IsStrictlySortedBy}
 use Rattle.std.specs.Option.{option_eq}
-use Rattle.std.specs.Ordering.{eq_by_cmp}
+use Rattle.std.specs.Ordering.{eq_by_cmp, is_eq}
 use Rattle.gb_base.specs.declared.end.End.{End}
-use Rattle.gb_switch.proofs.Places.{by-false, cmp-other, cmp-same}
+use Rattle.gb_switch.proofs.Places.{by-false, cmp-other, cmp-own, cmp-same}
 use Rattle.gb_switch.specs.Places.{end_cmp, end_total}
 use Rattle.gb_switch.specs.WaitingEnds.{IsBelow, Marks, ends_of, is_in}
 
@@ -43,3 +45,25 @@ removes-first o r p old new same some none below =
     subst (λ x. Marks (ends_of x old) (ends_of r new) p false) (sym is)
     (subst (λ ends. Marks (p ∷ old) ends p false) (sym (rest-of r old new some none))
     (leaves-others p old (subst (λ x. IsBelow x old) is below)))
+
+-- ---- they are in order
+
+-- an end that is below those of a list by being in it is below each
+below-each : (p : End) (others : List End)
+    → ((q : End) → is_in others q ≡ true → end_cmp p q ≡ Less)
+    → AllByRecursion (λ q. end_cmp p q ≡ Less) others
+below-each p [] below = tt
+below-each p (q ∷ others) below = (
+  below q (ap (λ b. b || is_in others q) (cmp-own q)),
+  below-each p others (λ r there. below r (later r (is_eq (end_cmp r q)) there)),
+)
+  where
+    later : (r : End) (b : Bool) → is_in others r ≡ true → (b || is_in others r) ≡ true
+    later r true there = refl
+    later r false there = there
+
+pub in-order : (o : Option End) (others : List End) → IsBelow o others
+    → IsStrictlySortedBy end_cmp others → IsStrictlySortedBy end_cmp (ends_of o others)
+unfolding IsStrictlySortedBy
+in-order None others below sorted = sorted
+in-order (Some p) others below sorted = (below-each p others below, sorted)

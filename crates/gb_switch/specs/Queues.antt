@@ -1,11 +1,13 @@
 -- What waits at each end, and what calls do.
 use Rattle.std.specs.Prelude.{◌≡◌, ◌≢◌, true, false, Option, Some, None, List, [], ◌∷◌, ◌++◌}
 use Rattle.std.specs.BTreeMap.{is_at}
+use Rattle.std.specs.List.Sorted.{IsStrictlySortedBy}
 use Rattle.std.specs.Map.{lookup}
 use Rattle.gb_base.specs.declared.end.End.{End}
 use Rattle.gb_machine.specs.Waiting.{end_before}
 use Rattle.gb_switch.specs.Lines.{has_items}
 use Rattle.gb_switch.specs.Places.{end_cmp}
+use Rattle.gb_switch.specs.WaitingEnds.{is_in}
 
 -- What waits in an end's queue, the front first. None where the end has no queue.
 abbrev pub items_at : {T : Type 0} → List (End × List T) → End → Option (List T)
@@ -64,3 +66,9 @@ pub record IsFirst {T : Type 0} (queue : End → Option (List T)) (at : End) : T
 abbrev pub FindsFirst : {T : Type 0} → (End → Option (List T)) → Option End → Type 0
 FindsFirst queue None = (at : End) → has_items (queue at) ≡ false
 FindsFirst queue (Some at) = IsFirst queue at
+
+-- These are the ends where an item waits, in the order in which queues are settled.
+pub record ListsWaiting {T : Type 0} (queue : End → Option (List T)) (ends : List End) : Type
+    0 where
+  pub sorted : IsStrictlySortedBy end_cmp ends
+  pub those : (at : End) → is_in ends at ≡ has_items (queue at)

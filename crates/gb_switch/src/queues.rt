@@ -9,6 +9,7 @@ ghost use Rattle.std.specs.Prelude.{
   ◌∷◌,
   ◌++◌,
   IfErr,
+  IfOk,
   OnErr,
   OnOk,
   length,
@@ -19,6 +20,7 @@ ghost use Rattle.gb_switch.specs.Queues.{
   Creates,
   Destroys,
   FindsFirst,
+  ListsWaiting,
   Puts,
   StaysSame,
   TakesAs,
@@ -29,7 +31,7 @@ ghost use Rattle.gb_switch.specs.WaitingEnds.{Marks, is_in};
 
 use crate::Place;
 use crate::waiting::Waiting;
-use gb_base::{End, OutOfMemory};
+use gb_base::{End, OutOfMemory, Sequence};
 use std::alloc::Global;
 use std::collections::{HashMap, VecDeque};
 use std::marker::Model;
@@ -147,6 +149,14 @@ impl<T: Drop> Queues<T> {
     {
         let place = self.waiting.first()?;
         Some(place.end())
+    }
+
+    /// The ends where an item waits, in the order in which queues are settled.
+    pub fn waiting(&self) -> Result<Sequence<End>, OutOfMemory>
+        ensures { IfOk result (λ ends. ListsWaiting (items_at self.now) ends) }
+    {
+        let ends = self.waiting.ends(self.alloc)?;
+        Ok(ends)
     }
 }
 

@@ -1,10 +1,12 @@
 //! The ends where an item waits.
 
-ghost use Rattle.std.specs.Prelude.{◌≡◌, true, false, [], OnErr, OnOk};
+ghost use Rattle.std.specs.Prelude.{◌≡◌, true, false, [], IfOk, OnErr, OnOk};
+ghost use Rattle.std.specs.List.Sorted.{IsStrictlySortedBy};
+ghost use Rattle.gb_switch.specs.Places.{end_cmp};
 ghost use Rattle.gb_switch.specs.WaitingEnds.{IsLeast, Marks, is_in};
 
 use crate::Place;
-use gb_base::OutOfMemory;
+use gb_base::{End, OutOfMemory, Sequence};
 use std::alloc::Global;
 use std::collections::BTreeSet;
 use std::marker::Model;
@@ -77,5 +79,20 @@ impl Waiting {
         ensures { IsLeast self.now result }
     {
         self.first
+    }
+
+    /// The ends in order.
+    pub fn ends(&self, alloc: Global) -> Result<Sequence<End>, OutOfMemory>
+        ensures ends { IfOk result (λ ends. ends ≡ self.now) }
+        ensures sorted { IfOk result (λ ends. IsStrictlySortedBy end_cmp ends) }
+    {
+        let mut ends = Sequence::new(alloc);
+        if let Some(first) = self.first {
+            ends.push(first.end())?;
+        }
+        for place in &self.others {
+            ends.push(place.end())?;
+        }
+        Ok(ends)
     }
 }
