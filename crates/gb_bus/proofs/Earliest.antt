@@ -42,7 +42,7 @@ pair-through : (i c j d k e : ℕ) → (nat_lt i j || eqb i j && nat_lt c d) ≡
     → (nat_lt i k || eqb i k && nat_lt c e) ≡ true
 pair-through i c j d k e f g = grind (arith, nat_tests, rules)
 
-before-through : (a b c : End) → end_before a b ≡ true → end_before b c ≡ true
+pub before-through : (a b c : End) → end_before a b ≡ true → end_before b c ≡ true
     → end_before a c ≡ true
 before-through end.Svc end.Svc c e f = absurd (cc e)
 before-through end.Svc (end.Ap b) end.Svc e f = absurd (cc f)
@@ -81,7 +81,7 @@ pair-one i c j d e f = (left i c j d e f, right i c j d e f)
     right i c j d e f = grind (arith, nat_tests, rules)
 
 -- ends of which none comes first are one
-one-end : (a b : End) → end_before a b ≡ false → end_before b a ≡ false → a ≡ b
+pub one-end : (a b : End) → end_before a b ≡ false → end_before b a ≡ false → a ≡ b
 one-end end.Svc end.Svc e f = refl
 one-end end.Svc (end.Ap b) e f = absurd (cc e)
 one-end end.Svc (end.Module j d) e f = absurd (cc e)
@@ -102,7 +102,7 @@ IsBest W None = (a : End) → W a → ⊥
 IsBest W (Some e) = W e × ((a : End) → W a → end_before a e ≡ false)
 
 -- one more end, unless it is empty
-abbrev OneMore : (End → Type 0) → Bool → End → End → Type 0
+abbrev pub OneMore : (End → Type 0) → Bool → End → End → Type 0
 OneMore W empty at a = ((empty ≡ false) × (a ≡ at)) ⊎ W a
 
 best-more : (W : End → Type 0) (empty : Bool) (at : End) (r : Option End) → IsBest W r
@@ -136,13 +136,13 @@ best-more W false at (Some e) h = by (end_before at e) refl
     )
 
 -- something waits at an end of a connection
-abbrev WaitsOn : Connection → End → Type 0
+abbrev pub WaitsOn : Connection → End → Type 0
 WaitsOn c a =
     (c.wired ≡ true) × (((is_none_left c.to_ap ≡ false) × (a ≡ end.Ap c.ap))
     ⊎ ((is_none_left c.to_far ≡ false) × (a ≡ c.peer)))
 
 -- or of one of them
-abbrev WaitsIn : List Connection → End → Type 0
+abbrev pub WaitsIn : List Connection → End → Type 0
 WaitsIn [] a = ⊥
 WaitsIn (c ∷ cs) a = WaitsOn c a ⊎ WaitsIn cs a
 
@@ -204,7 +204,7 @@ on-has q k x a w =
     (sym (ap (λ t. is_none_left (cond t (items_of (items_at q x.peer)) [])) w.0) ∙ p.0))
     w.1
 
-in-has : (q : Queues) (es : List (ℕ × code.Connection)) (a : End) → WaitsIn (all_seen q es) a
+pub in-has : (q : Queues) (es : List (ℕ × code.Connection)) (a : End) → WaitsIn (all_seen q es) a
     → has_items (items_at q a) ≡ true
 in-has q [] a w = absurd w
 in-has q (e ∷ es) a w = ⊎_elim (λ v. on-has q e.0 e.1 a v) (λ v. in-has q es a v) w
@@ -241,7 +241,7 @@ among q (e ∷ es) n x a l w = by (nat_eq n e.0) l (among q es n x a)
     by true m later = inl (subst (λ c. WaitsOn (seen q e.0 c) a) (sym (same-some e.1 x m)) (w e.0))
     by false m later = inr (later m w)
 
-has-in : (live : Live) (ends : Ends) (q : Queues) (a : End) → Kept live ends q
+pub has-in : (live : Live) (ends : Ends) (q : Queues) (a : End) → Kept live ends q
     → has_items (items_at q a) ≡ true → WaitsIn (all_seen q live.entries) a
 has-in live ends q a k has = by (items_at q a) refl
   where

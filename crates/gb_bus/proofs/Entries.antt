@@ -63,7 +63,7 @@ abbrev pub NoKey : {X : Type 0} → ℕ → List (ℕ × X) → Type 0
 NoKey n es = EachEntry (λ k x. k ≢ n) es
 
 -- the numbers behind are others
-others-behind : {X : Type 0} (n : ℕ) (es : List (ℕ × X))
+pub others-behind : {X : Type 0} (n : ℕ) (es : List (ℕ × X))
     → AllByRecursion (λ k. nat_eq n k ≡ false) (keys_of es) → NoKey n es
 others-behind n [] h = tt
 others-behind n (e ∷ es) h = (different n e.0 h.0, others-behind n es h.1)

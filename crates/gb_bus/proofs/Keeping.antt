@@ -57,7 +57,7 @@ ends-apart live ends k n z x a e i there found ne of_z of_x same =
     ∙ ap (number_at ends) same
     ∙ number-of-end ends n x e (i n x found) of_x))
 
-end-own : (e : End) → same_end e e ≡ true
+pub end-own : (e : End) → same_end e e ≡ true
 end-own end.Svc = refl
 end-own (end.Ap a) = own a
   where

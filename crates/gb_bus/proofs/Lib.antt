@@ -53,4 +53,5 @@ pub mod Standing
 pub mod Taken
 pub mod Tellings
 pub mod Told
+pub mod Waits
 pub mod Wires

@@ -36,7 +36,7 @@ abbrev told : List Queue → List Waiting
 told qs = map waiting_of (sorted queue_before qs)
 
 -- one more end, where something waits
-with-some : (at : End) (n : ℕ) (ws : List Waiting)
+pub with-some : (at : End) (n : ℕ) (ws : List Waiting)
     → with_end at (suc n) ws
     ≡ in_order waiting_before (record { at = at; count = suc n }) ws
 with-some at n ws =

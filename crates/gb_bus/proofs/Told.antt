@@ -1,13 +1,11 @@
 -- What is told of the entries of live connections, one after another.
-use Rattle.std.proofs.Common.{◌≡◌, ℕ, Bool, true, false, cond, ◌||◌, List, [], ◌∷◌, ◌++◌, map, refl}
-use Rattle.std.proofs.Common.{sym, ap, ◌∙◌}
+use Rattle.std.proofs.Common.{◌≡◌, ℕ, Bool, true, false, cond, ◌||◌, List, [], ◌∷◌, map, refl, ap}
 use Rattle.std.specs.List.{filter, list_any}
 use Rattle.gb_bus.proofs.Keeping.{Queues}
 use Rattle.gb_bus.specs.Parts.{is_wired_to}
 use Rattle.gb_bus.specs.Seen.{all_seen, seen}
-use Rattle.gb_bus.specs.Telling.{known_as, waiting_in, waiting_over, with_ends}
+use Rattle.gb_bus.specs.Telling.{known_as}
 use Rattle.gb_bus.specs.declared.connection.Connection as code
-use Rattle.gb_bus.specs.declared.telling.Waiting.{Waiting}
 
 -- what doesn't read what waits
 pub any-wired : (q : Queues) (i : ℕ) (es : List (ℕ × code.Connection))
@@ -35,21 +33,3 @@ pub all-known : (q : Queues) (es : List (ℕ × code.Connection))
     → map known_as (all_seen [] es) ≡ map known_as (all_seen q es)
 all-known q [] = refl
 all-known q (e ∷ es) = ap (λ ks. known_as (seen q e.0 e.1) ∷ ks) (all-known q es)
-
--- the ends of these are put in order, the last ones first
-pub waiting-all : (q : Queues) (es : List (ℕ × code.Connection))
-    → waiting_over q es [] ≡ waiting_in (all_seen q es)
-waiting-all q [] = refl
-waiting-all q (e ∷ es) = ap (with_ends (seen q e.0 e.1)) (waiting-all q es)
-
-pub waiting-last : (q : Queues) (es fs : List (ℕ × code.Connection)) (k : ℕ)
-    (x : code.Connection) (ws vs : List Waiting) → es ≡ fs ++ (k, x) ∷ []
-    → vs ≡ with_ends (seen q 0 x) ws → waiting_over q fs vs ≡ waiting_over q es ws
-waiting-last q es fs k x ws vs is more =
-    ap (waiting_over q fs) more ∙ over fs ∙ sym (ap (λ l. waiting_over q l ws) is)
-  where
-    over : (gs : List (ℕ × code.Connection))
-        → waiting_over q gs (with_ends (seen q 0 x) ws)
-        ≡ waiting_over q (gs ++ (k, x) ∷ []) ws
-    over [] = refl
-    over (e ∷ gs) = ap (with_ends (seen q e.0 e.1)) (over gs)

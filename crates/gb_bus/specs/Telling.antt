@@ -3,14 +3,14 @@ use Rattle.std.specs.Prelude.{ℕ, ◌==◌, Bool, if◌then◌else◌, List, []
 use Rattle.gb_base.specs.declared.end.End.{End}
 use Rattle.gb_base.specs.declared.end.End.TheVariants as end
 use Rattle.gb_bus.specs.Connection.{Connection}
-use Rattle.gb_bus.specs.Seen.{seen}
-use Rattle.gb_bus.specs.declared.connection.Connection as code
+use Rattle.gb_bus.specs.Seen.{items_of}
 use Rattle.gb_bus.specs.declared.queue.Item.{Item}
 use Rattle.gb_bus.specs.declared.telling.Known.{Known}
 use Rattle.gb_bus.specs.declared.telling.Waiting.{Waiting}
 use Rattle.gb_machine.specs.Bus as machine
 use Rattle.gb_machine.specs.Lists.{in_order}
 use Rattle.gb_machine.specs.Waiting.{Queue, end_before}
+use Rattle.gb_switch.specs.Queues.{items_at}
 
 -- ---- connections
 
@@ -56,13 +56,11 @@ with_ends x ws =
     then with_end (end.Ap x.ap) (length x.to_ap) (with_end x.peer (length x.to_far) ws)
     else ws
 
--- the ends of live connections among others
-abbrev pub waiting_over : List (End × List Item) → List (ℕ × code.Connection) → List Waiting
-    → List Waiting
-waiting_over queues [] ws = ws
-waiting_over queues (e ∷ es) ws = with_ends (seen queues e.0 e.1) (waiting_over queues es ws)
-
 -- the ends at which something waits, in their order
 abbrev pub waiting_in : List Connection → List Waiting
 waiting_in [] = []
 waiting_in (x ∷ xs) = with_ends x (waiting_in xs)
+
+-- what waits at an end
+abbrev pub waiting_at : List (End × List Item) → End → Waiting
+waiting_at queues at = record { at = at; count = length (items_of (items_at queues at)) }

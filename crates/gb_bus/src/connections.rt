@@ -37,7 +37,7 @@ ghost use Rattle.gb_bus.specs.Parts.{
 
 use crate::connection::Connection;
 use crate::ends::is_same;
-use crate::queue::{Item, add, add_all, add_or_lose, ask_item, count};
+use crate::queue::{Item, add, add_or_lose, ask_item, count, count_all};
 use crate::{Known, SendFault, Waiting, end_numbers, live};
 use gb_base::{End, Numbers, OutOfMemory, Sequence, Side};
 use gb_ops::{Matched, Ops};
@@ -240,9 +240,9 @@ impl Connections {
     pub fn waiting(&self, alloc: Global) -> Result<Sequence<Waiting>, OutOfMemory>
         ensures { IfOk result (λ ws. ws ≡ waiting_in self.now) }
     {
-        let mut ordered = Sequence::new(alloc);
-        add_all(&self.queues, &self.live, &mut ordered)?;
-        Ok(ordered)
+        let ends = self.queues.waiting()?;
+        let waiting = count_all(&self.queues, alloc, ends.items())?;
+        Ok(waiting)
     }
 
     /// A connection is wired, and nothing waits at its ends. After want of memory nothing is said.

@@ -1,18 +1,16 @@
 //! What waits in queues.
 
-ghost use Rattle.std.specs.Prelude.{◌≡◌, IfOk, OnOk, OnErr, length};
+ghost use Rattle.std.specs.Prelude.{◌≡◌, IfOk, OnOk, OnErr, length, map};
 ghost use Rattle.gb_bus.specs.Index.{AddsAt};
 ghost use Rattle.gb_bus.specs.Parts.{queue_of};
-ghost use Rattle.gb_bus.specs.Seen.{seen};
-ghost use Rattle.gb_bus.specs.Telling.{waiting_over, with_ends};
+ghost use Rattle.gb_bus.specs.Seen.{items_of, seen};
+ghost use Rattle.gb_bus.specs.Telling.{waiting_at};
 ghost use Rattle.gb_switch.specs.Queues.{Appends, StaysSame, items_at};
 
 use crate::Waiting;
 use crate::connection::Connection;
-use crate::telling::add_end;
 use gb_base::{Bytes, End, OutOfMemory, RawFault, Sequence, Side};
 use gb_switch::Queues;
-use indexmap::IndexMap;
 use std::alloc::Global;
 
 /// A message in a queue. It carries all that its delivery needs.
@@ -121,6 +119,16 @@ pub fn add_or_lose(
     }
 }
 
+/// How many messages wait at an end.
+fn len_at(queues: &Queues<Item>, at: End) -> u64
+    ensures { result ≡ length (items_of (items_at queues.now at)) }
+{
+    match queues.len(at) {
+        Some(count) => count,
+        None => 0,
+    }
+}
+
 /// How many messages wait toward a side of a connection.
 pub fn count(queues: &Queues<Item>, connection: &Connection, side: Side) -> u64
     ensures { result ≡ length (queue_of side (seen queues.now 0 connection.now)) }
@@ -128,49 +136,23 @@ pub fn count(queues: &Queues<Item>, connection: &Connection, side: Side) -> u64
     if !connection.wired {
         return 0;
     }
-    match queues.len(connection.end(side)) {
-        Some(count) => count,
-        None => 0,
-    }
+    len_at(queues, connection.end(side))
 }
 
-/// Adds those of the ends of a connection at which something waits, where they belong in the order
-/// in which queues are settled.
-pub fn add_ends(
+/// How many messages wait at each of these ends.
+pub fn count_all(
     queues: &Queues<Item>,
-    connection: &Connection,
-    ordered: &mut Sequence<Waiting>,
-) -> Result<(), OutOfMemory>
-    ensures { OnOk result
-        (ordered.new ≡ with_ends (seen queues.now 0 connection.now) ordered.old) }
+    alloc: Global,
+    ends: &[End],
+) -> Result<Sequence<Waiting>, OutOfMemory>
+    ensures { IfOk result (λ ws. ws ≡ map (waiting_at queues.now) ends.now) }
 {
-    if !connection.wired {
-        return Ok(());
+    let mut waiting = Sequence::new(alloc);
+    for at in ends {
+        waiting.push(Waiting {
+            at: *at,
+            count: len_at(queues, *at),
+        })?;
     }
-    add_end(
-        connection.peer,
-        count(queues, connection, Side::Far),
-        ordered,
-    )?;
-    add_end(
-        End::Ap(connection.ap),
-        count(queues, connection, Side::Ap),
-        ordered,
-    )
-}
-
-/// Adds the ends of all live connections at which something waits, where they belong in the order
-/// in which queues are settled.
-pub fn add_all(
-    queues: &Queues<Item>,
-    live: &IndexMap<u64, Connection>,
-    ordered: &mut Sequence<Waiting>,
-) -> Result<(), OutOfMemory>
-    ensures { OnOk result
-        (ordered.new ≡ waiting_over queues.now live.now.entries ordered.old) }
-{
-    for (_, connection) in live.iter().rev() {
-        add_ends(queues, connection, ordered)?;
-    }
-    Ok(())
+    Ok(waiting)
 }

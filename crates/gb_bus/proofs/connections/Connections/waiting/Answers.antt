@@ -1,12 +1,13 @@
--- Among no others, the ends of all are put in order.
-use Rattle.std.proofs.Common.{ap, ◌∙◌}
-use Rattle.gb_bus.proofs.Told.{waiting-all}
-use Rattle.gb_bus.specs.Telling.{waiting_in, waiting_over}
+-- The ends that the queues list, with how many wait there, are those of the connections.
+use Rattle.std.proofs.Common.{ap, map, ◌∙◌}
+use Rattle.gb_bus.proofs.Waits.{waiting-is}
+use Rattle.gb_bus.specs.Telling.{waiting_at, waiting_in}
 use Rattle.gb_bus.proofs.connections.Connections.waiting.Goals as goal
 
 pub returns : goal.returns
 returns c =
-    c.in_ok-add_all.ensures
-    ∙ ap (waiting_over c.self.inside.queues c.self.inside.live.entries) c.new-ordered.ensures
-    ∙ waiting-all c.self.inside.queues c.self.inside.live.entries
+    c.in_ok-waiting.ensures
+    ∙ ap (map (waiting_at c.self.inside.queues)) c.items.ensures
+    ∙ waiting-is c.self.inside.live c.self.inside.ends c.self.inside.queues c.in_ok-ends.ends
+    c.self.invariant c.in_ok-ends.ensures
     ∙ ap waiting_in c.self.view_is
