@@ -12,7 +12,7 @@ use Rattle.gb_base.specs.declared.end.End.TheVariants as end
 use Rattle.gb_base.specs.declared.end.Side.{Side}
 use Rattle.gb_base.specs.declared.end.Side.TheVariants as side
 use Rattle.gb_bus.proofs.Entries.{same-some, set-here, set-others}
-use Rattle.gb_bus.specs.Index.{Ends, HasQueues, IsEndOf, IsIndexed, IsOwned, Kept, Live}
+use Rattle.gb_bus.specs.Index.{Ends, HasEnd, HasQueues, IsEndOf, IsIndexed, IsOwned, Kept, Live}
 use Rattle.gb_bus.specs.Index.{number_at}
 use Rattle.gb_bus.specs.Parts.{end_at}
 use Rattle.gb_bus.specs.Seen.{alone, items_of, seen}
@@ -30,6 +30,9 @@ Queues = List (End × List Item)
 abbrev pub AreIndexed : Live → Ends → Type 0
 AreIndexed live ends =
     (k : ℕ) (x : code.Connection) → get nat_eq live k ≡ Some x → IsIndexed ends k x
+
+abbrev pub AreNumbered : Live → Ends → Type 0
+AreNumbered live ends = (at : End) (k : ℕ) → number_at ends at ≡ Some k → HasEnd live k at
 
 abbrev pub AreOwned : Live → Queues → Type 0
 AreOwned live q = (at : End) (items : List Item) → items_at q at ≡ Some items → IsOwned live at
@@ -57,7 +60,7 @@ ends-apart live ends k n z x a e i there found ne of_z of_x same =
     ∙ ap (number_at ends) same
     ∙ number-of-end ends n x e (i n x found) of_x))
 
-pub end-own : (e : End) → same_end e e ≡ true
+end-own : (e : End) → same_end e e ≡ true
 end-own end.Svc = refl
 end-own (end.Ap a) = own a
   where
@@ -180,6 +183,34 @@ owned-set live live' n x y a found set ap_is peer_is wires o = by (cases_eq o.nu
       own = o.own;
     }
 
+-- an end is still one of the connection with a number
+has-end-set : (live live' : Live) (n k : ℕ) (x y : code.Connection) (a : End)
+    → get nat_eq live n ≡ Some x → live'.entries ≡ set_value (nat_eq n) live.entries y
+    → y.ap ≡ x.ap → y.peer ≡ x.peer → HasEnd live k a → HasEnd live' k a
+has-end-set live live' n k x y a found set ap_is peer_is h = by (cases_eq k n)
+  where
+    by : (k ≡ n) ⊎ (k ≢ n) → HasEnd live' k a
+    by (inl e) =
+        let same : h.connection ≡ x = same-some h.connection x
+        (sym h.there ∙ ap (λ j. get nat_eq live j) e ∙ found) in
+        subst (λ j. HasEnd live' j a) (sym e)
+        (record {
+          connection = y;
+          there = ap (lookup (nat_eq n)) set ∙ set-here n live.entries x y found;
+          own = end-of-set x y a ap_is peer_is (subst (IsEndOf a) same h.own);
+        })
+    by (inr ne) = record {
+      connection = h.connection;
+      there = ap (lookup (nat_eq k)) set ∙ set-others n k live.entries y ne ∙ h.there;
+      own = h.own;
+    }
+
+pub numbered-set : (live live' : Live) (ends : Ends) (n : ℕ) (x y : code.Connection)
+    → get nat_eq live n ≡ Some x → live'.entries ≡ set_value (nat_eq n) live.entries y
+    → y.ap ≡ x.ap → y.peer ≡ x.peer → AreNumbered live ends → AreNumbered live' ends
+numbered-set live live' ends n x y found set ap_is peer_is h a k has =
+    has-end-set live live' n k x y a found set ap_is peer_is (h a k has)
+
 -- queues are there still
 pub queued-set : (live live' : Live) (q : Queues) (n : ℕ) (x y : code.Connection)
     → get nat_eq live n ≡ Some x → live'.entries ≡ set_value (nat_eq n) live.entries y
@@ -209,6 +240,7 @@ pub kept-set : (live live' : Live) (ends : Ends) (q : Queues) (n : ℕ) (x y : c
 kept-set live live' ends q n x y found set ap_is peer_is wired k = record {
   unique = unique-set live live' n y set k.unique;
   indexed = indexed-set live live' ends n x y found set ap_is peer_is k.indexed;
+  numbered = numbered-set live live' ends n x y found set ap_is peer_is k.numbered;
   owned = λ a items t.
       owned-set live live' n x y a found set ap_is peer_is (λ w. wired ∙ w) (k.owned a items t);
   queued = queued-set live live' q n x y found set ap_is peer_is
@@ -221,6 +253,13 @@ pub kept-same : (live live' : Live) (ends : Ends) (q : Queues) → live'.entries
 kept-same live live' ends q same k = record {
   unique = subst (λ es. IsDistinct nat_eq (keys_of es)) (sym same) k.unique;
   indexed = λ n x there. k.indexed n x (ap (lookup (nat_eq n)) (sym same) ∙ there);
+  numbered = λ a n has.
+      let h = k.numbered a n has in
+      record {
+        connection = h.connection;
+        there = ap (lookup (nat_eq n)) same ∙ h.there;
+        own = h.own;
+      };
   owned = λ a items t.
       let o = k.owned a items t in
       record {
@@ -250,6 +289,7 @@ pub kept-queues : (live : Live) (ends : Ends) (q r : Queues)
 kept-queues live ends q r owned stay k = record {
   unique = k.unique;
   indexed = k.indexed;
+  numbered = k.numbered;
   owned = owned;
   queued = λ n x there w. stay-queued q r x stay (k.queued n x there w);
 }

@@ -1,6 +1,6 @@
 -- How the index of live connections is kept where one is added, or removed.
-use Rattle.std.proofs.Common.{◌≡◌, ◌≢◌, ℕ, Bool, true, false, cond, ◌⊎◌, inl, inr, Option, Some}
-use Rattle.std.proofs.Common.{None, refl, sym, ap, ◌∙◌, subst, is_some}
+use Rattle.std.proofs.Common.{◌≡◌, ◌≢◌, ℕ, Bool, true, false, cond, ◌⊎◌, inl, inr, ⊎_elim}
+use Rattle.std.proofs.Common.{Option, Some, None, refl, sym, ap, ◌∙◌, subst, is_some}
 use Rattle.std.proofs.lemmas.Bool.{cases_eq, true≢false}
 use Rattle.std.specs.Map.{lookup}
 use Rattle.std.specs.Ordering.{eq_by_cmp}
@@ -11,9 +11,11 @@ use Rattle.gb_base.specs.declared.end.End.TheVariants as end
 use Rattle.gb_bus.proofs.Entries.{at-other, at-same, same-some, some-none}
 use Rattle.gb_bus.proofs.Keeping.{Queues, ends-apart}
 use Rattle.gb_bus.proofs.KeepingWires.{owner-elsewhere, queued-elsewhere}
-use Rattle.gb_bus.specs.Index.{Ends, HasQueues, IsEndOf, IsIndexed, KeepsNumbers, Kept, Live}
-use Rattle.gb_bus.specs.Index.{number_at}
+use Rattle.gb_bus.specs.Index.{Ends, GetsNumber, HasEnd, HasQueues, IsEndOf, IsIndexed}
+use Rattle.gb_bus.specs.Index.{KeepsNumbers, Kept, Live, LosesNumber, number_at}
 use Rattle.gb_bus.specs.declared.connection.Connection as code
+use Rattle.gb_machine.specs.Bus.{same_end}
+use Rattle.gb_switch.proofs.Lines.{is-end}
 use Rattle.gb_switch.proofs.Places.{cmp-other, cmp-own}
 use Rattle.gb_switch.specs.Places.{end_cmp}
 use Rattle.gb_switch.specs.Queues.{Destroys}
@@ -47,25 +49,22 @@ pub index-here : (m n : Ends) (p : End) (w : Option ℕ) → Updated m n p w
     → number_at n p ≡ w
 index-here m n p w u = u p ∙ ap (λ b. cond b w (number_at m p)) (cmp-own p)
 
-pub kept-removed : (live live' : Live) (e0 e1 e2 : Ends) (q r : Queues) (n : ℕ)
-    (x : code.Connection) (near far : End)
+pub kept-removed : (live live' : Live) (e f : Ends) (q r : Queues) (n : ℕ) (x : code.Connection)
     → get nat_eq live n ≡ Some x → Changed live live' n None → IsUnique nat_eq live'
-    → near ≡ end.Ap x.ap → far ≡ x.peer
-    → Updated e0 e1 near None → Updated e1 e2 far None
-    → Destroys q r (end.Ap x.ap) x.peer → Kept live e0 q → Kept live' e2 r
-kept-removed live live' e0 e1 e2 q r n x near far found gone s is_near is_far u t lost k = record {
+    → LosesNumber e f (end.Ap x.ap) x.peer → Destroys q r (end.Ap x.ap) x.peer → Kept live e q
+    → Kept live' f r
+kept-removed live live' e f q r n x found gone s loses lost k = record {
   unique = s;
   indexed = λ j z there.
-      let ne : j ≢ n = λ e. some-none z (sym there ∙ ap (λ m. get nat_eq live' m) e
-      ∙ changed-here live live' n None gone) in
-      let was : get nat_eq live j ≡ Some z = sym (changed-others live live' n j None gone ne)
-      ∙ there in
+      let ne = other j z there in
+      let was = before j z ne there in
       let i = k.indexed j z was in
       record {
         near = still j z ne was (end.Ap z.ap) (inl refl) ∙ i.near;
         far = still j z ne was z.peer (inr refl) ∙ i.far;
         two = i.two;
       };
+  numbered = λ a j has. has-still a j has (is-end a (end.Ap x.ap)) (is-end a x.peer);
   owned = λ a items there.
       let w = owner-elsewhere live q r n x a items found k.owned lost there in
       record {
@@ -76,36 +75,62 @@ kept-removed live live' e0 e1 e2 q r n x near far found gone s is_near is_far u 
         own = w.0.own;
       };
   queued = λ j z there w.
-      let ne : j ≢ n = λ e. some-none z (sym there ∙ ap (λ m. get nat_eq live' m) e
-      ∙ changed-here live live' n None gone) in
-      queued-elsewhere live e0 q r n j x z k found lost ne
-      (sym (changed-others live live' n j None gone ne) ∙ there) w;
+      let ne = other j z there in
+      queued-elsewhere live e q r n j x z k found lost ne (before j z ne there) w;
 }
   where
+    other : (j : ℕ) (z : code.Connection) → get nat_eq live' j ≡ Some z → j ≢ n
+    other j z there same =
+        some-none z (sym there ∙ ap (λ m. get nat_eq live' m) same
+        ∙ changed-here live live' n None gone)
+
+    before : (j : ℕ) (z : code.Connection) → j ≢ n → get nat_eq live' j ≡ Some z
+        → get nat_eq live j ≡ Some z
+    before j z ne there = sym (changed-others live live' n j None gone ne) ∙ there
+
     still : (j : ℕ) (z : code.Connection) → j ≢ n → get nat_eq live j ≡ Some z → (a : End)
-        → IsEndOf a z → number_at e2 a ≡ number_at e0 a
+        → IsEndOf a z → number_at f a ≡ number_at e a
     still j z ne was a own =
-        index-others e1 e2 far a None t
-        (λ e. ends-apart live e0 j n z x a x.peer k.indexed was found ne own (inr refl)
-        (e ∙ is_far))
-        ∙ index-others e0 e1 near a None u
-        (λ e. ends-apart live e0 j n z x a (end.Ap x.ap) k.indexed was found ne own (inl refl)
-        (e ∙ is_near))
+        loses.others a
+        (ends-apart live e j n z x a (end.Ap x.ap) k.indexed was found ne own (inl refl))
+        (ends-apart live e j n z x a x.peer k.indexed was found ne own (inr refl))
 
--- ---- a connection is added
+    -- an end that has a number still isn't one of the connection that is gone
+    elsewhere : (a : End) (j : ℕ) → a ≢ end.Ap x.ap → a ≢ x.peer → HasEnd live j a → j ≢ n
+    elsewhere a j near far h same =
+        ⊎_elim near far
+        (subst (IsEndOf a)
+        (same-some h.connection x (sym h.there ∙ ap (λ m. get nat_eq live m) same ∙ found)) h.own)
 
--- the numbers that ends have stay
-pub kept-more : (live : Live) (m n : Ends) (q : Queues) → KeepsNumbers m n → Kept live m q
-    → Kept live n q
-kept-more live m n q keeps k = record {
+    has-still : (a : End) (j : ℕ) → number_at f a ≡ Some j
+        → (a ≡ end.Ap x.ap) ⊎ (a ≢ end.Ap x.ap) → (a ≡ x.peer) ⊎ (a ≢ x.peer) → HasEnd live' j a
+    has-still a j has (inl near) far =
+        absurd (some-none j (sym has ∙ ap (number_at f) near ∙ loses.at_near))
+    has-still a j has (inr near) (inl far) =
+        absurd (some-none j (sym has ∙ ap (number_at f) far ∙ loses.at_far))
+    has-still a j has (inr near) (inr far) =
+        let h = k.numbered a j (sym (loses.others a near far) ∙ has) in
+        record {
+          connection = h.connection;
+          there = changed-others live live' n j None gone (elsewhere a j near far h) ∙ h.there;
+          own = h.own;
+        }
+
+-- ---- ends get a number, or lose it
+
+-- the numbers that ends have stay, and no other end has one
+pub kept-numbers : (live : Live) (e f : Ends) (q : Queues) → KeepsNumbers e f → Kept live e q
+    → Kept live f q
+kept-numbers live e f q keeps k = record {
   unique = k.unique;
   indexed = λ j x there.
       let i = k.indexed j x there in
       record {
-        near = keeps (end.Ap x.ap) j i.near;
-        far = keeps x.peer j i.far;
+        near = keeps (end.Ap x.ap) ∙ i.near;
+        far = keeps x.peer ∙ i.far;
         two = i.two;
       };
+  numbered = λ a j has. k.numbered a j (sym (keeps a) ∙ has);
   owned = k.owned;
   queued = k.queued;
 }
@@ -115,73 +140,117 @@ pub none-there : {A : Type 0} (o : Option A) (b : Bool) → b ≡ is_some o → 
 none-there None b e f = refl
 none-there (Some a) b e f = absurd (true≢false (sym e ∙ f))
 
-pub same-numbers : (m n : Ends) → n.entries ≡ m.entries → KeepsNumbers m n
-same-numbers m n same at k has = ap (lookup (eq_by_cmp end_cmp at)) same ∙ has
-
--- an end that none has gets a number
-pub keeps-more : (m n : Ends) (p : End) (v : ℕ) → number_at m p ≡ None → Updated m n p (Some v)
-    → KeepsNumbers m n
-keeps-more m n p v free u at k has =
-    index-others m n p at (Some v) u
-    (λ e. some-none k (sym has ∙ ap (λ t. number_at m t) e ∙ free)) ∙ has
-
--- then another that has none, or the same once more
-pub keeps-both : (m n o : Ends) (p r : End) (v : ℕ) → number_at m p ≡ None
-    → number_at m r ≡ None → Updated m n p (Some v) → Updated n o r (Some v) → KeepsNumbers m o
-keeps-both m n o p r v free free_too u t at k has =
-    index-others n o r at (Some v) t
-    (λ e. some-none k (sym has ∙ ap (λ z. number_at m z) e ∙ free_too))
-    ∙ keeps-more m n p v free u at k has
-
-pub first-has : (m n o : Ends) (p r : End) (v : ℕ) → Updated m n p (Some v)
-    → Updated n o r (Some v) → number_at o p ≡ Some v
-first-has m n o p r v u t =
-    t p
-    ∙ ap (λ x. cond (eq_by_cmp end_cmp r p) (Some v) x) (index-here m n p (Some v) u)
-    ∙ by (eq_by_cmp end_cmp r p)
+-- two ends lose theirs
+pub loses : (m n o : Ends) (near far p r : End) → p ≡ near → r ≡ far
+    → Updated m n p None → Updated n o r None → LosesNumber m o near far
+loses m n o near far p r is-p is-r u t = record {
+  at_near = ap (number_at o) (sym is-p) ∙ first-lost;
+  at_far = ap (number_at o) (sym is-r) ∙ index-here n o r None t;
+  others = λ at ne_near ne_far.
+      index-others n o r at None t (λ e. ne_far (e ∙ is-r))
+      ∙ index-others m n p at None u (λ e. ne_near (e ∙ is-p));
+}
   where
-    by : (b : Bool) → cond b (Some v) (Some v) ≡ Some v
+    by : (b : Bool) → cond b (let none : Option ℕ = None in none) None ≡ None
     by true = refl
     by false = refl
 
+    first-lost : number_at o p ≡ None
+    first-lost =
+        t p
+        ∙ ap (λ x. cond (eq_by_cmp end_cmp r p) None x) (index-here m n p None u)
+        ∙ by (eq_by_cmp end_cmp r p)
+
+-- what ends got and lost again is as it was
+pub gets-loses : (m n o : Ends) (near far : End) (v : ℕ) → GetsNumber m n near far v
+    → LosesNumber n o near far → KeepsNumbers m o
+gets-loses m n o near far v got lost at = by (is-end at near) (is-end at far)
+  where
+    by : (at ≡ near) ⊎ (at ≢ near) → (at ≡ far) ⊎ (at ≢ far) → number_at o at ≡ number_at m at
+    by (inl e) other =
+        ap (number_at o) e ∙ lost.at_near ∙ sym (ap (number_at m) e ∙ got.free_near)
+    by (inr ne) (inl e) =
+        ap (number_at o) e ∙ lost.at_far ∙ sym (ap (number_at m) e ∙ got.free_far)
+    by (inr ne) (inr differs) = lost.others at ne differs ∙ got.others at ne differs
+
 -- a connection is there whose ends have its number
-pub kept-added : (live live' : Live) (e : Ends) (q : Queues) (n : ℕ) (x : code.Connection)
+pub kept-added : (live live' : Live) (e f : Ends) (q : Queues) (n : ℕ) (x : code.Connection)
     → get nat_eq live n ≡ None → Changed live live' n (Some x) → IsUnique nat_eq live'
-    → IsIndexed e n x → x.wired ≡ false → Kept live e q → Kept live' e q
-kept-added live live' e q n x free more s own loose k = record {
+    → GetsNumber e f (end.Ap x.ap) x.peer n → same_end (end.Ap x.ap) x.peer ≡ false
+    → x.wired ≡ false → Kept live e q → Kept live' f q
+kept-added live live' e f q n x free more s got two loose k = record {
   unique = s;
   indexed = λ j z there. by j z there (cases_eq j n);
+  numbered = λ a j has. has-now a j has (is-end a (end.Ap x.ap)) (is-end a x.peer);
   owned = λ a items there.
       let o = k.owned a items there in
       record {
         number = o.number;
         connection = o.connection;
-        there = changed-others live live' n o.number (Some x) more
-            (λ e. some-none o.connection (sym o.there ∙ ap (λ m. get nat_eq live m) e ∙ free))
-            ∙ o.there;
+        there = stays o.number o.connection o.there;
         wired = o.wired;
         own = o.own;
       };
   queued = λ j z there w. have j z there w (cases_eq j n);
 }
   where
+    stays : (j : ℕ) (z : code.Connection) → get nat_eq live j ≡ Some z
+        → get nat_eq live' j ≡ Some z
+    stays j z there =
+        changed-others live live' n j (Some x) more
+        (λ same. some-none z (sym there ∙ ap (λ m. get nat_eq live m) same ∙ free))
+        ∙ there
+
     is-new : (j : ℕ) (z : code.Connection) → get nat_eq live' j ≡ Some z → j ≡ n → x ≡ z
-    is-new j z there e =
+    is-new j z there same =
         same-some x z (sym (changed-here live live' n (Some x) more)
-        ∙ ap (λ m. get nat_eq live' m) (sym e) ∙ there)
+        ∙ ap (λ m. get nat_eq live' m) (sym same) ∙ there)
 
     have : (j : ℕ) (z : code.Connection) → get nat_eq live' j ≡ Some z → z.wired ≡ true
         → (j ≡ n) ⊎ (j ≢ n) → HasQueues q z
-    have j z there w (inl e) =
+    have j z there w (inl same) =
         absurd (true≢false (sym w ∙ ap (λ (c : code.Connection). c.wired)
-        (sym (is-new j z there e)) ∙ loose))
+        (sym (is-new j z there same)) ∙ loose))
     have j z there w (inr ne) =
         k.queued j z (sym (changed-others live live' n j (Some x) more ne) ∙ there) w
 
+    -- an end that had a number has it
+    keeps : (j : ℕ) (a : End) → number_at e a ≡ Some j → number_at f a ≡ Some j
+    keeps j a has =
+        got.others a
+        (λ same. some-none j (sym has ∙ ap (number_at e) same ∙ got.free_near))
+        (λ same. some-none j (sym has ∙ ap (number_at e) same ∙ got.free_far))
+        ∙ has
+
     by : (j : ℕ) (z : code.Connection) → get nat_eq live' j ≡ Some z → (j ≡ n) ⊎ (j ≢ n)
-        → IsIndexed e j z
-    by j z there (inl f) =
-        subst (λ c. IsIndexed e j c) (is-new j z there f)
-        (subst (λ m. IsIndexed e m x) (sym f) own)
+        → IsIndexed f j z
+    by j z there (inl same) =
+        subst (λ c. IsIndexed f j c) (is-new j z there same)
+        (subst (λ m. IsIndexed f m x) (sym same)
+        (record { near = got.at_near; far = got.at_far; two = two }))
     by j z there (inr ne) =
-        k.indexed j z (sym (changed-others live live' n j (Some x) more ne) ∙ there)
+        let i = k.indexed j z (sym (changed-others live live' n j (Some x) more ne) ∙ there) in
+        record {
+          near = keeps j (end.Ap z.ap) i.near;
+          far = keeps j z.peer i.far;
+          two = i.two;
+        }
+
+    own-now : (a : End) (j : ℕ) → Some n ≡ Some j → IsEndOf a x → HasEnd live' j a
+    own-now a j same own =
+        subst (λ m. HasEnd live' m a) (same-some n j same)
+        (record { connection = x; there = changed-here live live' n (Some x) more; own = own })
+
+    has-now : (a : End) (j : ℕ) → number_at f a ≡ Some j
+        → (a ≡ end.Ap x.ap) ⊎ (a ≢ end.Ap x.ap) → (a ≡ x.peer) ⊎ (a ≢ x.peer) → HasEnd live' j a
+    has-now a j has (inl near) far =
+        own-now a j (sym got.at_near ∙ ap (number_at f) (sym near) ∙ has) (inl near)
+    has-now a j has (inr near) (inl far) =
+        own-now a j (sym got.at_far ∙ ap (number_at f) (sym far) ∙ has) (inr far)
+    has-now a j has (inr near) (inr far) =
+        let h = k.numbered a j (sym (got.others a near far) ∙ has) in
+        record {
+          connection = h.connection;
+          there = stays j h.connection h.there;
+          own = h.own;
+        }

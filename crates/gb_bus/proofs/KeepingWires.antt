@@ -9,7 +9,8 @@ use Rattle.gb_base.specs.declared.end.End.{End}
 use Rattle.gb_base.specs.declared.end.End.TheVariants as end
 use Rattle.gb_bus.proofs.Entries.{same-some, set-here, set-others, some-none}
 use Rattle.gb_bus.proofs.Keeping.{AreOwned, Queues, end-of-set, ends-apart, indexed-set}
-use Rattle.gb_bus.proofs.Keeping.{unique-set, owned-set, queued-set, stay-created, stay-queued}
+use Rattle.gb_bus.proofs.Keeping.{numbered-set, owned-set, queued-set, stay-created, stay-queued}
+use Rattle.gb_bus.proofs.Keeping.{unique-set}
 use Rattle.gb_bus.specs.Index.{Ends, HasQueues, IsEndOf, IsOwned, Kept, Live}
 use Rattle.gb_bus.specs.declared.connection.Connection as code
 use Rattle.gb_bus.specs.declared.queue.Item.{Item}
@@ -25,6 +26,7 @@ pub kept-wired : (live live' : Live) (ends : Ends) (q r : Queues) (n : ℕ) (x y
 kept-wired live live' ends q r n x y found set ap_is peer_is wired made k = record {
   unique = unique-set live live' n y set k.unique;
   indexed = indexed-set live live' ends n x y found set ap_is peer_is k.indexed;
+  numbered = numbered-set live live' ends n x y found set ap_is peer_is k.numbered;
   owned = λ a items there. near a items there (is-end a (end.Ap x.ap));
   queued = queued-set live live' r n x y found set ap_is peer_is
       (λ w. record {
@@ -108,6 +110,7 @@ pub kept-cleared : (live live' : Live) (ends : Ends) (q r : Queues) (n : ℕ)
 kept-cleared live live' ends q r n x y found set ap_is peer_is loose gone k = record {
   unique = unique-set live live' n y set k.unique;
   indexed = indexed-set live live' ends n x y found set ap_is peer_is k.indexed;
+  numbered = numbered-set live live' ends n x y found set ap_is peer_is k.numbered;
   owned = λ a items there.
       let w = owner-elsewhere live q r n x a items found k.owned gone there in
       record {

@@ -15,7 +15,7 @@ use Rattle.gb_base.specs.declared.end.End.TheVariants as end
 use Rattle.gb_bus.proofs.Earliest.{OneMore, WaitsIn, WaitsOn, before-through, has-in, in-has}
 use Rattle.gb_bus.proofs.Earliest.{not-before-self, one-end}
 use Rattle.gb_bus.proofs.Entries.{EachEntry, NoKey, each-entry, others-behind, same-some}
-use Rattle.gb_bus.proofs.Keeping.{Queues, end-own, number-of-end}
+use Rattle.gb_bus.proofs.Keeping.{Queues, number-of-end, two-ends}
 use Rattle.gb_bus.proofs.Tellings.{with-some}
 use Rattle.gb_bus.specs.Index.{Ends, IsEndOf, IsIndexed, Kept, Live, number_at}
 use Rattle.gb_bus.specs.Parts.{is_none_left}
@@ -25,7 +25,6 @@ use Rattle.gb_bus.specs.declared.connection.Connection as code
 use Rattle.gb_bus.specs.declared.queue.Item.{Item}
 use Rattle.gb_bus.specs.declared.telling.Waiting.{Waiting}
 use Rattle.gb_machine.proofs.Ordering.{in_order-map}
-use Rattle.gb_machine.specs.Bus.{same_end}
 use Rattle.gb_machine.specs.Lists.{in_order}
 use Rattle.gb_machine.specs.Waiting.{end_before}
 use Rattle.gb_switch.proofs.Places.{cmp-own, cmp-same, settled-before}
@@ -213,12 +212,6 @@ apart numbers q k x (e ∷ es) a here own others each w =
     its : WaitsOn (seen q e.0 e.1) a → IsEndOf a e.1
     its v = ⊎_elim (λ p. inl p.1) (λ p. inr p.1) v.1
 
--- the two ends of a connection are two
-two-ends : (numbers : Ends) (k : ℕ) (x : code.Connection) → IsIndexed numbers k x
-    → end.Ap x.ap ≡ x.peer → ⊥
-two-ends numbers k x here same =
-    true≢false (sym (end-own x.peer) ∙ ap (λ e. same_end e x.peer) (sym same) ∙ here.two)
-
 waiting-order : (numbers : Ends) (q : Queues) (es : List (ℕ × code.Connection))
     → IsDistinct nat_eq (keys_of es) → EachEntry (IsIndexed numbers) es
     → InOrder (WaitsIn (all_seen q es)) (ends (waiting_in (all_seen q es)))
@@ -258,7 +251,7 @@ waiting-order numbers q (e ∷ es) distinct each =
         (with_end c.peer (length (seen q e.0 c).to_far) (waiting_in (all_seen q es)))
         (end-order rest c.peer (seen q e.0 c).to_far (waiting_in (all_seen q es)) h
         (alone c.peer (inr refl)))
-        (λ w. ⊎_elim (λ p. two-ends numbers e.0 c each.0 p.1) (alone (end.Ap c.ap) (inl refl)) w))
+        (λ w. ⊎_elim (λ p. two-ends (end.Ap c.ap) c.peer each.0.two p.1) (alone (end.Ap c.ap) (inl refl)) w))
     by false unwired h =
         same-order rest (λ a. WaitsOn (seen q e.0 c) a ⊎ rest a)
         (ends (waiting_in (all_seen q es))) (λ a w. inr w)

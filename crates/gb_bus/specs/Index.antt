@@ -1,5 +1,5 @@
 -- How live connections are kept: by number, the numbers by end, and what waits by end.
-use Rattle.std.specs.Prelude.{◌≡◌, ◌⊎◌, ℕ, true, false, Option, Some, None, IsSome, List}
+use Rattle.std.specs.Prelude.{◌≡◌, ◌≢◌, ◌⊎◌, ℕ, true, false, Option, Some, None, IsSome, List}
 use Rattle.std.specs.Prelude.{if◌then◌else◌, nat_eq, option_and_then, slice_get}
 use Rattle.std.specs.HashMap as map
 use Rattle.std.specs.HashMap.{HashMap}
@@ -33,10 +33,23 @@ Ends = HashMap End ℕ (BuildHasherDefault FoldHasher)
 abbrev pub number_at : Ends → End → Option ℕ
 number_at ends at = map.get (eq_by_cmp end_cmp) ends at
 
--- each end that has a number keeps it
+-- each end has the number that it had, or none as before
 abbrev pub KeepsNumbers : Ends → Ends → Type 0
-KeepsNumbers old new =
-    (at : End) (k : ℕ) → number_at old at ≡ Some k → number_at new at ≡ Some k
+KeepsNumbers old new = (at : End) → number_at new at ≡ number_at old at
+
+-- two ends that had no number have this one
+pub record GetsNumber (old new : Ends) (near far : End) (k : ℕ) : Type 0 where
+  pub free_near : number_at old near ≡ None
+  pub free_far : number_at old far ≡ None
+  pub at_near : number_at new near ≡ Some k
+  pub at_far : number_at new far ≡ Some k
+  pub others : (at : End) → at ≢ near → at ≢ far → number_at new at ≡ number_at old at
+
+-- two ends have no number any more
+pub record LosesNumber (old new : Ends) (near far : End) : Type 0 where
+  pub at_near : number_at new near ≡ None
+  pub at_far : number_at new far ≡ None
+  pub others : (at : End) → at ≢ near → at ≢ far → number_at new at ≡ number_at old at
 
 -- an end is one of a connection's
 abbrev pub IsEndOf : End → code.Connection → Type 0
@@ -47,6 +60,12 @@ pub record IsIndexed (ends : Ends) (k : ℕ) (x : code.Connection) : Type 0 wher
   pub near : number_at ends (end.Ap x.ap) ≡ Some k
   pub far : number_at ends x.peer ≡ Some k
   pub two : same_end (end.Ap x.ap) x.peer ≡ false
+
+-- an end is one of the live connection with a number
+pub record HasEnd (live : Live) (k : ℕ) (at : End) : Type 0 where
+  pub connection : code.Connection
+  pub there : get nat_eq live k ≡ Some connection
+  pub own : IsEndOf at connection
 
 -- an end is one of a live connection that is wired
 pub record IsOwned (live : Live) (at : End) : Type 0 where
@@ -61,11 +80,13 @@ pub record HasQueues (queues : List (End × List Item)) (x : code.Connection) : 
   pub near : IsSome (items_at queues (end.Ap x.ap))
   pub far : IsSome (items_at queues x.peer)
 
--- Ends are those of one live connection each. Queues are those of the ends of wired ones.
+-- The ends that have numbers are those of one live connection each, and those that have queues are
+-- the ends of wired ones.
 pub record Kept (live : Live) (ends : Ends)
     (queues : List (End × List Item)) : Type 0 where
   pub unique : IsUnique nat_eq live
   pub indexed : (k : ℕ) (x : code.Connection) → get nat_eq live k ≡ Some x → IsIndexed ends k x
+  pub numbered : (at : End) (k : ℕ) → number_at ends at ≡ Some k → HasEnd live k at
   pub owned : (at : End) (items : List Item) → items_at queues at ≡ Some items → IsOwned live at
   pub queued : (k : ℕ) (x : code.Connection) → get nat_eq live k ≡ Some x → x.wired ≡ true
       → HasQueues queues x

@@ -115,9 +115,15 @@ impl Connections {
         if is_same(End::Ap(ap), peer) || self.live.contains_key(&number) {
             return Err(OutOfMemory);
         }
-        end_numbers::set(&mut self.ends, End::Ap(ap), peer, number)?;
-        live::add(&mut self.live, alloc, number, ap, peer, protocol)?;
-        Ok(())
+        let near = End::Ap(ap);
+        end_numbers::set(&mut self.ends, near, peer, number)?;
+        match live::add(&mut self.live, alloc, number, ap, peer, protocol) {
+            Ok(()) => Ok(()),
+            Err(refused) => {
+                end_numbers::unset(&mut self.ends, near, peer);
+                Err(refused)
+            }
+        }
     }
 
     /// Whether the live connection with a number is wired. None comes where it isn't live.
@@ -295,8 +301,7 @@ impl Connections {
             return;
         };
         let near = End::Ap(connection.ap);
-        self.ends.remove(&Place::of(near));
-        self.ends.remove(&Place::of(connection.peer));
+        end_numbers::unset(&mut self.ends, near, connection.peer);
         self.queues.destroy(near, connection.peer);
         drop(connection);
     }

@@ -1,29 +1,39 @@
 //! The numbers of connections by their ends.
 
-ghost use Rattle.std.specs.Prelude.{◌≡◌, Some, OnOk};
-ghost use Rattle.gb_bus.specs.Index.{KeepsNumbers, number_at};
+ghost use Rattle.std.specs.Prelude.{OnErr, OnOk};
+ghost use Rattle.gb_bus.specs.Index.{GetsNumber, KeepsNumbers, LosesNumber};
 
 use gb_base::{End, OutOfMemory};
 use gb_switch::Place;
 use std::collections::HashMap;
 
-/// Two ends get the number of their connection. Want of memory also comes where one of them has a
-/// number: then nothing changes.
+/// Two ends get the number of their connection. After want of memory, which also comes where one of
+/// them has a number, all is as before.
 pub fn set(
     ends: &mut HashMap<Place, u64>,
     near: End,
     far: End,
     number: u64,
 ) -> Result<(), OutOfMemory>
-    ensures near { OnOk result (number_at ends.new near ≡ Some number) }
-    ensures far { OnOk result (number_at ends.new far ≡ Some number) }
-    ensures keeps { KeepsNumbers ends.old ends.new }
+    ensures set { OnOk result (GetsNumber ends.old ends.new near far number) }
+    ensures unchanged { OnErr result (KeepsNumbers ends.old ends.new) }
 {
-    let (near, far) = (Place::of(near), Place::of(far));
-    if ends.contains_key(&near) || ends.contains_key(&far) {
+    let (one, other) = (Place::of(near), Place::of(far));
+    if ends.contains_key(&one) || ends.contains_key(&other) {
         return Err(OutOfMemory);
     }
-    ends.insert(near, number)?;
-    ends.insert(far, number)?;
+    ends.insert(one, number)?;
+    if ends.insert(other, number).is_err() {
+        ends.remove(&one);
+        return Err(OutOfMemory);
+    }
     Ok(())
+}
+
+/// Two ends have no number any more.
+pub fn unset(ends: &mut HashMap<Place, u64>, near: End, far: End)
+    ensures { LosesNumber ends.old ends.new near far }
+{
+    ends.remove(&Place::of(near));
+    ends.remove(&Place::of(far));
 }

@@ -20,11 +20,10 @@ returns-in_default c =
 
 pub invariant_of-self-2 : goal.invariant_of-self-2
 invariant_of-self-2 c =
-    kept-removed c.self.inside.live c.shift_remove.new.self c.self.inside.ends c.remove.new.self
-    c.remove-2.new.self c.self.inside.queues c.destroy.new.self c.args.k c.in-Some.connection
-    c.of.result c.of-2.result (sym c.in-Some.ensures.value) c.in-Some.ensures.updates.0
-    c.in-Some.ensures.unique c.of.ensures c.of-2.ensures c.remove.ensures.updates.0
-    c.remove-2.ensures.updates.0 c.destroy.ensures c.self.invariant
+    kept-removed c.self.inside.live c.shift_remove.new.self c.self.inside.ends c.unset.new.ends
+    c.self.inside.queues c.destroy.new.self c.args.k c.in-Some.connection
+    (sym c.in-Some.ensures.value) c.in-Some.ensures.updates.0 c.in-Some.ensures.unique
+    c.unset.ensures c.destroy.ensures c.self.invariant
 
 pub returns : goal.returns
 returns c =
