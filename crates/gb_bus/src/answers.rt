@@ -22,7 +22,7 @@ pub struct Sent {
 pub enum SendFault {
     /// No identifier is left on that side of the connection. The bus is as before.
     NoLabel,
-    /// No memory was found.
+    /// No memory was found. Nothing is said of the bus then.
     Memory(OutOfMemory),
 }
 
@@ -124,7 +124,7 @@ pub enum DeliverFault {
     NoConnection,
     /// No message waits there. The bus is as before.
     QueueEmpty,
-    /// No memory was found.
+    /// No memory was found. Nothing is said of the bus then.
     Memory(OutOfMemory),
 }
 

@@ -31,7 +31,8 @@ impl Bus {
 
     /// Takes the front message toward an end from its queue. An end that doesn't take messages
     /// drops it. A late answer frees the identifier of its request. A request is in no queue then:
-    /// it is among those that may be answered.
+    /// it is among those that may be answered. NoConnection comes where no wired connection names
+    /// the end, and QueueEmpty where nothing waits there.
     pub fn deliver(&mut self, at: End, takes: bool) -> Result<Arrived, DeliverFault>
         ensures step { (around : Around) (b : machine.Bus) → Stands around self.old b
             → DeliversAs around self.new at takes b result }

@@ -65,7 +65,7 @@ fn place(live: &IndexMap<u64, Connection>, k: u64) -> Option<usize>
 }
 
 /// The connection with a number stands at a place: at its number, counted from 1, where none that
-/// was made before it is gone.
+/// was made before it is gone. Nothing is said at false.
 #[inline]
 fn stands_at(live: &IndexMap<u64, Connection>, k: u64, at: usize) -> bool
     ensures { result ≡ true → StandsAt live.now k at }

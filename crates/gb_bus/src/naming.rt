@@ -11,7 +11,8 @@ impl Bus {
     ghost use Rattle.gb_bus.specs.Stands.{Around, Stands};
 
     /// Request n has one more name, if it is open, was given up and not answered yet, or has one.
-    /// Else nothing changes. It takes no memory.
+    /// Else nothing changes. Where 18,446,744,073,709,551,615 names are bound nothing is said. It
+    /// takes no memory.
     pub fn keep(&mut self, n: u64)
         ensures { (around : Around) (b : machine.Bus) → Stands around self.old b
             → KeepsAs around self.new n b }
@@ -27,8 +28,8 @@ impl Bus {
         self.slots.loose(n);
     }
 
-    /// How request n ended, None where it is open. It is also None where n isn't open, wasn't given
-    /// up or was answered since, and has no name.
+    /// How request n ended. None comes where it is open, and where nothing asks for it: it has no
+    /// name, isn't open, and wasn't given up or was answered since.
     pub fn outcome(&self, n: u64) -> Option<&Outcome>
         ensures { (around : Around) (b : machine.Bus) → Stands around self.now b
             → option_copied result ≡ told_outcome around.names n b }
@@ -36,8 +37,8 @@ impl Bus {
         self.slots.get(n)?.outcome.as_ref()
     }
 
-    /// Where request n was made, and its type. None comes exactly where it isn't open, wasn't given
-    /// up or was answered since, and has no name.
+    /// Where request n was made, and its type. None comes exactly where nothing asks for it: it has
+    /// no name, isn't open, and wasn't given up or was answered since.
     pub fn about(&self, n: u64) -> Option<About>
         ensures { (around : Around) (b : machine.Bus) → Stands around self.now b
             → result ≡ option_map about_of (asked_for around.names n b) }

@@ -10,7 +10,8 @@ use gb_base::{Bytes, OutOfMemory, RawFault, Side};
 use gb_wire::decode;
 use std::alloc::Global;
 
-/// How many raw bytes are injected at once at most: as many as the longest message has.
+/// How many raw bytes are injected at once at most: as many as a message has that goes over the
+/// bus.
 pub const LONGEST_RAW: usize = 2048;
 
 impl Bus {
@@ -18,7 +19,8 @@ impl Bus {
 
     /// Injects at most `LONGEST_RAW` raw bytes on a wired connection. They wait toward the
     /// application processor, as the message that they are or why they aren't one, and the
-    /// connection is unclean from then on. After want of memory nothing is said.
+    /// connection is unclean from then on. After want of memory, and where the connection isn't
+    /// wired, nothing is said.
     pub fn inject(&mut self, k: u64, bytes: &[u8]) -> Result<(), OutOfMemory>
         requires { length bytes.now ≤ LONGEST_RAW }
         ensures step { OnOk result (InjectsAs self.old self.new k bytes.now) }

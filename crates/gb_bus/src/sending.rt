@@ -62,7 +62,8 @@ impl Bus {
     }
 
     /// Answers a request that was delivered at `side` of a connection: the reply goes toward the
-    /// side that asked, and is lost where the connection isn't wired.
+    /// side that asked, and is lost where the connection isn't wired. Nothing is said after want of
+    /// memory, nor where no such request was delivered there and waits for its answer.
     pub fn reply(
         &mut self,
         k: u64,

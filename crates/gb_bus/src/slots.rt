@@ -324,7 +324,8 @@ impl Slots {
     }
 
     /// A side is closed on which these requests are open, in order of number, and those were given
-    /// up: the first end as disconnected, and the identifiers of the others are free.
+    /// up: the first end as disconnected, and the identifiers of the others are free. Where some of
+    /// the first aren't open nothing is said of the counts.
     pub fn close(&mut self, unended: &[u64], late: &[u64])
         ensures { Closes unended.now late.now self.old self.new }
     {

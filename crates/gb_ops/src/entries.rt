@@ -34,8 +34,8 @@ pub enum Matched {
 /// Why a request isn't begun.
 #[derive(Clone, Copy, PartialEq, Eq)]
 pub enum BeginFault {
-    /// All 65,535 identifiers are in use.
+    /// All 65,535 identifiers are in use. All is as before.
     NoLabel,
-    /// No memory was found.
+    /// No memory was found, or the number isn't above those of all open requests. All is as before.
     Memory(OutOfMemory),
 }

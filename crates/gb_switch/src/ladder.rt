@@ -1,6 +1,6 @@
 //! The power levels and device ids of interfaces.
 
-ghost use Rattle.std.specs.Prelude.{◌≡◌, ◌<◌, ◌≤◌, ◌==◌, nat_lt, not, ℕ, [], List, IsErr, false};
+ghost use Rattle.std.specs.Prelude.{◌≡◌, ◌<◌, ◌≤◌, ◌==◌, nat_lt, not, [], List, IsErr, false};
 ghost use Rattle.std.specs.Prelude.{option_and_then};
 ghost use Rattle.gb_machine.specs.Host.{is_device};
 ghost use Rattle.gb_machine.specs.Ports.{is_powered, level_of, powered, unpowered};
@@ -39,8 +39,8 @@ impl Ladder {
         }
     }
 
-    /// A module is plugged at an interface: its power is off, and it has no device id. What was
-    /// plugged there is gone.
+    /// A module is plugged at an interface, 2 to 31: its power is off, and it has no device id. What
+    /// was plugged there is gone.
     pub fn plug(&mut self, intf: u8)
         requires { IsInterface intf }
         ensures step { (ports : List machine.Port) → Stands self.old ports
@@ -57,7 +57,7 @@ impl Ladder {
         );
     }
 
-    /// The module at an interface is pulled.
+    /// The module at an interface, 2 to 31, is pulled.
     pub fn pull(&mut self, intf: u8)
         requires { IsInterface intf }
         ensures step { (ports : List machine.Port) → Stands self.old ports

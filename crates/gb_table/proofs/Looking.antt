@@ -144,10 +144,6 @@ longer n [] = refl
 longer n (None ∷ places) = longer (n + 1) places
 longer n (Some x ∷ places) = ap (λ es. (n, x) ∷ es) (longer (n + 1) places)
 
-pub sooner : {X : Type 0} (n : ℕ) (places : List (Option X)) → 0 < n
-    → entries_from (n - 1) (None ∷ places) ≡ entries_from n places
-sooner n places more = ap (λ k. entries_from k places) (let e : n - 1 + 1 ≡ n = omega arith in e)
-
 -- ---- no number stands twice
 
 apart : {X : Type 0} (m n : ℕ) (places : List (Option X)) → m < n
