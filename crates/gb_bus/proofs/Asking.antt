@@ -1,6 +1,6 @@
 -- What is seen of the live connections where a request is made on one.
 use Rattle.std.proofs.Common.{◌≡◌, ℕ, Bool, true, false, cond, not, Option, Some, None}
-use Rattle.std.proofs.Common.{option_and_then, Result, Ok, Err, List, refl, sym, ap, ◌∙◌}
+use Rattle.std.proofs.Common.{option_and_then, Ok, Err, List, refl, sym, ap, ◌∙◌}
 use Rattle.std.proofs.Common.{subst}
 use Rattle.std.specs.Map.{lookup, set_value}
 use Rattle.std.specs.Prelude.{nat_eq}
@@ -8,6 +8,7 @@ use Rattle.indexmap.specs.IndexMap.{get}
 use Rattle.gb_base.specs.declared.end.End.{End}
 use Rattle.gb_base.specs.declared.end.Side.{Side}
 use Rattle.gb_bus.proofs.Entries.{same-some, set-here, some-none}
+use Rattle.gb_bus.proofs.Opening.{same-ok}
 use Rattle.gb_bus.proofs.Keeping.{Queues, kept-set}
 use Rattle.gb_bus.proofs.Seeing.{finds, next-seen}
 use Rattle.gb_bus.proofs.SeeingQueues.{pushes, put-unwired}
@@ -24,9 +25,6 @@ use Rattle.gb_bus.specs.declared.queue.Item.TheVariants as item
 use Rattle.gb_machine.specs.Bus.{other_side}
 use Rattle.gb_ops.specs.Calls.{Begins}
 use Rattle.gb_switch.specs.Queues.{Appends, items_at}
-
-same-ok : {A E : Type 0} (a b : A) (r : Result A E) → r ≡ Ok a → r ≡ Ok b → a ≡ b
-same-ok a b r e f = cc
 
 -- the identifier of the request
 labels : (live live' : Live) (ends : Ends) (q : Queues) (k : ℕ) (s : Side) (n deadline : ℕ)

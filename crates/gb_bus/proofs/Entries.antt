@@ -1,7 +1,7 @@
 -- The entries of a map by their numbers, and what is seen of them.
 use Rattle.std.proofs.Common.{◌≡◌, ◌≢◌, ℕ, Bool, true, false, cond, not, ◌⊎◌, inl, inr, Some}
 use Rattle.std.proofs.Common.{None, option_map, List, [], ◌∷◌, ◌++◌, refl, sym, ap, ◌∙◌, subst}
-use Rattle.std.proofs.Common.{arith, unwrap_or}
+use Rattle.std.proofs.Common.{arith}
 use Rattle.std.proofs.lemmas.Bool.{cases_eq, eq-eqb, ne_eqb}
 use Rattle.std.proofs.lemmas.Bool.Decides.{nat_tests}
 use Rattle.std.proofs.lemmas.Map.Keys.{IsDistinct-head, IsDistinct-tail}
@@ -14,21 +14,19 @@ use Rattle.gb_bus.specs.Parts.{numbered}
 use Rattle.gb_bus.specs.Seen.{all_seen, seen}
 use Rattle.gb_bus.specs.declared.connection.Connection as code
 use Rattle.gb_bus.specs.declared.queue.Item.{Item}
+pub use Rattle.gb_invariants.proofs.Awaiting.{same-some}
 use Rattle.gb_machine.specs.Lists.{at_first, without}
 
 -- ---- entries by their numbers
 
-pub at-same : (k n : ℕ) → k ≡ n → nat_eq k n ≡ true
-at-same k n e = grind (arith, nat_tests)
+pub same-number : (k n : ℕ) → k ≡ n → nat_eq k n ≡ true
+same-number k n e = grind (arith, nat_tests)
 
-pub at-other : (k n : ℕ) → k ≢ n → nat_eq k n ≡ false
-at-other k n e = grind (arith, nat_tests)
+pub other-number : (k n : ℕ) → k ≢ n → nat_eq k n ≡ false
+other-number k n e = grind (arith, nat_tests)
 
 different : (n k : ℕ) → nat_eq n k ≡ false → k ≢ n
-different n k f = λ e. let same = at-same n k (sym e) in absurd (cc (same, f))
-
-pub same-some : {A : Type 0} (x y : A) → Some x ≡ Some y → x ≡ y
-same-some x y e = ap (λ o. unwrap_or o x) e
+different n k f = λ e. let same = same-number n k (sym e) in absurd (cc (same, f))
 
 pub some-none : {A : Type 0} (x : A) → Some x ≡ None → ⊥
 some-none x e = absurd cc
@@ -72,7 +70,7 @@ pub lookup-nowhere : {X : Type 0} (n : ℕ) (es : List (ℕ × X)) → NoKey n e
     → lookup (nat_eq n) es ≡ None
 lookup-nowhere n [] h = refl
 lookup-nowhere n (e ∷ es) h =
-    ap (λ b. cond b (Some e.1) (lookup (nat_eq n) es)) (at-other n e.0 (λ q. h.0 (sym q)))
+    ap (λ b. cond b (Some e.1) (lookup (nat_eq n) es)) (other-number n e.0 (λ q. h.0 (sym q)))
     ∙ lookup-nowhere n es h.1
 
 pub nowhere : {X : Type 0} (n : ℕ) (es : List (ℕ × X)) → lookup (nat_eq n) es ≡ None → NoKey n es
@@ -82,10 +80,10 @@ nowhere n (e ∷ es) h = by (cases_eq n e.0) (nowhere n es)
     by : (n ≡ e.0) ⊎ (n ≢ e.0) → (lookup (nat_eq n) es ≡ None → NoKey n es) → NoKey n (e ∷ es)
     by (inl same) later =
         absurd (some-none e.1
-        (sym (ap (λ b. cond b (Some e.1) (lookup (nat_eq n) es)) (at-same n e.0 same)) ∙ h))
+        (sym (ap (λ b. cond b (Some e.1) (lookup (nat_eq n) es)) (same-number n e.0 same)) ∙ h))
     by (inr ne) later = (
       λ q. ne (sym q),
-      later (sym (ap (λ b. cond b (Some e.1) (lookup (nat_eq n) es)) (at-other n e.0 ne)) ∙ h),
+      later (sym (ap (λ b. cond b (Some e.1) (lookup (nat_eq n) es)) (other-number n e.0 ne)) ∙ h),
     )
 
 -- what is so of all that is found is so of each
@@ -94,14 +92,14 @@ pub each-entry : {X : Type 0} (P : ℕ → X → Type 0) (es : List (ℕ × X))
     → ((k : ℕ) (x : X) → lookup (nat_eq k) es ≡ Some x → P k x) → EachEntry P es
 each-entry P [] s h = tt
 each-entry {X} P (e ∷ es) s h = (
-  h e.0 e.1 (ap (λ b. cond b (Some e.1) (lookup (nat_eq e.0) es)) (at-same e.0 e.0 refl)),
+  h e.0 e.1 (ap (λ b. cond b (Some e.1) (lookup (nat_eq e.0) es)) (same-number e.0 e.0 refl)),
   each-entry P es (IsDistinct-tail nat_eq e.0 (keys_of es) s) (λ k x l. h k x (behind k x l)),
 )
   where
     behind : (k : ℕ) (x : X) → lookup (nat_eq k) es ≡ Some x → lookup (nat_eq k) (e ∷ es) ≡ Some x
     behind k x l =
         ap (λ b. cond b (Some e.1) (lookup (nat_eq k) es))
-        (at-other k e.0 (λ same. some-none x (sym l ∙ ap (λ j. lookup (nat_eq j) es) same
+        (other-number k e.0 (λ same. some-none x (sym l ∙ ap (λ j. lookup (nat_eq j) es) same
         ∙ lookup-nowhere e.0 es
         (others-behind e.0 es (IsDistinct-head nat_eq e.0 (keys_of es) s)))))
         ∙ l
@@ -124,7 +122,7 @@ split {X} (e ∷ es) n x s l =
         → Split (e ∷ es) n x
     by (inl same) later =
         let value : e.1 ≡ x = same-some e.1 x
-        (sym (ap (λ b. cond b (Some e.1) (lookup (nat_eq n) es)) (at-same n e.0 same)) ∙ l) in
+        (sym (ap (λ b. cond b (Some e.1) (lookup (nat_eq n) es)) (same-number n e.0 same)) ∙ l) in
         record {
           front = [];
           back = es;
@@ -134,7 +132,7 @@ split {X} (e ∷ es) n x s l =
               (others-behind e.0 es (IsDistinct-head nat_eq e.0 (keys_of es) s));
         }
     by (inr ne) later =
-        let r = later (sym (ap (λ b. cond b (Some e.1) (lookup (nat_eq n) es)) (at-other n e.0 ne))
+        let r = later (sym (ap (λ b. cond b (Some e.1) (lookup (nat_eq n) es)) (other-number n e.0 ne))
         ∙ l) in
         record {
           front = e ∷ r.front;
@@ -149,19 +147,19 @@ split {X} (e ∷ es) n x s l =
 pub set-split : {X : Type 0} (front back : List (ℕ × X)) (n : ℕ) (x y : X) → NoKey n front
     → set_value (nat_eq n) (front ++ (n, x) ∷ back) y ≡ front ++ (n, y) ∷ back
 set-split [] back n x y h =
-    ap (λ b. cond b ((n, y) ∷ back) ((n, x) ∷ set_value (nat_eq n) back y)) (at-same n n refl)
+    ap (λ b. cond b ((n, y) ∷ back) ((n, x) ∷ set_value (nat_eq n) back y)) (same-number n n refl)
 set-split (e ∷ front) back n x y h =
     ap (λ b. cond b ((e.0, y) ∷ front ++ (n, x) ∷ back)
-    (e ∷ set_value (nat_eq n) (front ++ (n, x) ∷ back) y)) (at-other n e.0 (λ q. h.0 (sym q)))
+    (e ∷ set_value (nat_eq n) (front ++ (n, x) ∷ back) y)) (other-number n e.0 (λ q. h.0 (sym q)))
     ∙ ap (λ ys. e ∷ ys) (set-split front back n x y h.1)
 
 pub remove-split : {X : Type 0} (front back : List (ℕ × X)) (n : ℕ) (x : X) → NoKey n front
     → remove_entry (nat_eq n) (front ++ (n, x) ∷ back) ≡ front ++ back
 remove-split [] back n x h =
-    ap (λ b. cond b back ((n, x) ∷ remove_entry (nat_eq n) back)) (at-same n n refl)
+    ap (λ b. cond b back ((n, x) ∷ remove_entry (nat_eq n) back)) (same-number n n refl)
 remove-split (e ∷ front) back n x h =
     ap (λ b. cond b (front ++ (n, x) ∷ back) (e ∷ remove_entry (nat_eq n) (front ++ (n, x) ∷ back)))
-    (at-other n e.0 (λ q. h.0 (sym q)))
+    (other-number n e.0 (λ q. h.0 (sym q)))
     ∙ ap (λ ys. e ∷ ys) (remove-split front back n x h.1)
 
 pub set-here : {X : Type 0} (n : ℕ) (es : List (ℕ × X)) (x y : X) → lookup (nat_eq n) es ≡ Some x
@@ -185,14 +183,14 @@ set-others n k (e ∷ es) y ne = by (cases_eq n e.0) (set-others n k es y ne)
         → lookup (nat_eq k) (set_value (nat_eq n) es y) ≡ lookup (nat_eq k) es
         → lookup (nat_eq k) (set_value (nat_eq n) (e ∷ es) y) ≡ lookup (nat_eq k) (e ∷ es)
     by (inl same) later =
-        let skip : nat_eq k e.0 ≡ false = at-other k e.0 (λ q. ne (q ∙ sym same)) in
+        let skip : nat_eq k e.0 ≡ false = other-number k e.0 (λ q. ne (q ∙ sym same)) in
         ap (λ b. lookup (nat_eq k) (cond b ((e.0, y) ∷ es) (e ∷ set_value (nat_eq n) es y)))
-        (at-same n e.0 same)
+        (same-number n e.0 same)
         ∙ ap (λ b. cond b (Some y) (lookup (nat_eq k) es)) skip
         ∙ sym (ap (λ b. cond b (Some e.1) (lookup (nat_eq k) es)) skip)
     by (inr other) later =
         ap (λ b. lookup (nat_eq k) (cond b ((e.0, y) ∷ es) (e ∷ set_value (nat_eq n) es y)))
-        (at-other n e.0 other)
+        (other-number n e.0 other)
         ∙ ap (λ o. cond (nat_eq k e.0) (Some e.1) o) later
 
 -- ---- what is seen
@@ -264,13 +262,13 @@ find-seen q (e ∷ es) n = by (cases_eq n e.0) (find-seen q es n)
         (eq-eqb e.0 n (sym same))
         ∙ ap (λ k. Some (seen q k e.1)) (sym same)
         ∙ sym (ap (λ b. option_map (seen q n) (cond b (Some e.1) (lookup (nat_eq n) es)))
-        (at-same n e.0 same))
+        (same-number n e.0 same))
     by (inr ne) later =
         ap (λ b. cond b (Some (seen q e.0 e.1)) (find (numbered n) (all_seen q es)))
         (ne_eqb e.0 n (λ q. ne (sym q)))
         ∙ later
         ∙ sym (ap (λ b. option_map (seen q n) (cond b (Some e.1) (lookup (nat_eq n) es)))
-        (at-other n e.0 ne))
+        (other-number n e.0 ne))
 
 -- a test that none passes but the one with a number
 pub find-none : (q : List (End × List Item)) (test : Connection → Bool)

@@ -2,13 +2,12 @@
 use Rattle.std.proofs.Common.{◌≡◌, ◌≢◌, ℕ, Bool, true, false, cond, ◌⊎◌, inl, inr, ⊎_elim}
 use Rattle.std.proofs.Common.{Option, Some, None, refl, sym, ap, ◌∙◌, subst, is_some}
 use Rattle.std.proofs.lemmas.Bool.{cases_eq, true≢false}
-use Rattle.std.specs.Map.{lookup}
 use Rattle.std.specs.Ordering.{eq_by_cmp}
 use Rattle.std.specs.Prelude.{nat_eq}
 use Rattle.indexmap.specs.IndexMap.{IsUnique, get}
 use Rattle.gb_base.specs.declared.end.End.{End}
 use Rattle.gb_base.specs.declared.end.End.TheVariants as end
-use Rattle.gb_bus.proofs.Entries.{at-other, at-same, same-some, some-none}
+use Rattle.gb_bus.proofs.Entries.{other-number, same-number, same-some, some-none}
 use Rattle.gb_bus.proofs.Keeping.{Queues, ends-apart}
 use Rattle.gb_bus.proofs.KeepingWires.{owner-elsewhere, queued-elsewhere}
 use Rattle.gb_bus.specs.Index.{Ends, GetsNumber, HasEnd, HasQueues, IsEndOf, IsIndexed}
@@ -29,11 +28,11 @@ Changed m n k w = (j : ℕ) → get nat_eq n j ≡ cond (nat_eq k j) w (get nat_
 pub changed-others : (m n : Live) (k j : ℕ) (w : Option code.Connection) → Changed m n k w → j ≢ k
     → get nat_eq n j ≡ get nat_eq m j
 changed-others m n k j w u ne =
-    u j ∙ ap (λ b. cond b w (get nat_eq m j)) (at-other k j (λ e. ne (sym e)))
+    u j ∙ ap (λ b. cond b w (get nat_eq m j)) (other-number k j (λ e. ne (sym e)))
 
 pub changed-here : (m n : Live) (k : ℕ) (w : Option code.Connection) → Changed m n k w
     → get nat_eq n k ≡ w
-changed-here m n k w u = u k ∙ ap (λ b. cond b w (get nat_eq m k)) (at-same k k refl)
+changed-here m n k w u = u k ∙ ap (λ b. cond b w (get nat_eq m k)) (same-number k k refl)
 
 -- what numbers by end are after a change at one
 abbrev pub Updated : Ends → Ends → End → Option ℕ → Type 0

@@ -8,7 +8,7 @@ use Rattle.std.specs.List.{AllByRecursion, IsDistinct}
 use Rattle.std.specs.Map.{keys_of, lookup_key, set_value, values_of}
 use Rattle.std.specs.Prelude.{slice_get}
 use Rattle.indexmap.specs.IndexMap.{IsUnique, get, set_value_at, values, with_value_at}
-use Rattle.gb_bus.proofs.Entries.{at-other, at-same, same-some, some-none}
+use Rattle.gb_bus.proofs.Entries.{other-number, same-number, same-some, some-none}
 use Rattle.gb_bus.specs.Connection.{Connection}
 use Rattle.gb_bus.specs.Index.{ChangesOf, Live, StandsAt}
 use Rattle.gb_bus.specs.Seen.{alone}
@@ -53,15 +53,15 @@ set-at : {X : Type 0} (k at : ℕ) (x y : X) (es : List (ℕ × X)) → IsDistin
 set-at k at x y [] d there = absurd (cc there)
 set-at k zero x y (e ∷ es) d there =
     sym (ap (λ t. cond t ((e.0, y) ∷ es) (e ∷ set_value (eqb k) es y))
-    (at-same k e.0 (sym (ap (λ p. p.0) (same-some e (k, x) there)))))
+    (same-number k e.0 (sym (ap (λ p. p.0) (same-some e (k, x) there)))))
 set-at k (suc at) x y (e ∷ es) d there =
     ap (λ fs. e ∷ fs) (set-at k at x y es (IsDistinct-tail eqb e.0 (keys_of es) d) there)
     ∙ sym (ap (λ t. cond t ((e.0, y) ∷ es) (e ∷ set_value (eqb k) es y))
-    (at-other k e.0 (other (key-at (λ j. eqb e.0 j ≡ false) k at x es
+    (other-number k e.0 (other (key-at (λ j. eqb e.0 j ≡ false) k at x es
     (IsDistinct-head eqb e.0 (keys_of es) d) there))))
   where
     other : eqb e.0 k ≡ false → k ≡ e.0 → ⊥
-    other apart same = absurd (cc (apart, at-same e.0 k (sym same)))
+    other apart same = absurd (cc (apart, same-number e.0 k (sym same)))
 
 value-at : {X : Type 0} (k at : ℕ) (x : X) (es : List (ℕ × X)) → slice_get es at ≡ Some (k, x)
     → slice_get (values_of es) at ≡ Some x

@@ -193,38 +193,6 @@ looses around x y b n s moves = record {
   facts = s.facts;
 }
 
--- ---- what is told
-
--- the slot of a request that is asked for says the same of it
-pub told : {A : Type 0} (names : List ℕ) (b : machine.Bus) (n : ℕ) (f : Option Slot → Option A)
-    (g : Option Request → Option A)
-    → f None ≡ None → g None ≡ None
-    → ((r : Request) → f (Some (kept n (is_awaited n b) (count n names) (outcome_of n b) r))
-    ≡ g (Some r))
-    → f (slot_of names n b) ≡ g (asked_for names n b)
-told names b n f g none nothing same = by (request_of n b) (λ i. request_of n b)
-  where
-    with-request : (r : Request) (t : Bool)
-        → f (cond t (Some (kept n (is_awaited n b) (count n names) (outcome_of n b) r)) None)
-        ≡ g (cond t (Some r) None)
-    with-request r true = same r
-    with-request r false = none ∙ sym nothing
-
-    without : (t : Bool) → None ≡ g (cond t None None)
-    without true = sym nothing
-    without false = sym nothing
-
-    by : (o : Option Request) → request_of n b ≡ o
-        → f (slot_of names n b) ≡ g (asked_for names n b)
-    by None e =
-        ap (λ o. f (kept_of n (is_awaited n b) (count n names) (outcome_of n b) o)) e ∙ none
-        ∙ without (is_asked_for names n b)
-        ∙ sym (ap (λ o. g (cond (is_asked_for names n b) o None)) e)
-    by (Some r) e =
-        ap (λ o. f (kept_of n (is_awaited n b) (count n names) (outcome_of n b) o)) e
-        ∙ with-request r (is_asked_for names n b)
-        ∙ sym (ap (λ o. g (cond (is_asked_for names n b) o None)) e)
-
 -- ---- names that are alike
 
 -- A bus stands for the same with other names, where each number stands in them as often.

@@ -15,7 +15,7 @@ use Rattle.gb_bus.specs.declared.bus.Bus.{Bus}
 use Rattle.gb_ops.specs.declared.entries.Matched.{Matched}
 use Rattle.gb_ops.specs.declared.entries.Matched.TheVariants as matched
 
-same-ok : {A E : Type 0} (a b : A) (r : Result A E) → r ≡ Ok a → r ≡ Ok b → a ≡ b
+pub same-ok : {A E : Type 0} (a b : A) (r : Result A E) → r ≡ Ok a → r ≡ Ok b → a ≡ b
 same-ok a b r e f = cc
 
 -- the connections are those that the match left

@@ -18,6 +18,7 @@ use Rattle.gb_bus.specs.Parts.{end_at, joins, place_at, side_at}
 use Rattle.gb_bus.specs.Seen.{all_seen, alone, seen}
 use Rattle.gb_bus.specs.declared.connection.Connection as code
 use Rattle.gb_machine.specs.Bus.{or_else, same_end}
+use Rattle.gb_switch.proofs.Places.{by-false}
 
 -- ends that compare equal are one
 end-is : (a b : End) → same_end a b ≡ true → a ≡ b
@@ -39,10 +40,6 @@ end-is (end.Module i c) (end.Module j d) e =
     by true f false g h = absurd (cc h)
     by false f true g h = absurd (cc h)
     by false f false g h = absurd (cc h)
-
-by-false : (b : Bool) → (b ≡ true → ⊥) → b ≡ false
-by-false true never = absurd (never refl)
-by-false false never = refl
 
 pub end-differs : (a b : End) → a ≢ b → same_end a b ≡ false
 end-differs a b ne = by-false (same_end a b) (λ e. ne (end-is a b e))
@@ -174,7 +171,7 @@ places-counted live ends q at k s kept h =
     h.there ∙ ap (option_map (λ t. (k, t))) h.is)
 
 -- an end is at a side of the live connection with a number, which is wired
-pub record IsPlaced (live : Live) (at : End) (k : ℕ) (s : Side) : Type 0 where
+pub record IsAtSide (live : Live) (at : End) (k : ℕ) (s : Side) : Type 0 where
   pub connection : code.Connection
   pub there : get nat_eq live k ≡ Some connection
   pub wired : connection.wired ≡ true
@@ -182,12 +179,12 @@ pub record IsPlaced (live : Live) (at : End) (k : ℕ) (s : Side) : Type 0 where
 
 pub placed : (live : Live) (ends : Ends) (q : Queues) (at : End) (k : ℕ) (s : Side)
     → Kept live ends q → place_at at (all_seen q live.entries) ≡ Some (k, s)
-    → IsPlaced live at k s
+    → IsAtSide live at k s
 placed live ends q at k s kept e = by (number_at ends at) refl
   where
     its-side : (n : ℕ) (x : code.Connection) → get nat_eq live n ≡ Some x → (o : Option Side)
         → side_at at (alone 0 x) ≡ o → option_map {U = ℕ × Side} (λ t. (n, t)) o ≡ Some (k, s)
-        → IsPlaced live at k s
+        → IsAtSide live at k s
     its-side n x found None is f = absurd (cc f)
     its-side n x found (Some t) is f =
         let both = same-some (n, t) (k, s) f in
@@ -200,14 +197,14 @@ placed live ends q at k s kept e = by (number_at ends at) refl
         }
 
     numbered : (n : ℕ) → number_at ends at ≡ Some n → (o : Option code.Connection)
-        → get nat_eq live n ≡ o → IsPlaced live at k s
+        → get nat_eq live n ≡ o → IsAtSide live at k s
     numbered n is None dead =
         absurd (some-none (k, s) (sym e ∙ places-dead live ends q at n kept is dead))
     numbered n is (Some x) found =
         its-side n x found (side_at at (alone 0 x)) refl
         (sym (places live ends q at n x kept is found) ∙ e)
 
-    by : (o : Option ℕ) → number_at ends at ≡ o → IsPlaced live at k s
+    by : (o : Option ℕ) → number_at ends at ≡ o → IsAtSide live at k s
     by None none = absurd (some-none (k, s) (sym e ∙ places-nowhere live ends q at kept none))
     by (Some n) is = numbered n is (get nat_eq live n) refl
 

@@ -12,7 +12,7 @@ use Rattle.gb_base.specs.declared.outcome.Outcome.TheVariants as outcome
 use Rattle.gb_bus.proofs.SlotMaps.{AllPlaced, FindsAt, Retimed}
 use Rattle.gb_bus.proofs.SlotMaps.{changed, changed-placed, each-number, finds-here, finds-other}
 use Rattle.gb_bus.proofs.SlotMaps.{found, found-at, gone, gone-placed, none-some, other-number}
-use Rattle.gb_bus.proofs.SlotMaps.{same-number, same_some, time-here, time-others}
+use Rattle.gb_bus.proofs.SlotMaps.{same-number, same-some, time-here, time-others}
 use Rattle.gb_bus.specs.Counting.{counted_once, one_ended}
 use Rattle.gb_bus.specs.Keeping.{Deadlines, IsKept, Places, has_deadline, is_let_go, kept_in}
 use Rattle.gb_bus.specs.Keeping.{waits_until}
@@ -85,7 +85,7 @@ its-number : (s : Slab Slot) (p : Places) (n key : ℕ) (slot : Slot) → AllPla
     → IsThere s p n key slot → slot.number ≡ n
 its-number s p n key slot a i =
     let own = a.placed n key i.place in
-    ap (λ x. x.number) (same_some slot own.0 (sym i.stands ∙ own.1)) ∙ own.2
+    ap (λ x. x.number) (same-some slot own.0 (sym i.stands ∙ own.1)) ∙ own.2
 
 updates : (s : Slab Slot) (key : ℕ) (slot slot2 : Slot) → slab.get s key ≡ Some slot
     → Updates s (with_value s key slot2) key (Some slot2)
@@ -170,7 +170,7 @@ module _ (s : Slab Slot) (p : Places) (d : Deadlines) (t : Tally) (n key : ℕ)
 
       asked : (x : Slot) → Some slot2 ≡ Some x → x.outcome ≡ None → x.awaited ≡ true
       asked x e none =
-          let same = same_some slot2 x e in
+          let same = same-some slot2 x e in
           let open_now = ap (λ y. y.outcome) same ∙ none in
           ap (λ y. y.awaited) (sym same)
           ∙ awaited open_now
@@ -219,7 +219,7 @@ module _ (s : Slab Slot) (p : Places) (d : Deadlines) (t : Tally) (n key : ℕ)
         times
         (record {
           asked = λ x e none. absurd
-              (clash how (sym over ∙ ap (λ y. y.outcome) (same_some slot2 x e) ∙ none));
+              (clash how (sym over ∙ ap (λ y. y.outcome) (same-some slot2 x e) ∙ none));
           made = λ x e.
               let low = k.made n slot (is-found s p n key slot i) in omega (arith, low, requests);
         })

@@ -1,7 +1,6 @@
 -- What stands where, when one slot changes, comes or goes.
 use Rattle.std.proofs.Common.{◌≡◌, ◌≢◌, ℕ, Bool, true, false, cond, ◌⊎◌, inl, inr, Option, Some}
 use Rattle.std.proofs.Common.{None, Less, Equal, Greater, eqb, refl, sym, ap, subst, ◌∙◌, arith}
-use Rattle.std.proofs.Common.{unwrap_or}
 use Rattle.std.proofs.lemmas.Bool.{cases_eq}
 use Rattle.std.proofs.lemmas.Bool.Decides.{nat_tests}
 use Rattle.std.specs.Option.{option_and_then}
@@ -12,24 +11,16 @@ use Rattle.std.specs.declared.cmp.Ordering.{Ordering}
 use Rattle.std.specs.declared.cmp.Reverse.{Reverse}
 use Rattle.slab.specs.Slab as slab
 use Rattle.slab.specs.Slab.{Slab, Updates}
+pub use Rattle.gb_bus.proofs.Entries.{other-number, same-number, same-some}
 use Rattle.gb_bus.specs.Keeping.{Deadlines, Places, by_latest, has_deadline}
 use Rattle.gb_bus.specs.declared.slots.Slot.{Slot}
 use Rattle.gb_table.specs.Table.{Puts, item_at}
-
-pub same_some : {A : Type 0} (x y : A) → Some x ≡ Some y → x ≡ y
-same_some x y e = ap (λ o. unwrap_or o x) e
 
 pub key-same : (a b : ℕ) → a ≡ b → is_eq (nat_cmp a b) ≡ true
 key-same a b e = grind (arith, nat_tests)
 
 pub key-other : (a b : ℕ) → a ≢ b → is_eq (nat_cmp a b) ≡ false
 key-other a b e = grind (arith, nat_tests)
-
-pub same-number : (m n : ℕ) → m ≡ n → eqb m n ≡ true
-same-number m n e = grind (arith, nat_tests)
-
-pub other-number : (m n : ℕ) → m ≢ n → eqb m n ≡ false
-other-number m n ne = grind (arith, nat_tests)
 
 -- a deadline with its number, where the latest stand first
 abbrev pub latest : ℕ → ℕ → Reverse (ℕ × ℕ)
@@ -144,7 +135,7 @@ two-places : (s : Slab Slot) (p : Places) (m n k : ℕ) → AllPlaced s p
 two-places s p m n k a e f =
     let one = a.placed m k e in
     let two = a.placed n k f in
-    sym one.2 ∙ ap (λ x. x.number) (same_some one.0 two.0 (sym one.1 ∙ two.1)) ∙ two.2
+    sym one.2 ∙ ap (λ x. x.number) (same-some one.0 two.0 (sym one.1 ∙ two.1)) ∙ two.2
 
 other-place : (s : Slab Slot) (p : Places) (m n k key : ℕ) → AllPlaced s p
     → item_at p n ≡ Some key → m ≢ n → item_at p m ≡ Some k → k ≢ key
@@ -185,7 +176,7 @@ changed-placed s s2 p n key slot a place u is = record {
     from : (k : ℕ) (x : Slot) → slab.get s2 k ≡ Some x → (k ≡ key) ⊎ (k ≡ key → ⊥)
         → item_at p x.number ≡ Some k
     from k x e (inl same) =
-        let it = same_some slot x (sym u.changed ∙ ap (slab.get s2) (sym same) ∙ e) in
+        let it = same-some slot x (sym u.changed ∙ ap (slab.get s2) (sym same) ∙ e) in
         ap (item_at p) (ap (λ y. y.number) (sym it) ∙ is) ∙ place ∙ ap Some (sym same)
     from k x e (inr ne) = a.occupied k x (sym (u.others k ne) ∙ e)
 
@@ -230,7 +221,7 @@ gone-placed s s2 p p2 n key a place u w = record {
     from k x e (inr ne) =
         let there = a.occupied k x (sym (u.others k ne) ∙ e) in
         w.others x.number
-        (λ is. ne (same_some k key (sym there ∙ ap (item_at p) is ∙ place))) ∙ there
+        (λ is. ne (same-some k key (sym there ∙ ap (item_at p) is ∙ place))) ∙ there
 
 -- ---- a slot comes
 
@@ -264,7 +255,7 @@ added-placed s s2 p p2 n key slot a absent free u w is = record {
     by : (m k : ℕ) → item_at p2 m ≡ Some k → (m ≡ n) ⊎ (m ≡ n → ⊥)
         → (x : Slot) × (slab.get s2 k ≡ Some x) × (x.number ≡ m)
     by m k e (inl same) =
-        let it = same_some key k
+        let it = same-some key k
         (sym (w.here) ∙ ap (item_at p2) (sym same) ∙ e) in
         (slot, ap (slab.get s2) (sym it) ∙ u.changed, is ∙ sym same)
     by m k e (inr ne) =
@@ -275,7 +266,7 @@ added-placed s s2 p p2 n key slot a absent free u w is = record {
     from : (k : ℕ) (x : Slot) → slab.get s2 k ≡ Some x → (k ≡ key) ⊎ (k ≡ key → ⊥)
         → item_at p2 x.number ≡ Some k
     from k x e (inl same) =
-        let it = same_some slot x (sym u.changed ∙ ap (slab.get s2) (sym same) ∙ e) in
+        let it = same-some slot x (sym u.changed ∙ ap (slab.get s2) (sym same) ∙ e) in
         ap (item_at p2) (ap (λ y. y.number) (sym it) ∙ is)
         ∙ w.here ∙ ap Some (sym same)
     from k x e (inr ne) =

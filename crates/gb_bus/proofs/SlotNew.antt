@@ -9,7 +9,7 @@ use Rattle.slab.specs.Slab.{Slab, Updates}
 use Rattle.gb_bus.proofs.SlotMaps.{FindsAt, Retimed, added, added-placed}
 use Rattle.gb_bus.proofs.SlotMaps.{each-number}
 use Rattle.gb_bus.proofs.SlotMaps.{found, found-at, none-some, other-number}
-use Rattle.gb_bus.proofs.SlotMaps.{same-number, same_some, time-here, time-others}
+use Rattle.gb_bus.proofs.SlotMaps.{same-number, same-some, time-here, time-others}
 use Rattle.gb_bus.proofs.SlotKept.{TimesAt, all-placed, kept-from}
 use Rattle.gb_bus.specs.Counting.{counted_once, with_one}
 use Rattle.gb_bus.specs.Keeping.{Deadlines, IsKept, Places, has_deadline, waits_until}
@@ -131,7 +131,7 @@ module _ (s : Slab Slot) (p : Places) (d : Deadlines) (t : Tally) (slot : Slot)
         (added-placed s s2 p p2 slot.number key slot (all-placed s p d t k) unplaced free u w refl)
         opens times
         (record {
-          asked = λ x e none. ap (λ y. y.awaited) (sym (same_some slot x e)) ∙ awaited;
+          asked = λ x e none. ap (λ y. y.awaited) (sym (same-some slot x e)) ∙ awaited;
           made = λ x e. omega (arith, newest, requests);
         })
         (omega (arith, requests)) (omega (arith, sum, requests, k.counted))

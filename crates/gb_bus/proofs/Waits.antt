@@ -1,14 +1,13 @@
 -- The ends at which something waits, in their order, are those that the queues list.
-use Rattle.std.proofs.Common.{◌≡◌, ◌≢◌, ℕ, Bool, true, false, cond, ◌||◌, eqb, ◌⊎◌, inl, inr, ⊎_elim}
-use Rattle.std.proofs.Common.{Less, Option, Some, None, List, [], ◌∷◌, length, map, refl, sym, ap, ◌∙◌}
+use Rattle.std.proofs.Common.{◌≡◌, ℕ, Bool, true, false, cond, ◌||◌, eqb, ◌⊎◌, inl, inr, ⊎_elim}
+use Rattle.std.proofs.Common.{Less, List, [], ◌∷◌, length, map, refl, sym, ap, ◌∙◌}
 use Rattle.std.proofs.Common.{subst}
 use Rattle.std.proofs.lemmas.Bool.{true≢false}
-use Rattle.std.proofs.lemmas.Cmp.{tied_itself}
 use Rattle.std.proofs.lemmas.Map.Keys.{IsDistinct-head, IsDistinct-tail}
 use Rattle.std.specs.List.{AllByRecursion, IsDistinct}
 use Rattle.std.specs.List.Sorted.{IsStrictlySortedBy}
 use Rattle.std.specs.Map.{keys_of}
-use Rattle.std.specs.Ordering.{is_eq, is_gt}
+use Rattle.std.specs.Ordering.{is_eq}
 use Rattle.std.specs.Prelude.{nat_eq}
 use Rattle.gb_base.specs.declared.end.End.{End}
 use Rattle.gb_base.specs.declared.end.End.TheVariants as end
@@ -17,7 +16,7 @@ use Rattle.gb_bus.proofs.Earliest.{not-before-self, one-end}
 use Rattle.gb_bus.proofs.Entries.{EachEntry, NoKey, each-entry, others-behind, same-some}
 use Rattle.gb_bus.proofs.Keeping.{Queues, number-of-end, two-ends}
 use Rattle.gb_bus.proofs.Tellings.{with-some}
-use Rattle.gb_bus.specs.Index.{Ends, IsEndOf, IsIndexed, Kept, Live, number_at}
+use Rattle.gb_bus.specs.Index.{Ends, IsEndOf, IsIndexed, Kept, Live}
 use Rattle.gb_bus.specs.Parts.{is_none_left}
 use Rattle.gb_bus.specs.Seen.{all_seen, items_of, seen}
 use Rattle.gb_bus.specs.Telling.{waiting_at, waiting_before, waiting_in, with_end}
@@ -28,8 +27,7 @@ use Rattle.gb_machine.proofs.Ordering.{in_order-map}
 use Rattle.gb_machine.specs.Lists.{in_order}
 use Rattle.gb_machine.specs.Waiting.{end_before}
 use Rattle.gb_switch.proofs.Places.{cmp-own, cmp-same, settled-before}
-use Rattle.gb_switch.specs.Lines.{has_items}
-use Rattle.gb_switch.specs.Places.{end_cmp, end_total}
+use Rattle.gb_switch.specs.Places.{end_cmp}
 use Rattle.gb_switch.specs.Queues.{ListsWaiting, items_at}
 use Rattle.gb_switch.specs.WaitingEnds.{is_in}
 
