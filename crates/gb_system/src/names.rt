@@ -63,7 +63,8 @@ impl Names {
     }
 
     /// Binds a free name. After want of memory all is as before. It also comes where so many names
-    /// are bound that one more would have no number of 64 bits.
+    /// are bound that one more would have no number of 64 bits. Where the name is bound, and memory
+    /// is found, nothing is said of the names.
     pub fn bind(&mut self, name: Key, number: u64) -> Result<(), OutOfMemory>
         ensures ok { OnOk result (named name self.old ≡ None
             → self.new ≡ in_order pair_before (name, number) self.old) }

@@ -21,12 +21,19 @@ use std::alloc::Global;
 /// held.
 #[derive(Drop)]
 pub struct Parties {
+    /// Where memory is taken.
     pub alloc: Global,
+    /// The connections, the requests and the queues between the parties.
     pub bus: Bus,
+    /// The power levels and device ids of interfaces.
     pub ladder: Ladder,
+    /// The modules that are plugged.
     pub modules: Modules,
+    /// The application processor.
     pub host: Host,
+    /// The names that requests have.
     pub names: Names,
+    /// The supervisory controller has started.
     pub booted: bool,
     /// The time in milliseconds.
     pub time: u64,

@@ -42,7 +42,8 @@ impl System {
     }
 
     /// Steps one event, and answers what it brings about: first `Entry::Done` or `Entry::Refused`.
-    /// Once no memory was found, every later step answers that.
+    /// Once no memory was found, every later step answers that. Fewer than 4,294,967,295 events may
+    /// have been stepped before.
     pub fn step(&mut self, e: &Event) -> Result<Entries, OutOfMemory>
         requires valid { IsValid e.now }
         requires room { taken_of self.old < 4294967295 }
@@ -57,8 +58,9 @@ impl System {
         Ok(told)
     }
 
-    /// Steps one event as `step` does. What it brings about stands in `told` then, whatever stood
-    /// there, and takes the memory of that first.
+    /// Steps one event as `step` does, into the memory that `told` has: what stood there is gone.
+    /// After want of memory nothing is said of `told`. Here too fewer than 4,294,967,295 events may
+    /// have been stepped before.
     pub fn step_into(&mut self, e: &Event, told: &mut Entries) -> Result<(), OutOfMemory>
         requires valid { IsValid e.now }
         requires room { taken_of self.old < 4294967295 }
@@ -91,8 +93,9 @@ impl System {
         self.taken
     }
 
-    /// How request n ended, None in it where it is open. Nothing comes where n isn't open, wasn't
-    /// given up or was answered since, and has no name.
+    /// How request n ended. The outer None comes where nothing asks for request n: it isn't open,
+    /// has no name, and wasn't given up or has its answer. The inner None: it is open. After want
+    /// of memory nothing is said.
     pub fn outcome(&self, n: u64) -> Option<Option<&Outcome>>
         ensures { (s : State) → Stands self.now s
             → option_map (λ how. option_copied how) result ≡ outcome_in n s }
@@ -108,7 +111,8 @@ impl System {
         self.failed
     }
 
-    /// How many requests were made by both sides, and how these stand.
+    /// How many requests were made by both sides, and how these stand. After want of memory nothing
+    /// is said.
     pub fn tally(&self) -> Tally
         ensures { (s : State) → Stands self.now s → Tells result s.bus }
     {
