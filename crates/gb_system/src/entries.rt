@@ -9,19 +9,19 @@ use gb_base::{Entries, Entry, OutOfMemory, Refusal};
 pub fn begin(told: &mut Entries) -> Result<(), OutOfMemory>
     ensures { OnOk result (told.new ≡ entry.Done ∷ []) }
 {
-    tell_alone(Entry::Done, told)
+    tell_alone(told, Entry::Done)
 }
 
 /// An event is refused, and nothing else is told.
 pub fn refuse(told: &mut Entries, why: Refusal) -> Result<(), OutOfMemory>
     ensures { OnOk result (told.new ≡ entry.Refused why ∷ []) }
 {
-    tell_alone(Entry::Refused { why }, told)
+    tell_alone(told, Entry::Refused { why })
 }
 
 /// One entry is told, and nothing else.
 #[inline]
-fn tell_alone(one: Entry, told: &mut Entries) -> Result<(), OutOfMemory>
+fn tell_alone(told: &mut Entries, one: Entry) -> Result<(), OutOfMemory>
     ensures { OnOk result (told.new ≡ one ∷ []) }
 {
     told.clear();
