@@ -12,11 +12,11 @@ ghost use Rattle.gb_system.specs.Drafts.{IsUpon, reply_told};
 ghost use Rattle.gb_system.specs.Serving.{only};
 ghost use Rattle.gb_system.specs.Stands.{PartsStand};
 
-use crate::asking::{end_at, other_side};
+use crate::asking::end_at;
 use crate::message::{response_bytes, size_of};
 use crate::parties::Parties;
 use gb_base::{End, Entries, Entry, OutOfMemory, Side};
-use gb_bus::Asked;
+use gb_bus::{Asked, other_side};
 use std::alloc::Global;
 
 impl Parties {

@@ -4,7 +4,7 @@ ghost use Rattle.std.specs.Prelude.{◌≡◌, [], false, IfOk, OnOk, option_map
 ghost use Rattle.gb_base.specs.declared.end.Side.TheVariants as side;
 ghost use Rattle.gb_bus.specs.Sending.{label_on};
 ghost use Rattle.gb_machine.specs.Asking.{asks};
-ghost use Rattle.gb_machine.specs.Bus.{next_number, other_side};
+ghost use Rattle.gb_machine.specs.Bus.{next_number};
 ghost use Rattle.gb_machine.specs.OwnAsking.{far_asks, far_asks_all};
 ghost use Rattle.gb_machine.specs.State.{State};
 ghost use Rattle.gb_system.specs.Acting.{AreAskable, IsAskable};
@@ -15,7 +15,7 @@ ghost use Rattle.gb_system.specs.Stands.{PartsStand};
 use crate::message::{request_bytes, size_of};
 use crate::parties::Parties;
 use gb_base::{End, Entries, Entry, OutOfMemory, Outcome, OwnAsk, Reading, Side};
-use gb_bus::{SendFault, Sent};
+use gb_bus::{SendFault, Sent, other_side};
 use std::alloc::Global;
 
 /// How long a request waits for its answer where nothing else is said, in milliseconds.
@@ -146,15 +146,5 @@ pub fn end_at(side: Side, ends: (u16, End)) -> End
     match side {
         Side::Ap => End::Ap(ends.0),
         Side::Far => ends.1,
-    }
-}
-
-/// The other side of a connection.
-pub fn other_side(side: Side) -> Side
-    ensures { result ≡ other_side side }
-{
-    match side {
-        Side::Ap => Side::Far,
-        Side::Far => Side::Ap,
     }
 }
