@@ -13,8 +13,8 @@ ghost use Rattle.gb_switch.specs.declared.ladder.Ladder as switch;
 ghost use Rattle.gb_system.specs.declared.deciding.Behind.TheVariants as behind;
 ghost use Rattle.gb_system.specs.Deciding.{BusAndPorts, Decides, answer_of};
 
-use crate::results::{INVALID, NONEXISTENT, SUCCESS};
 use arrayvec::ArrayVec;
+use gb_bridge_payload::{INVALID, NONEXISTENT, SUCCESS};
 use gb_bus::Bus;
 use gb_svc::SvcServed;
 use gb_switch::{Ladder, NotRouted};

@@ -22,7 +22,6 @@ mod names;
 mod naming;
 mod parties;
 mod plugging;
-mod results;
 mod sending;
 mod serving;
 mod showing;

@@ -13,8 +13,8 @@ ghost use Rattle.gb_system.specs.Serving.{only};
 ghost use Rattle.gb_system.specs.Stands.{PartsStand};
 
 use crate::parties::Parties;
-use crate::results::NONEXISTENT;
 use gb_base::{Entries, OutOfMemory, Side};
+use gb_bridge_payload::NONEXISTENT;
 use gb_bus::Asked;
 
 impl Parties {

@@ -25,8 +25,8 @@ ghost use Rattle.gb_system.specs.Stands.{PartsStand};
 
 use crate::deciding::{Behind, decide};
 use crate::parties::Parties;
-use crate::results::SUCCESS;
 use gb_base::{End, Entries, Entry, OutOfMemory, Side};
+use gb_bridge_payload::SUCCESS;
 use gb_bus::Asked;
 use gb_host::{HostEvent, HostServed};
 
