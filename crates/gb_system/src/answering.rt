@@ -54,7 +54,7 @@ fn replied(
     code: u8,
     payload: &[u8],
 ) -> Result<Entry, OutOfMemory>
-    ensures { IfOk result (λ e. asked.now.kind < 128 → length payload.now ≤ 2040
+    ensures { IfOk result (λ e. asked.now.kind < 128 → length payload.now ≤ most_payload
         → e ≡ reply_told side ends asked.now.number asked.now.label asked.now.kind code
         payload.now) }
 {

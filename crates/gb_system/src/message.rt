@@ -2,21 +2,20 @@
 
 ghost use Rattle.std.specs.Prelude.{◌≡◌, ◌≤◌, ◌<◌, IfOk, length};
 ghost use Rattle.gb_formats.specs.Message.{message_size, request, response, spelling};
+ghost use Rattle.gb_formats.specs.Results.{most_payload};
 ghost use Rattle.gb_wire.specs.MessageOf.{message_of};
 
 use gb_base::{Bytes, OutOfMemory};
+use gb_bridge_payload::MOST_PAYLOAD;
 use gb_wire::{Message, encode_into};
 use std::alloc::Global;
-
-/// The most bytes that a payload has on a simulated link.
-pub const LONGEST_PAYLOAD: usize = 2040;
 
 /// The most bytes that a payload has in a message that takes no memory of its own.
 const SHORT_PAYLOAD: usize = 8;
 
 /// The size of a message with a payload of at most 2,040 bytes.
 pub fn size_of(payload: &[u8]) -> u16
-    ensures { length payload.now ≤ 2040 → result ≡ message_size payload.now }
+    ensures { length payload.now ≤ most_payload → result ≡ message_size payload.now }
 {
     8 + within(payload).len() as u16
 }
@@ -28,7 +27,7 @@ pub fn request_bytes(
     kind: u8,
     payload: &[u8],
 ) -> Result<Bytes, OutOfMemory>
-    ensures { IfOk result (λ b. length payload.now ≤ 2040
+    ensures { IfOk result (λ b. length payload.now ≤ most_payload
         → b ≡ spelling (request label kind payload.now)) }
 {
     message_bytes(
@@ -51,7 +50,7 @@ pub fn response_bytes(
     code: u8,
     payload: &[u8],
 ) -> Result<Bytes, OutOfMemory>
-    ensures { IfOk result (λ b. kind < 128 → length payload.now ≤ 2040
+    ensures { IfOk result (λ b. kind < 128 → length payload.now ≤ most_payload
         → b ≡ spelling (response label kind code payload.now)) }
 {
     message_bytes(
@@ -94,11 +93,11 @@ fn short_message(alloc: Global, m: &Message<'_>) -> Result<Bytes, OutOfMemory>
 
 /// A payload up to the length that a message has room for.
 fn within(payload: &[u8]) -> &[u8]
-    ensures most { length result.now ≤ 2040 }
-    ensures all { length payload.now ≤ 2040 → result.now ≡ payload.now }
+    ensures most { length result.now ≤ most_payload }
+    ensures all { length payload.now ≤ most_payload → result.now ≡ payload.now }
 {
-    if payload.len() > LONGEST_PAYLOAD {
-        &payload[..LONGEST_PAYLOAD]
+    if payload.len() > MOST_PAYLOAD {
+        &payload[..MOST_PAYLOAD]
     } else {
         payload
     }

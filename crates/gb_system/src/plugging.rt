@@ -18,10 +18,10 @@ ghost use Rattle.gb_system.specs.Drafts.{own_ask};
 ghost use Rattle.gb_system.specs.Stands.{PartiesStand, PartsStand, PartsStep};
 
 use crate::entries::{begin, refuse};
-use crate::message::LONGEST_PAYLOAD;
 use crate::parties::Parties;
 use crate::svc::SVC;
 use gb_base::{Entries, Kind, OutOfMemory, Refusal, Side};
+use gb_bridge_payload::MOST_PAYLOAD;
 use gb_module::Module;
 
 impl Parties {
@@ -117,7 +117,7 @@ impl Parties {
         if self.modules.at(intf).is_some() {
             return Some(Refusal::Occupied);
         }
-        if size > LONGEST_PAYLOAD {
+        if size > MOST_PAYLOAD {
             return Some(Refusal::TooLarge);
         }
         if self.bus.spent(SVC, Side::Far) {

@@ -16,10 +16,10 @@ ghost use Rattle.gb_system.specs.Stands.{PartiesStand, PartsStand, PartsStep};
 use crate::asking::Draft;
 use crate::entries::{begin, refuse};
 use crate::key::Key;
-use crate::message::LONGEST_PAYLOAD;
 use crate::parties::Parties;
 use crate::svc::{SVC, is_reserved};
 use gb_base::{End, Entries, Name, OutOfMemory, Refusal, Side};
+use gb_bridge_payload::MOST_PAYLOAD;
 
 impl Parties {
     /// Sends a request to the supervisory controller or to a CPort of a module. The timeout is in
@@ -94,7 +94,7 @@ impl Parties {
             return Err(Refusal::Occupied);
         }
         let connection = self.way_to(to, kind)?;
-        if payload.len() > LONGEST_PAYLOAD {
+        if payload.len() > MOST_PAYLOAD {
             return Err(Refusal::TooLarge);
         }
         if self.bus.spent(connection, Side::Ap) {

@@ -3,13 +3,14 @@
 ghost use Rattle.std.specs.Prelude.{◌≡◌, ◌+◌, ◌<◌, if◌then◌else◌, true, false};
 ghost use Rattle.std.specs.Prelude.{IfOk, OnOk, is_ok, is_err, length, option_copied, option_map};
 ghost use Rattle.gb_bus.specs.Counting.{Tells};
+ghost use Rattle.gb_formats.specs.Results.{most_payload};
 ghost use Rattle.gb_formats.specs.ValidEvents.{IsValid};
 ghost use Rattle.gb_machine.specs.State.{State, first_state};
 ghost use Rattle.gb_system.specs.Outcomes.{outcome_in};
 
-use crate::message::LONGEST_PAYLOAD;
 use crate::parties::Parties;
 use gb_base::{Entries, Event, OutOfMemory, Outcome};
+use gb_bridge_payload::MOST_PAYLOAD;
 use gb_bus::Tally;
 use std::alloc::Global;
 
@@ -21,7 +22,7 @@ pub struct System {
     room: Vec<u8>,
     taken: u64,
     failed: bool,
-    ghost wide: { length room.items ≡ 2040 },
+    ghost wide: { length room.items ≡ most_payload },
 }
 
 impl System {
@@ -35,7 +36,7 @@ impl System {
     {
         Ok(System {
             parties: Parties::new(alloc)?,
-            room: vec![in alloc; 0; LONGEST_PAYLOAD]?,
+            room: vec![in alloc; 0; MOST_PAYLOAD]?,
             taken: 0,
             failed: false,
         })

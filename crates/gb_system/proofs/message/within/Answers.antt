@@ -11,9 +11,9 @@ least : (n m : ℕ) → n ≡ m → n ≤ m
 least n m e = omega (arith, e)
 
 pub slice_bounds-result-end : goal.slice_bounds-result-end
-slice_bounds-result-end c = sym (cut 2040 c.args.payload.now c.if-payload-gt-LONGEST_PAYLOAD.true)
+slice_bounds-result-end c = sym (cut 2040 c.args.payload.now c.if-payload-gt-MOST_PAYLOAD.true)
 
-pub returns-then-payload-gt-LONGEST_PAYLOAD-clause-most
-    : goal.returns-then-payload-gt-LONGEST_PAYLOAD-clause-most
-returns-then-payload-gt-LONGEST_PAYLOAD-clause-most c =
-    least _ 2040 (cut 2040 c.args.payload.now c.if-payload-gt-LONGEST_PAYLOAD.true)
+pub returns-then-payload-gt-MOST_PAYLOAD-clause-most
+    : goal.returns-then-payload-gt-MOST_PAYLOAD-clause-most
+returns-then-payload-gt-MOST_PAYLOAD-clause-most c =
+    least _ 2040 (cut 2040 c.args.payload.now c.if-payload-gt-MOST_PAYLOAD.true)

@@ -16,7 +16,7 @@ pub returns-then-spent-clause-is : goal.returns-then-spent-clause-is
 returns-then-spent-clause-is c = λ s manifest st same.
     sym (insert-fits s c.args.intf c.args.size manifest
     (plugged-is c.args.self.now s c.args.intf c.at.result c.is_some.result st c.at.ensures
-    c.is_some.ensures ∙ c.if-is_some.false) same c.if-size-gt-LONGEST_PAYLOAD.false
+    c.is_some.ensures ∙ c.if-is_some.false) same c.if-size-gt-MOST_PAYLOAD.false
     ∙ ap (λ b. first_met ((b, why.NoLabel) ∷ []))
     (sym (c.spent.ensures (around_bus [] s) s.bus st.bus) ∙ c.if-spent.true))
 
@@ -24,6 +24,6 @@ pub returns-clause-is : goal.returns-clause-is
 returns-clause-is c = λ s manifest st same.
     sym (insert-fits s c.args.intf c.args.size manifest
     (plugged-is c.args.self.now s c.args.intf c.at.result c.is_some.result st c.at.ensures
-    c.is_some.ensures ∙ c.if-is_some.false) same c.if-size-gt-LONGEST_PAYLOAD.false
+    c.is_some.ensures ∙ c.if-is_some.false) same c.if-size-gt-MOST_PAYLOAD.false
     ∙ ap (λ b. first_met ((b, why.NoLabel) ∷ []))
     (sym (c.spent.ensures (around_bus [] s) s.bus st.bus) ∙ c.if-spent.false))

@@ -25,11 +25,11 @@ returns-in_err-connection c = record {
       (c.in_err-connection.ensures.step s st));
 }
 
-pub returns-then-payload-gt-LONGEST_PAYLOAD : goal.returns-then-payload-gt-LONGEST_PAYLOAD
-returns-then-payload-gt-LONGEST_PAYLOAD c = record {
+pub returns-then-payload-gt-MOST_PAYLOAD : goal.returns-then-payload-gt-MOST_PAYLOAD
+returns-then-payload-gt-MOST_PAYLOAD c = record {
   step = λ s st.
       let long : 2040 < length c.args.payload.now =
-      omega (arith, c.if-payload-gt-LONGEST_PAYLOAD.true) in
+      omega (arith, c.if-payload-gt-MOST_PAYLOAD.true) in
       goes-long c.args.self.now s c.args.name.now c.args.to c.args.kind c.args.payload.now
       c.in_ok-connection.connection st
       (cc (c.is_some.ensures, c.get.ensures, c.if-is_some.false))
@@ -40,7 +40,7 @@ pub returns-then-spent : goal.returns-then-spent
 returns-then-spent c = record {
   step = λ s st.
       let short : length c.args.payload.now ≤ 2040 =
-      omega (arith, c.if-payload-gt-LONGEST_PAYLOAD.false) in
+      omega (arith, c.if-payload-gt-MOST_PAYLOAD.false) in
       goes-spent c.args.self.now s c.args.name.now c.args.to c.args.kind c.args.payload.now
       c.in_ok-connection.connection c.spent.result st
       (cc (c.is_some.ensures, c.get.ensures, c.if-is_some.false))
@@ -52,7 +52,7 @@ pub returns : goal.returns
 returns c = record {
   step = λ s st.
       let short : length c.args.payload.now ≤ 2040 =
-      omega (arith, c.if-payload-gt-LONGEST_PAYLOAD.false) in
+      omega (arith, c.if-payload-gt-MOST_PAYLOAD.false) in
       goes c.args.self.now s c.args.name.now c.args.to c.args.kind c.args.payload.now
       c.in_ok-connection.connection c.spent.result st
       (cc (c.is_some.ensures, c.get.ensures, c.if-is_some.false))
