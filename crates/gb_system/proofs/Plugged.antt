@@ -35,14 +35,29 @@ plugs i m ps items after n view first is =
     is ∙ ap (λ l. insert l n (record { intf = i; body = m })) view
     ∙ ap (λ k. insert ps k (record { intf = i; body = m })) first ∙ inserted i m ps
 
+-- where none is plugged, there is no module
+pub none-there : (i : ℕ) (ps : List Plugged) (o : Option ℕ)
+    → o ≡ position_from (is_plugged_at i) 0 ps → o ≡ None → module_at i ps ≡ None
+none-there i ps o first is =
+    ap (option_map (λ (p : Plugged). p.body))
+    (none-stands (is_plugged_at i) ps (sym first ∙ is)).0
+
+-- the module at a place
+pub one-there : (i : ℕ) (ps zs : List Plugged) (o : Option ℕ) (n : ℕ) (x : Plugged)
+    → o ≡ position_from (is_plugged_at i) 0 ps → o ≡ Some n → zs ≡ ps → x ≡ get_or zs n x
+    → module_at i ps ≡ Some x.body
+one-there i ps zs o n x first is view at =
+    ap (option_map (λ (p : Plugged). p.body))
+    ((standing (is_plugged_at i) ps n (sym first ∙ is)).found x
+    ∙ ap Some (sym (at ∙ ap (λ l. get_or l n x) view)))
+
 -- where none is plugged, none serves
 pub none-serves : (i cport kind : ℕ) (payload : List ℕ) (ps : List Plugged) (o : Option ℕ)
     → o ≡ position_from (is_plugged_at i) 0 ps → o ≡ None
     → ServesThere i cport kind payload (module_at i ps) ps ps (Ok None)
 none-serves i cport kind payload ps o first is =
     subst (λ m. ServesThere i cport kind payload m ps ps (Ok None))
-    (sym (ap (option_map (λ (p : Plugged). p.body))
-    (none-stands (is_plugged_at i) ps (sym first ∙ is)).0)) (refl, refl)
+    (sym (none-there i ps o first is)) (refl, refl)
 
 -- the module at a place serves
 pub one-serves : (i cport kind : ℕ) (payload : List ℕ) (ps zs : List Plugged) (o : Option ℕ)

@@ -17,7 +17,7 @@ use Rattle.gb_formats.specs.Results.{Stirred, most_payload}
 use Rattle.gb_invariants.proofs.Awaiting.{same-some}
 use Rattle.gb_laws.proofs.Manifests.{stir-manifest}
 use Rattle.gb_machine.proofs.Opened.{machine_opened}
-use Rattle.gb_machine.proofs.Positions.{none-stands, standing}
+use Rattle.gb_machine.proofs.Positions.{standing}
 use Rattle.gb_machine.specs.Actions.{Action, by_state, given}
 use Rattle.gb_machine.specs.Bus.{Place}
 use Rattle.gb_machine.specs.Events.{does}
@@ -38,6 +38,7 @@ use Rattle.gb_system.proofs.Doings.{does-given, does-given_none, does-then}
 use Rattle.gb_system.proofs.Fits.{stir-asks}
 use Rattle.gb_system.proofs.Landing.{lands, lands-refused}
 use Rattle.gb_system.proofs.ModuleServes.{short-at, short-with, stands-with, with_modules}
+use Rattle.gb_system.proofs.Plugged.{none-there}
 use Rattle.gb_system.specs.Acting.{AreAskable}
 use Rattle.gb_system.specs.Doing.{Does}
 use Rattle.gb_system.specs.Plugging.{StirsAt, StirsThere, event_of_stir}
@@ -52,8 +53,7 @@ pub none-stirs : (i c : ℕ) (what : Stir) (ps : List Plugged) (o : Option ℕ)
     → StirsThere i c what (module_at i ps) ps ps (Ok None)
 none-stirs i c what ps o first is =
     subst (λ m. StirsThere i c what m ps ps (Ok None))
-    (sym (ap (option_map (λ (p : Plugged). p.body))
-    (none-stands (is_plugged_at i) ps (sym first ∙ is)).0)) (refl, refl)
+    (sym (none-there i ps o first is)) (refl, refl)
 
 -- an answer of one module, as one of them all
 abbrev pub of_all : Result (List OwnAsk) StirFault → Result (Option (List OwnAsk)) StirFault

@@ -58,12 +58,8 @@ impl Modules {
     pub fn at(&self, intf: u8) -> Option<&Module>
         ensures { option_copied result ≡ module_at intf self.now }
     {
-        for plugged in &self.plugged {
-            if plugged.intf == intf {
-                return Some(&plugged.body);
-            }
-        }
-        None
+        let i = self.place(intf)?;
+        Some(&self.plugged[i].body)
     }
 
     /// Whether a CPort takes what is delivered there: Control, and one that isn't off.
