@@ -45,8 +45,5 @@ impl Parties {
 fn takes_in(stage: Option<ConnState>) -> bool
     ensures { (o : Option Link) → stage ≡ option_map (λ l. l.state) o → result ≡ link_takes o }
 {
-    let Some(state) = stage else {
-        return true;
-    };
-    state == ConnState::Opening || state == ConnState::Open
+    matches!(stage, None | Some(ConnState::Opening | ConnState::Open))
 }
