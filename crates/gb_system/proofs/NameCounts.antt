@@ -1,9 +1,8 @@
 -- How often the names name a request.
-use Rattle.std.proofs.Common.{◌≡◌, ◌<◌, ℕ, suc, ◌+◌, ◌==◌, Bool, true, false, cond, not, ◌||◌, eqb}
+use Rattle.std.proofs.Common.{◌≡◌, ◌<◌, ℕ, suc, ◌+◌, Bool, true, false, cond, not, ◌||◌, eqb}
 use Rattle.std.proofs.Common.{ltb, Some, None, is_some, List, [], ◌∷◌, ◌++◌, length, map, inl, inr}
 use Rattle.std.proofs.Common.{refl, sym, ap, ◌∙◌, subst, arith}
 use Rattle.std.proofs.lemmas.Bool.Decides.{nat_tests}
-use Rattle.std.specs.List.{list_any}
 use Rattle.gb_base.specs.declared.name.Name.{Name}
 use Rattle.gb_bus.specs.Listing.{count}
 use Rattle.gb_bus.specs.Naming.{asked_for, without_one}
@@ -244,14 +243,3 @@ length-sorted (p ∷ ps) = placed p (sorted pair_before ps) ∙ ap suc (length-s
             → length (cond t (q ∷ r ∷ rs) (r ∷ in_order pair_before q rs)) ≡ suc (suc (length rs))
         by true rec = refl
         by false rec = ap suc rec
-
--- the test of names that is a count
-pub is-counted : (n : ℕ) (ps : List (Name × ℕ))
-    → ltb 0 (count n (numbers ps)) ≡ list_any (λ p. p.1 == n) ps
-is-counted n [] = refl
-is-counted n (p ∷ ps) = by (eqb p.1 n) (count n (numbers ps)) (is-counted n ps)
-  where
-    by : (t : Bool) (c : ℕ) → ltb 0 c ≡ list_any (λ q. q.1 == n) ps
-        → ltb 0 (cond t (c + 1) c) ≡ t || list_any (λ q. q.1 == n) ps
-    by true c rec = grind (arith, nat_tests)
-    by false c rec = rec

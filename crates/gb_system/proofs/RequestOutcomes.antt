@@ -5,8 +5,7 @@ use Rattle.std.proofs.Common.{sym, ap, ◌∙◌, subst, arith}
 use Rattle.std.proofs.lemmas.Bool.Decides.{nat_tests}
 use Rattle.gb_base.specs.declared.outcome.Outcome.{Outcome}
 use Rattle.gb_bus.specs.Listing.{count}
-use Rattle.gb_bus.specs.Naming as bus
-use Rattle.gb_bus.specs.Naming.{about_of, asked_for, told_outcome}
+use Rattle.gb_bus.specs.Naming.{about_of, asked_for, is_asked_for, told_outcome}
 use Rattle.gb_bus.specs.Stands.{AreMade}
 use Rattle.gb_bus.specs.declared.answers.About.{About}
 use Rattle.gb_invariants.specs.Facts.{OutcomesFit}
@@ -14,8 +13,7 @@ use Rattle.gb_machine.specs.Bus.{Bus, Request, outcome_of, request_of}
 use Rattle.gb_machine.specs.LawsBus.{is_awaited}
 use Rattle.gb_machine.specs.Requests.{is_given_up}
 use Rattle.gb_machine.specs.State.{State}
-use Rattle.gb_system.proofs.NameCounts.{is-counted}
-use Rattle.gb_system.specs.Outcomes.{is_asked_for, outcome_in}
+use Rattle.gb_system.specs.Outcomes.{outcome_in}
 use Rattle.gb_system.specs.Stands.{PartsStand, names_of}
 use Rattle.gb_system.specs.declared.parties.Parties.{Parties}
 
@@ -47,14 +45,11 @@ awaited-made n b fits is =
     by false unended true e late = late refl
     by false unended false e late = absurd cc
 
--- something asks for a request where the bus says so
-same-asked : (n : ℕ) (s : State) → bus.is_asked_for (names_of s) n s.bus ≡ is_asked_for n s
-same-asked n s = ap (λ t. is_awaited n s.bus || t) (is-counted n s.names)
-
-asked-made : (x : Parties) (n : ℕ) (s : State) → PartsStand [] x s → is_asked_for n s ≡ true
-    → is_some (request_of n s.bus) ≡ true
+-- one that something asks for was made
+asked-made : (x : Parties) (n : ℕ) (s : State) → PartsStand [] x s
+    → is_asked_for (names_of s) n s.bus ≡ true → is_some (request_of n s.bus) ≡ true
 asked-made x n s st is =
-    by (is_awaited n s.bus) (nat_lt 0 (count n (names_of s))) refl refl (same-asked n s ∙ is)
+    by (is_awaited n s.bus) (nat_lt 0 (count n (names_of s))) refl refl is
   where
     above : nat_lt 0 (count n (names_of s)) ≡ true → 0 < count n (names_of s)
     above e = grind (arith, nat_tests)
@@ -70,15 +65,13 @@ asked-made x n s st is =
 pub told-nothing : (x : Parties) (n : ℕ) (s : State) → PartsStand [] x s
     → None ≡ option_map about_of (asked_for (names_of s) n s.bus) → None ≡ outcome_in n s
 told-nothing x n s st none =
-    by (is_asked_for n s) refl
-    (ap (λ t. option_map about_of (cond t (request_of n s.bus) None)) (sym (same-asked n s))
-    ∙ sym none)
+    by (is_asked_for (names_of s) n s.bus) refl (sym none)
   where
     gone : (o : Option Request) → is_some o ≡ true → option_map about_of o ≡ None → ⊥
     gone None made e = absurd cc
     gone (Some r) made e = absurd cc
 
-    by : (t : Bool) → is_asked_for n s ≡ t
+    by : (t : Bool) → is_asked_for (names_of s) n s.bus ≡ t
         → option_map about_of (cond t (request_of n s.bus) None) ≡ None
         → None ≡ cond t (Some (outcome_of n s.bus)) None
     by true is e = absurd (gone (request_of n s.bus) (asked-made x n s st is) e)
@@ -89,10 +82,7 @@ pub told-outcome : (n : ℕ) (s : State) (about : About) (how : Option Outcome)
     → Some about ≡ option_map about_of (asked_for (names_of s) n s.bus)
     → how ≡ told_outcome (names_of s) n s.bus → Some how ≡ outcome_in n s
 told-outcome n s about how is told =
-    by (is_asked_for n s)
-    (is ∙ ap (λ t. option_map about_of (cond t (request_of n s.bus) None)) (same-asked n s))
-    (told ∙ ap (λ t. cond (is_some (cond t (request_of n s.bus) None)) (outcome_of n s.bus) None)
-    (same-asked n s))
+    by (is_asked_for (names_of s) n s.bus) is told
   where
     there : (o : Option Request) → Some about ≡ option_map about_of o
         → cond (is_some o) (outcome_of n s.bus) None ≡ outcome_of n s.bus

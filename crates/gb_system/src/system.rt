@@ -6,7 +6,6 @@ ghost use Rattle.gb_bus.specs.Counting.{Tells};
 ghost use Rattle.gb_formats.specs.Results.{most_payload};
 ghost use Rattle.gb_formats.specs.ValidEvents.{IsValid};
 ghost use Rattle.gb_machine.specs.State.{State, first_state};
-ghost use Rattle.gb_system.specs.Outcomes.{outcome_in};
 
 use crate::parties::Parties;
 use gb_base::{Entries, Event, OutOfMemory, Outcome};
@@ -26,6 +25,7 @@ pub struct System {
 }
 
 impl System {
+    ghost use Rattle.gb_system.specs.Outcomes.{outcome_in};
     ghost use Rattle.gb_system.specs.Stands.{Stands, StepsAs, StepsTo, has_failed, taken_of};
 
     /// The first state: nothing is plugged, and nothing was sent.
