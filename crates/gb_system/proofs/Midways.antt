@@ -3,10 +3,10 @@ use Rattle.std.proofs.Common.{◌≡◌, ◌<◌, ◌+◌, ℕ, List, [], ◌∷
 use Rattle.std.proofs.Common.{drop-cons, add-one, append-nil, append_assoc, refl, sym, ap, ap₂, ◌∙◌}
 use Rattle.gb_base.specs.declared.entry.Entry.{Entry}
 use Rattle.gb_machine.proofs.Opened.{machine_opened}
+use Rattle.gb_machine.proofs.Steps.{told_before}
 use Rattle.gb_machine.specs.Actions.{Action, each, nothing, ◌▸◌}
 use Rattle.gb_machine.specs.State.{State}
 use Rattle.gb_system.proofs.Doings.{does-is}
-use Rattle.gb_system.specs.Arriving.{told_before}
 use Rattle.gb_system.specs.Doing.{Does}
 use Rattle.gb_system.specs.Stands.{PartsStand}
 use Rattle.gb_system.specs.declared.parties.Parties.{Parties}
