@@ -1,6 +1,6 @@
 //! What the supervisory controller decides on a request: its table, and what connections decide.
 
-ghost use Rattle.std.specs.Prelude.{◌≡◌, List, []};
+ghost use Rattle.std.specs.Prelude.{◌≡◌, []};
 ghost use Rattle.gb_bus.specs.Stands.{Around};
 ghost use Rattle.gb_machine.specs.Responding.{creates, destroys, svc_stepped, unroutes};
 ghost use Rattle.gb_machine.specs.Serving.{plainly, success};

@@ -1,6 +1,6 @@
 //! Deliveries, and settles, which are deliveries in a fixed order.
 
-ghost use Rattle.std.specs.Prelude.{◌≡◌, ℕ, true, Some, IfOk, List, OnOk};
+ghost use Rattle.std.specs.Prelude.{◌≡◌, Some, IfOk, List, OnOk};
 ghost use Rattle.gb_base.specs.declared.event.Event.TheVariants as event;
 ghost use Rattle.gb_invariants.specs.Facts.{Loose};
 ghost use Rattle.gb_machine.specs.Bus.{Connection};
