@@ -1,4 +1,4 @@
-//! What is wrong with a message, a line or a manifest.
+//! What is wrong with a message, a line, a manifest or its text.
 
 /// Why bytes don't begin with an operation message.
 #[derive(Clone, Copy, Debug, PartialEq, Eq)]
@@ -47,6 +47,28 @@ pub enum LineReason {
     ExtraWord(u32),
 }
 
+/// Why a line of a capture holds no message. Words and bytes are counted from 1.
+#[derive(Clone, Copy, Debug, PartialEq, Eq)]
+pub enum CaptureFault {
+    /// It has more than 8,192 bytes.
+    TooLong,
+    /// The byte at this place is outside 0x20 to 0x7e.
+    BadByte(u32),
+    /// The word at this place doesn't fit.
+    BadWord(u32),
+    /// The word at this place is missing.
+    MissingWord(u32),
+    /// The word at this place is one too many.
+    ExtraWord(u32),
+    /// Its bytes don't begin with a message.
+    Wire(WireFault),
+    /// Bytes follow the message.
+    Extra {
+        /// How many bytes follow.
+        count: u32,
+    },
+}
+
 /// Why bytes aren't a manifest.
 #[derive(Clone, Copy, Debug, PartialEq, Eq)]
 pub enum Reason {
@@ -86,4 +108,19 @@ pub enum Reason {
     VendorString,
     /// The product string isn't declared.
     ProductString,
+}
+
+/// Why the text of a manifest is refused at a line.
+#[derive(Clone, Copy, Debug, PartialEq, Eq)]
+pub enum MnfsReason {
+    /// The line is none of a section, and none of a key and its value.
+    NotALine,
+    /// The key isn't one of the section in which it stands.
+    NotHere,
+    /// The key came before in its section, or the only section of its kind came before.
+    Twice,
+    /// A number or a string isn't of its form or not in its range.
+    BadValue,
+    /// The section lacks a key; or, at line 0, one of the two needed sections isn't there.
+    Missing,
 }

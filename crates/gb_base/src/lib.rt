@@ -1,6 +1,7 @@
 //! The traits of the outside, and the types that all crates share.
 #![tactic(auto)]
 
+mod audit;
 mod bridge;
 mod bytes;
 mod end;
@@ -17,6 +18,7 @@ mod memory;
 mod name;
 mod numbers;
 mod outcome;
+mod parts;
 mod peers;
 mod plain;
 mod refusal;
@@ -29,19 +31,21 @@ mod status;
 mod steps;
 mod text;
 
+pub use audit::{Finding, Verdict};
 pub use bridge::{BridgeAsk, Bridged, I2cOp, I2cOps, Reading, SpiOp, SpiOps};
 pub use bytes::Bytes;
 pub use end::{End, Side};
 pub use entry::{ConnState, Entries, Entry, IntfStage};
 pub use errors::{Failed, NoRoom, OutOfMemory};
 pub use event::{Event, Kind};
-pub use fault::{LineReason, RawFault, Reason, WireFault};
+pub use fault::{CaptureFault, LineReason, MnfsReason, RawFault, Reason, WireFault};
 pub use gate::{FreeGate, Gate};
 pub use journal::{Journal, JournalEntry};
 pub use memory::{MemSink, MemSource};
 pub use name::{Name, Word};
 pub use numbers::{bytes_of_four, bytes_of_two};
 pub use outcome::Outcome;
+pub use parts::{Asked, Parts};
 pub use peers::{Interface, Link};
 pub use plain::{PlainSink, PlainSource};
 pub use refusal::Refusal;

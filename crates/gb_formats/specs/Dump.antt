@@ -1,8 +1,10 @@
 -- The texts of `check` and `dump`.
 use Rattle.std.specs.Prelude.{ℕ, ◌==◌, nat_le, Bool, not, ◌&&◌, if◌then◌else◌, List, [], ◌∷◌, ◌++◌}
-use Rattle.std.specs.Prelude.{map, codes}
+use Rattle.std.specs.Prelude.{map, codes, Result, Ok, Err}
 use Rattle.std.specs.List.{concat}
 use Rattle.std.specs.Fmt.{decimal}
+use Rattle.gb_base.specs.declared.status.Status.{Status}
+use Rattle.gb_base.specs.declared.status.Status.TheVariants as status
 use Rattle.gb_formats.specs.Bytes.{byte_text, joined}
 use Rattle.gb_formats.specs.Descriptors.{Descriptor}
 use Rattle.gb_formats.specs.Manifest.{Manifest}
@@ -57,3 +59,15 @@ check_text m = ended (joined (codes "manifest ok " ∷ decimal m.size ∷ []))
 abbrev pub refused_text : Refused → List ℕ
 refused_text why =
     ended (joined (codes "refused " ∷ decimal why.at ∷ codes " " ∷ reason_text why.reason ∷ []))
+
+-- ---- what the program writes, and how it ends
+
+-- What `check` and `dump` write: `manifest ok N` or the dump, or `refused PLACE REASON`.
+abbrev pub manifest_text : Bool → Result Manifest Refused → List ℕ
+manifest_text dump (Ok m) = if dump then dump_text m else check_text m
+manifest_text dump (Err why) = refused_text why
+
+-- How `check` and `dump` end.
+abbrev pub manifest_verdict : Result Manifest Refused → Status
+manifest_verdict (Ok m) = status.Success
+manifest_verdict (Err why) = status.Refused

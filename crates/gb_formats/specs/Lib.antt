@@ -1,6 +1,9 @@
+pub mod Audit
+pub mod AuditTexts
 pub mod BridgeForms
 pub mod Bridges
 pub mod Bytes
+pub mod Captures
 pub mod ControlRecords
 pub mod ControlResponder
 pub mod Descriptors
@@ -20,6 +23,7 @@ pub mod ManifestSpec
 pub mod Message
 pub mod Module
 pub mod ModuleSteps
+pub mod Orders
 pub mod Parts
 pub mod Protocols
 pub mod Reasons
@@ -28,6 +32,10 @@ pub mod Results
 pub mod Said
 pub mod Script
 pub mod ShowTexts
+pub mod Source
+pub mod SourceLines
+pub mod SourceTexts
+pub mod SourceValues
 pub mod SpiDevice
 pub mod SpiRecords
 pub mod SvcRecords

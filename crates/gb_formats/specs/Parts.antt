@@ -5,6 +5,8 @@ use Rattle.std.specs.Str.{bytes_eq}
 use Rattle.gb_base.specs.declared.event.Event.{Event}
 use Rattle.gb_base.specs.declared.fault.LineReason.{LineReason}
 use Rattle.gb_base.specs.declared.fault.LineReason.TheVariants as bad
+use Rattle.gb_base.specs.declared.parts.Asked.{Asked}
+use Rattle.gb_base.specs.declared.parts.Parts.{Parts}
 use Rattle.gb_formats.specs.Grammar.{Said}
 use Rattle.gb_formats.specs.Lines.{lines}
 use Rattle.gb_formats.specs.Script.{by_bytes, judged}
@@ -20,17 +22,6 @@ pub data Part : Type 0 where
   Nothing : Part
   Heading : ℕ → Part
   Asks : Event → Part
-
--- a line of a script, with its number and the requester whose it is
-pub record Asked : Type 0 where
-  pub line : ℕ
-  pub who : ℕ
-  pub event : Event
-
--- the lines that are events up to the first bad line, and that line's number and reason
-pub record Parts : Type 0 where
-  pub asked : List Asked
-  pub bad : Option (ℕ × LineReason)
 
 -- a line whose first word is `requester` is a heading
 abbrev pub is_heading : List (List ℕ) → Bool
