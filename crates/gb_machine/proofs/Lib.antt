@@ -18,6 +18,7 @@ pub mod RowsInjection
 pub mod RowsLabels
 pub mod RowsPings
 pub mod RowsRefusals
+pub mod RowsShared
 pub mod RowsShown
 pub mod ScriptRuns
 pub mod Scripts

@@ -12,8 +12,10 @@ use Rattle.gb_base.specs.declared.outcome.Outcome.{Outcome}
 use Rattle.gb_base.specs.declared.outcome.Outcome.TheVariants as outcome
 use Rattle.gb_base.specs.declared.peers.Link.{Link}
 use Rattle.gb_formats.specs.Message.{message_size, response, spelling}
-use Rattle.gb_machine.specs.Bus.{Connection, Request, connection_of, end_of, other_side, request_of}
+use Rattle.gb_machine.specs.Bus.{Connection, Reply, Request, connection_of, end_of, other_side}
+use Rattle.gb_machine.specs.Bus.{request_of}
 use Rattle.gb_machine.specs.Host.{link_at, link_of}
+use Rattle.gb_machine.specs.LawsBus.{items_of}
 use Rattle.gb_machine.specs.Members.{IsIn, times}
 use Rattle.gb_machine.specs.Names.{named}
 use Rattle.gb_machine.specs.Runs.{HoldsAtEachMoment, HoldsThroughout, Moment, after, told_at}
@@ -73,15 +75,22 @@ pub record WasReplied (told : List Entry) (c : Connection) (n : ℕ) (r : Reques
       (message_size sent) (spelling (response r.label r.kind result sent))) told
   pub same : result ≡ 0 → sent ≡ payload
 
+-- Request n is answered by its number: the reply to it was told, and waited on its connection or
+-- was held there until now.
+pub record IsAnsweredByNumber (m : Moment) (c : Connection) (n : ℕ) (r : Request) (result : ℕ)
+    (payload : List ℕ) : Type 0 where
+  pub replied : WasReplied m.told c n r result payload
+  pub waited : IsIn (Reply n result replied.sent) (items_of c m.before)
+
 -- A request that ends as answered at a moment does so on its live connection, and where that is
--- clean its reply was told before.
+-- clean by its number.
 abbrev pub HadItsReply : Moment → Type 0
 HadItsReply m =
     (n result : ℕ) (payload : List ℕ) (read : Reading) (r : Request)
     → IsIn (entry.Ended n (outcome.Answered result payload) read) (told_at m)
     → request_of n (after m).bus ≡ Some r
     → (c : Connection) × (connection_of r.connection m.before.bus ≡ Some c)
-    × (c.clean ≡ true → WasReplied m.told c n r result payload)
+    × (c.clean ≡ true → IsAnsweredByNumber m c n r result payload)
 
 -- On a clean connection a request is answered by what its own responder replied, at every moment.
 abbrev pub AnsweredByItsResponder : Type 0

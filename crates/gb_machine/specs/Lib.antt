@@ -1,11 +1,13 @@
 pub mod Actions
 pub mod Arriving
 pub mod Asking
+pub mod AskingEvents
 pub mod Bus
 pub mod Delivery
 pub mod Events
 pub mod Failures
 pub mod GivingUp
+pub mod Headline
 pub mod Holding
 pub mod Host
 pub mod HostActs
@@ -41,6 +43,7 @@ pub mod SequenceSteps
 pub mod Sequences
 pub mod Serving
 pub mod Settling
+pub mod Shared
 pub mod Show
 pub mod State
 pub mod Summary

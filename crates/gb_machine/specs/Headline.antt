@@ -1,0 +1,38 @@
+-- What is promised of every run of events, together: the sentence with which this project stands.
+use Rattle.std.specs.Prelude.{List}
+use Rattle.gb_base.specs.declared.event.Event.{Event}
+use Rattle.gb_machine.specs.LawsEnds.{EndOnce, HadItsReply, HasItsCause}
+use Rattle.gb_machine.specs.LawsHotPlug.{AbsentBetween, AbsentHasNoOpen, AbsentIsUnconnected}
+use Rattle.gb_machine.specs.LawsHotPlug.{HaveOwnItems, OpenIsLive, TakesFromItsConnection}
+use Rattle.gb_machine.specs.Members.{Each}
+use Rattle.gb_machine.specs.Runs.{AreValid, moments_in, state_by, told_by}
+
+-- Once the removal of an interface is handled it is absent until its insertion is handled. While it
+-- is absent no live connection names it, and no request is open on a connection that ever did. Open
+-- requests of the application processor are on live connections.
+pub record LeavesNothing (es : List Event) : Type 0 where
+  pub absent : Each AbsentBetween (moments_in es)
+  pub unconnected : AbsentIsUnconnected (told_by es) (state_by es)
+  pub closed : AbsentHasNoOpen (told_by es) (state_by es)
+  pub live : OpenIsLive (told_by es) (state_by es)
+
+-- What waits or is held on a connection was put there by a request, a reply or an injection on that
+-- connection, and a delivery takes it from there.
+pub record HandlesItsOwn (es : List Event) : Type 0 where
+  pub items : HaveOwnItems (told_by es) (state_by es)
+  pub takes : Each TakesFromItsConnection (moments_in es)
+
+-- On connections without injected bytes an answer goes by the number of its request, and never by
+-- an identifier, and is what that request's own responder replied. Each request ends at most once:
+-- so, or by a cancellation, a timeout or a disconnection that came. Once a removal is handled,
+-- nothing on that interface is open. No CPort handles a message of another connection.
+pub record Headline (es : List Event) : Type 0 where
+  pub answered : Each HadItsReply (moments_in es)
+  pub once : EndOnce (told_by es) (state_by es)
+  pub caused : Each HasItsCause (moments_in es)
+  pub removed : LeavesNothing es
+  pub own : HandlesItsOwn es
+
+-- So it is of every run of valid events, and so of each of its fronts.
+abbrev pub HeadlineHolds : Type 0
+HeadlineHolds = (es : List Event) → AreValid es → Headline es
