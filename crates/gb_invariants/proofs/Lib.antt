@@ -7,11 +7,13 @@ pub mod Drawing
 pub mod Ending
 pub mod ItemChanges
 pub mod Found
+pub mod HostChanges
 pub mod Items
 pub mod Labels
 pub mod Lists
 pub mod Numbers
 pub mod OneItem
 pub mod Outcomes
+pub mod OverTurns
 pub mod Selves
 pub mod Wires

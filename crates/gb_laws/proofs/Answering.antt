@@ -1,23 +1,25 @@
 -- A request is answered by what its own responder replied.
 use Rattle.std.proofs.Common.{Bool, List, Some, ap, append-nil, append_assoc, cond, false, map}
-use Rattle.std.proofs.Common.{refl, subst, sym, true, ℕ, [], ◌++◌, ◌∙◌, ◌∷◌, ◌≡◌}
+use Rattle.std.proofs.Common.{inl, inr, refl, subst, sym, true, ℕ, [], ◌++◌, ◌∙◌, ◌∷◌, ◌≡◌}
 use Rattle.std.specs.Prelude.{◌==◌}
 use Rattle.gb_base.specs.declared.bridge.Reading.TheVariants as reading
 use Rattle.gb_base.specs.declared.end.End.TheVariants as end
+use Rattle.gb_base.specs.declared.end.Side.{Side}
 use Rattle.gb_base.specs.declared.end.Side.TheVariants as side
 use Rattle.gb_base.specs.declared.entry.Entry.{Entry}
 use Rattle.gb_base.specs.declared.entry.Entry.TheVariants as entry
 use Rattle.gb_base.specs.declared.outcome.Outcome.{Outcome}
 use Rattle.gb_base.specs.declared.outcome.Outcome.TheVariants as outcome
 use Rattle.gb_formats.specs.Message.{message_size, response, spelling}
-use Rattle.gb_machine.specs.Bus.{Bus, Connection, Reply, Request, connection_of, end_of}
+use Rattle.gb_machine.specs.Bus.{Bus, Connection, Item, Reply, Request, connection_of, end_of}
 use Rattle.gb_machine.specs.Bus.{next_number, other_side, queue, request_of}
 use Rattle.gb_machine.specs.Runs.{IsMoment, Moment, after, told_at}
-use Rattle.gb_machine.specs.{LawsEnds.HadItsReply, LawsEnds.WasReplied, LawsHotPlug.IsOwnItem}
+use Rattle.gb_machine.specs.{LawsBus.items_of, LawsEnds.HadItsReply, LawsEnds.IsAnsweredByNumber}
+use Rattle.gb_machine.specs.{Holding.held_on, LawsHotPlug.IsOwnItem, State.Held}
 use Rattle.gb_machine.specs.{Members.Each, Members.IsIn, Requests.is_of, Requests.open_on}
 use Rattle.gb_machine.specs.{Sending.Draft, State.State, Wires.disconnected_told}
 use Rattle.gb_invariants.proofs.Awaiting.{is_of-is, none-some, not-both, same-some}
-use Rattle.gb_invariants.proofs.Lists.{each-append, each-in, each-weaker}
+use Rattle.gb_invariants.proofs.Lists.{each-append, each-in, each-weaker, in-behind, in-front}
 use Rattle.gb_invariants.proofs.{BusChanges.KeepsRequests, Drawing.open_with-in_use}
 use Rattle.gb_invariants.proofs.{ItemChanges.first-in, Numbers.found-by_number, Outcomes.both-true}
 use Rattle.gb_laws.proofs.PointParts.{AreQuiet, Hand, IsGivenUpFor, Point, asked_told, is_quiet}
@@ -27,7 +29,8 @@ use Rattle.gb_laws.proofs.Points.{acts_told, answers, asks, by_label, by_number,
 use Rattle.gb_laws.proofs.Points.{forgets, gives_up, holds, injects, names, numbered, replies}
 use Rattle.gb_laws.proofs.Points.{takes, takes_held, tells, unclean, unwires, upon}
 use Rattle.gb_laws.proofs.{Basics.basis, ChangeBuses.keeps-requests, Foreign.OwnAt}
-use Rattle.gb_laws.proofs.{Foreign.own-throughout, Loosening.held-at, Loosening.map-held-in}
+use Rattle.gb_laws.proofs.{Foreign.own-throughout, Loosening.held-at, Loosening.in-nth}
+use Rattle.gb_laws.proofs.{Loosening.map-held-in}
 use Rattle.gb_laws.proofs.{Places.module-far, Places.place-is, Runs.HoldsAtMoments, Runs.at_each}
 use Rattle.gb_laws.proofs.{Silent.silent-quiet, Steps.over-step}
 
@@ -38,7 +41,8 @@ pub record WasAnswered (m : Moment) (b : Bus) (n result : ℕ) (payload : List �
   pub made : request_of n b ≡ Some request
   pub connection : Connection
   pub live : connection_of request.connection m.before.bus ≡ Some connection
-  pub replied : connection.clean ≡ true → WasReplied m.told connection n request result payload
+  pub replied : connection.clean ≡ true
+      → IsAnsweredByNumber m connection n request result payload
 
 -- an entry tells an answer that had its reply, or none
 abbrev IsFine : Moment → Bus → Entry → Type 0
@@ -74,10 +78,29 @@ ended-fine : (m : Moment) (b : Bus) (ns : List ℕ) → Each (IsFine m b) (map d
 ended-fine m b [] = tt
 ended-fine m b (n ∷ ns) = (tt, ended-fine m b ns)
 
+-- what waits toward a side of a connection, and what is held there
+in-queue : (s : State) (c : Connection) (at : Side) (item : Item) → IsIn item (queue at c)
+    → IsIn item (items_of c s)
+in-queue s c side.Ap item i = in-front item c.to_ap _ i
+in-queue s c side.Far item i = in-behind item c.to_ap _ (in-front item c.to_far _ i)
+
+in-map-items : (h : Held) (hs : List Held) → IsIn h hs
+    → IsIn h.item (map (λ (x : Held). x.item) hs)
+in-map-items h (k ∷ ks) (inl e) = inl (ap (λ (x : Held). x.item) e)
+in-map-items h (k ∷ ks) (inr i) = inr (in-map-items h ks i)
+in-map-items h [] i = absurd i
+
+in-held : (s : State) (c : Connection) (h : Held) → IsIn h (held_on c.number s.held)
+    → IsIn h.item (items_of c s)
+in-held s c h i =
+    in-behind h.item c.to_ap _ (in-behind h.item c.to_far _
+    (in-map-items h (held_on c.number s.held) i))
+
 -- What is being handled was taken at this moment from its connection.
 record IsFresh (m : Moment) (x : Hand) : Type 0 where
   live : connection_of x.connection.number m.before.bus ≡ Some x.connection
   own : IsOwnItem m.told m.before.bus x.connection x.side x.item
+  waits : IsIn x.item (items_of x.connection m.before)
 
 -- what was told at the moment so far is fine
 record IsSoFar (m : Moment) (a : Point) : Type 0 where
@@ -125,21 +148,26 @@ answered-fine m after x n result payload fresh grown keeps (unclean dirty)
 answered-fine m after x n result payload fresh grown keeps (numbered says)
     (by_number r p is clean open_) =
     by (subst (λ i. IsOwnItem m.told m.before.bus x.connection x.side i) says fresh.own)
+    (subst (λ i. IsIn i (items_of x.connection m.before)) says fresh.waits)
   where
     by : IsOwnItem m.told m.before.bus x.connection x.side (Reply n result payload)
+        → IsIn (Reply n result payload) (items_of x.connection m.before)
         → WasAnswered m after n result (cond (result == 0) payload [])
-    by own = record {
+    by own waits = record {
       request = own.0;
       made = grown n own.0 own.1;
       connection = x.connection;
       live = ap (λ k. connection_of k m.before.bus) own.2 ∙ fresh.live;
       replied = λ clean. record {
-        sent = payload;
-        said = subst (λ s. IsIn (entry.Replied (Some n) (end_of (other_side s) x.connection)
-            (end_of s x.connection) result
-            (message_size payload) (spelling (response own.0.label own.0.kind result payload)))
-            m.told) (sym own.3) own.4;
-        same = λ zero_result. sym (ap (λ k. cond (k == 0) payload []) zero_result);
+        replied = record {
+          sent = payload;
+          said = subst (λ s. IsIn (entry.Replied (Some n) (end_of (other_side s) x.connection)
+              (end_of s x.connection) result
+              (message_size payload) (spelling (response own.0.label own.0.kind result payload)))
+              m.told) (sym own.3) own.4;
+          same = λ zero_result. sym (ap (λ k. cond (k == 0) payload []) zero_result);
+        };
+        waited = waits;
       };
     }
 
@@ -177,6 +205,8 @@ so-far-kept m start a (takes at p item free is event_is named front) h =
           place.live;
       own = start.1.waiting p.connection p.side item place.live
           (first-in (queue p.side p.connection) item front);
+      waits = in-queue m.before p.connection p.side item
+          (first-in (queue p.side p.connection) item front);
     }
 so-far-kept m start a (takes_held i c place p x free is event_is at held) h =
     so-far (takes_held i c place p x free is event_is at held) [] refl tt
@@ -193,6 +223,8 @@ so-far-kept m start a (takes_held i c place p x free is event_is at held) h =
               (sym (module-far i c p.side p.connection q.is))
               (start.1.hanging p.connection (loose_held x) q.live (map-held-in x m.before.held on.0)
               (sym on.1));
+          waits = in-held m.before p.connection x
+              (in-nth place (held_on p.connection.number m.before.held) x held);
         }
 so-far-kept m start a drops h =
     so-far drops [] (sym (append-nil a.told)) tt (λ y e. absurd (none-some e)) h
@@ -260,12 +292,12 @@ had-reply m one start n result payload read r i made =
   where
     by : WasAnswered m (after m).bus n result payload
         → (c : Connection) × (connection_of r.connection m.before.bus ≡ Some c)
-        × (c.clean ≡ true → WasReplied m.told c n r result payload)
+        × (c.clean ≡ true → IsAnsweredByNumber m c n r result payload)
     by fine =
         let same = same-some fine.request r (sym fine.made ∙ made) in (
           fine.connection,
           ap (λ (q : Request). connection_of q.connection m.before.bus) (sym same) ∙ fine.live,
-          λ clean. subst (λ q. WasReplied m.told fine.connection n q result payload) same
+          λ clean. subst (λ q. IsAnsweredByNumber m fine.connection n q result payload) same
               (fine.replied clean),
         )
 

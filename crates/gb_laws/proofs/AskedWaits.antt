@@ -1,18 +1,14 @@
 -- What acts ask, and what interfaces wait for.
-use Rattle.std.proofs.Common.{Bool, List, None, Some, ap, cond, false, inl, inr, map, refl, sym}
-use Rattle.std.proofs.Common.{true, ℕ, ⊎_elim, [], ◌∙◌, ◌∷◌, ◌≡◌}
+use Rattle.std.proofs.Common.{Bool, List, None, Some, ap, cond, false, inl, inr, refl, subst, sym}
+use Rattle.std.proofs.Common.{true, ℕ, ⊎_elim, [], ◌++◌, ◌∙◌, ◌∷◌, ◌≡◌}
 use Rattle.std.specs.Prelude.{not, ◌&&◌}
-use Rattle.gb_base.specs.declared.entry.Entry.{Entry}
-use Rattle.gb_base.specs.declared.outcome.Outcome.{Outcome}
-use Rattle.gb_base.specs.declared.outcome.Outcome.TheVariants as outcome
 use Rattle.gb_base.specs.declared.peers.Interface.{Interface}
 use Rattle.gb_base.specs.declared.steps.{Purpose.Purpose, SequenceStep.SequenceStep}
 use Rattle.gb_machine.specs.Host.{Host, is_intf, with_interface, with_link}
-use Rattle.gb_machine.specs.Sequences.{payload_in}
 use Rattle.gb_machine.specs.Turns.{Act, Asking, Making}
-use Rattle.gb_machine.specs.{Members.IsIn, SequenceSteps.asks_control, SequenceSteps.is_enumeration}
-use Rattle.gb_machine.specs.{Waits.awaits_nothing}
-use Rattle.gb_invariants.proofs.{Awaiting.none-some, Lists.in-at_first}
+use Rattle.gb_machine.specs.{Members.Each, Members.IsIn, SequenceSteps.asks_control}
+use Rattle.gb_machine.specs.{SequenceSteps.is_enumeration, Waits.awaits_nothing}
+use Rattle.gb_invariants.proofs.{Awaiting.none-some, HostChanges.AsksNone, Lists.in-at_first}
 
 -- ---- what is asked
 
@@ -33,41 +29,33 @@ pub no-asks : {q : Asking} → AsksIn q [] → ⊥
 no-asks (asks_in i) = i
 no-asks (opens_in w i) = i
 
-pub asks-tell : {q : Asking} (e : Entry) {acts : List Act} → AsksIn q (Act.Tell e ∷ acts)
-    → AsksIn q acts
-asks-tell e (asks_in (inl f)) = absurd cc
-asks-tell e (asks_in (inr i)) = asks_in i
-asks-tell e (opens_in w (inl f)) = absurd cc
-asks-tell e (opens_in w (inr i)) = opens_in w i
+-- behind acts that ask for nothing
+pub asks-behind : {q : Asking} (xs : List Act) {acts : List Act} → Each AsksNone xs
+    → AsksIn q (xs ++ acts) → AsksIn q acts
+asks-behind [] none j = j
+asks-behind (x ∷ xs) none (asks_in (inl e)) = absurd (subst AsksNone (sym e) none.0)
+asks-behind (x ∷ xs) none (asks_in (inr i)) = asks-behind xs none.1 (asks_in i)
+asks-behind (x ∷ xs) none (opens_in w (inl e)) = absurd (subst AsksNone (sym e) none.0)
+asks-behind (x ∷ xs) none (opens_in w (inr i)) = asks-behind xs none.1 (opens_in w i)
 
--- a connection that is closed asks for nothing by itself
-pub asks-shut : {q : Asking} (k : ℕ) {acts : List Act} → AsksIn q (Act.Shut k ∷ acts)
-    → AsksIn q acts
-asks-shut k (asks_in (inl f)) = absurd cc
-asks-shut k (asks_in (inr i)) = asks_in i
-asks-shut k (opens_in w (inl f)) = absurd cc
-asks-shut k (opens_in w (inr i)) = opens_in w i
+-- a request that is asked alone
+pub asked-alone : {p q : Asking} → AsksIn q (Act.Ask p ∷ []) → p ≡ q
+asked-alone {p} {q} (asks_in (inl e)) = same q p e
+  where
+    same : (x y : Asking) → Act.Ask x ≡ Act.Ask y → y ≡ x
+    same x y f = cc
+asked-alone (asks_in (inr i)) = absurd i
+asked-alone (opens_in w (inl e)) = absurd cc
+asked-alone (opens_in w (inr i)) = absurd i
 
--- one that is gone, and told so, asks for nothing
-pub left-asks : {q : Asking} (k : ℕ) (e : Entry)
-    → AsksIn q (Act.Leave k ∷ Act.Tell e ∷ []) → ⊥
-left-asks k e (asks_in (inl f)) = absurd cc
-left-asks k e (asks_in (inr i)) = no-asks (asks-tell e (asks_in i))
-left-asks k e (opens_in w (inl f)) = absurd cc
-left-asks k e (opens_in w (inr i)) = no-asks (asks-tell e (opens_in w i))
-
-pub told-asks : (q : Asking) (es : List Entry) → AsksIn q (map Act.Tell es) → ⊥
-told-asks q [] h = no-asks h
-told-asks q (e ∷ es) h = told-asks q es (asks-tell e h)
-
--- only an answer brings a payload
-pub payload-answered : (how : Outcome) {payload : List ℕ} → payload_in how ≡ Some payload
-    → (result : ℕ) × (bytes : List ℕ) × (how ≡ outcome.Answered result bytes)
-payload-answered (outcome.Answered result bytes) e = (result, bytes, refl)
-payload-answered outcome.Cancelled e = absurd cc
-payload-answered outcome.Timeout e = absurd cc
-payload-answered outcome.Disconnected e = absurd cc
-payload-answered outcome.Sent e = absurd cc
+pub opened-alone : {p q : Asking} (w : Making) → AsksIn q (Act.Open w p ∷ []) → p ≡ q
+opened-alone w (asks_in (inl e)) = absurd cc
+opened-alone w (asks_in (inr i)) = absurd i
+opened-alone {p} {q} w (opens_in v (inl e)) = same v w q p e
+  where
+    same : (v u : Making) (x y : Asking) → Act.Open v x ≡ Act.Open u y → y ≡ x
+    same v u x y f = cc
+opened-alone w (opens_in v (inr i)) = absurd i
 
 -- ---- what is waited for
 

@@ -19,7 +19,7 @@ use Rattle.gb_laws.proofs.Points.{Change, IsAskedBy, IsPlain, Law, acts_asked, a
 use Rattle.gb_laws.proofs.Points.{by_host, changed, names, turns, upon}
 use Rattle.gb_laws.proofs.Runs.{HoldsByMoments, Keeps, throughout, weaker}
 use Rattle.gb_laws.proofs.{AskedWaits.WaitsFewer, AskedWaits.same-waits, Awaited.awaited-rest}
-use Rattle.gb_laws.proofs.{AwaitsOwn.turn-waits, AwaitsOwn.waiting-interface}
+use Rattle.gb_laws.proofs.{Asked.turn-waits, AwaitsOwn.waiting-interface}
 use Rattle.gb_laws.proofs.{ChangeHosts.waits-kept, CreatingKept.far-side}
 use Rattle.gb_laws.proofs.{EnumRequests.enumeration-reserved, EnumRequests.formed-enumerates}
 use Rattle.gb_laws.proofs.{LinkActs.awaited-interface, LinkKept.InsertsAbsent, LinkKept.LinkedAt}

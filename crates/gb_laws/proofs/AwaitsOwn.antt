@@ -1,7 +1,7 @@
 -- What the enumeration of an interface waits for was asked for it: of the supervisory controller by
 -- one of its requests, or on another connection.
-use Rattle.std.proofs.Common.{Bool, List, None, Option, Some, ap, arith, false, refl, subst}
-use Rattle.std.proofs.Common.{sym, true, ℕ, ⊎_elim, [], ◌∙◌, ◌∷◌, ◌≡◌, ◌≢◌}
+use Rattle.std.proofs.Common.{Bool, List, None, Option, Some, ap, arith, false, refl, subst, sym}
+use Rattle.std.proofs.Common.{true, ℕ, ⊎_elim, [], ◌∙◌, ◌∷◌, ◌≡◌, ◌≢◌}
 use Rattle.std.specs.Prelude.{not, option_and_then, ◌&&◌}
 use Rattle.gb_base.specs.declared.entry.Entry.{Entry}
 use Rattle.gb_base.specs.declared.peers.Interface.{Interface}
@@ -9,23 +9,19 @@ use Rattle.gb_base.specs.declared.steps.SequenceStep.{SequenceStep}
 use Rattle.gb_machine.specs.Bus.{Bus, Request, next_number, request_of}
 use Rattle.gb_machine.specs.Host.{Host, interface_of, is_intf}
 use Rattle.gb_machine.specs.Sending.{Draft, requested, sent}
-use Rattle.gb_machine.specs.Turns.{Act, Asking, HostEvent}
-use Rattle.gb_machine.specs.{HostActs.host_draft, HostTurns.host_turn, LawsSvc.IsEnumeration}
-use Rattle.gb_machine.specs.{Members.IsIn, Runs.Moment, SequenceSteps.asks_control}
-use Rattle.gb_machine.specs.{SequenceSteps.is_enumeration, State.State, Waits.awaited}
+use Rattle.gb_machine.specs.{HostActs.host_draft, LawsSvc.IsEnumeration, Members.IsIn, Runs.Moment}
+use Rattle.gb_machine.specs.{SequenceSteps.asks_control, SequenceSteps.is_enumeration, State.State}
+use Rattle.gb_machine.specs.{Turns.Act, Turns.Asking}
 use Rattle.gb_machine.specs.LawsSvc as svc
 use Rattle.gb_invariants.proofs.Awaiting.{none-some, same-some, sent-new}
-use Rattle.gb_invariants.proofs.{BusChanges.KeepsRequests, Lists.found-in}
-use Rattle.gb_invariants.proofs.{Outcomes.same-number}
-use Rattle.gb_laws.proofs.Asked.{asks-connects, asks-disconnects, asks-ended, asks-inserted}
-use Rattle.gb_laws.proofs.Asked.{asks-removed}
+use Rattle.gb_invariants.proofs.{BusChanges.KeepsRequests, Lists.found-in, Outcomes.same-number}
 use Rattle.gb_laws.proofs.AskedWaits.{WaitsFewer, is_power_step, same-waits}
 use Rattle.gb_laws.proofs.LinkRuns.{LinkedTo, linked-over, linked-throughout, start-absent}
 use Rattle.gb_laws.proofs.Links.{ArePending, IsDue, IsDueBy, IsFormed}
 use Rattle.gb_laws.proofs.Points.{Change, IsAskedBy, Law, acts_asked, asks, awaited_by, by_far}
 use Rattle.gb_laws.proofs.Points.{by_host, changed, turns, upon}
 use Rattle.gb_laws.proofs.Runs.{HoldsByMoments, Keeps, throughout, weaker}
-use Rattle.gb_laws.proofs.{ChangeBuses.keeps-requests, ChangeHosts.waits-kept}
+use Rattle.gb_laws.proofs.{Asked.turn-waits, ChangeBuses.keeps-requests, ChangeHosts.waits-kept}
 use Rattle.gb_laws.proofs.{EnumRequests.power-enumerates, LinkActs.awaited-interface}
 use Rattle.gb_laws.proofs.{LinkKept.InsertsAbsent, LinkKept.LinkedAt, LinkLaw.link_law}
 use Rattle.gb_laws.proofs.{PointParts.Point, PointParts.resting, Steps.over-step}
@@ -68,15 +64,6 @@ own-still a b keeps fewer asked h = record {
       (wait-more keeps (h.waits was.was was.known w (was.awaits ∙ e)));
   asked = asked;
 }
-
--- no turn lets an interface wait for more
-pub turn-waits : (e : HostEvent) (h : Host) → WaitsFewer h (host_turn e h).host
-turn-waits (HostEvent.Inserted j) h = (asks-inserted 0 (Unit {0}) j h).waits
-turn-waits (HostEvent.Removed j) h = (asks-removed 0 (Unit {0}) j h).waits
-turn-waits (HostEvent.Connect j c) h = (asks-connects 0 (Unit {0}) j c h).waits
-turn-waits (HostEvent.Disconnect j c) h = (asks-disconnects 0 (Unit {0}) j c h).waits
-turn-waits (HostEvent.Ended n how) h =
-    (asks-ended 0 (Unit {0}) (awaited n h) how h (λ p e r bytes is at s. tt)).waits
 
 -- ---- a request is made
 

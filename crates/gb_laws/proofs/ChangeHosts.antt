@@ -61,7 +61,7 @@ pub waits-kept : (m : Moment) (a : Point) (x : Change m a) → WaitsNone m a x
 waits-kept m a (turns e free untouched none cause) still = absurd still
 waits-kept m a (acts_asked q n rest is) still = absurd still
 waits-kept m a (acts_failed q rest is quiet) still =
-    waits-unsent 0 (Unit {0}) q.purpose a.state.host
+    waits-unsent q.purpose a.state.host
 waits-kept m a (serves k kind payload none) still = by (host-served k kind payload)
   where
     by : ServedHost a.state.host (host_serves k kind payload a.state.host)

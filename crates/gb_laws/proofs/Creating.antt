@@ -10,6 +10,7 @@ use Rattle.gb_machine.specs.SequenceSteps.{Target, is_for_connection, kind_of, p
 use Rattle.gb_machine.specs.{Bus.Request, Refusals.is_reserved, Turns.Asking, Turns.Making}
 use Rattle.gb_laws.proofs.SvcKinds.{svc-kind}
 use Rattle.byteorder.specs.{Endian.little_number, Numbers.little_number-reads_back}
+use Rattle.gb_invariants.proofs.HostChanges.{is_creating}
 
 -- a record that creates a connection
 abbrev pub is_create : Result SvcAsk PayloadFault → Bool
@@ -36,12 +37,6 @@ IsBetween a i c (Ok (SvcAsk.ConnCreate i1 c1 j d tc flags)) =
     (i1 ≡ 1) × (c1 ≡ a) × (j ≡ i) × (d ≡ c)
 IsBetween a i c (Ok (SvcAsk.ConnDestroy i1 c1 j d)) = (i1 ≡ 1) × (c1 ≡ a) × (j ≡ i) × (d ≡ c)
 IsBetween a i c _ = Unit {0}
-
--- a step that creates a connection
-abbrev pub is_creating : SequenceStep → Bool
-is_creating steps.CreateControl = true
-is_creating steps.CreateConnection = true
-is_creating _ = false
 
 -- A request for a connection that is to be made speaks of that.
 pub record IsMade (w : Making) (q : Asking) : Type 0 where
@@ -105,18 +100,7 @@ step-between steps.DestroyConnection t low small = (
   omega arith,
   reads-back t.cport [] small,
 )
-step-between steps.EnableVsys t low small = tt
-step-between steps.EnableRefclk t low small = tt
-step-between steps.EnableUnipro t low small = tt
-step-between steps.Activate t low small = tt
-step-between steps.GiveDevice t low small = tt
-step-between steps.CreateRoute t low small = tt
-step-between steps.AskVersion t low small = tt
-step-between steps.AskSize t low small = tt
-step-between steps.AskManifest t low small = tt
-step-between steps.TellConnected t low small = tt
-step-between steps.TellDisconnecting t low small = tt
-step-between steps.TellDisconnected t low small = tt
+step-between _ t low small = tt
 
 -- so is what is asked for a connection that is to be made
 pub made-creates : (w : Making) (q : Asking) → IsMade w q → w.ap ≤ 4095 → w.cport ≤ 4095

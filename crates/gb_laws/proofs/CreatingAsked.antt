@@ -12,9 +12,9 @@ use Rattle.gb_machine.specs.SequenceSteps.{is_enumeration, is_for_connection, ki
 use Rattle.gb_machine.specs.{Lists.nth, Members.IsIn, Sequences.ap_in, Sequences.target, Turns.Act}
 use Rattle.gb_machine.specs.{Turns.Asking, Waits.awaits}
 use Rattle.gb_invariants.proofs.Lists.{found-in, in-behind, in-front, in-pushed}
-use Rattle.gb_invariants.proofs.{Awaiting.same-some, Found.find-changed}
-use Rattle.gb_laws.proofs.Creating.{IsBetween, creates_one, creating-for, is_create, is_creating}
-use Rattle.gb_laws.proofs.Creating.{step-between, step-creating}
+use Rattle.gb_invariants.proofs.{Awaiting.same-some, Found.find-changed, HostChanges.is_creating}
+use Rattle.gb_laws.proofs.Creating.{IsBetween, creates_one, creating-for, is_create, step-between}
+use Rattle.gb_laws.proofs.Creating.{step-creating}
 use Rattle.gb_laws.proofs.CreatingFacts.{CreatesFit, IsReady, at-same}
 use Rattle.gb_laws.proofs.LinkLists.{found-at, link-is, one-link}
 use Rattle.gb_laws.proofs.Links.{HostFits, IsDue, IsFormed, SameLink}

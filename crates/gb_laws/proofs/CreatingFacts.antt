@@ -2,15 +2,15 @@
 use Rattle.std.proofs.Common.{List, Option, Some, ap, arith, false, inl, inr, length, subst, sym}
 use Rattle.std.proofs.Common.{true, ℕ, ⊎_elim, [], ◌∙◌, ◌∷◌, ◌≡◌, ◌≤◌, ◌⊎◌}
 use Rattle.std.specs.Prelude.{Result}
-use Rattle.gb_base.specs.declared.end.Side.TheVariants as side
 use Rattle.gb_base.specs.declared.peers.Link.{Link}
+use Rattle.gb_base.specs.declared.end.Side.TheVariants as side
 use Rattle.gb_formats.specs.{Records.PayloadFault, SvcRecords.SvcAsk, SvcRecords.read_svc_ask}
 use Rattle.gb_machine.specs.Bus.{Bus, Request, next_number, request_of}
 use Rattle.gb_machine.specs.Sending.{Draft, requested, sent}
 use Rattle.gb_machine.specs.{Host.Host, Host.link_at, Lists.nth, Members.Each, Members.IsIn}
 use Rattle.gb_machine.specs.{Turns.Act, Turns.Asking}
-use Rattle.gb_invariants.proofs.Awaiting.{not-both, sent-made}
-use Rattle.gb_laws.proofs.Creating.{IsBetween, IsMade, creates_one, is_creating}
+use Rattle.gb_invariants.proofs.{Awaiting.not-both, Awaiting.sent-made, HostChanges.is_creating}
+use Rattle.gb_laws.proofs.Creating.{IsBetween, IsMade, creates_one}
 use Rattle.gb_laws.proofs.{CreatingTurns.AreOrderly, CreatingTurns.IsAimed, Links.SameLink}
 
 -- Each request of the application processor to the supervisory controller that creates a connection

@@ -13,7 +13,7 @@ use Rattle.gb_machine.specs.{Sending.requested, SequenceSteps.is_for_connection,
 use Rattle.gb_machine.specs.{Turns.Asking, Waits.awaits, Wiring.next_connection}
 use Rattle.gb_invariants.proofs.{Awaiting.none-some, Awaiting.not-both, Found.in-first}
 use Rattle.gb_invariants.proofs.{Lists.in-behind, Lists.in-pushed, Selves.far-no-ap}
-use Rattle.gb_laws.proofs.Creating.{create-reserved, creates_one, is_creating, made-creates}
+use Rattle.gb_laws.proofs.Creating.{create-reserved, creates_one, made-creates}
 use Rattle.gb_laws.proofs.CreatingFacts.{AreReady, Came, CreatesFit, creates-came, creates-sent}
 use Rattle.gb_laws.proofs.CreatingFacts.{orderly-ready}
 use Rattle.gb_laws.proofs.LinkActs.{ServedHost, as_before, awaited-host, host-served, with_more}
@@ -28,6 +28,7 @@ use Rattle.gb_laws.proofs.{CreatingTurns.turn-orderly, LinkBuses.new_link, LinkH
 use Rattle.gb_laws.proofs.{LinkHosts.same-link, LinkKept.LinkedAt, LinkLists.found-at}
 use Rattle.gb_laws.proofs.{PairsAsked.pairs_then, PairsKept.PairsAt, PointParts.Point}
 use Rattle.gb_laws.proofs.{Remembering.RemembersAt}
+use Rattle.gb_invariants.proofs.HostChanges.{is_creating}
 
 -- what is known at a point
 pub record CreatesAll (a : Point) : Type 0 where
@@ -176,7 +177,7 @@ creates-kept m a (acts_asked q n rest is) links r f then h = record {
     by false o x = x
 creates-kept m a (acts_failed q rest is quiet) links r f then h = record {
   fit = creates-came (came-from a.state.host (unsent q.purpose a.state.host).host
-      (from-unsent q.purpose.step q.purpose a.state.host)) h.fit;
+      (from-unsent q.purpose a.state.host)) h.fit;
   ready = subst (AreReady (unsent q.purpose a.state.host).host a.state.past.made_for)
       (sym (last is)) tt;
 }

@@ -79,7 +79,7 @@ credits-kept m less a (acts_asked q n rest is) h =
     (subst (λ g. CreditsAt m a.state.bus.made g) (sym (awaited-host q.purpose n a.state))
     (credits-from m (from-waiting (Some (n, q.purpose.step)) q.purpose a.state.host) h))
 credits-kept m less a (acts_failed q rest is quiet) h =
-    credits-from m (from-unsent q.purpose.step q.purpose a.state.host) h
+    credits-from m (from-unsent q.purpose a.state.host) h
 credits-kept m less a (serves k kind payload none) h =
     subst (λ g. CreditsAt m a.state.bus.made g)
     (sym (ap (λ g. (host_serves k kind payload g).host) none.2 ∙ less.served k kind payload none.1))

@@ -1,15 +1,17 @@
 -- An interface is enumerated, and where it stays so.
 use Rattle.std.proofs.Common.{Bool, List, None, ap, cond, false, refl, sym, true, ℕ, ⊎_elim, ◌∙◌}
 use Rattle.std.proofs.Common.{◌≡◌}
-use Rattle.gb_base.specs.declared.entry.IntfStage.TheVariants as stage
 use Rattle.gb_base.specs.declared.peers.Interface.{Interface}
-use Rattle.gb_base.specs.declared.steps.{Purpose.Purpose, SequenceStep.SequenceStep}
-use Rattle.gb_base.specs.declared.steps.SequenceStep.TheVariants as steps
-use Rattle.gb_machine.specs.Failures.{interface_fails, link_fails, step_fails, unsent, unsent_fails}
-use Rattle.gb_machine.specs.Failures.{without_device}
-use Rattle.gb_machine.specs.Host.{Host, is_intf, staged, with_interface, with_link}
-use Rattle.gb_machine.specs.{Members.IsIn, SequenceSteps.is_enumeration, Waits.awaits_nothing}
-use Rattle.gb_invariants.proofs.Lists.{in-at_first}
+use Rattle.gb_base.specs.declared.steps.Purpose.{Purpose}
+use Rattle.gb_base.specs.declared.entry.IntfStage.TheVariants as stage
+use Rattle.gb_machine.specs.Host.{Host, intf_before, is_intf, new_interface, staged, with_interface}
+use Rattle.gb_machine.specs.Host.{with_link}
+use Rattle.gb_machine.specs.{Failures.unsent, Members.IsIn, SequenceSteps.is_enumeration}
+use Rattle.gb_machine.specs.{Waits.awaits_nothing}
+use Rattle.gb_invariants.proofs.HostChanges.{Finds, HostChange, HostEnd, IsLast, at_unsent, end_of}
+use Rattle.gb_invariants.proofs.HostChanges.{host_after}
+use Rattle.gb_invariants.proofs.{Found.in-ordered, Lists.in-at_first, Lists.in-without}
+use Rattle.gb_invariants.proofs.{OverTurns.over-unsent}
 
 -- an interface is enumerated
 pub record IsDone (i : ℕ) (xs : List Interface) : Type 0 where
@@ -39,20 +41,6 @@ module _ (i : ℕ) where
   pub failed-none : stage.Failed ≡ stage.Enumerated → ⊥
   failed-none e = absurd cc
 
-  pub done-stage : (p : Purpose) (h : Host) → FewerDone h (interface_fails p h).host
-  done-stage p h = done-interface h p.intf (staged stage.Failed) (λ x. refl)
-      (λ x e. absurd (failed-none e))
-
-  pub done-fails : (step : SequenceStep) (p : Purpose) (h : Host)
-      → FewerDone h (step_fails step p h).host
-  done-fails steps.CreateControl p h d = done-stage p (link_fails p h).host d
-  done-fails steps.CreateConnection p h d = d
-  done-fails steps.TellConnected p h d = d
-  done-fails steps.TellDisconnecting p h d = d
-  done-fails steps.TellDisconnected p h d = d
-  done-fails steps.DestroyConnection p h d = d
-  done-fails _ p h d = done-stage p h d
-
   pub done-nothing : (p : Purpose) (h : Host) → FewerDone h (awaits_nothing p h)
   done-nothing p h = by (is_enumeration p.step)
     where
@@ -62,24 +50,37 @@ module _ (i : ℕ) where
       by true d = done-interface h p.intf (λ x. record x { awaits = None }) (λ x. refl) (λ x e. e) d
       by false d = d
 
+  -- no change enumerates an interface
+  pub change-done : (x : HostChange) (h : Host) → Finds h x → FewerDone h (host_after x h)
+  change-done (HostChange.arrives j) h finds d =
+      ⊎_elim (λ e. absurd (other (sym (ap (λ (x : Interface). x.stage) e) ∙ d.done)))
+      (λ o. record { interface = d.interface; known = o; intf = d.intf; done = d.done })
+      (in-ordered intf_before d.interface (new_interface j) h.interfaces d.known)
+    where
+      other : stage.Enumerating ≡ stage.Enumerated → ⊥
+      other e = absurd cc
+  change-done (HostChange.departs j) h finds d = record {
+    interface = d.interface;
+    known = (in-without (is_intf j) h.interfaces d.interface d.known).0;
+    intf = d.intf;
+    done = d.done;
+  }
+  change-done (HostChange.resumes p) h finds d = done-nothing p h d
+  change-done (HostChange.updates j f) h keeps d =
+      done-interface h j f keeps.intf (λ x e. sym (keeps.stage x) ∙ e) d
+  change-done (HostChange.fails j) h finds d = done-interface h j (staged stage.Failed)
+      (λ x. refl) (λ x e. absurd (failed-none e)) d
+  change-done _ h finds d = d
+
+  end-done : (p : Purpose) (x : HostEnd) (h : Host) → IsLast (at_unsent p) h x
+      → FewerDone h (end_of x h).host
+  end-done p (HostEnd.enumerates q bytes) h last = absurd last
+  end-done p _ h last = λ d. d
+
   -- no identifier is left
   pub done-unsent : (p : Purpose) (h : Host) → FewerDone h (unsent p h).host
-  done-unsent p h = by p.step
-    where
-      by : (step : SequenceStep) → FewerDone h (unsent_fails step p h).host
-      by steps.CreateControl d = done-stage p h d
-      by steps.CreateConnection d = d
-      by steps.GiveDevice d = done-interface h p.intf without_device (λ x. refl) (λ x e. e)
-          (done-stage p (with_interface p.intf without_device h) d)
-      by steps.EnableVsys d = done-stage p h d
-      by steps.EnableRefclk d = done-stage p h d
-      by steps.EnableUnipro d = done-stage p h d
-      by steps.Activate d = done-stage p h d
-      by steps.CreateRoute d = done-stage p h d
-      by steps.AskVersion d = done-stage p h d
-      by steps.AskSize d = done-stage p h d
-      by steps.AskManifest d = done-stage p h d
-      by steps.TellConnected d = d
-      by steps.TellDisconnecting d = d
-      by steps.TellDisconnected d = d
-      by steps.DestroyConnection d = d
+  done-unsent p h = over-unsent p h (record {
+    says = λ g t. FewerDone g t.host;
+    ends = λ x g last. end-done p x g last;
+    over = λ x g t finds why s d. change-done x g finds (s d);
+  })

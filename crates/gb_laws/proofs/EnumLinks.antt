@@ -2,44 +2,43 @@
 -- sequence is to ask for: at each point of a step.
 use Rattle.std.proofs.Common.{Bool, List, None, Option, Some, ap, false, inl, refl, subst, sym}
 use Rattle.std.proofs.Common.{true, ℕ, ⊎_elim, [], ◌∙◌, ◌∷◌, ◌≡◌, ◌≢◌}
-use Rattle.std.specs.Prelude.{is_none, is_some, ◌==◌}
-use Rattle.gb_base.specs.declared.refusal.Refusal.TheVariants as why
-use Rattle.gb_base.specs.declared.end.Side.TheVariants as side
+use Rattle.std.specs.Prelude.{is_none, ◌==◌}
 use Rattle.gb_base.specs.declared.entry.IntfStage.{IntfStage}
-use Rattle.gb_base.specs.declared.entry.IntfStage.TheVariants as stage
-use Rattle.gb_base.specs.declared.event.Event.TheVariants as event
 use Rattle.gb_base.specs.declared.peers.{Interface.Interface, Link.Link}
 use Rattle.gb_base.specs.declared.steps.Purpose.{Purpose}
+use Rattle.gb_base.specs.declared.end.Side.TheVariants as side
+use Rattle.gb_base.specs.declared.entry.IntfStage.TheVariants as stage
+use Rattle.gb_base.specs.declared.event.Event.TheVariants as event
+use Rattle.gb_base.specs.declared.refusal.Refusal.TheVariants as why
 use Rattle.gb_machine.proofs.Conditions.{AreUnmet, free, front-unmet}
 use Rattle.gb_machine.specs.Host.{Host, control_of, interface_of, is_intf, is_link, with_link}
 use Rattle.gb_machine.specs.HostRefusals.{connect_conditions, disconnect_conditions, is_enumerating}
 use Rattle.gb_machine.specs.HostRefusals.{is_failed_stage}
 use Rattle.gb_machine.specs.Turns.{Act, Asking, HostEvent}
 use Rattle.gb_machine.specs.{Failures.unsent, HostServing.host_serves, HostServing.with_credits}
-use Rattle.gb_machine.specs.{HostTurns.host_turn, HostTurns.links_of}
-use Rattle.gb_machine.specs.{LineActions.spent, Lists.holds_of, Members.IsIn, Refusals.has_no_label}
-use Rattle.gb_machine.specs.{Runs.Moment, SequenceSteps.is_enumeration, State.State, Waits.awaited}
-use Rattle.gb_machine.specs.{Waits.awaits, Wiring.next_connection}
+use Rattle.gb_machine.specs.{HostTurns.host_turn, LineActions.spent, Lists.holds_of, Members.IsIn}
+use Rattle.gb_machine.specs.{Refusals.has_no_label, Runs.Moment, SequenceSteps.is_enumeration}
+use Rattle.gb_machine.specs.{State.State, Waits.awaited, Waits.awaits, Wiring.next_connection}
+use Rattle.gb_invariants.proofs.HostChanges.{HostChange, IsAskedAt, at_event, to_connect}
+use Rattle.gb_invariants.proofs.HostChanges.{to_disconnect, to_enumerate, to_go_on}
 use Rattle.gb_invariants.proofs.Lists.{found-in, in-pushed, in-without}
 use Rattle.gb_invariants.proofs.{Awaiting.not-both, Outcomes.is-same, Outcomes.same-number}
-use Rattle.gb_laws.proofs.AskedWaits.{AsksIn, asks-tell, asks_in, no-asks, opens_in}
-use Rattle.gb_laws.proofs.DoneStays.{KeepsDone, NoneRemoved, keeps-same, keeps-unsent}
-use Rattle.gb_laws.proofs.DoneStays.{keeps-waiting}
-use Rattle.gb_laws.proofs.DoneTurns.{done-connects, done-disconnects, done-ended, done-inserted}
-use Rattle.gb_laws.proofs.DoneTurns.{done-removed}
+use Rattle.gb_invariants.proofs.{OverTurns.over-turn}
+use Rattle.gb_laws.proofs.Asked.{asked-why, change-asks, same-kind}
+use Rattle.gb_laws.proofs.AskedWaits.{AsksIn, asks-behind, asks_in, no-asks, opens_in}
+use Rattle.gb_laws.proofs.DoneStays.{KeepsDone, NoneRemoved, keeps-same, keeps-waiting}
 use Rattle.gb_laws.proofs.LinkActs.{ServedHost, as_before, awaited-host, host-served, with_more}
 use Rattle.gb_laws.proofs.LinkEnds.{WaitsFor, connecting, enumerating, waits-for}
 use Rattle.gb_laws.proofs.LinkSources.{from-turn, from-unsent, from-waiting}
 use Rattle.gb_laws.proofs.Links.{ArePending, IsFree, IsMaking, connection, control}
 use Rattle.gb_laws.proofs.Points.{Change, IsAsking, acts_asked, acts_failed, acts_opened, asking}
 use Rattle.gb_laws.proofs.Points.{changed, opening, serves, spends, turns}
-use Rattle.gb_laws.proofs.{Asked.asks-none, ChangeHosts.asks-kept, CreatingFacts.Came}
-use Rattle.gb_laws.proofs.{CreatingKept.came-from, CreatingKept.came-link, DoneSteps.IsTimely}
-use Rattle.gb_laws.proofs.{DoneSteps.TurnDone, EnumDone.IsDone, EnumSettled.IsSettled}
-use Rattle.gb_laws.proofs.{EnumSettled.waited-enum, LinkBuses.new_link, LinkHosts.credits-link}
-use Rattle.gb_laws.proofs.{LinkHosts.same-link, LinkKept.InsertsAbsent, LinkKept.LinkedAt}
-use Rattle.gb_laws.proofs.{LinkLists.link-is, MarkMoments.present-some, PointParts.IsCaused}
-use Rattle.gb_laws.proofs.{PointParts.Point}
+use Rattle.gb_laws.proofs.{ChangeHosts.asks-kept, CreatingFacts.Came, CreatingKept.came-from}
+use Rattle.gb_laws.proofs.{CreatingKept.came-link, DoneTurns.keeps-unsent, DoneTurns.keeps_law}
+use Rattle.gb_laws.proofs.{EnumDone.IsDone, EnumSettled.IsSettled, EnumSettled.waited-enum}
+use Rattle.gb_laws.proofs.{LinkBuses.new_link, LinkHosts.credits-link, LinkHosts.same-link}
+use Rattle.gb_laws.proofs.{LinkKept.InsertsAbsent, LinkKept.LinkedAt, LinkLists.link-is}
+use Rattle.gb_laws.proofs.{PointParts.IsCaused, PointParts.Point}
 
 pub record LinksDone (i : ℕ) (a : Point) : Type 0 where
   pub stages : NoneRemoved a.state.host.interfaces
@@ -91,68 +90,80 @@ connects-done i j c h none met at = by (interface_of j h) refl met.0 met.1.0 met
 
 module _ (m : Moment) (absent : InsertsAbsent m) (i : ℕ) (a : Point) (links : LinkedAt a)
     (settled : IsSettled i a) (h : LinksDone i a) where
-  -- what a sequence waits for is timely
-  timely : (n : ℕ) (p : Purpose) → awaited n a.state.host ≡ Some p
-      → IsTimely i p.step p a.state.host
-  timely n p e = record {
-    before = λ s at.
-        let w = waited-enum n p links.host e s in
-        (settled.waits w.interface w.known (w.intf ∙ at) (n, p.step) w.awaits).0;
-    behind = λ s at. by s at (waits-for n p links.host e);
-  }
+  -- a step of an enumeration that is waited for is one of an interface that isn't enumerated
+  undone : (n : ℕ) (p : Purpose) → awaited n a.state.host ≡ Some p → is_enumeration p.step ≡ true
+      → p.intf ≡ i → IsDone i a.state.host.interfaces → ⊥
+  undone n p e s at =
+      let w = waited-enum n p links.host e s in
+      (settled.waits w.interface w.known (w.intf ∙ at) (n, p.step) w.awaits).0
+
+  -- and one of a connection one of an interface that is
+  behind : (n : ℕ) (p : Purpose) → awaited n a.state.host ≡ Some p → is_enumeration p.step ≡ false
+      → p.intf ≡ i → IsDone i a.state.host.interfaces
+  behind n p e s at = by (waits-for n p links.host e)
     where
-      by : is_enumeration p.step ≡ false → p.intf ≡ i → WaitsFor a.state.host p
-          → IsDone i a.state.host.interfaces
-      by s at (enumerating x j intf cport w waits step) = absurd (not-both (is_enumeration p.step)
+      by : WaitsFor a.state.host p → IsDone i a.state.host.interfaces
+      by (enumerating x j intf cport w waits step) = absurd (not-both (is_enumeration p.step)
           (ap is_enumeration step ∙ (links.host.interfaces x j w waits).0) s)
-      by s at (connecting l j intf cport w waits step) =
+      by (connecting l j intf cport w waits step) =
           h.links l j (sym intf ∙ at) (links.host.links.waiting l j w waits).0
 
-  turn-done : (e : HostEvent) → IsCaused m e a.state.host
-      → ((j : ℕ) → e ≡ HostEvent.Removed j → (j == i) ≡ false)
-      → TurnDone i a.state.host (host_turn e a.state.host)
-  turn-done (HostEvent.Inserted j) cause other = done-inserted i j (λ at d.
-      not-both (is_some (interface_of i a.state.host)) (present-some a.state.host
-      (record { interface = d.interface; known = d.known; is = d.intf }))
-      (ap (λ g. is_some (interface_of i g)) cause.0
-      ∙ ap is_some (subst (λ k. interface_of k m.before.host ≡ None) at (absent j cause.1))))
-  turn-done (HostEvent.Removed j) cause other =
-      done-removed i j (other j refl)
-  turn-done (HostEvent.Connect j c) cause other = done-connects i j c
-      (connects-done i j c a.state.host h.stages
-      (subst (λ g. AreUnmet (connect_conditions j c g)) (sym cause.0)
-      (front-unmet (connect_conditions j c m.before.host)
-      ((has_no_label 1 side.Ap m.before, why.NoLabel) ∷ [])
-      (free m.before (event.Connect j c) cause.2))))
-  turn-done (HostEvent.Disconnect j c) cause other = done-disconnects i j c
-      (λ l e at. let found = found-in (is_link j c) a.state.host.links l e in
-      let is = link-is j c l found.1 in
-      h.links l found.0 (is.0 ∙ at) (λ zero. not-both (c == 0)
-      (ap (λ n. n == 0) (sym is.1 ∙ zero)) met.1.0))
+  turn-keeps : (e : HostEvent) → ((j : ℕ) → e ≡ HostEvent.Removed j → (j == i) ≡ false)
+      → KeepsDone i a.state.host (host_turn e a.state.host).host
+  turn-keeps e other = over-turn e a.state.host (keeps_law i (at_event e a.state.host) a.state.host
+      (λ j f at. undone f.1.number f.0 f.1.awaited f.2 (f.3 ∙ at)) (λ j g f. other j f.0)) (λ d. d)
+
+  -- a turn asks for connections of interfaces that are enumerated alone
+  asks-done : (e : HostEvent) → IsCaused m e a.state.host → (q : Asking)
+      → AsksIn q (host_turn e a.state.host).acts → q.purpose.intf ≡ i
+      → is_enumeration q.purpose.step ≡ false → IsDone i a.state.host.interfaces
+  asks-done e cause q k at s = by (asked-why e a.state.host q k)
     where
-      met : AreUnmet (disconnect_conditions j c a.state.host)
-      met = subst (λ g. AreUnmet (disconnect_conditions j c g)) (sym cause.0)
-          (front-unmet (disconnect_conditions j c m.before.host) ((
-            holds_of (λ k. has_no_label k side.Ap m.before) (control_of j m.before.host),
-            why.NoLabel,
-          ) ∷ []) (free m.before (event.Disconnect j c) cause.2))
-  turn-done (HostEvent.Ended n how) cause other =
-      done-ended i (awaited n a.state.host) how (timely n)
+      where-asked : {p : Purpose} → q.purpose ≡ p → p.intf ≡ i
+      where-asked is = ap (λ (x : Purpose). x.intf) (sym is) ∙ at
+
+      by : IsAskedAt e a.state.host q.purpose → IsDone i a.state.host.interfaces
+      by (to_enumerate j f is) = absurd (not-both (is_enumeration q.purpose.step)
+          (ap (λ (x : Purpose). is_enumeration x.step) is) s)
+      by (to_connect j c f is) =
+          let cause' = subst (λ y. IsCaused m y a.state.host) f cause in
+          connects-done i j c a.state.host h.stages
+          (subst (λ g. AreUnmet (connect_conditions j c g)) (sym cause'.0)
+          (front-unmet (connect_conditions j c m.before.host)
+          ((has_no_label 1 side.Ap m.before, why.NoLabel) ∷ [])
+          (free m.before (event.Connect j c) cause'.2))) (where-asked is)
+      by (to_disconnect j c l f e is) =
+          let found = found-in (is_link j c) a.state.host.links l e in
+          let same = link-is j c l found.1 in
+          h.links l found.0 (same.0 ∙ where-asked is) (λ zero. not-both (c == 0)
+          (ap (λ n. n == 0) (sym same.1 ∙ zero)) met.1.0)
+        where
+          met : AreUnmet (disconnect_conditions j c a.state.host)
+          met =
+              let cause' = subst (λ y. IsCaused m y a.state.host) f cause in
+              subst (λ g. AreUnmet (disconnect_conditions j c g)) (sym cause'.0)
+              (front-unmet (disconnect_conditions j c m.before.host) ((
+                holds_of (λ k. has_no_label k side.Ap m.before) (control_of j m.before.host),
+                why.NoLabel,
+              ) ∷ []) (free m.before (event.Disconnect j c) cause'.2))
+      by (to_go_on last step r next is) = behind r.number last r.awaited
+          (same-kind last.step next ∙ ap (λ (x : Purpose). is_enumeration x.step) (sym is) ∙ s)
+          (where-asked is)
 
   links-turned : (e : HostEvent) {b : Point} → IsCaused m e a.state.host
       → b.state ≡ record a.state { host = (host_turn e a.state.host).host }
       → b.pending ≡ (host_turn e a.state.host).acts
       → ((j : ℕ) → e ≡ HostEvent.Removed j → (j == i) ≡ false) → LinksDone i b
   links-turned e {b} cause state pending other =
-      let t = turn-done e cause other in record {
+      let keeps = turn-keeps e other in record {
         stages = subst (λ (s : State). NoneRemoved s.host.interfaces) (sym state)
-            (t.keeps.stages h.stages);
+            (keeps.stages h.stages);
         links = λ l j at other.
             let x = came-from a.state.host (host_turn e a.state.host).host
             (from-turn e a.state.host) l (subst (λ (s : State). IsIn l s.host.links) state j) in
-            onto (t.keeps.done (h.links x.0 x.1 (sym x.2.intf ∙ at)
+            onto (keeps.done (h.links x.0 x.1 (sym x.2.intf ∙ at)
             (λ zero. other (x.2.cport ∙ zero))));
-        due = λ q j at s. onto (t.keeps.done (t.asks q (subst (AsksIn q) pending j) at s));
+        due = λ q j at s. onto (keeps.done (asks-done e cause q (subst (AsksIn q) pending j) at s));
       }
     where
       onto : IsDone i (host_turn e a.state.host).host.interfaces → IsDone i b.state.host.interfaces
@@ -169,43 +180,37 @@ module _ (m : Moment) (absent : InsertsAbsent m) (i : ℕ) (a : Point) (links : 
         let w = in-without (λ (x : Link). x.intf == j) a.state.host.links l
         (subst (λ (s : State). IsIn l s.host.links) state k) in
         absurd (not-both (l.intf == j) (ap (λ n. n == j) (at ∙ sym same) ∙ is-same j) w.1);
-    due = λ q k. absurd (asks-none i (Unit {0}) (links_of j a.state.host) _
-        (λ n. no-asks (asks-tell _ n)) (subst (AsksIn q) pending k));
+    due = λ q k. absurd (no-asks (asks-behind (_ ∷ []) (tt, tt)
+        (change-asks (HostChange.departs j) a.state.host (subst (AsksIn q) pending k))));
   }
+
+-- the removal of an interface is handled
+abbrev is_removal_of : ℕ → HostEvent → Bool
+is_removal_of i (HostEvent.Removed j) = j == i
+is_removal_of i _ = false
+
+removal-is : (i : ℕ) (e : HostEvent) → is_removal_of i e ≡ true
+    → (j : ℕ) × (e ≡ HostEvent.Removed j) × (j ≡ i)
+removal-is i (HostEvent.Removed j) f = (j, refl, same-number j i f)
+removal-is i _ f = absurd cc
 
 -- ---- each single change
 
 pub links-kept : (m : Moment) → InsertsAbsent m → (i : ℕ) (a : Point) (x : Change m a)
     → LinkedAt a → IsSettled i a → LinksDone i a → LinksDone i (changed m a x)
-links-kept m absent i a (turns e free untouched none cause) links settled h = by e refl
+links-kept m absent i a (turns e free untouched none cause) links settled h =
+    by (is_removal_of i e) refl
   where
     at : Point
     at = changed m a (turns e free untouched none cause)
 
-    other : (e f : HostEvent) → e ≡ f → ((j : ℕ) → f ≡ HostEvent.Removed j → (j == i) ≡ false)
-        → (j : ℕ) → e ≡ HostEvent.Removed j → (j == i) ≡ false
-    other e f same never j is = never j (sym same ∙ is)
-
-    removed : (j : ℕ) → e ≡ HostEvent.Removed j → (t : Bool) → (j == i) ≡ t → LinksDone i at
-    removed j is true f = links-removed m absent i a links settled h j at (same-number j i f)
-        (ap (λ g. record a.state { host = (host_turn g a.state.host).host }) is)
-        (ap (λ g. (host_turn g a.state.host).acts) is)
-    removed j is false f = links-turned m absent i a links settled h e cause refl refl
-        (λ k same. subst (λ n. (n == i) ≡ false) (number j k (sym is ∙ same)) f)
-      where
-        number : (n k : ℕ) → HostEvent.Removed n ≡ HostEvent.Removed k → n ≡ k
-        number n k g = cc
-
-    by : (f : HostEvent) → e ≡ f → LinksDone i at
-    by (HostEvent.Removed j) is = removed j is (j == i) refl
-    by (HostEvent.Inserted j) is = links-turned m absent i a links settled h e cause refl refl
-        (other e _ is (λ k f. absurd cc))
-    by (HostEvent.Connect j c) is = links-turned m absent i a links settled h e cause refl refl
-        (other e _ is (λ k f. absurd cc))
-    by (HostEvent.Disconnect j c) is = links-turned m absent i a links settled h e cause refl
-        refl (other e _ is (λ k f. absurd cc))
-    by (HostEvent.Ended n how) is = links-turned m absent i a links settled h e cause refl
-        refl (other e _ is (λ k f. absurd cc))
+    by : (t : Bool) → is_removal_of i e ≡ t → LinksDone i at
+    by true f = let r = removal-is i e f in
+        links-removed m absent i a links settled h r.0 at r.2
+        (ap (λ g. record a.state { host = (host_turn g a.state.host).host }) r.1)
+        (ap (λ g. (host_turn g a.state.host).acts) r.1)
+    by false f = links-turned m absent i a links settled h e cause refl refl
+        (λ j is. ap (is_removal_of i) (sym is) ∙ f)
 links-kept m absent i a (acts_opened w q rest free is) links settled h = record {
   stages = h.stages;
   links = λ l j at other. ⊎_elim (λ o. h.links l o at other)
@@ -240,7 +245,7 @@ links-kept m absent i a (acts_asked q n rest is) links settled h =
 links-kept m absent i a (acts_failed q rest is quiet) links settled h =
     links-still (keeps-unsent i q.purpose (λ s at. (settled.due q (there is) at s).0))
     (came-from a.state.host (unsent q.purpose a.state.host).host
-    (from-unsent q.purpose.step q.purpose a.state.host))
+    (from-unsent q.purpose a.state.host))
     (asks-kept m a (acts_failed q rest is quiet) tt) h
   where
     there : IsAsking q a.pending rest → AsksIn q a.pending

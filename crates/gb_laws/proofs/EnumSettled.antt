@@ -15,15 +15,14 @@ use Rattle.gb_machine.specs.{SvcQueues.is_enumeration_request}
 use Rattle.gb_invariants.proofs.Awaiting.{none-some, not-both}
 use Rattle.gb_laws.proofs.AskedWaits.{AsksIn, WaitsFewer, asks_in, opens_in}
 use Rattle.gb_laws.proofs.EnumNone.{IsNone, none-enums, none-sent}
-use Rattle.gb_laws.proofs.EnumTurns.{TurnEnums, enums-connects, enums-disconnects, enums-ended}
-use Rattle.gb_laws.proofs.EnumTurns.{enums-inserted, enums-removed}
 use Rattle.gb_laws.proofs.LinkEnds.{resumed, step-connects, waits-for, waits-link}
 use Rattle.gb_laws.proofs.Links.{ArePending, HostFits, IsDue, IsDueBy, IsFormed, IsResting}
 use Rattle.gb_laws.proofs.PointParts.{Basis, IsCaused, Point}
 use Rattle.gb_laws.proofs.QuietAwaited.{IsWaitedBy, none-over, waited-in}
-use Rattle.gb_laws.proofs.{AwaitsOwn.turn-waits, EnumDone.IsDone, EnumRequests.formed-enumerates}
+use Rattle.gb_laws.proofs.{Asked.turn-waits, EnumDone.IsDone, EnumRequests.formed-enumerates}
 use Rattle.gb_laws.proofs.{LinkKept.InsertsAbsent, LinkKept.LinkedAt, MarkMoments.present-some}
 use Rattle.gb_laws.proofs.{Points.IsOver, Quiet.IsQuiet, SvcMoves.FarMoves, SvcThere.There}
+use Rattle.gb_laws.proofs.EnumTurns.{TurnEnums, turn-enums}
 
 -- A step may be asked: the enumeration isn't done, and for one of the module nothing waits.
 abbrev pub May : ℕ → List Interface → Bus → SequenceStep → Type 0
@@ -174,42 +173,36 @@ waits-none {b} n {h} p fits e s =
     by true f d = d.idle
     by false f d = absurd cc
 
-turn-enums : (m : Moment) → InsertsAbsent m → (i : ℕ) (e : HostEvent) (a : Point) → Basis a
+enums-turned : (m : Moment) → InsertsAbsent m → (i : ℕ) (e : HostEvent) (a : Point) → Basis a
     → LinkedAt a → There a.state.bus → IsOver m e a.state.bus → IsCaused m e a.state.host
     → IsQuiet i a → IsSettled i a
     → TurnEnums i (MayAt i a) (IsNone i a.state.bus) a.state.host (host_turn e a.state.host)
-turn-enums m absent i (HostEvent.Inserted j) a basis links there over cause quiet h =
-    enums-inserted i (MayAt i a) (IsNone i a.state.bus) j a.state.host
-    (λ at. (λ d. fresh at d, λ c. absurd cc))
-  where
-    fresh : j ≡ i → IsDone i a.state.host.interfaces → ⊥
-    fresh at d = not-both (is_some (interface_of i a.state.host)) (present-some a.state.host
-        (record { interface = d.interface; known = d.known; is = d.intf }))
-        (ap (λ g. is_some (interface_of i g)) cause.0
-        ∙ ap is_some (subst (λ k. interface_of k m.before.host ≡ None) at (absent j cause.1)))
-turn-enums m absent i (HostEvent.Removed j) a basis links there over cause quiet h =
-    enums-removed i (MayAt i a) (IsNone i a.state.bus) j a.state.host
-turn-enums m absent i (HostEvent.Connect j c) a basis links there over cause quiet h =
-    enums-connects i (MayAt i a) (IsNone i a.state.bus) j c a.state.host
-turn-enums m absent i (HostEvent.Disconnect j c) a basis links there over cause quiet h =
-    enums-disconnects i (MayAt i a) (IsNone i a.state.bus) j c a.state.host
-turn-enums m absent i (HostEvent.Ended n how) a basis links there over cause quiet h =
-    enums-ended i (MayAt i a) (IsNone i a.state.bus) (awaited n a.state.host) how a.state.host
-    (λ p e r bytes is at s.
-    let w = waited-enum n p links.host e s in
-    let may = h.waits w.interface w.known (w.intf ∙ at) (n, p.step) w.awaits in
-    let none = by p w (over r bytes is).0 at s may (asks_control p.step) refl in (
+enums-turned m absent i e a basis links there over cause quiet h =
+    turn-enums i (MayAt i a) (IsNone i a.state.bus) e a.state.host (λ p r at s.
+    let w = waited-enum r.number p links.host r.awaited s in
+    let may = h.waits w.interface w.known (w.intf ∙ at) (r.number, p.step) w.awaits in
+    let none = by r.number p w ((subst (λ f. IsOver m f a.state.bus) r.is over)
+    r.result r.payload refl).0 at s may (asks_control p.step) refl in (
       none,
       λ step. (may.0, λ c. none),
       subst (λ k. IsResting k (awaits_nothing p a.state.host).interfaces) at
-          (waits-none n p links.host e s),
-    ))
+          (waits-none r.number p links.host r.awaited s),
+    )) (λ j is at. (λ d. fresh j is at d, λ c. absurd cc))
   where
-    by : (p : Purpose) (w : IsWaitedBy a.state.host n p) → is_awaited n a.state.bus ≡ false
+    fresh : (j : ℕ) → e ≡ HostEvent.Inserted j → j ≡ i → IsDone i a.state.host.interfaces → ⊥
+    fresh j is at d =
+        let c = subst (λ f. IsCaused m f a.state.host) is cause in
+        not-both (is_some (interface_of i a.state.host)) (present-some a.state.host
+        (record { interface = d.interface; known = d.known; is = d.intf }))
+        (ap (λ g. is_some (interface_of i g)) c.0
+        ∙ ap is_some (subst (λ k. interface_of k m.before.host ≡ None) at (absent j c.1)))
+
+    by : (n : ℕ) (p : Purpose) (w : IsWaitedBy a.state.host n p) → is_awaited n a.state.bus ≡ false
         → p.intf ≡ i → is_enumeration p.step ≡ true → MayAt i a p.step → (t : Bool)
         → asks_control p.step ≡ t → IsNone i a.state.bus
-    by p w over at s may true e = may.1 e
-    by p w over at s may false e = none-enums i a.state.bus (none-over i n a basis links there over
+    by n p w over at s may true e = may.1 e
+    by n p w over at s may false e =
+        none-enums i a.state.bus (none-over i n a basis links there over
         (quiet.waits w.interface w.known (w.intf ∙ at) (n, p.step) w.awaits
         (ap (λ t. t && not (asks_control p.step)) s ∙ ap not e)).last)
 
@@ -234,7 +227,7 @@ settled-turned m absent i e a b basis links there over cause quiet state pending
 }
   where
     t : TurnEnums i (MayAt i a) (IsNone i a.state.bus) a.state.host (host_turn e a.state.host)
-    t = turn-enums m absent i e a basis links there over cause quiet h
+    t = enums-turned m absent i e a basis links there over cause quiet h
 
     onto : IsNone i a.state.bus → IsNone i b.state.bus
     onto k = subst (λ (s : State). IsNone i s.bus) (sym state) k

@@ -6,6 +6,7 @@ use Rattle.gb_base.specs.declared.entry.ConnState.{ConnState}
 use Rattle.gb_base.specs.declared.entry.Entry.TheVariants as entry
 use Rattle.gb_base.specs.declared.event.Event.{Event}
 use Rattle.gb_machine.specs.Bus.{Request, is_open, request_of}
+use Rattle.gb_machine.specs.Headline.{HeadlineHolds}
 use Rattle.gb_machine.specs.LawsBus.{EndpointsDiffer, HaveAwaited, HaveNamed, HaveOneItem}
 use Rattle.gb_machine.specs.LawsBus.{HaveOwnEnds, HaveOwnLabels, LabelsDiffer, NamesNameRequests}
 use Rattle.gb_machine.specs.LawsBus.{OneItemANumber, RepliesAreAwaited}
@@ -258,4 +259,22 @@ facts-together = record {
   quiet = quiet-removal;
   awaited = awaited-last;
   stale = stale-unrouted;
+}
+
+-- the headline, of every run
+pub headline-holds : HeadlineHolds
+headline-holds es valid = record {
+  answered = answered-by_its_responder es valid;
+  once = ends-at-most-once es valid;
+  caused = every-end_has_its_cause es valid;
+  removed = record {
+    absent = absent-after.1 es valid;
+    unconnected = absent-after.0 es valid;
+    closed = nothing-left.closed es valid;
+    live = open-live es valid;
+  };
+  own = record {
+    items = no-foreign.0 es valid;
+    takes = no-foreign.1 es valid;
+  };
 }

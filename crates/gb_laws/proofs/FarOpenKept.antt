@@ -100,7 +100,7 @@ kinds-kept m a (acts_asked q n rest is) links pairs h =
 kinds-kept m a (acts_failed q rest is quiet) links pairs h =
     kinds-on a.state.bus a.state.bus a.state.host (unsent q.purpose a.state.host).host
     (λ n r made. made) (come-from a.state.host (unsent q.purpose a.state.host).host
-    (from-unsent q.purpose.step q.purpose a.state.host)) h
+    (from-unsent q.purpose a.state.host)) h
 kinds-kept m a (serves k kind payload none) links pairs h =
     kinds-on a.state.bus a.state.bus a.state.host (host_serves k kind payload a.state.host).host
     (λ n r made. made) (come-served k kind payload a.state.host) h

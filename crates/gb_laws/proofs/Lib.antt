@@ -63,7 +63,6 @@ pub mod LinkRuns
 pub mod LinkSources
 pub mod LinkTells
 pub mod LinkCloses
-pub mod LinkCloseTurns
 pub mod LinkLeaves
 pub mod LinkSides
 pub mod Removing
@@ -99,7 +98,6 @@ pub mod WiredOnceRuns
 -- enumerations
 pub mod AskedWaits
 pub mod Asked
-pub mod AskedSteps
 pub mod Enums
 pub mod EnumRequests
 pub mod EnumNone
@@ -109,7 +107,6 @@ pub mod EnumSettled
 pub mod EnumSettledRuns
 pub mod EnumLinks
 pub mod EnumRuns
-pub mod DoneSteps
 pub mod DoneTurns
 pub mod DoneStays
 pub mod AwaitsOwn

@@ -191,31 +191,8 @@ unsent-due {b} steps.GiveDevice p {h} fits due =
     (onto-interface p.intf (λ x. record x { device = None }) (λ x. refl)) (fits-interface_fails p
     (host-interface p.intf (λ x. record x { device = None }) (λ x. refl) (λ x i at e w k. e w k)
     fits)))
-unsent-due {b} steps.EnableVsys p {h} fits due =
-    failed-well {b = b} {h = h} (step_fails steps.EnableVsys p h)
-    (fits-failed {b = b} steps.EnableVsys p {h = h} fits due)
-unsent-due {b} steps.EnableRefclk p {h} fits due = failed-well {b = b} {h = h}
-    (step_fails steps.EnableRefclk p h) (fits-failed steps.EnableRefclk p fits due)
-unsent-due steps.EnableUnipro p {h} fits due = failed-well (step_fails steps.EnableUnipro p h)
-    (fits-failed steps.EnableUnipro p fits due)
-unsent-due steps.Activate p {h} fits due =
-    failed-well (step_fails steps.Activate p h) (fits-failed steps.Activate p fits due)
-unsent-due steps.CreateRoute p {h} fits due = failed-well (step_fails steps.CreateRoute p h)
-    (fits-failed steps.CreateRoute p fits due)
-unsent-due steps.AskVersion p {h} fits due =
-    failed-well (step_fails steps.AskVersion p h) (fits-failed steps.AskVersion p fits due)
-unsent-due steps.AskSize p {h} fits due =
-    failed-well (step_fails steps.AskSize p h) (fits-failed steps.AskSize p fits due)
-unsent-due steps.AskManifest p {h} fits due = failed-well (step_fails steps.AskManifest p h)
-    (fits-failed steps.AskManifest p fits due)
-unsent-due steps.TellConnected p {h} fits due = failed-well (step_fails steps.TellConnected p h)
-    (fits-failed steps.TellConnected p fits due)
-unsent-due steps.TellDisconnecting p {h} fits due = failed-well
-    (step_fails steps.TellDisconnecting p h) (fits-failed steps.TellDisconnecting p fits due)
-unsent-due steps.TellDisconnected p {h} fits due = failed-well
-    (step_fails steps.TellDisconnected p h) (fits-failed steps.TellDisconnected p fits due)
-unsent-due steps.DestroyConnection p {h} fits due = failed-well
-    (step_fails steps.DestroyConnection p h) (fits-failed steps.DestroyConnection p fits due)
+unsent-due {b} step p {h} fits due =
+    failed-well {b = b} {h = h} (step_fails step p h) (fits-failed {b = b} step p {h = h} fits due)
 
 pub unsent-making : {b : Bus} (w : Making) {step : SequenceStep} (p : Purpose) {h : Host}
     → HostFits b h → IsMaking w step → FailsWell b h (unsent_fails step p h)

@@ -1,27 +1,26 @@
 -- What turns of the application processor make of connections that are closing, and which
 -- connections they give up.
-use Rattle.std.proofs.Common.{Bool, List, None, Option, Some, ap, cond, false, inl, inr, length}
-use Rattle.std.proofs.Common.{map, refl, subst, sym, true, ℕ, ⊎_elim, [], ◌∙◌, ◌∷◌, ◌≡◌, ◌≢◌, ◌⊎◌}
-use Rattle.std.specs.Prelude.{Err, Ok, Result, ◌==◌}
-use Rattle.gb_base.specs.declared.entry.{ConnState.ConnState, Entry.Entry}
-use Rattle.gb_base.specs.declared.entry.ConnState.TheVariants as state
-use Rattle.gb_base.specs.declared.peers.{Interface.Interface, Link.Link}
+use Rattle.std.proofs.Common.{Bool, List, None, Option, Some, ap, cond, false, inl, inr, refl}
+use Rattle.std.proofs.Common.{subst, sym, true, ℕ, ⊎_elim, [], ◌++◌, ◌∙◌, ◌∷◌, ◌≡◌, ◌≢◌, ◌⊎◌}
+use Rattle.std.specs.Prelude.{◌==◌}
+use Rattle.gb_base.specs.declared.entry.ConnState.{ConnState}
+use Rattle.gb_base.specs.declared.peers.Link.{Link}
 use Rattle.gb_base.specs.declared.steps.{Purpose.Purpose, SequenceStep.SequenceStep}
+use Rattle.gb_base.specs.declared.entry.ConnState.TheVariants as state
 use Rattle.gb_base.specs.declared.steps.SequenceStep.TheVariants as steps
-use Rattle.gb_formats.specs.{ControlRecords.read_control_reply, Manifest.Manifest}
-use Rattle.gb_formats.specs.{Manifest.check_answer, ManifestRules.Refused}
-use Rattle.gb_machine.specs.Failures.{interface_fails, link_fails, link_told, step_fails}
-use Rattle.gb_machine.specs.Failures.{unsent_fails}
-use Rattle.gb_machine.specs.Host.{Host, free_cport, free_device, in_state, interface_of, is_link}
-use Rattle.gb_machine.specs.Host.{link_at, with_interface, with_link, without_link}
-use Rattle.gb_machine.specs.SequenceSteps.{at_step, is_enumeration, is_reply}
-use Rattle.gb_machine.specs.Sequences.{asked_on, begins_control, begins_device, enumerated}
-use Rattle.gb_machine.specs.Sequences.{link_left, link_turn, manifest_checked, manifest_told}
-use Rattle.gb_machine.specs.Sequences.{opened, opened_told, size_in, size_known, step_answered}
-use Rattle.gb_machine.specs.Sequences.{step_asked, step_done, way_of}
-use Rattle.gb_machine.specs.Turns.{Act, Turn, failed_turn}
-use Rattle.gb_machine.specs.{Members.IsIn, Waits.waiting}
-use Rattle.gb_invariants.proofs.{Found.in-first, Lists.in-without}
+use Rattle.gb_machine.specs.Host.{Host, in_state, is_link, link_at, with_interface, with_link}
+use Rattle.gb_machine.specs.Host.{without_link}
+use Rattle.gb_machine.specs.HostTurns.{host_turn, links_left, links_of, without_interface}
+use Rattle.gb_machine.specs.Turns.{Act, HostEvent, Turn}
+use Rattle.gb_machine.specs.{Bus.Bus, Failures.unsent, Members.IsIn, SequenceSteps.is_enumeration}
+use Rattle.gb_machine.specs.{Sequences.enumerated, Waits.waiting}
+use Rattle.gb_invariants.proofs.HostChanges.{Completes, Finds, HostChange, HostEnd, IsFor, IsLast}
+use Rattle.gb_invariants.proofs.HostChanges.{Occasion, TurnLaw, acts_by, at_event, at_unsent}
+use Rattle.gb_invariants.proofs.HostChanges.{end_of, host_after}
+use Rattle.gb_invariants.proofs.Lists.{found-in, in-behind, in-front, in-without}
+use Rattle.gb_invariants.proofs.{Awaiting.same-some, Found.in-first, OverTurns.over-turn}
+use Rattle.gb_invariants.proofs.{OverTurns.over-unsent}
+use Rattle.gb_laws.proofs.{LinkEnds.resumed, LinkEnds.waits-for, Links.HostFits, Links.IsDue}
 
 -- a connection with this number is closing
 pub record IsClosing (n : ℕ) (h : Host) : Type 0 where
@@ -84,39 +83,6 @@ pub fewer-without : (h g : Host) → ((l : Link) → IsIn l g.links → IsIn l h
 fewer-without h g in_h n x =
     record { link = x.link; live = in_h x.link x.live; on = x.on; closing = x.closing }
 
-fewer-opened : (p : Purpose) (h : Host) → ClosesFewer h (opened p h)
-fewer-opened p h = fewer-state state.Open (λ e. absurd cc) p.intf p.cport h
-
-fewer-failed : (p : Purpose) (h : Host) → ClosesFewer h (link_fails p h).host
-fewer-failed p h = fewer-state state.Failed (λ e. absurd cc) p.intf p.cport h
-
-fewer-interface : (p : Purpose) (h : Host) → ClosesFewer h (interface_fails p h).host
-fewer-interface p h = fewer-links h (interface_fails p h).host refl
-
--- what fails where a step isn't answered as it should be
-fewer-fails : (step : SequenceStep) (p : Purpose) (h : Host)
-    → ClosesFewer h (step_fails step p h).host
-fewer-fails steps.CreateControl p h = λ n x. fewer-failed p h n
-    (fewer-links (link_fails p h).host (step_fails steps.CreateControl p h).host refl n x)
-fewer-fails steps.CreateConnection p h = fewer-failed p h
-fewer-fails steps.TellConnected p h = fewer-failed p h
-fewer-fails steps.TellDisconnecting p h = fewer-failed p h
-fewer-fails steps.TellDisconnected p h = fewer-failed p h
-fewer-fails steps.DestroyConnection p h = fewer-failed p h
-fewer-fails _ p h = fewer-interface p h
-
--- and where its request can't be made
-pub fewer-unsent : (step : SequenceStep) (p : Purpose) (h : Host)
-    → ClosesFewer h (unsent_fails step p h).host
-fewer-unsent steps.CreateConnection p h = λ n x. x
-fewer-unsent steps.GiveDevice p h =
-    fewer-links h (unsent_fails steps.GiveDevice p h).host refl
-fewer-unsent steps.TellConnected p h = fewer-failed p h
-fewer-unsent steps.TellDisconnecting p h = fewer-failed p h
-fewer-unsent steps.TellDisconnected p h = fewer-failed p h
-fewer-unsent steps.DestroyConnection p h = fewer-failed p h
-fewer-unsent _ p h = fewer-interface p h
-
 -- a sequence waits for something, or for nothing
 pub fewer-waiting : (w : Option (ℕ × SequenceStep)) (p : Purpose) (h : Host)
     → ClosesFewer h (waiting w p h)
@@ -127,145 +93,134 @@ fewer-waiting w p h = by (is_enumeration p.step)
     by true = fewer-links h (with_interface p.intf (λ x. record x { awaits = w }) h) refl
     by false = fewer-kept p.intf p.cport (λ l. record l { awaits = w }) h (λ l. refl) (λ l. refl)
 
+-- ---- changes
+
+-- a change closes the side of no connection
+abbrev ClosesNone : HostChange → Type 0
+ClosesNone (HostChange.closes i c l) = ⊥
+ClosesNone _ = Unit {0}
+
+not-closing : (to : ConnState) → (to ≡ state.Open) ⊎ (to ≡ state.Failed) → to ≡ state.Closing → ⊥
+not-closing to (inl e) f = absurd cc
+not-closing to (inr e) f = absurd cc
+
+change-fewer : (x : HostChange) (h : Host) → Finds h x → ClosesNone x
+    → ClosesFewer h (host_after x h)
+change-fewer (HostChange.departs i) h finds none = fewer-without h (without_interface i h)
+    (λ l j. (in-without (λ (k : Link). k.intf == i) h.links l j).0)
+change-fewer (HostChange.resumes p) h finds none = fewer-waiting None p h
+change-fewer (HostChange.turns_to i c to o) h finds none =
+    fewer-state to (not-closing to finds.1) i c h
+change-fewer (HostChange.closes i c l) h finds none = absurd none
+change-fewer (HostChange.leaves p o) h finds none =
+    fewer-without h (without_link p.intf p.cport h)
+    (λ l i. (in-without (is_link p.intf p.cport) h.links l i).0)
+change-fewer x h finds none = fewer-links h (host_after x h) refl
+
+-- what closes behind a change was closing, or the change closes its side
+change-closes : (x : HostChange) (h : Host) → Finds h x → (n : ℕ) → IsClosing n (host_after x h)
+    → IsClosing n h ⊎ IsIn (Act.Shut n) (acts_by x h)
+change-closes (HostChange.closes i c l) h found n y = ⊎_elim
+    (λ o. inl (record { link = y.link; live = o; on = y.on; closing = y.closing }))
+    (λ w. inr (inl (ap Act.Shut (sym (ap (λ (k : Link). k.connection)
+    (same-some l w.0 (sym found ∙ w.2)) ∙ ap (λ (k : Link). k.connection) (sym w.3) ∙ y.on)))))
+    (in-first (is_link i c) (in_state state.Closing) h.links y.link y.live)
+change-closes x h finds n y = inl (change-fewer x h finds tt n y)
+
+-- connections are closed before they are given up
+shut-first : (n : ℕ) (ls : List Link) (acts : List Act) → LeavesOpen n (links_left ls ++ acts)
+    → LeavesOpen n acts
+shut-first n [] acts x = x
+shut-first n (l ∷ ls) acts x =
+    ⊎_elim (λ same. absurd (x.0 same)) (λ y. shut-first n ls acts y) x.1
+
+-- what is given up without that was closing
+module _ (o : Occasion) (closed : (p : Purpose) (h : Host)
+    → Completes o p steps.DestroyConnection h → (l : Link) → link_at p.intf p.cport h ≡ Some l
+    → IsClosing l.connection h) where
+  change-left : (x : HostChange) (h : Host) (acts : List Act) → Finds h x → IsFor o h x → (n : ℕ)
+      → (LeavesOpen n acts → IsClosing n (host_after x h)) → LeavesOpen n (acts_by x h ++ acts)
+      → IsClosing n h
+  change-left (HostChange.departs i) h acts finds why n s y =
+      change-fewer (HostChange.departs i) h tt tt n (s (shut-first n (links_of i h) acts y))
+  change-left (HostChange.turns_to i c to None) h acts finds why n s y =
+      change-fewer (HostChange.turns_to i c to None) h finds tt n (s y)
+  change-left (HostChange.turns_to i c to (Some l)) h acts finds why n s y =
+      change-fewer (HostChange.turns_to i c to (Some l)) h finds tt n (s y)
+  change-left (HostChange.closes i c l) h acts found why n s y =
+      ⊎_elim (λ x. x) (λ j. absurd (by j))
+      (change-closes (HostChange.closes i c l) h found n (s y.1))
+    where
+      same : (k j : ℕ) → Act.Shut k ≡ Act.Shut j → j ≡ k
+      same k j e = cc
+
+      by : IsIn (Act.Shut n) (acts_by (HostChange.closes i c l) h) → ⊥
+      by (inl e) = y.0 (same n l.connection e)
+      by (inr (inl e)) = absurd cc
+      by (inr (inr j)) = j
+  change-left (HostChange.leaves p None) h acts found why n s y =
+      change-fewer (HostChange.leaves p None) h found tt n (s y)
+  change-left (HostChange.leaves p (Some l)) h acts found why n s y =
+      ⊎_elim (λ e. subst (λ k. IsClosing k h) e (closed p h why l found))
+      (λ z. change-fewer (HostChange.leaves p (Some l)) h found tt n (s z)) y
+  change-left x h acts finds why n s y = change-fewer x h finds tt n (s y)
+
+  end-closes : (x : HostEnd) (h : Host) → TurnCloses h (end_of x h)
+  end-closes (HostEnd.enumerates p bytes) h = record {
+    closing = λ n y. inl (fewer-links h (with_interface p.intf (enumerated bytes) h) refl n y);
+    left = λ n y. absurd y;
+  }
+  end-closes HostEnd.rests h = record { closing = λ n y. inl y; left = λ n y. absurd y }
+  end-closes (HostEnd.asks k p) h = record { closing = λ n y. inl y; left = λ n y. absurd y }
+  end-closes (HostEnd.makes a protocol p) h =
+      record { closing = λ n y. inl y; left = λ n y. absurd y }
+
+  abbrev closes_law : TurnLaw o
+  closes_law = record {
+    says = λ h t. TurnCloses h t;
+    ends = λ x h last. end-closes x h;
+    over = λ x h t finds why s. record {
+      closing = λ n y. ⊎_elim
+          (λ c. ⊎_elim (λ k. inl k) (λ i. inr (in-front (Act.Shut n) (acts_by x h) t.acts i))
+          (change-closes x h finds n c))
+          (λ i. inr (in-behind (Act.Shut n) (acts_by x h) t.acts i)) (s.closing n y);
+      left = λ n y. change-left x h t.acts finds why n (s.left n) y;
+    };
+  }
+
 -- ---- turns
 
-pub closes-through : (h : Host) {g : Host} (t : Turn) → ClosesFewer h g → TurnCloses g t →
-    TurnCloses h t
-closes-through h t f r = record {
-  closing = λ n x. ⊎_elim (λ y. inl (f n y)) (λ i. inr i) (r.closing n x);
-  left = λ n x. f n (r.left n x);
+-- the connection of the last request of a close is closing
+last-closing : {b : Bus} (e : HostEvent) (before : Host) → HostFits b before → (p : Purpose)
+    (h : Host) → Completes (at_event e before) p steps.DestroyConnection h → (l : Link)
+    → link_at p.intf p.cport h ≡ Some l → IsClosing l.connection h
+last-closing {b} e before fits p h done l found = record {
+  link = l;
+  live = (found-in (is_link p.intf p.cport) h.links l found).0;
+  on = refl;
+  closing = (subst (λ s. IsDue s p h) done.1 (subst (IsDue p.step p) (sym done.2)
+      (resumed b p before fits (waits-for done.0.number p fits done.0.awaited)).due)).state l found;
 }
 
-pub closes-telling : (h : Host) (e : Entry) {t : Turn} → TurnCloses h t
-    → TurnCloses h (record t { acts = Act.Tell e ∷ t.acts })
-closes-telling h e r = record {
-  closing = λ n x. ⊎_elim (λ y. inl y) (λ i. inr (inr i)) (r.closing n x);
-  left = r.left;
-}
+pub closes-turn : {b : Bus} (e : HostEvent) {h : Host} → HostFits b h → TurnCloses h (host_turn e h)
+closes-turn e {h} fits =
+    over-turn e h (closes_law (at_event e h) (last-closing e h fits))
 
-none-left : (n : ℕ) (es : List Entry) → LeavesOpen n (map Act.Tell es) → ⊥
-none-left n [] x = x
-none-left n (e ∷ es) x = none-left n es x
+-- where a request can't be made
+none-closed : (p : Purpose) (x : HostChange) (h : Host) → IsFor (at_unsent p) h x → ClosesNone x
+none-closed p (HostChange.closes i c l) h why = absurd why
+none-closed p _ h why = tt
 
-pub closes-host : {h : Host} (g : Host) (es : List Entry) → ClosesFewer h g
-    → TurnCloses h (record { host = g; acts = map Act.Tell es })
-closes-host g es f = record {
-  closing = λ n x. inl (f n x);
-  left = λ n x. absurd (none-left n es x);
-}
+end-fewer : (p : Purpose) (x : HostEnd) (h : Host) → IsLast (at_unsent p) h x
+    → ClosesFewer h (end_of x h).host
+end-fewer p HostEnd.rests h last = λ n y. y
+end-fewer p (HostEnd.asks k q) h last = absurd last.0
+end-fewer p (HostEnd.makes a protocol q) h last = absurd last
+end-fewer p (HostEnd.enumerates q bytes) h last = absurd last
 
-closes-interface : (p : Purpose) (h : Host) → TurnCloses h (failed_turn (interface_fails p h))
-closes-interface p h = closes-host (interface_fails p h).host (interface_fails p h).told
-    (fewer-links h (interface_fails p h).host refl)
-
-closes-fails : (step : SequenceStep) (p : Purpose) (h : Host)
-    → TurnCloses h (failed_turn (step_fails step p h))
-closes-fails step p h =
-    closes-host (step_fails step p h).host (step_fails step p h).told (fewer-fails step p h)
-
-pub closes-asked : (p : Purpose) {h : Host} → TurnCloses h (step_asked p h)
-closes-asked p {h} = by (way_of p h)
-  where
-    by : (o : Option ℕ) → TurnCloses h (asked_on o p h)
-    by None = closes-fails p.step p h
-    by (Some k) = record { closing = λ n x. inl x; left = λ n x. absurd x }
-
--- an interface changes, and then a step is asked
-closes-changed : (p : Purpose) (i : ℕ) (f : Interface → Interface) (h : Host)
-    → TurnCloses h (step_asked p (with_interface i f h))
-closes-changed p i f h = closes-through h _
-    (fewer-links h (with_interface i f h) refl) (closes-asked p)
-
-closes-checked : (r : Result Manifest Refused) (p : Purpose) (bytes : List ℕ) (h : Host)
-    → TurnCloses h (manifest_checked r p bytes h)
-closes-checked (Ok v) p bytes h =
-    closes-host (with_interface p.intf (enumerated bytes) h) (_ ∷ [])
-    (fewer-links h (with_interface p.intf (enumerated bytes) h) refl)
-closes-checked (Err why) p bytes h = closes-telling h _ (closes-interface p h)
-
-closes-manifest : (p : Purpose) (bytes : List ℕ) (h : Host) → TurnCloses h (manifest_told p bytes h)
-closes-manifest p bytes h = by (length bytes == size_known (interface_of p.intf h))
-  where
-    by : (t : Bool) → TurnCloses h (cond t (manifest_checked (check_answer bytes) p bytes h)
-        (failed_turn (interface_fails p h)))
-    by true = closes-checked (check_answer bytes) p bytes h
-    by false = closes-interface p h
-
-closes-device : (o : Option ℕ) (p : Purpose) (h : Host) → TurnCloses h (begins_device o p h)
-closes-device None p h = closes-interface p h
-closes-device (Some d) p h = closes-changed p p.intf (λ x. record x { device = Some d }) h
-
-closes-control : (o : Option ℕ) (p : Purpose) (h : Host) → TurnCloses h (begins_control o p h)
-closes-control None p h = closes-interface p h
-closes-control (Some a) p h = record { closing = λ n x. inl x; left = λ n x. absurd x }
-
-closes-opened_told : (o : Option Link) (h : Host) (t : Turn) → TurnCloses h t
-    → TurnCloses h (opened_told o t)
-closes-opened_told None h t r = r
-closes-opened_told (Some l) h t r = closes-telling h (link_told state.Open l) r
-
-closes-opened : (o : Option Link) (h g : Host) → ClosesFewer h g
-    → TurnCloses h (link_turn state.Open o g)
-closes-opened None h g f = closes-host g [] f
-closes-opened (Some l) h g f = closes-host g (link_told state.Open l ∷ []) f
-
--- a connection is given up that was closing
-closes-left : (p : Purpose) (h : Host) (o : Option Link)
-    → ((l : Link) → o ≡ Some l → IsClosing l.connection h)
-    → TurnCloses h (link_left o (without_link p.intf p.cport h))
-closes-left p h o was = by o was
-  where
-    fewer : ClosesFewer h (without_link p.intf p.cport h)
-    fewer = fewer-without h (without_link p.intf p.cport h)
-        (λ l i. (in-without (is_link p.intf p.cport) h.links l i).0)
-
-    by : (o : Option Link) → ((l : Link) → o ≡ Some l → IsClosing l.connection h)
-        → TurnCloses h (link_left o (without_link p.intf p.cport h))
-    by None was = closes-host (without_link p.intf p.cport h) [] fewer
-    by (Some l) was = record {
-      closing = λ n x. inl (fewer n x);
-      left = λ n x. ⊎_elim (λ e. subst (λ k. IsClosing k h) e (was l refl)) (λ y. absurd y) x;
-    }
-
--- What follows a step that was answered as it should be. The last step of a close is one of a
--- connection that is closing.
-closes-done : (step : SequenceStep) (p : Purpose) (payload : List ℕ) (h : Host)
-    → (step ≡ steps.DestroyConnection → (l : Link) → link_at p.intf p.cport h ≡ Some l
-    → IsClosing l.connection h) → TurnCloses h (step_done step p payload h)
-closes-done steps.EnableVsys p payload h was = closes-asked (at_step steps.EnableRefclk p)
-closes-done steps.EnableRefclk p payload h was = closes-asked (at_step steps.EnableUnipro p)
-closes-done steps.EnableUnipro p payload h was = closes-asked (at_step steps.Activate p)
-closes-done steps.Activate p payload h was =
-    closes-device (free_device h) (at_step steps.GiveDevice p) h
-closes-done steps.GiveDevice p payload h was =
-    closes-changed (at_step steps.CreateRoute p) p.intf (λ x. record x { has_device = true }) h
-closes-done steps.CreateRoute p payload h was =
-    closes-control (free_cport h) (at_step steps.CreateControl p) h
-closes-done steps.CreateControl p payload h was =
-    closes-opened_told (link_at p.intf p.cport h) h _ (closes-through h _ (fewer-opened p h)
-    (closes-asked (at_step steps.AskVersion p)))
-closes-done steps.AskVersion p payload h was = closes-asked (at_step steps.AskSize p)
-closes-done steps.AskSize p payload h was =
-    closes-changed (at_step steps.AskManifest p) p.intf
-    (λ x. record x { size = size_in (read_control_reply 0x03 payload) }) h
-closes-done steps.AskManifest p payload h was = closes-manifest p payload h
-closes-done steps.CreateConnection p payload h was = closes-asked (at_step steps.TellConnected p)
-closes-done steps.TellConnected p payload h was =
-    closes-opened (link_at p.intf p.cport h) h (opened p h) (fewer-opened p h)
-closes-done steps.TellDisconnecting p payload h was =
-    closes-asked (at_step steps.TellDisconnected p)
-closes-done steps.TellDisconnected p payload h was =
-    closes-asked (at_step steps.DestroyConnection p)
-closes-done steps.DestroyConnection p payload h was =
-    closes-left p h (link_at p.intf p.cport h) (was refl)
-
-pub closes-answered : (o : Option (List ℕ)) (p : Purpose) {h : Host}
-    → (p.step ≡ steps.DestroyConnection → (l : Link) → link_at p.intf p.cport h ≡ Some l
-    → IsClosing l.connection h) → TurnCloses h (step_answered o p h)
-closes-answered None p {h} was = closes-fails p.step p h
-closes-answered (Some payload) p {h} was = by (is_reply p.step payload)
-  where
-    by : (t : Bool) → TurnCloses h (cond t (step_done p.step p payload h)
-        (failed_turn (step_fails p.step p h)))
-    by true = closes-done p.step p payload h was
-    by false = closes-fails p.step p h
+pub fewer-unsent : (p : Purpose) (h : Host) → ClosesFewer h (unsent p h).host
+fewer-unsent p h = over-unsent p h (record {
+  says = λ g t. ClosesFewer g t.host;
+  ends = λ x g last. end-fewer p x g last;
+  over = λ x g t finds why s n y. change-fewer x g finds (none-closed p x g why) n (s n y);
+})

@@ -41,10 +41,7 @@ noticed_host e h = h
 
 pub same-links : (e : HostEvent) (h : Host) → (noticed_host e h).links ≡ h.links
 same-links (HostEvent.Inserted i) h = refl
-same-links (HostEvent.Removed i) h = refl
-same-links (HostEvent.Connect i c) h = refl
-same-links (HostEvent.Disconnect i c) h = refl
-same-links (HostEvent.Ended n how) h = refl
+same-links e h = refl
 
 -- what the application processor does at what it takes notice of
 pub turn-fits : (m : Moment) (b : Bus) (e : HostEvent) (h : Host) → InsertsAbsent m → IsCaused m e h

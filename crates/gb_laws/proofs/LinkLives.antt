@@ -75,7 +75,7 @@ alive-kept m a x links h = by-bus (λ b. AreAlive b.connections (changed m a x).
         (from-waiting (Some (n, q.purpose.step)) q.purpose a.state.host) h)
     by (acts_failed q rest is quiet) =
         alive-from a.state.bus.connections a.state.host (unsent q.purpose a.state.host).host
-        (from-unsent q.purpose.step q.purpose a.state.host) h
+        (from-unsent q.purpose a.state.host) h
     by (serves k kind payload none) = served (host-served k kind payload)
       where
         served : ServedHost a.state.host (host_serves k kind payload a.state.host)

@@ -76,31 +76,7 @@ module _ (m : Moment) (one : IsMoment m.event) (start : LinkedTo m.told m.before
   marks-kept (event.Deliver to) is at =
       marks-delivered m one start.0 start.1 start.2 (λ of. subst IsOfSvc is of) to is
   marks-kept (event.Settle most) is at = absurd at
-  marks-kept (event.Connect i c) is at =
-      still (event.Connect i c) is (λ x. x) refl (λ k e. absurd cc)
-  marks-kept (event.Disconnect i c) is at =
-      still (event.Disconnect i c) is (λ x. x) refl (λ k e. absurd cc)
-  marks-kept (event.Send name to kind payload timeout) is at =
-      still (event.Send name to kind payload timeout) is (λ x. x) refl (λ k e. absurd cc)
-  marks-kept (event.Bridge name i c what) is at =
-      still (event.Bridge name i c what) is (λ x. x) refl (λ k e. absurd cc)
-  marks-kept (event.Level i c line value) is at =
-      still (event.Level i c line value) is (λ x. x) refl (λ k e. absurd cc)
-  marks-kept (event.SerialState i c control) is at =
-      still (event.SerialState i c control) is (λ x. x) refl (λ k e. absurd cc)
-  marks-kept (event.Hold i c) is at = still (event.Hold i c) is (λ x. x) refl (λ k e. absurd cc)
-  marks-kept (event.Answer i c place) is at =
-      still (event.Answer i c place) is (λ x. x) refl (λ k e. absurd cc)
-  marks-kept (event.Cancel name) is at =
-      still (event.Cancel name) is (λ x. x) refl (λ k e. absurd cc)
-  marks-kept (event.Copy x y) is at = still (event.Copy x y) is (λ z. z) refl (λ k e. absurd cc)
-  marks-kept (event.Forget name) is at =
-      still (event.Forget name) is (λ x. x) refl (λ k e. absurd cc)
-  marks-kept (event.Tick millis) is at =
-      still (event.Tick millis) is (λ x. x) refl (λ k e. absurd cc)
-  marks-kept (event.Inject i c bytes) is at =
-      still (event.Inject i c bytes) is (λ x. x) refl (λ k e. absurd cc)
-  marks-kept event.Show is at = still event.Show is (λ x. x) refl (λ k e. absurd cc)
+  marks-kept e is at = still e is (λ x. x) refl (λ k f. absurd cc)
 
 -- ---- throughout
 

@@ -118,7 +118,7 @@ in-slice [] i x h = absurd cc
 in-slice (y ∷ ys) zero x h = inl (sym (same-some y x h))
 in-slice (y ∷ ys) (suc i) x h = inr (in-slice ys i x h)
 
-in-nth : {A : Type 0} (n : ℕ) (xs : List A) (x : A) → nth n xs ≡ Some x → IsIn x xs
+pub in-nth : {A : Type 0} (n : ℕ) (xs : List A) (x : A) → nth n xs ≡ Some x → IsIn x xs
 in-nth zero xs x h = absurd cc
 in-nth (suc i) xs x h = in-slice xs i x h
 

@@ -44,10 +44,7 @@ known-kept m absent a (turns e free untouched none cause) links h = λ x i.
         (λ f. inr (subst (λ n. IsNoticed m (HostEvent.Inserted n))
         (sym (ap (λ (y : Interface). y.intf) f)) c.1))
         (λ o. h x o) (in-ordered intf_before x (new_interface i) a.state.host.interfaces j)
-    by (HostEvent.Removed i) c x j = h x j
-    by (HostEvent.Connect i p) c x j = h x j
-    by (HostEvent.Disconnect i p) c x j = h x j
-    by (HostEvent.Ended n how) c x j = h x j
+    by e c x j = h x j
 known-kept m absent a (acts_asked q n rest is) links h =
     known-onto m a (changed m a (acts_asked q n rest is)) (λ x i. onto.kept x
     (subst (λ (g : Host). IsIn x g.interfaces) (awaited-host q.purpose n a.state) i)) h

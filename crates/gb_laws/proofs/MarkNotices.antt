@@ -98,9 +98,7 @@ told-svc e kind payload h f = by (far-reads (row_of svc_asks kind) payload)
         → Tells e (read_svc_ask kind payload)
     none (HostEvent.Inserted i) t = absurd cc
     none (HostEvent.Removed i) t = absurd cc
-    none (HostEvent.Connect i c) t = absurd t
-    none (HostEvent.Disconnect i c) t = absurd t
-    none (HostEvent.Ended n how) t = absurd t
+    none _ t = absurd t
 
     by : (read_svc_ask_of_svc kind payload ≡ read_svc_ask kind payload)
         ⊎ (read_svc_ask_of_svc kind payload ≡ Err PayloadFault.UnknownKind)

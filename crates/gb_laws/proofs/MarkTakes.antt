@@ -212,12 +212,7 @@ module _ (m : Moment) (basis : Basis (resting m.told m.before))
               ∙ ap (request_mark i) made ∙ ap (mark_in i) e) (other-notice None e (λ g. absurd cc))
           by_notice (Some (HostEvent.Inserted j)) e = inserted j e (j == i) refl
           by_notice (Some (HostEvent.Removed j)) e = removed j e (j == i) refl
-          by_notice (Some (HostEvent.Connect j c)) e =
-              none_taken (marked (HostEvent.Connect j c) e) (other-notice _ e (λ g. absurd cc))
-          by_notice (Some (HostEvent.Disconnect j c)) e =
-              none_taken (marked (HostEvent.Disconnect j c) e) (other-notice _ e (λ g. absurd cc))
-          by_notice (Some (HostEvent.Ended k how)) e =
-              none_taken (marked (HostEvent.Ended k how) e) (other-notice _ e (λ g. absurd cc))
+          by_notice (Some x) e = none_taken (marked x e) (other-notice _ e (λ g. absurd cc))
 
       by : (x : Item) → item ≡ x → Taken m i (marks i m.before.bus)
           (marks i (popped p.connection.number p.side m.before.bus))

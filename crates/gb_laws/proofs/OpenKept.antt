@@ -13,7 +13,7 @@ use Rattle.gb_laws.proofs.Opens.{Opens, opens-act, opens-fewer, opens-host, open
 use Rattle.gb_laws.proofs.Points.{Change, IsAsking, acts_asked, acts_failed, acts_left, acts_opened}
 use Rattle.gb_laws.proofs.Points.{acts_shut, acts_told, asking, asks, changed, gives_up, names}
 use Rattle.gb_laws.proofs.Points.{opening, serves, spends, turns}
-use Rattle.gb_laws.proofs.{Awaited.awaited-rest, ChangeBuses.bus_change, LinkCloseTurns.closes-turn}
+use Rattle.gb_laws.proofs.{Awaited.awaited-rest, ChangeBuses.bus_change, LinkCloses.closes-turn}
 use Rattle.gb_laws.proofs.{LinkFrom.Linked, LinkKept.LinkedAt, LinkSides.shut-after}
 use Rattle.gb_laws.proofs.{PointParts.Basis, PointParts.Point}
 
@@ -61,7 +61,7 @@ opens-kept m a (acts_asked q n rest is) basis links h =
     (opens-act (Act.Ask q) (λ k y. y) (λ k f. absurd cc)
     (subst (Opens a.state.bus a.state.host) is.0 h))))
 opens-kept m a (acts_failed q rest is quiet) basis links h =
-    opens-host (fewer-unsent q.purpose.step q.purpose a.state.host) (by is)
+    opens-host (fewer-unsent q.purpose a.state.host) (by is)
   where
     by : IsAsking q a.pending rest → Opens a.state.bus a.state.host rest
     by (asking e) = opens-act (Act.Ask q) (λ k y. y) (λ k f. absurd cc)

@@ -5,21 +5,20 @@ use Rattle.gb_base.specs.declared.peers.Link.{Link}
 use Rattle.gb_machine.specs.HostActs.{host_draft, made_for, with_awaited}
 use Rattle.gb_machine.specs.Sending.{Draft, requested, sent}
 use Rattle.gb_machine.specs.{Bus.next_number, Failures.unsent, Host.link_at, Host.with_link}
-use Rattle.gb_machine.specs.{HostServing.host_serves, HostTurns.host_turn}
-use Rattle.gb_machine.specs.{LineActions.spent, Runs.Moment, SequenceSteps.is_for_connection}
-use Rattle.gb_machine.specs.{Turns.Asking, Waits.awaits, Wiring.next_connection}
+use Rattle.gb_machine.specs.{HostServing.host_serves, HostTurns.host_turn, LineActions.spent}
+use Rattle.gb_machine.specs.{Runs.Moment, SequenceSteps.is_for_connection, Turns.Asking}
+use Rattle.gb_machine.specs.{Waits.awaits, Wiring.next_connection}
 use Rattle.gb_invariants.proofs.Awaiting.{none-some, same-some, sent-new}
 use Rattle.gb_invariants.proofs.Lists.{in-pushed}
-use Rattle.gb_laws.proofs.LinkActs.{awaited-host}
-use Rattle.gb_laws.proofs.Pairs.{IsAskedAs, PairsFit, asked-more, come-from, come-link}
-use Rattle.gb_laws.proofs.Pairs.{come-same, come-served, pairs-on}
+use Rattle.gb_laws.proofs.Pairs.{IsAskedAs, PairsFit, asked-more, come-from, come-link, come-same}
+use Rattle.gb_laws.proofs.Pairs.{come-served, pairs-on}
 use Rattle.gb_laws.proofs.Points.{Change, IsAskedBy, acts_asked, acts_failed, acts_opened, asks}
 use Rattle.gb_laws.proofs.Points.{awaited_by, by_far, by_host, changed, names, serves, spends}
 use Rattle.gb_laws.proofs.Points.{turns}
-use Rattle.gb_laws.proofs.{Awaited.awaited-rest, ChangeBuses.keeps-requests, LinkBuses.new_link}
-use Rattle.gb_laws.proofs.{LinkKept.LinkedAt, LinkSources.from-turn, LinkSources.from-unsent}
-use Rattle.gb_laws.proofs.{Links.ArePending, PairsAsked.pairs-asked, PairsAsked.pairs_then}
-use Rattle.gb_laws.proofs.{PointParts.Point, Remembering.RemembersAt}
+use Rattle.gb_laws.proofs.{Awaited.awaited-rest, ChangeBuses.keeps-requests, LinkActs.awaited-host}
+use Rattle.gb_laws.proofs.{LinkBuses.new_link, LinkKept.LinkedAt, LinkSources.from-turn}
+use Rattle.gb_laws.proofs.{LinkSources.from-unsent, Links.ArePending, PairsAsked.pairs-asked}
+use Rattle.gb_laws.proofs.{PairsAsked.pairs_then, PointParts.Point, Remembering.RemembersAt}
 
 -- ---- each single change
 
@@ -107,7 +106,7 @@ pairs-kept m a (acts_failed q rest is quiet) links r f =
     pairs-on a.state.bus a.state.bus a.state.host (unsent q.purpose a.state.host).host
     a.state.past.made_for a.asked a.asked (λ n x made. made) (omega arith)
     (come-from a.state.host (unsent q.purpose a.state.host).host
-    (from-unsent q.purpose.step q.purpose a.state.host)) f.asks f
+    (from-unsent q.purpose a.state.host)) f.asks f
 pairs-kept m a (serves k kind payload none) links r f =
     pairs-on a.state.bus a.state.bus a.state.host (host_serves k kind payload a.state.host).host
     a.state.past.made_for a.asked a.asked (λ n x made. made) (omega arith)

@@ -91,16 +91,7 @@ link-powerless n (l ∷ ls) p waits h s =
     none steps.TellDisconnecting h s = absurd cc
     none steps.TellDisconnected h s = absurd cc
     none steps.DestroyConnection h s = absurd cc
-    none steps.EnableVsys h s = h
-    none steps.EnableRefclk h s = h
-    none steps.EnableUnipro h s = h
-    none steps.Activate h s = h
-    none steps.GiveDevice h s = h
-    none steps.CreateRoute h s = h
-    none steps.CreateControl h s = h
-    none steps.AskVersion h s = h
-    none steps.AskSize h s = h
-    none steps.AskManifest h s = h
+    none _ h s = h
 
     one : (o : Option (ℕ × SequenceStep)) → l.awaits ≡ o
         → purpose_in n l.intf l.cport o ≡ Some p → ⊥

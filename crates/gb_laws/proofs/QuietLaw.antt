@@ -21,7 +21,7 @@ use Rattle.gb_laws.proofs.Points.{takes_held, turns, unwires}
 use Rattle.gb_laws.proofs.Quiet.{IsQuiet, SameView, off, quiet-still, view-same}
 use Rattle.gb_laws.proofs.QuietKept.{view-asked, view-far, view-plain, view-rest}
 use Rattle.gb_laws.proofs.QuietReplies.{view-answers, view-forgets, view-replied, view-side}
-use Rattle.gb_laws.proofs.QuietTurns.{quiet-awaited, quiet-failed, quiet-turned, turn-asks}
+use Rattle.gb_laws.proofs.QuietTurns.{quiet-awaited, quiet-failed, quiet-turned}
 use Rattle.gb_laws.proofs.{ChangeHosts.asks-kept, ChangeHosts.waits-kept}
 use Rattle.gb_laws.proofs.{EnumRequests.enumeration-reserved, LinkFrom.Linked, LinkKept.LinkedAt}
 use Rattle.gb_laws.proofs.{Links.ArePending, Loosening.held-at, Loosening.map-held-in}
@@ -126,8 +126,7 @@ module _ (m : Moment) (i : ℕ) (before : Basis (resting m.told m.before))
       basis (queues-still m a (unwires k free cut live) tt links) (λ n e. e) (λ n r made. made) refl
       (not-one a k true links live) refl refl) (same-waits a.state.host) refl (λ q j. j) h
   quiet-kept a (turns e free untouched none cause) basis links there h =
-      quiet-turned i a
-      basis (turn-asks m i e a basis links there untouched.1 h) refl refl refl refl refl refl h
+      quiet-turned m i e a basis links there untouched.1 refl refl refl refl refl refl h
   quiet-kept a (acts_shut k rest free is cause) basis links there h =
       quiet-still (view-side i a k side.Ap
       (with_connection k (λ c. record c { shut = true }) a.state.bus) basis

@@ -1,61 +1,53 @@
 -- What is said of an enumeration while a removal waits is kept by what the application processor
 -- does: its turns, what its sequences wait for, and where no identifier is left.
-use Rattle.std.proofs.Common.{List, None, Some, ap, inl, inr, subst, sym}
-use Rattle.std.proofs.Common.{ℕ, ⊎_elim, [], ◌∙◌, ◌≡◌}
-use Rattle.gb_base.specs.declared.steps.SequenceStep.{SequenceStep}
-use Rattle.gb_machine.specs.Host.{Host}
-use Rattle.gb_machine.specs.Turns.{Act, Asking, HostEvent, Turn}
-use Rattle.gb_machine.specs.{Failures.unsent, HostActs.with_awaited, HostTurns.host_turn}
+use Rattle.std.proofs.Common.{List, None, Some, ap, inl, inr, refl, subst, sym, true, ℕ, ⊎_elim, []}
+use Rattle.std.proofs.Common.{◌∙◌, ◌≡◌}
+use Rattle.gb_base.specs.declared.steps.{Purpose.Purpose, SequenceStep.SequenceStep}
+use Rattle.gb_machine.specs.Turns.{Act, Asking, HostEvent}
+use Rattle.gb_machine.specs.{Failures.unsent, Host.Host, HostActs.with_awaited, HostTurns.host_turn}
 use Rattle.gb_machine.specs.{LawsBus.is_awaited, Members.IsIn, Ports.level_of, Runs.Moment}
-use Rattle.gb_machine.specs.{State.State, Waits.awaited}
-use Rattle.gb_invariants.proofs.Awaiting.{none-some, not-both}
-use Rattle.gb_laws.proofs.Asked.{asks-connects, asks-disconnects, asks-ended, asks-inserted}
-use Rattle.gb_laws.proofs.Asked.{asks-removed, waits-unsent}
+use Rattle.gb_machine.specs.{State.State}
+use Rattle.gb_invariants.proofs.{Awaiting.none-some, Awaiting.not-both, HostChanges.IsAnswered}
+use Rattle.gb_laws.proofs.Asked.{asks-calm, turn-waits, waits-unsent}
 use Rattle.gb_laws.proofs.AskedWaits.{AsksIn, asks-more, is_power_step, no-asks}
 use Rattle.gb_laws.proofs.Points.{IsAsking, IsOver, asking, opening}
 use Rattle.gb_laws.proofs.Quiet.{IsCalm, IsQuiet, SameView, WaitsOn, calm-still, low-still}
 use Rattle.gb_laws.proofs.Quiet.{quiet-still, waits-still}
-use Rattle.gb_laws.proofs.{AskedSteps.TurnAsks, Awaited.awaited-rest, LinkActs.awaited-interface}
-use Rattle.gb_laws.proofs.{LinkKept.LinkedAt, PointParts.Basis, PointParts.Point}
-use Rattle.gb_laws.proofs.{QuietAwaited.none-over, QuietAwaited.waited-by, QuietKept.view-rest}
-use Rattle.gb_laws.proofs.{SvcThere.There}
+use Rattle.gb_laws.proofs.{Awaited.awaited-rest, LinkActs.awaited-interface, LinkKept.LinkedAt}
+use Rattle.gb_laws.proofs.{PointParts.Basis, PointParts.Point, QuietAwaited.none-over}
+use Rattle.gb_laws.proofs.{QuietAwaited.waited-by, QuietKept.view-rest, SvcThere.There}
 
 -- ---- turns
 
-pub turn-asks : (m : Moment) (i : ℕ) (e : HostEvent) (a : Point) → Basis a → LinkedAt a
-    → There a.state.bus → IsOver m e a.state.bus → IsQuiet i a
-    → TurnAsks i (IsCalm i a) a.state.host (host_turn e a.state.host)
-turn-asks m i (HostEvent.Inserted j) a basis links there over h =
-    asks-inserted i (IsCalm i a) j a.state.host
-turn-asks m i (HostEvent.Removed j) a basis links there over h =
-    asks-removed i (IsCalm i a) j a.state.host
-turn-asks m i (HostEvent.Connect j c) a basis links there over h =
-    asks-connects i (IsCalm i a) j c a.state.host
-turn-asks m i (HostEvent.Disconnect j c) a basis links there over h =
-    asks-disconnects i (IsCalm i a) j c a.state.host
-turn-asks m i (HostEvent.Ended n how) a basis links there over h =
-    asks-ended i (IsCalm i a) (awaited n a.state.host) how a.state.host (λ p e r bytes is at s.
-    let w = waited-by n a.state.host p links.host.links.waiting e s in
-    let waits = h.waits w.interface w.known (w.intf ∙ at) (n, p.step) w.awaits s in
-    let done = (over r bytes is).0 in (
-      none-over i n a basis links there done waits.last,
-      λ hot. not-both (is_awaited n a.state.bus) (waits.quiet hot).awaited done,
-    ))
+-- a step of the supervisory controller that was answered leaves nothing of the enumeration there
+answered-calm : (m : Moment) (i : ℕ) (e : HostEvent) (a : Point) → Basis a → LinkedAt a
+    → There a.state.bus → IsOver m e a.state.bus → IsQuiet i a → (p : Purpose)
+    → IsAnswered e a.state.host p → p.intf ≡ i → is_power_step p.step ≡ true → IsCalm i a
+answered-calm m i e a basis links there over h p r at s =
+    let w = waited-by r.number a.state.host p links.host.links.waiting r.awaited s in
+    let waits = h.waits w.interface w.known (w.intf ∙ at) (r.number, p.step) w.awaits s in
+    let done = ((subst (λ f. IsOver m f a.state.bus) r.is over) r.result r.payload refl).0 in (
+      none-over i r.number a basis links there done waits.last,
+      λ hot. not-both (is_awaited r.number a.state.bus) (waits.quiet hot).awaited done,
+    )
 
 -- where the application processor takes notice of something
-pub quiet-turned : (i : ℕ) (a : Point) {b : Point} {t : Turn} → Basis a
-    → TurnAsks i (IsCalm i a) a.state.host t
+pub quiet-turned : (m : Moment) (i : ℕ) (e : HostEvent) (a : Point) {b : Point} → Basis a
+    → LinkedAt a → There a.state.bus → IsOver m e a.state.bus
     → b.state.bus ≡ a.state.bus → b.state.ports ≡ a.state.ports → b.hand ≡ a.hand
-    → b.asked ≡ a.asked → b.state.host ≡ t.host → b.pending ≡ t.acts → IsQuiet i a → IsQuiet i b
-quiet-turned i a {b} basis asks bus ports hand asked host pending h =
+    → b.asked ≡ a.asked → b.state.host ≡ (host_turn e a.state.host).host
+    → b.pending ≡ (host_turn e a.state.host).acts → IsQuiet i a → IsQuiet i b
+quiet-turned m i e a {b} basis links there over bus ports hand asked host pending h =
     let v = view-rest basis bus (ap (level_of i) ports) (λ x e. sym hand ∙ e) in record {
       low = low-still i a b v h.low;
-      waits = λ x j at w e s.
-          let was = asks.waits x (subst (λ (g : Host). IsIn x g.interfaces) host j) w e in
-          waits-still i w.0 a b v (h.waits was.was was.known (was.intf ∙ at) w (was.awaits ∙ e) s);
-      due = λ e q j at s. ⊎_elim (λ k. inl k) (λ c. inr (calm-still i a b v c))
-          (asks.asks q (subst (AsksIn q) pending j) at s);
-      made = λ q n e at s. waits-still i n a b v (h.made q n (sym asked ∙ e) at s);
+      waits = λ x j at w f s.
+          let was = turn-waits e a.state.host x
+          (subst (λ (g : Host). IsIn x g.interfaces) host j) w f in
+          waits-still i w.0 a b v (h.waits was.was was.known (was.intf ∙ at) w (was.awaits ∙ f) s);
+      due = λ f q j at s. ⊎_elim (λ k. inl k) (λ c. inr (calm-still i a b v c))
+          (asks-calm i (IsCalm i a) e a.state.host
+          (answered-calm m i e a basis links there over h) q (subst (AsksIn q) pending j) at s);
+      made = λ q n f at s. waits-still i n a b v (h.made q n (sym asked ∙ f) at s);
     }
 
 -- where a sequence waits for the request that was made
@@ -87,7 +79,7 @@ pub quiet-failed : (i : ℕ) (a : Point) {b : Point} (q : Asking) (rest : List A
 quiet-failed i a q rest basis is state hand asked pending h =
     quiet-still (view-rest basis (ap (λ (t : State). t.bus) state)
     (ap (λ (t : State). level_of i t.ports) state) (λ x e. sym hand ∙ e))
-    (λ x j w e. waits-unsent i (IsCalm i a) q.purpose a.state.host x
+    (λ x j w e. waits-unsent q.purpose a.state.host x
     (subst (λ (t : State). IsIn x t.host.interfaces) state j) w e)
     asked (λ r j. by is r (subst (AsksIn r) pending j)) h
   where

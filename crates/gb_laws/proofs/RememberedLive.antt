@@ -5,35 +5,31 @@ use Rattle.std.proofs.Common.{length, length-append, refl, subst, sym, true, ℕ
 use Rattle.std.proofs.Common.{◌+◌, ◌<◌, ◌∙◌, ◌∷◌, ◌≡◌, ◌≤◌, ◌⊎◌}
 use Rattle.std.specs.Prelude.{is_some}
 use Rattle.gb_base.specs.declared.entry.Entry.{Entry}
-use Rattle.gb_base.specs.declared.outcome.Outcome.{Outcome}
-use Rattle.gb_base.specs.declared.outcome.Outcome.TheVariants as outcome
 use Rattle.gb_base.specs.declared.peers.Link.{Link}
-use Rattle.gb_base.specs.declared.steps.Purpose.{Purpose}
 use Rattle.gb_machine.specs.Bus.{Bus, Request, connection_of}
 use Rattle.gb_machine.specs.Host.{Host, is_link, link_at}
 use Rattle.gb_machine.specs.Runs.{IsMoment, Moment, after, told_at}
 use Rattle.gb_machine.specs.Turns.{Act, Asking, HostEvent}
-use Rattle.gb_machine.specs.Waits.{awaited, awaits, awaits_nothing}
-use Rattle.gb_machine.specs.{Failures.step_fails, HostActs.made_for, HostActs.with_awaited}
-use Rattle.gb_machine.specs.{HostTurns.ended_for, HostTurns.host_turn}
+use Rattle.gb_machine.specs.{HostActs.made_for, HostActs.with_awaited, HostTurns.host_turn}
 use Rattle.gb_machine.specs.{LawsHotPlug.RememberedWhileLive, Members.IsIn, Sending.requested}
-use Rattle.gb_machine.specs.{SequenceSteps.is_for_connection, Sequences.payload_in}
-use Rattle.gb_machine.specs.{Sequences.step_answered, State.State, Wiring.next_connection}
+use Rattle.gb_machine.specs.{SequenceSteps.is_for_connection, State.State, Waits.awaits}
+use Rattle.gb_machine.specs.{Wiring.next_connection}
 use Rattle.gb_invariants.proofs.Lists.{each-from, found-in, in-front, in-pushed}
 use Rattle.gb_invariants.proofs.{Awaiting.none-some, Awaiting.same-some, Numbers.found-by_number}
 use Rattle.gb_invariants.specs.Facts.{NumbersRise}
-use Rattle.gb_laws.proofs.LinkActs.{awaited-host, awaits-fits, none-leaves}
 use Rattle.gb_laws.proofs.LinkKept.{InsertsAbsent, LinkedAt, same-links, turn-fits}
+use Rattle.gb_laws.proofs.LinkLeaves.{WhyLeft, closed, removed, why-left}
 use Rattle.gb_laws.proofs.LinkRuns.{LinkedTo, linked-over, linked-throughout, start-absent}
-use Rattle.gb_laws.proofs.Links.{ArePending, IsFollowed, leaves, stays}
+use Rattle.gb_laws.proofs.Links.{ArePending, HostFits, IsFollowed, leaves, stays}
 use Rattle.gb_laws.proofs.PointParts.{Basis, IsCaused, Point}
 use Rattle.gb_laws.proofs.Points.{Change, IsAskedBy, IsOver, Law, acts_asked, acts_opened, asks}
 use Rattle.gb_laws.proofs.Points.{awaited_by, by_far, by_host, changed, names, turns}
 use Rattle.gb_laws.proofs.Remembering.{RemembersAt, RemembersTo, remembers-first, remembers-kept}
 use Rattle.gb_laws.proofs.Remembering.{remembers-over}
 use Rattle.gb_laws.proofs.Runs.{HoldsAtMoments, HoldsByMoments, at_each, throughout}
-use Rattle.gb_laws.proofs.{Awaited.awaited-rest, ChangeHosts.stay-kept, LinkBuses.new_link}
-use Rattle.gb_laws.proofs.{LinkFrom.Linked, LinkHosts.Stay, LinkHosts.same-link, LinkLaw.link_law}
+use Rattle.gb_laws.proofs.{Awaited.awaited-rest, ChangeHosts.stay-kept, LinkActs.awaited-host}
+use Rattle.gb_laws.proofs.{LinkActs.awaits-fits, LinkBuses.new_link, LinkFrom.Linked}
+use Rattle.gb_laws.proofs.{LinkHosts.Stay, LinkHosts.same-link, LinkLaw.link_law}
 use Rattle.gb_laws.proofs.{LinkLives.AreAlive, LinkLives.alive-kept, Steps.over-step}
 
 -- the application processor knows connection k
@@ -58,28 +54,15 @@ linked-stay k stay x =
     record { link = y.0; known = y.1; number = y.2.connection ∙ x.number }
 
 -- but where a turn gives them up, and no request was made since
-stays-known : (m : Moment) (e : HostEvent) (b : Bus) (h : Host) (k : ℕ) → IsOver m e b
-    → IsIn (Act.Leave k) (host_turn e h).acts → b.requests ≡ m.before.bus.requests
-stays-known m (HostEvent.Inserted i) b h k over j = over
-stays-known m (HostEvent.Removed i) b h k over j = over
-stays-known m (HostEvent.Connect i c) b h k over j = over
-stays-known m (HostEvent.Disconnect i c) b h k over j = over
-stays-known m (HostEvent.Ended n how) b h k over j = by how over j
+stays-known : (m : Moment) (e : HostEvent) (b : Bus) (h : Host) (k : ℕ) → HostFits b h
+    → IsOver m e b → IsIn (Act.Leave k) (host_turn e h).acts
+    → b.requests ≡ m.before.bus.requests
+stays-known m e b h k fits over j = by (why-left b e h k fits j)
   where
-    failed : (how : Outcome) (o : Option Purpose) → payload_in how ≡ None
-        → IsIn (Act.Leave k) (ended_for o how h).acts → ⊥
-    failed how None none i = absurd i
-    failed how (Some p) none i = none-leaves k (step_fails p.step p (awaits_nothing p h)).told
-        (subst (λ o. IsIn (Act.Leave k) (step_answered o p (awaits_nothing p h)).acts) none i)
-
-    by : (how : Outcome) → IsOver m (HostEvent.Ended n how) b
-        → IsIn (Act.Leave k) (host_turn (HostEvent.Ended n how) h).acts
-        → b.requests ≡ m.before.bus.requests
-    by (outcome.Answered result payload) over i = (over result payload refl).1
-    by outcome.Cancelled over i = absurd (failed outcome.Cancelled (awaited n h) refl i)
-    by outcome.Timeout over i = absurd (failed outcome.Timeout (awaited n h) refl i)
-    by outcome.Disconnected over i = absurd (failed outcome.Disconnected (awaited n h) refl i)
-    by outcome.Sent over i = absurd (failed outcome.Sent (awaited n h) refl i)
+    by : WhyLeft h e k → b.requests ≡ m.before.bus.requests
+    by (removed i l is known at on) = subst (λ f. IsOver m f b) is over
+    by (closed n result payload l is known waits on) =
+        ((subst (λ f. IsOver m f b) is over) result payload refl).1
 
 -- where a request is new, a turn keeps its connection known
 linked-turned : (m : Moment) → InsertsAbsent m → (e : HostEvent) {b : Bus} {h : Host} (n k : ℕ)
@@ -94,7 +77,7 @@ linked-turned m absent e {b} {h} n k links cause over new made x =
     by (stays l i same) =
         record { link = l; known = i; number = same.connection ∙ x.number }
     by (leaves i) =
-        let same = ap length (stays-known m e b h x.link.connection over i) in
+        let same = ap length (stays-known m e b h x.link.connection links.host over i) in
         absurd (omega (arith, new, made, same))
 
 -- ---- each single change

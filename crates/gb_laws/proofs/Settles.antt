@@ -153,27 +153,7 @@ module _ (all : HoldsByMoments (λ told s. IsSettleable s)) where
   one-does (event.Settle most) s valid r =
       let d = settle-does most 0 s r in
       record { moments = d.moments; state = d.state; happens = d.happens }
-  one-does event.Boot s valid r = itself event.Boot valid
-  one-does (event.Insert i kind) s valid r = itself (event.Insert i kind) valid
-  one-does (event.InsertRaw i manifest) s valid r = itself (event.InsertRaw i manifest) valid
-  one-does (event.Pull i) s valid r = itself (event.Pull i) valid
-  one-does (event.Connect i c) s valid r = itself (event.Connect i c) valid
-  one-does (event.Disconnect i c) s valid r = itself (event.Disconnect i c) valid
-  one-does (event.Send name to kind payload timeout) s valid r =
-      itself (event.Send name to kind payload timeout) valid
-  one-does (event.Bridge name i c what) s valid r = itself (event.Bridge name i c what) valid
-  one-does (event.Level i c line value) s valid r = itself (event.Level i c line value) valid
-  one-does (event.SerialState i c control) s valid r =
-      itself (event.SerialState i c control) valid
-  one-does (event.Deliver to) s valid r = itself (event.Deliver to) valid
-  one-does (event.Hold i c) s valid r = itself (event.Hold i c) valid
-  one-does (event.Answer i c place) s valid r = itself (event.Answer i c place) valid
-  one-does (event.Cancel name) s valid r = itself (event.Cancel name) valid
-  one-does (event.Copy x y) s valid r = itself (event.Copy x y) valid
-  one-does (event.Forget name) s valid r = itself (event.Forget name) valid
-  one-does (event.Tick millis) s valid r = itself (event.Tick millis) valid
-  one-does (event.Inject i c bytes) s valid r = itself (event.Inject i c bytes) valid
-  one-does event.Show s valid r = itself event.Show valid
+  one-does e s valid r = itself e valid
 
   run-does : (es : List Event) {s : State} → AreValid es → Reached s
       → DoesAs (unsettled s es) s (last_state s (trace_from s es)) (told_in (trace_from s es))

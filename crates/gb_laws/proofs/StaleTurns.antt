@@ -1,35 +1,35 @@
 -- While a request waits for a connection that is known no more, the power level of its interface is
 -- at most 1: where the application processor takes notice of something.
-use Rattle.std.proofs.Common.{Bool, List, None, Option, Some, ap, arith, false, inl, inr, refl}
-use Rattle.std.proofs.Common.{subst, sym, true, ℕ, ⊎_elim, [], ◌∙◌, ◌≡◌, ◌≤◌, ◌⊎◌}
-use Rattle.std.specs.List.{find}
-use Rattle.std.specs.Prelude.{not, ◌==◌}
-use Rattle.gb_base.specs.declared.end.Side.TheVariants as side
-use Rattle.gb_base.specs.declared.outcome.Outcome.{Outcome}
-use Rattle.gb_base.specs.declared.outcome.Outcome.TheVariants as outcome
+use Rattle.std.proofs.Common.{Bool, None, Option, Some, ap, arith, false, inl, inr, refl, subst}
+use Rattle.std.proofs.Common.{sym, true, ℕ, ⊎_elim, [], ◌∙◌, ◌≡◌, ◌≤◌, ◌⊎◌}
+use Rattle.std.specs.{List.find, Prelude.not, Prelude.◌==◌}
 use Rattle.gb_base.specs.declared.peers.{Interface.Interface, Link.Link}
 use Rattle.gb_base.specs.declared.steps.Purpose.{Purpose}
+use Rattle.gb_base.specs.declared.end.Side.TheVariants as side
 use Rattle.gb_base.specs.declared.steps.SequenceStep.TheVariants as steps
-use Rattle.gb_machine.specs.{Bus.Ask, Bus.request_of, Host.is_intf, HostTurns.host_turn}
+use Rattle.gb_machine.specs.{Bus.Ask, Bus.request_of, Host.Host, Host.is_intf, HostTurns.host_turn}
 use Rattle.gb_machine.specs.{HostTurns.without_interface, Members.IsIn, Ports.level_of, Runs.Moment}
 use Rattle.gb_machine.specs.{SequenceSteps.asks_control, SequenceSteps.is_enumeration, State.State}
-use Rattle.gb_machine.specs.{SvcQueues.svc_items, Turns.Asking, Turns.HostEvent, Waits.awaited}
+use Rattle.gb_machine.specs.{SvcQueues.svc_items, Turns.HostEvent}
 use Rattle.gb_invariants.proofs.Outcomes.{both-true, is-same, same-number}
-use Rattle.gb_invariants.proofs.{Awaiting.not-both, Found.find-none, Lists.found-in}
-use Rattle.gb_invariants.proofs.{Lists.in-without}
-use Rattle.gb_laws.proofs.Asked.{asks-connects, asks-disconnects, asks-ended, asks-inserted}
-use Rattle.gb_laws.proofs.Asked.{asks-removed}
+use Rattle.gb_invariants.proofs.{Awaiting.not-both, Found.find-none, HostChanges.IsAnswered}
+use Rattle.gb_invariants.proofs.{Lists.found-in, Lists.in-without}
 use Rattle.gb_laws.proofs.LinkKept.{InsertsAbsent, same-links, turn-fits}
 use Rattle.gb_laws.proofs.LinkLeaves.{WhyLeft, closed, removed, why-left}
 use Rattle.gb_laws.proofs.Links.{IsFollowed, leaves, stays}
 use Rattle.gb_laws.proofs.PointParts.{IsCaused, IsNoticed, Point, resting}
 use Rattle.gb_laws.proofs.Stale.{HasNoStale, IsCool, StaleAt}
-use Rattle.gb_laws.proofs.{AskedSteps.TurnAsks, AskedWaits.AsksIn, AskedWaits.is_power_step}
-use Rattle.gb_laws.proofs.{AwaitsOwn.turn-waits, Enums.AreStarts, Enums.enums, LinkFrom.Linked}
+use Rattle.gb_laws.proofs.{Asked.asks-calm, Asked.turn-waits, AskedWaits.AsksIn}
+use Rattle.gb_laws.proofs.{AskedWaits.is_power_step, Enums.AreStarts, Enums.enums, LinkFrom.Linked}
 use Rattle.gb_laws.proofs.{LinkLists.one-link, MarkNotices.removal-handled, Points.IsOver}
 use Rattle.gb_laws.proofs.{Quiet.IsQuiet, Quiet.is_removed, QuietAwaited.waited-by}
 use Rattle.gb_laws.proofs.{QuietRuns.removal-waits, QuietRuns.waits-before, StaleBase.NoticedStill}
 use Rattle.gb_laws.proofs.{StaleBase.StaleBase, SvcOrder.none-earlier}
+
+-- no removal is handled where a request was answered
+answered-stays : {e : HostEvent} {h : Host} {p : Purpose} {i : ℕ} → IsAnswered e h p
+    → e ≡ HostEvent.Removed i → ⊥
+answered-stays r gone = let same = sym r.is ∙ gone in absurd cc
 
 module _ (m : Moment) (absent : InsertsAbsent m) (i : ℕ)
     (start : StaleBase m (resting m.told m.before))
@@ -53,7 +53,8 @@ module _ (m : Moment) (absent : InsertsAbsent m) (i : ℕ)
         ⊎_elim (λ o. h.waits was.was was.known (was.intf ∙ at) w (was.awaits ∙ g) p n o)
         (λ gone. absurd (absent-then x at (subst (λ y. IsIn x (host_turn y
         a.state.host).host.interfaces) gone k))) (fate n s);
-    due = λ g q j at p. asks e refl q (subst (AsksIn q) pending j) at p;
+    due = λ g q j at p. asks-calm i (HasNoStale i b) e a.state.host calm q
+        (subst (AsksIn q) pending j) at p;
   }
     where
       links : Linked a.state.bus a.state.host []
@@ -148,41 +149,20 @@ module _ (m : Moment) (absent : InsertsAbsent m) (i : ℕ)
           (in-without (is_intf i) a.state.host.interfaces x j).1
 
       -- nothing stale waits once a step was answered
-      calm : (n : ℕ) (how : Outcome) → e ≡ HostEvent.Ended n how → (p : Purpose)
-          → awaited n a.state.host ≡ Some p → (r : ℕ) (bytes : List ℕ)
-          → how ≡ outcome.Answered r bytes → p.intf ≡ i → is_power_step p.step ≡ true
-          → HasNoStale i b
-      calm n how is p g r bytes done at power j s = ⊎_elim (λ o.
-          let x = waited-by n a.state.host p links.host.links.waiting g power in
-          let own = f.own.waits x.interface x.known (n, p.step) x.awaits in
+      calm : (p : Purpose) → IsAnswered e a.state.host p → p.intf ≡ i
+          → is_power_step p.step ≡ true → HasNoStale i b
+      calm p r at power j s = ⊎_elim (λ o.
+          let x = waited-by r.number a.state.host p links.host.links.waiting r.awaited power in
+          let own = f.own.waits x.interface x.known (r.number, p.step) x.awaits in
           let svc = own.svc (unmarked (asks_control p.step)
           (both-true (is_enumeration p.step) (not (asks_control p.step)) power).1) in
-          let ended = (subst (λ y. IsOver m y a.state.bus) is over) r bytes done in
-          let less = h.waits x.interface x.known (x.intf ∙ at) (n, p.step) x.awaits power j o in
-          none-earlier a f.basis f.links f.there f.order n j own.request own.made svc.connection
-          svc.side own.twoway ended.0 (omega (arith, less)) o.waits)
-          (λ gone. ended-removed n how (sym is ∙ gone)) (fate j s)
+          let ended = (subst (λ y. IsOver m y a.state.bus) r.is over) r.result r.payload refl in
+          let less =
+          h.waits x.interface x.known (x.intf ∙ at) (r.number, p.step) x.awaits power j o in
+          none-earlier a f.basis f.links f.there f.order r.number j own.request own.made
+          svc.connection svc.side own.twoway ended.0 (omega (arith, less)) o.waits)
+          (λ gone. absurd (answered-stays r gone)) (fate j s)
         where
           unmarked : (t : Bool) → not t ≡ true → t ≡ false
           unmarked true g = absurd cc
           unmarked false g = refl
-
-          ended-removed : (n : ℕ) (how : Outcome) → HostEvent.Ended n how ≡ HostEvent.Removed i → ⊥
-          ended-removed n how e = absurd cc
-
-      asks : (y : HostEvent) → e ≡ y → (q : Asking)
-          → AsksIn q (host_turn e a.state.host).acts → q.purpose.intf ≡ i
-          → is_power_step q.purpose.step ≡ true
-          → (q.purpose.step ≡ steps.EnableVsys) ⊎ HasNoStale i b
-      asks y is q j at p = (by y is).asks q
-          (subst (λ z. AsksIn q (host_turn z a.state.host).acts) is j) at p
-        where
-          by : (y : HostEvent) → e ≡ y
-              → TurnAsks i (HasNoStale i b) a.state.host (host_turn y a.state.host)
-          by (HostEvent.Inserted k) g = asks-inserted i (HasNoStale i b) k a.state.host
-          by (HostEvent.Removed k) g = asks-removed i (HasNoStale i b) k a.state.host
-          by (HostEvent.Connect k c) g = asks-connects i (HasNoStale i b) k c a.state.host
-          by (HostEvent.Disconnect k c) g = asks-disconnects i (HasNoStale i b) k c a.state.host
-          by (HostEvent.Ended n how) g =
-              asks-ended i (HasNoStale i b) (awaited n a.state.host) how a.state.host
-              (λ p z r bytes done at power. calm n how g p z r bytes done at power)

@@ -215,7 +215,7 @@ told-links_kept m a (acts_failed q rest is quiet) basis links h = record {
       (each-weaker (TellsLink a.state.host) (Matches a.state.bus)
       (unsent q.purpose a.state.host).told
       (link-matches a.state.bus a.state.host a.pending links (λ k i. none k i is))
-      (unsent-told q.purpose.step q.purpose a.state.host));
+      (unsent-told q.purpose a.state.host));
   acts = left is;
 }
   where

@@ -133,6 +133,4 @@ turned-noticed s at p n r e {b} run notes f =
         → TurnsTo b s.host x
     by (HostEvent.Inserted i) t told = turned-inserted i (reached-absent s at p n r i run t) f
     by (HostEvent.Removed i) t told = turned-removed i f
-    by (HostEvent.Connect i c) t told = absurd told
-    by (HostEvent.Disconnect i c) t told = absurd told
-    by (HostEvent.Ended k how) t told = absurd told
+    by _ t told = absurd told

@@ -292,24 +292,8 @@ module _ (m : Moment) (one : IsMoment m.event) (start : WiredTo m.told m.before)
   fit-kept (event.Pull i) is at = fit-asking (event.Pull i) is
       (λ free. fit-pulls i m.told m.before start.links
       (asked-items (resting m.told m.before) start.links.0) start.wired)
-  fit-kept (event.Deliver to) is at = fit-still (event.Deliver to) is (λ x. x)
   fit-kept (event.Settle most) is at = absurd at
-  fit-kept (event.Connect i c) is at = fit-still (event.Connect i c) is (λ x. x)
-  fit-kept (event.Disconnect i c) is at = fit-still (event.Disconnect i c) is (λ x. x)
-  fit-kept (event.Send name to kind payload timeout) is at =
-      fit-still (event.Send name to kind payload timeout) is (λ x. x)
-  fit-kept (event.Bridge name i c what) is at = fit-still (event.Bridge name i c what) is (λ x. x)
-  fit-kept (event.Level i c line value) is at = fit-still (event.Level i c line value) is (λ x. x)
-  fit-kept (event.SerialState i c control) is at =
-      fit-still (event.SerialState i c control) is (λ x. x)
-  fit-kept (event.Hold i c) is at = fit-still (event.Hold i c) is (λ x. x)
-  fit-kept (event.Answer i c place) is at = fit-still (event.Answer i c place) is (λ x. x)
-  fit-kept (event.Cancel name) is at = fit-still (event.Cancel name) is (λ x. x)
-  fit-kept (event.Copy x y) is at = fit-still (event.Copy x y) is (λ z. z)
-  fit-kept (event.Forget name) is at = fit-still (event.Forget name) is (λ x. x)
-  fit-kept (event.Tick millis) is at = fit-still (event.Tick millis) is (λ x. x)
-  fit-kept (event.Inject i c bytes) is at = fit-still (event.Inject i c bytes) is (λ x. x)
-  fit-kept event.Show is at = fit-still event.Show is (λ x. x)
+  fit-kept e is at = fit-still e is (λ x. x)
 
 wired-first : WiredFit first_state
 wired-first = record {

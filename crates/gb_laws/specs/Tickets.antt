@@ -1,24 +1,18 @@
 -- What holds of the requests that lines of a script ask.
-use Rattle.std.specs.Prelude.{◌≡◌, ◌≢◌, ℕ, ◌==◌, Bool, true, false, if◌then◌else◌, Option}
+use Rattle.std.specs.Prelude.{◌≡◌, ◌≢◌, ℕ, ◌==◌, true, false, if◌then◌else◌, Option}
 use Rattle.std.specs.Prelude.{Some, None, List, [], ◌∷◌}
 use Rattle.gb_base.specs.declared.entry.Entry.{Entry}
 use Rattle.gb_base.specs.declared.entry.Entry.TheVariants as entry
 use Rattle.gb_base.specs.declared.event.Event.{Event}
-use Rattle.gb_base.specs.declared.event.Event.TheVariants as event
 use Rattle.gb_base.specs.declared.outcome.Outcome.{Outcome}
 use Rattle.gb_base.specs.declared.outcome.Outcome.TheVariants as outcome
 use Rattle.gb_formats.specs.ValidEvents.{IsValid}
+use Rattle.gb_machine.specs.AskingEvents.{asks}
 use Rattle.gb_machine.specs.Bus.{Bus, Request, next_number, or_else, outcome_of, request_of}
 use Rattle.gb_machine.specs.Events.{step}
 use Rattle.gb_machine.specs.Reached.{OfARun}
 use Rattle.gb_machine.specs.Refusals.{refusal}
 use Rattle.gb_machine.specs.State.{State}
-
--- An event asks a request of the application processor: it is a send or a bridge line.
-abbrev pub asks : Event → Bool
-asks (event.Send name to kind payload timeout) = true
-asks (event.Bridge name i c what) = true
-asks _ = false
 
 -- the number of the request whose making an entry tells
 abbrev pub asked_by : Entry → Option ℕ

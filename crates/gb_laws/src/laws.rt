@@ -11,6 +11,7 @@ ghost use Rattle.gb_laws.specs.OwnSide.{
 ghost use Rattle.gb_laws.specs.OwnWaits.{AwaitsOwnRequest, ServedLeavesNone};
 ghost use Rattle.gb_laws.specs.OwnWires.{WiredIsRemembered};
 ghost use Rattle.gb_laws.specs.Tickets.{EndsAsTold, LinesAsk, TwowayIsNeverSent, TwowayStays};
+ghost use Rattle.gb_machine.specs.Headline.{HeadlineHolds};
 ghost use Rattle.gb_machine.specs.Laws.{FactsOfRuns, LawsOfRuns};
 ghost use Rattle.gb_machine.specs.LawsBus.{
   EndpointsDiffer,
@@ -276,6 +277,13 @@ pub fn ends_as_told()
 /// earlier ones, and is open.
 pub fn lines_ask()
     ensures { LinesAsk }
+{}
+
+/// The four promises of every run, in one record: answers go by the number of their request and are
+/// its own responder's, each request ends at most once and by a cause that came, nothing is open on
+/// an interface once its removal is handled, and no CPort handles a message of another connection.
+pub fn headline()
+    ensures { HeadlineHolds }
 {}
 
 /// The laws of runs, together.

@@ -1,0 +1,240 @@
+-- What the application processor does at what it takes notice of, or where a request can't be made,
+-- as single changes of it and one end.
+use Rattle.std.proofs.Common.{Bool, List, None, Option, Some, false, map, true, ℕ, [], ◌++◌, ◌∷◌}
+use Rattle.std.proofs.Common.{◌≡◌, ◌⊎◌}
+use Rattle.gb_base.specs.declared.entry.{ConnState.ConnState, Entry.Entry}
+use Rattle.gb_base.specs.declared.outcome.Outcome.{Outcome}
+use Rattle.gb_base.specs.declared.peers.{Interface.Interface, Link.Link}
+use Rattle.gb_base.specs.declared.steps.{Purpose.Purpose, SequenceStep.SequenceStep}
+use Rattle.gb_base.specs.declared.entry.ConnState.TheVariants as state
+use Rattle.gb_base.specs.declared.entry.Entry.TheVariants as entry
+use Rattle.gb_base.specs.declared.entry.IntfStage.TheVariants as stage
+use Rattle.gb_base.specs.declared.outcome.Outcome.TheVariants as outcome
+use Rattle.gb_base.specs.declared.steps.SequenceStep.TheVariants as steps
+use Rattle.gb_machine.specs.Host.{Host, in_state, link_at, staged, with_interface, with_link}
+use Rattle.gb_machine.specs.Host.{with_new_interface, without_link}
+use Rattle.gb_machine.specs.HostTurns.{links_left, links_of, without_interface}
+use Rattle.gb_machine.specs.SequenceSteps.{at_step, is_enumeration, purpose}
+use Rattle.gb_machine.specs.Sequences.{ap_in, asking, enumerated, opens, target}
+use Rattle.gb_machine.specs.Turns.{Act, HostEvent, Turn, turn}
+use Rattle.gb_machine.specs.{Failures.link_told, Failures.told_of, Members.Each, Waits.awaited}
+use Rattle.gb_machine.specs.{Waits.awaits_nothing}
+
+-- ---- changes and ends
+
+-- A single change of the application processor.
+pub data HostChange : Type 0 where
+  -- something is told that is of no connection
+  tells : (e : Entry) → HostChange
+  -- an interface is inserted, or is gone with its connections
+  arrives : (i : ℕ) → HostChange
+  departs : (i : ℕ) → HostChange
+  -- a sequence waits for nothing
+  resumes : (p : Purpose) → HostChange
+  -- an interface changes, but for its stage and what it waits for, or it fails
+  updates : (i : ℕ) (f : Interface → Interface) → HostChange
+  fails : (i : ℕ) → HostChange
+  -- a connection opens or fails, where there is one
+  turns_to : (i c : ℕ) (to : ConnState) (o : Option Link) → HostChange
+  -- a connection is closing, or was closed and is given up, where there is one
+  closes : (i c : ℕ) (l : Link) → HostChange
+  leaves : (p : Purpose) (o : Option Link) → HostChange
+
+-- How a turn ends: with nothing more, with a request, with a connection that is made and its
+-- request, or with an interface that is enumerated.
+pub data HostEnd : Type 0 where
+  rests : HostEnd
+  asks : (k : ℕ) (p : Purpose) → HostEnd
+  makes : (ap protocol : ℕ) (p : Purpose) → HostEnd
+  enumerates : (p : Purpose) (bytes : List ℕ) → HostEnd
+
+-- the application processor behind a change
+abbrev pub host_after : HostChange → Host → Host
+host_after (tells e) h = h
+host_after (arrives i) h = with_new_interface i h
+host_after (departs i) h = without_interface i h
+host_after (resumes p) h = awaits_nothing p h
+host_after (updates i f) h = with_interface i f h
+host_after (fails i) h = with_interface i (staged stage.Failed) h
+host_after (turns_to i c to o) h = with_link i c (in_state to) h
+host_after (closes i c l) h = with_link i c (in_state state.Closing) h
+host_after (leaves p o) h = without_link p.intf p.cport h
+
+-- how a connection is given up, where there is one
+abbrev left_acts : Option Link → List Act
+left_acts None = []
+left_acts (Some l) = Act.Leave l.connection ∷ Act.Tell (link_told state.Closed l) ∷ []
+
+-- what it does at a change
+abbrev pub acts_by : HostChange → Host → List Act
+acts_by (tells e) h = Act.Tell e ∷ []
+acts_by (departs i) h = links_left (links_of i h)
+acts_by (turns_to i c to o) h = map Act.Tell (told_of to o)
+acts_by (closes i c l) h =
+    Act.Shut l.connection ∷ Act.Tell (link_told state.Closing l) ∷ []
+acts_by (leaves p o) h = left_acts o
+acts_by _ h = []
+
+-- an end as a turn
+abbrev pub end_of : HostEnd → Host → Turn
+end_of rests h = turn h []
+end_of (asks k p) h =
+    turn h (Act.Ask (asking k p (target (ap_in (link_at p.intf p.cport h)) p h)) ∷ [])
+end_of (makes a protocol p) h = opens a protocol p h
+end_of (enumerates p bytes) h =
+    turn (with_interface p.intf (enumerated bytes) h)
+    (Act.Tell (entry.Interface p.intf stage.Enumerated) ∷ [])
+
+-- ---- what a change finds
+
+-- an entry is of no connection
+abbrev pub IsOfNone : Entry → Type 0
+IsOfNone (entry.Interface i to) = Unit {0}
+IsOfNone (entry.Manifest i at why) = Unit {0}
+IsOfNone _ = ⊥
+
+-- What an update keeps.
+pub record Keeps (f : Interface → Interface) : Type 0 where
+  pub intf : (x : Interface) → (f x).intf ≡ x.intf
+  pub awaits : (x : Interface) → (f x).awaits ≡ x.awaits
+  pub stage : (x : Interface) → (f x).stage ≡ x.stage
+
+-- What a change finds where it is made.
+abbrev pub Finds : Host → HostChange → Type 0
+Finds h (tells e) = IsOfNone e
+Finds h (updates i f) = Keeps f
+Finds h (turns_to i c to o) =
+    (link_at i c h ≡ o) × ((to ≡ state.Open) ⊎ (to ≡ state.Failed))
+Finds h (closes i c l) = link_at i c h ≡ Some l
+Finds h (leaves p o) = link_at p.intf p.cport h ≡ o
+Finds h _ = Unit {0}
+
+-- ---- why a change is made
+
+-- a step asks for a new connection
+abbrev pub is_creating : SequenceStep → Bool
+is_creating steps.CreateControl = true
+is_creating steps.CreateConnection = true
+is_creating _ = false
+
+-- the step that follows one that is answered, None behind the last of a sequence
+abbrev pub step_behind : SequenceStep → Option SequenceStep
+step_behind steps.EnableVsys = Some steps.EnableRefclk
+step_behind steps.EnableRefclk = Some steps.EnableUnipro
+step_behind steps.EnableUnipro = Some steps.Activate
+step_behind steps.Activate = Some steps.GiveDevice
+step_behind steps.GiveDevice = Some steps.CreateRoute
+step_behind steps.CreateRoute = Some steps.CreateControl
+step_behind steps.CreateControl = Some steps.AskVersion
+step_behind steps.AskVersion = Some steps.AskSize
+step_behind steps.AskSize = Some steps.AskManifest
+step_behind steps.AskManifest = None
+step_behind steps.CreateConnection = Some steps.TellConnected
+step_behind steps.TellConnected = None
+step_behind steps.TellDisconnecting = Some steps.TellDisconnected
+step_behind steps.TellDisconnected = Some steps.DestroyConnection
+step_behind steps.DestroyConnection = None
+
+-- A request ended for which a sequence waited.
+pub record IsEnded (e : HostEvent) (before : Host) (p : Purpose) : Type 0 where
+  pub number : ℕ
+  pub how : Outcome
+  pub is : e ≡ HostEvent.Ended number how
+  pub awaited : awaited number before ≡ Some p
+
+-- It was answered.
+pub record IsAnswered (e : HostEvent) (before : Host) (p : Purpose) : Type 0 where
+  pub number : ℕ
+  pub result : ℕ
+  pub payload : List ℕ
+  pub is : e ≡ HostEvent.Ended number (outcome.Answered result payload)
+  pub awaited : awaited number before ≡ Some p
+
+-- Why a request is made: a sequence begins, or goes on with the next step.
+pub data IsAskedAt (e : HostEvent) (before : Host) (p : Purpose) : Type 0 where
+  to_enumerate : (i : ℕ) → e ≡ HostEvent.Inserted i → p ≡ purpose i 0 steps.EnableVsys
+      → IsAskedAt e before p
+  to_connect : (i c : ℕ) → e ≡ HostEvent.Connect i c → p ≡ purpose i c steps.CreateConnection
+      → IsAskedAt e before p
+  to_disconnect : (i c : ℕ) (l : Link) → e ≡ HostEvent.Disconnect i c
+      → link_at i c before ≡ Some l → p ≡ purpose i c steps.TellDisconnecting
+      → IsAskedAt e before p
+  to_go_on : (last : Purpose) (step : SequenceStep) → IsAnswered e before last
+      → step_behind last.step ≡ Some step → p ≡ at_step step last → IsAskedAt e before p
+
+-- What changes are made for: the application processor takes notice of something, or the request of
+-- a purpose can't be made.
+pub data Occasion : Type 0 where
+  at_event : (e : HostEvent) (before : Host) → Occasion
+  at_unsent : (p : Purpose) → Occasion
+
+-- something is noticed, and nothing has changed yet
+abbrev pub Notices : Occasion → HostEvent → Host → Type 0
+Notices (at_event e before) f h = (e ≡ f) × (h ≡ before)
+Notices (at_unsent p) f h = ⊥
+
+-- the last step of a sequence was answered, and the sequence waits for nothing
+abbrev pub Completes : Occasion → Purpose → SequenceStep → Host → Type 0
+Completes (at_event e before) p last h =
+    IsAnswered e before p × (p.step ≡ last) × (h ≡ awaits_nothing p before)
+Completes (at_unsent p) q last h = ⊥
+
+-- the enumeration of an interface fails
+abbrev pub FailsAt : Occasion → ℕ → Type 0
+FailsAt (at_event e before) i =
+    (p : Purpose) × IsEnded e before p × (is_enumeration p.step ≡ true) × (p.intf ≡ i)
+FailsAt (at_unsent p) i = (is_enumeration p.step ≡ true) × (p.intf ≡ i)
+
+-- a request is made
+abbrev pub AsksAt : Occasion → Purpose → Type 0
+AsksAt (at_event e before) p = IsAskedAt e before p
+AsksAt (at_unsent q) p = ⊥
+
+-- Why a change is made, where the application processor is so far.
+abbrev pub IsFor : Occasion → Host → HostChange → Type 0
+IsFor o h (arrives i) = Notices o (HostEvent.Inserted i) h
+IsFor o h (departs i) = Notices o (HostEvent.Removed i) h
+IsFor o h (fails i) = FailsAt o i
+IsFor o h (closes i c l) = Notices o (HostEvent.Disconnect i c) h
+IsFor o h (leaves p l) = Completes o p steps.DestroyConnection h
+IsFor o h _ = Unit {0}
+
+-- Why a turn ends so.
+abbrev pub IsLast : Occasion → Host → HostEnd → Type 0
+IsLast o h rests = Unit {0}
+IsLast o h (asks k p) = AsksAt o p × (is_creating p.step ≡ false)
+IsLast o h (makes a protocol p) = AsksAt o p
+IsLast o h (enumerates p bytes) = Completes o p steps.AskManifest h
+
+-- ---- laws of turns
+
+-- What is said of a turn from a state of the application processor on: of each end, and of each
+-- change in front of a turn.
+pub record TurnLaw (o : Occasion) : Type 1 where
+  pub says : Host → Turn → Type 0
+  pub ends : (x : HostEnd) (h : Host) → IsLast o h x → says h (end_of x h)
+  pub over : (x : HostChange) (h : Host) (t : Turn) → Finds h x → IsFor o h x
+      → says (host_after x h) t → says h (turn t.host (acts_by x h ++ t.acts))
+
+-- ---- what changes do
+
+-- an act asks for nothing
+abbrev pub AsksNone : Act → Type 0
+AsksNone (Act.Ask q) = ⊥
+AsksNone (Act.Open w q) = ⊥
+AsksNone _ = Unit {0}
+
+-- Changes ask for nothing: a request ends its turn.
+pub changes-ask : (x : HostChange) (h : Host) → Each AsksNone (acts_by x h)
+changes-ask (departs i) h = by (links_of i h)
+  where
+    by : (ls : List Link) → Each AsksNone (links_left ls)
+    by [] = tt
+    by (l ∷ ls) = (tt, (tt, (tt, by ls)))
+changes-ask (tells e) h = (tt, tt)
+changes-ask (turns_to i c to None) h = tt
+changes-ask (turns_to i c to (Some l)) h = (tt, tt)
+changes-ask (closes i c l) h = (tt, (tt, tt))
+changes-ask (leaves p None) h = tt
+changes-ask (leaves p (Some l)) h = (tt, (tt, tt))
+changes-ask _ h = tt

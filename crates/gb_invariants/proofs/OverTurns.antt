@@ -1,0 +1,362 @@
+-- A law of turns goes over what the application processor does at what it takes notice of, and
+-- where a request can't be made.
+use Rattle.std.proofs.Common.{Bool, List, None, Option, Some, ap, cond, false, inl, inr, length}
+use Rattle.std.proofs.Common.{map, refl, true, ℕ, [], ◌++◌, ◌∙◌, ◌∷◌, ◌≡◌, ◌⊎◌}
+use Rattle.std.specs.Prelude.{Err, Ok, Result, option_and_then, ◌==◌}
+use Rattle.gb_base.specs.declared.entry.{ConnState.ConnState, Entry.Entry}
+use Rattle.gb_base.specs.declared.outcome.Outcome.{Outcome}
+use Rattle.gb_base.specs.declared.peers.{Interface.Interface, Link.Link}
+use Rattle.gb_base.specs.declared.steps.{Purpose.Purpose, SequenceStep.SequenceStep}
+use Rattle.gb_base.specs.declared.entry.ConnState.TheVariants as state
+use Rattle.gb_base.specs.declared.entry.Entry.TheVariants as entry
+use Rattle.gb_base.specs.declared.entry.IntfStage.TheVariants as stage
+use Rattle.gb_base.specs.declared.outcome.Outcome.TheVariants as outcome
+use Rattle.gb_base.specs.declared.steps.SequenceStep.TheVariants as steps
+use Rattle.gb_formats.specs.Manifest.{CportView, Manifest, check_answer}
+use Rattle.gb_formats.specs.{ControlRecords.read_control_reply, ManifestRules.Refused}
+use Rattle.gb_machine.specs.Failures.{interface_fails, link_fails, step_fails, told_of, unsent}
+use Rattle.gb_machine.specs.Failures.{unsent_fails, without_device}
+use Rattle.gb_machine.specs.Host.{Host, cport_of, free_cport, free_device, in_state, interface_of}
+use Rattle.gb_machine.specs.Host.{link_at, staged, with_interface, with_link, with_new_interface}
+use Rattle.gb_machine.specs.Host.{without_link}
+use Rattle.gb_machine.specs.HostTurns.{connects, connects_on, disconnects, ended_for, host_turn}
+use Rattle.gb_machine.specs.HostTurns.{without_interface}
+use Rattle.gb_machine.specs.SequenceSteps.{at_step, is_enumeration, is_reply, purpose}
+use Rattle.gb_machine.specs.Sequences.{asked_on, begins_control, begins_device, link_left}
+use Rattle.gb_machine.specs.Sequences.{link_turn, manifest_checked, opened, opened_told, payload_in}
+use Rattle.gb_machine.specs.Sequences.{size_in, size_known, step_answered, step_asked, step_done}
+use Rattle.gb_machine.specs.Sequences.{way_of}
+use Rattle.gb_machine.specs.Turns.{Act, HostEvent, Turn, failed_turn, telling, turn}
+use Rattle.gb_machine.specs.Waits.{awaited, awaits_nothing}
+use Rattle.gb_invariants.proofs.HostChanges.{AsksAt, FailsAt, IsAnswered, IsAskedAt, IsOfNone}
+use Rattle.gb_invariants.proofs.HostChanges.{Keeps, Occasion, TurnLaw, arrives, asks, at_event}
+use Rattle.gb_invariants.proofs.HostChanges.{at_unsent, closes, departs, end_of, enumerates, fails}
+use Rattle.gb_invariants.proofs.HostChanges.{is_creating, leaves, makes, rests, resumes}
+use Rattle.gb_invariants.proofs.HostChanges.{step_behind, tells, to_connect, to_disconnect}
+use Rattle.gb_invariants.proofs.HostChanges.{to_enumerate, to_go_on, turns_to, updates}
+
+-- ---- what fails
+
+module _ (o : Occasion) (law : TurnLaw o) where
+  resting : (h : Host) → law.says h (turn h [])
+  resting h = law.ends rests h tt
+
+  told : (e : Entry) (h : Host) (t : Turn) → IsOfNone e → law.says h t → law.says h (telling e t)
+  told e h t plain s = law.over (tells e) h t plain tt s
+
+  interface-fails : (p : Purpose) (h : Host) → FailsAt o p.intf
+      → law.says h (failed_turn (interface_fails p h))
+  interface-fails p h why =
+      let g = with_interface p.intf (staged stage.Failed) h in
+      told (entry.Interface p.intf stage.Failed) h (turn g []) tt
+      (law.over (fails p.intf) h (turn g []) tt why (resting g))
+
+  -- a connection opens or fails in front of a turn
+  turned : (i c : ℕ) (to : ConnState) (l : Option Link) (h : Host) (t : Turn) → link_at i c h ≡ l
+      → (to ≡ state.Open) ⊎ (to ≡ state.Failed) → law.says (with_link i c (in_state to) h) t
+      → law.says h (turn t.host (map Act.Tell (told_of to l) ++ t.acts))
+  turned i c to l h t found good s = law.over (turns_to i c to l) h t (found, good) tt s
+
+  link-fails : (p : Purpose) (h : Host) → law.says h (failed_turn (link_fails p h))
+  link-fails p h = by (link_at p.intf p.cport h) refl
+    where
+      g : Host
+      g = with_link p.intf p.cport (in_state state.Failed) h
+
+      by : (l : Option Link) → link_at p.intf p.cport h ≡ l
+          → law.says h (turn g (map Act.Tell (told_of state.Failed l)))
+      by None e = turned p.intf p.cport state.Failed None h (turn g []) e (inr refl) (resting g)
+      by (Some l) e =
+          turned p.intf p.cport state.Failed (Some l) h (turn g []) e (inr refl) (resting g)
+
+  -- the Control connection fails, and then its interface
+  control-fails : (p : Purpose) (h : Host) → FailsAt o p.intf
+      → law.says h (failed_turn (step_fails steps.CreateControl p h))
+  control-fails p h why = by (link_at p.intf p.cport h) refl
+    where
+      g : Host
+      g = with_link p.intf p.cport (in_state state.Failed) h
+
+      by : (l : Option Link) → link_at p.intf p.cport h ≡ l → law.says h
+          (turn (interface_fails p g).host
+          (map Act.Tell (told_of state.Failed l ++ (interface_fails p g).told)))
+      by None e = turned p.intf p.cport state.Failed None h (failed_turn (interface_fails p g)) e
+          (inr refl) (interface-fails p g why)
+      by (Some l) e = turned p.intf p.cport state.Failed (Some l) h
+          (failed_turn (interface_fails p g)) e (inr refl) (interface-fails p g why)
+
+  step-fails : (step : SequenceStep) (p : Purpose) (h : Host)
+      → (is_enumeration step ≡ true → FailsAt o p.intf)
+      → law.says h (failed_turn (step_fails step p h))
+  step-fails steps.CreateControl p h why = control-fails p h (why refl)
+  step-fails steps.CreateConnection p h why = link-fails p h
+  step-fails steps.TellConnected p h why = link-fails p h
+  step-fails steps.TellDisconnecting p h why = link-fails p h
+  step-fails steps.TellDisconnected p h why = link-fails p h
+  step-fails steps.DestroyConnection p h why = link-fails p h
+  step-fails _ p h why = interface-fails p h (why refl)
+
+  -- an interface changes in front of a turn
+  updated : (i : ℕ) (f : Interface → Interface) (h : Host) (t : Turn) → Keeps f
+      → law.says (with_interface i f h) t → law.says h t
+  updated i f h t keeps s = law.over (updates i f) h t keeps tt s
+
+  -- a request is made, or fails where there is no connection for it
+  asked : (p : Purpose) (h : Host) → AsksAt o p → is_creating p.step ≡ false
+      → (is_enumeration p.step ≡ true → FailsAt o p.intf) → law.says h (step_asked p h)
+  asked p h why plain fail = by (way_of p h)
+    where
+      by : (k : Option ℕ) → law.says h (asked_on k p h)
+      by None = step-fails p.step p h fail
+      by (Some k) = law.ends (asks k p) h (why, plain)
+
+keeps-all : (f : Interface → Interface) → ((x : Interface) → (f x).intf ≡ x.intf)
+    → ((x : Interface) → (f x).awaits ≡ x.awaits) → ((x : Interface) → (f x).stage ≡ x.stage)
+    → Keeps f
+keeps-all f intf awaits stage = record { intf = intf; awaits = awaits; stage = stage }
+
+-- the step of a connection isn't one of an enumeration
+no-enumeration : {A : Type 0} → false ≡ true → A
+no-enumeration e = absurd cc
+
+-- A law goes over what is done where a request can't be made.
+pub over-unsent : (p : Purpose) (h : Host) (law : TurnLaw (at_unsent p))
+    → law.says h (failed_turn (unsent p h))
+over-unsent p h law = by p.step refl
+  where
+    fail : (g : Host) → is_enumeration p.step ≡ true
+        → law.says g (failed_turn (interface_fails p g))
+    fail g is = interface-fails (at_unsent p) law p g (is, refl)
+
+    by : (step : SequenceStep) → p.step ≡ step → law.says h (failed_turn (unsent_fails step p h))
+    by steps.CreateControl e = fail h (ap is_enumeration e)
+    by steps.CreateConnection e = resting (at_unsent p) law h
+    by steps.GiveDevice e = updated (at_unsent p) law p.intf without_device h
+        (failed_turn (interface_fails p (with_interface p.intf without_device h)))
+        (keeps-all without_device (λ x. refl) (λ x. refl) (λ x. refl))
+        (fail (with_interface p.intf without_device h) (ap is_enumeration e))
+    by step e = step-fails (at_unsent p) law step p h (λ is. (ap is_enumeration e ∙ is, refl))
+
+-- ---- a request ended
+
+-- only an answer brings a payload
+pub payload-answered : (how : Outcome) {payload : List ℕ} → payload_in how ≡ Some payload
+    → (result : ℕ) × (bytes : List ℕ) × (how ≡ outcome.Answered result bytes)
+payload-answered (outcome.Answered result bytes) e = (result, bytes, refl)
+payload-answered _ e = absurd cc
+
+module _ (e : HostEvent) (before : Host) (law : TurnLaw (at_event e before)) where
+  -- what follows a step that was answered
+  module _ (p : Purpose) (answered : IsAnswered e before p) where
+    abbrev here : Host
+    here = awaits_nothing p before
+
+    fail : (step : SequenceStep) → p.step ≡ step → is_enumeration step ≡ true
+        → FailsAt (at_event e before) p.intf
+    fail step at is = (
+      p,
+      record {
+        number = answered.number;
+        how = outcome.Answered answered.result answered.payload;
+        is = answered.is;
+        awaited = answered.awaited;
+      },
+      ap is_enumeration at ∙ is,
+      refl,
+    )
+
+    next : (step later : SequenceStep) → p.step ≡ step → step_behind step ≡ Some later
+        → IsAskedAt e before (at_step later p)
+    next step later at is = to_go_on p later answered (ap step_behind at ∙ is) refl
+
+    -- the next step is asked
+    goes : (step later : SequenceStep) (h : Host) → p.step ≡ step → step_behind step ≡ Some later
+        → is_creating later ≡ false → (is_enumeration later ≡ true → is_enumeration step ≡ true)
+        → law.says h (step_asked (at_step later p) h)
+    goes step later h at is plain same =
+        asked (at_event e before) law (at_step later p) h (next step later at is) plain
+        (λ s. fail step at (same s))
+
+    -- or its interface fails
+    interface-failed : (step later : SequenceStep) (h : Host) → p.step ≡ step
+        → is_enumeration step ≡ true
+        → law.says h (failed_turn (interface_fails (at_step later p) h))
+    interface-failed step later h at is =
+        interface-fails (at_event e before) law (at_step later p) h (fail step at is)
+
+    checked : (r : Result Manifest Refused) (bytes : List ℕ) → p.step ≡ steps.AskManifest
+        → law.says here (manifest_checked r p bytes here)
+    checked (Ok m) bytes at = law.ends (enumerates p bytes) here (answered, at, refl)
+    checked (Err why) bytes at =
+        told (at_event e before) law (entry.Manifest p.intf why.at why.reason) here
+        (failed_turn (interface_fails p here)) tt
+        (interface-fails (at_event e before) law p here (fail steps.AskManifest at refl))
+
+    done : (step : SequenceStep) (payload : List ℕ) → p.step ≡ step
+        → law.says here (step_done step p payload here)
+    done steps.EnableVsys payload at =
+        goes steps.EnableVsys steps.EnableRefclk here at refl refl (λ s. refl)
+    done steps.EnableRefclk payload at =
+        goes steps.EnableRefclk steps.EnableUnipro here at refl refl (λ s. refl)
+    done steps.EnableUnipro payload at =
+        goes steps.EnableUnipro steps.Activate here at refl refl (λ s. refl)
+    done steps.Activate payload at = by (free_device here)
+      where
+        by : (o : Option ℕ)
+            → law.says here (begins_device o (at_step steps.GiveDevice p) here)
+        by None = interface-failed steps.Activate steps.GiveDevice here at refl
+        by (Some d) =
+            let f = λ (x : Interface). record x { device = Some d } in
+            updated (at_event e before) law p.intf f here _
+            (keeps-all f (λ x. refl) (λ x. refl) (λ x. refl))
+            (goes steps.Activate steps.GiveDevice (with_interface p.intf f here) at refl refl
+            (λ s. refl))
+    done steps.GiveDevice payload at =
+        let f = λ (x : Interface). record x { has_device = true } in
+        updated (at_event e before) law p.intf f here _
+        (keeps-all f (λ x. refl) (λ x. refl) (λ x. refl))
+        (goes steps.GiveDevice steps.CreateRoute (with_interface p.intf f here) at refl refl
+        (λ s. refl))
+    done steps.CreateRoute payload at = by (free_cport here)
+      where
+        by : (o : Option ℕ)
+            → law.says here (begins_control o (at_step steps.CreateControl p) here)
+        by None = interface-failed steps.CreateRoute steps.CreateControl here at refl
+        by (Some a) = law.ends (makes a 0 (at_step steps.CreateControl p)) here
+            (next steps.CreateRoute steps.CreateControl at refl)
+    done steps.CreateControl payload at = by (link_at p.intf p.cport here) refl
+      where
+        asks-version : law.says (opened p here)
+            (step_asked (at_step steps.AskVersion p) (opened p here))
+        asks-version =
+            goes steps.CreateControl steps.AskVersion (opened p here) at refl refl (λ s. refl)
+
+        by : (o : Option Link) → link_at p.intf p.cport here ≡ o → law.says here
+            (opened_told o (step_asked (at_step steps.AskVersion p) (opened p here)))
+        by None f = turned (at_event e before) law p.intf p.cport state.Open None here _ f
+            (inl refl) asks-version
+        by (Some l) f = turned (at_event e before) law p.intf p.cport state.Open (Some l) here _ f
+            (inl refl) asks-version
+    done steps.AskVersion payload at =
+        goes steps.AskVersion steps.AskSize here at refl refl (λ s. refl)
+    done steps.AskSize payload at =
+        let f = λ (x : Interface). record x { size = size_in (read_control_reply 0x03 payload) } in
+        updated (at_event e before) law p.intf f here _
+        (keeps-all f (λ x. refl) (λ x. refl) (λ x. refl))
+        (goes steps.AskSize steps.AskManifest (with_interface p.intf f here) at refl refl
+        (λ s. refl))
+    done steps.AskManifest payload at =
+        by (length payload == size_known (interface_of p.intf here))
+      where
+        by : (t : Bool) → law.says here (cond t
+            (manifest_checked (check_answer payload) p payload here)
+            (failed_turn (interface_fails p here)))
+        by true = checked (check_answer payload) payload at
+        by false = interface-fails (at_event e before) law p here (fail steps.AskManifest at refl)
+    done steps.CreateConnection payload at =
+        goes steps.CreateConnection steps.TellConnected here at refl refl no-enumeration
+    done steps.TellConnected payload at = by (link_at p.intf p.cport here) refl
+      where
+        by : (o : Option Link) → link_at p.intf p.cport here ≡ o
+            → law.says here (link_turn state.Open o (opened p here))
+        by None f = turned (at_event e before) law p.intf p.cport state.Open None here
+            (turn (opened p here) []) f (inl refl)
+            (resting (at_event e before) law (opened p here))
+        by (Some l) f = turned (at_event e before) law p.intf p.cport state.Open (Some l) here
+            (turn (opened p here) []) f (inl refl)
+            (resting (at_event e before) law (opened p here))
+    done steps.TellDisconnecting payload at =
+        goes steps.TellDisconnecting steps.TellDisconnected here at refl refl no-enumeration
+    done steps.TellDisconnected payload at =
+        goes steps.TellDisconnected steps.DestroyConnection here at refl refl no-enumeration
+    done steps.DestroyConnection payload at = by (link_at p.intf p.cport here) refl
+      where
+        gone : Host
+        gone = without_link p.intf p.cport here
+
+        by : (o : Option Link) → link_at p.intf p.cport here ≡ o
+            → law.says here (link_left o gone)
+        by None f = law.over (leaves p None) here (turn gone []) f (answered, at, refl)
+            (resting (at_event e before) law gone)
+        by (Some l) f = law.over (leaves p (Some l)) here (turn gone []) f (answered, at, refl)
+            (resting (at_event e before) law gone)
+
+  ended : (n : ℕ) (how : Outcome) → e ≡ HostEvent.Ended n how → (o : Option Purpose)
+      → awaited n before ≡ o → law.says before (ended_for o how before)
+  ended n how is None found = resting (at_event e before) law before
+  ended n how is (Some p) found =
+      law.over (resumes p) before (step_answered (payload_in how) p (awaits_nothing p before)) tt tt
+      (by (payload_in how) refl)
+    where
+      fail : is_enumeration p.step ≡ true → FailsAt (at_event e before) p.intf
+      fail s = (p, record { number = n; how = how; is = is; awaited = found }, s, refl)
+
+      by : (o : Option (List ℕ)) → payload_in how ≡ o
+          → law.says (awaits_nothing p before) (step_answered o p (awaits_nothing p before))
+      by None f = step-fails (at_event e before) law p.step p (awaits_nothing p before) fail
+      by (Some payload) f = on (is_reply p.step payload)
+        where
+          on : (t : Bool) → law.says (awaits_nothing p before) (cond t
+              (step_done p.step p payload (awaits_nothing p before))
+              (failed_turn (step_fails p.step p (awaits_nothing p before))))
+          on true = let a = payload-answered how f in
+              done p (record {
+                number = n;
+                result = a.0;
+                payload = a.1;
+                is = is ∙ ap (HostEvent.Ended n) a.2;
+                awaited = found;
+              }) p.step payload refl
+          on false = step-fails (at_event e before) law p.step p (awaits_nothing p before) fail
+
+  -- ---- what else is noticed
+
+  connected : (i c : ℕ) → e ≡ HostEvent.Connect i c → (o : Option CportView)
+      → law.says before (connects o (purpose i c steps.CreateConnection) before)
+  connected i c is None = resting (at_event e before) law before
+  connected i c is (Some view) = by (free_cport before)
+    where
+      by : (o : Option ℕ) → law.says before
+          (connects_on o view.protocol (purpose i c steps.CreateConnection) before)
+      by None = resting (at_event e before) law before
+      by (Some a) = law.ends (makes a view.protocol (purpose i c steps.CreateConnection)) before
+          (to_connect i c is refl)
+
+  closed : (i c : ℕ) → e ≡ HostEvent.Disconnect i c → (o : Option Link) → link_at i c before ≡ o
+      → law.says before (disconnects o (purpose i c steps.TellDisconnecting) before)
+  closed i c is None found = resting (at_event e before) law before
+  closed i c is (Some l) found =
+      law.over (closes i c l) before _ found (is, refl)
+      (asked (at_event e before) law (purpose i c steps.TellDisconnecting)
+      (with_link i c (in_state state.Closing) before) (to_disconnect i c l is found refl) refl
+      no-enumeration)
+
+  inserted : (i : ℕ) → e ≡ HostEvent.Inserted i
+      → law.says before (host_turn (HostEvent.Inserted i) before)
+  inserted i is =
+      let p = purpose i 0 steps.EnableVsys in
+      let g = with_new_interface i before in
+      told (at_event e before) law (entry.Interface i stage.Enumerating) before
+      (end_of (asks 1 p) g) tt (law.over (arrives i) before (end_of (asks 1 p) g) tt (is, refl)
+      (law.ends (asks 1 p) g (to_enumerate i is refl, refl)))
+
+  removed : (i : ℕ) → e ≡ HostEvent.Removed i
+      → law.says before (host_turn (HostEvent.Removed i) before)
+  removed i is =
+      let g = without_interface i before in
+      law.over (departs i) before (turn g (Act.Tell (entry.Interface i stage.Removed) ∷ [])) tt
+      (is, refl) (told (at_event e before) law (entry.Interface i stage.Removed) g (turn g []) tt
+      (resting (at_event e before) law g))
+
+  turned-by : (f : HostEvent) → e ≡ f → law.says before (host_turn f before)
+  turned-by (HostEvent.Inserted i) is = inserted i is
+  turned-by (HostEvent.Removed i) is = removed i is
+  turned-by (HostEvent.Connect i c) is =
+      connected i c is (option_and_then (cport_of c) (interface_of i before))
+  turned-by (HostEvent.Disconnect i c) is = closed i c is (link_at i c before) refl
+  turned-by (HostEvent.Ended n how) is = ended n how is (awaited n before) refl
+
+-- A law goes over each turn.
+pub over-turn : (e : HostEvent) (h : Host) (law : TurnLaw (at_event e h))
+    → law.says h (host_turn e h)
+over-turn e h law = turned-by e h law e refl

@@ -1,0 +1,5 @@
+use Rattle.gb_laws.proofs.EveryRun.{headline-holds}
+use Rattle.gb_laws.proofs.laws.headline.Goals as goal
+
+pub returns : goal.returns
+returns c = headline-holds
