@@ -51,7 +51,7 @@ line_is e h = tested (entry_text 0 false e)
 pub dec : (n : ℕ) → is_ascii (decimal n) ≡ true
 dec n = front (decimal n) (10 ∷ []) (line_is (entry.Settled n) (λ text is. cc))
 
-byte : (b : ℕ) → is_ascii (byte_text b) ≡ true
+pub byte : (b : ℕ) → is_ascii (byte_text b) ≡ true
 byte b = front (byte_text b) (10 ∷ []) (line_is (entry.Ignored b) (λ text is. cc))
 
 right : (a b : Bool) → (a && b) ≡ true → b ≡ true
@@ -61,7 +61,7 @@ right false b h = absurd cc
 behind : (xs ys : List ℕ) → is_ascii (xs ++ ys) ≡ true → is_ascii ys ≡ true
 behind xs ys h = right (is_ascii xs) (is_ascii ys) (sym (cat xs ys) ∙ h)
 
-because : (why : Reason) → is_ascii (reason_text why) ≡ true
+pub because : (why : Reason) → is_ascii (reason_text why) ≡ true
 because why =
     let whole = front (entry_line 0 false (entry.Manifest 0 0 why)) (10 ∷ [])
     (line_is (entry.Manifest 0 0 why) (λ text is. cc)) in
@@ -90,7 +90,7 @@ line (Descriptor.Words id bs) = simp (cat, dec, string)
 line (Descriptor.Bundle id class) = simp (cat, dec, byte)
 line (Descriptor.Cport id bundle protocol) = simp (cat, dec, byte)
 
-end_of_line : (l : List ℕ) → is_ascii l ≡ true → IsAscii (ended l)
+pub end_of_line : (l : List ℕ) → is_ascii l ≡ true → IsAscii (ended l)
 end_of_line l h = seen (ended l) (cat l (10 ∷ []) ∙ rw h refl)
 
 descriptors : (ds : List Descriptor) → is_ascii (descriptors_text ds) ≡ true

@@ -55,7 +55,7 @@ impl Part for Requester {
 
 /// How a request stands, without the payload of its answer, and as `open` where it hasn't ended.
 #[derive(Clone, Copy)]
-struct Standing<'a>(Option<&'a Outcome>);
+pub struct Standing<'a>(pub Option<&'a Outcome>);
 
 impl<'a> Part for Standing<'a> {
     ghost use Rattle.std.specs.Prelude.{option_copied};

@@ -4,10 +4,10 @@ use Rattle.std.proofs.Common.{◌++◌, length, append_assoc, append-nil, length
 use Rattle.std.proofs.Common.{◌∙◌, subst, arith}
 use Rattle.std.proofs.lemmas.Bool.Decides.{nat_tests}
 use Rattle.std.specs.Io.KnownBytes.{Consumes, IsAtEnd}
-use Rattle.gb_formats.specs.Lines.{lines, without_cr}
+use Rattle.gb_formats.specs.Lines.{ended_lines, lines, without_cr}
 use Rattle.gb_script.proofs.Readings.{consumes-more}
 use Rattle.gb_script.proofs.TextLines.{ended-lf, ended-plain, last-line, lines-behind, one-line}
-use Rattle.gb_script.specs.Pieces.{HasNoLf, ended_lines}
+use Rattle.gb_script.specs.Pieces.{HasNoLf}
 use Rattle.gb_script.specs.Reading.{ReadsLine, to_come}
 use Rattle.gb_script.specs.Readers.{EndsAfter, Gives, Lends, Reads, StandsAt, StopsAfter, behind}
 use Rattle.gb_script.specs.declared.held.Held.{Held}

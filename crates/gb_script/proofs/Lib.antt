@@ -2,6 +2,7 @@ pub mod Numbers
 pub mod HexWords
 pub mod MadeSteps
 pub mod Operations
+pub mod PartReading
 pub mod Cuts
 pub mod Fronts
 pub mod Readings

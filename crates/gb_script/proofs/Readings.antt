@@ -10,8 +10,9 @@ use Rattle.std.proofs.lemmas.Bool.{eqb-true, false_from_ne_true}
 use Rattle.std.proofs.lemmas.List.{length-take, take-append-drop, take-take, take_more}
 use Rattle.std.proofs.lemmas.List.Folds.{list_any-append, list_any_at}
 use Rattle.memchr.specs.Find.{IsFirstByte, Nowhere, Passes, is_byte}
+use Rattle.gb_formats.specs.Lines.{is_lf}
 use Rattle.gb_script.specs.Fronts.{IsFront}
-use Rattle.gb_script.specs.Pieces.{EndsAt, Fills, HasNoLf, TellsLf, has_lf, is_lf}
+use Rattle.gb_script.specs.Pieces.{EndsAt, Fills, HasNoLf, TellsLf, has_lf}
 use Rattle.gb_script.specs.Reading.{IsBeyond, IsEnded, ReadsLine, Took, to_come}
 use Rattle.gb_script.specs.declared.held.Held.{Held}
 use Rattle.gb_script.specs.declared.held.LineStop.{LineStop}

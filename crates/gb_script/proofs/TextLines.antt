@@ -2,8 +2,8 @@
 use Rattle.std.proofs.Common.{◌≡◌, ℕ, ◌<◌, ◌||◌, Bool, true, false, cond, List, [], ◌∷◌, ◌++◌}
 use Rattle.std.proofs.Common.{length, append_assoc, append-nil, refl, sym, ap, ◌∙◌, arith}
 use Rattle.std.specs.List.{list_any}
-use Rattle.gb_formats.specs.Lines.{last_line, lines, lines_after, without_cr}
-use Rattle.gb_script.specs.Pieces.{HasNoLf, ended_lines, is_lf}
+use Rattle.gb_formats.specs.Lines.{ended_lines, is_lf, last_line, lines, lines_after, without_cr}
+use Rattle.gb_script.specs.Pieces.{HasNoLf}
 
 -- ---- where an LF stands
 

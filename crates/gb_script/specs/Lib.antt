@@ -1,7 +1,10 @@
+pub mod Captures
 pub mod Fronts
 pub mod Making
+pub mod PartLines
 pub mod Parts
 pub mod Pieces
+pub mod Plainness
 pub mod Readers
 pub mod Reading
 pub mod Tells

@@ -5,23 +5,15 @@ use Rattle.std.specs.Prelude.{if◌then◌else◌}
 use Rattle.std.specs.List.{list_any}
 use Rattle.std.specs.Io.KnownBytes.{Consumes, IsAtEnd, prepend_known}
 use Rattle.gb_base.specs.declared.errors.Failed.{Failed}
+use Rattle.gb_formats.specs.Lines.{is_lf}
 
--- the line end LF
-abbrev pub is_lf : ℕ → Bool
-is_lf b = b == 10
-
+-- an LF is among these bytes
 abbrev pub has_lf : List ℕ → Bool
 has_lf bytes = list_any is_lf bytes
 
 -- no LF is among these bytes
 abbrev pub HasNoLf : List ℕ → Type 0
 HasNoLf bytes = has_lf bytes ≡ false
-
--- the lines of a text that end with LF: all up to the last LF
-abbrev pub ended_lines : List ℕ → List ℕ
-ended_lines [] = []
-ended_lines (b ∷ bs) =
-    let later = ended_lines bs in if list_any is_lf (b ∷ bs) then b ∷ later else []
 
 -- so many bytes stand before the first LF
 pub record EndsAt (bytes : List ℕ) (n : ℕ) : Type 0 where

@@ -2,19 +2,15 @@
 use Rattle.std.specs.Prelude.{◌≡◌, ◌<◌, ◌≤◌, ◌+◌, ℕ, Bool, true, false, Option, Some, None, Result}
 use Rattle.std.specs.Prelude.{Ok, Err, List, [], ◌∷◌, ◌++◌, length, take}
 use Rattle.std.specs.Io.KnownBytes.{Consumes, IsAtEnd}
-use Rattle.gb_formats.specs.Lines.{lines}
+use Rattle.gb_formats.specs.Lines.{ended_lines, lines, longest_input}
 use Rattle.gb_script.specs.Fronts.{IsText, is_long_text}
-use Rattle.gb_script.specs.Pieces.{ended_lines, has_lf}
+use Rattle.gb_script.specs.Pieces.{has_lf}
 use Rattle.gb_script.specs.Reading.{to_come}
 use Rattle.gb_script.specs.declared.held.LineStop.{LineStop}
 use Rattle.gb_script.specs.declared.held.LineStop.TheVariants as stop
 use Rattle.gb_script.specs.declared.line_reader.LineReader.{LineReader}
 use Rattle.gb_script.specs.declared.line_reader.Progress.{Progress}
 use Rattle.gb_script.specs.declared.line_reader.Progress.TheVariants as progress
-
--- how many bytes may be read
-abbrev pub longest_input : ℕ
-longest_input = 1048576
 
 -- the lines that were handed out
 abbrev pub number_of : LineReader → ℕ

@@ -1,6 +1,6 @@
 //! What hex words mean: bytes, types and addresses.
 
-ghost use Rattle.std.specs.Prelude.{◌≡◌, IfOk};
+ghost use Rattle.std.specs.Prelude.{◌≡◌, ◌≤◌, ◌*◌, length, take, IfOk, IfSome, MatchOption};
 ghost use Rattle.gb_formats.specs.WordValues.{hex_digits, hex_word, type_word};
 
 use crate::words::is;
@@ -30,6 +30,26 @@ fn hex_digits(alloc: Global, word: &[u8]) -> Result<Option<Bytes>, OutOfMemory>
         Ok(bytes) => Ok(Some(Bytes::from_vec(bytes))),
         Err(FromHexError::OutOfMemory) => Err(OutOfMemory),
         Err(_) => Ok(None),
+    }
+}
+
+/// HEX, the bytes of which come to the front of `room`: how many they are.
+pub fn hex_into(word: &[u8], room: &mut [u8]) -> Option<usize>
+    requires { length word.now ≤ 2 * length room.old }
+    ensures bytes { MatchOption result (hex_word word.now ≡ None)
+        (λ count. hex_word word.now ≡ Some (take count room.new)) }
+    ensures within { IfSome result (λ count. 2 * count ≤ length word.now) }
+{
+    if is(word, "-") {
+        return Some(0);
+    }
+    if word.is_empty() {
+        return None;
+    }
+    let count = word.len() / 2;
+    match hex::decode_to_slice(word, &mut room[..count]) {
+        Ok(()) => Some(count),
+        Err(_) => None,
     }
 }
 

@@ -1,7 +1,8 @@
-//! Reads script lines.
+//! Reads lines of scripts and of captures.
 #![tactic(auto)]
 
 mod bridges;
+mod captures;
 mod deliveries;
 mod fault;
 mod forms;
@@ -19,6 +20,7 @@ mod ops;
 mod piece;
 mod plain;
 mod read;
+mod requesters;
 mod requests;
 mod rest;
 mod spi;
@@ -26,10 +28,13 @@ mod uart;
 mod values;
 mod words;
 
+pub use captures::captured_bytes;
 pub use fault::LineFault;
 pub use held::LineStop;
 pub use line_reader::{Line, LineReader};
 pub use lines::first_line;
 pub use made_script::{MADE_LINES, Maker, made};
 pub use read::event;
+pub use requesters::parts;
 pub use values::number_word;
+pub use words::is;

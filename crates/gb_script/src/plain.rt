@@ -1,9 +1,9 @@
 //! The bytes that a line may have.
 
 ghost use Rattle.std.specs.Prelude.{◌≡◌, ◌+◌, ◌≤◌, ◌<◌, true, false, Some, None, nat_le, length};
-ghost use Rattle.std.specs.Prelude.{MatchResult};
-ghost use Rattle.gb_formats.specs.Said.{Said};
-ghost use Rattle.gb_formats.specs.Script.{by_bytes, is_printable};
+ghost use Rattle.std.specs.Prelude.{OnOk};
+ghost use Rattle.gb_formats.specs.Script.{is_printable};
+ghost use Rattle.gb_script.specs.Plainness.{JudgesCapture, JudgesPart, JudgesScript};
 
 use gb_base::LineReason;
 
@@ -12,10 +12,10 @@ const LONGEST_LINE: usize = 8192;
 
 /// Tells why a line is bad by its length, or else by its first byte that isn't printable ASCII.
 pub fn plain(line: &[u8]) -> Result<(), LineReason>
-    ensures { MatchResult result
-        (λ _. (length line.now ≤ 8192)
-        × ((by_words : Said) → by_bytes line.now by_words ≡ by_words))
-        (λ why. (by_words : Said) → by_bytes line.now by_words ≡ Err why) }
+    ensures script { JudgesScript line.now result }
+    ensures capture { JudgesCapture line.now result }
+    ensures part { JudgesPart line.now result }
+    ensures short { OnOk result (length line.now ≤ 8192) }
 {
     if line.len() > LONGEST_LINE {
         return Err(LineReason::Long);

@@ -1,6 +1,6 @@
 //! Cuts a line into words.
 
-ghost use Rattle.std.specs.Prelude.{◌≡◌, ◌≢◌, ◌<◌, [], ◌∷◌, length, slice_index, IfSome};
+ghost use Rattle.std.specs.Prelude.{◌≡◌, ◌≢◌, ◌<◌, ◌≤◌, [], ◌∷◌, length, slice_index, IfSome};
 ghost use Rattle.std.specs.Prelude.{MatchOption};
 ghost use Rattle.std.specs.Str.{bytes_eq};
 ghost use Rattle.gb_formats.specs.Words.{words};
@@ -10,6 +10,7 @@ pub fn first_word(line: &[u8]) -> Option<(&[u8], &[u8])>
     ensures cut { MatchOption result (words line.now ≡ [])
         (λ f. words line.now ≡ f.0.now ∷ words f.1.now) }
     ensures shorter { IfSome result (λ f. length f.1.now < length line.now) }
+    ensures within { IfSome result (λ f. length f.0.now ≤ length line.now) }
 {
     for (i, b) in line.iter().enumerate() {
         if *b != b' ' {
@@ -25,6 +26,7 @@ fn cut(line: &[u8]) -> (&[u8], &[u8])
     requires begins { slice_index line.now 0 ≢ 32 }
     ensures cut { words line.now ≡ result.0.now ∷ words result.1.now }
     ensures shorter { length result.1.now < length line.now }
+    ensures within { length result.0.now ≤ length line.now }
 {
     for (i, b) in line.iter().enumerate() {
         if *b == b' ' {

@@ -39,8 +39,8 @@ impl Ladder {
         }
     }
 
-    /// A module is plugged at an interface, 2 to 31: its power is off, and it has no device id. What
-    /// was plugged there is gone.
+    /// A module is plugged at an interface, 2 to 31: its power is off, and it has no device id.
+    /// What was plugged there is gone.
     pub fn plug(&mut self, intf: u8)
         requires { IsInterface intf }
         ensures step { (ports : List machine.Port) → Stands self.old ports
