@@ -1,0 +1,9 @@
+pub mod Changing
+pub mod Counting
+pub mod Last
+pub mod Lawful
+pub mod Pairs
+pub mod Rules
+pub mod Splits
+pub mod Taking
+pub mod Unpaired

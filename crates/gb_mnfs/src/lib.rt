@@ -1,0 +1,26 @@
+//! Manifests as texts in sections, in the manner of Project Ara's manifesto.
+#![tactic(auto)]
+
+mod adding;
+mod compiling;
+mod decompiling;
+mod draft;
+mod escaped;
+mod fault;
+mod form;
+mod heading;
+mod laws;
+mod lines;
+mod number;
+mod parted;
+mod put;
+mod section;
+mod string;
+mod trimmed;
+
+pub use compiling::compile;
+pub use decompiling::decompile;
+pub use fault::MnfsFault;
+pub use gb_base::MnfsReason;
+pub use laws::texts_are_sources;
+pub use put::put_fault;
