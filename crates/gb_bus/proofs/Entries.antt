@@ -132,8 +132,8 @@ split {X} (e ∷ es) n x s l =
               (others-behind e.0 es (IsDistinct-head nat_eq e.0 (keys_of es) s));
         }
     by (inr ne) later =
-        let r = later (sym (ap (λ b. cond b (Some e.1) (lookup (nat_eq n) es)) (other-number n e.0 ne))
-        ∙ l) in
+        let r = later (sym (ap (λ b. cond b (Some e.1) (lookup (nat_eq n) es))
+        (other-number n e.0 ne)) ∙ l) in
         record {
           front = e ∷ r.front;
           back = r.back;

@@ -249,7 +249,8 @@ waiting-order numbers q (e ∷ es) distinct each =
         (with_end c.peer (length (seen q e.0 c).to_far) (waiting_in (all_seen q es)))
         (end-order rest c.peer (seen q e.0 c).to_far (waiting_in (all_seen q es)) h
         (alone c.peer (inr refl)))
-        (λ w. ⊎_elim (λ p. two-ends (end.Ap c.ap) c.peer each.0.two p.1) (alone (end.Ap c.ap) (inl refl)) w))
+        (λ w. ⊎_elim (λ p. two-ends (end.Ap c.ap) c.peer each.0.two p.1)
+        (alone (end.Ap c.ap) (inl refl)) w))
     by false unwired h =
         same-order rest (λ a. WaitsOn (seen q e.0 c) a ⊎ rest a)
         (ends (waiting_in (all_seen q es))) (λ a w. inr w)
@@ -281,7 +282,8 @@ counted-end q at n ws is h = by (eqb n 0)
         counted-more q (record { at = at; count = n }) ws
         (ap (λ (m : ℕ). record { at = at; count = m }) is) h
 
-counted-in : (q : Queues) (es : List (ℕ × code.Connection)) → IsCounted q (waiting_in (all_seen q es))
+counted-in : (q : Queues) (es : List (ℕ × code.Connection))
+    → IsCounted q (waiting_in (all_seen q es))
 counted-in q [] = tt
 counted-in q (e ∷ es) = by e.1.wired refl (counted-in q es)
   where

@@ -36,9 +36,9 @@ impl Bus {
     };
 
     /// Makes a connection of a CPort of the application processor with a module's CPort, and
-    /// answers its number. It isn't wired. Where a live connection has that CPort of the application
-    /// processor or that of the module, and after want of memory, nothing is said. Want of memory
-    /// also comes where no number is left.
+    /// answers its number. It isn't wired. Where a live connection has that CPort of the
+    /// application processor or that of the module, and after want of memory, nothing is said. Want
+    /// of memory also comes where no number is left.
     pub fn attach(
         &mut self,
         ap: u16,

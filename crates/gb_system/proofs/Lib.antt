@@ -42,6 +42,7 @@ pub mod Stirs
 pub mod SvcServes
 pub mod SvcSteps
 pub mod Takings
+pub mod TicketLines
 pub mod Ticks
 pub mod Turning
 pub mod Ways

@@ -71,7 +71,8 @@ goes-on s left done at waits =
 
 -- one more delivery
 pub settling-more : (x y : Parties) (s : State) (most count : ℕ) (at : End)
-    (so_far more : List Entry) (o : Option Refusal) → count < most → (m : IsSettling x s most count so_far)
+    (so_far more : List Entry) (o : Option Refusal) → count < most
+    → (m : IsSettling x s most count so_far)
     → first_waiting m.midway.state.bus ≡ Some at → ArrivesAs y m.midway.state at so_far more o
     → IsSettling y s most (count + 1) more
 settling-more x y s most count at so_far more o low m waits a =

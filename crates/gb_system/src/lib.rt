@@ -29,6 +29,7 @@ mod stirring;
 mod svc;
 mod system;
 mod taking;
+mod tickets;
 mod ticking;
 
 pub use system::System;

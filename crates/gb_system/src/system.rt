@@ -1,10 +1,12 @@
 //! The system: the parties, stepped event by event until no memory is found.
 
-ghost use Rattle.std.specs.Prelude.{◌≡◌, ◌+◌, ◌<◌, if◌then◌else◌, true, false};
+ghost use Rattle.std.specs.Prelude.{◌≡◌, ◌+◌, ◌<◌, ◌++◌, if◌then◌else◌, true, false};
 ghost use Rattle.std.specs.Prelude.{IfOk, OnOk, is_ok, is_err, length, option_copied, option_map};
+ghost use Rattle.std.specs.String.{string_bytes};
 ghost use Rattle.gb_bus.specs.Counting.{Tells};
 ghost use Rattle.gb_formats.specs.Results.{most_payload};
 ghost use Rattle.gb_formats.specs.ValidEvents.{IsValid};
+ghost use Rattle.gb_machine.specs.Shared.{tickets_of};
 ghost use Rattle.gb_machine.specs.State.{State, first_state};
 
 use crate::parties::Parties;
@@ -103,6 +105,17 @@ impl System {
     {
         self.parties.bus.about(n)?;
         Some(self.parties.bus.outcome(n))
+    }
+
+    /// Appends a line for each name, in order of requester and word, with the number of its request
+    /// and how that ended. After a refusal a front of these lines may stand in `out`. After want of
+    /// memory in a step nothing is said.
+    pub fn append_tickets(&self, out: &mut String) -> Result<(), OutOfMemory>
+        ensures { OnOk result ((s : State) → Stands self.now s
+            → string_bytes out.new ≡ string_bytes out.old ++ tickets_of s) }
+    {
+        self.parties.append_tickets(out)?;
+        Ok(())
     }
 
     /// A step found no memory: every later one answers that too.
