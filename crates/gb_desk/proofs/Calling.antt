@@ -22,7 +22,7 @@ use Rattle.gb_desk.specs.declared.slots.Slot.{Slot}
 use Rattle.gb_desk.specs.declared.stored.Stored.{Stored}
 use Rattle.gb_desk.specs.declared.view.View.{View}
 use Rattle.gb_formats.specs.ValidEvents.{IsValid}
-use Rattle.gb_laws.specs.Tickets.{asks}
+use Rattle.gb_machine.specs.AskingEvents.{asks}
 use Rattle.gb_system.specs.Stands.{Stands, taken_of}
 use Rattle.gb_system.specs.declared.system.System.{System}
 

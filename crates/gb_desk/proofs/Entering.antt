@@ -21,7 +21,8 @@ use Rattle.gb_desk.specs.declared.ticket.Ticket.{Ticket}
 use Rattle.gb_formats.specs.ValidEvents.{IsValid}
 use Rattle.gb_laws.proofs.Reached.{reached-step}
 use Rattle.gb_laws.proofs.TicketLines.{lines-ask}
-use Rattle.gb_laws.specs.Tickets.{Asks, asked_in, asks}
+use Rattle.gb_laws.specs.Tickets.{Asks, asked_in}
+use Rattle.gb_machine.specs.AskingEvents.{asks}
 use Rattle.gb_machine.proofs.Steps.{step-refused}
 use Rattle.gb_machine.specs.Bus.{next_number}
 use Rattle.gb_machine.specs.Events.{step}

@@ -23,7 +23,8 @@ use Rattle.gb_desk.specs.declared.stored.Stored.{Stored}
 use Rattle.gb_desk.specs.declared.ticket.Opened.{Opened}
 use Rattle.gb_desk.specs.declared.view.View.{View}
 use Rattle.gb_formats.specs.ValidEvents.{IsValid}
-use Rattle.gb_laws.specs.Tickets.{asked_in, asks}
+use Rattle.gb_laws.specs.Tickets.{asked_in}
+use Rattle.gb_machine.specs.AskingEvents.{asks}
 use Rattle.gb_system.specs.declared.system.System.{System}
 
 -- a pass that was free and took the turn has it

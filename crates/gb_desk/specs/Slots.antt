@@ -9,7 +9,8 @@ use Rattle.gb_base.specs.declared.outcome.Outcome.TheVariants as outcome
 use Rattle.gb_desk.specs.declared.slots.Slot.{Slot}
 use Rattle.gb_desk.specs.declared.slots.Told.{Told}
 use Rattle.gb_desk.specs.declared.slots.Told.TheVariants as told
-use Rattle.gb_laws.specs.Tickets.{IsTwoway, asked_in, asks, end_in}
+use Rattle.gb_laws.specs.Tickets.{IsTwoway, asked_in, end_in}
+use Rattle.gb_machine.specs.AskingEvents.{asks}
 use Rattle.gb_machine.specs.Bus.{or_else, outcome_of}
 use Rattle.gb_machine.specs.Members.{IsIn}
 use Rattle.gb_machine.specs.State.{State}

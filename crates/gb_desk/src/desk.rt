@@ -4,7 +4,7 @@ ghost use Rattle.std.specs.Prelude.{◌≡◌, ◌+◌, false, true, ◌<◌, �
 ghost use Rattle.gb_formats.specs.ValidEvents.{IsValid};
 ghost use Rattle.gb_desk.specs.Calls.{tickets_given};
 ghost use Rattle.gb_desk.specs.Rules.{all_parts};
-ghost use Rattle.gb_laws.specs.Tickets.{asks};
+ghost use Rattle.gb_machine.specs.AskingEvents.{asks};
 ghost use Rattle.gb_machine.specs.Members.{IsIn};
 
 use crate::seat::{ask, cut, enter, give_back, glue, keep, open};

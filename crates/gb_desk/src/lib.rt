@@ -2,6 +2,7 @@
 #![tactic(auto)]
 
 mod desk;
+mod events;
 mod fault;
 mod pass;
 mod seat;
@@ -11,6 +12,7 @@ mod ticket;
 mod view;
 
 pub use desk::Desk;
+pub use events::asks;
 pub use fault::{Busy, DeskFault, PassSpent};
 pub use pass::Pass;
 pub use slots::Told;

@@ -10,7 +10,7 @@ ghost use Rattle.gb_desk.specs.Tickets.{fewer};
 ghost use Rattle.gb_desk.specs.declared.stored.Stored.{Stored};
 ghost use Rattle.gb_desk.specs.declared.ticket.Ticket.{Ticket};
 ghost use Rattle.gb_formats.specs.ValidEvents.{IsValid};
-ghost use Rattle.gb_laws.specs.Tickets.{asks};
+ghost use Rattle.gb_machine.specs.AskingEvents.{asks};
 ghost use Rattle.gb_machine.specs.Members.{IsIn};
 
 use crate::slots::{SLOTS, Told};

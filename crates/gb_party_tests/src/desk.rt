@@ -5,7 +5,7 @@ ghost use Rattle.gb_desk.specs.Passes.{IsAsBefore, IsOf, known};
 ghost use Rattle.gb_desk.specs.Rules.{all_parts};
 ghost use Rattle.gb_desk.specs.declared.ticket.Ticket.{Ticket};
 ghost use Rattle.gb_formats.specs.ValidEvents.{IsName, IsValid};
-ghost use Rattle.gb_laws.specs.Tickets.{asks};
+ghost use Rattle.gb_machine.specs.AskingEvents.{asks};
 ghost use Rattle.gb_machine.specs.Members.{IsIn};
 
 use gb_base::{Bytes, End, Event, Journal, Name, Word};

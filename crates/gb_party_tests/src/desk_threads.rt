@@ -4,7 +4,7 @@ ghost use Rattle.std.specs.Prelude.{◌≡◌, ◌<◌, [], false};
 ghost use Rattle.std.specs.Thread.{IsSync};
 ghost use Rattle.gb_desk.specs.Passes.{IsAsBefore, IsOf, known};
 ghost use Rattle.gb_formats.specs.ValidEvents.{IsValid};
-ghost use Rattle.gb_laws.specs.Tickets.{asks};
+ghost use Rattle.gb_machine.specs.AskingEvents.{asks};
 
 use crate::desk::{history, opened};
 use gb_base::{End, Event, Journal, Kind};

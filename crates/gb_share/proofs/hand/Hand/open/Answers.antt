@@ -1,0 +1,31 @@
+use Rattle.std.proofs.Common.{Err, Ok, subst, sym}
+use Rattle.gb_desk.specs.Passes.{known}
+use Rattle.gb_desk.specs.declared.pass.Pass.{Pass}
+use Rattle.gb_share.proofs.HeldNames.{held_put}
+use Rattle.gb_share.proofs.Views.{asks_does, asks_tickets, asks_within}
+use Rattle.gb_share.proofs.hand.Hand.open.Goals as goal
+use Rattle.gb_share.specs.Doing.{DoesAs}
+
+pub invariant_of-self : goal.invariant_of-self
+invariant_of-self c = record {
+  within = asks_within _ _ _ (Ok c.in-Ok-open_request.opened) _ c.named.new.self.within
+      c.in-Ok-open_request.ensures.opens;
+  tickets = held_put _ _ _ _ _ _ c.named.new.self.tickets c.put.ensures
+      (asks_tickets _ _ _ (Ok c.in-Ok-open_request.opened) _ c.in-Ok-open_request.ensures.opens);
+}
+
+pub returns-in-Ok-open_request-clause-does : goal.returns-in-Ok-open_request-clause-does
+returns-in-Ok-open_request-clause-does c =
+    rw (sym c.named.ensures.pass)
+    (asks_does _ _ _ (Ok c.in-Ok-open_request.opened) _ c.named.new.self.within c.requires.asking
+    c.in-Ok-open_request.ensures.opens)
+
+pub returns-in-Err-clause-does : goal.returns-in-Err-clause-does
+returns-in-Err-clause-does c =
+    subst
+    (λ (p : Pass). DoesAs (known p) c.args.by c.args.e.now (Err c.in-Err.fault)
+    (known c.open_request.new.pass))
+    c.named.ensures.pass
+    (asks_does (known c.named.new.self.pass) c.args.by c.args.e.now (Err c.in-Err.fault)
+    (known c.open_request.new.pass) c.named.new.self.within c.requires.asking
+    c.in-Err.ensures.opens)

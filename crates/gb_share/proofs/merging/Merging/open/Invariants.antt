@@ -1,0 +1,17 @@
+-- Some lines of requester 0 were placed.
+use Rattle.std.proofs.Common.{◌≡◌, ◌≤◌, List, drop, length}
+use Rattle.gb_base.specs.declared.parts.Asked.{Asked}
+use Rattle.gb_machine.specs.State.{State}
+use Rattle.gb_share.specs.Placing.{Begins, left}
+use Rattle.gb_share.proofs.merging.Merging.open.Given as goal
+
+abbrev pub invariant-loop-next : goal.invariant-loop-next
+invariant-loop-next l = record {
+  hex : l.self.hex ≡ l.initial.self.hex;
+  bound : l.done ≤ length l.journal;
+  begins : (asked : List Asked) (last : State) → Begins asked l.initial.self l.journal last
+      → Begins asked l.self (drop l.done l.journal) last;
+}
+
+abbrev pub decreases-loop-next : goal.decreases-loop-next
+decreases-loop-next l = length (left l.self 0)

@@ -1,0 +1,16 @@
+use Rattle.std.proofs.Common.{ap, ◌∙◌}
+use Rattle.gb_desk.specs.Passes.{known}
+use Rattle.gb_share.proofs.Closings.{shared_end}
+use Rattle.gb_share.proofs.Rests.{numbered_same, same_first}
+use Rattle.gb_share.proofs.sharing.share.Goals as goal
+
+pub returns-clause-shared : goal.returns-clause-shared
+returns-clause-shared g c =
+    let same = same_first c.args.first.now c.run_lines-ran.new.first c.args.others.now
+    c.run_lines-ran.new.others c.run_lines-ran.ensures.same in
+    shared_end c.run_lines-ran.new.first c.run_lines-ran.new.others _ _ c.in_ok-system.system _ _
+    (same.0 ∙ c.requires.first.0)
+    (numbered_same _ _ same.1 c.requires.others.0)
+    (ap known c.new-hand.ensures ∙ c.in_ok-desk.ensures.first) c.in_ok-system.ensures.first
+    c.run_lines-ran.new.hand.within c.in_ok-ran.ensures.ran c.close-end.ensures
+    c.in_ok-ran.ensures.whole

@@ -1,0 +1,56 @@
+//! Events that are tried until they get the turn.
+
+ghost use Rattle.std.specs.Prelude.{◌≡◌, ◌+◌, ◌≤◌, true, Err, OnErr, length};
+ghost use Rattle.gb_desk.specs.Passes.{IsOf};
+ghost use Rattle.gb_formats.specs.ValidEvents.{IsValid};
+ghost use Rattle.gb_share.specs.Doing.{DoesAs};
+ghost use Rattle.gb_share.specs.Hands.{knows};
+
+use crate::hand::Hand;
+use gb_base::{Entries, Event};
+use gb_desk::{Desk, DeskFault};
+use std::thread;
+
+/// How often a line is tried while other callers have the turn, before it is kept for later.
+const TRIES: u32 = 64;
+
+/// A wait between two tries is at most two to the power of this many yields.
+const LONGEST_WAIT: u32 = 14;
+
+/// Waits a little after this many tries in vain, each time twice as long.
+fn wait(tries: u32) {
+    for _ in 0..1u32 << tries.min(LONGEST_WAIT) {
+        thread::yield_now();
+    }
+}
+
+/// Whether another caller had the turn.
+fn is_busy(answer: &Result<Entries, DeskFault>) -> bool
+    ensures { result ≡ true → answer.now ≡ Err DeskFault.Busy }
+{
+    match answer {
+        Err(DeskFault::Busy) => true,
+        _ => false,
+    }
+}
+
+/// Tries an event until it gets the turn, 64 times at most.
+pub fn tried(hand: &mut Hand, desk: &Desk, by: u8, e: &Event) -> Result<Entries, DeskFault>
+    requires own { IsOf desk.now hand.old.pass }
+    requires valid { IsValid e.now }
+    ensures own { IsOf desk.now hand.new.pass }
+    ensures does { DoesAs (knows hand.old) by e.now result (knows hand.new) }
+    ensures parts { (knows hand.new).parts ≡ (knows hand.old).parts }
+    ensures few { length (knows hand.new).tickets ≤ length (knows hand.old).tickets + 1 }
+    ensures kept { OnErr result (length (knows hand.new).tickets
+        ≤ length (knows hand.old).tickets) }
+{
+    for tries in 1..TRIES {
+        let answer = hand.event(desk, by, e);
+        if !is_busy(&answer) {
+            return answer;
+        }
+        wait(tries);
+    }
+    hand.event(desk, by, e)
+}
