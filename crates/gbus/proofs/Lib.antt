@@ -1,9 +1,12 @@
+pub mod Auditing
+pub mod ByLine
 pub mod Driving
 pub mod Endings
 pub mod Fronts
 pub mod Gathering
 pub mod Limits
+pub mod LineEnds
+pub mod LineJobs
+pub mod Reporting
 pub mod Runs
-pub mod ScriptRuns
-pub mod Scripts
-pub mod Turns
+pub mod Sharing

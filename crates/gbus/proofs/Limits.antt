@@ -1,5 +1,5 @@
 -- What was read of an input, and what is run and written of it.
-use Rattle.std.proofs.Common.{◌≡◌, ℕ, ◌<◌, ◌≤◌, Bool, true, false, cond, Option, Some, None, List}
+use Rattle.std.proofs.Common.{◌≡◌, ℕ, ◌<◌, ◌≤◌, true, false, cond, Option, Some, None, List}
 use Rattle.std.proofs.Common.{[], ◌++◌, length, take, append_assoc, length-append, drop}
 use Rattle.std.proofs.Common.{length-drop, refl, sym, subst, ap, ◌∙◌, arith}
 use Rattle.std.specs.Prelude.{IfSome}
@@ -8,13 +8,12 @@ use Rattle.std.proofs.lemmas.Bool.Decides.{nat_tests}
 use Rattle.std.proofs.Math.Seq.{take-append_seam}
 use Rattle.std.proofs.lemmas.List.{length-take-le, take-append-drop}
 use Rattle.gb_base.specs.declared.status.Status.TheVariants as status
-use Rattle.gb_formats.specs.Manifest.{check_answer}
-use Rattle.gb_script.specs.Readers.{longest_input}
-use Rattle.gbus.specs.Answers.{checked_status, checked_text}
-use Rattle.gbus.specs.Manifests.{manifest_text, manifest_verdict}
-use Rattle.gbus.specs.Program.{Check, is_too_long, output, verdict}
+use Rattle.gb_formats.specs.Lines.{ended_lines, longest_input}
+use Rattle.gbus.specs.Answers.{input_status, input_text}
+use Rattle.gbus.specs.Program.{Whole, is_too_long, lines_within, verdict, whole_output}
 use Rattle.gbus.specs.Reading.{IsLong, IsRead}
 use Rattle.gbus.specs.declared.input.Input.{Input}
+use Rattle.gbus.specs.WholeJobs.{WholeJob, whole_text, whole_verdict}
 use Rattle.gbus.specs.declared.input.Input.TheVariants as input
 
 -- ---- reading
@@ -68,20 +67,27 @@ within_is text h = grind (arith, nat_tests)
 pub beyond_is : (text : List ℕ) → longest_input < length text → is_too_long text ≡ true
 beyond_is text h = grind (arith, nat_tests)
 
+-- the lines of an input within the limit, and of one beyond it
+pub whole-input : (text : List ℕ) → is_too_long text ≡ false → lines_within text ≡ text
+whole-input text e = ap (λ t. cond t (ended_lines (take longest_input text)) text) e
+
+pub cut-input : (text : List ℕ) → is_too_long text ≡ true
+    → lines_within text ≡ ended_lines (take longest_input text)
+cut-input text e = ap (λ t. cond t (ended_lines (take longest_input text)) text) e
+
 -- What is written for an input is the output of its bytes.
-pub text_is : (dump : Bool) (i : Input) (text : List ℕ) → IsRead i text
-    → output (Check dump) text ≡ checked_text dump i
-text_is dump (input.Whole bytes) text h =
-    ap (λ b. cond b [] (manifest_text dump (check_answer text))) (within_is text h.1)
-    ∙ ap (λ t. manifest_text dump (check_answer t)) h.0
-text_is dump (input.TooLong front) text h =
-    ap (λ b. cond b [] (manifest_text dump (check_answer text))) (beyond_is text h.1)
+pub text_is : (j : WholeJob) (i : Input) (text : List ℕ) → IsRead i text
+    → whole_output j text ≡ input_text j i
+text_is j (input.Whole bytes) text h =
+    ap (λ b. cond b [] (whole_text j text)) (within_is text h.1) ∙ ap (whole_text j) h.0
+text_is j (input.TooLong front) text h =
+    ap (λ b. cond b [] (whole_text j text)) (beyond_is text h.1)
 
 -- How the program ends is the verdict on them.
-pub status_is : (dump : Bool) (i : Input) (text : List ℕ) → IsRead i text
-    → verdict (Check dump) text ≡ checked_status i
-status_is dump (input.Whole bytes) text h =
-    ap (λ b. cond b status.TooLong (manifest_verdict (check_answer text))) (within_is text h.1)
-    ∙ ap (λ t. manifest_verdict (check_answer t)) h.0
-status_is dump (input.TooLong front) text h =
-    ap (λ b. cond b status.TooLong (manifest_verdict (check_answer text))) (beyond_is text h.1)
+pub status_is : (j : WholeJob) (i : Input) (text : List ℕ) → IsRead i text
+    → verdict (Whole j) text ≡ input_status j i
+status_is j (input.Whole bytes) text h =
+    ap (λ b. cond b status.TooLong (whole_verdict j text)) (within_is text h.1)
+    ∙ ap (whole_verdict j) h.0
+status_is j (input.TooLong front) text h =
+    ap (λ b. cond b status.TooLong (whole_verdict j text)) (beyond_is text h.1)

@@ -1,12 +1,15 @@
 pub mod Answers
 pub mod Driving
 pub mod Jobs
-pub mod Manifests
+pub mod LineEnds
+pub mod LineJobs
 pub mod Program
 pub mod Reading
+pub mod Reporting
 pub mod Runs
-pub mod Scripts
 pub mod Sessions
+pub mod Sharing
 pub mod Stages
 pub mod Stops
+pub mod WholeJobs
 pub mod Writing

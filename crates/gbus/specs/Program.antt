@@ -1,42 +1,49 @@
 -- What the program writes and how it ends, by its words and its input.
-use Rattle.std.specs.Prelude.{ℕ, nat_lt, Bool, true, false, ◌&&◌, if◌then◌else◌, Option, Some, None}
-use Rattle.std.specs.Prelude.{option_map, List, [], ◌∷◌, length, take, codes}
+use Rattle.std.specs.Prelude.{◌≡◌, ℕ, nat_lt, Bool, true, false, ◌&&◌, if◌then◌else◌, Option, Some}
+use Rattle.std.specs.Prelude.{None, is_some, option_map, List, [], ◌∷◌, length, take, codes}
 use Rattle.std.specs.Str.{bytes_eq}
 use Rattle.gb_base.specs.declared.status.Status.{Status}
 use Rattle.gb_base.specs.declared.status.Status.TheVariants as status
-use Rattle.gb_formats.specs.Lines.{lines}
-use Rattle.gb_formats.specs.Manifest.{check_answer}
+use Rattle.gb_formats.specs.Lines.{ended_lines, lines, longest_input}
+use Rattle.gb_formats.specs.Parts.{parts}
 use Rattle.gb_formats.specs.WordValues.{number_word}
-use Rattle.gb_machine.specs.Report.{has_bad_line, report}
+use Rattle.gb_machine.specs.Report.{report}
 use Rattle.gb_machine.specs.Summary.{summary}
-use Rattle.gb_script.specs.Readers.{longest_input}
-use Rattle.gb_script.specs.Pieces.{ended_lines}
-use Rattle.gbus.specs.Manifests.{manifest_text, manifest_verdict}
+use Rattle.gbus.specs.LineJobs.{Audit, LineJob, Report, audit_output, has_bad}
+use Rattle.gbus.specs.Sharing.{Shares}
+use Rattle.gbus.specs.WholeJobs.{Check, Compile, Decompile, WholeJob, whole_text, whole_verdict}
 
--- What the words ask for: the report of a script, with message bytes where hex is wanted; or the
--- check of a manifest, with its dump where that is wanted; or the summary of the script that is
--- made from a number.
+-- What the words ask for: something of each line of the input; or something of it as a whole; or
+-- that its lines are run by their requesters, with message bytes where hex is wanted; or the
+-- summary of the script that is made from a number.
 pub data Job : Type 0 where
-  Run : Bool → Job
-  Check : Bool → Job
+  ByLine : LineJob → Job
+  Whole : WholeJob → Job
+  Share : Bool → Job
   Drive : ℕ → Job
 
--- the words `run`, `check` and `dump`
+-- the words `run`, `share`, `audit`, `check`, `dump`, `compile` and `decompile`
 abbrev pub one_word : List ℕ → Option Job
 one_word w =
-    if bytes_eq w (codes "run") then Some (Run false)
-    else if bytes_eq w (codes "check") then Some (Check false)
-    else if bytes_eq w (codes "dump") then Some (Check true)
+    if bytes_eq w (codes "run") then Some (ByLine (Report false))
+    else if bytes_eq w (codes "share") then Some (Share false)
+    else if bytes_eq w (codes "audit") then Some (ByLine Audit)
+    else if bytes_eq w (codes "check") then Some (Whole (Check false))
+    else if bytes_eq w (codes "dump") then Some (Whole (Check true))
+    else if bytes_eq w (codes "compile") then Some (Whole Compile)
+    else if bytes_eq w (codes "decompile") then Some (Whole Decompile)
     else None
 
 -- the greatest number from which a script is made
 abbrev pub greatest_seed : ℕ
 greatest_seed = 2147483647
 
--- the words `run --hex`, and `drive N` with N in decimal, with no zero in front but `0` itself
+-- the words `run --hex` and `share --hex`, and `drive N` with N in decimal, with no zero in front
+-- but `0` itself
 abbrev pub two_words : List ℕ → List ℕ → Option Job
 two_words w x =
-    if bytes_eq w (codes "run") && bytes_eq x (codes "--hex") then Some (Run true)
+    if bytes_eq w (codes "run") && bytes_eq x (codes "--hex") then Some (ByLine (Report true))
+    else if bytes_eq w (codes "share") && bytes_eq x (codes "--hex") then Some (Share true)
     else if bytes_eq w (codes "drive") then option_map Drive (number_word 0 greatest_seed x)
     else None
 
@@ -50,45 +57,59 @@ job_of (w ∷ x ∷ y ∷ ws) = None
 abbrev pub is_too_long : List ℕ → Bool
 is_too_long text = nat_lt longest_input (length text)
 
--- What is run of a script: all of it, or of one that is too long the lines that end within the
+-- What is taken of lines: all of them, or of a text that is too long those that end within the
 -- limit.
-abbrev pub script_within : List ℕ → List ℕ
-script_within text =
+abbrev pub lines_within : List ℕ → List ℕ
+lines_within text =
     if is_too_long text then ended_lines (take longest_input text) else text
 
 -- Whether the words ask for something of the input. Otherwise nothing is read.
 abbrev pub reads : Option Job → Bool
-reads (Some (Run hex)) = true
-reads (Some (Check dump)) = true
+reads (Some (ByLine j)) = true
+reads (Some (Whole j)) = true
+reads (Some (Share hex)) = true
 reads (Some (Drive seed)) = false
 reads None = false
 
--- whether a script is run
-abbrev pub is_run : Option Job → Bool
-is_run (Some (Run hex)) = true
-is_run (Some (Check dump)) = false
-is_run (Some (Drive seed)) = false
-is_run None = false
+-- whether something is done of each line
+abbrev pub is_by_line : Option Job → Bool
+is_by_line (Some (ByLine j)) = true
+is_by_line (Some (Whole j)) = false
+is_by_line (Some (Share hex)) = false
+is_by_line (Some (Drive seed)) = false
+is_by_line None = false
 
--- What is written for an input: the report of a script, as far as it is run, or what a check of a
--- manifest says. Of a manifest that is too long nothing is. The summary of a made script is the
--- same whatever the input is.
-abbrev pub output : Job → List ℕ → List ℕ
-output (Run hex) text = report hex (script_within text)
-output (Check dump) text = if is_too_long text then [] else manifest_text dump (check_answer text)
-output (Drive seed) text = summary seed
+-- What is written where something is done of each line: the report of a script, as far as it is
+-- run; or what is found of a capture.
+abbrev pub lines_output : LineJob → List ℕ → List ℕ
+lines_output (Report hex) text = report hex (lines_within text)
+lines_output Audit text = audit_output (lines (lines_within text)) (is_too_long text)
 
--- How a script ends: a bad line comes before an input that is too long.
-abbrev pub script_status : Bool → Bool → Status
-script_status has_bad too_long =
-    if has_bad then status.Refused else if too_long then status.TooLong else status.Success
+-- What is written of an input as a whole: nothing where it is too long.
+abbrev pub whole_output : WholeJob → List ℕ → List ℕ
+whole_output j text = if is_too_long text then [] else whole_text j text
+
+-- What is written for an input. Where lines are run by their requesters it depends on the order in
+-- which they came; else it is determined. The summary of a made script is the same whatever the
+-- input is.
+abbrev pub Writes : Job → (text written : List ℕ) → Type 0
+Writes (ByLine j) text written = written ≡ lines_output j text
+Writes (Whole j) text written = written ≡ whole_output j text
+Writes (Share hex) text written =
+    Shares hex (parts (lines_within text)) (is_too_long text) written
+Writes (Drive seed) text written = written ≡ summary seed
+
+-- How it ends where something is done of lines: a bad line comes before an input that is too long.
+abbrev pub lines_status : Bool → Bool → Status
+lines_status bad too_long =
+    if bad then status.Refused else if too_long then status.TooLong else status.Success
 
 -- How the program ends where nothing fails and memory is found.
 abbrev pub verdict : Job → List ℕ → Status
-verdict (Run hex) text =
-    script_status (has_bad_line (lines (script_within text))) (is_too_long text)
-verdict (Check dump) text =
-    if is_too_long text then status.TooLong else manifest_verdict (check_answer text)
+verdict (ByLine j) text = lines_status (has_bad j (lines (lines_within text))) (is_too_long text)
+verdict (Whole j) text = if is_too_long text then status.TooLong else whole_verdict j text
+verdict (Share hex) text =
+    lines_status (is_some (parts (lines_within text)).bad) (is_too_long text)
 verdict (Drive seed) text = status.Success
 
 -- a status that speaks of the input

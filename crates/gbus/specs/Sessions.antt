@@ -1,45 +1,73 @@
 -- What a line does to a session.
-use Rattle.std.specs.Prelude.{◌≡◌, ℕ, false, is_err, Result, Ok, Err, ⊤, List, ◌++◌}
-use Rattle.std.specs.String.{string_bytes}
+use Rattle.std.specs.Prelude.{◌≡◌, ℕ, true, false, Result, Ok, Err, ⊤, List, [], ◌∷◌, ◌++◌}
 use Rattle.gb_base.specs.declared.errors.OutOfMemory.{OutOfMemory}
-use Rattle.gb_base.specs.declared.fault.LineReason.{LineReason}
-use Rattle.gb_formats.specs.Grammar.{Said}
-use Rattle.gb_formats.specs.Script.{judged}
-use Rattle.gb_formats.specs.Texts.{refusal_line_text}
-use Rattle.gb_machine.specs.Report.{reported}
-use Rattle.gb_machine.specs.State.{State}
-use Rattle.gb_system.specs.Stands as system
+use Rattle.gb_base.specs.declared.status.Status.{Status}
+use Rattle.gb_base.specs.declared.status.Status.TheVariants as status
+use Rattle.gb_capture.specs.Auditors as auditors
+use Rattle.gbus.specs.LineJobs.{Audit, LineJob, Report, has_bad, is_bad, lines_text}
+use Rattle.gbus.specs.Reporting.{HasRun, reported_last}
+use Rattle.gb_capture.specs.declared.auditor.Turn.{Turn}
+use Rattle.gb_capture.specs.declared.auditor.Turn.TheVariants as turn
 use Rattle.gbus.specs.declared.session.Session.{Session}
-use Rattle.gbus.specs.declared.session.Turn.{Turn}
-use Rattle.gbus.specs.declared.session.Turn.TheVariants as turn
+use Rattle.gbus.specs.declared.session.Session.TheVariants as session
 
--- what a line says
-abbrev pub line_says : List ℕ → Said
-line_says line = judged 0 line
+-- what is done of each line
+abbrev pub doing : Session → LineJob
+doing (session.Report r) = Report r.hex
+doing (session.Audit a) = Audit
 
--- the report of the last line
+-- how many lines were taken
+abbrev pub lines_taken : Session → ℕ
+lines_taken (session.Report r) = r.number
+lines_taken (session.Audit a) = auditors.number_of a
+
+-- what is to be written of the last line, or behind all lines
 abbrev pub written : Session → List ℕ
-written x = string_bytes x.text
+written (session.Report r) = reported_last r
+written (session.Audit a) = auditors.written a
 
--- a line was run from this state: its text is written, and then what comes later
-pub record GoesOn (old new : Session) (says : Said) (s : State) : Type 0 where
-  pub after : State
-  pub stands : system.Stands new.system after
-  pub whole : (later : State → List ℕ) →
-      reported says new.number old.hex s later ≡ written new ++ later after
-  pub good : is_err says ≡ false
+-- what is done of each line was done of these, and all are good
+abbrev pub HasDone : Session → List (List ℕ) → Type 0
+HasDone (session.Report r) given = HasRun r given
+HasDone (session.Audit a) given = auditors.HasTaken a given
 
--- a line is bad, and the report names it
-pub record Ends (old new : Session) (says : Said) : Type 0 where
-  pub why : LineReason
-  pub said_is : says ≡ Err why
-  pub text : written new ≡ refusal_line_text new.number why
+-- a text goes on so
+abbrev pub Begins : List ℕ → List ℕ → Type 0
+Begins front whole = (rest : List ℕ) × (whole ≡ front ++ rest)
+
+-- These lines were taken and are good. What is written of them is a front of what is written of
+-- them and of others.
+pub record IsBehind (x : Session) (j : LineJob) (given : List (List ℕ)) : Type 0 where
+  pub same : doing x ≡ j
+  pub done : HasDone x given
+  pub goes : (ls : List (List ℕ)) → Begins (lines_text j given) (lines_text j (given ++ ls))
+  pub good : has_bad j given ≡ false
+
+-- A line is good: what is written of it stands behind what is written of the lines before.
+pub record TakesLine (new : Session) (j : LineJob) (given : List (List ℕ)) (line : List ℕ)
+    : Type 0 where
+  pub behind : IsBehind new j (given ++ line ∷ [])
+  pub text : lines_text j (given ++ line ∷ []) ≡ lines_text j given ++ written new
+
+-- A line is bad: this is written, and nothing of the lines behind it.
+pub record RefusesLine (new : Session) (j : LineJob) (given : List (List ℕ)) (line : List ℕ)
+    : Type 0 where
+  pub bad : is_bad j line ≡ true
+  pub text : (ls : List (List ℕ))
+      → lines_text j (given ++ line ∷ ls) ≡ lines_text j given ++ written new
 
 -- By cases on the answer. After want of memory nothing is said.
-abbrev pub TurnsBy : Session → Session → Said → State → Result Turn OutOfMemory → Type 0
-TurnsBy old new says s (Ok turn.Next) = GoesOn old new says s
-TurnsBy old new says s (Ok turn.Refused) = Ends old new says
-TurnsBy old new says s (Err refused) = ⊤
+abbrev pub TurnsAs : Session → LineJob → List (List ℕ) → List ℕ → Result Turn OutOfMemory → Type 0
+TurnsAs new j given line (Ok turn.Next) = TakesLine new j given line
+TurnsAs new j given line (Ok turn.Refused) = RefusesLine new j given line
+TurnsAs new j given line (Err refused) = ⊤
 
-abbrev pub TurnsAs : Session → Session → List ℕ → State → Result Turn OutOfMemory → Type 0
-TurnsAs old new line s answer = TurnsBy old new (line_says line) s answer
+-- what is written behind all that was gathered, where the input ends so
+abbrev pub ending_of : Status → Session → List ℕ
+ending_of status.Success x = written x
+ending_of status.Refused x = []
+ending_of status.TooLong x = []
+ending_of status.Usage x = []
+ending_of status.ReadFault x = []
+ending_of status.WriteFault x = []
+ending_of status.NoMemory x = []

@@ -7,8 +7,9 @@ ghost use Rattle.gb_machine.specs.State.{State, first_state};
 ghost use Rattle.gb_machine.specs.Summary.{counts, counts_at, is_refused, made_events, summary};
 ghost use Rattle.gb_report.specs.Counted.{counts_of};
 ghost use Rattle.gb_system.specs.Stands.{taken_of};
+ghost use Rattle.gbus.specs.Answers.{bytes_in};
 
-use crate::answer::Answer;
+use crate::answer::{Answer, Output};
 use gb_base::{Entries, Entry, Event, OutOfMemory, Status, Text};
 use gb_bus::Tally;
 use gb_report::{Counts, put_summary};
@@ -90,14 +91,14 @@ impl Driven {
 /// What is written for the script that is made from a number: its summary.
 pub fn drive(alloc: Global, seed: u32) -> Result<Answer, OutOfMemory>
     requires { seed ≤ 2147483647 }
-    ensures text { IfOk result (λ a. a.text ≡ summary seed) }
+    ensures text { IfOk result (λ a. bytes_in a.output ≡ summary seed) }
     ensures status { IfOk result (λ a. a.status ≡ Status.Success) }
 {
     let counts = made_counts(alloc, seed)?;
     let mut text = Text::new(alloc);
     put_summary(alloc, u64::from(MADE_LINES), &counts, &mut text)?;
     Ok(Answer {
-        text,
+        output: Output::Text(text),
         status: Status::Success,
     })
 }

@@ -1,7 +1,7 @@
 //! Reads a whole input.
 
 ghost use Rattle.std.specs.Prelude.{◌≤◌, length, IfOk, IfSome};
-ghost use Rattle.gbus.specs.Reading.{IsRead, ReadsAll, kept_of};
+ghost use Rattle.gbus.specs.Reading.{IsRead, ReadsAll, StopsAtLimit, kept_of};
 
 use gb_base::{Failed, OutOfMemory, Source};
 use std::alloc::{AllocError, Global};
@@ -70,6 +70,7 @@ pub fn read_all<S: Source>(alloc: Global, source: &mut S) -> Result<Input, ReadS
     ensures later { S.faults source.old ≤ S.faults source.new }
     ensures input { IfOk result (λ i. IfSome (S.left source.old) (IsRead i)) }
     ensures short { IfOk result (λ i. length (kept_of i) ≤ 1048576) }
+    ensures limit { IfOk result (λ _. StopsAtLimit (S.left source.old) (S.left source.new)) }
 {
     let mut bytes = Vec::new(alloc);
     let mut piece = [0u8; PIECE];

@@ -5,11 +5,13 @@ mod answer;
 mod drive;
 mod gathered;
 mod input;
+mod line_worker;
 mod manifests;
 mod output;
+mod reporter;
 mod run;
-mod script;
 mod session;
+mod share;
 #[cfg(test)]
 mod tests;
 mod words;

@@ -1,93 +1,81 @@
-//! A script that is being run.
+//! What is done of an input line by line.
 
-ghost use Rattle.std.specs.Prelude.{◌≡◌, ◌+◌, ◌<◌, ◌≤◌, ℕ, List, [], IfOk, OnOk};
-ghost use Rattle.gb_machine.specs.State.{State, first_state};
+ghost use Rattle.std.specs.Prelude.{◌≡◌, ◌+◌, ℕ, List, [], IfOk, OnOk};
 ghost use Rattle.gb_script.specs.Readers.{IsLineOf};
-ghost use Rattle.gb_system.specs.Stands.{taken_of};
+ghost use Rattle.gbus.specs.Jobs.{line_job_seen};
+ghost use Rattle.gbus.specs.LineJobs.{LineJob as Seen, last_text};
 
-use gb_base::{Entries, LineReason, OutOfMemory};
-use gb_report::{append_all, append_refusal};
-use gb_script::{Line, LineFault, event};
-use gb_system::System;
+use crate::reporter::Reporter;
+use crate::words::LineJob;
+use gb_base::OutOfMemory;
+use gb_capture::{Auditor, Turn};
+use gb_script::Line;
 use std::alloc::Global;
 
-/// The system that a script has brought about, and the report of its last line.
+/// What has been done of the lines of an input.
 #[derive(Drop)]
-pub struct Session {
-    alloc: Global,
-    hex: bool,
-    system: System,
-    /// What the last event brought about.
-    entries: Entries,
-    text: String,
-    /// How many lines were run.
-    number: u32,
-    ghost counted: { taken_of system ≤ number },
-}
-
-/// What became of a line.
-#[derive(Clone, Copy, Debug, PartialEq, Eq)]
-pub enum Turn {
-    /// It was run, and the next line may be.
-    Next,
-    /// It is bad.
-    Refused,
+pub enum Session {
+    /// A script was run and is reported.
+    Report(Reporter),
+    /// A capture was audited.
+    Audit(Auditor),
 }
 
 impl Session {
-    ghost use Rattle.gb_system.specs.Stands as system;
-    ghost use Rattle.gbus.specs.Sessions.{TurnsAs, written};
+    ghost use Rattle.gbus.specs.Sessions.{IsBehind, TurnsAs, lines_taken, written};
 
     /// Before the first line.
-    pub fn new(alloc: Global, hex: bool) -> Result<Session, OutOfMemory>
-        ensures stands { IfOk result (λ x. system.Stands x.system first_state) }
-        ensures number { IfOk result (λ x. x.number ≡ 0) }
-        ensures hex { IfOk result (λ x. x.hex ≡ hex) }
+    pub fn new(alloc: Global, job: LineJob) -> Result<Session, OutOfMemory>
+        ensures behind { IfOk result (λ x. IsBehind x (line_job_seen job) []) }
+        ensures number { IfOk result (λ x. lines_taken x ≡ 0) }
     {
-        Ok(Session {
-            alloc,
-            hex,
-            system: System::new(alloc)?,
-            entries: Entries::new(alloc),
-            text: String::new(alloc),
-            number: 0,
-        })
+        match job {
+            LineJob::Report { hex } => {
+                let reporter = Reporter::new(alloc, hex)?;
+                Ok(Session::Report(reporter))
+            }
+            LineJob::Audit => {
+                let auditor = Auditor::new(alloc)?;
+                Ok(Session::Audit(auditor))
+            }
+        }
     }
 
-    /// Runs the next line.
+    /// Takes the next line.
     pub fn take(&mut self, line: Line<'_>) -> Result<Turn, OutOfMemory>
-        requires { line.number ≡ self.old.number + 1 }
-        ensures turn { (s : State) → (whole : List ℕ) → system.Stands self.old.system s
-            → IsLineOf line.entry.bytes.now line.entry.long whole
-            → TurnsAs self.old self.new whole s result }
-        ensures number { OnOk result (self.new.number ≡ self.old.number + 1) }
-        ensures hex { OnOk result (self.new.hex ≡ self.old.hex) }
+        requires { line.number ≡ lines_taken self.old + 1 }
+        ensures turn { (j : Seen) → (given : List (List ℕ)) → (whole : List ℕ)
+            → IsBehind self.old j given → IsLineOf line.entry.bytes.now line.entry.long whole
+            → TurnsAs self.new j given whole result }
+        ensures number { OnOk result (lines_taken self.new ≡ lines_taken self.old + 1) }
     {
-        self.number = line.number;
-        self.text.clear();
-        if line.long {
-            append_refusal(self.number, &LineReason::Long, &mut self.text)?;
-            return Ok(Turn::Refused);
-        }
-        match event(self.alloc, line.bytes, 0) {
-            Ok(None) => Ok(Turn::Next),
-            Ok(Some(e)) => {
-                self.system.step_into(&e, &mut self.entries)?;
-                append_all(self.entries.items(), self.number, self.hex, &mut self.text)?;
-                Ok(Turn::Next)
-            }
-            Err(LineFault::Bad(why)) => {
-                append_refusal(self.number, &why, &mut self.text)?;
-                Ok(Turn::Refused)
-            }
-            Err(LineFault::Memory(refused)) => Err(refused),
+        match self {
+            Session::Report(reporter) => reporter.take(line),
+            Session::Audit(auditor) => auditor.take(line),
         }
     }
 
-    /// The report of the last line.
+    /// Makes what is written behind all lines, where all are good and no more bytes came than may.
+    pub fn close(&mut self) -> Result<(), OutOfMemory>
+        ensures { (j : Seen) → (given : List (List ℕ)) → IsBehind self.old j given
+            → OnOk result (written self.new ≡ last_text j given) }
+    {
+        match self {
+            Session::Report(reporter) => {
+                reporter.clear();
+                Ok(())
+            }
+            Session::Audit(auditor) => auditor.close(),
+        }
+    }
+
+    /// What is to be written of the last line, or behind all lines.
     pub fn text(&self) -> &[u8]
         ensures { result.now ≡ written self.now }
     {
-        self.text.as_bytes()
+        match self {
+            Session::Report(reporter) => reporter.text(),
+            Session::Audit(auditor) => auditor.text(),
+        }
     }
 }

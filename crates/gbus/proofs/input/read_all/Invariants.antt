@@ -8,6 +8,7 @@ invariant-loop-piece g l = record {
   read : Consumes (g.S.Source.left l.initial.source) (g.S.Source.left l.source) l.bytes.items;
   later : g.S.Source.faults l.initial.source ≤ g.S.Source.faults l.source;
   room : length l.piece ≡ 4096;
+  few : length l.bytes.items ≤ 1052672;
 }
 
 abbrev pub decreases-loop-piece : goal.decreases-loop-piece

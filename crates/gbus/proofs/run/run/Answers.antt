@@ -1,47 +1,69 @@
 -- What was read, answered and written, together.
 use Rattle.std.proofs.Common.{Some, option_map, sym, ap, ◌∙◌}
 use Rattle.gbus.proofs.Fronts.{all_taken, part_taken}
-use Rattle.gbus.proofs.Runs.{answered, complete, no-read-fault, no-usage, no-write-fault, of_run}
-use Rattle.gbus.proofs.Runs.{some-job, unwritten, within}
-use Rattle.gbus.proofs.ScriptRuns.{run-answered, run-complete, run-cut, run-is, run-reads}
-use Rattle.gbus.proofs.ScriptRuns.{run-refused, run-short, run-within, script-end, script-read}
-use Rattle.gbus.proofs.ScriptRuns.{script-usage, script-write}
+use Rattle.gbus.proofs.Runs.{answered, complete, keeps_headline, no-read-fault, no-usage}
+use Rattle.gbus.proofs.Runs.{no-write-fault, of_run, some-job, unwritten, within}
+use Rattle.gbus.proofs.ByLine.{by-line-answered, by-line-complete, by-line-cut, by-line-is}
+use Rattle.gbus.proofs.ByLine.{by-line-reads, by-line-refused, by-line-short, by-line-within}
+use Rattle.gbus.proofs.ByLine.{lines-end, lines-read, lines-usage, lines-write}
 use Rattle.gbus.proofs.run.run.Goals as goal
-use Rattle.gbus.specs.Jobs.{job_seen, task_seen}
-use Rattle.gbus.specs.Program.{Run, reads}
+use Rattle.gbus.specs.Jobs.{job_seen, line_job_seen, task_seen}
+use Rattle.gbus.specs.Program.{ByLine, reads}
 
 pub returns-clause-traced : goal.returns-clause-traced
-returns-clause-traced g c = of_run _ _
+returns-clause-traced g c = of_run _
 
 pub returns-in_default-clause-traced : goal.returns-in_default-clause-traced
-returns-in_default-clause-traced g c = of_run _ _
+returns-in_default-clause-traced g c = of_run _
 
 pub returns-in-Err-Failed-clause-traced : goal.returns-in-Err-Failed-clause-traced
-returns-in-Err-Failed-clause-traced g c = of_run _ _
+returns-in-Err-Failed-clause-traced g c = of_run _
 
 pub returns-in-Err-Memory-clause-traced : goal.returns-in-Err-Memory-clause-traced
-returns-in-Err-Memory-clause-traced g c = of_run _ _
+returns-in-Err-Memory-clause-traced g c = of_run _
 
 pub returns-in-Ok-write_all-clause-traced : goal.returns-in-Ok-write_all-clause-traced
-returns-in-Ok-write_all-clause-traced g c = of_run _ _
+returns-in-Ok-write_all-clause-traced g c = of_run _
 
 pub returns-in-Err-Failed-write_all-clause-traced :
     goal.returns-in-Err-Failed-write_all-clause-traced
-returns-in-Err-Failed-write_all-clause-traced g c = of_run _ _
+returns-in-Err-Failed-write_all-clause-traced g c = of_run _
+
+pub returns-clause-headline : goal.returns-clause-headline
+returns-clause-headline g c = keeps_headline _
+
+pub returns-in_default-clause-headline : goal.returns-in_default-clause-headline
+returns-in_default-clause-headline g c = keeps_headline _
+
+pub returns-in-Err-Failed-clause-headline : goal.returns-in-Err-Failed-clause-headline
+returns-in-Err-Failed-clause-headline g c = keeps_headline _
+
+pub returns-in-Err-Memory-clause-headline : goal.returns-in-Err-Memory-clause-headline
+returns-in-Err-Memory-clause-headline g c = keeps_headline _
+
+pub returns-in-Ok-write_all-clause-headline : goal.returns-in-Ok-write_all-clause-headline
+returns-in-Ok-write_all-clause-headline g c = keeps_headline _
+
+pub returns-in-Err-Failed-write_all-clause-headline :
+    goal.returns-in-Err-Failed-write_all-clause-headline
+returns-in-Err-Failed-write_all-clause-headline g c = keeps_headline _
+
+pub returns-in-ByLine-clause-headline : goal.returns-in-ByLine-clause-headline
+returns-in-ByLine-clause-headline g c = keeps_headline _
 
 pub returns-in-Ok-write_all-clause-answered : goal.returns-in-Ok-write_all-clause-answered
 returns-in-Ok-write_all-clause-answered g c = λ v.
     answered _ (task_seen c.in-Task.task) c.in-Ok.answer _ _ _ _
     (sym (ap (λ j. Some (job_seen j)) c.in-Task.is)
     ∙ sym (ap (option_map job_seen) c.in-Some.is) ∙ c.job_of.ensures.job) c.in-Ok.ensures.answer
-    c.items.ensures.bytes c.in-Ok-write_all.ensures.bytes
+    c.items.ensures c.in-Ok-write_all.ensures.bytes
 
 pub returns-in-Ok-write_all-clause-prefix : goal.returns-in-Ok-write_all-clause-prefix
 returns-in-Ok-write_all-clause-prefix g c =
     within _ (task_seen c.in-Task.task) c.in-Ok.answer _ _ _ _
     (sym (ap (λ j. Some (job_seen j)) c.in-Task.is)
     ∙ sym (ap (option_map job_seen) c.in-Some.is) ∙ c.job_of.ensures.job) c.in-Ok.ensures.answer
-    c.items.ensures.bytes (all_taken _ _ _ c.in-Ok-write_all.ensures.bytes)
+    c.items.ensures (all_taken _ _ _ c.in-Ok-write_all.ensures.bytes)
 
 pub returns-in-Ok-write_all-clause-complete : goal.returns-in-Ok-write_all-clause-complete
 returns-in-Ok-write_all-clause-complete g c =
@@ -67,7 +89,7 @@ returns-in-Err-Failed-write_all-clause-prefix g c =
     within _ (task_seen c.in-Task.task) c.in-Ok.answer _ _ _ _
     (sym (ap (λ j. Some (job_seen j)) c.in-Task.is)
     ∙ sym (ap (option_map job_seen) c.in-Some.is) ∙ c.job_of.ensures.job) c.in-Ok.ensures.answer
-    c.items.ensures.bytes (part_taken _ _ _ (c.in-Err-Failed-write_all.ensures.bytes).0)
+    c.items.ensures (part_taken _ _ _ (c.in-Err-Failed-write_all.ensures.bytes).0)
 
 pub returns-in-Err-Failed-write_all-clause-kept : goal.returns-in-Err-Failed-write_all-clause-kept
 returns-in-Err-Failed-write_all-clause-kept g c = λ r.
@@ -80,7 +102,7 @@ returns-clause-prefix g c =
     within _ (task_seen c.in-Task.task) c.in-Ok.answer _ _ _ _
     (sym (ap (λ j. Some (job_seen j)) c.in-Task.is)
     ∙ sym (ap (option_map job_seen) c.in-Some.is) ∙ c.job_of.ensures.job) c.in-Ok.ensures.answer
-    c.items.ensures.bytes (part_taken _ _ _ (c.in-Err-Memory-write_all.ensures.bytes).0)
+    c.items.ensures (part_taken _ _ _ (c.in-Err-Memory-write_all.ensures.bytes).0)
 
 pub returns-clause-kept : goal.returns-clause-kept
 returns-clause-kept g c = λ r.
@@ -130,79 +152,85 @@ pub returns-in-Ok-write_all-clause-write : goal.returns-in-Ok-write_all-clause-w
 returns-in-Ok-write_all-clause-write g c = λ e.
     absurd (no-write-fault c.in-Ok.answer.status c.in-Ok.ensures.verdict e)
 
-pub returns-in-Run-clause-traced : goal.returns-in-Run-clause-traced
-returns-in-Run-clause-traced g c = of_run _ _
+pub returns-in-ByLine-clause-traced : goal.returns-in-ByLine-clause-traced
+returns-in-ByLine-clause-traced g c = of_run _
 
-pub returns-in-Run-clause-answered : goal.returns-in-Run-clause-answered
-returns-in-Run-clause-answered g c =
-    run-answered _ c.in-Run.hex _ _ _ _ _
-    (sym (ap (λ j. Some (job_seen j)) c.in-Run.is)
-    ∙ sym (ap (option_map job_seen) c.in-Some.is) ∙ c.job_of.ensures.job) c.run_script.ensures.ends
-
-pub returns-in-Run-clause-at_end : goal.returns-in-Run-clause-at_end
-returns-in-Run-clause-at_end g c =
-    λ r e. script-end c.in-Run.hex _ _ _ _ _ c.run_script.ensures.ends e
-
-pub returns-in-Run-clause-kept : goal.returns-in-Run-clause-kept
-returns-in-Run-clause-kept g c =
-    λ r. absurd (run-reads _ c.in-Run.hex
-    (sym (ap (λ j. Some (job_seen j)) c.in-Run.is)
-    ∙ sym (ap (option_map job_seen) c.in-Some.is) ∙ c.job_of.ensures.job) r)
-
-pub returns-in-Run-clause-prefix : goal.returns-in-Run-clause-prefix
-returns-in-Run-clause-prefix g c =
-    run-within _ c.in-Run.hex _ _ _
-    (sym (ap (λ j. Some (job_seen j)) c.in-Run.is)
+pub returns-in-ByLine-clause-answered : goal.returns-in-ByLine-clause-answered
+returns-in-ByLine-clause-answered g c =
+    by-line-answered _ (line_job_seen c.in-ByLine.job) _ _ _ _ _
+    (sym (ap (λ j. Some (job_seen j)) c.in-ByLine.is)
     ∙ sym (ap (option_map job_seen) c.in-Some.is) ∙ c.job_of.ensures.job)
-    c.run_script.ensures.prefix
+    c.work_by_line.ensures.ends
 
-pub returns-in-Run-clause-read : goal.returns-in-Run-clause-read
-returns-in-Run-clause-read g c =
-    script-read _ _ _ _ _ c.run_script.ensures.faults
+pub returns-in-ByLine-clause-at_end : goal.returns-in-ByLine-clause-at_end
+returns-in-ByLine-clause-at_end g c =
+    λ r e. lines-end (line_job_seen c.in-ByLine.job) _ _ _ _ _ c.work_by_line.ensures.ends e
 
-pub returns-in-Run-clause-unread : goal.returns-in-Run-clause-unread
-returns-in-Run-clause-unread g c =
-    λ e r. absurd (run-is _ c.in-Run.hex
-    (sym (ap (λ j. Some (job_seen j)) c.in-Run.is)
+pub returns-in-ByLine-clause-kept : goal.returns-in-ByLine-clause-kept
+returns-in-ByLine-clause-kept g c =
+    λ r. absurd (by-line-reads _ (line_job_seen c.in-ByLine.job)
+    (sym (ap (λ j. Some (job_seen j)) c.in-ByLine.is)
     ∙ sym (ap (option_map job_seen) c.in-Some.is) ∙ c.job_of.ensures.job) r)
 
-pub returns-in-Run-clause-write : goal.returns-in-Run-clause-write
-returns-in-Run-clause-write g c =
-    script-write _ _ _ _ _ c.run_script.ensures.faults
+pub returns-in-ByLine-clause-prefix : goal.returns-in-ByLine-clause-prefix
+returns-in-ByLine-clause-prefix g c =
+    by-line-within _ (line_job_seen c.in-ByLine.job) _ _ _
+    (sym (ap (λ j. Some (job_seen j)) c.in-ByLine.is)
+    ∙ sym (ap (option_map job_seen) c.in-Some.is) ∙ c.job_of.ensures.job)
+    c.work_by_line.ensures.prefix
 
-pub returns-in-Run-clause-cut_off : goal.returns-in-Run-clause-cut_off
-returns-in-Run-clause-cut_off g c =
-    run-cut _ c.in-Run.hex _ _ _ _ _
-    (sym (ap (λ j. Some (job_seen j)) c.in-Run.is)
-    ∙ sym (ap (option_map job_seen) c.in-Some.is) ∙ c.job_of.ensures.job) c.run_script.ensures.ends
+pub returns-in-ByLine-clause-read : goal.returns-in-ByLine-clause-read
+returns-in-ByLine-clause-read g c =
+    lines-read _ _ _ _ _ c.work_by_line.ensures.faults
 
-pub returns-in-Run-clause-stops_short : goal.returns-in-Run-clause-stops_short
-returns-in-Run-clause-stops_short g c =
-    run-short _ c.in-Run.hex _ _ _ _ _
-    (sym (ap (λ j. Some (job_seen j)) c.in-Run.is)
-    ∙ sym (ap (option_map job_seen) c.in-Some.is) ∙ c.job_of.ensures.job) c.run_script.ensures.ends
+pub returns-in-ByLine-clause-unread : goal.returns-in-ByLine-clause-unread
+returns-in-ByLine-clause-unread g c =
+    λ e r. absurd (by-line-is _ (line_job_seen c.in-ByLine.job)
+    (sym (ap (λ j. Some (job_seen j)) c.in-ByLine.is)
+    ∙ sym (ap (option_map job_seen) c.in-Some.is) ∙ c.job_of.ensures.job) r)
 
-pub returns-in-Run-clause-refused_at : goal.returns-in-Run-clause-refused_at
-returns-in-Run-clause-refused_at g c =
-    run-refused _ c.in-Run.hex _ _ _ _ _
-    (sym (ap (λ j. Some (job_seen j)) c.in-Run.is)
-    ∙ sym (ap (option_map job_seen) c.in-Some.is) ∙ c.job_of.ensures.job) c.run_script.ensures.ends
+pub returns-in-ByLine-clause-write : goal.returns-in-ByLine-clause-write
+returns-in-ByLine-clause-write g c =
+    lines-write _ _ _ _ _ c.work_by_line.ensures.faults
 
-pub returns-in-Run-clause-complete : goal.returns-in-Run-clause-complete
-returns-in-Run-clause-complete g c =
-    run-complete _ c.in-Run.hex _ _ _ _ _ _ _ _ _
-    (sym (ap (λ j. Some (job_seen j)) c.in-Run.is)
-    ∙ sym (ap (option_map job_seen) c.in-Some.is) ∙ c.job_of.ensures.job) c.run_script.ensures.ends
-    c.run_script.ensures.faults
+pub returns-in-ByLine-clause-cut_off : goal.returns-in-ByLine-clause-cut_off
+returns-in-ByLine-clause-cut_off g c =
+    by-line-cut _ (line_job_seen c.in-ByLine.job) _ _ _ _ _
+    (sym (ap (λ j. Some (job_seen j)) c.in-ByLine.is)
+    ∙ sym (ap (option_map job_seen) c.in-Some.is) ∙ c.job_of.ensures.job)
+    c.work_by_line.ensures.ends
 
-pub returns-in-Run-clause-usage : goal.returns-in-Run-clause-usage
-returns-in-Run-clause-usage g c = (
-  (λ e. absurd (script-usage c.in-Run.hex _ _ _ _ _ c.run_script.ensures.ends e)),
-  (λ none. absurd (some-job _ (Run c.in-Run.hex)
-      (sym (ap (λ j. Some (job_seen j)) c.in-Run.is)
+pub returns-in-ByLine-clause-stops_short : goal.returns-in-ByLine-clause-stops_short
+returns-in-ByLine-clause-stops_short g c =
+    by-line-short _ (line_job_seen c.in-ByLine.job) _ _ _ _ _
+    (sym (ap (λ j. Some (job_seen j)) c.in-ByLine.is)
+    ∙ sym (ap (option_map job_seen) c.in-Some.is) ∙ c.job_of.ensures.job)
+    c.work_by_line.ensures.ends
+
+pub returns-in-ByLine-clause-refused_at : goal.returns-in-ByLine-clause-refused_at
+returns-in-ByLine-clause-refused_at g c =
+    by-line-refused _ (line_job_seen c.in-ByLine.job) _ _ _ _ _
+    (sym (ap (λ j. Some (job_seen j)) c.in-ByLine.is)
+    ∙ sym (ap (option_map job_seen) c.in-Some.is) ∙ c.job_of.ensures.job)
+    c.work_by_line.ensures.ends
+
+pub returns-in-ByLine-clause-complete : goal.returns-in-ByLine-clause-complete
+returns-in-ByLine-clause-complete g c =
+    by-line-complete _ (line_job_seen c.in-ByLine.job) _ _ _ _ _ _ _ _ _
+    (sym (ap (λ j. Some (job_seen j)) c.in-ByLine.is)
+    ∙ sym (ap (option_map job_seen) c.in-Some.is) ∙ c.job_of.ensures.job)
+    c.work_by_line.ensures.ends
+    c.work_by_line.ensures.faults
+
+pub returns-in-ByLine-clause-usage : goal.returns-in-ByLine-clause-usage
+returns-in-ByLine-clause-usage g c = (
+  (λ e. absurd (lines-usage (line_job_seen c.in-ByLine.job) _ _ _ _ _
+      c.work_by_line.ensures.ends e)),
+  (λ none. absurd (some-job _ (ByLine (line_job_seen c.in-ByLine.job))
+      (sym (ap (λ j. Some (job_seen j)) c.in-ByLine.is)
       ∙ sym (ap (option_map job_seen) c.in-Some.is) ∙ c.job_of.ensures.job) none)),
 )
 
-pub returns-in-Run-clause-untouched : goal.returns-in-Run-clause-untouched
-returns-in-Run-clause-untouched g c = λ e.
-    absurd (script-usage c.in-Run.hex _ _ _ _ _ c.run_script.ensures.ends e)
+pub returns-in-ByLine-clause-untouched : goal.returns-in-ByLine-clause-untouched
+returns-in-ByLine-clause-untouched g c = λ e.
+    absurd (lines-usage (line_job_seen c.in-ByLine.job) _ _ _ _ _ c.work_by_line.ensures.ends e)

@@ -1,46 +1,19 @@
--- A line that is run does what the machine does.
-use Rattle.std.proofs.Common.{◌++◌, Ok, Err, ap, sym, subst, ◌∙◌}
-use Rattle.gb_formats.proofs.JudgedValid.{judged-valid}
-use Rattle.gb_formats.specs.Texts.{entries_text, refusal_line_text}
-use Rattle.gb_script.specs.Tells.{Tells}
-use Rattle.gb_script.specs.declared.fault.LineFault.{LineFault}
-use Rattle.gbus.proofs.Turns.{goes_on, passes, short_line}
-use Rattle.gbus.specs.Sessions.{line_says}
+-- A line is taken by what a session does.
+use Rattle.std.proofs.Common.{subst}
+use Rattle.gbus.proofs.Auditing.{audits_as}
+use Rattle.gbus.proofs.Reporting.{takes_as}
 use Rattle.gbus.proofs.session.Session.take.Goals as goal
+use Rattle.gbus.specs.Sessions.{IsBehind}
+use Rattle.gbus.specs.declared.session.Session.{Session}
 
-pub step_into-requires-clause-valid : goal.step_into-requires-clause-valid
-step_into-requires-clause-valid c =
-    judged-valid 0 c.args.line.bytes.now c.in-Ok-Some.e
-    (c.in-Ok-Some.ensures ∙ ap Ok c.in-Ok-Some.field-0-is)
+pub returns-in-Report-clause-turn : goal.returns-in-Report-clause-turn
+returns-in-Report-clause-turn c = λ j given whole b is.
+    takes_as c.in-Report.reporter c.take.new.self c.take.result j given whole
+    (subst (λ (s : Session). IsBehind s j given) c.in-Report.is b)
+    (λ s stands. c.take.ensures.turn s whole stands is) c.take.ensures.number c.take.ensures.hex
 
-pub returns-in-Ok-None-clause-turn : goal.returns-in-Ok-None-clause-turn
-returns-in-Ok-None-clause-turn c = λ s whole st is.
-    passes c.args.self.now _ (line_says whole) s
-    (ap line_says (sym (short_line c.args.line.bytes.now c.args.line.long whole is c.if-line.false))
-    ∙ c.in-Ok-None.ensures ∙ ap Ok c.in-Ok-None.field-0-is)
-    st c.clear.ensures.bytes
-
-pub returns-in_ok-append_all-in-Ok-Some-clause-turn :
-    goal.returns-in_ok-append_all-in-Ok-Some-clause-turn
-returns-in_ok-append_all-in-Ok-Some-clause-turn c = λ s whole st is.
-    goes_on c.args.self.now _ (line_says whole) s c.in-Ok-Some.e c.step_into.new.told
-    (ap line_says (sym (short_line c.args.line.bytes.now c.args.line.long whole is c.if-line.false))
-    ∙ c.in-Ok-Some.ensures ∙ ap Ok c.in-Ok-Some.field-0-is)
-    (c.in_ok-step_into-in-Ok-Some.ensures.step s st)
-    (c.in_ok-append_all-in-Ok-Some.ensures
-    ∙ ap (λ t. t ++ entries_text c.args.line.number c.args.self.now.hex c.items.result.now)
-    c.clear.ensures.bytes
-    ∙ ap (entries_text c.args.line.number c.args.self.now.hex) c.items.ensures)
-
-pub returns-in_ok-append_refusal-in-Err-Bad-clause-turn :
-    goal.returns-in_ok-append_refusal-in-Err-Bad-clause-turn
-returns-in_ok-append_refusal-in-Err-Bad-clause-turn c = λ s whole st is. record {
-  why = c.in-Err-Bad.why;
-  said_is =
-      ap line_says (sym (short_line c.args.line.bytes.now c.args.line.long whole is
-      c.if-line.false))
-      ∙ subst (λ (f : LineFault). Tells (Err f) (line_says c.args.line.bytes.now))
-      c.in-Err-Bad.field-0-is c.in-Err-Bad.ensures;
-  text = c.in_ok-append_refusal-in-Err-Bad.ensures
-      ∙ ap (λ t. t ++ refusal_line_text c.args.line.number c.in-Err-Bad.why) c.clear.ensures.bytes;
-}
+pub returns-in-Audit-clause-turn : goal.returns-in-Audit-clause-turn
+returns-in-Audit-clause-turn c = λ j given whole b is.
+    audits_as c.in-Audit.auditor c.take-in-Audit.new.self c.take-in-Audit.result j given whole
+    (subst (λ (s : Session). IsBehind s j given) c.in-Audit.is b)
+    (λ taken. c.take-in-Audit.ensures.turn given whole taken is)

@@ -1,65 +1,68 @@
-use Rattle.std.proofs.Common.{◌+◌, Bool, Ok, subst, ap, ◌∙◌}
+use Rattle.std.proofs.Common.{◌+◌, Bool, Ok, refl, subst, ap, ◌∙◌}
 use Rattle.gb_base.specs.declared.status.Status.TheVariants as status
 use Rattle.gb_script.specs.Readers.{CountsOn, ReadsOn, StopsAfter}
 use Rattle.gb_script.specs.declared.held.LineStop.{LineStop}
-use Rattle.gbus.proofs.Endings.{at-last, gathers-read}
-use Rattle.gbus.proofs.Scripts.{cut-off, source-ended, succeeded, too-long}
-use Rattle.gbus.proofs.script.Script.turn.Goals as goal
+use Rattle.gbus.proofs.Endings.{at-last, closed-last, gathers-read}
+use Rattle.gbus.proofs.LineEnds.{cut-off, too-long}
+use Rattle.gbus.proofs.line_worker.LineWorker.turn.Goals as goal
 
-pub run_line-requires : goal.run_line-requires
-run_line-requires g c =
+pub take_line-requires : goal.take_line-requires
+take_line-requires g c =
     (subst (λ (b : Bool). CountsOn c.args.self.now.reader c.next.new.self b)
     c.in-Ok-true.field-0-test c.in-Ok-true.ensures.counts).0
     ∙ ap (λ n. n + 1) c.requires
 
 pub returns-in-Ok-true-clause-turns : goal.returns-in-Ok-true-clause-turns
-returns-in-Ok-true-clause-turns g c = λ hex left taken after st none.
+returns-in-Ok-true-clause-turns g c = λ j left taken after st none.
     let before = g.S.Source.left c.args.source.now in
     let now = g.S.Source.left c.next.new.source in
     let read = subst (λ (b : Bool). ReadsOn c.next.new.self left now st.given (Ok b))
     c.in-Ok-true.field-0-test (c.in-Ok-true.ensures.reads left st.given st.reads) in
-    c.run_line.ensures.turns hex left now taken after st.given read.line st.state st.behind
-    (gathers-read c.args.self.now hex left before now taken after st
+    c.take_line.ensures.turns j left now taken after st.given read.line st.behind
+    (gathers-read c.args.self.now j left before now taken after st
     (λ held. ap (λ s. g.S.Source.left s) (c.next.ensures.held held)) none)
     read.lends read.reads
 
-pub returns-in-Ok-false-clause-turns : goal.returns-in-Ok-false-clause-turns
-returns-in-Ok-false-clause-turns g c = λ hex left taken after st none.
+pub returns-in-Ok-clause-turns : goal.returns-in-Ok-clause-turns
+returns-in-Ok-clause-turns g c = λ j left taken after st none.
     let before = g.S.Source.left c.args.source.now in
     let now = g.S.Source.left c.next.new.source in
     let ended = subst (λ (b : Bool). ReadsOn c.next.new.self left now st.given (Ok b))
     c.in-Ok-false.field-0-test (c.in-Ok-false.ensures.reads left st.given st.reads) in
-    at-last c.args.self.now hex left before now taken after st
+    closed-last c.args.self.now j left before now taken after st
     (λ held. ap (λ s. g.S.Source.left s) (c.next.ensures.held held)) none
-    c.next.new.self status.Success
-    (λ later wrote. (
-      succeeded c.next.new.self c.args.self.now.session hex left now taken later st.given st.state
-          ended st.behind wrote,
-      source-ended c.next.new.self left now st.given ended,
-    ))
+    c.next.new.self c.close.new.self ended (c.in-Ok.ensures j st.given st.behind)
+
+pub returns-in-Err-clause-turns : goal.returns-in-Err-clause-turns
+returns-in-Err-clause-turns g c = λ j left taken after st none.
+    let before = g.S.Source.left c.args.source.now in
+    let now = g.S.Source.left c.next.new.source in
+    at-last c.args.self.now j left before now taken after st
+    (λ held. ap (λ s. g.S.Source.left s) (c.next.ensures.held held)) none
+    c.next.new.self c.close.new.self status.NoMemory refl (λ later wrote. tt)
 
 pub returns-in-Err-ReadFault-clause-turns : goal.returns-in-Err-ReadFault-clause-turns
-returns-in-Err-ReadFault-clause-turns g c = λ hex left taken after st none.
+returns-in-Err-ReadFault-clause-turns g c = λ j left taken after st none.
     let before = g.S.Source.left c.args.source.now in
     let now = g.S.Source.left c.next.new.source in
     let failed = subst (λ (e : LineStop). StopsAfter left now st.given e)
     c.in-Err-ReadFault.field-0-is (c.in-Err-ReadFault.ensures.reads left st.given st.reads) in
-    at-last c.args.self.now hex left before now taken after st
+    at-last c.args.self.now j left before now taken after st
     (λ held. ap (λ s. g.S.Source.left s) (c.next.ensures.held held)) none
-    c.next.new.self status.ReadFault
+    c.next.new.self c.args.self.now.session status.ReadFault refl
     (λ later wrote.
-    cut-off c.args.self.now.session hex left now taken later st.given st.state failed st.behind
+    cut-off c.args.self.now.session j left now taken later st.given failed st.behind
     wrote)
 
 pub returns-in-Err-TooLong-clause-turns : goal.returns-in-Err-TooLong-clause-turns
-returns-in-Err-TooLong-clause-turns g c = λ hex left taken after st none.
+returns-in-Err-TooLong-clause-turns g c = λ j left taken after st none.
     let before = g.S.Source.left c.args.source.now in
     let now = g.S.Source.left c.next.new.source in
     let stopped = subst (λ (e : LineStop). StopsAfter left now st.given e)
     c.in-Err-TooLong.field-0-is (c.in-Err-TooLong.ensures.reads left st.given st.reads) in
-    at-last c.args.self.now hex left before now taken after st
+    at-last c.args.self.now j left before now taken after st
     (λ held. ap (λ s. g.S.Source.left s) (c.next.ensures.held held)) none
-    c.next.new.self status.TooLong
+    c.next.new.self c.args.self.now.session status.TooLong refl
     (λ later wrote.
-    too-long c.args.self.now.session hex left now taken later st.given st.state stopped st.behind
+    too-long c.args.self.now.session j left now taken later st.given stopped st.behind
     wrote)
