@@ -4,15 +4,18 @@ use Rattle.gb_base.specs.declared.event.Event.{Event}
 use Rattle.gb_machine.specs.LawsEnds.{EndOnce, HadItsReply, HasItsCause}
 use Rattle.gb_machine.specs.LawsHotPlug.{AbsentBetween, AbsentHasNoOpen, AbsentIsUnconnected}
 use Rattle.gb_machine.specs.LawsHotPlug.{HaveOwnItems, OpenIsLive, TakesFromItsConnection}
+use Rattle.gb_machine.specs.LawsHotPlug.{WereOpened}
 use Rattle.gb_machine.specs.Members.{Each}
 use Rattle.gb_machine.specs.Runs.{AreValid, moments_in, state_by, told_by}
 
 -- Once the removal of an interface is handled it is absent until its insertion is handled. While it
--- is absent no live connection names it, and no request is open on a connection that ever did. Open
--- requests of the application processor are on live connections.
+-- is absent no live connection names it, and no request is open on a connection that ever did. Each
+-- live connection was told with its ends when it was made. Open requests of the application
+-- processor are on live connections.
 pub record LeavesNothing (es : List Event) : Type 0 where
   pub absent : Each AbsentBetween (moments_in es)
   pub unconnected : AbsentIsUnconnected (told_by es) (state_by es)
+  pub opened : WereOpened (told_by es) (state_by es)
   pub closed : AbsentHasNoOpen (told_by es) (state_by es)
   pub live : OpenIsLive (told_by es) (state_by es)
 

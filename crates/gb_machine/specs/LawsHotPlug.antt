@@ -62,6 +62,17 @@ HasNoOpen i told s =
     → IsIn (entry.Connection k ap i c state) told
     → request_of n s.bus ≡ Some r → r.connection ≡ k → is_open n s.bus ≡ false
 
+-- a connection was told as opening, between its ends
+abbrev pub WasOpened : List Entry → Connection → Type 0
+WasOpened told c =
+    (i : ℕ) × (cport : ℕ) × (c.peer ≡ end.Module i cport)
+    × IsIn (entry.Connection c.number c.ap i cport state.Opening) told
+
+-- Each live connection but that of the supervisory controller was told as opening. So each that
+-- ever named an interface was told to name it.
+abbrev pub WereOpened : List Entry → State → Type 0
+WereOpened told s = Each (λ c. c.number ≢ 1 → WasOpened told c) s.bus.connections
+
 -- nothing that was asked on a connection that named an absent interface is open
 abbrev pub AbsentHasNoOpen : List Entry → State → Type 0
 AbsentHasNoOpen told s = (i : ℕ) → interface_of i s.host ≡ None → HasNoOpen i told s
@@ -69,6 +80,7 @@ AbsentHasNoOpen told s = (i : ℕ) → interface_of i s.host ≡ None → HasNoO
 -- Once the removal of an interface is handled, nothing on it is open, until it is inserted again.
 pub record NothingLeftAfterRemoval : Type 0 where
   pub absent : AbsentAfterRemoval
+  pub opened : HoldsThroughout WereOpened
   pub closed : HoldsThroughout AbsentHasNoOpen
   pub live : HoldsThroughout OpenIsLive
 
@@ -177,11 +189,18 @@ abbrev pub RememberedForOne : List Entry → State → Type 0
 RememberedForOne told s =
     (n k j : ℕ) → IsIn (n, k) s.past.made_for → IsIn (n, j) s.past.made_for → k ≡ j
 
--- What is remembered at a moment is remembered for a connection that is live then.
+-- A request is made at a moment, and a connection is live then.
+pub record IsMadeWhileLive (m : Moment) (n k : ℕ) : Type 0 where
+  pub unmade : request_of n m.before.bus ≡ None
+  pub made : is_some (request_of n (after m).bus) ≡ true
+  pub live : is_some (connection_of k (after m).bus) ≡ true
+
+-- What is remembered at a moment is of a request that is made then, for a connection that is live
+-- then.
 abbrev pub RememberedWhileLive : Moment → Type 0
 RememberedWhileLive m =
-    Each (λ (p : ℕ × ℕ). IsIn p m.before.past.made_for
-    ⊎ is_some (connection_of p.1 (after m).bus) ≡ true) (after m).past.made_for
+    Each (λ (p : ℕ × ℕ). IsIn p m.before.past.made_for ⊎ IsMadeWhileLive m p.0 p.1)
+    (after m).past.made_for
 
 -- A connection is wired at most once, by its own request, to a module that is plugged and routed.
 -- Its own request was made while it was live, and is no other's.
