@@ -16,7 +16,7 @@ use Rattle.gb_machine.specs.LawsHotPlug.{AbsentAfterRemoval, AbsentBetween, Abse
 use Rattle.gb_machine.specs.LawsHotPlug.{HaveOwnItems, NoForeignMessage, NoneForgotten}
 use Rattle.gb_machine.specs.LawsHotPlug.{NothingLeftAfterRemoval, OpenIsLive, RememberedForOne}
 use Rattle.gb_machine.specs.LawsHotPlug.{RememberedWhileLive, TakesFromItsConnection}
-use Rattle.gb_machine.specs.LawsHotPlug.{WiredAtMostOnce, WiredByItsRequest, WiredOnce}
+use Rattle.gb_machine.specs.LawsHotPlug.{WereOpened, WiredAtMostOnce, WiredByItsRequest, WiredOnce}
 use Rattle.gb_machine.specs.LawsSvc.{AreRouted, AwaitedIsTheLast, AwaitsLast, FindsUnwired, IsQuiet}
 use Rattle.gb_machine.specs.LawsSvc.{LeavesNothing, OneEnumerationRequestThenRestarts}
 use Rattle.gb_machine.specs.LawsSvc.{OneThenRestarts, QuietBeforeRemoval, RemovalLeavesNothingWired}
@@ -29,6 +29,7 @@ use Rattle.gb_laws.proofs.FarOpenRuns.{unwired-open_by_moments}
 use Rattle.gb_laws.proofs.Happened.{ends-seen, items-seen, told-seen}
 use Rattle.gb_laws.proofs.Single.{counts-add-up, labels-by_moments, names-by_moments}
 use Rattle.gb_laws.proofs.Single.{one-item_by_moments}
+use Rattle.gb_laws.proofs.OpeningTold.{opened-by_moments, opened-seen}
 use Rattle.gb_laws.proofs.{Absent.between-at_moments, Absent.unconnected-by_moments}
 use Rattle.gb_laws.proofs.{Answering.answered-at_moments, AwaitsNewest.awaits-newest_by_moments}
 use Rattle.gb_laws.proofs.{AwaitsOwn.awaits-own_by_moments, BehindRuns.none-behind_by_moments}
@@ -103,6 +104,10 @@ absent-after = (
 pub open-live : HoldsThroughout OpenIsLive
 open-live = of-all OpenIsLive (of-state _) open-live_by_moments
 
+-- Each live connection was told as opening, between its ends.
+pub opening-told : HoldsThroughout WereOpened
+opening-told = of-all WereOpened opened-seen opened-by_moments
+
 -- Nothing that the application processor asked on a connection that named an absent interface is
 -- open.
 pub absent-open : HoldsThroughout AbsentHasNoOpenOfAp
@@ -124,6 +129,7 @@ module-open = of-all AbsentHasNoOpenOfModule module-seen module-open_by_moments
 pub nothing-left : NothingLeftAfterRemoval
 nothing-left = record {
   absent = absent-after;
+  opened = opening-told;
   closed = λ es valid i gone k own c n state r said made on.
       either es valid i gone k own c n state r said made on r.side refl;
   live = open-live;
@@ -147,7 +153,7 @@ none-forgotten = at-all NoneForgotten none-forgotten_at
 pub remembered-for : HoldsThroughout RememberedForOne
 remembered-for = of-all RememberedForOne (of-state _) remembered-for_one
 
--- It is for a connection that is live then.
+-- It is remembered when it is made, for a connection that is live then.
 pub remembered-live : HoldsAtEachMoment RememberedWhileLive
 remembered-live = at-all RememberedWhileLive remembered-while_live
 
@@ -270,6 +276,7 @@ headline-holds es valid = record {
   removed = record {
     absent = absent-after.1 es valid;
     unconnected = absent-after.0 es valid;
+    opened = opening-told es valid;
     closed = nothing-left.closed es valid;
     live = open-live es valid;
   };

@@ -154,6 +154,7 @@ pub mod Opens
 pub mod OpenActs
 pub mod OpenKept
 pub mod OpenRuns
+pub mod OpeningTold
 pub mod ToldLinks
 pub mod ToldRuns
 pub mod FarItems

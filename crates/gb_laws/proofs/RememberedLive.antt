@@ -1,17 +1,20 @@
--- A request is remembered for a connection that is live when it is made, and stays live for the
--- rest of the step.
+-- A request is remembered at the moment at which it is made, for a connection that is live then
+-- and stays live for the rest of the step.
 use Rattle.std.proofs.Common.{Bool, List, None, Option, Some, ap, arith, cond, false, inl, inr}
 use Rattle.std.proofs.Common.{length, length-append, refl, subst, sym, true, ℕ, ⊎_elim, [], ◌++◌}
-use Rattle.std.proofs.Common.{◌+◌, ◌<◌, ◌∙◌, ◌∷◌, ◌≡◌, ◌≤◌, ◌⊎◌}
+use Rattle.std.proofs.Common.{suc, zero, ◌+◌, ◌<◌, ◌∙◌, ◌∷◌, ◌≡◌, ◌≤◌, ◌⊎◌}
 use Rattle.std.specs.Prelude.{is_some}
+use Rattle.std.specs.List.{slice_get}
 use Rattle.gb_base.specs.declared.entry.Entry.{Entry}
 use Rattle.gb_base.specs.declared.peers.Link.{Link}
 use Rattle.gb_machine.specs.Bus.{Bus, Request, connection_of}
 use Rattle.gb_machine.specs.Host.{Host, is_link, link_at}
 use Rattle.gb_machine.specs.Runs.{IsMoment, Moment, after, told_at}
 use Rattle.gb_machine.specs.Turns.{Act, Asking, HostEvent}
+use Rattle.gb_machine.proofs.Lists.{nth-past}
 use Rattle.gb_machine.specs.{HostActs.made_for, HostActs.with_awaited, HostTurns.host_turn}
-use Rattle.gb_machine.specs.{LawsHotPlug.RememberedWhileLive, Members.IsIn, Sending.requested}
+use Rattle.gb_machine.specs.LawsHotPlug.{IsMadeWhileLive, RememberedWhileLive}
+use Rattle.gb_machine.specs.{Lists.nth, Members.IsIn, Sending.requested}
 use Rattle.gb_machine.specs.{SequenceSteps.is_for_connection, State.State, Waits.awaits}
 use Rattle.gb_machine.specs.{Wiring.next_connection}
 use Rattle.gb_invariants.proofs.Lists.{each-from, found-in, in-front, in-pushed}
@@ -205,6 +208,17 @@ pub record SinceTo (told : List Entry) (s : State) : Type 0 where
   pub there : AreAlive s.bus.connections s.host
   pub remembers : RemembersTo told s
 
+-- there is a request of each number from 1 to their count
+request-there : {A : Type 0} (n : ℕ) (xs : List A) → 1 ≤ n → n ≤ length xs
+    → is_some (nth n xs) ≡ true
+request-there zero xs low high = absurd (omega (arith, low))
+request-there (suc k) xs low high = within k xs (omega (arith, high))
+  where
+    within : {A : Type 0} (k : ℕ) (xs : List A) → k < length xs → is_some (slice_get xs k) ≡ true
+    within k [] h = absurd (omega (arith, h))
+    within zero (x ∷ xs) h = refl
+    within (suc k) (x ∷ xs) h = within k xs (omega (arith, h))
+
 pub since-over : (m : Moment) → IsMoment m.event → SinceTo m.told m.before
     → SinceTo (m.told ++ told_at m) (after m) × RememberedWhileLive m
 since-over m one h =
@@ -221,10 +235,13 @@ since-over m one h =
         there = r.0.0.1;
         remembers = remembers-over m one h.remembers;
       },
-      each-from (λ (p : ℕ × ℕ). IsIn p m.before.past.made_for
-          ⊎ (is_some (connection_of p.1 (after m).bus) ≡ true)) (after m).past.made_for
-          (λ p i. ⊎_elim (λ o. inl o) (λ w. inr (found p.1 w.1 r.0.0.1 r.0.0.0.0.bus.numbers))
-          (r.1.new p.0 p.1 i)),
+      each-from (λ (p : ℕ × ℕ). IsIn p m.before.past.made_for ⊎ IsMadeWhileLive m p.0 p.1)
+          (after m).past.made_for (λ p i. ⊎_elim (λ o. inl o) (λ w. inr (record {
+            unmade = nth-past p.0 m.before.bus.requests w.0;
+            made = request-there p.0 (after m).bus.requests (let new = w.0 in omega (arith, new))
+                (r.0.1.below p.0 p.1 i);
+            live = found p.1 w.1 r.0.0.1 r.0.0.0.0.bus.numbers;
+          })) (r.1.new p.0 p.1 i)),
     )
   where
     found : (k : ℕ) → IsLinked k (after m).host → AreAlive (after m).bus.connections (after m).host
@@ -242,7 +259,8 @@ since-throughout = throughout SinceTo (record {
   remembers = remembers-first;
 }) (λ m one h. (since-over m one h).0)
 
--- What is remembered at a moment is remembered for a connection that is live then.
+-- What is remembered at a moment is of a request that is made then, for a connection that is live
+-- then.
 pub remembered-while_live : HoldsAtMoments RememberedWhileLive
 remembered-while_live = at_each SinceTo RememberedWhileLive since-throughout
     (λ m one h. (since-over m one h).1)

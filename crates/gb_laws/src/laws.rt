@@ -35,6 +35,7 @@ ghost use Rattle.gb_machine.specs.LawsHotPlug.{
   OpenIsLive,
   RememberedForOne,
   RememberedWhileLive,
+  WereOpened,
   WiredAtMostOnce,
   WiredByItsRequest,
   WiredOnce,
@@ -117,6 +118,12 @@ pub fn open_is_live()
     ensures { HoldsThroughout OpenIsLive }
 {}
 
+/// Each live connection but that of the supervisory controller was told as opening, with its number
+/// and its ends.
+pub fn opening_was_told()
+    ensures { HoldsThroughout WereOpened }
+{}
+
 /// Nothing that the application processor asked on a connection that named an absent interface is
 /// open.
 pub fn absent_has_no_open_of_ap()
@@ -141,8 +148,8 @@ pub fn absent_has_no_open_of_module()
 
 /// Once the removal of an interface is handled nothing is left of it, until its insertion is: it is
 /// absent, no live connection names it, and nothing that was asked on a connection which did is
-/// open. An open request of the application processor is on a live connection whose side isn't
-/// closed.
+/// open. Each live connection was told with its ends. An open request of the application processor
+/// is on a live connection whose side isn't closed.
 pub fn nothing_left_after_removal()
     ensures { NothingLeftAfterRemoval }
 {}
@@ -214,8 +221,8 @@ pub fn remembered_for_one()
     ensures { HoldsThroughout RememberedForOne }
 {}
 
-/// A request that creates or destroys a connection is remembered for one that is live when it is
-/// made.
+/// A request that creates or destroys a connection is remembered at the moment at which it is made,
+/// for a connection that is live then.
 pub fn remembered_while_live()
     ensures { HoldsAtEachMoment RememberedWhileLive }
 {}
