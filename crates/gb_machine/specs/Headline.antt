@@ -20,7 +20,7 @@ pub record LeavesNothing (es : List Event) : Type 0 where
   pub live : OpenIsLive (told_by es) (state_by es)
 
 -- What waits or is held on a connection was put there by a request, a reply or an injection on that
--- connection, and a delivery takes it from there.
+-- connection. A delivery takes the front item from there, and tells what became of that.
 pub record HandlesItsOwn (es : List Event) : Type 0 where
   pub items : HaveOwnItems (told_by es) (state_by es)
   pub takes : Each TakesFromItsConnection (moments_in es)

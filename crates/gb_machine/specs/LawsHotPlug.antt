@@ -1,7 +1,8 @@
 -- Laws of runs: what stands once a module was removed, whose messages are handled, and when a
 -- connection is wired.
-use Rattle.std.specs.Prelude.{◌≡◌, ◌≤◌, ◌≢◌, ◌⊎◌, ℕ, ◌==◌, true, false, if◌then◌else◌, is_some}
-use Rattle.std.specs.Prelude.{Some, None, Ok, List, [], ◌∷◌, length}
+use Rattle.std.specs.Prelude.{◌≡◌, ◌≤◌, ◌≢◌, ◌⊎◌, ℕ, ◌==◌, Bool, true, false, if◌then◌else◌}
+use Rattle.std.specs.Prelude.{Option, Some, None, option_map, Result, Ok, Err, List, [], ◌∷◌, ◌++◌}
+use Rattle.std.specs.Prelude.{is_some, length}
 use Rattle.gb_base.specs.declared.end.End.{End}
 use Rattle.gb_base.specs.declared.end.End.TheVariants as end
 use Rattle.gb_base.specs.declared.end.Side.{Side}
@@ -11,22 +12,27 @@ use Rattle.gb_base.specs.declared.entry.ConnState.TheVariants as state
 use Rattle.gb_base.specs.declared.entry.Entry.{Entry}
 use Rattle.gb_base.specs.declared.entry.Entry.TheVariants as entry
 use Rattle.gb_base.specs.declared.event.Event.TheVariants as event
-use Rattle.gb_formats.specs.Message.{message_size, request, response, spelling}
+use Rattle.gb_base.specs.declared.fault.RawFault.{RawFault}
+use Rattle.gb_base.specs.declared.outcome.Outcome.TheVariants as outcome
+use Rattle.gb_formats.specs.Message.{Message, message_size, request, response, spelling}
 use Rattle.gb_formats.specs.SvcRecords.{SvcAsk, read_svc_ask}
+use Rattle.gb_formats.specs.Wire.{raw_message}
+use Rattle.gb_machine.specs.Arriving.{dropped}
 use Rattle.gb_machine.specs.Bus.{Ask, Bus, Connection, Item, Place, Raw, RawReply, Reply, Request}
 use Rattle.gb_machine.specs.Bus.{connection_of, end_of, is_open, other_side, place_of, queue}
 use Rattle.gb_machine.specs.Bus.{request_of}
 use Rattle.gb_machine.specs.Holding.{held_on}
 use Rattle.gb_machine.specs.Host.{interface_of}
-use Rattle.gb_machine.specs.Lists.{first}
+use Rattle.gb_machine.specs.Incoming.{Incoming, request_in}
+use Rattle.gb_machine.specs.Lists.{behind_first, first}
 use Rattle.gb_machine.specs.Members.{Each, IsIn, times}
 use Rattle.gb_machine.specs.Modules.{is_plugged}
 use Rattle.gb_machine.specs.Ports.{level_of}
 use Rattle.gb_machine.specs.Refusals.{refusal}
-use Rattle.gb_machine.specs.Runs.{HoldsAtEachMoment, HoldsThroughout, Moment, after}
+use Rattle.gb_machine.specs.Runs.{HoldsAtEachMoment, HoldsThroughout, Moment, after, told_at}
 use Rattle.gb_machine.specs.Sending.{is_wired}
 use Rattle.gb_machine.specs.State.{Held, State}
-use Rattle.gb_machine.specs.SvcQueues.{HandlesInsertion, HandlesRemoval, svc_items}
+use Rattle.gb_machine.specs.SvcQueues.{HandlesInsertion, HandlesRemoval, is_reply_to, svc_items}
 use Rattle.gb_machine.specs.Wiring.{is_at}
 
 -- ---- nothing left after a removal
@@ -131,14 +137,99 @@ pub record HasOwnItems (told : List Entry) (s : State) (c : Connection) : Type 0
 abbrev pub HaveOwnItems : List Entry → State → Type 0
 HaveOwnItems told s = Each (HasOwnItems told s) s.bus.connections
 
--- A delivery that isn't refused takes its item from a connection that is live, wired and names the
--- end.
+-- the identifier of a message that came as raw bytes
+abbrev pub raw_label : Result Message RawFault → Option ℕ
+raw_label (Ok m) = Some m.id
+raw_label (Err fault) = None
+
+-- the identifier of the response that an item is
+abbrev pub label_in : Item → Bus → Option ℕ
+label_in (Ask n) b = None
+label_in (Reply n result payload) b = option_map (λ r. r.label) (request_of n b)
+label_in (Raw bytes) b = raw_label (raw_message bytes)
+label_in (RawReply label kind result payload) b = Some label
+
+-- an item is a request with this number, none where it came as raw bytes
+abbrev pub IsRequest : Item → Bus → Option ℕ → Type 0
+IsRequest item b n = (q : Incoming) × (request_in item b ≡ Some q) × (q.number ≡ n)
+
+-- an item is a unidirectional request
+abbrev pub IsOneway : Item → Bus → Type 0
+IsOneway item b = (q : Incoming) × (request_in item b ≡ Some q) × (q.oneway ≡ true)
+
+-- An item toward a place answers request n, which was made there and has its identifier. On a clean
+-- connection the item has its number.
+pub record IsAnswerTo (p : Place) (item : Item) (b : Bus) (n : ℕ) : Type 0 where
+  pub request : Request
+  pub made : request_of n b ≡ Some request
+  pub connection : request.connection ≡ p.connection.number
+  pub side : request.side ≡ p.side
+  pub label : label_in item b ≡ Some request.label
+  pub number : p.connection.clean ≡ true → is_reply_to n item ≡ true
+
+-- An entry tells what became of this item, which was taken toward this place.
+abbrev pub IsToldOf : Place → Item → Bus → Entry → Type 0
+IsToldOf p item b (entry.Dropped n reply) = entry.Dropped n reply ≡ dropped item
+IsToldOf p item b (entry.Held n) = IsRequest item b n
+IsToldOf p item b (entry.Replied n from to result size bytes) =
+    IsRequest item b n × (from ≡ end_of p.side p.connection)
+    × (to ≡ end_of (other_side p.side) p.connection)
+IsToldOf p item b (entry.Ignored kind) =
+    (q : Incoming) × (request_in item b ≡ Some q) × (q.kind ≡ kind)
+IsToldOf p item b (entry.Ended n (outcome.Answered result payload) read) = IsAnswerTo p item b n
+IsToldOf p item b (entry.Late n) = IsAnswerTo p item b n
+IsToldOf p item b (entry.LateLabel label) = label_in item b ≡ Some label
+IsToldOf p item b (entry.UnknownLabel label) = label_in item b ≡ Some label
+IsToldOf p item b (entry.BadRaw fault) =
+    (bytes : List ℕ) × (item ≡ Raw bytes) × (raw_message bytes ≡ Err fault)
+IsToldOf p item b (entry.Irq i c line) = p.connection.peer ≡ end.Module i c
+IsToldOf p item b (entry.Received i c bytes) = p.connection.peer ≡ end.Module i c
+IsToldOf p item b (entry.Serial i c control) = p.connection.peer ≡ end.Module i c
+IsToldOf p item b (entry.Credits i c total) = p.connection.peer ≡ end.Module i c
+IsToldOf p item b _ = ⊥
+
+-- An entry tells what a message brings about: a request, the end of one by a disconnection or at
+-- once, an interface, a manifest or a connection.
+abbrev pub is_consequence : Entry → Bool
+is_consequence (entry.Asked n from to kind size bytes lost) = true
+is_consequence (entry.Ended n outcome.Disconnected read) = true
+is_consequence (entry.Ended n outcome.Sent read) = true
+is_consequence (entry.Interface i stage) = true
+is_consequence (entry.Manifest i at why) = true
+is_consequence (entry.Connection k ap i c state) = true
+is_consequence _ = false
+
+-- The front item toward a place is gone after a moment: the connection is live and wired still, and
+-- what stood behind that item waits there, in front of what came since.
+pub record IsTakenOff (m : Moment) (p : Place) : Type 0 where
+  pub connection : Connection
+  pub more : List Item
+  pub live : connection_of p.connection.number (after m).bus ≡ Some connection
+  pub wired : connection.wired ≡ true
+  pub left : queue p.side connection ≡ behind_first (queue p.side p.connection) ++ more
+
+-- A delivery takes the front item toward its end, from a connection that is live, wired and names
+-- the end, and it is gone then. Each entry behind `done` tells what became of that item or what the
+-- item brings about. One tells the former, unless the item is a unidirectional request.
+pub record TakesItem (m : Moment) (at : End) : Type 0 where
+  pub place : Place
+  pub item : Item
+  pub named : place_of at m.before.bus.connections ≡ Some place
+  pub live : IsIn place.connection m.before.bus.connections
+  pub wired : place.connection.wired ≡ true
+  pub is : end_of place.side place.connection ≡ at
+  pub front : first (queue place.side place.connection) ≡ Some item
+  pub entries : List Entry
+  pub done : told_at m ≡ entry.Done ∷ entries
+  pub told : Each (λ e. IsToldOf place item m.before.bus e ⊎ is_consequence e ≡ true) entries
+  pub says : IsOneway item m.before.bus
+      ⊎ ((e : Entry) × IsIn e entries × IsToldOf place item m.before.bus e)
+  pub gone : IsTakenOff m place
+
+-- A delivery that isn't refused takes its item so.
 abbrev pub TakesFromItsConnection : Moment → Type 0
 TakesFromItsConnection m =
-    (at : End) → m.event ≡ event.Deliver at → refusal m.before m.event ≡ None
-    → (p : Place) × (item : Item) × (place_of at m.before.bus.connections ≡ Some p)
-    × IsIn p.connection m.before.bus.connections × (p.connection.wired ≡ true)
-    × (end_of p.side p.connection ≡ at) × (first (queue p.side p.connection) ≡ Some item)
+    (at : End) → m.event ≡ event.Deliver at → refusal m.before m.event ≡ None → TakesItem m at
 
 -- No end handles a message of another connection.
 abbrev pub NoForeignMessage : Type 0
