@@ -38,7 +38,7 @@ use Rattle.gb_laws.proofs.{Ended.ends-told_by_moments, Endpoints.endpoints-by_mo
 use Rattle.gb_laws.proofs.{EnumRuns.restarts-by_moments, EnumRuns.served-by_moments}
 use Rattle.gb_laws.proofs.{EnumSettledRuns.asked-none_by_moments}
 use Rattle.gb_laws.proofs.{EnumSettledRuns.done-none_by_moments, Foreign.own-items}
-use Rattle.gb_laws.proofs.{Foreign.takes-at_moments, OpenRuns.open-live_by_moments}
+use Rattle.gb_laws.proofs.{Taken.takes-at_moments, OpenRuns.open-live_by_moments}
 use Rattle.gb_laws.proofs.{QuietBefore.quiet-before_moments, QuietRuns.finds-at_moments}
 use Rattle.gb_laws.proofs.{QuietRuns.leaves-by_moments, RememberedLive.remembered-while_live}
 use Rattle.gb_laws.proofs.{Remembering.none-forgotten_at, Remembering.remembered-for_one}

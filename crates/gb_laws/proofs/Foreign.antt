@@ -3,17 +3,15 @@ use Rattle.std.proofs.Common.{List, ap, inl, inr, sym, ℕ, [], ◌∙◌, ◌�
 use Rattle.gb_base.specs.declared.end.End.TheVariants as end
 use Rattle.gb_base.specs.declared.end.Side.TheVariants as side
 use Rattle.gb_base.specs.declared.entry.Entry.{Entry}
-use Rattle.gb_machine.proofs.Conditions.{waits}
 use Rattle.gb_machine.specs.LawsHotPlug.{HasOwnItems, HaveOwnItems, IsOwnItem}
-use Rattle.gb_machine.specs.LawsHotPlug.{TakesFromItsConnection}
 use Rattle.gb_machine.specs.State.{Held, State, first_state}
 use Rattle.gb_machine.specs.{Bus.Connection, Bus.svc_connection, Holding.held_on}
-use Rattle.gb_machine.specs.{Holding.is_held_on, Members.IsIn, Refusals.refusal, Runs.Moment}
+use Rattle.gb_machine.specs.{Holding.is_held_on, Members.IsIn, Runs.Moment}
 use Rattle.gb_invariants.proofs.{Lists.each-from, Lists.in-filter, Outcomes.same-number}
-use Rattle.gb_laws.proofs.Basics.{Based, basis, basis-first, basis-throughout, none-waits, rested}
+use Rattle.gb_laws.proofs.Basics.{basis, basis-first, none-waits, rested}
 use Rattle.gb_laws.proofs.PointParts.{Basis, loose_held, resting}
-use Rattle.gb_laws.proofs.Runs.{HoldsAtMoments, HoldsByMoments, at_each, throughout, weaker}
-use Rattle.gb_laws.proofs.{Loosening.map-held-in, Owned.own-kept, Owning.OwnTold, Places.place-is}
+use Rattle.gb_laws.proofs.Runs.{HoldsByMoments, throughout, weaker}
+use Rattle.gb_laws.proofs.{Loosening.map-held-in, Owned.own-kept, Owning.OwnTold}
 use Rattle.gb_laws.proofs.{Points.Law, Points.upon, Steps.over-step}
 
 abbrev own_law : (m : Moment) → Law m
@@ -60,15 +58,3 @@ own-items = weaker OwnAt HaveOwnItems
           h.1.hanging c (loose_held x) live (map-held-in x s.held f.0)
           (sym (same-number x.connection c.number f.1)));
     })) own-throughout
-
--- A delivery takes its item from a connection that is live, wired and names the end.
-takes-own : (m : Moment) → TakesFromItsConnection m
-takes-own m at is allowed =
-    let w = waits m.before at (ap (refusal m.before) (sym is) ∙ allowed) in
-    let q = place-is at m.before.bus.connections w.place w.named in
-    (w.place, w.item, w.named, q.live, q.wired, q.is, w.front)
-
--- Each delivery takes its item so.
-pub takes-at_moments : HoldsAtMoments TakesFromItsConnection
-takes-at_moments =
-    at_each Based TakesFromItsConnection basis-throughout (λ m one h. takes-own m)

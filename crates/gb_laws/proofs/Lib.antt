@@ -169,6 +169,12 @@ pub mod Endpoints
 pub mod Owning
 pub mod OwnReplies
 pub mod Owned
+pub mod TakenQueues
+pub mod TakenTells
+pub mod TakenActs
+pub mod TakenServed
+pub mod TakenKnown
+pub mod Taken
 pub mod Foreign
 pub mod ReplyHands
 pub mod Replying

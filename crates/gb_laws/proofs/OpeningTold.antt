@@ -1,23 +1,21 @@
 -- Each live connection but that of the supervisory controller was told as opening, between its
 -- ends.
-use Rattle.std.proofs.Common.{List, Some, ap, inl, inr, refl, subst, sym, [], ◌∙◌, ◌∷◌, ◌≡◌}
-use Rattle.std.proofs.Common.{◌≢◌}
+use Rattle.std.proofs.Common.{List, Some, ap, inl, inr, refl, subst, sym, [], ◌∙◌, ◌∷◌, ◌≡◌, ◌≢◌}
 use Rattle.gb_base.specs.declared.entry.Entry.{Entry}
 use Rattle.gb_base.specs.declared.entry.ConnState.TheVariants as state
 use Rattle.gb_base.specs.declared.entry.Entry.TheVariants as entry
-use Rattle.gb_machine.specs.LawsHotPlug.{WasOpened, WereOpened}
-use Rattle.gb_machine.specs.{Bus.Bus, Bus.Connection, Bus.first_bus, Members.IsIn, Runs.Moment}
-use Rattle.gb_machine.specs.{State.State}
-use Rattle.gb_invariants.proofs.Apart.{SameEnds}
+use Rattle.gb_machine.specs.Bus.{Bus, Connection, first_bus}
+use Rattle.gb_machine.specs.{LawsHotPlug.WasOpened, LawsHotPlug.WereOpened, Members.IsIn}
+use Rattle.gb_machine.specs.{Runs.Moment, State.State}
 use Rattle.gb_invariants.proofs.BusChanges.{Was, came, made_by, stayed, was, went}
 use Rattle.gb_invariants.proofs.Lists.{each-from, each-weaker, in-behind, in-front}
-use Rattle.gb_invariants.proofs.Awaiting.{none-some, same-some}
+use Rattle.gb_invariants.proofs.{Apart.SameEnds, Awaiting.none-some, Awaiting.same-some}
 use Rattle.gb_laws.proofs.Basics.{Based, basis, basis-first, rested}
-use Rattle.gb_laws.proofs.Happened.{happened-told, told-happened}
 use Rattle.gb_laws.proofs.Points.{Change, Law, acts_opened, changed, drops, upon}
 use Rattle.gb_laws.proofs.Runs.{HoldsByMoments, throughout, weaker}
 use Rattle.gb_laws.proofs.{AllRuns.SeesHappenings, ChangeBuses.bus_change, ChangeBuses.by-bus}
-use Rattle.gb_laws.proofs.{PointParts.Point, Steps.over-step}
+use Rattle.gb_laws.proofs.{Happened.happened-told, Happened.told-happened, PointParts.Point}
+use Rattle.gb_laws.proofs.{Steps.over-step}
 
 -- where it was told so, it is told still, also of a connection with the same ends
 opened-more : (told more : List Entry) (c d : Connection) → SameEnds c d

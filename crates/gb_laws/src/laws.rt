@@ -101,7 +101,8 @@ pub fn endpoints_differ()
 {}
 
 /// What waits and what is held on a connection was told as asked, replied or injected on that
-/// connection, and a delivery takes it from a connection that is live, wired and names the end.
+/// connection. A delivery takes the front item from a connection that is live, wired and names the
+/// end. It tells what became of that item and what that brings about, and the item is gone then.
 pub fn no_foreign_message()
     ensures { NoForeignMessage }
 {}
