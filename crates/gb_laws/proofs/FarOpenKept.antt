@@ -132,7 +132,7 @@ far-asked m a d c basis live (by_far who on) far =
     let f = found-number d.connection a.state.bus c live in record {
       wired = λ x here e. ap (λ (y : Connection). y.wired) (same-some x c
           (sym (subst (λ k. connection_of k a.state.bus ≡ Some x) e
-          (found-by_number a.state.bus.connections x basis.bus.numbers.rise here)) ∙ live)) ∙ on;
+          (found-by_number a.state.bus.connections x basis.bus.numbers.rise here)) ∙ live)) ∙ on.0;
       there = record { connection = c; live = f.0; number = f.1 };
     }
 

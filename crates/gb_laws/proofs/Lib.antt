@@ -11,6 +11,7 @@ pub mod Silent
 pub mod Happened
 pub mod Overdue
 pub mod Naming
+pub mod LowTypes
 -- the basis: the bus and its loose items
 pub mod Basics
 pub mod BasisParts
@@ -163,6 +164,7 @@ pub mod FarOpenKept
 pub mod FarOpenLeft
 pub mod FarOpenRuns
 -- laws
+pub mod LowRequests
 pub mod Single
 pub mod NoneLeft
 pub mod Endpoints

@@ -1,6 +1,6 @@
 -- The single changes that lead from one point within the step of an event to the next.
 use Rattle.std.specs.Prelude.{Bool, List, None, Option, Some, false, length, map, nat_lt, true, ℕ}
-use Rattle.std.specs.Prelude.{[], ◌+◌, ◌∷◌, ◌≡◌, ◌≢◌, ◌⊎◌}
+use Rattle.std.specs.Prelude.{[], ◌+◌, ◌<◌, ◌∷◌, ◌≡◌, ◌≢◌, ◌⊎◌}
 use Rattle.gb_base.specs.declared.bridge.BridgeAsk.{BridgeAsk}
 use Rattle.gb_base.specs.declared.bridge.Reading.TheVariants as reading
 use Rattle.gb_base.specs.declared.end.End.{End}
@@ -91,12 +91,12 @@ pub data IsFarAsking (m : Moment) (s : State) (c : Connection) (d : Draft) : Typ
       → level_of i s.ports ≡ 0) → IsFarAsking m s c d
 
 -- Who asks on a connection at a point: the application processor does an act, and its sequence is
--- to
--- wait for the request, or a far side asks on a connection that is wired.
+-- to wait for the request, or a far side asks on a connection that is wired, and with a type that a
+-- request can have.
 pub data IsAskedBy (m : Moment) (a : Point) (c : Connection) (d : Draft) : Type 0 where
   by_host : (q : Asking) (rest : List Act) → a.pending ≡ Act.Ask q ∷ rest
       → d ≡ host_draft q a.state.now → a.asked ≡ None → IsAskedBy m a c d
-  by_far : IsFarAsking m a.state c d → c.wired ≡ true → IsAskedBy m a c d
+  by_far : IsFarAsking m a.state c d → (c.wired ≡ true) × (d.kind < 128) → IsAskedBy m a c d
 
 -- the request for which a sequence is to wait then
 abbrev pub awaited_by : (m : Moment) (a : Point) (c : Connection) (d : Draft)
@@ -182,7 +182,7 @@ pub data Change (m : Moment) (a : Point) : Type 0 where
   names : (name : Name) (d : Draft) (c : Connection) (label : ℕ) → a.hand ≡ None
       → connection_of d.connection a.state.bus ≡ Some c
       → label_for d a.state.bus ≡ Some label → (d.side ≡ side.Ap) × IsPlain a.state d
-      × (a.pending ≡ []) → Change m a
+      × (a.pending ≡ []) × (d.kind < 128) → Change m a
   -- a name gets a request that another has, or is free
   binds : (x y : Name) (n : ℕ) → named x a.state.names ≡ Some n → Change m a
   frees : (name : Name) → Change m a

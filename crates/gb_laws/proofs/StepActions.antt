@@ -1,6 +1,6 @@
 -- A law of points goes over the actions of the machine: the combinators, and asking.
 use Rattle.std.proofs.Common.{Bool, List, None, Option, Some, ap, append-nil, append_assoc, false}
-use Rattle.std.proofs.Common.{refl, subst, sym, true, ℕ, [], ◌++◌, ◌+◌, ◌∙◌, ◌∷◌, ◌≡◌}
+use Rattle.std.proofs.Common.{refl, subst, sym, true, ℕ, [], ◌++◌, ◌+◌, ◌<◌, ◌∙◌, ◌∷◌, ◌≡◌}
 use Rattle.std.specs.Prelude.{option_map, ◌==◌}
 use Rattle.gb_base.specs.declared.bridge.Reading.TheVariants as reading
 use Rattle.gb_base.specs.declared.end.End.TheVariants as end
@@ -21,7 +21,7 @@ use Rattle.gb_invariants.proofs.{Awaiting.none-some, Awaiting.same-some, Found.f
 use Rattle.gb_invariants.proofs.{ItemChanges.asked_on-self, Labels.asked_on, Labels.asked_on-number}
 use Rattle.gb_laws.proofs.PointParts.{AreSilent, Hand, Wires, is_silent, sent_told}
 use Rattle.gb_laws.proofs.Points.{IsFarAsking, asks, by_far, by_module, tells}
-use Rattle.gb_laws.proofs.StepActLaws.{ActLaw}
+use Rattle.gb_laws.proofs.{LowTypes.AreLow, StepActLaws.ActLaw}
 
 -- a live connection is to a module
 abbrev pub IsToModule : ℕ → Bus → Type 0
@@ -146,9 +146,10 @@ module _ (m : Moment) (law : ActLaw m) where
 
   pub goes-asks : (acts : List Act) (wires : Wires) (d : Draft) (s : State)
       → ((c : Connection) → connection_of d.connection s.bus ≡ Some c
-      → IsFarAsking m s c d × (c.wired ≡ true)) → Stays None acts wires (asking d) s
+      → IsFarAsking m s c d × (c.wired ≡ true)) → d.kind < 128
+      → Stays None acts wires (asking d) s
   unfolding machine_opened
-  goes-asks acts wires d s who told at =
+  goes-asks acts wires d s who low told at =
       by (connection_of d.connection s.bus) refl (label_for d s.bus) refl
     where
       oneway : (t : Bool) (w : State) (e : Entry) (n : ℕ)
@@ -168,25 +169,25 @@ module _ (m : Moment) (law : ActLaw m) where
       by (Some c) e (Some label) f =
           oneway d.oneway (record s { bus = sent d label s.bus }) (asked d c label s.bus)
           (next_number s.bus)
-          (law.kept _ (asks d c label refl e f (by_far (who c e).0 (who c e).1)) tt at)
+          (law.kept _ (asks d c label refl e f (by_far (who c e).0 ((who c e).1, low))) tt at)
 
   pub goes-far_asks : (acts : List Act) (wires : Wires) (k : ℕ) (own : OwnAsk) (s : State)
       → ((c : Connection) → connection_of k s.bus ≡ Some c → IsFarAsking m s c
       (draft k side.Far own.kind own.payload (s.now + default_timeout) own.oneway))
-      → Stays None acts wires (far_asks k own) s
+      → own.kind < 128 → Stays None acts wires (far_asks k own) s
   unfolding machine_opened
-  goes-far_asks acts wires k own s who =
+  goes-far_asks acts wires k own s who low =
       goes-when None acts wires (is_wired (connection_of k s.bus))
       (asking (draft k side.Far own.kind own.payload (s.now + default_timeout) own.oneway)) s
       (λ e. goes-asks acts wires (draft k side.Far own.kind own.payload (s.now + default_timeout)
-      own.oneway) s (λ c f. (who c f, sym (ap is_wired f) ∙ e)))
+      own.oneway) s (λ c f. (who c f, sym (ap is_wired f) ∙ e)) low)
 
   -- a module's requests, one after another
   pub goes-far_asks_all : (acts : List Act) (wires : Wires) (k : ℕ) (own : List OwnAsk) (s : State)
-      → IsToModule k s.bus → Stays None acts wires (far_asks_all k own) s
+      → IsToModule k s.bus → AreLow own → Stays None acts wires (far_asks_all k own) s
   unfolding machine_opened
-  goes-far_asks_all acts wires k [] s to = goes-nothing None acts wires s
-  goes-far_asks_all acts wires k (x ∷ xs) s to =
+  goes-far_asks_all acts wires k [] s to low = goes-nothing None acts wires s
+  goes-far_asks_all acts wires k (x ∷ xs) s to low =
       goes-▸ (far_asks k x) (each xs (far_asks k))
-      (goes-far_asks acts wires k x s (λ c e. let p = to c e in by_module p.0 p.1 p.2 refl))
-      (goes-far_asks_all acts wires k xs (far_asks k x s).state (to-asked k x s to))
+      (goes-far_asks acts wires k x s (λ c e. let p = to c e in by_module p.0 p.1 p.2 refl) low.0)
+      (goes-far_asks_all acts wires k xs (far_asks k x s).state (to-asked k x s to) low.1)

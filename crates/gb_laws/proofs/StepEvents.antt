@@ -1,6 +1,7 @@
 -- A law of points goes over the step of each event.
 use Rattle.std.proofs.Common.{List, None, Option, Some, ap, false, inl, inr, map, refl}
-use Rattle.std.proofs.Common.{subst, sym, true, ℕ, ⊎_elim, [], ◌++◌, ◌+◌, ◌∙◌, ◌∷◌, ◌≡◌}
+use Rattle.std.proofs.Common.{subst, sym, true, ℕ, ⊎_elim, [], ◌++◌, ◌+◌, ◌<◌, ◌∙◌}
+use Rattle.std.proofs.Common.{◌∷◌, ◌≡◌}
 use Rattle.std.specs.Prelude.{Err, Ok, Result, is_none, is_some, option_and_then}
 use Rattle.gb_base.specs.declared.bridge.BridgeAsk.{BridgeAsk}
 use Rattle.gb_base.specs.declared.bridge.Reading.TheVariants as reading
@@ -45,6 +46,7 @@ use Rattle.gb_laws.proofs.Points.{spends}
 use Rattle.gb_laws.proofs.StayPlugged.{module-plugs, open-takes, place-module, same-plugs}
 use Rattle.gb_laws.proofs.StepActions.{At, goes-far_asks_all, goes-tell_all}
 use Rattle.gb_laws.proofs.StepPlugs.{Rests, rests-nothing, rests-▸}
+use Rattle.gb_laws.proofs.LowTypes.{AreLow, bridge-low, stir-low}
 use Rattle.gb_laws.proofs.{Naming.made-named}
 use Rattle.gb_laws.proofs.{Places.place-marked, StepActLaws.acting, StepActs.goes-notices}
 
@@ -53,10 +55,10 @@ module _ (m : Moment) (law : Law m) where
 
   pub rests-sends_on : (name : Name) (k kind : ℕ) (payload : List ℕ) (timeout : ℕ) (s : State)
       → IsPlain s (ap_draft k kind payload (s.now + timeout))
-      → is_none (next_label k side.Ap s.bus) ≡ false
+      → is_none (next_label k side.Ap s.bus) ≡ false → kind < 128
       → Rests m law (sends_on name k kind payload timeout) s
   unfolding machine_opened
-  rests-sends_on name k kind payload timeout s plain left told at =
+  rests-sends_on name k kind payload timeout s plain left low told at =
       by (connection_of k s.bus) refl (next_label k side.Ap s.bus) refl
     where
       d : Draft
@@ -71,7 +73,7 @@ module _ (m : Moment) (law : Law m) where
           label)) (bound name (next_number s.bus) s)).state
       by (Some c) e (Some label) f = law.kept _
           (names name (ap_draft k kind payload (s.now + timeout)) c label refl e f
-          (refl, plain, refl)) at
+          (refl, plain, refl, low)) at
       by o e None f = absurd (not-both (is_none (next_label k side.Ap s.bus)) (ap is_none f) left)
       by None e (Some label) f =
           absurd (not-both (is_none (next_label k side.Ap s.bus))
@@ -86,16 +88,16 @@ module _ (m : Moment) (law : Law m) where
       by (Some n) e = λ told at. law.kept _ (binds x y n e) at
 
   pub rests-sends : (name : Name) (to : End) (kind : ℕ) (payload : List ℕ) (timeout : ℕ) (s : State)
-      → refusal s (event.Send name to kind payload timeout) ≡ None
+      → refusal s (event.Send name to kind payload timeout) ≡ None → kind < 128
       → Rests m law (sends name to kind payload timeout) s
   unfolding machine_opened
-  rests-sends name end.Svc kind payload timeout s allowed = λ told at.
+  rests-sends name end.Svc kind payload timeout s allowed low = λ told at.
       rests-sends_on name 1 kind payload timeout s
       (inl ((free s (event.Send name end.Svc kind payload timeout) allowed).1.0, refl))
-      (free s (event.Send name end.Svc kind payload timeout) allowed).1.1.1.0 told at
-  rests-sends name (end.Ap a) kind payload timeout s allowed =
+      (free s (event.Send name end.Svc kind payload timeout) allowed).1.1.1.0 low told at
+  rests-sends name (end.Ap a) kind payload timeout s allowed low =
       λ told at. rests-nothing m law s told at
-  rests-sends name (end.Module i c) kind payload timeout s allowed =
+  rests-sends name (end.Module i c) kind payload timeout s allowed low =
       λ told at. by (link_at i c s.host) refl told at
     where
       by : (o : Option Link) → link_at i c s.host ≡ o
@@ -112,7 +114,7 @@ module _ (m : Moment) (law : Law m) where
             refl,
             open-takes l (subst (λ o. AreUnmet (link_conditions o)) e
                 (met.1.1.0, (met.1.1.1.0, (met.1.1.1.1.0, tt)))),
-          )) linked.1.1.0
+          )) linked.1.1.0 low
 
   pub rests-bridges : IsBridge m.event → (name : Name) (i c : ℕ) (what : BridgeAsk) (s : State)
       → refusal s (event.Bridge name i c what) ≡ None → Rests m law (bridges name i c what) s
@@ -128,15 +130,17 @@ module _ (m : Moment) (law : Law m) where
 
       sent_by : (l : Link) → IsIn l s.host.links → state_takes l.state ≡ true
           → is_none (next_label l.connection side.Ap s.bus) ≡ false
-          → (r : Result (ℕ × List ℕ) BridgeFault) → Rests m law (bridge_sent name l what r) s
-      sent_by l live took left (Err fault) = rests-nothing m law s
-      sent_by l live took left (Ok request) =
+          → (r : Result (ℕ × List ℕ) BridgeFault) → bridge_answer l.protocol what ≡ r
+          → Rests m law (bridge_sent name l what r) s
+      sent_by l live took left (Err fault) is = rests-nothing m law s
+      sent_by l live took left (Ok request) is =
           rests-▸ m law (on_host (with_link l.intf l.cport (spent what)))
           (sends_on name l.connection request.0 request.1 default_timeout) s
           (λ told at. law.kept _ (spends l.intf l.cport what (refl, of)) at)
           (rests-sends_on name l.connection request.0 request.1 default_timeout
           (record s { host = with_link l.intf l.cport (spent what) s.host })
-          (inr (still l live l.connection refl took)) left)
+          (inr (still l live l.connection refl took)) left
+          (bridge-low l.protocol what request is))
 
       by : (o : Option Link) → link_at i c s.host ≡ o
           → Rests m law (given o (λ l. bridge_sent name l what (bridge_answer l.protocol what))) s
@@ -149,7 +153,7 @@ module _ (m : Moment) (law : Law m) where
           sent_by l (found-in (is_link i c) s.host.links l e).0 (open-takes l
           (subst (λ o. AreUnmet (link_conditions o)) e
           (met.1.1.0, (met.1.1.1.0, (met.1.1.1.1.0, tt))))) linked.1.1.1.0
-          (bridge_answer l.protocol what)
+          (bridge_answer l.protocol what) refl
 
   -- ---- what comes from outside
 
@@ -157,16 +161,18 @@ module _ (m : Moment) (law : Law m) where
   unfolding machine_opened
   rests-stirs i c stir s = at_module (module_at i s.modules) refl
     where
-      placed : (t : Stirred Module) (w : State) (o : Option Place) → module_place i c w ≡ o
+      placed : (t : Stirred Module) → AreLow t.asks → (w : State) (o : Option Place)
+          → module_place i c w ≡ o
           → Rests m law (given o (λ p. far_asks_all p.connection.number t.asks)) w
-      placed t w None e = rests-nothing m law w
-      placed t w (Some p) e = λ told at.
+      placed t low w None e = rests-nothing m law w
+      placed t low w (Some p) e = λ told at.
           goes-far_asks_all m (acting m law) [] Untouched p.connection.number t.asks w
-          (place-module i c w.bus p (law.basis _ at).bus.numbers.rise e) told at
+          (place-module i c w.bus p (law.basis _ at).bus.numbers.rise e) low told at
 
-      stirred_by : (o : Option (Stirred Module)) → Rests m law (given o (stirred i c)) s
-      stirred_by None = rests-nothing m law s
-      stirred_by (Some t) =
+      stirred_by : (x : Module) (o : Option (Stirred Module)) → module_stir x c stir ≡ o
+          → Rests m law (given o (stirred i c)) s
+      stirred_by x None is = rests-nothing m law s
+      stirred_by x (Some t) is =
           rests-▸ m law (change (λ w. record w { modules = with_module i t.after w.modules }))
           (by_state (λ w. given (module_place i c w)
           (λ p. far_asks_all p.connection.number t.asks))) s
@@ -177,13 +183,13 @@ module _ (m : Moment) (law : Law m) where
             record { hand = refl; pending = refl; asked = refl },
             λ k n. inl n,
           ))) at)
-          (placed t (record s { modules = with_module i t.after s.modules }) (module_place i c s)
-          refl)
+          (placed t (stir-low x c stir t is)
+          (record s { modules = with_module i t.after s.modules }) (module_place i c s) refl)
 
       at_module : (o : Option Module) → module_at i s.modules ≡ o
           → Rests m law (given o (λ x. given (module_stir x c stir) (stirred i c))) s
       at_module None e = rests-nothing m law s
-      at_module (Some x) e = stirred_by (module_stir x c stir)
+      at_module (Some x) e = stirred_by x (module_stir x c stir) refl
 
   pub rests-holds : (i c : ℕ) (s : State) → Rests m law (holds i c) s
   unfolding machine_opened

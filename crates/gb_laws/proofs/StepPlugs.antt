@@ -8,6 +8,7 @@ use Rattle.gb_machine.specs.Actions.{Action, change, each, nothing, when, ◌▸
 use Rattle.gb_machine.specs.Plugging.{boots, plugs, tells_inserted, with_plugged}
 use Rattle.gb_machine.specs.{OwnAsking.svc_asks, OwnAsking.svc_own}
 use Rattle.gb_machine.specs.{Runs.Moment, State.Plugged, State.State, SvcQueues.removes}
+use Rattle.gb_laws.proofs.LowTypes.{svc-low}
 use Rattle.gb_laws.proofs.Points.{IsOfSvc, Law, by_svc, others}
 use Rattle.gb_laws.proofs.StepActions.{Goes, goes-far_asks, goes-nothing, goes-when, goes-▸}
 use Rattle.gb_laws.proofs.{PointParts.Untouched, StayPlugged.powered-off}
@@ -39,7 +40,7 @@ module _ (m : Moment) (law : Law m) where
       → Rests (svc_asks ask) s
   unfolding machine_opened
   rests-svc of ask s none = goes-far_asks m (acting m law) [] Untouched 1 (svc_own ask) s
-      (λ c e. by_svc of refl (λ i h. absurd (none i h)))
+      (λ c e. by_svc of refl (λ i h. absurd (none i h))) (svc-low ask)
 
   -- ---- booting, plugging and pulling
 

@@ -19,6 +19,7 @@ use Rattle.gb_machine.specs.{Runs.Moment, State.State, Turns.HostEvent}
 use Rattle.gb_invariants.proofs.Awaiting.{none-some, same-some}
 use Rattle.gb_laws.proofs.Delivered.{IsTaken, noticed, served-at, serving-of}
 use Rattle.gb_laws.proofs.Places.{ComesFrom, LivesOn, comes-after, lives-after}
+use Rattle.gb_laws.proofs.LowTypes.{AreLow, module-low}
 use Rattle.gb_laws.proofs.PointParts.{IsCaused, IsNoticed, IsServed, Untouched}
 use Rattle.gb_laws.proofs.Points.{IsAfterReply, IsOver, IsServing, Law, as_before}
 use Rattle.gb_laws.proofs.Points.{loses_route, others, replied_to, served, serves, unreplied}
@@ -36,9 +37,10 @@ module _ (m : Moment) (law : Law m) where
   -- ---- modules
 
   ends-module : (k i : ℕ) (step : Step Module) (s : State)
-      → IsToModule k s.bus → Ends m law None (module_stepped k i step).behind s
+      → IsToModule k s.bus → AreLow step.served.asks
+      → Ends m law None (module_stepped k i step).behind s
   unfolding machine_opened
-  ends-module k i step s to =
+  ends-module k i step s to low =
       ends-going m law (module_stepped k i step).behind (goes-▸ m (acting m law)
       (change (λ t. record t { modules = with_module i step.after t.modules }))
       (far_asks_all k step.served.asks)
@@ -49,7 +51,7 @@ module _ (m : Moment) (law : Law m) where
         record { hand = refl; pending = refl; asked = refl },
         λ k i. inl i,
       ))) at) (goes-far_asks_all m (acting m law) [] Untouched k step.served.asks
-      (record s { modules = with_module i step.after s.modules }) to))
+      (record s { modules = with_module i step.after s.modules }) to low))
 
   ends-at_module : (k i c : ℕ) (q : Incoming) (o : Option Module) (s : State)
       → module_at i s.modules ≡ o → IsToModule k s.bus
@@ -57,6 +59,7 @@ module _ (m : Moment) (law : Law m) where
   ends-at_module k i c q None s e to = ends-nothing m law
   ends-at_module k i c q (Some x) s e to =
       ends-module k i (module_serve x c q.kind q.payload) s to
+      (module-low x c q.kind q.payload)
 
   -- ---- the far side
 

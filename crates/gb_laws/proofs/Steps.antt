@@ -1,6 +1,6 @@
 -- A law of points goes over the step of each event.
-use Rattle.std.proofs.Common.{None, Option, Some, append_assoc, refl, subst, sym, [], ◌++◌, ◌∷◌}
-use Rattle.std.proofs.Common.{◌≡◌}
+use Rattle.std.proofs.Common.{None, Option, Some, append_assoc, arith, refl, subst, sym, [], ◌++◌}
+use Rattle.std.proofs.Common.{◌∷◌, ◌≡◌}
 use Rattle.gb_base.specs.declared.entry.Entry.TheVariants as entry
 use Rattle.gb_base.specs.declared.event.Event.{Event}
 use Rattle.gb_base.specs.declared.event.Event.TheVariants as event
@@ -41,7 +41,8 @@ module _ (m : Moment) (law : Law m) where
       (goes-notices m (acting m law) (HostEvent.Disconnect i c) m.before refl (refl, is, free))
   ends-does (event.Send name to kind payload timeout) is one free =
       ends-going m law (does (event.Send name to kind payload timeout))
-      (rests-sends m law name to kind payload timeout m.before free)
+      (rests-sends m law name to kind payload timeout m.before free
+      (let most = one.2 in omega (arith, most)))
   ends-does (event.Bridge name i c what) is one free =
       ends-going m law (does (event.Bridge name i c what))
       (rests-bridges m law (subst IsBridge (sym is) tt) name i c what m.before free)

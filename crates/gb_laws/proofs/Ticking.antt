@@ -237,7 +237,7 @@ module _ (m : Moment) (law : Law m) where
             (svc_asks (SvcAsk.ModuleRemoved i)) w
             (λ e. goes-far_asks m (acting m law) [] u.wires 1 (svc_own (SvcAsk.ModuleRemoved i)) w
             (λ c e. by_svc of refl (λ j h. ap (λ n. level_of n w.ports) (sym (removed-at i j h))
-            ∙ off))) told u.holds;
+            ∙ off)) (omega arith)) told u.holds;
       }
 
   pub ends-pulls : IsOfSvc m.event → (i : ℕ) → Ends m law None (pulls i) m.before
