@@ -1,0 +1,12 @@
+pub mod Lasts
+pub mod Findings
+pub mod Messages
+pub mod Hears
+pub mod HearsAsked
+pub mod HearsPoints
+pub mod HearsTaken
+pub mod HearsSteps
+pub mod HearsReplies
+pub mod HearsMoments
+pub mod Unclean
+pub mod HearsRuns
