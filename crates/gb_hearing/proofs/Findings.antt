@@ -8,12 +8,12 @@ use Rattle.gb_formats.specs.Audit.{answered_type, each_after, finding_of, found_
 use Rattle.gb_formats.specs.Audit.{is_request_of, is_response, request_finding, response_finding}
 use Rattle.gb_formats.specs.Audit.{at_line}
 use Rattle.gb_formats.specs.Captures.{Heard}
-use Rattle.gb_hearing.specs.Hearing.{Said, in_lines}
-use Rattle.gb_hearing.proofs.Lasts.{Last, last, last-is, last_of, said}
+use Rattle.gb_hearing.specs.Hearing.{Spoken, in_lines}
+use Rattle.gb_hearing.proofs.Lasts.{Last, last, last-is, last_of, spoken}
 
 -- Nothing is found of a message: it is a request that gets no response, or one whose identifier is
 -- free, or the response to the last request of its identifier.
-pub data Fits (past : List Said) (x : Said) : Type 0 where
+pub data Fits (past : List Spoken) (x : Spoken) : Type 0 where
   plain : is_response x.1 ≡ false → (x.1.id == 0) ≡ true → Fits past x
   anew : is_response x.1 ≡ false
       → ((kind : ℕ) → last x.0 x.1.id past ≡ Some (kind, false) → ⊥) → Fits past x
@@ -21,20 +21,20 @@ pub data Fits (past : List Said) (x : Said) : Type 0 where
       → last (not x.0) x.1.id past ≡ Some (answered_type x.1, false) → Fits past x
 
 -- Nothing is found of any message.
-abbrev pub AllFit : List Said → Type 0
+abbrev pub AllFit : List Spoken → Type 0
 AllFit [] = Unit {0}
 AllFit (x ∷ past) = Fits past x × AllFit past
 
 -- messages behind others
-abbrev pub onto : List Said → List Said → List Said
+abbrev pub onto : List Spoken → List Spoken → List Spoken
 onto past [] = past
 onto past (x ∷ xs) = onto (x ∷ past) xs
 
-pub onto-append : (past xs ys : List Said) → onto past (xs ++ ys) ≡ onto (onto past xs) ys
+pub onto-append : (past xs ys : List Spoken) → onto past (xs ++ ys) ≡ onto (onto past xs) ys
 onto-append past [] ys = refl
 onto-append past (x ∷ xs) ys = onto-append (x ∷ past) xs ys
 
-pub onto-start : (past xs : List Said) → AllFit (onto past xs) → AllFit past
+pub onto-start : (past xs : List Spoken) → AllFit (onto past xs) → AllFit past
 onto-start past [] h = h
 onto-start past (x ∷ xs) h = (onto-start (x ∷ past) xs h).1
 
@@ -78,7 +78,7 @@ pair-none past m (Some q) e =
     same-last : (x y : Last) → Some x ≡ Some y → x ≡ y
     same-last x y e = cc
 
-pub fits-none : (past : List Heard) (m : Heard) → Fits (map said past) (said m)
+pub fits-none : (past : List Heard) (m : Heard) → Fits (map spoken past) (spoken m)
     → finding_of past m ≡ None
 fits-none past m (plain asks none) =
     ap (λ b. finding_if b (m.message.id == 0) past m) asks
@@ -99,11 +99,11 @@ fits-none past m (responds is some own) =
 -- ---- all messages
 
 -- Where nothing is found of any message, a capture of them has no finding.
-pub all-none : (past : List Heard) (n : ℕ) (xs : List Said) → AllFit (onto (map said past) xs)
+pub all-none : (past : List Heard) (n : ℕ) (xs : List Spoken) → AllFit (onto (map spoken past) xs)
     → each_after found_of past (in_lines n xs) ≡ []
 all-none past n [] h = refl
 all-none past n (x ∷ xs) h =
     let m : Heard = record { line = n; from_ap = x.0; message = x.1 } in
     ap (λ o. cons_option (at_line n o) (each_after found_of (m ∷ past) (in_lines (n + 1) xs)))
-    (fits-none past m (onto-start (x ∷ map said past) xs h).0)
+    (fits-none past m (onto-start (x ∷ map spoken past) xs h).0)
     ∙ all-none (m ∷ past) (n + 1) xs h

@@ -5,7 +5,7 @@ use Rattle.std.proofs.Common.{Some, List, inl, inr, refl, sym, ap, ◌∙◌, �
 use Rattle.std.proofs.Common.{arith, option_map, subst}
 use Rattle.gb_base.specs.declared.end.End.TheVariants as end
 use Rattle.gb_base.specs.declared.end.Side.TheVariants as side
-use Rattle.gb_hearing.specs.Hearing.{Said}
+use Rattle.gb_hearing.specs.Hearing.{Spoken}
 use Rattle.gb_hearing.proofs.Findings.{AllFit}
 use Rattle.gb_hearing.proofs.Lasts.{last}
 use Rattle.gb_invariants.proofs.Awaiting.{AwaitsFewer, ended-after, forgotten-after, gave_up-after}
@@ -45,7 +45,7 @@ pub record IsOver (k : ℕ) (b : Bus) : Type 0 where
 -- left aside, each request of the far side is answered; each request of the application processor
 -- that is awaited is the last with its identifier, and isn't answered; and each last one that isn't
 -- answered is awaited, or the connection is over.
-pub record Hears (k : ℕ) (b : Bus) (past : List Said) : Type 0 where
+pub record Hears (k : ℕ) (b : Bus) (past : List Spoken) : Type 0 where
   pub fit : AllFit past
   pub far : (v kind : ℕ) → (v == 0) ≡ false → last false v past ≡ Some (kind, false) → ⊥
   pub own : (n : ℕ) (r : Request) → IsAsked k n r b → is_awaited n b ≡ true
@@ -79,7 +79,7 @@ asked-after {n} {b} fewer a = record {
   by = a.by;
 }
 
-pub hears-steady : {k : ℕ} {b after : Bus} {past : List Said} → Steady k b after → Hears k b past
+pub hears-steady : {k : ℕ} {b after : Bus} {past : List Spoken} → Steady k b after → Hears k b past
     → Hears k after past
 hears-steady {k} {b} {after} steady h = record {
   fit = h.fit;

@@ -5,7 +5,7 @@ use Rattle.std.proofs.Common.{arith}
 use Rattle.std.proofs.lemmas.Bool.Decides.{nat_tests}
 use Rattle.gb_base.specs.declared.end.Side.TheVariants as side
 use Rattle.gb_formats.specs.Message.{request}
-use Rattle.gb_hearing.specs.Hearing.{Said}
+use Rattle.gb_hearing.specs.Hearing.{Spoken}
 use Rattle.gb_hearing.proofs.Findings.{anew, plain}
 use Rattle.gb_hearing.proofs.Hears.{Hears, IsAsked, IsOver, Waits, over-same}
 use Rattle.gb_hearing.proofs.Lasts.{last}
@@ -52,7 +52,7 @@ module _ (k : ℕ) (d : Draft) (label : ℕ) (b : Bus) (fits : OutcomesFit b) wh
   over = over-same (shut-after (BusChange.sends d label) b tt k) (omega arith)
 
   -- another side, or on another connection
-  pub hears-unasked : {past : List Said} → (d.connection ≡ k → d.side ≡ side.Ap → ⊥)
+  pub hears-unasked : {past : List Spoken} → (d.connection ≡ k → d.side ≡ side.Ap → ⊥)
       → Hears k b past → Hears k (sent d label b) past
   hears-unasked other h = record {
     fit = h.fit;
@@ -67,7 +67,7 @@ module _ (k : ℕ) (d : Draft) (label : ℕ) (b : Bus) (fits : OutcomesFit b) wh
   }
 
   -- a unidirectional request of the application processor
-  pub hears-oneway : {past : List Said} → d.oneway ≡ true → label ≡ 0 → d.kind < 128 → OwnLabels b
+  pub hears-oneway : {past : List Spoken} → d.oneway ≡ true → label ≡ 0 → d.kind < 128 → OwnLabels b
       → Hears k b past
       → Hears k (sent d label b) ((true, request label d.kind d.payload) ∷ past)
   hears-oneway {past} oneway zero low labels h = record {
@@ -97,7 +97,7 @@ module _ (k : ℕ) (d : Draft) (label : ℕ) (b : Bus) (fits : OutcomesFit b) wh
 
   -- another request of the application processor: its identifier was free, and the connection isn't
   -- over
-  pub hears-twoway : {past : List Said} → d.connection ≡ k → d.side ≡ side.Ap → d.oneway ≡ false
+  pub hears-twoway : {past : List Spoken} → d.connection ≡ k → d.side ≡ side.Ap → d.oneway ≡ false
       → next_label k side.Ap b ≡ Some label → shut_of k b ≡ Some false → d.kind < 128 → OwnLabels b
       → Hears k b past
       → Hears k (sent d label b) ((true, request label d.kind d.payload) ∷ past)
@@ -117,7 +117,7 @@ module _ (k : ℕ) (d : Draft) (label : ℕ) (b : Bus) (fits : OutcomesFit b) wh
     left = λ v kind some is. by v kind some is (label == v) refl;
   }
     where
-      now : List Said
+      now : List Spoken
       now = (true, request label d.kind d.payload) ∷ past
 
       waits : (n : ℕ) (r : Request) → IsAsked k n r b → is_awaited n b ≡ true → {v : ℕ}

@@ -7,7 +7,8 @@ use Rattle.gb_base.specs.declared.end.End.{End}
 use Rattle.gb_base.specs.declared.end.Side.TheVariants as side
 use Rattle.gb_base.specs.declared.event.Event.{Event}
 use Rattle.gb_base.specs.declared.event.Event.TheVariants as event
-use Rattle.gb_hearing.specs.Hearing.{IsClean, IsCleanAs, Said, answer_message, answers, heard_asked}
+use Rattle.gb_hearing.specs.Hearing.{IsClean, IsCleanAs, Spoken, answer_message, answers}
+use Rattle.gb_hearing.specs.Hearing.{heard_asked}
 use Rattle.gb_hearing.specs.Hearing.{heard_at, heard_at_place, heard_of, heard_of_first}
 use Rattle.gb_hearing.specs.Hearing.{heard_taken, request_message}
 use Rattle.gb_hearing.specs.Hearing.{response_message, taken}
@@ -46,11 +47,11 @@ no-item : {item : Item} → None ≡ Some item → ⊥
 no-item e = absurd cc
 
 module _ (m : Moment) (run : OfARun m.before) (one : IsMoment m.event) (k : ℕ)
-    (clean : IsClean k m.before) (past : List Said) (h : Hears k m.before.bus past) where
+    (clean : IsClean k m.before) (past : List Spoken) (h : Hears k m.before.bus past) where
   -- what is to be shown, where this was taken
-  abbrev Then : List Said → Type 0
-  Then said =
-      Hears k (after m).bus (onto (onto past said) (heard_asked k m.before.bus (after m).bus))
+  abbrev Then : List Spoken → Type 0
+  Then xs =
+      Hears k (after m).bus (onto (onto past xs) (heard_asked k m.before.bus (after m).bus))
 
   known : KnownAt (resting m.told m.before)
   known = known-held m run (resting m.told m.before) (known-resting m run)
@@ -82,7 +83,7 @@ module _ (m : Moment) (run : OfARun m.before) (one : IsMoment m.event) (k : ℕ)
           (only to q e g) (f item) front
 
       -- the queue is empty
-      empty : first (queue p.side p.connection) ≡ None → (start : List Said)
+      empty : first (queue p.side p.connection) ≡ None → (start : List Spoken)
           → Hears k m.before.bus start
           → Hears k (after m).bus (onto start (heard_asked k m.before.bus (after m).bus))
       empty none start g = hears-over m run k start one
@@ -130,8 +131,8 @@ module _ (m : Moment) (run : OfARun m.before) (one : IsMoment m.event) (k : ℕ)
             not-both (is_numbered item) ((answerable item front).numbered is-clean) raw
 
         -- a request is taken
-        over-ask : (n : ℕ) → first (queue p.side p.connection) ≡ Some (Ask n) → (start : List Said)
-            → Hears k m.before.bus start
+        over-ask : (n : ℕ) → first (queue p.side p.connection) ≡ Some (Ask n)
+            → (start : List Spoken) → Hears k m.before.bus start
             → Hears k (after m).bus (onto start (heard_asked k m.before.bus (after m).bus))
         over-ask n front start g = hears-over m run k start one (apart-by (λ item f. record {
           unanswered = λ a b j result payload e. apart n j result payload

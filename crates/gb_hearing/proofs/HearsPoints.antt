@@ -7,7 +7,7 @@ use Rattle.std.proofs.lemmas.List.{map-append}
 use Rattle.std.proofs.lemmas.List.Elements.{filter-append}
 use Rattle.std.specs.List.{filter}
 use Rattle.gb_base.specs.declared.end.Side.TheVariants as side
-use Rattle.gb_hearing.specs.Hearing.{Said, asked, asking}
+use Rattle.gb_hearing.specs.Hearing.{Spoken, asked, asking}
 use Rattle.gb_hearing.proofs.Findings.{onto, onto-append}
 use Rattle.gb_hearing.proofs.Hears.{Hears, IsAsked, IsSteady, Steady, hears-steady, steady-by}
 use Rattle.gb_hearing.proofs.HearsAsked.{hears-oneway, hears-twoway, hears-unasked}
@@ -29,14 +29,14 @@ use Rattle.gb_machine.specs.Sending.{Draft, label_for, requested, sent}
 
 -- requests are those of before and some more, and what is known goes with what was heard first and
 -- these
-pub record HearsIn (before : List Request) (k : ℕ) (start : List Said) (b : Bus) : Type 0 where
+pub record HearsIn (before : List Request) (k : ℕ) (start : List Spoken) (b : Bus) : Type 0 where
   pub news : List Request
   pub grown : b.requests ≡ before ++ news
   pub hears : Hears k b (onto start (asked k news))
 
 -- ---- a request is made
 
-asked-more : (k : ℕ) (news : List Request) (r : Request) (start : List Said)
+asked-more : (k : ℕ) (news : List Request) (r : Request) (start : List Spoken)
     → onto start (asked k (news ++ r ∷ [])) ≡ onto (onto start (asked k news)) (asked k (r ∷ []))
 asked-more k news r start =
     ap (λ rs. onto start (map asking rs)) (filter-append (is_of k side.Ap) news (r ∷ []))
@@ -44,14 +44,14 @@ asked-more k news r start =
     (filter (is_of k side.Ap) (r ∷ [])))
     ∙ onto-append start (asked k news) (asked k (r ∷ []))
 
-asked-one : (k : ℕ) (r : Request) (past : List Said) (t : Bool) → is_of k side.Ap r ≡ t
+asked-one : (k : ℕ) (r : Request) (past : List Spoken) (t : Bool) → is_of k side.Ap r ≡ t
     → onto past (asked k (r ∷ [])) ≡ cond t (asking r ∷ past) past
 asked-one k r past true e =
     ap (λ t. onto past (map asking (cond t (r ∷ []) []))) e
 asked-one k r past false e =
     ap (λ t. onto past (map asking (cond t (r ∷ []) []))) e
 
-pub hears-sent : {before : List Request} {k : ℕ} {start : List Said} (d : Draft) (label : ℕ)
+pub hears-sent : {before : List Request} {k : ℕ} {start : List Spoken} (d : Draft) (label : ℕ)
     (b : Bus) → OutcomesFit b → OwnLabels b → label_for d b ≡ Some label → d.kind < 128
     → (d.side ≡ side.Ap → shut_of d.connection b ≡ Some false) → HearsIn before k start b
     → HearsIn before k start (sent d label b)
@@ -64,7 +64,7 @@ hears-sent {before} {k} {start} d label b fits labels drawn low live h = record 
       (by (is_of k side.Ap (requested d label)) refl);
 }
   where
-    past : List Said
+    past : List Spoken
     past = onto start (asked k h.news)
 
     own : d.connection ≡ k → d.side ≡ side.Ap → (t : Bool) → d.oneway ≡ t
@@ -115,7 +115,7 @@ is-steady m k a (forgets h n is which) none away = away
 is-steady m k a (gives_up n how free unended cause) none away = unended
 is-steady m k a _ none away = tt
 
-steady-kept : (m : Moment) (k : ℕ) (start : List Said) (a : Point) (x : Change m a) → KnownAt a
+steady-kept : (m : Moment) (k : ℕ) (start : List Spoken) (a : Point) (x : Change m a) → KnownAt a
     → AsksNone m a x → IsAway m k a x → HearsIn m.before.bus.requests k start a.state.bus
     → HearsIn m.before.bus.requests k start (changed m a x).state.bus
 steady-kept m k start a x known none away h =
@@ -128,7 +128,7 @@ steady-kept m k start a x known none away h =
       hears = hears-steady steady h.hears;
     }
 
-pub hears-kept : (m : Moment) (k : ℕ) (start : List Said) (a : Point) (x : Change m a) → KnownAt a
+pub hears-kept : (m : Moment) (k : ℕ) (start : List Spoken) (a : Point) (x : Change m a) → KnownAt a
     → IsAway m k a x → HearsIn m.before.bus.requests k start a.state.bus
     → HearsIn m.before.bus.requests k start (changed m a x).state.bus
 hears-kept m k start a (asks d c label free live drawn who) known away h =

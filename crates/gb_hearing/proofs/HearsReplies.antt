@@ -9,13 +9,14 @@ use Rattle.gb_base.specs.declared.entry.Entry.{Entry}
 use Rattle.gb_base.specs.declared.entry.Entry.TheVariants as entry
 use Rattle.gb_base.specs.declared.event.Event.TheVariants as event
 use Rattle.gb_formats.specs.Message.{response}
-use Rattle.gb_hearing.specs.Hearing.{Said, heard_asked}
+use Rattle.gb_hearing.specs.Hearing.{Spoken, heard_asked}
 use Rattle.gb_hearing.proofs.Findings.{onto}
 use Rattle.gb_hearing.proofs.Hears.{Hears, IsAsked, Steady, hears-steady, over-same, steady-by}
 use Rattle.gb_hearing.proofs.HearsSteps.{hears-first, hears-then, hears_acts}
 use Rattle.gb_hearing.proofs.HearsTaken.{IsReplied, hears-reply}
 use Rattle.gb_invariants.proofs.Awaiting.{Awaits, awaits, ended-after, ended-before}
-use Rattle.gb_invariants.proofs.Awaiting.{forgotten-after, forgotten-before, is-open, late, not-both, still}
+use Rattle.gb_invariants.proofs.Awaiting.{forgotten-after, forgotten-before, is-open, late}
+use Rattle.gb_invariants.proofs.Awaiting.{not-both, still}
 use Rattle.gb_invariants.proofs.BusChanges.{BusChange}
 use Rattle.gb_invariants.proofs.Lists.{in-filter}
 use Rattle.gb_invariants.proofs.Outcomes.{is-same}
@@ -85,7 +86,7 @@ module _ (m : Moment) (run : OfARun m.before) (k : ℕ) (at : End) (is : m.event
             ∙ ap (λ s. end_of s p.connection) ap_side)
 
     -- what is heard, where the bus behind the delivery is known
-    behind : (start : List Said) (b : Bus) → (after m).bus ≡ b
+    behind : (start : List Spoken) (b : Bus) → (after m).bus ≡ b
         → b.requests ≡ m.before.bus.requests → Hears k b start
         → Hears k (after m).bus (onto start (heard_asked k m.before.bus (after m).bus))
     behind start b same requests h =
@@ -94,7 +95,7 @@ module _ (m : Moment) (run : OfARun m.before) (k : ℕ) (at : End) (is : m.event
 
     -- what is delivered is dropped
     pub hears-dropped : (item : Item) → first (queue p.side p.connection) ≡ Some item
-        → arriving.takes p.side p.connection m.before ≡ false → {past : List Said}
+        → arriving.takes p.side p.connection m.before ≡ false → {past : List Spoken}
         → Hears k m.before.bus past
         → Hears k (after m).bus (onto past (heard_asked k m.before.bus (after m).bus))
     hears-dropped item front deaf {past} h =
@@ -110,13 +111,14 @@ module _ (m : Moment) (run : OfARun m.before) (k : ℕ) (at : End) (is : m.event
         (hears : arriving.takes p.side p.connection m.before ≡ true)
         (clean : p.connection.clean ≡ true) where
       -- what is known once nothing is awaited of it
-      now : {past : List Said} (b : Bus) → IsReplied k n m.before.bus b → Hears k m.before.bus past
+      now : {past : List Spoken} (b : Bus) → IsReplied k n m.before.bus b
+          → Hears k m.before.bus past
           → Hears k b ((false, response r.label r.kind result payload) ∷ past)
       now b replied h = hears-reply n r result payload asked waits
           (reached-low m.before run n r asked.made).kind known.basis.bus.labels replied h
 
       -- it comes late
-      hears-late : is_open n m.before.bus ≡ false → {past : List Said} → Hears k m.before.bus past
+      hears-late : is_open n m.before.bus ≡ false → {past : List Spoken} → Hears k m.before.bus past
           → Hears k (after m).bus
           (onto ((false, response r.label r.kind result payload) ∷ past)
           (heard_asked k m.before.bus (after m).bus))
@@ -191,13 +193,13 @@ module _ (m : Moment) (run : OfARun m.before) (k : ℕ) (at : End) (is : m.event
                 ((known_law m run).kept (resting m.told m.before) first_ (known-resting m run)),
           )
 
-      hears-ended : is_open n m.before.bus ≡ true → {past : List Said} → Hears k m.before.bus past
+      hears-ended : is_open n m.before.bus ≡ true → {past : List Spoken} → Hears k m.before.bus past
           → Hears k (after m).bus
           (onto ((false, response r.label r.kind result payload) ∷ past)
           (heard_asked k m.before.bus (after m).bus))
       unfolding machine_opened
       hears-ended open_ {past} h =
-          let start : List Said = (false, response r.label r.kind result payload) ∷ past in
+          let start : List Spoken = (false, response r.label r.kind result payload) ∷ past in
           let then_ = mid open_ in
           let end_ = goes-notices m (hears_acts m run k start)
           (HostEvent.Ended n (answered result payload)) then_state
@@ -211,7 +213,7 @@ module _ (m : Moment) (run : OfARun m.before) (k : ℕ) (at : End) (is : m.event
           (hears-then m run k start
           (follows n (answered result payload) then_state).state.bus end_.1)
 
-      pub hears-replied : {past : List Said} → Hears k m.before.bus past
+      pub hears-replied : {past : List Spoken} → Hears k m.before.bus past
           → Hears k (after m).bus
           (onto ((false, response r.label r.kind result payload) ∷ past)
           (heard_asked k m.before.bus (after m).bus))

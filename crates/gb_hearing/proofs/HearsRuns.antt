@@ -4,7 +4,7 @@ use Rattle.std.proofs.Common.{subst}
 use Rattle.gb_base.specs.declared.entry.Entry.{Entry}
 use Rattle.gb_base.specs.declared.event.Event.{Event}
 use Rattle.gb_hearing.specs.Hearing.{CleanWasClean, HasNoFinding, HeardHasNoFinding, IsClean}
-use Rattle.gb_hearing.specs.Hearing.{NothingFound, Said, WasClean, WasSo, heard_at, heard_by}
+use Rattle.gb_hearing.specs.Hearing.{NothingFound, Spoken, WasClean, WasSo, heard_at, heard_by}
 use Rattle.gb_hearing.specs.Hearing.{heard_in}
 use Rattle.gb_hearing.proofs.Findings.{AllFit, all-none, onto, onto-append}
 use Rattle.gb_hearing.proofs.Hears.{Hears}
@@ -37,7 +37,7 @@ first-reached = record { events = []; valid = tt; is = refl }
 
 -- nothing is found at moments before which connection k is clean
 fit-run : (k : ℕ) (es : List Event) (told : List Entry) (s : State) → OfARun s → AreMoments es
-    → Each (λ m. IsClean k m.before) (moments_from told s es) → (past : List Said)
+    → Each (λ m. IsClean k m.before) (moments_from told s es) → (past : List Spoken)
     → Hears k s.bus past → AllFit (onto past (heard_in k (moments_from told s es)))
 fit-run k [] told s run are clean past h = h.fit
 fit-run k (e ∷ es) told s run are clean past h =

@@ -7,7 +7,7 @@ use Rattle.gb_base.specs.declared.end.End.{End}
 use Rattle.gb_base.specs.declared.end.End.TheVariants as end
 use Rattle.gb_base.specs.declared.end.Side.TheVariants as side
 use Rattle.gb_base.specs.declared.event.Event.TheVariants as event
-use Rattle.gb_hearing.specs.Hearing.{Said, asked, heard_asked}
+use Rattle.gb_hearing.specs.Hearing.{Spoken, asked, heard_asked}
 use Rattle.gb_hearing.proofs.Findings.{onto}
 use Rattle.gb_hearing.proofs.Hears.{Hears, IsAsked}
 use Rattle.gb_hearing.proofs.HearsPoints.{HearsIn, IsAway, hears-kept}
@@ -134,7 +134,7 @@ away m k a _ basis apart = tt
 
 -- ---- over a step
 
-module _ (m : Moment) (run : OfARun m.before) (k : ℕ) (start : List Said) where
+module _ (m : Moment) (run : OfARun m.before) (k : ℕ) (start : List Spoken) where
   abbrev hears_law : TakesApart k m → Law m
   hears_law apart = upon (known_law m run)
       (λ a. IsApartAt k a × HearsIn m.before.bus.requests k start a.state.bus)

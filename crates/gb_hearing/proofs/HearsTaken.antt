@@ -3,7 +3,7 @@ use Rattle.std.proofs.Common.{◌≡◌, ◌≢◌, ◌⊎◌, ◌<◌, ℕ, ◌
 use Rattle.std.proofs.Common.{List, ◌∷◌, inl, inr, refl, sym, ap, ◌∙◌, ⊎_elim, arith}
 use Rattle.std.proofs.lemmas.Bool.Decides.{nat_tests}
 use Rattle.gb_formats.specs.Message.{request, response}
-use Rattle.gb_hearing.specs.Hearing.{Said}
+use Rattle.gb_hearing.specs.Hearing.{Spoken}
 use Rattle.gb_hearing.proofs.Findings.{anew, plain, responds}
 use Rattle.gb_hearing.proofs.Hears.{Hears, IsAsked, IsOver, Waits, asked-after}
 use Rattle.gb_hearing.proofs.Hears.{asked-before}
@@ -35,7 +35,7 @@ unanswered kind other e = not-both true refl (ap (λ (l : Last). l.1)
 -- ---- requests of the far side
 
 -- one that gets no response
-pub hears-plain : {k : ℕ} {b : Bus} {past : List Said} (label kind : ℕ) (payload : List ℕ)
+pub hears-plain : {k : ℕ} {b : Bus} {past : List Spoken} (label kind : ℕ) (payload : List ℕ)
     → kind < 128 → label ≡ 0 → Hears k b past
     → Hears k b ((false, request label kind payload) ∷ past)
 hears-plain {past} label kind payload low zero h = record {
@@ -49,7 +49,7 @@ hears-plain {past} label kind payload low zero h = record {
 }
 
 -- another, and the response to it
-pub hears-pair : {k : ℕ} {b : Bus} {past : List Said} (label kind : ℕ) (payload : List ℕ)
+pub hears-pair : {k : ℕ} {b : Bus} {past : List Spoken} (label kind : ℕ) (payload : List ℕ)
     (result : ℕ) (answer : List ℕ) → kind < 128 → (label == 0) ≡ false → Hears k b past
     → Hears k b
     ((true, response label kind result answer) ∷ (false, request label kind payload) ∷ past)
@@ -68,7 +68,7 @@ hears-pair {past} label kind payload result answer low some_label h = record {
   left = λ v type some is. h.left v type some (sym (same v) ∙ is);
 }
   where
-    now : List Said
+    now : List Spoken
     now = (false, request label kind payload) ∷ past
 
     same : (v : ℕ) → last true v ((true, response label kind result answer) ∷ now)
@@ -97,7 +97,7 @@ pub record IsReplied (k n : ℕ) (b after : Bus) : Type 0 where
   pub stays : (j : ℕ) → (n ≡ j → ⊥) → is_awaited j b ≡ true → is_awaited j after ≡ true
   pub over : IsOver k b → IsOver k after
 
-pub hears-reply : {k : ℕ} {b after : Bus} {past : List Said} (n : ℕ) (r : Request) (result : ℕ)
+pub hears-reply : {k : ℕ} {b after : Bus} {past : List Spoken} (n : ℕ) (r : Request) (result : ℕ)
     (payload : List ℕ) → IsAsked k n r b → is_awaited n b ≡ true → r.kind < 128 → OwnLabels b
     → IsReplied k n b after → Hears k b past
     → Hears k after ((false, response r.label r.kind result payload) ∷ past)
@@ -114,7 +114,7 @@ hears-reply {k} {b} {after} {past} n r result payload asked waits low labels rep
   left = λ v type some is. by v type some is (r.label == v) refl;
 }
   where
-    now : List Said
+    now : List Spoken
     now = (false, response r.label r.kind result payload) ∷ past
 
     some_label : (r.label == 0) ≡ false

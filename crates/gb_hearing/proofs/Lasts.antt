@@ -9,7 +9,7 @@ use Rattle.gb_formats.specs.Audit.{answered_type, is_answer_to}
 use Rattle.gb_formats.specs.Audit.{is_answered, is_request_of, is_response}
 use Rattle.gb_formats.specs.Audit.{since}
 use Rattle.gb_formats.specs.Captures.{Heard}
-use Rattle.gb_hearing.specs.Hearing.{Said}
+use Rattle.gb_hearing.specs.Hearing.{Spoken}
 
 -- ---- the last requests
 
@@ -18,31 +18,31 @@ abbrev pub Last : Type 0
 Last = ℕ × Bool
 
 -- a message is a request of this way with this identifier
-abbrev pub asks : Bool → ℕ → Said → Bool
+abbrev pub asks : Bool → ℕ → Spoken → Bool
 asks way v x = beq x.0 way && not (is_response x.1) && x.1.id == v
 
 -- a message is a response to a request of this way with this identifier and type
-abbrev pub answers : Bool → ℕ → ℕ → Said → Bool
+abbrev pub answers : Bool → ℕ → ℕ → Spoken → Bool
 answers way v kind x =
     beq x.0 (not way) && is_response x.1 && x.1.id == v && answered_type x.1 == kind
 
 -- what is kept of an earlier request, where a message comes
-abbrev pub answered_more : Bool → ℕ → Said → Last → Last
+abbrev pub answered_more : Bool → ℕ → Spoken → Last → Last
 answered_more way v x l = (l.0, answers way v l.0 x || l.1)
 
-abbrev pub more : Bool → ℕ → Said → Option Last → Option Last
+abbrev pub more : Bool → ℕ → Spoken → Option Last → Option Last
 more way v x o =
     cond (asks way v x) (Some (x.1.kind, false)) (option_map (answered_more way v x) o)
 
 -- The last request of a way with an identifier, the messages that came standing with the newest
 -- first.
-abbrev pub last : Bool → ℕ → List Said → Option Last
+abbrev pub last : Bool → ℕ → List Spoken → Option Last
 last way v [] = None
 last way v (x ∷ past) = more way v x (last way v past)
 
 -- a message of a capture without its line
-abbrev pub said : Heard → Said
-said m = (m.from_ap, m.message)
+abbrev pub spoken : Heard → Spoken
+spoken m = (m.from_ap, m.message)
 
 -- ---- tests
 
@@ -91,7 +91,7 @@ last_of past q = (q.message.kind, is_answered past q)
 
 answered-more : (m q : Heard) (past : List Heard) (way : Bool) (v : ℕ) → Shows way v q
     → is_request_of way v m ≡ false
-    → is_answered (m ∷ past) q ≡ (answers way v q.message.kind (said m) || is_answered past q)
+    → is_answered (m ∷ past) q ≡ (answers way v q.message.kind (spoken m) || is_answered past q)
 answered-more m q past way v h isnt =
     ap (λ b. list_any (is_answer_to q)
     (cond b [] (m ∷ since (is_request_of q.from_ap q.message.id) past)))
@@ -112,25 +112,25 @@ newest m past way v is =
     (ap (λ w. is_request_of w m.message.id m) h.from_ap ∙ ap (λ i. is_request_of way i m) h.id ∙ is)
 
 pub last-is : (way : Bool) (v : ℕ) (past : List Heard)
-    → option_map (last_of past) (find (is_request_of way v) past) ≡ last way v (map said past)
+    → option_map (last_of past) (find (is_request_of way v) past) ≡ last way v (map spoken past)
 last-is way v [] = refl
 last-is way v (m ∷ past) = by (is_request_of way v m) refl (last-is way v past)
   where
     kept : (o : Option Heard) → ((q : Heard) → o ≡ Some q → is_request_of way v q ≡ true)
         → is_request_of way v m ≡ false
         → option_map (last_of (m ∷ past)) o
-        ≡ option_map (answered_more way v (said m)) (option_map (last_of past) o)
+        ≡ option_map (answered_more way v (spoken m)) (option_map (last_of past) o)
     kept None is isnt = refl
     kept (Some q) is isnt =
         ap (λ b. Some (q.message.kind, b))
         (answered-more m q past way v (shows way v q (is q refl)) isnt)
 
     by : (b : Bool) → is_request_of way v m ≡ b
-        → option_map (last_of past) (find (is_request_of way v) past) ≡ last way v (map said past)
+        → option_map (last_of past) (find (is_request_of way v) past) ≡ last way v (map spoken past)
         → option_map (last_of (m ∷ past)) (cond b (Some m) (find (is_request_of way v) past))
         ≡ cond b (Some (m.message.kind, false))
-        (option_map (answered_more way v (said m)) (last way v (map said past)))
+        (option_map (answered_more way v (spoken m)) (last way v (map spoken past)))
     by true e later = ap (λ b. Some (m.message.kind, b)) (newest m past way v e)
     by false e later =
         kept (find (is_request_of way v) past) (find-passes (is_request_of way v) past) e
-        ∙ ap (option_map (answered_more way v (said m))) later
+        ∙ ap (option_map (answered_more way v (spoken m))) later

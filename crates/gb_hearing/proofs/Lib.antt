@@ -10,3 +10,4 @@ pub mod HearsReplies
 pub mod HearsMoments
 pub mod Unclean
 pub mod HearsRuns
+pub mod Rows

@@ -5,7 +5,7 @@ use Rattle.std.proofs.Common.{arith}
 use Rattle.std.proofs.lemmas.Bool.Decides.{nat_tests}
 use Rattle.gb_formats.specs.Audit.{answered_type, is_response}
 use Rattle.gb_formats.specs.Message.{request, response}
-use Rattle.gb_hearing.specs.Hearing.{Said}
+use Rattle.gb_hearing.specs.Hearing.{Spoken}
 use Rattle.gb_hearing.proofs.Lasts.{Last, answered_more, answers, asks, last, more}
 
 -- ---- types
@@ -39,7 +39,7 @@ no-more true = refl
 no-more false = refl
 
 -- a message that is no request of this way with this identifier, and no response to one
-unmoved : (way : Bool) (v : ℕ) (x : Said) (past : List Said) → asks way v x ≡ false
+unmoved : (way : Bool) (v : ℕ) (x : Spoken) (past : List Spoken) → asks way v x ≡ false
     → ((kind : ℕ) → answers way v kind x ≡ false) → last way v (x ∷ past) ≡ last way v past
 unmoved way v x past asks_none none =
     ap (λ b. cond b (Some (x.1.kind, false)) (option_map (answered_more way v x) (last way v past)))
@@ -51,7 +51,7 @@ unmoved way v x past asks_none none =
 
 -- ---- a request comes
 
-pub asked-here : (way : Bool) (label kind : ℕ) (payload : List ℕ) (past : List Said) → kind < 128
+pub asked-here : (way : Bool) (label kind : ℕ) (payload : List ℕ) (past : List Spoken) → kind < 128
     → last way label ((way, request label kind payload) ∷ past) ≡ Some (kind, false)
 asked-here way label kind payload past low = by way
   where
@@ -67,11 +67,11 @@ asked-here way label kind payload past low = by way
     by true = here _
     by false = here _
 
-pub asked-other : (way : Bool) (label kind : ℕ) (payload : List ℕ) (past : List Said) → kind < 128
+pub asked-other : (way : Bool) (label kind : ℕ) (payload : List ℕ) (past : List Spoken) → kind < 128
     → (v : ℕ) → label ≢ v → last way v ((way, request label kind payload) ∷ past) ≡ last way v past
 asked-other way label kind payload past low v other = by way
   where
-    x : Said
+    x : Spoken
     x = (way, request label kind payload)
 
     differs : not (is_response (request label kind payload)) && label == v ≡ false
@@ -82,7 +82,7 @@ asked-other way label kind payload past low v other = by way
     by true = unmoved true v (true, request label kind payload) past differs (λ k. refl)
     by false = unmoved false v (false, request label kind payload) past differs (λ k. refl)
 
-pub asked-way : (way : Bool) (label kind : ℕ) (payload : List ℕ) (past : List Said) → kind < 128
+pub asked-way : (way : Bool) (label kind : ℕ) (payload : List ℕ) (past : List Spoken) → kind < 128
     → (v : ℕ) → last (not way) v ((way, request label kind payload) ∷ past) ≡ last (not way) v past
 asked-way way label kind payload past low v = by way
   where
@@ -99,7 +99,7 @@ asked-way way label kind payload past low v = by way
 
 -- ---- a response comes
 
-pub answered-here : (way : Bool) (label kind result : ℕ) (payload : List ℕ) (past : List Said)
+pub answered-here : (way : Bool) (label kind result : ℕ) (payload : List ℕ) (past : List Spoken)
     → kind < 128 → last (not way) label past ≡ Some (kind, false)
     → last (not way) label ((way, response label kind result payload) ∷ past) ≡ Some (kind, true)
 answered-here way label kind result payload past low is = by way is
@@ -123,7 +123,7 @@ answered-here way label kind result payload past low is = by way is
         ap (λ o. more true label (false, response label kind result payload) o) e
         ∙ ap (λ b. Some (kind, b || false)) fits
 
-pub answered-other : (way : Bool) (label kind result : ℕ) (payload : List ℕ) (past : List Said)
+pub answered-other : (way : Bool) (label kind result : ℕ) (payload : List ℕ) (past : List Spoken)
     → (v : ℕ) → label ≢ v
     → last (not way) v ((way, response label kind result payload) ∷ past) ≡ last (not way) v past
 answered-other way label kind result payload past v other = by way
@@ -144,7 +144,7 @@ answered-other way label kind result payload past v other = by way
     by true = unmoved false v (true, response label kind result payload) past refl none
     by false = unmoved true v (false, response label kind result payload) past refl none
 
-pub answered-way : (way : Bool) (label kind result : ℕ) (payload : List ℕ) (past : List Said)
+pub answered-way : (way : Bool) (label kind result : ℕ) (payload : List ℕ) (past : List Spoken)
     → (v : ℕ) → last way v ((way, response label kind result payload) ∷ past) ≡ last way v past
 answered-way way label kind result payload past v = by way
   where

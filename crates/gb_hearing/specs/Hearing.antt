@@ -1,5 +1,6 @@
 -- What the application processor hears of a connection in a run: the messages that it sends and
--- takes there, as a capture has them.
+-- takes there, in the order in which it does, as a capture has them. A message that is dropped
+-- isn't heard; a request that is lost on its way is, since it was sent.
 use Rattle.std.specs.Prelude.{◌≡◌, ℕ, ◌+◌, ◌==◌, Bool, true, false, ◌&&◌, if◌then◌else◌, Option}
 use Rattle.std.specs.Prelude.{Some, None, option_map, Result, Ok, Err, List, [], ◌∷◌, ◌++◌, length}
 use Rattle.std.specs.Prelude.{drop, map}
@@ -24,9 +25,9 @@ use Rattle.gb_machine.specs.Requests.{is_of, same_side}
 use Rattle.gb_machine.specs.Runs.{AreValid, Moment, after, moments_in, state_by}
 use Rattle.gb_machine.specs.State.{State}
 
--- A message that the application processor hears: whether it sent it, or else took it.
-abbrev pub Said : Type 0
-Said = Bool × Message
+-- A message that is heard, and whether the application processor sent it, or else took it.
+abbrev pub Spoken : Type 0
+Spoken = Bool × Message
 
 -- ---- what it takes, and what it answers
 
@@ -52,7 +53,7 @@ message_in (Raw bytes) b = whole_message (raw_message bytes)
 message_in (RawReply label kind result payload) b = Some (response label kind result payload)
 
 -- a message is taken
-abbrev pub taken : Option Message → List Said
+abbrev pub taken : Option Message → List Spoken
 taken None = []
 taken (Some m) = (false, m) ∷ []
 
@@ -63,70 +64,70 @@ answer_message k h q =
     response q.label q.kind a.result a.payload
 
 -- It answers each request that isn't unidirectional.
-abbrev pub answers : ℕ → Host → Option Incoming → List Said
+abbrev pub answers : ℕ → Host → Option Incoming → List Spoken
 answers k h None = []
 answers k h (Some q) = if q.oneway then [] else (true, answer_message k h q) ∷ []
 
--- what is heard where it takes an item on connection k: the message, and its answer to a request
-abbrev pub heard_of : ℕ → State → Item → List Said
+-- What is heard where it takes an item on connection k: the message, and its answer to a request.
+abbrev pub heard_of : ℕ → State → Item → List Spoken
 heard_of k s item = taken (message_in item s.bus) ++ answers k s.host (request_in item s.bus)
 
 -- the same of the first item of a queue, where there is one
-abbrev pub heard_of_first : ℕ → State → Option Item → List Said
+abbrev pub heard_of_first : ℕ → State → Option Item → List Spoken
 heard_of_first k s None = []
 heard_of_first k s (Some item) = heard_of k s item
 
 -- ---- at an event
 
--- a place is that of the application processor on connection k, where it takes what is delivered
+-- a place is the application processor's on connection k, and it takes what is delivered there
 abbrev pub hears : ℕ → State → Place → Bool
 hears k s p =
     same_side p.side side.Ap && p.connection.number == k && takes p.side p.connection s
 
 -- what is heard of connection k where the first item toward a place is delivered
-abbrev pub heard_at_place : ℕ → State → Option Place → List Said
+abbrev pub heard_at_place : ℕ → State → Option Place → List Spoken
 heard_at_place k s None = []
 heard_at_place k s (Some p) =
     if hears k s p then heard_of_first k s (first (queue p.side p.connection)) else []
 
 -- What the application processor takes on connection k at an event, and what it answers to that.
-abbrev pub heard_taken : ℕ → State → Event → List Said
+abbrev pub heard_taken : ℕ → State → Event → List Spoken
 heard_taken k s (event.Deliver at) = heard_at_place k s (place_of at s.bus.connections)
 heard_taken k s _ = []
 
 -- a request that the application processor makes
-abbrev pub asking : Request → Said
+abbrev pub asking : Request → Spoken
 asking r = (true, request_message r)
 
 -- the requests of a list that it makes on connection k
-abbrev pub asked : ℕ → List Request → List Said
+abbrev pub asked : ℕ → List Request → List Spoken
 asked k rs = map asking (filter (is_of k side.Ap) rs)
 
 -- what it asks on connection k from one state of the bus to another
-abbrev pub heard_asked : ℕ → Bus → Bus → List Said
+abbrev pub heard_asked : ℕ → Bus → Bus → List Spoken
 heard_asked k before after = asked k (drop (length before.requests) after.requests)
 
 -- What is heard of connection k at a moment: first what is taken and answered there, then what is
 -- asked.
-abbrev pub heard_at : ℕ → Moment → List Said
+abbrev pub heard_at : ℕ → Moment → List Spoken
 heard_at k m = heard_taken k m.before m.event ++ heard_asked k m.before.bus (after m).bus
 
 -- ---- in a run
 
 -- what is heard of connection k at moments, in order
-abbrev pub heard_in : ℕ → List Moment → List Said
+abbrev pub heard_in : ℕ → List Moment → List Spoken
 heard_in k [] = []
 heard_in k (m ∷ ms) = heard_at k m ++ heard_in k ms
 
 -- What the application processor hears of connection k in a run, a settle being its deliveries.
-abbrev pub heard_by : ℕ → List Event → List Said
+abbrev pub heard_by : ℕ → List Event → List Spoken
 heard_by k es = heard_in k (moments_in es)
 
 -- messages as those of a capture, where the first line has number n
-abbrev pub in_lines : ℕ → List Said → List Heard
+abbrev pub in_lines : ℕ → List Spoken → List Heard
 in_lines n [] = []
-in_lines n (x ∷ said) =
-    record { line = n; from_ap = x.0; message = x.1 } ∷ in_lines (n + 1) said
+in_lines n (x ∷ xs) =
+    record { line = n; from_ap = x.0; message = x.1 } ∷ in_lines (n + 1) xs
 
 -- The capture of connection k in a run: a line for each message.
 abbrev pub capture_by : ℕ → List Event → List Heard
