@@ -1,14 +1,14 @@
 -- Messages of which nothing is found, by the last requests before them.
 use Rattle.std.proofs.Common.{◌≡◌, ℕ, ◌+◌, ◌==◌, Bool, true, false, not, cond, Option, Some}
-use Rattle.std.proofs.Common.{None, List, [], ◌∷◌, ◌++◌, refl, sym, ap, ◌∙◌, option_map, arith, map}
+use Rattle.std.proofs.Common.{None, List, [], ◌∷◌, ◌++◌, refl, sym, ap, ◌∙◌, option_map, map}
 use Rattle.std.specs.List.{cons_option, find}
-use Rattle.std.proofs.lemmas.Bool.Decides.{nat_tests}
 use Rattle.gb_base.specs.declared.audit.Finding.{Finding}
 use Rattle.gb_formats.specs.Audit.{answered_type, each_after, finding_of, found_of, is_answered}
 use Rattle.gb_formats.specs.Audit.{is_request_of, is_response, request_finding, response_finding}
 use Rattle.gb_formats.specs.Audit.{at_line}
 use Rattle.gb_formats.specs.Captures.{Heard}
 use Rattle.gb_hearing.specs.Hearing.{Spoken, in_lines}
+use Rattle.gb_invariants.proofs.Outcomes.{is-same}
 use Rattle.gb_hearing.proofs.Lasts.{Last, last, last-is, last_of, spoken}
 
 -- Nothing is found of a message: it is a request that gets no response, or one whose identifier is
@@ -59,9 +59,6 @@ free-none past (Some q) free = by (is_answered past q) refl
     by true e = ap (λ b. cond b None (Some (Finding.Reused q.line))) e
     by false e = absurd (free q.message.kind (ap (λ b. Some (q.message.kind, b)) e))
 
-same-number : (n : ℕ) → (n == n) ≡ true
-same-number n = grind (arith, nat_tests)
-
 -- of a response, by the last one
 pair-none : (past : List Heard) (m : Heard) (o : Option Heard)
     → option_map (last_of past) o ≡ Some (answered_type m.message, false)
@@ -73,7 +70,7 @@ pair-none past m (Some q) e =
     None (Some (Finding.OtherType q.line)))) (ap (λ (l : Last). l.1) is)
     ∙ ap (λ b. cond b None (Some (Finding.OtherType q.line)))
     (ap (λ k. answered_type m.message == k) (ap (λ (l : Last). l.0) is)
-    ∙ same-number (answered_type m.message))
+    ∙ is-same (answered_type m.message))
   where
     same-last : (x y : Last) → Some x ≡ Some y → x ≡ y
     same-last x y e = cc

@@ -9,7 +9,7 @@ use Rattle.gb_hearing.specs.Hearing.{Spoken}
 use Rattle.gb_hearing.proofs.Findings.{anew, plain}
 use Rattle.gb_hearing.proofs.Hears.{Hears, IsAsked, IsOver, Waits, over-same}
 use Rattle.gb_hearing.proofs.Lasts.{last}
-use Rattle.gb_hearing.proofs.Messages.{asked-here, asked-other, asked-way, asks-low}
+use Rattle.gb_hearing.proofs.Messages.{asked-here, asked-other, asked-way, asks-low, is-zero}
 use Rattle.gb_invariants.proofs.Awaiting.{none-some, not-both, sent-after, sent-awaited}
 use Rattle.gb_invariants.proofs.Awaiting.{sent-before, sent-made, sent-new, sent-request, unasked}
 use Rattle.gb_invariants.proofs.BusChanges.{BusChange}
@@ -84,9 +84,6 @@ module _ (k : ℕ) (d : Draft) (label : ℕ) (b : Bus) (fits : OutcomesFit b) wh
         (λ e. not-both (v == 0) (is-zero v (sym e ∙ zero)) some)) ∙ is));
   }
     where
-      is-zero : (n : ℕ) → n ≡ 0 → (n == 0) ≡ true
-      is-zero n e = grind (arith, nat_tests)
-
       before : (n : ℕ) (r : Request) → IsAsked k n r (sent d label b)
           → is_awaited n (sent d label b) ≡ true
           → (request_of n b ≡ Some r) × (is_awaited n b ≡ true)

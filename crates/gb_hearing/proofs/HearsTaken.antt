@@ -9,14 +9,12 @@ use Rattle.gb_hearing.proofs.Hears.{Hears, IsAsked, IsOver, Waits, asked-after}
 use Rattle.gb_hearing.proofs.Hears.{asked-before}
 use Rattle.gb_hearing.proofs.Lasts.{Last, last}
 use Rattle.gb_hearing.proofs.Messages.{answered-here, answered-other, answered-way, answers-type}
-use Rattle.gb_hearing.proofs.Messages.{asked-here, asked-other, asked-way, asks-low, responds-high}
+use Rattle.gb_hearing.proofs.Messages.{asked-here, asked-other, asked-way, asks-low, is-zero}
+use Rattle.gb_hearing.proofs.Messages.{responds-high}
 use Rattle.gb_invariants.proofs.Awaiting.{AwaitsFewer, not-both, same-some}
 use Rattle.gb_invariants.proofs.Outcomes.{is-same, same-number}
 use Rattle.gb_machine.specs.Bus.{Bus, Request, request_of}
 use Rattle.gb_machine.specs.LawsBus.{OwnLabels, is_awaited}
-
-is-zero : (n : ℕ) → n ≡ 0 → (n == 0) ≡ true
-is-zero n e = grind (arith, nat_tests)
 
 differs : (m n : ℕ) → (m == n) ≡ false → m ≢ n
 differs m n e f = not-both (m == n) (ap (λ j. m == j) (sym f) ∙ is-same m) e

@@ -1,15 +1,16 @@
 -- The last request of each way with each identifier, and what is found of a message by that.
 use Rattle.std.proofs.Common.{◌≡◌, ℕ, ◌==◌, ◌&&◌, ◌||◌, Bool, true, false, not, cond}
 use Rattle.std.proofs.Common.{Option, Some, None, List, [], ◌∷◌, refl, ap, ◌∙◌, option_map}
-use Rattle.std.proofs.Common.{arith, map}
+use Rattle.std.proofs.Common.{map}
 use Rattle.std.specs.Bool.{beq}
 use Rattle.std.specs.List.{find, list_any}
-use Rattle.std.proofs.lemmas.Bool.Decides.{nat_tests}
 use Rattle.gb_formats.specs.Audit.{answered_type, is_answer_to}
 use Rattle.gb_formats.specs.Audit.{is_answered, is_request_of, is_response}
 use Rattle.gb_formats.specs.Audit.{since}
 use Rattle.gb_formats.specs.Captures.{Heard}
 use Rattle.gb_hearing.specs.Hearing.{Spoken}
+use Rattle.gb_invariants.proofs.Lists.{found-in}
+use Rattle.gb_invariants.proofs.Outcomes.{both-true, same-number}
 
 -- ---- the last requests
 
@@ -52,13 +53,6 @@ same-way true false e = absurd (cc e)
 same-way false true e = absurd (cc e)
 same-way false false e = refl
 
-same-id : (m n : ℕ) → (m == n) ≡ true → m ≡ n
-same-id m n e = grind (arith, nat_tests)
-
-both : (a b : Bool) → (a && b) ≡ true → (a ≡ true) × (b ≡ true)
-both true b e = (refl, e)
-both false b e = absurd (cc e)
-
 -- what a request of this way with this identifier shows
 record Shows (way : Bool) (v : ℕ) (q : Heard) : Type 0 where
   from_ap : q.from_ap ≡ way
@@ -66,22 +60,13 @@ record Shows (way : Bool) (v : ℕ) (q : Heard) : Type 0 where
 
 shows : (way : Bool) (v : ℕ) (q : Heard) → is_request_of way v q ≡ true → Shows way v q
 shows way v q e =
-    let outer = both (beq q.from_ap way && not (is_response q.message)) (q.message.id == v) e in
-    let inner = both (beq q.from_ap way) (not (is_response q.message)) outer.0 in
+    let outer = both-true (beq q.from_ap way && not (is_response q.message)) (q.message.id == v)
+    e in
+    let inner = both-true (beq q.from_ap way) (not (is_response q.message)) outer.0 in
     record {
       from_ap = same-way q.from_ap way inner.0;
-      id = same-id q.message.id v outer.1;
+      id = same-number q.message.id v outer.1;
     }
-
-find-passes : (test : Heard → Bool) (past : List Heard) (q : Heard) → find test past ≡ Some q
-    → test q ≡ true
-find-passes test [] q e = absurd (cc e)
-find-passes test (x ∷ past) q e = by (test x) refl e (find-passes test past q)
-  where
-    by : (b : Bool) → test x ≡ b → cond b (Some x) (find test past) ≡ Some q
-        → (find test past ≡ Some q → test q ≡ true) → test q ≡ true
-    by true h e later = cc (h, e)
-    by false h e later = later e
 
 -- ---- what is kept is what stands in the whole list
 
@@ -132,5 +117,5 @@ last-is way v (m ∷ past) = by (is_request_of way v m) refl (last-is way v past
         (option_map (answered_more way v (spoken m)) (last way v (map spoken past)))
     by true e later = ap (λ b. Some (m.message.kind, b)) (newest m past way v e)
     by false e later =
-        kept (find (is_request_of way v) past) (find-passes (is_request_of way v) past) e
+        kept (find (is_request_of way v) past) (λ q f. (found-in (is_request_of way v) past q f).1) e
         ∙ ap (option_map (answered_more way v (spoken m))) later

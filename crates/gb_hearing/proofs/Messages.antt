@@ -6,6 +6,7 @@ use Rattle.std.proofs.lemmas.Bool.Decides.{nat_tests}
 use Rattle.gb_formats.specs.Audit.{answered_type, is_response}
 use Rattle.gb_formats.specs.Message.{request, response}
 use Rattle.gb_hearing.specs.Hearing.{Spoken}
+use Rattle.gb_invariants.proofs.Outcomes.{is-same}
 use Rattle.gb_hearing.proofs.Lasts.{Last, answered_more, answers, asks, last, more}
 
 -- ---- types
@@ -22,8 +23,8 @@ pub answers-type : (label kind result : ℕ) (payload : List ℕ) → kind < 128
     → answered_type (response label kind result payload) ≡ kind
 answers-type label kind result payload low = omega (arith, low)
 
-same-id : (n : ℕ) → (n == n) ≡ true
-same-id n = grind (arith, nat_tests)
+pub is-zero : (n : ℕ) → n ≡ 0 → (n == 0) ≡ true
+is-zero n e = grind (arith, nat_tests)
 
 other-id : (m n : ℕ) → m ≢ n → (m == n) ≡ false
 other-id m n other = grind (arith, nat_tests)
@@ -61,7 +62,7 @@ asked-here way label kind payload past low = by way
     here : (o : Option Last) → cond (not (is_response (request label kind payload))
         && label == label) (Some (kind, false)) o ≡ Some (kind, false)
     here o = ap (λ b. cond (not b && label == label) (Some (kind, false)) o) low_is
-        ∙ ap (λ b. cond b (Some (kind, false)) o) (same-id label)
+        ∙ ap (λ b. cond b (Some (kind, false)) o) (is-same label)
 
     by : (w : Bool) → last w label ((w, request label kind payload) ∷ past) ≡ Some (kind, false)
     by true = here _
@@ -111,8 +112,8 @@ answered-here way label kind result payload past low is = by way is
         && answered_type (response label kind result payload) == kind ≡ true
     fits = ap (λ b. b && label == label
         && answered_type (response label kind result payload) == kind) high
-        ∙ ap (λ b. b && answered_type (response label kind result payload) == kind) (same-id label)
-        ∙ ap (λ k. k == kind) (answers-type label kind result payload low) ∙ same-id kind
+        ∙ ap (λ b. b && answered_type (response label kind result payload) == kind) (is-same label)
+        ∙ ap (λ k. k == kind) (answers-type label kind result payload low) ∙ is-same kind
 
     by : (w : Bool) → last (not w) label past ≡ Some (kind, false)
         → last (not w) label ((w, response label kind result payload) ∷ past) ≡ Some (kind, true)
