@@ -133,6 +133,7 @@ stops-after old mid text left after given stop.TooLong r going h = record {
       ∙ ap lines (sym (ended-plain r.done h.raw h.plain ∙ so-far old text left given r going));
   full = length-append r.done h.raw ∙ omega (arith, r.room, h.full);
   more = h.more;
+  few = h.few;
 }
 
 -- a list without elements, and one with some

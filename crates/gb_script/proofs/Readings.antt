@@ -1,7 +1,7 @@
 -- What is taken of a text, and its lines.
-use Rattle.std.proofs.Common.{◌≡◌, ℕ, zero, suc, ◌+◌, ◌<◌, ◌==◌, ◌||◌, Bool, true, false, Option}
-use Rattle.std.proofs.Common.{Some, None, Result, Ok, Err, List, [], ◌∷◌, ◌++◌, length, take, drop}
-use Rattle.std.proofs.Common.{slice_index}
+use Rattle.std.proofs.Common.{◌≡◌, ℕ, zero, suc, ◌+◌, ◌<◌, ◌≤◌, ◌==◌, ◌||◌, Bool, true, false}
+use Rattle.std.proofs.Common.{Option, Some, None, Result, Ok, Err, List, [], ◌∷◌, ◌++◌, length}
+use Rattle.std.proofs.Common.{take, drop, slice_index}
 use Rattle.std.proofs.Common.{append_assoc, append-nil, length-append, length-drop, refl, sym, ap}
 use Rattle.std.proofs.Common.{◌∙◌, subst, arith, take_all}
 use Rattle.std.specs.Prelude.{is_some}
@@ -142,9 +142,9 @@ module _ (old at : Held) (piece : List ℕ) (left between after : Option (List �
   }
 
   -- the limit is within what is held
-  pub line-beyond : HasNoLf (take at.room piece) → at.room < length piece
+  pub line-beyond : HasNoLf (take at.room piece) → at.room < length piece → length piece ≤ 4096
       → IsBeyond old left after
-  line-beyond none more = record {
+  line-beyond none more few = record {
     raw = raw ++ take at.room piece;
     plain = plain-both raw (take at.room piece) plain none;
     beyond = drop at.room piece;
@@ -156,15 +156,18 @@ module _ (old at : Held) (piece : List ℕ) (left between after : Option (List �
         rw (length-append raw (take at.room piece), length-take at.room piece)
         (omega (arith, room, more));
     more = rw (length-drop at.room piece) (omega (arith, more));
+    few = rw (length-drop at.room piece) (omega (arith, few));
   }
 
-  pub ended-beyond : (n : ℕ) → EndsAt piece n → at.room < n + 1 → IsBeyond old left after
-  ended-beyond n e beyond =
+  pub ended-beyond : (n : ℕ) → EndsAt piece n → at.room < n + 1 → length piece ≤ 4096
+      → IsBeyond old left after
+  ended-beyond n e beyond few =
       line-beyond (subst HasNoLf (take-take at.room n piece (omega (arith, beyond)))
-      (plain-front at.room (take n piece) e.plain)) (omega (arith, beyond, e.within))
+      (plain-front at.room (take n piece) e.plain)) (omega (arith, beyond, e.within)) few
 
-  pub plain-beyond : HasNoLf piece → at.room < length piece → IsBeyond old left after
-  plain-beyond none more = line-beyond (plain-front at.room piece none) more
+  pub plain-beyond : HasNoLf piece → at.room < length piece → length piece ≤ 4096
+      → IsBeyond old left after
+  plain-beyond none more few = line-beyond (plain-front at.room piece none) more few
 
 -- more bytes came than may
 pub beyond-told : (old new : Held) (left after : Option (List ℕ)) (r : Result Bool LineStop)

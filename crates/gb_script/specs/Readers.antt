@@ -84,7 +84,8 @@ pub record FailsAfter (text left : Option (List ℕ)) (given : List (List ℕ)) 
   pub given_are : given ≡ lines (ended_lines read)
   pub within : length read ≤ longest_input
 
--- more bytes came than may: the lines that ended within the limit were handed out
+-- more bytes came than may, at most 4,096 of them: the lines that ended within the limit were
+-- handed out
 pub record IsBeyondAfter (text left : Option (List ℕ)) (given : List (List ℕ)) : Type 0 where
   pub read : List ℕ
   pub others : List ℕ
@@ -92,6 +93,7 @@ pub record IsBeyondAfter (text left : Option (List ℕ)) (given : List (List ℕ
   pub given_are : given ≡ lines (ended_lines read)
   pub full : length read ≡ longest_input
   pub more : 0 < length others
+  pub few : length others ≤ 4096
 
 -- no line came
 abbrev pub StopsAfter : (text left : Option (List ℕ)) → List (List ℕ) → LineStop → Type 0

@@ -44,7 +44,7 @@ pub record IsCut (old : Held) (left left_after : Option (List ℕ)) : Type 0 whe
   pub taken : Consumes (to_come old left) left_after raw
   pub within : length raw ≤ old.room
 
--- these bytes came up to the limit, and others beyond it
+-- these bytes came up to the limit, and at most 4,096 others beyond it
 pub record IsBeyond (old : Held) (left left_after : Option (List ℕ)) : Type 0 where
   pub raw : List ℕ
   pub plain : HasNoLf raw
@@ -52,6 +52,7 @@ pub record IsBeyond (old : Held) (left left_after : Option (List ℕ)) : Type 0 
   pub taken : Consumes (to_come old left) left_after (raw ++ beyond)
   pub full : length raw ≡ old.room
   pub more : 0 < length beyond
+  pub few : length beyond ≤ 4096
 
 -- By cases on the answer, whether the line ended with LF or with the text.
 abbrev pub ReadsLine : (old new : Held) (left left_after : Option (List ℕ))

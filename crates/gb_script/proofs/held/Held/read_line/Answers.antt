@@ -21,7 +21,7 @@ returns-in_err-take-clause-line g c =
     (g.S.Source.left c.args.source.now) (g.S.Source.left c.loop-self.source)
     (g.S.Source.left c.fill.new.source) c.in_ok-fill.field-0 inv.raw inv.plain inv.taken inv.room
     c.in_ok-fill.ensures.bytes c.in-Some.n c.in-Some.ensures
-    c.in_err-take.ensures.2)
+    c.in_err-take.ensures.2 (c.fill.ensures.few inv.few))
 
 pub returns-in-Some-clause-line : goal.returns-in-Some-clause-line
 returns-in-Some-clause-line g c =
@@ -45,7 +45,7 @@ returns-in_err-take-2-clause-line g c =
     (g.S.Source.left c.fill.new.source) c.in_ok-fill.field-0 inv.raw inv.plain inv.taken inv.room
     c.in_ok-fill.ensures.bytes c.in_default.ensures
     (subst (λ (l : List ℕ). c.loop-self.self.room < length l) c.left-n.ensures
-    c.in_err-take-2.ensures.2))
+    c.in_err-take-2.ensures.2) (c.fill.ensures.few inv.few))
 
 pub loop-self-preserved : goal.loop-self-preserved
 loop-self-preserved g c =
