@@ -10,6 +10,7 @@ pub mod Runs
 pub mod Sessions
 pub mod Sharing
 pub mod Stages
+pub mod Statuses
 pub mod Stops
 pub mod WholeJobs
 pub mod Writing

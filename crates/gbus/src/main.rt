@@ -1,6 +1,10 @@
 //! `gbus` runs scripts over the simulated module bus of Project Ara.
 #![tactic(auto)]
 
+ghost use Rattle.std.specs.Prelude.{◌≡◌, option_map};
+ghost use Rattle.std.specs.Process.{exit_status};
+ghost use Rattle.gbus.specs.Statuses.{complaint_text, exit_number};
+
 mod answer;
 mod drive;
 mod gathered;
@@ -39,7 +43,7 @@ fn main(rt: HostRuntime) -> ExitCode {
     if let Some(line) = complaint(status) {
         let _ = rt.eprintln(line);
     }
-    ExitCode::from(status as u8)
+    exit_code(status)
 }
 
 /// The words behind the program's name. Words that aren't UTF-8 are none of the program's.
@@ -56,7 +60,9 @@ fn words_of(rt: &HostRuntime) -> Result<Vec<String>, Status> {
 }
 
 /// What is said of a status on the standard error.
-fn complaint(status: Status) -> Option<&'static str> {
+fn complaint(status: Status) -> Option<&'static str>
+    ensures { option_map (λ line. line.now) result ≡ complaint_text status }
+{
     match status {
         Status::Success | Status::Refused => None,
         Status::Usage => Some("usage"),
@@ -65,4 +71,11 @@ fn complaint(status: Status) -> Option<&'static str> {
         Status::WriteFault => Some("write failed"),
         Status::NoMemory => Some("out of memory"),
     }
+}
+
+/// With which number the process ends.
+fn exit_code(status: Status) -> ExitCode
+    ensures { exit_status result ≡ exit_number status }
+{
+    ExitCode::from(status as u8)
 }
