@@ -4,14 +4,15 @@ use Rattle.std.proofs.Common.{[], ◌++◌, length, take, append_assoc, length-a
 use Rattle.std.proofs.Common.{length-drop, refl, sym, subst, ap, ◌∙◌, arith}
 use Rattle.std.specs.Prelude.{IfSome}
 use Rattle.std.specs.Io.KnownBytes.{Consumes}
+use Rattle.std.proofs.KnownBytes.{Consumes-nil, Consumes-trans}
 use Rattle.std.proofs.lemmas.Bool.Decides.{nat_tests}
 use Rattle.std.proofs.Math.Seq.{take-append_seam}
-use Rattle.std.proofs.lemmas.List.{length-take-le, take-append-drop}
+use Rattle.std.proofs.lemmas.List.{length-take, length-take-le, take-append-drop}
 use Rattle.gb_base.specs.declared.status.Status.TheVariants as status
 use Rattle.gb_formats.specs.Lines.{ended_lines, longest_input}
 use Rattle.gbus.specs.Answers.{input_status, input_text}
 use Rattle.gbus.specs.Program.{Whole, is_too_long, lines_within, verdict, whole_output}
-use Rattle.gbus.specs.Reading.{IsLong, IsRead}
+use Rattle.gbus.specs.Reading.{IsLong, IsRead, StopsAtLimit}
 use Rattle.gbus.specs.declared.input.Input.{Input}
 use Rattle.gbus.specs.WholeJobs.{WholeJob, whole_text, whole_verdict}
 use Rattle.gbus.specs.declared.input.Input.TheVariants as input
@@ -58,6 +59,20 @@ cut_long left after bytes front read more is = cut_long_at longest_input refl
           ∙ e;
       more = omega (arith, length-drop n bytes);
     }
+
+-- nothing was read
+pub nothing-read : (left : Option (List ℕ)) → StopsAtLimit left left
+nothing-read left = record { bytes = []; read = Consumes-nil left; few = omega arith }
+
+-- as many bytes as may be were read, and then at most 4,096
+pub read-more : (left mid after : Option (List ℕ)) (bytes piece : List ℕ) (n : ℕ)
+    → Consumes left mid bytes → Consumes mid after (take n piece)
+    → length bytes ≤ longest_input → n ≤ 4096 → StopsAtLimit left after
+read-more left mid after bytes piece n first second within few = record {
+  bytes = bytes ++ take n piece;
+  read = Consumes-trans left mid after bytes (take n piece) first second;
+  few = rw (length-append bytes (take n piece), length-take n piece) (omega (arith, within, few));
+}
 
 -- ---- what is written
 

@@ -1,7 +1,7 @@
 -- What the lines of an input come to, by what was read, taken and written.
 use Rattle.std.proofs.Common.{◌≡◌, ℕ, ◌-◌, ◌<◌, ◌≤◌, Bool, true, false, Option, Some}
-use Rattle.std.proofs.Common.{None, List, [], ◌∷◌, ◌++◌, length, take, append_assoc, append-nil}
-use Rattle.std.proofs.Common.{refl, sym, ap, ◌∙◌, subst, arith, inr}
+use Rattle.std.proofs.Common.{None, Result, Ok, Err, List, [], ◌∷◌, ◌++◌, length, take, append_assoc}
+use Rattle.std.proofs.Common.{append-nil, length-append, refl, sym, ap, ◌∙◌, subst, arith, inr}
 use Rattle.std.specs.Prelude.{IfSome}
 use Rattle.std.specs.Io.KnownBytes.{Appends, IsAtEnd, prepend_known}
 use Rattle.std.proofs.Math.Seq.{take-append-add}
@@ -9,9 +9,11 @@ use Rattle.gb_base.specs.declared.status.Status.TheVariants as status
 use Rattle.gb_formats.specs.Lines.{ended_lines, lines, longest_input}
 use Rattle.gb_script.proofs.Readings.{consumes-held}
 use Rattle.gb_script.proofs.TextLines.{ended-behind, lines-behind}
-use Rattle.gb_script.specs.Readers.{EndsAfter, FailsAfter, IsBeyondAfter, Reads, StandsAt, behind}
-use Rattle.gb_script.specs.Readers.{stop_of, stopped}
+use Rattle.gb_script.specs.Readers.{EndsAfter, FailsAfter, IsBeyondAfter, Reads, ReadsOn, StandsAt}
+use Rattle.gb_script.specs.Readers.{behind, stop_of, stopped}
 use Rattle.gb_script.specs.Reading.{to_come}
+use Rattle.gb_script.specs.declared.held.LineStop.{LineStop}
+use Rattle.gb_script.specs.declared.held.LineStop.TheVariants as stop
 use Rattle.gb_script.specs.declared.line_reader.LineReader.{LineReader}
 use Rattle.gb_script.specs.declared.line_reader.Progress.{Progress}
 use Rattle.gb_script.specs.declared.line_reader.Progress.TheVariants as progress
@@ -23,6 +25,7 @@ use Rattle.gbus.specs.LineEnds.{IsCutOff, IsRefusedAt, IsReported, ReadsTo, Stop
 use Rattle.gbus.specs.LineJobs.{Audit, LineJob, Report, has_bad, last_text, lines_text}
 use Rattle.gbus.specs.Program.{ByLine, is_too_long, lines_output, lines_status, lines_within}
 use Rattle.gbus.specs.Program.{verdict}
+use Rattle.gbus.specs.Reading.{StopsAtLimit}
 use Rattle.gbus.specs.Sessions.{Begins, IsBehind, RefusesLine}
 use Rattle.gbus.specs.Stages.{IsOfOutput}
 use Rattle.gbus.specs.declared.session.Session.{Session}
@@ -152,6 +155,31 @@ reads-to x left now given line r = record {
   read = consumes-held left now r.done (behind x) r.taken;
   lines_are = sym r.given_are;
   few = r.few;
+}
+
+-- how much was read where lines were handed out, and where one was asked for
+pub within-limit : (x : LineReader) (left now : Option (List ℕ)) (given : List (List ℕ))
+    → Reads x left now given → StopsAtLimit left now
+within-limit x left now given r = record {
+  bytes = r.done ++ behind x;
+  read = consumes-held left now r.done (behind x) r.taken;
+  few = rw (length-append r.done (behind x)) (omega (arith, r.room, r.few));
+}
+
+pub asked-within : (x : LineReader) (left now : Option (List ℕ)) (given : List (List ℕ))
+    (result : Result Bool LineStop) → ReadsOn x left now given result → StopsAtLimit left now
+asked-within x left now given (Ok true) h =
+    within-limit x left now (given ++ h.line ∷ []) h.reads
+asked-within x left now given (Ok false) h = within-limit x left now given h.reads
+asked-within x left now given (Err stop.ReadFault) h = record {
+  bytes = h.read;
+  read = h.taken;
+  few = omega (arith, h.within);
+}
+asked-within x left now given (Err stop.TooLong) h = record {
+  bytes = h.read ++ h.others;
+  read = h.taken;
+  few = rw (length-append h.read h.others) (omega (arith, h.full, h.few));
 }
 
 -- the verdict on an input, by its lines

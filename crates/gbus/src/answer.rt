@@ -66,8 +66,7 @@ pub fn answer_for<R: Threads + Sync, S: Source, G: Gate>(
     ensures verdict { IfOk result (λ a. IsVerdict a.status) }
     ensures at_end { reads (Some (task_seen task)) ≡ true
         → IfOk result (λ a. a.status ≡ Status.Success → IsAtEnd (S.left source.new)) }
-    ensures limit { reads (Some (task_seen task)) ≡ true
-        → IfOk result (λ _. StopsAtLimit (S.left source.old) (S.left source.new)) }
+    ensures limit { StopsAtLimit (S.left source.old) (S.left source.new) }
     ensures kept { reads (Some (task_seen task)) ≡ false → source.new ≡ source.old }
     ensures fault { FailsAs (S.faults source.old) (S.faults source.new) result }
 {

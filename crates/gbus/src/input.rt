@@ -70,7 +70,7 @@ pub fn read_all<S: Source>(alloc: Global, source: &mut S) -> Result<Input, ReadS
     ensures later { S.faults source.old ≤ S.faults source.new }
     ensures input { IfOk result (λ i. IfSome (S.left source.old) (IsRead i)) }
     ensures short { IfOk result (λ i. length (kept_of i) ≤ 1048576) }
-    ensures limit { IfOk result (λ _. StopsAtLimit (S.left source.old) (S.left source.new)) }
+    ensures limit { StopsAtLimit (S.left source.old) (S.left source.new) }
 {
     let mut bytes = Vec::new(alloc);
     let mut piece = [0u8; PIECE];

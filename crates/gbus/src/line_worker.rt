@@ -6,6 +6,7 @@ ghost use Rattle.gb_script.specs.Readers.{Lends, Reads, holds_line, number_of, s
 ghost use Rattle.gbus.specs.Jobs.{line_job_seen};
 ghost use Rattle.gbus.specs.LineEnds.{FaultRose, IsFrontOfOutput, LinesEnd};
 ghost use Rattle.gbus.specs.LineJobs.{LineJob as Seen, lines_text};
+ghost use Rattle.gbus.specs.Reading.{StopsAtLimit};
 ghost use Rattle.gbus.specs.Sessions.{IsBehind, ending_of, lines_taken};
 ghost use Rattle.gbus.specs.Stages.{fault_status};
 
@@ -73,6 +74,9 @@ impl LineWorker {
         ensures counts { result ≡ None
             → ((number_of self.new.reader ≡ number_of self.old.reader + 1)
             × (number_of self.new.reader ≤ 1048576)) }
+        ensures limit { (left : Option (List ℕ)) → (given : List (List ℕ))
+            → Reads self.old.reader left (S.left source.old) given
+            → StopsAtLimit left (S.left source.new) }
         ensures reads { S.faults source.old ≤ S.faults source.new }
         ensures faults { stopped self.old.reader ≡ None
             → IfSome result (FaultRose (S.faults source.old) (S.faults source.new) 0 0) }
@@ -168,8 +172,8 @@ fn status_at(stop: WriteStop) -> Status
     }
 }
 
-/// Takes an input line by line. What is to be written of the lines that have come is written before
-/// the source is read again.
+/// Takes an input line by line. Where a write fails, or a line is bad, at most 4,096 bytes past that
+/// line were read.
 pub fn work_by_line<S: Source, K: Sink>(
     alloc: Global,
     job: LineJob,
@@ -180,6 +184,7 @@ pub fn work_by_line<S: Source, K: Sink>(
         (K.taken sink.old) (K.taken sink.new) result }
     ensures prefix { IsFrontOfOutput (line_job_seen job) (S.left source.old) (K.taken sink.old)
         (K.taken sink.new) }
+    ensures limit { StopsAtLimit (S.left source.old) (S.left source.new) }
     ensures faults { FaultRose (S.faults source.old) (S.faults source.new) (K.faults sink.old)
         (K.faults sink.new) result }
 {

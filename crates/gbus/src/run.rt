@@ -24,8 +24,9 @@ use std::thread::Threads;
 ///
 /// `share` reads the whole input first. A bad line is told alone, and nothing is run then. Else
 /// requester 0's lines are run, and then those of the others at once, each requester in a thread of
-/// its own, which calls `gate` before each line. What is written begins with the order in which the
-/// lines were run, and ends with the names that name requests then.
+/// its own, which calls `gate` before each line and behind the last. What is written begins with the
+/// order in which the lines were run, and ends with the names that name requests then. No clause
+/// speaks of `gate`, which is called for `share` alone.
 pub fn run<R: Threads + Sync, S: Source, K: Sink, G: Gate>(
     rt: &R,
     alloc: Global,
@@ -48,11 +49,9 @@ pub fn run<R: Threads + Sync, S: Source, K: Sink, G: Gate>(
     ensures at_end { reads (job_of (map string_bytes words.now)) ≡ true
         → result ≡ Status.Success → IsAtEnd (S.left source.new) }
 
-    // Where an input was read as a whole, at most 4,096 bytes were read past as many as an input may
-    // have.
-    ensures limit { IsVerdict result → reads (job_of (map string_bytes words.now)) ≡ true
-        → is_by_line (job_of (map string_bytes words.now)) ≡ false
-        → StopsAtLimit (S.left source.old) (S.left source.new) }
+    // Whatever the words and the status are, at most 4,096 bytes were read past as many as an input
+    // may have.
+    ensures limit { StopsAtLimit (S.left source.old) (S.left source.new) }
 
     // Nothing is read where the words ask for nothing of the input.
     ensures kept { reads (job_of (map string_bytes words.now)) ≡ false → source.new ≡ source.old }

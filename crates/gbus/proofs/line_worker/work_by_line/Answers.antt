@@ -1,6 +1,7 @@
 use Rattle.std.proofs.Common.{arith}
 use Rattle.gbus.proofs.Gathering.{rose-since}
-use Rattle.gbus.proofs.LineEnds.{going}
+use Rattle.gbus.proofs.Limits.{nothing-read}
+use Rattle.gbus.proofs.LineEnds.{going, within-limit}
 use Rattle.gbus.specs.Jobs.{line_job_seen}
 use Rattle.gbus.proofs.line_worker.work_by_line.Goals as goal
 
@@ -19,6 +20,18 @@ returns-in-Err-clause-prefix g c =
     let j = line_job_seen c.args.job in
     (c.in-Err.ensures.stage j left (g.S.Source.left c.loop-fault.source) taken
     (c.loop-fault.invariant.stage j (c.in-Ok.ensures left taken))).1
+
+pub returns-in_default-clause-limit : goal.returns-in_default-clause-limit
+returns-in_default-clause-limit g c = nothing-read (g.S.Source.left c.args.source.now)
+
+pub returns-in-Err-clause-limit : goal.returns-in-Err-clause-limit
+returns-in-Err-clause-limit g c =
+    let left = g.S.Source.left c.args.source.now in
+    let taken = g.K.Sink.taken c.args.sink.now in
+    let stage = c.loop-fault.invariant.stage (line_job_seen c.args.job)
+    (c.in-Ok.ensures left taken) in
+    within-limit c.loop-fault.worker.reader left (g.S.Source.left c.loop-fault.source) stage.given
+    stage.reads
 
 pub turn-requires : goal.turn-requires
 turn-requires g c =
@@ -51,6 +64,16 @@ returns-in-Some-clause-prefix g c =
     (c.end.ensures.ends j left (g.S.Source.left c.turn.new.source) taken
     (c.in-Some.ensures.turns j left taken (g.K.Sink.taken c.write_before_read.new.sink) stage
     c.in_default-write_before_read.ensures.empty)).1
+
+pub returns-in-Some-clause-limit : goal.returns-in-Some-clause-limit
+returns-in-Some-clause-limit g c =
+    let left = g.S.Source.left c.args.source.now in
+    let taken = g.K.Sink.taken c.args.sink.now in
+    let j = line_job_seen c.args.job in
+    let stage = c.in_default-write_before_read.ensures.stage j left
+    (g.S.Source.left c.loop-fault.source) taken
+    (c.loop-fault.invariant.stage j (c.in-Ok.ensures left taken)) in
+    c.turn.ensures.limit left stage.given stage.reads
 
 pub returns-in-Some-clause-faults : goal.returns-in-Some-clause-faults
 returns-in-Some-clause-faults g c =

@@ -1,6 +1,7 @@
 -- What was read, answered and written, together.
 use Rattle.std.proofs.Common.{Some, option_map, sym, ap, ◌∙◌}
 use Rattle.gbus.proofs.Fronts.{all_taken, part_taken}
+use Rattle.gbus.proofs.Limits.{nothing-read}
 use Rattle.gbus.proofs.Runs.{answered, complete, keeps_headline, no-read-fault, no-usage}
 use Rattle.gbus.proofs.Runs.{no-write-fault, of_run, some-job, unwritten, within}
 use Rattle.gbus.proofs.ByLine.{by-line-answered, by-line-complete, by-line-cut, by-line-is}
@@ -234,3 +235,6 @@ returns-in-ByLine-clause-usage g c = (
 pub returns-in-ByLine-clause-untouched : goal.returns-in-ByLine-clause-untouched
 returns-in-ByLine-clause-untouched g c = λ e.
     absurd (lines-usage (line_job_seen c.in-ByLine.job) _ _ _ _ _ c.work_by_line.ensures.ends e)
+
+pub returns-in_default-clause-limit : goal.returns-in_default-clause-limit
+returns-in_default-clause-limit g c = nothing-read (g.S.Source.left c.args.source.now)

@@ -3,7 +3,7 @@ use Rattle.gb_base.specs.declared.status.Status.TheVariants as status
 use Rattle.gb_script.specs.Readers.{CountsOn, ReadsOn, StopsAfter}
 use Rattle.gb_script.specs.declared.held.LineStop.{LineStop}
 use Rattle.gbus.proofs.Endings.{at-last, closed-last, gathers-read}
-use Rattle.gbus.proofs.LineEnds.{cut-off, too-long}
+use Rattle.gbus.proofs.LineEnds.{asked-within, cut-off, too-long}
 use Rattle.gbus.proofs.line_worker.LineWorker.turn.Goals as goal
 
 pub take_line-requires : goal.take_line-requires
@@ -66,3 +66,28 @@ returns-in-Err-TooLong-clause-turns g c = λ j left taken after st none.
     (λ later wrote.
     too-long c.args.self.now.session j left now taken later st.given stopped st.behind
     wrote)
+
+pub returns-in-Ok-true-clause-limit : goal.returns-in-Ok-true-clause-limit
+returns-in-Ok-true-clause-limit g c = λ left given read.
+    asked-within c.next.new.self left (g.S.Source.left c.next.new.source) given c.next.result
+    (c.next.ensures.reads left given read)
+
+pub returns-in-Ok-clause-limit : goal.returns-in-Ok-clause-limit
+returns-in-Ok-clause-limit g c = λ left given read.
+    asked-within c.next.new.self left (g.S.Source.left c.next.new.source) given c.next.result
+    (c.next.ensures.reads left given read)
+
+pub returns-in-Err-clause-limit : goal.returns-in-Err-clause-limit
+returns-in-Err-clause-limit g c = λ left given read.
+    asked-within c.next.new.self left (g.S.Source.left c.next.new.source) given c.next.result
+    (c.next.ensures.reads left given read)
+
+pub returns-in-Err-ReadFault-clause-limit : goal.returns-in-Err-ReadFault-clause-limit
+returns-in-Err-ReadFault-clause-limit g c = λ left given read.
+    asked-within c.next.new.self left (g.S.Source.left c.next.new.source) given c.next.result
+    (c.next.ensures.reads left given read)
+
+pub returns-in-Err-TooLong-clause-limit : goal.returns-in-Err-TooLong-clause-limit
+returns-in-Err-TooLong-clause-limit g c = λ left given read.
+    asked-within c.next.new.self left (g.S.Source.left c.next.new.source) given c.next.result
+    (c.next.ensures.reads left given read)
