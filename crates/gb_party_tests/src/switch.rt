@@ -157,6 +157,12 @@ fn fill(rt: &impl Abort, queues: &mut Queues<u8>, ends: &[End]) {
     }
 }
 
+/// These are the ends where an item waits, in order.
+fn waits(rt: &impl Abort, queues: &Queues<u8>, order: &[End]) {
+    let ends = queues.waiting().expect(rt, "memory");
+    assert!(rt; ends.items() == order);
+}
+
 /// These are the ends where an item waits, in order, and each has no more than that.
 fn empties(rt: &impl Abort, queues: &mut Queues<u8>, order: &[End]) {
     for at in order.iter() {
@@ -173,6 +179,7 @@ fn ends_are_settled_in_order(rt: HostRuntime) {
     let ends = [FAR, End::Ap(300), NEAR, End::Ap(7), End::Svc, End::Ap(0)];
     fill(&rt, &mut queues, &ends);
     let order = [End::Svc, End::Ap(0), End::Ap(7), End::Ap(300), NEAR, FAR];
+    waits(&rt, &queues, &order);
     empties(&rt, &mut queues, &order);
 }
 

@@ -51,10 +51,19 @@ fn one_number(rt: &impl Abort, alloc: Global, number: u64) -> Numbers {
 fn lists_grow(rt: HostRuntime) {
     let mut bytes = bytes_of(&rt, rt.alloc(), b"ab");
     bytes.push(7).expect(&rt, "memory");
+    bytes.extend(b"cd").expect(&rt, "memory");
     let copy = bytes.copy().expect(&rt, "memory");
-    assert!(rt; copy.items() == b"ab\x07".as_slice());
+    assert!(rt; copy.items() == b"ab\x07cd".as_slice());
     let numbers = one_number(&rt, rt.alloc(), 7).copy().expect(&rt, "memory");
     assert!(rt; numbers.items() == [7].as_slice());
+}
+
+#[test]
+fn members_are_added(rt: HostRuntime) {
+    let mut numbers = one_number(&rt, rt.alloc(), 7);
+    numbers.extend(&[8, 9]).expect(&rt, "memory");
+    numbers.insert(1, 5).expect(&rt, "memory");
+    assert!(rt; numbers.items() == [7, 5, 8, 9].as_slice());
 }
 
 #[test]
