@@ -9,8 +9,11 @@ use Rattle.std.specs.Prelude.{◌==◌, if◌then◌else◌, option_map, slice_s
 use Rattle.std.specs.List.{slice_get}
 use Rattle.gb_base.specs.declared.entry.Entry.{Entry}
 use Rattle.gb_desk.proofs.Holding.{hit_other}
-use Rattle.gb_desk.specs.Slots.{all_noted, hit, inner, noted, numbers_of, slot_at, times}
+use Rattle.gb_desk.specs.Slots.{all_noted, hit, inner, noted, numbers_of, slot_at, times, told_by}
 use Rattle.gb_desk.specs.declared.slots.Slot.{Slot}
+use Rattle.gb_desk.specs.declared.slots.Told.{Told}
+use Rattle.gb_laws.specs.Tickets.{end_in}
+use Rattle.gb_machine.specs.Bus.{or_else}
 use Rattle.gb_machine.specs.Members.{IsIn}
 
 -- ---- members of lists
@@ -244,3 +247,20 @@ no_more ns (m ∷ ms) once within =
     (λ k. (let fewer = minus_times m k ns in let most = once k in omega arith))
     (λ k i. (let r = minus_in m k ns i in
     ⊎_elim (λ same. absurd (r.1 same)) (λ later. later) (within k r.0))) in omega arith
+
+-- ---- where no end is told
+
+same_told : (x : Slot) (o : Option Told) → o ≡ x.told → or_else o None ≡ x.told
+same_told x None is = is
+same_told x (Some told) is = is
+
+-- slots that learn nothing stay as they are
+pub none_noted : (es : List Entry) → ((n : ℕ) → end_in n es ≡ None) → (slots : List (Option Slot))
+    → all_noted es slots ≡ slots
+none_noted es none [] = refl
+none_noted es none (None ∷ xs) = ap (λ l. None ∷ l) (none_noted es none xs)
+none_noted es none (Some x ∷ xs) =
+    let told : or_else x.told (told_by (end_in x.number es)) ≡ x.told =
+    ap (λ o. or_else x.told (told_by o)) (none x.number) ∙ same_told x x.told refl in
+    ap (λ t. Some (record x { told = t }) ∷ all_noted es xs) told
+    ∙ ap (λ l. Some x ∷ l) (none_noted es none xs)

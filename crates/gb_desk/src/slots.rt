@@ -1,7 +1,7 @@
 //! The slots of a desk: which requests have tickets, and how each of them ended.
 
 ghost use Rattle.std.specs.Prelude.{◌≡◌, ◌<◌, length, map, option_map, replicate, slice_set};
-ghost use Rattle.std.specs.Prelude.{MatchBool, None, Some};
+ghost use Rattle.std.specs.Prelude.{MatchBool, None, Some, false, ℕ};
 ghost use Rattle.gb_desk.specs.Slots.{IsEnded, IsOpen, all_noted, noted, slot_at};
 ghost use Rattle.gb_desk.specs.Slots.{told_by, told_of};
 ghost use Rattle.gb_desk.specs.declared.slots.Slot.{Slot};
@@ -82,26 +82,35 @@ pub fn first_asked(entries: &[Entry]) -> Option<u64>
     None
 }
 
-/// A slot once these entries were told.
-fn once_told(slot: Option<Slot>, entries: &[Entry]) -> Option<Slot>
-    ensures { result ≡ option_map (noted entries.now) slot }
+/// Whether entries tell that some request ended.
+fn tell_an_end(entries: &[Entry]) -> bool
+    ensures { result ≡ false → (n : ℕ) → end_in n entries.now ≡ None }
 {
-    let Some(Slot { number, told }) = slot else {
-        return None;
-    };
-    let told = match told {
-        Some(told) => Some(told),
-        None => end_told(entries, number),
-    };
-    Some(Slot { number, told })
+    for entry in entries {
+        if let Entry::Ended { .. } = entry {
+            return true;
+        }
+    }
+    false
 }
 
-/// All of these slots once these entries were told.
+/// A slot learns what these entries tell.
+fn tell(slot: &mut Option<Slot>, entries: &[Entry])
+    ensures { slot.new ≡ option_map (noted entries.now) slot.old }
+{
+    if let Some(request) = slot {
+        if request.told.is_none() {
+            request.told = end_told(entries, request.number);
+        }
+    }
+}
+
+/// All of these slots learn what these entries tell.
 fn note_all(slots: &mut [Option<Slot>], entries: &[Entry])
     ensures { slots.new ≡ all_noted entries.now slots.old }
 {
     for at in 0..slots.len() {
-        slots[at] = once_told(slots[at], entries);
+        tell(&mut slots[at], entries);
     }
 }
 
@@ -175,6 +184,8 @@ impl Slots {
     pub fn note(&mut self, entries: &[Entry])
         ensures { self.new ≡ all_noted entries.now self.old }
     {
-        note_all(&mut self.items, entries);
+        if tell_an_end(entries) {
+            note_all(&mut self.items, entries);
+        }
     }
 }

@@ -117,5 +117,6 @@ last-is way v (m ∷ past) = by (is_request_of way v m) refl (last-is way v past
         (option_map (answered_more way v (spoken m)) (last way v (map spoken past)))
     by true e later = ap (λ b. Some (m.message.kind, b)) (newest m past way v e)
     by false e later =
-        kept (find (is_request_of way v) past) (λ q f. (found-in (is_request_of way v) past q f).1) e
+        kept (find (is_request_of way v) past)
+        (λ q f. (found-in (is_request_of way v) past q f).1) e
         ∙ ap (option_map (answered_more way v (spoken m))) later

@@ -11,17 +11,19 @@ use Rattle.gb_base.specs.declared.event.Event.{Event}
 use Rattle.gb_base.specs.declared.journal.JournalEntry.{JournalEntry}
 use Rattle.gb_base.specs.declared.parts.Asked.{Asked}
 use Rattle.gb_formats.specs.Orders.{AreOpening, Merged, is_by}
-use Rattle.gb_machine.specs.Journal.{IsLegal}
+use Rattle.gb_machine.specs.Journal.{IsLegal, events_of}
 use Rattle.gb_machine.specs.Shared.{done_in}
 use Rattle.gb_machine.specs.State.{State, first_state}
 use Rattle.gb_share.specs.Doing.{events_by}
-use Rattle.gb_share.specs.Lines.{AreAsking, ran}
+use Rattle.gb_share.specs.Fulls.{AreExact, ComeLate, DoAsk}
+use Rattle.gb_share.specs.Lines.{before_full, ran}
 use Rattle.gb_share.specs.Parting.{AreRequesters, lines_by}
-use Rattle.gb_share.specs.Placing.{ArePlaced, Begins, DoAsk, left, left_by, marked}
+use Rattle.gb_share.specs.Placing.{ArePlaced, Begins, left, left_by, marked}
 use Rattle.gb_share.specs.Requesters.{AreSame, AreWhole, ran_by, ran_of}
-use Rattle.gb_share.specs.Shares.{IsRunOf}
+use Rattle.gb_share.specs.Shares.{AreLate, IsRunOf}
 use Rattle.gb_share.specs.declared.merging.Merging.{Merging}
 use Rattle.gb_share.specs.declared.requester.Requester.{Requester}
+use Rattle.gb_share.proofs.Early.{asks_all, comes_late, full_at, most_longer}
 use Rattle.gb_share.proofs.Queues.{marked_lines}
 use Rattle.gb_share.proofs.Rests.{same_get, same_length}
 use Rattle.gb_share.proofs.Teams.{get_low}
@@ -84,14 +86,6 @@ ran_marked (x ∷ xs) [] = refl
 ran_marked (x ∷ xs) (true ∷ fs) = ran_marked xs fs
 ran_marked (x ∷ xs) (false ∷ fs) = ap (λ l. x.event ∷ l) (ran_marked xs fs)
 
-asks_marked : (ls : List Asked) (fs : List Bool) → AreAsking ls fs → DoAsk (marked ls fs)
-asks_marked [] fs asking = tt
-asks_marked (x ∷ xs) [] asking = tt
-asks_marked (x ∷ xs) (f ∷ fs) asking = (
-  (λ full. asking zero x refl (ap (λ b. Some b) full)),
-  asks_marked xs fs (λ n l line mark. asking (suc n) l line mark),
-)
-
 -- ---- what is left in front of all
 
 zeros_get : (k n : ℕ) → n < k → slice_get {X = ℕ} (replicate k 0) n ≡ Some 0
@@ -122,17 +116,29 @@ left_all x ys all at r =
     go (Some z) is =
         ap (λ k. left_by (Some z) k) (zeros_get (length ys) r (get_low ys r z is))
 
+-- an empty list has no member
+none_at : {A : Type 0} (front back : List A) (x : A) → [] ≡ front ++ x ∷ back → ⊥
+none_at [] back x is = absurd cc
+none_at (y ∷ ys) back x is = absurd cc
+
+-- where a requester has a full line, its later events come late
+abbrev pub ComeLateBehind : List Requester → List JournalEntry → Type 0
+ComeLateBehind ys journal = (n : ℕ) (y : Requester) (k : ℕ) → slice_get ys n ≡ Some y
+    → before_full y.full ≡ Some k → AreLate y.who k journal
+
 -- each requester's facts
 record IsFresh (asked : List Asked) (journal : List JournalEntry) (r : ℕ) (ms : List Merged)
     : Type 0 where
   each : filter (is_by r) asked ≡ map (λ (m : Merged). m.0) ms
   ran : done_in ms ≡ events_by r journal
-  may : DoAsk ms
+  may : DoAsk (events_of journal) ms
+  ahead : (front back : List Merged) (a : Asked) → ms ≡ front ++ (a, true) ∷ back
+      → ComeLate r (length (done_in front)) [] journal
 
 fresh : (asked : List Asked) (xs ys : List Requester) (journal : List JournalEntry)
-    → AreRequesters asked xs → AreSame xs ys → AreWhole ys → IsRunOf ys journal → (r : ℕ)
-    → IsFresh asked journal r (whole_of (slice_get ys r))
-fresh asked xs ys journal are same whole run r = go (slice_get ys r) refl
+    → AreRequesters asked xs → AreSame xs ys → AreWhole ys → IsRunOf ys journal
+    → ComeLateBehind ys journal → (r : ℕ) → IsFresh asked journal r (whole_of (slice_get ys r))
+fresh asked xs ys journal are same whole run late r = go (slice_get ys r) refl
   where
     zero_first : r ≡ 0 + r
     zero_first = omega arith
@@ -147,20 +153,30 @@ fresh asked xs ys journal are same whole run r = go (slice_get ys r) refl
           let long = same_length xs ys same in omega arith);
       ran = sym (done ∙ ap ran_some is);
       may = tt;
+      ahead = λ front back a at. absurd (none_at front back (a, true) at);
     }
     go (Some y) is =
         let mine = own asked xs ys are same r y is in record {
           each = sym mine.lines ∙ sym (marked_lines y.lines y.full (whole r y is));
           ran = ran_marked y.lines y.full ∙ sym (done ∙ ap ran_some is);
-          may = asks_marked y.lines y.full y.asking;
+          may = asks_all (events_of journal) y.lines y.full y.asking
+              (λ k at. (let l = late r y k is at in most_longer l.early journal l.begins l.enough));
+          ahead = λ front back a at.
+              (let b = full_at y.lines y.full front back a at in
+              let l = late r y b.count is b.is in
+              subst (λ n. ComeLate n (length (done_in front)) [] journal) mine.who
+              (comes_late y.who b.count (length (done_in front)) l.early journal l.begins l.enough
+              l.few b.less));
         }
 
 pub begins : (asked : List Asked) (xs ys : List Requester) (journal : List JournalEntry)
     (last : State) (x : Merging) → AreRequesters asked xs → AreSame xs ys → AreWhole ys
-    → IsRunOf ys journal → IsLegal first_state journal last → x.all.items ≡ ys
+    → IsRunOf ys journal → ComeLateBehind ys journal
+    → ((y : Requester) → slice_get ys 0 ≡ Some y → AreExact (marked y.lines y.full))
+    → IsLegal first_state journal last → x.all.items ≡ ys
     → x.at.items ≡ replicate (length ys) 0 → x.order.items ≡ [] → string_bytes x.text ≡ []
     → Begins asked x journal last
-begins asked xs ys journal last x are same whole run legal all at order text = record {
+begins asked xs ys journal last x are same whole run late exact legal all at order text = record {
   stands = subst (λ o. ArePlaced asked x.hex o (string_bytes x.text) (left x) journal last)
       (sym order)
       (subst (λ t. ArePlaced asked x.hex [] t (left x) journal last) (sym text) placed_none);
@@ -177,7 +193,11 @@ begins asked xs ys journal last x are same whole run legal all at order text = r
   where
     mine : (r : ℕ) → IsFresh asked journal r (left x r)
     mine r = subst (λ (ms : List Merged). IsFresh asked journal r ms) (sym (left_all x ys all at r))
-        (fresh asked xs ys journal are same whole run r)
+        (fresh asked xs ys journal are same whole run late r)
+
+    exact_all : (o : Option Requester) → slice_get ys 0 ≡ o → AreExact (whole_of o)
+    exact_all None is = λ front back a full at. absurd (none_at front back (a, full) at)
+    exact_all (Some y) is = exact y is
 
     map_length : (ms : List Merged) → length (map (λ (m : Merged). m.0) ms) ≡ length ms
     map_length [] = refl
@@ -197,8 +217,15 @@ begins asked xs ys journal last x are same whole run legal all at order text = r
       counts = λ r.
           (let long = ap (λ (l : List Asked). length l) (mine r).each ∙ map_length (left x r) in
           omega (arith, long));
+      all = events_of journal;
+      all_is = refl;
       asking = tt;
       may = λ r. (mine r).may;
+      behind = λ r had. absurd cc;
+      ahead = λ r. (mine r).ahead;
+      going = λ front back a at had. absurd (none_at front back (a, false) at);
+      exact = subst (λ (ms : List Merged). AreExact ms) (sym (left_all x ys all at 0))
+          (exact_all (slice_get ys 0) refl);
     }
 
 -- ---- requesters that were lent and came back

@@ -29,7 +29,7 @@ nothing_more xs (y ∷ ys) same =
     let long = ap (λ l. length l) same in absurd (omega (arith, length-append xs (y ∷ ys)))
 
 -- requesters from one on
-others_none : (xs : List Requester) → AreNumbered xs → ran_by xs 0 ≡ []
+pub others_none : (xs : List Requester) → AreNumbered xs → ran_by xs 0 ≡ []
 others_none xs numbered =
     ran_by_none xs 0 (λ n x at same. (let number = numbered n x at in omega arith))
 
@@ -48,11 +48,11 @@ run_of first others v w system journal who numbered none within opened closes = 
       (sym (events_append 0 u.seen begins.0)
       ∙ (ap (λ es. events_by 0 es) begins.1
       ∙ (sym (closed_done w system journal within closes 0)
-      ∙ (opened.later.done 0
+      ∙ (opened.later.adds.done 0
       ∙ (ap (λ l. done_by 0 u ++ l) (others_none others numbered)
       ∙ (append-nil (done_by 0 u) ∙ seen_all 0))))));
   each = λ r. sym (closed_done w system journal within closes r)
-      ∙ (opened.later.done r
+      ∙ (opened.later.adds.done r
       ∙ (ap (λ l. l ++ ran_by others r) (did r)
       ∙ ap (λ n. tagged n (ran_of first) r ++ ran_by others r) (sym who)));
 }
@@ -61,7 +61,7 @@ run_of first others v w system journal who numbered none within opened closes = 
     u = opened.middle
 
     begins : IsPrefix opened.middle.seen journal
-    begins = longer_both opened.middle.seen w.seen journal opened.later.seen closes.seen
+    begins = longer_both opened.middle.seen w.seen journal opened.later.adds.seen closes.seen
 
     did : (r : ℕ) → done_by r opened.middle ≡ tagged 0 (ran_of first) r
     did r = opened.opening.done r ∙ ap (λ l. l ++ tagged 0 (ran_of first) r) (none r)
@@ -69,9 +69,9 @@ run_of first others v w system journal who numbered none within opened closes = 
     seen_all : (r : ℕ) → done_by r opened.middle ≡ events_by r opened.middle.seen
     seen_all r = all_from r opened.middle.mine 0 opened.middle.seen (length opened.middle.seen)
         (omega arith) (λ m low.
-        sym (opened.later.low m low)
+        sym (opened.later.adds.low m low)
         ∙ (let long = longer_length opened.middle.seen journal
-        (longer_both opened.middle.seen w.seen journal opened.later.seen closes.seen) in
+        (longer_both opened.middle.seen w.seen journal opened.later.adds.seen closes.seen) in
         let once = once_low m (length journal) (omega arith) in
         let is = closes.places m in
         some_stands m w.mine (omega arith)))

@@ -15,7 +15,7 @@ use Rattle.gb_share.specs.declared.hand.Held.{Held}
 
 -- ---- tickets
 
-same_ticket : (t : Ticket) → is_ticket t t ≡ true
+pub same_ticket : (t : Ticket) → is_ticket t t ≡ true
 same_ticket t =
     let slots : (t.slot == t.slot) ≡ true = grind (arith, nat_tests) in
     let numbers : (t.number == t.number) ≡ true = grind (arith, nat_tests) in
@@ -25,7 +25,7 @@ both_true : (a b : Bool) → (a && b) ≡ true → (a ≡ true) × (b ≡ true)
 both_true true b is = (refl, is)
 both_true false b is = absurd cc
 
-is_same : (t u : Ticket) → is_ticket t u ≡ true → u ≡ t
+pub is_same : (t u : Ticket) → is_ticket t u ≡ true → u ≡ t
 is_same t u is =
     let two = both_true (u.slot == t.slot) (u.number == t.number) is in
     let slots : u.slot ≡ t.slot = (let s = two.0 in grind (arith, nat_tests)) in
@@ -33,7 +33,7 @@ is_same t u is =
     λ i. record { slot = slots i; number = numbers i }
 
 -- a ticket that is counted is there
-some_in : (u : Ticket) (ts : List Ticket) → 0 < times (is_ticket u) ts → IsIn u ts
+pub some_in : (u : Ticket) (ts : List Ticket) → 0 < times (is_ticket u) ts → IsIn u ts
 some_in u [] some = absurd (omega arith)
 some_in u (v ∷ vs) some = by (is_ticket u v) refl some (some_in u vs)
   where

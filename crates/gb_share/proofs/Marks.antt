@@ -8,8 +8,9 @@ use Rattle.std.specs.List.{slice_get}
 use Rattle.std.specs.Prelude.{if◌then◌else◌}
 use Rattle.gb_base.specs.declared.event.Event.{Event}
 use Rattle.gb_desk.specs.declared.view.View.{View}
+use Rattle.gb_share.proofs.Late.{done_marks, full_marks, kept_marks}
 use Rattle.gb_share.proofs.Teams.{ran_none, tagged_none}
-use Rattle.gb_share.specs.Doing.{Adds, Stays, done_by, tagged}
+use Rattle.gb_share.specs.Doing.{Adds, HaveAsked, Stays, done_by, tagged}
 use Rattle.gb_share.specs.Lines.{AreAsking, MayBeFull, ran}
 use Rattle.gb_share.specs.Requesters.{Runs, ran_of}
 use Rattle.gb_base.specs.declared.parts.Asked.{Asked}
@@ -46,7 +47,7 @@ read_there ls' ls ms' ms l lines marks within is =
     (is ∙ (ap (λ xs. get_or xs (length ms') l) lines
     ∙ ap (λ (ns : List Bool). get_or ls (length ns) l) marks))
 
-snoc_get : {A : Type 0} (xs : List A) (x y : A) (n : ℕ) → slice_get (xs ++ x ∷ []) n ≡ Some y
+pub snoc_get : {A : Type 0} (xs : List A) (x y : A) (n : ℕ) → slice_get (xs ++ x ∷ []) n ≡ Some y
     → (slice_get xs n ≡ Some y) ⊎ ((n ≡ length xs) × (x ≡ y))
 snoc_get [] x y zero at = inr (refl, cc)
 snoc_get [] x y (suc n) at = absurd cc
@@ -76,14 +77,15 @@ longer x y m full =
 
 -- a line that was done
 pub done_runs : (x y : Requester) (l : Asked) (v w : View)
-    → slice_get x.lines (length x.full) ≡ Some l → y.lines ≡ x.lines
+    → slice_get x.lines (length x.full) ≡ Some l → y.who ≡ x.who → y.lines ≡ x.lines
     → y.full ≡ x.full ++ false ∷ [] → Adds (tagged x.who (l.event ∷ [])) v w
     → length w.tickets ≤ length v.tickets + 1 → Runs x y v w
-done_runs x y l v w at lines full adds few = record {
+done_runs x y l v w at who lines full adds few = record {
   more = l.event ∷ [];
   ran = noted x y false l at lines full;
   adds = adds;
   few = (let long = longer x y false full in omega arith);
+  marks = done_marks x y l.event v w who full adds;
 }
 
 stays_adds : (by : ℕ) (v w : View) → Stays v w → Adds (tagged by []) v w
@@ -97,22 +99,24 @@ stays_adds by v w s = record {
 
 -- a line that found no slot
 pub full_runs : (x y : Requester) (l : Asked) (v w : View)
-    → slice_get x.lines (length x.full) ≡ Some l → y.lines ≡ x.lines
-    → y.full ≡ x.full ++ true ∷ [] → Stays v w → length w.tickets ≤ length v.tickets → Runs x y v w
-full_runs x y l v w at lines full stays few = record {
+    → slice_get x.lines (length x.full) ≡ Some l → y.who ≡ x.who → y.lines ≡ x.lines
+    → y.full ≡ x.full ++ true ∷ [] → Stays v w → HaveAsked w.first w.seen
+    → length w.tickets ≤ length v.tickets → Runs x y v w
+full_runs x y l v w at who lines full stays asked few = record {
   more = [];
   ran = noted x y true l at lines full;
   adds = stays_adds x.who v w stays;
   few = (let long = longer x y true full in omega arith);
+  marks = full_marks x y v w who full stays asked;
 }
 
 -- a line that is kept
-pub kept_runs : (x y : Requester) (v w : View) → ran_of y ≡ ran_of x
-    → length x.full ≤ length y.full → Stays v w → length w.tickets ≤ length v.tickets
-    → Runs x y v w
-kept_runs x y v w same full stays few = record {
+pub kept_runs : (x y : Requester) (v w : View) → ran_of y ≡ ran_of x → y.who ≡ x.who
+    → y.full ≡ x.full → Stays v w → length w.tickets ≤ length v.tickets → Runs x y v w
+kept_runs x y v w same who full stays few = record {
   more = [];
   ran = same ∙ sym (append-nil (ran_of x));
   adds = stays_adds x.who v w stays;
-  few = omega arith;
+  few = (let long = ap (λ (fs : List Bool). length fs) full in omega arith);
+  marks = kept_marks x y v w who full stays;
 }

@@ -9,11 +9,14 @@ use Rattle.gb_base.specs.declared.event.Event.{Event}
 use Rattle.gb_desk.proofs.SlotLists.{get_set_other, get_set_same}
 use Rattle.gb_desk.specs.declared.view.View.{View}
 use Rattle.gb_share.proofs.Places.{longer_length}
-use Rattle.gb_share.proofs.Teams.{longer_both, ran_by_none, ran_on}
-use Rattle.gb_share.specs.Doing.{done_by, tagged}
+use Rattle.gb_share.proofs.Late.{others_marked}
+use Rattle.gb_share.proofs.Queues.{by_who}
+use Rattle.gb_share.proofs.Teams.{get_low, longer_both, ran_by_none, ran_on, tagged_other}
+use Rattle.gb_share.specs.Doing.{Adds, done_by, tagged}
 use Rattle.gb_share.specs.Lines.{AreValid}
-use Rattle.gb_share.specs.Requesters.{AllValid, AreNumbered, AreSame, HaveRun, IsWhole, Runs}
-use Rattle.gb_share.specs.Requesters.{lines_of, ran_by, ran_of}
+use Rattle.gb_share.specs.Requesters.{AllValid, AreMarked, AreNumbered, AreSame, AreWhole}
+use Rattle.gb_share.specs.Requesters.{HaveRun, IsMarked, IsWhole, Runs, lines_of, ran_by}
+use Rattle.gb_share.specs.Requesters.{ran_of}
 use Rattle.gb_share.specs.declared.requester.Requester.{Requester}
 
 -- ---- who requesters are
@@ -44,6 +47,13 @@ pub valid_same : (xs ys : List Requester) → AreSame xs ys → AllValid xs → 
 valid_same xs ys same valid n y at =
     let was = same_get xs ys same n y at in
     subst AreValid (sym (ap (λ p. p.1) was.2)) (valid n was.0 was.1)
+
+-- one requester in front of others
+pub valid_first : (x : Requester) (xs : List Requester) → AreValid x.lines → AllValid xs
+    → AllValid (x ∷ xs)
+valid_first x xs one others zero y at =
+    let same : x ≡ y = cc in subst (λ (z : Requester). AreValid z.lines) same one
+valid_first x xs one others (suc n) y at = others n y at
 
 pub same_length : (xs ys : List Requester) → AreSame xs ys → length ys ≡ length xs
 same_length [] [] same = refl
@@ -97,22 +107,46 @@ ran_set (x ∷ xs) (suc k) y z more r at who is apart =
 pub run_next : (ys : List Requester) (k : ℕ) (y z : Requester) (v w u : View) → AreNumbered ys
     → slice_get ys k ≡ Some y → z.who ≡ y.who → Runs y z w u → HaveRun ys v w
     → HaveRun (slice_set ys k z) v u
-run_next ys k y z v w u numbered at who runs have =
-    let long = longer_length v.seen w.seen have.seen in record {
-      seen = longer_both v.seen w.seen u.seen have.seen runs.adds.seen;
-      low = λ n low. runs.adds.low n (omega arith) ∙ have.low n low;
-      done = λ r. runs.adds.done r
-          ∙ (ap (λ l. l ++ tagged y.who runs.more r) (have.done r)
-          ∙ (append_assoc (done_by r v) (ran_by ys r) (tagged y.who runs.more r)
-          ∙ ap (λ l. done_by r v ++ l)
-          (sym (ran_set ys k y z runs.more r at who runs.ran (λ n x low there same.
-          (let one = numbered n x there in
-          let other = numbered k y at in omega arith))))));
-      first = runs.adds.first ∙ have.first;
-      told = runs.adds.told ∙ have.told;
-    }
+run_next ys k y z v w u numbered at who runs have = record { adds = adds; marked = marked }
+  where
+    adds : Adds (ran_by (slice_set ys k z)) v u
+    adds =
+        let long = longer_length v.seen w.seen have.adds.seen in record {
+          seen = longer_both v.seen w.seen u.seen have.adds.seen runs.adds.seen;
+          low = λ n low. runs.adds.low n (omega arith) ∙ have.adds.low n low;
+          done = λ r. runs.adds.done r
+              ∙ (ap (λ l. l ++ tagged y.who runs.more r) (have.adds.done r)
+              ∙ (append_assoc (done_by r v) (ran_by ys r) (tagged y.who runs.more r)
+              ∙ ap (λ l. done_by r v ++ l)
+              (sym (ran_set ys k y z runs.more r at who runs.ran (λ n x low there same.
+              (let one = numbered n x there in
+              let other = numbered k y at in omega arith))))));
+          first = runs.adds.first ∙ have.adds.first;
+          told = runs.adds.told ∙ have.adds.told;
+        }
+
+    marked : AreMarked (slice_set ys k z) u
+    marked n x there = by_who (λ m. slice_get (slice_set ys k z) m ≡ Some x → IsMarked x u) k
+        (λ here.
+        (let is : Some z ≡ Some x = sym (get_set_same ys k z (get_low ys k y at)) ∙ here in
+        let same : z ≡ x = cc in
+        subst (λ t. IsMarked t u) same (runs.marks (have.marked k y at))))
+        (λ m apart here.
+        (let was = sym (get_set_other ys k m z apart) ∙ here in
+        others_marked (tagged y.who runs.more) w u x runs.adds
+        (tagged_other y.who x.who runs.more (λ same.
+        (let one = numbered m x was in
+        let other = numbered k y at in apart (omega arith))))
+        (have.marked m x was)))
+        n there
 
 -- ---- who has run all
+
+-- one requester in front of others
+pub whole_first : (x : Requester) (xs : List Requester) → IsWhole x → AreWhole xs
+    → AreWhole (x ∷ xs)
+whole_first x xs one others zero y at = let same : x ≡ y = cc in subst IsWhole same one
+whole_first x xs one others (suc n) y at = others n y at
 
 pub whole_next : (ys : List Requester) (k : ℕ) (z : Requester) → k < length ys → IsWhole z
     → ((n : ℕ) (x : Requester) → n < k → slice_get ys n ≡ Some x → IsWhole x)

@@ -16,7 +16,7 @@ use Rattle.gb_share.proofs.Views.{joined_first, joined_second}
 use Rattle.gb_share.specs.Doing.{Adds, HasNone, IsJoined, IsWithin, done_by, stands_in}
 use Rattle.gb_share.specs.Doing.{tagged}
 use Rattle.gb_share.specs.Lines.{ran}
-use Rattle.gb_share.specs.Requesters.{AreNumbered, HaveRun, Runs, parts_for, ran_by}
+use Rattle.gb_share.specs.Requesters.{AreNumbered, Runs, parts_for, ran_by}
 use Rattle.gb_share.specs.Requesters.{ran_of}
 use Rattle.gb_base.specs.declared.parts.Asked.{Asked}
 use Rattle.gb_share.specs.declared.requester.Requester.{Requester}
@@ -87,6 +87,7 @@ runs_none x v = record {
   ran = sym (append-nil (ran_of x));
   adds = adds_none x.who v;
   few = omega arith;
+  marks = λ m. m;
 }
 
 pub runs_more : (x y z : Requester) (u v w : View) → y.who ≡ x.who → Runs x y u v → Runs y z v w
@@ -99,6 +100,7 @@ runs_more x y z u v w who a b =
       adds = adds_more x.who a.more b.more u v w a.adds
           (subst (λ n. Adds (tagged n b.more) v w) who b.adds);
       few = omega arith;
+      marks = λ m. b.marks (a.marks m);
     }
 
 -- ---- several requesters
@@ -150,9 +152,9 @@ goes_none k v r = none_from r [] 0 v.seen (λ m le. refl)
 
 -- The last requester in a thread of its own, and the others beside it.
 pub both_ran : (v w u j : View) (k : ℕ) (xs : List Requester) (x y : Requester) → HasNone v
-    → IsWithin w → IsWithin u → HaveRun xs (stays k v) w → Runs x y (goes k v) u
+    → IsWithin w → IsWithin u → Adds (ran_by xs) (stays k v) w → Runs x y (goes k v) u
     → x.full ≡ [] → x.who ≡ length xs + 1 → y.who ≡ x.who → AreNumbered xs → IsJoined w u j
-    → HaveRun (xs ++ y ∷ []) v j
+    → Adds (ran_by (xs ++ y ∷ [])) v j
 both_ran v w u j k xs x y none one two others last fresh who same numbered joined = record {
   seen = longer_both v.seen w.seen j.seen others.seen joined.this;
   low = λ n below. ap (λ ms. stands_in n ms) joined.mine

@@ -27,7 +27,7 @@ pub stays_does : (u v : View) (by : ℕ) (e : Event) (answer : Result (List Entr
 stays_does u v by e (Ok entries) w s parts d = stays_adds (tagged by (e ∷ [])) u v w s d
 stays_does u v by e (Err fault.Busy) w s parts d =
     (stays_adds (λ r. []) u v w s d.0, (λ all. d.1 (parts ∙ all)))
-stays_does u v by e (Err fault.Full) w s parts d = (stays_adds (λ r. []) u v w s d.0, d.1)
+stays_does u v by e (Err fault.Full) w s parts d = (stays_adds (λ r. []) u v w s d.0, d.1, d.2)
 stays_does u v by e (Err fault.JournalSpent) w s parts d = d
 stays_does u v by e (Err fault.PassSpent) w s parts d = d
 stays_does u v by e (Err (fault.Memory refused)) w s parts d = d

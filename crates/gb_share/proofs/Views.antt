@@ -21,6 +21,7 @@ use Rattle.gb_share.proofs.Places.{all_from, entered_from, joined_from, later_fr
 use Rattle.gb_share.proofs.Places.{longer_same, new_place, none_stands, once_high, once_low}
 use Rattle.gb_share.proofs.Places.{some_stands}
 use Rattle.gb_share.proofs.Places.{stands_append}
+use Rattle.gb_share.proofs.Requests.{enough_made}
 use Rattle.gb_share.specs.Doing.{Adds, DoesAs, IsAlike, IsJoined, IsWithin, Stays, done_by}
 use Rattle.gb_share.specs.Doing.{done_from, events_by, stands_in, tagged}
 use Rattle.gb_system.specs.declared.system.System.{System}
@@ -148,6 +149,7 @@ asks_does v by e (Err fault.Full) w within asking d = (
   longer_stays v w (full_longer v w d) within (ap (λ u. u.first) d.rest)
       (ap (λ u. u.told) d.rest),
   asking,
+  (λ x is s stands. enough_made _ w.seen _ (d.full x is s stands)),
 )
 asks_does v by e (Err (fault.Memory refused)) w within asking d = tt
 

@@ -1,15 +1,20 @@
 -- What a pass of a desk has done, by the tags of its events.
 use Rattle.std.specs.Prelude.{◌≡◌, ◌≢◌, ℕ, ◌+◌, ◌==◌, ◌<◌, ◌≤◌, ◌||◌, ◌&&◌, Bool, true, false}
-use Rattle.std.specs.Prelude.{if◌then◌else◌, List, [], ◌∷◌, ◌++◌, length, Result, Ok, Err, ⊤}
+use Rattle.std.specs.Prelude.{if◌then◌else◌, List, [], ◌∷◌, ◌++◌, length, Option, Result, Ok}
+use Rattle.std.specs.Prelude.{Err, ⊤}
 use mathlib.Core.List.{IsPrefix}
 use Rattle.gb_base.specs.declared.entry.Entry.{Entry}
 use Rattle.gb_base.specs.declared.event.Event.{Event}
 use Rattle.gb_base.specs.declared.journal.JournalEntry.{JournalEntry}
+use Rattle.gb_desk.specs.Calls.{OfState}
 use Rattle.gb_desk.specs.Rules.{all_parts}
+use Rattle.gb_desk.specs.Slots.{requests_in}
 use Rattle.gb_desk.specs.declared.fault.DeskFault.{DeskFault}
 use Rattle.gb_desk.specs.declared.fault.DeskFault.TheVariants as fault
 use Rattle.gb_desk.specs.declared.view.View.{View}
 use Rattle.gb_machine.specs.AskingEvents.{asks}
+use Rattle.gb_machine.specs.Shared.{most_requests}
+use Rattle.gb_system.specs.declared.system.System.{System}
 
 -- ---- places
 
@@ -77,12 +82,20 @@ pub record IsJoined (v u w : View) : Type 0 where
   pub first : w.first ≡ v.first
   pub told : w.told ≡ v.told || u.told
 
+-- the sends and bridge lines of a history have asked as many requests as there is room for
+abbrev pub HasAsked : List JournalEntry → Type 0
+HasAsked es = most_requests ≤ length (requests_in es)
+
+-- the same, where the history began in a state that a system stands for
+abbrev pub HaveAsked : Option System → List JournalEntry → Type 0
+HaveAsked first es = OfState first es (λ t. HasAsked es)
+
 -- What one event does, by its answer. Where another caller had the turn, the pass hasn't all parts.
--- Only an event that asks a request finds no slot.
+-- Only an event that asks a request finds no slot, and then that many requests were asked.
 abbrev pub DoesAs : View → ℕ → Event → Result (List Entry) DeskFault → View → Type 0
 DoesAs v by e (Ok entries) w = Adds (tagged by (e ∷ [])) v w
 DoesAs v by e (Err fault.Busy) w = Stays v w × (v.parts ≢ all_parts)
-DoesAs v by e (Err fault.Full) w = Stays v w × (asks e ≡ true)
+DoesAs v by e (Err fault.Full) w = Stays v w × (asks e ≡ true) × HaveAsked w.first w.seen
 DoesAs v by e (Err fault.JournalSpent) w = ⊤
 DoesAs v by e (Err fault.PassSpent) w = ⊤
 DoesAs v by e (Err (fault.Memory refused)) w = ⊤

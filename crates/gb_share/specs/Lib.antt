@@ -2,7 +2,10 @@ pub mod Doing
 pub mod Tickets
 pub mod Hands
 pub mod Lines
+pub mod Fulls
 pub mod Requesters
 pub mod Shares
 pub mod Placing
 pub mod Parting
+pub mod Names
+pub mod Alone

@@ -1,5 +1,6 @@
 -- The lines of a requester, and the marks of those that were run.
-use Rattle.std.specs.Prelude.{◌≡◌, ℕ, Bool, true, if◌then◌else◌, List, [], ◌∷◌, ◌++◌, length, Some}
+use Rattle.std.specs.Prelude.{◌≡◌, ℕ, ◌+◌, Bool, true, false, if◌then◌else◌, List, [], ◌∷◌, ◌++◌}
+use Rattle.std.specs.Prelude.{length, Option, Some, None, option_map}
 use Rattle.std.specs.List.{slice_get}
 use Rattle.gb_base.specs.declared.event.Event.{Event}
 use Rattle.gb_base.specs.declared.parts.Asked.{Asked}
@@ -20,6 +21,18 @@ abbrev pub ran : List Asked → List Bool → List Event
 ran [] ms = []
 ran (l ∷ ls) [] = []
 ran (l ∷ ls) (m ∷ ms) = (if m then [] else l.event ∷ []) ++ ran ls ms
+
+-- how many lines were done before the first one that found no slot, None where each found one
+abbrev pub before_full : List Bool → Option ℕ
+before_full [] = None
+before_full (true ∷ ms) = Some 0
+before_full (false ∷ ms) = option_map (λ n. n + 1) (before_full ms)
+
+-- how many lines were done
+abbrev pub count_done : List Bool → ℕ
+count_done [] = 0
+count_done (true ∷ ms) = count_done ms
+count_done (false ∷ ms) = count_done ms + 1
 
 -- the mark of the next line: it found a slot, or it is a send or a bridge line
 abbrev pub MayBeFull : List Asked → List Bool → Bool → Type 0

@@ -1,17 +1,18 @@
 -- Lines of requesters that are put into an order, one after the other.
 use Rattle.std.specs.Prelude.{◌≡◌, ◌≢◌, ◌+◌, ◌<◌, ℕ, Bool, true, false, Option, Some, None, List}
 use Rattle.std.specs.Prelude.{[], ◌∷◌, ◌++◌, drop, length, map, replicate}
-use Rattle.std.specs.List.{AllByRecursion, filter, slice_get}
+use Rattle.std.specs.List.{filter, slice_get}
 use Rattle.std.specs.String.{string_bytes}
+use Rattle.gb_base.specs.declared.event.Event.{Event}
 use Rattle.gb_base.specs.declared.journal.JournalEntry.{JournalEntry}
 use Rattle.gb_base.specs.declared.parts.Asked.{Asked}
 use Rattle.gb_formats.specs.Orders.{AreLeading, AreOpening, AreThreaded, Merged, Place, is_by}
 use Rattle.gb_formats.specs.Orders.{merge, times_of, who_at}
-use Rattle.gb_machine.specs.AskingEvents.{asks}
-use Rattle.gb_machine.specs.Journal.{IsLegal, after}
-use Rattle.gb_machine.specs.Shared.{done_in, report_merged}
+use Rattle.gb_machine.specs.Journal.{IsLegal, after, events_of}
+use Rattle.gb_machine.specs.Shared.{done_in, has_full, report_merged}
 use Rattle.gb_machine.specs.State.{State, first_state}
 use Rattle.gb_share.specs.Doing.{events_by}
+use Rattle.gb_share.specs.Fulls.{AreExact, ComeLate, DoAsk, GoOnLate, own_lines}
 use Rattle.gb_share.specs.declared.merging.Merging.{Merging}
 use Rattle.gb_share.specs.declared.merging.Next.{Next}
 use Rattle.gb_share.specs.declared.requester.Requester.{Requester}
@@ -64,12 +65,8 @@ pub record Pops (who : ℕ) (m : Merged) (q p : ℕ → List Merged) : Type 0 wh
 
 -- ---- what was placed
 
--- only sends and bridge lines are full
-abbrev pub DoAsk : List Merged → Type 0
-DoAsk ms = AllByRecursion (λ m. m.1 ≡ true → asks m.0.event ≡ true) ms
-
 -- Some lines have their places in an order, and what is reported of them is a text. These lines are
--- left, and of the history, which ends in `last`, these entries.
+-- left, and of the history, which ends in `last`, these entries. The full ones are as they may be.
 pub record ArePlaced (asked : List Asked) (hex : Bool) (order : List Place) (text : List ℕ)
     (q : ℕ → List Merged) (entries : List JournalEntry) (last : State) : Type 0 where
   pub placed : List Merged
@@ -85,8 +82,15 @@ pub record ArePlaced (asked : List Asked) (hex : Bool) (order : List Place) (tex
   pub ran : (r : ℕ) → done_in (q r) ≡ events_by r entries
   pub counts : (r : ℕ) → times_of r (who_at order) + length (q r)
       ≡ length (filter (is_by r) asked)
-  pub asking : DoAsk placed
-  pub may : (r : ℕ) → DoAsk (q r)
+  pub all : List Event
+  pub all_is : done_in placed ++ events_of entries ≡ all
+  pub asking : DoAsk all placed
+  pub may : (r : ℕ) → DoAsk all (q r)
+  pub behind : (r : ℕ) → has_full r placed ≡ true → ComeLate r 0 placed entries
+  pub ahead : (r : ℕ) (front back : List Merged) (a : Asked) → q r ≡ front ++ (a, true) ∷ back
+      → ComeLate r (length (done_in front)) placed entries
+  pub going : GoOnLate placed
+  pub exact : AreExact (own_lines 0 placed ++ q 0)
 
 -- the same of what is being merged
 abbrev pub Stands : List Asked → Merging → List JournalEntry → State → Type 0

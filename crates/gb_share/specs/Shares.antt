@@ -1,14 +1,19 @@
 -- What a run with requesters leaves.
-use Rattle.std.specs.Prelude.{◌≡◌, ◌<◌, ℕ, Bool, true, List, [], ◌∷◌, ◌++◌}
+use Rattle.std.specs.Prelude.{◌≡◌, ◌<◌, ◌≤◌, ℕ, Bool, List, [], ◌++◌, length, Some}
+use Rattle.std.specs.List.{slice_get}
+use mathlib.Core.List.{IsPrefix}
 use Rattle.gb_base.specs.declared.journal.JournalEntry.{JournalEntry}
 use Rattle.gb_base.specs.declared.parts.Asked.{Asked}
-use Rattle.gb_formats.specs.Orders.{IsFair, Merged, Place, merge}
-use Rattle.gb_machine.specs.AskingEvents.{asks}
+use Rattle.gb_formats.specs.Orders.{IsFair, Place, merge}
 use Rattle.gb_machine.specs.Journal.{IsLegal, after, events_of}
-use Rattle.gb_machine.specs.Shared.{shared_lines}
+use Rattle.gb_machine.specs.Shared.{FullPlaces, shared_lines}
 use Rattle.gb_machine.specs.State.{first_state}
 use Rattle.gb_share.specs.Doing.{events_by}
-use Rattle.gb_share.specs.Requesters.{AreWhole, ran_by}
+use Rattle.gb_share.specs.Fulls.{AreExact, AskMost}
+use Rattle.gb_share.specs.Lines.{before_full}
+use Rattle.gb_share.specs.Parting.{AreRequesters}
+use Rattle.gb_share.specs.Placing.{marked}
+use Rattle.gb_share.specs.Requesters.{AreSame, AreWhole, ran_by}
 use Rattle.gb_share.specs.declared.requester.Requester.{Requester}
 use Rattle.gb_system.specs.Stands.{Stands}
 use Rattle.gb_system.specs.declared.system.System.{System}
@@ -23,21 +28,44 @@ pub record IsRunOf (xs : List Requester) (journal : List JournalEntry) : Type 0 
   pub follow : events_by 0 threads ≡ []
   pub each : (r : ℕ) → events_by r journal ≡ ran_by xs r
 
+-- Some beginning of a history asks as many requests as there is room for, and has k events at most
+-- with this tag.
+pub record AreLate (r k : ℕ) (journal : List JournalEntry) : Type 0 where
+  pub early : List JournalEntry
+  pub begins : IsPrefix early journal
+  pub enough : AskMost (events_of early)
+  pub few : length (events_by r early) ≤ k
+
 -- The history is that of the machine from its first state, and the system stands for the state
 -- after it. Each requester has run all its lines: those that found a slot are the events of the
--- history with its tag.
+-- history with its tag. Where one didn't, those behind it came late; and of requester 0 exactly
+-- those didn't that ask a request where there is no room.
 pub record IsShared (xs : List Requester) (system : System) (journal : List JournalEntry)
     : Type 0 where
   pub legal : IsLegal first_state journal (after first_state (events_of journal))
   pub stands : Stands system (after first_state (events_of journal))
   pub whole : AreWhole xs
   pub run : IsRunOf xs journal
+  pub late : (n : ℕ) (x : Requester) (k : ℕ) → slice_get xs n ≡ Some x
+      → before_full x.full ≡ Some k → AreLate x.who k journal
+  pub exact : (x : Requester) → slice_get xs 0 ≡ Some x → AreExact (marked x.lines x.full)
 
--- What is written of a script's lines: they are done in an order, and only sends and bridge lines
--- are full.
+-- The requesters of a script's lines were run.
+pub record WereRun (asked : List Asked) (xs : List Requester) (system : System)
+    (journal : List JournalEntry) : Type 0 where
+  pub fresh : List Requester
+  pub are : AreRequesters asked fresh
+  pub same : AreSame fresh xs
+  pub shared : IsShared xs system journal
+
+-- What is written of a script's lines: they are done in an order.
 pub record IsTold (hex : Bool) (asked : List Asked) (written : List ℕ) : Type 0 where
   pub order : List Place
   pub fair : IsFair asked order
-  pub asking : (front back : List Merged) (a : Asked)
-      → merge asked order ≡ front ++ (a, true) ∷ back → asks a.event ≡ true
+  pub full : FullPlaces (merge asked order)
   pub written_is : written ≡ shared_lines hex order (merge asked order)
+
+-- A text is what is written of the lines of these requesters, whichever script they are of.
+abbrev pub Tells : Bool → List Requester → System → List JournalEntry → List ℕ → Type 0
+Tells hex xs system journal written = (asked : List Asked) → WereRun asked xs system journal
+    → IsTold hex asked written

@@ -1,14 +1,16 @@
 //! A pass of a desk with the names of its tickets.
 
 ghost use Rattle.std.specs.Prelude.{◌≡◌, ◌+◌, ◌-◌, ◌<◌, ◌≤◌, [], ◌++◌, false, true, OnErr, OnOk};
-ghost use Rattle.std.specs.Prelude.{IfSome, length};
+ghost use Rattle.std.specs.Prelude.{IfOk, IfSome, drop, length, take};
 ghost use Rattle.std.specs.Vec.{vec_capacity, vec_len};
-ghost use Rattle.gb_desk.specs.Calls.{Closes, JoinedTo};
+ghost use Rattle.gb_desk.specs.Calls.{CallsAs, Closes, JoinedTo};
 ghost use Rattle.gb_desk.specs.Passes.{IsOf, known};
 ghost use Rattle.gb_desk.specs.Rules.{all_parts};
 ghost use Rattle.gb_formats.specs.ValidEvents.{IsValid};
 ghost use Rattle.gb_machine.specs.AskingEvents.{asks};
 ghost use Rattle.gb_share.specs.Doing.{DoesAs, IsWithin};
+ghost use Rattle.gb_share.specs.Names.{FollowsAs, OpensAs, RenamesAs, is_done, place_of};
+ghost use Rattle.gb_share.specs.Names.{with_second, without_name};
 ghost use Rattle.gb_share.specs.Tickets.{AreHeld, with_held};
 
 use gb_base::{Entries, Entry, Event, Journal, Name, OutOfMemory, TryCopy};
@@ -16,9 +18,6 @@ use gb_desk::{Desk, DeskFault, Opened, Pass, Ticket};
 use gb_system::System;
 use std::alloc::Global;
 use std::thread;
-
-/// How often a caller lets others go first between two of its events.
-const YIELDS: u32 = 32;
 
 /// A name with a ticket of its request.
 pub struct Held {
@@ -36,7 +35,9 @@ pub struct Hand {
 }
 
 /// Whether an event was done, by what it brought about.
-fn is_done(entries: &Entries) -> bool {
+fn is_done(entries: &Entries) -> bool
+    ensures { result ≡ is_done entries.now }
+{
     matches!(entries.items().first(), Some(Entry::Done))
 }
 
@@ -74,7 +75,8 @@ impl Hand {
     pub fn new(alloc: Global, pass: Pass) -> Hand
         requires within { IsWithin (known pass) }
         requires none { (known pass).tickets ≡ [] }
-        ensures { result.pass ≡ pass }
+        ensures pass { result.pass ≡ pass }
+        ensures held { result.held.items ≡ [] }
     {
         Hand {
             pass,
@@ -84,7 +86,8 @@ impl Hand {
 
     // The place of a name, None where it has no ticket.
     fn find(&self, name: &Name) -> Option<usize>
-        ensures { IfSome result (λ at. at < vec_len self.now.held) }
+        ensures within { IfSome result (λ at. at < vec_len self.now.held) }
+        ensures place { result ≡ place_of name.now self.now.held.items }
     {
         self.held.iter().position(|h| h.name == *name)
     }
@@ -94,6 +97,7 @@ impl Hand {
         ensures pass { self.new.pass ≡ self.old.pass }
         ensures items { self.new.held.items ≡ self.old.held.items }
         ensures room { OnOk result (vec_len self.new.held < vec_capacity self.new.held) }
+        ensures name { IfOk result (λ copy. copy ≡ name.now) }
     {
         self.held.reserve(1)?;
         name.copy()
@@ -109,6 +113,7 @@ impl Hand {
         ensures parts { (knows self.new).parts ≡ (knows self.old).parts }
         ensures tickets { (knows self.new).tickets ≡ (knows self.old).tickets }
         ensures held { self.new.held ≡ self.old.held }
+        ensures calls { CallsAs (knows self.old) by e.now result (knows self.new) }
     {
         desk.call(&mut self.pass, by, e)
     }
@@ -124,6 +129,8 @@ impl Hand {
         ensures few { length (knows self.new).tickets ≤ length (knows self.old).tickets + 1 }
         ensures kept { OnErr result (length (knows self.new).tickets
             ≤ length (knows self.old).tickets) }
+        ensures opens { OpensAs (knows self.old) self.old.held.items by e.now name.now result
+            (knows self.new) self.new.held.items }
     {
         let Ok(name) = self.named(name) else {
             return Err(DeskFault::Memory(OutOfMemory));
@@ -146,6 +153,8 @@ impl Hand {
         ensures parts { (knows self.new).parts ≡ (knows self.old).parts }
         ensures few { length (knows self.new).tickets ≤ length (knows self.old).tickets + 1 }
         ensures stays { IsAlike (knows self.old) (knows self.new) }
+        ensures held { length (knows self.old).tickets < (knows self.old).parts
+            → self.new.held.items ≡ with_second from.now to self.old.held.items }
     {
         let Some(at) = self.find(from) else {
             return;
@@ -165,6 +174,8 @@ impl Hand {
         ensures fewer { length (knows self.new).tickets ≤ length (knows self.old).tickets }
         ensures stays { IsAlike (knows self.old) (knows self.new) }
         ensures one { vec_len self.new.held + 1 ≡ vec_len self.old.held }
+        ensures held { self.new.held.items
+            ≡ take at self.old.held.items ++ drop (at + 1) self.old.held.items }
     {
         let Held { name: _, ticket } = self.held.remove(at);
         desk.release(&mut self.pass, ticket);
@@ -188,6 +199,8 @@ impl Hand {
         ensures few { length (knows self.new).tickets ≤ length (knows self.old).tickets + 1 }
         ensures kept { OnErr result (length (knows self.new).tickets
             ≤ length (knows self.old).tickets) }
+        ensures copies { RenamesAs (with_second from.now to.now) (knows self.old)
+            self.old.held.items by e.now result (knows self.new) self.new.held.items }
     {
         let Ok(to) = self.named(to) else {
             return Err(DeskFault::Memory(OutOfMemory));
@@ -208,6 +221,8 @@ impl Hand {
         ensures does { DoesAs (knows self.old) by e.now result (knows self.new) }
         ensures parts { (knows self.new).parts ≡ (knows self.old).parts }
         ensures few { length (knows self.new).tickets ≤ length (knows self.old).tickets }
+        ensures forgets { RenamesAs (without_name name.now) (knows self.old)
+            self.old.held.items by e.now result (knows self.new) self.new.held.items }
     {
         let entries = self.call(desk, by, e)?;
         if is_done(&entries) {
@@ -228,6 +243,8 @@ impl Hand {
         ensures few { length (knows self.new).tickets ≤ length (knows self.old).tickets + 1 }
         ensures kept { OnErr result (length (knows self.new).tickets
             ≤ length (knows self.old).tickets) }
+        ensures names { FollowsAs (knows self.old) self.old.held.items by e.now result
+            (knows self.new) self.new.held.items }
     {
         match e {
             Event::Send { name, .. } => self.open(desk, by, e, name),
@@ -241,9 +258,7 @@ impl Hand {
     /// Lets other callers go first, where there are any.
     pub fn give_way(&self) {
         if self.pass.parts() < u32::MAX {
-            for _ in 0..YIELDS {
-                thread::yield_now();
-            }
+            thread::yield_now();
         }
     }
 

@@ -37,6 +37,7 @@ pub fn full_told(alloc: Global) -> Result<Entries, OutOfMemory>
 }
 
 impl Requester {
+    ghost use Rattle.gb_share.specs.Alone.{IsAlone};
     ghost use Rattle.gb_share.specs.Requesters.{Runs};
 
     /// A requester that has run nothing. It has fewer than 4,294,967,295 lines.
@@ -86,6 +87,8 @@ impl Requester {
         ensures runs { OnOk result (Runs self.old self.new (knows hand.old) (knows hand.new)) }
         ensures ran { result ≡ Ok true → length self.new.full ≡ length self.old.full + 1 }
         ensures kept { result ≡ Ok false → (knows hand.old).parts ≢ all_parts }
+        ensures alone { IsAlone self.old (knows hand.old) hand.old.held.items
+            → OnOk result (IsAlone self.new (knows hand.new) hand.new.held.items) }
     {
         let line = &self.lines.items()[self.full.items().len()];
         match tried(hand, desk, self.who, &line.event) {
@@ -120,6 +123,8 @@ impl Requester {
         ensures runs { OnOk result (Runs self.old self.new (knows hand.old) (knows hand.new)) }
         ensures whole { (knows hand.old).parts ≡ all_parts
             → OnOk result (length self.new.full ≡ length self.new.lines) }
+        ensures alone { IsAlone self.old (knows hand.old) hand.old.held.items
+            → OnOk result (IsAlone self.new (knows hand.new) hand.new.held.items) }
     {
         while self.full.items().len() < self.lines.items().len() {
             gate.before(self.who, self.turn(), &self.last);

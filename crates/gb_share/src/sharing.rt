@@ -4,7 +4,8 @@ ghost use Rattle.std.specs.Prelude.{◌≡◌, ◌+◌, ◌<◌, [], ◌∷◌, 
 ghost use Rattle.gb_desk.specs.Passes.{IsOf};
 ghost use Rattle.gb_desk.specs.Rules.{all_parts};
 ghost use Rattle.gb_desk.specs.declared.view.View.{View};
-ghost use Rattle.gb_share.specs.Doing.{HasNone};
+ghost use Rattle.gb_share.specs.Alone.{IsAlone, IsExact};
+ghost use Rattle.gb_share.specs.Doing.{HasNone, done_by};
 ghost use Rattle.gb_share.specs.Hands.{knows};
 ghost use Rattle.gb_share.specs.Lines.{AreValid};
 ghost use Rattle.gb_share.specs.Requesters.{AllValid, AreFresh, AreNumbered, AreSame, AreWhole};
@@ -57,6 +58,7 @@ fn run_lines<R: Threads + Sync, G: Gate>(
     requires own { IsOf desk.now hand.old.pass }
     requires all { (knows hand.old).parts ≡ all_parts }
     requires none { HasNone (knows hand.old) × ((knows hand.old).tickets ≡ []) }
+    requires idle { done_by 0 (knows hand.old) ≡ [] }
     requires first { (first.old.who ≡ 0) × (first.old.full ≡ []) }
     requires others { AreNumbered others.old × AreFresh others.old }
     requires valid { AreValid first.old.lines × AllValid others.old }
@@ -67,6 +69,8 @@ fn run_lines<R: Threads + Sync, G: Gate>(
     ensures ran { OnOk result (HaveOpened first.new others.new (knows hand.old)
         (knows hand.new)) }
     ensures whole { OnOk result (AreWhole (first.new ∷ others.new)) }
+    ensures exact { IsAlone first.old (knows hand.old) hand.old.held.items
+        → OnOk result (IsExact first.new (knows hand.new)) }
 {
     first.run(alloc, desk, hand, &FreeGate)?;
     run_all(rt, alloc, desk, hand, gate, others)?;

@@ -5,13 +5,13 @@ ghost use Rattle.std.specs.String.{string_bytes};
 ghost use Rattle.gb_share.specs.Lines.{AreValid};
 ghost use Rattle.gb_share.specs.Parting.{AreReadyToRun};
 ghost use Rattle.gb_share.specs.Requesters.{AreSame};
-ghost use Rattle.gb_share.specs.Shares.{IsShared, IsTold};
+ghost use Rattle.gb_share.specs.Shares.{IsShared, IsTold, Tells};
 
 use crate::merging::Merging;
 use crate::parting::requesters;
 use crate::requester::Requester;
 use crate::sharing::share;
-use gb_base::{Asked, Gate, Journal, OutOfMemory, Sequence};
+use gb_base::{Asked, Gate, Journal, JournalEntry, OutOfMemory, Sequence};
 use gb_system::System;
 use std::alloc::Global;
 use std::thread::Threads;
@@ -34,6 +34,23 @@ fn share_all<R: Threads + Sync, G: Gate>(
     Ok(shared)
 }
 
+/// What is written of lines that were run, by the system and the history that they left.
+fn told(
+    alloc: Global,
+    all: Vec<Requester>,
+    hex: bool,
+    system: &System,
+    journal: &[JournalEntry],
+) -> Result<String, OutOfMemory>
+    ensures { IfOk result (λ text.
+        Tells hex all.items system.now journal.now (string_bytes text)) }
+{
+    let mut merging = Merging::new(alloc, all, hex)?;
+    merging.run(journal)?;
+    let text = merging.written(alloc, system)?;
+    Ok(text)
+}
+
 /// Runs a script's lines by their requesters: those of requester 0 alone, and then those of the
 /// others at once, each in a thread of its own with calls of the gate.
 ///
@@ -53,8 +70,5 @@ pub fn shared_text<R: Threads + Sync, G: Gate>(
     let mut all = requesters(alloc, asked.items())?;
     drop(asked);
     let (system, journal) = share_all(rt, alloc, all.as_mut_slice(), gate)?;
-    let mut merging = Merging::new(alloc, all, hex)?;
-    merging.run(journal.items())?;
-    let text = merging.written(alloc, &system)?;
-    Ok(text)
+    told(alloc, all, hex, &system, journal.items())
 }

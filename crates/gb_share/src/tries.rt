@@ -2,9 +2,11 @@
 
 ghost use Rattle.std.specs.Prelude.{◌≡◌, ◌+◌, ◌≤◌, true, Err, OnErr, length};
 ghost use Rattle.gb_desk.specs.Passes.{IsOf};
+ghost use Rattle.gb_desk.specs.Rules.{all_parts};
 ghost use Rattle.gb_formats.specs.ValidEvents.{IsValid};
 ghost use Rattle.gb_share.specs.Doing.{DoesAs};
 ghost use Rattle.gb_share.specs.Hands.{knows};
+ghost use Rattle.gb_share.specs.Names.{FollowsAs};
 
 use crate::hand::Hand;
 use gb_base::{Entries, Event};
@@ -44,6 +46,8 @@ pub fn tried(hand: &mut Hand, desk: &Desk, by: u8, e: &Event) -> Result<Entries,
     ensures few { length (knows hand.new).tickets ≤ length (knows hand.old).tickets + 1 }
     ensures kept { OnErr result (length (knows hand.new).tickets
         ≤ length (knows hand.old).tickets) }
+    ensures names { (knows hand.old).parts ≡ all_parts → FollowsAs (knows hand.old)
+        hand.old.held.items by e.now result (knows hand.new) hand.new.held.items }
 {
     for tries in 1..TRIES {
         let answer = hand.event(desk, by, e);

@@ -172,8 +172,8 @@ fn status_at(stop: WriteStop) -> Status
     }
 }
 
-/// Takes an input line by line. Where a write fails, or a line is bad, at most 4,096 bytes past that
-/// line were read.
+/// Takes an input line by line. Where a write fails, or a line is bad, at most 4,096 bytes past
+/// that line were read.
 pub fn work_by_line<S: Source, K: Sink>(
     alloc: Global,
     job: LineJob,

@@ -7,6 +7,8 @@ ghost use Rattle.gbus.specs.Statuses.{complaint_text, exit_number};
 
 mod answer;
 mod drive;
+#[cfg(test)]
+mod gate_tests;
 mod gathered;
 mod input;
 mod line_worker;

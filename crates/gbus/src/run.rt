@@ -24,9 +24,9 @@ use std::thread::Threads;
 ///
 /// `share` reads the whole input first. A bad line is told alone, and nothing is run then. Else
 /// requester 0's lines are run, and then those of the others at once, each requester in a thread of
-/// its own, which calls `gate` before each line and behind the last. What is written begins with the
-/// order in which the lines were run, and ends with the names that name requests then. No clause
-/// speaks of `gate`, which is called for `share` alone.
+/// its own, which calls `gate` before each line and behind the last. What is written begins with
+/// the order in which the lines were run, and ends with the names that name requests then. No
+/// clause speaks of `gate`, which is called for `share` alone.
 pub fn run<R: Threads + Sync, S: Source, K: Sink, G: Gate>(
     rt: &R,
     alloc: Global,

@@ -1,7 +1,11 @@
-use Rattle.gb_share.proofs.Rests.{numbered_same, valid_same}
+use Rattle.std.proofs.Common.{ap, ◌∙◌}
+use Rattle.gb_share.proofs.AloneEnds.{alone_later}
+use Rattle.gb_share.proofs.Late.{fresh_marks}
+use Rattle.gb_share.proofs.Rests.{numbered_same, valid_same, whole_first}
 use Rattle.gb_share.proofs.Results.{on_ok_then}
 use Rattle.gb_share.proofs.Teams.{opening_ran}
 use Rattle.gb_share.proofs.sharing.run_lines.Goals as goal
+use Rattle.gb_share.specs.Doing.{done_by}
 use Rattle.gb_share.specs.Hands.{knows}
 
 pub run_rest-requires-clause-numbered : goal.run_rest-requires-clause-numbered
@@ -20,6 +24,24 @@ returns-clause-ran g c =
       within = c.run.new.hand.within;
       opening = opening_ran c.args.first.now c.run.new.self _ _ c.requires.first.0
           c.requires.first.1 c.in_ok-run.ensures.runs;
+      marked = c.in_ok-run.ensures.runs.marks
+          (fresh_marks c.args.first.now _ c.requires.first.1
+          (ap (λ n. done_by n (knows c.args.hand.now)) c.requires.first.0 ∙ c.requires.idle));
       later = ran (knows c.run.new.hand) c.in_ok-run_all.ensures.ran;
     })
     c.run_rest.ensures.ran
+
+pub returns-clause-exact : goal.returns-clause-exact
+returns-clause-exact g c start =
+    on_ok_then c.run_rest.result
+    (λ ran. alone_later c.run.new.self (knows c.run.new.hand) (knows c.run_rest.new.hand) _ _
+    (c.in_ok-run.ensures.alone start)
+    (ran (knows c.run.new.hand) c.in_ok-run_all.ensures.ran).adds)
+    c.run_rest.ensures.ran
+
+pub returns-clause-whole : goal.returns-clause-whole
+returns-clause-whole g c =
+    on_ok_then c.run_rest.result
+    (λ whole. whole_first c.run.new.self c.run_rest.new.all
+    (c.in_ok-run.ensures.whole c.requires.all) whole)
+    c.run_rest.ensures.whole

@@ -1,7 +1,8 @@
-use Rattle.std.proofs.Common.{ap, ◌∙◌}
+use Rattle.std.proofs.Common.{◌∷◌, ap, ◌∙◌}
 use Rattle.gb_desk.specs.Passes.{known}
+use Rattle.gb_share.proofs.AloneEnds.{alone_first}
 use Rattle.gb_share.proofs.Closings.{shared_end}
-use Rattle.gb_share.proofs.Rests.{numbered_same, same_first}
+use Rattle.gb_share.proofs.Rests.{numbered_same, same_first, valid_first, valid_same}
 use Rattle.gb_share.proofs.sharing.share.Goals as goal
 
 pub returns-clause-shared : goal.returns-clause-shared
@@ -11,6 +12,12 @@ returns-clause-shared g c =
     shared_end c.run_lines-ran.new.first c.run_lines-ran.new.others _ _ c.in_ok-system.system _ _
     (same.0 ∙ c.requires.first.0)
     (numbered_same _ _ same.1 c.requires.others.0)
-    (ap known c.new-hand.ensures ∙ c.in_ok-desk.ensures.first) c.in_ok-system.ensures.first
+    (ap known c.new-hand.ensures.pass ∙ c.in_ok-desk.ensures.first) c.in_ok-system.ensures.first
     c.run_lines-ran.new.hand.within c.in_ok-ran.ensures.ran c.close-end.ensures
     c.in_ok-ran.ensures.whole
+    (valid_same (c.args.first.now ∷ c.args.others.now)
+    (c.run_lines-ran.new.first ∷ c.run_lines-ran.new.others) c.run_lines-ran.ensures.same
+    (valid_first c.args.first.now c.args.others.now c.requires.valid.0 c.requires.valid.1))
+    (c.in_ok-ran.ensures.exact (alone_first c.args.first.now _ _ c.in_ok-system.system
+    c.requires.first.1 (ap known c.new-hand.ensures.pass ∙ c.in_ok-desk.ensures.first)
+    c.new-hand.ensures.held))

@@ -2,7 +2,8 @@ use Rattle.std.proofs.Common.{length, subst, sym, ◌+◌, ◌<◌, ◌∙◌, a
 use Rattle.gb_desk.specs.Steps.{goes, stays}
 use Rattle.gb_desk.specs.declared.view.View.{View}
 use Rattle.gb_share.proofs.Rests.{numbered_same, same_length}
-use Rattle.gb_share.proofs.Teams.{both_ran, front_get, last_get, room_for}
+use Rattle.gb_share.proofs.Marked.{both_have}
+use Rattle.gb_share.proofs.Teams.{front_get, last_get, room_for}
 use Rattle.gb_share.proofs.Results.{on_ok}
 use Rattle.gb_share.proofs.threads.+together.Goals as goal
 use Rattle.gb_share.specs.Hands.{knows}
@@ -50,7 +51,7 @@ run_all-returns-clause-ran g t c =
     {y = goes parts (knows c.args.hand.now)} c.split-own.ensures.goes
     c.in_ok-ran.ensures.last in
     on_ok c.join-joined.result
-    (both_ran (knows c.args.hand.now) (knows c.both-ran.new.hand) (knows c.both-ran.new.own)
+    (both_have (knows c.args.hand.now) (knows c.both-ran.new.hand) (knows c.both-ran.new.own)
     (knows c.join-joined.new.self) c.parts.result c.both-ran.new.others c.in-Some.last.now
     c.both-ran.new.last c.requires.none c.both-ran.new.hand.within c.both-ran.new.own.within
     had ran

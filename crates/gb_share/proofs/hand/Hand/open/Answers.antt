@@ -1,6 +1,7 @@
-use Rattle.std.proofs.Common.{Err, Ok, subst, sym}
+use Rattle.std.proofs.Common.{Err, Ok, ap, subst, sym}
 use Rattle.gb_desk.specs.Passes.{known}
 use Rattle.gb_desk.specs.declared.pass.Pass.{Pass}
+use Rattle.gb_share.proofs.HandSteps.{opens_done, opens_failed}
 use Rattle.gb_share.proofs.HeldNames.{held_put}
 use Rattle.gb_share.proofs.Views.{asks_does, asks_tickets, asks_within}
 use Rattle.gb_share.proofs.hand.Hand.open.Goals as goal
@@ -29,3 +30,17 @@ returns-in-Err-clause-does c =
     (asks_does (known c.named.new.self.pass) c.args.by c.args.e.now (Err c.in-Err.fault)
     (known c.open_request.new.pass) c.named.new.self.within c.requires.asking
     c.in-Err.ensures.opens)
+
+pub returns-in-Ok-open_request-clause-opens : goal.returns-in-Ok-open_request-clause-opens
+returns-in-Ok-open_request-clause-opens c =
+    opens_done (known c.args.self.now.pass) (known c.named.new.self.pass)
+    c.args.self.now.held.items c.named.new.self.held.items c.args.by c.args.e.now c.args.name.now
+    c.in-Ok.name _ _ _ _ (ap known c.named.ensures.pass) c.named.ensures.items
+    c.in-Ok.ensures.name c.in-Ok-open_request.ensures.opens c.put.ensures
+
+pub returns-in-Err-clause-opens : goal.returns-in-Err-clause-opens
+returns-in-Err-clause-opens c =
+    opens_failed (known c.args.self.now.pass) (known c.named.new.self.pass)
+    c.args.self.now.held.items c.named.new.self.held.items c.args.by c.args.e.now c.args.name.now
+    c.in-Err.fault (known c.open_request.new.pass) (ap known c.named.ensures.pass)
+    c.named.ensures.items c.in-Err.ensures.opens

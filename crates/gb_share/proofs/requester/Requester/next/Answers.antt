@@ -1,4 +1,5 @@
-use Rattle.std.proofs.Common.{arith, refl}
+use Rattle.std.proofs.Common.{refl}
+use Rattle.gb_share.proofs.Alones.{alone_done, alone_full}
 use Rattle.gb_share.proofs.Marks.{done_runs, full_runs, kept_runs, read_there}
 use Rattle.gb_share.proofs.requester.Requester.next.Goals as goal
 
@@ -7,7 +8,8 @@ returns-in_ok-note-in-Ok-clause-runs c =
     done_runs c.args.self.now c.note.new.self c.index-items-items.result _ _
     (read_there _ _ _ _ c.index-items-items.result c.items.ensures c.items-2.ensures
     c.requires.left c.index-items-items.is)
-    c.in_ok-note-in-Ok.ensures.lines c.in_ok-note-in-Ok.ensures.noted c.in-Ok.ensures.does
+    c.in_ok-note-in-Ok.ensures.who c.in_ok-note-in-Ok.ensures.lines
+    c.in_ok-note-in-Ok.ensures.noted c.in-Ok.ensures.does
     c.tried.ensures.few
 
 pub returns-in_ok-note-in-Err-Full-clause-runs : goal.returns-in_ok-note-in-Err-Full-clause-runs
@@ -16,10 +18,45 @@ returns-in_ok-note-in-Err-Full-clause-runs c =
     full_runs c.args.self.now c.note-in-Err-Full.new.self c.index-items-items.result _ _
     (read_there _ _ _ _ c.index-items-items.result c.items.ensures c.items-2.ensures
     c.requires.left c.index-items-items.is)
-    c.in_ok-note-in-Err-Full.ensures.lines c.in_ok-note-in-Err-Full.ensures.noted does.0
-    c.in-Err-Full.ensures.kept
+    c.in_ok-note-in-Err-Full.ensures.who c.in_ok-note-in-Err-Full.ensures.lines
+    c.in_ok-note-in-Err-Full.ensures.noted does.0 does.2 c.in-Err-Full.ensures.kept
 
 pub returns-in-Err-Busy-clause-runs : goal.returns-in-Err-Busy-clause-runs
 returns-in-Err-Busy-clause-runs c =
     let does = rw c.in-Err-Busy.field-0-is at c.in-Err-Busy.ensures.does in
-    kept_runs c.args.self.now _ _ _ refl (omega arith) does.0 c.in-Err-Busy.ensures.kept
+    kept_runs c.args.self.now _ _ _ refl refl refl does.0 c.in-Err-Busy.ensures.kept
+
+pub returns-in_ok-note-in-Ok-clause-alone : goal.returns-in_ok-note-in-Ok-clause-alone
+returns-in_ok-note-in-Ok-clause-alone c a =
+    alone_done c.args.self.now c.note.new.self c.index-items-items.result c.args.self.now.who
+    c.in-Ok.told _ _ _ _ (record {
+      line = read_there _ _ _ _ c.index-items-items.result c.items.ensures c.items-2.ensures
+          c.requires.left c.index-items-items.is;
+      within = c.requires.left;
+      short = c.args.self.now.short;
+      lines = c.in_ok-note-in-Ok.ensures.lines;
+      full = c.in_ok-note-in-Ok.ensures.noted;
+      valid = c.requires.valid;
+    }) c.args.hand.now.within c.args.hand.now.tickets (c.in-Ok.ensures.names a.parts) a
+    c.tried.ensures.few
+
+pub returns-in_ok-note-in-Err-Full-clause-alone : goal.returns-in_ok-note-in-Err-Full-clause-alone
+returns-in_ok-note-in-Err-Full-clause-alone c a =
+    let does = rw c.in-Err-Full.field-0-is at c.in-Err-Full.ensures.does in
+    let names = rw c.in-Err-Full.field-0-is at (c.in-Err-Full.ensures.names a.parts) in
+    alone_full c.args.self.now c.note-in-Err-Full.new.self c.index-items-items.result _ _ _ _
+    (record {
+      line = read_there _ _ _ _ c.index-items-items.result c.items.ensures c.items-2.ensures
+          c.requires.left c.index-items-items.is;
+      within = c.requires.left;
+      short = c.args.self.now.short;
+      lines = c.in_ok-note-in-Err-Full.ensures.lines;
+      full = c.in_ok-note-in-Err-Full.ensures.noted;
+      valid = c.requires.valid;
+    }) c.args.hand.now.within c.args.hand.now.tickets does.1 names.0 names.1 a
+    c.in-Err-Full.ensures.kept
+
+pub returns-in-Err-Busy-clause-alone : goal.returns-in-Err-Busy-clause-alone
+returns-in-Err-Busy-clause-alone c a =
+    let does = rw c.in-Err-Busy.field-0-is at c.in-Err-Busy.ensures.does in
+    absurd (does.1 a.parts)
