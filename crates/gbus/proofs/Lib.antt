@@ -10,3 +10,4 @@ pub mod LineJobs
 pub mod Reporting
 pub mod Runs
 pub mod Sharing
+pub mod Unfailing

@@ -74,6 +74,10 @@ IsComplete job left reads reads_after writes writes_after s =
     ¬ Rose reads reads_after → ¬ Rose writes writes_after
     → s ≡ verdict j text ⊎ s ≡ status.NoMemory))
 
+-- The status is the verdict on this input, or memory was wanting.
+abbrev pub EndsWell : Option Job → List ℕ → Status → Type 0
+EndsWell job text s = IfSome job (λ j. s ≡ verdict j text ⊎ s ≡ status.NoMemory)
+
 -- What is written of a script is the text of the trace of its events, which are valid. Where its
 -- lines are run by their requesters, the events are valid in every order. The summary of a made
 -- script is that of the trace of its events: these are valid too, and each request is counted once.

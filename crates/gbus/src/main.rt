@@ -14,6 +14,7 @@ mod input;
 mod line_worker;
 mod manifests;
 mod output;
+mod plain;
 mod reporter;
 mod run;
 mod session;
