@@ -8,6 +8,7 @@ ghost use Rattle.gbus.specs.Statuses.{complaint_text, exit_number};
 mod answer;
 mod drive;
 #[cfg(test)]
+mod fault_tests;
 mod gate_tests;
 mod gathered;
 mod input;

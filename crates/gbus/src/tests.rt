@@ -1,6 +1,7 @@
 //! Runs of the program over a source and a sink in memory, and runs of a system that are too long
 //! for a script or that no report shows.
 
+use crate::plain::run_plain;
 use crate::run::run;
 use gb_base::{
     Bytes, Entries, Entry, FreeGate, MemSink, MemSource, Numbers, Outcome, PlainSink, PlainSource,
@@ -23,6 +24,12 @@ reply #1 svc > ap 0 result 00 size 8\n\
 line 3 ok\n\
 end #1 answered 00 -\n";
 
+/// The word `run`.
+fn run_word(rt: &impl Abort, alloc: Global) -> Vec<String> {
+    let word = "run".to_string(alloc).expect(rt, "memory");
+    vec![in alloc; word].expect(rt, "memory")
+}
+
 /// How the program ends with the word `run`.
 fn ended<R: Threads + Sync + Abort, S: Source, K: Sink>(
     rt: &R,
@@ -30,12 +37,23 @@ fn ended<R: Threads + Sync + Abort, S: Source, K: Sink>(
     source: &mut S,
     sink: &mut K,
 ) -> Status {
-    let word = "run".to_string(alloc).expect(rt, "memory");
-    let words = vec![in alloc; word].expect(rt, "memory");
+    let words = run_word(rt, alloc);
     run(rt, alloc, words.as_slice(), source, sink, &FreeGate)
 }
 
-fn bytes(rt: &impl Abort, alloc: Global, items: &[u8]) -> Bytes {
+/// How it ends where nothing but memory can be wanting.
+fn ended_well<R: Threads + Sync + Abort>(
+    rt: &R,
+    alloc: Global,
+    source: &mut PlainSource,
+    sink: &mut PlainSink,
+) -> Status {
+    let words = run_word(rt, alloc);
+    run_plain(rt, alloc, words.as_slice(), source, sink, &FreeGate)
+}
+
+/// These bytes.
+pub fn bytes(rt: &impl Abort, alloc: Global, items: &[u8]) -> Bytes {
     Bytes::from_slice(alloc, items).expect(rt, "memory")
 }
 
@@ -43,7 +61,7 @@ fn bytes(rt: &impl Abort, alloc: Global, items: &[u8]) -> Bytes {
 fn a_script_is_reported(rt: HostRuntime) {
     let mut source = PlainSource::new(bytes(&rt, rt.alloc(), PING));
     let mut sink = PlainSink::new(rt.alloc());
-    assert!(rt; ended(&rt, rt.alloc(), &mut source, &mut sink) == Status::Success);
+    assert!(rt; ended_well(&rt, rt.alloc(), &mut source, &mut sink) == Status::Success);
     assert!(rt; sink.taken() == PING_REPORT);
 }
 
@@ -51,7 +69,8 @@ fn a_script_is_reported(rt: HostRuntime) {
 /// status, what is taken, and how many bytes are left.
 type Row<'a> = (&'a [u8], usize, u64, u64, Status, &'a [u8], usize);
 
-fn only(rt: &impl Abort, alloc: Global, number: u64) -> Numbers {
+/// This number alone.
+pub fn only(rt: &impl Abort, alloc: Global, number: u64) -> Numbers {
     let mut numbers = Numbers::new(alloc);
     numbers.push(number).expect(rt, "memory");
     numbers
@@ -98,7 +117,7 @@ fn what_was_read_is_reported_before_more_is_read(rt: HostRuntime) {
 }
 
 /// What a line brings about, which is in the grammar.
-fn steps(rt: &impl Abort, alloc: Global, system: &mut System, line: &[u8]) -> Entries {
+pub fn steps(rt: &impl Abort, alloc: Global, system: &mut System, line: &[u8]) -> Entries {
     assert!(rt; system.taken() < 4_294_967_295);
     match event(alloc, line, 0) {
         Ok(Some(e)) => system.step(&e).expect(rt, "memory"),
@@ -110,7 +129,7 @@ fn steps(rt: &impl Abort, alloc: Global, system: &mut System, line: &[u8]) -> En
 }
 
 /// A line is done.
-fn does(rt: &impl Abort, alloc: Global, system: &mut System, line: &[u8]) {
+pub fn does(rt: &impl Abort, alloc: Global, system: &mut System, line: &[u8]) {
     let told = steps(rt, alloc, system, line);
     assert!(rt; matches!(told.items().first(), Some(Entry::Done)));
     drop(told);
