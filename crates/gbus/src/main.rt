@@ -9,6 +9,7 @@ mod answer;
 mod drive;
 #[cfg(test)]
 mod fault_tests;
+#[cfg(test)]
 mod gate_tests;
 mod gathered;
 mod input;
@@ -20,6 +21,8 @@ mod reporter;
 mod run;
 mod session;
 mod share;
+#[cfg(test)]
+mod spent_tests;
 #[cfg(test)]
 mod tests;
 mod words;
