@@ -75,13 +75,13 @@ fn lines_among(input: &[u8], count: usize) -> &[u8] {
 
 /// The first lines.
 fn first_lines(input: &[u8], count: u64) -> &[u8] {
-    let mut lines = 0;
+    let mut left = count;
     for (at, b) in input.iter().enumerate() {
-        if lines == count {
+        if left == 0 {
             return input.get(..at).unwrap_or(&[]);
         }
         if *b == b'\n' {
-            lines += 1;
+            left -= 1;
         }
     }
     input
@@ -136,7 +136,7 @@ fn writes_fail<R: Threads + Sync + Abort>(
         let front = first_lines(input, write - 1);
         is_cut(rt, alloc, words, ran, Status::WriteFault, front, &whole);
     }
-    let ran = failed(rt, alloc, words, input, 0, lines + 1);
+    let ran = failed(rt, alloc, words, input, 0, lines.saturating_add(1));
     is_cut(rt, alloc, words, ran, Status::Success, input, &whole);
     drop(whole);
 }
