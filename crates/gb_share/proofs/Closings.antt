@@ -7,7 +7,7 @@ use Rattle.gb_desk.specs.declared.view.View.{View}
 use Rattle.gb_machine.specs.State.{first_state}
 use Rattle.gb_share.proofs.AloneEnds.{closed_exact}
 use Rattle.gb_share.proofs.Ends.{others_none, run_of}
-use Rattle.gb_share.proofs.Late.{late_closed, others_marked}
+use Rattle.gb_share.proofs.BehindFull.{late_closed, others_marked}
 use Rattle.gb_share.proofs.Valids.{history_valid}
 use Rattle.gb_share.specs.Alone.{IsExact}
 use Rattle.gb_share.specs.Doing.{IsWithin, done_by}

@@ -20,7 +20,7 @@ use Rattle.gb_share.specs.Doing.{events_by, one_if}
 use Rattle.gb_share.specs.Fulls.{AskMost, ComeLate, DoAsk}
 use Rattle.gb_share.specs.Lines.{before_full}
 use Rattle.gb_share.specs.Placing.{marked}
-use Rattle.gb_share.proofs.Lateness.{one_more}
+use Rattle.gb_share.proofs.FullLines.{one_more}
 
 -- ---- beginnings
 

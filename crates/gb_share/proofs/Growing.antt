@@ -22,9 +22,9 @@ use Rattle.gb_machine.specs.State.{State, first_state}
 use Rattle.gb_share.specs.Doing.{events_by, one_if}
 use Rattle.gb_share.specs.Fulls.{AskMost, ComeLate, DoAsk}
 use Rattle.gb_share.specs.Placing.{ArePlaced, Pops}
-use Rattle.gb_share.proofs.Lateness.{done_append, done_full, exact_on, full_or, going_done}
-use Rattle.gb_share.proofs.Lateness.{going_full, late_done, late_full, no_fewer, none_full}
-use Rattle.gb_share.proofs.Lateness.{one_more}
+use Rattle.gb_share.proofs.FullLines.{done_append, done_full, exact_on, full_or, going_done}
+use Rattle.gb_share.proofs.FullLines.{going_full, late_done, late_full, no_fewer, none_full}
+use Rattle.gb_share.proofs.FullLines.{one_more}
 use Rattle.gb_share.proofs.Queues.{by_who, first_is, other_who, others_stay, same_who}
 
 -- ---- whatever the place is

@@ -12,10 +12,10 @@ pub mod Closings
 pub mod Pairs
 pub mod Queues
 pub mod Requests
-pub mod Lateness
+pub mod FullLines
 pub mod Early
 pub mod ZerosFirst
-pub mod Late
+pub mod BehindFull
 pub mod Marked
 pub mod Valids
 pub mod Growing

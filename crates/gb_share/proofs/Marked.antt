@@ -4,7 +4,7 @@ use Rattle.std.proofs.Common.{◌∙◌, arith, subst, ⊎_elim}
 use Rattle.std.specs.List.{slice_get}
 use Rattle.gb_desk.specs.Steps.{goes, stays}
 use Rattle.gb_desk.specs.declared.view.View.{View}
-use Rattle.gb_share.proofs.Late.{first_marked, fresh_marks, second_marked}
+use Rattle.gb_share.proofs.BehindFull.{first_marked, fresh_marks, second_marked}
 use Rattle.gb_share.proofs.Marks.{snoc_get}
 use Rattle.gb_share.proofs.Teams.{both_ran, get_low, goes_none, ran_by_none, tagged_other}
 use Rattle.gb_share.specs.Doing.{HasNone, IsJoined, IsWithin, done_by, tagged}

@@ -8,7 +8,7 @@ use Rattle.std.specs.List.{slice_get}
 use Rattle.std.specs.Prelude.{if◌then◌else◌}
 use Rattle.gb_base.specs.declared.event.Event.{Event}
 use Rattle.gb_desk.specs.declared.view.View.{View}
-use Rattle.gb_share.proofs.Late.{done_marks, full_marks, kept_marks}
+use Rattle.gb_share.proofs.BehindFull.{done_marks, full_marks, kept_marks}
 use Rattle.gb_share.proofs.Teams.{ran_none, tagged_none}
 use Rattle.gb_share.specs.Doing.{Adds, HaveAsked, Stays, done_by, tagged}
 use Rattle.gb_share.specs.Lines.{AreAsking, MayBeFull, ran}

@@ -9,7 +9,7 @@ use Rattle.gb_base.specs.declared.event.Event.{Event}
 use Rattle.gb_desk.proofs.SlotLists.{get_set_other, get_set_same}
 use Rattle.gb_desk.specs.declared.view.View.{View}
 use Rattle.gb_share.proofs.Places.{longer_length}
-use Rattle.gb_share.proofs.Late.{others_marked}
+use Rattle.gb_share.proofs.BehindFull.{others_marked}
 use Rattle.gb_share.proofs.Queues.{by_who}
 use Rattle.gb_share.proofs.Teams.{get_low, longer_both, ran_by_none, ran_on, tagged_other}
 use Rattle.gb_share.specs.Doing.{Adds, done_by, tagged}

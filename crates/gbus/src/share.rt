@@ -33,7 +33,14 @@ pub fn share_input<R: Threads + Sync, G: Gate>(
 {
     match input {
         Input::Whole(bytes) => share(rt, alloc, bytes.as_slice(), false, hex, gate),
-        Input::TooLong(front) => share(rt, alloc, ended(front.as_slice()), true, hex, gate),
+        Input::TooLong(front) => share(
+            rt,
+            alloc,
+            lines_that_end(front.as_slice()),
+            true,
+            hex,
+            gate,
+        ),
     }
 }
 
@@ -83,7 +90,7 @@ fn refusal(alloc: Global, line: u32, why: &LineReason) -> Result<Answer, OutOfMe
 }
 
 /// The lines of a text that end with LF: all up to the last LF.
-fn ended(text: &[u8]) -> &[u8]
+fn lines_that_end(text: &[u8]) -> &[u8]
     ensures { result.now ≡ ended_lines text.now }
 {
     let mut rest = text;

@@ -1,6 +1,6 @@
 use Rattle.std.proofs.Common.{ap, ◌∙◌}
 use Rattle.gb_share.proofs.AloneEnds.{alone_later}
-use Rattle.gb_share.proofs.Late.{fresh_marks}
+use Rattle.gb_share.proofs.BehindFull.{fresh_marks}
 use Rattle.gb_share.proofs.Rests.{numbered_same, valid_same, whole_first}
 use Rattle.gb_share.proofs.Results.{on_ok_then}
 use Rattle.gb_share.proofs.Teams.{opening_ran}

@@ -6,6 +6,7 @@ use Rattle.gbus.specs.declared.input.Input.{Input}
 
 pub share-requires-in-TooLong-clause-short : goal.share-requires-in-TooLong-clause-short
 share-requires-in-TooLong-clause-short g c κs within =
-    ended-within 1048576 c.as_slice-in-TooLong.result.now c.ended.result.now c.ended.ensures
+    ended-within 1048576 c.as_slice-in-TooLong.result.now c.lines_that_end.result.now
+    c.lines_that_end.ensures
     (subst (λ l. length l ≤ 1048576) (sym c.as_slice-in-TooLong.ensures.value)
     (subst (λ (i : Input). length (kept_of i) ≤ 1048576) c.in-TooLong.is c.requires.short))

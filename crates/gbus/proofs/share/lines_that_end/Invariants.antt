@@ -1,7 +1,7 @@
 -- What was left out holds no line that ends.
 use Rattle.std.proofs.Common.{◌≡◌, length}
 use Rattle.gb_formats.specs.Lines.{ended_lines}
-use Rattle.gbus.proofs.share.ended.Given as goal
+use Rattle.gbus.proofs.share.lines_that_end.Given as goal
 
 abbrev pub invariant-loop-last : goal.invariant-loop-last
 invariant-loop-last l = record {

@@ -1,6 +1,6 @@
 use Rattle.std.proofs.Common.{sym, ◌∙◌}
 use Rattle.gbus.proofs.Sharing.{ended-at-lf, ended-before}
-use Rattle.gbus.proofs.share.ended.Goals as goal
+use Rattle.gbus.proofs.share.lines_that_end.Goals as goal
 
 pub returns-then-last-eq10 : goal.returns-then-last-eq10
 returns-then-last-eq10 c =
