@@ -1,5 +1,7 @@
 //! Requests of the bridged protocols, as a script line asks them.
 
+ghost use Rattle.gb_base.specs.Copies.{IsSmallAsk, IsSmallI2cOp, IsSmallSpiOp};
+
 use crate::{Bytes, OutOfMemory, Sequence, TryCopy};
 
 /// A request of a bridge line.
@@ -134,6 +136,8 @@ pub enum Reading {
 }
 
 impl TryCopy for BridgeAsk {
+    ghost is_infallible = { IsSmallAsk };
+
     fn copy(&self) -> Result<BridgeAsk, OutOfMemory> {
         match self {
             BridgeAsk::Gpio { kind, line, value } => Ok(BridgeAsk::Gpio {
@@ -175,6 +179,8 @@ impl TryCopy for BridgeAsk {
 }
 
 impl TryCopy for I2cOp {
+    ghost is_infallible = { IsSmallI2cOp };
+
     fn copy(&self) -> Result<I2cOp, OutOfMemory> {
         match self {
             I2cOp::Get { addr, len } => Ok(I2cOp::Get {
@@ -190,6 +196,8 @@ impl TryCopy for I2cOp {
 }
 
 impl TryCopy for SpiOp {
+    ghost is_infallible = { IsSmallSpiOp };
+
     fn copy(&self) -> Result<SpiOp, OutOfMemory> {
         match self {
             SpiOp::Get { len } => Ok(SpiOp::Get { len: *len }),

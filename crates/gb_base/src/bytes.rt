@@ -1,6 +1,7 @@
 //! Bytes, which lie in the value itself while they are few.
 
-ghost use Rattle.std.specs.Prelude.{◌≡◌, [], ◌∷◌, ◌++◌, OnOk, OnErr, IfOk};
+ghost use Rattle.std.specs.Prelude.{◌≡◌, [], ◌∷◌, ◌++◌, OnOk, OnErr, IfOk, IsOk};
+ghost use Rattle.gb_base.specs.Bytes.{AreFew};
 
 use crate::{OutOfMemory, TryCopy};
 use smallvec::SmallVec;
@@ -15,11 +16,15 @@ pub struct Bytes {
 }
 
 impl Model for Bytes {
-    ghost use Rattle.std.specs.Prelude.{ℕ, List};
+    ghost use Rattle.std.specs.Prelude.{ℕ, ◌≤◌, List};
+    ghost use Rattle.gb_base.specs.Bytes.{AreFew, inline_size};
 
     ghost Value = { List ℕ };
 
     ghost view = { λ b. b.bytes.items };
+
+    // Few have the room that lies in the value.
+    ghost invariant = { λ b. AreFew b.bytes.items → inline_size ≤ b.bytes.capacity };
 }
 
 impl Bytes {
@@ -41,9 +46,10 @@ impl Bytes {
         }
     }
 
-    /// These bytes.
+    /// These bytes. Few take no memory.
     pub fn from_slice(alloc: Global, bytes: &[u8]) -> Result<Bytes, OutOfMemory>
-        ensures { IfOk result (λ b. b ≡ bytes.now) }
+        ensures same { IfOk result (λ b. b ≡ bytes.now) }
+        ensures few { AreFew bytes.now → IsOk result }
     {
         Ok(Bytes {
             bytes: SmallVec::from_slice(alloc, bytes)?,
@@ -61,6 +67,7 @@ impl Bytes {
     pub fn push(&mut self, byte: u8) -> Result<(), OutOfMemory>
         ensures ok { OnOk result (self.new ≡ self.old ++ byte ∷ []) }
         ensures err { OnErr result (self.new ≡ self.old) }
+        ensures few { AreFew (self.old ++ byte ∷ []) → IsOk result }
     {
         self.bytes.push(byte)?;
         Ok(())
@@ -70,6 +77,7 @@ impl Bytes {
     pub fn extend(&mut self, more: &[u8]) -> Result<(), OutOfMemory>
         ensures ok { OnOk result (self.new ≡ self.old ++ more.now) }
         ensures err { OnErr result (self.new ≡ self.old) }
+        ensures few { AreFew (self.old ++ more.now) → IsOk result }
     {
         self.bytes.extend_from_slice(more)?;
         Ok(())
@@ -77,6 +85,8 @@ impl Bytes {
 }
 
 impl TryCopy for Bytes {
+    ghost is_infallible = { AreFew };
+
     fn copy(&self) -> Result<Bytes, OutOfMemory> {
         Ok(Bytes {
             bytes: SmallVec::from_slice(*self.bytes.allocator(), self.bytes.as_slice())?,

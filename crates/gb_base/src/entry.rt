@@ -9,6 +9,8 @@ pub enum ConnState {
     Opening,
     /// It is open.
     Open,
+    /// It is open for what was asked, and closes once all of that has ended.
+    Draining,
     /// Its close sequence runs.
     Closing,
     /// It is closed, and there no more.

@@ -1,11 +1,14 @@
 //! Copies of entries.
 
-ghost use Rattle.std.specs.Prelude.{◌≡◌, true, IfOk};
+ghost use Rattle.std.specs.Prelude.{◌≡◌, true, IfOk, IsOk};
+ghost use Rattle.gb_base.specs.Copies.{IsSmallEntry};
 ghost use Rattle.gb_base.specs.Groups.{is_device, is_link, is_message, is_raw, is_request};
 
 use crate::{Entry, OutOfMemory, TryCopy};
 
 impl TryCopy for Entry {
+    ghost is_infallible = { IsSmallEntry };
+
     fn copy(&self) -> Result<Entry, OutOfMemory> {
         match self {
             Entry::Done => Ok(Entry::Done),
@@ -36,7 +39,8 @@ impl TryCopy for Entry {
 /// The copy of a message that is put in a queue.
 fn copy_message(entry: &Entry) -> Result<Entry, OutOfMemory>
     requires { is_message entry.now ≡ true }
-    ensures { IfOk result (λ e. e ≡ entry.now) }
+    ensures same { IfOk result (λ e. e ≡ entry.now) }
+    ensures succeeds { IsSmallEntry entry.now → IsOk result }
 {
     match entry {
         Entry::Asked {
@@ -78,7 +82,8 @@ fn copy_message(entry: &Entry) -> Result<Entry, OutOfMemory>
 /// The copy of what became of a request.
 fn copy_request(entry: &Entry) -> Result<Entry, OutOfMemory>
     requires { is_request entry.now ≡ true }
-    ensures { IfOk result (λ e. e ≡ entry.now) }
+    ensures same { IfOk result (λ e. e ≡ entry.now) }
+    ensures succeeds { IsSmallEntry entry.now → IsOk result }
 {
     match entry {
         Entry::Held { number } => Ok(Entry::Held { number: *number }),
@@ -104,7 +109,8 @@ fn copy_request(entry: &Entry) -> Result<Entry, OutOfMemory>
 /// The copy of injected bytes, or of what comes of them.
 fn copy_raw(entry: &Entry) -> Result<Entry, OutOfMemory>
     requires { is_raw entry.now ≡ true }
-    ensures { IfOk result (λ e. e ≡ entry.now) }
+    ensures same { IfOk result (λ e. e ≡ entry.now) }
+    ensures succeeds { IsSmallEntry entry.now → IsOk result }
 {
     match entry {
         Entry::Raw {
@@ -160,7 +166,8 @@ fn copy_link(entry: &Entry) -> Entry
 /// The copy of what a bridged device told.
 fn copy_device(entry: &Entry) -> Result<Entry, OutOfMemory>
     requires { is_device entry.now ≡ true }
-    ensures { IfOk result (λ e. e ≡ entry.now) }
+    ensures same { IfOk result (λ e. e ≡ entry.now) }
+    ensures succeeds { IsSmallEntry entry.now → IsOk result }
 {
     match entry {
         Entry::Irq { intf, cport, line } => Ok(Entry::Irq {

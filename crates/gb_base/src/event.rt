@@ -55,6 +55,14 @@ pub enum Event {
         /// The CPort.
         cport: u16,
     },
+    /// The application processor asks nothing more on a connection, and begins to close it once its
+    /// open requests there have ended.
+    Drain {
+        /// The interface.
+        intf: u8,
+        /// The CPort.
+        cport: u16,
+    },
     /// The application processor sends a request.
     Send {
         /// The name that the request gets.

@@ -1,11 +1,14 @@
 //! Copies of events.
 
-ghost use Rattle.std.specs.Prelude.{◌≡◌, true, IfOk};
+ghost use Rattle.std.specs.Prelude.{◌≡◌, true, IfOk, IsOk};
+ghost use Rattle.gb_base.specs.Copies.{IsSmallEvent};
 ghost use Rattle.gb_base.specs.EventGroups.{is_named, is_plain};
 
 use crate::{Event, OutOfMemory, TryCopy};
 
 impl TryCopy for Event {
+    ghost is_infallible = { IsSmallEvent };
+
     fn copy(&self) -> Result<Event, OutOfMemory> {
         match self {
             Event::InsertRaw { intf, manifest } => Ok(Event::InsertRaw {
@@ -30,7 +33,8 @@ impl TryCopy for Event {
 /// The copy of an event with the name of a request.
 fn copy_named(event: &Event) -> Result<Event, OutOfMemory>
     requires { is_named event.now ≡ true }
-    ensures { IfOk result (λ e. e ≡ event.now) }
+    ensures same { IfOk result (λ e. e ≡ event.now) }
+    ensures succeeds { IsSmallEvent event.now → IsOk result }
 {
     match event {
         Event::Send {
@@ -84,6 +88,10 @@ fn copy_plain(event: &Event) -> Event
             cport: *cport,
         },
         Event::Disconnect { intf, cport } => Event::Disconnect {
+            intf: *intf,
+            cport: *cport,
+        },
+        Event::Drain { intf, cport } => Event::Drain {
             intf: *intf,
             cport: *cport,
         },

@@ -1,6 +1,6 @@
 //! Names of requests.
 
-ghost use Rattle.std.specs.Prelude.{◌≡◌, if◌then◌else◌, Some, None, nat_eq, IsAscii};
+ghost use Rattle.std.specs.Prelude.{◌≡◌, if◌then◌else◌, Some, None, nat_eq, IsAscii, ⊤};
 ghost use Rattle.std.specs.Cmp.{partial_equiv_from_equiv};
 ghost use Rattle.std.specs.Cmp.Lexicographic.{pointwise, nat_list_eq_equiv};
 ghost use Rattle.gb_base.specs.Name.{is_name, is_name_byte};
@@ -87,6 +87,8 @@ impl Eq for Word {
 }
 
 impl TryCopy for Word {
+    ghost is_infallible = { λ _. ⊤ };
+
     fn copy(&self) -> Result<Word, OutOfMemory> {
         Ok(Word { text: self.text })
     }
@@ -102,6 +104,8 @@ pub struct Name {
 }
 
 impl TryCopy for Name {
+    ghost is_infallible = { λ _. ⊤ };
+
     fn copy(&self) -> Result<Name, OutOfMemory> {
         Ok(Name {
             who: self.who,

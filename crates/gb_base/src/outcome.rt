@@ -1,5 +1,7 @@
 //! How a request ended.
 
+ghost use Rattle.gb_base.specs.Copies.{IsSmallOutcome};
+
 use crate::{Bytes, OutOfMemory, TryCopy};
 
 /// How a request ended.
@@ -23,6 +25,8 @@ pub enum Outcome {
 }
 
 impl TryCopy for Outcome {
+    ghost is_infallible = { IsSmallOutcome };
+
     fn copy(&self) -> Result<Outcome, OutOfMemory> {
         match self {
             Outcome::Answered { result, payload } => Ok(Outcome::Answered {

@@ -1,6 +1,7 @@
 //! The growing list of the public surface. A contract sees it as the list of its members.
 
-ghost use Rattle.std.specs.Prelude.{◌≡◌, ◌≤◌, [], ◌∷◌, ◌++◌, OnOk, OnErr, IfOk, insert, length};
+ghost use Rattle.std.specs.Prelude.{◌≡◌, ◌≤◌, [], ◌∷◌, ◌++◌, OnOk, OnErr, IfOk, IsOk, ⊤};
+ghost use Rattle.std.specs.Prelude.{insert, length};
 
 use crate::OutOfMemory;
 use std::alloc::Global;
@@ -8,9 +9,13 @@ use std::marker::Model;
 
 /// Values that can be copied where memory is found.
 pub trait TryCopy: Drop {
+    /// Holds of a value whose copy takes no memory.
+    ghost is_infallible: { Self → Type 0 } = { λ _. ⊥ };
+
     /// A copy, which equals the value.
     fn copy(&self) -> Result<Self, OutOfMemory>
-        ensures { IfOk result (λ o. o ≡ self.now) };
+        ensures same { IfOk result (λ o. o ≡ self.now) }
+        ensures succeeds { is_infallible self.now → IsOk result };
 }
 
 /// A list that grows at its end. It keeps the allocator that it was made with.
@@ -90,12 +95,16 @@ impl<T: Copy> Sequence<T> {
 }
 
 impl TryCopy for u64 {
+    ghost is_infallible = { λ _. ⊤ };
+
     fn copy(&self) -> Result<u64, OutOfMemory> {
         Ok(*self)
     }
 }
 
 impl<T: TryCopy> TryCopy for Sequence<T> {
+    ghost is_infallible = { λ s. s ≡ [] };
+
     fn copy(&self) -> Result<Sequence<T>, OutOfMemory> {
         let mut members = Vec::with_capacity(*self.members.allocator(), self.members.len())?;
         for member in &self.members {

@@ -1,5 +1,8 @@
 //! What a responder answers.
 
+ghost use Rattle.std.specs.Prelude.{◌≡◌, []};
+ghost use Rattle.gb_base.specs.Bytes.{AreFew};
+
 use crate::{Bytes, OutOfMemory, Sequence, TryCopy};
 
 /// What a responder answers to a request.
@@ -28,6 +31,8 @@ pub struct OwnAsk {
 }
 
 impl TryCopy for Served {
+    ghost is_infallible = { λ s. AreFew s.payload × (s.asks ≡ []) };
+
     fn copy(&self) -> Result<Served, OutOfMemory> {
         Ok(Served {
             result: self.result,
@@ -38,6 +43,8 @@ impl TryCopy for Served {
 }
 
 impl TryCopy for OwnAsk {
+    ghost is_infallible = { λ a. AreFew a.payload };
+
     fn copy(&self) -> Result<OwnAsk, OutOfMemory> {
         Ok(OwnAsk {
             kind: self.kind,
