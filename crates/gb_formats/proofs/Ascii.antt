@@ -146,6 +146,7 @@ staged stage.Removed = refl
 stated : (x : ConnState) → is_ascii (state_text x) ≡ true
 stated state.Opening = refl
 stated state.Open = refl
+stated state.Draining = refl
 stated state.Closing = refl
 stated state.Closed = refl
 stated state.Failed = refl

@@ -13,7 +13,7 @@ use Rattle.gb_formats.proofs.SaidValid.{SaysValid, at_end-valid, if-valid, of_in
 use Rattle.gb_formats.proofs.SaidValid.{of_cport-valid, of_name-valid, inserting-valid}
 use Rattle.gb_formats.proofs.SaidValid.{sending-valid, copying-valid, delivering-valid}
 use Rattle.gb_formats.proofs.SaidValid.{settling-valid, answering-valid, ticking-valid}
-use Rattle.gb_formats.proofs.SaidValid.{injecting-valid}
+use Rattle.gb_formats.proofs.SaidValid.{disconnecting-valid, injecting-valid}
 use Rattle.gb_formats.proofs.SaidValidBridges.{gpio_form-valid, i2c_form-valid, spi_form-valid}
 use Rattle.gb_formats.proofs.SaidValidBridges.{uart_form-valid}
 
@@ -26,7 +26,7 @@ by_first-valid who w ws =
     (if-valid (bytes_eq w (codes "connect")) _ _
     (of_cport-valid event.Connect ws (λ i c p q. (p, q)))
     (if-valid (bytes_eq w (codes "disconnect")) _ _
-    (of_cport-valid event.Disconnect ws (λ i c p q. (p, q)))
+    (disconnecting-valid ws)
     (if-valid (bytes_eq w (codes "send")) _ _ (sending-valid who ws)
     (if-valid (bytes_eq w (codes "deliver")) _ _ (delivering-valid ws)
     (if-valid (bytes_eq w (codes "settle")) _ _ (settling-valid ws)

@@ -12,6 +12,7 @@ use Rattle.gb_base.specs.declared.name.Name.{Name}
 use Rattle.gb_formats.specs.Grammar.{of_intf, of_cport, of_name, inserting_what, inserting, timed}
 use Rattle.gb_formats.specs.Grammar.{sending_svc, sending_module, sending_to, sending, copying}
 use Rattle.gb_formats.specs.Grammar.{delivering, settling, answering, ticking, injecting}
+use Rattle.gb_formats.specs.Grammar.{disconnecting, disconnecting_how}
 use Rattle.gb_formats.specs.Said.{Said, Rest, by_meaning, next_word, by_word, next_cport, at_end}
 use Rattle.gb_formats.specs.ValidEvents.{IsValid, IsIntf, IsCport, IsName, IsFromOne}
 use Rattle.gb_formats.specs.WordValues.{number_word, is_number, number_of, cport_word, name_word}
@@ -154,6 +155,15 @@ pub of_cport-valid : (make : ℕ → ℕ → Event) (ws : Rest)
 of_cport-valid make ws h =
     next_cport-valid ws (λ i c ws. at_end ws (make i c))
     (λ i c ws p q. at_end-valid ws (make i c) (h i c p q))
+
+pub disconnecting-valid : (ws : Rest) → SaysValid (disconnecting ws)
+disconnecting-valid ws = next_cport-valid ws disconnecting_how by
+  where
+    by : (i c : ℕ) (ws : Rest) → IsIntf i → IsCport c → SaysValid (disconnecting_how i c ws)
+    by i c (place, []) p q = (p, q)
+    by i c (place, w ∷ ws) p q =
+        if-valid (bytes_eq w (codes "drain")) _ _
+        (at_end-valid (place + 1, ws) (event.Drain i c) (p, q)) tt
 
 pub of_name-valid : (who : ℕ) (make : Name → Event) (ws : Rest)
     → ((x : Name) → IsName x → IsValid (make x)) → SaysValid (of_name who make ws)

@@ -98,6 +98,7 @@ entry_lines =
     ∷ (entry.Manifest 3 2 reason.ShortHeader, codes "manifest 3 refused 2 short header")
     ∷ (entry.Connection 3 2 2 1 state.Opening, codes "connection 3 ap 2 2 1 opening")
     ∷ (entry.Connection 3 2 2 1 state.Open, codes "connection 3 ap 2 2 1 open")
+    ∷ (entry.Connection 3 2 2 1 state.Draining, codes "connection 3 ap 2 2 1 draining")
     ∷ (entry.Connection 3 2 2 1 state.Closing, codes "connection 3 ap 2 2 1 closing")
     ∷ (entry.Connection 3 2 2 1 state.Closed, codes "connection 3 ap 2 2 1 closed")
     ∷ (entry.Connection 3 2 2 1 state.Failed, codes "connection 3 ap 2 2 1 failed")

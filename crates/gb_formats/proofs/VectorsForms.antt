@@ -26,6 +26,7 @@ form_lines =
     ∷ (codes "pull 2", Ok (Some (event.Pull 2)))
     ∷ (codes "connect 2 0", Ok (Some (event.Connect 2 0)))
     ∷ (codes "disconnect 2 4095", Ok (Some (event.Disconnect 2 4095)))
+    ∷ (codes "disconnect 31 0 drain", Ok (Some (event.Drain 31 0)))
     ∷ (codes "send @x svc ping", Ok (Some (event.Send (named (codes "x")) end.Svc 0x13 [] 1000)))
     ∷ (
       codes "send @x svc ping timeout 10",

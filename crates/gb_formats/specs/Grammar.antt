@@ -51,6 +51,17 @@ of_intf make ws = next_word intf_word ws (λ i ws. at_end ws (make i))
 abbrev pub of_cport : (ℕ → ℕ → Event) → Rest → Said
 of_cport make ws = next_cport ws (λ i c ws. at_end ws (make i c))
 
+-- `disconnect I C`, or `disconnect I C drain`
+abbrev pub disconnecting_how : ℕ → ℕ → Rest → Said
+disconnecting_how i c (place, []) = Ok (Some (event.Disconnect i c))
+disconnecting_how i c (place, w ∷ ws) =
+    if bytes_eq w (codes "drain") then at_end (place + 1, ws) (event.Drain i c)
+    else Err (bad.ExtraWord place)
+
+-- `disconnect I C` and how
+abbrev pub disconnecting : Rest → Said
+disconnecting ws = next_cport ws disconnecting_how
+
 -- ---- requests
 
 -- a `send` may end with `timeout MS`
@@ -133,7 +144,7 @@ by_first who w ws =
     else if bytes_eq w (codes "insert") then inserting ws
     else if bytes_eq w (codes "pull") then of_intf event.Pull ws
     else if bytes_eq w (codes "connect") then of_cport event.Connect ws
-    else if bytes_eq w (codes "disconnect") then of_cport event.Disconnect ws
+    else if bytes_eq w (codes "disconnect") then disconnecting ws
     else if bytes_eq w (codes "send") then sending who ws
     else if bytes_eq w (codes "deliver") then delivering ws
     else if bytes_eq w (codes "settle") then settling ws

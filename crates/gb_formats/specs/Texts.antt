@@ -96,6 +96,7 @@ stage_text stage.Removed = codes "removed"
 abbrev pub state_text : ConnState → List ℕ
 state_text state.Opening = codes "opening"
 state_text state.Open = codes "open"
+state_text state.Draining = codes "draining"
 state_text state.Closing = codes "closing"
 state_text state.Closed = codes "closed"
 state_text state.Failed = codes "failed"

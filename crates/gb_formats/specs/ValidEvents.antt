@@ -126,6 +126,7 @@ IsValid (event.InsertRaw i bytes) = IsIntf i
 IsValid (event.Pull i) = IsIntf i
 IsValid (event.Connect i c) = IsIntf i × IsCport c
 IsValid (event.Disconnect i c) = IsIntf i × IsCport c
+IsValid (event.Drain i c) = IsIntf i × IsCport c
 IsValid (event.Send name to kind payload timeout) =
     IsName name × IsFar to × IsRequestType kind × IsFromOne timeout
 IsValid (event.Bridge name i c what) = IsName name × IsIntf i × IsCport c × HasForm what
