@@ -12,6 +12,7 @@ pub mod RowsConnections
 pub mod RowsCounts
 pub mod RowsCredits
 pub mod RowsDevices
+pub mod RowsDraining
 pub mod RowsEnumeration
 pub mod RowsHotPlug
 pub mod RowsInjection

@@ -8,8 +8,8 @@ use Rattle.gb_machine.specs.Arriving.{late_by, raw_taken, reply_taken}
 use Rattle.gb_machine.specs.Asking.{asks, asks_with}
 use Rattle.gb_machine.specs.Events.{decided, does, shows, step}
 use Rattle.gb_machine.specs.GivingUp.{cancels, gives_up, ticks, times_out}
-use Rattle.gb_machine.specs.HostActs.{acts, asked_with, fails, follows, host_asks, host_opens}
-use Rattle.gb_machine.specs.HostActs.{notices, opened_with, turns}
+use Rattle.gb_machine.specs.HostActs.{acts, asked_with, drains, fails, follows, host_asks}
+use Rattle.gb_machine.specs.HostActs.{host_opens, idles, idles_behind, notices, opened_with, turns}
 use Rattle.gb_machine.specs.Labels.{free_label}
 use Rattle.gb_machine.specs.LineActions.{answers, answers_at, answers_held, bridge_sent, bridges}
 use Rattle.gb_machine.specs.LineActions.{copies, holds, injects, injects_at, sends, sends_on}
@@ -34,7 +34,8 @@ bus_opened = tt
 
 -- the application processor's acts
 unfoldable pub host_opened : ⊤
-unfolding acts asked_with fails follows host_asks host_opens notices opened_with turns
+unfolding acts asked_with drains fails follows host_asks host_opens idles idles_behind notices
+    opened_with turns
 host_opened = tt
 
 -- serving

@@ -32,10 +32,11 @@ use Rattle.gb_machine.specs.State.{State}
 
 -- ---- who takes
 
--- the application processor takes on connections that are opening or open
+-- the application processor takes on connections that are opening, open or draining
 abbrev pub state_takes : ConnState → Bool
 state_takes state.Opening = true
 state_takes state.Open = true
+state_takes state.Draining = true
 state_takes state.Closing = false
 state_takes state.Closed = false
 state_takes state.Failed = false

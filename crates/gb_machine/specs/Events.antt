@@ -9,7 +9,7 @@ use Rattle.gb_formats.specs.Module.{module_of_kind, module_raw}
 use Rattle.gb_machine.specs.Actions.{Action, Told, by_state, change, tell, tell_all, ◌▸◌}
 use Rattle.gb_machine.specs.Arriving.{delivers}
 use Rattle.gb_machine.specs.GivingUp.{cancels, ticks}
-use Rattle.gb_machine.specs.HostActs.{notices}
+use Rattle.gb_machine.specs.HostActs.{drains, notices}
 use Rattle.gb_machine.specs.LineActions.{answers, ap_draft, bridges, copies, holds, injects, sends}
 use Rattle.gb_machine.specs.LineActions.{stirs}
 use Rattle.gb_machine.specs.Names.{freed}
@@ -37,6 +37,7 @@ does (event.InsertRaw i manifest) = plugs i (module_raw manifest)
 does (event.Pull i) = pulls i
 does (event.Connect i c) = notices (HostEvent.Connect i c)
 does (event.Disconnect i c) = notices (HostEvent.Disconnect i c)
+does (event.Drain i c) = drains i c
 does (event.Send name to kind payload timeout) = sends name to kind payload timeout
 does (event.Bridge name i c what) = bridges name i c what
 does (event.Level i c line value) = stirs i c (Level line value)

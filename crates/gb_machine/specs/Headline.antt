@@ -1,6 +1,7 @@
 -- What is promised of every run of events, together: the sentence with which this project stands.
 use Rattle.std.specs.Prelude.{List}
 use Rattle.gb_base.specs.declared.event.Event.{Event}
+use Rattle.gb_machine.specs.LawsDraining.{UncutComeToAnEnd}
 use Rattle.gb_machine.specs.LawsEnds.{EndOnce, HadItsReply, HasItsCause}
 use Rattle.gb_machine.specs.LawsHotPlug.{AbsentBetween, AbsentHasNoOpen, AbsentIsUnconnected}
 use Rattle.gb_machine.specs.LawsHotPlug.{HaveOwnItems, OpenIsLive, TakesFromItsConnection}
@@ -27,12 +28,14 @@ pub record HandlesItsOwn (es : List Event) : Type 0 where
 
 -- On connections without injected bytes an answer goes by the number of its request, and never by
 -- an identifier, and is what that request's own responder replied. Each request ends at most once:
--- so, or by a cancellation, a timeout or a disconnection that came. Once a removal is handled,
--- nothing on that interface is open. No CPort handles a message of another connection.
+-- so, or by a cancellation, a timeout or a disconnection that came. What is open on a connection
+-- that drains, and so closes uncut, is answered, is cancelled or times out. Once a removal is
+-- handled, nothing on that interface is open. No CPort handles a message of another connection.
 pub record Headline (es : List Event) : Type 0 where
   pub answered : Each HadItsReply (moments_in es)
   pub once : EndOnce (told_by es) (state_by es)
   pub caused : Each HasItsCause (moments_in es)
+  pub drained : UncutComeToAnEnd es
   pub removed : LeavesNothing es
   pub own : HandlesItsOwn es
 

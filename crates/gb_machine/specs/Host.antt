@@ -1,7 +1,7 @@
 -- The application processor: what it knows of interfaces and of its connections to modules.
-use Rattle.std.specs.Prelude.{ℕ, ◌==◌, nat_lt, Bool, false, ◌&&◌, if◌then◌else◌, Option, Some, None}
-use Rattle.std.specs.Prelude.{option_map, option_and_then, Result, Ok, Err, List, [], ◌∷◌, ◌++◌}
-use Rattle.std.specs.Prelude.{find}
+use Rattle.std.specs.Prelude.{ℕ, ◌==◌, nat_lt, Bool, true, false, ◌&&◌, if◌then◌else◌, Option, Some}
+use Rattle.std.specs.Prelude.{None, option_map, option_and_then, Result, Ok, Err, List, [], ◌∷◌}
+use Rattle.std.specs.Prelude.{◌++◌, find}
 use Rattle.std.specs.List.{list_any}
 use Rattle.gb_base.specs.declared.peers.Interface.{Interface}
 use Rattle.gb_base.specs.declared.peers.Link.{Link}
@@ -97,6 +97,11 @@ with_link i c change h = record h { links = at_first (is_link i c) change h.link
 -- A connection has a state from now on.
 abbrev pub in_state : ConnState → Link → Link
 in_state to l = record l { state = to }
+
+-- a connection closes once the requests on it have ended
+abbrev pub is_draining : ConnState → Bool
+is_draining state.Draining = true
+is_draining _ = false
 
 -- the connection to the Control CPort of an interface
 abbrev pub control_of : ℕ → Host → Option ℕ

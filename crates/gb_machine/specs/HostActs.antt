@@ -7,13 +7,14 @@ use Rattle.gb_base.specs.declared.outcome.Outcome.{Outcome}
 use Rattle.gb_base.specs.declared.peers.Link.{Link}
 use Rattle.gb_base.specs.declared.steps.Purpose.{Purpose}
 use Rattle.gb_formats.specs.Grammar.{default_timeout}
-use Rattle.gb_machine.specs.Actions.{Action, by_state, change, each, on_bus, on_host, tell}
-use Rattle.gb_machine.specs.Actions.{tell_all, ◌▸◌}
+use Rattle.gb_machine.specs.Actions.{Action, by_state, change, each, given, on_bus, on_host}
+use Rattle.gb_machine.specs.Actions.{tell, tell_all, when, ◌▸◌}
 use Rattle.gb_machine.specs.Asking.{asks}
-use Rattle.gb_machine.specs.Bus.{next_number}
+use Rattle.gb_machine.specs.Bus.{Request, next_number, request_of}
 use Rattle.gb_machine.specs.Host.{Host, link_at, with_new_link}
 use Rattle.gb_machine.specs.HostTurns.{host_turn}
 use Rattle.gb_machine.specs.Labels.{next_label}
+use Rattle.gb_machine.specs.Requests.{is_idle, same_side}
 use Rattle.gb_machine.specs.Sending.{Draft, draft}
 use Rattle.gb_machine.specs.SequenceSteps.{is_for_connection}
 use Rattle.gb_machine.specs.Failures.{unsent}
@@ -94,6 +95,20 @@ turns t = on_host (λ h. t.host) ▸ each t.acts acts
 unfoldable pub notices : HostEvent → Action
 notices e = by_state (λ s. turns (host_turn e s.host))
 
--- A request ended, and what waited for it goes on or fails.
+-- A connection that drains begins to close where no request is open on it.
+unfoldable pub idles : ℕ → Action
+idles k = by_state (λ s. when (is_idle k s.bus) (notices (HostEvent.Idle k)))
+
+-- so it is behind the end of a request of the application processor
+unfoldable pub idles_behind : Request → Action
+idles_behind r = when (same_side side.Ap r.side) (idles r.connection)
+
+-- A request ended: what waited for it goes on or fails, and a connection that drains may close.
 unfoldable pub follows : ℕ → Outcome → Action
-follows n how = notices (HostEvent.Ended n how)
+follows n how = by_state (λ s.
+    notices (HostEvent.Ended n how) ▸ given (request_of n s.bus) idles_behind)
+
+-- The connection to a CPort of an interface drains, and begins to close where nothing is open.
+unfoldable pub drains : ℕ → ℕ → Action
+drains i c = notices (HostEvent.Drain i c) ▸ by_state (λ s.
+    given (link_at i c s.host) (λ l. idles l.connection))

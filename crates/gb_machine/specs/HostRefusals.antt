@@ -46,7 +46,7 @@ connect_conditions i c h =
     ∷ (is_none (free_cport h), why.CportsSpent)
     ∷ []
 
--- ---- send and disconnect
+-- ---- send, disconnect and drain
 
 -- a connection wasn't opened
 abbrev pub is_unopened : ConnState → Bool
@@ -59,30 +59,44 @@ abbrev pub is_closing : ConnState → Bool
 is_closing state.Closing = true
 is_closing _ = false
 
+-- a connection is being closed, or drains
+abbrev pub is_ending : ConnState → Bool
+is_ending state.Draining = true
+is_ending state.Closing = true
+is_ending _ = false
+
 -- a sequence of a connection failed
 abbrev pub is_failed : ConnState → Bool
 is_failed state.Failed = true
 is_failed _ = false
 
--- when nothing is sent on a connection: there is none, or it isn't open
-abbrev pub link_conditions : Option Link → List Condition
-link_conditions link =
+-- when a connection isn't there to be used: there is none, it isn't open, it ends, or it failed
+abbrev pub link_conditions : (ConnState → Bool) → Option Link → List Condition
+link_conditions ends link =
     (is_none link || holds_of (λ l. is_unopened l.state) link, why.NoConnection)
-    ∷ (holds_of (λ l. is_closing l.state) link, why.Closing)
+    ∷ (holds_of (λ l. ends l.state) link, why.Closing)
     ∷ (holds_of (λ l. is_failed l.state) link, why.Failed)
     ∷ []
 
 -- When a request to a CPort of a module is refused, as far as its interface and connection decide.
 abbrev pub send_conditions : ℕ → ℕ → Host → List Condition
 send_conditions i c h =
-    (is_none (interface_of i h), why.NoInterface) ∷ link_conditions (link_at i c h)
+    (is_none (interface_of i h), why.NoInterface) ∷ link_conditions is_ending (link_at i c h)
 
--- When a disconnect is refused, but for want of an identifier. The Control connection stays.
-abbrev pub disconnect_conditions : ℕ → ℕ → Host → List Condition
-disconnect_conditions i c h =
+-- when a connection isn't closed. The Control connection stays.
+abbrev pub close_conditions : (ConnState → Bool) → ℕ → ℕ → Host → List Condition
+close_conditions ends i c h =
     (is_none (interface_of i h), why.NoInterface)
     ∷ (c == 0, why.Unsupported)
-    ∷ link_conditions (link_at i c h)
+    ∷ link_conditions ends (link_at i c h)
+
+-- When a disconnect is refused, but for want of an identifier. One that drains is closed at once.
+abbrev pub disconnect_conditions : ℕ → ℕ → Host → List Condition
+disconnect_conditions i c h = close_conditions is_closing i c h
+
+-- When a draining close is refused.
+abbrev pub drain_conditions : ℕ → ℕ → Host → List Condition
+drain_conditions i c h = close_conditions is_ending i c h
 
 -- The types that the application processor keeps for itself: CONNECTED, DISCONNECTED and
 -- DISCONNECTING on Control, and SEND_DATA, which takes credits, on a UART.

@@ -1,5 +1,6 @@
 -- What the application processor does at what it takes notice of.
-use Rattle.std.specs.Prelude.{ℕ, ◌==◌, Option, Some, None, option_and_then, List, [], ◌∷◌, ◌++◌}
+use Rattle.std.specs.Prelude.{ℕ, ◌==◌, if◌then◌else◌, Option, Some, None, option_and_then, List}
+use Rattle.std.specs.Prelude.{[], ◌∷◌, ◌++◌}
 use Rattle.std.specs.List.{filter}
 use Rattle.gb_base.specs.declared.entry.ConnState.TheVariants as state
 use Rattle.gb_base.specs.declared.entry.Entry.TheVariants as entry
@@ -10,11 +11,11 @@ use Rattle.gb_base.specs.declared.steps.Purpose.{Purpose}
 use Rattle.gb_base.specs.declared.steps.SequenceStep.TheVariants as steps
 use Rattle.gb_formats.specs.Manifest.{CportView}
 use Rattle.gb_machine.specs.Host.{Host, cport_of, free_cport, in_state, interface_of, is_intf}
-use Rattle.gb_machine.specs.Host.{link_at, with_link, with_new_interface}
+use Rattle.gb_machine.specs.Host.{is_draining, link_at, link_of, with_link, with_new_interface}
 use Rattle.gb_machine.specs.Lists.{without}
 use Rattle.gb_machine.specs.SequenceSteps.{purpose}
 use Rattle.gb_machine.specs.Failures.{link_told}
-use Rattle.gb_machine.specs.Sequences.{opens, payload_in, step_answered, step_asked}
+use Rattle.gb_machine.specs.Sequences.{link_turn, opens, payload_in, step_answered, step_asked}
 use Rattle.gb_machine.specs.Waits.{awaited, awaits_nothing}
 use Rattle.gb_machine.specs.Turns.{Act, HostEvent, Turn, telling, turn}
 
@@ -77,6 +78,21 @@ abbrev pub host_disconnects : ℕ → ℕ → Host → Turn
 host_disconnects i c h =
     disconnects (link_at i c h) (purpose i c steps.TellDisconnecting) h
 
+-- A connection drains: it closes once the requests on it have ended.
+abbrev pub host_drains : ℕ → ℕ → Host → Turn
+host_drains i c h =
+    link_turn state.Draining (link_at i c h) (with_link i c (in_state state.Draining) h)
+
+-- the close sequence of a connection begins where it drains
+abbrev pub drained : Option Link → Host → Turn
+drained None h = turn h []
+drained (Some l) h =
+    if is_draining l.state then host_disconnects l.intf l.cport h else turn h []
+
+-- No request of the application processor is open on a connection.
+abbrev pub host_idle : ℕ → Host → Turn
+host_idle k h = drained (link_of k h) h
+
 -- a request for this purpose ended; nothing starts where no sequence waited for it
 abbrev pub ended_for : Option Purpose → Outcome → Host → Turn
 ended_for None how h = turn h []
@@ -92,4 +108,6 @@ host_turn (HostEvent.Inserted i) h = host_inserted i h
 host_turn (HostEvent.Removed i) h = host_removed i h
 host_turn (HostEvent.Connect i c) h = host_connects i c h
 host_turn (HostEvent.Disconnect i c) h = host_disconnects i c h
+host_turn (HostEvent.Drain i c) h = host_drains i c h
+host_turn (HostEvent.Idle k) h = host_idle k h
 host_turn (HostEvent.Ended n how) h = host_ended n how h

@@ -2,6 +2,7 @@
 use Rattle.gb_machine.specs.LawsBus.{EndpointsDiffer, LabelsDiffer, NamesNameRequests}
 use Rattle.gb_machine.specs.LawsBus.{OneItemANumber, RepliesAreAwaited}
 use Rattle.gb_machine.specs.LawsCredits.{CreditsAddUp}
+use Rattle.gb_machine.specs.LawsDraining.{DrainedComeToAnEnd}
 use Rattle.gb_machine.specs.LawsEnds.{AnsweredByItsResponder, EndsAreTold, EndsAtMostOnce}
 use Rattle.gb_machine.specs.LawsEnds.{EveryEndHasItsCause}
 use Rattle.gb_machine.specs.LawsHotPlug.{NoForeignMessage, NothingLeftAfterRemoval, WiredAtMostOnce}
@@ -18,6 +19,7 @@ pub record LawsOfRuns : Type 0 where
   pub told : EndsAreTold
   pub answered : AnsweredByItsResponder
   pub caused : EveryEndHasItsCause
+  pub drained : DrainedComeToAnEnd
   pub left : NothingLeftAfterRemoval
   pub own : NoForeignMessage
   pub wired : WiredAtMostOnce

@@ -20,6 +20,7 @@ pub mod Labels
 pub mod Laws
 pub mod LawsBus
 pub mod LawsCredits
+pub mod LawsDraining
 pub mod LawsEnds
 pub mod LawsHotPlug
 pub mod LawsSvc

@@ -18,7 +18,8 @@ use Rattle.gb_formats.specs.Results.{most_payload}
 use Rattle.gb_machine.specs.Bus.{Place, outcome_of, place_of, queue}
 use Rattle.gb_machine.specs.Host.{control_of, link_at}
 use Rattle.gb_machine.specs.HostRefusals.{bridge_conditions, connect_conditions}
-use Rattle.gb_machine.specs.HostRefusals.{disconnect_conditions, is_kept, send_conditions}
+use Rattle.gb_machine.specs.HostRefusals.{disconnect_conditions, drain_conditions, is_kept}
+use Rattle.gb_machine.specs.HostRefusals.{send_conditions}
 use Rattle.gb_machine.specs.Holding.{held_on}
 use Rattle.gb_machine.specs.Labels.{next_label}
 use Rattle.gb_machine.specs.Lists.{Condition, conditions_of, first, first_met, holds_of}
@@ -153,6 +154,7 @@ conditions s (event.Connect i c) =
 conditions s (event.Disconnect i c) =
     disconnect_conditions i c s.host
     ++ (holds_of (λ k. has_no_label k side.Ap s) (control_of i s.host), why.NoLabel) ∷ []
+conditions s (event.Drain i c) = drain_conditions i c s.host
 conditions s (event.Send name to kind payload timeout) = send_to_conditions s name to kind payload
 conditions s (event.Bridge name i c what) = line_conditions s name i c what
 conditions s (event.Level i c line value) = stir_conditions s i c (Level line value)

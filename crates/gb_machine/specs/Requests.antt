@@ -43,6 +43,10 @@ open_requests test b = open_from 1 test b b.requests
 abbrev pub open_on : ℕ → Side → Bus → List ℕ
 open_on k at b = open_requests (is_of k at) b
 
+-- No request of the application processor is open on a connection.
+abbrev pub is_idle : ℕ → Bus → Bool
+is_idle k b = is_none (first (open_on k side.Ap b))
+
 -- a request that was made passes a test
 abbrev pub made_passes : (Request → Bool) → Option Request → Bool
 made_passes test None = false

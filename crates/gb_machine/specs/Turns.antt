@@ -11,6 +11,8 @@ pub data HostEvent : Type 0 where
   Removed : ℕ → HostEvent  -- MODULE_REMOVED of an interface is handled
   Connect : ℕ → ℕ → HostEvent
   Disconnect : ℕ → ℕ → HostEvent
+  Drain : ℕ → ℕ → HostEvent
+  Idle : ℕ → HostEvent  -- no request of its own is open on a connection
   Ended : ℕ → Outcome → HostEvent  -- a request ended
 
 -- a request that it makes on a connection
