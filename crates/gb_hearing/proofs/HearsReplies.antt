@@ -1,7 +1,7 @@
 -- What is known of the messages that are heard of a connection, where a response to the application
 -- processor is delivered there.
-use Rattle.std.proofs.Common.{◌≡◌, ℕ, ◌==◌, Bool, true, false, if◌then◌else◌, Some}
-use Rattle.std.proofs.Common.{List, ◌∷◌, not, refl, sym, ap, ◌∙◌, subst, arith}
+use Rattle.std.proofs.Common.{Bool, List, Some, ap, arith, false, if◌then◌else◌, not, refl, subst}
+use Rattle.std.proofs.Common.{sym, true, ℕ, ◌==◌, ◌∙◌, ◌∷◌, ◌≡◌}
 use Rattle.gb_base.specs.declared.bridge.Reading.{Reading}
 use Rattle.gb_base.specs.declared.end.End.{End}
 use Rattle.gb_base.specs.declared.end.Side.TheVariants as side
@@ -27,15 +27,14 @@ use Rattle.gb_laws.proofs.Midway.{KnownAt, known-held, known-resting, known_law}
 use Rattle.gb_laws.proofs.Places.{place-is}
 use Rattle.gb_laws.proofs.PointParts.{Untouched, resting}
 use Rattle.gb_laws.proofs.Points.{Change, answers, by_number, changed, numbered, takes}
-use Rattle.gb_laws.proofs.StepActs.{goes-notices}
 use Rattle.gb_machine.proofs.Opened.{machine_opened}
 use Rattle.gb_machine.proofs.Steps.{deliver-allowed, delivers-by_number, delivers-drops}
 use Rattle.gb_machine.proofs.Steps.{delivers-late, step-deliver, with_bus}
 use Rattle.gb_machine.specs.Actions.{Told}
 use Rattle.gb_machine.specs.Arriving.{delivers, ends, ends_answered, forgets, reading_for}
 use Rattle.gb_machine.specs.Arriving as arriving
-use Rattle.gb_machine.specs.Bus.{Bus, Item, Place, Reply, Request, end_of, is_open}
-use Rattle.gb_machine.specs.Bus.{place_of, queue, request_of}
+use Rattle.gb_machine.specs.Bus.{Bus, Item, Place, Reply, Request, end_of, is_open, place_of, queue}
+use Rattle.gb_machine.specs.Bus.{request_of}
 use Rattle.gb_machine.specs.Delivery.{answered, ended, forgotten, popped}
 use Rattle.gb_machine.specs.Events.{step}
 use Rattle.gb_machine.specs.HostActs.{follows}
@@ -45,7 +44,7 @@ use Rattle.gb_machine.specs.Reached.{OfARun}
 use Rattle.gb_machine.specs.Refusals.{is_end_unplugged}
 use Rattle.gb_machine.specs.Runs.{Moment, after}
 use Rattle.gb_machine.specs.State.{State}
-use Rattle.gb_machine.specs.Turns.{HostEvent}
+use Rattle.gb_laws.proofs.StepIdles.{goes-follows}
 
 -- a request that was forgotten, and isn't open, isn't awaited
 forgotten-over : (n : ℕ) (b : Bus) → is_open n b ≡ false → is_awaited n (forgotten n b) ≡ false
@@ -201,9 +200,9 @@ module _ (m : Moment) (run : OfARun m.before) (k : ℕ) (at : End) (is : m.event
       hears-ended open_ {past} h =
           let start : List Spoken = (false, response r.label r.kind result payload) ∷ past in
           let then_ = mid open_ in
-          let end_ = goes-notices m (hears_acts m run k start)
-          (HostEvent.Ended n (answered result payload)) then_state
-          (λ c bytes e. ((replied open_).ended, refl)) tt then_.0 (
+          let end_ = goes-follows m (hears_acts m run k start)
+          (λ a now. (known-held m run a now.0).basis.drains) n (answered result payload) then_state
+          (λ c bytes e. ((replied open_).ended, refl)) then_.0 (
             then_.1,
             hears-first m run k start
                 then_bus refl (now then_bus (replied open_) h),

@@ -1,7 +1,7 @@
 -- What the application processor does at what it takes notice of, or where a request can't be made,
 -- as single changes of it and one end.
 use Rattle.std.proofs.Common.{Bool, List, None, Option, Some, false, map, true, ℕ, [], ◌++◌, ◌∷◌}
-use Rattle.std.proofs.Common.{◌≡◌, ◌⊎◌}
+use Rattle.std.proofs.Common.{◌≡◌}
 use Rattle.gb_base.specs.declared.entry.{ConnState.ConnState, Entry.Entry}
 use Rattle.gb_base.specs.declared.outcome.Outcome.{Outcome}
 use Rattle.gb_base.specs.declared.peers.{Interface.Interface, Link.Link}
@@ -11,8 +11,8 @@ use Rattle.gb_base.specs.declared.entry.Entry.TheVariants as entry
 use Rattle.gb_base.specs.declared.entry.IntfStage.TheVariants as stage
 use Rattle.gb_base.specs.declared.outcome.Outcome.TheVariants as outcome
 use Rattle.gb_base.specs.declared.steps.SequenceStep.TheVariants as steps
-use Rattle.gb_machine.specs.Host.{Host, in_state, link_at, staged, with_interface, with_link}
-use Rattle.gb_machine.specs.Host.{with_new_interface, without_link}
+use Rattle.gb_machine.specs.Host.{Host, in_state, is_draining, link_at, link_of, staged}
+use Rattle.gb_machine.specs.Host.{with_interface, with_link, with_new_interface, without_link}
 use Rattle.gb_machine.specs.HostTurns.{links_left, links_of, without_interface}
 use Rattle.gb_machine.specs.SequenceSteps.{at_step, is_enumeration, purpose}
 use Rattle.gb_machine.specs.Sequences.{ap_in, asking, enumerated, opens, target}
@@ -34,7 +34,7 @@ pub data HostChange : Type 0 where
   -- an interface changes, but for its stage and what it waits for, or it fails
   updates : (i : ℕ) (f : Interface → Interface) → HostChange
   fails : (i : ℕ) → HostChange
-  -- a connection opens or fails, where there is one
+  -- a connection opens, drains or fails, where there is one
   turns_to : (i c : ℕ) (to : ConnState) (o : Option Link) → HostChange
   -- a connection is closing, or was closed and is given up, where there is one
   closes : (i c : ℕ) (l : Link) → HostChange
@@ -99,12 +99,18 @@ pub record Keeps (f : Interface → Interface) : Type 0 where
   pub awaits : (x : Interface) → (f x).awaits ≡ x.awaits
   pub stage : (x : Interface) → (f x).stage ≡ x.stage
 
+-- a connection may have this state, but for closing, which has a change of its own
+abbrev pub MayTurnTo : ConnState → Type 0
+MayTurnTo state.Open = Unit {0}
+MayTurnTo state.Draining = Unit {0}
+MayTurnTo state.Failed = Unit {0}
+MayTurnTo _ = ⊥
+
 -- What a change finds where it is made.
 abbrev pub Finds : Host → HostChange → Type 0
 Finds h (tells e) = IsOfNone e
 Finds h (updates i f) = Keeps f
-Finds h (turns_to i c to o) =
-    (link_at i c h ≡ o) × ((to ≡ state.Open) ⊎ (to ≡ state.Failed))
+Finds h (turns_to i c to o) = (link_at i c h ≡ o) × MayTurnTo to
 Finds h (closes i c l) = link_at i c h ≡ Some l
 Finds h (leaves p o) = link_at p.intf p.cport h ≡ o
 Finds h _ = Unit {0}
@@ -150,6 +156,13 @@ pub record IsAnswered (e : HostEvent) (before : Host) (p : Purpose) : Type 0 whe
   pub is : e ≡ HostEvent.Ended number (outcome.Answered result payload)
   pub awaited : awaited number before ≡ Some p
 
+-- A connection drains, and no request of the application processor is open on it.
+pub record IsDrained (e : HostEvent) (before : Host) (l : Link) : Type 0 where
+  pub number : ℕ
+  pub is : e ≡ HostEvent.Idle number
+  pub found : link_of number before ≡ Some l
+  pub drains : is_draining l.state ≡ true
+
 -- Why a request is made: a sequence begins, or goes on with the next step.
 pub data IsAskedAt (e : HostEvent) (before : Host) (p : Purpose) : Type 0 where
   to_enumerate : (i : ℕ) → e ≡ HostEvent.Inserted i → p ≡ purpose i 0 steps.EnableVsys
@@ -159,6 +172,8 @@ pub data IsAskedAt (e : HostEvent) (before : Host) (p : Purpose) : Type 0 where
   to_disconnect : (i c : ℕ) (l : Link) → e ≡ HostEvent.Disconnect i c
       → link_at i c before ≡ Some l → p ≡ purpose i c steps.TellDisconnecting
       → IsAskedAt e before p
+  to_close : (d l : Link) → IsDrained e before d → link_at d.intf d.cport before ≡ Some l
+      → p ≡ purpose d.intf d.cport steps.TellDisconnecting → IsAskedAt e before p
   to_go_on : (last : Purpose) (step : SequenceStep) → IsAnswered e before last
       → step_behind last.step ≡ Some step → p ≡ at_step step last → IsAskedAt e before p
 
@@ -172,6 +187,16 @@ pub data Occasion : Type 0 where
 abbrev pub Notices : Occasion → HostEvent → Host → Type 0
 Notices (at_event e before) f h = (e ≡ f) × (h ≡ before)
 Notices (at_unsent p) f h = ⊥
+
+-- a connection that drains is idle, and nothing has changed yet
+abbrev pub Drained : Occasion → Link → Host → Type 0
+Drained (at_event e before) d h = IsDrained e before d × (h ≡ before)
+Drained (at_unsent p) d h = ⊥
+
+-- Why a connection is closing: it is disconnected, or it was draining and is idle.
+pub data IsClosingFor (o : Occasion) (h : Host) (i c : ℕ) : Type 0 where
+  by_disconnect : Notices o (HostEvent.Disconnect i c) h → IsClosingFor o h i c
+  by_idle : (d : Link) → Drained o d h → d.intf ≡ i → d.cport ≡ c → IsClosingFor o h i c
 
 -- the last step of a sequence was answered, and the sequence waits for nothing
 abbrev pub Completes : Occasion → Purpose → SequenceStep → Host → Type 0
@@ -195,7 +220,7 @@ abbrev pub IsFor : Occasion → Host → HostChange → Type 0
 IsFor o h (arrives i) = Notices o (HostEvent.Inserted i) h
 IsFor o h (departs i) = Notices o (HostEvent.Removed i) h
 IsFor o h (fails i) = FailsAt o i
-IsFor o h (closes i c l) = Notices o (HostEvent.Disconnect i c) h
+IsFor o h (closes i c l) = IsClosingFor o h i c
 IsFor o h (leaves p l) = Completes o p steps.DestroyConnection h
 IsFor o h _ = Unit {0}
 

@@ -1,7 +1,7 @@
 -- A law of turns goes over what the application processor does at what it takes notice of, and
 -- where a request can't be made.
-use Rattle.std.proofs.Common.{Bool, List, None, Option, Some, ap, cond, false, inl, inr, length}
-use Rattle.std.proofs.Common.{map, refl, true, ℕ, [], ◌++◌, ◌∙◌, ◌∷◌, ◌≡◌, ◌⊎◌}
+use Rattle.std.proofs.Common.{Bool, List, None, Option, Some, ap, cond, false, length, map, refl}
+use Rattle.std.proofs.Common.{true, ℕ, [], ◌++◌, ◌∙◌, ◌∷◌, ◌≡◌}
 use Rattle.std.specs.Prelude.{Err, Ok, Result, option_and_then, ◌==◌}
 use Rattle.gb_base.specs.declared.entry.{ConnState.ConnState, Entry.Entry}
 use Rattle.gb_base.specs.declared.outcome.Outcome.{Outcome}
@@ -17,9 +17,10 @@ use Rattle.gb_formats.specs.{ControlRecords.read_control_reply, ManifestRules.Re
 use Rattle.gb_machine.specs.Failures.{interface_fails, link_fails, step_fails, told_of, unsent}
 use Rattle.gb_machine.specs.Failures.{unsent_fails, without_device}
 use Rattle.gb_machine.specs.Host.{Host, cport_of, free_cport, free_device, in_state, interface_of}
-use Rattle.gb_machine.specs.Host.{link_at, staged, with_interface, with_link, with_new_interface}
-use Rattle.gb_machine.specs.Host.{without_link}
-use Rattle.gb_machine.specs.HostTurns.{connects, connects_on, disconnects, ended_for, host_turn}
+use Rattle.gb_machine.specs.Host.{is_draining, link_at, link_of, staged, with_interface, with_link}
+use Rattle.gb_machine.specs.Host.{with_new_interface, without_link}
+use Rattle.gb_machine.specs.HostTurns.{connects, connects_on, disconnects, drained, ended_for}
+use Rattle.gb_machine.specs.HostTurns.{host_disconnects, host_drains, host_idle, host_turn}
 use Rattle.gb_machine.specs.HostTurns.{without_interface}
 use Rattle.gb_machine.specs.SequenceSteps.{at_step, is_enumeration, is_reply, purpose}
 use Rattle.gb_machine.specs.Sequences.{asked_on, begins_control, begins_device, link_left}
@@ -28,12 +29,14 @@ use Rattle.gb_machine.specs.Sequences.{size_in, size_known, step_answered, step_
 use Rattle.gb_machine.specs.Sequences.{way_of}
 use Rattle.gb_machine.specs.Turns.{Act, HostEvent, Turn, failed_turn, telling, turn}
 use Rattle.gb_machine.specs.Waits.{awaited, awaits_nothing}
-use Rattle.gb_invariants.proofs.HostChanges.{AsksAt, FailsAt, IsAnswered, IsAskedAt, IsOfNone}
-use Rattle.gb_invariants.proofs.HostChanges.{Keeps, Occasion, TurnLaw, arrives, asks, at_event}
-use Rattle.gb_invariants.proofs.HostChanges.{at_unsent, closes, departs, end_of, enumerates, fails}
-use Rattle.gb_invariants.proofs.HostChanges.{is_creating, leaves, makes, rests, resumes}
-use Rattle.gb_invariants.proofs.HostChanges.{step_behind, tells, to_connect, to_disconnect}
-use Rattle.gb_invariants.proofs.HostChanges.{to_enumerate, to_go_on, turns_to, updates}
+use Rattle.gb_invariants.proofs.HostChanges.{AsksAt, FailsAt, IsAnswered, IsAskedAt, IsClosingFor}
+use Rattle.gb_invariants.proofs.HostChanges.{IsDrained, IsOfNone, Keeps, MayTurnTo, Occasion}
+use Rattle.gb_invariants.proofs.HostChanges.{TurnLaw, arrives, asks, at_event, at_unsent}
+use Rattle.gb_invariants.proofs.HostChanges.{by_disconnect, by_idle, closes, departs, end_of}
+use Rattle.gb_invariants.proofs.HostChanges.{enumerates, fails, is_creating, leaves, makes, rests}
+use Rattle.gb_invariants.proofs.HostChanges.{resumes, step_behind, tells, to_close, to_connect}
+use Rattle.gb_invariants.proofs.HostChanges.{to_disconnect, to_enumerate, to_go_on, turns_to}
+use Rattle.gb_invariants.proofs.HostChanges.{updates}
 
 -- ---- what fails
 
@@ -51,9 +54,9 @@ module _ (o : Occasion) (law : TurnLaw o) where
       told (entry.Interface p.intf stage.Failed) h (turn g []) tt
       (law.over (fails p.intf) h (turn g []) tt why (resting g))
 
-  -- a connection opens or fails in front of a turn
+  -- a connection opens, drains or fails in front of a turn
   turned : (i c : ℕ) (to : ConnState) (l : Option Link) (h : Host) (t : Turn) → link_at i c h ≡ l
-      → (to ≡ state.Open) ⊎ (to ≡ state.Failed) → law.says (with_link i c (in_state to) h) t
+      → MayTurnTo to → law.says (with_link i c (in_state to) h) t
       → law.says h (turn t.host (map Act.Tell (told_of to l) ++ t.acts))
   turned i c to l h t found good s = law.over (turns_to i c to l) h t (found, good) tt s
 
@@ -65,9 +68,9 @@ module _ (o : Occasion) (law : TurnLaw o) where
 
       by : (l : Option Link) → link_at p.intf p.cport h ≡ l
           → law.says h (turn g (map Act.Tell (told_of state.Failed l)))
-      by None e = turned p.intf p.cport state.Failed None h (turn g []) e (inr refl) (resting g)
+      by None e = turned p.intf p.cport state.Failed None h (turn g []) e tt (resting g)
       by (Some l) e =
-          turned p.intf p.cport state.Failed (Some l) h (turn g []) e (inr refl) (resting g)
+          turned p.intf p.cport state.Failed (Some l) h (turn g []) e tt (resting g)
 
   -- the Control connection fails, and then its interface
   control-fails : (p : Purpose) (h : Host) → FailsAt o p.intf
@@ -81,9 +84,9 @@ module _ (o : Occasion) (law : TurnLaw o) where
           (turn (interface_fails p g).host
           (map Act.Tell (told_of state.Failed l ++ (interface_fails p g).told)))
       by None e = turned p.intf p.cport state.Failed None h (failed_turn (interface_fails p g)) e
-          (inr refl) (interface-fails p g why)
+          tt (interface-fails p g why)
       by (Some l) e = turned p.intf p.cport state.Failed (Some l) h
-          (failed_turn (interface_fails p g)) e (inr refl) (interface-fails p g why)
+          (failed_turn (interface_fails p g)) e tt (interface-fails p g why)
 
   step-fails : (step : SequenceStep) (p : Purpose) (h : Host)
       → (is_enumeration step ≡ true → FailsAt o p.intf)
@@ -234,9 +237,9 @@ module _ (e : HostEvent) (before : Host) (law : TurnLaw (at_event e before)) whe
         by : (o : Option Link) → link_at p.intf p.cport here ≡ o → law.says here
             (opened_told o (step_asked (at_step steps.AskVersion p) (opened p here)))
         by None f = turned (at_event e before) law p.intf p.cport state.Open None here _ f
-            (inl refl) asks-version
+            tt asks-version
         by (Some l) f = turned (at_event e before) law p.intf p.cport state.Open (Some l) here _ f
-            (inl refl) asks-version
+            tt asks-version
     done steps.AskVersion payload at =
         goes steps.AskVersion steps.AskSize here at refl refl (λ s. refl)
     done steps.AskSize payload at =
@@ -260,10 +263,10 @@ module _ (e : HostEvent) (before : Host) (law : TurnLaw (at_event e before)) whe
         by : (o : Option Link) → link_at p.intf p.cport here ≡ o
             → law.says here (link_turn state.Open o (opened p here))
         by None f = turned (at_event e before) law p.intf p.cport state.Open None here
-            (turn (opened p here) []) f (inl refl)
+            (turn (opened p here) []) f tt
             (resting (at_event e before) law (opened p here))
         by (Some l) f = turned (at_event e before) law p.intf p.cport state.Open (Some l) here
-            (turn (opened p here) []) f (inl refl)
+            (turn (opened p here) []) f tt
             (resting (at_event e before) law (opened p here))
     done steps.TellDisconnecting payload at =
         goes steps.TellDisconnecting steps.TellDisconnected here at refl refl no-enumeration
@@ -322,14 +325,50 @@ module _ (e : HostEvent) (before : Host) (law : TurnLaw (at_event e before)) whe
       by (Some a) = law.ends (makes a view.protocol (purpose i c steps.CreateConnection)) before
           (to_connect i c is refl)
 
-  closed : (i c : ℕ) → e ≡ HostEvent.Disconnect i c → (o : Option Link) → link_at i c before ≡ o
-      → law.says before (disconnects o (purpose i c steps.TellDisconnecting) before)
-  closed i c is None found = resting (at_event e before) law before
-  closed i c is (Some l) found =
-      law.over (closes i c l) before _ found (is, refl)
-      (asked (at_event e before) law (purpose i c steps.TellDisconnecting)
-      (with_link i c (in_state state.Closing) before) (to_disconnect i c l is found refl) refl
-      no-enumeration)
+  -- a connection closes, for a reason that it has
+  closed : (i c : ℕ) → IsClosingFor (at_event e before) before i c
+      → ((l : Link) → link_at i c before ≡ Some l
+      → IsAskedAt e before (purpose i c steps.TellDisconnecting))
+      → law.says before (host_disconnects i c before)
+  closed i c why ask = by (link_at i c before) refl
+    where
+      by : (o : Option Link) → link_at i c before ≡ o
+          → law.says before (disconnects o (purpose i c steps.TellDisconnecting) before)
+      by None found = resting (at_event e before) law before
+      by (Some l) found =
+          law.over (closes i c l) before _ found why
+          (asked (at_event e before) law (purpose i c steps.TellDisconnecting)
+          (with_link i c (in_state state.Closing) before) (ask l found) refl no-enumeration)
+
+  draining : (i c : ℕ) → law.says before (host_drains i c before)
+  draining i c = by (link_at i c before) refl
+    where
+      after : Host
+      after = with_link i c (in_state state.Draining) before
+
+      by : (o : Option Link) → link_at i c before ≡ o
+          → law.says before (link_turn state.Draining o after)
+      by None found = turned (at_event e before) law i c state.Draining None before (turn after [])
+          found tt (resting (at_event e before) law after)
+      by (Some l) found =
+          turned (at_event e before) law i c state.Draining (Some l) before (turn after []) found tt
+          (resting (at_event e before) law after)
+
+  idle : (k : ℕ) → e ≡ HostEvent.Idle k → law.says before (host_idle k before)
+  idle k is = by (link_of k before) refl
+    where
+      on : (d : Link) → link_of k before ≡ Some d → (t : Bool) → is_draining d.state ≡ t
+          → law.says before (cond t (host_disconnects d.intf d.cport before) (turn before []))
+      on d found false drains = resting (at_event e before) law before
+      on d found true drains =
+          let why : IsDrained e before d =
+          record { number = k; is = is; found = found; drains = drains } in
+          closed d.intf d.cport (by_idle d (why, refl) refl refl)
+          (λ l at. to_close d l why at refl)
+
+      by : (o : Option Link) → link_of k before ≡ o → law.says before (drained o before)
+      by None found = resting (at_event e before) law before
+      by (Some d) found = on d found (is_draining d.state) refl
 
   inserted : (i : ℕ) → e ≡ HostEvent.Inserted i
       → law.says before (host_turn (HostEvent.Inserted i) before)
@@ -353,7 +392,10 @@ module _ (e : HostEvent) (before : Host) (law : TurnLaw (at_event e before)) whe
   turned-by (HostEvent.Removed i) is = removed i is
   turned-by (HostEvent.Connect i c) is =
       connected i c is (option_and_then (cport_of c) (interface_of i before))
-  turned-by (HostEvent.Disconnect i c) is = closed i c is (link_at i c before) refl
+  turned-by (HostEvent.Disconnect i c) is =
+      closed i c (by_disconnect (is, refl)) (λ l found. to_disconnect i c l is found refl)
+  turned-by (HostEvent.Drain i c) is = draining i c
+  turned-by (HostEvent.Idle k) is = idle k is
   turned-by (HostEvent.Ended n how) is = ended n how is (awaited n before) refl
 
 -- A law goes over each turn.

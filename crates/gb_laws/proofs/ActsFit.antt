@@ -1,20 +1,34 @@
 -- What a turn of the application processor tells and closes, at each event that it takes notice of.
-use Rattle.std.proofs.Common.{List, None, Some, ap, inl, inr, map, refl, subst, sym, true, ℕ, []}
-use Rattle.std.proofs.Common.{◌∙◌, ◌∷◌, ◌≡◌, ◌⊎◌}
+use Rattle.std.proofs.Common.{Bool, List, None, Option, Some, ap, cond, false, inl, inr, map, refl}
+use Rattle.std.proofs.Common.{subst, sym, true, ℕ, [], ◌∙◌, ◌∷◌, ◌≡◌}
 use Rattle.gb_base.specs.declared.entry.{ConnState.ConnState, Entry.Entry}
 use Rattle.gb_base.specs.declared.peers.Link.{Link}
 use Rattle.gb_base.specs.declared.steps.Purpose.{Purpose}
 use Rattle.gb_base.specs.declared.entry.ConnState.TheVariants as state
+use Rattle.gb_base.specs.declared.end.Side.TheVariants as side
 use Rattle.gb_base.specs.declared.entry.Entry.TheVariants as entry
-use Rattle.gb_machine.specs.HostTurns.{host_turn, links_left, links_of}
-use Rattle.gb_machine.specs.Turns.{Act, HostEvent, Turn}
+use Rattle.gb_base.specs.declared.steps.SequenceStep.TheVariants as steps
+use Rattle.gb_machine.specs.HostTurns.{disconnects, drained, host_disconnects, host_idle, host_turn}
+use Rattle.gb_machine.specs.HostTurns.{links_left, links_of}
+use Rattle.gb_machine.specs.Turns.{Act, HostEvent, failed_turn, turn}
 use Rattle.gb_machine.specs.{Failures.link_told, Failures.unsent, Host.Host, Host.link_at}
 use Rattle.gb_machine.specs.{Members.Each, Members.IsIn, Runs.Moment}
-use Rattle.gb_invariants.proofs.HostChanges.{Finds, HostChange, HostEnd, IsFor, IsOfNone, Occasion}
-use Rattle.gb_invariants.proofs.HostChanges.{TurnLaw, acts_by, at_event, at_unsent, end_of}
+use Rattle.gb_machine.specs.Bus.{Bus}
+use Rattle.gb_machine.specs.Requests.{open_on}
+use Rattle.gb_machine.specs.Sequences.{asked_on, way_of}
+use Rattle.gb_machine.specs.Failures.{step_fails, told_of}
+use Rattle.gb_machine.specs.Host.{in_state, is_draining, link_of, with_link}
+use Rattle.gb_machine.specs.SequenceSteps.{purpose}
+use Rattle.gb_invariants.proofs.HostChanges.{Finds, HostChange, HostEnd, IsClosingFor, IsFor}
+use Rattle.gb_invariants.proofs.HostChanges.{IsOfNone, MayTurnTo, Occasion, TurnLaw, acts_by}
+use Rattle.gb_invariants.proofs.HostChanges.{at_event, at_unsent, by_disconnect, by_idle, end_of}
 use Rattle.gb_invariants.proofs.{Lists.each-append, OverTurns.over-turn, OverTurns.over-unsent}
-use Rattle.gb_laws.proofs.PointParts.{AreQuiet, IsCaused, IsShutFor, disconnected, is_quiet}
+use Rattle.gb_invariants.proofs.Outcomes.{same-number}
+use Rattle.gb_invariants.proofs.Lists.{found-in}
+use Rattle.gb_laws.proofs.PointParts.{AreQuiet, IsCaused, IsShutFor, disconnected, idle, is_quiet}
 use Rattle.gb_laws.proofs.PointParts.{removed}
+use Rattle.gb_laws.proofs.Points.{IsOver}
+use Rattle.gb_laws.proofs.Draining.{FirstDrains, draining-at}
 
 -- ---- the acts of a turn
 
@@ -24,22 +38,35 @@ IsFitFor Cause (Act.Shut k) = Cause k
 IsFitFor Cause (Act.Tell e) = is_quiet e ≡ true
 IsFitFor Cause _ = Unit {0}
 
--- What an act may be at a moment.
-abbrev pub IsFit : Moment → Act → Type 0
-IsFit m x = IsFitFor (IsShutFor m) x
+-- What an act may be at a moment, where this is the bus.
+abbrev pub IsFit : Moment → Bus → Act → Type 0
+IsFit m b x = IsFitFor (λ k. IsShutFor m k b) x
 
-abbrev pub AreFit : Moment → Turn → Type 0
-AreFit m t = Each (IsFit m) t.acts
+-- what acts may be at each bus
+abbrev AreEverFit : Moment → List Act → Type 0
+AreEverFit m xs = Each (IsFitFor (λ k. (b : Bus) → IsShutFor m k b)) xs
+
+-- What acts may be from a bus on: the first at that, and those behind it at each.
+abbrev pub AreFit : Moment → Bus → List Act → Type 0
+AreFit m b [] = Unit {0}
+AreFit m b (x ∷ xs) = IsFit m b x × AreEverFit m xs
+
+pub ever-fit : (m : Moment) (b : Bus) (xs : List Act) → AreEverFit m xs → AreFit m b xs
+ever-fit m b [] fit = tt
+ever-fit m b (Act.Shut k ∷ xs) fit = (fit.0 b, fit.1)
+ever-fit m b (Act.Ask q ∷ xs) fit = fit
+ever-fit m b (Act.Open w q ∷ xs) fit = fit
+ever-fit m b (Act.Leave k ∷ xs) fit = fit
+ever-fit m b (Act.Tell e ∷ xs) fit = fit
 
 quiet-none : (e : Entry) → IsOfNone e → is_quiet e ≡ true
 quiet-none (entry.Interface i to) of = refl
 quiet-none (entry.Manifest i at why) of = refl
 quiet-none _ of = absurd of
 
-quiet-turned : (to : ConnState) (l : Link) → (to ≡ state.Open) ⊎ (to ≡ state.Failed)
-    → is_quiet (link_told to l) ≡ true
-quiet-turned to l (inl e) = ap (λ s. is_quiet (link_told s l)) e
-quiet-turned to l (inr e) = ap (λ s. is_quiet (link_told s l)) e
+quiet-turned : (to : ConnState) (l : Link) → MayTurnTo to → is_quiet (link_told to l) ≡ true
+quiet-turned state.Opening l may = absurd may
+quiet-turned _ l may = refl
 
 -- where what closes the side of a connection is its cause
 module _ (Cause : ℕ → Type 0) (o : Occasion)
@@ -80,15 +107,61 @@ module _ (Cause : ℕ → Type 0) (o : Occasion)
         (change-fits x h finds why) s;
   }
 
--- What the application processor does at what it takes notice of is fit.
-pub fit-turn : (m : Moment) (e : HostEvent) (h : Host) → IsCaused m e h → AreFit m (host_turn e h)
-fit-turn m e h cause = over-turn e h (fit_law (IsShutFor m) (at_event e h)
-    (λ i c l g why found.
-    let k = subst (λ y. IsCaused m y h) why.0 cause in
-    disconnected i c l k.1 (ap (link_at i c) (sym (why.1 ∙ k.0)) ∙ found) refl)
-    (λ i l g why j.
+-- where no connection is idle
+pub fit-other : (m : Moment) (e : HostEvent) (h : Host) → ((k : ℕ) → e ≡ HostEvent.Idle k → ⊥)
+    → IsCaused m e h → AreEverFit m (host_turn e h).acts
+fit-other m e h other cause =
+    over-turn e h (fit_law (λ k. (b : Bus) → IsShutFor m k b) (at_event e h)
+    (λ i c l g why found. closing i c l g found why) (λ i l g why j b.
     let k = subst (λ y. IsCaused m y h) why.0 cause in
     removed i l k.1 (subst (λ y. IsIn l (links_of i y)) (why.1 ∙ k.0) j) refl))
+  where
+    closing : (i c : ℕ) (l : Link) (g : Host) → link_at i c g ≡ Some l
+        → IsClosingFor (at_event e h) g i c → (b : Bus) → IsShutFor m l.connection b
+    closing i c l g found (by_disconnect why) b =
+        let k = subst (λ y. IsCaused m y h) why.0 cause in
+        disconnected i c l k.1 (ap (link_at i c) (sym (why.1 ∙ k.0)) ∙ found) refl
+    closing i c l g found (by_idle d why intf cport) b = absurd (other why.0.number why.0.is)
+
+-- where one is, its side is closed first
+fit-idle : (m : Moment) (b : Bus) (k : ℕ) (h : Host) → FirstDrains h.links
+    → open_on k side.Ap b ≡ [] → AreFit m b (host_idle k h).acts
+fit-idle m b k h first none = by (link_of k h) refl
+  where
+    asked : (p : Purpose) (g : Host) (o : Option ℕ) → p.step ≡ steps.TellDisconnecting
+        → AreEverFit m (asked_on o p g).acts
+    asked p g (Some j) is = (tt, tt)
+    asked p g None is =
+        subst (λ step. AreEverFit m (failed_turn (step_fails step p g)).acts) (sym is)
+        (failed (link_at p.intf p.cport g))
+      where
+        failed : (o : Option Link) → AreEverFit m (map Act.Tell (told_of state.Failed o))
+        failed None = tt
+        failed (Some l) = (refl, tt)
+
+    on : (l : Link) → link_of k h ≡ Some l → (t : Bool) → is_draining l.state ≡ t
+        → AreFit m b (cond t (host_disconnects l.intf l.cport h) (turn h [])).acts
+    on l found false drains = tt
+    on l found true drains =
+        let p = purpose l.intf l.cport steps.TellDisconnecting in
+        let g = with_link l.intf l.cport (in_state state.Closing) h in
+        let its = same-number l.connection k (found-in _ h.links l found).1 in
+        subst (λ o. AreFit m b (disconnects o p h).acts)
+        (sym (draining-at k h l first found drains)) (
+          idle (subst (λ n. open_on n side.Ap b ≡ []) (sym its) none),
+          (refl, asked p g (way_of p g) refl),
+        )
+
+    by : (o : Option Link) → link_of k h ≡ o → AreFit m b (drained o h).acts
+    by None found = tt
+    by (Some l) found = on l found (is_draining l.state) refl
+
+-- What the application processor does at what it takes notice of is fit.
+pub fit-turn : (m : Moment) (b : Bus) (e : HostEvent) (h : Host) → IsOver m e b → IsCaused m e h
+    → AreFit m b (host_turn e h).acts
+fit-turn m b (HostEvent.Idle k) h over cause = fit-idle m b k h cause over
+fit-turn m b e h over cause =
+    ever-fit m b (host_turn e h).acts (fit-other m e h (λ k f. absurd cc) cause)
 
 tells-quiet : (Cause : ℕ → Type 0) (es : List Entry) → Each (IsFitFor Cause) (map Act.Tell es)
     → AreQuiet es

@@ -13,8 +13,8 @@ use Rattle.gb_machine.specs.{Turns.HostEvent}
 use Rattle.gb_invariants.proofs.HostChanges.{Finds, HostChange, HostEnd, IsAnswered, IsAskedAt}
 use Rattle.gb_invariants.proofs.HostChanges.{IsLast, Occasion, TurnLaw, acts_by, at_event}
 use Rattle.gb_invariants.proofs.HostChanges.{at_unsent, changes-ask, end_of, host_after}
-use Rattle.gb_invariants.proofs.HostChanges.{step_behind, to_connect, to_disconnect, to_enumerate}
-use Rattle.gb_invariants.proofs.HostChanges.{to_go_on}
+use Rattle.gb_invariants.proofs.HostChanges.{step_behind, to_close, to_connect, to_disconnect}
+use Rattle.gb_invariants.proofs.HostChanges.{to_enumerate, to_go_on}
 use Rattle.gb_invariants.proofs.{Awaiting.none-some, Awaiting.not-both, Found.in-ordered}
 use Rattle.gb_invariants.proofs.{Lists.in-without, OverTurns.over-turn, OverTurns.over-unsent}
 use Rattle.gb_laws.proofs.AskedWaits.{AsksIn, WaitsFewer, asked-alone, asks-behind, is_power_step}
@@ -123,6 +123,7 @@ asks-calm i Calm e h calm q j at power = by (asked-why e h q j)
     by (to_enumerate k f is) = inl (ap (λ (x : Purpose). x.step) is)
     by (to_connect k c f is) = none _ is refl
     by (to_disconnect k c l f found is) = none _ is refl
+    by (to_close d l why found is) = none _ is refl
     by (to_go_on last step answered next is) =
         inr (calm last answered (ap (λ (x : Purpose). x.intf) (sym is) ∙ at)
         (power-behind last.step (ap (holds_of is_power_step) next

@@ -31,6 +31,7 @@ use Rattle.gb_laws.proofs.Points.{holds, injects, names, replies, takes, takes_h
 use Rattle.gb_laws.proofs.{Awaited.awaited-rest, DeliveredHands.answers-open, Naming.made-named}
 use Rattle.gb_laws.proofs.{Places.module-far, Places.place-is, Runs.HoldsByMoments, Runs.throughout}
 use Rattle.gb_laws.proofs.{Steps.over-step}
+use Rattle.gb_laws.proofs.DrainingKept.{draining-kept}
 
 -- ---- each change
 
@@ -38,7 +39,7 @@ pub basis-kept : {m : Moment} (a : Point) (x : Change m a) → Basis a → Basis
 basis-kept a (asks d c label free live drawn who) h =
     free-basis free (sent-keeps (map loose_held a.state.held) d label c a.state.bus live drawn
     (free-bus free h)) (names-remain a.state.names a.state.bus (sent d label a.state.bus)
-    (sent-remains d label a.state.bus) h.names)
+    (sent-remains d label a.state.bus) h.names) h.drains
 basis-kept a (names name d c label free live drawn host) h =
     free-basis free (sent-keeps (map loose_held a.state.held) d label c a.state.bus live drawn
     (free-bus free h))
@@ -46,16 +47,19 @@ basis-kept a (names name d c label free live drawn host) h =
     a.state.names ((name, next_number a.state.bus) ∷ [])
     (names-remain a.state.names a.state.bus (sent d label a.state.bus)
     (sent-remains d label a.state.bus) h.names) (ap is_some (sent-new d label a.state.bus), tt))
+    h.drains
 basis-kept a (binds x y n is) h = record {
   bus = h.bus;
   names = each-append (λ (p : Name × ℕ). is_some (request_of p.1 a.state.bus) ≡ true) a.state.names
       ((y, n) ∷ []) h.names (made-named x a.state.names n a.state.bus h.names is, tt);
+  drains = h.drains;
   hand = h.hand;
 }
 basis-kept a (frees name) h = record {
   bus = h.bus;
   names = each-filter (λ (p : Name × ℕ). is_some (request_of p.1 a.state.bus) ≡ true) _
       a.state.names h.names;
+  drains = h.drains;
   hand = h.hand;
 }
 basis-kept {m} a (takes at p item free start is named front) h =
@@ -64,6 +68,7 @@ basis-kept {m} a (takes at p item free start is named front) h =
       bus = popped-keeps (map loose_held a.state.held) p.side item p.connection a.state.bus live
           front (free-bus free h);
       names = h.names;
+      drains = h.drains;
       hand = λ x e. subst (λ (y : Hand). IsStill y.connection
           (popped p.connection.number p.side a.state.bus))
           (same-some (record { connection = p.connection; side = p.side; item = item }) x e)
@@ -81,6 +86,7 @@ basis-kept {m} a (takes_held i c place_number p x free start is at held) h =
           (record { connection = p.connection.number; side = p.side; item = x.item }) there
           (same on far)) (free-bus free h);
       names = h.names;
+      drains = h.drains;
       hand = λ y e. subst (λ (z : Hand). IsStill z.connection a.state.bus)
           (same-some (record { connection = p.connection; side = p.side; item = x.item }) y e)
           (record {
@@ -96,17 +102,18 @@ basis-kept {m} a (takes_held i c place_number p x free start is at held) h =
 basis-kept a drops h = by a.hand refl
   where
     by : (o : Option Hand) → a.hand ≡ o → Basis (record a { hand = None })
-    by None e = free-basis refl (free-bus e h) h.names
-    by (Some x) e = free-basis refl (keeps-fewer _ (fewer-tail _) (held-bus a x e h)) h.names
+    by None e = free-basis refl (free-bus e h) h.names h.drains
+    by (Some x) e =
+        free-basis refl (keeps-fewer _ (fewer-tail _) (held-bus a x e h)) h.names h.drains
 basis-kept a (holds x is far) h =
     free-basis refl (keeps-fewer _
     (fewer-held (record { connection = x.connection.number; side = x.side; item = x.item })
     (record { connection = x.connection.number; item = x.item }) a.state.held
     (taken-is x.connection.number x.connection.number x.side x.item refl far)) (held-bus a x is h))
-    h.names
+    h.names h.drains
 basis-kept a (replies x q r is made twoway) h =
     free-basis refl (replied-fits x.connection.number
-    x.side x.item q r (held-bus a x is h) made twoway) h.names
+    x.side x.item q r (held-bus a x is h) made twoway) h.names h.drains
 basis-kept a (answers x n result payload is says which) h =
     let fits = held-bus a x is h in
     let f = fewer-tail (loose_of x) in
@@ -114,42 +121,45 @@ basis-kept a (answers x n result payload is says which) h =
     (map loose_held a.state.held) n
     (answered result payload) a.state.bus (answers-open x n which) f.within
     (λ k. let less = f.counts (is_item_of k) in omega (arith, less))
-    (answers-none (map loose_held a.state.held) x n fits (h.hand x is) which) fits) h.names
+    (answers-none (map loose_held a.state.held) x n fits (h.hand x is) which) fits) h.names h.drains
 basis-kept a (forgets x n is which) h =
     let fits = held-bus a x is h in
     let f = fewer-tail (loose_of x) in
     free-basis refl (forgotten-keeps (loose_of x ∷ map loose_held a.state.held)
     (map loose_held a.state.held) n
     a.state.bus f.within (λ k. let less = f.counts (is_item_of k) in omega (arith, less))
-    (forgets-none (map loose_held a.state.held) x n fits (h.hand x is) which) fits) h.names
+    (forgets-none (map loose_held a.state.held) x n fits (h.hand x is) which) fits) h.names h.drains
 basis-kept a (gives_up n how free unended cause) h =
     free-basis free (gave_up-keeps (map loose_held a.state.held) n how a.state.bus unended
-    (free-bus free h)) h.names
+    (free-bus free h)) h.names h.drains
 basis-kept a (wires k free untouched live powered) h =
     free-basis free (wired-keeps (map loose_held a.state.held) k a.state.bus (free-bus free h))
-    h.names
+    h.names h.drains
 basis-kept a (unwires k free before live) h =
     let f = fewer-without k a.state.held in
     free-basis free (unwired-keeps (map loose_held a.state.held)
     (map loose_held (without (λ x. x.connection == k) a.state.held)) k
     a.state.bus f.within (without-none k a.state.held)
     (λ n. let less = f.counts (is_item_of n) in omega (arith, less)) (free-bus free h)) h.names
+    h.drains
 basis-kept a (injects i c p bytes free named) h =
     free-basis free (injected-keeps (map loose_held a.state.held) p.connection.number bytes
-    a.state.bus (free-bus free h)) h.names
+    a.state.bus (free-bus free h)) h.names h.drains
 basis-kept a (acts_shut k rest free is cause) h =
     free-basis free (shut-keeps (map loose_held a.state.held) k a.state.bus (free-bus free h))
-    h.names
+    h.names h.drains
 basis-kept a (acts_left k rest free untouched is) h =
     free-basis free (detached-keeps (map loose_held a.state.held) k a.state.bus
-    (free-bus free h)) h.names
-basis-kept a (acts_opened w q rest free is) h =
+    (free-bus free h)) h.names h.drains
+basis-kept {m} a (acts_opened w q rest free is) h =
     free-basis free (attached-keeps (map loose_held a.state.held) a.state.bus w.ap w.intf w.cport
     w.protocol (free-bus free h)) h.names
-basis-kept a (acts_asked q n rest is) h =
-    let r = awaited-rest q.purpose n in basis-same a _ refl r.bus r.held r.names h
-basis-kept a _ h =
-    basis-same a _ refl refl refl refl h
+    (draining-kept {m = m} a (acts_opened w q rest free is) h.drains)
+basis-kept {m} a (acts_asked q n rest is) h =
+    let r = awaited-rest q.purpose n in basis-same a _ refl r.bus r.held r.names
+    (draining-kept {m = m} a (acts_asked q n rest is) h.drains) h
+basis-kept a x h =
+    basis-same a _ refl refl refl refl (draining-kept a x h.drains) h
 
 -- The basis as a law of points.
 abbrev pub basis : (m : Moment) → Law m
@@ -162,7 +172,8 @@ Based told s = Basis (resting told s)
 -- it doesn't matter what became of wires
 pub rested : (told : List Entry) (s : State) (w : Wires)
     → Basis (record (resting told s) { wires = w }) → Based told s
-rested told s w h = record { bus = h.bus; names = h.names; hand = h.hand }
+rested told s w h =
+    record { bus = h.bus; names = h.names; drains = h.drains; hand = h.hand }
 
 -- nothing was made yet
 pub none-made : (n : ℕ) (r : Request) → nth n [] ≡ Some r → ⊥
@@ -208,7 +219,7 @@ bus-first = record {
 
 -- The basis holds first.
 pub basis-first : Based [] first_state
-basis-first = record { bus = bus-first; names = tt; hand = λ h e. absurd cc }
+basis-first = record { bus = bus-first; names = tt; drains = tt; hand = λ h e. absurd cc }
 
 -- The basis holds throughout.
 pub basis-throughout : HoldsByMoments Based

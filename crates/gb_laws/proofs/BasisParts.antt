@@ -27,6 +27,7 @@ use Rattle.gb_invariants.specs.Facts.{BusFits, Loose}
 use Rattle.gb_laws.proofs.PointParts.{Basis, Hand, IsStill, Point, loose, loose_hand, loose_held}
 use Rattle.gb_laws.proofs.Points.{Answers, Forgets, by_label, by_number}
 use Rattle.gb_laws.proofs.Loosening.{Fewer, fewer-tail}
+use Rattle.gb_laws.proofs.Draining.{FirstDrains}
 
 -- ---- names
 
@@ -53,8 +54,9 @@ sent-remains d label b n h = by (request_of n b) refl h
 
 -- where the bus, what is held, the names and what is being handled stay
 pub basis-same : (a after : Point) → after.hand ≡ a.hand → after.state.bus ≡ a.state.bus
-    → after.state.held ≡ a.state.held → after.state.names ≡ a.state.names → Basis a → Basis after
-basis-same a after hand bus held named_same h = record {
+    → after.state.held ≡ a.state.held → after.state.names ≡ a.state.names
+    → FirstDrains after.state.host.links → Basis a → Basis after
+basis-same a after hand bus held named_same drains h = record {
   bus = subst (λ l. BusFits l after.state.bus)
       (ap (λ o. loose_hand o (map loose_held a.state.held)) (sym hand)
       ∙ ap (λ hs. loose_hand after.hand (map loose_held hs)) (sym held))
@@ -63,6 +65,7 @@ basis-same a after hand bus held named_same h = record {
       (sym named_same)
       (subst (λ b. Each (λ (p : Name × ℕ). is_some (request_of p.1 b) ≡ true) a.state.names)
       (sym bus) h.names);
+  drains = drains;
   hand = λ x e. subst (IsStill x.connection) (sym bus) (h.hand x (sym hand ∙ e));
 }
 
@@ -73,11 +76,12 @@ free-bus {a} free h =
     subst (λ o. BusFits (loose_hand o (map loose_held a.state.held)) a.state.bus) free h.bus
 
 pub free-basis : {a : Point} → a.hand ≡ None → BusFits (map loose_held a.state.held) a.state.bus
-    → NameRequests a.state → Basis a
-free-basis {a} free fits made = record {
+    → NameRequests a.state → FirstDrains a.state.host.links → Basis a
+free-basis {a} free fits made drains = record {
   bus = subst (λ o. BusFits (loose_hand o (map loose_held a.state.held)) a.state.bus) (sym free)
       fits;
   names = made;
+  drains = drains;
   hand = λ x e. absurd (none-some (sym free ∙ e));
 }
 

@@ -1,6 +1,6 @@
 -- Each end by cancelling, timeout or disconnection has its cause at its moment.
-use Rattle.std.proofs.Common.{List, None, Some, ap, append-nil, append_assoc, false, map, refl}
-use Rattle.std.proofs.Common.{subst, sym, true, ℕ, [], ◌++◌, ◌∙◌, ◌∷◌, ◌≡◌, ◌≢◌, ◌≤◌}
+use Rattle.std.proofs.Common.{List, None, Some, ap, append-nil, append_assoc, false, inl, inr, map}
+use Rattle.std.proofs.Common.{refl, subst, sym, true, ℕ, [], ◌++◌, ◌∙◌, ◌∷◌, ◌≡◌, ◌≢◌, ◌≤◌, ◌⊎◌}
 use Rattle.std.specs.List.{find}
 use Rattle.gb_base.specs.declared.bridge.Reading.TheVariants as reading
 use Rattle.gb_base.specs.declared.end.Side.{Side}
@@ -14,6 +14,7 @@ use Rattle.gb_machine.specs.Bus.{Connection, Request, connection_of, has_number}
 use Rattle.gb_machine.specs.Runs.{IsMoment, Moment, after, told_at}
 use Rattle.gb_machine.specs.{LawsEnds.HasItsCause, LawsEnds.IsDisconnection, Members.Each}
 use Rattle.gb_machine.specs.{Members.IsIn, Requests.open_on, Wires.disconnected_told}
+use Rattle.gb_machine.specs.LawsEnds.{IsDisconnect, IsRemovalOf}
 use Rattle.gb_invariants.proofs.Lists.{each-append, each-in, each-weaker}
 use Rattle.gb_invariants.proofs.{Awaiting.same-some, Found.changed-in, Numbers.found-by_number}
 use Rattle.gb_invariants.proofs.{Selves.module-no-svc}
@@ -130,11 +131,18 @@ so-far-kept m start a (acts_told e rest is quiet) basis links h =
     so-far (acts_told e rest is quiet) (e ∷ []) refl
     (quiet-fine m (changed m a (acts_told e rest is quiet)) e quiet, tt) h
 so-far-kept m start a (acts_shut k rest free is cause) basis links h =
-    let why = shut-cause m k start cause in
     so-far (acts_shut k rest free is cause)
     (map disconnected_told (open_on k side.Ap a.state.bus)) refl
-    (ended-fine m (changed m a (acts_shut k rest free is cause)) side.Ap k a.state.bus
-    (λ n r made. made) why.0 why.1) h
+    (by (shut-cause m k a.state.bus start cause)) h
+  where
+    after : Point
+    after = changed m a (acts_shut k rest free is cause)
+
+    by : ((k ≢ 1) × (IsDisconnect m k ⊎ IsRemovalOf m k)) ⊎ (open_on k side.Ap a.state.bus ≡ [])
+        → Each (IsFine m after) (map disconnected_told (open_on k side.Ap a.state.bus))
+    by (inl why) = ended-fine m after side.Ap k a.state.bus (λ n r made. made) why.0 why.1
+    by (inr none) =
+        subst (λ ns. Each (IsFine m after) (map disconnected_told ns)) (sym none) tt
 so-far-kept m start a (acts_opened w q rest free is) basis links h =
     so-far (acts_opened w q rest free is) (_ ∷ []) refl (tt, tt) h
 so-far-kept m start a (acts_failed q rest is quiet) basis links h =

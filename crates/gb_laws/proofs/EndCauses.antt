@@ -16,7 +16,7 @@ use Rattle.gb_machine.specs.{Wires.disconnected_told}
 use Rattle.gb_invariants.proofs.{Awaiting.is_of-is, Lists.found-in, Lists.in-filter}
 use Rattle.gb_invariants.proofs.{Outcomes.in-open_requests, Outcomes.same-number}
 use Rattle.gb_laws.proofs.PointParts.{AreQuiet, IsGivenUpFor, IsShutFor, Point, Unwired, asked_told}
-use Rattle.gb_laws.proofs.PointParts.{disconnected, is_quiet, removed, sent_told}
+use Rattle.gb_laws.proofs.PointParts.{disconnected, idle, is_quiet, removed, sent_told}
 use Rattle.gb_laws.proofs.{LinkLists.found-link, LinkRuns.LinkedTo, MarkNotices.removal-handled}
 use Rattle.gb_laws.proofs.{Onward.IsOnward}
 
@@ -137,16 +137,17 @@ abbrev pub Start : Moment → Type 0
 Start m = LinkedTo m.told m.before
 
 -- the application processor's side of a connection to a module is closed by a disconnect or a
--- removal
-pub shut-cause : (m : Moment) (k : ℕ) → Start m → IsShutFor m k → (k ≢ 1)
-    × (IsDisconnect m k ⊎ IsRemovalOf m k)
-shut-cause m k start (disconnected i c l is at own) = (
+-- removal, or nothing is open on it
+pub shut-cause : (m : Moment) (k : ℕ) (b : Bus) → Start m → IsShutFor m k b
+    → ((k ≢ 1) × (IsDisconnect m k ⊎ IsRemovalOf m k)) ⊎ (open_on k side.Ap b ≡ [])
+shut-cause m k b start (idle none) = inr none
+shut-cause m k b start (disconnected i c l is at own) = inl (
   λ e. let two = (start.1.host.links.numbered l (found-in _ m.before.host.links l at).0).from_two in
       absurd (omega (arith, two, own, e)),
   inl (i, c, l, is, at, own),
 )
-shut-cause m k start (removed i l noticed live own) =
-    let f = in-filter (λ (x : Link). x.intf == i) m.before.host.links l live in (
+shut-cause m k b start (removed i l noticed live own) =
+    let f = in-filter (λ (x : Link). x.intf == i) m.before.host.links l live in inl (
       λ e. let two = (start.1.host.links.numbered l f.0).from_two in absurd
           (omega (arith, two, own, e)),
       inr (

@@ -19,7 +19,7 @@ use Rattle.gb_machine.specs.{Failures.unsent, HostServing.host_serves, HostServi
 use Rattle.gb_machine.specs.{HostTurns.host_turn, LineActions.spent, Lists.holds_of, Members.IsIn}
 use Rattle.gb_machine.specs.{Refusals.has_no_label, Runs.Moment, SequenceSteps.is_enumeration}
 use Rattle.gb_machine.specs.{State.State, Waits.awaited, Waits.awaits, Wiring.next_connection}
-use Rattle.gb_invariants.proofs.HostChanges.{HostChange, IsAskedAt, at_event, to_connect}
+use Rattle.gb_invariants.proofs.HostChanges.{HostChange, IsAskedAt, at_event, to_close, to_connect}
 use Rattle.gb_invariants.proofs.HostChanges.{to_disconnect, to_enumerate, to_go_on}
 use Rattle.gb_invariants.proofs.Lists.{found-in, in-pushed, in-without}
 use Rattle.gb_invariants.proofs.{Awaiting.not-both, Outcomes.is-same, Outcomes.same-number}
@@ -146,6 +146,13 @@ module _ (m : Moment) (absent : InsertsAbsent m) (i : ℕ) (a : Point) (links : 
                 holds_of (λ k. has_no_label k side.Ap m.before) (control_of j m.before.host),
                 why.NoLabel,
               ) ∷ []) (free m.before (event.Disconnect j c) cause'.2))
+      by (to_close d l why e is) =
+          let live =
+          (found-in (λ x. x.connection == why.number) a.state.host.links d why.found).0 in
+          let found = found-in (is_link d.intf d.cport) a.state.host.links l e in
+          let same = link-is d.intf d.cport l found.1 in
+          h.links l found.0 (same.0 ∙ where-asked is) (λ zero.
+          links.host.links.draining d live why.drains (sym same.1 ∙ zero))
       by (to_go_on last step r next is) = behind r.number last r.awaited
           (same-kind last.step next ∙ ap (λ (x : Purpose). is_enumeration x.step) (sym is) ∙ s)
           (where-asked is)

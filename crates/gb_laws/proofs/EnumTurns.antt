@@ -10,8 +10,8 @@ use Rattle.gb_machine.specs.{Host.Host, Host.is_intf, HostTurns.host_turn}
 use Rattle.gb_machine.specs.{SequenceSteps.is_enumeration, Sequences.enumerated}
 use Rattle.gb_machine.specs.{Waits.awaits_nothing}
 use Rattle.gb_invariants.proofs.HostChanges.{HostEnd, IsAnswered, IsAskedAt, IsLast, at_event}
-use Rattle.gb_invariants.proofs.HostChanges.{end_of, to_connect, to_disconnect, to_enumerate}
-use Rattle.gb_invariants.proofs.HostChanges.{to_go_on}
+use Rattle.gb_invariants.proofs.HostChanges.{end_of, to_close, to_connect, to_disconnect}
+use Rattle.gb_invariants.proofs.HostChanges.{to_enumerate, to_go_on}
 use Rattle.gb_invariants.proofs.{Awaiting.not-both, Lists.in-at_first, Outcomes.same-number}
 use Rattle.gb_invariants.proofs.{OverTurns.over-turn}
 use Rattle.gb_laws.proofs.Asked.{asked-why, change-asks, same-kind}
@@ -79,6 +79,9 @@ module _ (i : ℕ) (May : SequenceStep → Type 0) (Calm : Type 0) (e : HostEven
       by q at s (to_connect j c f is) = absurd (not-both (is_enumeration q.purpose.step) s
           (ap (λ (x : Purpose). is_enumeration x.step) is))
       by q at s (to_disconnect j c l f found is) =
+          absurd (not-both (is_enumeration q.purpose.step) s
+          (ap (λ (x : Purpose). is_enumeration x.step) is))
+      by q at s (to_close d l why found is) =
           absurd (not-both (is_enumeration q.purpose.step) s
           (ap (λ (x : Purpose). is_enumeration x.step) is))
       by q at s (to_go_on last step answered next is) =

@@ -6,7 +6,6 @@ use Rattle.gb_base.specs.declared.entry.ConnState.{ConnState}
 use Rattle.gb_base.specs.declared.entry.Entry.TheVariants as entry
 use Rattle.gb_base.specs.declared.event.Event.{Event}
 use Rattle.gb_machine.specs.Bus.{Request, is_open, request_of}
-use Rattle.gb_machine.specs.Headline.{HeadlineHolds}
 use Rattle.gb_machine.specs.LawsBus.{EndpointsDiffer, HaveAwaited, HaveNamed, HaveOneItem}
 use Rattle.gb_machine.specs.LawsBus.{HaveOwnEnds, HaveOwnLabels, LabelsDiffer, NamesNameRequests}
 use Rattle.gb_machine.specs.LawsBus.{OneItemANumber, RepliesAreAwaited}
@@ -22,18 +21,18 @@ use Rattle.gb_machine.specs.LawsSvc.{LeavesNothing, OneEnumerationRequestThenRes
 use Rattle.gb_machine.specs.LawsSvc.{OneThenRestarts, QuietBeforeRemoval, RemovalLeavesNothingWired}
 use Rattle.gb_machine.specs.LawsSvc.{StaleIsLow, StaleRequestsMeetLowLevel, WiredMeansRouted}
 use Rattle.gb_machine.specs.Runs.{AreValid, HoldsAtEachMoment, HoldsThroughout, state_by, told_by}
-use Rattle.gb_machine.specs.{Host.interface_of, Laws.FactsOfRuns, Laws.LawsOfRuns, Members.IsIn}
+use Rattle.gb_machine.specs.{Host.interface_of, Members.IsIn}
 use Rattle.gb_laws.proofs.AllRuns.{at-all, of-all, of-state, of-untold}
 use Rattle.gb_laws.proofs.FarOpenRuns.{module-open_by_moments, module-seen, none-open_at_moments}
 use Rattle.gb_laws.proofs.FarOpenRuns.{unwired-open_by_moments}
 use Rattle.gb_laws.proofs.Happened.{ends-seen, items-seen, told-seen}
-use Rattle.gb_laws.proofs.Single.{counts-add-up, labels-by_moments, names-by_moments}
+use Rattle.gb_laws.proofs.Single.{labels-by_moments, names-by_moments}
 use Rattle.gb_laws.proofs.Single.{one-item_by_moments}
 use Rattle.gb_laws.proofs.OpeningTold.{opened-by_moments, opened-seen}
 use Rattle.gb_laws.proofs.{Absent.between-at_moments, Absent.unconnected-by_moments}
 use Rattle.gb_laws.proofs.{Answering.answered-at_moments, AwaitsNewest.awaits-newest_by_moments}
 use Rattle.gb_laws.proofs.{AwaitsOwn.awaits-own_by_moments, BehindRuns.none-behind_by_moments}
-use Rattle.gb_laws.proofs.{Causes.causes-at_moments, CreditsRuns.credits-add_up}
+use Rattle.gb_laws.proofs.{Causes.causes-at_moments, ClosingTold.closing-none_open}
 use Rattle.gb_laws.proofs.{Ended.ends-told_by_moments, Endpoints.endpoints-by_moments}
 use Rattle.gb_laws.proofs.{EnumRuns.restarts-by_moments, EnumRuns.served-by_moments}
 use Rattle.gb_laws.proofs.{EnumSettledRuns.asked-none_by_moments}
@@ -43,10 +42,11 @@ use Rattle.gb_laws.proofs.{QuietBefore.quiet-before_moments, QuietRuns.finds-at_
 use Rattle.gb_laws.proofs.{QuietRuns.leaves-by_moments, RememberedLive.remembered-while_live}
 use Rattle.gb_laws.proofs.{Remembering.none-forgotten_at, Remembering.remembered-for_one}
 use Rattle.gb_laws.proofs.{Replies.replies-by_moments, Replying.ends-once_by_moments}
-use Rattle.gb_laws.proofs.{Routed.routed-by_moments, Settling.settles-are_deliveries}
+use Rattle.gb_laws.proofs.{Routed.routed-by_moments}
 use Rattle.gb_laws.proofs.{StaleRuns.stale-low_by_moments, ToldRuns.absent-open_by_moments}
 use Rattle.gb_laws.proofs.{ToldRuns.absent-seen, WiredOnceRuns.own-request_at_moments}
 use Rattle.gb_laws.proofs.{WiredOnceRuns.wired-once_by_moments, WiredRemembered.wired-remembered}
+use Rattle.gb_machine.specs.LawsDraining.{ClosingLeavesNoneOpen}
 use Rattle.gb_laws.specs.OwnSide.{AbsentHasNoOpenOfAp, AbsentHasNoOpenOfModule, FindsNoneOpen}
 use Rattle.gb_laws.specs.OwnSide.{UnwiredHasNoOpenOfFar}
 use Rattle.gb_laws.specs.{OwnWaits.AwaitsOwnRequest, OwnWaits.ServedLeavesNone}
@@ -67,6 +67,11 @@ answered-by_its_responder = at-all HadItsReply answered-at_moments
 -- A request is cancelled, times out or is disconnected only where that came.
 pub every-end_has_its_cause : EveryEndHasItsCause
 every-end_has_its_cause = at-all HasItsCause causes-at_moments
+
+-- Where it is told that a connection is closing, no request of the application processor is open on
+-- it.
+pub closing-none : HoldsAtEachMoment ClosingLeavesNoneOpen
+closing-none = at-all ClosingLeavesNoneOpen closing-none_open
 
 -- Identifiers that are in use on a side of a connection differ.
 pub labels-differ : LabelsDiffer
@@ -235,53 +240,3 @@ then-restarts = of-all OneThenRestarts (of-untold OneThenRestarts
       restarts = restarts-by_moments es are;
       last = none-behind_by_moments es are;
     })
-
--- ---- together
-
-pub laws-together : LawsOfRuns
-laws-together = record {
-  settles = settles-are_deliveries;
-  once = ends-at-most-once;
-  told = ends-are-told;
-  answered = answered-by_its_responder;
-  caused = every-end_has_its_cause;
-  left = nothing-left;
-  own = no-foreign;
-  wired = wired-at_most_once;
-  credits = credits-add_up;
-  counts = counts-add-up;
-}
-
-pub facts-together : FactsOfRuns
-facts-together = record {
-  names = names-name;
-  labels = labels-differ;
-  items = one-item;
-  replies = replies-are_awaited;
-  ends = endpoints-differ;
-  routed = wired-routed;
-  removal = nothing-wired;
-  restarts = then-restarts;
-  quiet = quiet-removal;
-  awaited = awaited-last;
-  stale = stale-unrouted;
-}
-
--- the headline, of every run
-pub headline-holds : HeadlineHolds
-headline-holds es valid = record {
-  answered = answered-by_its_responder es valid;
-  once = ends-at-most-once es valid;
-  caused = every-end_has_its_cause es valid;
-  removed = record {
-    absent = absent-after.1 es valid;
-    unconnected = absent-after.0 es valid;
-    opened = opening-told es valid;
-    closed = nothing-left.closed es valid;
-    live = open-live es valid;
-  };
-  own = record {
-    items = no-foreign.0 es valid;
-    takes = no-foreign.1 es valid;
-  };
-}

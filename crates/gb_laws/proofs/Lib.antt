@@ -21,6 +21,7 @@ pub mod Unheld
 pub mod StepActions
 pub mod StepActLaws
 pub mod StepActs
+pub mod StepIdles
 pub mod StepServes
 pub mod StepSvcServes
 pub mod StepMessages
@@ -42,10 +43,13 @@ pub mod Settles
 pub mod Settling
 pub mod AllRuns
 pub mod Midway
+pub mod Noticing
 pub mod Reached
 -- facts on links: what the application processor knows of its connections
 pub mod Links
 pub mod LinkLists
+pub mod Draining
+pub mod DrainingKept
 pub mod LinkFrom
 pub mod LinkHosts
 pub mod LinkFails
@@ -158,6 +162,8 @@ pub mod OpenRuns
 pub mod OpeningTold
 pub mod ToldLinks
 pub mod ToldRuns
+pub mod LedByShut
+pub mod ClosingTold
 pub mod FarItems
 pub mod FarOpen
 pub mod FarOpenKept
@@ -195,7 +201,10 @@ pub mod CreditsServed
 pub mod CreditsDelivered
 pub mod CreditsRuns
 pub mod EveryRun
+pub mod Together
 -- what tickets need: requests stay, end as told, and are those that were asked
 pub mod Tickets
 pub mod TicketEnds
 pub mod TicketLines
+-- where a connection closes uncut, requests came to an end of their own
+pub mod DrainedEnds

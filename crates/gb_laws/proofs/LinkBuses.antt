@@ -17,9 +17,9 @@ use Rattle.gb_invariants.proofs.Lists.{each-from, found-in, in-at_first, in-fron
 use Rattle.gb_invariants.proofs.Lists.{in-without, two-pushed}
 use Rattle.gb_invariants.proofs.{Awaiting.none-some, Awaiting.not-both, Outcomes.is-same}
 use Rattle.gb_invariants.proofs.{Outcomes.same-number}
-use Rattle.gb_laws.proofs.Links.{ArePending, HostFits, IsDue, IsFree, IsKnown, IsLinkBefore}
-use Rattle.gb_laws.proofs.Links.{IsMaking, IsNumbered, IsPresent, IsWaiting, LinksFit, connection}
-use Rattle.gb_laws.proofs.Links.{control, leaving, linked, supervisory}
+use Rattle.gb_laws.proofs.Links.{ArePending, DrainsPlain, HostFits, IsDue, IsFree, IsKnown}
+use Rattle.gb_laws.proofs.Links.{IsLinkBefore, IsMaking, IsNumbered, IsPresent, IsWaiting, LinksFit}
+use Rattle.gb_laws.proofs.Links.{connection, control, leaving, linked, supervisory}
 use Rattle.gb_laws.proofs.LinkLists.{is-link, link-is}
 pub use Rattle.gb_laws.proofs.LinkFrom.{Linked}
 
@@ -54,6 +54,7 @@ linked-left b h k rest f = record {
       waiting = f.host.links.waiting;
       deaf = λ l c i live. f.host.links.deaf l c i
           (in-without (has_number k) b.connections c live).0;
+      draining = f.host.links.draining;
     };
     interfaces = f.host.interfaces;
     differ = f.host.differ;
@@ -88,6 +89,7 @@ linked-shut b after h k rest made same f = record {
           ∙ same-number w.0.number k w.2))
           (in-at_first (has_number k) (λ (x : Connection). record x { shut = true }) b.connections c
           (subst (λ cs. IsIn c cs) same live));
+      draining = f.host.links.draining;
     };
     interfaces = f.host.interfaces;
     differ = f.host.differ;
@@ -169,6 +171,8 @@ links-more b h w q f free made range = record {
       (λ e. absurd (not-both c.shut shut (ap (λ (x : Connection). x.shut) e)))
       (in-pushed c b.connections (new_connection (next_connection b) w.ap
       (end.Module w.intf w.cport) w.protocol) live);
+  draining = λ l i. ⊎_elim (λ o. f.draining l o)
+      (λ e. subst DrainsPlain (sym e) (λ k. absurd cc)) (in-pushed l h.links new i);
 }
   where
     new : Link
@@ -207,13 +211,26 @@ host-more b h w q f free made range = record {
         let at = link-is x.intf 0 (new_link (next_connection b) w) is in
         absurd (none-some (sym (free.idle at.1 x i (sym at.0)) ∙ e))
 
+-- each live connection has a number that was given
+given-number : {b : Bus} {h : Host} (w : Making) (q : Asking) (rest : List Act)
+    → Linked b h (Act.Open w q ∷ rest) → (c : Connection) → IsIn c b.connections
+    → c.number ≤ b.made
+given-number {b} {h} w q rest f c live =
+    by (subst (λ r. IsKnown c h.links (Act.Open w q ∷ r)) f.pending.0.1 (f.known c live))
+  where
+    by : IsKnown c h.links (Act.Open w q ∷ []) → c.number ≤ b.made
+    by (supervisory one) = let low = f.made in omega (arith, low, one)
+    by (linked l i of) =
+        let given = (f.host.links.numbered l i).given in omega (arith, given, of.number)
+    by (leaving (inl e)) = absurd cc
+    by (leaving (inr i)) = absurd i
+
 -- A connection is made, and its request is pending.
 pub linked-opened : {b : Bus} {h : Host} (w : Making) (q : Asking) (rest : List Act)
-    → ((c : Connection) → IsIn c b.connections → c.number ≤ b.made)
     → Linked b h (Act.Open w q ∷ rest) → Linked (attached w.ap w.intf w.cport w.protocol b)
     (with_new_link (next_connection b) w.ap w.intf w.cport w.protocol h) (Act.Ask q ∷ rest)
-linked-opened {b} {h} w q rest range f = record {
-  host = host-more b h w q f.host free f.made range;
+linked-opened {b} {h} w q rest f = record {
+  host = host-more b h w q f.host free f.made (given-number w q rest f);
   pending = (
     (
       due q.purpose.step free.step,

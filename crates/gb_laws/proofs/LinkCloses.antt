@@ -15,8 +15,8 @@ use Rattle.gb_machine.specs.Turns.{Act, HostEvent, Turn}
 use Rattle.gb_machine.specs.{Bus.Bus, Failures.unsent, Members.IsIn, SequenceSteps.is_enumeration}
 use Rattle.gb_machine.specs.{Sequences.enumerated, Waits.waiting}
 use Rattle.gb_invariants.proofs.HostChanges.{Completes, Finds, HostChange, HostEnd, IsFor, IsLast}
-use Rattle.gb_invariants.proofs.HostChanges.{Occasion, TurnLaw, acts_by, at_event, at_unsent}
-use Rattle.gb_invariants.proofs.HostChanges.{end_of, host_after}
+use Rattle.gb_invariants.proofs.HostChanges.{MayTurnTo, Occasion, TurnLaw, acts_by, at_event}
+use Rattle.gb_invariants.proofs.HostChanges.{at_unsent, by_disconnect, by_idle, end_of, host_after}
 use Rattle.gb_invariants.proofs.Lists.{found-in, in-behind, in-front, in-without}
 use Rattle.gb_invariants.proofs.{Awaiting.same-some, Found.in-first, OverTurns.over-turn}
 use Rattle.gb_invariants.proofs.{OverTurns.over-unsent}
@@ -100,9 +100,9 @@ abbrev ClosesNone : HostChange → Type 0
 ClosesNone (HostChange.closes i c l) = ⊥
 ClosesNone _ = Unit {0}
 
-not-closing : (to : ConnState) → (to ≡ state.Open) ⊎ (to ≡ state.Failed) → to ≡ state.Closing → ⊥
-not-closing to (inl e) f = absurd cc
-not-closing to (inr e) f = absurd cc
+not-closing : (to : ConnState) → MayTurnTo to → to ≡ state.Closing → ⊥
+not-closing state.Closing may e = may
+not-closing _ may e = absurd cc
 
 change-fewer : (x : HostChange) (h : Host) → Finds h x → ClosesNone x
     → ClosesFewer h (host_after x h)
@@ -208,7 +208,8 @@ closes-turn e {h} fits =
 
 -- where a request can't be made
 none-closed : (p : Purpose) (x : HostChange) (h : Host) → IsFor (at_unsent p) h x → ClosesNone x
-none-closed p (HostChange.closes i c l) h why = absurd why
+none-closed p (HostChange.closes i c l) h (by_disconnect why) = absurd why
+none-closed p (HostChange.closes i c l) h (by_idle d why intf cport) = absurd why
 none-closed p _ h why = tt
 
 end-fewer : (p : Purpose) (x : HostEnd) (h : Host) → IsLast (at_unsent p) h x

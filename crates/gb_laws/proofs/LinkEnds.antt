@@ -156,7 +156,7 @@ resumed-link : (b : Bus) (p : Purpose) (h : Host) → HostFits b h → (l : Link
 resumed-link b p h fits l i intf cport other at = record {
   host = host-link p.intf p.cport (λ k. record k { awaits = None }) (awaits-link None)
       (λ k j f v. waits-not (record k { awaits = None }) refl)
-      (λ k j f d. record { cport = d.cport; takes = d.takes }) fits;
+      (λ k j f d. record { cport = d.cport; takes = d.takes }) (λ k j f d. d) fits;
   due = subst (λ t. IsDueBy t p.step p
       (with_link p.intf p.cport (λ k. record k { awaits = None }) h))
       (sym (step-connects p.step l.state at)) (record {

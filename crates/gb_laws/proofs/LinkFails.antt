@@ -104,7 +104,7 @@ failed-host : (b : Bus) (p : Purpose) (h : Host) → HostFits b h
 failed-host b p h fits none =
     host-link p.intf p.cport (in_state state.Failed) (state-link state.Failed)
     (λ l i f w. waits-not (in_state state.Failed l) (none l f))
-    (λ l i f d. record { cport = d.cport; takes = refl }) fits
+    (λ l i f d. record { cport = d.cport; takes = refl }) (λ l i f d e. absurd cc) fits
 
 -- What fails where a step isn't answered as it should be.
 pub fits-failed : {b : Bus} (step : SequenceStep) (p : Purpose) {h : Host} → HostFits b h

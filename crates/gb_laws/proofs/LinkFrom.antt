@@ -65,6 +65,7 @@ linked-from b h acts made from f = record {
       waiting = f.host.links.waiting;
       deaf = λ l c i live on shut. let w = from c live in
           f.host.links.deaf l w.0 i w.1 (sym w.2.number ∙ on) (sym w.2.shut ∙ shut);
+      draining = f.host.links.draining;
     };
     interfaces = f.host.interfaces;
     differ = f.host.differ;

@@ -12,9 +12,9 @@ use Rattle.gb_machine.specs.{SequenceSteps.at_step}
 use Rattle.gb_invariants.proofs.Lists.{at_first-back, filter-in, found-in, in-without, two-at_first}
 use Rattle.gb_invariants.proofs.Lists.{two-filter}
 use Rattle.gb_invariants.proofs.Found.{in-first}
-use Rattle.gb_laws.proofs.Links.{AreOther, HasNoControl, HostFits, IsDeaf, IsEnumerating}
-use Rattle.gb_laws.proofs.Links.{IsLinkBefore, IsNext, IsNumbered, IsPresent, IsResting, IsWaiting}
-use Rattle.gb_laws.proofs.Links.{LinksFit, SameLink, is_early}
+use Rattle.gb_laws.proofs.Links.{AreOther, DrainsPlain, HasNoControl, HostFits, IsDeaf}
+use Rattle.gb_laws.proofs.Links.{IsEnumerating, IsLinkBefore, IsNext, IsNumbered, IsPresent}
+use Rattle.gb_laws.proofs.Links.{IsResting, IsWaiting, LinksFit, SameLink, is_early}
 
 pub same-link : (l : Link) → SameLink l l
 same-link l = record { connection = refl; ap = refl; intf = refl; cport = refl; protocol = refl }
@@ -72,8 +72,9 @@ links-changed : (b : Bus) (ls : List Link) (i c : ℕ) (f : Link → Link)
     → ((l : Link) → SameLink l (f l))
     → ((l : Link) → IsIn l ls → find (is_link i c) ls ≡ Some l → IsWaiting l → IsWaiting (f l))
     → ((l : Link) → IsIn l ls → find (is_link i c) ls ≡ Some l → IsDeaf l → IsDeaf (f l))
-    → LinksFit b ls → LinksFit b (at_first (is_link i c) f ls)
-links-changed b ls i c f same waiting deaf h = record {
+    → ((l : Link) → IsIn l ls → find (is_link i c) ls ≡ Some l → DrainsPlain l
+    → DrainsPlain (f l)) → LinksFit b ls → LinksFit b (at_first (is_link i c) f ls)
+links-changed b ls i c f same waiting deaf draining h = record {
   rise = two-at_first IsLinkBefore (is_link i c) f ls (λ l k r. before-left l k (f l) (same l) r)
       (λ l k r. before-right l k (f k) (same k) r) h.rise;
   numbered = λ l j. ⊎_elim (λ o. h.numbered l o)
@@ -92,6 +93,9 @@ links-changed b ls i c f same waiting deaf h = record {
       (λ w. subst IsDeaf (sym w.3) (deaf w.0 w.1 w.2
       (h.deaf w.0 x w.1 live (on ∙ ap (λ (y : Link). y.connection) w.3 ∙ (same w.0).connection)
       shut))) (in-first (is_link i c) f ls l j);
+  draining = λ l j. ⊎_elim (λ o. h.draining l o)
+      (λ w. subst DrainsPlain (sym w.3) (draining w.0 w.1 w.2 (h.draining w.0 w.1)))
+      (in-first (is_link i c) f ls l j);
 }
 
 -- what of connections stays where one changes
@@ -117,9 +121,10 @@ pub host-link : {b : Bus} {h : Host} (i c : ℕ) (f : Link → Link) → ((l : L
     → ((l : Link) → IsIn l h.links → find (is_link i c) h.links ≡ Some l → IsWaiting l
     → IsWaiting (f l))
     → ((l : Link) → IsIn l h.links → find (is_link i c) h.links ≡ Some l → IsDeaf l → IsDeaf (f l))
-    → HostFits b h → HostFits b (with_link i c f h)
-host-link {b} {h} i c f same waiting deaf fits = record {
-  links = links-changed b h.links i c f same waiting deaf fits.links;
+    → ((l : Link) → IsIn l h.links → find (is_link i c) h.links ≡ Some l → DrainsPlain l
+    → DrainsPlain (f l)) → HostFits b h → HostFits b (with_link i c f h)
+host-link {b} {h} i c f same waiting deaf draining fits = record {
+  links = links-changed b h.links i c f same waiting deaf draining fits.links;
   interfaces = λ x j w e. let old = fits.interfaces x j w e in
       (old.0, λ early. none-changed x.intf h.links i c f same (old.1 early));
   differ = fits.differ;
@@ -232,6 +237,7 @@ links-without b test {ls} h = record {
   numbered = λ l i. h.numbered l (in-without test ls l i).0;
   waiting = λ l i. h.waiting l (in-without test ls l i).0;
   deaf = λ l c i. h.deaf l c (in-without test ls l i).0;
+  draining = λ l i. h.draining l (in-without test ls l i).0;
 }
 
 pub none-without : (i : ℕ) (test : Link → Bool) (ls : List Link) → HasNoControl i ls

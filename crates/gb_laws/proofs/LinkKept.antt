@@ -16,19 +16,20 @@ use Rattle.gb_machine.specs.{HostRefusals.connect_conditions, HostRefusals.disco
 use Rattle.gb_machine.specs.{HostServing.host_serves, HostTurns.host_turn}
 use Rattle.gb_machine.specs.{LineActions.spent, Lists.holds_of, Members.IsIn, Refusals.has_no_label}
 use Rattle.gb_machine.specs.{Runs.Moment, Wiring.shut_down}
-use Rattle.gb_invariants.proofs.{BusChanges.BusChange, Lists.each-in}
-use Rattle.gb_invariants.specs.Facts.{IsMade}
+use Rattle.gb_machine.specs.HostRefusals.{drain_conditions}
+use Rattle.gb_invariants.proofs.{BusChanges.BusChange}
 use Rattle.gb_laws.proofs.LinkActs.{linked-asked, linked-link, linked-served, linked-unsent}
 use Rattle.gb_laws.proofs.LinkBuses.{linked-left, linked-opened, linked-rest, linked-shut}
 use Rattle.gb_laws.proofs.LinkTurns.{fits-connects, fits-inserted, fits-removed}
 use Rattle.gb_laws.proofs.Links.{HostFits, IsFollowed, IsKnown, TurnFits, leaves, leaving, linked}
 use Rattle.gb_laws.proofs.Links.{stays, supervisory}
-use Rattle.gb_laws.proofs.PointParts.{Basis, IsCaused, IsNoticed, Point}
+use Rattle.gb_laws.proofs.PointParts.{IsCaused, IsNoticed, Point}
 use Rattle.gb_laws.proofs.Points.{Change, acts_asked, acts_failed, acts_left, acts_opened}
 use Rattle.gb_laws.proofs.Points.{acts_shut, acts_told, changed, injects, serves, spends, turns}
 use Rattle.gb_laws.proofs.{ChangeBuses.bus_change, LinkChanges.linked-after}
 use Rattle.gb_laws.proofs.{LinkClosing.fits-disconnects, LinkEnds.fits-ended, LinkFrom.Linked}
 use Rattle.gb_laws.proofs.{Places.module-far, Places.place-is}
+use Rattle.gb_laws.proofs.LinkClosing.{fits-drains, fits-idle}
 
 -- an interface whose insertion is handled at a moment is absent
 abbrev pub InsertsAbsent : Moment → Type 0
@@ -62,6 +63,10 @@ turn-fits m b (HostEvent.Disconnect i c) h absent cause fits =
       why.NoLabel,
     ) ∷ [])
     (free m.before (event.Disconnect i c) cause.2)))
+turn-fits m b (HostEvent.Drain i c) h absent cause fits =
+    fits-drains b i c h fits (subst (λ g. AreUnmet (drain_conditions i c g)) (sym cause.0)
+    (free m.before (event.Drain i c) cause.2))
+turn-fits m b (HostEvent.Idle k) h absent cause fits = fits-idle b k h fits
 turn-fits m b (HostEvent.Ended n how) h absent cause fits = fits-ended b n how h fits
 
 -- what is known of live connections behind a turn
@@ -102,9 +107,9 @@ linked-turn m {b} e {h} absent cause f =
 abbrev pub LinkedAt : Point → Type 0
 LinkedAt a = Linked a.state.bus a.state.host a.pending
 
-pub linked-kept : (m : Moment) → InsertsAbsent m → {a : Point} (x : Change m a) → Basis a
+pub linked-kept : (m : Moment) → InsertsAbsent m → {a : Point} (x : Change m a)
     → LinkedAt a → LinkedAt (changed m a x)
-linked-kept m absent {a} (injects i c p bytes free named) basis h =
+linked-kept m absent {a} (injects i c p bytes free named) h =
     linked-after (BusChange.injects p.connection.number bytes) other h
   where
     other : p.connection.number ≢ 1
@@ -117,29 +122,27 @@ linked-kept m absent {a} (injects i c p bytes free named) basis h =
             → p.connection.peer ≡ end.Svc → ⊥
         svc-at side.Far far is peer = absurd cc
         svc-at side.Ap far is peer = absurd cc
-linked-kept m absent {a} (turns e free untouched none cause) basis h =
+linked-kept m absent {a} (turns e free untouched none cause) h =
     linked-turn m e absent cause (subst (Linked a.state.bus a.state.host) none h)
-linked-kept m absent {a} (acts_told e rest is quiet) basis h =
+linked-kept m absent {a} (acts_told e rest is quiet) h =
     linked-rest a.state.bus a.state.host (Act.Tell e) rest (λ k f. absurd cc)
     (subst (Linked a.state.bus a.state.host) is h)
-linked-kept m absent {a} (acts_shut k rest free is cause) basis h =
+linked-kept m absent {a} (acts_shut k rest free is cause) h =
     linked-shut a.state.bus (shut_down k a.state.bus) a.state.host k rest refl refl
     (subst (Linked a.state.bus a.state.host) is h)
-linked-kept m absent {a} (acts_left k rest free untouched is) basis h =
+linked-kept m absent {a} (acts_left k rest free untouched is) h =
     linked-left a.state.bus a.state.host k rest (subst (Linked a.state.bus a.state.host) is h)
-linked-kept m absent {a} (acts_opened w q rest free is) basis h =
-    linked-opened w q rest
-    (λ c live. (each-in (IsMade a.state.bus) a.state.bus.connections c basis.bus.numbers.range
-    live).1) (subst (Linked a.state.bus a.state.host) is h)
-linked-kept m absent {a} (acts_asked q n rest is) basis h =
+linked-kept m absent {a} (acts_opened w q rest free is) h =
+    linked-opened w q rest (subst (Linked a.state.bus a.state.host) is h)
+linked-kept m absent {a} (acts_asked q n rest is) h =
     linked-asked q n rest a.state (subst (Linked a.state.bus a.state.host) is.0 h)
-linked-kept m absent (acts_failed q rest is quiet) basis h =
+linked-kept m absent (acts_failed q rest is quiet) h =
     linked-unsent q is h
-linked-kept m absent {a} (serves k kind payload none) basis h =
+linked-kept m absent {a} (serves k kind payload none) h =
     subst (Linked a.state.bus (host_serves k kind payload a.state.host).host) (sym none.0)
     (linked-served k kind payload (subst (Linked a.state.bus a.state.host) none.0 h))
-linked-kept m absent {a} (spends i c what none) basis h =
+linked-kept m absent {a} (spends i c what none) h =
     subst (Linked a.state.bus (with_link i c (spent what) a.state.host)) (sym none.0)
     (linked-link i c (λ l. l.credits - credits_taken what)
     (subst (Linked a.state.bus a.state.host) none.0 h))
-linked-kept m absent x basis h = linked-after (bus_change x) tt h
+linked-kept m absent x h = linked-after (bus_change x) tt h

@@ -10,7 +10,7 @@ use Rattle.gb_laws.proofs.{Points.upon}
 -- the facts of connections as a law of points
 abbrev pub link_law : (m : Moment) → InsertsAbsent m → Law m
 link_law m absent =
-    upon (basis m) LinkedAt (λ a x g h. linked-kept m absent x g h)
+    upon (basis m) LinkedAt (λ a x g h. linked-kept m absent x h)
 
 pub is-svc : (c : Connection) → IsIn c (svc_connection ∷ []) → c ≡ svc_connection
 is-svc c i = ⊎_elim (λ e. e) (λ n. absurd n) i
@@ -23,6 +23,7 @@ linked-first = record {
       numbered = λ l i. absurd i;
       waiting = λ l i. absurd i;
       deaf = λ l c i. absurd i;
+      draining = λ l i. absurd i;
     };
     interfaces = λ x i. absurd i;
     differ = tt;

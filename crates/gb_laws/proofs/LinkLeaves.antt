@@ -111,7 +111,9 @@ leave-in (l ∷ ls) k (inr (inr (inl e))) = absurd cc
 leave-in (l ∷ ls) k (inr (inr (inr j))) = let w = leave-in ls k j in (w.0, inr w.1, w.2)
 
 -- a connection that a turn gives up
-module _ (b : Bus) (e : HostEvent) (h : Host) (fits : HostFits b h) where
+module _ (e : HostEvent) (h : Host) (closing : (p : Purpose) (l : Link) → IsAnswered e h p
+    → p.step ≡ steps.DestroyConnection → link_at p.intf p.cport (awaits_nothing p h) ≡ Some l
+    → WhyLeft h e l.connection) where
   change-left : (x : HostChange) (g : Host) → Finds g x → IsFor (at_event e h) g x → (k : ℕ)
       → IsIn (Act.Leave k) (acts_by x g) → WhyLeft h e k
   change-left (HostChange.tells f) g finds why k j = absurd (none-leaves k (f ∷ []) j)
@@ -126,7 +128,7 @@ module _ (b : Bus) (e : HostEvent) (h : Host) (fits : HostFits b h) where
   change-left (HostChange.closes i c l) g finds why k (inr j) = absurd (none-leaves k (_ ∷ []) j)
   change-left (HostChange.leaves p None) g found why k j = absurd j
   change-left (HostChange.leaves p (Some l)) g found why k (inl f) =
-      subst (WhyLeft h e) (same k l.connection f) (why-closed b h e p l fits why.0 why.1
+      subst (WhyLeft h e) (same k l.connection f) (closing p l why.0 why.1
       (ap (link_at p.intf p.cport) (sym why.2) ∙ found))
     where
       same : (n m : ℕ) → Act.Leave n ≡ Act.Leave m → m ≡ n
@@ -143,12 +145,26 @@ module _ (b : Bus) (e : HostEvent) (h : Host) (fits : HostFits b h) where
   end-left (HostEnd.makes a protocol p) g k (inl f) = absurd cc
   end-left (HostEnd.makes a protocol p) g k (inr j) = j
 
+  left-by : (k : ℕ) → IsIn (Act.Leave k) (host_turn e h).acts → WhyLeft h e k
+  left-by k = over-turn e h (record {
+    says = λ g t. IsIn (Act.Leave k) t.acts → WhyLeft h e k;
+    ends = λ x g last j. absurd (end-left x g k j);
+    over = λ x g t finds why s j. ⊎_elim (λ i. change-left x g finds why k i) s
+        (in-append (Act.Leave k) (acts_by x g) t.acts j);
+  })
+
 -- Why a turn gives up a connection.
 pub why-left : (b : Bus) (e : HostEvent) (h : Host) (k : ℕ) → HostFits b h
     → IsIn (Act.Leave k) (host_turn e h).acts → WhyLeft h e k
-why-left b e h k fits = over-turn e h (record {
-  says = λ g t. IsIn (Act.Leave k) t.acts → WhyLeft h e k;
-  ends = λ x g last j. absurd (end-left b e h fits x g k j);
-  over = λ x g t finds why s j. ⊎_elim (λ i. change-left b e h fits x g finds why k i) s
-      (in-append (Act.Leave k) (acts_by x g) t.acts j);
-})
+why-left b e h k fits =
+    left-by e h (λ p l answered last found. why-closed b h e p l fits answered last found) k
+
+-- None is given up where one is idle.
+pub idle-leaves : (n : ℕ) (h : Host) (k : ℕ)
+    → IsIn (Act.Leave k) (host_turn (HostEvent.Idle n) h).acts → ⊥
+idle-leaves n h k j =
+    by (left-by (HostEvent.Idle n) h (λ p l answered. let is = answered.is in absurd cc) k j)
+  where
+    by : WhyLeft h (HostEvent.Idle n) k → ⊥
+    by (removed i l is live at on) = absurd cc
+    by (closed m result payload l is live awaits on) = absurd cc

@@ -26,7 +26,7 @@ AreAlive cs h = (l : Link) → IsIn l h.links → IsAlive l.connection cs
 -- ---- the bus changes
 
 -- where the application processor knows no more
-alive-from : {w : Option (ℕ × SequenceStep)} (cs : List Connection) (h g : Host)
+pub alive-from : {w : Option (ℕ × SequenceStep)} (cs : List Connection) (h g : Host)
     → LinksFrom w h g → AreAlive cs h → AreAlive cs g
 alive-from cs h g from all l i =
     let x = (from l i).from in

@@ -15,9 +15,9 @@ use Rattle.gb_machine.specs.Host.{Host, control_of, free_cport, free_device, in_
 use Rattle.gb_machine.specs.Host.{is_link, link_at, with_interface}
 use Rattle.gb_machine.specs.SequenceSteps.{Target, at_step, is_reply}
 use Rattle.gb_machine.specs.Sequences.{ap_in, asked_on, asking, begins_control, begins_device}
-use Rattle.gb_machine.specs.Sequences.{enumerated, link_turn, manifest_checked}
-use Rattle.gb_machine.specs.Sequences.{manifest_told, opened, opened_told, size_in, size_known}
-use Rattle.gb_machine.specs.Sequences.{step_answered, step_asked, step_done, target, way_of}
+use Rattle.gb_machine.specs.Sequences.{enumerated, link_turn, manifest_checked, manifest_told}
+use Rattle.gb_machine.specs.Sequences.{opened, opened_told, size_in, size_known, step_answered}
+use Rattle.gb_machine.specs.Sequences.{step_asked, step_done, target, way_of}
 use Rattle.gb_machine.specs.{Arriving.state_takes, Bus.Bus, Members.IsIn, Turns.Turn}
 use Rattle.gb_machine.specs.{Turns.failed_turn}
 use Rattle.gb_invariants.proofs.{Awaiting.not-both, Awaiting.same-some, Found.first_free-is}
@@ -149,7 +149,8 @@ opened-control : (b : Bus) (p : Purpose) (h : Host) → HostFits b h → p.cport
     → HostFits b (opened p h)
 opened-control b p h fits zero_cport =
     host-link p.intf p.cport (in_state state.Open) (state-link state.Open)
-    (λ l i f waits w e. absurd ((waits w e).0 (at l f))) (λ l i f d. absurd (d.cport (at l f))) fits
+    (λ l i f waits w e. absurd ((waits w e).0 (at l f))) (λ l i f d. absurd (d.cport (at l f)))
+    (λ l i f d e. absurd cc) fits
   where
     at : (l : Link) → find (is_link p.intf p.cport) h.links ≡ Some l → l.cport ≡ 0
     at l f = (link-is p.intf p.cport l (found-in (is_link p.intf p.cport) h.links l f).1).1
@@ -161,7 +162,7 @@ opened-link : (b : Bus) (p : Purpose) (h : Host) → HostFits b h
 opened-link b p h fits idle =
     host-link p.intf p.cport (in_state state.Open) (state-link state.Open)
     (λ l i f waits. waits-not (in_state state.Open l) (idle.idle l f))
-    (λ l i f d. absurd (hears l.state (idle.state l f) d.takes)) fits
+    (λ l i f d. absurd (hears l.state (idle.state l f) d.takes)) (λ l i f d e. absurd cc) fits
   where
     hears : (s : ConnState) → s ≡ state.Opening → state_takes s ≡ false → ⊥
     hears s e f = not-both (state_takes s) (ap state_takes e) f
@@ -171,8 +172,8 @@ fits-opened_told : (b : Bus) (h : Host) (o : Option Link) {t : Turn} → TurnFit
 fits-opened_told b h None r = r
 fits-opened_told b h (Some l) {t} r = fits-telling b h (link_told state.Open l) t r
 
-fits-link_turn : (b : Bus) (to : ConnState) (o : Option Link) (h : Host) {g : Host} → HostFits b g →
-    Onto h g → TurnFits b h (link_turn to o g)
+pub fits-link_turn : (b : Bus) (to : ConnState) (o : Option Link) (h : Host) {g : Host}
+    → HostFits b g → Onto h g → TurnFits b h (link_turn to o g)
 fits-link_turn b to None h fits stay = fits-host [] fits stay
 fits-link_turn b to (Some l) h fits stay = fits-host (link_told to l ∷ []) fits stay
 

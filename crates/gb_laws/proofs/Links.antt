@@ -10,7 +10,8 @@ use Rattle.gb_base.specs.declared.steps.SequenceStep.TheVariants as steps
 use Rattle.gb_machine.specs.SequenceSteps.{Target, asks_control, is_enumeration, kind_of}
 use Rattle.gb_machine.specs.SequenceSteps.{payload_of}
 use Rattle.gb_machine.specs.Turns.{Act, Asking, Making, Turn}
-use Rattle.gb_machine.specs.{Arriving.state_takes, Bus.Bus, Bus.Connection, Host.Host, Host.is_link}
+use Rattle.gb_machine.specs.{Arriving.state_takes, Bus.Bus, Bus.Connection, Host.Host}
+use Rattle.gb_machine.specs.{Host.is_draining, Host.is_link}
 use Rattle.gb_machine.specs.{Members.EachTwo, Members.IsIn}
 
 -- ---- one connection
@@ -62,6 +63,10 @@ pub record IsDeaf (l : Link) : Type 0 where
   pub cport : l.cport ≢ 0
   pub takes : state_takes l.state ≡ false
 
+-- A connection that drains isn't Control.
+abbrev pub DrainsPlain : Link → Type 0
+DrainsPlain l = is_draining l.state ≡ true → l.cport ≢ 0
+
 -- a connection has a number that was given, and a CPort of the application processor from 1 to
 -- 4,095
 pub record IsNumbered (made : ℕ) (l : Link) : Type 0 where
@@ -86,6 +91,7 @@ pub record LinksFit (b : Bus) (ls : List Link) : Type 0 where
   pub waiting : (l : Link) → IsIn l ls → IsWaiting l
   pub deaf : (l : Link) (c : Connection) → IsIn l ls → IsIn c b.connections
       → c.number ≡ l.connection → c.shut ≡ true → IsDeaf l
+  pub draining : (l : Link) → IsIn l ls → DrainsPlain l
 
 -- what is known of interfaces
 abbrev pub AreEnumerating : List Link → List Interface → Type 0

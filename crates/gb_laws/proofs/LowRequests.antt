@@ -1,12 +1,12 @@
 -- A request that was made has a type below 128, and identifier 0 where it is unidirectional.
-use Rattle.std.proofs.Common.{Bool, List, None, Some, ap, false, refl, subst, sym, true, ℕ, ⊎_elim}
-use Rattle.std.proofs.Common.{[], cond, Option, ◌<◌, ◌∙◌, ◌≡◌}
+use Rattle.std.proofs.Common.{Bool, List, Some, ap, false, subst, sym, true, ℕ, ⊎_elim}
+use Rattle.std.proofs.Common.{[], cond, ◌<◌, ◌∙◌, ◌≡◌}
 use Rattle.gb_base.specs.declared.entry.Entry.{Entry}
 use Rattle.gb_machine.specs.Bus.{Bus, Connection, Request, request_of}
 use Rattle.gb_machine.specs.Labels.{next_label}
 use Rattle.gb_machine.specs.Sending.{Draft, label_for, requested}
-use Rattle.gb_machine.specs.{Reached.OfARun, Runs.Moment, State.State, Turns.Act}
-use Rattle.gb_invariants.proofs.Awaiting.{none-some, same-some, sent-made}
+use Rattle.gb_machine.specs.{Reached.OfARun, Runs.Moment, State.State}
+use Rattle.gb_invariants.proofs.Awaiting.{same-some, sent-made}
 use Rattle.gb_invariants.proofs.BusChanges.{BusChange, bus_after}
 use Rattle.gb_laws.proofs.ChangeBuses.{bus_change, by-bus}
 use Rattle.gb_laws.proofs.LinkRuns.{LinkedTo, linked-over, linked-throughout, start-absent}

@@ -1,14 +1,13 @@
 -- Types of requests are below 128: of those of sequences, of bridge lines, of modules and of the
 -- supervisory controller.
-use Rattle.std.proofs.Common.{Bool, List, None, Option, Some, arith, cond, false, subst, suc, true}
-use Rattle.std.proofs.Common.{zero, ℕ, [], ◌++◌, ◌<◌, ◌==◌, ◌||◌, ◌∷◌, ◌≡◌, ◌/◌, length, nat_le}
+use Rattle.std.proofs.Common.{Bool, List, None, Option, Some, arith, cond, false, subst, true}
+use Rattle.std.proofs.Common.{ℕ, [], ◌++◌, ◌<◌, ◌==◌, ◌||◌, ◌∷◌, ◌≡◌, ◌/◌, length, nat_le}
 use Rattle.std.proofs.Common.{nat_lt, drop, refl}
 use Rattle.std.specs.List.{list_any}
 use Rattle.std.specs.Prelude.{Err, Ok, Result, slice_get, sum_by}
 use Rattle.gb_base.specs.declared.bridge.BridgeAsk.{BridgeAsk}
 use Rattle.gb_base.specs.declared.bridge.BridgeAsk.TheVariants as ask
 use Rattle.gb_base.specs.declared.served.OwnAsk.{OwnAsk}
-use Rattle.gb_base.specs.declared.served.Served.{Served}
 use Rattle.gb_formats.specs.Bridges.{BridgeFault, ask_protocol, ask_request, bridge_answer}
 use Rattle.gb_formats.specs.Bridges.{is_too_large}
 use Rattle.gb_formats.specs.ControlRecords.{ControlAsk, read_control_ask}
@@ -20,19 +19,19 @@ use Rattle.gb_formats.specs.GpioDevice.{AtLine, GpioLine, at_line, gpio_asked, g
 use Rattle.gb_formats.specs.GpioDevice.{gpio_read, line_of, line_step}
 use Rattle.gb_formats.specs.GpioDevice as gpio
 use Rattle.gb_formats.specs.GpioRecords.{GpioAsk, read_gpio_ask_of_ap}
-use Rattle.gb_formats.specs.I2cDevice.{I2cDevice, after_op, has_strange_flags, i2c_asked, i2c_read}
+use Rattle.gb_formats.specs.I2cDevice.{I2cDevice, after_op, has_strange_flags, i2c_read}
 use Rattle.gb_formats.specs.I2cDevice.{i2c_transfer_step, is_elsewhere, op_read_bytes, ops_run}
 use Rattle.gb_formats.specs.I2cRecords.{I2cAsk, TransferOp, op_read_size, op_size, op_written_size}
 use Rattle.gb_formats.specs.I2cRecords.{ops_at, read_i2c_ask}
 use Rattle.gb_formats.specs.Module.{CportState, Module, ModulePort, Off, On, Quiet, if_on, is_on}
 use Rattle.gb_formats.specs.Module.{port_at}
 use Rattle.gb_formats.specs.ModuleSteps.{module_serve, module_stir, port_served, port_stir}
-use Rattle.gb_formats.specs.ModuleSteps.{port_stirred, served_in}
+use Rattle.gb_formats.specs.ModuleSteps.{port_stirred}
 use Rattle.gb_formats.specs.Records.{PayloadFault}
-use Rattle.gb_formats.specs.Results.{Step, Stirred, invalid, most_payload, nonexistent, overflow}
+use Rattle.gb_formats.specs.Results.{Stirred, invalid, most_payload, nonexistent, overflow}
 use Rattle.gb_formats.specs.Results.{refusal_of, refuses}
 use Rattle.gb_formats.specs.SpiDevice.{entries_run, entry_read_bytes, entry_written_bytes}
-use Rattle.gb_formats.specs.SpiDevice.{is_strange, last_of, spi_asked, spi_read, spi_transfer_step}
+use Rattle.gb_formats.specs.SpiDevice.{is_strange, last_of, spi_read, spi_transfer_step}
 use Rattle.gb_formats.specs.SpiDevice.{echo}
 use Rattle.gb_formats.specs.SpiRecords.{SpiAsk, TransferEntry, entries_at, entry_read_size}
 use Rattle.gb_formats.specs.SpiRecords.{entry_size, entry_written_size, read_spi_ask}

@@ -184,7 +184,7 @@ module _ (m : Moment) (one : IsMoment m.event) (basis : Basis (resting m.told m.
           let r = ends-taken m frame_law at p item is named front (m.told ++ []) (
             (
               basis-kept (resting m.told m.before) change basis,
-              linked-kept m absent change basis links,
+              linked-kept m absent change links,
             ),
             record {
               same = λ i. ap (marks i) (sym taken);

@@ -35,7 +35,7 @@ opens-throughout = throughout OpensTo (record {
 })
 
 -- a connection whose side isn't closed is there
-open-there : (k : ℕ) (b : Bus) → shut_of k b ≡ Some false
+pub open-there : (k : ℕ) (b : Bus) → shut_of k b ≡ Some false
     → (c : Connection) × (connection_of k b ≡ Some c) × (c.shut ≡ false)
 open-there k b open_ = by (connection_of k b) refl open_
   where

@@ -23,8 +23,10 @@ use Rattle.gb_machine.specs.{Host.link_at, HostServing.host_serves, HostTurns.li
 use Rattle.gb_machine.specs.{LawsBus.NameRequests, Lists.first, Members.Each, Members.IsIn}
 use Rattle.gb_machine.specs.{Names.named, Refusals.refusal, Runs.Moment, Sending.Draft}
 use Rattle.gb_machine.specs.{Serving.Answer, State.Held, State.State}
+use Rattle.gb_machine.specs.{Requests.open_on}
 use Rattle.gb_invariants.proofs.Selves.{SameSelf}
 use Rattle.gb_invariants.specs.Facts.{BusFits, Loose}
+use Rattle.gb_laws.proofs.Draining.{FirstDrains}
 
 -- ---- points
 
@@ -101,6 +103,7 @@ pub record IsStill (c : Connection) (b : Bus) : Type 0 where
 pub record Basis (a : Point) : Type 0 where
   pub bus : BusFits (loose a) a.state.bus
   pub names : NameRequests a.state
+  pub drains : FirstDrains a.state.host.links
   pub hand : (h : Hand) → a.hand ≡ Some h → IsStill h.connection a.state.bus
 
 -- ---- entries
@@ -192,7 +195,7 @@ pub record IsServing (m : Moment) (s : State) (q : Incoming) : Type 0 where
       (popped place.connection.number side.Far m.before.bus) s.bus
 
 -- Why the application processor takes notice of something at a moment, its host being as it was
--- before, but where a request ended.
+-- before, but where a request ended or nothing is open on a connection.
 abbrev pub IsCaused : Moment → HostEvent → Host → Type 0
 IsCaused m (HostEvent.Inserted i) h = (h ≡ m.before.host) × IsNoticed m (HostEvent.Inserted i)
 IsCaused m (HostEvent.Removed i) h = (h ≡ m.before.host) × IsNoticed m (HostEvent.Removed i)
@@ -202,6 +205,10 @@ IsCaused m (HostEvent.Connect i c) h =
 IsCaused m (HostEvent.Disconnect i c) h =
     (h ≡ m.before.host) × (m.event ≡ event.Disconnect i c)
     × (refusal m.before (event.Disconnect i c) ≡ None)
+IsCaused m (HostEvent.Drain i c) h =
+    (h ≡ m.before.host) × (m.event ≡ event.Drain i c)
+    × (refusal m.before (event.Drain i c) ≡ None)
+IsCaused m (HostEvent.Idle k) h = FirstDrains h.links
 IsCaused m (HostEvent.Ended n how) h = Unit {0}
 
 -- a tick, and a request whose deadline came
@@ -224,13 +231,15 @@ IsGivenUpFor m s outcome.Cancelled n = IsCancelled m n
 IsGivenUpFor m s outcome.Timeout n = IsLate m s n
 IsGivenUpFor m s _ n = ⊥
 
--- why the application processor's side of a connection is closed at a moment: the connection is
--- disconnected, or is one of an interface whose removal is handled
-pub data IsShutFor (m : Moment) (k : ℕ) : Type 0 where
+-- Why the application processor's side of a connection is closed at a moment: the connection is
+-- disconnected, or is one of an interface whose removal is handled, or no request of the
+-- application processor is open on it.
+pub data IsShutFor (m : Moment) (k : ℕ) (b : Bus) : Type 0 where
   disconnected : (i c : ℕ) (l : Link) → m.event ≡ event.Disconnect i c
-      → link_at i c m.before.host ≡ Some l → l.connection ≡ k → IsShutFor m k
+      → link_at i c m.before.host ≡ Some l → l.connection ≡ k → IsShutFor m k b
   removed : (i : ℕ) (l : Link) → IsNoticed m (HostEvent.Removed i)
-      → IsIn l (links_of i m.before.host) → l.connection ≡ k → IsShutFor m k
+      → IsIn l (links_of i m.before.host) → l.connection ≡ k → IsShutFor m k b
+  idle : open_on k side.Ap b ≡ [] → IsShutFor m k b
 
 -- ---- events
 

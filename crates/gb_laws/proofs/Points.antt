@@ -106,11 +106,12 @@ awaited_by m a c d (by_far who on) = a.asked
 
 -- Where the application processor takes notice of something, no request was made at the moment
 -- yet, unless it is the end of one that wasn't answered. A sequence goes on with an answer only
--- where its request isn't awaited any more.
+-- where its request isn't awaited any more, and a connection is idle where nothing is open on it.
 abbrev pub IsOver : Moment → HostEvent → Bus → Type 0
 IsOver m (HostEvent.Ended n how) b =
     (result : ℕ) (payload : List ℕ) → how ≡ outcome.Answered result payload
     → (is_awaited n b ≡ false) × (b.requests ≡ m.before.bus.requests)
+IsOver m (HostEvent.Idle k) b = open_on k side.Ap b ≡ []
 IsOver m _ b = b.requests ≡ m.before.bus.requests
 
 -- What a line asks is no request of a sequence and goes to the supervisory controller, or it is on
@@ -221,7 +222,7 @@ pub data Change (m : Moment) (a : Point) : Type 0 where
   acts_told : (e : Entry) (rest : List Act) → a.pending ≡ Act.Tell e ∷ rest → is_quiet e ≡ true
       → Change m a
   acts_shut : (k : ℕ) (rest : List Act) → a.hand ≡ None → a.pending ≡ Act.Shut k ∷ rest
-      → IsShutFor m k → Change m a
+      → IsShutFor m k a.state.bus → Change m a
   acts_left : (k : ℕ) (rest : List Act) → a.hand ≡ None → a.wires ≡ Untouched
       → a.pending ≡ Act.Leave k ∷ rest → Change m a
   acts_opened : (w : Making) (q : Asking) (rest : List Act) → a.hand ≡ None

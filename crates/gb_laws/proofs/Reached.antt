@@ -54,6 +54,7 @@ reached-told = reached-has (LinkedTo []) (weaker LinkedTo (λ told s. LinkedTo [
   record {
     bus = h.0.bus;
     names = h.0.names;
+    drains = h.0.drains;
     hand = h.0.hand;
   },
   h.1,

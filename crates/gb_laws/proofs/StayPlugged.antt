@@ -1,6 +1,6 @@
 -- What is plugged stays so where a module changes.
-use Rattle.std.proofs.Common.{Bool, List, None, Some, ap, cond, false, inl, inr, refl, sym}
-use Rattle.std.proofs.Common.{true, ℕ, [], ◌∙◌, ◌∷◌, ◌≡◌, ◌⊎◌}
+use Rattle.std.proofs.Common.{Bool, List, None, Some, ap, cond, false, inl, inr, refl, sym, true, ℕ}
+use Rattle.std.proofs.Common.{[], ◌∙◌, ◌∷◌, ◌≡◌, ◌⊎◌}
 use Rattle.std.specs.List.{find}
 use Rattle.std.specs.Prelude.{is_some, option_map, ◌==◌, ◌≢◌}
 use Rattle.gb_base.specs.declared.end.End.TheVariants as end
@@ -10,7 +10,7 @@ use Rattle.gb_base.specs.declared.peers.Link.{Link}
 use Rattle.gb_formats.specs.Module.{Module}
 use Rattle.gb_machine.proofs.Conditions.{AreUnmet}
 use Rattle.gb_machine.specs.Bus.{Bus, Connection, Place, end_of, place_of}
-use Rattle.gb_machine.specs.HostRefusals.{is_closing, is_failed, is_unopened, link_conditions}
+use Rattle.gb_machine.specs.HostRefusals.{is_ending, is_failed, is_unopened, link_conditions}
 use Rattle.gb_machine.specs.Modules.{is_plugged, is_plugged_at, with_module}
 use Rattle.gb_machine.specs.Ports.{level_in, level_of, port_of}
 use Rattle.gb_machine.specs.State.{Plugged, Port, State}
@@ -75,13 +75,15 @@ powered-off i j ports true = inr refl
 powered-off i j ports false = inl refl
 
 -- a connection on which lines are sent takes what is delivered there
-pub open-takes : (l : Link) → AreUnmet (link_conditions (Some l)) → state_takes l.state ≡ true
+pub open-takes : (l : Link) → AreUnmet (link_conditions is_ending (Some l))
+    → state_takes l.state ≡ true
 open-takes l met = by l.state met.0 met.1.0 met.1.1.0
   where
-    by : (s : ConnState) → is_unopened s ≡ false → is_closing s ≡ false → is_failed s ≡ false
+    by : (s : ConnState) → is_unopened s ≡ false → is_ending s ≡ false → is_failed s ≡ false
         → state_takes s ≡ true
     by state.Open h k f = refl
     by state.Opening h k f = absurd cc
+    by state.Draining h k f = absurd cc
     by state.Closing h k f = absurd cc
     by state.Closed h k f = absurd cc
     by state.Failed h k f = absurd cc

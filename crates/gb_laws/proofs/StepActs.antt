@@ -12,10 +12,10 @@ use Rattle.gb_machine.specs.HostActs.{acts, asked_with, fails, host_asks, host_d
 use Rattle.gb_machine.specs.HostActs.{notices, opened_with, with_awaited, with_made}
 use Rattle.gb_machine.specs.Turns.{Act, Asking, HostEvent, Making}
 use Rattle.gb_machine.specs.{Asking.asked, Asking.asks_with, Failures.unsent, HostTurns.host_turn}
-use Rattle.gb_machine.specs.{Labels.cyclic_label, Labels.next_label, Members.Each, Runs.Moment}
+use Rattle.gb_machine.specs.{Labels.cyclic_label, Labels.next_label, Runs.Moment}
 use Rattle.gb_machine.specs.{Sending.sent, State.State, Wiring.next_connection}
 use Rattle.gb_invariants.proofs.Awaiting.{none-some}
-use Rattle.gb_laws.proofs.ActsFit.{IsFit, fit-turn, quiet-unsent}
+use Rattle.gb_laws.proofs.ActsFit.{AreFit, IsFit, ever-fit, fit-turn, quiet-unsent}
 use Rattle.gb_laws.proofs.Points.{IsAsking, IsOver, acts_asked, acts_failed, acts_left, acts_opened}
 use Rattle.gb_laws.proofs.Points.{acts_shut, acts_told, asking, asks, by_host, opening, turns}
 use Rattle.gb_laws.proofs.StepActions.{At, Goes, goes-nothing, goes-▸}
@@ -78,7 +78,8 @@ module _ (m : Moment) (law : ActLaw m) where
           (λ told at. law.kept _ (acts_opened w q rest refl refl) tt at)
           (goes-host_asks q rest (with_made w s))
 
-  goes-act : (x : Act) (rest : List Act) (s : State) → IsFit m x → Acts (x ∷ rest) rest (acts x) s
+  goes-act : (x : Act) (rest : List Act) (s : State) → IsFit m s.bus x
+      → Acts (x ∷ rest) rest (acts x) s
   unfolding machine_opened
   goes-act (Act.Ask q) rest s fit told at = goes-host_asks q rest s told at
   goes-act (Act.Open w q) rest s fit told at = goes-host_opens w q rest s told at
@@ -86,12 +87,13 @@ module _ (m : Moment) (law : ActLaw m) where
   goes-act (Act.Leave k) rest s fit told at = law.kept _ (acts_left k rest refl refl refl) tt at
   goes-act (Act.Tell e) rest s fit told at = law.kept _ (acts_told e rest refl fit) tt at
 
-  goes-acts : (xs : List Act) (s : State) → Each (IsFit m) xs → Acts xs [] (each xs acts) s
+  pub goes-acts : (xs : List Act) (s : State) → AreFit m s.bus xs → Acts xs [] (each xs acts) s
   unfolding machine_opened
   goes-acts [] s fit = goes-nothing m law None [] Untouched s
   goes-acts (x ∷ xs) s fit =
       goes-▸ m law (acts x) (each xs acts)
-      (goes-act x xs s fit.0) (goes-acts xs (acts x s).state fit.1)
+      (goes-act x xs s fit.0)
+      (goes-acts xs (acts x s).state (ever-fit m (acts x s).state.bus xs fit.1))
 
   -- the application processor takes notice of something
   pub goes-notices : (e : HostEvent) (s : State) → IsOver m e s.bus → IsCaused m e s.host
@@ -100,4 +102,4 @@ module _ (m : Moment) (law : ActLaw m) where
   goes-notices e s over cause =
       goes-▸ m law (on_host (λ h. (host_turn e s.host).host)) (each (host_turn e s.host).acts acts)
       (λ told at. law.kept _ (turns e refl (refl, over) refl cause) tt at)
-      (goes-acts (host_turn e s.host).acts _ (fit-turn m e s.host cause))
+      (goes-acts (host_turn e s.host).acts _ (fit-turn m s.bus e s.host over cause))

@@ -1,7 +1,6 @@
 -- A law of points goes over the step of each event.
-use Rattle.std.proofs.Common.{List, None, Option, Some, ap, false, inl, inr, map, refl}
-use Rattle.std.proofs.Common.{subst, sym, true, ℕ, ⊎_elim, [], ◌++◌, ◌+◌, ◌<◌, ◌∙◌}
-use Rattle.std.proofs.Common.{◌∷◌, ◌≡◌}
+use Rattle.std.proofs.Common.{List, None, Option, Some, ap, false, inl, inr, map, refl, subst, sym}
+use Rattle.std.proofs.Common.{true, ℕ, ⊎_elim, [], ◌++◌, ◌+◌, ◌<◌, ◌∙◌, ◌∷◌, ◌≡◌}
 use Rattle.std.specs.Prelude.{Err, Ok, Result, is_none, is_some, option_and_then}
 use Rattle.gb_base.specs.declared.bridge.BridgeAsk.{BridgeAsk}
 use Rattle.gb_base.specs.declared.bridge.Reading.TheVariants as reading
@@ -24,31 +23,30 @@ use Rattle.gb_machine.specs.Actions.{by_state, change, given, on_bus, on_host, t
 use Rattle.gb_machine.specs.Bus.{Connection, Place, Request, connection_of, is_open, next_number}
 use Rattle.gb_machine.specs.Bus.{outcome_of, request_of}
 use Rattle.gb_machine.specs.Host.{is_link, link_at, with_link}
-use Rattle.gb_machine.specs.HostRefusals.{bridge_conditions, is_kept, link_conditions}
+use Rattle.gb_machine.specs.HostRefusals.{bridge_conditions, is_ending, is_kept, link_conditions}
 use Rattle.gb_machine.specs.Labels.{cyclic_label, next_label}
 use Rattle.gb_machine.specs.LineActions.{ap_draft, bridge_sent, bridges, copies, holds, injects}
 use Rattle.gb_machine.specs.LineActions.{injects_at, sends, sends_on, spent, stirred, stirs}
 use Rattle.gb_machine.specs.LineActions.{with_hold}
-use Rattle.gb_machine.specs.Refusals.{has_no_label, is_long_payload, module_place}
-use Rattle.gb_machine.specs.Refusals.{refusal}
+use Rattle.gb_machine.specs.Refusals.{has_no_label, is_long_payload, module_place, refusal}
 use Rattle.gb_machine.specs.{Arriving.state_takes, Asking.asks_with, Events.shows, GivingUp.cancels}
 use Rattle.gb_machine.specs.{GivingUp.gives_up, Holding.marked, HostActs.follows}
 use Rattle.gb_machine.specs.{Lists.conditions_of, Lists.holds_of, Members.IsIn, Modules.module_at}
 use Rattle.gb_machine.specs.{Modules.with_module, Names.bound, Names.named, OwnAsking.far_asks_all}
 use Rattle.gb_machine.specs.{Requests.gave_up, Runs.Moment, Sending.Draft, Show.lines_shown}
-use Rattle.gb_machine.specs.{Show.shown, State.State, Turns.HostEvent}
+use Rattle.gb_machine.specs.{Show.shown, State.State}
 use Rattle.gb_invariants.proofs.{Awaiting.is-open, Awaiting.not-both, Lists.at_first-back}
 use Rattle.gb_invariants.proofs.{Lists.found-in}
 use Rattle.gb_laws.proofs.PointParts.{AreSilent, IsGivenUpFor, Untouched}
-use Rattle.gb_laws.proofs.Points.{IsBridge, IsPlain, Law, as_before, binds}
-use Rattle.gb_laws.proofs.Points.{gives_up as giving_up, injects as injecting, names, others}
-use Rattle.gb_laws.proofs.Points.{spends}
+use Rattle.gb_laws.proofs.Points.{IsBridge, IsPlain, Law, as_before, binds, gives_up as giving_up}
+use Rattle.gb_laws.proofs.Points.{injects as injecting, names, others, spends}
 use Rattle.gb_laws.proofs.StayPlugged.{module-plugs, open-takes, place-module, same-plugs}
 use Rattle.gb_laws.proofs.StepActions.{At, goes-far_asks_all, goes-tell_all}
 use Rattle.gb_laws.proofs.StepPlugs.{Rests, rests-nothing, rests-▸}
 use Rattle.gb_laws.proofs.LowTypes.{AreLow, bridge-low, stir-low}
 use Rattle.gb_laws.proofs.{Naming.made-named}
-use Rattle.gb_laws.proofs.{Places.place-marked, StepActLaws.acting, StepActs.goes-notices}
+use Rattle.gb_laws.proofs.{Places.place-marked, StepActLaws.acting}
+use Rattle.gb_laws.proofs.StepIdles.{goes-follows}
 
 module _ (m : Moment) (law : Law m) where
   -- ---- requests of lines
@@ -112,7 +110,7 @@ module _ (m : Moment) (law : Law m) where
             l,
             (found-in (is_link i c) s.host.links l e).0,
             refl,
-            open-takes l (subst (λ o. AreUnmet (link_conditions o)) e
+            open-takes l (subst (λ o. AreUnmet (link_conditions is_ending o)) e
                 (met.1.1.0, (met.1.1.1.0, (met.1.1.1.1.0, tt)))),
           )) linked.1.1.0 low
 
@@ -151,7 +149,7 @@ module _ (m : Moment) (law : Law m) where
           (λ k. bridge_conditions k what ++ (has_no_label k.connection side.Ap s, why.NoLabel) ∷ [])
           o)) e met.1.1.1.1.1 in
           sent_by l (found-in (is_link i c) s.host.links l e).0 (open-takes l
-          (subst (λ o. AreUnmet (link_conditions o)) e
+          (subst (λ o. AreUnmet (link_conditions is_ending o)) e
           (met.1.1.0, (met.1.1.1.0, (met.1.1.1.1.0, tt))))) linked.1.1.1.0
           (bridge_answer l.protocol what) refl
 
@@ -239,9 +237,9 @@ module _ (m : Moment) (law : Law m) where
   rests-gives_up n how s unended cause =
       rests-▸ m law (on_bus (gave_up n how) ▸ tell (entry.Ended n how reading.Nothing))
       (follows n how) s (λ told at. law.kept _ (giving_up n how refl unended cause) at)
-      (goes-notices m (acting m law) (HostEvent.Ended n how)
+      (goes-follows m (acting m law) (λ a h. (law.basis a h).drains) n how
       (record s { bus = gave_up n how s.bus })
-      (λ r p e. absurd (unanswered s n how r p e cause)) tt)
+      (λ r p e. absurd (unanswered s n how r p e cause)))
 
   pub rests-cancels : (name : Name) → m.event ≡ event.Cancel name
       → refusal m.before (event.Cancel name) ≡ None → Rests m law (cancels name) m.before

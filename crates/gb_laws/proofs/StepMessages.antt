@@ -16,7 +16,7 @@ use Rattle.gb_machine.specs.Responding.{Response, replies as replying, response_
 use Rattle.gb_machine.specs.Responding.{serves as serving, serves_oneway}
 use Rattle.gb_machine.specs.{Delivery.ended, Delivery.forgotten, HostActs.follows}
 use Rattle.gb_machine.specs.{Requests.given_up_with, Requests.open_with, Runs.Moment}
-use Rattle.gb_machine.specs.{Serving.success, State.State, Turns.HostEvent}
+use Rattle.gb_machine.specs.{Serving.success, State.State}
 use Rattle.gb_machine.specs.Arriving as arriving
 use Rattle.gb_machine.specs.Delivery as delivery
 use Rattle.gb_invariants.proofs.{Awaiting.not-both, Numbers.found-number, Numbers.same-connection}
@@ -27,8 +27,9 @@ use Rattle.gb_laws.proofs.Points.{forgets, holds, numbered, replied_to, replies,
 use Rattle.gb_laws.proofs.Points.{unreplied}
 use Rattle.gb_laws.proofs.StepActions.{At, Goes, goes-nothing, goes-tell}
 use Rattle.gb_laws.proofs.{Delivered.IsTaken, ServedOn.HasPeer, ServedOn.IsAsBefore}
-use Rattle.gb_laws.proofs.{StepActLaws.acting, StepActs.goes-notices, StepServes.ends-response}
+use Rattle.gb_laws.proofs.{StepActLaws.acting, StepServes.ends-response}
 use Rattle.gb_laws.proofs.{StepSvcServes.Ends, StepSvcServes.ends-going}
+use Rattle.gb_laws.proofs.StepIdles.{goes-follows}
 
 module _ (m : Moment) (law : Law m) where
   -- one action after another ends a step
@@ -141,12 +142,13 @@ module _ (m : Moment) (law : Law m) where
       (follows n (delivery.answered result payload)) s
       (λ told now. law.kept _ (answers h n result payload refl says which) now)
       (ends-going m law (follows n (delivery.answered result payload))
-      (goes-notices m (acting m law) (HostEvent.Ended n (delivery.answered result payload)) _
+      (goes-follows m (acting m law) (λ a h. (law.basis a h).drains) n
+      (delivery.answered result payload) _
       (λ r p e. (
         over-ended n (delivery.answered result payload) s.bus (law.basis _ now).bus.outcomes
             (answers-open h n which),
         made,
-      )) tt)) told now
+      )))) told now
 
   ends-forgotten : {h : Hand} (n : ℕ) (e : Entry) (s : State) → is_silent e ≡ true
       → Forgets h n s.bus → Ends m law (Some h) (arriving.forgets n e) s

@@ -19,6 +19,7 @@ use Rattle.gb_laws.proofs.{StepActions.At, StepActs.goes-notices, StepDelivers.e
 use Rattle.gb_laws.proofs.{StepDelivers.ends-delivers, StepPlugs.rests-boots, StepPlugs.rests-plugs}
 use Rattle.gb_laws.proofs.{StepSvcServes.Ends, StepSvcServes.ends-going, Ticking.ends-pulls}
 use Rattle.gb_laws.proofs.{Ticking.rests-ticks}
+use Rattle.gb_laws.proofs.StepIdles.{goes-drains}
 
 module _ (m : Moment) (law : Law m) where
   -- what an event does that isn't refused
@@ -39,6 +40,9 @@ module _ (m : Moment) (law : Law m) where
   ends-does (event.Disconnect i c) is one free =
       ends-going m law (does (event.Disconnect i c))
       (goes-notices m (acting m law) (HostEvent.Disconnect i c) m.before refl (refl, is, free))
+  ends-does (event.Drain i c) is one free =
+      ends-going m law (does (event.Drain i c))
+      (goes-drains m (acting m law) (λ a h. (law.basis a h).drains) i c is free)
   ends-does (event.Send name to kind payload timeout) is one free =
       ends-going m law (does (event.Send name to kind payload timeout))
       (rests-sends m law name to kind payload timeout m.before free

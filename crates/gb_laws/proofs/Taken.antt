@@ -1,7 +1,7 @@
 -- A delivery takes the front item toward its end: what is told of a message that was taken is told
 -- of that item, and it is gone then.
-use Rattle.std.proofs.Common.{Bool, List, None, Option, Some, ap, cond, false, refl, subst, sym}
-use Rattle.std.proofs.Common.{inl, inr, true, ℕ, ◌∙◌, ◌≡◌, ◌⊎◌}
+use Rattle.std.proofs.Common.{Bool, List, None, Option, Some, ap, cond, false, inl, inr, refl}
+use Rattle.std.proofs.Common.{subst, sym, true, ℕ, ◌∙◌, ◌≡◌, ◌⊎◌}
 use Rattle.std.specs.Prelude.{Err, Ok, Result, option_map, ◌==◌}
 use Rattle.gb_base.specs.declared.end.{End.End, Side.Side}
 use Rattle.gb_base.specs.declared.entry.Entry.{Entry}
@@ -33,12 +33,11 @@ use Rattle.gb_machine.specs.{HostServing.host_serves, HostTurns.host_turn, Lists
 use Rattle.gb_machine.specs.{Lists.first, Members.EachTwo, Members.IsIn, Modules.module_at}
 use Rattle.gb_machine.specs.{Refusals.refusal, Requests.given_up_with, Requests.open_with}
 use Rattle.gb_machine.specs.{Serving.success, State.State, SvcTable.svc_step, Turns.Act}
-use Rattle.gb_machine.specs.{Turns.HostEvent}
 use Rattle.gb_invariants.proofs.{Awaiting.none-some, Awaiting.same-some, BusChanges.BusChange}
 use Rattle.gb_invariants.proofs.{Numbers.found-by_number}
 use Rattle.gb_invariants.specs.{Facts.IsBefore, Facts.is_numbered}
-use Rattle.gb_laws.proofs.TakenActs.{Follows, Taking, follows-nothing, follows-notices}
-use Rattle.gb_laws.proofs.TakenActs.{follows-tell, follows-▸, left-by}
+use Rattle.gb_laws.proofs.TakenActs.{Follows, Taking, follows-ended, follows-nothing, follows-tell}
+use Rattle.gb_laws.proofs.TakenActs.{follows-▸, left-by}
 use Rattle.gb_laws.proofs.TakenKnown.{asked-made, labelled-answer, link-peer, numbered-answer}
 use Rattle.gb_laws.proofs.TakenKnown.{other-unwired, stays-answered, stays-unlinked, taken, unclean}
 use Rattle.gb_laws.proofs.TakenServed.{follows-decided, follows-host, follows-module}
@@ -91,7 +90,7 @@ module _ (m : Moment) (h : StaleTo m.told m.before) (to : End) (p : Place) (item
         follows-▸ aim (on_bus (ended n how) ▸ tell e) (follows n how) {s = now} (
           (inl x, tt),
           λ l. left-by aim (BusChange.ends n how) now.bus tt (λ e. none-some e) l,
-        ) (follows-notices aim (HostEvent.Ended n how) after
+        ) (follows-ended aim n how after
             (stays-answered m h to p item named front n how x)),
         inr (e, inl refl, x),
       )

@@ -1,7 +1,7 @@
 -- What follows a message that was taken: what it tells is of that message, or of none, and what
 -- stood behind that stays in front.
-use Rattle.std.proofs.Common.{Bool, List, None, Option, Some, ap, inl, inr, refl, subst, sym, true}
-use Rattle.std.proofs.Common.{false, map, ℕ, [], ◌+◌, ◌∷◌, ◌≡◌}
+use Rattle.std.proofs.Common.{Bool, List, None, Option, Some, ap, false, inl, inr, map, refl, subst}
+use Rattle.std.proofs.Common.{sym, true, ℕ, [], ◌+◌, ◌∷◌, ◌≡◌}
 use Rattle.gb_base.specs.declared.end.Side.{Side}
 use Rattle.gb_base.specs.declared.entry.Entry.{Entry}
 use Rattle.gb_base.specs.declared.served.OwnAsk.{OwnAsk}
@@ -10,19 +10,24 @@ use Rattle.gb_base.specs.declared.end.Side.TheVariants as side
 use Rattle.gb_base.specs.declared.entry.ConnState.TheVariants as state
 use Rattle.gb_base.specs.declared.entry.Entry.TheVariants as entry
 use Rattle.gb_base.specs.declared.outcome.Outcome.TheVariants as outcome
+use Rattle.gb_base.specs.declared.outcome.Outcome.{Outcome}
 use Rattle.gb_formats.specs.{Grammar.default_timeout}
 use Rattle.gb_machine.proofs.{Opened.machine_opened}
 use Rattle.gb_machine.specs.Actions.{Action, change, each, given, nothing, on_host, tell, when, ◌▸◌}
 use Rattle.gb_machine.specs.Asking.{asked, asks, asks_with}
-use Rattle.gb_machine.specs.Bus.{Bus, Connection, Item, connection_of, next_number}
+use Rattle.gb_machine.specs.Bus.{Bus, Connection, Item, Request, connection_of, next_number}
+use Rattle.gb_machine.specs.Bus.{request_of}
 use Rattle.gb_machine.specs.HostActs.{acts, asked_with, fails, host_asks, host_draft, host_opens}
-use Rattle.gb_machine.specs.HostActs.{notices, opened_with, with_awaited, with_made}
+use Rattle.gb_machine.specs.HostActs.{idles, idles_behind, notices, opened_with, with_awaited}
+use Rattle.gb_machine.specs.HostActs.{with_made}
+use Rattle.gb_machine.specs.HostActs as acting
 use Rattle.gb_machine.specs.Sending.{Draft, draft, is_wired, label_for, sent}
 use Rattle.gb_machine.specs.Turns.{Act, Asking, HostEvent, Making}
 use Rattle.gb_machine.specs.{Failures.unsent, HostTurns.host_turn, Labels.next_label}
 use Rattle.gb_machine.specs.{LawsHotPlug.is_consequence, Members.Each, Members.IsIn}
 use Rattle.gb_machine.specs.{OwnAsking.far_asks, OwnAsking.far_asks_all, Requests.open_on}
 use Rattle.gb_machine.specs.{State.State, Wires.disconnected_told, Wiring.next_connection}
+use Rattle.gb_machine.specs.Requests.{is_idle, same_side}
 use Rattle.gb_invariants.proofs.{Awaiting.none-some, Awaiting.same-some, BusChanges.BusChange}
 use Rattle.gb_invariants.proofs.{BusChanges.bus_after, Lists.each-append, Lists.each-weaker}
 use Rattle.gb_invariants.proofs.{Wires.cuts_of}
@@ -30,6 +35,7 @@ use Rattle.gb_laws.proofs.TakenQueues.{IsLeft, IsUntaken, left-after}
 use Rattle.gb_laws.proofs.TakenTells.{AreConsequences, TellsConsequence, turn-follows}
 use Rattle.gb_laws.proofs.TakenTells.{unsent-follows}
 use Rattle.gb_laws.proofs.{Awaited.awaited-rest}
+use Rattle.gb_laws.proofs.LinkLeaves.{idle-leaves}
 
 pub ends-follow : (ns : List ℕ) → AreConsequences (map disconnected_told ns)
 ends-follow [] = tt
@@ -196,3 +202,25 @@ module _ (aim : Taking) where
       follows-▸ (on_host (λ h. (host_turn e s.host).host)) (each (host_turn e s.host).acts acts)
       {s = s} (tt, λ h. h)
       (follows-acts (host_turn e s.host).acts after (turn-follows e s.host) stays)
+
+  -- A connection that drains closes where it is idle.
+  follows-idles : (k : ℕ) (s : State) → Follows (idles k) s
+  unfolding machine_opened
+  follows-idles k s = follows-when (is_idle k s.bus) (notices (HostEvent.Idle k)) s
+      (follows-notices (HostEvent.Idle k) s (idle-leaves k s.host aim.number))
+
+  follows-idles_behind : (o : Option Request) (s : State) → Follows (given o idles_behind) s
+  unfolding machine_opened
+  follows-idles_behind None s = follows-nothing s
+  follows-idles_behind (Some r) s =
+      follows-when (same_side side.Ap r.side) (idles r.connection) s (follows-idles r.connection s)
+
+  -- A request ended, and the application processor doesn't give up the connection at that.
+  pub follows-ended : (n : ℕ) (how : Outcome) (s : State)
+      → (IsIn (Act.Leave aim.number) (host_turn (HostEvent.Ended n how) s.host).acts → ⊥)
+      → Follows (acting.follows n how) s
+  unfolding machine_opened
+  follows-ended n how s stays =
+      follows-▸ (notices (HostEvent.Ended n how)) (given (request_of n s.bus) idles_behind) {s = s}
+      (follows-notices (HostEvent.Ended n how) s stays)
+      (follows-idles_behind (request_of n s.bus) (notices (HostEvent.Ended n how) s).state)

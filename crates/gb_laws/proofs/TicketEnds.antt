@@ -66,7 +66,7 @@ there-found n how (p ∷ ps) one (inr i) = by (p.0 == n) refl one (there-found n
 -- ---- ends that are told
 
 -- an end that entries tell is one of them
-end-there : (n : ℕ) (how : Outcome) (es : List Entry) → end_in n es ≡ Some how
+pub end-there : (n : ℕ) (how : Outcome) (es : List Entry) → end_in n es ≡ Some how
     → (read : Reading) × IsIn (entry.Ended n how read) es
 end-there n how [] h = absurd cc
 end-there n how (entry.Ended m w read ∷ es) h = by (m == n) refl h (end-there n how es)

@@ -42,7 +42,7 @@ use Rattle.gb_machine.specs.Wiring.{all_ended, side_ended, with_connection}
 -- ---- requests stay
 
 -- the requests of a bus are ones of another
-abbrev Grows : Bus → Bus → Type 0
+abbrev pub Grows : Bus → Bus → Type 0
 Grows b d = (n : ℕ) (r : Request) → request_of n b ≡ Some r → request_of n d ≡ Some r
 
 grows-sent : (b c : Bus) (d : Draft) (label : ℕ) → Grows b c → Grows b (sent d label c)
@@ -65,7 +65,8 @@ grows_law m = record {
   kept = λ a x h. (basis-kept a x h.0, grows-kept m a x h.1);
 }
 
-grows-moment : (s : State) (e : Event) → OfARun s → IsMoment e → Grows s.bus (step s e).state.bus
+pub grows-moment : (s : State) (e : Event) → OfARun s → IsMoment e
+    → Grows s.bus (step s e).state.bus
 grows-moment s e r one =
     let m : Moment = record { told = []; before = s; event = e } in
     (over-step m (grows_law m) one ((reached-told s r).0, λ n q h. h)).1.1

@@ -127,19 +127,19 @@ module _ (m : Moment) (law : Law m) where
       (gives_up outcome.Timeout n s).state
   ticks-next n ns told s h = record {
     rise = h.rise.1;
-    late = overdue-others m n ns s h.rise.0 h.late.1;
+    late = overdue-others m n ns s (law.basis _ h.holds).drains h.rise.0 h.late.1;
     holds = rests-gives_up m law n outcome.Timeout s h.late.0.unended h.late.0.late told h.holds;
   }
 
   rests-overdue : (ns : List ℕ) (s : State) → Rise ns → Each (λ n. IsOverdue m n s) ns
       → Rests m law (each ns (gives_up outcome.Timeout)) s
   unfolding machine_opened
-  rests-overdue [] s rise late = rests-nothing m law s
-  rests-overdue (n ∷ ns) s rise late =
+  rests-overdue [] s rise late told at = rests-nothing m law s told at
+  rests-overdue (n ∷ ns) s rise late told at =
       rests-▸ m law (gives_up outcome.Timeout n) (each ns (gives_up outcome.Timeout)) s
       (rests-gives_up m law n outcome.Timeout s late.0.unended late.0.late)
       (rests-overdue ns (gives_up outcome.Timeout n s).state rise.1
-      (overdue-others m n ns s rise.0 late.1))
+      (overdue-others m n ns s (law.basis _ at).drains rise.0 late.1)) told at
 
   -- time has passed, and nothing is given up yet
   pub ticks-first : (millis : ℕ) (told : List Entry) → m.event ≡ event.Tick millis

@@ -25,6 +25,7 @@ use Rattle.gb_laws.proofs.LinkTurns.{fits-connects, fits-inserted, fits-removed}
 use Rattle.gb_laws.proofs.MarkNotices.{Tells, told-svc, unnoticed}
 use Rattle.gb_laws.proofs.{LinkClosing.fits-disconnects, LinkEnds.fits-ended, LinkFrom.Linked}
 use Rattle.gb_laws.proofs.{LinkKept.linked-fits, LinkRuns.start-absent, Reached.reached-told}
+use Rattle.gb_laws.proofs.LinkClosing.{fits-drains, fits-idle}
 
 -- The facts go with the acts of a turn.
 abbrev pub TurnsTo : Bus → Host → HostEvent → Type 0
@@ -59,6 +60,16 @@ turned-disconnects s i c allowed f = linked-fits refl (fits-disconnects s.bus i 
     (front-unmet (disconnect_conditions i c s.host)
     ((holds_of (λ k. has_no_label k side.Ap s) (control_of i s.host), why.NoLabel) ∷ [])
     (free s (event.Disconnect i c) allowed))) f
+
+-- a drain isn't refused
+pub turned-drains : (s : State) (i c : ℕ) → refusal s (event.Drain i c) ≡ None
+    → Linked s.bus s.host [] → TurnsTo s.bus s.host (HostEvent.Drain i c)
+turned-drains s i c allowed f =
+    linked-fits refl (fits-drains s.bus i c s.host f.host (free s (event.Drain i c) allowed)) f
+
+-- nothing is open on a connection
+pub turned-idle : {b : Bus} {h : Host} (k : ℕ) → Linked b h [] → TurnsTo b h (HostEvent.Idle k)
+turned-idle {b} {h} k f = linked-fits refl (fits-idle b k h f.host) f
 
 -- ---- requests of the supervisory controller
 

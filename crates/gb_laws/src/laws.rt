@@ -1,6 +1,7 @@
 //! The laws of runs. Each speaks of every run of valid events; where it speaks of moments, those
 //! are the events of the run with each settle taken apart into its deliveries.
 
+ghost use Rattle.gb_machine.specs.LawsDraining.{ClosingLeavesNoneOpen, DrainedComeToAnEnd};
 ghost use Rattle.gb_laws.specs.NoneLeft.{NoneLeftMeansAllInUse};
 ghost use Rattle.gb_laws.specs.OwnSide.{
   AbsentHasNoOpenOfAp,
@@ -72,6 +73,20 @@ pub fn answered_by_its_responder()
 /// is handled or an unwiring of its own connection, which isn't the supervisory controller's.
 pub fn every_end_has_its_cause()
     ensures { EveryEndHasItsCause }
+{}
+
+/// Where it is told at a moment that a connection is closing, no request that the application
+/// processor made on it is open after the moment.
+pub fn closing_leaves_none_open()
+    ensures { HoldsAtEachMoment ClosingLeavesNoneOpen }
+{}
+
+/// Where it is told that a connection is closing, and from some moment on no disconnect of it was
+/// done and no removal of its interface was handled, each request that the application processor
+/// had open on it before that moment was answered, was cancelled or timed out. A close that drains
+/// is such a case, from its drain on.
+pub fn drained_requests_come_to_an_end()
+    ensures { DrainedComeToAnEnd }
 {}
 
 /// Identifiers that are in use on a side of a connection differ, and are from 1 to 65,535.
