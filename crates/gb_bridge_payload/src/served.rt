@@ -1,15 +1,18 @@
 //! What a device answers.
 
-ghost use Rattle.std.specs.Prelude.{◌≡◌, [], IfOk};
+ghost use Rattle.std.specs.Prelude.{◌≡◌, [], IfOk, IsOk};
+ghost use Rattle.gb_base.specs.Bytes.{AreFew};
 ghost use Rattle.gb_formats.specs.Results.{answer_of, refusal_of};
 
 use crate::results::SUCCESS;
 use gb_base::{Bytes, OutOfMemory, OwnAsks, Served};
 use std::alloc::Global;
 
-/// The answer of success with this payload, and no requests of the device's own.
+/// The answer of success with this payload, and no requests of the device's own. A payload of few
+/// bytes takes no memory.
 pub fn answered(alloc: Global, payload: &[u8]) -> Result<Served, OutOfMemory>
-    ensures { IfOk result (λ served. served ≡ answer_of payload.now) }
+    ensures same { IfOk result (λ served. served ≡ answer_of payload.now) }
+    ensures few { AreFew payload.now → IsOk result }
 {
     Ok(Served {
         result: SUCCESS,

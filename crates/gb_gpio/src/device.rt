@@ -1,6 +1,6 @@
 //! The device.
 
-ghost use Rattle.std.specs.Prelude.{◌≡◌, ◌≤◌, IfOk, IsOkAnd};
+ghost use Rattle.std.specs.Prelude.{◌≡◌, ◌≤◌, IfOk, IsOk, IsOkAnd};
 ghost use Rattle.gb_bridge_payload.specs.Serving.{ServesAs};
 ghost use Rattle.gb_bridge_payload.specs.Views.{gpio_ask_of, gpio_reply_of};
 ghost use Rattle.gb_formats.specs.GpioDevice.{first_gpio, gpio_asked, gpio_level_set, gpio_step};
@@ -57,9 +57,11 @@ impl Device {
         restart(&mut self.lines);
     }
 
-    /// Serves a request of the application processor. After want of memory the device is as before.
+    /// Serves a request of the application processor. Its answers have few bytes, so it never
+    /// answers want of memory.
     pub fn serve(&mut self, kind: u8, payload: &[u8]) -> Result<Served, OutOfMemory>
-        ensures { ServesAs (gpio_step self.old kind payload.now) self.old self.new result }
+        ensures step { ServesAs (gpio_step self.old kind payload.now) self.old self.new result }
+        ensures few { IsOk result }
     {
         match GpioAsk::read_of_ap(kind, payload) {
             Ok(ask) => self.serve_ask(ask),
@@ -69,7 +71,8 @@ impl Device {
 
     /// Serves a request that was read.
     fn serve_ask(&mut self, ask: GpioAsk) -> Result<Served, OutOfMemory>
-        ensures { ServesAs (gpio_asked self.old (gpio_ask_of ask)) self.old self.new result }
+        ensures step { ServesAs (gpio_asked self.old (gpio_ask_of ask)) self.old self.new result }
+        ensures few { IsOk result }
     {
         match decide(&self.lines, ask) {
             Ok(Effect::Changes(which, line)) => {
@@ -107,10 +110,11 @@ fn restart(lines: &mut [Line])
     }
 }
 
-/// The answer of success with this response.
+/// The answer of success with this response, which has few bytes.
 fn tell(alloc: Global, reply: &GpioReply) -> Result<Served, OutOfMemory>
-    ensures { IfOk result
+    ensures same { IfOk result
         (λ served. served ≡ answer_of (gpio_reply_payload (gpio_reply_of reply.now))) }
+    ensures few { IsOk result }
 {
     let mut bytes = [0; 1];
     let Ok(size) = reply.write(&mut bytes) else {

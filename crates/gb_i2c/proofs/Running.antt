@@ -1,13 +1,14 @@
 -- Ops, one after the other.
 use Rattle.std.proofs.Common.{◌≡◌, ◌<◌, ◌≤◌, ◌+◌, ◌-◌, ℕ, Bool, true, false, List, ◌∷◌, ◌++◌}
-use Rattle.std.proofs.Common.{length, take, drop, sum_by, refl, arith, ap, ap₂, sym, ◌∙◌}
-use Rattle.std.proofs.Common.{length-drop, length-take, take_all, if◌then◌else◌}
+use Rattle.std.proofs.Common.{[], length, take, drop, sum_by, refl, arith, ap, ap₂, sym, ◌∙◌}
+use Rattle.std.proofs.Common.{length-append, length-drop, length-take, take_all, if◌then◌else◌}
 use Rattle.std.proofs.lemmas.List.Sums.{sum_by-cons}
+use Rattle.gb_base.specs.Bytes.{AreFew}
 use Rattle.gb_formats.specs.I2cDevice.{I2cDevice, after_op, after_read, after_write, op_read_bytes}
 use Rattle.gb_formats.specs.I2cDevice.{ops_run}
 use Rattle.gb_formats.specs.I2cRecords.{TransferOp, op_at, op_reads, op_size, op_written_size}
 use Rattle.gb_formats.specs.I2cRecords.{ops_at}
-use Rattle.gb_formats.specs.Results.{tells}
+use Rattle.gb_formats.specs.Results.{Step, tells}
 use Rattle.gb_i2c.proofs.Surveys.{ops_next, ops_left}
 use Rattle.gb_i2c.specs.Counted.{AreCounted}
 
@@ -89,3 +90,32 @@ pub runs_all : (count counter : ℕ) (device now : I2cDevice)
 runs_all count counter device now ops data_bytes old rest left new done r =
     let none : count - counter ≡ 0 = omega (arith, done) in
     sym r.runs ∙ ap (λ (n : ℕ). ops_run now left new (ops_at n rest)) none
+
+-- ops only add to what was read
+reads_more : (device : I2cDevice) (bytes front : List ℕ) (ops : List TransferOp)
+    → length front ≤ length (ops_run device bytes front ops).served.payload
+reads_more device bytes front [] = omega arith
+reads_more device bytes front (op ∷ ops) =
+    let next = reads_more (after_op device bytes op) (drop (op_written_size op) bytes)
+    (front ++ op_read_bytes device op) ops in
+    let added = length-append front (op_read_bytes device op) in
+    omega (arith, next, added)
+
+-- where all ops read few bytes, there are few behind the next one
+pub next_few : (count counter : ℕ) (device now : I2cDevice)
+    (ops data_bytes old rest left new : List ℕ) (op : TransferOp)
+    → counter < count → op ≡ op_at rest
+    → Runs count counter device ops data_bytes old now rest left new
+    → AreFew (ops_run device data_bytes old (ops_at count ops)).served.payload
+    → AreFew (new ++ op_read_bytes now op)
+next_few count counter device now ops data_bytes old rest left new op h is_op r few =
+    let later : List TransferOp = ops_at (count - (counter + 1)) (drop op_size rest) in
+    let more = reads_more (after_op now left op) (drop (op_written_size op) left)
+    (new ++ op_read_bytes now op) later in
+    let same : ops_run now left new (op ∷ later)
+    ≡ ops_run device data_bytes old (ops_at count ops) =
+    ap (λ (o : TransferOp). ops_run now left new (o ∷ later)) is_op
+    ∙ ap (ops_run now left new) (sym (ops_next count counter rest h))
+    ∙ r.runs in
+    let long = ap (λ (s : Step I2cDevice). length s.served.payload) same in
+    omega (arith, more, long, few)

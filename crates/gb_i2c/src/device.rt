@@ -1,6 +1,7 @@
 //! The device.
 
-ghost use Rattle.std.specs.Prelude.{◌≡◌, ◌/◌, IsOkAnd, length};
+ghost use Rattle.std.specs.Prelude.{◌≡◌, ◌/◌, IsOk, IsOkAnd, length};
+ghost use Rattle.gb_base.specs.Bytes.{AreFew};
 ghost use Rattle.gb_bridge_payload.specs.Conditions.{AreOps};
 ghost use Rattle.gb_bridge_payload.specs.Serving.{ServesAs};
 ghost use Rattle.gb_formats.specs.I2cDevice.{first_i2c, i2c_step, i2c_transfer_step};
@@ -52,9 +53,11 @@ impl Device {
         self.memory = Memory::first();
     }
 
-    /// Serves a request of the application processor. After want of memory the device is as before.
+    /// Serves a request of the application processor. An answer of few bytes takes no memory. After
+    /// want of memory the device is as before.
     pub fn serve(&mut self, kind: u8, payload: &[u8]) -> Result<Served, OutOfMemory>
-        ensures { ServesAs (i2c_step self.old kind payload.now) self.old self.new result }
+        ensures step { ServesAs (i2c_step self.old kind payload.now) self.old self.new result }
+        ensures few { AreFew (i2c_step self.old kind payload.now).served.payload → IsOk result }
     {
         match I2cAsk::read(kind, payload) {
             Ok(I2cAsk::Functionality) => answered(self.alloc, &FUNCTIONALITY.to_le_bytes()),
@@ -66,9 +69,12 @@ impl Device {
     /// Serves a transfer.
     fn transfer(&mut self, ops: &[u8], bytes: &[u8]) -> Result<Served, OutOfMemory>
         requires { AreOps ops.now bytes.now }
-        ensures { ServesAs
+        ensures step { ServesAs
             (i2c_transfer_step self.old (ops_at (length ops.now / op_size) ops.now) bytes.now)
             self.old self.new result }
+        ensures few { AreFew
+            (i2c_transfer_step self.old (ops_at (length ops.now / op_size) ops.now)
+            bytes.now).served.payload → IsOk result }
     {
         let count = (ops.len() / OP_SIZE) as u16;
         if let Err(code) = check(count, ops) {

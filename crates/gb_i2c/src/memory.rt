@@ -1,6 +1,7 @@
 //! The memory and its pointer.
 
-ghost use Rattle.std.specs.Prelude.{◌≡◌, ◌++◌, OnOk};
+ghost use Rattle.std.specs.Prelude.{◌≡◌, ◌++◌, IsOk, OnOk};
+ghost use Rattle.gb_base.specs.Bytes.{AreFew};
 ghost use Rattle.gb_formats.specs.I2cDevice.{after_byte, after_read, after_write, first_i2c};
 ghost use Rattle.gb_formats.specs.I2cDevice.{read_from};
 
@@ -63,12 +64,14 @@ impl Memory {
     }
 
     /// A read: so many bytes from the pointer on, which are added to `answer`. The pointer goes up
-    /// by one with each, from 255 to 0.
+    /// by one with each, from 255 to 0. Few in all take no memory.
     /// After want of memory some may have been added, and the pointer is where it was.
     pub fn read(&mut self, count: u16, answer: &mut Bytes) -> Result<(), OutOfMemory>
         ensures bytes { OnOk result (answer.new
             ≡ answer.old ++ read_from self.old.memory self.old.pointer count) }
         ensures memory { OnOk result (self.new ≡ after_read self.old count) }
+        ensures few { AreFew (answer.old ++ read_from self.old.memory self.old.pointer count)
+            → IsOk result }
     {
         let mut place = self.pointer;
         for _ in 0..count {

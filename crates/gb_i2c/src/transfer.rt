@@ -1,6 +1,7 @@
 //! The ops of a transfer, done at the memory.
 
-ghost use Rattle.std.specs.Prelude.{◌≡◌, ◌++◌, OnOk, length};
+ghost use Rattle.std.specs.Prelude.{◌≡◌, ◌++◌, IsOk, OnOk, length};
+ghost use Rattle.gb_base.specs.Bytes.{AreFew};
 ghost use Rattle.gb_bridge_payload.specs.Views.{op_of};
 ghost use Rattle.gb_formats.specs.I2cDevice.{after_op, op_read_bytes, ops_run};
 ghost use Rattle.gb_formats.specs.I2cRecords.{op_written_size, ops_at};
@@ -11,8 +12,8 @@ use crate::memory::Memory;
 use gb_base::{Bytes, OutOfMemory};
 use gb_bridge_payload::TransferOp;
 
-/// Does so many ops in order, and adds the bytes that they read to `answer`. After want of memory
-/// some may have been done.
+/// Does so many ops in order, and adds the bytes that they read to `answer`. Few in all take no
+/// memory. After want of memory some may have been done.
 pub fn run(
     count: u16,
     ops: &[u8],
@@ -21,8 +22,11 @@ pub fn run(
     answer: &mut Bytes,
 ) -> Result<(), OutOfMemory>
     requires { AreCounted count ops.now bytes.now }
-    ensures { OnOk result (ops_run memory.old bytes.now answer.old (ops_at count ops.now)
+    ensures step { OnOk result (ops_run memory.old bytes.now answer.old (ops_at count ops.now)
         ≡ tells memory.new answer.new) }
+    ensures few { AreFew
+        (ops_run memory.old bytes.now answer.old (ops_at count ops.now)).served.payload
+        → IsOk result }
 {
     let mut ops = ops;
     let mut bytes = bytes;
@@ -47,6 +51,7 @@ fn apply(
     ensures memory { OnOk result (memory.new ≡ after_op memory.old bytes.now (op_of op.now)) }
     ensures answer { OnOk result
         (answer.new ≡ answer.old ++ op_read_bytes memory.old (op_of op.now)) }
+    ensures few { AreFew (answer.old ++ op_read_bytes memory.old (op_of op.now)) → IsOk result }
 {
     if op.reads() {
         return memory.read(op.size, answer);

@@ -1,6 +1,7 @@
 //! The SPI device.
 
-ghost use Rattle.std.specs.Prelude.{◌≡◌, ◌≤◌, IfOk, IsOkAnd, length, sum_by};
+ghost use Rattle.std.specs.Prelude.{◌≡◌, ◌≤◌, IfOk, IsOk, IsOkAnd, length, sum_by};
+ghost use Rattle.gb_base.specs.Bytes.{AreFew};
 ghost use Rattle.gb_bridge_payload.specs.Conditions.{IsSpiReply};
 ghost use Rattle.gb_bridge_payload.specs.Serving.{ServesAs};
 ghost use Rattle.gb_bridge_payload.specs.Views.{spi_reply_of};
@@ -9,10 +10,10 @@ ghost use Rattle.gb_formats.specs.SpiDevice.{first_spi, spi_step, spi_transfer_s
 ghost use Rattle.gb_formats.specs.SpiRecords.{entry_written_size, spi_reply_payload};
 ghost use Rattle.gb_spi.specs.Sizes.{entries_in};
 
-use crate::transfer::{is_any_strange, reads_fit, run};
-use gb_base::{OutOfMemory, Served};
+use crate::transfer::{Progress, is_any_strange, reads_fit, run};
+use gb_base::{OutOfMemory, OwnAsks, Served};
 use gb_bridge_payload::{
-    INVALID, NONEXISTENT, OVERFLOW, SpiAsk, SpiReply, answered, fault_result, refused,
+    INVALID, NONEXISTENT, OVERFLOW, SUCCESS, SpiAsk, SpiReply, answered, fault_result, refused,
 };
 use std::alloc::Global;
 use std::marker::Model;
@@ -76,9 +77,11 @@ impl Device {
         self.last = FIRST;
     }
 
-    /// Serves a request of the application processor. After want of memory the device is as before.
+    /// Serves a request of the application processor. An answer of few bytes takes no memory. After
+    /// want of memory the device is as before.
     pub fn serve(&mut self, kind: u8, payload: &[u8]) -> Result<Served, OutOfMemory>
-        ensures { ServesAs (spi_step self.old kind payload.now) self.old self.new result }
+        ensures step { ServesAs (spi_step self.old kind payload.now) self.old self.new result }
+        ensures few { AreFew (spi_step self.old kind payload.now).served.payload → IsOk result }
     {
         match SpiAsk::read(kind, payload) {
             Ok(SpiAsk::MasterConfig) => self.config(MASTER),
@@ -100,8 +103,9 @@ impl Device {
     fn config(&self, reply: SpiReply<'_>) -> Result<Served, OutOfMemory>
         requires record { IsSpiReply (spi_reply_of reply) }
         requires room { length (spi_reply_payload (spi_reply_of reply)) ≤ 40 }
-        ensures { IfOk result
+        ensures same { IfOk result
             (λ served. served ≡ answer_of (spi_reply_payload (spi_reply_of reply.entry))) }
+        ensures few { AreFew (spi_reply_payload (spi_reply_of reply.entry)) → IsOk result }
     {
         let mut out = [0; CONFIG_SIZE];
         let Ok(size) = reply.write(&mut out) else {
@@ -119,9 +123,12 @@ impl Device {
         bytes: &[u8],
     ) -> Result<Served, OutOfMemory>
         requires { length bytes.now ≡ sum_by entry_written_size (entries_in entries.now) }
-        ensures { ServesAs
+        ensures step { ServesAs
             (spi_transfer_step self.old select mode (entries_in entries.now) bytes.now)
             self.old self.new result }
+        ensures few { AreFew
+            (spi_transfer_step self.old select mode (entries_in entries.now)
+            bytes.now).served.payload → IsOk result }
     {
         if mode > MOST_MODE || is_any_strange(entries) {
             return Ok(refused(self.alloc, INVALID));
@@ -132,9 +139,12 @@ impl Device {
         if !reads_fit(entries) {
             return Ok(refused(self.alloc, OVERFLOW));
         }
-        let progress = run(self.alloc, self.last, entries, bytes)?;
-        let served = answered(self.alloc, &progress.read)?;
-        self.last = progress.last;
-        Ok(served)
+        let Progress { last, read } = run(self.alloc, self.last, entries, bytes)?;
+        self.last = last;
+        Ok(Served {
+            result: SUCCESS,
+            payload: read,
+            asks: OwnAsks::new(self.alloc),
+        })
     }
 }

@@ -1,6 +1,7 @@
 //! The UART device.
 
-ghost use Rattle.std.specs.Prelude.{◌≡◌, ◌≤◌, IfOk, IsOk, length};
+ghost use Rattle.std.specs.Prelude.{◌≡◌, ◌≤◌, [], IfOk, IsOk, length};
+ghost use Rattle.gb_base.specs.Bytes.{AreFew};
 ghost use Rattle.gb_bridge_payload.specs.Conditions.{IsUartAsk};
 ghost use Rattle.gb_bridge_payload.specs.Views.{uart_ask_of};
 ghost use Rattle.gb_formats.specs.Results.{most_payload};
@@ -45,9 +46,11 @@ impl Device {
         ensures { self.new ≡ self.old }
     {}
 
-    /// Serves a request of the application processor.
+    /// Serves a request of the application processor. Only where it sends bytes back it takes
+    /// memory.
     pub fn serve(&mut self, kind: u8, payload: &[u8]) -> Result<Served, OutOfMemory>
-        ensures { IfOk result (λ served. served ≡ formats.uart_step kind payload.now) }
+        ensures step { IfOk result (λ served. served ≡ formats.uart_step kind payload.now) }
+        ensures few { (formats.uart_step kind payload.now).asks ≡ [] → IsOk result }
     {
         match UartAsk::read_of_ap(kind, payload) {
             Ok(ask) => self.answer(ask),
@@ -55,16 +58,18 @@ impl Device {
         }
     }
 
-    /// The request by which the device tells of its serial lines.
+    /// The request by which the device tells of its serial lines. It takes no memory.
     pub fn state(&self, control: u8) -> Result<OwnAsk, OutOfMemory>
-        ensures { IfOk result (λ ask. ask ≡ formats.serial_told control) }
+        ensures same { IfOk result (λ ask. ask ≡ formats.serial_told control) }
+        ensures few { IsOk result }
     {
         self.own(UartAsk::SerialState { control })
     }
 
     /// Serves a request that was read.
     fn answer(&self, ask: UartAsk<'_>) -> Result<Served, OutOfMemory>
-        ensures { IfOk result (λ served. served ≡ formats.uart_asked (uart_ask_of ask.entry)) }
+        ensures step { IfOk result (λ served. served ≡ formats.uart_asked (uart_ask_of ask.entry)) }
+        ensures few { (formats.uart_asked (uart_ask_of ask.entry)).asks ≡ [] → IsOk result }
     {
         match ask {
             UartAsk::SendData { bytes } => self.echo(bytes),
@@ -95,7 +100,8 @@ impl Device {
 
     /// Sends bytes back. OVERFLOW where they are more than a request may send.
     fn echo(&self, bytes: &[u8]) -> Result<Served, OutOfMemory>
-        ensures { IfOk result (λ served. served ≡ formats.send_answer bytes.now) }
+        ensures step { IfOk result (λ served. served ≡ formats.send_answer bytes.now) }
+        ensures few { (formats.send_answer bytes.now).asks ≡ [] → IsOk result }
     {
         if bytes.len() > MOST_SENT {
             return Ok(refused(self.alloc, OVERFLOW));
@@ -111,7 +117,8 @@ impl Device {
     /// there are no bytes.
     fn echo_asks(&self, bytes: &[u8]) -> Result<OwnAsks, OutOfMemory>
         requires { length bytes.now ≤ formats.most_sent }
-        ensures { IfOk result (λ asks. asks ≡ formats.echo_asks bytes.now) }
+        ensures same { IfOk result (λ asks. asks ≡ formats.echo_asks bytes.now) }
+        ensures few { formats.echo_asks bytes.now ≡ [] → IsOk result }
     {
         let mut asks = OwnAsks::new(self.alloc);
         if !bytes.is_empty() {
@@ -126,7 +133,8 @@ impl Device {
     fn own(&self, ask: UartAsk<'_>) -> Result<OwnAsk, OutOfMemory>
         requires record { IsUartAsk (uart_ask_of ask) }
         requires room { length (uart_ask_payload (uart_ask_of ask)) ≤ most_payload }
-        ensures { IfOk result (λ own. own ≡ formats.uart_own (uart_ask_of ask.entry)) }
+        ensures same { IfOk result (λ own. own ≡ formats.uart_own (uart_ask_of ask.entry)) }
+        ensures few { AreFew (uart_ask_payload (uart_ask_of ask.entry)) → IsOk result }
     {
         let mut out = [0; MOST_PAYLOAD];
         let Ok(size) = ask.write(&mut out) else {
