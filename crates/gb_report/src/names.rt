@@ -76,6 +76,7 @@ pub fn state_name(state: ConnState) -> &'static str
     match state {
         ConnState::Opening => "opening",
         ConnState::Open => "open",
+        ConnState::Draining => "draining",
         ConnState::Closing => "closing",
         ConnState::Closed => "closed",
         ConnState::Failed => "failed",

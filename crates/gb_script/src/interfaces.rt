@@ -3,7 +3,8 @@
 ghost use Rattle.std.specs.Prelude.{◌≡◌, ℕ, List, Some, Ok, Err, MatchResult, codes};
 ghost use Rattle.gb_base.specs.declared.event.Event.{Event};
 ghost use Rattle.gb_base.specs.declared.event.Event.TheVariants as event;
-ghost use Rattle.gb_formats.specs.Grammar.{inserting, of_cport, of_intf};
+ghost use Rattle.gb_formats.specs.Grammar.{disconnecting, disconnecting_how, inserting, of_cport};
+ghost use Rattle.gb_formats.specs.Grammar.{of_intf};
 ghost use Rattle.gb_script.specs.Parts.{inserting_kind, inserting_raw};
 ghost use Rattle.gb_formats.specs.Said.{Said};
 ghost use Rattle.gb_script.specs.Tells.{Says, StopsBy};
@@ -62,12 +63,26 @@ pub fn connect(rest: &Rest<'_>) -> Result<Event, LineFault>
     Ok(Event::Connect { intf, cport })
 }
 
-/// `disconnect I C`.
+/// `disconnect I C`, or `disconnect I C drain`.
 pub fn disconnect(rest: &Rest<'_>) -> Result<Event, LineFault>
-    ensures { Says result (of_cport event.Disconnect rest.now) }
+    ensures { Says result (disconnecting rest.now) }
 {
-    let (intf, cport) = only_cport(rest)?;
-    Ok(Event::Disconnect { intf, cport })
+    let (intf, cport, rest) = rest.intf_cport()?;
+    disconnect_how(intf, cport, &rest)
+}
+
+/// `drain`, or nothing, behind `disconnect I C`.
+fn disconnect_how(intf: u8, cport: u16, rest: &Rest<'_>) -> Result<Event, LineFault>
+    ensures { Says result (disconnecting_how intf cport rest.now) }
+{
+    let Some((word, behind)) = rest.split_first() else {
+        return Ok(Event::Disconnect { intf, cport });
+    };
+    if !is(word, "drain") {
+        return Err(LineFault::Bad(rest.extra_word()));
+    }
+    behind.end()?;
+    Ok(Event::Drain { intf, cport })
 }
 
 /// `hold I C`.

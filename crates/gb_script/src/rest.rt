@@ -80,6 +80,13 @@ impl<'a> Rest<'a> {
         LineReason::BadWord(self.place)
     }
 
+    /// Says that the next word is one too many.
+    pub fn extra_word(&self) -> LineReason
+        ensures { result ≡ bad.ExtraWord self.now.0 }
+    {
+        LineReason::ExtraWord(self.place)
+    }
+
     /// No word may be left.
     pub fn end(&self) -> Result<(), LineReason>
         ensures { MatchResult result
@@ -87,7 +94,7 @@ impl<'a> Rest<'a> {
             (λ why. (e : Event) → at_end self.now e ≡ Err why) }
     {
         match first_word(self.line) {
-            Some(_) => Err(LineReason::ExtraWord(self.place)),
+            Some(_) => Err(self.extra_word()),
             None => Ok(()),
         }
     }
