@@ -118,6 +118,9 @@ fn reads_times_and_places(rt: HostRuntime) {
             }
         )
     });
+    says(&rt, alloc, b"disconnect 31 0 drain", |event| {
+        matches!(event, Event::Drain { intf: 31, cport: 0 })
+    });
     says(&rt, alloc, b"answer 2 1 4294967295", |event| {
         matches!(
             event,
