@@ -42,6 +42,7 @@ pub mod SideSends
 pub mod SideStates
 pub mod Sides
 pub mod SlotClosing
+pub mod SlotDeadlines
 pub mod SlotDues
 pub mod SlotKept
 pub mod SlotLaws

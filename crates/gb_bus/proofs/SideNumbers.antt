@@ -1,13 +1,15 @@
 -- The requests whose identifiers are in use on a side of a connection are those whose slots say so.
 use Rattle.std.proofs.Common.{◌≡◌, ℕ, Bool, true, false, cond, ◌&&◌, ◌||◌, Option, Some, None}
-use Rattle.std.proofs.Common.{is_none, is_some, List, refl, sym, ap, ◌∙◌, nat_lt, option_map, subst}
+use Rattle.std.proofs.Common.{is_none, is_some, List, [], ◌∷◌, inl, refl, sym, ap, ◌∙◌, nat_lt}
+use Rattle.std.proofs.Common.{option_map, subst}
 use Rattle.std.specs.Prelude.{Err, IfOk, Ok, Result, find}
 use Rattle.gb_base.specs.declared.end.Side.{Side}
+use Rattle.gb_base.specs.declared.end.Side.TheVariants as side
 use Rattle.gb_base.specs.declared.errors.OutOfMemory.{OutOfMemory}
 use Rattle.gb_base.specs.declared.outcome.Outcome.{Outcome}
 use Rattle.gb_bus.proofs.Closing.{is-open-on, open-on-is, slot-of-made}
 use Rattle.gb_bus.proofs.Endings.{not-open, same-test}
-use Rattle.gb_bus.proofs.Finding.{twin}
+use Rattle.gb_bus.proofs.Finding.{no-twin, twin}
 use Rattle.gb_bus.specs.Connection.{Connection}
 use Rattle.gb_bus.specs.Listing.{AreThose, count, stands_in}
 use Rattle.gb_bus.specs.Parts.{numbered, ops_of}
@@ -18,12 +20,15 @@ use Rattle.gb_bus.specs.declared.bus.Bus.{Bus}
 use Rattle.gb_invariants.proofs.Awaiting.{is-open, not-both, same-some}
 use Rattle.gb_invariants.proofs.Outcomes.{any-in, in-any, in-open_requests}
 use Rattle.gb_machine.specs.Bus as machine
-use Rattle.gb_machine.specs.Bus.{Request, is_open, outcome_of, request_of}
+use Rattle.gb_machine.specs.Bus.{Request, connection_of, is_open, outcome_of, request_of}
 use Rattle.gb_machine.specs.Labels.{last_label}
 use Rattle.gb_machine.specs.LawsBus.{is_awaited}
-use Rattle.gb_machine.specs.Requests.{is_given_up, is_of}
+use Rattle.gb_machine.specs.Lists.{first}
+use Rattle.gb_machine.specs.Members.{IsIn}
+use Rattle.gb_machine.specs.Requests.{is_given_up, is_idle, is_of, open_on}
+use Rattle.gb_ops.specs.Finding.{TellsIdle}
 use Rattle.gb_ops.specs.Listed.{IsLate, IsOpen, Lists}
-use Rattle.gb_ops.specs.Operations.{Operations}
+use Rattle.gb_ops.specs.Operations.{Operations, pending_at}
 use Rattle.gb_ops.specs.declared.entries.Holder.{Holder}
 use Rattle.gb_ops.specs.declared.entries.Pending.{Pending}
 
@@ -140,6 +145,8 @@ given-up b n awaited over = by (outcome_of n b) refl over
 
 -- a side of a live connection, with what is kept of it
 record Kept (x : Bus) (b : machine.Bus) (k : ℕ) (at : Side) (ops : Operations) : Type 0 where
+  connection : machine.Connection
+  live : connection_of k b ≡ Some connection
   last : ℕ
   keeps : KeepsSide k at ops last b
 
@@ -154,6 +161,8 @@ kept-side around x b k at ops s is = by (find (numbered k) x.connections) refl i
     by (Some v) e h =
         let t = twin b.requests k x.connections b.connections v s.shows.connections e in
         record {
+          connection = t.connection;
+          live = t.live;
           last = last_label at t.connection;
           keeps = subst (λ o. KeepsSide k at o (last_label at t.connection) b)
               (sym (same-some ops (ops_of at v) h))
@@ -166,12 +175,12 @@ lists-open : (around : Around) (x : Bus) (b : machine.Bus) (k : ℕ) (at : Side)
     → Some ops ≡ option_map (ops_of at) (find (numbered k) x.connections)
     → Lists (IsOpen ops) ns → AreThose (λ n. is_open_on k at (slot_at x.slots n)) ns
 lists-open around x b k at ops ns s is lists =
-    let side = kept-side around x b k at ops s is in
+    let own = kept-side around x b k at ops s is in
     let slots = s.shows.slots in
     are-those (IsOpen ops) (λ n. is_open_on k at (slot_at x.slots n)) ns lists
     (λ n h. ap (is_open_on k at) (slots n)
-    ∙ pending-open around.names b k n at (ap is_some (sym (side.keeps.pending n)) ∙ h))
-    (λ n h. ap is_some (side.keeps.pending n)
+    ∙ pending-open around.names b k n at (ap is_some (sym (own.keeps.pending n)) ∙ h))
+    (λ n h. ap is_some (own.keeps.pending n)
     ∙ open-pending around.names b k n at (ap (is_open_on k at) (sym (slots n)) ∙ h))
 
 -- so are those that were given up
@@ -182,12 +191,12 @@ lists-late : (around : Around) (x : Bus) (b : machine.Bus) (k : ℕ) (at : Side)
 lists-late around x b k at ops ns s is lists =
     are-those (IsLate ops) (λ n. is_late_on k at (slot_at x.slots n)) ns lists passes holds
   where
-    side : Kept x b k at ops
-    side = kept-side around x b k at ops s is
+    own : Kept x b k at ops
+    own = kept-side around x b k at ops s is
 
     passes : (n : ℕ) → IsLate ops n → is_late_on k at (slot_at x.slots n) ≡ true
     passes n late =
-        let h = side.keeps.used late.label (record { number = n; given_up = true }) late.held in
+        let h = own.keeps.used late.label (record { number = n; given_up = true }) late.held in
         let given = sym (ap (λ (g : Holder). g.given_up) h.is) in
         ap (is_late_on k at) (s.shows.slots n)
         ∙ late-there around.names b k n at h.request h.made h.own h.awaited
@@ -199,7 +208,7 @@ lists-late around x b k at ops ns s is lists =
         (ap (is_late_on k at) (sym (s.shows.slots n)) ∙ h) in
         record {
           label = w.request.label;
-          held = side.keeps.held n w.request w.made w.own w.awaited
+          held = own.keeps.held n w.request w.made w.own w.awaited
               ∙ ap (λ t. Some (record { number = n; given_up = t }))
               (given-up b n w.awaited w.over);
         }
@@ -223,3 +232,56 @@ pub answers-late : (x : Bus) (k : ℕ) (at : Side) (ops : Operations)
     → AreThose (λ n. is_late_on k at (slot_at x.slots n)) ns)
 answers-late x k at ops (Ok ns) is h = λ around b s. lists-late around x b k at ops ns s is h
 answers-late x k at ops (Err refused) is h = tt
+
+-- ---- whether a request is open
+
+-- none is in a list, or one is
+none-first : (ns : List ℕ) → ((n : ℕ) → IsIn n ns → ⊥) → true ≡ is_none (first ns)
+none-first [] out = refl
+none-first (n ∷ ns) out = absurd (out n (inl refl))
+
+some-first : (ns : List ℕ) (n : ℕ) → IsIn n ns → false ≡ is_none (first ns)
+some-first [] n i = absurd i
+some-first (m ∷ ns) n i = refl
+
+-- a side says whether one of its requests is open
+side-idle : (b : machine.Bus) (k : ℕ) (at : Side) (ops : Operations) (idle : Bool)
+    → ((n : ℕ) → pending_at ops n ≡ pending_of k at n b) → TellsIdle (pending_at ops) idle
+    → idle ≡ is_none (first (open_on k at b))
+side-idle b k at ops true keeps none = none-first (open_on k at b) out
+  where
+    out : (n : ℕ) → IsIn n (open_on k at b) → ⊥
+    out n i =
+        let q = in-open_requests (is_of k at) b n i in
+        not-both (is_some (pending_of k at n b))
+        (open-pending [] b k n at (is-open-on [] b k n at q.0 q.1 q.2 q.3))
+        (ap is_some (sym (keeps n) ∙ none n))
+side-idle b k at ops false keeps some =
+    some-first (open_on k at b) some.number
+    (open-on-is [] b k some.number at
+    (pending-open [] b k some.number at (ap is_some (sym (keeps some.number)) ∙ some.there)))
+
+-- so does the connection that is live
+pub answers-idle : (x : Bus) (k : ℕ) (ops : Operations) (idle : Bool)
+    → Some ops ≡ option_map (ops_of side.Ap) (find (numbered k) x.connections)
+    → TellsIdle (pending_at ops) idle
+    → (around : Around) (b : machine.Bus) → Stands around x b
+    → idle ≡ is_none (connection_of k b) || is_idle k b
+answers-idle x k ops idle is tells around b s =
+    let own = kept-side around x b k side.Ap ops s is in
+    side-idle b k side.Ap ops idle own.keeps.pending tells
+    ∙ sym (ap (λ o. is_none o || is_idle k b) own.live)
+
+-- and one that isn't live has none
+pub answers-none : (x : Bus) (k : ℕ)
+    → None ≡ option_map (ops_of side.Ap) (find (numbered k) x.connections)
+    → (around : Around) (b : machine.Bus) → Stands around x b
+    → true ≡ is_none (connection_of k b) || is_idle k b
+answers-none x k is around b s =
+    sym (ap (λ o. is_none o || is_idle k b)
+    (no-twin b.requests k x.connections b.connections s.shows.connections
+    (none (find (numbered k) x.connections) is)))
+  where
+    none : (o : Option Connection) → None ≡ option_map (ops_of side.Ap) o → o ≡ None
+    none None e = refl
+    none (Some c) e = absurd cc

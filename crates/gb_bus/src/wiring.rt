@@ -1,12 +1,13 @@
 //! The bus: which connections there are, and what waits on them.
 
-ghost use Rattle.std.specs.Prelude.{◌≡◌, IfOk, OnOk, OnErr, option_map, is_none};
+ghost use Rattle.std.specs.Prelude.{◌≡◌, ◌||◌, IfOk, OnOk, OnErr, option_map, is_none};
 ghost use Rattle.std.specs.List.{list_any};
 ghost use Rattle.gb_base.specs.declared.end.Side.TheVariants as side;
 ghost use Rattle.gb_machine.specs.Bus as machine;
 ghost use Rattle.gb_machine.specs.Bus.{connection_of, place_of};
 ghost use Rattle.gb_machine.specs.Labels.{next_label};
 ghost use Rattle.gb_machine.specs.Plugging.{wired_numbers};
+ghost use Rattle.gb_machine.specs.Requests.{is_idle};
 ghost use Rattle.gb_machine.specs.Sending.{is_wired};
 ghost use Rattle.gb_machine.specs.Waiting.{first_waiting};
 ghost use Rattle.gb_machine.specs.Wiring.{
@@ -100,6 +101,18 @@ impl Bus {
         self.connections.shut(k);
         self.slots.close(unended.items(), late.items());
         Ok(())
+    }
+
+    /// No request of the application processor is open on a connection, or it isn't live. It takes
+    /// no memory.
+    pub fn idle(&self, k: u64) -> bool
+        ensures { (around : Around) (b : machine.Bus) → Stands around self.now b
+            → result ≡ is_none (connection_of k b) || is_idle k b }
+    {
+        match self.connections.ops(k, Side::Ap) {
+            Some(ops) => ops.is_idle(),
+            None => true,
+        }
     }
 
     /// The open requests of a side of a connection, in order of number. Where it isn't live they

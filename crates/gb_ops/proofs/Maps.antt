@@ -1,7 +1,7 @@
 -- Changes at one key of an ordered map.
 use Rattle.std.proofs.Common.{◌≡◌, ◌≢◌, ◌<◌, ◌≤◌, ℕ, min, true, false, cond, ◌⊎◌, inl, inr, Option}
 use Rattle.std.proofs.Common.{Some, None, is_some, List, [], ◌∷◌, length, refl, sym, ap, ◌∙◌, arith}
-use Rattle.std.proofs.Common.{unwrap_or, Equal}
+use Rattle.std.proofs.Common.{unwrap_or, Bool, Equal}
 use Rattle.std.proofs.lemmas.Bool.{cases_eq}
 use Rattle.std.proofs.lemmas.Bool.Decides.{nat_tests}
 use Rattle.std.proofs.lemmas.Cmp.{back_total, nat_cmp_total, on_total}
@@ -12,6 +12,7 @@ use Rattle.std.specs.Map.{lookup}
 use Rattle.std.specs.Ordering.{is_eq, nat_cmp}
 use Rattle.std.specs.declared.cmp.Reverse.{Reverse}
 use Rattle.gb_table.specs.Table.{Puts}
+use Rattle.gb_ops.specs.Finding.{TellsIdle}
 use Rattle.gb_ops.specs.Tables.{falling, numbered}
 use Rattle.gb_ops.specs.declared.entries.Pending.{Pending}
 
@@ -135,3 +136,16 @@ pub covers_none : (es : List (Reverse ℕ × Pending)) (soonest : ℕ) → lengt
     → Covers soonest es
 covers_none [] soonest empty = λ m q h. absurd cc
 covers_none (e ∷ es) soonest empty = absurd (omega (arith, empty))
+
+-- ---- whether anything is there
+
+-- nothing stands at any number exactly where the map is empty
+pub idle : (es : List (Reverse ℕ × Pending)) (t : Bool)
+    → (t ≡ true → length es ≡ 0) × (length es ≡ 0 → t ≡ true) → TellsIdle (at es) t
+idle [] true h = λ n. refl
+idle [] false h = absurd (cc (h.1 refl))
+idle (e ∷ es) true h = let empty = h.0 refl in absurd (omega (arith, empty))
+idle (e ∷ es) false h = record {
+  number = e.0.0;
+  there = ap (λ t. is_some (cond t (Some e.1) (at es e.0.0))) (key_same e.0.0 e.0.0 refl);
+}

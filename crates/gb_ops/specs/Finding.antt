@@ -1,6 +1,6 @@
--- The least open request, and the least of those whose deadline came.
-use Rattle.std.specs.Prelude.{◌≡◌, ◌<◌, ◌≤◌, ℕ, nat_le, if◌then◌else◌, Option, Some, None, List, []}
-use Rattle.std.specs.Prelude.{◌∷◌}
+-- Whether a request is open, the least that is, and the least of those whose deadline came.
+use Rattle.std.specs.Prelude.{◌≡◌, ◌<◌, ◌≤◌, ℕ, Bool, true, false, nat_le, if◌then◌else◌}
+use Rattle.std.specs.Prelude.{Option, Some, None, IsSome, List, [], ◌∷◌}
 use Rattle.std.specs.Option.{option_or}
 use Rattle.gb_ops.specs.declared.entries.Pending.{Pending}
 
@@ -40,3 +40,13 @@ pub record IsLeast (pending : ℕ → Option Pending) (n : ℕ) : Type 0 where
 abbrev pub FindsLeast : (ℕ → Option Pending) → Option ℕ → Type 0
 FindsLeast pending (Some n) = IsLeast pending n
 FindsLeast pending None = (m : ℕ) → pending m ≡ None
+
+-- some request is open
+pub record HasOne (pending : ℕ → Option Pending) : Type 0 where
+  pub number : ℕ
+  pub there : IsSome (pending number)
+
+-- true comes exactly where none is open.
+abbrev pub TellsIdle : (ℕ → Option Pending) → Bool → Type 0
+TellsIdle pending true = (n : ℕ) → pending n ≡ None
+TellsIdle pending false = HasOne pending

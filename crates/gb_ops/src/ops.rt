@@ -10,7 +10,7 @@ ghost use Rattle.gb_ops.specs.Calls.{
   emptied,
   no_operations,
 };
-ghost use Rattle.gb_ops.specs.Finding.{FindsDue};
+ghost use Rattle.gb_ops.specs.Finding.{FindsDue, TellsIdle};
 ghost use Rattle.gb_ops.specs.Listed.{IsLate, IsOpen, Lists};
 ghost use Rattle.gb_ops.specs.Operations.{holder_of, next_label, pending_at};
 
@@ -114,6 +114,13 @@ impl Ops {
         };
         self.tables.mark(pending.label);
         true
+    }
+
+    /// No request is open. It takes no memory.
+    pub fn is_idle(&self) -> bool
+        ensures { TellsIdle (pending_at self.now) result }
+    {
+        self.tables.is_idle()
     }
 
     /// The numbers of the open requests, in order.

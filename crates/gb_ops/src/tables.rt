@@ -6,7 +6,7 @@ ghost use Rattle.std.specs.List.{IsDistinct};
 ghost use Rattle.std.specs.List.Sorted.{IsStrictlySortedBy};
 ghost use Rattle.std.specs.Map.{keys_of};
 ghost use Rattle.std.specs.Ordering.{nat_cmp};
-ghost use Rattle.gb_ops.specs.Finding.{FindsDue, FindsLeast, due_in};
+ghost use Rattle.gb_ops.specs.Finding.{FindsDue, FindsLeast, TellsIdle, due_in};
 ghost use Rattle.gb_ops.specs.Listed.{late_among};
 ghost use Rattle.gb_ops.specs.Tables.{
   AllCovered,
@@ -110,6 +110,13 @@ impl Tables {
             Some((greatest, _)) => greatest.0 >= n,
             None => false,
         }
+    }
+
+    /// No request is open.
+    pub fn is_idle(&self) -> bool
+        ensures { TellsIdle (pending_in self.now) result }
+    {
+        self.pending.is_empty()
     }
 
     /// What an identifier is in use for.

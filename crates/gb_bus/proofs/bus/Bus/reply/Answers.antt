@@ -10,7 +10,7 @@ returns c = record {
       (cc (
         c.in_ok-push.ensures,
         c.other_side.ensures,
-        c.in_ok-payload.ensures,
+        c.in_ok-payload.ensures.same,
         c.reply_item-answer.ensures,
       ));
 }

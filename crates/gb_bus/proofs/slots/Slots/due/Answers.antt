@@ -1,7 +1,7 @@
 -- The numbers found are all where no deadline is left that came.
 use Rattle.std.proofs.Common.{◌≡◌, [], ap, rules, subst, sym, ◌∙◌}
-use Rattle.gb_bus.proofs.SlotDues.{due-are, due-ends, due-goes, due-keys, due-stops}
-use Rattle.gb_bus.proofs.SlotDues.{earliest-first}
+use Rattle.gb_bus.proofs.SlotDeadlines.{due-are}
+use Rattle.gb_bus.proofs.SlotDues.{due-ends, due-goes, due-keys, due-stops, earliest-first}
 use Rattle.gb_bus.proofs.slots.Slots.due.Goals as goal
 use Rattle.gb_bus.proofs.slots.Slots.due.Goals.{in-None, in-Some+then-deadline-now}
 use Rattle.gb_bus.specs.Slots.{is_due, slot_at}

@@ -1,7 +1,7 @@
 -- The least so far is the least of all where no deadline is left that came.
 use Rattle.std.proofs.Common.{◌≡◌, None, ap, rules, ◌∙◌}
-use Rattle.gb_bus.proofs.SlotDues.{earliest-first, first-is, least-ends, least-from, least-goes}
-use Rattle.gb_bus.proofs.SlotDues.{least-stops}
+use Rattle.gb_bus.proofs.SlotDeadlines.{first-is}
+use Rattle.gb_bus.proofs.SlotDues.{earliest-first, least-ends, least-from, least-goes, least-stops}
 use Rattle.gb_bus.proofs.slots.Slots.first_due.Goals as goal
 
 pub loop-deadline-preserved : goal.loop-deadline-preserved
