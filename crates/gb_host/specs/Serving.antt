@@ -17,6 +17,8 @@ event_of (event.Inserted i) = turns.HostEvent.Inserted i
 event_of (event.Removed i) = turns.HostEvent.Removed i
 event_of (event.Connect i c) = turns.HostEvent.Connect i c
 event_of (event.Disconnect i c) = turns.HostEvent.Disconnect i c
+event_of (event.Drain i c) = turns.HostEvent.Drain i c
+event_of (event.Idle k) = turns.HostEvent.Idle k
 event_of (event.Ended n how) = turns.HostEvent.Ended n how
 
 -- what the machine's application processor answers, and how it is then

@@ -6,7 +6,8 @@ ghost use Rattle.gb_base.specs.declared.entry.ConnState.TheVariants as state;
 ghost use Rattle.gb_host.specs.Turning.{left_acts, spelled};
 ghost use Rattle.gb_machine.specs.Failures as told;
 ghost use Rattle.gb_machine.specs.Host.{cport_of, interface_of, link_at};
-ghost use Rattle.gb_machine.specs.HostTurns.{host_connects, host_disconnects};
+ghost use Rattle.gb_machine.specs.HostTurns.{host_connects, host_disconnects, host_drains};
+ghost use Rattle.gb_machine.specs.HostTurns.{host_idle};
 ghost use Rattle.gb_machine.specs.Sequences.{link_closed, link_left, link_opened};
 ghost use Rattle.gb_machine.specs.Turns as turns;
 ghost use Rattle.gb_manifest.specs.Values.{view_of};
@@ -73,6 +74,35 @@ impl Host {
         };
         let acts = self.ask_in_state(acts, purpose, ConnState::Closing)?;
         Ok(acts)
+    }
+
+    /// A connection drains: it closes once the requests on it have ended.
+    pub(crate) fn drain(&mut self, acts: Acts, intf: u8, cport: u16) -> Result<Acts, OutOfMemory>
+        ensures { TurnsAfter (host_drains intf cport (host_of self.old)) acts
+            self.old self.new result }
+    {
+        let purpose = Purpose {
+            intf,
+            cport,
+            step: SequenceStep::TellDisconnecting,
+        };
+        let acts = self.tell_link(acts, purpose, ConnState::Draining)?;
+        self.links.set_state(intf, cport, ConnState::Draining);
+        Ok(acts)
+    }
+
+    /// No request is open on a connection: its close sequence begins where it drains.
+    pub(crate) fn idle(&mut self, acts: Acts, connection: u64) -> Result<Acts, OutOfMemory>
+        ensures { TurnsAfter (host_idle connection (host_of self.old)) acts
+            self.old self.new result }
+    {
+        let Some(link) = self.links.of(connection) else {
+            return Ok(acts);
+        };
+        if link.state != ConnState::Draining {
+            return Ok(acts);
+        }
+        self.disconnect(acts, link.intf, link.cport)
     }
 
     /// The connection of a purpose is open.

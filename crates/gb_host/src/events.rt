@@ -29,6 +29,18 @@ pub enum HostEvent {
         /// The CPort of the module.
         cport: u16,
     },
+    /// A connection is to be closed once the requests on it have ended.
+    Drain {
+        /// The interface, 2 to 31.
+        intf: u8,
+        /// The CPort of the module.
+        cport: u16,
+    },
+    /// No request of the application processor is open on a connection.
+    Idle {
+        /// The connection.
+        connection: u64,
+    },
     /// A request ended.
     Ended {
         /// The request.

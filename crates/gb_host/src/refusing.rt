@@ -6,7 +6,10 @@ ghost use Rattle.gb_machine.specs.Host.{control_of, cport_of, link_at};
 ghost use Rattle.gb_machine.specs.HostRefusals.{
   connect_conditions,
   disconnect_conditions,
+  drain_conditions,
   is_bridged,
+  is_closing,
+  is_ending,
   is_kept,
   link_conditions,
   send_conditions,
@@ -76,8 +79,18 @@ impl Host {
         if cport == 0 {
             return Err(Refusal::Unsupported);
         }
-        self.open_at(intf, cport)?;
+        self.unclosed_at(intf, cport)?;
         Ok(())
+    }
+
+    /// The connection to a CPort of an interface that may be closed once the requests on it have
+    /// ended, or why none is. The Control connection stays. It takes no memory.
+    pub fn may_drain(&self, intf: u8, cport: u16) -> Result<u64, Refusal>
+        ensures step { (h : machine.Host) → Stands self.now h
+            → SendsAs (first_met (drain_conditions intf cport h)) (link_at intf cport h) result }
+    {
+        self.may_disconnect(intf, cport)?;
+        self.open_at(intf, cport)
     }
 
     /// The connection to the Control CPort of an interface, None where there is none. It takes no
@@ -106,14 +119,31 @@ impl Host {
     #[inline]
     fn open_at(&self, intf: u8, cport: u16) -> Result<u64, Refusal>
         ensures step { (h : machine.Host) → Stands self.now h
-            → SendsAs (first_met (link_conditions (link_at intf cport h))) (link_at intf cport h)
-            result }
+            → SendsAs (first_met (link_conditions is_ending (link_at intf cport h)))
+            (link_at intf cport h) result }
     {
         let Some(link) = self.links.at(intf, cport) else {
             return Err(Refusal::NoConnection);
         };
         match link.state {
             ConnState::Open => Ok(link.connection),
+            ConnState::Draining | ConnState::Closing => Err(Refusal::Closing),
+            ConnState::Failed => Err(Refusal::Failed),
+            _ => Err(Refusal::NoConnection),
+        }
+    }
+
+    /// The connection to a CPort of an interface that may be closed, or why there is none.
+    fn unclosed_at(&self, intf: u8, cport: u16) -> Result<u64, Refusal>
+        ensures step { (h : machine.Host) → Stands self.now h
+            → SendsAs (first_met (link_conditions is_closing (link_at intf cport h)))
+            (link_at intf cport h) result }
+    {
+        let Some(link) = self.links.at(intf, cport) else {
+            return Err(Refusal::NoConnection);
+        };
+        match link.state {
+            ConnState::Open | ConnState::Draining => Ok(link.connection),
             ConnState::Closing => Err(Refusal::Closing),
             ConnState::Failed => Err(Refusal::Failed),
             _ => Err(Refusal::NoConnection),

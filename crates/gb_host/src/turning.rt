@@ -36,6 +36,8 @@ impl Host {
             HostEvent::Removed { intf } => self.removed(acts, intf),
             HostEvent::Connect { intf, cport } => self.connect(acts, intf, cport),
             HostEvent::Disconnect { intf, cport } => self.disconnect(acts, intf, cport),
+            HostEvent::Drain { intf, cport } => self.drain(acts, intf, cport),
+            HostEvent::Idle { connection } => self.idle(acts, connection),
             HostEvent::Ended { number, outcome } => self.ended(acts, number, outcome),
         }
     }
