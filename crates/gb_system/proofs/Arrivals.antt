@@ -22,7 +22,11 @@ use Rattle.gb_bus.specs.declared.bus.Bus.{Bus}
 use Rattle.gb_invariants.proofs.Numbers.{found-by_number}
 use Rattle.gb_laws.proofs.LinkBuses.{Linked}
 use Rattle.gb_laws.proofs.Links.{IsKnown, leaving, linked, supervisory}
-use Rattle.gb_laws.proofs.LinkChanges.{linked-ended, linked-popped}
+use Rattle.gb_invariants.proofs.Awaiting.{is_of-is, same-some}
+use Rattle.gb_invariants.proofs.Drawing.{open_with-in_use}
+use Rattle.gb_invariants.proofs.ItemChanges.{first-in}
+use Rattle.gb_invariants.proofs.Outcomes.{both-true}
+use Rattle.gb_laws.proofs.Noticing.{knows-over, knows-popped, knows-reached}
 use Rattle.gb_laws.proofs.Places.{place-is}
 use Rattle.gb_laws.proofs.Reached.{reached-linked}
 use Rattle.gb_machine.proofs.Opened.{machine_opened}
@@ -40,9 +44,10 @@ use Rattle.gb_machine.specs.Members.{IsIn}
 use Rattle.gb_machine.specs.Refusals.{has_nothing, is_end_unplugged, refusal}
 use Rattle.gb_machine.specs.State.{State}
 use Rattle.gb_formats.specs.Bridges.{reading_of}
-use Rattle.gb_machine.specs.Turns.{HostEvent}
-use Rattle.gb_system.proofs.Turning.{may-end}
-use Rattle.gb_system.specs.Acting.{MayTurn}
+use Rattle.gb_machine.specs.Requests.{is_of}
+use Rattle.gb_system.proofs.Turning.{may-follow}
+use Rattle.gb_system.specs.Ending.{IsOver, MayFollow}
+use Rattle.gb_system.specs.declared.ending.Over.{Over}
 use Rattle.gb_host.specs.Bridging.{reading_on}
 use Rattle.gb_machine.specs.Host.{Host, link_of}
 use Rattle.gb_system.proofs.AnswerReadings.{reads-as}
@@ -167,6 +172,7 @@ record IsEnded (s : State) (at : End) (y : Bus) (p : Place) (n kind result : ℕ
   bytes : List ℕ
   request : Request
   made : request_of n s.bus ≡ Some request
+  own : (request.connection ≡ p.connection.number) × (p.side ≡ request.side)
   kind_is : kind ≡ request.kind
   outcome_is : answered code bytes ≡ outcome.Answered result payload
   stands : bus.Stands (around_bus [] s) y
@@ -185,31 +191,39 @@ ends-is s p n code bytes r made =
     (taken_state s p)) made
 
 -- What comes of it is told, and what waited for it goes on or fails.
-abbrev pub EndsThere : State → End → Bus → Place → Parties → Parties → ℕ → ℕ → ℕ → List ℕ → Reading
-    → List Entry → List Entry → Type 0
-EndsThere s at y p x z n kind result payload read a b =
-    ((t : State) → PartsStand [] (record x { bus = y }) t
-    → t.host ≡ s.host → read ≡ reading_at (side_of at) p.connection kind result payload)
+abbrev pub EndsThere : State → End → Bus → Place → Parties → Parties → Over → ℕ → ℕ → List ℕ
+    → Reading → List Entry → List Entry → Type 0
+EndsThere s at y p x z over kind result payload read a b =
+    (over.connection ≡ p.connection.number) → (over.side ≡ side_of at)
     → ((t : State) → PartsStand [] (record x { bus = y }) t
-    → MayTurn (HostEvent.Ended n (outcome.Answered result payload)) t
-    → Does z (tell (entry.Ended n (outcome.Answered result payload) read)
-    ▸ follows n (outcome.Answered result payload)) t a b)
+    → t.host ≡ s.host → read ≡ reading_at (side_of at) p.connection kind result payload)
+    → ((t : State) → PartsStand [] (record x { bus = y }) t → IsOver over t
+    → MayFollow over.number (outcome.Answered result payload) t
+    → Does z (tell (entry.Ended over.number (outcome.Answered result payload) read)
+    ▸ follows over.number (outcome.Answered result payload)) t a b)
     → ArrivesAs z s at a b None
 
 ended-here : {x z : Parties} {a b : List Entry} (s : State) (at : End) (y : Bus) (p : Place)
-    (item : Item) (n kind result : ℕ) (payload : List ℕ) (read : Reading)
+    (item : Item) (over : Over) (kind result : ℕ) (payload : List ℕ) (read : Reading)
     → PartiesStand x s → false ≡ is_end_unplugged at s → place_of at s.bus.connections ≡ Some p
     → first (queue p.side p.connection) ≡ Some item
-    → IsEnded s at y p n kind result payload
-    → EndsThere s at y p x z n kind result payload read a b
-ended-here {x} {z} {a} {b} s at y p item n kind result payload read st there named front h reads
-    ends =
+    → IsEnded s at y p over.number kind result payload
+    → EndsThere s at y p x z over kind result payload read a b
+ended-here {x} {z} {a} {b} s at y p item over kind result payload read st there named front h on
+    side reads ends =
+    let n = over.number in
     let w = is-there x s at p st named in
     let how = answered h.code h.bytes in
     let t = with_bus (ended n how (popped p.connection.number p.side s.bus)) s in
     let stand = rebussed [] y t.bus st.parts h.stands refl in
-    let may = may-end t n how (linked-ended n how
-    (linked-popped p.connection.number p.side (reached-linked s st.run))) in
+    let may : MayFollow n how t = may-follow n how t
+    (knows-over n how (knows-popped p.connection.number p.side (knows-reached s st.run))) in
+    let is : IsOver over t = record {
+      request = h.request;
+      made = h.made;
+      on = h.own.0 ∙ sym on;
+      side = sym h.own.1 ∙ sym w.side ∙ sym side;
+    } in
     let both : outcome.Answered h.code (if h.code == 0 then h.bytes else [])
     ≡ outcome.Answered result payload = h.outcome_is in
     let code_is : result ≡ h.code = cc in
@@ -220,8 +234,7 @@ ended-here {x} {z} {a} {b} s at y p item n kind result payload read st there nam
     ∙ ap (λ k. reading_at p.side p.connection k result payload) h.kind_is
     ∙ ap (λ r. reading_at p.side p.connection h.request.kind r payload) code_is
     ∙ reading-same p.side p.connection h.request.kind h.code h.bytes payload same in
-    let done = ends t stand (subst (λ (o : Outcome). MayTurn (HostEvent.Ended n o) t) h.outcome_is
-    may) in (
+    let done = ends t stand is (subst (λ (o : Outcome). MayFollow n o t) h.outcome_is may) in (
       allowed-here s at p item there named front,
       does-as (ap (λ (o : Outcome). (tell (entry.Ended n o read) ▸ follows n o) t)
           (sym h.outcome_is)
@@ -242,34 +255,53 @@ answer-is s at p n result bytes named front taken clean unanswered =
     else forgets n (entry.Late n)) (taken_state s p)) unanswered
 
 pub answer-here : {x z : Parties} {a b : List Entry} (s : State) (at : End) (y : Bus) (p : Place)
-    (item : Item) (n kind result : ℕ) (payload : List ℕ) (read : Reading)
+    (item : Item) (over : Over) (kind result : ℕ) (payload : List ℕ) (read : Reading)
     → PartiesStand x s → false ≡ is_end_unplugged at s → place_of at s.bus.connections ≡ Some p
     → first (queue p.side p.connection) ≡ Some item → takes p.side p.connection s ≡ true
-    → ArrivesAnswer (around_bus [] s) y p s.bus item n kind result payload
-    ⊎ ArrivesLabelled (around_bus [] s) y p s.bus item n kind result payload
-    → EndsThere s at y p x z n kind result payload read a b
-answer-here s at y p item n kind result payload read st there named front taken (inl h) =
-    ended-here s at y p item n kind result payload read st there named front (record {
+    → ArrivesAnswer (around_bus [] s) y p s.bus item over.number kind result payload
+    ⊎ ArrivesLabelled (around_bus [] s) y p s.bus item over.number kind result payload
+    → EndsThere s at y p x z over kind result payload read a b
+answer-here {x} s at y p item over kind result payload read st there named front taken (inl h) =
+    ended-here s at y p item over kind result payload read st there named front (record {
       code = result;
       bytes = h.bytes;
       request = h.request;
       made = h.made;
+      own =
+          let live = (is-there x s at p st named).live in
+          let waits = subst (λ i. IsIn i (queue p.side p.connection)) h.item_is
+          (first-in (queue p.side p.connection) item front) in
+          let o = st.parts.bus.facts.fits.items.own p.connection p.side
+          (Reply over.number result h.bytes) live waits in
+          let same = same-some h.request o.0 (sym h.made ∙ o.1) in (
+            ap (λ (r : Request). r.connection) same ∙ o.2,
+            sym (ap (λ (r : Request). r.side) same ∙ o.3),
+          );
       kind_is = h.kind_is;
       outcome_is = h.outcome_is;
       stands = h.stands;
-      is = answer-is s at p n result h.bytes named (front ∙ ap Some h.item_is) taken h.clean
-          h.still_open;
+      is = answer-is s at p over.number result h.bytes named (front ∙ ap Some h.item_is) taken
+          h.clean h.still_open;
     })
-answer-here s at y p item n kind result payload read st there named front taken (inr h) =
-    ended-here s at y p item n kind result payload read st there named front (record {
+answer-here s at y p item over kind result payload read st there named front taken (inr h) =
+    let o = open_with-in_use p.connection.number p.side h.came.label
+    (popped p.connection.number p.side s.bus) over.number h.found in
+    let same = same-some h.request o.0 (sym h.made ∙ o.1) in
+    let of = is_of-is p.connection.number p.side o.0 (both-true (is_of p.connection.number p.side
+    o.0) (o.0.label == h.came.label) o.2).0 in
+    ended-here s at y p item over kind result payload read st there named front (record {
       code = h.came.result;
       bytes = h.came.payload;
       request = h.request;
       made = h.made;
+      own = (
+        ap (λ (r : Request). r.connection) same ∙ of.0,
+        of.1 ∙ sym (ap (λ (r : Request). r.side) same),
+      );
       kind_is = h.kind_is;
       outcome_is = h.outcome_is;
       stands = h.stands;
-      is = by_label-opens s at p item h.came n named front taken h.is h.found;
+      is = by_label-opens s at p item h.came over.number named front taken h.is h.found;
     })
 
 -- ---- an answer that is late or unknown, bytes that are bad, and what is dropped

@@ -1,27 +1,37 @@
--- A connect and a disconnect are refused or done as the machine does.
-use Rattle.std.proofs.Common.{◌≡◌, ℕ, Bool, true, false, Some, None, is_none, List, [], ◌∷◌}
-use Rattle.std.proofs.Common.{sym, ap, ◌∙◌}
+-- A connect, a disconnect and a drain are refused or done as the machine does.
+use Rattle.std.proofs.Common.{◌≡◌, ℕ, Bool, true, false, Option, Some, None, is_none, List, []}
+use Rattle.std.proofs.Common.{◌∷◌, ap, option_map, refl, subst, sym, ◌∙◌}
 use Rattle.gb_base.specs.declared.end.Side.TheVariants as side
+use Rattle.gb_base.specs.declared.entry.ConnState.TheVariants as state
 use Rattle.gb_base.specs.declared.entry.Entry.{Entry}
 use Rattle.gb_base.specs.declared.entry.Entry.TheVariants as entry
 use Rattle.gb_base.specs.declared.event.Event.TheVariants as event
+use Rattle.gb_base.specs.declared.peers.Link.{Link}
 use Rattle.gb_base.specs.declared.refusal.Refusal.{Refusal}
 use Rattle.gb_base.specs.declared.refusal.Refusal.TheVariants as why
 use Rattle.gb_formats.specs.ValidEvents.{IsValid}
 use Rattle.gb_machine.proofs.Opened.{machine_opened}
-use Rattle.gb_machine.specs.Host.{control_of}
-use Rattle.gb_machine.specs.HostActs.{notices}
+use Rattle.gb_invariants.proofs.Awaiting.{same-some}
+use Rattle.gb_invariants.proofs.Found.{find-changed}
+use Rattle.gb_laws.proofs.Noticing.{knows-drains, knows-reached}
+use Rattle.gb_machine.specs.Actions.{given}
+use Rattle.gb_machine.specs.Host.{control_of, in_state, is_link, link_at, with_link}
+use Rattle.gb_machine.specs.HostActs.{idles, notices, turns}
 use Rattle.gb_machine.specs.HostRefusals.{connect_conditions, disconnect_conditions}
+use Rattle.gb_machine.specs.HostRefusals.{drain_conditions}
 use Rattle.gb_machine.specs.Labels.{next_label}
 use Rattle.gb_machine.specs.Lists.{Condition, first_met, holds_of}
 use Rattle.gb_machine.specs.Refusals.{has_no_label, refusal}
+use Rattle.gb_machine.specs.Sequences.{link_turn}
 use Rattle.gb_machine.specs.State.{State}
 use Rattle.gb_machine.specs.Turns.{HostEvent}
+use Rattle.gb_system.proofs.Doings.{does-by_state, does-given, does-then}
 use Rattle.gb_system.proofs.Landing.{lands, lands-refused}
 use Rattle.gb_system.proofs.Ways.{met-early, met-late}
-use Rattle.gb_system.proofs.Turning.{may-connect, may-disconnect}
+use Rattle.gb_system.proofs.Turning.{may-connect, may-disconnect, may-drain, may-idle}
 use Rattle.gb_system.specs.Acting.{MayTurn}
 use Rattle.gb_system.specs.Doing.{Does}
+use Rattle.gb_system.specs.Ending.{MayIdle}
 use Rattle.gb_system.specs.Stands.{PartiesStand, PartsStand, PartsStep}
 use Rattle.gb_system.specs.declared.parties.Parties.{Parties}
 
@@ -121,3 +131,58 @@ disconnect-done x y s i c spent before es st free by so begun noticed =
     disconnect-last s i c spent free by ∙ ap (λ b. first_met ((b, why.NoLabel) ∷ [])) so in
     lands y s (event.Disconnect i c) before es allowed begun
     (noticed s st.parts (may-disconnect s i c st.run allowed))
+
+-- ---- drains
+
+-- the application processor refuses
+pub drain-refused : (x : Parties) (s : State) (i c : ℕ) (why : Refusal) (es : List Entry)
+    → PartiesStand x s → first_met (drain_conditions i c s.host) ≡ Some why
+    → es ≡ entry.Refused why ∷ [] → PartsStep x s (event.Drain i c) es
+drain-refused x s i c why es st refused is =
+    lands-refused x s (event.Drain i c) why es refused is st.parts
+
+-- the state once a connection drains
+drains-is : (i c : ℕ) (s : State) (l : Link) → link_at i c s.host ≡ Some l
+    → (notices (HostEvent.Drain i c) s).state
+    ≡ record s { host = with_link i c (in_state state.Draining) s.host }
+unfolding machine_opened
+drains-is i c s l is = ap (λ o. (turns (link_turn state.Draining o
+    (with_link i c (in_state state.Draining) s.host)) s).state) is
+
+-- it is found where it was
+still-there : (i c : ℕ) (s : State) (l : Link) → link_at i c s.host ≡ Some l
+    → link_at i c (notices (HostEvent.Drain i c) s).state.host
+    ≡ Some (in_state state.Draining l)
+still-there i c s l is =
+    ap (λ (t : State). link_at i c t.host) (drains-is i c s l is)
+    ∙ find-changed (is_link i c) (in_state state.Draining) s.host.links (λ x. refl)
+    ∙ ap (option_map (in_state state.Draining)) is
+
+-- it is done
+pub drain-done : (x y z : Parties) (s : State) (i c k : ℕ) (before mid es : List Entry)
+    → PartiesStand x s → first_met (drain_conditions i c s.host) ≡ None
+    → option_map (λ l. l.connection) (link_at i c s.host) ≡ Some k → before ≡ entry.Done ∷ []
+    → ((t : State) → PartsStand [] x t → MayTurn (HostEvent.Drain i c) t
+    → Does y (notices (HostEvent.Drain i c)) t before mid)
+    → ((t : State) → PartsStand [] y t → MayIdle k t → Does z (idles k) t mid es)
+    → PartsStep z s (event.Drain i c) es
+unfolding machine_opened
+drain-done x y z s i c k before mid es st free is begun noticed rests =
+    by (link_at i c s.host) refl is
+  where
+    d : Does y (notices (HostEvent.Drain i c)) s before mid
+    d = noticed s st.parts (may-drain s i c)
+
+    t : State
+    t = (notices (HostEvent.Drain i c) s).state
+
+    by : (o : Option Link) → link_at i c s.host ≡ o → option_map (λ l. l.connection) o ≡ Some k
+        → PartsStep z s (event.Drain i c) es
+    by None found own = absurd cc
+    by (Some l) found own =
+        lands z s (event.Drain i c) before es free begun (does-then d
+        (does-by_state (λ u. given (link_at i c u.host) (λ m. idles m.connection))
+        (does-given (λ m. idles m.connection) (in_state state.Draining l)
+        (still-there i c s l found)
+        (subst (λ n. Does z (idles n) t mid es) (sym (same-some l.connection k own))
+        (rests t d.stand (may-idle k t (knows-drains i c s free (knows-reached s st.run))))))))

@@ -17,8 +17,8 @@ use Rattle.gb_bus.specs.Naming.{KeepsAs, asked_for, with_name, without_name}
 use Rattle.gb_bus.specs.Slots.{most_names}
 use Rattle.gb_bus.specs.Stands as bus
 use Rattle.gb_bus.specs.declared.bus.Bus as code
-use Rattle.gb_laws.proofs.LinkChanges.{linked-gave_up}
-use Rattle.gb_laws.proofs.Reached.{reached-linked, reached-names}
+use Rattle.gb_laws.proofs.Noticing.{knows-gave_up, knows-reached}
+use Rattle.gb_laws.proofs.Reached.{reached-names}
 use Rattle.gb_machine.proofs.Options.{none-of}
 use Rattle.gb_machine.proofs.Opened.{machine_opened}
 use Rattle.gb_machine.specs.Actions.{change, given, tell, ◌▸◌}
@@ -31,17 +31,17 @@ use Rattle.gb_machine.specs.Members.{Each}
 use Rattle.gb_machine.specs.Names.{bound, freed, named, same_name}
 use Rattle.gb_machine.specs.Requests.{gave_up}
 use Rattle.gb_machine.specs.State.{State}
-use Rattle.gb_machine.specs.Turns.{HostEvent}
 use Rattle.gb_system.proofs.BoundNames.{apart-bound, apart-freed, named-sorted, sorted-bound}
 use Rattle.gb_system.proofs.BoundNames.{sorted-freed}
 use Rattle.gb_system.proofs.Doings.{does-by_state, does-change, does-given}
+use Rattle.gb_system.proofs.Endings.{lost}
 use Rattle.gb_system.proofs.Landing.{lands, lands-refused}
 use Rattle.gb_system.proofs.NameCounts.{count-bound, count-freed, length-sorted, made-bound}
 use Rattle.gb_system.proofs.NameCounts.{made-freed, named-asked}
 use Rattle.gb_system.proofs.Standing.{rebussed}
-use Rattle.gb_system.proofs.Turning.{may-end}
-use Rattle.gb_system.specs.Acting.{MayTurn}
+use Rattle.gb_system.proofs.Turning.{may-follow}
 use Rattle.gb_system.specs.Doing.{Does}
+use Rattle.gb_system.specs.Ending.{IsAwaited, MayFollow}
 use Rattle.gb_system.specs.NameOrder.{AreApart}
 use Rattle.gb_system.specs.Showing.{pair_before}
 use Rattle.gb_system.specs.Stands.{PartiesStand, PartsStand, PartsStep, around_bus, held_items}
@@ -215,7 +215,8 @@ pub cancel-done : (x y : Parties) (z : code.Bus) (s : State) (name : Name) (n : 
     (before es : List Entry) → PartiesStand x s → named name x.names ≡ Some n
     → GivesUp (around_bus [] s) z outcome.Cancelled n s.bus → before ≡ entry.Done ∷ []
     → (PartsStand [] (record x { bus = z }) (given_up n outcome.Cancelled s)
-    → MayTurn (HostEvent.Ended n outcome.Cancelled) (given_up n outcome.Cancelled s)
+    → IsAwaited n (given_up n outcome.Cancelled s)
+    → MayFollow n outcome.Cancelled (given_up n outcome.Cancelled s)
     → Does y (tell (entry.Ended n outcome.Cancelled reading.Nothing) ▸ follows n outcome.Cancelled)
     (given_up n outcome.Cancelled s) before es)
     → PartsStep y s (event.Cancel name) es
@@ -227,8 +228,9 @@ cancel-done x y z s name n before es st h cancels begun ends =
     ∙ ap (λ o. first_met ((is_some o, why.AlreadyEnded) ∷ [])) still) begun
     (does-cancels s name n names_it (does-gives_up s outcome.Cancelled n (ends
     (rebussed [] z (gave_up n outcome.Cancelled s.bus) st.parts cancels.stands refl)
-    (may-end (given_up n outcome.Cancelled s) n outcome.Cancelled
-    (linked-gave_up n outcome.Cancelled (reached-linked s st.run))))))
+    (lost n outcome.Cancelled s cancels.unended)
+    (may-follow n outcome.Cancelled (given_up n outcome.Cancelled s)
+    (knows-gave_up n outcome.Cancelled (knows-reached s st.run))))))
 
 -- ---- copies
 

@@ -10,8 +10,8 @@ use Rattle.gb_bus.specs.Cancelling.{GivesUpAs}
 use Rattle.gb_bus.specs.declared.answers.AlreadyEnded.{AlreadyEnded}
 use Rattle.gb_bus.specs.declared.bus.Bus as code
 use Rattle.gb_invariants.proofs.Awaiting.{not-both}
-use Rattle.gb_laws.proofs.LinkChanges.{linked-gave_up}
 use Rattle.gb_laws.proofs.Midway.{known-held, known-resting, known_law}
+use Rattle.gb_laws.proofs.Noticing.{knows-gave_up}
 use Rattle.gb_laws.proofs.Points.{resting}
 use Rattle.gb_laws.proofs.Ticking.{Ticks, due_by, ticks-first, ticks-next}
 use Rattle.gb_machine.proofs.Opened.{machine_opened}
@@ -24,15 +24,15 @@ use Rattle.gb_machine.specs.Reached.{OfARun}
 use Rattle.gb_machine.specs.Requests.{gave_up, is_due, open_requests}
 use Rattle.gb_machine.specs.Runs.{Moment}
 use Rattle.gb_machine.specs.State.{State}
-use Rattle.gb_machine.specs.Turns.{HostEvent}
 use Rattle.gb_system.proofs.Doings.{does-by_state, does-change, does-then}
 use Rattle.gb_system.proofs.Landing.{lands}
 use Rattle.gb_system.proofs.Midways.{Midway, each-cons, midway-as, midway-first, midway-more}
 use Rattle.gb_system.proofs.NamedRequests.{does-gives_up}
 use Rattle.gb_system.proofs.Standing.{rebussed}
-use Rattle.gb_system.proofs.Turning.{may-end}
-use Rattle.gb_system.specs.Acting.{MayTurn}
+use Rattle.gb_system.proofs.Endings.{lost}
+use Rattle.gb_system.proofs.Turning.{may-follow}
 use Rattle.gb_system.specs.Doing.{Does}
+use Rattle.gb_system.specs.Ending.{IsAwaited, MayFollow}
 use Rattle.gb_system.specs.Stands.{PartsStand, PartsStep, around_bus}
 use Rattle.gb_system.specs.Ticking.{MayTimeOut, given_up}
 use Rattle.gb_system.specs.declared.parties.Parties.{Parties}
@@ -44,14 +44,15 @@ pub time-out : {x : Parties} (y : Parties) (z : code.Bus) (s : State) (n : ℕ)
     (r : Result Unit AlreadyEnded) {a b : List Entry} → PartsStand [] x s → MayTimeOut n s
     → GivesUpAs (around_bus [] s) z outcome.Timeout n s.bus r → is_ok r ≡ true
     → ((t : State) → PartsStand [] (record x { bus = z }) t
-    → MayTurn (HostEvent.Ended n outcome.Timeout) t
+    → IsAwaited n t → MayFollow n outcome.Timeout t
     → Does y (tell (entry.Ended n outcome.Timeout reading.Nothing) ▸ follows n outcome.Timeout) t
     a b)
     → Does y (gives_up outcome.Timeout n) s a b
 time-out y z s n (Ok done) st may gives ok ends =
     does-gives_up s outcome.Timeout n
     (ends (given_up n outcome.Timeout s)
-    (rebussed [] z (gave_up n outcome.Timeout s.bus) st gives.stands refl) may.turn)
+    (rebussed [] z (gave_up n outcome.Timeout s.bus) st gives.stands refl)
+    (lost n outcome.Timeout s gives.unended) may.follow)
 time-out y z s n (Err fault) st may gives ok ends = absurd cc
 
 -- one that is open doesn't stay
@@ -124,8 +125,8 @@ mid-may {s = s} {run = run} {millis = millis} n t =
     let known = known-held (ticking s millis) run (resting t.so_far u) t.going.holds in
     record {
       unended = t.going.late.0.unended;
-      turn = may-end (given_up n outcome.Timeout u) n outcome.Timeout
-          (linked-gave_up n outcome.Timeout known.links);
+      follow = may-follow n outcome.Timeout (given_up n outcome.Timeout u)
+          (knows-gave_up n outcome.Timeout (record { links = known.links; alive = known.alive }));
     }
 
 -- where one is left at a place

@@ -1,28 +1,37 @@
 -- What the application processor does of its own is possible, since its connections go with the
 -- bus.
-use Rattle.std.proofs.Common.{◌≡◌, ◌≤◌, ◌<◌, ℕ, false, Some, None, option_map, List, [], ◌∷◌}
+use Rattle.std.proofs.Common.{◌≡◌, ◌≤◌, ◌<◌, ℕ, true, false, Option, Some, None, is_none, List}
+use Rattle.std.proofs.Common.{option_map, [], ◌∷◌, ◌==◌}
 use Rattle.std.proofs.Common.{length, refl, sym, ap, ◌∙◌, inl, inr, subst, arith}
 use Rattle.gb_base.specs.declared.end.End.{End}
 use Rattle.gb_base.specs.declared.end.End.TheVariants as end
+use Rattle.gb_base.specs.declared.entry.ConnState.TheVariants as state
 use Rattle.gb_base.specs.declared.event.Event.TheVariants as event
 use Rattle.gb_base.specs.declared.outcome.Outcome.{Outcome}
+use Rattle.gb_base.specs.declared.peers.Link.{Link}
 use Rattle.gb_base.specs.declared.steps.SequenceStep.{SequenceStep}
 use Rattle.gb_base.specs.declared.steps.SequenceStep.TheVariants as steps
 use Rattle.gb_bus.specs.Wiring.{IsOther}
 use Rattle.gb_formats.specs.Results.{most_payload}
 use Rattle.gb_formats.specs.ValidEvents.{IsValid}
 use Rattle.gb_base.specs.declared.end.Side.TheVariants as side
-use Rattle.gb_invariants.proofs.Awaiting.{same-some}
-use Rattle.gb_invariants.proofs.Lists.{each-from}
+use Rattle.gb_invariants.proofs.Awaiting.{not-both, same-some}
+use Rattle.gb_invariants.proofs.Found.{find-none}
+use Rattle.gb_invariants.proofs.Lists.{each-from, found-in}
 use Rattle.gb_laws.proofs.LinkBuses.{Linked, linked-left, linked-rest, linked-shut}
 use Rattle.gb_laws.proofs.Links.{IsFormed, IsFree, IsKnown, IsMaking, connection, control, leaving}
 use Rattle.gb_laws.proofs.Links.{linked, supervisory}
 use Rattle.gb_laws.proofs.MarkNotices.{SvcFront, svc-front}
+use Rattle.gb_laws.proofs.Noticing.{KnowsAt, knows-ended}
 use Rattle.gb_laws.proofs.PointParts.{IsNoticed}
 use Rattle.gb_laws.proofs.Reached.{reached-linked, reached-told}
-use Rattle.gb_laws.proofs.Turned.{turned-connects, turned-disconnects, turned-ended, turned-noticed}
-use Rattle.gb_machine.specs.Bus.{Bus, Connection, Item, Place, place_of, queue, same_end}
-use Rattle.gb_machine.specs.Host.{Host}
+use Rattle.gb_laws.proofs.Turned.{turned-connects, turned-disconnects, turned-ended, turned-idle}
+use Rattle.gb_laws.proofs.Turned.{turned-noticed}
+use Rattle.gb_machine.specs.Bus.{Bus, Connection, Item, Place, connection_of, has_number}
+use Rattle.gb_machine.specs.Bus.{place_of, queue}
+use Rattle.gb_machine.specs.Bus.{same_end}
+use Rattle.gb_machine.specs.Host.{Host, in_state, link_at, with_link}
+use Rattle.gb_machine.specs.HostActs.{notices}
 use Rattle.gb_machine.specs.HostServing.{host_serves}
 use Rattle.gb_machine.specs.Incoming.{Incoming, incoming, request_in}
 use Rattle.gb_machine.specs.Lists.{first}
@@ -31,10 +40,12 @@ use Rattle.gb_machine.specs.Reached.{OfARun}
 use Rattle.gb_machine.specs.Refusals.{refusal}
 use Rattle.gb_machine.specs.Runs.{Moment}
 use Rattle.gb_machine.specs.SequenceSteps.{Target, asks_control, kind_of, payload_of}
+use Rattle.gb_machine.specs.Sequences.{link_turn}
 use Rattle.gb_machine.specs.State.{State}
 use Rattle.gb_machine.specs.Turns.{Act, Asking, HostEvent, Making}
 use Rattle.gb_machine.specs.Wiring.{shut_down}
 use Rattle.gb_system.specs.Acting.{ArePossible, IsAskable, MayTurn}
+use Rattle.gb_system.specs.Ending.{MayFollow, MayIdle}
 
 -- ---- requests of steps
 
@@ -115,10 +126,31 @@ possible (Act.Tell e ∷ rest) {b} {h} f =
 
 -- ---- turns
 
+-- nothing is open on a connection
+pub may-idle : (k : ℕ) (s : State) → KnowsAt s → MayIdle k s
+may-idle k s f = record {
+  live = λ l is.
+      let found = found-in (λ l. l.connection == k) s.host.links l is in
+      let c = f.alive l found.0 in
+      there c.connection c.live (ap (λ n. n == k) c.number ∙ found.1)
+      (connection_of k s.bus) refl;
+  turn = possible _ (turned-idle k f.links);
+}
+  where
+    there : (c : Connection) → IsIn c s.bus.connections → has_number k c ≡ true
+        → (o : Option Connection) → connection_of k s.bus ≡ o → is_none o ≡ false
+    there c live is None e =
+        absurd (not-both (has_number k c) is
+        (find-none (has_number k) s.bus.connections c e live))
+    there c live is (Some d) e = refl
+
 -- a request ended
-pub may-end : (s : State) (n : ℕ) (how : Outcome) → Linked s.bus s.host []
-    → MayTurn (HostEvent.Ended n how) s
-may-end s n how f = possible _ (turned-ended n how f)
+pub may-follow : (n : ℕ) (how : Outcome) (s : State)
+    → KnowsAt s → MayFollow n how s
+may-follow n how s f = record {
+  turn = possible _ (turned-ended n how f.links);
+  idle = λ k. may-idle k (notices (HostEvent.Ended n how) s).state (knows-ended n how s f);
+}
 
 -- a connect that isn't refused
 pub may-connect : (s : State) (i c : ℕ) → OfARun s → refusal s (event.Connect i c) ≡ None
@@ -131,6 +163,15 @@ pub may-disconnect : (s : State) (i c : ℕ) → OfARun s → refusal s (event.D
     → MayTurn (HostEvent.Disconnect i c) s
 may-disconnect s i c run allowed =
     possible _ (turned-disconnects s i c allowed (reached-linked s run))
+
+-- a drain tells alone
+pub may-drain : (s : State) (i c : ℕ) → MayTurn (HostEvent.Drain i c) s
+may-drain s i c = by (link_at i c s.host)
+  where
+    by : (o : Option Link) → ArePossible (link_turn state.Draining o
+        (with_link i c (in_state state.Draining) s.host)).acts s.bus
+    by None = tt
+    by (Some l) = tt
 
 -- ---- requests of the supervisory controller
 

@@ -4,6 +4,7 @@ pub mod Bridging
 pub mod Deciding
 pub mod Doing
 pub mod Drafts
+pub mod Ending
 pub mod Held
 pub mod Holding
 pub mod NameOrder

@@ -5,8 +5,7 @@ use Rattle.gb_base.specs.declared.outcome.Outcome.TheVariants as outcome
 use Rattle.gb_machine.specs.Bus.{is_open}
 use Rattle.gb_machine.specs.Requests.{gave_up}
 use Rattle.gb_machine.specs.State.{State}
-use Rattle.gb_machine.specs.Turns.{HostEvent}
-use Rattle.gb_system.specs.Acting.{MayTurn}
+use Rattle.gb_system.specs.Ending.{MayFollow}
 
 -- the state once a request is given up
 abbrev pub given_up : ℕ → Outcome → State → State
@@ -15,4 +14,4 @@ given_up n how s = record s { bus = gave_up n how s.bus }
 -- A request is open, and what the application processor does where it times out is possible.
 pub record MayTimeOut (n : ℕ) (s : State) : Type 0 where
   pub unended : is_open n s.bus ≡ true
-  pub turn : MayTurn (HostEvent.Ended n outcome.Timeout) (given_up n outcome.Timeout s)
+  pub follow : MayFollow n outcome.Timeout (given_up n outcome.Timeout s)

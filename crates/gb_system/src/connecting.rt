@@ -61,6 +61,26 @@ impl Parties {
         Ok(())
     }
 
+    /// The application processor closes the connection to a CPort of an interface once its requests
+    /// on it have ended.
+    pub fn drain(&mut self, intf: u8, cport: u16, told: &mut Entries) -> Result<(), OutOfMemory>
+        requires { IsValid (event.Drain intf cport) }
+        ensures step { OnOk result ((s : State) → PartiesStand self.old s
+            → PartsStep self.new s (event.Drain intf cport) told.new) }
+    {
+        let connection = match self.host.may_drain(intf, cport) {
+            Ok(connection) => connection,
+            Err(why) => {
+                refuse(told, why)?;
+                return Ok(());
+            }
+        };
+        begin(told)?;
+        self.notice(HostEvent::Drain { intf, cport }, told)?;
+        self.close_drained(connection, told)?;
+        Ok(())
+    }
+
     /// The Control CPort of an interface is connected, and no identifier is left on its connection.
     fn is_control_spent(&self, intf: u8) -> bool
         ensures { (loose : List Loose) (s : State) → PartsStand loose self.now s

@@ -11,9 +11,10 @@ ghost use Rattle.gb_system.specs.Arriving.{ArrivesAs, ReadsOn};
 ghost use Rattle.gb_system.specs.Serving.{side_of};
 ghost use Rattle.gb_system.specs.Stands.{PartiesStand, PartsStand, PartsStep};
 
+use crate::ending::Over;
 use crate::entries::{begin, refuse};
 use crate::parties::Parties;
-use gb_base::{End, Entries, Entry, OutOfMemory, Outcome, Reading, Refusal};
+use gb_base::{End, Entries, Entry, OutOfMemory, Outcome, Reading, Refusal, Side};
 use gb_bus::{Arrival, Arrived, DeliverFault};
 
 impl Parties {
@@ -80,7 +81,12 @@ impl Parties {
                     result: code,
                     payload,
                 };
-                self.end(number, outcome, reading, told)?;
+                let over = Over {
+                    number,
+                    connection,
+                    side: side_of(at),
+                };
+                self.end(over, outcome, reading, told)?;
             }
             Arrival::Late { number } => told.push(Entry::Late { number })?,
             Arrival::LateLabel { label } => told.push(Entry::LateLabel { label })?,
@@ -112,5 +118,15 @@ impl Parties {
             End::Ap(_) if code == 0 => self.host.reading(connection, kind, payload),
             _ => Reading::Nothing,
         }
+    }
+}
+
+/// The side of a connection at which an end stands.
+fn side_of(at: End) -> Side
+    ensures { result ≡ side_of at }
+{
+    match at {
+        End::Ap(_) => Side::Ap,
+        End::Svc | End::Module { .. } => Side::Far,
     }
 }

@@ -1,39 +1,112 @@
-//! Requests that end.
+//! Requests that end, and connections that drain.
 
-ghost use Rattle.std.specs.Prelude.{◌≡◌, [], OnOk};
+ghost use Rattle.std.specs.Prelude.{◌≡◌, [], OnOk, Option, option_map};
+ghost use Rattle.gb_base.specs.declared.bridge.Reading.TheVariants as reading;
 ghost use Rattle.gb_base.specs.declared.entry.Entry.TheVariants as entry;
+ghost use Rattle.gb_base.specs.declared.peers.Link.{Link};
 ghost use Rattle.gb_machine.specs.Actions.{tell, ◌▸◌};
-ghost use Rattle.gb_machine.specs.HostActs.{follows};
+ghost use Rattle.gb_machine.specs.Host.{is_draining};
+ghost use Rattle.gb_machine.specs.HostActs.{follows, idles};
+ghost use Rattle.gb_machine.specs.Lists.{holds_of};
 ghost use Rattle.gb_machine.specs.State.{State};
-ghost use Rattle.gb_machine.specs.Turns as turns;
-ghost use Rattle.gb_system.specs.Acting.{MayTurn};
 ghost use Rattle.gb_system.specs.Doing.{Does};
+ghost use Rattle.gb_system.specs.Ending.{IsAwaited, IsOver, MayFollow, MayIdle};
 ghost use Rattle.gb_system.specs.Stands.{PartsStand};
 
 use crate::parties::Parties;
-use gb_base::{Entries, Entry, OutOfMemory, Outcome, Reading, TryCopy};
+use gb_base::{ConnState, Entries, Entry, OutOfMemory, Outcome, Reading, Side, TryCopy};
 use gb_host::HostEvent;
 
+/// A request that ended.
+#[derive(Clone, Copy)]
+pub struct Over {
+    /// Its number.
+    pub number: u64,
+    /// The connection on which it was made.
+    pub connection: u64,
+    /// The side that made it.
+    pub side: Side,
+}
+
 impl Parties {
-    /// A request ended: this is told, and what waited for it goes on or fails.
+    /// A request ended: this is told, what waited for it goes on or fails, and its connection
+    /// begins to close where it drains and nothing is open on it any more.
     pub fn end(
         &mut self,
-        number: u64,
+        over: Over,
         outcome: Outcome,
         reading: Reading,
         told: &mut Entries,
     ) -> Result<(), OutOfMemory>
-        ensures step { OnOk result ((s : State) → PartsStand [] self.old s
-            → MayTurn (turns.HostEvent.Ended number outcome) s
-            → Does self.new (tell (entry.Ended number outcome reading) ▸ follows number outcome) s
+        ensures step { OnOk result ((s : State) → PartsStand [] self.old s → IsOver over s
+            → MayFollow over.number outcome s
+            → Does self.new
+            (tell (entry.Ended over.number outcome reading) ▸ follows over.number outcome) s
             told.old told.new) }
     {
+        let number = over.number;
         told.push(Entry::Ended {
             number,
             outcome: outcome.copy()?,
             reading,
         })?;
         self.notice(HostEvent::Ended { number, outcome }, told)?;
+        match over.side {
+            Side::Far => Ok(()),
+            Side::Ap => {
+                self.close_drained(over.connection, told)?;
+                Ok(())
+            }
+        }
+    }
+
+    /// A request was given up, and ended so.
+    pub fn lose(
+        &mut self,
+        number: u64,
+        outcome: Outcome,
+        told: &mut Entries,
+    ) -> Result<(), OutOfMemory>
+        ensures step { OnOk result ((s : State) → PartsStand [] self.old s → IsAwaited number s
+            → MayFollow number outcome s
+            → Does self.new
+            (tell (entry.Ended number outcome reading.Nothing) ▸ follows number outcome) s
+            told.old told.new) }
+    {
+        let Some(about) = self.bus.about(number) else {
+            return Ok(());
+        };
+        let over = Over {
+            number,
+            connection: about.connection,
+            side: about.side,
+        };
+        self.end(over, outcome, Reading::Nothing, told)?;
         Ok(())
     }
+
+    /// A connection that drains begins to close where no request of the application processor is
+    /// open on it.
+    pub fn close_drained(&mut self, connection: u64, told: &mut Entries) -> Result<(), OutOfMemory>
+        ensures step { OnOk result ((s : State) → PartsStand [] self.old s
+            → MayIdle connection s
+            → Does self.new (idles connection) s told.old told.new) }
+    {
+        if !drains(self.host.stage(connection)) {
+            return Ok(());
+        }
+        if !self.bus.idle(connection) {
+            return Ok(());
+        }
+        self.notice(HostEvent::Idle { connection }, told)?;
+        Ok(())
+    }
+}
+
+/// Whether a connection to a module in this state drains.
+fn drains(stage: Option<ConnState>) -> bool
+    ensures { (o : Option Link) → stage ≡ option_map (λ l. l.state) o
+        → result ≡ holds_of (λ l. is_draining l.state) o }
+{
+    matches!(stage, Some(ConnState::Draining))
 }

@@ -8,7 +8,7 @@ ghost use Rattle.gb_system.specs.Stands.{PartiesStand, PartsStep};
 use crate::entries::{begin, refuse};
 use crate::key::Key;
 use crate::parties::Parties;
-use gb_base::{Entries, Name, OutOfMemory, Outcome, Reading, Refusal};
+use gb_base::{Entries, Name, OutOfMemory, Outcome, Refusal};
 use gb_bus::AlreadyEnded;
 
 impl Parties {
@@ -25,7 +25,7 @@ impl Parties {
         match self.bus.cancel(number) {
             Ok(()) => {
                 begin(told)?;
-                self.end(number, Outcome::Cancelled, Reading::Nothing, told)?;
+                self.lose(number, Outcome::Cancelled, told)?;
                 Ok(())
             }
             Err(AlreadyEnded) => {

@@ -84,6 +84,7 @@ impl Parties {
             Event::Pull { intf } => self.pull(*intf, told),
             Event::Connect { intf, cport } => self.connect(*intf, *cport, told),
             Event::Disconnect { intf, cport } => self.disconnect(*intf, *cport, told),
+            Event::Drain { intf, cport } => self.drain(*intf, *cport, told),
             Event::Send {
                 name,
                 to,

@@ -45,5 +45,8 @@ impl Parties {
 fn takes_in(stage: Option<ConnState>) -> bool
     ensures { (o : Option Link) → stage ≡ option_map (λ l. l.state) o → result ≡ link_takes o }
 {
-    matches!(stage, None | Some(ConnState::Opening | ConnState::Open))
+    matches!(
+        stage,
+        None | Some(ConnState::Opening | ConnState::Open | ConnState::Draining)
+    )
 }

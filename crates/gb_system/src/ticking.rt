@@ -11,7 +11,7 @@ ghost use Rattle.gb_system.specs.Ticking.{MayTimeOut};
 
 use crate::entries::begin;
 use crate::parties::Parties;
-use gb_base::{Entries, OutOfMemory, Outcome, Reading};
+use gb_base::{Entries, OutOfMemory, Outcome};
 
 impl Parties {
     /// Milliseconds pass: the open requests whose deadline came are given up, in order of number.
@@ -45,7 +45,7 @@ impl Parties {
             → Does self.new (gives_up outcome.Timeout number) s told.old told.new) }
     {
         if self.bus.expire(number).is_ok() {
-            self.end(number, Outcome::Timeout, Reading::Nothing, told)?;
+            self.lose(number, Outcome::Timeout, told)?;
         }
         Ok(())
     }

@@ -30,7 +30,7 @@ pub returns-in_ok-push-in-Tell : goal.returns-in_ok-push-in-Tell
 returns-in_ok-push-in-Tell c = record {
   step = λ s st.
       let told = does-tell c.in-Tell.entry st (c.in_ok-push-in-Tell.ensures.ok
-      ∙ ap (λ (e : Entry). c.args.told.now ++ e ∷ []) c.in_ok-copy-in-Tell.ensures) in
+      ∙ ap (λ (e : Entry). c.args.told.now ++ e ∷ []) c.in_ok-copy-in-Tell.ensures.same) in
       subst (λ (a : Act). ActsAs c.args.self.now.host c.args.self.now a s false c.args.told.now
       c.push.new.self) (sym c.in-Tell.is) (refl, told, refl);
 }

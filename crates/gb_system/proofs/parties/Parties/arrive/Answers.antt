@@ -58,11 +58,15 @@ returns-in_ok-end-in-Ended c = record {
       let a = subst (λ (w : Arrival). Brings (around_bus [] s) c.deliver.new.self
       c.takes-takes.result
       d.place s.bus d.item w) c.in-Ended.is d.brings in
-      answer-here s c.args.at c.deliver.new.self d.place d.item c.in-Ended.number c.in-Ended.kind
-      c.in-Ended.code c.in-Ended.payload c.reading-reading.result st
+      answer-here s c.args.at c.deliver.new.self d.place d.item (record {
+        number = c.in-Ended.number;
+        connection = c.in-Ok.arrived.connection;
+        side = c.side_of.result;
+      }) c.in-Ended.kind c.in-Ended.code c.in-Ended.payload c.reading-reading.result st
       (sym c.if-is_unplugged.false ∙ c.is_unplugged.ensures [] s st.parts) d.named d.front
       (sym (c.takes-takes.ensures [] s d.place st.parts d.named
       (is-there c.args.self.now s c.args.at d.place st d.named).side) ∙ a.0) a.1
+      d.connection c.side_of.ensures
       (λ t stand same. c.reading-reading.ensures [] t d.place.connection stand
       (reads-on s t c.args.at d.place c.in-Ok.arrived.connection st d.named d.connection same)
       ∙ ap (λ (p : List ℕ). reading_at (side_of c.args.at) d.place.connection c.in-Ended.kind

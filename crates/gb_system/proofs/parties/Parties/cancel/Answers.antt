@@ -14,14 +14,14 @@ returns-in_default c = record {
       c.in_ok-refuse.ensures;
 }
 
-pub returns-in_ok-end-in-Ok : goal.returns-in_ok-end-in-Ok
-returns-in_ok-end-in-Ok c = record {
+pub returns-in_ok-lose-in-Ok : goal.returns-in_ok-lose-in-Ok
+returns-in_ok-lose-in-Ok c = record {
   step = λ s st.
-      cancel-done c.args.self.now c.end.new.self c.cancel.new.self s c.args.name.now
-      c.in-Some.number c.begin.new.told c.end.new.told st
+      cancel-done c.args.self.now c.lose.new.self c.cancel.new.self s c.args.name.now
+      c.in-Some.number c.begin.new.told c.lose.new.told st
       (named-as c.args.self.now.names c.in_ok-name.ensures c.in-Some.ensures)
       (c.in-Ok.ensures.step (around_bus [] s) s.bus st.parts.bus) c.in_ok-begin-in-Ok.ensures
-      (c.in_ok-end-in-Ok.ensures.step (given_up c.in-Some.number outcome.Cancelled s));
+      (c.in_ok-lose-in-Ok.ensures.step (given_up c.in-Some.number outcome.Cancelled s));
 }
 
 pub returns-in_ok-refuse-in-Err : goal.returns-in_ok-refuse-in-Err

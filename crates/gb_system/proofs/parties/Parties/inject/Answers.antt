@@ -38,5 +38,5 @@ returns c = record {
       (c.in-Some.ensures (around_bus [] s) s.bus st.parts.bus) c.in_ok-begin.ensures
       (c.in_ok-push.ensures.ok ∙ ap (λ (b : List ℕ). c.begin.new.told
       ++ entry.Raw (end.Module c.args.intf c.args.cport) (end.Ap c.in-Some.ends.0)
-      (length c.args.bytes.now) b ∷ []) c.in_ok-from_slice.ensures);
+      (length c.args.bytes.now) b ∷ []) c.in_ok-from_slice.ensures.same);
 }
