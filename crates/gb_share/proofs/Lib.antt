@@ -25,6 +25,7 @@ pub mod Partings
 pub mod Begins
 pub mod Tellings
 pub mod NamesKept
+pub mod NamesServed
 pub mod NameSteps
 pub mod HandNames
 pub mod Following

@@ -29,10 +29,11 @@ use Rattle.gb_machine.specs.Lists.{conditions_of, without}
 use Rattle.gb_machine.specs.Names.{bound, is_bound, named, same_name}
 use Rattle.gb_machine.specs.Refusals.{conditions, has_no_label, refusal}
 use Rattle.gb_machine.specs.State.{State}
-use Rattle.gb_share.proofs.NamesKept.{keeps_answers, keeps_asks, keeps_boots, keeps_cancels}
-use Rattle.gb_share.proofs.NamesKept.{keeps_delivers, keeps_holds, keeps_injects, keeps_notices}
-use Rattle.gb_share.proofs.NamesKept.{keeps_plugs, keeps_pulls, keeps_settles, keeps_shows}
-use Rattle.gb_share.proofs.NamesKept.{keeps_stirs, keeps_ticks}
+use Rattle.gb_share.proofs.NamesKept.{keeps_asks, keeps_boots, keeps_cancels, keeps_drains}
+use Rattle.gb_share.proofs.NamesKept.{keeps_notices, keeps_plugs, keeps_pulls, keeps_stirs}
+use Rattle.gb_share.proofs.NamesKept.{keeps_ticks}
+use Rattle.gb_share.proofs.NamesServed.{keeps_answers, keeps_delivers, keeps_holds, keeps_injects}
+use Rattle.gb_share.proofs.NamesServed.{keeps_settles, keeps_shows}
 use Rattle.gb_system.proofs.BoundNames.{apart-bound, apart-freed}
 use Rattle.gb_system.specs.NameOrder.{AreApart}
 
@@ -125,6 +126,7 @@ names_done s (event.InsertRaw i manifest) valid allowed = keeps_plugs i _ s
 names_done s (event.Pull i) valid allowed = keeps_pulls i s
 names_done s (event.Connect i c) valid allowed = keeps_notices _ s
 names_done s (event.Disconnect i c) valid allowed = keeps_notices _ s
+names_done s (event.Drain i c) valid allowed = keeps_drains i c s
 names_done s (event.Send name to kind payload timeout) valid allowed =
     names_sent name to kind payload timeout s valid.1 allowed
 names_done s (event.Bridge name i c what) valid allowed = names_bridged name i c what s allowed
