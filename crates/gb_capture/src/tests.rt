@@ -1,10 +1,12 @@
 //! Audits by public calls: that memory is found, and what is found and written.
 
-ghost use Rattle.std.specs.Prelude.{◌≡◌};
+ghost use Rattle.std.specs.Prelude.{◌≡◌, ◌≤◌};
+ghost use Rattle.gb_capture.specs.Audits.{last_line};
 
 use crate::{Audit, Auditor, Turn, captured};
 use gb_base::{CaptureFault, Finding, Verdict};
 use gb_script::Line;
+use gb_wire::Message;
 use std::process::Abort;
 
 /// The line with this number.
@@ -76,4 +78,43 @@ fn bytes_behind_a_message_are_told(rt: HostRuntime) {
         panic!(&rt; "a fault");
     };
     assert!(rt; why == CaptureFault::Extra { count: 1 });
+}
+
+/// An audit, and the line of its last message.
+#[derive(Drop)]
+struct Asking {
+    audit: Audit,
+    line: u32,
+    ghost counted: { last_line audit ≤ line },
+}
+
+impl Asking {
+    /// The next line has a request with this identifier, of which nothing is found.
+    fn ask(&mut self, rt: &impl Abort, id: u16) {
+        let m = Message {
+            id,
+            kind: 2,
+            result: 0,
+            payload: &[],
+        };
+        assert!(rt; self.line < 65_535);
+        self.line += 1;
+        let found = self.audit.take(self.line, true, &m);
+        assert!(rt; found.is_none());
+    }
+}
+
+#[test]
+fn all_identifiers_are_open_at_once(rt: HostRuntime) {
+    let audit = Audit::new(rt.alloc()).expect(&rt, "memory");
+    let mut asking = Asking { audit, line: 0 };
+    for id in 1..=u16::MAX {
+        asking.ask(&rt, id);
+    }
+    let verdict = Verdict {
+        faults: 0,
+        pairs: 0,
+        unpaired: 65_535,
+    };
+    assert!(&rt; asking.audit.verdict() == verdict);
 }
