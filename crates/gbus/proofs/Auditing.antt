@@ -10,7 +10,7 @@ use Rattle.gb_capture.specs.declared.auditor.Turn.{Turn}
 use Rattle.gb_capture.specs.declared.auditor.Turn.TheVariants as turn
 use Rattle.gb_formats.specs.Captures.{first_bad}
 use Rattle.gbus.proofs.LineJobs.{bad-none, bad-of, bad-one}
-use Rattle.gbus.specs.LineJobs.{Audit, LineJob, has_bad, is_bad}
+use Rattle.gbus.specs.Program.{Audit, LineJob, has_bad, is_bad}
 use Rattle.gbus.specs.Sessions.{IsBehind, TurnsAs}
 use Rattle.gbus.specs.declared.session.Session.TheVariants as session
 

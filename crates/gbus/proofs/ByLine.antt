@@ -5,11 +5,9 @@ use Rattle.std.specs.Io.KnownBytes.{IsAtEnd}
 use Rattle.gb_base.specs.Faults.{Rose}
 use Rattle.gb_base.specs.declared.status.Status.{Status}
 use Rattle.gb_base.specs.declared.status.Status.TheVariants as status
-use Rattle.gbus.specs.LineJobs.{LineJob}
-use Rattle.gbus.specs.Program.{ByLine, IsVerdict, Job, is_by_line, lines_output, reads}
-use Rattle.gbus.specs.Runs.{IfByLine, IsAnswered, IsComplete, IsWithin}
-use Rattle.gbus.specs.LineEnds.{FaultRose, IsCutOff, IsFrontOfOutput, IsRefusedAt, IsReported}
-use Rattle.gbus.specs.LineEnds.{LinesEnd, StopsAs}
+use Rattle.gbus.specs.Program.{ByLine, IsVerdict, Job, LineJob, is_by_line, lines_output, reads}
+use Rattle.gbus.specs.Runs.{FaultRose, IfByLine, IsAnswered, IsComplete, IsCutOff, IsFrontOfOutput}
+use Rattle.gbus.specs.Runs.{IsRefusedAt, IsReported, IsWithin, LinesEnd, StopsAs}
 
 -- what was reported was answered
 reported : (j : LineJob) (left taken after : Option (List ℕ)) (s : Status)

@@ -8,8 +8,8 @@ use Rattle.gb_script.specs.Readers.{EndsAfter, holds_line}
 use Rattle.gb_script.specs.declared.line_reader.LineReader.{LineReader}
 use Rattle.gbus.proofs.Gathering.{gathers-on, no-part}
 use Rattle.gbus.proofs.LineEnds.{behind-lines, source-ended, stops-last, succeeded, whole-within}
-use Rattle.gbus.specs.LineEnds.{LinesEnd}
-use Rattle.gbus.specs.LineJobs.{LineJob, last_text, lines_text}
+use Rattle.gbus.specs.Program.{LineJob, last_text, lines_text}
+use Rattle.gbus.specs.Runs.{LinesEnd}
 use Rattle.gbus.specs.Sessions.{ending_of, written}
 use Rattle.gbus.specs.Stages.{Gathers, IsAtLast, IsOfOutput, Stage}
 use Rattle.gbus.specs.declared.line_worker.LineWorker.{LineWorker}

@@ -2,7 +2,8 @@
 use Rattle.std.proofs.Common.{ℕ, ◌++◌, Option, Some, None, List, [], append_assoc, append-nil, refl}
 use Rattle.std.proofs.Common.{sym, ap, ◌∙◌}
 use Rattle.std.specs.Io.KnownBytes.{Appends}
-use Rattle.gbus.specs.Writing.{TakesFront, TakesPart}
+use Rattle.gbus.specs.Runs.{TakesFront}
+use Rattle.gbus.specs.Writing.{TakesPart}
 
 -- what was taken, and then more
 pub appends_more : (a b c : Option (List ℕ)) (front piece : List ℕ) → Appends a b front

@@ -9,11 +9,12 @@ use Rattle.gb_base.specs.declared.sink.WriteStop.TheVariants as stop
 use Rattle.gb_base.specs.declared.status.Status.{Status}
 use Rattle.gb_base.specs.declared.status.Status.TheVariants as status
 use Rattle.gbus.proofs.Fronts.{all_taken, appends_more, nothing_more, part_taken}
-use Rattle.gbus.specs.LineEnds.{FaultRose, IsFrontOfOutput, LinesEnd, ReadsTo, StopsAs, StopsShort}
-use Rattle.gbus.specs.LineJobs.{Audit, LineJob, Report, lines_text}
+use Rattle.gbus.specs.Program.{Audit, LineJob, Report, lines_text}
+use Rattle.gbus.specs.Runs.{FaultRose, IsFrontOfOutput, LinesEnd, ReadsTo, StopsAs, StopsShort}
+use Rattle.gbus.specs.Runs.{TakesFront}
 use Rattle.gbus.specs.Sessions.{ending_of}
 use Rattle.gbus.specs.Stages.{Gathers, IsAtLast, IsLeft, IsOfOutput, fault_status}
-use Rattle.gbus.specs.Writing.{TakesFront, TakesPart}
+use Rattle.gbus.specs.Writing.{TakesPart}
 use Rattle.gbus.specs.declared.line_worker.LineWorker.{LineWorker}
 use Rattle.gbus.specs.declared.session.Session.{Session}
 

@@ -11,10 +11,11 @@ use Rattle.std.proofs.lemmas.List.{length-take, length-take-le, take-append-drop
 use Rattle.gb_base.specs.declared.status.Status.TheVariants as status
 use Rattle.gb_formats.specs.Lines.{ended_lines, longest_input}
 use Rattle.gbus.specs.Answers.{input_status, input_text}
-use Rattle.gbus.specs.Program.{Whole, is_too_long, lines_within, verdict, whole_output}
-use Rattle.gbus.specs.Reading.{IsLong, IsRead, StopsAtLimit}
+use Rattle.gbus.specs.Program.{Whole, WholeJob, is_too_long, lines_within, verdict, whole_output}
+use Rattle.gbus.specs.Program.{whole_text, whole_verdict}
+use Rattle.gbus.specs.Reading.{IsLong, IsRead}
+use Rattle.gbus.specs.Runs.{StopsAtLimit}
 use Rattle.gbus.specs.declared.input.Input.{Input}
-use Rattle.gbus.specs.WholeJobs.{WholeJob, whole_text, whole_verdict}
 use Rattle.gbus.specs.declared.input.Input.TheVariants as input
 
 -- ---- reading

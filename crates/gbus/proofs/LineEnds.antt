@@ -1,7 +1,8 @@
 -- What the lines of an input come to, by what was read, taken and written.
 use Rattle.std.proofs.Common.{◌≡◌, ℕ, ◌-◌, ◌<◌, ◌≤◌, Bool, true, false, Option, Some}
 use Rattle.std.proofs.Common.{None, Result, Ok, Err, List, [], ◌∷◌, ◌++◌, length, take}
-use Rattle.std.proofs.Common.{append_assoc, append-nil, length-append, refl, sym, ap, ◌∙◌, subst, arith, inr}
+use Rattle.std.proofs.Common.{append_assoc, append-nil, length-append, refl, sym, ap, ◌∙◌, subst}
+use Rattle.std.proofs.Common.{arith, inr}
 use Rattle.std.specs.Prelude.{IfSome}
 use Rattle.std.specs.Io.KnownBytes.{Appends, IsAtEnd, prepend_known}
 use Rattle.std.proofs.Math.Seq.{take-append-add}
@@ -21,11 +22,9 @@ use Rattle.gbus.proofs.Gathering.{no-part}
 use Rattle.gbus.proofs.Limits.{beyond, beyond_is, cut-input, cut_at, whole-input, within_is}
 use Rattle.gbus.proofs.LineJobs.{bad-among, output-begins, output-long, output-refused}
 use Rattle.gbus.proofs.LineJobs.{output-whole}
-use Rattle.gbus.specs.LineEnds.{IsCutOff, IsRefusedAt, IsReported, ReadsTo, StopsAs}
-use Rattle.gbus.specs.LineJobs.{Audit, LineJob, Report, has_bad, last_text, lines_text}
-use Rattle.gbus.specs.Program.{ByLine, is_too_long, lines_output, lines_status, lines_within}
-use Rattle.gbus.specs.Program.{verdict}
-use Rattle.gbus.specs.Reading.{StopsAtLimit}
+use Rattle.gbus.specs.Program.{Audit, ByLine, LineJob, Report, has_bad, is_too_long, last_text}
+use Rattle.gbus.specs.Program.{lines_output, lines_status, lines_text, lines_within, verdict}
+use Rattle.gbus.specs.Runs.{IsCutOff, IsRefusedAt, IsReported, ReadsTo, StopsAs, StopsAtLimit}
 use Rattle.gbus.specs.Sessions.{Begins, IsBehind, RefusesLine}
 use Rattle.gbus.specs.Stages.{IsOfOutput}
 use Rattle.gbus.specs.declared.session.Session.{Session}

@@ -7,8 +7,8 @@ use Rattle.gb_formats.specs.AuditTexts.{audited, closing_text, unless_bad}
 use Rattle.gb_formats.specs.Captures.{Captured, bad_by, bad_from, captured, first_bad, heard_from}
 use Rattle.gb_formats.specs.Lines.{lines}
 use Rattle.gb_machine.specs.Report.{has_bad_line, report, report_from}
-use Rattle.gbus.specs.LineJobs.{Audit, LineJob, Report, has_bad, is_bad, last_text, lines_text}
-use Rattle.gbus.specs.Program.{is_too_long, lines_output, lines_within}
+use Rattle.gbus.specs.Program.{Audit, LineJob, Report, has_bad, is_bad, is_too_long, last_text}
+use Rattle.gbus.specs.Program.{lines_output, lines_text, lines_within}
 use Rattle.gbus.specs.Sessions.{Begins}
 
 -- ---- bad lines

@@ -17,7 +17,7 @@ use Rattle.gb_machine.specs.Report.{report_from, reported}
 use Rattle.gb_machine.specs.State.{State, first_state}
 use Rattle.gb_system.specs.Stands as system
 use Rattle.gbus.proofs.LineJobs.{bad-none, good-more}
-use Rattle.gbus.specs.LineJobs.{LineJob, Report}
+use Rattle.gbus.specs.Program.{LineJob, Report}
 use Rattle.gbus.specs.Reporting.{Ends, GoesOn, HasRun, RunsAs, line_says, reported_last}
 use Rattle.gbus.specs.Sessions.{IsBehind, TurnsAs}
 use Rattle.gbus.specs.declared.reporter.Reporter.{Reporter}

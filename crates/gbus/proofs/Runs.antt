@@ -22,15 +22,12 @@ use Rattle.gbus.proofs.Fronts.{nothing_more}
 use Rattle.gbus.proofs.Limits.{status_is, text_is}
 use Rattle.gbus.proofs.Sharing.{events-valid, shared-verdict, shares-input}
 use Rattle.gbus.specs.Answers.{SharesInput, bytes_in, input_status, input_text, shared_status}
-use Rattle.gbus.specs.LineJobs.{Audit, Report}
-use Rattle.gbus.specs.Program.{ByLine, Drive, IsVerdict, Job, Share, Whole, lines_status}
-use Rattle.gbus.specs.Program.{lines_within}
+use Rattle.gbus.specs.Program.{Audit, ByLine, Check, Compile, Decompile, Drive, IsVerdict, Job}
+use Rattle.gbus.specs.Program.{Report, Share, Whole, WholeJob, events_in, lines_status}
+use Rattle.gbus.specs.Program.{lines_within, whole_verdict}
 use Rattle.gbus.specs.Reading.{IsRead, ReadsAll}
 use Rattle.gbus.specs.Runs.{IsAnswerOf, IsAnswered, IsComplete, IsOfRun, IsWithin, KeepsHeadline}
-use Rattle.gbus.specs.Runs.{OfInput}
-use Rattle.gbus.specs.Sharing.{events_in}
-use Rattle.gbus.specs.WholeJobs.{Check, Compile, Decompile, WholeJob, whole_verdict}
-use Rattle.gbus.specs.Writing.{TakesFront}
+use Rattle.gbus.specs.Runs.{OfInput, TakesFront}
 use Rattle.gbus.specs.declared.answer.Answer.{Answer}
 use Rattle.gbus.specs.declared.input.Input.{Input}
 use Rattle.gbus.specs.declared.input.Input.TheVariants as input

@@ -22,9 +22,9 @@ use Rattle.gb_script.proofs.TextLines.{ended-lf, ended-plain}
 use Rattle.gb_script.specs.PartLines.{AreValidLines}
 use Rattle.gbus.proofs.Limits.{beyond_is, cut-input, whole-input, within_is}
 use Rattle.gbus.specs.Answers.{SharesInput, shared_status}
-use Rattle.gbus.specs.Program.{Share, Writes, is_too_long, lines_status, lines_within, verdict}
+use Rattle.gbus.specs.Program.{Share, Shares, Writes, events_in, is_too_long, lines_status}
+use Rattle.gbus.specs.Program.{lines_within, verdict}
 use Rattle.gbus.specs.Reading.{IsRead}
-use Rattle.gbus.specs.Sharing.{Shares, events_in}
 use Rattle.gbus.specs.declared.input.Input.{Input}
 use Rattle.gbus.specs.declared.input.Input.TheVariants as input
 

@@ -5,9 +5,7 @@ use Rattle.gb_base.specs.declared.status.Status.{Status}
 use Rattle.gb_base.specs.declared.status.Status.TheVariants as status
 use Rattle.gb_formats.specs.Lines.{ended_lines}
 use Rattle.gb_formats.specs.Parts.{parts}
-use Rattle.gbus.specs.Program.{lines_status}
-use Rattle.gbus.specs.Sharing.{Shares}
-use Rattle.gbus.specs.WholeJobs.{WholeJob, whole_text, whole_verdict}
+use Rattle.gbus.specs.Program.{Shares, WholeJob, lines_status, whole_text, whole_verdict}
 use Rattle.gbus.specs.declared.answer.Output.{Output}
 use Rattle.gbus.specs.declared.answer.Output.TheVariants as output
 use Rattle.gbus.specs.declared.input.Input.{Input}

@@ -1,8 +1,6 @@
 -- What the words of the command line ask for, as the code has it.
 use Rattle.std.specs.Prelude.{ℕ}
-use Rattle.gbus.specs.LineJobs as line_jobs
 use Rattle.gbus.specs.Program as program
-use Rattle.gbus.specs.WholeJobs as whole_jobs
 use Rattle.gbus.specs.declared.words.Job.{Job}
 use Rattle.gbus.specs.declared.words.Job.TheVariants as job
 use Rattle.gbus.specs.declared.words.LineJob.{LineJob}
@@ -12,14 +10,14 @@ use Rattle.gbus.specs.declared.words.Task.TheVariants as task
 use Rattle.gbus.specs.declared.words.WholeJob.{WholeJob}
 use Rattle.gbus.specs.declared.words.WholeJob.TheVariants as whole_job
 
-abbrev pub line_job_seen : LineJob → line_jobs.LineJob
-line_job_seen (line_job.Report hex) = line_jobs.Report hex
-line_job_seen line_job.Audit = line_jobs.Audit
+abbrev pub line_job_seen : LineJob → program.LineJob
+line_job_seen (line_job.Report hex) = program.Report hex
+line_job_seen line_job.Audit = program.Audit
 
-abbrev pub whole_job_seen : WholeJob → whole_jobs.WholeJob
-whole_job_seen (whole_job.Check dump) = whole_jobs.Check dump
-whole_job_seen whole_job.Compile = whole_jobs.Compile
-whole_job_seen whole_job.Decompile = whole_jobs.Decompile
+abbrev pub whole_job_seen : WholeJob → program.WholeJob
+whole_job_seen (whole_job.Check dump) = program.Check dump
+whole_job_seen whole_job.Compile = program.Compile
+whole_job_seen whole_job.Decompile = program.Decompile
 
 abbrev pub task_seen : Task → program.Job
 task_seen (task.Whole j) = program.Whole (whole_job_seen j)

@@ -1,16 +1,12 @@
 pub mod Answers
 pub mod Driving
 pub mod Jobs
-pub mod LineEnds
-pub mod LineJobs
 pub mod Program
 pub mod Reading
 pub mod Reporting
 pub mod Runs
 pub mod Sessions
-pub mod Sharing
 pub mod Stages
 pub mod Statuses
 pub mod Stops
-pub mod WholeJobs
 pub mod Writing

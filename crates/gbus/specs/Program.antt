@@ -1,17 +1,109 @@
 -- What the program writes and how it ends, by its words and its input.
 use Rattle.std.specs.Prelude.{◌≡◌, ℕ, nat_lt, Bool, true, false, ◌&&◌, if◌then◌else◌, Option, Some}
-use Rattle.std.specs.Prelude.{None, is_some, option_map, List, [], ◌∷◌, length, take, codes}
+use Rattle.std.specs.Prelude.{None, is_err, is_some, option_map, List, [], ◌∷◌, ◌++◌, length, take}
+use Rattle.std.specs.Prelude.{codes}
 use Rattle.std.specs.Str.{bytes_eq}
+use Rattle.gb_base.specs.declared.event.Event.{Event}
+use Rattle.gb_base.specs.declared.fault.LineReason.{LineReason}
+use Rattle.gb_base.specs.declared.parts.Asked.{Asked}
+use Rattle.gb_base.specs.declared.parts.Parts.{Parts}
 use Rattle.gb_base.specs.declared.status.Status.{Status}
 use Rattle.gb_base.specs.declared.status.Status.TheVariants as status
+use Rattle.gb_formats.specs.AuditTexts.{audited, closing_text, unless_bad}
+use Rattle.gb_formats.specs.Captures.{captured, first_bad}
+use Rattle.gb_formats.specs.Dump.{manifest_text, manifest_verdict}
 use Rattle.gb_formats.specs.Lines.{ended_lines, lines, longest_input}
+use Rattle.gb_formats.specs.Manifest.{check_answer}
+use Rattle.gb_formats.specs.Orders.{Place, merge}
 use Rattle.gb_formats.specs.Parts.{parts}
+use Rattle.gb_formats.specs.Script.{judged}
+use Rattle.gb_formats.specs.Source.{compile_answer}
+use Rattle.gb_formats.specs.SourceTexts.{compile_text, compile_verdict, decompile_text}
+use Rattle.gb_formats.specs.SourceTexts.{decompile_verdict}
+use Rattle.gb_formats.specs.Texts.{refusal_line_text}
 use Rattle.gb_formats.specs.WordValues.{number_word}
-use Rattle.gb_machine.specs.Report.{report}
+use Rattle.gb_machine.specs.Report.{has_bad_line, report, report_from}
+use Rattle.gb_machine.specs.Shared.{done_in}
+use Rattle.gb_machine.specs.State.{first_state}
 use Rattle.gb_machine.specs.Summary.{summary}
-use Rattle.gbus.specs.LineJobs.{Audit, LineJob, Report, audit_output, has_bad}
-use Rattle.gbus.specs.Sharing.{Shares}
-use Rattle.gbus.specs.WholeJobs.{Check, Compile, Decompile, WholeJob, whole_text, whole_verdict}
+use Rattle.gb_share.specs.Shares.{IsTold}
+
+-- ---- what is written of an input that is read line by line
+
+-- What is done line by line: the report of a script, with message bytes where hex is wanted; or the
+-- audit of a capture.
+pub data LineJob : Type 0 where
+  Report : Bool → LineJob
+  Audit : LineJob
+
+-- what is written of lines, up to the first bad one, which is named
+abbrev pub lines_text : LineJob → List (List ℕ) → List ℕ
+lines_text (Report hex) ls = report_from hex 1 first_state ls
+lines_text Audit ls = audited ls
+
+-- whether a line is bad
+abbrev pub is_bad : LineJob → List ℕ → Bool
+is_bad (Report hex) line = is_err (judged 0 line)
+is_bad Audit line = is_err (captured line)
+
+-- whether one of these lines is bad
+abbrev pub has_bad : LineJob → List (List ℕ) → Bool
+has_bad (Report hex) ls = has_bad_line ls
+has_bad Audit ls = is_some (first_bad ls)
+
+-- what is written behind all lines, where none is bad and no more bytes came than may
+abbrev pub last_text : LineJob → List (List ℕ) → List ℕ
+last_text (Report hex) ls = []
+last_text Audit ls = closing_text ls
+
+-- What is written of a capture: of its lines, and then the last line, where no line is bad and no
+-- more bytes came than may.
+abbrev pub audit_output : List (List ℕ) → Bool → List ℕ
+audit_output ls too_long =
+    audited ls ++ (if too_long then [] else unless_bad (first_bad ls) (closing_text ls))
+
+-- ---- what is written of an input that is read as a whole, and how the program ends then
+
+-- What is done of an input as a whole: the check of a manifest, with its dump where that is wanted;
+-- the manifest of a text; or the text of a manifest.
+pub data WholeJob : Type 0 where
+  Check : Bool → WholeJob
+  Compile : WholeJob
+  Decompile : WholeJob
+
+-- what is written of an input
+abbrev pub whole_text : WholeJob → List ℕ → List ℕ
+whole_text (Check dump) bytes = manifest_text dump (check_answer bytes)
+whole_text Compile text = compile_text (compile_answer text)
+whole_text Decompile bytes = decompile_text (check_answer bytes)
+
+-- how the program ends then
+abbrev pub whole_verdict : WholeJob → List ℕ → Status
+whole_verdict (Check dump) bytes = manifest_verdict (check_answer bytes)
+whole_verdict Compile text = compile_verdict (compile_answer text)
+whole_verdict Decompile bytes = decompile_verdict (check_answer bytes)
+
+-- ---- what is written of a script whose lines are run by their requesters
+
+-- By cases on the first bad line and on whether the input is too long. Of a bad line it is told
+-- alone, and nothing is run. Of an input that is too long nothing is told. Else the lines were run
+-- in an order that is told.
+abbrev pub SharesBy : Option (ℕ × LineReason) → (too_long hex : Bool) → List Asked
+    → (written : List ℕ) → Type 0
+SharesBy (Some (n, why)) too_long hex asked written = written ≡ refusal_line_text n why
+SharesBy None true hex asked written = written ≡ []
+SharesBy None false hex asked written = IsTold hex asked written
+
+-- What is written of the parts of a script, of which these are all lines or, where the input is too
+-- long, those that end within the limit.
+abbrev pub Shares : Bool → Parts → (too_long : Bool) → (written : List ℕ) → Type 0
+Shares hex p too_long written = SharesBy p.bad too_long hex p.asked written
+
+-- the events that are run where the lines come in this order
+abbrev pub events_in : Parts → List Place → List Event
+events_in p order = done_in (merge p.asked order)
+
+-- ---- what the program writes and how it ends, by its words and its input
 
 -- What the words ask for: something of each line of the input; or something of it as a whole; or
 -- that its lines are run by their requesters, with message bytes where hex is wanted; or the

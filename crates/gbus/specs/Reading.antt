@@ -1,5 +1,5 @@
 -- What reading all of an input answers.
-use Rattle.std.specs.Prelude.{◌≡◌, ◌<◌, ◌≤◌, ◌+◌, ℕ, Option, Result, Ok, Err, ⊤, List, ◌++◌, length}
+use Rattle.std.specs.Prelude.{◌≡◌, ◌<◌, ◌≤◌, ℕ, Option, Result, Ok, Err, ⊤, List, ◌++◌, length}
 use Rattle.std.specs.Prelude.{take}
 use Rattle.std.specs.Io.KnownBytes.{Consumes, IsAtEnd}
 use Rattle.gb_base.specs.Faults.{Rose}
@@ -21,12 +21,6 @@ pub record IsLong (left left_after : Option (List ℕ)) (front : List ℕ) : Typ
   pub bytes_are : Consumes left left_after (front ++ others)
   pub full : length front ≡ longest_input
   pub more : 0 < length others
-
--- Of a source at most 4,096 bytes were read past as many as an input may have.
-pub record StopsAtLimit (left left_after : Option (List ℕ)) : Type 0 where
-  pub bytes : List ℕ
-  pub read : Consumes left left_after bytes
-  pub few : length bytes ≤ longest_input + 4096
 
 -- By cases on the answer; `faults` are those before and after. After want of memory nothing is
 -- said.

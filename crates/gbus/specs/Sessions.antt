@@ -4,7 +4,7 @@ use Rattle.gb_base.specs.declared.errors.OutOfMemory.{OutOfMemory}
 use Rattle.gb_base.specs.declared.status.Status.{Status}
 use Rattle.gb_base.specs.declared.status.Status.TheVariants as status
 use Rattle.gb_capture.specs.Auditors as auditors
-use Rattle.gbus.specs.LineJobs.{Audit, LineJob, Report, has_bad, is_bad, lines_text}
+use Rattle.gbus.specs.Program.{Audit, LineJob, Report, has_bad, is_bad, lines_text}
 use Rattle.gbus.specs.Reporting.{HasRun, reported_last}
 use Rattle.gb_capture.specs.declared.auditor.Turn.{Turn}
 use Rattle.gb_capture.specs.declared.auditor.Turn.TheVariants as turn

@@ -7,9 +7,8 @@ use Rattle.gb_base.specs.declared.sink.WriteStop.TheVariants as stop
 use Rattle.gb_base.specs.declared.status.Status.{Status}
 use Rattle.gb_base.specs.declared.status.Status.TheVariants as status
 use Rattle.gb_script.specs.Readers.{Reads, number_of}
-use Rattle.gbus.specs.LineEnds.{IsFrontOfOutput, LinesEnd, ReadsTo, StopsAs}
-use Rattle.gbus.specs.LineJobs.{LineJob, lines_text}
-use Rattle.gbus.specs.Program.{lines_output}
+use Rattle.gbus.specs.Program.{LineJob, lines_output, lines_text}
+use Rattle.gbus.specs.Runs.{IsFrontOfOutput, LinesEnd, ReadsTo, StopsAs}
 use Rattle.gbus.specs.Sessions.{Begins, IsBehind, ending_of, lines_taken}
 use Rattle.gbus.specs.declared.line_worker.LineWorker.{LineWorker}
 use Rattle.gbus.specs.declared.session.Session.{Session}

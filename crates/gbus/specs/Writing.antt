@@ -5,13 +5,6 @@ use Rattle.gb_base.specs.Faults.{Rose}
 use Rattle.gb_base.specs.declared.sink.WriteStop.{WriteStop}
 use Rattle.gb_base.specs.declared.sink.WriteStop.TheVariants as stop
 
--- a front of these bytes was taken
-pub record TakesFront (taken after : Option (List ℕ)) (bytes : List ℕ) : Type 0 where
-  pub front : List ℕ
-  pub rest : List ℕ
-  pub whole : bytes ≡ front ++ rest
-  pub taken_is : Appends taken after front
-
 -- a front of these bytes was taken, and not all
 pub record TakesPart (taken after : Option (List ℕ)) (bytes : List ℕ) : Type 0 where
   pub front : List ℕ

@@ -4,10 +4,8 @@ ghost use Rattle.std.specs.Prelude.{◌≡◌, ◌≤◌, IfOk, Some, true, fals
 ghost use Rattle.std.specs.Io.KnownBytes.{IsAtEnd};
 ghost use Rattle.gbus.specs.Answers.{bytes_in, input_status, input_text};
 ghost use Rattle.gbus.specs.Jobs.{task_seed, task_seen, whole_job_seen};
-ghost use Rattle.gbus.specs.Program.{IsVerdict, reads};
-ghost use Rattle.gbus.specs.Reading.{StopsAtLimit};
-ghost use Rattle.gbus.specs.Runs.{FailsAs, IsAnswerOf};
-ghost use Rattle.gbus.specs.WholeJobs.{whole_text, whole_verdict};
+ghost use Rattle.gbus.specs.Program.{IsVerdict, reads, whole_text, whole_verdict};
+ghost use Rattle.gbus.specs.Runs.{FailsAs, IsAnswerOf, StopsAtLimit};
 
 use crate::drive::drive;
 use crate::input::{Input, ReadStop, read_all};

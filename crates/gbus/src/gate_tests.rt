@@ -1,4 +1,5 @@
-//! A script whose requesters are held at their gates, so that its order is known.
+//! Scripts whose requesters are held at their gates, so that the order is known, or are counted
+//! there.
 
 use crate::run::run;
 use gb_base::{Bytes, Entries, Entry, Gate, MemSink, MemSource, Numbers, Status};
@@ -86,4 +87,60 @@ fn a_request_behind_the_pull_is_refused(rt: HostRuntime) {
 fn a_request_before_the_pull_is_asked(rt: HostRuntime) {
     let gate = Holding::new(2, 1, 2, 2);
     is_shared(&rt, rt.alloc(), &gate, b"order 0 0 0 0 0 1 2 2\n");
+}
+
+/// Counts the calls of all gates.
+#[derive(Drop)]
+struct Counting {
+    calls: AtomicU64,
+}
+
+impl Gate for Counting {
+    fn before(&self, _requester: u8, _turn: u64, _last: &Entries) {
+        self.calls.fetch_add(1, Ordering::SeqCst);
+    }
+}
+
+const HEADINGS: [&[u8]; 8] = [
+    b"requester 1\n",
+    b"requester 2\n",
+    b"requester 3\n",
+    b"requester 4\n",
+    b"requester 5\n",
+    b"requester 6\n",
+    b"requester 7\n",
+    b"requester 8\n",
+];
+
+/// The script of eight requesters with 200 lines each.
+fn long_script(rt: &impl Abort, alloc: Global) -> Bytes {
+    let mut script = Bytes::new(alloc);
+    for heading in HEADINGS.iter() {
+        script.extend(heading).expect(rt, "memory");
+        for _ in 0..200 {
+            script.extend(b"tick 1\n").expect(rt, "memory");
+        }
+    }
+    script
+}
+
+/// What is written of this script.
+fn shared<R: Threads + Sync + Abort>(rt: &R, alloc: Global, gate: &Counting) -> MemSink {
+    let word = "share".to_string(alloc).expect(rt, "memory");
+    let words = vec![in alloc; word].expect(rt, "memory");
+    let mut source = MemSource::new(long_script(rt, alloc), 4096, Numbers::new(alloc));
+    let mut sink = MemSink::new(alloc, Numbers::new(alloc));
+    let status = run(rt, alloc, words.as_slice(), &mut source, &mut sink, gate);
+    assert!(rt; status == Status::Success);
+    sink
+}
+
+// A requester calls its gate once for each line that it runs in its thread, and once more.
+#[test]
+fn fewer_than_one_line_in_ten_is_kept_for_later(rt: HostRuntime) {
+    let gate = Counting {
+        calls: AtomicU64::new(0),
+    };
+    drop(shared(&rt, rt.alloc(), &gate));
+    assert!(&rt; gate.calls.load(Ordering::SeqCst) > 8 + 1600 - 160);
 }

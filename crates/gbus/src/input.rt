@@ -1,7 +1,8 @@
 //! Reads a whole input.
 
 ghost use Rattle.std.specs.Prelude.{◌≤◌, length, IfOk, IfSome};
-ghost use Rattle.gbus.specs.Reading.{IsRead, ReadsAll, StopsAtLimit, kept_of};
+ghost use Rattle.gbus.specs.Reading.{IsRead, ReadsAll, kept_of};
+ghost use Rattle.gbus.specs.Runs.{StopsAtLimit};
 
 use gb_base::{Failed, OutOfMemory, Source};
 use std::alloc::{AllocError, Global};

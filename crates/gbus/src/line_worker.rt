@@ -4,9 +4,8 @@ ghost use Rattle.std.specs.Prelude.{◌≡◌, ◌+◌, ◌≤◌, ℕ, List, []
 ghost use Rattle.std.specs.Prelude.{Some, None, IfSome, IfOk, IfErr, OnOk};
 ghost use Rattle.gb_script.specs.Readers.{Lends, Reads, holds_line, number_of, stopped};
 ghost use Rattle.gbus.specs.Jobs.{line_job_seen};
-ghost use Rattle.gbus.specs.LineEnds.{FaultRose, IsFrontOfOutput, LinesEnd};
-ghost use Rattle.gbus.specs.LineJobs.{LineJob as Seen, lines_text};
-ghost use Rattle.gbus.specs.Reading.{StopsAtLimit};
+ghost use Rattle.gbus.specs.Program.{LineJob as Seen, lines_text};
+ghost use Rattle.gbus.specs.Runs.{FaultRose, IsFrontOfOutput, LinesEnd, StopsAtLimit};
 ghost use Rattle.gbus.specs.Sessions.{IsBehind, ending_of, lines_taken};
 ghost use Rattle.gbus.specs.Stages.{fault_status};
 

@@ -5,10 +5,8 @@ ghost use Rattle.std.specs.String.{string_bytes};
 ghost use Rattle.std.specs.Io.KnownBytes.{IsAtEnd};
 ghost use Rattle.gb_base.specs.Faults.{Rose};
 ghost use Rattle.gbus.specs.Program.{IsVerdict, is_by_line, job_of, reads};
-ghost use Rattle.gbus.specs.LineEnds.{IsCutOff, IsRefusedAt, StopsAs};
-ghost use Rattle.gbus.specs.Reading.{StopsAtLimit};
-ghost use Rattle.gbus.specs.Runs.{IfByLine, IsAnswered, IsComplete, IsOfRun, IsWithin};
-ghost use Rattle.gbus.specs.Runs.{KeepsHeadline};
+ghost use Rattle.gbus.specs.Runs.{IfByLine, IsAnswered, IsComplete, IsCutOff, IsOfRun, IsRefusedAt};
+ghost use Rattle.gbus.specs.Runs.{IsWithin, KeepsHeadline, StopsAs, StopsAtLimit};
 
 use crate::answer::answer_for;
 use crate::input::ReadStop;

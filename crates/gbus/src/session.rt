@@ -3,7 +3,7 @@
 ghost use Rattle.std.specs.Prelude.{◌≡◌, ◌+◌, ℕ, List, [], IfOk, OnOk};
 ghost use Rattle.gb_script.specs.Readers.{IsLineOf};
 ghost use Rattle.gbus.specs.Jobs.{line_job_seen};
-ghost use Rattle.gbus.specs.LineJobs.{LineJob as Seen, last_text};
+ghost use Rattle.gbus.specs.Program.{LineJob as Seen, last_text};
 
 use crate::reporter::Reporter;
 use crate::words::LineJob;

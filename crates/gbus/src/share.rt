@@ -5,9 +5,8 @@ ghost use Rattle.gb_formats.specs.Lines.{ended_lines, longest_input};
 ghost use Rattle.gb_formats.specs.Parts.{parts};
 ghost use Rattle.gb_formats.specs.Texts.{refusal_line_text};
 ghost use Rattle.gbus.specs.Answers.{SharesInput, bytes_in, shared_status};
-ghost use Rattle.gbus.specs.Program.{lines_status};
+ghost use Rattle.gbus.specs.Program.{Shares, lines_status};
 ghost use Rattle.gbus.specs.Reading.{kept_of};
-ghost use Rattle.gbus.specs.Sharing.{Shares};
 
 use crate::answer::{Answer, Output};
 use crate::input::Input;

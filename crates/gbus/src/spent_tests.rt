@@ -69,8 +69,13 @@ fn a_connection_fails_where_control_has_no_identifier(rt: HostRuntime) {
     does(&rt, alloc, &mut system, b"deliver svc");
     let failed = "line 1 ok\nend #65551 answered 00 -\nconnection 4 ap 3 2 2 failed\n";
     tells(&rt, alloc, &mut system, b"deliver ap 0", failed);
+    tells(&rt, alloc, &mut system, b"disconnect 2 1 drain", DRAINED);
     drop(system);
 }
+
+/// What is told of a drain for which Control has no identifier.
+const DRAINED: &str = "line 1 ok\nconnection 3 ap 2 2 1 draining\n\
+    connection 3 ap 2 2 1 closing\nconnection 3 ap 2 2 1 failed\n";
 
 /// A manifest of 2,036 bytes up to its CPorts 1 to 252.
 const MANIFEST: &str = "f4070001080001000000000008000300010a0000";

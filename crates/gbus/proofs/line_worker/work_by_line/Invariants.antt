@@ -1,7 +1,7 @@
 -- The lines that were read were taken, and what is written of them was written or gathered.
 use Rattle.std.proofs.Common.{◌≤◌, ◌-◌}
 use Rattle.gb_script.specs.Readers.{number_of}
-use Rattle.gbus.specs.LineJobs.{LineJob}
+use Rattle.gbus.specs.Program.{LineJob}
 use Rattle.gbus.specs.Stages.{Stage}
 use Rattle.gbus.proofs.line_worker.work_by_line.Given as goal
 

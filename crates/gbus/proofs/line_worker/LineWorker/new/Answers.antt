@@ -2,7 +2,7 @@ use Rattle.std.proofs.Common.{ℕ, List, [], subst, sym, ◌∙◌}
 use Rattle.gbus.proofs.Gathering.{gathers-none}
 use Rattle.gbus.proofs.LineJobs.{text-none}
 use Rattle.gbus.specs.Jobs.{line_job_seen}
-use Rattle.gbus.specs.LineJobs.{lines_text}
+use Rattle.gbus.specs.Program.{lines_text}
 use Rattle.gbus.specs.Stages.{Gathers}
 use Rattle.gbus.proofs.line_worker.LineWorker.new.Goals as goal
 

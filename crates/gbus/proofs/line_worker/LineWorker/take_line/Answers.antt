@@ -4,7 +4,7 @@ use Rattle.gbus.proofs.Gathering.{gathers-more}
 use Rattle.gbus.proofs.LineEnds.{before-line, reads-to, refused, refused-at, whole-line}
 use Rattle.gbus.proofs.line_worker.LineWorker.take_line.Goals as goal
 use Rattle.gb_base.specs.declared.status.Status.TheVariants as status
-use Rattle.gbus.specs.LineJobs.{lines_text}
+use Rattle.gbus.specs.Program.{lines_text}
 use Rattle.gbus.specs.Sessions.{TurnsAs, written}
 use Rattle.gbus.specs.Stages.{Gathers}
 use Rattle.gb_capture.specs.declared.auditor.Turn.{Turn}

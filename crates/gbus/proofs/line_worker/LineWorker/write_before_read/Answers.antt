@@ -2,7 +2,7 @@ use Rattle.std.proofs.Common.{ℕ, List, subst, sym}
 use Rattle.gbus.proofs.Gathering.{all-written, write-stops}
 use Rattle.gbus.proofs.LineEnds.{behind-lines}
 use Rattle.gbus.proofs.line_worker.LineWorker.write_before_read.Goals as goal
-use Rattle.gbus.specs.LineJobs.{lines_text}
+use Rattle.gbus.specs.Program.{lines_text}
 use Rattle.gbus.specs.Stages.{Gathers}
 
 pub returns-in-Ok-clause-stage : goal.returns-in-Ok-clause-stage
