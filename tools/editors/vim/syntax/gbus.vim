@@ -8,7 +8,7 @@ syntax match gbusLine /\v^ *%(insert) +%([2-9]|[12][0-9]|3[01]) +%(gpio|i2c|spi|
 syntax match gbusLine /\v^ *%(insert) +%([2-9]|[12][0-9]|3[01]) +%(raw) +%(-|%([0-9A-Fa-f]{2})+) *\r{0,1}$/ contains=@gbusWord
 syntax match gbusLine /\v^ *%(pull) +%([2-9]|[12][0-9]|3[01]) *\r{0,1}$/ contains=@gbusWord
 syntax match gbusLine /\v^ *%(connect) +%([2-9]|[12][0-9]|3[01]) +%(0|[1-9][0-9]{0,2}|[1-3][0-9]{3}|40[0-8][0-9]|409[0-5]) *\r{0,1}$/ contains=@gbusWord
-syntax match gbusLine /\v^ *%(disconnect) +%([2-9]|[12][0-9]|3[01]) +%(0|[1-9][0-9]{0,2}|[1-3][0-9]{3}|40[0-8][0-9]|409[0-5]) *\r{0,1}$/ contains=@gbusWord
+syntax match gbusLine /\v^ *%(disconnect) +%([2-9]|[12][0-9]|3[01]) +%(0|[1-9][0-9]{0,2}|[1-3][0-9]{3}|40[0-8][0-9]|409[0-5])%( +%(drain)){0,1} *\r{0,1}$/ contains=@gbusWord
 syntax match gbusLine /\v^ *%(send) +%([@][a-z0-9]{1,16}) +%(svc) +%(ping)%( +%(timeout) +%([1-9][0-9]{0,9})){0,1} *\r{0,1}$/ contains=@gbusWord
 syntax match gbusLine /\v^ *%(send) +%([@][a-z0-9]{1,16}) +%(svc) +%([0-7][0-9A-Fa-f]) +%(-|%([0-9A-Fa-f]{2})+)%( +%(timeout) +%([1-9][0-9]{0,9})){0,1} *\r{0,1}$/ contains=@gbusWord
 syntax match gbusLine /\v^ *%(send) +%([@][a-z0-9]{1,16}) +%([2-9]|[12][0-9]|3[01]) +%(0|[1-9][0-9]{0,2}|[1-3][0-9]{3}|40[0-8][0-9]|409[0-5]) +%([0-7][0-9A-Fa-f]) +%(-|%([0-9A-Fa-f]{2})+)%( +%(timeout) +%([1-9][0-9]{0,9})){0,1} *\r{0,1}$/ contains=@gbusWord
@@ -44,7 +44,7 @@ syntax match gbusHex /\v<[0-9A-Fa-f]+>|-/ contained
 syntax match gbusNumber /\v<[0-9]+>/ contained
 syntax match gbusName /\v[@][a-z0-9]+/ contained
 syntax match gbusOp /\v<[rwx]:/ contained
-syntax match gbusKey /\v<%(gpio|i2c|spi|uart|bridge|raw|svc|ping|timeout|count|activate|deactivate|direction|in|get|mask|unmask|out|set|irq|debounce|level|functionality|transfer|config|device|send|coding|control|break|flush|state|ap)>/ contained
+syntax match gbusKey /\v<%(gpio|i2c|spi|uart|bridge|raw|drain|svc|ping|timeout|count|activate|deactivate|direction|in|get|mask|unmask|out|set|irq|debounce|level|functionality|transfer|config|device|send|coding|control|break|flush|state|ap)>/ contained
 syntax match gbusEvent /\v^ *[a-z0-9]+/ contained
 syntax cluster gbusWord contains=gbusHex,gbusNumber,gbusName,gbusOp,gbusKey,gbusEvent
 highlight default link gbusError Error
