@@ -13,13 +13,16 @@ enum What<'a> {
     Out(u8),
     Connect(u8, u16),
     Close(u8, u16),
+    Drain(u8, u16),
+    /// None of its requests is open on a connection.
+    Idle(u64),
     /// Its last request is answered with a result and a payload.
     Answer(u8, &'a [u8]),
     /// Its last request isn't answered in time.
     Late,
 }
 
-use What::{Answer, Close, Connect, In, Late, Out};
+use What::{Answer, Close, Connect, Drain, Idle, In, Late, Out};
 
 /// A manifest with CPort 1 of GPIO in bundle 1.
 const GPIO: &[u8] = b"\x48\0\0\x01\
@@ -86,6 +89,8 @@ const OTHERWISE: &[(usize, What, &str)] = &[
     (10, Answer(0, NEWER), "manifest 2 2;intf 2 failed;"),
     (12, Answer(6, &[]), "conn 3 failed;"),
     (13, Late, "conn 3 failed;"),
+    (14, Drain(2, 1), "conn 3 draining;"),
+    (14, Idle(3), ""),
     (15, Late, "conn 3 failed;"),
     (16, Answer(1, &[]), "conn 3 failed;"),
     (17, Answer(8, &[]), "conn 3 failed;"),
@@ -116,6 +121,8 @@ fn event(rt: &impl Abort, alloc: Global, number: u64, what: What<'_>) -> HostEve
         Out(intf) => HostEvent::Removed { intf },
         Connect(intf, cport) => HostEvent::Connect { intf, cport },
         Close(intf, cport) => HostEvent::Disconnect { intf, cport },
+        Drain(intf, cport) => HostEvent::Drain { intf, cport },
+        Idle(connection) => HostEvent::Idle { connection },
         Answer(result, payload) => HostEvent::Ended {
             number,
             outcome: Outcome::Answered {
@@ -143,6 +150,7 @@ fn state_word(state: ConnState) -> &'static str {
     match state {
         ConnState::Opening => "opening",
         ConnState::Open => "open",
+        ConnState::Draining => "draining",
         ConnState::Closing => "closing",
         ConnState::Closed => "closed",
         ConnState::Failed => "failed",
