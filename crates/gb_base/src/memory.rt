@@ -170,8 +170,8 @@ impl Sink for MemSink {
 
     ghost faults = { λ s. s.faults };
 
-    /// Takes the whole piece. A write that finds no memory takes nothing, and raises no count of
-    /// faults.
+    /// Takes the whole piece. A write that finds no memory takes nothing, and raises no
+    /// count of faults.
     fn write(&mut self, piece: &[u8]) -> Result<usize, WriteStop>
         ensures bound { WritesAtMost result piece.now }
         ensures some { 0 < length piece.now → IfOk result (λ n. 0 < n) }

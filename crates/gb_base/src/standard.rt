@@ -9,8 +9,8 @@ ghost use Rattle.gb_base.specs.Memory.{one_more};
 use crate::{Failed, Sink, Source, WriteStop};
 use std::io::{Read, Write};
 
-/// A reader as a source. It counts the reads that fail; at 18,446,744,073,709,551,615 the count
-/// stays.
+/// A reader as a source. It counts the reads that fail; at 18,446,744,073,709,551,615
+/// the count stays.
 #[derive(Drop)]
 pub struct StdSource<R> {
     inner: R,

@@ -1,5 +1,5 @@
--- The size of a transfer, which its items tell: the ops of an I2C transfer, the entries of an SPI
--- transfer.
+-- The size of a transfer, which its items tell: the ops of an I2C transfer, the entries of
+-- an SPI transfer.
 use Rattle.std.proofs.Common.{◌≡◌, ◌<◌, ◌≤◌, ◌⊎◌, ◌+◌, ◌-◌, ◌*◌, ℕ, zero, suc, inl, inr, ⊎_elim}
 use Rattle.std.proofs.Common.{List, ◌++◌, length, take, drop, replicate, refl, arith, sym, ap, ap₂}
 use Rattle.std.proofs.Common.{subst, ◌∙◌, length-drop, length-take-le, take_all}
@@ -33,8 +33,8 @@ items_same width one all items (suc n) xs ys a =
 
 -- ---- the size of a transfer
 
--- a count of items in two bytes behind the first `at`, the items from `base` on, and what they
--- write
+-- a count of items in two bytes behind the first `at`, the items from `base` on, and
+-- what they write
 abbrev pub transfer_size : ℕ → ℕ → ℕ → (ℕ → List ℕ → ℕ) → List ℕ → ℕ
 transfer_size at base width all bytes =
     base + width * little_number 2 (drop at bytes)

@@ -112,8 +112,8 @@ impl GpioAsk {
         }
     }
 
-    /// Reads the payload of a type of which the module makes the requests. The other types are
-    /// unknown.
+    /// Reads the payload of a type of which the module makes the requests. The other
+    /// types are unknown.
     pub fn read_of_module(kind: u8, payload: &[u8]) -> Result<GpioAsk, PayloadFault>
         ensures { Answers gpio_ask_of (read_gpio_ask_of_module kind payload.now) result }
     {

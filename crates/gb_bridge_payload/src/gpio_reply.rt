@@ -18,8 +18,8 @@ use gb_base::NoRoom;
 use gb_payload::Field::U8;
 use gb_payload::{PayloadFault, mismatch, put, read_record};
 
-/// A response of the GPIO protocol (Greybus Specification, "GPIO Protocol"), in the order of the
-/// requests.
+/// A response of the GPIO protocol (Greybus Specification, "GPIO Protocol"), in the order
+/// of the requests.
 #[derive(Clone, Copy, Debug, PartialEq, Eq)]
 pub enum GpioReply {
     /// How many lines there are.

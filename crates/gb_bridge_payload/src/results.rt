@@ -1,5 +1,5 @@
-//! Results of operations (Greybus Specification, "Operation Status Values"; in Linux's operation.h
-//! `GB_OP_..`).
+//! Results of operations (Greybus Specification, "Operation Status Values"; in
+//! Linux's operation.h `GB_OP_..`).
 
 ghost use Rattle.std.specs.Prelude.{◌≡◌};
 ghost use Rattle.gb_formats.specs.Results as formats;

@@ -96,8 +96,8 @@ impl<'a> UartAsk<'a> {
         }
     }
 
-    /// Reads the payload of a type of which the module makes the requests. The other types are
-    /// unknown.
+    /// Reads the payload of a type of which the module makes the requests. The other
+    /// types are unknown.
     pub fn read_of_module(kind: u8, payload: &'a [u8]) -> Result<UartAsk<'a>, PayloadFault>
         ensures { Answers uart_ask_of (read_uart_ask_of_module kind payload.now) result }
     {

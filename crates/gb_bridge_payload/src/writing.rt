@@ -6,8 +6,8 @@ ghost use Rattle.gb_payload.specs.Fields.{spelled};
 
 use gb_payload::{Field, put};
 
-/// Writes fields to `out` from its byte `at` on, where there is room, and answers the byte behind
-/// them.
+/// Writes fields to `out` from its byte `at` on, where there is room, and answers the
+/// byte behind them.
 pub fn put_behind(at: usize, fields: &[Field<'_>], out: &mut [u8]) -> usize
     requires { at + length (spelled fields.now) ≤ length out.old }
     ensures place { result ≡ at + length (spelled fields.now) }

@@ -6,8 +6,8 @@ use Rattle.gb_ops.specs.Operations.{Operations}
 
 -- Its number, the CPort of the application processor, the far end, its protocol, whether it is
 -- wired, whether no raw bytes were injected, whether the side of the application processor is
--- closed, the requests of each side whose identifiers are in use, and the messages toward each
--- side.
+-- closed, the requests of each side whose identifiers are in use, and the messages
+-- toward each side.
 pub record Connection : Type 0 where
   pub number : ℕ
   pub ap : ℕ

@@ -9,8 +9,8 @@ use Rattle.gb_machine.specs.Bus as machine
 use Rattle.gb_machine.specs.Bus.{connection_of, next_number}
 use Rattle.gb_machine.specs.Sending.{Draft, is_lost, label_for, sent}
 
--- The identifier that a request gets. It gets none where its connection isn't live: then it isn't
--- made.
+-- The identifier that a request gets. It gets none where its connection isn't live: then
+-- it isn't made.
 abbrev pub label_on : Draft → machine.Bus → Option ℕ
 label_on d b = option_and_then (λ c. label_for d b) (connection_of d.connection b)
 

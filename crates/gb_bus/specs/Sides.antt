@@ -31,8 +31,8 @@ IsNotOf number None = Unit {0}
 IsNotOf number (Some h) = is_other number h.number ≡ true
 
 -- What an answer with an identifier comes to, to one request or to whichever has the identifier:
--- the request is open, or was given up, or the identifier isn't in use for it. Then nothing
--- changes.
+-- the request is open, or was given up, or the identifier isn't in use for it.
+-- Then nothing changes.
 abbrev pub MatchesAs : Operations → Operations → Option ℕ → ℕ → Matched → Type 0
 MatchesAs old new number label (matched.Open m) =
     (is_other number m ≡ false) × Ends old new label m
@@ -118,8 +118,8 @@ LabelsIn old new k at n deadline true label = (label ≡ 0) × (new ≡ old)
 LabelsIn old new k at n deadline false label =
     ChangesSide old new k at (λ x y. Begins x y n deadline label)
 
--- A request gets no identifier. One that is unidirectional gets none where its connection isn't
--- live.
+-- A request gets no identifier. One that is unidirectional gets none where its
+-- connection isn't live.
 abbrev pub IsSpentIn : Bool → ℕ → Side → List Connection → Type 0
 IsSpentIn true k at cs = find (numbered k) cs ≡ None
 IsSpentIn false k at cs = next_in k at cs ≡ None

@@ -278,8 +278,8 @@ impl Connections {
         live::clear(&mut self.live, k);
     }
 
-    /// The application processor's side of a connection is closed, and all its identifiers are
-    /// free.
+    /// The application processor's side of a connection is closed, and all its
+    /// identifiers are free.
     pub fn shut(&mut self, k: u64)
         ensures { self.new ≡ at_first (numbered k) closed self.old }
     {
@@ -308,8 +308,8 @@ impl Connections {
 
     /// A request of a side of a connection is open from now on, unless it is unidirectional, and
     /// waits toward the other side. Its identifier is answered, and whether it is lost, since the
-    /// connection isn't wired. NoLabel comes where the connection isn't live too. Nothing changes
-    /// then.
+    /// connection isn't wired. NoLabel comes where the connection isn't live too.
+    /// Nothing changes then.
     #[inline]
     pub fn ask(
         &mut self,
@@ -353,8 +353,8 @@ impl Connections {
         live::responded(&mut self.live, k, side, number, label)
     }
 
-    /// Request n of a side of a connection is given up, where it is open. Its identifier stays in
-    /// use.
+    /// Request n of a side of a connection is given up, where it is open. Its identifier
+    /// stays in use.
     pub fn give_up(&mut self, k: u64, side: Side, n: u64)
         ensures { GivesUpIn self.old self.new k side n }
     {

@@ -109,8 +109,8 @@ impl Bus {
         }
     }
 
-    /// What a message that came as raw bytes brings: a request, or a response that goes by its
-    /// identifier.
+    /// What a message that came as raw bytes brings: a request, or a response that goes
+    /// by its identifier.
     #[inline]
     fn raw(
         &mut self,

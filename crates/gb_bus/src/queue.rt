@@ -84,8 +84,8 @@ pub fn ask_item(
     })
 }
 
-/// Adds a message to the queue of an end. After want of memory it is lost, and all else is as
-/// before.
+/// Adds a message to the queue of an end. After want of memory it is lost, and all else
+/// is as before.
 #[inline]
 pub fn add(queues: &mut Queues<Item>, at: End, item: Item) -> Result<(), OutOfMemory>
     ensures added { OnOk result (Appends (items_at queues.old) (items_at queues.new) at item) }

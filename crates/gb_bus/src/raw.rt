@@ -10,8 +10,8 @@ use gb_base::{Bytes, OutOfMemory, RawFault, Side};
 use gb_wire::decode;
 use std::alloc::Global;
 
-/// How many raw bytes are injected at once at most: as many as a message has that goes over the
-/// bus.
+/// How many raw bytes are injected at once at most: as many as a message has that goes
+/// over the bus.
 pub const LONGEST_RAW: usize = 2048;
 
 impl Bus {

@@ -176,8 +176,8 @@ impl Bus {
         self.connections.is_wired_to(intf)
     }
 
-    /// The CPort of the application processor and the far end of a connection, None where it isn't
-    /// live.
+    /// The CPort of the application processor and the far end of a connection, None where
+    /// it isn't live.
     pub fn ends(&self, k: u64) -> Option<(u16, End)>
         ensures { (around : Around) (b : machine.Bus) → Stands around self.now b
             → result ≡ option_map ends_of (connection_of k b) }

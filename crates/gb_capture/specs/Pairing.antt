@@ -21,8 +21,8 @@ abbrev pub is_like : Heard → Heard → Bool
 is_like q m = is_request_of q.from_ap q.message.id m
 
 -- A pair is a request with an identifier and the first response to it: this goes the other way, has
--- its identifier and its type, and between them stands no further request of its direction with its
--- identifier.
+-- its identifier and its type, and between them stands no further request of its direction
+-- with its identifier.
 pub record IsPaired (ms : List Heard) (pair : Pair) : Type 0 where
   pub before : List Heard
   pub between : List Heard

@@ -89,8 +89,8 @@ impl Auditor {
         append_verdict(&self.audit.verdict(), &mut self.text)
     }
 
-    /// What is written of the line that was taken last, or the last line of the audit once it is
-    /// closed.
+    /// What is written of the line that was taken last, or the last line of the audit once
+    /// it is closed.
     pub fn text(&self) -> &[u8]
         ensures { result.now ≡ written self.now }
     {

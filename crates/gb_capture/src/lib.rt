@@ -1,5 +1,5 @@
-//! Reads captures of a connection, and finds the messages that break the pairing of requests and
-//! responses.
+//! Reads captures of a connection, and finds the messages that break the pairing of
+//! requests and responses.
 #![tactic(auto)]
 
 mod audit;

@@ -170,8 +170,8 @@ pub not_told : (b : Bool) → (b ≡ true → ⊥) → b ≡ false
 not_told true none = absurd (none refl)
 not_told false none = refl
 
--- What was taken is as before, or has one event more. Tickets keep their slots, but those of one
--- slot.
+-- What was taken is as before, or has one event more. Tickets keep their slots, but those
+-- of one slot.
 pub record Follows (x y : Stored) (but : ℕ) : Type 0 where
   pub journal : (y.journal ≡ x.journal)
       ⊎ ((e : JournalEntry) × (y.journal ≡ x.journal ++ e ∷ []))

@@ -5,8 +5,8 @@ use gb_base::{Bridged, Served};
 use gb_bridge_payload::BridgeFault;
 use std::process::Abort;
 
-/// A request of a device: its type and payload, and what is answered: the result byte and the
-/// payload.
+/// A request of a device: its type and payload, and what is answered: the result byte
+/// and the payload.
 pub type Row<'a> = (u8, &'a [u8], u8, &'a [u8]);
 
 /// The front of a buffer has these bytes, and the rest is as before.

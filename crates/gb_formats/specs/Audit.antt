@@ -53,8 +53,8 @@ abbrev pub since : (Heard → Bool) → List Heard → List Heard
 since test [] = []
 since test (m ∷ past) = let later = since test past in if test m then [] else m ∷ later
 
--- A request is answered where a response to it stands behind it. It is the last of its way with its
--- identifier.
+-- A request is answered where a response to it stands behind it. It is the last of its way
+-- with its identifier.
 abbrev pub is_answered : List Heard → Heard → Bool
 is_answered past q =
     list_any (is_answer_to q) (since (is_request_of q.from_ap q.message.id) past)

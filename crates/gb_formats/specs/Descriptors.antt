@@ -1,5 +1,5 @@
--- Manifest descriptors (Greybus Specification, "Manifest"; in Linux's greybus_manifest.h
--- `greybus_descriptor`).
+-- Manifest descriptors (Greybus Specification, "Manifest"; in
+-- Linux's greybus_manifest.h `greybus_descriptor`).
 use Rattle.std.specs.Prelude.{◌≡◌, ◌<◌, ◌≤◌, ⊤, ℕ, ◌+◌, ◌-◌, ◌*◌, ◌/◌, ◌%◌, ◌==◌, if◌then◌else◌}
 use Rattle.std.specs.Prelude.{List, [], ◌∷◌, ◌++◌, length, take, drop, slice_index, replicate}
 use Rattle.byteorder.specs.Endian.{little_number}

@@ -1,5 +1,5 @@
--- Operation messages (Greybus Specification, "Operation Messages"; in Linux's greybus_protocols.h
--- `gb_operation_msg_hdr`).
+-- Operation messages (Greybus Specification, "Operation Messages"; in
+-- Linux's greybus_protocols.h `gb_operation_msg_hdr`).
 use Rattle.std.specs.Prelude.{ℕ, ◌+◌, List, ◌∷◌, ◌++◌, length}
 use Rattle.gb_formats.specs.Bytes.{le16}
 

@@ -34,8 +34,8 @@ last_of last bytes = slice_index_or bytes (length bytes - 1) last
 abbrev pub entry_written_bytes : TransferEntry → List ℕ → List ℕ
 entry_written_bytes entry bytes = take (entry_written_size entry) bytes
 
--- An entry with read and write reads back what it writes, one with read alone reads the last byte,
--- repeated.
+-- An entry with read and write reads back what it writes, one with read alone reads the
+-- last byte, repeated.
 abbrev pub entry_read_bytes : ℕ → TransferEntry → List ℕ → List ℕ
 entry_read_bytes last entry bytes =
     if entry_writes entry then take (entry_read_size entry) bytes

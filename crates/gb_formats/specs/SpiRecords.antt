@@ -14,8 +14,8 @@ pub data SpiAsk : Type 0 where
   DeviceConfig : (select : ℕ) → SpiAsk
   Transfer : (select mode : ℕ) → (entries data_bytes : List ℕ) → SpiAsk
 
--- The payloads of responses. MasterConfig has the mask of bits, and the least and the greatest
--- speed.
+-- The payloads of responses. MasterConfig has the mask of bits, and the least and
+-- the greatest speed.
 pub data SpiReply : Type 0 where
   MasterConfig : (mask least greatest mode flags selects : ℕ) → SpiReply
   DeviceConfig : (mode bits speed device : ℕ) → (name : List ℕ) → SpiReply

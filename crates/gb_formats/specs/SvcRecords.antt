@@ -1,6 +1,6 @@
 -- Records of the SVC protocol (Greybus Specification, "SVC Protocol"; in Linux's
--- greybus_protocols.h `GB_SVC_TYPE_..`): what the application processor asks, then what the SVC
--- asks.
+-- greybus_protocols.h `GB_SVC_TYPE_..`): what the application processor asks, then what
+-- the SVC asks.
 use Rattle.std.specs.Prelude.{ℕ, Result, List, [], ◌∷◌, ◌++◌}
 use Rattle.gb_formats.specs.Bytes.{le16}
 use Rattle.gb_formats.specs.Records.{PayloadFault, Row, by_far, row0, row1, row2, row3, row4, row6}

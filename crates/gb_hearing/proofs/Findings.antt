@@ -40,8 +40,8 @@ onto-start past (x ∷ xs) h = (onto-start (x ∷ past) xs h).1
 
 -- ---- one message
 
--- what is found, where it is known whether a message is a response, and whether it has an
--- identifier
+-- what is found, where it is known whether a message is a response, and whether it
+-- has an identifier
 abbrev finding_if : Bool → Bool → List Heard → Heard → Option Finding
 finding_if response none past m =
     let way = cond response (not m.from_ap) m.from_ap in

@@ -92,8 +92,8 @@ module _ (k : ℕ) (d : Draft) (label : ℕ) (b : Bus) (fits : OutcomesFit b) wh
           (ap (λ j. is_awaited j b) new.0 ∙ unasked b fits))) (sent-made d label b n r a.made))
           (λ new. absurd (not-both d.oneway oneway new.1)) (sent-before d label b n fits w)
 
-  -- another request of the application processor: its identifier was free, and the connection isn't
-  -- over
+  -- another request of the application processor: its identifier was free, and the
+  -- connection isn't over
   pub hears-twoway : {past : List Spoken} → d.connection ≡ k → d.side ≡ side.Ap → d.oneway ≡ false
       → next_label k side.Ap b ≡ Some label → shut_of k b ≡ Some false → d.kind < 128 → OwnLabels b
       → Hears k b past

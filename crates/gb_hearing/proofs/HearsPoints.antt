@@ -1,5 +1,5 @@
--- What is known of the messages that are heard of a connection is kept by each single change at a
--- point.
+-- What is known of the messages that are heard of a connection is kept by each single change
+-- at a point.
 use Rattle.std.proofs.Common.{◌≡◌, ◌<◌, ℕ, Bool, true, false, Some, List, []}
 use Rattle.std.proofs.Common.{◌∷◌, ◌++◌, refl, sym, ap, ◌∙◌, append_assoc, cond, map}
 use Rattle.std.proofs.Common.{subst}
@@ -27,8 +27,8 @@ use Rattle.gb_machine.specs.Requests.{is_of}
 use Rattle.gb_machine.specs.Runs.{Moment}
 use Rattle.gb_machine.specs.Sending.{Draft, label_for, requested, sent}
 
--- requests are those of before and some more, and what is known goes with what was heard first and
--- these
+-- requests are those of before and some more, and what is known goes with what was heard
+-- first and these
 pub record HearsIn (before : List Request) (k : ℕ) (start : List Spoken) (b : Bus) : Type 0 where
   pub news : List Request
   pub grown : b.requests ≡ before ++ news

@@ -35,8 +35,8 @@ abbrev pub more : Bool → ℕ → Spoken → Option Last → Option Last
 more way v x o =
     cond (asks way v x) (Some (x.1.kind, false)) (option_map (answered_more way v x) o)
 
--- The last request of a way with an identifier, the messages that came standing with the newest
--- first.
+-- The last request of a way with an identifier, the messages that came standing with
+-- the newest first.
 abbrev pub last : Bool → ℕ → List Spoken → Option Last
 last way v [] = None
 last way v (x ∷ past) = more way v x (last way v past)

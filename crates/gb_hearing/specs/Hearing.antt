@@ -107,8 +107,8 @@ asked k rs = map asking (filter (is_of k side.Ap) rs)
 abbrev pub heard_asked : ℕ → Bus → Bus → List Spoken
 heard_asked k before after = asked k (drop (length before.requests) after.requests)
 
--- What is heard of connection k at a moment: first what is taken and answered there, then what is
--- asked.
+-- What is heard of connection k at a moment: first what is taken and answered there, then
+-- what is asked.
 abbrev pub heard_at : ℕ → Moment → List Spoken
 heard_at k m = heard_taken k m.before m.event ++ heard_asked k m.before.bus (after m).bus
 

@@ -11,8 +11,8 @@ pub record IsLeast (marks : List Bool) (least : ℕ) : Type 0 where
   pub before : (a : ℕ) → 1 ≤ a → a < least → get_or marks a false ≡ true
   pub here : least < 4096 → get_or marks least false ≡ false
 
--- The CPorts up to 4,095 that are marked are those of the connections, and the least that isn't is
--- kept.
+-- The CPorts up to 4,095 that are marked are those of the connections, and the least that
+-- isn't is kept.
 pub record Marks (x : Cports) (links : List Link) : Type 0 where
   pub long : length x.taken.items ≡ 4096
   pub each : (a : ℕ) → a < 4096 → get_or x.taken.items a false ≡ list_any (λ l. l.ap == a) links

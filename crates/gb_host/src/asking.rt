@@ -19,8 +19,8 @@ impl Host {
     ghost use Rattle.gb_host.specs.Stands.{host_of};
     ghost use Rattle.gb_host.specs.Turning.{TurnsAfter, asks};
 
-    /// The request of a purpose is made. Where there is no Control connection for it, its step
-    /// fails.
+    /// The request of a purpose is made. Where there is no Control connection for it,
+    /// its step fails.
     pub(crate) fn ask(&mut self, acts: Acts, purpose: Purpose) -> Result<Acts, OutOfMemory>
         ensures { TurnsAfter (step_asked purpose (host_of self.old)) acts
             self.old self.new result }
@@ -90,8 +90,8 @@ impl Host {
         }
     }
 
-    /// A connection is to be made on a CPort of the application processor, and then the request for
-    /// it.
+    /// A connection is to be made on a CPort of the application processor, and then the
+    /// request for it.
     pub(crate) fn open(
         &mut self,
         acts: Acts,

@@ -20,8 +20,8 @@ use std::marker::Model;
 /// The connections to modules in order of number. A contract sees them alone. The rest is kept so
 /// that a look-up doesn't go over all of them: the CPorts of the application processor that they
 /// have, the numbers of those at each far end, and a place before which none waits. Where numbers
-/// don't rise, or no memory was found, far ends and numbers aren't known, and are looked for one by
-/// one.
+/// don't rise, or no memory was found, far ends and numbers aren't known, and are looked for
+/// one by one.
 #[derive(Drop)]
 pub struct Connections {
     links: Links,

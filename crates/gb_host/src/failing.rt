@@ -36,8 +36,8 @@ impl Host {
     }
 
     /// A step of a sequence isn't answered as it should be: its connection fails in a connect or
-    /// close, the interface in an enumeration, and both where the Control connection was to be
-    /// made.
+    /// close, the interface in an enumeration, and both where the Control connection was
+    /// to be made.
     pub(crate) fn step_fails(&mut self, acts: Acts, purpose: Purpose) -> Result<Acts, OutOfMemory>
         ensures { TurnsAfter (failed_turn (step_fails purpose.step purpose (host_of self.old)))
             acts self.old self.new result }

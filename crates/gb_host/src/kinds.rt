@@ -1,5 +1,5 @@
-//! Types of the requests of the sequences (in Linux's greybus_protocols.h `GB_SVC_TYPE_..` and
-//! `GB_CONTROL_TYPE_..`).
+//! Types of the requests of the sequences (in Linux's greybus_protocols.h
+//! `GB_SVC_TYPE_..` and `GB_CONTROL_TYPE_..`).
 
 /// INTF_DEVICE_ID of the SVC protocol.
 pub const SVC_INTF_DEVICE_ID: u8 = 0x03;

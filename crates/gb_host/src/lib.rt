@@ -1,5 +1,5 @@
-//! The application processor: what it knows of interfaces and connections, and what it does of its
-//! own.
+//! The application processor: what it knows of interfaces and connections, and what it does
+//! of its own.
 #![tactic(auto)]
 
 mod acts;

@@ -34,8 +34,8 @@ pub struct Target {
     pub device: u8,
 }
 
-/// A step's request goes to the module's Control CPort. The others go to the supervisory
-/// controller.
+/// A step's request goes to the module's Control CPort. The others go to
+/// the supervisory controller.
 pub fn asks_control(step: SequenceStep) -> bool
     ensures { result ≡ asks_control step }
 {

@@ -26,8 +26,8 @@ impl Host {
     ghost use Rattle.gb_host.specs.Refusing.{RefusesAs, SendsAs};
     ghost use Rattle.gb_host.specs.Stands.{Stands};
 
-    /// Whether a connection to a CPort of an interface may be made: Ok, or why not. It takes no
-    /// memory.
+    /// Whether a connection to a CPort of an interface may be made: Ok, or why not. It
+    /// takes no memory.
     pub fn may_connect(&self, intf: u8, cport: u16) -> Result<(), Refusal>
         ensures step { (h : machine.Host) → Stands self.now h
             → RefusesAs (first_met (connect_conditions intf cport h)) result }
@@ -93,8 +93,8 @@ impl Host {
         self.open_at(intf, cport)
     }
 
-    /// The connection to the Control CPort of an interface, None where there is none. It takes no
-    /// memory.
+    /// The connection to the Control CPort of an interface, None where there is none. It
+    /// takes no memory.
     pub fn control(&self, intf: u8) -> Option<u64>
         ensures step { (h : machine.Host) → Stands self.now h → result ≡ control_of intf h }
     {

@@ -262,8 +262,8 @@ sent-made d label b n r made = by (request_of n b) refl
     by (Some q) e = inl (e ∙ sym (sent-request d label b n q e) ∙ made)
     by None e = past (cases_lt (length b.requests) n)
 
--- what is awaited once a request is made: what was before, and the new one, unless it is
--- unidirectional
+-- what is awaited once a request is made: what was before, and the new one, unless
+-- it is unidirectional
 pub sent-before : (d : Draft) (label : ℕ) (b : Bus) (n : ℕ) → OutcomesFit b
     → is_awaited n (sent d label b) ≡ true
     → (is_awaited n b ≡ true) ⊎ ((n ≡ next_number b) × (d.oneway ≡ false))

@@ -113,8 +113,8 @@ replied-keeps loose later k at item b fewer new counts h = record {
   ones = λ n. omega (arith, h.ones n, counts n, replied-counts (is_item_of n) later k at item b);
 }
 
--- a connection changes otherwise: it stays what it is, with as many items or fewer, and may be
--- closed
+-- a connection changes otherwise: it stays what it is, with as many items or fewer, and
+-- may be closed
 pub changed-keeps : (loose later : List Loose) (k : ℕ) (change : Connection → Connection) (b : Bus)
     → ((l : Loose) → IsIn l later → IsIn l loose)
     → ((c : Connection) → (change c).number ≡ c.number)

@@ -1,5 +1,5 @@
--- The rule for identifiers: one that is drawn is from 1 to the greatest, and isn't in use on its
--- side.
+-- The rule for identifiers: one that is drawn is from 1 to the greatest, and isn't in use
+-- on its side.
 use Rattle.std.proofs.Common.{Bool, List, None, Option, Some, ap, arith, cond, false, inl, inr}
 use Rattle.std.proofs.Common.{is_some, option_and_then, refl, suc, sym, true, zero, ℕ, []}
 use Rattle.std.proofs.Common.{◌&&◌, ◌==◌, ◌||◌, ◌∙◌, ◌∷◌, ◌≡◌, ◌≤◌}

@@ -131,8 +131,8 @@ items-sent loose d label b numbers fits h = fit-changed loose loose b (sent d la
 
 -- ---- an item is put on a connection
 
--- requests and outcomes are the same, and what a connection is; loose items are some of those
--- before
+-- requests and outcomes are the same, and what a connection is; loose items are some
+-- of those before
 pub items-replied : (loose later : List Loose) (k : ℕ) (at : Side) (item : Item) (b : Bus)
     → NumbersRise b → ((l : Loose) → IsIn l later → IsIn l loose)
     → ((c : Connection) → IsIn c b.connections → c.number ≡ k → IsNew b c at item)

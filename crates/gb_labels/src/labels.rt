@@ -120,8 +120,8 @@ impl Labels {
         }
     }
 
-    /// No identifier is in use any more. The last one drawn stays. Words that aren't there cost
-    /// nothing.
+    /// No identifier is in use any more. The last one drawn stays. Words that aren't
+    /// there cost nothing.
     pub fn free_all(&mut self)
         ensures { FreesAll self.old self.new }
     {

@@ -1,5 +1,5 @@
--- What the enumeration of an interface waits for is the newest of its requests to the supervisory
--- controller.
+-- What the enumeration of an interface waits for is the newest of its requests to
+-- the supervisory controller.
 use Rattle.std.proofs.Common.{Bool, List, None, Some, ap, arith, false, inl, inr, refl, subst}
 use Rattle.std.proofs.Common.{sym, true, ℕ, ⊎_elim, [], ◌∙◌, ◌∷◌, ◌≡◌, ◌≤◌}
 use Rattle.std.specs.Prelude.{◌&&◌}

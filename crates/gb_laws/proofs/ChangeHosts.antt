@@ -1,5 +1,5 @@
--- What a single change at a point does to the application processor, and to what it has still to
--- ask.
+-- What a single change at a point does to the application processor, and to what it has
+-- still to ask.
 use Rattle.std.proofs.Common.{List, ap, inl, inr, subst, sym, [], ◌∷◌, ◌≡◌}
 use Rattle.gb_machine.specs.{Failures.unsent, Host.Host, HostServing.host_serves}
 use Rattle.gb_machine.specs.{HostServing.with_credits, LineActions.spent, Runs.Moment, Turns.Act}

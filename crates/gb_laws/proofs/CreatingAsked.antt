@@ -1,5 +1,5 @@
--- What is known of the requests that create connections stays where a sequence comes to wait for a
--- request.
+-- What is known of the requests that create connections stays where a sequence comes to wait
+-- for a request.
 use Rattle.std.proofs.Common.{Bool, List, None, Option, Some, ap, arith, cond, false, inl, inr}
 use Rattle.std.proofs.Common.{refl, subst, sym, true, ℕ, ⊎_elim, [], ◌∙◌, ◌∷◌, ◌≡◌, ◌⊎◌}
 use Rattle.std.specs.Prelude.{option_map}

@@ -35,8 +35,8 @@ abbrev pub tells_credits : Option Entry → Bool
 tells_credits None = false
 tells_credits (Some e) = is_credits e
 
--- What a request of a UART does: nothing of its own changes and no credits are told, or some come
--- back.
+-- What a request of a UART does: nothing of its own changes and no credits are told, or
+-- some come back.
 pub data UartServed (l : Link) (h : Host) (read : Result UartAsk PayloadFault) (r : HostServed)
     : Type 0 where
   nothing_back : r.host ≡ h → tells_credits r.told ≡ false → UartServed l h read r
@@ -96,8 +96,8 @@ uart-served k kind payload {h} l found protocol =
 
 -- ---- what is done
 
--- The application processor is as it is once it served a request, and credits are told as it tells
--- them.
+-- The application processor is as it is once it served a request, and credits are told as
+-- it tells them.
 pub record DoesAs (r : HostServed) (t : Told) : Type 0 where
   pub host : t.state.host ≡ r.host
   pub told : list_any is_credits t.entries ≡ tells_credits r.told

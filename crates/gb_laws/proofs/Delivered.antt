@@ -12,8 +12,8 @@ use Rattle.gb_invariants.proofs.Selves.{module-no-svc}
 use Rattle.gb_laws.proofs.{PointParts.IsNoticed, PointParts.IsServed, Points.IsAfterReply}
 use Rattle.gb_laws.proofs.{Points.IsServing}
 
--- What is served is what was delivered at this moment, which was taken alone, or was held by a
--- module.
+-- What is served is what was delivered at this moment, which was taken alone, or was held
+-- by a module.
 pub data IsTaken (m : Moment) (s : State) (c : Connection) : Side → Incoming → Type 0 where
   delivered : (at : End) (p : Place) (item : Item) (q : Incoming) → m.event ≡ event.Deliver at
       → place_of at m.before.bus.connections ≡ Some p

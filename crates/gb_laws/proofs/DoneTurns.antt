@@ -36,8 +36,8 @@ module _ (i : ℕ) where
       apart e = absurd cc
   end-keeps _ h = keeps-same i h h refl
 
-  -- where no enumeration fails of an interface that was enumerated before, and its removal isn't
-  -- handled
+  -- where no enumeration fails of an interface that was enumerated before, and its
+  -- removal isn't handled
   module _ (o : Occasion) (before : Host)
       (undone : (j : ℕ) → FailsAt o j → j ≡ i → IsDone i before.interfaces → ⊥)
       (other : (j : ℕ) (h : Host) → IsFor o h (HostChange.departs j) → (j == i) ≡ false) where

@@ -68,8 +68,8 @@ answered-by_its_responder = at-all HadItsReply answered-at_moments
 pub every-end_has_its_cause : EveryEndHasItsCause
 every-end_has_its_cause = at-all HasItsCause causes-at_moments
 
--- Where it is told that a connection is closing, no request of the application processor is open on
--- it.
+-- Where it is told that a connection is closing, no request of the application processor is
+-- open on it.
 pub closing-none : HoldsAtEachMoment ClosingLeavesNoneOpen
 closing-none = at-all ClosingLeavesNoneOpen closing-none_open
 
@@ -113,8 +113,8 @@ open-live = of-all OpenIsLive (of-state _) open-live_by_moments
 pub opening-told : HoldsThroughout WereOpened
 opening-told = of-all WereOpened opened-seen opened-by_moments
 
--- Nothing that the application processor asked on a connection that named an absent interface is
--- open.
+-- Nothing that the application processor asked on a connection that named an absent
+-- interface is open.
 pub absent-open : HoldsThroughout AbsentHasNoOpenOfAp
 absent-open = of-all AbsentHasNoOpenOfAp absent-seen absent-open_by_moments
 

@@ -1,5 +1,5 @@
--- Where acts of the application processor tell that a connection is closing, they close its side
--- first.
+-- Where acts of the application processor tell that a connection is closing, they close
+-- its side first.
 use Rattle.std.proofs.Common.{List, None, Some, ℕ, inl, inr, map, refl, [], ⊎_elim, ◌++◌, ◌∷◌, ◌≡◌}
 use Rattle.std.proofs.Common.{◌⊎◌}
 use Rattle.gb_base.specs.declared.entry.{ConnState.ConnState, Entry.Entry}

@@ -15,8 +15,8 @@ pub record Linked (b : Bus) (h : Host) (acts : List Act) : Type 0 where
 
 -- ---- where connections come from
 
--- a connection keeps what the application processor knows of it, and is unclean only where it may
--- be
+-- a connection keeps what the application processor knows of it, and is unclean only where
+-- it may be
 pub record IsFrom (was c : Connection) : Type 0 where
   pub number : c.number ≡ was.number
   pub shut : c.shut ≡ was.shut

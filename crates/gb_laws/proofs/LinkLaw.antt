@@ -1,5 +1,5 @@
--- The facts of the application processor's connections as a law of points, and that they hold
--- first.
+-- The facts of the application processor's connections as a law of points, and that
+-- they hold first.
 use Rattle.std.proofs.Common.{ap, arith, ⊎_elim, [], ◌∷◌, ◌≡◌}
 use Rattle.gb_machine.specs.Bus.{Connection, first_bus, svc_connection}
 use Rattle.gb_machine.specs.{Host.first_host, Members.IsIn, Runs.Moment}

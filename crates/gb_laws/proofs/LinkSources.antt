@@ -1,5 +1,5 @@
--- The application processor's connections behind a turn come from those before it, and keep their
--- credits.
+-- The application processor's connections behind a turn come from those before it, and
+-- keep their credits.
 use Rattle.std.proofs.Common.{Bool, None, Option, ap, cond, false, inl, inr, refl, subst, sym, true}
 use Rattle.std.proofs.Common.{ℕ, ⊎_elim, ◌∙◌, ◌≡◌, ◌⊎◌}
 use Rattle.std.specs.Prelude.{◌==◌}

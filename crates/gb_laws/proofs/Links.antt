@@ -67,8 +67,8 @@ pub record IsDeaf (l : Link) : Type 0 where
 abbrev pub DrainsPlain : Link → Type 0
 DrainsPlain l = is_draining l.state ≡ true → l.cport ≢ 0
 
--- a connection has a number that was given, and a CPort of the application processor from 1 to
--- 4,095
+-- a connection has a number that was given, and a CPort of the application processor from
+-- 1 to 4,095
 pub record IsNumbered (made : ℕ) (l : Link) : Type 0 where
   pub from_two : 2 ≤ l.connection
   pub given : l.connection ≤ made

@@ -106,8 +106,8 @@ told-svc e kind payload h f = by (far-reads (row_of svc_asks kind) payload)
     by (inl same) t = subst (Tells e) same t
     by (inr other) t = none e (subst (Tells e) other t)
 
--- What is noticed at a moment: the front request on the supervisory controller's connection tells
--- it.
+-- What is noticed at a moment: the front request on the supervisory controller's
+-- connection tells it.
 pub record IsToldBySvc (m : Moment) (e : HostEvent) : Type 0 where
   pub number : ℕ
   pub request : Request

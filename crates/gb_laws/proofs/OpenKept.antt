@@ -1,5 +1,5 @@
--- That the requests of the application processor are upon live connections is kept by each single
--- change.
+-- That the requests of the application processor are upon live connections is kept by
+-- each single change.
 use Rattle.std.proofs.Common.{Some, inl, inr, refl, subst, sym, ⊎_elim}
 use Rattle.gb_machine.specs.{HostActs.with_awaited, HostServing.host_serves}
 use Rattle.gb_machine.specs.{HostServing.with_credits, LineActions.spent, Members.IsIn, Runs.Moment}

@@ -1,5 +1,5 @@
--- Each live connection but that of the supervisory controller was told as opening, between its
--- ends.
+-- Each live connection but that of the supervisory controller was told as opening,
+-- between its ends.
 use Rattle.std.proofs.Common.{List, Some, ap, inl, inr, refl, subst, sym, [], ◌∙◌, ◌∷◌, ◌≡◌, ◌≢◌}
 use Rattle.gb_base.specs.declared.entry.Entry.{Entry}
 use Rattle.gb_base.specs.declared.entry.ConnState.TheVariants as state

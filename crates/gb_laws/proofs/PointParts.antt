@@ -138,8 +138,8 @@ asked_told d c label b = asked d c label b ∷ sent_told d.oneway (next_number b
 
 -- ---- causes
 
--- At this moment an item is delivered at the application processor, which takes notice of
--- something.
+-- At this moment an item is delivered at the application processor, which takes
+-- notice of something.
 pub record IsNoticed (m : Moment) (e : HostEvent) : Type 0 where
   pub at : End
   pub place : Place

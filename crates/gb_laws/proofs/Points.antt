@@ -194,8 +194,8 @@ pub data Change (m : Moment) (a : Point) : Type 0 where
   takes_held : (i c place : ℕ) (p : Place) (h : Held) → a.hand ≡ None → a.state ≡ m.before
       → m.event ≡ event.Answer i c place → module_place i c m.before ≡ Some p
       → nth place (held_on p.connection.number m.before.held) ≡ Some h → Change m a
-  -- what is being handled is let go, or held, or replied to, or answers a request, or one is
-  -- forgotten
+  -- what is being handled is let go, or held, or replied to, or answers a request, or
+  -- one is forgotten
   drops : Change m a
   holds : (h : Hand) → a.hand ≡ Some h → h.side ≡ side.Far → Change m a
   replies : (h : Hand) (q : Incoming) (r : Answer) → a.hand ≡ Some h
@@ -311,8 +311,8 @@ changed m a (others booted marks ports modules same) =
 
 -- ---- laws
 
--- A law of points within a step is kept by each single change. It says at least what the basis
--- does.
+-- A law of points within a step is kept by each single change. It says at least what
+-- the basis does.
 pub record Law (m : Moment) : Type 1 where
   pub holds : Point → Type 0
   pub basis : (a : Point) → holds a → Basis a

@@ -1,5 +1,5 @@
--- What is said of an enumeration while a removal waits is kept where a request of a sequence is
--- made.
+-- What is said of an enumeration while a removal waits is kept where a request of a
+-- sequence is made.
 use Rattle.std.proofs.Common.{Bool, List, None, Some, ap, append-nil, arith, cond, false, inl, refl}
 use Rattle.std.proofs.Common.{subst, sym, true, ℕ, ⊎_elim, [], ◌++◌, ◌∙◌, ◌∷◌, ◌≡◌, ◌≢◌, ◌≤◌, ◌⊎◌}
 use Rattle.std.specs.Prelude.{not}

@@ -29,8 +29,8 @@ use Rattle.gb_laws.proofs.{Places.module-far, Places.place-is, QuietAsking.quiet
 use Rattle.gb_laws.proofs.{QuietPower.quiet-ports, QuietTaken.view-held, QuietTaken.view-taken}
 use Rattle.gb_laws.proofs.{SvcMoves.queues-still, SvcThere.There, SvcThere.not-one}
 
--- what stays of an enumeration where the application processor's interfaces, the bus and the levels
--- do
+-- what stays of an enumeration where the application processor's interfaces, the bus and
+-- the levels do
 rests : (i : ℕ) (a : Point) {b : Point} → Basis a → b.state.bus ≡ a.state.bus
     → b.state.ports ≡ a.state.ports → ((h : Hand) → b.hand ≡ Some h → a.hand ≡ Some h)
     → WaitsFewer a.state.host b.state.host → b.asked ≡ a.asked

@@ -259,8 +259,8 @@ since-throughout = throughout SinceTo (record {
   remembers = remembers-first;
 }) (λ m one h. (since-over m one h).0)
 
--- What is remembered at a moment is of a request that is made then, for a connection that is live
--- then.
+-- What is remembered at a moment is of a request that is made then, for a connection that
+-- is live then.
 pub remembered-while_live : HoldsAtMoments RememberedWhileLive
 remembered-while_live = at_each SinceTo RememberedWhileLive since-throughout
     (λ m one h. (since-over m one h).1)

@@ -30,8 +30,8 @@ use Rattle.gb_laws.proofs.{BasisParts.loose_of, Points.changed, Points.replies}
 abbrev pub asked_times : ℕ → Point → ℕ
 asked_times n a = times_in (is_ask n) (loose a) a.state.bus
 
--- each request is asked in one item, or its reply was told; of none that wasn't made a reply was
--- told
+-- each request is asked in one item, or its reply was told; of none that wasn't made a
+-- reply was told
 pub record RepliesOnce (a : Point) : Type 0 where
   pub once : (n : ℕ) → asked_times n a + times (is_reply_of n) a.told ≤ 1
   pub made : (n : ℕ) → request_of n a.state.bus ≡ None → times (is_reply_of n) a.told ≡ 0

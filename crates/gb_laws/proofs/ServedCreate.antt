@@ -1,5 +1,5 @@
--- What the supervisory controller is to wire is what the record of a request to create a connection
--- says.
+-- What the supervisory controller is to wire is what the record of a request to create
+-- a connection says.
 use Rattle.std.proofs.Common.{Bool, List, ap, cond, false, refl, true, ℕ, [], ◌∙◌, ◌≡◌}
 use Rattle.std.specs.Prelude.{Err, Ok, Result, nat_lt, not, ◌==◌, ◌||◌}
 use Rattle.gb_formats.specs.SvcRecords.{SvcAsk, read_svc_ask, read_svc_ask_of_ap, svc_asks}

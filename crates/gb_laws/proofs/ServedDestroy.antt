@@ -1,5 +1,5 @@
--- What the bus is after a moment at which the supervisory controller serves a request to destroy a
--- connection.
+-- What the bus is after a moment at which the supervisory controller serves a request to
+-- destroy a connection.
 use Rattle.std.proofs.Common.{Bool, List, None, Option, Some, ap, cond, false, refl, subst, sym}
 use Rattle.std.proofs.Common.{true, ℕ, [], ◌∙◌, ◌≡◌}
 use Rattle.std.specs.List.{list_any}

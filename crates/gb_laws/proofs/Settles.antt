@@ -1,5 +1,5 @@
--- A settle is its deliveries, where in each state of a run of moments nothing that waits is
--- refused.
+-- A settle is its deliveries, where in each state of a run of moments nothing that
+-- waits is refused.
 use Rattle.std.proofs.Common.{Bool, List, None, Option, Some, ap, append-nil, append_assoc, cond}
 use Rattle.std.proofs.Common.{false, refl, subst, suc, sym, true, zero, ℕ, [], ◌++◌, ◌+◌, ◌∙◌, ◌∷◌}
 use Rattle.std.proofs.Common.{◌≡◌}
@@ -175,8 +175,8 @@ module _ (all : HoldsByMoments (λ told s. IsSettleable s)) where
             ∙ sym (happen-append (step s e).entries (told_in (trace_from t es)));
       }
 
-  -- Every settle is its deliveries, where nothing that waits is refused in any state of a run of
-  -- moments.
+  -- Every settle is its deliveries, where nothing that waits is refused in any state of a
+  -- run of moments.
   pub settles-if_settleable : SettlesAreDeliveries
   settles-if_settleable es valid =
       let d = run-does es valid (record { run = []; moments = tt; is = refl }) in

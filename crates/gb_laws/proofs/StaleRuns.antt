@@ -1,5 +1,5 @@
--- Requests for connections that are gone find their interface without a route, in each state of a
--- run.
+-- Requests for connections that are gone find their interface without a route, in each state
+-- of a run.
 use Rattle.std.proofs.Common.{List, None, Some, arith, inl, refl, subst, sym, ℕ, [], ◌++◌, ◌∙◌, ◌≡◌}
 use Rattle.gb_base.specs.declared.entry.Entry.{Entry}
 use Rattle.gb_machine.specs.Runs.{IsMoment, Moment, after, told_at}

@@ -41,8 +41,8 @@ pub ends-follow : (ns : List ℕ) → AreConsequences (map disconnected_told ns)
 ends-follow [] = tt
 ends-follow (n ∷ ns) = (refl, ends-follow ns)
 
--- What may be told once a message was taken, and what stands in front there: toward a side of a
--- connection.
+-- What may be told once a message was taken, and what stands in front there: toward a side
+-- of a connection.
 pub record Taking : Type 1 where
   pub tells : Entry → Type 0
   pub follows : (e : Entry) → is_consequence e ≡ true → tells e

@@ -12,8 +12,8 @@ use Rattle.gb_machine.specs.State.{State}
 use Rattle.gb_machine.specs.SvcQueues.{HandlesRemoval}
 use Rattle.gb_machine.specs.Wiring.{is_at}
 
--- Nothing that the application processor asked on a connection that named an absent interface is
--- open.
+-- Nothing that the application processor asked on a connection that named an absent
+-- interface is open.
 abbrev pub AbsentHasNoOpenOfAp : List Entry → State → Type 0
 AbsentHasNoOpenOfAp told s =
     (i k own c n : ℕ) (state : ConnState) (r : Request) → interface_of i s.host ≡ None

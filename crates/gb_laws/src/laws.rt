@@ -128,8 +128,8 @@ pub fn absent_after_removal()
     ensures { AbsentAfterRemoval }
 {}
 
-/// An open request of the application processor is on a live connection, and its side of that isn't
-/// closed.
+/// An open request of the application processor is on a live connection, and its side of
+/// that isn't closed.
 pub fn open_is_live()
     ensures { HoldsThroughout OpenIsLive }
 {}
@@ -140,8 +140,8 @@ pub fn opening_was_told()
     ensures { HoldsThroughout WereOpened }
 {}
 
-/// Nothing that the application processor asked on a connection that named an absent interface is
-/// open.
+/// Nothing that the application processor asked on a connection that named an absent
+/// interface is open.
 pub fn absent_has_no_open_of_ap()
     ensures { HoldsThroughout AbsentHasNoOpenOfAp }
 {}
@@ -221,8 +221,8 @@ pub fn wired_means_routed()
     ensures { WiredMeansRouted }
 {}
 
-/// A connection that is wired, but for that of the supervisory controller, is remembered to have
-/// been.
+/// A connection that is wired, but for that of the supervisory controller, is remembered
+/// to have been.
 pub fn wired_is_remembered()
     ensures { HoldsThroughout WiredIsRemembered }
 {}

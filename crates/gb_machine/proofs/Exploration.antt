@@ -1,5 +1,5 @@
--- Exploration: the facts on hot-plug hold in all states that a few events lead to, from a few
--- states.
+-- Exploration: the facts on hot-plug hold in all states that a few events lead to, from
+-- a few states.
 use Rattle.std.proofs.Common.{◌≡◌, ℕ, zero, suc, Bool, true, false, ◌&&◌, List, [], ◌∷◌, ◌++◌}
 use Rattle.std.proofs.Common.{codes, refl}
 use Rattle.std.specs.List.{list_all}

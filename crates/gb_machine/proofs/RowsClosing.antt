@@ -2,8 +2,8 @@
 use Rattle.std.proofs.Common.{◌≡◌, [], ◌∷◌, ◌++◌, codes, refl}
 use Rattle.gb_machine.proofs.Scripts.{plain_behind, report_opened, setup, text}
 
--- what waits toward a closing connection is dropped, and the module's requests end once it is
--- unwired
+-- what waits toward a closing connection is dropped, and the module's requests end once
+-- it is unwired
 pub closing_drops : plain_behind (setup (codes "insert 2 uart")
     ++ (codes "uart @a 2 1 send 41"
     ∷ codes "deliver 2 1" ∷ []))

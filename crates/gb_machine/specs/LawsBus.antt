@@ -20,8 +20,8 @@ is_awaited n b = is_open n b || is_given_up n b
 
 -- ---- labels differ
 
--- Requests of one side of one connection that are awaited have different identifiers, from 1 to the
--- greatest.
+-- Requests of one side of one connection that are awaited have different identifiers, from 1
+-- to the greatest.
 pub record OwnLabels (b : Bus) : Type 0 where
   pub differ : (n m : ℕ) (r q : Request)
       → request_of n b ≡ Some r → request_of m b ≡ Some q

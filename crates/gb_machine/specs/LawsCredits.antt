@@ -1,5 +1,5 @@
--- A law of runs: the credits of a UART are 4,096, less the bytes that were sent, plus what came
--- back.
+-- A law of runs: the credits of a UART are 4,096, less the bytes that were sent, plus
+-- what came back.
 use Rattle.std.specs.Prelude.{◌≡◌, ◌≤◌, ℕ, ◌+◌, ◌==◌, Bool, true, false, ◌&&◌, if◌then◌else◌}
 use Rattle.std.specs.Prelude.{Option, Some, None, is_none, Result, Ok, List}
 use Rattle.std.specs.List.{list_any}

@@ -286,8 +286,8 @@ pub record IsMadeWhileLive (m : Moment) (n k : ℕ) : Type 0 where
   pub made : is_some (request_of n (after m).bus) ≡ true
   pub live : is_some (connection_of k (after m).bus) ≡ true
 
--- What is remembered at a moment is of a request that is made then, for a connection that is live
--- then.
+-- What is remembered at a moment is of a request that is made then, for a connection that
+-- is live then.
 abbrev pub RememberedWhileLive : Moment → Type 0
 RememberedWhileLive m =
     Each (λ (p : ℕ × ℕ). IsIn p m.before.past.made_for ⊎ IsMadeWhileLive m p.0 p.1)

@@ -48,8 +48,8 @@ WiredMeansRouted = HoldsThroughout AreRouted
 abbrev pub awaits_removal : ℕ → Bus → Bool
 awaits_removal i b = list_any (is_removal i) (svc_requests side.Ap b)
 
--- While it does, the power level of the interface is at most 1 and none of its connections is
--- wired.
+-- While it does, the power level of the interface is at most 1 and none of its
+-- connections is wired.
 pub record LeavesNothing (told : List Entry) (s : State) : Type 0 where
   pub low : (i : ℕ) → awaits_removal i s.bus ≡ true → level_of i s.ports ≤ 1
   pub unwired : (i : ℕ) → awaits_removal i s.bus ≡ true

@@ -36,8 +36,8 @@ abbrev pub device_in : Option Interface → ℕ
 device_in None = 0
 device_in (Some x) = unwrap_or x.device 0
 
--- what the request of a purpose speaks of, where the connection has this CPort of the application
--- processor
+-- what the request of a purpose speaks of, where the connection has this CPort of
+-- the application processor
 abbrev pub target : ℕ → Purpose → Host → Target
 target ap p h = record {
   intf = p.intf;

@@ -39,8 +39,8 @@ climbs ready i level payload ports =
     if ready then record { ports = raised i level ports; served = Answered success payload }
     else svc_refuses ports nonexistent
 
--- A device id can't be had: it isn't a module's, another interface has it, or the interface is
--- routed.
+-- A device id can't be had: it isn't a module's, another interface has it, or the
+-- interface is routed.
 abbrev pub is_no_device : ℕ → ℕ → List Port → Bool
 is_no_device i d ports =
     nat_lt d 2 || nat_lt 31 d || is_elsewhere i d ports || level_of i ports == 6

@@ -39,8 +39,8 @@ unfoldable pub unwires : ℕ → Action
 unwires k = by_state (λ s.
     change (with_unwired k) ▸ tell_all (map disconnected_told (open_on k side.Far s.bus)))
 
--- The application processor's side of a connection is closed: its open requests end, in order of
--- number.
+-- The application processor's side of a connection is closed: its open requests end, in
+-- order of number.
 unfoldable pub shuts : ℕ → Action
 shuts k = by_state (λ s.
     on_bus (shut_down k) ▸ tell_all (map disconnected_told (open_on k side.Ap s.bus)))

@@ -27,8 +27,8 @@ const HEADER: usize = 4;
 /// The least size of a descriptor.
 const LEAST: usize = 8;
 
-/// A manifest descriptor (Greybus Specification, "Manifest"; in Linux's greybus_manifest.h
-/// `greybus_descriptor`).
+/// A manifest descriptor (Greybus Specification, "Manifest"; in
+/// Linux's greybus_manifest.h `greybus_descriptor`).
 #[derive(Clone, Copy)]
 pub enum Descriptor<'a> {
     /// The interface.

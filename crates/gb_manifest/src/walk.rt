@@ -53,8 +53,8 @@ impl<'a> Walk<'a> {
         found
     }
 
-    /// The next descriptor with its place, None where all bytes were passed. The walk meets no
-    /// refusal.
+    /// The next descriptor with its place, None where all bytes were passed. The walk
+    /// meets no refusal.
     pub fn next(&mut self) -> Option<(u32, Descriptor<'a>)>
         requires { IsOk (walk_of self.old) }
         ensures next { GoesOn self.old self.new result }

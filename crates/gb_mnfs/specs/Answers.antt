@@ -37,8 +37,8 @@ abbrev pub Compiles : Result (List ℕ) MnfsFault → Result (List ℕ) SourceFa
 Compiles (Ok bytes) answer = answer ≡ Ok bytes
 Compiles (Err why) answer = IfSome (fault_of why) (λ refusal. answer ≡ Err refusal)
 
--- The bytes are the plain manifest of a spec of which the text is a source, and which can be
--- written.
+-- The bytes are the plain manifest of a spec of which the text is a source, and which
+-- can be written.
 pub record IsMade (text bytes : List ℕ) : Type 0 where
   pub spec : formats.ManifestSpec
   pub source : IsSource text spec

@@ -23,8 +23,8 @@ pub fn string(alloc: Global, text: &[u8]) -> Result<Option<Bytes>, OutOfMemory>
     Ok(Some(string))
 }
 
-/// The byte of a string that its text has at the front, and how many places it takes besides the
-/// first.
+/// The byte of a string that its text has at the front, and how many places it takes
+/// besides the first.
 fn first_byte(text: &[u8]) -> Option<(u8, usize)>
     requires { 0 < length text.now }
     ensures value { result ≡ first_byte text.now }

@@ -1,5 +1,5 @@
-//! A module by itself: the bytes of its manifest, its CPorts with a device each, and its Control
-//! responder.
+//! A module by itself: the bytes of its manifest, its CPorts with a device each, and
+//! its Control responder.
 #![tactic(auto)]
 
 mod control;

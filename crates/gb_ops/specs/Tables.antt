@@ -97,8 +97,8 @@ pub record MarksAs (old new : Tables) (label : ℕ) : Type 0 where
 -- ---- what holds of them always
 
 -- Identifiers are in use as they are marked; an open request has its identifier, and an identifier
--- that is in use for an open request is that one's; no deadline of an open request is before the
--- soonest.
+-- that is in use for an open request is that one's; no deadline of an open request is
+-- before the soonest.
 pub record Kept (labels : LabelSet) (t : Tables) : Type 0 where
   pub used : (label : ℕ) → is_in_use labels label ≡ is_some (holder_in t label)
   pub held : (n : ℕ) (p : Pending) → pending_in t n ≡ Some p

@@ -1,5 +1,5 @@
-//! Rows of the bus: requests, connections, identifiers and slots. The expected values are worked by
-//! hand.
+//! Rows of the bus: requests, connections, identifiers and slots. The expected values are
+//! worked by hand.
 
 use crate::bus_acts::{
     Act, DISPLAY, FAN, KEYS, LIGHT, PING, Seen, attaches, delivers, plays, replies, sends,

@@ -189,8 +189,8 @@ fn tells(rt: &impl Abort, desk: &Desk, pass: &mut Pass, t: &Ticket, want: Option
     }
 }
 
-/// All slots are taken, also once the first request ended. The second is open until it is
-/// cancelled.
+/// All slots are taken, also once the first request ended. The second is open until
+/// it is cancelled.
 fn stays_full(rt: &impl Abort, alloc: Global, desk: &Desk, pass: &mut Pass, two: &Ticket)
     requires own { IsOf desk.now pass.old }
     requires second { IsIn two.now (known pass.old).tickets }
@@ -234,8 +234,8 @@ fn fills(rt: &impl Abort, alloc: Global, desk: &Desk, pass: &mut Pass)
     gives_back(desk, pass, two);
 }
 
-/// Pings of the callers from 2 to this one are opened, and then two more. All tickets are given
-/// back.
+/// Pings of the callers from 2 to this one are opened, and then two more. All tickets
+/// are given back.
 fn opens_all(rt: &impl Abort, alloc: Global, desk: &Desk, pass: &mut Pass, last: u8)
     requires own { IsOf desk.now pass.old }
     ensures own { IsOf desk.now pass.new }

@@ -23,8 +23,8 @@ abbrev pub Fits : List ℕ → ℕ → Result ℕ NoRoom → Type 0
 Fits bytes room (Ok n) = (n ≡ length bytes) × (length bytes ≤ room)
 Fits bytes room (Err refused) = room < length bytes
 
--- Bytes are written to the front of `old`, which keeps its rest, or there is no room and nothing
--- changes.
+-- Bytes are written to the front of `old`, which keeps its rest, or there is no room
+-- and nothing changes.
 abbrev pub Puts : List ℕ → List ℕ → List ℕ → Result ℕ NoRoom → Type 0
 Puts bytes old new (Ok n) =
     (n ≡ length bytes) × (length bytes ≤ length old) × (new ≡ bytes ++ drop (length bytes) old)

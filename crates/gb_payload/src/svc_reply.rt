@@ -18,8 +18,8 @@ use crate::svc_kinds::{
 use crate::{PayloadFault, mismatch, put, read_record};
 use gb_base::NoRoom;
 
-/// A response of the SVC protocol (Greybus Specification, "SVC Protocol"), in the order of the
-/// requests.
+/// A response of the SVC protocol (Greybus Specification, "SVC Protocol"), in the order
+/// of the requests.
 #[derive(Clone, Copy, PartialEq, Eq)]
 pub enum SvcReply {
     /// The interface has its device id.

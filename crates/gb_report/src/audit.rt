@@ -72,8 +72,8 @@ pub fn append_finding(line: u32, found: &Finding, out: &mut String) -> Result<()
     end_line(out)
 }
 
-/// Appends the text that names a bad line of a capture. After a refusal a front of it may stand in
-/// `out`.
+/// Appends the text that names a bad line of a capture. After a refusal a front of it may
+/// stand in `out`.
 pub fn append_bad_capture(
     line: u32,
     why: &CaptureFault,

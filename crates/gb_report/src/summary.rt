@@ -31,8 +31,8 @@ pub struct Counts {
     pub left_open: u64,
 }
 
-/// Appends the summary: how many lines the script has, and the counts. After a refusal `out` is as
-/// before.
+/// Appends the summary: how many lines the script has, and the counts. After a refusal `out`
+/// is as before.
 pub fn put_summary(
     alloc: Global,
     lines: u64,

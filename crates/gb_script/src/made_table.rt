@@ -35,8 +35,8 @@ fn value(draw: u64) -> u8
     (draw / 32 % 8) as u8
 }
 
-/// Line `k` of the table, by what is drawn for it. Line `named` is the last before it that names a
-/// request.
+/// Line `k` of the table, by what is drawn for it. Line `named` is the last before it that
+/// names a request.
 pub fn by_row(alloc: Global, k: u32, named: u32, draw: u64) -> Result<Event, OutOfMemory>
     requires line { k ≤ 20000 }
     requires named { named ≤ 20000 }

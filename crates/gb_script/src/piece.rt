@@ -52,8 +52,8 @@ impl Piece {
         })
     }
 
-    /// Reads where no byte is left. True where bytes are left then, and false at the end of the
-    /// source.
+    /// Reads where no byte is left. True where bytes are left then, and false at the end
+    /// of the source.
     pub fn fill<S: Source>(&mut self, source: &mut S) -> Result<bool, Failed>
         ensures bytes { Fills self.old self.new (S.left source.old) (S.left source.new) result }
         ensures held { has_lf self.old ≡ true → (self.new ≡ self.old) × (source.new ≡ source.old) }

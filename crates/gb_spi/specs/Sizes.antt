@@ -9,8 +9,8 @@ use Rattle.gb_formats.specs.SpiRecords.{TransferEntry, entries_at, entry_size}
 abbrev pub entries_in : List ℕ → List TransferEntry
 entries_in bytes = entries_at (length bytes / entry_size) bytes
 
--- how many bytes the payload of a bridge line's transfer has: its head, the entries, and what they
--- write
+-- how many bytes the payload of a bridge line's transfer has: its head, the entries, and
+-- what they write
 abbrev pub bridged_size : List SpiOp → ℕ
 bridged_size ops =
     4 + length (concat (map spi_op_bytes ops)) + length (concat (map spi_written ops))

@@ -21,8 +21,8 @@ pub enum Rung {
 /// Why an interface doesn't climb a rung.
 #[derive(Clone, Copy, PartialEq, Eq)]
 pub enum NotReady {
-    /// What comes before the rung isn't done, or a route leads to a device id that the interface
-    /// hasn't.
+    /// What comes before the rung isn't done, or a route leads to a device id that
+    /// the interface hasn't.
     Below,
     /// The device id isn't of 2 to 31, another interface has it, or the interface is routed.
     Taken,

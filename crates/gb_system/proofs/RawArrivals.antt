@@ -1,5 +1,5 @@
--- The machine's deliveries of responses that go by their identifiers, and of bytes that are no
--- message.
+-- The machine's deliveries of responses that go by their identifiers, and of bytes that
+-- are no message.
 use Rattle.std.proofs.Common.{◌≡◌, ℕ, Bool, true, false, if◌then◌else◌, Option, Some, None}
 use Rattle.std.proofs.Common.{option_map, Result, Ok, Err, List, [], ◌∷◌, refl, sym, ap, ◌∙◌}
 use Rattle.gb_base.specs.declared.end.End.{End}

@@ -1,5 +1,5 @@
--- What the application processor does of its own is possible, since its connections go with the
--- bus.
+-- What the application processor does of its own is possible, since its connections go
+-- with the bus.
 use Rattle.std.proofs.Common.{◌≡◌, ◌≤◌, ◌<◌, ℕ, true, false, Option, Some, None, is_none, List}
 use Rattle.std.proofs.Common.{option_map, [], ◌∷◌, ◌==◌}
 use Rattle.std.proofs.Common.{length, refl, sym, ap, ◌∙◌, inl, inr, subst, arith}

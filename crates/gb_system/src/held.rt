@@ -34,8 +34,8 @@ impl Model for Boxed {
     ghost view = { λ b. b.request.value };
 }
 
-/// The requests that wait to be answered: those of each connection in the order in which they were
-/// delivered.
+/// The requests that wait to be answered: those of each connection in the order in which
+/// they were delivered.
 #[derive(Drop)]
 pub struct HeldRequests {
     alloc: Global,

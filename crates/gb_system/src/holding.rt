@@ -88,8 +88,8 @@ impl Parties {
         Ok(())
     }
 
-    /// Serves a request that was held on a connection, at an end, or drops it where the end takes
-    /// nothing.
+    /// Serves a request that was held on a connection, at an end, or drops it where the
+    /// end takes nothing.
     fn serve_held(
         &mut self,
         connection: u64,

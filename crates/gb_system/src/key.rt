@@ -17,8 +17,8 @@ use std::marker::Model;
 /// How many bytes of a word are in a key's number, behind the requester's.
 const BYTES: usize = 15;
 
-/// A name in the order of names: by requester, then by the bytes of its word. A contract sees the
-/// name.
+/// A name in the order of names: by requester, then by the bytes of its word. A contract
+/// sees the name.
 #[derive(Drop)]
 pub struct Key {
     name: Name,

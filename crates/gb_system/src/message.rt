@@ -41,8 +41,8 @@ pub fn request_bytes(
     )
 }
 
-/// The bytes of the response to a request of a type below 0x80, with a payload of at most 2,040
-/// bytes.
+/// The bytes of the response to a request of a type below 0x80, with a payload of at
+/// most 2,040 bytes.
 pub fn response_bytes(
     alloc: Global,
     label: u16,

@@ -11,8 +11,8 @@ use std::alloc::Global;
 use std::collections::{BTreeMap, HashMap};
 use std::marker::Model;
 
-/// The names that are bound, each with its request. A contract sees them in order of requester and
-/// word.
+/// The names that are bound, each with its request. A contract sees them in order of
+/// requester and word.
 #[derive(Drop)]
 pub struct Names {
     bound: HashMap<Key, u64>,

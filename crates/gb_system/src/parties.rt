@@ -17,8 +17,8 @@ use gb_switch::Ladder;
 use std::alloc::Global;
 
 /// The application processor, the supervisory controller with the power levels of interfaces, the
-/// modules, and the bus between them, with the names that requests have, the time, and what is
-/// held.
+/// modules, and the bus between them, with the names that requests have, the time, and
+/// what is held.
 #[derive(Drop)]
 pub struct Parties {
     /// Where memory is taken.

@@ -83,8 +83,8 @@ impl Parties {
         Ok(())
     }
 
-    /// The module at an interface, 2 to 31, is pulled: its connections are unwired in order of
-    /// number.
+    /// The module at an interface, 2 to 31, is pulled: its connections are unwired in
+    /// order of number.
     pub fn pull(&mut self, intf: u8, told: &mut Entries) -> Result<(), OutOfMemory>
         requires { IsIntf intf }
         ensures step { OnOk result ((s : State) → PartiesStand self.old s

@@ -22,8 +22,8 @@ use gb_base::{End, Entries, Name, OutOfMemory, Refusal, Side};
 use gb_bridge_payload::MOST_PAYLOAD;
 
 impl Parties {
-    /// Sends a request to the supervisory controller or to a CPort of a module. The timeout is in
-    /// milliseconds.
+    /// Sends a request to the supervisory controller or to a CPort of a module. The timeout
+    /// is in milliseconds.
     pub fn send(
         &mut self,
         name: &Name,

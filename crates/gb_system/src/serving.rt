@@ -87,8 +87,8 @@ impl Parties {
         Ok(())
     }
 
-    /// The application processor serves a request. One that gets no reply is ignored where it is
-    /// refused.
+    /// The application processor serves a request. One that gets no reply is ignored where
+    /// it is refused.
     fn serve_at_ap(
         &mut self,
         connection: u64,

@@ -29,8 +29,8 @@ use std::marker::Model;
 
 /// A map from numbers to items. It has a place for each number from the least to the greatest that
 /// was given an item, also where that was taken since, until `trim` or `clear` lets the place go.
-/// So these numbers should stand close together. A contract sees those that have an item, each with
-/// it.
+/// So these numbers should stand close together. A contract sees those that have an item,
+/// each with it.
 #[derive(Drop)]
 pub struct Table<T> {
     /// The number of the first place.

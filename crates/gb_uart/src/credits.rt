@@ -43,8 +43,8 @@ impl Credits {
         Credits { left: MOST_CREDITS }
     }
 
-    /// Takes the credits of `n` bytes. NoCredit exactly where there are fewer, and they are then as
-    /// before.
+    /// Takes the credits of `n` bytes. NoCredit exactly where there are fewer, and they are
+    /// then as before.
     pub fn spend(&mut self, n: u16) -> Result<(), NoCredit>
         ensures { CountsAs (credits_spent self.old n) self.old self.new result }
     {
@@ -55,8 +55,8 @@ impl Credits {
         Ok(())
     }
 
-    /// Gives `n` credits back. TooMany exactly where they would pass 4,096, and they are then as
-    /// before.
+    /// Gives `n` credits back. TooMany exactly where they would pass 4,096, and they are
+    /// then as before.
     pub fn add(&mut self, n: u16) -> Result<(), TooMany>
         ensures { CountsAs (credits_added self.old n) self.old self.new result }
     {

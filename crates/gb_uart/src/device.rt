@@ -46,8 +46,8 @@ impl Device {
         ensures { self.new ≡ self.old }
     {}
 
-    /// Serves a request of the application processor. Only where it sends bytes back it takes
-    /// memory.
+    /// Serves a request of the application processor. Only where it sends bytes back
+    /// it takes memory.
     pub fn serve(&mut self, kind: u8, payload: &[u8]) -> Result<Served, OutOfMemory>
         ensures step { IfOk result (λ served. served ≡ formats.uart_step kind payload.now) }
         ensures few { (formats.uart_step kind payload.now).asks ≡ [] → IsOk result }

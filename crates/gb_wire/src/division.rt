@@ -15,8 +15,8 @@ pub(crate) struct Division {
     pub messages: Messages,
     /// How many bytes they have.
     pub used: usize,
-    /// The fault with which the bytes behind them begin. Where there is none, they are no whole
-    /// message.
+    /// The fault with which the bytes behind them begin. Where there is none, they are
+    /// no whole message.
     pub fault: Option<WireFault>,
 }
 

@@ -149,8 +149,8 @@ job_of (w ∷ x ∷ y ∷ ws) = None
 abbrev pub is_too_long : List ℕ → Bool
 is_too_long text = nat_lt longest_input (length text)
 
--- What is taken of lines: all of them, or of a text that is too long those that end within the
--- limit.
+-- What is taken of lines: all of them, or of a text that is too long those that end
+-- within the limit.
 abbrev pub lines_within : List ℕ → List ℕ
 lines_within text =
     if is_too_long text then ended_lines (take longest_input text) else text

@@ -22,8 +22,8 @@ pub record IsLong (left left_after : Option (List ℕ)) (front : List ℕ) : Typ
   pub full : length front ≡ longest_input
   pub more : 0 < length others
 
--- By cases on the answer; `faults` are those before and after. After want of memory nothing is
--- said.
+-- By cases on the answer; `faults` are those before and after. After want of memory
+-- nothing is said.
 abbrev pub ReadsAll : Option (List ℕ) → Option (List ℕ) → ℕ → ℕ → Result Input ReadStop → Type 0
 ReadsAll left after before faults (Ok (input.Whole bytes)) = IsWhole left after bytes.items
 ReadsAll left after before faults (Ok (input.TooLong front)) = IsLong left after front.items

@@ -154,8 +154,8 @@ IfByLine (Some (Whole j)) Holds = ⊤
 IfByLine (Some (Share hex)) Holds = ⊤
 IfByLine (Some (Drive seed)) Holds = ⊤
 
--- The sink took what is written for an input. `taken` and `after` are what it had taken before and
--- after.
+-- The sink took what is written for an input. `taken` and `after` are what it had taken
+-- before and after.
 pub record IsOutput (j : Job) (text : List ℕ) (taken after : Option (List ℕ)) : Type 0 where
   pub written : List ℕ
   pub is_written : Writes j text written

@@ -1,5 +1,5 @@
-//! Scripts whose requesters are held at their gates, so that the order is known, or are counted
-//! there.
+//! Scripts whose requesters are held at their gates, so that the order is known, or
+//! are counted there.
 
 use crate::run::run;
 use gb_base::{Bytes, Entries, Entry, Gate, MemSink, MemSource, Numbers, Status};

@@ -24,8 +24,8 @@ pub fn run_plain<R: Threads + Sync, G: Gate>(
     ensures reads { result ≡ Status.ReadFault → ⊥ }
     ensures writes { result ≡ Status.WriteFault → ⊥ }
 
-    // Where the words are the program's, the status is the verdict on the input, unless memory is
-    // wanting.
+    // Where the words are the program's, the status is the verdict on the input, unless
+    // memory is wanting.
     ensures usage { (result ≡ Status.Usage) ↔ (job_of (map string_bytes words.now) ≡ None) }
     ensures complete { EndsWell (job_of (map string_bytes words.now)) source.old result }
 

@@ -33,8 +33,8 @@ pub fn run<R: Threads + Sync, S: Source, K: Sink, G: Gate>(
     sink: &mut K,
     gate: &G,
 ) -> Status
-    // Usage comes exactly where the words are none of the program's. Nothing is read or written
-    // then.
+    // Usage comes exactly where the words are none of the program's. Nothing is read
+    // or written then.
     ensures usage { (result ≡ Status.Usage) ↔ (job_of (map string_bytes words.now) ≡ None) }
     ensures untouched { result ≡ Status.Usage → (source.new ≡ source.old) × (sink.new ≡ sink.old) }
 

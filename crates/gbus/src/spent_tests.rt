@@ -1,5 +1,5 @@
-//! Runs of a system of which the identifiers or the CPorts are used up, which are too long for a
-//! script.
+//! Runs of a system of which the identifiers or the CPorts are used up, which are too long
+//! for a script.
 
 use crate::tests::{does, steps};
 use gb_base::{Entry, IntfStage};
