@@ -1,6 +1,6 @@
 //! The application processor as responder.
 
-ghost use Rattle.std.specs.Prelude.{◌≡◌, [], IfOk, option_map, None, Some};
+ghost use Rattle.std.specs.Prelude.{◌≡◌, [], IfOk, None, Some};
 ghost use Rattle.gb_base.specs.declared.entry.Entry.TheVariants as entry;
 ghost use Rattle.gb_bridge_payload.specs.Views.{gpio_ask_of, uart_ask_of};
 ghost use Rattle.gb_formats.specs.Results as formats;
@@ -14,8 +14,8 @@ ghost use Rattle.gb_payload.specs.Answers.{fault_of};
 ghost use Rattle.gb_payload.specs.Views.{svc_ask_of};
 
 use crate::protocols::{GPIO, MOST_CREDITS, UART};
-use crate::{Host, HostEvent, HostServed};
-use gb_base::{Bytes, Entry, Link, OutOfMemory};
+use crate::{Host, HostServed};
+use gb_base::{Bytes, Entry, HostEvent, Link, OutOfMemory};
 use gb_bridge_payload::{GpioAsk, INVALID, PROTOCOL_BAD, SUCCESS, UartAsk, fault_result};
 use gb_payload::SvcAsk;
 
@@ -23,7 +23,7 @@ use gb_payload::SvcAsk;
 const SVC_VERSION: [u8; 2] = [0, 1];
 
 impl Host {
-    ghost use Rattle.gb_host.specs.Serving.{ServesAs, event_of, served_of};
+    ghost use Rattle.gb_host.specs.Serving.{ServesAs, served_of};
     ghost use Rattle.gb_host.specs.Stands.{Stands, host_of};
 
     /// Serves a request on a connection to a module, or on that of the supervisory controller.
@@ -208,7 +208,7 @@ impl Host {
 
     /// It answers success, and takes notice of something.
     fn notices(&self, what: HostEvent) -> HostServed
-        ensures { host_notices (event_of what) (host_of self.now) ≡ served_of result self.now }
+        ensures { host_notices what (host_of self.now) ≡ served_of result self.now }
     {
         HostServed {
             result: SUCCESS,

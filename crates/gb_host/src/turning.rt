@@ -8,11 +8,10 @@ ghost use Rattle.gb_machine.specs.Sequences.{payload_in, step_answered, step_don
 ghost use Rattle.gb_machine.specs.Waits.{awaited, waiting};
 
 use crate::replies::{is_reply, payload_in};
-use crate::{Acts, Host, HostEvent};
-use gb_base::{Bytes, OutOfMemory, Outcome, Purpose, SequenceStep};
+use crate::{Acts, Host};
+use gb_base::{Bytes, HostEvent, OutOfMemory, Outcome, Purpose, SequenceStep};
 
 impl Host {
-    ghost use Rattle.gb_host.specs.Serving.{event_of};
     ghost use Rattle.gb_host.specs.Stands.{Stands, host_of};
     ghost use Rattle.gb_host.specs.Turning.{TurnsAfter, TurnsAs};
 
@@ -28,7 +27,7 @@ impl Host {
     /// It is answered with OutOfMemory where no memory was found. Nothing has changed then.
     pub fn on(&mut self, event: HostEvent) -> Result<Acts, OutOfMemory>
         ensures step { (h : machine.Host) → Stands self.old h
-            → TurnsAs (host_turn (event_of event) h) self.old self.new result }
+            → TurnsAs (host_turn event h) self.old self.new result }
     {
         let acts = Acts::new(self.alloc);
         match event {

@@ -3,6 +3,8 @@
 use Rattle.std.proofs.Common.{Bool, List, None, Option, Some, false, map, true, ℕ, [], ◌++◌, ◌∷◌}
 use Rattle.std.proofs.Common.{◌≡◌}
 use Rattle.gb_base.specs.declared.entry.{ConnState.ConnState, Entry.Entry}
+use Rattle.gb_base.specs.declared.host_event.HostEvent.TheVariants as host_event
+use Rattle.gb_base.specs.declared.host_event.HostEvent.{HostEvent}
 use Rattle.gb_base.specs.declared.outcome.Outcome.{Outcome}
 use Rattle.gb_base.specs.declared.peers.{Interface.Interface, Link.Link}
 use Rattle.gb_base.specs.declared.steps.{Purpose.Purpose, SequenceStep.SequenceStep}
@@ -16,7 +18,7 @@ use Rattle.gb_machine.specs.Host.{with_interface, with_link, with_new_interface,
 use Rattle.gb_machine.specs.HostTurns.{links_left, links_of, without_interface}
 use Rattle.gb_machine.specs.SequenceSteps.{at_step, is_enumeration, purpose}
 use Rattle.gb_machine.specs.Sequences.{ap_in, asking, enumerated, opens, target}
-use Rattle.gb_machine.specs.Turns.{Act, HostEvent, Turn, turn}
+use Rattle.gb_machine.specs.Turns.{Act, Turn, turn}
 use Rattle.gb_machine.specs.{Failures.link_told, Failures.told_of, Members.Each, Waits.awaited}
 use Rattle.gb_machine.specs.{Waits.awaits_nothing}
 
@@ -145,7 +147,7 @@ step_behind steps.DestroyConnection = None
 pub record IsEnded (e : HostEvent) (before : Host) (p : Purpose) : Type 0 where
   pub number : ℕ
   pub how : Outcome
-  pub is : e ≡ HostEvent.Ended number how
+  pub is : e ≡ host_event.Ended number how
   pub awaited : awaited number before ≡ Some p
 
 -- It was answered.
@@ -153,23 +155,23 @@ pub record IsAnswered (e : HostEvent) (before : Host) (p : Purpose) : Type 0 whe
   pub number : ℕ
   pub result : ℕ
   pub payload : List ℕ
-  pub is : e ≡ HostEvent.Ended number (outcome.Answered result payload)
+  pub is : e ≡ host_event.Ended number (outcome.Answered result payload)
   pub awaited : awaited number before ≡ Some p
 
 -- A connection drains, and no request of the application processor is open on it.
 pub record IsDrained (e : HostEvent) (before : Host) (l : Link) : Type 0 where
   pub number : ℕ
-  pub is : e ≡ HostEvent.Idle number
+  pub is : e ≡ host_event.Idle number
   pub found : link_of number before ≡ Some l
   pub drains : is_draining l.state ≡ true
 
 -- Why a request is made: a sequence begins, or goes on with the next step.
 pub data IsAskedAt (e : HostEvent) (before : Host) (p : Purpose) : Type 0 where
-  to_enumerate : (i : ℕ) → e ≡ HostEvent.Inserted i → p ≡ purpose i 0 steps.EnableVsys
+  to_enumerate : (i : ℕ) → e ≡ host_event.Inserted i → p ≡ purpose i 0 steps.EnableVsys
       → IsAskedAt e before p
-  to_connect : (i c : ℕ) → e ≡ HostEvent.Connect i c → p ≡ purpose i c steps.CreateConnection
+  to_connect : (i c : ℕ) → e ≡ host_event.Connect i c → p ≡ purpose i c steps.CreateConnection
       → IsAskedAt e before p
-  to_disconnect : (i c : ℕ) (l : Link) → e ≡ HostEvent.Disconnect i c
+  to_disconnect : (i c : ℕ) (l : Link) → e ≡ host_event.Disconnect i c
       → link_at i c before ≡ Some l → p ≡ purpose i c steps.TellDisconnecting
       → IsAskedAt e before p
   to_close : (d l : Link) → IsDrained e before d → link_at d.intf d.cport before ≡ Some l
@@ -195,7 +197,7 @@ Drained (at_unsent p) d h = ⊥
 
 -- Why a connection is closing: it is disconnected, or it was draining and is idle.
 pub data IsClosingFor (o : Occasion) (h : Host) (i c : ℕ) : Type 0 where
-  by_disconnect : Notices o (HostEvent.Disconnect i c) h → IsClosingFor o h i c
+  by_disconnect : Notices o (host_event.Disconnect i c) h → IsClosingFor o h i c
   by_idle : (d : Link) → Drained o d h → d.intf ≡ i → d.cport ≡ c → IsClosingFor o h i c
 
 -- the last step of a sequence was answered, and the sequence waits for nothing
@@ -217,8 +219,8 @@ AsksAt (at_unsent q) p = ⊥
 
 -- Why a change is made, where the application processor is so far.
 abbrev pub IsFor : Occasion → Host → HostChange → Type 0
-IsFor o h (arrives i) = Notices o (HostEvent.Inserted i) h
-IsFor o h (departs i) = Notices o (HostEvent.Removed i) h
+IsFor o h (arrives i) = Notices o (host_event.Inserted i) h
+IsFor o h (departs i) = Notices o (host_event.Removed i) h
 IsFor o h (fails i) = FailsAt o i
 IsFor o h (closes i c l) = IsClosingFor o h i c
 IsFor o h (leaves p l) = Completes o p steps.DestroyConnection h

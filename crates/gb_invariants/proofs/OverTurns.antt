@@ -4,6 +4,8 @@ use Rattle.std.proofs.Common.{Bool, List, None, Option, Some, ap, cond, false, l
 use Rattle.std.proofs.Common.{true, ℕ, [], ◌++◌, ◌∙◌, ◌∷◌, ◌≡◌}
 use Rattle.std.specs.Prelude.{Err, Ok, Result, option_and_then, ◌==◌}
 use Rattle.gb_base.specs.declared.entry.{ConnState.ConnState, Entry.Entry}
+use Rattle.gb_base.specs.declared.host_event.HostEvent.TheVariants as host_event
+use Rattle.gb_base.specs.declared.host_event.HostEvent.{HostEvent}
 use Rattle.gb_base.specs.declared.outcome.Outcome.{Outcome}
 use Rattle.gb_base.specs.declared.peers.{Interface.Interface, Link.Link}
 use Rattle.gb_base.specs.declared.steps.{Purpose.Purpose, SequenceStep.SequenceStep}
@@ -27,7 +29,7 @@ use Rattle.gb_machine.specs.Sequences.{asked_on, begins_control, begins_device, 
 use Rattle.gb_machine.specs.Sequences.{link_turn, manifest_checked, opened, opened_told, payload_in}
 use Rattle.gb_machine.specs.Sequences.{size_in, size_known, step_answered, step_asked, step_done}
 use Rattle.gb_machine.specs.Sequences.{way_of}
-use Rattle.gb_machine.specs.Turns.{Act, HostEvent, Turn, failed_turn, telling, turn}
+use Rattle.gb_machine.specs.Turns.{Act, Turn, failed_turn, telling, turn}
 use Rattle.gb_machine.specs.Waits.{awaited, awaits_nothing}
 use Rattle.gb_invariants.proofs.HostChanges.{AsksAt, FailsAt, IsAnswered, IsAskedAt, IsClosingFor}
 use Rattle.gb_invariants.proofs.HostChanges.{IsDrained, IsOfNone, Keeps, MayTurnTo, Occasion}
@@ -284,7 +286,7 @@ module _ (e : HostEvent) (before : Host) (law : TurnLaw (at_event e before)) whe
         by (Some l) f = law.over (leaves p (Some l)) here (turn gone []) f (answered, at, refl)
             (resting (at_event e before) law gone)
 
-  ended : (n : ℕ) (how : Outcome) → e ≡ HostEvent.Ended n how → (o : Option Purpose)
+  ended : (n : ℕ) (how : Outcome) → e ≡ host_event.Ended n how → (o : Option Purpose)
       → awaited n before ≡ o → law.says before (ended_for o how before)
   ended n how is None found = resting (at_event e before) law before
   ended n how is (Some p) found =
@@ -307,14 +309,14 @@ module _ (e : HostEvent) (before : Host) (law : TurnLaw (at_event e before)) whe
                 number = n;
                 result = a.0;
                 payload = a.1;
-                is = is ∙ ap (HostEvent.Ended n) a.2;
+                is = is ∙ ap (host_event.Ended n) a.2;
                 awaited = found;
               }) p.step payload refl
           on false = step-fails (at_event e before) law p.step p (awaits_nothing p before) fail
 
   -- ---- what else is noticed
 
-  connected : (i c : ℕ) → e ≡ HostEvent.Connect i c → (o : Option CportView)
+  connected : (i c : ℕ) → e ≡ host_event.Connect i c → (o : Option CportView)
       → law.says before (connects o (purpose i c steps.CreateConnection) before)
   connected i c is None = resting (at_event e before) law before
   connected i c is (Some view) = by (free_cport before)
@@ -354,7 +356,7 @@ module _ (e : HostEvent) (before : Host) (law : TurnLaw (at_event e before)) whe
           turned (at_event e before) law i c state.Draining (Some l) before (turn after []) found tt
           (resting (at_event e before) law after)
 
-  idle : (k : ℕ) → e ≡ HostEvent.Idle k → law.says before (host_idle k before)
+  idle : (k : ℕ) → e ≡ host_event.Idle k → law.says before (host_idle k before)
   idle k is = by (link_of k before) refl
     where
       on : (d : Link) → link_of k before ≡ Some d → (t : Bool) → is_draining d.state ≡ t
@@ -370,8 +372,8 @@ module _ (e : HostEvent) (before : Host) (law : TurnLaw (at_event e before)) whe
       by None found = resting (at_event e before) law before
       by (Some d) found = on d found (is_draining d.state) refl
 
-  inserted : (i : ℕ) → e ≡ HostEvent.Inserted i
-      → law.says before (host_turn (HostEvent.Inserted i) before)
+  inserted : (i : ℕ) → e ≡ host_event.Inserted i
+      → law.says before (host_turn (host_event.Inserted i) before)
   inserted i is =
       let p = purpose i 0 steps.EnableVsys in
       let g = with_new_interface i before in
@@ -379,8 +381,8 @@ module _ (e : HostEvent) (before : Host) (law : TurnLaw (at_event e before)) whe
       (end_of (asks 1 p) g) tt (law.over (arrives i) before (end_of (asks 1 p) g) tt (is, refl)
       (law.ends (asks 1 p) g (to_enumerate i is refl, refl)))
 
-  removed : (i : ℕ) → e ≡ HostEvent.Removed i
-      → law.says before (host_turn (HostEvent.Removed i) before)
+  removed : (i : ℕ) → e ≡ host_event.Removed i
+      → law.says before (host_turn (host_event.Removed i) before)
   removed i is =
       let g = without_interface i before in
       law.over (departs i) before (turn g (Act.Tell (entry.Interface i stage.Removed) ∷ [])) tt
@@ -388,15 +390,15 @@ module _ (e : HostEvent) (before : Host) (law : TurnLaw (at_event e before)) whe
       (resting (at_event e before) law g))
 
   turned-by : (f : HostEvent) → e ≡ f → law.says before (host_turn f before)
-  turned-by (HostEvent.Inserted i) is = inserted i is
-  turned-by (HostEvent.Removed i) is = removed i is
-  turned-by (HostEvent.Connect i c) is =
+  turned-by (host_event.Inserted i) is = inserted i is
+  turned-by (host_event.Removed i) is = removed i is
+  turned-by (host_event.Connect i c) is =
       connected i c is (option_and_then (cport_of c) (interface_of i before))
-  turned-by (HostEvent.Disconnect i c) is =
+  turned-by (host_event.Disconnect i c) is =
       closed i c (by_disconnect (is, refl)) (λ l found. to_disconnect i c l is found refl)
-  turned-by (HostEvent.Drain i c) is = draining i c
-  turned-by (HostEvent.Idle k) is = idle k is
-  turned-by (HostEvent.Ended n how) is = ended n how is (awaited n before) refl
+  turned-by (host_event.Drain i c) is = draining i c
+  turned-by (host_event.Idle k) is = idle k is
+  turned-by (host_event.Ended n how) is = ended n how is (awaited n before) refl
 
 -- A law goes over each turn.
 pub over-turn : (e : HostEvent) (h : Host) (law : TurnLaw (at_event e h))

@@ -5,6 +5,7 @@ use Rattle.std.proofs.Common.{◌∙◌, ◌≡◌}
 use Rattle.std.specs.Prelude.{is_some, ◌==◌}
 use Rattle.gb_base.specs.declared.end.End.TheVariants as end
 use Rattle.gb_base.specs.declared.end.Side.TheVariants as side
+use Rattle.gb_base.specs.declared.host_event.HostEvent.TheVariants as host_event
 use Rattle.gb_base.specs.declared.peers.Link.{Link}
 use Rattle.gb_machine.specs.Bus.{Ask, Connection, Place, connection_of, place_of}
 use Rattle.gb_machine.specs.Host.{first_host, interface_of, link_of}
@@ -12,7 +13,7 @@ use Rattle.gb_machine.specs.Runs.{IsMoment, Moment, after}
 use Rattle.gb_machine.specs.SvcQueues.{HandlesInsertion, HandlesRemoval, items_in}
 use Rattle.gb_machine.specs.{HostServing.served_on, LawsHotPlug.AbsentBetween}
 use Rattle.gb_machine.specs.{LawsHotPlug.AbsentIsUnconnected, Lists.first, Members.IsIn}
-use Rattle.gb_machine.specs.{State.State, Turns.HostEvent, Wiring.is_at}
+use Rattle.gb_machine.specs.{State.State, Wiring.is_at}
 use Rattle.gb_invariants.proofs.{Awaiting.not-both, Lists.each-from, Numbers.found-by_number}
 use Rattle.gb_invariants.proofs.{Outcomes.same-number}
 use Rattle.gb_laws.proofs.Links.{IsKnown, IsPresent, leaving, linked, supervisory}
@@ -93,7 +94,7 @@ removed-at m start i h =
         (λ l k. (links.host.links.numbered l k).from_two)
 
     notices : (served_on (link_of c.number m.before.host) h.request.kind h.request.payload
-        m.before.host).notices ≡ Some (HostEvent.Removed i)
+        m.before.host).notices ≡ Some (host_event.Removed i)
     notices = ap (λ o. (served_on o h.request.kind h.request.payload m.before.host).notices) none
         ∙ notice-any h.request.kind h.request.payload m.before.host first_host
         ∙ removal-notice i h.request h.passes
@@ -124,8 +125,8 @@ inserted-at m one start i absent there = by (stays p.interface p.known)
         (present-some m.before.host (subst (λ n. IsPresent n m.before.host.interfaces) p.is k))
         (ap is_some absent))
     by (inr n) =
-        let t = told-by_svc m (HostEvent.Inserted i) start.links.0 start.links.1
-        (subst (λ k. IsNoticed m (HostEvent.Inserted k)) p.is n) in record {
+        let t = told-by_svc m (host_event.Inserted i) start.links.0 start.links.1
+        (subst (λ k. IsNoticed m (host_event.Inserted k)) p.is n) in record {
           number = t.number;
           request = t.request;
           is = t.is;

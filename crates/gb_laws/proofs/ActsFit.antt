@@ -2,6 +2,8 @@
 use Rattle.std.proofs.Common.{Bool, List, None, Option, Some, ap, cond, false, inl, inr, map, refl}
 use Rattle.std.proofs.Common.{subst, sym, true, ℕ, [], ◌∙◌, ◌∷◌, ◌≡◌}
 use Rattle.gb_base.specs.declared.entry.{ConnState.ConnState, Entry.Entry}
+use Rattle.gb_base.specs.declared.host_event.HostEvent.TheVariants as host_event
+use Rattle.gb_base.specs.declared.host_event.HostEvent.{HostEvent}
 use Rattle.gb_base.specs.declared.peers.Link.{Link}
 use Rattle.gb_base.specs.declared.steps.Purpose.{Purpose}
 use Rattle.gb_base.specs.declared.entry.ConnState.TheVariants as state
@@ -10,7 +12,7 @@ use Rattle.gb_base.specs.declared.entry.Entry.TheVariants as entry
 use Rattle.gb_base.specs.declared.steps.SequenceStep.TheVariants as steps
 use Rattle.gb_machine.specs.HostTurns.{disconnects, drained, host_disconnects, host_idle, host_turn}
 use Rattle.gb_machine.specs.HostTurns.{links_left, links_of}
-use Rattle.gb_machine.specs.Turns.{Act, HostEvent, failed_turn, turn}
+use Rattle.gb_machine.specs.Turns.{Act, failed_turn, turn}
 use Rattle.gb_machine.specs.{Failures.link_told, Failures.unsent, Host.Host, Host.link_at}
 use Rattle.gb_machine.specs.{Members.Each, Members.IsIn, Runs.Moment}
 use Rattle.gb_machine.specs.Bus.{Bus}
@@ -108,7 +110,7 @@ module _ (Cause : ℕ → Type 0) (o : Occasion)
   }
 
 -- where no connection is idle
-pub fit-other : (m : Moment) (e : HostEvent) (h : Host) → ((k : ℕ) → e ≡ HostEvent.Idle k → ⊥)
+pub fit-other : (m : Moment) (e : HostEvent) (h : Host) → ((k : ℕ) → e ≡ host_event.Idle k → ⊥)
     → IsCaused m e h → AreEverFit m (host_turn e h).acts
 fit-other m e h other cause =
     over-turn e h (fit_law (λ k. (b : Bus) → IsShutFor m k b) (at_event e h)
@@ -159,7 +161,7 @@ fit-idle m b k h first none = by (link_of k h) refl
 -- What the application processor does at what it takes notice of is fit.
 pub fit-turn : (m : Moment) (b : Bus) (e : HostEvent) (h : Host) → IsOver m e b → IsCaused m e h
     → AreFit m b (host_turn e h).acts
-fit-turn m b (HostEvent.Idle k) h over cause = fit-idle m b k h cause over
+fit-turn m b (host_event.Idle k) h over cause = fit-idle m b k h cause over
 fit-turn m b e h over cause =
     ever-fit m b (host_turn e h).acts (fit-other m e h (λ k f. absurd cc) cause)
 

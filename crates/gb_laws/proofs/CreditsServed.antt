@@ -9,6 +9,7 @@ use Rattle.gb_base.specs.declared.end.Side.TheVariants as side
 use Rattle.gb_base.specs.declared.entry.Entry.{Entry}
 use Rattle.gb_base.specs.declared.entry.Entry.TheVariants as entry
 use Rattle.gb_base.specs.declared.fault.RawFault.{RawFault}
+use Rattle.gb_base.specs.declared.host_event.HostEvent.{HostEvent}
 use Rattle.gb_base.specs.declared.peers.Link.{Link}
 use Rattle.gb_formats.specs.{Message.Message, Records.PayloadFault, UartDevice.credits_added}
 use Rattle.gb_formats.specs.{UartDevice.most_credits, UartRecords.UartAsk}
@@ -25,7 +26,7 @@ use Rattle.gb_machine.specs.Incoming.{Incoming, incoming, incoming_raw, is_reque
 use Rattle.gb_machine.specs.Incoming.{request_in}
 use Rattle.gb_machine.specs.Responding.{host_served, replies, responds, serves_oneway}
 use Rattle.gb_machine.specs.{HostActs.notices, LawsCredits.is_credits, Serving.protocol_bad}
-use Rattle.gb_machine.specs.{Serving.success, State.State, Turns.HostEvent}
+use Rattle.gb_machine.specs.{Serving.success, State.State}
 use Rattle.gb_invariants.proofs.Awaiting.{same-some}
 
 -- ---- what is served

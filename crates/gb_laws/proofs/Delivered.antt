@@ -4,10 +4,10 @@ use Rattle.gb_base.specs.declared.end.{End.End, Side.Side}
 use Rattle.gb_base.specs.declared.end.End.TheVariants as end
 use Rattle.gb_base.specs.declared.end.Side.TheVariants as side
 use Rattle.gb_base.specs.declared.event.Event.TheVariants as event
+use Rattle.gb_base.specs.declared.host_event.HostEvent.{HostEvent}
 use Rattle.gb_machine.specs.Bus.{Bus, Connection, Item, Place, place_of, queue}
 use Rattle.gb_machine.specs.{Delivery.popped, HostServing.host_serves, Incoming.Incoming}
 use Rattle.gb_machine.specs.{Incoming.request_in, Lists.first, Runs.Moment, State.State}
-use Rattle.gb_machine.specs.{Turns.HostEvent}
 use Rattle.gb_invariants.proofs.Selves.{module-no-svc}
 use Rattle.gb_laws.proofs.{PointParts.IsNoticed, PointParts.IsServed, Points.IsAfterReply}
 use Rattle.gb_laws.proofs.{Points.IsServing}

@@ -4,6 +4,8 @@ use Rattle.std.proofs.Common.{Bool, List, None, Option, Some, ap, false, inl, re
 use Rattle.std.proofs.Common.{true, ℕ, ⊎_elim, [], ◌∙◌, ◌∷◌, ◌≡◌, ◌≢◌}
 use Rattle.std.specs.Prelude.{is_none, ◌==◌}
 use Rattle.gb_base.specs.declared.entry.IntfStage.{IntfStage}
+use Rattle.gb_base.specs.declared.host_event.HostEvent.TheVariants as host_event
+use Rattle.gb_base.specs.declared.host_event.HostEvent.{HostEvent}
 use Rattle.gb_base.specs.declared.peers.{Interface.Interface, Link.Link}
 use Rattle.gb_base.specs.declared.steps.Purpose.{Purpose}
 use Rattle.gb_base.specs.declared.end.Side.TheVariants as side
@@ -14,7 +16,7 @@ use Rattle.gb_machine.proofs.Conditions.{AreUnmet, free, front-unmet}
 use Rattle.gb_machine.specs.Host.{Host, control_of, interface_of, is_intf, is_link, with_link}
 use Rattle.gb_machine.specs.HostRefusals.{connect_conditions, disconnect_conditions, is_enumerating}
 use Rattle.gb_machine.specs.HostRefusals.{is_failed_stage}
-use Rattle.gb_machine.specs.Turns.{Act, Asking, HostEvent}
+use Rattle.gb_machine.specs.Turns.{Act, Asking}
 use Rattle.gb_machine.specs.{Failures.unsent, HostServing.host_serves, HostServing.with_credits}
 use Rattle.gb_machine.specs.{HostTurns.host_turn, LineActions.spent, Lists.holds_of, Members.IsIn}
 use Rattle.gb_machine.specs.{Refusals.has_no_label, Runs.Moment, SequenceSteps.is_enumeration}
@@ -108,7 +110,7 @@ module _ (m : Moment) (absent : InsertsAbsent m) (i : ℕ) (a : Point) (links : 
       by (connecting l j intf cport w waits step) =
           h.links l j (sym intf ∙ at) (links.host.links.waiting l j w waits).0
 
-  turn-keeps : (e : HostEvent) → ((j : ℕ) → e ≡ HostEvent.Removed j → (j == i) ≡ false)
+  turn-keeps : (e : HostEvent) → ((j : ℕ) → e ≡ host_event.Removed j → (j == i) ≡ false)
       → KeepsDone i a.state.host (host_turn e a.state.host).host
   turn-keeps e other = over-turn e a.state.host (keeps_law i (at_event e a.state.host) a.state.host
       (λ j f at. undone f.1.number f.0 f.1.awaited f.2 (f.3 ∙ at)) (λ j g f. other j f.0)) (λ d. d)
@@ -160,7 +162,7 @@ module _ (m : Moment) (absent : InsertsAbsent m) (i : ℕ) (a : Point) (links : 
   links-turned : (e : HostEvent) {b : Point} → IsCaused m e a.state.host
       → b.state ≡ record a.state { host = (host_turn e a.state.host).host }
       → b.pending ≡ (host_turn e a.state.host).acts
-      → ((j : ℕ) → e ≡ HostEvent.Removed j → (j == i) ≡ false) → LinksDone i b
+      → ((j : ℕ) → e ≡ host_event.Removed j → (j == i) ≡ false) → LinksDone i b
   links-turned e {b} cause state pending other =
       let keeps = turn-keeps e other in record {
         stages = subst (λ (s : State). NoneRemoved s.host.interfaces) (sym state)
@@ -178,8 +180,8 @@ module _ (m : Moment) (absent : InsertsAbsent m) (i : ℕ) (a : Point) (links : 
 
   -- its removal is handled
   links-removed : (j : ℕ) (b : Point) → j ≡ i
-      → b.state ≡ record a.state { host = (host_turn (HostEvent.Removed j) a.state.host).host }
-      → b.pending ≡ (host_turn (HostEvent.Removed j) a.state.host).acts → LinksDone i b
+      → b.state ≡ record a.state { host = (host_turn (host_event.Removed j) a.state.host).host }
+      → b.pending ≡ (host_turn (host_event.Removed j) a.state.host).acts → LinksDone i b
   links-removed j b same state pending = record {
     stages = subst (λ (s : State). NoneRemoved s.host.interfaces) (sym state)
         (λ x k. h.stages x (in-without (is_intf j) a.state.host.interfaces x k).0);
@@ -193,12 +195,12 @@ module _ (m : Moment) (absent : InsertsAbsent m) (i : ℕ) (a : Point) (links : 
 
 -- the removal of an interface is handled
 abbrev is_removal_of : ℕ → HostEvent → Bool
-is_removal_of i (HostEvent.Removed j) = j == i
+is_removal_of i (host_event.Removed j) = j == i
 is_removal_of i _ = false
 
 removal-is : (i : ℕ) (e : HostEvent) → is_removal_of i e ≡ true
-    → (j : ℕ) × (e ≡ HostEvent.Removed j) × (j ≡ i)
-removal-is i (HostEvent.Removed j) f = (j, refl, same-number j i f)
+    → (j : ℕ) × (e ≡ host_event.Removed j) × (j ≡ i)
+removal-is i (host_event.Removed j) f = (j, refl, same-number j i f)
 removal-is i _ f = absurd cc
 
 -- ---- each single change

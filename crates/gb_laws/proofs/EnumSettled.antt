@@ -3,9 +3,11 @@
 use Rattle.std.proofs.Common.{Bool, List, None, Option, Some, ap, arith, false, inl, inr, refl}
 use Rattle.std.proofs.Common.{subst, sym, true, ℕ, ⊎_elim, [], ◌∙◌, ◌∷◌, ◌≡◌}
 use Rattle.std.specs.Prelude.{is_some, not, ◌&&◌}
+use Rattle.gb_base.specs.declared.host_event.HostEvent.TheVariants as host_event
+use Rattle.gb_base.specs.declared.host_event.HostEvent.{HostEvent}
 use Rattle.gb_base.specs.declared.peers.Interface.{Interface}
 use Rattle.gb_base.specs.declared.steps.{Purpose.Purpose, SequenceStep.SequenceStep}
-use Rattle.gb_machine.specs.Turns.{Act, Asking, HostEvent}
+use Rattle.gb_machine.specs.Turns.{Act, Asking}
 use Rattle.gb_machine.specs.Waits.{awaited, awaits_nothing, interface_waits, link_waits}
 use Rattle.gb_machine.specs.{Bus.Bus, Bus.or_else, Host.Host, Host.interface_of}
 use Rattle.gb_machine.specs.{HostActs.host_draft, HostTurns.host_turn, LawsBus.is_awaited}
@@ -189,7 +191,7 @@ enums-turned m absent i e a basis links there over cause quiet h =
           (waits-none r.number p links.host r.awaited s),
     )) (λ j is at. (λ d. fresh j is at d, λ c. absurd cc))
   where
-    fresh : (j : ℕ) → e ≡ HostEvent.Inserted j → j ≡ i → IsDone i a.state.host.interfaces → ⊥
+    fresh : (j : ℕ) → e ≡ host_event.Inserted j → j ≡ i → IsDone i a.state.host.interfaces → ⊥
     fresh j is at d =
         let c = subst (λ f. IsCaused m f a.state.host) is cause in
         not-both (is_some (interface_of i a.state.host)) (present-some a.state.host

@@ -2,10 +2,12 @@
 -- that is enumerated then.
 use Rattle.std.proofs.Common.{ap, inl, inr, refl, subst, sym, true, ℕ, ⊎_elim, [], ◌∙◌, ◌∷◌, ◌≡◌}
 use Rattle.std.proofs.Common.{◌⊎◌}
+use Rattle.gb_base.specs.declared.host_event.HostEvent.TheVariants as host_event
+use Rattle.gb_base.specs.declared.host_event.HostEvent.{HostEvent}
 use Rattle.gb_base.specs.declared.peers.Interface.{Interface}
 use Rattle.gb_base.specs.declared.steps.{Purpose.Purpose, SequenceStep.SequenceStep}
 use Rattle.gb_base.specs.declared.steps.SequenceStep.TheVariants as steps
-use Rattle.gb_machine.specs.Turns.{Asking, HostEvent, Turn}
+use Rattle.gb_machine.specs.Turns.{Asking, Turn}
 use Rattle.gb_machine.specs.{Host.Host, Host.is_intf, HostTurns.host_turn}
 use Rattle.gb_machine.specs.{SequenceSteps.is_enumeration, Sequences.enumerated}
 use Rattle.gb_machine.specs.{Waits.awaits_nothing}
@@ -60,7 +62,7 @@ module _ (i : ℕ) (May : SequenceStep → Type 0) (Calm : Type 0) (e : HostEven
   end-enums _ g last d = inl d
 
   -- An enumeration begins where its interface is inserted, and goes on where a step was answered.
-  pub turn-enums : ((j : ℕ) → e ≡ HostEvent.Inserted j → j ≡ i → May steps.EnableVsys)
+  pub turn-enums : ((j : ℕ) → e ≡ host_event.Inserted j → j ≡ i → May steps.EnableVsys)
       → TurnEnums i May Calm h (host_turn e h)
   turn-enums may = record {
     asks = λ q j at s. by q at s (asked-why e h q j);

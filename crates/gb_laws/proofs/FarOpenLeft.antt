@@ -4,13 +4,14 @@ use Rattle.std.proofs.Common.{List, Some, ap, arith, false, inl, inr, refl, subs
 use Rattle.std.proofs.Common.{⊎_elim, [], ◌∙◌, ◌∷◌, ◌≡◌, ◌⊎◌}
 use Rattle.std.specs.Prelude.{◌&&◌, ◌==◌}
 use Rattle.gb_base.specs.declared.end.Side.TheVariants as side
+use Rattle.gb_base.specs.declared.host_event.HostEvent.TheVariants as host_event
 use Rattle.gb_base.specs.declared.peers.Link.{Link}
 use Rattle.gb_base.specs.declared.steps.SequenceStep.TheVariants as steps
 use Rattle.gb_formats.specs.SvcRecords.{read_svc_ask}
 use Rattle.gb_machine.proofs.Lists.{nth-within}
 use Rattle.gb_machine.specs.Bus.{Ask, Connection, Request, request_of}
 use Rattle.gb_machine.specs.{Host.Host, LawsBus.is_awaited, Members.IsIn, Runs.Moment}
-use Rattle.gb_machine.specs.{SequenceSteps.kind_of, SvcQueues.svc_items, Turns.Act, Turns.HostEvent}
+use Rattle.gb_machine.specs.{SequenceSteps.kind_of, SvcQueues.svc_items, Turns.Act}
 use Rattle.gb_machine.specs.{Wiring.is_at, Wiring.is_wired_to}
 use Rattle.gb_invariants.proofs.{Awaiting.not-both, Awaiting.same-some, Lists.each-in}
 use Rattle.gb_invariants.proofs.{Outcomes.is-same, Wires.WiredAreSo}
@@ -63,7 +64,7 @@ module _ (m : Moment) (start : GoneTo m.told m.before) where
   -- ---- what acts are to give up
 
   -- of an interface whose removal is handled nothing was wired
-  unwired-removed : (i : ℕ) → IsNoticed m (HostEvent.Removed i) → (l : Link)
+  unwired-removed : (i : ℕ) → IsNoticed m (host_event.Removed i) → (l : Link)
       → IsIn l m.before.host.links → l.intf ≡ i
       → IsWiredIn l.connection m.before.bus.connections → ⊥
   unwired-removed i n l known at w = by (start.wiring.stale.since.links.1.known w.connection w.live)

@@ -1,6 +1,8 @@
 -- The facts of the application processor's connections are kept by each single change.
 use Rattle.std.proofs.Common.{List, None, ap, refl, subst, sym, ℕ, [], ◌∙◌, ◌∷◌, ◌≡◌, ◌≢◌}
 use Rattle.std.specs.Prelude.{◌-◌}
+use Rattle.gb_base.specs.declared.host_event.HostEvent.TheVariants as host_event
+use Rattle.gb_base.specs.declared.host_event.HostEvent.{HostEvent}
 use Rattle.gb_base.specs.declared.refusal.Refusal.TheVariants as why
 use Rattle.gb_base.specs.declared.end.Side.{Side}
 use Rattle.gb_base.specs.declared.end.End.TheVariants as end
@@ -11,7 +13,7 @@ use Rattle.gb_formats.specs.Bridges.{credits_taken}
 use Rattle.gb_machine.proofs.Conditions.{AreUnmet, free, front-unmet}
 use Rattle.gb_machine.specs.Bus.{Bus, Connection, end_of}
 use Rattle.gb_machine.specs.Host.{Host, control_of, interface_of, with_link, with_new_interface}
-use Rattle.gb_machine.specs.Turns.{Act, HostEvent, Turn}
+use Rattle.gb_machine.specs.Turns.{Act, Turn}
 use Rattle.gb_machine.specs.{HostRefusals.connect_conditions, HostRefusals.disconnect_conditions}
 use Rattle.gb_machine.specs.{HostServing.host_serves, HostTurns.host_turn}
 use Rattle.gb_machine.specs.{LineActions.spent, Lists.holds_of, Members.IsIn, Refusals.has_no_label}
@@ -33,29 +35,29 @@ use Rattle.gb_laws.proofs.LinkClosing.{fits-drains, fits-idle}
 
 -- an interface whose insertion is handled at a moment is absent
 abbrev pub InsertsAbsent : Moment → Type 0
-InsertsAbsent m = (i : ℕ) → IsNoticed m (HostEvent.Inserted i) → interface_of i m.before.host ≡ None
+InsertsAbsent m = (i : ℕ) → IsNoticed m (host_event.Inserted i) → interface_of i m.before.host ≡ None
 
 -- the application processor with the interface that is inserted
 abbrev pub noticed_host : HostEvent → Host → Host
-noticed_host (HostEvent.Inserted i) h = with_new_interface i h
+noticed_host (host_event.Inserted i) h = with_new_interface i h
 noticed_host e h = h
 
 pub same-links : (e : HostEvent) (h : Host) → (noticed_host e h).links ≡ h.links
-same-links (HostEvent.Inserted i) h = refl
+same-links (host_event.Inserted i) h = refl
 same-links e h = refl
 
 -- what the application processor does at what it takes notice of
 pub turn-fits : (m : Moment) (b : Bus) (e : HostEvent) (h : Host) → InsertsAbsent m → IsCaused m e h
     → HostFits b h → TurnFits b (noticed_host e h) (host_turn e h)
-turn-fits m b (HostEvent.Inserted i) h absent cause fits =
+turn-fits m b (host_event.Inserted i) h absent cause fits =
     fits-inserted b i h fits (ap (interface_of i) cause.0 ∙ absent i cause.1)
-turn-fits m b (HostEvent.Removed i) h absent cause fits = fits-removed b i h fits
-turn-fits m b (HostEvent.Connect i c) h absent cause fits =
+turn-fits m b (host_event.Removed i) h absent cause fits = fits-removed b i h fits
+turn-fits m b (host_event.Connect i c) h absent cause fits =
     fits-connects b i c h fits (subst (λ g. AreUnmet (connect_conditions i c g)) (sym cause.0)
     (front-unmet (connect_conditions i c m.before.host)
     ((has_no_label 1 side.Ap m.before, why.NoLabel) ∷ [])
     (free m.before (event.Connect i c) cause.2))) cause.3
-turn-fits m b (HostEvent.Disconnect i c) h absent cause fits =
+turn-fits m b (host_event.Disconnect i c) h absent cause fits =
     fits-disconnects b i c h fits (subst (λ g. AreUnmet (disconnect_conditions i c g)) (sym cause.0)
     (front-unmet (disconnect_conditions i c m.before.host)
     ((
@@ -63,11 +65,11 @@ turn-fits m b (HostEvent.Disconnect i c) h absent cause fits =
       why.NoLabel,
     ) ∷ [])
     (free m.before (event.Disconnect i c) cause.2)))
-turn-fits m b (HostEvent.Drain i c) h absent cause fits =
+turn-fits m b (host_event.Drain i c) h absent cause fits =
     fits-drains b i c h fits (subst (λ g. AreUnmet (drain_conditions i c g)) (sym cause.0)
     (free m.before (event.Drain i c) cause.2))
-turn-fits m b (HostEvent.Idle k) h absent cause fits = fits-idle b k h fits
-turn-fits m b (HostEvent.Ended n how) h absent cause fits = fits-ended b n how h fits
+turn-fits m b (host_event.Idle k) h absent cause fits = fits-idle b k h fits
+turn-fits m b (host_event.Ended n how) h absent cause fits = fits-ended b n how h fits
 
 -- what is known of live connections behind a turn
 followed-known : (c : Connection) (ls : List Link) {after : List Link} (acts : List Act)

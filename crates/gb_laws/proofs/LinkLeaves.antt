@@ -2,6 +2,8 @@
 use Rattle.std.proofs.Common.{Bool, List, None, Option, Some, ap, cond, false, inl, inr, refl}
 use Rattle.std.proofs.Common.{subst, sym, true, ℕ, ⊎_elim, [], ◌∙◌, ◌∷◌, ◌≡◌}
 use Rattle.std.specs.{List.find, Prelude.option_map, Prelude.◌==◌}
+use Rattle.gb_base.specs.declared.host_event.HostEvent.TheVariants as host_event
+use Rattle.gb_base.specs.declared.host_event.HostEvent.{HostEvent}
 use Rattle.gb_base.specs.declared.peers.Link.{Link}
 use Rattle.gb_base.specs.declared.steps.{Purpose.Purpose, SequenceStep.SequenceStep}
 use Rattle.gb_base.specs.declared.outcome.Outcome.TheVariants as outcome
@@ -11,7 +13,6 @@ use Rattle.gb_machine.specs.HostTurns.{host_turn, links_left, links_of}
 use Rattle.gb_machine.specs.Waits.{awaits_nothing, interface_waits, link_waits, purpose_in}
 use Rattle.gb_machine.specs.{Bus.Bus, Bus.or_else, Failures.told_of, Members.IsIn}
 use Rattle.gb_machine.specs.{SequenceSteps.is_enumeration, SequenceSteps.purpose, Turns.Act}
-use Rattle.gb_machine.specs.{Turns.HostEvent}
 use Rattle.gb_invariants.proofs.HostChanges.{Finds, HostChange, HostEnd, IsAnswered, IsFor, acts_by}
 use Rattle.gb_invariants.proofs.HostChanges.{at_event, end_of}
 use Rattle.gb_invariants.proofs.{Awaiting.not-both, Awaiting.same-some, Found.find-changed}
@@ -23,10 +24,10 @@ use Rattle.gb_laws.proofs.{QuietAwaited.waited-in}
 -- A connection is given up where the removal of its interface is handled, or where the last request
 -- of its close was answered.
 pub data WhyLeft (h : Host) (e : HostEvent) (k : ℕ) : Type 0 where
-  removed : (i : ℕ) (l : Link) → e ≡ HostEvent.Removed i → IsIn l h.links → l.intf ≡ i
+  removed : (i : ℕ) (l : Link) → e ≡ host_event.Removed i → IsIn l h.links → l.intf ≡ i
       → l.connection ≡ k → WhyLeft h e k
   closed : (n result : ℕ) (payload : List ℕ) (l : Link)
-      → e ≡ HostEvent.Ended n (outcome.Answered result payload) → IsIn l h.links
+      → e ≡ host_event.Ended n (outcome.Answered result payload) → IsIn l h.links
       → l.awaits ≡ Some (n, steps.DestroyConnection) → l.connection ≡ k → WhyLeft h e k
 
 -- a connection that waits for a request
@@ -161,10 +162,10 @@ why-left b e h k fits =
 
 -- None is given up where one is idle.
 pub idle-leaves : (n : ℕ) (h : Host) (k : ℕ)
-    → IsIn (Act.Leave k) (host_turn (HostEvent.Idle n) h).acts → ⊥
+    → IsIn (Act.Leave k) (host_turn (host_event.Idle n) h).acts → ⊥
 idle-leaves n h k j =
-    by (left-by (HostEvent.Idle n) h (λ p l answered. let is = answered.is in absurd cc) k j)
+    by (left-by (host_event.Idle n) h (λ p l answered. let is = answered.is in absurd cc) k j)
   where
-    by : WhyLeft h (HostEvent.Idle n) k → ⊥
+    by : WhyLeft h (host_event.Idle n) k → ⊥
     by (removed i l is live at on) = absurd cc
     by (closed m result payload l is live awaits on) = absurd cc

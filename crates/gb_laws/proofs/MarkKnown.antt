@@ -1,9 +1,11 @@
 -- Which interfaces are known stays within a step, but for one whose insertion is handled.
 use Rattle.std.proofs.Common.{ap, inr, refl, subst, sym, ℕ, ⊎_elim, ◌⊎◌}
+use Rattle.gb_base.specs.declared.host_event.HostEvent.TheVariants as host_event
+use Rattle.gb_base.specs.declared.host_event.HostEvent.{HostEvent}
 use Rattle.gb_base.specs.declared.peers.Interface.{Interface}
 use Rattle.gb_machine.specs.Host.{Host, intf_before, new_interface}
 use Rattle.gb_machine.specs.{Failures.unsent, HostServing.host_serves, Members.IsIn, Runs.Moment}
-use Rattle.gb_machine.specs.{Turns.HostEvent, Waits.awaits}
+use Rattle.gb_machine.specs.Waits.{awaits}
 use Rattle.gb_invariants.proofs.Found.{in-ordered}
 use Rattle.gb_laws.proofs.LinkActs.{ServedHost, as_before, awaited-host, awaits-fits, host-served}
 use Rattle.gb_laws.proofs.LinkActs.{unsent-due, unsent-making, with_more}
@@ -16,7 +18,7 @@ use Rattle.gb_laws.proofs.{LinkHosts.Onto, Links.ArePending, Links.IsPresent}
 -- an interface was known before a moment, or its insertion is handled then
 abbrev pub WasKnown : Moment → ℕ → Type 0
 WasKnown m i =
-    IsPresent i m.before.host.interfaces ⊎ IsNoticed m (HostEvent.Inserted i)
+    IsPresent i m.before.host.interfaces ⊎ IsNoticed m (host_event.Inserted i)
 
 -- each interface that is known was known, or is being inserted
 abbrev pub KnownAt : Moment → Point → Type 0
@@ -40,8 +42,8 @@ known-kept m absent a (turns e free untouched none cause) links h = λ x i.
   where
     by : (e : HostEvent) → IsCaused m e a.state.host → (x : Interface)
         → IsIn x (noticed_host e a.state.host).interfaces → WasKnown m x.intf
-    by (HostEvent.Inserted i) c x j = ⊎_elim
-        (λ f. inr (subst (λ n. IsNoticed m (HostEvent.Inserted n))
+    by (host_event.Inserted i) c x j = ⊎_elim
+        (λ f. inr (subst (λ n. IsNoticed m (host_event.Inserted n))
         (sym (ap (λ (y : Interface). y.intf) f)) c.1))
         (λ o. h x o) (in-ordered intf_before x (new_interface i) a.state.host.interfaces j)
     by e c x j = h x j

@@ -5,6 +5,7 @@ use Rattle.std.proofs.Common.{true, ℕ, ⊎_elim, [], ◌++◌, ◌∙◌, ◌�
 use Rattle.std.specs.Prelude.{is_some, ◌==◌}
 use Rattle.gb_base.specs.declared.end.End.{End}
 use Rattle.gb_base.specs.declared.event.Event.TheVariants as event
+use Rattle.gb_base.specs.declared.host_event.HostEvent.TheVariants as host_event
 use Rattle.gb_base.specs.declared.peers.Interface.{Interface}
 use Rattle.gb_base.specs.declared.refusal.Refusal.{Refusal}
 use Rattle.gb_machine.proofs.{Conditions.waits, Opened.machine_opened}
@@ -12,7 +13,7 @@ use Rattle.gb_machine.specs.Bus.{Item, Place, place_of, queue}
 use Rattle.gb_machine.specs.Host.{Host, interface_of, is_intf}
 use Rattle.gb_machine.specs.Runs.{IsMoment, Moment, after}
 use Rattle.gb_machine.specs.{Delivery.popped, Events.decided, Lists.first, Modules.is_plugged}
-use Rattle.gb_machine.specs.{Refusals.refusal, State.State, Turns.HostEvent}
+use Rattle.gb_machine.specs.{Refusals.refusal, State.State}
 use Rattle.gb_invariants.proofs.{Awaiting.not-both, Found.find-none, Lists.found-in}
 use Rattle.gb_invariants.proofs.{Outcomes.is-same, Outcomes.same-number}
 use Rattle.gb_laws.proofs.MarkFrame.{FrameAt, frame-kept, popped_at, taken_bus}
@@ -52,13 +53,13 @@ some-none i h e = by (interface_of i h) e
 -- ---- what a moment makes of the marks
 
 known-before : (m : Moment) (i : ℕ) → FrameAt m (resting [] (after m))
-    → (IsNoticed m (HostEvent.Inserted i) → ⊥)
+    → (IsNoticed m (host_event.Inserted i) → ⊥)
     → is_some (interface_of i (after m).host) ≡ true → is_some (interface_of i m.before.host) ≡ true
 known-before m i frame unnoted e =
     let p = some-present i (after m).host e in
     ⊎_elim (λ k. present-some m.before.host
     (subst (λ n. IsPresent n m.before.host.interfaces) p.is k))
-    (λ n. absurd (unnoted (subst (λ k. IsNoticed m (HostEvent.Inserted k)) p.is n)))
+    (λ n. absurd (unnoted (subst (λ k. IsNoticed m (host_event.Inserted k)) p.is n)))
     (frame.known p.interface p.known)
 
 marks-from : (m : Moment) → MarksFit m.before → FrameAt m (resting [] (after m))

@@ -5,6 +5,8 @@ use Rattle.std.specs.Prelude.{Err, Ok, Result, option_map, ◌==◌}
 use Rattle.gb_base.specs.declared.end.End.TheVariants as end
 use Rattle.gb_base.specs.declared.end.Side.TheVariants as side
 use Rattle.gb_base.specs.declared.event.Event.TheVariants as event
+use Rattle.gb_base.specs.declared.host_event.HostEvent.TheVariants as host_event
+use Rattle.gb_base.specs.declared.host_event.HostEvent.{HostEvent}
 use Rattle.gb_base.specs.declared.peers.Link.{Link}
 use Rattle.gb_formats.specs.Records.{PayloadFault, Row, if_own, read_row, row_of}
 use Rattle.gb_formats.specs.SvcRecords.{SvcAsk, read_svc_ask, read_svc_ask_of_svc, svc_asks}
@@ -19,7 +21,7 @@ use Rattle.gb_machine.specs.HostServing.{notified_by, served_on, serves_gpio, se
 use Rattle.gb_machine.specs.HostServing.{serves_uart, uart_notified_by}
 use Rattle.gb_machine.specs.Incoming.{Incoming, incoming, request_in}
 use Rattle.gb_machine.specs.SvcQueues.{HandlesRemoval, inserts, items_in, removes, svc_items}
-use Rattle.gb_machine.specs.{Lists.first, Runs.Moment, Turns.HostEvent}
+use Rattle.gb_machine.specs.{Lists.first, Runs.Moment}
 use Rattle.gb_invariants.proofs.Awaiting.{none-some, not-both, same-some}
 use Rattle.gb_invariants.proofs.{Found.find-none, ItemChanges.first-in, Numbers.found-by_number}
 use Rattle.gb_invariants.proofs.{Outcomes.is-same}
@@ -63,17 +65,17 @@ unnoticed l kind payload h =
 
 -- the record that says so
 abbrev pub Tells : HostEvent → Result SvcAsk PayloadFault → Type 0
-Tells (HostEvent.Inserted i) r = inserts i r ≡ true
-Tells (HostEvent.Removed i) r = removes i r ≡ true
+Tells (host_event.Inserted i) r = inserts i r ≡ true
+Tells (host_event.Removed i) r = removes i r ≡ true
 Tells _ r = ⊥
 
 told-by : (e : HostEvent) (r : Result SvcAsk PayloadFault) (h : Host)
     → (notified_by r h).notices ≡ Some e → Tells e r
 told-by e (Ok (SvcAsk.ModuleInserted j count flags)) h f =
     subst (λ x. Tells x (Ok (SvcAsk.ModuleInserted j count flags)))
-    (same-some (HostEvent.Inserted j) e f) (is-same j)
+    (same-some (host_event.Inserted j) e f) (is-same j)
 told-by e (Ok (SvcAsk.ModuleRemoved j)) h f =
-    subst (λ x. Tells x (Ok (SvcAsk.ModuleRemoved j))) (same-some (HostEvent.Removed j) e f)
+    subst (λ x. Tells x (Ok (SvcAsk.ModuleRemoved j))) (same-some (host_event.Removed j) e f)
     (is-same j)
 told-by e _ h f = absurd cc
 
@@ -96,8 +98,8 @@ told-svc e kind payload h f = by (far-reads (row_of svc_asks kind) payload)
   where
     none : (e : HostEvent) → Tells e (Err PayloadFault.UnknownKind)
         → Tells e (read_svc_ask kind payload)
-    none (HostEvent.Inserted i) t = absurd cc
-    none (HostEvent.Removed i) t = absurd cc
+    none (host_event.Inserted i) t = absurd cc
+    none (host_event.Removed i) t = absurd cc
     none _ t = absurd t
 
     by : (read_svc_ask_of_svc kind payload ≡ read_svc_ask kind payload)
@@ -210,10 +212,10 @@ told-by_svc m e basis links n =
 
 -- a removal that is noticed is handled at that moment
 pub removal-handled : (i : ℕ) (m : Moment) → Basis (resting m.told m.before)
-    → Linked m.before.bus m.before.host [] → IsNoticed m (HostEvent.Removed i)
+    → Linked m.before.bus m.before.host [] → IsNoticed m (host_event.Removed i)
     → HandlesRemoval i m
 removal-handled i m basis links n =
-    let t = told-by_svc m (HostEvent.Removed i) basis links n in record {
+    let t = told-by_svc m (host_event.Removed i) basis links n in record {
       number = t.number;
       request = t.request;
       is = t.is;

@@ -5,6 +5,8 @@ use Rattle.std.proofs.Common.{Bool, List, None, Option, Some, ap, append-nil, co
 use Rattle.std.proofs.Common.{refl, subst, sym, true, ℕ, ⊎_elim, [], ◌++◌, ◌∙◌, ◌∷◌, ◌≡◌, ◌≢◌, ◌⊎◌}
 use Rattle.std.specs.List.{find}
 use Rattle.std.specs.Prelude.{is_some, option_map, ◌==◌}
+use Rattle.gb_base.specs.declared.host_event.HostEvent.TheVariants as host_event
+use Rattle.gb_base.specs.declared.host_event.HostEvent.{HostEvent}
 use Rattle.gb_formats.specs.SvcRecords.{SvcAsk, svc_ask_kind, svc_ask_payload}
 use Rattle.gb_formats.specs.Module.{Module}
 use Rattle.gb_machine.proofs.Opened.{machine_opened}
@@ -12,7 +14,7 @@ use Rattle.gb_machine.specs.Modules.{is_plugged, is_plugged_at, plugged, plugged
 use Rattle.gb_machine.specs.Plugging.{boots, plugs, tells_inserted, with_plugged}
 use Rattle.gb_machine.specs.{Actions.each, Actions.when, Host.interface_of, Lists.in_order}
 use Rattle.gb_machine.specs.{Members.EachTwo, Members.IsIn, OwnAsking.svc_asks, State.Plugged}
-use Rattle.gb_machine.specs.{State.State, Turns.HostEvent}
+use Rattle.gb_machine.specs.State.{State}
 use Rattle.gb_invariants.proofs.{Awaiting.not-both, Found.find-none, Found.in-ordered}
 use Rattle.gb_invariants.proofs.{Lists.each-from, Lists.each-in, Outcomes.is-same}
 use Rattle.gb_invariants.proofs.{Outcomes.same-number}
@@ -105,7 +107,7 @@ member-plugged ms q j = by (find (is_plugged_at q.intf) ms) refl
 
 -- marks behind an insertion that is told, or isn't
 reads-inserted : (known : Bool) (ms after : List Bool) (i j : ℕ) (plugged : Bool)
-    → after ≡ ms ++ mark_in j (Some (HostEvent.Inserted i))
+    → after ≡ ms ++ mark_in j (Some (host_event.Inserted i))
     → Reads known ms plugged → (i ≡ j → Reads known ms false) → (i ≡ j → plugged ≡ true)
     → Reads known after plugged
 reads-inserted known ms after i j plugged e r free there =
@@ -144,7 +146,7 @@ plug-kept i x s asked free start = by s.booted refl
         (λ q j. none-plugged i s.modules q free j) start.differ
 
     told-reads : (j : ℕ) (after : List Bool)
-        → after ≡ marks j s.bus ++ mark_in j (Some (HostEvent.Inserted i))
+        → after ≡ marks j s.bus ++ mark_in j (Some (host_event.Inserted i))
         → Reads (is_some (interface_of j s.host)) after (is_plugged j (plugged i x s.modules))
     told-reads j after e = reads-inserted (is_some (interface_of j s.host)) (marks j s.bus) after i
         j (is_plugged j (plugged i x s.modules)) e (plug-reads i j x s start)

@@ -8,13 +8,15 @@ use Rattle.std.specs.Prelude.{option_map, ◌==◌}
 use Rattle.gb_base.specs.declared.end.{End.End, Side.Side}
 use Rattle.gb_base.specs.declared.end.Side.TheVariants as side
 use Rattle.gb_base.specs.declared.event.Event.TheVariants as event
+use Rattle.gb_base.specs.declared.host_event.HostEvent.TheVariants as host_event
+use Rattle.gb_base.specs.declared.host_event.HostEvent.{HostEvent}
 use Rattle.gb_base.specs.declared.peers.Link.{Link}
 use Rattle.gb_machine.specs.Bus.{Ask, Bus, Connection, Item, Place, Raw, RawReply, Reply, Request}
 use Rattle.gb_machine.specs.Bus.{connection_of, has_number, place_of, queue, request_of}
 use Rattle.gb_machine.specs.Host.{first_host, interface_of, link_of}
 use Rattle.gb_machine.specs.{Delivery.popped, Delivery.without_front, HostServing.served_on}
 use Rattle.gb_machine.specs.{Lists.behind_first, Lists.first, Members.IsIn, Runs.Moment, Runs.after}
-use Rattle.gb_machine.specs.{SvcQueues.items_in, Turns.HostEvent}
+use Rattle.gb_machine.specs.SvcQueues.{items_in}
 use Rattle.gb_invariants.proofs.{Awaiting.not-both, Awaiting.same-some, Found.find-changed}
 use Rattle.gb_invariants.proofs.{ItemChanges.first-in, Numbers.found-by_number, Outcomes.is-same}
 use Rattle.gb_invariants.proofs.{Outcomes.same-number, Selves.ap-no-far, Selves.front-self}
@@ -26,10 +28,10 @@ use Rattle.gb_laws.proofs.{Places.place-is, Removing.removed-absent}
 
 -- What becomes of the marks of an interface at a moment.
 pub data Taken (m : Moment) (i : ℕ) (ms later : List Bool) : Type 0 where
-  none_taken : ms ≡ later → (IsNoticed m (HostEvent.Inserted i) → ⊥) → Taken m i ms later
+  none_taken : ms ≡ later → (IsNoticed m (host_event.Inserted i) → ⊥) → Taken m i ms later
   insertion : ms ≡ true ∷ later → Taken m i ms later
   removal : ms ≡ false ∷ later → interface_of i (after m).host ≡ None
-      → (IsNoticed m (HostEvent.Inserted i) → ⊥) → Taken m i ms later
+      → (IsNoticed m (host_event.Inserted i) → ⊥) → Taken m i ms later
 
 first-behind : (xs : List Item) (x : Item) → first xs ≡ Some x → xs ≡ x ∷ behind_first xs
 first-behind [] x e = absurd cc
@@ -60,9 +62,9 @@ module _ (m : Moment) (basis : Basis (resting m.told m.before))
       m.before.bus.connections (λ c. (front-self p.side c).number) keeps))
       (λ n. let s = same-place n in other (ap (λ (q : Place). q.side) (sym s) ∙ n.side)
       (ap (λ (q : Place). q.connection.number) (sym s)
-      ∙ (svc-front m (HostEvent.Inserted i) n basis links).one))
+      ∙ (svc-front m (host_event.Inserted i) n basis links).one))
     where
-      same-place : (n : IsNoticed m (HostEvent.Inserted i)) → n.place ≡ p
+      same-place : (n : IsNoticed m (host_event.Inserted i)) → n.place ≡ p
       same-place n =
           same-some n.place p (sym n.named
           ∙ ap (λ e. place_of e m.before.bus.connections) (same-at n.at at (sym n.event ∙ is))
@@ -123,12 +125,12 @@ module _ (m : Moment) (basis : Basis (resting m.told m.before))
 
       -- what is noticed is what the front request says
       notice-front : (n : ℕ) (r : Request) → item ≡ Ask n → request_of n m.before.bus ≡ Some r
-          → IsNoticed m (HostEvent.Inserted i)
-          → notice_of r.kind r.payload ≡ Some (HostEvent.Inserted i)
+          → IsNoticed m (host_event.Inserted i)
+          → notice_of r.kind r.payload ≡ Some (host_event.Inserted i)
       notice-front n r item_is made noticed =
-          let f = svc-front m (HostEvent.Inserted i) noticed basis links in
+          let f = svc-front m (host_event.Inserted i) noticed basis links in
           let numbers = same-ask f.number n
-          (sym f.item ∙ same-place (HostEvent.Inserted i) noticed ∙ item_is) in
+          (sym f.item ∙ same-place (host_event.Inserted i) noticed ∙ item_is) in
           let same = same-some f.request r
           (sym f.made ∙ ap (λ k. request_of k m.before.bus) numbers ∙ made) in
           ap (λ (q : Request). notice_of q.kind q.payload) (sym same) ∙ f.notice
@@ -136,7 +138,7 @@ module _ (m : Moment) (basis : Basis (resting m.told m.before))
           same-ask : (x y : ℕ) → Ask x ≡ Ask y → x ≡ y
           same-ask x y e = cc
 
-      unmarked : item_mark i m.before.bus item ≡ [] → (IsNoticed m (HostEvent.Inserted i) → ⊥)
+      unmarked : item_mark i m.before.bus item ≡ [] → (IsNoticed m (host_event.Inserted i) → ⊥)
           → Taken m i (marks i m.before.bus)
           (marks i (popped p.connection.number p.side m.before.bus))
       unmarked e unnoted = none_taken
@@ -144,10 +146,10 @@ module _ (m : Moment) (basis : Basis (resting m.told m.before))
           unnoted
 
       -- an item that is no request is noticed by none
-      no-ask : ((n : ℕ) → item ≡ Ask n → ⊥) → IsNoticed m (HostEvent.Inserted i) → ⊥
+      no-ask : ((n : ℕ) → item ≡ Ask n → ⊥) → IsNoticed m (host_event.Inserted i) → ⊥
       no-ask other noticed =
-          let f = svc-front m (HostEvent.Inserted i) noticed basis links in
-          other f.number (sym (same-place (HostEvent.Inserted i) noticed) ∙ f.item)
+          let f = svc-front m (host_event.Inserted i) noticed basis links in
+          other f.number (sym (same-place (host_event.Inserted i) noticed) ∙ f.item)
 
       asked : (n : ℕ) (r : Request) → item ≡ Ask n → request_of n m.before.bus ≡ Some r
           → (o : Option HostEvent) → notice_of r.kind r.payload ≡ o
@@ -167,51 +169,51 @@ module _ (m : Moment) (basis : Basis (resting m.told m.before))
               (ap (item_mark i m.before.bus) item_is ∙ ap (request_mark i) made ∙ ap (mark_in i) e)
 
           other-notice : (x : Option HostEvent) → notice_of r.kind r.payload ≡ x
-              → (x ≡ Some (HostEvent.Inserted i) → ⊥) → IsNoticed m (HostEvent.Inserted i) → ⊥
+              → (x ≡ Some (host_event.Inserted i) → ⊥) → IsNoticed m (host_event.Inserted i) → ⊥
           other-notice x e other noticed = other (sym e ∙ notice-front n r item_is made noticed)
 
-          same-inserted : (x y : ℕ) → Some (HostEvent.Inserted x) ≡ Some (HostEvent.Inserted y)
+          same-inserted : (x y : ℕ) → Some (host_event.Inserted x) ≡ Some (host_event.Inserted y)
               → x ≡ y
           same-inserted x y e = cc
 
-          inserted : (j : ℕ) → notice_of r.kind r.payload ≡ Some (HostEvent.Inserted j) → (t : Bool)
+          inserted : (j : ℕ) → notice_of r.kind r.payload ≡ Some (host_event.Inserted j) → (t : Bool)
               → (j == i) ≡ t → Taken m i (marks i m.before.bus)
               (marks i (popped p.connection.number p.side m.before.bus))
-          inserted j e true f = insertion (marked (HostEvent.Inserted j) e
+          inserted j e true f = insertion (marked (host_event.Inserted j) e
               ∙ ap (λ t. cond t (true ∷ []) [] ++ marks i
               (popped p.connection.number p.side m.before.bus)) f)
-          inserted j e false f = none_taken (marked (HostEvent.Inserted j) e
+          inserted j e false f = none_taken (marked (host_event.Inserted j) e
               ∙ ap (λ t. cond t (true ∷ []) [] ++ marks i
               (popped p.connection.number p.side m.before.bus)) f)
-              (other-notice (Some (HostEvent.Inserted j)) e
+              (other-notice (Some (host_event.Inserted j)) e
               (λ g. not-both (j == i) (ap (λ k. k == i) (same-inserted j i g) ∙ is-same i) f))
 
-          removed : (j : ℕ) → notice_of r.kind r.payload ≡ Some (HostEvent.Removed j) → (t : Bool)
+          removed : (j : ℕ) → notice_of r.kind r.payload ≡ Some (host_event.Removed j) → (t : Bool)
               → (j == i) ≡ t → Taken m i (marks i m.before.bus)
               (marks i (popped p.connection.number p.side m.before.bus))
           removed j e true f =
               let none : link_of p.connection.number m.before.host ≡ None =
               ap (λ k. link_of k m.before.host) one ∙ no-link-one m.before.bus m.before.host.links
               (λ l k. (links.host.links.numbered l k).from_two) in
-              removal (marked (HostEvent.Removed j) e ∙ ap (λ t. cond t (false ∷ []) [] ++ marks i
+              removal (marked (host_event.Removed j) e ∙ ap (λ t. cond t (false ∷ []) [] ++ marks i
               (popped p.connection.number p.side m.before.bus)) f)
               (removed-absent m at p n i r is named ap_side (front ∙ ap Some item_is) made none
               (ap (λ o. (served_on o r.kind r.payload m.before.host).notices) none
               ∙ notice-any r.kind r.payload m.before.host first_host ∙ e
-              ∙ ap (λ k. Some (HostEvent.Removed k)) (same-number j i f)))
-              (other-notice (Some (HostEvent.Removed j)) e (λ g. absurd cc))
-          removed j e false f = none_taken (marked (HostEvent.Removed j) e
+              ∙ ap (λ k. Some (host_event.Removed k)) (same-number j i f)))
+              (other-notice (Some (host_event.Removed j)) e (λ g. absurd cc))
+          removed j e false f = none_taken (marked (host_event.Removed j) e
               ∙ ap (λ t. cond t (false ∷ []) [] ++ marks i
               (popped p.connection.number p.side m.before.bus)) f)
-              (other-notice (Some (HostEvent.Removed j)) e (λ g. absurd cc))
+              (other-notice (Some (host_event.Removed j)) e (λ g. absurd cc))
 
           by_notice : (x : Option HostEvent) → notice_of r.kind r.payload ≡ x
               → Taken m i (marks i m.before.bus)
               (marks i (popped p.connection.number p.side m.before.bus))
           by_notice None e = unmarked (ap (item_mark i m.before.bus) item_is
               ∙ ap (request_mark i) made ∙ ap (mark_in i) e) (other-notice None e (λ g. absurd cc))
-          by_notice (Some (HostEvent.Inserted j)) e = inserted j e (j == i) refl
-          by_notice (Some (HostEvent.Removed j)) e = removed j e (j == i) refl
+          by_notice (Some (host_event.Inserted j)) e = inserted j e (j == i) refl
+          by_notice (Some (host_event.Removed j)) e = removed j e (j == i) refl
           by_notice (Some x) e = none_taken (marked x e) (other-notice _ e (λ g. absurd cc))
 
       by : (x : Item) → item ≡ x → Taken m i (marks i m.before.bus)

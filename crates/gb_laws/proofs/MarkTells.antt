@@ -3,6 +3,8 @@ use Rattle.std.proofs.Common.{Bool, None, Option, Some, ap, append-nil, arith, c
 use Rattle.std.proofs.Common.{subst, sym, true, ℕ, ⊎_elim, [], ◌++◌, ◌+◌, ◌∙◌, ◌∷◌, ◌≡◌}
 use Rattle.std.specs.Prelude.{option_map, ◌==◌}
 use Rattle.gb_base.specs.declared.end.Side.TheVariants as side
+use Rattle.gb_base.specs.declared.host_event.HostEvent.TheVariants as host_event
+use Rattle.gb_base.specs.declared.host_event.HostEvent.{HostEvent}
 use Rattle.gb_formats.specs.SvcRecords.{SvcAsk, svc_ask_kind, svc_ask_payload}
 use Rattle.gb_formats.specs.Grammar.{default_timeout}
 use Rattle.gb_machine.proofs.Opened.{machine_opened}
@@ -11,7 +13,7 @@ use Rattle.gb_machine.specs.Bus.{next_number, request_of}
 use Rattle.gb_machine.specs.Sending.{Draft, draft, is_wired, label_for, requested, sent}
 use Rattle.gb_machine.specs.{Actions.given, Actions.when, Asking.asks, Asking.asks_with}
 use Rattle.gb_machine.specs.{Labels.next_label, Members.IsIn, OwnAsking.svc_asks, State.State}
-use Rattle.gb_machine.specs.{SvcQueues.items_in, SvcQueues.svc_items, Turns.HostEvent}
+use Rattle.gb_machine.specs.{SvcQueues.items_in, SvcQueues.svc_items}
 use Rattle.gb_invariants.proofs.{Awaiting.sent-new, Awaiting.sent-request, BusChanges.BusChange}
 use Rattle.gb_invariants.proofs.{Found.find-changed, Labels.asked_on, Labels.asked_on-number}
 use Rattle.gb_invariants.proofs.{Lists.in-pushed, Wires.WasWired, Wires.was-wired}
@@ -196,12 +198,12 @@ plus-zero : (i : ℕ) → i + 0 ≡ i
 plus-zero i = omega arith
 
 pub tells-inserted : (i : ℕ) → notice_of (svc_ask_kind (SvcAsk.ModuleInserted i 1 0))
-    (svc_ask_payload (SvcAsk.ModuleInserted i 1 0)) ≡ Some (HostEvent.Inserted i)
-tells-inserted i = ap (λ k. Some (HostEvent.Inserted k)) (plus-zero i)
+    (svc_ask_payload (SvcAsk.ModuleInserted i 1 0)) ≡ Some (host_event.Inserted i)
+tells-inserted i = ap (λ k. Some (host_event.Inserted k)) (plus-zero i)
 
 pub tells-removed : (i : ℕ) → notice_of (svc_ask_kind (SvcAsk.ModuleRemoved i))
-    (svc_ask_payload (SvcAsk.ModuleRemoved i)) ≡ Some (HostEvent.Removed i)
-tells-removed i = ap (λ k. Some (HostEvent.Removed k)) (plus-zero i)
+    (svc_ask_payload (SvcAsk.ModuleRemoved i)) ≡ Some (host_event.Removed i)
+tells-removed i = ap (λ k. Some (host_event.Removed k)) (plus-zero i)
 
 pub tells-version : notice_of (svc_ask_kind (SvcAsk.ProtocolVersion 0 1))
     (svc_ask_payload (SvcAsk.ProtocolVersion 0 1)) ≡ None

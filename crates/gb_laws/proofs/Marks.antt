@@ -4,12 +4,13 @@ use Rattle.std.proofs.Common.{inl, inr, refl, sym, true, ℕ, [], ◌++◌, ◌�
 use Rattle.std.specs.List.{find}
 use Rattle.std.specs.Prelude.{if◌then◌else◌, is_some, ◌==◌}
 use Rattle.gb_base.specs.declared.end.Side.TheVariants as side
+use Rattle.gb_base.specs.declared.host_event.HostEvent.TheVariants as host_event
+use Rattle.gb_base.specs.declared.host_event.HostEvent.{HostEvent}
 use Rattle.gb_machine.specs.Bus.{Ask, Bus, Connection, Item, Raw, RawReply, Reply, Request}
 use Rattle.gb_machine.specs.Bus.{has_number, queue, request_of}
 use Rattle.gb_machine.specs.{Host.first_host, Host.interface_of, HostServing.serves_svc}
 use Rattle.gb_machine.specs.{Lists.at_first, Members.EachTwo, Members.IsIn, Modules.is_plugged}
 use Rattle.gb_machine.specs.{State.Plugged, State.State, SvcQueues.items_in, SvcQueues.svc_items}
-use Rattle.gb_machine.specs.{Turns.HostEvent}
 use Rattle.gb_invariants.proofs.{Awaiting.not-both, BusChanges.KeepsRequests, Found.found-first}
 
 -- what a request of the supervisory controller makes the application processor take notice of
@@ -18,8 +19,8 @@ notice_of kind payload = (serves_svc kind payload first_host).notices
 
 -- true for the insertion of an interface, false for its removal
 abbrev pub mark_in : ℕ → Option HostEvent → List Bool
-mark_in i (Some (HostEvent.Inserted j)) = if j == i then true ∷ [] else []
-mark_in i (Some (HostEvent.Removed j)) = if j == i then false ∷ [] else []
+mark_in i (Some (host_event.Inserted j)) = if j == i then true ∷ [] else []
+mark_in i (Some (host_event.Removed j)) = if j == i then false ∷ [] else []
 mark_in i _ = []
 
 abbrev pub request_mark : ℕ → Option Request → List Bool

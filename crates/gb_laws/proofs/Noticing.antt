@@ -3,6 +3,8 @@
 use Rattle.std.proofs.Common.{None, [], refl, ℕ, ◌≡◌}
 use Rattle.gb_base.specs.declared.event.Event.TheVariants as event
 use Rattle.gb_base.specs.declared.end.Side.{Side}
+use Rattle.gb_base.specs.declared.host_event.HostEvent.TheVariants as host_event
+use Rattle.gb_base.specs.declared.host_event.HostEvent.{HostEvent}
 use Rattle.gb_base.specs.declared.outcome.Outcome.{Outcome}
 use Rattle.gb_machine.proofs.Opened.{machine_opened}
 use Rattle.gb_machine.specs.Bus.{Bus}
@@ -15,7 +17,6 @@ use Rattle.gb_machine.specs.Refusals.{refusal}
 use Rattle.gb_machine.specs.Requests.{gave_up}
 use Rattle.gb_machine.specs.Runs.{Moment}
 use Rattle.gb_machine.specs.State.{State}
-use Rattle.gb_machine.specs.Turns.{HostEvent}
 use Rattle.gb_invariants.proofs.Awaiting.{none-some}
 use Rattle.gb_invariants.proofs.BusChanges.{BusChange}
 use Rattle.gb_invariants.proofs.Wires.{alive-after}
@@ -43,7 +44,7 @@ KnowsAt s = Knows s.bus s.host
 
 -- It is known again once the acts of a turn are done, where no connection is idle.
 noticed-known : (m : Moment) (e : HostEvent) (s : State) → InsertsAbsent m
-    → ((k : ℕ) → e ≡ HostEvent.Idle k → ⊥) → IsCaused m e s.host → TurnsTo s.bus s.host e
+    → ((k : ℕ) → e ≡ host_event.Idle k → ⊥) → IsCaused m e s.host → TurnsTo s.bus s.host e
     → AreAlive s.bus.connections s.host → KnowsAt (notices e s).state
 unfolding machine_opened
 noticed-known m e s absent other cause links alive =
@@ -58,18 +59,18 @@ noticed-known m e s absent other cause links alive =
 
 -- where a request ended
 pub knows-ended : (n : ℕ) (how : Outcome) (s : State) → KnowsAt s
-    → KnowsAt (notices (HostEvent.Ended n how) s).state
+    → KnowsAt (notices (host_event.Ended n how) s).state
 knows-ended n how s f =
-    noticed-known (record { told = []; event = event.Show; before = s }) (HostEvent.Ended n how) s
+    noticed-known (record { told = []; event = event.Show; before = s }) (host_event.Ended n how) s
     (λ i noticed. let at = noticed.event in absurd cc) (λ k e. absurd cc) tt
     (turned-ended n how f.links) f.alive
 
 -- and where a drain isn't refused
 pub knows-drains : (i c : ℕ) (s : State) → refusal s (event.Drain i c) ≡ None → KnowsAt s
-    → KnowsAt (notices (HostEvent.Drain i c) s).state
+    → KnowsAt (notices (host_event.Drain i c) s).state
 knows-drains i c s allowed f =
     noticed-known (record { told = []; event = event.Drain i c; before = s })
-    (HostEvent.Drain i c) s (λ j noticed. let at = noticed.event in absurd cc) (λ k e. absurd cc)
+    (host_event.Drain i c) s (λ j noticed. let at = noticed.event in absurd cc) (λ k e. absurd cc)
     (refl, refl, allowed) (turned-drains s i c allowed f.links) f.alive
 
 -- ---- where it is known

@@ -10,6 +10,8 @@ use Rattle.gb_base.specs.declared.entry.ConnState.TheVariants as state
 use Rattle.gb_base.specs.declared.entry.Entry.TheVariants as entry
 use Rattle.gb_base.specs.declared.event.Event.{Event}
 use Rattle.gb_base.specs.declared.event.Event.TheVariants as event
+use Rattle.gb_base.specs.declared.host_event.HostEvent.TheVariants as host_event
+use Rattle.gb_base.specs.declared.host_event.HostEvent.{HostEvent}
 use Rattle.gb_base.specs.declared.name.Name.{Name}
 use Rattle.gb_base.specs.declared.outcome.Outcome.{Outcome}
 use Rattle.gb_base.specs.declared.outcome.Outcome.TheVariants as outcome
@@ -17,7 +19,7 @@ use Rattle.gb_base.specs.declared.peers.Link.{Link}
 use Rattle.gb_machine.specs.Bus.{Bus, Connection, Item, Place, Request, next_number, other_side}
 use Rattle.gb_machine.specs.Bus.{place_of, queue, request_of}
 use Rattle.gb_machine.specs.Incoming.{Incoming, reply_item, request_in}
-use Rattle.gb_machine.specs.Turns.{Act, Asking, HostEvent}
+use Rattle.gb_machine.specs.Turns.{Act, Asking}
 use Rattle.gb_machine.specs.{Asking.asked, Delivery.popped, Delivery.replied, Host.Host}
 use Rattle.gb_machine.specs.{Host.link_at, HostServing.host_serves, HostTurns.links_of}
 use Rattle.gb_machine.specs.{LawsBus.NameRequests, Lists.first, Members.Each, Members.IsIn}
@@ -197,19 +199,19 @@ pub record IsServing (m : Moment) (s : State) (q : Incoming) : Type 0 where
 -- Why the application processor takes notice of something at a moment, its host being as it was
 -- before, but where a request ended or nothing is open on a connection.
 abbrev pub IsCaused : Moment → HostEvent → Host → Type 0
-IsCaused m (HostEvent.Inserted i) h = (h ≡ m.before.host) × IsNoticed m (HostEvent.Inserted i)
-IsCaused m (HostEvent.Removed i) h = (h ≡ m.before.host) × IsNoticed m (HostEvent.Removed i)
-IsCaused m (HostEvent.Connect i c) h =
+IsCaused m (host_event.Inserted i) h = (h ≡ m.before.host) × IsNoticed m (host_event.Inserted i)
+IsCaused m (host_event.Removed i) h = (h ≡ m.before.host) × IsNoticed m (host_event.Removed i)
+IsCaused m (host_event.Connect i c) h =
     (h ≡ m.before.host) × (m.event ≡ event.Connect i c)
     × (refusal m.before (event.Connect i c) ≡ None) × (c ≤ 4095)
-IsCaused m (HostEvent.Disconnect i c) h =
+IsCaused m (host_event.Disconnect i c) h =
     (h ≡ m.before.host) × (m.event ≡ event.Disconnect i c)
     × (refusal m.before (event.Disconnect i c) ≡ None)
-IsCaused m (HostEvent.Drain i c) h =
+IsCaused m (host_event.Drain i c) h =
     (h ≡ m.before.host) × (m.event ≡ event.Drain i c)
     × (refusal m.before (event.Drain i c) ≡ None)
-IsCaused m (HostEvent.Idle k) h = FirstDrains h.links
-IsCaused m (HostEvent.Ended n how) h = Unit {0}
+IsCaused m (host_event.Idle k) h = FirstDrains h.links
+IsCaused m (host_event.Ended n how) h = Unit {0}
 
 -- a tick, and a request whose deadline came
 pub record IsLate (m : Moment) (s : State) (n : ℕ) : Type 0 where
@@ -237,7 +239,7 @@ IsGivenUpFor m s _ n = ⊥
 pub data IsShutFor (m : Moment) (k : ℕ) (b : Bus) : Type 0 where
   disconnected : (i c : ℕ) (l : Link) → m.event ≡ event.Disconnect i c
       → link_at i c m.before.host ≡ Some l → l.connection ≡ k → IsShutFor m k b
-  removed : (i : ℕ) (l : Link) → IsNoticed m (HostEvent.Removed i)
+  removed : (i : ℕ) (l : Link) → IsNoticed m (host_event.Removed i)
       → IsIn l (links_of i m.before.host) → l.connection ≡ k → IsShutFor m k b
   idle : open_on k side.Ap b ≡ [] → IsShutFor m k b
 

@@ -10,6 +10,8 @@ use Rattle.gb_base.specs.declared.entry.Entry.{Entry}
 use Rattle.gb_base.specs.declared.entry.ConnState.TheVariants as state
 use Rattle.gb_base.specs.declared.entry.Entry.TheVariants as entry
 use Rattle.gb_base.specs.declared.event.Event.TheVariants as event
+use Rattle.gb_base.specs.declared.host_event.HostEvent.TheVariants as host_event
+use Rattle.gb_base.specs.declared.host_event.HostEvent.{HostEvent}
 use Rattle.gb_base.specs.declared.name.Name.{Name}
 use Rattle.gb_base.specs.declared.outcome.Outcome.{Outcome}
 use Rattle.gb_base.specs.declared.outcome.Outcome.TheVariants as outcome
@@ -28,7 +30,7 @@ use Rattle.gb_machine.specs.Requests.{gave_up, given_up_with, open_on, open_with
 use Rattle.gb_machine.specs.Sending.{Draft, label_for, sent}
 use Rattle.gb_machine.specs.State.{Held, Plugged, Port, State}
 use Rattle.gb_machine.specs.SvcTable.{Create, Unroute, svc_step}
-use Rattle.gb_machine.specs.Turns.{Act, Asking, HostEvent, Making}
+use Rattle.gb_machine.specs.Turns.{Act, Asking, Making}
 use Rattle.gb_machine.specs.Wires.{disconnected_told, with_unwired, with_wired}
 use Rattle.gb_machine.specs.Wiring.{detached, injected, is_wired_to, next_connection, shut_down}
 use Rattle.gb_machine.specs.{Failures.unsent, Holding.held_on, Host.with_link}
@@ -108,10 +110,10 @@ awaited_by m a c d (by_far who on) = a.asked
 -- yet, unless it is the end of one that wasn't answered. A sequence goes on with an answer only
 -- where its request isn't awaited any more, and a connection is idle where nothing is open on it.
 abbrev pub IsOver : Moment → HostEvent → Bus → Type 0
-IsOver m (HostEvent.Ended n how) b =
+IsOver m (host_event.Ended n how) b =
     (result : ℕ) (payload : List ℕ) → how ≡ outcome.Answered result payload
     → (is_awaited n b ≡ false) × (b.requests ≡ m.before.bus.requests)
-IsOver m (HostEvent.Idle k) b = open_on k side.Ap b ≡ []
+IsOver m (host_event.Idle k) b = open_on k side.Ap b ≡ []
 IsOver m _ b = b.requests ≡ m.before.bus.requests
 
 -- What a line asks is no request of a sequence and goes to the supervisory controller, or it is on

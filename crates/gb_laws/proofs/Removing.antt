@@ -8,6 +8,8 @@ use Rattle.gb_base.specs.declared.entry.Entry.{Entry}
 use Rattle.gb_base.specs.declared.entry.Entry.TheVariants as entry
 use Rattle.gb_base.specs.declared.entry.IntfStage.TheVariants as stage
 use Rattle.gb_base.specs.declared.event.Event.TheVariants as event
+use Rattle.gb_base.specs.declared.host_event.HostEvent.TheVariants as host_event
+use Rattle.gb_base.specs.declared.host_event.HostEvent.{HostEvent}
 use Rattle.gb_base.specs.declared.peers.Link.{Link}
 use Rattle.gb_formats.specs.{Records.PayloadFault, SvcRecords.SvcAsk}
 use Rattle.gb_formats.specs.{SvcRecords.read_svc_ask_of_svc}
@@ -25,7 +27,7 @@ use Rattle.gb_machine.specs.Responding.{host_served, replies, responds, serves_o
 use Rattle.gb_machine.specs.{Delivery.popped, Events.decided, Events.step, HostActs.acts}
 use Rattle.gb_machine.specs.{Incoming.Incoming, Incoming.incoming, Lists.first}
 use Rattle.gb_machine.specs.{Refusals.is_end_unplugged, Refusals.refusal, Runs.Moment, Runs.after}
-use Rattle.gb_machine.specs.{State.State, Turns.Act, Turns.HostEvent}
+use Rattle.gb_machine.specs.{State.State, Turns.Act}
 use Rattle.gb_invariants.proofs.Awaiting.{none-some, not-both, same-some}
 use Rattle.gb_invariants.proofs.Found.{none-of}
 use Rattle.gb_laws.proofs.{MarkNotices.unnoticed, Places.place-is}
@@ -41,9 +43,9 @@ serves-notice k kind payload h e n = by (link_of k h) n
         → notified_by r h ≡ host_notices e h
     read (Err fault) f = absurd (none-some f)
     read (Ok (SvcAsk.ModuleInserted j count flags)) f =
-        ap (λ x. host_notices x h) (same-some (HostEvent.Inserted j) e f)
+        ap (λ x. host_notices x h) (same-some (host_event.Inserted j) e f)
     read (Ok (SvcAsk.ModuleRemoved j)) f =
-        ap (λ x. host_notices x h) (same-some (HostEvent.Removed j) e f)
+        ap (λ x. host_notices x h) (same-some (host_event.Removed j) e f)
     read (Ok (SvcAsk.ProtocolVersion major minor)) f = absurd (none-some f)
     read (Ok (SvcAsk.Hello endo intf)) f = absurd (none-some f)
     read (Ok _) f = absurd (none-some f)
@@ -65,7 +67,7 @@ left-host (l ∷ ls) e s =
 -- ---- a removal is handled
 
 removed-behind : (c : Connection) (q : Incoming) (i : ℕ) (s : State) (r : HostServed)
-    → r ≡ host_notices (HostEvent.Removed i) s.host
+    → r ≡ host_notices (host_event.Removed i) s.host
     → (responds side.Ap c q (host_served r) s).state.host ≡ without_interface i s.host
 unfolding machine_opened
 removed-behind c q i s r e =
@@ -73,19 +75,19 @@ removed-behind c q i s r e =
     (sym e) (by q.oneway)
   where
     h : HostServed
-    h = host_notices (HostEvent.Removed i) s.host
+    h = host_notices (host_event.Removed i) s.host
 
     by : (t : Bool) → (cond t (serves_oneway q
-        (host_served (host_notices (HostEvent.Removed i) s.host)))
-        (replies side.Ap c q (host_notices (HostEvent.Removed i) s.host).answer
-        ▸ (host_served (host_notices (HostEvent.Removed i) s.host)).behind) s).state.host
+        (host_served (host_notices (host_event.Removed i) s.host)))
+        (replies side.Ap c q (host_notices (host_event.Removed i) s.host).answer
+        ▸ (host_served (host_notices (host_event.Removed i) s.host)).behind) s).state.host
         ≡ without_interface i s.host
     by true = left-host (links_of i s.host) (entry.Interface i stage.Removed) _
     by false = left-host (links_of i s.host) (entry.Interface i stage.Removed) _
 
 removed-handles : (c : Connection) (n i : ℕ) (r : Request) (s : State)
     → link_of c.number s.host ≡ None → request_of n s.bus ≡ Some r
-    → host_serves c.number r.kind r.payload s.host ≡ host_notices (HostEvent.Removed i) s.host
+    → host_serves c.number r.kind r.payload s.host ≡ host_notices (host_event.Removed i) s.host
     → (handles side.Ap c (Ask n) s).state.host ≡ without_interface i s.host
 unfolding machine_opened
 removed-handles c n i r s none made served = by (takes side.Ap c s) (ap link_takes none)
@@ -135,7 +137,7 @@ pub removed-absent : (m : Moment) (at : End) (p : Place) (n i : ℕ) (r : Reques
     → p.side ≡ side.Ap → first (queue p.side p.connection) ≡ Some (Ask n)
     → request_of n m.before.bus ≡ Some r → link_of p.connection.number m.before.host ≡ None
     → (host_serves p.connection.number r.kind r.payload m.before.host).notices ≡ Some
-    (HostEvent.Removed i) → interface_of i (after m).host ≡ None
+    (host_event.Removed i) → interface_of i (after m).host ≡ None
 removed-absent m at p n i r is named ap_side front made none notices =
     ap (λ (s : State). interface_of i s.host)
     (delivered-state m at p (Ask n) is named front (ap-free m at p (Ask n) named ap_side front))
@@ -149,6 +151,6 @@ removed-absent m at p n i r is named ap_side front made none notices =
     })).state.host ≡ without_interface i m.before.host
     by side.Ap e = removed-handles p.connection n i r
         (record m.before { bus = popped p.connection.number p.side m.before.bus }) none made
-        (serves-notice p.connection.number r.kind r.payload m.before.host (HostEvent.Removed i)
+        (serves-notice p.connection.number r.kind r.payload m.before.host (host_event.Removed i)
         notices)
     by side.Far e = absurd cc

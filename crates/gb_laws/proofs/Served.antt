@@ -3,6 +3,7 @@
 use Rattle.std.proofs.Common.{Bool, List, None, Option, Some, cond, false, refl, true, ℕ, ◌≡◌}
 use Rattle.std.specs.Prelude.{Err, Ok, Result, ◌==◌}
 use Rattle.gb_base.specs.declared.entry.Entry.{Entry}
+use Rattle.gb_base.specs.declared.host_event.HostEvent.TheVariants as host_event
 use Rattle.gb_base.specs.declared.peers.Link.{Link}
 use Rattle.gb_formats.specs.{GpioRecords.GpioAsk, GpioRecords.read_gpio_ask_of_module}
 use Rattle.gb_formats.specs.{Records.PayloadFault, SvcRecords.SvcAsk}
@@ -11,7 +12,7 @@ use Rattle.gb_formats.specs.{UartRecords.UartAsk, UartRecords.read_uart_ask_of_m
 use Rattle.gb_machine.specs.HostServing.{HostServed, credited, host_refuses, host_serves}
 use Rattle.gb_machine.specs.HostServing.{interrupted, notified_by, served_on}
 use Rattle.gb_machine.specs.HostServing.{uart_notified_by}
-use Rattle.gb_machine.specs.{Host.Host, Host.link_of, Turns.HostEvent}
+use Rattle.gb_machine.specs.{Host.Host, Host.link_of}
 use Rattle.gb_laws.proofs.PointParts.{is_silent}
 
 -- what is told, if anything, is quiet
@@ -22,9 +23,9 @@ IsQuietly (Some e) = is_silent e ≡ true
 -- How the application processor serves a request.
 pub data ServedAs (h : Host) (r : HostServed) : Type 0 where
   plainly : IsQuietly r.told → r.notices ≡ None → ServedAs h r
-  inserting : (i : ℕ) → r.host ≡ h → r.told ≡ None → r.notices ≡ Some (HostEvent.Inserted i)
+  inserting : (i : ℕ) → r.host ≡ h → r.told ≡ None → r.notices ≡ Some (host_event.Inserted i)
       → ServedAs h r
-  removing : (i : ℕ) → r.host ≡ h → r.told ≡ None → r.notices ≡ Some (HostEvent.Removed i)
+  removing : (i : ℕ) → r.host ≡ h → r.told ≡ None → r.notices ≡ Some (host_event.Removed i)
       → ServedAs h r
 
 -- one of two

@@ -3,9 +3,9 @@ use Rattle.std.proofs.Common.{ap, arith, length, length-append, refl, subst, sym
 use Rattle.std.proofs.Common.{◌++◌, ◌∙◌, ◌∷◌, ◌≡◌}
 use Rattle.gb_base.specs.declared.end.End.{End}
 use Rattle.gb_base.specs.declared.event.Event.TheVariants as event
+use Rattle.gb_base.specs.declared.host_event.HostEvent.{HostEvent}
 use Rattle.gb_machine.specs.Bus.{Bus, Place, Request, place_of}
 use Rattle.gb_machine.specs.{Incoming.Incoming, Ports.level_of, Runs.Moment, Sending.requested}
-use Rattle.gb_machine.specs.{Turns.HostEvent}
 use Rattle.gb_invariants.proofs.{Awaiting.same-some, BusChanges.KeepsRequests, Selves.ap-no-far}
 use Rattle.gb_laws.proofs.PointParts.{Basis, IsNoticed, Point}
 use Rattle.gb_laws.proofs.Points.{Change, IsOfSvc, IsServing, PortsFrom, acts_asked, as_before}

@@ -3,6 +3,8 @@
 use Rattle.std.proofs.Common.{Bool, None, Option, Some, ap, arith, false, inl, inr, refl, subst}
 use Rattle.std.proofs.Common.{sym, true, ℕ, ⊎_elim, [], ◌∙◌, ◌≡◌, ◌≤◌, ◌⊎◌}
 use Rattle.std.specs.{List.find, Prelude.not, Prelude.◌==◌}
+use Rattle.gb_base.specs.declared.host_event.HostEvent.TheVariants as host_event
+use Rattle.gb_base.specs.declared.host_event.HostEvent.{HostEvent}
 use Rattle.gb_base.specs.declared.peers.{Interface.Interface, Link.Link}
 use Rattle.gb_base.specs.declared.steps.Purpose.{Purpose}
 use Rattle.gb_base.specs.declared.end.Side.TheVariants as side
@@ -10,7 +12,7 @@ use Rattle.gb_base.specs.declared.steps.SequenceStep.TheVariants as steps
 use Rattle.gb_machine.specs.{Bus.Ask, Bus.request_of, Host.Host, Host.is_intf, HostTurns.host_turn}
 use Rattle.gb_machine.specs.{HostTurns.without_interface, Members.IsIn, Ports.level_of, Runs.Moment}
 use Rattle.gb_machine.specs.{SequenceSteps.asks_control, SequenceSteps.is_enumeration, State.State}
-use Rattle.gb_machine.specs.{SvcQueues.svc_items, Turns.HostEvent}
+use Rattle.gb_machine.specs.SvcQueues.{svc_items}
 use Rattle.gb_invariants.proofs.Outcomes.{both-true, is-same, same-number}
 use Rattle.gb_invariants.proofs.{Awaiting.not-both, Found.find-none, HostChanges.IsAnswered}
 use Rattle.gb_invariants.proofs.{Lists.found-in, Lists.in-without}
@@ -28,7 +30,7 @@ use Rattle.gb_laws.proofs.{StaleBase.StaleBase, SvcOrder.none-earlier}
 
 -- no removal is handled where a request was answered
 answered-stays : {e : HostEvent} {h : Host} {p : Purpose} {i : ℕ} → IsAnswered e h p
-    → e ≡ HostEvent.Removed i → ⊥
+    → e ≡ host_event.Removed i → ⊥
 answered-stays r gone = let same = sym r.is ∙ gone in absurd cc
 
 module _ (m : Moment) (absent : InsertsAbsent m) (i : ℕ)
@@ -61,7 +63,7 @@ module _ (m : Moment) (absent : InsertsAbsent m) (i : ℕ)
       links = subst (Linked a.state.bus a.state.host) none f.links
 
       -- what is stale was, or the removal of its interface is handled
-      fate : (n : ℕ) → StaleAt i n b → StaleAt i n a ⊎ (e ≡ HostEvent.Removed i)
+      fate : (n : ℕ) → StaleAt i n b → StaleAt i n a ⊎ (e ≡ host_event.Removed i)
       fate n s = by (find (λ (l : Link). l.connection == s.connection) a.state.host.links) refl
         where
           pair : IsIn (n, s.connection) a.state.past.made_for
@@ -79,10 +81,10 @@ module _ (m : Moment) (absent : InsertsAbsent m) (i : ℕ)
               → l.connection ≡ s.connection → ⊥) state s.unknown
 
           why : (l : Link) → IsIn l a.state.host.links → l.connection ≡ s.connection
-              → WhyLeft a.state.host e l.connection → e ≡ HostEvent.Removed i
+              → WhyLeft a.state.host e l.connection → e ≡ host_event.Removed i
           why l live on (removed j x is known at number) =
               let one = one-link a.state.host.links x l links.host.links.rise known live number in
-              is ∙ ap HostEvent.Removed (sym at ∙ ap (λ (y : Link). y.intf) one
+              is ∙ ap host_event.Removed (sym at ∙ ap (λ (y : Link). y.intf) one
               ∙ f.pairs.of n i l s.request live
               (subst (λ k. IsIn (n, k) a.state.past.made_for) (sym on) pair) made s.speaks)
           why l live on (closed j result payload x is known waiting number) =
@@ -96,7 +98,7 @@ module _ (m : Moment) (absent : InsertsAbsent m) (i : ℕ)
 
           followed : (l : Link) → IsIn l a.state.host.links → l.connection ≡ s.connection
               → IsFollowed l (host_turn e a.state.host).host.links (host_turn e a.state.host).acts
-              → e ≡ HostEvent.Removed i
+              → e ≡ host_event.Removed i
           followed l live on (stays k j same) =
               absurd (unknown k j (same.connection ∙ on))
           followed l live on (leaves j) =
@@ -104,7 +106,7 @@ module _ (m : Moment) (absent : InsertsAbsent m) (i : ℕ)
 
           by : (o : Option Link)
               → find (λ (l : Link). l.connection == s.connection) a.state.host.links ≡ o
-              → StaleAt i n a ⊎ (e ≡ HostEvent.Removed i)
+              → StaleAt i n a ⊎ (e ≡ host_event.Removed i)
           by None g = inl (record {
             connection = s.connection;
             pair = pair;
@@ -126,18 +128,18 @@ module _ (m : Moment) (absent : InsertsAbsent m) (i : ℕ)
               (subst (λ ls. IsIn l ls) (sym (same-links e a.state.host)) found.0)))
 
       -- where the removal is handled
-      told : e ≡ HostEvent.Removed i → IsNoticed m (HostEvent.Removed i)
+      told : e ≡ host_event.Removed i → IsNoticed m (host_event.Removed i)
       told gone = (subst (λ y. IsCaused m y a.state.host) gone cause).1
 
-      still : e ≡ HostEvent.Removed i → (level_of i a.state.ports ≡ level_of i m.before.ports)
+      still : e ≡ host_event.Removed i → (level_of i a.state.ports ≡ level_of i m.before.ports)
           × (a.state.bus.requests ≡ m.before.bus.requests → AreStarts (enums i m.before.bus)
           → AreStarts (enums i a.state.bus))
-      still gone = noticed (HostEvent.Removed i) (told gone)
+      still gone = noticed (host_event.Removed i) (told gone)
 
-      same : e ≡ HostEvent.Removed i → a.state.bus.requests ≡ m.before.bus.requests
+      same : e ≡ host_event.Removed i → a.state.bus.requests ≡ m.before.bus.requests
       same gone = subst (λ y. IsOver m y a.state.bus) gone over
 
-      removed : e ≡ HostEvent.Removed i → is_removed i m.before.bus ≡ true
+      removed : e ≡ host_event.Removed i → is_removed i m.before.bus ≡ true
       removed gone =
           sym (removal-waits i m.before.bus (svc_items side.Ap m.before.bus))
           ∙ waits-before i m

@@ -5,12 +5,13 @@ use Rattle.std.specs.Prelude.{option_and_then}
 use Rattle.gb_base.specs.declared.end.Side.TheVariants as side
 use Rattle.gb_base.specs.declared.entry.ConnState.TheVariants as state
 use Rattle.gb_base.specs.declared.entry.Entry.TheVariants as entry
+use Rattle.gb_base.specs.declared.host_event.HostEvent.{HostEvent}
 use Rattle.gb_machine.proofs.Opened.{machine_opened}
 use Rattle.gb_machine.specs.Actions.{Action, change, each, given, on_host, tell, ◌▸◌}
 use Rattle.gb_machine.specs.Bus.{Connection, connection_of, next_number}
 use Rattle.gb_machine.specs.HostActs.{acts, asked_with, fails, host_asks, host_draft, host_opens}
 use Rattle.gb_machine.specs.HostActs.{notices, opened_with, with_awaited, with_made}
-use Rattle.gb_machine.specs.Turns.{Act, Asking, HostEvent, Making}
+use Rattle.gb_machine.specs.Turns.{Act, Asking, Making}
 use Rattle.gb_machine.specs.{Asking.asked, Asking.asks_with, Failures.unsent, HostTurns.host_turn}
 use Rattle.gb_machine.specs.{Labels.cyclic_label, Labels.next_label, Runs.Moment}
 use Rattle.gb_machine.specs.{Sending.sent, State.State, Wiring.next_connection}

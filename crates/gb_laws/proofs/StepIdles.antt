@@ -4,6 +4,7 @@ use Rattle.std.proofs.Common.{List, None, Option, Some, refl, true, ℕ, [], ◌
 use Rattle.std.specs.Prelude.{is_none}
 use Rattle.gb_base.specs.declared.event.Event.TheVariants as event
 use Rattle.gb_base.specs.declared.end.Side.TheVariants as side
+use Rattle.gb_base.specs.declared.host_event.HostEvent.TheVariants as host_event
 use Rattle.gb_base.specs.declared.outcome.Outcome.{Outcome}
 use Rattle.gb_base.specs.declared.peers.Link.{Link}
 use Rattle.gb_machine.proofs.Opened.{machine_opened}
@@ -11,7 +12,6 @@ use Rattle.gb_machine.specs.Actions.{Action, by_state, given}
 use Rattle.gb_machine.specs.Bus.{Request, request_of}
 use Rattle.gb_machine.specs.HostActs.{drains, follows, idles, idles_behind, notices}
 use Rattle.gb_machine.specs.Requests.{is_idle, same_side}
-use Rattle.gb_machine.specs.Turns.{HostEvent}
 use Rattle.gb_machine.specs.{Host.link_at, Lists.first, Refusals.refusal, Runs.Moment, State.State}
 use Rattle.gb_laws.proofs.StepActions.{Stays, goes-nothing, goes-when, goes-▸}
 use Rattle.gb_laws.proofs.{DrainingKept.FirstDrainsAt, PointParts.Point, PointParts.Untouched}
@@ -30,8 +30,8 @@ module _ (m : Moment) (law : ActLaw m) (drain : (a : Point) → law.holds a → 
   goes-idles : (k : ℕ) (s : State) → Idly (idles k) s
   unfolding machine_opened
   goes-idles k s told at =
-      goes-when m law None [] Untouched (is_idle k s.bus) (notices (HostEvent.Idle k)) s
-      (λ idle. goes-notices m law (HostEvent.Idle k) s (none-first _ idle) (drain _ at)) told at
+      goes-when m law None [] Untouched (is_idle k s.bus) (notices (host_event.Idle k)) s
+      (λ idle. goes-notices m law (host_event.Idle k) s (none-first _ idle) (drain _ at)) told at
 
   goes-idles_behind : (o : Option Request) (s : State) → Idly (given o idles_behind) s
   unfolding machine_opened
@@ -41,26 +41,26 @@ module _ (m : Moment) (law : ActLaw m) (drain : (a : Point) → law.holds a → 
       (λ e. goes-idles r.connection s)
 
   -- a request ended
-  pub goes-follows : (n : ℕ) (how : Outcome) (s : State) → IsOver m (HostEvent.Ended n how) s.bus
+  pub goes-follows : (n : ℕ) (how : Outcome) (s : State) → IsOver m (host_event.Ended n how) s.bus
       → Idly (follows n how) s
   unfolding machine_opened
   goes-follows n how s over =
-      goes-▸ m law (notices (HostEvent.Ended n how)) (given (request_of n s.bus) idles_behind)
-      (goes-notices m law (HostEvent.Ended n how) s over tt)
-      (goes-idles_behind (request_of n s.bus) (notices (HostEvent.Ended n how) s).state)
+      goes-▸ m law (notices (host_event.Ended n how)) (given (request_of n s.bus) idles_behind)
+      (goes-notices m law (host_event.Ended n how) s over tt)
+      (goes-idles_behind (request_of n s.bus) (notices (host_event.Ended n how) s).state)
 
   -- a connection drains
   pub goes-drains : (i c : ℕ) → m.event ≡ event.Drain i c
       → refusal m.before (event.Drain i c) ≡ None → Idly (drains i c) m.before
   unfolding machine_opened
   goes-drains i c is free =
-      goes-▸ m law (notices (HostEvent.Drain i c))
+      goes-▸ m law (notices (host_event.Drain i c))
       (by_state (λ t. given (link_at i c t.host) (λ l. idles l.connection)))
-      (goes-notices m law (HostEvent.Drain i c) m.before refl (refl, is, free))
+      (goes-notices m law (host_event.Drain i c) m.before refl (refl, is, free))
       (by (link_at i c after.host) after)
     where
       after : State
-      after = (notices (HostEvent.Drain i c) m.before).state
+      after = (notices (host_event.Drain i c) m.before).state
 
       by : (o : Option Link) (s : State) → Idly (given o (λ l. idles l.connection)) s
       by None s = goes-nothing m law None [] Untouched s

@@ -5,6 +5,8 @@ use Rattle.gb_base.specs.declared.end.{End.End, Side.Side}
 use Rattle.gb_base.specs.declared.end.End.TheVariants as end
 use Rattle.gb_base.specs.declared.end.Side.TheVariants as side
 use Rattle.gb_base.specs.declared.entry.Entry.{Entry}
+use Rattle.gb_base.specs.declared.host_event.HostEvent.TheVariants as host_event
+use Rattle.gb_base.specs.declared.host_event.HostEvent.{HostEvent}
 use Rattle.gb_formats.specs.{Module.Module, ModuleSteps.module_serve, Results.Step}
 use Rattle.gb_machine.proofs.Opened.{machine_opened}
 use Rattle.gb_machine.specs.Actions.{change, given, on_host, tell, ◌▸◌}
@@ -15,7 +17,7 @@ use Rattle.gb_machine.specs.{Bus.Bus, Bus.Connection, Host.Host, HostActs.notice
 use Rattle.gb_machine.specs.{HostServing.HostServed, HostServing.host_serves, Incoming.Incoming}
 use Rattle.gb_machine.specs.{Lists.first, Modules.module_at, Modules.with_module}
 use Rattle.gb_machine.specs.{OwnAsking.far_asks_all, Ports.is_powered, Ports.unrouted}
-use Rattle.gb_machine.specs.{Runs.Moment, State.State, Turns.HostEvent}
+use Rattle.gb_machine.specs.{Runs.Moment, State.State}
 use Rattle.gb_invariants.proofs.Awaiting.{none-some, same-some}
 use Rattle.gb_laws.proofs.Delivered.{IsTaken, noticed, served-at, serving-of}
 use Rattle.gb_laws.proofs.Places.{ComesFrom, LivesOn, comes-after, lives-after}
@@ -160,11 +162,11 @@ module _ (m : Moment) (law : Law m) where
           → IsCaused m e (host_serves k kind payload m.before.host).host
       cause (plainly q n) e is said = absurd (none-some (sym n ∙ is))
       cause (inserting i h q n) e is said =
-          let same = same-some (HostEvent.Inserted i) e (sym n ∙ is) in
+          let same = same-some (host_event.Inserted i) e (sym n ∙ is) in
           subst (λ x. IsCaused m x (host_serves k kind payload m.before.host).host) same
           (h, subst (IsNoticed m) (sym same) said)
       cause (removing i h q n) e is said =
-          let same = same-some (HostEvent.Removed i) e (sym n ∙ is) in
+          let same = same-some (host_event.Removed i) e (sym n ∙ is) in
           subst (λ x. IsCaused m x (host_serves k kind payload m.before.host).host) same
           (h, subst (IsNoticed m) (sym same) said)
 
@@ -172,9 +174,9 @@ module _ (m : Moment) (law : Law m) where
           → (host_serves k kind payload m.before.host).notices ≡ Some e → IsOver m e u.bus
       over (plainly q n) e is = absurd (none-some (sym n ∙ is))
       over (inserting i h q n) e is =
-          subst (λ x. IsOver m x u.bus) (same-some (HostEvent.Inserted i) e (sym n ∙ is)) made
+          subst (λ x. IsOver m x u.bus) (same-some (host_event.Inserted i) e (sym n ∙ is)) made
       over (removing i h q n) e is =
-          subst (λ x. IsOver m x u.bus) (same-some (HostEvent.Removed i) e (sym n ∙ is)) made
+          subst (λ x. IsOver m x u.bus) (same-some (host_event.Removed i) e (sym n ∙ is)) made
 
   same-after : {k : ℕ} {at : Side} {q : Incoming} {b after : Bus} → IsAfterReply k at q b after
       → after.requests ≡ b.requests

@@ -4,12 +4,13 @@ use Rattle.std.proofs.Common.{◌∷◌, ◌≡◌}
 use Rattle.gb_base.specs.declared.entry.Entry.TheVariants as entry
 use Rattle.gb_base.specs.declared.event.Event.{Event}
 use Rattle.gb_base.specs.declared.event.Event.TheVariants as event
+use Rattle.gb_base.specs.declared.host_event.HostEvent.TheVariants as host_event
 use Rattle.gb_base.specs.declared.refusal.Refusal.{Refusal}
 use Rattle.gb_formats.specs.{Devices.Level, Devices.Serial, Module.module_of_kind}
 use Rattle.gb_formats.specs.{Module.module_raw}
 use Rattle.gb_machine.proofs.Opened.{machine_opened}
 use Rattle.gb_machine.specs.Runs.{IsMoment, Moment, after, told_at}
-use Rattle.gb_machine.specs.{Events.decided, Events.does, Refusals.refusal, Turns.HostEvent}
+use Rattle.gb_machine.specs.{Events.decided, Events.does, Refusals.refusal}
 use Rattle.gb_laws.proofs.PointParts.{Untouched, Wires, resting}
 use Rattle.gb_laws.proofs.Points.{IsBridge, IsOfSvc, Law, frees, tells}
 use Rattle.gb_laws.proofs.StepEvents.{rests-bridges, rests-cancels, rests-copies, rests-holds}
@@ -36,10 +37,10 @@ module _ (m : Moment) (law : Law m) where
   ends-does (event.Pull i) is one free = ends-pulls m law (subst IsOfSvc (sym is) tt) i
   ends-does (event.Connect i c) is one free =
       ends-going m law (does (event.Connect i c))
-      (goes-notices m (acting m law) (HostEvent.Connect i c) m.before refl (refl, is, free, one.1))
+      (goes-notices m (acting m law) (host_event.Connect i c) m.before refl (refl, is, free, one.1))
   ends-does (event.Disconnect i c) is one free =
       ends-going m law (does (event.Disconnect i c))
-      (goes-notices m (acting m law) (HostEvent.Disconnect i c) m.before refl (refl, is, free))
+      (goes-notices m (acting m law) (host_event.Disconnect i c) m.before refl (refl, is, free))
   ends-does (event.Drain i c) is one free =
       ends-going m law (does (event.Drain i c))
       (goes-drains m (acting m law) (λ a h. (law.basis a h).drains) i c is free)

@@ -4,6 +4,8 @@ use Rattle.std.proofs.Common.{Bool, List, None, Option, Some, ap, false, inl, in
 use Rattle.std.proofs.Common.{sym, true, ℕ, [], ◌+◌, ◌∷◌, ◌≡◌}
 use Rattle.gb_base.specs.declared.end.Side.{Side}
 use Rattle.gb_base.specs.declared.entry.Entry.{Entry}
+use Rattle.gb_base.specs.declared.host_event.HostEvent.TheVariants as host_event
+use Rattle.gb_base.specs.declared.host_event.HostEvent.{HostEvent}
 use Rattle.gb_base.specs.declared.served.OwnAsk.{OwnAsk}
 use Rattle.gb_base.specs.declared.bridge.Reading.TheVariants as reading
 use Rattle.gb_base.specs.declared.end.Side.TheVariants as side
@@ -22,7 +24,7 @@ use Rattle.gb_machine.specs.HostActs.{idles, idles_behind, notices, opened_with,
 use Rattle.gb_machine.specs.HostActs.{with_made}
 use Rattle.gb_machine.specs.HostActs as acting
 use Rattle.gb_machine.specs.Sending.{Draft, draft, is_wired, label_for, sent}
-use Rattle.gb_machine.specs.Turns.{Act, Asking, HostEvent, Making}
+use Rattle.gb_machine.specs.Turns.{Act, Asking, Making}
 use Rattle.gb_machine.specs.{Failures.unsent, HostTurns.host_turn, Labels.next_label}
 use Rattle.gb_machine.specs.{LawsHotPlug.is_consequence, Members.Each, Members.IsIn}
 use Rattle.gb_machine.specs.{OwnAsking.far_asks, OwnAsking.far_asks_all, Requests.open_on}
@@ -206,8 +208,8 @@ module _ (aim : Taking) where
   -- A connection that drains closes where it is idle.
   follows-idles : (k : ℕ) (s : State) → Follows (idles k) s
   unfolding machine_opened
-  follows-idles k s = follows-when (is_idle k s.bus) (notices (HostEvent.Idle k)) s
-      (follows-notices (HostEvent.Idle k) s (idle-leaves k s.host aim.number))
+  follows-idles k s = follows-when (is_idle k s.bus) (notices (host_event.Idle k)) s
+      (follows-notices (host_event.Idle k) s (idle-leaves k s.host aim.number))
 
   follows-idles_behind : (o : Option Request) (s : State) → Follows (given o idles_behind) s
   unfolding machine_opened
@@ -217,10 +219,10 @@ module _ (aim : Taking) where
 
   -- A request ended, and the application processor doesn't give up the connection at that.
   pub follows-ended : (n : ℕ) (how : Outcome) (s : State)
-      → (IsIn (Act.Leave aim.number) (host_turn (HostEvent.Ended n how) s.host).acts → ⊥)
+      → (IsIn (Act.Leave aim.number) (host_turn (host_event.Ended n how) s.host).acts → ⊥)
       → Follows (acting.follows n how) s
   unfolding machine_opened
   follows-ended n how s stays =
-      follows-▸ (notices (HostEvent.Ended n how)) (given (request_of n s.bus) idles_behind) {s = s}
-      (follows-notices (HostEvent.Ended n how) s stays)
-      (follows-idles_behind (request_of n s.bus) (notices (HostEvent.Ended n how) s).state)
+      follows-▸ (notices (host_event.Ended n how)) (given (request_of n s.bus) idles_behind) {s = s}
+      (follows-notices (host_event.Ended n how) s stays)
+      (follows-idles_behind (request_of n s.bus) (notices (host_event.Ended n how) s).state)

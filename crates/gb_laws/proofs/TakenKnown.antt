@@ -3,6 +3,8 @@ use Rattle.std.proofs.Common.{Bool, List, None, Some, ap, arith, false, refl, su
 use Rattle.std.proofs.Common.{[], ◌∙◌, ◌≡◌}
 use Rattle.std.specs.Prelude.{option_map, ◌==◌}
 use Rattle.gb_base.specs.declared.end.End.{End}
+use Rattle.gb_base.specs.declared.host_event.HostEvent.TheVariants as host_event
+use Rattle.gb_base.specs.declared.host_event.HostEvent.{HostEvent}
 use Rattle.gb_base.specs.declared.outcome.Outcome.{Outcome}
 use Rattle.gb_base.specs.declared.peers.Link.{Link}
 use Rattle.gb_base.specs.declared.end.End.TheVariants as end
@@ -12,7 +14,7 @@ use Rattle.gb_machine.specs.Bus.{queue, request_of}
 use Rattle.gb_machine.specs.{Delivery.popped, Host.link_of, HostTurns.host_turn}
 use Rattle.gb_machine.specs.{LawsHotPlug.IsAnswerTo, LawsHotPlug.label_in, Lists.first}
 use Rattle.gb_machine.specs.{Members.IsIn, Requests.open_with, Runs.Moment, State.State}
-use Rattle.gb_machine.specs.{SvcQueues.is_reply_to, Turns.Act, Turns.HostEvent, Wiring.joining}
+use Rattle.gb_machine.specs.{SvcQueues.is_reply_to, Turns.Act, Wiring.joining}
 use Rattle.gb_invariants.proofs.Awaiting.{is_of-is, none-some, not-both, same-some}
 use Rattle.gb_invariants.proofs.BusChanges.{BusChange, Was, came, stayed, was, went}
 use Rattle.gb_invariants.proofs.Outcomes.{both-true, is-same, same-number}
@@ -114,15 +116,15 @@ module _ (m : Moment) (h : StaleTo m.told m.before) (to : End) (p : Place) (item
 
   -- a request that is answered is none that closes this connection
   pub stays-answered : (n : ℕ) (how : Outcome) → IsAnswerTo p item m.before.bus n
-      → IsIn (Act.Leave p.connection.number) (host_turn (HostEvent.Ended n how) m.before.host).acts
+      → IsIn (Act.Leave p.connection.number) (host_turn (host_event.Ended n how) m.before.host).acts
       → ⊥
-  stays-answered n how x i = by (why-left m.before.bus (HostEvent.Ended n how) m.before.host
+  stays-answered n how x i = by (why-left m.before.bus (host_event.Ended n how) m.before.host
       p.connection.number links.host i)
     where
-      same-ended : (j k : ℕ) (a b : Outcome) → HostEvent.Ended j a ≡ HostEvent.Ended k b → j ≡ k
+      same-ended : (j k : ℕ) (a b : Outcome) → host_event.Ended j a ≡ host_event.Ended k b → j ≡ k
       same-ended j k a b e = cc
 
-      by : WhyLeft m.before.host (HostEvent.Ended n how) p.connection.number → ⊥
+      by : WhyLeft m.before.host (host_event.Ended n how) p.connection.number → ⊥
       by (removed j l is known at number) = absurd cc
       by (closed k result payload l is known waits number) =
           let pair = (h.pairs.bound l known (k, _) waits).own refl in

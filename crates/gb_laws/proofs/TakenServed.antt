@@ -3,6 +3,7 @@ use Rattle.std.proofs.Common.{Bool, List, None, Option, Some, cond, false, refl,
 use Rattle.std.specs.List.{list_any}
 use Rattle.gb_base.specs.declared.entry.Entry.{Entry}
 use Rattle.gb_base.specs.declared.end.Side.TheVariants as side
+use Rattle.gb_base.specs.declared.host_event.HostEvent.{HostEvent}
 use Rattle.gb_formats.specs.{Module.Module, ModuleSteps.module_serve}
 use Rattle.gb_machine.proofs.{Opened.machine_opened}
 use Rattle.gb_machine.specs.Actions.{change, given, on_host, tell, ◌▸◌}
@@ -13,7 +14,7 @@ use Rattle.gb_machine.specs.SvcTable.{Answered, Create, Destroy, SvcServed, Unro
 use Rattle.gb_machine.specs.{Bus.Connection, Host.Host, HostActs.notices, HostTurns.host_turn}
 use Rattle.gb_machine.specs.{Incoming.Incoming, Members.IsIn, Modules.with_module}
 use Rattle.gb_machine.specs.{OwnAsking.far_asks_all, Ports.unrouted, Requests.open_on, State.Port}
-use Rattle.gb_machine.specs.{State.State, Turns.Act, Turns.HostEvent, Wires.unwires, Wires.wires}
+use Rattle.gb_machine.specs.{State.State, Turns.Act, Wires.unwires, Wires.wires}
 use Rattle.gb_machine.specs.{Wiring.is_wired_to, Wiring.joining}
 use Rattle.gb_invariants.proofs.{Awaiting.none-some, Awaiting.same-some, BusChanges.BusChange}
 use Rattle.gb_laws.proofs.TakenActs.{Follows, Taking, ends-follow, follows-change}

@@ -4,6 +4,7 @@ use Rattle.std.proofs.Common.{Bool, List, None, Option, Some, ap, cond, false, m
 use Rattle.std.proofs.Common.{[], ◌∙◌, ◌∷◌, ◌≡◌}
 use Rattle.std.specs.Prelude.{Err, Ok, Result, ◌==◌}
 use Rattle.gb_base.specs.declared.entry.Entry.{Entry}
+use Rattle.gb_base.specs.declared.host_event.HostEvent.{HostEvent}
 use Rattle.gb_base.specs.declared.peers.Link.{Link}
 use Rattle.gb_base.specs.declared.steps.Purpose.{Purpose}
 use Rattle.gb_base.specs.declared.end.End.TheVariants as end
@@ -19,7 +20,7 @@ use Rattle.gb_machine.specs.HostServing.{uart_notified_by}
 use Rattle.gb_machine.specs.HostTurns.{host_turn, links_left, links_of}
 use Rattle.gb_machine.specs.{Failures.unsent, Host.Host, LawsHotPlug.IsToldOf}
 use Rattle.gb_machine.specs.{LawsHotPlug.is_consequence, Members.Each, Serving.protocol_bad}
-use Rattle.gb_machine.specs.{Turns.Act, Turns.HostEvent}
+use Rattle.gb_machine.specs.Turns.{Act}
 use Rattle.gb_invariants.proofs.HostChanges.{Finds, HostChange, HostEnd, IsOfNone, Occasion}
 use Rattle.gb_invariants.proofs.HostChanges.{TurnLaw, acts_by, at_event, at_unsent, end_of}
 use Rattle.gb_invariants.proofs.{Lists.each-append, OverTurns.over-turn, OverTurns.over-unsent}

@@ -3,6 +3,8 @@
 use Rattle.std.proofs.Common.{List, None, Option, Some, ap, refl, subst, sym, ℕ, [], ◌∙◌, ◌∷◌, ◌≡◌}
 use Rattle.std.proofs.Common.{◌≤◌}
 use Rattle.std.specs.Prelude.{Err, Ok, Result, option_map}
+use Rattle.gb_base.specs.declared.host_event.HostEvent.TheVariants as host_event
+use Rattle.gb_base.specs.declared.host_event.HostEvent.{HostEvent}
 use Rattle.gb_base.specs.declared.refusal.Refusal.TheVariants as why
 use Rattle.gb_base.specs.declared.end.End.{End}
 use Rattle.gb_base.specs.declared.end.Side.TheVariants as side
@@ -19,7 +21,7 @@ use Rattle.gb_machine.specs.HostServing.{serves_svc}
 use Rattle.gb_machine.specs.{HostRefusals.connect_conditions, HostRefusals.disconnect_conditions}
 use Rattle.gb_machine.specs.{HostTurns.host_turn, Incoming.incoming, Lists.first}
 use Rattle.gb_machine.specs.{Lists.holds_of, Reached.OfARun, Refusals.has_no_label}
-use Rattle.gb_machine.specs.{Refusals.refusal, Runs.Moment, State.State, Turns.HostEvent}
+use Rattle.gb_machine.specs.{Refusals.refusal, Runs.Moment, State.State}
 use Rattle.gb_invariants.proofs.Awaiting.{none-some}
 use Rattle.gb_laws.proofs.LinkTurns.{fits-connects, fits-inserted, fits-removed}
 use Rattle.gb_laws.proofs.MarkNotices.{Tells, told-svc, unnoticed}
@@ -33,29 +35,29 @@ TurnsTo b h e = Linked b (host_turn e h).host (host_turn e h).acts
 
 -- a request ended
 pub turned-ended : {b : Bus} {h : Host} (n : ℕ) (how : Outcome) → Linked b h []
-    → TurnsTo b h (HostEvent.Ended n how)
+    → TurnsTo b h (host_event.Ended n how)
 turned-ended {b} {h} n how f = linked-fits refl (fits-ended b n how h f.host) f
 
 -- an interface is removed
 pub turned-removed : {b : Bus} {h : Host} (i : ℕ) → Linked b h []
-    → TurnsTo b h (HostEvent.Removed i)
+    → TurnsTo b h (host_event.Removed i)
 turned-removed {b} {h} i f = linked-fits refl (fits-removed b i h f.host) f
 
 -- an interface that is absent is inserted
 pub turned-inserted : {b : Bus} {h : Host} (i : ℕ) → interface_of i h ≡ None → Linked b h []
-    → TurnsTo b h (HostEvent.Inserted i)
+    → TurnsTo b h (host_event.Inserted i)
 turned-inserted {b} {h} i absent f = linked-fits refl (fits-inserted b i h f.host absent) f
 
 -- a connect isn't refused
 pub turned-connects : (s : State) (i c : ℕ) → refusal s (event.Connect i c) ≡ None → c ≤ 4095
-    → Linked s.bus s.host [] → TurnsTo s.bus s.host (HostEvent.Connect i c)
+    → Linked s.bus s.host [] → TurnsTo s.bus s.host (host_event.Connect i c)
 turned-connects s i c allowed within f = linked-fits refl (fits-connects s.bus i c s.host f.host
     (front-unmet (connect_conditions i c s.host) ((has_no_label 1 side.Ap s, why.NoLabel) ∷ [])
     (free s (event.Connect i c) allowed)) within) f
 
 -- a disconnect isn't refused
 pub turned-disconnects : (s : State) (i c : ℕ) → refusal s (event.Disconnect i c) ≡ None
-    → Linked s.bus s.host [] → TurnsTo s.bus s.host (HostEvent.Disconnect i c)
+    → Linked s.bus s.host [] → TurnsTo s.bus s.host (host_event.Disconnect i c)
 turned-disconnects s i c allowed f = linked-fits refl (fits-disconnects s.bus i c s.host f.host
     (front-unmet (disconnect_conditions i c s.host)
     ((holds_of (λ k. has_no_label k side.Ap s) (control_of i s.host), why.NoLabel) ∷ [])
@@ -63,12 +65,12 @@ turned-disconnects s i c allowed f = linked-fits refl (fits-disconnects s.bus i 
 
 -- a drain isn't refused
 pub turned-drains : (s : State) (i c : ℕ) → refusal s (event.Drain i c) ≡ None
-    → Linked s.bus s.host [] → TurnsTo s.bus s.host (HostEvent.Drain i c)
+    → Linked s.bus s.host [] → TurnsTo s.bus s.host (host_event.Drain i c)
 turned-drains s i c allowed f =
     linked-fits refl (fits-drains s.bus i c s.host f.host (free s (event.Drain i c) allowed)) f
 
 -- nothing is open on a connection
-pub turned-idle : {b : Bus} {h : Host} (k : ℕ) → Linked b h [] → TurnsTo b h (HostEvent.Idle k)
+pub turned-idle : {b : Bus} {h : Host} (k : ℕ) → Linked b h [] → TurnsTo b h (host_event.Idle k)
 turned-idle {b} {h} k f = linked-fits refl (fits-idle b k h f.host) f
 
 -- ---- requests of the supervisory controller
@@ -112,7 +114,7 @@ noticed-host k kind payload h e told =
 
 -- An interface whose insertion is noticed is absent.
 pub reached-absent : (s : State) (at : End) (p : Place) (n : ℕ) (r : Request) (i : ℕ) → OfARun s
-    → Notes s at p n r (HostEvent.Inserted i) → interface_of i s.host ≡ None
+    → Notes s at p n r (host_event.Inserted i) → interface_of i s.host ≡ None
 reached-absent s at p n r i run notes = start-absent m (reached-told s run) i (record {
   at = at;
   place = p;
@@ -142,6 +144,6 @@ turned-noticed s at p n r e {b} run notes f =
   where
     by : (x : HostEvent) → Notes s at p n r x → Tells x (read_svc_ask r.kind r.payload)
         → TurnsTo b s.host x
-    by (HostEvent.Inserted i) t told = turned-inserted i (reached-absent s at p n r i run t) f
-    by (HostEvent.Removed i) t told = turned-removed i f
+    by (host_event.Inserted i) t told = turned-inserted i (reached-absent s at p n r i run t) f
+    by (host_event.Removed i) t told = turned-removed i f
     by _ t told = absurd told

@@ -7,6 +7,7 @@ use Rattle.gb_base.specs.declared.end.End.TheVariants as end
 use Rattle.gb_base.specs.declared.entry.Entry.{Entry}
 use Rattle.gb_base.specs.declared.event.Event.{Event}
 use Rattle.gb_base.specs.declared.event.Event.TheVariants as event
+use Rattle.gb_base.specs.declared.host_event.HostEvent.{HostEvent}
 use Rattle.gb_base.specs.declared.refusal.Refusal.{Refusal}
 use Rattle.gb_formats.specs.Module.{Module, module_of_kind, module_raw}
 use Rattle.gb_formats.specs.{SvcRecords.SvcAsk, ValidEvents.IsIntf}
@@ -20,7 +21,7 @@ use Rattle.gb_machine.specs.Runs.{IsMoment, Moment, after}
 use Rattle.gb_machine.specs.State.{Plugged, Port, State, first_state}
 use Rattle.gb_machine.specs.{Actions.each, Actions.when, Bus.Connection, Bus.has_number}
 use Rattle.gb_machine.specs.{Events.decided, Events.step, Members.EachTwo, Members.IsIn}
-use Rattle.gb_machine.specs.{OwnAsking.svc_asks, Refusals.refusal, Turns.HostEvent, Wires.unwires}
+use Rattle.gb_machine.specs.{OwnAsking.svc_asks, Refusals.refusal, Wires.unwires}
 use Rattle.gb_machine.specs.{Wires.with_unwired, Wiring.is_at, Wiring.is_wired_to}
 use Rattle.gb_invariants.proofs.{Awaiting.not-both, Found.find-left, Found.none-of, Lists.filter-in}
 use Rattle.gb_invariants.proofs.{Lists.two-at_first, Numbers.in-changed, Outcomes.is-same}

@@ -3,6 +3,7 @@ use Rattle.std.specs.Prelude.{ℕ, Option, Some, None, List, [], ◌∷◌}
 use Rattle.gb_base.specs.declared.entry.Entry.TheVariants as entry
 use Rattle.gb_base.specs.declared.event.Event.{Event}
 use Rattle.gb_base.specs.declared.event.Event.TheVariants as event
+use Rattle.gb_base.specs.declared.host_event.HostEvent.TheVariants as host_event
 use Rattle.gb_base.specs.declared.refusal.Refusal.{Refusal}
 use Rattle.gb_formats.specs.Devices.{Level, Serial}
 use Rattle.gb_formats.specs.Module.{module_of_kind, module_raw}
@@ -19,7 +20,6 @@ use Rattle.gb_machine.specs.Sending.{Draft}
 use Rattle.gb_machine.specs.Settling.{settles}
 use Rattle.gb_machine.specs.Show.{shown}
 use Rattle.gb_machine.specs.State.{State, first_state}
-use Rattle.gb_machine.specs.Turns.{HostEvent}
 
 -- a request of the application processor to the supervisory controller
 abbrev pub svc_draft : ℕ → List ℕ → ℕ → Draft
@@ -35,8 +35,8 @@ does event.Boot = boots
 does (event.Insert i kind) = plugs i (module_of_kind kind)
 does (event.InsertRaw i manifest) = plugs i (module_raw manifest)
 does (event.Pull i) = pulls i
-does (event.Connect i c) = notices (HostEvent.Connect i c)
-does (event.Disconnect i c) = notices (HostEvent.Disconnect i c)
+does (event.Connect i c) = notices (host_event.Connect i c)
+does (event.Disconnect i c) = notices (host_event.Disconnect i c)
 does (event.Drain i c) = drains i c
 does (event.Send name to kind payload timeout) = sends name to kind payload timeout
 does (event.Bridge name i c what) = bridges name i c what

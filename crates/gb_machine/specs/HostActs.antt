@@ -3,6 +3,8 @@ use Rattle.std.specs.Prelude.{ℕ, ◌+◌, false, if◌then◌else◌, Option, 
 use Rattle.gb_base.specs.declared.entry.ConnState.TheVariants as state
 use Rattle.gb_base.specs.declared.end.Side.TheVariants as side
 use Rattle.gb_base.specs.declared.entry.Entry.TheVariants as entry
+use Rattle.gb_base.specs.declared.host_event.HostEvent.TheVariants as host_event
+use Rattle.gb_base.specs.declared.host_event.HostEvent.{HostEvent}
 use Rattle.gb_base.specs.declared.outcome.Outcome.{Outcome}
 use Rattle.gb_base.specs.declared.peers.Link.{Link}
 use Rattle.gb_base.specs.declared.steps.Purpose.{Purpose}
@@ -20,7 +22,7 @@ use Rattle.gb_machine.specs.SequenceSteps.{is_for_connection}
 use Rattle.gb_machine.specs.Failures.{unsent}
 use Rattle.gb_machine.specs.Waits.{awaits}
 use Rattle.gb_machine.specs.State.{State}
-use Rattle.gb_machine.specs.Turns.{Act, Asking, Failing, HostEvent, Making, Turn}
+use Rattle.gb_machine.specs.Turns.{Act, Asking, Failing, Making, Turn}
 use Rattle.gb_machine.specs.Wires.{shuts}
 use Rattle.gb_machine.specs.Wiring.{attached, detached, next_connection}
 
@@ -97,7 +99,7 @@ notices e = by_state (λ s. turns (host_turn e s.host))
 
 -- A connection that drains begins to close where no request is open on it.
 unfoldable pub idles : ℕ → Action
-idles k = by_state (λ s. when (is_idle k s.bus) (notices (HostEvent.Idle k)))
+idles k = by_state (λ s. when (is_idle k s.bus) (notices (host_event.Idle k)))
 
 -- so it is behind the end of a request of the application processor
 unfoldable pub idles_behind : Request → Action
@@ -106,9 +108,9 @@ idles_behind r = when (same_side side.Ap r.side) (idles r.connection)
 -- A request ended: what waited for it goes on or fails, and a connection that drains may close.
 unfoldable pub follows : ℕ → Outcome → Action
 follows n how = by_state (λ s.
-    notices (HostEvent.Ended n how) ▸ given (request_of n s.bus) idles_behind)
+    notices (host_event.Ended n how) ▸ given (request_of n s.bus) idles_behind)
 
 -- The connection to a CPort of an interface drains, and begins to close where nothing is open.
 unfoldable pub drains : ℕ → ℕ → Action
-drains i c = notices (HostEvent.Drain i c) ▸ by_state (λ s.
+drains i c = notices (host_event.Drain i c) ▸ by_state (λ s.
     given (link_at i c s.host) (λ l. idles l.connection))

@@ -2,6 +2,8 @@
 use Rattle.std.specs.Prelude.{ℕ, ◌==◌, if◌then◌else◌, Option, Some, None, Result, Ok, Err, List}
 use Rattle.gb_base.specs.declared.entry.Entry.{Entry}
 use Rattle.gb_base.specs.declared.entry.Entry.TheVariants as entry
+use Rattle.gb_base.specs.declared.host_event.HostEvent.TheVariants as host_event
+use Rattle.gb_base.specs.declared.host_event.HostEvent.{HostEvent}
 use Rattle.gb_base.specs.declared.peers.Link.{Link}
 use Rattle.gb_formats.specs.GpioRecords.{GpioAsk, read_gpio_ask_of_module}
 use Rattle.gb_formats.specs.Records.{PayloadFault}
@@ -11,7 +13,6 @@ use Rattle.gb_formats.specs.UartDevice.{credits_added}
 use Rattle.gb_formats.specs.UartRecords.{UartAsk, read_uart_ask_of_module}
 use Rattle.gb_machine.specs.Host.{Host, link_of, with_link}
 use Rattle.gb_machine.specs.Serving.{Answer, answer, invalid, plainly, protocol_bad, success}
-use Rattle.gb_machine.specs.Turns.{HostEvent}
 
 -- What it answers, how it is then, what is told behind the reply, and what it takes notice of then.
 pub record HostServed : Type 0 where
@@ -46,8 +47,8 @@ host_version = answer success (svc_reply_payload (SvcReply.ProtocolVersion 0 1))
 abbrev pub notified : SvcAsk → Host → HostServed
 notified (SvcAsk.ProtocolVersion major minor) h = host_answers host_version h
 notified (SvcAsk.Hello endo intf) h = host_answers (plainly success) h
-notified (SvcAsk.ModuleInserted i count flags) h = host_notices (HostEvent.Inserted i) h
-notified (SvcAsk.ModuleRemoved i) h = host_notices (HostEvent.Removed i) h
+notified (SvcAsk.ModuleInserted i count flags) h = host_notices (host_event.Inserted i) h
+notified (SvcAsk.ModuleRemoved i) h = host_notices (host_event.Removed i) h
 notified _ h = host_refuses protocol_bad h
 
 -- a request by its payload

@@ -5,6 +5,8 @@ use Rattle.std.specs.List.{filter}
 use Rattle.gb_base.specs.declared.entry.ConnState.TheVariants as state
 use Rattle.gb_base.specs.declared.entry.Entry.TheVariants as entry
 use Rattle.gb_base.specs.declared.entry.IntfStage.TheVariants as stage
+use Rattle.gb_base.specs.declared.host_event.HostEvent.TheVariants as host_event
+use Rattle.gb_base.specs.declared.host_event.HostEvent.{HostEvent}
 use Rattle.gb_base.specs.declared.outcome.Outcome.{Outcome}
 use Rattle.gb_base.specs.declared.peers.Link.{Link}
 use Rattle.gb_base.specs.declared.steps.Purpose.{Purpose}
@@ -17,7 +19,7 @@ use Rattle.gb_machine.specs.SequenceSteps.{purpose}
 use Rattle.gb_machine.specs.Failures.{link_told}
 use Rattle.gb_machine.specs.Sequences.{link_turn, opens, payload_in, step_answered, step_asked}
 use Rattle.gb_machine.specs.Waits.{awaited, awaits_nothing}
-use Rattle.gb_machine.specs.Turns.{Act, HostEvent, Turn, telling, turn}
+use Rattle.gb_machine.specs.Turns.{Act, Turn, telling, turn}
 
 -- The enumeration of an interface begins.
 abbrev pub host_inserted : ℕ → Host → Turn
@@ -104,10 +106,10 @@ host_ended n how h = ended_for (awaited n h) how h
 
 -- The turn of the application processor at what it takes notice of.
 abbrev pub host_turn : HostEvent → Host → Turn
-host_turn (HostEvent.Inserted i) h = host_inserted i h
-host_turn (HostEvent.Removed i) h = host_removed i h
-host_turn (HostEvent.Connect i c) h = host_connects i c h
-host_turn (HostEvent.Disconnect i c) h = host_disconnects i c h
-host_turn (HostEvent.Drain i c) h = host_drains i c h
-host_turn (HostEvent.Idle k) h = host_idle k h
-host_turn (HostEvent.Ended n how) h = host_ended n how h
+host_turn (host_event.Inserted i) h = host_inserted i h
+host_turn (host_event.Removed i) h = host_removed i h
+host_turn (host_event.Connect i c) h = host_connects i c h
+host_turn (host_event.Disconnect i c) h = host_disconnects i c h
+host_turn (host_event.Drain i c) h = host_drains i c h
+host_turn (host_event.Idle k) h = host_idle k h
+host_turn (host_event.Ended n how) h = host_ended n how h

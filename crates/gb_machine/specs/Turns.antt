@@ -1,19 +1,8 @@
 -- What the application processor does of its own: a turn is how it is afterwards, and acts.
 use Rattle.std.specs.Prelude.{ℕ, List, ◌∷◌, map}
 use Rattle.gb_base.specs.declared.entry.Entry.{Entry}
-use Rattle.gb_base.specs.declared.outcome.Outcome.{Outcome}
 use Rattle.gb_base.specs.declared.steps.Purpose.{Purpose}
 use Rattle.gb_machine.specs.Host.{Host}
-
--- What it takes notice of.
-pub data HostEvent : Type 0 where
-  Inserted : ℕ → HostEvent  -- MODULE_INSERTED of an interface is handled
-  Removed : ℕ → HostEvent  -- MODULE_REMOVED of an interface is handled
-  Connect : ℕ → ℕ → HostEvent
-  Disconnect : ℕ → ℕ → HostEvent
-  Drain : ℕ → ℕ → HostEvent
-  Idle : ℕ → HostEvent  -- no request of its own is open on a connection
-  Ended : ℕ → Outcome → HostEvent  -- a request ended
 
 -- a request that it makes on a connection
 pub record Asking : Type 0 where

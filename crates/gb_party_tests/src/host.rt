@@ -1,7 +1,7 @@
 //! The application processor before anything was inserted, and what it answers.
 
-use gb_base::{Entry, IntfStage, Purpose, Refusal, SequenceStep};
-use gb_host::{Act, Host, HostEvent};
+use gb_base::{Entry, HostEvent, IntfStage, Purpose, Refusal, SequenceStep};
+use gb_host::{Act, Host};
 use std::process::Abort;
 
 /// A request of the supervisory controller: its type and payload, what is answered, and the

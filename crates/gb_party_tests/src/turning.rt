@@ -1,8 +1,8 @@
 //! The sequences of the application processor step by step. What it does is worked by hand from the
 //! Greybus Specification.
 
-use gb_base::{Bytes, ConnState, Entry, IntfStage, Outcome};
-use gb_host::{Act, Host, HostEvent};
+use gb_base::{Bytes, ConnState, Entry, HostEvent, IntfStage, Outcome};
+use gb_host::{Act, Host};
 use std::alloc::Global;
 use std::process::Abort;
 

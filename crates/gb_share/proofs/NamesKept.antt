@@ -3,6 +3,7 @@
 use Rattle.std.proofs.Common.{◌≡◌, ℕ, Bool, true, false, if◌then◌else◌, Option, Some, None, List}
 use Rattle.std.proofs.Common.{[], ◌∷◌, refl, ◌∙◌}
 use Rattle.gb_base.specs.declared.entry.Entry.{Entry}
+use Rattle.gb_base.specs.declared.host_event.HostEvent.{HostEvent}
 use Rattle.gb_base.specs.declared.name.Name.{Name}
 use Rattle.gb_base.specs.declared.outcome.Outcome.{Outcome}
 use Rattle.gb_base.specs.declared.peers.Link.{Link}
@@ -26,7 +27,7 @@ use Rattle.gb_machine.specs.Plugging.{boots, plugs, pulls, tells_inserted}
 use Rattle.gb_machine.specs.Sending.{Draft}
 use Rattle.gb_machine.specs.SequenceSteps.{is_for_connection}
 use Rattle.gb_machine.specs.State.{State}
-use Rattle.gb_machine.specs.Turns.{Act, Asking, Failing, HostEvent, Making, Turn}
+use Rattle.gb_machine.specs.Turns.{Act, Asking, Failing, Making, Turn}
 use Rattle.gb_machine.specs.Waits.{awaits}
 use Rattle.gb_machine.specs.Wires.{shuts, unwires, wires}
 

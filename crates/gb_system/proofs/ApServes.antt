@@ -6,6 +6,7 @@ use Rattle.gb_base.specs.declared.end.End.{End}
 use Rattle.gb_base.specs.declared.end.Side.TheVariants as side
 use Rattle.gb_base.specs.declared.entry.Entry.{Entry}
 use Rattle.gb_base.specs.declared.entry.Entry.TheVariants as entry
+use Rattle.gb_base.specs.declared.host_event.HostEvent.{HostEvent}
 use Rattle.gb_base.specs.declared.peers.Link.{Link}
 use Rattle.gb_bus.specs.Delivering.{MayReply, taken_from}
 use Rattle.gb_bus.specs.declared.answers.Asked.{Asked}
@@ -15,8 +16,8 @@ use Rattle.gb_formats.specs.Results.{most_payload}
 use Rattle.gb_formats.specs.SvcRecords.{SvcAsk, read_svc_ask_of_svc}
 use Rattle.gb_formats.specs.UartDevice.{credits_added}
 use Rattle.gb_formats.specs.UartRecords.{UartAsk, read_uart_ask_of_module}
-use Rattle.gb_host.specs.Serving.{event_of, served_of}
-use Rattle.gb_host.specs.declared.events.HostServed as code_served
+use Rattle.gb_host.specs.Serving.{served_of}
+use Rattle.gb_host.specs.declared.served.HostServed as code_served
 use Rattle.gb_host.specs.declared.host.Host as code_host
 use Rattle.gb_invariants.specs.Facts.{Loose}
 use Rattle.gb_machine.proofs.Opened.{machine_opened}
@@ -34,7 +35,6 @@ use Rattle.gb_machine.specs.Responding.{host_behind, host_served, replies, respo
 use Rattle.gb_machine.specs.Responding.{serves_oneway}
 use Rattle.gb_machine.specs.Serving.{Answer, answer, success}
 use Rattle.gb_machine.specs.State.{State}
-use Rattle.gb_machine.specs.Turns.{HostEvent}
 use Rattle.gb_system.proofs.Doings.{does-as, does-given, does-given_none, does-is, does-tell}
 use Rattle.gb_system.proofs.Doings.{does-then}
 use Rattle.gb_system.proofs.Heard.{may-reply, request-sound}
@@ -259,8 +259,8 @@ ap-oneway : {x z : Parties} {s : State} {a b : List Entry} {at : End} {k : ℕ} 
     → (asked.label == 0) ≡ true → (served.result == success) ≡ true
     → MayServe side.Ap c d.request s
     → ((t : State) → PartsStand [] (record x { host = y }) t
-    → MayNotice (option_map event_of served.«then») t
-    → Does z (given served.tell tell ▸ given (option_map event_of served.«then») notices) t a b)
+    → MayNotice served.«then» t
+    → Does z (given served.tell tell ▸ given served.«then» notices) t a b)
     → Does z (serves side.Ap c d.request) s a b
 ap-oneway {x} {z} {s} {a} {b} {at} {k} {asked} {payload} {c} {item} served y d st h none fine may
     goes =
@@ -286,8 +286,8 @@ pub ap-heeds : {x z : Parties} {s : State} {a b : List Entry} {at : End} {k : �
     → host_serves k asked.kind payload s.host ≡ served_of served y
     → (asked.label == 0) ≡ true → MayServe side.Ap c d.request s
     → ((served.result == success) ≡ true → (t : State) → PartsStand [] (record x { host = y }) t
-    → MayNotice (option_map event_of served.«then») t
-    → Does z (given served.tell tell ▸ given (option_map event_of served.«then») notices) t a b)
+    → MayNotice served.«then» t
+    → Does z (given served.tell tell ▸ given served.«then» notices) t a b)
     → ((served.result == success) ≡ false
     → (z ≡ record x { host = y }) × (b ≡ a ++ entry.Ignored asked.kind ∷ []))
     → Does z (serves side.Ap c d.request) s a b
@@ -316,8 +316,8 @@ pub ap-twoway : {x y z : Parties} {s : State} {a b e : List Entry} {at : End} {k
     → ((t : State) → PartsStand (only k side.Ap item) (record x { host = w }) t
     → IsUpon k t.bus c → (may : MayReply asked t.bus item)
     → Does y (replies side.Ap c may.request (answer served.result served.payload)) t a b)
-    → ((t : State) → PartsStand [] y t → MayNotice (option_map event_of served.«then») t
-    → Does z (given served.tell tell ▸ given (option_map event_of served.«then») notices) t b e)
+    → ((t : State) → PartsStand [] y t → MayNotice served.«then» t
+    → Does z (given served.tell tell ▸ given served.«then» notices) t b e)
     → Does z (serves side.Ap c d.request) s a e
 ap-twoway {x} {y} {z} {s} {a} {b} {e} {at} {k} {asked} {payload} {c} {item} served w d st h some may
     answers goes =

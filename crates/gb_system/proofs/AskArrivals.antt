@@ -5,6 +5,7 @@ use Rattle.gb_base.specs.declared.end.End.{End}
 use Rattle.gb_base.specs.declared.end.Side.{Side}
 use Rattle.gb_base.specs.declared.end.Side.TheVariants as side
 use Rattle.gb_base.specs.declared.entry.Entry.{Entry}
+use Rattle.gb_base.specs.declared.host_event.HostEvent.{HostEvent}
 use Rattle.gb_bus.specs.Delivering.{ArrivesAsk}
 use Rattle.gb_bus.specs.Wiring.{ends_of}
 use Rattle.gb_bus.specs.declared.answers.Asked.{Asked}
@@ -33,7 +34,6 @@ use Rattle.gb_machine.specs.Refusals.{is_end_unplugged}
 use Rattle.gb_machine.specs.State.{State}
 use Rattle.gb_machine.specs.HostServing.{HostServed, host_serves}
 use Rattle.gb_machine.specs.Reached.{OfARun}
-use Rattle.gb_machine.specs.Turns.{HostEvent}
 use Rattle.gb_system.proofs.Turning.{may-note}
 use Rattle.gb_system.proofs.Doings.{does-as}
 use Rattle.gb_system.proofs.Standing.{rebussed}

@@ -6,6 +6,7 @@ use Rattle.gb_base.specs.declared.entry.ConnState.TheVariants as state
 use Rattle.gb_base.specs.declared.entry.Entry.{Entry}
 use Rattle.gb_base.specs.declared.entry.Entry.TheVariants as entry
 use Rattle.gb_base.specs.declared.event.Event.TheVariants as event
+use Rattle.gb_base.specs.declared.host_event.HostEvent.TheVariants as host_event
 use Rattle.gb_base.specs.declared.peers.Link.{Link}
 use Rattle.gb_base.specs.declared.refusal.Refusal.{Refusal}
 use Rattle.gb_base.specs.declared.refusal.Refusal.TheVariants as why
@@ -24,7 +25,6 @@ use Rattle.gb_machine.specs.Lists.{Condition, first_met, holds_of}
 use Rattle.gb_machine.specs.Refusals.{has_no_label, refusal}
 use Rattle.gb_machine.specs.Sequences.{link_turn}
 use Rattle.gb_machine.specs.State.{State}
-use Rattle.gb_machine.specs.Turns.{HostEvent}
 use Rattle.gb_system.proofs.Doings.{does-by_state, does-given, does-then}
 use Rattle.gb_system.proofs.Landing.{lands, lands-refused}
 use Rattle.gb_system.proofs.Ways.{met-early, met-late}
@@ -72,8 +72,8 @@ pub connect-done : (x y : Parties) (s : State) (i c : ℕ) (spent : Bool) (befor
     → IsValid (event.Connect i c) → PartiesStand x s
     → first_met (connect_conditions i c s.host) ≡ None
     → spent ≡ is_none (next_label 1 side.Ap s.bus) → spent ≡ false → before ≡ entry.Done ∷ []
-    → ((t : State) → PartsStand [] x t → MayTurn (HostEvent.Connect i c) t
-    → Does y (notices (HostEvent.Connect i c)) t before es)
+    → ((t : State) → PartsStand [] x t → MayTurn (host_event.Connect i c) t
+    → Does y (notices (host_event.Connect i c)) t before es)
     → PartsStep y s (event.Connect i c) es
 unfolding machine_opened
 connect-done x y s i c spent before es valid st free by so begun noticed =
@@ -122,8 +122,8 @@ pub disconnect-done : (x y : Parties) (s : State) (i c : ℕ) (spent : Bool)
     (before es : List Entry) → PartiesStand x s
     → first_met (disconnect_conditions i c s.host) ≡ None → spent ≡ control_spent s i
     → spent ≡ false → before ≡ entry.Done ∷ []
-    → ((t : State) → PartsStand [] x t → MayTurn (HostEvent.Disconnect i c) t
-    → Does y (notices (HostEvent.Disconnect i c)) t before es)
+    → ((t : State) → PartsStand [] x t → MayTurn (host_event.Disconnect i c) t
+    → Does y (notices (host_event.Disconnect i c)) t before es)
     → PartsStep y s (event.Disconnect i c) es
 unfolding machine_opened
 disconnect-done x y s i c spent before es st free by so begun noticed =
@@ -143,7 +143,7 @@ drain-refused x s i c why es st refused is =
 
 -- the state once a connection drains
 drains-is : (i c : ℕ) (s : State) (l : Link) → link_at i c s.host ≡ Some l
-    → (notices (HostEvent.Drain i c) s).state
+    → (notices (host_event.Drain i c) s).state
     ≡ record s { host = with_link i c (in_state state.Draining) s.host }
 unfolding machine_opened
 drains-is i c s l is = ap (λ o. (turns (link_turn state.Draining o
@@ -151,7 +151,7 @@ drains-is i c s l is = ap (λ o. (turns (link_turn state.Draining o
 
 -- it is found where it was
 still-there : (i c : ℕ) (s : State) (l : Link) → link_at i c s.host ≡ Some l
-    → link_at i c (notices (HostEvent.Drain i c) s).state.host
+    → link_at i c (notices (host_event.Drain i c) s).state.host
     ≡ Some (in_state state.Draining l)
 still-there i c s l is =
     ap (λ (t : State). link_at i c t.host) (drains-is i c s l is)
@@ -162,19 +162,19 @@ still-there i c s l is =
 pub drain-done : (x y z : Parties) (s : State) (i c k : ℕ) (before mid es : List Entry)
     → PartiesStand x s → first_met (drain_conditions i c s.host) ≡ None
     → option_map (λ l. l.connection) (link_at i c s.host) ≡ Some k → before ≡ entry.Done ∷ []
-    → ((t : State) → PartsStand [] x t → MayTurn (HostEvent.Drain i c) t
-    → Does y (notices (HostEvent.Drain i c)) t before mid)
+    → ((t : State) → PartsStand [] x t → MayTurn (host_event.Drain i c) t
+    → Does y (notices (host_event.Drain i c)) t before mid)
     → ((t : State) → PartsStand [] y t → MayIdle k t → Does z (idles k) t mid es)
     → PartsStep z s (event.Drain i c) es
 unfolding machine_opened
 drain-done x y z s i c k before mid es st free is begun noticed rests =
     by (link_at i c s.host) refl is
   where
-    d : Does y (notices (HostEvent.Drain i c)) s before mid
+    d : Does y (notices (host_event.Drain i c)) s before mid
     d = noticed s st.parts (may-drain s i c)
 
     t : State
-    t = (notices (HostEvent.Drain i c) s).state
+    t = (notices (host_event.Drain i c) s).state
 
     by : (o : Option Link) → link_at i c s.host ≡ o → option_map (λ l. l.connection) o ≡ Some k
         → PartsStep z s (event.Drain i c) es

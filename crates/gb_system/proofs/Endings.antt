@@ -3,6 +3,7 @@ use Rattle.std.proofs.Common.{◌≡◌, ◌||◌, ℕ, Bool, true, false, Optio
 use Rattle.std.proofs.Common.{is_none, List, [], ◌∷◌, cond, option_map, refl, sym, ap, ◌∙◌}
 use Rattle.std.proofs.Common.{if◌then◌else◌, inl, subst}
 use Rattle.std.specs.Prelude.{nat_lt}
+use Rattle.gb_base.specs.declared.host_event.HostEvent.TheVariants as host_event
 use Rattle.gb_bus.specs.Listing.{count}
 use Rattle.gb_base.specs.declared.end.Side.TheVariants as side
 use Rattle.gb_base.specs.declared.entry.Entry.{Entry}
@@ -22,7 +23,7 @@ use Rattle.gb_machine.specs.LawsBus.{is_awaited}
 use Rattle.gb_machine.specs.Lists.{holds_of}
 use Rattle.gb_machine.specs.Requests.{gave_up, is_idle, same_side}
 use Rattle.gb_machine.specs.State.{State}
-use Rattle.gb_machine.specs.Turns.{HostEvent, turn}
+use Rattle.gb_machine.specs.Turns.{turn}
 use Rattle.gb_system.proofs.Doings.{does-as, does-by_state, does-given, does-nothing, does-then}
 use Rattle.gb_system.proofs.Doings.{does-unless, does-when}
 use Rattle.gb_system.specs.Doing.{Does}
@@ -58,7 +59,7 @@ lost n how s unended =
 
 -- nothing is done for a connection that doesn't drain
 idle-rests : (k : ℕ) (s : State) (o : Option Link) → link_of k s.host ≡ o
-    → holds_of (λ l. is_draining l.state) o ≡ false → notices (HostEvent.Idle k) s ≡ nothing s
+    → holds_of (λ l. is_draining l.state) o ≡ false → notices (host_event.Idle k) s ≡ nothing s
 unfolding machine_opened
 idle-rests k s None is other = ap (λ p. turns (drained p s.host) s) is
 idle-rests k s (Some l) is other =
@@ -70,9 +71,9 @@ pub undrained : {x : Parties} {s : State} {a : List Entry} (k : ℕ) (drains : B
     → PartsStand [] x s → Does x (idles k) s a a
 unfolding machine_opened
 undrained {x} {s} {a} k drains is other st =
-    does-by_state (λ t. when (is_idle k t.bus) (notices (HostEvent.Idle k))) (by (is_idle k s.bus))
+    does-by_state (λ t. when (is_idle k t.bus) (notices (host_event.Idle k))) (by (is_idle k s.bus))
   where
-    by : (t : Bool) → Does x (when t (notices (HostEvent.Idle k))) s a a
+    by : (t : Bool) → Does x (when t (notices (host_event.Idle k))) s a a
     by false = does-nothing st
     by true = does-as (sym (idle-rests k s (link_of k s.host) refl (sym is ∙ other)))
         (does-nothing st)
@@ -99,28 +100,28 @@ pub unidle : {x : Parties} {s : State} {a : List Entry} (k : ℕ) (idle : Bool)
     → idle ≡ is_idle k s.bus → idle ≡ false → PartsStand [] x s → Does x (idles k) s a a
 unfolding machine_opened
 unidle k idle is busy st =
-    does-by_state (λ t. when (is_idle k t.bus) (notices (HostEvent.Idle k)))
-    (does-unless (notices (HostEvent.Idle k)) (sym is ∙ busy) st)
+    does-by_state (λ t. when (is_idle k t.bus) (notices (host_event.Idle k)))
+    (does-unless (notices (host_event.Idle k)) (sym is ∙ busy) st)
 
 -- else it begins to close
 pub idle-closes : {x : Parties} {s : State} {a b : List Entry} (k : ℕ) (idle : Bool)
-    → idle ≡ is_idle k s.bus → idle ≡ true → Does x (notices (HostEvent.Idle k)) s a b
+    → idle ≡ is_idle k s.bus → idle ≡ true → Does x (notices (host_event.Idle k)) s a b
     → Does x (idles k) s a b
 unfolding machine_opened
 idle-closes k idle is rests d =
-    does-by_state (λ t. when (is_idle k t.bus) (notices (HostEvent.Idle k)))
-    (does-when (notices (HostEvent.Idle k)) (sym is ∙ rests) d)
+    does-by_state (λ t. when (is_idle k t.bus) (notices (host_event.Idle k)))
+    (does-when (notices (host_event.Idle k)) (sym is ∙ rests) d)
 
 -- ---- what follows an end
 
 -- what waited for a request goes on, and its connection may begin to close
 pub follows-then : {x y : Parties} {s : State} {a b c : List Entry} (over : Over) (how : Outcome)
-    → (is : IsOver over s) → Does x (notices (HostEvent.Ended over.number how)) s a b
-    → Does y (idles_behind is.request) (notices (HostEvent.Ended over.number how) s).state b c
+    → (is : IsOver over s) → Does x (notices (host_event.Ended over.number how)) s a b
+    → Does y (idles_behind is.request) (notices (host_event.Ended over.number how) s).state b c
     → Does y (follows over.number how) s a c
 unfolding machine_opened
 follows-then over how is d e =
-    does-by_state (λ t. notices (HostEvent.Ended over.number how)
+    does-by_state (λ t. notices (host_event.Ended over.number how)
     ▸ given (request_of over.number t.bus) idles_behind)
     (does-then d (does-given idles_behind is.request is.made e))
 

@@ -3,6 +3,7 @@ use Rattle.std.proofs.Common.{◌≡◌, ℕ, Bool, true, false, Option, Some, N
 use Rattle.std.proofs.Common.{append-nil, append_assoc, refl, sym, ap, ◌∙◌, subst}
 use Rattle.gb_base.specs.declared.end.Side.TheVariants as side
 use Rattle.gb_base.specs.declared.entry.Entry.{Entry}
+use Rattle.gb_base.specs.declared.host_event.HostEvent.{HostEvent}
 use Rattle.gb_host.specs.Turning.{Pends, Turns, asks, spelled}
 use Rattle.gb_host.specs.declared.acts.Act as code
 use Rattle.gb_host.specs.declared.acts.Act.TheVariants as act
@@ -14,7 +15,7 @@ use Rattle.gb_machine.specs.HostActs.{acts, fails, host_asks, notices, opened_wi
 use Rattle.gb_machine.specs.HostTurns.{host_turn}
 use Rattle.gb_machine.specs.Labels.{next_label}
 use Rattle.gb_machine.specs.State.{State}
-use Rattle.gb_machine.specs.Turns.{Act, Asking, HostEvent, Making}
+use Rattle.gb_machine.specs.Turns.{Act, Asking, Making}
 use Rattle.gb_machine.specs.Wires.{shuts}
 use Rattle.gb_machine.specs.Wiring.{detached, shut_down}
 use Rattle.gb_system.proofs.Midways.{Midway, midway-as, midway-end, midway-here, midway-more}

@@ -7,6 +7,8 @@ use Rattle.gb_base.specs.declared.end.End.{End}
 use Rattle.gb_base.specs.declared.end.End.TheVariants as end
 use Rattle.gb_base.specs.declared.entry.ConnState.TheVariants as state
 use Rattle.gb_base.specs.declared.event.Event.TheVariants as event
+use Rattle.gb_base.specs.declared.host_event.HostEvent.TheVariants as host_event
+use Rattle.gb_base.specs.declared.host_event.HostEvent.{HostEvent}
 use Rattle.gb_base.specs.declared.outcome.Outcome.{Outcome}
 use Rattle.gb_base.specs.declared.peers.Link.{Link}
 use Rattle.gb_base.specs.declared.steps.SequenceStep.{SequenceStep}
@@ -42,7 +44,7 @@ use Rattle.gb_machine.specs.Runs.{Moment}
 use Rattle.gb_machine.specs.SequenceSteps.{Target, asks_control, kind_of, payload_of}
 use Rattle.gb_machine.specs.Sequences.{link_turn}
 use Rattle.gb_machine.specs.State.{State}
-use Rattle.gb_machine.specs.Turns.{Act, Asking, HostEvent, Making}
+use Rattle.gb_machine.specs.Turns.{Act, Asking, Making}
 use Rattle.gb_machine.specs.Wiring.{shut_down}
 use Rattle.gb_system.specs.Acting.{ArePossible, IsAskable, MayTurn}
 use Rattle.gb_system.specs.Ending.{MayFollow, MayIdle}
@@ -149,23 +151,23 @@ pub may-follow : (n : ℕ) (how : Outcome) (s : State)
     → KnowsAt s → MayFollow n how s
 may-follow n how s f = record {
   turn = possible _ (turned-ended n how f.links);
-  idle = λ k. may-idle k (notices (HostEvent.Ended n how) s).state (knows-ended n how s f);
+  idle = λ k. may-idle k (notices (host_event.Ended n how) s).state (knows-ended n how s f);
 }
 
 -- a connect that isn't refused
 pub may-connect : (s : State) (i c : ℕ) → OfARun s → refusal s (event.Connect i c) ≡ None
-    → IsValid (event.Connect i c) → MayTurn (HostEvent.Connect i c) s
+    → IsValid (event.Connect i c) → MayTurn (host_event.Connect i c) s
 may-connect s i c run allowed valid =
     possible _ (turned-connects s i c allowed valid.1 (reached-linked s run))
 
 -- a disconnect that isn't refused
 pub may-disconnect : (s : State) (i c : ℕ) → OfARun s → refusal s (event.Disconnect i c) ≡ None
-    → MayTurn (HostEvent.Disconnect i c) s
+    → MayTurn (host_event.Disconnect i c) s
 may-disconnect s i c run allowed =
     possible _ (turned-disconnects s i c allowed (reached-linked s run))
 
 -- a drain tells alone
-pub may-drain : (s : State) (i c : ℕ) → MayTurn (HostEvent.Drain i c) s
+pub may-drain : (s : State) (i c : ℕ) → MayTurn (host_event.Drain i c) s
 may-drain s i c = by (link_at i c s.host)
   where
     by : (o : Option Link) → ArePossible (link_turn state.Draining o

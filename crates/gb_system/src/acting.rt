@@ -1,7 +1,6 @@
 //! What the application processor does of its own.
 
 ghost use Rattle.std.specs.Prelude.{◌≡◌, [], ◌++◌, IfOk, OnOk, map};
-ghost use Rattle.gb_host.specs.Serving.{event_of};
 ghost use Rattle.gb_machine.specs.HostActs.{fails, host_asks, notices};
 ghost use Rattle.gb_machine.specs.Failures.{unsent};
 ghost use Rattle.gb_machine.specs.State.{State};
@@ -15,16 +14,17 @@ use crate::asking::{DEFAULT_TIMEOUT, Draft};
 use crate::parties::Parties;
 use crate::svc::SVC;
 use gb_base::{
-    ConnState, Entries, Entry, Numbers, OutOfMemory, Outcome, Purpose, Reading, Side, TryCopy,
+    ConnState, Entries, Entry, HostEvent, Numbers, OutOfMemory, Outcome, Purpose, Reading, Side,
+    TryCopy,
 };
-use gb_host::{Act, HostEvent};
+use gb_host::Act;
 
 impl Parties {
     /// The application processor takes notice of something, and does what it does then.
     pub fn notice(&mut self, event: HostEvent, told: &mut Entries) -> Result<(), OutOfMemory>
         ensures step { OnOk result ((s : State) → PartsStand [] self.old s
-            → MayTurn (event_of event) s
-            → Does self.new (notices (event_of event)) s told.old told.new) }
+            → MayTurn event s
+            → Does self.new (notices event) s told.old told.new) }
     {
         let acts = self.host.on(event)?;
         let mut skips = false;

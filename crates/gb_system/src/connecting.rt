@@ -14,8 +14,7 @@ ghost use Rattle.gb_system.specs.Stands.{PartiesStand, PartsStand, PartsStep};
 use crate::entries::{begin, refuse};
 use crate::parties::Parties;
 use crate::svc::SVC;
-use gb_base::{Entries, OutOfMemory, Refusal, Side};
-use gb_host::HostEvent;
+use gb_base::{Entries, HostEvent, OutOfMemory, Refusal, Side};
 
 impl Parties {
     /// The application processor connects a CPort of an interface.

@@ -14,8 +14,7 @@ ghost use Rattle.gb_system.specs.Ending.{IsAwaited, IsOver, MayFollow, MayIdle};
 ghost use Rattle.gb_system.specs.Stands.{PartsStand};
 
 use crate::parties::Parties;
-use gb_base::{ConnState, Entries, Entry, OutOfMemory, Outcome, Reading, Side, TryCopy};
-use gb_host::HostEvent;
+use gb_base::{ConnState, Entries, Entry, HostEvent, OutOfMemory, Outcome, Reading, Side, TryCopy};
 
 /// A request that ended.
 #[derive(Clone, Copy)]

@@ -5,7 +5,6 @@ ghost use Rattle.gb_base.specs.declared.end.End.TheVariants as end;
 ghost use Rattle.gb_base.specs.declared.end.Side.TheVariants as side;
 ghost use Rattle.gb_base.specs.declared.entry.Entry.TheVariants as entry;
 ghost use Rattle.gb_formats.specs.Results.{success};
-ghost use Rattle.gb_host.specs.Serving.{event_of};
 ghost use Rattle.gb_machine.specs.Actions.{given, tell, ◌▸◌};
 ghost use Rattle.gb_machine.specs.Bus.{Connection, Item};
 ghost use Rattle.gb_machine.specs.HostActs.{notices};
@@ -25,10 +24,10 @@ ghost use Rattle.gb_system.specs.Stands.{PartsStand};
 
 use crate::deciding::{Behind, decide};
 use crate::parties::Parties;
-use gb_base::{End, Entries, Entry, OutOfMemory, Side};
+use gb_base::{End, Entries, Entry, HostEvent, OutOfMemory, Side};
 use gb_bridge_payload::SUCCESS;
 use gb_bus::Asked;
-use gb_host::{HostEvent, HostServed};
+use gb_host::HostServed;
 
 impl Parties {
     /// Serves a request that was delivered at an end: its reply goes back, and then what it brings
@@ -116,9 +115,9 @@ impl Parties {
     /// Goes on after a request that gets no reply, or ignores it where it is refused.
     fn heed(&mut self, kind: u8, served: HostServed, told: &mut Entries) -> Result<(), OutOfMemory>
         ensures step { (served.result == success) ≡ true → OnOk result ((s : State)
-            → PartsStand [] self.old s → MayNotice (option_map event_of served.«then») s
+            → PartsStand [] self.old s → MayNotice served.«then» s
             → Does self.new
-            (given served.tell tell ▸ given (option_map event_of served.«then») notices)
+            (given served.tell tell ▸ given served.«then» notices)
             s told.old told.new) }
         ensures ignored { (served.result == success) ≡ false → OnOk result
             ((self.new ≡ self.old) × (told.new ≡ told.old ++ entry.Ignored kind ∷ [])) }
@@ -139,8 +138,8 @@ impl Parties {
         told: &mut Entries,
     ) -> Result<(), OutOfMemory>
         ensures step { OnOk result ((s : State) → PartsStand [] self.old s
-            → MayNotice (option_map event_of event) s
-            → Does self.new (given entry tell ▸ given (option_map event_of event) notices) s
+            → MayNotice event s
+            → Does self.new (given entry tell ▸ given event notices) s
             told.old told.new) }
     {
         tell_any(told, entry)?;

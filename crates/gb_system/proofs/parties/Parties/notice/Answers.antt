@@ -1,6 +1,5 @@
 -- The acts of a turn are done one after another.
 use Rattle.std.proofs.Common.{[], Bool, List, drop, drop_of_length-le, ◌+◌, sym, subst}
-use Rattle.gb_host.specs.Serving.{event_of}
 use Rattle.gb_host.specs.Turning.{Turns}
 use Rattle.gb_host.specs.declared.acts.Act.{Act}
 use Rattle.gb_machine.specs.HostActs.{notices}
@@ -11,8 +10,8 @@ use Rattle.gb_system.proofs.parties.Parties.notice.Goals as goal
 
 pub loop-act-init : goal.loop-act-init
 loop-act-init c = λ s st may.
-    acting-first (event_of c.args.event) c.on.new.self c.items-act-items.result.now st
-    (subst (λ (all : List Act). Turns (host_turn (event_of c.args.event) s.host) []
+    acting-first c.args.event c.on.new.self c.items-act-items.result.now st
+    (subst (λ (all : List Act). Turns (host_turn c.args.event s.host) []
     c.on.new.self all) (sym c.items-act-items.ensures)
     (c.in_ok-acts.ensures.step s.host st.host)) may
 
@@ -22,14 +21,14 @@ loop-act-preserved-then-skips c = λ s st may.
     let i = c.loop-act.act-index in
     acting-skip (drop i all) (drop (i + 1) all) c.act-item.result
     (drop-next all i c.act-item.result c.loop-act-test.true c.act-item.is)
-    (subst (λ (t : Bool). Acting c.loop-act.self (notices (event_of c.args.event)) t (drop i all) s
+    (subst (λ (t : Bool). Acting c.loop-act.self (notices c.args.event) t (drop i all) s
     c.args.told.now c.loop-act.told) c.if-skips.true (c.loop-act.invariant s st may))
 
 pub loop-act-preserved : goal.loop-act-preserved
 loop-act-preserved c = λ s st may.
     let all = c.items-act-items.result.now in
     let i = c.loop-act.act-index in
-    let g = subst (λ (t : Bool). Acting c.loop-act.self (notices (event_of c.args.event)) t
+    let g = subst (λ (t : Bool). Acting c.loop-act.self (notices c.args.event) t
     (drop i all) s c.args.told.now c.loop-act.told) c.if-skips.false
     (c.loop-act.invariant s st may) in
     acting-more (drop i all) (drop (i + 1) all) c.act-item.result c.in_ok-skips.skips

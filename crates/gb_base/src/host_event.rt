@@ -1,6 +1,6 @@
-//! What the application processor takes notice of, and what it answers.
+//! What the application processor takes notice of.
 
-use gb_base::{Bytes, Entry, Outcome};
+use crate::Outcome;
 
 /// What the application processor takes notice of.
 #[derive(Drop)]
@@ -48,17 +48,4 @@ pub enum HostEvent {
         /// How.
         outcome: Outcome,
     },
-}
-
-/// What the application processor answers to a request, and what follows from it.
-#[derive(Drop)]
-pub struct HostServed {
-    /// The result byte of the response (Greybus Specification, "Operation Status Values").
-    pub result: u8,
-    /// The payload of the response.
-    pub payload: Bytes,
-    /// What is told after the response.
-    pub tell: Option<Entry>,
-    /// What it takes notice of once the response is queued.
-    pub then: Option<HostEvent>,
 }
