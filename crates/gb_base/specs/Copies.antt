@@ -31,6 +31,7 @@ abbrev pub IsSmallAsk : BridgeAsk → Type 0
 IsSmallAsk (ask.I2cTransfer ops) = ops ≡ []
 IsSmallAsk (ask.SpiTransfer select mode ops) = ops ≡ []
 IsSmallAsk (ask.UartSend bytes) = AreFew bytes
+IsSmallAsk (ask.LoopBytes kind bytes) = AreFew bytes
 IsSmallAsk a = ⊤
 
 abbrev pub IsSmallEntry : Entry → Type 0

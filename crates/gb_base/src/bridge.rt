@@ -64,6 +64,15 @@ pub enum BridgeAsk {
         /// The byte.
         value: u8,
     },
+    /// Asks a loopback device for an answer without bytes.
+    LoopPing,
+    /// Sends bytes to a loopback device.
+    LoopBytes {
+        /// The type of the request.
+        kind: u8,
+        /// The bytes.
+        bytes: Bytes,
+    },
 }
 
 /// The operations of an I2C transfer.
@@ -173,6 +182,11 @@ impl TryCopy for BridgeAsk {
             BridgeAsk::UartByte { kind, value } => Ok(BridgeAsk::UartByte {
                 kind: *kind,
                 value: *value,
+            }),
+            BridgeAsk::LoopPing => Ok(BridgeAsk::LoopPing),
+            BridgeAsk::LoopBytes { kind, bytes } => Ok(BridgeAsk::LoopBytes {
+                kind: *kind,
+                bytes: bytes.copy()?,
             }),
         }
     }

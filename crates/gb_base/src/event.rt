@@ -15,6 +15,8 @@ pub enum Kind {
     Uart,
     /// All four.
     Bridge,
+    /// A loopback device, which sends back what it was sent.
+    Loopback,
 }
 
 /// One event of the bus. `intf` is 2 to 31 and `cport` 0 to 4,095.

@@ -15,7 +15,7 @@ use Rattle.gb_formats.proofs.SaidValid.{sending-valid, copying-valid, delivering
 use Rattle.gb_formats.proofs.SaidValid.{settling-valid, answering-valid, ticking-valid}
 use Rattle.gb_formats.proofs.SaidValid.{disconnecting-valid, injecting-valid}
 use Rattle.gb_formats.proofs.SaidValidBridges.{gpio_form-valid, i2c_form-valid, spi_form-valid}
-use Rattle.gb_formats.proofs.SaidValidBridges.{uart_form-valid}
+use Rattle.gb_formats.proofs.SaidValidBridges.{loopback_form-valid, uart_form-valid}
 
 pub by_first-valid : (who : ℕ) (w : List ℕ) (ws : Rest) → SaysValid (by_first who w ws)
 by_first-valid who w ws =
@@ -41,7 +41,9 @@ by_first-valid who w ws =
     (if-valid (bytes_eq w (codes "gpio")) _ _ (gpio_form-valid who ws)
     (if-valid (bytes_eq w (codes "i2c")) _ _ (i2c_form-valid who ws)
     (if-valid (bytes_eq w (codes "spi")) _ _ (spi_form-valid who ws)
-    (if-valid (bytes_eq w (codes "uart")) _ _ (uart_form-valid who ws) tt))))))))))))))))))))
+    (if-valid (bytes_eq w (codes "uart")) _ _ (uart_form-valid who ws)
+    (if-valid (bytes_eq w (codes "loopback")) _ _ (loopback_form-valid who ws)
+    tt)))))))))))))))))))))
 
 pub asked_for-valid : (who : ℕ) (ws : List (List ℕ)) → SaysValid (asked_for who ws)
 asked_for-valid who [] = tt

@@ -14,6 +14,7 @@ pub mod VectorsEntries
 pub mod VectorsForms
 pub mod VectorsGpioDevice
 pub mod VectorsGpioI2cRecords
+pub mod VectorsLoopback
 pub mod VectorsManifest
 pub mod VectorsOrders
 pub mod VectorsParts

@@ -15,7 +15,8 @@ use Rattle.gb_formats.specs.BridgeForms.{gpio_asking, literal_word, gpio_level}
 use Rattle.gb_formats.specs.BridgeForms.{gpio_form, i2c_get, i2c_put, i2c_read_word, i2c_write_word}
 use Rattle.gb_formats.specs.BridgeForms.{i2c_op_word, i2c_asking, i2c_form, spi_op_word, spi_asking}
 use Rattle.gb_formats.specs.BridgeForms.{spi_form, uart_coding, uart_byte, uart_asking}
-use Rattle.gb_formats.specs.BridgeForms.{uart_state, uart_form}
+use Rattle.gb_formats.specs.BridgeForms.{uart_state, uart_form, loopback_bytes, loopback_asking}
+use Rattle.gb_formats.specs.BridgeForms.{loopback_form}
 use Rattle.gb_formats.specs.Said.{Said, Rest, each_word}
 use Rattle.gb_formats.specs.ValidEvents.{IsValid, HasForm, IsI2cOp, AreI2cOps, IsSpiOp, AreSpiOps}
 use Rattle.gb_formats.specs.WordValues.{number_word, u16_word, hex_word, type_word}
@@ -265,3 +266,26 @@ pub uart_form-valid : (who : ℕ) (ws : Rest) → SaysValid (uart_form who ws)
 uart_form-valid who ws = by_word-valid ws _ (λ w rest.
     if-valid (begins_with_at w) _ _ (bridging-valid who ws uart_asking uart_asking-valid)
     (uart_state-valid ws))
+
+-- ---- loopback
+
+pub loopback_bytes-valid : (make : BridgeAsk → Event) (kind : ℕ) (ws : Rest)
+    → ((bytes : List ℕ) → IsValid (make (ask.LoopBytes kind bytes)))
+    → SaysValid (loopback_bytes make kind ws)
+loopback_bytes-valid make kind ws h =
+    next_any-valid hex_word ws _ (λ bytes ws.
+    at_end-valid ws (make (ask.LoopBytes kind bytes)) (h bytes))
+
+pub loopback_asking-valid : (make : BridgeAsk → Event) (ws : Rest) → MakesValid make
+    → SaysValid (loopback_asking make ws)
+loopback_asking-valid make ws m = by_word-valid ws _ (λ w rest.
+    if-valid (bytes_eq w (codes "ping")) _ _
+    (at_end-valid rest (make ask.LoopPing) (m ask.LoopPing tt))
+    (if-valid (bytes_eq w (codes "transfer")) _ _
+    (loopback_bytes-valid make 0x03 rest (λ bytes. m (ask.LoopBytes 0x03 bytes) (inl refl)))
+    (if-valid (bytes_eq w (codes "sink")) _ _
+    (loopback_bytes-valid make 0x04 rest (λ bytes. m (ask.LoopBytes 0x04 bytes) (inr refl)))
+    tt)))
+
+pub loopback_form-valid : (who : ℕ) (ws : Rest) → SaysValid (loopback_form who ws)
+loopback_form-valid who ws = bridging-valid who ws loopback_asking loopback_asking-valid

@@ -12,7 +12,7 @@ bad_lines =
     (codes "sned", Err (bad.BadWord 1))
     ∷ (codes "Boot", Err (bad.BadWord 1))
     ∷ (codes "requester 1", Err (bad.BadWord 1))
-    ∷ (codes "loopback", Err (bad.BadWord 1))
+    ∷ (codes "loop", Err (bad.BadWord 1))
     ∷ (codes "boot x", Err (bad.ExtraWord 2))
     ∷ (codes "show x", Err (bad.ExtraWord 2))
     ∷ (codes "insert", Err (bad.MissingWord 2))
@@ -173,6 +173,14 @@ bad_bridge_lines =
     ∷ (codes "uart 2 1 state", Err (bad.MissingWord 5))
     ∷ (codes "uart 2 1 state 256", Err (bad.BadWord 5))
     ∷ (codes "uart 2 1 state 0 x", Err (bad.ExtraWord 6))
+    ∷ (codes "loopback", Err (bad.MissingWord 2))
+    ∷ (codes "loopback 2 1 ping", Err (bad.BadWord 2))
+    ∷ (codes "loopback @x 2 1", Err (bad.MissingWord 5))
+    ∷ (codes "loopback @x 2 1 pong", Err (bad.BadWord 5))
+    ∷ (codes "loopback @x 2 1 ping 00", Err (bad.ExtraWord 6))
+    ∷ (codes "loopback @x 2 1 sink", Err (bad.MissingWord 6))
+    ∷ (codes "loopback @x 2 1 transfer 0", Err (bad.BadWord 6))
+    ∷ (codes "loopback @x 2 1 transfer 00 x", Err (bad.ExtraWord 7))
     ∷ []
 
 pub bad_bridge_lines-said : map (λ row. judged 0 row.0) bad_bridge_lines

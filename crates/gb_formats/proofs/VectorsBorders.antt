@@ -87,6 +87,12 @@ pub bridge-bytes : kind_manifest kind.Bridge
     ∷ 8 ∷ 0 ∷ 4 ∷ 0 ∷ 3 ∷ 0 ∷ 1 ∷ 0x0b ∷ 8 ∷ 0 ∷ 4 ∷ 0 ∷ 4 ∷ 0 ∷ 1 ∷ 4 ∷ []
 bridge-bytes = refl
 
+pub loopback-bytes : kind_manifest kind.Loopback
+    ≡ 76 ∷ 0 ∷ 0 ∷ 1 ∷ begins ++ (16 ∷ 0 ∷ 2 ∷ 0 ∷ 8 ∷ 2 ∷ codes "Loopback" ++ 0 ∷ 0 ∷ [])
+    ++ (8 ∷ 0 ∷ 3 ∷ 0 ∷ 0 ∷ 0 ∷ 0 ∷ 0 ∷ 8 ∷ 0 ∷ 3 ∷ 0 ∷ 1 ∷ 0x11 ∷ 0 ∷ 0
+    ∷ 8 ∷ 0 ∷ 4 ∷ 0 ∷ 0 ∷ 0 ∷ 0 ∷ 0 ∷ 8 ∷ 0 ∷ 4 ∷ 0 ∷ 1 ∷ 0 ∷ 1 ∷ 0x11 ∷ [])
+loopback-bytes = refl
+
 -- ---- a UART: 2,037 bytes at most, and what it sends back
 
 pub most-bytes : (uart_asked (UartAsk.SendData (replicate 2037 7))).result ≡ 0

@@ -20,6 +20,7 @@ form_lines =
     ∷ (codes "insert 31 i2c", Ok (Some (event.Insert 31 kind.I2c)))
     ∷ (codes "insert 2 spi", Ok (Some (event.Insert 2 kind.Spi)))
     ∷ (codes "insert 2 uart", Ok (Some (event.Insert 2 kind.Uart)))
+    ∷ (codes "insert 2 loopback", Ok (Some (event.Insert 2 kind.Loopback)))
     ∷ (codes "insert 2 bridge", Ok (Some (event.Insert 2 kind.Bridge)))
     ∷ (codes "insert 3 raw 03Ff", Ok (Some (event.InsertRaw 3 (3 ∷ 255 ∷ []))))
     ∷ (codes "insert 3 raw -", Ok (Some (event.InsertRaw 3 [])))
@@ -176,6 +177,18 @@ bridge_lines = (
       Ok (Some (event.Bridge (named (codes "x")) 2 1 (ask.UartByte 0x09 255))),
     )
     ∷ (codes "uart 2 1 state 255", Ok (Some (event.SerialState 2 1 255)))
+    ∷ (
+      codes "loopback @x 2 1 ping",
+      Ok (Some (event.Bridge (named (codes "x")) 2 1 ask.LoopPing)),
+    )
+    ∷ (
+      codes "loopback @x 2 1 transfer 0aFF",
+      Ok (Some (event.Bridge (named (codes "x")) 2 1 (ask.LoopBytes 0x03 (10 ∷ 255 ∷ [])))),
+    )
+    ∷ (
+      codes "loopback @x 2 1 sink -",
+      Ok (Some (event.Bridge (named (codes "x")) 2 1 (ask.LoopBytes 0x04 []))),
+    )
     ∷ []
 
 pub bridge_lines-said : map (λ row. judged 0 row.0) bridge_lines ≡ map (λ row. row.1) bridge_lines

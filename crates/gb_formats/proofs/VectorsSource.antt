@@ -106,8 +106,8 @@ unfolding sections_from string_after digits encode_with
 bridge-back = refl
 
 pub kinds-back : map (λ k. compile_answer (source_text (kind_spec k)))
-    (kind.I2c ∷ kind.Spi ∷ kind.Uart ∷ [])
-    ≡ map (λ k. Ok (kind_manifest k)) (kind.I2c ∷ kind.Spi ∷ kind.Uart ∷ [])
+    (kind.I2c ∷ kind.Spi ∷ kind.Uart ∷ kind.Loopback ∷ [])
+    ≡ map (λ k. Ok (kind_manifest k)) (kind.I2c ∷ kind.Spi ∷ kind.Uart ∷ kind.Loopback ∷ [])
 unfolding sections_from string_after digits encode_with
 kinds-back = refl
 

@@ -1,4 +1,4 @@
--- The forms of the script for bridged protocols: `gpio`, `i2c`, `spi` and `uart`.
+-- The forms of the script for bridged protocols: `gpio`, `i2c`, `spi`, `uart` and `loopback`.
 use Rattle.std.specs.Prelude.{ℕ, ◌==◌, Bool, ◌&&◌, if◌then◌else◌, Option, Some, None, option_map}
 use Rattle.std.specs.Prelude.{option_and_then, List, [], take, drop, slice_index, codes}
 use Rattle.std.specs.Str.{bytes_eq}
@@ -174,3 +174,22 @@ uart_state ws =
 abbrev pub uart_form : ℕ → Rest → Said
 uart_form who ws = by_word ws (λ w rest.
     if begins_with_at w then bridging who ws uart_asking else uart_state ws)
+
+-- ---- loopback
+
+-- a Loopback request that carries bytes
+abbrev pub loopback_bytes : (BridgeAsk → Event) → ℕ → Rest → Said
+loopback_bytes make kind ws =
+    next_word hex_word ws (λ bytes ws. at_end ws (make (ask.LoopBytes kind bytes)))
+
+-- `ping`, `transfer HEX` or `sink HEX`
+abbrev pub loopback_asking : (BridgeAsk → Event) → Rest → Said
+loopback_asking make ws = by_word ws (λ w rest.
+    if bytes_eq w (codes "ping") then at_end rest (make ask.LoopPing)
+    else if bytes_eq w (codes "transfer") then loopback_bytes make 0x03 rest
+    else if bytes_eq w (codes "sink") then loopback_bytes make 0x04 rest
+    else bad_word ws)
+
+-- `loopback @x I C` and what is asked
+abbrev pub loopback_form : ℕ → Rest → Said
+loopback_form who ws = bridging who ws loopback_asking

@@ -15,7 +15,9 @@ use Rattle.gb_formats.specs.GpioRecords.{GpioAsk, GpioReply, gpio_ask_kind, gpio
 use Rattle.gb_formats.specs.GpioRecords.{read_gpio_reply}
 use Rattle.gb_formats.specs.I2cRecords.{I2cAsk, I2cReply, i2c_ask_kind, i2c_ask_payload}
 use Rattle.gb_formats.specs.I2cRecords.{read_i2c_reply}
-use Rattle.gb_formats.specs.Protocols.{gpio_protocol, i2c_protocol, uart_protocol, spi_protocol}
+use Rattle.gb_formats.specs.LoopbackRecords.{LoopbackAsk, loopback_ask_kind, loopback_ask_payload}
+use Rattle.gb_formats.specs.Protocols.{gpio_protocol, i2c_protocol, loopback_protocol}
+use Rattle.gb_formats.specs.Protocols.{spi_protocol, uart_protocol}
 use Rattle.gb_formats.specs.Records.{PayloadFault, le32}
 use Rattle.gb_formats.specs.Results.{most_payload}
 use Rattle.gb_formats.specs.SpiRecords.{SpiAsk, SpiReply, read_spi_reply, spi_ask_kind}
@@ -36,6 +38,8 @@ ask_protocol (ask.SpiTransfer select mode ops) = spi_protocol
 ask_protocol (ask.UartSend bytes) = uart_protocol
 ask_protocol (ask.UartCoding rate format parity bits flow) = uart_protocol
 ask_protocol (ask.UartByte kind value) = uart_protocol
+ask_protocol ask.LoopPing = loopback_protocol
+ask_protocol (ask.LoopBytes kind bytes) = loopback_protocol
 
 -- the GPIO request of a type, at a line and with a value where it has them
 abbrev pub gpio_request : ℕ → ℕ → ℕ → GpioAsk
@@ -106,6 +110,11 @@ uart_request kind value =
     else if kind == 0x06 then UartAsk.SendBreak value
     else UartAsk.FlushFifos value
 
+-- the Loopback request of a type that carries bytes, with 0 where a number is reserved
+abbrev pub loopback_request : ℕ → List ℕ → LoopbackAsk
+loopback_request kind bytes =
+    if kind == 0x03 then LoopbackAsk.Transfer 0 0 bytes else LoopbackAsk.Sink 0 0 bytes
+
 -- a request: its type and its payload
 abbrev pub Request : Type 0
 Request = ℕ × List ℕ
@@ -126,6 +135,10 @@ of_spi request = (spi_ask_kind request, spi_ask_payload request)
 abbrev pub of_uart : UartAsk → Request
 of_uart request = (uart_ask_kind request, uart_ask_payload request)
 
+-- a request of the Loopback protocol
+abbrev pub of_loopback : LoopbackAsk → Request
+of_loopback request = (loopback_ask_kind request, loopback_ask_payload request)
+
 -- The request of a bridge line: the type and the payload of a record of its protocol.
 abbrev pub ask_request : BridgeAsk → Request
 ask_request (ask.Gpio kind line value) = of_gpio (gpio_request kind line value)
@@ -138,6 +151,8 @@ ask_request (ask.UartSend bytes) = of_uart (UartAsk.SendData bytes)
 ask_request (ask.UartCoding rate format parity bits flow) =
     of_uart (UartAsk.SetLineCoding rate format parity bits flow)
 ask_request (ask.UartByte kind value) = of_uart (uart_request kind value)
+ask_request ask.LoopPing = of_loopback LoopbackAsk.Ping
+ask_request (ask.LoopBytes kind bytes) = of_loopback (loopback_request kind bytes)
 
 -- ---- refusals
 

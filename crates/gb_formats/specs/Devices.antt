@@ -5,17 +5,20 @@ use Rattle.gb_base.specs.declared.served.OwnAsk.{OwnAsk}
 use Rattle.gb_formats.specs.GpioDevice.{GpioLine, Levelled, first_gpio, restarted_gpio, gpio_step}
 use Rattle.gb_formats.specs.GpioDevice.{gpio_level_set, irq_told}
 use Rattle.gb_formats.specs.I2cDevice.{I2cDevice, first_i2c, i2c_step}
-use Rattle.gb_formats.specs.Protocols.{gpio_protocol, i2c_protocol, uart_protocol, spi_protocol}
+use Rattle.gb_formats.specs.LoopbackDevice.{loopback_step}
+use Rattle.gb_formats.specs.Protocols.{gpio_protocol, i2c_protocol, loopback_protocol}
+use Rattle.gb_formats.specs.Protocols.{spi_protocol, uart_protocol}
 use Rattle.gb_formats.specs.Results.{Step, Stirred}
 use Rattle.gb_formats.specs.SpiDevice.{first_spi, spi_step}
 use Rattle.gb_formats.specs.UartDevice.{uart_step, serial_told}
 
--- A device: the lines of a GPIO, the memory of an I2C, the last byte of an SPI, or a UART.
+-- A device: the lines of a GPIO, the memory of an I2C, the last byte of an SPI, a UART, or a loopback.
 pub data Device : Type 0 where
   Gpio : List GpioLine → Device
   I2c : I2cDevice → Device
   Spi : ℕ → Device
   Uart : Device
+  Loopback : Device
 
 -- The device of a protocol in its first state, if there is one.
 abbrev pub device_of : ℕ → Option Device
@@ -24,6 +27,7 @@ device_of protocol =
     else if protocol == i2c_protocol then Some (I2c first_i2c)
     else if protocol == spi_protocol then Some (Spi first_spi)
     else if protocol == uart_protocol then Some Uart
+    else if protocol == loopback_protocol then Some Loopback
     else None
 
 -- The first state of a device, but that the levels of its lines stay.
@@ -32,6 +36,7 @@ restarted_device (Gpio lines) = Gpio (restarted_gpio lines)
 restarted_device (I2c device) = I2c first_i2c
 restarted_device (Spi last) = Spi first_spi
 restarted_device Uart = Uart
+restarted_device Loopback = Loopback
 
 -- ---- requests
 
@@ -45,6 +50,8 @@ device_step (Gpio lines) kind payload = as_device Gpio (gpio_step lines kind pay
 device_step (I2c device) kind payload = as_device I2c (i2c_step device kind payload)
 device_step (Spi last) kind payload = as_device Spi (spi_step last kind payload)
 device_step Uart kind payload = record { after = Uart; served = uart_step kind payload }
+device_step Loopback kind payload =
+    record { after = Loopback; served = loopback_step kind payload }
 
 -- ---- stirs from outside
 

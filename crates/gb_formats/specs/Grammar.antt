@@ -7,7 +7,7 @@ use Rattle.gb_base.specs.declared.event.Event.{Event}
 use Rattle.gb_base.specs.declared.event.Event.TheVariants as event
 use Rattle.gb_base.specs.declared.fault.LineReason.TheVariants as bad
 use Rattle.gb_base.specs.declared.name.Name.{Name}
-use Rattle.gb_formats.specs.BridgeForms.{gpio_form, i2c_form, spi_form, uart_form}
+use Rattle.gb_formats.specs.BridgeForms.{gpio_form, i2c_form, loopback_form, spi_form, uart_form}
 use Rattle.gb_formats.specs.Said.{Rest, next_word, by_word, next_cport, at_end}
 use Rattle.gb_formats.specs.WordValues.{name_word, intf_word, cport_word, count_word, from_one_word}
 use Rattle.gb_formats.specs.WordValues.{hex_word, type_word, kind_word}
@@ -160,6 +160,7 @@ by_first who w ws =
     else if bytes_eq w (codes "i2c") then i2c_form who ws
     else if bytes_eq w (codes "spi") then spi_form who ws
     else if bytes_eq w (codes "uart") then uart_form who ws
+    else if bytes_eq w (codes "loopback") then loopback_form who ws
     else Err (bad.BadWord 1)
 
 -- what the words of a line ask for; `who` is the requester

@@ -4,7 +4,8 @@ use Rattle.gb_base.specs.declared.event.Kind.{Kind}
 use Rattle.gb_base.specs.declared.event.Kind.TheVariants as kind
 use Rattle.gb_formats.specs.ManifestSpec.{ManifestSpec, StringSpec, BundleSpec, CportSpec, plain}
 use Rattle.gb_formats.specs.Protocols.{control_protocol, gpio_protocol, i2c_protocol, uart_protocol}
-use Rattle.gb_formats.specs.Protocols.{spi_protocol, control_class, bridged_class}
+use Rattle.gb_formats.specs.Protocols.{spi_protocol, loopback_protocol, control_class}
+use Rattle.gb_formats.specs.Protocols.{bridged_class, loopback_class}
 
 -- the product string of a kind
 abbrev pub product_of : Kind → List ℕ
@@ -13,6 +14,7 @@ product_of kind.I2c = codes "I2C"
 product_of kind.Spi = codes "SPI"
 product_of kind.Uart = codes "UART"
 product_of kind.Bridge = codes "Bridge"
+product_of kind.Loopback = codes "Loopback"
 
 -- a string with this id
 abbrev pub string_of : ℕ → List ℕ → StringSpec
@@ -35,6 +37,12 @@ kind_cports kind.Uart = cport_of 1 1 uart_protocol ∷ []
 kind_cports kind.Bridge =
     cport_of 1 1 gpio_protocol ∷ cport_of 2 1 i2c_protocol ∷ cport_of 3 1 spi_protocol
     ∷ cport_of 4 1 uart_protocol ∷ []
+kind_cports kind.Loopback = cport_of 1 1 loopback_protocol ∷ []
+
+-- the class of bundle 1
+abbrev pub class_of : Kind → ℕ
+class_of kind.Loopback = loopback_class
+class_of _ = bridged_class
 
 -- The spec of a kind's manifest: strings 1 and 2 for vendor and product, bundle 0 with CPort 0 for
 -- Control, and bundle 1 with the kind's CPorts.
@@ -45,7 +53,7 @@ kind_spec k = record {
   product = 2;
   features = 0;
   strings = string_of 1 (codes "Greybus") ∷ string_of 2 (product_of k) ∷ [];
-  bundles = bundle_of 0 control_class ∷ bundle_of 1 bridged_class ∷ [];
+  bundles = bundle_of 0 control_class ∷ bundle_of 1 (class_of k) ∷ [];
   cports = cport_of 0 0 control_protocol ∷ kind_cports k;
 }
 

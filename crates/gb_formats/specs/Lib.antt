@@ -16,6 +16,8 @@ pub mod I2cDevice
 pub mod I2cRecords
 pub mod Kinds
 pub mod Lines
+pub mod LoopbackDevice
+pub mod LoopbackRecords
 pub mod Made
 pub mod Manifest
 pub mod ManifestRules

@@ -22,6 +22,10 @@ uart_protocol = 0x04
 abbrev pub spi_protocol : ℕ
 spi_protocol = 0x0b
 
+-- the protocol of a loopback device
+abbrev pub loopback_protocol : ℕ
+loopback_protocol = 0x11
+
 -- the protocol of the supervisory controller's connection
 abbrev pub svc_protocol : ℕ
 svc_protocol = 0x14
@@ -33,3 +37,7 @@ control_class = 0x00
 -- the class of a bundle of bridged protocols, "Bridged PHY"
 abbrev pub bridged_class : ℕ
 bridged_class = 0x0a
+
+-- the class of a bundle of a loopback device
+abbrev pub loopback_class : ℕ
+loopback_class = 0x11

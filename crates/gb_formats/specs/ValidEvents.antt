@@ -115,6 +115,8 @@ HasForm (ask.UartSend bytes) = ⊤
 HasForm (ask.UartCoding rate format parity bits flow) =
     IsU32 rate × IsU8 format × IsU8 parity × IsU8 bits × IsU8 flow
 HasForm (ask.UartByte kind value) = ((kind ≡ 0x05) ⊎ (kind ≡ 0x06) ⊎ (kind ≡ 0x09)) × IsU8 value
+HasForm ask.LoopPing = ⊤
+HasForm (ask.LoopBytes kind bytes) = (kind ≡ 0x03) ⊎ (kind ≡ 0x04)
 
 -- ---- events
 

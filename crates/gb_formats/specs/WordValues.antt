@@ -114,4 +114,5 @@ kind_word w =
     else if bytes_eq w (codes "spi") then Some kind.Spi
     else if bytes_eq w (codes "uart") then Some kind.Uart
     else if bytes_eq w (codes "bridge") then Some kind.Bridge
+    else if bytes_eq w (codes "loopback") then Some kind.Loopback
     else None

@@ -67,3 +67,29 @@ pub spi_transfer : hex_behind (setup (codes "insert 2 spi"))
     ∷ codes "settled 2" ∷ [])
 unfolding report_opened
 spi_transfer = refl
+
+-- a loopback device sends back what it was sent, but for what it only takes
+pub loopback : hex_behind (setup (codes "insert 2 loopback"))
+    (codes "loopback @a 2 1 transfer 0a0b"
+    ∷ codes "settle 9"
+    ∷ codes "loopback @b 2 1 sink 0a"
+    ∷ codes "settle 9"
+    ∷ codes "loopback @c 2 1 ping"
+    ∷ codes "gpio @d 2 1 count" ∷ [])
+    ≡ text (codes "line 6 ok"
+    ∷ codes "ask #16 ap 2 > 2 1 type 03 size 22 16000100030000000200000000000000000000000a0b"
+    ∷ codes "line 7 ok"
+    ∷ codes "reply #16 2 1 > ap 2 result 00 size 22 16000100830000000200000000000000000000000a0b"
+    ∷ codes "end #16 answered 00 0200000000000000000000000a0b"
+    ∷ codes "settled 2"
+    ∷ codes "line 8 ok"
+    ∷ codes "ask #17 ap 2 > 2 1 type 04 size 21 15000200040000000100000000000000000000000a"
+    ∷ codes "line 9 ok"
+    ∷ codes "reply #17 2 1 > ap 2 result 00 size 8 0800020084000000"
+    ∷ codes "end #17 answered 00 -"
+    ∷ codes "settled 2"
+    ∷ codes "line 10 ok"
+    ∷ codes "ask #18 ap 2 > 2 1 type 02 size 8 0800030002000000"
+    ∷ codes "line 11 refused Unsupported" ∷ [])
+unfolding report_opened
+loopback = refl

@@ -28,9 +28,9 @@ abbrev pub is_failed_stage : IntfStage → Bool
 is_failed_stage stage.Failed = true
 is_failed_stage _ = false
 
--- the protocols that are connected: GPIO, I2C, UART and SPI
+-- the protocols that are connected: GPIO, I2C, UART, SPI and Loopback
 abbrev pub is_bridged : CportView → Bool
-is_bridged view = list_any (λ p. p == view.protocol) (0x02 ∷ 0x03 ∷ 0x04 ∷ 0x0b ∷ [])
+is_bridged view = list_any (λ p. p == view.protocol) (0x02 ∷ 0x03 ∷ 0x04 ∷ 0x0b ∷ 0x11 ∷ [])
 
 -- When a connect is refused, but for want of an identifier.
 abbrev pub connect_conditions : ℕ → ℕ → Host → List Condition
