@@ -37,8 +37,18 @@ fn cut(line: &[u8]) -> (&[u8], &[u8])
 }
 
 /// Whether a word is this one.
+#[inline]
 pub fn is(word: &[u8], this: &str) -> bool
     ensures { result ≡ bytes_eq word.now this.now }
 {
-    word == this.as_bytes()
+    let bytes = this.as_bytes();
+    if word.len() != bytes.len() {
+        return false;
+    }
+    for i in 0..word.len() {
+        if word[i] != bytes[i] {
+            return false;
+        }
+    }
+    true
 }
