@@ -10,7 +10,6 @@ pub mod i2c_kinds;
 mod i2c_reply;
 mod limits;
 mod reading;
-mod results;
 mod served;
 mod spi_ask;
 pub mod spi_kinds;
@@ -23,13 +22,14 @@ mod uart_reply;
 mod writing;
 
 pub use bridge_fault::BridgeFault;
-pub use gb_payload::PayloadFault;
+pub use gb_payload::{
+    INVALID, NONEXISTENT, OVERFLOW, PROTOCOL_BAD, PayloadFault, SUCCESS, fault_result,
+};
 pub use gpio_ask::GpioAsk;
 pub use gpio_reply::GpioReply;
 pub use i2c_ask::I2cAsk;
 pub use i2c_reply::I2cReply;
 pub use limits::MOST_PAYLOAD;
-pub use results::{INVALID, NONEXISTENT, OVERFLOW, PROTOCOL_BAD, SUCCESS, fault_result};
 pub use served::{answered, done, refused};
 pub use spi_ask::SpiAsk;
 pub use spi_reply::SpiReply;

@@ -4,8 +4,8 @@ ghost use Rattle.std.specs.Prelude.{◌≡◌, [], IfOk, IsOk};
 ghost use Rattle.gb_base.specs.Bytes.{AreFew};
 ghost use Rattle.gb_formats.specs.Results.{answer_of, refusal_of};
 
-use crate::results::SUCCESS;
 use gb_base::{Bytes, OutOfMemory, OwnAsks, Served};
+use gb_payload::SUCCESS;
 use std::alloc::Global;
 
 /// The answer of success with this payload, and no requests of the device's own. A payload of few

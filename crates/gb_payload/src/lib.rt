@@ -2,13 +2,14 @@
 #![tactic(auto)]
 
 mod control_ask;
-mod control_kinds;
+pub mod control_kinds;
 mod control_reply;
 mod fault;
 pub mod first;
 mod reading;
+mod results;
 mod svc_ask;
-mod svc_kinds;
+pub mod svc_kinds;
 mod svc_reply;
 mod writing;
 
@@ -16,6 +17,7 @@ pub use control_ask::ControlAsk;
 pub use control_reply::ControlReply;
 pub use fault::PayloadFault;
 pub use reading::{Fields, mismatch};
+pub use results::{INVALID, NONEXISTENT, OVERFLOW, PROTOCOL_BAD, SUCCESS, fault_result};
 pub use svc_ask::SvcAsk;
 pub use svc_reply::SvcReply;
 pub use writing::{Field, put};

@@ -5,12 +5,12 @@ ghost use Rattle.std.specs.Prelude.{◌≡◌};
 ghost use Rattle.gb_formats.specs.Results as formats;
 ghost use Rattle.gb_payload.specs.Answers.{fault_of};
 
-use gb_payload::PayloadFault;
+use crate::PayloadFault;
 
 /// The request was served.
 pub const SUCCESS: u8 = 0x00;
 
-/// The device has no request of this type.
+/// The responder has no request of this type.
 pub const PROTOCOL_BAD: u8 = 0x04;
 
 /// The answer would be too long.
