@@ -1,20 +1,22 @@
 -- An interface is absent from the handling of its removal to that of its next insertion, and no
 -- live connection names it then.
-use Rattle.std.proofs.Common.{Bool, None, Some, ap, false, inl, inr, refl, subst, sym, true, ℕ, []}
-use Rattle.std.proofs.Common.{◌∙◌, ◌≡◌}
+use Rattle.std.proofs.Common.{Bool, None, Option, Some, ap, false, inl, inr, refl, subst, sym, true}
+use Rattle.std.proofs.Common.{ℕ, [], ◌∙◌, ◌≡◌}
 use Rattle.std.specs.Prelude.{is_some, ◌==◌}
 use Rattle.gb_base.specs.declared.end.End.TheVariants as end
 use Rattle.gb_base.specs.declared.end.Side.TheVariants as side
 use Rattle.gb_base.specs.declared.host_event.HostEvent.TheVariants as host_event
-use Rattle.gb_base.specs.declared.peers.Link.{Link}
-use Rattle.gb_machine.specs.Bus.{Ask, Connection, Place, connection_of, place_of}
+use Rattle.gb_base.specs.declared.peers.{Interface.Interface, Link.Link}
+use Rattle.gb_machine.specs.Bus.{Ask, Connection, Place, Request, connection_of, place_of}
+use Rattle.gb_machine.specs.Bus.{request_of}
 use Rattle.gb_machine.specs.Host.{first_host, interface_of, link_of}
 use Rattle.gb_machine.specs.Runs.{IsMoment, Moment, after}
 use Rattle.gb_machine.specs.SvcQueues.{HandlesInsertion, HandlesRemoval, items_in}
 use Rattle.gb_machine.specs.{HostServing.served_on, LawsHotPlug.AbsentBetween}
 use Rattle.gb_machine.specs.{LawsHotPlug.AbsentIsUnconnected, Lists.first, Members.IsIn}
 use Rattle.gb_machine.specs.{State.State, Wiring.is_at}
-use Rattle.gb_invariants.proofs.{Awaiting.not-both, Lists.each-from, Numbers.found-by_number}
+use Rattle.gb_invariants.proofs.Awaiting.{not-both, same-some}
+use Rattle.gb_invariants.proofs.{Lists.each-from, Numbers.found-by_number}
 use Rattle.gb_invariants.proofs.{Outcomes.same-number}
 use Rattle.gb_laws.proofs.Links.{IsKnown, IsPresent, leaving, linked, supervisory}
 use Rattle.gb_laws.proofs.MarkKnown.{KnownAt, WasKnown, known-kept}
@@ -22,10 +24,12 @@ use Rattle.gb_laws.proofs.PointParts.{Basis, IsNoticed, resting}
 use Rattle.gb_laws.proofs.Runs.{HoldsAtMoments, HoldsByMoments, at_each, weaker}
 use Rattle.gb_laws.proofs.{Endpoints.ApartTo, Endpoints.apart-throughout, LinkFrom.Linked}
 use Rattle.gb_laws.proofs.{LinkKept.InsertsAbsent, LinkLaw.link_law, LinkRuns.start-absent}
-use Rattle.gb_laws.proofs.{MarkMoments.present-some, MarkMoments.some-present}
-use Rattle.gb_laws.proofs.{MarkNotices.notice-any, MarkNotices.told-by_svc, MarkTakes.no-link-one}
+use Rattle.gb_laws.proofs.MarkMoments.{present-some, some-none, some-present}
+use Rattle.gb_laws.proofs.MarkNotices.{IsToldBySvc, notice-any, reads-front, told-by_svc}
+use Rattle.gb_laws.proofs.Marks.{IsRemoval, known-there, known_at, notice_of}
+use Rattle.gb_laws.proofs.{MarkTakes.no-link-one}
 use Rattle.gb_laws.proofs.{Points.Law, Points.upon, Removing.removed-absent, SettleQueues.IsFarEnd}
-use Rattle.gb_laws.proofs.{SettleQueues.place-found, Steps.over-step, SvcKinds.removal-notice}
+use Rattle.gb_laws.proofs.{SettleQueues.place-found, Steps.over-step}
 
 -- ---- no live connection names an absent interface
 
@@ -45,6 +49,53 @@ unconnected i s links absent c live = by (links.known c live)
     by (linked l j of) = ap (is_at i) of.peer ∙ other l j (l.intf == i) refl
     by (leaving j) = absurd j
 
+-- ---- an insertion is handled
+
+-- what is known of interfaces, with what it stands on
+abbrev known_law : (m : Moment) → InsertsAbsent m → Law m
+known_law m absent =
+    upon (link_law m absent) (KnownAt m) (λ a x g h. known-kept m absent a x g.1 h)
+
+inserted-noticed : (m : Moment) → IsMoment m.event → ApartTo m.told m.before → (i : ℕ)
+    → interface_of i m.before.host ≡ None → is_some (interface_of i (after m).host) ≡ true
+    → IsNoticed m (host_event.Inserted i)
+inserted-noticed m one start i absent there = by (stays p.interface p.known)
+  where
+    p : IsPresent i (after m).host.interfaces
+    p = some-present i (after m).host there
+
+    stays : KnownAt m (resting [] (after m))
+    stays = (over-step m (known_law m (start-absent m start.links)) one (
+      (start.links.0, start.links.1),
+      λ x j. inl (record { interface = x; known = j; is = refl }),
+    )).1.1
+
+    by : WasKnown m p.interface.intf → IsNoticed m (host_event.Inserted i)
+    by (inl k) = absurd (not-both (is_some (interface_of i m.before.host))
+        (present-some m.before.host (subst (λ n. IsPresent n m.before.host.interfaces) p.is k))
+        (ap is_some absent))
+    by (inr n) = subst (λ k. IsNoticed m (host_event.Inserted k)) p.is n
+
+-- the front request says so
+inserted-told : (m : Moment) → IsMoment m.event → ApartTo m.told m.before → (i : ℕ)
+    → interface_of i m.before.host ≡ None → is_some (interface_of i (after m).host) ≡ true
+    → IsToldBySvc m (host_event.Inserted i)
+inserted-told m one start i absent there = told-by_svc m (host_event.Inserted i) start.links.0
+    start.links.1 (inserted-noticed m one start i absent there)
+
+inserted-at : (m : Moment) → IsMoment m.event → ApartTo m.told m.before → (i : ℕ)
+    → interface_of i m.before.host ≡ None → is_some (interface_of i (after m).host) ≡ true
+    → HandlesInsertion i m
+inserted-at m one start i absent there =
+    let t = inserted-told m one start i absent there in record {
+      number = t.number;
+      request = t.request;
+      is = t.is;
+      front = t.front;
+      made = t.made;
+      passes = t.tells;
+    }
+
 -- ---- a removal is handled
 
 pub far-end : (s : State) → Linked s.bus s.host [] → (c : Connection) → IsIn c s.bus.connections
@@ -56,11 +107,13 @@ far-end s links c live = by (links.known c live)
     by (linked l j of) = subst IsFarEnd (sym of.peer) tt
     by (leaving j) = absurd j
 
-removed-at : (m : Moment) → ApartTo m.told m.before → (i : ℕ) → HandlesRemoval i m
-    → interface_of i (after m).host ≡ None
-removed-at m start i h =
-    removed-absent m (end.Ap 0) p h.number i h.request h.is named refl front h.made none notices
+removed-at : (m : Moment) → IsMoment m.event → ApartTo m.told m.before → (i : ℕ)
+    → HandlesRemoval i m → interface_of i (after m).host ≡ None
+removed-at m one start i h = by (interface_of i m.before.host) refl
   where
+    r : IsRemoval h.number m.before.bus
+    r = start.links.2.pulled h.number i h.told
+
     basis : Basis (resting m.told m.before)
     basis = start.links.0
 
@@ -93,47 +146,44 @@ removed-at m start i h =
         ∙ no-link-one m.before.bus m.before.host.links
         (λ l k. (links.host.links.numbered l k).from_two)
 
-    notices : (served_on (link_of c.number m.before.host) h.request.kind h.request.payload
-        m.before.host).notices ≡ Some (host_event.Removed i)
-    notices = ap (λ o. (served_on o h.request.kind h.request.payload m.before.host).notices) none
-        ∙ notice-any h.request.kind h.request.payload m.before.host first_host
-        ∙ removal-notice i h.request h.passes
+    notices : (served_on (link_of c.number m.before.host) r.request.kind r.request.payload
+        m.before.host).notices ≡ Some (host_event.Removed r.primary)
+    notices = ap (λ o. (served_on o r.request.kind r.request.payload m.before.host).notices) none
+        ∙ notice-any r.request.kind r.request.payload m.before.host first_host ∙ r.notice
 
--- ---- an insertion is handled
+    -- what is known at the interface is the module that goes
+    own : (q : ℕ) → known_at i m.before.host ≡ Some q → q ≡ r.primary
+    own = (reads-front i h.number m.before r.request (host_event.Removed r.primary) start.links.2
+        h.front r.made r.notice true h.told).0
 
--- what is known of interfaces, with what it stands on
-abbrev known_law : (m : Moment) → InsertsAbsent m → Law m
-known_law m absent =
-    upon (link_law m absent) (KnownAt m) (λ a x g h. known-kept m absent a x g.1 h)
+    by : (o : Option Interface) → interface_of i m.before.host ≡ o
+        → interface_of i (after m).host ≡ None
+    by (Some x) e =
+        let known = known-there i m.before.host (ap is_some e) in
+        subst (λ k. interface_of k (after m).host ≡ None) (sym (own i known))
+        (removed-absent m (end.Ap 0) p h.number r.primary r.request h.is named refl front r.made
+        none notices)
+    by None e = still (is_some (interface_of i (after m).host)) refl
+      where
+        same-ask : (x y : ℕ) → Some (Ask x) ≡ Some (Ask y) → x ≡ y
+        same-ask x y f = cc
 
-inserted-at : (m : Moment) → IsMoment m.event → ApartTo m.told m.before → (i : ℕ)
-    → interface_of i m.before.host ≡ None → is_some (interface_of i (after m).host) ≡ true
-    → HandlesInsertion i m
-inserted-at m one start i absent there = by (stays p.interface p.known)
-  where
-    p : IsPresent i (after m).host.interfaces
-    p = some-present i (after m).host there
+        apart : (x y : ℕ) → Some (host_event.Inserted x) ≡ Some (host_event.Removed y) → ⊥
+        apart x y f = absurd cc
 
-    stays : KnownAt m (resting [] (after m))
-    stays = (over-step m (known_law m (start-absent m start.links)) one (
-      (start.links.0, start.links.1),
-      λ x j. inl (record { interface = x; known = j; is = refl }),
-    )).1.1
+        -- the front request tells one or the other
+        other : IsToldBySvc m (host_event.Inserted i) → ⊥
+        other t =
+            let numbers = same-ask t.number h.number (sym t.front ∙ h.front) in
+            let same = same-some t.request r.request
+            (sym t.made ∙ ap (λ n. request_of n m.before.bus) numbers ∙ r.made) in
+            apart i r.primary (sym t.notice
+            ∙ ap (λ (q : Request). notice_of q.kind q.payload) same ∙ r.notice)
 
-    by : WasKnown m p.interface.intf → HandlesInsertion i m
-    by (inl k) = absurd (not-both (is_some (interface_of i m.before.host))
-        (present-some m.before.host (subst (λ n. IsPresent n m.before.host.interfaces) p.is k))
-        (ap is_some absent))
-    by (inr n) =
-        let t = told-by_svc m (host_event.Inserted i) start.links.0 start.links.1
-        (subst (λ k. IsNoticed m (host_event.Inserted k)) p.is n) in record {
-          number = t.number;
-          request = t.request;
-          is = t.is;
-          front = t.front;
-          made = t.made;
-          passes = t.tells;
-        }
+        still : (t : Bool) → is_some (interface_of i (after m).host) ≡ t
+            → interface_of i (after m).host ≡ None
+        still false f = some-none i (after m).host f
+        still true f = absurd (other (inserted-told m one start i e f))
 
 -- ---- throughout
 
@@ -146,6 +196,6 @@ unconnected-by_moments = weaker ApartTo AbsentIsUnconnected
 -- An interface is absent from a removal to the next insertion.
 pub between-at_moments : HoldsAtMoments AbsentBetween
 between-at_moments = at_each ApartTo AbsentBetween apart-throughout (λ m one h. record {
-  removed = removed-at m h;
+  removed = removed-at m one h;
   inserted = inserted-at m one h;
 })

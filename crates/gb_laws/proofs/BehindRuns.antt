@@ -22,6 +22,7 @@ use Rattle.gb_laws.proofs.Links.{ArePending, IsDue, IsDueBy, IsFormed}
 use Rattle.gb_laws.proofs.PointParts.{Basis, Point, Wires, resting}
 use Rattle.gb_laws.proofs.Points.{Change, IsAskedBy, IsPlain, Law, acts_asked, asks, by_far}
 use Rattle.gb_laws.proofs.Points.{by_host, changed, names, upon}
+use Rattle.gb_laws.proofs.QuietRuns.{quiet-start}
 use Rattle.gb_laws.proofs.Runs.{HoldsByMoments, throughout, weaker}
 use Rattle.gb_laws.proofs.{Awaited.awaited-rest, ChangeBuses.keeps-requests, CreatingKept.far-side}
 use Rattle.gb_laws.proofs.{EnumLinks.LinksDone, EnumLinks.links-kept, EnumSettled.IsSettled}
@@ -127,9 +128,9 @@ pub record BehindTo (told : List Entry) (s : State) : Type 0 where
 module _ (m : Moment) (start : BehindTo m.told m.before) where
   abbrev behind_law : ℕ → Law m
   behind_law i = upon (upon (settled_law m start.settled i) (LinksDone i)
-      (λ a x g h. links-kept m (start-absent m start.settled.quiet.wired.links) i a x g.0.0.0.1
-      g.1 h)) (BehindAt i)
-      (λ a x g h. behind-kept m i a x g.0.0.0.0.0 g.0.0.0.0.1 g.0.0.0.1 g.0.1 g.1 h)
+      (λ a x g h. links-kept m (start-absent m start.settled.quiet.wired.links) i a x
+      g.0.0.0.0.1 g.1 h)) (BehindAt i)
+      (λ a x g h. behind-kept m i a x g.0.0.0.0.0.0 g.0.0.0.0.0.1 g.0.0.0.0.1 g.0.1 g.1 h)
 
   behind-over : IsMoment m.event → BehindTo (m.told ++ told_at m) (after m)
   behind-over one = record {
@@ -141,14 +142,10 @@ module _ (m : Moment) (start : BehindTo m.told m.before) where
     where
       over : (i : ℕ) → (w : Wires) × (behind_law i).holds
           (record (resting (m.told ++ told_at m) (after m)) { wires = w })
-      over i = let l = start.settled.quiet.wired.links in
-          over-step m (behind_law i) one (
-            (
-              ((((l.0, l.1), l.3), start.settled.quiet.quiet i), start.settled.settled i),
-              start.links i,
-            ),
-            start.behind i,
-          )
+      over i = over-step m (behind_law i) one (
+        ((quiet-start m start.settled.quiet i, start.settled.settled i), start.links i),
+        start.behind i,
+      )
 
 pub behind-throughout : HoldsByMoments BehindTo
 behind-throughout = throughout BehindTo (record {

@@ -46,10 +46,10 @@ came-link h i c f same l j = ⊎_elim (λ o. (l, o, same-link l))
 
 -- ---- who asks
 
-pub far-side : (m : Moment) (a : Point) (d : Draft) (c : _) → IsFarAsking m a.state c d
+pub far-side : (m : Moment) (a : Point) (d : Draft) (c : _) → IsFarAsking m c d
     → d.side ≡ side.Ap → ⊥
 far-side m a d c (by_module i p peer far) e = far-no-ap (sym far ∙ e)
-far-side m a d c (by_svc of far level) e = far-no-ap (sym far ∙ e)
+far-side m a d c (by_svc of far) e = far-no-ap (sym far ∙ e)
 
 -- what a line asks creates no connection
 plain-none : (a : Point) (d : Draft) (label : ℕ) → LinkedAt a → IsPlain a.state d

@@ -17,7 +17,8 @@ use Rattle.gb_invariants.proofs.{Awaiting.is_of-is, Lists.found-in, Lists.in-fil
 use Rattle.gb_invariants.proofs.{Outcomes.in-open_requests, Outcomes.same-number}
 use Rattle.gb_laws.proofs.PointParts.{AreQuiet, IsGivenUpFor, IsShutFor, Point, Unwired, asked_told}
 use Rattle.gb_laws.proofs.PointParts.{disconnected, idle, is_quiet, removed, sent_told}
-use Rattle.gb_laws.proofs.{LinkLists.found-link, LinkRuns.LinkedTo, MarkNotices.removal-handled}
+use Rattle.gb_laws.proofs.{LinkLists.found-link, LinkRuns.LinkedTo, MarkMoments.link-known}
+use Rattle.gb_laws.proofs.{MarkNotices.removal-handled}
 use Rattle.gb_laws.proofs.{Onward.IsOnward}
 
 -- ---- what causes an end
@@ -155,6 +156,7 @@ shut-cause m k b start (removed i l noticed live own) =
         subst (λ n. link_of n m.before.host ≡ Some l) own
             (found-link m.before.host.links l start.1.host.links.rise f.0),
         subst (λ j. HandlesRemoval j m) (sym (same-number l.intf i f.1))
-            (removal-handled i m start.0 start.1 noticed),
+            (removal-handled i i m start.0 start.1 start.2 (link-known i m.before l start.1
+            f.0 (same-number l.intf i f.1)) noticed),
       ),
     )

@@ -23,14 +23,15 @@ use Rattle.gb_laws.proofs.LinkActs.{host-served, with_more}
 use Rattle.gb_laws.proofs.PointParts.{Basis, Point, Wires, resting}
 use Rattle.gb_laws.proofs.Points.{Change, IsAskedBy, Law, acts_asked, acts_failed, asks, by_far}
 use Rattle.gb_laws.proofs.Points.{by_host, changed, names, serves, turns, upon}
-use Rattle.gb_laws.proofs.QuietRuns.{QuietTo, quiet-moment, quiet-throughout}
+use Rattle.gb_laws.proofs.QuietRuns.{QuietTo, quiet-moment, quiet-start, quiet-throughout}
+use Rattle.gb_laws.proofs.QuietRuns.{quiet_law}
 use Rattle.gb_laws.proofs.Runs.{HoldsByMoments, throughout, weaker}
 use Rattle.gb_laws.proofs.{Awaited.awaited-rest, AwaitsNewest.plain-none}
 use Rattle.gb_laws.proofs.{AwaitsOwn.waiting-interface, ChangeBuses.keeps-requests}
 use Rattle.gb_laws.proofs.{ChangeHosts.asks-kept, ChangeHosts.waits-kept, CreatingKept.far-side}
 use Rattle.gb_laws.proofs.{EnumDone.IsDone, EnumDone.done-unsent, EnumRuns.none-left}
 use Rattle.gb_laws.proofs.{LinkKept.InsertsAbsent, LinkKept.LinkedAt, LinkRuns.start-absent}
-use Rattle.gb_laws.proofs.{LinkRuns.there_law, Links.ArePending, Quiet.IsQuiet, QuietLaw.quiet-kept}
+use Rattle.gb_laws.proofs.{Links.ArePending, Quiet.IsQuiet}
 use Rattle.gb_laws.proofs.{Steps.over-step, SvcMoves.far-moves, SvcMoves.far-sent, SvcThere.There}
 use Rattle.gb_laws.specs.OwnWaits.{AskedLeavesNone, DoneLeavesNone}
 
@@ -120,11 +121,9 @@ pub record SettledTo (told : List Entry) (s : State) : Type 0 where
 
 module _ (m : Moment) (start : SettledTo m.told m.before) where
   abbrev pub settled_law : ℕ → Law m
-  settled_law i = upon (upon (there_law m (start-absent m start.quiet.wired.links)) (IsQuiet i)
-      (λ a x g h. quiet-kept m i start.quiet.wired.links.0 start.quiet.wired.links.1
-      start.quiet.wired.links.3 (start.quiet.quiet i) a x g.0.0 g.0.1 g.1 h)) (IsSettled i)
-      (λ a x g h. settled-kept m (start-absent m start.quiet.wired.links) i a x g.0.0.0 g.0.0.1
-      g.0.1 g.1 h)
+  settled_law i = upon (quiet_law m start.quiet i) (IsSettled i)
+      (λ a x g h. settled-kept m (start-absent m start.quiet.wired.links) i a x g.0.0.0.0
+      g.0.0.0.1 g.0.0.1 g.1 h)
 
   pub settled-over : IsMoment m.event → SettledTo (m.told ++ told_at m) (after m)
   settled-over one = record {
@@ -135,11 +134,7 @@ module _ (m : Moment) (start : SettledTo m.told m.before) where
     where
       over : (i : ℕ) → (w : Wires) × (settled_law i).holds
           (record (resting (m.told ++ told_at m) (after m)) { wires = w })
-      over i = let l = start.quiet.wired.links in
-          over-step m (settled_law i) one (
-            (((l.0, l.1), l.3), start.quiet.quiet i),
-            start.settled i,
-          )
+      over i = over-step m (settled_law i) one (quiet-start m start.quiet i, start.settled i)
 
 pub settled-throughout : HoldsByMoments SettledTo
 settled-throughout = throughout SettledTo (record {

@@ -3,11 +3,11 @@
 use Rattle.std.proofs.Common.{Bool, List, None, Option, Some, ap, append-nil, append_assoc, cond}
 use Rattle.std.proofs.Common.{false, inl, inr, map, refl, sym, true, ℕ, [], ◌++◌, ◌∙◌, ◌∷◌, ◌≡◌}
 use Rattle.std.proofs.Common.{◌⊎◌}
-use Rattle.std.specs.List.{filter}
+use Rattle.std.specs.List.{filter, list_any}
 use Rattle.std.specs.Prelude.{◌||◌}
 use Rattle.gb_base.specs.declared.end.Side.TheVariants as side
 use Rattle.gb_machine.specs.Bus.{Ask, Bus, Item, Raw, RawReply, Reply, Request, request_of}
-use Rattle.gb_machine.specs.SvcQueues.{is_enumeration_request, is_removal, is_reply_to}
+use Rattle.gb_machine.specs.SvcQueues.{is_enumeration_request, is_removal_in, is_reply_to}
 use Rattle.gb_machine.specs.SvcQueues.{request_onto, requests_among, svc_items}
 use Rattle.gb_machine.specs.{LawsSvc.IsStart, Lists.behind_first, Members.Each, Members.IsIn}
 use Rattle.gb_invariants.proofs.BusChanges.{KeepsRequests}
@@ -156,64 +156,31 @@ starts-requests (e ∷ es) h = (h.0, starts-requests es h.1)
 
 -- ---- removals
 
-abbrev pub request_removes : ℕ → Option Request → Bool
-request_removes i None = false
-request_removes i (Some r) = is_removal i r
-
-abbrev pub item_removes : ℕ → Bus → Item → Bool
-item_removes i b (Ask n) = request_removes i (request_of n b)
-item_removes i b _ = false
-
 -- the removal of an interface is among items
-abbrev pub removed_in : ℕ → Bus → List Item → Bool
-removed_in i b [] = false
-removed_in i b (x ∷ xs) = item_removes i b x || removed_in i b xs
+abbrev pub removed_in : ℕ → List (ℕ × ℕ) → List Item → Bool
+removed_in i ps xs = list_any (is_removal_in i ps) xs
 
 -- No reply to request n stands in front of a removal of an interface.
-abbrev pub IsClean : ℕ → ℕ → Bus → List Item → Type 0
-IsClean n i b [] = Unit {0}
-IsClean n i b (x ∷ xs) =
-    (removed_in i b xs ≡ true → is_reply_to n x ≡ false) × IsClean n i b xs
+abbrev pub IsClean : ℕ → ℕ → List (ℕ × ℕ) → List Item → Type 0
+IsClean n i ps [] = Unit {0}
+IsClean n i ps (x ∷ xs) =
+    (removed_in i ps xs ≡ true → is_reply_to n x ≡ false) × IsClean n i ps xs
 
-pub removed-unasked : (i : ℕ) (b : Bus) (xs : List Item) (y : Item) → item_removes i b y ≡ false
-    → removed_in i b (xs ++ y ∷ []) ≡ removed_in i b xs
-removed-unasked i b [] y e = ap (λ t. t || false) e
-removed-unasked i b (x ∷ xs) y e =
-    ap (λ t. item_removes i b x || t) (removed-unasked i b xs y e)
+pub removed-unasked : (i : ℕ) (ps : List (ℕ × ℕ)) (xs : List Item) (y : Item)
+    → is_removal_in i ps y ≡ false → removed_in i ps (xs ++ y ∷ []) ≡ removed_in i ps xs
+removed-unasked i ps [] y e = ap (λ t. t || false) e
+removed-unasked i ps (x ∷ xs) y e =
+    ap (λ t. is_removal_in i ps x || t) (removed-unasked i ps xs y e)
 
-pub clean-unasked : (n i : ℕ) (b : Bus) (xs : List Item) (y : Item) → item_removes i b y ≡ false
-    → IsClean n i b xs → IsClean n i b (xs ++ y ∷ [])
-clean-unasked n i b [] y e h = (λ t. absurd cc, tt)
-clean-unasked n i b (x ∷ xs) y e h =
-    (λ t. h.0 (sym (removed-unasked i b xs y e) ∙ t), clean-unasked n i b xs y e h.1)
-
--- where more requests were made
-removes-more : (i : ℕ) (b after : Bus) (x : Item) → KeepsRequests b after
-    → ((n : ℕ) → x ≡ Ask n → (r : Request) × (request_of n b ≡ Some r))
-    → item_removes i after x ≡ item_removes i b x
-removes-more i b after (Ask n) keeps made =
-    let m = made n refl in ap (request_removes i) (keeps n m.0 m.1 ∙ sym m.1)
-removes-more i b after _ keeps made = refl
-
-pub removed-more : (i : ℕ) (b after : Bus) (xs : List Item) → KeepsRequests b after
-    → AreAsked b xs → removed_in i after xs ≡ removed_in i b xs
-removed-more i b after [] keeps asked = refl
-removed-more i b after (x ∷ xs) keeps asked =
-    ap (λ t. t || removed_in i after xs)
-    (removes-more i b after x keeps (λ n e. asked n (inl (sym e))))
-    ∙ ap (λ t. item_removes i b x || t) (removed-more i b after xs keeps (λ n j. asked n (inr j)))
-
-pub clean-more : (n i : ℕ) (b after : Bus) (xs : List Item) → KeepsRequests b after
-    → AreAsked b xs → IsClean n i b xs → IsClean n i after xs
-clean-more n i b after [] keeps asked h = tt
-clean-more n i b after (x ∷ xs) keeps asked h = (
-  λ t. h.0 (sym (removed-more i b after xs keeps (λ n j. asked n (inr j))) ∙ t),
-  clean-more n i b after xs keeps (λ n j. asked n (inr j)) h.1,
-)
+pub clean-unasked : (n i : ℕ) (ps : List (ℕ × ℕ)) (xs : List Item) (y : Item)
+    → is_removal_in i ps y ≡ false → IsClean n i ps xs → IsClean n i ps (xs ++ y ∷ [])
+clean-unasked n i ps [] y e h = (λ t. absurd cc, tt)
+clean-unasked n i ps (x ∷ xs) y e h =
+    (λ t. h.0 (sym (removed-unasked i ps xs y e) ∙ t), clean-unasked n i ps xs y e h.1)
 
 -- nothing is in front where no reply to it is there
-pub clean-none : (n i : ℕ) (b : Bus) (xs : List Item)
-    → ((x : Item) → IsIn x xs → is_reply_to n x ≡ false) → IsClean n i b xs
-clean-none n i b [] none = tt
-clean-none n i b (x ∷ xs) none =
-    (λ t. none x (inl refl), clean-none n i b xs (λ y j. none y (inr j)))
+pub clean-none : (n i : ℕ) (ps : List (ℕ × ℕ)) (xs : List Item)
+    → ((x : Item) → IsIn x xs → is_reply_to n x ≡ false) → IsClean n i ps xs
+clean-none n i ps [] none = tt
+clean-none n i ps (x ∷ xs) none =
+    (λ t. none x (inl refl), clean-none n i ps xs (λ y j. none y (inr j)))

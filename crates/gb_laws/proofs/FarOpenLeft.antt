@@ -23,7 +23,8 @@ use Rattle.gb_laws.proofs.Points.{Change, IsAsking, IsOver, acts_asked, acts_fai
 use Rattle.gb_laws.proofs.Points.{acts_opened, acts_shut, acts_told, asking, changed, opening}
 use Rattle.gb_laws.proofs.Points.{turns, unwires, wires}
 use Rattle.gb_laws.proofs.{Creating.destroys_one, Creating.is_destroy, FarOpenKept.HasStep}
-use Rattle.gb_laws.proofs.{FarOpenKept.WaitsKinds, LinkLists.one-link, MarkNotices.removal-handled}
+use Rattle.gb_laws.proofs.{FarOpenKept.WaitsKinds, LinkLists.one-link, MarkMoments.link-known}
+use Rattle.gb_laws.proofs.{MarkNotices.removal-handled}
 use Rattle.gb_laws.proofs.{QuietRuns.leaves, QuietRuns.waits-before, StaleBase.StaleBase}
 use Rattle.gb_laws.proofs.{StillWaiting.IsFront, SvcOrder.none-earlier, WiredRemembered.so-kept}
 
@@ -74,7 +75,8 @@ module _ (m : Moment) (start : GoneTo m.told m.before) where
           let links = start.wiring.stale.since.links in
           each-in (λ c. is_wired_to i c ≡ false) m.before.bus.connections w.connection
           ((leaves m.told m.before start.wiring.stale.quiet).unwired i (waits-before i m
-          (removal-handled i m links.0 links.1 n))) w.live
+          (removal-handled i i m links.0 links.1 links.2
+          (link-known i m.before l links.1 known at) n))) w.live
 
       by : IsKnown w.connection m.before.host.links [] → ⊥
       by (supervisory one) =

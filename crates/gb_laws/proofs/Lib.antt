@@ -4,6 +4,7 @@ pub mod Points
 pub mod ChangeBuses
 pub mod ChangeHosts
 pub mod Awaited
+pub mod Pulls
 pub mod Onward
 pub mod Places
 pub mod Since

@@ -14,7 +14,7 @@ use Rattle.gb_machine.specs.Runs.{IsMoment, Moment, after}
 use Rattle.gb_machine.specs.{Bus.first_bus, Bus.svc_connection, Events.decided, Events.step}
 use Rattle.gb_machine.specs.{Plugging.plugs, Refusals.insert_conditions, Refusals.refusal}
 use Rattle.gb_machine.specs.{State.State, State.first_state}
-use Rattle.gb_invariants.proofs.Awaiting.{not-both}
+use Rattle.gb_invariants.proofs.Awaiting.{none-some, not-both}
 use Rattle.gb_laws.proofs.Basics.{Based, basis-first, rested}
 use Rattle.gb_laws.proofs.MarkMoments.{inserts-absent, marks-delivered, marks-still, refused-state}
 use Rattle.gb_laws.proofs.Points.{IsOfSvc, Law, upon}
@@ -86,9 +86,10 @@ there_law m absent = upon (link_law m absent) (λ a. There a.state.bus)
 
 marks-first_state : MarksFit first_state
 marks-first_state = record {
-  reads = λ i e. absurd (not-both false e refl);
+  reads = λ i p e. absurd (none-some e);
   unstarted = λ e i. (refl, refl);
   differ = tt;
+  pulled = λ n i e. absurd (not-both false e refl);
 }
 
 there-first_state : There first_bus

@@ -1,6 +1,6 @@
 -- What the application processor takes notice of comes on the supervisory controller's connection.
 use Rattle.std.proofs.Common.{Bool, List, None, Option, Some, ap, cond, false, inl, inr, refl}
-use Rattle.std.proofs.Common.{subst, sym, true, ℕ, [], ◌∙◌, ◌≡◌, ◌⊎◌}
+use Rattle.std.proofs.Common.{subst, sym, true, ℕ, [], ◌++◌, ◌∙◌, ◌∷◌, ◌≡◌, ◌⊎◌}
 use Rattle.std.specs.Prelude.{Err, Ok, Result, option_map, ◌==◌}
 use Rattle.gb_base.specs.declared.end.End.TheVariants as end
 use Rattle.gb_base.specs.declared.end.Side.TheVariants as side
@@ -13,22 +13,24 @@ use Rattle.gb_formats.specs.SvcRecords.{SvcAsk, read_svc_ask, read_svc_ask_of_sv
 use Rattle.gb_formats.specs.{GpioRecords.GpioAsk, GpioRecords.read_gpio_ask_of_module}
 use Rattle.gb_formats.specs.{UartDevice.credits_added, UartRecords.UartAsk}
 use Rattle.gb_formats.specs.{UartRecords.read_uart_ask_of_module}
-use Rattle.gb_machine.specs.Bus.{Ask, Bus, Connection, Item, Request}
-use Rattle.gb_machine.specs.Bus.{connection_of, end_of, queue, request_of}
+use Rattle.gb_machine.specs.Bus.{Ask, Bus, Connection, Item, Request, connection_of, end_of, queue}
+use Rattle.gb_machine.specs.Bus.{request_of}
 use Rattle.gb_machine.specs.Host.{Host, first_host, link_of}
 use Rattle.gb_machine.specs.HostServing.{HostServed, credited, host_refuses, interrupted}
 use Rattle.gb_machine.specs.HostServing.{notified_by, served_on, serves_gpio, serves_svc}
 use Rattle.gb_machine.specs.HostServing.{serves_uart, uart_notified_by}
 use Rattle.gb_machine.specs.Incoming.{Incoming, incoming, request_in}
-use Rattle.gb_machine.specs.SvcQueues.{HandlesRemoval, inserts, items_in, removes, svc_items}
-use Rattle.gb_machine.specs.{Lists.first, Runs.Moment}
+use Rattle.gb_machine.specs.SvcQueues.{HandlesRemoval, inserts, is_told, items_in, svc_items}
+use Rattle.gb_machine.specs.{Lists.behind_first, Lists.first, Runs.Moment, State.State}
 use Rattle.gb_invariants.proofs.Awaiting.{none-some, not-both, same-some}
 use Rattle.gb_invariants.proofs.{Found.find-none, ItemChanges.first-in, Numbers.found-by_number}
 use Rattle.gb_invariants.proofs.{Outcomes.is-same}
 use Rattle.gb_invariants.specs.Facts.{is_numbered}
 use Rattle.gb_laws.proofs.Links.{IsKnown, leaving, linked, supervisory}
 use Rattle.gb_laws.proofs.PointParts.{Basis, IsNoticed, resting}
-use Rattle.gb_laws.proofs.{LinkFrom.Linked, Marks.notice_of, Places.place-is}
+use Rattle.gb_laws.proofs.Marks.{MarksFit, Reads, known_at, mark_in, marks_of, notice_of}
+use Rattle.gb_laws.proofs.Marks.{plugged_at, request_mark}
+use Rattle.gb_laws.proofs.{LinkFrom.Linked, Places.place-is}
 
 -- ---- nothing is noticed on the connection of a module
 
@@ -66,7 +68,7 @@ unnoticed l kind payload h =
 -- the record that says so
 abbrev pub Tells : HostEvent → Result SvcAsk PayloadFault → Type 0
 Tells (host_event.Inserted i) r = inserts i r ≡ true
-Tells (host_event.Removed i) r = removes i r ≡ true
+Tells (host_event.Removed i) r = r ≡ Ok (SvcAsk.ModuleRemoved i)
 Tells _ r = ⊥
 
 told-by : (e : HostEvent) (r : Result SvcAsk PayloadFault) (h : Host)
@@ -75,8 +77,7 @@ told-by e (Ok (SvcAsk.ModuleInserted j count flags)) h f =
     subst (λ x. Tells x (Ok (SvcAsk.ModuleInserted j count flags)))
     (same-some (host_event.Inserted j) e f) (is-same j)
 told-by e (Ok (SvcAsk.ModuleRemoved j)) h f =
-    subst (λ x. Tells x (Ok (SvcAsk.ModuleRemoved j))) (same-some (host_event.Removed j) e f)
-    (is-same j)
+    subst (λ x. Tells x (Ok (SvcAsk.ModuleRemoved j))) (same-some (host_event.Removed j) e f) refl
 told-by e _ h f = absurd cc
 
 -- a request of the far side is read as any other is, or is none of its
@@ -116,6 +117,7 @@ pub record IsToldBySvc (m : Moment) (e : HostEvent) : Type 0 where
   pub is : m.event ≡ event.Deliver (end.Ap 0)
   pub front : first (svc_items side.Ap m.before.bus) ≡ Some (Ask number)
   pub made : request_of number m.before.bus ≡ Some request
+  pub notice : notice_of request.kind request.payload ≡ Some e
   pub tells : Tells e (read_svc_ask request.kind request.payload)
 
 -- the connection without a link is the supervisory controller's
@@ -207,19 +209,46 @@ told-by_svc m e basis links n =
       front = ap (λ o. first (items_in side.Ap o)) found ∙ ap (λ s. first (queue s c)) (sym n.side)
           ∙ n.front ∙ ap Some f.item;
       made = f.made;
+      notice = f.notice;
       tells = told-svc e f.request.kind f.request.payload first_host f.notice;
     }
 
--- a removal that is noticed is handled at that moment
-pub removal-handled : (i : ℕ) (m : Moment) → Basis (resting m.told m.before)
-    → Linked m.before.bus m.before.host [] → IsNoticed m (host_event.Removed i)
-    → HandlesRemoval i m
-removal-handled i m basis links n =
-    let t = told-by_svc m (host_event.Removed i) basis links n in record {
-      number = t.number;
-      request = t.request;
-      is = t.is;
-      front = t.front;
-      made = t.made;
-      passes = t.tells;
-    }
+-- ---- removals
+
+pub first-behind : (xs : List Item) (x : Item) → first xs ≡ Some x → xs ≡ x ∷ behind_first xs
+first-behind [] x e = absurd cc
+first-behind (y ∷ ys) x e = ap (λ z. z ∷ ys) (same-some y x e)
+
+-- the front request is read first
+pub reads-front : (i n : ℕ) (s : State) (r : Request) (e : HostEvent) → MarksFit s
+    → first (svc_items side.Ap s.bus) ≡ Some (Ask n) → request_of n s.bus ≡ Some r
+    → notice_of r.kind r.payload ≡ Some e → (t : Bool) → is_told n i s.past.pulled ≡ t
+    → Reads (known_at i s.host) (mark_in i t (Some e) ++ marks_of i s.past.pulled s.bus
+    (behind_first (svc_items side.Ap s.bus))) (plugged_at i s.modules)
+reads-front i n s r e start front made notice t told =
+    subst (λ ms. Reads (known_at i s.host) ms (plugged_at i s.modules))
+    (ap (marks_of i s.past.pulled s.bus) (first-behind (svc_items side.Ap s.bus) (Ask n) front)
+    ∙ ap (λ ms. ms ++ marks_of i s.past.pulled s.bus (behind_first (svc_items side.Ap s.bus)))
+    (ap (request_mark i (is_told n i s.past.pulled)) made
+    ∙ ap (mark_in i (is_told n i s.past.pulled)) notice
+    ∙ ap (λ u. mark_in i u (Some e)) told)) (start.reads i)
+
+-- The removal of the module that is known at an interface is the removal of that interface: where
+-- the one is noticed, the other is handled at that moment.
+pub removal-handled : (i p : ℕ) (m : Moment) → Basis (resting m.told m.before)
+    → Linked m.before.bus m.before.host [] → MarksFit m.before → known_at i m.before.host ≡ Some p
+    → IsNoticed m (host_event.Removed p) → HandlesRemoval i m
+removal-handled i p m basis links start known n = record {
+  number = t.number;
+  is = t.is;
+  front = t.front;
+  told = by (is_told t.number i m.before.past.pulled) refl;
+}
+  where
+    t : IsToldBySvc m (host_event.Removed p)
+    t = told-by_svc m (host_event.Removed p) basis links n
+
+    by : (own : Bool) → is_told t.number i m.before.past.pulled ≡ own → own ≡ true
+    by true e = refl
+    by false e = absurd ((reads-front i t.number m.before t.request (host_event.Removed p) start
+        t.front t.made t.notice false e).0 known)

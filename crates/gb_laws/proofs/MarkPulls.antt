@@ -1,27 +1,35 @@
 -- Insertions and removals come in turn where a module is pulled.
-use Rattle.std.proofs.Common.{Bool, List, None, Option, Some, ap, append-nil, cond, false, refl}
-use Rattle.std.proofs.Common.{subst, sym, true, ℕ, [], ◌++◌, ◌∙◌, ◌∷◌, ◌≡◌, ◌≢◌}
+use Rattle.std.proofs.Common.{Bool, List, None, Option, Some, ap, cond, false, refl, subst, sym}
+use Rattle.std.proofs.Common.{true, ℕ, [], ◌++◌, ◌∙◌, ◌∷◌, ◌≡◌, ◌≢◌}
 use Rattle.std.specs.List.{find}
 use Rattle.std.specs.Prelude.{is_none, is_some, not, option_map, ◌==◌}
 use Rattle.gb_base.specs.declared.end.Side.TheVariants as side
+use Rattle.gb_base.specs.declared.peers.Interface.{Interface}
 use Rattle.gb_formats.specs.SvcRecords.{SvcAsk, svc_ask_kind, svc_ask_payload}
 use Rattle.gb_machine.proofs.Opened.{machine_opened}
 use Rattle.gb_machine.specs.Bus.{Ask, Bus, Connection, Item, Raw, RawReply, Reply, connection_of}
-use Rattle.gb_machine.specs.Bus.{has_number}
+use Rattle.gb_machine.specs.Bus.{has_number, next_number}
 use Rattle.gb_machine.specs.Members.{Each, EachTwo, IsIn}
 use Rattle.gb_machine.specs.Modules.{is_plugged, is_plugged_at, unplugged}
-use Rattle.gb_machine.specs.Plugging.{pulls, wired_numbers, with_pulled}
+use Rattle.gb_machine.specs.Plugging.{pulls, tells_removed, wired_numbers, with_pulled, with_told}
 use Rattle.gb_machine.specs.{Actions.each, Actions.when, Host.interface_of, Labels.next_label}
 use Rattle.gb_machine.specs.{Lists.at_first, Lists.nth, OwnAsking.svc_asks, Refusals.has_no_label}
-use Rattle.gb_machine.specs.{Requests.is_used, State.Plugged, State.State, SvcQueues.items_in}
-use Rattle.gb_machine.specs.{SvcQueues.svc_items, Wires.unwires}
-use Rattle.gb_invariants.proofs.{Awaiting.not-both, Drawing.next_label-same, Drawing.used-unwired}
+use Rattle.gb_machine.specs.State.{Past, Plugged, State}
+use Rattle.gb_machine.specs.SvcQueues.{is_told, items_in, svc_items}
+use Rattle.gb_machine.specs.{Requests.is_used, Wires.unwires}
+use Rattle.gb_invariants.proofs.Awaiting.{none-some, not-both}
+use Rattle.gb_invariants.proofs.Drawing.{next_label-same, used-unwired}
+use Rattle.gb_invariants.proofs.BusChanges.{KeepsRequests}
 use Rattle.gb_invariants.proofs.{Found.find-left, Lists.two-filter, Numbers.found-by_number}
 use Rattle.gb_invariants.proofs.{Outcomes.is-same, Outcomes.same-number, Selves.module-no-svc}
 use Rattle.gb_invariants.specs.Facts.{IsBefore}
-use Rattle.gb_laws.proofs.MarkTells.{QueueIsAsked, after-ask, ask-told, tells-removed}
-use Rattle.gb_laws.proofs.Marks.{AreElsewhere, MarksFit, Reads, item_mark, mark_in, marks, marks_of}
-use Rattle.gb_laws.proofs.Marks.{notice_of, reads-removed, request_mark}
+use Rattle.gb_laws.proofs.MarkTells.{AfterAsk, IsToldThen, QueueIsAsked, after-ask, ask-told}
+use Rattle.gb_laws.proofs.MarkTells.{tells-removed}
+use Rattle.gb_laws.proofs.Marks.{AreElsewhere, ArePulled, IsRemoval, MarksFit, Reads, item_mark}
+use Rattle.gb_laws.proofs.Marks.{known_at, mark_in, marks, marks-recalled, marks_of, next-none}
+use Rattle.gb_laws.proofs.Marks.{notice_of, plugged-primary, plugged_at, pulled-more, reads-other}
+use Rattle.gb_laws.proofs.Marks.{reads-removed, request_mark, told-new, told-other, untold-yet}
+use Rattle.gb_laws.proofs.Marks.{went}
 use Rattle.gb_laws.proofs.{LinkFrom.Linked, Points.IsLive, SvcThere.There, Ticking.wired-live}
 
 -- what of the supervisory controller's connection stays where others are unwired
@@ -33,6 +41,7 @@ pub record SameSvc (s t : State) : Type 0 where
   pub modules : t.modules ≡ s.modules
   pub ports : t.ports ≡ s.ports
   pub started : t.booted ≡ s.booted
+  pub past : t.past ≡ s.past
 
 -- what is found by number 1 stays where a connection with another number changes
 find-past : (k : ℕ) (f : Connection → Connection) (cs : List Connection)
@@ -65,6 +74,7 @@ unwires-svc [] other = record {
   modules = refl;
   ports = refl;
   started = refl;
+  past = refl;
 }
 unwires-svc (n ∷ ns) {s} other =
     let r = unwires-svc ns other.1 in record {
@@ -77,6 +87,7 @@ unwires-svc (n ∷ ns) {s} other =
       modules = r.modules;
       ports = r.ports;
       started = r.started;
+      past = r.past;
     }
 
 -- the numbers of connections to modules aren't 1
@@ -93,22 +104,23 @@ wired-others i s links =
     )
 
 -- marks are those of the same requests
-marks-same : (j : ℕ) (b after : Bus) (xs : List Item) → after.requests ≡ b.requests
-    → marks_of j after xs ≡ marks_of j b xs
-marks-same j b after [] e = refl
-marks-same j b after (x ∷ xs) e = ap (λ ms. ms ++ marks_of j after xs) (one x)
-    ∙ ap (λ ms. item_mark j b x ++ ms) (marks-same j b after xs e)
+marks-same : (j : ℕ) (ps : List (ℕ × ℕ)) (b after : Bus) (xs : List Item)
+    → after.requests ≡ b.requests → marks_of j ps after xs ≡ marks_of j ps b xs
+marks-same j ps b after [] e = refl
+marks-same j ps b after (x ∷ xs) e = ap (λ ms. ms ++ marks_of j ps after xs) (one x)
+    ∙ ap (λ ms. item_mark j ps b x ++ ms) (marks-same j ps b after xs e)
   where
-    one : (y : Item) → item_mark j after y ≡ item_mark j b y
-    one (Ask n) = ap (λ rs. request_mark j (nth n rs)) e
+    one : (y : Item) → item_mark j ps after y ≡ item_mark j ps b y
+    one (Ask n) = ap (λ rs. request_mark j (is_told n j ps) (nth n rs)) e
     one (Reply n result payload) = refl
     one (Raw bytes) = refl
     one (RawReply label kind result payload) = refl
 
-svc-marks : (s : State) {t : State} → SameSvc s t → (j : ℕ) → marks j t.bus ≡ marks j s.bus
-svc-marks s {t} h j =
-    ap (λ o. marks_of j t.bus (items_in side.Ap o)) h.connection
-    ∙ marks-same j s.bus t.bus (svc_items side.Ap s.bus) h.requests
+svc-marks : (s : State) {t : State} → SameSvc s t → (j : ℕ) (ps : List (ℕ × ℕ))
+    → marks j ps t.bus ≡ marks j ps s.bus
+svc-marks s {t} h j ps =
+    ap (λ o. marks_of j ps t.bus (items_in side.Ap o)) h.connection
+    ∙ marks-same j ps s.bus t.bus (svc_items side.Ap s.bus) h.requests
 
 pub svc-asked : (s : State) {t : State} → SameSvc s t → QueueIsAsked s.bus → QueueIsAsked t.bus
 svc-asked s h asked n i =
@@ -116,17 +128,128 @@ svc-asked s h asked n i =
     (a.0, ap (nth n) h.requests ∙ a.1)
 
 -- what is plugged once a module is pulled
-pub pulled-other : (i j : ℕ) (ms : List Plugged) → (i == j) ≡ false
-    → is_plugged j (unplugged i ms) ≡ is_plugged j ms
-pulled-other i j ms e =
-    ap (λ o. is_some (option_map (λ (p : Plugged). p.body) o))
-    (find-left (is_plugged_at j) (is_plugged_at i) ms
-    (λ p f. by p (p.intf == i) refl (same-number p.intf j f)))
+found-left : (i j : ℕ) (ms : List Plugged) → (i == j) ≡ false
+    → find (is_plugged_at j) (unplugged i ms) ≡ find (is_plugged_at j) ms
+found-left i j ms e = find-left (is_plugged_at j) (is_plugged_at i) ms
+    (λ p f. by p (p.intf == i) refl (same-number p.intf j f))
   where
     by : (p : Plugged) → (t : Bool) → (p.intf == i) ≡ t → p.intf ≡ j → t ≡ false
     by p false f same = refl
     by p true f same = absurd (not-both (i == j)
         (ap (λ n. n == j) (sym (same-number p.intf i f) ∙ same) ∙ is-same j) e)
+
+pub pulled-other : (i j : ℕ) (ms : List Plugged) → (i == j) ≡ false
+    → is_plugged j (unplugged i ms) ≡ is_plugged j ms
+pulled-other i j ms e =
+    ap (λ o. is_some (option_map (λ (p : Plugged). p.body) o)) (found-left i j ms e)
+
+-- a module was pulled, and nothing is told of that yet
+record IsAway (i : ℕ) (s t : State) : Type 0 where
+  marks_still : (j : ℕ) (ps : List (ℕ × ℕ)) → marks j ps t.bus ≡ marks j ps s.bus
+  host : t.host ≡ s.host
+  modules : t.modules ≡ unplugged i s.modules
+  started : t.booted ≡ s.booted
+  past : t.past ≡ s.past
+  keeps : KeepsRequests s.bus t.bus
+  asked : QueueIsAsked t.bus
+
+-- what stays plugged is at different interfaces
+away-differ : (i : ℕ) (s t : State) → MarksFit s → IsAway i s t → EachTwo AreElsewhere t.modules
+away-differ i s t start away = subst (EachTwo AreElsewhere) (sym away.modules)
+    (two-filter AreElsewhere (λ p. not (is_plugged_at i p)) s.modules start.differ)
+
+away-pulled : (i : ℕ) (s t : State) → MarksFit s → IsAway i s t → ArePulled s.past.pulled t.bus
+away-pulled i s t start away = pulled-more s.past.pulled s.bus t.bus away.keeps start.pulled
+
+-- before the supervisory controller has started nothing is told
+untold-kept : (i : ℕ) (s t : State) → MarksFit s → IsAway i s t → s.booted ≡ false → MarksFit t
+untold-kept i s t start away unbooted = record {
+  reads = λ j. subst (λ l. Reads (known_at j t.host) l (plugged_at j t.modules))
+      (sym (unmarked j)) (λ p e. absurd (none-some
+      (sym (ap (option_map (λ (x : Interface). x.intf)) (unknown j)) ∙ e)));
+  unstarted = λ e j. (unmarked j, unknown j);
+  differ = away-differ i s t start away;
+  pulled = subst (λ (q : Past). ArePulled q.pulled t.bus) (sym away.past)
+      (away-pulled i s t start away);
+}
+  where
+    unmarked : (j : ℕ) → marks j t.past.pulled t.bus ≡ []
+    unmarked j = ap (λ (q : Past). marks j q.pulled t.bus) away.past
+        ∙ away.marks_still j s.past.pulled ∙ (start.unstarted unbooted j).0
+
+    unknown : (j : ℕ) → interface_of j t.host ≡ None
+    unknown j = ap (interface_of j) away.host ∙ (start.unstarted unbooted j).1
+
+-- behind it the removal is told, and remembered
+told-kept : (i : ℕ) (s u t : State) → MarksFit s → IsAway i s u
+    → AfterAsk u t (notice_of (svc_ask_kind (SvcAsk.ModuleRemoved i))
+    (svc_ask_payload (SvcAsk.ModuleRemoved i)))
+    → IsToldThen (SvcAsk.ModuleRemoved i) u t → s.booted ≡ true
+    → MarksFit (with_told (next_number u.bus) i t)
+told-kept i s u t start away a told booted = record {
+  reads = λ j. subst (λ h. Reads (known_at j h) (marks j (t.past.pulled ++ (n, i) ∷ []) t.bus)
+      (plugged_at j t.modules)) (sym (a.host ∙ away.host))
+      (subst (λ ms. Reads (known_at j s.host) (marks j (t.past.pulled ++ (n, i) ∷ []) t.bus)
+      (plugged_at j ms)) (sym (a.modules ∙ away.modules))
+      (subst (λ ms. Reads (known_at j s.host) ms (plugged_at j (unplugged i s.modules)))
+      (sym (marked j)) (reads j (i == j) refl)));
+  unstarted = λ e. absurd (not-both t.booted (a.started ∙ away.started ∙ booted) e);
+  differ = subst (EachTwo AreElsewhere) (sym a.modules) (away-differ i s u start away);
+  pulled = λ k j e. remembered k j (n == k) refl e;
+}
+  where
+    n : ℕ
+    n = next_number u.bus
+
+    past : t.past.pulled ≡ s.past.pulled
+    past = ap (λ (q : Past). q.pulled) (a.past ∙ away.past)
+
+    untold : (j : ℕ) → is_told (next_number u.bus) j s.past.pulled ≡ false
+    untold j = untold-yet (next_number u.bus) j s.past.pulled u.bus
+        (away-pulled i s u start away) (next-none u.bus)
+
+    marked : (j : ℕ) → marks j (t.past.pulled ++ (next_number u.bus, i) ∷ []) t.bus
+        ≡ marks j s.past.pulled s.bus ++ went i (i == j) ∷ []
+    marked j =
+        ap (λ ps. marks j (ps ++ (next_number u.bus, i) ∷ []) t.bus) past
+        ∙ told.marks_after j (s.past.pulled ++ (next_number u.bus, i) ∷ [])
+        ∙ ap (λ o. marks j (s.past.pulled ++ (next_number u.bus, i) ∷ []) u.bus ++ mark_in j
+        (is_told (next_number u.bus) j (s.past.pulled ++ (next_number u.bus, i) ∷ [])) o)
+        (tells-removed i)
+        ∙ ap (λ own. marks j (s.past.pulled ++ (next_number u.bus, i) ∷ []) u.bus
+        ++ went i own ∷ []) (told-new (next_number u.bus) i j s.past.pulled (untold j))
+        ∙ ap (λ ms. ms ++ went i (i == j) ∷ [])
+        (marks-recalled (next_number u.bus) i j s.past.pulled u.bus (svc_items side.Ap u.bus)
+        away.asked (next-none u.bus) ∙ away.marks_still j s.past.pulled)
+
+    reads : (j : ℕ) (own : Bool) → (i == j) ≡ own
+        → Reads (known_at j s.host) (marks j s.past.pulled s.bus ++ went i own ∷ [])
+        (plugged_at j (unplugged i s.modules))
+    reads j true e = reads-removed (known_at j s.host) (marks j s.past.pulled s.bus) i
+        (plugged_at j s.modules) (plugged_at j (unplugged i s.modules))
+        (λ q k. plugged-primary j q s.modules k ∙ sym (same-number i j e)) (start.reads j)
+    reads j false e = subst (Reads (known_at j s.host)
+        (marks j s.past.pulled s.bus ++ went i false ∷ []))
+        (sym (ap (option_map (λ (p : Plugged). p.intf)) (found-left i j s.modules e)))
+        (reads-other (known_at j s.host) (marks j s.past.pulled s.bus) i
+        (plugged_at j s.modules) (λ k. not-both (i == j)
+        (ap (λ x. x == j) (plugged-primary j i s.modules k) ∙ is-same j) e) (start.reads j))
+
+    remembered : (k j : ℕ) (own : Bool) → (next_number u.bus == k) ≡ own
+        → is_told k j (t.past.pulled ++ (next_number u.bus, i) ∷ []) ≡ true → IsRemoval k t.bus
+    remembered k j true f e = subst (λ x. IsRemoval x t.bus)
+        (same-number (next_number u.bus) k f) (record {
+          request = told.request;
+          primary = i;
+          made = told.made;
+          notice = ap (λ x. notice_of x told.request.payload) told.kind
+              ∙ ap (notice_of (svc_ask_kind (SvcAsk.ModuleRemoved i))) told.payload
+              ∙ tells-removed i;
+        })
+    remembered k j false f e =
+        pulled-more s.past.pulled u.bus t.bus a.keeps (away-pulled i s u start away) k j
+        (sym (told-other (next_number u.bus) i k j s.past.pulled f)
+        ∙ ap (λ ps. is_told k j (ps ++ (next_number u.bus, i) ∷ [])) (sym past) ∙ e)
 
 -- A module is pulled.
 pub pull-kept : (i : ℕ) (s : State) → EachTwo IsBefore s.bus.connections → QueueIsAsked s.bus
@@ -135,88 +258,45 @@ pub pull-kept : (i : ℕ) (s : State) → EachTwo IsBefore s.bus.connections →
 unfolding machine_opened
 pull-kept i s rise asked links there free start = by s.booted refl
   where
-    s1 : State
-    s1 = (each (wired_numbers i s.bus) unwires s).state
-
     s2 : State
     s2 = with_pulled i (each (wired_numbers i s.bus) unwires s).state
 
     cut : SameSvc s (each (wired_numbers i s.bus) unwires s).state
     cut = unwires-svc (wired_numbers i s.bus) (wired-others i s links)
 
-    queue : QueueIsAsked (with_pulled i (each (wired_numbers i s.bus) unwires s).state).bus
-    queue = svc-asked s (unwires-svc (wired_numbers i s.bus) (wired-others i s links)) asked
-
-    same-marks : (j : ℕ) → marks j (with_pulled i
-        (each (wired_numbers i s.bus) unwires s).state).bus ≡ marks j s.bus
-    same-marks = svc-marks s (unwires-svc (wired_numbers i s.bus) (wired-others i s links))
-
-    modules : (with_pulled i (each (wired_numbers i s.bus) unwires s).state).modules ≡ unplugged i
-        s.modules
-    modules = ap (unplugged i) cut.modules
-
-    differ : EachTwo AreElsewhere (with_pulled i
-        (each (wired_numbers i s.bus) unwires s).state).modules
-    differ = subst (EachTwo AreElsewhere)
-        (sym (ap (unplugged i) (unwires-svc (wired_numbers i s.bus)
-        (wired-others i s links)).modules))
-        (two-filter AreElsewhere (λ p. not (is_plugged_at i p)) s.modules start.differ)
+    away : IsAway i s (with_pulled i (each (wired_numbers i s.bus) unwires s).state)
+    away = let c = unwires-svc (wired_numbers i s.bus) (wired-others i s links) in record {
+      marks_still = svc-marks s c;
+      host = c.host;
+      modules = ap (unplugged i) c.modules;
+      started = c.started;
+      past = c.past;
+      keeps = λ k r made. ap (nth k) c.requests ∙ made;
+      asked = svc-asked s c asked;
+    }
 
     some-label : (o : Option ℕ) → is_none o ≡ false → (l : ℕ) × (o ≡ Some l)
     some-label None e = absurd (not-both true refl e)
     some-label (Some l) e = (l, refl)
 
-    removed-reads : (j : ℕ) (t : Bool) → (i == j) ≡ t
-        → Reads (is_some (interface_of j s.host)) (marks j s.bus ++ cond t (false ∷ []) [])
-        (is_plugged j (unplugged i s.modules))
-    removed-reads j true e = reads-removed (is_some (interface_of j s.host)) (marks j s.bus)
-        (is_plugged j s.modules) _ (start.reads j)
-    removed-reads j false e =
-        subst (λ l. Reads (is_some (interface_of j s.host)) l
-        (is_plugged j (unplugged i s.modules))) (sym (append-nil (marks j s.bus)))
-        (subst (Reads (is_some (interface_of j s.host)) (marks j s.bus))
-        (sym (pulled-other i j s.modules e)) (start.reads j))
-
-    told-kept : s.booted ≡ true → MarksFit (svc_asks (SvcAsk.ModuleRemoved i)
+    told : IsToldThen (SvcAsk.ModuleRemoved i)
+        (with_pulled i (each (wired_numbers i s.bus) unwires s).state)
+        (svc_asks (SvcAsk.ModuleRemoved i)
         (with_pulled i (each (wired_numbers i s.bus) unwires s).state)).state
-    told-kept booted =
-        let t = (svc_asks (SvcAsk.ModuleRemoved i) s2).state in
-        let a = after-ask (SvcAsk.ModuleRemoved i) {s = s2} queue in
+    told =
         let found = found-by_number s.bus.connections there.connection rise there.live in
         let first : connection_of 1 s.bus ≡ Some there.connection = subst
         (λ n. connection_of n s.bus ≡ Some there.connection) there.number found in
         let label = some-label (next_label 1 side.Far s.bus) free in
-        let m = ask-told (SvcAsk.ModuleRemoved i) s2 there.connection label.0 queue
+        ask-told (SvcAsk.ModuleRemoved i) s2 there.connection label.0 away.asked
         (cut.connection ∙ first) there.wired
-        (next_label-same 1 side.Far s.bus s2.bus cut.connection cut.used ∙ label.1) in
-        record {
-          reads = λ j. subst (λ h. Reads (is_some (interface_of j h)) (marks j t.bus)
-              (is_plugged j t.modules)) (sym (a.host ∙ cut.host))
-              (subst (λ ms. Reads (is_some (interface_of j s.host)) (marks j t.bus)
-              (is_plugged j ms)) (sym (a.modules ∙ modules))
-              (subst (λ l. Reads (is_some (interface_of j s.host)) l
-              (is_plugged j (unplugged i s.modules))) (sym (m j ∙ ap (λ ms. ms ++ mark_in j
-              (notice_of (svc_ask_kind (SvcAsk.ModuleRemoved i))
-              (svc_ask_payload (SvcAsk.ModuleRemoved i)))) (same-marks j)
-              ∙ ap (λ o. marks j s.bus ++ mark_in j o) (tells-removed i)))
-              (removed-reads j (i == j) refl)));
-          unstarted = λ e. absurd (not-both t.booted (a.started ∙ cut.started ∙ booted) e);
-          differ = subst (EachTwo AreElsewhere) (sym a.modules) differ;
-        }
+        (next_label-same 1 side.Far s.bus s2.bus cut.connection cut.used ∙ label.1)
 
-    untold-kept : s.booted ≡ false → MarksFit
-        (with_pulled i (each (wired_numbers i s.bus) unwires s).state)
-    untold-kept unbooted = record {
-      reads = λ j. let q = start.unstarted unbooted j in
-          subst (λ l. Reads (is_some (interface_of j s2.host)) l (is_plugged j s2.modules))
-          (sym (same-marks j ∙ q.0)) (λ e. absurd (not-both (is_some (interface_of j s2.host)) e
-          (ap is_some (ap (interface_of j) cut.host ∙ q.1))));
-      unstarted = λ e j. let q = start.unstarted unbooted j in
-          (same-marks j ∙ q.0, ap (interface_of j) cut.host ∙ q.1);
-      differ = differ;
-    }
-
-    by : (t : Bool) → s.booted ≡ t → MarksFit (when t (svc_asks (SvcAsk.ModuleRemoved i))
+    by : (t : Bool) → s.booted ≡ t → MarksFit (when t (tells_removed i)
         (with_pulled i (each (wired_numbers i s.bus) unwires s).state)).state
-    by true e = told-kept e
-    by false e = untold-kept e
+    by true e = subst (λ b. MarksFit (cond b (with_told (next_number s2.bus) i
+        (svc_asks (SvcAsk.ModuleRemoved i) s2).state) (svc_asks (SvcAsk.ModuleRemoved i) s2).state))
+        (sym (ap is_some told.made))
+        (told-kept i s s2 (svc_asks (SvcAsk.ModuleRemoved i) s2).state start away
+        (after-ask (SvcAsk.ModuleRemoved i) away.asked) told e)
+    by false e = untold-kept i s s2 start away e

@@ -16,26 +16,22 @@ use Rattle.gb_machine.specs.Bus.{connection_of, has_number, place_of, queue, req
 use Rattle.gb_machine.specs.Host.{first_host, interface_of, link_of}
 use Rattle.gb_machine.specs.{Delivery.popped, Delivery.without_front, HostServing.served_on}
 use Rattle.gb_machine.specs.{Lists.behind_first, Lists.first, Members.IsIn, Runs.Moment, Runs.after}
-use Rattle.gb_machine.specs.SvcQueues.{items_in}
+use Rattle.gb_machine.specs.SvcQueues.{is_told, items_in}
 use Rattle.gb_invariants.proofs.{Awaiting.not-both, Awaiting.same-some, Found.find-changed}
 use Rattle.gb_invariants.proofs.{ItemChanges.first-in, Numbers.found-by_number, Outcomes.is-same}
 use Rattle.gb_invariants.proofs.{Outcomes.same-number, Selves.ap-no-far, Selves.front-self}
-use Rattle.gb_laws.proofs.Marks.{item_mark, mark_in, marks, marks-first, marks_of, notice_of}
-use Rattle.gb_laws.proofs.Marks.{request_mark}
+use Rattle.gb_laws.proofs.MarkNotices.{first-behind, notice-any, svc-front}
+use Rattle.gb_laws.proofs.Marks.{Mark, came, item_mark, mark_in, marks, marks-first, marks_of}
+use Rattle.gb_laws.proofs.Marks.{notice_of, request_mark, went}
 use Rattle.gb_laws.proofs.PointParts.{Basis, IsNoticed, resting}
-use Rattle.gb_laws.proofs.{LinkFrom.Linked, MarkNotices.notice-any, MarkNotices.svc-front}
-use Rattle.gb_laws.proofs.{Places.place-is, Removing.removed-absent}
+use Rattle.gb_laws.proofs.{LinkFrom.Linked, Places.place-is, Removing.removed-absent}
 
 -- What becomes of the marks of an interface at a moment.
-pub data Taken (m : Moment) (i : ℕ) (ms later : List Bool) : Type 0 where
+pub data Taken (m : Moment) (i : ℕ) (ms later : List Mark) : Type 0 where
   none_taken : ms ≡ later → (IsNoticed m (host_event.Inserted i) → ⊥) → Taken m i ms later
-  insertion : ms ≡ true ∷ later → Taken m i ms later
-  removal : ms ≡ false ∷ later → interface_of i (after m).host ≡ None
+  insertion : ms ≡ came i ∷ later → Taken m i ms later
+  removal : (p : ℕ) (own : Bool) → ms ≡ went p own ∷ later → interface_of p (after m).host ≡ None
       → (IsNoticed m (host_event.Inserted i) → ⊥) → Taken m i ms later
-
-first-behind : (xs : List Item) (x : Item) → first xs ≡ Some x → xs ≡ x ∷ behind_first xs
-first-behind [] x e = absurd cc
-first-behind (y ∷ ys) x e = ap (λ z. z ∷ ys) (same-some y x e)
 
 -- no connection to a module has number 1
 pub no-link-one : (b : Bus) (ls : List Link) → ((l : Link) → IsIn l ls → 2 ≤ l.connection)
@@ -50,15 +46,17 @@ no-link-one b (l ∷ ls) two =
 module _ (m : Moment) (basis : Basis (resting m.told m.before))
     (links : Linked m.before.bus m.before.host []) where
   -- a place that isn't toward the application processor on the supervisory controller's connection
-  elsewhere : (at : End) (p : Place) (i : ℕ) → place_of at m.before.bus.connections ≡ Some p
+  elsewhere : (at : End) (p : Place) (i : ℕ) (ps : List (ℕ × ℕ))
+      → place_of at m.before.bus.connections ≡ Some p
       → m.event ≡ event.Deliver at
       → ((c : Connection) → IsIn c m.before.bus.connections → c.number ≡ p.connection.number
       → c.number ≡ 1
-      → marks_of i m.before.bus (queue side.Ap (without_front p.side c)) ≡ marks_of i m.before.bus
-      (queue side.Ap c)) → (p.side ≡ side.Ap → p.connection.number ≡ 1 → ⊥)
-      → Taken m i (marks i m.before.bus) (marks i (popped p.connection.number p.side m.before.bus))
-  elsewhere at p i named is keeps other =
-      none_taken (sym (marks-first i m.before.bus p.connection.number (without_front p.side)
+      → marks_of i ps m.before.bus (queue side.Ap (without_front p.side c))
+      ≡ marks_of i ps m.before.bus (queue side.Ap c)) → (p.side ≡ side.Ap → p.connection.number ≡ 1 → ⊥)
+      → Taken m i (marks i ps m.before.bus)
+      (marks i ps (popped p.connection.number p.side m.before.bus))
+  elsewhere at p i ps named is keeps other =
+      none_taken (sym (marks-first i ps m.before.bus p.connection.number (without_front p.side)
       m.before.bus.connections (λ c. (front-self p.side c).number) keeps))
       (λ n. let s = same-place n in other (ap (λ (q : Place). q.side) (sym s) ∙ n.side)
       (ap (λ (q : Place). q.connection.number) (sym s)
@@ -74,11 +72,12 @@ module _ (m : Moment) (basis : Basis (resting m.told m.before))
           same-at x y e = cc
 
   -- the front item on the supervisory controller's connection
-  front-taken : (at : End) (p : Place) (item : Item) (i : ℕ)
+  front-taken : (at : End) (p : Place) (item : Item) (i : ℕ) (ps : List (ℕ × ℕ))
       → place_of at m.before.bus.connections ≡ Some p → m.event ≡ event.Deliver at
       → p.side ≡ side.Ap → p.connection.number ≡ 1 → first (queue p.side p.connection) ≡ Some item
-      → Taken m i (marks i m.before.bus) (marks i (popped p.connection.number p.side m.before.bus))
-  front-taken at p item i named is ap_side one front =
+      → Taken m i (marks i ps m.before.bus)
+      (marks i ps (popped p.connection.number p.side m.before.bus))
+  front-taken at p item i ps named is ap_side one front =
       by item refl
     where
       front_ap : first (queue side.Ap p.connection) ≡ Some item
@@ -89,28 +88,28 @@ module _ (m : Moment) (basis : Basis (resting m.told m.before))
           (found-by_number m.before.bus.connections p.connection basis.bus.numbers.rise
           (place-is at m.before.bus.connections p named).live)
 
-      later : marks i (popped p.connection.number p.side m.before.bus) ≡ marks_of i m.before.bus
-          (behind_first (queue side.Ap p.connection))
+      later : marks i ps (popped p.connection.number p.side m.before.bus)
+          ≡ marks_of i ps m.before.bus (behind_first (queue side.Ap p.connection))
       later =
-          ap (λ k. marks i (popped k p.side m.before.bus)) one
-          ∙ ap (λ s. marks i (popped 1 s m.before.bus)) ap_side
-          ∙ ap (λ o. marks_of i m.before.bus (items_in side.Ap o))
+          ap (λ k. marks i ps (popped k p.side m.before.bus)) one
+          ∙ ap (λ s. marks i ps (popped 1 s m.before.bus)) ap_side
+          ∙ ap (λ o. marks_of i ps m.before.bus (items_in side.Ap o))
           (find-changed (has_number 1) (without_front side.Ap) m.before.bus.connections (λ c. refl)
           ∙ ap (option_map (without_front side.Ap))
           (subst (λ k. connection_of k m.before.bus ≡ Some p.connection) one
           (found-by_number m.before.bus.connections p.connection basis.bus.numbers.rise
           (place-is at m.before.bus.connections p named).live)))
 
-      whole : marks i m.before.bus ≡ item_mark i m.before.bus item ++ marks i
+      whole : marks i ps m.before.bus ≡ item_mark i ps m.before.bus item ++ marks i ps
           (popped p.connection.number p.side m.before.bus)
       whole =
-          ap (λ o. marks_of i m.before.bus (items_in side.Ap o))
+          ap (λ o. marks_of i ps m.before.bus (items_in side.Ap o))
           (subst (λ k. connection_of k m.before.bus ≡ Some p.connection) one
           (found-by_number m.before.bus.connections p.connection basis.bus.numbers.rise
           (place-is at m.before.bus.connections p named).live))
-          ∙ ap (marks_of i m.before.bus) (first-behind (queue side.Ap p.connection) item
+          ∙ ap (marks_of i ps m.before.bus) (first-behind (queue side.Ap p.connection) item
           (ap (λ s. first (queue s p.connection)) (sym ap_side) ∙ front))
-          ∙ ap (λ ms. item_mark i m.before.bus item ++ ms) (sym later)
+          ∙ ap (λ ms. item_mark i ps m.before.bus item ++ ms) (sym later)
 
       same-place : (e : HostEvent) (n : IsNoticed m e) → n.item ≡ item
       same-place e n =
@@ -138,11 +137,11 @@ module _ (m : Moment) (basis : Basis (resting m.told m.before))
           same-ask : (x y : ℕ) → Ask x ≡ Ask y → x ≡ y
           same-ask x y e = cc
 
-      unmarked : item_mark i m.before.bus item ≡ [] → (IsNoticed m (host_event.Inserted i) → ⊥)
-          → Taken m i (marks i m.before.bus)
-          (marks i (popped p.connection.number p.side m.before.bus))
+      unmarked : item_mark i ps m.before.bus item ≡ [] → (IsNoticed m (host_event.Inserted i) → ⊥)
+          → Taken m i (marks i ps m.before.bus)
+          (marks i ps (popped p.connection.number p.side m.before.bus))
       unmarked e unnoted = none_taken
-          (whole ∙ ap (λ ms. ms ++ marks i (popped p.connection.number p.side m.before.bus)) e)
+          (whole ∙ ap (λ ms. ms ++ marks i ps (popped p.connection.number p.side m.before.bus)) e)
           unnoted
 
       -- an item that is no request is noticed by none
@@ -153,20 +152,17 @@ module _ (m : Moment) (basis : Basis (resting m.told m.before))
 
       asked : (n : ℕ) (r : Request) → item ≡ Ask n → request_of n m.before.bus ≡ Some r
           → (o : Option HostEvent) → notice_of r.kind r.payload ≡ o
-          → Taken m i (marks i m.before.bus)
-          (marks i (popped p.connection.number p.side m.before.bus))
+          → Taken m i (marks i ps m.before.bus)
+          (marks i ps (popped p.connection.number p.side m.before.bus))
       asked n r item_is made o notice = by_notice o notice
         where
-          mark : item_mark i m.before.bus item ≡ mark_in i o
-          mark = ap (item_mark i m.before.bus) item_is ∙ ap (request_mark i) made
-              ∙ ap (mark_in i) notice
-
           marked : (x : HostEvent) → notice_of r.kind r.payload ≡ Some x
-              → marks i m.before.bus ≡ mark_in i (Some x) ++ marks i
+              → marks i ps m.before.bus ≡ mark_in i (is_told n i ps) (Some x) ++ marks i ps
               (popped p.connection.number p.side m.before.bus)
-          marked x e = whole ∙ ap (λ ms. ms ++ marks i
+          marked x e = whole ∙ ap (λ ms. ms ++ marks i ps
               (popped p.connection.number p.side m.before.bus))
-              (ap (item_mark i m.before.bus) item_is ∙ ap (request_mark i) made ∙ ap (mark_in i) e)
+              (ap (item_mark i ps m.before.bus) item_is
+              ∙ ap (request_mark i (is_told n i ps)) made ∙ ap (mark_in i (is_told n i ps)) e)
 
           other-notice : (x : Option HostEvent) → notice_of r.kind r.payload ≡ x
               → (x ≡ Some (host_event.Inserted i) → ⊥) → IsNoticed m (host_event.Inserted i) → ⊥
@@ -176,75 +172,73 @@ module _ (m : Moment) (basis : Basis (resting m.told m.before))
               → x ≡ y
           same-inserted x y e = cc
 
-          inserted : (j : ℕ) → notice_of r.kind r.payload ≡ Some (host_event.Inserted j) → (t : Bool)
-              → (j == i) ≡ t → Taken m i (marks i m.before.bus)
-              (marks i (popped p.connection.number p.side m.before.bus))
+          inserted : (j : ℕ) → notice_of r.kind r.payload ≡ Some (host_event.Inserted j)
+              → (t : Bool) → (j == i) ≡ t → Taken m i (marks i ps m.before.bus)
+              (marks i ps (popped p.connection.number p.side m.before.bus))
           inserted j e true f = insertion (marked (host_event.Inserted j) e
-              ∙ ap (λ t. cond t (true ∷ []) [] ++ marks i
-              (popped p.connection.number p.side m.before.bus)) f)
+              ∙ ap (λ t. cond t (came j ∷ []) [] ++ marks i ps
+              (popped p.connection.number p.side m.before.bus)) f
+              ∙ ap (λ k. came k ∷ marks i ps
+              (popped p.connection.number p.side m.before.bus)) (same-number j i f))
           inserted j e false f = none_taken (marked (host_event.Inserted j) e
-              ∙ ap (λ t. cond t (true ∷ []) [] ++ marks i
+              ∙ ap (λ t. cond t (came j ∷ []) [] ++ marks i ps
               (popped p.connection.number p.side m.before.bus)) f)
               (other-notice (Some (host_event.Inserted j)) e
               (λ g. not-both (j == i) (ap (λ k. k == i) (same-inserted j i g) ∙ is-same i) f))
 
-          removed : (j : ℕ) → notice_of r.kind r.payload ≡ Some (host_event.Removed j) → (t : Bool)
-              → (j == i) ≡ t → Taken m i (marks i m.before.bus)
-              (marks i (popped p.connection.number p.side m.before.bus))
-          removed j e true f =
+          removed : (j : ℕ) → notice_of r.kind r.payload ≡ Some (host_event.Removed j)
+              → Taken m i (marks i ps m.before.bus)
+              (marks i ps (popped p.connection.number p.side m.before.bus))
+          removed j e =
               let none : link_of p.connection.number m.before.host ≡ None =
               ap (λ k. link_of k m.before.host) one ∙ no-link-one m.before.bus m.before.host.links
               (λ l k. (links.host.links.numbered l k).from_two) in
-              removal (marked (host_event.Removed j) e ∙ ap (λ t. cond t (false ∷ []) [] ++ marks i
-              (popped p.connection.number p.side m.before.bus)) f)
-              (removed-absent m at p n i r is named ap_side (front ∙ ap Some item_is) made none
+              removal j (is_told n i ps) (marked (host_event.Removed j) e)
+              (removed-absent m at p n j r is named ap_side (front ∙ ap Some item_is) made none
               (ap (λ o. (served_on o r.kind r.payload m.before.host).notices) none
-              ∙ notice-any r.kind r.payload m.before.host first_host ∙ e
-              ∙ ap (λ k. Some (host_event.Removed k)) (same-number j i f)))
-              (other-notice (Some (host_event.Removed j)) e (λ g. absurd cc))
-          removed j e false f = none_taken (marked (host_event.Removed j) e
-              ∙ ap (λ t. cond t (false ∷ []) [] ++ marks i
-              (popped p.connection.number p.side m.before.bus)) f)
+              ∙ notice-any r.kind r.payload m.before.host first_host ∙ e))
               (other-notice (Some (host_event.Removed j)) e (λ g. absurd cc))
 
           by_notice : (x : Option HostEvent) → notice_of r.kind r.payload ≡ x
-              → Taken m i (marks i m.before.bus)
-              (marks i (popped p.connection.number p.side m.before.bus))
-          by_notice None e = unmarked (ap (item_mark i m.before.bus) item_is
-              ∙ ap (request_mark i) made ∙ ap (mark_in i) e) (other-notice None e (λ g. absurd cc))
+              → Taken m i (marks i ps m.before.bus)
+              (marks i ps (popped p.connection.number p.side m.before.bus))
+          by_notice None e = unmarked (ap (item_mark i ps m.before.bus) item_is
+              ∙ ap (request_mark i (is_told n i ps)) made ∙ ap (mark_in i (is_told n i ps)) e)
+              (other-notice None e (λ g. absurd cc))
           by_notice (Some (host_event.Inserted j)) e = inserted j e (j == i) refl
-          by_notice (Some (host_event.Removed j)) e = removed j e (j == i) refl
+          by_notice (Some (host_event.Removed j)) e = removed j e
           by_notice (Some x) e = none_taken (marked x e) (other-notice _ e (λ g. absurd cc))
 
-      by : (x : Item) → item ≡ x → Taken m i (marks i m.before.bus)
-          (marks i (popped p.connection.number p.side m.before.bus))
+      by : (x : Item) → item ≡ x → Taken m i (marks i ps m.before.bus)
+          (marks i ps (popped p.connection.number p.side m.before.bus))
       by (Ask n) e =
           let live = (place-is at m.before.bus.connections p named).live in
           let waits = first-in (queue p.side p.connection) (Ask n) (front ∙ ap Some e) in
           let o = basis.bus.items.own p.connection p.side (Ask n) live waits in
           asked n o.0 e o.1 (notice_of o.0.kind o.0.payload) refl
       by (Reply n result payload) e =
-          unmarked (ap (item_mark i m.before.bus) e) (no-ask (λ k f. other (sym e ∙ f)))
+          unmarked (ap (item_mark i ps m.before.bus) e) (no-ask (λ k f. other (sym e ∙ f)))
         where
           other : {k : ℕ} → Reply n result payload ≡ Ask k → ⊥
           other f = absurd cc
       by (Raw bytes) e =
-          unmarked (ap (item_mark i m.before.bus) e) (no-ask (λ k f. other (sym e ∙ f)))
+          unmarked (ap (item_mark i ps m.before.bus) e) (no-ask (λ k f. other (sym e ∙ f)))
         where
           other : {k : ℕ} → Raw bytes ≡ Ask k → ⊥
           other f = absurd cc
       by (RawReply label kind result payload) e =
-          unmarked (ap (item_mark i m.before.bus) e) (no-ask (λ k f. other (sym e ∙ f)))
+          unmarked (ap (item_mark i ps m.before.bus) e) (no-ask (λ k f. other (sym e ∙ f)))
         where
           other : {k : ℕ} → RawReply label kind result payload ≡ Ask k → ⊥
           other f = absurd cc
 
   -- where an item is delivered
-  pub delivery-taken : (at : End) (p : Place) (item : Item) (i : ℕ)
+  pub delivery-taken : (at : End) (p : Place) (item : Item) (i : ℕ) (ps : List (ℕ × ℕ))
       → place_of at m.before.bus.connections ≡ Some p → m.event ≡ event.Deliver at
       → first (queue p.side p.connection) ≡ Some item
-      → Taken m i (marks i m.before.bus) (marks i (popped p.connection.number p.side m.before.bus))
-  delivery-taken at p item i named is front = by p.side refl (p.connection.number == 1) refl
+      → Taken m i (marks i ps m.before.bus)
+      (marks i ps (popped p.connection.number p.side m.before.bus))
+  delivery-taken at p item i ps named is front = by p.side refl (p.connection.number == 1) refl
     where
       far : (c : Connection) (s : Side) → s ≡ side.Far
           → queue side.Ap (without_front s c) ≡ queue side.Ap c
@@ -252,14 +246,15 @@ module _ (m : Moment) (basis : Basis (resting m.told m.before))
       far c side.Ap e = absurd cc
 
       by : (s : Side) → p.side ≡ s → (t : Bool) → (p.connection.number == 1) ≡ t
-          → Taken m i (marks i m.before.bus)
-          (marks i (popped p.connection.number p.side m.before.bus))
-      by side.Far e t f = elsewhere at p i named is
-          (λ c j on one. ap (marks_of i m.before.bus) (far c p.side e))
+          → Taken m i (marks i ps m.before.bus)
+          (marks i ps (popped p.connection.number p.side m.before.bus))
+      by side.Far e t f = elsewhere at p i ps named is
+          (λ c j on one. ap (marks_of i ps m.before.bus) (far c p.side e))
           (λ g k. absurd (ap-no-far (sym g ∙ e)))
       by side.Ap e false f =
           let other : p.connection.number ≢ 1 = λ k. not-both (p.connection.number == 1)
           (ap (λ n. n == 1) k) f in
-          elsewhere at p i named is (λ c j on one. absurd (other (sym on ∙ one))) (λ g k. other k)
+          elsewhere at p i ps named is (λ c j on one. absurd (other (sym on ∙ one)))
+          (λ g k. other k)
       by side.Ap e true f =
-          front-taken at p item i named is e (same-number p.connection.number 1 f) front
+          front-taken at p item i ps named is e (same-number p.connection.number 1 f) front

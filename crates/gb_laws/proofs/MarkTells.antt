@@ -1,6 +1,6 @@
 -- What becomes of the marks of an interface where the supervisory controller asks.
-use Rattle.std.proofs.Common.{Bool, None, Option, Some, ap, append-nil, arith, cond, false, refl}
-use Rattle.std.proofs.Common.{subst, sym, true, ℕ, ⊎_elim, [], ◌++◌, ◌+◌, ◌∙◌, ◌∷◌, ◌≡◌}
+use Rattle.std.proofs.Common.{Bool, List, None, Option, Some, ap, append-nil, arith, cond, false}
+use Rattle.std.proofs.Common.{refl, subst, sym, true, ℕ, ⊎_elim, [], ◌++◌, ◌+◌, ◌∙◌, ◌∷◌, ◌≡◌}
 use Rattle.std.specs.Prelude.{option_map, ◌==◌}
 use Rattle.gb_base.specs.declared.end.Side.TheVariants as side
 use Rattle.gb_base.specs.declared.host_event.HostEvent.TheVariants as host_event
@@ -13,8 +13,9 @@ use Rattle.gb_machine.specs.Bus.{next_number, request_of}
 use Rattle.gb_machine.specs.Sending.{Draft, draft, is_wired, label_for, requested, sent}
 use Rattle.gb_machine.specs.{Actions.given, Actions.when, Asking.asks, Asking.asks_with}
 use Rattle.gb_machine.specs.{Labels.next_label, Members.IsIn, OwnAsking.svc_asks, State.State}
-use Rattle.gb_machine.specs.{SvcQueues.items_in, SvcQueues.svc_items}
-use Rattle.gb_invariants.proofs.{Awaiting.sent-new, Awaiting.sent-request, BusChanges.BusChange}
+use Rattle.gb_machine.specs.{SvcQueues.is_told, SvcQueues.items_in, SvcQueues.svc_items}
+use Rattle.gb_invariants.proofs.BusChanges.{BusChange, KeepsRequests}
+use Rattle.gb_invariants.proofs.{Awaiting.sent-new, Awaiting.sent-request}
 use Rattle.gb_invariants.proofs.{Found.find-changed, Labels.asked_on, Labels.asked_on-number}
 use Rattle.gb_invariants.proofs.{Lists.in-pushed, Wires.WasWired, Wires.was-wired}
 use Rattle.gb_laws.proofs.Marks.{AreAsked, item_mark, mark_in, marks, marks-append, marks-more}
@@ -26,8 +27,9 @@ QueueIsAsked b = AreAsked b (svc_items side.Ap b)
 
 -- the marks stay, or one comes behind them
 pub data MarksAfter (b after : Bus) (o : Option HostEvent) : Type 0 where
-  untold : ((j : ℕ) → marks j after ≡ marks j b) → MarksAfter b after o
-  told : ((j : ℕ) → marks j after ≡ marks j b ++ mark_in j o) → MarksAfter b after o
+  untold : ((j : ℕ) (ps : List (ℕ × ℕ)) → marks j ps after ≡ marks j ps b) → MarksAfter b after o
+  told : ((j : ℕ) (ps : List (ℕ × ℕ)) → marks j ps after
+      ≡ marks j ps b ++ mark_in j (is_told (next_number b) j ps) o) → MarksAfter b after o
 
 -- what stays where the supervisory controller asks
 pub record AfterAsk (s t : State) (o : Option HostEvent) : Type 0 where
@@ -37,6 +39,8 @@ pub record AfterAsk (s t : State) (o : Option HostEvent) : Type 0 where
   pub ports : t.ports ≡ s.ports
   pub wired : WasWired s.bus t.bus
   pub asked : QueueIsAsked t.bus
+  pub past : t.past ≡ s.past
+  pub keeps : KeepsRequests s.bus t.bus
   pub marks_after : MarksAfter s.bus t.bus o
 
 -- a draft of the supervisory controller
@@ -63,9 +67,10 @@ items-asked b c found asked n i =
 asked-on : (ask : SvcAsk) (label : ℕ) (s : State) (c : Connection) → connection_of 1 s.bus ≡ Some c
     → QueueIsAsked s.bus → (t : Bool) → c.wired ≡ t
     → QueueIsAsked (sent (svc_draft ask s) label s.bus)
-    × ((j : ℕ) → marks j (sent (svc_draft ask s) label s.bus) ≡ marks j s.bus ++ cond t
-    (mark_in j (notice_of (svc_ask_kind ask) (svc_ask_payload ask))) [])
-asked-on ask label s c found asked t wired = (made, λ j. whole j)
+    × ((j : ℕ) (ps : List (ℕ × ℕ)) → marks j ps (sent (svc_draft ask s) label s.bus)
+    ≡ marks j ps s.bus ++ cond t (mark_in j (is_told (next_number s.bus) j ps)
+    (notice_of (svc_ask_kind ask) (svc_ask_payload ask))) [])
+asked-on ask label s c found asked t wired = (made, λ j ps. whole j ps)
   where
     d : Draft
     d = svc_draft ask s
@@ -87,25 +92,31 @@ asked-on ask label s c found asked t wired = (made, λ j. whole j)
           to_ap = c.to_ap ++ Ask (next_number s.bus) ∷ [];
         }) (record c { far_last = label })).to_ap) e
 
-    old : (j : ℕ) → marks_of j (sent (svc_draft ask s) label s.bus) c.to_ap ≡ marks j s.bus
-    old j = marks-more j s.bus (sent (svc_draft ask s) label s.bus) c.to_ap
+    old : (j : ℕ) (ps : List (ℕ × ℕ))
+        → marks_of j ps (sent (svc_draft ask s) label s.bus) c.to_ap ≡ marks j ps s.bus
+    old j ps = marks-more j ps s.bus (sent (svc_draft ask s) label s.bus) c.to_ap
         (sent-request (svc_draft ask s) label s.bus) (items-asked s.bus c found asked)
-        ∙ ap (λ o. marks_of j s.bus (items_in side.Ap o)) (sym found)
+        ∙ ap (λ o. marks_of j ps s.bus (items_in side.Ap o)) (sym found)
 
-    by : (j : ℕ) (t : Bool) → marks_of j (sent (svc_draft ask s) label s.bus)
+    by : (j : ℕ) (ps : List (ℕ × ℕ)) (t : Bool)
+        → marks_of j ps (sent (svc_draft ask s) label s.bus)
         (cond t (c.to_ap ++ Ask (next_number s.bus) ∷ []) c.to_ap)
-        ≡ marks j s.bus ++ cond t (mark_in j (notice_of (svc_ask_kind ask) (svc_ask_payload ask)))
-        []
-    by j true =
-        marks-append j (sent (svc_draft ask s) label s.bus) c.to_ap (Ask (next_number s.bus) ∷ [])
-        ∙ ap (λ ms. ms ++ (item_mark j (sent (svc_draft ask s) label s.bus)
-        (Ask (next_number s.bus)) ++ [])) (old j) ∙ ap (λ ms. marks j s.bus ++ ms)
-        (append-nil _ ∙ ap (request_mark j) (sent-new (svc_draft ask s) label s.bus))
-    by j false = old j ∙ sym (append-nil (marks j s.bus))
+        ≡ marks j ps s.bus ++ cond t (mark_in j (is_told (next_number s.bus) j ps)
+        (notice_of (svc_ask_kind ask) (svc_ask_payload ask))) []
+    by j ps true =
+        marks-append j ps (sent (svc_draft ask s) label s.bus) c.to_ap
+        (Ask (next_number s.bus) ∷ [])
+        ∙ ap (λ ms. ms ++ (item_mark j ps (sent (svc_draft ask s) label s.bus)
+        (Ask (next_number s.bus)) ++ [])) (old j ps) ∙ ap (λ ms. marks j ps s.bus ++ ms)
+        (append-nil _ ∙ ap (request_mark j (is_told (next_number s.bus) j ps))
+        (sent-new (svc_draft ask s) label s.bus))
+    by j ps false = old j ps ∙ sym (append-nil (marks j ps s.bus))
 
-    whole : (j : ℕ) → marks j (sent (svc_draft ask s) label s.bus) ≡ marks j s.bus ++ cond t
-        (mark_in j (notice_of (svc_ask_kind ask) (svc_ask_payload ask))) []
-    whole j = ap (marks_of j (sent (svc_draft ask s) label s.bus)) (items t wired) ∙ by j t
+    whole : (j : ℕ) (ps : List (ℕ × ℕ)) → marks j ps (sent (svc_draft ask s) label s.bus)
+        ≡ marks j ps s.bus ++ cond t (mark_in j (is_told (next_number s.bus) j ps)
+        (notice_of (svc_ask_kind ask) (svc_ask_payload ask))) []
+    whole j ps = ap (marks_of j ps (sent (svc_draft ask s) label s.bus)) (items t wired)
+        ∙ by j ps t
 
     member : (n : ℕ) (t : Bool) → IsIn (Ask n)
         (cond t (c.to_ap ++ Ask (next_number s.bus) ∷ []) c.to_ap)
@@ -137,9 +148,11 @@ after-ask ask {s} asked = wired (is_wired (connection_of 1 s.bus))
       modules = refl;
       started = refl;
       asked = asked;
+      past = refl;
+      keeps = λ n r made. made;
       ports = refl;
       wired = was-wired BusChange.rests s.bus refl;
-      marks_after = untold (λ j. refl);
+      marks_after = untold (λ j ps. refl);
     }
 
     sent-by : (c : Connection) (label : ℕ) → connection_of 1 s.bus ≡ Some c → (t : Bool)
@@ -151,6 +164,8 @@ after-ask ask {s} asked = wired (is_wired (connection_of 1 s.bus))
           modules = refl;
           started = refl;
           asked = a.0;
+          past = refl;
+          keeps = sent-request (svc_draft ask s) label s.bus;
           ports = refl;
           wired = was-wired (BusChange.sends (svc_draft ask s) label) s.bus refl;
           marks_after = told a.1;
@@ -161,9 +176,11 @@ after-ask ask {s} asked = wired (is_wired (connection_of 1 s.bus))
           modules = refl;
           started = refl;
           asked = a.0;
+          past = refl;
+          keeps = sent-request (svc_draft ask s) label s.bus;
           ports = refl;
           wired = was-wired (BusChange.sends (svc_draft ask s) label) s.bus refl;
-          marks_after = untold (λ j. a.1 j ∙ append-nil (marks j s.bus));
+          marks_after = untold (λ j ps. a.1 j ps ∙ append-nil (marks j ps s.bus));
         }
 
     by : (o : Option Connection) → connection_of 1 s.bus ≡ o → (l : Option ℕ)
@@ -178,19 +195,34 @@ after-ask ask {s} asked = wired (is_wired (connection_of 1 s.bus))
     wired true = by (connection_of 1 s.bus) refl (label_for (svc_draft ask s) s.bus)
     wired false = same
 
--- It is told where the connection is wired and an identifier is left.
+-- It is told, by a request that is made, where the connection is wired and an identifier is left.
+pub record IsToldThen (ask : SvcAsk) (s t : State) : Type 0 where
+  pub marks_after : (j : ℕ) (ps : List (ℕ × ℕ)) → marks j ps t.bus ≡ marks j ps s.bus
+      ++ mark_in j (is_told (next_number s.bus) j ps)
+      (notice_of (svc_ask_kind ask) (svc_ask_payload ask))
+  pub request : Request
+  pub made : request_of (next_number s.bus) t.bus ≡ Some request
+  pub kind : request.kind ≡ svc_ask_kind ask
+  pub payload : request.payload ≡ svc_ask_payload ask
+
 pub ask-told : (ask : SvcAsk) (s : State) (c : Connection) (label : ℕ) → QueueIsAsked s.bus
     → connection_of 1 s.bus ≡ Some c → c.wired ≡ true
-    → next_label 1 side.Far s.bus ≡ Some label → (j : ℕ)
-    → marks j (svc_asks ask s).state.bus ≡ marks j s.bus ++ mark_in j
-    (notice_of (svc_ask_kind ask) (svc_ask_payload ask))
+    → next_label 1 side.Far s.bus ≡ Some label → IsToldThen ask s (svc_asks ask s).state
 unfolding machine_opened
-ask-told ask s c label asked found wired free j =
-    ap (λ t. marks j (when t (asks (svc_draft ask s)) s).state.bus) (ap is_wired found ∙ wired)
-    ∙ ap (λ o. marks j (given o (λ c. given (label_for (svc_draft ask s) s.bus)
-    (λ label. asks_with (svc_draft ask s) c label)) s).state.bus) found
-    ∙ ap (λ l. marks j (given l (λ label. asks_with (svc_draft ask s) c label) s).state.bus) free
-    ∙ (asked-on ask label s c found asked true wired).1 j
+ask-told ask s c label asked found wired free = subst (IsToldThen ask s) (sym sends) (record {
+  marks_after = (asked-on ask label s c found asked true wired).1;
+  request = requested (svc_draft ask s) label;
+  made = sent-new (svc_draft ask s) label s.bus;
+  kind = refl;
+  payload = refl;
+})
+  where
+    sends : (svc_asks ask s).state ≡ record s { bus = sent (svc_draft ask s) label s.bus }
+    sends =
+        ap (λ t. (when t (asks (svc_draft ask s)) s).state) (ap is_wired found ∙ wired)
+        ∙ ap (λ o. (given o (λ c. given (label_for (svc_draft ask s) s.bus)
+        (λ label. asks_with (svc_draft ask s) c label)) s).state) found
+        ∙ ap (λ l. (given l (λ label. asks_with (svc_draft ask s) c label) s).state) free
 
 -- ---- what is told
 

@@ -51,7 +51,7 @@ upon-asked m a d c live links (by_host q rest is draft none) ap_side =
     upon-host m a d c q rest live links is (ap (λ (x : Draft). x.connection) draft)
 upon-asked m a d c live links (by_far (by_module i p at far) on) ap_side = absurd (ap-no-far
     (sym ap_side ∙ far))
-upon-asked m a d c live links (by_far (by_svc of far off) on) ap_side = absurd
+upon-asked m a d c live links (by_far (by_svc of far) on) ap_side = absurd
     (ap-no-far (sym ap_side ∙ far))
 
 -- a line that asks

@@ -1,6 +1,6 @@
 -- The single changes that lead from one point within the step of an event to the next.
 use Rattle.std.specs.Prelude.{Bool, List, None, Option, Some, false, length, map, nat_lt, true, ℕ}
-use Rattle.std.specs.Prelude.{[], ◌+◌, ◌<◌, ◌∷◌, ◌≡◌, ◌≢◌, ◌⊎◌}
+use Rattle.std.specs.Prelude.{[], is_some, ◌+◌, ◌<◌, ◌∷◌, ◌≡◌, ◌≢◌, ◌⊎◌}
 use Rattle.gb_base.specs.declared.bridge.BridgeAsk.{BridgeAsk}
 use Rattle.gb_base.specs.declared.bridge.Reading.TheVariants as reading
 use Rattle.gb_base.specs.declared.end.End.{End}
@@ -16,7 +16,6 @@ use Rattle.gb_base.specs.declared.name.Name.{Name}
 use Rattle.gb_base.specs.declared.outcome.Outcome.{Outcome}
 use Rattle.gb_base.specs.declared.outcome.Outcome.TheVariants as outcome
 use Rattle.gb_base.specs.declared.peers.Link.{Link}
-use Rattle.gb_formats.specs.SvcRecords.{read_svc_ask}
 use Rattle.gb_machine.specs.Arriving.{reading_for, state_takes, with_held}
 use Rattle.gb_machine.specs.Bus.{Bus, Connection, Item, Place, Reply, connection_of, is_open}
 use Rattle.gb_machine.specs.Bus.{next_number, other_side, place_of, queue, request_of}
@@ -36,8 +35,9 @@ use Rattle.gb_machine.specs.Wiring.{detached, injected, is_wired_to, next_connec
 use Rattle.gb_machine.specs.{Failures.unsent, Holding.held_on, Host.with_link}
 use Rattle.gb_machine.specs.{HostServing.host_serves, HostTurns.host_turn, LawsBus.is_awaited}
 use Rattle.gb_machine.specs.{LineActions.spent, LineActions.with_fewer, Lists.first, Lists.nth}
-use Rattle.gb_machine.specs.{Members.EachTwo, Members.IsIn, Modules.is_plugged, Runs.Moment}
-use Rattle.gb_machine.specs.{Serving.Answer, SvcQueues.removes}
+use Rattle.gb_machine.specs.{Members.EachTwo, Members.IsIn, Plugging.with_told, Runs.Moment}
+use Rattle.gb_machine.specs.{Serving.Answer}
+use Rattle.gb_laws.proofs.Marks.{plugged_at}
 pub use Rattle.gb_laws.proofs.PointParts.{AreQuiet, Basis, Hand, IsAfterReply, IsBridge}
 pub use Rattle.gb_laws.proofs.PointParts.{IsCancelled, IsCaused, IsGivenUpFor, IsLate, IsNoticed}
 pub use Rattle.gb_laws.proofs.PointParts.{IsOfSvc, IsServed, IsServing, IsShutFor, IsStill, Point}
@@ -84,13 +84,10 @@ pub data Says (h : Hand) (n result : ℕ) (payload : List ℕ) : Type 0 where
   unclean : h.connection.clean ≡ false → Says h n result payload
 
 -- A far side asks on a connection: a module, or the supervisory controller at an event that
--- concerns
--- it, which tells the removal of an interface once that has no power.
-pub data IsFarAsking (m : Moment) (s : State) (c : Connection) (d : Draft) : Type 0 where
-  by_module : (i p : ℕ) → c.peer ≡ end.Module i p → d.side ≡ side.Far → IsFarAsking m s c d
-  by_svc : IsOfSvc m.event → d.side ≡ side.Far
-      → ((i : ℕ) → removes i (read_svc_ask d.kind d.payload) ≡ true
-      → level_of i s.ports ≡ 0) → IsFarAsking m s c d
+-- concerns it.
+pub data IsFarAsking (m : Moment) (c : Connection) (d : Draft) : Type 0 where
+  by_module : (i p : ℕ) → c.peer ≡ end.Module i p → d.side ≡ side.Far → IsFarAsking m c d
+  by_svc : IsOfSvc m.event → d.side ≡ side.Far → IsFarAsking m c d
 
 -- Who asks on a connection at a point: the application processor does an act, and its sequence is
 -- to wait for the request, or a far side asks on a connection that is wired, and with a type that a
@@ -98,7 +95,7 @@ pub data IsFarAsking (m : Moment) (s : State) (c : Connection) (d : Draft) : Typ
 pub data IsAskedBy (m : Moment) (a : Point) (c : Connection) (d : Draft) : Type 0 where
   by_host : (q : Asking) (rest : List Act) → a.pending ≡ Act.Ask q ∷ rest
       → d ≡ host_draft q a.state.now → a.asked ≡ None → IsAskedBy m a c d
-  by_far : IsFarAsking m a.state c d → (c.wired ≡ true) × (d.kind < 128) → IsAskedBy m a c d
+  by_far : IsFarAsking m c d → (c.wired ≡ true) × (d.kind < 128) → IsAskedBy m a c d
 
 -- the request for which a sequence is to wait then
 abbrev pub awaited_by : (m : Moment) (a : Point) (c : Connection) (d : Draft)
@@ -127,7 +124,7 @@ IsPlain s d = ((is_reserved d.kind ≡ false) × (d.connection ≡ 1))
 pub record SamePlugs (s : State) (booted : Bool) (ports : List Port) (modules : List Plugged) : Type
     0 where
   pub started : booted ≡ s.booted
-  pub plugged : (i : ℕ) → is_plugged i modules ≡ is_plugged i s.modules
+  pub plugged : (i : ℕ) → plugged_at i modules ≡ plugged_at i s.modules
   pub powered : (i : ℕ) → is_powered i ports ≡ true → is_powered i s.ports ≡ true
   pub differ : EachTwo (λ (p q : Plugged). p.intf ≢ q.intf) s.modules
       → EachTwo (λ (p q : Plugged). p.intf ≢ q.intf) modules
@@ -239,6 +236,9 @@ pub data Change (m : Moment) (a : Point) : Type 0 where
   spends : (i c : ℕ) (what : BridgeAsk) → (a.pending ≡ []) × IsBridge m.event → Change m a
   -- time passes
   passes : (millis : ℕ) → Change m a
+  -- it is remembered which request told that an interface was pulled, whose power is off
+  recalls : (n i : ℕ) → IsOfSvc m.event
+      → (is_some (request_of n a.state.bus) ≡ true) × (level_of i a.state.ports ≡ 0) → Change m a
   -- something else changes that is no matter of requests
   others : (booted : Bool) (marks : List ℕ) (ports : List Port) (modules : List Plugged)
       → IsElse m a booted marks ports modules → Change m a
@@ -308,6 +308,7 @@ changed m a (serves k kind payload none) =
 changed m a (spends i c what none) =
     on (record a.state { host = with_link i c (spent what) a.state.host }) [] a
 changed m a (passes millis) = on (record a.state { now = a.state.now + millis }) [] a
+changed m a (recalls n i of made) = on (with_told n i a.state) [] a
 changed m a (others booted marks ports modules same) =
     on (record a.state { booted = booted; holds = marks; ports = ports; modules = modules }) [] a
 

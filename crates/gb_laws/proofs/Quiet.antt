@@ -8,19 +8,18 @@ use Rattle.gb_base.specs.declared.steps.SequenceStep.{SequenceStep}
 use Rattle.gb_base.specs.declared.steps.SequenceStep.TheVariants as steps
 use Rattle.gb_machine.specs.Bus.{Bus, Request, request_of}
 use Rattle.gb_machine.specs.{LawsBus.is_awaited, Lists.behind_first, Members.IsIn, Ports.level_of}
-use Rattle.gb_machine.specs.{SvcQueues.is_reply_to, SvcQueues.svc_items, Turns.Asking}
+use Rattle.gb_machine.specs.{State.State, SvcQueues.is_reply_to, SvcQueues.svc_items, Turns.Asking}
 use Rattle.gb_invariants.proofs.BusChanges.{KeepsRequests}
 use Rattle.gb_laws.proofs.AskedWaits.{AsksIn, WaitsFewer, is_power_step}
-use Rattle.gb_laws.proofs.Enums.{AreStarts, IsClean, clean-more, enums, enums-more, enums_of}
-use Rattle.gb_laws.proofs.Enums.{removed-more, removed_in}
+use Rattle.gb_laws.proofs.Enums.{AreStarts, IsClean, enums, enums-more, enums_of, removed_in}
 use Rattle.gb_laws.proofs.PointParts.{Basis, Hand, Point}
 use Rattle.gb_laws.proofs.MarkFrame.{asked-toward}
 
 -- ---- what is said
 
 -- a removal of an interface waits
-abbrev pub is_removed : ℕ → Bus → Bool
-is_removed i b = removed_in i b (svc_items side.Ap b)
+abbrev pub is_removed : ℕ → State → Bool
+is_removed i s = removed_in i s.past.pulled (svc_items side.Ap s.bus)
 
 -- the last of some requests has this number, and isn't unidirectional
 abbrev pub IsLast : ℕ → List (ℕ × Request) → Type 0
@@ -31,7 +30,7 @@ IsLast n (e ∷ f ∷ es) = IsLast n (f ∷ es)
 -- Request n of the application processor to the supervisory controller is awaited, and no reply to
 -- it stands in front of a removal, or is being handled.
 pub record IsUnanswered (i n : ℕ) (a : Point) : Type 0 where
-  pub clean : IsClean n i a.state.bus (svc_items side.Ap a.state.bus)
+  pub clean : IsClean n i a.state.past.pulled (svc_items side.Ap a.state.bus)
   pub hand : (h : Hand) → a.hand ≡ Some h → is_reply_to n h.item ≡ false
   pub request : Request
   pub made : request_of n a.state.bus ≡ Some request
@@ -41,7 +40,7 @@ pub record IsUnanswered (i n : ℕ) (a : Point) : Type 0 where
 
 -- a removal waits while the power is on
 abbrev pub IsHot : ℕ → Point → Type 0
-IsHot i a = (is_removed i a.state.bus ≡ true) × (level_of i a.state.ports ≡ 1)
+IsHot i a = (is_removed i a.state ≡ true) × (level_of i a.state.ports ≡ 1)
 
 -- An enumeration waits for request n: that is the last that waits to be served, if any does, and it
 -- isn't answered where a removal waits while the power is on.
@@ -57,7 +56,7 @@ IsCalm i a = (enums i a.state.bus ≡ []) × (IsHot i a → ⊥)
 -- removal waits, power is at most 1, and where it is on, all are starts.
 pub record IsLow (i : ℕ) (a : Point) : Type 0 where
   pub restarts : AreStarts (behind_first (enums i a.state.bus))
-  pub low : is_removed i a.state.bus ≡ true → level_of i a.state.ports ≤ 1
+  pub low : is_removed i a.state ≡ true → level_of i a.state.ports ≤ 1
   pub starts : IsHot i a → AreStarts (enums i a.state.bus)
 
 pub record IsQuiet (i : ℕ) (a : Point) : Type 0 where
@@ -107,13 +106,13 @@ starts-pushed (f ∷ es) e h is = more es h
 pub data Power (i : ℕ) (a b : Point) : Type 0 where
   -- neither changes, but that a removal may be taken, and what isn't answered stays so
   stays : level_of i b.state.ports ≡ level_of i a.state.ports
-      → (is_removed i b.state.bus ≡ true → is_removed i a.state.bus ≡ true)
-      → ((n : ℕ) → is_removed i b.state.bus ≡ true → IsUnanswered i n a → IsUnanswered i n b)
+      → (is_removed i b.state ≡ true → is_removed i a.state ≡ true)
+      → ((n : ℕ) → is_removed i b.state ≡ true → IsUnanswered i n a → IsUnanswered i n b)
       → Power i a b
   -- there is none
   off : level_of i b.state.ports ≡ 0 → Power i a b
   -- no removal waits
-  none : (is_removed i b.state.bus ≡ true → ⊥) → Power i a b
+  none : (is_removed i b.state ≡ true → ⊥) → Power i a b
 
 -- What is said stays from one point to another.
 pub record SameView (i : ℕ) (a b : Point) : Type 0 where
@@ -140,7 +139,7 @@ low-still i a b v h = record {
       (λ e. subst AreStarts (sym e) (starts-behind (enums i a.state.bus) s)) v.enums;
 }
   where
-    by : Power i a b → is_removed i b.state.bus ≡ true → level_of i b.state.ports ≤ 1
+    by : Power i a b → is_removed i b.state ≡ true → level_of i b.state.ports ≤ 1
     by (stays level removed kept) r = subst (λ n. n ≤ 1) (sym level) (h.low (removed r))
     by (off zero) r = omega (arith, zero)
     by (none h) r = absurd (h r)
@@ -192,30 +191,31 @@ enums-same i a after basis keeps far =
     ∙ enums-more i a.state.bus after (svc_items side.Far a.state.bus) keeps
     (asked-toward side.Far a basis)
 
-pub removed-same : (i : ℕ) {a : Point} (after : Bus) → Basis a → KeepsRequests a.state.bus after
-    → svc_items side.Ap after ≡ svc_items side.Ap a.state.bus
-    → is_removed i after ≡ is_removed i a.state.bus
-removed-same i {a} after basis keeps same =
-    ap (removed_in i after) same
-    ∙ removed-more i a.state.bus after (svc_items side.Ap a.state.bus) keeps
-    (asked-toward side.Ap a basis)
+-- where what waits toward the application processor stays, and the pulls that are remembered
+pub removed-same : (i : ℕ) (a b : Point)
+    → svc_items side.Ap b.state.bus ≡ svc_items side.Ap a.state.bus
+    → b.state.past.pulled ≡ a.state.past.pulled → is_removed i b.state ≡ is_removed i a.state
+removed-same i a b same pulled =
+    ap (removed_in i b.state.past.pulled) same
+    ∙ ap (λ ps. removed_in i ps (svc_items side.Ap a.state.bus)) pulled
 
-pub clean-same : (n i : ℕ) (a : Point) (after : Bus) → Basis a → KeepsRequests a.state.bus after
-    → svc_items side.Ap after ≡ svc_items side.Ap a.state.bus
-    → IsClean n i a.state.bus (svc_items side.Ap a.state.bus)
-    → IsClean n i after (svc_items side.Ap after)
-clean-same n i a after basis keeps same h =
-    subst (IsClean n i after) (sym same)
-    (clean-more n i a.state.bus after (svc_items side.Ap a.state.bus) keeps
-    (asked-toward side.Ap a basis) h)
+pub clean-same : (n i : ℕ) (a b : Point)
+    → svc_items side.Ap b.state.bus ≡ svc_items side.Ap a.state.bus
+    → b.state.past.pulled ≡ a.state.past.pulled
+    → IsClean n i a.state.past.pulled (svc_items side.Ap a.state.bus)
+    → IsClean n i b.state.past.pulled (svc_items side.Ap b.state.bus)
+clean-same n i a b same pulled h =
+    subst (IsClean n i b.state.past.pulled) (sym same)
+    (subst (λ ps. IsClean n i ps (svc_items side.Ap a.state.bus)) (sym pulled) h)
 
 -- what isn't answered, where it is awaited still
-pub unanswered-same : (i n : ℕ) (a b : Point) → Basis a → KeepsRequests a.state.bus b.state.bus
+pub unanswered-same : (i n : ℕ) (a b : Point) → KeepsRequests a.state.bus b.state.bus
     → svc_items side.Ap b.state.bus ≡ svc_items side.Ap a.state.bus
+    → b.state.past.pulled ≡ a.state.past.pulled
     → ((h : Hand) → b.hand ≡ Some h → is_reply_to n h.item ≡ false)
     → is_awaited n b.state.bus ≡ true → IsUnanswered i n a → IsUnanswered i n b
-unanswered-same i n a b basis keeps same hand awaited u = record {
-  clean = clean-same n i a b.state.bus basis keeps same u.clean;
+unanswered-same i n a b keeps same pulled hand awaited u = record {
+  clean = clean-same n i a b same pulled u.clean;
   hand = hand;
   request = u.request;
   made = keeps n u.request u.made;
@@ -227,10 +227,11 @@ unanswered-same i n a b basis keeps same hand awaited u = record {
 -- The view stays where the queues and the power do.
 pub view-same : {i : ℕ} {a b : Point} → Basis a → SameQueues a.state.bus b.state.bus
     → level_of i b.state.ports ≡ level_of i a.state.ports
+    → b.state.past.pulled ≡ a.state.past.pulled
     → ((n : ℕ) → IsUnanswered i n a → (h : Hand) → b.hand ≡ Some h → is_reply_to n h.item ≡ false)
     → ((n : ℕ) → IsUnanswered i n a → is_awaited n b.state.bus ≡ true) → SameView i a b
-view-same {i} {a} {b} basis q level hand awaited = record {
+view-same {i} {a} {b} basis q level pulled hand awaited = record {
   enums = inl (enums-same i a b.state.bus basis q.keeps q.far);
-  power = stays level (λ r. sym (removed-same i b.state.bus basis q.keeps q.ap) ∙ r)
-      (λ n r u. unanswered-same i n a b basis q.keeps q.ap (hand n u) (awaited n u) u);
+  power = stays level (λ r. sym (removed-same i a b q.ap pulled) ∙ r)
+      (λ n r u. unanswered-same i n a b q.keeps q.ap pulled (hand n u) (awaited n u) u);
 }

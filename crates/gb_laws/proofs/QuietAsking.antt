@@ -63,6 +63,9 @@ quiet-asked i a {b} q rest label basis links there pending free none state hand 
     level : level_of i b.state.ports ≡ level_of i a.state.ports
     level = ap (λ (t : State). level_of i t.ports) state
 
+    pulled : b.state.past.pulled ≡ a.state.past.pulled
+    pulled = ap (λ (t : State). t.past.pulled) state
+
     host : (x : Interface) → IsIn x b.state.host.interfaces → IsIn x a.state.host.interfaces
     host x j = subst (λ (t : State). IsIn x t.host.interfaces) state j
 
@@ -121,7 +124,7 @@ quiet-asked i a {b} q rest label basis links there pending free none state hand 
 
     hot-before : q.on ≡ 1 → IsHot i b → IsHot i a
     hot-before on hot = (
-      sym (removed-same i b.state.bus basis keeps (ap_same on)) ∙ hot.0,
+      sym (removed-same i a b (ap_same on) pulled) ∙ hot.0,
       sym level ∙ hot.1,
     )
 
@@ -136,7 +139,7 @@ quiet-asked i a {b} q rest label basis links there pending free none state hand 
             (formed.kind ∙ ap kind_of start))
             (λ calm. subst (λ es. AreStarts (behind_first (es ++ e ∷ []))) (sym calm.0) tt) may);
         low = λ r. subst (λ n. n ≤ 1) (sym level) (h.low.low
-            (sym (removed-same i b.state.bus basis keeps (ap_same on)) ∙ r));
+            (sym (removed-same i a b (ap_same on) pulled) ∙ r));
         starts = λ hot. subst AreStarts (sym pushed) (⊎_elim
             (λ start. each-append (λ (x : ℕ × Request). x.1.kind ≡ 0x21) (enums i a.state.bus)
             (e ∷ []) (h.low.starts (hot-before on hot)) (formed.kind ∙ ap kind_of start, tt))
@@ -183,11 +186,12 @@ quiet-asked i a {b} q rest label basis links there pending free none state hand 
         let f = formed-enumerates i q formed e is in
         power on f.0 f.1 is (h.due none q asks f.1 f.0)
     enumeration on e false is =
-        let v = view-plain i a (host_draft q a.state.now) label basis there bus level hand on refl
+        let v = view-plain i a (host_draft q a.state.now) label basis there bus level pulled hand
+        on refl
         is in
         still v (λ at s. plain on v at s is)
 
     by : (t : Bool) → asks_control q.purpose.step ≡ t → IsQuiet i b
-    by true e = still (view-asked i a (host_draft q a.state.now) label basis bus level hand
+    by true e = still (view-asked i a (host_draft q a.state.now) label basis bus level pulled hand
         (two-one q.on (formed.control e))) (λ at s. absurd (control true e refl s))
     by false e = enumeration (formed.on e) e (enumerates i (read_svc_ask q.kind q.payload)) refl

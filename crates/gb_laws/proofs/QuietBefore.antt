@@ -1,78 +1,51 @@
 -- While a removal waits, only starts of the enumeration of its interface wait, and no answer that
 -- it waits for comes before the removal.
-use Rattle.std.proofs.Common.{Bool, List, None, Option, Some, ap, cond, false, refl, subst, sym}
-use Rattle.std.proofs.Common.{true, ℕ, [], ◌∙◌, ◌∷◌, ◌≡◌, ◌≢◌}
+use Rattle.std.proofs.Common.{Bool, List, Some, ap, cond, false, refl, subst, sym, true, ℕ, [], ◌∙◌}
+use Rattle.std.proofs.Common.{◌∷◌, ◌≡◌, ◌≢◌}
 use Rattle.std.specs.List.{list_any}
-use Rattle.std.specs.Prelude.{not, ◌&&◌, ◌||◌}
+use Rattle.std.specs.Prelude.{not, ◌&&◌}
 use Rattle.gb_base.specs.declared.end.Side.TheVariants as side
 use Rattle.gb_base.specs.declared.entry.Entry.{Entry}
 use Rattle.gb_base.specs.declared.peers.Interface.{Interface}
 use Rattle.gb_base.specs.declared.steps.SequenceStep.{SequenceStep}
-use Rattle.gb_machine.specs.Bus.{Ask, Bus, Item, Raw, RawReply, Reply, Request, request_of}
+use Rattle.gb_machine.specs.Bus.{Ask, Item, Raw, RawReply, Reply, Request, request_of}
 use Rattle.gb_machine.specs.LawsSvc.{IsQuiet, IsStart, awaits_removal, before_last}
-use Rattle.gb_machine.specs.SvcQueues.{is_ask_that, is_removal, is_reply_to, items_in, request_onto}
-use Rattle.gb_machine.specs.SvcQueues.{svc_items}
+use Rattle.gb_machine.specs.SvcQueues.{is_removal_in, is_reply_to, items_in, svc_items}
 use Rattle.gb_machine.specs.{Members.Each, Members.IsIn, Ports.level_of}
 use Rattle.gb_machine.specs.{SequenceSteps.asks_control, State.State}
 use Rattle.gb_invariants.proofs.{Awaiting.same-some, Outcomes.same-number}
 use Rattle.gb_laws.proofs.AwaitsOwn.{OwnTo, own-throughout, waiting-interface}
-use Rattle.gb_laws.proofs.Enums.{IsClean, clean-none, enums, enums-requests, item_removes}
-use Rattle.gb_laws.proofs.Enums.{removed_in, request_removes, starts-requests}
-use Rattle.gb_laws.proofs.QuietRuns.{QuietTo, quiet-throughout, removal-waits}
+use Rattle.gb_laws.proofs.Enums.{IsClean, clean-none, enums, enums-requests, starts-requests}
+use Rattle.gb_laws.proofs.QuietRuns.{QuietTo, quiet-throughout}
 use Rattle.gb_laws.proofs.{QuietBuses.svc-found, Runs.HoldsByMoments}
 
 -- ---- answers in front of a removal
 
--- an item is a removal
-removal-item : (i : ℕ) (b : Bus) (x : Item) → is_ask_that (is_removal i) b x ≡ item_removes i b x
-removal-item i b (Ask n) = by (request_of n b)
-  where
-    unmarked : (t : Bool) → (t || false) ≡ t
-    unmarked true = refl
-    unmarked false = refl
-
-    by : (o : Option Request) → list_any (is_removal i) (request_onto o []) ≡ request_removes i o
-    by None = refl
-    by (Some r) = unmarked (is_removal i r)
-removal-item i b (Reply n result payload) = refl
-removal-item i b (Raw bytes) = refl
-removal-item i b (RawReply label kind result payload) = refl
-
-removal-among : (i : ℕ) (b : Bus) (xs : List Item)
-    → list_any (is_ask_that (is_removal i) b) xs ≡ removed_in i b xs
-removal-among i b [] = refl
-removal-among i b (x ∷ xs) = ap (λ t. t || list_any (is_ask_that (is_removal i) b) xs)
-    (removal-item i b x) ∙ ap (λ t. item_removes i b x || t) (removal-among i b xs)
-
 -- none of those in front of the last removal is a reply to request n
-clean-before : (n i : ℕ) (b : Bus) (xs : List Item) → IsClean n i b xs
-    → Each (λ item. is_reply_to n item ≡ false) (before_last (is_ask_that (is_removal i) b) xs)
-clean-before n i b [] h = tt
-clean-before n i b (x ∷ xs) h =
-    by (list_any (is_ask_that (is_removal i) b) xs) refl (clean-before n i b xs h.1)
+clean-before : (n i : ℕ) (ps : List (ℕ × ℕ)) (xs : List Item) → IsClean n i ps xs
+    → Each (λ item. is_reply_to n item ≡ false) (before_last (is_removal_in i ps) xs)
+clean-before n i ps [] h = tt
+clean-before n i ps (x ∷ xs) h =
+    by (list_any (is_removal_in i ps) xs) refl (clean-before n i ps xs h.1)
   where
-    by : (t : Bool) → list_any (is_ask_that (is_removal i) b) xs ≡ t
-        → Each (λ item. is_reply_to n item ≡ false) (before_last (is_ask_that (is_removal i) b) xs)
+    by : (t : Bool) → list_any (is_removal_in i ps) xs ≡ t
+        → Each (λ item. is_reply_to n item ≡ false) (before_last (is_removal_in i ps) xs)
         → Each (λ item. is_reply_to n item ≡ false)
-        (cond t (x ∷ before_last (is_ask_that (is_removal i) b) xs) [])
-    by true e rec = (h.0 (sym (removal-among i b xs) ∙ e), rec)
+        (cond t (x ∷ before_last (is_removal_in i ps) xs) [])
+    by true e rec = (h.0 e, rec)
     by false e rec = tt
 
 -- ---- the law
 
 quiet-before : {told : List Entry} {s : State} → QuietTo told s → OwnTo told s → IsQuiet told s
 quiet-before {s} h own = record {
-  low = λ i r. (h.quiet i).low.low (removed i r);
+  low = λ i r. (h.quiet i).low.low r;
   starts = λ i r one. subst (Each IsStart) (sym (enums-requests i s.bus (svc_items side.Far s.bus)))
-      (starts-requests (enums i s.bus) ((h.quiet i).low.starts (removed i r, one)));
-  unanswered = λ i n step r one e. clean-before n i s.bus (svc_items side.Ap s.bus)
+      (starts-requests (enums i s.bus) ((h.quiet i).low.starts (r, one)));
+  unanswered = λ i n step r one e. clean-before n i s.past.pulled (svc_items side.Ap s.bus)
       (clean i n step r one (waiting-interface i s.host (n, step) e) (asks_control step) refl);
 }
   where
-    removed : (i : ℕ) → awaits_removal i s.bus ≡ true
-        → removed_in i s.bus (svc_items side.Ap s.bus) ≡ true
-    removed i r = sym (removal-waits i s.bus (svc_items side.Ap s.bus)) ∙ r
-
     -- no reply to a request on another connection is here
     none : (n : ℕ) (r : Request) → request_of n s.bus ≡ Some r → r.connection ≢ 1 → (x : Item)
         → IsIn x (svc_items side.Ap s.bus) → (t : Bool) → is_reply_to n x ≡ t → t ≡ false
@@ -88,18 +61,18 @@ quiet-before {s} h own = record {
     none n r made other (Raw bytes) i true e = absurd cc
     none n r made other (RawReply label kind result payload) i true e = absurd cc
 
-    clean : (i n : ℕ) (step : SequenceStep) → awaits_removal i s.bus ≡ true → level_of i s.ports ≡ 1
+    clean : (i n : ℕ) (step : SequenceStep) → awaits_removal i s ≡ true → level_of i s.ports ≡ 1
         → (x : Interface) × IsIn x s.host.interfaces × (x.intf ≡ i) × (x.awaits ≡ Some (n, step))
-        → (t : Bool) → asks_control step ≡ t → IsClean n i s.bus (svc_items side.Ap s.bus)
+        → (t : Bool) → asks_control step ≡ t → IsClean n i s.past.pulled (svc_items side.Ap s.bus)
     clean i n step r one x true e =
         let w = own.own.waits x.0 x.1 (n, step) x.3 in
-        clean-none n i s.bus (svc_items side.Ap s.bus) (λ y j.
+        clean-none n i s.past.pulled (svc_items side.Ap s.bus) (λ y j.
         none n w.request w.made (w.control e) y j (is_reply_to n y) refl)
     clean i n step r one x false e =
         let enumeration = (own.links.1.host.interfaces x.0 x.1 (n, step) x.3).0 in
         (((h.quiet i).waits x.0 x.1 x.2 (n, step) x.3
         (ap (λ t. t && not (asks_control step)) enumeration ∙ ap not e)).quiet
-        (removed i r, one)).clean
+        (r, one)).clean
 
 -- Before a removal it is quiet.
 pub quiet-before_moments : HoldsByMoments IsQuiet

@@ -162,8 +162,8 @@ pub new-unanswered : (i : ℕ) (a b : Point) (d : Draft) (label : ℕ) → Basis
     → d.connection ≡ 1 → d.side ≡ side.Ap → d.oneway ≡ false
     → IsUnanswered i (next_number a.state.bus) b
 new-unanswered i a b d label basis there free hand bus one by_ap twoway = record {
-  clean = subst (λ is. IsClean (next_number a.state.bus) i b.state.bus is) (sym ap_same)
-      (clean-none (next_number a.state.bus) i b.state.bus (svc_items side.Ap a.state.bus)
+  clean = subst (IsClean (next_number a.state.bus) i b.state.past.pulled) (sym ap_same)
+      (clean-none (next_number a.state.bus) i b.state.past.pulled (svc_items side.Ap a.state.bus)
       (next-unreplied a basis there));
   hand = λ h e. absurd (none-some (sym free ∙ sym hand ∙ e));
   request = requested d label;

@@ -14,18 +14,22 @@ use Rattle.gb_machine.specs.{SvcTable.Unroute, SvcTable.svc_step}
 use Rattle.gb_invariants.proofs.Awaiting.{none-some, not-both, same-some}
 use Rattle.gb_invariants.proofs.{Counts.times-some, Counts.total-some, Outcomes.is-same}
 use Rattle.gb_invariants.specs.Facts.{times_on}
-use Rattle.gb_laws.proofs.Enums.{AreStarts, IsClean, clean-none, enum-waits, enum_of, enums}
-use Rattle.gb_laws.proofs.Enums.{enums_of}
-use Rattle.gb_laws.proofs.Levels.{StepOn, by_record, nothing_changes, starts}
-use Rattle.gb_laws.proofs.Levels.{step-levels}
+use Rattle.gb_laws.proofs.Enums.{AreStarts, clean-none, enum-waits, enum_of, enums, enums_of}
+use Rattle.gb_laws.proofs.Levels.{StepOn, by_record, nothing_changes, starts, step-levels}
 use Rattle.gb_laws.proofs.PointParts.{Basis, Point, resting}
 use Rattle.gb_laws.proofs.Points.{IsIdle, IsServing, PortsFrom, as_before, loses_route, served}
 use Rattle.gb_laws.proofs.Quiet.{IsLast, IsQuiet, IsUnanswered, SameView, is_removed, last-behind}
-use Rattle.gb_laws.proofs.Quiet.{last-in, none, off, quiet-still, starts-behind}
+use Rattle.gb_laws.proofs.Quiet.{clean-same, last-in, none, off, quiet-still, removed-same}
+use Rattle.gb_laws.proofs.Quiet.{starts-behind}
 use Rattle.gb_laws.proofs.QuietEnums.{at-most_one, start-kind, unrouted-low, unrouted-other}
 use Rattle.gb_laws.proofs.{AskedWaits.AsksIn, AskedWaits.no-asks, LinkFrom.Linked}
 use Rattle.gb_laws.proofs.{QuietBuses.svc-found, QuietKept.none-hand, QuietKept.view-rest}
 use Rattle.gb_laws.proofs.{QuietServed.IsServed, QuietServed.serving, SvcThere.There}
+
+-- where the bus stays
+removed-back : (i : ℕ) (a b : Point) → b.state.bus ≡ a.state.bus
+    → b.state.past.pulled ≡ a.state.past.pulled → is_removed i b.state ≡ is_removed i a.state
+removed-back i a b bus pulled = removed-same i a b (ap (svc_items side.Ap) bus) pulled
 
 module _ (m : Moment) (i : ℕ) (basis : Basis (resting m.told m.before))
     (links : Linked m.before.bus m.before.host []) (there : There m.before.bus)
@@ -57,13 +61,14 @@ module _ (m : Moment) (i : ℕ) (basis : Basis (resting m.told m.before))
 
   -- where it is one of an enumeration: what waits for another is still the last, and isn't answered
   started : (a b : Point) (q : Incoming) (w : IsServed m a q) → b.state.bus ≡ a.state.bus
-      → b.state.host ≡ m.before.host → b.hand ≡ None → b.pending ≡ [] → b.asked ≡ None
+      → b.state.past.pulled ≡ a.state.past.pulled → b.state.host ≡ m.before.host → b.hand ≡ None
+      → b.pending ≡ [] → b.asked ≡ None
       → is_enumeration_request i w.request ≡ true
-      → (is_removed i m.before.bus ≡ true → level_of i b.state.ports ≤ 1) → IsQuiet i b
-  started a b q w bus host hand pending asked is low = record {
+      → (is_removed i m.before ≡ true → level_of i b.state.ports ≤ 1) → IsQuiet i b
+  started a b q w bus pulled host hand pending asked is low = record {
     low = record {
       restarts = subst (λ es. AreStarts (behind_first es)) (sym rest) (starts-behind later tail);
-      low = λ r. low (sym (w.removed i) ∙ ap (is_removed i) (sym bus) ∙ r);
+      low = λ r. low (sym (w.removed i) ∙ sym (removed-back i a b bus pulled) ∙ r);
       starts = λ hot. subst AreStarts (sym rest) tail;
     };
     waits = λ x j at v e s.
@@ -107,8 +112,8 @@ module _ (m : Moment) (i : ℕ) (basis : Basis (resting m.told m.before))
           let own = basis.bus.items.own c.0 side.Far (Ask n) c.3 queued in
           let same = same-some own.0 r.0 (sym own.1 ∙ waits.1) in
           let svc = links.svc c.0 c.3 c.4 in record {
-            clean = subst (λ x. IsClean n i x (svc_items side.Ap x)) (sym bus)
-                (w.clean n i (clean-none n i m.before.bus (svc_items side.Ap m.before.bus)
+            clean = clean-same n i a b (ap (svc_items side.Ap) bus) pulled
+                (w.clean n i (clean-none n i m.before.past.pulled (svc_items side.Ap m.before.bus)
                 (unreplied-yet n r.0 member)));
             hand = λ h e. none-hand b hand (λ x. is_reply_to n x.item ≡ false) h e;
             request = r.0;
@@ -123,10 +128,11 @@ module _ (m : Moment) (i : ℕ) (basis : Basis (resting m.told m.before))
   -- ---- all changes of levels
 
   pub quiet-ports : (a : Point) {b : Point} (ports : List Port) → Basis a → PortsFrom m a.state
-      ports → IsIdle a → b.state.bus ≡ a.state.bus → b.state.host ≡ a.state.host
+      ports → IsIdle a → b.state.bus ≡ a.state.bus
+      → b.state.past.pulled ≡ a.state.past.pulled → b.state.host ≡ a.state.host
       → b.state.ports ≡ ports → b.hand ≡ a.hand → b.pending ≡ a.pending → b.asked ≡ a.asked
       → IsQuiet i a → IsQuiet i b
-  quiet-ports a {b} ports here from idle bus host now hand pending asked h = by from
+  quiet-ports a {b} ports here from idle bus pulled host now hand pending asked h = by from
     where
       still : SameView i a b → IsQuiet i b
       still v = quiet-still v (λ x j w e. record {
@@ -137,7 +143,8 @@ module _ (m : Moment) (i : ℕ) (basis : Basis (resting m.told m.before))
       }) asked (λ q j. subst (AsksIn q) pending j) h
 
       level-same : level_of i ports ≡ level_of i a.state.ports → IsQuiet i b
-      level-same e = still (view-rest here bus (ap (level_of i) now ∙ e) (λ x f. sym hand ∙ f))
+      level-same e =
+          still (view-rest here bus (ap (level_of i) now ∙ e) pulled (λ x f. sym hand ∙ f))
 
       no-power : level_of i ports ≡ 0 → IsQuiet i b
       no-power e = still (record {
@@ -145,10 +152,10 @@ module _ (m : Moment) (i : ℕ) (basis : Basis (resting m.told m.before))
         power = off (ap (level_of i) now ∙ e);
       })
 
-      no-removal : (is_removed i a.state.bus ≡ true → ⊥) → IsQuiet i b
+      no-removal : (is_removed i a.state ≡ true → ⊥) → IsQuiet i b
       no-removal f = still (record {
         enums = inl (ap (enums i) bus);
-        power = none (λ r. f (ap (is_removed i) (sym bus) ∙ r));
+        power = none (λ r. f (sym (removed-back i a b bus pulled) ∙ r));
       })
 
       step : (q : Incoming) → IsServing m a.state q
@@ -189,23 +196,23 @@ module _ (m : Moment) (i : ℕ) (basis : Basis (resting m.told m.before))
               ++ enums_of i m.before.bus (behind_first (svc_items side.Far m.before.bus)))
               (is-enumeration g)) all).0
 
-          removed : is_removed i a.state.bus ≡ true → is_removed i m.before.bus ≡ true
+          removed : is_removed i a.state ≡ true → is_removed i m.before ≡ true
           removed r = sym ((serving m basis links there a q w).removed i) ∙ r
 
           later : enumerates i (Ok ask) ≡ true → starts i ask ≡ false
-              → (t : Bool) → is_removed i m.before.bus ≡ t → IsQuiet i b
-          later g u false r = no-removal (λ k. not-both (is_removed i m.before.bus) (removed k) r)
+              → (t : Bool) → is_removed i m.before ≡ t → IsQuiet i b
+          later g u false r = no-removal (λ k. not-both (is_removed i m.before) (removed k) r)
           later g u true r = ⊎_elim (λ zero. no-power (becomes ∙ l.zero zero u))
               (λ one. absurd (not-both (starts i ask) (start-kind i q.kind q.payload ask read g
               (first-kind g (start.low.starts (r, one)))) u))
               (at-most_one (level_of i m.before.ports) (start.low.low r))
 
           begins : enumerates i (Ok ask) ≡ true → (t : Bool) → starts i ask ≡ t → IsQuiet i b
-          begins g true u = started a b q (serving m basis links there a q w) bus (host ∙ w.host)
-              (hand ∙ idle.hand) (pending ∙ idle.pending) (asked ∙ idle.asked) (is-enumeration g)
+          begins g true u = started a b q (serving m basis links there a q w) bus pulled
+              (host ∙ w.host) (hand ∙ idle.hand) (pending ∙ idle.pending) (asked ∙ idle.asked) (is-enumeration g)
               (λ r. subst (λ n. n ≤ 1) (sym (ap (level_of i) now ∙ becomes))
               (l.low u (start.low.low r)))
-          begins g false u = later g u (is_removed i m.before.bus) refl
+          begins g false u = later g u (is_removed i m.before) refl
 
           enumerating : (t : Bool) → enumerates i (Ok ask) ≡ t → IsQuiet i b
           enumerating false g =

@@ -11,13 +11,13 @@ use Rattle.gb_machine.specs.Delivery.{ended, forgotten, replied}
 use Rattle.gb_machine.specs.Requests.{has_label, is_of, same_side}
 use Rattle.gb_machine.specs.{Incoming.Incoming, Incoming.reply_item, LawsBus.is_awaited}
 use Rattle.gb_machine.specs.{Ports.level_of, Sending.put, Serving.Answer, SvcQueues.is_reply_to}
-use Rattle.gb_machine.specs.{SvcQueues.svc_items, Wiring.side_ended}
+use Rattle.gb_machine.specs.{SvcQueues.is_removal_in, SvcQueues.svc_items, Wiring.side_ended}
 use Rattle.gb_invariants.proofs.Awaiting.{ended-after, forgotten-after, is_of-is, not-both}
 use Rattle.gb_invariants.proofs.Awaiting.{same-some, side_ended-after}
 use Rattle.gb_invariants.proofs.Outcomes.{both-true, is-same, same-number}
 use Rattle.gb_invariants.proofs.{BusChanges.KeepsRequests, Drawing.given_up_with-is}
 use Rattle.gb_invariants.proofs.{Drawing.open_with-in_use, Selves.put-self}
-use Rattle.gb_laws.proofs.Enums.{enums, enums-unasked, enums_of, item_enum, item_removes}
+use Rattle.gb_laws.proofs.Enums.{enums, enums-unasked, enums_of, item_enum}
 use Rattle.gb_laws.proofs.PointParts.{Basis, Hand, Point}
 use Rattle.gb_laws.proofs.Points.{Answers, Forgets, by_label, by_number}
 use Rattle.gb_laws.proofs.Quiet.{IsUnanswered, SameQueues, SameView, removed-same, stays}
@@ -34,18 +34,19 @@ reply-no-enum i b q r = by q.number
     by None = refl
     by (Some n) = refl
 
-pub reply-no-removal : (i : ℕ) (b : Bus) (q : Incoming) (r : Answer)
-    → item_removes i b (reply_item q r) ≡ false
-reply-no-removal i b q r = by q.number
+pub reply-no-removal : (i : ℕ) (ps : List (ℕ × ℕ)) (q : Incoming) (r : Answer)
+    → is_removal_in i ps (reply_item q r) ≡ false
+reply-no-removal i ps q r = by q.number
   where
-    by : (o : Option ℕ) → item_removes i b (reply_item (record q { number = o }) r) ≡ false
+    by : (o : Option ℕ) → is_removal_in i ps (reply_item (record q { number = o }) r) ≡ false
     by None = refl
     by (Some n) = refl
 
 pub view-replied : (i : ℕ) (a : Point) {b : Point} (k : ℕ) (s : Side) (q : Incoming) (r : Answer) →
     Basis a → There a.state.bus → b.state.bus ≡ replied k s (reply_item q r) a.state.bus
-    → level_of i b.state.ports ≡ level_of i a.state.ports → b.hand ≡ None → SameView i a b
-view-replied i a {b} k s q r basis there bus level free = by (k == 1) refl s refl
+    → level_of i b.state.ports ≡ level_of i a.state.ports
+    → b.state.past.pulled ≡ a.state.past.pulled → b.hand ≡ None → SameView i a b
+view-replied i a {b} k s q r basis there bus level pulled free = by (k == 1) refl s refl
   where
     keeps : KeepsRequests a.state.bus b.state.bus
     keeps n x made = ap (request_of n) bus ∙ made
@@ -63,14 +64,14 @@ view-replied i a {b} k s q r basis there bus level free = by (k == 1) refl s ref
         (queues-other a.state.bus (replied k s (reply_item q r) a.state.bus) k
         (put s (reply_item q r)) refl (λ n x made. made)
         (λ y. (put-self s (reply_item q r) y).number)
-        (λ one. not-both (k == 1) (ap (λ n. n == 1) one) e))) level hand awaited
+        (λ one. not-both (k == 1) (ap (λ n. n == 1) one) e))) level pulled hand awaited
     by true e side.Ap is =
         let p = replied-put a side.Ap (reply_item q r) k basis there (same-number k 1 e) in
         let now : b.state.bus ≡ replied k side.Ap (reply_item q r) a.state.bus =
         bus ∙ ap (λ z. replied k z (reply_item q r) a.state.bus) is in
         view-put_ap i a b (reply_item q r) basis keeps (ap (svc_items side.Ap) now ∙ p.toward)
-        (ap (svc_items side.Far) now ∙ p.from) (reply-no-removal i b.state.bus q r) level hand
-        awaited
+        (ap (svc_items side.Far) now ∙ p.from) (reply-no-removal i b.state.past.pulled q r) level
+        pulled hand awaited
     by true e side.Far is =
         let p = replied-put a side.Far (reply_item q r) k basis there (same-number k 1 e) in
         let now : b.state.bus ≡ replied k side.Far (reply_item q r) a.state.bus =
@@ -79,8 +80,8 @@ view-replied i a {b} k s q r basis there bus level free = by (k == 1) refl s ref
           enums = inl (ap (enums i) now ∙ ap (enums_of i a.state.bus) p.toward
               ∙ enums-unasked i a.state.bus (svc_items side.Far a.state.bus) (reply_item q r)
               (reply-no-enum i a.state.bus q r));
-          power = stays level (λ t. sym (removed-same i b.state.bus basis keeps same) ∙ t)
-              (λ n t u. unanswered-same i n a b basis keeps same (hand n u) (awaited n u) u);
+          power = stays level (λ t. sym (removed-same i a b same pulled) ∙ t)
+              (λ n t u. unanswered-same i n a b keeps same pulled (hand n u) (awaited n u) u);
         }
 
 -- ---- answers
@@ -112,10 +113,11 @@ other-label i n q a x r basis links u is dirty made on same =
 
 pub view-answers : (i : ℕ) (a : Point) {b : Point} (x : Hand) (q : ℕ) (how : Outcome) → Basis a →
     LinkedAt a → a.hand ≡ Some x → Answers x q a.state.bus → b.state.bus ≡ ended q how a.state.bus
-    → level_of i b.state.ports ≡ level_of i a.state.ports → b.hand ≡ None → SameView i a b
-view-answers i a {b} x q how basis links is which bus level free =
+    → level_of i b.state.ports ≡ level_of i a.state.ports
+    → b.state.past.pulled ≡ a.state.past.pulled → b.hand ≡ None → SameView i a b
+view-answers i a {b} x q how basis links is which bus level pulled free =
     view-same basis (subst (SameQueues a.state.bus) (sym bus)
-    (record { keeps = λ n r made. made; far = refl; ap = refl })) level
+    (record { keeps = λ n r made. made; far = refl; ap = refl })) level pulled
     (λ n u h e. none-hand b free (λ y. is_reply_to n y.item ≡ false) h e)
     (λ n u. subst (λ y. is_awaited n y ≡ true) (sym bus)
     (ended-after q how a.state.bus n (other n u which) u.awaited))
@@ -129,10 +131,11 @@ view-answers i a {b} x q how basis links is which bus level free =
 
 pub view-forgets : (i : ℕ) (a : Point) {b : Point} (x : Hand) (q : ℕ) → Basis a → LinkedAt a
     → a.hand ≡ Some x → Forgets x q a.state.bus → b.state.bus ≡ forgotten q a.state.bus
-    → level_of i b.state.ports ≡ level_of i a.state.ports → b.hand ≡ None → SameView i a b
-view-forgets i a {b} x q basis links is which bus level free =
+    → level_of i b.state.ports ≡ level_of i a.state.ports
+    → b.state.past.pulled ≡ a.state.past.pulled → b.hand ≡ None → SameView i a b
+view-forgets i a {b} x q basis links is which bus level pulled free =
     view-same basis (subst (SameQueues a.state.bus) (sym bus)
-    (record { keeps = λ n r made. made; far = refl; ap = refl })) level
+    (record { keeps = λ n r made. made; far = refl; ap = refl })) level pulled
     (λ n u h e. none-hand b free (λ y. is_reply_to n y.item ≡ false) h e)
     (λ n u. subst (λ y. is_awaited n y ≡ true) (sym bus)
     (forgotten-after q a.state.bus n (other n u which) u.awaited))
@@ -153,9 +156,10 @@ pub view-side : (i : ℕ) (a : Point) {b : Point} (k : ℕ) (at : Side) (mid : B
     → ((n : ℕ) → is_awaited n a.state.bus ≡ true → is_awaited n mid ≡ true)
     → ((n : ℕ) (r : Request) → request_of n a.state.bus ≡ Some r → request_of n mid ≡ Some r)
     → b.state.bus ≡ side_ended k at mid → k ≢ 1
-    → level_of i b.state.ports ≡ level_of i a.state.ports → b.hand ≡ a.hand → SameView i a b
-view-side i a k at mid basis queues to made bus other level hand =
-    view-same basis queues level (λ n u h e. u.hand h (sym hand ∙ e))
+    → level_of i b.state.ports ≡ level_of i a.state.ports
+    → b.state.past.pulled ≡ a.state.past.pulled → b.hand ≡ a.hand → SameView i a b
+view-side i a k at mid basis queues to made bus other level pulled hand =
+    view-same basis queues level pulled (λ n u h e. u.hand h (sym hand ∙ e))
     (λ n u. subst (λ y. is_awaited n y ≡ true) (sym bus)
     (side_ended-after k at mid n u.request (made n u.request u.made)
     (apart n u (u.request.connection == k) refl) (to n u.awaited)))

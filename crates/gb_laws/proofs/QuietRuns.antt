@@ -1,23 +1,21 @@
 -- While a removal of an interface waits, its power level is at most 1 and nothing of it is wired.
-use Rattle.std.proofs.Common.{Bool, List, None, Option, Some, ap, arith, false, refl, subst, sym}
-use Rattle.std.proofs.Common.{true, ℕ, [], ◌++◌, ◌∙◌, ◌∷◌, ◌≡◌, ◌≤◌}
+use Rattle.std.proofs.Common.{Bool, List, Some, ap, arith, false, refl, true, ℕ, [], ◌++◌, ◌∙◌, ◌∷◌}
+use Rattle.std.proofs.Common.{◌≡◌, ◌≤◌}
 use Rattle.std.specs.List.{list_any}
 use Rattle.std.specs.Prelude.{◌&&◌, ◌||◌}
 use Rattle.gb_base.specs.declared.end.End.{End}
 use Rattle.gb_base.specs.declared.end.End.TheVariants as end
 use Rattle.gb_base.specs.declared.end.Side.TheVariants as side
 use Rattle.gb_base.specs.declared.entry.Entry.{Entry}
-use Rattle.gb_machine.specs.Bus.{Ask, Bus, Connection, Item, Request}
-use Rattle.gb_machine.specs.Bus.{request_of}
+use Rattle.gb_machine.specs.Bus.{Ask, Connection, Item}
 use Rattle.gb_machine.specs.LawsSvc.{FindsUnwired, LeavesNothing, awaits_removal}
 use Rattle.gb_machine.specs.Runs.{IsMoment, Moment, after, told_at}
-use Rattle.gb_machine.specs.SvcQueues.{HandlesRemoval, is_removal, request_onto, requests_among}
-use Rattle.gb_machine.specs.SvcQueues.{svc_items}
+use Rattle.gb_machine.specs.SvcQueues.{HandlesRemoval, is_removal_in, svc_items}
 use Rattle.gb_machine.specs.{Lists.first, Members.IsIn, Ports.level_of, State.State}
 use Rattle.gb_machine.specs.{State.first_state, Wiring.is_at, Wiring.is_wired_to}
 use Rattle.gb_invariants.proofs.{Awaiting.not-both, Awaiting.same-some, Lists.each-from}
 use Rattle.gb_invariants.proofs.{Outcomes.same-number}
-use Rattle.gb_laws.proofs.Enums.{item_removes, removed_in, request_removes}
+use Rattle.gb_laws.proofs.Pulls.{PulledAt, pulled-kept, pulled-made}
 use Rattle.gb_laws.proofs.Runs.{HoldsAtMoments, HoldsByMoments, Keeps, at_each, throughout, weaker}
 use Rattle.gb_laws.proofs.WiredRuns.{WiredTo, wired-over, wired-throughout}
 use Rattle.gb_laws.proofs.{AskedWaits.no-asks, AskedWaits.same-waits, LinkRuns.start-absent}
@@ -33,16 +31,26 @@ pub record QuietTo (told : List Entry) (s : State) : Type 0 where
   pub quiet : (i : ℕ) → IsQuiet i (resting told s)
 
 module _ (m : Moment) (start : QuietTo m.told m.before) where
-  abbrev quiet_law : ℕ → Law m
-  quiet_law i = upon (there_law m (start-absent m start.wired.links)) (IsQuiet i)
+  abbrev told_law : Law m
+  told_law = upon (there_law m (start-absent m start.wired.links)) PulledAt
+      (λ a x g h. pulled-kept m a x h)
+
+  abbrev pub quiet_law : ℕ → Law m
+  quiet_law i = upon told_law (IsQuiet i)
       (λ a x g h. quiet-kept m i start.wired.links.0 start.wired.links.1 start.wired.links.3
-      (start.quiet i) a x g.0.0 g.0.1 g.1 h)
+      (start.quiet i) a x g.0.0.0 g.0.0.1 g.0.1 g.1 h)
+
+  -- what is known where the moment begins
+  pub quiet-start : (i : ℕ) → (quiet_law i).holds (resting m.told m.before)
+  quiet-start i = let l = start.wired.links in (
+    (((l.0, l.1), l.3), pulled-made m.before.past.pulled m.before.bus l.2.pulled),
+    start.quiet i,
+  )
 
   quiet-over : IsMoment m.event → (i : ℕ) → IsQuiet i (resting (m.told ++ told_at m) (after m))
   quiet-over one i =
-      let l = start.wired.links in
-      let r = over-step m (quiet_law i) one (((l.0, l.1), l.3), start.quiet i) in
-      quiet-still (view-rest r.1.0.0.0 refl refl (λ h e. e))
+      let r = over-step m (quiet_law i) one (quiet-start i) in
+      quiet-still (view-rest r.1.0.0.0.0 refl refl refl (λ h e. e))
       (same-waits (after m).host) refl (λ q j. j) r.1.1
 
 quiet-first : (i : ℕ) → IsQuiet i (resting [] first_state)
@@ -66,24 +74,6 @@ quiet-throughout =
 
 -- ---- the law
 
--- a removal that waits is among the items
-pub removal-waits : (i : ℕ) (b : Bus) (xs : List Item)
-    → list_any (is_removal i) (requests_among b xs) ≡ removed_in i b xs
-removal-waits i b [] = refl
-removal-waits i b (x ∷ xs) = by x (removal-waits i b xs)
-  where
-    asked : (o : Option Request) → list_any (is_removal i) (requests_among b xs) ≡ removed_in i b xs
-        → list_any (is_removal i) (request_onto o (requests_among b xs))
-        ≡ request_removes i o || removed_in i b xs
-    asked None h = h
-    asked (Some r) h = ap (λ t. is_removal i r || t) h
-
-    by : (y : Item) → list_any (is_removal i) (requests_among b xs) ≡ removed_in i b xs
-        → list_any (is_removal i) (requests_among b (y ∷ xs))
-        ≡ item_removes i b y || removed_in i b xs
-    by (Ask n) h = asked (request_of n b) h
-    by _ h = h
-
 pub leaves : (told : List Entry) (s : State) → QuietTo told s → LeavesNothing told s
 leaves told s h = record {
   low = low;
@@ -91,8 +81,8 @@ leaves told s h = record {
       (λ c live. none i r c live (is_wired_to i c) refl);
 }
   where
-    low : (i : ℕ) → awaits_removal i s.bus ≡ true → level_of i s.ports ≤ 1
-    low i r = (h.quiet i).low.low (sym (removal-waits i s.bus (svc_items side.Ap s.bus)) ∙ r)
+    low : (i : ℕ) → awaits_removal i s ≡ true → level_of i s.ports ≤ 1
+    low i r = (h.quiet i).low.low r
 
     at-intf : (i : ℕ) (e : End) → is_at i e ≡ true → (p : ℕ) × (e ≡ end.Module i p)
     at-intf i (end.Module j p) e = (p, ap (λ n. end.Module n p) (same-number j i e))
@@ -104,7 +94,7 @@ leaves told s h = record {
     both true false e = absurd cc
     both false u e = absurd cc
 
-    none : (i : ℕ) → awaits_removal i s.bus ≡ true → (c : Connection) → IsIn c s.bus.connections
+    none : (i : ℕ) → awaits_removal i s ≡ true → (c : Connection) → IsIn c s.bus.connections
         → (t : Bool) → is_wired_to i c ≡ t → t ≡ false
     none i r c live false e = refl
     none i r c live true e =
@@ -118,17 +108,16 @@ pub leaves-by_moments : HoldsByMoments LeavesNothing
 leaves-by_moments = weaker QuietTo LeavesNothing leaves quiet-throughout
 
 -- a removal that is handled waits before
-pub waits-before : (i : ℕ) (m : Moment) → HandlesRemoval i m → awaits_removal i m.before.bus ≡ true
+pub waits-before : (i : ℕ) (m : Moment) → HandlesRemoval i m → awaits_removal i m.before ≡ true
 waits-before i m h = by (svc_items side.Ap m.before.bus) h.front
   where
     by : (xs : List Item) → first xs ≡ Some (Ask h.number)
-        → list_any (is_removal i) (requests_among m.before.bus xs) ≡ true
+        → list_any (is_removal_in i m.before.past.pulled) xs ≡ true
     by [] e = absurd cc
-    by (x ∷ xs) e = subst (λ y. list_any (is_removal i)
-        (requests_among m.before.bus (y ∷ xs)) ≡ true) (sym (same-some x (Ask h.number) e))
-        (subst (λ o. list_any (is_removal i) (request_onto o (requests_among m.before.bus xs))
-        ≡ true) (sym h.made)
-        (ap (λ t. t || list_any (is_removal i) (requests_among m.before.bus xs)) h.passes))
+    by (x ∷ xs) e =
+        ap (λ y. is_removal_in i m.before.past.pulled y
+        || list_any (is_removal_in i m.before.past.pulled) xs) (same-some x (Ask h.number) e)
+        ∙ ap (λ t. t || list_any (is_removal_in i m.before.past.pulled) xs) h.told
 
 pub finds-at_moments : HoldsAtMoments FindsUnwired
 finds-at_moments = at_each QuietTo FindsUnwired quiet-throughout

@@ -9,7 +9,7 @@ use Rattle.gb_machine.specs.Delivery.{popped, replied, without_front}
 use Rattle.gb_machine.specs.Incoming.{Incoming, incoming, reply_item}
 use Rattle.gb_machine.specs.{LawsBus.is_awaited, Lists.behind_first, Lists.first, Members.IsIn}
 use Rattle.gb_machine.specs.{Runs.Moment, Sending.put as put_item, Serving.Answer}
-use Rattle.gb_machine.specs.{SvcQueues.items_in, SvcQueues.svc_items}
+use Rattle.gb_machine.specs.{State.Past, SvcQueues.items_in, SvcQueues.svc_items}
 use Rattle.gb_invariants.proofs.{Awaiting.same-some, Found.find-changed, ItemChanges.first-in}
 use Rattle.gb_invariants.proofs.{Numbers.found-by_number, Selves.module-no-svc, Selves.put-self}
 use Rattle.gb_laws.proofs.Enums.{IsClean, clean-unasked, enums, enums_of, removed-unasked}
@@ -36,9 +36,9 @@ pub record IsServed (m : Moment) (a : Point) (q : Incoming) : Type 0 where
   pub far : svc_items side.Far a.state.bus ≡ behind_first (svc_items side.Far m.before.bus)
   pub rest : (i : ℕ) → enums i a.state.bus
       ≡ enums_of i m.before.bus (behind_first (svc_items side.Far m.before.bus))
-  pub removed : (i : ℕ) → is_removed i a.state.bus ≡ is_removed i m.before.bus
-  pub clean : (n i : ℕ) → IsClean n i m.before.bus (svc_items side.Ap m.before.bus)
-      → IsClean n i a.state.bus (svc_items side.Ap a.state.bus)
+  pub removed : (i : ℕ) → is_removed i a.state ≡ is_removed i m.before
+  pub clean : (n i : ℕ) → IsClean n i m.before.past.pulled (svc_items side.Ap m.before.bus)
+      → IsClean n i a.state.past.pulled (svc_items side.Ap a.state.bus)
   pub awaited : (n : ℕ) → is_awaited n a.state.bus ≡ is_awaited n m.before.bus
   pub requests : (n : ℕ) → request_of n a.state.bus ≡ request_of n m.before.bus
 
@@ -64,8 +64,10 @@ module _ (m : Moment) (basis : Basis (resting m.told m.before))
         (ap (λ o. first (items_in side.Far o)) found ∙ front ∙ ap Some ask.2);
     far = far w.bus;
     rest = λ i. rest i w.bus;
-    removed = λ i. removed i w.bus;
-    clean = λ n i h. clean n i h w.bus;
+    removed = λ i. ap (λ ps. removed_in i ps (svc_items side.Ap a.state.bus)) pulled
+        ∙ removed i w.bus;
+    clean = λ n i h. subst (λ ps. IsClean n i ps (svc_items side.Ap a.state.bus)) (sym pulled)
+        (clean n i h w.bus);
     awaited = λ n. awaited n w.bus;
     requests = λ n. requests n w.bus;
   }
@@ -94,6 +96,9 @@ module _ (m : Moment) (basis : Basis (resting m.told m.before))
       front-of : (xs : List Item) → first xs ≡ Some (Ask ask.0) → xs ≡ Ask ask.0 ∷ behind_first xs
       front-of [] e = absurd cc
       front-of (y ∷ ys) e = ap (λ z. z ∷ ys) (same-some y (Ask ask.0) e)
+
+      pulled : a.state.past.pulled ≡ m.before.past.pulled
+      pulled = ap (λ (p : Past). p.pulled) w.past
 
       -- once it is taken
       taken : (svc_items side.Far (popped w.place.connection.number side.Far m.before.bus)
@@ -139,24 +144,31 @@ module _ (m : Moment) (basis : Basis (resting m.told m.before))
 
       removed : (i : ℕ) → IsAfterReply w.place.connection.number side.Far q
           (popped w.place.connection.number side.Far m.before.bus) a.state.bus
-          → is_removed i a.state.bus ≡ is_removed i m.before.bus
-      removed i (unreplied e) = ap (is_removed i) e ∙ ap (removed_in i m.before.bus) taken.1
-      removed i (replied_to r e) = ap (is_removed i) e ∙ ap (removed_in i m.before.bus)
+          → removed_in i m.before.past.pulled (svc_items side.Ap a.state.bus)
+          ≡ is_removed i m.before
+      removed i (unreplied e) =
+          ap (λ b. removed_in i m.before.past.pulled (svc_items side.Ap b)) e
+          ∙ ap (removed_in i m.before.past.pulled) taken.1
+      removed i (replied_to r e) =
+          ap (λ b. removed_in i m.before.past.pulled (svc_items side.Ap b)) e
+          ∙ ap (removed_in i m.before.past.pulled)
           ((put r).toward ∙ ap (λ is. is ++ reply_item q r ∷ []) taken.1)
-          ∙ removed-unasked i m.before.bus (svc_items side.Ap m.before.bus) (reply_item q r)
-          (reply-no-removal i m.before.bus q r)
+          ∙ removed-unasked i m.before.past.pulled (svc_items side.Ap m.before.bus)
+          (reply_item q r) (reply-no-removal i m.before.past.pulled q r)
 
-      clean : (n i : ℕ) → IsClean n i m.before.bus (svc_items side.Ap m.before.bus)
+      clean : (n i : ℕ) → IsClean n i m.before.past.pulled (svc_items side.Ap m.before.bus)
           → IsAfterReply w.place.connection.number side.Far q
           (popped w.place.connection.number side.Far m.before.bus) a.state.bus
-          → IsClean n i a.state.bus (svc_items side.Ap a.state.bus)
-      clean n i h (unreplied e) = subst (λ b. IsClean n i b (svc_items side.Ap b)) (sym e)
-          (subst (IsClean n i m.before.bus) (sym taken.1) h)
-      clean n i h (replied_to r e) = subst (λ b. IsClean n i b (svc_items side.Ap b)) (sym e)
-          (subst (IsClean n i m.before.bus)
+          → IsClean n i m.before.past.pulled (svc_items side.Ap a.state.bus)
+      clean n i h (unreplied e) =
+          subst (λ b. IsClean n i m.before.past.pulled (svc_items side.Ap b)) (sym e)
+          (subst (IsClean n i m.before.past.pulled) (sym taken.1) h)
+      clean n i h (replied_to r e) =
+          subst (λ b. IsClean n i m.before.past.pulled (svc_items side.Ap b)) (sym e)
+          (subst (IsClean n i m.before.past.pulled)
           (sym ((put r).toward ∙ ap (λ is. is ++ reply_item q r ∷ []) taken.1))
-          (clean-unasked n i m.before.bus (svc_items side.Ap m.before.bus) (reply_item q r)
-          (reply-no-removal i m.before.bus q r) h))
+          (clean-unasked n i m.before.past.pulled (svc_items side.Ap m.before.bus)
+          (reply_item q r) (reply-no-removal i m.before.past.pulled q r) h))
 
       awaited : (n : ℕ) → IsAfterReply w.place.connection.number side.Far q
           (popped w.place.connection.number side.Far m.before.bus) a.state.bus

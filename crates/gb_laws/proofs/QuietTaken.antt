@@ -4,16 +4,15 @@ use Rattle.std.proofs.Common.{⊎_elim, [], ◌∙◌, ◌∷◌, ◌≡◌, ◌
 use Rattle.std.specs.Prelude.{◌==◌, ◌||◌}
 use Rattle.gb_base.specs.declared.end.Side.{Side}
 use Rattle.gb_base.specs.declared.end.Side.TheVariants as side
-use Rattle.gb_machine.specs.Bus.{Connection, Item, Reply, Request}
-use Rattle.gb_machine.specs.Bus.{connection_of, queue, request_of}
-use Rattle.gb_machine.specs.SvcQueues.{is_reply_to, items_in, svc_items}
+use Rattle.gb_machine.specs.Bus.{Connection, Item, Reply, Request, connection_of, queue, request_of}
+use Rattle.gb_machine.specs.SvcQueues.{is_removal_in, is_reply_to, items_in, svc_items}
 use Rattle.gb_machine.specs.{Delivery.popped, Delivery.without_front, LawsBus.is_awaited}
 use Rattle.gb_machine.specs.{Lists.behind_first, Lists.first, Members.IsIn, Ports.level_of}
 use Rattle.gb_invariants.proofs.{Awaiting.not-both, Awaiting.same-some, BusChanges.KeepsRequests}
 use Rattle.gb_invariants.proofs.{ItemChanges.first-in, Numbers.found-by_number}
 use Rattle.gb_invariants.proofs.{Outcomes.same-number, Selves.far-no-ap, Selves.front-self}
 use Rattle.gb_invariants.specs.Facts.{IsOwn}
-use Rattle.gb_laws.proofs.Enums.{IsClean, enums, enums-taken, enums_of, item_removes, removed_in}
+use Rattle.gb_laws.proofs.Enums.{IsClean, enums, enums-taken, enums_of, removed_in}
 use Rattle.gb_laws.proofs.PointParts.{Basis, Hand, Point}
 use Rattle.gb_laws.proofs.Quiet.{IsUnanswered, SameQueues, SameView, is_removed, removed-same}
 use Rattle.gb_laws.proofs.Quiet.{stays, unanswered-same, view-same}
@@ -43,8 +42,10 @@ pub view-taken : (i : ℕ) (a : Point) {b : Point} (c : Connection) (s : Side) (
     → There a.state.bus → IsIn c a.state.bus.connections → first (queue s c) ≡ Some x
     → b.state.bus ≡ popped c.number s a.state.bus
     → level_of i b.state.ports ≡ level_of i a.state.ports
+    → b.state.past.pulled ≡ a.state.past.pulled
     → b.hand ≡ Some (record { connection = c; side = s; item = x }) → SameView i a b
-view-taken i a {b} c s x basis there live front bus level hand = by (c.number == 1) refl s refl
+view-taken i a {b} c s x basis there live front bus level pulled hand =
+    by (c.number == 1) refl s refl
   where
     own : IsOwn a.state.bus c.number s x
     own = basis.bus.items.own c s x live (first-in (queue s c) x front)
@@ -79,7 +80,7 @@ view-taken i a {b} c s x basis there live front bus level hand = by (c.number ==
         view-same basis (subst (SameQueues a.state.bus) (sym bus)
         (queues-other a.state.bus (popped c.number s a.state.bus) c.number (without_front s) refl
         (λ n r made. made) (λ y. (front-self s y).number)
-        (λ one. not-both (c.number == 1) (ap (λ k. k == 1) one) e))) level
+        (λ one. not-both (c.number == 1) (ap (λ k. k == 1) one) e))) level pulled
         (λ n u. in-hand n (not-reply i n a c.number s x u own
         (inl (λ one. not-both (c.number == 1) (ap (λ k. k == 1) one) e)))) awaited
     by true e side.Far is =
@@ -89,8 +90,8 @@ view-taken i a {b} c s x basis there live front bus level hand = by (c.number ==
         let same = ap (svc_items side.Ap) now ∙ p.1 in record {
           enums = ⊎_elim (λ f. inl (taken now p.0 ∙ f)) (λ f. inr (taken now p.0 ∙ f))
               (enums-taken i a.state.bus (svc_items side.Far a.state.bus));
-          power = stays level (λ r. sym (removed-same i b.state.bus basis keeps same) ∙ r)
-              (λ n r u. unanswered-same i n a b basis keeps same
+          power = stays level (λ r. sym (removed-same i a b same pulled) ∙ r)
+              (λ n r u. unanswered-same i n a b keeps same pulled
               (in-hand n (not-reply i n a c.number s x u own (inr is))) (awaited n u) u);
         }
       where
@@ -107,41 +108,35 @@ view-taken i a {b} c s x basis there live front bus level hand = by (c.number ==
         let later : svc_items side.Ap b.state.bus ≡ behind_first (svc_items side.Ap a.state.bus) =
         ap (svc_items side.Ap) now ∙ p.0 in record {
           enums = inl (ap (enums i) now ∙ ap (enums_of i a.state.bus) p.1);
-          power = stays level (λ r. removed now later w r) (λ n r u. clean now later w n r u);
+          power = stays level (λ r. removed later w r) (λ n r u. clean later w n r u);
         }
       where
-        still : b.state.bus ≡ popped c.number side.Ap a.state.bus → (xs : List Item)
-            → removed_in i b.state.bus xs ≡ removed_in i a.state.bus xs
-        still now xs = ap (λ y. removed_in i y xs) now
-
         or-later : (t u : Bool) → u ≡ true → t || u ≡ true
         or-later true u f = refl
         or-later false u f = f
 
-        rest : b.state.bus ≡ popped c.number side.Ap a.state.bus
-            → svc_items side.Ap b.state.bus ≡ behind_first (svc_items side.Ap a.state.bus)
-            → is_removed i b.state.bus ≡ true
-            → removed_in i a.state.bus (behind_first (svc_items side.Ap a.state.bus)) ≡ true
-        rest now later r = sym (still now (behind_first (svc_items side.Ap a.state.bus)))
-            ∙ ap (removed_in i b.state.bus) (sym later) ∙ r
+        rest : svc_items side.Ap b.state.bus ≡ behind_first (svc_items side.Ap a.state.bus)
+            → is_removed i b.state ≡ true → removed_in i a.state.past.pulled
+            (behind_first (svc_items side.Ap a.state.bus)) ≡ true
+        rest later r =
+            ap (λ ps. removed_in i ps (behind_first (svc_items side.Ap a.state.bus))) (sym pulled)
+            ∙ ap (removed_in i b.state.past.pulled) (sym later) ∙ r
 
-        removed : b.state.bus ≡ popped c.number side.Ap a.state.bus
-            → svc_items side.Ap b.state.bus ≡ behind_first (svc_items side.Ap a.state.bus)
+        removed : svc_items side.Ap b.state.bus ≡ behind_first (svc_items side.Ap a.state.bus)
             → svc_items side.Ap a.state.bus ≡ x ∷ behind_first (svc_items side.Ap a.state.bus)
-            → is_removed i b.state.bus ≡ true → is_removed i a.state.bus ≡ true
-        removed now later w r = ap (removed_in i a.state.bus) w
-            ∙ or-later (item_removes i a.state.bus x) _ (rest now later r)
+            → is_removed i b.state ≡ true → is_removed i a.state ≡ true
+        removed later w r = ap (removed_in i a.state.past.pulled) w
+            ∙ or-later (is_removal_in i a.state.past.pulled x) _ (rest later r)
 
-        clean : b.state.bus ≡ popped c.number side.Ap a.state.bus
-            → svc_items side.Ap b.state.bus ≡ behind_first (svc_items side.Ap a.state.bus)
+        clean : svc_items side.Ap b.state.bus ≡ behind_first (svc_items side.Ap a.state.bus)
             → svc_items side.Ap a.state.bus ≡ x ∷ behind_first (svc_items side.Ap a.state.bus)
-            → (n : ℕ) → is_removed i b.state.bus ≡ true → IsUnanswered i n a → IsUnanswered i n b
-        clean now later w n r u =
-            let both = subst (IsClean n i a.state.bus) w u.clean in record {
-              clean = subst (IsClean n i b.state.bus) (sym later)
-                  (subst (λ y. IsClean n i y (behind_first (svc_items side.Ap a.state.bus)))
-                  (sym now) both.1);
-              hand = in-hand n (both.0 (rest now later r));
+            → (n : ℕ) → is_removed i b.state ≡ true → IsUnanswered i n a → IsUnanswered i n b
+        clean later w n r u =
+            let both = subst (IsClean n i a.state.past.pulled) w u.clean in record {
+              clean = subst (IsClean n i b.state.past.pulled) (sym later)
+                  (subst (λ ps. IsClean n i ps (behind_first (svc_items side.Ap a.state.bus)))
+                  (sym pulled) both.1);
+              hand = in-hand n (both.0 (rest later r));
               request = u.request;
               made = keeps n u.request u.made;
               on = u.on;
@@ -153,9 +148,10 @@ view-taken i a {b} c s x basis there live front bus level hand = by (c.number ==
 pub view-held : (i : ℕ) (a : Point) {b : Point} (c : Connection) (s : Side) (x : Item) → Basis a
     → IsOwn a.state.bus c.number s x → s ≡ side.Far → b.state.bus ≡ a.state.bus
     → level_of i b.state.ports ≡ level_of i a.state.ports
+    → b.state.past.pulled ≡ a.state.past.pulled
     → b.hand ≡ Some (record { connection = c; side = s; item = x }) → SameView i a b
-view-held i a c s x basis own far bus level hand =
-    view-same basis (subst (SameQueues a.state.bus) (sym bus) (queues-refl)) level
+view-held i a c s x basis own far bus level pulled hand =
+    view-same basis (subst (SameQueues a.state.bus) (sym bus) (queues-refl)) level pulled
     (λ n u h e. ap (λ (y : Hand). is_reply_to n y.item)
     (sym (same-some (record { connection = c; side = s; item = x }) h (sym hand ∙ e)))
     ∙ not-reply i n a c.number s x u own (inr far))

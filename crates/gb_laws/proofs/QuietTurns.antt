@@ -35,11 +35,12 @@ answered-calm m i e a basis links there over h p r at s =
 -- where the application processor takes notice of something
 pub quiet-turned : (m : Moment) (i : ℕ) (e : HostEvent) (a : Point) {b : Point} → Basis a
     → LinkedAt a → There a.state.bus → IsOver m e a.state.bus
-    → b.state.bus ≡ a.state.bus → b.state.ports ≡ a.state.ports → b.hand ≡ a.hand
+    → b.state.bus ≡ a.state.bus → b.state.ports ≡ a.state.ports
+    → b.state.past.pulled ≡ a.state.past.pulled → b.hand ≡ a.hand
     → b.asked ≡ a.asked → b.state.host ≡ (host_turn e a.state.host).host
     → b.pending ≡ (host_turn e a.state.host).acts → IsQuiet i a → IsQuiet i b
-quiet-turned m i e a {b} basis links there over bus ports hand asked host pending h =
-    let v = view-rest basis bus (ap (level_of i) ports) (λ x e. sym hand ∙ e) in record {
+quiet-turned m i e a {b} basis links there over bus ports pulled hand asked host pending h =
+    let v = view-rest basis bus (ap (level_of i) ports) pulled (λ x e. sym hand ∙ e) in record {
       low = low-still i a b v h.low;
       waits = λ x j at w f s.
           let was = turn-waits e a.state.host x
@@ -69,7 +70,9 @@ quiet-awaited i a {b} q n basis asked state hand none pending h = record {
     v : SameView i a b
     v = view-rest basis (ap (λ (t : State). t.bus) state ∙ (awaited-rest q.purpose n).bus)
         (ap (λ (t : State). level_of i t.ports) state
-        ∙ ap (level_of i) (awaited-rest q.purpose n).ports) (λ x e. sym hand ∙ e)
+        ∙ ap (level_of i) (awaited-rest q.purpose n).ports)
+        (ap (λ (t : State). t.past.pulled) state ∙ (awaited-rest q.purpose n).pulled)
+        (λ x e. sym hand ∙ e)
 
 -- ---- no identifier is left
 
@@ -79,7 +82,8 @@ pub quiet-failed : (i : ℕ) (a : Point) {b : Point} (q : Asking) (rest : List A
     → b.hand ≡ a.hand → b.asked ≡ a.asked → b.pending ≡ rest → IsQuiet i a → IsQuiet i b
 quiet-failed i a q rest basis is state hand asked pending h =
     quiet-still (view-rest basis (ap (λ (t : State). t.bus) state)
-    (ap (λ (t : State). level_of i t.ports) state) (λ x e. sym hand ∙ e))
+    (ap (λ (t : State). level_of i t.ports) state) (ap (λ (t : State). t.past.pulled) state)
+    (λ x e. sym hand ∙ e))
     (λ x j w e. waits-unsent q.purpose a.state.host x
     (subst (λ (t : State). IsIn x t.host.interfaces) state j) w e)
     asked (λ r j. by is r (subst (AsksIn r) pending j)) h

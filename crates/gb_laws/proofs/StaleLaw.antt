@@ -1,13 +1,13 @@
 -- While a request waits for a connection that is known no more, the power level of its interface is
 -- at most 1: a law of points.
-use Rattle.std.proofs.Common.{ap, arith, inl, inr, refl, subst, sym, true, ℕ, ⊎_elim, ◌∙◌}
-use Rattle.std.proofs.Common.{◌≡◌, ◌≤◌}
+use Rattle.std.proofs.Common.{ap, arith, inl, inr, refl, subst, sym, true, ℕ, ⊎_elim, ◌∙◌, ◌≡◌, ◌≤◌}
 use Rattle.gb_base.specs.declared.end.Side.TheVariants as side
 use Rattle.gb_machine.specs.Sending.{Draft, requested, sent}
 use Rattle.gb_machine.specs.{Ports.level_of, Refusals.is_reserved, Runs.Moment}
 use Rattle.gb_machine.specs.{SvcQueues.is_enumeration_request}
 use Rattle.gb_invariants.proofs.{Awaiting.not-both, Selves.ap-no-far}
 use Rattle.gb_laws.proofs.ChangeHosts.{asks-kept, stay-kept, waits-kept}
+use Rattle.gb_laws.proofs.Marks.{MarksFit}
 use Rattle.gb_laws.proofs.Points.{Change, IsAskedBy, IsElse, IsFarAsking, IsPlain, acts_asked, asks}
 use Rattle.gb_laws.proofs.Points.{by_far, by_host, by_module, by_svc, changed, names, others, turns}
 use Rattle.gb_laws.proofs.Stale.{IsCool, StaleAt, cool-still, due-still}
@@ -19,7 +19,7 @@ use Rattle.gb_laws.proofs.{StaleBase.NoticedStill, StaleBase.StaleBase, StalePow
 use Rattle.gb_laws.proofs.{StaleTurns.cool-turned, SvcMoves.far-moves}
 
 module _ (m : Moment) (absent : InsertsAbsent m) (i : ℕ)
-    (start : StaleBase m (resting m.told m.before))
+    (marks : MarksFit m.before) (start : StaleBase m (resting m.told m.before))
     (cool : IsCool i (resting m.told m.before)) (quiet : IsQuiet i (resting m.told m.before)) where
   pub cool-kept : (a : Point) (x : Change m a) → StaleBase m a → NoticedStill m i a → IsCool i a
       → IsCool i (changed m a x)
@@ -35,9 +35,9 @@ module _ (m : Moment) (absent : InsertsAbsent m) (i : ℕ)
           cool-sent m i a d label f refl refl refl refl
           refl refl (λ one own e. absurd (ap-no-far (sym own ∙ far-side far))) h
         where
-          far-side : IsFarAsking m a.state c d → d.side ≡ side.Far
+          far-side : IsFarAsking m c d → d.side ≡ side.Far
           far-side (by_module j p peer side) = side
-          far-side (by_svc of side zero) = side
+          far-side (by_svc of side) = side
   cool-kept a (names name d c label free live is host) f noticed h =
       cool-sent m i a d label f refl refl refl refl refl refl
       (λ one own e. absurd (plain host.1 one e)) h
@@ -50,7 +50,8 @@ module _ (m : Moment) (absent : InsertsAbsent m) (i : ℕ)
           let low = (f.links.host.links.numbered l.0 l.1).from_two in
           omega (arith, low, sym l.2 ∙ one)
   cool-kept a (turns e free untouched none cause) f noticed h =
-      cool-turned m absent i start quiet a e (changed m a (turns e free untouched none cause)) f
+      cool-turned m absent i marks start quiet a e (changed m a
+      (turns e free untouched none cause)) f
       noticed none untouched.1 cause refl refl refl h
   cool-kept a (acts_asked q n rest is) f noticed h =
       cool-awaited m i a q n rest is f h

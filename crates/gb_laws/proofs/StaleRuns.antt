@@ -49,7 +49,8 @@ module _ (m : Moment) (h : StaleTo m.told m.before) where
         base-kept m (start-absent m h.since.links) a x f.0.0,
         noticed-kept m i a x f.0.0 f.0.1,
       ),
-      cool-kept m (start-absent m h.since.links) i (start-base m h) (h.cool i) (h.quiet.quiet i) a x
+      cool-kept m (start-absent m h.since.links) i h.since.links.2 (start-base m h) (h.cool i)
+          (h.quiet.quiet i) a x
           f.0.0 f.0.1 f.1,
     );
   }

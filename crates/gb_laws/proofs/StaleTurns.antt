@@ -18,14 +18,16 @@ use Rattle.gb_invariants.proofs.{Awaiting.not-both, Found.find-none, HostChanges
 use Rattle.gb_invariants.proofs.{Lists.found-in, Lists.in-without}
 use Rattle.gb_laws.proofs.LinkKept.{InsertsAbsent, same-links, turn-fits}
 use Rattle.gb_laws.proofs.LinkLeaves.{WhyLeft, closed, removed, why-left}
-use Rattle.gb_laws.proofs.Links.{IsFollowed, leaves, stays}
+use Rattle.gb_laws.proofs.Links.{IsFollowed, IsPresent, leaves, stays}
 use Rattle.gb_laws.proofs.PointParts.{IsCaused, IsNoticed, Point, resting}
 use Rattle.gb_laws.proofs.Stale.{HasNoStale, IsCool, StaleAt}
 use Rattle.gb_laws.proofs.{Asked.asks-calm, Asked.turn-waits, AskedWaits.AsksIn}
 use Rattle.gb_laws.proofs.{AskedWaits.is_power_step, Enums.AreStarts, Enums.enums, LinkFrom.Linked}
-use Rattle.gb_laws.proofs.{LinkLists.one-link, MarkNotices.removal-handled, Points.IsOver}
+use Rattle.gb_laws.proofs.{LinkLists.one-link, MarkMoments.present-known}
+use Rattle.gb_laws.proofs.{MarkNotices.removal-handled, Marks.MarksFit, Marks.known_at}
+use Rattle.gb_laws.proofs.{Points.IsOver}
 use Rattle.gb_laws.proofs.{Quiet.IsQuiet, Quiet.is_removed, QuietAwaited.waited-by}
-use Rattle.gb_laws.proofs.{QuietRuns.removal-waits, QuietRuns.waits-before, StaleBase.NoticedStill}
+use Rattle.gb_laws.proofs.{QuietRuns.waits-before, StaleBase.NoticedStill}
 use Rattle.gb_laws.proofs.{StaleBase.StaleBase, SvcOrder.none-earlier}
 
 -- no removal is handled where a request was answered
@@ -34,7 +36,7 @@ answered-stays : {e : HostEvent} {h : Host} {p : Purpose} {i : ℕ} → IsAnswer
 answered-stays r gone = let same = sym r.is ∙ gone in absurd cc
 
 module _ (m : Moment) (absent : InsertsAbsent m) (i : ℕ)
-    (start : StaleBase m (resting m.told m.before))
+    (marks : MarksFit m.before) (start : StaleBase m (resting m.told m.before))
     (quiet : IsQuiet i (resting m.told m.before)) where
   pub cool-turned : (a : Point) (e : HostEvent) (b : Point) → StaleBase m a → NoticedStill m i a
       → a.pending ≡ [] → IsOver m e a.state.bus → IsCaused m e a.state.host
@@ -43,18 +45,18 @@ module _ (m : Moment) (absent : InsertsAbsent m) (i : ℕ)
   cool-turned a e b f noticed none over cause state asked pending h = record {
     low = λ n s. ⊎_elim (λ o. subst (λ (t : State). level_of i t.ports ≤ 1) (sym state) (h.low n o))
         (λ gone. subst (λ (t : State). level_of i t.ports ≤ 1) (sym state)
-        (subst (λ k. k ≤ 1) (sym (still gone).0) (quiet.low.low (removed gone)))) (fate n s);
+        (subst (λ k. k ≤ 1) (sym (still gone.0).0) (quiet.low.low (removed gone)))) (fate n s);
     starts = λ n s one.
         let level = sym (ap (λ (t : State). level_of i t.ports) state) ∙ one in
         subst (λ (t : State). AreStarts (enums i t.bus)) (sym state)
-        (⊎_elim (λ o. h.starts n o level) (λ gone. (still gone).1 (same gone)
-        (quiet.low.starts (removed gone, sym (still gone).0 ∙ level))) (fate n s));
+        (⊎_elim (λ o. h.starts n o level) (λ gone. (still gone.0).1 (same gone.0)
+        (quiet.low.starts (removed gone, sym (still gone.0).0 ∙ level))) (fate n s));
     waits = λ x j at w g p n s.
         let k = subst (λ (t : State). IsIn x t.host.interfaces) state j in
         let was = turn-waits e a.state.host x k w g in
         ⊎_elim (λ o. h.waits was.was was.known (was.intf ∙ at) w (was.awaits ∙ g) p n o)
         (λ gone. absurd (absent-then x at (subst (λ y. IsIn x (host_turn y
-        a.state.host).host.interfaces) gone k))) (fate n s);
+        a.state.host).host.interfaces) gone.0 k))) (fate n s);
     due = λ g q j at p. asks-calm i (HasNoStale i b) e a.state.host calm q
         (subst (AsksIn q) pending j) at p;
   }
@@ -62,8 +64,12 @@ module _ (m : Moment) (absent : InsertsAbsent m) (i : ℕ)
       links : Linked a.state.bus a.state.host []
       links = subst (Linked a.state.bus a.state.host) none f.links
 
+      -- the interface is known, and is removed
+      Goes : Type 0
+      Goes = (e ≡ host_event.Removed i) × IsPresent i a.state.host.interfaces
+
       -- what is stale was, or the removal of its interface is handled
-      fate : (n : ℕ) → StaleAt i n b → StaleAt i n a ⊎ (e ≡ host_event.Removed i)
+      fate : (n : ℕ) → StaleAt i n b → StaleAt i n a ⊎ Goes
       fate n s = by (find (λ (l : Link). l.connection == s.connection) a.state.host.links) refl
         where
           pair : IsIn (n, s.connection) a.state.past.made_for
@@ -81,12 +87,14 @@ module _ (m : Moment) (absent : InsertsAbsent m) (i : ℕ)
               → l.connection ≡ s.connection → ⊥) state s.unknown
 
           why : (l : Link) → IsIn l a.state.host.links → l.connection ≡ s.connection
-              → WhyLeft a.state.host e l.connection → e ≡ host_event.Removed i
+              → WhyLeft a.state.host e l.connection → Goes
           why l live on (removed j x is known at number) =
               let one = one-link a.state.host.links x l links.host.links.rise known live number in
-              is ∙ ap host_event.Removed (sym at ∙ ap (λ (y : Link). y.intf) one
-              ∙ f.pairs.of n i l s.request live
-              (subst (λ k. IsIn (n, k) a.state.past.made_for) (sym on) pair) made s.speaks)
+              let of = f.pairs.of n i l s.request live
+              (subst (λ k. IsIn (n, k) a.state.past.made_for) (sym on) pair) made s.speaks in (
+                is ∙ ap host_event.Removed (sym at ∙ ap (λ (y : Link). y.intf) one ∙ of),
+                subst (λ k. IsPresent k a.state.host.interfaces) of (links.host.present l live),
+              )
           why l live on (closed j result payload x is known waiting number) =
               let bound = f.pairs.bound x known (j, steps.DestroyConnection) waiting in
               let own = f.pairs.made j x.connection (bound.own refl) in
@@ -98,7 +106,7 @@ module _ (m : Moment) (absent : InsertsAbsent m) (i : ℕ)
 
           followed : (l : Link) → IsIn l a.state.host.links → l.connection ≡ s.connection
               → IsFollowed l (host_turn e a.state.host).host.links (host_turn e a.state.host).acts
-              → e ≡ host_event.Removed i
+              → Goes
           followed l live on (stays k j same) =
               absurd (unknown k j (same.connection ∙ on))
           followed l live on (leaves j) =
@@ -106,7 +114,7 @@ module _ (m : Moment) (absent : InsertsAbsent m) (i : ℕ)
 
           by : (o : Option Link)
               → find (λ (l : Link). l.connection == s.connection) a.state.host.links ≡ o
-              → StaleAt i n a ⊎ (e ≡ host_event.Removed i)
+              → StaleAt i n a ⊎ Goes
           by None g = inl (record {
             connection = s.connection;
             pair = pair;
@@ -139,11 +147,11 @@ module _ (m : Moment) (absent : InsertsAbsent m) (i : ℕ)
       same : e ≡ host_event.Removed i → a.state.bus.requests ≡ m.before.bus.requests
       same gone = subst (λ y. IsOver m y a.state.bus) gone over
 
-      removed : e ≡ host_event.Removed i → is_removed i m.before.bus ≡ true
-      removed gone =
-          sym (removal-waits i m.before.bus (svc_items side.Ap m.before.bus))
-          ∙ waits-before i m
-          (removal-handled i m start.basis start.links (told gone))
+      removed : Goes → is_removed i m.before ≡ true
+      removed gone = waits-before i m (removal-handled i i m start.basis start.links marks
+          (subst (λ (h : Host). known_at i h ≡ Some i)
+          (subst (λ y. IsCaused m y a.state.host) gone.0 cause).0
+          (present-known a.state.host gone.1)) (told gone.0))
 
       absent-then : (x : Interface) → x.intf ≡ i
           → IsIn x (without_interface i a.state.host).interfaces → ⊥
@@ -163,7 +171,7 @@ module _ (m : Moment) (absent : InsertsAbsent m) (i : ℕ)
           h.waits x.interface x.known (x.intf ∙ at) (r.number, p.step) x.awaits power j o in
           none-earlier a f.basis f.links f.there f.order r.number j own.request own.made
           svc.connection svc.side own.twoway ended.0 (omega (arith, less)) o.waits)
-          (λ gone. absurd (answered-stays r gone)) (fate j s)
+          (λ gone. absurd (answered-stays r gone.0)) (fate j s)
         where
           unmarked : (t : Bool) → not t ≡ true → t ≡ false
           unmarked true g = absurd cc

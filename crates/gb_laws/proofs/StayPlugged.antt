@@ -2,7 +2,7 @@
 use Rattle.std.proofs.Common.{Bool, List, None, Some, ap, cond, false, inl, inr, refl, sym, true, ℕ}
 use Rattle.std.proofs.Common.{[], ◌∙◌, ◌∷◌, ◌≡◌, ◌⊎◌}
 use Rattle.std.specs.List.{find}
-use Rattle.std.specs.Prelude.{is_some, option_map, ◌==◌, ◌≢◌}
+use Rattle.std.specs.Prelude.{option_map, ◌==◌, ◌≢◌}
 use Rattle.gb_base.specs.declared.end.End.TheVariants as end
 use Rattle.gb_base.specs.declared.entry.ConnState.{ConnState}
 use Rattle.gb_base.specs.declared.entry.ConnState.TheVariants as state
@@ -11,14 +11,14 @@ use Rattle.gb_formats.specs.Module.{Module}
 use Rattle.gb_machine.proofs.Conditions.{AreUnmet}
 use Rattle.gb_machine.specs.Bus.{Bus, Connection, Place, end_of, place_of}
 use Rattle.gb_machine.specs.HostRefusals.{is_ending, is_failed, is_unopened, link_conditions}
-use Rattle.gb_machine.specs.Modules.{is_plugged, is_plugged_at, with_module}
+use Rattle.gb_machine.specs.Modules.{is_plugged_at, with_module}
 use Rattle.gb_machine.specs.Ports.{level_in, level_of, port_of}
 use Rattle.gb_machine.specs.State.{Plugged, Port, State}
 use Rattle.gb_machine.specs.{Arriving.state_takes, Members.EachTwo}
 use Rattle.gb_invariants.proofs.{Lists.two-at_first, Numbers.found-number, Numbers.same-connection}
 use Rattle.gb_invariants.specs.Facts.{IsBefore}
 use Rattle.gb_laws.proofs.{Places.module-far, Places.place-is}
-use Rattle.gb_laws.proofs.{Points.SamePlugs, StepActions.IsToModule}
+use Rattle.gb_laws.proofs.{Marks.plugged_at, Points.SamePlugs, StepActions.IsToModule}
 
 -- ---- what stays plugged
 
@@ -41,28 +41,28 @@ module-plugs s i x = record {
       (λ p. record p { body = x }) s.modules (λ p q r. r) (λ p q r. r) h;
 }
   where
-    plugged : (ms : List Plugged) (j : ℕ) → is_plugged j (with_module i x ms) ≡ is_plugged j ms
+    plugged : (ms : List Plugged) (j : ℕ) → plugged_at j (with_module i x ms) ≡ plugged_at j ms
     plugged [] j = refl
     plugged (p ∷ ps) j = by (p.intf == i) (plugged ps j)
       where
-        behind : (t : Bool) → is_plugged j (with_module i x ps) ≡ is_plugged j ps
-            → is_some (option_map (λ (q : Plugged). q.body)
+        behind : (t : Bool) → plugged_at j (with_module i x ps) ≡ plugged_at j ps
+            → (option_map (λ (q : Plugged). q.intf)
             (cond t (Some p) (find (is_plugged_at j) (with_module i x ps))))
-            ≡ is_some (option_map (λ (q : Plugged). q.body)
+            ≡ (option_map (λ (q : Plugged). q.intf)
             (cond t (Some p) (find (is_plugged_at j) ps)))
         behind true h = refl
         behind false h = h
 
-        here : (t : Bool) → is_some (option_map (λ (q : Plugged). q.body)
+        here : (t : Bool) → (option_map (λ (q : Plugged). q.intf)
             (cond t (Some (record p { body = x })) (find (is_plugged_at j) ps)))
-            ≡ is_some (option_map (λ (q : Plugged). q.body)
+            ≡ (option_map (λ (q : Plugged). q.intf)
             (cond t (Some p) (find (is_plugged_at j) ps)))
         here true = refl
         here false = refl
 
-        by : (t : Bool) → is_plugged j (with_module i x ps) ≡ is_plugged j ps
-            → is_plugged j (cond t (record p { body = x } ∷ ps)
-            (p ∷ with_module i x ps)) ≡ is_plugged j (p ∷ ps)
+        by : (t : Bool) → plugged_at j (with_module i x ps) ≡ plugged_at j ps
+            → plugged_at j (cond t (record p { body = x } ∷ ps)
+            (p ∷ with_module i x ps)) ≡ plugged_at j (p ∷ ps)
         by true h = here (p.intf == j)
         by false h = behind (p.intf == j) h
 

@@ -146,7 +146,7 @@ module _ (m : Moment) (law : ActLaw m) where
 
   pub goes-asks : (acts : List Act) (wires : Wires) (d : Draft) (s : State)
       → ((c : Connection) → connection_of d.connection s.bus ≡ Some c
-      → IsFarAsking m s c d × (c.wired ≡ true)) → d.kind < 128
+      → IsFarAsking m c d × (c.wired ≡ true)) → d.kind < 128
       → Stays None acts wires (asking d) s
   unfolding machine_opened
   goes-asks acts wires d s who low told at =
@@ -172,7 +172,7 @@ module _ (m : Moment) (law : ActLaw m) where
           (law.kept _ (asks d c label refl e f (by_far (who c e).0 ((who c e).1, low))) tt at)
 
   pub goes-far_asks : (acts : List Act) (wires : Wires) (k : ℕ) (own : OwnAsk) (s : State)
-      → ((c : Connection) → connection_of k s.bus ≡ Some c → IsFarAsking m s c
+      → ((c : Connection) → connection_of k s.bus ≡ Some c → IsFarAsking m c
       (draft k side.Far own.kind own.payload (s.now + default_timeout) own.oneway))
       → own.kind < 128 → Stays None acts wires (far_asks k own) s
   unfolding machine_opened

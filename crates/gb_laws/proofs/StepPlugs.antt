@@ -1,13 +1,13 @@
 -- A law of points goes over the start of the supervisory controller, and modules that come and go.
-use Rattle.std.proofs.Common.{Bool, List, None, inl, inr, refl, true, ℕ, [], ◌∷◌, ◌≡◌}
+use Rattle.std.proofs.Common.{Bool, List, None, inl, inr, refl, true, ℕ, [], ◌∷◌}
 use Rattle.std.specs.Prelude.{◌==◌}
-use Rattle.gb_formats.specs.SvcRecords.{SvcAsk, read_svc_ask, svc_ask_kind, svc_ask_payload}
+use Rattle.gb_formats.specs.SvcRecords.{SvcAsk}
 use Rattle.gb_formats.specs.Module.{Module}
 use Rattle.gb_machine.proofs.Opened.{machine_opened}
 use Rattle.gb_machine.specs.Actions.{Action, change, each, nothing, when, ◌▸◌}
 use Rattle.gb_machine.specs.Plugging.{boots, plugs, tells_inserted, with_plugged}
 use Rattle.gb_machine.specs.{OwnAsking.svc_asks, OwnAsking.svc_own}
-use Rattle.gb_machine.specs.{Runs.Moment, State.Plugged, State.State, SvcQueues.removes}
+use Rattle.gb_machine.specs.{Runs.Moment, State.Plugged, State.State}
 use Rattle.gb_laws.proofs.LowTypes.{svc-low}
 use Rattle.gb_laws.proofs.Points.{IsOfSvc, Law, by_svc, others}
 use Rattle.gb_laws.proofs.StepActions.{Goes, goes-far_asks, goes-nothing, goes-when, goes-▸}
@@ -31,16 +31,11 @@ module _ (m : Moment) (law : Law m) where
   pub rests-when : (b : Bool) (f : Action) (s : State) → Rests f s → Rests (when b f) s
   rests-when b f s h = goes-when m (acting m law) None [] Untouched b f s (λ e. h)
 
-  -- what the supervisory controller asks is no removal
-  abbrev pub RemovesNone : SvcAsk → Type 0
-  RemovesNone ask =
-      (i : ℕ) → removes i (read_svc_ask (svc_ask_kind ask) (svc_ask_payload ask)) ≡ true → ⊥
-
-  pub rests-svc : IsOfSvc m.event → (ask : SvcAsk) (s : State) → RemovesNone ask
-      → Rests (svc_asks ask) s
+  -- the supervisory controller asks
+  pub rests-svc : IsOfSvc m.event → (ask : SvcAsk) (s : State) → Rests (svc_asks ask) s
   unfolding machine_opened
-  rests-svc of ask s none = goes-far_asks m (acting m law) [] Untouched 1 (svc_own ask) s
-      (λ c e. by_svc of refl (λ i h. absurd (none i h))) (svc-low ask)
+  rests-svc of ask s = goes-far_asks m (acting m law) [] Untouched 1 (svc_own ask) s
+      (λ c e. by_svc of refl) (svc-low ask)
 
   -- ---- booting, plugging and pulling
 
@@ -50,7 +45,7 @@ module _ (m : Moment) (law : Law m) where
   rests-inserted_all of [] s = rests-nothing s
   rests-inserted_all of (p ∷ ps) s =
       rests-▸ (tells_inserted p.intf) (each ps (λ p. tells_inserted p.intf)) s
-      (rests-svc of (SvcAsk.ModuleInserted p.intf 1 0) s (λ j h. absurd cc))
+      (rests-svc of (SvcAsk.ModuleInserted p.intf 1 0) s)
       (rests-inserted_all of ps (tells_inserted p.intf s).state)
 
   pub rests-boots : IsOfSvc m.event → (s : State) → Rests boots s
@@ -63,8 +58,8 @@ module _ (m : Moment) (law : Law m) where
       (rests-▸ (change (λ t. record t { booted = true })) (svc_asks (SvcAsk.ProtocolVersion 0 1)) s
       (λ told at. law.kept _ (others true s.holds s.ports s.modules
       (inr (of, λ i. inl refl, λ k i. inl i))) at)
-      (rests-svc of (SvcAsk.ProtocolVersion 0 1) _ (λ j h. absurd cc)))
-      (rests-svc of (SvcAsk.Hello 1 1) _ (λ j h. absurd cc))) (rests-inserted_all of s.modules _)
+      (rests-svc of (SvcAsk.ProtocolVersion 0 1) _))
+      (rests-svc of (SvcAsk.Hello 1 1) _)) (rests-inserted_all of s.modules _)
 
   pub rests-plugs : IsOfSvc m.event → (i : ℕ) (x : Module) (s : State) → Rests (plugs i x) s
   unfolding machine_opened
@@ -76,4 +71,4 @@ module _ (m : Moment) (law : Law m) where
         λ j. powered-off i j s.ports (i == j),
         λ k n. inl n,
       ))) at) (rests-when s.booted (tells_inserted i) (with_plugged i x s)
-      (rests-svc of (SvcAsk.ModuleInserted i 1 0) (with_plugged i x s) (λ j h. absurd cc)))
+      (rests-svc of (SvcAsk.ModuleInserted i 1 0) (with_plugged i x s)))

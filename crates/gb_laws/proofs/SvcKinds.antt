@@ -3,12 +3,10 @@ use Rattle.std.proofs.Common.{Bool, List, Some, ap, cond, false, length, refl, s
 use Rattle.std.proofs.Common.{[], ◌∙◌, ◌∷◌, ◌≡◌}
 use Rattle.std.specs.List.{find}
 use Rattle.std.specs.Prelude.{Err, Ok, Result, min, sum, ◌+◌, ◌==◌}
-use Rattle.gb_base.specs.declared.host_event.HostEvent.TheVariants as host_event
 use Rattle.gb_formats.specs.Records.{PayloadFault, Row, fields_of, read_row, read_table}
 use Rattle.gb_formats.specs.SvcRecords.{SvcAsk, read_svc_ask, read_svc_ask_of_svc, svc_ask_kind}
 use Rattle.gb_formats.specs.SvcRecords.{svc_asks}
-use Rattle.gb_machine.specs.{Bus.Request, Host.first_host, HostServing.notified_by, Members.Each}
-use Rattle.gb_machine.specs.{SvcQueues.is_removal, SvcQueues.removes}
+use Rattle.gb_machine.specs.{Host.first_host, HostServing.notified_by, Members.Each}
 use Rattle.gb_invariants.proofs.Outcomes.{same-number}
 use Rattle.gb_laws.proofs.Marks.{notice_of}
 
@@ -97,15 +95,3 @@ notice-read kind payload made e own =
     ap (λ x. (notified_by x first_host).notices)
     (subst (λ k. read_svc_ask_of_svc k payload ≡ read_svc_ask k payload)
     (svc-kind kind payload made e) own ∙ e)
-
-pub removal-notice : (i : ℕ) (r : Request) → is_removal i r ≡ true
-    → notice_of r.kind r.payload ≡ Some (host_event.Removed i)
-removal-notice i r h = by (read_svc_ask r.kind r.payload) refl h
-  where
-    by : (x : Result SvcAsk PayloadFault) → read_svc_ask r.kind r.payload ≡ x → removes i x ≡ true
-        → notice_of r.kind r.payload ≡ Some (host_event.Removed i)
-    by (Ok (SvcAsk.ModuleRemoved j)) e f =
-        notice-read r.kind r.payload (SvcAsk.ModuleRemoved j) e refl
-        ∙ ap (λ n. Some (host_event.Removed n)) (same-number j i f)
-    by (Ok _) e f = absurd cc
-    by (Err fault) e f = absurd cc

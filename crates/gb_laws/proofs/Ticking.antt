@@ -1,28 +1,33 @@
 -- A law of points goes over ticks and pulls.
-use Rattle.std.proofs.Common.{Bool, List, None, ap, append-nil, append_assoc, arith, cond, false}
-use Rattle.std.proofs.Common.{inl, inr, map, refl, subst, sym, true, ℕ, [], ◌++◌, ◌+◌, ◌<◌, ◌∙◌}
-use Rattle.std.proofs.Common.{◌∷◌, ◌≡◌, ◌≢◌, ◌⊎◌}
+use Rattle.std.proofs.Common.{Bool, List, None, Option, Some, ap, append-nil, append_assoc, arith}
+use Rattle.std.proofs.Common.{cond, false, inl, inr, map, refl, subst, sym, true, ℕ, [], ◌++◌, ◌+◌}
+use Rattle.std.proofs.Common.{◌<◌, ◌∙◌, ◌∷◌, ◌≡◌, ◌≢◌, ◌⊎◌}
 use Rattle.std.proofs.lemmas.Bool.Decides.{nat_tests}
 use Rattle.std.specs.List.{filter}
-use Rattle.std.specs.Prelude.{◌==◌}
+use Rattle.std.specs.Prelude.{is_some, ◌==◌}
 use Rattle.gb_base.specs.declared.end.End.{End}
 use Rattle.gb_base.specs.declared.end.End.TheVariants as end
 use Rattle.gb_base.specs.declared.end.Side.TheVariants as side
 use Rattle.gb_base.specs.declared.entry.Entry.{Entry}
 use Rattle.gb_base.specs.declared.event.Event.TheVariants as event
 use Rattle.gb_base.specs.declared.outcome.Outcome.TheVariants as outcome
-use Rattle.gb_formats.specs.SvcRecords.{SvcAsk, read_svc_ask, svc_ask_kind, svc_ask_payload}
+use Rattle.gb_formats.specs.SvcRecords.{SvcAsk, svc_ask_kind, svc_ask_payload}
 use Rattle.gb_machine.proofs.Opened.{machine_opened}
-use Rattle.gb_machine.specs.Actions.{Action, change, each, when, ◌▸◌}
-use Rattle.gb_machine.specs.Bus.{Bus, Connection, has_number}
+use Rattle.gb_machine.specs.Actions.{Action, change, each, given, when, ◌▸◌}
+use Rattle.gb_machine.specs.Asking.{asks, asks_with}
+use Rattle.gb_formats.specs.Grammar.{default_timeout}
+use Rattle.gb_machine.specs.Sending.{Draft, draft, is_wired, label_for}
+use Rattle.gb_machine.specs.Bus.{Bus, Connection, connection_of, has_number, next_number}
+use Rattle.gb_machine.specs.Bus.{request_of}
 use Rattle.gb_machine.specs.GivingUp.{gives_up, later_by, ticks, times_out}
 use Rattle.gb_machine.specs.Members.{Each, EachTwo, IsIn}
-use Rattle.gb_machine.specs.Plugging.{pulls, wired_numbers, with_pulled}
+use Rattle.gb_machine.specs.Plugging.{pulls, recalled, tells_removed, wired_numbers, with_pulled}
+use Rattle.gb_machine.specs.Plugging.{with_told}
 use Rattle.gb_machine.specs.Ports.{is_port, level_in, level_of, unpowered}
 use Rattle.gb_machine.specs.Wiring.{is_at, is_wired_to, unwired}
 use Rattle.gb_machine.specs.{OwnAsking.svc_asks, OwnAsking.svc_own}
 use Rattle.gb_machine.specs.{Requests.is_due, Requests.open_on, Runs.Moment, State.Port}
-use Rattle.gb_machine.specs.{State.State, SvcQueues.removes}
+use Rattle.gb_machine.specs.{State.State}
 use Rattle.gb_machine.specs.Wires as wiring
 use Rattle.gb_invariants.proofs.Lists.{at_first-stays, two-filter}
 use Rattle.gb_invariants.proofs.Outcomes.{Rise, both-true, open_requests-rise, same-number}
@@ -30,8 +35,9 @@ use Rattle.gb_invariants.proofs.Found.{find-left, none-of}
 use Rattle.gb_invariants.specs.Facts.{IsBefore}
 use Rattle.gb_laws.proofs.Overdue.{IsOverdue, overdue-first, overdue-others}
 use Rattle.gb_laws.proofs.PointParts.{Untouched, Unwired, Wired, Wires}
-use Rattle.gb_laws.proofs.Points.{IsLive, IsOfSvc, Law, by_svc, others, passes, unwires as unwiring}
-use Rattle.gb_laws.proofs.StepActions.{At, goes-far_asks, goes-when}
+use Rattle.gb_laws.proofs.Points.{IsLive, IsOfSvc, Law, by_svc, others, passes, recalls}
+use Rattle.gb_laws.proofs.Points.{unwires as unwiring}
+use Rattle.gb_laws.proofs.StepActions.{At, goes-far_asks}
 use Rattle.gb_laws.proofs.StepPlugs.{Rests, rests-nothing, rests-▸}
 use Rattle.gb_laws.proofs.{StepActLaws.acting, StepEvents.rests-gives_up, StepSvcServes.Ends}
 pub use Rattle.gb_laws.proofs.Overdue.{due_by}
@@ -64,9 +70,23 @@ unpowered-off i j ports false e =
     other : (n : ℕ) → (n == j) ≡ true → (n == i) ≡ false
     other n h = grind (arith, nat_tests, e, h)
 
-removed-at : (i j : ℕ) → removes j (read_svc_ask (svc_ask_kind (SvcAsk.ModuleRemoved i))
-    (svc_ask_payload (SvcAsk.ModuleRemoved i))) ≡ true → i ≡ j
-removed-at i j h = omega (arith, same-number (i + 0) j h)
+-- power levels stay where the supervisory controller asks
+asked-ports : (ask : SvcAsk) (s : State) → (svc_asks ask s).state.ports ≡ s.ports
+unfolding machine_opened
+asked-ports ask s = wired (is_wired (connection_of 1 s.bus))
+  where
+    d : Draft
+    d = draft 1 side.Far (svc_ask_kind ask) (svc_ask_payload ask) (s.now + default_timeout) false
+
+    by : (o : Option Connection) (l : Option ℕ)
+        → (given o (λ c. given l (λ label. asks_with d c label)) s).state.ports ≡ s.ports
+    by None l = refl
+    by (Some c) None = refl
+    by (Some c) (Some label) = refl
+
+    wired : (t : Bool) → (when t (asks d) s).state.ports ≡ s.ports
+    wired true = by (connection_of 1 s.bus) (label_for d s.bus)
+    wired false = refl
 
 -- what is wired to an interface is wired to a module
 is_at-module : (i : ℕ) (e : End) → is_at i e ≡ true → (c : ℕ) × (e ≡ end.Module i c)
@@ -208,12 +228,12 @@ module _ (m : Moment) (law : Law m) where
   unfolding machine_opened
   cuts-pulls of i s rise =
       cuts-▸ (each (wired_numbers i s.bus) wiring.unwires ▸ change (with_pulled i))
-      (when s.booted (svc_asks (SvcAsk.ModuleRemoved i))) s
+      (when s.booted (tells_removed i)) s
       (cuts-▸ (each (wired_numbers i s.bus) wiring.unwires) (change (with_pulled i)) s
       (unwires-each (wired_numbers i s.bus) s rise
       (wired-live i s.bus s.bus.connections (λ c j. j)))
       (gone (each (wired_numbers i s.bus) wiring.unwires s).state))
-      (tells_removed (with_pulled i (each (wired_numbers i s.bus) wiring.unwires s).state)
+      (tells (with_pulled i (each (wired_numbers i s.bus) wiring.unwires s).state)
       (pulled-off i (each (wired_numbers i s.bus) wiring.unwires s).state.ports))
     where
       gone : (w : State) → Cuts (change (with_pulled i)) w
@@ -228,17 +248,43 @@ module _ (m : Moment) (law : Law m) where
             ))) u.holds;
       }
 
-      tells_removed : (w : State) → level_of i w.ports ≡ 0
-          → Cuts (when s.booted (svc_asks (SvcAsk.ModuleRemoved i))) w
-      tells_removed w off told u = record {
+      -- what was asked is remembered, where it was made
+      recall : (t : State) (n : ℕ) → level_of i t.ports ≡ 0 → Cuts (change (recalled n i)) t
+      recall t n off told u = record {
         wires = u.wires;
         is = u.is;
-        holds = goes-when m (acting m law) None [] u.wires s.booted
-            (svc_asks (SvcAsk.ModuleRemoved i)) w
-            (λ e. goes-far_asks m (acting m law) [] u.wires 1 (svc_own (SvcAsk.ModuleRemoved i)) w
-            (λ c e. by_svc of refl (λ j h. ap (λ n. level_of n w.ports) (sym (removed-at i j h))
-            ∙ off)) (omega arith)) told u.holds;
+        holds = by (is_some (request_of n t.bus)) refl;
       }
+        where
+          by : (b : Bool) → is_some (request_of n t.bus) ≡ b
+              → At m (acting m law) None [] u.wires (told ++ []) (cond b (with_told n i t) t)
+          by true e = law.kept _ (recalls n i of (e, off)) u.holds
+          by false e = subst (λ es. At m (acting m law) None [] u.wires es t)
+              (sym (append-nil told)) u.holds
+
+      asks-removed : (w : State) → Cuts (svc_asks (SvcAsk.ModuleRemoved i)) w
+      asks-removed w told u = record {
+        wires = u.wires;
+        is = u.is;
+        holds = goes-far_asks m (acting m law) [] u.wires 1 (svc_own (SvcAsk.ModuleRemoved i)) w
+            (λ c e. by_svc of refl) (omega arith) told u.holds;
+      }
+
+      tells : (w : State) → level_of i w.ports ≡ 0
+          → Cuts (when s.booted (tells_removed i)) w
+      tells w off = by s.booted
+        where
+          by : (b : Bool) → Cuts (when b (tells_removed i)) w
+          by true told u = cuts-▸ (svc_asks (SvcAsk.ModuleRemoved i))
+              (change (recalled (next_number w.bus) i)) w (asks-removed w)
+              (recall (svc_asks (SvcAsk.ModuleRemoved i) w).state (next_number w.bus)
+              (ap (level_of i) (asked-ports (SvcAsk.ModuleRemoved i) w) ∙ off)) told u
+          by false told u = record {
+            wires = u.wires;
+            is = u.is;
+            holds = subst (λ es. At m (acting m law) None [] u.wires es w)
+                (sym (append-nil told)) u.holds;
+          }
 
   pub ends-pulls : IsOfSvc m.event → (i : ℕ) → Ends m law None (pulls i) m.before
   ends-pulls of i told at =

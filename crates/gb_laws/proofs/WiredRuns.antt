@@ -13,13 +13,14 @@ use Rattle.gb_formats.specs.Module.{Module, module_of_kind, module_raw}
 use Rattle.gb_formats.specs.{SvcRecords.SvcAsk, ValidEvents.IsIntf}
 use Rattle.gb_machine.proofs.{Conditions.free as unmet, Opened.machine_opened}
 use Rattle.gb_machine.specs.Modules.{is_plugged, is_plugged_at, plugged, unplugged}
-use Rattle.gb_machine.specs.Plugging.{boots, plugs, pulls, tells_inserted, wired_numbers}
-use Rattle.gb_machine.specs.Plugging.{with_plugged, with_pulled}
+use Rattle.gb_machine.specs.Plugging.{boots, plugs, pulls, recalled, tells_inserted, tells_removed}
+use Rattle.gb_machine.specs.Plugging.{wired_numbers, with_plugged, with_pulled, with_told}
 use Rattle.gb_machine.specs.Ports.{is_port, is_powered, level_in, level_of, port_of, powered}
 use Rattle.gb_machine.specs.Ports.{unpowered}
 use Rattle.gb_machine.specs.Runs.{IsMoment, Moment, after}
 use Rattle.gb_machine.specs.State.{Plugged, Port, State, first_state}
 use Rattle.gb_machine.specs.{Actions.each, Actions.when, Bus.Connection, Bus.has_number}
+use Rattle.gb_machine.specs.{Bus.next_number, Bus.request_of}
 use Rattle.gb_machine.specs.{Events.decided, Events.step, Members.EachTwo, Members.IsIn}
 use Rattle.gb_machine.specs.{OwnAsking.svc_asks, Refusals.refusal, Wires.unwires}
 use Rattle.gb_machine.specs.{Wires.with_unwired, Wiring.is_at, Wiring.is_wired_to}
@@ -231,6 +232,20 @@ fit-pulled i s rise h s1 is modules ports = record {
         (none-of (is_plugged_at i) s.modules)))
     by_range j false e f = h.range j (sym (pulled-other i j s.modules e) ∙ f)
 
+-- what is remembered of pulls is no matter here
+fit-recalled : (i n : ℕ) {s : State} → WiredFit s → WiredFit (recalled n i s)
+fit-recalled i n {s} h = by (is_some (request_of n s.bus))
+  where
+    by : (t : Bool) → WiredFit (cond t (with_told n i s) s)
+    by true = record {
+      wired = h.wired;
+      powered = h.powered;
+      range = h.range;
+      bound = h.bound;
+      routed = h.routed;
+    }
+    by false = h
+
 fit-pulls : (i : ℕ) (told : List Entry) (s : State) → LinkedTo told s → QueueIsAsked s.bus
     → WiredFit s → WiredFit (pulls i s).state
 unfolding machine_opened
@@ -246,9 +261,11 @@ fit-pulls i told s start asked h = by s.booted
     queue : QueueIsAsked (with_pulled i (each (wired_numbers i s.bus) unwires s).state).bus
     queue = svc-asked s (unwires-svc (wired_numbers i s.bus) (wired-others i s start.1)) asked
 
-    by : (t : Bool) → WiredFit (when t (svc_asks (SvcAsk.ModuleRemoved i))
+    by : (t : Bool) → WiredFit (when t (tells_removed i)
         (with_pulled i (each (wired_numbers i s.bus) unwires s).state)).state
-    by true = fit-ask _ (after-ask (SvcAsk.ModuleRemoved i) queue) cut
+    by true = fit-recalled i (next_number (with_pulled i
+        (each (wired_numbers i s.bus) unwires s).state).bus)
+        (fit-ask _ (after-ask (SvcAsk.ModuleRemoved i) queue) cut)
     by false = cut
 
 -- ---- each moment

@@ -17,7 +17,7 @@ use Rattle.gb_laws.proofs.Levels.{step-levels}
 use Rattle.gb_laws.proofs.Points.{Change, IsElse, IsOfSvc, PortsFrom, acts_asked, as_before}
 use Rattle.gb_laws.proofs.Points.{changed, loses_route, others, served, wires}
 use Rattle.gb_laws.proofs.{Awaited.awaited-rest, ChangeBuses.bus_change, LinkActs.awaited-plugs}
-use Rattle.gb_laws.proofs.{PointParts.Basis, PointParts.Point}
+use Rattle.gb_laws.proofs.{Marks.still-plugged, PointParts.Basis, PointParts.Point}
 
 -- What is wired to a module, and what is powered, is plugged, at interfaces in range. What is wired
 -- is routed, which is the highest level.
@@ -149,10 +149,10 @@ wired-kept m other a (acts_asked q n rest is) basis h =
     let plugs = awaited-plugs q.purpose n in
     let bus = (awaited-rest q.purpose n).bus in
     let ports = (awaited-rest q.purpose n).ports in record {
-      wired = λ c live wired i p at. plugs.plugged i
+      wired = λ c live wired i p at. still-plugged i _ _ (plugs.plugged i)
           ∙ h.wired c (subst (λ (b : Bus). IsIn c b.connections) bus live) wired i p at;
-      powered = λ i e. plugs.plugged i ∙ h.powered i (plugs.powered i e);
-      range = λ i e. h.range i (sym (plugs.plugged i) ∙ e);
+      powered = λ i e. still-plugged i _ _ (plugs.plugged i) ∙ h.powered i (plugs.powered i e);
+      range = λ i e. h.range i (sym (still-plugged i _ _ (plugs.plugged i)) ∙ e);
       bound = λ i. subst (λ ps. level_of i ps ≤ 6) (sym ports) (h.bound i);
       routed = λ c live wired i p at. ap (level_of i) ports
           ∙ h.routed c (subst (λ (b : Bus). IsIn c b.connections) bus live) wired i p at;
@@ -162,9 +162,10 @@ wired-kept m other a (others booted marks ports modules same) basis h = by same
     by : IsElse m a booted marks ports modules
         → WiredFit (changed m a (others booted marks ports modules same)).state
     by (inl s) = record {
-      wired = λ c live wired i p at. s.0.plugged i ∙ h.wired c live wired i p at;
-      powered = λ i e. s.0.plugged i ∙ h.powered i (s.0.powered i e);
-      range = λ i e. h.range i (sym (s.0.plugged i) ∙ e);
+      wired = λ c live wired i p at. still-plugged i _ _ (s.0.plugged i)
+          ∙ h.wired c live wired i p at;
+      powered = λ i e. still-plugged i _ _ (s.0.plugged i) ∙ h.powered i (s.0.powered i e);
+      range = λ i e. h.range i (sym (still-plugged i _ _ (s.0.plugged i)) ∙ e);
       bound = (levels-kept m a.state ports h.bound s.1).bound;
       routed = λ c live wired i p at. ⊎_elim (λ e. e) (λ none. absurd (not-both (is_wired_to i c)
           (ap (λ t. t && is_at i c.peer) wired ∙ ap (is_at i) at ∙ is-same i) (none c live)))

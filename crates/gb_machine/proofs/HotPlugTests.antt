@@ -40,12 +40,12 @@ are_routed s = list_all (λ c. not c.wired || is_routed s c.peer) s.bus.connecti
 
 -- the level is at most so much while a removal waits
 abbrev pub removal_leaves : ℕ → ℕ → State → Bool
-removal_leaves i level s = not (awaits_removal i s.bus) || nat_le (level_of i s.ports) level
+removal_leaves i level s = not (awaits_removal i s) || nat_le (level_of i s.ports) level
 
 -- nothing is wired while a removal waits
 abbrev pub removal_unwires : ℕ → State → Bool
 removal_unwires i s =
-    not (awaits_removal i s.bus) || list_all (λ c. not (is_wired_to i c)) s.bus.connections
+    not (awaits_removal i s) || list_all (λ c. not (is_wired_to i c)) s.bus.connections
 
 -- a request starts an enumeration
 abbrev is_start : Request → Bool
@@ -55,12 +55,12 @@ is_start r = r.kind == 0x21
 abbrev is_unanswered : ℕ → State → Option (ℕ × SequenceStep) → Bool
 is_unanswered i s None = true
 is_unanswered i s (Some awaited) =
-    list_all (λ item. not (is_reply_to awaited.0 item)) (before_removal i s.bus)
+    list_all (λ item. not (is_reply_to awaited.0 item)) (before_removal i s)
 
 -- no enumeration goes on while a removal waits
 abbrev pub is_quiet : ℕ → State → Bool
 is_quiet i s =
-    not (awaits_removal i s.bus && level_of i s.ports == 1)
+    not (awaits_removal i s && level_of i s.ports == 1)
     || list_all is_start (enumeration_requests i s.bus)
     && is_unanswered i s (awaited_by i s.host)
 

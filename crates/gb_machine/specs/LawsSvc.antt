@@ -19,9 +19,9 @@ use Rattle.gb_machine.specs.Ports.{level_of}
 use Rattle.gb_machine.specs.Runs.{HoldsAtEachMoment, HoldsThroughout, Moment}
 use Rattle.gb_machine.specs.SequenceSteps.{asks_control}
 use Rattle.gb_machine.specs.State.{State}
-use Rattle.gb_machine.specs.SvcQueues.{HandlesRemoval, is_ask, is_ask_that, is_connection_request}
-use Rattle.gb_machine.specs.SvcQueues.{is_enumeration_request, is_for_link, is_removal, is_reply_to}
-use Rattle.gb_machine.specs.SvcQueues.{svc_items, svc_requests}
+use Rattle.gb_machine.specs.SvcQueues.{HandlesRemoval, is_ask, is_connection_request}
+use Rattle.gb_machine.specs.SvcQueues.{is_enumeration_request, is_for_link, is_removal_in}
+use Rattle.gb_machine.specs.SvcQueues.{is_reply_to, svc_items, svc_requests}
 use Rattle.gb_machine.specs.Wiring.{is_wired_to}
 
 -- ---- wired means routed
@@ -45,14 +45,14 @@ WiredMeansRouted = HoldsThroughout AreRouted
 -- ---- removal leaves nothing wired
 
 -- MODULE_REMOVED of an interface waits toward the application processor.
-abbrev pub awaits_removal : ℕ → Bus → Bool
-awaits_removal i b = list_any (is_removal i) (svc_requests side.Ap b)
+abbrev pub awaits_removal : ℕ → State → Bool
+awaits_removal i s = list_any (is_removal_in i s.past.pulled) (svc_items side.Ap s.bus)
 
 -- While it does, the power level of the interface is at most 1 and none of its
 -- connections is wired.
 pub record LeavesNothing (told : List Entry) (s : State) : Type 0 where
-  pub low : (i : ℕ) → awaits_removal i s.bus ≡ true → level_of i s.ports ≤ 1
-  pub unwired : (i : ℕ) → awaits_removal i s.bus ≡ true
+  pub low : (i : ℕ) → awaits_removal i s ≡ true → level_of i s.ports ≤ 1
+  pub unwired : (i : ℕ) → awaits_removal i s ≡ true
       → Each (λ c. is_wired_to i c ≡ false) s.bus.connections
 
 -- A removal that the application processor handles finds none of its interface's connections wired.
@@ -105,20 +105,21 @@ before_last test (x ∷ xs) =
     let later = before_last test xs in if list_any test xs then x ∷ later else []
 
 -- what waits toward the application processor in front of the last removal of an interface
-abbrev pub before_removal : ℕ → Bus → List Item
-before_removal i b = before_last (is_ask_that (is_removal i) b) (svc_items side.Ap b)
+abbrev pub before_removal : ℕ → State → List Item
+before_removal i s =
+    before_last (is_removal_in i s.past.pulled) (svc_items side.Ap s.bus)
 
 -- While a removal of an interface waits, its power level is 0 or 1. Where it is 1, only starts of
 -- its enumeration wait toward the supervisory controller, and no answer that its enumeration waits
 -- for stands before the last such removal.
 pub record IsQuiet (told : List Entry) (s : State) : Type 0 where
-  pub low : (i : ℕ) → awaits_removal i s.bus ≡ true → level_of i s.ports ≤ 1
-  pub starts : (i : ℕ) → awaits_removal i s.bus ≡ true → level_of i s.ports ≡ 1
+  pub low : (i : ℕ) → awaits_removal i s ≡ true → level_of i s.ports ≤ 1
+  pub starts : (i : ℕ) → awaits_removal i s ≡ true → level_of i s.ports ≡ 1
       → Each IsStart (enumeration_requests i s.bus)
   pub unanswered : (i n : ℕ) (step : SequenceStep)
-      → awaits_removal i s.bus ≡ true → level_of i s.ports ≡ 1
+      → awaits_removal i s ≡ true → level_of i s.ports ≡ 1
       → awaited_by i s.host ≡ Some (n, step)
-      → Each (λ item. is_reply_to n item ≡ false) (before_removal i s.bus)
+      → Each (λ item. is_reply_to n item ≡ false) (before_removal i s)
 
 -- While a removal waits, only starts of the enumeration of its interface wait, and no answer that
 -- it waits for comes before the removal, in every state of a run.

@@ -22,10 +22,12 @@ pub record Plugged : Type 0 where
   pub body : Module
 
 -- What only laws speak of, and no step reads: for which connection each request to create or
--- destroy one was made, and which connections were ever wired.
+-- destroy one was made, which connections were ever wired, and which interfaces were pulled, each
+-- behind the request that told it.
 pub record Past : Type 0 where
   pub made_for : List (ℕ × ℕ)
   pub wired : List ℕ
+  pub pulled : List (ℕ × ℕ)
 
 -- The state of the machine: the bus, the supervisory controller, the modules, the application
 -- processor and the names of its requests.
@@ -53,5 +55,5 @@ first_state = record {
   modules = [];
   host = first_host;
   names = [];
-  past = record { made_for = []; wired = [] };
+  past = record { made_for = []; wired = []; pulled = [] };
 }

@@ -90,22 +90,18 @@ abbrev pub inserts : ℕ → Result SvcAsk PayloadFault → Bool
 inserts i (Ok (SvcAsk.ModuleInserted j count flags)) = j == i
 inserts i _ = false
 
--- a record of the removal of an interface
-abbrev pub removes : ℕ → Result SvcAsk PayloadFault → Bool
-removes i (Ok (SvcAsk.ModuleRemoved j)) = j == i
-removes i _ = false
-
 -- A request is MODULE_INSERTED of an interface.
 abbrev pub is_insertion : ℕ → Request → Bool
 is_insertion i r = inserts i (read_svc_ask r.kind r.payload)
 
--- A request is MODULE_REMOVED of an interface.
-abbrev pub is_removal : ℕ → Request → Bool
-is_removal i r = removes i (read_svc_ask r.kind r.payload)
+-- Of requests with the interfaces that were pulled: request n told that this interface was.
+abbrev pub is_told : ℕ → ℕ → List (ℕ × ℕ) → Bool
+is_told n i pulled = list_any (λ p. p.0 == n && p.1 == i) pulled
 
--- an item is a request that passes a test
-abbrev pub is_ask_that : (Request → Bool) → Bus → Item → Bool
-is_ask_that test b item = list_any test (requests_among b (item ∷ []))
+-- An item is MODULE_REMOVED of an interface: a request that told that it was pulled.
+abbrev pub is_removal_in : ℕ → List (ℕ × ℕ) → Item → Bool
+is_removal_in i pulled (Ask n) = is_told n i pulled
+is_removal_in i pulled _ = false
 
 -- ---- moments
 
@@ -119,10 +115,14 @@ pub record HandlesAtAp (m : Moment) (test : Request → Bool) : Type 0 where
   pub made : request_of number m.before.bus ≡ Some request
   pub passes : test request ≡ true
 
--- At a moment the application processor handles the removal of an interface.
-abbrev pub HandlesRemoval : ℕ → Moment → Type 0
-HandlesRemoval i m = HandlesAtAp m (is_removal i)
-
 -- At a moment the application processor handles the insertion of an interface.
 abbrev pub HandlesInsertion : ℕ → Moment → Type 0
 HandlesInsertion i m = HandlesAtAp m (is_insertion i)
+
+-- At a moment the application processor handles the removal of an interface: the front item toward
+-- it on the supervisory controller's connection is a request that told that this was pulled.
+pub record HandlesRemoval (i : ℕ) (m : Moment) : Type 0 where
+  pub number : ℕ
+  pub is : m.event ≡ event.Deliver (end.Ap 0)
+  pub front : first (svc_items side.Ap m.before.bus) ≡ Some (Ask number)
+  pub told : is_told number i m.before.past.pulled ≡ true

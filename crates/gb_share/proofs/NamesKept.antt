@@ -1,7 +1,7 @@
 -- Names stay as they are at requests, wires, what the application processor does, and modules.
 -- NamesServed has all other events but sends, bridge lines, copies and drops.
 use Rattle.std.proofs.Common.{◌≡◌, ℕ, Bool, true, false, if◌then◌else◌, Option, Some, None, List}
-use Rattle.std.proofs.Common.{[], ◌∷◌, refl, ◌∙◌}
+use Rattle.std.proofs.Common.{[], ◌∷◌, is_some, refl, ◌∙◌}
 use Rattle.gb_base.specs.declared.entry.Entry.{Entry}
 use Rattle.gb_base.specs.declared.host_event.HostEvent.{HostEvent}
 use Rattle.gb_base.specs.declared.name.Name.{Name}
@@ -15,7 +15,7 @@ use Rattle.gb_formats.specs.SvcRecords.{SvcAsk}
 use Rattle.gb_machine.specs.Actions.{Action, by_state, change, each, given, nothing, on_bus}
 use Rattle.gb_machine.specs.Actions.{on_host, tell, tell_all, when, ◌▸◌}
 use Rattle.gb_machine.specs.Asking.{asks, asks_with}
-use Rattle.gb_machine.specs.Bus.{Bus, Connection, Request, next_number}
+use Rattle.gb_machine.specs.Bus.{Bus, Connection, Request, next_number, request_of}
 use Rattle.gb_machine.specs.GivingUp.{cancels, gives_up, ticks, times_out}
 use Rattle.gb_machine.specs.Host.{Host, link_at}
 use Rattle.gb_machine.specs.HostActs.{acts, asked_with, drains, fails, follows, host_asks}
@@ -23,7 +23,8 @@ use Rattle.gb_machine.specs.HostActs.{host_opens, idles, idles_behind, made_for,
 use Rattle.gb_machine.specs.HostActs.{opened_with, turns, with_awaited}
 use Rattle.gb_machine.specs.LineActions.{stirred, stirs}
 use Rattle.gb_machine.specs.OwnAsking.{far_asks, far_asks_all, svc_asks}
-use Rattle.gb_machine.specs.Plugging.{boots, plugs, pulls, tells_inserted}
+use Rattle.gb_machine.specs.Plugging.{boots, plugs, pulls, recalled, tells_inserted, tells_removed}
+use Rattle.gb_machine.specs.Plugging.{with_told}
 use Rattle.gb_machine.specs.Sending.{Draft}
 use Rattle.gb_machine.specs.SequenceSteps.{is_for_connection}
 use Rattle.gb_machine.specs.State.{State}
@@ -237,12 +238,20 @@ keeps_plugs i m =
     keeps_by_state _ (λ s. keeps_then _ _ (keeps_change _ (λ t. refl))
     (keeps_when _ _ (keeps_svc_asks _)))
 
+recalled_names : (n i : ℕ) (s : State) → (recalled n i s).names ≡ s.names
+recalled_names n i s = by (is_some (request_of n s.bus))
+  where
+    by : (t : Bool) → (if t then with_told n i s else s).names ≡ s.names
+    by true = refl
+    by false = refl
+
 pub keeps_pulls : (i : ℕ) → Keeps (pulls i)
-unfolding pulls
+unfolding pulls tells_removed
 keeps_pulls i =
     keeps_by_state _ (λ s. keeps_then _ _
     (keeps_then _ _ (keeps_each _ _ keeps_unwires) (keeps_change _ (λ t. refl)))
-    (keeps_when _ _ (keeps_svc_asks _)))
+    (keeps_when _ _ (keeps_by_state _ (λ t. keeps_then _ _ (keeps_svc_asks _)
+    (keeps_change _ (recalled_names (next_number t.bus) i))))))
 
 pub keeps_stirs : (i c : ℕ) (stir : Stir) → Keeps (stirs i c stir)
 unfolding stirs stirred

@@ -1,7 +1,7 @@
 -- Modules are pulled as the machine does.
 use Rattle.std.proofs.Common.{◌≡◌, ◌≤◌, ◌+◌, ℕ, Bool, true, false, not, Option, None, List, []}
-use Rattle.std.proofs.Common.{◌∷◌, length, drop, drop_of_length-le, refl, sym, ap, ◌∙◌, subst}
-use Rattle.std.proofs.Common.{arith}
+use Rattle.std.proofs.Common.{◌∷◌, ◌++◌, length, drop, drop_of_length-le, refl, sym, ap, ◌∙◌, subst}
+use Rattle.std.proofs.Common.{arith, cond, is_some}
 use Rattle.gb_base.specs.declared.end.Side.TheVariants as side
 use Rattle.gb_base.specs.declared.entry.Entry.{Entry}
 use Rattle.gb_base.specs.declared.entry.Entry.TheVariants as entry
@@ -12,11 +12,13 @@ use Rattle.gb_formats.specs.SvcRecords.{SvcAsk}
 use Rattle.gb_invariants.proofs.Lists.{each-filter}
 use Rattle.gb_machine.proofs.Opened.{machine_opened}
 use Rattle.gb_machine.specs.Actions.{Action, change, each, nothing, when, ◌▸◌}
+use Rattle.gb_machine.specs.Bus.{next_number, request_of}
 use Rattle.gb_machine.specs.Events.{does}
 use Rattle.gb_machine.specs.Lists.{first_met}
 use Rattle.gb_machine.specs.Modules.{is_plugged, is_plugged_at, unplugged}
 use Rattle.gb_machine.specs.OwnAsking.{far_asks, svc_asks}
-use Rattle.gb_machine.specs.Plugging.{wired_numbers, with_pulled}
+use Rattle.gb_machine.specs.Plugging.{recalled, tells_removed, wired_numbers, with_pulled}
+use Rattle.gb_machine.specs.Plugging.{with_told}
 use Rattle.gb_machine.specs.Ports.{unpowered}
 use Rattle.gb_machine.specs.Refusals.{has_no_label, refusal}
 use Rattle.gb_machine.specs.State.{Plugged, State}
@@ -27,6 +29,7 @@ use Rattle.gb_system.proofs.Doings.{does-by_state, does-change, does-then}
 use Rattle.gb_system.proofs.Landing.{lands, lands-refused}
 use Rattle.gb_system.proofs.Midways.{Midway, each-cons, each-nil, midway-as, midway-end}
 use Rattle.gb_system.proofs.Midways.{midway-more}
+use Rattle.gb_system.proofs.Standing.{repast}
 use Rattle.gb_system.specs.Acting.{IsAskable}
 use Rattle.gb_system.specs.Doing.{Does}
 use Rattle.gb_system.specs.Drafts.{own_ask}
@@ -123,25 +126,45 @@ pulled-stand x t i modules l st is ports = record {
 abbrev pulls_at : ℕ → State → Action
 pulls_at i s =
     each (wired_numbers i s.bus) unwires ▸ change (with_pulled i)
-    ▸ when s.booted (svc_asks (SvcAsk.ModuleRemoved i))
+    ▸ when s.booted (tells_removed i)
 
 -- it is done by its parts
 does-pulled : {x y z : Parties} {s : State} (i : ℕ) {a b c : List Entry}
     → Does x (each (wired_numbers i s.bus) unwires) s a b
     → PartsStand [] y (with_pulled i (after_unwiring (wired_numbers i s.bus) s))
-    → Does z (when s.booted (svc_asks (SvcAsk.ModuleRemoved i)))
+    → Does z (when s.booted (tells_removed i))
     (with_pulled i (after_unwiring (wired_numbers i s.bus) s)) b c
     → Does z (does (event.Pull i)) s a c
 unfolding machine_opened
 does-pulled {x} {y} {z} {s} i d st e =
     does-by_state (pulls_at i) (does-then (does-then d (does-change (with_pulled i) st)) e)
 
+-- which pulls are remembered is no matter of the parties
+recalled-stand : {x : Parties} (n i : ℕ) (s : State) → PartsStand [] x s
+    → PartsStand [] x (recalled n i s)
+recalled-stand {x} n i s st = by (is_some (request_of n s.bus))
+  where
+    by : (t : Bool) → PartsStand [] x (cond t (with_told n i s) s)
+    by true = repast (record s.past { pulled = s.past.pulled ++ (n, i) ∷ [] }) st
+    by false = st
+
 -- MODULE_REMOVED is what the supervisory controller asks
-pub does-removed : {x : Parties} {s : State} {a b : List Entry} (i : ℕ)
+does-svc_removed : {x : Parties} {s : State} {a b : List Entry} (i : ℕ)
     → Does x (far_asks 1 (own_ask 0x20 (i ∷ []) false)) s a b
     → Does x (svc_asks (SvcAsk.ModuleRemoved i)) s a b
 unfolding machine_opened
-does-removed i d = record { told_is = d.told_is; stand = d.stand }
+does-svc_removed i d = record { told_is = d.told_is; stand = d.stand }
+
+-- and it is remembered
+pub does-removed : {x : Parties} {s : State} {a b : List Entry} (i : ℕ)
+    → Does x (far_asks 1 (own_ask 0x20 (i ∷ []) false)) s a b → Does x (tells_removed i) s a b
+unfolding machine_opened
+does-removed {x} {s} i d =
+    let e = does-svc_removed i d in
+    does-by_state (λ t. svc_asks (SvcAsk.ModuleRemoved i)
+    ▸ change (recalled (next_number t.bus) i))
+    (does-then e (does-change (recalled (next_number s.bus) i)
+    (recalled-stand (next_number s.bus) i (svc_asks (SvcAsk.ModuleRemoved i) s).state e.stand)))
 
 pub removed-askable : (i : ℕ) → IsAskable 0x20 (i ∷ [])
 removed-askable i = (omega arith, omega arith)
@@ -177,11 +200,11 @@ pulled-booted i s = unwiring-booted (wired_numbers i s.bus) s
 pub pull-done : (x y z : Parties) (s : State) (i : ℕ) (before told es : List Entry)
     → Pulling x y s i before told
     → ((t : State) → PartsStand [] y t
-    → Does z (when t.booted (svc_asks (SvcAsk.ModuleRemoved i))) t told es)
+    → Does z (when t.booted (tells_removed i)) t told es)
     → PartsStep z s (event.Pull i) es
 pull-done x y z s i before told es p removed =
     let t = with_pulled i (after_unwiring (wired_numbers i s.bus) s) in
     lands z s (event.Pull i) before es (pull-allowed s i p.there p.spent) p.begun
     (does-pulled i p.unwired (pulling-stand p)
-    (subst (λ b. Does z (when b (svc_asks (SvcAsk.ModuleRemoved i))) t told es)
+    (subst (λ b. Does z (when b (tells_removed i)) t told es)
     (pulled-booted i s) (removed t (pulling-stand p))))

@@ -3,12 +3,11 @@
 ghost use Rattle.std.specs.Prelude.{◌≡◌, ◌≤◌, ℕ, List, [], false, length, IfNone, OnOk};
 ghost use Rattle.gb_base.specs.declared.event.Event.TheVariants as event;
 ghost use Rattle.gb_formats.specs.Results.{most_payload};
-ghost use Rattle.gb_formats.specs.SvcRecords.{SvcAsk};
 ghost use Rattle.gb_formats.specs.ValidEvents.{IsIntf};
 ghost use Rattle.gb_machine.specs.Actions.{when};
 ghost use Rattle.gb_machine.specs.Lists.{first_met};
-ghost use Rattle.gb_machine.specs.OwnAsking.{far_asks, svc_asks};
-ghost use Rattle.gb_machine.specs.Plugging.{plugs, tells_inserted};
+ghost use Rattle.gb_machine.specs.OwnAsking.{far_asks};
+ghost use Rattle.gb_machine.specs.Plugging.{plugs, tells_inserted, tells_removed};
 ghost use Rattle.gb_machine.specs.Ports.{is_powered};
 ghost use Rattle.gb_machine.specs.Refusals.{insert_conditions};
 ghost use Rattle.gb_machine.specs.State.{State};
@@ -155,7 +154,7 @@ impl Parties {
     /// MODULE_REMOVED of an interface, once the supervisory controller has started.
     fn tell_removed(&mut self, intf: u8, told: &mut Entries) -> Result<(), OutOfMemory>
         ensures step { OnOk result ((s : State) → PartsStand [] self.old s → Does self.new
-            (when s.booted (svc_asks (SvcAsk.ModuleRemoved intf))) s told.old told.new) }
+            (when s.booted (tells_removed intf)) s told.old told.new) }
     {
         if self.booted {
             self.svc_ask(0x20, &[intf], told)?;

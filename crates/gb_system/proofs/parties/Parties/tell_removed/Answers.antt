@@ -1,7 +1,6 @@
 -- It is what the supervisory controller asks once it has started.
 use Rattle.std.proofs.Common.{◌∙◌}
-use Rattle.gb_formats.specs.SvcRecords.{SvcAsk}
-use Rattle.gb_machine.specs.OwnAsking.{svc_asks}
+use Rattle.gb_machine.specs.Plugging.{tells_removed}
 use Rattle.gb_system.proofs.Doings.{does-unless, does-when}
 use Rattle.gb_system.proofs.Pulls.{does-removed, removed-askable}
 use Rattle.gb_system.proofs.parties.Parties.tell_removed.Goals as goal
@@ -9,7 +8,7 @@ use Rattle.gb_system.proofs.parties.Parties.tell_removed.Goals as goal
 pub returns-in_ok-svc_ask : goal.returns-in_ok-svc_ask
 returns-in_ok-svc_ask c = record {
   step = λ s st.
-      does-when (svc_asks (SvcAsk.ModuleRemoved c.args.intf)) (st.booted ∙ c.if-self.true)
+      does-when (tells_removed c.args.intf) (st.booted ∙ c.if-self.true)
       (does-removed c.args.intf
       (c.in_ok-svc_ask.ensures.step s st (removed-askable c.args.intf)));
 }
@@ -17,5 +16,5 @@ returns-in_ok-svc_ask c = record {
 pub returns-else-self : goal.returns-else-self
 returns-else-self c = record {
   step = λ s st.
-      does-unless (svc_asks (SvcAsk.ModuleRemoved c.args.intf)) (st.booted ∙ c.if-self.false) st;
+      does-unless (tells_removed c.args.intf) (st.booted ∙ c.if-self.false) st;
 }
