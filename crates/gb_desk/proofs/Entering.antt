@@ -19,8 +19,8 @@ use Rattle.gb_desk.specs.declared.slots.Slot.{Slot}
 use Rattle.gb_desk.specs.declared.stored.Stored.{Stored}
 use Rattle.gb_desk.specs.declared.ticket.Ticket.{Ticket}
 use Rattle.gb_formats.specs.ValidEvents.{IsValid}
-use Rattle.gb_laws.proofs.Reached.{reached-step}
-use Rattle.gb_laws.proofs.TicketLines.{lines-ask}
+use Rattle.gb_laws.proofs.runs.Reached.{reached-step}
+use Rattle.gb_laws.proofs.tickets.TicketLines.{lines-ask}
 use Rattle.gb_laws.specs.Tickets.{Asks, asked_in}
 use Rattle.gb_machine.specs.AskingEvents.{asks}
 use Rattle.gb_machine.proofs.Steps.{step-refused}

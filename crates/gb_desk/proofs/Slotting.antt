@@ -20,8 +20,8 @@ use Rattle.gb_desk.specs.declared.slots.Slot.{Slot}
 use Rattle.gb_desk.specs.declared.slots.Told.{Told}
 use Rattle.gb_formats.specs.ValidEvents.{IsValid}
 use Rattle.gb_invariants.proofs.Lists.{in-append, in-behind, in-front}
-use Rattle.gb_laws.proofs.TicketEnds.{ends-as_told}
-use Rattle.gb_laws.proofs.Tickets.{twoway-never_sent, twoway-stays}
+use Rattle.gb_laws.proofs.tickets.TicketEnds.{ends-as_told}
+use Rattle.gb_laws.proofs.tickets.Tickets.{twoway-never_sent, twoway-stays}
 use Rattle.gb_laws.specs.Tickets.{Asks, IsTwoway, end_in}
 use Rattle.gb_machine.proofs.Lists.{nth-past}
 use Rattle.gb_machine.specs.Bus.{next_number, or_else, outcome_of, request_of}

@@ -17,7 +17,7 @@ use Rattle.gb_desk.specs.declared.slots.Slot.{Slot}
 use Rattle.gb_desk.specs.declared.stored.Stored.{Stored}
 use Rattle.gb_desk.specs.declared.ticket.Ticket.{Ticket}
 use Rattle.gb_desk.specs.declared.view.View.{View}
-use Rattle.gb_laws.proofs.Tickets.{twoway-never_sent}
+use Rattle.gb_laws.proofs.tickets.Tickets.{twoway-never_sent}
 use Rattle.gb_machine.specs.Bus.{outcome_of}
 use Rattle.gb_machine.specs.Journal.{after, events_of}
 use Rattle.gb_machine.specs.Members.{IsIn}

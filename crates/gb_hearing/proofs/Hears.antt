@@ -13,8 +13,8 @@ use Rattle.gb_invariants.proofs.Awaiting.{is_of-is, not-both, side_ended-after}
 use Rattle.gb_invariants.proofs.BusChanges.{BusChange, awaits-after, becomes, bus_after}
 use Rattle.gb_invariants.proofs.Outcomes.{is-same, same-number}
 use Rattle.gb_invariants.proofs.Selves.{ap-no-far}
-use Rattle.gb_laws.proofs.LinkSides.{is_shut, shut-after, shut-gone, shut-left, shut-more}
-use Rattle.gb_laws.proofs.LinkSides.{shut-other, shut-self, shut_of}
+use Rattle.gb_laws.proofs.links.LinkSides.{is_shut, shut-after, shut-gone, shut-left, shut-more}
+use Rattle.gb_laws.proofs.links.LinkSides.{shut-other, shut-self, shut_of}
 use Rattle.gb_machine.specs.Bus.{Bus, Connection, Request, is_open, request_of}
 use Rattle.gb_machine.specs.LawsBus.{is_awaited}
 use Rattle.gb_machine.specs.Requests.{is_of}

@@ -16,7 +16,7 @@ use Rattle.gb_invariants.proofs.BusChanges.{BusChange}
 use Rattle.gb_invariants.proofs.Drawing.{IsFree, awaited-used, drawn-is-free}
 use Rattle.gb_invariants.proofs.Outcomes.{is-same, same-number}
 use Rattle.gb_invariants.specs.Facts.{OutcomesFit}
-use Rattle.gb_laws.proofs.LinkSides.{shut-after, shut_of}
+use Rattle.gb_laws.proofs.links.LinkSides.{shut-after, shut_of}
 use Rattle.gb_machine.proofs.Lists.{nth-past}
 use Rattle.gb_machine.specs.Bus.{Bus, Request, next_number, request_of}
 use Rattle.gb_machine.specs.LawsBus.{OwnLabels, is_awaited}

@@ -23,12 +23,12 @@ use Rattle.gb_invariants.proofs.Lists.{each-in}
 use Rattle.gb_invariants.proofs.Outcomes.{both-true, is-same, same-number}
 use Rattle.gb_invariants.proofs.Selves.{far-no-ap}
 use Rattle.gb_invariants.specs.Facts.{IsAnswerable, IsOwn, is_numbered}
-use Rattle.gb_laws.proofs.LowRequests.{IsLow, reached-low}
-use Rattle.gb_laws.proofs.Midway.{KnownAt, known-held, known-resting}
-use Rattle.gb_laws.proofs.Places.{place-is}
-use Rattle.gb_laws.proofs.PointParts.{resting}
-use Rattle.gb_laws.proofs.Reached.{reached-has}
-use Rattle.gb_laws.proofs.Replies.{replies-by_moments}
+use Rattle.gb_laws.proofs.identifiers.LowRequests.{IsLow, reached-low}
+use Rattle.gb_laws.proofs.runs.Midway.{KnownAt, known-held, known-resting}
+use Rattle.gb_laws.proofs.points.Places.{place-is}
+use Rattle.gb_laws.proofs.points.PointParts.{resting}
+use Rattle.gb_laws.proofs.runs.Reached.{reached-has}
+use Rattle.gb_laws.proofs.ends.Replies.{replies-by_moments}
 use Rattle.gb_machine.specs.Arriving.{takes}
 use Rattle.gb_machine.specs.Bus.{Ask, Item, Place, Raw, RawReply, Reply, Request}
 use Rattle.gb_machine.specs.Bus.{other_side, place_of, queue, request_of}

@@ -13,13 +13,13 @@ use Rattle.gb_hearing.proofs.Hears.{Hears, IsAsked, IsSteady, Steady, hears-stea
 use Rattle.gb_hearing.proofs.HearsAsked.{hears-oneway, hears-twoway, hears-unasked}
 use Rattle.gb_invariants.proofs.Awaiting.{is-of, is_of-is, not-both, same-some}
 use Rattle.gb_invariants.specs.Facts.{OutcomesFit}
-use Rattle.gb_laws.proofs.ChangeBuses.{bus_change, by-bus}
-use Rattle.gb_laws.proofs.LinkSides.{shut_of}
-use Rattle.gb_laws.proofs.LowRequests.{asked-low}
-use Rattle.gb_laws.proofs.Midway.{KnownAt}
-use Rattle.gb_laws.proofs.OpenActs.{upon-asked, upon-line}
-use Rattle.gb_laws.proofs.PointParts.{Point}
-use Rattle.gb_laws.proofs.Points.{Change, answers, asks, changed, forgets, gives_up, names}
+use Rattle.gb_laws.proofs.points.ChangeBuses.{bus_change, by-bus}
+use Rattle.gb_laws.proofs.links.LinkSides.{shut_of}
+use Rattle.gb_laws.proofs.identifiers.LowRequests.{asked-low}
+use Rattle.gb_laws.proofs.runs.Midway.{KnownAt}
+use Rattle.gb_laws.proofs.opened.OpenActs.{upon-asked, upon-line}
+use Rattle.gb_laws.proofs.points.PointParts.{Point}
+use Rattle.gb_laws.proofs.points.Points.{Change, answers, asks, changed, forgets, gives_up, names}
 use Rattle.gb_machine.specs.Bus.{Bus, Request}
 use Rattle.gb_machine.specs.Labels.{next_label}
 use Rattle.gb_machine.specs.LawsBus.{OwnLabels}

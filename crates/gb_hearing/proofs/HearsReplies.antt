@@ -21,12 +21,12 @@ use Rattle.gb_invariants.proofs.BusChanges.{BusChange}
 use Rattle.gb_invariants.proofs.Lists.{in-filter}
 use Rattle.gb_invariants.proofs.Outcomes.{is-same}
 use Rattle.gb_invariants.specs.Facts.{OutcomesFit}
-use Rattle.gb_laws.proofs.DeliveredHands.{over-ended}
-use Rattle.gb_laws.proofs.LowRequests.{reached-low}
-use Rattle.gb_laws.proofs.Midway.{KnownAt, known-held, known-resting, known_law}
-use Rattle.gb_laws.proofs.Places.{place-is}
-use Rattle.gb_laws.proofs.PointParts.{Untouched, resting}
-use Rattle.gb_laws.proofs.Points.{Change, answers, by_number, changed, numbered, takes}
+use Rattle.gb_laws.proofs.steps.DeliveredHands.{over-ended}
+use Rattle.gb_laws.proofs.identifiers.LowRequests.{reached-low}
+use Rattle.gb_laws.proofs.runs.Midway.{KnownAt, known-held, known-resting, known_law}
+use Rattle.gb_laws.proofs.points.Places.{place-is}
+use Rattle.gb_laws.proofs.points.PointParts.{Untouched, resting}
+use Rattle.gb_laws.proofs.points.Points.{Change, answers, by_number, changed, numbered, takes}
 use Rattle.gb_machine.proofs.Opened.{machine_opened}
 use Rattle.gb_machine.proofs.Steps.{deliver-allowed, delivers-by_number, delivers-drops}
 use Rattle.gb_machine.proofs.Steps.{delivers-late, step-deliver, with_bus}
@@ -44,7 +44,7 @@ use Rattle.gb_machine.specs.Reached.{OfARun}
 use Rattle.gb_machine.specs.Refusals.{is_end_unplugged}
 use Rattle.gb_machine.specs.Runs.{Moment, after}
 use Rattle.gb_machine.specs.State.{State}
-use Rattle.gb_laws.proofs.StepIdles.{goes-follows}
+use Rattle.gb_laws.proofs.steps.StepIdles.{goes-follows}
 
 -- a request that was forgotten, and isn't open, isn't awaited
 forgotten-over : (n : ℕ) (b : Bus) → is_open n b ≡ false → is_awaited n (forgotten n b) ≡ false

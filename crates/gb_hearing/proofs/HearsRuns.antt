@@ -12,9 +12,9 @@ use Rattle.gb_hearing.proofs.HearsMoments.{hears-moment}
 use Rattle.gb_hearing.proofs.Unclean.{IsUnclean, clean-run, moment-valid}
 use Rattle.gb_invariants.proofs.Awaiting.{none-some, not-both}
 use Rattle.gb_invariants.proofs.Lists.{each-from}
-use Rattle.gb_laws.proofs.Basics.{none-made}
-use Rattle.gb_laws.proofs.Reached.{reached-step}
-use Rattle.gb_laws.proofs.Settling.{settles-are_deliveries}
+use Rattle.gb_laws.proofs.basis.Basics.{none-made}
+use Rattle.gb_laws.proofs.runs.Reached.{reached-step}
+use Rattle.gb_laws.proofs.runs.Settling.{settles-are_deliveries}
 use Rattle.gb_machine.specs.Bus.{Connection, first_bus}
 use Rattle.gb_machine.specs.Events.{step}
 use Rattle.gb_machine.specs.Members.{Each, IsIn}

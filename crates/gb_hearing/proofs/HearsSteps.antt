@@ -16,13 +16,15 @@ use Rattle.gb_invariants.proofs.Drawing.{given_up_with-is, open_with-in_use}
 use Rattle.gb_invariants.proofs.Outcomes.{both-true}
 use Rattle.gb_invariants.proofs.Selves.{ap-no-far}
 use Rattle.gb_invariants.specs.Facts.{IsOwn, Loose}
-use Rattle.gb_laws.proofs.Midway.{known-held, known-resting, known_law}
-use Rattle.gb_laws.proofs.Places.{module-far, place-is}
-use Rattle.gb_laws.proofs.PointParts.{Basis, Hand, Point, loose_hand, loose_held}
-use Rattle.gb_laws.proofs.Points.{Answers, Change, Forgets, Law, answers, by_label, by_number}
-use Rattle.gb_laws.proofs.Points.{changed, drops, forgets, holds, replies, takes, takes_held, upon}
-use Rattle.gb_laws.proofs.StepActLaws.{ActLaw, IsActing}
-use Rattle.gb_laws.proofs.Steps.{over-step}
+use Rattle.gb_laws.proofs.runs.Midway.{known-held, known-resting, known_law}
+use Rattle.gb_laws.proofs.points.Places.{module-far, place-is}
+use Rattle.gb_laws.proofs.points.PointParts.{Basis, Hand, Point, loose_hand, loose_held}
+use Rattle.gb_laws.proofs.points.Points.{Answers, Change, Forgets, Law, answers, by_label}
+use Rattle.gb_laws.proofs.points.Points.{by_number}
+use Rattle.gb_laws.proofs.points.Points.{changed, drops, forgets, holds, replies, takes, takes_held}
+use Rattle.gb_laws.proofs.points.Points.{upon}
+use Rattle.gb_laws.proofs.steps.StepActLaws.{ActLaw, IsActing}
+use Rattle.gb_laws.proofs.steps.Steps.{over-step}
 use Rattle.gb_machine.specs.Bus.{Bus, Item, Place, Reply, Request, place_of, queue, request_of}
 use Rattle.gb_machine.specs.Lists.{first}
 use Rattle.gb_machine.specs.Members.{IsIn}

@@ -11,12 +11,12 @@ use Rattle.gb_invariants.proofs.BusChanges.{stayed, was, went}
 use Rattle.gb_invariants.proofs.Lists.{each-from, each-in}
 use Rattle.gb_invariants.proofs.Numbers.{same-connection}
 use Rattle.gb_invariants.specs.Facts.{IsMade, NumbersRise}
-use Rattle.gb_laws.proofs.ChangeBuses.{bus_change, by-bus}
-use Rattle.gb_laws.proofs.Midway.{known-held, known-resting, known_law}
-use Rattle.gb_laws.proofs.PointParts.{resting}
-use Rattle.gb_laws.proofs.Points.{Law, upon}
-use Rattle.gb_laws.proofs.Reached.{reached-step}
-use Rattle.gb_laws.proofs.Steps.{over-step}
+use Rattle.gb_laws.proofs.points.ChangeBuses.{bus_change, by-bus}
+use Rattle.gb_laws.proofs.runs.Midway.{known-held, known-resting, known_law}
+use Rattle.gb_laws.proofs.points.PointParts.{resting}
+use Rattle.gb_laws.proofs.points.Points.{Law, upon}
+use Rattle.gb_laws.proofs.runs.Reached.{reached-step}
+use Rattle.gb_laws.proofs.steps.Steps.{over-step}
 use Rattle.gb_machine.specs.Bus.{Bus, Connection}
 use Rattle.gb_machine.specs.Events.{last_state, step, trace_from}
 use Rattle.gb_machine.specs.Members.{Each, IsIn}

@@ -14,7 +14,7 @@ use Rattle.gb_base.specs.declared.refusal.Refusal.TheVariants as why
 use Rattle.gb_formats.specs.Bridges.{ask_request, bridge_answer}
 use Rattle.gb_formats.specs.Grammar.{default_timeout}
 use Rattle.gb_formats.specs.ValidEvents.{IsFar, IsValid}
-use Rattle.gb_laws.proofs.CreditsLines.{answered-by}
+use Rattle.gb_laws.proofs.credits.CreditsLines.{answered-by}
 use Rattle.gb_machine.proofs.Conditions.{AreUnmet, free}
 use Rattle.gb_machine.proofs.Options.{none-of}
 use Rattle.gb_machine.proofs.Steps.{step-does, step-refused}

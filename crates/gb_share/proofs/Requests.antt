@@ -12,9 +12,9 @@ use Rattle.gb_desk.specs.Calls.{AreTaken}
 use Rattle.gb_desk.specs.Slots.{listed, request_in, requests_in}
 use Rattle.gb_desk.specs.Slots as slots
 use Rattle.gb_formats.specs.ValidEvents.{IsValid}
-use Rattle.gb_laws.proofs.Reached.{reached-step}
-use Rattle.gb_laws.proofs.TicketLines.{lines-ask}
-use Rattle.gb_laws.proofs.Tickets.{twoway-stays}
+use Rattle.gb_laws.proofs.runs.Reached.{reached-step}
+use Rattle.gb_laws.proofs.tickets.TicketLines.{lines-ask}
+use Rattle.gb_laws.proofs.tickets.Tickets.{twoway-stays}
 use Rattle.gb_laws.specs.Tickets.{IsTwoway, asked_in}
 use Rattle.gb_machine.proofs.Lists.{nth-past}
 use Rattle.gb_machine.proofs.Steps.{step-refused}

@@ -4,8 +4,8 @@ use Rattle.std.proofs.Common.{◌≡◌, ℕ, Option, Some, None, List, [], sym,
 use Rattle.gb_base.specs.declared.peers.Link.{Link}
 use Rattle.gb_formats.specs.Bridges.{reading_of}
 use Rattle.gb_host.specs.Bridging.{reading_on}
-use Rattle.gb_laws.proofs.LinkBuses.{Linked}
-use Rattle.gb_laws.proofs.Reading.{IsReadBy, read-by}
+use Rattle.gb_laws.proofs.links.LinkBuses.{Linked}
+use Rattle.gb_laws.proofs.links.Reading.{IsReadBy, read-by}
 use Rattle.gb_machine.specs.Bus.{Bus, Connection}
 use Rattle.gb_machine.specs.Host.{Host, link_of}
 use Rattle.gb_machine.specs.Members.{IsIn}

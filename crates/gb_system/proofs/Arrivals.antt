@@ -20,15 +20,15 @@ use Rattle.gb_bus.specs.Delivering.{DeliversNowhere}
 use Rattle.gb_bus.specs.Stands as bus
 use Rattle.gb_bus.specs.declared.bus.Bus.{Bus}
 use Rattle.gb_invariants.proofs.Numbers.{found-by_number}
-use Rattle.gb_laws.proofs.LinkBuses.{Linked}
-use Rattle.gb_laws.proofs.Links.{IsKnown, leaving, linked, supervisory}
+use Rattle.gb_laws.proofs.links.LinkBuses.{Linked}
+use Rattle.gb_laws.proofs.links.Links.{IsKnown, leaving, linked, supervisory}
 use Rattle.gb_invariants.proofs.Awaiting.{is_of-is, same-some}
 use Rattle.gb_invariants.proofs.Drawing.{open_with-in_use}
 use Rattle.gb_invariants.proofs.ItemChanges.{first-in}
 use Rattle.gb_invariants.proofs.Outcomes.{both-true}
-use Rattle.gb_laws.proofs.Noticing.{knows-over, knows-popped, knows-reached}
-use Rattle.gb_laws.proofs.Places.{place-is}
-use Rattle.gb_laws.proofs.Reached.{reached-linked}
+use Rattle.gb_laws.proofs.runs.Noticing.{knows-over, knows-popped, knows-reached}
+use Rattle.gb_laws.proofs.points.Places.{place-is}
+use Rattle.gb_laws.proofs.runs.Reached.{reached-linked}
 use Rattle.gb_machine.proofs.Opened.{machine_opened}
 use Rattle.gb_machine.proofs.Steps.{deliver-allowed, delivers-by_number, delivers-drops}
 use Rattle.gb_machine.proofs.Steps.{delivers-late, with_bus}

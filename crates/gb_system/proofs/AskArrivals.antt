@@ -14,11 +14,11 @@ use Rattle.gb_base.specs.declared.fault.RawFault.{RawFault}
 use Rattle.gb_formats.specs.Message.{Message}
 use Rattle.gb_formats.specs.Wire.{raw_message}
 use Rattle.gb_invariants.proofs.Awaiting.{same-some}
-use Rattle.gb_laws.proofs.FarItems.{far-numbered}
-use Rattle.gb_laws.proofs.LinkBuses.{Linked}
-use Rattle.gb_laws.proofs.LinkChanges.{linked-popped, linked-replied}
+use Rattle.gb_laws.proofs.opened.FarItems.{far-numbered}
+use Rattle.gb_laws.proofs.links.LinkBuses.{Linked}
+use Rattle.gb_laws.proofs.links.LinkChanges.{linked-popped, linked-replied}
 use Rattle.gb_invariants.proofs.Found.{find-changed}
-use Rattle.gb_laws.proofs.Reached.{reached-linked}
+use Rattle.gb_laws.proofs.runs.Reached.{reached-linked}
 use Rattle.gb_machine.proofs.Opened.{machine_opened}
 use Rattle.gb_machine.proofs.Steps.{delivers-arrives}
 use Rattle.gb_machine.specs.Actions.{given}

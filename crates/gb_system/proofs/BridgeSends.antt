@@ -20,7 +20,7 @@ use Rattle.gb_formats.specs.Bridges.{Request, ask_request, asks_too_much, bridge
 use Rattle.gb_formats.specs.Results.{most_payload}
 use Rattle.gb_host.specs.Stands as host
 use Rattle.gb_host.specs.declared.host.Host as code
-use Rattle.gb_laws.proofs.CreditsLines.{answered-by}
+use Rattle.gb_laws.proofs.credits.CreditsLines.{answered-by}
 use Rattle.gb_machine.proofs.Conditions.{unmet}
 use Rattle.gb_machine.proofs.Opened.{machine_opened}
 use Rattle.gb_machine.proofs.Options.{none-of}

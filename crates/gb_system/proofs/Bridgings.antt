@@ -12,8 +12,8 @@ use Rattle.gb_base.specs.declared.refusal.Refusal.TheVariants as why
 use Rattle.gb_host.specs.Bridging.{BridgesOn}
 use Rattle.gb_host.specs.Refusing.{SendsAs}
 use Rattle.gb_invariants.proofs.Lists.{found-in}
-use Rattle.gb_laws.proofs.LinkLists.{found-link}
-use Rattle.gb_laws.proofs.Reached.{reached-linked}
+use Rattle.gb_laws.proofs.links.LinkLists.{found-link}
+use Rattle.gb_laws.proofs.runs.Reached.{reached-linked}
 use Rattle.gb_machine.proofs.Conditions.{front-unmet, unmet, unrefused}
 use Rattle.gb_machine.specs.Host.{Host, is_link, link_at, link_of}
 use Rattle.gb_machine.specs.HostRefusals.{bridge_conditions, send_conditions}

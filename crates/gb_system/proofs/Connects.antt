@@ -14,7 +14,7 @@ use Rattle.gb_formats.specs.ValidEvents.{IsValid}
 use Rattle.gb_machine.proofs.Opened.{machine_opened}
 use Rattle.gb_invariants.proofs.Awaiting.{same-some}
 use Rattle.gb_invariants.proofs.Found.{find-changed}
-use Rattle.gb_laws.proofs.Noticing.{knows-drains, knows-reached}
+use Rattle.gb_laws.proofs.runs.Noticing.{knows-drains, knows-reached}
 use Rattle.gb_machine.specs.Actions.{given}
 use Rattle.gb_machine.specs.Host.{control_of, in_state, is_link, link_at, with_link}
 use Rattle.gb_machine.specs.HostActs.{idles, notices, turns}

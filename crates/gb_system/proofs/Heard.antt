@@ -12,7 +12,7 @@ use Rattle.gb_bus.specs.declared.answers.Asked.{Asked}
 use Rattle.gb_formats.specs.Message.{Message}
 use Rattle.gb_formats.specs.Wire.{raw_message}
 use Rattle.gb_invariants.proofs.Awaiting.{same-some}
-use Rattle.gb_laws.proofs.MarkNotices.{numbered-ask}
+use Rattle.gb_laws.proofs.marks.MarkNotices.{numbered-ask}
 use Rattle.gb_machine.specs.Arriving.{dropped}
 use Rattle.gb_machine.specs.Bus.{Ask, Bus, Connection, Item, Raw, RawReply, Reply, Request}
 use Rattle.gb_machine.specs.Bus.{request_of}

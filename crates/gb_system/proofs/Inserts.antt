@@ -14,11 +14,11 @@ use Rattle.gb_formats.specs.Module.{Module, module_of_kind, module_raw}
 use Rattle.gb_formats.specs.Results.{most_payload}
 use Rattle.gb_invariants.proofs.Awaiting.{not-both}
 use Rattle.gb_invariants.proofs.Lists.{each-from, each-in}
-use Rattle.gb_laws.proofs.Manifests.{kind-short, raw-short, short-plugged}
-use Rattle.gb_laws.proofs.Reached.{reached-has}
-use Rattle.gb_laws.proofs.Runs.{weaker}
-use Rattle.gb_laws.proofs.WiredRuns.{WiredTo, wired-throughout}
-use Rattle.gb_laws.proofs.WiredWell.{WiredFit}
+use Rattle.gb_laws.proofs.together.Manifests.{kind-short, raw-short, short-plugged}
+use Rattle.gb_laws.proofs.runs.Reached.{reached-has}
+use Rattle.gb_laws.proofs.runs.Runs.{weaker}
+use Rattle.gb_laws.proofs.svc.WiredRuns.{WiredTo, wired-throughout}
+use Rattle.gb_laws.proofs.svc.WiredWell.{WiredFit}
 use Rattle.gb_machine.proofs.Conditions.{unmet}
 use Rattle.gb_machine.proofs.Opened.{machine_opened}
 use Rattle.gb_machine.specs.Actions.{change, when, ◌▸◌}

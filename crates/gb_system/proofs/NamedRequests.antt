@@ -17,8 +17,8 @@ use Rattle.gb_bus.specs.Naming.{KeepsAs, asked_for, with_name, without_name}
 use Rattle.gb_bus.specs.Slots.{most_names}
 use Rattle.gb_bus.specs.Stands as bus
 use Rattle.gb_bus.specs.declared.bus.Bus as code
-use Rattle.gb_laws.proofs.Noticing.{knows-gave_up, knows-reached}
-use Rattle.gb_laws.proofs.Reached.{reached-names}
+use Rattle.gb_laws.proofs.runs.Noticing.{knows-gave_up, knows-reached}
+use Rattle.gb_laws.proofs.runs.Reached.{reached-names}
 use Rattle.gb_machine.proofs.Options.{none-of}
 use Rattle.gb_machine.proofs.Opened.{machine_opened}
 use Rattle.gb_machine.specs.Actions.{change, given, tell, ◌▸◌}

@@ -6,7 +6,7 @@ use Rattle.gb_base.specs.declared.entry.Entry.{Entry}
 use Rattle.gb_base.specs.declared.entry.Entry.TheVariants as entry
 use Rattle.gb_base.specs.declared.event.Event.TheVariants as event
 use Rattle.gb_base.specs.declared.refusal.Refusal.{Refusal}
-use Rattle.gb_laws.proofs.Reached.{reached-delivery, reached-waiting}
+use Rattle.gb_laws.proofs.runs.Reached.{reached-delivery, reached-waiting}
 use Rattle.gb_machine.proofs.Opened.{machine_opened}
 use Rattle.gb_machine.proofs.Steps.{settles-end, settles-none, step-settle, told, told_before}
 use Rattle.gb_machine.specs.Actions.{Told, ◌▸◌}

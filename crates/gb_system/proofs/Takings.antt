@@ -14,7 +14,7 @@ use Rattle.gb_host.specs.Stands as host
 use Rattle.gb_host.specs.declared.host.Host.{Host}
 use Rattle.gb_invariants.proofs.Awaiting.{same-some}
 use Rattle.gb_bus.specs.Stands.{Around}
-use Rattle.gb_laws.proofs.Places.{place-is}
+use Rattle.gb_laws.proofs.points.Places.{place-is}
 use Rattle.gb_machine.specs.Arriving.{link_takes, takes}
 use Rattle.gb_machine.specs.Bus as machine
 use Rattle.gb_machine.specs.Bus.{Connection, Place, end_of, place_of}

@@ -10,10 +10,10 @@ use Rattle.gb_bus.specs.Cancelling.{GivesUpAs}
 use Rattle.gb_bus.specs.declared.answers.AlreadyEnded.{AlreadyEnded}
 use Rattle.gb_bus.specs.declared.bus.Bus as code
 use Rattle.gb_invariants.proofs.Awaiting.{not-both}
-use Rattle.gb_laws.proofs.Midway.{known-held, known-resting, known_law}
-use Rattle.gb_laws.proofs.Noticing.{knows-gave_up}
-use Rattle.gb_laws.proofs.Points.{resting}
-use Rattle.gb_laws.proofs.Ticking.{Ticks, due_by, ticks-first, ticks-next}
+use Rattle.gb_laws.proofs.runs.Midway.{known-held, known-resting, known_law}
+use Rattle.gb_laws.proofs.runs.Noticing.{knows-gave_up}
+use Rattle.gb_laws.proofs.points.Points.{resting}
+use Rattle.gb_laws.proofs.steps.Ticking.{Ticks, due_by, ticks-first, ticks-next}
 use Rattle.gb_machine.proofs.Opened.{machine_opened}
 use Rattle.gb_machine.specs.Actions.{each, tell, ◌▸◌}
 use Rattle.gb_machine.specs.Bus.{is_open}

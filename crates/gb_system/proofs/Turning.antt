@@ -20,15 +20,17 @@ use Rattle.gb_base.specs.declared.end.Side.TheVariants as side
 use Rattle.gb_invariants.proofs.Awaiting.{not-both, same-some}
 use Rattle.gb_invariants.proofs.Found.{find-none}
 use Rattle.gb_invariants.proofs.Lists.{each-from, found-in}
-use Rattle.gb_laws.proofs.LinkBuses.{Linked, linked-left, linked-rest, linked-shut}
-use Rattle.gb_laws.proofs.Links.{IsFormed, IsFree, IsKnown, IsMaking, connection, control, leaving}
-use Rattle.gb_laws.proofs.Links.{linked, supervisory}
-use Rattle.gb_laws.proofs.MarkNotices.{SvcFront, svc-front}
-use Rattle.gb_laws.proofs.Noticing.{KnowsAt, knows-ended}
-use Rattle.gb_laws.proofs.PointParts.{IsNoticed}
-use Rattle.gb_laws.proofs.Reached.{reached-linked, reached-told}
-use Rattle.gb_laws.proofs.Turned.{turned-connects, turned-disconnects, turned-ended, turned-idle}
-use Rattle.gb_laws.proofs.Turned.{turned-noticed}
+use Rattle.gb_laws.proofs.links.LinkBuses.{Linked, linked-left, linked-rest, linked-shut}
+use Rattle.gb_laws.proofs.links.Links.{IsFormed, IsFree, IsKnown, IsMaking, connection, control}
+use Rattle.gb_laws.proofs.links.Links.{leaving}
+use Rattle.gb_laws.proofs.links.Links.{linked, supervisory}
+use Rattle.gb_laws.proofs.marks.MarkNotices.{SvcFront, svc-front}
+use Rattle.gb_laws.proofs.runs.Noticing.{KnowsAt, knows-ended}
+use Rattle.gb_laws.proofs.points.PointParts.{IsNoticed}
+use Rattle.gb_laws.proofs.runs.Reached.{reached-linked, reached-told}
+use Rattle.gb_laws.proofs.links.Turned.{turned-connects, turned-disconnects, turned-ended}
+use Rattle.gb_laws.proofs.links.Turned.{turned-idle}
+use Rattle.gb_laws.proofs.links.Turned.{turned-noticed}
 use Rattle.gb_machine.specs.Bus.{Bus, Connection, Item, Place, connection_of, has_number}
 use Rattle.gb_machine.specs.Bus.{place_of, queue}
 use Rattle.gb_machine.specs.Bus.{same_end}

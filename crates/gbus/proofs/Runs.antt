@@ -12,8 +12,8 @@ use Rattle.gb_formats.specs.ManifestRules.{Refused}
 use Rattle.gb_formats.specs.Parts.{parts}
 use Rattle.gb_formats.specs.Source.{SourceFault, compile_answer}
 use Rattle.gb_formats.specs.SourceTexts.{compile_verdict, decompile_verdict}
-use Rattle.gb_laws.proofs.Single.{counts-add-up}
-use Rattle.gb_laws.proofs.Together.{headline-holds}
+use Rattle.gb_laws.proofs.identifiers.Single.{counts-add-up}
+use Rattle.gb_laws.proofs.together.Together.{headline-holds}
 use Rattle.gb_machine.proofs.ScriptRuns.{reports-traced}
 use Rattle.gb_machine.specs.ScriptRuns.{script_events}
 use Rattle.gb_machine.specs.Summary.{made_events}

@@ -1,4 +1,4 @@
-use Rattle.gb_laws.proofs.EveryRun.{absent-after}
+use Rattle.gb_laws.proofs.together.EveryRun.{absent-after}
 use Rattle.gb_laws.proofs.laws.absent_after_removal.Goals as goal
 
 pub returns : goal.returns

@@ -1,4 +1,4 @@
-use Rattle.gb_laws.proofs.EveryRun.{absent-open}
+use Rattle.gb_laws.proofs.together.EveryRun.{absent-open}
 use Rattle.gb_laws.proofs.laws.absent_has_no_open_of_ap.Goals as goal
 
 pub returns : goal.returns

@@ -1,4 +1,4 @@
-use Rattle.gb_laws.proofs.EveryRun.{module-open}
+use Rattle.gb_laws.proofs.together.EveryRun.{module-open}
 use Rattle.gb_laws.proofs.laws.absent_has_no_open_of_module.Goals as goal
 
 pub returns : goal.returns

@@ -1,4 +1,4 @@
-use Rattle.gb_laws.proofs.EveryRun.{answered-by_its_responder}
+use Rattle.gb_laws.proofs.together.EveryRun.{answered-by_its_responder}
 use Rattle.gb_laws.proofs.laws.answered_by_its_responder.Goals as goal
 
 pub returns : goal.returns

@@ -1,4 +1,4 @@
-use Rattle.gb_laws.proofs.EveryRun.{own-request}
+use Rattle.gb_laws.proofs.together.EveryRun.{own-request}
 use Rattle.gb_laws.proofs.laws.awaits_own_request.Goals as goal
 
 pub returns : goal.returns

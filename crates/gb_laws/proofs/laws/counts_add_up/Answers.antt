@@ -1,4 +1,4 @@
-use Rattle.gb_laws.proofs.Single.{counts-add-up}
+use Rattle.gb_laws.proofs.identifiers.Single.{counts-add-up}
 use Rattle.gb_laws.proofs.laws.counts_add_up.Goals as goal
 
 pub returns : goal.returns

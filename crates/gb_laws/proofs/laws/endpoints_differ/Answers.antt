@@ -1,4 +1,4 @@
-use Rattle.gb_laws.proofs.EveryRun.{endpoints-differ}
+use Rattle.gb_laws.proofs.together.EveryRun.{endpoints-differ}
 use Rattle.gb_laws.proofs.laws.endpoints_differ.Goals as goal
 
 pub returns : goal.returns

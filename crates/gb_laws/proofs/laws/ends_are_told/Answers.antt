@@ -1,4 +1,4 @@
-use Rattle.gb_laws.proofs.EveryRun.{ends-are-told}
+use Rattle.gb_laws.proofs.together.EveryRun.{ends-are-told}
 use Rattle.gb_laws.proofs.laws.ends_are_told.Goals as goal
 
 pub returns : goal.returns

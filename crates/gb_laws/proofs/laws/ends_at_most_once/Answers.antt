@@ -1,4 +1,4 @@
-use Rattle.gb_laws.proofs.EveryRun.{ends-at-most-once}
+use Rattle.gb_laws.proofs.together.EveryRun.{ends-at-most-once}
 use Rattle.gb_laws.proofs.laws.ends_at_most_once.Goals as goal
 
 pub returns : goal.returns

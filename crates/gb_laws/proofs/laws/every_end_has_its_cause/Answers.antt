@@ -1,4 +1,4 @@
-use Rattle.gb_laws.proofs.EveryRun.{every-end_has_its_cause}
+use Rattle.gb_laws.proofs.together.EveryRun.{every-end_has_its_cause}
 use Rattle.gb_laws.proofs.laws.every_end_has_its_cause.Goals as goal
 
 pub returns : goal.returns

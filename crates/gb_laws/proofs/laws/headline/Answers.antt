@@ -1,4 +1,4 @@
-use Rattle.gb_laws.proofs.Together.{headline-holds}
+use Rattle.gb_laws.proofs.together.Together.{headline-holds}
 use Rattle.gb_laws.proofs.laws.headline.Goals as goal
 
 pub returns : goal.returns

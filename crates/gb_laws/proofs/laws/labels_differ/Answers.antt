@@ -1,4 +1,4 @@
-use Rattle.gb_laws.proofs.EveryRun.{labels-differ}
+use Rattle.gb_laws.proofs.together.EveryRun.{labels-differ}
 use Rattle.gb_laws.proofs.laws.labels_differ.Goals as goal
 
 pub returns : goal.returns

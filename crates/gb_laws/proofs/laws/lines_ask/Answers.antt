@@ -1,4 +1,4 @@
-use Rattle.gb_laws.proofs.TicketLines.{lines-ask}
+use Rattle.gb_laws.proofs.tickets.TicketLines.{lines-ask}
 use Rattle.gb_laws.proofs.laws.lines_ask.Goals as goal
 
 pub returns : goal.returns

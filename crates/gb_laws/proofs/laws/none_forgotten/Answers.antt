@@ -1,4 +1,4 @@
-use Rattle.gb_laws.proofs.EveryRun.{none-forgotten}
+use Rattle.gb_laws.proofs.together.EveryRun.{none-forgotten}
 use Rattle.gb_laws.proofs.laws.none_forgotten.Goals as goal
 
 pub returns : goal.returns

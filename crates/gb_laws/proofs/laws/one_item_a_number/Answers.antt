@@ -1,4 +1,4 @@
-use Rattle.gb_laws.proofs.EveryRun.{one-item}
+use Rattle.gb_laws.proofs.together.EveryRun.{one-item}
 use Rattle.gb_laws.proofs.laws.one_item_a_number.Goals as goal
 
 pub returns : goal.returns

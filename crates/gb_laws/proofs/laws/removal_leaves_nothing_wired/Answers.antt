@@ -1,4 +1,4 @@
-use Rattle.gb_laws.proofs.EveryRun.{nothing-wired}
+use Rattle.gb_laws.proofs.together.EveryRun.{nothing-wired}
 use Rattle.gb_laws.proofs.laws.removal_leaves_nothing_wired.Goals as goal
 
 pub returns : goal.returns

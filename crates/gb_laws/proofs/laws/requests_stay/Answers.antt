@@ -1,4 +1,4 @@
-use Rattle.gb_laws.proofs.Tickets.{twoway-never_sent, twoway-stays}
+use Rattle.gb_laws.proofs.tickets.Tickets.{twoway-never_sent, twoway-stays}
 use Rattle.gb_laws.proofs.laws.requests_stay.Goals as goal
 
 pub returns : goal.returns

@@ -1,4 +1,4 @@
-use Rattle.gb_laws.proofs.EveryRun.{served-leaves}
+use Rattle.gb_laws.proofs.together.EveryRun.{served-leaves}
 use Rattle.gb_laws.proofs.laws.served_leaves_none.Goals as goal
 
 pub returns : goal.returns

@@ -1,4 +1,4 @@
-use Rattle.gb_laws.proofs.Settling.{settles-are_deliveries}
+use Rattle.gb_laws.proofs.runs.Settling.{settles-are_deliveries}
 use Rattle.gb_laws.proofs.laws.settles_are_deliveries.Goals as goal
 
 pub returns : goal.returns

@@ -1,4 +1,4 @@
-use Rattle.gb_laws.proofs.EveryRun.{stale-unrouted}
+use Rattle.gb_laws.proofs.together.EveryRun.{stale-unrouted}
 use Rattle.gb_laws.proofs.laws.stale_requests_meet_low_level.Goals as goal
 
 pub returns : goal.returns

@@ -1,4 +1,4 @@
-use Rattle.gb_laws.proofs.EveryRun.{remembered-wired}
+use Rattle.gb_laws.proofs.together.EveryRun.{remembered-wired}
 use Rattle.gb_laws.proofs.laws.wired_is_remembered.Goals as goal
 
 pub returns : goal.returns

@@ -1,4 +1,4 @@
-use Rattle.gb_laws.proofs.EveryRun.{wired-once}
+use Rattle.gb_laws.proofs.together.EveryRun.{wired-once}
 use Rattle.gb_laws.proofs.laws.wired_once.Goals as goal
 
 pub returns : goal.returns

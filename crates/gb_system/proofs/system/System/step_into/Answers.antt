@@ -1,5 +1,5 @@
 -- A step of the parties is one more event of a run.
-use Rattle.gb_laws.proofs.Reached.{reached-step}
+use Rattle.gb_laws.proofs.runs.Reached.{reached-step}
 use Rattle.gb_system.proofs.system.System.step_into.Goals as goal
 
 pub returns-in-Ok-clause-step : goal.returns-in-Ok-clause-step

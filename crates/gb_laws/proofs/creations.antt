@@ -1,0 +1,21 @@
+-- Requests for connections: which are remembered, which create and destroy.
+pub mod Remembering
+pub mod RememberedLive
+pub mod Pairs
+pub mod PairsAsked
+pub mod PairsKept
+pub mod Creating
+pub mod CreatingFacts
+pub mod CreatingAsked
+pub mod CreatingTurns
+pub mod CreatingKept
+pub mod OwnCreation
+pub mod Stale
+pub mod StaleBase
+pub mod StaleKept
+pub mod StaleTurns
+pub mod StalePower
+pub mod StaleLaw
+pub mod StaleRuns
+pub mod Gone
+pub mod GoneRuns

@@ -1,0 +1,131 @@
+-- What a turn of the application processor asks, and why. No interface waits for more than before.
+use Rattle.std.proofs.Common.{Some, ap, false, inl, inr, refl, subst, sym, true, ℕ, ⊎_elim, []}
+use Rattle.std.proofs.Common.{◌++◌, ◌∙◌, ◌∷◌, ◌≡◌, ◌⊎◌}
+use Rattle.std.specs.Prelude.{IfSome}
+use Rattle.gb_base.specs.declared.host_event.HostEvent.{HostEvent}
+use Rattle.gb_base.specs.declared.peers.Interface.{Interface}
+use Rattle.gb_base.specs.declared.steps.{Purpose.Purpose, SequenceStep.SequenceStep}
+use Rattle.gb_base.specs.declared.entry.IntfStage.TheVariants as stage
+use Rattle.gb_base.specs.declared.steps.SequenceStep.TheVariants as steps
+use Rattle.gb_machine.specs.Host.{Host, intf_before, is_intf, new_interface, staged}
+use Rattle.gb_machine.specs.{Failures.unsent, HostTurns.host_turn, Lists.holds_of}
+use Rattle.gb_machine.specs.{SequenceSteps.is_enumeration, Sequences.enumerated, Turns.Asking}
+use Rattle.gb_invariants.proofs.HostChanges.{Finds, HostChange, HostEnd, IsAnswered, IsAskedAt}
+use Rattle.gb_invariants.proofs.HostChanges.{IsLast, Occasion, TurnLaw, acts_by, at_event}
+use Rattle.gb_invariants.proofs.HostChanges.{at_unsent, changes-ask, end_of, host_after}
+use Rattle.gb_invariants.proofs.HostChanges.{step_behind, to_close, to_connect, to_disconnect}
+use Rattle.gb_invariants.proofs.HostChanges.{to_enumerate, to_go_on}
+use Rattle.gb_invariants.proofs.{Awaiting.none-some, Awaiting.not-both, Found.in-ordered}
+use Rattle.gb_invariants.proofs.{Lists.in-without, OverTurns.over-turn, OverTurns.over-unsent}
+use Rattle.gb_laws.proofs.enumerations.AskedWaits.{AsksIn, WaitsFewer, asked-alone, asks-behind}
+use Rattle.gb_laws.proofs.enumerations.AskedWaits.{is_power_step}
+use Rattle.gb_laws.proofs.enumerations.AskedWaits.{no-asks, opened-alone, same-waits, then-waits}
+use Rattle.gb_laws.proofs.enumerations.AskedWaits.{waits-interface, waits-purpose}
+
+-- ---- what is waited for
+
+change-waits : (x : HostChange) (h : Host) → Finds h x → WaitsFewer h (host_after x h)
+change-waits (HostChange.arrives i) h finds = λ x k w e.
+    ⊎_elim (λ new. absurd (none-some (sym (ap (λ (y : Interface). y.awaits) new) ∙ e)))
+    (λ o. record { was = x; known = o; intf = refl; awaits = refl })
+    (in-ordered intf_before x (new_interface i) h.interfaces k)
+change-waits (HostChange.departs i) h finds = λ x k w e. record {
+  was = x;
+  known = (in-without (is_intf i) h.interfaces x k).0;
+  intf = refl;
+  awaits = refl;
+}
+change-waits (HostChange.resumes p) h finds = waits-purpose p h
+change-waits (HostChange.updates i f) h keeps = waits-interface h i f keeps.intf keeps.awaits
+change-waits (HostChange.fails i) h finds =
+    waits-interface h i (staged stage.Failed) (λ x. refl) (λ x. refl)
+change-waits _ h finds = same-waits h
+
+end-waits : (x : HostEnd) (h : Host) → WaitsFewer h (end_of x h).host
+end-waits (HostEnd.enumerates p bytes) h =
+    waits-interface h p.intf (enumerated bytes) (λ x. refl) (λ x. refl)
+end-waits _ h = same-waits h
+
+abbrev waits_law : (o : Occasion) → TurnLaw o
+waits_law o = record {
+  says = λ h t. WaitsFewer h t.host;
+  ends = λ x h last. end-waits x h;
+  over = λ x h t finds why s.
+      then-waits h (host_after x h) t.host (change-waits x h finds) s;
+}
+
+-- no turn lets an interface wait for more
+pub turn-waits : (e : HostEvent) (h : Host) → WaitsFewer h (host_turn e h).host
+turn-waits e h = over-turn e h (waits_law (at_event e h))
+
+-- nor does what fails where no identifier is left
+pub waits-unsent : (p : Purpose) (h : Host) → WaitsFewer h (unsent p h).host
+waits-unsent p h = over-unsent p h (waits_law (at_unsent p))
+
+-- ---- what is asked
+
+-- what is asked behind a change is asked in the turn that follows
+pub change-asks : {q : Asking} (x : HostChange) (h : Host) {t : _}
+    → AsksIn q (acts_by x h ++ t) → AsksIn q t
+change-asks x h j = asks-behind (acts_by x h) (changes-ask x h) j
+
+end-asks : (e : HostEvent) (before : Host) (x : HostEnd) (h : Host)
+    → IsLast (at_event e before) h x → (q : Asking) → AsksIn q (end_of x h).acts
+    → IsAskedAt e before q.purpose
+end-asks e before HostEnd.rests h last q j = absurd (no-asks j)
+end-asks e before (HostEnd.asks k p) h last q j =
+    subst (λ (r : Asking). IsAskedAt e before r.purpose) (asked-alone j) last.0
+end-asks e before (HostEnd.makes a protocol p) h last q j =
+    subst (λ (r : Asking). IsAskedAt e before r.purpose) (opened-alone _ j) last
+end-asks e before (HostEnd.enumerates p bytes) h last q j =
+    absurd (no-asks (asks-behind (_ ∷ []) (tt, tt) j))
+
+-- Why a request of a turn is made.
+pub asked-why : (e : HostEvent) (h : Host) (q : Asking) → AsksIn q (host_turn e h).acts
+    → IsAskedAt e h q.purpose
+asked-why e h = over-turn e h (record {
+  says = λ g t. (q : Asking) → AsksIn q t.acts → IsAskedAt e h q.purpose;
+  ends = λ x g last. end-asks e h x g last;
+  over = λ x g t finds why s q j. s q (change-asks x g j);
+})
+
+-- the step before one that asks the supervisory controller in an enumeration is such a step
+power-behind : (s : SequenceStep) → holds_of is_power_step (step_behind s) ≡ true
+    → is_power_step s ≡ true
+power-behind steps.CreateControl is = refl
+power-behind _ is = is
+
+-- the step before one is of an enumeration where that is
+pub kind-behind : (s : SequenceStep)
+    → IfSome (step_behind s) (λ t. is_enumeration s ≡ is_enumeration t)
+kind-behind steps.AskManifest = tt
+kind-behind steps.TellConnected = tt
+kind-behind steps.DestroyConnection = tt
+kind-behind _ = refl
+
+-- where a step follows a step
+pub same-kind : (s : SequenceStep) {t : SequenceStep} → step_behind s ≡ Some t
+    → is_enumeration s ≡ is_enumeration t
+same-kind s e = subst (λ o. IfSome o (λ t. is_enumeration s ≡ is_enumeration t)) e (kind-behind s)
+
+-- Of interface i a turn asks the supervisory controller for the start of an enumeration alone,
+-- unless such a step was answered.
+pub asks-calm : (i : ℕ) (Calm : Type 0) (e : HostEvent) (h : Host)
+    → ((p : Purpose) → IsAnswered e h p → p.intf ≡ i → is_power_step p.step ≡ true → Calm)
+    → (q : Asking) → AsksIn q (host_turn e h).acts → q.purpose.intf ≡ i
+    → is_power_step q.purpose.step ≡ true → (q.purpose.step ≡ steps.EnableVsys) ⊎ Calm
+asks-calm i Calm e h calm q j at power = by (asked-why e h q j)
+  where
+    none : {A : Type 0} (p : Purpose) → q.purpose ≡ p → is_power_step p.step ≡ false → A
+    none p is other = absurd (not-both (is_power_step q.purpose.step) power
+        (ap (λ (x : Purpose). is_power_step x.step) is ∙ other))
+
+    by : IsAskedAt e h q.purpose → (q.purpose.step ≡ steps.EnableVsys) ⊎ Calm
+    by (to_enumerate k f is) = inl (ap (λ (x : Purpose). x.step) is)
+    by (to_connect k c f is) = none _ is refl
+    by (to_disconnect k c l f found is) = none _ is refl
+    by (to_close d l why found is) = none _ is refl
+    by (to_go_on last step answered next is) =
+        inr (calm last answered (ap (λ (x : Purpose). x.intf) (sym is) ∙ at)
+        (power-behind last.step (ap (holds_of is_power_step) next
+        ∙ ap (λ (x : Purpose). is_power_step x.step) (sym is) ∙ power)))

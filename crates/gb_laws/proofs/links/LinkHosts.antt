@@ -1,0 +1,249 @@
+-- The facts of the application processor's connections where one of them changes, or an interface.
+use Rattle.std.proofs.Common.{Bool, List, Option, Some, ap, arith, false, refl, subst, sym, true, ℕ}
+use Rattle.std.proofs.Common.{⊎_elim, ◌∙◌, ◌≡◌}
+use Rattle.std.specs.List.{find}
+use Rattle.std.specs.Prelude.{Option, not, ◌&&◌, ◌==◌}
+use Rattle.gb_base.specs.declared.entry.ConnState.{ConnState}
+use Rattle.gb_base.specs.declared.peers.{Interface.Interface, Link.Link}
+use Rattle.gb_base.specs.declared.steps.{Purpose.Purpose, SequenceStep.SequenceStep}
+use Rattle.gb_machine.specs.Host.{Host, in_state, is_intf, is_link, with_interface, with_link}
+use Rattle.gb_machine.specs.{Bus.Bus, Lists.at_first, Lists.without, Members.IsIn}
+use Rattle.gb_machine.specs.{SequenceSteps.at_step}
+use Rattle.gb_invariants.proofs.Lists.{at_first-back, filter-in, found-in, in-without, two-at_first}
+use Rattle.gb_invariants.proofs.Lists.{two-filter}
+use Rattle.gb_invariants.proofs.Found.{in-first}
+use Rattle.gb_laws.proofs.links.Links.{AreOther, DrainsPlain, HasNoControl, HostFits, IsDeaf}
+use Rattle.gb_laws.proofs.links.Links.{IsEnumerating, IsLinkBefore, IsNext, IsNumbered, IsPresent}
+use Rattle.gb_laws.proofs.links.Links.{IsResting, IsWaiting, LinksFit, SameLink, is_early}
+
+pub same-link : (l : Link) → SameLink l l
+same-link l = record { connection = refl; ap = refl; intf = refl; cport = refl; protocol = refl }
+
+pub awaits-link : (w : Option (ℕ × SequenceStep)) (l : Link) → SameLink l (record l { awaits = w })
+awaits-link w l =
+    record { connection = refl; ap = refl; intf = refl; cport = refl; protocol = refl }
+
+pub credits-link : (n : ℕ) (l : Link) → SameLink l (record l { credits = n })
+credits-link n l =
+    record { connection = refl; ap = refl; intf = refl; cport = refl; protocol = refl }
+
+pub state-link : (to : ConnState) (l : Link) → SameLink l (in_state to l)
+state-link to l = record {
+  connection = refl;
+  ap = refl;
+  intf = refl;
+  cport = refl;
+  protocol = refl;
+}
+
+pub then-same : {l k : Link} (j : Link) → SameLink l k → SameLink k j → SameLink l j
+then-same j a b = record {
+  connection = b.connection ∙ a.connection;
+  ap = b.ap ∙ a.ap;
+  intf = b.intf ∙ a.intf;
+  cport = b.cport ∙ a.cport;
+  protocol = b.protocol ∙ a.protocol;
+}
+
+-- ---- one connection changes
+
+-- a connection is at the same CPort
+same-at : (i c : ℕ) (l k : Link) → SameLink l k → is_link i c k ≡ is_link i c l
+same-at i c l k same =
+    ap (λ n. (n == i) && (k.cport == c)) same.intf ∙ ap (λ n. (l.intf == i) && (n == c)) same.cport
+
+before-left : (l k x : Link) → SameLink l x → IsLinkBefore l k → IsLinkBefore x k
+before-left l k x same h = record {
+  number = omega (arith, h.number, same.connection);
+  ap = λ e. h.ap (sym same.ap ∙ e);
+  apart = ap (λ i. is_link i x.cport k) same.intf ∙ ap (λ c. is_link l.intf c k) same.cport
+      ∙ h.apart;
+}
+
+before-right : (l k x : Link) → SameLink k x → IsLinkBefore l k → IsLinkBefore l x
+before-right l k x same h = record {
+  number = omega (arith, h.number, same.connection);
+  ap = λ e. h.ap (e ∙ same.ap);
+  apart = same-at l.intf l.cport k x same ∙ h.apart;
+}
+
+-- the connection of a CPort changes, and is what it was in what never changes
+links-changed : (b : Bus) (ls : List Link) (i c : ℕ) (f : Link → Link)
+    → ((l : Link) → SameLink l (f l))
+    → ((l : Link) → IsIn l ls → find (is_link i c) ls ≡ Some l → IsWaiting l → IsWaiting (f l))
+    → ((l : Link) → IsIn l ls → find (is_link i c) ls ≡ Some l → IsDeaf l → IsDeaf (f l))
+    → ((l : Link) → IsIn l ls → find (is_link i c) ls ≡ Some l → DrainsPlain l
+    → DrainsPlain (f l)) → LinksFit b ls → LinksFit b (at_first (is_link i c) f ls)
+links-changed b ls i c f same waiting deaf draining h = record {
+  rise = two-at_first IsLinkBefore (is_link i c) f ls (λ l k r. before-left l k (f l) (same l) r)
+      (λ l k r. before-right l k (f k) (same k) r) h.rise;
+  numbered = λ l j. ⊎_elim (λ o. h.numbered l o)
+      (λ w. let n = h.numbered w.0 w.1 in let s = same w.0 in subst (IsNumbered b.made) (sym w.3)
+      (record {
+        from_two = omega (arith, n.from_two, s.connection);
+        given = omega (arith, n.given, s.connection);
+        from_one = omega (arith, n.from_one, s.ap);
+        within = omega (arith, n.within, s.ap);
+        cport = omega (arith, n.cport, s.cport);
+      })) (in-first (is_link i c) f ls l j);
+  waiting = λ l j. ⊎_elim (λ o. h.waiting l o)
+      (λ w. subst IsWaiting (sym w.3) (waiting w.0 w.1 w.2 (h.waiting w.0 w.1)))
+      (in-first (is_link i c) f ls l j);
+  deaf = λ l x j live on shut. ⊎_elim (λ o. h.deaf l x o live on shut)
+      (λ w. subst IsDeaf (sym w.3) (deaf w.0 w.1 w.2
+      (h.deaf w.0 x w.1 live (on ∙ ap (λ (y : Link). y.connection) w.3 ∙ (same w.0).connection)
+      shut))) (in-first (is_link i c) f ls l j);
+  draining = λ l j. ⊎_elim (λ o. h.draining l o)
+      (λ w. subst DrainsPlain (sym w.3) (draining w.0 w.1 w.2 (h.draining w.0 w.1)))
+      (in-first (is_link i c) f ls l j);
+}
+
+-- what of connections stays where one changes
+abbrev pub Stay : List Link → List Link → Type 0
+Stay ls after = (l : Link) → IsIn l ls → (k : Link) × IsIn k after × SameLink l k
+
+pub stay-same : (ls : List Link) → Stay ls ls
+stay-same ls l i = (l, i, same-link l)
+
+pub stay-changed : (ls : List Link) (i c : ℕ) (f : Link → Link) → ((l : Link) → SameLink l (f l))
+    → Stay ls (at_first (is_link i c) f ls)
+stay-changed ls i c f same l j =
+    ⊎_elim (λ o. (l, o, same-link l)) (λ w. (f l, w, same l)) (at_first-back (is_link i c) f ls l j)
+
+none-changed : (j : ℕ) (ls : List Link) (i c : ℕ) (f : Link → Link)
+    → ((l : Link) → SameLink l (f l)) → HasNoControl j ls
+    → HasNoControl j (at_first (is_link i c) f ls)
+none-changed j ls i c f same none l k =
+    ⊎_elim (λ o. none l o) (λ w. ap (is_link j 0) w.3 ∙ same-at j 0 w.0 (f w.0) (same w.0)
+    ∙ none w.0 w.1) (in-first (is_link i c) f ls l k)
+
+pub host-link : {b : Bus} {h : Host} (i c : ℕ) (f : Link → Link) → ((l : Link) → SameLink l (f l))
+    → ((l : Link) → IsIn l h.links → find (is_link i c) h.links ≡ Some l → IsWaiting l
+    → IsWaiting (f l))
+    → ((l : Link) → IsIn l h.links → find (is_link i c) h.links ≡ Some l → IsDeaf l → IsDeaf (f l))
+    → ((l : Link) → IsIn l h.links → find (is_link i c) h.links ≡ Some l → DrainsPlain l
+    → DrainsPlain (f l)) → HostFits b h → HostFits b (with_link i c f h)
+host-link {b} {h} i c f same waiting deaf draining fits = record {
+  links = links-changed b h.links i c f same waiting deaf draining fits.links;
+  interfaces = λ x j w e. let old = fits.interfaces x j w e in
+      (old.0, λ early. none-changed x.intf h.links i c f same (old.1 early));
+  differ = fits.differ;
+  present = λ l j. ⊎_elim (λ o. fits.present l o) (λ w. subst (λ n. IsPresent n h.interfaces)
+      (sym (ap (λ (x : Link). x.intf) w.3 ∙ (same w.0).intf)) (fits.present w.0 w.1))
+      (in-first (is_link i c) f h.links l j);
+}
+
+-- ---- one interface changes
+
+pub present-changed : {i : ℕ} (j : ℕ) (f : Interface → Interface) {xs : List Interface}
+    → ((x : Interface) → (f x).intf ≡ x.intf)
+    → IsPresent i xs → IsPresent i (at_first (is_intf j) f xs)
+present-changed j f {xs} same p =
+    ⊎_elim (λ o. record { interface = p.interface; known = o; is = p.is })
+    (λ w. record { interface = f p.interface; known = w; is = same p.interface ∙ p.is })
+    (at_first-back (is_intf j) f xs p.interface p.known)
+
+pub resting-changed : (i j : ℕ) (f : Interface → Interface) (xs : List Interface)
+    → ((x : Interface) → (f x).intf ≡ x.intf)
+    → ((x : Interface) → (f x).awaits ≡ x.awaits) → IsResting i xs
+    → IsResting i (at_first (is_intf j) f xs)
+resting-changed i j f xs same waits h x k e =
+    ⊎_elim (λ o. h x o e) (λ w. ap (λ (y : Interface). y.awaits) w.3 ∙ waits w.0
+    ∙ h w.0 w.1 (sym (same w.0) ∙ sym (ap (λ (y : Interface). y.intf) w.3) ∙ e))
+    (in-first (is_intf j) f xs x k)
+
+pub host-interface : {b : Bus} (i : ℕ) (f : Interface → Interface) {h : Host}
+    → ((x : Interface) → (f x).intf ≡ x.intf)
+    → ((x : Interface) → IsIn x h.interfaces → is_intf i x ≡ true → IsEnumerating h.links x
+    → IsEnumerating h.links (f x)) → HostFits b h → HostFits b (with_interface i f h)
+host-interface i f {h} same enumerating fits = record {
+  links = fits.links;
+  interfaces = λ x j. ⊎_elim (λ o. fits.interfaces x o)
+      (λ w. subst (IsEnumerating h.links) (sym w.3)
+      (enumerating w.0 w.1 (found-in (is_intf i) h.interfaces w.0 w.2).1 (fits.interfaces w.0 w.1)))
+      (in-first (is_intf i) f h.interfaces x j);
+  differ = two-at_first AreOther (is_intf i) f h.interfaces (λ x y r e. r (sym (same x) ∙ e))
+      (λ x y r e. r (e ∙ same y)) fits.differ;
+  present = λ l j. present-changed i f same (fits.present l j);
+}
+
+-- ---- what stays of a host
+
+-- its connections stay, and each interface was known
+pub record Onto (h g : Host) : Type 0 where
+  pub stay : Stay h.links g.links
+  pub kept : (x : Interface) → IsIn x g.interfaces → IsPresent x.intf h.interfaces
+
+pub kept-same : (xs : List Interface) (x : Interface) → IsIn x xs → IsPresent x.intf xs
+kept-same xs x i = record { interface = x; known = i; is = refl }
+
+pub onto-same : (h : Host) → Onto h h
+onto-same h = record { stay = stay-same h.links; kept = kept-same h.interfaces }
+
+pub onto-link : {h : Host} (i c : ℕ) (f : Link → Link) → ((l : Link) → SameLink l (f l))
+    → Onto h (with_link i c f h)
+onto-link {h} i c f same = record {
+  stay = stay-changed h.links i c f same;
+  kept = kept-same h.interfaces;
+}
+
+pub onto-interface : {h : Host} (i : ℕ) (f : Interface → Interface)
+    → ((x : Interface) → (f x).intf ≡ x.intf) → Onto h (with_interface i f h)
+onto-interface {h} i f same = record {
+  stay = stay-same h.links;
+  kept = λ x j. ⊎_elim (λ o. kept-same h.interfaces x o) (λ w. record {
+    interface = w.0;
+    known = w.1;
+    is = sym (ap (λ (y : Interface). y.intf) w.3 ∙ same w.0);
+  }) (in-first (is_intf i) f h.interfaces x j);
+}
+
+pub onto-then : (h : Host) {g : Host} (k : Host) → Onto h g → Onto g k → Onto h k
+onto-then h k a b = record {
+  stay = λ l i. let s =
+      a.stay l i in let t = b.stay s.0 s.1 in (t.0, t.1, then-same t.0 s.2 t.2);
+  kept = λ x i. let p = b.kept x i in let q = a.kept p.interface p.known in
+      record { interface = q.interface; known = q.known; is = q.is ∙ p.is };
+}
+
+-- ---- steps of an enumeration that are due
+
+pub next-to : {step to : SequenceStep} {p : Purpose} {h : Host}
+    → (is_early to ≡ true → is_early step ≡ true) → IsNext step p h → IsNext to (at_step to p) h
+next-to early n = record {
+  cport = n.cport;
+  none = λ e. n.none (early e);
+  idle = n.idle;
+  present = n.present;
+}
+
+pub next-interface : {step : SequenceStep} {p : Purpose} (h : Host) (j : ℕ)
+    (f : Interface → Interface) → ((x : Interface) → (f x).intf ≡ x.intf)
+    → ((x : Interface) → (f x).awaits ≡ x.awaits) → IsNext step p h
+    → IsNext step p (with_interface j f h)
+next-interface {p} h j f same waits n = record {
+  cport = n.cport;
+  none = n.none;
+  idle = resting-changed p.intf j f h.interfaces same waits n.idle;
+  present = present-changed j f same n.present;
+}
+
+-- ---- connections without some
+
+pub links-without : (b : Bus) (test : Link → Bool) {ls : List Link} → LinksFit b ls
+    → LinksFit b (without test ls)
+links-without b test {ls} h = record {
+  rise = two-filter IsLinkBefore (λ l. not (test l)) ls h.rise;
+  numbered = λ l i. h.numbered l (in-without test ls l i).0;
+  waiting = λ l i. h.waiting l (in-without test ls l i).0;
+  deaf = λ l c i. h.deaf l c (in-without test ls l i).0;
+  draining = λ l i. h.draining l (in-without test ls l i).0;
+}
+
+pub none-without : (i : ℕ) (test : Link → Bool) (ls : List Link) → HasNoControl i ls
+    → HasNoControl i (without test ls)
+none-without i test ls none l j = none l (in-without test ls l j).0
+
+pub without-in : (test : Link → Bool) (ls : List Link) (l : Link) → IsIn l ls → test l ≡ false
+    → IsIn l (without test ls)
+without-in test ls l i e = filter-in (λ k. not (test k)) ls l i (ap not e)

@@ -1,0 +1,153 @@
+-- The facts of the application processor's connections are kept by each single change.
+use Rattle.std.proofs.Common.{List, None, ap, refl, subst, sym, ℕ, [], ◌∙◌, ◌∷◌, ◌≡◌, ◌≢◌}
+use Rattle.std.specs.Prelude.{◌-◌}
+use Rattle.gb_base.specs.declared.host_event.HostEvent.TheVariants as host_event
+use Rattle.gb_base.specs.declared.host_event.HostEvent.{HostEvent}
+use Rattle.gb_base.specs.declared.refusal.Refusal.TheVariants as why
+use Rattle.gb_base.specs.declared.end.Side.{Side}
+use Rattle.gb_base.specs.declared.end.End.TheVariants as end
+use Rattle.gb_base.specs.declared.end.Side.TheVariants as side
+use Rattle.gb_base.specs.declared.event.Event.TheVariants as event
+use Rattle.gb_base.specs.declared.peers.Link.{Link}
+use Rattle.gb_formats.specs.Bridges.{credits_taken}
+use Rattle.gb_machine.proofs.Conditions.{AreUnmet, free, front-unmet}
+use Rattle.gb_machine.specs.Bus.{Bus, Connection, end_of}
+use Rattle.gb_machine.specs.Host.{Host, control_of, interface_of, with_link, with_new_interface}
+use Rattle.gb_machine.specs.Turns.{Act, Turn}
+use Rattle.gb_machine.specs.{HostRefusals.connect_conditions, HostRefusals.disconnect_conditions}
+use Rattle.gb_machine.specs.{HostServing.host_serves, HostTurns.host_turn}
+use Rattle.gb_machine.specs.{LineActions.spent, Lists.holds_of, Members.IsIn, Refusals.has_no_label}
+use Rattle.gb_machine.specs.{Runs.Moment, Wiring.shut_down}
+use Rattle.gb_machine.specs.HostRefusals.{drain_conditions}
+use Rattle.gb_invariants.proofs.{BusChanges.BusChange}
+use Rattle.gb_laws.proofs.links.LinkActs.{linked-asked, linked-link, linked-served, linked-unsent}
+use Rattle.gb_laws.proofs.links.LinkBuses.{linked-left, linked-opened, linked-rest, linked-shut}
+use Rattle.gb_laws.proofs.links.LinkTurns.{fits-connects, fits-inserted, fits-removed}
+use Rattle.gb_laws.proofs.links.Links.{HostFits, IsFollowed, IsKnown, TurnFits, leaves, leaving}
+use Rattle.gb_laws.proofs.links.Links.{linked}
+use Rattle.gb_laws.proofs.links.Links.{stays, supervisory}
+use Rattle.gb_laws.proofs.points.PointParts.{IsCaused, IsNoticed, Point}
+use Rattle.gb_laws.proofs.points.Points.{Change, acts_asked, acts_failed, acts_left, acts_opened}
+use Rattle.gb_laws.proofs.points.Points.{acts_shut, acts_told, changed, injects, serves, spends}
+use Rattle.gb_laws.proofs.points.Points.{turns}
+use Rattle.gb_laws.proofs.{points.ChangeBuses.bus_change, links.LinkChanges.linked-after}
+use Rattle.gb_laws.proofs.{links.LinkClosing.fits-disconnects, links.LinkEnds.fits-ended}
+use Rattle.gb_laws.proofs.{links.LinkFrom.Linked}
+use Rattle.gb_laws.proofs.{points.Places.module-far, points.Places.place-is}
+use Rattle.gb_laws.proofs.links.LinkClosing.{fits-drains, fits-idle}
+
+-- an interface whose insertion is handled at a moment is absent
+abbrev pub InsertsAbsent : Moment → Type 0
+InsertsAbsent m = (i : ℕ) → IsNoticed m (host_event.Inserted i) → interface_of i m.before.host ≡ None
+
+-- the application processor with the interface that is inserted
+abbrev pub noticed_host : HostEvent → Host → Host
+noticed_host (host_event.Inserted i) h = with_new_interface i h
+noticed_host e h = h
+
+pub same-links : (e : HostEvent) (h : Host) → (noticed_host e h).links ≡ h.links
+same-links (host_event.Inserted i) h = refl
+same-links e h = refl
+
+-- what the application processor does at what it takes notice of
+pub turn-fits : (m : Moment) (b : Bus) (e : HostEvent) (h : Host) → InsertsAbsent m → IsCaused m e h
+    → HostFits b h → TurnFits b (noticed_host e h) (host_turn e h)
+turn-fits m b (host_event.Inserted i) h absent cause fits =
+    fits-inserted b i h fits (ap (interface_of i) cause.0 ∙ absent i cause.1)
+turn-fits m b (host_event.Removed i) h absent cause fits = fits-removed b i h fits
+turn-fits m b (host_event.Connect i c) h absent cause fits =
+    fits-connects b i c h fits (subst (λ g. AreUnmet (connect_conditions i c g)) (sym cause.0)
+    (front-unmet (connect_conditions i c m.before.host)
+    ((has_no_label 1 side.Ap m.before, why.NoLabel) ∷ [])
+    (free m.before (event.Connect i c) cause.2))) cause.3
+turn-fits m b (host_event.Disconnect i c) h absent cause fits =
+    fits-disconnects b i c h fits (subst (λ g. AreUnmet (disconnect_conditions i c g)) (sym cause.0)
+    (front-unmet (disconnect_conditions i c m.before.host)
+    ((
+      holds_of (λ k. has_no_label k side.Ap m.before) (control_of i m.before.host),
+      why.NoLabel,
+    ) ∷ [])
+    (free m.before (event.Disconnect i c) cause.2)))
+turn-fits m b (host_event.Drain i c) h absent cause fits =
+    fits-drains b i c h fits (subst (λ g. AreUnmet (drain_conditions i c g)) (sym cause.0)
+    (free m.before (event.Drain i c) cause.2))
+turn-fits m b (host_event.Idle k) h absent cause fits = fits-idle b k h fits
+turn-fits m b (host_event.Ended n how) h absent cause fits = fits-ended b n how h fits
+
+-- what is known of live connections behind a turn
+followed-known : (c : Connection) (ls : List Link) {after : List Link} (acts : List Act)
+    → ((l : Link) → IsIn l ls → IsFollowed l after acts) → IsKnown c ls [] → IsKnown c after acts
+followed-known c ls acts f (supervisory e) = supervisory e
+followed-known c ls acts f (leaving i) = absurd i
+followed-known c ls {after} acts f (linked l i of) = by (f l i)
+  where
+    by : IsFollowed l after acts → IsKnown c after acts
+    by (stays k j same) = linked k j (record {
+      number = of.number ∙ sym same.connection;
+      ap = of.ap ∙ sym same.ap;
+      peer = of.peer ∙ ap (λ i. end.Module i l.cport) (sym same.intf)
+          ∙ ap (end.Module k.intf) (sym same.cport);
+      protocol = of.protocol ∙ sym same.protocol;
+    })
+    by (leaves j) = leaving (subst (λ n. IsIn (Act.Leave n) acts) (sym of.number) j)
+
+-- The facts of connections behind a turn, before its acts are done.
+pub linked-fits : {b : Bus} {h g : Host} {t : Turn} → g.links ≡ h.links → TurnFits b g t
+    → Linked b h [] → Linked b t.host t.acts
+linked-fits {h} {t} same fits f = record {
+  host = fits.host;
+  pending = fits.pending;
+  known = λ c live. followed-known c h.links t.acts
+      (λ l i. fits.followed l (subst (λ ls. IsIn l ls) (sym same) i)) (f.known c live);
+  svc = f.svc;
+  made = f.made;
+}
+
+linked-turn : (m : Moment) {b : Bus} (e : HostEvent) {h : Host} → InsertsAbsent m → IsCaused m e h
+    → Linked b h [] → Linked b (host_turn e h).host (host_turn e h).acts
+linked-turn m {b} e {h} absent cause f =
+    linked-fits (same-links e h) (turn-fits m b e h absent cause f.host) f
+
+-- The application processor's connections at a point.
+abbrev pub LinkedAt : Point → Type 0
+LinkedAt a = Linked a.state.bus a.state.host a.pending
+
+pub linked-kept : (m : Moment) → InsertsAbsent m → {a : Point} (x : Change m a)
+    → LinkedAt a → LinkedAt (changed m a x)
+linked-kept m absent {a} (injects i c p bytes free named) h =
+    linked-after (BusChange.injects p.connection.number bytes) other h
+  where
+    other : p.connection.number ≢ 1
+    other one =
+        let place = place-is (end.Module i c) a.state.bus.connections p named in
+        let s = h.svc p.connection place.live one in
+        svc-at p.side (module-far i c p.side p.connection place.is) place.is s.peer
+      where
+        svc-at : (s : Side) → s ≡ side.Far → end_of s p.connection ≡ end.Module i c
+            → p.connection.peer ≡ end.Svc → ⊥
+        svc-at side.Far far is peer = absurd cc
+        svc-at side.Ap far is peer = absurd cc
+linked-kept m absent {a} (turns e free untouched none cause) h =
+    linked-turn m e absent cause (subst (Linked a.state.bus a.state.host) none h)
+linked-kept m absent {a} (acts_told e rest is quiet) h =
+    linked-rest a.state.bus a.state.host (Act.Tell e) rest (λ k f. absurd cc)
+    (subst (Linked a.state.bus a.state.host) is h)
+linked-kept m absent {a} (acts_shut k rest free is cause) h =
+    linked-shut a.state.bus (shut_down k a.state.bus) a.state.host k rest refl refl
+    (subst (Linked a.state.bus a.state.host) is h)
+linked-kept m absent {a} (acts_left k rest free untouched is) h =
+    linked-left a.state.bus a.state.host k rest (subst (Linked a.state.bus a.state.host) is h)
+linked-kept m absent {a} (acts_opened w q rest free is) h =
+    linked-opened w q rest (subst (Linked a.state.bus a.state.host) is h)
+linked-kept m absent {a} (acts_asked q n rest is) h =
+    linked-asked q n rest a.state (subst (Linked a.state.bus a.state.host) is.0 h)
+linked-kept m absent (acts_failed q rest is quiet) h =
+    linked-unsent q is h
+linked-kept m absent {a} (serves k kind payload none) h =
+    subst (Linked a.state.bus (host_serves k kind payload a.state.host).host) (sym none.0)
+    (linked-served k kind payload (subst (Linked a.state.bus a.state.host) none.0 h))
+linked-kept m absent {a} (spends i c what none) h =
+    subst (Linked a.state.bus (with_link i c (spent what) a.state.host)) (sym none.0)
+    (linked-link i c (λ l. l.credits - credits_taken what)
+    (subst (Linked a.state.bus a.state.host) none.0 h))
+linked-kept m absent x h = linked-after (bus_change x) tt h

@@ -1,0 +1,172 @@
+-- Which connections a turn of the application processor gives up, and why.
+use Rattle.std.proofs.Common.{Bool, List, None, Option, Some, ap, cond, false, inl, inr, refl}
+use Rattle.std.proofs.Common.{subst, sym, true, ℕ, ⊎_elim, [], ◌∙◌, ◌∷◌, ◌≡◌}
+use Rattle.std.specs.{List.find, Prelude.option_map, Prelude.◌==◌}
+use Rattle.gb_base.specs.declared.host_event.HostEvent.TheVariants as host_event
+use Rattle.gb_base.specs.declared.host_event.HostEvent.{HostEvent}
+use Rattle.gb_base.specs.declared.peers.Link.{Link}
+use Rattle.gb_base.specs.declared.steps.{Purpose.Purpose, SequenceStep.SequenceStep}
+use Rattle.gb_base.specs.declared.outcome.Outcome.TheVariants as outcome
+use Rattle.gb_base.specs.declared.steps.SequenceStep.TheVariants as steps
+use Rattle.gb_machine.specs.Host.{Host, is_link, link_at}
+use Rattle.gb_machine.specs.HostTurns.{host_turn, links_left, links_of}
+use Rattle.gb_machine.specs.Waits.{awaits_nothing, interface_waits, link_waits, purpose_in}
+use Rattle.gb_machine.specs.{Bus.Bus, Bus.or_else, Failures.told_of, Members.IsIn}
+use Rattle.gb_machine.specs.{SequenceSteps.is_enumeration, SequenceSteps.purpose, Turns.Act}
+use Rattle.gb_invariants.proofs.HostChanges.{Finds, HostChange, HostEnd, IsAnswered, IsFor, acts_by}
+use Rattle.gb_invariants.proofs.HostChanges.{at_event, end_of}
+use Rattle.gb_invariants.proofs.{Awaiting.not-both, Awaiting.same-some, Found.find-changed}
+use Rattle.gb_invariants.proofs.{Lists.in-append, Lists.in-filter, Outcomes.same-number}
+use Rattle.gb_invariants.proofs.{OverTurns.over-turn}
+use Rattle.gb_laws.proofs.{links.LinkActs.none-leaves, links.LinkLists.found-at}
+use Rattle.gb_laws.proofs.{links.Links.HostFits}
+use Rattle.gb_laws.proofs.{removals.QuietAwaited.waited-in}
+
+-- A connection is given up where the removal of its interface is handled, or where the last request
+-- of its close was answered.
+pub data WhyLeft (h : Host) (e : HostEvent) (k : ℕ) : Type 0 where
+  removed : (i : ℕ) (l : Link) → e ≡ host_event.Removed i → IsIn l h.links → l.intf ≡ i
+      → l.connection ≡ k → WhyLeft h e k
+  closed : (n result : ℕ) (payload : List ℕ) (l : Link)
+      → e ≡ host_event.Ended n (outcome.Answered result payload) → IsIn l h.links
+      → l.awaits ≡ Some (n, steps.DestroyConnection) → l.connection ≡ k → WhyLeft h e k
+
+-- a connection that waits for a request
+pub waited-link : (n : ℕ) (ls : List Link) (p : Purpose) → link_waits n ls ≡ Some p
+    → (l : Link) × IsIn l ls × (l.intf ≡ p.intf) × (l.cport ≡ p.cport)
+    × (l.awaits ≡ Some (n, p.step))
+waited-link n [] p h = absurd cc
+waited-link n (x ∷ xs) p h =
+    by (purpose_in n x.intf x.cport x.awaits) refl h (waited-link n xs p)
+  where
+    Waited : List Link → Type 0
+    Waited ys = (y : Link) × IsIn y ys × (y.intf ≡ p.intf) × (y.cport ≡ p.cport)
+        × (y.awaits ≡ Some (n, p.step))
+
+    one : (o : Option (ℕ × SequenceStep)) → x.awaits ≡ o
+        → purpose_in n x.intf x.cport o ≡ Some p → Waited (x ∷ xs)
+    one None e f = absurd cc
+    one (Some w) e f = test (w.0 == n) refl f
+      where
+        test : (t : Bool) → (w.0 == n) ≡ t
+            → cond t (Some (purpose x.intf x.cport w.1)) None ≡ Some p → Waited (x ∷ xs)
+        test true g f =
+            let is = same-some (purpose x.intf x.cport w.1) p f in (
+              x,
+              inl refl,
+              ap (λ (q : Purpose). q.intf) is,
+              ap (λ (q : Purpose). q.cport) is,
+              e ∙ ap (λ k. Some (k, w.1)) (same-number w.0 n g)
+                  ∙ ap (λ (q : Purpose). Some (n, q.step)) is,
+            )
+        test false g f = absurd cc
+
+    by : (o : Option Purpose) → purpose_in n x.intf x.cport x.awaits ≡ o
+        → or_else o (link_waits n xs) ≡ Some p
+        → (link_waits n xs ≡ Some p → Waited xs) → Waited (x ∷ xs)
+    by None e f rec = let w = rec f in (w.0, inr w.1, w.2, w.3, w.4)
+    by (Some q) e f rec = one x.awaits refl (e ∙ f)
+
+abbrev idle : Link → Link
+idle l = record l { awaits = None }
+
+-- the connection that a close waits on is the one that is found behind its last answer
+why-closed : (b : Bus) (h : Host) (e : HostEvent) (p : Purpose) (l : Link) → HostFits b h
+    → IsAnswered e h p → p.step ≡ steps.DestroyConnection
+    → link_at p.intf p.cport (awaits_nothing p h) ≡ Some l → WhyLeft h e l.connection
+why-closed b h e p l fits r last found = by (interface_waits r.number h.interfaces) refl r.awaited
+  where
+    waits : (x : Link) × IsIn x h.links × (x.intf ≡ p.intf) × (x.cport ≡ p.cport)
+        × (x.awaits ≡ Some (r.number, p.step)) → WhyLeft h e l.connection
+    waits w =
+        let known : link_at p.intf p.cport h ≡ Some w.0 =
+        subst (λ x. find (is_link x p.cport) h.links ≡ Some w.0) w.2
+        (subst (λ x. find (is_link w.0.intf x) h.links ≡ Some w.0) w.3
+        (found-at h.links w.0 fits.links.rise w.1)) in
+        let then : link_at p.intf p.cport (awaits_nothing p h) ≡ Some (idle w.0) =
+        ap (λ s. link_at p.intf p.cport (awaits_nothing (record p { step = s }) h)) last
+        ∙ find-changed (is_link p.intf p.cport) idle h.links (λ x. refl)
+        ∙ ap (option_map idle) known in
+        closed r.number r.result r.payload w.0 r.is w.1
+        (w.4 ∙ ap (λ s. Some (r.number, s)) last)
+        (ap (λ (y : Link). y.connection) (same-some (idle w.0) l (sym then ∙ found)))
+
+    by : (o : Option Purpose) → interface_waits r.number h.interfaces ≡ o
+        → or_else o (link_waits r.number h.links) ≡ Some p → WhyLeft h e l.connection
+    by None f g = waits (waited-link r.number h.links p g)
+    by (Some q) f g =
+        let x = waited-in r.number h.interfaces p (f ∙ g) in
+        absurd (not-both (is_enumeration p.step)
+        (fits.interfaces x.0 x.1 (r.number, p.step) x.3).0 (ap is_enumeration last))
+
+-- ---- changes
+
+leave-in : (ls : List Link) (k : ℕ) → IsIn (Act.Leave k) (links_left ls)
+    → (l : Link) × IsIn l ls × (l.connection ≡ k)
+leave-in [] k i = absurd i
+leave-in (l ∷ ls) k (inl e) = absurd cc
+leave-in (l ∷ ls) k (inr (inl e)) = (l, inl refl, same k l.connection e)
+  where
+    same : (n m : ℕ) → Act.Leave n ≡ Act.Leave m → m ≡ n
+    same n m e = cc
+leave-in (l ∷ ls) k (inr (inr (inl e))) = absurd cc
+leave-in (l ∷ ls) k (inr (inr (inr j))) = let w = leave-in ls k j in (w.0, inr w.1, w.2)
+
+-- a connection that a turn gives up
+module _ (e : HostEvent) (h : Host) (closing : (p : Purpose) (l : Link) → IsAnswered e h p
+    → p.step ≡ steps.DestroyConnection → link_at p.intf p.cport (awaits_nothing p h) ≡ Some l
+    → WhyLeft h e l.connection) where
+  change-left : (x : HostChange) (g : Host) → Finds g x → IsFor (at_event e h) g x → (k : ℕ)
+      → IsIn (Act.Leave k) (acts_by x g) → WhyLeft h e k
+  change-left (HostChange.tells f) g finds why k j = absurd (none-leaves k (f ∷ []) j)
+  change-left (HostChange.departs i) g finds why k j =
+      let w = leave-in (links_of i g) k j in
+      let f = in-filter (λ (l : Link). l.intf == i) g.links w.0 w.1 in
+      removed i w.0 why.0 (subst (λ (y : Host). IsIn w.0 y.links) why.1 f.0)
+      (same-number w.0.intf i f.1) w.2
+  change-left (HostChange.turns_to i c to o) g finds why k j =
+      absurd (none-leaves k (told_of to o) j)
+  change-left (HostChange.closes i c l) g finds why k (inl f) = absurd cc
+  change-left (HostChange.closes i c l) g finds why k (inr j) = absurd (none-leaves k (_ ∷ []) j)
+  change-left (HostChange.leaves p None) g found why k j = absurd j
+  change-left (HostChange.leaves p (Some l)) g found why k (inl f) =
+      subst (WhyLeft h e) (same k l.connection f) (closing p l why.0 why.1
+      (ap (link_at p.intf p.cport) (sym why.2) ∙ found))
+    where
+      same : (n m : ℕ) → Act.Leave n ≡ Act.Leave m → m ≡ n
+      same n m f = cc
+  change-left (HostChange.leaves p (Some l)) g found why k (inr j) =
+      absurd (none-leaves k (_ ∷ []) j)
+  change-left _ g finds why k j = absurd j
+
+  end-left : (x : HostEnd) (g : Host) (k : ℕ) → IsIn (Act.Leave k) (end_of x g).acts → ⊥
+  end-left HostEnd.rests g k j = j
+  end-left (HostEnd.enumerates p bytes) g k j = none-leaves k (_ ∷ []) j
+  end-left (HostEnd.asks n p) g k (inl f) = absurd cc
+  end-left (HostEnd.asks n p) g k (inr j) = j
+  end-left (HostEnd.makes a protocol p) g k (inl f) = absurd cc
+  end-left (HostEnd.makes a protocol p) g k (inr j) = j
+
+  left-by : (k : ℕ) → IsIn (Act.Leave k) (host_turn e h).acts → WhyLeft h e k
+  left-by k = over-turn e h (record {
+    says = λ g t. IsIn (Act.Leave k) t.acts → WhyLeft h e k;
+    ends = λ x g last j. absurd (end-left x g k j);
+    over = λ x g t finds why s j. ⊎_elim (λ i. change-left x g finds why k i) s
+        (in-append (Act.Leave k) (acts_by x g) t.acts j);
+  })
+
+-- Why a turn gives up a connection.
+pub why-left : (b : Bus) (e : HostEvent) (h : Host) (k : ℕ) → HostFits b h
+    → IsIn (Act.Leave k) (host_turn e h).acts → WhyLeft h e k
+why-left b e h k fits =
+    left-by e h (λ p l answered last found. why-closed b h e p l fits answered last found) k
+
+-- None is given up where one is idle.
+pub idle-leaves : (n : ℕ) (h : Host) (k : ℕ)
+    → IsIn (Act.Leave k) (host_turn (host_event.Idle n) h).acts → ⊥
+idle-leaves n h k j =
+    by (left-by (host_event.Idle n) h (λ p l answered. let is = answered.is in absurd cc) k j)
+  where
+    by : WhyLeft h (host_event.Idle n) k → ⊥
+    by (removed i l is live at on) = absurd cc
+    by (closed m result payload l is live awaits on) = absurd cc

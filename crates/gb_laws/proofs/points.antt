@@ -1,0 +1,15 @@
+-- Points of a step, single changes, and laws of points.
+pub mod PointParts
+pub mod Points
+pub mod ChangeBuses
+pub mod ChangeHosts
+pub mod Awaited
+pub mod Pulls
+pub mod Onward
+pub mod Places
+pub mod Since
+pub mod Silent
+pub mod Happened
+pub mod Overdue
+pub mod Naming
+pub mod LowTypes

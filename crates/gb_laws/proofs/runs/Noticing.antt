@@ -1,0 +1,99 @@
+-- What is known of connections goes over what the application processor does where a request ended,
+-- and where a connection begins to drain.
+use Rattle.std.proofs.Common.{None, [], refl, ℕ, ◌≡◌}
+use Rattle.gb_base.specs.declared.event.Event.TheVariants as event
+use Rattle.gb_base.specs.declared.end.Side.{Side}
+use Rattle.gb_base.specs.declared.host_event.HostEvent.TheVariants as host_event
+use Rattle.gb_base.specs.declared.host_event.HostEvent.{HostEvent}
+use Rattle.gb_base.specs.declared.outcome.Outcome.{Outcome}
+use Rattle.gb_machine.proofs.Opened.{machine_opened}
+use Rattle.gb_machine.specs.Bus.{Bus}
+use Rattle.gb_machine.specs.Delivery.{ended, popped}
+use Rattle.gb_machine.specs.Host.{Host}
+use Rattle.gb_machine.specs.HostActs.{notices}
+use Rattle.gb_machine.specs.HostTurns.{host_turn}
+use Rattle.gb_machine.specs.Reached.{OfARun}
+use Rattle.gb_machine.specs.Refusals.{refusal}
+use Rattle.gb_machine.specs.Requests.{gave_up}
+use Rattle.gb_machine.specs.Runs.{Moment}
+use Rattle.gb_machine.specs.State.{State}
+use Rattle.gb_invariants.proofs.Awaiting.{none-some}
+use Rattle.gb_invariants.proofs.BusChanges.{BusChange}
+use Rattle.gb_invariants.proofs.Wires.{alive-after}
+use Rattle.gb_laws.proofs.links.ActsFit.{ever-fit, fit-other}
+use Rattle.gb_laws.proofs.links.LinkChanges.{linked-ended, linked-gave_up, linked-popped}
+use Rattle.gb_laws.proofs.links.LinkKept.{InsertsAbsent, LinkedAt, linked-kept}
+use Rattle.gb_laws.proofs.links.LinkLives.{AreAlive, alive-from, alive-kept}
+use Rattle.gb_laws.proofs.points.PointParts.{IsCaused}
+use Rattle.gb_laws.proofs.steps.StepActs.{goes-acts}
+use Rattle.gb_laws.proofs.links.Turned.{TurnsTo, turned-drains, turned-ended}
+use Rattle.gb_laws.proofs.{links.LinkFrom.Linked, links.LinkSources.from-turn}
+use Rattle.gb_laws.proofs.{runs.Reached.reached-has}
+use Rattle.gb_laws.proofs.{creations.RememberedLive.SinceTo}
+use Rattle.gb_laws.proofs.{creations.RememberedLive.since-throughout, runs.Runs.weaker}
+
+-- What is known of connections: they go with those that the application processor knows, and each
+-- of these is live.
+pub record Knows (b : Bus) (h : Host) : Type 0 where
+  pub links : Linked b h []
+  pub alive : AreAlive b.connections h
+
+-- it is known at a state
+abbrev pub KnowsAt : State → Type 0
+KnowsAt s = Knows s.bus s.host
+
+-- ---- acts, done
+
+-- It is known again once the acts of a turn are done, where no connection is idle.
+noticed-known : (m : Moment) (e : HostEvent) (s : State) → InsertsAbsent m
+    → ((k : ℕ) → e ≡ host_event.Idle k → ⊥) → IsCaused m e s.host → TurnsTo s.bus s.host e
+    → AreAlive s.bus.connections s.host → KnowsAt (notices e s).state
+unfolding machine_opened
+noticed-known m e s absent other cause links alive =
+    let t = host_turn e s.host in
+    let r = goes-acts m (record {
+      holds = λ a. LinkedAt a × AreAlive a.state.bus.connections a.state.host;
+      kept = λ a x is h. (linked-kept m absent x h.0, alive-kept m a x h.0 h.1);
+    }) t.acts (record s { host = t.host })
+    (ever-fit m s.bus t.acts (fit-other m e s.host other cause)) []
+    (links, alive-from s.bus.connections s.host t.host (from-turn e s.host) alive) in
+    record { links = r.0; alive = r.1 }
+
+-- where a request ended
+pub knows-ended : (n : ℕ) (how : Outcome) (s : State) → KnowsAt s
+    → KnowsAt (notices (host_event.Ended n how) s).state
+knows-ended n how s f =
+    noticed-known (record { told = []; event = event.Show; before = s }) (host_event.Ended n how) s
+    (λ i noticed. let at = noticed.event in absurd cc) (λ k e. absurd cc) tt
+    (turned-ended n how f.links) f.alive
+
+-- and where a drain isn't refused
+pub knows-drains : (i c : ℕ) (s : State) → refusal s (event.Drain i c) ≡ None → KnowsAt s
+    → KnowsAt (notices (host_event.Drain i c) s).state
+knows-drains i c s allowed f =
+    noticed-known (record { told = []; event = event.Drain i c; before = s })
+    (host_event.Drain i c) s (λ j noticed. let at = noticed.event in absurd cc) (λ k e. absurd cc)
+    (refl, refl, allowed) (turned-drains s i c allowed f.links) f.alive
+
+-- ---- where it is known
+
+-- It is known at every state of a run,
+pub knows-reached : (s : State) → OfARun s → KnowsAt s
+knows-reached = reached-has KnowsAt (weaker SinceTo (λ told s. KnowsAt s)
+    (λ told s h. record { links = h.links.1; alive = h.there }) since-throughout)
+
+-- where an item is taken,
+pub knows-popped : {b : Bus} {h : Host} (k : ℕ) (at : Side) → Knows b h → Knows (popped k at b) h
+knows-popped {b} k at f = record {
+  links = linked-popped k at f.links;
+  alive = λ l i. alive-after (BusChange.takes k at) b l.connection (λ e. none-some e) (f.alive l i);
+}
+
+-- where a request ends,
+pub knows-over : {b : Bus} {h : Host} (n : ℕ) (how : Outcome) → Knows b h → Knows (ended n how b) h
+knows-over n how f = record { links = linked-ended n how f.links; alive = f.alive }
+
+-- and where one is given up.
+pub knows-gave_up : {b : Bus} {h : Host} (n : ℕ) (how : Outcome) → Knows b h
+    → Knows (gave_up n how b) h
+knows-gave_up n how f = record { links = linked-gave_up n how f.links; alive = f.alive }

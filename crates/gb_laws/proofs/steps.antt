@@ -1,0 +1,19 @@
+-- Steps: a law goes over the actions of the machine, and over the step of each event.
+pub mod StepActions
+pub mod StepActLaws
+pub mod StepActs
+pub mod StepIdles
+pub mod StepServes
+pub mod StepSvcServes
+pub mod StepMessages
+pub mod StepDelivers
+pub mod Ticking
+pub mod StepPlugs
+pub mod StepEvents
+pub mod Steps
+pub mod Delivered
+pub mod DeliveredHands
+pub mod Served
+pub mod ServedOn
+pub mod ServedCreate
+pub mod ServedDestroy

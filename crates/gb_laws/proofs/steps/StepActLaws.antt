@@ -1,0 +1,28 @@
+-- Laws of points that are kept by what the application processor does.
+use Rattle.gb_machine.specs.Runs.{Moment}
+use Rattle.gb_laws.proofs.points.Points.{Change, Law, acts_asked, acts_failed, acts_left}
+use Rattle.gb_laws.proofs.points.Points.{acts_opened}
+use Rattle.gb_laws.proofs.points.Points.{acts_shut, acts_told, asks, changed, tells, turns}
+use Rattle.gb_laws.proofs.points.PointParts.{Point}
+
+-- a change is one of those that the acts of the application processor are made of
+abbrev pub IsActing : (m : Moment) (a : Point) → Change m a → Type 0
+IsActing m a (tells e quiet) = Unit {0}
+IsActing m a (asks d c label free live drawn who) = Unit {0}
+IsActing m a (turns e free untouched none cause) = Unit {0}
+IsActing m a (acts_told e rest is quiet) = Unit {0}
+IsActing m a (acts_shut k rest free is cause) = Unit {0}
+IsActing m a (acts_left k rest free untouched is) = Unit {0}
+IsActing m a (acts_opened w q rest free is) = Unit {0}
+IsActing m a (acts_asked q n rest is) = Unit {0}
+IsActing m a (acts_failed q rest is quiet) = Unit {0}
+IsActing m a _ = ⊥
+
+-- A law of points is kept by what the application processor does.
+pub record ActLaw (m : Moment) : Type 1 where
+  pub holds : Point → Type 0
+  pub kept : (a : Point) (x : Change m a) → IsActing m a x → holds a → holds (changed m a x)
+
+-- a law that each change keeps
+abbrev pub acting : (m : Moment) → Law m → ActLaw m
+acting m law = record { holds = law.holds; kept = λ a x is. law.kept a x }

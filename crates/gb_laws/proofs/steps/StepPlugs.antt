@@ -1,0 +1,74 @@
+-- A law of points goes over the start of the supervisory controller, and modules that come and go.
+use Rattle.std.proofs.Common.{Bool, List, None, inl, inr, refl, true, ℕ, [], ◌∷◌}
+use Rattle.std.specs.Prelude.{◌==◌}
+use Rattle.gb_formats.specs.SvcRecords.{SvcAsk}
+use Rattle.gb_formats.specs.Module.{Module}
+use Rattle.gb_machine.proofs.Opened.{machine_opened}
+use Rattle.gb_machine.specs.Actions.{Action, change, each, nothing, when, ◌▸◌}
+use Rattle.gb_machine.specs.Plugging.{boots, plugs, tells_inserted, with_plugged}
+use Rattle.gb_machine.specs.{OwnAsking.svc_asks, OwnAsking.svc_own}
+use Rattle.gb_machine.specs.{Runs.Moment, State.Plugged, State.State}
+use Rattle.gb_laws.proofs.points.LowTypes.{svc-low}
+use Rattle.gb_laws.proofs.points.Points.{IsOfSvc, Law, by_svc, others}
+use Rattle.gb_laws.proofs.steps.StepActions.{Goes, goes-far_asks, goes-nothing, goes-when, goes-▸}
+use Rattle.gb_laws.proofs.{points.PointParts.Untouched, svc.StayPlugged.powered-off}
+use Rattle.gb_laws.proofs.{steps.StepActLaws.acting}
+
+-- ---- the shape of steps that leave wires alone
+
+module _ (m : Moment) (law : Law m) where
+  -- an action that leads from rest to rest
+  abbrev pub Rests : Action → State → Type 0
+  Rests f s = Goes m (acting m law) None [] Untouched None [] Untouched f s
+
+  pub rests-▸ : (f g : Action) (s : State) → Rests f s → Rests g (f s).state → Rests (f ▸ g) s
+  rests-▸ f g s h k =
+      goes-▸ m (acting m law) f g h k
+
+  pub rests-nothing : (s : State) → Rests nothing s
+  rests-nothing s = goes-nothing m (acting m law) None [] Untouched s
+
+  pub rests-when : (b : Bool) (f : Action) (s : State) → Rests f s → Rests (when b f) s
+  rests-when b f s h = goes-when m (acting m law) None [] Untouched b f s (λ e. h)
+
+  -- the supervisory controller asks
+  pub rests-svc : IsOfSvc m.event → (ask : SvcAsk) (s : State) → Rests (svc_asks ask) s
+  unfolding machine_opened
+  rests-svc of ask s = goes-far_asks m (acting m law) [] Untouched 1 (svc_own ask) s
+      (λ c e. by_svc of refl) (svc-low ask)
+
+  -- ---- booting, plugging and pulling
+
+  pub rests-inserted_all : IsOfSvc m.event → (ps : List Plugged) (s : State)
+      → Rests (each ps (λ p. tells_inserted p.intf)) s
+  unfolding machine_opened
+  rests-inserted_all of [] s = rests-nothing s
+  rests-inserted_all of (p ∷ ps) s =
+      rests-▸ (tells_inserted p.intf) (each ps (λ p. tells_inserted p.intf)) s
+      (rests-svc of (SvcAsk.ModuleInserted p.intf 1 0) s)
+      (rests-inserted_all of ps (tells_inserted p.intf s).state)
+
+  pub rests-boots : IsOfSvc m.event → (s : State) → Rests boots s
+  unfolding machine_opened
+  rests-boots of s =
+      rests-▸ (change (λ t. record t { booted = true }) ▸ svc_asks (SvcAsk.ProtocolVersion 0 1)
+      ▸ svc_asks (SvcAsk.Hello 1 1)) (each s.modules (λ p. tells_inserted p.intf)) s
+      (rests-▸ (change (λ t. record t { booted = true }) ▸ svc_asks (SvcAsk.ProtocolVersion 0 1))
+      (svc_asks (SvcAsk.Hello 1 1)) s
+      (rests-▸ (change (λ t. record t { booted = true })) (svc_asks (SvcAsk.ProtocolVersion 0 1)) s
+      (λ told at. law.kept _ (others true s.holds s.ports s.modules
+      (inr (of, λ i. inl refl, λ k i. inl i))) at)
+      (rests-svc of (SvcAsk.ProtocolVersion 0 1) _))
+      (rests-svc of (SvcAsk.Hello 1 1) _)) (rests-inserted_all of s.modules _)
+
+  pub rests-plugs : IsOfSvc m.event → (i : ℕ) (x : Module) (s : State) → Rests (plugs i x) s
+  unfolding machine_opened
+  rests-plugs of i x s =
+      rests-▸ (change (with_plugged i x)) (when s.booted (tells_inserted i)) s
+      (λ told at. law.kept _ (others s.booted s.holds (with_plugged i x s).ports
+      (with_plugged i x s).modules (inr (
+        of,
+        λ j. powered-off i j s.ports (i == j),
+        λ k n. inl n,
+      ))) at) (rests-when s.booted (tells_inserted i) (with_plugged i x s)
+      (rests-svc of (SvcAsk.ModuleInserted i 1 0) (with_plugged i x s)))
