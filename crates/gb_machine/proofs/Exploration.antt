@@ -84,6 +84,15 @@ pub pulled_while_connecting : holds_behind 4 with_connects (facts_hold 2)
 unfolding report_opened holds_behind
 pulled_while_connecting = refl
 
+-- ---- pulls are remembered
+
+-- with the requests that told them, and none of those before the start
+pub pulls_are_remembered : (from (codes "insert 2 gpio" ∷ codes "pull 2" ∷ codes "insert 2 gpio"
+    ∷ codes "insert 3 gpio" ∷ codes "boot" ∷ codes "pull 3" ∷ codes "pull 2" ∷ [])).past.pulled
+    ≡ (5, 3) ∷ (6, 2) ∷ []
+unfolding report_opened
+pulls_are_remembered = refl
+
 -- ---- wrong facts are found
 
 -- The power level isn't 0 whenever a removal waits: it is 1 where the supervisory controller served

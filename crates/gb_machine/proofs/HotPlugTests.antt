@@ -2,6 +2,7 @@
 -- that it can be computed.
 use Rattle.std.proofs.Common.{ℕ, ◌+◌, ◌==◌, Bool, true, false, not, ◌&&◌, ◌||◌, if◌then◌else◌}
 use Rattle.std.proofs.Common.{Option, Some, None, is_some, List, [], ◌∷◌, nat_le, nat_lt}
+use Rattle.std.specs.Prelude.{Ok, Result}
 use Rattle.std.specs.List.{list_all, list_any}
 use Rattle.gb_base.specs.declared.end.End.{End}
 use Rattle.gb_base.specs.declared.end.End.TheVariants as end
@@ -10,7 +11,9 @@ use Rattle.gb_base.specs.declared.entry.IntfStage.{IntfStage}
 use Rattle.gb_base.specs.declared.entry.IntfStage.TheVariants as stage
 use Rattle.gb_base.specs.declared.peers.Interface.{Interface}
 use Rattle.gb_base.specs.declared.steps.SequenceStep.{SequenceStep}
-use Rattle.gb_machine.specs.Bus.{Request, connection_of, request_of}
+use Rattle.gb_formats.specs.Records.{PayloadFault}
+use Rattle.gb_formats.specs.SvcRecords.{SvcAsk, read_svc_ask}
+use Rattle.gb_machine.specs.Bus.{Ask, Item, Request, connection_of, request_of}
 use Rattle.gb_machine.specs.Host.{interface_of}
 use Rattle.gb_machine.specs.LawsSvc.{awaited_by, awaits_removal, before_removal}
 use Rattle.gb_machine.specs.LawsSvc.{enumeration_requests}
@@ -21,7 +24,7 @@ use Rattle.gb_machine.specs.Requests.{same_side}
 use Rattle.gb_machine.specs.SequenceSteps.{asks_control}
 use Rattle.gb_machine.specs.State.{State}
 use Rattle.gb_machine.specs.SvcQueues.{is_ask, is_connection_request, is_enumeration_request}
-use Rattle.gb_machine.specs.SvcQueues.{is_for_link, is_reply_to, svc_items, svc_requests}
+use Rattle.gb_machine.specs.SvcQueues.{is_for_link, is_reply_to, is_told, svc_items, svc_requests}
 use Rattle.gb_machine.specs.Wiring.{is_wired_to}
 
 -- ---- wired means routed
@@ -46,6 +49,26 @@ removal_leaves i level s = not (awaits_removal i s) || nat_le (level_of i s.port
 abbrev pub removal_unwires : ℕ → State → Bool
 removal_unwires i s =
     not (awaits_removal i s) || list_all (λ c. not (is_wired_to i c)) s.bus.connections
+
+-- a record of the removal of an interface
+abbrev removes : ℕ → Result SvcAsk PayloadFault → Bool
+removes i (Ok (SvcAsk.ModuleRemoved j)) = j == i
+removes i _ = false
+
+-- the payload of a request says so exactly where this is said
+abbrev removes_as : Bool → ℕ → Option Request → Bool
+removes_as told i None = not told
+removes_as true i (Some r) = removes i (read_svc_ask r.kind r.payload)
+removes_as false i (Some r) = not (removes i (read_svc_ask r.kind r.payload))
+
+-- a request told a pull of an interface exactly where its payload says so
+abbrev is_told_so : ℕ → State → Item → Bool
+is_told_so i s (Ask n) = removes_as (is_told n i s.past.pulled) i (request_of n s.bus)
+is_told_so i s _ = true
+
+-- so does each that waits
+abbrev pub removals_are_told : ℕ → State → Bool
+removals_are_told i s = list_all (is_told_so i s) (svc_items side.Ap s.bus)
 
 -- a request starts an enumeration
 abbrev is_start : Request → Bool
@@ -148,5 +171,5 @@ stale_is_below i level s =
 -- the facts on hot-plug hold of an interface
 abbrev pub facts_hold : ℕ → State → Bool
 facts_hold i s =
-    are_routed s && removal_leaves i 1 s && removal_unwires i s && is_quiet i s
-    && restarts_alone i s && awaited_is_last i s && stale_is_below i 6 s
+    are_routed s && removals_are_told i s && removal_leaves i 1 s && removal_unwires i s
+    && is_quiet i s && restarts_alone i s && awaited_is_last i s && stale_is_below i 6 s
