@@ -12,7 +12,7 @@ function type_row(protocol, side, type, name, request, response) {
 }
 
 BEGIN {
-    split("svc SVC 00 Control 02 GPIO 03 I2C 04 UART 0b SPI", pairs, " ")
+    split("svc SVC 00 Control 02 GPIO 03 I2C 04 UART 0b SPI 11 Loopback", pairs, " ")
     for (i = 1; i in pairs; i += 2) protocol_name[pairs[i]] = pairs[i + 1]
 
     split("00 SUCCESS 01 INTERRUPTED 02 TIMEOUT 03 NO_MEMORY 04 PROTOCOL_BAD 05 OVERFLOW " \
@@ -75,6 +75,10 @@ BEGIN {
     type_row("04", "far", "07", "SERIAL_STATE", "control:x8", "")
     type_row("04", "far", "08", "RECEIVE_CREDITS", "count:u16", "")
     type_row("04", "ap", "09", "FLUSH_FIFOS", "flags:x8", "")
+
+    type_row("11", "ap", "02", "PING", "", "")
+    type_row("11", "ap", "03", "TRANSFER", "data:carried", "data:carried")
+    type_row("11", "ap", "04", "SINK", "data:carried", "")
 
     split("0 none 1 rising 2 falling 3 both 4 high 8 low", pairs, " ")
     for (i = 1; i in pairs; i += 2) irq_name[pairs[i]] = pairs[i + 1]
@@ -168,6 +172,11 @@ function field(name, kind,    value) {
     if (kind == "i2c") return i2c_ops(take_number(2))
     if (kind == "spi") return spi_ops(take_number(2))
     if (kind == "manifest") return manifest_text(take_hex(length(payload) / 2))
+    if (kind == "carried") {
+        value = take_number(4)
+        return "length " value ", reserved " take_digits(4) " and " take_digits(4) ", " \
+            name " " or_none(take_hex(value))
+    }
     if (kind == "flagged") {
         value = take_number(2)
         return "flags " take_digits(1) ", " name " " or_none(take_hex(value))

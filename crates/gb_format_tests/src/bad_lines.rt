@@ -66,6 +66,11 @@ const LINES: &[(&str, LineReason)] = &[
     ("uart @x 2 1 control", MissingWord(6)),
     ("uart @x 2 1 flush 256", BadWord(6)),
     ("uart @x 2 1 coding", MissingWord(6)),
+    ("loopback 2 1 ping", BadWord(2)),
+    ("loopback @x 2 1 pong", BadWord(5)),
+    ("loopback @x 2 1 ping 00", ExtraWord(6)),
+    ("loopback @x 2 1 transfer 0", BadWord(6)),
+    ("loopback @x 2 1 sink", MissingWord(6)),
     ("gpio @x 2 1 set", MissingWord(6)),
     ("gpio @x 1 1 count", BadWord(3)),
 ];

@@ -178,6 +178,9 @@ const BRIDGED: &[&str] = &[
     "uart @x 2 1 break 0",
     "uart @x 2 1 flush 3",
     "uart 2 1 state 255",
+    "loopback @x 2 1 ping",
+    "loopback @x 2 1 transfer 0aFf",
+    "loopback @x 2 1 sink -",
 ];
 
 #[test]

@@ -12,7 +12,8 @@ use Rattle.gb_formats.specs.Results.{Step, Stirred}
 use Rattle.gb_formats.specs.SpiDevice.{first_spi, spi_step}
 use Rattle.gb_formats.specs.UartDevice.{uart_step, serial_told}
 
--- A device: the lines of a GPIO, the memory of an I2C, the last byte of an SPI, a UART, or a loopback.
+-- A device: the lines of a GPIO, the memory of an I2C, the last byte of an SPI, a UART, or
+-- Loopback.
 pub data Device : Type 0 where
   Gpio : List GpioLine → Device
   I2c : I2cDevice → Device

@@ -12,6 +12,7 @@ use Rattle.gb_base.specs.declared.event.Event.TheVariants as event
 use Rattle.gb_base.specs.declared.fault.LineReason.TheVariants as bad
 use Rattle.gb_base.specs.declared.name.Name.{Name}
 use Rattle.gb_formats.specs.BridgeForms.{gpio_asking, gpio_form, i2c_asking, i2c_form, i2c_op_word}
+use Rattle.gb_formats.specs.BridgeForms.{loopback_asking, loopback_form}
 use Rattle.gb_formats.specs.BridgeForms.{spi_asking, spi_form, uart_asking, uart_form}
 use Rattle.gb_formats.specs.Grammar.{of_cport, timed}
 use Rattle.gb_formats.specs.Said.{Said, Rest, next_word, at_end, each_word}
@@ -73,6 +74,7 @@ asking_of protocol.Gpio = gpio_asking
 asking_of protocol.I2c = i2c_asking
 asking_of protocol.Spi = spi_asking
 asking_of protocol.Uart = uart_asking
+asking_of protocol.Loopback = loopback_asking
 
 -- what a line asks for by its first word, where that is no word of the bus
 abbrev pub by_protocol : ℕ → List ℕ → Rest → Said
@@ -81,4 +83,5 @@ by_protocol who w ws =
     else if bytes_eq w (codes "i2c") then i2c_form who ws
     else if bytes_eq w (codes "spi") then spi_form who ws
     else if bytes_eq w (codes "uart") then uart_form who ws
+    else if bytes_eq w (codes "loopback") then loopback_form who ws
     else Err (bad.BadWord 1)

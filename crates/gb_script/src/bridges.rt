@@ -6,7 +6,7 @@ ghost use Rattle.gb_script.specs.Parts.{asking_of};
 ghost use Rattle.gb_script.specs.Tells.{AsksFor, Says};
 
 use crate::rest::Rest;
-use crate::{LineFault, gpio, i2c, spi, uart};
+use crate::{LineFault, gpio, i2c, loopback, spi, uart};
 use gb_base::{BridgeAsk, Event};
 use std::alloc::Global;
 
@@ -21,6 +21,8 @@ pub enum Protocol {
     Spi,
     /// A serial port.
     Uart,
+    /// A loopback device.
+    Loopback,
 }
 
 /// Whether a word begins with `@`, as a name does.
@@ -59,5 +61,6 @@ fn asked(alloc: Global, rest: &Rest<'_>, protocol: Protocol) -> Result<BridgeAsk
         Protocol::I2c => i2c::asked(alloc, rest),
         Protocol::Spi => spi::asked(alloc, rest),
         Protocol::Uart => uart::asked(alloc, rest),
+        Protocol::Loopback => loopback::asked(alloc, rest),
     }
 }

@@ -91,5 +91,8 @@ fn bridged(alloc: Global, first: &[u8], rest: &Rest<'_>, who: u8) -> Result<Even
     if is(first, "uart") {
         return uart(alloc, rest, who);
     }
+    if is(first, "loopback") {
+        return request(alloc, rest, who, Protocol::Loopback);
+    }
     Err(LineFault::Bad(LineReason::BadWord(1)))
 }

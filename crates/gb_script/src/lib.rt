@@ -14,6 +14,7 @@ mod i2c;
 mod interfaces;
 mod line_reader;
 mod lines;
+mod loopback;
 mod made_script;
 mod made_table;
 mod ops;

@@ -74,6 +74,8 @@ pub fn kind_word(word: &[u8]) -> Option<Kind>
         Some(Kind::Uart)
     } else if is(word, "bridge") {
         Some(Kind::Bridge)
+    } else if is(word, "loopback") {
+        Some(Kind::Loopback)
     } else {
         None
     }
