@@ -2,6 +2,7 @@ pub mod Again
 pub mod Fronts
 pub mod GpioLaws
 pub mod I2cLaws
+pub mod LoopbackLaws
 pub mod Numbers
 pub mod Putting
 pub mod SpiLaws

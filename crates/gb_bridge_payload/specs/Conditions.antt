@@ -2,6 +2,7 @@
 -- the ops or the entries say.
 use Rattle.std.specs.Prelude.{◌≡◌, ◌<◌, ◌*◌, ◌/◌, ⊤, ℕ, List, length, sum_by}
 use Rattle.gb_formats.specs.I2cRecords.{I2cAsk, op_size, op_written_size, ops_at}
+use Rattle.gb_formats.specs.LoopbackRecords.{LoopbackAsk, LoopbackReply}
 use Rattle.gb_formats.specs.SpiRecords.{SpiAsk, SpiReply, entries_at, entry_size}
 use Rattle.gb_formats.specs.SpiRecords.{entry_written_size, name_size}
 use Rattle.gb_formats.specs.UartRecords.{UartAsk}
@@ -37,3 +38,13 @@ abbrev pub IsUartAsk : UartAsk → Type 0
 IsUartAsk (UartAsk.SendData bytes) = length bytes < 65536
 IsUartAsk (UartAsk.ReceiveData flags bytes) = length bytes < 65536
 IsUartAsk ask = ⊤
+
+abbrev pub IsLoopbackAsk : LoopbackAsk → Type 0
+IsLoopbackAsk LoopbackAsk.Ping = ⊤
+IsLoopbackAsk (LoopbackAsk.Transfer first second bytes) = length bytes < 4294967296
+IsLoopbackAsk (LoopbackAsk.Sink first second bytes) = length bytes < 4294967296
+
+abbrev pub IsLoopbackReply : LoopbackReply → Type 0
+IsLoopbackReply LoopbackReply.Ping = ⊤
+IsLoopbackReply (LoopbackReply.Transfer first second bytes) = length bytes < 4294967296
+IsLoopbackReply LoopbackReply.Sink = ⊤

@@ -5,6 +5,10 @@ use Rattle.gb_formats.specs.GpioRecords.{GpioReply, gpio_reply_kind, gpio_reply_
 use Rattle.gb_formats.specs.GpioRecords.{read_gpio_reply}
 use Rattle.gb_formats.specs.I2cRecords.{I2cAsk, i2c_ask_kind, i2c_ask_payload, read_i2c_ask}
 use Rattle.gb_formats.specs.I2cRecords.{I2cReply, i2c_reply_kind, i2c_reply_payload, read_i2c_reply}
+use Rattle.gb_formats.specs.LoopbackRecords.{LoopbackAsk, loopback_ask_kind, loopback_ask_payload}
+use Rattle.gb_formats.specs.LoopbackRecords.{LoopbackReply, loopback_reply_kind}
+use Rattle.gb_formats.specs.LoopbackRecords.{loopback_reply_payload, read_loopback_ask}
+use Rattle.gb_formats.specs.LoopbackRecords.{read_loopback_reply}
 use Rattle.gb_formats.specs.SpiRecords.{SpiAsk, spi_ask_kind, spi_ask_payload, read_spi_ask}
 use Rattle.gb_formats.specs.SpiRecords.{SpiReply, spi_reply_kind, spi_reply_payload, read_spi_reply}
 use Rattle.gb_formats.specs.UartRecords.{UartAsk, uart_ask_kind, uart_ask_payload, read_uart_ask}
@@ -44,3 +48,16 @@ uart_asks = record { read = read_uart_ask; kind = uart_ask_kind; payload = uart_
 abbrev pub uart_replies : Format UartReply
 uart_replies =
     record { read = read_uart_reply; kind = uart_reply_kind; payload = uart_reply_payload }
+
+-- requests of the Loopback protocol
+abbrev pub loopback_asks : Format LoopbackAsk
+loopback_asks =
+    record { read = read_loopback_ask; kind = loopback_ask_kind; payload = loopback_ask_payload }
+
+-- responses of the Loopback protocol
+abbrev pub loopback_replies : Format LoopbackReply
+loopback_replies = record {
+  read = read_loopback_reply;
+  kind = loopback_reply_kind;
+  payload = loopback_reply_payload;
+}

@@ -1,8 +1,11 @@
 -- The records that values of the code stand for.
+use Rattle.std.specs.Prelude.{ℕ, List}
 use Rattle.gb_formats.specs.GpioRecords as gpio
 use Rattle.gb_formats.specs.I2cRecords as i2c
+use Rattle.gb_formats.specs.LoopbackRecords as loopback
 use Rattle.gb_formats.specs.SpiRecords as spi
 use Rattle.gb_formats.specs.UartRecords as uart
+use Rattle.gb_bridge_payload.specs.declared.carried.Carried.{Carried}
 use Rattle.gb_bridge_payload.specs.declared.transfer_entry.TransferEntry.{TransferEntry}
 use Rattle.gb_bridge_payload.specs.declared.transfer_op.TransferOp.{TransferOp}
 use Rattle.gb_bridge_payload.specs.declared.gpio_ask.GpioAsk.{GpioAsk}
@@ -13,6 +16,10 @@ use Rattle.gb_bridge_payload.specs.declared.i2c_ask.I2cAsk.{I2cAsk}
 use Rattle.gb_bridge_payload.specs.declared.i2c_ask.I2cAsk.TheVariants as i2c_ask_is
 use Rattle.gb_bridge_payload.specs.declared.i2c_reply.I2cReply.{I2cReply}
 use Rattle.gb_bridge_payload.specs.declared.i2c_reply.I2cReply.TheVariants as i2c_reply_is
+use Rattle.gb_bridge_payload.specs.declared.loopback_ask.LoopbackAsk.{LoopbackAsk}
+use Rattle.gb_bridge_payload.specs.declared.loopback_ask.LoopbackAsk.TheVariants as loop_ask
+use Rattle.gb_bridge_payload.specs.declared.loopback_reply.LoopbackReply.{LoopbackReply}
+use Rattle.gb_bridge_payload.specs.declared.loopback_reply.LoopbackReply.TheVariants as loop_reply
 use Rattle.gb_bridge_payload.specs.declared.spi_ask.SpiAsk.{SpiAsk}
 use Rattle.gb_bridge_payload.specs.declared.spi_ask.SpiAsk.TheVariants as spi_ask_is
 use Rattle.gb_bridge_payload.specs.declared.spi_reply.SpiReply.{SpiReply}
@@ -117,3 +124,29 @@ entry_of entry = record {
   bits = entry.bits;
   flags = entry.flags;
 }
+
+-- the numbers and the bytes that a payload of the Loopback protocol has
+abbrev pub Pieces : Type 0
+Pieces = ℕ × ℕ × List ℕ
+
+-- such a record as its pieces
+abbrev pub pieces : ℕ → ℕ → List ℕ → Pieces
+pieces first second bytes = (first, second, bytes)
+
+-- the pieces of a value
+abbrev pub carried_of : Carried → Pieces
+carried_of c = pieces c.first c.second c.bytes.now
+
+-- a request of the Loopback protocol
+abbrev pub loopback_ask_of : LoopbackAsk → loopback.LoopbackAsk
+loopback_ask_of loop_ask.Ping = loopback.LoopbackAsk.Ping
+loopback_ask_of (loop_ask.Transfer c) =
+    loopback.LoopbackAsk.Transfer c.first c.second c.bytes.now
+loopback_ask_of (loop_ask.Sink c) = loopback.LoopbackAsk.Sink c.first c.second c.bytes.now
+
+-- a response of the Loopback protocol
+abbrev pub loopback_reply_of : LoopbackReply → loopback.LoopbackReply
+loopback_reply_of loop_reply.Ping = loopback.LoopbackReply.Ping
+loopback_reply_of (loop_reply.Transfer c) =
+    loopback.LoopbackReply.Transfer c.first c.second c.bytes.now
+loopback_reply_of loop_reply.Sink = loopback.LoopbackReply.Sink

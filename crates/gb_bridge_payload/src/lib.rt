@@ -1,7 +1,8 @@
-//! Reads and writes the payloads of the bridged protocols: GPIO, I2C, SPI and UART.
+//! Reads and writes the payloads of the bridged protocols: GPIO, I2C, SPI, UART and Loopback.
 #![tactic(auto)]
 
 mod bridge_fault;
+mod carried;
 mod gpio_ask;
 pub mod gpio_kinds;
 mod gpio_reply;
@@ -9,6 +10,9 @@ mod i2c_ask;
 pub mod i2c_kinds;
 mod i2c_reply;
 mod limits;
+mod loopback_ask;
+pub mod loopback_kinds;
+mod loopback_reply;
 mod reading;
 mod served;
 mod spi_ask;
@@ -22,6 +26,7 @@ mod uart_reply;
 mod writing;
 
 pub use bridge_fault::BridgeFault;
+pub use carried::Carried;
 pub use gb_payload::{
     INVALID, NONEXISTENT, OVERFLOW, PROTOCOL_BAD, PayloadFault, SUCCESS, fault_result,
 };
@@ -30,6 +35,8 @@ pub use gpio_reply::GpioReply;
 pub use i2c_ask::I2cAsk;
 pub use i2c_reply::I2cReply;
 pub use limits::MOST_PAYLOAD;
+pub use loopback_ask::LoopbackAsk;
+pub use loopback_reply::LoopbackReply;
 pub use served::{answered, done, refused};
 pub use spi_ask::SpiAsk;
 pub use spi_reply::SpiReply;
