@@ -1,30 +1,17 @@
 //! Answers of the supervisory controller.
 
 ghost use Rattle.std.specs.Prelude.{◌≡◌, []};
-ghost use Rattle.gb_formats.specs.Results.{fault_result, success};
+ghost use Rattle.gb_formats.specs.Results.{success};
 ghost use Rattle.gb_formats.specs.SvcRecords.{svc_reply_payload};
 ghost use Rattle.gb_machine.specs.SvcTable.{Answered};
-ghost use Rattle.gb_payload.specs.Answers.{fault_of};
 ghost use Rattle.gb_payload.specs.Views.{svc_reply_of};
 ghost use Rattle.gb_svc.specs.Served.{served_of};
 ghost use Rattle.gb_switch.specs.Climbing.{told};
 
 use crate::SvcServed;
 use arrayvec::ArrayVec;
-use gb_payload::{PayloadFault, SvcReply};
+use gb_payload::{SUCCESS, SvcReply};
 use gb_switch::Rung;
-
-/// The request was served (Greybus Specification, "Operation Status Values").
-const SUCCESS: u8 = 0x00;
-
-/// The supervisory controller has no request of this type.
-pub const PROTOCOL_BAD: u8 = 0x04;
-
-/// The payload or a value doesn't fit.
-pub const INVALID: u8 = 0x06;
-
-/// What is asked for isn't there.
-pub const NONEXISTENT: u8 = 0x08;
 
 /// The type of an interface that speaks Greybus.
 const GREYBUS: u8 = 3;
@@ -53,16 +40,6 @@ pub fn refusal(code: u8) -> SvcServed
     SvcServed::Answer {
         result: code,
         payload: ArrayVec::new(),
-    }
-}
-
-/// The result where a payload is no record.
-pub fn result_of(fault: PayloadFault) -> u8
-    ensures { result ≡ fault_result (fault_of fault) }
-{
-    match fault {
-        PayloadFault::UnknownKind => PROTOCOL_BAD,
-        PayloadFault::Mismatch { .. } => INVALID,
     }
 }
 

@@ -11,8 +11,8 @@ ghost use Rattle.gb_switch.specs.Stands.{Stands};
 ghost use Rattle.gb_switch.specs.declared.ladder.Ladder as code;
 
 use crate::SvcServed;
-use crate::answers::{INVALID, NONEXISTENT, PROTOCOL_BAD, answer, refusal, reply_to, result_of};
-use gb_payload::{SvcAsk, SvcReply};
+use crate::answers::{answer, refusal, reply_to};
+use gb_payload::{INVALID, NONEXISTENT, PROTOCOL_BAD, SvcAsk, SvcReply, fault_result};
 use gb_switch::{Ladder, NotReady, Rung};
 
 /// The interface of the application processor.
@@ -30,7 +30,7 @@ pub fn serve(ladder: &mut Ladder, kind: u8, payload: &[u8]) -> SvcServed
 {
     match SvcAsk::read_of_ap(kind, payload) {
         Ok(ask) => serve_ask(ladder, ask),
-        Err(fault) => refusal(result_of(fault)),
+        Err(fault) => refusal(fault_result(fault)),
     }
 }
 

@@ -22,6 +22,7 @@ use crate::svc::SVC;
 use gb_base::{Entries, Kind, OutOfMemory, Refusal, Side};
 use gb_bridge_payload::MOST_PAYLOAD;
 use gb_module::Module;
+use gb_payload::svc_kinds::{HELLO, MODULE_INSERTED, MODULE_REMOVED, PROTOCOL_VERSION};
 
 impl Parties {
     /// The supervisory controller starts: it sends its version, HELLO, and what is plugged.
@@ -35,8 +36,8 @@ impl Parties {
         }
         begin(told)?;
         self.booted = true;
-        self.svc_ask(0x01, &[0, 1], told)?;
-        self.svc_ask(0x02, &[1, 0, 1], told)?;
+        self.svc_ask(PROTOCOL_VERSION, &[0, 1], told)?;
+        self.svc_ask(HELLO, &[1, 0, 1], told)?;
         for i in 0..self.modules.count() {
             if let Some(intf) = self.modules.intf_at(i) {
                 self.tell_inserted(intf, told)?;
@@ -147,7 +148,7 @@ impl Parties {
         ensures step { OnOk result ((s : State) → PartsStand [] self.old s
             → Does self.new (tells_inserted intf) s told.old told.new) }
     {
-        self.svc_ask(0x1f, &[intf, 1, 0, 0], told)?;
+        self.svc_ask(MODULE_INSERTED, &[intf, 1, 0, 0], told)?;
         Ok(())
     }
 
@@ -157,7 +158,7 @@ impl Parties {
             (when s.booted (tells_removed intf)) s told.old told.new) }
     {
         if self.booted {
-            self.svc_ask(0x20, &[intf], told)?;
+            self.svc_ask(MODULE_REMOVED, &[intf], told)?;
         }
         Ok(())
     }

@@ -3,17 +3,28 @@
 ghost use Rattle.std.specs.Prelude.{◌≡◌};
 ghost use Rattle.gb_machine.specs.Refusals.{is_reserved};
 
+use gb_payload::svc_kinds::{
+    CONN_CREATE, CONN_DESTROY, INTF_ACTIVATE, INTF_DEVICE_ID, REFCLK_ENABLE, ROUTE_CREATE,
+    ROUTE_DESTROY, UNIPRO_ENABLE, VSYS_ENABLE,
+};
+
 /// The number of the connection of the supervisory controller.
 pub const SVC: u64 = 1;
 
-/// Whether the application processor keeps a type for its own sequences: INTF_DEVICE_ID,
-/// CONN_CREATE, CONN_DESTROY, ROUTE_CREATE, ROUTE_DESTROY, VSYS_ENABLE, REFCLK_ENABLE,
-/// UNIPRO_ENABLE and INTF_ACTIVATE.
+/// Whether the application processor keeps a type for its own sequences.
 pub fn is_reserved(kind: u8) -> bool
     ensures { result ≡ is_reserved kind }
 {
     matches!(
         kind,
-        0x03 | 0x07 | 0x08 | 0x0b | 0x0c | 0x21 | 0x23 | 0x25 | 0x27
+        INTF_DEVICE_ID
+            | CONN_CREATE
+            | CONN_DESTROY
+            | ROUTE_CREATE
+            | ROUTE_DESTROY
+            | VSYS_ENABLE
+            | REFCLK_ENABLE
+            | UNIPRO_ENABLE
+            | INTF_ACTIVATE
     )
 }
