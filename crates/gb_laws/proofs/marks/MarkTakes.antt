@@ -53,7 +53,8 @@ module _ (m : Moment) (basis : Basis (resting m.told m.before))
       → ((c : Connection) → IsIn c m.before.bus.connections → c.number ≡ p.connection.number
       → c.number ≡ 1
       → marks_of i ps m.before.bus (queue side.Ap (without_front p.side c))
-      ≡ marks_of i ps m.before.bus (queue side.Ap c)) → (p.side ≡ side.Ap → p.connection.number ≡ 1 → ⊥)
+      ≡ marks_of i ps m.before.bus (queue side.Ap c))
+      → (p.side ≡ side.Ap → p.connection.number ≡ 1 → ⊥)
       → Taken m i (marks i ps m.before.bus)
       (marks i ps (popped p.connection.number p.side m.before.bus))
   elsewhere at p i ps named is keeps other =

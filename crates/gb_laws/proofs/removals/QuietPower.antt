@@ -216,7 +216,8 @@ module _ (m : Moment) (i : ℕ) (basis : Basis (resting m.told m.before))
 
           begins : enumerates i (Ok ask) ≡ true → (t : Bool) → starts i ask ≡ t → IsQuiet i b
           begins g true u = started a b q (serving m basis links there a q w) bus pulled
-              (host ∙ w.host) (hand ∙ idle.hand) (pending ∙ idle.pending) (asked ∙ idle.asked) (is-enumeration g)
+              (host ∙ w.host) (hand ∙ idle.hand) (pending ∙ idle.pending)
+              (asked ∙ idle.asked) (is-enumeration g)
               (λ r. subst (λ n. n ≤ 1) (sym (ap (level_of i) now ∙ becomes))
               (l.low u (start.low.low r)))
           begins g false u = later g u (is_removed i m.before) refl

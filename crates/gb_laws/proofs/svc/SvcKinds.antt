@@ -1,14 +1,12 @@
 -- The type of a request of the SVC protocol is that of the record that its payload is.
-use Rattle.std.proofs.Common.{Bool, List, Some, ap, cond, false, length, refl, subst, sym, true, ℕ}
+use Rattle.std.proofs.Common.{Bool, List, Some, ap, cond, false, length, refl, sym, true, ℕ}
 use Rattle.std.proofs.Common.{[], ◌∙◌, ◌∷◌, ◌≡◌}
 use Rattle.std.specs.List.{find}
 use Rattle.std.specs.Prelude.{Err, Ok, Result, min, sum, ◌+◌, ◌==◌}
 use Rattle.gb_formats.specs.Records.{PayloadFault, Row, fields_of, read_row, read_table}
-use Rattle.gb_formats.specs.SvcRecords.{SvcAsk, read_svc_ask, read_svc_ask_of_svc, svc_ask_kind}
-use Rattle.gb_formats.specs.SvcRecords.{svc_asks}
-use Rattle.gb_machine.specs.{Host.first_host, HostServing.notified_by, Members.Each}
+use Rattle.gb_formats.specs.SvcRecords.{SvcAsk, read_svc_ask, svc_ask_kind, svc_asks}
+use Rattle.gb_machine.specs.{Members.Each}
 use Rattle.gb_invariants.proofs.Outcomes.{same-number}
-use Rattle.gb_laws.proofs.marks.Marks.{notice_of}
 
 -- the records of a row have its type
 abbrev HasKind : Row SvcAsk → Type 0
@@ -85,13 +83,3 @@ svc-kind kind payload made h = read-kind svc_asks have kind payload made h
         ),
       ),
     )
-
--- ---- what is noticed of a request
-
-notice-read : (kind : ℕ) (payload : List ℕ) (made : SvcAsk) → read_svc_ask kind payload ≡ Ok made
-    → read_svc_ask_of_svc (svc_ask_kind made) payload ≡ read_svc_ask (svc_ask_kind made) payload
-    → notice_of kind payload ≡ (notified_by (Ok made) first_host).notices
-notice-read kind payload made e own =
-    ap (λ x. (notified_by x first_host).notices)
-    (subst (λ k. read_svc_ask_of_svc k payload ≡ read_svc_ask k payload)
-    (svc-kind kind payload made e) own ∙ e)
