@@ -95,7 +95,7 @@ impl Port {
     pub fn serve(&mut self, kind: u8, payload: &[u8]) -> Result<Served, OutOfMemory>
         ensures { ServesAs (port_step self.old kind payload.now) self.old self.new result }
     {
-        let served = self.device.serve(kind, payload)?;
+        let served = self.device.serve(self.alloc, kind, payload)?;
         Ok(Served {
             result: served.result,
             payload: served.payload,
