@@ -13,6 +13,7 @@ writes-kind kind.I2c = refl
 writes-kind kind.Spi = refl
 writes-kind kind.Uart = refl
 writes-kind kind.Bridge = refl
+writes-kind kind.Loopback = refl
 
 -- what is written of it is its manifest
 pub written-kind : (k : Kind) (spec : ManifestSpec) (bytes : List ℕ) → spec ≡ kind_spec k
@@ -28,3 +29,4 @@ raw-kind kind.I2c = refl
 raw-kind kind.Spi = refl
 raw-kind kind.Uart = refl
 raw-kind kind.Bridge = refl
+raw-kind kind.Loopback = refl

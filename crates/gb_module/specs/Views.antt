@@ -20,6 +20,7 @@ seen (device.Gpio gpio) = devices.Gpio gpio
 seen (device.I2c i2c) = devices.I2c i2c
 seen (device.Spi spi) = devices.Spi spi
 seen (device.Uart uart) = devices.Uart
+seen (device.Loopback loopback) = devices.Loopback
 
 -- what comes from outside
 abbrev pub stir_of : Stir → devices.Stir

@@ -9,10 +9,11 @@ ghost use Rattle.gb_module.specs.Stirring.{IsStir, SetsLevel, StirsAs};
 ghost use Rattle.gb_module.specs.Views.{seen, stir_of};
 ghost use Rattle.gb_module.specs.declared.stir.Stir.TheVariants as stir;
 
-use crate::protocols::{GPIO, I2C, SPI, UART};
+use crate::protocols::{GPIO, I2C, LOOPBACK, SPI, UART};
 use crate::stir::{Stir, StirFault};
 use gb_base::{Bytes, OutOfMemory, OwnAsk, OwnAsks, Served};
 use gb_bridge_payload::gpio_kinds::IRQ_EVENT;
+use gb_firmware::Loopback;
 use std::alloc::Global;
 
 /// The device behind a CPort, one for each protocol that has one.
@@ -26,6 +27,8 @@ pub enum Device {
     Spi(gb_spi::Device),
     /// A UART that echoes.
     Uart(gb_uart::Device),
+    /// A loopback.
+    Loopback(Loopback),
 }
 
 impl Device {
@@ -38,6 +41,7 @@ impl Device {
             I2C => Ok(Some(Device::I2c(gb_i2c::Device::new(alloc)?))),
             SPI => Ok(Some(Device::Spi(gb_spi::Device::new(alloc)?))),
             UART => Ok(Some(Device::Uart(gb_uart::Device::new(alloc)?))),
+            LOOPBACK => Ok(Some(Device::Loopback(Loopback))),
             _ => Ok(None),
         }
     }
@@ -51,12 +55,13 @@ impl Device {
             Device::I2c(i2c) => i2c.restart(),
             Device::Spi(spi) => spi.restart(),
             Device::Uart(uart) => uart.restart(),
+            Device::Loopback(_) => {}
         }
     }
 
     /// Serves a request of the application processor. An answer of few bytes without requests takes
     /// no memory. After want of memory the device is as before.
-    pub fn serve(&mut self, kind: u8, payload: &[u8]) -> Result<Served, OutOfMemory>
+    pub fn serve(&mut self, alloc: Global, kind: u8, payload: &[u8]) -> Result<Served, OutOfMemory>
         ensures step { ServesAs (device_step (seen self.old) kind payload.now)
             (seen self.old) (seen self.new) result }
         ensures few { FewSucceed (device_step (seen self.old) kind payload.now).served result }
@@ -66,6 +71,7 @@ impl Device {
             Device::I2c(i2c) => i2c.serve(kind, payload),
             Device::Spi(spi) => spi.serve(kind, payload),
             Device::Uart(uart) => uart.serve(kind, payload),
+            Device::Loopback(loopback) => loopback.serve(alloc, kind, payload),
         }
     }
 
@@ -94,6 +100,7 @@ impl Device {
             }
             Device::I2c(_) => Err(StirFault::NoCport),
             Device::Spi(_) => Err(StirFault::NoCport),
+            Device::Loopback(_) => Err(StirFault::NoCport),
         }
     }
 }

@@ -2,10 +2,12 @@
 
 ghost use Rattle.std.specs.Prelude.{◌≡◌, ◌∷◌, [], ◌++◌, IfOk, OnOk, map};
 ghost use Rattle.gb_formats.specs.Kinds as formats;
-ghost use Rattle.gb_formats.specs.Protocols.{bridged_class, control_class};
+ghost use Rattle.gb_formats.specs.Protocols.{control_class};
 ghost use Rattle.gb_manifest.specs.Writes.{bundle_spec, cport_spec, spec_of, string_spec};
 
-use crate::protocols::{BRIDGED_CLASS, CONTROL, CONTROL_CLASS, GPIO, I2C, SPI, UART};
+use crate::protocols::{
+    BRIDGED_CLASS, CONTROL, CONTROL_CLASS, GPIO, I2C, LOOPBACK, LOOPBACK_CLASS, SPI, UART,
+};
 use gb_base::{Bytes, Kind, OutOfMemory};
 use gb_manifest::{
     BundleSpec, Bundles, CportSpec, Cports, ManifestSpec, StringSpec, Strings, WriteFault, write,
@@ -35,7 +37,7 @@ fn spec(alloc: Global, kind: Kind) -> Result<ManifestSpec, OutOfMemory>
         product: 2,
         features: 0,
         strings: strings(alloc, kind)?,
-        bundles: bundles(alloc)?,
+        bundles: bundles(alloc, kind)?,
         cports: cports(alloc, kind)?,
     })
 }
@@ -62,9 +64,9 @@ fn string(alloc: Global, id: u8, bytes: &[u8]) -> Result<StringSpec, OutOfMemory
 }
 
 /// Bundle 0, for Control, and bundle 1.
-fn bundles(alloc: Global) -> Result<Bundles, OutOfMemory>
+fn bundles(alloc: Global, kind: Kind) -> Result<Bundles, OutOfMemory>
     ensures { IfOk result (λ bundles. map bundle_spec bundles
-        ≡ formats.bundle_of 0 control_class ∷ formats.bundle_of 1 bridged_class ∷ []) }
+        ≡ formats.bundle_of 0 control_class ∷ formats.bundle_of 1 (formats.class_of kind) ∷ []) }
 {
     let mut bundles = Bundles::new(alloc);
     bundles.extend(&[
@@ -74,10 +76,20 @@ fn bundles(alloc: Global) -> Result<Bundles, OutOfMemory>
         },
         BundleSpec {
             id: 1,
-            class: BRIDGED_CLASS,
+            class: class(kind),
         },
     ])?;
     Ok(bundles)
+}
+
+/// The class of bundle 1.
+fn class(kind: Kind) -> u8
+    ensures { result ≡ formats.class_of kind }
+{
+    match kind {
+        Kind::Loopback => LOOPBACK_CLASS,
+        _ => BRIDGED_CLASS,
+    }
 }
 
 /// The product string of a kind.
@@ -90,6 +102,7 @@ fn product(kind: Kind) -> &'static [u8]
         Kind::Spi => b"SPI",
         Kind::Uart => b"UART",
         Kind::Bridge => b"Bridge",
+        Kind::Loopback => b"Loopback",
     }
 }
 
@@ -114,6 +127,7 @@ fn cports(alloc: Global, kind: Kind) -> Result<Cports, OutOfMemory>
             bridged(3, SPI),
             bridged(4, UART),
         ])?,
+        Kind::Loopback => cports.extend(&[bridged(1, LOOPBACK)])?,
     }
     Ok(cports)
 }

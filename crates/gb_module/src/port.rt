@@ -98,7 +98,7 @@ impl Port {
         ensures step { ServesAs (port_step self.old kind payload.now) self.old self.new result }
         ensures few { FewSucceed (device_step self.old.device kind payload.now).served result }
     {
-        let served = self.device.serve(kind, payload)?;
+        let served = self.device.serve(self.alloc, kind, payload)?;
         Ok(Served {
             result: served.result,
             payload: served.payload,

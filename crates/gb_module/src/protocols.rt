@@ -16,8 +16,14 @@ pub const UART: u8 = 0x04;
 /// The SPI protocol.
 pub const SPI: u8 = 0x0b;
 
+/// The Loopback protocol.
+pub const LOOPBACK: u8 = 0x11;
+
 /// The class of the control bundle.
 pub const CONTROL_CLASS: u8 = 0x00;
 
 /// The class of a bundle of bridged protocols.
 pub const BRIDGED_CLASS: u8 = 0x0a;
+
+/// The class of a bundle of a loopback device.
+pub const LOOPBACK_CLASS: u8 = 0x11;
