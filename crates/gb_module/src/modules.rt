@@ -46,8 +46,7 @@ impl Module {
     pub fn of_kind(alloc: Global, kind: Kind) -> Result<Module, OutOfMemory>
         ensures { IfOk result (λ made. made ≡ module_of_kind kind) }
     {
-        let manifest = kinds::manifest(alloc, kind)?;
-        Module::raw(alloc, manifest.items())
+        Module::raw(alloc, kinds::manifest(kind))
     }
 
     /// A module with these bytes as its manifest, at most 2,040, and with all CPorts off. Where the

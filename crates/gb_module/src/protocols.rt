@@ -1,8 +1,4 @@
-//! Protocols and classes (in Linux's greybus_manifest.h `GREYBUS_PROTOCOL_..` and
-//! `GREYBUS_CLASS_..`).
-
-/// The protocol of a Control CPort.
-pub const CONTROL: u8 = 0x00;
+//! Protocols (in Linux's greybus_manifest.h `GREYBUS_PROTOCOL_..`).
 
 /// The GPIO protocol.
 pub const GPIO: u8 = 0x02;
@@ -18,12 +14,3 @@ pub const SPI: u8 = 0x0b;
 
 /// The Loopback protocol.
 pub const LOOPBACK: u8 = 0x11;
-
-/// The class of the control bundle.
-pub const CONTROL_CLASS: u8 = 0x00;
-
-/// The class of a bundle of bridged protocols.
-pub const BRIDGED_CLASS: u8 = 0x0a;
-
-/// The class of a bundle of a loopback device.
-pub const LOOPBACK_CLASS: u8 = 0x11;

@@ -7,5 +7,5 @@ use Rattle.gb_module.proofs.modules.Module.of_kind.Goals as goal
 pub returns : goal.returns
 returns c =
     subst (λ (m : Module). IfOk c.raw.result (λ made. made ≡ m))
-    (ap module_raw (c.items.ensures ∙ c.in_ok-manifest.ensures) ∙ raw-kind c.args.kind)
+    (ap module_raw c.manifest.ensures.is ∙ raw-kind c.args.kind)
     c.raw.ensures
