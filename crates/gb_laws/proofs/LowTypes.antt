@@ -23,6 +23,8 @@ use Rattle.gb_formats.specs.I2cDevice.{I2cDevice, after_op, has_strange_flags, i
 use Rattle.gb_formats.specs.I2cDevice.{i2c_transfer_step, is_elsewhere, op_read_bytes, ops_run}
 use Rattle.gb_formats.specs.I2cRecords.{I2cAsk, TransferOp, op_read_size, op_size, op_written_size}
 use Rattle.gb_formats.specs.I2cRecords.{ops_at, read_i2c_ask}
+use Rattle.gb_formats.specs.LoopbackDevice.{loopback_read}
+use Rattle.gb_formats.specs.LoopbackRecords.{LoopbackAsk, read_loopback_ask}
 use Rattle.gb_formats.specs.Module.{CportState, Module, ModulePort, Off, On, Quiet, if_on, is_on}
 use Rattle.gb_formats.specs.Module.{port_at}
 use Rattle.gb_formats.specs.ModuleSteps.{module_serve, module_stir, port_served, port_stir}
@@ -59,6 +61,7 @@ step-low _ = omega arith
 request-low : (what : BridgeAsk) → (ask_request what).0 < 128
 request-low (ask.Gpio kind line value) = grind arith
 request-low (ask.UartByte kind value) = grind arith
+request-low (ask.LoopBytes kind bytes) = grind arith
 request-low _ = omega arith
 
 same-ok : (x y : ℕ × List ℕ) (r : Result (ℕ × List ℕ) BridgeFault) → r ≡ Ok x → r ≡ Ok y → x ≡ y
@@ -213,6 +216,11 @@ uart_read-low : (read : Result UartAsk PayloadFault) → AreLow (uart_read read)
 uart_read-low (Ok ask) = uart-low ask
 uart_read-low (Err fault) = tt
 
+-- Loopback
+loopback_read-low : (read : Result LoopbackAsk PayloadFault) → AreLow (loopback_read read).asks
+loopback_read-low (Ok ask) = tt
+loopback_read-low (Err fault) = tt
+
 device-low : (device : Device) (kind : ℕ) (payload : List ℕ)
     → AreLow (device_step device kind payload).served.asks
 device-low (devices.Gpio lines) kind payload =
@@ -220,6 +228,7 @@ device-low (devices.Gpio lines) kind payload =
 device-low (devices.I2c device) kind payload = i2c_read-low device (read_i2c_ask kind payload)
 device-low (devices.Spi last) kind payload = spi_read-low last (read_spi_ask kind payload)
 device-low devices.Uart kind payload = uart_read-low (read_uart_ask_of_ap kind payload)
+device-low devices.Loopback kind payload = loopback_read-low (read_loopback_ask kind payload)
 
 -- requests are left out or not
 if_on-low : (state : CportState) (asks : List OwnAsk) → AreLow asks → AreLow (if_on state asks)
@@ -282,6 +291,7 @@ device_stir-low (devices.Gpio lines) (devices.Serial control) t is = absurd cc
 device_stir-low (devices.I2c device) stir t is = absurd cc
 device_stir-low (devices.Spi last) stir t is = absurd cc
 device_stir-low devices.Uart (devices.Level which new) t is = absurd cc
+device_stir-low devices.Loopback stir t is = absurd cc
 
 -- What a module asks where a device of it is stirred.
 pub stir-low : (m : Module) (c : ℕ) (stir : Stir) (t : Stirred Module)

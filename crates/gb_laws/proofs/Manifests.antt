@@ -68,6 +68,7 @@ kind-short kinds.I2c = omega arith
 kind-short kinds.Spi = omega arith
 kind-short kinds.Uart = omega arith
 kind-short kinds.Bridge = omega arith
+kind-short kinds.Loopback = omega arith
 
 pub raw-short : (s : State) (i : ℕ) (manifest : List ℕ)
     → refusal s (event.InsertRaw i manifest) ≡ None
