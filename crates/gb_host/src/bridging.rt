@@ -11,7 +11,7 @@ ghost use Rattle.gb_machine.specs.Host.{link_of, with_link};
 ghost use Rattle.gb_machine.specs.LineActions.{spent};
 
 use crate::Host;
-use crate::protocols::{GPIO, I2C, SPI, UART};
+use crate::protocols::{GPIO, I2C, LOOPBACK, SPI, UART};
 use gb_base::{BridgeAsk, Bridged, Reading, Refusal};
 use gb_bridge_payload::BridgeFault;
 
@@ -96,6 +96,7 @@ fn written(protocol: u8, ask: &BridgeAsk, out: &mut [u8]) -> Result<Bridged, Bri
         I2C => gb_i2c::bridge(ask, out),
         UART => gb_uart::bridge(ask, out),
         SPI => gb_spi::bridge(ask, out),
+        LOOPBACK => gb_firmware::bridge(ask, out),
         _ => Err(BridgeFault::Unsupported),
     }
 }

@@ -13,6 +13,9 @@ pub const UART: u8 = 0x04;
 /// The protocol of SPI.
 pub const SPI: u8 = 0x0b;
 
+/// The protocol of a loopback device.
+pub const LOOPBACK: u8 = 0x11;
+
 /// The credits with which a connection begins, and which they never pass.
 pub const MOST_CREDITS: u16 = 4096;
 

@@ -18,7 +18,7 @@ ghost use Rattle.gb_machine.specs.Lists.{first_met, holds_of};
 ghost use Rattle.gb_manifest.specs.Values.{view_of};
 
 use crate::Host;
-use crate::protocols::{GPIO, I2C, SPI, UART};
+use crate::protocols::{GPIO, I2C, LOOPBACK, SPI, UART};
 use gb_base::{ConnState, Interface, IntfStage, Refusal};
 use gb_manifest::{CportView, check};
 
@@ -162,9 +162,9 @@ pub(crate) fn declared(interface: &Interface, cport: u16) -> Option<CportView>
     if view.bundle == 0 { None } else { Some(view) }
 }
 
-/// The protocol of a CPort is connected: GPIO, I2C, UART or SPI.
+/// The protocol of a CPort is connected: GPIO, I2C, UART, SPI or Loopback.
 fn is_bridged(view: CportView) -> bool
     ensures { result ≡ is_bridged (view_of view) }
 {
-    matches!(view.protocol, GPIO | I2C | UART | SPI)
+    matches!(view.protocol, GPIO | I2C | UART | SPI | LOOPBACK)
 }
