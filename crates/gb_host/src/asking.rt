@@ -7,10 +7,9 @@ ghost use Rattle.gb_machine.specs.Sequences.{ap_in, asking, device_in, goes_on, 
 ghost use Rattle.gb_machine.specs.Sequences.{target, way_of};
 
 use crate::failing::to_step;
-use crate::host::Pending;
+use crate::host::{Pending, SVC};
 use crate::interfaces::Change;
 use crate::payloads::{Target, asks_control, kind, payload};
-use crate::protocols::SVC;
 use crate::{Act, Acts, Host};
 use gb_base::{ConnState, OutOfMemory, Purpose, SequenceStep};
 

@@ -11,9 +11,9 @@ ghost use Rattle.gb_machine.specs.Host.{link_of, with_link};
 ghost use Rattle.gb_machine.specs.LineActions.{spent};
 
 use crate::Host;
-use crate::protocols::{GPIO, I2C, LOOPBACK, SPI, UART};
 use gb_base::{BridgeAsk, Bridged, Reading, Refusal};
 use gb_bridge_payload::BridgeFault;
+use gb_payload::protocols::{GPIO, I2C, LOOPBACK, SPI, UART};
 
 impl Host {
     ghost use Rattle.gb_host.specs.Bridging.{BridgesOn, reading_on};

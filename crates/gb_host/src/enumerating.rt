@@ -16,12 +16,13 @@ ghost use Rattle.gb_machine.specs.Turns as turns;
 ghost use Rattle.gb_machine.specs.Turns.{failed_turn, telling, turn};
 
 use crate::failing::{tell_interface, to_step};
+use crate::host::SVC;
 use crate::interfaces::Change;
-use crate::protocols::{CONTROL, SVC};
 use crate::replies::{refused_in, size_in};
 use crate::{Act, Acts, Host};
 use gb_base::{Bytes, ConnState, Entry, IntfStage, OutOfMemory, Purpose, SequenceStep};
 use gb_manifest::Refused;
+use gb_payload::protocols::CONTROL;
 
 impl Host {
     ghost use Rattle.gb_host.specs.Stands.{host_of};

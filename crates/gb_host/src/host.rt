@@ -9,6 +9,9 @@ use crate::interfaces::Interfaces;
 use gb_base::{ConnState, Interface, IntfStage, OutOfMemory};
 use std::alloc::Global;
 
+/// The connection of the supervisory controller.
+pub const SVC: u64 = 1;
+
 /// What the application processor tells of an interface.
 #[derive(Clone, Copy)]
 pub struct IntfView {

@@ -8,14 +8,8 @@ ghost use Rattle.gb_machine.specs.SequenceSteps.{asks_control, kind_of, payload_
 ghost use Rattle.gb_payload.specs.Views.{control_ask_of, svc_ask_of};
 ghost use Rattle.gb_payload.specs.declared.svc_ask.SvcAsk.TheVariants as svc_ask;
 
-use crate::kinds::{
-    CONTROL_CONNECTED, CONTROL_DISCONNECTED, CONTROL_DISCONNECTING, CONTROL_GET_MANIFEST,
-    CONTROL_GET_MANIFEST_SIZE, CONTROL_VERSION, SVC_CONN_CREATE, SVC_CONN_DESTROY,
-    SVC_INTF_ACTIVATE, SVC_INTF_DEVICE_ID, SVC_REFCLK_ENABLE, SVC_ROUTE_CREATE, SVC_UNIPRO_ENABLE,
-    SVC_VSYS_ENABLE,
-};
 use gb_base::{Bytes, OutOfMemory, SequenceStep};
-use gb_payload::{ControlAsk, SvcAsk};
+use gb_payload::{ControlAsk, SvcAsk, control_kinds, svc_kinds};
 use std::alloc::Global;
 
 /// The interface of the application processor, which is its device id too.
@@ -55,21 +49,21 @@ pub fn kind(step: SequenceStep) -> u8
     ensures { result ≡ kind_of step }
 {
     match step {
-        SequenceStep::EnableVsys => SVC_VSYS_ENABLE,
-        SequenceStep::EnableRefclk => SVC_REFCLK_ENABLE,
-        SequenceStep::EnableUnipro => SVC_UNIPRO_ENABLE,
-        SequenceStep::Activate => SVC_INTF_ACTIVATE,
-        SequenceStep::GiveDevice => SVC_INTF_DEVICE_ID,
-        SequenceStep::CreateRoute => SVC_ROUTE_CREATE,
-        SequenceStep::CreateControl => SVC_CONN_CREATE,
-        SequenceStep::AskVersion => CONTROL_VERSION,
-        SequenceStep::AskSize => CONTROL_GET_MANIFEST_SIZE,
-        SequenceStep::AskManifest => CONTROL_GET_MANIFEST,
-        SequenceStep::CreateConnection => SVC_CONN_CREATE,
-        SequenceStep::TellConnected => CONTROL_CONNECTED,
-        SequenceStep::TellDisconnecting => CONTROL_DISCONNECTING,
-        SequenceStep::TellDisconnected => CONTROL_DISCONNECTED,
-        SequenceStep::DestroyConnection => SVC_CONN_DESTROY,
+        SequenceStep::EnableVsys => svc_kinds::VSYS_ENABLE,
+        SequenceStep::EnableRefclk => svc_kinds::REFCLK_ENABLE,
+        SequenceStep::EnableUnipro => svc_kinds::UNIPRO_ENABLE,
+        SequenceStep::Activate => svc_kinds::INTF_ACTIVATE,
+        SequenceStep::GiveDevice => svc_kinds::INTF_DEVICE_ID,
+        SequenceStep::CreateRoute => svc_kinds::ROUTE_CREATE,
+        SequenceStep::CreateControl => svc_kinds::CONN_CREATE,
+        SequenceStep::AskVersion => control_kinds::VERSION,
+        SequenceStep::AskSize => control_kinds::GET_MANIFEST_SIZE,
+        SequenceStep::AskManifest => control_kinds::GET_MANIFEST,
+        SequenceStep::CreateConnection => svc_kinds::CONN_CREATE,
+        SequenceStep::TellConnected => control_kinds::CONNECTED,
+        SequenceStep::TellDisconnecting => control_kinds::DISCONNECTING,
+        SequenceStep::TellDisconnected => control_kinds::DISCONNECTED,
+        SequenceStep::DestroyConnection => svc_kinds::CONN_DESTROY,
     }
 }
 

@@ -18,9 +18,11 @@ ghost use Rattle.gb_machine.specs.Lists.{first_met, holds_of};
 ghost use Rattle.gb_manifest.specs.Values.{view_of};
 
 use crate::Host;
-use crate::protocols::{GPIO, I2C, LOOPBACK, SPI, UART};
 use gb_base::{ConnState, Interface, IntfStage, Refusal};
+use gb_bridge_payload::uart_kinds::SEND_DATA;
 use gb_manifest::{CportView, check};
+use gb_payload::control_kinds::{CONNECTED, DISCONNECTED, DISCONNECTING};
+use gb_payload::protocols::{GPIO, I2C, LOOPBACK, SPI, UART};
 
 impl Host {
     ghost use Rattle.gb_host.specs.Refusing.{RefusesAs, SendsAs};
@@ -109,8 +111,9 @@ impl Host {
             → result ≡ holds_of (λ l. is_kept l kind) (link_at intf cport h) }
     {
         match self.links.at(intf, cport) {
-            Some(link) => link.cport == 0 && matches!(kind, 0x05 | 0x06 | 0x0c)
-                || link.protocol == UART && kind == 0x02,
+            Some(link) => link.cport == 0
+                && matches!(kind, CONNECTED | DISCONNECTED | DISCONNECTING)
+                || link.protocol == UART && kind == SEND_DATA,
             None => false,
         }
     }

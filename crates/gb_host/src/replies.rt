@@ -9,10 +9,10 @@ ghost use Rattle.gb_machine.specs.Sequences.{payload_in, size_in};
 ghost use Rattle.gb_manifest.specs.Values.{refused_of};
 ghost use Rattle.gb_payload.specs.Views.{svc_reply_of};
 
-use crate::kinds::CONTROL_GET_MANIFEST_SIZE;
 use crate::payloads::{asks_control, kind};
 use gb_base::{Bytes, Outcome, SequenceStep};
 use gb_manifest::{Refused, check};
+use gb_payload::control_kinds::GET_MANIFEST_SIZE;
 use gb_payload::{ControlReply, SvcReply};
 
 /// The result byte of success (Greybus Specification, "Operation Status Values").
@@ -65,7 +65,7 @@ fn is_svc_reply(reply: SvcReply) -> bool
 pub fn size_in(payload: &[u8]) -> u16
     ensures { result ≡ size_in (read_control_reply 3 payload.now) }
 {
-    match ControlReply::read(CONTROL_GET_MANIFEST_SIZE, payload) {
+    match ControlReply::read(GET_MANIFEST_SIZE, payload) {
         Ok(ControlReply::GetManifestSize { size }) => size,
         Ok(_) => 0,
         Err(_) => 0,

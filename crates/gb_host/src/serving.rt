@@ -13,11 +13,12 @@ ghost use Rattle.gb_machine.specs.HostServing.{serves_uart, uart_notified};
 ghost use Rattle.gb_payload.specs.Answers.{fault_of};
 ghost use Rattle.gb_payload.specs.Views.{svc_ask_of};
 
-use crate::protocols::{GPIO, MOST_CREDITS, UART};
 use crate::{Host, HostServed};
 use gb_base::{Bytes, Entry, HostEvent, Link, OutOfMemory};
 use gb_bridge_payload::{GpioAsk, INVALID, PROTOCOL_BAD, SUCCESS, UartAsk, fault_result};
 use gb_payload::SvcAsk;
+use gb_payload::protocols::{GPIO, UART};
+use gb_uart::MOST_CREDITS;
 
 /// The version of the SVC protocol: major, then minor.
 const SVC_VERSION: [u8; 2] = [0, 1];

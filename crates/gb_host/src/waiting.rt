@@ -7,8 +7,8 @@ ghost use Rattle.gb_machine.specs.SequenceSteps.{is_enumeration};
 ghost use Rattle.gb_machine.specs.Waits.{awaited, awaits, awaits_nothing, purpose_in, waiting};
 
 use crate::Host;
-use crate::protocols::MOST_CREDITS;
 use gb_base::{ConnState, Link, Purpose, SequenceStep};
+use gb_uart::MOST_CREDITS;
 
 impl Host {
     ghost use Rattle.gb_host.specs.Stands.{IsPending, Stands, host_of};

@@ -9,11 +9,11 @@ ghost use Rattle.gb_module.specs.Stirring.{IsStir, SetsLevel, StirsAs};
 ghost use Rattle.gb_module.specs.Views.{seen, stir_of};
 ghost use Rattle.gb_module.specs.declared.stir.Stir.TheVariants as stir;
 
-use crate::protocols::{GPIO, I2C, LOOPBACK, SPI, UART};
 use crate::stir::{Stir, StirFault};
 use gb_base::{Bytes, OutOfMemory, OwnAsk, OwnAsks, Served};
 use gb_bridge_payload::gpio_kinds::IRQ_EVENT;
 use gb_firmware::Loopback;
+use gb_payload::protocols::{GPIO, I2C, LOOPBACK, SPI, UART};
 use std::alloc::Global;
 
 /// The device behind a CPort, one for each protocol that has one.

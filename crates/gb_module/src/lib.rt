@@ -9,7 +9,6 @@ mod kinds;
 mod modules;
 mod port;
 mod ports;
-mod protocols;
 mod raw;
 mod stir;
 mod turn;

@@ -6,6 +6,7 @@ pub mod control_kinds;
 mod control_reply;
 mod fault;
 pub mod first;
+pub mod protocols;
 mod reading;
 mod results;
 mod svc_ask;

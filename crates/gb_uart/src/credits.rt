@@ -7,7 +7,7 @@ ghost use Rattle.gb_uart.specs.Counting.{CountsAs};
 use std::marker::Model;
 
 /// The credits with which a connection begins, and which they never pass.
-const MOST_CREDITS: u16 = 4096;
+pub const MOST_CREDITS: u16 = 4096;
 
 /// More bytes would be sent than there are credits. None were spent.
 #[derive(Clone, Copy, PartialEq, Eq)]

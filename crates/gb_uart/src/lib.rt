@@ -7,7 +7,7 @@ mod device;
 mod readings;
 
 pub use bridging::bridge;
-pub use credits::{Credits, NoCredit, TooMany};
+pub use credits::{Credits, MOST_CREDITS, NoCredit, TooMany};
 pub use device::Device;
 pub use gb_bridge_payload::BridgeFault;
 pub use readings::reading;
