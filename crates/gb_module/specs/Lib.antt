@@ -1,3 +1,4 @@
+pub mod Few
 pub mod Places
 pub mod Raw
 pub mod Steps

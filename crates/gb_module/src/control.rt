@@ -1,6 +1,7 @@
 //! The Control responder.
 
-ghost use Rattle.std.specs.Prelude.{◌≡◌, ◌≤◌, IfOk, length};
+ghost use Rattle.std.specs.Prelude.{◌≡◌, ◌≤◌, IfOk, IsOk, length};
+ghost use Rattle.gb_base.specs.Bytes.{AreFew};
 ghost use Rattle.gb_bridge_payload.specs.Serving.{ServesAs};
 ghost use Rattle.gb_formats.specs.ControlRecords.{control_reply_payload};
 ghost use Rattle.gb_formats.specs.ControlResponder.{control_asked, control_step, turn_step};
@@ -17,9 +18,11 @@ use gb_payload::{ControlAsk, ControlReply};
 use std::alloc::Global;
 
 impl Module {
-    /// Serves a request of the Control protocol. After want of memory the module is as before.
+    /// Serves a request of the Control protocol. An answer of few bytes takes no memory. After want
+    /// of memory the module is as before.
     pub(crate) fn control(&mut self, kind: u8, payload: &[u8]) -> Result<Served, OutOfMemory>
-        ensures { ServesAs (control_step self.old kind payload.now) self.old self.new result }
+        ensures step { ServesAs (control_step self.old kind payload.now) self.old self.new result }
+        ensures few { AreFew (control_step self.old kind payload.now).served.payload → IsOk result }
     {
         match ControlAsk::read(kind, payload) {
             Ok(ask) => self.answer(ask),
@@ -29,7 +32,10 @@ impl Module {
 
     /// Serves a request that was read.
     fn answer(&mut self, ask: ControlAsk) -> Result<Served, OutOfMemory>
-        ensures { ServesAs (control_asked self.old (control_ask_of ask)) self.old self.new result }
+        ensures step { ServesAs (control_asked self.old (control_ask_of ask))
+            self.old self.new result }
+        ensures few { AreFew (control_asked self.old (control_ask_of ask)).served.payload
+            → IsOk result }
     {
         match ask {
             ControlAsk::Version { .. } => tell(
@@ -57,11 +63,12 @@ impl Module {
     }
 }
 
-/// The answer of success with this response of at most two bytes.
+/// The answer of success with this response of at most two bytes, which takes no memory.
 fn tell(alloc: Global, reply: ControlReply<'_>) -> Result<Served, OutOfMemory>
     requires { length (control_reply_payload (control_reply_of reply)) ≤ 2 }
-    ensures { IfOk result
+    ensures same { IfOk result
         (λ served. served ≡ answer_of (control_reply_payload (control_reply_of reply.entry))) }
+    ensures few { IsOk result }
 {
     let mut bytes = [0; 2];
     let Ok(size) = reply.write(&mut bytes) else {

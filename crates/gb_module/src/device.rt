@@ -4,6 +4,7 @@ ghost use Rattle.std.specs.Prelude.{◌≡◌, IfOk, option_map};
 ghost use Rattle.gb_bridge_payload.specs.Serving.{ServesAs};
 ghost use Rattle.gb_formats.specs.Devices.{device_of, device_step, device_stir, restarted_device};
 ghost use Rattle.gb_formats.specs.GpioDevice.{gpio_level_set};
+ghost use Rattle.gb_module.specs.Few.{FewSucceed};
 ghost use Rattle.gb_module.specs.Stirring.{IsStir, SetsLevel, StirsAs};
 ghost use Rattle.gb_module.specs.Views.{seen, stir_of};
 ghost use Rattle.gb_module.specs.declared.stir.Stir.TheVariants as stir;
@@ -53,10 +54,12 @@ impl Device {
         }
     }
 
-    /// Serves a request of the application processor. After want of memory the device is as before.
+    /// Serves a request of the application processor. An answer of few bytes without requests takes
+    /// no memory. After want of memory the device is as before.
     pub fn serve(&mut self, kind: u8, payload: &[u8]) -> Result<Served, OutOfMemory>
-        ensures { ServesAs (device_step (seen self.old) kind payload.now)
+        ensures step { ServesAs (device_step (seen self.old) kind payload.now)
             (seen self.old) (seen self.new) result }
+        ensures few { FewSucceed (device_step (seen self.old) kind payload.now).served result }
     {
         match self {
             Device::Gpio(gpio) => gpio.serve(kind, payload),

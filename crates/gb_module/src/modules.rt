@@ -5,6 +5,7 @@ ghost use Rattle.gb_bridge_payload.specs.Serving.{ServesAs};
 ghost use Rattle.gb_formats.specs.Module.{cport_state, module_of_kind, module_raw};
 ghost use Rattle.gb_formats.specs.ModuleSteps.{module_serve, module_stir};
 ghost use Rattle.gb_formats.specs.Results.{most_payload};
+ghost use Rattle.gb_module.specs.Few.{FewSucceed, whole_answer};
 ghost use Rattle.gb_module.specs.Stirring.{IsStir, StirsAs};
 ghost use Rattle.gb_module.specs.Views.{cport_state_of, stir_of};
 
@@ -67,9 +68,12 @@ impl Module {
     /// Serves a request at a CPort: CPort 0 is the Control responder, the others have a device
     /// each. A request at a CPort without a device is PROTOCOL_BAD. Requests of the module's own
     /// are left out where the CPort isn't on; a CPort that is off serves too, though no bus hands
-    /// it a request. After want of memory the module is as before.
+    /// it a request. An answer of few bytes takes no memory where no request of its own is made or
+    /// left out. After want of memory the module is as before.
     pub fn serve(&mut self, cport: u16, kind: u8, payload: &[u8]) -> Result<Served, OutOfMemory>
-        ensures { ServesAs (module_serve self.old cport kind payload.now) self.old self.new result }
+        ensures step { ServesAs (module_serve self.old cport kind payload.now)
+            self.old self.new result }
+        ensures few { FewSucceed (whole_answer self.old cport kind payload.now) result }
     {
         if cport == CONTROL_CPORT {
             return self.control(kind, payload);

@@ -2,9 +2,10 @@
 
 ghost use Rattle.std.specs.Prelude.{◌≡◌, if◌then◌else◌};
 ghost use Rattle.gb_bridge_payload.specs.Serving.{ServesAs};
-ghost use Rattle.gb_formats.specs.Devices.{device_stir};
+ghost use Rattle.gb_formats.specs.Devices.{device_step, device_stir};
 ghost use Rattle.gb_formats.specs.Module.{first_port, if_on};
 ghost use Rattle.gb_formats.specs.Results.{invalid, success};
+ghost use Rattle.gb_module.specs.Few.{FewSucceed};
 ghost use Rattle.gb_module.specs.Steps.{port_step, port_stir};
 ghost use Rattle.gb_module.specs.Stirring.{IsStir, StirsAs};
 ghost use Rattle.gb_module.specs.Turning.{changes, wants};
@@ -91,9 +92,11 @@ impl Port {
     }
 
     /// Serves a request at its device, whose own requests are left out where the CPort isn't on.
-    /// After want of memory it is as before.
+    /// An answer of few bytes without requests takes no memory. After want of memory it is as
+    /// before.
     pub fn serve(&mut self, kind: u8, payload: &[u8]) -> Result<Served, OutOfMemory>
-        ensures { ServesAs (port_step self.old kind payload.now) self.old self.new result }
+        ensures step { ServesAs (port_step self.old kind payload.now) self.old self.new result }
+        ensures few { FewSucceed (device_step self.old.device kind payload.now).served result }
     {
         let served = self.device.serve(kind, payload)?;
         Ok(Served {

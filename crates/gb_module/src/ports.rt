@@ -7,6 +7,7 @@ ghost use Rattle.gb_formats.specs.ControlResponder.{turn_step};
 ghost use Rattle.gb_formats.specs.Module.{is_port};
 ghost use Rattle.gb_formats.specs.ModuleSteps.{port_served, port_stirred};
 ghost use Rattle.gb_formats.specs.Results.{refusal_of};
+ghost use Rattle.gb_module.specs.Few.{FewSucceed, device_answer};
 ghost use Rattle.gb_module.specs.Steps.{with_ports};
 ghost use Rattle.gb_module.specs.Stirring.{IsStir, StirsAs};
 ghost use Rattle.gb_module.specs.Turning.{changes, wants};
@@ -78,11 +79,14 @@ impl Ports {
     }
 
     /// Serves a request at the CPort with a number, which is PROTOCOL_BAD where there is no such
-    /// CPort. After want of memory all are as before.
+    /// CPort. An answer of few bytes without requests takes no memory. After want of memory all are
+    /// as before.
     pub fn serve(&mut self, number: u16, kind: u8, payload: &[u8]) -> Result<Served, OutOfMemory>
-        ensures { (manifest : List ℕ) → ServesAs (port_served (with_ports manifest self.old)
+        ensures step { (manifest : List ℕ) → ServesAs (port_served (with_ports manifest self.old)
             (find (is_port number) self.old) kind payload.now)
             (with_ports manifest self.old) (with_ports manifest self.new) result }
+        ensures few { FewSucceed
+            (device_answer (find (is_port number) self.old) kind payload.now) result }
     {
         let Some(place) = self.place(number) else {
             return Ok(refused(*self.ports.allocator(), PROTOCOL_BAD));

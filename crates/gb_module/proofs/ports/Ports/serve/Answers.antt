@@ -1,11 +1,13 @@
 -- The CPort with the number serves it, and no other changes.
-use Rattle.std.proofs.Common.{refl}
+use Rattle.std.proofs.Common.{Option, refl, subst, sym}
+use Rattle.gb_formats.specs.Module.{ModulePort}
+use Rattle.gb_module.specs.Few.{FewSucceed, device_answer}
 use Rattle.gb_module.proofs.Standing.{found-at, none-stands}
 use Rattle.gb_module.proofs.Stepping.{serves-at, serves-number}
 use Rattle.gb_module.proofs.ports.Ports.serve.Goals as goal
 
-pub returns-in_default : goal.returns-in_default
-returns-in_default c manifest =
+pub returns-in_default-clause-step : goal.returns-in_default-clause-step
+returns-in_default-clause-step c manifest =
     rw (none-stands c.args.number c.args.self.now c.place.result c.place.ensures.first
     c.in_default.is) (c.refused.ensures, refl)
 
@@ -17,14 +19,24 @@ invariant_of-self c =
     c.index_mut-port.ensures.value).stay
     c.self.inside.places c.self.invariant c.serve.new.self
     (serves-number port c.serve.new.self c.args.kind c.args.payload.now c.serve.result
-    c.serve.ensures)
+    c.serve.ensures.step)
 
-pub returns : goal.returns
-returns c manifest =
+pub returns-clause-step : goal.returns-clause-step
+returns-clause-step c manifest =
     let port = c.index_mut-port.result.now in
     serves-at c.args.number c.args.self.now c.self.inside.ports.items c.in-Some.place port
     c.serve.new.self c.args.kind c.args.payload.now manifest c.serve.result
     (found-at c.args.number c.args.self.now c.self.inside.ports.items c.place.result
     c.in-Some.place port c.place.ensures.first c.in-Some.is c.self.view_is
     c.index_mut-port.ensures.value)
-    c.serve.ensures
+    c.serve.ensures.step
+
+pub returns-clause-few : goal.returns-clause-few
+returns-clause-few c =
+    let port = c.index_mut-port.result.now in
+    subst (λ (o : Option ModulePort).
+    FewSucceed (device_answer o c.args.kind c.args.payload.now) c.serve.result)
+    (sym (found-at c.args.number c.args.self.now c.self.inside.ports.items c.place.result
+    c.in-Some.place port c.place.ensures.first c.in-Some.is c.self.view_is
+    c.index_mut-port.ensures.value).found)
+    c.serve.ensures.few
