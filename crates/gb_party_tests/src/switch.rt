@@ -141,18 +141,26 @@ const NEAR: End = End::Module { intf: 2, cport: 1 };
 /// CPort 1 of interface 3.
 const FAR: End = End::Module { intf: 3, cport: 1 };
 
+/// Two ends that have no queue get one each.
+fn join(rt: &impl Abort, queues: &mut Queues<u8>, a: End, b: End) {
+    assert!(rt; queues.len(a).is_none());
+    assert!(rt; queues.len(b).is_none());
+    queues.create(a, b).expect(rt, "memory");
+}
+
 /// The queues of three connections, in which nothing waits.
 fn three_connections(rt: &impl Abort, alloc: Global) -> Queues<u8> {
     let mut queues = Queues::new(alloc);
-    queues.create(End::Ap(0), End::Svc).expect(rt, "memory");
-    queues.create(End::Ap(7), FAR).expect(rt, "memory");
-    queues.create(End::Ap(300), NEAR).expect(rt, "memory");
+    join(rt, &mut queues, End::Ap(0), End::Svc);
+    join(rt, &mut queues, End::Ap(7), FAR);
+    join(rt, &mut queues, End::Ap(300), NEAR);
     queues
 }
 
 /// An item comes to each of these ends.
 fn fill(rt: &impl Abort, queues: &mut Queues<u8>, ends: &[End]) {
     for at in ends.iter() {
+        assert!(rt; queues.len(*at).is_some());
         queues.push(*at, 5).expect(rt, "memory");
     }
 }

@@ -1,6 +1,6 @@
 -- What the maps of queues come to at each call.
 use Rattle.std.proofs.Common.{◌≡◌, ◌≢◌, Bool, true, false, cond, ◌⊎◌, inl, inr, Option, Some, None}
-use Rattle.std.proofs.Common.{option_map, IsSome, is_some, List, [], ◌∷◌, ◌++◌, length, Result}
+use Rattle.std.proofs.Common.{option_map, IsSome, List, [], ◌∷◌, ◌++◌, length, Result}
 use Rattle.std.proofs.Common.{Ok, Err}
 use Rattle.std.proofs.Common.{OnErr, OnOk, refl, sym, ap, ◌∙◌, ⊎_elim, subst, arith}
 use Rattle.std.proofs.lemmas.Bool.{true≢false}
@@ -90,26 +90,29 @@ agrees-idle m n waiting k w u none before a p =
     (λ ne. sym (ap has_items (updated-others m n k w u p ne)))
     (is-end p k)
 
--- no queue is there where a map has none
-pub no-line : {T Z : Type 0} (m : QueueMap T Z) (k : End) (b : Bool)
-    → b ≡ is_some (queue_in m k) → b ≡ false → line_in m k ≡ None
-no-line {T} {Z} m k b there none = by (queue_in m k) (sym there ∙ none)
-  where
-    by : (o : Option (VecDeque T Z)) → is_some o ≡ false → option_map (λ q. q.items) o ≡ None
-    by None e = refl
-    by (Some q) e = absurd (true≢false e)
+-- a map has no queue at an end that has none
+pub no-line : {T Z : Type 0} (x : List (End × List T)) (m : QueueMap T Z) (at p : End)
+    → lines_of m.entries ≡ x → p ≡ at → items_at x at ≡ None → line_in m p ≡ None
+no-line x m at p is-x is-p none = ap (line_in m) is-p ∙ sym (items-line x m is-x at) ∙ none
+
+-- it has one at an end that has one
+pub has-queue : {T Z : Type 0} (x : List (End × List T)) (m : QueueMap T Z) (at p : End)
+    → lines_of m.entries ≡ x → p ≡ at → IsSome (items_at x at) → None ≡ queue_in m p → ⊥
+has-queue {T} {Z} x m at p is-x is-p there none =
+    let same : items_at x at ≡ None =
+    items-line x m is-x at ∙ ap (line_in m) (sym is-p)
+    ∙ ap (λ (o : Option (VecDeque T Z)). option_map (λ q. q.items) o) (sym none) in
+    let some : IsSome {T = List T} None = subst IsSome same there in
+    absurd (true≢false (sym some))
 
 -- ---- two queues are made
 
 pub creates : {T Z : Type 0} (x y : List (End × List T)) (m n o : QueueMap T Z)
     (a b : End) (p q : End) (v w : VecDeque T Z)
     → lines_of m.entries ≡ x → lines_of o.entries ≡ y → p ≡ a → q ≡ b
-    → line_in m p ≡ None → line_in m q ≡ None
     → Updated m n p (Some v) → Updated n o q (Some w) → v.items ≡ [] → w.items ≡ []
     → Creates x y a b
-creates x y m n o a b p q v w is-x is-y is-p is-q none-p none-q u t empty-v empty-w = record {
-  free_a = items-line x m is-x a ∙ ap (line_in m) (sym is-p) ∙ none-p;
-  free_b = items-line x m is-x b ∙ ap (line_in m) (sym is-q) ∙ none-q;
+creates x y m n o a b p q v w is-x is-y is-p is-q u t empty-v empty-w = record {
   at_a = items-line y o is-y a ∙ ap (line_in o) (sym is-p) ∙ at_p (is-end p q);
   at_b = items-line y o is-y b ∙ ap (line_in o) (sym is-q) ∙ at_q;
   others = λ at ne_a ne_b.

@@ -23,10 +23,8 @@ pub record Puts {K X : Type 0} (old new : K → Option X) (key : K) (value : Opt
 abbrev pub StaysSame : {T : Type 0} → List (End × List T) → List (End × List T) → Type 0
 StaysSame old new = (at : End) → items_at new at ≡ items_at old at
 
--- two ends that had no queue have an empty one each
+-- two ends have an empty queue each
 pub record Creates {T : Type 0} (old new : List (End × List T)) (a b : End) : Type 0 where
-  pub free_a : items_at old a ≡ None
-  pub free_b : items_at old b ≡ None
   pub at_a : items_at new a ≡ Some []
   pub at_b : items_at new b ≡ Some []
   pub others : (at : End) → at ≢ a → at ≢ b → items_at new at ≡ items_at old at

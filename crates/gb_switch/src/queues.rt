@@ -10,6 +10,7 @@ ghost use Rattle.std.specs.Prelude.{
   ◌++◌,
   IfErr,
   IfOk,
+  IsSome,
   OnErr,
   OnOk,
   length,
@@ -71,16 +72,15 @@ impl<T: Drop> Queues<T> {
         }
     }
 
-    /// Two ends have an empty queue each from now on. After want of memory, which also comes where
-    /// one of them has a queue, all is as before.
+    /// Two ends that have no queue have an empty one each from now on. After want of memory all is
+    /// as before.
     pub fn create(&mut self, a: End, b: End) -> Result<(), OutOfMemory>
+        requires free_a { items_at self.old a ≡ None }
+        requires free_b { items_at self.old b ≡ None }
         ensures created { OnOk result (Creates self.old self.new a b) }
         ensures unchanged { OnErr result (StaysSame self.old self.new) }
     {
         let (one, other) = (Place::of(a), Place::of(b));
-        if self.queues.contains_key(&one) || self.queues.contains_key(&other) {
-            return Err(OutOfMemory);
-        }
         self.queues.insert(one, VecDeque::new(self.alloc))?;
         match self.queues.insert(other, VecDeque::new(self.alloc)) {
             Ok(_) => Ok(()),
@@ -108,16 +108,17 @@ impl<T: Drop> Queues<T> {
         self.waiting.remove(place);
     }
 
-    /// Adds an item at the end of an end's queue. For want of memory, and where the end has no
-    /// queue, the item is handed back, and all is as before.
+    /// Adds an item at the end of an end's queue, which is there. For want of memory the item is
+    /// handed back, and all is as before.
     pub fn push(&mut self, at: End, item: T) -> Result<(), T>
+        requires { IsSome (items_at self.old at) }
         ensures pushed { OnOk result (Appends (items_at self.old) (items_at self.new) at item) }
         ensures back { IfErr result (λ x. x ≡ item) }
         ensures unchanged { OnErr result (StaysSame self.old self.new) }
     {
         let place = Place::of(at);
         let Some(queue) = self.queues.get_mut(&place) else {
-            return Err(item);
+            unreachable!()
         };
         append(queue, &mut self.waiting, place, item)
     }
