@@ -12,12 +12,12 @@ use Rattle.gb_labels.specs.declared.labels.NoLabel.{NoLabel}
 use Rattle.gb_machine.specs.Labels.{free_label, greatest_label, label_after}
 use Rattle.gb_ops.proofs.Keeping.{begun, late_holder, left, open_holder}
 use Rattle.gb_ops.proofs.Maps.{same_some}
-use Rattle.gb_ops.specs.Calls.{Begins, Closes, Ends, Refuses}
+use Rattle.gb_ops.specs.Calls.{Begins, Closes, Ends, IsReached, Refuses}
 use Rattle.gb_ops.specs.Finding.{IsLeast}
-use Rattle.gb_ops.specs.Operations.{Operations, next_label}
+use Rattle.gb_ops.specs.Operations.{Operations, next_label, pending_at}
 use Rattle.gb_table.specs.Table.{Puts}
 use Rattle.gb_ops.specs.Tables.{AllCovered, Enters, IsUnchanged, Kept, Leaves, LeavesAs, MarksAs}
-use Rattle.gb_ops.specs.Tables.{ReleasesAs, gave_up, holder_in, numbered, pending_in}
+use Rattle.gb_ops.specs.Tables.{Reaches, ReleasesAs, gave_up, holder_in, numbered, pending_in}
 use Rattle.gb_ops.specs.declared.entries.Holder.{Holder}
 use Rattle.gb_ops.specs.declared.entries.Pending.{Pending}
 use Rattle.gb_ops.specs.declared.tables.Tables.{Tables}
@@ -79,11 +79,24 @@ begun_kept labels after t u label n d k next above e w =
     begun labels after t u label n d k
     (none_from (holder_in t label) (sym (k.used label) ∙ next.unused)) (above n (omega arith)) e w
 
--- ---- no memory was found for a request
+-- ---- a request isn't begun
 
-pub refuses : (labels : LabelSet) (t u : Tables) (x : Operations) (label : ℕ) → Kept labels t
-    → view labels t ≡ x → IsNext labels label → IsUnchanged t u → Refuses x (view labels u)
-refuses labels t u x label k is next same = record {
+pub reached : (labels : LabelSet) (t : Tables) (x : Operations) (label n : ℕ) → Kept labels t
+    → view labels t ≡ x → IsNext labels label → Reaches t n → IsReached x x n
+reached labels t x label n k is next r = record {
+  number = r.number;
+  within = r.within;
+  there = ap (λ (o : Operations). is_some (pending_at o r.number)) (sym is) ∙ r.there;
+  label = label;
+  next = sym (next_seen labels t x k is) ∙ next.next;
+  same = refl;
+}
+
+pub refuses : (labels : LabelSet) (t u : Tables) (x : Operations) (label n : ℕ) → Kept labels t
+    → view labels t ≡ x → IsNext labels label → ((m : ℕ) → n ≤ m → pending_in t m ≡ None)
+    → IsUnchanged t u → Refuses x (view labels u) n
+refuses labels t u x label n k is next above same = record {
+  above = λ m h. ap (λ (o : Operations). pending_at o m) (sym is) ∙ above m h;
   label = label;
   next = sym (next_seen labels t x k is) ∙ next.next;
   same = holders ∙ pending ∙ is;

@@ -1,6 +1,6 @@
 -- What the calls answer, and what is kept afterwards.
 use Rattle.std.specs.Prelude.{◌≡◌, ◌≤◌, ℕ, Bool, true, false, Option, Some, None, Result, Ok}
-use Rattle.std.specs.Prelude.{Err, []}
+use Rattle.std.specs.Prelude.{Err, [], is_some}
 use Rattle.gb_ops.specs.Finding.{IsLeast, IsLeastDue, NoneDue}
 use Rattle.gb_ops.specs.Operations.{Operations, holder_of, next_label, pending_at}
 use Rattle.gb_table.specs.Table.{Puts}
@@ -28,17 +28,29 @@ pub record Begins (old new : Operations) (n deadline label : ℕ) : Type 0 where
       (Some (record { label = label; deadline = deadline }))
   pub last : new.last ≡ label
 
--- no memory was found for the request, which has an identifier left, and nothing changes
-pub record Refuses (old new : Operations) : Type 0 where
+-- an open request has this number or a greater one, an identifier is left, and nothing changes
+pub record IsReached (old new : Operations) (n : ℕ) : Type 0 where
+  pub number : ℕ
+  pub within : n ≤ number
+  pub there : is_some (pending_at old number) ≡ true
   pub label : ℕ
   pub next : next_label old ≡ Some label
   pub same : new ≡ old
 
--- A request is begun, or no identifier is left, or no memory. Then nothing changes.
+-- no memory was found for the request, which may be begun, and nothing changes
+pub record Refuses (old new : Operations) (n : ℕ) : Type 0 where
+  pub above : (m : ℕ) → n ≤ m → pending_at old m ≡ None
+  pub label : ℕ
+  pub next : next_label old ≡ Some label
+  pub same : new ≡ old
+
+-- A request is begun, or no identifier is left, or its number isn't above those of all that are
+-- open, or no memory was found. Then nothing changes.
 abbrev pub BeginsAs : Operations → Operations → ℕ → ℕ → Result ℕ BeginFault → Type 0
 BeginsAs old new n deadline (Ok label) = Begins old new n deadline label
 BeginsAs old new n deadline (Err begin.NoLabel) = (next_label old ≡ None) × (new ≡ old)
-BeginsAs old new n deadline (Err (begin.Memory m)) = Refuses old new
+BeginsAs old new n deadline (Err begin.NotAbove) = IsReached old new n
+BeginsAs old new n deadline (Err (begin.Memory m)) = Refuses old new n
 
 -- an open request is over, and its identifier is free
 pub record Ends (old new : Operations) (label n : ℕ) : Type 0 where

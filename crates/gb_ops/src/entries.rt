@@ -36,6 +36,8 @@ pub enum Matched {
 pub enum BeginFault {
     /// All 65,535 identifiers are in use. All is as before.
     NoLabel,
-    /// No memory was found, or the number isn't above those of all open requests. All is as before.
+    /// An open request has this number or a greater one. All is as before.
+    NotAbove,
+    /// No memory was found. All is as before.
     Memory(OutOfMemory),
 }

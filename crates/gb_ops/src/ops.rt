@@ -56,8 +56,8 @@ impl Ops {
     }
 
     /// Request n is open from now on, and its identifier is answered: the next one. `deadline` is
-    /// in milliseconds. After NoLabel and want of memory all is as before. Want of memory also
-    /// comes where n isn't greater than the numbers of all open requests.
+    /// in milliseconds. NotAbove comes where n isn't greater than the numbers of all open requests,
+    /// and an identifier is left. After each refusal all is as before.
     pub fn begin(&mut self, n: u64, deadline: u64) -> Result<u16, BeginFault>
         ensures { BeginsAs self.old self.new n deadline result }
     {
@@ -65,7 +65,7 @@ impl Ops {
             return Err(BeginFault::NoLabel);
         };
         if self.tables.reaches(n) {
-            return Err(BeginFault::Memory(OutOfMemory));
+            return Err(BeginFault::NotAbove);
         }
         if let Err(refused) = self.tables.enter(label, n, deadline) {
             return Err(BeginFault::Memory(refused));
