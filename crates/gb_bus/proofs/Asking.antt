@@ -73,19 +73,19 @@ asks-none live live' ends q k s n kind payload deadline oneway fault.NoLabel kep
 -- ---- the request is made
 
 -- what the connection was and is
-record Made (live live' : Live) (ends : Ends) (q : Queues) (k : ℕ) (s : Side) (n deadline : ℕ)
+pub record Made (live live' : Live) (ends : Ends) (q : Queues) (k : ℕ) (s : Side) (n deadline : ℕ)
     (oneway : Bool) (a : ℕ × Option End) : Type 0 where
-  before : code.Connection
-  after : code.Connection
-  found : get nat_eq live k ≡ Some before
-  there : get nat_eq live' k ≡ Some after
-  wire : after.wired ≡ before.wired
-  stays : Kept live' ends q
-  labels_are : LabelsIn (all_seen q live.entries) (all_seen q live'.entries) k s n deadline oneway
-      a.0
-  goes : a.1 ≡ toward (other_side s) (alone 0 after)
+  pub before : code.Connection
+  pub after : code.Connection
+  pub found : get nat_eq live k ≡ Some before
+  pub there : get nat_eq live' k ≡ Some after
+  pub wire : after.wired ≡ before.wired
+  pub stays : Kept live' ends q
+  pub labels_are : LabelsIn (all_seen q live.entries) (all_seen q live'.entries) k s n deadline
+      oneway a.0
+  pub goes : a.1 ≡ toward (other_side s) (alone 0 after)
 
-made : (live live' : Live) (ends : Ends) (q : Queues) (k : ℕ) (s : Side) (n deadline : ℕ)
+pub made : (live live' : Live) (ends : Ends) (q : Queues) (k : ℕ) (s : Side) (n deadline : ℕ)
     (oneway : Bool) (a : ℕ × Option End) → Kept live ends q
     → ChangesBy live live' k (λ x y. AsksOn x y s n deadline oneway (Ok a) × HasEndsOf x y)
     → (get nat_eq live k ≡ None → Ok a ≡ Err fault.NoLabel)
@@ -117,7 +117,7 @@ nowhere c s e = by c.wired e
     by true f = absurd (some-none (end_at s c) f)
     by false f = refl
 
-somewhere : (c : Connection) (s : Side) (at : End) → toward s c ≡ Some at
+pub somewhere : (c : Connection) (s : Side) (at : End) → toward s c ≡ Some at
     → (c.wired ≡ true) × (at ≡ end_at s c)
 somewhere c s at e = by c.wired e
   where

@@ -25,6 +25,7 @@ pub mod Moves
 pub mod Named
 pub mod Opening
 pub mod Placing
+pub mod Queued
 pub mod Queues
 pub mod Replies
 pub mod Seeing

@@ -51,11 +51,13 @@ abbrev pub OnSide : Connection → Connection → Side → (Operations → Opera
 OnSide old new at R =
     R (ops_of at old) (ops_of at new) × (new ≡ with_ops at (ops_of at new) old)
 
--- By cases on the answer. After want of memory nothing is said.
+-- By cases on the answer. Nothing is said after want of memory, nor where the number isn't above
+-- those of all that are open.
 abbrev pub BeginsOn : Connection → Connection → Side → ℕ → ℕ → Result ℕ BeginFault → Type 0
 BeginsOn old new at n deadline (Ok label) = OnSide old new at (λ x y. Begins x y n deadline label)
 BeginsOn old new at n deadline (Err begin.NoLabel) =
     (next_label (ops_of at old) ≡ None) × (new ≡ old)
+BeginsOn old new at n deadline (Err begin.NotAbove) = ⊤
 BeginsOn old new at n deadline (Err (begin.Memory m)) = ⊤
 
 -- The identifier of request n of a side: 0 where it is unidirectional. By cases on the answer.

@@ -135,6 +135,7 @@ impl Connection {
         match self.begin(side, n, deadline) {
             Ok(label) => Ok(label),
             Err(BeginFault::NoLabel) => Err(SendFault::NoLabel),
+            Err(BeginFault::NotAbove) => Err(SendFault::Memory(OutOfMemory)),
             Err(BeginFault::Memory(refused)) => Err(SendFault::Memory(refused)),
         }
     }

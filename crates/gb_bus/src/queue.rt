@@ -1,6 +1,6 @@
 //! What waits in queues.
 
-ghost use Rattle.std.specs.Prelude.{◌≡◌, IfOk, OnOk, OnErr, length, map};
+ghost use Rattle.std.specs.Prelude.{◌≡◌, IfOk, IfSome, IsSome, OnOk, OnErr, length, map};
 ghost use Rattle.gb_bus.specs.Index.{AddsAt};
 ghost use Rattle.gb_bus.specs.Parts.{queue_of};
 ghost use Rattle.gb_bus.specs.Seen.{items_of, seen};
@@ -84,10 +84,11 @@ pub fn ask_item(
     })
 }
 
-/// Adds a message to the queue of an end. After want of memory it is lost, and all else
-/// is as before.
+/// Adds a message to the queue of an end, which is there. After want of memory it is lost, and all
+/// else is as before.
 #[inline]
 pub fn add(queues: &mut Queues<Item>, at: End, item: Item) -> Result<(), OutOfMemory>
+    requires { IsSome (items_at queues.old at) }
     ensures added { OnOk result (Appends (items_at queues.old) (items_at queues.new) at item) }
     ensures unchanged { OnErr result (StaysSame queues.old queues.new) }
 {
@@ -107,6 +108,7 @@ pub fn add_or_lose(
     at: Option<End>,
     item: Item,
 ) -> Result<(), OutOfMemory>
+    requires { IfSome at (λ end. IsSome (items_at queues.old end)) }
     ensures added { OnOk result (AddsAt at item queues.old queues.new) }
     ensures unchanged { OnErr result (StaysSame queues.old queues.new) }
 {

@@ -27,4 +27,4 @@ left-pends (l ∷ ls) e x = left-pends ls e x
 pub turned : (t : Turn) (front : List Act) (old new : Host) (r : Result (List Act) OutOfMemory)
     → front ≡ [] → TurnsAfter t front old new r → TurnsAs t old new r
 turned t front old new (Ok all) e d = subst (λ f. Turns t f new all) e d
-turned t front old new (Err refused) e d = λ h s. s ∙ sym d
+turned t front old new (Err refused) e d = d

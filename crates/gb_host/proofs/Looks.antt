@@ -25,3 +25,9 @@ pub no-link : (x : Host) (h : machine.Host) (k : ℕ) (o : Option Link) (l : Lin
     → o ≡ find (λ l. l.connection == k) x.links.live.items → o ≡ None → link_of k h ≡ Some l → ⊥
 no-link x h k o l s e is there =
     let both : Some l ≡ None = sym there ∙ looked x h k o None s e is in absurd cc
+
+-- there is one
+pub some-link : (x : Host) (h : machine.Host) (k : ℕ) (o : Option Link) (link : Link) → Stands x h
+    → o ≡ find (λ l. l.connection == k) x.links.live.items → o ≡ Some link → link_of k h ≡ None → ⊥
+some-link x h k o link s e is none =
+    let both : Some link ≡ None = sym (looked x h k o (Some link) s e is) ∙ none in absurd cc

@@ -1,11 +1,12 @@
 -- What an answer of the application processor stands for.
-use Rattle.std.specs.Prelude.{◌≡◌, Result, Ok, Err}
+use Rattle.std.specs.Prelude.{◌≡◌, ⊤, Option, Some, None, Result, Ok, Err}
+use Rattle.gb_base.specs.Copies.{IsSmallEntry}
+use Rattle.gb_base.specs.declared.entry.Entry.{Entry}
 use Rattle.gb_base.specs.declared.errors.OutOfMemory.{OutOfMemory}
-use Rattle.gb_host.specs.Stands.{Stands, host_of}
+use Rattle.gb_host.specs.Stands.{IsUnchanged, host_of}
 use Rattle.gb_host.specs.declared.served.HostServed.{HostServed}
 use Rattle.gb_host.specs.declared.host.Host.{Host}
 use Rattle.gb_machine.specs.HostServing as machine
-use Rattle.gb_machine.specs.Host as machine_host
 use Rattle.gb_machine.specs.Serving.{answer}
 
 -- what the machine's application processor answers, and how it is then
@@ -21,5 +22,9 @@ served_of s x = record {
 -- nothing has changed.
 abbrev pub ServesAs : machine.HostServed → Host → Host → Result HostServed OutOfMemory → Type 0
 ServesAs served old new (Ok s) = served ≡ served_of s new
-ServesAs served old new (Err refused) =
-    (h : machine_host.Host) → Stands old h → Stands new h
+ServesAs served old new (Err refused) = IsUnchanged old new
+
+-- What is told, if anything, takes no memory.
+abbrev pub IsSmallTold : Option Entry → Type 0
+IsSmallTold None = ⊤
+IsSmallTold (Some told) = IsSmallEntry told

@@ -14,6 +14,10 @@ host_of x = record { interfaces = x.interfaces; links = x.links.live.items }
 abbrev pub Stands : Host → machine.Host → Type 0
 Stands x h = h ≡ host_of x
 
+-- Nothing has changed: it stands for the same, and the same connection is pending.
+abbrev pub IsUnchanged : Host → Host → Type 0
+IsUnchanged old new = (host_of new ≡ host_of old) × (new.pending ≡ old.pending)
+
 -- what is told of an interface
 abbrev pub view_of : Interface → IntfView
 view_of x = record { stage = x.stage; device = if x.has_device then x.device else None }

@@ -3,12 +3,11 @@ use Rattle.std.specs.Prelude.{◌≡◌, ⊤, Option, Some, None, Result, Ok, Er
 use Rattle.gb_base.specs.declared.entry.ConnState.TheVariants as state
 use Rattle.gb_base.specs.declared.errors.OutOfMemory.{OutOfMemory}
 use Rattle.gb_base.specs.declared.peers.Link.{Link}
-use Rattle.gb_host.specs.Stands.{IsPending, Stands, host_of}
+use Rattle.gb_host.specs.Stands.{IsPending, IsUnchanged, host_of}
 use Rattle.gb_host.specs.declared.acts.Act.{Act}
 use Rattle.gb_host.specs.declared.acts.Act.TheVariants as act
 use Rattle.gb_host.specs.declared.host.Host.{Host}
 use Rattle.gb_machine.specs.Failures.{link_told}
-use Rattle.gb_machine.specs.Host as machine
 use Rattle.gb_machine.specs.Turns as turns
 use Rattle.gb_machine.specs.Turns.{Asking, Turn}
 
@@ -60,9 +59,9 @@ pub record Turns (t : Turn) (front : List Act) (new : Host) (all : List Act) : T
 -- A turn is done, or nothing has changed for want of memory.
 abbrev pub TurnsAfter : Turn → List Act → Host → Host → Result (List Act) OutOfMemory → Type 0
 TurnsAfter t front old new (Ok all) = Turns t front new all
-TurnsAfter t front old new (Err refused) = host_of new ≡ host_of old
+TurnsAfter t front old new (Err refused) = IsUnchanged old new
 
 -- A turn is done, and the acts are its own, or nothing has changed for want of memory.
 abbrev pub TurnsAs : Turn → Host → Host → Result (List Act) OutOfMemory → Type 0
 TurnsAs t old new (Ok all) = Turns t [] new all
-TurnsAs t old new (Err refused) = (h : machine.Host) → Stands old h → Stands new h
+TurnsAs t old new (Err refused) = IsUnchanged old new

@@ -1,7 +1,8 @@
 //! Bridge lines and the answers to them.
 
-ghost use Rattle.std.specs.Prelude.{◌≡◌, Some, length};
+ghost use Rattle.std.specs.Prelude.{◌≡◌, Some, None, Err, length};
 ghost use Rattle.gb_base.specs.declared.peers.Link.{Link};
+ghost use Rattle.gb_base.specs.declared.refusal.Refusal.TheVariants as why;
 ghost use Rattle.gb_bridge_payload.specs.Serving.{BridgesAs};
 ghost use Rattle.gb_formats.specs.Bridges.{bridge_answer, credits_taken, reading_of};
 ghost use Rattle.gb_formats.specs.Results.{most_payload};
@@ -21,7 +22,8 @@ impl Host {
 
     /// The request that a bridge line becomes on a connection: its type, and its payload at the
     /// front of `out`, which has 2,040 bytes. Else Unsupported, TooLarge or NoCredit, tried in this
-    /// order. It takes no memory. Condition: the connection is live.
+    /// order. The connection of the supervisory controller has no bridge lines: Unsupported. It
+    /// takes no memory. Condition: the connection is live.
     pub fn bridge(
         &self,
         connection: u64,
@@ -32,9 +34,11 @@ impl Host {
         requires form { HasForm ask.now }
         ensures step { (h : machine.Host) (l : Link) → Stands self.now h
             → link_of connection h ≡ Some l → BridgesOn l ask.now out.old out.new result }
+        ensures svc { (h : machine.Host) → Stands self.now h → link_of connection h ≡ None
+            → result ≡ Err why.Unsupported }
     {
         let Some(link) = self.links.of(connection) else {
-            return Err(Refusal::NoConnection);
+            return Err(Refusal::Unsupported);
         };
         let bridged = match written(link.protocol, ask, out) {
             Ok(bridged) => bridged,
@@ -48,11 +52,13 @@ impl Host {
     }
 
     /// The request of a bridge line was sent: a `uart send` takes the credits of its bytes, and
-    /// other lines none. It takes no memory. Condition: the connection is live.
+    /// other lines none. The same connection is pending. It takes no memory. Condition: the
+    /// connection is live.
     pub fn sent(&mut self, connection: u64, ask: &BridgeAsk)
         ensures step { (h : machine.Host) (l : Link) → Stands self.old h
             → link_of connection h ≡ Some l
             → Stands self.new (with_link l.intf l.cport (spent ask.now) h) }
+        ensures pending { self.new.pending ≡ self.old.pending }
     {
         let taken = credits(ask);
         if taken == 0 {

@@ -1,6 +1,7 @@
 //! The application processor as responder.
 
-ghost use Rattle.std.specs.Prelude.{◌≡◌, [], IfOk, None, Some};
+ghost use Rattle.std.specs.Prelude.{◌≡◌, [], IfOk, IsOk, None, Some};
+ghost use Rattle.gb_base.specs.Bytes.{AreFew};
 ghost use Rattle.gb_base.specs.declared.entry.Entry.TheVariants as entry;
 ghost use Rattle.gb_bridge_payload.specs.Views.{gpio_ask_of, uart_ask_of};
 ghost use Rattle.gb_formats.specs.Results as formats;
@@ -24,11 +25,12 @@ use gb_uart::MOST_CREDITS;
 const SVC_VERSION: [u8; 2] = [0, 1];
 
 impl Host {
-    ghost use Rattle.gb_host.specs.Serving.{ServesAs, served_of};
+    ghost use Rattle.gb_host.specs.Serving.{IsSmallTold, ServesAs, served_of};
     ghost use Rattle.gb_host.specs.Stands.{Stands, host_of};
 
     /// Serves a request on a connection to a module, or on that of the supervisory controller.
-    /// After want of memory nothing has changed.
+    /// Only data of more than 16 bytes takes memory. After want of memory nothing has changed, and
+    /// at each answer the same connection is pending.
     pub fn serve(
         &mut self,
         connection: u64,
@@ -37,6 +39,9 @@ impl Host {
     ) -> Result<HostServed, OutOfMemory>
         ensures step { (h : machine.Host) → Stands self.old h
             → ServesAs (host_serves connection kind payload.now h) self.old self.new result }
+        ensures few { (h : machine.Host) → Stands self.old h
+            → IsSmallTold (host_serves connection kind payload.now h).told → IsOk result }
+        ensures pending { self.new.pending ≡ self.old.pending }
     {
         match self.links.of(connection) {
             None => self.serve_svc(kind, payload),
@@ -51,8 +56,11 @@ impl Host {
         kind: u8,
         payload: &[u8],
     ) -> Result<HostServed, OutOfMemory>
-        ensures { ServesAs (served_on (Some link) kind payload.now (host_of self.old))
+        ensures step { ServesAs (served_on (Some link) kind payload.now (host_of self.old))
             self.old self.new result }
+        ensures few { IsSmallTold
+            (served_on (Some link) kind payload.now (host_of self.old)).told → IsOk result }
+        ensures pending { self.new.pending ≡ self.old.pending }
     {
         match link.protocol {
             GPIO => Ok(self.serve_gpio(link, kind, payload)),
@@ -63,8 +71,9 @@ impl Host {
 
     /// Serves a request of the supervisory controller.
     fn serve_svc(&self, kind: u8, payload: &[u8]) -> Result<HostServed, OutOfMemory>
-        ensures { IfOk result
+        ensures step { IfOk result
             (λ s. serves_svc kind payload.now (host_of self.now) ≡ served_of s self.now) }
+        ensures few { IsOk result }
     {
         match SvcAsk::read_of_svc(kind, payload) {
             Ok(ask) => self.notified(ask),
@@ -74,8 +83,9 @@ impl Host {
 
     /// Serves a request of the supervisory controller that was read.
     fn notified(&self, ask: SvcAsk) -> Result<HostServed, OutOfMemory>
-        ensures { IfOk result
+        ensures step { IfOk result
             (λ s. notified (svc_ask_of ask) (host_of self.now) ≡ served_of s self.now) }
+        ensures few { IsOk result }
     {
         match ask {
             SvcAsk::ProtocolVersion { .. } => self.version(),
@@ -92,8 +102,9 @@ impl Host {
 
     /// Answers the version of the SVC protocol.
     fn version(&self) -> Result<HostServed, OutOfMemory>
-        ensures { IfOk result (λ s. host_answers host_version (host_of self.now)
+        ensures step { IfOk result (λ s. host_answers host_version (host_of self.now)
             ≡ served_of s self.now) }
+        ensures few { IsOk result }
     {
         Ok(HostServed {
             result: SUCCESS,
@@ -126,8 +137,11 @@ impl Host {
         kind: u8,
         payload: &[u8],
     ) -> Result<HostServed, OutOfMemory>
-        ensures { ServesAs (serves_uart link kind payload.now (host_of self.old))
+        ensures step { ServesAs (serves_uart link kind payload.now (host_of self.old))
             self.old self.new result }
+        ensures few { IsSmallTold (serves_uart link kind payload.now (host_of self.old)).told
+            → IsOk result }
+        ensures pending { self.new.pending ≡ self.old.pending }
     {
         match UartAsk::read_of_module(kind, payload) {
             Ok(ask) => self.uart_notified(link, ask),
@@ -137,8 +151,11 @@ impl Host {
 
     /// Serves a request of a UART that was read: data, its serial state, or credits that come back.
     fn uart_notified(&mut self, link: Link, ask: UartAsk<'_>) -> Result<HostServed, OutOfMemory>
-        ensures { ServesAs (uart_notified link (uart_ask_of ask.entry) (host_of self.old))
+        ensures step { ServesAs (uart_notified link (uart_ask_of ask.entry) (host_of self.old))
             self.old self.new result }
+        ensures few { IsSmallTold
+            (uart_notified link (uart_ask_of ask.entry) (host_of self.old)).told → IsOk result }
+        ensures pending { self.new.pending ≡ self.old.pending }
     {
         match ask {
             UartAsk::ReceiveData { bytes, .. } => self.received(link, bytes),
@@ -154,8 +171,9 @@ impl Host {
 
     /// Data came.
     fn received(&self, link: Link, bytes: &[u8]) -> Result<HostServed, OutOfMemory>
-        ensures { IfOk result (λ s. host_tells (entry.Received link.intf link.cport bytes.now)
+        ensures step { IfOk result (λ s. host_tells (entry.Received link.intf link.cport bytes.now)
             (host_of self.now) ≡ served_of s self.now) }
+        ensures few { AreFew bytes.now → IsOk result }
     {
         let bytes = Bytes::from_slice(self.alloc, bytes)?;
         Ok(self.tells(Entry::Received {
@@ -167,8 +185,9 @@ impl Host {
 
     /// Credits come back, unless they would be more than 4,096.
     fn credited(&mut self, link: Link, count: u16) -> HostServed
-        ensures { credited link (credits_added link.credits count) (host_of self.old)
+        ensures step { credited link (credits_added link.credits count) (host_of self.old)
             ≡ served_of result self.new }
+        ensures pending { self.new.pending ≡ self.old.pending }
     {
         let total = u32::from(link.credits) + u32::from(count);
         if total > u32::from(MOST_CREDITS) {

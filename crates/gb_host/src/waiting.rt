@@ -13,11 +13,12 @@ use gb_uart::MOST_CREDITS;
 impl Host {
     ghost use Rattle.gb_host.specs.Stands.{IsPending, Stands, host_of};
 
-    /// The request of a purpose was made under this number, and its sequence waits for it. It takes
-    /// no memory.
+    /// The request of a purpose was made under this number, and its sequence waits for it. The same
+    /// connection is pending. It takes no memory.
     pub fn awaits(&mut self, purpose: Purpose, number: u64)
         ensures step { (h : machine.Host) → Stands self.old h
             → Stands self.new (awaits purpose number h) }
+        ensures pending { self.new.pending ≡ self.old.pending }
     {
         self.wait(purpose, Some((number, purpose.step)));
     }
@@ -69,7 +70,8 @@ impl Host {
 
     /// The sequence of a purpose waits for this.
     pub(crate) fn wait(&mut self, purpose: Purpose, awaits: Option<(u64, SequenceStep)>)
-        ensures { host_of self.new ≡ waiting awaits purpose (host_of self.old) }
+        ensures step { host_of self.new ≡ waiting awaits purpose (host_of self.old) }
+        ensures pending { self.new.pending ≡ self.old.pending }
     {
         if is_enumeration(purpose.step) {
             self.interfaces.set_awaits(purpose.intf, awaits);

@@ -1,5 +1,6 @@
 -- What takes no memory to answer.
-use Rattle.std.specs.Prelude.{◌≡◌, ◌==◌, ℕ, if◌then◌else◌, Option, Some, None, IsOk, Result, List, []}
+use Rattle.std.specs.Prelude.{◌≡◌, ◌==◌, ℕ, if◌then◌else◌, Option, Some, None, IsOk, Result, List}
+use Rattle.std.specs.Prelude.{[]}
 use Rattle.gb_base.specs.Bytes.{AreFew}
 use Rattle.gb_base.specs.declared.errors.OutOfMemory.{OutOfMemory}
 use Rattle.gb_base.specs.declared.served.Served.{Served}

@@ -3,6 +3,7 @@ use Rattle.std.proofs.Common.{Err, ap, subst, sym, ◌∙◌}
 use Rattle.std.proofs.lemmas.Result.{err_from_is_err_and}
 use Rattle.gb_bus.proofs.Asking.{asks-lost, asks-none, asks-waits}
 use Rattle.gb_bus.proofs.Keeping.{kept-appends, kept-stays}
+use Rattle.gb_bus.proofs.Queued.{queue-asked}
 use Rattle.gb_bus.proofs.Seeing.{keeps}
 use Rattle.gb_bus.specs.Seen.{all_seen}
 use Rattle.gb_bus.specs.Sides.{AsksIn, AsksOn, HasEndsOf}
@@ -44,6 +45,13 @@ returns-in_default c =
     c.args.deadline c.args.oneway (c.in_ok-label.label, c.in_ok-label.end) c.self.invariant
     c.self.view_is
     c.in_ok-label.ensures.there c.in_ok-label.ensures.none c.in_default.is
+
+pub add-requires : goal.add-requires
+add-requires c =
+    queue-asked c.self.inside.live c.ask.new.live c.self.inside.ends c.self.inside.queues c.args.k
+    c.args.side c.args.number c.args.deadline c.args.oneway
+    (c.in_ok-label.label, c.in_ok-label.end) c.in-Some.end c.self.invariant
+    c.in_ok-label.ensures.there c.in_ok-label.ensures.none c.in-Some.is
 
 pub invariant_of-self-in_err-item : goal.invariant_of-self-in_err-item
 invariant_of-self-in_err-item c =

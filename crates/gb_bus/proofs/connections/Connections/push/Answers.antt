@@ -1,9 +1,18 @@
 -- The connection with the number gets the message where it is wired.
-use Rattle.std.proofs.Common.{subst}
+use Rattle.std.proofs.Common.{IsSome, subst, sym}
+use Rattle.std.specs.Option.{IfSome}
 use Rattle.gb_bus.proofs.Keeping.{kept-stays}
+use Rattle.gb_bus.proofs.Queued.{queue-toward}
 use Rattle.gb_bus.proofs.SeeingQueues.{adds-toward, kept-adds}
 use Rattle.gb_bus.specs.Index.{AddsAt}
+use Rattle.gb_switch.specs.Queues.{items_at}
 use Rattle.gb_bus.proofs.connections.Connections.push.Goals as goal
+
+pub add_or_lose-requires : goal.add_or_lose-requires
+add_or_lose-requires c =
+    subst (λ o. IfSome o (λ a. IsSome (items_at c.self.inside.queues a))) (sym c.toward-end.ensures)
+    (queue-toward c.self.inside.live c.self.inside.ends c.self.inside.queues c.args.k c.args.side
+    c.self.invariant)
 
 pub invariant_of-self : goal.invariant_of-self
 invariant_of-self c =

@@ -1,6 +1,8 @@
 -- The connection with the number is wired.
-use Rattle.std.proofs.Common.{sym}
+use Rattle.std.proofs.Common.{inl, inr, refl, sym}
+use Rattle.gb_base.specs.declared.end.End.TheVariants as end
 use Rattle.gb_bus.proofs.Keeping.{kept-stays}
+use Rattle.gb_bus.proofs.Queued.{no-queue}
 use Rattle.gb_bus.proofs.Seeing.{nothing-changes}
 use Rattle.gb_bus.proofs.SeeingWires.{kept-wires, wired-still, wires}
 use Rattle.gb_bus.specs.Parts.{with_wire}
@@ -16,6 +18,18 @@ returns-then-connection c =
     wired-still c.self.inside.live c.self.inside.ends c.self.inside.queues c.args.self.now c.args.k
     c.in-Some.connection.now c.self.invariant c.self.view_is (sym c.in-Some.ensures)
     c.if-connection.true
+
+pub create-requires-clause-free_a : goal.create-requires-clause-free_a
+create-requires-clause-free_a c =
+    no-queue c.self.inside.live c.self.inside.ends c.self.inside.queues c.args.k
+    c.in-Some.connection.now (end.Ap c.in-Some.connection.now.ap) c.self.invariant
+    (sym c.in-Some.ensures) c.if-connection.false (inl refl)
+
+pub create-requires-clause-free_b : goal.create-requires-clause-free_b
+create-requires-clause-free_b c =
+    no-queue c.self.inside.live c.self.inside.ends c.self.inside.queues c.args.k
+    c.in-Some.connection.now c.in-Some.connection.now.peer c.self.invariant
+    (sym c.in-Some.ensures) c.if-connection.false (inr refl)
 
 pub invariant_of-self : goal.invariant_of-self
 invariant_of-self c =
