@@ -3,8 +3,9 @@
 use crate::checks::is_front;
 use gb_base::NoRoom;
 use gb_bridge_payload::{
-    GpioAsk, GpioReply, I2cAsk, I2cReply, INVALID, PayloadFault, SpiAsk, SpiReply, TransferEntry,
-    TransferOp, UartAsk, UartReply, answered, done, put_behind, refused,
+    Carried, GpioAsk, GpioReply, I2cAsk, I2cReply, INVALID, LoopbackAsk, LoopbackReply,
+    PayloadFault, SpiAsk, SpiReply, TransferEntry, TransferOp, UartAsk, UartReply, answered, done,
+    put_behind, refused,
 };
 use gb_payload::Field;
 use std::process::Abort;
@@ -75,6 +76,28 @@ fn uart_goes_both_ways(rt: HostRuntime) {
     let reply = UartReply::SendBreak;
     assert!(rt; UartReply::read(0x06, b"") == Ok(reply));
     assert!(rt; (reply.kind(), reply.write(&mut out)) == (0x06, Ok(0)));
+}
+
+/// Two bytes of a loopback, and the numbers before them.
+const LOOP: &[u8] = b"\x02\0\0\0\x01\x02\x03\x04\x05\0\0\0\xab\xcd";
+
+#[test]
+fn loopback_goes_both_ways(rt: HostRuntime) {
+    let mut out = [0xff; 20];
+    let carried = Carried {
+        first: 0x04030201,
+        second: 5,
+        bytes: b"\xab\xcd",
+    };
+    let ask = LoopbackAsk::Sink(carried);
+    assert!(rt; LoopbackAsk::read(0x04, LOOP) == Ok(ask));
+    assert!(rt; (ask.kind(), ask.write(&mut out)) == (0x04, Ok(14)));
+    is_front(&rt, &out, LOOP);
+    let mut out = [0xff; 20];
+    let reply = LoopbackReply::Transfer(carried);
+    assert!(rt; LoopbackReply::read(0x03, LOOP) == Ok(reply));
+    assert!(rt; (reply.kind(), reply.write(&mut out)) == (0x03, Ok(14)));
+    is_front(&rt, &out, LOOP);
 }
 
 /// A payload is no response of an SPI device.

@@ -17,6 +17,8 @@ mod i2c;
 #[cfg(test)]
 mod line_reader;
 #[cfg(test)]
+mod loopback;
+#[cfg(test)]
 mod manifest;
 #[cfg(test)]
 mod payload;

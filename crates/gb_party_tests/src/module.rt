@@ -76,11 +76,15 @@ fn kinds_have_their_manifests(rt: HostRuntime) {
         \x0c\0\x02\0\x06\x02Bridge\x08\0\x03\0\0\0\0\0\x08\0\x03\0\x01\x0a\0\0\
         \x08\0\x04\0\0\0\0\0\x08\0\x04\0\x01\0\x01\x02\x08\0\x04\0\x02\0\x01\x03\
         \x08\0\x04\0\x03\0\x01\x0b\x08\0\x04\0\x04\0\x01\x04";
+    let loopback = b"\x4c\0\0\x01\x08\0\x01\0\x01\x02\0\0\x10\0\x02\0\x07\x01Greybus\0\0\0\
+        \x10\0\x02\0\x08\x02Loopback\0\0\x08\0\x03\0\0\0\0\0\x08\0\x03\0\x01\x11\0\0\
+        \x08\0\x04\0\0\0\0\0\x08\0\x04\0\x01\0\x01\x11";
     tells(&rt, rt.alloc(), Kind::Gpio, 72, gpio);
     tells(&rt, rt.alloc(), Kind::I2c, 72, i2c);
     tells(&rt, rt.alloc(), Kind::Spi, 72, spi);
     tells(&rt, rt.alloc(), Kind::Uart, 72, uart);
     tells(&rt, rt.alloc(), Kind::Bridge, 96, bridge);
+    tells(&rt, rt.alloc(), Kind::Loopback, 76, loopback);
 }
 
 /// Requests of the Control protocol, and at CPort 1 where it is connected, and at CPort 2.

@@ -130,6 +130,7 @@ sound-sent : (d : Draft) (b : machine.Bus) (label : ℕ) → AreSound b → IsAs
 sound-sent d b label sound askable twoway drawn =
     each_more IsSound b.requests (requested d label) sound (record {
       kind = askable.0;
+      fits = askable.1;
       label = label-sound d b label drawn;
       twoway = twoway;
     })

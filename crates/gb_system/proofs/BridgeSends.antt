@@ -57,6 +57,8 @@ is-low (ask.SpiTransfer select mode ops) = omega arith
 is-low (ask.UartSend bytes) = omega arith
 is-low (ask.UartCoding rate format parity bits flow) = omega arith
 is-low (ask.UartByte kind value) = grind arith
+is-low ask.LoopPing = omega arith
+is-low (ask.LoopBytes kind bytes) = grind arith
 
 -- its payload is what stands at the front, and fits
 written-is : (request : Request) (old new : List ℕ) (b : Bridged) → WritesBridged request old new b

@@ -45,12 +45,9 @@ use Rattle.gb_formats.specs.UartDevice.{echo_asks, is_coding, most_sent, send_an
 use Rattle.gb_formats.specs.UartDevice.{uart_read}
 use Rattle.gb_formats.specs.UartRecords.{UartAsk, read_uart_ask_of_ap, uart_ask_payload}
 use Rattle.gb_invariants.proofs.Awaiting.{same-some}
+use Rattle.gb_system.proofs.Fitting.{IsFitting, fitting, plain_fits}
+use Rattle.gb_system.proofs.LoopbackFits.{loopback_fits}
 use Rattle.gb_system.specs.Acting.{AreAskable}
-
--- An answer and the requests of its own that go with it fit into messages.
-pub record IsFitting (served : Served) : Type 0 where
-  pub payload : length served.payload ≤ most_payload
-  pub asks : AreAskable served.asks
 
 -- What a module answers fits, and its manifest stays.
 pub record StepFits (m : Module) (step : Step Module) : Type 0 where
@@ -63,14 +60,6 @@ at_most a b h = grind (arith, nat_tests)
 
 not_above : (a b : ℕ) → nat_lt a b ≡ false → b ≤ a
 not_above a b h = grind (arith, nat_tests)
-
--- a short payload fits
-fitting : (result : ℕ) (payload : List ℕ) → length payload ≤ most_payload
-    → IsFitting (record { result = result; payload = payload; asks = [] })
-fitting result payload h = record { payload = h; asks = tt }
-
-plain_fits : (result : ℕ) → IsFitting (record { result = result; payload = []; asks = [] })
-plain_fits result = fitting result [] (omega arith)
 
 -- ---- GPIO
 
@@ -291,14 +280,16 @@ uart_read_fits (Err fault) = plain_fits _
 
 -- ---- modules
 
-device_fits : (device : Device) (kind : ℕ) (payload : List ℕ)
+device_fits : (device : Device) (kind : ℕ) (payload : List ℕ) → length payload ≤ most_payload
     → IsFitting (device_step device kind payload).served
-device_fits (devices.Gpio lines) kind payload =
+device_fits (devices.Gpio lines) kind payload short =
     gpio_read_fits lines (read_gpio_ask_of_ap kind payload)
-device_fits (devices.I2c device) kind payload =
+device_fits (devices.I2c device) kind payload short =
     i2c_read_fits device (read_i2c_ask kind payload)
-device_fits (devices.Spi last) kind payload = spi_read_fits last (read_spi_ask kind payload)
-device_fits devices.Uart kind payload = uart_read_fits (read_uart_ask_of_ap kind payload)
+device_fits (devices.Spi last) kind payload short =
+    spi_read_fits last (read_spi_ask kind payload)
+device_fits devices.Uart kind payload short = uart_read_fits (read_uart_ask_of_ap kind payload)
+device_fits devices.Loopback kind payload short = loopback_fits kind payload short
 
 -- requests are left out or not
 left_out : (state : CportState) (served : Served) → IsFitting served
@@ -308,11 +299,11 @@ left_out On served f = record { payload = f.payload; asks = f.asks }
 left_out Quiet served f = record { payload = f.payload; asks = tt }
 
 port_fits : (m : Module) (port : Option ModulePort) (kind : ℕ) (payload : List ℕ)
-    → StepFits m (port_served m port kind payload)
-port_fits m None kind payload = record { served = plain_fits protocol_bad; manifest = refl }
-port_fits m (Some port) kind payload = record {
+    → length payload ≤ most_payload → StepFits m (port_served m port kind payload)
+port_fits m None kind payload short = record { served = plain_fits protocol_bad; manifest = refl }
+port_fits m (Some port) kind payload short = record {
   served = left_out port.state (device_step port.device kind payload).served
-      (device_fits port.device kind payload);
+      (device_fits port.device kind payload short);
   manifest = refl;
 }
 
@@ -343,15 +334,16 @@ control_read_fits : (m : Module) (read : Result ControlAsk PayloadFault)
 control_read_fits m (Ok ask) h = control_fits m ask h
 control_read_fits m (Err fault) h = record { served = plain_fits _; manifest = refl }
 
--- What a module answers and asks fits into messages, and its manifest stays.
-pub module_fits : (m : Module) (c kind : ℕ) (payload : List ℕ)
+-- What a module answers and asks fits into messages where the request does, and its manifest
+-- stays.
+pub module_fits : (m : Module) (c kind : ℕ) (payload : List ℕ) → length payload ≤ most_payload
     → length m.manifest ≤ most_payload → StepFits m (module_serve m c kind payload)
-module_fits m c kind payload h = by (c == 0)
+module_fits m c kind payload short h = by (c == 0)
   where
     by : (b : Bool) → StepFits m (cond b (control_read m (read_control_ask kind payload))
         (port_served m (port_at m c) kind payload))
     by true = control_read_fits m (read_control_ask kind payload) h
-    by false = port_fits m (port_at m c) kind payload
+    by false = port_fits m (port_at m c) kind payload short
 
 -- ---- what comes from outside
 
@@ -371,6 +363,7 @@ device-asks (devices.Gpio lines) (devices.Serial control) t is = absurd cc
 device-asks (devices.I2c device) stir t is = absurd cc
 device-asks (devices.Spi last) stir t is = absurd cc
 device-asks devices.Uart (devices.Level which new) t is = absurd cc
+device-asks devices.Loopback stir t is = absurd cc
 
 -- requests are left out or not
 asks-if-on : (state : CportState) (asks : List OwnAsk) → AreAskable asks

@@ -1,6 +1,7 @@
 -- What is known of a request that is delivered, whether it was made or came as raw bytes.
-use Rattle.std.proofs.Common.{◌≡◌, ◌<◌, ℕ, ◌==◌, Bool, true, false, if◌then◌else◌, Option, Some}
-use Rattle.std.proofs.Common.{None, option_map, List, inl, refl, sym, ap, ◌∙◌, subst, arith}
+use Rattle.std.proofs.Common.{◌≡◌, ◌<◌, ◌≤◌, ℕ, ◌==◌, Bool, true, false, if◌then◌else◌, Option}
+use Rattle.std.proofs.Common.{Some, None, option_map, List, length, inl, refl, sym, ap, ◌∙◌, subst}
+use Rattle.std.proofs.Common.{arith}
 use Rattle.std.proofs.lemmas.Bool.Decides.{nat_tests}
 use Rattle.std.specs.Prelude.{Result, Ok, Err}
 use Rattle.gb_base.specs.declared.end.End.{End}
@@ -10,6 +11,7 @@ use Rattle.gb_base.specs.declared.fault.RawFault.{RawFault}
 use Rattle.gb_bus.specs.Delivering.{MayReply, taken_from}
 use Rattle.gb_bus.specs.declared.answers.Asked.{Asked}
 use Rattle.gb_formats.specs.Message.{Message}
+use Rattle.gb_formats.specs.Results.{most_payload}
 use Rattle.gb_formats.specs.Wire.{raw_message}
 use Rattle.gb_invariants.proofs.Awaiting.{same-some}
 use Rattle.gb_laws.proofs.marks.MarkNotices.{numbered-ask}
@@ -111,6 +113,16 @@ far-reply {x} {s} {at} {k} {asked} {payload} {c} {item} d far st =
     ap (λ (q : Incoming). q.oneway) (sym w.is)
     ∙ (st.sound w.number w.request w.made).twoway
     (ap (λ (r : Request). r.side) (sym same) ∙ own.3)
+
+-- it fits into a message
+pub far-fits : {x : Parties} {s : State} {at : End} {k : ℕ} {asked : Asked} {payload : List ℕ}
+    {c : Connection} {item : Item} (d : IsDelivered at k asked payload s c item)
+    → side_of at ≡ side.Far → PartsStand (only k side.Far item) x s
+    → length d.request.payload ≤ most_payload
+far-fits d far st =
+    let w = made-as d far in
+    subst (λ (q : Incoming). length q.payload ≤ most_payload) w.is
+    (st.sound w.number w.request w.made).fits
 
 -- so it may be replied to
 abbrev pub may-reply : {s : State} {at : End} {k : ℕ} {asked : Asked} {payload : List ℕ}

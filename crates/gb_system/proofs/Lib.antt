@@ -13,6 +13,7 @@ pub mod Decisions
 pub mod Doings
 pub mod Endings
 pub mod Fits
+pub mod Fitting
 pub mod HashedNames
 pub mod Heard
 pub mod HeldAnswers
@@ -22,6 +23,7 @@ pub mod Holdings
 pub mod Injections
 pub mod Inserts
 pub mod Landing
+pub mod LoopbackFits
 pub mod Midways
 pub mod ModuleServes
 pub mod NameCounts

@@ -135,7 +135,7 @@ ServesAtModule k i cport asked payload x y before told =
     (s : State) (c : Connection) (item : Item)
     → PartsStand (only k side.Far item) x s → IsUpon k s.bus c
     → c.peer ≡ end.Module i cport → (may : MayReply asked s.bus item)
-    → payload ≡ may.request.payload
+    → payload ≡ may.request.payload → length may.request.payload ≤ most_payload
     → Does y (serves side.Far c may.request) s before told
 
 -- where a module is plugged
@@ -147,7 +147,7 @@ pub serves-some : (k i cport : ℕ) (asked : Asked) (payload : List ℕ) (x y z 
     → AsksThere k served.asks y z b d
     → ServesAtModule k i cport asked payload x z a d
 serves-some k i cport asked payload x y z mods served a b d steps answers asks s c item stand live
-    peer may is = by (module_at i x.modules) refl steps
+    peer may is short = by (module_at i x.modules) refl steps
   where
     q : Incoming
     q = may.request
@@ -166,7 +166,7 @@ serves-some k i cport asked payload x y z mods served a b d steps answers asks s
         ∙ ap (module_serve m cport q.kind) is in
         let found : module_at i s.modules ≡ Some m =
         ap (module_at i) stand.modules ∙ there in
-        let fits = module_fits m cport q.kind q.payload
+        let fits = module_fits m cport q.kind q.payload short
         (short-at i s.modules m stand.short found) in
         let served_is : served ≡ step.served =
         (let e : Some served ≡ Some (module_serve m cport asked.kind payload).served = t.0 in
@@ -203,7 +203,8 @@ pub serves-nowhere : (k i cport : ℕ) (asked : Asked) (payload : List ℕ) (x z
     → ServesThere i cport asked.kind payload (module_at i x.modules) x.modules mods (Ok None)
     → AnswersThere k asked nonexistent [] (record x { modules = mods }) z a d
     → ServesAtModule k i cport asked payload x z a d
-serves-nowhere k i cport asked payload x z mods a d steps answers s c item stand live peer may is =
+serves-nowhere k i cport asked payload x z mods a d steps answers s c item stand live peer may is
+    short =
     by (module_at i x.modules) refl steps
   where
     q : Incoming

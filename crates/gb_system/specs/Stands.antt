@@ -66,10 +66,11 @@ StandForHeld requests (x ∷ xs) [] = ⊥
 abbrev pub HeldStand : List Request → HeldRequests → List Held → Type 0
 HeldStand requests x hs = (k : ℕ) → StandForHeld requests (held_at x k) (held_on k hs)
 
--- A request has a type that a request can have, has an identifier exactly where it gets a reply,
--- and gets one where the application processor made it.
+-- A request has a type that a request can have, fits into a message, has an identifier exactly
+-- where it gets a reply, and gets one where the application processor made it.
 pub record IsSound (r : Request) : Type 0 where
   pub kind : r.kind < 128
+  pub fits : length r.payload ≤ most_payload
   pub label : (r.label == 0) ≡ r.oneway
   pub twoway : r.side ≡ side.Ap → r.oneway ≡ false
 

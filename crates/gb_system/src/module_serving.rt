@@ -1,9 +1,10 @@
 //! Requests that modules serve.
 
-ghost use Rattle.std.specs.Prelude.{◌≡◌, OnOk};
+ghost use Rattle.std.specs.Prelude.{◌≡◌, ◌≤◌, OnOk, length};
 ghost use Rattle.gb_base.specs.declared.end.End.TheVariants as end;
 ghost use Rattle.gb_base.specs.declared.end.Side.TheVariants as side;
 ghost use Rattle.gb_bus.specs.Delivering.{MayReply};
+ghost use Rattle.gb_formats.specs.Results.{most_payload};
 ghost use Rattle.gb_machine.specs.Bus.{Connection, Item};
 ghost use Rattle.gb_machine.specs.Responding.{serves};
 ghost use Rattle.gb_machine.specs.State.{State};
@@ -33,6 +34,7 @@ impl Parties {
             → PartsStand (only connection side.Far item) self.old s
             → IsUpon connection s.bus c → c.peer ≡ end.Module intf cport
             → (may : MayReply asked.now s.bus item) → payload.now ≡ may.request.payload
+            → length may.request.payload ≤ most_payload
             → Does self.new (serves side.Far c may.request) s told.old told.new) }
     {
         let Some(served) = self.modules.serve(intf, cport, asked.kind, payload)? else {

@@ -1,7 +1,7 @@
 -- The party at the end serves.
 use Rattle.std.proofs.Common.{refl, sym, subst}
 use Rattle.gb_base.specs.declared.end.End.{End}
-use Rattle.gb_system.proofs.Heard.{far-reply, may-reply}
+use Rattle.gb_system.proofs.Heard.{far-fits, far-reply, may-reply}
 use Rattle.gb_system.specs.Serving.{ServesAt}
 use Rattle.gb_system.proofs.parties.Parties.serve.Goals as goal
 
@@ -29,5 +29,5 @@ returns-in_ok-serve_at_module-in-Module c = record {
       c.serve_at_module.new.told) (sym c.in-Module.is)
       (λ s x item d st may. c.in_ok-serve_at_module-in-Module.ensures.step s x item st d.upon
       d.there
-      (may-reply d (far-reply d refl st)) d.payload_is);
+      (may-reply d (far-reply d refl st)) d.payload_is (far-fits d refl st));
 }
