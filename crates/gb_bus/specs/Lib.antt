@@ -3,6 +3,7 @@ pub mod Connection
 pub mod Counting
 pub mod Delivering
 pub mod Ends
+pub mod Few
 pub mod Index
 pub mod Keeping
 pub mod Listing

@@ -1,10 +1,12 @@
 //! The bus: messages are delivered.
 
-ghost use Rattle.std.specs.Prelude.{◌≡◌, nat_lt, IsErrOf};
+ghost use Rattle.std.specs.Prelude.{◌≡◌, ◌≤◌, nat_lt, IfSome, IsErrOf, IsOk};
+ghost use Rattle.gb_base.specs.Bytes.{AreFew};
 ghost use Rattle.gb_machine.specs.Bus as machine;
+ghost use Rattle.gb_bus.specs.Few.{HasMemory, ShowsFew, ShowsFewWhere, front_at};
 ghost use Rattle.gb_bus.specs.Parts.{is_unclean};
 ghost use Rattle.gb_bus.specs.Slots.{slot_at};
-ghost use Rattle.gb_bus.specs.Taking.{dropped, open_kind};
+ghost use Rattle.gb_bus.specs.Taking.{dropped, open_kind, shown};
 
 use crate::queue::Item;
 use crate::{Arrival, Arrived, Asked, Bus, DeliverFault};
@@ -32,10 +34,13 @@ impl Bus {
     /// Takes the front message toward an end from its queue. An end that doesn't take messages
     /// drops it. A late answer frees the identifier of its request. A request is in no queue then:
     /// it is among those that may be answered. NoConnection comes where no wired connection names
-    /// the end, and QueueEmpty where nothing waits there.
+    /// the end, and QueueEmpty where nothing waits there. Only a response of result 0 with more
+    /// than 16 bytes takes memory, where it is taken.
     pub fn deliver(&mut self, at: End, takes: bool) -> Result<Arrived, DeliverFault>
         ensures step { (around : Around) (b : machine.Bus) → Stands around self.old b
             → DeliversAs around self.new at takes b result }
+        ensures few { IfSome (front_at at self.old.connections) (ShowsFewWhere takes)
+            → HasMemory result }
         ensures unchanged { IsErrOf result DeliverFault.NoConnection → self.new ≡ self.old }
         ensures still { IsErrOf result DeliverFault.QueueEmpty → self.new ≡ self.old }
     {
@@ -58,7 +63,8 @@ impl Bus {
         item: Item,
         takes: bool,
     ) -> Result<Arrival, DeliverFault>
-        ensures { HandlesAs self.old self.new k side takes item result }
+        ensures step { HandlesAs self.old self.new k side takes item result }
+        ensures few { ShowsFewWhere takes item → IsOk result }
     {
         if takes {
             self.arrival(k, side, item)
@@ -72,7 +78,8 @@ impl Bus {
     /// What a message brings to a side of a connection that takes it.
     #[inline]
     fn arrival(&mut self, k: u64, side: Side, item: Item) -> Result<Arrival, DeliverFault>
-        ensures { TakesAs self.old self.new k side item result }
+        ensures step { TakesAs self.old self.new k side item result }
+        ensures few { ShowsFew item → IsOk result }
     {
         match item {
             Item::Ask {
@@ -121,8 +128,9 @@ impl Bus {
         code: u8,
         payload: Bytes,
     ) -> Result<Arrival, DeliverFault>
-        ensures { RawTakesAs (nat_lt kind 128) self.old self.new k side label kind code payload
+        ensures step { RawTakesAs (nat_lt kind 128) self.old self.new k side label kind code payload
             result }
+        ensures few { (128 ≤ kind → AreFew (shown code payload)) → IsOk result }
     {
         if kind >= FIRST_RESPONSE {
             return self.labelled(k, side, label, code, payload);
@@ -149,8 +157,9 @@ impl Bus {
         code: u8,
         payload: Bytes,
     ) -> Result<Arrival, DeliverFault>
-        ensures { RepliesTo (is_unclean k self.old.connections) self.old self.new k side number
+        ensures step { RepliesTo (is_unclean k self.old.connections) self.old self.new k side number
             label code payload result }
+        ensures few { AreFew (shown code payload) → IsOk result }
     {
         let (unclean, matched) = self.connections.responded(k, side, number, label);
         if unclean {
@@ -171,7 +180,8 @@ impl Bus {
         code: u8,
         payload: Bytes,
     ) -> Result<Arrival, DeliverFault>
-        ensures { LabelledAs self.old self.new k side label code payload result }
+        ensures step { LabelledAs self.old self.new k side label code payload result }
+        ensures few { AreFew (shown code payload) → IsOk result }
     {
         let matched = self.connections.matched(k, side, None, label);
         self.by_label(matched, label, code, payload)
@@ -186,7 +196,8 @@ impl Bus {
         code: u8,
         payload: Bytes,
     ) -> Result<Arrival, DeliverFault>
-        ensures { LabelsTo self.old self.new label code payload matched result }
+        ensures step { LabelsTo self.old self.new label code payload matched result }
+        ensures few { AreFew (shown code payload) → IsOk result }
     {
         match matched {
             Matched::Open(number) => self.opened(number, label, code, payload),
@@ -207,7 +218,8 @@ impl Bus {
         code: u8,
         payload: Bytes,
     ) -> Result<Arrival, DeliverFault>
-        ensures { OpenedAs self.old self.new number label code payload result }
+        ensures step { OpenedAs self.old self.new number label code payload result }
+        ensures few { AreFew (shown code payload) → IsOk result }
     {
         match self.open_kind(number) {
             Some(kind) => self.ended(number, kind, code, payload),
@@ -226,8 +238,9 @@ impl Bus {
         code: u8,
         payload: Bytes,
     ) -> Result<Arrival, DeliverFault>
-        ensures { AnswersTo (open_kind (slot_at self.old.slots number)) self.old self.new number
-            code payload matched result }
+        ensures step { AnswersTo (open_kind (slot_at self.old.slots number)) self.old self.new
+            number code payload matched result }
+        ensures few { AreFew (shown code payload) → IsOk result }
     {
         match (matched, self.open_kind(number)) {
             (Matched::Open(_), Some(kind)) => self.ended(number, kind, code, payload),
@@ -247,7 +260,8 @@ impl Bus {
         code: u8,
         payload: Bytes,
     ) -> Result<Arrival, DeliverFault>
-        ensures { EndsAs self.old self.new number kind code payload result }
+        ensures step { EndsAs self.old self.new number kind code payload result }
+        ensures few { AreFew (shown code payload) → IsOk result }
     {
         let payload = if code == 0 {
             payload
