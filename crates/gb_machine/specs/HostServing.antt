@@ -111,7 +111,7 @@ served_on (Some l) kind payload h =
     else if l.protocol == 0x04 then serves_uart l kind payload h
     else host_refuses protocol_bad h
 
--- What the application processor answers to a request on a connection. The Control, I2C and SPI
--- CPorts of modules have no requests to it.
+-- What the application processor answers to a request on a connection. The Control, I2C, SPI and
+-- Loopback CPorts of modules have no requests to it.
 abbrev pub host_serves : ℕ → ℕ → List ℕ → Host → HostServed
 host_serves k kind payload h = served_on (link_of k h) kind payload h
