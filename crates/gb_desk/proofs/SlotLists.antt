@@ -4,12 +4,12 @@ use Rattle.std.proofs.Common.{Bool, true, false, Option, Some, None, List, [], �
 use Rattle.std.proofs.Common.{refl, sym, ap, ◌∙◌, arith}
 use Rattle.std.proofs.lemmas.Bool.{cases_lt}
 use Rattle.std.proofs.lemmas.Bool.Decides.{nat_tests}
-use Rattle.std.proofs.lemmas.Option.{slice_get_past}
-use Rattle.std.specs.Prelude.{◌==◌, if◌then◌else◌, option_map, slice_set}
+use Rattle.std.specs.Prelude.{◌==◌, if◌then◌else◌, option_map, replicate, slice_set}
 use Rattle.std.specs.List.{slice_get}
 use Rattle.gb_base.specs.declared.entry.Entry.{Entry}
 use Rattle.gb_desk.proofs.Holding.{hit_other}
-use Rattle.gb_desk.specs.Slots.{all_noted, hit, inner, noted, numbers_of, slot_at, times, told_by}
+use Rattle.gb_desk.specs.Slots.{AreKept, AreUnusedFrom, all_noted, hit, inner, noted, numbers_of}
+use Rattle.gb_desk.specs.Slots.{slot_at, times, told_by}
 use Rattle.gb_desk.specs.declared.slots.Slot.{Slot}
 use Rattle.gb_desk.specs.declared.slots.Told.{Told}
 use Rattle.gb_laws.specs.Tickets.{end_in}
@@ -54,18 +54,6 @@ map_by_places f (x ∷ xs) (y ∷ ys) same =
     let rest = map_by_places f xs ys (λ k. same (suc k)) in
     λ i. at i ∷ rest i
 
--- the same where it is known of the places up to the end
-pub map_to_end : {A : Type 0} (f : A → A) (xs ys : List A) (n : ℕ) → length xs ≤ n
-    → length ys ≡ length xs
-    → ((k : ℕ) → k < n → slice_get ys k ≡ option_map f (slice_get xs k)) → ys ≡ map f xs
-map_to_end f xs ys n past long same =
-    map_by_places f xs ys (λ k.
-    ⊎_elim (λ (low : k < n). same k low)
-    (λ (high : n ≤ k).
-    slice_get_past ys k (omega arith)
-    ∙ sym (ap (option_map f) (slice_get_past xs k (omega arith))))
-    (cases_lt k n))
-
 -- ---- slots
 
 pub slot_same : (slots : List (Option Slot)) (i : ℕ) (o : Option Slot) → i < length slots
@@ -81,6 +69,51 @@ pub slot_noted : (es : List Entry) (slots : List (Option Slot)) (i : ℕ)
 slot_noted es [] i = refl
 slot_noted es (x ∷ xs) zero = refl
 slot_noted es (x ∷ xs) (suc i) = slot_noted es xs i
+
+-- ---- slots from one on that had no request
+
+unused_noted : (es : List Entry) (o : Option (Option Slot)) → inner o ≡ None
+    → o ≡ option_map (option_map (noted es)) o
+unused_noted es None is = refl
+unused_noted es (Some None) is = refl
+unused_noted es (Some (Some x)) is = absurd cc
+
+-- the first ones were told, and the others had none
+pub first_noted : (es : List Entry) (xs ys : List (Option Slot)) (n : ℕ) → AreUnusedFrom n xs
+    → ((k : ℕ) → k < n → slice_get ys k ≡ option_map (option_map (noted es)) (slice_get xs k))
+    → ((k : ℕ) → n ≤ k → slice_get ys k ≡ slice_get xs k) → ys ≡ all_noted es xs
+first_noted es xs ys n unused low high =
+    map_by_places (option_map (noted es)) xs ys (λ k.
+    ⊎_elim (λ (below : k < n). low k below)
+    (λ (above : n ≤ k). high k above ∙ unused_noted es (slice_get xs k) (unused k above))
+    (cases_lt k n))
+
+none_yet : (n i : ℕ) → slot_at i (replicate n None) ≡ None
+none_yet zero i = refl
+none_yet (suc n) zero = refl
+none_yet (suc n) (suc i) = none_yet n i
+
+pub kept_new : AreKept (replicate 256 None) 0
+kept_new = record { long = refl; within = omega arith; unused = λ i low. none_yet 256 i }
+
+pub kept_put : (slots : List (Option Slot)) (used at more : ℕ) (o : Option Slot)
+    → AreKept slots used → at < 256 → used ≤ more → at < more → more ≤ 256
+    → AreKept (slice_set slots at o) more
+kept_put slots used at more o kept within longer behind most = record {
+  long = set_as_long slots at o ∙ kept.long;
+  within = most;
+  unused = λ i high.
+      slot_other slots at i o (λ (same : i ≡ at). omega arith) ∙ kept.unused i (omega arith);
+}
+
+pub kept_noted : (es : List Entry) (slots : List (Option Slot)) (used : ℕ) → AreKept slots used
+    → AreKept (all_noted es slots) used
+kept_noted es slots used kept = record {
+  long = map_as_long (option_map (noted es)) slots ∙ kept.long;
+  within = kept.within;
+  unused = λ i high.
+      slot_noted es slots i ∙ ap (option_map (noted es)) (kept.unused i high);
+}
 
 -- ---- numbers
 

@@ -1,6 +1,6 @@
 -- The slots of a desk: which request has each of them, and how it ended.
 use Rattle.std.specs.Prelude.{◌≡◌, ◌+◌, ◌≤◌, ℕ, ◌==◌, if◌then◌else◌, Option, Some, None}
-use Rattle.std.specs.Prelude.{option_map, List, [], ◌∷◌, ◌++◌, map}
+use Rattle.std.specs.Prelude.{option_map, List, [], ◌∷◌, ◌++◌, length, map}
 use Rattle.std.specs.List.{slice_get}
 use Rattle.gb_base.specs.declared.entry.Entry.{Entry}
 use Rattle.gb_base.specs.declared.journal.JournalEntry.{JournalEntry}
@@ -59,6 +59,16 @@ inner (Some o) = o
 -- what a slot has, None where no request had it yet
 abbrev pub slot_at : ℕ → List (Option Slot) → Option Slot
 slot_at i slots = inner (slice_get slots i)
+
+-- no request had a slot from one on
+abbrev pub AreUnusedFrom : ℕ → List (Option Slot) → Type 0
+AreUnusedFrom n slots = (i : ℕ) → n ≤ i → slot_at i slots ≡ None
+
+-- The slots of a desk, of which those from `used` on had no request.
+pub record AreKept (slots : List (Option Slot)) (used : ℕ) : Type 0 where
+  pub long : length slots ≡ 256
+  pub within : used ≤ 256
+  pub unused : AreUnusedFrom used slots
 
 -- the slot of a new request
 abbrev pub new_slot : ℕ → Slot

@@ -1,8 +1,8 @@
 //! The slots of a desk: which requests have tickets, and how each of them ended.
 
-ghost use Rattle.std.specs.Prelude.{◌≡◌, ◌<◌, length, map, option_map, replicate, slice_set};
+ghost use Rattle.std.specs.Prelude.{◌≡◌, ◌<◌, ◌≤◌, length, map, option_map, replicate, slice_set};
 ghost use Rattle.std.specs.Prelude.{MatchBool, None, Some, false, ℕ};
-ghost use Rattle.gb_desk.specs.Slots.{IsEnded, IsOpen, all_noted, noted, slot_at};
+ghost use Rattle.gb_desk.specs.Slots.{AreUnusedFrom, IsEnded, IsOpen, all_noted, noted, slot_at};
 ghost use Rattle.gb_desk.specs.Slots.{told_by, told_of};
 ghost use Rattle.gb_desk.specs.declared.slots.Slot.{Slot};
 ghost use Rattle.gb_laws.specs.Tickets.{asked_in, end_in};
@@ -105,11 +105,13 @@ fn tell(slot: &mut Option<Slot>, entries: &[Entry])
     }
 }
 
-/// All of these slots learn what these entries tell.
-fn note_all(slots: &mut [Option<Slot>], entries: &[Entry])
+/// All of these slots learn what these entries tell, of which those from `used` on had no request.
+fn note_all(slots: &mut [Option<Slot>], used: usize, entries: &[Entry])
+    requires within { used ≤ length slots.old }
+    requires unused { AreUnusedFrom used slots.old }
     ensures { slots.new ≡ all_noted entries.now slots.old }
 {
-    for at in 0..slots.len() {
+    for at in 0..used {
         tell(&mut slots[at], entries);
     }
 }
@@ -118,17 +120,20 @@ fn note_all(slots: &mut [Option<Slot>], entries: &[Entry])
 #[derive(Drop)]
 pub struct Slots {
     items: [Option<Slot>; SLOTS],
+    /// No request had a slot from this one on.
+    used: usize,
 }
 
 impl Model for Slots {
-    ghost use Rattle.std.specs.Prelude.{◌≡◌, List, Option, length};
+    ghost use Rattle.std.specs.Prelude.{List, Option};
+    ghost use Rattle.gb_desk.specs.Slots.{AreKept};
     ghost use Rattle.gb_desk.specs.declared.slots.Slot.{Slot};
 
     ghost Value = { List (Option Slot) };
 
     ghost view = { λ s. s.items };
 
-    ghost invariant = { λ s. length s.items ≡ 256 };
+    ghost invariant = { λ s. AreKept s.items s.used };
 }
 
 impl Slots {
@@ -138,6 +143,7 @@ impl Slots {
     {
         Slots {
             items: [None; SLOTS],
+            used: 0,
         }
     }
 
@@ -178,6 +184,7 @@ impl Slots {
         ensures { self.new ≡ slice_set self.old slot (Some request) }
     {
         self.items[slot] = Some(request);
+        self.used = self.used.max(slot + 1);
     }
 
     /// These entries are told.
@@ -185,7 +192,7 @@ impl Slots {
         ensures { self.new ≡ all_noted entries.now self.old }
     {
         if tell_an_end(entries) {
-            note_all(&mut self.items, entries);
+            note_all(&mut self.items, self.used, entries);
         }
     }
 }

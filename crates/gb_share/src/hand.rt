@@ -19,6 +19,9 @@ use gb_system::System;
 use std::alloc::Global;
 use std::thread;
 
+/// A caller gives way each time behind so many of its lines.
+const LINES_AT_ONCE: usize = 8;
+
 /// A name with a ticket of its request.
 pub struct Held {
     pub name: Name,
@@ -255,9 +258,9 @@ impl Hand {
         }
     }
 
-    /// Lets other callers go first, where there are any.
-    pub fn give_way(&self) {
-        if self.pass.parts() < u32::MAX {
+    /// Lets other callers go first, where there are any, behind each eighth of its lines.
+    pub fn give_way(&self, lines: usize) {
+        if lines % LINES_AT_ONCE == 0 && self.pass.parts() < u32::MAX {
             thread::yield_now();
         }
     }

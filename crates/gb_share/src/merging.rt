@@ -237,14 +237,22 @@ impl Merging {
     }
 
     /// What is written: the order, the report of the lines, and the names that name requests.
-    pub fn written(&self, alloc: Global, it: &System) -> Result<String, OutOfMemory>
+    pub fn written(self, alloc: Global, it: &System) -> Result<String, OutOfMemory>
         ensures { IfOk result (λ text. (s : State) → system.Stands it.now s
-            → string_bytes text ≡ order_text self.now.order.items
-            ++ (string_bytes self.now.text ++ tickets_of s)) }
+            → string_bytes text ≡ order_text self.order.items
+            ++ (string_bytes self.text ++ tickets_of s)) }
     {
-        let mut text = String::new(alloc);
-        append_order(self.order.as_slice(), &mut text)?;
-        text.push_str(self.text.as_str())?;
+        let Merging {
+            all: _,
+            at: _,
+            hex: _,
+            order,
+            mut text,
+            full: _,
+        } = self;
+        let mut front = String::new(alloc);
+        append_order(order.as_slice(), &mut front)?;
+        text.insert_str(0, front.as_str())?;
         it.append_tickets(&mut text)?;
         Ok(text)
     }

@@ -131,7 +131,7 @@ impl Requester {
             if !self.next(alloc, desk, hand)? {
                 return Ok(());
             }
-            hand.give_way();
+            hand.give_way(self.full.items().len());
         }
         gate.before(self.who, self.turn(), &self.last);
         Ok(())

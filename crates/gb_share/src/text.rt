@@ -68,7 +68,6 @@ pub fn shared_text<R: Threads + Sync, G: Gate>(
     ensures { IfOk result (λ text. IsTold hex asked (string_bytes text)) }
 {
     let mut all = requesters(alloc, asked.items())?;
-    drop(asked);
     let (system, journal) = share_all(rt, alloc, all.as_mut_slice(), gate)?;
     told(alloc, all, hex, &system, journal.items())
 }

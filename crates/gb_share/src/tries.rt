@@ -11,17 +11,26 @@ ghost use Rattle.gb_share.specs.Names.{FollowsAs};
 use crate::hand::Hand;
 use gb_base::{Entries, Event};
 use gb_desk::{Desk, DeskFault};
-use std::thread;
+use std::{hint, thread};
 
 /// How often a line is tried while other callers have the turn, before it is kept for later.
 const TRIES: u32 = 64;
 
+/// After so many tries in vain waits are short, and from then on each is twice as long.
+const SHORT_WAITS: u32 = 32;
+
 /// A wait between two tries is at most two to the power of this many yields.
 const LONGEST_WAIT: u32 = 14;
 
-/// Waits a little after this many tries in vain, each time twice as long.
+/// A wait begins with so many pauses: about as long as some lines take.
+const PAUSES: u32 = 80;
+
+/// Waits a little after this many tries in vain.
 fn wait(tries: u32) {
-    for _ in 0..1u32 << tries.min(LONGEST_WAIT) {
+    for _ in 0..PAUSES {
+        hint::spin_loop();
+    }
+    for _ in 0..1u32 << tries.saturating_sub(SHORT_WAITS).min(LONGEST_WAIT) {
         thread::yield_now();
     }
 }
