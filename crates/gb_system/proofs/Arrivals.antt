@@ -38,6 +38,7 @@ use Rattle.gb_machine.specs.Arriving.{ends_answered, forgets}
 use Rattle.gb_machine.specs.Bus.{Connection, Item, Place, Reply, Request, connection_of, end_of}
 use Rattle.gb_machine.specs.Bus.{is_open, place_of, queue, request_of}
 use Rattle.gb_machine.specs.Delivery.{answered, ended, forgotten, popped}
+use Rattle.gb_machine.specs.Events.{does}
 use Rattle.gb_machine.specs.HostActs.{follows}
 use Rattle.gb_machine.specs.Lists.{first, first_met, holds_of, Condition}
 use Rattle.gb_machine.specs.Members.{IsIn}
@@ -55,8 +56,8 @@ use Rattle.gb_system.proofs.RawArrivals.{by_label-late, by_label-opens, by_label
 use Rattle.gb_system.proofs.RawArrivals.{delivers-bad, taken_state}
 use Rattle.gb_system.proofs.Doings.{does-as, does-is}
 use Rattle.gb_system.proofs.Standing.{rebussed}
-use Rattle.gb_system.specs.Arriving.{ArrivesAs, ReadsOn}
-use Rattle.gb_system.specs.Doing.{Does}
+use Rattle.gb_system.specs.Arriving.{ReadsOn}
+use Rattle.gb_system.specs.Doing.{Does, IsDone, IsRefused}
 use Rattle.gb_system.specs.Serving.{side_of}
 use Rattle.gb_system.specs.Stands.{PartiesStand, PartsStand, around_bus}
 use Rattle.gb_system.specs.declared.parties.Parties.{Parties}
@@ -111,43 +112,47 @@ refused-by s at t o plugged named =
     ∷ place_conditions (place_of at s.bus.connections))) plugged
     ∙ ap (λ p. first_met ((t, why.NoInterface) ∷ place_conditions p)) named
 
-pub unplugged-here : {x : Parties} {a : List Entry} (s : State) (at : End) → PartsStand [] x s
-    → true ≡ is_end_unplugged at s → ArrivesAs x s at a a (Some why.NoInterface)
+pub unplugged-here : {x : Parties} (s : State) (at : End) → PartsStand [] x s
+    → true ≡ is_end_unplugged at s → IsRefused x s (event.Deliver at) why.NoInterface
 unplugged-here s at st there = record {
   refused = refused-by s at true (place_of at s.bus.connections) (sym there) refl;
-  same = refl;
   stand = st;
 }
 
-pub nowhere-here : {x : Parties} {a : List Entry} (s : State) (at : End) (y : Bus)
-    → PartsStand [] x s → false ≡ is_end_unplugged at s
-    → DeliversNowhere (around_bus [] s) y at s.bus
-    → ArrivesAs (record x { bus = y }) s at a a (Some why.NoConnection)
+pub nowhere-here : {x : Parties} (s : State) (at : End) (y : Bus) → PartsStand [] x s
+    → false ≡ is_end_unplugged at s → DeliversNowhere (around_bus [] s) y at s.bus
+    → IsRefused (record x { bus = y }) s (event.Deliver at) why.NoConnection
 nowhere-here s at y st there h = record {
   refused = refused-by s at false None (sym there) h.named;
-  same = refl;
   stand = rebussed [] y s.bus st h.stands refl;
 }
 
-pub nothing-here : {x : Parties} {a : List Entry} (s : State) (at : End) (y : Bus)
-    → PartsStand [] x s → false ≡ is_end_unplugged at s
-    → DeliversNothing (around_bus [] s) y at s.bus
-    → ArrivesAs (record x { bus = y }) s at a a (Some why.QueueEmpty)
+pub nothing-here : {x : Parties} (s : State) (at : End) (y : Bus) → PartsStand [] x s
+    → false ≡ is_end_unplugged at s → DeliversNothing (around_bus [] s) y at s.bus
+    → IsRefused (record x { bus = y }) s (event.Deliver at) why.QueueEmpty
 nothing-here s at y st there h = record {
   refused = refused-by s at false (Some h.place) (sym there) h.named
       ∙ ap (λ is. first_met ((is_none (first is), why.QueueEmpty) ∷ [])) h.empty;
-  same = refl;
   stand = rebussed [] y s.bus st h.stands refl;
 }
 
 -- ---- what was taken
 
+-- what a delivery does as an event
+pub does-deliver : (at : End) (s : State) → does (event.Deliver at) s ≡ delivers at s
+unfolding machine_opened
+does-deliver at s = refl
+
 -- a delivery isn't refused where something waits
-pub allowed-here : (s : State) (at : End) (p : Place) (item : Item) → false ≡ is_end_unplugged at s
-    → place_of at s.bus.connections ≡ Some p → first (queue p.side p.connection) ≡ Some item
-    → refusal s (event.Deliver at) ≡ None
-allowed-here s at p item there named front =
-    deliver-allowed s at p item (sym there) named front
+pub delivered-here : {x : Parties} {a b : List Entry} (s : State) (at : End) (p : Place)
+    (item : Item)
+    → false ≡ is_end_unplugged at s → place_of at s.bus.connections ≡ Some p
+    → first (queue p.side p.connection) ≡ Some item → Does x (delivers at) s a b
+    → IsDone x s (event.Deliver at) a b
+delivered-here s at p item there named front d = record {
+  allowed = deliver-allowed s at p item (sym there) named front;
+  done = does-as (sym (does-deliver at s)) d;
+}
 
 -- ---- an answer to an open request
 
@@ -201,7 +206,7 @@ EndsThere s at y p x z over kind result payload read a b =
     → MayFollow over.number (outcome.Answered result payload) t
     → Does z (tell (entry.Ended over.number (outcome.Answered result payload) read)
     ▸ follows over.number (outcome.Answered result payload)) t a b)
-    → ArrivesAs z s at a b None
+    → IsDone z s (event.Deliver at) a b
 
 ended-here : {x z : Parties} {a b : List Entry} (s : State) (at : End) (y : Bus) (p : Place)
     (item : Item) (over : Over) (kind result : ℕ) (payload : List ℕ) (read : Reading)
@@ -234,13 +239,12 @@ ended-here {x} {z} {a} {b} s at y p item over kind result payload read st there 
     ∙ ap (λ k. reading_at p.side p.connection k result payload) h.kind_is
     ∙ ap (λ r. reading_at p.side p.connection h.request.kind r payload) code_is
     ∙ reading-same p.side p.connection h.request.kind h.code h.bytes payload same in
-    let done = ends t stand is (subst (λ (o : Outcome). MayFollow n o t) h.outcome_is may) in (
-      allowed-here s at p item there named front,
-      does-as (ap (λ (o : Outcome). (tell (entry.Ended n o read) ▸ follows n o) t)
-          (sym h.outcome_is)
-          ∙ ap (λ v. (tell (entry.Ended n how v) ▸ follows n how) t) says
-          ∙ sym (h.is ∙ ends-is s p n h.code h.bytes h.request h.made)) done,
-    )
+    let done = ends t stand is (subst (λ (o : Outcome). MayFollow n o t) h.outcome_is may) in
+    delivered-here s at p item there named front
+    (does-as (ap (λ (o : Outcome). (tell (entry.Ended n o read) ▸ follows n o) t)
+    (sym h.outcome_is)
+    ∙ ap (λ v. (tell (entry.Ended n how v) ▸ follows n how) t) says
+    ∙ sym (h.is ∙ ends-is s p n h.code h.bytes h.request h.made)) done)
 
 -- by its number, on a clean connection
 answer-is : (s : State) (at : End) (p : Place) (n result : ℕ) (bytes : List ℕ)
@@ -310,57 +314,54 @@ pub late-here : {x : Parties} {a b : List Entry} (s : State) (at : End) (y : Bus
     (item : Item) (n : ℕ) → PartiesStand x s → false ≡ is_end_unplugged at s
     → place_of at s.bus.connections ≡ Some p → first (queue p.side p.connection) ≡ Some item
     → takes p.side p.connection s ≡ true → ArrivesLate (around_bus [] s) y p s.bus item n
-    → b ≡ a ++ entry.Late n ∷ [] → ArrivesAs (record x { bus = y }) s at a b None
+    → b ≡ a ++ entry.Late n ∷ [] → IsDone (record x { bus = y }) s (event.Deliver at) a b
 late-here {x} s at y p item n st there named front taken h pushed =
-    let after = forgotten n (popped p.connection.number p.side s.bus) in (
-      allowed-here s at p item there named front,
-      does-is (with_bus after s) (entry.Late n ∷ [])
-          (delivers-late s at p n h.result h.bytes named (front ∙ ap Some h.item_is) taken h.clean
-          h.closed) pushed
-          (rebussed [] y after st.parts h.stands refl),
-    )
+    let after = forgotten n (popped p.connection.number p.side s.bus) in
+    delivered-here s at p item there named front
+    (does-is (with_bus after s) (entry.Late n ∷ [])
+    (delivers-late s at p n h.result h.bytes named (front ∙ ap Some h.item_is) taken h.clean
+    h.closed) pushed
+    (rebussed [] y after st.parts h.stands refl))
 
 pub late_label-here : {x : Parties} {a b : List Entry} (s : State) (at : End) (y : Bus) (p : Place)
     (item : Item) (label : ℕ) → PartiesStand x s → false ≡ is_end_unplugged at s
     → place_of at s.bus.connections ≡ Some p → first (queue p.side p.connection) ≡ Some item
     → takes p.side p.connection s ≡ true
     → ArrivesLateLabel (around_bus [] s) y p s.bus item label
-    → b ≡ a ++ entry.LateLabel label ∷ [] → ArrivesAs (record x { bus = y }) s at a b None
+    → b ≡ a ++ entry.LateLabel label ∷ [] → IsDone (record x { bus = y }) s (event.Deliver at) a b
 late_label-here {x} s at y p item label st there named front taken h pushed =
-    let after = forgotten h.number (popped p.connection.number p.side s.bus) in (
-      allowed-here s at p item there named front,
-      does-is (with_bus after s) (entry.LateLabel label ∷ [])
-          (by_label-late s at p item h.came label h.number named front taken h.is h.label_is
-          h.unopened h.found) pushed
-          (rebussed [] y after st.parts h.stands refl),
-    )
+    let after = forgotten h.number (popped p.connection.number p.side s.bus) in
+    delivered-here s at p item there named front
+    (does-is (with_bus after s) (entry.LateLabel label ∷ [])
+    (by_label-late s at p item h.came label h.number named front taken h.is h.label_is
+    h.unopened h.found) pushed
+    (rebussed [] y after st.parts h.stands refl))
 
 pub unknown-here : {x : Parties} {a b : List Entry} (s : State) (at : End) (y : Bus) (p : Place)
     (item : Item) (label : ℕ) → PartiesStand x s → false ≡ is_end_unplugged at s
     → place_of at s.bus.connections ≡ Some p → first (queue p.side p.connection) ≡ Some item
     → takes p.side p.connection s ≡ true
     → ArrivesUnknown (around_bus [] s) y p s.bus item label
-    → b ≡ a ++ entry.UnknownLabel label ∷ [] → ArrivesAs (record x { bus = y }) s at a b None
-unknown-here {x} s at y p item label st there named front taken h pushed = (
-  allowed-here s at p item there named front,
-  does-is (taken_state s p) (entry.UnknownLabel label ∷ [])
-      (by_label-unknown s at p item h.came label named front taken h.is h.label_is h.unopened
-      h.kept) pushed
-      (rebussed [] y (popped p.connection.number p.side s.bus) st.parts h.stands refl),
-)
+    → b ≡ a ++ entry.UnknownLabel label ∷ []
+    → IsDone (record x { bus = y }) s (event.Deliver at) a b
+unknown-here {x} s at y p item label st there named front taken h pushed =
+    delivered-here s at p item there named front
+    (does-is (taken_state s p) (entry.UnknownLabel label ∷ [])
+    (by_label-unknown s at p item h.came label named front taken h.is h.label_is h.unopened
+    h.kept) pushed
+    (rebussed [] y (popped p.connection.number p.side s.bus) st.parts h.stands refl))
 
 pub bad-here : {x : Parties} {a b : List Entry} (s : State) (at : End) (y : Bus) (p : Place)
     (item : Item) (fault : RawFault) → PartiesStand x s → false ≡ is_end_unplugged at s
     → place_of at s.bus.connections ≡ Some p → first (queue p.side p.connection) ≡ Some item
     → takes p.side p.connection s ≡ true
     → ArrivesBadRaw (around_bus [] s) y p s.bus item fault
-    → b ≡ a ++ entry.BadRaw fault ∷ [] → ArrivesAs (record x { bus = y }) s at a b None
-bad-here {x} s at y p item fault st there named front taken h pushed = (
-  allowed-here s at p item there named front,
-  does-is (taken_state s p) (entry.BadRaw fault ∷ [])
-      (delivers-bad s at p h.bytes fault named (front ∙ ap Some h.item_is) taken h.fault_is) pushed
-      (rebussed [] y (popped p.connection.number p.side s.bus) st.parts h.stands refl),
-)
+    → b ≡ a ++ entry.BadRaw fault ∷ [] → IsDone (record x { bus = y }) s (event.Deliver at) a b
+bad-here {x} s at y p item fault st there named front taken h pushed =
+    delivered-here s at p item there named front
+    (does-is (taken_state s p) (entry.BadRaw fault ∷ [])
+    (delivers-bad s at p h.bytes fault named (front ∙ ap Some h.item_is) taken h.fault_is) pushed
+    (rebussed [] y (popped p.connection.number p.side s.bus) st.parts h.stands refl))
 
 pub dropped-here : {x : Parties} {a b : List Entry} (s : State) (at : End) (y : Bus) (p : Place)
     (item : Item) (number : Option ℕ) (reply : Bool) → PartiesStand x s
@@ -368,14 +369,14 @@ pub dropped-here : {x : Parties} {a b : List Entry} (s : State) (at : End) (y : 
     → place_of at s.bus.connections ≡ Some p → first (queue p.side p.connection) ≡ Some item
     → takes p.side p.connection s ≡ false
     → ArrivesDropped (around_bus [] s) y p s.bus item number reply
-    → b ≡ a ++ entry.Dropped number reply ∷ [] → ArrivesAs (record x { bus = y }) s at a b None
-dropped-here {x} {a} s at y p item number reply st there named front untaken h pushed = (
-  allowed-here s at p item there named front,
-  does-is (taken_state s p) (dropped item ∷ [])
-      (delivers-drops s at p item named front untaken)
-      (pushed ∙ ap (λ e. a ++ e ∷ []) h.told)
-      (rebussed [] y (popped p.connection.number p.side s.bus) st.parts h.stands refl),
-)
+    → b ≡ a ++ entry.Dropped number reply ∷ []
+    → IsDone (record x { bus = y }) s (event.Deliver at) a b
+dropped-here {x} {a} s at y p item number reply st there named front untaken h pushed =
+    delivered-here s at p item there named front
+    (does-is (taken_state s p) (dropped item ∷ [])
+    (delivers-drops s at p item named front untaken)
+    (pushed ∙ ap (λ e. a ++ e ∷ []) h.told)
+    (rebussed [] y (popped p.connection.number p.side s.bus) st.parts h.stands refl))
 
 -- ---- what answers say
 

@@ -5,6 +5,7 @@ use Rattle.gb_base.specs.declared.end.End.{End}
 use Rattle.gb_base.specs.declared.end.Side.{Side}
 use Rattle.gb_base.specs.declared.end.Side.TheVariants as side
 use Rattle.gb_base.specs.declared.entry.Entry.{Entry}
+use Rattle.gb_base.specs.declared.event.Event.TheVariants as event
 use Rattle.gb_base.specs.declared.host_event.HostEvent.{HostEvent}
 use Rattle.gb_bus.specs.Delivering.{ArrivesAsk}
 use Rattle.gb_bus.specs.Wiring.{ends_of}
@@ -37,13 +38,13 @@ use Rattle.gb_machine.specs.Reached.{OfARun}
 use Rattle.gb_system.proofs.Turning.{may-note}
 use Rattle.gb_system.proofs.Doings.{does-as}
 use Rattle.gb_system.proofs.Standing.{rebussed}
-use Rattle.gb_system.specs.Arriving.{ArrivesAs}
+use Rattle.gb_system.specs.Doing.{IsDone}
 use Rattle.gb_system.specs.Drafts.{IsUpon}
 use Rattle.gb_system.specs.Holding.{AsksAt}
 use Rattle.gb_system.specs.Serving.{IsDelivered, MayServe, only, side_of, MayNotice, after_serving}
 use Rattle.gb_system.specs.Stands.{PartiesStand, PartsStand, around_bus}
 use Rattle.gb_system.specs.declared.parties.Parties.{Parties}
-use Rattle.gb_system.proofs.Arrivals.{allowed-here, is-there}
+use Rattle.gb_system.proofs.Arrivals.{delivered-here, is-there}
 use Rattle.gb_system.proofs.RawArrivals.{taken_state}
 
 -- ---- a request
@@ -145,7 +146,7 @@ pub ask-here : {x z : Parties} {a b : List Entry} (s : State) (at : End) (y : Bu
     → k ≡ p.connection.number → bytes ≡ payload
     → ArrivesAsk (around_bus [] s) y p s.bus item asked payload
     → AsksAt at (record x { bus = y }) z k asked bytes a b
-    → ArrivesAs z s at a b None
+    → IsDone z s (event.Deliver at) a b
 ask-here {x} {z} {a} {b} s at y p k item asked payload bytes st there named front taken number
     same h serve =
     let w = is-there x s at p st named in
@@ -170,10 +171,8 @@ ask-here {x} {z} {a} {b} s at y p k item asked payload bytes st there named fron
     (subst (λ j. PartsStand (only j (side_of at) item) (record x { bus = y }) t) (sym number)
     (subst (λ d. PartsStand (only c.number d item) (record x { bus = y }) t) (sym w.side) stand))
     (subst (λ d. MayServe d c q t) (sym w.side)
-    (may-serve s at p item q st.run named front h.is)) in (
-      allowed-here s at p item there named front,
-      does-as (ap (λ d. asked_at d c item q t) w.side
-          ∙ sym (delivers-arrives s at p item named front taken
-          ∙ arrives-asks p.side c item q t is))
-          done,
-    )
+    (may-serve s at p item q st.run named front h.is)) in
+    delivered-here s at p item there named front
+    (does-as (ap (λ d. asked_at d c item q t) w.side
+    ∙ sym (delivers-arrives s at p item named front taken ∙ arrives-asks p.side c item q t is))
+    done)

@@ -4,7 +4,6 @@ use Rattle.std.proofs.Common.{None, List, [], ◌∷◌, length, slice_get, drop
 use Rattle.std.proofs.Common.{ap, ◌∙◌, subst, arith}
 use Rattle.gb_base.specs.declared.end.Side.TheVariants as side
 use Rattle.gb_base.specs.declared.entry.Entry.{Entry}
-use Rattle.gb_base.specs.declared.entry.Entry.TheVariants as entry
 use Rattle.gb_base.specs.declared.event.Event.TheVariants as event
 use Rattle.gb_base.specs.declared.refusal.Refusal.TheVariants as why
 use Rattle.gb_base.specs.declared.served.OwnAsk.{OwnAsk}
@@ -20,14 +19,13 @@ use Rattle.gb_machine.specs.Plugging.{tells_inserted}
 use Rattle.gb_machine.specs.Sending.{Draft, draft, is_wired, label_for}
 use Rattle.gb_machine.specs.State.{Plugged, State}
 use Rattle.gb_system.proofs.Doings.{does-by_state, does-change, does-then}
-use Rattle.gb_system.proofs.Landing.{lands, lands-refused}
 use Rattle.gb_system.proofs.Midways.{Midway}
 use Rattle.gb_system.proofs.Pulls.{midway-all, midway-next}
 use Rattle.gb_system.specs.Acting.{IsAskable}
-use Rattle.gb_system.specs.Doing.{Does}
+use Rattle.gb_system.specs.Doing.{Does, IsDone, IsRefused}
 use Rattle.gb_system.specs.Drafts.{own_ask}
 use Rattle.gb_system.specs.Plugging.{intfs_of}
-use Rattle.gb_system.specs.Stands.{PartiesStand, PartsStand, PartsStep}
+use Rattle.gb_system.specs.Stands.{PartiesStand, PartsStand}
 use Rattle.gb_system.specs.declared.parties.Parties.{Parties}
 
 -- ---- modules are no matter of requests
@@ -120,8 +118,8 @@ abbrev boots_at : State → Action
 boots_at s = greets ▸ each s.modules tells
 
 -- Of so many modules that many are told.
-pub record IsBooting (x : Parties) (s : State) (i n : ℕ) (told : List Entry) : Type 0 where
-  pub midway : Midway x (boots_at s) (each (drop i s.modules) tells) s (entry.Done ∷ []) told
+pub record IsBooting (x : Parties) (s : State) (i n : ℕ) (before told : List Entry) : Type 0 where
+  pub midway : Midway x (boots_at s) (each (drop i s.modules) tells) s before told
   pub modules : x.modules ≡ s.modules
   pub count : n ≡ length s.modules
 
@@ -139,12 +137,11 @@ midway-begun {y} {s} f g d = record {
 
 -- at first none is
 pub boot-first : (x y z : Parties) (s : State) (n : ℕ) (before b told : List Entry)
-    → PartiesStand x s → before ≡ entry.Done ∷ []
-    → Asks (record x { booted = true }) y 0x01 (0 ∷ 1 ∷ []) before b
+    → PartiesStand x s → Asks (record x { booted = true }) y 0x01 (0 ∷ 1 ∷ []) before b
     → Asks y z 0x02 (1 ∷ 0 ∷ 1 ∷ []) b told
-    → n ≡ length z.modules → IsBooting z s 0 n told
-boot-first x y z s n before b told st begun one two count =
-    let d = subst (λ es. Does z greets s es told) begun (does-greets x y z s st.parts one two) in
+    → n ≡ length z.modules → IsBooting z s 0 n before told
+boot-first x y z s n before b told st one two count =
+    let d = does-greets x y z s st.parts one two in
     let modules = sym d.stand.modules ∙ greets-modules s in record {
       midway = midway-begun greets (each s.modules tells) d;
       modules = modules;
@@ -166,19 +163,19 @@ is-next (p ∷ ps) (suc i) o is within =
     record { module_there = r.module_there; is = r.is; next = r.next }
 
 -- at each place there is one
-pub boot-there : (x : Parties) (s : State) (i n : ℕ) (told : List Entry) (o : Option ℕ)
-    → IsBooting x s i n told → i < n → o ≡ slice_get (intfs_of x.modules) i
+pub boot-there : (x : Parties) (s : State) (i n : ℕ) {before told : List Entry} (o : Option ℕ)
+    → IsBooting x s i n before told → i < n → o ≡ slice_get (intfs_of x.modules) i
     → (intf : ℕ) × (o ≡ Some intf)
-boot-there x s i n told o m within is =
+boot-there x s i n o m within is =
     let r = is-next s.modules i o (is ∙ ap (λ ms. slice_get (intfs_of ms) i) m.modules)
     (subst (λ k. i < k) m.count within) in (r.module_there.intf, r.is)
 
 -- one more is told
-pub boot-more : (x y : Parties) (s : State) (i n intf : ℕ) (told more : List Entry)
-    (o : Option ℕ) → IsBooting x s i n told → i < n → o ≡ slice_get (intfs_of x.modules) i
-    → o ≡ Some intf
+pub boot-more : (x y : Parties) (s : State) (i n intf : ℕ) {before : List Entry}
+    (told more : List Entry) (o : Option ℕ) → IsBooting x s i n before told → i < n
+    → o ≡ slice_get (intfs_of x.modules) i → o ≡ Some intf
     → ((t : State) → PartsStand [] x t → Does y (tells_inserted intf) t told more)
-    → IsBooting y s (i + 1) n more
+    → IsBooting y s (i + 1) n before more
 unfolding machine_opened
 boot-more x y s i n intf told more o m within is some told_so =
     let r = is-next s.modules i o (is ∙ ap (λ ms. slice_get (intfs_of ms) i) m.modules)
@@ -199,18 +196,21 @@ boot-more x y s i n intf told more o m within is some told_so =
 -- ---- the event
 
 -- it has started already
-pub boot-again : (x : Parties) (s : State) (es : List Entry) → PartiesStand x s
-    → x.booted ≡ true → es ≡ entry.Refused why.Occupied ∷ [] → PartsStep x s event.Boot es
-boot-again x s es st booted is =
-    lands-refused x s event.Boot why.Occupied es
-    (ap (λ b. first_met ((b, why.Occupied) ∷ [])) (st.parts.booted ∙ booted)) is st.parts
+pub boot-again : (x : Parties) (s : State) → PartiesStand x s → x.booted ≡ true
+    → IsRefused x s event.Boot why.Occupied
+boot-again x s st booted = record {
+  refused = ap (λ b. first_met ((b, why.Occupied) ∷ [])) (st.parts.booted ∙ booted);
+  stand = st.parts;
+}
 
 -- all that is plugged is told
-pub boot-done : (x y : Parties) (s : State) (i n : ℕ) (told : List Entry) → PartiesStand x s
-    → x.booted ≡ false → IsBooting y s i n told → n ≤ i → PartsStep y s event.Boot told
+pub boot-done : (x y : Parties) (s : State) (i n : ℕ) {before told : List Entry}
+    → PartiesStand x s → x.booted ≡ false → IsBooting y s i n before told → n ≤ i
+    → IsDone y s event.Boot before told
 unfolding machine_opened greets
-boot-done x y s i n told st booted m past =
-    let d = midway-all tells s.modules i (subst (λ k. k ≤ i) m.count past) m.midway in
-    lands y s event.Boot (entry.Done ∷ []) told
-    (ap (λ b. first_met ((b, why.Occupied) ∷ [])) (st.parts.booted ∙ booted)) refl
-    (does-by_state boots_at d)
+boot-done x y s i n st booted m past = record {
+  allowed = ap (λ b. first_met ((b, why.Occupied) ∷ [])) (st.parts.booted ∙ booted);
+  done =
+      does-by_state boots_at
+      (midway-all tells s.modules i (subst (λ k. k ≤ i) m.count past) m.midway);
+}

@@ -1,6 +1,6 @@
 -- A bridge line is told as refused, or its request is sent, as the machine does.
 use Rattle.std.proofs.Common.{◌≡◌, ◌≤◌, ◌<◌, ℕ, false, Some, None, IsSome}
-use Rattle.std.proofs.Common.{Ok, Err, List, [], ◌∷◌, length, take, drop, sym, ap, ◌∙◌}
+use Rattle.std.proofs.Common.{Ok, List, [], length, take, drop, sym, ap, ◌∙◌}
 use Rattle.std.proofs.Common.{option_map, nat_lt, subst, arith}
 use Rattle.std.specs.Prelude.{◌||◌}
 use Rattle.std.proofs.Math.Seq.{take-append_seam}
@@ -10,11 +10,9 @@ use Rattle.gb_base.specs.declared.bridge.BridgeAsk.TheVariants as ask
 use Rattle.gb_base.specs.declared.bridge.Bridged.{Bridged}
 use Rattle.gb_base.specs.declared.end.Side.TheVariants as side
 use Rattle.gb_base.specs.declared.entry.Entry.{Entry}
-use Rattle.gb_base.specs.declared.entry.Entry.TheVariants as entry
 use Rattle.gb_base.specs.declared.event.Event.TheVariants as event
 use Rattle.gb_base.specs.declared.name.Name.{Name}
 use Rattle.gb_base.specs.declared.peers.Link.{Link}
-use Rattle.gb_base.specs.declared.refusal.Refusal.{Refusal}
 use Rattle.gb_bridge_payload.specs.Serving.{WritesBridged}
 use Rattle.gb_formats.specs.Bridges.{Request, ask_request, asks_too_much, bridge_answer}
 use Rattle.gb_formats.specs.Results.{most_payload}
@@ -35,12 +33,11 @@ use Rattle.gb_machine.specs.Refusals.{line_conditions}
 use Rattle.gb_machine.specs.State.{State}
 use Rattle.gb_system.proofs.Bridgings.{IsLink, is-link, line-met}
 use Rattle.gb_system.proofs.Doings.{does-by_state, does-given, does-on_host, does-then}
-use Rattle.gb_system.proofs.Landing.{lands, lands-refused}
 use Rattle.gb_system.proofs.Standing.{rehosted}
 use Rattle.gb_system.specs.Acting.{IsAskable}
 use Rattle.gb_system.specs.Bridging.{BridgesTo}
-use Rattle.gb_system.specs.Doing.{Does}
-use Rattle.gb_system.specs.Stands.{PartiesStand, PartsStand, PartsStep}
+use Rattle.gb_system.specs.Doing.{Does, IsDone}
+use Rattle.gb_system.specs.Stands.{PartiesStand, PartsStand}
 use Rattle.gb_system.specs.declared.bridging.Bridging.{Bridging}
 use Rattle.gb_system.specs.declared.parties.Parties.{Parties}
 
@@ -76,14 +73,6 @@ is-short what l met = small (length (ask_request what).1) (unmet (bridge_conditi
 
 -- ---- the line
 
--- a line is refused
-pub bridge-refused : (x : Parties) (s : State) (name : Name) (i c : ℕ) (what : BridgeAsk)
-    (old new : List ℕ) (why : Refusal) (es : List Entry) → PartiesStand x s
-    → BridgesTo s name i c what old new (Err why) → es ≡ entry.Refused why ∷ []
-    → PartsStep x s (event.Bridge name i c what) es
-bridge-refused x s name i c what old new why es st is told =
-    lands-refused x s (event.Bridge name i c what) why es is told st.parts
-
 -- the machine's action, on the connection of the line
 does-bridges : {y z : Parties} {s : State} {a b : List Entry} (name : Name) (i c : ℕ)
     (what : BridgeAsk) (l : Link) → link_at i c s.host ≡ Some l
@@ -115,22 +104,24 @@ SendsOn name k kind payload x y before told =
 -- a line is sent
 pub bridge-done : (x z : Parties) (h : code.Host) (s : State) (name : Name) (i c : ℕ)
     (what : BridgeAsk) (old new payload : List ℕ) (b : Bridging) (before es : List Entry)
-    → PartiesStand x s → BridgesTo s name i c what old new (Ok b) → before ≡ entry.Done ∷ []
+    → PartiesStand x s → BridgesTo s name i c what old new (Ok b)
     → ((g : Host) (l : Link) → host.Stands x.host g → link_of b.connection g ≡ Some l
     → host.Stands h (with_link l.intf l.cport (spent what) g))
     → payload ≡ take b.request.len new
     → SendsOn name b.connection b.request.kind payload (record x { host = h }) z before es
-    → PartsStep z s (event.Bridge name i c what) es
+    → IsDone z s (event.Bridge name i c what) before es
 unfolding machine_opened
-bridge-done x z h s name i c what old new payload b before es st is begun spends front sends =
-    lands z s (event.Bridge name i c what) before es is.allowed begun
-    (does-bridges name i c what is.link is.there met stand
-    (subst (λ k. Does z (sends_on name k (ask_request what).0 (ask_request what).1 1000) t before
-    es) (sym is.number)
-    (subst (λ bytes. Does z (sends_on name b.connection (ask_request what).0 bytes 1000) t before
-    es) bytes_are
-    (subst (λ kind. Does z (sends_on name b.connection kind payload 1000) t before es)
-    is.written.kind (sends t stand free askable is.label)))))
+bridge-done x z h s name i c what old new payload b before es st is spends front sends = record {
+  allowed = is.allowed;
+  done =
+      does-bridges name i c what is.link is.there met stand
+      (subst (λ k. Does z (sends_on name k (ask_request what).0 (ask_request what).1 1000) t before
+      es) (sym is.number)
+      (subst (λ bytes. Does z (sends_on name b.connection (ask_request what).0 bytes 1000) t before
+      es) bytes_are
+      (subst (λ kind. Does z (sends_on name b.connection kind payload 1000) t before es)
+      is.written.kind (sends t stand free askable is.label))));
+}
   where
     met : first_met (bridge_conditions is.link what) ≡ None
     met = line-met s name i c what is.link is.there is.allowed

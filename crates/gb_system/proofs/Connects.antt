@@ -4,7 +4,6 @@ use Rattle.std.proofs.Common.{◌∷◌, ap, option_map, refl, subst, sym, ◌�
 use Rattle.gb_base.specs.declared.end.Side.TheVariants as side
 use Rattle.gb_base.specs.declared.entry.ConnState.TheVariants as state
 use Rattle.gb_base.specs.declared.entry.Entry.{Entry}
-use Rattle.gb_base.specs.declared.entry.Entry.TheVariants as entry
 use Rattle.gb_base.specs.declared.event.Event.TheVariants as event
 use Rattle.gb_base.specs.declared.host_event.HostEvent.TheVariants as host_event
 use Rattle.gb_base.specs.declared.peers.Link.{Link}
@@ -26,13 +25,12 @@ use Rattle.gb_machine.specs.Refusals.{has_no_label, refusal}
 use Rattle.gb_machine.specs.Sequences.{link_turn}
 use Rattle.gb_machine.specs.State.{State}
 use Rattle.gb_system.proofs.Doings.{does-by_state, does-given, does-then}
-use Rattle.gb_system.proofs.Landing.{lands, lands-refused}
 use Rattle.gb_system.proofs.Ways.{met-early, met-late}
 use Rattle.gb_system.proofs.Turning.{may-connect, may-disconnect, may-drain, may-idle}
 use Rattle.gb_system.specs.Acting.{MayTurn}
-use Rattle.gb_system.specs.Doing.{Does}
+use Rattle.gb_system.specs.Doing.{Does, IsDone, IsRefused}
 use Rattle.gb_system.specs.Ending.{MayIdle}
-use Rattle.gb_system.specs.Stands.{PartiesStand, PartsStand, PartsStep}
+use Rattle.gb_system.specs.Stands.{PartiesStand, PartsStand}
 use Rattle.gb_system.specs.declared.parties.Parties.{Parties}
 
 -- ---- connects
@@ -42,12 +40,12 @@ abbrev last_condition : State → List Condition
 last_condition s = (has_no_label 1 side.Ap s, why.NoLabel) ∷ []
 
 -- the application processor refuses
-pub connect-refused : (x : Parties) (s : State) (i c : ℕ) (why : Refusal) (es : List Entry)
-    → PartiesStand x s → first_met (connect_conditions i c s.host) ≡ Some why
-    → es ≡ entry.Refused why ∷ [] → PartsStep x s (event.Connect i c) es
-connect-refused x s i c why es st refused is =
-    lands-refused x s (event.Connect i c) why es
-    (met-early (connect_conditions i c s.host) (last_condition s) why refused) is st.parts
+pub connect-refused : {x : Parties} (s : State) (i c : ℕ) (why : Refusal) → PartiesStand x s
+    → first_met (connect_conditions i c s.host) ≡ Some why → IsRefused x s (event.Connect i c) why
+connect-refused s i c why st refused = record {
+  refused = met-early (connect_conditions i c s.host) (last_condition s) why refused;
+  stand = st.parts;
+}
 
 -- what is left of the refusals
 connect-last : (s : State) (i c : ℕ) (spent : Bool)
@@ -59,28 +57,30 @@ connect-last s i c spent free is =
     ∙ ap (λ b. first_met ((b, why.NoLabel) ∷ [])) (sym is)
 
 -- no identifier is left
-pub connect-spent : (x : Parties) (s : State) (i c : ℕ) (spent : Bool) (es : List Entry)
-    → PartiesStand x s → first_met (connect_conditions i c s.host) ≡ None
+pub connect-spent : {x : Parties} (s : State) (i c : ℕ) (spent : Bool) → PartiesStand x s
+    → first_met (connect_conditions i c s.host) ≡ None
     → spent ≡ is_none (next_label 1 side.Ap s.bus) → spent ≡ true
-    → es ≡ entry.Refused why.NoLabel ∷ [] → PartsStep x s (event.Connect i c) es
-connect-spent x s i c spent es st free by so is =
-    lands-refused x s (event.Connect i c) why.NoLabel es
-    (connect-last s i c spent free by ∙ ap (λ b. first_met ((b, why.NoLabel) ∷ [])) so) is st.parts
+    → IsRefused x s (event.Connect i c) why.NoLabel
+connect-spent s i c spent st free by so = record {
+  refused = connect-last s i c spent free by ∙ ap (λ b. first_met ((b, why.NoLabel) ∷ [])) so;
+  stand = st.parts;
+}
 
 -- it is done
 pub connect-done : (x y : Parties) (s : State) (i c : ℕ) (spent : Bool) (before es : List Entry)
     → IsValid (event.Connect i c) → PartiesStand x s
     → first_met (connect_conditions i c s.host) ≡ None
-    → spent ≡ is_none (next_label 1 side.Ap s.bus) → spent ≡ false → before ≡ entry.Done ∷ []
+    → spent ≡ is_none (next_label 1 side.Ap s.bus) → spent ≡ false
     → ((t : State) → PartsStand [] x t → MayTurn (host_event.Connect i c) t
     → Does y (notices (host_event.Connect i c)) t before es)
-    → PartsStep y s (event.Connect i c) es
+    → IsDone y s (event.Connect i c) before es
 unfolding machine_opened
-connect-done x y s i c spent before es valid st free by so begun noticed =
+connect-done x y s i c spent before es valid st free by so noticed =
     let allowed : refusal s (event.Connect i c) ≡ None =
-    connect-last s i c spent free by ∙ ap (λ b. first_met ((b, why.NoLabel) ∷ [])) so in
-    lands y s (event.Connect i c) before es allowed begun
-    (noticed s st.parts (may-connect s i c st.run allowed valid))
+    connect-last s i c spent free by ∙ ap (λ b. first_met ((b, why.NoLabel) ∷ [])) so in record {
+      allowed = allowed;
+      done = noticed s st.parts (may-connect s i c st.run allowed valid);
+    }
 
 -- ---- disconnects
 
@@ -92,12 +92,13 @@ abbrev control_condition : State → ℕ → List Condition
 control_condition s i = (control_spent s i, why.NoLabel) ∷ []
 
 -- the application processor refuses
-pub disconnect-refused : (x : Parties) (s : State) (i c : ℕ) (why : Refusal) (es : List Entry)
-    → PartiesStand x s → first_met (disconnect_conditions i c s.host) ≡ Some why
-    → es ≡ entry.Refused why ∷ [] → PartsStep x s (event.Disconnect i c) es
-disconnect-refused x s i c why es st refused is =
-    lands-refused x s (event.Disconnect i c) why es
-    (met-early (disconnect_conditions i c s.host) (control_condition s i) why refused) is st.parts
+pub disconnect-refused : {x : Parties} (s : State) (i c : ℕ) (why : Refusal) → PartiesStand x s
+    → first_met (disconnect_conditions i c s.host) ≡ Some why
+    → IsRefused x s (event.Disconnect i c) why
+disconnect-refused s i c why st refused = record {
+  refused = met-early (disconnect_conditions i c s.host) (control_condition s i) why refused;
+  stand = st.parts;
+}
 
 -- what is left of the refusals
 disconnect-last : (s : State) (i c : ℕ) (spent : Bool)
@@ -108,38 +109,31 @@ disconnect-last s i c spent free is =
     ∙ ap (λ b. first_met ((b, why.NoLabel) ∷ [])) (sym is)
 
 -- no identifier is left on the connection to Control
-pub disconnect-spent : (x : Parties) (s : State) (i c : ℕ) (spent : Bool) (es : List Entry)
-    → PartiesStand x s → first_met (disconnect_conditions i c s.host) ≡ None
-    → spent ≡ control_spent s i → spent ≡ true
-    → es ≡ entry.Refused why.NoLabel ∷ [] → PartsStep x s (event.Disconnect i c) es
-disconnect-spent x s i c spent es st free by so is =
-    lands-refused x s (event.Disconnect i c) why.NoLabel es
-    (disconnect-last s i c spent free by
-    ∙ ap (λ b. first_met ((b, why.NoLabel) ∷ [])) so) is st.parts
+pub disconnect-spent : {x : Parties} (s : State) (i c : ℕ) (spent : Bool) → PartiesStand x s
+    → first_met (disconnect_conditions i c s.host) ≡ None → spent ≡ control_spent s i
+    → spent ≡ true → IsRefused x s (event.Disconnect i c) why.NoLabel
+disconnect-spent s i c spent st free by so = record {
+  refused = disconnect-last s i c spent free by ∙ ap (λ b. first_met ((b, why.NoLabel) ∷ [])) so;
+  stand = st.parts;
+}
 
 -- it is done
 pub disconnect-done : (x y : Parties) (s : State) (i c : ℕ) (spent : Bool)
     (before es : List Entry) → PartiesStand x s
     → first_met (disconnect_conditions i c s.host) ≡ None → spent ≡ control_spent s i
-    → spent ≡ false → before ≡ entry.Done ∷ []
+    → spent ≡ false
     → ((t : State) → PartsStand [] x t → MayTurn (host_event.Disconnect i c) t
     → Does y (notices (host_event.Disconnect i c)) t before es)
-    → PartsStep y s (event.Disconnect i c) es
+    → IsDone y s (event.Disconnect i c) before es
 unfolding machine_opened
-disconnect-done x y s i c spent before es st free by so begun noticed =
+disconnect-done x y s i c spent before es st free by so noticed =
     let allowed : refusal s (event.Disconnect i c) ≡ None =
-    disconnect-last s i c spent free by ∙ ap (λ b. first_met ((b, why.NoLabel) ∷ [])) so in
-    lands y s (event.Disconnect i c) before es allowed begun
-    (noticed s st.parts (may-disconnect s i c st.run allowed))
+    disconnect-last s i c spent free by ∙ ap (λ b. first_met ((b, why.NoLabel) ∷ [])) so in record {
+      allowed = allowed;
+      done = noticed s st.parts (may-disconnect s i c st.run allowed);
+    }
 
 -- ---- drains
-
--- the application processor refuses
-pub drain-refused : (x : Parties) (s : State) (i c : ℕ) (why : Refusal) (es : List Entry)
-    → PartiesStand x s → first_met (drain_conditions i c s.host) ≡ Some why
-    → es ≡ entry.Refused why ∷ [] → PartsStep x s (event.Drain i c) es
-drain-refused x s i c why es st refused is =
-    lands-refused x s (event.Drain i c) why es refused is st.parts
 
 -- the state once a connection drains
 drains-is : (i c : ℕ) (s : State) (l : Link) → link_at i c s.host ≡ Some l
@@ -161,13 +155,13 @@ still-there i c s l is =
 -- it is done
 pub drain-done : (x y z : Parties) (s : State) (i c k : ℕ) (before mid es : List Entry)
     → PartiesStand x s → first_met (drain_conditions i c s.host) ≡ None
-    → option_map (λ l. l.connection) (link_at i c s.host) ≡ Some k → before ≡ entry.Done ∷ []
+    → option_map (λ l. l.connection) (link_at i c s.host) ≡ Some k
     → ((t : State) → PartsStand [] x t → MayTurn (host_event.Drain i c) t
     → Does y (notices (host_event.Drain i c)) t before mid)
     → ((t : State) → PartsStand [] y t → MayIdle k t → Does z (idles k) t mid es)
-    → PartsStep z s (event.Drain i c) es
+    → IsDone z s (event.Drain i c) before es
 unfolding machine_opened
-drain-done x y z s i c k before mid es st free is begun noticed rests =
+drain-done x y z s i c k before mid es st free is noticed rests =
     by (link_at i c s.host) refl is
   where
     d : Does y (notices (host_event.Drain i c)) s before mid
@@ -177,12 +171,15 @@ drain-done x y z s i c k before mid es st free is begun noticed rests =
     t = (notices (host_event.Drain i c) s).state
 
     by : (o : Option Link) → link_at i c s.host ≡ o → option_map (λ l. l.connection) o ≡ Some k
-        → PartsStep z s (event.Drain i c) es
+        → IsDone z s (event.Drain i c) before es
     by None found own = absurd cc
-    by (Some l) found own =
-        lands z s (event.Drain i c) before es free begun (does-then d
-        (does-by_state (λ u. given (link_at i c u.host) (λ m. idles m.connection))
-        (does-given (λ m. idles m.connection) (in_state state.Draining l)
-        (still-there i c s l found)
-        (subst (λ n. Does z (idles n) t mid es) (sym (same-some l.connection k own))
-        (rests t d.stand (may-idle k t (knows-drains i c s free (knows-reached s st.run))))))))
+    by (Some l) found own = record {
+      allowed = free;
+      done =
+          does-then d
+          (does-by_state (λ u. given (link_at i c u.host) (λ m. idles m.connection))
+          (does-given (λ m. idles m.connection) (in_state state.Draining l)
+          (still-there i c s l found)
+          (subst (λ n. Does z (idles n) t mid es) (sym (same-some l.connection k own))
+          (rests t d.stand (may-idle k t (knows-drains i c s free (knows-reached s st.run)))))));
+    }

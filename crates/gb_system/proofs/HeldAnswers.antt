@@ -8,7 +8,6 @@ use Rattle.std.specs.List.{remove}
 use Rattle.gb_base.specs.declared.end.End.TheVariants as end
 use Rattle.gb_base.specs.declared.end.Side.TheVariants as side
 use Rattle.gb_base.specs.declared.entry.Entry.{Entry}
-use Rattle.gb_base.specs.declared.entry.Entry.TheVariants as entry
 use Rattle.gb_base.specs.declared.event.Event.TheVariants as event
 use Rattle.gb_base.specs.declared.refusal.Refusal.{Refusal}
 use Rattle.gb_base.specs.declared.refusal.Refusal.TheVariants as why
@@ -31,14 +30,12 @@ use Rattle.gb_machine.specs.State.{Held, State}
 use Rattle.gb_system.proofs.Arrivals.{is-there}
 use Rattle.gb_system.proofs.Doings.{does-by_state, does-given}
 use Rattle.gb_system.proofs.Holdings.{IsTaken, stand-fewer, stand-taken}
-use Rattle.gb_system.proofs.Landing.{lands, lands-refused}
 use Rattle.gb_system.proofs.Ways.{met-early, met-late}
-use Rattle.gb_system.specs.Doing.{Does}
+use Rattle.gb_system.specs.Doing.{Does, IsDone, IsRefused}
 use Rattle.gb_system.specs.Held.{HoldsAs, Takes, TakesNone, held_at}
 use Rattle.gb_system.specs.Holding.{WiredAs}
 use Rattle.gb_system.specs.Serving.{IsDelivered, only}
-use Rattle.gb_system.specs.Stands.{PartiesStand, PartsStand, PartsStep, StandForHeld, held_item}
-use Rattle.gb_system.specs.Stands.{names_of}
+use Rattle.gb_system.specs.Stands.{PartiesStand, PartsStand, StandForHeld, held_item, names_of}
 use Rattle.gb_system.specs.declared.held.HeldRequest.{HeldRequest}
 use Rattle.gb_system.specs.declared.held.HeldRequests.{HeldRequests}
 use Rattle.gb_system.specs.declared.parties.Parties.{Parties}
@@ -55,12 +52,12 @@ late-refusal s i c place wired =
     met-late (wired_conditions s i c) (answer_conditions s i c place) wired
 
 -- where no wired connection is there
-pub answer-refused : (x : Parties) (s : State) (i c place : ℕ) (reason : Refusal)
-    (es : List Entry) → PartiesStand x s → WiredAs s i c (Err reason)
-    → es ≡ entry.Refused reason ∷ [] → PartsStep x s (event.Answer i c place) es
-answer-refused x s i c place reason es st wired is =
-    lands-refused x s (event.Answer i c place) reason es
-    (met-early (wired_conditions s i c) (answer_conditions s i c place) reason wired) is st.parts
+pub answer-refused : {x : Parties} (s : State) (i c place : ℕ) (reason : Refusal)
+    → PartiesStand x s → WiredAs s i c (Err reason) → IsRefused x s (event.Answer i c place) reason
+answer-refused s i c place reason st wired = record {
+  refused = met-early (wired_conditions s i c) (answer_conditions s i c place) reason wired;
+  stand = st.parts;
+}
 
 -- where fewer are held
 fewer-held : (s : State) (i c k place : ℕ) → (w : IsAt s i c k)
@@ -89,18 +86,18 @@ held-alike {x} {s} held st same = record {
       subst (λ xs. StandForHeld s.bus.requests xs (held_on k s.held)) (sym (same k)) (st.held k);
 }
 
-pub answer-unheld : (x : Parties) (held : HeldRequests) (s : State) (i c k place : ℕ)
-    (es : List Entry) → PartiesStand x s → WiredAs s i c (Ok k)
-    → TakesNone x.held held k place → es ≡ entry.Refused why.NotHeld ∷ []
-    → PartsStep (record x { held = held }) s (event.Answer i c place) es
-answer-unheld x held s i c k place es st wired none is =
+pub answer-unheld : {x : Parties} (held : HeldRequests) (s : State) (i c k place : ℕ)
+    → PartiesStand x s → WiredAs s i c (Ok k) → TakesNone x.held held k place
+    → IsRefused (record x { held = held }) s (event.Answer i c place) why.NotHeld
+answer-unheld {x} held s i c k place st wired none =
     let w = is-at s i c k wired.1 in
-    let few = stand-fewer s.bus.requests x.held s.held k place st.parts.held none.fewer in
-    lands-refused (record x { held = held }) s (event.Answer i c place) why.NotHeld es
-    (late-refusal s i c place wired.0
-    ∙ ap (λ b. first_met ((b, why.NotHeld) ∷ []))
-    (fewer-held s i c k place w ∙ is-less (length (held_on k s.held)) place few)) is
-    (held-alike held st.parts none.same)
+    let few = stand-fewer s.bus.requests x.held s.held k place st.parts.held none.fewer in record {
+      refused =
+          late-refusal s i c place wired.0
+          ∙ ap (λ b. first_met ((b, why.NotHeld) ∷ []))
+          (fewer-held s i c k place w ∙ is-less (length (held_on k s.held)) place few);
+      stand = held-alike held st.parts none.same;
+    }
   where
     is-less : (a b : ℕ) → a < b → nat_lt a b ≡ true
     is-less a b less = grind (arith, nat_tests, less)
@@ -146,16 +143,15 @@ does-answers s i c place p h named there d =
 -- it is answered
 pub answer-done : (x z : Parties) (held : HeldRequests) (s : State) (i c k place : ℕ)
     (h : HeldRequest) (before es : List Entry) → 1 ≤ place → PartiesStand x s
-    → WiredAs s i c (Ok k) → Takes x.held held k place h → before ≡ entry.Done ∷ []
+    → WiredAs s i c (Ok k) → Takes x.held held k place h
     → ((u : State) (p : Place) (item : Item)
     → IsDelivered (end.Module i c) k h.asked h.payload u p.connection item
     → PartsStand (only k side.Far item) (record x { held = held }) u
     → place_of (end.Module i c) u.bus.connections ≡ Some p → side.Far ≡ p.side
     → p.side ≡ side.Far → Does z (serves_held p item) u before es)
-    → PartsStep z s (event.Answer i c place) es
-answer-done x z held s i c k zero h before es one st wired t begun serve =
-    absurd (omega (arith, one))
-answer-done x z held s i c k (suc m) h before es one st wired t begun serve =
+    → IsDone z s (event.Answer i c place) before es
+answer-done x z held s i c k zero h before es one st wired t serve = absurd (omega (arith, one))
+answer-done x z held s i c k (suc m) h before es one st wired t serve =
     let at = end.Module i c in
     let y = record x { held = held } in
     let w = is-at s i c k wired.1 in
@@ -184,16 +180,18 @@ answer-done x z held s i c k (suc m) h before es one st wired t begun serve =
     } in
     let few : nat_lt (length (held_on k s.held)) (suc m) ≡ false =
     not-less (length (held_on k s.held)) (suc m)
-    (nth-within (suc m) (held_on k s.held) f.one f.there) in
-    lands z s (event.Answer i c (suc m)) before es
-    (late-refusal s i c (suc m) wired.0
-    ∙ ap (λ b. first_met ((b, why.NotHeld) ∷ [])) (fewer-held s i c k (suc m) w ∙ few)) begun
-    (does-answers s i c (suc m) p f.one w.named
-    (ap (λ j. nth (suc m) (held_on j s.held)) w.number ∙ f.there)
-    (subst (λ j. Does z (serves_held p f.one.item) (with_fewer j (suc m) s) before es)
-    (sym w.number)
-    (serve u p f.one.item delivered
-    (subst (λ l. PartsStand (l ∷ []) y u) taken stand) w.named there.side (sym there.side))))
+    (nth-within (suc m) (held_on k s.held) f.one f.there) in record {
+      allowed =
+          late-refusal s i c (suc m) wired.0
+          ∙ ap (λ b. first_met ((b, why.NotHeld) ∷ [])) (fewer-held s i c k (suc m) w ∙ few);
+      done =
+          does-answers s i c (suc m) p f.one w.named
+          (ap (λ j. nth (suc m) (held_on j s.held)) w.number ∙ f.there)
+          (subst (λ j. Does z (serves_held p f.one.item) (with_fewer j (suc m) s) before es)
+          (sym w.number)
+          (serve u p f.one.item delivered
+          (subst (λ l. PartsStand (l ∷ []) y u) taken stand) w.named there.side (sym there.side)));
+    }
   where
     one-less : (n : ℕ) → suc n - 1 ≡ n
     one-less n = omega arith

@@ -10,7 +10,6 @@ use Rattle.gb_base.specs.declared.end.Side.TheVariants as side
 use Rattle.gb_base.specs.declared.entry.Entry.{Entry}
 use Rattle.gb_base.specs.declared.entry.Entry.TheVariants as entry
 use Rattle.gb_base.specs.declared.event.Event.TheVariants as event
-use Rattle.gb_base.specs.declared.refusal.Refusal.{Refusal}
 use Rattle.gb_base.specs.declared.refusal.Refusal.TheVariants as why
 use Rattle.gb_bus.proofs.Loosening.{stands-between}
 use Rattle.gb_bus.specs.Delivering.{Names, taken_from}
@@ -33,14 +32,13 @@ use Rattle.gb_system.proofs.Doings.{does-tell}
 use Rattle.gb_system.proofs.Heard.{made-as, request-dropped}
 use Rattle.gb_system.proofs.HoldMarks.{marked-alike}
 use Rattle.gb_system.proofs.Holdings.{stand-pushed}
-use Rattle.gb_system.proofs.Landing.{lands, lands-refused}
 use Rattle.gb_system.proofs.Standing.{let-gone}
-use Rattle.gb_system.specs.Doing.{Does}
+use Rattle.gb_system.specs.Doing.{Does, IsDone}
 use Rattle.gb_system.specs.Held.{HoldsAs, MarksAs, held_at}
 use Rattle.gb_system.specs.Holding.{WiredAs}
 use Rattle.gb_system.specs.Serving.{IsDelivered, MayServe, only, side_of}
-use Rattle.gb_system.specs.Stands.{PartiesStand, PartsStand, PartsStep, StandsForHeld, held_item}
-use Rattle.gb_system.specs.Stands.{held_items, names_of}
+use Rattle.gb_system.specs.Stands.{PartiesStand, PartsStand, StandsForHeld, held_item, held_items}
+use Rattle.gb_system.specs.Stands.{names_of}
 use Rattle.gb_system.specs.declared.held.HeldRequest.{HeldRequest}
 use Rattle.gb_system.specs.declared.held.HeldRequests.{HeldRequests}
 use Rattle.gb_system.specs.declared.parties.Parties.{Parties}
@@ -101,12 +99,6 @@ is-at s i c k is = by (module_place i c s) refl is
 
 -- ---- a connection gets the hold mark
 
-pub hold-refused : (x : Parties) (s : State) (i c : ℕ) (reason : Refusal) (es : List Entry)
-    → PartiesStand x s → WiredAs s i c (Err reason) → es ≡ entry.Refused reason ∷ []
-    → PartsStep x s (event.Hold i c) es
-hold-refused x s i c reason es st wired is =
-    lands-refused x s (event.Hold i c) reason es wired is st.parts
-
 -- the parties stand for it
 hold-stand : (x : Parties) (holds : List ℕ) (s : State) (k : ℕ) → PartsStand [] x s
     → MarksAs x.holds holds k true → PartsStand [] (record x { holds = holds }) (with_hold k s)
@@ -133,17 +125,18 @@ does-holds s i c p named d =
     does-by_state (λ t. given (module_place i c t) (λ q. change (with_hold q.connection.number)))
     (does-given (λ (q : Place). change (with_hold q.connection.number)) p named d)
 
-pub hold-done : (x : Parties) (holds : List ℕ) (s : State) (i c k : ℕ) (es : List Entry)
+pub hold-done : (x : Parties) (holds : List ℕ) (s : State) (i c k : ℕ) (told : List Entry)
     → PartiesStand x s → WiredAs s i c (Ok k) → MarksAs x.holds holds k true
-    → es ≡ entry.Done ∷ []
-    → PartsStep (record x { holds = holds }) s (event.Hold i c) es
-hold-done x holds s i c k es st wired marks is =
+    → IsDone (record x { holds = holds }) s (event.Hold i c) told told
+hold-done x holds s i c k told st wired marks =
     let y = record x { holds = holds } in
-    let w = is-at s i c k wired.1 in
-    lands y s (event.Hold i c) es es wired.0 is
-    (does-holds s i c w.place w.named
-    (subst (λ j. Does y (change (with_hold j)) s es es) (sym w.number)
-    (does-change (with_hold k) (hold-stand x holds s k st.parts marks))))
+    let w = is-at s i c k wired.1 in record {
+      allowed = wired.0;
+      done =
+          does-holds s i c w.place w.named
+          (subst (λ j. Does y (change (with_hold j)) s told told) (sym w.number)
+          (does-change (with_hold k) (hold-stand x holds s k st.parts marks)));
+    }
 
 -- ---- a request that is delivered is held
 

@@ -30,13 +30,12 @@ use Rattle.gb_machine.specs.Wiring.{injected}
 use Rattle.gb_system.proofs.Arrivals.{is-there}
 use Rattle.gb_system.proofs.Doings.{does-by_state, does-given, does-is}
 use Rattle.gb_system.proofs.HeldAsks.{is-at}
-use Rattle.gb_system.proofs.Landing.{lands, lands-refused}
 use Rattle.gb_system.proofs.Replies.{none-not}
 use Rattle.gb_system.proofs.Standing.{rebussed}
 use Rattle.gb_system.proofs.Ways.{met-early, met-late}
-use Rattle.gb_system.specs.Doing.{Does}
+use Rattle.gb_system.specs.Doing.{Does, IsDone, IsRefused}
 use Rattle.gb_system.specs.Holding.{WiredAs}
-use Rattle.gb_system.specs.Stands.{PartiesStand, PartsStep, around_bus}
+use Rattle.gb_system.specs.Stands.{PartiesStand, around_bus}
 use Rattle.gb_system.specs.declared.parties.Parties.{Parties}
 
 -- ---- refusals
@@ -45,12 +44,12 @@ use Rattle.gb_system.specs.declared.parties.Parties.{Parties}
 abbrev size_conditions : List ℕ → List Condition
 size_conditions bytes = (nat_lt longest_message (length bytes), why.TooLarge) ∷ []
 
-pub inject-refused : (x : Parties) (s : State) (i c : ℕ) (bytes : List ℕ) (reason : Refusal)
-    (es : List Entry) → PartiesStand x s → WiredAs s i c (Err reason)
-    → es ≡ entry.Refused reason ∷ [] → PartsStep x s (event.Inject i c bytes) es
-inject-refused x s i c bytes reason es st wired is =
-    lands-refused x s (event.Inject i c bytes) reason es
-    (met-early (wired_conditions s i c) (size_conditions bytes) reason wired) is st.parts
+pub inject-refused : {x : Parties} (s : State) (i c : ℕ) (bytes : List ℕ) (reason : Refusal)
+    → PartiesStand x s → WiredAs s i c (Err reason) → IsRefused x s (event.Inject i c bytes) reason
+inject-refused s i c bytes reason st wired = record {
+  refused = met-early (wired_conditions s i c) (size_conditions bytes) reason wired;
+  stand = st.parts;
+}
 
 late-refusal : (s : State) (i c : ℕ) (bytes : List ℕ) (large : Bool)
     → first_met (wired_conditions s i c) ≡ None → nat_lt longest_message (length bytes) ≡ large
@@ -59,13 +58,13 @@ late-refusal s i c bytes large wired is =
     met-late (wired_conditions s i c) (size_conditions bytes) wired
     ∙ ap (λ b. first_met ((b, why.TooLarge) ∷ [])) is
 
-pub inject-large : (x : Parties) (s : State) (i c k : ℕ) (bytes : List ℕ) (es : List Entry)
-    → PartiesStand x s → WiredAs s i c (Ok k) → longest_message < length bytes
-    → es ≡ entry.Refused why.TooLarge ∷ [] → PartsStep x s (event.Inject i c bytes) es
-inject-large x s i c k bytes es st wired large is =
-    lands-refused x s (event.Inject i c bytes) why.TooLarge es
-    (late-refusal s i c bytes true wired.0 (is-less longest_message (length bytes) large)) is
-    st.parts
+pub inject-large : {x : Parties} (s : State) (i c k : ℕ) (bytes : List ℕ) → PartiesStand x s
+    → WiredAs s i c (Ok k) → longest_message < length bytes
+    → IsRefused x s (event.Inject i c bytes) why.TooLarge
+inject-large s i c k bytes st wired large = record {
+  refused = late-refusal s i c bytes true wired.0 (is-less longest_message (length bytes) large);
+  stand = st.parts;
+}
   where
     is-less : (a b : ℕ) → a < b → nat_lt a b ≡ true
     is-less a b less = grind (arith, nat_tests, less)
@@ -118,26 +117,28 @@ does-injects i c bytes p named d =
 pub inject-done : (x : Parties) (y : Bus) (s : State) (i c k : ℕ) (bytes : List ℕ)
     (ends : ℕ × End) (before es : List Entry) → PartiesStand x s → WiredAs s i c (Ok k)
     → length bytes ≤ longest_message → InjectsAs x.bus y k bytes
-    → Some ends ≡ option_map ends_of (connection_of k s.bus) → before ≡ entry.Done ∷ []
+    → Some ends ≡ option_map ends_of (connection_of k s.bus)
     → es ≡ before ++ entry.Raw (end.Module i c) (end.Ap ends.0) (length bytes) bytes ∷ []
-    → PartsStep (record x { bus = y }) s (event.Inject i c bytes) es
-inject-done x y s i c k bytes ends before es st wired fits injects has begun is =
+    → IsDone (record x { bus = y }) s (event.Inject i c bytes) before es
+inject-done x y s i c k bytes ends before es st wired fits injects has is =
     let w = wired-at x s i c k st wired in
     let p = w.place in
     let after = injected p.connection.number bytes s.bus in
     let stands = subst (λ j. bus.Stands (around_bus [] s) y (injected j bytes s.bus)) (sym w.number)
     (injects (around_bus [] s) s.bus st.parts.bus (ap is_wired w.found ∙ w.wired)) in
     let same : ends ≡ ends_of p.connection =
-    same-some ends (ends_of p.connection) (has ∙ ap (option_map ends_of) w.found) in
-    lands (record x { bus = y }) s (event.Inject i c bytes) before es
-    (late-refusal s i c bytes false wired.0 (not-less longest_message (length bytes) fits)) begun
-    (does-injects i c bytes p w.named
-    (does-is (with_bus after s)
-    (entry.Raw (end.Module i c) (end.Ap p.connection.ap) (length bytes) bytes ∷ [])
-    (injects-is s i c bytes p)
-    (is ∙ ap (λ (e : ℕ × End). before
-    ++ entry.Raw (end.Module i c) (end.Ap e.0) (length bytes) bytes ∷ []) same)
-    (rebussed [] y after st.parts stands refl)))
+    same-some ends (ends_of p.connection) (has ∙ ap (option_map ends_of) w.found) in record {
+      allowed =
+          late-refusal s i c bytes false wired.0 (not-less longest_message (length bytes) fits);
+      done =
+          does-injects i c bytes p w.named
+          (does-is (with_bus after s)
+          (entry.Raw (end.Module i c) (end.Ap p.connection.ap) (length bytes) bytes ∷ [])
+          (injects-is s i c bytes p)
+          (is ∙ ap (λ (e : ℕ × End). before
+          ++ entry.Raw (end.Module i c) (end.Ap e.0) (length bytes) bytes ∷ []) same)
+          (rebussed [] y after st.parts stands refl));
+    }
   where
     not-less : (a b : ℕ) → b ≤ a → nat_lt a b ≡ false
     not-less a b most = grind (arith, nat_tests, most)

@@ -5,7 +5,6 @@ use Rattle.std.proofs.Common.{subst, arith}
 use Rattle.std.proofs.lemmas.Bool.Decides.{nat_tests}
 use Rattle.gb_base.specs.declared.end.Side.TheVariants as side
 use Rattle.gb_base.specs.declared.entry.Entry.{Entry}
-use Rattle.gb_base.specs.declared.entry.Entry.TheVariants as entry
 use Rattle.gb_base.specs.declared.event.Event.{Event}
 use Rattle.gb_base.specs.declared.event.Event.TheVariants as event
 use Rattle.gb_base.specs.declared.event.Kind.{Kind}
@@ -35,11 +34,10 @@ use Rattle.gb_switch.specs.Stands as switch
 use Rattle.gb_switch.specs.declared.ladder.Ladder.{Ladder}
 use Rattle.gb_system.proofs.Doings.{does-as, does-by_state, does-change, does-then, does-unless}
 use Rattle.gb_system.proofs.Doings.{does-when}
-use Rattle.gb_system.proofs.Landing.{lands}
 use Rattle.gb_system.specs.Acting.{IsAskable}
-use Rattle.gb_system.specs.Doing.{Does}
+use Rattle.gb_system.specs.Doing.{Does, IsDone}
 use Rattle.gb_system.specs.Drafts.{own_ask}
-use Rattle.gb_system.specs.Stands.{IsShort, PartsStand, PartsStep}
+use Rattle.gb_system.specs.Stands.{IsShort, PartsStand}
 use Rattle.gb_system.specs.declared.parties.Parties.{Parties}
 
 -- ---- what runs know
@@ -155,38 +153,39 @@ inserted : (y : Parties) (s : State) (i : ℕ) (manifest : List ℕ) (m : Module
     (before es : List Entry) → OfARun s → does e s ≡ plugs i m s
     → refusal s e ≡ first_met (insert_conditions s i manifest)
     → None ≡ first_met (insert_conditions s i manifest) → length m.manifest ≤ most_payload
-    → before ≡ entry.Done ∷ []
     → (is_powered i s.ports ≡ false → length m.manifest ≤ most_payload
     → Does y (plugs i m) s before es)
-    → PartsStep y s e es
-inserted y s i manifest m e before es run same by allowed short begun d =
-    lands y s e before es (by ∙ sym allowed) begun
-    (does-as (sym same) (d (unpowered-there s i run
-    (unmet (insert_conditions s i manifest) (sym allowed)).0) short))
+    → IsDone y s e before es
+inserted y s i manifest m e before es run same by allowed short d = record {
+  allowed = by ∙ sym allowed;
+  done =
+      does-as (sym same)
+      (d (unpowered-there s i run (unmet (insert_conditions s i manifest) (sym allowed)).0) short);
+}
 
 -- by its kind
 pub inserted-kind : (y : Parties) (s : State) (i : ℕ) (kind : Kind) (m : Module)
     (before es : List Entry) → OfARun s → m ≡ module_of_kind kind
-    → None ≡ first_met (insert_conditions s i []) → before ≡ entry.Done ∷ []
+    → None ≡ first_met (insert_conditions s i [])
     → (is_powered i s.ports ≡ false → length m.manifest ≤ most_payload
     → Does y (plugs i m) s before es)
-    → PartsStep y s (event.Insert i kind) es
+    → IsDone y s (event.Insert i kind) before es
 unfolding machine_opened
-inserted-kind y s i kind m before es run is allowed begun d =
+inserted-kind y s i kind m before es run is allowed d =
     inserted y s i [] m (event.Insert i kind) before es run
     (ap (λ w. plugs i w s) (sym is)) refl allowed
-    (subst (λ (w : Module). length w.manifest ≤ most_payload) (sym is) (kind-short kind)) begun d
+    (subst (λ (w : Module). length w.manifest ≤ most_payload) (sym is) (kind-short kind)) d
 
 -- by its manifest
 pub inserted-raw : (y : Parties) (s : State) (i : ℕ) (manifest : List ℕ) (m : Module)
     (before es : List Entry) → OfARun s → m ≡ module_raw manifest
-    → None ≡ first_met (insert_conditions s i manifest) → before ≡ entry.Done ∷ []
+    → None ≡ first_met (insert_conditions s i manifest)
     → (is_powered i s.ports ≡ false → length m.manifest ≤ most_payload
     → Does y (plugs i m) s before es)
-    → PartsStep y s (event.InsertRaw i manifest) es
+    → IsDone y s (event.InsertRaw i manifest) before es
 unfolding machine_opened
-inserted-raw y s i manifest m before es run is allowed begun d =
+inserted-raw y s i manifest m before es run is allowed d =
     inserted y s i manifest m (event.InsertRaw i manifest) before es run
     (ap (λ w. plugs i w s) (sym is)) refl allowed
     (subst (λ (w : Module). length w.manifest ≤ most_payload) (sym is)
-    (raw-short s i manifest (sym allowed))) begun d
+    (raw-short s i manifest (sym allowed))) d

@@ -35,17 +35,15 @@ use Rattle.gb_system.proofs.BoundNames.{apart-bound, apart-freed, named-sorted, 
 use Rattle.gb_system.proofs.BoundNames.{sorted-freed}
 use Rattle.gb_system.proofs.Doings.{does-by_state, does-change, does-given}
 use Rattle.gb_system.proofs.Endings.{lost}
-use Rattle.gb_system.proofs.Landing.{lands, lands-refused}
 use Rattle.gb_system.proofs.NameCounts.{count-bound, count-freed, length-sorted, made-bound}
 use Rattle.gb_system.proofs.NameCounts.{made-freed, named-asked}
 use Rattle.gb_system.proofs.Standing.{rebussed}
 use Rattle.gb_system.proofs.Turning.{may-follow}
-use Rattle.gb_system.specs.Doing.{Does}
+use Rattle.gb_system.specs.Doing.{Does, IsDone, IsRefused}
 use Rattle.gb_system.specs.Ending.{IsAwaited, MayFollow}
 use Rattle.gb_system.specs.NameOrder.{AreApart}
 use Rattle.gb_system.specs.Showing.{pair_before}
-use Rattle.gb_system.specs.Stands.{PartiesStand, PartsStand, PartsStep, around_bus, held_items}
-use Rattle.gb_system.specs.Stands.{names_of}
+use Rattle.gb_system.specs.Stands.{PartiesStand, PartsStand, around_bus, held_items, names_of}
 use Rattle.gb_system.specs.Ticking.{given_up}
 use Rattle.gb_system.specs.declared.parties.Parties.{Parties}
 
@@ -148,12 +146,12 @@ cancel_conditions s o =
     ∷ []
 
 -- a name that names nothing
-pub cancel-unnamed : (x : Parties) (s : State) (name : Name) (es : List Entry)
-    → PartiesStand x s → named name x.names ≡ None → es ≡ entry.Refused why.NoName ∷ []
-    → PartsStep x s (event.Cancel name) es
-cancel-unnamed x s name es st h is =
-    lands-refused x s (event.Cancel name) why.NoName es
-    (ap (λ o. first_met (cancel_conditions s o)) (named-is x s name st ∙ h)) is st.parts
+pub cancel-unnamed : (x : Parties) (s : State) (name : Name) → PartiesStand x s
+    → named name x.names ≡ None → IsRefused x s (event.Cancel name) why.NoName
+cancel-unnamed x s name st h = record {
+  refused = ap (λ o. first_met (cancel_conditions s o)) (named-is x s name st ∙ h);
+  stand = st.parts;
+}
 
 -- an open request has no outcome
 unended : (r : Option Request) (o : Option Outcome) → is_some r && is_none o ≡ true → o ≡ None
@@ -182,17 +180,17 @@ named-made (p ∷ ps) name n b made h = by (named-made ps name n b made.1) (same
 
 -- a request that had ended before
 pub cancel-ended : (x : Parties) (z : code.Bus) (s : State) (name : Name) (n : ℕ)
-    (es : List Entry) → PartiesStand x s → named name x.names ≡ Some n
-    → GivesUpNothing (around_bus [] s) z n s.bus → es ≡ entry.Refused why.AlreadyEnded ∷ []
-    → PartsStep (record x { bus = z }) s (event.Cancel name) es
-cancel-ended x z s name n es st h cancels is =
+    → PartiesStand x s → named name x.names ≡ Some n → GivesUpNothing (around_bus [] s) z n s.bus
+    → IsRefused (record x { bus = z }) s (event.Cancel name) why.AlreadyEnded
+cancel-ended x z s name n st h cancels =
     let names_it = named-is x s name st ∙ h in
     let made = named-made s.names name n s.bus (reached-names s st.run) names_it in
-    let ended = over (request_of n s.bus) (outcome_of n s.bus) made cancels.over in
-    lands-refused (record x { bus = z }) s (event.Cancel name) why.AlreadyEnded es
-    (ap (λ o. first_met (cancel_conditions s o)) names_it
-    ∙ ap (λ b. first_met ((b, why.AlreadyEnded) ∷ [])) ended) is
-    (rebussed [] z s.bus st.parts cancels.stands refl)
+    let ended = over (request_of n s.bus) (outcome_of n s.bus) made cancels.over in record {
+      refused =
+          ap (λ o. first_met (cancel_conditions s o)) names_it
+          ∙ ap (λ b. first_met ((b, why.AlreadyEnded) ∷ [])) ended;
+      stand = rebussed [] z s.bus st.parts cancels.stands refl;
+    }
 
 -- what is done where a request is given up
 pub does-gives_up : {y : Parties} (s : State) (how : Outcome) (n : ℕ) {before es : List Entry}
@@ -213,24 +211,26 @@ does-cancels s name n is d =
 -- an open request is given up
 pub cancel-done : (x y : Parties) (z : code.Bus) (s : State) (name : Name) (n : ℕ)
     (before es : List Entry) → PartiesStand x s → named name x.names ≡ Some n
-    → GivesUp (around_bus [] s) z outcome.Cancelled n s.bus → before ≡ entry.Done ∷ []
+    → GivesUp (around_bus [] s) z outcome.Cancelled n s.bus
     → (PartsStand [] (record x { bus = z }) (given_up n outcome.Cancelled s)
     → IsAwaited n (given_up n outcome.Cancelled s)
     → MayFollow n outcome.Cancelled (given_up n outcome.Cancelled s)
     → Does y (tell (entry.Ended n outcome.Cancelled reading.Nothing) ▸ follows n outcome.Cancelled)
     (given_up n outcome.Cancelled s) before es)
-    → PartsStep y s (event.Cancel name) es
-cancel-done x y z s name n before es st h cancels begun ends =
+    → IsDone y s (event.Cancel name) before es
+cancel-done x y z s name n before es st h cancels ends =
     let names_it = named-is x s name st ∙ h in
-    let still = unended (request_of n s.bus) (outcome_of n s.bus) cancels.unended in
-    lands y s (event.Cancel name) before es
-    (ap (λ o. first_met (cancel_conditions s o)) names_it
-    ∙ ap (λ o. first_met ((is_some o, why.AlreadyEnded) ∷ [])) still) begun
-    (does-cancels s name n names_it (does-gives_up s outcome.Cancelled n (ends
-    (rebussed [] z (gave_up n outcome.Cancelled s.bus) st.parts cancels.stands refl)
-    (lost n outcome.Cancelled s cancels.unended)
-    (may-follow n outcome.Cancelled (given_up n outcome.Cancelled s)
-    (knows-gave_up n outcome.Cancelled (knows-reached s st.run))))))
+    let still = unended (request_of n s.bus) (outcome_of n s.bus) cancels.unended in record {
+      allowed =
+          ap (λ o. first_met (cancel_conditions s o)) names_it
+          ∙ ap (λ o. first_met ((is_some o, why.AlreadyEnded) ∷ [])) still;
+      done =
+          does-cancels s name n names_it (does-gives_up s outcome.Cancelled n (ends
+          (rebussed [] z (gave_up n outcome.Cancelled s.bus) st.parts cancels.stands refl)
+          (lost n outcome.Cancelled s cancels.unended)
+          (may-follow n outcome.Cancelled (given_up n outcome.Cancelled s)
+          (knows-gave_up n outcome.Cancelled (knows-reached s st.run)))));
+    }
 
 -- ---- copies
 
@@ -240,23 +240,23 @@ copy_refusal from to = first_met
     ((not (is_some from), why.NoName) ∷ (is_some to, why.Occupied) ∷ [])
 
 -- the name to be copied names nothing
-pub copy-unnamed : (x : Parties) (s : State) (from to : Name) (es : List Entry)
-    → PartiesStand x s → named from x.names ≡ None → es ≡ entry.Refused why.NoName ∷ []
-    → PartsStep x s (event.Copy from to) es
-copy-unnamed x s from to es st h is =
-    lands-refused x s (event.Copy from to) why.NoName es
-    (ap (λ o. copy_refusal o (named to s.names)) (named-is x s from st ∙ h)) is st.parts
+pub copy-unnamed : (x : Parties) (s : State) (from to : Name) → PartiesStand x s
+    → named from x.names ≡ None → IsRefused x s (event.Copy from to) why.NoName
+copy-unnamed x s from to st h = record {
+  refused = ap (λ o. copy_refusal o (named to s.names)) (named-is x s from st ∙ h);
+  stand = st.parts;
+}
 
 -- the new name names something
-pub copy-occupied : (x : Parties) (s : State) (from to : Name) (n : ℕ) (es : List Entry)
-    → PartiesStand x s → named from x.names ≡ Some n → is_some (named to x.names) ≡ true
-    → es ≡ entry.Refused why.Occupied ∷ []
-    → PartsStep x s (event.Copy from to) es
-copy-occupied x s from to n es st h taken is =
-    lands-refused x s (event.Copy from to) why.Occupied es
-    (ap (λ o. copy_refusal o (named to s.names)) (named-is x s from st ∙ h)
-    ∙ ap (λ b. first_met ((b, why.Occupied) ∷ [])) (ap is_some (named-is x s to st) ∙ taken)) is
-    st.parts
+pub copy-occupied : (x : Parties) (s : State) (from to : Name) (n : ℕ) → PartiesStand x s
+    → named from x.names ≡ Some n → is_some (named to x.names) ≡ true
+    → IsRefused x s (event.Copy from to) why.Occupied
+copy-occupied x s from to n st h taken = record {
+  refused =
+      ap (λ o. copy_refusal o (named to s.names)) (named-is x s from st ∙ h)
+      ∙ ap (λ b. first_met ((b, why.Occupied) ∷ [])) (ap is_some (named-is x s to st) ∙ taken);
+  stand = st.parts;
+}
 
 -- what a copy does
 does-copies : {y : Parties} (s : State) (from to : Name) (n : ℕ) {before : List Entry}
@@ -269,32 +269,32 @@ does-copies s from to n is st =
 
 -- a request gets another name
 pub copy-done : (x : Parties) (y : code.Bus) (names : List (Name × ℕ)) (s : State)
-    (from to : Name) (n : ℕ) (es : List Entry) → PartiesStand x s → named from x.names ≡ Some n
-    → is_some (named to x.names) ≡ false
-    → Binds x.names names to n → Keeps x.bus y n → es ≡ entry.Done ∷ []
-    → PartsStep (record x { bus = y; names = names }) s (event.Copy from to) es
-copy-done x y names s from to n es st h free binds keeps is =
+    (from to : Name) (n : ℕ) (told : List Entry) → PartiesStand x s → named from x.names ≡ Some n
+    → is_some (named to x.names) ≡ false → Binds x.names names to n → Keeps x.bus y n
+    → IsDone (record x { bus = y; names = names }) s (event.Copy from to) told told
+copy-done x y names s from to n told st h free binds keeps =
     let names_it = named-is x s from st ∙ h in
     let none = none-of (named to x.names) free in
-    let free_there = named-is x s to st ∙ none in
-    lands (record x { bus = y; names = names }) s (event.Copy from to) es es
-    (ap (λ o. copy_refusal o (named to s.names)) names_it
-    ∙ ap (copy_refusal (Some n)) free_there) is
-    (does-copies s from to n names_it
-    (bound-stand x s y names to n st.parts free_there binds keeps
-    (named-asked from s.names n s.bus names_it
-    (named-made s.names from n s.bus (reached-names s st.run) names_it))))
+    let free_there = named-is x s to st ∙ none in record {
+      allowed =
+          ap (λ o. copy_refusal o (named to s.names)) names_it
+          ∙ ap (copy_refusal (Some n)) free_there;
+      done =
+          does-copies s from to n names_it
+          (bound-stand x s y names to n st.parts free_there binds keeps
+          (named-asked from s.names n s.bus names_it
+          (named-made s.names from n s.bus (reached-names s st.run) names_it)));
+    }
 
 -- ---- frees
 
 -- the name names nothing
-pub forget-unnamed : (x : Parties) (s : State) (name : Name) (es : List Entry)
-    → PartiesStand x s → named name x.names ≡ None → es ≡ entry.Refused why.NoName ∷ []
-    → PartsStep x s (event.Forget name) es
-forget-unnamed x s name es st h is =
-    lands-refused x s (event.Forget name) why.NoName es
-    (ap (λ o. first_met ((not (is_some o), why.NoName) ∷ [])) (named-is x s name st ∙ h)) is
-    st.parts
+pub forget-unnamed : (x : Parties) (s : State) (name : Name) → PartiesStand x s
+    → named name x.names ≡ None → IsRefused x s (event.Forget name) why.NoName
+forget-unnamed x s name st h = record {
+  refused = ap (λ o. first_met ((not (is_some o), why.NoName) ∷ [])) (named-is x s name st ∙ h);
+  stand = st.parts;
+}
 
 -- what a free does
 does-frees : {y : Parties} (s : State) (name : Name) {before : List Entry}
@@ -304,12 +304,12 @@ does-frees s name st = does-change (freed name) st
 
 -- the name is free again
 pub forget-done : (x : Parties) (y : code.Bus) (names : List (Name × ℕ)) (s : State)
-    (name : Name) (n : ℕ) (es : List Entry) → PartiesStand x s → named name x.names ≡ Some n
+    (name : Name) (n : ℕ) (told : List Entry) → PartiesStand x s → named name x.names ≡ Some n
     → names ≡ without (λ p. same_name p.0 name) x.names → Loosens x.bus y n
-    → es ≡ entry.Done ∷ []
-    → PartsStep (record x { bus = y; names = names }) s (event.Forget name) es
-forget-done x y names s name n es st h same loosens is =
-    lands (record x { bus = y; names = names }) s (event.Forget name) es es
-    (ap (λ o. first_met ((not (is_some o), why.NoName) ∷ [])) (named-is x s name st ∙ h)) is
-    (does-frees s name
-    (freed-stand x s y names name n st.parts (named-is x s name st ∙ h) same loosens))
+    → IsDone (record x { bus = y; names = names }) s (event.Forget name) told told
+forget-done x y names s name n told st h same loosens = record {
+  allowed = ap (λ o. first_met ((not (is_some o), why.NoName) ∷ [])) (named-is x s name st ∙ h);
+  done =
+      does-frees s name
+      (freed-stand x s y names name n st.parts (named-is x s name st ∙ h) same loosens);
+}

@@ -4,7 +4,6 @@ use Rattle.std.proofs.Common.{◌∷◌, ◌++◌, length, drop, drop_of_length-
 use Rattle.std.proofs.Common.{arith, cond, is_some}
 use Rattle.gb_base.specs.declared.end.Side.TheVariants as side
 use Rattle.gb_base.specs.declared.entry.Entry.{Entry}
-use Rattle.gb_base.specs.declared.entry.Entry.TheVariants as entry
 use Rattle.gb_base.specs.declared.event.Event.TheVariants as event
 use Rattle.gb_base.specs.declared.refusal.Refusal.{Refusal}
 use Rattle.gb_base.specs.declared.refusal.Refusal.TheVariants as why
@@ -26,14 +25,13 @@ use Rattle.gb_machine.specs.Wires.{unwires, with_unwired}
 use Rattle.gb_switch.specs.Stands as switch
 use Rattle.gb_switch.specs.declared.ladder.Ladder.{Ladder}
 use Rattle.gb_system.proofs.Doings.{does-by_state, does-change, does-then}
-use Rattle.gb_system.proofs.Landing.{lands, lands-refused}
 use Rattle.gb_system.proofs.Midways.{Midway, each-cons, each-nil, midway-as, midway-end}
 use Rattle.gb_system.proofs.Midways.{midway-more}
 use Rattle.gb_system.proofs.Standing.{repast}
 use Rattle.gb_system.specs.Acting.{IsAskable}
-use Rattle.gb_system.specs.Doing.{Does}
+use Rattle.gb_system.specs.Doing.{Does, IsDone, IsRefused}
 use Rattle.gb_system.specs.Drafts.{own_ask}
-use Rattle.gb_system.specs.Stands.{IsShort, PartiesStand, PartsStand, PartsStep}
+use Rattle.gb_system.specs.Stands.{IsShort, PartiesStand, PartsStand}
 use Rattle.gb_system.specs.declared.parties.Parties.{Parties}
 
 -- ---- actions for each of a list, midway
@@ -68,21 +66,23 @@ refusal-is : (s : State) (i : ℕ) → refusal s (event.Pull i)
 refusal-is s i = refl
 
 -- no module is there
-pub pull-nothing : (x : Parties) (s : State) (i : ℕ) (es : List Entry)
-    → PartiesStand x s → is_plugged i s.modules ≡ false → es ≡ entry.Refused why.NoInterface ∷ []
-    → PartsStep x s (event.Pull i) es
-pull-nothing x s i es st there is =
-    lands-refused x s (event.Pull i) why.NoInterface es
-    (refusal-is s i ∙ ap (λ b. pull_refusal b (has_no_label 1 side.Far s)) there) is st.parts
+pub pull-nothing : {x : Parties} (s : State) (i : ℕ) → PartiesStand x s
+    → is_plugged i s.modules ≡ false → IsRefused x s (event.Pull i) why.NoInterface
+pull-nothing s i st there = record {
+  refused = refusal-is s i ∙ ap (λ b. pull_refusal b (has_no_label 1 side.Far s)) there;
+  stand = st.parts;
+}
 
 -- no identifier is left
-pub pull-spent : (x : Parties) (s : State) (i : ℕ) (es : List Entry)
-    → PartiesStand x s → is_plugged i s.modules ≡ true → has_no_label 1 side.Far s ≡ true
-    → es ≡ entry.Refused why.NoLabel ∷ [] → PartsStep x s (event.Pull i) es
-pull-spent x s i es st there spent is =
-    lands-refused x s (event.Pull i) why.NoLabel es
-    (refusal-is s i ∙ ap (λ b. pull_refusal b (has_no_label 1 side.Far s)) there
-    ∙ ap (pull_refusal true) spent) is st.parts
+pub pull-spent : {x : Parties} (s : State) (i : ℕ) → PartiesStand x s
+    → is_plugged i s.modules ≡ true → has_no_label 1 side.Far s ≡ true
+    → IsRefused x s (event.Pull i) why.NoLabel
+pull-spent s i st there spent = record {
+  refused =
+      refusal-is s i ∙ ap (λ b. pull_refusal b (has_no_label 1 side.Far s)) there
+      ∙ ap (pull_refusal true) spent;
+  stand = st.parts;
+}
 
 pull-allowed : (s : State) (i : ℕ) → is_plugged i s.modules ≡ true
     → has_no_label 1 side.Far s ≡ false → refusal s (event.Pull i) ≡ None
@@ -173,7 +173,6 @@ removed-askable i = (omega arith, omega arith)
 pub record Pulling (x y : Parties) (s : State) (i : ℕ) (before told : List Entry) : Type 0 where
   pub there : is_plugged i s.modules ≡ true
   pub spent : has_no_label 1 side.Far s ≡ false
-  pub begun : before ≡ entry.Done ∷ []
   pub unwired : Does x (each (wired_numbers i s.bus) unwires) s before told
   pub modules : y.modules ≡ unplugged i x.modules
   pub ports : switch.Stands y.ladder
@@ -201,10 +200,12 @@ pub pull-done : (x y z : Parties) (s : State) (i : ℕ) (before told es : List E
     → Pulling x y s i before told
     → ((t : State) → PartsStand [] y t
     → Does z (when t.booted (tells_removed i)) t told es)
-    → PartsStep z s (event.Pull i) es
+    → IsDone z s (event.Pull i) before es
 pull-done x y z s i before told es p removed =
-    let t = with_pulled i (after_unwiring (wired_numbers i s.bus) s) in
-    lands z s (event.Pull i) before es (pull-allowed s i p.there p.spent) p.begun
-    (does-pulled i p.unwired (pulling-stand p)
-    (subst (λ b. Does z (when b (tells_removed i)) t told es)
-    (pulled-booted i s) (removed t (pulling-stand p))))
+    let t = with_pulled i (after_unwiring (wired_numbers i s.bus) s) in record {
+      allowed = pull-allowed s i p.there p.spent;
+      done =
+          does-pulled i p.unwired (pulling-stand p)
+          (subst (λ b. Does z (when b (tells_removed i)) t told es)
+          (pulled-booted i s) (removed t (pulling-stand p)));
+    }

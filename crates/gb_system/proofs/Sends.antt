@@ -7,7 +7,6 @@ use Rattle.gb_base.specs.declared.end.End.{End}
 use Rattle.gb_base.specs.declared.end.End.TheVariants as end
 use Rattle.gb_base.specs.declared.end.Side.TheVariants as side
 use Rattle.gb_base.specs.declared.entry.Entry.{Entry}
-use Rattle.gb_base.specs.declared.entry.Entry.TheVariants as entry
 use Rattle.gb_base.specs.declared.event.Event.TheVariants as event
 use Rattle.gb_base.specs.declared.name.Name.{Name}
 use Rattle.gb_base.specs.declared.peers.Link.{Link}
@@ -37,26 +36,23 @@ use Rattle.gb_machine.specs.Refusals.{has_no_label, is_long_payload, send_to_con
 use Rattle.gb_machine.specs.Sending.{Draft, label_for, sent}
 use Rattle.gb_machine.specs.State.{State}
 use Rattle.gb_system.proofs.Doings.{does-by_state, does-given, does-is}
-use Rattle.gb_system.proofs.Landing.{lands, lands-refused}
 use Rattle.gb_system.proofs.NamedRequests.{Binds, Keeps, bound-stand}
 use Rattle.gb_system.specs.Acting.{IsAskable}
-use Rattle.gb_system.specs.Doing.{Does}
+use Rattle.gb_system.specs.Doing.{Does, IsDone, IsRefused}
 use Rattle.gb_system.specs.Sending.{GoesAs, IsWay}
-use Rattle.gb_system.specs.Stands.{PartiesStand, PartsStand, PartsStep, names_of}
+use Rattle.gb_system.specs.Stands.{PartiesStand, PartsStand, names_of}
 use Rattle.gb_system.specs.declared.parties.Parties.{Parties}
 use Rattle.gb_system.proofs.Ways.{goes, met-late}
 
 -- ---- the request
 
 -- a request of a script is refused
-pub send-refused : (x : Parties) (s : State) (name : Name) (to : End) (kind : ℕ)
-    (payload : List ℕ) (timeout : ℕ) (why : Refusal) (es : List Entry) → IsFar to
-    → PartiesStand x s → GoesAs s name to kind payload (Err why)
-    → es ≡ entry.Refused why ∷ []
-    → PartsStep x s (event.Send name to kind payload timeout) es
-send-refused x s name to kind payload timeout why es far st goes is =
-    lands-refused x s (event.Send name to kind payload timeout) why es
-    (by to far goes) is st.parts
+pub send-refused : {x : Parties} (s : State) (name : Name) (to : End) (kind : ℕ)
+    (payload : List ℕ) (timeout : ℕ) (why : Refusal) → IsFar to → PartiesStand x s
+    → GoesAs s name to kind payload (Err why)
+    → IsRefused x s (event.Send name to kind payload timeout) why
+send-refused s name to kind payload timeout why far st goes =
+    record { refused = by to far goes; stand = st.parts }
   where
     by : (to : End) → IsFar to → GoesAs s name to kind payload (Err why)
         → first_met (send_to_conditions s name to kind payload) ≡ Some why
@@ -293,18 +289,20 @@ sent-numbered x s k kind payload deadline o st number label =
 pub send-done : (x y : Parties) (s : State) (name : Name) (to : End) (kind : ℕ)
     (payload : List ℕ) (timeout wait k : ℕ) (before es : List Entry)
     → IsValid (event.Send name to kind payload timeout) → wait ≡ timeout → PartiesStand x s
-    → GoesAs s name to kind payload (Ok k) → before ≡ entry.Done ∷ []
+    → GoesAs s name to kind payload (Ok k)
     → ((t : State) → PartsStand [] x t → named name t.names ≡ None → IsAskable kind payload
     → IsSome (next_label k side.Ap t.bus)
     → Does y (sends_on name k kind payload wait) t before es)
-    → PartsStep y s (event.Send name to kind payload timeout) es
+    → IsDone y s (event.Send name to kind payload timeout) before es
 unfolding machine_opened
-send-done x y s name to kind payload timeout wait k before es valid same st goes_as begun sent =
+send-done x y s name to kind payload timeout wait k before es valid same st goes_as sent =
     let far = valid.1 in
     let g = goes-so s name to kind payload k far goes_as in
-    let low : kind < 128 = let most = valid.2 in omega (arith, most) in
-    lands y s (event.Send name to kind payload timeout) before es g.allowed begun
-    (does-sends name to k kind payload timeout far g.way
-    (subst (λ d. Does y (sends_on name k kind payload d) s before es) same
-    (sent s st.parts (is-free s name to kind payload k far g)
-    (low, fits s name to kind payload k far g) g.label)))
+    let low : kind < 128 = let most = valid.2 in omega (arith, most) in record {
+      allowed = g.allowed;
+      done =
+          does-sends name to k kind payload timeout far g.way
+          (subst (λ d. Does y (sends_on name k kind payload d) s before es) same
+          (sent s st.parts (is-free s name to kind payload k far g)
+          (low, fits s name to kind payload k far g) g.label));
+    }

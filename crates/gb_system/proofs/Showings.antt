@@ -23,10 +23,10 @@ use Rattle.gb_machine.specs.Show.{state_of}
 use Rattle.gb_machine.specs.State.{State}
 use Rattle.gb_machine.specs.Waiting.{Queue, queues}
 use Rattle.gb_system.proofs.Doings.{does-by_state, does-tell_all}
-use Rattle.gb_system.proofs.Landing.{lands}
 use Rattle.gb_system.proofs.Midways.{drop-next}
 use Rattle.gb_system.specs.Showing.{known_shown, lines, waiting_shown}
-use Rattle.gb_system.specs.Stands.{PartsStand, PartsStep}
+use Rattle.gb_system.specs.Doing.{IsDone}
+use Rattle.gb_system.specs.Stands.{PartsStand}
 use Rattle.gb_system.specs.declared.parties.Parties.{Parties}
 
 -- the lines of two lists of texts
@@ -110,34 +110,38 @@ behind-time s a b c d ea eb ec ed =
     cons = map (connection_shown s.host) s.bus.connections
 
 -- the entries are the machine's, and nothing changed
-shown-as : (x : Parties) (s : State) (es : List Entry) → PartsStand [] x s
-    → es ≡ entry.Done ∷ shown s → PartsStep x s event.Show es
+shown-as : (x : Parties) (s : State) (before es : List Entry) → PartsStand [] x s
+    → es ≡ before ++ shown s → IsDone x s event.Show before es
 unfolding machine_opened
-shown-as x s es st is =
-    lands x s event.Show (entry.Done ∷ []) es refl refl
-    (does-by_state (λ t. tell_all (shown t)) (does-tell_all (shown s) st is))
+shown-as x s before es st is = record {
+  allowed = refl;
+  done = does-by_state (λ t. tell_all (shown t)) (does-tell_all (shown s) st is);
+}
 
 -- The lines are told one part after another.
 pub shows : (x : Parties) (s : State) (e0 e1 e2 e3 e4 e5 : List Entry) (text : List ℕ)
     (known : List Interface) (live : List Known) (waiting : List Waiting) → PartsStand [] x s
-    → e0 ≡ entry.Done ∷ [] → text ≡ now_line x.time → e1 ≡ e0 ++ entry.Shown text ∷ []
+    → text ≡ now_line x.time → e1 ≡ e0 ++ entry.Shown text ∷ []
     → e2 ≡ e1 ++ lines (map interface_shown known)
     → e3 ≡ e2 ++ lines (map (known_shown (host_of x.host)) live)
     → e4 ≡ e3 ++ lines (map waiting_shown waiting)
     → e5 ≡ e4 ++ lines (map (name_shown s.bus) x.names)
     → known ≡ s.host.interfaces → live ≡ map known_of s.bus.connections
     → waiting ≡ map waiting_of (queues s.bus)
-    → PartsStep x s event.Show e5
-shows x s e0 e1 e2 e3 e4 e5 text known live waiting st i0 it i1 i2 i3 i4 i5 ik il iw =
-    shown-as x s e5 st
+    → IsDone x s event.Show e0 e5
+shows x s e0 e1 e2 e3 e4 e5 text known live waiting st it i1 i2 i3 i4 i5 ik il iw =
+    shown-as x s e0 e5 st
     (i5 ∙ ap (λ es. es ++ d) (i4 ∙ ap (λ es. es ++ c) (i3 ∙ ap (λ es. es ++ b)
-    (i2 ∙ ap (λ es. es ++ a) (i1 ∙ ap (λ es. es ++ entry.Shown text ∷ []) i0
-    ∙ ap (λ t. entry.Done ∷ entry.Shown t ∷ []) (it ∙ ap now_line (sym st.time))))))
-    ∙ four-behind (entry.Done ∷ entry.Shown (now_line s.now) ∷ []) a b c d
-    ∙ ap (λ es. entry.Done ∷ es) (behind-time s (map interface_shown known)
+    (i2 ∙ ap (λ es. es ++ a) (i1
+    ∙ ap (λ t. e0 ++ entry.Shown t ∷ []) (it ∙ ap now_line (sym st.time))))))
+    ∙ four-behind (e0 ++ time) a b c d ∙ append_assoc e0 time (a ++ (b ++ (c ++ d)))
+    ∙ ap (λ es. e0 ++ es) (behind-time s (map interface_shown known)
     (map (known_shown (host_of x.host)) live) (map waiting_shown waiting)
     (map (name_shown s.bus) x.names) (ap (map interface_shown) ik) eb ec ed))
   where
+    time : List Entry
+    time = entry.Shown (now_line s.now) ∷ []
+
     a : List Entry
     a = lines (map interface_shown known)
 

@@ -5,7 +5,6 @@ use Rattle.std.proofs.lemmas.List.{set-get_or}
 use Rattle.std.specs.Prelude.{option_and_then}
 use Rattle.std.specs.List.{position_from}
 use Rattle.gb_base.specs.declared.entry.Entry.{Entry}
-use Rattle.gb_base.specs.declared.entry.Entry.TheVariants as entry
 use Rattle.gb_base.specs.declared.event.Event.{Event}
 use Rattle.gb_base.specs.declared.refusal.Refusal.TheVariants as why
 use Rattle.gb_base.specs.declared.served.OwnAsk.{OwnAsk}
@@ -36,13 +35,12 @@ use Rattle.gb_module.specs.declared.stir.StirFault.TheVariants as fault
 use Rattle.gb_system.proofs.Doings.{does-by_state, does-change}
 use Rattle.gb_system.proofs.Doings.{does-given, does-given_none, does-then}
 use Rattle.gb_system.proofs.Fits.{stir-asks}
-use Rattle.gb_system.proofs.Landing.{lands, lands-refused}
 use Rattle.gb_system.proofs.ModuleServes.{short-at, short-with, stands-with, with_modules}
 use Rattle.gb_system.proofs.Plugged.{none-there}
 use Rattle.gb_system.specs.Acting.{AreAskable}
-use Rattle.gb_system.specs.Doing.{Does}
+use Rattle.gb_system.specs.Doing.{Does, IsDone, IsRefused}
 use Rattle.gb_system.specs.Plugging.{StirsAt, StirsThere, event_of_stir}
-use Rattle.gb_system.specs.Stands.{PartiesStand, PartsStand, PartsStep}
+use Rattle.gb_system.specs.Stands.{PartiesStand, PartsStand}
 use Rattle.gb_system.specs.declared.parties.Parties.{Parties}
 
 -- ---- the modules
@@ -132,20 +130,20 @@ stand-still x s mods same st =
 
 -- none is plugged at the interface
 pub stir-nowhere : (x : Parties) (s : State) (i c : ℕ) (what : code.Stir) (mods : List Plugged)
-    (es : List Entry) → PartiesStand x s
+    → PartiesStand x s
     → StirsThere i c (stir_of what) (module_at i x.modules) x.modules mods (Ok None)
-    → es ≡ entry.Refused why.NoInterface ∷ []
-    → PartsStep (record x { modules = mods }) s (event_of_stir i c what) es
-stir-nowhere x s i c what mods es st h told = by (module_at i x.modules) refl h
+    → IsRefused (record x { modules = mods }) s (event_of_stir i c what) why.NoInterface
+stir-nowhere x s i c what mods st h = by (module_at i x.modules) refl h
   where
     by : (o : Option Module) → module_at i x.modules ≡ o
         → StirsThere i c (stir_of what) o x.modules mods (Ok None)
-        → PartsStep (record x { modules = mods }) s (event_of_stir i c what) es
-    by None there t =
-        lands-refused (record x { modules = mods }) s (event_of_stir i c what) why.NoInterface es
-        (refusal-is x i c what s st
-        ∙ ap (λ o. first_met (refusals_by c (stir_of what) o)) there)
-        told (stand-still x s mods t.1 st.parts)
+        → IsRefused (record x { modules = mods }) s (event_of_stir i c what) why.NoInterface
+    by None there t = record {
+      refused =
+          refusal-is x i c what s st
+          ∙ ap (λ o. first_met (refusals_by c (stir_of what) o)) there;
+      stand = stand-still x s mods t.1 st.parts;
+    }
     by (Some m) there t = absurd (no (module_stir m c (stir_of what)) t)
       where
         no : (o : Option (Stirred Module)) → StirsAt i o x.modules mods (Ok None) → ⊥
@@ -154,27 +152,27 @@ stir-nowhere x s i c what mods es st h told = by (module_at i x.modules) refl h
 
 -- the module has no such device
 pub stir-unfit : (x : Parties) (s : State) (i c : ℕ) (what : code.Stir) (mods : List Plugged)
-    (es : List Entry) → PartiesStand x s
+    → PartiesStand x s
     → StirsThere i c (stir_of what) (module_at i x.modules) x.modules mods (Err fault.NoCport)
-    → es ≡ entry.Refused why.NoCport ∷ []
-    → PartsStep (record x { modules = mods }) s (event_of_stir i c what) es
-stir-unfit x s i c what mods es st h told = by (module_at i x.modules) refl h
+    → IsRefused (record x { modules = mods }) s (event_of_stir i c what) why.NoCport
+stir-unfit x s i c what mods st h = by (module_at i x.modules) refl h
   where
     by : (o : Option Module) → module_at i x.modules ≡ o
         → StirsThere i c (stir_of what) o x.modules mods (Err fault.NoCport)
-        → PartsStep (record x { modules = mods }) s (event_of_stir i c what) es
+        → IsRefused (record x { modules = mods }) s (event_of_stir i c what) why.NoCport
     by None there t = absurd (cc (t.0))
     by (Some m) there t = at (module_stir m c (stir_of what)) refl t
       where
         at : (o : Option (Stirred Module)) → module_stir m c (stir_of what) ≡ o
             → StirsAt i o x.modules mods (Err fault.NoCport)
-            → PartsStep (record x { modules = mods }) s (event_of_stir i c what) es
-        at None none u =
-            lands-refused (record x { modules = mods }) s (event_of_stir i c what) why.NoCport es
-            (refusal-is x i c what s st
-            ∙ ap (λ o. first_met (refusals_by c (stir_of what) o)) there
-            ∙ ap (λ o. first_met ((is_none o, why.NoCport) ∷ [])) none)
-            told (stand-still x s mods u.1 st.parts)
+            → IsRefused (record x { modules = mods }) s (event_of_stir i c what) why.NoCport
+        at None none u = record {
+          refused =
+              refusal-is x i c what s st
+              ∙ ap (λ o. first_met (refusals_by c (stir_of what) o)) there
+              ∙ ap (λ o. first_met ((is_none o, why.NoCport) ∷ [])) none;
+          stand = stand-still x s mods u.1 st.parts;
+        }
         at (Some v) some u = absurd u
 
 -- ---- the requests of its own
@@ -224,14 +222,13 @@ does-stirs {x} {y} {s} i c what m v found some stand asks =
 stir-done : (x y : Parties) (s : State) (i c : ℕ) (what : code.Stir) (mods : List Plugged)
     (own : List OwnAsk) (o : Option ℕ) (before es : List Entry) → PartiesStand x s
     → StirsThere i c (stir_of what) (module_at i x.modules) x.modules mods (Ok (Some own))
-    → before ≡ entry.Done ∷ []
     → ((t : State) → PartsStand [] (record x { modules = mods }) t
     → o ≡ option_map number_of (module_place i c t))
     → ((k : ℕ) (t : State) → o ≡ Some k → PartsStand [] (record x { modules = mods }) t
     → AreAskable own → Does y (far_asks_all k own) t before es)
     → (o ≡ None → (y ≡ record x { modules = mods }) × (es ≡ before))
-    → PartsStep y s (event_of_stir i c what) es
-stir-done x y s i c what mods own o before es st h begun names asks still =
+    → IsDone y s (event_of_stir i c what) before es
+stir-done x y s i c what mods own o before es st h names asks still =
     by (module_at i x.modules) refl h
   where
     e : Event
@@ -239,7 +236,7 @@ stir-done x y s i c what mods own o before es st h begun names asks still =
 
     by : (p : Option Module) → module_at i x.modules ≡ p
         → StirsThere i c (stir_of what) p x.modules mods (Ok (Some own))
-        → PartsStep y s e es
+        → IsDone y s e before es
     by None there t = absurd (cc (t.0))
     by (Some m) there t = at (module_stir m c (stir_of what)) refl t
       where
@@ -247,11 +244,13 @@ stir-done x y s i c what mods own o before es st h begun names asks still =
         found = ap (module_at i) st.parts.modules ∙ there
 
         at : (v : Option (Stirred Module)) → module_stir m c (stir_of what) ≡ v
-            → StirsAt i v x.modules mods (Ok (Some own)) → PartsStep y s e es
+            → StirsAt i v x.modules mods (Ok (Some own)) → IsDone y s e before es
         at None none u = absurd (cc (u.0))
-        at (Some v) some u =
-            lands y s e before es allowed begun
-            (subst (λ (f : Action). Does y f s before es) (sym (does-stir i c what)) (stirs-as))
+        at (Some v) some u = record {
+          allowed = allowed;
+          done =
+              subst (λ (f : Action). Does y f s before es) (sym (does-stir i c what)) stirs-as;
+        }
           where
             allowed : refusal s e ≡ None
             allowed =
@@ -291,15 +290,14 @@ stir-done x y s i c what mods own o before es st h begun names asks still =
 pub stir-wired : (x y : Parties) (s : State) (i c : ℕ) (what : code.Stir) (mods : List Plugged)
     (own : List OwnAsk) (o : Option ℕ) (k : ℕ) (before es : List Entry) → PartiesStand x s
     → StirsThere i c (stir_of what) (module_at i x.modules) x.modules mods (Ok (Some own))
-    → before ≡ entry.Done ∷ []
     → ((t : State) → PartsStand [] (record x { modules = mods }) t
     → o ≡ option_map number_of (module_place i c t))
     → o ≡ Some k
     → ((t : State) → PartsStand [] (record x { modules = mods }) t → AreAskable own
     → Does y (far_asks_all k own) t before es)
-    → PartsStep y s (event_of_stir i c what) es
-stir-wired x y s i c what mods own o k before es st h begun names at asks =
-    stir-done x y s i c what mods own o before es st h begun names
+    → IsDone y s (event_of_stir i c what) before es
+stir-wired x y s i c what mods own o k before es st h names at asks =
+    stir-done x y s i c what mods own o before es st h names
     (λ j t is stand askable.
     subst (λ n. Does y (far_asks_all n own) t before es)
     (same-some k j (sym at ∙ is)) (asks t stand askable))
@@ -307,13 +305,12 @@ stir-wired x y s i c what mods own o k before es st h begun names at asks =
 
 -- it isn't
 pub stir-unwired : (x : Parties) (s : State) (i c : ℕ) (what : code.Stir) (mods : List Plugged)
-    (own : List OwnAsk) (o : Option ℕ) (es : List Entry) → PartiesStand x s
+    (own : List OwnAsk) (o : Option ℕ) (told : List Entry) → PartiesStand x s
     → StirsThere i c (stir_of what) (module_at i x.modules) x.modules mods (Ok (Some own))
-    → es ≡ entry.Done ∷ []
     → ((t : State) → PartsStand [] (record x { modules = mods }) t
     → o ≡ option_map number_of (module_place i c t))
     → ((k : ℕ) → o ≡ Some k → ⊥)
-    → PartsStep (record x { modules = mods }) s (event_of_stir i c what) es
-stir-unwired x s i c what mods own o es st h begun names none =
-    stir-done x (record x { modules = mods }) s i c what mods own o es es st h begun names
+    → IsDone (record x { modules = mods }) s (event_of_stir i c what) told told
+stir-unwired x s i c what mods own o told st h names none =
+    stir-done x (record x { modules = mods }) s i c what mods own o told told st h names
     (λ j t is. absurd (none j is)) (λ same. (refl, refl))

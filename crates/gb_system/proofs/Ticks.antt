@@ -25,15 +25,14 @@ use Rattle.gb_machine.specs.Requests.{gave_up, is_due, open_requests}
 use Rattle.gb_machine.specs.Runs.{Moment}
 use Rattle.gb_machine.specs.State.{State}
 use Rattle.gb_system.proofs.Doings.{does-by_state, does-change, does-then}
-use Rattle.gb_system.proofs.Landing.{lands}
 use Rattle.gb_system.proofs.Midways.{Midway, each-cons, midway-as, midway-first, midway-more}
 use Rattle.gb_system.proofs.NamedRequests.{does-gives_up}
 use Rattle.gb_system.proofs.Standing.{rebussed}
 use Rattle.gb_system.proofs.Endings.{lost}
 use Rattle.gb_system.proofs.Turning.{may-follow}
-use Rattle.gb_system.specs.Doing.{Does}
+use Rattle.gb_system.specs.Doing.{Does, IsDone}
 use Rattle.gb_system.specs.Ending.{IsAwaited, MayFollow}
-use Rattle.gb_system.specs.Stands.{PartsStand, PartsStep, around_bus}
+use Rattle.gb_system.specs.Stands.{PartsStand, around_bus}
 use Rattle.gb_system.specs.Ticking.{MayTimeOut, given_up}
 use Rattle.gb_system.specs.declared.parties.Parties.{Parties}
 
@@ -162,10 +161,11 @@ does-ticks s millis st d =
 
 pub tick-done : (x y : Parties) (s : State) (millis : ℕ) (all : List ℕ) (before es : List Entry)
     → PartsStand [] x (later_by millis s) → all ≡ due_by (s.now + millis) s
-    → before ≡ entry.Done ∷ []
     → Does y (each all (gives_up outcome.Timeout)) (later_by millis s) before es
-    → PartsStep y s (event.Tick millis) es
-tick-done x y s millis all before es st is begun d =
-    lands y s (event.Tick millis) before es refl begun
-    (does-ticks s millis st
-    (subst (λ ns. Does y (each ns (gives_up outcome.Timeout)) (later_by millis s) before es) is d))
+    → IsDone y s (event.Tick millis) before es
+tick-done x y s millis all before es st is d = record {
+  allowed = refl;
+  done = does-ticks s millis st
+      (subst (λ ns. Does y (each ns (gives_up outcome.Timeout)) (later_by millis s) before es) is
+      d);
+}

@@ -1,18 +1,19 @@
 //! Bridge lines: requests in the words of a protocol.
 
-ghost use Rattle.std.specs.Prelude.{◌≡◌, length, take, OnOk};
+ghost use Rattle.std.specs.Prelude.{◌≡◌, length, take};
 ghost use Rattle.gb_base.specs.declared.event.Event.TheVariants as event;
 ghost use Rattle.gb_formats.specs.Results.{most_payload};
 ghost use Rattle.gb_formats.specs.ValidEvents.{HasForm, IsValid};
 ghost use Rattle.gb_machine.specs.State.{State};
 ghost use Rattle.gb_system.specs.Bridging.{BridgesTo};
-ghost use Rattle.gb_system.specs.Stands.{PartiesStand, PartsStep};
+ghost use Rattle.gb_system.specs.Doing.{EventAs};
+ghost use Rattle.gb_system.specs.Stands.{PartiesStand};
 
 use crate::asking::DEFAULT_TIMEOUT;
-use crate::entries::{begin, refuse};
 use crate::key::Key;
 use crate::parties::Parties;
-use gb_base::{BridgeAsk, Bridged, Entries, Name, OutOfMemory, Refusal, Side};
+use crate::stop::Stop;
+use gb_base::{BridgeAsk, Bridged, Entries, Name, Refusal, Side};
 
 /// The request of a bridge line, whose payload stands at the front of a buffer.
 #[derive(Clone, Copy, Debug)]
@@ -34,25 +35,18 @@ impl Parties {
         ask: &BridgeAsk,
         room: &mut [u8],
         told: &mut Entries,
-    ) -> Result<(), OutOfMemory>
+    ) -> Result<(), Stop>
         requires valid { IsValid (event.Bridge name.now intf cport ask.now) }
         requires room { length room.old ≡ most_payload }
-        ensures step { OnOk result ((s : State) → PartiesStand self.old s
-            → PartsStep self.new s (event.Bridge name.now intf cport ask.now) told.new) }
+        ensures step { (s : State) → PartiesStand self.old s
+            → EventAs self.new s (event.Bridge name.now intf cport ask.now) told.old told.new
+            result }
     {
         let name = Key::of(name)?;
-        let way = self.bridge_way(&name, intf, cport, ask, room);
         let Bridging {
             connection,
             request,
-        } = match way {
-            Ok(way) => way,
-            Err(why) => {
-                refuse(told, why)?;
-                return Ok(());
-            }
-        };
-        begin(told)?;
+        } = self.bridge_way(&name, intf, cport, ask, room)?;
         self.host.sent(connection, ask);
         let payload = front(room, request.len);
         self.send_on(

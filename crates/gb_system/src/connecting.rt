@@ -1,6 +1,6 @@
 //! Connections that are opened and closed.
 
-ghost use Rattle.std.specs.Prelude.{◌≡◌, List, OnOk};
+ghost use Rattle.std.specs.Prelude.{◌≡◌, List};
 ghost use Rattle.gb_base.specs.declared.end.Side.TheVariants as side;
 ghost use Rattle.gb_base.specs.declared.event.Event.TheVariants as event;
 ghost use Rattle.gb_formats.specs.ValidEvents.{IsValid};
@@ -9,72 +9,51 @@ ghost use Rattle.gb_machine.specs.Host.{control_of};
 ghost use Rattle.gb_machine.specs.Lists.{holds_of};
 ghost use Rattle.gb_machine.specs.Refusals.{has_no_label};
 ghost use Rattle.gb_machine.specs.State.{State};
-ghost use Rattle.gb_system.specs.Stands.{PartiesStand, PartsStand, PartsStep};
+ghost use Rattle.gb_system.specs.Doing.{EventAs};
+ghost use Rattle.gb_system.specs.Stands.{PartiesStand, PartsStand};
 
-use crate::entries::{begin, refuse};
 use crate::parties::Parties;
+use crate::stop::Stop;
 use crate::svc::SVC;
-use gb_base::{Entries, HostEvent, OutOfMemory, Refusal, Side};
+use gb_base::{Entries, HostEvent, Refusal, Side};
 
 impl Parties {
     /// The application processor connects a CPort of an interface.
-    pub fn connect(&mut self, intf: u8, cport: u16, told: &mut Entries) -> Result<(), OutOfMemory>
+    pub fn connect(&mut self, intf: u8, cport: u16, told: &mut Entries) -> Result<(), Stop>
         requires { IsValid (event.Connect intf cport) }
-        ensures step { OnOk result ((s : State) → PartiesStand self.old s
-            → PartsStep self.new s (event.Connect intf cport) told.new) }
+        ensures step { (s : State) → PartiesStand self.old s
+            → EventAs self.new s (event.Connect intf cport) told.old told.new result }
     {
-        if let Err(why) = self.host.may_connect(intf, cport) {
-            refuse(told, why)?;
-            return Ok(());
-        }
+        self.host.may_connect(intf, cport)?;
         if self.bus.spent(SVC, Side::Ap) {
-            refuse(told, Refusal::NoLabel)?;
-            return Ok(());
+            return Err(Stop::Refused(Refusal::NoLabel));
         }
-        begin(told)?;
         self.notice(HostEvent::Connect { intf, cport }, told)?;
         Ok(())
     }
 
     /// The application processor closes the connection to a CPort of an interface.
-    pub fn disconnect(
-        &mut self,
-        intf: u8,
-        cport: u16,
-        told: &mut Entries,
-    ) -> Result<(), OutOfMemory>
+    pub fn disconnect(&mut self, intf: u8, cport: u16, told: &mut Entries) -> Result<(), Stop>
         requires { IsValid (event.Disconnect intf cport) }
-        ensures step { OnOk result ((s : State) → PartiesStand self.old s
-            → PartsStep self.new s (event.Disconnect intf cport) told.new) }
+        ensures step { (s : State) → PartiesStand self.old s
+            → EventAs self.new s (event.Disconnect intf cport) told.old told.new result }
     {
-        if let Err(why) = self.host.may_disconnect(intf, cport) {
-            refuse(told, why)?;
-            return Ok(());
-        }
+        self.host.may_disconnect(intf, cport)?;
         if self.is_control_spent(intf) {
-            refuse(told, Refusal::NoLabel)?;
-            return Ok(());
+            return Err(Stop::Refused(Refusal::NoLabel));
         }
-        begin(told)?;
         self.notice(HostEvent::Disconnect { intf, cport }, told)?;
         Ok(())
     }
 
     /// The application processor closes the connection to a CPort of an interface once its requests
     /// on it have ended.
-    pub fn drain(&mut self, intf: u8, cport: u16, told: &mut Entries) -> Result<(), OutOfMemory>
+    pub fn drain(&mut self, intf: u8, cport: u16, told: &mut Entries) -> Result<(), Stop>
         requires { IsValid (event.Drain intf cport) }
-        ensures step { OnOk result ((s : State) → PartiesStand self.old s
-            → PartsStep self.new s (event.Drain intf cport) told.new) }
+        ensures step { (s : State) → PartiesStand self.old s
+            → EventAs self.new s (event.Drain intf cport) told.old told.new result }
     {
-        let connection = match self.host.may_drain(intf, cport) {
-            Ok(connection) => connection,
-            Err(why) => {
-                refuse(told, why)?;
-                return Ok(());
-            }
-        };
-        begin(told)?;
+        let connection = self.host.may_drain(intf, cport)?;
         self.notice(HostEvent::Drain { intf, cport }, told)?;
         self.close_drained(connection, told)?;
         Ok(())

@@ -1,70 +1,38 @@
 //! Deliveries, and settles, which are deliveries in a fixed order.
 
-ghost use Rattle.std.specs.Prelude.{◌≡◌, Some, IfOk, List, OnOk};
+ghost use Rattle.std.specs.Prelude.{◌≡◌, List};
 ghost use Rattle.gb_base.specs.declared.event.Event.TheVariants as event;
 ghost use Rattle.gb_invariants.specs.Facts.{Loose};
 ghost use Rattle.gb_machine.specs.Bus.{Connection};
 ghost use Rattle.gb_machine.specs.Arriving.{reading_at};
 ghost use Rattle.gb_machine.specs.Refusals.{is_end_unplugged};
 ghost use Rattle.gb_machine.specs.State.{State};
-ghost use Rattle.gb_system.specs.Arriving.{ArrivesAs, ReadsOn};
+ghost use Rattle.gb_system.specs.Arriving.{ReadsOn};
+ghost use Rattle.gb_system.specs.Doing.{EventAs};
 ghost use Rattle.gb_system.specs.Serving.{side_of};
-ghost use Rattle.gb_system.specs.Stands.{PartiesStand, PartsStand, PartsStep};
+ghost use Rattle.gb_system.specs.Stands.{PartiesStand, PartsStand};
 
 use crate::ending::Over;
-use crate::entries::{begin, refuse};
 use crate::parties::Parties;
-use gb_base::{End, Entries, Entry, OutOfMemory, Outcome, Reading, Refusal, Side};
+use crate::stop::Stop;
+use gb_base::{End, Entries, Entry, Outcome, Reading, Refusal, Side};
 use gb_bus::{Arrival, Arrived, DeliverFault};
 
 impl Parties {
-    /// Delivers the front message toward an end.
-    pub fn deliver(&mut self, at: End, told: &mut Entries) -> Result<(), OutOfMemory>
-        ensures step { OnOk result ((s : State) → PartiesStand self.old s
-            → PartsStep self.new s (event.Deliver at) told.new) }
-    {
-        begin(told)?;
-        match self.arrive(at, told)? {
-            None => Ok(()),
-            Some(why) => {
-                refuse(told, why)?;
-                Ok(())
-            }
-        }
-    }
-
-    /// Delivers at most so many messages, each toward the first end at which one waits.
-    pub fn settle(&mut self, most: u16, told: &mut Entries) -> Result<(), OutOfMemory>
-        ensures step { OnOk result ((s : State) → PartiesStand self.old s
-            → PartsStep self.new s (event.Settle most) told.new) }
-    {
-        begin(told)?;
-        for count in 0..most {
-            let Some(at) = self.bus.first() else {
-                told.push(Entry::Settled { count })?;
-                return Ok(());
-            };
-            self.arrive(at, told)?;
-        }
-        told.push(Entry::Settled { count: most })?;
-        Ok(())
-    }
-
-    /// Takes the front message toward an end, handles it, and tells what comes of it. Answers why
-    /// a delivery there is refused; nothing is done then.
-    fn arrive(&mut self, at: End, told: &mut Entries) -> Result<Option<Refusal>, OutOfMemory>
-        ensures step { IfOk result (λ why. (s : State) → PartiesStand self.old s
-            → ArrivesAs self.new s at told.old told.new why) }
+    /// Delivers the front message toward an end: takes it, handles it, and tells what comes of it.
+    pub fn deliver(&mut self, at: End, told: &mut Entries) -> Result<(), Stop>
+        ensures step { (s : State) → PartiesStand self.old s
+            → EventAs self.new s (event.Deliver at) told.old told.new result }
     {
         if self.is_unplugged(at) {
-            return Ok(Some(Refusal::NoInterface));
+            return Err(Stop::Refused(Refusal::NoInterface));
         }
         let takes = self.takes(at);
         let Arrived { connection, item } = match self.bus.deliver(at, takes) {
             Ok(arrived) => arrived,
-            Err(DeliverFault::NoConnection) => return Ok(Some(Refusal::NoConnection)),
-            Err(DeliverFault::QueueEmpty) => return Ok(Some(Refusal::QueueEmpty)),
-            Err(DeliverFault::Memory(refused)) => return Err(refused),
+            Err(DeliverFault::NoConnection) => return Err(Stop::Refused(Refusal::NoConnection)),
+            Err(DeliverFault::QueueEmpty) => return Err(Stop::Refused(Refusal::QueueEmpty)),
+            Err(DeliverFault::Memory(refused)) => return Err(Stop::Memory(refused)),
         };
         match item {
             Arrival::Ask { asked, payload } => {
@@ -94,7 +62,23 @@ impl Parties {
             Arrival::BadRaw { fault } => told.push(Entry::BadRaw { fault })?,
             Arrival::Dropped { number, reply } => told.push(Entry::Dropped { number, reply })?,
         }
-        Ok(None)
+        Ok(())
+    }
+
+    /// Delivers at most so many messages, each toward the first end at which one waits.
+    pub fn settle(&mut self, most: u16, told: &mut Entries) -> Result<(), Stop>
+        ensures step { (s : State) → PartiesStand self.old s
+            → EventAs self.new s (event.Settle most) told.old told.new result }
+    {
+        for count in 0..most {
+            let Some(at) = self.bus.first() else {
+                told.push(Entry::Settled { count })?;
+                return Ok(());
+            };
+            self.deliver(at, told)?;
+        }
+        told.push(Entry::Settled { count: most })?;
+        Ok(())
     }
 
     /// An end is that of a module that isn't plugged.

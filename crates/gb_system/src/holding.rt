@@ -1,37 +1,32 @@
 //! Requests that are held where they are delivered, and answered later.
 
 ghost use Rattle.std.specs.Prelude.{◌≡◌, [], List, OnOk};
+ghost use Rattle.gb_base.specs.declared.entry.Entry.{Entry};
 ghost use Rattle.gb_base.specs.declared.event.Event.TheVariants as event;
 ghost use Rattle.gb_formats.specs.ValidEvents.{IsValid};
 ghost use Rattle.gb_invariants.specs.Facts.{Loose};
 ghost use Rattle.gb_machine.specs.Arriving.{is_held};
 ghost use Rattle.gb_machine.specs.Bus.{Connection};
 ghost use Rattle.gb_machine.specs.State.{State};
+ghost use Rattle.gb_system.specs.Doing.{EventAs};
 ghost use Rattle.gb_system.specs.Holding.{AsksAt, ServesHeldAt, WiredAs};
 ghost use Rattle.gb_system.specs.Serving.{side_of};
-ghost use Rattle.gb_system.specs.Stands.{PartiesStand, PartsStand, PartsStep};
+ghost use Rattle.gb_system.specs.Stands.{PartiesStand, PartsStand};
 
-use crate::entries::{begin, refuse};
 use crate::held::HeldRequest;
 use crate::parties::Parties;
+use crate::stop::Stop;
 use gb_base::{Bytes, End, Entries, Entry, OutOfMemory, Refusal};
 use gb_bus::Asked;
 
 impl Parties {
     /// Requests that are delivered to a module's CPort are held from now on.
-    pub fn hold(&mut self, intf: u8, cport: u16, told: &mut Entries) -> Result<(), OutOfMemory>
-        ensures step { OnOk result ((s : State) → PartiesStand self.old s
-            → PartsStep self.new s (event.Hold intf cport) told.new) }
+    pub fn hold(&mut self, intf: u8, cport: u16) -> Result<(), Stop>
+        ensures step { (s : State) (told : List Entry) → PartiesStand self.old s
+            → EventAs self.new s (event.Hold intf cport) told told result }
     {
-        let connection = match self.wired_at(intf, cport) {
-            Ok(connection) => connection,
-            Err(why) => {
-                refuse(told, why)?;
-                return Ok(());
-            }
-        };
+        let connection = self.wired_at(intf, cport)?;
         self.holds.add(connection)?;
-        begin(told)?;
         Ok(())
     }
 
@@ -43,23 +38,15 @@ impl Parties {
         cport: u16,
         place: u32,
         told: &mut Entries,
-    ) -> Result<(), OutOfMemory>
+    ) -> Result<(), Stop>
         requires { IsValid (event.Answer intf cport place) }
-        ensures step { OnOk result ((s : State) → PartiesStand self.old s
-            → PartsStep self.new s (event.Answer intf cport place) told.new) }
+        ensures step { (s : State) → PartiesStand self.old s
+            → EventAs self.new s (event.Answer intf cport place) told.old told.new result }
     {
-        let connection = match self.wired_at(intf, cport) {
-            Ok(connection) => connection,
-            Err(why) => {
-                refuse(told, why)?;
-                return Ok(());
-            }
-        };
+        let connection = self.wired_at(intf, cport)?;
         let Some(request) = self.held.take(connection, place) else {
-            refuse(told, Refusal::NotHeld)?;
-            return Ok(());
+            return Err(Stop::Refused(Refusal::NotHeld));
         };
-        begin(told)?;
         self.serve_held(connection, End::Module { intf, cport }, &request, told)?;
         Ok(())
     }

@@ -1,13 +1,13 @@
 //! Raw bytes, which a script puts in place of a module's messages.
 
-ghost use Rattle.std.specs.Prelude.{◌≡◌, OnOk};
 ghost use Rattle.gb_base.specs.declared.event.Event.TheVariants as event;
 ghost use Rattle.gb_machine.specs.State.{State};
-ghost use Rattle.gb_system.specs.Stands.{PartiesStand, PartsStep};
+ghost use Rattle.gb_system.specs.Doing.{EventAs};
+ghost use Rattle.gb_system.specs.Stands.{PartiesStand};
 
-use crate::entries::{begin, refuse};
 use crate::parties::Parties;
-use gb_base::{Bytes, End, Entries, Entry, OutOfMemory, Refusal};
+use crate::stop::Stop;
+use gb_base::{Bytes, End, Entries, Entry, Refusal};
 use gb_bus::LONGEST_RAW;
 
 impl Parties {
@@ -18,22 +18,14 @@ impl Parties {
         cport: u16,
         bytes: &[u8],
         told: &mut Entries,
-    ) -> Result<(), OutOfMemory>
-        ensures step { OnOk result ((s : State) → PartiesStand self.old s
-            → PartsStep self.new s (event.Inject intf cport bytes.now) told.new) }
+    ) -> Result<(), Stop>
+        ensures step { (s : State) → PartiesStand self.old s
+            → EventAs self.new s (event.Inject intf cport bytes.now) told.old told.new result }
     {
-        let connection = match self.wired_at(intf, cport) {
-            Ok(connection) => connection,
-            Err(why) => {
-                refuse(told, why)?;
-                return Ok(());
-            }
-        };
+        let connection = self.wired_at(intf, cport)?;
         if bytes.len() > LONGEST_RAW {
-            refuse(told, Refusal::TooLarge)?;
-            return Ok(());
+            return Err(Stop::Refused(Refusal::TooLarge));
         }
-        begin(told)?;
         let Some(ends) = self.bus.ends(connection) else {
             return Ok(());
         };

@@ -1,6 +1,6 @@
 //! The parties and the bus between them.
 
-ghost use Rattle.std.specs.Prelude.{◌≡◌, [], IfOk, OnOk, length};
+ghost use Rattle.std.specs.Prelude.{◌≡◌, [], ◌∷◌, IfOk, OnOk, length};
 ghost use Rattle.gb_formats.specs.Results.{most_payload};
 ghost use Rattle.gb_formats.specs.ValidEvents.{IsValid};
 ghost use Rattle.gb_machine.specs.State.{State, first_state};
@@ -9,7 +9,8 @@ use crate::held::HeldRequests;
 use crate::marks::Marks;
 use crate::modules::Modules;
 use crate::names::Names;
-use gb_base::{Entries, Event, OutOfMemory};
+use crate::stop::Stop;
+use gb_base::{Entries, Entry, Event, OutOfMemory};
 use gb_bus::Bus;
 use gb_host::Host;
 use gb_module::Stir;
@@ -44,6 +45,7 @@ pub struct Parties {
 }
 
 impl Parties {
+    ghost use Rattle.gb_system.specs.Doing.{EventAs};
     ghost use Rattle.gb_system.specs.Stands.{PartiesStand, PartsStand, PartsStep};
 
     /// The first state: nothing is plugged, and nothing was sent.
@@ -76,6 +78,25 @@ impl Parties {
         requires room { length room.old ≡ most_payload }
         ensures step { OnOk result ((s : State) → PartiesStand self.old s
             → PartsStep self.new s e.now told.new) }
+    {
+        tell_alone(told, Entry::Done)?;
+        match self.does(e, room, told) {
+            Ok(()) => Ok(()),
+            Err(Stop::Refused(why)) => {
+                tell_alone(told, Entry::Refused { why })?;
+                Ok(())
+            }
+            Err(Stop::Memory(refused)) => Err(refused),
+        }
+    }
+
+    /// Does an event and tells what it brings about, or answers why it isn't done. One that is
+    /// refused changes nothing.
+    fn does(&mut self, e: &Event, room: &mut [u8], told: &mut Entries) -> Result<(), Stop>
+        requires valid { IsValid e.now }
+        requires room { length room.old ≡ most_payload }
+        ensures step { (s : State) → PartiesStand self.old s
+            → EventAs self.new s e.now told.old told.new result }
     {
         match e {
             Event::Boot => self.boot(told),
@@ -119,14 +140,22 @@ impl Parties {
             } => self.stir(*intf, *cport, Stir::Serial { control: *control }, told),
             Event::Deliver { at } => self.deliver(*at, told),
             Event::Settle { most } => self.settle(*most, told),
-            Event::Hold { intf, cport } => self.hold(*intf, *cport, told),
+            Event::Hold { intf, cport } => self.hold(*intf, *cport),
             Event::Answer { intf, cport, place } => self.answer_held(*intf, *cport, *place, told),
             Event::Tick { millis } => self.tick(*millis, told),
             Event::Cancel { name } => self.cancel(name, told),
-            Event::Copy { from, to } => self.copy_name(from, to, told),
-            Event::Forget { name } => self.forget_name(name, told),
+            Event::Copy { from, to } => self.copy_name(from, to),
+            Event::Forget { name } => self.forget_name(name),
             Event::Inject { intf, cport, bytes } => self.inject(*intf, *cport, bytes.items(), told),
             Event::Show => self.show(told),
         }
     }
+}
+
+/// One entry is told, and nothing else.
+fn tell_alone(told: &mut Entries, one: Entry) -> Result<(), OutOfMemory>
+    ensures { OnOk result (told.new ≡ one ∷ []) }
+{
+    told.clear();
+    told.push(one)
 }

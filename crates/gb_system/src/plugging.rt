@@ -12,12 +12,12 @@ ghost use Rattle.gb_machine.specs.Ports.{is_powered};
 ghost use Rattle.gb_machine.specs.Refusals.{insert_conditions};
 ghost use Rattle.gb_machine.specs.State.{State};
 ghost use Rattle.gb_system.specs.Acting.{IsAskable};
-ghost use Rattle.gb_system.specs.Doing.{Does};
+ghost use Rattle.gb_system.specs.Doing.{Does, EventAs};
 ghost use Rattle.gb_system.specs.Drafts.{own_ask};
-ghost use Rattle.gb_system.specs.Stands.{PartiesStand, PartsStand, PartsStep};
+ghost use Rattle.gb_system.specs.Stands.{PartiesStand, PartsStand};
 
-use crate::entries::{begin, refuse};
 use crate::parties::Parties;
+use crate::stop::Stop;
 use crate::svc::SVC;
 use gb_base::{Entries, Kind, OutOfMemory, Refusal, Side};
 use gb_bridge_payload::MOST_PAYLOAD;
@@ -26,15 +26,13 @@ use gb_payload::svc_kinds::{HELLO, MODULE_INSERTED, MODULE_REMOVED, PROTOCOL_VER
 
 impl Parties {
     /// The supervisory controller starts: it sends its version, HELLO, and what is plugged.
-    pub fn boot(&mut self, told: &mut Entries) -> Result<(), OutOfMemory>
-        ensures step { OnOk result ((s : State) → PartiesStand self.old s
-            → PartsStep self.new s event.Boot told.new) }
+    pub fn boot(&mut self, told: &mut Entries) -> Result<(), Stop>
+        ensures step { (s : State) → PartiesStand self.old s
+            → EventAs self.new s event.Boot told.old told.new result }
     {
         if self.booted {
-            refuse(told, Refusal::Occupied)?;
-            return Ok(());
+            return Err(Stop::Refused(Refusal::Occupied));
         }
-        begin(told)?;
         self.booted = true;
         self.svc_ask(PROTOCOL_VERSION, &[0, 1], told)?;
         self.svc_ask(HELLO, &[1, 0, 1], told)?;
@@ -47,37 +45,28 @@ impl Parties {
     }
 
     /// A module of a kind is plugged at an interface, 2 to 31.
-    pub fn insert(&mut self, intf: u8, kind: Kind, told: &mut Entries) -> Result<(), OutOfMemory>
+    pub fn insert(&mut self, intf: u8, kind: Kind, told: &mut Entries) -> Result<(), Stop>
         requires { IsIntf intf }
-        ensures step { OnOk result ((s : State) → PartiesStand self.old s
-            → PartsStep self.new s (event.Insert intf kind) told.new) }
+        ensures step { (s : State) → PartiesStand self.old s
+            → EventAs self.new s (event.Insert intf kind) told.old told.new result }
     {
         if let Some(why) = self.insert_refusal(intf, 0) {
-            refuse(told, why)?;
-            return Ok(());
+            return Err(Stop::Refused(why));
         }
-        begin(told)?;
         let module = Module::of_kind(self.alloc, kind)?;
         self.plug(intf, module, told)?;
         Ok(())
     }
 
     /// A module with these bytes as its manifest is plugged at an interface, 2 to 31.
-    pub fn insert_raw(
-        &mut self,
-        intf: u8,
-        manifest: &[u8],
-        told: &mut Entries,
-    ) -> Result<(), OutOfMemory>
+    pub fn insert_raw(&mut self, intf: u8, manifest: &[u8], told: &mut Entries) -> Result<(), Stop>
         requires { IsIntf intf }
-        ensures step { OnOk result ((s : State) → PartiesStand self.old s
-            → PartsStep self.new s (event.InsertRaw intf manifest.now) told.new) }
+        ensures step { (s : State) → PartiesStand self.old s
+            → EventAs self.new s (event.InsertRaw intf manifest.now) told.old told.new result }
     {
         if let Some(why) = self.insert_refusal(intf, manifest.len()) {
-            refuse(told, why)?;
-            return Ok(());
+            return Err(Stop::Refused(why));
         }
-        begin(told)?;
         let module = Module::raw(self.alloc, manifest)?;
         self.plug(intf, module, told)?;
         Ok(())
@@ -85,20 +74,17 @@ impl Parties {
 
     /// The module at an interface, 2 to 31, is pulled: its connections are unwired in
     /// order of number.
-    pub fn pull(&mut self, intf: u8, told: &mut Entries) -> Result<(), OutOfMemory>
+    pub fn pull(&mut self, intf: u8, told: &mut Entries) -> Result<(), Stop>
         requires { IsIntf intf }
-        ensures step { OnOk result ((s : State) → PartiesStand self.old s
-            → PartsStep self.new s (event.Pull intf) told.new) }
+        ensures step { (s : State) → PartiesStand self.old s
+            → EventAs self.new s (event.Pull intf) told.old told.new result }
     {
         if self.modules.at(intf).is_none() {
-            refuse(told, Refusal::NoInterface)?;
-            return Ok(());
+            return Err(Stop::Refused(Refusal::NoInterface));
         }
         if self.bus.spent(SVC, Side::Far) {
-            refuse(told, Refusal::NoLabel)?;
-            return Ok(());
+            return Err(Stop::Refused(Refusal::NoLabel));
         }
-        begin(told)?;
         for connection in self.bus.wired_to(intf)?.items() {
             self.unwire(*connection, told)?;
         }

@@ -9,14 +9,14 @@ ghost use Rattle.gb_machine.specs.LineActions.{sends_on};
 ghost use Rattle.gb_machine.specs.Names.{named};
 ghost use Rattle.gb_machine.specs.State.{State};
 ghost use Rattle.gb_system.specs.Acting.{IsAskable};
-ghost use Rattle.gb_system.specs.Doing.{Does};
+ghost use Rattle.gb_system.specs.Doing.{Does, EventAs};
 ghost use Rattle.gb_system.specs.Sending.{GoesAs, LeadsAs};
-ghost use Rattle.gb_system.specs.Stands.{PartiesStand, PartsStand, PartsStep};
+ghost use Rattle.gb_system.specs.Stands.{PartiesStand, PartsStand};
 
 use crate::asking::Draft;
-use crate::entries::{begin, refuse};
 use crate::key::Key;
 use crate::parties::Parties;
+use crate::stop::Stop;
 use crate::svc::{SVC, is_reserved};
 use gb_base::{End, Entries, Name, OutOfMemory, Refusal, Side};
 use gb_bridge_payload::MOST_PAYLOAD;
@@ -32,20 +32,14 @@ impl Parties {
         payload: &[u8],
         timeout: u32,
         told: &mut Entries,
-    ) -> Result<(), OutOfMemory>
+    ) -> Result<(), Stop>
         requires { IsValid (event.Send name.now to kind payload.now timeout) }
-        ensures step { OnOk result ((s : State) → PartiesStand self.old s
-            → PartsStep self.new s (event.Send name.now to kind payload.now timeout) told.new) }
+        ensures step { (s : State) → PartiesStand self.old s
+            → EventAs self.new s (event.Send name.now to kind payload.now timeout) told.old
+            told.new result }
     {
         let name = Key::of(name)?;
-        let connection = match self.way(&name, to, kind, payload) {
-            Ok(connection) => connection,
-            Err(why) => {
-                refuse(told, why)?;
-                return Ok(());
-            }
-        };
-        begin(told)?;
+        let connection = self.way(&name, to, kind, payload)?;
         let wait = u64::from(timeout);
         self.send_on(name, connection, kind, payload, wait, told)?;
         Ok(())

@@ -8,12 +8,13 @@ ghost use Rattle.gb_machine.specs.Bus as machine;
 ghost use Rattle.gb_machine.specs.Host.{link_of};
 ghost use Rattle.gb_machine.specs.Show.{interface_shown, name_shown, state_of};
 ghost use Rattle.gb_machine.specs.State.{State};
+ghost use Rattle.gb_system.specs.Doing.{EventAs};
 ghost use Rattle.gb_system.specs.Showing.{AreTold, known_shown, lines, waiting_shown};
-ghost use Rattle.gb_system.specs.Stands.{PartiesStand, PartsStep};
+ghost use Rattle.gb_system.specs.Stands.{PartiesStand};
 
-use crate::entries::begin;
 use crate::names::Names;
 use crate::parties::Parties;
+use crate::stop::Stop;
 use gb_base::{ConnState, Entries, Entry, Interface, OutOfMemory, Text};
 use gb_bus::{Bus, Known, Waiting};
 use gb_host::Host;
@@ -23,11 +24,10 @@ use std::alloc::Global;
 impl Parties {
     /// Tells what there is, and changes nothing: the time, each interface that the application
     /// processor knows, each live connection, each queue that isn't empty, and each name.
-    pub fn show(&self, told: &mut Entries) -> Result<(), OutOfMemory>
-        ensures step { OnOk result ((s : State) → PartiesStand self.now s
-            → PartsStep self.now s event.Show told.new) }
+    pub fn show(&self, told: &mut Entries) -> Result<(), Stop>
+        ensures step { (s : State) → PartiesStand self.now s
+            → EventAs self.now s event.Show told.old told.new result }
     {
-        begin(told)?;
         let text = now_line(self.alloc, self.time)?;
         told.push(Entry::Shown { text })?;
         show_interfaces(self.alloc, self.host.interfaces(), told)?;

@@ -5,23 +5,22 @@ ghost use Rattle.gb_base.specs.declared.event.Event.TheVariants as event;
 ghost use Rattle.gb_base.specs.declared.outcome.Outcome.TheVariants as outcome;
 ghost use Rattle.gb_machine.specs.GivingUp.{gives_up};
 ghost use Rattle.gb_machine.specs.State.{State};
-ghost use Rattle.gb_system.specs.Doing.{Does};
-ghost use Rattle.gb_system.specs.Stands.{PartiesStand, PartsStand, PartsStep};
+ghost use Rattle.gb_system.specs.Doing.{Does, EventAs};
+ghost use Rattle.gb_system.specs.Stands.{PartiesStand, PartsStand};
 ghost use Rattle.gb_system.specs.Ticking.{MayTimeOut};
 
-use crate::entries::begin;
 use crate::parties::Parties;
+use crate::stop::Stop;
 use gb_base::{Entries, OutOfMemory, Outcome};
 
 impl Parties {
     /// Milliseconds pass: the open requests whose deadline came are given up, in order of number.
     /// Out of memory also comes where the time has no number of 64 bits.
-    pub fn tick(&mut self, millis: u32, told: &mut Entries) -> Result<(), OutOfMemory>
-        ensures step { OnOk result ((s : State) → PartiesStand self.old s
-            → PartsStep self.new s (event.Tick millis) told.new) }
+    pub fn tick(&mut self, millis: u32, told: &mut Entries) -> Result<(), Stop>
+        ensures step { (s : State) → PartiesStand self.old s
+            → EventAs self.new s (event.Tick millis) told.old told.new result }
     {
         self.time = self.deadline(u64::from(millis))?;
-        begin(told)?;
         for number in self.bus.due(self.time)?.items() {
             self.time_out(*number, told)?;
         }

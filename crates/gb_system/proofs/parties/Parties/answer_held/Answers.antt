@@ -1,28 +1,28 @@
 -- A line that answers is refused or done as the machine does.
 use Rattle.gb_system.proofs.HeldAnswers.{answer-done, answer-refused, answer-unheld}
+use Rattle.gb_system.proofs.Landing.{stops}
 use Rattle.gb_system.proofs.parties.Parties.answer_held.Goals as goal
 
-pub returns-in-Err : goal.returns-in-Err
-returns-in-Err c = record {
+pub returns-in_err-connection : goal.returns-in_err-connection
+returns-in_err-connection c = record {
   step = λ s st.
-      answer-refused c.args.self.now s c.args.intf c.args.cport c.args.place c.in-Err.why
-      c.refuse.new.told st (c.in-Err.ensures s st.parts)
-      c.in_ok-refuse-in-Err.ensures;
+      stops c.from_residual.result c.from_residual.ensures.1
+      (answer-refused s c.args.intf c.args.cport c.args.place c.in_err-connection.field-0.0 st
+      (c.in_err-connection.ensures s st.parts));
 }
 
 pub returns-in_default : goal.returns-in_default
 returns-in_default c = record {
   step = λ s st.
-      answer-unheld c.args.self.now c.take.new.self s c.args.intf c.args.cport
-      c.in-Ok.connection c.args.place c.refuse-in_default.new.told st (c.in-Ok.ensures s st.parts)
-      c.in_default.ensures c.in_ok-refuse.ensures;
+      answer-unheld c.take.new.self s c.args.intf c.args.cport c.in_ok-connection.connection
+      c.args.place st (c.in_ok-connection.ensures s st.parts) c.in_default.ensures;
 }
 
 pub returns : goal.returns
 returns c = record {
   step = λ s st.
       answer-done c.args.self.now c.serve_held.new.self c.take.new.self s c.args.intf
-      c.args.cport c.in-Ok.connection c.args.place c.in-Some.request c.begin.new.told
-      c.serve_held.new.told c.requires.2.0 st (c.in-Ok.ensures s st.parts) c.in-Some.ensures
-      c.in_ok-begin.ensures c.in_ok-serve_held.ensures.step;
+      c.args.cport c.in_ok-connection.connection c.args.place c.in-Some.request c.args.told.now
+      c.serve_held.new.told c.requires.2.0 st (c.in_ok-connection.ensures s st.parts)
+      c.in-Some.ensures c.in_ok-serve_held.ensures.step;
 }

@@ -10,14 +10,13 @@ use Rattle.gb_system.proofs.parties.Parties.boot.Goals as goal
 pub returns-then-self : goal.returns-then-self
 returns-then-self c = record {
   step = λ s st.
-      boot-again c.args.self.now s c.refuse.new.told st c.if-self.true
-      c.in_ok-refuse.ensures;
+      boot-again c.args.self.now s st c.if-self.true;
 }
 
 pub loop-i-init : goal.loop-i-init
 loop-i-init c = λ s st.
     boot-first c.args.self.now c.svc_ask.new.self c.svc_ask-2.new.self s c.count-i-end.result
-    c.begin.new.told c.svc_ask.new.told c.svc_ask-2.new.told st c.in_ok-begin.ensures
+    c.args.told.now c.svc_ask.new.told c.svc_ask-2.new.told st
     c.in_ok-svc_ask.ensures.step c.in_ok-svc_ask-2.ensures.step c.count-i-end.ensures
 
 pub loop-i-preserved : goal.loop-i-preserved
@@ -25,15 +24,16 @@ loop-i-preserved c = λ s st.
     let m = c.loop-i.invariant s st in
     elim c.match-intf_at.branch [
       | in-Some+in_ok-tell_inserted w ↦
-          subst (λ (x : Parties). IsBooting x s _ c.count-i-end.result c.match-intf_at.told)
+          subst (λ (x : Parties). IsBooting x s _ c.count-i-end.result c.args.told.now
+          c.match-intf_at.told)
           (sym w.self-is)
           (subst (λ (es : List Entry). IsBooting w.tell_inserted.new.self s _
-          c.count-i-end.result es) (sym w.told-is)
+          c.count-i-end.result c.args.told.now es) (sym w.told-is)
           (boot-more c.loop-i.self w.tell_inserted.new.self s c.loop-i.i c.count-i-end.result
           w.in-Some.intf c.loop-i.told w.tell_inserted.new.told c.intf_at.result m
           c.loop-i-test.true c.intf_at.ensures w.in-Some.is w.in_ok-tell_inserted.ensures.step))
       | in_default w ↦
-          let there = boot-there c.loop-i.self s c.loop-i.i c.count-i-end.result c.loop-i.told
+          let there = boot-there c.loop-i.self s c.loop-i.i c.count-i-end.result
           c.intf_at.result m c.loop-i-test.true c.intf_at.ensures in
           absurd (w.in_default.not-Some there.0 there.1)
     ]
@@ -41,6 +41,6 @@ loop-i-preserved c = λ s st.
 pub returns : goal.returns
 returns c = record {
   step = λ s st.
-      boot-done c.args.self.now c.loop-i.self s c.loop-i.i c.count-i-end.result c.loop-i.told st
+      boot-done c.args.self.now c.loop-i.self s c.loop-i.i c.count-i-end.result st
       c.if-self.false (c.loop-i.invariant s st) c.loop-i-test.false;
 }

@@ -6,4 +6,4 @@ use Rattle.gb_system.proofs.parties.Parties.boot.Given as goal
 
 abbrev pub invariant-loop-i : goal.invariant-loop-i
 invariant-loop-i l = (s : State) → PartiesStand l.fn.self s
-    → IsBooting l.self s l.i l.i-end l.told
+    → IsBooting l.self s l.i l.i-end l.fn.told l.told

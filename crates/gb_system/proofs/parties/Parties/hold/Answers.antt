@@ -1,19 +1,19 @@
 -- A hold is refused or done as the machine does.
-use Rattle.gb_system.proofs.HeldAsks.{hold-done, hold-refused}
+use Rattle.gb_system.proofs.HeldAsks.{hold-done}
+use Rattle.gb_system.proofs.Landing.{stops}
 use Rattle.gb_system.proofs.parties.Parties.hold.Goals as goal
 
-pub returns-in-Err : goal.returns-in-Err
-returns-in-Err c = record {
-  step = λ s st.
-      hold-refused c.args.self.now s c.args.intf c.args.cport c.in-Err.why
-      c.refuse.new.told st (c.in-Err.ensures s st.parts)
-      c.in_ok-refuse-in-Err.ensures;
+pub returns-in_err-connection : goal.returns-in_err-connection
+returns-in_err-connection c = record {
+  step = λ s told st.
+      stops c.from_residual.result c.from_residual.ensures.1
+      (record { refused = c.in_err-connection.ensures s st.parts; stand = st.parts });
 }
 
 pub returns : goal.returns
 returns c = record {
-  step = λ s st.
-      hold-done c.args.self.now c.add.new.self s c.args.intf c.args.cport c.in-Ok.connection
-      c.begin.new.told st (c.in-Ok.ensures s st.parts) c.in_ok-add.ensures
-      c.in_ok-begin.ensures;
+  step = λ s told st.
+      hold-done c.args.self.now c.add.new.self s c.args.intf c.args.cport
+      c.in_ok-connection.connection told st (c.in_ok-connection.ensures s st.parts)
+      c.in_ok-add.ensures;
 }

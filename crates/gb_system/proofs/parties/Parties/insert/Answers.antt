@@ -1,24 +1,21 @@
 -- An insert is refused or done as the machine does.
 use Rattle.std.proofs.Common.{[], refl, sym, ◌∙◌}
-use Rattle.gb_base.specs.declared.event.Event.TheVariants as event
 use Rattle.gb_system.proofs.Inserts.{inserted-kind}
-use Rattle.gb_system.proofs.Landing.{lands-refused}
 use Rattle.gb_system.proofs.parties.Parties.insert.Goals as goal
 
 pub returns-in-Some : goal.returns-in-Some
 returns-in-Some c = record {
-  step = λ s st.
-      lands-refused c.args.self.now s (event.Insert c.args.intf c.args.kind) c.in-Some.why
-      c.refuse.new.told
-      (sym (sym c.in-Some.is ∙ c.insert_refusal.ensures.is s [] st.parts refl))
-      c.in_ok-refuse.ensures st.parts;
+  step = λ s st. record {
+    refused = sym (sym c.in-Some.is ∙ c.insert_refusal.ensures.is s [] st.parts refl);
+    stand = st.parts;
+  };
 }
 
 pub returns : goal.returns
 returns c = record {
   step = λ s st.
       inserted-kind c.plug.new.self s c.args.intf c.args.kind c.in_ok-module.module
-      c.begin.new.told c.plug.new.told st.run c.in_ok-module.ensures
+      c.args.told.now c.plug.new.told st.run c.in_ok-module.ensures
       (sym c.in_default.is ∙ c.insert_refusal.ensures.is s [] st.parts refl)
-      c.in_ok-begin.ensures (c.in_ok-plug.ensures.step s st.parts);
+      (c.in_ok-plug.ensures.step s st.parts);
 }

@@ -14,19 +14,18 @@ use Rattle.gb_system.proofs.parties.Parties.pull.Goals as goal
 pub returns-then-is_none : goal.returns-then-is_none
 returns-then-is_none c = record {
   step = λ s st.
-      pull-nothing c.args.self.now s c.args.intf c.refuse.new.told st
+      pull-nothing s c.args.intf st
       (plugged-is c.args.self.now s c.args.intf c.at.result (not c.is_none.result) st.parts
-      c.at.ensures (sym c.is_none.ensures) ∙ ap not c.if-is_none.true) c.in_ok-refuse.ensures;
+      c.at.ensures (sym c.is_none.ensures) ∙ ap not c.if-is_none.true);
 }
 
 pub returns-then-spent : goal.returns-then-spent
 returns-then-spent c = record {
   step = λ s st.
-      pull-spent c.args.self.now s c.args.intf c.refuse-then-spent.new.told st
+      pull-spent s c.args.intf st
       (plugged-is c.args.self.now s c.args.intf c.at.result (not c.is_none.result) st.parts
       c.at.ensures (sym c.is_none.ensures) ∙ ap not c.if-is_none.false)
-      (sym (c.spent.ensures (around_bus [] s) s.bus st.parts.bus) ∙ c.if-spent.true)
-      c.in_ok-refuse-2.ensures;
+      (sym (c.spent.ensures (around_bus [] s) s.bus st.parts.bus) ∙ c.if-spent.true);
 }
 
 pub loop-connection-init : goal.loop-connection-init
@@ -52,19 +51,18 @@ returns c = record {
       let numbers = c.items-connection-items.result.now in
       let all = c.items-connection-items.ensures
       ∙ c.in_ok-wired_to.ensures (around_bus [] s) s.bus st.parts.bus in
-      let unwired = subst (λ ns. Does x (each ns unwires) s c.begin.new.told
+      let unwired = subst (λ ns. Does x (each ns unwires) s c.args.told.now
       c.loop-connection.told) all (midway-all unwires numbers c.loop-connection.connection-index
       c.loop-connection-test.false (c.loop-connection.invariant s st)) in
-      let p : Pulling x y s c.args.intf c.begin.new.told c.loop-connection.told = record {
+      let p : Pulling x y s c.args.intf c.args.told.now c.loop-connection.told = record {
         there = plugged-is c.args.self.now s c.args.intf c.at.result (not c.is_none.result) st.parts
             c.at.ensures (sym c.is_none.ensures) ∙ ap not c.if-is_none.false;
         spent = sym (c.spent.ensures (around_bus [] s) s.bus st.parts.bus) ∙ c.if-spent.false;
-        begun = c.in_ok-begin.ensures;
         unwired = unwired;
         modules = c.unplug.ensures;
         ports = c.pull.ensures.step _ unwired.stand.ports;
         rest = refl;
       } in
-      pull-done x y c.tell_removed.new.self s c.args.intf c.begin.new.told
+      pull-done x y c.tell_removed.new.self s c.args.intf c.args.told.now
       c.loop-connection.told c.tell_removed.new.told p c.in_ok-tell_removed.ensures.step;
 }

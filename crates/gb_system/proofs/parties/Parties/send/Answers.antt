@@ -2,30 +2,32 @@
 use Rattle.std.proofs.Common.{subst, sym}
 use Rattle.gb_base.specs.declared.event.Event.TheVariants as event
 use Rattle.gb_formats.specs.ValidEvents.{IsValid}
+use Rattle.gb_system.proofs.Landing.{stops}
 use Rattle.gb_system.proofs.Sends.{send-done, send-refused}
-use Rattle.gb_system.specs.Stands.{PartsStep}
+use Rattle.gb_system.specs.Doing.{IsDone, IsRefused}
 use Rattle.gb_system.proofs.parties.Parties.send.Goals as goal
 
-pub returns-in-Err : goal.returns-in-Err
-returns-in-Err c = record {
+pub returns-in_err-connection : goal.returns-in_err-connection
+returns-in_err-connection c = record {
   step = λ s st.
-      subst (λ name. PartsStep c.args.self.now s (event.Send name c.args.to c.args.kind
-      c.args.payload.now c.args.timeout) c.refuse.new.told) c.in_ok-name.ensures
-      (send-refused c.args.self.now s c.in_ok-name.name c.args.to c.args.kind c.args.payload.now
-      c.args.timeout c.in-Err.why c.refuse.new.told c.requires.1 st
-      (c.in-Err.ensures.step s st) c.in_ok-refuse-in-Err.ensures);
+      stops c.from_residual-in_err-connection.result c.from_residual-in_err-connection.ensures.1
+      (subst (λ name. IsRefused c.args.self.now s (event.Send name c.args.to c.args.kind
+      c.args.payload.now c.args.timeout) c.in_err-connection.field-0.0) c.in_ok-name.ensures
+      (send-refused s c.in_ok-name.name c.args.to c.args.kind c.args.payload.now
+      c.args.timeout c.in_err-connection.field-0.0 c.requires.1 st
+      (c.in_err-connection.ensures.step s st)));
 }
 
 pub returns : goal.returns
 returns c = record {
   step = λ s st.
-      subst (λ name. PartsStep c.send_on.new.self s (event.Send name c.args.to c.args.kind
-      c.args.payload.now c.args.timeout) c.send_on.new.told) c.in_ok-name.ensures
+      subst (λ name. IsDone c.send_on.new.self s (event.Send name c.args.to c.args.kind
+      c.args.payload.now c.args.timeout) c.args.told.now c.send_on.new.told) c.in_ok-name.ensures
       (send-done c.args.self.now c.send_on.new.self s c.in_ok-name.name c.args.to c.args.kind
-      c.args.payload.now c.args.timeout c.from-wait.result c.in-Ok.connection c.begin.new.told
-      c.send_on.new.told
+      c.args.payload.now c.args.timeout c.from-wait.result c.in_ok-connection.connection
+      c.args.told.now c.send_on.new.told
       (subst (λ name. IsValid (event.Send name c.args.to c.args.kind c.args.payload.now
       c.args.timeout)) (sym c.in_ok-name.ensures) c.requires)
-      c.from-wait.ensures st (c.in-Ok.ensures.step s st)
-      c.in_ok-begin.ensures c.in_ok-send_on.ensures.step);
+      c.from-wait.ensures st (c.in_ok-connection.ensures.step s st)
+      c.in_ok-send_on.ensures.step);
 }

@@ -6,4 +6,4 @@ use Rattle.gb_system.proofs.parties.Parties.settle.Given as goal
 
 abbrev pub invariant-loop-count : goal.invariant-loop-count
 invariant-loop-count l = (s : State) → PartiesStand l.fn.self s
-    → IsSettling l.self s l.most l.count l.told
+    → IsSettling l.self s l.most l.count l.fn.told l.told

@@ -9,10 +9,10 @@ use Rattle.gb_system.specs.Stands.{around_bus, names_of}
 pub returns : goal.returns
 returns c = record {
   step = λ s st.
-      shows c.args.self.now s c.begin.new.told c.push.new.self c.show_interfaces.new.told
+      shows c.args.self.now s c.args.told.now c.push.new.self c.show_interfaces.new.told
       c.show_connections.new.told c.show_queues.new.told c.show_names.new.told c.in_ok-text.text
       c.interfaces.result.now c.items.result.now c.items-2.result.now
-      st.parts c.in_ok-begin.ensures c.in_ok-text.ensures c.in_ok-push.ensures.ok
+      st.parts c.in_ok-text.ensures c.in_ok-push.ensures.ok
       c.in_ok-show_interfaces.ensures c.in_ok-show_connections.ensures
       c.in_ok-show_queues.ensures
       (c.in_ok-show_names.ensures (around_bus [] s) s.bus st.parts.bus

@@ -36,11 +36,10 @@ returns c = record {
       let numbers = c.items-number-items.result.now in
       let wait = c.in_ok-self.ensures ∙ ap (λ n. c.args.self.now.time + n) c.from.ensures in
       let t = c.loop-number.invariant s st in
-      tick-done _ _ s c.args.millis numbers c.begin.new.told c.loop-number.told
+      tick-done _ _ s c.args.millis numbers c.args.told.now c.loop-number.told
       (later-stand c.args.millis _ st.parts wait)
       (c.items-number-items.ensures ∙ c.in_ok-due.ensures (around_bus [] s) s.bus st.parts.bus
       ∙ due-are s c.args.millis _ st.parts wait)
-      c.in_ok-begin.ensures
       (midway-all (gives_up outcome.Timeout) numbers c.loop-number.number-index
       c.loop-number-test.false t.midway);
 }
