@@ -20,7 +20,7 @@ use std::alloc::Global;
 use std::thread;
 
 /// A caller gives way each time behind so many of its lines.
-const LINES_AT_ONCE: usize = 8;
+const LINES_AT_ONCE: usize = 4;
 
 /// A name with a ticket of its request.
 pub struct Held {
@@ -258,7 +258,7 @@ impl Hand {
         }
     }
 
-    /// Lets other callers go first, where there are any, behind each eighth of its lines.
+    /// Lets other callers go first, where there are any, behind each fourth of its lines.
     pub fn give_way(&self, lines: usize) {
         if lines % LINES_AT_ONCE == 0 && self.pass.parts() < u32::MAX {
             thread::yield_now();
