@@ -14,6 +14,7 @@ use Rattle.gb_system.specs.Doing.{Does, EventAs, IsDone, IsRefused}
 use Rattle.gb_system.specs.Stands.{PartsStand, PartsStep}
 use Rattle.gb_system.specs.declared.parties.Parties.{Parties}
 use Rattle.gb_system.specs.declared.stop.Stop.{Stop}
+use Rattle.gb_system.specs.declared.stop.Stop.TheVariants as stop
 
 -- the machine's step leads to this
 landed : (y : Parties) (s : State) (e : Event) (t : Told) (es : List Entry)
@@ -36,13 +37,13 @@ pub lands-refused : {y : Parties} {s : State} {e : Event} {why : Refusal} {es : 
 lands-refused {y} {s} {e} {why} {es} is r =
     landed y s e (told s (entry.Refused why ∷ [])) es (step-refused s e why r.refused) is r.stand
 
--- why a question isn't answered is why the event isn't done
-pub stops : {y : Parties} {s : State} {e : Event} {before es : List Entry} {how : Stop}
-    (r : Result Unit Stop) → IsErrAnd r (λ given. given ≡ how)
-    → EventAs y s e before es (Err how) → EventAs y s e before es r
-stops {y} {s} {e} {before} {es} r is stopped =
+-- where a question is answered by a refusal, so is the event
+pub stops : {y : Parties} {s : State} {e : Event} (before es : List Entry) {why : Refusal}
+    (r : Result Unit Stop) → IsErrAnd r (λ how. how ≡ stop.Refused why) → IsRefused y s e why
+    → EventAs y s e before es r
+stops {y} {s} {e} before es r is refused =
     let p = err_from_is_err_and r is in
-    subst (EventAs y s e before es) (sym (p.1 ∙ ap Err p.2)) stopped
+    subst (EventAs y s e before es) (sym (p.1 ∙ ap Err p.2)) refused
 
 -- what is told, and who stands for the state, by other names
 pub done-as : {x y : Parties} {s : State} {e : Event} {before a b : List Entry} → x ≡ y → a ≡ b

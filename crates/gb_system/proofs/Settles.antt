@@ -1,6 +1,8 @@
 -- A settle is stepped as the machine does.
 use Rattle.std.proofs.Common.{◌≡◌, ◌<◌, ℕ, suc, ◌+◌, ◌-◌, Some, None, Err, List, [], ◌∷◌, ◌++◌}
-use Rattle.std.proofs.Common.{append_assoc, refl, sym, ap, ◌∙◌, arith}
+use Rattle.std.proofs.Common.{Result, append_assoc, refl, sym, ap, ◌∙◌, subst, arith}
+use Rattle.std.proofs.lemmas.Result.{err_from_is_err_and}
+use Rattle.std.specs.Result.{IsErrAnd}
 use Rattle.gb_base.specs.declared.end.End.{End}
 use Rattle.gb_base.specs.declared.entry.Entry.{Entry}
 use Rattle.gb_base.specs.declared.entry.Entry.TheVariants as entry
@@ -71,15 +73,19 @@ settling-more {most = most} {count = count} at low m waits d =
     }
 
 -- a delivery of what waits isn't refused
-pub settling-stopped : {x y : Parties} {s : State} {most count : ℕ}
-    {before so_far more : List Entry} (at : End) (how : Stop)
-    → (m : IsSettling x s most count before so_far) → first_waiting m.midway.state.bus ≡ Some at
+pub settling-stopped : {x : Parties} {s : State} {most count : ℕ} {before so_far : List Entry}
+    (y : Parties) (more : List Entry) (at : End) (how : Stop) (r : Result Unit Stop)
+    → IsErrAnd r (λ given. given ≡ how) → (m : IsSettling x s most count before so_far)
+    → first_waiting m.midway.state.bus ≡ Some at
     → EventAs y m.midway.state (event.Deliver at) so_far more (Err how)
-    → EventAs y s (event.Settle most) before more (Err how)
-settling-stopped at (stop.Refused why) m waits r =
+    → EventAs y s (event.Settle most) before more r
+settling-stopped y more at (stop.Refused why) r is m waits stopped =
     let due = reached-waiting m.midway.state at m.run waits in
-    absurd (let both : None ≡ Some why = sym due.free ∙ r.refused in cc)
-settling-stopped at (stop.Memory refused) m waits r = tt
+    absurd (let both : None ≡ Some why = sym due.free ∙ stopped.refused in cc)
+settling-stopped {s = s} {most = most} {before = before} y more at (stop.Memory refused) r is m
+    waits stopped =
+    let p = err_from_is_err_and r is in
+    subst (EventAs y s (event.Settle most) before more) (sym (p.1 ∙ ap Err p.2)) tt
 
 -- the settle ends here
 ended : {y : Parties} {s : State} {most count : ℕ} {before so_far more : List Entry}

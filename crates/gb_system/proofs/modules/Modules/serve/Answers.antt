@@ -16,4 +16,4 @@ returns c =
     c.self.inside.plugged.items c.place.result c.in-Some.i c.index_mut-plugged.result.now x
     (record x { body = c.serve.new.self }) c.in_ok-served.served c.place.ensures.first
     c.in-Some.is c.self.view_is c.plugged.view_is c.index_mut-plugged.ensures.value
-    c.in_ok-served.ensures.0 (ap (λ m. record x { body = m }) c.in_ok-served.ensures.1)
+    c.in_ok-served.ensures.step.0 (ap (λ m. record x { body = m }) c.in_ok-served.ensures.step.1)

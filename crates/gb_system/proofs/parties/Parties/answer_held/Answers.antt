@@ -6,7 +6,7 @@ use Rattle.gb_system.proofs.parties.Parties.answer_held.Goals as goal
 pub returns-in_err-connection : goal.returns-in_err-connection
 returns-in_err-connection c = record {
   step = λ s st.
-      stops c.from_residual.result c.from_residual.ensures.1
+      stops _ _ c.from_residual.result c.from_residual.ensures.1
       (answer-refused s c.args.intf c.args.cport c.args.place c.in_err-connection.field-0.0 st
       (c.in_err-connection.ensures s st.parts));
 }

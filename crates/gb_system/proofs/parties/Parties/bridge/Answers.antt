@@ -6,13 +6,13 @@ use Rattle.gb_system.proofs.Landing.{stops}
 use Rattle.gb_system.specs.Doing.{IsDone, IsRefused}
 use Rattle.gb_system.proofs.parties.Parties.bridge.Goals as goal
 
-pub returns-in_err-bridge_way : goal.returns-in_err-bridge_way
-returns-in_err-bridge_way c = record {
+pub returns-in_err-connection : goal.returns-in_err-connection
+returns-in_err-connection c = record {
   step = λ s st.
-      stops c.from_residual-in_err-bridge_way.result c.from_residual-in_err-bridge_way.ensures.1
+      stops _ _ c.from_residual-in_err-connection.result c.from_residual-in_err-connection.ensures.1
       (subst (λ name. IsRefused c.args.self.now s (event.Bridge name c.args.intf c.args.cport
-      c.args.ask.now) c.in_err-bridge_way.field-0.0) c.in_ok-name.ensures
-      (record { refused = c.in_err-bridge_way.ensures.step s st; stand = st.parts }));
+      c.args.ask.now) c.in_err-connection.field-0.0) c.in_ok-name.ensures
+      (record { refused = c.in_err-connection.ensures.step s st; stand = st.parts }));
 }
 
 pub returns : goal.returns
@@ -22,7 +22,7 @@ returns c = record {
       c.args.ask.now) c.args.told.now c.send_on.new.told) c.in_ok-name.ensures
       (bridge-done c.args.self.now c.send_on.new.self c.sent.new.self s c.in_ok-name.name
       c.args.intf c.args.cport c.args.ask.now _ c.bridge_way.new.room
-      c.front-payload.result.now c.in_ok-bridge_way.field-0 c.args.told.now
-      c.send_on.new.told st (c.in_ok-bridge_way.ensures.step s st) c.sent.ensures.step
+      c.front-payload.result.now _ c.args.told.now
+      c.send_on.new.told st (c.in_ok-connection.ensures.step s st) c.sent.ensures.step
       c.front-payload.ensures c.in_ok-send_on.ensures.step);
 }

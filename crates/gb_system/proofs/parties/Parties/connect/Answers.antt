@@ -8,7 +8,7 @@ use Rattle.gb_system.proofs.parties.Parties.connect.Goals as goal
 pub returns-in_err-may_connect : goal.returns-in_err-may_connect
 returns-in_err-may_connect c = record {
   step = λ s st.
-      stops c.from_residual.result c.from_residual.ensures.1
+      stops _ _ c.from_residual.result c.from_residual.ensures.1
       (connect-refused s c.args.intf c.args.cport c.in_err-may_connect.field-0.0 st
       (c.in_err-may_connect.ensures.step s.host st.parts.host));
 }

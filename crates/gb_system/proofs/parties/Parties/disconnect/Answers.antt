@@ -7,7 +7,7 @@ use Rattle.gb_system.proofs.parties.Parties.disconnect.Goals as goal
 pub returns-in_err-may_disconnect : goal.returns-in_err-may_disconnect
 returns-in_err-may_disconnect c = record {
   step = λ s st.
-      stops c.from_residual.result c.from_residual.ensures.1
+      stops _ _ c.from_residual.result c.from_residual.ensures.1
       (disconnect-refused s c.args.intf c.args.cport c.in_err-may_disconnect.field-0.0 st
       (c.in_err-may_disconnect.ensures.step s.host st.parts.host));
 }

@@ -6,7 +6,7 @@ use Rattle.gb_system.proofs.parties.Parties.drain.Goals as goal
 pub returns-in_err-connection : goal.returns-in_err-connection
 returns-in_err-connection c = record {
   step = λ s st.
-      stops c.from_residual.result c.from_residual.ensures.1 (record {
+      stops _ _ c.from_residual.result c.from_residual.ensures.1 (record {
         refused = c.in_err-connection.ensures.step s.host st.parts.host;
         stand = st.parts;
       });

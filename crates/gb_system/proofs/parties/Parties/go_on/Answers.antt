@@ -1,5 +1,4 @@
 -- What came with a request is told and noticed.
-use Rattle.std.proofs.Common.{option_map, ap}
 use Rattle.gb_machine.specs.HostActs.{notices}
 use Rattle.gb_system.proofs.ApServes.{does-tell_any, may-then}
 use Rattle.gb_system.proofs.Doings.{does-given, does-given_none, does-then}

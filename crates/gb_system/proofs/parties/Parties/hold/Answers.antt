@@ -6,7 +6,7 @@ use Rattle.gb_system.proofs.parties.Parties.hold.Goals as goal
 pub returns-in_err-connection : goal.returns-in_err-connection
 returns-in_err-connection c = record {
   step = λ s told st.
-      stops c.from_residual.result c.from_residual.ensures.1
+      stops _ _ c.from_residual.result c.from_residual.ensures.1
       (record { refused = c.in_err-connection.ensures s st.parts; stand = st.parts });
 }
 

@@ -10,7 +10,7 @@ use Rattle.gb_system.proofs.parties.Parties.send.Goals as goal
 pub returns-in_err-connection : goal.returns-in_err-connection
 returns-in_err-connection c = record {
   step = λ s st.
-      stops c.from_residual-in_err-connection.result c.from_residual-in_err-connection.ensures.1
+      stops _ _ c.from_residual-in_err-connection.result c.from_residual-in_err-connection.ensures.1
       (subst (λ name. IsRefused c.args.self.now s (event.Send name c.args.to c.args.kind
       c.args.payload.now c.args.timeout) c.in_err-connection.field-0.0) c.in_ok-name.ensures
       (send-refused s c.in_ok-name.name c.args.to c.args.kind c.args.payload.now

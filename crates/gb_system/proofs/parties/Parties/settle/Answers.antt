@@ -1,7 +1,6 @@
 -- Each delivery goes on with the settle, and nothing waits or all are made at its end.
 use Rattle.std.proofs.Common.{[], ◌≡◌, Some, None, sym, arith}
 use Rattle.gb_machine.specs.Waiting.{first_waiting}
-use Rattle.gb_system.proofs.Landing.{stops}
 use Rattle.gb_system.proofs.Settles.{settling-end, settling-first, settling-more, settling-none}
 use Rattle.gb_system.proofs.Settles.{settling-stopped}
 use Rattle.gb_system.specs.Stands.{around_bus}
@@ -27,10 +26,11 @@ returns-in_err-deliver c = record {
       let some : first_waiting m.midway.state.bus
       ≡ Some c.in-Some.at = sym (c.in-Some.ensures (around_bus [] m.midway.state)
       m.midway.state.bus m.midway.stand.bus) in
-      stops c.from_residual-in_err-deliver.result c.from_residual-in_err-deliver.ensures.1
-      (settling-stopped c.in-Some.at c.in_err-deliver.field-0.0 m some
+      settling-stopped c.deliver.new.self c.deliver.new.told c.in-Some.at
+      c.in_err-deliver.field-0.0 c.from_residual-in_err-deliver.result
+      c.from_residual-in_err-deliver.ensures.1 m some
       (c.in_err-deliver.ensures.step m.midway.state
-      (record { parts = m.midway.stand; run = m.run })));
+      (record { parts = m.midway.stand; run = m.run }));
 }
 
 pub loop-count-preserved : goal.loop-count-preserved
