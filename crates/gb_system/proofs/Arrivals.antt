@@ -143,17 +143,6 @@ pub does-deliver : (at : End) (s : State) → does (event.Deliver at) s ≡ deli
 unfolding machine_opened
 does-deliver at s = refl
 
--- a delivery isn't refused where something waits
-pub delivered-here : {x : Parties} {a b : List Entry} (s : State) (at : End) (p : Place)
-    (item : Item)
-    → false ≡ is_end_unplugged at s → place_of at s.bus.connections ≡ Some p
-    → first (queue p.side p.connection) ≡ Some item → Does x (delivers at) s a b
-    → IsDone x s (event.Deliver at) a b
-delivered-here s at p item there named front d = record {
-  allowed = deliver-allowed s at p item (sym there) named front;
-  done = does-as (sym (does-deliver at s)) d;
-}
-
 -- ---- an answer to an open request
 
 reading-same : (at : Side) (c : Connection) (kind result : ℕ) (bytes payload : List ℕ)
@@ -208,175 +197,169 @@ EndsThere s at y p x z over kind result payload read a b =
     ▸ follows over.number (outcome.Answered result payload)) t a b)
     → IsDone z s (event.Deliver at) a b
 
-ended-here : {x z : Parties} {a b : List Entry} (s : State) (at : End) (y : Bus) (p : Place)
-    (item : Item) (over : Over) (kind result : ℕ) (payload : List ℕ) (read : Reading)
-    → PartiesStand x s → false ≡ is_end_unplugged at s → place_of at s.bus.connections ≡ Some p
-    → first (queue p.side p.connection) ≡ Some item
-    → IsEnded s at y p over.number kind result payload
-    → EndsThere s at y p x z over kind result payload read a b
-ended-here {x} {z} {a} {b} s at y p item over kind result payload read st there named front h on
-    side reads ends =
-    let n = over.number in
-    let w = is-there x s at p st named in
-    let how = answered h.code h.bytes in
-    let t = with_bus (ended n how (popped p.connection.number p.side s.bus)) s in
-    let stand = rebussed [] y t.bus st.parts h.stands refl in
-    let may : MayFollow n how t = may-follow n how t
-    (knows-over n how (knows-popped p.connection.number p.side (knows-reached s st.run))) in
-    let is : IsOver over t = record {
-      request = h.request;
-      made = h.made;
-      on = h.own.0 ∙ sym on;
-      side = sym h.own.1 ∙ sym w.side ∙ sym side;
-    } in
-    let both : outcome.Answered h.code (if h.code == 0 then h.bytes else [])
-    ≡ outcome.Answered result payload = h.outcome_is in
-    let code_is : result ≡ h.code = cc in
-    let same : payload ≡ (if h.code == 0 then h.bytes else []) = cc in
-    let says : read ≡ reading_at p.side p.connection h.request.kind h.code h.bytes =
-    reads t stand refl
-    ∙ ap (λ d. reading_at d p.connection kind result payload) w.side
-    ∙ ap (λ k. reading_at p.side p.connection k result payload) h.kind_is
-    ∙ ap (λ r. reading_at p.side p.connection h.request.kind r payload) code_is
-    ∙ reading-same p.side p.connection h.request.kind h.code h.bytes payload same in
-    let done = ends t stand is (subst (λ (o : Outcome). MayFollow n o t) h.outcome_is may) in
-    delivered-here s at p item there named front
-    (does-as (ap (λ (o : Outcome). (tell (entry.Ended n o read) ▸ follows n o) t)
-    (sym h.outcome_is)
-    ∙ ap (λ v. (tell (entry.Ended n how v) ▸ follows n how) t) says
-    ∙ sym (h.is ∙ ends-is s p n h.code h.bytes h.request h.made)) done)
+-- ---- what comes of the front message
 
--- by its number, on a clean connection
-answer-is : (s : State) (at : End) (p : Place) (n result : ℕ) (bytes : List ℕ)
-    → place_of at s.bus.connections ≡ Some p
-    → first (queue p.side p.connection) ≡ Some (Reply n result bytes)
-    → takes p.side p.connection s ≡ true → p.connection.clean ≡ true → is_open n s.bus ≡ true
-    → delivers at s ≡ ends_answered p.side p.connection n result bytes (taken_state s p)
-unfolding machine_opened
-answer-is s at p n result bytes named front taken clean unanswered =
-    delivers-by_number s at p n result bytes named front taken clean
-    ∙ ap (λ b. (if b then ends_answered p.side p.connection n result bytes
-    else forgets n (entry.Late n)) (taken_state s p)) unanswered
+module _ (x : Parties) (s : State) (st : PartiesStand x s) (at : End)
+    (there : false ≡ is_end_unplugged at s) (p : Place)
+    (named : place_of at s.bus.connections ≡ Some p) (item : Item)
+    (front : first (queue p.side p.connection) ≡ Some item) where
+  -- its delivery isn't refused
+  pub delivered-here : {z : Parties} {a b : List Entry} → Does z (delivers at) s a b
+      → IsDone z s (event.Deliver at) a b
+  delivered-here d = record {
+    allowed = deliver-allowed s at p item (sym there) named front;
+    done = does-as (sym (does-deliver at s)) d;
+  }
 
-pub answer-here : {x z : Parties} {a b : List Entry} (s : State) (at : End) (y : Bus) (p : Place)
-    (item : Item) (over : Over) (kind result : ℕ) (payload : List ℕ) (read : Reading)
-    → PartiesStand x s → false ≡ is_end_unplugged at s → place_of at s.bus.connections ≡ Some p
-    → first (queue p.side p.connection) ≡ Some item → takes p.side p.connection s ≡ true
-    → ArrivesAnswer (around_bus [] s) y p s.bus item over.number kind result payload
-    ⊎ ArrivesLabelled (around_bus [] s) y p s.bus item over.number kind result payload
-    → EndsThere s at y p x z over kind result payload read a b
-answer-here {x} s at y p item over kind result payload read st there named front taken (inl h) =
-    ended-here s at y p item over kind result payload read st there named front (record {
-      code = result;
-      bytes = h.bytes;
-      request = h.request;
-      made = h.made;
-      own =
-          let live = (is-there x s at p st named).live in
-          let waits = subst (λ i. IsIn i (queue p.side p.connection)) h.item_is
-          (first-in (queue p.side p.connection) item front) in
-          let o = st.parts.bus.facts.fits.items.own p.connection p.side
-          (Reply over.number result h.bytes) live waits in
-          let same = same-some h.request o.0 (sym h.made ∙ o.1) in (
-            ap (λ (r : Request). r.connection) same ∙ o.2,
-            sym (ap (λ (r : Request). r.side) same ∙ o.3),
+  -- it ended a request
+  ended-here : {z : Parties} {a b : List Entry} (y : Bus) (over : Over) (kind result : ℕ)
+      (payload : List ℕ) (read : Reading) → IsEnded s at y p over.number kind result payload
+      → EndsThere s at y p x z over kind result payload read a b
+  ended-here y over kind result payload read h on side reads ends =
+      let n = over.number in
+      let w = is-there x s at p st named in
+      let how = answered h.code h.bytes in
+      let t = with_bus (ended n how (popped p.connection.number p.side s.bus)) s in
+      let stand = rebussed [] y t.bus st.parts h.stands refl in
+      let may : MayFollow n how t = may-follow n how t
+      (knows-over n how (knows-popped p.connection.number p.side (knows-reached s st.run))) in
+      let is : IsOver over t = record {
+        request = h.request;
+        made = h.made;
+        on = h.own.0 ∙ sym on;
+        side = sym h.own.1 ∙ sym w.side ∙ sym side;
+      } in
+      let both : outcome.Answered h.code (if h.code == 0 then h.bytes else [])
+      ≡ outcome.Answered result payload = h.outcome_is in
+      let code_is : result ≡ h.code = cc in
+      let same : payload ≡ (if h.code == 0 then h.bytes else []) = cc in
+      let says : read ≡ reading_at p.side p.connection h.request.kind h.code h.bytes =
+      reads t stand refl
+      ∙ ap (λ d. reading_at d p.connection kind result payload) w.side
+      ∙ ap (λ k. reading_at p.side p.connection k result payload) h.kind_is
+      ∙ ap (λ r. reading_at p.side p.connection h.request.kind r payload) code_is
+      ∙ reading-same p.side p.connection h.request.kind h.code h.bytes payload same in
+      let done = ends t stand is (subst (λ (o : Outcome). MayFollow n o t) h.outcome_is may) in
+      delivered-here
+      (does-as (ap (λ (o : Outcome). (tell (entry.Ended n o read) ▸ follows n o) t)
+      (sym h.outcome_is)
+      ∙ ap (λ v. (tell (entry.Ended n how v) ▸ follows n how) t) says
+      ∙ sym (h.is ∙ ends-is s p n h.code h.bytes h.request h.made)) done)
+
+  -- it is dropped
+  pub dropped-here : {a b : List Entry} (y : Bus) (number : Option ℕ) (reply : Bool)
+      → takes p.side p.connection s ≡ false
+      → ArrivesDropped (around_bus [] s) y p s.bus item number reply
+      → b ≡ a ++ entry.Dropped number reply ∷ []
+      → IsDone (record x { bus = y }) s (event.Deliver at) a b
+  dropped-here {a} y number reply untaken h pushed =
+      delivered-here
+      (does-is (taken_state s p) (dropped item ∷ [])
+      (delivers-drops s at p item named front untaken)
+      (pushed ∙ ap (λ e. a ++ e ∷ []) h.told)
+      (rebussed [] y (popped p.connection.number p.side s.bus) st.parts h.stands refl))
+
+  module _ (taken : takes p.side p.connection s ≡ true) where
+    -- an answer by its number, on a clean connection
+    answer-is : (n result : ℕ) (bytes : List ℕ) → item ≡ Reply n result bytes
+        → p.connection.clean ≡ true → is_open n s.bus ≡ true
+        → delivers at s ≡ ends_answered p.side p.connection n result bytes (taken_state s p)
+    unfolding machine_opened
+    answer-is n result bytes is clean unanswered =
+        delivers-by_number s at p n result bytes named (front ∙ ap Some is) taken clean
+        ∙ ap (λ b. (if b then ends_answered p.side p.connection n result bytes
+        else forgets n (entry.Late n)) (taken_state s p)) unanswered
+
+    -- or by its identifier
+    pub answer-here : {z : Parties} {a b : List Entry} (y : Bus) (over : Over) (kind result : ℕ)
+        (payload : List ℕ) (read : Reading)
+        → ArrivesAnswer (around_bus [] s) y p s.bus item over.number kind result payload
+        ⊎ ArrivesLabelled (around_bus [] s) y p s.bus item over.number kind result payload
+        → EndsThere s at y p x z over kind result payload read a b
+    answer-here y over kind result payload read (inl h) =
+        ended-here y over kind result payload read (record {
+          code = result;
+          bytes = h.bytes;
+          request = h.request;
+          made = h.made;
+          own =
+              let live = (is-there x s at p st named).live in
+              let waits = subst (λ i. IsIn i (queue p.side p.connection)) h.item_is
+              (first-in (queue p.side p.connection) item front) in
+              let o = st.parts.bus.facts.fits.items.own p.connection p.side
+              (Reply over.number result h.bytes) live waits in
+              let same = same-some h.request o.0 (sym h.made ∙ o.1) in (
+                ap (λ (r : Request). r.connection) same ∙ o.2,
+                sym (ap (λ (r : Request). r.side) same ∙ o.3),
+              );
+          kind_is = h.kind_is;
+          outcome_is = h.outcome_is;
+          stands = h.stands;
+          is = answer-is over.number result h.bytes h.item_is h.clean h.still_open;
+        })
+    answer-here y over kind result payload read (inr h) =
+        let o = open_with-in_use p.connection.number p.side h.came.label
+        (popped p.connection.number p.side s.bus) over.number h.found in
+        let same = same-some h.request o.0 (sym h.made ∙ o.1) in
+        let of = is_of-is p.connection.number p.side o.0 (both-true (is_of p.connection.number
+        p.side o.0) (o.0.label == h.came.label) o.2).0 in
+        ended-here y over kind result payload read (record {
+          code = h.came.result;
+          bytes = h.came.payload;
+          request = h.request;
+          made = h.made;
+          own = (
+            ap (λ (r : Request). r.connection) same ∙ of.0,
+            of.1 ∙ sym (ap (λ (r : Request). r.side) same),
           );
-      kind_is = h.kind_is;
-      outcome_is = h.outcome_is;
-      stands = h.stands;
-      is = answer-is s at p over.number result h.bytes named (front ∙ ap Some h.item_is) taken
-          h.clean h.still_open;
-    })
-answer-here s at y p item over kind result payload read st there named front taken (inr h) =
-    let o = open_with-in_use p.connection.number p.side h.came.label
-    (popped p.connection.number p.side s.bus) over.number h.found in
-    let same = same-some h.request o.0 (sym h.made ∙ o.1) in
-    let of = is_of-is p.connection.number p.side o.0 (both-true (is_of p.connection.number p.side
-    o.0) (o.0.label == h.came.label) o.2).0 in
-    ended-here s at y p item over kind result payload read st there named front (record {
-      code = h.came.result;
-      bytes = h.came.payload;
-      request = h.request;
-      made = h.made;
-      own = (
-        ap (λ (r : Request). r.connection) same ∙ of.0,
-        of.1 ∙ sym (ap (λ (r : Request). r.side) same),
-      );
-      kind_is = h.kind_is;
-      outcome_is = h.outcome_is;
-      stands = h.stands;
-      is = by_label-opens s at p item h.came over.number named front taken h.is h.found;
-    })
+          kind_is = h.kind_is;
+          outcome_is = h.outcome_is;
+          stands = h.stands;
+          is = by_label-opens s at p item h.came over.number named front taken h.is h.found;
+        })
 
--- ---- an answer that is late or unknown, bytes that are bad, and what is dropped
+    -- ---- an answer that is late or unknown, and bytes that are bad
 
-pub late-here : {x : Parties} {a b : List Entry} (s : State) (at : End) (y : Bus) (p : Place)
-    (item : Item) (n : ℕ) → PartiesStand x s → false ≡ is_end_unplugged at s
-    → place_of at s.bus.connections ≡ Some p → first (queue p.side p.connection) ≡ Some item
-    → takes p.side p.connection s ≡ true → ArrivesLate (around_bus [] s) y p s.bus item n
-    → b ≡ a ++ entry.Late n ∷ [] → IsDone (record x { bus = y }) s (event.Deliver at) a b
-late-here {x} s at y p item n st there named front taken h pushed =
-    let after = forgotten n (popped p.connection.number p.side s.bus) in
-    delivered-here s at p item there named front
-    (does-is (with_bus after s) (entry.Late n ∷ [])
-    (delivers-late s at p n h.result h.bytes named (front ∙ ap Some h.item_is) taken h.clean
-    h.closed) pushed
-    (rebussed [] y after st.parts h.stands refl))
+    pub late-here : {a b : List Entry} (y : Bus) (n : ℕ)
+        → ArrivesLate (around_bus [] s) y p s.bus item n → b ≡ a ++ entry.Late n ∷ []
+        → IsDone (record x { bus = y }) s (event.Deliver at) a b
+    late-here y n h pushed =
+        let after = forgotten n (popped p.connection.number p.side s.bus) in
+        delivered-here
+        (does-is (with_bus after s) (entry.Late n ∷ [])
+        (delivers-late s at p n h.result h.bytes named (front ∙ ap Some h.item_is) taken h.clean
+        h.closed) pushed (rebussed [] y after st.parts h.stands refl))
 
-pub late_label-here : {x : Parties} {a b : List Entry} (s : State) (at : End) (y : Bus) (p : Place)
-    (item : Item) (label : ℕ) → PartiesStand x s → false ≡ is_end_unplugged at s
-    → place_of at s.bus.connections ≡ Some p → first (queue p.side p.connection) ≡ Some item
-    → takes p.side p.connection s ≡ true
-    → ArrivesLateLabel (around_bus [] s) y p s.bus item label
-    → b ≡ a ++ entry.LateLabel label ∷ [] → IsDone (record x { bus = y }) s (event.Deliver at) a b
-late_label-here {x} s at y p item label st there named front taken h pushed =
-    let after = forgotten h.number (popped p.connection.number p.side s.bus) in
-    delivered-here s at p item there named front
-    (does-is (with_bus after s) (entry.LateLabel label ∷ [])
-    (by_label-late s at p item h.came label h.number named front taken h.is h.label_is
-    h.unopened h.found) pushed
-    (rebussed [] y after st.parts h.stands refl))
+    pub late_label-here : {a b : List Entry} (y : Bus) (label : ℕ)
+        → ArrivesLateLabel (around_bus [] s) y p s.bus item label
+        → b ≡ a ++ entry.LateLabel label ∷ []
+        → IsDone (record x { bus = y }) s (event.Deliver at) a b
+    late_label-here y label h pushed =
+        let after = forgotten h.number (popped p.connection.number p.side s.bus) in
+        delivered-here
+        (does-is (with_bus after s) (entry.LateLabel label ∷ [])
+        (by_label-late s at p item h.came label h.number named front taken h.is h.label_is
+        h.unopened h.found) pushed (rebussed [] y after st.parts h.stands refl))
 
-pub unknown-here : {x : Parties} {a b : List Entry} (s : State) (at : End) (y : Bus) (p : Place)
-    (item : Item) (label : ℕ) → PartiesStand x s → false ≡ is_end_unplugged at s
-    → place_of at s.bus.connections ≡ Some p → first (queue p.side p.connection) ≡ Some item
-    → takes p.side p.connection s ≡ true
-    → ArrivesUnknown (around_bus [] s) y p s.bus item label
-    → b ≡ a ++ entry.UnknownLabel label ∷ []
-    → IsDone (record x { bus = y }) s (event.Deliver at) a b
-unknown-here {x} s at y p item label st there named front taken h pushed =
-    delivered-here s at p item there named front
-    (does-is (taken_state s p) (entry.UnknownLabel label ∷ [])
-    (by_label-unknown s at p item h.came label named front taken h.is h.label_is h.unopened
-    h.kept) pushed
-    (rebussed [] y (popped p.connection.number p.side s.bus) st.parts h.stands refl))
+    pub unknown-here : {a b : List Entry} (y : Bus) (label : ℕ)
+        → ArrivesUnknown (around_bus [] s) y p s.bus item label
+        → b ≡ a ++ entry.UnknownLabel label ∷ []
+        → IsDone (record x { bus = y }) s (event.Deliver at) a b
+    unknown-here y label h pushed =
+        delivered-here
+        (does-is (taken_state s p) (entry.UnknownLabel label ∷ [])
+        (by_label-unknown s at p item h.came label named front taken h.is h.label_is h.unopened
+        h.kept) pushed
+        (rebussed [] y (popped p.connection.number p.side s.bus) st.parts h.stands refl))
 
-pub bad-here : {x : Parties} {a b : List Entry} (s : State) (at : End) (y : Bus) (p : Place)
-    (item : Item) (fault : RawFault) → PartiesStand x s → false ≡ is_end_unplugged at s
-    → place_of at s.bus.connections ≡ Some p → first (queue p.side p.connection) ≡ Some item
-    → takes p.side p.connection s ≡ true
-    → ArrivesBadRaw (around_bus [] s) y p s.bus item fault
-    → b ≡ a ++ entry.BadRaw fault ∷ [] → IsDone (record x { bus = y }) s (event.Deliver at) a b
-bad-here {x} s at y p item fault st there named front taken h pushed =
-    delivered-here s at p item there named front
-    (does-is (taken_state s p) (entry.BadRaw fault ∷ [])
-    (delivers-bad s at p h.bytes fault named (front ∙ ap Some h.item_is) taken h.fault_is) pushed
-    (rebussed [] y (popped p.connection.number p.side s.bus) st.parts h.stands refl))
-
-pub dropped-here : {x : Parties} {a b : List Entry} (s : State) (at : End) (y : Bus) (p : Place)
-    (item : Item) (number : Option ℕ) (reply : Bool) → PartiesStand x s
-    → false ≡ is_end_unplugged at s
-    → place_of at s.bus.connections ≡ Some p → first (queue p.side p.connection) ≡ Some item
-    → takes p.side p.connection s ≡ false
-    → ArrivesDropped (around_bus [] s) y p s.bus item number reply
-    → b ≡ a ++ entry.Dropped number reply ∷ []
-    → IsDone (record x { bus = y }) s (event.Deliver at) a b
-dropped-here {x} {a} s at y p item number reply st there named front untaken h pushed =
-    delivered-here s at p item there named front
-    (does-is (taken_state s p) (dropped item ∷ [])
-    (delivers-drops s at p item named front untaken)
-    (pushed ∙ ap (λ e. a ++ e ∷ []) h.told)
-    (rebussed [] y (popped p.connection.number p.side s.bus) st.parts h.stands refl))
+    pub bad-here : {a b : List Entry} (y : Bus) (fault : RawFault)
+        → ArrivesBadRaw (around_bus [] s) y p s.bus item fault → b ≡ a ++ entry.BadRaw fault ∷ []
+        → IsDone (record x { bus = y }) s (event.Deliver at) a b
+    bad-here y fault h pushed =
+        delivered-here
+        (does-is (taken_state s p) (entry.BadRaw fault ∷ [])
+        (delivers-bad s at p h.bytes fault named (front ∙ ap Some h.item_is) taken h.fault_is)
+        pushed (rebussed [] y (popped p.connection.number p.side s.bus) st.parts h.stands refl))
 
 -- ---- what answers say
 

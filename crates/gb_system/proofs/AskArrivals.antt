@@ -172,7 +172,7 @@ ask-here {x} {z} {a} {b} s at y p k item asked payload bytes st there named fron
     (subst (λ d. PartsStand (only c.number d item) (record x { bus = y }) t) (sym w.side) stand))
     (subst (λ d. MayServe d c q t) (sym w.side)
     (may-serve s at p item q st.run named front h.is)) in
-    delivered-here s at p item there named front
+    delivered-here x s st at there p named item front
     (does-as (ap (λ d. asked_at d c item q t) w.side
     ∙ sym (delivers-arrives s at p item named front taken ∙ arrives-asks p.side c item q t is))
     done)

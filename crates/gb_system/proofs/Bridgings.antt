@@ -24,7 +24,7 @@ use Rattle.gb_machine.specs.Refusals.{has_no_label, line_conditions}
 use Rattle.gb_machine.specs.State.{State}
 use Rattle.gb_system.proofs.NamedRequests.{named-is}
 use Rattle.gb_system.proofs.Ways.{is-there, met-early, met-late}
-use Rattle.gb_system.specs.Bridging.{BridgesTo}
+use Rattle.gb_system.specs.Bridging.{IsBridged}
 use Rattle.gb_system.specs.Stands.{PartiesStand}
 use Rattle.gb_system.specs.declared.parties.Parties.{Parties}
 
@@ -39,14 +39,6 @@ on_link s what o =
 -- those behind the name's
 abbrev on_end : State → ℕ → ℕ → BridgeAsk → List Condition
 on_end s i c what = send_conditions i c s.host ++ on_link s what (link_at i c s.host)
-
-by-name : (x : Parties) (s : State) (name : Name) (i c : ℕ) (what : BridgeAsk) (bound : Bool)
-    → PartiesStand x s → is_some (named name x.names) ≡ bound
-    → first_met (line_conditions s name i c what)
-    ≡ cond bound (Some why.Occupied) (first_met (on_end s i c what))
-by-name x s name i c what bound st is =
-    ap (λ b. cond b (Some why.Occupied) (first_met (on_end s i c what)))
-    (ap is_some (named-is x s name st) ∙ is)
 
 -- ---- the connection to a CPort
 
@@ -77,96 +69,87 @@ is-link s x i c k st way = by (link_at i c s.host) refl way
 
 -- ---- refusals
 
--- with a connection, that decides
-on-link : (x : Parties) (s : State) (name : Name) (i c : ℕ) (what : BridgeAsk) (l : Link)
-    → PartiesStand x s → is_some (named name x.names) ≡ false
-    → first_met (send_conditions i c s.host) ≡ None → link_at i c s.host ≡ Some l
-    → first_met (line_conditions s name i c what) ≡ first_met (on_link s what (Some l))
-on-link x s name i c what l st free sends there =
-    by-name x s name i c what false st free
-    ∙ met-late (send_conditions i c s.host) (on_link s what (link_at i c s.host)) sends
-    ∙ ap (λ o. first_met (on_link s what o)) there
-
 -- what is known of a connection on which a line is bridged
 abbrev pub BridgesThere : Host → ℕ → BridgeAsk → List ℕ → List ℕ → Result Bridged Refusal → Type 0
 BridgesThere h k what old new result =
     (l : Link) → link_of k h ≡ Some l → BridgesOn l what old new result
 
--- its name isn't free
-pub bridge-occupied : (x : Parties) (s : State) (name : Name) (i c : ℕ) (what : BridgeAsk)
-    (old new : List ℕ) → PartiesStand x s → is_some (named name x.names) ≡ true
-    → BridgesTo s name i c what old new (Err why.Occupied)
-bridge-occupied x s name i c what old new st taken = by-name x s name i c what true st taken
+module _ (x : Parties) (s : State) (st : PartiesStand x s) (name : Name) (i c : ℕ)
+    (what : BridgeAsk) where
+  by-name : (bound : Bool) → is_some (named name x.names) ≡ bound
+      → first_met (line_conditions s name i c what)
+      ≡ cond bound (Some why.Occupied) (first_met (on_end s i c what))
+  by-name bound is =
+      ap (λ b. cond b (Some why.Occupied) (first_met (on_end s i c what)))
+      (ap is_some (named-is x s name st) ∙ is)
 
--- nothing is sent to the CPort
-pub bridge-nowhere : (x : Parties) (s : State) (name : Name) (i c : ℕ) (what : BridgeAsk)
-    (old new : List ℕ) (why : Refusal) → PartiesStand x s
-    → is_some (named name x.names) ≡ false
-    → SendsAs (first_met (send_conditions i c s.host)) (link_at i c s.host) (Err why)
-    → BridgesTo s name i c what old new (Err why)
-bridge-nowhere x s name i c what old new why st free way =
-    by-name x s name i c what false st free
-    ∙ met-early (send_conditions i c s.host) (on_link s what (link_at i c s.host)) why way
+  -- its name isn't free
+  pub bridge-occupied : is_some (named name x.names) ≡ true
+      → first_met (line_conditions s name i c what) ≡ Some why.Occupied
+  bridge-occupied taken = by-name true taken
 
--- the line is refused on its connection
-pub bridge-unfit : (x : Parties) (s : State) (name : Name) (i c k : ℕ) (what : BridgeAsk)
-    (old new : List ℕ) (why : Refusal) → PartiesStand x s
-    → is_some (named name x.names) ≡ false
-    → SendsAs (first_met (send_conditions i c s.host)) (link_at i c s.host) (Ok k)
-    → BridgesThere s.host k what old new (Err why)
-    → BridgesTo s name i c what old new (Err why)
-bridge-unfit x s name i c k what old new how st free way refuses =
-    let l = is-link s x i c k st way.1 in
-    on-link x s name i c what l.link st free way.0 l.there
-    ∙ met-early (bridge_conditions l.link what)
-    ((has_no_label l.link.connection side.Ap s, why.NoLabel) ∷ []) how (refuses l.link l.of_number)
+  module _ (free : is_some (named name x.names) ≡ false) where
+    -- nothing is sent to the CPort
+    pub bridge-nowhere : (why : Refusal)
+        → SendsAs (first_met (send_conditions i c s.host)) (link_at i c s.host) (Err why)
+        → first_met (line_conditions s name i c what) ≡ Some why
+    bridge-nowhere why way =
+        by-name false free
+        ∙ met-early (send_conditions i c s.host) (on_link s what (link_at i c s.host)) why way
 
--- then the identifiers decide
-by-label : (x : Parties) (s : State) (name : Name) (i c k : ℕ) (what : BridgeAsk)
-    (old new : List ℕ) (b : Bridged) (spent : Bool) → PartiesStand x s
-    → is_some (named name x.names) ≡ false
-    → SendsAs (first_met (send_conditions i c s.host)) (link_at i c s.host) (Ok k)
-    → BridgesThere s.host k what old new (Ok b)
-    → spent ≡ is_none (next_label k side.Ap s.bus)
-    → first_met (line_conditions s name i c what) ≡ cond spent (Some why.NoLabel) None
-by-label x s name i c k what old new b spent st free way writes is =
-    let l = is-link s x i c k st way.1 in
-    on-link x s name i c what l.link st free way.0 l.there
-    ∙ met-late (bridge_conditions l.link what)
-    ((has_no_label l.link.connection side.Ap s, why.NoLabel) ∷ []) (writes l.link l.of_number).0
-    ∙ ap (λ j. cond (is_none (next_label j side.Ap s.bus)) (Some why.NoLabel) None) l.number
-    ∙ ap (λ t. cond t (Some why.NoLabel) None) (sym is)
+    module _ (k : ℕ)
+        (way : SendsAs (first_met (send_conditions i c s.host)) (link_at i c s.host) (Ok k)) where
+      -- the connection decides
+      line-link : IsLink s.host i c k
+      line-link = is-link s x i c k st way.1
 
--- no identifier is left
-pub bridge-spent : (x : Parties) (s : State) (name : Name) (i c k : ℕ) (what : BridgeAsk)
-    (old new : List ℕ) (b : Bridged) (spent : Bool) → PartiesStand x s
-    → is_some (named name x.names) ≡ false
-    → SendsAs (first_met (send_conditions i c s.host)) (link_at i c s.host) (Ok k)
-    → BridgesThere s.host k what old new (Ok b)
-    → spent ≡ is_none (next_label k side.Ap s.bus) → spent ≡ true
-    → BridgesTo s name i c what old new (Err why.NoLabel)
-bridge-spent x s name i c k what old new b spent st free way writes is it =
-    by-label x s name i c k what old new b spent st free way writes is
-    ∙ ap (λ t. cond t (Some why.NoLabel) None) it
+      on-link : first_met (line_conditions s name i c what)
+          ≡ first_met (on_link s what (Some line-link.link))
+      on-link =
+          by-name false free
+          ∙ met-late (send_conditions i c s.host) (on_link s what (link_at i c s.host)) way.0
+          ∙ ap (λ o. first_met (on_link s what o)) line-link.there
 
--- the line becomes a request
-pub bridge-goes : (x : Parties) (s : State) (name : Name) (i c k : ℕ) (what : BridgeAsk)
-    (old new : List ℕ) (b : Bridged) (spent : Bool) → PartiesStand x s
-    → is_some (named name x.names) ≡ false
-    → SendsAs (first_met (send_conditions i c s.host)) (link_at i c s.host) (Ok k)
-    → BridgesThere s.host k what old new (Ok b)
-    → spent ≡ is_none (next_label k side.Ap s.bus) → spent ≡ false
-    → BridgesTo s name i c what old new (Ok (record { connection = k; request = b }))
-bridge-goes x s name i c k what old new b spent st free way writes is it =
-    let l = is-link s x i c k st way.1 in record {
-      allowed = by-label x s name i c k what old new b spent st free way writes is
-          ∙ ap (λ t. cond t (Some why.NoLabel) None) it;
-      link = l.link;
-      there = l.there;
-      number = l.number;
-      written = (writes l.link l.of_number).1;
-      label = is-there (next_label k side.Ap s.bus) (sym is ∙ it);
-    }
+      -- that no identifier is left on it
+      abbrev last : List Condition
+      last = (has_no_label line-link.link.connection side.Ap s, why.NoLabel) ∷ []
+
+      -- the line is refused on it
+      pub bridge-unfit : (old new : List ℕ) (why : Refusal)
+          → BridgesThere s.host k what old new (Err why)
+          → first_met (line_conditions s name i c what) ≡ Some why
+      bridge-unfit old new how refuses =
+          on-link ∙ met-early (bridge_conditions line-link.link what) last how
+          (refuses line-link.link line-link.of_number)
+
+      module _ (old new : List ℕ) (b : Bridged) (writes : BridgesThere s.host k what old new (Ok b))
+          (spent : Bool) (is : spent ≡ is_none (next_label k side.Ap s.bus)) where
+        -- then the identifiers decide
+        by-label : first_met (line_conditions s name i c what) ≡ cond spent (Some why.NoLabel) None
+        by-label =
+            on-link
+            ∙ met-late (bridge_conditions line-link.link what) last
+            (writes line-link.link line-link.of_number).0
+            ∙ ap (λ j. cond (is_none (next_label j side.Ap s.bus)) (Some why.NoLabel) None)
+            line-link.number
+            ∙ ap (λ t. cond t (Some why.NoLabel) None) (sym is)
+
+        -- no identifier is left
+        pub bridge-spent : spent ≡ true
+            → first_met (line_conditions s name i c what) ≡ Some why.NoLabel
+        bridge-spent it = by-label ∙ ap (λ t. cond t (Some why.NoLabel) None) it
+
+        -- the line becomes a request
+        pub bridge-goes : spent ≡ false
+            → IsBridged s name i c what old new (record { connection = k; request = b })
+        bridge-goes it = record {
+          allowed = by-label ∙ ap (λ t. cond t (Some why.NoLabel) None) it;
+          link = line-link.link;
+          there = line-link.there;
+          number = line-link.number;
+          written = (writes line-link.link line-link.of_number).1;
+          label = is-there (next_label k side.Ap s.bus) (sym is ∙ it);
+        }
 
 -- where a line isn't refused, its connection doesn't refuse it
 pub line-met : (s : State) (name : Name) (i c : ℕ) (what : BridgeAsk) (l : Link)

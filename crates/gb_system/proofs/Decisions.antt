@@ -1,6 +1,6 @@
 -- What the supervisory controller decides is what the machine's does.
 use Rattle.std.proofs.Common.{◌≡◌, ℕ, true, false, if◌then◌else◌, Option, Some, None, option_map}
-use Rattle.std.proofs.Common.{List, [], refl, sym, ap, ◌∙◌, subst}
+use Rattle.std.proofs.Common.{Bool, List, [], refl, sym, ap, ◌∙◌, subst}
 use Rattle.std.specs.List.{list_any}
 use Rattle.gb_invariants.proofs.Lists.{found-in}
 use Rattle.gb_invariants.proofs.Numbers.{found-by_number}
@@ -91,108 +91,94 @@ record Joined (s : State) (a i c k : ℕ) : Type 0 where
   pub number : connection.number ≡ k
   pub live : connection_of k s.bus ≡ Some connection
 
-joined : (around : Around) (x : Bus) (y : Ladder) (s : State) (a i c k : ℕ)
-    → BusAndPorts around x y s
-    → Some k ≡ option_map (λ (z : Connection). z.number) (joining a i c s.bus) → Joined s a i c k
-joined around x y s a i c k st h = by (joining a i c s.bus) refl h
-  where
-    by : (o : Option Connection) → joining a i c s.bus ≡ o → Some k
-        ≡ option_map (λ (z : Connection). z.number) o → Joined s a i c k
-    by None e n = absurd cc
-    by (Some z) e n =
-        let same : z.number ≡ k = cc (n) in
-        record {
-          connection = z;
-          joins = e;
-          number = same;
-          live = ap (λ j. connection_of j s.bus) (sym same)
-              ∙ found-by_number s.bus.connections z st.bus.facts.fits.numbers.rise
-              (found-in (joins a i c) s.bus.connections z e).0;
-        }
+-- its number
+abbrev joining_number : ℕ → ℕ → ℕ → State → Option ℕ
+joining_number a i c s = option_map (λ (z : Connection). z.number) (joining a i c s.bus)
 
 none_of : (o : Option Connection) → None ≡ option_map (λ (z : Connection). z.number) o → o ≡ None
 none_of None h = refl
 none_of (Some z) h = absurd cc
 
--- no connection joins the two ends
-pub creates_nowhere : (around : Around) (x : Bus) (y : Ladder) (s : State) (a i c : ℕ)
-    (d : Decision) → BusAndPorts around x y s
-    → None ≡ option_map (λ (z : Connection). z.number) (joining a i c s.bus)
-    → answer_of d ≡ plainly nonexistent → d.behind ≡ behind.Nothing
-    → Decides y s (creates (joining a i c s.bus)) d
-creates_nowhere around x y s a i c d st h says none =
-    subst (λ o. Decides y s (creates o) d) (sym (none_of (joining a i c s.bus) h))
-    (refuses_with y s nonexistent d st.ports says none)
+module _ (around : Around) (x : Bus) (y : Ladder) (s : State) (a i c : ℕ) (d : Decision)
+    (st : BusAndPorts around x y s) where
+  -- no connection joins the two ends
+  pub creates_nowhere : None ≡ joining_number a i c s → answer_of d ≡ plainly nonexistent
+      → d.behind ≡ behind.Nothing → Decides y s (creates (joining a i c s.bus)) d
+  creates_nowhere h says none =
+      subst (λ o. Decides y s (creates o) d) (sym (none_of (joining a i c s.bus) h))
+      (refuses_with y s nonexistent d st.ports says none)
 
--- it is wired already
-pub creates_wired : (around : Around) (x : Bus) (y : Ladder) (s : State) (a i c k : ℕ)
-    (d : Decision) → BusAndPorts around x y s
-    → Some k ≡ option_map (λ (z : Connection). z.number) (joining a i c s.bus)
-    → is_wired (connection_of k s.bus) ≡ true
-    → answer_of d ≡ plainly invalid → d.behind ≡ behind.Nothing
-    → Decides y s (creates (joining a i c s.bus)) d
-creates_wired around x y s a i c k d st h wired says none =
-    let j = joined around x y s a i c k st h in
-    let is : j.connection.wired ≡ true = ap is_wired (sym j.live) ∙ wired in
-    subst (λ o. Decides y s (creates o) d) (sym j.joins)
-    (subst (λ b. Decides y s (if b then responds_plainly invalid else responds_with
-    (plainly success) (wires j.connection.number)) d) (sym is)
-    (refuses_with y s invalid d st.ports says none))
+  pub destroys_nowhere : None ≡ joining_number a i c s → answer_of d ≡ plainly nonexistent
+      → d.behind ≡ behind.Nothing → Decides y s (destroys (joining a i c s.bus)) d
+  destroys_nowhere h says none =
+      subst (λ o. Decides y s (destroys o) d) (sym (none_of (joining a i c s.bus) h))
+      (refuses_with y s nonexistent d st.ports says none)
 
--- it is wired
-pub creates_one : (around : Around) (x : Bus) (y : Ladder) (s : State) (a i c k : ℕ)
-    (d : Decision) → BusAndPorts around x y s
-    → Some k ≡ option_map (λ (z : Connection). z.number) (joining a i c s.bus)
-    → is_wired (connection_of k s.bus) ≡ false
-    → answer_of d ≡ plainly success → d.behind ≡ behind.Wire k
-    → Decides y s (creates (joining a i c s.bus)) d
-creates_one around x y s a i c k d st h unwired says does =
-    let j = joined around x y s a i c k st h in
-    let is : j.connection.wired ≡ false = ap is_wired (sym j.live) ∙ unwired in
-    subst (λ o. Decides y s (creates o) d) (sym j.joins)
-    (subst (λ b. Decides y s (if b then responds_plainly invalid else responds_with
-    (plainly success) (wires j.connection.number)) d) (sym is)
-    (wires_behind y s k j.connection.number d st.ports j.number says does))
+  module _ (k : ℕ) (h : Some k ≡ joining_number a i c s) where
+    joined : Joined s a i c k
+    joined = by (joining a i c s.bus) refl h
+      where
+        by : (o : Option Connection) → joining a i c s.bus ≡ o → Some k
+            ≡ option_map (λ (z : Connection). z.number) o → Joined s a i c k
+        by None e n = absurd cc
+        by (Some z) e n =
+            let same : z.number ≡ k = cc (n) in
+            record {
+              connection = z;
+              joins = e;
+              number = same;
+              live = ap (λ j. connection_of j s.bus) (sym same)
+                  ∙ found-by_number s.bus.connections z st.bus.facts.fits.numbers.rise
+                  (found-in (joins a i c) s.bus.connections z e).0;
+            }
 
--- no connection is there to be unwired
-pub destroys_nowhere : (around : Around) (x : Bus) (y : Ladder) (s : State) (a i c : ℕ)
-    (d : Decision) → BusAndPorts around x y s
-    → None ≡ option_map (λ (z : Connection). z.number) (joining a i c s.bus)
-    → answer_of d ≡ plainly nonexistent → d.behind ≡ behind.Nothing
-    → Decides y s (destroys (joining a i c s.bus)) d
-destroys_nowhere around x y s a i c d st h says none =
-    subst (λ o. Decides y s (destroys o) d) (sym (none_of (joining a i c s.bus) h))
-    (refuses_with y s nonexistent d st.ports says none)
+    -- whether it is wired decides
+    creates_by : (wired : Bool) → is_wired (connection_of k s.bus) ≡ wired
+        → Decides y s (if wired then responds_plainly invalid else responds_with (plainly success)
+        (wires joined.connection.number)) d
+        → Decides y s (creates (joining a i c s.bus)) d
+    creates_by wired is decides =
+        subst (λ o. Decides y s (creates o) d) (sym joined.joins)
+        (subst (λ b. Decides y s (if b then responds_plainly invalid else responds_with
+        (plainly success) (wires joined.connection.number)) d)
+        (sym is ∙ ap is_wired joined.live) decides)
 
--- it isn't wired
-pub destroys_unwired : (around : Around) (x : Bus) (y : Ladder) (s : State) (a i c k : ℕ)
-    (d : Decision) → BusAndPorts around x y s
-    → Some k ≡ option_map (λ (z : Connection). z.number) (joining a i c s.bus)
-    → is_wired (connection_of k s.bus) ≡ false
-    → answer_of d ≡ plainly nonexistent → d.behind ≡ behind.Nothing
-    → Decides y s (destroys (joining a i c s.bus)) d
-destroys_unwired around x y s a i c k d st h unwired says none =
-    let j = joined around x y s a i c k st h in
-    let is : j.connection.wired ≡ false = ap is_wired (sym j.live) ∙ unwired in
-    subst (λ o. Decides y s (destroys o) d) (sym j.joins)
-    (subst (λ b. Decides y s (if b then responds_with (plainly success)
-    (unwires j.connection.number) else responds_plainly nonexistent) d) (sym is)
-    (refuses_with y s nonexistent d st.ports says none))
+    destroys_by : (wired : Bool) → is_wired (connection_of k s.bus) ≡ wired
+        → Decides y s (if wired then responds_with (plainly success)
+        (unwires joined.connection.number) else responds_plainly nonexistent) d
+        → Decides y s (destroys (joining a i c s.bus)) d
+    destroys_by wired is decides =
+        subst (λ o. Decides y s (destroys o) d) (sym joined.joins)
+        (subst (λ b. Decides y s (if b then responds_with (plainly success)
+        (unwires joined.connection.number) else responds_plainly nonexistent) d)
+        (sym is ∙ ap is_wired joined.live) decides)
 
--- it is unwired
-pub destroys_one : (around : Around) (x : Bus) (y : Ladder) (s : State) (a i c k : ℕ)
-    (d : Decision) → BusAndPorts around x y s
-    → Some k ≡ option_map (λ (z : Connection). z.number) (joining a i c s.bus)
-    → is_wired (connection_of k s.bus) ≡ true
-    → answer_of d ≡ plainly success → d.behind ≡ behind.Unwire k
-    → Decides y s (destroys (joining a i c s.bus)) d
-destroys_one around x y s a i c k d st h wired says does =
-    let j = joined around x y s a i c k st h in
-    let is : j.connection.wired ≡ true = ap is_wired (sym j.live) ∙ wired in
-    subst (λ o. Decides y s (destroys o) d) (sym j.joins)
-    (subst (λ b. Decides y s (if b then responds_with (plainly success)
-    (unwires j.connection.number) else responds_plainly nonexistent) d) (sym is)
-    (unwires_behind y s k j.connection.number d st.ports j.number says does))
+    -- it is wired already
+    pub creates_wired : is_wired (connection_of k s.bus) ≡ true → answer_of d ≡ plainly invalid
+        → d.behind ≡ behind.Nothing → Decides y s (creates (joining a i c s.bus)) d
+    creates_wired wired says none =
+        creates_by true wired (refuses_with y s invalid d st.ports says none)
+
+    -- it is wired
+    pub creates_one : is_wired (connection_of k s.bus) ≡ false → answer_of d ≡ plainly success
+        → d.behind ≡ behind.Wire k → Decides y s (creates (joining a i c s.bus)) d
+    creates_one unwired says does =
+        creates_by false unwired
+        (wires_behind y s k joined.connection.number d st.ports joined.number says does)
+
+    -- it isn't wired
+    pub destroys_unwired : is_wired (connection_of k s.bus) ≡ false
+        → answer_of d ≡ plainly nonexistent → d.behind ≡ behind.Nothing
+        → Decides y s (destroys (joining a i c s.bus)) d
+    destroys_unwired unwired says none =
+        destroys_by false unwired (refuses_with y s nonexistent d st.ports says none)
+
+    -- it is unwired
+    pub destroys_one : is_wired (connection_of k s.bus) ≡ true → answer_of d ≡ plainly success
+        → d.behind ≡ behind.Unwire k → Decides y s (destroys (joining a i c s.bus)) d
+    destroys_one wired says does =
+        destroys_by true wired
+        (unwires_behind y s k joined.connection.number d st.ports joined.number says does)
 
 -- a connection is wired to an interface that is to lose its route
 pub unroutes_wired : (around : Around) (x : Bus) (y : Ladder) (s : State) (i : ℕ) (d : Decision)

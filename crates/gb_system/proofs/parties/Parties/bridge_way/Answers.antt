@@ -10,8 +10,7 @@ use Rattle.gb_system.proofs.parties.Parties.bridge_way.Goals as goal
 pub returns-then-is_some : goal.returns-then-is_some
 returns-then-is_some c = record {
   step = λ s st.
-      bridge-occupied c.args.self.now s c.args.name.now c.args.intf c.args.cport c.args.ask.now
-      c.args.room.now c.args.room.now st
+      bridge-occupied c.args.self.now s st c.args.name.now c.args.intf c.args.cport c.args.ask.now
       (cc (c.is_some.ensures, c.get.ensures, c.if-is_some.true));
 }
 
@@ -19,12 +18,10 @@ pub returns-in_err-connection : goal.returns-in_err-connection
 returns-in_err-connection c = record {
   step = λ s st.
       let p = err_from_is_err_and c.from_residual.result c.from_residual.ensures.1 in
-      subst (λ r. BridgesTo s c.args.name.now c.args.intf c.args.cport c.args.ask.now
-      c.args.room.now c.args.room.now r)
-      (sym (p.1 ∙ ap Err p.2))
-      (bridge-nowhere c.args.self.now s c.args.name.now c.args.intf c.args.cport c.args.ask.now
-      c.args.room.now c.args.room.now c.in_err-connection.field-0.0 st
-      (cc (c.is_some.ensures, c.get.ensures, c.if-is_some.false))
+      subst (BridgesTo s c.args.name.now c.args.intf c.args.cport c.args.ask.now c.args.room.now
+      c.args.room.now) (sym (p.1 ∙ ap Err p.2))
+      (bridge-nowhere c.args.self.now s st c.args.name.now c.args.intf c.args.cport c.args.ask.now
+      (cc (c.is_some.ensures, c.get.ensures, c.if-is_some.false)) c.in_err-connection.field-0.0
       (c.in_err-connection.ensures.step s.host st.parts.host));
 }
 
@@ -33,36 +30,30 @@ returns-in_err-request c = record {
   step = λ s st.
       let p = err_from_is_err_and c.from_residual-in_err-request.result
       c.from_residual-in_err-request.ensures.1 in
-      subst (λ r. BridgesTo s c.args.name.now c.args.intf c.args.cport c.args.ask.now
-      c.args.room.now c.bridge.new.out r)
-      (sym (p.1 ∙ ap Err p.2))
-      (bridge-unfit c.args.self.now s c.args.name.now c.args.intf c.args.cport
-      c.in_ok-connection.connection c.args.ask.now c.args.room.now c.bridge.new.out
-      c.in_err-request.field-0.0 st (cc (c.is_some.ensures, c.get.ensures, c.if-is_some.false))
-      (c.in_ok-connection.ensures.step s.host st.parts.host)
-      (λ l of. c.in_err-request.ensures.step s.host l st.parts.host of));
+      subst (BridgesTo s c.args.name.now c.args.intf c.args.cport c.args.ask.now c.args.room.now
+      c.bridge.new.out) (sym (p.1 ∙ ap Err p.2))
+      (bridge-unfit c.args.self.now s st c.args.name.now c.args.intf c.args.cport c.args.ask.now
+      (cc (c.is_some.ensures, c.get.ensures, c.if-is_some.false)) c.in_ok-connection.connection
+      (c.in_ok-connection.ensures.step s.host st.parts.host) c.args.room.now c.bridge.new.out
+      c.in_err-request.field-0.0 (λ l of. c.in_err-request.ensures.step s.host l st.parts.host of));
 }
 
 pub returns-then-spent : goal.returns-then-spent
 returns-then-spent c = record {
   step = λ s st.
-      bridge-spent c.args.self.now s c.args.name.now c.args.intf c.args.cport
-      c.in_ok-connection.connection c.args.ask.now c.args.room.now c.bridge.new.out
-      c.in_ok-request.request c.spent.result st
-      (cc (c.is_some.ensures, c.get.ensures, c.if-is_some.false))
-      (c.in_ok-connection.ensures.step s.host st.parts.host)
-      (λ l of. c.in_ok-request.ensures.step s.host l st.parts.host of)
-      (c.spent.ensures (around_bus [] s) s.bus st.parts.bus) c.if-spent.true;
+      bridge-spent c.args.self.now s st c.args.name.now c.args.intf c.args.cport c.args.ask.now
+      (cc (c.is_some.ensures, c.get.ensures, c.if-is_some.false)) c.in_ok-connection.connection
+      (c.in_ok-connection.ensures.step s.host st.parts.host) c.args.room.now c.bridge.new.out
+      c.in_ok-request.request (λ l of. c.in_ok-request.ensures.step s.host l st.parts.host of)
+      c.spent.result (c.spent.ensures (around_bus [] s) s.bus st.parts.bus) c.if-spent.true;
 }
 
 pub returns : goal.returns
 returns c = record {
   step = λ s st.
-      bridge-goes c.args.self.now s c.args.name.now c.args.intf c.args.cport
-      c.in_ok-connection.connection c.args.ask.now c.args.room.now c.bridge.new.out
-      c.in_ok-request.request c.spent.result st
-      (cc (c.is_some.ensures, c.get.ensures, c.if-is_some.false))
-      (c.in_ok-connection.ensures.step s.host st.parts.host)
-      (λ l of. c.in_ok-request.ensures.step s.host l st.parts.host of)
-      (c.spent.ensures (around_bus [] s) s.bus st.parts.bus) c.if-spent.false;
+      bridge-goes c.args.self.now s st c.args.name.now c.args.intf c.args.cport c.args.ask.now
+      (cc (c.is_some.ensures, c.get.ensures, c.if-is_some.false)) c.in_ok-connection.connection
+      (c.in_ok-connection.ensures.step s.host st.parts.host) c.args.room.now c.bridge.new.out
+      c.in_ok-request.request (λ l of. c.in_ok-request.ensures.step s.host l st.parts.host of)
+      c.spent.result (c.spent.ensures (around_bus [] s) s.bus st.parts.bus) c.if-spent.false;
 }

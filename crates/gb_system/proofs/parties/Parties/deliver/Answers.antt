@@ -58,14 +58,16 @@ returns-in_ok-end-in-Ended c = record {
       let a = subst (λ (w : Arrival). Brings (around_bus [] s) c.deliver.new.self
       c.takes-takes.result
       d.place s.bus d.item w) c.in-Ended.is d.brings in
-      answer-here s c.args.at c.deliver.new.self d.place d.item (record {
+      answer-here c.args.self.now s st c.args.at
+      (sym c.if-is_unplugged.false ∙ c.is_unplugged.ensures [] s st.parts) d.place d.named
+      d.item d.front
+      (sym (c.takes-takes.ensures [] s d.place st.parts d.named
+      (is-there c.args.self.now s c.args.at d.place st d.named).side) ∙ a.0)
+      c.deliver.new.self (record {
         number = c.in-Ended.number;
         connection = c.in-Ok.arrived.connection;
         side = c.side_of.result;
-      }) c.in-Ended.kind c.in-Ended.code c.in-Ended.payload c.reading-reading.result st
-      (sym c.if-is_unplugged.false ∙ c.is_unplugged.ensures [] s st.parts) d.named d.front
-      (sym (c.takes-takes.ensures [] s d.place st.parts d.named
-      (is-there c.args.self.now s c.args.at d.place st d.named).side) ∙ a.0) a.1
+      }) c.in-Ended.kind c.in-Ended.code c.in-Ended.payload c.reading-reading.result a.1
       d.connection c.side_of.ensures
       (λ t stand same. c.reading-reading.ensures [] t d.place.connection stand
       (reads-on s t c.args.at d.place c.in-Ok.arrived.connection st d.named d.connection same)
@@ -81,10 +83,12 @@ returns-in_ok-push-in-Late c = record {
       let a = subst (λ (w : Arrival). Brings (around_bus [] s) c.deliver.new.self
       c.takes-takes.result
       d.place s.bus d.item w) c.in-Late.is d.brings in
-      late-here s c.args.at c.deliver.new.self d.place d.item c.in-Late.number st
-      (sym c.if-is_unplugged.false ∙ c.is_unplugged.ensures [] s st.parts) d.named d.front
+      late-here c.args.self.now s st c.args.at
+      (sym c.if-is_unplugged.false ∙ c.is_unplugged.ensures [] s st.parts) d.place d.named
+      d.item d.front
       (sym (c.takes-takes.ensures [] s d.place st.parts d.named
-      (is-there c.args.self.now s c.args.at d.place st d.named).side) ∙ a.0) a.1
+      (is-there c.args.self.now s c.args.at d.place st d.named).side) ∙ a.0)
+      c.deliver.new.self c.in-Late.number a.1
       c.in_ok-push-in-Late.ensures.ok;
 }
 
@@ -95,10 +99,12 @@ returns-in_ok-push-in-LateLabel c = record {
       let a = subst (λ (w : Arrival). Brings (around_bus [] s) c.deliver.new.self
       c.takes-takes.result
       d.place s.bus d.item w) c.in-LateLabel.is d.brings in
-      late_label-here s c.args.at c.deliver.new.self d.place d.item c.in-LateLabel.label st
-      (sym c.if-is_unplugged.false ∙ c.is_unplugged.ensures [] s st.parts) d.named d.front
+      late_label-here c.args.self.now s st c.args.at
+      (sym c.if-is_unplugged.false ∙ c.is_unplugged.ensures [] s st.parts) d.place d.named
+      d.item d.front
       (sym (c.takes-takes.ensures [] s d.place st.parts d.named
-      (is-there c.args.self.now s c.args.at d.place st d.named).side) ∙ a.0) a.1
+      (is-there c.args.self.now s c.args.at d.place st d.named).side) ∙ a.0)
+      c.deliver.new.self c.in-LateLabel.label a.1
       c.in_ok-push-in-LateLabel.ensures.ok;
 }
 
@@ -109,10 +115,12 @@ returns-in_ok-push-in-UnknownLabel c = record {
       let a = subst (λ (w : Arrival). Brings (around_bus [] s) c.deliver.new.self
       c.takes-takes.result
       d.place s.bus d.item w) c.in-UnknownLabel.is d.brings in
-      unknown-here s c.args.at c.deliver.new.self d.place d.item c.in-UnknownLabel.label st
-      (sym c.if-is_unplugged.false ∙ c.is_unplugged.ensures [] s st.parts) d.named d.front
+      unknown-here c.args.self.now s st c.args.at
+      (sym c.if-is_unplugged.false ∙ c.is_unplugged.ensures [] s st.parts) d.place d.named
+      d.item d.front
       (sym (c.takes-takes.ensures [] s d.place st.parts d.named
-      (is-there c.args.self.now s c.args.at d.place st d.named).side) ∙ a.0) a.1
+      (is-there c.args.self.now s c.args.at d.place st d.named).side) ∙ a.0)
+      c.deliver.new.self c.in-UnknownLabel.label a.1
       c.in_ok-push-in-UnknownLabel.ensures.ok;
 }
 
@@ -123,10 +131,12 @@ returns-in_ok-push-in-BadRaw c = record {
       let a = subst (λ (w : Arrival). Brings (around_bus [] s) c.deliver.new.self
       c.takes-takes.result
       d.place s.bus d.item w) c.in-BadRaw.is d.brings in
-      bad-here s c.args.at c.deliver.new.self d.place d.item c.in-BadRaw.fault st
-      (sym c.if-is_unplugged.false ∙ c.is_unplugged.ensures [] s st.parts) d.named d.front
+      bad-here c.args.self.now s st c.args.at
+      (sym c.if-is_unplugged.false ∙ c.is_unplugged.ensures [] s st.parts) d.place d.named
+      d.item d.front
       (sym (c.takes-takes.ensures [] s d.place st.parts d.named
-      (is-there c.args.self.now s c.args.at d.place st d.named).side) ∙ a.0) a.1
+      (is-there c.args.self.now s c.args.at d.place st d.named).side) ∙ a.0)
+      c.deliver.new.self c.in-BadRaw.fault a.1
       c.in_ok-push-in-BadRaw.ensures.ok;
 }
 
@@ -137,9 +147,9 @@ returns-in_ok-push-in-Dropped c = record {
       let a = subst (λ (w : Arrival). Brings (around_bus [] s) c.deliver.new.self
       c.takes-takes.result
       d.place s.bus d.item w) c.in-Dropped.is d.brings in
-      dropped-here s c.args.at c.deliver.new.self d.place d.item c.in-Dropped.number
-      c.in-Dropped.reply st
-      (sym c.if-is_unplugged.false ∙ c.is_unplugged.ensures [] s st.parts) d.named d.front
+      dropped-here c.args.self.now s st c.args.at
+      (sym c.if-is_unplugged.false ∙ c.is_unplugged.ensures [] s st.parts) d.place d.named
+      d.item d.front c.deliver.new.self c.in-Dropped.number c.in-Dropped.reply
       (sym (c.takes-takes.ensures [] s d.place st.parts d.named
       (is-there c.args.self.now s c.args.at d.place st d.named).side) ∙ a.0) a.1
       c.in_ok-push-in-Dropped.ensures.ok;
