@@ -14,6 +14,7 @@ is_named e = false
 
 -- numbers alone
 abbrev pub is_plain : Event → Bool
+is_plain (event.Insert i kinds) = false
 is_plain (event.InsertRaw i manifest) = false
 is_plain (event.Inject i c bytes) = false
 is_plain (event.Send name to kind payload timeout) = false

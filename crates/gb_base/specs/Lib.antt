@@ -3,6 +3,7 @@ pub mod Copies
 pub mod EventGroups
 pub mod Faults
 pub mod Groups
+pub mod Kinds
 pub mod Marks
 pub mod Memory
 pub mod Name

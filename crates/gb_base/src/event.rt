@@ -1,11 +1,12 @@
 //! The events of the bus, one for each line of a script.
 
-use crate::{BridgeAsk, Bytes, End, Name};
+use crate::{BridgeAsk, Bytes, End, Kinds, Name};
 
-/// The kinds of module that a script can plug by name.
-#[derive(Clone, Copy, Debug, PartialEq, Eq)]
+/// The kinds of interface that a script can plug by name.
+#[derive(Clone, Copy, Debug, Default, PartialEq, Eq)]
 pub enum Kind {
     /// Eight GPIO lines.
+    #[default]
     Gpio,
     /// An I2C adapter with a memory of 256 bytes.
     I2c,
@@ -24,23 +25,23 @@ pub enum Kind {
 pub enum Event {
     /// The supervisory controller starts.
     Boot,
-    /// A module of a kind is plugged.
+    /// A module is plugged.
     Insert {
-        /// The interface.
+        /// Its primary interface.
         intf: u8,
-        /// The kind.
-        kind: Kind,
+        /// The kinds of its interfaces, one to four.
+        kinds: Kinds,
     },
-    /// A module with this manifest is plugged.
+    /// A module of one interface with this manifest is plugged.
     InsertRaw {
         /// The interface.
         intf: u8,
         /// The bytes of its manifest.
         manifest: Bytes,
     },
-    /// A module is pulled.
+    /// A module is pulled, with all of its interfaces.
     Pull {
-        /// The interface.
+        /// One of them.
         intf: u8,
     },
     /// The application processor begins to connect to a CPort.

@@ -11,6 +11,10 @@ impl TryCopy for Event {
 
     fn copy(&self) -> Result<Event, OutOfMemory> {
         match self {
+            Event::Insert { intf, kinds } => Ok(Event::Insert {
+                intf: *intf,
+                kinds: kinds.copy()?,
+            }),
             Event::InsertRaw { intf, manifest } => Ok(Event::InsertRaw {
                 intf: *intf,
                 manifest: manifest.copy()?,
@@ -78,10 +82,6 @@ fn copy_plain(event: &Event) -> Event
 {
     match event {
         Event::Boot => Event::Boot,
-        Event::Insert { intf, kind } => Event::Insert {
-            intf: *intf,
-            kind: *kind,
-        },
         Event::Pull { intf } => Event::Pull { intf: *intf },
         Event::Connect { intf, cport } => Event::Connect {
             intf: *intf,

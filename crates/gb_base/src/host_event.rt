@@ -5,15 +5,17 @@ use crate::Outcome;
 /// What the application processor takes notice of.
 #[derive(Drop)]
 pub enum HostEvent {
-    /// MODULE_INSERTED of an interface was handled.
+    /// MODULE_INSERTED was handled.
     Inserted {
-        /// The interface, 2 to 31.
-        intf: u8,
+        /// The primary interface of the module, 2 to 31.
+        primary: u8,
+        /// How many interfaces it has, from the primary on: 1 to 4.
+        count: u8,
     },
-    /// MODULE_REMOVED of an interface was handled.
+    /// MODULE_REMOVED was handled.
     Removed {
-        /// The interface, 2 to 31.
-        intf: u8,
+        /// The primary interface of the module, 2 to 31.
+        primary: u8,
     },
     /// A connection is to be made.
     Connect {

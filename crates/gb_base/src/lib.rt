@@ -15,6 +15,7 @@ mod front;
 mod gate;
 mod host_event;
 mod journal;
+mod kinds;
 mod memory;
 mod name;
 mod numbers;
@@ -43,6 +44,7 @@ pub use fault::{CaptureFault, LineReason, MnfsReason, RawFault, Reason, WireFaul
 pub use gate::{FreeGate, Gate};
 pub use host_event::HostEvent;
 pub use journal::{Journal, JournalEntry};
+pub use kinds::Kinds;
 pub use memory::{MemSink, MemSource};
 pub use name::{Name, Word};
 pub use numbers::{bytes_of_four, bytes_of_two};

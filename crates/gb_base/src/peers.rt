@@ -7,6 +7,8 @@ use crate::{Bytes, ConnState, IntfStage, SequenceStep};
 pub struct Interface {
     /// The interface, 2 to 31.
     pub intf: u8,
+    /// The primary interface of its module.
+    pub primary: u8,
     /// Its stage.
     pub stage: IntfStage,
     /// The device id that it is to have, 2 to 31.

@@ -37,4 +37,6 @@ pub enum Refusal {
     NoCredit = 16,
     /// All slots of the desk are taken.
     Full = 17,
+    /// The module would reach beyond interface 31.
+    OutOfRange = 19,
 }

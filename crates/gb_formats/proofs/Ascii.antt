@@ -116,6 +116,7 @@ refused refusal.QueueEmpty = refl
 refused refusal.NotHeld = refl
 refused refusal.NoCredit = refl
 refused refusal.Full = refl
+refused refusal.OutOfRange = refl
 
 because : (x : Reason) → is_ascii (reason_text x) ≡ true
 because reason.ShortHeader = refl

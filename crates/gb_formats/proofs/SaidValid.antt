@@ -1,5 +1,5 @@
 -- Whatever a line says is an event that the machine may be given.
-use Rattle.std.proofs.Common.{◌≡◌, ◌≤◌, ℕ, ◌+◌, Bool, true, false, List, [], ◌∷◌, refl, arith}
+use Rattle.std.proofs.Common.{◌≡◌, ◌≤◌, ℕ, ◌+◌, Bool, true, false, List, [], ◌∷◌, ◌++◌, refl, arith}
 use Rattle.std.proofs.lemmas.Bool.Decides.{nat_tests}
 use Rattle.std.specs.Prelude.{Option, Some, None, Ok, Err, ⊤, ◌&&◌, ◌==◌, nat_le, nat_lt}
 use Rattle.std.specs.Prelude.{if◌then◌else◌, option_and_then, length, slice_index, codes}
@@ -8,13 +8,16 @@ use Rattle.std.specs.Bool.{then_some}
 use Rattle.gb_base.specs.declared.end.End.TheVariants as end
 use Rattle.gb_base.specs.declared.event.Event.{Event}
 use Rattle.gb_base.specs.declared.event.Event.TheVariants as event
+use Rattle.gb_base.specs.declared.event.Kind.{Kind}
 use Rattle.gb_base.specs.declared.name.Name.{Name}
 use Rattle.gb_formats.specs.Grammar.{of_intf, of_cport, of_name, inserting_what, inserting, timed}
 use Rattle.gb_formats.specs.Grammar.{sending_svc, sending_module, sending_to, sending, copying}
 use Rattle.gb_formats.specs.Grammar.{delivering, settling, answering, ticking, injecting}
-use Rattle.gb_formats.specs.Grammar.{disconnecting, disconnecting_how}
+use Rattle.gb_formats.specs.Grammar.{disconnecting, disconnecting_how, or_more_kinds}
+use Rattle.gb_formats.specs.Grammar.{behind_four, behind_one, behind_three, behind_two}
 use Rattle.gb_formats.specs.Said.{Said, Rest, by_meaning, next_word, by_word, next_cport, at_end}
 use Rattle.gb_formats.specs.ValidEvents.{IsValid, IsIntf, IsCport, IsName, IsFromOne}
+use Rattle.gb_formats.specs.ValidEvents.{HasKinds}
 use Rattle.gb_formats.specs.WordValues.{number_word, is_number, number_of, cport_word, name_word}
 use Rattle.gb_formats.specs.WordValues.{is_name_word, name_of, type_word, hex_word, low_byte}
 use Rattle.gb_formats.specs.WordValues.{kind_word}
@@ -171,13 +174,45 @@ of_name-valid who make ws h =
     next_name-valid who ws (λ x ws. at_end ws (make x))
     (λ x ws p. at_end-valid ws (make x) (h x p))
 
+-- kinds, or one more
+or_more_kinds-valid : (more : List Kind → Rest → Said) (i : ℕ) (kinds : List Kind) (ws : Rest)
+    → IsIntf i → HasKinds kinds
+    → ((kind : Kind) (rest : Rest) → SaysValid (more (kinds ++ kind ∷ []) rest))
+    → SaysValid (or_more_kinds more i kinds ws)
+or_more_kinds-valid more i kinds (place, []) p few h = (p, few)
+or_more_kinds-valid more i kinds (place, w ∷ ws) p few h =
+    next_any-valid kind_word (place, w ∷ ws) (λ kind ws. more (kinds ++ kind ∷ []) ws) h
+
+behind_four-valid : (i : ℕ) (a b c d : Kind) (ws : Rest) → IsIntf i
+    → SaysValid (behind_four i (a ∷ b ∷ c ∷ d ∷ []) ws)
+behind_four-valid i a b c d ws p =
+    at_end-valid ws (event.Insert i (a ∷ b ∷ c ∷ d ∷ []))
+    (p, (omega arith, omega arith))
+
+behind_three-valid : (i : ℕ) (a b c : Kind) (ws : Rest) → IsIntf i
+    → SaysValid (behind_three i (a ∷ b ∷ c ∷ []) ws)
+behind_three-valid i a b c ws p =
+    or_more_kinds-valid (behind_four i) i (a ∷ b ∷ c ∷ []) ws p (omega arith, omega arith)
+    (λ d rest. behind_four-valid i a b c d rest p)
+
+behind_two-valid : (i : ℕ) (a b : Kind) (ws : Rest) → IsIntf i
+    → SaysValid (behind_two i (a ∷ b ∷ []) ws)
+behind_two-valid i a b ws p =
+    or_more_kinds-valid (behind_three i) i (a ∷ b ∷ []) ws p (omega arith, omega arith)
+    (λ c rest. behind_three-valid i a b c rest p)
+
+behind_one-valid : (i : ℕ) (a : Kind) (ws : Rest) → IsIntf i → SaysValid (behind_one i (a ∷ []) ws)
+behind_one-valid i a ws p =
+    or_more_kinds-valid (behind_two i) i (a ∷ []) ws p (omega arith, omega arith)
+    (λ b rest. behind_two-valid i a b rest p)
+
 pub inserting_what-valid : (i : ℕ) (ws : Rest) → IsIntf i → SaysValid (inserting_what i ws)
 inserting_what-valid i ws p = by_word-valid ws _ (λ w rest.
     if-valid (bytes_eq w (codes "raw")) _ _
     (next_any-valid hex_word rest (λ bytes ws. at_end ws (event.InsertRaw i bytes))
     (λ bytes ws. at_end-valid ws (event.InsertRaw i bytes) p))
-    (next_any-valid kind_word ws (λ kind ws. at_end ws (event.Insert i kind))
-    (λ kind ws. at_end-valid ws (event.Insert i kind) p)))
+    (next_any-valid kind_word ws (λ kind ws. behind_one i (kind ∷ []) ws)
+    (λ kind ws. behind_one-valid i kind ws p)))
 
 pub inserting-valid : (ws : Rest) → SaysValid (inserting ws)
 inserting-valid ws =

@@ -165,11 +165,13 @@ pub refusals-told : map refusal_text
     (refusal.NoInterface ∷ refusal.Occupied ∷ refusal.NotEnumerated ∷ refusal.NoConnection
     ∷ refusal.Closing ∷ refusal.Failed ∷ refusal.Unsupported ∷ refusal.NoLabel ∷ refusal.NoCport
     ∷ refusal.CportsSpent ∷ refusal.TooLarge ∷ refusal.NoName ∷ refusal.AlreadyEnded
-    ∷ refusal.QueueEmpty ∷ refusal.NotHeld ∷ refusal.NoCredit ∷ refusal.Full ∷ [])
+    ∷ refusal.QueueEmpty ∷ refusal.NotHeld ∷ refusal.NoCredit ∷ refusal.Full
+    ∷ refusal.OutOfRange ∷ [])
     ≡ codes "NoInterface" ∷ codes "Occupied" ∷ codes "NotEnumerated" ∷ codes "NoConnection"
     ∷ codes "Closing" ∷ codes "Failed" ∷ codes "Unsupported" ∷ codes "NoLabel" ∷ codes "NoCport"
     ∷ codes "CportsSpent" ∷ codes "TooLarge" ∷ codes "NoName" ∷ codes "AlreadyEnded"
-    ∷ codes "QueueEmpty" ∷ codes "NotHeld" ∷ codes "NoCredit" ∷ codes "Full" ∷ []
+    ∷ codes "QueueEmpty" ∷ codes "NotHeld" ∷ codes "NoCredit" ∷ codes "Full"
+    ∷ codes "OutOfRange" ∷ []
 refusals-told = refl
 
 pub reasons-told : map reason_text

@@ -16,12 +16,21 @@ use Rattle.gb_formats.proofs.Samples.{named, named_of}
 abbrev pub form_lines : List (List ℕ × Said)
 form_lines =
     (codes "boot", Ok (Some event.Boot))
-    ∷ (codes "insert 2 gpio", Ok (Some (event.Insert 2 kind.Gpio)))
-    ∷ (codes "insert 31 i2c", Ok (Some (event.Insert 31 kind.I2c)))
-    ∷ (codes "insert 2 spi", Ok (Some (event.Insert 2 kind.Spi)))
-    ∷ (codes "insert 2 uart", Ok (Some (event.Insert 2 kind.Uart)))
-    ∷ (codes "insert 2 loopback", Ok (Some (event.Insert 2 kind.Loopback)))
-    ∷ (codes "insert 2 bridge", Ok (Some (event.Insert 2 kind.Bridge)))
+    ∷ (codes "insert 2 gpio", Ok (Some (event.Insert 2 (kind.Gpio ∷ []))))
+    ∷ (codes "insert 31 i2c", Ok (Some (event.Insert 31 (kind.I2c ∷ []))))
+    ∷ (codes "insert 2 spi", Ok (Some (event.Insert 2 (kind.Spi ∷ []))))
+    ∷ (codes "insert 2 uart", Ok (Some (event.Insert 2 (kind.Uart ∷ []))))
+    ∷ (codes "insert 2 loopback", Ok (Some (event.Insert 2 (kind.Loopback ∷ []))))
+    ∷ (codes "insert 2 bridge", Ok (Some (event.Insert 2 (kind.Bridge ∷ []))))
+    ∷ (codes "insert 2 gpio uart", Ok (Some (event.Insert 2 (kind.Gpio ∷ kind.Uart ∷ []))))
+    ∷ (
+      codes "insert 30 spi spi i2c",
+      Ok (Some (event.Insert 30 (kind.Spi ∷ kind.Spi ∷ kind.I2c ∷ []))),
+    )
+    ∷ (
+      codes "insert 31 bridge loopback gpio uart",
+      Ok (Some (event.Insert 31 (kind.Bridge ∷ kind.Loopback ∷ kind.Gpio ∷ kind.Uart ∷ []))),
+    )
     ∷ (codes "insert 3 raw 03Ff", Ok (Some (event.InsertRaw 3 (3 ∷ 255 ∷ []))))
     ∷ (codes "insert 3 raw -", Ok (Some (event.InsertRaw 3 [])))
     ∷ (codes "pull 2", Ok (Some (event.Pull 2)))

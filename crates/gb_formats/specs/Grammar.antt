@@ -1,10 +1,11 @@
 -- The script grammar: what the words of a line ask for.
-use Rattle.std.specs.Prelude.{ℕ, ◌+◌, ◌==◌, Bool, if◌then◌else◌, Some, None, Ok, Err, List, [], ◌∷◌}
-use Rattle.std.specs.Prelude.{slice_index, codes}
+use Rattle.std.specs.Prelude.{ℕ, ◌+◌, ◌==◌, Bool, if◌then◌else◌, Some, None, Ok, Err, List}
+use Rattle.std.specs.Prelude.{[], ◌∷◌, ◌++◌, slice_index, codes}
 use Rattle.std.specs.Str.{bytes_eq}
 use Rattle.gb_base.specs.declared.end.End.TheVariants as end
 use Rattle.gb_base.specs.declared.event.Event.{Event}
 use Rattle.gb_base.specs.declared.event.Event.TheVariants as event
+use Rattle.gb_base.specs.declared.event.Kind.{Kind}
 use Rattle.gb_base.specs.declared.fault.LineReason.TheVariants as bad
 use Rattle.gb_base.specs.declared.name.Name.{Name}
 use Rattle.gb_formats.specs.BridgeForms.{gpio_form, i2c_form, loopback_form, spi_form, uart_form}
@@ -32,12 +33,38 @@ ping_event who name = event.Send (name_of who name) end.Svc ping [] default_time
 
 -- ---- interfaces and connections
 
--- `insert I KIND`, or `insert I raw HEX`
+-- a module with these kinds, or with one kind more
+abbrev pub or_more_kinds : (List Kind → Rest → Said) → ℕ → List Kind → Rest → Said
+or_more_kinds more i kinds (place, []) = Ok (Some (event.Insert i kinds))
+or_more_kinds more i kinds (place, w ∷ ws) =
+    next_word kind_word (place, w ∷ ws) (λ kind ws. more (kinds ++ kind ∷ []) ws)
+
+-- behind `insert I` and four kinds
+abbrev pub behind_four : ℕ → List Kind → Rest → Said
+behind_four i kinds ws = at_end ws (event.Insert i kinds)
+
+-- behind three
+abbrev pub behind_three : ℕ → List Kind → Rest → Said
+behind_three i kinds ws = or_more_kinds (behind_four i) i kinds ws
+
+-- behind two
+abbrev pub behind_two : ℕ → List Kind → Rest → Said
+behind_two i kinds ws = or_more_kinds (behind_three i) i kinds ws
+
+-- behind one
+abbrev pub behind_one : ℕ → List Kind → Rest → Said
+behind_one i kinds ws = or_more_kinds (behind_two i) i kinds ws
+
+-- `insert I KIND ..`, with one kind for each of one to four interfaces
+abbrev pub inserting_kinds : ℕ → Rest → Said
+inserting_kinds i ws = next_word kind_word ws (λ kind ws. behind_one i (kind ∷ []) ws)
+
+-- `insert I KIND ..`, or `insert I raw HEX`
 abbrev pub inserting_what : ℕ → Rest → Said
 inserting_what i ws = by_word ws (λ w rest.
     if bytes_eq w (codes "raw")
     then next_word hex_word rest (λ bytes ws. at_end ws (event.InsertRaw i bytes))
-    else next_word kind_word ws (λ kind ws. at_end ws (event.Insert i kind)))
+    else inserting_kinds i ws)
 
 -- `insert I` and what is inserted
 abbrev pub inserting : Rest → Said

@@ -69,7 +69,7 @@ made_lines = 20024
 abbrev pub made : ℕ → ℕ → Event
 made seed k =
     let drawn = made_drawn seed (k - 23) in
-    if nat_le k 4 then event.Insert (k + 1) kind.Bridge
+    if nat_le k 4 then event.Insert (k + 1) (kind.Bridge ∷ [])
     else if k == 5 then event.Boot
     else if k == 6 then event.Settle 60000
     else if nat_le k 22 then event.Connect (2 + (k - 7) / 4) (1 + (k - 7) % 4)

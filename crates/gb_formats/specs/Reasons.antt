@@ -24,6 +24,7 @@ refusal_text refusal.QueueEmpty = codes "QueueEmpty"
 refusal_text refusal.NotHeld = codes "NotHeld"
 refusal_text refusal.NoCredit = codes "NoCredit"
 refusal_text refusal.Full = codes "Full"
+refusal_text refusal.OutOfRange = codes "OutOfRange"
 
 -- why a manifest is refused
 abbrev pub reason_text : Reason → List ℕ

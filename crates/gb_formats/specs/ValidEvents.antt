@@ -1,6 +1,7 @@
 -- The events that the machine may be given: their numbers are in the ranges of the grammar, their
 -- names can be names, and what a bridge line asks has a form.
-use Rattle.std.specs.Prelude.{◌≡◌, ◌≤◌, ◌⊎◌, ℕ, IsTrue, ⊤, List, [], ◌∷◌}
+use Rattle.std.specs.Prelude.{◌≡◌, ◌≤◌, ◌⊎◌, ℕ, IsTrue, ⊤, List, [], ◌∷◌, length}
+use Rattle.gb_base.specs.Kinds.{most_kinds}
 use Rattle.gb_base.specs.Name.{is_name}
 use Rattle.gb_base.specs.declared.bridge.BridgeAsk.{BridgeAsk}
 use Rattle.gb_base.specs.declared.bridge.BridgeAsk.TheVariants as ask
@@ -12,11 +13,16 @@ use Rattle.gb_base.specs.declared.end.End.{End}
 use Rattle.gb_base.specs.declared.end.End.TheVariants as end
 use Rattle.gb_base.specs.declared.event.Event.{Event}
 use Rattle.gb_base.specs.declared.event.Event.TheVariants as event
+use Rattle.gb_base.specs.declared.event.Kind.{Kind}
 use Rattle.gb_base.specs.declared.name.Name.{Name}
 
 -- an interface that a module can have
 abbrev pub IsIntf : ℕ → Type 0
 IsIntf i = (2 ≤ i) × (i ≤ 31)
+
+-- the kinds of a module's interfaces: one to four
+abbrev pub HasKinds : List Kind → Type 0
+HasKinds kinds = (1 ≤ length kinds) × (length kinds ≤ most_kinds)
 
 -- a CPort of a module or of the application processor
 abbrev pub IsCport : ℕ → Type 0
@@ -123,7 +129,7 @@ HasForm (ask.LoopBytes kind bytes) = (kind ≡ 0x03) ⊎ (kind ≡ 0x04)
 -- An event that the machine may be given.
 abbrev pub IsValid : Event → Type 0
 IsValid event.Boot = ⊤
-IsValid (event.Insert i kind) = IsIntf i
+IsValid (event.Insert i kinds) = IsIntf i × HasKinds kinds
 IsValid (event.InsertRaw i bytes) = IsIntf i
 IsValid (event.Pull i) = IsIntf i
 IsValid (event.Connect i c) = IsIntf i × IsCport c

@@ -21,7 +21,7 @@ holds_behind (suc more) es test s =
 -- a module is pulled and plugged again, and the front messages are delivered
 abbrev pub hot_plug : List Event
 hot_plug =
-    event.Pull 2 ∷ event.Insert 2 kind.Gpio ∷ event.Deliver end.Svc ∷ event.Deliver (end.Ap 0)
+    event.Pull 2 ∷ event.Insert 2 (kind.Gpio ∷ []) ∷ event.Deliver end.Svc ∷ event.Deliver (end.Ap 0)
     ∷ event.Deliver (end.Module 2 0) ∷ []
 
 -- the same, and what comes from the module's Control, and time passes

@@ -16,7 +16,8 @@ use Rattle.gb_machine.specs.LineActions.{copies, holds, injects, injects_at, sen
 use Rattle.gb_machine.specs.LineActions.{serves_held, stirred, stirs}
 use Rattle.gb_machine.specs.Lists.{first_free}
 use Rattle.gb_machine.specs.OwnAsking.{far_asks, far_asks_all, svc_asks}
-use Rattle.gb_machine.specs.Plugging.{boots, plugs, pulls, tells_inserted, tells_removed}
+use Rattle.gb_machine.specs.Plugging.{boots, plugs, pulls, pulls_module, pulls_one}
+use Rattle.gb_machine.specs.Plugging.{tells_inserted, tells_removed}
 use Rattle.gb_machine.specs.Responding.{host_behind, replies, responds, serves, serves_oneway}
 use Rattle.gb_machine.specs.Responding.{with_ports}
 use Rattle.gb_machine.specs.Settling.{settles, settles_at, settles_from}
@@ -52,7 +53,7 @@ delivering_opened = tt
 -- the lines of a script
 unfoldable pub lines_opened : ⊤
 unfolding answers answers_at answers_held boots bridge_sent bridges cancels copies gives_up holds
-    injects injects_at plugs pulls sends sends_on serves_held settles settles_at settles_from shows
+    injects injects_at plugs pulls pulls_module pulls_one sends sends_on serves_held settles settles_at settles_from shows
     stirred stirs tells_inserted tells_removed ticks times_out
 lines_opened = tt
 

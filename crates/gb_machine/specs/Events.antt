@@ -1,5 +1,5 @@
 -- What an event does.
-use Rattle.std.specs.Prelude.{ℕ, Option, Some, None, List, [], ◌∷◌}
+use Rattle.std.specs.Prelude.{ℕ, Option, Some, None, List, [], ◌∷◌, map}
 use Rattle.gb_base.specs.declared.entry.Entry.TheVariants as entry
 use Rattle.gb_base.specs.declared.event.Event.{Event}
 use Rattle.gb_base.specs.declared.event.Event.TheVariants as event
@@ -32,8 +32,8 @@ shows = by_state (λ s. tell_all (shown s))
 -- What an event does that isn't refused.
 unfoldable pub does : Event → Action
 does event.Boot = boots
-does (event.Insert i kind) = plugs i (module_of_kind kind)
-does (event.InsertRaw i manifest) = plugs i (module_raw manifest)
+does (event.Insert i kinds) = plugs i (map module_of_kind kinds)
+does (event.InsertRaw i manifest) = plugs i (module_raw manifest ∷ [])
 does (event.Pull i) = pulls i
 does (event.Connect i c) = notices (host_event.Connect i c)
 does (event.Disconnect i c) = notices (host_event.Disconnect i c)

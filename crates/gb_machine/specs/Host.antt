@@ -1,8 +1,8 @@
 -- The application processor: what it knows of interfaces and of its connections to modules.
 use Rattle.std.specs.Prelude.{ℕ, ◌==◌, nat_lt, Bool, true, false, ◌&&◌, if◌then◌else◌, Option, Some}
 use Rattle.std.specs.Prelude.{None, option_map, option_and_then, Result, Ok, Err, List, [], ◌∷◌}
-use Rattle.std.specs.Prelude.{◌++◌, find}
-use Rattle.std.specs.List.{list_any}
+use Rattle.std.specs.Prelude.{◌++◌, find, map}
+use Rattle.std.specs.List.{filter, list_any}
 use Rattle.gb_base.specs.declared.peers.Interface.{Interface}
 use Rattle.gb_base.specs.declared.peers.Link.{Link}
 use Rattle.gb_base.specs.declared.entry.ConnState.{ConnState}
@@ -38,10 +38,19 @@ abbrev pub with_interface : ℕ → (Interface → Interface) → Host → Host
 with_interface i change h =
     record h { interfaces = at_first (is_intf i) change h.interfaces }
 
--- an interface whose enumeration begins
-abbrev pub new_interface : ℕ → Interface
-new_interface i = record {
+-- an interface of this module
+abbrev pub has_primary : ℕ → Interface → Bool
+has_primary p x = x.primary == p
+
+-- The interfaces of a module, by its primary interface, rising.
+abbrev pub interfaces_of : ℕ → Host → List ℕ
+interfaces_of p h = map (λ x. x.intf) (filter (has_primary p) h.interfaces)
+
+-- an interface of a module, whose enumeration begins
+abbrev pub new_interface : ℕ → ℕ → Interface
+new_interface p i = record {
   intf = i;
+  primary = p;
   stage = stage.Enumerating;
   device = None;
   has_device = false;
@@ -55,9 +64,9 @@ abbrev pub intf_before : Interface → Interface → Bool
 intf_before x y = nat_lt x.intf y.intf
 
 -- the host with an interface more
-abbrev pub with_new_interface : ℕ → Host → Host
-with_new_interface i h =
-    record h { interfaces = in_order intf_before (new_interface i) h.interfaces }
+abbrev pub with_new_interface : ℕ → ℕ → Host → Host
+with_new_interface p i h =
+    record h { interfaces = in_order intf_before (new_interface p i) h.interfaces }
 
 -- An interface has a stage from now on.
 abbrev pub staged : IntfStage → Interface → Interface

@@ -47,8 +47,8 @@ host_version = answer success (svc_reply_payload (SvcReply.ProtocolVersion 0 1))
 abbrev pub notified : SvcAsk → Host → HostServed
 notified (SvcAsk.ProtocolVersion major minor) h = host_answers host_version h
 notified (SvcAsk.Hello endo intf) h = host_answers (plainly success) h
-notified (SvcAsk.ModuleInserted i count flags) h = host_notices (host_event.Inserted i) h
-notified (SvcAsk.ModuleRemoved i) h = host_notices (host_event.Removed i) h
+notified (SvcAsk.ModuleInserted p count flags) h = host_notices (host_event.Inserted p count) h
+notified (SvcAsk.ModuleRemoved p) h = host_notices (host_event.Removed p) h
 notified _ h = host_refuses protocol_bad h
 
 -- a request by its payload

@@ -12,20 +12,29 @@ use Rattle.gb_base.specs.declared.peers.Link.{Link}
 use Rattle.gb_base.specs.declared.steps.Purpose.{Purpose}
 use Rattle.gb_base.specs.declared.steps.SequenceStep.TheVariants as steps
 use Rattle.gb_formats.specs.Manifest.{CportView}
-use Rattle.gb_machine.specs.Host.{Host, cport_of, free_cport, in_state, interface_of, is_intf}
-use Rattle.gb_machine.specs.Host.{is_draining, link_at, link_of, with_link, with_new_interface}
-use Rattle.gb_machine.specs.Lists.{without}
+use Rattle.gb_machine.specs.Host.{Host, cport_of, free_cport, in_state, interface_of, interfaces_of}
+use Rattle.gb_machine.specs.Host.{is_draining, is_intf, link_at, link_of, with_link}
+use Rattle.gb_machine.specs.Host.{with_new_interface}
+use Rattle.gb_machine.specs.Lists.{span, without}
 use Rattle.gb_machine.specs.SequenceSteps.{purpose}
 use Rattle.gb_machine.specs.Failures.{link_told}
 use Rattle.gb_machine.specs.Sequences.{link_turn, opens, payload_in, step_answered, step_asked}
 use Rattle.gb_machine.specs.Waits.{awaited, awaits_nothing}
 use Rattle.gb_machine.specs.Turns.{Act, Turn, telling, turn}
 
--- The enumeration of an interface begins.
-abbrev pub host_inserted : ℕ → Host → Turn
-host_inserted i h =
+-- the turns of these interfaces, one after another
+abbrev pub one_by_one : (ℕ → Host → Turn) → List ℕ → Host → Turn
+one_by_one one [] h = turn h []
+one_by_one one (i ∷ is) h =
+    let first = one i h in
+    let later = one_by_one one is first.host in
+    turn later.host (first.acts ++ later.acts)
+
+-- The enumeration of an interface of a module begins.
+abbrev pub host_inserted : ℕ → ℕ → Host → Turn
+host_inserted p i h =
     telling (entry.Interface i stage.Enumerating)
-    (step_asked (purpose i 0 steps.EnableVsys) (with_new_interface i h))
+    (step_asked (purpose i 0 steps.EnableVsys) (with_new_interface p i h))
 
 -- the connections of an interface, by number
 abbrev pub links_of : ℕ → Host → List Link
@@ -106,8 +115,8 @@ host_ended n how h = ended_for (awaited n h) how h
 
 -- The turn of the application processor at what it takes notice of.
 abbrev pub host_turn : HostEvent → Host → Turn
-host_turn (host_event.Inserted i) h = host_inserted i h
-host_turn (host_event.Removed i) h = host_removed i h
+host_turn (host_event.Inserted p count) h = one_by_one (host_inserted p) (span p count) h
+host_turn (host_event.Removed p) h = one_by_one host_removed (interfaces_of p h) h
 host_turn (host_event.Connect i c) h = host_connects i c h
 host_turn (host_event.Disconnect i c) h = host_disconnects i c h
 host_turn (host_event.Drain i c) h = host_drains i c h

@@ -65,6 +65,11 @@ abbrev pub sorted : {A : Type 0} → (A → A → Bool) → List A → List A
 sorted before [] = []
 sorted before (x ∷ xs) = in_order before x (sorted before xs)
 
+-- so many numbers, from n on
+abbrev pub span : ℕ → ℕ → List ℕ
+span n zero = []
+span n (suc more) = n ∷ span (n + 1) more
+
 -- the first of so many numbers, from n on, that isn't taken
 unfoldable pub first_free : (ℕ → Bool) → ℕ → ℕ → Option ℕ
 first_free taken zero n = None

@@ -4,16 +4,20 @@ use Rattle.std.specs.Prelude.{option_map, is_some, List, find}
 use Rattle.gb_base.specs.declared.end.End.{End}
 use Rattle.gb_base.specs.declared.end.End.TheVariants as end
 use Rattle.gb_formats.specs.Module.{CportState, Module, Off, On, Quiet, cport_state}
-use Rattle.gb_machine.specs.Lists.{at_first, in_order, without}
+use Rattle.gb_machine.specs.Lists.{at_first, in_order, span, without}
 use Rattle.gb_machine.specs.State.{Plugged}
 
--- a module is plugged at this interface
+-- it is plugged at this interface
 abbrev pub is_plugged_at : ℕ → Plugged → Bool
 is_plugged_at i p = p.intf == i
 
+-- What is plugged at an interface.
+abbrev pub part_at : ℕ → List Plugged → Option Plugged
+part_at i modules = find (is_plugged_at i) modules
+
 -- The module at an interface.
 abbrev pub module_at : ℕ → List Plugged → Option Module
-module_at i modules = option_map (λ p. p.body) (find (is_plugged_at i) modules)
+module_at i modules = option_map (λ p. p.body) (part_at i modules)
 
 -- A module is plugged at an interface.
 abbrev pub is_plugged : ℕ → List Plugged → Bool
@@ -23,15 +27,23 @@ is_plugged i modules = is_some (module_at i modules)
 abbrev pub with_module : ℕ → Module → List Plugged → List Plugged
 with_module i m modules = at_first (is_plugged_at i) (λ p. record p { body = m }) modules
 
--- the order of plugged modules
+-- the interfaces of the module of which this is a part
+abbrev pub interfaces_of : Plugged → List ℕ
+interfaces_of p = span p.primary p.count
+
+-- it is plugged at the primary interface of its module
+abbrev pub is_primary : Plugged → Bool
+is_primary p = p.intf == p.primary
+
+-- the order of what is plugged
 abbrev pub plugged_before : Plugged → Plugged → Bool
 plugged_before p q = nat_lt p.intf q.intf
 
--- A module is plugged at an interface from now on.
-abbrev pub plugged : ℕ → Module → List Plugged → List Plugged
-plugged i m modules = in_order plugged_before (record { intf = i; body = m }) modules
+-- It is plugged from now on.
+abbrev pub plugged : Plugged → List Plugged → List Plugged
+plugged p modules = in_order plugged_before p modules
 
--- No module is plugged at an interface any more.
+-- Nothing is plugged at an interface any more.
 abbrev pub unplugged : ℕ → List Plugged → List Plugged
 unplugged i modules = without (is_plugged_at i) modules
 

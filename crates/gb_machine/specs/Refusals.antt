@@ -22,7 +22,7 @@ use Rattle.gb_machine.specs.HostRefusals.{disconnect_conditions, drain_condition
 use Rattle.gb_machine.specs.HostRefusals.{send_conditions}
 use Rattle.gb_machine.specs.Holding.{held_on}
 use Rattle.gb_machine.specs.Labels.{next_label}
-use Rattle.gb_machine.specs.Lists.{Condition, conditions_of, first, first_met, holds_of}
+use Rattle.gb_machine.specs.Lists.{Condition, conditions_of, first, first_met, holds_of, span}
 use Rattle.gb_machine.specs.Modules.{is_plugged, module_at}
 use Rattle.gb_machine.specs.Names.{is_bound, named}
 use Rattle.gb_machine.specs.State.{State}
@@ -124,10 +124,19 @@ holds_fewer s k p = nat_lt (length (held_on p.connection.number s.held)) k
 
 -- ---- modules
 
--- when a module can't be plugged
-abbrev pub insert_conditions : State → ℕ → List ℕ → List Condition
-insert_conditions s i manifest =
-    (is_plugged i s.modules, why.Occupied)
+-- a module with so many interfaces, from this one on, would reach beyond the last, which is 31
+abbrev pub is_beyond : ℕ → ℕ → Bool
+is_beyond i count = nat_lt 32 (i + count)
+
+-- something is plugged at one of so many interfaces, from this one on
+abbrev pub is_taken : ℕ → ℕ → State → Bool
+is_taken i count s = list_any (λ j. is_plugged j s.modules) (span i count)
+
+-- when a module with so many interfaces can't be plugged
+abbrev pub insert_conditions : State → ℕ → ℕ → List ℕ → List Condition
+insert_conditions s i count manifest =
+    (is_beyond i count, why.OutOfRange)
+    ∷ (is_taken i count s, why.Occupied)
     ∷ (nat_lt longest_manifest (length manifest), why.TooLarge)
     ∷ (has_no_label 1 side.Far s, why.NoLabel)
     ∷ []
@@ -145,8 +154,8 @@ stir_conditions s i c stir =
 -- The refusals of an event in their order, each with its condition.
 abbrev pub conditions : State → Event → List Condition
 conditions s event.Boot = (s.booted, why.Occupied) ∷ []
-conditions s (event.Insert i kind) = insert_conditions s i []
-conditions s (event.InsertRaw i manifest) = insert_conditions s i manifest
+conditions s (event.Insert i kinds) = insert_conditions s i (length kinds) []
+conditions s (event.InsertRaw i manifest) = insert_conditions s i 1 manifest
 conditions s (event.Pull i) =
     (is_unplugged i s, why.NoInterface) ∷ (has_no_label 1 side.Far s, why.NoLabel) ∷ []
 conditions s (event.Connect i c) =

@@ -16,9 +16,12 @@ pub record Port : Type 0 where
   pub level : ℕ
   pub device : Option ℕ
 
--- A module that is plugged at an interface.
+-- What is plugged at an interface: a part of a module, which has so many interfaces from its primary
+-- interface on.
 pub record Plugged : Type 0 where
   pub intf : ℕ
+  pub primary : ℕ
+  pub count : ℕ
   pub body : Module
 
 -- What only laws speak of, and no step reads: for which connection each request to create or

@@ -1,6 +1,6 @@
 -- The two queues of the supervisory controller's connection, as laws speak of them.
-use Rattle.std.specs.Prelude.{◌≡◌, ℕ, ◌==◌, Bool, true, false, not, ◌&&◌, Option, Some, None}
-use Rattle.std.specs.Prelude.{Result, Ok, List, [], ◌∷◌}
+use Rattle.std.specs.Prelude.{◌≡◌, ℕ, ◌+◌, ◌==◌, nat_le, nat_lt, Bool, true, false, not, ◌&&◌}
+use Rattle.std.specs.Prelude.{Option, Some, None, Result, Ok, List, [], ◌∷◌}
 use Rattle.std.specs.List.{list_any}
 use Rattle.gb_base.specs.declared.end.End.TheVariants as end
 use Rattle.gb_base.specs.declared.end.Side.{Side}
@@ -85,12 +85,12 @@ creates i _ = false
 abbrev pub is_connection_request : ℕ → Request → Bool
 is_connection_request i r = is_for_link i r && not (is_enumeration_request i r)
 
--- a record of the insertion of an interface
+-- a record of the insertion of a module that has an interface
 abbrev pub inserts : ℕ → Result SvcAsk PayloadFault → Bool
-inserts i (Ok (SvcAsk.ModuleInserted j count flags)) = j == i
+inserts i (Ok (SvcAsk.ModuleInserted p count flags)) = nat_le p i && nat_lt i (p + count)
 inserts i _ = false
 
--- A request is MODULE_INSERTED of an interface.
+-- A request is MODULE_INSERTED of a module that has an interface.
 abbrev pub is_insertion : ℕ → Request → Bool
 is_insertion i r = inserts i (read_svc_ask r.kind r.payload)
 
