@@ -37,7 +37,7 @@ use Rattle.gb_machine.specs.{HostServing.host_serves, HostTurns.host_turn, LawsB
 use Rattle.gb_machine.specs.{LineActions.spent, LineActions.with_fewer, Lists.first, Lists.nth}
 use Rattle.gb_machine.specs.{Members.EachTwo, Members.IsIn, Plugging.with_told, Runs.Moment}
 use Rattle.gb_machine.specs.{Serving.Answer}
-use Rattle.gb_laws.proofs.marks.Marks.{plugged_at}
+use Rattle.gb_laws.proofs.marks.Wholes.{AreElsewhere, AreWhole, plugged_at}
 pub use Rattle.gb_laws.proofs.points.PointParts.{AreQuiet, Basis, Hand, IsAfterReply, IsBridge}
 pub use Rattle.gb_laws.proofs.points.PointParts.{IsCancelled, IsCaused, IsGivenUpFor, IsLate}
 pub use Rattle.gb_laws.proofs.points.PointParts.{IsNoticed}
@@ -130,8 +130,8 @@ pub record SamePlugs (s : State) (booted : Bool) (ports : List Port) (modules : 
   pub started : booted ≡ s.booted
   pub plugged : (i : ℕ) → plugged_at i modules ≡ plugged_at i s.modules
   pub powered : (i : ℕ) → is_powered i ports ≡ true → is_powered i s.ports ≡ true
-  pub differ : EachTwo (λ (p q : Plugged). p.intf ≢ q.intf) s.modules
-      → EachTwo (λ (p q : Plugged). p.intf ≢ q.intf) modules
+  pub differ : EachTwo AreElsewhere s.modules → EachTwo AreElsewhere modules
+  pub whole : AreWhole s.modules → AreWhole modules
 
 -- Where power levels come from: they stay, or are those of a step of the supervisory controller's
 -- table, or an interface without a wired connection loses its route.
@@ -312,7 +312,7 @@ changed m a (serves k kind payload none) =
 changed m a (spends i c what none) =
     on (record a.state { host = with_link i c (spent what) a.state.host }) [] a
 changed m a (passes millis) = on (record a.state { now = a.state.now + millis }) [] a
-changed m a (recalls n i of made) = on (with_told n i a.state) [] a
+changed m a (recalls n i of made) = on (with_told n (i ∷ []) a.state) [] a
 changed m a (others booted marks ports modules same) =
     on (record a.state { booted = booted; holds = marks; ports = ports; modules = modules }) [] a
 
