@@ -7,6 +7,7 @@ pub mod MarkTakes
 pub mod PlugParts
 pub mod MarkPlugs
 pub mod MarkBoots
+pub mod PullParts
 pub mod MarkPulls
 pub mod MarkKnown
 pub mod MarkFrame

@@ -73,11 +73,13 @@ unpowered-off i j ports false e =
     other : (n : ℕ) → (n == j) ≡ true → (n == i) ≡ false
     other n h = grind (arith, nat_tests, e, h)
 
--- power levels stay where connections are unwired
-unwired-ports : (ns : List ℕ) (s : State) → (each ns wiring.unwires s).state.ports ≡ s.ports
+-- what is plugged and power levels stay where connections are unwired
+pub unwired-plugs : (ns : List ℕ) (s : State)
+    → ((each ns wiring.unwires s).state.modules ≡ s.modules)
+    × ((each ns wiring.unwires s).state.ports ≡ s.ports)
 unfolding machine_opened
-unwired-ports [] s = refl
-unwired-ports (n ∷ ns) s = unwired-ports ns (wiring.with_unwired n s)
+unwired-plugs [] s = (refl, refl)
+unwired-plugs (n ∷ ns) s = unwired-plugs ns (wiring.with_unwired n s)
 
 -- the power of an interface that is pulled is off, and stays so while others are
 one-off : (i : ℕ) (s : State) → level_of i (pulls_one i s).state.ports ≡ 0
@@ -87,7 +89,7 @@ one-off i s = pulled-off i (each (wired_numbers i s.bus) wiring.unwires s).state
 off-stays : (j i : ℕ) (s : State) → level_of j s.ports ≡ 0
     → level_of j (pulls_one i s).state.ports ≡ 0
 unfolding machine_opened
-off-stays j i s off = ⊎_elim (λ e. e ∙ ap (level_of j) (unwired-ports (wired_numbers i s.bus) s)
+off-stays j i s off = ⊎_elim (λ e. e ∙ ap (level_of j) (unwired-plugs (wired_numbers i s.bus) s).1
     ∙ off) (λ e. e)
     (unpowered-off i j (each (wired_numbers i s.bus) wiring.unwires s).state.ports (j == i) refl)
 
