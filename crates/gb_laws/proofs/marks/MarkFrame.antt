@@ -17,9 +17,9 @@ use Rattle.gb_machine.specs.{Serving.Answer, SvcQueues.items_in, SvcQueues.svc_i
 use Rattle.gb_invariants.proofs.BusChanges.{KeepsRequests, becomes, found-after, number_of}
 use Rattle.gb_invariants.proofs.{Awaiting.sent-request, Labels.asked_on, Labels.asked_on-number}
 use Rattle.gb_invariants.proofs.{Numbers.found-number, Selves.drawn-queue, Selves.module-no-svc}
-use Rattle.gb_laws.proofs.marks.Marks.{AreAsked, AreElsewhere, item_mark, marks, marks-first}
+use Rattle.gb_laws.proofs.marks.Marks.{AreAsked, item_mark, marks, marks-first}
 use Rattle.gb_laws.proofs.marks.Marks.{marks-more}
-use Rattle.gb_laws.proofs.marks.Marks.{marks-unmarked, marks_of, plugged_at}
+use Rattle.gb_laws.proofs.marks.Marks.{marks-unmarked, marks_of}
 use Rattle.gb_laws.proofs.points.Points.{Change, IsAskedBy, IsElse, IsOfSvc, acts_asked, asks}
 use Rattle.gb_laws.proofs.points.Points.{by_far}
 use Rattle.gb_laws.proofs.points.Points.{by_host, by_module, by_svc, changed, injects, names}
@@ -33,6 +33,7 @@ use Rattle.gb_laws.proofs.{links.LinkKept.LinkedAt}
 use Rattle.gb_laws.proofs.{marks.MarkKnown.KnownAt, marks.MarkKnown.known-kept}
 use Rattle.gb_laws.proofs.{points.PointParts.Basis}
 use Rattle.gb_laws.proofs.{points.PointParts.Point}
+use Rattle.gb_laws.proofs.marks.Wholes.{AreElsewhere, plugged_at}
 
 -- the bus once the item of an event is taken
 abbrev pub popped_at : Option Place → Bus → Bus

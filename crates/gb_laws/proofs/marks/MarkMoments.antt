@@ -20,8 +20,7 @@ use Rattle.gb_invariants.proofs.{Outcomes.is-same, Outcomes.same-number}
 use Rattle.gb_laws.proofs.marks.MarkFrame.{FrameAt, frame-kept, popped_at, taken_bus}
 use Rattle.gb_laws.proofs.marks.MarkTakes.{Taken, delivery-taken, insertion, none_taken, removal}
 use Rattle.gb_laws.proofs.marks.Marks.{ArePulled, Mark, MarksFit, Reads, came, known-none}
-use Rattle.gb_laws.proofs.marks.Marks.{known-primary}
-use Rattle.gb_laws.proofs.marks.Marks.{known-there, known_at, marks, plugged_at, pulled-more}
+use Rattle.gb_laws.proofs.marks.Marks.{known-there, known_at, marks, pulled-more}
 use Rattle.gb_laws.proofs.marks.Marks.{reads-less}
 use Rattle.gb_laws.proofs.marks.Marks.{went}
 use Rattle.gb_laws.proofs.points.PointParts.{Basis, IsNoticed, Point, resting}
@@ -32,6 +31,7 @@ use Rattle.gb_laws.proofs.{links.LinkKept.linked-kept, links.LinkLaw.link_law}
 use Rattle.gb_laws.proofs.{links.Links.IsPresent}
 use Rattle.gb_laws.proofs.{links.Removing.delivered-state, steps.StepDelivers.ends-taken}
 use Rattle.gb_laws.proofs.{steps.Steps.over-step}
+use Rattle.gb_laws.proofs.marks.Wholes.{plugged_at}
 
 -- ---- known interfaces
 

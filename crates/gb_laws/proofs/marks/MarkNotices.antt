@@ -29,8 +29,9 @@ use Rattle.gb_invariants.specs.Facts.{is_numbered}
 use Rattle.gb_laws.proofs.links.Links.{IsKnown, leaving, linked, supervisory}
 use Rattle.gb_laws.proofs.points.PointParts.{Basis, IsNoticed, resting}
 use Rattle.gb_laws.proofs.marks.Marks.{MarksFit, Reads, known_at, mark_in, marks_of, notice_of}
-use Rattle.gb_laws.proofs.marks.Marks.{plugged_at, request_mark}
+use Rattle.gb_laws.proofs.marks.Marks.{request_mark}
 use Rattle.gb_laws.proofs.{links.LinkFrom.Linked, points.Places.place-is}
+use Rattle.gb_laws.proofs.marks.Wholes.{plugged_at}
 
 -- ---- nothing is noticed on the connection of a module
 
@@ -67,7 +68,7 @@ unnoticed l kind payload h =
 
 -- the record that says so
 abbrev pub Tells : HostEvent → Result SvcAsk PayloadFault → Type 0
-Tells (host_event.Inserted i) r = inserts i r ≡ true
+Tells (host_event.Inserted p count) r = (flags : ℕ) × (r ≡ Ok (SvcAsk.ModuleInserted p count flags))
 Tells (host_event.Removed i) r = r ≡ Ok (SvcAsk.ModuleRemoved i)
 Tells _ r = ⊥
 

@@ -25,17 +25,18 @@ use Rattle.gb_invariants.proofs.{Outcomes.is-same, Outcomes.same-number, Selves.
 use Rattle.gb_invariants.specs.Facts.{IsBefore}
 use Rattle.gb_laws.proofs.marks.MarkTells.{AfterAsk, IsToldThen, QueueIsAsked, after-ask, ask-told}
 use Rattle.gb_laws.proofs.marks.MarkTells.{tells-removed}
-use Rattle.gb_laws.proofs.marks.Marks.{AreElsewhere, ArePulled, IsRemoval, MarksFit, Reads}
+use Rattle.gb_laws.proofs.marks.Marks.{ArePulled, IsRemoval, MarksFit, Reads}
 use Rattle.gb_laws.proofs.marks.Marks.{item_mark}
 use Rattle.gb_laws.proofs.marks.Marks.{known_at, mark_in, marks, marks-recalled, marks_of}
 use Rattle.gb_laws.proofs.marks.Marks.{next-none}
-use Rattle.gb_laws.proofs.marks.Marks.{notice_of, plugged-primary, plugged_at, pulled-more}
+use Rattle.gb_laws.proofs.marks.Marks.{notice_of, pulled-more}
 use Rattle.gb_laws.proofs.marks.Marks.{reads-other}
 use Rattle.gb_laws.proofs.marks.Marks.{reads-removed, request_mark, told-new, told-other}
 use Rattle.gb_laws.proofs.marks.Marks.{untold-yet}
 use Rattle.gb_laws.proofs.marks.Marks.{went}
 use Rattle.gb_laws.proofs.{links.LinkFrom.Linked, points.Points.IsLive, svc.SvcThere.There}
 use Rattle.gb_laws.proofs.{steps.Ticking.wired-live}
+use Rattle.gb_laws.proofs.marks.Wholes.{AreElsewhere, plugged_at}
 
 -- what of the supervisory controller's connection stays where others are unwired
 pub record SameSvc (s t : State) : Type 0 where

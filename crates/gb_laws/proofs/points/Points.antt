@@ -37,7 +37,7 @@ use Rattle.gb_machine.specs.{LineActions.spent, LineActions.with_fewer, Lists.fi
 use Rattle.gb_machine.specs.{Members.EachTwo, Members.IsIn, Plugging.with_told, Runs.Moment}
 use Rattle.gb_machine.specs.{Serving.Answer}
 use Rattle.gb_invariants.proofs.HostChanges.{Notice, at_event, at_insertion, turn_of}
-use Rattle.gb_laws.proofs.marks.Marks.{plugged_at}
+use Rattle.gb_laws.proofs.marks.Wholes.{AreElsewhere, AreWhole, plugged_at}
 pub use Rattle.gb_laws.proofs.points.PointParts.{AreQuiet, Basis, Hand, IsAfterReply, IsBridge}
 pub use Rattle.gb_laws.proofs.points.PointParts.{IsCancelled, IsCaused, IsGivenUpFor, IsLate}
 pub use Rattle.gb_laws.proofs.points.PointParts.{IsNoticed}
@@ -132,8 +132,8 @@ pub record SamePlugs (s : State) (booted : Bool) (ports : List Port) (modules : 
   pub started : booted ≡ s.booted
   pub plugged : (i : ℕ) → plugged_at i modules ≡ plugged_at i s.modules
   pub powered : (i : ℕ) → is_powered i ports ≡ true → is_powered i s.ports ≡ true
-  pub differ : EachTwo (λ (p q : Plugged). p.intf ≢ q.intf) s.modules
-      → EachTwo (λ (p q : Plugged). p.intf ≢ q.intf) modules
+  pub differ : EachTwo AreElsewhere s.modules → EachTwo AreElsewhere modules
+  pub whole : AreWhole s.modules → AreWhole modules
 
 -- Where power levels come from: they stay, or are those of a step of the supervisory controller's
 -- table, or an interface without a wired connection loses its route.

@@ -1,6 +1,6 @@
 -- A law of points goes over the step of each event.
-use Rattle.std.proofs.Common.{None, Option, Some, append_assoc, arith, refl, subst, sym, [], ◌++◌}
-use Rattle.std.proofs.Common.{◌∷◌, ◌≡◌}
+use Rattle.std.proofs.Common.{None, Option, Some, append_assoc, arith, map, refl, subst, sym, []}
+use Rattle.std.proofs.Common.{◌++◌, ◌∷◌, ◌≡◌}
 use Rattle.gb_base.specs.declared.entry.Entry.TheVariants as entry
 use Rattle.gb_base.specs.declared.event.Event.{Event}
 use Rattle.gb_base.specs.declared.event.Event.TheVariants as event
@@ -33,11 +33,11 @@ module _ (m : Moment) (law : Law m) where
   unfolding machine_opened
   ends-does event.Boot is one free = ends-going m law (does event.Boot)
       (rests-boots m law (subst IsOfSvc (sym is) tt) m.before)
-  ends-does (event.Insert i kind) is one free = ends-going m law (does (event.Insert i kind))
-      (rests-plugs m law (subst IsOfSvc (sym is) tt) i (module_of_kind kind) m.before)
+  ends-does (event.Insert i kinds) is one free = ends-going m law (does (event.Insert i kinds))
+      (rests-plugs m law (subst IsOfSvc (sym is) tt) i (map module_of_kind kinds) m.before)
   ends-does (event.InsertRaw i manifest) is one free = ends-going m law
       (does (event.InsertRaw i manifest))
-      (rests-plugs m law (subst IsOfSvc (sym is) tt) i (module_raw manifest) m.before)
+      (rests-plugs m law (subst IsOfSvc (sym is) tt) i (module_raw manifest ∷ []) m.before)
   ends-does (event.Pull i) is one free = ends-pulls m law (subst IsOfSvc (sym is) tt) i
   ends-does (event.Connect i c) is one free =
       ends-going m law (does (event.Connect i c))
