@@ -88,6 +88,34 @@ in-ordered before x y (z ∷ zs) i = by (before y z) i (in-ordered before x y zs
     by false (inl e) rec = inr (inl e)
     by false (inr j) rec = ⊎_elim (λ e. inl e) (λ k. inr (inr k)) (rec j)
 
+-- what is found where one is new that doesn't pass
+pub find-ordered : {A : Type 0} (test : A → Bool) (before : A → A → Bool) (y : A) (xs : List A)
+    → test y ≡ false → find test (in_order before y xs) ≡ find test xs
+find-ordered test before y [] other = ap (λ t. cond t (Some y) None) other
+find-ordered test before y (x ∷ xs) other =
+    by (before y x) (find-ordered test before y xs other)
+  where
+    by : (b : Bool) → find test (in_order before y xs) ≡ find test xs
+        → find test (cond b (y ∷ x ∷ xs) (x ∷ in_order before y xs)) ≡ find test (x ∷ xs)
+    by true rec = ap (λ t. cond t (Some y) (find test (x ∷ xs))) other
+    by false rec = ap (λ o. cond (test x) (Some x) o) rec
+
+-- what is found where one changes that doesn't pass
+pub find-aside : {A : Type 0} (test other : A → Bool) (change : A → A) (xs : List A)
+    → ((x : A) → other x ≡ true → (test x ≡ false) × (test (change x) ≡ false))
+    → find test (at_first other change xs) ≡ find test xs
+find-aside test other change [] apart = refl
+find-aside test other change (x ∷ xs) apart =
+    by (other x) refl (find-aside test other change xs apart)
+  where
+    by : (b : Bool) → other x ≡ b → find test (at_first other change xs) ≡ find test xs
+        → find test (cond b (change x ∷ xs) (x ∷ at_first other change xs)) ≡ find test (x ∷ xs)
+    by true e rec =
+        let w = apart x e in
+        ap (λ t. cond t (Some (change x)) (find test xs)) w.1
+        ∙ sym (ap (λ t. cond t (Some x) (find test xs)) w.0)
+    by false e rec = ap (λ o. cond (test x) (Some x) o) rec
+
 -- ---- the first free number
 
 -- it is free, and one of those that are tried

@@ -354,8 +354,8 @@ module _ (x : Notice) (before : Host) (law : TurnLaw (at_notice x before)) where
       by None found = turned (at_notice x before) law i c state.Draining None before (turn after [])
           found tt (resting (at_notice x before) law after)
       by (Some l) found =
-          turned (at_notice x before) law i c state.Draining (Some l) before (turn after []) found tt
-          (resting (at_notice x before) law after)
+          turned (at_notice x before) law i c state.Draining (Some l) before (turn after []) found
+          tt (resting (at_notice x before) law after)
 
   idle : (k : ℕ) → x ≡ at_event (host_event.Idle k) → law.says before (host_idle k before)
   idle k is = by (link_of k before) refl

@@ -16,6 +16,7 @@ use Rattle.gb_machine.specs.SvcQueues.{svc_items}
 use Rattle.gb_invariants.proofs.Outcomes.{both-true, is-same, same-number}
 use Rattle.gb_invariants.proofs.{Awaiting.not-both, Found.find-none, HostChanges.IsAnswered}
 use Rattle.gb_invariants.proofs.{Lists.found-in, Lists.in-without}
+use Rattle.gb_invariants.proofs.HostChanges.{Notice, at_removal, turn_of}
 use Rattle.gb_laws.proofs.links.LinkKept.{InsertsAbsent, same-links, turn-fits}
 use Rattle.gb_laws.proofs.links.LinkLeaves.{WhyLeft, closed, removed, why-left}
 use Rattle.gb_laws.proofs.links.Links.{IsFollowed, IsPresent, leaves, stays}
@@ -35,17 +36,17 @@ use Rattle.gb_laws.proofs.{removals.QuietRuns.waits-before, creations.StaleBase.
 use Rattle.gb_laws.proofs.{creations.StaleBase.StaleBase, svc.SvcOrder.none-earlier}
 
 -- no removal is handled where a request was answered
-answered-stays : {e : HostEvent} {h : Host} {p : Purpose} {i : ℕ} → IsAnswered e h p
-    → e ≡ host_event.Removed i → ⊥
+answered-stays : {e : Notice} {h : Host} {p : Purpose} {i : ℕ} → IsAnswered e h p
+    → e ≡ at_removal i → ⊥
 answered-stays r gone = let same = sym r.is ∙ gone in absurd cc
 
 module _ (m : Moment) (absent : InsertsAbsent m) (i : ℕ)
     (marks : MarksFit m.before) (start : StaleBase m (resting m.told m.before))
     (quiet : IsQuiet i (resting m.told m.before)) where
-  pub cool-turned : (a : Point) (e : HostEvent) (b : Point) → StaleBase m a → NoticedStill m i a
+  pub cool-turned : (a : Point) (e : Notice) (b : Point) → StaleBase m a → NoticedStill m i a
       → a.pending ≡ [] → IsOver m e a.state.bus → IsCaused m e a.state.host
-      → b.state ≡ record a.state { host = (host_turn e a.state.host).host }
-      → b.asked ≡ a.asked → b.pending ≡ (host_turn e a.state.host).acts → IsCool i a → IsCool i b
+      → b.state ≡ record a.state { host = (turn_of e a.state.host).host }
+      → b.asked ≡ a.asked → b.pending ≡ (turn_of e a.state.host).acts → IsCool i a → IsCool i b
   cool-turned a e b f noticed none over cause state asked pending h = record {
     low = λ n s. ⊎_elim (λ o. subst (λ (t : State). level_of i t.ports ≤ 1) (sym state) (h.low n o))
         (λ gone. subst (λ (t : State). level_of i t.ports ≤ 1) (sym state)
@@ -70,7 +71,7 @@ module _ (m : Moment) (absent : InsertsAbsent m) (i : ℕ)
 
       -- the interface is known, and is removed
       Goes : Type 0
-      Goes = (e ≡ host_event.Removed i) × IsPresent i a.state.host.interfaces
+      Goes = (e ≡ at_removal i) × IsPresent i a.state.host.interfaces
 
       -- what is stale was, or the removal of its interface is handled
       fate : (n : ℕ) → StaleAt i n b → StaleAt i n a ⊎ Goes
@@ -85,7 +86,7 @@ module _ (m : Moment) (absent : InsertsAbsent m) (i : ℕ)
           made : request_of n a.state.bus ≡ Some s.request
           made = subst (λ (t : State). request_of n t.bus ≡ Some s.request) state s.made
 
-          unknown : (l : Link) → IsIn l (host_turn e a.state.host).host.links
+          unknown : (l : Link) → IsIn l (turn_of e a.state.host).host.links
               → l.connection ≡ s.connection → ⊥
           unknown = subst (λ (t : State). (l : Link) → IsIn l t.host.links
               → l.connection ≡ s.connection → ⊥) state s.unknown
@@ -109,7 +110,7 @@ module _ (m : Moment) (absent : InsertsAbsent m) (i : ℕ)
               (sym (number ∙ on)) pair)) waits)
 
           followed : (l : Link) → IsIn l a.state.host.links → l.connection ≡ s.connection
-              → IsFollowed l (host_turn e a.state.host).host.links (host_turn e a.state.host).acts
+              → IsFollowed l (turn_of e a.state.host).host.links (turn_of e a.state.host).acts
               → Goes
           followed l live on (stays k j same) =
               absurd (unknown k j (same.connection ∙ on))
@@ -140,15 +141,15 @@ module _ (m : Moment) (absent : InsertsAbsent m) (i : ℕ)
               (subst (λ ls. IsIn l ls) (sym (same-links e a.state.host)) found.0)))
 
       -- where the removal is handled
-      told : e ≡ host_event.Removed i → IsNoticed m (host_event.Removed i)
+      told : e ≡ at_removal i → IsNoticed m (at_removal i)
       told gone = (subst (λ y. IsCaused m y a.state.host) gone cause).1
 
-      still : e ≡ host_event.Removed i → (level_of i a.state.ports ≡ level_of i m.before.ports)
+      still : e ≡ at_removal i → (level_of i a.state.ports ≡ level_of i m.before.ports)
           × (a.state.bus.requests ≡ m.before.bus.requests → AreStarts (enums i m.before.bus)
           → AreStarts (enums i a.state.bus))
-      still gone = noticed (host_event.Removed i) (told gone)
+      still gone = noticed (at_removal i) (told gone)
 
-      same : e ≡ host_event.Removed i → a.state.bus.requests ≡ m.before.bus.requests
+      same : e ≡ at_removal i → a.state.bus.requests ≡ m.before.bus.requests
       same gone = subst (λ y. IsOver m y a.state.bus) gone over
 
       removed : Goes → is_removed i m.before ≡ true

@@ -15,6 +15,7 @@ use Rattle.gb_machine.specs.{Members.IsIn, Runs.Moment, Sending.requested, Sendi
 use Rattle.gb_machine.specs.{SequenceSteps.asks_control, SequenceSteps.is_enumeration, State.State}
 use Rattle.gb_machine.specs.{SvcQueues.is_enumeration_request}
 use Rattle.gb_invariants.proofs.Awaiting.{none-some, not-both}
+use Rattle.gb_invariants.proofs.HostChanges.{Notice, turn_of}
 use Rattle.gb_laws.proofs.enumerations.AskedWaits.{AsksIn, WaitsFewer, asks_in, opens_in}
 use Rattle.gb_laws.proofs.enumerations.EnumNone.{IsNone, none-enums, none-sent}
 use Rattle.gb_laws.proofs.links.LinkEnds.{resumed, step-connects, waits-for, waits-link}
@@ -178,10 +179,10 @@ waits-none {b} n {h} p fits e s =
     by true f d = d.idle
     by false f d = absurd cc
 
-enums-turned : (m : Moment) → InsertsAbsent m → (i : ℕ) (e : HostEvent) (a : Point) → Basis a
+enums-turned : (m : Moment) → InsertsAbsent m → (i : ℕ) (e : Notice) (a : Point) → Basis a
     → LinkedAt a → There a.state.bus → IsOver m e a.state.bus → IsCaused m e a.state.host
     → IsQuiet i a → IsSettled i a
-    → TurnEnums i (MayAt i a) (IsNone i a.state.bus) a.state.host (host_turn e a.state.host)
+    → TurnEnums i (MayAt i a) (IsNone i a.state.bus) a.state.host (turn_of e a.state.host)
 enums-turned m absent i e a basis links there over cause quiet h =
     turn-enums i (MayAt i a) (IsNone i a.state.bus) e a.state.host (λ p r at s.
     let w = waited-enum r.number p links.host r.awaited s in
@@ -211,11 +212,11 @@ enums-turned m absent i e a basis links there over cause quiet h =
         (quiet.waits w.interface w.known (w.intf ∙ at) (n, p.step) w.awaits
         (ap (λ t. t && not (asks_control p.step)) s ∙ ap not e)).last)
 
-pub settled-turned : (m : Moment) → InsertsAbsent m → (i : ℕ) (e : HostEvent) (a b : Point)
+pub settled-turned : (m : Moment) → InsertsAbsent m → (i : ℕ) (e : Notice) (a b : Point)
     → Basis a → LinkedAt a → There a.state.bus → IsOver m e a.state.bus
     → IsCaused m e a.state.host → IsQuiet i a
-    → b.state ≡ record a.state { host = (host_turn e a.state.host).host }
-    → b.pending ≡ (host_turn e a.state.host).acts → IsSettled i a → IsSettled i b
+    → b.state ≡ record a.state { host = (turn_of e a.state.host).host }
+    → b.pending ≡ (turn_of e a.state.host).acts → IsSettled i a → IsSettled i b
 settled-turned m absent i e a b basis links there over cause quiet state pending h = record {
   done = λ d. onto (⊎_elim (λ o. h.done o) (λ c. c.0) (t.done (back d)));
   waits = λ x j at w f.
@@ -231,11 +232,11 @@ settled-turned m absent i e a b basis links there over cause quiet state pending
       (λ d. ⊎_elim may.0 (λ c. c.1 q k) (t.done (back d)), λ c. onto (may.1 c));
 }
   where
-    t : TurnEnums i (MayAt i a) (IsNone i a.state.bus) a.state.host (host_turn e a.state.host)
+    t : TurnEnums i (MayAt i a) (IsNone i a.state.bus) a.state.host (turn_of e a.state.host)
     t = enums-turned m absent i e a basis links there over cause quiet h
 
     onto : IsNone i a.state.bus → IsNone i b.state.bus
     onto k = subst (λ (s : State). IsNone i s.bus) (sym state) k
 
-    back : IsDone i b.state.host.interfaces → IsDone i (host_turn e a.state.host).host.interfaces
+    back : IsDone i b.state.host.interfaces → IsDone i (turn_of e a.state.host).host.interfaces
     back d = subst (λ (s : State). IsDone i s.host.interfaces) state d

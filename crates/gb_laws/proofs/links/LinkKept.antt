@@ -20,6 +20,7 @@ use Rattle.gb_machine.specs.{LineActions.spent, Lists.holds_of, Members.IsIn, Re
 use Rattle.gb_machine.specs.{Runs.Moment, Wiring.shut_down}
 use Rattle.gb_machine.specs.HostRefusals.{drain_conditions}
 use Rattle.gb_invariants.proofs.{BusChanges.BusChange}
+use Rattle.gb_invariants.proofs.HostChanges.{Notice, at_removal, turn_of}
 use Rattle.gb_laws.proofs.links.LinkActs.{linked-asked, linked-link, linked-served, linked-unsent}
 use Rattle.gb_laws.proofs.links.LinkBuses.{linked-left, linked-opened, linked-rest, linked-shut}
 use Rattle.gb_laws.proofs.links.LinkTurns.{fits-connects, fits-inserted, fits-removed}
@@ -45,16 +46,16 @@ abbrev pub noticed_host : HostEvent → Host → Host
 noticed_host (host_event.Inserted i) h = with_new_interface i h
 noticed_host e h = h
 
-pub same-links : (e : HostEvent) (h : Host) → (noticed_host e h).links ≡ h.links
+pub same-links : (e : Notice) (h : Host) → (noticed_host e h).links ≡ h.links
 same-links (host_event.Inserted i) h = refl
 same-links e h = refl
 
 -- what the application processor does at what it takes notice of
-pub turn-fits : (m : Moment) (b : Bus) (e : HostEvent) (h : Host) → InsertsAbsent m → IsCaused m e h
-    → HostFits b h → TurnFits b (noticed_host e h) (host_turn e h)
+pub turn-fits : (m : Moment) (b : Bus) (e : Notice) (h : Host) → InsertsAbsent m → IsCaused m e h
+    → HostFits b h → TurnFits b (noticed_host e h) (turn_of e h)
 turn-fits m b (host_event.Inserted i) h absent cause fits =
     fits-inserted b i h fits (ap (interface_of i) cause.0 ∙ absent i cause.1)
-turn-fits m b (host_event.Removed i) h absent cause fits = fits-removed b i h fits
+turn-fits m b (at_removal i) h absent cause fits = fits-removed b i h fits
 turn-fits m b (host_event.Connect i c) h absent cause fits =
     fits-connects b i c h fits (subst (λ g. AreUnmet (connect_conditions i c g)) (sym cause.0)
     (front-unmet (connect_conditions i c m.before.host)
@@ -103,8 +104,8 @@ linked-fits {h} {t} same fits f = record {
   made = f.made;
 }
 
-linked-turn : (m : Moment) {b : Bus} (e : HostEvent) {h : Host} → InsertsAbsent m → IsCaused m e h
-    → Linked b h [] → Linked b (host_turn e h).host (host_turn e h).acts
+linked-turn : (m : Moment) {b : Bus} (e : Notice) {h : Host} → InsertsAbsent m → IsCaused m e h
+    → Linked b h [] → Linked b (turn_of e h).host (turn_of e h).acts
 linked-turn m {b} e {h} absent cause f =
     linked-fits (same-links e h) (turn-fits m b e h absent cause f.host) f
 

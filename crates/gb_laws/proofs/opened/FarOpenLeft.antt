@@ -15,6 +15,7 @@ use Rattle.gb_machine.specs.{SequenceSteps.kind_of, SvcQueues.svc_items, Turns.A
 use Rattle.gb_machine.specs.{Wiring.is_at, Wiring.is_wired_to}
 use Rattle.gb_invariants.proofs.{Awaiting.not-both, Awaiting.same-some, Lists.each-in}
 use Rattle.gb_invariants.proofs.{Outcomes.is-same, Wires.WiredAreSo}
+use Rattle.gb_invariants.proofs.HostChanges.{at_removal}
 use Rattle.gb_laws.proofs.creations.GoneRuns.{GoneTo, gone-base, gone_law}
 use Rattle.gb_laws.proofs.links.LinkLeaves.{WhyLeft, closed, removed, why-left}
 use Rattle.gb_laws.proofs.links.Links.{IsKnown, leaving, linked, supervisory}
@@ -71,7 +72,7 @@ module _ (m : Moment) (start : GoneTo m.told m.before) where
   -- ---- what acts are to give up
 
   -- of an interface whose removal is handled nothing was wired
-  unwired-removed : (i : ℕ) → IsNoticed m (host_event.Removed i) → (l : Link)
+  unwired-removed : (i : ℕ) → IsNoticed m (at_removal i) → (l : Link)
       → IsIn l m.before.host.links → l.intf ≡ i
       → IsWiredIn l.connection m.before.bus.connections → ⊥
   unwired-removed i n l known at w = by (start.wiring.stale.since.links.1.known w.connection w.live)

@@ -11,12 +11,13 @@ use Rattle.gb_formats.specs.{Module.module_raw}
 use Rattle.gb_machine.proofs.Opened.{machine_opened}
 use Rattle.gb_machine.specs.Runs.{IsMoment, Moment, after, told_at}
 use Rattle.gb_machine.specs.{Events.decided, Events.does, Refusals.refusal}
+use Rattle.gb_invariants.proofs.HostChanges.{at_event}
 use Rattle.gb_laws.proofs.points.PointParts.{Untouched, Wires, resting}
 use Rattle.gb_laws.proofs.points.Points.{IsBridge, IsOfSvc, Law, frees, tells}
 use Rattle.gb_laws.proofs.steps.StepEvents.{rests-bridges, rests-cancels, rests-copies, rests-holds}
 use Rattle.gb_laws.proofs.steps.StepEvents.{rests-injects, rests-sends, rests-shows, rests-stirs}
 use Rattle.gb_laws.proofs.{steps.StepActLaws.acting}
-use Rattle.gb_laws.proofs.{steps.StepActions.At, steps.StepActs.goes-notices}
+use Rattle.gb_laws.proofs.{steps.StepActions.At, steps.StepActs.goes-notice}
 use Rattle.gb_laws.proofs.{steps.StepDelivers.ends-answers}
 use Rattle.gb_laws.proofs.{steps.StepDelivers.ends-delivers, steps.StepPlugs.rests-boots}
 use Rattle.gb_laws.proofs.{steps.StepPlugs.rests-plugs}
@@ -40,10 +41,12 @@ module _ (m : Moment) (law : Law m) where
   ends-does (event.Pull i) is one free = ends-pulls m law (subst IsOfSvc (sym is) tt) i
   ends-does (event.Connect i c) is one free =
       ends-going m law (does (event.Connect i c))
-      (goes-notices m (acting m law) (host_event.Connect i c) m.before refl (refl, is, free, one.1))
+      (goes-notice m (acting m law) (at_event (host_event.Connect i c)) m.before refl
+      (refl, is, free, one.1))
   ends-does (event.Disconnect i c) is one free =
       ends-going m law (does (event.Disconnect i c))
-      (goes-notices m (acting m law) (host_event.Disconnect i c) m.before refl (refl, is, free))
+      (goes-notice m (acting m law) (at_event (host_event.Disconnect i c)) m.before refl
+      (refl, is, free))
   ends-does (event.Drain i c) is one free =
       ends-going m law (does (event.Drain i c))
       (goes-drains m (acting m law) (λ a h. (law.basis a h).drains) i c is free)

@@ -22,8 +22,9 @@ use Rattle.gb_machine.specs.{Failures.unsent, Host.Host, LawsHotPlug.IsToldOf}
 use Rattle.gb_machine.specs.{LawsHotPlug.is_consequence, Members.Each, Serving.protocol_bad}
 use Rattle.gb_machine.specs.Turns.{Act}
 use Rattle.gb_invariants.proofs.HostChanges.{Finds, HostChange, HostEnd, IsOfNone, Occasion}
-use Rattle.gb_invariants.proofs.HostChanges.{TurnLaw, acts_by, at_event, at_unsent, end_of}
+use Rattle.gb_invariants.proofs.HostChanges.{TurnLaw, acts_by, at_notice, at_unsent, end_of}
 use Rattle.gb_invariants.proofs.{Lists.each-append, OverTurns.over-turn, OverTurns.over-unsent}
+use Rattle.gb_invariants.proofs.HostChanges.{Notice, turn_of}
 
 -- ---- entries
 
@@ -71,8 +72,8 @@ follows_law o = record {
 }
 
 -- What the application processor tells at what it takes notice of is such.
-pub turn-follows : (e : HostEvent) (h : Host) → Each TellsConsequence (host_turn e h).acts
-turn-follows e h = over-turn e h (follows_law (at_event e h))
+pub turn-follows : (e : Notice) (h : Host) → Each TellsConsequence (turn_of e h).acts
+turn-follows e h = over-turn e h (follows_law (at_notice e h))
 
 -- and so does what fails where a request can't be made
 pub unsent-follows : (p : Purpose) (h : Host) → AreConsequences (unsent p h).told
