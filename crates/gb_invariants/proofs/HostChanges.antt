@@ -120,6 +120,7 @@ IsOfNone _ = ⊥
 -- What an update keeps.
 pub record Keeps (f : Interface → Interface) : Type 0 where
   pub intf : (x : Interface) → (f x).intf ≡ x.intf
+  pub primary : (x : Interface) → (f x).primary ≡ x.primary
   pub awaits : (x : Interface) → (f x).awaits ≡ x.awaits
   pub stage : (x : Interface) → (f x).stage ≡ x.stage
 

@@ -117,9 +117,11 @@ module _ (o : Occasion) (law : TurnLaw o) where
       by (Some k) = law.ends (asks k p) h (why, plain)
 
 keeps-all : (f : Interface → Interface) → ((x : Interface) → (f x).intf ≡ x.intf)
+    → ((x : Interface) → (f x).primary ≡ x.primary)
     → ((x : Interface) → (f x).awaits ≡ x.awaits) → ((x : Interface) → (f x).stage ≡ x.stage)
     → Keeps f
-keeps-all f intf awaits stage = record { intf = intf; awaits = awaits; stage = stage }
+keeps-all f intf primary awaits stage =
+    record { intf = intf; primary = primary; awaits = awaits; stage = stage }
 
 -- the step of a connection isn't one of an enumeration
 no-enumeration : {A : Type 0} → false ≡ true → A
@@ -139,7 +141,7 @@ over-unsent p h law = by p.step refl
     by steps.CreateConnection e = resting (at_unsent p) law h
     by steps.GiveDevice e = updated (at_unsent p) law p.intf without_device h
         (failed_turn (interface_fails p (with_interface p.intf without_device h)))
-        (keeps-all without_device (λ x. refl) (λ x. refl) (λ x. refl))
+        (keeps-all without_device (λ x. refl) (λ x. refl) (λ x. refl) (λ x. refl))
         (fail (with_interface p.intf without_device h) (ap is_enumeration e))
     by step e = step-fails (at_unsent p) law step p h (λ is. (ap is_enumeration e ∙ is, refl))
 
@@ -214,13 +216,13 @@ module _ (x : Notice) (before : Host) (law : TurnLaw (at_notice x before)) where
         by (Some d) =
             let f = λ (x : Interface). record x { device = Some d } in
             updated (at_notice x before) law p.intf f here _
-            (keeps-all f (λ x. refl) (λ x. refl) (λ x. refl))
+            (keeps-all f (λ x. refl) (λ x. refl) (λ x. refl) (λ x. refl))
             (goes steps.Activate steps.GiveDevice (with_interface p.intf f here) at refl refl
             (λ s. refl))
     done steps.GiveDevice payload at =
         let f = λ (x : Interface). record x { has_device = true } in
         updated (at_notice x before) law p.intf f here _
-        (keeps-all f (λ x. refl) (λ x. refl) (λ x. refl))
+        (keeps-all f (λ x. refl) (λ x. refl) (λ x. refl) (λ x. refl))
         (goes steps.GiveDevice steps.CreateRoute (with_interface p.intf f here) at refl refl
         (λ s. refl))
     done steps.CreateRoute payload at = by (free_cport here)
@@ -248,7 +250,7 @@ module _ (x : Notice) (before : Host) (law : TurnLaw (at_notice x before)) where
     done steps.AskSize payload at =
         let f = λ (x : Interface). record x { size = size_in (read_control_reply 0x03 payload) } in
         updated (at_notice x before) law p.intf f here _
-        (keeps-all f (λ x. refl) (λ x. refl) (λ x. refl))
+        (keeps-all f (λ x. refl) (λ x. refl) (λ x. refl) (λ x. refl))
         (goes steps.AskSize steps.AskManifest (with_interface p.intf f here) at refl refl
         (λ s. refl))
     done steps.AskManifest payload at =

@@ -9,6 +9,7 @@ pub mod MarkPlugs
 pub mod MarkBoots
 pub mod PullParts
 pub mod MarkPulls
+pub mod MarkHosts
 pub mod MarkKnown
 pub mod MarkFrame
 pub mod MarkMoments

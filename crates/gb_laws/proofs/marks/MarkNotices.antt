@@ -76,7 +76,7 @@ told-by : (e : HostEvent) (r : Result SvcAsk PayloadFault) (h : Host)
     → (notified_by r h).notices ≡ Some e → Tells e r
 told-by e (Ok (SvcAsk.ModuleInserted j count flags)) h f =
     subst (λ x. Tells x (Ok (SvcAsk.ModuleInserted j count flags)))
-    (same-some (host_event.Inserted j) e f) (is-same j)
+    (same-some (host_event.Inserted j count) e f) (flags, refl)
 told-by e (Ok (SvcAsk.ModuleRemoved j)) h f =
     subst (λ x. Tells x (Ok (SvcAsk.ModuleRemoved j))) (same-some (host_event.Removed j) e f) refl
 told-by e _ h f = absurd cc
@@ -100,8 +100,8 @@ told-svc e kind payload h f = by (far-reads (row_of svc_asks kind) payload)
   where
     none : (e : HostEvent) → Tells e (Err PayloadFault.UnknownKind)
         → Tells e (read_svc_ask kind payload)
-    none (host_event.Inserted i) t = absurd cc
-    none (host_event.Removed i) t = absurd cc
+    none (host_event.Inserted p count) t = let e = t.1 in absurd cc
+    none (host_event.Removed p) t = absurd cc
     none _ t = absurd t
 
     by : (read_svc_ask_of_svc kind payload ≡ read_svc_ask kind payload)

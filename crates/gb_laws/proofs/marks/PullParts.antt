@@ -17,9 +17,10 @@ use Rattle.gb_invariants.proofs.{Found.none-of, Lists.found-in, Lists.in-at_firs
 use Rattle.gb_invariants.proofs.{Lists.stays-without, Lists.two-filter, Outcomes.any-in}
 use Rattle.gb_invariants.proofs.{Outcomes.in-any, Outcomes.is-same, Outcomes.same-number}
 use Rattle.gb_invariants.proofs.{Selves.module-no-svc}
-use Rattle.gb_laws.proofs.marks.Wholes.{AreElsewhere, AreWhole, HasPart, IsWhole, found-part, in-span, plugged_at}
+use Rattle.gb_laws.proofs.marks.Wholes.{AreElsewhere, AreWhole, HasPart, IsWhole, found-part, plugged_at}
 use Rattle.gb_laws.proofs.marks.Wholes.{span-in, whole-only, whole-there}
 use Rattle.gb_laws.proofs.{points.Points.IsLive, steps.Ticking.unwired-plugs, steps.Ticking.wired-live}
+use Rattle.gb_invariants.proofs.ModuleTurns.{in-span}
 
 -- ---- the supervisory controller's connection
 

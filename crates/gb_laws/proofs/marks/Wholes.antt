@@ -84,12 +84,6 @@ within-true p count i e =
 pub true-within : (p count i : ℕ) → p ≤ i → i < p + count → is_within p count i ≡ true
 true-within p count i from below = grind (arith, nat_tests)
 
-pub in-span : (j n count : ℕ) → IsIn j (span n count) → (n ≤ j) × (j < n + count)
-in-span j n zero i = absurd i
-in-span j n (suc more) (inl e) = (omega (arith, e), omega (arith, e))
-in-span j n (suc more) (inr k) = let r = in-span j (n + 1) more k in
-    (omega (arith, r.0), omega (arith, r.1))
-
 pub span-in : (j n count : ℕ) → n ≤ j → j < n + count → IsIn j (span n count)
 span-in j n zero from below = absurd (omega (arith, from, below))
 span-in j n (suc more) from below = by (j == n) refl
