@@ -2,7 +2,7 @@
 use Rattle.std.proofs.Common.{Bool, List, None, Option, Some, ap, arith, cond, false, inl, inr, not}
 use Rattle.std.proofs.Common.{refl, suc, sym, true, zero, ℕ, ⊎_elim, [], ◌++◌, ◌+◌, ◌<◌, ◌∙◌, ◌∷◌}
 use Rattle.std.proofs.Common.{◌≡◌, ◌≤◌, ◌⊎◌}
-use Rattle.std.specs.List.{find, list_any}
+use Rattle.std.specs.List.{filter, find, list_any}
 use Rattle.std.specs.Prelude.{option_map, ◌==◌, ◌||◌}
 use Rattle.gb_machine.specs.Lists.{at_first, first_free, in_order, without}
 use Rattle.gb_machine.specs.{Bus.Connection, Bus.has_number, Members.IsIn}
@@ -45,6 +45,20 @@ none-of test (x ∷ xs) = by (test x) refl (none-of test xs)
         → find test (cond (not t) (x ∷ without test xs) (without test xs)) ≡ None
     by true e h = h
     by false e h = ap (λ b. cond b (Some x) (find test (without test xs))) e ∙ h
+
+-- where none passes none of some does
+pub find-filter : {A : Type 0} (test keep : A → Bool) (xs : List A) → find test xs ≡ None
+    → find test (filter keep xs) ≡ None
+find-filter test keep [] none = refl
+find-filter test keep (x ∷ xs) none =
+    by (keep x) (test x) refl none (find-filter test keep xs)
+  where
+    by : (k t : Bool) → test x ≡ t → cond t (Some x) (find test xs) ≡ None
+        → (find test xs ≡ None → find test (filter keep xs) ≡ None)
+        → find test (cond k (x ∷ filter keep xs) (filter keep xs)) ≡ None
+    by k true e h rec = absurd cc
+    by true false e h rec = ap (λ t. cond t (Some x) (find test (filter keep xs))) e ∙ rec h
+    by false false e h rec = rec h
 
 -- A member where the first that passes is changed was there, or is that one, changed.
 pub in-first : {A : Type 0} (test : A → Bool) (change : A → A) (xs : List A) (x : A)

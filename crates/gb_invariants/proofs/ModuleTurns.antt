@@ -17,7 +17,7 @@ use Rattle.gb_machine.proofs.Opened.{machine_opened}
 use Rattle.gb_machine.specs.Actions.{Action, Told, by_state, change, each, given, ◌▸◌}
 use Rattle.gb_machine.specs.Asking.{asks_with}
 use Rattle.gb_machine.specs.Bus.{Connection, connection_of, next_number}
-use Rattle.gb_machine.specs.Host.{Host, interface_of, interfaces_of, intf_before, is_intf}
+use Rattle.gb_machine.specs.Host.{Host, interfaces_of, intf_before, is_intf}
 use Rattle.gb_machine.specs.Host.{new_interface, staged, with_interface, with_new_interface}
 use Rattle.gb_machine.specs.HostActs.{acts, asked_with, host_draft, notices, turns, with_awaited}
 use Rattle.gb_machine.specs.HostTurns.{host_inserted, host_removed, links_left, links_of}
@@ -29,7 +29,6 @@ use Rattle.gb_machine.specs.Sending.{label_for}
 use Rattle.gb_machine.specs.SequenceSteps.{purpose}
 use Rattle.gb_machine.specs.State.{State}
 use Rattle.gb_machine.specs.Turns.{Act, Asking, Turn}
-use Rattle.gb_invariants.proofs.Found.{find-aside, find-ordered}
 use Rattle.gb_invariants.proofs.HostChanges.{Notice, at_insertion, at_removal, turn_of}
 
 -- The application processor takes notice of something in one turn.
@@ -377,16 +376,3 @@ inserted-host p i s =
       ap (λ (r : Told). r.state.host)
           (l.does (with_new_interface p i s.host)),
     )
-
--- What is known of other interfaces stays.
-pub inserted-others : (p i j : ℕ) (s : State) → (i == j) ≡ false
-    → interface_of j (takes_notice (at_insertion p i) s).state.host ≡ interface_of j s.host
-inserted-others p i j s other =
-    let r = inserted-host p i s in
-    ap (interface_of j) r.3
-    ∙ find-aside (is_intf j) (is_intf i) r.0 (with_new_interface p i s.host).interfaces
-    (λ x e. let of = apart x.intf e in (of, ap (λ n. n == j) (r.1 x) ∙ of))
-    ∙ find-ordered (is_intf j) intf_before (new_interface p i) s.host.interfaces other
-  where
-    apart : (n : ℕ) → (n == i) ≡ true → (n == j) ≡ false
-    apart n e = grind (arith, nat_tests, e, other)

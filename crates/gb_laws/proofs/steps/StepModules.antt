@@ -16,7 +16,8 @@ use Rattle.gb_machine.specs.Lists.{span}
 use Rattle.gb_machine.specs.{Members.IsIn, Runs.Moment, State.State}
 use Rattle.gb_invariants.proofs.HostChanges.{at_insertion, at_removal}
 use Rattle.gb_invariants.proofs.Lists.{in-without}
-use Rattle.gb_invariants.proofs.ModuleTurns.{in-span, inserted-each, inserted-others, removed-each}
+use Rattle.gb_invariants.proofs.ModuleHosts.{inserted-others}
+use Rattle.gb_invariants.proofs.ModuleTurns.{in-span, inserted-each, removed-each}
 use Rattle.gb_invariants.proofs.ModuleTurns.{removed-host, removed-requests, takes_notice}
 use Rattle.gb_laws.proofs.points.PointParts.{IsNoticed}
 use Rattle.gb_laws.proofs.steps.StepActLaws.{ActLaw}
