@@ -4,12 +4,11 @@ use Rattle.std.proofs.Common.{Bool, None, Option, Some, ap, arith, false, inl, i
 use Rattle.std.proofs.Common.{sym, true, ℕ, ⊎_elim, [], ◌∙◌, ◌≡◌, ◌≤◌, ◌⊎◌}
 use Rattle.std.specs.{List.find, Prelude.not, Prelude.◌==◌}
 use Rattle.gb_base.specs.declared.host_event.HostEvent.TheVariants as host_event
-use Rattle.gb_base.specs.declared.host_event.HostEvent.{HostEvent}
 use Rattle.gb_base.specs.declared.peers.{Interface.Interface, Link.Link}
 use Rattle.gb_base.specs.declared.steps.Purpose.{Purpose}
 use Rattle.gb_base.specs.declared.end.Side.TheVariants as side
 use Rattle.gb_base.specs.declared.steps.SequenceStep.TheVariants as steps
-use Rattle.gb_machine.specs.{Bus.Ask, Bus.request_of, Host.Host, Host.is_intf, HostTurns.host_turn}
+use Rattle.gb_machine.specs.{Bus.Ask, Bus.request_of, Host.Host, Host.is_intf}
 use Rattle.gb_machine.specs.{HostTurns.without_interface, Members.IsIn, Ports.level_of, Runs.Moment}
 use Rattle.gb_machine.specs.{SequenceSteps.asks_control, SequenceSteps.is_enumeration, State.State}
 use Rattle.gb_machine.specs.SvcQueues.{svc_items}
@@ -19,8 +18,8 @@ use Rattle.gb_invariants.proofs.{Lists.found-in, Lists.in-without}
 use Rattle.gb_invariants.proofs.HostChanges.{Notice, at_removal, turn_of}
 use Rattle.gb_laws.proofs.links.LinkKept.{InsertsAbsent, same-links, turn-fits}
 use Rattle.gb_laws.proofs.links.LinkLeaves.{WhyLeft, closed, removed, why-left}
-use Rattle.gb_laws.proofs.links.Links.{IsFollowed, IsPresent, leaves, stays}
-use Rattle.gb_laws.proofs.points.PointParts.{IsCaused, IsDeparting, IsNoticed, Point, resting}
+use Rattle.gb_laws.proofs.links.Links.{IsFollowed, leaves, stays}
+use Rattle.gb_laws.proofs.points.PointParts.{IsCaused, IsDeparting, Point, resting}
 use Rattle.gb_laws.proofs.creations.Stale.{HasNoStale, IsCool, StaleAt}
 use Rattle.gb_laws.proofs.{enumerations.Asked.asks-calm, enumerations.Asked.turn-waits}
 use Rattle.gb_laws.proofs.{enumerations.AskedWaits.AsksIn}

@@ -1,35 +1,27 @@
 -- The facts of the application processor's connections behind each of its turns, but those of
 -- modules, before the acts of the turn are done.
-use Rattle.std.proofs.Common.{List, None, Option, Some, ap, refl, subst, sym, ℕ, [], ◌∙◌, ◌∷◌, ◌≡◌}
+use Rattle.std.proofs.Common.{None, refl, ℕ, [], ◌∷◌, ◌≡◌}
 use Rattle.std.proofs.Common.{◌≤◌}
-use Rattle.std.specs.Prelude.{Err, Ok, Result, option_map}
+use Rattle.std.specs.Prelude.{Err, Ok, Result}
 use Rattle.gb_base.specs.declared.host_event.HostEvent.TheVariants as host_event
-use Rattle.gb_base.specs.declared.host_event.HostEvent.{HostEvent}
 use Rattle.gb_base.specs.declared.refusal.Refusal.TheVariants as why
-use Rattle.gb_base.specs.declared.end.End.{End}
 use Rattle.gb_base.specs.declared.end.Side.TheVariants as side
 use Rattle.gb_base.specs.declared.event.Event.TheVariants as event
 use Rattle.gb_base.specs.declared.outcome.Outcome.{Outcome}
-use Rattle.gb_base.specs.declared.peers.Link.{Link}
-use Rattle.gb_formats.specs.SvcRecords.{SvcAsk, read_svc_ask, read_svc_ask_of_svc}
+use Rattle.gb_formats.specs.SvcRecords.{SvcAsk}
 use Rattle.gb_formats.specs.Records.{PayloadFault}
 use Rattle.gb_machine.proofs.Conditions.{free, front-unmet}
-use Rattle.gb_machine.specs.Bus.{Ask, Bus, Place, Request, place_of, queue, request_of}
-use Rattle.gb_machine.specs.Host.{Host, control_of, interface_of, link_of}
-use Rattle.gb_machine.specs.HostServing.{HostServed, host_serves, notified_by, served_on}
-use Rattle.gb_machine.specs.HostServing.{serves_svc}
+use Rattle.gb_machine.specs.Bus.{Bus}
+use Rattle.gb_machine.specs.Host.{Host, control_of}
+use Rattle.gb_machine.specs.HostServing.{notified_by}
 use Rattle.gb_machine.specs.{HostRefusals.connect_conditions, HostRefusals.disconnect_conditions}
-use Rattle.gb_machine.specs.{HostTurns.host_turn, Incoming.incoming, Lists.first}
-use Rattle.gb_machine.specs.{Lists.holds_of, Reached.OfARun, Refusals.has_no_label}
-use Rattle.gb_machine.specs.{Refusals.refusal, Runs.Moment, State.State}
-use Rattle.gb_invariants.proofs.Awaiting.{none-some}
+use Rattle.gb_machine.specs.{Lists.holds_of, Refusals.has_no_label}
+use Rattle.gb_machine.specs.{Refusals.refusal, State.State}
 use Rattle.gb_invariants.proofs.HostChanges.{Notice, at_event, turn_of}
 use Rattle.gb_laws.proofs.links.LinkTurns.{fits-connects}
-use Rattle.gb_laws.proofs.marks.MarkNotices.{Tells, told-svc, unnoticed}
 use Rattle.gb_laws.proofs.{links.LinkClosing.fits-disconnects, links.LinkEnds.fits-ended}
 use Rattle.gb_laws.proofs.{links.LinkFrom.Linked}
-use Rattle.gb_laws.proofs.{links.LinkKept.linked-fits, links.LinkRuns.start-absent}
-use Rattle.gb_laws.proofs.{runs.Reached.reached-told}
+use Rattle.gb_laws.proofs.{links.LinkKept.linked-fits}
 use Rattle.gb_laws.proofs.links.LinkClosing.{fits-drains, fits-idle}
 
 -- The facts go with the acts of a turn.
@@ -63,7 +55,8 @@ turned-drains s i c allowed f =
     linked-fits refl (fits-drains s.bus i c s.host f.host (free s (event.Drain i c) allowed)) f
 
 -- nothing is open on a connection
-pub turned-idle : {b : Bus} {h : Host} (k : ℕ) → Linked b h [] → TurnsTo b h (at_event (host_event.Idle k))
+pub turned-idle : {b : Bus} {h : Host} (k : ℕ) → Linked b h []
+    → TurnsTo b h (at_event (host_event.Idle k))
 turned-idle {b} {h} k f = linked-fits refl (fits-idle b k h f.host) f
 
 -- ---- what is served

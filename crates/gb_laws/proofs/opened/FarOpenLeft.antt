@@ -10,12 +10,11 @@ use Rattle.gb_base.specs.declared.steps.SequenceStep.TheVariants as steps
 use Rattle.gb_formats.specs.SvcRecords.{read_svc_ask}
 use Rattle.gb_machine.proofs.Lists.{nth-within}
 use Rattle.gb_machine.specs.Bus.{Ask, Connection, Request, request_of}
-use Rattle.gb_machine.specs.{Host.Host, Host.interfaces_of, LawsBus.is_awaited, Members.IsIn, Runs.Moment}
+use Rattle.gb_machine.specs.{Host.interfaces_of, LawsBus.is_awaited, Members.IsIn, Runs.Moment}
 use Rattle.gb_machine.specs.{SequenceSteps.kind_of, SvcQueues.svc_items, Turns.Act}
 use Rattle.gb_machine.specs.{Wiring.is_at, Wiring.is_wired_to}
 use Rattle.gb_invariants.proofs.{Awaiting.not-both, Awaiting.same-some, Lists.each-in}
 use Rattle.gb_invariants.proofs.{Outcomes.is-same, Wires.WiredAreSo}
-use Rattle.gb_invariants.proofs.HostChanges.{at_removal}
 use Rattle.gb_laws.proofs.creations.GoneRuns.{GoneTo, gone-base, gone_law}
 use Rattle.gb_laws.proofs.links.LinkLeaves.{WhyLeft, closed, removed, why-left}
 use Rattle.gb_laws.proofs.links.Links.{IsKnown, leaving, linked, supervisory}

@@ -76,7 +76,8 @@ pub knows-drains : (i c : ℕ) (s : State) → refusal s (event.Drain i c) ≡ N
 unfolding machine_opened
 knows-drains i c s allowed f =
     noticed-known (record { told = []; event = event.Drain i c; before = s })
-    (at_event (host_event.Drain i c)) s (λ p count j noticed. let at = noticed.event in absurd cc) (λ k e. absurd cc)
+    (at_event (host_event.Drain i c)) s
+    (λ p count j noticed. let at = noticed.event in absurd cc) (λ k e. absurd cc)
     (refl, refl, allowed) (turned-drains s i c allowed f.links) f.alive
 
 -- ---- where it is known
