@@ -26,10 +26,10 @@ use Rattle.gb_laws.proofs.enumerations.AskedWaits.{waits-interface, waits-purpos
 -- ---- what is waited for
 
 change-waits : (x : HostChange) (h : Host) → Finds h x → WaitsFewer h (host_after x h)
-change-waits (HostChange.arrives i) h finds = λ x k w e.
+change-waits (HostChange.arrives p i) h finds = λ x k w e.
     ⊎_elim (λ new. absurd (none-some (sym (ap (λ (y : Interface). y.awaits) new) ∙ e)))
     (λ o. record { was = x; known = o; intf = refl; awaits = refl })
-    (in-ordered intf_before x (new_interface i) h.interfaces k)
+    (in-ordered intf_before x (new_interface p i) h.interfaces k)
 change-waits (HostChange.departs i) h finds = λ x k w e. record {
   was = x;
   known = (in-without (is_intf i) h.interfaces x k).0;
@@ -122,7 +122,7 @@ asks-calm i Calm e h calm q j at power = by (asked-why e h q j)
         (ap (λ (x : Purpose). is_power_step x.step) is ∙ other))
 
     by : IsAskedAt e h q.purpose → (q.purpose.step ≡ steps.EnableVsys) ⊎ Calm
-    by (to_enumerate k f is) = inl (ap (λ (x : Purpose). x.step) is)
+    by (to_enumerate p k f is) = inl (ap (λ (x : Purpose). x.step) is)
     by (to_connect k c f is) = none _ is refl
     by (to_disconnect k c l f found is) = none _ is refl
     by (to_close d l why found is) = none _ is refl

@@ -133,7 +133,7 @@ module _ (m : Moment) (absent : InsertsAbsent m) (i : ℕ) (a : Point) (links : 
       where-asked is = ap (λ (x : Purpose). x.intf) (sym is) ∙ at
 
       by : IsAskedAt e a.state.host q.purpose → IsDone i a.state.host.interfaces
-      by (to_enumerate j f is) = absurd (not-both (is_enumeration q.purpose.step)
+      by (to_enumerate p j f is) = absurd (not-both (is_enumeration q.purpose.step)
           (ap (λ (x : Purpose). is_enumeration x.step) is) s)
       by (to_connect j c f is) =
           let cause' = subst (λ y. IsCaused m y a.state.host) f cause in
@@ -188,8 +188,8 @@ module _ (m : Moment) (absent : InsertsAbsent m) (i : ℕ) (a : Point) (links : 
 
   -- its removal is handled
   links-removed : (j : ℕ) (b : Point) → j ≡ i
-      → b.state ≡ record a.state { host = (host_turn (at_removal j) a.state.host).host }
-      → b.pending ≡ (host_turn (at_removal j) a.state.host).acts → LinksDone i b
+      → b.state ≡ record a.state { host = (turn_of (at_removal j) a.state.host).host }
+      → b.pending ≡ (turn_of (at_removal j) a.state.host).acts → LinksDone i b
   links-removed j b same state pending = record {
     stages = subst (λ (s : State). NoneRemoved s.host.interfaces) (sym state)
         (λ x k. h.stages x (in-without (is_intf j) a.state.host.interfaces x k).0);

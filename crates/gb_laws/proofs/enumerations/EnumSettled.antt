@@ -16,6 +16,7 @@ use Rattle.gb_machine.specs.{SequenceSteps.asks_control, SequenceSteps.is_enumer
 use Rattle.gb_machine.specs.{SvcQueues.is_enumeration_request}
 use Rattle.gb_invariants.proofs.Awaiting.{none-some, not-both}
 use Rattle.gb_invariants.proofs.HostChanges.{Notice, turn_of}
+use Rattle.gb_invariants.proofs.HostChanges.{at_insertion}
 use Rattle.gb_laws.proofs.enumerations.AskedWaits.{AsksIn, WaitsFewer, asks_in, opens_in}
 use Rattle.gb_laws.proofs.enumerations.EnumNone.{IsNone, none-enums, none-sent}
 use Rattle.gb_laws.proofs.links.LinkEnds.{resumed, step-connects, waits-for, waits-link}
@@ -193,15 +194,15 @@ enums-turned m absent i e a basis links there over cause quiet h =
       λ step. (may.0, λ c. none),
       subst (λ k. IsResting k (awaits_nothing p a.state.host).interfaces) at
           (waits-none r.number p links.host r.awaited s),
-    )) (λ j is at. (λ d. fresh j is at d, λ c. absurd cc))
+    )) (λ p j is at. (λ d. fresh p j is at d, λ c. absurd cc))
   where
-    fresh : (j : ℕ) → e ≡ host_event.Inserted j → j ≡ i → IsDone i a.state.host.interfaces → ⊥
-    fresh j is at d =
+    fresh : (p j : ℕ) → e ≡ at_insertion p j → j ≡ i → IsDone i a.state.host.interfaces → ⊥
+    fresh p j is at d =
         let c = subst (λ f. IsCaused m f a.state.host) is cause in
         not-both (is_some (interface_of i a.state.host)) (present-some a.state.host
         (record { interface = d.interface; known = d.known; is = d.intf }))
-        (ap (λ g. is_some (interface_of i g)) c.0
-        ∙ ap is_some (subst (λ k. interface_of k m.before.host ≡ None) at (absent j c.1)))
+        (ap is_some (subst (λ k. interface_of k a.state.host ≡ None) at
+        (c.absent (absent p c.count j c.noticed c.within))))
 
     by : (n : ℕ) (p : Purpose) (w : IsWaitedBy a.state.host n p) → is_awaited n a.state.bus ≡ false
         → p.intf ≡ i → is_enumeration p.step ≡ true → MayAt i a p.step → (t : Bool)

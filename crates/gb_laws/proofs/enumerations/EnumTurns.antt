@@ -17,6 +17,7 @@ use Rattle.gb_invariants.proofs.HostChanges.{to_enumerate, to_go_on}
 use Rattle.gb_invariants.proofs.{Awaiting.not-both, Lists.in-at_first, Outcomes.same-number}
 use Rattle.gb_invariants.proofs.{OverTurns.over-turn}
 use Rattle.gb_invariants.proofs.HostChanges.{Notice, turn_of}
+use Rattle.gb_invariants.proofs.HostChanges.{at_insertion}
 use Rattle.gb_laws.proofs.enumerations.Asked.{asked-why, change-asks, same-kind}
 use Rattle.gb_laws.proofs.enumerations.AskedWaits.{AsksIn, asks-behind, no-asks}
 use Rattle.gb_laws.proofs.{enumerations.EnumDone.IsDone, enumerations.EnumDone.change-done}
@@ -64,7 +65,7 @@ module _ (i : ℕ) (May : SequenceStep → Type 0) (Calm : Type 0) (e : Notice) 
   end-enums _ g last d = inl d
 
   -- An enumeration begins where its interface is inserted, and goes on where a step was answered.
-  pub turn-enums : ((j : ℕ) → e ≡ host_event.Inserted j → j ≡ i → May steps.EnableVsys)
+  pub turn-enums : ((p j : ℕ) → e ≡ at_insertion p j → j ≡ i → May steps.EnableVsys)
       → TurnEnums i May Calm h (turn_of e h)
   turn-enums may = record {
     asks = λ q j at s. by q at s (asked-why e h q j);
@@ -78,8 +79,8 @@ module _ (i : ℕ) (May : SequenceStep → Type 0) (Calm : Type 0) (e : Notice) 
     where
       by : (q : Asking) → q.purpose.intf ≡ i → is_enumeration q.purpose.step ≡ true
           → IsAskedAt e h q.purpose → May q.purpose.step
-      by q at s (to_enumerate j f is) = subst May (ap (λ (x : Purpose). x.step) (sym is))
-          (may j f (ap (λ (x : Purpose). x.intf) (sym is) ∙ at))
+      by q at s (to_enumerate p j f is) = subst May (ap (λ (x : Purpose). x.step) (sym is))
+          (may p j f (ap (λ (x : Purpose). x.intf) (sym is) ∙ at))
       by q at s (to_connect j c f is) = absurd (not-both (is_enumeration q.purpose.step) s
           (ap (λ (x : Purpose). is_enumeration x.step) is))
       by q at s (to_disconnect j c l f found is) =

@@ -1,6 +1,7 @@
 -- What a turn of the application processor tells and closes, at each event that it takes notice of.
 use Rattle.std.proofs.Common.{Bool, List, None, Option, Some, ap, cond, false, inl, inr, map, refl}
 use Rattle.std.proofs.Common.{subst, sym, true, ℕ, [], ◌∙◌, ◌∷◌, ◌≡◌}
+use Rattle.std.specs.Prelude.{◌==◌}
 use Rattle.gb_base.specs.declared.entry.{ConnState.ConnState, Entry.Entry}
 use Rattle.gb_base.specs.declared.host_event.HostEvent.TheVariants as host_event
 use Rattle.gb_base.specs.declared.host_event.HostEvent.{HostEvent}
@@ -28,6 +29,7 @@ use Rattle.gb_invariants.proofs.{Lists.each-append, OverTurns.over-turn, OverTur
 use Rattle.gb_invariants.proofs.Outcomes.{same-number}
 use Rattle.gb_invariants.proofs.Lists.{filter-in, found-in, in-filter}
 use Rattle.gb_invariants.proofs.HostChanges.{Notice, turn_of}
+use Rattle.gb_invariants.proofs.HostChanges.{at_event}
 use Rattle.gb_laws.proofs.points.PointParts.{AreQuiet, IsCaused, IsShutFor, disconnected, idle}
 use Rattle.gb_laws.proofs.points.PointParts.{is_quiet}
 use Rattle.gb_laws.proofs.points.PointParts.{removed}

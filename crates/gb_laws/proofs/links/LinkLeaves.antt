@@ -9,7 +9,7 @@ use Rattle.gb_base.specs.declared.steps.{Purpose.Purpose, SequenceStep.SequenceS
 use Rattle.gb_base.specs.declared.outcome.Outcome.TheVariants as outcome
 use Rattle.gb_base.specs.declared.steps.SequenceStep.TheVariants as steps
 use Rattle.gb_machine.specs.Host.{Host, is_link, link_at}
-use Rattle.gb_machine.specs.HostTurns.{host_turn, links_left, links_of}
+use Rattle.gb_machine.specs.HostTurns.{host_inserted, host_removed, host_turn, links_left, links_of}
 use Rattle.gb_machine.specs.Waits.{awaits_nothing, interface_waits, link_waits, purpose_in}
 use Rattle.gb_machine.specs.{Bus.Bus, Bus.or_else, Failures.told_of, Members.IsIn}
 use Rattle.gb_machine.specs.{SequenceSteps.is_enumeration, SequenceSteps.purpose, Turns.Act}
@@ -19,6 +19,8 @@ use Rattle.gb_invariants.proofs.{Awaiting.not-both, Awaiting.same-some, Found.fi
 use Rattle.gb_invariants.proofs.{Lists.in-append, Lists.in-filter, Outcomes.same-number}
 use Rattle.gb_invariants.proofs.{OverTurns.over-turn}
 use Rattle.gb_invariants.proofs.HostChanges.{Notice, at_removal, turn_of}
+use Rattle.gb_invariants.proofs.HostChanges.{at_event}
+use Rattle.gb_invariants.proofs.HostChanges.{at_insertion}
 use Rattle.gb_laws.proofs.{links.LinkActs.none-leaves, links.LinkLists.found-at}
 use Rattle.gb_laws.proofs.{links.Links.HostFits}
 use Rattle.gb_laws.proofs.{removals.QuietAwaited.waited-in}
@@ -29,7 +31,7 @@ pub data WhyLeft (h : Host) (e : Notice) (k : ℕ) : Type 0 where
   removed : (i : ℕ) (l : Link) → e ≡ at_removal i → IsIn l h.links → l.intf ≡ i
       → l.connection ≡ k → WhyLeft h e k
   closed : (n result : ℕ) (payload : List ℕ) (l : Link)
-      → e ≡ host_event.Ended n (outcome.Answered result payload) → IsIn l h.links
+      → e ≡ at_event (host_event.Ended n (outcome.Answered result payload)) → IsIn l h.links
       → l.awaits ≡ Some (n, steps.DestroyConnection) → l.connection ≡ k → WhyLeft h e k
 
 -- a connection that waits for a request
@@ -166,8 +168,28 @@ why-left b e h k fits =
 pub idle-leaves : (n : ℕ) (h : Host) (k : ℕ)
     → IsIn (Act.Leave k) (host_turn (host_event.Idle n) h).acts → ⊥
 idle-leaves n h k j =
-    by (left-by (host_event.Idle n) h (λ p l answered. let is = answered.is in absurd cc) k j)
+    by (left-by (at_event (host_event.Idle n)) h
+    (λ p l answered. let is = answered.is in absurd cc) k j)
   where
-    by : WhyLeft h (host_event.Idle n) k → ⊥
+    by : WhyLeft h (at_event (host_event.Idle n)) k → ⊥
     by (removed i l is live at on) = absurd cc
+    by (closed m result payload l is live awaits on) = absurd cc
+
+-- Where an interface is removed they are known connections, and none is where one is inserted.
+pub removal-leaves : (i : ℕ) (h : Host) (k : ℕ) → IsIn (Act.Leave k) (host_removed i h).acts
+    → (l : Link) × IsIn l h.links × (l.connection ≡ k)
+removal-leaves i h k j =
+    by (left-by (at_removal i) h (λ p l answered. let is = answered.is in absurd cc) k j)
+  where
+    by : WhyLeft h (at_removal i) k → (l : Link) × IsIn l h.links × (l.connection ≡ k)
+    by (removed n l is live at on) = (l, live, on)
+    by (closed m result payload l is live awaits on) = absurd cc
+
+pub insertion-leaves : (p i : ℕ) (h : Host) (k : ℕ) → IsIn (Act.Leave k) (host_inserted p i h).acts
+    → ⊥
+insertion-leaves p i h k j =
+    by (left-by (at_insertion p i) h (λ q l answered. let is = answered.is in absurd cc) k j)
+  where
+    by : WhyLeft h (at_insertion p i) k → ⊥
+    by (removed n l is live at on) = absurd cc
     by (closed m result payload l is live awaits on) = absurd cc

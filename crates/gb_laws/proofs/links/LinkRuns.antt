@@ -24,7 +24,7 @@ use Rattle.gb_laws.proofs.{links.LinkFrom.Linked, links.LinkKept.InsertsAbsent}
 use Rattle.gb_laws.proofs.{links.LinkLaw.link_law}
 use Rattle.gb_laws.proofs.{links.LinkLaw.linked-first, marks.MarkFrame.asked-items}
 use Rattle.gb_laws.proofs.{marks.MarkFrame.taken_bus}
-use Rattle.gb_laws.proofs.{marks.MarkPlugs.boot-kept, marks.MarkPlugs.plug-kept}
+use Rattle.gb_laws.proofs.{marks.MarkBoots.boot-kept, marks.MarkPlugs.plug-kept}
 use Rattle.gb_laws.proofs.{marks.MarkPulls.pull-kept}
 use Rattle.gb_laws.proofs.{marks.Marks.MarksFit, points.PointParts.resting, steps.Steps.over-step}
 use Rattle.gb_laws.proofs.{svc.SvcThere.There}

@@ -1,7 +1,7 @@
--- Once the removal of an interface is handled, it is absent.
+-- Once the removal of a module is handled, its interfaces are absent.
 use Rattle.std.proofs.Common.{Bool, List, None, Option, Some, ap, cond, false, refl, subst, sym}
 use Rattle.std.proofs.Common.{true, ℕ, [], ◌++◌, ◌∙◌, ◌∷◌, ◌≡◌}
-use Rattle.std.specs.Prelude.{Err, Ok, Result, option_map}
+use Rattle.std.specs.Prelude.{Err, Ok, Result}
 use Rattle.gb_base.specs.declared.end.{End.End, Side.Side}
 use Rattle.gb_base.specs.declared.end.Side.TheVariants as side
 use Rattle.gb_base.specs.declared.entry.Entry.{Entry}
@@ -19,7 +19,7 @@ use Rattle.gb_machine.specs.Arriving.{arrives, asked_at, delivers_at, dropped, h
 use Rattle.gb_machine.specs.Arriving.{takes}
 use Rattle.gb_machine.specs.Bus.{Ask, Connection, Item, Place, Request, end_of, place_of, queue}
 use Rattle.gb_machine.specs.Bus.{request_of}
-use Rattle.gb_machine.specs.Host.{Host, interface_of, is_intf, link_of, interfaces_of}
+use Rattle.gb_machine.specs.Host.{Host, interface_of, interfaces_of, link_of}
 use Rattle.gb_machine.specs.HostServing.{HostServed, host_notices, host_serves, notified_by}
 use Rattle.gb_machine.specs.HostServing.{served_on}
 use Rattle.gb_machine.specs.HostTurns.{links_left, links_of, without_interface}
@@ -27,14 +27,10 @@ use Rattle.gb_machine.specs.Responding.{host_served, replies, responds, serves_o
 use Rattle.gb_machine.specs.{Delivery.popped, Events.decided, Events.step, HostActs.acts}
 use Rattle.gb_machine.specs.{Incoming.Incoming, Incoming.incoming, Lists.first}
 use Rattle.gb_machine.specs.{Refusals.is_end_unplugged, Refusals.refusal, Runs.Moment, Runs.after}
-use Rattle.gb_machine.specs.{State.State, Turns.Act}
+use Rattle.gb_machine.specs.{Members.IsIn, State.State}
 use Rattle.gb_invariants.proofs.Awaiting.{none-some, not-both, same-some}
-use Rattle.gb_invariants.proofs.Found.{none-of}
+use Rattle.gb_invariants.proofs.ModuleHosts.{all-absent, module-removed, without_all}
 use Rattle.gb_laws.proofs.{marks.MarkNotices.unnoticed, points.Places.place-is}
-use Rattle.gb_invariants.proofs.ModuleHosts.{all-absent, in-module, module-removed, without_all}
-use Rattle.gb_laws.proofs.marks.Marks.{known_at}
-use Rattle.gb_base.specs.declared.peers.Interface.{Interface}
-use Rattle.gb_machine.specs.Members.{IsIn}
 
 -- ---- what is noticed is answered with success
 
@@ -61,50 +57,44 @@ serves-notice k kind payload h e n = by (link_of k h) n
 
 -- ---- a removal is handled
 
--- the application processor without the interfaces of a module
-abbrev without_module : ℕ → Host → Host
-without_module p h = without_all (interfaces_of p h) h
-
 removed-behind : (c : Connection) (q : Incoming) (p : ℕ) (s : State) (r : HostServed)
     → r ≡ host_notices (host_event.Removed p) s.host
-    → (responds side.Ap c q (host_served r) s).state.host ≡ without_module p s.host
+    → (responds side.Ap c q (host_served r) s).state.host
+    ≡ without_all (interfaces_of p s.host) s.host
 unfolding machine_opened
-removed-behind c q p s r e =
-    subst (λ x. (responds side.Ap c q (host_served x) s).state.host ≡ without_module p s.host)
-    (sym e) (by q.oneway)
+removed-behind c q p s r e = subst (λ x. (responds side.Ap c q (host_served x) s).state.host
+    ≡ without_all (interfaces_of p s.host) s.host) (sym e) (by q.oneway)
   where
-    served : (w : State)
-        → ((host_served (host_notices (host_event.Removed p) s.host)).behind w).state.host
-        ≡ without_module p s.host
-    served w = module-removed p (record w { host = s.host })
+    h : HostServed
+    h = host_notices (host_event.Removed p) s.host
 
     by : (t : Bool) → (cond t (serves_oneway q
         (host_served (host_notices (host_event.Removed p) s.host)))
         (replies side.Ap c q (host_notices (host_event.Removed p) s.host).answer
         ▸ (host_served (host_notices (host_event.Removed p) s.host)).behind) s).state.host
-        ≡ without_module p s.host
-    by true = served s
-    by false =
-        served (replies side.Ap c q (host_notices (host_event.Removed p) s.host).answer s).state
+        ≡ without_all (interfaces_of p s.host) s.host
+    by true = module-removed p s
+    by false = module-removed p (replies side.Ap c q
+        (host_notices (host_event.Removed p) s.host).answer s).state
 
 removed-handles : (c : Connection) (n p : ℕ) (r : Request) (s : State)
     → link_of c.number s.host ≡ None → request_of n s.bus ≡ Some r
     → host_serves c.number r.kind r.payload s.host ≡ host_notices (host_event.Removed p) s.host
-    → (handles side.Ap c (Ask n) s).state.host ≡ without_module p s.host
+    → (handles side.Ap c (Ask n) s).state.host ≡ without_all (interfaces_of p s.host) s.host
 unfolding machine_opened
 removed-handles c n p r s none made served = by (takes side.Ap c s) (ap link_takes none)
   where
     arrived : (o : Option Request) → o ≡ Some r
-        → (given o (λ r. asked_at side.Ap c (Ask n) (incoming n r))
-        s).state.host ≡ without_module p s.host
+        → (given o (λ r. asked_at side.Ap c (Ask n) (incoming n r)) s).state.host
+        ≡ without_all (interfaces_of p s.host) s.host
     arrived None e = absurd (none-some e)
     arrived (Some x) e =
         subst (λ y. (asked_at side.Ap c (Ask n) (incoming n y) s).state.host
-        ≡ without_module p s.host) (sym (same-some x r e))
+        ≡ without_all (interfaces_of p s.host) s.host) (sym (same-some x r e))
         (removed-behind c (incoming n r) p s (host_serves c.number r.kind r.payload s.host) served)
 
     by : (t : Bool) → t ≡ true → (cond t (arrives side.Ap c (Ask n)) (tell (dropped (Ask n)))
-        s).state.host ≡ without_module p s.host
+        s).state.host ≡ without_all (interfaces_of p s.host) s.host
     by true e = arrived (request_of n s.bus) made
     by false e = absurd (not-both false e refl)
 
@@ -133,33 +123,23 @@ ap-free m at p item named ap_side front =
     (sym (ap (λ s. end_of s p.connection) ap_side)
     ∙ (place-is at m.before.bus.connections p named).is) refl) named front
 
--- The interfaces of a module are absent once its removal is handled.
+-- An interface of a module is absent once the removal of that is handled.
 pub removed-absent : (m : Moment) (at : End) (p : Place) (n q i : ℕ) (r : Request)
     → m.event ≡ event.Deliver at → place_of at m.before.bus.connections ≡ Some p
     → p.side ≡ side.Ap → first (queue p.side p.connection) ≡ Some (Ask n)
     → request_of n m.before.bus ≡ Some r → link_of p.connection.number m.before.host ≡ None
     → (host_serves p.connection.number r.kind r.payload m.before.host).notices ≡ Some
-    (host_event.Removed q) → known_at i m.before.host ≡ Some q
+    (host_event.Removed q) → IsIn i (interfaces_of q m.before.host)
     → interface_of i (after m).host ≡ None
 removed-absent m at p n q i r is named ap_side front made none notices known =
     ap (λ (s : State). interface_of i s.host)
     (delivered-state m at p (Ask n) is named front (ap-free m at p (Ask n) named ap_side front))
     ∙ ap (interface_of i) (by p.side ap_side)
-    ∙ all-absent i (interfaces_of q m.before.host) m.before.host
-    (of-it (interface_of i m.before.host) refl known)
+    ∙ all-absent i (interfaces_of q m.before.host) m.before.host known
   where
-    s1 : State
-    s1 = record m.before { bus = popped p.connection.number p.side m.before.bus }
-
-    of-it : (o : Option Interface) → interface_of i m.before.host ≡ o
-        → option_map (λ (x : Interface). x.primary) o ≡ Some q
-        → IsIn i (interfaces_of q m.before.host)
-    of-it None e f = absurd (none-some f)
-    of-it (Some x) e f = in-module q i m.before.host x e (same-some x.primary q f)
-
     by : (s : Side) → s ≡ side.Ap → (handles s p.connection (Ask n) (record m.before {
       bus = popped p.connection.number p.side m.before.bus;
-    })).state.host ≡ without_module q m.before.host
+    })).state.host ≡ without_all (interfaces_of q m.before.host) m.before.host
     by side.Ap e = removed-handles p.connection n q r
         (record m.before { bus = popped p.connection.number p.side m.before.bus }) none made
         (serves-notice p.connection.number r.kind r.payload m.before.host (host_event.Removed q)
