@@ -19,9 +19,8 @@ use Rattle.gb_machine.specs.Members.{Each, EachTwo, IsIn}
 use Rattle.gb_machine.specs.State.{State}
 use Rattle.gb_invariants.proofs.Found.{find-aside, find-filter, find-none, find-ordered, none-of}
 use Rattle.gb_invariants.proofs.HostChanges.{AsksNone, acts_by, at_insertion, at_removal}
-use Rattle.gb_invariants.proofs.HostChanges.{changes-ask}
-use Rattle.gb_invariants.proofs.HostChanges.{departs}
-use Rattle.gb_invariants.proofs.Lists.{each-append, each-in, filter-in, found-in, in-filter}
+use Rattle.gb_invariants.proofs.HostChanges.{changes-ask, departs}
+use Rattle.gb_invariants.proofs.Lists.{each-append, filter-in, found-in, in-filter, one-by}
 use Rattle.gb_invariants.proofs.ModuleTurns.{inserted-host, removed-each, removed-host}
 use Rattle.gb_invariants.proofs.ModuleTurns.{takes_notice}
 use Rattle.gb_invariants.proofs.{Awaiting.not-both, Outcomes.is-same, Outcomes.same-number}
@@ -91,17 +90,6 @@ removed-acts (i ∷ is) h = each-append AsksNone (host_removed i h).acts
 abbrev Differ : Interface → Interface → Type 0
 Differ x y = x.intf ≢ y.intf
 
-one-interface : (xs : List Interface) (x y : Interface) → EachTwo Differ xs → IsIn x xs
-    → IsIn y xs → x.intf ≡ y.intf → x ≡ y
-one-interface [] x y differ i j same = absurd i
-one-interface (z ∷ zs) x y differ (inl e) (inl f) same = e ∙ sym f
-one-interface (z ∷ zs) x y differ (inl e) (inr j) same =
-    absurd (each-in (Differ z) zs y differ.0 j (ap (λ (v : Interface). v.intf) (sym e) ∙ same))
-one-interface (z ∷ zs) x y differ (inr i) (inl f) same =
-    absurd (each-in (Differ z) zs x differ.0 i
-    (ap (λ (v : Interface). v.intf) (sym f) ∙ sym same))
-one-interface (z ∷ zs) x y differ (inr i) (inr j) same = one-interface zs x y differ.1 i j same
-
 -- one of them is known with the module's primary interface
 pub of-module : (p i : ℕ) (h : Host) → EachTwo Differ h.interfaces → IsIn i (interfaces_of p h)
     → (x : Interface) × (interface_of i h ≡ Some x) × (x.primary ≡ p)
@@ -125,7 +113,7 @@ of-module p i h differ k = by (interface_of i h) refl
         (find-none (is_intf i) h.interfaces w.0 e of.0))
     by (Some x) e =
         let f = found-in (is_intf i) h.interfaces x e in
-        let same = one-interface h.interfaces x w.0 differ f.0 of.0
+        let same = one-by (λ (y : Interface). y.intf) h.interfaces x w.0 differ f.0 of.0
         (same-number x.intf i f.1 ∙ sym w.2) in
         (x, refl, ap (λ (y : Interface). y.primary) same ∙ same-number w.0.primary p of.1)
 

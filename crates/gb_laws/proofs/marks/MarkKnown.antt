@@ -35,7 +35,7 @@ known-onto : (m : Moment) (a after : Point) → NamesFewer a.state.host after.st
 known-onto m a after fewer h x i = was-named m a h x.intf x.primary (fewer x i)
 
 pub known-kept : (m : Moment) (a : Point) (x : Change m a) → KnownAt m a → KnownAt m (changed m a x)
-known-kept m a (turns x free untouched none cause) h y i = ⊎_elim
+known-kept m a (turns x free untouched none cause) h = λ y i. ⊎_elim
     (λ n. was-named m a h y.intf y.primary n)
     (λ e. let c = subst (λ z. IsCaused m z a.state.host) e cause in
     inr (record { count = c.count; noticed = c.noticed; within = c.within }))

@@ -6,7 +6,7 @@ use Rattle.std.specs.Prelude.{is_some, nat_le, nat_lt, option_map, ◌&&◌, ◌
 use Rattle.gb_machine.specs.{Lists.span, Members.EachTwo, Members.IsIn, Modules.is_plugged}
 use Rattle.gb_machine.specs.{Modules.is_plugged_at, State.Plugged}
 use Rattle.gb_invariants.proofs.Awaiting.{none-some, not-both, same-some}
-use Rattle.gb_invariants.proofs.{Found.find-none, Lists.each-in, Lists.found-in}
+use Rattle.gb_invariants.proofs.{Found.find-none, Lists.found-in, Lists.one-by}
 use Rattle.gb_invariants.proofs.Outcomes.{both-true, is-same, same-number}
 use Rattle.gb_machine.specs.Lists.{at_first}
 use Rattle.gb_invariants.proofs.Lists.{in-at_first, at_first-back}
@@ -99,14 +99,7 @@ span-in j n (suc more) from below = by (j == n) refl
 -- what is plugged at one interface is one
 pub one-part : (ms : List Plugged) (x y : Plugged) → EachTwo AreElsewhere ms → IsIn x ms → IsIn y ms
     → x.intf ≡ y.intf → x ≡ y
-one-part [] x y differ i j same = absurd i
-one-part (z ∷ zs) x y differ (inl e) (inl f) same = e ∙ sym f
-one-part (z ∷ zs) x y differ (inl e) (inr j) same =
-    absurd (each-in (AreElsewhere z) zs y differ.0 j (ap (λ (v : Plugged). v.intf) (sym e) ∙ same))
-one-part (z ∷ zs) x y differ (inr i) (inl f) same =
-    absurd (each-in (AreElsewhere z) zs x differ.0 i
-    (ap (λ (v : Plugged). v.intf) (sym f) ∙ sym same))
-one-part (z ∷ zs) x y differ (inr i) (inr j) same = one-part zs x y differ.1 i j same
+one-part ms x y differ i j same = one-by (λ (p : Plugged). p.intf) ms x y differ i j same
 
 pub found-part : (ms : List Plugged) (x : Plugged) → EachTwo AreElsewhere ms → IsIn x ms
     → find (is_plugged_at x.intf) ms ≡ Some x
