@@ -14,12 +14,13 @@ use Rattle.gb_machine.specs.Host.{Host, has_primary, interface_of, interfaces_of
 use Rattle.gb_machine.specs.Host.{is_intf}
 use Rattle.gb_machine.specs.Host.{new_interface, with_new_interface}
 use Rattle.gb_machine.specs.HostActs.{notices}
-use Rattle.gb_machine.specs.HostTurns.{without_interface}
-use Rattle.gb_machine.specs.Members.{EachTwo, IsIn}
+use Rattle.gb_machine.specs.HostTurns.{host_removed, one_by_one, without_interface}
+use Rattle.gb_machine.specs.Members.{Each, EachTwo, IsIn}
 use Rattle.gb_machine.specs.State.{State}
 use Rattle.gb_invariants.proofs.Found.{find-aside, find-filter, find-none, find-ordered, none-of}
-use Rattle.gb_invariants.proofs.HostChanges.{at_insertion, at_removal}
-use Rattle.gb_invariants.proofs.Lists.{filter-in, found-in, in-filter, one-by}
+use Rattle.gb_invariants.proofs.HostChanges.{AsksNone, acts_by, at_insertion, at_removal}
+use Rattle.gb_invariants.proofs.HostChanges.{changes-ask, departs}
+use Rattle.gb_invariants.proofs.Lists.{each-append, filter-in, found-in, in-filter, one-by}
 use Rattle.gb_invariants.proofs.ModuleTurns.{inserted-host, removed-each, removed-host}
 use Rattle.gb_invariants.proofs.ModuleTurns.{takes_notice}
 use Rattle.gb_invariants.proofs.{Awaiting.not-both, Outcomes.is-same, Outcomes.same-number}
@@ -73,6 +74,15 @@ all-absent i (j ∷ js) h (inl e) = absent-still i js (without_interface j h)
     (ap (λ n. interface_of i (without_interface n h)) (sym e)
     ∙ none-of (is_intf i) h.interfaces)
 all-absent i (j ∷ js) h (inr k) = all-absent i js (without_interface j h) k
+
+-- A removal asks for nothing.
+pub removed-acts : (is : List ℕ) (h : Host)
+    → Each AsksNone (one_by_one host_removed is h).acts
+removed-acts [] h = tt
+removed-acts (i ∷ is) h = each-append AsksNone (host_removed i h).acts
+    (one_by_one host_removed is (without_interface i h)).acts
+    (each-append AsksNone (acts_by (departs i) h) (_ ∷ []) (changes-ask (departs i) h) (tt, tt))
+    (removed-acts is (without_interface i h))
 
 -- ---- the interfaces of a module
 

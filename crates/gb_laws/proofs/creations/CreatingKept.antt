@@ -7,7 +7,7 @@ use Rattle.gb_base.specs.declared.steps.SequenceStep.{SequenceStep}
 use Rattle.gb_machine.specs.Host.{Host, is_link, link_at, with_link}
 use Rattle.gb_machine.specs.{Bus.Bus, Bus.next_number, Failures.unsent, HostActs.made_for}
 use Rattle.gb_machine.specs.{HostActs.with_awaited, HostServing.host_serves}
-use Rattle.gb_machine.specs.{HostServing.with_credits, HostTurns.host_turn, LineActions.spent}
+use Rattle.gb_machine.specs.{HostServing.with_credits, LineActions.spent}
 use Rattle.gb_machine.specs.{Members.IsIn, Refusals.is_reserved, Runs.Moment, Sending.Draft}
 use Rattle.gb_machine.specs.{Sending.requested, SequenceSteps.is_for_connection, Turns.Act}
 use Rattle.gb_machine.specs.{Turns.Asking, Waits.awaits, Wiring.next_connection}

@@ -1,13 +1,13 @@
 -- What a turn of the application processor asks creates no connection, but behind one that it
 -- makes, of which the request then speaks.
 use Rattle.std.proofs.Common.{List, false, refl, ℕ, ◌≡◌}
-use Rattle.gb_base.specs.declared.host_event.HostEvent.{HostEvent}
 use Rattle.gb_base.specs.declared.steps.Purpose.{Purpose}
 use Rattle.gb_machine.specs.Sequences.{ap_in, opens, target}
 use Rattle.gb_machine.specs.Turns.{Act, Asking, Turn}
-use Rattle.gb_machine.specs.{Host.Host, Host.link_at, HostTurns.host_turn, Members.Each}
+use Rattle.gb_machine.specs.{Host.Host, Host.link_at, Members.Each}
 use Rattle.gb_machine.specs.{SequenceSteps.payload_of}
-use Rattle.gb_invariants.proofs.HostChanges.{AsksNone, HostEnd, IsLast, Occasion, acts_by, at_notice}
+use Rattle.gb_invariants.proofs.HostChanges.{AsksNone, HostEnd, IsLast, Occasion, acts_by}
+use Rattle.gb_invariants.proofs.HostChanges.{at_notice}
 use Rattle.gb_invariants.proofs.HostChanges.{changes-ask, end_of, is_creating}
 use Rattle.gb_invariants.proofs.{Lists.each-append, Lists.each-weaker, OverTurns.over-turn}
 use Rattle.gb_invariants.proofs.HostChanges.{Notice, turn_of}

@@ -5,7 +5,7 @@ use Rattle.gb_base.specs.declared.peers.Link.{Link}
 use Rattle.gb_machine.specs.HostActs.{host_draft, made_for, with_awaited}
 use Rattle.gb_machine.specs.Sending.{Draft, requested, sent}
 use Rattle.gb_machine.specs.{Bus.next_number, Failures.unsent, Host.link_at, Host.with_link}
-use Rattle.gb_machine.specs.{HostServing.host_serves, HostTurns.host_turn, LineActions.spent}
+use Rattle.gb_machine.specs.{HostServing.host_serves, LineActions.spent}
 use Rattle.gb_machine.specs.{Runs.Moment, SequenceSteps.is_for_connection, Turns.Asking}
 use Rattle.gb_machine.specs.{Waits.awaits, Wiring.next_connection}
 use Rattle.gb_invariants.proofs.Awaiting.{none-some, same-some, sent-new}

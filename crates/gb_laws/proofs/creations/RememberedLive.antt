@@ -6,14 +6,13 @@ use Rattle.std.proofs.Common.{suc, zero, ◌+◌, ◌<◌, ◌∙◌, ◌∷◌,
 use Rattle.std.specs.Prelude.{is_some}
 use Rattle.std.specs.List.{slice_get}
 use Rattle.gb_base.specs.declared.entry.Entry.{Entry}
-use Rattle.gb_base.specs.declared.host_event.HostEvent.{HostEvent}
 use Rattle.gb_base.specs.declared.peers.Link.{Link}
 use Rattle.gb_machine.specs.Bus.{Bus, Request, connection_of}
 use Rattle.gb_machine.specs.Host.{Host, is_link, link_at}
 use Rattle.gb_machine.specs.Runs.{IsMoment, Moment, after, told_at}
 use Rattle.gb_machine.specs.Turns.{Act, Asking}
 use Rattle.gb_machine.proofs.Lists.{nth-past}
-use Rattle.gb_machine.specs.{HostActs.made_for, HostActs.with_awaited, HostTurns.host_turn}
+use Rattle.gb_machine.specs.{HostActs.made_for, HostActs.with_awaited}
 use Rattle.gb_machine.specs.LawsHotPlug.{IsMadeWhileLive, RememberedWhileLive}
 use Rattle.gb_machine.specs.{Lists.nth, Members.IsIn, Sending.requested}
 use Rattle.gb_machine.specs.{SequenceSteps.is_for_connection, State.State, Waits.awaits}

@@ -19,7 +19,6 @@ use Rattle.gb_laws.proofs.points.PointParts.{AreQuiet, IsGivenUpFor, IsShutFor, 
 use Rattle.gb_laws.proofs.points.PointParts.{asked_told}
 use Rattle.gb_laws.proofs.points.PointParts.{disconnected, idle, is_quiet, removed, sent_told}
 use Rattle.gb_laws.proofs.{links.LinkLists.found-link, links.LinkRuns.LinkedTo}
-use Rattle.gb_laws.proofs.{marks.MarkMoments.link-known}
 use Rattle.gb_laws.proofs.{links.Departing.departing-handled}
 use Rattle.gb_laws.proofs.{points.Onward.IsOnward}
 

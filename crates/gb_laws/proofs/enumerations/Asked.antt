@@ -2,13 +2,12 @@
 use Rattle.std.proofs.Common.{Some, ap, false, inl, inr, refl, subst, sym, true, ℕ, ⊎_elim, []}
 use Rattle.std.proofs.Common.{◌++◌, ◌∙◌, ◌∷◌, ◌≡◌, ◌⊎◌}
 use Rattle.std.specs.Prelude.{IfSome}
-use Rattle.gb_base.specs.declared.host_event.HostEvent.{HostEvent}
 use Rattle.gb_base.specs.declared.peers.Interface.{Interface}
 use Rattle.gb_base.specs.declared.steps.{Purpose.Purpose, SequenceStep.SequenceStep}
 use Rattle.gb_base.specs.declared.entry.IntfStage.TheVariants as stage
 use Rattle.gb_base.specs.declared.steps.SequenceStep.TheVariants as steps
 use Rattle.gb_machine.specs.Host.{Host, intf_before, is_intf, new_interface, staged}
-use Rattle.gb_machine.specs.{Failures.unsent, HostTurns.host_turn, Lists.holds_of}
+use Rattle.gb_machine.specs.{Failures.unsent, Lists.holds_of}
 use Rattle.gb_machine.specs.{SequenceSteps.is_enumeration, Sequences.enumerated, Turns.Asking}
 use Rattle.gb_invariants.proofs.HostChanges.{Finds, HostChange, HostEnd, IsAnswered, IsAskedAt}
 use Rattle.gb_invariants.proofs.HostChanges.{IsLast, Occasion, TurnLaw, acts_by, at_notice}

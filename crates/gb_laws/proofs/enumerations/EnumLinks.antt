@@ -4,8 +4,6 @@ use Rattle.std.proofs.Common.{Bool, List, None, Option, Some, ap, false, inl, re
 use Rattle.std.proofs.Common.{true, ℕ, ⊎_elim, [], ◌∙◌, ◌∷◌, ◌≡◌, ◌≢◌}
 use Rattle.std.specs.Prelude.{is_none, ◌==◌}
 use Rattle.gb_base.specs.declared.entry.IntfStage.{IntfStage}
-use Rattle.gb_base.specs.declared.host_event.HostEvent.TheVariants as host_event
-use Rattle.gb_base.specs.declared.host_event.HostEvent.{HostEvent}
 use Rattle.gb_base.specs.declared.peers.{Interface.Interface, Link.Link}
 use Rattle.gb_base.specs.declared.steps.Purpose.{Purpose}
 use Rattle.gb_base.specs.declared.end.Side.TheVariants as side
@@ -18,7 +16,7 @@ use Rattle.gb_machine.specs.HostRefusals.{connect_conditions, disconnect_conditi
 use Rattle.gb_machine.specs.HostRefusals.{is_failed_stage}
 use Rattle.gb_machine.specs.Turns.{Act, Asking}
 use Rattle.gb_machine.specs.{Failures.unsent, HostServing.host_serves, HostServing.with_credits}
-use Rattle.gb_machine.specs.{HostTurns.host_turn, LineActions.spent, Lists.holds_of, Members.IsIn}
+use Rattle.gb_machine.specs.{LineActions.spent, Lists.holds_of, Members.IsIn}
 use Rattle.gb_machine.specs.{Refusals.has_no_label, Runs.Moment, SequenceSteps.is_enumeration}
 use Rattle.gb_machine.specs.{State.State, Waits.awaited, Waits.awaits, Wiring.next_connection}
 use Rattle.gb_invariants.proofs.HostChanges.{HostChange, IsAskedAt, at_notice, to_close, to_connect}

@@ -3,14 +3,12 @@
 use Rattle.std.proofs.Common.{Bool, List, None, Option, Some, ap, arith, false, inl, inr, refl}
 use Rattle.std.proofs.Common.{subst, sym, true, ℕ, ⊎_elim, [], ◌∙◌, ◌∷◌, ◌≡◌}
 use Rattle.std.specs.Prelude.{is_some, not, ◌&&◌}
-use Rattle.gb_base.specs.declared.host_event.HostEvent.TheVariants as host_event
-use Rattle.gb_base.specs.declared.host_event.HostEvent.{HostEvent}
 use Rattle.gb_base.specs.declared.peers.Interface.{Interface}
 use Rattle.gb_base.specs.declared.steps.{Purpose.Purpose, SequenceStep.SequenceStep}
 use Rattle.gb_machine.specs.Turns.{Act, Asking}
 use Rattle.gb_machine.specs.Waits.{awaited, awaits_nothing, interface_waits, link_waits}
 use Rattle.gb_machine.specs.{Bus.Bus, Bus.or_else, Host.Host, Host.interface_of}
-use Rattle.gb_machine.specs.{HostActs.host_draft, HostTurns.host_turn, LawsBus.is_awaited}
+use Rattle.gb_machine.specs.{HostActs.host_draft, LawsBus.is_awaited}
 use Rattle.gb_machine.specs.{Members.IsIn, Runs.Moment, Sending.requested, Sending.sent}
 use Rattle.gb_machine.specs.{SequenceSteps.asks_control, SequenceSteps.is_enumeration, State.State}
 use Rattle.gb_machine.specs.{SvcQueues.is_enumeration_request}

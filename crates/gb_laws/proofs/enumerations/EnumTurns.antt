@@ -2,13 +2,11 @@
 -- that is enumerated then.
 use Rattle.std.proofs.Common.{ap, inl, inr, refl, subst, sym, true, ℕ, ⊎_elim, [], ◌∙◌, ◌∷◌, ◌≡◌}
 use Rattle.std.proofs.Common.{◌⊎◌}
-use Rattle.gb_base.specs.declared.host_event.HostEvent.TheVariants as host_event
-use Rattle.gb_base.specs.declared.host_event.HostEvent.{HostEvent}
 use Rattle.gb_base.specs.declared.peers.Interface.{Interface}
 use Rattle.gb_base.specs.declared.steps.{Purpose.Purpose, SequenceStep.SequenceStep}
 use Rattle.gb_base.specs.declared.steps.SequenceStep.TheVariants as steps
 use Rattle.gb_machine.specs.Turns.{Asking, Turn}
-use Rattle.gb_machine.specs.{Host.Host, Host.is_intf, HostTurns.host_turn}
+use Rattle.gb_machine.specs.{Host.Host, Host.is_intf}
 use Rattle.gb_machine.specs.{SequenceSteps.is_enumeration, Sequences.enumerated}
 use Rattle.gb_machine.specs.{Waits.awaits_nothing}
 use Rattle.gb_invariants.proofs.HostChanges.{HostEnd, IsAnswered, IsAskedAt, IsLast, at_notice}

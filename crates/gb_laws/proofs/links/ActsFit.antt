@@ -4,14 +4,13 @@ use Rattle.std.proofs.Common.{subst, sym, true, ℕ, [], ◌∙◌, ◌∷◌, �
 use Rattle.std.specs.Prelude.{◌==◌}
 use Rattle.gb_base.specs.declared.entry.{ConnState.ConnState, Entry.Entry}
 use Rattle.gb_base.specs.declared.host_event.HostEvent.TheVariants as host_event
-use Rattle.gb_base.specs.declared.host_event.HostEvent.{HostEvent}
 use Rattle.gb_base.specs.declared.peers.Link.{Link}
 use Rattle.gb_base.specs.declared.steps.Purpose.{Purpose}
 use Rattle.gb_base.specs.declared.entry.ConnState.TheVariants as state
 use Rattle.gb_base.specs.declared.end.Side.TheVariants as side
 use Rattle.gb_base.specs.declared.entry.Entry.TheVariants as entry
 use Rattle.gb_base.specs.declared.steps.SequenceStep.TheVariants as steps
-use Rattle.gb_machine.specs.HostTurns.{disconnects, drained, host_disconnects, host_idle, host_turn}
+use Rattle.gb_machine.specs.HostTurns.{disconnects, drained, host_disconnects, host_idle}
 use Rattle.gb_machine.specs.HostTurns.{links_left, links_of}
 use Rattle.gb_machine.specs.Turns.{Act, failed_turn, turn}
 use Rattle.gb_machine.specs.{Failures.link_told, Failures.unsent, Host.Host, Host.link_at}
@@ -114,8 +113,9 @@ module _ (Cause : ℕ → Type 0) (o : Occasion)
   }
 
 -- where no connection is idle
-pub fit-other : (m : Moment) (e : Notice) (h : Host) → ((k : ℕ) → e ≡ at_event (host_event.Idle k) → ⊥)
-    → IsCaused m e h → AreEverFit m (turn_of e h).acts
+pub fit-other : (m : Moment) (e : Notice) (h : Host)
+    → ((k : ℕ) → e ≡ at_event (host_event.Idle k) → ⊥) → IsCaused m e h
+    → AreEverFit m (turn_of e h).acts
 fit-other m e h other cause =
     over-turn e h (fit_law (λ k. (b : Bus) → IsShutFor m k b) (at_notice e h)
     (λ i c l g why found. closing i c l g found why) (λ i l g why j b.

@@ -4,13 +4,12 @@ use Rattle.std.proofs.Common.{Bool, List, None, Some, ap, cond, false, inl, inr,
 use Rattle.std.proofs.Common.{true, ℕ, [], ◌++◌, ◌∙◌, ◌∷◌, ◌≡◌}
 use Rattle.std.specs.List.{find}
 use Rattle.std.specs.Prelude.{Option, not, ◌==◌}
-use Rattle.gb_base.specs.declared.host_event.HostEvent.{HostEvent}
 use Rattle.gb_base.specs.declared.peers.Link.{Link}
 use Rattle.gb_base.specs.declared.steps.{Purpose.Purpose, SequenceStep.SequenceStep}
 use Rattle.gb_base.specs.declared.entry.ConnState.TheVariants as state
 use Rattle.gb_machine.specs.Host.{Host, in_state, is_draining, is_link, link_at, link_of}
 use Rattle.gb_machine.specs.Host.{with_interface, with_link}
-use Rattle.gb_machine.specs.{Failures.unsent, HostTurns.host_turn, Lists.at_first, Lists.without}
+use Rattle.gb_machine.specs.{Failures.unsent, Lists.at_first, Lists.without}
 use Rattle.gb_machine.specs.{Members.Each, Members.EachTwo, Members.IsIn}
 use Rattle.gb_machine.specs.{SequenceSteps.is_enumeration, Waits.waiting}
 use Rattle.gb_invariants.proofs.HostChanges.{HostChange, HostEnd, Occasion, TurnLaw, at_notice}

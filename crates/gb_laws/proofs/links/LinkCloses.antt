@@ -4,14 +4,13 @@ use Rattle.std.proofs.Common.{Bool, List, None, Option, Some, ap, cond, false, i
 use Rattle.std.proofs.Common.{subst, sym, true, ℕ, ⊎_elim, [], ◌++◌, ◌∙◌, ◌∷◌, ◌≡◌, ◌≢◌, ◌⊎◌}
 use Rattle.std.specs.Prelude.{◌==◌}
 use Rattle.gb_base.specs.declared.entry.ConnState.{ConnState}
-use Rattle.gb_base.specs.declared.host_event.HostEvent.{HostEvent}
 use Rattle.gb_base.specs.declared.peers.Link.{Link}
 use Rattle.gb_base.specs.declared.steps.{Purpose.Purpose, SequenceStep.SequenceStep}
 use Rattle.gb_base.specs.declared.entry.ConnState.TheVariants as state
 use Rattle.gb_base.specs.declared.steps.SequenceStep.TheVariants as steps
 use Rattle.gb_machine.specs.Host.{Host, in_state, is_link, link_at, with_interface, with_link}
 use Rattle.gb_machine.specs.Host.{without_link}
-use Rattle.gb_machine.specs.HostTurns.{host_turn, links_left, links_of, without_interface}
+use Rattle.gb_machine.specs.HostTurns.{links_left, links_of, without_interface}
 use Rattle.gb_machine.specs.Turns.{Act, Turn}
 use Rattle.gb_machine.specs.{Bus.Bus, Failures.unsent, Members.IsIn, SequenceSteps.is_enumeration}
 use Rattle.gb_machine.specs.{Sequences.enumerated, Waits.waiting}

@@ -6,7 +6,7 @@ use Rattle.gb_base.specs.declared.peers.Link.{Link}
 use Rattle.gb_base.specs.declared.steps.SequenceStep.{SequenceStep}
 use Rattle.gb_machine.specs.Host.{Host, is_link, with_link}
 use Rattle.gb_machine.specs.{Bus.Connection, Failures.unsent, HostServing.host_serves}
-use Rattle.gb_machine.specs.{HostServing.with_credits, HostTurns.host_turn, LineActions.spent}
+use Rattle.gb_machine.specs.{HostServing.with_credits, LineActions.spent}
 use Rattle.gb_machine.specs.{Members.IsIn, Runs.Moment, Waits.awaits, Wiring.new_connection}
 use Rattle.gb_machine.specs.{Wiring.next_connection}
 use Rattle.gb_invariants.proofs.{Awaiting.same-some, BusChanges.bus_after, BusChanges.left_by}

@@ -4,12 +4,11 @@ use Rattle.std.proofs.Common.{Bool, None, Option, ap, cond, false, inl, inr, ref
 use Rattle.std.proofs.Common.{ℕ, ⊎_elim, ◌∙◌, ◌≡◌, ◌⊎◌}
 use Rattle.std.specs.Prelude.{◌==◌}
 use Rattle.gb_base.specs.declared.entry.ConnState.{ConnState}
-use Rattle.gb_base.specs.declared.host_event.HostEvent.{HostEvent}
 use Rattle.gb_base.specs.declared.peers.Link.{Link}
 use Rattle.gb_base.specs.declared.steps.{Purpose.Purpose, SequenceStep.SequenceStep}
 use Rattle.gb_base.specs.declared.entry.ConnState.TheVariants as state
 use Rattle.gb_machine.specs.Host.{Host, in_state, is_link, with_interface, with_link, without_link}
-use Rattle.gb_machine.specs.{Failures.unsent, HostTurns.host_turn, HostTurns.without_interface}
+use Rattle.gb_machine.specs.{Failures.unsent, HostTurns.without_interface}
 use Rattle.gb_machine.specs.{Members.IsIn, SequenceSteps.is_enumeration}
 use Rattle.gb_machine.specs.{Waits.waiting}
 use Rattle.gb_invariants.proofs.HostChanges.{HostChange, HostEnd, Occasion, TurnLaw, at_notice}

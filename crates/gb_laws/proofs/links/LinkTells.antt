@@ -3,13 +3,12 @@ use Rattle.std.proofs.Common.{List, None, Some, inl, inr, map, refl, sym, ℕ, [
 use Rattle.std.proofs.Common.{◌≡◌}
 use Rattle.std.specs.Prelude.{◌==◌}
 use Rattle.gb_base.specs.declared.entry.{ConnState.ConnState, Entry.Entry}
-use Rattle.gb_base.specs.declared.host_event.HostEvent.{HostEvent}
 use Rattle.gb_base.specs.declared.peers.Link.{Link}
 use Rattle.gb_base.specs.declared.steps.Purpose.{Purpose}
 use Rattle.gb_base.specs.declared.entry.ConnState.TheVariants as state
 use Rattle.gb_base.specs.declared.entry.Entry.TheVariants as entry
 use Rattle.gb_machine.specs.Host.{Host, is_link, link_at}
-use Rattle.gb_machine.specs.HostTurns.{host_turn, links_left, links_of}
+use Rattle.gb_machine.specs.HostTurns.{links_left, links_of}
 use Rattle.gb_machine.specs.{Failures.link_told, Failures.unsent, Members.Each, Members.IsIn}
 use Rattle.gb_machine.specs.Turns.{Act}
 use Rattle.gb_invariants.proofs.HostChanges.{Finds, HostChange, HostEnd, IsOfNone, Occasion}

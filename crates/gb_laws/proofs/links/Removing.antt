@@ -1,12 +1,9 @@
 -- Once the removal of a module is handled, its interfaces are absent.
 use Rattle.std.proofs.Common.{Bool, List, None, Option, Some, ap, cond, false, refl, subst, sym}
-use Rattle.std.proofs.Common.{true, ℕ, [], ◌++◌, ◌∙◌, ◌∷◌, ◌≡◌}
+use Rattle.std.proofs.Common.{true, ℕ, ◌∙◌, ◌≡◌}
 use Rattle.std.specs.Prelude.{Err, Ok, Result}
 use Rattle.gb_base.specs.declared.end.{End.End, Side.Side}
 use Rattle.gb_base.specs.declared.end.Side.TheVariants as side
-use Rattle.gb_base.specs.declared.entry.Entry.{Entry}
-use Rattle.gb_base.specs.declared.entry.Entry.TheVariants as entry
-use Rattle.gb_base.specs.declared.entry.IntfStage.TheVariants as stage
 use Rattle.gb_base.specs.declared.event.Event.TheVariants as event
 use Rattle.gb_base.specs.declared.host_event.HostEvent.TheVariants as host_event
 use Rattle.gb_base.specs.declared.host_event.HostEvent.{HostEvent}
@@ -14,7 +11,7 @@ use Rattle.gb_base.specs.declared.peers.Link.{Link}
 use Rattle.gb_formats.specs.{Records.PayloadFault, SvcRecords.SvcAsk}
 use Rattle.gb_formats.specs.{SvcRecords.read_svc_ask_of_svc}
 use Rattle.gb_machine.proofs.{Opened.machine_opened, Steps.deliver-allowed}
-use Rattle.gb_machine.specs.Actions.{each, given, on_bus, tell, ◌▸◌}
+use Rattle.gb_machine.specs.Actions.{given, on_bus, tell, ◌▸◌}
 use Rattle.gb_machine.specs.Arriving.{arrives, asked_at, delivers_at, dropped, handles, link_takes}
 use Rattle.gb_machine.specs.Arriving.{takes}
 use Rattle.gb_machine.specs.Bus.{Ask, Connection, Item, Place, Request, end_of, place_of, queue}
@@ -22,9 +19,8 @@ use Rattle.gb_machine.specs.Bus.{request_of}
 use Rattle.gb_machine.specs.Host.{Host, interface_of, interfaces_of, link_of}
 use Rattle.gb_machine.specs.HostServing.{HostServed, host_notices, host_serves, notified_by}
 use Rattle.gb_machine.specs.HostServing.{served_on}
-use Rattle.gb_machine.specs.HostTurns.{links_left, links_of, without_interface}
 use Rattle.gb_machine.specs.Responding.{host_served, replies, responds, serves_oneway}
-use Rattle.gb_machine.specs.{Delivery.popped, Events.decided, Events.step, HostActs.acts}
+use Rattle.gb_machine.specs.{Delivery.popped, Events.decided, Events.step}
 use Rattle.gb_machine.specs.{Incoming.Incoming, Incoming.incoming, Lists.first}
 use Rattle.gb_machine.specs.{Refusals.is_end_unplugged, Refusals.refusal, Runs.Moment, Runs.after}
 use Rattle.gb_machine.specs.{Members.IsIn, State.State}

@@ -9,7 +9,7 @@ use Rattle.gb_machine.specs.Bus.{Bus, Connection, Request, connection_of, reques
 use Rattle.gb_machine.specs.Host.{Host, is_link, with_interface, with_link}
 use Rattle.gb_machine.specs.SequenceSteps.{Target, is_enumeration, kind_of, payload_of}
 use Rattle.gb_machine.specs.{Failures.unsent, HostActs.with_awaited, HostServing.host_serves}
-use Rattle.gb_machine.specs.{HostTurns.host_turn, LineActions.spent}
+use Rattle.gb_machine.specs.{LineActions.spent}
 use Rattle.gb_machine.specs.{Members.IsIn, Runs.Moment, Sending.Draft}
 use Rattle.gb_invariants.proofs.{Awaiting.none-some, Awaiting.same-some, BusChanges.KeepsRequests}
 use Rattle.gb_invariants.proofs.{Lists.in-at_first, Lists.in-pushed, Numbers.found-by_number}

@@ -7,7 +7,7 @@ use Rattle.gb_base.specs.declared.entry.Entry.{Entry}
 use Rattle.gb_base.specs.declared.entry.Entry.TheVariants as entry
 use Rattle.gb_base.specs.declared.peers.Link.{Link}
 use Rattle.gb_machine.specs.Bus.{Bus, Connection, next_number}
-use Rattle.gb_machine.specs.{Failures.unsent, Host.Host, HostTurns.host_turn, Members.Each}
+use Rattle.gb_machine.specs.{Failures.unsent, Host.Host, Members.Each}
 use Rattle.gb_machine.specs.{Members.IsIn, Requests.open_on, Runs.Moment, Sending.sent, Turns.Act}
 use Rattle.gb_machine.specs.{Wires.disconnected_told, Wiring.shut_down, Wiring.unwired}
 use Rattle.gb_invariants.proofs.BusChanges.{BusChange, Was, bus_after, came, sends, stayed, was}

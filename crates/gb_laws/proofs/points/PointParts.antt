@@ -199,15 +199,16 @@ pub record IsServing (m : Moment) (s : State) (q : Incoming) : Type 0 where
   pub bus : IsAfterReply place.connection.number side.Far q
       (popped place.connection.number side.Far m.before.bus) s.bus
 
--- At this moment an insertion is handled, and an interface of it that was absent is absent still.
+-- At this moment the insertion of a module that has this interface is handled, and the interface is
+-- absent where it was before.
 pub record IsArriving (m : Moment) (p i : ℕ) (h : Host) : Type 0 where
   pub count : ℕ
   pub noticed : IsNoticed m (host_event.Inserted p count)
   pub within : IsIn i (span p count)
   pub absent : interface_of i m.before.host ≡ None → interface_of i h ≡ None
 
--- At this moment the removal of a module with this interface is handled, and its connections of
--- which none is new are gone one after another.
+-- At this moment the removal of a module that has this interface is handled, and no connection is
+-- known that wasn't before.
 pub record IsDeparting (m : Moment) (i : ℕ) (h : Host) : Type 0 where
   pub primary : ℕ
   pub noticed : IsNoticed m (host_event.Removed primary)

@@ -108,9 +108,9 @@ awaited_by m a c d (by_host q rest is draft none) = Some (q, next_number a.state
 awaited_by m a c d (by_far who on) = a.asked
 
 -- Where the application processor takes notice of something, no request was made at the moment
--- yet, unless it is an insertion, or the end of one that wasn't answered. A sequence goes on with an
--- answer only where its request isn't awaited any more, and a connection is idle where nothing is
--- open on it.
+-- yet, unless it is an insertion, or the end of one that wasn't answered. A sequence goes on with
+-- an answer only where its request isn't awaited any more, and a connection is idle where nothing
+-- is open on it.
 abbrev pub IsOver : Moment → Notice → Bus → Type 0
 IsOver m (at_event (host_event.Ended n how)) b =
     (result : ℕ) (payload : List ℕ) → how ≡ outcome.Answered result payload

@@ -2,10 +2,9 @@
 -- does: its turns, what its sequences wait for, and where no identifier is left.
 use Rattle.std.proofs.Common.{List, None, Some, ap, inl, inr, refl, subst, sym, true, ℕ, ⊎_elim, []}
 use Rattle.std.proofs.Common.{◌∙◌, ◌≡◌}
-use Rattle.gb_base.specs.declared.host_event.HostEvent.{HostEvent}
 use Rattle.gb_base.specs.declared.steps.{Purpose.Purpose, SequenceStep.SequenceStep}
 use Rattle.gb_machine.specs.Turns.{Act, Asking}
-use Rattle.gb_machine.specs.{Failures.unsent, Host.Host, HostActs.with_awaited, HostTurns.host_turn}
+use Rattle.gb_machine.specs.{Failures.unsent, Host.Host, HostActs.with_awaited}
 use Rattle.gb_machine.specs.{LawsBus.is_awaited, Members.IsIn, Ports.level_of, Runs.Moment}
 use Rattle.gb_machine.specs.{State.State}
 use Rattle.gb_invariants.proofs.{Awaiting.none-some, Awaiting.not-both, HostChanges.IsAnswered}

@@ -11,7 +11,6 @@ use Rattle.gb_machine.proofs.Opened.{machine_opened}
 use Rattle.gb_machine.specs.Actions.{Told, each}
 use Rattle.gb_machine.specs.Host.{Host, interface_of, interfaces_of}
 use Rattle.gb_machine.specs.HostActs.{notices}
-use Rattle.gb_machine.specs.HostTurns.{without_interface}
 use Rattle.gb_machine.specs.Lists.{span}
 use Rattle.gb_machine.specs.{Members.IsIn, Runs.Moment, State.State}
 use Rattle.gb_invariants.proofs.HostChanges.{at_insertion, at_removal}

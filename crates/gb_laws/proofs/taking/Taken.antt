@@ -29,10 +29,10 @@ use Rattle.gb_machine.specs.Responding.{Response, far_response, host_behind, rep
 use Rattle.gb_machine.specs.Responding.{serves, serves_oneway}
 use Rattle.gb_machine.specs.Runs.{IsMoment, Moment, after}
 use Rattle.gb_machine.specs.{Events.step, Host.link_of, HostActs.follows, HostServing.HostServed}
-use Rattle.gb_machine.specs.{HostServing.host_serves, HostTurns.host_turn, Lists.behind_first}
+use Rattle.gb_machine.specs.{HostServing.host_serves, Lists.behind_first}
 use Rattle.gb_machine.specs.{Lists.first, Members.EachTwo, Members.IsIn, Modules.module_at}
 use Rattle.gb_machine.specs.{Refusals.refusal, Requests.given_up_with, Requests.open_with}
-use Rattle.gb_machine.specs.{Serving.success, State.State, SvcTable.svc_step, Turns.Act}
+use Rattle.gb_machine.specs.{Serving.success, State.State, SvcTable.svc_step}
 use Rattle.gb_invariants.proofs.{Awaiting.none-some, Awaiting.same-some, BusChanges.BusChange}
 use Rattle.gb_invariants.proofs.{Numbers.found-by_number}
 use Rattle.gb_invariants.specs.{Facts.IsBefore, Facts.is_numbered}

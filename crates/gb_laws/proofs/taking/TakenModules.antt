@@ -1,6 +1,6 @@
 -- What follows where the application processor takes notice of something, and doesn't know the
 -- connection of a message that was taken.
-use Rattle.std.proofs.Common.{List, None, ap, refl, subst, sym, ℕ, [], ◌∷◌, ◌≡◌}
+use Rattle.std.proofs.Common.{List, subst, sym, ℕ, [], ◌∷◌, ◌≡◌}
 use Rattle.std.specs.Prelude.{◌==◌}
 use Rattle.gb_base.specs.declared.host_event.HostEvent.TheVariants as host_event
 use Rattle.gb_base.specs.declared.host_event.HostEvent.{HostEvent}
@@ -10,9 +10,10 @@ use Rattle.gb_machine.specs.Actions.{Told, each}
 use Rattle.gb_machine.specs.Host.{Host, interfaces_of}
 use Rattle.gb_machine.specs.{Bus.Bus, HostActs.notices, Lists.span, Members.Each, Members.IsIn}
 use Rattle.gb_machine.specs.State.{State}
-use Rattle.gb_invariants.proofs.HostChanges.{Notice, at_event, at_insertion, at_removal}
+use Rattle.gb_invariants.proofs.HostChanges.{at_event, at_insertion, at_removal}
 use Rattle.gb_invariants.proofs.Lists.{in-without}
-use Rattle.gb_invariants.proofs.ModuleTurns.{inserted-each, removed-each, removed-host, takes_notice}
+use Rattle.gb_invariants.proofs.ModuleTurns.{inserted-each, removed-each, removed-host}
+use Rattle.gb_invariants.proofs.ModuleTurns.{takes_notice}
 use Rattle.gb_laws.proofs.links.LinkLeaves.{WhyLeft, closed, insertion-leaves, removal-leaves}
 use Rattle.gb_laws.proofs.links.LinkLeaves.{removed, why-left}
 use Rattle.gb_laws.proofs.links.Links.{HostFits}

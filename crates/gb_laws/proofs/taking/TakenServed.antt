@@ -11,10 +11,10 @@ use Rattle.gb_machine.specs.Responding.{Response, creates, destroys, module_resp
 use Rattle.gb_machine.specs.Responding.{responds_plainly, responds_with, svc_decided, with_ports}
 use Rattle.gb_machine.specs.Serving.{invalid, nonexistent, plainly, success}
 use Rattle.gb_machine.specs.SvcTable.{Answered, Create, Destroy, SvcServed, Unroute}
-use Rattle.gb_machine.specs.{Bus.Connection, Host.Host, HostActs.notices, HostTurns.host_turn}
-use Rattle.gb_machine.specs.{Incoming.Incoming, Members.IsIn, Modules.with_module}
+use Rattle.gb_machine.specs.{Bus.Connection, Host.Host, HostActs.notices}
+use Rattle.gb_machine.specs.{Incoming.Incoming, Modules.with_module}
 use Rattle.gb_machine.specs.{OwnAsking.far_asks_all, Ports.unrouted, Requests.open_on, State.Port}
-use Rattle.gb_machine.specs.{State.State, Turns.Act, Wires.unwires, Wires.wires}
+use Rattle.gb_machine.specs.{State.State, Wires.unwires, Wires.wires}
 use Rattle.gb_machine.specs.{Wiring.is_wired_to, Wiring.joining}
 use Rattle.gb_invariants.proofs.{Awaiting.none-some, Awaiting.same-some, BusChanges.BusChange}
 use Rattle.gb_laws.proofs.taking.TakenActs.{Follows, Taking, ends-follow, follows-change}

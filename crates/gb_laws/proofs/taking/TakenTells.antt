@@ -4,7 +4,6 @@ use Rattle.std.proofs.Common.{Bool, List, None, Option, Some, ap, cond, false, m
 use Rattle.std.proofs.Common.{[], ◌∙◌, ◌∷◌, ◌≡◌}
 use Rattle.std.specs.Prelude.{Err, Ok, Result, ◌==◌}
 use Rattle.gb_base.specs.declared.entry.Entry.{Entry}
-use Rattle.gb_base.specs.declared.host_event.HostEvent.{HostEvent}
 use Rattle.gb_base.specs.declared.peers.Link.{Link}
 use Rattle.gb_base.specs.declared.steps.Purpose.{Purpose}
 use Rattle.gb_base.specs.declared.end.End.TheVariants as end
@@ -17,7 +16,7 @@ use Rattle.gb_machine.specs.Bus.{Bus, Item, Place}
 use Rattle.gb_machine.specs.HostServing.{HostServed, credited, host_refuses, interrupted}
 use Rattle.gb_machine.specs.HostServing.{notified_by, served_on, serves_gpio, serves_uart}
 use Rattle.gb_machine.specs.HostServing.{uart_notified_by}
-use Rattle.gb_machine.specs.HostTurns.{host_turn, links_left, links_of}
+use Rattle.gb_machine.specs.HostTurns.{links_left, links_of}
 use Rattle.gb_machine.specs.{Failures.unsent, Host.Host, LawsHotPlug.IsToldOf}
 use Rattle.gb_machine.specs.{LawsHotPlug.is_consequence, Members.Each, Serving.protocol_bad}
 use Rattle.gb_machine.specs.Turns.{Act}
