@@ -22,7 +22,7 @@ use Rattle.gb_invariants.proofs.{ItemChanges.first-in, Numbers.found-by_number, 
 use Rattle.gb_invariants.proofs.{Outcomes.same-number, Selves.ap-no-far, Selves.front-self}
 use Rattle.gb_laws.proofs.marks.MarkNotices.{first-behind, notice-any, svc-front}
 use Rattle.gb_laws.proofs.marks.Marks.{Mark, came, item_mark, mark_in, marks, marks-first, marks_of}
-use Rattle.gb_laws.proofs.marks.Marks.{notice_of, request_mark, went, known_at}
+use Rattle.gb_laws.proofs.marks.Marks.{notice_of, request_mark, went, known_at, known-in}
 use Rattle.gb_laws.proofs.points.PointParts.{Basis, IsNoticed, resting}
 use Rattle.gb_laws.proofs.{links.LinkFrom.Linked, points.Places.place-is}
 use Rattle.gb_laws.proofs.{links.Removing.removed-absent}
@@ -218,7 +218,8 @@ module _ (m : Moment) (basis : Basis (resting m.told m.before))
               removal j (is_told n i ps) (marked (host_event.Removed j) e)
               (λ known. removed-absent m at p n j i r is named ap_side (front ∙ ap Some item_is)
               made none (ap (λ o. (served_on o r.kind r.payload m.before.host).notices) none
-              ∙ notice-any r.kind r.payload m.before.host first_host ∙ e) known)
+              ∙ notice-any r.kind r.payload m.before.host first_host ∙ e)
+              (known-in i j m.before.host known))
               (other-notice (Some (host_event.Removed j)) e (λ q count g. absurd cc))
 
           by_notice : (x : Option HostEvent) → notice_of r.kind r.payload ≡ x

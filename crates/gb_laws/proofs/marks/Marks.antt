@@ -12,7 +12,7 @@ use Rattle.gb_base.specs.declared.peers.Interface.{Interface}
 use Rattle.gb_machine.specs.Bus.{Ask, Bus, Connection, Item, Raw, RawReply, Reply, Request}
 use Rattle.gb_machine.specs.Bus.{has_number, next_number, queue, request_of}
 use Rattle.gb_machine.proofs.Lists.{nth-past}
-use Rattle.gb_machine.specs.Host.{Host, first_host, interface_of, is_intf}
+use Rattle.gb_machine.specs.Host.{Host, first_host, interface_of, is_intf, interfaces_of}
 use Rattle.gb_machine.specs.{HostServing.serves_svc, Lists.at_first, Members.EachTwo}
 use Rattle.gb_machine.specs.{Members.IsIn, Modules.is_plugged, Modules.is_plugged_at}
 use Rattle.gb_machine.specs.{State.Plugged, State.State, SvcQueues.is_told, SvcQueues.items_in}
@@ -21,6 +21,7 @@ use Rattle.gb_laws.proofs.marks.Wholes.{AreElsewhere, AreWhole, IsRange, is_with
 use Rattle.gb_invariants.proofs.Awaiting.{none-some, not-both, same-some}
 use Rattle.gb_invariants.proofs.{BusChanges.KeepsRequests, Found.found-first, Lists.found-in}
 use Rattle.gb_invariants.proofs.{Outcomes.is-same, Outcomes.same-number}
+use Rattle.gb_invariants.proofs.ModuleHosts.{in-module}
 
 -- what a request of the supervisory controller makes the application processor take notice of
 abbrev pub notice_of : ℕ → List ℕ → Option HostEvent
@@ -109,6 +110,15 @@ known-there i h e = by (interface_of i h) e
         → (p : ℕ) × (option_map (λ (x : Interface). x.primary) o ≡ Some p)
     by None g = absurd (not-both false g refl)
     by (Some x) g = (x.primary, refl)
+
+-- it is one of the interfaces of its module
+pub known-in : (i p : ℕ) (h : Host) → known_at i h ≡ Some p → IsIn i (interfaces_of p h)
+known-in i p h e = by (interface_of i h) refl e
+  where
+    by : (o : Option Interface) → interface_of i h ≡ o
+        → option_map (λ (x : Interface). x.primary) o ≡ Some p → IsIn i (interfaces_of p h)
+    by None f g = absurd (none-some g)
+    by (Some x) f g = in-module p i h x f (same-some x.primary p g)
 
 -- nothing is known
 pub known-none : (i : ℕ) (h : Host) → known_at i h ≡ None → interface_of i h ≡ None

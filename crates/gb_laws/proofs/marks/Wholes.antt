@@ -10,6 +10,7 @@ use Rattle.gb_invariants.proofs.{Found.find-none, Lists.found-in, Lists.one-by}
 use Rattle.gb_invariants.proofs.Outcomes.{both-true, is-same, same-number}
 use Rattle.gb_machine.specs.Lists.{at_first}
 use Rattle.gb_invariants.proofs.Lists.{in-at_first, at_first-back}
+use Rattle.gb_machine.specs.Refusals.{is_beyond}
 
 -- ---- what is plugged at an interface
 
@@ -45,6 +46,10 @@ pub record IsRange (p count : ℕ) : Type 0 where
   pub two : 2 ≤ p
   pub one : 1 ≤ count
   pub within : p + count ≤ 32
+
+pub range-of : (p count : ℕ) → 2 ≤ p → 1 ≤ count → is_beyond p count ≡ false → IsRange p count
+range-of p count two one within =
+    record { two = two; one = one; within = grind (arith, nat_tests, within) }
 
 -- two parts are at different interfaces
 abbrev pub AreElsewhere : Plugged → Plugged → Type 0
